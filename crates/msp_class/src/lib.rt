@@ -1,0 +1,15 @@
+//! The classes of scheduling problems in the three-field notation, their ranks, and the list that the other crates' structs hold.
+//!
+//! It stands on std alone. The layers above use that a `List` is seen as its list, that a refused push changes nothing, and that
+//! `rank` and `unrank` are inverse.
+#![tactic(auto)]
+
+mod class;
+mod list;
+
+pub use class::{Class, Crit, Env, Order, Times};
+pub use list::List;
+
+/// Want of memory, of a call that can refuse for nothing else.
+#[derive(Clone, Copy, Debug, PartialEq, Eq)]
+pub struct NoMemory;
