@@ -1,0 +1,2 @@
+pub mod EnvNumbers
+pub mod RankLemmas
