@@ -1,0 +1,2 @@
+pub mod IntegerRing
+pub mod Sums
