@@ -1,2 +1,3 @@
 pub mod IntegerRing
+pub mod Intervals
 pub mod Sums
