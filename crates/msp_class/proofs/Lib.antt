@@ -1,3 +1,4 @@
 pub mod IntegerRing
 pub mod Intervals
+pub mod Sequences
 pub mod Sums
