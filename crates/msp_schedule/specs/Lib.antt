@@ -1,0 +1,5 @@
+pub mod Piece
+pub mod Feasible
+pub mod Cost
+pub mod Fraction
+pub mod Within
