@@ -1,9 +1,10 @@
 -- Finite sums of natural numbers: over a list (std's `sum_by`) and over the numbers below n.
-use Rattle.std.proofs.Common.{◌≡◌, ℕ, zero, suc, ◌+◌, ◌*◌, ◌≤◌, ◌<◌, Bool, true, false, cond, eqb, ltb, ◌≢◌, List, [], ◌∷◌, ◌++◌, map, length, get_or, All, AllPairs, Contains, filter, sum_by, count_by, IsPermutation, ℤ, pos, ◌+ℤ◌, ◌*ℤ◌, ◌≤ℤ◌, ap₂, arith, refl, sym, ap, subst, ◌∙◌}
+use Rattle.std.proofs.Common.{◌≡◌, ℕ, zero, suc, ◌+◌, ◌*◌, ◌≤◌, ◌<◌, Bool, true, false, cond, eqb, ltb, ◌≢◌, List, [], ◌∷◌, ◌++◌, map, length, get_or, All, AllPairs, Contains, filter, sum_by, count_by, IsPermutation, ℤ, pos, ◌+ℤ◌, ◌*ℤ◌, ◌≤ℤ◌, ◌⊎◌, inl, inr, ap₂, subst₂, arith, refl, sym, ap, subst, ◌∙◌}
 use Rattle.std.specs.List.{range_with_len}
 use Rattle.std.proofs.lemmas.List.Sums.{sum_by-cons, sum_by-append}
 use Rattle.std.proofs.lemmas.List.Sorted.{sum_by-IsPermutation, All-permutation}
 use Rattle.std.proofs.lemmas.List.Elements.{All-head, All-tail, Contains-get_or, All-contains, All-filter, All-contains_itself, filter_passes}
+use Rattle.std.proofs.lemmas.List.{get_or_default}
 use Rattle.std.proofs.lemmas.List.Kept.{AllPairs-cons}
 use Rattle.std.proofs.lemmas.Int.{ints}
 use Rattle.msp_class.proofs.IntegerRing.{≤ℤ_refl, +ℤ_mono, *ℤ-zero, *ℤ-add}
@@ -101,6 +102,10 @@ module _ {X : Type 0} where
       by : (n : ℕ) → f y ≡ n → (0 < sum_by f ys → (x : X) × Contains ys x × (0 < f x)) → (x : X) × Contains (y ∷ ys) x × (0 < f x)
       by zero e later = let (x, c, p) = later (omega (arith, sum_by-cons f y ys)) in (x, (suc c.0, omega (arith, c.1), c.2), p)
       by (suc n) e later = (y, (0, omega arith, refl), omega arith)
+
+  pub Contains-tail : (x : X) (xs : List X) (y : X) → Contains (x ∷ xs) y → (x ≢ y) → Contains xs y
+  Contains-tail x xs y (zero, l, e) n = absurd (n e)
+  Contains-tail x xs y (suc k, l, e) n = (k, omega arith, e)
 
   -- what a filter keeps
   pub Contains-filter : (p : X → Bool) (xs : List X) (x : X) → Contains xs x → p x ≡ true → Contains (filter p xs) x
@@ -269,6 +274,21 @@ module _ {X : Type 0} where
 
   pub AllPairs-tail : (R : X → X → Type 0) (x : X) (xs : List X) → AllPairs R (x ∷ xs) → AllPairs R xs
   AllPairs-tail R x xs h i j d a b = h (suc i) (suc j) d (omega arith) (omega arith)
+
+  -- of two elements, one stands before the other, or they are the same
+  pub AllPairs-contains : (R : X → X → Type 0) (xs : List X) (x y : X) → AllPairs R xs → Contains xs x → Contains xs y → R x y ⊎ ((x ≡ y) ⊎ R y x)
+  AllPairs-contains R xs x y h (i, l, e) (j, m, f) = by (ltb i j) refl (ltb j i) refl
+    where
+      ex : get_or xs i y ≡ x
+      ex = get_or_default xs i y x l ∙ e
+
+      fy : get_or xs j x ≡ y
+      fy = get_or_default xs j x y m ∙ f
+
+      by : (b : Bool) → ltb i j ≡ b → (d : Bool) → ltb j i ≡ d → R x y ⊎ ((x ≡ y) ⊎ R y x)
+      by true b d' d = inl (subst₂ R e fy (h i j x (ltb-true i j b) m))
+      by false b true d = inr (inr (subst₂ R f ex (h j i y (ltb-true j i d) l)))
+      by false b false d = let same : i ≡ j = omega (arith, ltb-false i j b, ltb-false j i d) in inr (inl (sym e ∙ ap (λ k. get_or xs k x) same ∙ fy))
 
 -- ---- a list of numbers below n
 pub sum_by_counts : (f : ℕ → ℕ) (n : ℕ) (xs : List ℕ) → All (λ x. x < n) xs → sum_by f xs ≡ total_below n (λ i. f i * count_by (λ x. eqb x i) xs)
