@@ -1,9 +1,9 @@
 -- Finite sums of natural numbers: over a list (std's `sum_by`) and over the numbers below n.
 use Rattle.std.proofs.Common.{◌≡◌, ℕ, zero, suc, ◌+◌, ◌*◌, ◌≤◌, ◌<◌, Bool, true, false, cond, eqb, ltb, ◌≢◌, List, [], ◌∷◌, ◌++◌, map, length, get_or, All, AllPairs, Contains, filter, sum_by, count_by, IsPermutation, ℤ, pos, ◌+ℤ◌, ◌*ℤ◌, ◌≤ℤ◌, ◌⊎◌, inl, inr, ap₂, subst₂, arith, refl, sym, ap, subst, ◌∙◌}
-use Rattle.std.specs.List.{range_with_len}
+use Rattle.std.specs.List.{range_with_len, AllAdjacentBelow}
 use Rattle.std.proofs.lemmas.List.Sums.{sum_by-cons, sum_by-append}
 use Rattle.std.proofs.lemmas.List.Sorted.{sum_by-IsPermutation, All-permutation}
-use Rattle.std.proofs.lemmas.List.Elements.{All-head, All-tail, Contains-get_or, All-contains, All-filter, All-contains_itself, filter_passes}
+use Rattle.std.proofs.lemmas.List.Elements.{All-nil, All-cons, All-head, All-tail, Contains-get_or, All-contains, All-filter, All-contains_itself, filter_passes}
 use Rattle.std.proofs.lemmas.List.{get_or_default}
 use Rattle.std.proofs.lemmas.List.Kept.{AllPairs-cons}
 use Rattle.std.proofs.lemmas.Int.{ints}
@@ -289,6 +289,20 @@ module _ {X : Type 0} where
       by true b d' d = inl (subst₂ R e fy (h i j x (ltb-true i j b) m))
       by false b true d = inr (inr (subst₂ R f ex (h j i y (ltb-true j i d) l)))
       by false b false d = let same : i ≡ j = omega (arith, ltb-false i j b, ltb-false j i d) in inr (inl (sym e ∙ ap (λ k. get_or xs k x) same ∙ fy))
+
+  AllAdjacent-tail : (R : X → X → Type 0) (x : X) (xs : List X) → AllAdjacentBelow R (x ∷ xs) (length (x ∷ xs)) → AllAdjacentBelow R xs (length xs)
+  AllAdjacent-tail R x xs h k d l = let next : suc k + 1 ≡ suc (k + 1) = omega arith in subst (λ n. R (get_or xs k d) (get_or (x ∷ xs) n d)) next (h (suc k) d (omega arith))
+
+  -- a relation that goes on past an element on which P holds holds of each pair once it holds of neighbours
+  follows_all : (R : X → X → Type 0) (P : X → Type 0) → ((a b c : X) → P b → R a b → R b c → R a c) → (x : X) (xs : List X) → All P xs → AllAdjacentBelow R (x ∷ xs) (length (x ∷ xs)) → All (R x) xs
+  follows_all R P on x [] p h = All-nil (R x)
+  follows_all R P on x (y ∷ ys) p h =
+      All-cons (R x) y ys (h 0 x (omega arith))
+      (λ k d l. on x y (get_or ys k d) (All-head P y ys p) (h 0 x (omega arith)) (follows_all R P on y ys (All-tail P y ys p) (AllAdjacent-tail R x (y ∷ ys) h) k d l))
+
+  pub AllPairs-from_adjacent : (R : X → X → Type 0) (P : X → Type 0) → ((a b c : X) → P b → R a b → R b c → R a c) → (xs : List X) → All P xs → AllAdjacentBelow R xs (length xs) → AllPairs R xs
+  AllPairs-from_adjacent R P on [] p h = λ i j d a b. absurd (omega arith)
+  AllPairs-from_adjacent R P on (x ∷ xs) p h = AllPairs-cons R x xs (follows_all R P on x xs (All-tail P x xs p) h) (AllPairs-from_adjacent R P on xs (All-tail P x xs p) (AllAdjacent-tail R x xs h))
 
 -- ---- a list of numbers below n
 pub sum_by_counts : (f : ℕ → ℕ) (n : ℕ) (xs : List ℕ) → All (λ x. x < n) xs → sum_by f xs ≡ total_below n (λ i. f i * count_by (λ x. eqb x i) xs)
