@@ -136,9 +136,9 @@ total_below zero f = 0
 total_below (suc n) f = total_below n f + f n
 
 -- whatever has these two clauses is this total
-pub total_below_only : (t : ℕ → ℕ) (f : ℕ → ℕ) → t 0 ≡ 0 → ((n : ℕ) → t (suc n) ≡ t n + f n) → (n : ℕ) → t n ≡ total_below n f
-total_below_only t f z s zero = z
-total_below_only t f z s (suc n) = s n ∙ ap (λ m. m + f n) (total_below_only t f z s n)
+pub total_below_unique : (t : ℕ → ℕ) (f : ℕ → ℕ) → t 0 ≡ 0 → ((n : ℕ) → t (suc n) ≡ t n + f n) → (n : ℕ) → t n ≡ total_below n f
+total_below_unique t f z s zero = z
+total_below_unique t f z s (suc n) = s n ∙ ap (λ m. m + f n) (total_below_unique t f z s n)
 
 pub total_below-mono : (n : ℕ) (f g : ℕ → ℕ) → ((i : ℕ) → i < n → f i ≤ g i) → total_below n f ≤ total_below n g
 total_below-mono zero f g h = omega arith
@@ -393,9 +393,9 @@ abbrev pub int_total_below : ℕ → (ℕ → ℤ) → ℤ
 int_total_below zero f = pos 0
 int_total_below (suc n) f = int_total_below n f +ℤ f n
 
-pub int_total_below_only : (t : ℕ → ℤ) (f : ℕ → ℤ) → t 0 ≡ pos 0 → ((n : ℕ) → t (suc n) ≡ t n +ℤ f n) → (n : ℕ) → t n ≡ int_total_below n f
-int_total_below_only t f z s zero = z
-int_total_below_only t f z s (suc n) = s n ∙ ap (λ m. m +ℤ f n) (int_total_below_only t f z s n)
+pub int_total_below_unique : (t : ℕ → ℤ) (f : ℕ → ℤ) → t 0 ≡ pos 0 → ((n : ℕ) → t (suc n) ≡ t n +ℤ f n) → (n : ℕ) → t n ≡ int_total_below n f
+int_total_below_unique t f z s zero = z
+int_total_below_unique t f z s (suc n) = s n ∙ ap (λ m. m +ℤ f n) (int_total_below_unique t f z s n)
 
 pub int_total_below-same : (n : ℕ) (f g : ℕ → ℤ) → ((i : ℕ) → i < n → f i ≡ g i) → int_total_below n f ≡ int_total_below n g
 int_total_below-same zero f g h = refl
