@@ -1,10 +1,10 @@
 -- Pieces of time [from, to) on machines: how much of an interval they fill.
-use Rattle.std.proofs.Common.{◌≡◌, ℕ, suc, ◌+◌, ◌*◌, ◌-◌, ◌≤◌, ◌<◌, min, max, Bool, true, false, cond, eqb, leb, ◌⊎◌, List, [], ◌∷◌, length, get_or, All, AllPairs, Contains, filter, sum_by, le_trans, arith, refl, sym, subst, ◌∙◌}
+use Rattle.std.proofs.Common.{◌≡◌, ℕ, zero, suc, ◌+◌, ◌*◌, ◌-◌, ◌≤◌, ◌<◌, min, max, Bool, true, false, cond, eqb, leb, ◌≢◌, ◌⊎◌, List, [], ◌∷◌, length, get_or, All, AllPairs, Contains, filter, sum_by, le_trans, arith, refl, sym, ap, subst, ◌∙◌}
 use Rattle.std.proofs.lemmas.List.Sums.{sum_by-cons}
 use Rattle.std.proofs.lemmas.List.Elements.{All-filter, filter_passes, All-nil, All-cons, All-head, All-tail, All-contains, Contains-get_or}
 use Rattle.std.proofs.lemmas.List.Kept.{AllPairs-filter}
-use Rattle.std.proofs.lemmas.Bool.{eqb-true, leb-true, leb-false, eq-eqb}
-use Rattle.msp_class.proofs.Sums.{sum_by-mono, sum_by-same, sum_by-add, sum_by-filter, sum_by-by_key_filter, sum_by-by_key_test, total_below, total_below-bound, AllPairs-head, AllPairs-tail, Contains-filter, Contains-from_filter, sum_by-some}
+use Rattle.std.proofs.lemmas.Bool.{eqb-true, leb-true, leb-false, eqb-false, eq-eqb}
+use Rattle.msp_class.proofs.Sums.{sum_by-mono, sum_by-same, sum_by-add, sum_by-filter, sum_by-by_key_filter, sum_by-by_key_test, total_below, total_below-some, cond-yes, total_below-bound, AllPairs-head, AllPairs-tail, Contains-filter, Contains-from_filter, sum_by-some}
 
 -- ---- two intervals
 -- how long [u, v) and [a, b) overlap
@@ -212,3 +212,77 @@ piece_of {X} job from to xs j h =
   where
     mine : X → Bool
     mine q = eqb (job q) j
+
+-- ---- the greatest of the values below n
+abbrev pub greatest_below : ℕ → (ℕ → ℕ) → ℕ
+greatest_below zero f = 0
+greatest_below (suc n) f = max (greatest_below n f) (f n)
+
+pub greatest_below-bound : (n : ℕ) (f : ℕ → ℕ) (i : ℕ) → i < n → f i ≤ greatest_below n f
+greatest_below-bound zero f i l = absurd (omega arith)
+greatest_below-bound (suc n) f i l = by (eqb i n) refl (greatest_below-bound n f i)
+  where
+    by : (b : Bool) → eqb i n ≡ b → (i < n → f i ≤ greatest_below n f) → f i ≤ max (greatest_below n f) (f n)
+    by true e later = omega (arith, ap f (eqb-true i n e))
+    by false e later = let ne : i ≢ n = eqb-false i n e in omega (arith, later (omega arith))
+
+pub greatest_below-least : (n b : ℕ) (f : ℕ → ℕ) → ((i : ℕ) → i < n → f i ≤ b) → greatest_below n f ≤ b
+greatest_below-least zero b f h = omega arith
+greatest_below-least (suc n) b f h = omega (arith, h n (omega arith), greatest_below-least n b f (λ i l. h i (omega arith)))
+
+pub greatest_below-reached : (n : ℕ) (f : ℕ → ℕ) → 0 < n → (i : ℕ) × (i < n) × (f i ≡ greatest_below n f)
+greatest_below-reached zero f h = absurd (omega arith)
+greatest_below-reached (suc zero) f h = (0, omega arith, omega arith)
+greatest_below-reached (suc (suc n)) f h = by (leb (greatest_below (suc n) f) (f (suc n))) refl (greatest_below-reached (suc n) f (omega arith))
+  where
+    by : (b : Bool) → leb (greatest_below (suc n) f) (f (suc n)) ≡ b → (i : ℕ) × (i < suc n) × (f i ≡ greatest_below (suc n) f) → (i : ℕ) × (i < suc (suc n)) × (f i ≡ max (greatest_below (suc n) f) (f (suc n)))
+    by true e later = (suc n, omega arith, right (greatest_below (suc n) f) (f (suc n)) (leb-true _ _ e))
+      where
+        right : (a b : ℕ) → a ≤ b → b ≡ max a b
+        right a b l = omega arith
+    by false e later = let (i, l, s) = later in (i, omega arith, s ∙ left (greatest_below (suc n) f) (f (suc n)) (leb-false _ _ e))
+      where
+        left : (a b : ℕ) → b < a → a ≡ max a b
+        left a b l = omega arith
+
+-- ---- the law of ends
+-- where no piece of the jobs that pass a test begins before a, and they have work: one of them ends last, after a, and the work is at most m times as long as from a to there
+pub law_of_ends : {X : Type 0} (job machine from to : X → ℕ) (test : ℕ → Bool) (last : ℕ → ℕ) (m n a : ℕ) (xs : List X)
+    → All (λ q. job q < n) xs → All (λ q. machine q < m) xs → AllPairs (IsApartOn machine from to) xs
+    → All (λ q. test (job q) ≡ true → a ≤ from q) xs → All (λ q. to q ≤ last (job q)) xs
+    → 0 < total_below n (λ j. cond (test j) (work_of job from to xs j) 0)
+    → (i : ℕ) × (i < n) × (test i ≡ true) × ((k : ℕ) → k < n → test k ≡ true → last k ≤ last i) × (a < last i) × (total_below n (λ j. cond (test j) (work_of job from to xs j) 0) ≤ m * (last i - a))
+law_of_ends {X} job machine from to test last m n a xs jobs machines apart begin ends some =
+    let (i, l, e) = greatest_below-reached n ended (omega (arith, (total_below-some n (λ j. cond (test j) (work_of job from to xs j) 0) some).1)) in
+    let (t, s) = passed (test i) (last i) e in
+    (i, l, t, (λ k l' p. omega (arith, greatest_below-bound n ended k l', cond-yes (last k) p, s)), omega (arith, after, s), subst (λ b. total_below n (λ j. cond (test j) (work_of job from to xs j) 0) ≤ m * (b - a)) (sym s) bound)
+  where
+    ended : ℕ → ℕ
+    ended j = cond (test j) (last j) 0
+
+    most : ℕ
+    most = greatest_below n ended
+
+    bound : total_below n (λ j. cond (test j) (work_of job from to xs j) 0) ≤ m * (most - a)
+    bound = room job machine from to test m n a most xs jobs machines apart (λ k d l p. (begin k d l p, omega (arith, ends k d l, greatest_below-bound n ended (job (get_or xs k d)) (jobs k d l), cond-yes (last (job (get_or xs k d))) p)))
+
+    after : a < most
+    after = by (leb most a) refl
+      where
+        by : (b : Bool) → leb most a ≡ b → a < most
+        by true e = let none : most - a ≡ 0 = omega (arith, leb-true most a e) in absurd (omega (arith, some, bound, ap (λ x. m * x) none))
+        by false e = leb-false most a e
+
+    passed : (b : Bool) (z : ℕ) → cond b z 0 ≡ most → (b ≡ true) × (z ≡ most)
+    passed true z f = (refl, f)
+    passed false z f = absurd (omega (arith, after))
+
+-- on one machine: some job ends no sooner than the work after a
+pub last_job : {X : Type 0} (job from to : X → ℕ) (test : ℕ → Bool) (last : ℕ → ℕ) (n a : ℕ) (xs : List X)
+    → All (λ q. job q < n) xs → AllPairs (IsApart from to) xs
+    → All (λ q. test (job q) ≡ true → a ≤ from q) xs → All (λ q. to q ≤ last (job q)) xs
+    → 0 < total_below n (λ j. cond (test j) (work_of job from to xs j) 0)
+    → (i : ℕ) × (i < n) × (test i ≡ true) × ((k : ℕ) → k < n → test k ≡ true → last k ≤ last i) × (a + total_below n (λ j. cond (test j) (work_of job from to xs j) 0) ≤ last i)
+last_job job from to test last n a xs jobs apart begin ends some =
+    let (i, l, t, g, f, b) = law_of_ends job (λ _. 0) from to test last 1 n a xs jobs (λ k d l. omega arith) (λ i j d l m _. apart i j d l m) begin ends some in
+    (i, l, t, g, omega (arith, f, b))

@@ -1,10 +1,10 @@
 -- Jobs in a row, each begun when the one before it ends: the weighted sum of their ends, and orders that no packing of pieces beats.
-use Rattle.std.proofs.Common.{◌≡◌, ℕ, ◌+◌, ◌*◌, ◌-◌, ◌≤◌, ◌<◌, Bool, true, false, cond, leb, List, [], ◌∷◌, ◌++◌, get_or, All, AllPairs, sum_by, IsPermutation, ℤ, pos, ◌*ℤ◌, ◌≤ℤ◌, le_trans, arith, refl, sym, ap, subst, ◌∙◌}
-use Rattle.std.specs.List.{range_with_len}
+use Rattle.std.proofs.Common.{◌≡◌, ℕ, ◌+◌, ◌*◌, ◌-◌, ◌≤◌, ◌<◌, Bool, true, false, cond, leb, List, [], ◌∷◌, ◌++◌, length, get_or, All, AllPairs, sum_by, IsPermutation, ℤ, pos, ◌*ℤ◌, ◌≤ℤ◌, le_trans, arith, refl, sym, ap, subst, ◌∙◌}
+use Rattle.std.specs.List.{range_with_len, AllAdjacentBelow}
 use Rattle.std.proofs.lemmas.List.Sums.{sum_by-cons}
 use Rattle.std.proofs.lemmas.Bool.{leb-false, le-leb, false≢true}
-use native.Mathlib.Nat.{mul-le-mul_left}
-use Rattle.msp_class.proofs.Sums.{sum_by-mono, sum_by-agree, sum_by-add, sum_by-scale, sum_by-scale_right, sum_by-OnceBelow, total_below, total_below-same, total_below-scale, cond-scale, cond-yes, OnceBelow, OnceBelow-from_permutation, int_total_below, int_total_below-natural, AllPairs-head, AllPairs-tail}
+use native.Mathlib.Nat.{le_of_mul-le-mul_left, mul-le-mul_left}
+use Rattle.msp_class.proofs.Sums.{sum_by-mono, sum_by-agree, sum_by-add, sum_by-scale, sum_by-scale_right, sum_by-OnceBelow, total_below, total_below-same, total_below-scale, cond-scale, cond-yes, OnceBelow, OnceBelow-from_permutation, int_total_below, int_total_below-natural, AllPairs-head, AllPairs-tail, AllPairs-from_adjacent}
 use Rattle.msp_class.proofs.IntegerRing.{pos-le}
 use Rattle.msp_class.proofs.Intervals.{IsApart, work_of, earlier_ends, last_of, last_of-bound}
 
@@ -48,6 +48,14 @@ module _ {X : Type 0} (p w : X → ℕ) where
   -- Smith's rule: the greater weight for its time goes first
   abbrev pub SmithBefore : X → X → Type 0
   SmithBefore a i = w i * p a ≤ w a * p i
+
+  -- it goes on past a job that takes time
+  pub SmithBefore_trans : (a b c : X) → 0 < p b → SmithBefore a b → SmithBefore b c → SmithBefore a c
+  SmithBefore_trans a b c positive h k = le_of_mul-le-mul_left {k = p b} (omega (arith, mul-le-mul_left (p c) h, mul-le-mul_left (p a) k)) positive
+
+  -- a list of which each job and the next stand so has each pair so
+  pub smith_from_adjacent : (xs : List X) → All (λ j. 0 < p j) xs → AllAdjacentBelow SmithBefore xs (length xs) → AllPairs SmithBefore xs
+  smith_from_adjacent xs h k = AllPairs-from_adjacent SmithBefore (λ j. 0 < p j) SmithBefore_trans xs h k
 
   pub Covers-from_smith : (c : X → ℕ) (a i : X) → SmithBefore a i → Covers c a i
   Covers-from_smith c a i h = by (w i) (w a) (p i) (p a) (leb (c a) (c i)) (leb (c i) (c a)) h (λ e. le-leb (c i) (c a) (omega (arith, leb-false (c a) (c i) e)))

@@ -1,9 +1,11 @@
 -- Finite sums of natural numbers: over a list (std's `sum_by`) and over the numbers below n.
-use Rattle.std.proofs.Common.{◌≡◌, ℕ, zero, suc, ◌+◌, ◌*◌, ◌≤◌, ◌<◌, Bool, true, false, cond, eqb, ltb, ◌≢◌, List, [], ◌∷◌, ◌++◌, map, length, get_or, All, AllPairs, Contains, filter, sum_by, count_by, IsPermutation, ℤ, pos, ◌+ℤ◌, ◌*ℤ◌, ◌≤ℤ◌, ap₂, arith, refl, sym, ap, subst, ◌∙◌}
-use Rattle.std.specs.List.{range_with_len}
-use Rattle.std.proofs.lemmas.List.Sums.{sum_by-cons, sum_by-append}
-use Rattle.std.proofs.lemmas.List.Sorted.{sum_by-IsPermutation, All-permutation}
-use Rattle.std.proofs.lemmas.List.Elements.{All-head, All-tail, Contains-get_or, All-contains, All-filter, All-contains_itself, filter_passes}
+use Rattle.std.proofs.Common.{◌≡◌, ℕ, zero, suc, ◌+◌, ◌*◌, ◌≤◌, ◌<◌, Bool, true, false, cond, eqb, ltb, ◌≢◌, List, [], ◌∷◌, ◌++◌, map, length, get_or, All, AllPairs, Contains, filter, sum_by, count_by, IsPermutation, ℤ, pos, ◌+ℤ◌, ◌*ℤ◌, ◌≤ℤ◌, ◌⊎◌, inl, inr, ap₂, subst₂, arith, refl, sym, ap, subst, ◌∙◌}
+use Rattle.std.specs.List.{range_with_len, AllAdjacentBelow}
+pub use Rattle.std.proofs.lemmas.List.Sums.{sum_by-cons, sum_by-append, sum_by_push}
+use Rattle.std.proofs.lemmas.List.Sorted.{All-permutation}
+pub use Rattle.std.proofs.lemmas.List.Sorted.{sum_by-IsPermutation}
+use Rattle.std.proofs.lemmas.List.Elements.{All-nil, All-cons, All-head, All-tail, Contains-get_or, All-contains, All-filter, All-contains_itself, filter_passes}
+use Rattle.std.proofs.lemmas.List.{get_or_default}
 use Rattle.std.proofs.lemmas.List.Kept.{AllPairs-cons}
 use Rattle.std.proofs.lemmas.Int.{ints}
 use Rattle.msp_class.proofs.IntegerRing.{≤ℤ_refl, +ℤ_mono, *ℤ-zero, *ℤ-add}
@@ -102,6 +104,10 @@ module _ {X : Type 0} where
       by zero e later = let (x, c, p) = later (omega (arith, sum_by-cons f y ys)) in (x, (suc c.0, omega (arith, c.1), c.2), p)
       by (suc n) e later = (y, (0, omega arith, refl), omega arith)
 
+  pub Contains-tail : (x : X) (xs : List X) (y : X) → Contains (x ∷ xs) y → (x ≢ y) → Contains xs y
+  Contains-tail x xs y (zero, l, e) n = absurd (n e)
+  Contains-tail x xs y (suc k, l, e) n = (k, omega arith, e)
+
   -- what a filter keeps
   pub Contains-filter : (p : X → Bool) (xs : List X) (x : X) → Contains xs x → p x ≡ true → Contains (filter p xs) x
   Contains-filter p [] x c e = absurd (omega (arith, c.1))
@@ -130,9 +136,9 @@ total_below zero f = 0
 total_below (suc n) f = total_below n f + f n
 
 -- whatever has these two clauses is this total
-pub total_below_only : (t : ℕ → ℕ) (f : ℕ → ℕ) → t 0 ≡ 0 → ((n : ℕ) → t (suc n) ≡ t n + f n) → (n : ℕ) → t n ≡ total_below n f
-total_below_only t f z s zero = z
-total_below_only t f z s (suc n) = s n ∙ ap (λ m. m + f n) (total_below_only t f z s n)
+pub total_below_unique : (t : ℕ → ℕ) (f : ℕ → ℕ) → t 0 ≡ 0 → ((n : ℕ) → t (suc n) ≡ t n + f n) → (n : ℕ) → t n ≡ total_below n f
+total_below_unique t f z s zero = z
+total_below_unique t f z s (suc n) = s n ∙ ap (λ m. m + f n) (total_below_unique t f z s n)
 
 pub total_below-mono : (n : ℕ) (f g : ℕ → ℕ) → ((i : ℕ) → i < n → f i ≤ g i) → total_below n f ≤ total_below n g
 total_below-mono zero f g h = omega arith
@@ -270,6 +276,35 @@ module _ {X : Type 0} where
   pub AllPairs-tail : (R : X → X → Type 0) (x : X) (xs : List X) → AllPairs R (x ∷ xs) → AllPairs R xs
   AllPairs-tail R x xs h i j d a b = h (suc i) (suc j) d (omega arith) (omega arith)
 
+  -- of two elements, one stands before the other, or they are the same
+  pub AllPairs-contains : (R : X → X → Type 0) (xs : List X) (x y : X) → AllPairs R xs → Contains xs x → Contains xs y → R x y ⊎ ((x ≡ y) ⊎ R y x)
+  AllPairs-contains R xs x y h (i, l, e) (j, m, f) = by (ltb i j) refl (ltb j i) refl
+    where
+      ex : get_or xs i y ≡ x
+      ex = get_or_default xs i y x l ∙ e
+
+      fy : get_or xs j x ≡ y
+      fy = get_or_default xs j x y m ∙ f
+
+      by : (b : Bool) → ltb i j ≡ b → (d : Bool) → ltb j i ≡ d → R x y ⊎ ((x ≡ y) ⊎ R y x)
+      by true b d' d = inl (subst₂ R e fy (h i j x (ltb-true i j b) m))
+      by false b true d = inr (inr (subst₂ R f ex (h j i y (ltb-true j i d) l)))
+      by false b false d = let same : i ≡ j = omega (arith, ltb-false i j b, ltb-false j i d) in inr (inl (sym e ∙ ap (λ k. get_or xs k x) same ∙ fy))
+
+  AllAdjacent-tail : (R : X → X → Type 0) (x : X) (xs : List X) → AllAdjacentBelow R (x ∷ xs) (length (x ∷ xs)) → AllAdjacentBelow R xs (length xs)
+  AllAdjacent-tail R x xs h k d l = let next : suc k + 1 ≡ suc (k + 1) = omega arith in subst (λ n. R (get_or xs k d) (get_or (x ∷ xs) n d)) next (h (suc k) d (omega arith))
+
+  -- a relation that goes on past an element on which P holds holds of each pair once it holds of neighbours
+  follows_all : (R : X → X → Type 0) (P : X → Type 0) → ((a b c : X) → P b → R a b → R b c → R a c) → (x : X) (xs : List X) → All P xs → AllAdjacentBelow R (x ∷ xs) (length (x ∷ xs)) → All (R x) xs
+  follows_all R P on x [] p h = All-nil (R x)
+  follows_all R P on x (y ∷ ys) p h =
+      All-cons (R x) y ys (h 0 x (omega arith))
+      (λ k d l. on x y (get_or ys k d) (All-head P y ys p) (h 0 x (omega arith)) (follows_all R P on y ys (All-tail P y ys p) (AllAdjacent-tail R x (y ∷ ys) h) k d l))
+
+  pub AllPairs-from_adjacent : (R : X → X → Type 0) (P : X → Type 0) → ((a b c : X) → P b → R a b → R b c → R a c) → (xs : List X) → All P xs → AllAdjacentBelow R xs (length xs) → AllPairs R xs
+  AllPairs-from_adjacent R P on [] p h = λ i j d a b. absurd (omega arith)
+  AllPairs-from_adjacent R P on (x ∷ xs) p h = AllPairs-cons R x xs (follows_all R P on x xs (All-tail P x xs p) h) (AllPairs-from_adjacent R P on xs (All-tail P x xs p) (AllAdjacent-tail R x xs h))
+
 -- ---- a list of numbers below n
 pub sum_by_counts : (f : ℕ → ℕ) (n : ℕ) (xs : List ℕ) → All (λ x. x < n) xs → sum_by f xs ≡ total_below n (λ i. f i * count_by (λ x. eqb x i) xs)
 sum_by_counts f n xs h = sum_by-by_key (λ x. x) f n xs h ∙ total_below-same n _ _ (λ i l. one i)
@@ -358,9 +393,9 @@ abbrev pub int_total_below : ℕ → (ℕ → ℤ) → ℤ
 int_total_below zero f = pos 0
 int_total_below (suc n) f = int_total_below n f +ℤ f n
 
-pub int_total_below_only : (t : ℕ → ℤ) (f : ℕ → ℤ) → t 0 ≡ pos 0 → ((n : ℕ) → t (suc n) ≡ t n +ℤ f n) → (n : ℕ) → t n ≡ int_total_below n f
-int_total_below_only t f z s zero = z
-int_total_below_only t f z s (suc n) = s n ∙ ap (λ m. m +ℤ f n) (int_total_below_only t f z s n)
+pub int_total_below_unique : (t : ℕ → ℤ) (f : ℕ → ℤ) → t 0 ≡ pos 0 → ((n : ℕ) → t (suc n) ≡ t n +ℤ f n) → (n : ℕ) → t n ≡ int_total_below n f
+int_total_below_unique t f z s zero = z
+int_total_below_unique t f z s (suc n) = s n ∙ ap (λ m. m +ℤ f n) (int_total_below_unique t f z s n)
 
 pub int_total_below-same : (n : ℕ) (f g : ℕ → ℤ) → ((i : ℕ) → i < n → f i ≡ g i) → int_total_below n f ≡ int_total_below n g
 int_total_below-same zero f g h = refl
