@@ -3,3 +3,4 @@ pub mod Feasible
 pub mod Cost
 pub mod Fraction
 pub mod Within
+pub mod Settled
