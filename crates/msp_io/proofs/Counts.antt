@@ -1,6 +1,6 @@
 -- Counts of faults over several calls.
 use Rattle.std.proofs.Common.{◌≡◌, ℕ, ◌+◌, ◌≤◌, ◌<◌, ◌-◌, ◌^◌, ◌⊎◌, inl, inr, arith}
-use Rattle.msp_io.specs.Faults.{Rose, one_more, count_of}
+use Rattle.msp_io.specs.Faults.{Rose}
 
 -- what rose in a later call rose since
 pub Rose-since : (start before after : ℕ) → start ≤ before → Rose before after → Rose start after

@@ -1,9 +1,8 @@
 -- Known bytes that are taken and appended by several calls.
 use Rattle.std.proofs.Common.{◌≡◌, ℕ, ◌+◌, ◌≤◌, ◌<◌, List, [], ◌∷◌, ◌++◌, length, take, drop, refl, sym, ◌∙◌, ap, ◌-◌, arith, append_assoc, Option, Some, None}
-use Rattle.std.proofs.lemmas.List.{append-nil, take_at, length-take-le, take-append-drop, drop-drop, take_rest}
+use Rattle.std.proofs.lemmas.List.{append-nil, length-append, take_rest}
 use Rattle.std.proofs.Math.Seq.{take-add}
 use Rattle.std.specs.Io.KnownBytes.{Appends, Consumes, Keeps, IsAtEnd}
-use Rattle.msp_io.specs.Sources.{TellsEnd}
 
 -- nothing was appended
 pub Appends-nil : (known : Option (List ℕ)) → Appends known known []
@@ -45,24 +44,21 @@ Consumes-kept (Some old) None c xs first kept = absurd first
 Consumes-kept (Some old) (Some bs) None xs first kept = absurd kept
 Consumes-kept (Some old) (Some bs) (Some cs) xs first kept = first ∙ ap (λ (s : List ℕ). xs ++ s) (sym kept)
 
--- an append of nothing keeps what was held
-pub Keeps-from_nil : (a b : Option (List ℕ)) → Appends a b [] → Keeps a b
-Keeps-from_nil None b same = tt
-Keeps-from_nil (Some old) None same = absurd same
-Keeps-from_nil (Some old) (Some bs) same = same ∙ append-nil old
+-- where the bytes left are told, all that was taken to the end is all that was left
+pub Consumes-all : (left all : List ℕ) (after : Option (List ℕ)) → Consumes (Some left) after all → IsAtEnd after → all ≡ left
+Consumes-all left all None taken end = absurd taken
+Consumes-all left all (Some rest) taken end =
+    sym (taken ∙ ap (λ (s : List ℕ). all ++ s) end ∙ append-nil all)
 
--- a front of bytes that was copied over a front is found there again
-pub take-copied : (n : ℕ) (bytes rest : List ℕ) → n ≤ length bytes → take n (take n bytes ++ rest) ≡ take n bytes
-take-copied n bytes rest within = take_at (take n bytes) rest n (length-take-le n bytes within)
+-- where the bytes left are told, no more is taken than was left
+pub Consumes-within : (left taken : List ℕ) (after : Option (List ℕ)) → Consumes (Some left) after taken → length taken ≤ length left
+Consumes-within left taken None front = absurd front
+Consumes-within left taken (Some rest) front = omega (arith, ap length front, length-append taken rest)
 
--- the front that was copied, and then what is left
-pub copied_front : (n : ℕ) (bytes rest : List ℕ) → n ≤ length bytes → bytes ≡ take n (take n bytes ++ rest) ++ drop n bytes
-copied_front n bytes rest within = rw (take-copied n bytes rest within) (sym (take-append-drop n bytes))
-
--- a front was taken off what was left from a place on
-pub left_from : (left items from into : List ℕ) (at n : ℕ) → drop at items ≡ left → from ≡ drop at items → from ≡ take n into ++ drop n from → left ≡ take n into ++ drop (at + n) items
-left_from left items from into at n told rest front =
-    sym told ∙ sym rest ∙ front ∙ ap (λ (s : List ℕ). take n into ++ s) (ap (λ (s : List ℕ). drop n s) rest ∙ drop-drop n at items)
+-- where the bytes held are told, they are told after an append too
+pub Appends-told : (held bytes : List ℕ) (after : Option (List ℕ)) → Appends (Some held) after bytes → after ≡ Some (held ++ bytes)
+Appends-told held bytes None more = absurd more
+Appends-told held bytes (Some grown) more = ap Some more
 
 -- the first bytes were appended, and then the first of the rest
 pub Appends-further : (a b c : Option (List ℕ)) (done n : ℕ) (bytes : List ℕ) → Appends a b (take done bytes) → Appends b c (take n (take (length bytes - done) (drop done bytes))) → Appends a c (take (done + n) bytes)

@@ -22,3 +22,6 @@ pub use sink::Sink;
 pub use source::{Failed, Source};
 pub use std_io::{StdSink, StdSource};
 pub use whole::{Taken, WriteFault, read_all, write_all};
+
+#[cfg(test)]
+mod tests;

@@ -1,6 +1,6 @@
 // Sinks in memory.
 ghost use Rattle.std.specs.Prelude.{◌≡◌, ◌↔◌, ◌<◌, ◌≤◌, ◌++◌, ◌-◌, [], Some, None, Ok, length, take, min, vec_len, vec_capacity, IsErr, IfOk, OnErr};
-ghost use Rattle.msp_io.specs.Faults.{one_more, count_of, count_of-fits};
+ghost use Rattle.msp_io.specs.Faults.{one_more, in_64_bits, in_64_bits-fits};
 ghost use Rattle.msp_io.specs.Memory.{SinkState, Refuses};
 
 use crate::{Failed, Sink};
@@ -26,12 +26,12 @@ impl Model for MemorySink {
     ghost Value = { SinkState };
 
     ghost view = { λ s. record {
-        held = s.held.items;
-        room = s.room;
-        step = s.step;
-        fails = s.fails.items;
-        calls = s.calls;
-        faults = s.faults
+      held = s.held.items;
+      room = s.room;
+      step = s.step;
+      fails = s.fails.items;
+      calls = s.calls;
+      faults = s.faults;
     } };
 
     ghost invariant = { λ s. (vec_len s.held ≤ s.room) × (s.room ≤ vec_capacity s.held) × (0 < s.step) };
@@ -47,7 +47,13 @@ impl MemorySink {
     pub fn new(alloc: Global, room: u32, step: u32, fails: Vec<u64>) -> Result<MemorySink, NoMemory>
         requires { 0 < step }
         ensures { IfOk result (λ sink. sink ≡ record {
-            held = []; room = room; step = step; fails = fails.items; calls = 0; faults = 0 }) }
+          held = [];
+          room = room;
+          step = step;
+          fails = fails.items;
+          calls = 0;
+          faults = 0;
+        }) }
     {
         let Ok(held) = Vec::with_capacity(alloc, room as usize) else {
             return Err(NoMemory);
@@ -73,24 +79,27 @@ impl MemorySink {
 impl Sink for MemorySink {
     ghost held = { λ s. Some s.held };
 
-    ghost faults = { λ s. count_of s.faults };
+    ghost faults = { λ s. in_64_bits s.faults };
 
-    ghost fits = { λ s. count_of-fits s.faults };
+    ghost fits = { λ s. in_64_bits-fits s.faults };
 
     fn write(&mut self, bytes: &[u8]) -> Result<usize, Failed>
         // Exactly the calls in `fails` and those without room fail, and change nothing but the numbers.
         ensures fails { IsErr result ↔ Refuses self.old bytes.now }
         ensures failing { OnErr result (self.new ≡ record self.old {
-            calls = one_more self.old.calls; faults = one_more self.old.faults }) }
+          calls = one_more self.old.calls;
+          faults = one_more self.old.faults;
+        }) }
 
         // The other calls take as many bytes as step, slice and room allow.
         ensures exact { IfOk result (λ n. n ≡
             min (min self.old.step (length bytes.now)) (self.old.room - length self.old.held)) }
         ensures grown { IfOk result (λ n. self.new ≡ record self.old {
-            held = self.old.held ++ take n bytes.now; calls = one_more self.old.calls }) }
+          held = self.old.held ++ take n bytes.now;
+          calls = one_more self.old.calls;
+        }) }
 
         // What every sink ensures.
-        ensures count { IfOk result (λ n. n ≤ length bytes.now) }
         ensures moves { IfOk result (λ n. 0 < length bytes.now → 0 < n) }
     {
         self.calls = self.calls.saturating_add(1);
@@ -121,7 +130,7 @@ impl Sink for SureSink {
 
     ghost faults = { λ _. 0 };
 
-    ghost fits = { λ _. count_of-fits 0 };
+    ghost fits = { λ _. in_64_bits-fits 0 };
 
     fn write(&mut self, bytes: &[u8]) -> Result<usize, Failed>
         ensures { result ≡ Ok (length bytes.now) }

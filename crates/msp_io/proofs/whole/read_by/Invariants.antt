@@ -6,7 +6,7 @@ abbrev pub invariant-pieces : goal.invariant-pieces
 invariant-pieces g l = record {
   within : vec_len l.bytes ≤ l.limit;
   taken : Consumes (g.S.Source.left l.initial.source) (g.S.Source.left l.source) l.bytes.items;
-  counts : g.S.Source.faults l.initial.source ≤ g.S.Source.faults l.source
+  counts : g.S.Source.faults l.initial.source ≤ g.S.Source.faults l.source;
 }
 
 abbrev pub decreases-pieces : goal.decreases-pieces

@@ -7,5 +7,5 @@ pub pieces-preserved : goal.pieces-preserved
 pieces-preserved g c = record {
   within = omega (arith, c.in-Ok.ensures.count, length-take {A = ℕ}, length-drop {A = ℕ});
   appended = Appends-further (g.K.Sink.held c.args.sink.now) (g.K.Sink.held c.pieces.sink) (g.K.Sink.held c.write.new.self) c.pieces.done c.in-Ok.count c.args.bytes.now c.pieces.invariant.appended c.in-Ok.ensures.taken;
-  counts = omega (arith, c.pieces.invariant.counts, c.in-Ok.ensures.faults)
+  counts = omega (arith, c.pieces.invariant.counts, c.in-Ok.ensures.faults);
 }
