@@ -1,5 +1,5 @@
 -- Known bytes that are taken and appended by several calls.
-use Rattle.std.proofs.Common.{◌≡◌, ℕ, ◌+◌, ◌≤◌, ◌<◌, List, [], ◌∷◌, ◌++◌, length, take, drop, refl, sym, ◌∙◌, ap, ◌-◌, arith, append_assoc, Option, Some, None}
+use Rattle.std.proofs.Common.{◌≡◌, ℕ, ◌+◌, ◌≤◌, ◌<◌, List, [], ◌++◌, length, take, drop, refl, sym, ◌∙◌, ap, ◌-◌, arith, append_assoc, Option, Some, None, IfSome}
 use Rattle.std.proofs.lemmas.List.{append-nil, length-append, take_rest}
 use Rattle.std.proofs.Math.Seq.{take-add}
 use Rattle.std.specs.Io.KnownBytes.{Appends, Consumes, Keeps, IsAtEnd}
@@ -65,3 +65,18 @@ pub Appends-further : (a b c : Option (List ℕ)) (done n : ℕ) (bytes : List �
 Appends-further a b c done n bytes first more =
     let rest : Appends b c (take n (drop done bytes)) = rw take_rest at more in
     rw take-add (Appends-more a b c (take done bytes) (take n (drop done bytes)) first rest)
+
+-- a read to the end gave all that was left
+pub all_left : (before after : Option (List ℕ)) (all : List ℕ) → Consumes before after all → IsAtEnd after → IfSome before (λ left. all ≡ left)
+all_left None after all taken end = tt
+all_left (Some left) after all taken end = Consumes-all left all after taken end
+
+-- where one byte more than a limit was taken, more than the limit was left
+pub more_left : (before after : Option (List ℕ)) (taken : List ℕ) (limit : ℕ) → Consumes before after taken → length taken ≡ limit + 1 → IfSome before (λ left. limit < length left)
+more_left None after taken limit front count = tt
+more_left (Some left) after taken limit front count = omega (arith, Consumes-within left taken after front)
+
+-- a sink that tells holds what it held and what was appended
+pub held_after : (before after : Option (List ℕ)) (bytes : List ℕ) → Appends before after bytes → IfSome before (λ held. after ≡ Some (held ++ bytes))
+held_after None after bytes more = tt
+held_after (Some held) after bytes more = Appends-told held bytes after more

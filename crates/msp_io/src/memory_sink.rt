@@ -1,5 +1,5 @@
 // Sinks in memory.
-ghost use Rattle.std.specs.Prelude.{◌≡◌, ◌↔◌, ◌<◌, ◌≤◌, ◌++◌, ◌-◌, [], Some, None, Ok, length, take, min, vec_len, vec_capacity, IsErr, IfOk, OnErr};
+ghost use Rattle.std.specs.Prelude.{◌≡◌, ◌↔◌, ◌<◌, ◌≤◌, ◌++◌, ◌-◌, [], Some, None, Ok, length, take, min, vec_len, vec_capacity, IsOk, IsErr, IfOk, OnErr};
 ghost use Rattle.msp_io.specs.Faults.{one_more, in_64_bits, in_64_bits-fits};
 ghost use Rattle.msp_io.specs.Memory.{SinkState, Refuses};
 
