@@ -43,10 +43,10 @@ impl MemorySink {
     ///
     /// # Errors
     ///
-    /// `NoMemory` comes where there is no memory for `room` bytes.
+    /// `NoMemory` comes where there is no memory for `room` bytes, and never where `room` is 0.
     pub fn new(alloc: Global, room: u32, step: u32, fails: Vec<u64>) -> Result<MemorySink, NoMemory>
         requires { 0 < step }
-        ensures { IfOk result (λ sink. sink ≡ record {
+        ensures ok { IfOk result (λ sink. sink ≡ record {
           held = [];
           room = room;
           step = step;
@@ -54,6 +54,8 @@ impl MemorySink {
           calls = 0;
           faults = 0;
         }) }
+        // Where there is no room, no memory is taken.
+        ensures no_room { room ≡ 0 → IsOk result }
     {
         let Ok(held) = Vec::with_capacity(alloc, room as usize) else {
             return Err(NoMemory);

@@ -1,5 +1,5 @@
 // Sources over bytes in memory.
-ghost use Rattle.std.specs.Prelude.{◌≡◌, ◌↔◌, ◌<◌, ◌≤◌, ◌++◌, [], Some, Ok, length, take, drop, min, vec_len, Contains, IsErr, IfOk, OnErr};
+ghost use Rattle.std.specs.Prelude.{◌≡◌, ◌↔◌, ◌<◌, ◌≤◌, ◌++◌, [], Some, Ok, length, take, drop, min, vec_len, IsErr, IfOk, OnErr};
 ghost use Rattle.msp_io.specs.Faults.{one_more, in_64_bits, in_64_bits-fits};
 ghost use Rattle.msp_io.specs.Memory.{SourceState, SureState, FailsNext};
 
