@@ -1,0 +1,2 @@
+pub mod Smith
+pub mod InstanceText
