@@ -2,3 +2,7 @@
 //!
 //! It stands on all that it calls. The program uses the clauses of `run`.
 #![tactic(auto)]
+
+mod serve;
+
+pub use serve::run;
