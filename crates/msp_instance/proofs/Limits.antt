@@ -1,5 +1,5 @@
 -- The conditions of a class hold within wider limits, so an instance of a text is an inner one.
-use Rattle.std.proofs.Common.{◌≡◌, ℕ, ◌*◌, ◌^◌, ◌<◌, ◌≤◌, Bool, true, false, List, length, ℤ, pos, neg_ℤ, ◌-ℤ◌, ◌≤ℤ◌, All, refl, arith, lit≤}
+use Rattle.std.proofs.Common.{ℕ, ◌*◌, ◌^◌, ◌<◌, ◌≤◌, Bool, true, false, List, length, ℤ, pos, ◌-ℤ◌, ◌≤ℤ◌, arith, lit≤}
 use Rattle.std.proofs.lemmas.Int.{ints}
 use Rattle.msp_class.specs.declared.class.Env.{Env}
 use Rattle.msp_class.specs.declared.class.Crit.{Crit}
@@ -9,7 +9,7 @@ use Rattle.msp_instance.specs.declared.Curve.{Curve}
 use Rattle.msp_instance.specs.declared.Job.{Job}
 use Rattle.msp_instance.specs.declared.Instance.{Instance}
 use Rattle.msp_instance.specs.Instance.{Kind, identical, uniform, unrelated, open_shop, flow_shop, job_shop, kind_of, no_job, job_at}
-use Rattle.msp_instance.specs.Conditions.{Limits, text_limits, inner_limits, inner_factor, uses_due, LiesWithin, HasTimes, HasNeeds, HasRelease, HasDue, IsCurve, HasCurve, IsJobOf, MeetsConditions, InClass, Inner, HasNearDues}
+use Rattle.msp_instance.specs.Conditions.{Limits, text_limits, inner_limits, inner_factor, uses_due, LiesWithin, HasTimes, HasNeeds, HasRelease, HasDue, IsCurve, HasCurve, IsJobOf, MeetsConditions, InClass, Inner}
 
 -- each limit of the first is within that of the second
 pub record AreWithin (l m : Limits) : Type 0 where
