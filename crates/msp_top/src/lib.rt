@@ -3,6 +3,7 @@
 //! It stands on all that it calls. The program uses the clauses of `run`.
 #![tactic(auto)]
 
+mod report;
 mod serve;
 
 pub use serve::run;
