@@ -5,3 +5,4 @@ pub mod Costs
 pub mod Small
 pub mod Whole
 pub mod OneMachine
+pub mod OneRow

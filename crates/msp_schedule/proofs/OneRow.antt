@@ -1,9 +1,12 @@
 -- Jobs in a row on machine 0 from moment 0, as a schedule: when it is feasible, and the form in which it is reported.
-use Rattle.std.proofs.Common.{◌≡◌, ℕ, ◌+◌, ◌*◌, ◌-◌, ◌<◌, ◌≤◌, ◌^◌, Bool, true, false, eqb, List, [], ◌∷◌, length, get_or, map, filter, ℤ, pos, nat_abs, ◌+ℤ◌, ◌-ℤ◌, ◌*ℤ◌, ◌≤ℤ◌, inl, inr, All, AllPairs, sum_by, MatchBool, refl, sym, ap, ◌∙◌, subst, arith, zero-add}
+use Rattle.std.proofs.Common.{◌≡◌, ℕ, ◌+◌, ◌*◌, ◌-◌, ◌<◌, ◌≤◌, ◌^◌, Bool, true, false, eqb, List, [], ◌∷◌, length, get_or, map, filter, ℤ, pos, nat_abs, ◌+ℤ◌, ◌-ℤ◌, ◌*ℤ◌, ◌≤ℤ◌, ◌<ℤ◌, inl, inr, All, AllPairs, sum_by, MatchBool, refl, sym, ap, ◌∙◌, subst, arith, zero-add}
+use Prim.Native.Nat.{◌∣◌}
 use Rattle.std.proofs.lemmas.Int.{ints}
+use Rattle.std.proofs.lemmas.Nat.Gcd.{dvd_antisymm}
+use Rattle.std.proofs.Math.Nat.{one-dvd}
 use Rattle.std.proofs.lemmas.List.Elements.{All-nil, All-cons}
 use Rattle.msp_class.proofs.Intervals.{IsApart}
-use Rattle.msp_class.proofs.Sums.{OnceBelow, OnceBelow-distinct, OnceBelow-contains, length-OnceBelow}
+use Rattle.msp_class.proofs.Sums.{sum_by-mono, sum_by-constant, OnceBelow, OnceBelow-distinct, OnceBelow-contains, length-OnceBelow}
 use Rattle.msp_class.proofs.Rows.{row, Makes, begin_in, end_in, end_in-begin, length-row, row-All, row-from, row-to, row-in_order, row-positive, row-filter}
 use Rattle.msp_instance.specs.declared.Arc.{Arc}
 use Rattle.msp_instance.specs.declared.Instance.{Instance}
@@ -123,3 +126,37 @@ module _ (i : Instance) (order : List ℕ) (o : OnceBelow (length i.jobs) order)
       route = subst (λ x. FollowsRoute x pieces) (sym m.kind) tt;
       work = λ j n l h. works j l n h;
     }
+
+  -- pieces are reported in the order of the row, and unit and moments have no common divisor
+  pub row_is_settled : IsSettled (row_schedule i order)
+  row_is_settled = record {
+    lowest = λ d divides _. only_one d divides;
+    order = λ a b d h k. inl (before a b d h k);
+  }
+    where
+      only_one : (d : ℕ) → d ∣ 1 → d ≡ 1
+      only_one d h = dvd_antisymm h (one-dvd d)
+
+      before : AllPairs (λ p q. p.from <ℤ q.from) pieces
+      before a b d h k = let e = in_order a b d h k in let t = timed a d (omega arith) in omega (arith, ints, e, t.from, t.to, t.lasts)
+
+  -- with short times the row is within the bounds of the calls, and ends by 400 times the longest
+  module _ (few : length i.jobs ≤ 400) (short : (j : ℕ) → j < length i.jobs → time_at i j ≤ 1000000000) where
+    pub row_ends : sum_by (time_at i) order ≤ 400000000000
+    row_ends =
+        let each = sum_by-mono (time_at i) (λ _. 1000000000) order (λ k d l. short (get_or order k d) (o.within k d l)) in
+        omega (arith, each, sum_by-constant 1000000000 order, length-OnceBelow o)
+
+    pub row_is_within : kind_of i.class.env ≡ identical → Within i (row_schedule i order)
+    row_is_within e = record {
+      unit = (omega (arith, ints), omega (arith, ints));
+      few = omega (arith, length-row piece (time_at i) 0 order, length-OnceBelow o);
+      moments = λ k d l. let t = timed k d l in moments_of (get_or pieces k d) t (omega (arith, row-to piece (time_at i) piece_makes 0 order k d l, row_ends));
+      scaled = λ u. absurd (not_unrelated (sym e ∙ u));
+    }
+      where
+        moments_of : (p : Piece) → IsTimed p → finish p ≤ 400000000000 → IsMoment p.from × IsMoment p.to
+        moments_of p t h = ((omega (arith, ints, t.from), omega (arith, ints, t.from, t.lasts, h)), (omega (arith, ints, t.to), omega (arith, ints, t.to, h)))
+
+        not_unrelated : identical ≡ unrelated → ⊥
+        not_unrelated h = cc
