@@ -1,1 +1,4 @@
 pub mod Endings
+pub mod SmithOrder
+pub mod SmithSteps
+pub mod SmithSorted

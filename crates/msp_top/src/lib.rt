@@ -4,5 +4,7 @@
 #![tactic(auto)]
 
 mod serve;
+mod smith;
 
 pub use serve::run;
+pub use smith::solve;
