@@ -1,9 +1,11 @@
 -- Jobs in a row on machine 0 from moment 0, as a schedule: when it is feasible, and the form in which it is reported.
-use Rattle.std.proofs.Common.{◌≡◌, ℕ, ◌+◌, ◌*◌, ◌-◌, ◌<◌, ◌≤◌, ◌^◌, Bool, true, false, eqb, List, [], ◌∷◌, length, get_or, map, filter, ℤ, pos, nat_abs, ◌+ℤ◌, ◌-ℤ◌, ◌*ℤ◌, ◌≤ℤ◌, ◌<ℤ◌, inl, inr, All, AllPairs, sum_by, MatchBool, refl, sym, ap, ◌∙◌, subst, arith, zero-add}
+use Rattle.std.proofs.Common.{◌≡◌, ℕ, ◌+◌, ◌*◌, ◌-◌, ◌<◌, ◌≤◌, ◌^◌, Bool, true, false, eqb, List, [], ◌∷◌, length, get_or, map, filter, ℤ, pos, nat_abs, unsigned_abs, ◌+ℤ◌, ◌-ℤ◌, ◌*ℤ◌, ◌≤ℤ◌, ◌<ℤ◌, inl, inr, All, AllPairs, sum_by, MatchBool, refl, sym, ap, ◌∙◌, subst, arith, zero-add}
 use Prim.Native.Nat.{◌∣◌}
 use Rattle.std.proofs.lemmas.Int.{ints}
-use Rattle.std.proofs.lemmas.Nat.Gcd.{dvd_antisymm}
-use Rattle.std.proofs.Math.Nat.{one-dvd}
+use Rattle.std.specs.Int.{IsGcd}
+use Rattle.std.proofs.lemmas.Nat.Gcd.{dvd_antisymm, dvd_refl}
+use Rattle.std.proofs.Math.Nat.{one-dvd, dvd-mul_left, eq-one_of_dvd-one}
+use Rattle.msp_class.proofs.IntegerRing.{natural, *ℤ-one}
 use Rattle.std.proofs.lemmas.List.Elements.{All-nil, All-cons}
 use Rattle.msp_class.proofs.Intervals.{IsApart}
 use Rattle.msp_class.proofs.Sums.{sum_by-mono, sum_by-constant, OnceBelow, OnceBelow-distinct, OnceBelow-contains, length-OnceBelow}
@@ -13,11 +15,13 @@ use Rattle.msp_instance.specs.declared.Instance.{Instance}
 use Rattle.msp_instance.specs.Instance.{Kind, identical, uniform, unrelated, open_shop, flow_shop, job_shop, kind_of, job_at, need_at}
 use Rattle.msp_schedule.specs.declared.Piece.{Piece}
 use Rattle.msp_schedule.specs.declared.Schedule.{Schedule}
+use Rattle.msp_schedule.specs.declared.Frac.{Frac}
+use Rattle.msp_schedule.specs.Fraction.{IsOver, IsLowest}
 use Rattle.msp_schedule.specs.Piece.{length_of, pieces_of, IsBefore, IsApart as AreApart}
 use Rattle.msp_schedule.specs.Feasible.{Feasible, HasPlace, HasOperation, MayRun, FollowsRoute, IsWholeWork, GetsWork, total, whole_work, work_of as part_of}
 use Rattle.msp_schedule.specs.Settled.{IsReportedFirst, IsSettled}
 use Rattle.msp_schedule.specs.Within.{IsMoment, Within}
-use Rattle.msp_schedule.proofs.OneMachine.{job_of, start, finish, IsTimed, apart_in_int, pieces_of-job, IsOneMachine}
+use Rattle.msp_schedule.proofs.OneMachine.{job_of, start, finish, IsTimed, pieces_of-job, IsOneMachine}
 
 -- job j on machine 0 from a to b
 abbrev pub piece : ℕ → ℕ → ℕ → Piece
@@ -160,3 +164,13 @@ module _ (i : Instance) (order : List ℕ) (o : OnceBelow (length i.jobs) order)
 
         not_unrelated : identical ≡ unrelated → ⊥
         not_unrelated h = cc
+
+-- ---- a whole cost over the unit 1: its fraction in lowest terms has the denominator 1
+pub whole_fraction : (f : Frac) (x : ℤ) (n : ℕ) → x ≡ pos n → IsOver f x (pos 1) → IsLowest f → (f.den ≡ pos 1) × (f.num ≡ pos n)
+whole_fraction f x n e over low =
+    let m = nat_abs f.den in
+    let den : f.den ≡ pos m = natural f.den (omega (arith, ints, f.positive)) in
+    let num : f.num ≡ pos (n * m) = sym (*ℤ-one f.num) ∙ over ∙ ap (λ y. y *ℤ f.den) e ∙ ap (λ d. pos n *ℤ d) den in
+    let sizes : IsGcd (n * m) m 1 = subst (λ y. IsGcd (unsigned_abs y) m 1) num (subst (λ y. IsGcd (unsigned_abs f.num) (unsigned_abs y) 1) den low) in
+    let one : m ≡ 1 = eq-one_of_dvd-one (sizes.2 m (dvd-mul_left m n) (dvd_refl m)) in
+    (den ∙ ap pos one, num ∙ ap (λ k. pos (n * k)) one ∙ ap pos (omega arith))
