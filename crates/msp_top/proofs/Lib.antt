@@ -1,1 +1,6 @@
 pub mod Endings
+pub mod SmithOrder
+pub mod SmithSteps
+pub mod SmithSorted
+pub mod SmithFacts
+pub mod SmithBest

@@ -5,5 +5,7 @@
 
 mod report;
 mod serve;
+mod smith;
 
 pub use serve::run;
+pub use smith::solve;
