@@ -1,2 +1,3 @@
 pub mod Smith
 pub mod InstanceText
+pub mod Fields

@@ -2,3 +2,5 @@
 //!
 //! It stands on all that it calls. The program uses the clauses of `run`.
 #![tactic(auto)]
+
+mod fields;

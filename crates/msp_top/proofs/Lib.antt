@@ -1,0 +1,3 @@
+pub mod Amounts
+pub mod Cuts
+pub mod JobTexts
