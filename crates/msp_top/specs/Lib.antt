@@ -1,3 +1,4 @@
 pub mod Smith
 pub mod InstanceText
 pub mod Fields
+pub mod Reading
