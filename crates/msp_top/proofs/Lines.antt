@@ -1,16 +1,18 @@
 -- The lines of jobs: what was read of them is forced.
-use Rattle.std.proofs.Common.{◌≡◌, ◌≢◌, ℕ, ◌+◌, ◌^◌, ◌<◌, ◌≤◌, ◌⊎◌, inl, inr, List, [], ◌∷◌, ◌++◌, length, get_or, refl, sym, ◌∙◌, ap, subst, arith, zero-add, append_assoc, length-append, codes, decimal, slice_index_or}
+use Rattle.std.proofs.Common.{◌≡◌, ◌≢◌, ℕ, ◌+◌, ◌^◌, ◌<◌, ◌≤◌, ◌⊎◌, inl, inr, List, [], ◌∷◌, ◌++◌, length, get_or, refl, sym, ◌∙◌, ap, subst, arith, zero-add, append_assoc, length-append, codes, decimal, slice_index_or, IsTrue, false}
 use Rattle.std.specs.List.{All}
+use Rattle.std.proofs.lemmas.Bool.{false≢true}
 use Rattle.std.proofs.lemmas.List.{append_cancel_left}
 use Rattle.std.proofs.lemmas.List.Elements.{All-from_recursion, All-nil, All-cons, All-head, All-tail, All-append, All-weaker, All-from_get_or, All-push}
 use Rattle.std.proofs.lemmas.Fmt.{decimal_is_IsNumeral}
 use Rattle.std.proofs.lemmas.Str.Parse.{digit_at}
 use Rattle.msp_instance.specs.declared.Job.{Job}
 use Rattle.msp_instance.specs.Instance.{no_need}
-use Rattle.msp_top.specs.InstanceText.{IsJobName, IsNameByte, line, job_line, job_lines}
+use Rattle.msp_file.specs.JobName.{is_name_byte, IsJobName}
+use Rattle.msp_top.specs.InstanceText.{line, job_line, job_lines}
 use Rattle.msp_top.specs.Fields.{IsAmount, IsCutAt, IsWord, IsCutInWords, IsJobText}
 use Rattle.msp_top.specs.Reading.{IsPlainJob, BeginsWithJob, IsJobLines, plain_job}
-use Rattle.msp_top.proofs.Cuts.{cut_forced, cut_never}
+use Rattle.msp_top.proofs.Cuts.{cut_forced, cut_never, words_forced}
 use Rattle.msp_top.proofs.Plain.{plain_time, IsPlainJob-plain_job}
 
 -- The time of a job.
@@ -33,8 +35,8 @@ decimal_lacks m n low h =
     All-from_get_or (λ x. x ≢ m) (decimal n) 0 (λ i within same. let range = digit_at (decimal n) i numeral.0.1 within in absurd (omega arith))
 
 -- A name has neither a space nor a line feed.
-name_lacks : (m : ℕ) (name : List ℕ) → m < 45 → IsJobName name → All (λ x. x ≢ m) name
-name_lacks m name low h = All-weaker IsNameByte (λ x. x ≢ m) (λ x is same. omega arith) name h.bytes
+name_lacks : (m : ℕ) (name : List ℕ) → is_name_byte m ≡ false → IsJobName name → All (λ x. x ≢ m) name
+name_lacks m name other h = All-weaker (λ x. IsTrue (is_name_byte x)) (λ x. x ≢ m) (λ x is same. false≢true (sym other ∙ sym (ap is_name_byte same) ∙ is)) name h.bytes
 
 keyed_lacks : (m k n : ℕ) → k ≢ m → 61 ≢ m → m < 48 → IsAmount n → All (λ x. x ≢ m) ((k ∷ 61 ∷ []) ++ decimal n)
 keyed_lacks m k n one two low h = All-cons (λ x. x ≢ m) k (61 ∷ decimal n) one (All-cons (λ x. x ≢ m) 61 (decimal n) two (decimal_lacks m n low h))
@@ -49,7 +51,7 @@ content_is_job name j spelled plain =
       words = record {
         joined = simp append_assoc;
         tag_word = tag_lacks 32 (omega arith);
-        name_word = name_lacks 32 name (omega arith) spelled;
+        name_word = name_lacks 32 name refl spelled;
         time_word = keyed_lacks 32 112 (time_of j) (above 112 32 (omega arith)) (above 61 32 (omega arith)) (omega arith) (plain_time j plain);
       };
       time_amount = plain_time j plain;
@@ -66,7 +68,7 @@ content_has_no_end bytes name time weight spelled job =
     let W = keyed_lacks 10 119 weight (above 119 10 (omega arith)) (above 61 10 (omega arith)) (omega arith) job.weight_amount in
     let T = keyed_lacks 10 112 time (above 112 10 (omega arith)) (above 61 10 (omega arith)) (omega arith) job.time_amount in
     let two = spaced (codes "p=" ++ decimal time) (codes "w=" ++ decimal weight) T W in
-    let three = spaced name ((codes "p=" ++ decimal time) ++ 32 ∷ (codes "w=" ++ decimal weight)) (name_lacks 10 name (omega arith) spelled) two in
+    let three = spaced name ((codes "p=" ++ decimal time) ++ 32 ∷ (codes "w=" ++ decimal weight)) (name_lacks 10 name refl spelled) two in
     let four = spaced (codes "job") (name ++ 32 ∷ ((codes "p=" ++ decimal time) ++ 32 ∷ (codes "w=" ++ decimal weight))) (tag_lacks 10 (omega arith)) three in
     subst (λ (b : List ℕ). All P b) (sym job.words.joined) four
 
@@ -99,6 +101,35 @@ job_is_no_end bytes name time weight after h e =
 pub rest_forced : (bytes name name' : List ℕ) (time weight time' weight' : ℕ) (after after' : List ℕ) → BeginsWithJob bytes name time weight after → BeginsWithJob bytes name' time' weight' after' → after ≡ after'
 rest_forced bytes name name' time weight time' weight' after after' h k = (cut_forced 10 h.text k.text after after' h.cut.first k.cut.first (sym h.cut.joined ∙ k.cut.joined)).1
 
+-- The name in the line of a job is forced.
+texts_forced : (bytes name name' : List ℕ) (time weight time' weight' : ℕ) (after after' : List ℕ) (h : BeginsWithJob bytes name time weight after) (k : BeginsWithJob bytes name' time' weight' after') → h.text ≡ k.text
+texts_forced bytes name name' time weight time' weight' after after' h k = (cut_forced 10 h.text k.text after after' h.cut.first k.cut.first (sym h.cut.joined ∙ k.cut.joined)).0
+
+pub name_forced : (bytes name name' : List ℕ) (time weight time' weight' : ℕ) (after after' : List ℕ) → BeginsWithJob bytes name time weight after → BeginsWithJob bytes name' time' weight' after' → name ≡ name'
+name_forced bytes name name' time weight time' weight' after after' h k =
+    let job = subst (λ (b : List ℕ). IsJobText b name' time' weight') (sym (texts_forced bytes name name' time weight time' weight' after after' h k)) k.job in
+    (words_forced h.text (codes "job") name (codes "p=" ++ decimal time) (codes "w=" ++ decimal weight) (codes "job") name' (codes "p=" ++ decimal time') (codes "w=" ++ decimal weight') h.job.words job.words).1
+
+-- A text with no line feed begins with no line.
+pub no_feed : (text : List ℕ) → All (λ b. b ≢ 10) text → (name : List ℕ) (time weight : ℕ) (after : List ℕ) → BeginsWithJob text name time weight after → ⊥
+no_feed text none name time weight after h = cut_never 10 text h.text after none h.cut.joined
+
+line_forced : (text part rest : List ℕ) → IsCutAt 10 text part rest → (name : List ℕ) (time weight : ℕ) (after : List ℕ) → BeginsWithJob text name time weight after → IsJobText part name time weight
+line_forced text part rest cut name time weight after h =
+    let same : h.text ≡ part = (cut_forced 10 h.text part after rest h.cut.first cut.first (sym h.cut.joined ∙ cut.joined)).0 in
+    subst (λ (b : List ℕ). IsJobText b name time weight) same h.job
+
+-- A first line that is none of a job.
+pub no_fields : (text part rest : List ℕ) → IsCutAt 10 text part rest → ((name : List ℕ) (time weight : ℕ) → IsJobText part name time weight → ⊥) → (name : List ℕ) (time weight : ℕ) (after : List ℕ) → BeginsWithJob text name time weight after → ⊥
+no_fields text part rest cut none name time weight after h = none name time weight (line_forced text part rest cut name time weight after h)
+
+-- A first line with a word that is no name.
+pub no_name : (text part rest word : List ℕ) (t w : ℕ) → IsCutAt 10 text part rest → IsJobText part word t w → ¬ (IsJobName word) → (name : List ℕ) (time weight : ℕ) (after : List ℕ) → BeginsWithJob text name time weight after → ⊥
+no_name text part rest word t w cut job none name time weight after h =
+    let other = line_forced text part rest cut name time weight after h in
+    let same : name ≡ word = (words_forced part (codes "job") name (codes "p=" ++ decimal time) (codes "w=" ++ decimal weight) (codes "job") word (codes "p=" ++ decimal t) (codes "w=" ++ decimal w) other.words job.words).1 in
+    none (subst IsJobName same h.spelled)
+
 -- The lines that were read so far are forced: what is left are the lines of the other jobs.
 pub data IsLeft (rest : List ℕ) (count : ℕ) : Type 0 where
   left : (names : List (List ℕ)) (jobs : List Job) → length names ≡ length jobs → All IsJobName names → All IsPlainJob jobs → rest ≡ job_lines names jobs ++ line (codes "end") → length jobs ≡ count → IsLeft rest count
@@ -123,3 +154,31 @@ left_of (n ∷ ns) (j ∷ js) rest (m ∷ ms) (k ∷ ks) same spelled plain same
     let rests : after ≡ after' = rest_forced (job_line m k ++ after') n m (time_of j) j.weight (time_of k) k.weight after after' one' two in
     let more = left_of ns js rest ms ks (omega arith) (All-tail IsJobName n ns spelled) (All-tail IsPlainJob j js plain) (omega arith) (All-tail IsJobName m ms spelled') (All-tail IsPlainJob k ks plain') rests in
     (more.0, omega (arith, more.1), more.2)
+
+-- The names of a text are forced.
+pub names_forced : (names : List (List ℕ)) (jobs : List Job) (names' : List (List ℕ)) (jobs' : List Job) → length names ≡ length jobs → All IsJobName names → All IsPlainJob jobs → length names' ≡ length jobs' → All IsJobName names' → All IsPlainJob jobs' → job_lines names jobs ++ line (codes "end") ≡ job_lines names' jobs' ++ line (codes "end") → names ≡ names'
+names_forced [] jobs [] jobs' same spelled plain same' spelled' plain' e = refl
+names_forced [] (j ∷ js) names' jobs' same spelled plain same' spelled' plain' e = absurd (omega arith)
+names_forced [] [] (m ∷ ms) [] same spelled plain same' spelled' plain' e = absurd (omega arith)
+names_forced [] [] (m ∷ ms) (k ∷ ks) same spelled plain same' spelled' plain' e =
+    let after = job_lines ms ks ++ line (codes "end") in
+    let begins = begins_from_line m k after (All-head IsJobName m ms spelled') (All-head IsPlainJob k ks plain') in
+    absurd (job_is_no_end (job_line m k ++ after) m (time_of k) k.weight after begins (sym (append_assoc (job_line m k) (job_lines ms ks) (line (codes "end"))) ∙ sym e))
+names_forced (n ∷ ns) [] names' jobs' same spelled plain same' spelled' plain' e = absurd (omega arith)
+names_forced (n ∷ ns) (j ∷ js) [] [] same spelled plain same' spelled' plain' e =
+    let after = job_lines ns js ++ line (codes "end") in
+    let begins = begins_from_line n j after (All-head IsJobName n ns spelled) (All-head IsPlainJob j js plain) in
+    absurd (job_is_no_end (job_line n j ++ after) n (time_of j) j.weight after begins (sym (append_assoc (job_line n j) (job_lines ns js) (line (codes "end"))) ∙ e))
+names_forced (n ∷ ns) (j ∷ js) [] (k ∷ ks) same spelled plain same' spelled' plain' e = absurd (omega arith)
+names_forced (n ∷ ns) (j ∷ js) (m ∷ ms) [] same spelled plain same' spelled' plain' e = absurd (omega arith)
+names_forced (n ∷ ns) (j ∷ js) (m ∷ ms) (k ∷ ks) same spelled plain same' spelled' plain' e =
+    let after = job_lines ns js ++ line (codes "end") in
+    let after' = job_lines ms ks ++ line (codes "end") in
+    let one = begins_from_line n j after (All-head IsJobName n ns spelled) (All-head IsPlainJob j js plain) in
+    let two = begins_from_line m k after' (All-head IsJobName m ms spelled') (All-head IsPlainJob k ks plain') in
+    let texts : job_line n j ++ after ≡ job_line m k ++ after' = sym (append_assoc (job_line n j) (job_lines ns js) (line (codes "end"))) ∙ e ∙ append_assoc (job_line m k) (job_lines ms ks) (line (codes "end")) in
+    let one' = subst (λ (b : List ℕ). BeginsWithJob b n (time_of j) j.weight after) texts one in
+    let heads : n ≡ m = name_forced (job_line m k ++ after') n m (time_of j) j.weight (time_of k) k.weight after after' one' two in
+    let rests : after ≡ after' = rest_forced (job_line m k ++ after') n m (time_of j) j.weight (time_of k) k.weight after after' one' two in
+    let tails : ns ≡ ms = names_forced ns js ms ks (omega arith) (All-tail IsJobName n ns spelled) (All-tail IsPlainJob j js plain) (omega arith) (All-tail IsJobName m ms spelled') (All-tail IsPlainJob k ks plain') rests in
+    cc

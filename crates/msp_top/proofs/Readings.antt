@@ -1,5 +1,5 @@
 -- What the reader knows between two lines, and what its answers mean.
-use Rattle.std.proofs.Common.{◌≡◌, ◌≢◌, ℕ, zero, suc, ◌+◌, ◌^◌, ◌<◌, ◌≤◌, ◌⊎◌, inl, inr, List, [], ◌∷◌, ◌++◌, length, refl, sym, ◌∙◌, ap, subst, arith, append_assoc, length-append, codes}
+use Rattle.std.proofs.Common.{◌≡◌, ◌≢◌, ℕ, zero, suc, ◌+◌, ◌^◌, ◌<◌, ◌≤◌, ◌⊎◌, inl, inr, List, [], ◌∷◌, ◌++◌, length, refl, sym, ◌∙◌, ap, subst, arith, append_assoc, length-append, codes, Result, Ok, Err, MatchResult, IfOk, IsErrOf}
 use Rattle.std.specs.List.{All, AllPairs}
 use Rattle.std.proofs.lemmas.List.{append-nil, append_cancel_left, length_push}
 use Rattle.std.proofs.lemmas.List.Elements.{All-nil, All-head, All-push, All-weaker}
@@ -7,10 +7,14 @@ use Rattle.msp_instance.specs.declared.Job.{Job}
 use Rattle.msp_instance.specs.declared.Instance.{Instance}
 use Rattle.msp_instance.specs.Conditions.{IsJobOf, text_limits}
 use Rattle.msp_top.specs.Smith.{smith_class}
-use Rattle.msp_top.specs.InstanceText.{IsJobName, IsInstanceText, line, job_line, job_lines, instance_text}
+use Rattle.msp_file.specs.JobName.{IsJobName}
+use Rattle.msp_top.specs.InstanceText.{IsInstanceText, line, job_line, job_lines, instance_text}
+use Rattle.msp_top.specs.declared.reader.Named.{Named}
+use Rattle.msp_top.specs.declared.reader.ReadRefusal.{ReadRefusal}
+use Rattle.msp_top.specs.declared.reader.ReadRefusal.TheVariants.{Unreadable}
 use Rattle.msp_top.specs.Reading.{IsPlainJob, BeginsWithJob, IsJobLines, plain_job, plain_instance}
 use Rattle.msp_top.proofs.Plain.{plain_from_class, IsPlainJob-plain_job, InClass-plain_instance}
-use Rattle.msp_top.proofs.Lines.{time_of, job_content, IsLeft, left, left_of, begins_from_line, job_is_no_end, content_from_job}
+use Rattle.msp_top.proofs.Lines.{time_of, job_content, IsLeft, left, left_of, names_forced, begins_from_line, job_is_no_end, content_from_job}
 
 -- The text is the lines of the jobs so far, and the rest.
 pub record IsReadSoFar (bytes rest : List ℕ) (names : List (List ℕ)) (jobs : List Job) : Type 0 where
@@ -137,3 +141,25 @@ pub no_lines : (bytes rest : List ℕ) → bytes ≡ codes "msp 1\nclass 1||sumw
 no_lines bytes rest e none names i h =
     let rests : rest ≡ job_lines names i.jobs ++ line (codes "end") = append_cancel_left (codes "msp 1\nclass 1||sumwC\n") rest _ (sym e ∙ head_of_text bytes names i h) in
     none names i.jobs (subst (λ (b : List ℕ). IsJobLines b names i.jobs) (sym rests) (lines_from_text bytes names i h))
+
+-- A text in whose lines a name stands twice is none of an instance.
+pub no_names : (bytes rest : List ℕ) (names : List (List ℕ)) (jobs : List Job) → bytes ≡ codes "msp 1\nclass 1||sumwC\n" ++ rest → IsJobLines rest names jobs → (AllPairs (λ m n. m ≢ n) names → ⊥) → (names' : List (List ℕ)) (i : Instance) → IsInstanceText bytes names' i → ⊥
+no_names bytes rest names jobs e h twice names' i k =
+    let lines' = lines_from_text bytes names' i k in
+    let rests : rest ≡ job_lines names' i.jobs ++ line (codes "end") = append_cancel_left (codes "msp 1\nclass 1||sumwC\n") rest _ (sym e ∙ head_of_text bytes names' i k) in
+    let same : names' ≡ names = sym (names_forced names jobs names' i.jobs h.named h.spelled h.plain lines'.named lines'.spelled lines'.plain (sym h.text ∙ rests)) in
+    twice (subst (λ (ns : List (List ℕ)). AllPairs (λ m n. m ≢ n) ns) same k.distinct)
+
+-- What the instance with its names says of the text.
+pub text_read : (bytes rest : List ℕ) (names : List (List ℕ)) (jobs : List Job) → bytes ≡ codes "msp 1\nclass 1||sumwC\n" ++ rest → IsJobLines rest names jobs → (r : Result Named ReadRefusal) → MatchResult r (λ n. AllPairs (λ a b. a ≢ b) names × (n.names ≡ names) × (n.instance ≡ plain_instance jobs)) (λ x. x ≡ Unreadable → AllPairs (λ a b. a ≢ b) names → ⊥) → IfOk r (λ n. IsInstanceText bytes n.names n.instance)
+text_read bytes rest names jobs e h (Ok n) says =
+    let made = text_from_lines bytes rest names jobs e h says.0 in
+    let over_names = subst (λ (ns : List (List ℕ)). IsInstanceText bytes ns (plain_instance jobs)) (sym says.1) made in
+    subst (λ (i : Instance). IsInstanceText bytes n.names i) (sym says.2) over_names
+text_read bytes rest names jobs e h (Err x) says = tt
+
+pub text_refused : (bytes rest : List ℕ) (names : List (List ℕ)) (jobs : List Job) → bytes ≡ codes "msp 1\nclass 1||sumwC\n" ++ rest → IsJobLines rest names jobs → (r : Result Named ReadRefusal) → MatchResult r (λ n. AllPairs (λ a b. a ≢ b) names × (n.names ≡ names) × (n.instance ≡ plain_instance jobs)) (λ x. x ≡ Unreadable → AllPairs (λ a b. a ≢ b) names → ⊥) → IsErrOf r Unreadable → (names' : List (List ℕ)) (i : Instance) → IsInstanceText bytes names' i → ⊥
+text_refused bytes rest names jobs e h (Ok n) says refused = cc
+text_refused bytes rest names jobs e h (Err x) says refused =
+    let unreadable : x ≡ Unreadable = cc in
+    no_names bytes rest names jobs e h (says unreadable)

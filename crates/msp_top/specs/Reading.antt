@@ -6,7 +6,8 @@ use Rattle.msp_instance.specs.declared.Instance.{Instance}
 use Rattle.msp_instance.specs.Instance.{no_curve}
 use Rattle.msp_instance.specs.Conditions.{IsSingleNeed, HasTimes}
 use Rattle.msp_top.specs.Smith.{smith_class}
-use Rattle.msp_top.specs.InstanceText.{IsJobName, line, job_lines}
+use Rattle.msp_file.specs.JobName.{IsJobName}
+use Rattle.msp_top.specs.InstanceText.{line, job_lines}
 use Rattle.msp_top.specs.Fields.{IsAmount, IsCutAt, IsJobText}
 
 -- A job of one machine: one need, neither release date nor due date nor cost curve.

@@ -4,3 +4,6 @@
 #![tactic(auto)]
 
 mod fields;
+mod reader;
+
+pub use reader::{read_text, Named, ReadRefusal};
