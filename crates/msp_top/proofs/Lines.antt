@@ -1,19 +1,18 @@
 -- The lines of jobs: what was read of them is forced.
-use Rattle.std.proofs.Common.{◌≡◌, ◌≢◌, ℕ, ◌+◌, ◌^◌, ◌<◌, ◌≤◌, ◌⊎◌, inl, inr, List, [], ◌∷◌, ◌++◌, length, get_or, refl, sym, ◌∙◌, ap, subst, arith, zero-add, append_assoc, length-append, codes, decimal, slice_index_or, IsTrue, false}
+use Rattle.std.proofs.Common.{◌≡◌, ◌≢◌, ℕ, ◌+◌, ◌^◌, ◌<◌, ◌≤◌, List, [], ◌∷◌, ◌++◌, length, refl, sym, ◌∙◌, ap, subst, arith, zero-add, append_assoc, codes, decimal, slice_index_or, IsTrue, false}
 use Rattle.std.specs.List.{All}
 use Rattle.std.proofs.lemmas.Bool.{false≢true}
-use Rattle.std.proofs.lemmas.List.{append_cancel_left}
-use Rattle.std.proofs.lemmas.List.Elements.{All-from_recursion, All-nil, All-cons, All-head, All-tail, All-append, All-weaker, All-from_get_or, All-push}
+use Rattle.std.proofs.lemmas.List.Elements.{All-from_recursion, All-cons, All-head, All-tail, All-append, All-weaker, All-from_get_or}
 use Rattle.std.proofs.lemmas.Fmt.{decimal_is_IsNumeral}
 use Rattle.std.proofs.lemmas.Str.Parse.{digit_at}
 use Rattle.msp_instance.specs.declared.Job.{Job}
 use Rattle.msp_instance.specs.Instance.{no_need}
 use Rattle.msp_file.specs.JobName.{is_name_byte, IsJobName}
 use Rattle.msp_top.specs.InstanceText.{line, job_line, job_lines}
-use Rattle.msp_top.specs.Fields.{IsAmount, IsCutAt, IsWord, IsCutInWords, IsJobText}
-use Rattle.msp_top.specs.Reading.{IsPlainJob, BeginsWithJob, IsJobLines, plain_job}
+use Rattle.msp_top.specs.Fields.{IsAmount, IsCutAt, IsJobText}
+use Rattle.msp_top.specs.Reading.{IsPlainJob, BeginsWithJob, plain_job}
 use Rattle.msp_top.proofs.Cuts.{cut_forced, cut_never, words_forced}
-use Rattle.msp_top.proofs.Plain.{plain_time, IsPlainJob-plain_job}
+use Rattle.msp_top.proofs.Plain.{plain_time}
 
 -- The time of a job.
 abbrev pub time_of : Job → ℕ

@@ -1,14 +1,14 @@
 -- The jobs and the instances of the class: one need on machine 0, and nothing else but the weight.
-use Rattle.std.proofs.Common.{◌≡◌, ◌≢◌, ℕ, ◌+◌, ◌^◌, ◌<◌, ◌≤◌, List, [], ◌∷◌, length, get_or, refl, sym, ◌∙◌, zero-add, subst, arith, pos, slice_index_or, true, false}
+use Rattle.std.proofs.Common.{◌≡◌, ℕ, ◌^◌, ◌≤◌, List, [], length, refl, ◌∙◌, zero-add, subst, arith, slice_index_or}
 use Rattle.std.specs.List.{All, range_with_len}
-use Rattle.std.proofs.lemmas.List.Elements.{All-nil, All-cons, All-get_or, All-weaker}
+use Rattle.std.proofs.lemmas.List.Elements.{All-nil, All-cons, All-weaker}
 use Rattle.std.proofs.lemmas.List.FromFn.{length-range_with_len, get_or-range_with_len}
 use Rattle.msp_class.specs.declared.class.Class.{Class}
 use Rattle.msp_instance.specs.declared.Need.{Need}
 use Rattle.msp_instance.specs.declared.Job.{Job}
 use Rattle.msp_instance.specs.declared.Instance.{Instance}
-use Rattle.msp_instance.specs.Instance.{no_need, no_curve, kind_of}
-use Rattle.msp_instance.specs.Conditions.{IsJobOf, InClass, MeetsConditions, IsAcyclic, HasNeeds, HasUnitTimes, HasRelease, HasDue, HasWeight, HasCurve, text_limits, uses_due, uses_weight}
+use Rattle.msp_instance.specs.Instance.{no_need, kind_of}
+use Rattle.msp_instance.specs.Conditions.{IsJobOf, InClass, HasNeeds, HasRelease, HasDue, HasWeight, HasCurve, text_limits, uses_due, uses_weight}
 use Rattle.msp_top.specs.Smith.{smith_class}
 use Rattle.msp_top.specs.Fields.{IsAmount}
 use Rattle.msp_top.specs.Reading.{plain_job, IsPlainJob, plain_instance}

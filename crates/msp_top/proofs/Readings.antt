@@ -1,14 +1,13 @@
 -- What the reader knows between two lines, and what its answers mean.
-use Rattle.std.proofs.Common.{◌≡◌, ◌≢◌, ℕ, zero, suc, ◌+◌, ◌^◌, ◌<◌, ◌≤◌, ◌⊎◌, inl, inr, List, [], ◌∷◌, ◌++◌, length, refl, sym, ◌∙◌, ap, subst, arith, append_assoc, length-append, codes, Result, Ok, Err, MatchResult, IfOk, IsErrOf}
+use Rattle.std.proofs.Common.{◌≡◌, ◌≢◌, ℕ, ◌+◌, ◌<◌, ◌≤◌, List, [], ◌∷◌, ◌++◌, length, refl, sym, ◌∙◌, ap, subst, arith, append_assoc, codes, Result, Ok, Err, MatchResult, IfOk, IsErrOf}
 use Rattle.std.specs.List.{All, AllPairs}
 use Rattle.std.proofs.lemmas.List.{append-nil, append_cancel_left, length_push}
 use Rattle.std.proofs.lemmas.List.Elements.{All-nil, All-head, All-push, All-weaker}
 use Rattle.msp_instance.specs.declared.Job.{Job}
 use Rattle.msp_instance.specs.declared.Instance.{Instance}
 use Rattle.msp_instance.specs.Conditions.{IsJobOf, text_limits}
-use Rattle.msp_top.specs.Smith.{smith_class}
 use Rattle.msp_file.specs.JobName.{IsJobName}
-use Rattle.msp_top.specs.InstanceText.{IsInstanceText, line, job_line, job_lines, instance_text}
+use Rattle.msp_top.specs.InstanceText.{IsInstanceText, line, job_line, job_lines}
 use Rattle.msp_top.specs.declared.reader.Named.{Named}
 use Rattle.msp_top.specs.declared.reader.ReadRefusal.{ReadRefusal}
 use Rattle.msp_top.specs.declared.reader.ReadRefusal.TheVariants.{Unreadable}

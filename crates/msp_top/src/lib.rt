@@ -6,4 +6,4 @@
 mod fields;
 mod reader;
 
-pub use reader::{read_text, Named, ReadRefusal};
+pub use reader::{Named, ReadRefusal, read_text};

@@ -1,6 +1,6 @@
-//! The text of an instance of `1||sumwC`, read in one pass.
+//! The text of an instance of `1||sumwC`, read in one pass: its head, a line for each job, and its last line.
 
-ghost use Rattle.std.specs.Prelude.{◌≡◌, ◌≢◌, ◌≤◌, ◌++◌, ◌∷◌, [], ℕ, List as Items, length, AllPairs, IfOk, OnOk, IsErrOf, MatchOption, MatchResult};
+ghost use Rattle.std.specs.Prelude.{◌≡◌, ◌≢◌, ◌++◌, ◌∷◌, [], ℕ, List as Items, AllPairs, IfOk, OnOk, IsErrOf, MatchOption, MatchResult};
 ghost use Rattle.msp_instance.specs.declared.Job.{Job as JobValue};
 ghost use Rattle.msp_instance.specs.declared.Instance.{Instance as InstanceValue};
 ghost use Rattle.msp_top.specs.InstanceText.{IsInstanceText};
@@ -53,10 +53,8 @@ struct Row<'a> {
     after: &'a [u8],
 }
 
-/// The instance of which the bytes are the text. A text without a class of any other kind, without its last line, with more than one
-/// spelling of a number or with two jobs of one name is unreadable.
+/// Reads the text of an instance of the class. `Unreadable` comes exactly where the bytes are the text of none.
 pub fn read_text(alloc: Global, bytes: &[u8]) -> Result<Named, ReadRefusal>
-    requires { length bytes.now ≤ 4194304 }
     ensures read { IfOk result (λ n. IsInstanceText bytes.now n.names n.instance) }
     ensures unreadable { IsErrOf result ReadRefusal.Unreadable → (names : Items (Items ℕ)) (i : InstanceValue) → IsInstanceText bytes.now names i → ⊥ }
 {
@@ -186,5 +184,39 @@ fn job_of(alloc: Global, time: u64, weight: u64) -> Result<Job, NoMemory>
             },
         }),
         Err(_) => Err(NoMemory),
+    }
+}
+
+#[cfg(test)]
+mod tests {
+    use super::*;
+    use std::test::Fail;
+
+    const TEXT: &[u8] =
+        b"msp 1\nclass 1||sumwC\njob a p=3 w=1\njob b p=1 w=2\njob c p=2 w=2\nend\n";
+
+    #[test]
+    fn reads_jobs_with_their_names(rt: HostRuntime) -> Result<(), Fail> {
+        let named = read_text(rt.alloc(), TEXT)?;
+        assert_eq!(rt; named.names.len(), 3);
+        assert_eq!(rt; named.names.get(0), JobName::new(b"a"));
+        assert_eq!(rt; named.names.get(1), JobName::new(b"b"));
+        assert_eq!(rt; named.names.get(2), JobName::new(b"c"));
+        let first = named.instance.jobs.get(0).ok_or("no job")?;
+        assert_eq!(rt; first.weight, 1);
+        assert_eq!(rt;
+            first.needs.get(0).copied(),
+            Some(Need {
+                machine: 0,
+                time: 3
+            })
+        );
+        Ok(())
+    }
+
+    #[test]
+    fn wants_the_last_byte(rt: HostRuntime) {
+        let cut = &TEXT[..TEXT.len() - 1];
+        assert!(rt; matches!(read_text(rt.alloc(), cut), Err(ReadRefusal::Unreadable)));
     }
 }

@@ -1,5 +1,3 @@
-use Rattle.std.proofs.Common.{◌≡◌, ◌≢◌, ◌^◌, ◌<◌, ℕ, List, Option, MatchOption, decimal, sym, subst}
-use Rattle.std.specs.Str.Parse.{IsNumeral, digits_value, without_leading_plus}
 use Rattle.msp_top.proofs.Amounts.{parsed, spelling_is_text}
 use Rattle.msp_top.proofs.fields.parse_digits.Goals as goal
 

@@ -1,7 +1,6 @@
 use Rattle.std.proofs.Common.{Some, None}
 use Rattle.std.proofs.lemmas.Bool.Decides.{Decides-eqb}
 use Rattle.std.proofs.lemmas.Slice.Eq.{strip_prefix_is}
-use Rattle.std.proofs.lemmas.List.{append_cancel_left}
 use Rattle.msp_top.proofs.JobTexts.{keyed}
 use Rattle.msp_top.proofs.fields.read_keyed.Goals as goal
 
