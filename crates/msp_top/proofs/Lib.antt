@@ -4,3 +4,9 @@ pub mod SmithSteps
 pub mod SmithSorted
 pub mod SmithFacts
 pub mod SmithBest
+pub mod Amounts
+pub mod Cuts
+pub mod JobTexts
+pub mod Plain
+pub mod Lines
+pub mod Readings
