@@ -29,3 +29,68 @@ pub fn clash(alloc: Global, entries: &List<Entry>) -> Result<Option<Chain>, NoMe
         }
     }
 }
+
+#[cfg(test)]
+mod tests {
+    use super::*;
+    use crate::entry::Mark;
+    use crate::labels::{close, label};
+    use msp_class::{Class, Crit, Env, Order, Times};
+    use std::test::Fail;
+
+    const DATED: Class = Class {
+        env: Env::One,
+        cut: false,
+        order: Order::Free,
+        heads: true,
+        times: Times::General,
+        crit: Crit::Cmax,
+    };
+
+    const DUE: Class = Class {
+        env: Env::One,
+        cut: false,
+        order: Order::Free,
+        heads: false,
+        times: Times::General,
+        crit: Crit::Lmax,
+    };
+
+    fn add(
+        alloc: Global,
+        entries: &mut List<Entry>,
+        class: Class,
+        verdict: Verdict,
+    ) -> Result<(), Fail> {
+        let entry = Entry {
+            class,
+            verdict,
+            source: List::new(alloc),
+        };
+        match entries.push(entry) {
+            Ok(()) => Ok(()),
+            Err(_) => Err(Fail::from("no memory")),
+        }
+    }
+
+    #[test]
+    fn contradicts_itself(rt: HostRuntime) -> Result<(), Fail> {
+        let mut entries = List::new(rt.alloc());
+        add(rt.alloc(), &mut entries, DUE, Verdict::Easy)?;
+        assert!(rt; clash(rt.alloc(), &entries)?.is_none());
+        add(rt.alloc(), &mut entries, DATED, Verdict::Hard)?;
+        let labels = close(rt.alloc(), &entries)?;
+        assert_eq!(rt; label(&labels, DATED), Mark::Both);
+        assert_eq!(rt; label(&labels, DUE), Mark::Both);
+        let plain = Class {
+            heads: false,
+            ..DATED
+        };
+        assert_eq!(rt; label(&labels, plain), Mark::Easy);
+        let found = clash(rt.alloc(), &entries)?.ok_or("no clash")?;
+        assert_eq!(rt; found.from, DATED);
+        assert_eq!(rt; found.rows.len(), 1);
+        assert_eq!(rt; found.rows.get(0).map(|row| row.number()), Some(47));
+        Ok(())
+    }
+}
