@@ -1,9 +1,9 @@
-use Rattle.std.proofs.Common.{◌≡◌, ◌≢◌, ℕ, ◌<◌, ◌≤◌, ◌+◌, Bool, true, false, cond, List, [], ◌∷◌, ◌++◌, length, get_or, drop, refl, ap, sym, ◌∙◌, subst, inl, inr, append_assoc, arith}
+use Rattle.std.proofs.Common.{◌≡◌, ◌≢◌, ℕ, ◌<◌, ◌≤◌, ◌+◌, true, false, List, ◌∷◌, length, get_or, drop, refl, ap, sym, ◌∙◌, subst, inl, inr, arith}
 use Rattle.std.specs.Prelude.{Contains}
 use Rattle.std.proofs.lemmas.Bool.{cases_eq}
-use Rattle.std.proofs.lemmas.List.{drop_more, drop_all, append-nil, get_or_default}
+use Rattle.std.proofs.lemmas.List.{drop_more, get_or_default}
 use Rattle.msp_class.specs.declared.class.Class.{Class}
-use Rattle.msp_table.specs.Chains.{every_row, Reaches, LeadsInto, IsNearest}
+use Rattle.msp_table.specs.Chains.{every_row, IsNearest}
 use Rattle.msp_closure.specs.declared.entry.Entry.{Entry}
 use Rattle.msp_closure.specs.declared.entry.Verdict.{Verdict}
 use Rattle.msp_closure.specs.declared.entry.Verdict.TheVariants.{Easy, Hard}

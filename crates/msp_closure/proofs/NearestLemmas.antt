@@ -1,9 +1,9 @@
-use Rattle.std.proofs.Common.{◌≡◌, ◌≢◌, ℕ, suc, ◌<◌, ◌≤◌, ◌+◌, ◌-◌, Bool, true, List, [], ◌∷◌, ◌++◌, length, Some, refl, ap, sym, ◌∙◌, subst, append_assoc, arith}
+use Rattle.std.proofs.Common.{◌≡◌, ◌≢◌, ℕ, ◌<◌, ◌≤◌, ◌+◌, ◌-◌, Bool, List, [], ◌∷◌, ◌++◌, length, Some, sym, ◌∙◌, subst, append_assoc, arith}
 use Rattle.std.proofs.lemmas.List.{append-nil}
-use Rattle.std.specs.Prelude.{Contains, IsTrue, IfSome}
+use Rattle.std.specs.Prelude.{IfSome}
 use Rattle.msp_class.specs.declared.class.Class.{Class}
 use Rattle.msp_table.specs.Rows.{goes_of}
-use Rattle.msp_table.specs.Chains.{Leads, stay, step, LeadsInto, IsDistance, LeadsAtDistance, TakesLeastRows, IsNearest}
+use Rattle.msp_table.specs.Chains.{LeadsInto, IsDistance, LeadsAtDistance, TakesLeastRows, IsNearest}
 use Rattle.msp_table.proofs.ChainLemmas.{LeadsInto-step, LeadsInto-first}
 use Rattle.msp_closure.specs.declared.distances.TheConstants.{FAR}
 use Rattle.msp_closure.specs.Tables.{value_of, AreDistances}

@@ -1,4 +1,4 @@
-use Rattle.std.proofs.Common.{◌≡◌, ℕ, ◌≤◌, Bool, true, false, cond, Some, None, refl, arith}
+use Rattle.std.proofs.Common.{◌≡◌, ℕ, ◌≤◌, Bool, true, false, cond, Some, None, refl}
 use Rattle.std.specs.Prelude.{IsTrue}
 use Rattle.msp_class.specs.declared.class.Class.{Class}
 use Rattle.msp_table.specs.declared.row.TheConstants.{ROWS}

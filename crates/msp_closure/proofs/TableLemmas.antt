@@ -1,8 +1,8 @@
-use Rattle.std.proofs.Common.{◌≡◌, ◌≢◌, ℕ, ◌<◌, ◌+◌, Bool, true, false, List, length, get_or, set, refl, ap, arith, get_or-set_same, get_or-set_other}
+use Rattle.std.proofs.Common.{◌≡◌, ◌≢◌, ℕ, ◌<◌, ◌+◌, Bool, false, List, length, set, arith, get_or-set_same, get_or-set_other}
 use Rattle.msp_class.specs.declared.class.Class.{Class}
 use Rattle.msp_class.specs.declared.ranks.TheConstants.{CLASSES}
 use Rattle.msp_class.specs.Rank.{rank_of}
-use Rattle.msp_class.proofs.RankLemmas.{rank_of-below, rank_of-injective}
+use Rattle.msp_class.proofs.RankLemmas.{rank_of-below}
 use Rattle.msp_closure.specs.Tables.{value_of, is_marked}
 
 -- a class written to has the value

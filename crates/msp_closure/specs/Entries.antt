@@ -1,8 +1,8 @@
-use Rattle.std.specs.Prelude.{ℕ, ◌≡◌, Bool, true, false, List, [], ◌∷◌, if◌then◌else◌, length, slice_get, Contains, IsSomeAnd}
+use Rattle.std.specs.Prelude.{◌≡◌, Bool, true, false, List, [], ◌∷◌, if◌then◌else◌, length, slice_get, Contains, IsSomeAnd}
 use Rattle.msp_class.specs.declared.class.Class.{Class}
 use Rattle.msp_class.specs.declared.ranks.TheConstants.{CLASSES}
 use Rattle.msp_class.specs.Rank.{rank_of}
-use Rattle.msp_table.specs.Chains.{every_row, Reaches, LeadsInto}
+use Rattle.msp_table.specs.Chains.{every_row, Reaches}
 use Rattle.msp_closure.specs.declared.entry.Entry.{Entry}
 use Rattle.msp_closure.specs.declared.entry.Verdict.{Verdict}
 use Rattle.msp_closure.specs.declared.entry.Verdict.TheVariants.{Easy as ListedEasy, Hard as ListedHard}

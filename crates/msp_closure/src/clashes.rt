@@ -38,57 +38,60 @@ mod tests {
     use msp_class::{Class, Crit, Env, Order, Times};
     use std::test::Fail;
 
-    const DATED: Class = Class {
-        env: Env::One,
-        cut: false,
-        order: Order::Free,
-        heads: true,
-        times: Times::General,
-        crit: Crit::Cmax,
-    };
-
-    const DUE: Class = Class {
-        env: Env::One,
-        cut: false,
-        order: Order::Free,
-        heads: false,
-        times: Times::General,
-        crit: Crit::Lmax,
-    };
-
-    fn add(
-        alloc: Global,
-        entries: &mut List<Entry>,
-        class: Class,
-        verdict: Verdict,
-    ) -> Result<(), Fail> {
-        let entry = Entry {
-            class,
-            verdict,
-            source: List::new(alloc),
-        };
-        match entries.push(entry) {
-            Ok(()) => Ok(()),
-            Err(_) => Err(Fail::from("no memory")),
+    fn on_one_machine(heads: bool, crit: Crit) -> Class {
+        Class {
+            env: Env::One,
+            cut: false,
+            order: Order::Free,
+            heads,
+            times: Times::General,
+            crit,
         }
     }
 
-    #[test]
-    fn contradicts_itself(rt: HostRuntime) -> Result<(), Fail> {
-        let mut entries = List::new(rt.alloc());
-        add(rt.alloc(), &mut entries, DUE, Verdict::Easy)?;
-        assert!(rt; clash(rt.alloc(), &entries)?.is_none());
-        add(rt.alloc(), &mut entries, DATED, Verdict::Hard)?;
-        let labels = close(rt.alloc(), &entries)?;
-        assert_eq!(rt; label(&labels, DATED), Mark::Both);
-        assert_eq!(rt; label(&labels, DUE), Mark::Both);
-        let plain = Class {
-            heads: false,
-            ..DATED
+    /// Due dates alone are easy, and release dates alone hard.
+    fn contradiction(alloc: Global) -> Result<List<Entry>, Fail> {
+        let mut entries = List::new(alloc);
+        let due = Entry {
+            class: on_one_machine(false, Crit::Lmax),
+            verdict: Verdict::Easy,
+            source: List::new(alloc),
         };
-        assert_eq!(rt; label(&labels, plain), Mark::Easy);
+        let dated = Entry {
+            class: on_one_machine(true, Crit::Cmax),
+            verdict: Verdict::Hard,
+            source: List::new(alloc),
+        };
+        if entries.push(due).is_err() || entries.push(dated).is_err() {
+            return Err(Fail::from("no memory"));
+        }
+        Ok(entries)
+    }
+
+    #[test]
+    fn labels_of_a_contradiction(rt: HostRuntime) -> Result<(), Fail> {
+        let entries = contradiction(rt.alloc())?;
+        let labels = close(rt.alloc(), &entries)?;
+        assert_eq!(rt;
+            label(&labels, on_one_machine(true, Crit::Cmax)),
+            Mark::Both
+        );
+        assert_eq!(rt;
+            label(&labels, on_one_machine(false, Crit::Lmax)),
+            Mark::Both
+        );
+        assert_eq!(rt;
+            label(&labels, on_one_machine(false, Crit::Cmax)),
+            Mark::Easy
+        );
+        Ok(())
+    }
+
+    #[test]
+    fn chain_of_a_contradiction(rt: HostRuntime) -> Result<(), Fail> {
+        let entries = contradiction(rt.alloc())?;
         let found = clash(rt.alloc(), &entries)?.ok_or("no clash")?;
-        assert_eq!(rt; found.from, DATED);
+        assert_eq!(rt; found.from, on_one_machine(true, Crit::Cmax));
         assert_eq!(rt; found.rows.len(), 1);
         assert_eq!(rt; found.rows.get(0).map(|row| row.number()), Some(47));
         Ok(())

@@ -1,6 +1,4 @@
-use Rattle.std.proofs.Common.{◌≡◌, ℕ, ◌+◌, ◌<◌, ◌≤◌, ◌∙◌, sym, subst, inl, inr, arith, below_more}
-use Rattle.std.proofs.lemmas.Bool.{cases_eq}
-use Rattle.msp_table.specs.declared.row.TheConstants.{ROWS}
+use Rattle.std.proofs.Common.{ℕ, ◌<◌, subst, arith, below_more}
 use Rattle.msp_closure.specs.Tables.{allows}
 use Rattle.msp_closure.specs.Walk.{LeadsToValue}
 use Rattle.msp_closure.proofs.StepLemmas.{step_of-numbered}

@@ -1,4 +1,4 @@
-use Rattle.std.proofs.Common.{◌≡◌, ◌∙◌, false, not, eqb, length-set, arith}
+use Rattle.std.proofs.Common.{false, not, eqb, length-set, arith}
 use Rattle.msp_class.specs.declared.class.Class.{Class}
 use Rattle.msp_class.proofs.RankLemmas.{rank_of-below}
 use Rattle.msp_closure.specs.declared.distances.TheConstants.{FAR}

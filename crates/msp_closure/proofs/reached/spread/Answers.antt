@@ -1,4 +1,4 @@
-use Rattle.std.proofs.Common.{◌<◌, Bool, true, false, subst, arith}
+use Rattle.std.proofs.Common.{Bool, subst, arith}
 use Rattle.msp_class.proofs.RankLemmas.{rank_of-below}
 use Rattle.msp_closure.specs.Tables.{allows}
 use Rattle.msp_closure.specs.Walk.{Spreads}

@@ -1,4 +1,4 @@
-use Rattle.std.proofs.Common.{◌≡◌, ℕ, ◌<◌, Bool, true, false, subst, arith}
+use Rattle.std.proofs.Common.{ℕ, Bool, subst, arith}
 use Rattle.msp_closure.specs.Tables.{allows}
 use Rattle.msp_closure.specs.Walk.{Spreads, IsClosedAt}
 use Rattle.msp_closure.proofs.StepLemmas.{step_of-numbered}

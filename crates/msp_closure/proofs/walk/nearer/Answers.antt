@@ -1,4 +1,4 @@
-use Rattle.std.proofs.Common.{ℕ, ◌<◌, Option, Some, None}
+use Rattle.std.proofs.Common.{Option, Some, None}
 use Rattle.std.specs.Prelude.{IfNone}
 use Rattle.msp_closure.proofs.walk.nearer.Goals as goal
 
