@@ -1,4 +1,4 @@
-use Rattle.std.proofs.Common.{◌≡◌, ◌≢◌, ℕ, ◌<◌, ◌+◌, Bool, true, false, not, eqb, List, length, get_or, set, Some, refl, ap, sym, ◌∙◌, subst, inl, inr, get_or-set_same, get_or-set_other, arith}
+use Rattle.std.proofs.Common.{◌≡◌, ◌≢◌, ℕ, ◌<◌, ◌+◌, Bool, true, false, not, eqb, Option, List, length, get_or, set, Some, refl, ap, sym, ◌∙◌, subst, inl, inr, get_or-set_same, get_or-set_other, arith}
 use Rattle.std.specs.Prelude.{slice_get, IsSomeAnd}
 use Rattle.std.proofs.lemmas.Option.{slice_get-get_or}
 use Rattle.std.proofs.lemmas.Bool.{cases_eq, eqb-true, eqb-false}
@@ -59,3 +59,7 @@ AreLabels-from es easy hard t m marks is_easy is_hard are reached len each =
           let P : _ → Type 0 = λ o. IsSomeAnd o (Says es c) in
           subst P (sym is) right;
     }
+
+-- what the label of a class says
+pub Says-label : (es : List Entry) (marks : List Mark) (c : Class) (m : Mark) → AreLabels es marks → slice_get marks (rank_of c) ≡ Some m → Says es c m
+Says-label es marks c m are is = let P : Option Mark → Type 0 = λ o. IsSomeAnd o (Says es c) in subst P is (are.each c)

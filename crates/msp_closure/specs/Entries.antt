@@ -9,6 +9,7 @@ use Rattle.msp_closure.specs.declared.entry.Verdict.TheVariants.{Easy as ListedE
 use Rattle.msp_closure.specs.declared.entry.Mark.{Mark}
 use Rattle.msp_closure.specs.declared.entry.Mark.TheVariants.{Easy, Hard, Unsettled, Both}
 
+-- whether two verdicts are one
 abbrev pub same_verdict : Verdict → Verdict → Bool
 same_verdict ListedEasy ListedEasy = true
 same_verdict ListedEasy ListedHard = false
@@ -20,27 +21,27 @@ abbrev pub listed : Verdict → List Entry → List Class
 listed v [] = []
 listed v (e ∷ es) = if same_verdict e.verdict v then e.class ∷ listed v es else listed v es
 
--- some chain leads from the class to a class listed as easy
+-- some chain, by any rows, leads from the class to a class listed as easy
 abbrev pub IsEasy : List Entry → Class → Type 0
 IsEasy es a = (b : Class) × Contains (listed ListedEasy es) b × Reaches every_row a b
 
--- some chain leads to the class from a class listed as hard
+-- some chain, by any rows, leads to the class from a class listed as hard
 abbrev pub IsHard : List Entry → Class → Type 0
 IsHard es a = (b : Class) × Contains (listed ListedHard es) b × Reaches every_row b a
 
--- what a mark says of a class
+-- what a mark says of a class: that it is easy, hard, both or neither
 abbrev pub Says : List Entry → Class → Mark → Type 0
 Says es c Easy = IsEasy es c × (¬ IsHard es c)
 Says es c Hard = (¬ IsEasy es c) × IsHard es c
 Says es c Unsettled = (¬ IsEasy es c) × (¬ IsHard es c)
 Says es c Both = IsEasy es c × IsHard es c
 
--- one mark for each class in order of rank, each right
+-- the labels of the entries: one mark for each class in order of rank, and each says what holds
 pub record AreLabels (es : List Entry) (marks : List Mark) : Type 0 where
   pub one_each : length marks ≡ CLASSES
   pub each : (c : Class) → IsSomeAnd (slice_get marks (rank_of c)) (Says es c)
 
--- the first of a list that has a property
+-- the first class of a list that has a property
 pub data IsFirst (P : Class → Type 0) : List Class → Class → Type 0 where
   here : {x : Class} {xs : List Class} → P x → IsFirst P (x ∷ xs) x
   later : {x y : Class} {xs : List Class} → ¬ P y → IsFirst P xs x → IsFirst P (y ∷ xs) x

@@ -9,6 +9,8 @@ use Rattle.msp_closure.specs.declared.row_set.RowSet.{RowSet}
 use Rattle.msp_closure.specs.declared.row_set.RowSet.TheVariants.{Every, Carrying}
 use Rattle.msp_closure.specs.declared.distances.TheConstants.{FAR}
 
+-- What the private functions make: tables with a value for each class. No public contract cites this file.
+
 -- the rows that a search may use
 abbrev pub allows : RowSet → ℕ → Bool
 allows Every = every_row
@@ -32,7 +34,7 @@ pub record AreReached (usable : ℕ → Bool) (starts : List Class) (table : Lis
   pub sound : (c : Class) → is_marked table c ≡ true → (b : Class) × Contains starts b × Reaches usable b c
   pub all : (b c : Class) → Contains starts b → Reaches usable b c → is_marked table c ≡ true
 
--- the mark of a class that leads to a class listed as easy or not, and to which a class listed as hard leads or not
+-- the mark of a class by two tests: whether it is easy, and whether it is hard
 abbrev pub mark_of : Bool → Bool → Mark
 mark_of true true = Both
 mark_of true false = Easy

@@ -6,6 +6,8 @@ use Rattle.msp_table.specs.Chains.{Reaches}
 use Rattle.msp_closure.specs.declared.distances.TheConstants.{FAR}
 use Rattle.msp_closure.specs.Tables.{value_of, is_marked}
 
+-- What the steps of the private searches keep. No public contract cites this file.
+
 -- the class to which a usable row leads
 abbrev pub step_of : (ℕ → Bool) → ℕ → Class → Option Class
 step_of usable k c = if usable k then goes_of k c else None
@@ -14,6 +16,7 @@ step_of usable k c = if usable k then goes_of k c else None
 abbrev pub LeadsToValue : (ℕ → Bool) → List ℕ → Class → ℕ → ℕ → Type 0
 LeadsToValue usable table c v k = (x : Class) × (step_of usable k c ≡ Some x) × (value_of table x ≡ v)
 
+-- how many classes have no distance yet
 abbrev pub far_count : List ℕ → ℕ
 far_count table = count_by (λ v. v == FAR) table
 
@@ -27,10 +30,11 @@ pub record Advances (usable : ℕ → Bool) (before after : List ℕ) (level : �
   pub quiet : changed ≡ false → after ≡ before
   pub falls : far_count after + (if changed then 1 else 0) ≤ far_count before
 
+-- how many classes are not marked
 abbrev pub unmarked_count : List Bool → ℕ
 unmarked_count table = count_by not table
 
--- marks spread along chains
+-- some more classes are marked, each at the end of a chain from a class that was marked before
 pub record Spreads (usable : ℕ → Bool) (before after : List Bool) (changed : Bool) : Type 0 where
   pub keeps : (c : Class) → is_marked before c ≡ true → is_marked after c ≡ true
   pub sound : (c : Class) → is_marked after c ≡ true → (b : Class) × (is_marked before b ≡ true) × Reaches usable b c

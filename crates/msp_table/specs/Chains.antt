@@ -2,7 +2,7 @@ use Rattle.std.specs.Prelude.{ℕ, ◌≡◌, ◌<◌, ◌≤◌, Bool, true, Is
 use Rattle.msp_class.specs.declared.class.Class.{Class}
 use Rattle.msp_table.specs.Rows.{goes_of}
 
--- Which rows may be used is a test `usable` on their numbers: all of them, or those that carry.
+-- A test `usable` on the numbers of rows says which ones a chain may use: all, as here, or those that carry, by `carries`.
 abbrev pub every_row : ℕ → Bool
 every_row k = true
 

@@ -26,6 +26,7 @@ has c (HeadsIs b) = flag_number c.heads == flag_number b
 has c (TimesIs t) = times_number c.times == times_number t
 has c (CritIs k) = crit_number c.crit == crit_number k
 
+-- whether a class has all parts of a list
 abbrev pub has_all : Class → List Part → Bool
 has_all c [] = true
 has_all c (p ∷ ps) = has c p && has_all c ps
@@ -39,6 +40,7 @@ with_part (HeadsIs b) c = record c { heads = b }
 with_part (TimesIs t) c = record c { times = t }
 with_part (CritIs k) c = record c { crit = k }
 
+-- the class with all parts of a list in place of its own
 abbrev pub with_all : List Part → Class → Class
 with_all [] c = c
 with_all (p ∷ ps) c = with_all ps (with_part p c)

@@ -22,6 +22,7 @@ pub record RowRule : Type 0 where
   -- whether every arc has its ends exchanged
   pub turns : Bool
 
+-- a row that changes one part, in any environment
 abbrev pub rule : ℕ → List ℕ → Part → List Part → Part → RowRule
 rule number text left given right = record {
   number = number;
@@ -33,6 +34,7 @@ rule number text left given right = record {
   turns = false;
 }
 
+-- a row for mirror environments
 abbrev pub mirror_rule : ℕ → List ℕ → List Part → List Part → List Part → Bool → RowRule
 mirror_rule number text left given right turns = record {
   number = number;
@@ -44,6 +46,7 @@ mirror_rule number text left given right turns = record {
   turns = turns;
 }
 
+-- further conditions
 abbrev pub no_condition : List Part
 no_condition = []
 
@@ -59,6 +62,7 @@ exchangeable = EnvIs One ∷ CutIs false ∷ HeadsIs false ∷ TimesIs General �
 abbrev pub no_r_cmax : List Part
 no_r_cmax = HeadsIs false ∷ CritIs Cmax ∷ []
 
+-- the order is as the parts on the right say, and else stays
 abbrev pub same_order : Bool
 same_order = false
 
@@ -152,5 +156,6 @@ text_of k = option_map_or (λ r. r.text) (row_of k) []
 abbrev pub carries : ℕ → Bool
 carries k = not (k == 15 || k == 16)
 
+-- the kind of the row of a number
 abbrev pub kind_of : ℕ → RowKind
 kind_of k = if carries k then Carries else Threshold
