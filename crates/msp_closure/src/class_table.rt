@@ -35,6 +35,7 @@ impl<T: Copy> ClassTable<T> {
         }
     }
 
+    /// The value of a class.
     pub(crate) fn at(&self, c: Class) -> T
         ensures len { length self.now ≡ CLASSES }
         ensures value { (d : T) → slice_index_or self.now (rank_of c) d ≡ result }
@@ -42,6 +43,7 @@ impl<T: Copy> ClassTable<T> {
         self.values[rank(c) as usize]
     }
 
+    /// Gives a class another value.
     pub(crate) fn set(&mut self, c: Class, value: T)
         ensures len { length self.old ≡ CLASSES }
         ensures written { self.new ≡ slice_set self.old (rank_of c) value }
@@ -50,12 +52,13 @@ impl<T: Copy> ClassTable<T> {
     }
 }
 
+/// So many copies of a value.
 fn filled<T: Copy>(alloc: Global, count: usize, value: T) -> Result<Vec<T>, NoMemory>
     ensures len { IfOk result (λ v. length v.items ≡ count) }
     ensures each { IfOk result (λ v. (k : ℕ) (d : T) → k < count → slice_index_or v.items k d ≡ value) }
 {
     let mut values = Vec::new(alloc);
-    for k in 0..count {
+    for _k in 0..count {
         match values.push(value) {
             Ok(()) => (),
             Err(_) => return Err(NoMemory),

@@ -29,6 +29,7 @@ pub(crate) fn distances(
     Ok(table)
 }
 
+/// The wanted classes at 0, and all others far.
 fn wanted_at_zero(alloc: Global, wanted: &[Class]) -> Result<ClassTable<u16>, NoMemory>
     ensures len { IfOk result (λ table. length table ≡ CLASSES) }
     ensures zero { IfOk result (λ table. (c : Class) → Contains wanted.now c → value_of table c ≡ 0) }
@@ -55,6 +56,7 @@ fn pass(rows: RowSet, table: &mut ClassTable<u16>, level: u16) -> bool
     changed
 }
 
+/// The same for one class; whether it was far and is not any more.
 fn visit(rows: RowSet, table: &mut ClassTable<u16>, c: Class, level: u16) -> bool
     requires { level ≤ CLASSES }
     ensures len { length table.old ≡ CLASSES }
@@ -98,6 +100,7 @@ pub(crate) fn least_row(
     None
 }
 
+/// The class to which the row leads, if it has the value.
 fn step_to(rows: RowSet, table: &ClassTable<u16>, row: Row, c: Class, value: u16) -> Option<Class>
     ensures steps { IfSome result (λ x. step_of (allows rows) row c ≡ Some x) }
     ensures value { IfSome result (λ x. value_of table.now x ≡ value) }
@@ -109,6 +112,7 @@ fn step_to(rows: RowSet, table: &ClassTable<u16>, row: Row, c: Class, value: u16
     }
 }
 
+/// The row of a number.
 pub(crate) fn row_at(n: u8) -> Row
     requires from_one { 1 ≤ n }
     requires to_last { n ≤ ROWS }

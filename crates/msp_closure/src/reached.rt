@@ -24,6 +24,7 @@ pub(crate) fn reached(
     Ok(table)
 }
 
+/// The given classes marked, and no others.
 fn starts_marked(alloc: Global, starts: &[Class]) -> Result<ClassTable<bool>, NoMemory>
     ensures all { IfOk result (λ table. (c : Class) → Contains starts.now c → is_marked table c ≡ true) }
     ensures only { IfOk result (λ table. (c : Class) → is_marked table c ≡ true → Contains starts.now c) }
@@ -49,6 +50,7 @@ fn spread(rows: RowSet, table: &mut ClassTable<bool>) -> bool
     changed
 }
 
+/// The same for one class.
 fn spread_class(rows: RowSet, table: &mut ClassTable<bool>, c: Class) -> bool
     ensures spreads { Spreads (allows rows) table.old table.new result }
     ensures closed { result ≡ false → is_marked table.new c ≡ true → (k : ℕ) → IsClosedAt (allows rows) table.new c k }
@@ -60,6 +62,7 @@ fn spread_class(rows: RowSet, table: &mut ClassTable<bool>, c: Class) -> bool
     }
 }
 
+/// The same for one marked class.
 fn spread_from(rows: RowSet, table: &mut ClassTable<bool>, c: Class) -> bool
     requires { is_marked table.old c ≡ true }
     ensures spreads { Spreads (allows rows) table.old table.new result }
@@ -74,6 +77,7 @@ fn spread_from(rows: RowSet, table: &mut ClassTable<bool>, c: Class) -> bool
     changed
 }
 
+/// The same for one row from a marked class.
 fn spread_row(rows: RowSet, table: &mut ClassTable<bool>, row: Row, c: Class) -> bool
     requires { is_marked table.old c ≡ true }
     ensures spreads { Spreads (allows rows) table.old table.new result }

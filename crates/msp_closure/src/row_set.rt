@@ -19,6 +19,7 @@ pub(crate) struct RowStep {
     pub next: Class,
 }
 
+/// Whether a search may use the row.
 fn allows(rows: RowSet, row: Row) -> bool
     ensures { result ≡ allows rows row }
 {

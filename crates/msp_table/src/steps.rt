@@ -71,7 +71,7 @@ pub(crate) fn times_step(c: Class) -> Option<Class>
     }
 }
 
-/// CutIs given up or won on one machine without release dates.
+/// Preemption given up or won on one machine without release dates.
 pub(crate) fn cut_step(c: Class, to: bool) -> Option<Class>
     ensures { result ≡ goes_by (rule 0 [] (CutIs (not to)) one_machine_no_r (CutIs to)) c }
 {
