@@ -1,0 +1,4 @@
+pub mod Spellings
+pub mod Items
+pub mod Names
+pub mod Reading

@@ -1,0 +1,16 @@
+/// The first fault of a text that is no name of a class. A place `at` counts bytes from 0.
+#[derive(Clone, Copy, Debug, PartialEq, Eq)]
+pub enum NameFault {
+    /// There are not exactly two bars.
+    Bars,
+    /// The text before the first bar is no environment.
+    Environment { at: u32 },
+    /// A text between two commas is no item.
+    Item { at: u32 },
+    /// The item stands there a second time.
+    Twice { at: u32 },
+    /// A second order, or `n<=2` in an environment that is neither J2 nor J.
+    Clash { at: u32 },
+    /// The text after the second bar is no criterion.
+    Criterion { at: u32 },
+}
