@@ -1,3 +1,6 @@
 pub mod Parts
 pub mod ItemSteps
 pub mod Bars
+pub mod ItemLemmas
+pub mod TableLemmas
+pub mod ItemRuns

@@ -12,21 +12,13 @@ use Rattle.msp_class.specs.declared.class.Crit.TheVariants as k
 use Rattle.msp_name.specs.declared.words.Item.{Item}
 use Rattle.msp_name.specs.declared.words.Item.TheVariants as i
 
-abbrev pub is_chains : Order → Bool
-is_chains o.Chains = true
-is_chains _ = false
-
-abbrev pub is_intree : Order → Bool
-is_intree o.Intree = true
-is_intree _ = false
-
-abbrev pub is_outtree : Order → Bool
-is_outtree o.Outtree = true
-is_outtree _ = false
-
-abbrev pub is_prec : Order → Bool
-is_prec o.Prec = true
-is_prec _ = false
+abbrev pub order_eq : Order → Order → Bool
+order_eq o.Free o.Free = true
+order_eq o.Chains o.Chains = true
+order_eq o.Intree o.Intree = true
+order_eq o.Outtree o.Outtree = true
+order_eq o.Prec o.Prec = true
+order_eq _ _ = false
 
 abbrev pub is_unit : Times → Bool
 is_unit t.General = false
@@ -40,10 +32,10 @@ is_short _ = false
 -- whether an item is one of the class
 abbrev pub has_item : Class → Item → Bool
 has_item c i.Cut = c.cut
-has_item c i.Chains = is_chains c.order
-has_item c i.Intree = is_intree c.order
-has_item c i.Outtree = is_outtree c.order
-has_item c i.Prec = is_prec c.order
+has_item c i.Chains = order_eq c.order o.Chains
+has_item c i.Intree = order_eq c.order o.Intree
+has_item c i.Outtree = order_eq c.order o.Outtree
+has_item c i.Prec = order_eq c.order o.Prec
 has_item c i.Heads = c.heads
 has_item c i.Unit = is_unit c.times
 has_item c i.Short = is_short c.env
