@@ -89,11 +89,11 @@ Reads-none s c e = record { exact = λ y. ap (λ v. has_item v y) (sym e); fresh
 Reads-end : (s c : Class) → Reads s [] c → s ≡ c
 Reads-end s c r = class_same s c r.exact r.env r.crit
 
-then_read-ok : {A B : Type 0} (r : Result A NameFault) (f : A → Result B NameFault) (b : B) → then_read r f ≡ Ok b → (a : A) × (r ≡ Ok a) × (f a ≡ Ok b)
+pub then_read-ok : {A B : Type 0} (r : Result A NameFault) (f : A → Result B NameFault) (b : B) → then_read r f ≡ Ok b → (a : A) × (r ≡ Ok a) × (f a ≡ Ok b)
 then_read-ok (Ok a) f b h = (a, refl, h)
 then_read-ok (Err e) f b h = cc
 
-ok_or-ok : {A : Type 0} (o : Option A) (e : NameFault) (a : A) → ok_or o e ≡ Ok a → o ≡ Some a
+pub ok_or-ok : {A : Type 0} (o : Option A) (e : NameFault) (a : A) → ok_or o e ≡ Ok a → o ≡ Some a
 ok_or-ok None e a h = cc
 ok_or-ok (Some x) e a h = let k : x ≡ a = cc in ap (λ v. Some v) k
 

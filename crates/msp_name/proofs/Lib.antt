@@ -4,3 +4,5 @@ pub mod Bars
 pub mod ItemLemmas
 pub mod TableLemmas
 pub mod ItemRuns
+pub mod Marks
+pub mod NameLemmas
