@@ -6,6 +6,9 @@
 
 mod fault;
 mod reader;
+mod text;
 mod words;
 
 pub use fault::NameFault;
+pub use reader::parse;
+pub use text::NameText;

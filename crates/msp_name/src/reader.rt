@@ -1,6 +1,7 @@
-ghost use Rattle.std.specs.Prelude.{◌≡◌, ℕ, ◌+◌, ◌<◌, ◌^◌, ◌∷◌, [], length, MatchOption, IsTrue, Ok, position, ◌==◌};
+ghost use Rattle.std.specs.Prelude.{◌≡◌, ℕ, ◌+◌, ◌<◌, ◌^◌, ◌∷◌, [], length, MatchOption, Ok, ◌↔◌, position, ◌==◌};
+ghost use Rattle.msp_class.specs.declared.class.Class.{Class};
 ghost use Rattle.msp_name.specs.Items.{bare, has_item, with_item, with_order, with_short};
-ghost use Rattle.msp_name.specs.Names.{comma};
+ghost use Rattle.msp_name.specs.Names.{comma, NameOf};
 ghost use Rattle.msp_name.specs.Reading.{item_read, items_read, words, fields_read, parts, reading_of};
 
 use msp_class::{Class, Crit, Env, Order, Times};
@@ -155,14 +156,11 @@ fn read_fields(env: &[u8], items: &[u8], crit: &[u8]) -> Result<Class, NameFault
     }
 }
 
-/// The class whose spelling the bytes are: `ENV|ITEMS|CRIT`, in the three-field notation of Graham, Lawler, Lenstra and Rinnooy Kan (1979).
-///
-/// The items stand in any order, with one comma between neighbours. The fault is the first in the order bars, environment, items from
-/// left to right, criterion.
+/// The class of a name, cut at its bars.
 #[tactic(auto, using(crate::proofs::Bars::bar_rules))]
-pub fn parse(bytes: &[u8]) -> Result<Class, NameFault>
+fn read_name(bytes: &[u8]) -> Result<Class, NameFault>
     requires { length bytes.now < 2 ^ 32 }
-    ensures read { result ≡ reading_of bytes.now }
+    ensures { result ≡ reading_of bytes.now }
 {
     let Some((env, rest)) = cut(bytes, b'|') else {
         return Err(NameFault::Bars);
@@ -174,4 +172,18 @@ pub fn parse(bytes: &[u8]) -> Result<Class, NameFault>
         Some(_) => Err(NameFault::Bars),
         None => read_fields(env, items, crit),
     }
+}
+
+/// The class whose spelling the bytes are: `ENV|ITEMS|CRIT`, in the three-field notation of Graham, Lawler, Lenstra and Rinnooy Kan (1979).
+///
+/// The items stand in any order, with one comma between neighbours. The fault is the first in the order bars, environment, items from
+/// left to right, criterion.
+pub fn parse(bytes: &[u8]) -> Result<Class, NameFault>
+    requires { length bytes.now < 2 ^ 32 }
+    ensures ok { (c : Class) → (result ≡ Ok c) ↔ NameOf bytes.now c }
+
+    // The fault is the first that reading from the left comes to.
+    ensures reading { result ≡ reading_of bytes.now }
+{
+    read_name(bytes)
 }
