@@ -6,3 +6,4 @@ pub mod TableLemmas
 pub mod ItemRuns
 pub mod Marks
 pub mod NameLemmas
+pub mod PrintLemmas

@@ -2,3 +2,5 @@ pub mod Spellings
 pub mod Items
 pub mod Names
 pub mod Reading
+pub mod Printing
+pub mod Faults

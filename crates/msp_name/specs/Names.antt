@@ -1,5 +1,5 @@
 -- The names of a class: its accepted spellings, and the canonical one.
-use Rattle.std.specs.Prelude.{◌≡◌, ℕ, List, [], ◌∷◌, ◌++◌, map, Bool, true, false, All, Contains, codes, if◌then◌else◌}
+use Rattle.std.specs.Prelude.{◌≡◌, ℕ, List, [], ◌∷◌, ◌++◌, map, Bool, true, false, not, All, Contains, codes}
 use Rattle.std.specs.List.{IsDistinct, list_any, join_with_byte}
 use Rattle.msp_class.specs.declared.class.Class.{Class}
 use Rattle.msp_class.specs.declared.class.Env.{Env}
@@ -13,7 +13,7 @@ use Rattle.msp_class.specs.declared.class.Crit.TheVariants as k
 use Rattle.msp_name.specs.declared.words.Item.{Item}
 use Rattle.msp_name.specs.declared.words.Item.TheVariants as i
 use Rattle.msp_name.specs.Spellings.{env_texts, item_texts, crit_texts}
-use Rattle.msp_name.specs.Items.{has_item, plain_env, item_eq, is_short, is_unit}
+use Rattle.msp_name.specs.Items.{has_item, plain_env, item_eq, is_short, is_unit, order_eq}
 
 -- the code of `|`
 abbrev pub bar : ℕ
@@ -60,12 +60,13 @@ env_text e.JShort = codes "J"
 env_text e.J2 = codes "J2"
 env_text e.J = codes "J"
 
-abbrev pub order_texts : Order → List (List ℕ)
-order_texts o.Free = []
-order_texts o.Chains = codes "chains" ∷ []
-order_texts o.Intree = codes "intree" ∷ []
-order_texts o.Outtree = codes "outtree" ∷ []
-order_texts o.Prec = codes "prec" ∷ []
+-- no text where there is no order
+abbrev pub order_text : Order → List ℕ
+order_text o.Free = []
+order_text o.Chains = codes "chains"
+order_text o.Intree = codes "intree"
+order_text o.Outtree = codes "outtree"
+order_text o.Prec = codes "prec"
 
 abbrev pub crit_text : Crit → List ℕ
 crit_text k.Cmax = codes "Cmax"
@@ -85,7 +86,12 @@ text_if false w = []
 
 -- the canonical texts of the items of a class, in the order cut, order, release dates, unit times, short routes
 unfoldable pub item_texts_of : Class → List (List ℕ)
-item_texts_of c = text_if c.cut (codes "pmtn") ++ (order_texts c.order ++ (text_if c.heads (codes "r") ++ (text_if (is_unit c.times) (codes "p=1") ++ text_if (is_short c.env) (codes "n<=2"))))
+item_texts_of c =
+    text_if c.cut (codes "pmtn")
+    ++ (text_if (not (order_eq c.order o.Free)) (order_text c.order)
+    ++ (text_if c.heads (codes "r")
+    ++ (text_if (is_unit c.times) (codes "p=1")
+    ++ text_if (is_short c.env) (codes "n<=2"))))
 
 -- the canonical spelling of a class
 unfoldable pub name_of : Class → List ℕ

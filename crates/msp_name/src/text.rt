@@ -1,4 +1,10 @@
+ghost use Rattle.std.specs.Prelude.{◌≡◌, ◌+◌, ◌≤◌, ◌++◌, [], length, ◌||◌};
+ghost use Rattle.msp_name.specs.Names.{env_text, order_text, crit_text, text_if};
+ghost use Rattle.msp_name.specs.Printing.{following};
+
 use std::marker::Model;
+
+use msp_class::{Crit, Env, Order};
 
 
 /// The text of a class's name, of at most 40 bytes.
@@ -17,8 +23,6 @@ impl Model for NameText {
 
     ghost invariant = { λ t. t.len ≤ 40 };
 }
-
-ghost use Rattle.std.specs.Prelude.{◌≡◌, ◌+◌, ◌≤◌, ◌^◌, ◌∷◌, ◌++◌, [], length, take};
 
 impl NameText {
     fn new() -> NameText
@@ -45,4 +49,74 @@ impl NameText {
     {
         &self.buffer[..self.len]
     }
+}
+
+fn env_word(env: Env) -> &'static [u8]
+    ensures text { result.now ≡ env_text env }
+    ensures short { length result.now ≤ 2 }
+{
+    match env {
+        Env::One => b"1",
+        Env::P2 => b"P2",
+        Env::P3 => b"P3",
+        Env::P => b"P",
+        Env::Q2 => b"Q2",
+        Env::Q => b"Q",
+        Env::R2 => b"R2",
+        Env::R => b"R",
+        Env::O2 => b"O2",
+        Env::O3 => b"O3",
+        Env::O => b"O",
+        Env::F2 => b"F2",
+        Env::F3 => b"F3",
+        Env::F => b"F",
+        Env::J2Short | Env::J2 => b"J2",
+        Env::JShort | Env::J => b"J",
+    }
+}
+
+fn order_word(order: Order) -> &'static [u8]
+    ensures text { result.now ≡ order_text order }
+    ensures short { length result.now ≤ 7 }
+{
+    match order {
+        Order::Free => b"",
+        Order::Chains => b"chains",
+        Order::Intree => b"intree",
+        Order::Outtree => b"outtree",
+        Order::Prec => b"prec",
+    }
+}
+
+fn crit_word(crit: Crit) -> &'static [u8]
+    ensures text { result.now ≡ crit_text crit }
+    ensures short { length result.now ≤ 5 }
+{
+    match crit {
+        Crit::Cmax => b"Cmax",
+        Crit::Lmax => b"Lmax",
+        Crit::Fmax => b"fmax",
+        Crit::SumC => b"sumC",
+        Crit::SumWC => b"sumwC",
+        Crit::SumU => b"sumU",
+        Crit::SumWU => b"sumwU",
+        Crit::SumT => b"sumT",
+        Crit::SumWT => b"sumwT",
+    }
+}
+
+/// Puts the text of an item that is wanted, with a comma before it where an item goes before. Whether an item goes before the next.
+fn put_item(text: &mut NameText, again: bool, wanted: bool, item: &[u8]) -> bool
+    requires { length text.old + length item.now + 1 ≤ 40 }
+    ensures text { text.new ≡ text.old ++ following again (text_if wanted item.now) }
+    ensures again { result ≡ (again || wanted) }
+{
+    if !wanted {
+        return again;
+    }
+    if again {
+        text.put(b",");
+    }
+    text.put(item);
+    true
 }
