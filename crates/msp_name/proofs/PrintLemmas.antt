@@ -240,3 +240,5 @@ length-name_of c =
     let two = length-items c in
     let three = crit-short c.crit in
     omega (arith, length-append (env_text c.env) (bar ∷ (items ++ (bar ∷ crit_text c.crit))), length-append items (bar ∷ crit_text c.crit))
+
+pub ruleset print_rules = (length-items)

@@ -11,4 +11,4 @@ mod words;
 
 pub use fault::NameFault;
 pub use reader::parse;
-pub use text::NameText;
+pub use text::{NameText, print};

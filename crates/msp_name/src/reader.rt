@@ -10,7 +10,7 @@ use crate::fault::NameFault;
 use crate::words::{Item, read_crit, read_env, read_item};
 
 /// Whether the class has the item.
-fn has_item(class: Class, item: Item) -> bool
+pub fn has_item(class: Class, item: Item) -> bool
     ensures { result ≡ has_item class item }
 {
     match item {

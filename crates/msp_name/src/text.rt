@@ -1,10 +1,15 @@
-ghost use Rattle.std.specs.Prelude.{◌≡◌, ◌+◌, ◌≤◌, ◌++◌, [], length, ◌||◌};
-ghost use Rattle.msp_name.specs.Names.{env_text, order_text, crit_text, text_if};
+ghost use Rattle.std.specs.Prelude.{◌≡◌, ◌+◌, ◌≤◌, ◌++◌, [], length, ◌||◌, not};
+ghost use Rattle.std.specs.List.{join_with_byte};
+ghost use Rattle.msp_name.specs.Names.{comma, env_text, order_text, crit_text, text_if, item_texts_of, name_of, NameOf};
+ghost use Rattle.msp_name.specs.Items.{order_eq};
 ghost use Rattle.msp_name.specs.Printing.{following};
 
 use std::marker::Model;
 
-use msp_class::{Crit, Env, Order};
+use msp_class::{Class, Crit, Env, Order};
+
+use crate::reader::has_item;
+use crate::words::Item;
 
 
 /// The text of a class's name, of at most 40 bytes.
@@ -75,6 +80,12 @@ fn env_word(env: Env) -> &'static [u8]
     }
 }
 
+fn is_ordered(order: Order) -> bool
+    ensures { result ≡ not (order_eq order Order.Free) }
+{
+    !matches!(order, Order::Free)
+}
+
 fn order_word(order: Order) -> &'static [u8]
     ensures text { result.now ≡ order_text order }
     ensures short { length result.now ≤ 7 }
@@ -119,4 +130,39 @@ fn put_item(text: &mut NameText, again: bool, wanted: bool, item: &[u8]) -> bool
     }
     text.put(item);
     true
+}
+
+/// Puts the canonical items of a class, in the order cut, order, release dates, unit times, short routes.
+fn put_items(text: &mut NameText, class: Class)
+    requires { length text.old ≤ 3 }
+    ensures items { text.new ≡ text.old ++ join_with_byte comma (item_texts_of class) }
+    ensures short { length text.new ≤ length text.old + 23 }
+{
+    let again = put_item(text, false, class.cut, b"pmtn");
+    let again = put_item(text, again, is_ordered(class.order), order_word(class.order));
+    let again = put_item(text, again, class.heads, b"r");
+    let again = put_item(text, again, has_item(class, Item::Unit), b"p=1");
+    put_item(text, again, has_item(class, Item::Short), b"n<=2");
+}
+
+#[tactic(auto, unfolding(crate::specs::Names::name_of), using(crate::proofs::PrintLemmas::print_rules))]
+fn spell(class: Class) -> NameText
+    ensures { result ≡ name_of class }
+{
+    let mut text = NameText::new();
+    text.put(env_word(class.env));
+    text.put(b"|");
+    put_items(&mut text, class);
+    text.put(b"|");
+    text.put(crit_word(class.crit));
+    text
+}
+
+/// The canonical spelling of the class. `parse` of its bytes gives the class again.
+pub fn print(class: Class) -> NameText
+    ensures text { result ≡ name_of class }
+    ensures named { NameOf result class }
+    ensures longest { length result ≤ 32 }
+{
+    spell(class)
 }
