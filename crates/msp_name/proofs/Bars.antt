@@ -1,8 +1,6 @@
 -- The three texts round the bars.
-use Rattle.std.proofs.Common.{◌≡◌, ℕ, List, [], ◌∷◌, refl, sym, ap, ◌∙◌, Bool, true, false, Result, Err, cond}
-use Rattle.std.specs.List.{slice_split, onto_first}
-use Rattle.msp_class.specs.declared.class.Class.{Class}
-use Rattle.msp_name.specs.declared.fault.NameFault.{NameFault}
+use Rattle.std.proofs.Common.{◌≡◌, ℕ, List, [], ◌∷◌, refl, sym, Bool, true, false, Err, cond}
+use Rattle.std.specs.List.{onto_first}
 use Rattle.msp_name.specs.declared.fault.NameFault.TheVariants.{Bars}
 use Rattle.msp_name.specs.Names.{bar}
 use Rattle.msp_name.specs.Reading.{parts, parts_read, fields_read, reading_of}

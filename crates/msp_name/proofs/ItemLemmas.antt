@@ -1,5 +1,5 @@
 -- One item more: what the class has then, and when the item fits.
-use Rattle.std.proofs.Common.{◌≡◌, List, [], ◌∷◌, refl, sym, ap, subst, ◌∙◌, Bool, true, false, cond, ◌||◌, ◌⊎◌, inl, inr, Option, Some, None}
+use Rattle.std.proofs.Common.{◌≡◌, refl, sym, ap, subst, Bool, true, false, cond, ◌||◌, ◌⊎◌, inl, inr, Option, Some, None}
 use Rattle.msp_class.specs.declared.class.Class.{Class}
 use Rattle.msp_class.specs.declared.class.Env.{Env}
 use Rattle.msp_class.specs.declared.class.Env.TheVariants as e
@@ -7,7 +7,6 @@ use Rattle.msp_class.specs.declared.class.Order.{Order}
 use Rattle.msp_class.specs.declared.class.Order.TheVariants as o
 use Rattle.msp_class.specs.declared.class.Times.{Times}
 use Rattle.msp_class.specs.declared.class.Times.TheVariants as t
-use Rattle.msp_class.specs.declared.class.Crit.{Crit}
 use Rattle.msp_name.specs.declared.words.Item.{Item}
 use Rattle.msp_name.specs.declared.words.Item.TheVariants as i
 use Rattle.msp_name.specs.Items.{has_item, plain_env, item_eq, order_eq, is_unit, is_short, with_item}

@@ -1,6 +1,6 @@
 -- The texts of the items, read from left to right, and the class that they give.
-use Rattle.std.proofs.Common.{◌≡◌, ℕ, ◌+◌, List, [], ◌∷◌, map, length, refl, sym, ap, ◌∙◌, Bool, true, false, cond, ◌||◌, Option, Some, None, Result, Ok, Err, All, Contains, bytes_eq, ok_or}
-use Rattle.std.specs.List.{AllByRecursion, IsDistinct, list_any}
+use Rattle.std.proofs.Common.{◌≡◌, ℕ, ◌+◌, List, [], ◌∷◌, map, length, refl, sym, ap, ◌∙◌, Bool, true, false, cond, ◌||◌, Option, Some, None, Result, Ok, Err, All, Contains, ok_or}
+use Rattle.std.specs.List.{AllByRecursion, IsDistinct}
 use Rattle.std.proofs.lemmas.List.Elements.{All-nil, All-cons, All-head, All-tail}
 use Rattle.msp_class.specs.declared.class.Class.{Class}
 use Rattle.msp_name.specs.declared.fault.NameFault.{NameFault}
@@ -62,7 +62,7 @@ Reads-cons s d c x xs g h r =
       fresh = (h, f.0);
       once = (f.1, r.once);
       env = sym g.env ∙ r.env;
-      crit = sym g.crit ∙ r.crit
+      crit = sym g.crit ∙ r.crit;
     }
 
 Reads-tail : (s d c : Class) (x : Item) (xs : List Item) → Gains s x d → Reads s (x ∷ xs) c → Reads d xs c
@@ -73,7 +73,7 @@ Reads-tail s d c x xs g r =
       fresh = fresh_on s d x g xs r.fresh.1 r.once.0;
       once = r.once.1;
       env = g.env ∙ r.env;
-      crit = g.crit ∙ r.crit
+      crit = g.crit ∙ r.crit;
     }
 
 Reads-fits : (s c : Class) (x : Item) (xs : List Item) → Reads s (x ∷ xs) c → Fits s x
@@ -136,7 +136,7 @@ items_read-ok at s (w ∷ ws) c h =
       items = (w, one.item) ∷ rest.items;
       texts = ap (λ v. w ∷ v) rest.texts;
       spells = All-cons (Contains item_texts) (w, one.item) rest.items (spelled-some item_texts w one.item one.spells) rest.spells;
-      reads = Reads-cons s a.0 c one.item _ (Gains-with s one.item a.0 one.fits) one.lacked rest.reads
+      reads = Reads-cons s a.0 c one.item _ (Gains-with s one.item a.0 one.fits) one.lacked rest.reads;
     }
 
 pub items_read-from : (at : ℕ) (s c : Class) (items : List (List ℕ × Item)) → All (Contains item_texts) items → Reads s (map (λ w. w.1) items) c → items_read at s (map (λ w. w.0) items) ≡ Ok c

@@ -1,9 +1,8 @@
 -- The items of a text, one by one.
-use Rattle.std.proofs.Common.{◌≡◌, ℕ, ◌+◌, List, ◌∷◌, length, refl, sym, ap, ◌∙◌, Result, Ok, arith}
+use Rattle.std.proofs.Common.{◌≡◌, ℕ, ◌+◌, List, ◌∷◌, length, refl, Ok, arith}
 use Rattle.msp_class.specs.declared.class.Class.{Class}
-use Rattle.msp_name.specs.declared.fault.NameFault.{NameFault}
 use Rattle.msp_name.specs.Names.{comma}
-use Rattle.msp_name.specs.Reading.{item_read, items_read, parts, then_read}
+use Rattle.msp_name.specs.Reading.{item_read, items_read, parts}
 
 -- what is left after a good item gives the same answer
 pub items_read-rest : (at : ℕ) (c d : Class) (text word more : List ℕ) → parts comma text ≡ word ∷ parts comma more → Ok d ≡ item_read at c word

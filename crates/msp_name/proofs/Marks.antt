@@ -1,6 +1,6 @@
 -- Texts without a mark, and what they are cut into.
-use Rattle.std.proofs.Common.{◌≡◌, ℕ, List, [], ◌∷◌, ◌++◌, map, refl, sym, ap, ◌∙◌, Bool, true, false, cond, ◌||◌, ◌==◌, All, Contains}
-use Rattle.std.specs.List.{AllByRecursion, list_any, join_with_byte, slice_split}
+use Rattle.std.proofs.Common.{◌≡◌, ℕ, List, [], ◌∷◌, ◌++◌, map, refl, ap, ◌∙◌, Bool, true, false, ◌||◌, ◌==◌, All, Contains}
+use Rattle.std.specs.List.{AllByRecursion, list_any, join_with_byte}
 use Rattle.std.proofs.lemmas.Bool.{eq-eqb}
 use Rattle.std.proofs.lemmas.List.Elements.{All-from_recursion, All-contains, All-head, All-tail}
 use Rattle.std.proofs.lemmas.List.Splits.{slice_split_none, slice_split_at, join_with_byte-slice_split}

@@ -1,5 +1,5 @@
 -- What is read is a name of the class, and the other way round.
-use Rattle.std.proofs.Common.{◌≡◌, ℕ, ◌+◌, List, [], ◌∷◌, ◌++◌, map, length, refl, sym, ap, subst, ◌∙◌, Bool, true, false, cond, ◌||◌, Option, Some, None, Result, Ok, Err, All, Contains, ok_or}
+use Rattle.std.proofs.Common.{◌≡◌, ℕ, ◌+◌, List, [], ◌∷◌, ◌++◌, map, length, refl, sym, ap, subst, ◌∙◌, Bool, true, false, ◌||◌, Option, Some, None, Ok, Contains, ok_or}
 use Rattle.std.specs.List.{AllByRecursion, IsDistinct, join_with_byte}
 use Rattle.msp_class.specs.declared.class.Class.{Class}
 use Rattle.msp_class.specs.declared.class.Env.{Env}
@@ -10,13 +10,13 @@ use Rattle.msp_name.specs.declared.fault.NameFault.{NameFault}
 use Rattle.msp_name.specs.declared.fault.NameFault.TheVariants.{Environment, Criterion}
 use Rattle.msp_name.specs.declared.words.Item.{Item}
 use Rattle.msp_name.specs.declared.words.Item.TheVariants as i
-use Rattle.msp_name.specs.Spellings.{env_texts, item_texts, crit_texts}
+use Rattle.msp_name.specs.Spellings.{env_texts, crit_texts}
 use Rattle.msp_name.specs.Items.{has_item, plain_env, is_short, bare, item_eq}
 use Rattle.msp_name.specs.Names.{bar, comma, among, NameOf}
 use Rattle.msp_name.specs.Reading.{spelled, then_read, items_read, crit_read, fields_read, parts, parts_read, words, reading_of}
 use Rattle.msp_name.proofs.ItemRuns.{Reads, Given, items_read-ok, items_read-from, then_read-ok, ok_or-ok}
 use Rattle.msp_name.proofs.TableLemmas.{spelled-some, env_spelled, crit_spelled}
-use Rattle.msp_name.proofs.Marks.{Lacks, IsEnvRow, env_row_of, crit-lacks_bar, items-lack_bar, words-items, join-words, join-parts, parts-three}
+use Rattle.msp_name.proofs.Marks.{IsEnvRow, env_row_of, crit-lacks_bar, items-lack_bar, words-items, join-words, join-parts, parts-three}
 
 has_item-crit : (c : Class) (x : Crit) (y : Item) → has_item (record c { crit = x }) y ≡ has_item c y
 has_item-crit c x i.Cut = refl
@@ -77,7 +77,7 @@ read_name b env items crit c split r =
       items_spelled = given.spells;
       exact = λ y. ap (λ v. has_item v y) (sym r.whole) ∙ has_item-crit r.before r.last y ∙ given.reads.exact y ∙ ap (λ v. among (map (λ w. w.1) given.items) y || v) (has_item-bare r.machines facts.long y) ∙ or_none _;
       once = given.reads.once;
-      crit_spelled = let P : Crit → Type 0 = λ v. Contains crit_texts (crit, v) in subst P same_crit (spelled-some crit_texts crit r.last r.crit_is)
+      crit_spelled = let P : Crit → Type 0 = λ v. Contains crit_texts (crit, v) in subst P same_crit (spelled-some crit_texts crit r.last r.crit_is);
     }
 
 -- what is read is a name
@@ -102,7 +102,7 @@ bare_reads c xs long exact once =
       fresh = bare_fresh (plain_env c.env) long xs;
       once = once;
       env = plain_env-twice c.env;
-      crit = refl
+      crit = refl;
     }
 
 fields_read-from : (env items crit : List ℕ) (x : Env) (d c : Class) → spelled env_texts env ≡ Some x → items_read (length env + 1) (bare x) (words items) ≡ Ok d → spelled crit_texts crit ≡ Some c.crit → record d { crit = c.crit } ≡ c → fields_read env items crit ≡ Ok c

@@ -1,5 +1,5 @@
 -- The canonical name: how its items are put one by one, its length, and that it is a name.
-use Rattle.std.proofs.Common.{◌≡◌, ℕ, ◌+◌, ◌≤◌, List, [], ◌∷◌, ◌++◌, length, map, refl, sym, ap, subst, ◌∙◌, Bool, true, false, ◌||◌, ◌&&◌, not, Some, append_assoc, append-nil, lit≤, leb, bytes_eq, Contains, All, codes, length-append, arith}
+use Rattle.std.proofs.Common.{◌≡◌, ℕ, ◌≤◌, List, [], ◌∷◌, ◌++◌, length, map, refl, sym, ap, ◌∙◌, Bool, true, false, ◌||◌, ◌&&◌, not, Some, append_assoc, append-nil, lit≤, leb, bytes_eq, Contains, All, codes, length-append, arith}
 use Rattle.std.specs.List.{join_with_byte, IsDistinct, AllByRecursion}
 use Rattle.std.specs.Cmp.Lexicographic.{pointwise}
 use Rattle.std.proofs.lemmas.Bool.{leb-true}
@@ -225,7 +225,7 @@ name_of-NameOf c =
       items_spelled = rows-spelled c.cut c.order c.heads (is_unit c.times) (is_short c.env);
       exact = λ y. class_has c y ∙ rows-exact y c.cut c.order c.heads (is_unit c.times) (is_short c.env);
       once = distinct-is _ (rows-distinct c.cut c.order c.heads (is_unit c.times) (is_short c.env));
-      crit_spelled = spelled-some crit_texts (crit_text c.crit) c.crit (crit-spelled c.crit)
+      crit_spelled = spelled-some crit_texts (crit_text c.crit) c.crit (crit-spelled c.crit);
     }
 
 pub length-items : (c : Class) → length (join_with_byte comma (item_texts_of c)) ≤ 23

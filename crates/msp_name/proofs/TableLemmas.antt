@@ -1,13 +1,12 @@
 -- The tables of texts: what stands in a row is what a look-up finds, and no text has a mark in it.
-use Rattle.std.proofs.Common.{◌≡◌, ℕ, ◌<◌, suc, zero, List, [], ◌∷◌, length, refl, sym, ap, subst, ◌∙◌, Bool, true, false, cond, ◌||◌, ◌==◌, Option, Some, None, All, Contains, bytes_eq, get_or, arith}
-use Rattle.std.specs.List.{AllByRecursion, list_any}
+use Rattle.std.proofs.Common.{◌≡◌, ℕ, suc, List, [], ◌∷◌, refl, sym, subst, Bool, true, false, cond, Some, Contains, bytes_eq, arith}
+use Rattle.std.specs.List.{AllByRecursion}
 use Rattle.std.proofs.lemmas.List.Elements.{All-from_recursion, All-contains}
 use Rattle.std.proofs.lemmas.Slice.Eq.{bytes_eq-Decides}
 use Rattle.msp_class.specs.declared.class.Env.{Env}
 use Rattle.msp_class.specs.declared.class.Crit.{Crit}
 use Rattle.msp_name.specs.declared.words.Item.{Item}
 use Rattle.msp_name.specs.Spellings.{env_texts, item_texts, crit_texts}
-use Rattle.msp_name.specs.Names.{bar, comma}
 use Rattle.msp_name.specs.Reading.{spelled}
 
 Contains-here : {A : Type 0} (x : A) (xs : List A) → Contains (x ∷ xs) x

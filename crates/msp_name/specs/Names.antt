@@ -6,12 +6,9 @@ use Rattle.msp_class.specs.declared.class.Env.{Env}
 use Rattle.msp_class.specs.declared.class.Env.TheVariants as e
 use Rattle.msp_class.specs.declared.class.Order.{Order}
 use Rattle.msp_class.specs.declared.class.Order.TheVariants as o
-use Rattle.msp_class.specs.declared.class.Times.{Times}
-use Rattle.msp_class.specs.declared.class.Times.TheVariants as t
 use Rattle.msp_class.specs.declared.class.Crit.{Crit}
 use Rattle.msp_class.specs.declared.class.Crit.TheVariants as k
 use Rattle.msp_name.specs.declared.words.Item.{Item}
-use Rattle.msp_name.specs.declared.words.Item.TheVariants as i
 use Rattle.msp_name.specs.Spellings.{env_texts, item_texts, crit_texts}
 use Rattle.msp_name.specs.Items.{has_item, plain_env, item_eq, is_short, is_unit, order_eq}
 

@@ -6,6 +6,8 @@
 
 mod fault;
 mod reader;
+#[cfg(test)]
+mod tests;
 mod text;
 mod words;
 

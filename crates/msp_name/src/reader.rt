@@ -4,10 +4,9 @@ ghost use Rattle.msp_name.specs.Items.{bare, has_item, with_item, with_order, wi
 ghost use Rattle.msp_name.specs.Names.{comma, NameOf};
 ghost use Rattle.msp_name.specs.Reading.{item_read, items_read, words, fields_read, parts, reading_of};
 
-use msp_class::{Class, Crit, Env, Order, Times};
-
 use crate::fault::NameFault;
 use crate::words::{Item, read_crit, read_env, read_item};
+use msp_class::{Class, Crit, Env, Order, Times};
 
 /// Whether the class has the item.
 pub fn has_item(class: Class, item: Item) -> bool
@@ -38,8 +37,14 @@ fn with_short(class: Class) -> Option<Class>
     ensures { result ≡ with_short class }
 {
     match class.env {
-        Env::J2 => Some(Class { env: Env::J2Short, ..class }),
-        Env::J => Some(Class { env: Env::JShort, ..class }),
+        Env::J2 => Some(Class {
+            env: Env::J2Short,
+            ..class
+        }),
+        Env::J => Some(Class {
+            env: Env::JShort,
+            ..class
+        }),
         _ => None,
     }
 }
@@ -54,8 +59,14 @@ fn with_item(class: Class, item: Item) -> Option<Class>
         Item::Intree => with_order(class, Order::Intree),
         Item::Outtree => with_order(class, Order::Outtree),
         Item::Prec => with_order(class, Order::Prec),
-        Item::Heads => Some(Class { heads: true, ..class }),
-        Item::Unit => Some(Class { times: Times::Unit, ..class }),
+        Item::Heads => Some(Class {
+            heads: true,
+            ..class
+        }),
+        Item::Unit => Some(Class {
+            times: Times::Unit,
+            ..class
+        }),
         Item::Short => with_short(class),
     }
 }
@@ -72,7 +83,7 @@ fn cut(bytes: &[u8], mark: u8) -> Option<(&[u8], &[u8])>
     ensures { MatchOption result
         (parts mark bytes.now ≡ bytes.now ∷ [])
         (λ p. (parts mark bytes.now ≡ p.0.now ∷ parts mark p.1.now)
-            × (length p.0.now + 1 + length p.1.now ≡ length bytes.now)) }
+        × (length p.0.now + 1 + length p.1.now ≡ length bytes.now)) }
 {
     match find(bytes, mark) {
         Some(at) => Some((&bytes[..at], &bytes[at + 1..])),

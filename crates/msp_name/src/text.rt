@@ -4,13 +4,10 @@ ghost use Rattle.msp_name.specs.Names.{comma, env_text, order_text, crit_text, t
 ghost use Rattle.msp_name.specs.Items.{order_eq};
 ghost use Rattle.msp_name.specs.Printing.{following};
 
-use std::marker::Model;
-
-use msp_class::{Class, Crit, Env, Order};
-
 use crate::reader::has_item;
 use crate::words::Item;
-
+use msp_class::{Class, Crit, Env, Order};
+use std::marker::Model;
 
 /// The text of a class's name, of at most 40 bytes.
 #[derive(Drop)]
@@ -139,7 +136,12 @@ fn put_items(text: &mut NameText, class: Class)
     ensures short { length text.new ≤ length text.old + 23 }
 {
     let again = put_item(text, false, class.cut, b"pmtn");
-    let again = put_item(text, again, is_ordered(class.order), order_word(class.order));
+    let again = put_item(
+        text,
+        again,
+        is_ordered(class.order),
+        order_word(class.order),
+    );
     let again = put_item(text, again, class.heads, b"r");
     let again = put_item(text, again, has_item(class, Item::Unit), b"p=1");
     put_item(text, again, has_item(class, Item::Short), b"n<=2");

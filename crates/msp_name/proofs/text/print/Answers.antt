@@ -1,5 +1,3 @@
-use Rattle.std.proofs.Common.{◌≤◌, length}
-use Rattle.msp_name.specs.Names.{NameOf}
 use Rattle.msp_name.proofs.PrintLemmas.{name_of-NameOf, length-name_of}
 use Rattle.msp_name.proofs.text.print.Goals as goal
 

@@ -1,4 +1,4 @@
-use Rattle.std.proofs.Common.{codes, not, ◌≤◌}
+use Rattle.std.proofs.Common.{codes, not}
 use Rattle.msp_class.specs.declared.class.Order.TheVariants as o
 use Rattle.msp_name.specs.Items.{order_eq, is_unit, is_short}
 use Rattle.msp_name.specs.Names.{order_text, item_texts_of}
