@@ -4,7 +4,9 @@
 //! records of the bytes are the header and these entries (`ResultsOf`), and else the first fault.
 #![tactic(auto)]
 
+mod entries;
 mod fault;
+mod read;
 mod records;
 
 pub use fault::ResultFault;

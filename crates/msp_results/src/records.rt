@@ -10,7 +10,7 @@ use csv::{ByteRecord, Reader, ReaderBuilder};
 use crate::fault::ResultFault;
 
 /// A reader of the records of a text of at most 4,194,304 bytes.
-fn open(alloc: Global, text: &[u8]) -> Reader<&[u8]>
+pub fn open(alloc: Global, text: &[u8]) -> Reader<&[u8]>
     requires { length text.now ≤ 4194304 }
     ensures reading { IsReading result }
     ensures rows { rows_left result ≡ records default_config (strip_bom text.now) }
@@ -22,7 +22,7 @@ fn open(alloc: Global, text: &[u8]) -> Reader<&[u8]>
 }
 
 /// Whether there is a next record, which `row` then holds.
-fn next_row(reader: &mut Reader<&[u8]>, row: &mut ByteRecord) -> Result<bool, ResultFault>
+pub fn next_row(reader: &mut Reader<&[u8]>, row: &mut ByteRecord) -> Result<bool, ResultFault>
     requires { IsReading reader.old }
     ensures row { IfOk result (λ found. NextRow found reader.old (fields_of row.new) reader.new) }
     ensures refused { IfErr result (λ fault. fault ≡ ResultFault.Memory) }
