@@ -10,3 +10,4 @@ mod read;
 mod records;
 
 pub use fault::ResultFault;
+pub use read::read_results;

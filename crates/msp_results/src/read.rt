@@ -48,10 +48,7 @@ fn read_entries(
     }
 }
 
-/// The entries of a file of results, in order. A class may stand there more than once.
-///
-/// The file is CSV (RFC 4180) with the header `class,verdict,source`. Reading stops at the first fault. Want of memory, and whatever else
-/// `csv` refuses, is answered as `Memory`.
+/// The entries of the records of a file.
 #[tactic(auto, unfolding(crate::specs::Reading::results_of))]
 fn read_records(alloc: Global, bytes: &[u8]) -> Result<List<Entry>, ResultFault>
     requires { length bytes.now ≤ 4194304 }
@@ -68,4 +65,20 @@ fn read_records(alloc: Global, bytes: &[u8]) -> Result<List<Entry>, ResultFault>
         return Err(ResultFault::Header);
     }
     read_entries(alloc, &mut reader, &mut row)
+}
+
+/// The entries of a file of results, in order. A class may stand there more than once.
+///
+/// The file is CSV (RFC 4180) with the header `class,verdict,source`. Reading stops at the first fault. Want of memory, and whatever else
+/// `csv` refuses, is answered as `Memory`.
+pub fn read_results(alloc: Global, bytes: &[u8]) -> Result<List<Entry>, ResultFault>
+    requires { length bytes.now ≤ 4194304 }
+    ensures ok { IfOk result (λ entries. ResultsOf bytes.now entries) }
+    ensures complete { (entries : Items Entry) → ResultsOf bytes.now entries
+        → (result ≡ Err ResultFault.Memory) ⊎ (result ≡ Ok entries) }
+
+    // The fault is the first that reading from the left comes to.
+    ensures reading { (result ≡ Err ResultFault.Memory) ⊎ (result ≡ results_of bytes.now) }
+{
+    read_records(alloc, bytes)
 }
