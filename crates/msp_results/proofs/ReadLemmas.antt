@@ -1,12 +1,11 @@
 -- The entries, read one by one.
-use Rattle.std.proofs.Common.{◌≡◌, ◌≤◌, ◌<◌, ℕ, ◌+◌, ◌-◌, suc, List, [], ◌∷◌, ◌++◌, length, refl, sym, ap, ◌∙◌, Bool, true, false, cond, Result, Ok, Err, arith, append_assoc}
+use Rattle.std.proofs.Common.{◌≡◌, ◌≤◌, ℕ, ◌+◌, List, [], ◌∷◌, ◌++◌, refl, ap, ◌∙◌, true, false, Result, Ok, Err, arith, append_assoc}
 use Rattle.std.proofs.lemmas.Bool.{le-ltb}
 use Rattle.std.specs.Prelude.{nat_lt}
 use Rattle.csv.specs.declared.reader.Reader.{Reader}
 use Rattle.msp_closure.specs.declared.entry.Entry.{Entry}
 use Rattle.msp_results.specs.declared.fault.ResultFault.{ResultFault}
-use Rattle.msp_results.specs.declared.fault.ResultFault.TheVariants as fault
-use Rattle.msp_results.specs.Reading.{after, then_after, row_read, entries_read}
+use Rattle.msp_results.specs.Reading.{after, row_read, entries_read}
 use Rattle.msp_results.specs.Records.{IsReading, NextRow, rows_left}
 use denote.Ref.{Bor}
 
@@ -31,5 +30,5 @@ Going-more start now new at entries fields e g next few read =
       reading = next.1;
       low = omega arith;
       high = omega arith;
-      same = after-after entries e (entries_read (at + 1) (rows_left new)) ∙ rw (next.0, under, ← read) at g.same
+      same = after-after entries e (entries_read (at + 1) (rows_left new)) ∙ rw (next.0, under, ← read) at g.same;
     }

@@ -1,6 +1,6 @@
 -- What is read are the entries of the bytes, and the other way round.
-use Rattle.std.proofs.Common.{◌≡◌, ◌≢◌, ◌≤◌, ◌<◌, ℕ, ◌+◌, ◌-◌, List, [], ◌∷◌, ◌++◌, length, refl, sym, ap, subst, ◌∙◌, Bool, true, false, cond, not, ◌&&◌, ◌==◌, Option, Some, None, Result, Ok, Err, All, bytes_eq, codes, arith, ◌⊎◌, inl, inr}
-use Rattle.std.specs.Prelude.{nat_lt, nat_le, IsUtf8, IfOk}
+use Rattle.std.proofs.Common.{◌≡◌, ◌≢◌, ◌≤◌, ℕ, ◌+◌, ◌-◌, List, [], ◌∷◌, length, refl, sym, ap, subst, ◌∙◌, Bool, true, false, cond, not, ◌&&◌, ◌==◌, Option, Some, None, Result, Ok, Err, bytes_eq, codes, arith, ◌⊎◌, inl, inr}
+use Rattle.std.specs.Prelude.{nat_lt, nat_le, IfOk}
 use Rattle.std.specs.List.{AllZip, AllByRecursion, list_all}
 use Rattle.std.specs.Str.{is_utf8}
 use Rattle.std.proofs.lemmas.Bool.{le-ltb, le-leb, ltb-false, leb-true, eq-eqb, eqb-true}
@@ -18,7 +18,7 @@ use Rattle.msp_name.proofs.NameLemmas.{NameOf-from_reading, reading_of-NameOf}
 use Rattle.msp_results.specs.declared.fault.ResultFault.{ResultFault}
 use Rattle.msp_results.specs.declared.fault.ResultFault.TheVariants as fault
 use Rattle.msp_results.specs.Results.{IsEntry, IsPlainText, ResultsOf, header, records_of, verdict_text}
-use Rattle.msp_results.specs.Reading.{after, then_after, entries_read, fields_read, is_header, is_plain, is_printable, judged, named, results_of, row_read, rows_read, sourced, three_of, verdict_read}
+use Rattle.msp_results.specs.Reading.{then_after, entries_read, fields_read, is_header, is_plain, is_printable, judged, named, results_of, row_read, rows_read, sourced, three_of, verdict_read}
 
 and_true : (a b : Bool) → (a && b) ≡ true → (a ≡ true) × (b ≡ true)
 and_true true b h = (refl, h)
@@ -115,7 +115,7 @@ fields_read-ok at n v s e h =
       judged = by_words v b.0 _ _ refl refl b.1 ∙ ap verdict_text same_verdict;
       sourced = ap (λ (x : Entry). x.source) d.2;
       plain = plain-is s d.0;
-      short = d.1
+      short = d.1;
     }
 
 three_of-some : (fs : List (List ℕ)) (a b c : List ℕ) → three_of fs ≡ Some (a, b, c) → fs ≡ a ∷ b ∷ c ∷ []
@@ -141,7 +141,7 @@ row_read-ok at fs e h =
       three = three_of-some fs t.0 t.1 t.2 t.3 ∙ (λ j. t.0 ∷ said.judged j ∷ said.sourced j ∷ []);
       named = said.named;
       plain = subst IsPlainText said.sourced said.plain;
-      short = let P : List ℕ → Type 0 = λ v. length v ≤ 200 in subst P said.sourced said.short
+      short = let P : List ℕ → Type 0 = λ v. length v ≤ 200 in subst P said.sourced said.short;
     }
 
 verdict_read-text : (w : Verdict) → verdict_read (verdict_text w) ≡ Some w

@@ -1,6 +1,6 @@
 -- The records of a text, one by one: a record takes bytes off the front, and its fields hold no more bytes than these.
 use Rattle.std.proofs.Common.{◌≡◌, ℕ, ◌+◌, ◌≤◌, ◌<◌, ◌^◌, zero, suc, List, [], ◌∷◌, ◌++◌, length, refl, sym, ap, subst, ◌∙◌, Bool, true, false, cond, ◌⊎◌, inl, inr, Option, Some, None, All, arith, length-append, add-one}
-use Rattle.std.specs.Prelude.{IsSomeAnd, sum_by}
+use Rattle.std.specs.Prelude.{IsSomeAnd}
 use Rattle.std.specs.List.{AllByRecursion}
 use Rattle.std.proofs.lemmas.List.Elements.{All-from_recursion}
 use Rattle.csv.specs.Machine.{Read, next_record, step, is_end, fields_after, field_after, ends_at_end}
@@ -29,13 +29,13 @@ next-empty cfg s f g p h = elim (ends (ends_at_end s) _ None p h) [ inl e ↦ e 
 next-shorter : (cfg : Config) (s : State) (f : List (List ℕ)) (g : List ℕ) (c : ℕ) (rest : List ℕ) (p : Read) → next_record cfg s f g (c ∷ rest) ≡ Some p → length p.2 ≤ length rest
 unfolding next_record
 next-shorter cfg s f g c [] p h = elim (ends (is_end (step cfg s c).1) _ _ p h) [
-    | inl e ↦ let k = ap (λ (q : Read). length q.2) e in omega arith
-    | inr e ↦ let k = ap (λ (q : Read). length q.2) (next-empty cfg _ _ _ p e) in omega arith
-  ]
+  | inl e ↦ let k = ap (λ (q : Read). length q.2) e in omega arith
+  | inr e ↦ let k = ap (λ (q : Read). length q.2) (next-empty cfg _ _ _ p e) in omega arith
+]
 next-shorter cfg s f g c (d ∷ r) p h = elim (ends (is_end (step cfg s c).1) _ _ p h) [
-    | inl e ↦ let k = ap (λ (q : Read). length q.2) e in omega arith
-    | inr e ↦ let k = next-shorter cfg (step cfg s c).0 (fields_after (step cfg s c).1 f g) (field_after (step cfg s c).1 c g) d r p e in omega arith
-  ]
+  | inl e ↦ let k = ap (λ (q : Read). length q.2) e in omega arith
+  | inr e ↦ let k = next-shorter cfg (step cfg s c).0 (fields_after (step cfg s c).1 f g) (field_after (step cfg s c).1 c g) d r p e in omega arith
+]
 
 bytes_in : List (List ℕ) → ℕ
 bytes_in [] = 0
@@ -127,10 +127,11 @@ row_goes a b f xs z p ready config trim at_a few next fields state left at_b =
     let tail : rows_from p.1 p.2 ≡ rows_left b = rw (state, left, at_b) refl in
     let rest = ap length left in
     let all : All (λ g. length g < 2 ^ 32) p.0 = All-from_recursion (λ g. length g < 2 ^ 32) p.0 (short_fields (2 ^ 32) p.0 (omega arith)) in
-    let fits : length z ≤ 4194304 = omega arith in
-    ( ap (λ o. rows_in a.state o) at_a ∙ rows_from-more a.state xs p next ∙ ap (λ t. p.0 ∷ t) tail ∙ ap (λ t. t ∷ rows_left b) (sym fields)
-    , record { config = config; trim = trim; ready = ready; known = subst IsFew (sym at_b) fits }
-    , subst AreShort (sym fields) all )
+    let fits : length z ≤ 4194304 = omega arith in (
+      ap (λ o. rows_in a.state o) at_a ∙ rows_from-more a.state xs p next ∙ ap (λ t. p.0 ∷ t) tail ∙ ap (λ t. t ∷ rows_left b) (sym fields),
+      record { config = config; trim = trim; ready = ready; known = subst IsFew (sym at_b) fits },
+      subst AreShort (sym fields) all,
+    )
 
 -- a read that found a record
 row_found : (a b : Reader (Bor (List ℕ))) (f : List (List ℕ)) → IsReading a → Ready b → ReadRecord (λ s. Some s.now) a b true f → NextRow true a f b

@@ -5,14 +5,12 @@ ghost use Rattle.std.specs.Str.{is_utf8};
 ghost use Rattle.msp_results.specs.Reading.{fields_read, is_header, is_plain, is_printable, row_read, three_of, verdict_read};
 ghost use Rattle.msp_results.specs.Records.{AreShort};
 
-use std::alloc::Global;
-
+use crate::fault::ResultFault;
 use csv::ByteRecord;
 use msp_class::List;
 use msp_closure::{Entry, Verdict};
 use msp_name::parse;
-
-use crate::fault::ResultFault;
+use std::alloc::Global;
 
 /// The greatest length of a source, in bytes.
 const LONGEST_SOURCE: usize = 200;
@@ -111,10 +109,9 @@ pub fn is_header(row: &ByteRecord) -> bool
     ensures { result ≡ is_header (fields_of row.now) }
 {
     match three(row) {
-        Some((class, verdict, source)) =>
-            class == b"class".as_slice()
-                && verdict == b"verdict".as_slice()
-                && source == b"source".as_slice(),
+        Some((class, verdict, source)) => class == b"class".as_slice()
+            && verdict == b"verdict".as_slice()
+            && source == b"source".as_slice(),
         None => false,
     }
 }

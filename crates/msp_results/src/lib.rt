@@ -8,6 +8,8 @@ mod entries;
 mod fault;
 mod read;
 mod records;
+#[cfg(test)]
+mod tests;
 
 pub use fault::ResultFault;
 pub use read::read_results;

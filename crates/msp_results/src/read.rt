@@ -4,15 +4,13 @@ ghost use Rattle.msp_results.specs.Reading.{entries_read, results_of};
 ghost use Rattle.msp_results.specs.Records.{IsReading, rows_left};
 ghost use Rattle.msp_results.specs.Results.{ResultsOf};
 
-use std::alloc::Global;
-
-use csv::{ByteRecord, Reader};
-use msp_class::List;
-use msp_closure::Entry;
-
 use crate::entries::{is_header, read_row};
 use crate::fault::ResultFault;
 use crate::records::{next_row, open};
+use csv::{ByteRecord, Reader};
+use msp_class::List;
+use msp_closure::Entry;
+use std::alloc::Global;
 
 /// The greatest number of entries.
 const MOST_ENTRIES: u32 = 20_000;

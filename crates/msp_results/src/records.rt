@@ -3,11 +3,9 @@ ghost use Rattle.csv.specs.Records.{fields_of};
 ghost use Rattle.msp_results.specs.Records.{IsReading, NextRow, rows_left};
 ghost use Rattle.csv.specs.Reading.{default_config, records, strip_bom};
 
-use std::alloc::Global;
-
-use csv::{ByteRecord, Reader, ReaderBuilder};
-
 use crate::fault::ResultFault;
+use csv::{ByteRecord, Reader, ReaderBuilder};
+use std::alloc::Global;
 
 /// A reader of the records of a text of at most 4,194,304 bytes.
 pub fn open(alloc: Global, text: &[u8]) -> Reader<&[u8]>

@@ -1,6 +1,4 @@
-use Rattle.std.proofs.Common.{◌≡◌, ◌≤◌, ◌-◌}
-use Rattle.msp_results.specs.Reading.{after, entries_read}
-use Rattle.msp_results.specs.Records.{IsReading, rows_left}
+use Rattle.std.proofs.Common.{◌-◌}
 use Rattle.msp_results.proofs.ReadLemmas.{Going}
 use Rattle.msp_results.proofs.read.read_entries.Given as goal
 
