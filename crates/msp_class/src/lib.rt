@@ -6,9 +6,13 @@
 
 mod class;
 mod list;
+mod machines;
+mod ranks;
 
 pub use class::{Class, Crit, Env, Order, Times};
 pub use list::List;
+pub use machines::{fixed_machines, is_shop};
+pub use ranks::{CLASSES, rank, unrank};
 
 /// Want of memory, of a call that can refuse for nothing else.
 #[derive(Clone, Copy, Debug, PartialEq, Eq)]

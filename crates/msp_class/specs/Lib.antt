@@ -1,0 +1,2 @@
+pub mod Env
+pub mod Rank

@@ -1,0 +1,206 @@
+ghost use Rattle.std.specs.Prelude.{◌≡◌, ◌<◌, ◌↔◌, IsSome, IfSome};
+ghost use Rattle.msp_class.specs.Rank.{env_number, flag_number, order_number, times_number, crit_number, rank_of};
+ghost use Rattle.msp_class.specs.declared.class.Class.{Class};
+
+use crate::class::{Class, Crit, Env, Order, Times};
+
+/// How many classes there are.
+pub const CLASSES: u16 = 6480;
+
+/// The number of a class, from 0 to `CLASSES - 1`.
+#[tactic(auto, unfolding(crate::specs::Rank::rank_of))]
+pub fn rank(c: Class) -> u16
+    ensures rank { result ≡ rank_of c }
+    ensures below { result < CLASSES }
+{
+    let kind = env_place(c.env) * 2 + u16::from(c.cut);
+    let ordered = kind * 5 + order_place(c.order);
+    let dated = ordered * 2 + u16::from(c.heads);
+    let timed = dated * 2 + times_place(c.times);
+    timed * 9 + crit_place(c.crit)
+}
+
+/// The class of a rank. None comes exactly from `CLASSES` on.
+pub fn unrank(n: u16) -> Option<Class>
+    ensures some { IsSome result ↔ (n < CLASSES) }
+    ensures ranked { IfSome result (λ c. rank_of c ≡ n) }
+    ensures only { (c : Class) → rank_of c ≡ n → result ≡ Some c }
+{
+    if n < CLASSES { Some(class_at(n)) } else { None }
+}
+
+#[tactic(auto, unfolding(crate::specs::Rank::rank_of))]
+fn class_at(n: u16) -> Class
+    requires { n < CLASSES }
+    ensures { rank_of result ≡ n }
+{
+    Class {
+        env: env_at(n / 360),
+        cut: flag_at(n / 180 % 2),
+        order: order_at(n / 36 % 5),
+        heads: flag_at(n / 18 % 2),
+        times: times_at(n / 9 % 2),
+        crit: crit_at(n % 9),
+    }
+}
+
+fn env_place(e: Env) -> u16
+    ensures place { result ≡ env_number e }
+    ensures below { result < 18 }
+{
+    match e {
+        Env::One => 0,
+        Env::P2 => 1,
+        Env::P3 => 2,
+        Env::P => 3,
+        Env::Q2 => 4,
+        Env::Q => 5,
+        Env::R2 => 6,
+        Env::R => 7,
+        Env::O2 => 8,
+        Env::O3 => 9,
+        Env::O => 10,
+        Env::F2 => 11,
+        Env::F3 => 12,
+        Env::F => 13,
+        Env::J2Short => 14,
+        Env::JShort => 15,
+        Env::J2 => 16,
+        Env::J => 17,
+    }
+}
+
+fn order_place(o: Order) -> u16
+    ensures place { result ≡ order_number o }
+    ensures below { result < 5 }
+{
+    o as u16
+}
+
+fn times_place(t: Times) -> u16
+    ensures place { result ≡ times_number t }
+    ensures below { result < 2 }
+{
+    t as u16
+}
+
+fn crit_place(k: Crit) -> u16
+    ensures place { result ≡ crit_number k }
+    ensures below { result < 9 }
+{
+    k as u16
+}
+
+fn env_at(n: u16) -> Env
+    requires { n < 18 }
+    ensures { env_number result ≡ n }
+{
+    match n {
+        0 => Env::One,
+        1 => Env::P2,
+        2 => Env::P3,
+        3 => Env::P,
+        4 => Env::Q2,
+        5 => Env::Q,
+        6 => Env::R2,
+        7 => Env::R,
+        8 => Env::O2,
+        9 => Env::O3,
+        10 => Env::O,
+        11 => Env::F2,
+        12 => Env::F3,
+        13 => Env::F,
+        14 => Env::J2Short,
+        15 => Env::JShort,
+        16 => Env::J2,
+        _ => Env::J,
+    }
+}
+
+fn flag_at(n: u16) -> bool
+    requires { n < 2 }
+    ensures { flag_number result ≡ n }
+{
+    n == 1
+}
+
+fn order_at(n: u16) -> Order
+    requires { n < 5 }
+    ensures { order_number result ≡ n }
+{
+    match n {
+        0 => Order::Free,
+        1 => Order::Chains,
+        2 => Order::Intree,
+        3 => Order::Outtree,
+        _ => Order::Prec,
+    }
+}
+
+fn times_at(n: u16) -> Times
+    requires { n < 2 }
+    ensures { times_number result ≡ n }
+{
+    if n == 0 { Times::General } else { Times::Unit }
+}
+
+fn crit_at(n: u16) -> Crit
+    requires { n < 9 }
+    ensures { crit_number result ≡ n }
+{
+    match n {
+        0 => Crit::Cmax,
+        1 => Crit::Lmax,
+        2 => Crit::Fmax,
+        3 => Crit::SumC,
+        4 => Crit::SumWC,
+        5 => Crit::SumU,
+        6 => Crit::SumWU,
+        7 => Crit::SumT,
+        _ => Crit::SumWT,
+    }
+}
+
+#[cfg(test)]
+mod tests {
+    use super::*;
+
+    #[test]
+    fn ranks_by_table(rt: HostRuntime) {
+        let plain = Class {
+            env: Env::One,
+            cut: false,
+            order: Order::Free,
+            heads: false,
+            times: Times::General,
+            crit: Crit::Cmax,
+        };
+        assert_eq!(rt; rank(plain), 0);
+        assert_eq!(rt;
+            rank(Class {
+                crit: Crit::SumWC,
+                ..plain
+            }),
+            4
+        );
+        assert_eq!(rt;
+            rank(Class {
+                times: Times::Unit,
+                ..plain
+            }),
+            9
+        );
+        assert_eq!(rt; rank(Class { cut: true, ..plain }), 180);
+        let last = Class {
+            env: Env::J,
+            cut: true,
+            order: Order::Prec,
+            heads: true,
+            times: Times::Unit,
+            crit: Crit::SumWT,
+        };
+        assert_eq!(rt; rank(last), 6479);
+        assert_eq!(rt; unrank(6479), Some(last));
+        assert_eq!(rt; unrank(6480), None);
+    }
+}

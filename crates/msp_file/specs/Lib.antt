@@ -1,0 +1,2 @@
+pub mod JobName
+pub mod ScheduleText

@@ -1,0 +1,15 @@
+//! Instance texts and schedule texts: reading them with the exact first fault, and printing them.
+//!
+//! It stands on `msp_schedule`, `indexmap` and `itoa`. The layers above use that `print_schedule` gives exactly `schedule_text`, and
+//! that `Names` is seen as a list of distinct names.
+#![tactic(auto)]
+
+mod job_name;
+mod names;
+mod print;
+#[cfg(test)]
+mod tests;
+
+pub use job_name::JobName;
+pub use names::Names;
+pub use print::print_schedule;

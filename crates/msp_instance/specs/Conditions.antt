@@ -1,0 +1,231 @@
+-- What it means that an instance belongs to its class.
+use Rattle.std.specs.Prelude.{◌≡◌, ◌≢◌, ℕ, ◌*◌, ◌^◌, ◌<◌, ◌≤◌, Bool, true, false, List, [], length, slice_index_or, slice_get, ℤ, pos, neg_ℤ, ◌-ℤ◌, ◌≤ℤ◌, Some, All, AllPairs, Any, Contains, EachIndex, MatchOption, ⊤, count_by, ◌==◌}
+use Rattle.std.specs.List.{AllAdjacentBelow}
+use Rattle.msp_class.specs.Env.{fixed_machines}
+use Rattle.msp_class.specs.declared.class.Env.{Env}
+use Rattle.msp_class.specs.declared.class.Env.TheVariants.{J2Short, JShort}
+use Rattle.msp_class.specs.declared.class.Order.{Order}
+use Rattle.msp_class.specs.declared.class.Order.TheVariants.{Free, Chains, Intree, Outtree, Prec}
+use Rattle.msp_class.specs.declared.class.Times.{Times}
+use Rattle.msp_class.specs.declared.class.Times.TheVariants.{General, Unit as UnitTimes}
+use Rattle.msp_class.specs.declared.class.Crit.{Crit}
+use Rattle.msp_class.specs.declared.class.Crit.TheVariants.{Cmax, Lmax, Fmax, SumC, SumWC, SumU, SumWU, SumT, SumWT}
+use Rattle.msp_instance.specs.declared.Need.{Need}
+use Rattle.msp_instance.specs.declared.Curve.{Curve}
+use Rattle.msp_instance.specs.declared.Job.{Job}
+use Rattle.msp_instance.specs.declared.Arc.{Arc}
+use Rattle.msp_instance.specs.declared.Instance.{Instance}
+use Rattle.msp_instance.specs.Instance.{Kind, identical, uniform, unrelated, open_shop, flow_shop, job_shop, kind_of, no_need, no_curve, job_at}
+
+-- How large the numbers of an instance may be: times, thresholds and adds; release dates; due dates and bases, in size.
+pub record Limits : Type 0 where
+  pub greatest_time : ℕ
+  pub greatest_release : ℕ
+  pub greatest_date : ℕ
+
+-- The limits of instance texts.
+abbrev pub text_limits : Limits
+text_limits = record { greatest_time = 10 ^ 9; greatest_release = 10 ^ 9; greatest_date = 10 ^ 9 }
+
+-- The factor by which carried instances on unrelated machines may be larger: the greatest common multiple of speeds.
+abbrev pub inner_factor : Kind → ℕ
+inner_factor identical = 1
+inner_factor uniform = 1
+inner_factor unrelated = 2 ^ 30
+inner_factor open_shop = 1
+inner_factor flow_shop = 1
+inner_factor job_shop = 1
+
+-- The limits that carried instances keep.
+abbrev pub inner_limits : Kind → Limits
+inner_limits k = record { greatest_time = 10 ^ 9 * inner_factor k; greatest_release = 2 * 10 ^ 9 * inner_factor k; greatest_date = 2 * 10 ^ 9 * inner_factor k }
+
+-- Whether the criterion uses due dates, and whether it uses weights.
+abbrev pub uses_due : Crit → Bool
+uses_due Cmax = false
+uses_due Lmax = true
+uses_due Fmax = false
+uses_due SumC = false
+uses_due SumWC = false
+uses_due SumU = true
+uses_due SumWU = true
+uses_due SumT = true
+uses_due SumWT = true
+
+abbrev pub uses_weight : Crit → Bool
+uses_weight Cmax = false
+uses_weight Lmax = false
+uses_weight Fmax = false
+uses_weight SumC = false
+uses_weight SumWC = true
+uses_weight SumU = false
+uses_weight SumWU = true
+uses_weight SumT = false
+uses_weight SumWT = true
+
+-- The number lies between -limit and limit.
+abbrev pub LiesWithin : ℕ → ℤ → Type 0
+LiesWithin limit x = (neg_ℤ (pos limit) ≤ℤ x) × (x ≤ℤ pos limit)
+
+-- The number of machines is the one that the environment fixes, and from 1 to 32.
+abbrev pub HasMachines : Instance → Type 0
+HasMachines i = (1 ≤ i.machines) × (i.machines ≤ 32) × MatchOption (fixed_machines i.class.env) ⊤ (λ m. i.machines ≡ m)
+
+-- Uniform machines have a speed each, from 1 to 1,000,000. Other machines have none.
+abbrev pub HasSpeeds : Kind → ℕ → List ℕ → Type 0
+HasSpeeds identical m speeds = speeds ≡ []
+HasSpeeds uniform m speeds = (length speeds ≡ m) × All (λ s. (1 ≤ s) × (s ≤ 10 ^ 6)) speeds
+HasSpeeds unrelated m speeds = speeds ≡ []
+HasSpeeds open_shop m speeds = speeds ≡ []
+HasSpeeds flow_shop m speeds = speeds ≡ []
+HasSpeeds job_shop m speeds = speeds ≡ []
+
+-- Some number from 1 to 2 ^ 30 is a multiple of all speeds: their least common multiple is at most 2 ^ 30.
+abbrev pub HasSmallMultiple : List ℕ → Type 0
+HasSmallMultiple speeds = (multiple : ℕ) × (1 ≤ multiple) × (multiple ≤ 2 ^ 30) × All (λ s. (times : ℕ) × (multiple ≡ times * s)) speeds
+
+-- The most operations of a route.
+abbrev pub most_operations : Env → ℕ
+most_operations J2Short = 2
+most_operations JShort = 2
+most_operations _ = 32
+
+-- One need, on machine 0.
+abbrev pub IsSingleNeed : List Need → Type 0
+IsSingleNeed needs = (length needs ≡ 1) × All (λ n. n.machine ≡ 0) needs
+
+-- One need for each machine, in order.
+abbrev pub IsNeedPerMachine : ℕ → List Need → Type 0
+IsNeedPerMachine m needs = (length needs ≡ m) × EachIndex needs (λ k. (slice_index_or needs k no_need).machine ≡ k)
+
+-- A route through the machines: at least one operation, and neighbours on different machines.
+pub record IsRoute (most m : ℕ) (needs : List Need) : Type 0 where
+  pub some : 1 ≤ length needs
+  pub few : length needs ≤ most
+  pub machines : All (λ n. n.machine < m) needs
+  pub moves : AllAdjacentBelow (λ a b. a.machine ≢ b.machine) needs (length needs)
+
+-- Every time is from the least to the greatest one.
+abbrev pub HasTimes : ℕ → ℕ → List Need → Type 0
+HasTimes least greatest needs = All (λ n. (least ≤ n.time) × (n.time ≤ greatest)) needs
+
+-- The needs of a job are those of its environment, with times in range. On open and flow shops a time may be 0, but not all of them.
+abbrev pub HasNeeds : Kind → Env → ℕ → ℕ → List Need → Type 0
+HasNeeds identical e m greatest needs = IsSingleNeed needs × HasTimes 1 greatest needs
+HasNeeds uniform e m greatest needs = IsSingleNeed needs × HasTimes 1 greatest needs
+HasNeeds unrelated e m greatest needs = IsNeedPerMachine m needs × HasTimes 1 greatest needs
+HasNeeds open_shop e m greatest needs = IsNeedPerMachine m needs × HasTimes 0 greatest needs × Any (λ n. 1 ≤ n.time) needs
+HasNeeds flow_shop e m greatest needs = IsNeedPerMachine m needs × HasTimes 0 greatest needs × Any (λ n. 1 ≤ n.time) needs
+HasNeeds job_shop e m greatest needs = IsRoute (most_operations e) m needs × HasTimes 1 greatest needs
+
+-- With unit times every time is 1.
+abbrev pub HasUnitTimes : Times → List Need → Type 0
+HasUnitTimes General needs = ⊤
+HasUnitTimes UnitTimes needs = All (λ n. n.time ≡ 1) needs
+
+-- A release date in range, and 0 in a class without release dates.
+abbrev pub HasRelease : Limits → Bool → ℕ → Type 0
+HasRelease l true r = r ≤ l.greatest_release
+HasRelease l false r = r ≡ 0
+
+-- A due date in range, and 0 where the criterion uses none.
+abbrev pub HasDue : Limits → Bool → ℤ → Type 0
+HasDue l true d = LiesWithin l.greatest_date d
+HasDue l false d = d ≡ pos 0
+
+-- A weight from 1 to 1,000,000,000, and 1 where the criterion uses none.
+abbrev pub HasWeight : Bool → ℕ → Type 0
+HasWeight true w = (1 ≤ w) × (w ≤ 10 ^ 9)
+HasWeight false w = w ≡ 1
+
+-- A cost curve in range, with at most 16 steps.
+pub record IsCurve (l : Limits) (c : Curve) : Type 0 where
+  pub slope : c.slope ≤ 10 ^ 9
+  pub base : LiesWithin l.greatest_date c.base
+  pub few : length c.steps ≤ 16
+  pub steps : All (λ s. (s.above ≤ l.greatest_time) × (s.add ≤ l.greatest_time)) c.steps
+
+-- A cost curve for the greatest curve cost, and none elsewhere.
+abbrev pub HasCurve : Limits → Crit → Curve → Type 0
+HasCurve l Cmax c = c ≡ no_curve
+HasCurve l Lmax c = c ≡ no_curve
+HasCurve l Fmax c = IsCurve l c
+HasCurve l SumC c = c ≡ no_curve
+HasCurve l SumWC c = c ≡ no_curve
+HasCurve l SumU c = c ≡ no_curve
+HasCurve l SumWU c = c ≡ no_curve
+HasCurve l SumT c = c ≡ no_curve
+HasCurve l SumWT c = c ≡ no_curve
+
+-- A job belongs to the class of its instance.
+pub record IsJobOf (l : Limits) (i : Instance) (j : Job) : Type 0 where
+  pub needs : HasNeeds (kind_of i.class.env) i.class.env i.machines l.greatest_time j.needs
+  pub times : HasUnitTimes i.class.times j.needs
+  pub release : HasRelease l i.class.heads j.release
+  pub due : HasDue l (uses_due i.class.crit) j.due
+  pub weight : HasWeight (uses_weight i.class.crit) j.weight
+  pub curve : HasCurve l i.class.crit j.curve
+
+-- A class without precedence has no arcs.
+abbrev pub HasArcs : Order → List Arc → Type 0
+HasArcs Free arcs = arcs ≡ []
+HasArcs Chains arcs = length arcs ≤ 20000
+HasArcs Intree arcs = length arcs ≤ 20000
+HasArcs Outtree arcs = length arcs ≤ 20000
+HasArcs Prec arcs = length arcs ≤ 20000
+
+-- How many arcs leave a job, and how many enter it.
+abbrev pub leaving : List Arc → ℕ → ℕ
+leaving arcs j = count_by (λ a. a.before == j) arcs
+
+abbrev pub entering : List Arc → ℕ → ℕ
+entering arcs j = count_by (λ a. a.after == j) arcs
+
+-- In chains and intrees at most one arc leaves a job; in chains and outtrees at most one arc enters it.
+abbrev pub HasDegree : Order → List Arc → ℕ → Type 0
+HasDegree Free arcs j = ⊤
+HasDegree Chains arcs j = (leaving arcs j ≤ 1) × (entering arcs j ≤ 1)
+HasDegree Intree arcs j = leaving arcs j ≤ 1
+HasDegree Outtree arcs j = entering arcs j ≤ 1
+HasDegree Prec arcs j = ⊤
+
+-- The conditions of a class on an instance, but for cycles.
+pub record MeetsConditions (l : Limits) (i : Instance) : Type 0 where
+  pub some : 1 ≤ length i.jobs
+  pub few : length i.jobs ≤ 400
+  pub machines : HasMachines i
+  pub speeds : HasSpeeds (kind_of i.class.env) i.machines i.speeds
+  pub multiple : HasSmallMultiple i.speeds
+  pub jobs : All (IsJobOf l i) i.jobs
+  pub arcs : HasArcs i.class.order i.arcs
+  pub ends : All (λ a. (a.before < length i.jobs) × (a.after < length i.jobs)) i.arcs
+  pub once : AllPairs (λ a b. a ≢ b) i.arcs
+  pub degree : (j : ℕ) → j < length i.jobs → HasDegree i.class.order i.arcs j
+
+-- A list of all jobs, each once.
+pub record IsSequence (i : Instance) (order : List ℕ) : Type 0 where
+  pub whole : length order ≡ length i.jobs
+  pub each : (j : ℕ) → j < length i.jobs → Contains order j
+
+-- The arc goes forward in the list: its job before stands at an earlier place than its job after.
+abbrev pub GoesForward : List ℕ → Arc → Type 0
+GoesForward order a = (p : ℕ) × (q : ℕ) × (p < q) × (slice_get order p ≡ Some a.before) × (slice_get order q ≡ Some a.after)
+
+-- The arcs have no cycle: some list of all jobs, each once, puts every arc forward.
+abbrev pub IsAcyclic : Instance → Type 0
+IsAcyclic i = (order : List ℕ) × IsSequence i order × All (GoesForward order) i.arcs
+
+-- The instance belongs to its class, within the limits of texts.
+pub record InClass (i : Instance) : Type 0 where
+  pub conditions : MeetsConditions text_limits i
+  pub acyclic : IsAcyclic i
+
+-- Due dates lie close together.
+abbrev pub HasNearDues : ℕ → Instance → Type 0
+HasNearDues width i = (j k : ℕ) → j < length i.jobs → k < length i.jobs → ((job_at i j).due -ℤ (job_at i k).due) ≤ℤ pos width
+
+-- The instance belongs to its class, within the limits that carried instances keep.
+pub record Inner (i : Instance) : Type 0 where
+  pub conditions : MeetsConditions (inner_limits (kind_of i.class.env)) i
+  pub dues : HasNearDues (2 * 10 ^ 9 * inner_factor (kind_of i.class.env)) i
+  pub acyclic : IsAcyclic i

@@ -1,0 +1,71 @@
+//! Instances of scheduling problems, and what it means that an instance belongs to its class.
+//!
+//! It stands on `msp_class`. The layers above use the definitions `InClass` and `Inner`: an instance meets the conditions of its
+//! class within the limits of texts, or within the wider limits that carried instances keep. `check` tests the conditions but for
+//! cycles, and `forward` is the rest: it puts the jobs into an order in which every arc goes forward.
+#![tactic(auto)]
+
+mod jobs;
+mod membership;
+mod ranges;
+mod speeds;
+
+pub use membership::{ClassFault, check};
+use msp_class::{Class, List};
+pub use ranges::{
+    GREATEST, GREATEST_MULTIPLE, GREATEST_SPEED, MOST_ARCS, MOST_JOBS, MOST_MACHINES,
+    MOST_OPERATIONS, MOST_STEPS,
+};
+
+/// An operation that a job needs: its machine, from 0, and its processing time.
+///
+/// On parallel machines a job has one need. On unrelated machines it has one for each machine, with the time there. In shops the
+/// needs are the job's operations.
+#[derive(Clone, Copy, Debug, PartialEq, Eq)]
+pub struct Need {
+    pub machine: u32,
+    pub time: u64,
+}
+
+/// A jump of a cost curve: `add` is owed from any moment after `above` on.
+#[derive(Clone, Copy, Debug, PartialEq, Eq)]
+pub struct Step {
+    pub above: u64,
+    pub add: u64,
+}
+
+/// A job's cost as a function of its completion time `t`: `slope·t + base` and the `add` of each step whose `above` is less than `t`.
+#[derive(Drop)]
+pub struct Curve {
+    pub slope: u64,
+    pub base: i64,
+    pub steps: List<Step>,
+}
+
+/// A job: its release date, due date and weight, the operations that it needs, and its cost curve.
+#[derive(Drop)]
+pub struct Job {
+    pub release: u64,
+    pub due: i64,
+    pub weight: u64,
+    pub needs: List<Need>,
+    pub curve: Curve,
+}
+
+/// A precedence constraint between two jobs, from 0: `before` is complete when `after` begins.
+#[derive(Clone, Copy, Debug, PartialEq, Eq)]
+pub struct Arc {
+    pub before: u32,
+    pub after: u32,
+}
+
+/// An instance of a class. A field that the class does not use holds its neutral value: release and due dates 0, weights 1, no
+/// curve, no speeds, no arcs.
+#[derive(Drop)]
+pub struct Instance {
+    pub class: Class,
+    pub machines: u32,
+    pub speeds: List<u64>,
+    pub jobs: List<Job>,
+    pub arcs: List<Arc>,
+}

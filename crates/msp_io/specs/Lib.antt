@@ -1,0 +1,5 @@
+pub mod Faults
+pub mod Memory
+pub mod Sources
+pub mod StdAdapters
+pub mod Whole

@@ -1,0 +1,46 @@
+-- What the sources and the sink in memory are, as contracts see them.
+use Rattle.std.specs.Prelude.{◌⊎◌, ℕ, ◌<◌, ◌≤◌, List, length, Contains}
+use Rattle.msp_io.specs.Faults.{one_more}
+
+-- a source in memory that may fail
+pub record SourceState : Type 0 where
+  -- the bytes still to come
+  pub bytes : List ℕ
+  -- the most that one call gives
+  pub step : ℕ
+  -- the numbers of the calls that fail, counted from 1
+  pub fails : List ℕ
+  -- the number of the last call, 0 before the first
+  pub calls : ℕ
+  -- how many calls failed
+  pub faults : ℕ
+
+-- a source in memory that never fails
+pub record SureState : Type 0 where
+  -- the bytes still to come
+  pub bytes : List ℕ
+  -- the most that one call gives
+  pub step : ℕ
+
+-- a sink in memory
+pub record SinkState : Type 0 where
+  -- the bytes taken so far
+  pub held : List ℕ
+  -- the most bytes that it can hold
+  pub room : ℕ
+  -- the most that one call takes
+  pub step : ℕ
+  -- the numbers of the calls that fail, counted from 1
+  pub fails : List ℕ
+  -- the number of the last call, 0 before the first
+  pub calls : ℕ
+  -- how many calls failed
+  pub faults : ℕ
+
+-- the next call of a source is one of those that fail
+abbrev pub FailsNext : List ℕ → ℕ → Type 0
+FailsNext fails calls = Contains fails (one_more calls)
+
+-- a sink refuses these bytes: the call is one of those that fail, or there are bytes and no room
+abbrev pub Refuses : SinkState → List ℕ → Type 0
+Refuses sink bytes = FailsNext sink.fails sink.calls ⊎ ((0 < length bytes) × (sink.room ≤ length sink.held))

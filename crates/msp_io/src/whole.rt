@@ -1,0 +1,110 @@
+// Whole reads and whole writes.
+ghost use Rattle.std.specs.Prelude.{◌<◌, ◌≤◌, ◌^◌, ◌+◌, ℕ, List, length, take, IfOk, IfErr, OnOk, OnErr, IsErrOf};
+ghost use Rattle.std.specs.Io.KnownBytes.{Consumes, Appends, IsAtEnd};
+ghost use Rattle.msp_io.specs.Faults.{Rose};
+ghost use Rattle.msp_io.specs.Whole.{IsStop};
+
+use crate::{Failed, Sink, Source};
+use std::alloc::Global;
+
+const CHUNK: usize = 4096;
+
+/// Why a whole read stopped before the end of the input.
+#[derive(Clone, Copy, Debug, PartialEq, Eq)]
+pub enum Taken {
+    /// The source failed.
+    ReadFault,
+    /// The input is longer than the limit.
+    TooLong,
+    /// There was no memory left.
+    Memory,
+}
+
+/// The sink failed.
+#[derive(Clone, Copy, Debug, PartialEq, Eq)]
+pub struct WriteFault;
+
+/// Takes all bytes of `source`, to its end.
+///
+/// # Errors
+///
+/// `ReadFault` comes only where the source failed in this call. `TooLong` comes exactly where one byte more than
+/// `limit` was taken, and then nothing more is read. `Memory` comes where memory runs out. In each case what was
+/// taken is lost.
+pub fn read_all<S: Source>(alloc: Global, source: &mut S, limit: u64) -> Result<Vec<u8>, Taken>
+    requires { limit < 2 ^ 32 }
+
+    // All that was left, to the end.
+    ensures all { IfOk result (λ all. Consumes (S.left source.old) (S.left source.new) all.items) }
+    ensures end { OnOk result (IsAtEnd (S.left source.new)) }
+    ensures within { IfOk result (λ all. length all.items ≤ limit) }
+
+    // What was taken is the front of what was left.
+    ensures stopped { IfErr result (λ why. (taken : List ℕ)
+        × Consumes (S.left source.old) (S.left source.new) taken × IsStop why limit (length taken)) }
+    ensures fault { IsErrOf result Taken.ReadFault → Rose (S.faults source.old) (S.faults source.new) }
+    ensures faults { S.faults source.old ≤ S.faults source.new }
+{
+    let mut chunk = [0; CHUNK];
+    read_by(alloc, source, limit, &mut chunk)
+}
+
+// `read_all`, by reads into `chunk`.
+fn read_by<S: Source>(
+    alloc: Global,
+    source: &mut S,
+    limit: u64,
+    chunk: &mut [u8],
+) -> Result<Vec<u8>, Taken>
+    requires limit { limit < 2 ^ 32 }
+    requires room { 0 < length chunk.old }
+    ensures all { IfOk result (λ all. Consumes (S.left source.old) (S.left source.new) all.items) }
+    ensures end { OnOk result (IsAtEnd (S.left source.new)) }
+    ensures within { IfOk result (λ all. length all.items ≤ limit) }
+    ensures stopped { IfErr result (λ why. (taken : List ℕ)
+        × Consumes (S.left source.old) (S.left source.new) taken × IsStop why limit (length taken)) }
+    ensures fault { IsErrOf result Taken.ReadFault → Rose (S.faults source.old) (S.faults source.new) }
+    ensures faults { S.faults source.old ≤ S.faults source.new }
+{
+    let mut bytes = Vec::new(alloc);
+    'pieces: loop {
+        let free = limit as usize - bytes.len();
+        let most = chunk.len().min(free + 1);
+        match source.read(&mut chunk[..most]) {
+            Err(Failed) => return Err(Taken::ReadFault),
+            Ok(0) => return Ok(bytes),
+            Ok(count) => {
+                if count > free {
+                    return Err(Taken::TooLong);
+                }
+                if bytes.extend_from_slice(&chunk[..count]).is_err() {
+                    return Err(Taken::Memory);
+                }
+            }
+        }
+    }
+}
+
+/// Appends all of `bytes` to `sink`, without a call where there are none.
+///
+/// # Errors
+///
+/// `WriteFault` comes only where the sink failed in this call. The front of `bytes` may be held then.
+pub fn write_all<K: Sink>(sink: &mut K, bytes: &[u8]) -> Result<(), WriteFault>
+    ensures all { OnOk result (Appends (K.held sink.old) (K.held sink.new) bytes.now) }
+
+    // What was appended is the front of the bytes, and not all of them.
+    ensures stopped { OnErr result ((count : ℕ) × (count < length bytes.now)
+        × Appends (K.held sink.old) (K.held sink.new) (take count bytes.now)) }
+    ensures fault { OnErr result (Rose (K.faults sink.old) (K.faults sink.new)) }
+    ensures faults { K.faults sink.old ≤ K.faults sink.new }
+{
+    let mut done = 0;
+    'pieces: while done < bytes.len() {
+        match sink.write(&bytes[done..]) {
+            Ok(count) => done += count,
+            Err(Failed) => return Err(WriteFault),
+        }
+    }
+    Ok(())
+}

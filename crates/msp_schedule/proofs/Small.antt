@@ -1,0 +1,98 @@
+-- The numbers of an inner instance over a bounded unit are small.
+use Rattle.std.proofs.Common.{◌≡◌, ℕ, zero, suc, ◌+◌, ◌*◌, ◌^◌, ◌<◌, ◌≤◌, Bool, true, false, List, length, ℤ, pos, negsuc, neg_ℤ, ◌+ℤ◌, ◌*ℤ◌, ◌≤ℤ◌, ◌⊎◌, inl, inr, All, sum_by, refl, sym, ap, ◌∙◌, subst, arith, lit≤}
+use Rattle.std.proofs.lemmas.Int.{ints}
+use Rattle.std.proofs.lemmas.Nat.{mul-le}
+use Rattle.msp_class.specs.declared.class.Crit.{Crit}
+use Rattle.msp_class.specs.declared.class.Crit.TheVariants.{Cmax, Lmax, Fmax, SumC, SumWC, SumU, SumWU, SumT, SumWT}
+use Rattle.msp_class.proofs.IntegerRing.{natural_some}
+use Rattle.msp_class.proofs.Sums.{sum_by-mono, sum_by-constant}
+use Rattle.msp_instance.specs.declared.Curve.{Curve}
+use Rattle.msp_instance.specs.declared.Job.{Job}
+use Rattle.msp_instance.specs.declared.Step.{Step}
+use Rattle.msp_instance.specs.declared.Instance.{Instance}
+use Rattle.msp_instance.specs.Instance.{Kind, identical, uniform, unrelated, open_shop, flow_shop, job_shop, kind_of, no_curve}
+use Rattle.msp_instance.specs.Conditions.{LiesWithin, Limits, HasDue, HasWeight, IsCurve, HasCurve, IsJobOf, MeetsConditions, Inner, InClass, uses_due, uses_weight, inner_limits, text_limits}
+use Rattle.msp_schedule.specs.declared.Schedule.{Schedule}
+use Rattle.msp_schedule.specs.Within.{HasSmallCost, Within, IsUnit}
+
+-- a product of a number up to u and one within D
+pub product_within : (n : ℕ) (x : ℤ) (u D k : ℕ) → n ≤ u → LiesWithin D x → u * D ≤ k → LiesWithin k (pos n *ℤ x)
+product_within n (pos a) u D k h w l = let small : a ≤ D = omega (arith, ints, w) in let p = mul-le n a u D h small in (omega (arith, ints), omega (arith, ints))
+product_within n (negsuc a) u D k h w l = let small : suc a ≤ D = omega (arith, ints, w) in let p = mul-le n (suc a) u D h small in (omega (arith, ints), omega (arith, ints))
+
+due_within : (l : Limits) (b : Bool) (d : ℤ) → HasDue l b d → LiesWithin l.greatest_date d
+due_within l true d h = h
+due_within l false d h = (omega (arith, ints, h), omega (arith, ints, h))
+
+weight_small : (b : Bool) (w : ℕ) → HasWeight b w → w ≤ 1000000000
+weight_small true w h = h.1
+weight_small false w h = omega (arith, h)
+
+no_curve-is : (l : Limits) → IsCurve l no_curve
+no_curve-is l = record { slope = omega arith; base = (omega (arith, ints), omega (arith, ints)); few = omega arith; steps = λ k d h. absurd (omega (arith, h)) }
+
+curve_is : (l : Limits) (crit : Crit) (c : Curve) → HasCurve l crit c → IsCurve l c
+curve_is l Cmax c h = subst (IsCurve l) (sym h) (no_curve-is l)
+curve_is l Lmax c h = subst (IsCurve l) (sym h) (no_curve-is l)
+curve_is l Fmax c h = h
+curve_is l SumC c h = subst (IsCurve l) (sym h) (no_curve-is l)
+curve_is l SumWC c h = subst (IsCurve l) (sym h) (no_curve-is l)
+curve_is l SumU c h = subst (IsCurve l) (sym h) (no_curve-is l)
+curve_is l SumWU c h = subst (IsCurve l) (sym h) (no_curve-is l)
+curve_is l SumT c h = subst (IsCurve l) (sym h) (no_curve-is l)
+curve_is l SumWT c h = subst (IsCurve l) (sym h) (no_curve-is l)
+
+adds_small : (T : ℕ) (steps : List Step) → length steps ≤ 16 → All (λ s. (s.above ≤ T) × (s.add ≤ T)) steps → sum_by (λ s. s.add) steps ≤ 16 * T
+adds_small T steps few h =
+    let each = sum_by-mono (λ s. s.add) (λ _. T) steps (λ k d l. (h k d l).1) in
+    let same = sum_by-constant T steps in
+    let most = mul-le (length steps) T 16 T few (omega arith) in
+    omega arith
+
+-- the limits and the unit are small together
+pub record FitTogether (l : Limits) (u : ℕ) : Type 0 where
+  pub dates : u * l.greatest_date ≤ 2 * 10 ^ 22
+  pub times : u * l.greatest_time ≤ 2 * 10 ^ 22
+  pub levels : u * (l.greatest_date + 16 * l.greatest_time) ≤ 4 * 10 ^ 23
+
+pub HasSmallCost-from : (l : Limits) (u n : ℕ) (i : Instance) (j : Job) → FitTogether l u → n ≤ u → IsJobOf l i j → HasSmallCost (pos n) j
+HasSmallCost-from l u n i j fit small h =
+    let curve : IsCurve l j.curve = curve_is l i.class.crit j.curve h.curve in
+    let adds = adds_small l.greatest_time j.curve.steps curve.few curve.steps in
+    record {
+      due = product_within n j.due u _ _ small (due_within l (uses_due i.class.crit) j.due h.due) fit.dates;
+      base = λ a k. product_within n (j.curve.base +ℤ pos a) u _ _ small (raised_within l j.curve.base a (sum_by (λ s. s.add) j.curve.steps) curve.base k adds) fit.levels;
+      few = curve.few;
+      steps = λ k d t. product_within n (pos _) u _ _ small (pos_within _ _ (curve.steps k d t).0) fit.times;
+      slope = curve.slope;
+      weight = weight_small (uses_weight i.class.crit) j.weight h.weight;
+    }
+  where
+    raised_within : (l : Limits) (b : ℤ) (a s : ℕ) → LiesWithin l.greatest_date b → a ≤ s → s ≤ 16 * l.greatest_time → LiesWithin (l.greatest_date + 16 * l.greatest_time) (b +ℤ pos a)
+    raised_within l b a s w p q = (omega (arith, ints), omega (arith, ints))
+
+    pos_within : (a T : ℕ) → a ≤ T → LiesWithin T (pos a)
+    pos_within a T p = (omega (arith, ints), omega (arith, ints))
+
+each_small : (l : Limits) (u n : ℕ) (i : Instance) → FitTogether l u → n ≤ u → MeetsConditions l i → All (HasSmallCost (pos n)) i.jobs
+each_small l u n i fit small h k d t = HasSmallCost-from l u n i _ fit small (h.jobs k d t)
+
+by_kind : (kind : Kind) (i : Instance) (n : ℕ) → MeetsConditions (inner_limits kind) i → n ≤ 10 ^ 13 → (kind ≡ unrelated → InClass i ⊎ (pos n ≤ℤ pos 4096)) → All (HasSmallCost (pos n)) i.jobs
+by_kind identical i n h small scaled = each_small _ (10 ^ 13) n i (record { dates = lit≤ tt; times = lit≤ tt; levels = lit≤ tt }) small h
+by_kind uniform i n h small scaled = each_small _ (10 ^ 13) n i (record { dates = lit≤ tt; times = lit≤ tt; levels = lit≤ tt }) small h
+by_kind unrelated i n h small scaled = elim (scaled refl) [
+  | inl text ↦ each_small text_limits (10 ^ 13) n i (record { dates = lit≤ tt; times = lit≤ tt; levels = lit≤ tt }) small text.conditions
+  | inr low ↦ each_small _ 4096 n i (record { dates = lit≤ tt; times = lit≤ tt; levels = lit≤ tt }) (omega (arith, ints)) h
+]
+by_kind open_shop i n h small scaled = each_small _ (10 ^ 13) n i (record { dates = lit≤ tt; times = lit≤ tt; levels = lit≤ tt }) small h
+by_kind flow_shop i n h small scaled = each_small _ (10 ^ 13) n i (record { dates = lit≤ tt; times = lit≤ tt; levels = lit≤ tt }) small h
+by_kind job_shop i n h small scaled = each_small _ (10 ^ 13) n i (record { dates = lit≤ tt; times = lit≤ tt; levels = lit≤ tt }) small h
+
+-- under the bounds of the calls each job's numbers are small
+pub small_costs : (i : Instance) (s : Schedule) → Inner i → Within i s → All (HasSmallCost s.unit) i.jobs
+small_costs i s h w =
+    let n = natural_some s.unit (omega (arith, ints, w.unit.0)) in
+    let unit_is = n.1 in
+    let P : ℤ → Type 0 = λ x. All (HasSmallCost x) i.jobs in
+    let Q : ℤ → Type 0 = λ x. InClass i ⊎ (x ≤ℤ pos 4096) in
+    subst P (sym n.1) (by_kind (kind_of i.class.env) i n.0 h.conditions (omega (arith, ints, w.unit.1, unit_is)) (λ e. subst Q n.1 (w.scaled e)))

@@ -1,0 +1,16 @@
+-- Fractions by their numerators and denominators.
+use Rattle.std.specs.Prelude.{◌≡◌, ℤ, ◌*ℤ◌, unsigned_abs}
+use Rattle.std.specs.Int.{IsGcd}
+use Rattle.msp_schedule.specs.declared.Frac.{Frac}
+
+-- The two fractions are the same number.
+abbrev pub IsSameFraction : Frac → Frac → Type 0
+IsSameFraction f g = (f.num *ℤ g.den) ≡ (g.num *ℤ f.den)
+
+-- The fraction is the number x over the unit.
+abbrev pub IsOver : Frac → ℤ → ℤ → Type 0
+IsOver f x unit = (f.num *ℤ unit) ≡ (x *ℤ f.den)
+
+-- Numerator and denominator have no common divisor above 1.
+abbrev pub IsLowest : Frac → Type 0
+IsLowest f = IsGcd (unsigned_abs f.num) (unsigned_abs f.den) 1

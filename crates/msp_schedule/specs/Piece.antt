@@ -1,0 +1,20 @@
+-- How the pieces of a schedule are read.
+use Rattle.std.specs.Prelude.{◌≡◌, ℕ, ◌⊎◌, ℤ, pos, ◌-ℤ◌, ◌≤ℤ◌, List, filter, ◌==◌, ◌&&◌}
+use Rattle.msp_schedule.specs.declared.Piece.{Piece}
+use Rattle.msp_schedule.specs.declared.Schedule.{Schedule}
+
+-- How long a piece lasts, in parts of the unit.
+abbrev pub length_of : Piece → ℤ
+length_of p = p.to -ℤ p.from
+
+-- One piece ends no later than the other begins.
+abbrev pub IsBefore : Piece → Piece → Type 0
+IsBefore p q = p.to ≤ℤ q.from
+
+-- The two pieces do not overlap.
+abbrev pub IsApart : Piece → Piece → Type 0
+IsApart p q = IsBefore p q ⊎ IsBefore q p
+
+-- The pieces of an operation of a job.
+abbrev pub pieces_of : Schedule → ℕ → ℕ → List Piece
+pieces_of s j o = filter (λ p. (p.job == j) && (p.op == o)) s.pieces

@@ -1,0 +1,35 @@
+-- The schedules that the calls take: bounds under which every sum in a product fits a signed number of 128 bits.
+use Rattle.std.specs.Prelude.{◌≡◌, ℕ, ◌*◌, ◌^◌, ◌<◌, ◌≤◌, ◌⊎◌, List, length, ℤ, pos, ◌+ℤ◌, ◌*ℤ◌, ◌≤ℤ◌, All, sum_by}
+use Rattle.msp_instance.specs.declared.Instance.{Instance}
+use Rattle.msp_instance.specs.declared.Job.{Job}
+use Rattle.msp_instance.specs.Instance.{kind_of, unrelated}
+use Rattle.msp_instance.specs.Conditions.{InClass, LiesWithin}
+use Rattle.msp_schedule.specs.declared.Schedule.{Schedule}
+
+-- The moment is one from 0 to 2 * 10 ^ 26.
+abbrev pub IsMoment : ℤ → Type 0
+IsMoment x = (pos 0 ≤ℤ x) × (x ≤ℤ pos (2 * 10 ^ 26))
+
+-- The unit is from 1 to 10 ^ 13.
+abbrev pub IsUnit : ℤ → Type 0
+IsUnit unit = (pos 1 ≤ℤ unit) × (unit ≤ℤ pos (10 ^ 13))
+
+-- Unit, pieces and moments are bounded. On unrelated machines an instance beyond the limits of texts has a smaller unit.
+pub record Within (i : Instance) (s : Schedule) : Type 0 where
+  pub unit : IsUnit s.unit
+  pub few : length s.pieces ≤ 500000
+  pub moments : All (λ p. IsMoment p.from × IsMoment p.to) s.pieces
+  pub scaled : kind_of i.class.env ≡ unrelated → InClass i ⊎ (s.unit ≤ℤ pos 4096)
+
+-- The numbers of a job over the unit are so small that its cost fits a signed number of 128 bits, and 400 such costs together.
+pub record HasSmallCost (unit : ℤ) (j : Job) : Type 0 where
+  pub due : LiesWithin (2 * 10 ^ 22) (unit *ℤ j.due)
+  pub base : (adds : ℕ) → adds ≤ sum_by (λ s. s.add) j.curve.steps → LiesWithin (4 * 10 ^ 23) (unit *ℤ (j.curve.base +ℤ pos adds))
+  pub few : length j.curve.steps ≤ 16
+  pub steps : All (λ s. LiesWithin (2 * 10 ^ 22) (unit *ℤ pos s.above)) j.curve.steps
+  pub slope : j.curve.slope ≤ 10 ^ 9
+  pub weight : j.weight ≤ 10 ^ 9
+
+-- The most that a job costs, in size.
+abbrev pub greatest_cost : ℕ
+greatest_cost = 21 * 10 ^ 34

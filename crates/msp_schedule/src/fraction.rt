@@ -1,0 +1,52 @@
+ghost use Rattle.std.specs.Prelude.{◌≡◌, ℕ, ◌+◌, ◌*◌, ◌/◌, ◌<◌, ◌≤◌, ◌^◌, ℤ, pos, neg_ℤ, ◌*ℤ◌, ◌≤ℤ◌, ◌<ℤ◌, unsigned_abs};
+ghost use Rattle.std.specs.Int.{IsGcd};
+ghost use Rattle.msp_schedule.specs.Fraction.{IsLowest, IsSameFraction};
+
+use crate::Frac;
+
+/// The greatest common divisor (Euclid).
+fn gcd(a: u128, b: u128) -> u128
+    ensures { IsGcd a b result }
+{
+    let mut x = a;
+    let mut y = b;
+    while y != 0 {
+        let rest = x % y;
+        x = y;
+        y = rest;
+    }
+    x
+}
+
+/// The number of this size with the sign of `like`.
+fn with_sign(size: u128, like: i128) -> i128
+    requires { size < 2 ^ 127 }
+    ensures positive { pos 0 ≤ℤ like → result ≡ pos size }
+    ensures negative { like <ℤ pos 0 → result ≡ neg_ℤ (pos size) }
+{
+    let value = size as i128;
+    if like < 0 { -value } else { value }
+}
+
+fn quotient(whole: u128, divisor: u128) -> i128
+    requires small { whole < 2 ^ 127 }
+    requires some { 0 < divisor }
+    ensures { result ≡ pos (whole / divisor) }
+{
+    (whole / divisor) as i128
+}
+
+/// The same fraction in lowest terms.
+pub fn lowest(f: Frac) -> Frac
+    requires { neg_ℤ (pos (2 ^ 127)) <ℤ f.num }
+    ensures same { IsSameFraction f result }
+    ensures lowest { IsLowest result }
+{
+    let size = f.num.unsigned_abs();
+    let whole = f.den.unsigned_abs();
+    let divisor = gcd(size, whole);
+    Frac {
+        num: with_sign(size / divisor, f.num),
+        den: quotient(whole, divisor),
+    }
+}

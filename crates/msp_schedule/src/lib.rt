@@ -1,0 +1,49 @@
+//! Schedules over any unit, and what it means that a schedule is feasible, what it costs, and that it is best.
+//!
+//! It stands on `msp_instance`. The layers above use the definitions `Feasible`, `cost_of` and `Best`, and that `cost` gives the
+//! cost in lowest terms.
+#![tactic(auto)]
+
+ghost use Rattle.std.specs.Prelude.{pos, ◌≤ℤ◌};
+
+#[cfg(test)]
+mod definitions;
+mod fraction;
+mod job_cost;
+mod total_cost;
+
+pub use fraction::lowest;
+use msp_class::List;
+pub use total_cost::cost;
+
+/// A piece of work on an operation of a job, all three numbered from 0. A moment `x` stands for the time `x / unit`.
+#[derive(Clone, Copy, Debug, PartialEq, Eq)]
+pub struct Piece {
+    pub job: u32,
+    pub op: u32,
+    pub machine: u32,
+    pub from: i128,
+    pub to: i128,
+}
+
+/// A schedule: its pieces, with moments in parts of size `1 / unit`.
+#[derive(Drop)]
+pub struct Schedule {
+    pub unit: i128,
+    pub pieces: List<Piece>,
+}
+
+/// A fraction: a numerator over a denominator of at least 1.
+#[derive(Clone, Copy, Debug, PartialEq, Eq)]
+pub struct Frac {
+    pub num: i128,
+    pub den: i128,
+    ghost positive: { pos 1 ≤ℤ den },
+}
+
+/// A schedule and its cost.
+#[derive(Drop)]
+pub struct Solution {
+    pub schedule: Schedule,
+    pub cost: Frac,
+}

@@ -1,0 +1,12 @@
+//! The program as a library: `run` takes the words of the command line, a source, and two sinks, and answers the exit status.
+//!
+//! It stands on all that it calls. The program uses the clauses of `run`.
+#![tactic(auto)]
+
+mod fields;
+mod reader;
+mod report;
+mod serve;
+mod smith;
+
+pub use serve::run;
