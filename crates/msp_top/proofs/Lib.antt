@@ -1,4 +1,3 @@
-pub mod Endings
 pub mod SmithOrder
 pub mod SmithSteps
 pub mod SmithSorted
@@ -10,3 +9,7 @@ pub mod JobTexts
 pub mod Plain
 pub mod Lines
 pub mod Readings
+pub mod PutsLemmas
+pub mod WordLemmas
+pub mod Endings
+pub mod LabelAnswers

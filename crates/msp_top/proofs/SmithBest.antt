@@ -1,5 +1,5 @@
 -- The row of the jobs in Smith's order is best, and in the form of an answer.
-use Rattle.std.proofs.Common.{◌≡◌, ℕ, ◌+◌, ◌*◌, ◌<◌, ◌≤◌, ◌⊎◌, inl, inr, List, [], ◌∷◌, length, get_or, map, ℤ, pos, nat_abs, ◌*ℤ◌, ◌≤ℤ◌, All, AllPairs, sum_by, refl, sym, ap, ◌∙◌, subst, arith}
+use Rattle.std.proofs.Common.{◌≡◌, ℕ, ◌*◌, ◌<◌, ◌≤◌, inl, inr, List, length, get_or, map, ℤ, pos, nat_abs, ◌*ℤ◌, ◌≤ℤ◌, All, AllPairs, sym, ap, ◌∙◌, subst, arith}
 use Rattle.std.proofs.lemmas.Int.{ints}
 use Rattle.std.proofs.lemmas.List.Elements.{All-nil}
 use Rattle.std.proofs.lemmas.Nat.{mul-le}
@@ -7,10 +7,10 @@ use Rattle.msp_class.proofs.IntegerRing.{≤ℤ_of_same, ≤ℤ_trans, pos-le, *
 use Rattle.msp_class.proofs.Intervals.{last_of, last_of-least}
 use Rattle.msp_class.proofs.Rows.{row, row-jobs, row-All, row-to, length-row, last-seq_below}
 use Rattle.msp_class.proofs.Sequences.{seq, SmithBefore, smith_beats_last}
-use Rattle.msp_class.proofs.Sums.{OnceBelow, OnceBelow-from_permutation, length-OnceBelow, total_below, total_below-bound}
+use Rattle.msp_class.proofs.Sums.{OnceBelow, OnceBelow-from_permutation, length-OnceBelow, total_below-bound}
 use Rattle.msp_instance.specs.declared.Arc.{Arc}
 use Rattle.msp_instance.specs.declared.Instance.{Instance}
-use Rattle.msp_instance.specs.Instance.{job_at, need_at, no_job}
+use Rattle.msp_instance.specs.Instance.{job_at, no_job}
 use Rattle.msp_schedule.specs.declared.Piece.{Piece}
 use Rattle.msp_schedule.specs.declared.Schedule.{Schedule}
 use Rattle.msp_schedule.specs.declared.Solution.{Solution}
@@ -20,8 +20,8 @@ use Rattle.msp_schedule.specs.Cost.{cost_of, Best}
 use Rattle.msp_schedule.specs.Fraction.{IsOver, IsLowest}
 use Rattle.msp_schedule.specs.Settled.{IsSettled}
 use Rattle.msp_schedule.specs.Within.{Within}
-use Rattle.msp_schedule.proofs.OneMachine.{job_of, start, finish, IsTimed, IsPlan, IsPlan-from_feasible, weighted_cost}
-use Rattle.msp_schedule.proofs.OneRow.{piece, piece_makes, time_at, row_schedule, row-made, row-timed, row-op, row-machine, row_is_feasible, row_is_settled, row_is_within, row_ends, whole_fraction}
+use Rattle.msp_schedule.proofs.OneMachine.{job_of, start, finish, IsTimed, IsPlan-from_feasible, weighted_cost}
+use Rattle.msp_schedule.proofs.OneRow.{piece, piece_makes, time_at, row_schedule, row-timed, row-op, row-machine, row_is_feasible, row_is_settled, row_is_within, row_ends, whole_fraction}
 use Rattle.msp_top.specs.Smith.{GoesBefore, IsSmithOrder, IsWholeRow}
 use Rattle.msp_top.proofs.SmithFacts.{IsSmithInstance}
 

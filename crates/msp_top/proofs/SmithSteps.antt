@@ -1,5 +1,5 @@
 -- One step of the loops over the jobs, at the numbers as the code passes them.
-use Rattle.std.proofs.Common.{◌≡◌, ℕ, suc, ◌+◌, ◌*◌, ◌<◌, ◌≤◌, Bool, true, false, not, cond, List, [], ◌∷◌, ◌++◌, length, get_or, take, map, sum_by, pos, ℤ, All, OnOk, Ok, Err, Result, refl, sym, ap, ◌∙◌, subst, arith, slice_index_or}
+use Rattle.std.proofs.Common.{◌≡◌, ℕ, suc, ◌+◌, ◌*◌, ◌<◌, ◌≤◌, Bool, false, not, cond, List, [], ◌∷◌, ◌++◌, length, get_or, take, map, sum_by, pos, ℤ, All, OnOk, Ok, Err, Result, sym, ap, ◌∙◌, subst, arith, slice_index_or}
 use Rattle.std.specs.Result.{is_err}
 use Rattle.std.specs.List.{range_with_len}
 use Rattle.std.proofs.lemmas.List.{map-append, take_more, get_or_default}

@@ -1,10 +1,9 @@
-use Rattle.std.proofs.Common.{◌≡◌, ◌<◌, ◌≤◌, List, ℕ, length, All, pos, sym, ap, ◌∙◌, subst, arith}
+use Rattle.std.proofs.Common.{◌≡◌, List, ℕ, length, sym, subst, arith}
 use Rattle.msp_class.proofs.Sums.{OnceBelow, OnceBelow-from_permutation, length-OnceBelow}
 use Rattle.msp_instance.specs.declared.Instance.{Instance}
-use Rattle.msp_schedule.proofs.OneRow.{row_schedule}
 use Rattle.msp_top.specs.Smith.{IsSmithOrder}
-use Rattle.msp_top.proofs.SmithFacts.{IsSmithInstance, IsSmithInstance-from_class}
-use Rattle.msp_top.proofs.SmithBest.{IsSmithSchedule, made_schedule, IsSmithSchedule-from_row, IsWholeRow-from_row}
+use Rattle.msp_top.proofs.SmithFacts.{IsSmithInstance-from_class}
+use Rattle.msp_top.proofs.SmithBest.{made_schedule, IsSmithSchedule-from_row, IsWholeRow-from_row}
 use Rattle.msp_top.proofs.smith.solve.Goals as goal
 
 once_below : (i : Instance) (numbers order : List ℕ) → numbers ≡ order → IsSmithOrder i order → OnceBelow (length i.jobs) numbers

@@ -1,6 +1,6 @@
 use Rattle.std.proofs.Common.{ap, Err}
 use Rattle.msp_top.specs.Run.{solved, not_readable}
-use Rattle.msp_top.proofs.serve.solve_answer.Goals as goal
+use Rattle.msp_top.proofs.answers.solve_answer.Goals as goal
 
 pub returns-in_ok-text-in-Ok : goal.returns-in_ok-text-in-Ok
 returns-in_ok-text-in-Ok c =
