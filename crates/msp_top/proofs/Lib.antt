@@ -4,3 +4,4 @@ pub mod SmithSteps
 pub mod SmithSorted
 pub mod SmithFacts
 pub mod SmithBest
+pub mod SmithInstances
