@@ -1,13 +1,9 @@
 -- What an instance of Smith's class has.
-use Rattle.std.proofs.Common.{◌≡◌, ℕ, ◌<◌, ◌≤◌, Bool, [], length, get_or, pos, All, ap, subst, arith}
-use Rattle.msp_class.specs.declared.class.Env.{Env}
+use Rattle.std.proofs.Common.{◌≡◌, ◌≤◌, [], length, get_or, All, ap, subst, arith}
 use Rattle.msp_class.specs.declared.class.Env.TheVariants.{One}
-use Rattle.msp_class.specs.declared.class.Order.{Order}
-use Rattle.msp_class.specs.declared.class.Crit.{Crit}
 use Rattle.msp_class.specs.declared.class.Crit.TheVariants.{SumWC}
-use Rattle.msp_instance.specs.declared.Job.{Job}
 use Rattle.msp_instance.specs.declared.Instance.{Instance}
-use Rattle.msp_instance.specs.Instance.{kind_of, no_need, no_job, job_at, need_at}
+use Rattle.msp_instance.specs.Instance.{kind_of, no_need}
 use Rattle.msp_instance.specs.Conditions.{HasNeeds, HasRelease, HasWeight, HasArcs, MeetsConditions, Inner, inner_limits, uses_weight}
 use Rattle.msp_schedule.proofs.OneMachine.{IsOneMachine, IsOneMachine-from_env}
 use Rattle.msp_top.specs.Smith.{smith_class}

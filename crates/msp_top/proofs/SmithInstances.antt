@@ -1,10 +1,9 @@
 -- An instance of Smith's class that meets the conditions of texts is an inner one: it has no arcs, so no cycle.
-use Rattle.std.proofs.Common.{◌≡◌, ℕ, [], length, All, ap, sym, subst}
+use Rattle.std.proofs.Common.{◌≡◌, [], length, All, ap, sym, subst}
 use Rattle.std.specs.List.{range_with_len}
 use Rattle.std.proofs.lemmas.List.Elements.{All-nil}
 use Rattle.std.proofs.lemmas.List.FromFn.{length-range_with_len}
 use Rattle.msp_class.proofs.Sums.{OnceBelow-range, OnceBelow-contains}
-use Rattle.msp_class.specs.declared.class.Order.{Order}
 use Rattle.msp_instance.specs.declared.Instance.{Instance}
 use Rattle.msp_instance.specs.Conditions.{text_limits, HasArcs, GoesForward, IsAcyclic, MeetsConditions, Inner}
 use Rattle.msp_instance.proofs.Limits.{Inner-from_class}

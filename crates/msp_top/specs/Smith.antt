@@ -1,5 +1,5 @@
 -- The class that Smith's rule solves, and the order in which the rule puts the jobs.
-use Rattle.std.specs.Prelude.{◌≡◌, ℕ, ◌*◌, ◌^◌, ◌<◌, ◌≤◌, ◌⊎◌, false, List, length, ℤ, pos, ◌≤ℤ◌, All, AllPairs, IsPermutation}
+use Rattle.std.specs.Prelude.{◌≡◌, ℕ, ◌*◌, ◌^◌, ◌<◌, ◌⊎◌, false, List, length, pos, ◌≤ℤ◌, All, AllPairs, IsPermutation}
 use Rattle.std.specs.List.{range_with_len}
 use Rattle.msp_class.specs.declared.class.Class.{Class}
 use Rattle.msp_class.specs.declared.class.Env.TheVariants.{One}

@@ -11,12 +11,11 @@ ghost use Rattle.msp_schedule.proofs.OneRow.{piece, time_at};
 ghost use Rattle.msp_class.proofs.Rows.{row};
 ghost use Rattle.msp_top.specs.Smith.{smith_class, IsSmithOrder, IsWholeRow};
 
-use std::alloc::Global;
-use std::cmp::Ordering;
-
 use msp_class::{List, NoMemory};
 use msp_instance::{Instance, Job};
 use msp_schedule::{Piece, Schedule, Solution};
+use std::alloc::Global;
+use std::cmp::Ordering;
 
 /// What the rule compares of a job: its number, its time and its weight.
 #[derive(Clone, Copy)]
@@ -219,7 +218,11 @@ mod tests {
     #[test]
     fn orders_jobs_by_ratio(rt: HostRuntime) {
         let best = solution(rt.alloc(), &[(3, 1), (1, 2), (2, 2)]).expect(&rt, "there is memory");
-        let pieces = [on_machine(1, 0, 1), on_machine(2, 1, 3), on_machine(0, 3, 6)];
+        let pieces = [
+            on_machine(1, 0, 1),
+            on_machine(2, 1, 3),
+            on_machine(0, 3, 6),
+        ];
         assert_eq!(rt; best.cost.num, 14);
         assert_eq!(rt; best.schedule.pieces.as_slice(), pieces.as_slice());
 

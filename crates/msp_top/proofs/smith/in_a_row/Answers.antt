@@ -1,4 +1,4 @@
-use Rattle.std.proofs.Common.{◌∙◌, refl, arith, rules}
+use Rattle.std.proofs.Common.{◌∙◌, refl, rules}
 use Rattle.std.proofs.lemmas.Int.{to_z-of_z}
 use Rattle.std.specs.Int.{w128}
 use Rattle.msp_top.proofs.SmithSteps.{on_ok, laid-next, ends-next, time_read, ends_early}
