@@ -5,3 +5,9 @@ pub mod SmithSorted
 pub mod SmithFacts
 pub mod SmithBest
 pub mod SmithInstances
+pub mod Amounts
+pub mod Cuts
+pub mod JobTexts
+pub mod Plain
+pub mod Lines
+pub mod Readings

@@ -5,3 +5,5 @@ pub mod Run
 pub mod Note
 pub mod Answer
 pub mod Ending
+pub mod Fields
+pub mod Reading

@@ -3,8 +3,10 @@
 //! It stands on all that it calls. The program uses the clauses of `run`.
 #![tactic(auto)]
 
+mod fields;
+mod reader;
+mod report;
 mod serve;
 mod smith;
 
 pub use serve::run;
-pub use smith::solve;

@@ -1,11 +1,14 @@
 ghost use Rattle.std.specs.Prelude.{◌≡◌, ◌⊎◌, ℕ, ◌+◌, ◌<◌, ◌≤◌, ◌↔◌, ◌≢◌, List, length, take, map, string_bytes, MatchOption, IfOk, IfSome, IsErrOf, OnErr};
 ghost use Rattle.std.specs.Io.KnownBytes.{Appends, Keeps, Consumes, IsAtEnd};
 ghost use Rattle.msp_io.specs.Faults.{Rose};
-ghost use Rattle.msp_top.specs.Run.{Command, Asks, Misfits, IsRight, IsTold, IsNote, IsDue, Reports, BreaksOff, Refuses, note_line};
+ghost use Rattle.msp_top.specs.Run.{Command, Asks, Misfits, IsRight, SolveIsRight, IsTold, IsNote, IsDue, Reports, BreaksOff, Refuses, note_line};
 ghost use Rattle.msp_top.specs.Note.{note_text};
 ghost use Rattle.msp_top.specs.Answer.{command_of, outcome_of};
 ghost use Rattle.msp_top.specs.Ending.{Serves, ends_with};
 
+use crate::reader::{ReadRefusal, read_text};
+use crate::report::solve_text;
+use crate::smith::solve;
 use msp_class::NoMemory;
 use msp_io::{Sink, Source, Taken, WriteFault, read_all, write_all};
 use std::alloc::Global;
@@ -67,7 +70,27 @@ fn answer_to(alloc: Global, asked: Asked, input: &[u8]) -> Result<Answer, NoMemo
     requires { length input.now ≤ 4194304 }
     ensures { IfOk result (λ answer. IsRight (command_of asked) input.now (outcome_of answer)) }
 {
-    Err(NoMemory)
+    match asked {
+        Asked::Solve => solve_answer(alloc, input),
+    }
+}
+
+fn solve_answer(alloc: Global, input: &[u8]) -> Result<Answer, NoMemory>
+    requires { length input.now ≤ 4194304 }
+    ensures { IfOk result (λ answer. SolveIsRight input.now (outcome_of answer)) }
+{
+    match read_text(alloc, input) {
+        Ok(named) => {
+            let solution = solve(alloc, &named.instance)?;
+            let text = solve_text(alloc, &named.names, &solution)?;
+            Ok(Answer::Report { status: 0, text })
+        }
+        Err(ReadRefusal::Unreadable) => Ok(Answer::Refusal {
+            status: 3,
+            note: Note::NotReadable,
+        }),
+        Err(ReadRefusal::Memory) => Err(NoMemory),
+    }
 }
 
 /// How a call ends: its status, and the note to be told.
