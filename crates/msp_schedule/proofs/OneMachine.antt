@@ -1,5 +1,5 @@
 -- Feasible schedules on one machine, as lemmas on pieces in ℕ want them: begins and ends, work, and the sum of costs.
-use Rattle.std.proofs.Common.{◌≡◌, ℕ, zero, suc, ◌+◌, ◌*◌, ◌-◌, ◌<◌, ◌≤◌, max, Bool, true, false, cond, eqb, List, [], ◌∷◌, length, get_or, take, map, filter, fold, ℤ, pos, nat_abs, ◌+ℤ◌, ◌-ℤ◌, ◌*ℤ◌, ◌≤ℤ◌, ◌<ℤ◌, ◌⊎◌, inl, inr, All, AllPairs, sum_by, MatchBool, MatchOption, refl, sym, ap, ◌∙◌, subst, arith, zero-add}
+use Rattle.std.proofs.Common.{◌≡◌, ℕ, zero, suc, ◌+◌, ◌*◌, ◌-◌, ◌<◌, ◌≤◌, max, Bool, true, false, cond, eqb, List, [], ◌∷◌, length, get_or, take, map, filter, fold, ℤ, pos, nat_abs, ◌+ℤ◌, ◌-ℤ◌, ◌*ℤ◌, ◌≤ℤ◌, ◌<ℤ◌, inl, inr, All, AllPairs, sum_by, MatchBool, MatchOption, refl, sym, ap, ◌∙◌, subst, arith, zero-add}
 use Rattle.std.specs.Prelude.{◌==◌, ◌&&◌, ⊤}
 use Rattle.std.specs.Int.{int_max}
 use Rattle.std.proofs.lemmas.Bool.{eqb-true, eq-eqb}
@@ -7,7 +7,6 @@ use Rattle.std.proofs.lemmas.Int.{ints, clamps}
 use Rattle.std.proofs.lemmas.List.{take_all}
 use Rattle.std.proofs.lemmas.List.Elements.{All-head, All-tail, All-filter, filter_passes}
 use Rattle.std.proofs.lemmas.List.Sums.{fold_more, sum_by-cons}
-use Rattle.msp_class.specs.declared.class.Env.{Env}
 use Rattle.msp_class.specs.declared.class.Env.TheVariants.{One}
 use Rattle.msp_class.specs.declared.class.Crit.{Crit}
 use Rattle.msp_class.specs.declared.class.Crit.TheVariants.{SumWC}
@@ -15,14 +14,13 @@ use Rattle.msp_class.specs.Env.{fixed_machines}
 use Rattle.msp_class.proofs.IntegerRing.{natural, pos-same}
 use Rattle.msp_class.proofs.Intervals.{IsApart, size_of, work_of, last_of, greatest_by}
 use Rattle.msp_class.proofs.Sums.{total_below, int_total_below, int_total_below-same, int_total_below-natural}
-use Rattle.msp_instance.specs.declared.Job.{Job}
 use Rattle.msp_instance.specs.declared.Instance.{Instance}
 use Rattle.msp_instance.specs.Instance.{Kind, identical, kind_of, no_job, job_at, need_at}
 use Rattle.msp_instance.specs.Conditions.{Limits, MeetsConditions}
 use Rattle.msp_schedule.specs.declared.Piece.{Piece}
 use Rattle.msp_schedule.specs.declared.Schedule.{Schedule}
 use Rattle.msp_schedule.specs.Piece.{length_of, pieces_of, IsApart as AreApart}
-use Rattle.msp_schedule.specs.Feasible.{Feasible, HasPlace, HasOperation, MayRun, IsWholeWork, total, whole_work, work_of as part_of}
+use Rattle.msp_schedule.specs.Feasible.{Feasible, HasOperation, MayRun, IsWholeWork, total, whole_work, work_of as part_of}
 use Rattle.msp_schedule.specs.Cost.{last_end, end_of, job_cost, job_costs, combined, cost_of}
 use Rattle.msp_schedule.proofs.Costs.{length-job_costs, get_or-job_costs}
 

@@ -1,5 +1,5 @@
 -- Jobs in a row on machine 0 from moment 0, as a schedule: when it is feasible, and the form in which it is reported.
-use Rattle.std.proofs.Common.{◌≡◌, ℕ, ◌+◌, ◌*◌, ◌-◌, ◌<◌, ◌≤◌, ◌^◌, Bool, true, false, eqb, List, [], ◌∷◌, length, get_or, map, filter, ℤ, pos, nat_abs, unsigned_abs, ◌+ℤ◌, ◌-ℤ◌, ◌*ℤ◌, ◌≤ℤ◌, ◌<ℤ◌, inl, inr, All, AllPairs, sum_by, MatchBool, refl, sym, ap, ◌∙◌, subst, arith, zero-add}
+use Rattle.std.proofs.Common.{◌≡◌, ℕ, ◌+◌, ◌*◌, ◌<◌, ◌≤◌, Bool, true, false, List, [], ◌∷◌, length, get_or, map, ℤ, pos, nat_abs, unsigned_abs, ◌-ℤ◌, ◌*ℤ◌, ◌≤ℤ◌, ◌<ℤ◌, inl, All, AllPairs, sum_by, MatchBool, refl, sym, ap, ◌∙◌, subst, arith}
 use Prim.Native.Nat.{◌∣◌}
 use Rattle.std.proofs.lemmas.Int.{ints}
 use Rattle.std.specs.Int.{IsGcd}
@@ -7,19 +7,17 @@ use Rattle.std.proofs.lemmas.Nat.Gcd.{dvd_antisymm, dvd_refl}
 use Rattle.std.proofs.Math.Nat.{one-dvd, dvd-mul_left, eq-one_of_dvd-one}
 use Rattle.msp_class.proofs.IntegerRing.{natural, *ℤ-one}
 use Rattle.std.proofs.lemmas.List.Elements.{All-nil, All-cons}
-use Rattle.msp_class.proofs.Intervals.{IsApart}
 use Rattle.msp_class.proofs.Sums.{sum_by-mono, sum_by-constant, OnceBelow, OnceBelow-distinct, OnceBelow-contains, length-OnceBelow}
-use Rattle.msp_class.proofs.Rows.{row, Makes, begin_in, end_in, end_in-begin, length-row, row-All, row-from, row-to, row-in_order, row-positive, row-filter}
-use Rattle.msp_instance.specs.declared.Arc.{Arc}
+use Rattle.msp_class.proofs.Rows.{row, Makes, begin_in, end_in, end_in-begin, length-row, row-All, row-to, row-in_order, row-positive, row-filter}
 use Rattle.msp_instance.specs.declared.Instance.{Instance}
-use Rattle.msp_instance.specs.Instance.{Kind, identical, uniform, unrelated, open_shop, flow_shop, job_shop, kind_of, job_at, need_at}
+use Rattle.msp_instance.specs.Instance.{Kind, identical, unrelated, kind_of, job_at, need_at}
 use Rattle.msp_schedule.specs.declared.Piece.{Piece}
 use Rattle.msp_schedule.specs.declared.Schedule.{Schedule}
 use Rattle.msp_schedule.specs.declared.Frac.{Frac}
 use Rattle.msp_schedule.specs.Fraction.{IsOver, IsLowest}
 use Rattle.msp_schedule.specs.Piece.{length_of, pieces_of, IsBefore, IsApart as AreApart}
 use Rattle.msp_schedule.specs.Feasible.{Feasible, HasPlace, HasOperation, MayRun, FollowsRoute, IsWholeWork, GetsWork, total, whole_work, work_of as part_of}
-use Rattle.msp_schedule.specs.Settled.{IsReportedFirst, IsSettled}
+use Rattle.msp_schedule.specs.Settled.{IsSettled}
 use Rattle.msp_schedule.specs.Within.{IsMoment, Within}
 use Rattle.msp_schedule.proofs.OneMachine.{job_of, start, finish, IsTimed, pieces_of-job, IsOneMachine}
 

@@ -3,6 +3,7 @@ pub mod SmithSteps
 pub mod SmithSorted
 pub mod SmithFacts
 pub mod SmithBest
+pub mod SmithInstances
 pub mod Amounts
 pub mod Cuts
 pub mod JobTexts

@@ -11,8 +11,10 @@ use Rattle.msp_class.proofs.Sums.{OnceBelow, OnceBelow-from_permutation, length-
 use Rattle.msp_instance.specs.declared.Arc.{Arc}
 use Rattle.msp_instance.specs.declared.Instance.{Instance}
 use Rattle.msp_instance.specs.Instance.{job_at, no_job}
+use Rattle.msp_instance.specs.Conditions.{Inner}
 use Rattle.msp_schedule.specs.declared.Piece.{Piece}
 use Rattle.msp_schedule.specs.declared.Schedule.{Schedule}
+use Rattle.msp_schedule.specs.declared.Frac.{Frac}
 use Rattle.msp_schedule.specs.declared.Solution.{Solution}
 use Rattle.msp_schedule.specs.Piece.{IsBefore}
 use Rattle.msp_schedule.specs.Feasible.{Feasible}
@@ -22,8 +24,8 @@ use Rattle.msp_schedule.specs.Settled.{IsSettled}
 use Rattle.msp_schedule.specs.Within.{Within}
 use Rattle.msp_schedule.proofs.OneMachine.{job_of, start, finish, IsTimed, IsPlan-from_feasible, weighted_cost}
 use Rattle.msp_schedule.proofs.OneRow.{piece, piece_makes, time_at, row_schedule, row-timed, row-op, row-machine, row_is_feasible, row_is_settled, row_is_within, row_ends, whole_fraction}
-use Rattle.msp_top.specs.Smith.{GoesBefore, IsSmithOrder, IsWholeRow}
-use Rattle.msp_top.proofs.SmithFacts.{IsSmithInstance}
+use Rattle.msp_top.specs.Smith.{smith_class, GoesBefore, IsSmithOrder, IsWholeRow}
+use Rattle.msp_top.proofs.SmithFacts.{IsSmithInstance, IsSmithInstance-from_class}
 
 abbrev weight_at : Instance → ℕ → ℕ
 weight_at i j = (job_at i j).weight
@@ -127,11 +129,15 @@ pub record IsSmithSchedule (i : Instance) (s : Schedule) : Type 0 where
   pub within : Within i s
   pub order : IsSmithOrder i (map job_of s.pieces)
 
-pub made_schedule : (i : Instance) (made : List Piece) (numbers order : List ℕ) → made ≡ row piece (time_at i) 0 numbers → numbers ≡ order → record { unit = pos 1; pieces = made } ≡ row_schedule i order
-made_schedule i made numbers order e f = ap (λ ps. record { unit = pos 1; pieces = ps }) (e ∙ ap (row piece (time_at i) 0) f)
+module _ (i : Instance) (class : i.class ≡ smith_class) (inner : Inner i) (made : List Piece) (numbers order : List ℕ) (o : IsSmithOrder i order) (laid : made ≡ row piece (time_at i) 0 numbers) (same : numbers ≡ order) where
+  facts : IsSmithInstance i
+  facts = IsSmithInstance-from_class i class inner
 
-pub IsSmithSchedule-from_row : (i : Instance) → IsSmithInstance i → (order : List ℕ) → IsSmithOrder i order → (s : Schedule) → s ≡ row_schedule i order → IsSmithSchedule i s
-IsSmithSchedule-from_row i h order o s e = subst (IsSmithSchedule i) (sym e) (record { best = smith_is_best i h order o; settled = smith_is_settled i h order o; within = smith_is_within i h order o; order = smith_in_order i h order o })
+  is_row : record { unit = pos 1; pieces = made } ≡ row_schedule i order
+  is_row = ap (λ ps. record { unit = pos 1; pieces = ps }) (laid ∙ ap (row piece (time_at i) 0) same)
 
-pub IsWholeRow-from_row : (i : Instance) → IsSmithInstance i → (order : List ℕ) → IsSmithOrder i order → (s : Solution) → s.schedule ≡ row_schedule i order → IsOver s.cost (cost_of i s.schedule) s.schedule.unit → IsLowest s.cost → IsWholeRow i s
-IsWholeRow-from_row i h order o s e over low = smith_is_whole i h order o s e (subst (λ x. IsOver s.cost (cost_of i x) x.unit) e over) low
+  pub IsSmithSchedule-made : IsSmithSchedule i (record { unit = pos 1; pieces = made })
+  IsSmithSchedule-made = subst (IsSmithSchedule i) (sym is_row) (record { best = smith_is_best i facts order o; settled = smith_is_settled i facts order o; within = smith_is_within i facts order o; order = smith_in_order i facts order o })
+
+  pub IsWholeRow-made : (f : Frac) → IsOver f (cost_of i (record { unit = pos 1; pieces = made })) (pos 1) → IsLowest f → IsWholeRow i (record { schedule = record { unit = pos 1; pieces = made }; cost = f })
+  IsWholeRow-made f over low = smith_is_whole i facts order o (record { schedule = record { unit = pos 1; pieces = made }; cost = f }) is_row (subst (λ x. IsOver f (cost_of i x) (pos 1)) is_row over) low

@@ -1,4 +1,4 @@
-ghost use Rattle.std.specs.Prelude.{◌≡◌, ℕ, ◌*◌, ◌<◌, ◌≤◌, ◌^◌, ◌⊎◌, length, map, slice_index_or, All, AllPairs, IfOk, IsPermutation};
+ghost use Rattle.std.specs.Prelude.{◌≡◌, ℕ, ◌*◌, ◌<◌, ◌≤◌, ◌^◌, ◌⊎◌, length, map, slice_index_or, All, AllPairs, IfOk, IfSome, IsPermutation};
 ghost use Rattle.std.specs.List.{range_with_len};
 ghost use Rattle.std.specs.Ordering.{nat_cmp, ordering_then};
 ghost use Rattle.msp_instance.specs.Instance.{job_at, need_at, no_need};
@@ -140,4 +140,105 @@ pub fn solve(alloc: Global, inst: &Instance) -> Result<Solution, NoMemory>
     let schedule = Schedule { unit: 1, pieces };
     let cost = msp_schedule::cost(inst, &schedule);
     Ok(Solution { schedule, cost })
+}
+
+#[cfg(test)]
+mod tests {
+    use super::*;
+    use msp_class::{Class, Crit, Env, Order, Times};
+    use msp_instance::{Curve, Need, check};
+
+    fn job(alloc: Global, time: u64, weight: u64) -> Option<Job> {
+        let mut needs = List::new(alloc);
+        if needs.push(Need { machine: 0, time }).is_err() {
+            return None;
+        }
+        Some(Job {
+            release: 0,
+            due: 0,
+            weight,
+            needs,
+            curve: Curve {
+                slope: 0,
+                base: 0,
+                steps: List::new(alloc),
+            },
+        })
+    }
+
+    fn jobs(alloc: Global, loads: &[(u64, u64)]) -> Option<List<Job>> {
+        let mut jobs = List::new(alloc);
+        for (time, weight) in loads {
+            if jobs.push(job(alloc, *time, *weight)?).is_err() {
+                return None;
+            }
+        }
+        Some(jobs)
+    }
+
+    fn instance(alloc: Global, loads: &[(u64, u64)]) -> Option<Instance>
+        ensures { IfSome result (λ i. Inner i × (i.class ≡ smith_class)) }
+    {
+        let inst = Instance {
+            class: Class {
+                env: Env::One,
+                cut: false,
+                order: Order::Free,
+                heads: false,
+                times: Times::General,
+                crit: Crit::SumWC,
+            },
+            machines: 1,
+            speeds: List::new(alloc),
+            jobs: jobs(alloc, loads)?,
+            arcs: List::new(alloc),
+        };
+        match check(&inst) {
+            Ok(()) => Some(inst),
+            Err(_) => None,
+        }
+    }
+
+    /// The best solution where the jobs have these times and weights.
+    fn solution(alloc: Global, loads: &[(u64, u64)]) -> Option<Solution> {
+        let inst = instance(alloc, loads)?;
+        solve(alloc, &inst).ok()
+    }
+
+    fn on_machine(job: u32, from: i128, to: i128) -> Piece {
+        Piece {
+            job,
+            op: 0,
+            machine: 0,
+            from,
+            to,
+        }
+    }
+
+    #[test]
+    fn orders_jobs_by_ratio(rt: HostRuntime) {
+        let best = solution(rt.alloc(), &[(3, 1), (1, 2), (2, 2)]).expect(&rt, "there is memory");
+        let pieces = [
+            on_machine(1, 0, 1),
+            on_machine(2, 1, 3),
+            on_machine(0, 3, 6),
+        ];
+        assert_eq!(rt; best.cost.num, 14);
+        assert_eq!(rt; best.schedule.pieces.as_slice(), pieces.as_slice());
+
+        let best = solution(rt.alloc(), &[(2, 1), (4, 2)]).expect(&rt, "there is memory");
+        let pieces = [on_machine(0, 0, 2), on_machine(1, 2, 6)];
+        assert_eq!(rt; best.cost.num, 14);
+        assert_eq!(rt; best.schedule.pieces.as_slice(), pieces.as_slice());
+
+        let best = solution(rt.alloc(), &[(1, 1)]).expect(&rt, "there is memory");
+        assert_eq!(rt; best.cost.num, 1);
+    }
+
+    #[test]
+    fn solves_the_largest_instance(rt: HostRuntime) {
+        let loads = [(1_000_000_000, 1_000_000_000); 400];
+        let best = solution(rt.alloc(), &loads).expect(&rt, "there is memory");
+        assert_eq!(rt; best.cost.num, 80_200 * 1_000_000_000_000_000_000);
+    }
 }
