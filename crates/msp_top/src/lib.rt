@@ -5,5 +5,3 @@
 
 mod fields;
 mod reader;
-
-pub use reader::{Named, ReadRefusal, read_text};
