@@ -1,5 +1,5 @@
 -- What it means that an instance belongs to its class.
-use Rattle.std.specs.Prelude.{◌≡◌, ◌≢◌, ℕ, ◌+◌, ◌*◌, ◌^◌, ◌<◌, ◌≤◌, Bool, true, false, List, [], ◌∷◌, length, slice_index_or, slice_get, ℤ, pos, neg_ℤ, ◌-ℤ◌, ◌≤ℤ◌, Some, All, AllPairs, Any, Contains, EachIndex, MatchOption, ⊤, count_by, ◌==◌, ◌&&◌}
+use Rattle.std.specs.Prelude.{◌≡◌, ◌≢◌, ℕ, ◌*◌, ◌^◌, ◌<◌, ◌≤◌, Bool, true, false, List, [], length, slice_index_or, slice_get, ℤ, pos, neg_ℤ, ◌-ℤ◌, ◌≤ℤ◌, Some, All, AllPairs, Any, Contains, EachIndex, MatchOption, ⊤, count_by, ◌==◌}
 use Rattle.std.specs.List.{AllAdjacentBelow}
 use Rattle.msp_class.specs.Env.{fixed_machines}
 use Rattle.msp_class.specs.declared.class.Env.{Env}
@@ -11,12 +11,11 @@ use Rattle.msp_class.specs.declared.class.Times.TheVariants.{General, Unit as Un
 use Rattle.msp_class.specs.declared.class.Crit.{Crit}
 use Rattle.msp_class.specs.declared.class.Crit.TheVariants.{Cmax, Lmax, Fmax, SumC, SumWC, SumU, SumWU, SumT, SumWT}
 use Rattle.msp_instance.specs.declared.Need.{Need}
-use Rattle.msp_instance.specs.declared.Step.{Step}
 use Rattle.msp_instance.specs.declared.Curve.{Curve}
 use Rattle.msp_instance.specs.declared.Job.{Job}
 use Rattle.msp_instance.specs.declared.Arc.{Arc}
 use Rattle.msp_instance.specs.declared.Instance.{Instance}
-use Rattle.msp_instance.specs.Instance.{Kind, identical, uniform, unrelated, open_shop, flow_shop, job_shop, kind_of, no_need, no_curve, no_job, job_at}
+use Rattle.msp_instance.specs.Instance.{Kind, identical, uniform, unrelated, open_shop, flow_shop, job_shop, kind_of, no_need, no_curve, job_at}
 
 -- How large the numbers of an instance may be: times, thresholds and adds; release dates; due dates and bases, in size.
 pub record Limits : Type 0 where

@@ -1,2 +1,4 @@
 pub mod Instance
 pub mod Conditions
+pub mod Faults
+pub mod Multiples

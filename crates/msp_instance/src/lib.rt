@@ -1,10 +1,21 @@
 //! Instances of scheduling problems, and what it means that an instance belongs to its class.
 //!
 //! It stands on `msp_class`. The layers above use the definitions `InClass` and `Inner`: an instance meets the conditions of its
-//! class within the limits of texts, or within the wider limits that carried instances keep.
+//! class within the limits of texts, or within the wider limits that carried instances keep. `check` tests the conditions but for
+//! cycles, and `forward` is the rest: it puts the jobs into an order in which every arc goes forward.
 #![tactic(auto)]
 
+mod jobs;
+mod membership;
+mod ranges;
+mod speeds;
+
+pub use membership::{ClassFault, check};
 use msp_class::{Class, List};
+pub use ranges::{
+    GREATEST, GREATEST_MULTIPLE, GREATEST_SPEED, MOST_ARCS, MOST_JOBS, MOST_MACHINES,
+    MOST_OPERATIONS, MOST_STEPS,
+};
 
 /// An operation that a job needs: its machine, from 0, and its processing time.
 ///

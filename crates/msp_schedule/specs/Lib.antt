@@ -4,3 +4,4 @@ pub mod Cost
 pub mod Fraction
 pub mod Within
 pub mod Settled
+pub mod Examples

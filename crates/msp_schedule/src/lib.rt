@@ -6,6 +6,8 @@
 
 ghost use Rattle.std.specs.Prelude.{pos, ◌≤ℤ◌};
 
+#[cfg(test)]
+mod definitions;
 mod fraction;
 mod job_cost;
 mod total_cost;

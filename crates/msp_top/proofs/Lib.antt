@@ -1,3 +1,9 @@
+pub mod Endings
+pub mod SmithOrder
+pub mod SmithSteps
+pub mod SmithSorted
+pub mod SmithFacts
+pub mod SmithBest
 pub mod Amounts
 pub mod Cuts
 pub mod JobTexts

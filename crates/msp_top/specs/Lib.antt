@@ -1,4 +1,9 @@
 pub mod Smith
 pub mod InstanceText
+pub mod Report
+pub mod Run
+pub mod Note
+pub mod Answer
+pub mod Ending
 pub mod Fields
 pub mod Reading

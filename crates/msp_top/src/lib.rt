@@ -5,3 +5,8 @@
 
 mod fields;
 mod reader;
+mod report;
+mod serve;
+mod smith;
+
+pub use serve::run;

@@ -1,0 +1,30 @@
+//! The program `msp`: a few lines over `msp_top`. It gathers the words of the command line, calls `run` on the standard streams, and
+//! ends with its answer.
+#![tactic(auto)]
+
+use msp_io::{StdSink, StdSource, write_all};
+use msp_top::run;
+use std::env;
+use std::io::{self, ErrorKind};
+use std::process::ExitCode;
+
+fn words_of(rt: &HostRuntime) -> io::Result<Vec<String>> {
+    Ok(env::args(rt)?.skip(1).collect(rt.alloc())?)
+}
+
+fn main(rt: HostRuntime) -> ExitCode {
+    let mut source = StdSource::new(rt.stdin());
+    let mut out = StdSink::new(rt.stdout());
+    let mut notes = StdSink::new(rt.stderr());
+    match words_of(&rt) {
+        Ok(words) => ExitCode::from(run(rt.alloc(), &words, &mut source, &mut out, &mut notes)),
+        Err(error) if error.kind() == ErrorKind::OutOfMemory => {
+            let _ = write_all(&mut notes, b"msp: out of memory\n");
+            ExitCode::from(9)
+        }
+        Err(_) => {
+            let _ = write_all(&mut notes, b"msp: usage: words fit no command\n");
+            ExitCode::from(2)
+        }
+    }
+}

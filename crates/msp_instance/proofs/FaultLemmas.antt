@@ -1,0 +1,99 @@
+-- Lemmas on the first fault of an instance.
+use Rattle.std.proofs.Common.{◌≡◌, ◌≢◌, ℕ, ◌<◌, ◌⊎◌, inl, inr, [], ◌∷◌, get_or, take, All, refl, sym, ◌∙◌, subst, arith}
+use Rattle.std.proofs.lemmas.List.{get_or_default, get_or-take, length-take}
+use Rattle.std.proofs.lemmas.Bool.{cases_lt}
+use Rattle.msp_instance.specs.declared.Instance.{Instance}
+use Rattle.msp_instance.specs.declared.membership.ClassFault.{ClassFault}
+use Rattle.msp_instance.specs.declared.membership.ClassFault.TheVariants.{Jobs, Machines, Speeds, Multiple, Need as NeedFault, Unit as UnitFault, Head, Due, Weight, Curve as CurveFault, Arcs, Arc as ArcFault, Degree}
+use Rattle.msp_instance.specs.Instance.{kind_of, no_job}
+use Rattle.msp_instance.specs.Conditions.{text_limits, HasMachines, HasSpeeds, HasSmallMultiple, MeetsConditions}
+use Rattle.msp_instance.specs.Faults.{arc_at, HasJobs, Condition, IsOf, Turn, turn_of, IsSooner, IsFirstFault}
+
+not_later : (s t : Turn) → t.part < s.part → ¬ IsSooner s t
+not_later s t h (inl less) = absurd (omega arith)
+not_later s t h (inr same) = absurd (omega (arith, same.0))
+
+not_itself : (s : Turn) → ¬ IsSooner s s
+not_itself s (inl less) = absurd (omega arith)
+not_itself s (inr (p, inl less)) = absurd (omega arith)
+not_itself s (inr (p, inr (q, less))) = absurd (omega arith)
+
+pub IsFirstFault-multiple : (i : Instance) → HasJobs i → HasMachines i → HasSpeeds (kind_of i.class.env) i.machines i.speeds → ¬ HasSmallMultiple i.speeds → IsFirstFault i Multiple
+IsFirstFault-multiple i jobs machines speeds broken = record { within = tt; broken = broken; first = first }
+  where
+    first : (f : ClassFault) → IsOf i f → IsSooner (turn_of f) (turn_of Multiple) → Condition i f
+    first Jobs w s = jobs
+    first Machines w s = machines
+    first Speeds w s = speeds
+    first Multiple w s = absurd (not_itself (turn_of Multiple) s)
+    first f w s = absurd (not_later (turn_of f) (turn_of Multiple) (omega arith) s)
+
+-- the condition of a fault that an instance without faults has
+pub Condition-from_meets : (i : Instance) (f : ClassFault) → MeetsConditions text_limits i → IsOf i f → Condition i f
+Condition-from_meets i Jobs h w = (h.some, h.few)
+Condition-from_meets i Machines h w = h.machines
+Condition-from_meets i Speeds h w = h.speeds
+Condition-from_meets i Multiple h w = h.multiple
+Condition-from_meets i (NeedFault j) h w = (h.jobs j no_job w).needs
+Condition-from_meets i (UnitFault j) h w = (h.jobs j no_job w).times
+Condition-from_meets i (Head j) h w = (h.jobs j no_job w).release
+Condition-from_meets i (Due j) h w = (h.jobs j no_job w).due
+Condition-from_meets i (Weight j) h w = (h.jobs j no_job w).weight
+Condition-from_meets i (CurveFault j) h w = (h.jobs j no_job w).curve
+Condition-from_meets i Arcs h w = h.arcs
+Condition-from_meets i (ArcFault at) h w = ((h.ends at _ w).0, (h.ends at _ w).1, fresh)
+  where
+    fresh : All (λ a. a ≢ arc_at i at) (take at i.arcs)
+    fresh k d t =
+        let below : k < at = omega (arith, length-take at i.arcs) in
+        subst (λ a. a ≢ arc_at i at) (sym (get_or-take at i.arcs k d below))
+        (subst (λ a. get_or i.arcs k d ≢ a) (get_or_default i.arcs at d _ w) (h.once k at d below w))
+Condition-from_meets i (Degree j) h w = h.degree j w
+
+sooner_or_same : (s t : Turn) → (IsSooner s t ⊎ IsSooner t s) ⊎ ((s.part ≡ t.part) × (s.number ≡ t.number) × (s.step ≡ t.step))
+sooner_or_same s t = elim (cases_order s.part t.part) [
+  | inl (inl h) ↦ inl (inl (inl h))
+  | inl (inr h) ↦ inl (inr (inl h))
+  | inr p ↦ elim (cases_order s.number t.number) [
+    | inl (inl h) ↦ inl (inl (inr (p, inl h)))
+    | inl (inr h) ↦ inl (inr (inr (sym p, inl h)))
+    | inr q ↦ elim (cases_order s.step t.step) [
+      | inl (inl h) ↦ inl (inl (inr (p, inr (q, h))))
+      | inl (inr h) ↦ inl (inr (inr (sym p, inr (sym q, h))))
+      | inr r ↦ inr (p, q, r)
+    ]
+  ]
+]
+  where
+    cases_order : (m n : ℕ) → ((m < n) ⊎ (n < m)) ⊎ (m ≡ n)
+    cases_order m n = elim (cases_lt m n) [
+      | inl h ↦ inl (inl h)
+      | inr h ↦ elim (cases_lt n m) [ inl k ↦ inl (inr k) | inr k ↦ inr (omega arith) ]
+    ]
+
+-- the fault whose turn it is
+abbrev fault_at : ℕ → ℕ → ℕ → ClassFault
+fault_at part j step = get_or (get_or ((Jobs ∷ []) ∷ (Machines ∷ []) ∷ (Speeds ∷ []) ∷ (Multiple ∷ []) ∷ (NeedFault j ∷ UnitFault j ∷ Head j ∷ Due j ∷ Weight j ∷ CurveFault j ∷ []) ∷ (Arcs ∷ []) ∷ (ArcFault j ∷ []) ∷ (Degree j ∷ []) ∷ []) part []) step Jobs
+
+fault_at_turn : (f : ClassFault) → fault_at (turn_of f).part (turn_of f).number (turn_of f).step ≡ f
+fault_at_turn Jobs = refl
+fault_at_turn Machines = refl
+fault_at_turn Speeds = refl
+fault_at_turn Multiple = refl
+fault_at_turn (NeedFault j) = refl
+fault_at_turn (UnitFault j) = refl
+fault_at_turn (Head j) = refl
+fault_at_turn (Due j) = refl
+fault_at_turn (Weight j) = refl
+fault_at_turn (CurveFault j) = refl
+fault_at_turn Arcs = refl
+fault_at_turn (ArcFault at) = refl
+fault_at_turn (Degree j) = refl
+
+-- an instance has at most one first fault
+pub IsFirstFault-unique : (i : Instance) (f g : ClassFault) → IsFirstFault i f → IsFirstFault i g → f ≡ g
+IsFirstFault-unique i f g h k = elim (sooner_or_same (turn_of f) (turn_of g)) [
+  | inl (inl s) ↦ absurd (h.broken (k.first f h.within s))
+  | inl (inr s) ↦ absurd (k.broken (h.first g k.within s))
+  | inr (p, q, r) ↦ sym (fault_at_turn f) ∙ rw (p, q, r) (fault_at_turn g)
+]

@@ -1,0 +1,32 @@
+// The definitions hold where they should, and fail where they should.
+ghost use Rattle.std.specs.Prelude.{◌≡◌, pos};
+ghost use Rattle.msp_schedule.specs.Cost.{cost_of};
+ghost use Rattle.msp_schedule.specs.Feasible.{Feasible};
+ghost use Rattle.msp_schedule.specs.Examples.{Costs, weighted, by_ratio, no_span, no_place, at_once, half_done, parallel, on_both, released, too_early, ordered, backward, flow, second_first};
+
+fn a_schedule_by_ratio_is_feasible()
+    ensures feasible { Feasible weighted by_ratio }
+    ensures cost { cost_of weighted by_ratio ≡ pos 14 }
+{}
+
+fn each_criterion_has_its_cost()
+    ensures { Costs }
+{}
+
+fn each_broken_condition_is_refused()
+    ensures span { ¬ Feasible weighted no_span }
+    ensures place { ¬ Feasible weighted no_place }
+    ensures machine { ¬ Feasible weighted at_once }
+    ensures job { ¬ Feasible parallel on_both }
+    ensures release { ¬ Feasible released too_early }
+    ensures arc { ¬ Feasible ordered backward }
+    ensures route { ¬ Feasible flow second_first }
+    ensures work { ¬ Feasible weighted half_done }
+{}
+
+#[test]
+fn the_definitions_hold_where_they_should() {
+    a_schedule_by_ratio_is_feasible();
+    each_criterion_has_its_cost();
+    each_broken_condition_is_refused();
+}

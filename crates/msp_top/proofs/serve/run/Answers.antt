@@ -1,0 +1,19 @@
+use Rattle.std.proofs.Common.{rules, arith}
+use Rattle.msp_top.proofs.Endings.{serves_refusal, serves_write_fault, serves_due, serves_note}
+use Rattle.msp_top.specs.Note.{note_text}
+use Rattle.msp_top.proofs.serve.run.Goals as goal
+
+pub returns-in-Some-clause-refusal : goal.returns-in-Some-clause-refusal
+returns-in-Some-clause-refusal g c = serves_refusal _ _ _ c.serve-ending.ensures.served
+
+pub returns-in-Some-clause-write_fault : goal.returns-in-Some-clause-write_fault
+returns-in-Some-clause-write_fault g c = serves_write_fault _ _ _ c.serve-ending.ensures.served
+
+pub returns-in-Some-clause-completeness : goal.returns-in-Some-clause-completeness
+returns-in-Some-clause-completeness g c = serves_due _ _ _ c.serve-ending.ensures.served
+
+pub returns-in_default-clause-completeness : goal.returns-in_default-clause-completeness
+returns-in_default-clause-completeness g c = serves_due _ _ _ c.serve-ending.ensures.served
+
+pub returns-in-Some-clause-note : goal.returns-in-Some-clause-note
+returns-in-Some-clause-note g c low = (note_text c.in-Some.note, serves_note _ _ _ _ c.serve-ending.ensures.served c.in-Some.is, c.tell.ensures)
