@@ -13,7 +13,7 @@ use Rattle.msp_top.specs.declared.reader.ReadRefusal.{ReadRefusal}
 use Rattle.msp_top.specs.declared.reader.ReadRefusal.TheVariants.{Unreadable}
 use Rattle.msp_top.specs.Reading.{IsPlainJob, BeginsWithJob, IsJobLines, plain_job, plain_instance}
 use Rattle.msp_top.proofs.Plain.{plain_from_class, IsPlainJob-plain_job, InClass-plain_instance}
-use Rattle.msp_top.proofs.Lines.{time_of, job_content, IsLeft, left, left_of, names_forced, begins_from_line, job_is_no_end, content_from_job}
+use Rattle.msp_top.proofs.Lines.{time_of, job_content, IsLeft, left, left_of, names_forced, begins_from_line, content_from_job}
 
 -- The text is the lines of the jobs so far, and the rest.
 pub record IsReadSoFar (bytes rest : List ℕ) (names : List (List ℕ)) (jobs : List Job) : Type 0 where
@@ -46,15 +46,6 @@ read_next bytes rest names jobs name time weight after h room b =
 -- The jobs of any reading of the text: those so far, and those that are left.
 pub read_left : (bytes rest : List ℕ) (names names' : List (List ℕ)) (jobs jobs' : List Job) → IsReadSoFar bytes rest names jobs → IsJobLines bytes names' jobs' → (n : ℕ) × (length jobs + n ≡ length jobs') × IsLeft rest n
 read_left bytes rest names names' jobs jobs' h k = left_of names jobs rest names' jobs' h.named h.spelled h.plain k.named k.spelled k.plain (sym h.text ∙ k.text)
-
-end_left : (rest : List ℕ) (n : ℕ) → rest ≡ line (codes "end") → IsLeft rest n → n ≡ 0
-end_left rest n e (left [] [] same spelled plain lines count) = sym count
-end_left rest n e (left [] (j ∷ js) same spelled plain lines count) = absurd (omega arith)
-end_left rest n e (left (m ∷ ms) [] same spelled plain lines count) = absurd (omega arith)
-end_left rest n e (left (m ∷ ms) (j ∷ js) same spelled plain lines count) =
-    let after = job_lines ms js ++ line (codes "end") in
-    let begins = begins_from_line m j after (All-head IsJobName m ms spelled) (All-head IsPlainJob j js plain) in
-    absurd (job_is_no_end (job_line m j ++ after) m _ _ after begins (sym (append_assoc (job_line m j) (job_lines ms js) (line (codes "end"))) ∙ sym lines ∙ e))
 
 -- The rest is not the last line, so a job is left, and the rest begins with its line.
 pub data IsNextJob (rest : List ℕ) : Type 0 where
