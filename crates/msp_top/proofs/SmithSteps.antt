@@ -40,9 +40,10 @@ pub each-next : (i : Instance) (new ls : List Load) (x : Load) (jobs : List Job)
     x.job ≡ k → x.time ≡ (slice_index_or j.needs 0 no_need).time → x.weight ≡ w.weight → All (IsLoadOf i) ls → All (IsLoadOf i) new
 each-next i new ls x jobs k j w e same l at at' is time weight so_far =
     let P : List Load → Type 0 = All (IsLoadOf i) in
-    subst P (sym e) (All-push (IsLoadOf i) ls x so_far
-    (time ∙ ap (λ y. (slice_index_or y.needs 0 no_need).time) (read_job i jobs k j same l at) ∙ ap (λ n. (need_at i n 0).time) (sym is),
-     weight ∙ ap (λ y. y.weight) (read_job i jobs k w same l at') ∙ ap (λ n. (job_at i n).weight) (sym is)))
+    subst P (sym e) (All-push (IsLoadOf i) ls x so_far (
+      time ∙ ap (λ y. (slice_index_or y.needs 0 no_need).time) (read_job i jobs k j same l at) ∙ ap (λ n. (need_at i n 0).time) (sym is),
+      weight ∙ ap (λ y. y.weight) (read_job i jobs k w same l at') ∙ ap (λ n. (job_at i n).weight) (sym is),
+    ))
 
 -- the row so far, and the moment at which it ends
 pub laid-next : (i : Instance) (new old : List Piece) (order : List ℕ) (k j moment time : ℕ) (from to : ℤ) →

@@ -8,5 +8,7 @@ mod reader;
 mod report;
 mod serve;
 mod smith;
+#[cfg(test)]
+mod tests;
 
 pub use serve::run;

@@ -11,12 +11,11 @@ ghost use Rattle.msp_schedule.proofs.OneRow.{piece, time_at};
 ghost use Rattle.msp_class.proofs.Rows.{row};
 ghost use Rattle.msp_top.specs.Smith.{smith_class, IsSmithOrder, IsWholeRow};
 
-use std::alloc::Global;
-use std::cmp::Ordering;
-
 use msp_class::{List, NoMemory};
 use msp_instance::{Instance, Job};
 use msp_schedule::{Piece, Schedule, Solution};
+use std::alloc::Global;
+use std::cmp::Ordering;
 
 /// What the rule compares of a job: its number, its time and its weight.
 #[derive(Clone, Copy)]

@@ -12,7 +12,7 @@ returns-in_ok-text-in-Ok c =
       best = c.in_ok-solution-in-Ok.ensures.best;
       lowest = c.in_ok-solution-in-Ok.ensures.lowest;
       settled = c.in_ok-solution-in-Ok.ensures.settled;
-      printed = c.in_ok-text-in-Ok.ensures
+      printed = c.in_ok-text-in-Ok.ensures;
     })
 
 pub returns-in-Err-Unreadable : goal.returns-in-Err-Unreadable
