@@ -2,7 +2,7 @@
 use Rattle.std.proofs.Common.{◌≡◌, ◌≢◌, ℕ, ◌+◌, ◌<◌, ◌≤◌, List, [], ◌∷◌, ◌++◌, length, refl, sym, ◌∙◌, ap, subst, arith, append_assoc, codes, Result, Ok, Err, MatchResult, IfOk, IsErrOf}
 use Rattle.std.specs.List.{All, AllPairs}
 use Rattle.std.proofs.lemmas.List.{append-nil, append_cancel_left, length_push}
-use Rattle.std.proofs.lemmas.List.Elements.{All-nil, All-head, All-push, All-weaker}
+use Rattle.std.proofs.lemmas.List.Elements.{All-head, All-push, All-weaker}
 use Rattle.msp_instance.specs.declared.Job.{Job}
 use Rattle.msp_instance.specs.declared.Instance.{Instance}
 use Rattle.msp_instance.specs.Conditions.{IsJobOf, text_limits}
@@ -13,7 +13,7 @@ use Rattle.msp_top.specs.declared.reader.ReadRefusal.{ReadRefusal}
 use Rattle.msp_top.specs.declared.reader.ReadRefusal.TheVariants.{Unreadable}
 use Rattle.msp_top.specs.Reading.{IsPlainJob, BeginsWithJob, IsJobLines, plain_job, plain_instance}
 use Rattle.msp_top.proofs.Plain.{plain_from_class, IsPlainJob-plain_job, InClass-plain_instance}
-use Rattle.msp_top.proofs.Lines.{time_of, job_content, IsLeft, left, left_of, names_forced, begins_from_line, job_is_no_end, content_from_job}
+use Rattle.msp_top.proofs.Lines.{time_of, job_content, IsLeft, left, left_of, names_forced, begins_from_line, content_from_job}
 
 -- The text is the lines of the jobs so far, and the rest.
 pub record IsReadSoFar (bytes rest : List ℕ) (names : List (List ℕ)) (jobs : List Job) : Type 0 where
@@ -22,9 +22,6 @@ pub record IsReadSoFar (bytes rest : List ℕ) (names : List (List ℕ)) (jobs :
   pub spelled : All IsJobName names
   pub plain : All IsPlainJob jobs
   pub few : length jobs ≤ 400
-
-pub read_start : (bytes : List ℕ) → IsReadSoFar bytes bytes [] []
-read_start bytes = record { text = refl; named = refl; spelled = All-nil IsJobName; plain = All-nil IsPlainJob; few = omega arith }
 
 lines_push : (names : List (List ℕ)) (jobs : List Job) (name : List ℕ) (j : Job) → length names ≡ length jobs → job_lines (names ++ name ∷ []) (jobs ++ j ∷ []) ≡ job_lines names jobs ++ job_line name j
 lines_push [] [] name j same = append-nil (job_line name j)
@@ -46,31 +43,9 @@ read_next bytes rest names jobs name time weight after h room b =
       few = omega (arith, length_push jobs j);
     }
 
--- The last line ends the lines of jobs.
-pub read_end : (bytes rest : List ℕ) (names : List (List ℕ)) (jobs : List Job) → IsReadSoFar bytes rest names jobs → rest ≡ line (codes "end") → 1 ≤ length jobs → IsJobLines bytes names jobs
-read_end bytes rest names jobs h e some = record { text = h.text ∙ ap (λ r. job_lines names jobs ++ r) e; named = h.named; spelled = h.spelled; plain = h.plain; some = some; few = h.few }
-
 -- The jobs of any reading of the text: those so far, and those that are left.
 pub read_left : (bytes rest : List ℕ) (names names' : List (List ℕ)) (jobs jobs' : List Job) → IsReadSoFar bytes rest names jobs → IsJobLines bytes names' jobs' → (n : ℕ) × (length jobs + n ≡ length jobs') × IsLeft rest n
 read_left bytes rest names names' jobs jobs' h k = left_of names jobs rest names' jobs' h.named h.spelled h.plain k.named k.spelled k.plain (sym h.text ∙ k.text)
-
-end_left : (rest : List ℕ) (n : ℕ) → rest ≡ line (codes "end") → IsLeft rest n → n ≡ 0
-end_left rest n e (left [] [] same spelled plain lines count) = sym count
-end_left rest n e (left [] (j ∷ js) same spelled plain lines count) = absurd (omega arith)
-end_left rest n e (left (m ∷ ms) [] same spelled plain lines count) = absurd (omega arith)
-end_left rest n e (left (m ∷ ms) (j ∷ js) same spelled plain lines count) =
-    let after = job_lines ms js ++ line (codes "end") in
-    let begins = begins_from_line m j after (All-head IsJobName m ms spelled) (All-head IsPlainJob j js plain) in
-    absurd (job_is_no_end (job_line m j ++ after) m _ _ after begins (sym (append_assoc (job_line m j) (job_lines ms js) (line (codes "end"))) ∙ sym lines ∙ e))
-
--- Lines without a job are the lines of no jobs.
-pub no_jobs : (bytes rest : List ℕ) (names names' : List (List ℕ)) (jobs jobs' : List Job) → IsReadSoFar bytes rest names jobs → rest ≡ line (codes "end") → length jobs ≡ 0 → IsJobLines bytes names' jobs' → ⊥
-no_jobs bytes rest names names' jobs jobs' h e none k =
-    let more = read_left bytes rest names names' jobs jobs' h k in
-    let zero_left : more.0 ≡ 0 = end_left rest more.0 e more.2 in
-    let some : 1 ≤ length jobs' = k.some in
-    let sum : length jobs + more.0 ≡ length jobs' = more.1 in
-    omega arith
 
 -- The rest is not the last line, so a job is left, and the rest begins with its line.
 pub data IsNextJob (rest : List ℕ) : Type 0 where
@@ -130,16 +105,6 @@ lines_from_text bytes names i h =
 
 head_of_text : (bytes : List ℕ) (names : List (List ℕ)) (i : Instance) → IsInstanceText bytes names i → bytes ≡ codes "msp 1\nclass 1||sumwC\n" ++ (job_lines names i.jobs ++ line (codes "end"))
 head_of_text bytes names i h = h.text
-
--- A text with another head is none of an instance.
-pub no_head : (bytes : List ℕ) → ((rest : List ℕ) → bytes ≢ codes "msp 1\nclass 1||sumwC\n" ++ rest) → (names : List (List ℕ)) (i : Instance) → IsInstanceText bytes names i → ⊥
-no_head bytes none names i h = none _ (head_of_text bytes names i h)
-
--- A text whose lines are those of no jobs is none of an instance.
-pub no_lines : (bytes rest : List ℕ) → bytes ≡ codes "msp 1\nclass 1||sumwC\n" ++ rest → ((names : List (List ℕ)) (jobs : List Job) → IsJobLines rest names jobs → ⊥) → (names : List (List ℕ)) (i : Instance) → IsInstanceText bytes names i → ⊥
-no_lines bytes rest e none names i h =
-    let rests : rest ≡ job_lines names i.jobs ++ line (codes "end") = append_cancel_left (codes "msp 1\nclass 1||sumwC\n") rest _ (sym e ∙ head_of_text bytes names i h) in
-    none names i.jobs (subst (λ (b : List ℕ). IsJobLines b names i.jobs) (sym rests) (lines_from_text bytes names i h))
 
 -- A text in whose lines a name stands twice is none of an instance.
 pub no_names : (bytes rest : List ℕ) (names : List (List ℕ)) (jobs : List Job) → bytes ≡ codes "msp 1\nclass 1||sumwC\n" ++ rest → IsJobLines rest names jobs → (AllPairs (λ m n. m ≢ n) names → ⊥) → (names' : List (List ℕ)) (i : Instance) → IsInstanceText bytes names' i → ⊥
