@@ -12,7 +12,7 @@ const REPORT: &[u8] =
 /// What a call is run on: the words, the input, and the calls of the source and of the sinks that fail.
 #[derive(Clone, Copy)]
 struct Trial<'a> {
-    word: &'a str,
+    words: &'a [&'a str],
     text: &'a [u8],
     read_fails: u64,
     write_fails: u64,
@@ -30,7 +30,7 @@ struct Seen {
 
 fn solving(text: &[u8]) -> Trial<'_> {
     Trial {
-        word: "solve",
+        words: &["solve"],
         text,
         read_fails: 0,
         write_fails: 0,
@@ -39,11 +39,18 @@ fn solving(text: &[u8]) -> Trial<'_> {
     }
 }
 
+fn labelling<'a>(words: &'a [&'a str], text: &'a [u8]) -> Trial<'a> {
+    Trial {
+        words,
+        ..solving(text)
+    }
+}
+
 /// Runs a call with steps of 10 bytes. A number of 0 is the number of no call.
 fn outcome(alloc: Global, trial: &Trial<'_>) -> Result<Seen, Fail> {
     let mut words = Vec::new(alloc);
-    if !trial.word.is_empty() {
-        words.push(String::from_str(alloc, trial.word)?)?;
+    for word in trial.words {
+        words.push(String::from_str(alloc, word)?)?;
     }
     let mut source = MemorySource::new(
         trial.text.to_vec(alloc)?,
@@ -99,7 +106,7 @@ fn solves_small_instances(rt: HostRuntime) -> Result<(), Fail> {
 #[test]
 fn refuses_words_and_texts(rt: HostRuntime) -> Result<(), Fail> {
     let no_words = Trial {
-        word: "",
+        words: &[],
         ..solving(TEXT)
     };
     assert!(rt;
@@ -112,7 +119,7 @@ fn refuses_words_and_texts(rt: HostRuntime) -> Result<(), Fail> {
         )?
     );
     let unknown = Trial {
-        word: "solved",
+        words: &["solved"],
         ..solving(TEXT)
     };
     assert!(rt;
@@ -211,5 +218,96 @@ fn one_byte_too_many(rt: HostRuntime) -> Result<(), Fail> {
     let status = run(rt.alloc(), &words, &mut source, &mut out, &mut notes);
     assert_eq!(rt; status, 4);
     assert_eq!(rt; notes.bytes(), b"msp: more than 4194304 bytes\n".as_slice());
+    Ok(())
+}
+
+#[test]
+fn labels_say_a_clash(rt: HostRuntime) -> Result<(), Fail> {
+    assert!(rt;
+        gives(
+            rt.alloc(),
+            &labelling(
+                &["label", "1|r|Cmax", "1||Lmax", "1||Cmax"],
+                b"class,verdict,source\n1||Lmax,easy,Jackson 1955\n1|r|Cmax,hard,for the test\n"
+            ),
+            1,
+            b"1|r|Cmax both\n1||Lmax both\n1||Cmax easy\nclash\nstart 1|r|Cmax\nrow 47 1||Lmax\nend\n",
+            b""
+        )?
+    );
+    Ok(())
+}
+
+#[test]
+fn labels_of_no_results(rt: HostRuntime) -> Result<(), Fail> {
+    let seen = outcome(
+        rt.alloc(),
+        &labelling(&["label"], b"class,verdict,source\n"),
+    )?;
+    assert_eq!(rt; seen.status, 0);
+    assert_eq!(rt; seen.out.iter().filter(|b| **b == b'\n').count(), 6481);
+    assert!(rt; seen.out.starts_with(b"1||Cmax open\n"));
+    assert!(rt; seen.out.ends_with(b"\nJ|pmtn,prec,r,p=1|sumwT open\nend\n"));
+    assert!(rt;
+        gives(
+            rt.alloc(),
+            &labelling(&["label", "1|p=1|Cmax"], b"class,verdict,source\n"),
+            0,
+            b"1|p=1|Cmax open\nend\n",
+            b""
+        )?
+    );
+    Ok(())
+}
+
+#[test]
+fn refuses_names_and_results(rt: HostRuntime) -> Result<(), Fail> {
+    let header = b"class,verdict,source\n".as_slice();
+    assert!(rt;
+        gives(
+            rt.alloc(),
+            &labelling(&["label", "1|chains,prec|Cmax"], header),
+            2,
+            b"",
+            b"msp: usage: word 2: name: item does not fit at 9\n"
+        )?
+    );
+    assert!(rt;
+        gives(
+            rt.alloc(),
+            &labelling(&["label"], b""),
+            3,
+            b"",
+            b"msp: header\n"
+        )?
+    );
+    for (entry, note) in [
+        (
+            b"P||Cmax,maybe,x\n".as_slice(),
+            b"msp: record 1: verdict\n".as_slice(),
+        ),
+        (
+            b"1||Emax,easy,x\n",
+            b"msp: record 1: name: criterion at 3\n",
+        ),
+        (b"1||Cmax,easy\n", b"msp: record 1: width\n"),
+    ] {
+        let mut text = header.to_vec(rt.alloc())?;
+        text.extend_from_slice(entry)?;
+        assert!(rt; gives(rt.alloc(), &labelling(&["label"], &text), 3, b"", note)?);
+    }
+    let mut long = b"class,verdict,source\n1||Cmax,easy,".to_vec(rt.alloc())?;
+    let full = long.len() + 201;
+    long.resize(full, b'x')?;
+    long.push(b'\n')?;
+    assert!(rt;
+        gives(
+            rt.alloc(),
+            &labelling(&["label"], &long),
+            4,
+            b"",
+            b"msp: record 1: limit of source\n"
+        )?
+    );
     Ok(())
 }
