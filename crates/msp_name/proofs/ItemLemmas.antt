@@ -1,0 +1,197 @@
+-- One item more: what the class has then, and when the item fits.
+use Rattle.std.proofs.Common.{◌≡◌, refl, sym, ap, subst, Bool, true, false, cond, ◌||◌, ◌⊎◌, inl, inr, Option, Some, None}
+use Rattle.msp_class.specs.declared.class.Class.{Class}
+use Rattle.msp_class.specs.declared.class.Env.{Env}
+use Rattle.msp_class.specs.declared.class.Env.TheVariants as e
+use Rattle.msp_class.specs.declared.class.Order.{Order}
+use Rattle.msp_class.specs.declared.class.Order.TheVariants as o
+use Rattle.msp_class.specs.declared.class.Times.{Times}
+use Rattle.msp_class.specs.declared.class.Times.TheVariants as t
+use Rattle.msp_name.specs.declared.words.Item.{Item}
+use Rattle.msp_name.specs.declared.words.Item.TheVariants as i
+use Rattle.msp_name.specs.Items.{has_item, plain_env, item_eq, order_eq, is_unit, is_short, with_item}
+
+-- `d` has the item `x` and those of `s`, and else is as `s`
+pub record Gains (s : Class) (x : Item) (d : Class) : Type 0 where
+  pub items : (y : Item) → has_item d y ≡ (item_eq x y || has_item s y)
+  pub env : plain_env d.env ≡ plain_env s.env
+  pub crit : d.crit ≡ s.crit
+
+Gains-at : (x : Item) (s s' d d' : Class) → s ≡ s' → d ≡ d' → Gains s x d → Gains s' x d'
+Gains-at x s s' d d' e f g =
+    let P : Class → Type 0 = λ v. Gains s' x v in
+    let Q : Class → Type 0 = λ v. Gains v x d in
+    subst P f (subst Q e g)
+
+Gains-cut : (s : Class) → Gains s i.Cut (record s { cut = true })
+Gains-cut s = record { items = λ y. elim y as (λ y. has_item (record s { cut = true }) y ≡ (item_eq i.Cut y || has_item s y)) [ i.Cut ↦ refl | _ ↦ refl ]; env = refl; crit = refl }
+
+Gains-heads : (s : Class) → Gains s i.Heads (record s { heads = true })
+Gains-heads s = record { items = λ y. elim y as (λ y. has_item (record s { heads = true }) y ≡ (item_eq i.Heads y || has_item s y)) [ i.Cut ↦ refl | _ ↦ refl ]; env = refl; crit = refl }
+
+Gains-unit : (s : Class) → Gains s i.Unit (record s { times = t.Unit })
+Gains-unit s = record { items = λ y. elim y as (λ y. has_item (record s { times = t.Unit }) y ≡ (item_eq i.Unit y || has_item s y)) [ i.Cut ↦ refl | _ ↦ refl ]; env = refl; crit = refl }
+
+Gains-chains : (s : Class) → Gains (record s { order = o.Free }) i.Chains (record s { order = o.Chains })
+Gains-chains s = record { items = λ y. elim y as (λ y. has_item (record s { order = o.Chains }) y ≡ (item_eq i.Chains y || has_item (record s { order = o.Free }) y)) [ i.Cut ↦ refl | _ ↦ refl ]; env = refl; crit = refl }
+
+Gains-intree : (s : Class) → Gains (record s { order = o.Free }) i.Intree (record s { order = o.Intree })
+Gains-intree s = record { items = λ y. elim y as (λ y. has_item (record s { order = o.Intree }) y ≡ (item_eq i.Intree y || has_item (record s { order = o.Free }) y)) [ i.Cut ↦ refl | _ ↦ refl ]; env = refl; crit = refl }
+
+Gains-outtree : (s : Class) → Gains (record s { order = o.Free }) i.Outtree (record s { order = o.Outtree })
+Gains-outtree s = record { items = λ y. elim y as (λ y. has_item (record s { order = o.Outtree }) y ≡ (item_eq i.Outtree y || has_item (record s { order = o.Free }) y)) [ i.Cut ↦ refl | _ ↦ refl ]; env = refl; crit = refl }
+
+Gains-prec : (s : Class) → Gains (record s { order = o.Free }) i.Prec (record s { order = o.Prec })
+Gains-prec s = record { items = λ y. elim y as (λ y. has_item (record s { order = o.Prec }) y ≡ (item_eq i.Prec y || has_item (record s { order = o.Free }) y)) [ i.Cut ↦ refl | _ ↦ refl ]; env = refl; crit = refl }
+
+Gains-J2 : (s : Class) → Gains (record s { env = e.J2 }) i.Short (record s { env = e.J2Short })
+Gains-J2 s = record { items = λ y. elim y as (λ y. has_item (record s { env = e.J2Short }) y ≡ (item_eq i.Short y || has_item (record s { env = e.J2 }) y)) [ i.Cut ↦ refl | _ ↦ refl ]; env = refl; crit = refl }
+
+Gains-J : (s : Class) → Gains (record s { env = e.J }) i.Short (record s { env = e.JShort })
+Gains-J s = record { items = λ y. elim y as (λ y. has_item (record s { env = e.JShort }) y ≡ (item_eq i.Short y || has_item (record s { env = e.J }) y)) [ i.Cut ↦ refl | _ ↦ refl ]; env = refl; crit = refl }
+
+with_order-some : (p : Order) (r d : Class) → elim p as (λ _. Option Class) [ o.Free ↦ Some r | _ ↦ None ] ≡ Some d → (p ≡ o.Free) × (r ≡ d)
+with_order-some o.Free r d h = (refl, cc)
+with_order-some o.Chains r d h = cc
+with_order-some o.Intree r d h = cc
+with_order-some o.Outtree r d h = cc
+with_order-some o.Prec r d h = cc
+
+with_short-some : (x : Env) (r q d : Class) → elim x as (λ _. Option Class) [ e.J2 ↦ Some r | e.J ↦ Some q | _ ↦ None ] ≡ Some d → ((x ≡ e.J2) × (r ≡ d)) ⊎ ((x ≡ e.J) × (q ≡ d))
+with_short-some e.J2 r q d h = inl (refl, cc)
+with_short-some e.J r q d h = inr (refl, cc)
+with_short-some _ r q d h = cc
+
+free : (s : Class) (p : Order) → s.order ≡ p → record s { order = p } ≡ s
+free s p h = sym (ap (λ q. record s { order = q }) h)
+
+plain : (s : Class) (x : Env) → s.env ≡ x → record s { env = x } ≡ s
+plain s x h = sym (ap (λ q. record s { env = q }) h)
+
+-- a class with one item more
+pub Gains-with : (s : Class) (x : Item) (d : Class) → with_item s x ≡ Some d → Gains s x d
+Gains-with s i.Cut d h = let k : record s { cut = true } ≡ d = cc in Gains-at _ s s _ d refl k (Gains-cut s)
+Gains-with s i.Chains d h = let f = with_order-some s.order _ d h in Gains-at _ _ s _ d (free s o.Free f.0) f.1 (Gains-chains s)
+Gains-with s i.Intree d h = let f = with_order-some s.order _ d h in Gains-at _ _ s _ d (free s o.Free f.0) f.1 (Gains-intree s)
+Gains-with s i.Outtree d h = let f = with_order-some s.order _ d h in Gains-at _ _ s _ d (free s o.Free f.0) f.1 (Gains-outtree s)
+Gains-with s i.Prec d h = let f = with_order-some s.order _ d h in Gains-at _ _ s _ d (free s o.Free f.0) f.1 (Gains-prec s)
+Gains-with s i.Heads d h = let k : record s { heads = true } ≡ d = cc in Gains-at _ s s _ d refl k (Gains-heads s)
+Gains-with s i.Unit d h = let k : record s { times = t.Unit } ≡ d = cc in Gains-at _ s s _ d refl k (Gains-unit s)
+Gains-with s i.Short d h = elim (with_short-some s.env _ _ d h) [ inl f ↦ Gains-at _ _ s _ d (plain s e.J2 f.0) f.1 (Gains-J2 s) | inr f ↦ Gains-at _ _ s _ d (plain s e.J f.0) f.1 (Gains-J s) ]
+
+order_eq-same : (p q : Order) → order_eq p q ≡ true → p ≡ q
+order_eq-same o.Free o.Free h = refl
+order_eq-same o.Chains o.Chains h = refl
+order_eq-same o.Intree o.Intree h = refl
+order_eq-same o.Outtree o.Outtree h = refl
+order_eq-same o.Prec o.Prec h = refl
+order_eq-same _ _ h = cc
+
+-- the items of `s` are items of `c`
+pub record Within (s c : Class) : Type 0 where
+  pub items : (y : Item) → has_item s y ≡ true → has_item c y ≡ true
+  pub env : plain_env s.env ≡ plain_env c.env
+
+is_free : (x : Order) (s c : Class) → Within s c → order_eq c.order x ≡ true → order_eq s.order x ≡ false → (p : Order) → s.order ≡ p → p ≡ o.Free
+is_free x s c w h k o.Free m = refl
+is_free x s c w h k o.Chains m =
+    let q : order_eq s.order o.Chains ≡ true = rw m refl in
+    let r : c.order ≡ o.Chains = order_eq-same _ _ (w.items i.Chains q) in
+    let u : c.order ≡ x = order_eq-same _ _ h in
+    let z : x ≡ o.Chains = cc in
+    let y : order_eq s.order o.Chains ≡ false = rw z at k in cc
+is_free x s c w h k o.Intree m =
+    let q : order_eq s.order o.Intree ≡ true = rw m refl in
+    let r : c.order ≡ o.Intree = order_eq-same _ _ (w.items i.Intree q) in
+    let u : c.order ≡ x = order_eq-same _ _ h in
+    let z : x ≡ o.Intree = cc in
+    let y : order_eq s.order o.Intree ≡ false = rw z at k in cc
+is_free x s c w h k o.Outtree m =
+    let q : order_eq s.order o.Outtree ≡ true = rw m refl in
+    let r : c.order ≡ o.Outtree = order_eq-same _ _ (w.items i.Outtree q) in
+    let u : c.order ≡ x = order_eq-same _ _ h in
+    let z : x ≡ o.Outtree = cc in
+    let y : order_eq s.order o.Outtree ≡ false = rw z at k in cc
+is_free x s c w h k o.Prec m =
+    let q : order_eq s.order o.Prec ≡ true = rw m refl in
+    let r : c.order ≡ o.Prec = order_eq-same _ _ (w.items i.Prec q) in
+    let u : c.order ≡ x = order_eq-same _ _ h in
+    let z : x ≡ o.Prec = cc in
+    let y : order_eq s.order o.Prec ≡ false = rw z at k in cc
+
+-- `s` has room for the item
+abbrev pub Fits : Class → Item → Type 0
+Fits s x = (d : Class) × (with_item s x ≡ Some d)
+
+fits_order : (s : Class) (r : Class) (p : Order) → p ≡ o.Free → (d : Class) × (elim p as (λ _. Option Class) [ o.Free ↦ Some r | _ ↦ None ] ≡ Some d)
+fits_order s r p h = rw h (r, refl)
+
+short_of : (x y : Env) (r q : Class) → plain_env x ≡ plain_env y → is_short y ≡ true → is_short x ≡ false → (d : Class) × (elim x as (λ _. Option Class) [ e.J2 ↦ Some r | e.J ↦ Some q | _ ↦ None ] ≡ Some d)
+short_of e.J2 y r q h k m = (r, refl)
+short_of e.J y r q h k m = (q, refl)
+short_of e.J2Short y r q h k m = cc
+short_of e.JShort y r q h k m = cc
+short_of x e.J2Short r q h k m = cc
+short_of x e.JShort r q h k m = cc
+short_of _ _ r q h k m = cc
+
+-- an item of the class that `s` lacks fits
+pub fits_within : (s c : Class) (x : Item) → Within s c → has_item c x ≡ true → has_item s x ≡ false → Fits s x
+fits_within s c i.Cut w h k = (record s { cut = true }, refl)
+fits_within s c i.Chains w h k = fits_order s _ s.order (is_free o.Chains s c w h k s.order refl)
+fits_within s c i.Intree w h k = fits_order s _ s.order (is_free o.Intree s c w h k s.order refl)
+fits_within s c i.Outtree w h k = fits_order s _ s.order (is_free o.Outtree s c w h k s.order refl)
+fits_within s c i.Prec w h k = fits_order s _ s.order (is_free o.Prec s c w h k s.order refl)
+fits_within s c i.Heads w h k = (record s { heads = true }, refl)
+fits_within s c i.Unit w h k = (record s { times = t.Unit }, refl)
+fits_within s c i.Short w h k = short_of s.env c.env _ _ w.env h k
+
+order_from : Bool → Bool → Bool → Bool → Order
+order_from a b c d = cond a o.Chains (cond b o.Intree (cond c o.Outtree (cond d o.Prec o.Free)))
+
+order_back : (p : Order) → order_from (order_eq p o.Chains) (order_eq p o.Intree) (order_eq p o.Outtree) (order_eq p o.Prec) ≡ p
+unfolding order_from
+order_back o.Free = refl
+order_back o.Chains = refl
+order_back o.Intree = refl
+order_back o.Outtree = refl
+order_back o.Prec = refl
+
+times_from : Bool → Times
+times_from a = cond a t.Unit t.General
+
+times_back : (p : Times) → times_from (is_unit p) ≡ p
+unfolding times_from
+times_back t.General = refl
+times_back t.Unit = refl
+
+env_from : Bool → Env → Env
+env_from true e.J2 = e.J2Short
+env_from true e.J = e.JShort
+env_from _ x = x
+
+env_back : (p : Env) → env_from (is_short p) (plain_env p) ≡ p
+unfolding env_from
+env_back e.J2Short = refl
+env_back e.JShort = refl
+env_back _ = refl
+
+class_eq : (s c : Class) → s.env ≡ c.env → s.cut ≡ c.cut → s.order ≡ c.order → s.heads ≡ c.heads → s.times ≡ c.times → s.crit ≡ c.crit → s ≡ c
+class_eq s c a b d f g h = λ j. record { env = a j; cut = b j; order = d j; heads = f j; times = g j; crit = h j }
+
+-- a class is given by its plain environment, its items and its criterion
+pub class_same : (s c : Class) → ((y : Item) → has_item c y ≡ has_item s y) → plain_env s.env ≡ plain_env c.env → s.crit ≡ c.crit → s ≡ c
+class_same s c h m k =
+    let chains : order_eq c.order o.Chains ≡ order_eq s.order o.Chains = h i.Chains in
+    let intree : order_eq c.order o.Intree ≡ order_eq s.order o.Intree = h i.Intree in
+    let outtree : order_eq c.order o.Outtree ≡ order_eq s.order o.Outtree = h i.Outtree in
+    let prec : order_eq c.order o.Prec ≡ order_eq s.order o.Prec = h i.Prec in
+    let short : is_short c.env ≡ is_short s.env = h i.Short in
+    let unit : is_unit c.times ≡ is_unit s.times = h i.Unit in
+    let os = order_back s.order in
+    let oc = order_back c.order in
+    let es = env_back s.env in
+    let ec = env_back c.env in
+    let ts = times_back s.times in
+    let tc = times_back c.times in
+    class_eq s c (cc) (sym (h i.Cut)) (cc) (sym (h i.Heads)) (cc) k

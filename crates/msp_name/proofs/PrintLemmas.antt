@@ -1,0 +1,244 @@
+-- The canonical name: how its items are put one by one, its length, and that it is a name.
+use Rattle.std.proofs.Common.{◌≡◌, ℕ, ◌≤◌, List, [], ◌∷◌, ◌++◌, length, map, refl, sym, ap, ◌∙◌, Bool, true, false, ◌||◌, ◌&&◌, not, Some, append_assoc, append-nil, lit≤, leb, bytes_eq, Contains, All, codes, length-append, arith}
+use Rattle.std.specs.List.{join_with_byte, IsDistinct, AllByRecursion}
+use Rattle.std.specs.Cmp.Lexicographic.{pointwise}
+use Rattle.std.proofs.lemmas.Bool.{leb-true}
+use Rattle.std.proofs.lemmas.Slice.Eq.{bytes_eq-Decides, slice_eq-Decides}
+use Rattle.std.proofs.lemmas.List.Elements.{All-nil, All-cons, All-append}
+use Rattle.msp_class.specs.declared.class.Class.{Class}
+use Rattle.msp_class.specs.declared.class.Env.{Env}
+use Rattle.msp_class.specs.declared.class.Env.TheVariants as e
+use Rattle.msp_class.specs.declared.class.Order.{Order}
+use Rattle.msp_class.specs.declared.class.Order.TheVariants as o
+use Rattle.msp_class.specs.declared.class.Crit.{Crit}
+use Rattle.msp_class.specs.declared.class.Crit.TheVariants as k
+use Rattle.msp_name.specs.declared.words.Item.{Item}
+use Rattle.msp_name.specs.declared.words.Item.TheVariants as i
+use Rattle.msp_name.specs.Spellings.{env_texts, item_texts, crit_texts}
+use Rattle.msp_name.specs.Items.{has_item, is_unit, is_short, order_eq, plain_env, item_eq}
+use Rattle.msp_name.specs.Names.{bar, comma, text_if, env_text, order_text, crit_text, item_texts_of, name_of, NameOf, among}
+use Rattle.msp_name.specs.Printing.{following}
+use Rattle.msp_name.specs.Reading.{spelled}
+use Rattle.msp_name.proofs.TableLemmas.{spelled-some}
+
+following-again : (w : List ℕ) (ws : List (List ℕ)) → w ++ following true ws ≡ join_with_byte comma (w ∷ ws)
+following-again w [] = append-nil w
+following-again w (v ∷ ws) = ap (λ t. w ++ (comma ∷ t)) (following-again v ws)
+
+following-join : (ws : List (List ℕ)) → following false ws ≡ join_with_byte comma ws
+following-join [] = refl
+following-join (w ∷ ws) = following-again w ws
+
+following-if : (p b : Bool) (w : List ℕ) (ws : List (List ℕ)) → following p (text_if b w ++ ws) ≡ following p (text_if b w) ++ following (p || b) ws
+following-if true true w ws = ap (λ t. comma ∷ (t ++ following true ws)) (sym (append-nil w))
+following-if true false w ws = refl
+following-if false true w ws = ap (λ t. t ++ following true ws) (sym (append-nil w))
+following-if false false w ws = refl
+
+step : (out : List ℕ) (p b : Bool) (w : List ℕ) (ws : List (List ℕ)) → out ++ following p (text_if b w ++ ws) ≡ (out ++ following p (text_if b w)) ++ following (p || b) ws
+step out p b w ws = ap (λ t. out ++ t) (following-if p b w ws) ∙ sym (append_assoc out _ _)
+
+-- five items put one by one
+pub five_items : (out : List ℕ) (a b d f g : Bool) (u v w x y : List ℕ) →
+    ((((out ++ following false (text_if a u)) ++ following (false || a) (text_if b v)) ++ following ((false || a) || b) (text_if d w)) ++ following (((false || a) || b) || d) (text_if f x)) ++ following ((((false || a) || b) || d) || f) (text_if g y)
+    ≡ out ++ join_with_byte comma (text_if a u ++ (text_if b v ++ (text_if d w ++ (text_if f x ++ text_if g y))))
+five_items out a b d f g u v w x y = sym (
+    ap (λ t. out ++ t) (sym (following-join (text_if a u ++ (text_if b v ++ (text_if d w ++ (text_if f x ++ text_if g y))))))
+    ∙ step out false a u _
+    ∙ step _ (false || a) b v _
+    ∙ step _ ((false || a) || b) d w _
+    ∙ step _ (((false || a) || b) || d) f x _)
+
+row_if : Bool → (List ℕ × Item) → List (List ℕ × Item)
+row_if true r = r ∷ []
+row_if false r = []
+
+order_row : Order → List (List ℕ × Item)
+order_row o.Free = []
+order_row o.Chains = (codes "chains", i.Chains) ∷ []
+order_row o.Intree = (codes "intree", i.Intree) ∷ []
+order_row o.Outtree = (codes "outtree", i.Outtree) ∷ []
+order_row o.Prec = (codes "prec", i.Prec) ∷ []
+
+-- the items by what the class says of each part
+rows : Bool → Order → Bool → Bool → Bool → List (List ℕ × Item)
+rows a p h u s = row_if a (codes "pmtn", i.Cut) ++ (order_row p ++ (row_if h (codes "r", i.Heads) ++ (row_if u (codes "p=1", i.Unit) ++ row_if s (codes "n<=2", i.Short))))
+
+texts : Bool → Order → Bool → Bool → Bool → List (List ℕ)
+texts a p h u s = text_if a (codes "pmtn") ++ (text_if (not (order_eq p o.Free)) (order_text p) ++ (text_if h (codes "r") ++ (text_if u (codes "p=1") ++ text_if s (codes "n<=2"))))
+
+and_true : (a b : Bool) → (a && b) ≡ true → (a ≡ true) × (b ≡ true)
+and_true true b h = (refl, h)
+and_true false b h = cc
+
+-- a test at each value
+all_bools : (Bool → Bool) → Bool
+all_bools f = f true && f false
+
+all_bools-at : (f : Bool → Bool) → all_bools f ≡ true → (b : Bool) → f b ≡ true
+unfolding all_bools
+all_bools-at f h true = (and_true (f true) (f false) h).0
+all_bools-at f h false = (and_true (f true) (f false) h).1
+
+all_orders : (Order → Bool) → Bool
+all_orders f = (f o.Free && f o.Chains) && (f o.Intree && (f o.Outtree && f o.Prec))
+
+all_orders-at : (f : Order → Bool) → all_orders f ≡ true → (p : Order) → f p ≡ true
+unfolding all_orders
+all_orders-at f h p =
+    let x = and_true (f o.Free && f o.Chains) (f o.Intree && (f o.Outtree && f o.Prec)) h in
+    let y = and_true (f o.Free) (f o.Chains) x.0 in
+    let z = and_true (f o.Intree) (f o.Outtree && f o.Prec) x.1 in
+    let w = and_true (f o.Outtree) (f o.Prec) z.1 in
+    elim p as (λ p. f p ≡ true) [ o.Free ↦ y.0 | o.Chains ↦ y.1 | o.Intree ↦ z.0 | o.Outtree ↦ w.0 | o.Prec ↦ w.1 ]
+
+every : (Bool → Order → Bool → Bool → Bool → Bool) → Bool
+every f = all_bools (λ a. all_orders (λ p. all_bools (λ h. all_bools (λ u. all_bools (λ s. f a p h u s)))))
+
+every-at : (f : Bool → Order → Bool → Bool → Bool → Bool) → every f ≡ true → (a : Bool) (p : Order) (h u s : Bool) → f a p h u s ≡ true
+unfolding every
+every-at f t a p h u s = all_bools-at _ (all_bools-at _ (all_bools-at _ (all_orders-at _ (all_bools-at _ t a) p) h) u) s
+
+rows-texts : (a : Bool) (p : Order) (h u s : Bool) → map (λ w. w.0) (rows a p h u s) ≡ texts a p h u s
+unfolding rows texts row_if order_row every all_bools all_orders
+rows-texts a p h u s = (slice_eq-Decides bytes_eq-Decides _ _ _ refl).0 (every-at (λ a p h u s. pointwise bytes_eq (map (λ w. w.0) (rows a p h u s)) (texts a p h u s)) refl a p h u s)
+
+texts-short : (a : Bool) (p : Order) (h u s : Bool) → length (join_with_byte comma (texts a p h u s)) ≤ 23
+unfolding texts every all_bools all_orders
+texts-short a p h u s = leb-true _ _ (every-at (λ a p h u s. leb (length (join_with_byte comma (texts a p h u s))) 23) refl a p h u s)
+
+has : Bool → Order → Bool → Bool → Bool → Item → Bool
+has a p h u s i.Cut = a
+has a p h u s i.Chains = order_eq p o.Chains
+has a p h u s i.Intree = order_eq p o.Intree
+has a p h u s i.Outtree = order_eq p o.Outtree
+has a p h u s i.Prec = order_eq p o.Prec
+has a p h u s i.Heads = h
+has a p h u s i.Unit = u
+has a p h u s i.Short = s
+
+same : Bool → Bool → Bool
+same true b = b
+same false b = not b
+
+same-is : (a b : Bool) → same a b ≡ true → a ≡ b
+unfolding same
+same-is true b h = sym h
+same-is false true h = cc
+same-is false false h = refl
+
+rows-exact : (y : Item) (a : Bool) (p : Order) (h u s : Bool) → has a p h u s y ≡ among (map (λ w. w.1) (rows a p h u s)) y
+unfolding has rows row_if order_row every all_bools all_orders same
+rows-exact i.Cut a p h u s = same-is _ _ (every-at (λ a p h u s. same (has a p h u s i.Cut) (among (map (λ w. w.1) (rows a p h u s)) i.Cut)) refl a p h u s)
+rows-exact i.Chains a p h u s = same-is _ _ (every-at (λ a p h u s. same (has a p h u s i.Chains) (among (map (λ w. w.1) (rows a p h u s)) i.Chains)) refl a p h u s)
+rows-exact i.Intree a p h u s = same-is _ _ (every-at (λ a p h u s. same (has a p h u s i.Intree) (among (map (λ w. w.1) (rows a p h u s)) i.Intree)) refl a p h u s)
+rows-exact i.Outtree a p h u s = same-is _ _ (every-at (λ a p h u s. same (has a p h u s i.Outtree) (among (map (λ w. w.1) (rows a p h u s)) i.Outtree)) refl a p h u s)
+rows-exact i.Prec a p h u s = same-is _ _ (every-at (λ a p h u s. same (has a p h u s i.Prec) (among (map (λ w. w.1) (rows a p h u s)) i.Prec)) refl a p h u s)
+rows-exact i.Heads a p h u s = same-is _ _ (every-at (λ a p h u s. same (has a p h u s i.Heads) (among (map (λ w. w.1) (rows a p h u s)) i.Heads)) refl a p h u s)
+rows-exact i.Unit a p h u s = same-is _ _ (every-at (λ a p h u s. same (has a p h u s i.Unit) (among (map (λ w. w.1) (rows a p h u s)) i.Unit)) refl a p h u s)
+rows-exact i.Short a p h u s = same-is _ _ (every-at (λ a p h u s. same (has a p h u s i.Short) (among (map (λ w. w.1) (rows a p h u s)) i.Short)) refl a p h u s)
+
+differ : Item → List Item → Bool
+differ x [] = true
+differ x (y ∷ ys) = not (item_eq x y) && differ x ys
+
+distinct : List Item → Bool
+distinct [] = true
+distinct (x ∷ xs) = differ x xs && distinct xs
+
+not_true : (a : Bool) → not a ≡ true → a ≡ false
+not_true true h = cc
+not_true false h = refl
+
+differ-all : (x : Item) (ys : List Item) → differ x ys ≡ true → AllByRecursion (λ y. item_eq x y ≡ false) ys
+unfolding differ
+differ-all x [] h = tt
+differ-all x (y ∷ ys) h = let both = and_true (not (item_eq x y)) (differ x ys) h in (not_true _ both.0, differ-all x ys both.1)
+
+distinct-is : (xs : List Item) → distinct xs ≡ true → IsDistinct item_eq xs
+unfolding distinct IsDistinct
+distinct-is [] h = tt
+distinct-is (x ∷ xs) h = let both = and_true (differ x xs) (distinct xs) h in (differ-all x xs both.0, distinct-is xs both.1)
+
+rows-distinct : (a : Bool) (p : Order) (h u s : Bool) → distinct (map (λ w. w.1) (rows a p h u s)) ≡ true
+unfolding rows row_if order_row distinct differ every all_bools all_orders
+rows-distinct a p h u s = every-at (λ a p h u s. distinct (map (λ w. w.1) (rows a p h u s))) refl a p h u s
+
+row_if-spelled : (b : Bool) (r : List ℕ × Item) → Contains item_texts r → All (Contains item_texts) (row_if b r)
+unfolding row_if
+row_if-spelled true r h = All-cons (Contains item_texts) r [] h (All-nil (Contains item_texts))
+row_if-spelled false r h = All-nil (Contains item_texts)
+
+order_row-spelled : (p : Order) → All (Contains item_texts) (order_row p)
+unfolding order_row item_texts
+order_row-spelled o.Free = All-nil (Contains item_texts)
+order_row-spelled o.Chains = All-cons (Contains item_texts) _ [] (spelled-some item_texts (codes "chains") i.Chains refl) (All-nil (Contains item_texts))
+order_row-spelled o.Intree = All-cons (Contains item_texts) _ [] (spelled-some item_texts (codes "intree") i.Intree refl) (All-nil (Contains item_texts))
+order_row-spelled o.Outtree = All-cons (Contains item_texts) _ [] (spelled-some item_texts (codes "outtree") i.Outtree refl) (All-nil (Contains item_texts))
+order_row-spelled o.Prec = All-cons (Contains item_texts) _ [] (spelled-some item_texts (codes "prec") i.Prec refl) (All-nil (Contains item_texts))
+
+row_spelled : (w : List ℕ) (x : Item) → spelled item_texts w ≡ Some x → (b : Bool) → All (Contains item_texts) (row_if b (w, x))
+row_spelled w x h b = row_if-spelled b (w, x) (spelled-some item_texts w x h)
+
+rows-spelled : (a : Bool) (p : Order) (h u s : Bool) → All (Contains item_texts) (rows a p h u s)
+unfolding rows item_texts
+rows-spelled a p h u s =
+    All-append (Contains item_texts) _ _ (row_spelled (codes "pmtn") i.Cut refl a)
+    (All-append (Contains item_texts) _ _ (order_row-spelled p)
+    (All-append (Contains item_texts) _ _ (row_spelled (codes "r") i.Heads refl h)
+    (All-append (Contains item_texts) _ _ (row_spelled (codes "p=1") i.Unit refl u) (row_spelled (codes "n<=2") i.Short refl s))))
+
+env-spelled : (x : Env) → spelled env_texts (env_text x) ≡ Some (plain_env x)
+unfolding env_texts
+env-spelled e.One = refl
+env-spelled _ = refl
+
+crit-spelled : (x : Crit) → spelled crit_texts (crit_text x) ≡ Some x
+unfolding crit_texts
+crit-spelled k.Cmax = refl
+crit-spelled _ = refl
+
+env-short : (x : Env) → length (env_text x) ≤ 2
+env-short e.One = lit≤ tt
+env-short _ = lit≤ tt
+
+crit-short : (x : Crit) → length (crit_text x) ≤ 5
+crit-short k.Cmax = lit≤ tt
+crit-short _ = lit≤ tt
+
+class_has : (c : Class) (y : Item) → has_item c y ≡ has c.cut c.order c.heads (is_unit c.times) (is_short c.env) y
+unfolding has
+class_has c i.Cut = refl
+class_has c _ = refl
+
+-- the canonical name is a name
+pub name_of-NameOf : (c : Class) → NameOf (name_of c) c
+unfolding name_of item_texts_of texts
+name_of-NameOf c =
+    let items : List (List ℕ × Item) = rows c.cut c.order c.heads (is_unit c.times) (is_short c.env) in
+    record {
+      env = env_text c.env;
+      items = items;
+      crit = crit_text c.crit;
+      written = ap (λ ws. env_text c.env ++ (bar ∷ (join_with_byte comma ws ++ (bar ∷ crit_text c.crit)))) (sym (rows-texts c.cut c.order c.heads (is_unit c.times) (is_short c.env)));
+      env_spelled = spelled-some env_texts (env_text c.env) (plain_env c.env) (env-spelled c.env);
+      items_spelled = rows-spelled c.cut c.order c.heads (is_unit c.times) (is_short c.env);
+      exact = λ y. class_has c y ∙ rows-exact y c.cut c.order c.heads (is_unit c.times) (is_short c.env);
+      once = distinct-is _ (rows-distinct c.cut c.order c.heads (is_unit c.times) (is_short c.env));
+      crit_spelled = spelled-some crit_texts (crit_text c.crit) c.crit (crit-spelled c.crit);
+    }
+
+pub length-items : (c : Class) → length (join_with_byte comma (item_texts_of c)) ≤ 23
+unfolding item_texts_of texts
+length-items c = texts-short c.cut c.order c.heads (is_unit c.times) (is_short c.env)
+
+pub length-name_of : (c : Class) → length (name_of c) ≤ 32
+unfolding name_of
+length-name_of c =
+    let items : List ℕ = join_with_byte comma (item_texts_of c) in
+    let one = env-short c.env in
+    let two = length-items c in
+    let three = crit-short c.crit in
+    omega (arith, length-append (env_text c.env) (bar ∷ (items ++ (bar ∷ crit_text c.crit))), length-append items (bar ∷ crit_text c.crit))
+
+pub ruleset print_rules = (length-items)

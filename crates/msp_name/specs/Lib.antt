@@ -1,0 +1,6 @@
+pub mod Spellings
+pub mod Items
+pub mod Names
+pub mod Reading
+pub mod Printing
+pub mod Faults
