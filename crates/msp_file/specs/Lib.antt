@@ -1,2 +1,5 @@
 pub mod JobName
 pub mod ScheduleText
+pub mod Numbers
+pub mod InstanceText
+

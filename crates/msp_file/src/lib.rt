@@ -4,12 +4,14 @@
 //! that `Names` is seen as a list of distinct names.
 #![tactic(auto)]
 
+mod fault;
 mod job_name;
 mod names;
 mod print;
 #[cfg(test)]
 mod tests;
 
+pub use fault::{FileFault, What};
 pub use job_name::JobName;
 pub use names::Names;
 pub use print::print_schedule;
