@@ -2,4 +2,4 @@ pub mod JobName
 pub mod ScheduleText
 pub mod Numbers
 pub mod InstanceText
-
+pub mod Reading
