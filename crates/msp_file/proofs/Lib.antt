@@ -1,1 +1,3 @@
 mod NameLists
+mod Numbers
+mod Fields

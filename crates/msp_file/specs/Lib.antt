@@ -3,3 +3,4 @@ pub mod ScheduleText
 pub mod Numbers
 pub mod InstanceText
 pub mod Reading
+pub mod Steps

@@ -11,6 +11,8 @@ mod job;
 mod job_name;
 mod lines;
 mod names;
+mod number;
+mod place;
 mod print;
 #[cfg(test)]
 mod tests;

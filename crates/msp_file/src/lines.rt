@@ -1,9 +1,86 @@
-ghost use Rattle.std.specs.Prelude.{◌+◌, ◌<◌, ◌^◌, length};
+ghost use Rattle.std.specs.Prelude.{◌≡◌, ◌+◌, ◌∷◌, ◌<◌, ◌≤◌, ◌^◌, length, position, count_by, ◌==◌};
+ghost use Rattle.msp_file.specs.Reading.{line_at, worded_at, fields_of, first_of, others_of};
+ghost use Rattle.msp_file.specs.Steps.{Moves, place_of, fields_after};
 
-/// What is left of a text: the number of the next line, from 1, and the bytes.
-#[derive(Clone, Copy)]
-pub(crate) struct Lines<'a> {
-    pub(crate) at: u32,
-    pub(crate) rest: &'a [u8],
-    ghost small: { at + length rest.now < 2 ^ 32 },
+use crate::fault::FileFault;
+use crate::place::Lines;
+
+fn find(bytes: &[u8], mark: u8) -> Option<usize>
+    ensures { result ≡ position (λ x. x == mark) bytes.now }
+{
+    bytes.iter().position(|byte| *byte == mark)
+}
+
+fn count_spaces(bytes: &[u8]) -> usize
+    ensures value { result ≡ count_by (λ x. x == 32) bytes.now }
+    ensures few { result ≤ length bytes.now }
+{
+    bytes.iter().filter(|byte| **byte == b' ').count()
+}
+
+/// The next line, without its line feed.
+#[tactic(auto, unfolding(crate::specs::Reading::line_at), using(std::proofs::lemmas::List::take_rest))]
+pub(crate) fn line_at<'a>(lines: &mut Lines<'a>) -> Result<&'a [u8], FileFault>
+    ensures { Moves (λ line. line.now) result (place_of lines.new) (line_at (place_of lines.old)) }
+{
+    let at = lines.at;
+    let rest = lines.rest;
+    match find(rest, b'\n') {
+        Some(end) => {
+            *lines = Lines {
+                at: at + 1,
+                rest: &rest[end + 1..],
+            };
+            Ok(&rest[..end])
+        }
+        None if rest.is_empty() => Err(FileFault::Missing { at }),
+        None => Err(FileFault::Cut { at }),
+    }
+}
+
+/// The first word of a line, and the bytes from the space behind it on.
+#[tactic(auto, using(crate::proofs::Fields::split_rules))]
+pub(crate) fn split_word(line: &[u8]) -> (&[u8], &[u8])
+    ensures { fields_of line.now ≡ result.0.now ∷ fields_after result.1.now }
+{
+    match find(line, b' ') {
+        Some(end) => line.split_at(end),
+        None => line.split_at(line.len()),
+    }
+}
+
+/// The next field, and the bytes from the space behind it on. No bytes have no field.
+pub(crate) fn next_field(rest: &[u8]) -> (&[u8], &[u8])
+    ensures first { result.0.now ≡ first_of (fields_after rest.now) }
+    ensures others { fields_after result.1.now ≡ others_of (fields_after rest.now) }
+{
+    match rest {
+        [] => (rest, rest),
+        [_, more @ ..] => split_word(more),
+    }
+}
+
+/// How many fields there are.
+#[tactic(auto, using(crate::proofs::Fields::fields_counted))]
+pub(crate) fn count_fields(rest: &[u8]) -> usize
+    ensures { result ≡ length (fields_after rest.now) }
+{
+    match rest {
+        [] => 0,
+        [_, more @ ..] => count_spaces(more) + 1,
+    }
+}
+
+/// The fields of the line that has to come next, from the space behind its first word on.
+#[tactic(auto, unfolding(crate::specs::Reading::worded_at))]
+pub(crate) fn worded_at<'a>(lines: &mut Lines<'a>, word: &[u8]) -> Result<&'a [u8], FileFault>
+    ensures { Moves (λ rest. fields_after rest.now) result (place_of lines.new) (worded_at word.now (place_of lines.old)) }
+{
+    let at = lines.at;
+    let line = line_at(lines)?;
+    let (first, rest) = split_word(line);
+    if *first != *word {
+        return Err(FileFault::Line { at });
+    }
+    Ok(rest)
 }

@@ -1,4 +1,5 @@
 ghost use Rattle.std.specs.Prelude.{◌≡◌, ◌<◌, ◌++◌, ◌∷◌, [], length, slice_get, All, Contains, MatchBool, MatchOption, IfOk, OnErr, Some, bytes_eq, position};
+ghost use Rattle.std.specs.List.{list_any};
 ghost use Rattle.msp_file.specs.JobName.{AreDistinct, IsJobName};
 
 use crate::job_name::JobName;
@@ -71,6 +72,12 @@ impl Names {
         ensures { result ≡ slice_get self.now at }
     {
         self.set.get_index(at).copied()
+    }
+
+    pub(crate) fn contains(&self, name: &JobName) -> bool
+        ensures { result ≡ list_any (bytes_eq name.now) self.now }
+    {
+        self.set.contains(name)
     }
 
     /// The place of a name, from 0. None comes exactly where the name is not there.
