@@ -1,3 +1,4 @@
 mod NameLists
 mod Numbers
 mod Fields
+mod Pairs

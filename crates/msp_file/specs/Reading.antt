@@ -171,21 +171,27 @@ times_line_at k machines p = do
     needs ← times_at p.at (least_time k) [] l.0
     Ok (needs, l.1))
 
+-- The number of a machine, which texts count from 1.
+unfoldable pub machine_at : ℕ → ℕ → List ℕ → Result ℕ FileFault
+machine_at at machines w = do
+  q ← natural_at at what.Machines 1 machines w
+  Ok (q - 1)
+
 -- Machines in order, each with its time.
 unfoldable pub timed_route_at : ℕ → ℕ → List Need → List (List ℕ) → Result (List Need) FileFault
 timed_route_at at machines needs [] = Ok needs
 timed_route_at at machines needs (w ∷ []) = Err (Count at)
 timed_route_at at machines needs (w ∷ v ∷ ws) = do
-  q ← natural_at at what.Machines 1 machines w
+  q ← machine_at at machines w
   t ← natural_at at what.Time 1 (10 ^ 9) v
-  timed_route_at at machines (with_need needs (q - 1) t) ws
+  timed_route_at at machines (with_need needs q t) ws
 
 -- Machines in order, with unit times.
 unfoldable pub unit_route_at : ℕ → ℕ → List Need → List (List ℕ) → Result (List Need) FileFault
 unit_route_at at machines needs [] = Ok needs
 unit_route_at at machines needs (w ∷ ws) = do
-  q ← natural_at at what.Machines 1 machines w
-  unit_route_at at machines (with_need needs (q - 1) 1) ws
+  q ← machine_at at machines w
+  unit_route_at at machines (with_need needs q 1) ws
 
 -- How many operations so many fields begin.
 abbrev pub operations_in : Times → ℕ → ℕ
@@ -228,6 +234,10 @@ needs_at c machines time p =
 
 -- ---- the cost curve of a job
 
+-- The steps with one more at the end.
+abbrev pub with_step : List Step → ℕ → ℕ → List Step
+with_step steps above add = steps ++ record { above = above; add = add } ∷ []
+
 -- Thresholds, each with its add, after the steps so far.
 unfoldable pub steps_at : ℕ → List Step → List (List ℕ) → Result (List Step) FileFault
 steps_at at steps [] = Ok steps
@@ -235,7 +245,7 @@ steps_at at steps (w ∷ []) = Err (Count at)
 steps_at at steps (w ∷ v ∷ ws) = do
   above ← natural_at at what.Above 0 (10 ^ 9) w
   add ← natural_at at what.Add 0 (10 ^ 9) v
-  steps_at at (steps ++ record { above = above; add = add } ∷ []) ws
+  steps_at at (with_step steps above add) ws
 
 unfoldable pub curve_fields_at : ℕ → List (List ℕ) → Result Curve FileFault
 curve_fields_at at fields = do

@@ -20,6 +20,11 @@ abbrev pub Moves : {X Y : Type 0} → (X → Y) → Result X FileFault → Place
 Moves view (Ok x) after read = read ≡ Ok (view x, after)
 Moves view (Err e) after read = Fails e read
 
+-- What reading gives is what it gives from the result on.
+abbrev pub Leads : {X Y : Type 0} → (X → Result Y FileFault) → Result X FileFault → Result Y FileFault → Type 0
+Leads next (Ok x) read = read ≡ next x
+Leads next (Err e) read = Fails e read
+
 abbrev pub place_of : Lines → Place
 place_of lines = record { at = lines.at; rest = lines.rest.now }
 

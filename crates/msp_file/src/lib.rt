@@ -4,6 +4,7 @@
 //! `schedule_text`, and that `Names` is seen as a list of distinct names.
 #![tactic(auto)]
 
+mod curve;
 mod draft;
 mod fault;
 mod filed;
@@ -12,6 +13,7 @@ mod job_name;
 mod lines;
 mod names;
 mod number;
+mod operations;
 mod place;
 mod print;
 #[cfg(test)]

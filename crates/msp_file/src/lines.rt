@@ -1,4 +1,4 @@
-ghost use Rattle.std.specs.Prelude.{◌≡◌, ◌+◌, ◌∷◌, ◌<◌, ◌≤◌, ◌^◌, length, position, count_by, ◌==◌};
+ghost use Rattle.std.specs.Prelude.{◌≡◌, ◌+◌, ◌∷◌, ◌<◌, ◌≤◌, ◌^◌, length, position, count_by, ◌==◌, IfOk};
 ghost use Rattle.msp_file.specs.Reading.{line_at, worded_at, fields_of, first_of, others_of};
 ghost use Rattle.msp_file.specs.Steps.{Moves, place_of, fields_after};
 
@@ -21,7 +21,8 @@ fn count_spaces(bytes: &[u8]) -> usize
 /// The next line, without its line feed.
 #[tactic(auto, unfolding(crate::specs::Reading::line_at), using(std::proofs::lemmas::List::take_rest))]
 pub(crate) fn line_at<'a>(lines: &mut Lines<'a>) -> Result<&'a [u8], FileFault>
-    ensures { Moves (λ line. line.now) result (place_of lines.new) (line_at (place_of lines.old)) }
+    ensures moves { Moves (λ line. line.now) result (place_of lines.new) (line_at (place_of lines.old)) }
+    ensures short { IfOk result (λ line. length line.now < 2 ^ 32) }
 {
     let at = lines.at;
     let rest = lines.rest;
@@ -41,7 +42,8 @@ pub(crate) fn line_at<'a>(lines: &mut Lines<'a>) -> Result<&'a [u8], FileFault>
 /// The first word of a line, and the bytes from the space behind it on.
 #[tactic(auto, using(crate::proofs::Fields::split_rules))]
 pub(crate) fn split_word(line: &[u8]) -> (&[u8], &[u8])
-    ensures { fields_of line.now ≡ result.0.now ∷ fields_after result.1.now }
+    ensures fields { fields_of line.now ≡ result.0.now ∷ fields_after result.1.now }
+    ensures short { length result.1.now ≤ length line.now }
 {
     match find(line, b' ') {
         Some(end) => line.split_at(end),
@@ -53,6 +55,8 @@ pub(crate) fn split_word(line: &[u8]) -> (&[u8], &[u8])
 pub(crate) fn next_field(rest: &[u8]) -> (&[u8], &[u8])
     ensures first { result.0.now ≡ first_of (fields_after rest.now) }
     ensures others { fields_after result.1.now ≡ others_of (fields_after rest.now) }
+    ensures whole { 0 < length rest.now → fields_after rest.now ≡ result.0.now ∷ fields_after result.1.now }
+    ensures shorter { 0 < length rest.now → length result.1.now < length rest.now }
 {
     match rest {
         [] => (rest, rest),
@@ -74,7 +78,8 @@ pub(crate) fn count_fields(rest: &[u8]) -> usize
 /// The fields of the line that has to come next, from the space behind its first word on.
 #[tactic(auto, unfolding(crate::specs::Reading::worded_at))]
 pub(crate) fn worded_at<'a>(lines: &mut Lines<'a>, word: &[u8]) -> Result<&'a [u8], FileFault>
-    ensures { Moves (λ rest. fields_after rest.now) result (place_of lines.new) (worded_at word.now (place_of lines.old)) }
+    ensures moves { Moves (λ rest. fields_after rest.now) result (place_of lines.new) (worded_at word.now (place_of lines.old)) }
+    ensures short { IfOk result (λ rest. length rest.now < 2 ^ 32) }
 {
     let at = lines.at;
     let line = line_at(lines)?;

@@ -1,4 +1,4 @@
-ghost use Rattle.std.specs.Prelude.{◌≡◌, ◌-◌, ◌<◌, ◌≤◌, ◌^◌, min, true, All, IsTrue, length, pos, neg_ℤ, if◌then◌else◌};
+ghost use Rattle.std.specs.Prelude.{◌≡◌, ◌-◌, ◌<◌, ◌≤◌, ◌^◌, min, true, All, IsTrue, length, IfOk, pos, neg_ℤ, if◌then◌else◌};
 ghost use Rattle.std.specs.Char.{is_ascii_digit, digit_value};
 ghost use Rattle.std.specs.List.{list_all};
 ghost use Rattle.std.specs.Option.{option_map};
@@ -109,7 +109,8 @@ pub(crate) fn natural_at(
     greatest: u64,
     bytes: &[u8],
 ) -> Result<u64, FileFault>
-    ensures { result ≡ natural_at at what least greatest bytes.now }
+    ensures value { result ≡ natural_at at what least greatest bytes.now }
+    ensures range { IfOk result (λ n. (least ≤ n) × (n ≤ greatest)) }
 {
     let Some(number) = number(bytes) else {
         return Err(FileFault::Number { at });
