@@ -6,6 +6,7 @@ use Rattle.msp_class.specs.Rank.{flag_number}
 use Rattle.msp_class.specs.declared.class.Class.{Class}
 use Rattle.msp_class.specs.declared.class.Env.{Env}
 use Rattle.msp_class.specs.declared.class.Times.{Times}
+use Rattle.msp_class.specs.declared.class.Crit.{Crit}
 use Rattle.msp_class.specs.declared.class.Times.TheVariants.{General, Unit as UnitTimes}
 use Rattle.msp_name.specs.Reading.{reading_of}
 use Rattle.msp_instance.specs.declared.Need.{Need}
@@ -266,8 +267,8 @@ curve_line_at p = do
       curve ← curve_fields_at p.at l.0
       Ok (curve, l.1)))
 
-unfoldable pub curve_at : Class → Place → Result (Curve × Place) FileFault
-curve_at c p = if has_curve c.crit then curve_line_at p else Ok (no_curve, p)
+unfoldable pub curve_at : Crit → Place → Result (Curve × Place) FileFault
+curve_at crit p = if has_curve crit then curve_line_at p else Ok (no_curve, p)
 
 -- ---- jobs and arcs
 
@@ -280,7 +281,7 @@ job_at_line c machines d at fields p =
     provided (nat_lt (length d.jobs) 400) (Limit at what.Jobs) (do
       line ← job_line_at c at d.names fields
       needs ← needs_at c machines line.1.time p
-      curve ← curve_at c needs.1
+      curve ← curve_at c.crit needs.1
       Ok (record { names = d.names ++ line.0 ∷ []; jobs = d.jobs ++ job_of line.1 needs.0 curve.0 ∷ []; arcs = d.arcs }, curve.1))
 
 -- The arc is one of these.

@@ -69,3 +69,53 @@ fn curve_fields_at(alloc: Global, at: u32, fields: &[u8]) -> Result<Curve, FileF
     let steps = steps_at(alloc, at, rest)?;
     Ok(Curve { slope, base, steps })
 }
+
+fn steps_in(fields: usize) -> usize
+    ensures { result ≡ steps_in fields }
+{
+    fields.saturating_sub(1) / 2
+}
+
+/// The line with a job's cost curve.
+#[tactic(auto, unfolding(crate::specs::Reading::curve_line_at))]
+fn curve_line_at(alloc: Global, lines: &mut Lines<'_>) -> Result<Curve, FileFault>
+    ensures { Moves (λ x. x) result (place_of lines.new) (curve_line_at (place_of lines.old)) }
+{
+    let at = lines.at;
+    match worded_at(lines, b"curve") {
+        Ok(fields) => {
+            let count = count_fields(fields);
+            let steps = steps_in(count);
+            if steps > MOST_STEPS {
+                return Err(FileFault::Limit {
+                    at,
+                    what: What::Steps,
+                });
+            }
+            if count != 2 + 2 * steps {
+                return Err(FileFault::Count { at });
+            }
+            curve_fields_at(alloc, at, fields)
+        }
+        Err(fault) => Err(fault),
+    }
+}
+
+/// The cost curve of a job, where the criterion has one.
+#[tactic(auto, unfolding(crate::specs::Reading::curve_at))]
+pub(crate) fn curve_at(
+    alloc: Global,
+    crit: Crit,
+    lines: &mut Lines<'_>,
+) -> Result<Curve, FileFault>
+    ensures { Moves (λ x. x) result (place_of lines.new) (curve_at crit (place_of lines.old)) }
+{
+    if matches!(crit, Crit::Fmax) {
+        return curve_line_at(alloc, lines);
+    }
+    Ok(Curve {
+        slope: 0,
+        base: 0,
+        steps: List::new(alloc),
+    })
+}

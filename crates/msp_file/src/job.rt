@@ -1,4 +1,5 @@
-ghost use Rattle.std.specs.Prelude.{◌≡◌, All, IsTrue, ◌+◌, ◌<◌, ◌≤◌, ◌^◌, length, true, false};
+ghost use Rattle.std.specs.Prelude.{◌≡◌, All, IsTrue, ◌+◌, ◌<◌, ◌≤◌, ◌^◌, length, true, false, bytes_eq, IfOk};
+ghost use Rattle.std.specs.List.{list_any};
 ghost use Rattle.msp_class.specs.Rank.{flag_number};
 ghost use Rattle.msp_instance.specs.Instance.{kind_of};
 ghost use Rattle.msp_instance.specs.Conditions.{uses_due, uses_weight};
@@ -176,7 +177,8 @@ pub(crate) fn job_line_at(
     names: &Names,
     fields: &[u8],
 ) -> Result<(JobName, Keys), FileFault>
-    ensures { Gives (λ x. x) result (job_line_at class at names.now (fields_after fields.now)) }
+    ensures gives { Gives (λ x. x) result (job_line_at class at names.now (fields_after fields.now)) }
+    ensures fresh { IfOk result (λ x. list_any (bytes_eq x.0) names.now ≡ false) }
 {
     if count_fields(fields) != 1 + count_of_keys(class) {
         return Err(FileFault::Count { at });

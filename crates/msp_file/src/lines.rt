@@ -67,7 +67,8 @@ pub(crate) fn next_field(rest: &[u8]) -> (&[u8], &[u8])
 /// How many fields there are.
 #[tactic(auto, using(crate::proofs::Fields::fields_counted))]
 pub(crate) fn count_fields(rest: &[u8]) -> usize
-    ensures { result ≡ length (fields_after rest.now) }
+    ensures value { result ≡ length (fields_after rest.now) }
+    ensures few { result ≤ length rest.now }
 {
     match rest {
         [] => 0,
