@@ -288,6 +288,10 @@ job_at_line c machines d at fields p =
 abbrev pub is_arc_among : List Arc → ℕ → ℕ → Bool
 is_arc_among arcs before after = list_any (λ a. (a.before == before) && (a.after == after)) arcs
 
+-- The draft with one more arc at the end.
+abbrev pub with_arc : Draft → ℕ → ℕ → Draft
+with_arc d before after = record d { arcs = d.arcs ++ record { before = before; after = after } ∷ [] }
+
 -- The arc whose line has these fields, after the arcs so far.
 unfoldable pub arc_line_at : ℕ → Draft → List (List ℕ) → Result Draft FileFault
 arc_line_at at d fields =
@@ -295,7 +299,7 @@ arc_line_at at d fields =
       provided (length fields == 2) (Count at) (do
         before ← known_at at d.names (first_of fields)
         after ← known_at at d.names (first_of (others_of fields))
-        provided (not (is_arc_among d.arcs before after)) (ArcAgain at) (Ok (record d { arcs = d.arcs ++ record { before = before; after = after } ∷ [] }))))
+        provided (not (is_arc_among d.arcs before after)) (ArcAgain at) (Ok (with_arc d before after))))
 
 -- The last line.
 abbrev pub end_at : ℕ → Draft → List (List ℕ) → Place → Result (Draft × Place) FileFault
@@ -385,14 +389,14 @@ no_draft = record { names = []; jobs = []; arcs = [] }
 abbrev pub filed_of : Class → ℕ → List ℕ → Draft → Filed
 filed_of c machines speeds d = record { instance = record { class = c; machines = machines; speeds = speeds; jobs = d.jobs; arcs = d.arcs }; names = d.names }
 
--- The instance at the front of a text, and what is left after its last line. A text has fewer lines than its bytes and one more.
+-- The instance at the front of a text, and what is left after its last line. A text has at most as many lines as bytes.
 unfoldable pub front_at : List ℕ → Result (Filed × Place) FileFault
 front_at b = do
   p ← version_at (record { at = 1; rest = b })
   c ← class_at p
   machines ← machines_at c.0.env c.1
   speeds ← speeds_at c.0.env machines.0 machines.1
-  d ← jobs_at (length b) c.0 machines.0 no_draft speeds.1
+  d ← jobs_at (length b + 1) c.0 machines.0 no_draft speeds.1
   Ok (filed_of c.0 machines.0 speeds.0 d.0, d.1)
 
 -- The instance whose lines are all of the text.

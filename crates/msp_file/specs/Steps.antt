@@ -1,9 +1,13 @@
 -- What the functions that read say: that they read as the definitions do, unless memory runs out.
-use Rattle.std.specs.Prelude.{◌≡◌, ℕ, List, [], ◌∷◌, Result, Ok, Err}
+use Rattle.std.specs.Prelude.{◌≡◌, ℕ, suc, Bool, true, false, List, [], ◌∷◌, Result, Ok, Err}
 use Rattle.msp_file.specs.declared.fault.FileFault.{FileFault}
 use Rattle.msp_file.specs.declared.fault.FileFault.TheVariants.{Memory}
 use Rattle.msp_file.specs.declared.place.Lines.{Lines}
-use Rattle.msp_file.specs.Reading.{Place, fields_of}
+use Rattle.msp_file.specs.declared.draft.Draft.{Draft}
+use Rattle.msp_file.specs.declared.draft.Next.{Next}
+use Rattle.msp_file.specs.declared.draft.Next.TheVariants.{Job, Arc, End}
+use Rattle.msp_class.specs.declared.class.Class.{Class}
+use Rattle.msp_file.specs.Reading.{Place, fields_of, arcs_at, jobs_at}
 
 -- Where memory runs out, nothing is said. Another fault is that of the reading.
 abbrev pub Fails : {Y : Type 0} → FileFault → Result Y FileFault → Type 0
@@ -32,3 +36,15 @@ place_of lines = record { at = lines.at; rest = lines.rest.now }
 abbrev pub fields_after : List ℕ → List (List ℕ)
 fields_after [] = []
 fields_after (space ∷ bytes) = fields_of bytes
+
+-- How reading goes on after a line: the lines after an arc, and those after the head or a job.
+abbrev pub AfterArc : Result Bool FileFault → Draft → Place → Draft → Place → Type 0
+AfterArc (Ok true) d p e q = (n : ℕ) → arcs_at (suc n) d p ≡ arcs_at n e q
+AfterArc (Ok false) d p e q = (n : ℕ) → arcs_at (suc n) d p ≡ Ok (e, q)
+AfterArc (Err fault) d p e q = (n : ℕ) → Fails fault (arcs_at (suc n) d p)
+
+abbrev pub AfterJob : Class → ℕ → Result Next FileFault → Draft → Place → Draft → Place → Type 0
+AfterJob c m (Ok Job) d p e q = (n : ℕ) → jobs_at (suc n) c m d p ≡ jobs_at n c m e q
+AfterJob c m (Ok Arc) d p e q = (n : ℕ) → jobs_at (suc n) c m d p ≡ arcs_at n e q
+AfterJob c m (Ok End) d p e q = (n : ℕ) → jobs_at (suc n) c m d p ≡ Ok (e, q)
+AfterJob c m (Err fault) d p e q = (n : ℕ) → Fails fault (jobs_at (suc n) c m d p)

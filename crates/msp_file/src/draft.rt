@@ -1,17 +1,19 @@
-ghost use Rattle.std.specs.Prelude.{◌≡◌, ◌++◌, ◌∷◌, [], ◌≤◌, false, length, bytes_eq, MatchResult};
+ghost use Rattle.std.specs.Prelude.{◌≡◌, ◌++◌, ◌∷◌, [], ◌≤◌, ◌<◌, ℕ, false, length, bytes_eq, MatchResult, OnOk};
 ghost use Rattle.std.specs.List.{list_any};
-ghost use Rattle.msp_file.specs.Reading.{job_of, job_at_line};
-ghost use Rattle.msp_file.specs.Steps.{Moves, place_of, fields_after};
+ghost use Rattle.msp_file.specs.InstanceText.{has_order};
+ghost use Rattle.msp_file.specs.Reading.{is_arc_among, with_arc, arc_line_at, job_of, job_at_line, arcs_at, jobs_at};
+ghost use Rattle.msp_file.specs.Steps.{Gives, Moves, AfterArc, AfterJob, place_of, fields_after};
 
 use crate::curve::curve_at;
 use crate::fault::{FileFault, What};
-use crate::job::job_line_at;
+use crate::job::{job_line_at, known_at};
+use crate::lines::{count_fields, line_at, next_field, split_word};
 use crate::job_name::JobName;
 use crate::names::Names;
 use crate::operations::needs_at;
 use crate::place::Lines;
-use msp_class::{Class, List};
-use msp_instance::{Arc, Job, MOST_JOBS};
+use msp_class::{Class, List, Order};
+use msp_instance::{Arc, Job, MOST_ARCS, MOST_JOBS};
 use std::alloc::Global;
 
 /// The jobs and arcs read so far.
@@ -20,6 +22,14 @@ pub(crate) struct Draft {
     pub(crate) names: Names,
     pub(crate) jobs: List<Job>,
     pub(crate) arcs: List<Arc>,
+}
+
+/// What a line after the head or after a job was.
+#[derive(Clone, Copy)]
+enum Next {
+    Job,
+    Arc,
+    End,
 }
 
 /// Puts a job of a new name at the end.
@@ -47,7 +57,9 @@ fn job_at_line(
     fields: &[u8],
     lines: &mut Lines<'_>,
 ) -> Result<(), FileFault>
-    ensures { Moves (λ _. draft.new) result (place_of lines.new) (job_at_line class machines draft.old at (fields_after fields.now) (place_of lines.old)) }
+    requires even { length draft.old.names ≡ length draft.old.jobs }
+    ensures even { OnOk result ((length draft.new.names ≡ length draft.new.jobs) × (length draft.new.names ≤ 400)) }
+    ensures moves { Moves (λ _. draft.new) result (place_of lines.new) (job_at_line class machines draft.old at (fields_after fields.now) (place_of lines.old)) }
 {
     if draft.jobs.len() >= MOST_JOBS {
         return Err(FileFault::Limit {
@@ -66,4 +78,46 @@ fn job_at_line(
         curve,
     };
     push_job(draft, name, job)
+}
+
+fn is_arc_among(arcs: &[Arc], before: u32, after: u32) -> bool
+    ensures { result ≡ is_arc_among arcs.now before after }
+{
+    arcs.iter()
+        .any(|arc| arc.before == before && arc.after == after)
+}
+
+fn push_arc(draft: &mut Draft, before: u32, after: u32) -> Result<(), FileFault>
+    ensures { MatchResult result (λ _. draft.new ≡ with_arc draft.old before after) (λ e. e ≡ FileFault.Memory) }
+{
+    match draft.arcs.push(Arc { before, after }) {
+        Ok(()) => Ok(()),
+        Err(_) => Err(FileFault::Memory),
+    }
+}
+
+/// The arc whose line has these fields, put at the end of the draft.
+#[tactic(auto, unfolding(crate::specs::Reading::arc_line_at))]
+fn arc_line_at(at: u32, draft: &mut Draft, fields: &[u8]) -> Result<(), FileFault>
+    requires { length draft.old.names ≤ 400 }
+    ensures gives { Gives (λ _. draft.new) result (arc_line_at at draft.old (fields_after fields.now)) }
+    ensures names { OnOk result (draft.new.names ≡ draft.old.names) }
+{
+    if draft.arcs.len() >= MOST_ARCS {
+        return Err(FileFault::Limit {
+            at,
+            what: What::Arcs,
+        });
+    }
+    if count_fields(fields) != 2 {
+        return Err(FileFault::Count { at });
+    }
+    let (first, others) = next_field(fields);
+    let before = known_at(at, &draft.names, first)?;
+    let (second, _) = next_field(others);
+    let after = known_at(at, &draft.names, second)?;
+    if is_arc_among(draft.arcs.as_slice(), before, after) {
+        return Err(FileFault::ArcAgain { at });
+    }
+    push_arc(draft, before, after)
 }

@@ -1,4 +1,4 @@
-ghost use Rattle.std.specs.Prelude.{◌≡◌, ◌+◌, ◌∷◌, ◌<◌, ◌≤◌, ◌^◌, length, position, count_by, ◌==◌, IfOk};
+ghost use Rattle.std.specs.Prelude.{◌≡◌, ◌+◌, ◌∷◌, ◌<◌, ◌≤◌, ◌^◌, length, position, count_by, ◌==◌, IfOk, OnOk};
 ghost use Rattle.msp_file.specs.Reading.{line_at, worded_at, fields_of, first_of, others_of};
 ghost use Rattle.msp_file.specs.Steps.{Moves, place_of, fields_after};
 
@@ -23,6 +23,7 @@ fn count_spaces(bytes: &[u8]) -> usize
 pub(crate) fn line_at<'a>(lines: &mut Lines<'a>) -> Result<&'a [u8], FileFault>
     ensures moves { Moves (λ line. line.now) result (place_of lines.new) (line_at (place_of lines.old)) }
     ensures short { IfOk result (λ line. length line.now < 2 ^ 32) }
+    ensures shrinks { OnOk result (length lines.new.rest.now < length lines.old.rest.now) }
 {
     let at = lines.at;
     let rest = lines.rest;
