@@ -2,3 +2,4 @@ mod NameLists
 mod Numbers
 mod Fields
 mod Pairs
+mod Loops

@@ -1,4 +1,4 @@
-ghost use Rattle.std.specs.Prelude.{◌≡◌, ◌+◌, ◌<◌, ◌≤◌, ◌^◌, ◌++◌, ◌∷◌, [], length, IfOk, MatchResult};
+ghost use Rattle.std.specs.Prelude.{◌≡◌, ◌+◌, ◌<◌, ◌≤◌, ◌^◌, ◌++◌, ◌∷◌, [], length, IfOk, OnOk, MatchResult};
 ghost use Rattle.msp_instance.specs.Instance.{no_curve};
 ghost use Rattle.msp_file.specs.Reading.{natural_at, integer_at, with_step, steps_at, curve_fields_at, curve_line_at, curve_at, steps_in};
 ghost use Rattle.msp_file.specs.Steps.{Gives, Leads, Moves, place_of, fields_after};
@@ -79,7 +79,8 @@ fn steps_in(fields: usize) -> usize
 /// The line with a job's cost curve.
 #[tactic(auto, unfolding(crate::specs::Reading::curve_line_at))]
 fn curve_line_at(alloc: Global, lines: &mut Lines<'_>) -> Result<Curve, FileFault>
-    ensures { Moves (λ x. x) result (place_of lines.new) (curve_line_at (place_of lines.old)) }
+    ensures moves { Moves (λ x. x) result (place_of lines.new) (curve_line_at (place_of lines.old)) }
+    ensures shrinks { OnOk result (length lines.new.rest.now ≤ length lines.old.rest.now) }
 {
     let at = lines.at;
     match worded_at(lines, b"curve") {
@@ -108,7 +109,8 @@ pub(crate) fn curve_at(
     crit: Crit,
     lines: &mut Lines<'_>,
 ) -> Result<Curve, FileFault>
-    ensures { Moves (λ x. x) result (place_of lines.new) (curve_at crit (place_of lines.old)) }
+    ensures moves { Moves (λ x. x) result (place_of lines.new) (curve_at crit (place_of lines.old)) }
+    ensures shrinks { OnOk result (length lines.new.rest.now ≤ length lines.old.rest.now) }
 {
     if matches!(crit, Crit::Fmax) {
         return curve_line_at(alloc, lines);

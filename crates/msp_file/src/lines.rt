@@ -82,6 +82,7 @@ pub(crate) fn count_fields(rest: &[u8]) -> usize
 pub(crate) fn worded_at<'a>(lines: &mut Lines<'a>, word: &[u8]) -> Result<&'a [u8], FileFault>
     ensures moves { Moves (λ rest. fields_after rest.now) result (place_of lines.new) (worded_at word.now (place_of lines.old)) }
     ensures short { IfOk result (λ rest. length rest.now < 2 ^ 32) }
+    ensures shrinks { OnOk result (length lines.new.rest.now ≤ length lines.old.rest.now) }
 {
     let at = lines.at;
     let line = line_at(lines)?;

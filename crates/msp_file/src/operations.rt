@@ -1,4 +1,4 @@
-ghost use Rattle.std.specs.Prelude.{◌≡◌, ◌+◌, ◌<◌, ◌≤◌, ◌^◌, [], length, map, IfOk, MatchResult};
+ghost use Rattle.std.specs.Prelude.{◌≡◌, ◌+◌, ◌<◌, ◌≤◌, ◌^◌, [], length, map, IfOk, OnOk, MatchResult};
 ghost use Rattle.msp_file.specs.Reading.{natural_at, machine_at, with_need, times_at, timed_route_at, unit_route_at, operations_at};
 ghost use Rattle.std.specs.List.{range_with_len};
 ghost use Rattle.msp_instance.specs.Instance.{kind_of};
@@ -199,7 +199,8 @@ fn times_line_at(
     machines: u32,
     lines: &mut Lines<'_>,
 ) -> Result<List<Need>, FileFault>
-    ensures { Moves (λ x. x) result (place_of lines.new) (times_line_at (kind_of env) machines (place_of lines.old)) }
+    ensures moves { Moves (λ x. x) result (place_of lines.new) (times_line_at (kind_of env) machines (place_of lines.old)) }
+    ensures shrinks { OnOk result (length lines.new.rest.now ≤ length lines.old.rest.now) }
 {
     let at = lines.at;
     match worded_at(lines, b"times") {
@@ -254,7 +255,8 @@ fn route_line_at(
     machines: u32,
     lines: &mut Lines<'_>,
 ) -> Result<List<Need>, FileFault>
-    ensures { Moves (λ x. x) result (place_of lines.new) (route_line_at class machines (place_of lines.old)) }
+    ensures moves { Moves (λ x. x) result (place_of lines.new) (route_line_at class machines (place_of lines.old)) }
+    ensures shrinks { OnOk result (length lines.new.rest.now ≤ length lines.old.rest.now) }
 {
     let at = lines.at;
     match worded_at(lines, b"route") {
@@ -339,7 +341,8 @@ pub(crate) fn needs_at(
     time: u64,
     lines: &mut Lines<'_>,
 ) -> Result<List<Need>, FileFault>
-    ensures { Moves (λ x. x) result (place_of lines.new) (needs_at class machines time (place_of lines.old)) }
+    ensures moves { Moves (λ x. x) result (place_of lines.new) (needs_at class machines time (place_of lines.old)) }
+    ensures shrinks { OnOk result (length lines.new.rest.now ≤ length lines.old.rest.now) }
 {
     if has_times_line(class) {
         times_line_at(alloc, class.env, machines, lines)
