@@ -3,3 +3,4 @@ mod Numbers
 mod Fields
 mod Pairs
 mod Loops
+mod Multiples

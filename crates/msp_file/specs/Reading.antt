@@ -1,6 +1,6 @@
 -- How the text of an instance is read: line by line, and in a line from left to right, up to the first fault.
 use Rattle.std.specs.Prelude.{◌≡◌, ℕ, zero, suc, ◌+◌, ◌-◌, ◌*◌, ◌/◌, ◌%◌, ◌^◌, Bool, true, false, ◌&&◌, ◌||◌, not, ◌==◌, nat_le, nat_lt, if◌then◌else◌, List, [], ◌∷◌, ◌++◌, length, take, drop, map, fold, Option, Some, None, Result, Ok, Err, ok_or, position, codes, bytes_eq, ℤ, pos, negsuc, unsigned_abs}
-use Rattle.std.specs.List.{slice_split, list_all, list_any, range_with_len, position_or_len}
+use Rattle.std.specs.List.{slice_split, list_all, list_any, range_with_len}
 use Rattle.msp_class.specs.Env.{fixed_machines}
 use Rattle.msp_class.specs.Rank.{flag_number}
 use Rattle.msp_class.specs.declared.class.Class.{Class}
@@ -358,12 +358,9 @@ machines_line_at p = do
 unfoldable pub machines_at : Env → Place → Result (ℕ × Place) FileFault
 machines_at e p = elim (fixed_machines e) [ Some machines ↦ Ok (machines, p) | None ↦ machines_line_at p ]
 
--- The least multiple of a that b divides, and that of all speeds.
-unfoldable pub common_multiple : ℕ → ℕ → ℕ
-common_multiple a b = a * (1 + position_or_len (λ k. ((k + 1) * a) % b == 0) (range_with_len 0 b))
-
-abbrev pub multiple_of : List ℕ → ℕ
-multiple_of speeds = fold common_multiple 1 speeds
+-- Some number from 1 to the limit is a multiple of all speeds.
+unfoldable pub have_multiple : ℕ → List ℕ → Bool
+have_multiple limit speeds = list_any (λ n. list_all (λ s. n % s == 0) speeds) (range_with_len 1 limit)
 
 unfoldable pub speeds_in : ℕ → List ℕ → List (List ℕ) → Result (List ℕ) FileFault
 speeds_in at speeds [] = Ok speeds
@@ -376,7 +373,7 @@ speeds_line_at machines p = do
   l ← worded_at (codes "speeds") p
   provided (length l.0 == machines) (Count p.at) (do
     speeds ← speeds_in p.at [] l.0
-    provided (nat_le (multiple_of speeds) (2 ^ 30)) (Limit p.at what.Multiple) (Ok (speeds, l.1)))
+    provided (have_multiple (2 ^ 30) speeds) (Limit p.at what.Multiple) (Ok (speeds, l.1)))
 
 unfoldable pub speeds_at : Env → ℕ → Place → Result (List ℕ × Place) FileFault
 speeds_at e machines p = if has_speeds (kind_of e) then speeds_line_at machines p else Ok ([], p)

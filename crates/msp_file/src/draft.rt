@@ -208,7 +208,7 @@ fn job_step(
 }
 
 /// Reads the lines after the head, up to the last one.
-fn jobs_at(
+pub(crate) fn jobs_at(
     alloc: Global,
     class: Class,
     machines: u32,

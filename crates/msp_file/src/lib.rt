@@ -8,6 +8,7 @@ mod curve;
 mod draft;
 mod fault;
 mod filed;
+mod head;
 mod job;
 mod job_name;
 mod lines;
@@ -16,6 +17,7 @@ mod number;
 mod operations;
 mod place;
 mod print;
+mod read;
 #[cfg(test)]
 mod tests;
 

@@ -44,6 +44,7 @@ pub(crate) fn line_at<'a>(lines: &mut Lines<'a>) -> Result<&'a [u8], FileFault>
 #[tactic(auto, using(crate::proofs::Fields::split_rules))]
 pub(crate) fn split_word(line: &[u8]) -> (&[u8], &[u8])
     ensures fields { fields_of line.now ≡ result.0.now ∷ fields_after result.1.now }
+    ensures word { length result.0.now ≤ length line.now }
     ensures short { length result.1.now ≤ length line.now }
 {
     match find(line, b' ') {
@@ -57,6 +58,7 @@ pub(crate) fn next_field(rest: &[u8]) -> (&[u8], &[u8])
     ensures first { result.0.now ≡ first_of (fields_after rest.now) }
     ensures others { fields_after result.1.now ≡ others_of (fields_after rest.now) }
     ensures whole { 0 < length rest.now → fields_after rest.now ≡ result.0.now ∷ fields_after result.1.now }
+    ensures field { length result.0.now ≤ length rest.now }
     ensures shorter { 0 < length rest.now → length result.1.now < length rest.now }
 {
     match rest {

@@ -1,0 +1,68 @@
+ghost use Rattle.std.specs.Prelude.{◌≡◌, ◌+◌, ◌<◌, ◌≤◌, ◌^◌, length};
+ghost use Rattle.msp_file.specs.Reading.{front_at, filed_at, filed_of, no_draft};
+ghost use Rattle.msp_file.specs.Steps.{Gives, Moves, place_of};
+
+use crate::draft::{Draft, jobs_at};
+use crate::fault::FileFault;
+use crate::filed::Filed;
+use crate::head::{class_at, machines_at, speeds_at, version_at};
+use crate::names::Names;
+use crate::place::Lines;
+use msp_class::{Class, List};
+use msp_instance::Instance;
+use std::alloc::Global;
+
+fn no_draft(alloc: Global) -> Draft
+    ensures { result ≡ no_draft }
+{
+    Draft {
+        names: Names::new(alloc),
+        jobs: List::new(alloc),
+        arcs: List::new(alloc),
+    }
+}
+
+fn filed_of(class: Class, machines: u32, speeds: List<u64>, draft: Draft) -> Filed
+    ensures { result ≡ filed_of class machines speeds draft }
+{
+    let Draft { names, jobs, arcs } = draft;
+    Filed {
+        instance: Instance {
+            class,
+            machines,
+            speeds,
+            jobs,
+            arcs,
+        },
+        names,
+    }
+}
+
+/// Reads the lines of an instance at the front of a text.
+#[tactic(auto, unfolding(crate::specs::Reading::front_at))]
+fn front_at(alloc: Global, bytes: &[u8], lines: &mut Lines<'_>) -> Result<Filed, FileFault>
+    requires start { place_of lines.old ≡ record { at = 1; rest = bytes.now } }
+    ensures { Moves (λ x. x) result (place_of lines.new) (front_at bytes.now) }
+{
+    version_at(lines)?;
+    let class = class_at(lines)?;
+    let machines = machines_at(class.env, lines)?;
+    let speeds = speeds_at(alloc, class.env, machines, lines)?;
+    let mut draft = no_draft(alloc);
+    jobs_at(alloc, class, machines, &mut draft, lines)?;
+    Ok(filed_of(class, machines, speeds, draft))
+}
+
+/// Reads the lines of an instance that are all of a text.
+#[tactic(auto, unfolding(crate::specs::Reading::filed_at))]
+fn filed_at(alloc: Global, bytes: &[u8]) -> Result<Filed, FileFault>
+    requires { length bytes.now ≤ 2 ^ 26 }
+    ensures { Gives (λ x. x) result (filed_at bytes.now) }
+{
+    let mut lines = Lines { at: 1, rest: bytes };
+    let filed = front_at(alloc, bytes, &mut lines)?;
+    if !lines.rest.is_empty() {
+        return Err(FileFault::After { at: lines.at });
+    }
+    Ok(filed)
+}
