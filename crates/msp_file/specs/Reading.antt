@@ -393,7 +393,7 @@ front_at b = do
   c ← class_at p
   machines ← machines_at c.0.env c.1
   speeds ← speeds_at c.0.env machines.0 machines.1
-  d ← jobs_at (length b + 1) c.0 machines.0 no_draft speeds.1
+  d ← jobs_at (length speeds.1.rest + 1) c.0 machines.0 no_draft speeds.1
   Ok (filed_of c.0 machines.0 speeds.0 d.0, d.1)
 
 -- The instance whose lines are all of the text.

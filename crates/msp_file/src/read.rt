@@ -1,5 +1,5 @@
 ghost use Rattle.std.specs.Prelude.{◌≡◌, ◌+◌, ◌<◌, ◌≤◌, ◌^◌, length};
-ghost use Rattle.msp_file.specs.Reading.{front_at, filed_at, filed_of, no_draft};
+ghost use Rattle.msp_file.specs.Reading.{front_at, filed_at, filed_of, no_draft, jobs_at};
 ghost use Rattle.msp_file.specs.Steps.{Gives, Moves, place_of};
 
 use crate::draft::{Draft, jobs_at};
@@ -38,6 +38,22 @@ fn filed_of(class: Class, machines: u32, speeds: List<u64>, draft: Draft) -> Fil
     }
 }
 
+/// Reads the lines after the head.
+fn draft_at(
+    alloc: Global,
+    class: Class,
+    machines: u32,
+    lines: &mut Lines<'_>,
+) -> Result<Draft, FileFault>
+    ensures { Moves (λ d. d) result (place_of lines.new) (jobs_at (length lines.old.rest.now + 1) class machines no_draft (place_of lines.old)) }
+{
+    let mut draft = no_draft(alloc);
+    match jobs_at(alloc, class, machines, &mut draft, lines) {
+        Ok(()) => Ok(draft),
+        Err(fault) => Err(fault),
+    }
+}
+
 /// Reads the lines of an instance at the front of a text.
 #[tactic(auto, unfolding(crate::specs::Reading::front_at))]
 fn front_at(alloc: Global, bytes: &[u8], lines: &mut Lines<'_>) -> Result<Filed, FileFault>
@@ -48,8 +64,7 @@ fn front_at(alloc: Global, bytes: &[u8], lines: &mut Lines<'_>) -> Result<Filed,
     let class = class_at(lines)?;
     let machines = machines_at(class.env, lines)?;
     let speeds = speeds_at(alloc, class.env, machines, lines)?;
-    let mut draft = no_draft(alloc);
-    jobs_at(alloc, class, machines, &mut draft, lines)?;
+    let draft = draft_at(alloc, class, machines, lines)?;
     Ok(filed_of(class, machines, speeds, draft))
 }
 
