@@ -1,3 +1,6 @@
 pub mod Limits
 pub mod MultipleLemmas
 pub mod FaultLemmas
+pub mod ArcLemmas
+pub mod ListingLemmas
+pub mod OrderLemmas

@@ -8,9 +8,11 @@
 mod jobs;
 mod membership;
 mod ranges;
+mod sequence;
 mod speeds;
 
 pub use membership::{ClassFault, check};
+pub use sequence::OrderFault;
 use msp_class::{Class, List};
 pub use ranges::{
     GREATEST, GREATEST_MULTIPLE, GREATEST_SPEED, MOST_ARCS, MOST_JOBS, MOST_MACHINES,
