@@ -4,3 +4,4 @@ pub mod FaultLemmas
 pub mod ArcLemmas
 pub mod ListingLemmas
 pub mod OrderLemmas
+pub mod SearchLemmas

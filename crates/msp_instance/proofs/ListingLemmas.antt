@@ -16,15 +16,26 @@ list_any-from_Contains xs j c = list_any-from_Any (λ x. x == j) xs (c.0, j, c.1
 pub Contains-from_list_any : (xs : List ℕ) (j : ℕ) → list_any (λ x. x == j) xs ≡ true → Contains xs j
 Contains-from_list_any xs j h = let a = Any-from_list_any (λ x. x == j) xs h in subst (Contains xs) (eqb-true _ _ a.4) (a.0, a.2, a.3)
 
-pub Contains-take : (xs : List ℕ) (m n j : ℕ) → m ≤ n → Contains (take m xs) j → Contains (take n xs) j
-Contains-take xs m n j h c =
-    let at : c.0 < m = omega (arith, c.1, length-take m xs) in
-    (c.0, omega (arith, c.1, length-take m xs, length-take n xs), get_or-take n xs c.0 j (omega arith) ∙ sym (get_or-take m xs c.0 j at) ∙ c.2)
+module _ {X : Type 0} where
+  pub Contains-take : (xs : List X) (m n : ℕ) (x : X) → m ≤ n → Contains (take m xs) x → Contains (take n xs) x
+  Contains-take xs m n x h c =
+      let at : c.0 < m = omega (arith, c.1, length-take m xs) in
+      (c.0, omega (arith, c.1, length-take m xs, length-take n xs), get_or-take n xs c.0 x (omega arith) ∙ sym (get_or-take m xs c.0 x at) ∙ c.2)
 
-pub Contains-take_all : (xs : List ℕ) (m j : ℕ) → Contains (take m xs) j → Contains xs j
-Contains-take_all xs m j c =
-    let at : c.0 < m = omega (arith, c.1, length-take m xs) in
-    (c.0, omega (arith, c.1, length-take m xs), sym (get_or-take m xs c.0 j at) ∙ c.2)
+  pub Contains-from_take : (xs : List X) (m : ℕ) (x : X) → Contains (take m xs) x → Contains xs x
+  Contains-from_take xs m x c =
+      let at : c.0 < m = omega (arith, c.1, length-take m xs) in
+      (c.0, omega (arith, c.1, length-take m xs), sym (get_or-take m xs c.0 x at) ∙ c.2)
+
+  -- what stands in a list stands in one that begins with it
+  pub Contains-kept : (old new : List X) (x : X) → take (length old) new ≡ old → Contains old x → Contains new x
+  Contains-kept old new x kept c = Contains-from_take new (length old) x (subst (λ l. Contains l x) (sym kept) c)
+
+  pub get_or-kept : (old new : List X) (k : ℕ) (d : X) → take (length old) new ≡ old → k < length old → get_or new k d ≡ get_or old k d
+  get_or-kept old new k d kept t = sym (get_or-take (length old) new k d t) ∙ ap (λ l. get_or l k d) kept
+
+  pub length-kept : (old new : List X) → take (length old) new ≡ old → length old ≤ length new
+  length-kept old new kept = omega (arith, length-take (length old) new, ap length kept)
 
 count_push : (xs : List ℕ) (j k : ℕ) → count_by (λ x. x == k) (xs ++ j ∷ []) ≡ count_by (λ x. x == k) xs + cond (j == k) 1 0
 count_push xs j k = sum_by_push (λ x. cond (x == k) 1 0) xs j

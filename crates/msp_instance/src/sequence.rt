@@ -1,7 +1,8 @@
-ghost use Rattle.std.specs.Prelude.{◌≡◌, ℕ, ◌+◌, ◌-◌, ◌<◌, ◌≤◌, ◌^◌, ◌==◌, ◌++◌, List, length, IfOk, OnOk, All, Contains, true, false, slice_index, slice_index_or, slice_set, take, filter, [], ◌∷◌, if◌then◌else◌};
+ghost use Rattle.std.specs.Prelude.{◌≡◌, ℕ, ◌+◌, ◌-◌, ◌<◌, ◌≤◌, ◌^◌, ◌==◌, ◌++◌, List, length, IfOk, OnOk, IsTrue, ◌↔◌, All, Contains, true, false, slice_index, slice_index_or, slice_set, take, filter, [], ◌∷◌, if◌then◌else◌};
 ghost use Rattle.std.specs.List.{range_with_len};
 ghost use Rattle.std.specs.List.Sorted.{IsPermutation, IsNonDecreasingBy};
 ghost use Rattle.msp_instance.specs.Conditions.{entering};
+ghost use Rattle.msp_instance.specs.Paths.{HasPath, IsLeastOnCycle};
 ghost use Rattle.msp_instance.specs.Listing.{IsListing, IsLongestOrder, IsMet};
 
 
@@ -142,4 +143,40 @@ fn meet(seen: &mut [bool], found: &mut Vec<u32>, leaving: &[Arc]) -> Result<(), 
         note(seen, found, a.after)?;
     }
     Ok(())
+}
+
+/// Whether a path of arcs leads from a job to itself.
+fn leads_to_itself(alloc: Global, jobs: usize, sorted: &[Arc], start: u32) -> Result<bool, AllocError>
+    requires sorted { IsNonDecreasingBy (λ a. a.before) sorted.now }
+    requires ends { All (λ a. (a.before < jobs) × (a.after < jobs)) sorted.now }
+    requires start { start < jobs }
+    ensures { IfOk result (λ found. IsTrue found ↔ HasPath sorted.now start start) }
+{
+    let mut flags = vec![in alloc; false; jobs]?;
+    let seen = flags.as_mut_slice();
+    let mut found = Vec::new(alloc);
+    meet(seen, &mut found, leaving_of(sorted, start))?;
+    let mut done = 0;
+    while done < found.len() {
+        let leaving = leaving_of(sorted, found[done]);
+        meet(seen, &mut found, leaving)?;
+        done += 1;
+    }
+    Ok(seen[start as usize])
+}
+
+/// The least job from which a path of arcs leads to itself.
+fn least_on_cycle(alloc: Global, jobs: usize, sorted: &[Arc]) -> Result<u32, AllocError>
+    requires few { jobs < 2 ^ 32 }
+    requires sorted { IsNonDecreasingBy (λ a. a.before) sorted.now }
+    requires ends { All (λ a. (a.before < jobs) × (a.after < jobs)) sorted.now }
+    requires some { (j : ℕ) × (j < jobs) × HasPath sorted.now j j }
+    ensures { IfOk result (IsLeastOnCycle jobs sorted.now) }
+{
+    for job in 0..jobs as u32 {
+        if leads_to_itself(alloc, jobs, sorted, job)? {
+            return Ok(job);
+        }
+    }
+    unreachable!()
 }
