@@ -1,10 +1,10 @@
 -- Lemmas on sorted arcs, and on how many arcs enter a job.
-use Rattle.std.proofs.Common.{◌≡◌, ◌≢◌, ℕ, zero, suc, ◌+◌, ◌-◌, ◌<◌, ◌≤◌, Bool, true, false, cond, not, eqb, ltb, leb, List, [], ◌∷◌, ◌++◌, length, get_or, take, drop, set, filter, replicate, count_by, ◌==◌, ◌⊎◌, inl, inr, add-one, All, refl, sym, ap, ◌∙◌, subst, arith}
+use Rattle.std.proofs.Common.{◌≡◌, ℕ, ◌+◌, ◌-◌, ◌<◌, ◌≤◌, Bool, true, false, cond, eqb, ltb, leb, List, [], ◌∷◌, ◌++◌, length, get_or, take, drop, set, filter, replicate, ◌==◌, inl, inr, add-one, All, refl, sym, ap, ◌∙◌, subst, arith}
 use Rattle.std.proofs.Math.ListN.{length-set, length-replicate}
 use Rattle.std.proofs.lemmas.Grind.{get_or-set_at}
 use Rattle.std.specs.List.{range_with_len}
 use Rattle.std.specs.List.Sorted.{IsPartitionPoint}
-use Rattle.std.proofs.lemmas.List.{append-nil, get_or-replicate, get_or-take, get_or-drop, length-take, length-drop, take_all, take-append-drop, get_or_default, get_or-set_same, get_or-set_other}
+use Rattle.std.proofs.lemmas.List.{append-nil, get_or-replicate, get_or-take, get_or-drop, length-take, length-drop, take_all, take-append-drop, get_or_default, get_or-set_other}
 use Rattle.std.proofs.lemmas.List.Elements.{All-head, All-tail, filter-append}
 use Rattle.std.proofs.lemmas.List.Sums.{sum_by_more, count_by-le-length}
 use Rattle.std.proofs.lemmas.Bool.{cases_Bool, ne_eqb, eq-eqb, eqb-true, eqb-false, ltb-true, ltb-false, leb-true, leb-false}
@@ -32,10 +32,10 @@ pub filter_between : {X : Type 0} (key : X → ℕ) (j : ℕ) (xs : List X) (a b
     → take b (drop a xs) ≡ filter (λ x. eqb (key x) j) xs
 filter_between {X} key j xs a b low high =
     sym (ap (filter p) (sym (take-append-drop a xs)) ∙ filter-append p (take a xs) (drop a xs) ∙ ap (λ l. l ++ filter p (drop a xs)) (filter_none p (take a xs) lesser)
-      ∙ ap (filter p) (sym (take-append-drop b (drop a xs))) ∙ filter-append p (take b (drop a xs)) (drop b (drop a xs))
-      ∙ ap (λ l. l ++ filter p (drop b (drop a xs))) (filter_all p (take b (drop a xs)) equal)
-      ∙ ap (λ l. take b (drop a xs) ++ l) (filter_none p (drop b (drop a xs)) greater)
-      ∙ append-nil (take b (drop a xs)))
+    ∙ ap (filter p) (sym (take-append-drop b (drop a xs))) ∙ filter-append p (take b (drop a xs)) (drop b (drop a xs))
+    ∙ ap (λ l. l ++ filter p (drop b (drop a xs))) (filter_all p (take b (drop a xs)) equal)
+    ∙ ap (λ l. take b (drop a xs) ++ l) (filter_none p (drop b (drop a xs)) greater)
+    ∙ append-nil (take b (drop a xs)))
   where
     p : X → Bool
     p x = eqb (key x) j

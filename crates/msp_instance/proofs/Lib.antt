@@ -5,3 +5,4 @@ pub mod ArcLemmas
 pub mod ListingLemmas
 pub mod OrderLemmas
 pub mod SearchLemmas
+pub mod CycleLemmas

@@ -1,12 +1,12 @@
 -- Lemmas on lists of the numbers below n that pass a test.
-use Rattle.std.proofs.Common.{◌≡◌, ◌≢◌, ℕ, zero, suc, ◌+◌, ◌*◌, ◌<◌, ◌≤◌, Bool, true, false, cond, not, ◌==◌, ◌&&◌, eqb, ltb, List, [], ◌∷◌, ◌++◌, length, get_or, take, filter, count_by, sum_by, All, AllPairs, Any, Contains, ◌⊎◌, inl, inr, refl, sym, ap, ◌∙◌, subst, arith}
+use Rattle.std.proofs.Common.{◌≡◌, ◌≢◌, ℕ, ◌+◌, ◌*◌, ◌<◌, ◌≤◌, Bool, true, false, cond, ◌==◌, eqb, ltb, List, [], ◌∷◌, ◌++◌, length, get_or, take, filter, count_by, All, AllPairs, Contains, inl, inr, refl, sym, ap, ◌∙◌, subst, arith}
 use Rattle.std.specs.List.{list_any, range_with_len}
-use Rattle.std.proofs.lemmas.Bool.{cases_Bool, eqb-true, eqb-false, eq-eqb, ne_eqb, ltb-true, ltb-false, false≢true}
-use Rattle.std.proofs.lemmas.List.{take_all, get_or_default, get_or-take, length-take}
+use Rattle.std.proofs.lemmas.Bool.{cases_Bool, eqb-true, eqb-false, eq-eqb, ne_eqb, ltb-true, ltb-false}
+use Rattle.std.proofs.lemmas.List.{get_or_default, get_or-take, length-take}
 use Rattle.std.proofs.lemmas.List.Folds.{Any-from_list_any, list_any-from_Any}
 use Rattle.std.proofs.lemmas.List.Sums.{sum_by_push}
-use Rattle.std.proofs.lemmas.List.Elements.{All-push, All-contains, All-filter, Contains-get_or}
-use Rattle.msp_class.proofs.Sums.{cond-yes, cond-no, eqb_comm, sum_by-constant, sum_by-filter, sum_by-agree, sum_by-none, sum_by-some, sum_by-contains, sum_by_counts, total_below, total_below-range, total_below-same, total_below-mono, total_below-only, total_below-constant, OnceBelow, OnceBelow-range, distinct_from_counts}
+use Rattle.std.proofs.lemmas.List.Elements.{All-push, All-contains, All-filter}
+use Rattle.msp_class.proofs.Sums.{cond-yes, cond-no, eqb_comm, sum_by-constant, sum_by-filter, sum_by-agree, sum_by-none, sum_by-some, sum_by-contains, sum_by_counts, total_below-range, total_below-mono, total_below-only, total_below-constant, OnceBelow, OnceBelow-range, distinct_from_counts}
 use Rattle.msp_instance.specs.Listing.{IsListing}
 
 -- ---- membership as a test

@@ -1,16 +1,16 @@
 -- Lemmas on paths, and on the search for the jobs to which paths lead.
-use Rattle.std.proofs.Common.{◌≡◌, ◌≢◌, ℕ, zero, suc, ◌+◌, ◌-◌, ◌<◌, ◌≤◌, Bool, true, false, cond, ◌==◌, List, [], ◌∷◌, ◌++◌, length, get_or, take, set, filter, replicate, All, Any, Contains, ◌⊎◌, inl, inr, IsTrue, ◌↔◌, refl, sym, ap, ◌∙◌, subst, arith}
+use Rattle.std.proofs.Common.{◌≡◌, ◌≢◌, ℕ, ◌+◌, ◌-◌, ◌<◌, ◌≤◌, Bool, true, false, cond, ◌==◌, List, [], ◌∷◌, ◌++◌, length, get_or, take, set, filter, replicate, All, Any, Contains, ◌⊎◌, inl, inr, IsTrue, ◌↔◌, refl, sym, ap, ◌∙◌, subst, arith}
 use Rattle.std.specs.List.Sorted.{IsPermutation}
 use Rattle.std.proofs.lemmas.Bool.{cases_Bool, cases_lt, eqb-true, eqb-false, eq-eqb}
-use Rattle.std.proofs.lemmas.List.{take_all, take_more, take-append-le, get_or_default, get_or-take, get_or-set_other, get_or-replicate, length-take, length-set, length-replicate}
-use Rattle.std.proofs.lemmas.List.Elements.{All-nil, All-push, All-filter, All-weaker, All-contains, Contains-get_or, Contains-push, Contains-append_left, Contains-push_cases}
+use Rattle.std.proofs.lemmas.List.{take_all, take_more, take-append-le, get_or_default, get_or-set_other, length-set, length-replicate}
+use Rattle.std.proofs.lemmas.List.Elements.{All-nil, All-push, All-filter, All-weaker, All-contains, Contains-get_or, Contains-push, Contains-append_left}
 use Rattle.std.proofs.lemmas.List.Sorted.{Contains-permutation}
 use Rattle.std.proofs.lemmas.Grind.{get_or-set_at}
 use Rattle.msp_class.proofs.Sums.{Contains-filter, Contains-from_filter}
 use Rattle.msp_instance.specs.declared.Arc.{Arc}
 use Rattle.msp_instance.specs.Paths.{HasStep, HasPath, one, more}
 use Rattle.msp_instance.specs.Listing.{IsListing, IsMet}
-use Rattle.msp_instance.proofs.ListingLemmas.{Contains-take, Contains-kept, get_or-kept, length-kept, IsListing-none, IsListing-same, IsListing-push, IsListing-length, IsListing-contains, IsListing-passes}
+use Rattle.msp_instance.proofs.ListingLemmas.{Contains-take, Contains-kept, get_or-kept, length-kept, IsListing-same, IsListing-push, IsListing-length, IsListing-contains, IsListing-passes}
 
 -- ---- paths
 pub HasPath-permutation : (xs ys : List Arc) → IsPermutation xs ys → {j k : ℕ} → HasPath xs j k → HasPath ys j k

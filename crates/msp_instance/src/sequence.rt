@@ -1,12 +1,12 @@
-ghost use Rattle.std.specs.Prelude.{◌≡◌, ℕ, ◌+◌, ◌-◌, ◌<◌, ◌≤◌, ◌^◌, ◌==◌, ◌++◌, List, length, IfOk, OnOk, IsTrue, ◌↔◌, All, Contains, true, false, slice_index, slice_index_or, slice_set, take, filter, [], ◌∷◌, if◌then◌else◌};
+ghost use Rattle.std.specs.Prelude.{◌≡◌, ℕ, ◌+◌, ◌-◌, ◌<◌, ◌≤◌, ◌^◌, ◌==◌, ◌++◌, length, IfOk, IfErr, OnOk, IsTrue, ◌↔◌, All, Contains, true, false, slice_index, slice_index_or, slice_set, take, filter, [], ◌∷◌, if◌then◌else◌};
 ghost use Rattle.std.specs.List.{range_with_len};
 ghost use Rattle.std.specs.List.Sorted.{IsPermutation, IsNonDecreasingBy};
-ghost use Rattle.msp_instance.specs.Conditions.{entering};
-ghost use Rattle.msp_instance.specs.Paths.{HasPath, IsLeastOnCycle};
+ghost use Rattle.msp_instance.specs.Conditions.{entering, IsSequence, GoesForward};
+ghost use Rattle.msp_instance.specs.Paths.{HasPath, IsLeastOnCycle, IsOrderFault};
 ghost use Rattle.msp_instance.specs.Listing.{IsListing, IsLongestOrder, IsMet};
 
-
-use crate::Arc;
+use crate::{Arc, Instance};
+use msp_class::List;
 use std::alloc::{AllocError, Global};
 
 /// Why there is no order of the jobs in which every arc goes forward.
@@ -16,6 +16,16 @@ pub enum OrderFault {
     Cycle { job: u32 },
     /// Want of memory.
     Memory,
+}
+
+impl From<AllocError> for OrderFault {
+    ghost use Rattle.msp_instance.specs.declared.sequence.OrderFault.TheVariants.{Memory};
+
+    ghost from_gives = { λ _ e. e ≡ Memory };
+
+    fn from(_e: AllocError) -> OrderFault {
+        OrderFault::Memory
+    }
 }
 
 /// The arcs by their jobs before.
@@ -146,7 +156,12 @@ fn meet(seen: &mut [bool], found: &mut Vec<u32>, leaving: &[Arc]) -> Result<(), 
 }
 
 /// Whether a path of arcs leads from a job to itself.
-fn leads_to_itself(alloc: Global, jobs: usize, sorted: &[Arc], start: u32) -> Result<bool, AllocError>
+fn leads_to_itself(
+    alloc: Global,
+    jobs: usize,
+    sorted: &[Arc],
+    start: u32,
+) -> Result<bool, AllocError>
     requires sorted { IsNonDecreasingBy (λ a. a.before) sorted.now }
     requires ends { All (λ a. (a.before < jobs) × (a.after < jobs)) sorted.now }
     requires start { start < jobs }
@@ -179,4 +194,26 @@ fn least_on_cycle(alloc: Global, jobs: usize, sorted: &[Arc]) -> Result<u32, All
         }
     }
     unreachable!()
+}
+
+/// All jobs, each once, in an order in which every arc goes forward.
+///
+/// It takes time linear in the jobs and arcs, up to sorting the arcs. Where there is a cycle, the search for the least job on one
+/// takes as long again for each job.
+pub fn forward(alloc: Global, inst: &Instance) -> Result<List<u32>, OrderFault>
+    requires few { length inst.now.jobs < 2 ^ 32 }
+    requires ends { All (λ a. (a.before < length inst.now.jobs) × (a.after < length inst.now.jobs)) inst.now.arcs }
+    ensures sequence { IfOk result (IsSequence inst.now) }
+    ensures forward { IfOk result (λ order. All (GoesForward order) inst.now.arcs) }
+    ensures fault { IfErr result (IsOrderFault inst.now) }
+{
+    let jobs = inst.jobs.len();
+    let sorted = sorted_arcs(alloc, inst.arcs.as_slice())?;
+    let arcs = sorted.as_slice();
+    let order = longest_order(alloc, jobs, arcs)?;
+    if order.len() == jobs {
+        return Ok(List::from_vec(order));
+    }
+    let job = least_on_cycle(alloc, jobs, arcs)?;
+    Err(OrderFault::Cycle { job })
 }

@@ -10,6 +10,6 @@ returns c =
     let rest = take (length xs - a) (drop a xs) in
     filter_between_cut (λ x. x.before) c.args.job xs a c.partition_point-end.result
     (IsPartitionPoint-from_clause (λ x. ltb x.before c.args.job) xs _ c.partition_point-first.ensures.partitioned
-      (IsPartitionedBy-ltb (λ x. x.before) xs c.args.job c.requires) (λ a r q k. search rules))
+    (IsPartitionedBy-ltb (λ x. x.before) xs c.args.job c.requires) (λ a r q k. search rules))
     (IsPartitionPoint-from_clause (λ x. leb x.before c.args.job) rest _ c.partition_point-end.ensures.partitioned
-      (IsPartitionedBy-leb (λ x. x.before) rest c.args.job (IsNonDecreasingBy-take (λ x. x.before) _ _ (IsNonDecreasingBy-drop (λ x. x.before) a xs c.requires))) (λ a r q k. search rules))
+    (IsPartitionedBy-leb (λ x. x.before) rest c.args.job (IsNonDecreasingBy-take (λ x. x.before) _ _ (IsNonDecreasingBy-drop (λ x. x.before) a xs c.requires))) (λ a r q k. search rules))

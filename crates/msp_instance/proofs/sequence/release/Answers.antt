@@ -1,4 +1,4 @@
-use Rattle.std.proofs.Common.{length, arith}
+use Rattle.std.proofs.Common.{length}
 use Rattle.msp_instance.proofs.OrderLemmas.{IsReleasing-some, IsReleasing-more}
 use Rattle.msp_instance.proofs.sequence.release.Goals as goal
 
