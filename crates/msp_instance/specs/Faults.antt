@@ -1,5 +1,5 @@
 -- Which condition of its class an instance breaks first.
-use Rattle.std.specs.Prelude.{◌≡◌, ◌≢◌, ℕ, ◌<◌, ◌≤◌, ◌⊎◌, length, slice_index_or, All, take}
+use Rattle.std.specs.Prelude.{⊤, ◌≡◌, ◌≢◌, ℕ, ◌<◌, ◌≤◌, ◌⊎◌, length, slice_index_or, All, take}
 use Rattle.msp_instance.specs.declared.Arc.{Arc}
 use Rattle.msp_instance.specs.declared.Instance.{Instance}
 use Rattle.msp_instance.specs.declared.membership.ClassFault.{ClassFault}
@@ -37,17 +37,17 @@ Condition i (Degree j) = HasDegree i.class.order i.arcs j
 
 -- The job or the arc that the fault names, if it names one, is one of the instance.
 abbrev pub IsOf : Instance → ClassFault → Type 0
-IsOf i Jobs = Unit {0}
-IsOf i Machines = Unit {0}
-IsOf i Speeds = Unit {0}
-IsOf i Multiple = Unit {0}
+IsOf i Jobs = ⊤
+IsOf i Machines = ⊤
+IsOf i Speeds = ⊤
+IsOf i Multiple = ⊤
 IsOf i (NeedFault j) = j < length i.jobs
 IsOf i (UnitFault j) = j < length i.jobs
 IsOf i (Head j) = j < length i.jobs
 IsOf i (Due j) = j < length i.jobs
 IsOf i (Weight j) = j < length i.jobs
 IsOf i (CurveFault j) = j < length i.jobs
-IsOf i Arcs = Unit {0}
+IsOf i Arcs = ⊤
 IsOf i (ArcFault at) = at < length i.arcs
 IsOf i (Degree j) = j < length i.jobs
 

@@ -2,3 +2,5 @@ pub mod Instance
 pub mod Conditions
 pub mod Faults
 pub mod Multiples
+pub mod Paths
+pub mod Listing

@@ -8,7 +8,10 @@
 mod jobs;
 mod membership;
 mod ranges;
+mod sequence;
 mod speeds;
+#[cfg(test)]
+mod tests;
 
 pub use membership::{ClassFault, check};
 use msp_class::{Class, List};
@@ -17,6 +20,7 @@ pub use ranges::{
     GREATEST, GREATEST_MULTIPLE, GREATEST_SPEED, MOST_ARCS, MOST_JOBS, MOST_MACHINES,
     MOST_OPERATIONS, MOST_STEPS,
 };
+pub use sequence::{OrderFault, forward};
 
 /// An operation that a job needs: its machine, from 0, and its processing time.
 ///

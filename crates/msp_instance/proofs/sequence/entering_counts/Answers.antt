@@ -1,0 +1,9 @@
+use Rattle.std.proofs.Common.{arith}
+use Rattle.msp_instance.proofs.ArcLemmas.{CountsEntering-read}
+use Rattle.msp_instance.proofs.sequence.entering_counts.Goals as goal
+
+pub overflow_add-index_mut : goal.overflow_add-index_mut
+overflow_add-index_mut c = omega (arith, (CountsEntering-read c.args.arcs.now c.loop-a.a-index _ c.args.jobs _ _ c.loop-a-test.true c.requires c.loop-a.invariant c.index_mut.ensures.value).0)
+
+pub loop-a-preserved : goal.loop-a-preserved
+loop-a-preserved c = (CountsEntering-read c.args.arcs.now c.loop-a.a-index _ c.args.jobs _ _ c.loop-a-test.true c.requires c.loop-a.invariant c.index_mut.ensures.value).1
