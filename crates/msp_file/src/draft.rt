@@ -104,6 +104,7 @@ fn arc_line_at(at: u32, draft: &mut Draft, fields: &[u8]) -> Result<(), FileFaul
     requires { length draft.old.names ≤ 400 }
     ensures gives { Gives (λ _. draft.new) result (arc_line_at at draft.old (fields_after fields.now)) }
     ensures names { OnOk result (draft.new.names ≡ draft.old.names) }
+    ensures jobs { OnOk result (draft.new.jobs ≡ draft.old.jobs) }
 {
     if draft.arcs.len() >= MOST_ARCS {
         return Err(FileFault::Limit {
@@ -143,6 +144,7 @@ fn arc_step(draft: &mut Draft, lines: &mut Lines<'_>) -> Result<bool, FileFault>
     requires { length draft.old.names ≤ 400 }
     ensures after { AfterArc result draft.old (place_of lines.old) draft.new (place_of lines.new) }
     ensures names { OnOk result (draft.new.names ≡ draft.old.names) }
+    ensures jobs { OnOk result (draft.new.jobs ≡ draft.old.jobs) }
     ensures shrinks { OnOk result (length lines.new.rest.now < length lines.old.rest.now) }
 {
     let at = lines.at;
@@ -159,7 +161,9 @@ fn arc_step(draft: &mut Draft, lines: &mut Lines<'_>) -> Result<bool, FileFault>
 /// Reads the lines after an arc, up to the last one.
 fn arcs_at(draft: &mut Draft, lines: &mut Lines<'_>) -> Result<(), FileFault>
     requires { length draft.old.names ≤ 400 }
-    ensures { (n : ℕ) → length lines.old.rest.now < n → Moves (λ _. draft.new) result (place_of lines.new) (arcs_at n draft.old (place_of lines.old)) }
+    ensures names { OnOk result (draft.new.names ≡ draft.old.names) }
+    ensures jobs { OnOk result (draft.new.jobs ≡ draft.old.jobs) }
+    ensures moves { (n : ℕ) → length lines.old.rest.now < n → Moves (λ _. draft.new) result (place_of lines.new) (arcs_at n draft.old (place_of lines.old)) }
 {
     'lines: loop {
         match arc_step(draft, lines) {
@@ -189,7 +193,7 @@ fn job_step(
     requires few { length draft.old.names ≤ 400 }
     ensures after { AfterJob class machines result draft.old (place_of lines.old) draft.new (place_of lines.new) }
     ensures few { OnOk result (length draft.new.names ≤ 400) }
-    ensures even { IfOk result (λ next. next ≡ Next.Job → length draft.new.names ≡ length draft.new.jobs) }
+    ensures even { OnOk result (length draft.new.names ≡ length draft.new.jobs) }
     ensures shrinks { OnOk result (length lines.new.rest.now < length lines.old.rest.now) }
 {
     let at = lines.at;
@@ -217,7 +221,8 @@ pub(crate) fn jobs_at(
 ) -> Result<(), FileFault>
     requires even { length draft.old.names ≡ length draft.old.jobs }
     requires few { length draft.old.names ≤ 400 }
-    ensures { (n : ℕ) → length lines.old.rest.now < n → Moves (λ _. draft.new) result (place_of lines.new) (jobs_at n class machines draft.old (place_of lines.old)) }
+    ensures even { OnOk result (length draft.new.names ≡ length draft.new.jobs) }
+    ensures moves { (n : ℕ) → length lines.old.rest.now < n → Moves (λ _. draft.new) result (place_of lines.new) (jobs_at n class machines draft.old (place_of lines.old)) }
 {
     'lines: loop {
         match job_step(alloc, class, machines, draft, lines) {

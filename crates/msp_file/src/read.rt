@@ -1,4 +1,4 @@
-ghost use Rattle.std.specs.Prelude.{◌≡◌, ◌+◌, ◌<◌, ◌≤◌, ◌^◌, length};
+ghost use Rattle.std.specs.Prelude.{◌≡◌, ◌+◌, ◌<◌, ◌≤◌, ◌^◌, length, IfOk};
 ghost use Rattle.msp_file.specs.Reading.{front_at, filed_at, filed_of, no_draft, jobs_at};
 ghost use Rattle.msp_file.specs.Steps.{Gives, Moves, place_of};
 
@@ -45,7 +45,8 @@ fn draft_at(
     machines: u32,
     lines: &mut Lines<'_>,
 ) -> Result<Draft, FileFault>
-    ensures { Moves (λ d. d) result (place_of lines.new) (jobs_at (length lines.old.rest.now + 1) class machines no_draft (place_of lines.old)) }
+    ensures even { IfOk result (λ d. length d.names ≡ length d.jobs) }
+    ensures moves { Moves (λ d. d) result (place_of lines.new) (jobs_at (length lines.old.rest.now + 1) class machines no_draft (place_of lines.old)) }
 {
     let mut draft = no_draft(alloc);
     match jobs_at(alloc, class, machines, &mut draft, lines) {
@@ -57,8 +58,9 @@ fn draft_at(
 /// Reads the lines of an instance at the front of a text.
 #[tactic(auto, unfolding(crate::specs::Reading::front_at))]
 fn front_at(alloc: Global, bytes: &[u8], lines: &mut Lines<'_>) -> Result<Filed, FileFault>
-    requires start { place_of lines.old ≡ record { at = 1; rest = bytes.now } }
-    ensures { Moves (λ x. x) result (place_of lines.new) (front_at bytes.now) }
+    requires { place_of lines.old ≡ record { at = 1; rest = bytes.now } }
+    ensures even { IfOk result (λ f. length f.names ≡ length f.instance.jobs) }
+    ensures moves { Moves (λ x. x) result (place_of lines.new) (front_at bytes.now) }
 {
     version_at(lines)?;
     let class = class_at(lines)?;
@@ -72,7 +74,8 @@ fn front_at(alloc: Global, bytes: &[u8], lines: &mut Lines<'_>) -> Result<Filed,
 #[tactic(auto, unfolding(crate::specs::Reading::filed_at))]
 fn filed_at(alloc: Global, bytes: &[u8]) -> Result<Filed, FileFault>
     requires { length bytes.now ≤ 2 ^ 26 }
-    ensures { Gives (λ x. x) result (filed_at bytes.now) }
+    ensures even { IfOk result (λ f. length f.names ≡ length f.instance.jobs) }
+    ensures gives { Gives (λ x. x) result (filed_at bytes.now) }
 {
     let mut lines = Lines { at: 1, rest: bytes };
     let filed = front_at(alloc, bytes, &mut lines)?;
