@@ -4,3 +4,4 @@ pub mod Numbers
 pub mod InstanceText
 pub mod Reading
 pub mod Steps
+pub mod Answers

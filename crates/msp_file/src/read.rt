@@ -1,4 +1,6 @@
-ghost use Rattle.std.specs.Prelude.{◌≡◌, ◌+◌, ◌<◌, ◌≤◌, ◌^◌, length, IfOk};
+ghost use Rattle.std.specs.Prelude.{◌≡◌, ◌+◌, ◌<◌, ◌≤◌, ◌^◌, length, IfOk, MatchResult, Ok};
+ghost use Rattle.msp_instance.specs.Conditions.{MeetsConditions, text_limits, InClass};
+ghost use Rattle.msp_file.specs.Answers.{faulty_name, IsFaultOf, IsAnswerTo};
 ghost use Rattle.msp_file.specs.Reading.{front_at, filed_at, filed_of, no_draft, jobs_at};
 ghost use Rattle.msp_file.specs.Steps.{Gives, Moves, place_of};
 
@@ -6,10 +8,11 @@ use crate::draft::{Draft, jobs_at};
 use crate::fault::FileFault;
 use crate::filed::Filed;
 use crate::head::{class_at, machines_at, speeds_at, version_at};
+use crate::job_name::JobName;
 use crate::names::Names;
 use crate::place::Lines;
 use msp_class::{Class, List};
-use msp_instance::Instance;
+use msp_instance::{ClassFault, Instance, OrderFault, check, forward};
 use std::alloc::Global;
 
 fn no_draft(alloc: Global) -> Draft
@@ -83,4 +86,38 @@ fn filed_at(alloc: Global, bytes: &[u8]) -> Result<Filed, FileFault>
         return Err(FileFault::After { at: lines.at });
     }
     Ok(filed)
+}
+
+/// The name of the job that a fault of the class names, if it names one.
+fn faulty_name(names: &Names, fault: ClassFault) -> Option<JobName>
+    ensures { result ≡ faulty_name names.now fault }
+{
+    match fault {
+        ClassFault::Need { job }
+        | ClassFault::Unit { job }
+        | ClassFault::Head { job }
+        | ClassFault::Due { job }
+        | ClassFault::Weight { job }
+        | ClassFault::Curve { job }
+        | ClassFault::Degree { job } => names.get(job as usize),
+        ClassFault::Jobs
+        | ClassFault::Machines
+        | ClassFault::Speeds
+        | ClassFault::Multiple
+        | ClassFault::Arcs
+        | ClassFault::Arc { .. } => None,
+    }
+}
+
+/// The first condition that the instance breaks, as a fault of its text.
+fn check_class(filed: &Filed) -> Result<(), FileFault>
+    ensures { MatchResult result (λ _. MeetsConditions text_limits filed.now.instance) (λ e. IsFaultOf (Ok filed.now) e) }
+{
+    match check(&filed.instance) {
+        Ok(()) => Ok(()),
+        Err(fault) => Err(FileFault::Class {
+            fault,
+            name: faulty_name(&filed.names, fault),
+        }),
+    }
 }
