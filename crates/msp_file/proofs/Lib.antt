@@ -4,3 +4,5 @@ mod Fields
 mod Pairs
 mod Loops
 mod Multiples
+mod LineFaults
+mod AnswerLemmas

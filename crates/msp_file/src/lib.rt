@@ -26,3 +26,4 @@ pub use filed::Filed;
 pub use job_name::JobName;
 pub use names::Names;
 pub use print::print_schedule;
+pub use read::read_instance;

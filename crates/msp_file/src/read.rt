@@ -1,5 +1,5 @@
 ghost use Rattle.std.specs.Prelude.{◌≡◌, ◌+◌, ◌<◌, ◌≤◌, ◌^◌, length, IfOk, MatchResult, Ok};
-ghost use Rattle.msp_instance.specs.Conditions.{MeetsConditions, text_limits, InClass};
+ghost use Rattle.msp_instance.specs.Conditions.{MeetsConditions, text_limits, IsAcyclic};
 ghost use Rattle.msp_file.specs.Answers.{faulty_name, IsFaultOf, IsAnswerTo};
 ghost use Rattle.msp_file.specs.Reading.{front_at, filed_at, filed_of, no_draft, jobs_at};
 ghost use Rattle.msp_file.specs.Steps.{Gives, Moves, place_of};
@@ -120,4 +120,36 @@ fn check_class(filed: &Filed) -> Result<(), FileFault>
             name: faulty_name(&filed.names, fault),
         }),
     }
+}
+
+/// The least job on a cycle of arcs, as a fault of the text.
+fn check_order(alloc: Global, filed: &Filed) -> Result<(), FileFault>
+    requires conditions { MeetsConditions text_limits filed.now.instance }
+    requires even { length filed.now.names ≡ length filed.now.instance.jobs }
+    ensures { MatchResult result (λ _. IsAcyclic filed.now.instance) (λ e. IsFaultOf (Ok filed.now) e) }
+{
+    match forward(alloc, &filed.instance) {
+        Ok(_) => Ok(()),
+        Err(OrderFault::Memory) => Err(FileFault::Memory),
+        Err(OrderFault::Cycle { job }) => match filed.names.get(job as usize) {
+            Some(name) => Err(FileFault::Cycle { job, name }),
+            None => unreachable!(),
+        },
+    }
+}
+
+/// Reads a whole instance text. The instance is in its class, and the fault is the first one: of the lines in order, then of the
+/// class, then a cycle.
+#[tactic(auto, using(crate::proofs::AnswerLemmas::answer_rules))]
+pub fn read_instance(alloc: Global, bytes: &[u8]) -> Result<Filed, FileFault>
+    requires { length bytes.now ≤ 2 ^ 26 }
+    ensures { IsAnswerTo (filed_at bytes.now) result }
+{
+    let filed = match filed_at(alloc, bytes) {
+        Ok(filed) => filed,
+        Err(fault) => return Err(fault),
+    };
+    check_class(&filed)?;
+    check_order(alloc, &filed)?;
+    Ok(filed)
 }
