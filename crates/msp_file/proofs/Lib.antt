@@ -6,3 +6,4 @@ mod Loops
 mod Multiples
 mod LineFaults
 mod AnswerLemmas
+mod PrintLemmas

@@ -192,16 +192,16 @@ jobs (suc n) c machines d p =
     chain (line_at p) _ (line p) (λ l.
     let fields = fields_of l.0 in
     either
-        (bytes_eq (first_of fields) (codes "job"))
-        _
-        _
-        (chain (job_at_line c machines d p.at (others_of fields) l.1) _ (job c machines d p.at (others_of fields) l.1) (λ e. jobs n c machines e.0 e.1))
-        (either
-            (has_order c.order && bytes_eq (first_of fields) (codes "arc"))
-            _
-            _
-            (chain (arc_line_at p.at d (others_of fields)) _ (arc_line p.at d (others_of fields)) (λ e. arcs n e l.1))
-            (end_line p.at d fields l.1)))
+    (bytes_eq (first_of fields) (codes "job"))
+    _
+    _
+    (chain (job_at_line c machines d p.at (others_of fields) l.1) _ (job c machines d p.at (others_of fields) l.1) (λ e. jobs n c machines e.0 e.1))
+    (either
+    (has_order c.order && bytes_eq (first_of fields) (codes "arc"))
+    _
+    _
+    (chain (arc_line_at p.at d (others_of fields)) _ (arc_line p.at d (others_of fields)) (λ e. arcs n e l.1))
+    (end_line p.at d fields l.1)))
 
 version : (p : Place) → InLines (version_at p)
 unfolding version_at

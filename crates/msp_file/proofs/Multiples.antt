@@ -34,7 +34,7 @@ there limit speeds h =
     let within : m - 1 < limit = omega (arith, h.1, h.2) in
     let is : get_or (range_with_len 1 limit) (m - 1) 0 ≡ m = get_or-range_with_len 1 limit (m - 1) 0 within ∙ omega (arith, h.1) in
     let all : divides_all speeds m ≡ true =
-        list_all-from_AllPass (λ s. m % s == 0) speeds (λ k d below. let q = h.3 k d below in eq-eqb _ _ (ap (λ n. n % get_or speeds k d) q.1 ∙ mul-mod_left q.0 (get_or speeds k d))) in
+    list_all-from_AllPass (λ s. m % s == 0) speeds (λ k d below. let q = h.3 k d below in eq-eqb _ _ (ap (λ n. n % get_or speeds k d) q.1 ∙ mul-mod_left q.0 (get_or speeds k d))) in
     list_any_at (divides_all speeds) (range_with_len 1 limit) (m - 1) 0 (omega (arith, length-range_with_len 1 limit)) (ap (divides_all speeds) is ∙ all)
 
 -- what the test of the speeds answers

@@ -74,15 +74,25 @@ has_time_key c = has_times c.times && has_one_time (kind_of c.env)
 abbrev pub has_times_line : Class → Bool
 has_times_line c = has_times c.times && has_machine_times (kind_of c.env)
 
--- The line of a job: its name and those of the keys that the class has.
+-- The keys of a job's line: each stands there where the class has it.
+unfoldable pub time_key : Class → Job → List (List ℕ)
+time_key c j = where_wanted (has_time_key c) ((codes "p=" ++ decimal (slice_index_or j.needs 0 no_need).time) ∷ [])
+
+unfoldable pub release_key : Class → Job → List (List ℕ)
+release_key c j = where_wanted c.heads ((codes "r=" ++ decimal j.release) ∷ [])
+
+unfoldable pub due_key : Class → Job → List (List ℕ)
+due_key c j = where_wanted (uses_due c.crit) ((codes "d=" ++ signed_decimal j.due) ∷ [])
+
+unfoldable pub weight_key : Class → Job → List (List ℕ)
+weight_key c j = where_wanted (uses_weight c.crit) ((codes "w=" ++ decimal j.weight) ∷ [])
+
+abbrev pub key_fields : Class → Job → List (List ℕ)
+key_fields c j = time_key c j ++ release_key c j ++ due_key c j ++ weight_key c j
+
+-- The line of a job: its name and its keys.
 abbrev pub job_fields : Class → List ℕ → Job → List (List ℕ)
-job_fields c name j =
-    codes "job"
-    ∷ name
-    ∷ (where_wanted (has_time_key c) ((codes "p=" ++ decimal (slice_index_or j.needs 0 no_need).time) ∷ [])
-    ++ where_wanted c.heads ((codes "r=" ++ decimal j.release) ∷ [])
-    ++ where_wanted (uses_due c.crit) ((codes "d=" ++ signed_decimal j.due) ∷ [])
-    ++ where_wanted (uses_weight c.crit) ((codes "w=" ++ decimal j.weight) ∷ []))
+job_fields c name j = codes "job" ∷ name ∷ key_fields c j
 
 -- The times of a job on the machines in order.
 abbrev pub times_fields : List Need → List (List ℕ)
@@ -102,13 +112,18 @@ step_fields s = decimal s.above ∷ decimal s.add ∷ []
 abbrev pub curve_fields : Curve → List (List ℕ)
 curve_fields v = codes "curve" ∷ decimal v.slope ∷ signed_decimal v.base ∷ flat_map step_fields v.steps
 
--- The lines of a job.
+-- The lines of a job: its own line, and where the class has them those of its times, its route and its curve.
+unfoldable pub times_text : Class → Job → List ℕ
+times_text c j = where_wanted (has_times_line c) (line_text (times_fields j.needs))
+
+unfoldable pub route_text : Class → Job → List ℕ
+route_text c j = where_wanted (has_route (kind_of c.env)) (line_text (route_fields c.times j.needs))
+
+unfoldable pub curve_text : Class → Job → List ℕ
+curve_text c j = where_wanted (has_curve c.crit) (line_text (curve_fields j.curve))
+
 unfoldable pub job_text : Class → List ℕ → Job → List ℕ
-job_text c name j =
-    line_text (job_fields c name j)
-    ++ where_wanted (has_times_line c) (line_text (times_fields j.needs))
-    ++ where_wanted (has_route (kind_of c.env)) (line_text (route_fields c.times j.needs))
-    ++ where_wanted (has_curve c.crit) (line_text (curve_fields j.curve))
+job_text c name j = line_text (job_fields c name j) ++ times_text c j ++ route_text c j ++ curve_text c j
 
 abbrev pub jobs_text : Class → List (List ℕ) → List Job → List ℕ
 jobs_text c (name ∷ names) (j ∷ js) = job_text c name j ++ jobs_text c names js
@@ -122,23 +137,26 @@ abbrev pub arcs_text : List (List ℕ) → List Arc → List ℕ
 arcs_text names arcs = flat_map (λ a. line_text (arc_fields names a)) arcs
 
 -- The line with the number of machines, where the class does not fix it.
-abbrev pub machines_text : Env → ℕ → List ℕ
+unfoldable pub machines_text : Env → ℕ → List ℕ
 machines_text e machines = where_wanted (is_none (fixed_machines e)) (line_text (codes "machines" ∷ decimal machines ∷ []))
 
 -- The line with the speeds of uniform machines.
-abbrev pub speeds_text : Env → List ℕ → List ℕ
+unfoldable pub speeds_text : Env → List ℕ → List ℕ
 speeds_text e speeds = where_wanted (has_speeds (kind_of e)) (line_text (codes "speeds" ∷ map decimal speeds))
+
+-- The line with a spelling of the class.
+unfoldable pub class_text : List ℕ → List ℕ
+class_text spelling = line_text (codes "class" ∷ spelling ∷ [])
+
+-- The lines before those of the jobs, with a spelling of the class.
+unfoldable pub head_text : List ℕ → Instance → List ℕ
+head_text spelling i =
+    line_text (codes "msp" ∷ codes "1" ∷ []) ++ class_text spelling ++ machines_text i.class.env i.machines ++ speeds_text i.class.env i.speeds
 
 -- The text of an instance, with a spelling of its class and the names of its jobs.
 unfoldable pub instance_text : List ℕ → List (List ℕ) → Instance → List ℕ
 instance_text spelling names i =
-    line_text (codes "msp" ∷ codes "1" ∷ [])
-    ++ line_text (codes "class" ∷ spelling ∷ [])
-    ++ machines_text i.class.env i.machines
-    ++ speeds_text i.class.env i.speeds
-    ++ jobs_text i.class names i.jobs
-    ++ arcs_text names i.arcs
-    ++ line_text (codes "end" ∷ [])
+    head_text spelling i ++ jobs_text i.class names i.jobs ++ arcs_text names i.arcs ++ line_text (codes "end" ∷ [])
 
 -- The jobs have these names: one for each job, all distinct.
 pub record AreNamesOf (names : List (List ℕ)) (i : Instance) : Type 0 where

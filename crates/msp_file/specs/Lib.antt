@@ -5,3 +5,4 @@ pub mod InstanceText
 pub mod Reading
 pub mod Steps
 pub mod Answers
+pub mod Printing

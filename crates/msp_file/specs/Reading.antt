@@ -216,9 +216,9 @@ unfoldable pub route_line_at : Class → ℕ → Place → Result (List Need × 
 route_line_at c machines p = do
   l ← worded_at (codes "route") p
   provided (nat_le (operations_in c.times (length l.0)) 32) (Limit p.at what.Route) (
-    provided (is_route_count c.times (most_operations c.env) (length l.0)) (Count p.at) (do
-      needs ← operations_at c.times p.at machines l.0
-      Ok (needs, l.1)))
+      provided (is_route_count c.times (most_operations c.env) (length l.0)) (Count p.at) (do
+        needs ← operations_at c.times p.at machines l.0
+        Ok (needs, l.1)))
 
 -- The needs that no line writes: one with the time of the key, and in other classes of unit times one for each machine.
 abbrev pub unwritten_needs : Kind → ℕ → ℕ → List Need
@@ -263,9 +263,9 @@ unfoldable pub curve_line_at : Place → Result (Curve × Place) FileFault
 curve_line_at p = do
   l ← worded_at (codes "curve") p
   provided (nat_le (steps_in (length l.0)) 16) (Limit p.at what.Steps) (
-    provided (length l.0 == 2 + 2 * steps_in (length l.0)) (Count p.at) (do
-      curve ← curve_fields_at p.at l.0
-      Ok (curve, l.1)))
+      provided (length l.0 == 2 + 2 * steps_in (length l.0)) (Count p.at) (do
+        curve ← curve_fields_at p.at l.0
+        Ok (curve, l.1)))
 
 unfoldable pub curve_at : Crit → Place → Result (Curve × Place) FileFault
 curve_at crit p = if has_curve crit then curve_line_at p else Ok (no_curve, p)
@@ -296,10 +296,10 @@ with_arc d before after = record d { arcs = d.arcs ++ record { before = before; 
 unfoldable pub arc_line_at : ℕ → Draft → List (List ℕ) → Result Draft FileFault
 arc_line_at at d fields =
     provided (nat_lt (length d.arcs) 20000) (Limit at what.Arcs) (
-      provided (length fields == 2) (Count at) (do
-        before ← known_at at d.names (first_of fields)
-        after ← known_at at d.names (first_of (others_of fields))
-        provided (not (is_arc_among d.arcs before after)) (ArcAgain at) (Ok (with_arc d before after))))
+    provided (length fields == 2) (Count at) (do
+      before ← known_at at d.names (first_of fields)
+      after ← known_at at d.names (first_of (others_of fields))
+      provided (not (is_arc_among d.arcs before after)) (ArcAgain at) (Ok (with_arc d before after))))
 
 -- The last line.
 abbrev pub end_at : ℕ → Draft → List (List ℕ) → Place → Result (Draft × Place) FileFault
@@ -311,8 +311,8 @@ arcs_at zero d p = Err (Missing p.at)
 arcs_at (suc n) d p = do
   l ← line_at p
   if bytes_eq (first_of (fields_of l.0)) (codes "arc")
-    then (arc_line_at p.at d (others_of (fields_of l.0)) >>= λ e. arcs_at n e l.1)
-    else end_at p.at d (fields_of l.0) l.1
+      then (arc_line_at p.at d (others_of (fields_of l.0)) >>= λ e. arcs_at n e l.1)
+      else end_at p.at d (fields_of l.0) l.1
 
 -- The lines after the head and after a job, of which there are at most n: jobs, in a class with an order an arc, and the end.
 unfoldable pub jobs_at : ℕ → Class → ℕ → Draft → Place → Result (Draft × Place) FileFault
@@ -320,8 +320,8 @@ jobs_at zero c machines d p = Err (Missing p.at)
 jobs_at (suc n) c machines d p = do
   l ← line_at p
   if bytes_eq (first_of (fields_of l.0)) (codes "job")
-    then (job_at_line c machines d p.at (others_of (fields_of l.0)) l.1 >>= λ e. jobs_at n c machines e.0 e.1)
-    else (if has_order c.order && bytes_eq (first_of (fields_of l.0)) (codes "arc")
+      then (job_at_line c machines d p.at (others_of (fields_of l.0)) l.1 >>= λ e. jobs_at n c machines e.0 e.1)
+      else (if has_order c.order && bytes_eq (first_of (fields_of l.0)) (codes "arc")
       then (arc_line_at p.at d (others_of (fields_of l.0)) >>= λ e. arcs_at n e l.1)
       else end_at p.at d (fields_of l.0) l.1)
 

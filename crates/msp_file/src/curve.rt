@@ -104,11 +104,7 @@ fn curve_line_at(alloc: Global, lines: &mut Lines<'_>) -> Result<Curve, FileFaul
 
 /// The cost curve of a job, where the criterion has one.
 #[tactic(auto, unfolding(crate::specs::Reading::curve_at))]
-pub(crate) fn curve_at(
-    alloc: Global,
-    crit: Crit,
-    lines: &mut Lines<'_>,
-) -> Result<Curve, FileFault>
+pub(crate) fn curve_at(alloc: Global, crit: Crit, lines: &mut Lines<'_>) -> Result<Curve, FileFault>
     ensures moves { Moves (λ x. x) result (place_of lines.new) (curve_at crit (place_of lines.old)) }
     ensures shrinks { OnOk result (length lines.new.rest.now ≤ length lines.old.rest.now) }
 {

@@ -8,8 +8,8 @@ ghost use Rattle.msp_file.specs.Steps.{Gives, Moves, AfterArc, AfterJob, place_o
 use crate::curve::curve_at;
 use crate::fault::{FileFault, What};
 use crate::job::{job_line_at, known_at};
-use crate::lines::{count_fields, line_at, next_field, split_word};
 use crate::job_name::JobName;
+use crate::lines::{count_fields, line_at, next_field, split_word};
 use crate::names::Names;
 use crate::operations::needs_at;
 use crate::place::Lines;

@@ -155,7 +155,7 @@ fn speeds_line_at(
     }
 }
 
-fn has_speeds(env: Env) -> bool
+pub(crate) fn has_speeds(env: Env) -> bool
     ensures { result ≡ has_speeds (kind_of env) }
 {
     matches!(env, Env::Q2 | Env::Q)

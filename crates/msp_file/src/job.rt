@@ -117,7 +117,7 @@ fn integer_key_at(
 }
 
 /// Whether the line of a job has the key of its time.
-fn has_time_key(class: Class) -> bool
+pub(crate) fn has_time_key(class: Class) -> bool
     ensures { result ≡ has_time_key class }
 {
     matches!(class.times, Times::General)
@@ -127,7 +127,7 @@ fn has_time_key(class: Class) -> bool
         )
 }
 
-fn uses_due(crit: Crit) -> bool
+pub(crate) fn uses_due(crit: Crit) -> bool
     ensures { result ≡ uses_due crit }
 {
     matches!(
@@ -136,7 +136,7 @@ fn uses_due(crit: Crit) -> bool
     )
 }
 
-fn uses_weight(crit: Crit) -> bool
+pub(crate) fn uses_weight(crit: Crit) -> bool
     ensures { result ≡ uses_weight crit }
 {
     matches!(crit, Crit::SumWC | Crit::SumWU | Crit::SumWT)

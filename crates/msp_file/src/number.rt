@@ -131,12 +131,7 @@ fn with_sign(number: Spelled) -> i64
 
 /// The number of a field, of either sign, where it is in range.
 #[tactic(auto, unfolding(crate::specs::Reading::integer_at))]
-pub(crate) fn integer_at(
-    at: u32,
-    what: What,
-    greatest: u32,
-    bytes: &[u8],
-) -> Result<i64, FileFault>
+pub(crate) fn integer_at(at: u32, what: What, greatest: u32, bytes: &[u8]) -> Result<i64, FileFault>
     ensures { result ≡ integer_at at what greatest bytes.now }
 {
     let Some(number) = number(bytes) else {

@@ -316,7 +316,7 @@ fn unwritten_needs(
     }
 }
 
-fn has_times_line(class: Class) -> bool
+pub(crate) fn has_times_line(class: Class) -> bool
     ensures { result ≡ has_times_line class }
 {
     matches!(class.times, Times::General)
@@ -326,7 +326,7 @@ fn has_times_line(class: Class) -> bool
         )
 }
 
-fn has_route(env: Env) -> bool
+pub(crate) fn has_route(env: Env) -> bool
     ensures { result ≡ has_route (kind_of env) }
 {
     matches!(env, Env::J2Short | Env::JShort | Env::J2 | Env::J)

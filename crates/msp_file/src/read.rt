@@ -143,7 +143,8 @@ fn check_order(alloc: Global, filed: &Filed) -> Result<(), FileFault>
 #[tactic(auto, using(crate::proofs::AnswerLemmas::answer_rules))]
 pub fn read_instance(alloc: Global, bytes: &[u8]) -> Result<Filed, FileFault>
     requires { length bytes.now ≤ 2 ^ 26 }
-    ensures { IsAnswerTo (filed_at bytes.now) result }
+    ensures answer { IsAnswerTo (filed_at bytes.now) result }
+    ensures named { IfOk result (λ f. length f.names ≡ length f.instance.jobs) }
 {
     let filed = match filed_at(alloc, bytes) {
         Ok(filed) => filed,

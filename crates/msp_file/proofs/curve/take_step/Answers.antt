@@ -9,16 +9,16 @@ returns-in-Ok-push_step-clause-leads c =
     let v = c.next_field-2.result.0.now in
     let some : 0 < length c.next_field.result.1.now = search rules in
     steps_next
-        c.args.at
-        c.args.steps.now
-        c.push_step.new.steps
-        (fields_after c.args.rest.now)
-        w
-        v
-        (fields_after c.next_field-2.result.1.now)
-        c.in-Ok.above
-        c.in-Ok-natural_at.add
-        (c.next_field.ensures.whole c.requires ∙ ap (λ ws. w ∷ ws) (c.next_field-2.ensures.whole some))
-        c.in-Ok.ensures.value
-        c.in-Ok-natural_at.ensures.value
-        c.in-Ok-push_step.ensures
+    c.args.at
+    c.args.steps.now
+    c.push_step.new.steps
+    (fields_after c.args.rest.now)
+    w
+    v
+    (fields_after c.next_field-2.result.1.now)
+    c.in-Ok.above
+    c.in-Ok-natural_at.add
+    (c.next_field.ensures.whole c.requires ∙ ap (λ ws. w ∷ ws) (c.next_field-2.ensures.whole some))
+    c.in-Ok.ensures.value
+    c.in-Ok-natural_at.ensures.value
+    c.in-Ok-push_step.ensures

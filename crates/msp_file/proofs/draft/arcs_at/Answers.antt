@@ -6,11 +6,12 @@ use Rattle.msp_file.proofs.draft.arcs_at.Goals as goal
 
 pub lines-preserved : goal.lines-preserved
 lines-preserved c =
-    let step = rw c.in-Ok-true.field-0-test at c.in-Ok-true.ensures.after in
-    (rw c.in-Ok-true.ensures.names c.lines.invariant.0,
-    c.in-Ok-true.ensures.names ∙ c.lines.invariant.1,
-    c.in-Ok-true.ensures.jobs ∙ c.lines.invariant.2,
-    λ n h. goes_on arcs_at (arcs_at n c.args.draft.now (place_of c.args.lines.now)) c.lines.draft c.arc_step.new.draft (place_of c.lines.lines) (place_of c.arc_step.new.lines) (c.lines.invariant.3 n h) step c.in-Ok-true.ensures.shrinks)
+    let step = rw c.in-Ok-true.field-0-test at c.in-Ok-true.ensures.after in (
+      rw c.in-Ok-true.ensures.names c.lines.invariant.0,
+      c.in-Ok-true.ensures.names ∙ c.lines.invariant.1,
+      c.in-Ok-true.ensures.jobs ∙ c.lines.invariant.2,
+      λ n h. goes_on arcs_at (arcs_at n c.args.draft.now (place_of c.args.lines.now)) c.lines.draft c.arc_step.new.draft (place_of c.lines.lines) (place_of c.arc_step.new.lines) (c.lines.invariant.3 n h) step c.in-Ok-true.ensures.shrinks,
+    )
 
 pub returns-in-Ok-false-clause-moves : goal.returns-in-Ok-false-clause-moves
 returns-in-Ok-false-clause-moves c = λ n h.

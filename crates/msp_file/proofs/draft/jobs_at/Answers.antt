@@ -7,10 +7,11 @@ use Rattle.msp_file.proofs.draft.jobs_at.Goals as goal
 pub lines-preserved : goal.lines-preserved
 lines-preserved c =
     let says = c.in-Ok-Job.ensures in
-    let step = rw c.in-Ok-Job.field-0-is at says.after in
-    (says.even,
-    says.few,
-    λ n h. goes_on (λ k. jobs_at k c.args.class c.args.machines) (jobs_at n c.args.class c.args.machines c.args.draft.now (place_of c.args.lines.now)) c.lines.draft c.job_step.new.draft (place_of c.lines.lines) (place_of c.job_step.new.lines) (c.lines.invariant.2 n h) step says.shrinks)
+    let step = rw c.in-Ok-Job.field-0-is at says.after in (
+      says.even,
+      says.few,
+      λ n h. goes_on (λ k. jobs_at k c.args.class c.args.machines) (jobs_at n c.args.class c.args.machines c.args.draft.now (place_of c.args.lines.now)) c.lines.draft c.job_step.new.draft (place_of c.lines.lines) (place_of c.job_step.new.lines) (c.lines.invariant.2 n h) step says.shrinks,
+    )
 
 pub returns-in-Ok-Arc-clause-moves : goal.returns-in-Ok-Arc-clause-moves
 returns-in-Ok-Arc-clause-moves c = λ n h.
