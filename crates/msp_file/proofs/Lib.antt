@@ -1,1 +1,9 @@
 mod NameLists
+mod Numbers
+mod Fields
+mod Pairs
+mod Loops
+mod Multiples
+mod LineFaults
+mod AnswerLemmas
+mod PrintLemmas

@@ -1,2 +1,8 @@
 pub mod JobName
 pub mod ScheduleText
+pub mod Numbers
+pub mod InstanceText
+pub mod Reading
+pub mod Steps
+pub mod Answers
+pub mod Printing

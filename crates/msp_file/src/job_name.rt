@@ -1,6 +1,7 @@
 ghost use Rattle.std.specs.Prelude.{◌≡◌, ◌-◌, ◌≤◌, ◌++◌, IsTrue, ◌↔◌, All, SomeIff, bytes_eq, length, replicate};
 ghost use Rattle.std.proofs.Common.{rules};
 ghost use Rattle.std.specs.Hash as fed;
+ghost use Rattle.std.specs.List.{list_all};
 ghost use Rattle.std.specs.Cmp.{partial_equiv_from_equiv};
 ghost use Rattle.std.specs.Cmp.Lexicographic.{nat_list_eq_equiv};
 ghost use Rattle.std.specs.Cmp.Rules.{hashing};
@@ -38,8 +39,9 @@ fn is_name_byte(byte: u8) -> bool
 }
 
 /// Whether all bytes may stand in a name.
-pub fn are_name_bytes(bytes: &[u8]) -> bool
-    ensures { IsTrue result ↔ All (λ b. IsTrue (is_name_byte b)) bytes.now }
+pub(crate) fn are_name_bytes(bytes: &[u8]) -> bool
+    ensures value { result ≡ list_all is_name_byte bytes.now }
+    ensures all { IsTrue result ↔ All (λ b. IsTrue (is_name_byte b)) bytes.now }
 {
     bytes.iter().all(|byte| is_name_byte(*byte))
 }

@@ -1,15 +1,32 @@
 //! Instance texts and schedule texts: reading them with the exact first fault, and printing them.
 //!
-//! It stands on `msp_schedule`, `indexmap` and `itoa`. The layers above use that `print_schedule` gives exactly `schedule_text`, and
-//! that `Names` is seen as a list of distinct names.
+//! It stands on `msp_name`, `msp_schedule`, `indexmap` and `itoa`. The layers above use that `read_instance` answers as `IsAnswerTo`
+//! says of the reading of the lines, `filed_at`; that `print_instance` and `print_schedule` give exactly `instance_text` and
+//! `schedule_text`; and that `Names` is seen as a list of distinct names.
 #![tactic(auto)]
 
+mod curve;
+mod draft;
+mod fault;
+mod filed;
+mod head;
+mod instance_printer;
+mod job;
 mod job_name;
+mod lines;
 mod names;
+mod number;
+mod operations;
+mod place;
 mod print;
+mod read;
 #[cfg(test)]
 mod tests;
 
+pub use fault::{FileFault, What};
+pub use filed::Filed;
+pub use instance_printer::print_instance;
 pub use job_name::JobName;
 pub use names::Names;
 pub use print::print_schedule;
+pub use read::read_instance;

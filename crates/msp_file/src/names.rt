@@ -1,4 +1,6 @@
-ghost use Rattle.std.specs.Prelude.{◌≡◌, ◌<◌, ◌++◌, ◌∷◌, [], length, slice_get, All, Contains, MatchBool, MatchOption, IfOk, OnErr, Some, bytes_eq, position};
+ghost use Rattle.std.specs.Prelude.{◌≡◌, ◌<◌, ◌++◌, ◌∷◌, [], length, slice_get, All, Contains, MatchBool, MatchOption, IfOk, OnOk, OnErr, Some, bytes_eq, position};
+ghost use Rattle.std.specs.List.{list_any};
+ghost use Rattle.indexmap.specs.IndexSet.{insert_key};
 ghost use Rattle.msp_file.specs.JobName.{AreDistinct, IsJobName};
 
 use crate::job_name::JobName;
@@ -34,6 +36,7 @@ impl Names {
     /// Puts a name at the end, where it does not stand yet, and answers whether it did so.
     pub(crate) fn add(&mut self, name: JobName) -> Result<bool, NoMemory>
         ensures added { IfOk result (λ b. MatchBool b ((¬ Contains self.old name) × (self.new ≡ self.old ++ name ∷ [])) (Contains self.old name × (self.new ≡ self.old))) }
+        ensures keys { OnOk result (self.new ≡ insert_key bytes_eq self.old name) }
         ensures refused { OnErr result (self.new ≡ self.old) }
     {
         let Ok(added) = self.set.insert(name) else {
@@ -71,6 +74,12 @@ impl Names {
         ensures { result ≡ slice_get self.now at }
     {
         self.set.get_index(at).copied()
+    }
+
+    pub(crate) fn contains(&self, name: &JobName) -> bool
+        ensures { result ≡ list_any (bytes_eq name.now) self.now }
+    {
+        self.set.contains(name)
     }
 
     /// The place of a name, from 0. None comes exactly where the name is not there.

@@ -10,7 +10,7 @@ use msp_schedule::{Frac, Piece, Schedule, Solution};
 use std::alloc::Global;
 
 /// Puts bytes at the end.
-fn put(out: &mut Vec<u8>, bytes: &[u8]) -> Result<(), NoMemory>
+pub(crate) fn put(out: &mut Vec<u8>, bytes: &[u8]) -> Result<(), NoMemory>
     ensures { OnOk result (out.new.items ≡ out.old.items ++ bytes.now) }
 {
     match out.extend_from_slice(bytes) {
@@ -19,14 +19,14 @@ fn put(out: &mut Vec<u8>, bytes: &[u8]) -> Result<(), NoMemory>
     }
 }
 
-fn put_number(out: &mut Vec<u8>, number: u32) -> Result<(), NoMemory>
+pub(crate) fn put_number(out: &mut Vec<u8>, number: u64) -> Result<(), NoMemory>
     ensures { OnOk result (out.new.items ≡ out.old.items ++ decimal number) }
 {
     let mut buffer = Buffer::new();
     put(out, buffer.format(number).as_bytes())
 }
 
-fn put_integer(out: &mut Vec<u8>, number: i128) -> Result<(), NoMemory>
+pub(crate) fn put_integer(out: &mut Vec<u8>, number: i128) -> Result<(), NoMemory>
     ensures { OnOk result (out.new.items ≡ out.old.items ++ signed_decimal number) }
 {
     let mut buffer = Buffer::new();
@@ -34,7 +34,7 @@ fn put_integer(out: &mut Vec<u8>, number: i128) -> Result<(), NoMemory>
 }
 
 /// Puts the name of the job of a number, from 0.
-fn put_name(out: &mut Vec<u8>, names: &Names, job: u32) -> Result<(), NoMemory>
+pub(crate) fn put_name(out: &mut Vec<u8>, names: &Names, job: u32) -> Result<(), NoMemory>
     ensures { OnOk result (out.new.items ≡ out.old.items ++ name_at names.now job) }
 {
     match names.get(job as usize) {
@@ -55,15 +55,13 @@ fn put_fraction(out: &mut Vec<u8>, fraction: Frac) -> Result<(), NoMemory>
 }
 
 fn put_place(out: &mut Vec<u8>, names: &Names, piece: Piece) -> Result<(), NoMemory>
-    requires op { piece.op < 32 }
-    requires machine { piece.machine < 32 }
     ensures { OnOk result (out.new.items ≡ out.old.items ++ (name_at names.now piece.job ++ space ++ decimal (piece.op + 1) ++ space ++ decimal (piece.machine + 1))) }
 {
     put_name(out, names, piece.job)?;
     put(out, b" ")?;
-    put_number(out, piece.op + 1)?;
+    put_number(out, piece.op as u64 + 1)?;
     put(out, b" ")?;
-    put_number(out, piece.machine + 1)
+    put_number(out, piece.machine as u64 + 1)
 }
 
 fn put_span(out: &mut Vec<u8>, piece: Piece) -> Result<(), NoMemory>
@@ -76,8 +74,6 @@ fn put_span(out: &mut Vec<u8>, piece: Piece) -> Result<(), NoMemory>
 
 #[tactic(auto, unfolding(crate::specs::ScheduleText::piece_line))]
 fn put_piece(out: &mut Vec<u8>, names: &Names, piece: Piece) -> Result<(), NoMemory>
-    requires op { piece.op < 32 }
-    requires machine { piece.machine < 32 }
     ensures { OnOk result (out.new.items ≡ out.old.items ++ piece_line names.now piece) }
 {
     put(out, b"piece ")?;
@@ -88,7 +84,6 @@ fn put_piece(out: &mut Vec<u8>, names: &Names, piece: Piece) -> Result<(), NoMem
 }
 
 fn put_pieces(out: &mut Vec<u8>, names: &Names, pieces: &[Piece]) -> Result<(), NoMemory>
-    requires { All (λ p. (p.op < 32) × (p.machine < 32)) pieces.now }
     ensures { OnOk result (out.new.items ≡ out.old.items ++ piece_lines names.now pieces.now) }
 {
     for piece in pieces {
@@ -122,7 +117,6 @@ fn put_schedule(
     schedule: &Schedule,
     cost: Frac,
 ) -> Result<(), NoMemory>
-    requires { All (λ p. (p.op < 32) × (p.machine < 32)) schedule.now.pieces }
     ensures { OnOk result (out.new.items ≡ out.old.items ++ schedule_text names.now schedule.now cost) }
 {
     put(out, b"schedule\n")?;

@@ -15,6 +15,7 @@ mod tests;
 
 pub use membership::{ClassFault, check};
 use msp_class::{Class, List};
+pub use speeds::has_small_multiple;
 pub use ranges::{
     GREATEST, GREATEST_MULTIPLE, GREATEST_SPEED, MOST_ARCS, MOST_JOBS, MOST_MACHINES,
     MOST_OPERATIONS, MOST_STEPS,

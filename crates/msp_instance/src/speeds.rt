@@ -59,7 +59,7 @@ pub(crate) fn has_speeds(env: Env, machines: u32, speeds: &[u64]) -> bool
 }
 
 /// Whether the least common multiple of the speeds is in range.
-pub(crate) fn has_small_multiple(speeds: &[u64]) -> bool
+pub fn has_small_multiple(speeds: &[u64]) -> bool
     requires { All (λ s. (1 ≤ s) × (s ≤ 10 ^ 6)) speeds.now }
     ensures { IsTrue result ↔ HasSmallMultiple speeds.now }
 {

@@ -1,0 +1,261 @@
+-- Reading lines gives faults of lines alone.
+use Rattle.std.proofs.Common.{◌≡◌, ℕ, zero, suc, ◌+◌, ◌*◌, ◌^◌, Bool, true, false, ◌&&◌, ◌==◌, not, nat_le, List, [], ◌∷◌, length, Option, None, Some, Result, Ok, Err, ok_or, position, bytes_eq, codes, ℤ, pos, negsuc, refl, subst, take, drop, if◌then◌else◌}
+use Rattle.std.specs.Prelude.{nat_lt}
+use Rattle.std.specs.List.{list_any}
+use Rattle.msp_class.specs.Env.{fixed_machines}
+use Rattle.msp_class.specs.declared.class.Class.{Class}
+use Rattle.msp_class.specs.declared.class.Env.{Env}
+use Rattle.msp_class.specs.declared.class.Crit.{Crit}
+use Rattle.msp_class.specs.declared.class.Times.{Times}
+use Rattle.msp_class.specs.declared.class.Times.TheVariants.{General, Unit as UnitTimes}
+use Rattle.msp_instance.specs.declared.Need.{Need}
+use Rattle.msp_instance.specs.declared.Step.{Step}
+use Rattle.msp_instance.specs.Instance.{Kind}
+use Rattle.msp_name.specs.Reading.{reading_of}
+use Rattle.msp_file.specs.declared.fault.What.{What}
+use Rattle.msp_file.specs.declared.fault.FileFault.{FileFault}
+use Rattle.msp_file.specs.declared.fault.FileFault.TheVariants.{Class as ClassBroken, Cycle, Memory, Missing, Cut}
+use Rattle.msp_file.specs.declared.draft.Draft.{Draft}
+use Rattle.msp_file.specs.Numbers.{number_of}
+use Rattle.msp_file.specs.InstanceText.{has_order}
+use Rattle.msp_file.specs.Reading.{first_of, others_of, ◌>>=◌, provided, Place, line_at, fields_of, worded_at, natural_in, natural_at, integer_at, job_name_at, known_at, keyed_at, natural_key_at, integer_key_at, keys_at, job_line_at, with_need, times_at, times_line_at, machine_at, timed_route_at, unit_route_at, operations_at, route_line_at, needs_at, with_step, steps_at, curve_fields_at, curve_line_at, curve_at, job_at_line, arc_line_at, end_at, arcs_at, jobs_at, version_at, class_in, spelled_class, class_at, machines_line_at, machines_at, speeds_in, speeds_line_at, speeds_at, front_at, filed_at}
+
+-- The fault is one of a line.
+abbrev pub IsLineFault : FileFault → Type 0
+IsLineFault (ClassBroken fault name) = ⊥
+IsLineFault (Cycle job name) = ⊥
+IsLineFault Memory = ⊥
+IsLineFault _ = Unit {0}
+
+pub record InLines {A : Type 0} (r : Result A FileFault) : Type 0 where
+  pub fault : (e : FileFault) → r ≡ Err e → IsLineFault e
+
+fine : {A : Type 0} (x : A) → InLines (Ok x)
+fine x = record { fault = λ e h. absurd cc }
+
+bad : {A : Type 0} (e : FileFault) → IsLineFault e → InLines {A = A} (Err e)
+bad {A} e h = record { fault = λ d k. let same : e ≡ d = cc in subst IsLineFault same h }
+
+chain : {A B : Type 0} (r : Result A FileFault) (f : A → Result B FileFault) → InLines r → ((x : A) → InLines (f x)) → InLines (r >>= f)
+chain (Ok x) f h k = k x
+chain (Err e) f h k = bad e (h.fault e refl)
+
+given : {A : Type 0} (b : Bool) (e : FileFault) (r : Result A FileFault) → IsLineFault e → InLines r → InLines (provided b e r)
+given true e r h k = k
+given false e r h k = bad e h
+
+or_fault : {A : Type 0} (o : Option A) (e : FileFault) → IsLineFault e → InLines (ok_or o e)
+or_fault None e h = bad e h
+or_fault (Some x) e h = fine x
+
+either : {A : Type 0} (b : Bool) (r s : Result A FileFault) → InLines r → InLines s → InLines (if b then r else s)
+either true r s h k = h
+either false r s h k = k
+
+line : (p : Place) → InLines (line_at p)
+unfolding line_at
+line p = by (position (λ x. x == 10) p.rest) p.rest
+  where
+    by : (o : Option ℕ) (rest : List ℕ) → InLines {A = List ℕ × Place} (elim o [ Some k ↦ Ok (take k p.rest, record { at = p.at + 1; rest = drop (k + 1) p.rest }) | None ↦ Err (elim rest [ [] ↦ Missing p.at | _ ∷ _ ↦ Cut p.at ]) ])
+    by (Some k) rest = fine _
+    by None [] = bad _ tt
+    by None (x ∷ xs) = bad _ tt
+
+worded : (word : List ℕ) (p : Place) → InLines (worded_at word p)
+unfolding worded_at
+worded word p = chain (line_at p) _ (line p) (λ l. given _ _ _ tt (fine _))
+
+natural_range : (at : ℕ) (q : What) (least greatest : ℕ) (x : ℤ) → InLines (natural_in at q least greatest x)
+natural_range at q least greatest (pos n) = given _ _ _ tt (fine n)
+natural_range at q least greatest (negsuc n) = bad _ tt
+
+natural : (at : ℕ) (q : What) (least greatest : ℕ) (w : List ℕ) → InLines (natural_at at q least greatest w)
+unfolding natural_at
+natural at q least greatest w = chain _ _ (or_fault (number_of w) _ tt) (natural_range at q least greatest)
+
+integer : (at : ℕ) (q : What) (greatest : ℕ) (w : List ℕ) → InLines (integer_at at q greatest w)
+unfolding integer_at
+integer at q greatest w = chain _ _ (or_fault (number_of w) _ tt) (λ x. given _ _ _ tt (fine x))
+
+named : (at : ℕ) (w : List ℕ) → InLines (job_name_at at w)
+unfolding job_name_at
+named at w = search (given, fine)
+
+known : (at : ℕ) (names : List (List ℕ)) (w : List ℕ) → InLines (known_at at names w)
+unfolding known_at
+known at names w = chain _ _ (named at w) (λ name. or_fault (position (bytes_eq name) names) _ tt)
+
+keyed : (at letter : ℕ) (w : List ℕ) → InLines (keyed_at at letter w)
+keyed at letter [] = bad _ tt
+keyed at letter (k ∷ []) = bad _ tt
+keyed at letter (k ∷ e ∷ w) = given _ _ _ tt (fine w)
+
+natural_key : (at : ℕ) (b : Bool) (letter : ℕ) (q : What) (least greatest : ℕ) (fields : List (List ℕ)) → InLines (natural_key_at at b letter q least greatest fields)
+unfolding natural_key_at
+natural_key at false letter q least greatest fields = fine _
+natural_key at true letter q least greatest fields = chain _ _ (keyed at letter _) (λ w. chain _ _ (natural at q least greatest w) (λ n. fine _))
+
+integer_key : (at : ℕ) (b : Bool) (letter : ℕ) (q : What) (greatest : ℕ) (fields : List (List ℕ)) → InLines (integer_key_at at b letter q greatest fields)
+unfolding integer_key_at
+integer_key at false letter q greatest fields = fine _
+integer_key at true letter q greatest fields = chain _ _ (keyed at letter _) (λ w. chain _ _ (integer at q greatest w) (λ n. fine _))
+
+keys : (c : Class) (at : ℕ) (fields : List (List ℕ)) → InLines (keys_at c at fields)
+unfolding keys_at
+keys c at fields =
+    chain _ _ (natural_key at _ 112 _ 1 (10 ^ 9) fields) (λ p.
+    chain _ _ (natural_key at _ 114 _ 0 (10 ^ 9) p.1) (λ r.
+    chain _ _ (integer_key at _ 100 _ (10 ^ 9) r.1) (λ d.
+    chain _ _ (natural_key at _ 119 _ 1 (10 ^ 9) d.1) (λ w. fine _))))
+
+job_line : (c : Class) (at : ℕ) (names fields : List (List ℕ)) → InLines (job_line_at c at names fields)
+unfolding job_line_at
+job_line c at names fields = given _ _ _ tt (chain _ _ (named at _) (λ name. chain _ _ (keys c at _) (λ keys. given _ _ _ tt (fine _))))
+
+times : (at least : ℕ) (needs : List Need) (fields : List (List ℕ)) → InLines (times_at at least needs fields)
+unfolding times_at
+times at least needs [] = fine needs
+times at least needs (w ∷ ws) = chain _ _ (natural at _ least (10 ^ 9) w) (λ t. times at least (with_need needs (length needs) t) ws)
+
+times_line : (k : Kind) (machines : ℕ) (p : Place) → InLines (times_line_at k machines p)
+unfolding times_line_at
+times_line k machines p = chain _ _ (worded _ p) (λ l. given _ _ _ tt (chain _ _ (times p.at _ [] l.0) (λ needs. fine _)))
+
+machine : (at machines : ℕ) (w : List ℕ) → InLines (machine_at at machines w)
+unfolding machine_at
+machine at machines w = chain _ _ (natural at _ 1 machines w) (λ q. fine _)
+
+timed_route : (at machines : ℕ) (needs : List Need) (fields : List (List ℕ)) → InLines (timed_route_at at machines needs fields)
+unfolding timed_route_at
+timed_route at machines needs [] = fine needs
+timed_route at machines needs (w ∷ []) = bad _ tt
+timed_route at machines needs (w ∷ v ∷ ws) = chain _ _ (machine at machines w) (λ q. chain _ _ (natural at _ 1 (10 ^ 9) v) (λ t. timed_route at machines (with_need needs q t) ws))
+
+unit_route : (at machines : ℕ) (needs : List Need) (fields : List (List ℕ)) → InLines (unit_route_at at machines needs fields)
+unfolding unit_route_at
+unit_route at machines needs [] = fine needs
+unit_route at machines needs (w ∷ ws) = chain _ _ (machine at machines w) (λ q. unit_route at machines (with_need needs q 1) ws)
+
+operations : (t : Times) (at machines : ℕ) (fields : List (List ℕ)) → InLines (operations_at t at machines fields)
+operations General at machines fields = timed_route at machines [] fields
+operations UnitTimes at machines fields = unit_route at machines [] fields
+
+route_line : (c : Class) (machines : ℕ) (p : Place) → InLines (route_line_at c machines p)
+unfolding route_line_at
+route_line c machines p = search (chain, worded, given, operations, fine)
+
+needs_read : (c : Class) (machines time : ℕ) (p : Place) → InLines (needs_at c machines time p)
+unfolding needs_at
+needs_read c machines time p = either _ _ _ (times_line _ machines p) (either _ _ _ (route_line c machines p) (fine _))
+
+steps : (at : ℕ) (so_far : List Step) (fields : List (List ℕ)) → InLines (steps_at at so_far fields)
+unfolding steps_at
+steps at so_far [] = fine so_far
+steps at so_far (w ∷ []) = bad _ tt
+steps at so_far (w ∷ v ∷ ws) = chain _ _ (natural at _ 0 (10 ^ 9) w) (λ above. chain _ _ (natural at _ 0 (10 ^ 9) v) (λ add. steps at (with_step so_far above add) ws))
+
+curve_fields : (at : ℕ) (fields : List (List ℕ)) → InLines (curve_fields_at at fields)
+unfolding curve_fields_at
+curve_fields at fields = chain _ _ (natural at _ 0 (10 ^ 9) _) (λ slope. chain _ _ (integer at _ (10 ^ 9) _) (λ base. chain _ _ (steps at [] _) (λ s. fine _)))
+
+curve_line : (p : Place) → InLines (curve_line_at p)
+unfolding curve_line_at
+curve_line p = search (chain, worded, given, curve_fields, fine)
+
+curve : (crit : Crit) (p : Place) → InLines (curve_at crit p)
+unfolding curve_at
+curve crit p = either _ _ _ (curve_line p) (fine _)
+
+job : (c : Class) (machines : ℕ) (d : Draft) (at : ℕ) (fields : List (List ℕ)) (p : Place) → InLines (job_at_line c machines d at fields p)
+unfolding job_at_line
+job c machines d at fields p = given _ _ _ tt (chain _ _ (job_line c at d.names fields) (λ l. chain _ _ (needs_read c machines _ p) (λ n. chain _ _ (curve c.crit n.1) (λ v. fine _))))
+
+arc_line : (at : ℕ) (d : Draft) (fields : List (List ℕ)) → InLines (arc_line_at at d fields)
+unfolding arc_line_at
+arc_line at d fields = search (given, chain, known, fine) depth 9
+
+end_line : (at : ℕ) (d : Draft) (fields : List (List ℕ)) (p : Place) → InLines (end_at at d fields p)
+end_line at d fields p = search (given, fine)
+
+arcs : (n : ℕ) (d : Draft) (p : Place) → InLines (arcs_at n d p)
+unfolding arcs_at
+arcs zero d p = bad _ tt
+arcs (suc n) d p =
+    chain (line_at p) _ (line p) (λ l.
+    let fields = fields_of l.0 in
+    either (bytes_eq (first_of fields) (codes "arc")) _ _ (chain (arc_line_at p.at d (others_of fields)) _ (arc_line p.at d (others_of fields)) (λ e. arcs n e l.1)) (end_line p.at d fields l.1))
+
+jobs : (n : ℕ) (c : Class) (machines : ℕ) (d : Draft) (p : Place) → InLines (jobs_at n c machines d p)
+unfolding jobs_at
+jobs zero c machines d p = bad _ tt
+jobs (suc n) c machines d p =
+    chain (line_at p) _ (line p) (λ l.
+    let fields = fields_of l.0 in
+    either
+    (bytes_eq (first_of fields) (codes "job"))
+    _
+    _
+    (chain (job_at_line c machines d p.at (others_of fields) l.1) _ (job c machines d p.at (others_of fields) l.1) (λ e. jobs n c machines e.0 e.1))
+    (either
+    (has_order c.order && bytes_eq (first_of fields) (codes "arc"))
+    _
+    _
+    (chain (arc_line_at p.at d (others_of fields)) _ (arc_line p.at d (others_of fields)) (λ e. arcs n e l.1))
+    (end_line p.at d fields l.1)))
+
+version : (p : Place) → InLines (version_at p)
+unfolding version_at
+version p = chain _ _ (line p) (λ l. given _ _ _ tt (fine _))
+
+spelled : {E : Type 0} (at : ℕ) (r : Result Class E) → InLines (spelled_class at r)
+spelled at (Ok c) = fine c
+spelled at (Err e) = bad _ tt
+
+class_fields : (at : ℕ) (fields : List (List ℕ)) → InLines (class_in at fields)
+class_fields at [] = bad _ tt
+class_fields at (w ∷ []) = bad _ tt
+class_fields at (w ∷ name ∷ []) = given _ _ _ tt (spelled at (reading_of name))
+class_fields at (w ∷ name ∷ v ∷ ws) = bad _ tt
+
+class_line : (p : Place) → InLines (class_at p)
+unfolding class_at
+class_line p = chain _ _ (line p) (λ l. chain _ _ (class_fields p.at (fields_of l.0)) (λ c. fine _))
+
+machines_line : (p : Place) → InLines (machines_line_at p)
+unfolding machines_line_at
+machines_line p = chain _ _ (worded _ p) (λ l. given _ _ _ tt (chain _ _ (natural p.at _ 1 32 _) (λ m. fine _)))
+
+machines_read : (e : Env) (p : Place) → InLines (machines_at e p)
+unfolding machines_at
+machines_read e p = by (fixed_machines e)
+  where
+    by : (o : Option ℕ) → InLines {A = ℕ × Place} (elim o [ Some machines ↦ Ok (machines, p) | None ↦ machines_line_at p ])
+    by (Some m) = fine _
+    by None = machines_line p
+
+speeds_fields : (at : ℕ) (so_far : List ℕ) (fields : List (List ℕ)) → InLines (speeds_in at so_far fields)
+unfolding speeds_in
+speeds_fields at so_far [] = fine so_far
+speeds_fields at so_far (w ∷ ws) = chain _ _ (natural at _ 1 (10 ^ 6) w) (λ speed. speeds_fields at _ ws)
+
+speeds_line : (machines : ℕ) (p : Place) → InLines (speeds_line_at machines p)
+unfolding speeds_line_at
+speeds_line machines p = chain _ _ (worded _ p) (λ l. given _ _ _ tt (chain _ _ (speeds_fields p.at [] l.0) (λ speeds. given _ _ _ tt (fine _))))
+
+speeds_read : (e : Env) (machines : ℕ) (p : Place) → InLines (speeds_at e machines p)
+unfolding speeds_at
+speeds_read e machines p = either _ _ _ (speeds_line machines p) (fine _)
+
+front : (b : List ℕ) → InLines (front_at b)
+unfolding front_at
+front b =
+    chain _ _ (version _) (λ p.
+    chain _ _ (class_line p) (λ c.
+    chain _ _ (machines_read c.0.env c.1) (λ m.
+    chain _ _ (speeds_read c.0.env m.0 m.1) (λ s.
+    chain _ _ (jobs _ c.0 m.0 _ s.1) (λ d. fine _)))))
+
+-- the reading of all lines of a text
+pub whole : (b : List ℕ) → InLines (filed_at b)
+unfolding filed_at
+whole b = chain _ _ (front b) (λ f. given _ _ _ tt (fine _))

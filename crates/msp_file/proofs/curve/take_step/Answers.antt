@@ -1,0 +1,24 @@
+use Rattle.std.proofs.Common.{◌<◌, ◌∷◌, ap, ◌∙◌, length, rules}
+use Rattle.msp_file.proofs.Pairs.{steps_next}
+use Rattle.msp_file.specs.Steps.{fields_after}
+use Rattle.msp_file.proofs.curve.take_step.Goals as goal
+
+pub returns-in-Ok-push_step-clause-leads : goal.returns-in-Ok-push_step-clause-leads
+returns-in-Ok-push_step-clause-leads c =
+    let w = c.next_field.result.0.now in
+    let v = c.next_field-2.result.0.now in
+    let some : 0 < length c.next_field.result.1.now = search rules in
+    steps_next
+    c.args.at
+    c.args.steps.now
+    c.push_step.new.steps
+    (fields_after c.args.rest.now)
+    w
+    v
+    (fields_after c.next_field-2.result.1.now)
+    c.in-Ok.above
+    c.in-Ok-natural_at.add
+    (c.next_field.ensures.whole c.requires ∙ ap (λ ws. w ∷ ws) (c.next_field-2.ensures.whole some))
+    c.in-Ok.ensures.value
+    c.in-Ok-natural_at.ensures.value
+    c.in-Ok-push_step.ensures

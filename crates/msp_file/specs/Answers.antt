@@ -1,0 +1,54 @@
+-- What the reader of an instance text answers.
+use Rattle.std.specs.Prelude.{◌≡◌, ℕ, List, length, slice_get, Option, Some, None, Result, Ok, Err}
+use Rattle.msp_instance.specs.declared.membership.ClassFault.{ClassFault}
+use Rattle.msp_instance.specs.declared.membership.ClassFault.TheVariants as class_fault
+use Rattle.msp_instance.specs.Conditions.{MeetsConditions, text_limits, InClass}
+use Rattle.msp_instance.specs.Faults.{IsFirstFault}
+use Rattle.msp_instance.specs.Paths.{IsLeastOnCycle}
+use Rattle.msp_file.specs.declared.fault.FileFault.{FileFault}
+use Rattle.msp_file.specs.declared.fault.FileFault.TheVariants.{Class, Cycle, Memory}
+use Rattle.msp_file.specs.declared.filed.Filed.{Filed}
+use Rattle.msp_file.specs.Reading.{filed_at}
+
+-- The name of the job that a fault of the class names, if it names one.
+abbrev pub faulty_name : List (List ℕ) → ClassFault → Option (List ℕ)
+faulty_name names (class_fault.Need j) = slice_get names j
+faulty_name names (class_fault.Unit j) = slice_get names j
+faulty_name names (class_fault.Head j) = slice_get names j
+faulty_name names (class_fault.Due j) = slice_get names j
+faulty_name names (class_fault.Weight j) = slice_get names j
+faulty_name names (class_fault.Curve j) = slice_get names j
+faulty_name names (class_fault.Degree j) = slice_get names j
+faulty_name names class_fault.Jobs = None
+faulty_name names class_fault.Machines = None
+faulty_name names class_fault.Speeds = None
+faulty_name names class_fault.Multiple = None
+faulty_name names class_fault.Arcs = None
+faulty_name names (class_fault.Arc at) = None
+
+-- The lines are those of an instance that breaks a condition of its class, this one first.
+pub record IsClassFault (read : Result Filed FileFault) (fault : ClassFault) (name : Option (List ℕ)) : Type 0 where
+  pub filed : Filed
+  pub reads : read ≡ Ok filed
+  pub first : IsFirstFault filed.instance fault
+  pub named : name ≡ faulty_name filed.names fault
+
+-- The lines are those of an instance that meets the conditions of its class and has a cycle, on which this job is the least.
+pub record IsCycleFault (read : Result Filed FileFault) (job : ℕ) (name : List ℕ) : Type 0 where
+  pub filed : Filed
+  pub reads : read ≡ Ok filed
+  pub conditions : MeetsConditions text_limits filed.instance
+  pub least : IsLeastOnCycle (length filed.instance.jobs) filed.instance.arcs job
+  pub named : slice_get filed.names job ≡ Some name
+
+-- The fault is the first one of a text with this reading of its lines. Want of memory says nothing.
+abbrev pub IsFaultOf : Result Filed FileFault → FileFault → Type 0
+IsFaultOf read (Class fault name) = IsClassFault read fault name
+IsFaultOf read (Cycle job name) = IsCycleFault read job name
+IsFaultOf read Memory = Unit {0}
+IsFaultOf read e = read ≡ Err e
+
+-- The answer is the instance of the lines, which is in its class, or the first fault.
+abbrev pub IsAnswerTo : Result Filed FileFault → Result Filed FileFault → Type 0
+IsAnswerTo read (Ok filed) = (read ≡ Ok filed) × InClass filed.instance
+IsAnswerTo read (Err e) = IsFaultOf read e

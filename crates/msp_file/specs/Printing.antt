@@ -1,0 +1,6 @@
+-- Fields as they are printed one after the other: each behind a space.
+use Rattle.std.specs.Prelude.{ℕ, List, ◌∷◌}
+use Rattle.std.specs.List.{flat_map}
+
+abbrev pub spaced : List (List ℕ) → List ℕ
+spaced fields = flat_map (λ w. 32 ∷ w) fields

@@ -1,0 +1,235 @@
+ghost use Rattle.std.specs.Prelude.{◌≡◌, ◌++◌, ◌∷◌, [], ◌≤◌, ◌<◌, ℕ, List as Items, false, length, bytes_eq, MatchResult, IfOk, OnOk};
+ghost use Rattle.std.specs.List.{list_any};
+ghost use Rattle.msp_file.specs.InstanceText.{has_order};
+ghost use Rattle.msp_file.specs.Reading.{is_arc_among, with_arc, arc_line_at, job_of, job_at_line, arcs_at, jobs_at, end_at, Place};
+ghost use Rattle.msp_file.specs.declared.draft.Draft.{Draft as DraftValue};
+ghost use Rattle.msp_file.specs.Steps.{Gives, Moves, AfterArc, AfterJob, place_of, fields_after};
+
+use crate::curve::curve_at;
+use crate::fault::{FileFault, What};
+use crate::job::{job_line_at, known_at};
+use crate::job_name::JobName;
+use crate::lines::{count_fields, line_at, next_field, split_word};
+use crate::names::Names;
+use crate::operations::needs_at;
+use crate::place::Lines;
+use msp_class::{Class, List, Order};
+use msp_instance::{Arc, Job, MOST_ARCS, MOST_JOBS};
+use std::alloc::Global;
+
+/// The jobs and arcs read so far.
+#[derive(Drop)]
+pub(crate) struct Draft {
+    pub(crate) names: Names,
+    pub(crate) jobs: List<Job>,
+    pub(crate) arcs: List<Arc>,
+}
+
+/// What a line after the head or after a job was.
+#[derive(Clone, Copy)]
+enum Next {
+    Job,
+    Arc,
+    End,
+}
+
+/// Puts a job of a new name at the end.
+fn push_job(draft: &mut Draft, name: JobName, job: Job) -> Result<(), FileFault>
+    requires { list_any (bytes_eq name) draft.old.names ≡ false }
+    ensures { MatchResult result (λ _. draft.new ≡ record draft.old { names = draft.old.names ++ name ∷ []; jobs = draft.old.jobs ++ job ∷ [] }) (λ e. e ≡ FileFault.Memory) }
+{
+    if draft.names.add(name).is_err() {
+        return Err(FileFault::Memory);
+    }
+    match draft.jobs.push(job) {
+        Ok(()) => Ok(()),
+        Err(_) => Err(FileFault::Memory),
+    }
+}
+
+/// The job whose line has these fields, with the lines of it that come next, put at the end of the draft.
+#[tactic(auto, unfolding(crate::specs::Reading::job_at_line))]
+fn job_at_line(
+    alloc: Global,
+    class: Class,
+    machines: u32,
+    draft: &mut Draft,
+    at: u32,
+    fields: &[u8],
+    lines: &mut Lines<'_>,
+) -> Result<(), FileFault>
+    requires even { length draft.old.names ≡ length draft.old.jobs }
+    ensures even { OnOk result ((length draft.new.names ≡ length draft.new.jobs) × (length draft.new.names ≤ 400)) }
+    ensures shrinks { OnOk result (length lines.new.rest.now ≤ length lines.old.rest.now) }
+    ensures moves { Moves (λ _. draft.new) result (place_of lines.new) (job_at_line class machines draft.old at (fields_after fields.now) (place_of lines.old)) }
+{
+    if draft.jobs.len() >= MOST_JOBS {
+        return Err(FileFault::Limit {
+            at,
+            what: What::Jobs,
+        });
+    }
+    let (name, keys) = job_line_at(class, at, &draft.names, fields)?;
+    let needs = needs_at(alloc, class, machines, keys.time, lines)?;
+    let curve = curve_at(alloc, class.crit, lines)?;
+    let job = Job {
+        release: keys.release,
+        due: keys.due,
+        weight: keys.weight,
+        needs,
+        curve,
+    };
+    push_job(draft, name, job)
+}
+
+fn is_arc_among(arcs: &[Arc], before: u32, after: u32) -> bool
+    ensures { result ≡ is_arc_among arcs.now before after }
+{
+    arcs.iter()
+        .any(|arc| arc.before == before && arc.after == after)
+}
+
+fn push_arc(draft: &mut Draft, before: u32, after: u32) -> Result<(), FileFault>
+    ensures { MatchResult result (λ _. draft.new ≡ with_arc draft.old before after) (λ e. e ≡ FileFault.Memory) }
+{
+    match draft.arcs.push(Arc { before, after }) {
+        Ok(()) => Ok(()),
+        Err(_) => Err(FileFault::Memory),
+    }
+}
+
+/// The arc whose line has these fields, put at the end of the draft.
+#[tactic(auto, unfolding(crate::specs::Reading::arc_line_at))]
+fn arc_line_at(at: u32, draft: &mut Draft, fields: &[u8]) -> Result<(), FileFault>
+    requires { length draft.old.names ≤ 400 }
+    ensures gives { Gives (λ _. draft.new) result (arc_line_at at draft.old (fields_after fields.now)) }
+    ensures names { OnOk result (draft.new.names ≡ draft.old.names) }
+    ensures jobs { OnOk result (draft.new.jobs ≡ draft.old.jobs) }
+{
+    if draft.arcs.len() >= MOST_ARCS {
+        return Err(FileFault::Limit {
+            at,
+            what: What::Arcs,
+        });
+    }
+    if count_fields(fields) != 2 {
+        return Err(FileFault::Count { at });
+    }
+    let (first, others) = next_field(fields);
+    let before = known_at(at, &draft.names, first)?;
+    let (second, _) = next_field(others);
+    let after = known_at(at, &draft.names, second)?;
+    if is_arc_among(draft.arcs.as_slice(), before, after) {
+        return Err(FileFault::ArcAgain { at });
+    }
+    push_arc(draft, before, after)
+}
+
+/// The last line.
+fn end_line(at: u32, word: &[u8], fields: &[u8]) -> Result<(), FileFault>
+    ensures { (d : DraftValue) (p : Place) (ws : Items (Items ℕ)) → ws ≡ word.now ∷ fields_after fields.now → Gives (λ _. (d, p)) result (end_at at d ws p) }
+{
+    if *word != *b"end".as_slice() {
+        return Err(FileFault::Line { at });
+    }
+    if count_fields(fields) != 0 {
+        return Err(FileFault::Count { at });
+    }
+    Ok(())
+}
+
+/// Reads a line after an arc, and answers whether it is an arc.
+#[tactic(auto, unfolding(crate::specs::Reading::arcs_at))]
+fn arc_step(draft: &mut Draft, lines: &mut Lines<'_>) -> Result<bool, FileFault>
+    requires { length draft.old.names ≤ 400 }
+    ensures after { AfterArc result draft.old (place_of lines.old) draft.new (place_of lines.new) }
+    ensures names { OnOk result (draft.new.names ≡ draft.old.names) }
+    ensures jobs { OnOk result (draft.new.jobs ≡ draft.old.jobs) }
+    ensures shrinks { OnOk result (length lines.new.rest.now < length lines.old.rest.now) }
+{
+    let at = lines.at;
+    let line = line_at(lines)?;
+    let (word, fields) = split_word(line);
+    if *word == *b"arc".as_slice() {
+        arc_line_at(at, draft, fields)?;
+        return Ok(true);
+    }
+    end_line(at, word, fields)?;
+    Ok(false)
+}
+
+/// Reads the lines after an arc, up to the last one.
+fn arcs_at(draft: &mut Draft, lines: &mut Lines<'_>) -> Result<(), FileFault>
+    requires { length draft.old.names ≤ 400 }
+    ensures names { OnOk result (draft.new.names ≡ draft.old.names) }
+    ensures jobs { OnOk result (draft.new.jobs ≡ draft.old.jobs) }
+    ensures moves { (n : ℕ) → length lines.old.rest.now < n → Moves (λ _. draft.new) result (place_of lines.new) (arcs_at n draft.old (place_of lines.old)) }
+{
+    'lines: loop {
+        match arc_step(draft, lines) {
+            Ok(true) => {}
+            Ok(false) => return Ok(()),
+            Err(fault) => return Err(fault),
+        }
+    }
+}
+
+fn has_order(order: Order) -> bool
+    ensures { result ≡ has_order order }
+{
+    !matches!(order, Order::Free)
+}
+
+/// Reads a line after the head or after a job, with the lines of the job that it begins.
+#[tactic(auto, unfolding(crate::specs::Reading::jobs_at))]
+fn job_step(
+    alloc: Global,
+    class: Class,
+    machines: u32,
+    draft: &mut Draft,
+    lines: &mut Lines<'_>,
+) -> Result<Next, FileFault>
+    requires even { length draft.old.names ≡ length draft.old.jobs }
+    requires few { length draft.old.names ≤ 400 }
+    ensures after { AfterJob class machines result draft.old (place_of lines.old) draft.new (place_of lines.new) }
+    ensures few { OnOk result (length draft.new.names ≤ 400) }
+    ensures even { OnOk result (length draft.new.names ≡ length draft.new.jobs) }
+    ensures shrinks { OnOk result (length lines.new.rest.now < length lines.old.rest.now) }
+{
+    let at = lines.at;
+    let line = line_at(lines)?;
+    let (word, fields) = split_word(line);
+    if *word == *b"job".as_slice() {
+        job_at_line(alloc, class, machines, draft, at, fields, lines)?;
+        return Ok(Next::Job);
+    }
+    if has_order(class.order) && *word == *b"arc".as_slice() {
+        arc_line_at(at, draft, fields)?;
+        return Ok(Next::Arc);
+    }
+    end_line(at, word, fields)?;
+    Ok(Next::End)
+}
+
+/// Reads the lines after the head, up to the last one.
+pub(crate) fn jobs_at(
+    alloc: Global,
+    class: Class,
+    machines: u32,
+    draft: &mut Draft,
+    lines: &mut Lines<'_>,
+) -> Result<(), FileFault>
+    requires even { length draft.old.names ≡ length draft.old.jobs }
+    requires few { length draft.old.names ≤ 400 }
+    ensures even { OnOk result (length draft.new.names ≡ length draft.new.jobs) }
+    ensures moves { (n : ℕ) → length lines.old.rest.now < n → Moves (λ _. draft.new) result (place_of lines.new) (jobs_at n class machines draft.old (place_of lines.old)) }
+{
+    'lines: loop {
+        match job_step(alloc, class, machines, draft, lines) {
+            Ok(Next::Job) => {}
+            Ok(Next::Arc) => return arcs_at(draft, lines),
+            Ok(Next::End) => return Ok(()),
+            Err(fault) => return Err(fault),
+        }
+    }
+}

@@ -1,0 +1,178 @@
+ghost use Rattle.std.specs.Prelude.{◌≡◌, ◌+◌, ◌++◌, ◌∷◌, ◌<◌, ◌≤◌, ◌^◌, [], ℕ, List as Items, length, All, IfOk, OnOk, MatchResult};
+ghost use Rattle.msp_instance.specs.Instance.{kind_of};
+ghost use Rattle.msp_file.specs.InstanceText.{has_speeds};
+ghost use Rattle.msp_file.specs.Reading.{fields_of, version_at, class_in, class_at, machines_line_at, machines_at, have_multiple, speeds_in, speeds_line_at, speeds_at};
+ghost use Rattle.msp_file.specs.Steps.{Fails, Gives, Leads, Moves, place_of, fields_after};
+
+use crate::fault::{FileFault, What};
+use crate::lines::{count_fields, line_at, next_field, split_word, worded_at};
+use crate::number::natural_at;
+use crate::place::Lines;
+use msp_class::{Class, Env, List, fixed_machines};
+use msp_instance::{GREATEST_SPEED, MOST_MACHINES, has_small_multiple};
+use msp_name::parse;
+use std::alloc::Global;
+
+/// The first line.
+#[tactic(auto, unfolding(crate::specs::Reading::version_at))]
+pub(crate) fn version_at(lines: &mut Lines<'_>) -> Result<(), FileFault>
+    ensures { MatchResult result (λ _. version_at (place_of lines.old) ≡ Ok (place_of lines.new)) (λ e. Fails e (version_at (place_of lines.old))) }
+{
+    let at = lines.at;
+    let line = line_at(lines)?;
+    if *line != *b"msp 1".as_slice() {
+        return Err(FileFault::Head { at });
+    }
+    Ok(())
+}
+
+/// The class of a line.
+fn class_in(at: u32, line: &[u8]) -> Result<Class, FileFault>
+    requires { length line.now < 2 ^ 32 }
+    ensures { result ≡ class_in at (fields_of line.now) }
+{
+    let (word, rest) = split_word(line);
+    if *word != *b"class".as_slice() || count_fields(rest) != 1 {
+        return Err(FileFault::Head { at });
+    }
+    let (name, _) = next_field(rest);
+    match parse(name) {
+        Ok(class) => Ok(class),
+        Err(_) => Err(FileFault::Head { at }),
+    }
+}
+
+/// The second line.
+#[tactic(auto, unfolding(crate::specs::Reading::class_at))]
+pub(crate) fn class_at(lines: &mut Lines<'_>) -> Result<Class, FileFault>
+    ensures { Moves (λ c. c) result (place_of lines.new) (class_at (place_of lines.old)) }
+{
+    let at = lines.at;
+    let line = line_at(lines)?;
+    class_in(at, line)
+}
+
+#[tactic(auto, unfolding(crate::specs::Reading::machines_line_at))]
+fn machines_line_at(lines: &mut Lines<'_>) -> Result<u32, FileFault>
+    ensures moves { Moves (λ m. m) result (place_of lines.new) (machines_line_at (place_of lines.old)) }
+{
+    let at = lines.at;
+    match worded_at(lines, b"machines") {
+        Ok(fields) => {
+            if count_fields(fields) != 1 {
+                return Err(FileFault::Count { at });
+            }
+            let (field, _) = next_field(fields);
+            match natural_at(at, What::Machines, 1, MOST_MACHINES as u64, field) {
+                Ok(machines) => Ok(machines as u32),
+                Err(fault) => Err(fault),
+            }
+        }
+        Err(fault) => Err(fault),
+    }
+}
+
+/// The number of machines.
+#[tactic(auto, unfolding(crate::specs::Reading::machines_at))]
+pub(crate) fn machines_at(env: Env, lines: &mut Lines<'_>) -> Result<u32, FileFault>
+    ensures { Moves (λ m. m) result (place_of lines.new) (machines_at env (place_of lines.old)) }
+{
+    match fixed_machines(env) {
+        Some(machines) => Ok(machines),
+        None => machines_line_at(lines),
+    }
+}
+
+/// The speed in the next field, put at the end of the speeds.
+#[tactic(auto, unfolding(crate::specs::Reading::speeds_in))]
+fn take_speed<'a>(at: u32, speeds: &mut List<u64>, rest: &'a [u8]) -> Result<&'a [u8], FileFault>
+    requires some { 0 < length rest.now }
+    requires range { All (λ s. (1 ≤ s) × (s ≤ 10 ^ 6)) speeds.old }
+    ensures leads { Leads (λ more. speeds_in at speeds.new (fields_after more.now)) result (speeds_in at speeds.old (fields_after rest.now)) }
+    ensures range { OnOk result (All (λ s. (1 ≤ s) × (s ≤ 10 ^ 6)) speeds.new) }
+    ensures more { IfOk result (λ more. length more.now < length rest.now) }
+{
+    let (field, more) = next_field(rest);
+    match natural_at(at, What::Speed, 1, GREATEST_SPEED, field) {
+        Ok(speed) => match speeds.push(speed) {
+            Ok(()) => Ok(more),
+            Err(_) => Err(FileFault::Memory),
+        },
+        Err(fault) => Err(fault),
+    }
+}
+
+#[tactic(auto, unfolding(crate::specs::Reading::speeds_in))]
+fn speeds_in(alloc: Global, at: u32, fields: &[u8]) -> Result<List<u64>, FileFault>
+    ensures gives { Gives (λ x. x) result (speeds_in at [] (fields_after fields.now)) }
+    ensures range { IfOk result (λ speeds. All (λ s. (1 ≤ s) × (s ≤ 10 ^ 6)) speeds) }
+{
+    let mut speeds = List::new(alloc);
+    let mut rest = fields;
+    'fields: while !rest.is_empty() {
+        rest = take_speed(at, &mut speeds, rest)?;
+    }
+    Ok(speeds)
+}
+
+/// Whether the least common multiple of the speeds is in range.
+fn have_multiple(speeds: &[u64]) -> bool
+    requires { All (λ s. (1 ≤ s) × (s ≤ 10 ^ 6)) speeds.now }
+    ensures { result ≡ have_multiple (2 ^ 30) speeds.now }
+{
+    has_small_multiple(speeds)
+}
+
+/// The line with the speeds of the machines.
+#[tactic(auto, unfolding(crate::specs::Reading::speeds_line_at))]
+fn speeds_line_at(
+    alloc: Global,
+    machines: u32,
+    lines: &mut Lines<'_>,
+) -> Result<List<u64>, FileFault>
+    ensures { Moves (λ x. x) result (place_of lines.new) (speeds_line_at machines (place_of lines.old)) }
+{
+    let at = lines.at;
+    match worded_at(lines, b"speeds") {
+        Ok(fields) => {
+            if count_fields(fields) != machines as usize {
+                return Err(FileFault::Count { at });
+            }
+            match speeds_in(alloc, at, fields) {
+                Ok(speeds) => {
+                    if !have_multiple(speeds.as_slice()) {
+                        return Err(FileFault::Limit {
+                            at,
+                            what: What::Multiple,
+                        });
+                    }
+                    Ok(speeds)
+                }
+                Err(fault) => Err(fault),
+            }
+        }
+        Err(fault) => Err(fault),
+    }
+}
+
+pub(crate) fn has_speeds(env: Env) -> bool
+    ensures { result ≡ has_speeds (kind_of env) }
+{
+    matches!(env, Env::Q2 | Env::Q)
+}
+
+/// The speeds of the machines.
+#[tactic(auto, unfolding(crate::specs::Reading::speeds_at))]
+pub(crate) fn speeds_at(
+    alloc: Global,
+    env: Env,
+    machines: u32,
+    lines: &mut Lines<'_>,
+) -> Result<List<u64>, FileFault>
+    ensures { Moves (λ x. x) result (place_of lines.new) (speeds_at env machines (place_of lines.old)) }
+{
+    if has_speeds(env) {
+        return speeds_line_at(alloc, machines, lines);
+    }
+    Ok(List::new(alloc))
+}

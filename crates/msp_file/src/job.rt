@@ -1,0 +1,193 @@
+ghost use Rattle.std.specs.Prelude.{◌≡◌, All, IsTrue, ◌+◌, ◌<◌, ◌≤◌, ◌^◌, length, true, false, bytes_eq, IfOk};
+ghost use Rattle.std.specs.List.{list_any};
+ghost use Rattle.msp_class.specs.Rank.{flag_number};
+ghost use Rattle.msp_instance.specs.Instance.{kind_of};
+ghost use Rattle.msp_instance.specs.Conditions.{uses_due, uses_weight};
+ghost use Rattle.msp_file.specs.InstanceText.{has_times, has_one_time, has_machine_times, has_route, has_time_key, has_times_line};
+ghost use Rattle.msp_file.specs.JobName.{is_name_byte};
+ghost use Rattle.msp_file.specs.Reading.{is_name_text, job_name_at, known_at, keyed_at, natural_key_at, integer_key_at, keys_at, count_of_keys, job_line_at};
+ghost use Rattle.msp_file.specs.Steps.{Gives, fields_after};
+
+use crate::fault::{FileFault, What};
+use crate::job_name::{JobName, are_name_bytes};
+use crate::lines::{count_fields, next_field};
+use crate::names::Names;
+use crate::number::{integer_at, natural_at};
+use msp_class::{Class, Crit, Env, Times};
+use msp_instance::GREATEST;
+
+/// The numbers in the line of a job. What the class does not write has its neutral value.
+#[derive(Clone, Copy)]
+pub(crate) struct Keys {
+    pub(crate) time: u64,
+    pub(crate) release: u64,
+    pub(crate) due: i64,
+    pub(crate) weight: u64,
+}
+
+fn is_name_text(bytes: &[u8]) -> bool
+    ensures value { result ≡ is_name_text bytes.now }
+    ensures all { IsTrue result → (1 ≤ length bytes.now) × All (λ b. IsTrue (is_name_byte b)) bytes.now }
+{
+    match bytes {
+        [] => false,
+        _ => are_name_bytes(bytes),
+    }
+}
+
+/// The name of a job.
+#[tactic(auto, unfolding(crate::specs::Reading::job_name_at))]
+pub(crate) fn job_name_at(at: u32, bytes: &[u8]) -> Result<JobName, FileFault>
+    ensures { result ≡ job_name_at at bytes.now }
+{
+    if !is_name_text(bytes) {
+        return Err(FileFault::Name { at });
+    }
+    match JobName::new(bytes) {
+        Some(name) => Ok(name),
+        None => Err(FileFault::Limit {
+            at,
+            what: What::Name,
+        }),
+    }
+}
+
+/// The number of the job of a name, from 0.
+#[tactic(auto, unfolding(crate::specs::Reading::known_at))]
+pub(crate) fn known_at(at: u32, names: &Names, bytes: &[u8]) -> Result<u32, FileFault>
+    requires { length names.now < 2 ^ 32 }
+    ensures { result ≡ known_at at names.now bytes.now }
+{
+    let name = job_name_at(at, bytes)?;
+    match names.place(&name) {
+        Some(job) => Ok(job as u32),
+        None => Err(FileFault::Unknown { at }),
+    }
+}
+
+/// The text behind a key.
+fn keyed_at(at: u32, letter: u8, field: &[u8]) -> Result<&[u8], FileFault>
+    ensures { Gives (λ w. w.now) result (keyed_at at letter field.now) }
+{
+    match field {
+        [key, b'=', text @ ..] if *key == letter => Ok(text),
+        _ => Err(FileFault::Key { at }),
+    }
+}
+
+/// The number behind a key in the next field, and the fields after it. Without the key it is the least number.
+#[tactic(auto, unfolding(crate::specs::Reading::natural_key_at))]
+fn natural_key_at(
+    at: u32,
+    there: bool,
+    letter: u8,
+    what: What,
+    least: u64,
+    fields: &[u8],
+) -> Result<(u64, &[u8]), FileFault>
+    ensures { Gives (λ x. (x.0, fields_after x.1.now)) result (natural_key_at at there letter what least (10 ^ 9) (fields_after fields.now)) }
+{
+    if !there {
+        return Ok((least, fields));
+    }
+    let (field, rest) = next_field(fields);
+    let text = keyed_at(at, letter, field)?;
+    let number = natural_at(at, what, least, GREATEST, text)?;
+    Ok((number, rest))
+}
+
+/// The number of either sign behind a key in the next field, and the fields after it. Without the key it is 0.
+#[tactic(auto, unfolding(crate::specs::Reading::integer_key_at))]
+fn integer_key_at(
+    at: u32,
+    there: bool,
+    letter: u8,
+    what: What,
+    fields: &[u8],
+) -> Result<(i64, &[u8]), FileFault>
+    ensures { Gives (λ x. (x.0, fields_after x.1.now)) result (integer_key_at at there letter what (10 ^ 9) (fields_after fields.now)) }
+{
+    if !there {
+        return Ok((0, fields));
+    }
+    let (field, rest) = next_field(fields);
+    let text = keyed_at(at, letter, field)?;
+    let number = integer_at(at, what, GREATEST as u32, text)?;
+    Ok((number, rest))
+}
+
+/// Whether the line of a job has the key of its time.
+pub(crate) fn has_time_key(class: Class) -> bool
+    ensures { result ≡ has_time_key class }
+{
+    matches!(class.times, Times::General)
+        && matches!(
+            class.env,
+            Env::One | Env::P2 | Env::P3 | Env::P | Env::Q2 | Env::Q
+        )
+}
+
+pub(crate) fn uses_due(crit: Crit) -> bool
+    ensures { result ≡ uses_due crit }
+{
+    matches!(
+        crit,
+        Crit::Lmax | Crit::SumU | Crit::SumWU | Crit::SumT | Crit::SumWT
+    )
+}
+
+pub(crate) fn uses_weight(crit: Crit) -> bool
+    ensures { result ≡ uses_weight crit }
+{
+    matches!(crit, Crit::SumWC | Crit::SumWU | Crit::SumWT)
+}
+
+fn count_of_keys(class: Class) -> usize
+    ensures value { result ≡ count_of_keys class }
+    ensures few { result ≤ 4 }
+{
+    has_time_key(class) as usize
+        + class.heads as usize
+        + uses_due(class.crit) as usize
+        + uses_weight(class.crit) as usize
+}
+
+/// The keys of a job's line, those of them that the class has.
+#[tactic(auto, unfolding(crate::specs::Reading::keys_at))]
+fn keys_at(class: Class, at: u32, fields: &[u8]) -> Result<Keys, FileFault>
+    ensures { Gives (λ k. k) result (keys_at class at (fields_after fields.now)) }
+{
+    let (time, rest) = natural_key_at(at, has_time_key(class), b'p', What::Time, 1, fields)?;
+    let (release, rest) = natural_key_at(at, class.heads, b'r', What::Release, 0, rest)?;
+    let (due, rest) = integer_key_at(at, uses_due(class.crit), b'd', What::Due, rest)?;
+    let (weight, _) = natural_key_at(at, uses_weight(class.crit), b'w', What::Weight, 1, rest)?;
+    Ok(Keys {
+        time,
+        release,
+        due,
+        weight,
+    })
+}
+
+/// The name and the keys in the line of a job whose name no earlier job has.
+#[tactic(auto, unfolding(crate::specs::Reading::job_line_at))]
+pub(crate) fn job_line_at(
+    class: Class,
+    at: u32,
+    names: &Names,
+    fields: &[u8],
+) -> Result<(JobName, Keys), FileFault>
+    ensures gives { Gives (λ x. x) result (job_line_at class at names.now (fields_after fields.now)) }
+    ensures fresh { IfOk result (λ x. list_any (bytes_eq x.0) names.now ≡ false) }
+{
+    if count_fields(fields) != 1 + count_of_keys(class) {
+        return Err(FileFault::Count { at });
+    }
+    let (field, rest) = next_field(fields);
+    let name = job_name_at(at, field)?;
+    let keys = keys_at(class, at, rest)?;
+    if names.contains(&name) {
+        return Err(FileFault::Again { at });
+    }
+    Ok((name, keys))
+}

@@ -1,0 +1,96 @@
+ghost use Rattle.std.specs.Prelude.{◌≡◌, ◌+◌, ◌∷◌, ◌<◌, ◌≤◌, ◌^◌, length, position, count_by, ◌==◌, IfOk, OnOk};
+ghost use Rattle.msp_file.specs.Reading.{line_at, worded_at, fields_of, first_of, others_of};
+ghost use Rattle.msp_file.specs.Steps.{Moves, place_of, fields_after};
+
+use crate::fault::FileFault;
+use crate::place::Lines;
+
+fn find(bytes: &[u8], mark: u8) -> Option<usize>
+    ensures { result ≡ position (λ x. x == mark) bytes.now }
+{
+    bytes.iter().position(|byte| *byte == mark)
+}
+
+fn count_spaces(bytes: &[u8]) -> usize
+    ensures value { result ≡ count_by (λ x. x == 32) bytes.now }
+    ensures few { result ≤ length bytes.now }
+{
+    bytes.iter().filter(|byte| **byte == b' ').count()
+}
+
+/// The next line, without its line feed.
+#[tactic(auto, unfolding(crate::specs::Reading::line_at), using(std::proofs::lemmas::List::take_rest))]
+pub(crate) fn line_at<'a>(lines: &mut Lines<'a>) -> Result<&'a [u8], FileFault>
+    ensures moves { Moves (λ line. line.now) result (place_of lines.new) (line_at (place_of lines.old)) }
+    ensures short { IfOk result (λ line. length line.now < 2 ^ 32) }
+    ensures shrinks { OnOk result (length lines.new.rest.now < length lines.old.rest.now) }
+{
+    let at = lines.at;
+    let rest = lines.rest;
+    match find(rest, b'\n') {
+        Some(end) => {
+            *lines = Lines {
+                at: at + 1,
+                rest: &rest[end + 1..],
+            };
+            Ok(&rest[..end])
+        }
+        None if rest.is_empty() => Err(FileFault::Missing { at }),
+        None => Err(FileFault::Cut { at }),
+    }
+}
+
+/// The first word of a line, and the bytes from the space behind it on.
+#[tactic(auto, using(crate::proofs::Fields::split_rules))]
+pub(crate) fn split_word(line: &[u8]) -> (&[u8], &[u8])
+    ensures fields { fields_of line.now ≡ result.0.now ∷ fields_after result.1.now }
+    ensures word { length result.0.now ≤ length line.now }
+    ensures short { length result.1.now ≤ length line.now }
+{
+    match find(line, b' ') {
+        Some(end) => line.split_at(end),
+        None => line.split_at(line.len()),
+    }
+}
+
+/// The next field, and the bytes from the space behind it on. No bytes have no field.
+pub(crate) fn next_field(rest: &[u8]) -> (&[u8], &[u8])
+    ensures first { result.0.now ≡ first_of (fields_after rest.now) }
+    ensures others { fields_after result.1.now ≡ others_of (fields_after rest.now) }
+    ensures whole { 0 < length rest.now → fields_after rest.now ≡ result.0.now ∷ fields_after result.1.now }
+    ensures field { length result.0.now ≤ length rest.now }
+    ensures shorter { 0 < length rest.now → length result.1.now < length rest.now }
+{
+    match rest {
+        [] => (rest, rest),
+        [_, more @ ..] => split_word(more),
+    }
+}
+
+/// How many fields there are.
+#[tactic(auto, using(crate::proofs::Fields::fields_counted))]
+pub(crate) fn count_fields(rest: &[u8]) -> usize
+    ensures value { result ≡ length (fields_after rest.now) }
+    ensures few { result ≤ length rest.now }
+{
+    match rest {
+        [] => 0,
+        [_, more @ ..] => count_spaces(more) + 1,
+    }
+}
+
+/// The fields of the line that has to come next, from the space behind its first word on.
+#[tactic(auto, unfolding(crate::specs::Reading::worded_at))]
+pub(crate) fn worded_at<'a>(lines: &mut Lines<'a>, word: &[u8]) -> Result<&'a [u8], FileFault>
+    ensures moves { Moves (λ rest. fields_after rest.now) result (place_of lines.new) (worded_at word.now (place_of lines.old)) }
+    ensures short { IfOk result (λ rest. length rest.now < 2 ^ 32) }
+    ensures shrinks { OnOk result (length lines.new.rest.now ≤ length lines.old.rest.now) }
+{
+    let at = lines.at;
+    let line = line_at(lines)?;
+    let (first, rest) = split_word(line);
+    if *first != *word {
+        return Err(FileFault::Line { at });
+    }
+    Ok(rest)
+}

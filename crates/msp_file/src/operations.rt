@@ -1,0 +1,354 @@
+ghost use Rattle.std.specs.Prelude.{◌≡◌, ◌+◌, ◌<◌, ◌≤◌, ◌^◌, [], length, map, IfOk, OnOk, MatchResult};
+ghost use Rattle.msp_file.specs.Reading.{natural_at, machine_at, with_need, times_at, timed_route_at, unit_route_at, operations_at};
+ghost use Rattle.std.specs.List.{range_with_len};
+ghost use Rattle.msp_instance.specs.Instance.{kind_of};
+ghost use Rattle.msp_instance.specs.Conditions.{most_operations};
+ghost use Rattle.msp_file.specs.InstanceText.{has_one_time, has_machine_times, has_route, has_times_line};
+ghost use Rattle.msp_file.specs.Reading.{least_time, operations_in, fields_in, is_route_count, times_line_at, route_line_at, unwritten_needs, needs_at};
+ghost use Rattle.msp_file.specs.Steps.{Gives, Leads, Moves, place_of, fields_after};
+
+use crate::fault::{FileFault, What};
+use crate::lines::{count_fields, next_field, worded_at};
+use crate::number::natural_at;
+use crate::place::Lines;
+use msp_class::{Class, Env, List, Times};
+use msp_instance::{GREATEST, MOST_OPERATIONS, Need};
+use std::alloc::Global;
+
+/// Puts a need at the end.
+fn push_need(needs: &mut List<Need>, machine: u32, time: u64) -> Result<(), FileFault>
+    ensures { MatchResult result (λ _. needs.new ≡ with_need needs.old machine time) (λ e. e ≡ FileFault.Memory) }
+{
+    match needs.push(Need { machine, time }) {
+        Ok(()) => Ok(()),
+        Err(_) => Err(FileFault::Memory),
+    }
+}
+
+/// The time in the next field, put at the end of the needs. What is left are the other fields.
+#[tactic(auto, unfolding(crate::specs::Reading::times_at))]
+fn take_time<'a>(
+    at: u32,
+    least: u64,
+    needs: &mut List<Need>,
+    rest: &'a [u8],
+) -> Result<&'a [u8], FileFault>
+    requires some { 0 < length rest.now }
+    requires few { length needs.old < 2 ^ 32 }
+    ensures leads { Leads (λ more. times_at at least needs.new (fields_after more.now)) result (times_at at least needs.old (fields_after rest.now)) }
+    ensures more { IfOk result (λ more. (length needs.new ≡ length needs.old + 1) × (length more.now < length rest.now)) }
+{
+    let machine = needs.len() as u32;
+    let (field, more) = next_field(rest);
+    match natural_at(at, What::Time, least, GREATEST, field) {
+        Ok(time) => match push_need(needs, machine, time) {
+            Ok(()) => Ok(more),
+            Err(fault) => Err(fault),
+        },
+        Err(fault) => Err(fault),
+    }
+}
+
+/// One time for each machine in order.
+#[tactic(auto, unfolding(crate::specs::Reading::times_at))]
+pub(crate) fn times_at(
+    alloc: Global,
+    at: u32,
+    least: u64,
+    fields: &[u8],
+) -> Result<List<Need>, FileFault>
+    requires { length fields.now < 2 ^ 32 }
+    ensures { Gives (λ x. x) result (times_at at least [] (fields_after fields.now)) }
+{
+    let mut needs = List::new(alloc);
+    let mut rest = fields;
+    'fields: while !rest.is_empty() {
+        rest = take_time(at, least, &mut needs, rest)?;
+    }
+    Ok(needs)
+}
+
+/// The number of a machine, from 0.
+#[tactic(auto, unfolding(crate::specs::Reading::machine_at))]
+fn machine_at(at: u32, machines: u32, field: &[u8]) -> Result<u32, FileFault>
+    ensures { result ≡ machine_at at machines field.now }
+{
+    match natural_at(at, What::Machines, 1, machines as u64, field) {
+        Ok(machine) => Ok((machine - 1) as u32),
+        Err(fault) => Err(fault),
+    }
+}
+
+/// The machine and the time in the next two fields, put at the end of the needs.
+#[tactic(auto, unfolding(crate::specs::Reading::timed_route_at))]
+fn take_timed<'a>(
+    at: u32,
+    machines: u32,
+    needs: &mut List<Need>,
+    rest: &'a [u8],
+) -> Result<&'a [u8], FileFault>
+    requires { 0 < length rest.now }
+    ensures leads { Leads (λ more. timed_route_at at machines needs.new (fields_after more.now)) result (timed_route_at at machines needs.old (fields_after rest.now)) }
+    ensures more { IfOk result (λ more. length more.now < length rest.now) }
+{
+    let (word, others) = next_field(rest);
+    if others.is_empty() {
+        return Err(FileFault::Count { at });
+    }
+    let (second, more) = next_field(others);
+    match machine_at(at, machines, word) {
+        Ok(machine) => match natural_at(at, What::Time, 1, GREATEST, second) {
+            Ok(time) => match push_need(needs, machine, time) {
+                Ok(()) => Ok(more),
+                Err(fault) => Err(fault),
+            },
+            Err(fault) => Err(fault),
+        },
+        Err(fault) => Err(fault),
+    }
+}
+
+/// Machines in order, each with its time.
+#[tactic(auto, unfolding(crate::specs::Reading::timed_route_at))]
+fn timed_route_at(
+    alloc: Global,
+    at: u32,
+    machines: u32,
+    fields: &[u8],
+) -> Result<List<Need>, FileFault>
+    ensures { Gives (λ x. x) result (timed_route_at at machines [] (fields_after fields.now)) }
+{
+    let mut needs = List::new(alloc);
+    let mut rest = fields;
+    'fields: while !rest.is_empty() {
+        rest = take_timed(at, machines, &mut needs, rest)?;
+    }
+    Ok(needs)
+}
+
+/// The machine in the next field, put at the end of the needs with unit time.
+#[tactic(auto, unfolding(crate::specs::Reading::unit_route_at))]
+fn take_unit<'a>(
+    at: u32,
+    machines: u32,
+    needs: &mut List<Need>,
+    rest: &'a [u8],
+) -> Result<&'a [u8], FileFault>
+    requires { 0 < length rest.now }
+    ensures leads { Leads (λ more. unit_route_at at machines needs.new (fields_after more.now)) result (unit_route_at at machines needs.old (fields_after rest.now)) }
+    ensures more { IfOk result (λ more. length more.now < length rest.now) }
+{
+    let (word, more) = next_field(rest);
+    match machine_at(at, machines, word) {
+        Ok(machine) => match push_need(needs, machine, 1) {
+            Ok(()) => Ok(more),
+            Err(fault) => Err(fault),
+        },
+        Err(fault) => Err(fault),
+    }
+}
+
+/// Machines in order, with unit times.
+#[tactic(auto, unfolding(crate::specs::Reading::unit_route_at))]
+fn unit_route_at(
+    alloc: Global,
+    at: u32,
+    machines: u32,
+    fields: &[u8],
+) -> Result<List<Need>, FileFault>
+    ensures { Gives (λ x. x) result (unit_route_at at machines [] (fields_after fields.now)) }
+{
+    let mut needs = List::new(alloc);
+    let mut rest = fields;
+    'fields: while !rest.is_empty() {
+        rest = take_unit(at, machines, &mut needs, rest)?;
+    }
+    Ok(needs)
+}
+
+/// The operations of a route.
+pub(crate) fn operations_at(
+    alloc: Global,
+    times: Times,
+    at: u32,
+    machines: u32,
+    fields: &[u8],
+) -> Result<List<Need>, FileFault>
+    ensures { Gives (λ x. x) result (operations_at times at machines (fields_after fields.now)) }
+{
+    match times {
+        Times::General => timed_route_at(alloc, at, machines, fields),
+        Times::Unit => unit_route_at(alloc, at, machines, fields),
+    }
+}
+
+fn least_time(env: Env) -> u64
+    ensures { result ≡ least_time (kind_of env) }
+{
+    match env {
+        Env::O2 | Env::O3 | Env::O | Env::F2 | Env::F3 | Env::F => 0,
+        _ => 1,
+    }
+}
+
+/// The line with a job's times on the machines.
+#[tactic(auto, unfolding(crate::specs::Reading::times_line_at))]
+fn times_line_at(
+    alloc: Global,
+    env: Env,
+    machines: u32,
+    lines: &mut Lines<'_>,
+) -> Result<List<Need>, FileFault>
+    ensures moves { Moves (λ x. x) result (place_of lines.new) (times_line_at (kind_of env) machines (place_of lines.old)) }
+    ensures shrinks { OnOk result (length lines.new.rest.now ≤ length lines.old.rest.now) }
+{
+    let at = lines.at;
+    match worded_at(lines, b"times") {
+        Ok(fields) => {
+            if count_fields(fields) != machines as usize {
+                return Err(FileFault::Count { at });
+            }
+            times_at(alloc, at, least_time(env), fields)
+        }
+        Err(fault) => Err(fault),
+    }
+}
+
+/// How many operations so many fields begin.
+fn operations_in(times: Times, fields: usize) -> usize
+    requires { fields < 2 ^ 63 }
+    ensures { result ≡ operations_in times fields }
+{
+    match times {
+        Times::General => (fields + 1) / 2,
+        Times::Unit => fields,
+    }
+}
+
+fn most_operations(env: Env) -> usize
+    ensures { result ≡ most_operations env }
+{
+    match env {
+        Env::J2Short | Env::JShort => 2,
+        _ => MOST_OPERATIONS,
+    }
+}
+
+/// Whether so many fields are those of at least one and not too many operations.
+fn is_route_count(class: Class, fields: usize) -> bool
+    requires { fields < 2 ^ 63 }
+    ensures { result ≡ is_route_count class.times (most_operations class.env) fields }
+{
+    let operations = operations_in(class.times, fields);
+    let whole = match class.times {
+        Times::General => fields % 2 == 0,
+        Times::Unit => true,
+    };
+    1 <= operations && operations <= most_operations(class.env) && whole
+}
+
+/// The line with a job's route.
+#[tactic(auto, unfolding(crate::specs::Reading::route_line_at))]
+fn route_line_at(
+    alloc: Global,
+    class: Class,
+    machines: u32,
+    lines: &mut Lines<'_>,
+) -> Result<List<Need>, FileFault>
+    ensures moves { Moves (λ x. x) result (place_of lines.new) (route_line_at class machines (place_of lines.old)) }
+    ensures shrinks { OnOk result (length lines.new.rest.now ≤ length lines.old.rest.now) }
+{
+    let at = lines.at;
+    match worded_at(lines, b"route") {
+        Ok(fields) => {
+            let count = count_fields(fields);
+            if operations_in(class.times, count) > MOST_OPERATIONS {
+                return Err(FileFault::Limit {
+                    at,
+                    what: What::Route,
+                });
+            }
+            if !is_route_count(class, count) {
+                return Err(FileFault::Count { at });
+            }
+            operations_at(alloc, class.times, at, machines, fields)
+        }
+        Err(fault) => Err(fault),
+    }
+}
+
+fn has_one_time(env: Env) -> bool
+    ensures { result ≡ has_one_time (kind_of env) }
+{
+    matches!(
+        env,
+        Env::One | Env::P2 | Env::P3 | Env::P | Env::Q2 | Env::Q
+    )
+}
+
+/// One need for each machine, of unit time.
+fn unit_needs(alloc: Global, machines: u32) -> Result<List<Need>, FileFault>
+    ensures { MatchResult result (λ needs. needs ≡ map (λ q. record { machine = q; time = 1 }) (range_with_len 0 machines)) (λ e. e ≡ FileFault.Memory) }
+{
+    let mut needs = List::new(alloc);
+    for machine in 0..machines {
+        push_need(&mut needs, machine, 1)?;
+    }
+    Ok(needs)
+}
+
+/// The needs that no line writes.
+fn unwritten_needs(
+    alloc: Global,
+    env: Env,
+    machines: u32,
+    time: u64,
+) -> Result<List<Need>, FileFault>
+    ensures { MatchResult result (λ needs. needs ≡ unwritten_needs (kind_of env) machines time) (λ e. e ≡ FileFault.Memory) }
+{
+    if !has_one_time(env) {
+        return unit_needs(alloc, machines);
+    }
+    let mut needs = List::new(alloc);
+    match push_need(&mut needs, 0, time) {
+        Ok(()) => Ok(needs),
+        Err(fault) => Err(fault),
+    }
+}
+
+pub(crate) fn has_times_line(class: Class) -> bool
+    ensures { result ≡ has_times_line class }
+{
+    matches!(class.times, Times::General)
+        && matches!(
+            class.env,
+            Env::R2 | Env::R | Env::O2 | Env::O3 | Env::O | Env::F2 | Env::F3 | Env::F
+        )
+}
+
+pub(crate) fn has_route(env: Env) -> bool
+    ensures { result ≡ has_route (kind_of env) }
+{
+    matches!(env, Env::J2Short | Env::JShort | Env::J2 | Env::J)
+}
+
+/// The needs of a job: those of its lines, or else the one with the time of its key or those of unit time.
+#[tactic(auto, unfolding(crate::specs::Reading::needs_at))]
+pub(crate) fn needs_at(
+    alloc: Global,
+    class: Class,
+    machines: u32,
+    time: u64,
+    lines: &mut Lines<'_>,
+) -> Result<List<Need>, FileFault>
+    ensures moves { Moves (λ x. x) result (place_of lines.new) (needs_at class machines time (place_of lines.old)) }
+    ensures shrinks { OnOk result (length lines.new.rest.now ≤ length lines.old.rest.now) }
+{
+    if has_times_line(class) {
+        times_line_at(alloc, class.env, machines, lines)
+    } else if has_route(class.env) {
+        route_line_at(alloc, class, machines, lines)
+    } else {
+        unwritten_needs(alloc, class.env, machines, time)
+    }
+}

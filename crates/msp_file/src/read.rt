@@ -1,0 +1,156 @@
+ghost use Rattle.std.specs.Prelude.{◌≡◌, ◌+◌, ◌<◌, ◌≤◌, ◌^◌, length, IfOk, MatchResult, Ok};
+ghost use Rattle.msp_instance.specs.Conditions.{MeetsConditions, text_limits, IsAcyclic};
+ghost use Rattle.msp_file.specs.Answers.{faulty_name, IsFaultOf, IsAnswerTo};
+ghost use Rattle.msp_file.specs.Reading.{front_at, filed_at, filed_of, no_draft, jobs_at};
+ghost use Rattle.msp_file.specs.Steps.{Gives, Moves, place_of};
+
+use crate::draft::{Draft, jobs_at};
+use crate::fault::FileFault;
+use crate::filed::Filed;
+use crate::head::{class_at, machines_at, speeds_at, version_at};
+use crate::job_name::JobName;
+use crate::names::Names;
+use crate::place::Lines;
+use msp_class::{Class, List};
+use msp_instance::{ClassFault, Instance, OrderFault, check, forward};
+use std::alloc::Global;
+
+fn no_draft(alloc: Global) -> Draft
+    ensures { result ≡ no_draft }
+{
+    Draft {
+        names: Names::new(alloc),
+        jobs: List::new(alloc),
+        arcs: List::new(alloc),
+    }
+}
+
+fn filed_of(class: Class, machines: u32, speeds: List<u64>, draft: Draft) -> Filed
+    ensures { result ≡ filed_of class machines speeds draft }
+{
+    let Draft { names, jobs, arcs } = draft;
+    Filed {
+        instance: Instance {
+            class,
+            machines,
+            speeds,
+            jobs,
+            arcs,
+        },
+        names,
+    }
+}
+
+/// Reads the lines after the head.
+fn draft_at(
+    alloc: Global,
+    class: Class,
+    machines: u32,
+    lines: &mut Lines<'_>,
+) -> Result<Draft, FileFault>
+    ensures even { IfOk result (λ d. length d.names ≡ length d.jobs) }
+    ensures moves { Moves (λ d. d) result (place_of lines.new) (jobs_at (length lines.old.rest.now + 1) class machines no_draft (place_of lines.old)) }
+{
+    let mut draft = no_draft(alloc);
+    match jobs_at(alloc, class, machines, &mut draft, lines) {
+        Ok(()) => Ok(draft),
+        Err(fault) => Err(fault),
+    }
+}
+
+/// Reads the lines of an instance at the front of a text.
+#[tactic(auto, unfolding(crate::specs::Reading::front_at))]
+fn front_at(alloc: Global, bytes: &[u8], lines: &mut Lines<'_>) -> Result<Filed, FileFault>
+    requires { place_of lines.old ≡ record { at = 1; rest = bytes.now } }
+    ensures even { IfOk result (λ f. length f.names ≡ length f.instance.jobs) }
+    ensures moves { Moves (λ x. x) result (place_of lines.new) (front_at bytes.now) }
+{
+    version_at(lines)?;
+    let class = class_at(lines)?;
+    let machines = machines_at(class.env, lines)?;
+    let speeds = speeds_at(alloc, class.env, machines, lines)?;
+    let draft = draft_at(alloc, class, machines, lines)?;
+    Ok(filed_of(class, machines, speeds, draft))
+}
+
+/// Reads the lines of an instance that are all of a text.
+#[tactic(auto, unfolding(crate::specs::Reading::filed_at))]
+fn filed_at(alloc: Global, bytes: &[u8]) -> Result<Filed, FileFault>
+    requires { length bytes.now ≤ 2 ^ 26 }
+    ensures even { IfOk result (λ f. length f.names ≡ length f.instance.jobs) }
+    ensures gives { Gives (λ x. x) result (filed_at bytes.now) }
+{
+    let mut lines = Lines { at: 1, rest: bytes };
+    let filed = front_at(alloc, bytes, &mut lines)?;
+    if !lines.rest.is_empty() {
+        return Err(FileFault::After { at: lines.at });
+    }
+    Ok(filed)
+}
+
+/// The name of the job that a fault of the class names, if it names one.
+fn faulty_name(names: &Names, fault: ClassFault) -> Option<JobName>
+    ensures { result ≡ faulty_name names.now fault }
+{
+    match fault {
+        ClassFault::Need { job }
+        | ClassFault::Unit { job }
+        | ClassFault::Head { job }
+        | ClassFault::Due { job }
+        | ClassFault::Weight { job }
+        | ClassFault::Curve { job }
+        | ClassFault::Degree { job } => names.get(job as usize),
+        ClassFault::Jobs
+        | ClassFault::Machines
+        | ClassFault::Speeds
+        | ClassFault::Multiple
+        | ClassFault::Arcs
+        | ClassFault::Arc { .. } => None,
+    }
+}
+
+/// The first condition that the instance breaks, as a fault of its text.
+fn check_class(filed: &Filed) -> Result<(), FileFault>
+    ensures { MatchResult result (λ _. MeetsConditions text_limits filed.now.instance) (λ e. IsFaultOf (Ok filed.now) e) }
+{
+    match check(&filed.instance) {
+        Ok(()) => Ok(()),
+        Err(fault) => Err(FileFault::Class {
+            fault,
+            name: faulty_name(&filed.names, fault),
+        }),
+    }
+}
+
+/// The least job on a cycle of arcs, as a fault of the text.
+fn check_order(alloc: Global, filed: &Filed) -> Result<(), FileFault>
+    requires conditions { MeetsConditions text_limits filed.now.instance }
+    requires even { length filed.now.names ≡ length filed.now.instance.jobs }
+    ensures { MatchResult result (λ _. IsAcyclic filed.now.instance) (λ e. IsFaultOf (Ok filed.now) e) }
+{
+    match forward(alloc, &filed.instance) {
+        Ok(_) => Ok(()),
+        Err(OrderFault::Memory) => Err(FileFault::Memory),
+        Err(OrderFault::Cycle { job }) => match filed.names.get(job as usize) {
+            Some(name) => Err(FileFault::Cycle { job, name }),
+            None => unreachable!(),
+        },
+    }
+}
+
+/// Reads a whole instance text. The instance is in its class, and the fault is the first one: of the lines in order, then of the
+/// class, then a cycle.
+#[tactic(auto, using(crate::proofs::AnswerLemmas::answer_rules))]
+pub fn read_instance(alloc: Global, bytes: &[u8]) -> Result<Filed, FileFault>
+    requires { length bytes.now ≤ 2 ^ 26 }
+    ensures answer { IsAnswerTo (filed_at bytes.now) result }
+    ensures named { IfOk result (λ f. length f.names ≡ length f.instance.jobs) }
+{
+    let filed = match filed_at(alloc, bytes) {
+        Ok(filed) => filed,
+        Err(fault) => return Err(fault),
+    };
+    check_class(&filed)?;
+    check_order(alloc, &filed)?;
+    Ok(filed)
+}
