@@ -75,8 +75,8 @@ fn serve<S: Source, K: Sink>(
 /// Serves the words of a command line, without the program's name: reads `source` where the command reads, writes the report to
 /// `out` and, for the statuses from 2 on, one line to `notes`.
 ///
-/// The status is 0 where the report was written, 2 where the words fit no command, 3 where the input is not readable, 4 where it is
-/// longer than 4,194,304 bytes, 7 and 8 where the source or `out` failed, and 9 for want of memory.
+/// The status is 0 where the report was written, 1 where it was and the known results clash, 2 where the words fit no command, 3 where
+/// the input is not readable, 4 where it breaks a limit, 7 and 8 where the source or `out` failed, and 9 for want of memory.
 pub fn run<S: Source, K: Sink, E: Sink>(
     alloc: Global,
     words: &Vec<String>,
