@@ -3,14 +3,14 @@ use Rattle.std.proofs.Common.{◌≡◌, ◌≢◌, ℕ, zero, suc, ◌+◌, ◌
 use Rattle.std.specs.Prelude.{slice_get}
 use Rattle.std.specs.List.{list_any}
 use Rattle.std.specs.List.Sorted.{IsPermutation}
-use Rattle.std.proofs.lemmas.Bool.{cases_Bool, cases_lt, eqb-true, eqb-false, eq-eqb, false≢true}
+use Rattle.std.proofs.lemmas.Bool.{cases_Bool, cases_lt, eqb-true, eqb-false, eq-eqb, ne_eqb, false≢true}
 use Rattle.std.proofs.lemmas.List.{get_or_default, get_or-take, length-take}
-use Rattle.std.proofs.lemmas.List.Sums.{sum_by_more, sum_by-take-le}
+use Rattle.std.proofs.lemmas.List.Sums.{sum_by_more, sum_by-cons, sum_by-take-le}
 use Rattle.std.proofs.lemmas.List.Elements.{All-nil, All-cons, All-contains, Contains-get_or}
 use Rattle.std.proofs.lemmas.List.Sorted.{Contains-permutation, All-permutation, IsPermutation-sym}
 use Rattle.std.proofs.lemmas.List.Kept.{AllPairs-cons}
 use Rattle.std.proofs.lemmas.Option.{slice_get-get_or, slice_get_within, get_or_from_slice_get}
-use Rattle.msp_class.proofs.Sums.{cond-yes, cond-no, sum_by-mono, sum_by-constant, sum_by-total_below, total_below, total_below-constant, total_below-only, total_below-none, total_below-mono, total_below-tight, count_by-distinct, OnceBelow-from_distinct, OnceBelow-contains}
+use Rattle.msp_class.proofs.Sums.{cond-yes, cond-no, total_below-add, total_below-same, sum_by-mono, sum_by-constant, sum_by-total_below, total_below, total_below-constant, total_below-only, total_below-none, total_below-mono, total_below-tight, count_by-distinct, OnceBelow, OnceBelow-from_distinct, OnceBelow-contains}
 use Rattle.msp_instance.specs.declared.Arc.{Arc}
 use Rattle.msp_instance.specs.declared.Instance.{Instance}
 use Rattle.msp_instance.specs.Conditions.{IsSequence, GoesForward, IsAcyclic}
@@ -45,26 +45,48 @@ GoesForward-from_longest i arcs order p ends h whole k d t = (
     before = h.early a.before after.0 after.1 (subst (HasStep arcs a.before) (sym (get_or_default order after.0 0 a.after after.1 ∙ after.2)) (Contains-permutation i.arcs arcs a p (Contains-get_or i.arcs k d t)))
 
 -- ---- a path never leads back where every arc goes forward
+equal_below-inside : (n x : ℕ) → x < n → total_below n (λ j. cond {A = ℕ} (x == j) 1 0) ≡ 1
+equal_below-inside n x t = total_below-only n (λ _. 1) x t
+
+equal_below-past : (n x : ℕ) → n ≤ x → total_below n (λ j. cond {A = ℕ} (x == j) 1 0) ≡ 0
+equal_below-past n x t = total_below-none n (λ j. cond (x == j) 1 0) (λ j u. cond-no 1 (ne_eqb x j (λ e. absurd (omega arith))))
+
+at_most_one : (n x : ℕ) → total_below n (λ j. cond {A = ℕ} (x == j) 1 0) ≤ 1
+at_most_one n x = elim (cases_lt x n) [ inl t ↦ omega (arith, equal_below-inside n x t) | inr t ↦ omega (arith, equal_below-past n x t) ]
+
 -- the numbers below n stand in a list at most as often as it is long
 counts_below : (n : ℕ) (xs : List ℕ) → total_below n (λ j. count_by (λ x. x == j) xs) ≤ length xs
 counts_below n xs =
     omega (
       arith,
       sum_by-total_below (λ x j. cond (x == j) 1 0) n xs,
-      sum_by-mono (λ x. total_below n (λ j. cond (x == j) 1 0)) (λ _. 1) xs (λ k d t. at_most_one (get_or xs k d) (cases_lt (get_or xs k d) n)),
+      sum_by-mono (λ x. total_below n (λ j. cond (x == j) 1 0)) (λ _. 1) xs (λ k d t. at_most_one n (get_or xs k d)),
       sum_by-constant 1 xs,
     )
-  where
-    at_most_one : (x : ℕ) → (x < n) ⊎ (n ≤ x) → total_below n (λ j. cond (x == j) 1 0) ≤ 1
-    at_most_one x (inl below) = omega (arith, total_below-only n (λ _. 1) x below)
-    at_most_one x (inr past) = omega (arith, total_below-none n (λ j. cond (x == j) 1 0) (λ j t. cond-no 1 (ne x j (omega arith))))
-      where
-        ne : (x j : ℕ) → x ≢ j → (x == j) ≡ false
-        ne x j h = elim (cases_Bool (x == j)) [ inl e ↦ absurd (h (eqb-true x j e)) | inr e ↦ e ]
 
-count_once : (i : Instance) (order : List ℕ) → IsSequence i order → (j : ℕ) → j < length i.jobs → count_by (λ x. x == j) order ≡ 1
+-- where they stand in it as often as it is long, it has no others
+inside_from_counts : (n : ℕ) (xs : List ℕ) → length xs ≤ total_below n (λ j. count_by (λ x. x == j) xs) → All (λ x. x < n) xs
+inside_from_counts n [] h = λ k d t. absurd (omega arith)
+inside_from_counts n (x ∷ xs) h =
+    All-cons (λ y. y < n) x xs
+    (elim (cases_lt x n) [ inl t ↦ t | inr t ↦ absurd (omega (arith, counts, counts_below n xs, equal_below-past n x t)) ])
+    (inside_from_counts n xs (omega (arith, counts, at_most_one n x)))
+  where
+    counts : length xs + 1 ≤ total_below n (λ j. cond (x == j) 1 0) + total_below n (λ j. count_by (λ y. y == j) xs)
+    counts = omega (arith, h, total_below-add n (λ j. cond (x == j) 1 0) (λ j. count_by (λ y. y == j) xs), total_below-same n (λ j. count_by (λ y. y == j) (x ∷ xs)) (λ j. cond (x == j) 1 0 + count_by (λ y. y == j) xs) (λ j t. sum_by-cons (λ y. cond (y == j) 1 0) x xs))
+
+pub count_once : (i : Instance) (order : List ℕ) → IsSequence i order → (j : ℕ) → j < length i.jobs → count_by (λ x. x == j) order ≡ 1
 count_once i order h j t =
     sym (total_below-tight (length i.jobs) (λ _. 1) (λ k. count_by (λ x. x == k) order) (λ k u. count-from_contains order k (h.each k u)) (omega (arith, counts_below (length i.jobs) order, total_below-constant (length i.jobs) 1, h.whole)) j t)
+
+-- an order of all jobs has each of their numbers once, and no other number
+pub OnceBelow-from_sequence : (i : Instance) (order : List ℕ) → IsSequence i order → OnceBelow (length i.jobs) order
+OnceBelow-from_sequence i order h =
+    let n = length i.jobs in
+    record {
+      within = inside_from_counts n order (omega (arith, h.whole, total_below-constant n 1, total_below-mono n (λ _. 1) (λ k. count_by (λ x. x == k) order) (λ k u. count-from_contains order k (h.each k u))));
+      once = count_once i order h;
+    }
 
 -- a job that stands at two places is counted twice
 counted_twice : (xs : List ℕ) (j p q : ℕ) → slice_get xs p ≡ Some j → slice_get xs q ≡ Some j → p < q → 2 ≤ count_by (λ x. x == j) xs
@@ -74,7 +96,7 @@ counted_twice xs j p q hp hq less =
     let c : Contains (take q xs) j = (p, omega (arith, length-take q xs), get_or-take q xs p j less ∙ get_or_from_slice_get xs p j j hp) in
     omega (arith, count-from_contains (take q xs) j c, sum_by_more (λ x. cond (x == j) 1 0) xs q 0 short, cond-yes 1 (eq-eqb _ j here), sum_by-take-le (λ x. cond (x == j) 1 0) xs (q + 1))
 
-same_place : (i : Instance) (order : List ℕ) → IsSequence i order → (j p q : ℕ) → j < length i.jobs → slice_get order p ≡ Some j → slice_get order q ≡ Some j → p ≡ q
+pub same_place : (i : Instance) (order : List ℕ) → IsSequence i order → (j p q : ℕ) → j < length i.jobs → slice_get order p ≡ Some j → slice_get order q ≡ Some j → p ≡ q
 same_place i order h j p q t hp hq = elim (cases_lt p q) [
   | inl less ↦ absurd (omega (arith, counted_twice order j p q hp hq less, count_once i order h j t))
   | inr past ↦ elim (cases_lt q p) [
@@ -83,7 +105,7 @@ same_place i order h j p q t hp hq = elim (cases_lt p q) [
   ]
 ]
 
-path_forward : (i : Instance) (order : List ℕ) → IsSequence i order → All (GoesForward order) i.arcs → All (λ a. (a.before < length i.jobs) × (a.after < length i.jobs)) i.arcs
+pub path_forward : (i : Instance) (order : List ℕ) → IsSequence i order → All (GoesForward order) i.arcs → All (λ a. (a.before < length i.jobs) × (a.after < length i.jobs)) i.arcs
     → {j k : ℕ} → HasPath i.arcs j k → (p q : ℕ) → slice_get order p ≡ Some j → slice_get order q ≡ Some k → p < q
 path_forward i order h forward ends (one s) p q hp hq =
     let a = All-contains (GoesForward order) i.arcs _ forward s in

@@ -82,7 +82,7 @@ pub record IsFirstFault (i : Instance) (fault : ClassFault) : Type 0 where
   pub broken : ¬ Condition i fault
   pub first : (sooner : ClassFault) → IsOf i sooner → IsSooner (turn_of sooner) (turn_of fault) → Condition i sooner
 
--- The conditions before those of jobs.
+-- What the parts of the test pass on: the conditions before those of jobs.
 pub record HasFrame (i : Instance) : Type 0 where
   pub jobs : HasJobs i
   pub machines : HasMachines i

@@ -12,10 +12,11 @@ use Rattle.msp_name.specs.declared.words.Item.{Item}
 use Rattle.msp_name.specs.declared.words.Item.TheVariants as i
 use Rattle.msp_name.specs.Spellings.{env_texts, crit_texts}
 use Rattle.msp_name.specs.Items.{has_item, plain_env, is_short, bare, item_eq}
-use Rattle.msp_name.specs.Names.{bar, comma, among, NameOf}
+use Rattle.msp_name.specs.Names.{bar, comma, among, name_of, NameOf}
 use Rattle.msp_name.specs.Reading.{spelled, then_read, items_read, crit_read, fields_read, parts, parts_read, words, reading_of}
 use Rattle.msp_name.proofs.ItemRuns.{Reads, Given, items_read-ok, items_read-from, then_read-ok, ok_or-ok}
 use Rattle.msp_name.proofs.TableLemmas.{spelled-some, env_spelled, crit_spelled}
+use Rattle.msp_name.proofs.PrintLemmas.{name_of-NameOf}
 use Rattle.msp_name.proofs.Marks.{IsEnvRow, env_row_of, crit-lacks_bar, items-lack_bar, words-items, join-words, join-parts, parts-three}
 
 has_item-crit : (c : Class) (x : Crit) (y : Item) → has_item (record c { crit = x }) y ≡ has_item c y
@@ -127,3 +128,7 @@ NameOf-determined b c d m n =
     let p = reading_of-NameOf b c m in
     let q = reading_of-NameOf b d n in
     cc
+
+-- the canonical name is read as its class
+pub reading_of-name_of : (c : Class) → reading_of (name_of c) ≡ Ok c
+reading_of-name_of c = reading_of-NameOf (name_of c) c (name_of-NameOf c)

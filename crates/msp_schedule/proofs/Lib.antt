@@ -4,3 +4,5 @@ pub mod Ends
 pub mod Costs
 pub mod Small
 pub mod Whole
+pub mod OneMachine
+pub mod OneRow

@@ -1,6 +1,7 @@
 -- The ways in which serving ends, from what reading, answering and writing ensure.
-use Rattle.std.proofs.Common.{◌≡◌, ℕ, ◌+◌, ◌<◌, ◌≤◌, ◌⊎◌, inl, inr, List, [], ◌∷◌, length, take, Option, Some, None, IfSome, refl, sym, ap, subst, codes, arith, Result, Ok, Err, OnOk, OnErr}
-use Rattle.std.proofs.Math.Seq.{take-length}
+use Rattle.std.proofs.Common.{◌≡◌, ◌↔◌, ℕ, ◌+◌, ◌<◌, ◌≤◌, ◌⊎◌, inl, inr, Bool, true, false, List, [], ◌∷◌, length, take, Option, Some, None, IfSome, is_some, if◌then◌else◌, refl, sym, ap, ◌∙◌, subst, codes, arith}
+use Rattle.std.specs.List.{AllZip}
+use Rattle.std.proofs.lemmas.Slice.Eq.{bytes_eq-Decides}
 use Rattle.std.specs.Io.KnownBytes.{Appends, Consumes, IsAtEnd}
 use Rattle.msp_io.specs.Faults.{Rose}
 use Rattle.msp_io.specs.Whole.{IsStop}
@@ -8,11 +9,16 @@ use Rattle.msp_io.specs.declared.whole.Taken.{Taken}
 use Rattle.msp_io.specs.declared.whole.Taken.TheVariants.{TooLong as TakenTooLong}
 use Rattle.msp_io.proofs.Moved.{all_left, more_left}
 use Rattle.msp_top.specs.declared.serve.Ending.{Ending}
-use Rattle.msp_top.specs.declared.serve.Note.{Note}
-use Rattle.msp_top.specs.declared.serve.Note.TheVariants.{Words, TooLong, CannotRead, CannotWrite, OutOfMemory}
+use Rattle.msp_top.specs.declared.notes.Note.{Note}
+use Rattle.msp_top.specs.declared.notes.Note.TheVariants.{TooLong, CannotRead, CannotWrite, OutOfMemory}
+use Rattle.msp_class.specs.declared.class.Class.{Class}
+use Rattle.msp_name.proofs.NameLemmas.{NameOf-determined}
+use Rattle.msp_results.specs.declared.fault.ResultFault.{ResultFault}
+use Rattle.msp_results.specs.declared.fault.ResultFault.TheVariants.{Header, Width, Name, Verdict, Source, Long, Many, Memory}
+use Rattle.msp_top.specs.Results.{results_status}
 use Rattle.msp_top.specs.Note.{note_text}
-use Rattle.msp_top.specs.Run.{Command, solve, Asks, Outcome, report, refusal, IsRight, SolveIsRight, solved, not_readable, too_long, input_limit, Reports, BreaksOff, Refuses, IsDue, IsNote, IsTold, note_line, misfit as note_misfit, refused, read_fault, write_fault, memory}
-use Rattle.msp_top.specs.Ending.{Serves, Devices, ends_with, ends_well, misfit, cannot_read, no_memory, refuses, cannot_write, writes}
+use Rattle.msp_top.specs.Run.{Command, solve, label, Asks, IsNameWord, Outcome, report, refusal, IsRight, SolveIsRight, solved, not_readable, too_long, LabelIsRight, labelled, faulty, label_too_long, input_limit, Misfits, Reports, BreaksOff, Refuses, IsDue, IsNote, misfit as note_misfit, refused, read_fault, write_fault, memory}
+use Rattle.msp_top.specs.Ending.{Serves, Devices, misfit, cannot_read, no_memory, refuses, cannot_write, writes}
 
 pub serves_along : (words : List (List ℕ)) (d : Devices) (e f : Ending) → e ≡ f → Serves words d f → Serves words d e
 serves_along words d e f same h = subst (Serves words d) (sym same) h
@@ -27,11 +33,38 @@ solve_status input (report status text) (solved t short r) = omega arith
 solve_status input (refusal status note) (not_readable short u) = (omega arith, omega arith)
 solve_status input (refusal status note) (too_long long) = (omega arith, omega arith)
 
+one_or_none : (b : Bool) → (if b then 1 else 0) ≤ 1
+one_or_none true = omega arith
+one_or_none false = omega arith
+
+some_number : {m n : ℕ} → Some m ≡ Some n → m ≡ n
+some_number e = cc
+
+no_number : {n : ℕ} → None ≡ Some n → ⊥
+no_number e = cc
+
+results_status_range : (fault : ResultFault) (status : ℕ) → results_status fault ≡ Some status → (3 ≤ status) × (status ≤ 6)
+results_status_range Header status e = (omega (arith, some_number e), omega (arith, some_number e))
+results_status_range (Width at) status e = (omega (arith, some_number e), omega (arith, some_number e))
+results_status_range (Name at fault) status e = (omega (arith, some_number e), omega (arith, some_number e))
+results_status_range (Verdict at) status e = (omega (arith, some_number e), omega (arith, some_number e))
+results_status_range (Source at) status e = (omega (arith, some_number e), omega (arith, some_number e))
+results_status_range (Long at) status e = (omega (arith, some_number e), omega (arith, some_number e))
+results_status_range Many status e = (omega (arith, some_number e), omega (arith, some_number e))
+results_status_range Memory status e = absurd (no_number e)
+
+label_status : (classes : List Class) (input : List ℕ) (outcome : Outcome) → LabelIsRight classes input outcome → HasStatus outcome
+label_status classes input (report status text) (labelled s t short r) = subst (λ n. n ≤ 1) (sym r.status_is) (one_or_none (is_some r.clash))
+label_status classes input (refusal status note) (faulty fault s short r is) = results_status_range fault status is
+label_status classes input (refusal status note) (label_too_long long) = (omega arith, omega arith)
+
 pub right_status : (command : Command) (input : List ℕ) (outcome : Outcome) → IsRight command input outcome → HasStatus outcome
 right_status solve input outcome h = solve_status input outcome h
+right_status (label classes) input outcome h = label_status classes input outcome h
 
 too_long_right : (command : Command) (input : List ℕ) → input_limit < length input → IsRight command input (refusal 4 (codes "more than 4194304 bytes"))
 too_long_right solve input h = too_long h
+too_long_right (label classes) input h = label_too_long h
 
 IfSome-map : (left : Option (List ℕ)) (P Q : List ℕ → Type 0) → ((input : List ℕ) → P input → Q input) → IfSome left P → IfSome left Q
 IfSome-map None P Q f h = tt
@@ -79,14 +112,56 @@ right_along command input all outcome same e f h =
     let P : List ℕ → Type 0 = λ l. IsRight command l same in
     subst P e (subst (IsRight command input) f h)
 
+pub not_two : {X : Type 0} (status other : ℕ) → 3 ≤ status → other ≡ status → other ≡ 2 → X
+not_two status other low e is = absurd (omega (arith, low, e, is))
+
 -- ---- what each way of ending says
+
+classes_once : (names : List (List ℕ)) (a b : List Class) → AllZip IsNameWord names a → AllZip IsNameWord names b → a ≡ b
+classes_once [] [] [] p q = refl
+classes_once [] [] (d ∷ b) p q = absurd q
+classes_once [] (c ∷ a) b p q = absurd p
+classes_once (w ∷ names) [] b p q = absurd p
+classes_once (w ∷ names) (c ∷ a) [] p q = absurd q
+classes_once (w ∷ names) (c ∷ a) (d ∷ b) p q = ap (λ e. e ∷ a) (NameOf-determined w c d p.0.named q.0.named) ∙ ap (λ l. d ∷ l) (classes_once names a b p.1 q.1)
+
+heads : {A : Type 0} {a b : A} {xs ys : List A} → a ∷ xs ≡ b ∷ ys → a ≡ b
+heads e = cc
+
+tails : {A : Type 0} {a b : A} {xs ys : List A} → a ∷ xs ≡ b ∷ ys → xs ≡ ys
+tails e = cc
+
+label_is_not_solve : codes "label" ≡ codes "solve" → ⊥
+label_is_not_solve q = differs ((bytes_eq-Decides (codes "label") (codes "solve")).1 q)
+  where
+    differs : false ≡ true → ⊥
+    differs e = cc
 
 -- words ask for one command at most
 asks_once : (words : List (List ℕ)) (a b : Command) → Asks words a → Asks words b → a ≡ b
 asks_once words solve solve p q = refl
+asks_once words solve (label b) p q = absurd (label_is_not_solve (heads (sym q.1 ∙ p)))
+asks_once words (label a) solve p q = absurd (label_is_not_solve (heads (sym p.1 ∙ q)))
+asks_once words (label a) (label b) p q = ap label (classes_once q.0 a b (subst (λ names. AllZip IsNameWord names a) (tails (sym p.1 ∙ q.1)) p.2) q.2)
+
+pub serves_usage : (words : List (List ℕ)) (d : Devices) (e : Ending) → Serves words d e → (e.status ≡ 2) ↔ Misfits words
+serves_usage words d e (misfit n h text) = (λ is. h, λ h. refl)
+serves_usage words d e (cannot_read command asked rose) = (λ is. absurd (omega (arith, is)), λ h. absurd (h command asked))
+serves_usage words d e (no_memory command asked) = (λ is. absurd (omega (arith, is)), λ h. absurd (h command asked))
+serves_usage words d e (refuses status note from to r) = (λ is. absurd (omega (arith, is, from)), λ h. absurd (h r.command r.asked))
+serves_usage words d e (cannot_write rose r) = (λ is. absurd (omega (arith, is)), λ h. absurd (h r.command r.asked))
+serves_usage words d e (writes status small r) = (λ is. absurd (omega (arith, is, small)), λ h. absurd (h r.command r.asked))
+
+pub serves_report : (words : List (List ℕ)) (d : Devices) (e : Ending) → Serves words d e → e.status ≤ 1 → Reports words d.left d.left_after d.held d.held_after e.status
+serves_report words d e (misfit n h text) low = absurd (omega (arith, low))
+serves_report words d e (cannot_read command asked rose) low = absurd (omega (arith, low))
+serves_report words d e (no_memory command asked) low = absurd (omega (arith, low))
+serves_report words d e (refuses status note from to h) low = absurd (omega (arith, low, from))
+serves_report words d e (cannot_write rose h) low = absurd (omega (arith, low))
+serves_report words d e (writes status small h) low = h
 
 pub serves_refusal : (words : List (List ℕ)) (d : Devices) (e : Ending) → Serves words d e → 3 ≤ e.status → e.status ≤ 6 → (note : List ℕ) × Refuses words d.left e.status note
-serves_refusal words d e (misfit h) low high = absurd (omega arith)
+serves_refusal words d e (misfit n h text) low high = absurd (omega arith)
 serves_refusal words d e (cannot_read command asked rose) low high = absurd (omega arith)
 serves_refusal words d e (no_memory command asked) low high = absurd (omega arith)
 serves_refusal words d e (refuses status note from to h) low high = (note_text note, h)
@@ -94,7 +169,7 @@ serves_refusal words d e (cannot_write rose h) low high = absurd (omega arith)
 serves_refusal words d e (writes status small h) low high = absurd (omega arith)
 
 pub serves_write_fault : (words : List (List ℕ)) (d : Devices) (e : Ending) → Serves words d e → e.status ≡ 8 → Rose d.out_faults d.out_faults_after × BreaksOff words d.left d.left_after d.held d.held_after
-serves_write_fault words d e (misfit h) is = absurd (omega (arith, is))
+serves_write_fault words d e (misfit n h text) is = absurd (omega (arith, is))
 serves_write_fault words d e (cannot_read command asked rose) is = absurd (omega (arith, is))
 serves_write_fault words d e (no_memory command asked) is = absurd (omega (arith, is))
 serves_write_fault words d e (refuses status note from to h) is = absurd (omega (arith, is))
@@ -103,7 +178,7 @@ serves_write_fault words d e (writes status small h) is = absurd (omega (arith, 
 
 pub serves_due : (words : List (List ℕ)) (d : Devices) (e : Ending) → Serves words d e → (command : Command) → Asks words command → ¬ Rose d.source_faults d.source_faults_after → ¬ Rose d.out_faults d.out_faults_after →
     (e.status ≡ 9) ⊎ IfSome d.left (λ input. IsDue command input e.status)
-serves_due words d e (misfit h) command asked source out = absurd (h command asked)
+serves_due words d e (misfit n h text) command asked source out = absurd (h command asked)
 serves_due words d e (cannot_read other asks rose) command asked source out = absurd (source rose)
 serves_due words d e (no_memory other asks) command asked source out = inl refl
 serves_due words d e (refuses status note from to h) command asked source out =
@@ -122,28 +197,9 @@ note_along : (words : List (List ℕ)) (left : Option (List ℕ)) (status : ℕ)
 note_along words left status a b e h = subst (λ n. IsNote words left status (note_text n)) (some_same a b e) h
 
 pub serves_note : (words : List (List ℕ)) (d : Devices) (e : Ending) (note : Note) → Serves words d e → e.note ≡ Some note → IsNote words d.left e.status (note_text note)
-serves_note words d e note (misfit h) is = note_along words d.left 2 Words note is note_misfit
+serves_note words d e note (misfit n h text) is = note_along words d.left 2 n note is (subst (IsNote words d.left 2) (sym text) note_misfit)
 serves_note words d e note (cannot_read command asked rose) is = note_along words d.left 7 CannotRead note is read_fault
 serves_note words d e note (no_memory command asked) is = note_along words d.left 9 OutOfMemory note is memory
 serves_note words d e note (refuses status other from to h) is = note_along words d.left status other note is (refused status (note_text other) h)
 serves_note words d e note (cannot_write rose h) is = note_along words d.left 8 CannotWrite note is write_fault
 serves_note words d e note (writes status small h) is = absurd (none_is_not_some is)
-
--- a whole write of a note's line, or the front of it where the count rose
-pub told_by : {A B : Type 0} (r : Result A B) (held held_after : Option (List ℕ)) (faults faults_after : ℕ) (text : List ℕ) →
-    OnOk r (Appends held held_after (note_line text)) → OnErr r ((count : ℕ) × (count < length (note_line text)) × Appends held held_after (take count (note_line text))) → OnErr r (Rose faults faults_after) →
-    IsTold held held_after faults faults_after text
-told_by (Ok x) held held_after faults faults_after text all stopped rose =
-    (length (note_line text), subst (Appends held held_after) (sym (take-length (note_line text))) all, inl (le_refl (length (note_line text))))
-  where
-    le_refl : (n : ℕ) → n ≤ n
-    le_refl n = omega arith
-told_by (Err x) held held_after faults faults_after text all stopped rose = (stopped.0, stopped.2, inr rose)
-
-pub line_along : {A B : Type 0} (r : Result A B) (held held_after : Option (List ℕ)) (faults faults_after : ℕ) (line text : List ℕ) → line ≡ note_line text →
-    OnOk r (Appends held held_after line) → OnErr r ((count : ℕ) × (count < length line) × Appends held held_after (take count line)) → OnErr r (Rose faults faults_after) →
-    IsTold held held_after faults faults_after text
-line_along r held held_after faults faults_after line text same all stopped rose =
-    told_by r held held_after faults faults_after text
-    (subst (λ l. OnOk r (Appends held held_after l)) same all)
-    (subst (λ l. OnErr r ((count : ℕ) × (count < length l) × Appends held held_after (take count l))) same stopped) rose

@@ -1,11 +1,10 @@
 -- How serving the words of a command line ends, before the note is told.
-use Rattle.std.specs.Prelude.{◌≡◌, ℕ, ◌<◌, ◌≤◌, List, Option, Some, None, take, IfSome, length}
-use Rattle.std.specs.Io.KnownBytes.{Appends, IsAtEnd}
+use Rattle.std.specs.Prelude.{◌≡◌, ℕ, ◌≤◌, List, Option, Some, None}
 use Rattle.msp_io.specs.Faults.{Rose}
 use Rattle.msp_top.specs.declared.serve.Ending.{Ending}
-use Rattle.msp_top.specs.declared.serve.Note.{Note}
-use Rattle.msp_top.specs.declared.serve.Note.TheVariants.{Words, CannotRead, CannotWrite, OutOfMemory}
-use Rattle.msp_top.specs.Run.{Misfits, Reports, BreaksOff, Refuses, Command, Asks}
+use Rattle.msp_top.specs.declared.notes.Note.{Note}
+use Rattle.msp_top.specs.declared.notes.Note.TheVariants.{CannotRead, CannotWrite, OutOfMemory}
+use Rattle.msp_top.specs.Run.{Misfits, Reports, BreaksOff, Refuses, Command, Asks, usage_text}
 use Rattle.msp_top.specs.Note.{note_text}
 
 abbrev pub ends_with : ℕ → Note → Ending
@@ -27,7 +26,7 @@ pub record Devices : Type 0 where
 
 -- the ways in which serving ends
 pub data Serves (words : List (List ℕ)) (d : Devices) : Ending → Type 0 where
-  misfit : Misfits words → Serves words d (ends_with 2 Words)
+  misfit : (note : Note) → Misfits words → note_text note ≡ usage_text words → Serves words d (ends_with 2 note)
   cannot_read : (command : Command) → Asks words command → Rose d.source_faults d.source_faults_after → Serves words d (ends_with 7 CannotRead)
   no_memory : (command : Command) → Asks words command → Serves words d (ends_with 9 OutOfMemory)
   refuses : (status : ℕ) (note : Note) → 3 ≤ status → status ≤ 6 → Refuses words d.left status (note_text note) → Serves words d (ends_with status note)

@@ -1,24 +1,15 @@
 -- The text of an instance of `1||sumwC`. Each number has one spelling, so an instance with its names has one text.
-use Rattle.std.specs.Prelude.{◌≡◌, ◌≢◌, ℕ, ◌<◌, ◌≤◌, ◌⊎◌, List, [], ◌∷◌, ◌++◌, length, All, AllPairs, codes, decimal, slice_index_or}
+use Rattle.std.specs.Prelude.{◌≡◌, ◌≢◌, ℕ, List, [], ◌∷◌, ◌++◌, length, All, AllPairs, codes, decimal, slice_index_or}
 use Rattle.msp_instance.specs.declared.Job.{Job}
 use Rattle.msp_instance.specs.declared.Instance.{Instance}
 use Rattle.msp_instance.specs.Instance.{no_need}
 use Rattle.msp_instance.specs.Conditions.{InClass}
+use Rattle.msp_file.specs.JobName.{IsJobName}
 use Rattle.msp_top.specs.Smith.{smith_class}
 
 -- A line of a text ends with one line feed.
 abbrev pub line : List ℕ → List ℕ
 line text = text ++ (10 ∷ [])
-
--- A letter, a digit, an underscore, a hyphen or a dot.
-abbrev pub IsNameByte : ℕ → Type 0
-IsNameByte b = ((65 ≤ b) × (b ≤ 90)) ⊎ ((97 ≤ b) × (b ≤ 122)) ⊎ ((48 ≤ b) × (b ≤ 57)) ⊎ (b ≡ 95) ⊎ (b ≡ 45) ⊎ (b ≡ 46)
-
--- A job name: 1 to 32 such bytes.
-pub record IsJobName (name : List ℕ) : Type 0 where
-  pub some : 1 ≤ length name
-  pub short : length name ≤ 32
-  pub bytes : All IsNameByte name
 
 -- The line of a job: its name, its time and its weight.
 abbrev pub job_line : List ℕ → Job → List ℕ

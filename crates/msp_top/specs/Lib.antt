@@ -1,7 +1,13 @@
 pub mod Smith
 pub mod InstanceText
+pub mod Fields
+pub mod Reading
 pub mod Report
+pub mod LabelsText
+pub mod Results
 pub mod Run
 pub mod Note
 pub mod Answer
+pub mod Puts
+pub mod Words
 pub mod Ending

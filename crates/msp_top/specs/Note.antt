@@ -1,12 +1,16 @@
--- The texts of the notes and the meanings of what the code passes on.
+-- The texts of the notes.
 use Rattle.std.specs.Prelude.{ℕ, List, codes}
-use Rattle.msp_top.specs.declared.serve.Note.{Note}
-use Rattle.msp_top.specs.declared.serve.Note.TheVariants.{Words, NotReadable, TooLong, CannotRead, CannotWrite, OutOfMemory}
+use Rattle.msp_top.specs.declared.notes.Note.{Note}
+use Rattle.msp_top.specs.declared.notes.Note.TheVariants.{Words, Word, NotReadable, TooLong, Results, CannotRead, CannotWrite, OutOfMemory}
+use Rattle.msp_top.specs.Run.{misfit_text, misspelled_text}
+use Rattle.msp_top.specs.Results.{results_text}
 
 abbrev pub note_text : Note → List ℕ
-note_text Words = codes "usage: words fit no command"
+note_text Words = misfit_text
+note_text (Word place fault) = misspelled_text place fault
 note_text NotReadable = codes "not readable"
 note_text TooLong = codes "more than 4194304 bytes"
+note_text (Results fault) = results_text fault
 note_text CannotRead = codes "cannot read"
 note_text CannotWrite = codes "cannot write"
 note_text OutOfMemory = codes "out of memory"

@@ -1,7 +1,22 @@
 -- What `run` answers to words and an input.
-use Rattle.std.specs.Prelude.{◌≡◌, ◌≢◌, ℕ, ◌+◌, ◌<◌, ◌≤◌, ◌⊎◌, List, [], ◌∷◌, ◌++◌, Option, Some, IfSome, length, take, codes}
-use Rattle.std.specs.Io.KnownBytes.{Appends, Keeps, Consumes, IsAtEnd}
+use Rattle.std.specs.Prelude.{◌≡◌, ℕ, ◌+◌, ◌^◌, ◌<◌, ◌≤◌, ◌⊎◌, List, [], ◌∷◌, ◌++◌, Option, Some, None, Result, Ok, Err, IfSome, is_some, length, take, codes, decimal, bytes_eq, nat_lt, if◌then◌else◌}
+use Rattle.std.specs.List.{AllZip}
+use Rattle.std.specs.Io.KnownBytes.{Appends, IsAtEnd}
 use Rattle.msp_io.specs.Faults.{Rose}
+use Rattle.msp_class.specs.declared.class.Class.{Class}
+use Rattle.msp_name.specs.declared.fault.NameFault.{NameFault}
+use Rattle.msp_name.specs.Names.{NameOf}
+use Rattle.msp_name.specs.Reading.{reading_of}
+use Rattle.msp_name.specs.Faults.{fault_text}
+use Rattle.msp_table.specs.declared.row.Chain.{Chain}
+use Rattle.msp_table.specs.Chains.{every_row, IsNearest}
+use Rattle.msp_closure.specs.declared.entry.Entry.{Entry}
+use Rattle.msp_closure.specs.declared.entry.Mark.{Mark}
+use Rattle.msp_closure.specs.declared.entry.Verdict.TheVariants.{Easy as ListedEasy, Hard as ListedHard}
+use Rattle.msp_closure.specs.Entries.{listed, IsEasy, IsClash, IsFirst, AreLabels}
+use Rattle.msp_results.specs.declared.fault.ResultFault.{ResultFault}
+use Rattle.msp_results.specs.Results.{ResultsOf}
+use Rattle.msp_results.specs.Reading.{results_of}
 use Rattle.msp_instance.specs.declared.Instance.{Instance}
 use Rattle.msp_schedule.specs.declared.Solution.{Solution}
 use Rattle.msp_schedule.specs.Cost.{IsBest}
@@ -9,20 +24,49 @@ use Rattle.msp_schedule.specs.Fraction.{IsLowest}
 use Rattle.msp_schedule.specs.Settled.{IsSettled}
 use Rattle.msp_top.specs.InstanceText.{IsInstanceText}
 use Rattle.msp_top.specs.Report.{solve_report}
+use Rattle.msp_top.specs.LabelsText.{labels_report}
+use Rattle.msp_top.specs.Results.{results_status, results_text, AreAllClasses}
 
 -- ---- the command line
 
 -- A command that the words of a command line can ask for.
 pub data Command : Type 0 where
   solve : Command
+  label : List Class → Command
 
--- The words ask for the command.
+-- The word is a name of the class. A word of 2 ^ 32 bytes or more is no name.
+pub record IsNameWord (word : List ℕ) (c : Class) : Type 0 where
+  pub short : length word < 2 ^ 32
+  pub named : NameOf word c
+
+-- The words ask for the command: `solve` alone, or `label` and any number of names of classes.
 abbrev pub Asks : List (List ℕ) → Command → Type 0
 Asks words solve = words ≡ codes "solve" ∷ []
+Asks words (label classes) = (names : List (List ℕ)) × (words ≡ codes "label" ∷ names) × AllZip IsNameWord names classes
 
 -- The words ask for no command.
 abbrev pub Misfits : List (List ℕ) → Type 0
 Misfits words = (command : Command) → Asks words command → ⊥
+
+-- The texts of the notes for words that ask for no command: that they fit none, or the place and the fault of a misspelled name.
+abbrev pub misfit_text : List ℕ
+misfit_text = codes "usage: words fit no command"
+
+abbrev pub misspelled_text : ℕ → NameFault → List ℕ
+misspelled_text place fault = codes "usage: word " ++ decimal place ++ codes ": name: " ++ fault_text fault
+
+-- The text for the first word that is no name, where the first of these words has this place, counted from 1.
+abbrev pub text_of_reading : ℕ → Result Class NameFault → List ℕ → List ℕ
+text_of_reading place (Ok c) later = later
+text_of_reading place (Err fault) later = misspelled_text place fault
+
+abbrev pub names_text : ℕ → List (List ℕ) → List ℕ
+names_text place [] = misfit_text
+names_text place (word ∷ words) = if nat_lt (length word) (2 ^ 32) then text_of_reading place (reading_of word) (names_text (place + 1) words) else misfit_text
+
+abbrev pub usage_text : List (List ℕ) → List ℕ
+usage_text [] = misfit_text
+usage_text (word ∷ words) = if bytes_eq word (codes "label") then names_text 2 words else misfit_text
 
 -- ---- what a whole input calls for
 
@@ -56,9 +100,41 @@ pub data SolveIsRight (input : List ℕ) : Outcome → Type 0 where
   not_readable : length input ≤ input_limit → IsUnreadable input → SolveIsRight input (refusal 3 (codes "not readable"))
   too_long : input_limit < length input → SolveIsRight input (refusal 4 (codes "more than 4194304 bytes"))
 
+-- The classes that are labelled: those that are named, or all of them in order of rank where none is named.
+abbrev pub AreShown : List Class → List Class → Type 0
+AreShown [] shown = AreAllClasses shown
+AreShown (c ∷ cs) shown = shown ≡ c ∷ cs
+
+-- The clash of the entries: there is none, or the chain starts at the first class listed as hard that leads to a class listed as
+-- easy, and is the nearest one from there.
+abbrev pub IsClashChain : List Entry → Option Chain → Type 0
+IsClashChain entries None = ¬ IsClash entries
+IsClashChain entries (Some chain) = IsFirst (IsEasy entries) (listed ListedHard entries) chain.from × IsNearest every_row (listed ListedEasy entries) chain.from chain.rows
+
+-- The report says the labels under the entries that the input lists, and their clash. The status is 1 exactly where there is one.
+pub record IsLabelReport (classes : List Class) (input : List ℕ) (status : ℕ) (text : List ℕ) : Type 0 where
+  pub entries : List Entry
+  pub marks : List Mark
+  pub shown : List Class
+  pub clash : Option Chain
+  pub read : ResultsOf input entries
+  pub labels : AreLabels entries marks
+  pub asked : AreShown classes shown
+  pub clashes : IsClashChain entries clash
+  pub status_is : status ≡ (if is_some clash then 1 else 0)
+  pub printed : text ≡ labels_report marks shown clash
+
+-- The outcome is right for `label`: a report, or the first fault of the results, which is a limit where a source is too long or the
+-- entries are too many.
+pub data LabelIsRight (classes : List Class) (input : List ℕ) : Outcome → Type 0 where
+  labelled : (status : ℕ) (text : List ℕ) → length input ≤ input_limit → IsLabelReport classes input status text → LabelIsRight classes input (report status text)
+  faulty : (fault : ResultFault) (status : ℕ) → length input ≤ input_limit → results_of input ≡ Err fault → results_status fault ≡ Some status → LabelIsRight classes input (refusal status (results_text fault))
+  label_too_long : input_limit < length input → LabelIsRight classes input (refusal 4 (codes "more than 4194304 bytes"))
+
 -- The outcome is right for a command and a whole input.
 abbrev pub IsRight : Command → List ℕ → Outcome → Type 0
 IsRight solve input outcome = SolveIsRight input outcome
+IsRight (label classes) input outcome = LabelIsRight classes input outcome
 
 -- ---- what a call of `run` leaves: what a source has left and what a sink holds stand as far as they tell it
 
@@ -84,7 +160,7 @@ pub record Refuses (words : List (List ℕ)) (left : Option (List ℕ)) (status 
 
 -- The text of the note for each status from 2 on.
 pub data IsNote (words : List (List ℕ)) (left : Option (List ℕ)) : ℕ → List ℕ → Type 0 where
-  misfit : IsNote words left 2 (codes "usage: words fit no command")
+  misfit : IsNote words left 2 (usage_text words)
   refused : (status : ℕ) (note : List ℕ) → Refuses words left status note → IsNote words left status note
   read_fault : IsNote words left 7 (codes "cannot read")
   write_fault : IsNote words left 8 (codes "cannot write")

@@ -3,6 +3,16 @@
 //! It stands on all that it calls. The program uses the clauses of `run`.
 #![tactic(auto)]
 
+mod answers;
+mod fields;
+mod labels_text;
+mod notes;
+mod reader;
+mod report;
 mod serve;
+mod smith;
+#[cfg(test)]
+mod tests;
+mod words;
 
 pub use serve::run;

@@ -1,74 +1,19 @@
+// `run`: the words are read, the input is taken, answered, and what there is to say is written.
 ghost use Rattle.std.specs.Prelude.{◌≡◌, ◌⊎◌, ℕ, ◌+◌, ◌<◌, ◌≤◌, ◌↔◌, ◌≢◌, List, length, take, map, string_bytes, MatchOption, IfOk, IfSome, IsErrOf, OnErr};
 ghost use Rattle.std.specs.Io.KnownBytes.{Appends, Keeps, Consumes, IsAtEnd};
 ghost use Rattle.msp_io.specs.Faults.{Rose};
-ghost use Rattle.msp_top.specs.Run.{Command, Asks, Misfits, IsRight, IsTold, IsNote, IsDue, Reports, BreaksOff, Refuses, note_line};
-ghost use Rattle.msp_top.specs.Note.{note_text};
-ghost use Rattle.msp_top.specs.Answer.{command_of, outcome_of};
+ghost use Rattle.msp_top.specs.Run.{Command, Asks, Misfits, IsTold, IsNote, IsDue, Reports, BreaksOff, Refuses};
 ghost use Rattle.msp_top.specs.Ending.{Serves, ends_with};
 
+use crate::answers::{Answer, answer_to};
+use crate::notes::{Note, tell};
+use crate::words::{Request, read_words};
 use msp_class::NoMemory;
 use msp_io::{Sink, Source, Taken, WriteFault, read_all, write_all};
 use std::alloc::Global;
 
 /// The most bytes of an input.
 const INPUT_LIMIT: u64 = 4_194_304;
-
-/// The command that the words ask for.
-#[derive(Clone, Copy, Debug, PartialEq, Eq)]
-enum Asked {
-    Solve,
-}
-
-/// What there is to say of a whole input.
-#[derive(Drop)]
-enum Answer {
-    Report { status: u8, text: Vec<u8> },
-    Refusal { status: u8, note: Note },
-}
-
-/// The notes, one for each cause.
-#[derive(Clone, Copy, Debug, PartialEq, Eq)]
-enum Note {
-    Words,
-    NotReadable,
-    TooLong,
-    CannotRead,
-    CannotWrite,
-    OutOfMemory,
-}
-
-impl Note {
-    fn line(self) -> &'static [u8]
-        ensures { result.now ≡ note_line (note_text self) }
-    {
-        match self {
-            Note::Words => b"msp: usage: words fit no command\n",
-            Note::NotReadable => b"msp: not readable\n",
-            Note::TooLong => b"msp: more than 4194304 bytes\n",
-            Note::CannotRead => b"msp: cannot read\n",
-            Note::CannotWrite => b"msp: cannot write\n",
-            Note::OutOfMemory => b"msp: out of memory\n",
-        }
-    }
-}
-
-fn read_words(words: &Vec<String>) -> Option<Asked>
-    ensures { let spelled = map string_bytes words.now.items in
-        MatchOption result (Misfits spelled) (λ asked. Asks spelled (command_of asked)) }
-{
-    if words.len() == 1 && words[0].as_str() == "solve" {
-        Some(Asked::Solve)
-    } else {
-        None
-    }
-}
-
-fn answer_to(alloc: Global, asked: Asked, input: &[u8]) -> Result<Answer, NoMemory>
-    requires { length input.now ≤ 4194304 }
-    ensures { IfOk result (λ answer. IsRight (command_of asked) input.now (outcome_of answer)) }
-{
-    Err(NoMemory)
-}
 
 /// How a call ends: its status, and the note to be told.
 #[derive(Clone, Copy, Debug, PartialEq, Eq)]
@@ -106,8 +51,10 @@ fn serve<S: Source, K: Sink>(
     ensures unread { result.status ≡ 2 → source.new ≡ source.old }
     ensures unwritten { 2 ≤ result.status → result.status ≢ 8 → out.new ≡ out.old }
 {
-    let Some(asked) = read_words(words) else {
-        return refused(2, Note::Words);
+    let asked = match read_words(alloc, words) {
+        Request::Command(asked) => asked,
+        Request::Misfit(note) => return refused(2, note),
+        Request::NoMemory => return refused(9, Note::OutOfMemory),
     };
     let input = match read_all(alloc, source, INPUT_LIMIT) {
         Ok(input) => input,
@@ -115,22 +62,13 @@ fn serve<S: Source, K: Sink>(
         Err(Taken::TooLong) => return refused(4, Note::TooLong),
         Err(Taken::Memory) => return refused(9, Note::OutOfMemory),
     };
-    match answer_to(alloc, asked, &input) {
+    match answer_to(alloc, &asked, &input) {
         Ok(Answer::Report { status, text }) => match write_all(out, &text) {
             Ok(()) => Ending { status, note: None },
             Err(WriteFault) => refused(8, Note::CannotWrite),
         },
         Ok(Answer::Refusal { status, note }) => refused(status, note),
         Err(NoMemory) => refused(9, Note::OutOfMemory),
-    }
-}
-
-/// Tells a note, as one line. A failure of `notes` changes nothing else.
-fn tell<E: Sink>(note: Note, notes: &mut E)
-    ensures { IsTold (E.held notes.old) (E.held notes.new) (E.faults notes.old) (E.faults notes.new) (note_text note) }
-{
-    match write_all(notes, note.line()) {
-        Ok(()) | Err(WriteFault) => (),
     }
 }
 

@@ -1,7 +1,18 @@
-use Rattle.std.proofs.Common.{rules, arith}
-use Rattle.msp_top.proofs.Endings.{serves_refusal, serves_write_fault, serves_due, serves_note}
+use Rattle.msp_top.proofs.Endings.{serves_usage, serves_report, serves_refusal, serves_write_fault, serves_due, serves_note}
 use Rattle.msp_top.specs.Note.{note_text}
 use Rattle.msp_top.proofs.serve.run.Goals as goal
+
+pub returns-in-Some-clause-usage : goal.returns-in-Some-clause-usage
+returns-in-Some-clause-usage g c = serves_usage _ _ _ c.serve-ending.ensures.served
+
+pub returns-in_default-clause-usage : goal.returns-in_default-clause-usage
+returns-in_default-clause-usage g c = serves_usage _ _ _ c.serve-ending.ensures.served
+
+pub returns-in-Some-clause-right_report : goal.returns-in-Some-clause-right_report
+returns-in-Some-clause-right_report g c = serves_report _ _ _ c.serve-ending.ensures.served
+
+pub returns-in_default-clause-right_report : goal.returns-in_default-clause-right_report
+returns-in_default-clause-right_report g c = serves_report _ _ _ c.serve-ending.ensures.served
 
 pub returns-in-Some-clause-refusal : goal.returns-in-Some-clause-refusal
 returns-in-Some-clause-refusal g c = serves_refusal _ _ _ c.serve-ending.ensures.served

@@ -1,0 +1,264 @@
+use Rattle.std.proofs.Common.{◌≡◌, ◌≢◌, ℕ, ◌<◌, ◌≤◌, ◌+◌, Bool, true, false, cond, eqb, List, [], ◌∷◌, length, get_or, set, Some, refl, ap, sym, ◌∙◌, subst, inl, inr, arith, length-set}
+use Rattle.std.specs.Prelude.{Contains}
+use Rattle.msp_table.specs.Chains.{stay, LeadsInto}
+use Rattle.msp_table.proofs.ChainLemmas.{LeadsInto-step, LeadsInto-none, LeadsInto-first}
+use Rattle.msp_closure.proofs.StepLemmas.{step_of-parts, step_of-from}
+use Rattle.std.proofs.lemmas.List.{get_or_default}
+use Rattle.std.proofs.lemmas.List.Sums.{sum_by-set, count_by-le-length}
+use Rattle.std.proofs.lemmas.Bool.{cases_eq, cases_lt, eq-eqb, ne_eqb, cond-true, cond-false}
+use Rattle.msp_class.specs.declared.class.Class.{Class}
+use Rattle.msp_class.specs.declared.ranks.TheConstants.{CLASSES}
+use Rattle.msp_class.specs.Rank.{rank_of}
+use Rattle.msp_class.proofs.RankLemmas.{rank_of-below, rank_of-injective}
+use Rattle.msp_closure.specs.declared.distances.TheConstants.{FAR}
+use Rattle.msp_closure.specs.Tables.{value_of, AreDistances}
+use Rattle.msp_closure.specs.Walk.{step_of, LeadsToValue, far_count, Advances}
+use Rattle.msp_closure.proofs.TableLemmas.{value_of-set_same, value_of-set_other, below_next}
+
+-- a pass begins with nothing done
+pub Advances-start : (usable : ℕ → Bool) (t : List ℕ) (level : ℕ) → Advances usable t t level false 0
+Advances-start usable t level = record {
+  keeps = λ c near. refl;
+  reaches = λ c far near. absurd (near far);
+  misses = λ c below. absurd (omega arith);
+  quiet = λ e. refl;
+  falls = omega arith;
+}
+
+-- during a pass a class has the level exactly where it had it before
+leads_before : (usable : ℕ → Bool) (before after : List ℕ) (level n k : ℕ) (changed : Bool) (c : Class) → level < FAR
+    → Advances usable before after level changed n → LeadsToValue usable after c level k → LeadsToValue usable before c level k
+leads_before usable before after level n k changed c small a leads = (
+  leads.0,
+  leads.1,
+  elim (cases_eq (value_of before leads.0) FAR) as (λ _. value_of before leads.0 ≡ level) [
+    | inl far ↦
+        let near : value_of after leads.0 ≢ FAR = λ e. absurd (omega (arith, leads.2)) in
+        absurd (omega (arith, leads.2, (a.reaches leads.0 far near).0))
+    | inr near ↦ sym (a.keeps leads.0 near) ∙ leads.2
+  ],
+)
+
+leads_after : (usable : ℕ → Bool) (before after : List ℕ) (level n k : ℕ) (changed : Bool) (c : Class) → level < FAR
+    → Advances usable before after level changed n → LeadsToValue usable before c level k → LeadsToValue usable after c level k
+leads_after usable before after level n k changed c small a leads =
+    let near : value_of before leads.0 ≢ FAR = λ e. absurd (omega (arith, leads.2)) in
+    (leads.0, leads.1, a.keeps leads.0 near ∙ leads.2)
+
+-- a class visited without a change
+pub Advances-same : (usable : ℕ → Bool) (before after : List ℕ) (level n : ℕ) (changed : Bool) (c : Class) → level < FAR
+    → rank_of c ≡ n → (value_of after c ≡ FAR → (k : ℕ) → ¬ LeadsToValue usable after c level k)
+    → Advances usable before after level changed n → Advances usable before after level changed (n + 1)
+Advances-same usable before after level n changed c small at missed a = record {
+  keeps = a.keeps;
+  reaches = a.reaches;
+  misses = λ x below far k leads. elim (cases_eq (rank_of x) n) as (λ _. ⊥) [
+    | inl here ↦
+        let same : x ≡ c = rank_of-injective x c (here ∙ sym at) in
+        missed (ap (value_of after) (sym same) ∙ far) k
+        (leads_after usable before after level n k changed c small a
+        (let P : Class → Type 0 = λ y. LeadsToValue usable before y level k in subst P same leads))
+    | inr apart ↦ a.misses x (below_next (rank_of x) n below apart) far k leads
+  ];
+  quiet = a.quiet;
+  falls = a.falls;
+}
+
+far_count-set : (t : List ℕ) (c : Class) (v : ℕ) → length t ≡ CLASSES → value_of t c ≡ FAR → v ≢ FAR
+    → far_count (set t (rank_of c) v) + 1 ≡ far_count t
+far_count-set t c v len far near =
+    let below : rank_of c < length t = omega (arith, rank_of-below c) in
+    let was : ◌≡◌ {A = ℕ} (cond (eqb (value_of t c) FAR) 1 0) 1 = cond-true (eqb (value_of t c) FAR) 1 0 (eq-eqb (value_of t c) FAR far) in
+    let is : ◌≡◌ {A = ℕ} (cond (eqb v FAR) 1 0) 0 = cond-false (eqb v FAR) 1 0 (ne_eqb v FAR near) in
+    omega (arith, sum_by-set (λ x. cond (eqb x FAR) 1 0) t (rank_of c) v 0 below, was, is)
+
+-- a far class gets the next level
+pub Advances-more : (usable : ℕ → Bool) (before after : List ℕ) (level n : ℕ) (changed : Bool) (c : Class) → level + 1 < FAR
+    → length after ≡ CLASSES → rank_of c ≡ n → value_of after c ≡ FAR → (k : ℕ) × LeadsToValue usable after c level k
+    → Advances usable before after level changed n
+    → Advances usable before (set after (rank_of c) (level + 1)) level true (n + 1)
+Advances-more usable before after level n changed c small len at far leads a =
+    let was_far : value_of before c ≡ FAR = elim (cases_eq (value_of before c) FAR) as (λ _. value_of before c ≡ FAR) [
+      | inl e ↦ e
+      | inr near ↦ absurd (near (sym (a.keeps c near) ∙ far))
+    ] in
+    let next : value_of (set after (rank_of c) (level + 1)) c ≡ level + 1 = value_of-set_same after c (level + 1) len in
+    let other = λ (x : Class) (apart : rank_of x ≢ rank_of c). value_of-set_other after c x (level + 1) apart in
+    record {
+      keeps = λ x near. elim (cases_eq (rank_of x) (rank_of c)) as (λ _. value_of (set after (rank_of c) (level + 1)) x ≡ value_of before x) [
+        | inl same ↦ absurd (near (ap (value_of before) (rank_of-injective x c same) ∙ was_far))
+        | inr apart ↦ other x apart ∙ a.keeps x near
+      ];
+      reaches = λ x was near. elim (cases_eq (rank_of x) (rank_of c)) as
+          (λ _. (value_of (set after (rank_of c) (level + 1)) x ≡ level + 1) × ((k : ℕ) × LeadsToValue usable before x level k)) [
+            | inl same ↦
+                let is : x ≡ c = rank_of-injective x c same in (
+                  ap (value_of (set after (rank_of c) (level + 1))) is ∙ next,
+                  (
+                    leads.0,
+                    let P : Class → Type 0 = λ y. LeadsToValue usable before y level leads.0 in
+                        subst P (sym is) (leads_before usable before after level n leads.0 changed c (omega arith) a leads.1),
+                  ),
+                )
+            | inr apart ↦
+                let r = a.reaches x was (λ e. near (other x apart ∙ e)) in
+                (other x apart ∙ r.0, r.1)
+          ];
+      misses = λ x below still k. elim (cases_eq (rank_of x) n) as (λ _. LeadsToValue usable before x level k → ⊥) [
+        | inl here ↦ λ l.
+            let is : x ≡ c = rank_of-injective x c (here ∙ sym at) in
+            absurd (omega (arith, sym next ∙ ap (value_of (set after (rank_of c) (level + 1))) (sym is) ∙ still))
+        | inr apart ↦ λ l.
+            let different : rank_of x ≢ rank_of c = λ e. apart (e ∙ at) in
+            a.misses x (below_next (rank_of x) n below apart) (sym (other x different) ∙ still) k l
+      ];
+      quiet = λ e. cc;
+      falls = omega (arith, a.falls, far_count-set after c (level + 1) len far (λ e. absurd (omega arith)));
+    }
+
+-- after some passes the values up to the level are the distances, and all others are far
+pub record IsLevel (usable : ℕ → Bool) (wanted : List Class) (t : List ℕ) (level : ℕ) : Type 0 where
+  pub sound : (c : Class) → value_of t c ≢ FAR → (value_of t c ≤ level) × ((ks : List ℕ) × (length ks ≡ value_of t c) × LeadsInto usable wanted c ks)
+  pub complete : (c : Class) (ks : List ℕ) → LeadsInto usable wanted c ks → length ks ≤ level → value_of t c ≤ length ks
+
+pub IsLevel-start : (usable : ℕ → Bool) (wanted : List Class) (t : List ℕ) → ((c : Class) → Contains wanted c → value_of t c ≡ 0)
+    → ((c : Class) → value_of t c ≢ FAR → Contains wanted c) → IsLevel usable wanted t 0
+IsLevel-start usable wanted t zero far = record {
+  sound = λ c near.
+      let is : value_of t c ≡ 0 = zero c (far c near) in
+      (omega arith, ([], sym is, record { last = c; is_wanted = far c near; leads = stay }));
+  complete = complete;
+}
+  where
+    complete : (c : Class) (ks : List ℕ) → LeadsInto usable wanted c ks → length ks ≤ 0 → value_of t c ≤ length ks
+    complete c [] into short = omega (arith, zero c (LeadsInto-none into))
+    complete c (k ∷ ks) into short = absurd (omega arith)
+
+module _ (usable : ℕ → Bool) (wanted : List Class) (before after : List ℕ) (level : ℕ) (changed : Bool) (small : level + 1 < FAR)
+    (is : IsLevel usable wanted before level) (a : Advances usable before after level changed CLASSES) where
+  -- a class from which a row leads to a near class is near
+  near_from_row : (c x : Class) (k : ℕ) → step_of usable k c ≡ Some x → value_of before x ≢ FAR → value_of after c ≢ FAR
+  near_from_row c x k steps near far =
+      let low = is.sound x near in
+      let not_level : value_of before x ≢ level = λ e. a.misses c (rank_of-below c) far k (x, steps, e) in
+      let parts = step_of-parts usable k c x steps in
+      let into : LeadsInto usable wanted c (k ∷ low.1.0) = LeadsInto-step parts.0 parts.1 low.1.2 in
+      let short : length (k ∷ low.1.0) ≤ level = omega (arith, low.0, low.1.1) in
+      let value : value_of before c ≤ length (k ∷ low.1.0) = is.complete c (k ∷ low.1.0) into short in
+      let near_before : value_of before c ≢ FAR = λ e. absurd (omega arith) in
+      near_before (sym (a.keeps c near_before) ∙ far)
+
+-- the first classes of the list are at 0, and only classes of the list are near
+pub record StartsAt (wanted : List Class) (t : List ℕ) (n : ℕ) : Type 0 where
+  pub len : length t ≡ CLASSES
+  pub zero : (k : ℕ) (d : Class) → k < n → value_of t (get_or wanted k d) ≡ 0
+  pub listed : (c : Class) → value_of t c ≢ FAR → (value_of t c ≡ 0) × Contains wanted c
+
+pub StartsAt-more : (wanted : List Class) (t : List ℕ) (n : ℕ) (x e : Class) → n < length wanted → get_or wanted n e ≡ x → StartsAt wanted t n
+    → StartsAt wanted (set t (rank_of x) 0) (n + 1)
+StartsAt-more wanted t n x e below at s =
+    let written : value_of (set t (rank_of x) 0) x ≡ 0 = value_of-set_same t x 0 s.len in
+    let again = λ (c : Class) (same : c ≡ x). ap (value_of (set t (rank_of x) 0)) same ∙ written in
+    record {
+      len = rw length-set s.len;
+      zero = λ k d early. elim (cases_eq (rank_of (get_or wanted k d)) (rank_of x)) as (λ _. value_of (set t (rank_of x) 0) (get_or wanted k d) ≡ 0) [
+        | inl same ↦ again (get_or wanted k d) (rank_of-injective (get_or wanted k d) x same)
+        | inr apart ↦
+            let not_here : k ≢ n = λ same. apart (ap rank_of (ap (λ i. get_or wanted i d) same ∙ get_or_default wanted n d e below ∙ at)) in
+            value_of-set_other t x (get_or wanted k d) 0 apart ∙ s.zero k d (below_next k n early not_here)
+      ];
+      listed = λ c near. elim (cases_eq (rank_of c) (rank_of x)) as (λ _. (value_of (set t (rank_of x) 0) c ≡ 0) × Contains wanted c) [
+        | inl same ↦
+            let is : c ≡ x = rank_of-injective c x same in
+            (again c is, (n, below, get_or_default wanted n c e below ∙ at ∙ sym is))
+        | inr apart ↦
+            let old = s.listed c (λ far. near (value_of-set_other t x c 0 apart ∙ far)) in
+            (value_of-set_other t x c 0 apart ∙ old.0, old.1)
+      ];
+    }
+
+-- what the next pass makes of the values
+module _ (usable : ℕ → Bool) (wanted : List Class) (before after : List ℕ) (level : ℕ) (changed : Bool) (small : level + 1 < FAR)
+    (is : IsLevel usable wanted before level) (a : Advances usable before after level changed CLASSES) where
+  complete_next : (c : Class) (ks : List ℕ) → LeadsInto usable wanted c ks → length ks ≤ level + 1 → value_of after c ≤ length ks
+  complete_next c [] into short =
+      let low : value_of before c ≤ 0 = is.complete c [] into (omega arith) in
+      let near : value_of before c ≢ FAR = λ e. absurd (omega arith) in
+      omega (arith, a.keeps c near)
+  complete_next c (k ∷ ks) into short =
+      let first = LeadsInto-first into in
+      let steps : step_of usable k c ≡ Some first.next = step_of-from usable k c first.next first.is_usable first.goes in
+      let low : value_of before first.next ≤ length ks = is.complete first.next ks first.rest (omega arith) in
+      let near : value_of before first.next ≢ FAR = λ e. absurd (omega arith) in
+      let reached : value_of after c ≢ FAR = near_from_row usable wanted before after level changed small is a c first.next k steps near in
+      elim (cases_eq (value_of before c) FAR) as (λ _. value_of after c ≤ length (k ∷ ks)) [
+        | inl far ↦ elim (cases_lt (length ks) level) as (λ _. value_of after c ≤ length (k ∷ ks)) [
+          | inl early ↦
+              let value : value_of before c ≤ length (k ∷ ks) = is.complete c (k ∷ ks) into (omega arith) in
+              absurd (omega arith)
+          | inr late ↦ omega (arith, (a.reaches c far reached).0)
+        ]
+        | inr was ↦ elim (cases_lt (length ks) level) as (λ _. value_of after c ≤ length (k ∷ ks)) [
+          | inl early ↦
+              let value : value_of before c ≤ length (k ∷ ks) = is.complete c (k ∷ ks) into (omega arith) in
+              omega (arith, a.keeps c was)
+          | inr late ↦ omega (arith, a.keeps c was, (is.sound c was).0)
+        ]
+      ]
+
+  sound_next : (c : Class) → value_of after c ≢ FAR
+      → (value_of after c ≤ level + 1) × ((ks : List ℕ) × (length ks ≡ value_of after c) × LeadsInto usable wanted c ks)
+  sound_next c near = elim (cases_eq (value_of before c) FAR) as
+      (λ _. (value_of after c ≤ level + 1) × ((ks : List ℕ) × (length ks ≡ value_of after c) × LeadsInto usable wanted c ks)) [
+        | inl far ↦
+            let reached = a.reaches c far near in
+            let k = reached.1.0 in
+            let leads = reached.1.1 in
+            let next_near : value_of before leads.0 ≢ FAR = λ e. absurd (omega (arith, leads.2)) in
+            let low = is.sound leads.0 next_near in
+            let parts = step_of-parts usable k c leads.0 leads.1 in
+            let long : length (k ∷ low.1.0) ≡ value_of after c = omega (arith, low.1.1, leads.2, reached.0) in
+            (omega (arith, reached.0), (k ∷ low.1.0, long, LeadsInto-step parts.0 parts.1 low.1.2))
+        | inr was ↦
+            let low = is.sound c was in
+            (omega (arith, low.0, a.keeps c was), (low.1.0, low.1.1 ∙ sym (a.keeps c was), low.1.2))
+      ]
+
+  -- the values are right up to the next level
+  pub IsLevel-next : IsLevel usable wanted after (level + 1)
+  IsLevel-next = record { sound = sound_next; complete = complete_next }
+
+  reached_all : changed ≡ false → (c : Class) (ks : List ℕ) → LeadsInto usable wanted c ks → value_of after c ≢ FAR
+  reached_all still c [] into = let low : value_of after c ≤ 0 = complete_next c [] into (omega arith) in λ e. absurd (omega arith)
+  reached_all still c (k ∷ ks) into =
+      let first = LeadsInto-first into in
+      let steps : step_of usable k c ≡ Some first.next = step_of-from usable k c first.next first.is_usable first.goes in
+      let near : value_of after first.next ≢ FAR = reached_all still first.next ks first.rest in
+      let near_before : value_of before first.next ≢ FAR = λ e. near (ap (λ t. value_of t first.next) (a.quiet still) ∙ e) in
+      near_from_row usable wanted before after level changed small is a c first.next k steps near_before
+
+  -- a pass that changes nothing ends the walk
+  pub AreDistances-quiet : changed ≡ false → AreDistances usable wanted after
+  AreDistances-quiet still = record {
+    near = λ c near.
+        let low = sound_next c near in
+        record {
+          rows = low.1.0;
+          leads = low.1.2;
+          length_is = low.1.1;
+          least = λ ks into. elim (cases_lt (level + 1) (length ks)) as (λ _. value_of after c ≤ length ks) [
+            | inl long ↦ omega (arith, low.0)
+            | inr short ↦ complete_next c ks into short
+          ];
+        };
+    all = reached_all still;
+  }
+
+pub far_count-most : (t : List ℕ) → length t ≡ CLASSES → far_count t ≤ CLASSES
+far_count-most t len = omega (arith, count_by-le-length (λ v. eqb v FAR) t)
+
+-- a pass that changes something leaves fewer far classes
+pub far_falls : {usable : ℕ → Bool} {before after : List ℕ} {level n : ℕ} {changed : Bool} → Advances usable before after level changed n
+    → changed ≡ true → far_count after + 1 ≤ far_count before
+far_falls {usable} {before} {after} {level} {n} {changed} a is =
+    let one : ◌≡◌ {A = ℕ} (cond changed 1 0) 1 = cond-true changed 1 0 is in omega (arith, a.falls)

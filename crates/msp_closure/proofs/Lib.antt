@@ -1,0 +1,7 @@
+pub mod StepLemmas
+pub mod TableLemmas
+pub mod AdvanceLemmas
+pub mod NearestLemmas
+pub mod EntryLemmas
+pub mod SpreadLemmas
+pub mod LabelLemmas

@@ -1,0 +1,5 @@
+use Rattle.msp_closure.proofs.EntryLemmas.{FarSoFar}
+use Rattle.msp_closure.proofs.walk.first_near.Given as goal
+
+abbrev pub invariant-loop-c : goal.invariant-loop-c
+invariant-loop-c l = FarSoFar l.table l.starts l.c-index

@@ -1,0 +1,42 @@
+use Rattle.std.specs.Prelude.{ℕ, ◌≡◌, ◌≢◌, Bool, true, false, List, slice_index, slice_index_or, Contains}
+use Rattle.msp_class.specs.declared.class.Class.{Class}
+use Rattle.msp_class.specs.Rank.{rank_of}
+use Rattle.msp_table.specs.Rows.{carries}
+use Rattle.msp_table.specs.Chains.{every_row, Reaches, LeadsInto, IsDistance}
+use Rattle.msp_closure.specs.declared.entry.Mark.{Mark}
+use Rattle.msp_closure.specs.declared.entry.Mark.TheVariants.{Easy, Hard, Unsettled, Both}
+use Rattle.msp_closure.specs.declared.row_set.RowSet.{RowSet}
+use Rattle.msp_closure.specs.declared.row_set.RowSet.TheVariants.{Every, Carrying}
+use Rattle.msp_closure.specs.declared.distances.TheConstants.{FAR}
+
+-- What the private functions make: tables with a value for each class. No public contract cites this file.
+
+-- the rows that a search may use
+abbrev pub allows : RowSet → ℕ → Bool
+allows Every = every_row
+allows Carrying = carries
+
+-- a number kept for each class, by rank
+abbrev pub value_of : List ℕ → Class → ℕ
+value_of table c = slice_index table (rank_of c)
+
+-- a mark kept for each class, by rank
+abbrev pub is_marked : List Bool → Class → Bool
+is_marked table c = slice_index_or table (rank_of c) false
+
+-- the distance of each class to the wanted classes, and FAR where no chain leads to one
+pub record AreDistances (usable : ℕ → Bool) (wanted : List Class) (table : List ℕ) : Type 0 where
+  pub near : (c : Class) → value_of table c ≢ FAR → IsDistance usable wanted c (value_of table c)
+  pub all : (c : Class) (ks : List ℕ) → LeadsInto usable wanted c ks → value_of table c ≢ FAR
+
+-- the mark of each class says whether a chain leads to it from one of the starts
+pub record AreReached (usable : ℕ → Bool) (starts : List Class) (table : List Bool) : Type 0 where
+  pub sound : (c : Class) → is_marked table c ≡ true → (b : Class) × Contains starts b × Reaches usable b c
+  pub all : (b c : Class) → Contains starts b → Reaches usable b c → is_marked table c ≡ true
+
+-- the mark of a class by two tests: whether it is easy, and whether it is hard
+abbrev pub mark_of : Bool → Bool → Mark
+mark_of true true = Both
+mark_of true false = Easy
+mark_of false true = Hard
+mark_of false false = Unsettled

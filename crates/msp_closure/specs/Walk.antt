@@ -1,0 +1,46 @@
+use Rattle.std.specs.Prelude.{ℕ, ◌≡◌, ◌≢◌, ◌+◌, ◌<◌, ◌≤◌, ◌==◌, Bool, true, false, List, Option, Some, None, if◌then◌else◌, count_by, not}
+use Rattle.msp_class.specs.declared.class.Class.{Class}
+use Rattle.msp_class.specs.Rank.{rank_of}
+use Rattle.msp_table.specs.Rows.{goes_of}
+use Rattle.msp_table.specs.Chains.{Reaches}
+use Rattle.msp_closure.specs.declared.distances.TheConstants.{FAR}
+use Rattle.msp_closure.specs.Tables.{value_of, is_marked}
+
+-- What the steps of the private searches keep. No public contract cites this file.
+
+-- the class to which a usable row leads
+abbrev pub step_of : (ℕ → Bool) → ℕ → Class → Option Class
+step_of usable k c = if usable k then goes_of k c else None
+
+-- the row leads to a class with a value
+abbrev pub LeadsToValue : (ℕ → Bool) → List ℕ → Class → ℕ → ℕ → Type 0
+LeadsToValue usable table c v k = (x : Class) × (step_of usable k c ≡ Some x) × (value_of table x ≡ v)
+
+-- how many classes have no distance yet
+abbrev pub far_count : List ℕ → ℕ
+far_count table = count_by (λ v. v == FAR) table
+
+-- one pass of the breadth walk over the classes of rank below `done`: a far class gets the next level exactly where a row leads
+-- from it to a class of this level, and nothing else changes
+pub record Advances (usable : ℕ → Bool) (before after : List ℕ) (level : ℕ) (changed : Bool) (done : ℕ) : Type 0 where
+  pub keeps : (c : Class) → value_of before c ≢ FAR → value_of after c ≡ value_of before c
+  pub reaches : (c : Class) → value_of before c ≡ FAR → value_of after c ≢ FAR
+      → (value_of after c ≡ level + 1) × ((k : ℕ) × LeadsToValue usable before c level k)
+  pub misses : (c : Class) → rank_of c < done → value_of after c ≡ FAR → (k : ℕ) → ¬ LeadsToValue usable before c level k
+  pub quiet : changed ≡ false → after ≡ before
+  pub falls : far_count after + (if changed then 1 else 0) ≤ far_count before
+
+-- how many classes are not marked
+abbrev pub unmarked_count : List Bool → ℕ
+unmarked_count table = count_by not table
+
+-- some more classes are marked, each at the end of a chain from a class that was marked before
+pub record Spreads (usable : ℕ → Bool) (before after : List Bool) (changed : Bool) : Type 0 where
+  pub keeps : (c : Class) → is_marked before c ≡ true → is_marked after c ≡ true
+  pub sound : (c : Class) → is_marked after c ≡ true → (b : Class) × (is_marked before b ≡ true) × Reaches usable b c
+  pub quiet : changed ≡ false → after ≡ before
+  pub falls : unmarked_count after + (if changed then 1 else 0) ≤ unmarked_count before
+
+-- every class to which the row leads from the class is marked
+abbrev pub IsClosedAt : (ℕ → Bool) → List Bool → Class → ℕ → Type 0
+IsClosedAt usable table c k = (x : Class) → step_of usable k c ≡ Some x → is_marked table x ≡ true

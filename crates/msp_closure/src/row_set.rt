@@ -1,0 +1,41 @@
+ghost use Rattle.std.specs.Prelude.{◌≡◌};
+ghost use Rattle.msp_closure.specs.Tables.{allows};
+ghost use Rattle.msp_closure.specs.Walk.{step_of};
+
+use msp_class::Class;
+use msp_table::{Row, RowKind, goes, kind};
+
+/// The rows that a search may use.
+#[derive(Clone, Copy, Debug, PartialEq, Eq)]
+pub(crate) enum RowSet {
+    Every,
+    Carrying,
+}
+
+/// A row, and the class to which it leads.
+#[derive(Clone, Copy, Debug, PartialEq, Eq)]
+pub(crate) struct RowStep {
+    pub row: Row,
+    pub next: Class,
+}
+
+/// Whether a search may use the row.
+fn allows(rows: RowSet, row: Row) -> bool
+    ensures { result ≡ allows rows row }
+{
+    match rows {
+        RowSet::Every => true,
+        RowSet::Carrying => kind(row) == RowKind::Carries,
+    }
+}
+
+/// The class to which the row leads, where the row may be used and applies.
+pub(crate) fn step(rows: RowSet, row: Row, c: Class) -> Option<Class>
+    ensures { result ≡ step_of (allows rows) row c }
+{
+    if allows(rows, row) {
+        goes(row, c)
+    } else {
+        None
+    }
+}

@@ -1,0 +1,128 @@
+ghost use Rattle.std.specs.Prelude.{◌≡◌, ◌<◌, ◌^◌, ◌⊎◌, length, Err, option_map};
+ghost use Rattle.csv.specs.Records.{fields_of};
+ghost use Rattle.std.specs.List.{list_all};
+ghost use Rattle.std.specs.Str.{is_utf8};
+ghost use Rattle.msp_results.specs.Reading.{fields_read, is_header, is_plain, is_printable, row_read, three_of, verdict_read};
+ghost use Rattle.msp_results.specs.Records.{AreShort};
+
+use crate::fault::ResultFault;
+use csv::ByteRecord;
+use msp_class::List;
+use msp_closure::{Entry, Verdict};
+use msp_name::parse;
+use std::alloc::Global;
+
+/// The greatest length of a source, in bytes.
+const LONGEST_SOURCE: usize = 200;
+
+#[tactic(auto, using(crate::proofs::FieldLemmas::text_rules))]
+fn is_text(source: &[u8]) -> bool
+    ensures { result ≡ is_utf8 source.now }
+{
+    match str::from_utf8(source) {
+        Ok(_) => true,
+        Err(_) => false,
+    }
+}
+
+fn has_no_control(source: &[u8]) -> bool
+    ensures { result ≡ list_all is_printable source.now }
+{
+    source.iter().all(|byte| *byte >= 32 && *byte != 127)
+}
+
+#[tactic(auto, unfolding(crate::specs::Reading::is_plain))]
+fn is_plain(source: &[u8]) -> bool
+    ensures { result ≡ is_plain source.now }
+{
+    is_text(source) && has_no_control(source)
+}
+
+fn read_verdict(word: &[u8]) -> Option<Verdict>
+    ensures { result ≡ verdict_read word.now }
+{
+    if word == b"easy".as_slice() {
+        Some(Verdict::Easy)
+    } else if word == b"hard".as_slice() {
+        Some(Verdict::Hard)
+    } else {
+        None
+    }
+}
+
+#[tactic(auto, unfolding(crate::specs::Reading::fields_read))]
+fn read_fields(
+    alloc: Global,
+    at: u32,
+    name: &[u8],
+    verdict: &[u8],
+    source: &[u8],
+) -> Result<Entry, ResultFault>
+    requires { length name.now < 2 ^ 32 }
+    ensures { (result ≡ Err ResultFault.Memory) ⊎ (result ≡ fields_read at name.now verdict.now source.now) }
+{
+    let class = match parse(name) {
+        Ok(class) => class,
+        Err(fault) => return Err(ResultFault::Name { at, fault }),
+    };
+    let Some(verdict) = read_verdict(verdict) else {
+        return Err(ResultFault::Verdict { at });
+    };
+    if !is_plain(source) {
+        return Err(ResultFault::Source { at });
+    }
+    if source.len() > LONGEST_SOURCE {
+        return Err(ResultFault::Long { at });
+    }
+    match source.to_vec(alloc) {
+        Ok(bytes) => Ok(Entry {
+            class,
+            verdict,
+            source: List::from_vec(bytes),
+        }),
+        Err(_) => Err(ResultFault::Memory),
+    }
+}
+
+/// The three fields of a record that has no other.
+#[tactic(auto, using(crate::proofs::FieldLemmas::field_rules))]
+fn three(row: &ByteRecord) -> Option<(&[u8], &[u8], &[u8])>
+    ensures { option_map (λ t. (t.0.now, t.1.now, t.2.now)) result ≡ three_of (fields_of row.now) }
+{
+    let Some(first) = row.get(0) else {
+        return None;
+    };
+    let Some(second) = row.get(1) else {
+        return None;
+    };
+    let Some(third) = row.get(2) else {
+        return None;
+    };
+    if row.len() != 3 {
+        return None;
+    }
+    Some((first, second, third))
+}
+
+/// Whether the record is the header.
+pub fn is_header(row: &ByteRecord) -> bool
+    ensures { result ≡ is_header (fields_of row.now) }
+{
+    match three(row) {
+        Some((class, verdict, source)) => class == b"class".as_slice()
+            && verdict == b"verdict".as_slice()
+            && source == b"source".as_slice(),
+        None => false,
+    }
+}
+
+/// The entry of the record with this number.
+pub fn read_row(alloc: Global, at: u32, row: &ByteRecord) -> Result<Entry, ResultFault>
+    requires { AreShort (fields_of row.now) }
+    ensures { (result ≡ Err ResultFault.Memory) ⊎ (result ≡ row_read at (fields_of row.now)) }
+{
+    match three(row) {
+        Some((name, verdict, source)) => read_fields(alloc, at, name, verdict, source),
+        None => Err(ResultFault::Width { at }),
+    }
+}

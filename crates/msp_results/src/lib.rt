@@ -1,0 +1,15 @@
+//! The file of known results: a header and one record of CSV for each entry.
+//!
+//! It stands on `msp_name`, `msp_closure` and `csv`. The layer above uses that `read_results` gives the entries exactly where the
+//! records of the bytes are the header and these entries (`ResultsOf`), and else the first fault.
+#![tactic(auto)]
+
+mod entries;
+mod fault;
+mod read;
+mod records;
+#[cfg(test)]
+mod tests;
+
+pub use fault::ResultFault;
+pub use read::read_results;

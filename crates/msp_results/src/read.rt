@@ -1,0 +1,82 @@
+ghost use Rattle.std.specs.Prelude.{◌≡◌, ◌≤◌, ◌⊎◌, length, IfOk, Ok, Err, List as Items};
+ghost use Rattle.msp_closure.specs.declared.entry.Entry.{Entry};
+ghost use Rattle.msp_results.specs.Reading.{entries_read, results_of};
+ghost use Rattle.msp_results.specs.Records.{IsReading, rows_left};
+ghost use Rattle.msp_results.specs.Results.{ResultsOf};
+
+use crate::entries::{is_header, read_row};
+use crate::fault::ResultFault;
+use crate::records::{next_row, open};
+use csv::{ByteRecord, Reader};
+use msp_class::List;
+use msp_closure::Entry;
+use std::alloc::Global;
+
+/// The greatest number of entries.
+const MOST_ENTRIES: u32 = 20_000;
+
+/// The entries of the records that are left; `row` is room for one.
+fn read_entries(
+    alloc: Global,
+    reader: &mut Reader<&[u8]>,
+    row: &mut ByteRecord,
+) -> Result<List<Entry>, ResultFault>
+    requires { IsReading reader.old }
+    ensures { (result ≡ Err ResultFault.Memory) ⊎ (result ≡ entries_read 1 (rows_left reader.old)) }
+{
+    let mut entries = List::new(alloc);
+    let mut at: u32 = 1;
+    'rows: loop {
+        match next_row(reader, row) {
+            Ok(true) => {}
+            Ok(false) => return Ok(entries),
+            Err(fault) => return Err(fault),
+        }
+        if at > MOST_ENTRIES {
+            return Err(ResultFault::Many);
+        }
+        let entry = match read_row(alloc, at, row) {
+            Ok(entry) => entry,
+            Err(fault) => return Err(fault),
+        };
+        match entries.push(entry) {
+            Ok(()) => at += 1,
+            Err(_) => return Err(ResultFault::Memory),
+        }
+    }
+}
+
+/// The entries of the records of a file.
+#[tactic(auto, unfolding(crate::specs::Reading::results_of))]
+fn read_records(alloc: Global, bytes: &[u8]) -> Result<List<Entry>, ResultFault>
+    requires { length bytes.now ≤ 4194304 }
+    ensures { (result ≡ Err ResultFault.Memory) ⊎ (result ≡ results_of bytes.now) }
+{
+    let mut reader = open(alloc, bytes);
+    let mut row = ByteRecord::new(alloc);
+    match next_row(&mut reader, &mut row) {
+        Ok(true) => {}
+        Ok(false) => return Err(ResultFault::Header),
+        Err(fault) => return Err(fault),
+    }
+    if !is_header(&row) {
+        return Err(ResultFault::Header);
+    }
+    read_entries(alloc, &mut reader, &mut row)
+}
+
+/// The entries of a file of results, in order. A class may stand there more than once.
+///
+/// The file is CSV (RFC 4180) with the header `class,verdict,source`. Reading stops at the first fault. Want of memory, and whatever else
+/// `csv` refuses, is answered as `Memory`.
+pub fn read_results(alloc: Global, bytes: &[u8]) -> Result<List<Entry>, ResultFault>
+    requires { length bytes.now ≤ 4194304 }
+    ensures ok { IfOk result (λ entries. ResultsOf bytes.now entries) }
+    ensures complete { (entries : Items Entry) → ResultsOf bytes.now entries
+        → (result ≡ Err ResultFault.Memory) ⊎ (result ≡ Ok entries) }
+
+    // The fault is the first that reading from the left comes to.
+    ensures reading { (result ≡ Err ResultFault.Memory) ⊎ (result ≡ results_of bytes.now) }
+{
+    read_records(alloc, bytes)
+}

@@ -1,0 +1,14 @@
+//! The table of elementary reductions between classes: 52 rows, and chains of rows.
+//!
+//! It stands on `msp_class`. The layers above use that `goes` is the table: the class to which a row leads, and None exactly where
+//! the row does not apply.
+#![tactic(auto)]
+
+mod apply;
+mod kinds;
+mod row;
+mod steps;
+
+pub use apply::goes;
+pub use kinds::{kind, text};
+pub use row::{Chain, ROWS, Row, RowKind};

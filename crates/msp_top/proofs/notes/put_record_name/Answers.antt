@@ -1,0 +1,10 @@
+use Rattle.std.proofs.Common.{◌++◌, codes, decimal}
+use Rattle.msp_name.specs.Faults.{fault_text}
+use Rattle.msp_top.proofs.PutsLemmas.{puts-stop, puts-then}
+use Rattle.msp_top.proofs.notes.put_record_name.Goals as goal
+
+pub returns-in-Ok : goal.returns-in-Ok
+returns-in-Ok g c = puts-then _ _ _ _ _ _ (codes "record " ++ decimal c.args.at ++ codes ": name: ") (fault_text c.args.fault) _ _ c.in-Ok.field-0 c.in-Ok.is c.put_record.ensures c.put_fault.ensures
+
+pub returns-in-Err : goal.returns-in-Err
+returns-in-Err g c = puts-stop _ _ _ _ (codes "record " ++ decimal c.args.at ++ codes ": name: ") (fault_text c.args.fault) _ _ c.in-Err.is c.put_record.ensures

@@ -1,0 +1,133 @@
+// What there is to say of a whole input, by the command.
+ghost use Rattle.std.specs.Prelude.{◌≡◌, ◌⊎◌, ℕ, ◌≤◌, List as Items, [], length, IfOk, IfSome, IfNone, is_some, if◌then◌else◌};
+ghost use Rattle.msp_class.specs.declared.class.Class.{Class as ClassValue};
+ghost use Rattle.msp_class.specs.Rank.{rank_of};
+ghost use Rattle.msp_top.specs.Run.{IsRight, SolveIsRight, LabelIsRight, AreShown};
+ghost use Rattle.msp_top.specs.Results.{results_status, AreAllClasses};
+ghost use Rattle.msp_top.specs.Answer.{command_of, outcome_of, ReportsShown, ReportsLabels};
+
+use crate::labels_text::labels_text;
+use crate::notes::Note;
+use crate::reader::{ReadRefusal, read_text};
+use crate::report::solve_text;
+use crate::smith::solve;
+use crate::words::Asked;
+use msp_class::{CLASSES, Class, List, NoMemory, unrank};
+use msp_closure::{Entry, clash, close};
+use msp_results::{ResultFault, read_results};
+use std::alloc::Global;
+
+/// What there is to say of a whole input.
+#[derive(Drop)]
+pub enum Answer {
+    Report { status: u8, text: Vec<u8> },
+    Refusal { status: u8, note: Note },
+}
+
+/// The answer to a command and a whole input.
+pub fn answer_to(alloc: Global, asked: &Asked, input: &[u8]) -> Result<Answer, NoMemory>
+    requires { length input.now ≤ 4194304 }
+    ensures { IfOk result (λ answer. IsRight (command_of asked.now) input.now (outcome_of answer)) }
+{
+    match asked {
+        Asked::Solve => solve_answer(alloc, input),
+        Asked::Label(classes) => label_answer(alloc, classes, input),
+    }
+}
+
+fn solve_answer(alloc: Global, input: &[u8]) -> Result<Answer, NoMemory>
+    requires { length input.now ≤ 4194304 }
+    ensures { IfOk result (λ answer. SolveIsRight input.now (outcome_of answer)) }
+{
+    match read_text(alloc, input) {
+        Ok(named) => {
+            let solution = solve(alloc, &named.instance)?;
+            let text = solve_text(alloc, &named.names, &solution)?;
+            Ok(Answer::Report { status: 0, text })
+        }
+        Err(ReadRefusal::Unreadable) => Ok(Answer::Refusal {
+            status: 3,
+            note: Note::NotReadable,
+        }),
+        Err(ReadRefusal::Memory) => Err(NoMemory),
+    }
+}
+
+fn label_answer(alloc: Global, classes: &List<Class>, input: &[u8]) -> Result<Answer, NoMemory>
+    requires { length input.now ≤ 4194304 }
+    ensures { IfOk result (λ answer. LabelIsRight classes.now input.now (outcome_of answer)) }
+{
+    match read_results(alloc, input) {
+        Ok(entries) => report_labels(alloc, classes, &entries),
+        Err(fault) => match status_of(fault) {
+            Some(status) => Ok(Answer::Refusal {
+                status,
+                note: Note::Results(fault),
+            }),
+            None => Err(NoMemory),
+        },
+    }
+}
+
+/// The status of a refusal of the results. None comes for want of memory.
+fn status_of(fault: ResultFault) -> Option<u8>
+    ensures { result ≡ results_status fault }
+{
+    match fault {
+        ResultFault::Long { .. } | ResultFault::Many => Some(4),
+        ResultFault::Header
+        | ResultFault::Width { .. }
+        | ResultFault::Name { .. }
+        | ResultFault::Verdict { .. }
+        | ResultFault::Source { .. } => Some(3),
+        ResultFault::Memory => None,
+    }
+}
+
+/// All classes, in order of rank.
+fn all_classes(alloc: Global) -> Result<List<Class>, NoMemory>
+    ensures { IfOk result (λ classes. AreAllClasses classes) }
+{
+    let mut classes = List::new(alloc);
+    for n in 0..CLASSES {
+        let Some(class) = unrank(n) else {
+            unreachable!();
+        };
+        if classes.push(class).is_err() {
+            return Err(NoMemory);
+        }
+    }
+    Ok(classes)
+}
+
+fn report_shown(
+    alloc: Global,
+    shown: &List<Class>,
+    entries: &List<Entry>,
+) -> Result<Answer, NoMemory>
+    ensures { IfOk result (λ answer. ReportsShown shown.now entries.now answer) }
+{
+    let labels = close(alloc, entries)?;
+    let found = clash(alloc, entries)?;
+    let text = labels_text(alloc, &labels, shown, &found)?;
+    if found.is_some() {
+        Ok(Answer::Report { status: 1, text })
+    } else {
+        Ok(Answer::Report { status: 0, text })
+    }
+}
+
+fn report_labels(
+    alloc: Global,
+    classes: &List<Class>,
+    entries: &List<Entry>,
+) -> Result<Answer, NoMemory>
+    ensures { IfOk result (λ answer. ReportsLabels classes.now entries.now answer) }
+{
+    if classes.len() == 0 {
+        let all = all_classes(alloc)?;
+        report_shown(alloc, &all, entries)
+    } else {
+        report_shown(alloc, classes, entries)
+    }
+}

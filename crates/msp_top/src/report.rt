@@ -1,0 +1,29 @@
+ghost use Rattle.std.specs.Prelude.{◌≡◌, IfOk};
+ghost use Rattle.msp_schedule.specs.Fraction.{IsLowest};
+ghost use Rattle.msp_file.specs.ScheduleText.{IsStated};
+ghost use Rattle.msp_top.specs.Report.{solve_report};
+
+use msp_class::NoMemory;
+use msp_file::{Names, print_schedule};
+use msp_schedule::Solution;
+use std::alloc::Global;
+
+/// The report of `solve` for a solution with its jobs' names.
+pub fn solve_text(alloc: Global, names: &Names, solution: &Solution) -> Result<Vec<u8>, NoMemory>
+    requires stated { IsStated names.now solution.now.schedule solution.now.cost }
+    requires lowest { IsLowest solution.now.cost }
+    ensures { IfOk result (λ text. text.items ≡ solve_report names.now solution.now) }
+{
+    let schedule = print_schedule(alloc, names, solution)?;
+    let mut text = Vec::new(alloc);
+    if text
+        .extend_from_slice(b"start 1||sumwC\nsolver smith\n")
+        .is_err()
+    {
+        return Err(NoMemory);
+    }
+    if text.extend_from_slice(&schedule).is_err() {
+        return Err(NoMemory);
+    }
+    Ok(text)
+}
