@@ -1,12 +1,12 @@
 -- From the reading of the lines to the answer.
-use Rattle.std.proofs.Common.{◌≡◌, ℕ, List, Result, Ok, Err, refl, sym, subst, ◌∙◌}
+use Rattle.std.proofs.Common.{◌≡◌, ℕ, List, Result, Ok, Err, sym, subst}
 use Rattle.msp_file.specs.declared.fault.FileFault.{FileFault}
 use Rattle.msp_file.specs.declared.fault.FileFault.TheVariants.{Class, Cycle, Memory}
 use Rattle.msp_file.specs.declared.filed.Filed.{Filed}
 use Rattle.msp_file.specs.Reading.{filed_at}
 use Rattle.msp_file.specs.Steps.{Fails}
 use Rattle.msp_file.specs.Answers.{IsFaultOf}
-use Rattle.msp_file.proofs.LineFaults.{InLines, IsLineFault, whole}
+use Rattle.msp_file.proofs.LineFaults.{IsLineFault, whole}
 
 -- a fault of the lines is the first fault of the text
 line_fault : (e : FileFault) (read : Result Filed FileFault) → (read ≡ Err e → IsLineFault e) → Fails e read → IsFaultOf read e

@@ -1,6 +1,5 @@
 -- Lines and their fields.
-use Rattle.std.proofs.Common.{◌≡◌, ℕ, suc, ◌+◌, ◌-◌, ◌<◌, ◌≤◌, ◌==◌, List, [], ◌∷◌, length, take, drop, get_or, Option, None, Some, position, count_by, refl, sym, ap, ◌∙◌, arith, add-one, drop-cons, length-take}
-use Rattle.std.specs.List.{slice_split}
+use Rattle.std.proofs.Common.{◌≡◌, ℕ, ◌+◌, ◌<◌, ◌≤◌, ◌==◌, List, [], ◌∷◌, length, take, drop, get_or, None, Some, position, count_by, refl, sym, ap, ◌∙◌, arith, add-one, drop-cons, length-take}
 use Rattle.std.proofs.lemmas.List.{take_rest, take_all, drop_all}
 use Rattle.std.proofs.lemmas.List.Splits.{length-slice_split}
 use Rattle.msp_name.proofs.Parts.{cut-slices, cut-none}

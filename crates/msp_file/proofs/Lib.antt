@@ -7,3 +7,4 @@ mod Multiples
 mod LineFaults
 mod AnswerLemmas
 mod PrintLemmas
+mod NumberTexts

@@ -1,7 +1,5 @@
 -- Reading lines gives faults of lines alone.
-use Rattle.std.proofs.Common.{◌≡◌, ℕ, zero, suc, ◌+◌, ◌*◌, ◌^◌, Bool, true, false, ◌&&◌, ◌==◌, not, nat_le, List, [], ◌∷◌, length, Option, None, Some, Result, Ok, Err, ok_or, position, bytes_eq, codes, ℤ, pos, negsuc, refl, subst, take, drop, if◌then◌else◌}
-use Rattle.std.specs.Prelude.{nat_lt}
-use Rattle.std.specs.List.{list_any}
+use Rattle.std.proofs.Common.{◌≡◌, ℕ, zero, suc, ◌+◌, ◌^◌, Bool, true, false, ◌&&◌, ◌==◌, List, [], ◌∷◌, length, Option, None, Some, Result, Ok, Err, ok_or, position, bytes_eq, codes, ℤ, pos, negsuc, refl, subst, take, drop, if◌then◌else◌}
 use Rattle.msp_class.specs.Env.{fixed_machines}
 use Rattle.msp_class.specs.declared.class.Class.{Class}
 use Rattle.msp_class.specs.declared.class.Env.{Env}

@@ -1,9 +1,8 @@
 -- Lines that are read one after the other.
-use Rattle.std.proofs.Common.{◌≡◌, ℕ, zero, suc, ◌+◌, ◌<◌, ◌≤◌, length, Result, Ok, Err, refl, sym, ap, subst, ◌∙◌, arith}
-use Rattle.msp_class.specs.declared.class.Class.{Class}
+use Rattle.std.proofs.Common.{◌≡◌, ℕ, zero, suc, ◌<◌, length, Result, Ok, refl, sym, subst, ◌∙◌, arith}
 use Rattle.msp_file.specs.declared.draft.Draft.{Draft}
 use Rattle.msp_file.specs.declared.fault.FileFault.{FileFault}
-use Rattle.msp_file.specs.Reading.{Place, arcs_at, jobs_at}
+use Rattle.msp_file.specs.Reading.{Place}
 use Rattle.msp_file.specs.Steps.{Fails}
 
 -- What is left gives the answer of the whole.

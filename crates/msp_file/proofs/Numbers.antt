@@ -1,5 +1,5 @@
 -- The sizes of spelled numbers.
-use Rattle.std.proofs.Common.{◌≡◌, ◌≢◌, ℕ, zero, suc, ◌+◌, ◌-◌, ◌*◌, ◌^◌, ◌<◌, ◌≤◌, min, Bool, true, false, not, ◌&&◌, ◌==◌, eqb, List, [], ◌∷◌, length, take, get_or, All, Option, Some, None, ℤ, pos, negsuc, neg_ℤ, refl, sym, ap, subst, ◌∙◌, arith, add-one}
+use Rattle.std.proofs.Common.{◌≡◌, ◌≢◌, ℕ, zero, suc, ◌+◌, ◌-◌, ◌*◌, ◌^◌, ◌<◌, ◌≤◌, min, Bool, true, false, not, ◌&&◌, ◌==◌, eqb, List, [], ◌∷◌, length, take, get_or, Some, pos, neg_ℤ, refl, sym, ap, ◌∙◌, arith, add-one}
 use Rattle.std.specs.Char.{is_ascii_digit, digit_value}
 use Rattle.std.specs.List.{list_all}
 use Rattle.std.specs.Int.{IsInRange}
@@ -9,7 +9,6 @@ use Rattle.std.proofs.lemmas.Str.{digit_value_digit}
 use Rattle.std.proofs.lemmas.Str.Parse.{tells_all_ascii_digits}
 use Rattle.std.specs.Str.Parse.{digits_value, digits_value_after}
 use Rattle.std.proofs.lemmas.Int.Digits.{digits_value_more}
-use Rattle.msp_file.specs.declared.number.Spelled.{Spelled}
 use Rattle.msp_file.specs.Numbers.{is_positive, negative_of, capped}
 
 cap_more : (v d m s M : ℕ) → m ≡ min (min v M * 10) M → s ≡ min (m + d) M → s ≡ min (v * 10 + d) M

@@ -1,7 +1,7 @@
 -- Printed fields and lines.
 use Rattle.std.proofs.Common.{◌≡◌, ℕ, List, [], ◌∷◌, ◌++◌, Result, Ok, Err, refl, sym, ap, ◌∙◌, append_assoc, codes, suc, ◌+◌, ◌<◌, length, drop, get_or, add-one, drop-cons}
 use Rattle.std.specs.Prelude.{OnOk}
-use Rattle.std.specs.List.{flat_map, join_with_byte}
+use Rattle.std.specs.List.{join_with_byte}
 use Rattle.std.proofs.lemmas.List.{append-nil}
 use Rattle.std.proofs.lemmas.List.Concat.{flat_map-append}
 use Rattle.msp_file.specs.InstanceText.{line_text, job_text, jobs_text}

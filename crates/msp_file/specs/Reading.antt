@@ -1,5 +1,5 @@
 -- How the text of an instance is read: line by line, and in a line from left to right, up to the first fault.
-use Rattle.std.specs.Prelude.{◌≡◌, ℕ, zero, suc, ◌+◌, ◌-◌, ◌*◌, ◌/◌, ◌%◌, ◌^◌, Bool, true, false, ◌&&◌, ◌||◌, not, ◌==◌, nat_le, nat_lt, if◌then◌else◌, List, [], ◌∷◌, ◌++◌, length, take, drop, map, fold, Option, Some, None, Result, Ok, Err, ok_or, position, codes, bytes_eq, ℤ, pos, negsuc, unsigned_abs}
+use Rattle.std.specs.Prelude.{ℕ, zero, suc, ◌+◌, ◌-◌, ◌*◌, ◌/◌, ◌%◌, ◌^◌, Bool, true, false, ◌&&◌, not, ◌==◌, nat_le, nat_lt, if◌then◌else◌, List, [], ◌∷◌, ◌++◌, length, take, drop, map, Some, None, Result, Ok, Err, ok_or, position, codes, bytes_eq, ℤ, pos, negsuc, unsigned_abs}
 use Rattle.std.specs.List.{slice_split, list_all, list_any, range_with_len}
 use Rattle.msp_class.specs.Env.{fixed_machines}
 use Rattle.msp_class.specs.Rank.{flag_number}
@@ -14,19 +14,18 @@ use Rattle.msp_instance.specs.declared.Step.{Step}
 use Rattle.msp_instance.specs.declared.Curve.{Curve}
 use Rattle.msp_instance.specs.declared.Job.{Job}
 use Rattle.msp_instance.specs.declared.Arc.{Arc}
-use Rattle.msp_instance.specs.declared.Instance.{Instance}
 use Rattle.msp_instance.specs.Instance.{Kind, identical, uniform, unrelated, open_shop, flow_shop, job_shop, kind_of, no_curve}
 use Rattle.msp_instance.specs.Conditions.{uses_due, uses_weight, most_operations}
 use Rattle.msp_file.specs.declared.fault.What.{What}
 use Rattle.msp_file.specs.declared.fault.What.TheVariants as what
 use Rattle.msp_file.specs.declared.fault.FileFault.{FileFault}
-use Rattle.msp_file.specs.declared.fault.FileFault.TheVariants.{Head, Missing, Cut, Line, Count, Key, Name, Number, Limit, Again, ArcAgain, Unknown, After, Memory}
+use Rattle.msp_file.specs.declared.fault.FileFault.TheVariants.{Head, Missing, Cut, Line, Count, Key, Name, Number, Limit, Again, ArcAgain, Unknown, After}
 use Rattle.msp_file.specs.declared.job.Keys.{Keys}
 use Rattle.msp_file.specs.declared.draft.Draft.{Draft}
 use Rattle.msp_file.specs.declared.filed.Filed.{Filed}
 use Rattle.msp_file.specs.JobName.{is_name_byte}
 use Rattle.msp_file.specs.Numbers.{number_of}
-use Rattle.msp_file.specs.InstanceText.{has_times, has_one_time, has_machine_times, has_route, has_speeds, has_curve, has_order, has_time_key, has_times_line}
+use Rattle.msp_file.specs.InstanceText.{has_one_time, has_route, has_speeds, has_curve, has_order, has_time_key, has_times_line}
 
 -- the next step, or the fault
 infixl 10 ◌>>=◌

@@ -15,12 +15,12 @@ mod tests;
 
 pub use membership::{ClassFault, check};
 use msp_class::{Class, List};
-pub use speeds::has_small_multiple;
 pub use ranges::{
     GREATEST, GREATEST_MULTIPLE, GREATEST_SPEED, MOST_ARCS, MOST_JOBS, MOST_MACHINES,
     MOST_OPERATIONS, MOST_STEPS,
 };
 pub use sequence::{OrderFault, forward};
+pub use speeds::has_small_multiple;
 
 /// An operation that a job needs: its machine, from 0, and its processing time.
 ///

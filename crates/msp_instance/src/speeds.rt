@@ -58,7 +58,7 @@ pub(crate) fn has_speeds(env: Env, machines: u32, speeds: &[u64]) -> bool
     }
 }
 
-/// Whether the least common multiple of the speeds is in range.
+/// Whether the least common multiple of the speeds is at most 2^30.
 pub fn has_small_multiple(speeds: &[u64]) -> bool
     requires { All (λ s. (1 ≤ s) × (s ≤ 10 ^ 6)) speeds.now }
     ensures { IsTrue result ↔ HasSmallMultiple speeds.now }

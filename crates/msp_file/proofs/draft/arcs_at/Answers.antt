@@ -1,4 +1,4 @@
-use Rattle.std.proofs.Common.{ℕ, ◌<◌, ◌≤◌, length, arith, ◌∙◌}
+use Rattle.std.proofs.Common.{◌∙◌}
 use Rattle.msp_file.specs.Reading.{arcs_at}
 use Rattle.msp_file.specs.Steps.{place_of}
 use Rattle.msp_file.proofs.Loops.{goes_on, is_done, has_failed}

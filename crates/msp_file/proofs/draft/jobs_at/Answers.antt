@@ -1,4 +1,4 @@
-use Rattle.std.proofs.Common.{refl, subst}
+use Rattle.std.proofs.Common.{subst}
 use Rattle.msp_file.specs.Reading.{jobs_at, arcs_at}
 use Rattle.msp_file.specs.Steps.{place_of, Moves}
 use Rattle.msp_file.proofs.Loops.{goes_on, is_done, has_failed, leads_on}

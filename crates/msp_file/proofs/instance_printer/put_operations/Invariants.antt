@@ -1,6 +1,6 @@
-use Rattle.std.proofs.Common.{◌≡◌, ◌++◌, drop, map, decimal}
+use Rattle.std.proofs.Common.{◌≡◌, ◌++◌, drop}
 use Rattle.std.specs.List.{flat_map}
-use Rattle.msp_file.specs.InstanceText.{operation_fields, step_fields}
+use Rattle.msp_file.specs.InstanceText.{operation_fields}
 use Rattle.msp_file.specs.Printing.{spaced}
 use Rattle.msp_file.proofs.instance_printer.put_operations.Given as goal
 
