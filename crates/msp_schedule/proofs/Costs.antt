@@ -1,5 +1,5 @@
 -- The costs of the jobs, one by one.
-use Rattle.std.proofs.Common.{◌≡◌, ℕ, zero, suc, ◌+◌, ◌*◌, ◌<◌, ◌≤◌, List, [], ◌∷◌, length, get_or, take, fold, ℤ, pos, ◌+ℤ◌, ◌≤ℤ◌, All, refl, sym, ap, ◌∙◌, subst, arith, zero-add, slice_index_or}
+use Rattle.std.proofs.Common.{◌≡◌, ℕ, zero, suc, ◌+◌, ◌*◌, ◌<◌, ◌≤◌, List, [], ◌∷◌, length, get_or, take, fold, ℤ, pos, ◌+ℤ◌, refl, sym, ap, ◌∙◌, subst, arith, zero-add, slice_index_or}
 use Rattle.std.specs.Int.{int_max}
 use Rattle.std.proofs.lemmas.List.Sums.{fold_more}
 use Rattle.std.proofs.lemmas.List.{take_all}

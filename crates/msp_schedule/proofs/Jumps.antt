@@ -1,5 +1,5 @@
 -- What a curve adds in steps is at most all its adds.
-use Rattle.std.proofs.Common.{◌≡◌, ℕ, ◌+◌, ◌≤◌, Bool, true, false, cond, List, [], ◌∷◌, ℤ, pos, ◌*ℤ◌, sum_by, fold, if◌then◌else◌, refl, arith}
+use Rattle.std.proofs.Common.{ℕ, ◌+◌, ◌≤◌, true, false, List, [], ◌∷◌, ℤ, pos, ◌*ℤ◌, sum_by, fold, if◌then◌else◌, arith}
 use Rattle.std.specs.Prelude.{int_lt}
 use Rattle.msp_instance.specs.declared.Step.{Step}
 use Rattle.msp_schedule.specs.Cost.{jump}

@@ -1,5 +1,5 @@
 -- The numbers of an inner instance over a bounded unit are small.
-use Rattle.std.proofs.Common.{◌≡◌, ℕ, zero, suc, ◌+◌, ◌*◌, ◌^◌, ◌<◌, ◌≤◌, Bool, true, false, List, length, ℤ, pos, negsuc, neg_ℤ, ◌+ℤ◌, ◌*ℤ◌, ◌≤ℤ◌, ◌⊎◌, inl, inr, All, sum_by, refl, sym, ap, ◌∙◌, subst, arith, lit≤}
+use Rattle.std.proofs.Common.{◌≡◌, ℕ, suc, ◌+◌, ◌*◌, ◌^◌, ◌≤◌, Bool, true, false, List, length, ℤ, pos, negsuc, ◌+ℤ◌, ◌*ℤ◌, ◌≤ℤ◌, ◌⊎◌, inl, inr, All, sum_by, refl, sym, subst, arith, lit≤}
 use Rattle.std.proofs.lemmas.Int.{ints}
 use Rattle.std.proofs.lemmas.Nat.{mul-le}
 use Rattle.msp_class.specs.declared.class.Crit.{Crit}
@@ -13,7 +13,7 @@ use Rattle.msp_instance.specs.declared.Instance.{Instance}
 use Rattle.msp_instance.specs.Instance.{Kind, identical, uniform, unrelated, open_shop, flow_shop, job_shop, kind_of, no_curve}
 use Rattle.msp_instance.specs.Conditions.{LiesWithin, Limits, HasDue, HasWeight, IsCurve, HasCurve, IsJobOf, MeetsConditions, Inner, InClass, uses_due, uses_weight, inner_limits, text_limits}
 use Rattle.msp_schedule.specs.declared.Schedule.{Schedule}
-use Rattle.msp_schedule.specs.Within.{HasSmallCost, Within, IsUnit}
+use Rattle.msp_schedule.specs.Within.{HasSmallCost, Within}
 
 -- a product of a number up to u and one within D
 pub product_within : (n : ℕ) (x : ℤ) (u D k : ℕ) → n ≤ u → LiesWithin D x → u * D ≤ k → LiesWithin k (pos n *ℤ x)

@@ -1,5 +1,5 @@
 -- The cost of a schedule from the ends of its jobs, at the numbers as the code passes them.
-use Rattle.std.proofs.Common.{◌≡◌, ℕ, ◌+◌, ◌<◌, ◌≤◌, List, length, ℤ, pos, ◌*ℤ◌, All, slice_index_or, refl, sym, ap, ◌∙◌, subst, arith}
+use Rattle.std.proofs.Common.{◌≡◌, ℕ, ◌<◌, ◌≤◌, List, length, ℤ, pos, ◌*ℤ◌, All, slice_index_or, sym, ap, ◌∙◌, subst, arith}
 use Rattle.msp_instance.specs.declared.Instance.{Instance}
 use Rattle.msp_instance.specs.declared.Job.{Job}
 use Rattle.msp_schedule.specs.declared.Piece.{Piece}

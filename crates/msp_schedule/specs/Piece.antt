@@ -1,5 +1,5 @@
 -- How the pieces of a schedule are read.
-use Rattle.std.specs.Prelude.{◌≡◌, ℕ, ◌⊎◌, ℤ, pos, ◌-ℤ◌, ◌≤ℤ◌, List, filter, ◌==◌, ◌&&◌}
+use Rattle.std.specs.Prelude.{ℕ, ◌⊎◌, ℤ, ◌-ℤ◌, ◌≤ℤ◌, List, filter, ◌==◌, ◌&&◌}
 use Rattle.msp_schedule.specs.declared.Piece.{Piece}
 use Rattle.msp_schedule.specs.declared.Schedule.{Schedule}
 

@@ -1,5 +1,5 @@
 -- The form in which a schedule is reported.
-use Rattle.std.specs.Prelude.{◌≡◌, ℕ, ◌≤◌, ◌⊎◌, ℤ, ◌<ℤ◌, All, AllPairs, unsigned_abs}
+use Rattle.std.specs.Prelude.{◌≡◌, ℕ, ◌≤◌, ◌⊎◌, ◌<ℤ◌, All, AllPairs, unsigned_abs}
 use Prim.Native.Nat.{◌∣◌}
 use Rattle.msp_schedule.specs.declared.Piece.{Piece}
 use Rattle.msp_schedule.specs.declared.Schedule.{Schedule}

@@ -1,6 +1,5 @@
 use Rattle.std.proofs.Common.{refl, inl, inr, lit<, arith}
 use Rattle.std.proofs.lemmas.Int.{ints}
-use Rattle.msp_instance.specs.Instance.{no_need}
 use Rattle.msp_schedule.specs.Examples.{piece}
 use Rattle.msp_schedule.proofs.definitions.each_broken_condition_is_refused.Goals as goal
 

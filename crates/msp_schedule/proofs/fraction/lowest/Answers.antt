@@ -1,4 +1,4 @@
-use Rattle.std.proofs.Common.{◌≡◌, ℕ, ◌/◌, ◌<◌, ◌≤◌, refl, ap, ◌∙◌, sym, arith, rules, pos, neg_ℤ, ℤ, ◌≤ℤ◌, ◌<ℤ◌, ◌*ℤ◌, unsigned_abs, subst, to_z, of_z, FitsSigned}
+use Rattle.std.proofs.Common.{◌≡◌, ℕ, ◌/◌, ap, ◌∙◌, sym, arith, rules, pos, neg_ℤ, ℤ, ◌≤ℤ◌, ◌<ℤ◌, ◌*ℤ◌, unsigned_abs, subst, to_z, of_z, FitsSigned}
 use Rattle.std.specs.Int.{IsGcd, w128}
 use Rattle.std.proofs.lemmas.Int.{ints, to_z-of_z}
 use Rattle.msp_schedule.proofs.Reduced.{Divides, Divides-same, Divides-lowest, Divides-positive}

@@ -1,4 +1,4 @@
-use Rattle.std.proofs.Common.{◌≡◌, ◌≤◌, ℕ, ℤ, pos, ◌+ℤ◌, ◌*ℤ◌, sum_by, ap, ◌∙◌, sym, subst, arith, rules, to_z, of_z, FitsSigned}
+use Rattle.std.proofs.Common.{◌≡◌, ◌≤◌, ℕ, ℤ, pos, ◌+ℤ◌, ◌*ℤ◌, sum_by, ap, ◌∙◌, sym, subst, arith, rules, to_z, of_z}
 use Rattle.std.proofs.lemmas.Int.{ints, to_z-of_z}
 use Rattle.std.specs.Int.{w64, w128}
 use Rattle.msp_instance.specs.declared.Curve.{Curve}

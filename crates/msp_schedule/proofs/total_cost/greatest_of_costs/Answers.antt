@@ -1,5 +1,5 @@
-use Rattle.std.proofs.Common.{◌≡◌, ◌∙◌, length, ap, arith, rules, sym}
-use Rattle.std.proofs.lemmas.Int.{ints, to_z-of_z}
+use Rattle.std.proofs.Common.{arith, rules}
+use Rattle.std.proofs.lemmas.Int.{to_z-of_z}
 use Rattle.std.specs.Int.{w128}
 use Rattle.msp_schedule.proofs.Costs.{ReachesTo-first, ReachesTo-step, ReachesTo-all, passed_moment, passed_max}
 use Rattle.msp_schedule.proofs.total_cost.greatest_of_costs.Goals as goal
