@@ -246,7 +246,11 @@ fn labels_of_no_results(rt: HostRuntime) -> Result<(), Fail> {
     )?;
     assert_eq!(rt; seen.status, 0);
     assert_eq!(rt; seen.out.iter().filter(|b| **b == b'\n').count(), 6481);
-    assert!(rt; seen.out.starts_with(b"1||Cmax open\n"));
+    assert!(rt;
+        seen.out.starts_with(
+            b"1||Cmax open\n1||Lmax open\n1||fmax open\n1||sumC open\n1||sumwC open\n1||sumU open\n1||sumwU open\n1||sumT open\n1||sumwT open\n1|p=1|Cmax open\n"
+        )
+    );
     assert!(rt; seen.out.ends_with(b"\nJ|pmtn,prec,r,p=1|sumwT open\nend\n"));
     assert!(rt;
         gives(
