@@ -1,5 +1,4 @@
 mod NameLists
-mod Numbers
 mod Fields
 mod Pairs
 mod Loops
@@ -7,4 +6,3 @@ mod Multiples
 mod LineFaults
 mod AnswerLemmas
 mod PrintLemmas
-mod NumberTexts

@@ -14,7 +14,7 @@ use Rattle.msp_file.specs.declared.fault.What.{What}
 use Rattle.msp_file.specs.declared.fault.FileFault.{FileFault}
 use Rattle.msp_file.specs.declared.fault.FileFault.TheVariants.{Class as ClassBroken, Cycle, Memory, Missing, Cut}
 use Rattle.msp_file.specs.declared.draft.Draft.{Draft}
-use Rattle.msp_file.specs.Numbers.{number_of}
+use Rattle.msp_text.specs.Numbers.{number_of}
 use Rattle.msp_file.specs.InstanceText.{has_order}
 use Rattle.msp_file.specs.Reading.{first_of, others_of, ◌>>=◌, provided, Place, line_at, fields_of, worded_at, natural_in, natural_at, integer_at, job_name_at, known_at, keyed_at, natural_key_at, integer_key_at, keys_at, job_line_at, with_need, times_at, times_line_at, machine_at, timed_route_at, unit_route_at, operations_at, route_line_at, needs_at, with_step, steps_at, curve_fields_at, curve_line_at, curve_at, job_at_line, arc_line_at, end_at, arcs_at, jobs_at, version_at, class_in, spelled_class, class_at, machines_line_at, machines_at, speeds_in, speeds_line_at, speeds_at, front_at, filed_at}
 

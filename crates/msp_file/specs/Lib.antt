@@ -1,6 +1,5 @@
 pub mod JobName
 pub mod ScheduleText
-pub mod Numbers
 pub mod InstanceText
 pub mod Reading
 pub mod Steps

@@ -24,7 +24,7 @@ use Rattle.msp_file.specs.declared.job.Keys.{Keys}
 use Rattle.msp_file.specs.declared.draft.Draft.{Draft}
 use Rattle.msp_file.specs.declared.filed.Filed.{Filed}
 use Rattle.msp_file.specs.JobName.{is_name_byte}
-use Rattle.msp_file.specs.Numbers.{number_of}
+use Rattle.msp_text.specs.Numbers.{number_of}
 use Rattle.msp_file.specs.InstanceText.{has_one_time, has_route, has_speeds, has_curve, has_order, has_time_key, has_times_line}
 
 -- the next step, or the fault

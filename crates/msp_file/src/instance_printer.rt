@@ -13,10 +13,11 @@ use crate::head::has_speeds;
 use crate::job::{has_time_key, uses_due, uses_weight};
 use crate::names::Names;
 use crate::operations::{has_route, has_times_line};
-use crate::print::{put, put_integer, put_name, put_number};
+use crate::print::put_name;
 use msp_class::{Class, Crit, Env, NoMemory, Times, fixed_machines};
 use msp_instance::{Arc, Curve, Instance, Job, Need, Step};
 use msp_name::print;
+use msp_text::{put, put_integer, put_number};
 use std::alloc::Global;
 
 fn put_field(out: &mut Vec<u8>, field: &[u8]) -> Result<(), NoMemory>

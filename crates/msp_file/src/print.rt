@@ -4,34 +4,10 @@ ghost use Rattle.msp_schedule.specs.Fraction.{IsLowest};
 ghost use Rattle.msp_file.specs.ScheduleText.{line_feed, space, name_at, fraction_text, piece_line, piece_lines, cost_line, unit_line, schedule_text, IsStated};
 
 use crate::names::Names;
-use itoa::Buffer;
 use msp_class::NoMemory;
 use msp_schedule::{Frac, Piece, Schedule, Solution};
+use msp_text::{put, put_integer, put_number};
 use std::alloc::Global;
-
-/// Puts bytes at the end.
-pub(crate) fn put(out: &mut Vec<u8>, bytes: &[u8]) -> Result<(), NoMemory>
-    ensures { OnOk result (out.new.items ≡ out.old.items ++ bytes.now) }
-{
-    match out.extend_from_slice(bytes) {
-        Ok(()) => Ok(()),
-        Err(_) => Err(NoMemory),
-    }
-}
-
-pub(crate) fn put_number(out: &mut Vec<u8>, number: u64) -> Result<(), NoMemory>
-    ensures { OnOk result (out.new.items ≡ out.old.items ++ decimal number) }
-{
-    let mut buffer = Buffer::new();
-    put(out, buffer.format(number).as_bytes())
-}
-
-pub(crate) fn put_integer(out: &mut Vec<u8>, number: i128) -> Result<(), NoMemory>
-    ensures { OnOk result (out.new.items ≡ out.old.items ++ signed_decimal number) }
-{
-    let mut buffer = Buffer::new();
-    put(out, buffer.format(number).as_bytes())
-}
 
 /// Puts the name of the job of a number, from 0.
 pub(crate) fn put_name(out: &mut Vec<u8>, names: &Names, job: u32) -> Result<(), NoMemory>

@@ -1,30 +1,13 @@
-ghost use Rattle.std.specs.Prelude.{◌≡◌, ◌++◌, OnOk, IfOk, decimal};
+ghost use Rattle.std.specs.Prelude.{◌≡◌, ◌++◌, OnOk, IfOk};
 ghost use Rattle.msp_name.specs.Names.{name_of};
 ghost use Rattle.msp_top.specs.LabelsText.{label_text, label_line, label_lines, row_line, row_lines, chain_lines, clash_lines, labels_report};
 
-use itoa::Buffer;
 use msp_class::{Class, List, NoMemory};
 use msp_closure::{Labels, Mark, label};
 use msp_name::print;
 use msp_table::{Chain, Row, goes};
+use msp_text::{put, put_number};
 use std::alloc::Global;
-
-/// Puts bytes at the end.
-fn put(out: &mut Vec<u8>, bytes: &[u8]) -> Result<(), NoMemory>
-    ensures { OnOk result (out.new.items ≡ out.old.items ++ bytes.now) }
-{
-    match out.extend_from_slice(bytes) {
-        Ok(()) => Ok(()),
-        Err(_) => Err(NoMemory),
-    }
-}
-
-fn put_number(out: &mut Vec<u8>, number: u8) -> Result<(), NoMemory>
-    ensures { OnOk result (out.new.items ≡ out.old.items ++ decimal number) }
-{
-    let mut buffer = Buffer::new();
-    put(out, buffer.format(number).as_bytes())
-}
 
 fn put_name(out: &mut Vec<u8>, c: Class) -> Result<(), NoMemory>
     ensures { OnOk result (out.new.items ≡ out.old.items ++ name_of c) }
@@ -69,7 +52,7 @@ fn put_row(out: &mut Vec<u8>, row: Row, next: Class) -> Result<(), NoMemory>
     ensures { OnOk result (out.new.items ≡ out.old.items ++ row_line row next) }
 {
     put(out, b"row ")?;
-    put_number(out, row.number())?;
+    put_number(out, u64::from(row.number()))?;
     put(out, b" ")?;
     put_name(out, next)?;
     put(out, b"\n")

@@ -6,6 +6,7 @@ ghost use Rattle.msp_top.specs.Report.{solve_report};
 use msp_class::NoMemory;
 use msp_file::{Names, print_schedule};
 use msp_schedule::Solution;
+use msp_text::put;
 use std::alloc::Global;
 
 /// The report of `solve` for a solution with its jobs' names.
@@ -16,14 +17,7 @@ pub fn solve_text(alloc: Global, names: &Names, solution: &Solution) -> Result<V
 {
     let schedule = print_schedule(alloc, names, solution)?;
     let mut text = Vec::new(alloc);
-    if text
-        .extend_from_slice(b"start 1||sumwC\nsolver smith\n")
-        .is_err()
-    {
-        return Err(NoMemory);
-    }
-    if text.extend_from_slice(&schedule).is_err() {
-        return Err(NoMemory);
-    }
+    put(&mut text, b"start 1||sumwC\nsolver smith\n")?;
+    put(&mut text, &schedule)?;
     Ok(text)
 }

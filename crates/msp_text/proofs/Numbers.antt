@@ -9,7 +9,7 @@ use Rattle.std.proofs.lemmas.Str.{digit_value_digit}
 use Rattle.std.proofs.lemmas.Str.Parse.{tells_all_ascii_digits}
 use Rattle.std.specs.Str.Parse.{digits_value, digits_value_after}
 use Rattle.std.proofs.lemmas.Int.Digits.{digits_value_more}
-use Rattle.msp_file.specs.Numbers.{is_positive, negative_of, capped}
+use Rattle.msp_text.specs.Numbers.{is_positive, negative_of, capped}
 
 cap_more : (v d m s M : ℕ) → m ≡ min (min v M * 10) M → s ≡ min (m + d) M → s ≡ min (v * 10 + d) M
 cap_more v d m s M e f = omega arith

@@ -1,6 +1,6 @@
 use Rattle.std.proofs.Common.{◌≡◌, ◌-◌, ◌^◌, min, take}
 use Rattle.std.specs.Str.Parse.{digits_value}
-use Rattle.msp_file.proofs.number.size_of.Given as goal
+use Rattle.msp_text.proofs.number.size_of.Given as goal
 
 abbrev pub invariant-loop-byte : goal.invariant-loop-byte
 invariant-loop-byte l = l.size ≡ min (digits_value 10 (take l.byte-index l.digits)) (2 ^ 128 - 1)

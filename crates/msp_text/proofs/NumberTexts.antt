@@ -4,7 +4,7 @@ use Rattle.std.specs.Char.{is_ascii_digit}
 use Rattle.std.proofs.lemmas.Bool.{eqb-true}
 use Rattle.std.proofs.lemmas.List.Folds.{list_all-append}
 use Rattle.std.proofs.lemmas.Fmt.{decimal_by_steps_wide, decimal_is_IsNumeral_wide}
-use Rattle.msp_file.specs.Numbers.{is_natural, is_positive, natural_of, negative_of}
+use Rattle.msp_text.specs.Numbers.{is_natural, is_positive, natural_of, negative_of}
 
 -- the text of a number: what it begins with
 record IsSpelling (n : ℕ) (ds : List ℕ) : Type 0 where

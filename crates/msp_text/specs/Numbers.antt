@@ -3,7 +3,7 @@ use Rattle.std.specs.Prelude.{ℕ, ◌+◌, ◌-◌, ◌^◌, min, negsuc, Bool,
 use Rattle.std.specs.Char.{is_ascii_digit}
 use Rattle.std.specs.List.{list_all}
 use Rattle.std.specs.Str.Parse.{digits_value}
-use Rattle.msp_file.specs.declared.number.Spelled.{Spelled}
+use Rattle.msp_text.specs.declared.number.Spelled.{Spelled}
 
 -- The text is that of a number that is not negative.
 abbrev pub is_natural : List ℕ → Bool

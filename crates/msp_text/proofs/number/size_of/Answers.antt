@@ -1,5 +1,5 @@
-use Rattle.msp_file.proofs.Numbers.{size_more}
-use Rattle.msp_file.proofs.number.size_of.Goals as goal
+use Rattle.msp_text.proofs.Numbers.{size_more}
+use Rattle.msp_text.proofs.number.size_of.Goals as goal
 
 pub loop-byte-preserved : goal.loop-byte-preserved
 loop-byte-preserved c =
