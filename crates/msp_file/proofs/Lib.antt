@@ -8,3 +8,8 @@ mod LineFaults
 mod AnswerLemmas
 mod PrintLemmas
 mod NumberTexts
+mod LineLaws
+mod FieldLaws
+mod JobLaws
+mod HeadLaws
+mod TextLaws
