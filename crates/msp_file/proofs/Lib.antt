@@ -8,8 +8,8 @@ mod LineFaults
 mod AnswerLemmas
 mod PrintLemmas
 mod NumberTexts
-mod LineLaws
-mod FieldLaws
+pub mod LineLaws
+pub mod FieldLaws
 mod JobLaws
-mod HeadLaws
+pub mod HeadLaws
 mod TextLaws
