@@ -134,11 +134,8 @@ worded_takes word p x e =
     subst (λ y. Takes p (line_text (word ∷ y.0)) y.1) (ok_is (others_of (fields_of line.0), line.1) x t.1)
     (subst (λ v. Takes p (line_text (v ∷ others_of (fields_of line.0))) line.1) is (fields_takes p line l.1))
 
-same_is : (w : List ℕ) → bytes_eq w w ≡ true
-same_is w = grind (arith, bytes_eq-Decides)
-
 pub worded_again : (word : List ℕ) (ws : List (List ℕ)) (at : ℕ) (rest : List ℕ) → AllByRecursion IsField (word ∷ ws) → Gets (worded_at word (record { at = at; rest = line_text (word ∷ ws) ++ rest })) ws rest
 unfolding worded_at
 worded_again word ws at rest h =
     let line = fields_line_again at word ws rest h in
-    (line.0, rw (line.1, fields_again word ws h, same_is word) refl)
+    (line.0, rw (line.1, fields_again word ws h, (bytes_eq-Decides word word).1 refl) refl)
