@@ -6,3 +6,8 @@ mod Multiples
 mod LineFaults
 mod AnswerLemmas
 mod PrintLemmas
+pub mod LineLaws
+pub mod FieldLaws
+mod JobLaws
+pub mod HeadLaws
+mod TextLaws
