@@ -10,6 +10,8 @@ mod PrintLemmas
 mod NumberTexts
 mod LineLaws
 mod FieldLaws
+pub mod KeyLaws
+pub mod NeedLaws
 mod JobLaws
 mod HeadLaws
 mod TextLaws
