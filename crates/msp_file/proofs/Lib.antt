@@ -12,6 +12,7 @@ mod LineLaws
 mod FieldLaws
 pub mod KeyLaws
 pub mod NeedLaws
+pub mod CurveLaws
 mod JobLaws
 mod HeadLaws
 mod TextLaws

@@ -1,5 +1,5 @@
 -- The operations of a job: what is read is what was written, and what was written is read again.
-use Rattle.std.proofs.Common.{◌≡◌, ℕ, zero, suc, ◌+◌, ◌-◌, ◌*◌, ◌/◌, ◌^◌, ◌<◌, ◌≤◌, Bool, true, false, ◌&&◌, not, eqb, ◌==◌, List, [], ◌∷◌, ◌++◌, length, map, get_or, Result, Ok, Err, All, refl, sym, ap, subst, ◌∙◌, codes, decimal, arith}
+use Rattle.std.proofs.Common.{◌≡◌, ℕ, zero, suc, ◌+◌, ◌-◌, ◌*◌, ◌/◌, ◌^◌, ◌<◌, ◌≤◌, Bool, true, false, ◌&&◌, not, eqb, ◌==◌, List, [], ◌∷◌, ◌++◌, length, map, get_or, Result, Ok, Err, All, refl, sym, ap, ap₂, subst, ◌∙◌, codes, decimal, arith}
 use Rattle.std.specs.Prelude.{if◌then◌else◌, slice_index_or, nat_le, EachIndex}
 use Rattle.std.specs.List.{AllByRecursion, list_any, flat_map, range_with_len}
 use Rattle.std.proofs.lemmas.Bool.{eq-eqb, le-leb}
@@ -17,7 +17,7 @@ use Rattle.msp_instance.specs.Conditions.{most_operations, IsSingleNeed, IsNeedP
 use Rattle.msp_file.specs.declared.fault.What.TheVariants as what
 use Rattle.msp_file.specs.declared.fault.FileFault.{FileFault}
 use Rattle.msp_file.specs.declared.fault.FileFault.TheVariants.{Count, Limit}
-use Rattle.msp_file.specs.InstanceText.{line_text, where_wanted, has_times, has_one_time, has_machine_times, has_route, times_fields, operation_fields, route_fields}
+use Rattle.msp_file.specs.InstanceText.{line_text, where_wanted, has_times, has_time_key, has_one_time, has_machine_times, has_route, times_fields, operation_fields, route_fields}
 use Rattle.msp_file.specs.Reading.{◌>>=◌, provided, Place, worded_at, natural_at, with_need, least_time, times_at, times_line_at, machine_at, timed_route_at, unit_route_at, operations_in, fields_in, operations_at, is_route_count, route_line_at, unwritten_needs, needs_at}
 use Rattle.msp_file.proofs.LineLaws.{bind_ok, provided_ok, ok_is, Takes, Gets, IsField, worded_takes, worded_again}
 use Rattle.msp_file.proofs.FieldLaws.{IsKeyed, natural_takes, natural_again, natural_field}
@@ -33,8 +33,14 @@ IsWithin least n = (least ≤ n.time) × (n.time ≤ 10 ^ 9)
 abbrev IsUnit : Need → Type 0
 IsUnit n = n.time ≡ 1
 
-two_parts : {A : Type 0} {x y : A} {xs ys : List A} → x ≡ y → xs ≡ ys → x ∷ xs ≡ y ∷ ys
+abbrev need_of : ℕ → ℕ → Need
+need_of machine time = record { machine = machine; time = time }
+
+pub two_parts : {A : Type 0} {x y : A} {xs ys : List A} → x ≡ y → xs ≡ ys → x ∷ xs ≡ y ∷ ys
 two_parts e f = cc
+
+need_is : (n : Need) (machine time : ℕ) → n.machine ≡ machine → n.time ≡ time → need_of machine time ≡ n
+need_is n machine time e f = sym (ap₂ need_of e f)
 
 -- ---- times on the machines in order
 
@@ -78,7 +84,7 @@ decimals_fields : {A : Type 0} (f : A → ℕ) (xs : List A) → All (λ x. f x 
 decimals_fields f [] h = tt
 decimals_fields f (x ∷ xs) h = (natural_field (f x) (All-head (λ y. f y ≤ 10 ^ 9) x xs h), decimals_fields f xs (All-tail (λ y. f y ≤ 10 ^ 9) x xs h))
 
-word_field : (letters : List ℕ) → list_any (λ x. x == 32) letters ≡ false → list_any (λ x. x == 10) letters ≡ false → IsField letters
+pub word_field : (letters : List ℕ) → list_any (λ x. x == 32) letters ≡ false → list_any (λ x. x == 10) letters ≡ false → IsField letters
 word_field letters s l = record { no_space = s; no_line_feed = l }
 
 pub times_line_again : (k : Kind) (machines at : ℕ) (needs : List Need) (rest : List ℕ) → IsNeedPerMachine machines needs → HasTimes (least_time k) (10 ^ 9) needs → Gets (times_line_at k machines (record { at = at; rest = line_text (times_fields needs) ++ rest })) needs rest
@@ -238,5 +244,99 @@ pub record AreReadNeeds (t : Times) (k : Kind) (time : ℕ) (p : Place) (needs :
   pub times : HasUnitTimes t needs
   pub keyed : (has_times t && has_one_time k) ≡ true → (slice_index_or needs 0 no_need).time ≡ time
 
-one_read : (t : Times) (k : Kind) (time : ℕ) (p : Place) (x : List Need × Place) → has_machine_times k ≡ false → has_route k ≡ false → HasUnitTimes t (with_need [] 0 time) → Ok {E = FileFault} (with_need [] 0 time, p) ≡ Ok x → AreReadNeeds t k time p x.0 x.1
-one_read t k time p x machine route unit e = subst (λ (y : List Need × Place). AreReadNeeds t k time p y.0 y.1) (ok_is (with_need [] 0 time, p) x e) (record { text = ?; times = unit; keyed = λ h. refl })
+abbrev reads : List Need × Place → Result (List Need × Place) FileFault
+reads x = Ok x
+
+by_text : (t : Times) (k : Kind) (time : ℕ) (p : Place) (x : List Need × Place) (text : List ℕ) → needs_text t k x.0 ≡ text → Takes p text x.1 → HasUnitTimes t x.0
+    → ((has_times t && has_one_time k) ≡ true → (slice_index_or x.0 0 no_need).time ≡ time) → AreReadNeeds t k time p x.0 x.1
+by_text t k time p x text e h unit keyed = record { text = subst (λ w. Takes p w x.1) (sym e) h; times = unit; keyed = keyed }
+
+by_none : (t : Times) (k : Kind) (time : ℕ) (p : Place) (needs : List Need) (x : List Need × Place) → needs_text t k needs ≡ [] → HasUnitTimes t needs
+    → ((has_times t && has_one_time k) ≡ true → (slice_index_or needs 0 no_need).time ≡ time) → reads (needs, p) ≡ Ok x → AreReadNeeds t k time p x.0 x.1
+by_none t k time p needs x e unit keyed h = subst (λ (y : List Need × Place). AreReadNeeds t k time p y.0 y.1) (ok_is (needs, p) x h) (by_text t k time p (needs, p) [] e refl unit keyed)
+
+-- in a class of general times there is nothing to show
+by_times : (c : Class) (k : Kind) (machines time : ℕ) (p : Place) (x : List Need × Place) → needs_text General k x.0 ≡ line_text (times_fields x.0) → (has_one_time k ≡ true → ⊥) → times_line_at k machines p ≡ Ok x → AreReadNeeds General k time p x.0 x.1
+by_times c k machines time p x e many h = by_text General k time p x (line_text (times_fields x.0)) e (times_line_takes k machines p x h) tt (λ one. absurd (many one))
+
+by_route : (c : Class) (t : Times) (machines time : ℕ) (p : Place) (x : List Need × Place) → machines ≤ 32 → c.times ≡ t → needs_text t job_shop x.0 ≡ line_text (route_fields t x.0) → ((has_times t && false) ≡ true → ⊥) → route_line_at c machines p ≡ Ok x → AreReadNeeds t job_shop time p x.0 x.1
+by_route c t machines time p x few same e many h =
+    let r = subst (λ u. Takes p (line_text (route_fields u x.0)) x.1 × HasUnitTimes u x.0) same (route_line_takes c machines p x few h) in
+    by_text t job_shop time p x (line_text (route_fields t x.0)) e r.0 r.1 (λ one. absurd (many one))
+
+-- one operation of time 1 on each machine
+abbrev unit_on : ℕ → Need
+unit_on q = record { machine = q; time = 1 }
+
+abbrev units : ℕ → List Need
+units machines = map unit_on (range_with_len 0 machines)
+
+units_take : (machines : ℕ) → All IsUnit (units machines)
+units_take machines = All-map IsUnit unit_on (range_with_len 0 machines) (λ k d l. refl)
+
+units_are : (machines : ℕ) (needs : List Need) → IsNeedPerMachine machines needs → All IsUnit needs → units machines ≡ needs
+units_are machines needs each unit =
+    let long = length-map-range_with_len unit_on 0 machines in
+    ext_get_or no_need (units machines) needs (long ∙ sym each.0) (λ k l. get_or-map-range_with_len unit_on 0 machines k k no_need (omega (arith, long)) (omega arith) ∙ same k (omega (arith, long, each.0)))
+  where
+    same : (k : ℕ) → k < length needs → unit_on k ≡ get_or needs k no_need
+    same k l = need_is (get_or needs k no_need) k 1 (each.1 k l) (unit k no_need l)
+
+needs_by_takes : (c : Class) (t : Times) (k : Kind) (machines time : ℕ) (p : Place) (x : List Need × Place) → machines ≤ 32 → c.times ≡ t → IsKeyed (has_times t && has_one_time k) 1 (10 ^ 9) time → needs_by c t k machines time p ≡ Ok x → AreReadNeeds t k time p x.0 x.1
+needs_by_takes c General identical machines time p x few same h e = by_none General identical time p (with_need [] 0 time) x refl tt (λ k. refl) e
+needs_by_takes c General uniform machines time p x few same h e = by_none General uniform time p (with_need [] 0 time) x refl tt (λ k. refl) e
+needs_by_takes c General unrelated machines time p x few same h e = by_times c unrelated machines time p x (append-nil _) (λ k. absurd cc) e
+needs_by_takes c General open_shop machines time p x few same h e = by_times c open_shop machines time p x (append-nil _) (λ k. absurd cc) e
+needs_by_takes c General flow_shop machines time p x few same h e = by_times c flow_shop machines time p x (append-nil _) (λ k. absurd cc) e
+needs_by_takes c General job_shop machines time p x few same h e = by_route c General machines time p x few same refl (λ k. absurd cc) e
+needs_by_takes c UnitTimes identical machines time p x few same h e = by_none UnitTimes identical time p (with_need [] 0 time) x refl (All-cons IsUnit _ [] h (All-nil IsUnit)) (λ k. refl) e
+needs_by_takes c UnitTimes uniform machines time p x few same h e = by_none UnitTimes uniform time p (with_need [] 0 time) x refl (All-cons IsUnit _ [] h (All-nil IsUnit)) (λ k. refl) e
+needs_by_takes c UnitTimes unrelated machines time p x few same h e = by_none UnitTimes unrelated time p (units machines) x refl (units_take machines) (λ k. absurd cc) e
+needs_by_takes c UnitTimes open_shop machines time p x few same h e = by_none UnitTimes open_shop time p (units machines) x refl (units_take machines) (λ k. absurd cc) e
+needs_by_takes c UnitTimes flow_shop machines time p x few same h e = by_none UnitTimes flow_shop time p (units machines) x refl (units_take machines) (λ k. absurd cc) e
+needs_by_takes c UnitTimes job_shop machines time p x few same h e = by_route c UnitTimes machines time p x few same refl (λ k. absurd cc) e
+
+pub needs_takes : (c : Class) (machines time : ℕ) (p : Place) (x : List Need × Place) → machines ≤ 32 → IsKeyed (has_time_key c) 1 (10 ^ 9) time → needs_at c machines time p ≡ Ok x → AreReadNeeds c.times (kind_of c.env) time p x.0 x.1
+unfolding needs_at
+needs_takes c machines time p x few h e = needs_by_takes c c.times (kind_of c.env) machines time p x few refl h e
+
+-- the one operation of a job
+one_again : (time at : ℕ) (needs : List Need) (rest : List ℕ) → IsSingleNeed needs → ((n : Need) → needs ≡ n ∷ [] → time ≡ n.time) → Gets (reads (with_need [] 0 time, record { at = at; rest = rest })) needs rest
+one_again time at [] rest single e = absurd (omega (arith, single.0))
+one_again time at (n ∷ []) rest single e =
+    let here : n.machine ≡ 0 = single.1 0 n (omega arith) in
+    let same : with_need [] 0 time ≡ n ∷ [] = ap (λ m. m ∷ []) (need_is n 0 time here (sym (e n refl))) in
+    (at, ap (λ xs. reads (xs, record { at = at; rest = rest })) same)
+one_again time at (n ∷ m ∷ more) rest single e = absurd (omega (arith, single.0))
+
+-- a place of which the text is known otherwise
+moved : {A : Type 0} (read : Place → Result (A × Place) FileFault) (at : ℕ) (x : A) (a b rest : List ℕ) → a ≡ b → Gets (read (record { at = at; rest = b ++ rest })) x rest → Gets (read (record { at = at; rest = a ++ rest })) x rest
+moved read at x a b rest e h = rw e h
+
+times_by_again : (c : Class) (k : Kind) (machines at : ℕ) (needs : List Need) (rest : List ℕ) → needs_text General k needs ≡ line_text (times_fields needs) → IsNeedPerMachine machines needs → HasTimes (least_time k) (10 ^ 9) needs → Gets (times_line_at k machines (record { at = at; rest = needs_text General k needs ++ rest })) needs rest
+times_by_again c k machines at needs rest e each h = moved (times_line_at k machines) at needs _ _ rest e (times_line_again k machines at needs rest each h)
+
+route_by_again : (c : Class) (t : Times) (machines at : ℕ) (needs : List Need) (rest : List ℕ) → machines ≤ 32 → c.times ≡ t → needs_text t job_shop needs ≡ line_text (route_fields t needs) → IsRoute (most_operations c.env) machines needs → HasTimes 1 (10 ^ 9) needs → HasUnitTimes t needs
+    → Gets (route_line_at c machines (record { at = at; rest = needs_text t job_shop needs ++ rest })) needs rest
+route_by_again c t machines at needs rest few same e route h unit =
+    moved (route_line_at c machines) at needs _ _ rest (e ∙ ap (λ u. line_text (route_fields u needs)) (sym same)) (route_line_again c machines at needs rest few route h (subst (λ u. HasUnitTimes u needs) (sym same) unit))
+
+needs_by_again : (c : Class) (t : Times) (k : Kind) (machines at : ℕ) (needs : List Need) (rest : List ℕ) → machines ≤ 32 → c.times ≡ t → HasNeeds k c.env machines (10 ^ 9) needs → HasUnitTimes t needs
+    → Gets (needs_by c t k machines (time_of (has_times t && has_one_time k) needs) (record { at = at; rest = needs_text t k needs ++ rest })) needs rest
+needs_by_again c General identical machines at needs rest few same h unit = one_again _ at needs rest h.0 (λ n e. ap (λ ns. (slice_index_or ns 0 no_need).time) e)
+needs_by_again c General uniform machines at needs rest few same h unit = one_again _ at needs rest h.0 (λ n e. ap (λ ns. (slice_index_or ns 0 no_need).time) e)
+needs_by_again c General unrelated machines at needs rest few same h unit = times_by_again c unrelated machines at needs rest (append-nil _) h.0 h.1
+needs_by_again c General open_shop machines at needs rest few same h unit = times_by_again c open_shop machines at needs rest (append-nil _) h.0 h.1
+needs_by_again c General flow_shop machines at needs rest few same h unit = times_by_again c flow_shop machines at needs rest (append-nil _) h.0 h.1
+needs_by_again c General job_shop machines at needs rest few same h unit = route_by_again c General machines at needs rest few same refl h.0 h.1 unit
+needs_by_again c UnitTimes identical machines at needs rest few same h unit = one_again 1 at needs rest h.0 (λ n e. sym (All-head IsUnit n [] (subst (All IsUnit) e unit)))
+needs_by_again c UnitTimes uniform machines at needs rest few same h unit = one_again 1 at needs rest h.0 (λ n e. sym (All-head IsUnit n [] (subst (All IsUnit) e unit)))
+needs_by_again c UnitTimes unrelated machines at needs rest few same h unit = (at, ap (λ xs. reads (xs, record { at = at; rest = rest })) (units_are machines needs h.0 unit))
+needs_by_again c UnitTimes open_shop machines at needs rest few same h unit = (at, ap (λ xs. reads (xs, record { at = at; rest = rest })) (units_are machines needs h.0 unit))
+needs_by_again c UnitTimes flow_shop machines at needs rest few same h unit = (at, ap (λ xs. reads (xs, record { at = at; rest = rest })) (units_are machines needs h.0 unit))
+needs_by_again c UnitTimes job_shop machines at needs rest few same h unit = route_by_again c UnitTimes machines at needs rest few same refl h.0 h.1 unit
+
+pub needs_again : (c : Class) (machines at : ℕ) (needs : List Need) (rest : List ℕ) → machines ≤ 32 → HasNeeds (kind_of c.env) c.env machines (10 ^ 9) needs → HasUnitTimes c.times needs
+    → Gets (needs_at c machines (time_of (has_time_key c) needs) (record { at = at; rest = needs_text c.times (kind_of c.env) needs ++ rest })) needs rest
+unfolding needs_at
+needs_again c machines at needs rest few h unit = needs_by_again c c.times (kind_of c.env) machines at needs rest few refl h unit
