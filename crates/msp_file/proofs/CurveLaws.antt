@@ -1,6 +1,6 @@
 -- The cost curve of a job: what is read is what was written, and what was written is read again.
-use Rattle.std.proofs.Common.{◌≡◌, ℕ, suc, ◌+◌, ◌-◌, ◌*◌, ◌/◌, ◌^◌, ◌≤◌, Bool, true, false, ◌==◌, List, [], ◌∷◌, ◌++◌, length, Result, Ok, Err, All, refl, sym, ap, subst, ◌∙◌, codes, decimal, arith}
-use Rattle.std.specs.Prelude.{if◌then◌else◌, nat_le, pos}
+use Rattle.std.proofs.Common.{◌≡◌, ℕ, suc, ◌+◌, ◌-◌, ◌*◌, ◌/◌, ◌^◌, ◌≤◌, ◌==◌, List, [], ◌∷◌, ◌++◌, length, Result, Ok, All, refl, sym, ap, subst, ◌∙◌, codes, decimal, arith}
+use Rattle.std.specs.Prelude.{nat_le}
 use Rattle.std.specs.Fmt.{signed_decimal}
 use Rattle.std.specs.List.{AllByRecursion, flat_map}
 use Rattle.std.proofs.lemmas.Bool.{eq-eqb, eqb-true, le-leb, leb-true}
@@ -16,10 +16,10 @@ use Rattle.msp_file.specs.declared.fault.What.TheVariants as what
 use Rattle.msp_file.specs.declared.fault.FileFault.{FileFault}
 use Rattle.msp_file.specs.declared.fault.FileFault.TheVariants.{Count, Limit}
 use Rattle.msp_file.specs.InstanceText.{line_text, where_wanted, has_curve, step_fields, curve_fields}
-use Rattle.msp_file.specs.Reading.{◌>>=◌, provided, first_of, others_of, Place, worded_at, natural_at, integer_at, with_step, steps_at, curve_fields_at, steps_in, curve_line_at, curve_at}
+use Rattle.msp_file.specs.Reading.{Place, worded_at, natural_at, integer_at, steps_at, curve_fields_at, steps_in, curve_line_at, curve_at}
 use Rattle.msp_file.proofs.LineLaws.{bind_ok, provided_ok, ok_is, Takes, Gets, IsField, worded_takes, worded_again}
 use Rattle.msp_file.proofs.FieldLaws.{natural_takes, natural_again, natural_field, integer_takes, integer_again, integer_field}
-use Rattle.msp_file.proofs.KeyLaws.{bind_again, provided_again, limit}
+use Rattle.msp_file.proofs.KeyLaws.{reads, bind_again, provided_again, limit}
 use Rattle.msp_file.proofs.NeedLaws.{two_parts, word_field}
 
 -- A step in range.
@@ -113,12 +113,13 @@ unfolding curve_line_at
 curve_line_again at v rest h =
     let fields : AllByRecursion IsField (curve_fields v) = (word_field (codes "curve") refl refl, (natural_field v.slope h.slope, (integer_field v.base h.base, steps_fields v.steps h.steps))) in
     let line = worded_again (codes "curve") (curve_words v) at rest fields in
-    let counted = length-steps v.steps in
-    (line.0,
-    bind_again _ _ _ _ line.1 (
-    provided_again _ _ _ _ (le-leb _ _ (few (length v.steps) h.few counted)) (
-    provided_again _ _ _ _ (eq-eqb _ _ (even (length v.steps) counted)) (
-    bind_again _ _ _ _ (curve_fields_again at v (record { slope = h.slope; base = h.base; steps = h.steps })) refl))))
+    let counted = length-steps v.steps in (
+      line.0,
+      bind_again _ _ _ _ line.1 (
+          provided_again _ _ _ _ (le-leb _ _ (few (length v.steps) h.few counted)) (
+          provided_again _ _ _ _ (eq-eqb _ _ (even (length v.steps) counted)) (
+          bind_again _ _ _ _ (curve_fields_again at v (record { slope = h.slope; base = h.base; steps = h.steps })) refl))),
+    )
   where
     few : {m : ℕ} (k : ℕ) → k ≤ 16 → m ≡ 2 * k → steps_in (suc (suc m)) ≤ 16
     few {m} k h e = omega arith
@@ -131,9 +132,6 @@ curve_line_again at v rest h =
 -- The line of the curve.
 abbrev pub curve_line : Crit → Curve → List ℕ
 curve_line crit v = where_wanted (has_curve crit) (line_text (curve_fields v))
-
-abbrev reads : Curve × Place → Result (Curve × Place) FileFault
-reads x = Ok x
 
 none_takes : (p : Place) (x : Curve × Place) → reads (no_curve, p) ≡ Ok x → Takes p [] x.1 × (x.0 ≡ no_curve)
 none_takes p x e = subst (λ (y : Curve × Place). Takes p [] y.1 × (y.0 ≡ no_curve)) (ok_is (no_curve, p) x e) (refl, refl)

@@ -1,5 +1,5 @@
 -- The lines of a job: what is read is the text of a job, and the text of a job is read as that job.
-use Rattle.std.proofs.Common.{◌≡◌, ℕ, ◌+◌, ◌^◌, ◌<◌, ◌≤◌, Bool, true, false, ◌&&◌, List, [], ◌∷◌, ◌++◌, length, Result, Ok, Err, Contains, refl, sym, ap, subst, ◌∙◌, codes, arith}
+use Rattle.std.proofs.Common.{◌≡◌, ℕ, ◌+◌, ◌^◌, ◌<◌, ◌≤◌, Bool, true, false, ◌&&◌, List, [], ◌∷◌, ◌++◌, length, Ok, Contains, refl, sym, ap, subst, ◌∙◌, codes, arith}
 use Rattle.std.specs.Prelude.{ℤ, slice_index_or, nat_lt}
 use Rattle.std.specs.List.{AllByRecursion}
 use Rattle.std.proofs.lemmas.Bool.{lt-ltb, ltb-true}
@@ -115,7 +115,7 @@ job_takes c machines d at fields p x bound e =
     let job : Job = job_of a.0.1 b.0.0 v.0.0 in
     let same : a.0.1.time ≡ time_of (has_time_key c) b.0.0 = time_same (has_time_key c) b.0.0 a.0.1.time needs.keyed line.3.time in
     let keys : a.0.1 ≡ keys_of c job = ap (λ t. record a.0.1 { time = t }) same in
-    subst (λ (y : Draft × Place). AddsJob c d fields p y.0 y.1) (ok_is (with_job d a.0.0 job, v.0.1) x v.2) (
+    subst (λ (y : Draft × Place). AddsJob c d fields p y.0 y.1) {x = (with_job d a.0.0 job, v.0.1)} (ok_is _ x v.2) (
     record {
       name = a.0.0;
       job = job;
@@ -143,12 +143,13 @@ job_again i d at next name j rest machines h spelled fresh few =
     let line = ap (λ ws. job_line_at i.class at d.names (name ∷ ws)) (key_fields_are i.class j) ∙ job_line_again i.class at d.names name (keys_of i.class j) spelled fresh (keys_are i j h) in
     let lines : (needs_text i.class.times (kind_of i.class.env) j.needs ++ curve_line i.class.crit j.curve) ++ rest ≡ needs_text i.class.times (kind_of i.class.env) j.needs ++ (curve_line i.class.crit j.curve ++ rest) = append_assoc _ (curve_line i.class.crit j.curve) rest in
     let needs = needs_again i.class i.machines next j.needs (curve_line i.class.crit j.curve ++ rest) machines h.needs h.times in
-    let curve = curve_again i.class.crit needs.0 j.curve rest h.curve in
-    (curve.0,
-    provided_again _ _ _ _ (lt-ltb _ _ few) (
-    bind_again _ _ _ _ line (
-    bind_again _ _ _ _ (ap (λ w. needs_at i.class i.machines (time_of (has_time_key i.class) j.needs) (record { at = next; rest = w })) lines ∙ needs.1) (
-    bind_again _ _ _ _ curve.1 refl))))
+    let curve = curve_again i.class.crit needs.0 j.curve rest h.curve in (
+      curve.0,
+      provided_again _ _ _ _ (lt-ltb _ _ few) (
+          bind_again _ _ _ _ line (
+          bind_again _ _ _ _ (ap (λ w. needs_at i.class i.machines (time_of (has_time_key i.class) j.needs) (record { at = next; rest = w })) lines ∙ needs.1) (
+          bind_again _ _ _ _ curve.1 refl))),
+    )
 
 -- the fields of a job's line can stand in a line
 pub job_line_fields : (i : Instance) (name : List ℕ) (j : Job) → IsJobName name → IsJobOf text_limits i j → AllByRecursion IsField (job_fields i.class name j)

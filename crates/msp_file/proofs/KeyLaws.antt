@@ -1,29 +1,31 @@
 -- The first line of a job: the name and the keys that are read are those that were written, and what was written is read again.
-use Rattle.std.proofs.Common.{◌≡◌, ℕ, suc, ◌+◌, ◌^◌, ◌≤◌, Bool, true, false, not, eqb, ◌==◌, List, [], ◌∷◌, ◌++◌, length, Result, Ok, Err, Contains, bytes_eq, refl, sym, ap, subst, ◌∙◌, decimal, arith}
+use Rattle.std.proofs.Common.{◌≡◌, ℕ, suc, ◌+◌, ◌^◌, ◌≤◌, Bool, true, false, not, ◌==◌, List, [], ◌∷◌, ◌++◌, length, Result, Ok, Contains, bytes_eq, refl, ap, subst, ◌∙◌, decimal, arith}
 use Rattle.std.specs.Prelude.{if◌then◌else◌, slice_index_or, ℤ}
 use Rattle.std.specs.Fmt.{signed_decimal}
 use Rattle.std.specs.List.{AllByRecursion, list_any}
-use Rattle.std.specs.Cmp.Lexicographic.{nat_list_eq_equiv}
 use Rattle.std.proofs.lemmas.Bool.{eqb-true, eq-eqb}
-use Rattle.std.proofs.lemmas.List.{append_assoc, append-nil, length-append, nil_from_length}
+use Rattle.std.proofs.lemmas.List.{append_assoc, append-nil, nil_from_length}
 use Rattle.msp_class.specs.Rank.{flag_number}
 use Rattle.msp_class.specs.declared.class.Class.{Class}
 use Rattle.msp_instance.specs.declared.Need.{Need}
 use Rattle.msp_instance.specs.declared.Job.{Job}
 use Rattle.msp_instance.specs.Instance.{no_need}
-use Rattle.msp_instance.specs.Conditions.{uses_due, uses_weight, LiesWithin}
+use Rattle.msp_instance.specs.Conditions.{uses_due, uses_weight}
 use Rattle.msp_file.specs.declared.fault.What.TheVariants as what
 use Rattle.msp_file.specs.declared.fault.FileFault.{FileFault}
 use Rattle.msp_file.specs.declared.fault.FileFault.TheVariants.{Count, Again}
 use Rattle.msp_file.specs.declared.job.Keys.{Keys}
 use Rattle.msp_file.specs.JobName.{IsJobName}
 use Rattle.msp_file.specs.InstanceText.{where_wanted, has_time_key, time_key, release_key, due_key, weight_key, key_fields}
-use Rattle.msp_file.specs.Reading.{◌>>=◌, provided, first_of, others_of, natural_key_at, integer_key_at, job_name_at, keys_at, count_of_keys, job_line_at}
+use Rattle.msp_file.specs.Reading.{◌>>=◌, provided, natural_key_at, integer_key_at, job_name_at, keys_at, count_of_keys, job_line_at}
 use Rattle.msp_file.proofs.NameLists.{is_among, not_among}
 use Rattle.msp_file.proofs.LineLaws.{bind_ok, provided_ok, ok_is, IsField}
 use Rattle.msp_file.proofs.FieldLaws.{IsKeyed, IsKeyedInteger, natural_field, integer_field, name_takes, name_again, natural_key_takes, natural_key_again, integer_key_takes, integer_key_again}
 
 -- ---- steps that go on
+
+abbrev pub reads : {A : Type 0} → A → Result A FileFault
+reads x = Ok x
 
 pub bind_again : {A B : Type 0} (r : Result A FileFault) (f : A → Result B FileFault) (x : A) (z : Result B FileFault) → r ≡ Ok x → f x ≡ z → (r >>= f) ≡ z
 bind_again r f x z e h = rw e h
@@ -49,6 +51,7 @@ key_words c k more =
     ++ (where_wanted (uses_weight c.crit) ((119 ∷ 61 ∷ decimal k.weight) ∷ [])
     ++ more)))
 
+-- the bound that most readers of numbers are given
 pub limit : 10 ^ 9 ≤ 10 ^ 9
 limit = omega arith
 
@@ -66,10 +69,10 @@ keys_takes c at fields k e =
     let made : Keys = record { time = a.0.0; release = b.0.0; due = d.0.0; weight = w.0.0 } in
     let front = λ (there : Bool) (letter : ℕ) (text : List ℕ) (x : List (List ℕ)). where_wanted there ((letter ∷ 61 ∷ text) ∷ []) ++ x in
     let text : fields ≡ key_words c made w.0.1 =
-        t0.0
-        ∙ ap (front (has_time_key c) 112 (decimal a.0.0)) (t1.0
-        ∙ ap (front c.heads 114 (decimal b.0.0)) (t2.0
-        ∙ ap (front (uses_due c.crit) 100 (signed_decimal d.0.0)) t3.0)) in
+    t0.0
+    ∙ ap (front (has_time_key c) 112 (decimal a.0.0)) (t1.0
+    ∙ ap (front c.heads 114 (decimal b.0.0)) (t2.0
+    ∙ ap (front (uses_due c.crit) 100 (signed_decimal d.0.0)) t3.0)) in
     let both = subst (λ (m : Keys). (fields ≡ key_words c m w.0.1) × AreKeys c m) (ok_is made k w.2) (text, record { time = t0.1; release = t1.1; due = t2.1; weight = t3.1 }) in
     (w.0.1, both.0, both.1)
 

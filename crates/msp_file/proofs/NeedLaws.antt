@@ -1,9 +1,9 @@
 -- The operations of a job: what is read is what was written, and what was written is read again.
-use Rattle.std.proofs.Common.{◌≡◌, ℕ, zero, suc, ◌+◌, ◌-◌, ◌*◌, ◌/◌, ◌^◌, ◌<◌, ◌≤◌, Bool, true, false, ◌&&◌, not, eqb, ◌==◌, List, [], ◌∷◌, ◌++◌, length, map, get_or, Result, Ok, Err, All, refl, sym, ap, ap₂, subst, ◌∙◌, codes, decimal, arith}
+use Rattle.std.proofs.Common.{◌≡◌, ℕ, suc, ◌+◌, ◌-◌, ◌^◌, ◌<◌, ◌≤◌, true, false, ◌&&◌, ◌==◌, List, [], ◌∷◌, ◌++◌, length, map, get_or, Result, Ok, All, refl, sym, ap, ap₂, subst, ◌∙◌, codes, decimal, arith}
 use Rattle.std.specs.Prelude.{if◌then◌else◌, slice_index_or, nat_le, EachIndex}
 use Rattle.std.specs.List.{AllByRecursion, list_any, flat_map, range_with_len}
 use Rattle.std.proofs.lemmas.Bool.{eq-eqb, le-leb}
-use Rattle.std.proofs.lemmas.List.{append_assoc, append-nil, length-append, length_push, length-map, ext_get_or}
+use Rattle.std.proofs.lemmas.List.{append_assoc, append-nil, length_push, length-map, ext_get_or}
 use Rattle.std.proofs.lemmas.List.Elements.{All-nil, All-cons, All-head, All-tail, All-map}
 use Rattle.std.proofs.lemmas.List.FromFn.{length-map-range_with_len, get_or-map-range_with_len}
 use Rattle.msp_class.specs.declared.class.Class.{Class}
@@ -18,10 +18,10 @@ use Rattle.msp_file.specs.declared.fault.What.TheVariants as what
 use Rattle.msp_file.specs.declared.fault.FileFault.{FileFault}
 use Rattle.msp_file.specs.declared.fault.FileFault.TheVariants.{Count, Limit}
 use Rattle.msp_file.specs.InstanceText.{line_text, where_wanted, has_times, has_time_key, has_one_time, has_machine_times, has_route, times_fields, operation_fields, route_fields}
-use Rattle.msp_file.specs.Reading.{◌>>=◌, provided, Place, worded_at, natural_at, with_need, least_time, times_at, times_line_at, machine_at, timed_route_at, unit_route_at, operations_in, fields_in, operations_at, is_route_count, route_line_at, unwritten_needs, needs_at}
+use Rattle.msp_file.specs.Reading.{Place, worded_at, natural_at, with_need, least_time, times_at, times_line_at, machine_at, timed_route_at, unit_route_at, operations_in, fields_in, operations_at, is_route_count, route_line_at, unwritten_needs, needs_at}
 use Rattle.msp_file.proofs.LineLaws.{bind_ok, provided_ok, ok_is, Takes, Gets, IsField, worded_takes, worded_again}
 use Rattle.msp_file.proofs.FieldLaws.{IsKeyed, natural_takes, natural_again, natural_field}
-use Rattle.msp_file.proofs.KeyLaws.{bind_again, provided_again, limit, time_of}
+use Rattle.msp_file.proofs.KeyLaws.{reads, bind_again, provided_again, limit, time_of}
 
 -- What is said of one operation: its machine is one of so many, its time is in range, its time is 1.
 abbrev IsOn : ℕ → Need → Type 0
@@ -92,11 +92,12 @@ unfolding times_line_at
 times_line_again k machines at needs rest each h =
     let fields : AllByRecursion IsField (times_fields needs) = (word_field (codes "times") refl refl, decimals_fields (λ n. n.time) needs (λ q d l. (h q d l).1)) in
     let line = worded_again (codes "times") (map (λ n. decimal n.time) needs) at rest fields in
-    let numbered : AreNumberedFrom 0 needs = λ q l. omega (arith, each.1 q l) in
-    (line.0,
-    bind_again _ _ _ _ line.1 (
-    provided_again _ _ _ _ (eq-eqb _ _ (length-map needs (λ n. decimal n.time) ∙ each.0)) (
-    bind_again _ _ _ _ (times_again at (least_time k) [] needs numbered h) refl)))
+    let numbered : AreNumberedFrom 0 needs = λ q l. omega (arith, each.1 q l) in (
+      line.0,
+      bind_again _ _ _ _ line.1 (
+          provided_again _ _ _ _ (eq-eqb _ _ (length-map needs (λ n. decimal n.time) ∙ each.0)) (
+          bind_again _ _ _ _ (times_again at (least_time k) [] needs numbered h) refl)),
+    )
 
 -- ---- routes
 
@@ -218,12 +219,13 @@ route_line_again c machines at needs rest few route h unit =
     let fields : AllByRecursion IsField (route_fields c.times needs) = (word_field (codes "route") refl refl, operations_fields c.times machines needs few route.machines h) in
     let line = worded_again (codes "route") (flat_map (operation_fields c.times) needs) at rest fields in
     let counted = length-operations c.times needs in
-    let short : operations_in c.times (length (flat_map (operation_fields c.times) needs)) ≤ 32 = omega (arith, ap (operations_in c.times) counted ∙ operations_counted c.times (length needs), route.few, few_operations c.env) in
-    (line.0,
-    bind_again _ _ _ _ line.1 (
-    provided_again _ _ _ _ (le-leb _ _ short) (
-    provided_again _ _ _ _ (route_counted c.times (most_operations c.env) (length needs) _ counted route.some route.few) (
-    bind_again _ _ _ _ (operations_again c.times at machines needs few route.machines h unit) refl))))
+    let short : operations_in c.times (length (flat_map (operation_fields c.times) needs)) ≤ 32 = omega (arith, ap (operations_in c.times) counted ∙ operations_counted c.times (length needs), route.few, few_operations c.env) in (
+      line.0,
+      bind_again _ _ _ _ line.1 (
+          provided_again _ _ _ _ (le-leb _ _ short) (
+          provided_again _ _ _ _ (route_counted c.times (most_operations c.env) (length needs) _ counted route.some route.few) (
+          bind_again _ _ _ _ (operations_again c.times at machines needs few route.machines h unit) refl))),
+    )
 
 -- ---- all operations
 
@@ -244,9 +246,7 @@ pub record AreReadNeeds (t : Times) (k : Kind) (time : ℕ) (p : Place) (needs :
   pub times : HasUnitTimes t needs
   pub keyed : (has_times t && has_one_time k) ≡ true → (slice_index_or needs 0 no_need).time ≡ time
 
-abbrev reads : List Need × Place → Result (List Need × Place) FileFault
-reads x = Ok x
-
+-- what a line with a text reads, and what no line writes
 by_text : (t : Times) (k : Kind) (time : ℕ) (p : Place) (x : List Need × Place) (text : List ℕ) → needs_text t k x.0 ≡ text → Takes p text x.1 → HasUnitTimes t x.0
     → ((has_times t && has_one_time k) ≡ true → (slice_index_or x.0 0 no_need).time ≡ time) → AreReadNeeds t k time p x.0 x.1
 by_text t k time p x text e h unit keyed = record { text = subst (λ w. Takes p w x.1) (sym e) h; times = unit; keyed = keyed }
@@ -255,9 +255,8 @@ by_none : (t : Times) (k : Kind) (time : ℕ) (p : Place) (needs : List Need) (x
     → ((has_times t && has_one_time k) ≡ true → (slice_index_or needs 0 no_need).time ≡ time) → reads (needs, p) ≡ Ok x → AreReadNeeds t k time p x.0 x.1
 by_none t k time p needs x e unit keyed h = subst (λ (y : List Need × Place). AreReadNeeds t k time p y.0 y.1) (ok_is (needs, p) x h) (by_text t k time p (needs, p) [] e refl unit keyed)
 
--- in a class of general times there is nothing to show
-by_times : (c : Class) (k : Kind) (machines time : ℕ) (p : Place) (x : List Need × Place) → needs_text General k x.0 ≡ line_text (times_fields x.0) → (has_one_time k ≡ true → ⊥) → times_line_at k machines p ≡ Ok x → AreReadNeeds General k time p x.0 x.1
-by_times c k machines time p x e many h = by_text General k time p x (line_text (times_fields x.0)) e (times_line_takes k machines p x h) tt (λ one. absurd (many one))
+by_times : (k : Kind) (machines time : ℕ) (p : Place) (x : List Need × Place) → needs_text General k x.0 ≡ line_text (times_fields x.0) → (has_one_time k ≡ true → ⊥) → times_line_at k machines p ≡ Ok x → AreReadNeeds General k time p x.0 x.1
+by_times k machines time p x e many h = by_text General k time p x (line_text (times_fields x.0)) e (times_line_takes k machines p x h) tt (λ one. absurd (many one))
 
 by_route : (c : Class) (t : Times) (machines time : ℕ) (p : Place) (x : List Need × Place) → machines ≤ 32 → c.times ≡ t → needs_text t job_shop x.0 ≡ line_text (route_fields t x.0) → ((has_times t && false) ≡ true → ⊥) → route_line_at c machines p ≡ Ok x → AreReadNeeds t job_shop time p x.0 x.1
 by_route c t machines time p x few same e many h =
@@ -285,9 +284,9 @@ units_are machines needs each unit =
 needs_by_takes : (c : Class) (t : Times) (k : Kind) (machines time : ℕ) (p : Place) (x : List Need × Place) → machines ≤ 32 → c.times ≡ t → IsKeyed (has_times t && has_one_time k) 1 (10 ^ 9) time → needs_by c t k machines time p ≡ Ok x → AreReadNeeds t k time p x.0 x.1
 needs_by_takes c General identical machines time p x few same h e = by_none General identical time p (with_need [] 0 time) x refl tt (λ k. refl) e
 needs_by_takes c General uniform machines time p x few same h e = by_none General uniform time p (with_need [] 0 time) x refl tt (λ k. refl) e
-needs_by_takes c General unrelated machines time p x few same h e = by_times c unrelated machines time p x (append-nil _) (λ k. absurd cc) e
-needs_by_takes c General open_shop machines time p x few same h e = by_times c open_shop machines time p x (append-nil _) (λ k. absurd cc) e
-needs_by_takes c General flow_shop machines time p x few same h e = by_times c flow_shop machines time p x (append-nil _) (λ k. absurd cc) e
+needs_by_takes c General unrelated machines time p x few same h e = by_times unrelated machines time p x (append-nil _) (λ k. absurd cc) e
+needs_by_takes c General open_shop machines time p x few same h e = by_times open_shop machines time p x (append-nil _) (λ k. absurd cc) e
+needs_by_takes c General flow_shop machines time p x few same h e = by_times flow_shop machines time p x (append-nil _) (λ k. absurd cc) e
 needs_by_takes c General job_shop machines time p x few same h e = by_route c General machines time p x few same refl (λ k. absurd cc) e
 needs_by_takes c UnitTimes identical machines time p x few same h e = by_none UnitTimes identical time p (with_need [] 0 time) x refl (All-cons IsUnit _ [] h (All-nil IsUnit)) (λ k. refl) e
 needs_by_takes c UnitTimes uniform machines time p x few same h e = by_none UnitTimes uniform time p (with_need [] 0 time) x refl (All-cons IsUnit _ [] h (All-nil IsUnit)) (λ k. refl) e
@@ -300,7 +299,7 @@ pub needs_takes : (c : Class) (machines time : ℕ) (p : Place) (x : List Need �
 unfolding needs_at
 needs_takes c machines time p x few h e = needs_by_takes c c.times (kind_of c.env) machines time p x few refl h e
 
--- the one operation of a job
+-- the one operation of a job, which no line writes
 one_again : (time at : ℕ) (needs : List Need) (rest : List ℕ) → IsSingleNeed needs → ((n : Need) → needs ≡ n ∷ [] → time ≡ n.time) → Gets (reads (with_need [] 0 time, record { at = at; rest = rest })) needs rest
 one_again time at [] rest single e = absurd (omega (arith, single.0))
 one_again time at (n ∷ []) rest single e =
@@ -313,8 +312,8 @@ one_again time at (n ∷ m ∷ more) rest single e = absurd (omega (arith, singl
 moved : {A : Type 0} (read : Place → Result (A × Place) FileFault) (at : ℕ) (x : A) (a b rest : List ℕ) → a ≡ b → Gets (read (record { at = at; rest = b ++ rest })) x rest → Gets (read (record { at = at; rest = a ++ rest })) x rest
 moved read at x a b rest e h = rw e h
 
-times_by_again : (c : Class) (k : Kind) (machines at : ℕ) (needs : List Need) (rest : List ℕ) → needs_text General k needs ≡ line_text (times_fields needs) → IsNeedPerMachine machines needs → HasTimes (least_time k) (10 ^ 9) needs → Gets (times_line_at k machines (record { at = at; rest = needs_text General k needs ++ rest })) needs rest
-times_by_again c k machines at needs rest e each h = moved (times_line_at k machines) at needs _ _ rest e (times_line_again k machines at needs rest each h)
+times_by_again : (k : Kind) (machines at : ℕ) (needs : List Need) (rest : List ℕ) → needs_text General k needs ≡ line_text (times_fields needs) → IsNeedPerMachine machines needs → HasTimes (least_time k) (10 ^ 9) needs → Gets (times_line_at k machines (record { at = at; rest = needs_text General k needs ++ rest })) needs rest
+times_by_again k machines at needs rest e each h = moved (times_line_at k machines) at needs _ _ rest e (times_line_again k machines at needs rest each h)
 
 route_by_again : (c : Class) (t : Times) (machines at : ℕ) (needs : List Need) (rest : List ℕ) → machines ≤ 32 → c.times ≡ t → needs_text t job_shop needs ≡ line_text (route_fields t needs) → IsRoute (most_operations c.env) machines needs → HasTimes 1 (10 ^ 9) needs → HasUnitTimes t needs
     → Gets (route_line_at c machines (record { at = at; rest = needs_text t job_shop needs ++ rest })) needs rest
@@ -325,9 +324,9 @@ needs_by_again : (c : Class) (t : Times) (k : Kind) (machines at : ℕ) (needs :
     → Gets (needs_by c t k machines (time_of (has_times t && has_one_time k) needs) (record { at = at; rest = needs_text t k needs ++ rest })) needs rest
 needs_by_again c General identical machines at needs rest few same h unit = one_again _ at needs rest h.0 (λ n e. ap (λ ns. (slice_index_or ns 0 no_need).time) e)
 needs_by_again c General uniform machines at needs rest few same h unit = one_again _ at needs rest h.0 (λ n e. ap (λ ns. (slice_index_or ns 0 no_need).time) e)
-needs_by_again c General unrelated machines at needs rest few same h unit = times_by_again c unrelated machines at needs rest (append-nil _) h.0 h.1
-needs_by_again c General open_shop machines at needs rest few same h unit = times_by_again c open_shop machines at needs rest (append-nil _) h.0 h.1
-needs_by_again c General flow_shop machines at needs rest few same h unit = times_by_again c flow_shop machines at needs rest (append-nil _) h.0 h.1
+needs_by_again c General unrelated machines at needs rest few same h unit = times_by_again unrelated machines at needs rest (append-nil _) h.0 h.1
+needs_by_again c General open_shop machines at needs rest few same h unit = times_by_again open_shop machines at needs rest (append-nil _) h.0 h.1
+needs_by_again c General flow_shop machines at needs rest few same h unit = times_by_again flow_shop machines at needs rest (append-nil _) h.0 h.1
 needs_by_again c General job_shop machines at needs rest few same h unit = route_by_again c General machines at needs rest few same refl h.0 h.1 unit
 needs_by_again c UnitTimes identical machines at needs rest few same h unit = one_again 1 at needs rest h.0 (λ n e. sym (All-head IsUnit n [] (subst (All IsUnit) e unit)))
 needs_by_again c UnitTimes uniform machines at needs rest few same h unit = one_again 1 at needs rest h.0 (λ n e. sym (All-head IsUnit n [] (subst (All IsUnit) e unit)))
