@@ -8,11 +8,11 @@ mod LineFaults
 mod AnswerLemmas
 mod PrintLemmas
 mod NumberTexts
-mod LineLaws
-mod FieldLaws
+pub mod LineLaws
+pub mod FieldLaws
 pub mod KeyLaws
 pub mod NeedLaws
 pub mod CurveLaws
-mod JobLaws
-mod HeadLaws
+pub mod JobLaws
+pub mod HeadLaws
 mod TextLaws
