@@ -8,9 +8,9 @@ mod AnswerLemmas
 mod PrintLemmas
 pub mod LineLaws
 pub mod FieldLaws
+pub mod HeadLaws
 pub mod KeyLaws
 pub mod NeedLaws
 pub mod CurveLaws
 pub mod JobLaws
-pub mod HeadLaws
 mod TextLaws
