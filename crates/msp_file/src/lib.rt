@@ -5,6 +5,7 @@
 //! `schedule_text`; and that `Names` is seen as a list of distinct names.
 #![tactic(auto)]
 
+mod arcs;
 mod curve;
 mod draft;
 mod fault;
