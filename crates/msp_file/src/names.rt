@@ -9,7 +9,7 @@ use msp_class::{List, NoMemory};
 use std::alloc::Global;
 use std::marker::Model;
 
-/// The names of the jobs of an instance, in order. Contracts see it as a list of distinct names.
+/// The names of the jobs of an instance, in order. Contracts see it as a list of distinct job names.
 #[derive(Drop)]
 pub struct Names {
     set: IndexSet<JobName>,
