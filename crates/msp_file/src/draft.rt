@@ -1,10 +1,11 @@
-ghost use Rattle.std.specs.Prelude.{◌≡◌, ◌++◌, ◌∷◌, [], ◌≤◌, ◌<◌, ℕ, List as Items, false, length, bytes_eq, MatchResult, IfOk, OnOk};
+ghost use Rattle.std.specs.Prelude.{◌≡◌, ◌++◌, ◌∷◌, [], ◌≤◌, ◌<◌, ℕ, List as Items, false, not, length, bytes_eq, MatchResult, Ok, IfOk, OnOk};
 ghost use Rattle.std.specs.List.{list_any};
 ghost use Rattle.msp_file.specs.InstanceText.{has_order};
-ghost use Rattle.msp_file.specs.Reading.{is_arc_among, with_arc, arc_line_at, job_of, job_at_line, arcs_at, jobs_at, end_at, Place};
+ghost use Rattle.msp_file.specs.Reading.{provided, is_arc_among, with_arc, arc_line_at, job_of, job_at_line, arcs_at, jobs_at, end_at, Place};
 ghost use Rattle.msp_file.specs.declared.draft.Draft.{Draft as DraftValue};
 ghost use Rattle.msp_file.specs.Steps.{Gives, Moves, AfterArc, AfterJob, place_of, fields_after};
 
+use crate::arcs::Arcs;
 use crate::curve::curve_at;
 use crate::fault::{FileFault, What};
 use crate::job::{job_line_at, known_at};
@@ -22,7 +23,7 @@ use std::alloc::Global;
 pub(crate) struct Draft {
     pub(crate) names: Names,
     pub(crate) jobs: List<Job>,
-    pub(crate) arcs: List<Arc>,
+    pub(crate) arcs: Arcs,
 }
 
 /// What a line after the head or after a job was.
@@ -82,18 +83,15 @@ fn job_at_line(
     push_job(draft, name, job)
 }
 
-fn is_arc_among(arcs: &[Arc], before: u32, after: u32) -> bool
-    ensures { result ≡ is_arc_among arcs.now before after }
+/// Puts an arc at the end, unless it is among those so far.
+fn add_arc(at: u32, draft: &mut Draft, before: u32, after: u32) -> Result<(), FileFault>
+    ensures gives { Gives (λ _. draft.new) result (provided (not (is_arc_among draft.old.arcs before after)) (FileFault.ArcAgain at) (Ok (with_arc draft.old before after))) }
+    ensures names { OnOk result (draft.new.names ≡ draft.old.names) }
+    ensures jobs { OnOk result (draft.new.jobs ≡ draft.old.jobs) }
 {
-    arcs.iter()
-        .any(|arc| arc.before == before && arc.after == after)
-}
-
-fn push_arc(draft: &mut Draft, before: u32, after: u32) -> Result<(), FileFault>
-    ensures { MatchResult result (λ _. draft.new ≡ with_arc draft.old before after) (λ e. e ≡ FileFault.Memory) }
-{
-    match draft.arcs.push(Arc { before, after }) {
-        Ok(()) => Ok(()),
+    match draft.arcs.add(Arc { before, after }) {
+        Ok(true) => Ok(()),
+        Ok(false) => Err(FileFault::ArcAgain { at }),
         Err(_) => Err(FileFault::Memory),
     }
 }
@@ -119,10 +117,7 @@ fn arc_line_at(at: u32, draft: &mut Draft, fields: &[u8]) -> Result<(), FileFaul
     let before = known_at(at, &draft.names, first)?;
     let (second, _) = next_field(others);
     let after = known_at(at, &draft.names, second)?;
-    if is_arc_among(draft.arcs.as_slice(), before, after) {
-        return Err(FileFault::ArcAgain { at });
-    }
-    push_arc(draft, before, after)
+    add_arc(at, draft, before, after)
 }
 
 /// The last line.

@@ -4,7 +4,7 @@ ghost use Rattle.std.specs.List.{flat_map};
 ghost use Rattle.msp_name.specs.Names.{name_of};
 ghost use Rattle.msp_instance.specs.Conditions.{InClass};
 ghost use Rattle.msp_instance.specs.Instance.{no_need};
-ghost use Rattle.msp_file.specs.InstanceText.{line_text, where_wanted, has_times, time_key, release_key, due_key, weight_key, key_fields, job_fields, times_fields, operation_fields, route_fields, step_fields, curve_fields, has_curve, times_text, route_text, curve_text, job_text, jobs_text, arc_fields, arcs_text, machines_text, speeds_text, class_text, head_text, instance_text};
+ghost use Rattle.msp_file.specs.InstanceText.{line_text, where_wanted, has_times, time_key, release_key, due_key, weight_key, key_fields, job_fields, times_fields, operation_fields, route_fields, step_fields, curve_fields, has_curve, times_text, route_text, curve_text, job_text, jobs_text, arc_fields, arcs_text, machines_text, speeds_text, class_text, head_text, instance_text, IsInstanceText};
 ghost use Rattle.msp_file.specs.Printing.{spaced};
 ghost use Rattle.msp_file.specs.ScheduleText.{name_at};
 
@@ -369,8 +369,11 @@ fn put_instance(out: &mut Vec<u8>, filed: &Filed) -> Result<(), NoMemory>
 pub fn print_instance(alloc: Global, filed: &Filed) -> Result<Vec<u8>, NoMemory>
     requires in_class { InClass filed.now.instance }
     requires named { length filed.now.names ≡ length filed.now.instance.jobs }
-    ensures { IfOk result (λ text. text.items ≡ instance_text (name_of filed.now.instance.class) filed.now.names filed.now.instance) }
+    ensures canonical { IfOk result (λ text. text.items ≡ instance_text (name_of filed.now.instance.class) filed.now.names filed.now.instance) }
+    ensures text { IfOk result (λ text. IsInstanceText text.items filed.now.instance filed.now.names) }
 {
+    let named = filed.names.len() == filed.instance.jobs.len();
+    prove!(named);
     let mut out = Vec::new(alloc);
     put_instance(&mut out, filed)?;
     Ok(out)

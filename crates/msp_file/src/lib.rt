@@ -2,9 +2,10 @@
 //!
 //! It stands on `msp_name`, `msp_schedule`, `indexmap` and `itoa`. The layers above use that `read_instance` answers as `IsAnswerTo`
 //! says of the reading of the lines, `filed_at`; that `print_instance` and `print_schedule` give exactly `instance_text` and
-//! `schedule_text`; and that `Names` is seen as a list of distinct names.
+//! `schedule_text`, the first of which is then an instance text; and that `Names` is seen as a list of distinct job names.
 #![tactic(auto)]
 
+mod arcs;
 mod curve;
 mod draft;
 mod fault;

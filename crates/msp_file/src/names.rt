@@ -9,7 +9,7 @@ use msp_class::{List, NoMemory};
 use std::alloc::Global;
 use std::marker::Model;
 
-/// The names of the jobs of an instance, in order. Contracts see it as a list of distinct names.
+/// The names of the jobs of an instance, in order. Contracts see it as a list of distinct job names.
 #[derive(Drop)]
 pub struct Names {
     set: IndexSet<JobName>,
@@ -20,7 +20,12 @@ impl Model for Names {
 
     ghost Value = { List (List ℕ) };
 
+    ghost use Rattle.std.specs.Prelude.{All};
+    ghost use Rattle.msp_file.specs.JobName.{IsJobName};
+
     ghost view = { λ n. n.set.keys };
+
+    ghost invariant = { λ n. All IsJobName n.set.keys };
 }
 
 impl Names {
@@ -65,6 +70,7 @@ impl Names {
     pub fn len(&self) -> usize
         ensures value { result ≡ length self.now }
         ensures distinct { AreDistinct self.now }
+        ensures names { All IsJobName self.now }
     {
         self.set.len()
     }

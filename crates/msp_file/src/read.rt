@@ -4,6 +4,7 @@ ghost use Rattle.msp_file.specs.Answers.{faulty_name, IsFaultOf, IsAnswerTo};
 ghost use Rattle.msp_file.specs.Reading.{front_at, filed_at, filed_of, no_draft, jobs_at};
 ghost use Rattle.msp_file.specs.Steps.{Gives, Moves, place_of};
 
+use crate::arcs::Arcs;
 use crate::draft::{Draft, jobs_at};
 use crate::fault::FileFault;
 use crate::filed::Filed;
@@ -21,15 +22,24 @@ fn no_draft(alloc: Global) -> Draft
     Draft {
         names: Names::new(alloc),
         jobs: List::new(alloc),
-        arcs: List::new(alloc),
+        arcs: Arcs::new(alloc),
     }
 }
 
-fn filed_of(class: Class, machines: u32, speeds: List<u64>, draft: Draft) -> Filed
-    ensures { result ≡ filed_of class machines speeds draft }
+fn filed_of(
+    alloc: Global,
+    class: Class,
+    machines: u32,
+    speeds: List<u64>,
+    draft: Draft,
+) -> Result<Filed, FileFault>
+    ensures { MatchResult result (λ f. f ≡ filed_of class machines speeds draft) (λ e. e ≡ FileFault.Memory) }
 {
     let Draft { names, jobs, arcs } = draft;
-    Filed {
+    let Ok(arcs) = arcs.listed(alloc) else {
+        return Err(FileFault::Memory);
+    };
+    Ok(Filed {
         instance: Instance {
             class,
             machines,
@@ -38,7 +48,7 @@ fn filed_of(class: Class, machines: u32, speeds: List<u64>, draft: Draft) -> Fil
             arcs,
         },
         names,
-    }
+    })
 }
 
 /// Reads the lines after the head.
@@ -70,7 +80,7 @@ fn front_at(alloc: Global, bytes: &[u8], lines: &mut Lines<'_>) -> Result<Filed,
     let machines = machines_at(class.env, lines)?;
     let speeds = speeds_at(alloc, class.env, machines, lines)?;
     let draft = draft_at(alloc, class, machines, lines)?;
-    Ok(filed_of(class, machines, speeds, draft))
+    filed_of(alloc, class, machines, speeds, draft)
 }
 
 /// Reads the lines of an instance that are all of a text.

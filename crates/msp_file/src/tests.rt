@@ -36,6 +36,7 @@ fn names_of_jobs(rt: HostRuntime) -> Result<(), Fail> {
     assert_eq!(rt; names.place(&last), Some(2));
     assert!(rt; names.get(3).is_none());
     assert!(rt; names_of(rt.alloc(), [b"a".as_slice(), b"b", b"a"].as_slice())?.is_none());
+    assert!(rt; names_of(rt.alloc(), [b"a".as_slice(), b"a"].as_slice())?.is_none());
     Ok(())
 }
 
@@ -337,8 +338,12 @@ fn printed_again(rt: HostRuntime) -> Result<(), Fail> {
     for text in [
         b"msp 1\nclass 1||sumwC\njob a p=3 w=1\njob b p=1 w=2\njob c p=2 w=2\nend\n".as_slice(),
         b"msp 1\nclass 1||Lmax\njob a p=2 d=4\njob b p=3 d=-2\nend\n",
+        b"msp 1\nclass 1|prec|fmax\njob a p=2\ncurve 1 0\njob b p=3\ncurve 0 0 5 10\njob c p=1\ncurve 2 -4\narc a b\nend\n",
+        b"msp 1\nclass P|pmtn|Cmax\nmachines 2\njob a p=3\njob b p=3\njob c p=3\nend\n",
+        b"msp 1\nclass Q||sumC\nmachines 2\nspeeds 3 2\njob a p=5\njob b p=4\nend\n",
         b"msp 1\nclass Q|pmtn,r|sumwT\nmachines 3\nspeeds 1 2 3\njob a p=2 r=1 d=4 w=5\nend\n",
         b"msp 1\nclass O||Cmax\nmachines 2\njob a\ntimes 0 3\nend\n",
+        b"msp 1\nclass J2|n<=2|Cmax\njob a\nroute 1 2\njob b\nroute 2 3\njob c\nroute 1 2 2 2\njob d\nroute 2 1 1 4\nend\n",
         b"msp 1\nclass J|p=1|Cmax\nmachines 2\njob a\nroute 2 1 2\nend\n",
     ] {
         assert!(rt; text.len() < 200);

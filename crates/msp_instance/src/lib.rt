@@ -58,7 +58,7 @@ pub struct Job {
 }
 
 /// A precedence constraint between two jobs, from 0: `before` is complete when `after` begins.
-#[derive(Clone, Copy, Debug, PartialEq, Eq)]
+#[derive(Clone, Copy, Debug, PartialEq, Eq, Hash)]
 pub struct Arc {
     pub before: u32,
     pub after: u32,
