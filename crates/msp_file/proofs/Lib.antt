@@ -12,4 +12,6 @@ mod LineLaws
 mod FieldLaws
 mod JobLaws
 mod HeadLaws
+pub mod Apart
+pub mod ArcLaws
 mod TextLaws
