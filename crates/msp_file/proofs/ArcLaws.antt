@@ -1,6 +1,7 @@
 -- The lines of arcs: what is read is the text of the arcs, and the text of arcs is read as those arcs.
 use Rattle.std.proofs.Common.{◌≡◌, ◌≢◌, ℕ, zero, suc, ◌+◌, ◌<◌, ◌≤◌, Bool, true, false, not, ◌&&◌, ◌==◌, if◌then◌else◌, List, [], ◌∷◌, ◌++◌, length, All, AllPairs, Contains, Result, Ok, Err, bytes_eq, codes, refl, sym, ap, subst, ◌∙◌, append_assoc, append-nil, arith, length-append, ltb-true, lt-ltb, eqb-true, eq-eqb}
 use Rattle.std.specs.List.{AllByRecursion, list_any, join_with_byte}
+use Rattle.std.proofs.lemmas.Bool.{and_parts}
 use Rattle.std.proofs.lemmas.Map.Views.{Contains-from_any}
 use Rattle.std.proofs.lemmas.List.Folds.{list_any_at}
 use Rattle.std.proofs.lemmas.List.{get_or_at}
@@ -58,14 +59,10 @@ end_takes at d fields p q x t e =
 same_arc : Arc → Arc → Bool
 same_arc a b = (b.before == a.before) && (b.after == a.after)
 
-both : (a b : Bool) → (a && b) ≡ true → (a ≡ true) × (b ≡ true)
-both true b h = (refl, h)
-both false b h = absurd cc
-
 same_arc_is : (a b : Arc) → same_arc a b ≡ true → a ≡ b
 unfolding same_arc
 same_arc_is a b h =
-    let parts = both (b.before == a.before) (b.after == a.after) h in
+    let parts = and_parts (b.before == a.before) (b.after == a.after) h in
     rw (sym (eqb-true _ _ parts.0), sym (eqb-true _ _ parts.1)) refl
 
 same_arc_itself : (a : Arc) → same_arc a a ≡ true

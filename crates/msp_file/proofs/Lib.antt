@@ -14,4 +14,5 @@ mod JobLaws
 mod HeadLaws
 pub mod Apart
 pub mod ArcLaws
+pub mod JobsLaws
 mod TextLaws
