@@ -1,52 +1,248 @@
 -- A field that is read is the field that was written, and what was written is read again.
-use Rattle.std.proofs.Common.{◌≡◌, ℕ, ◌+◌, ◌^◌, ◌<◌, ◌≤◌, Bool, true, false, List, [], ◌∷◌, ◌++◌, length, Result, Ok, Err, refl, decimal}
-use Rattle.std.specs.Prelude.{ℤ, pos, All}
+use Rattle.std.proofs.Common.{◌≡◌, ◌≢◌, ℕ, zero, suc, ◌+◌, ◌^◌, ◌<◌, ◌≤◌, Bool, true, false, not, ◌&&◌, ◌||◌, ◌==◌, nat_le, if◌then◌else◌, List, [], ◌∷◌, ◌++◌, length, get_or, position, bytes_eq, Option, Some, None, ok_or, Ok, ℤ, pos, negsuc, neg_ℤ, unsigned_abs, All, refl, sym, ap, subst, ◌∙◌, arith, decimal}
+use Rattle.std.specs.Char.{is_ascii_digit}
 use Rattle.std.specs.Fmt.{signed_decimal}
+use Rattle.std.specs.List.{list_all, list_any, position_or_len}
+use Rattle.std.specs.Str.{all_ascii_digits}
+use Rattle.std.specs.Str.Parse.{digits_value}
+use Rattle.std.proofs.lemmas.Bool.{and_parts, eqb-true, eq-eqb, leb-true, le-leb, lt-ltb}
+use Rattle.std.proofs.lemmas.Int.{ints}
+use Rattle.std.proofs.lemmas.Fmt.{decimal-digits_value, digits_decimal}
+use Rattle.std.proofs.lemmas.Slice.Eq.{bytes_eq-Decides}
+use Rattle.std.proofs.lemmas.Str.Parse.{numerals_by_value, tells_all_ascii_digits}
+use Rattle.std.proofs.lemmas.List.Quantifiers.{position-Some}
+use Rattle.std.proofs.lemmas.List.Sums.{AllPass-from_list_all, list_all-from_AllPass, position_or_len_is}
+use Rattle.msp_name.proofs.Marks.{Lacks}
 use Rattle.msp_instance.specs.Conditions.{LiesWithin}
 use Rattle.msp_file.specs.declared.fault.FileFault.{FileFault}
+use Rattle.msp_file.specs.declared.fault.FileFault.TheVariants.{Number, Limit, Key, Name, Unknown}
 use Rattle.msp_file.specs.declared.fault.What.{What}
-use Rattle.msp_file.specs.JobName.{IsJobName, AreDistinct}
+use Rattle.msp_file.specs.declared.fault.What.TheVariants as what
+use Rattle.msp_file.specs.JobName.{is_name_byte, IsJobName, AreDistinct}
+use Rattle.msp_file.specs.Numbers.{is_natural, is_positive, natural_of, negative_of, number_of}
 use Rattle.msp_file.specs.ScheduleText.{name_at}
 use Rattle.msp_file.specs.InstanceText.{where_wanted}
-use Rattle.msp_file.specs.Reading.{natural_at, integer_at, job_name_at, known_at, natural_key_at, integer_key_at}
-use Rattle.msp_file.proofs.LineLaws.{IsField}
+use Rattle.msp_file.specs.Reading.{◌>>=◌, provided, first_of, others_of, natural_in, natural_at, integer_at, is_name_text, job_name_at, known_at, keyed_at, natural_key_at, integer_key_at}
+use Rattle.msp_file.proofs.NameLists.{same_bytes}
+use Rattle.msp_file.proofs.Numbers.{positive_value}
+use Rattle.msp_file.proofs.NumberTexts.{natural_again as natural_spelled, negative_again as negative_spelled}
+use Rattle.msp_file.proofs.LineLaws.{bind_ok, provided_ok, ok_is, IsField}
+
+ok_some : {A : Type 0} (o : Option A) (d : FileFault) (x : A) → ok_or o d ≡ Ok x → o ≡ Some x
+ok_some (Some y) d x e = cc
+ok_some None d x e = absurd cc
+
+abbrev some : {A : Type 0} → A → Option A
+some x = Some x
+
+some_is : {A : Type 0} (x y : A) → some x ≡ some y → x ≡ y
+some_is x y e = cc
+
+-- a text of bytes that pass a test lacks each byte that does not pass
+lacks_others : (passes : ℕ → Bool) (m : ℕ) (w : List ℕ) → passes m ≡ false → list_all passes w ≡ true → Lacks m w
+lacks_others passes m [] fails h = refl
+lacks_others passes m (x ∷ xs) fails h = let both = and_parts (passes x) (list_all passes xs) h in by (x == m) refl both.0 (lacks_others passes m xs fails both.1)
+  where
+    by : (t : Bool) → (x == m) ≡ t → passes x ≡ true → Lacks m xs → (t || list_any (λ y. y == m) xs) ≡ false
+    by true e h k = let same : passes x ≡ passes m = ap passes (eqb-true x m e) in absurd cc
+    by false e h k = k
 
 -- ---- numbers
 
+same_digits : (ds : List ℕ) → all_ascii_digits ds ≡ list_all is_ascii_digit ds
+same_digits [] = refl
+same_digits (c ∷ cs) = ap (λ b. is_ascii_digit c && b) (same_digits cs)
+
+-- digits that spell a number are its spelling
+digits_take : (ds : List ℕ) → list_all is_ascii_digit ds ≡ true → 0 < length ds → (get_or ds 0 0 ≡ 48 → length ds ≡ 1) → digits_value 10 ds < 2 ^ 64 → ds ≡ decimal (digits_value 10 ds)
+digits_take ds all some alone small = sym (decimal-digits_value (numerals_by_value _ tells_all_ascii_digits) ds (same_digits ds ∙ all) some alone small)
+
+positive_take : (ds : List ℕ) → is_positive ds ≡ true → digits_value 10 ds < 2 ^ 64 → ds ≡ decimal (digits_value 10 ds)
+positive_take [] h small = absurd cc
+positive_take (c ∷ ds) h small =
+    let parts = and_parts (not (c == 48)) (list_all is_ascii_digit (c ∷ ds)) h in
+    digits_take (c ∷ ds) parts.1 (omega arith) (λ e. let same : (c == 48) ≡ true = eq-eqb c 48 e in absurd cc) small
+
+natural_take : (ds : List ℕ) → is_natural ds ≡ true → digits_value 10 ds < 2 ^ 64 → ds ≡ decimal (digits_value 10 ds)
+natural_take [] h small = absurd cc
+natural_take (c ∷ []) h small = digits_take (c ∷ []) (rw h refl) (omega arith) (λ e. refl) small
+natural_take (c ∷ d ∷ ds) h small = positive_take (c ∷ d ∷ ds) h small
+
+abbrev natural_if : Bool → List ℕ → Option ℤ
+natural_if b ds = if b then Some (pos (digits_value 10 ds)) else None
+
+abbrev negative_if : Bool → List ℕ → Option ℤ
+negative_if b ds = if b then Some (neg_ℤ (pos (digits_value 10 ds))) else None
+
+natural_spells : (ds : List ℕ) (x : ℤ) → natural_of ds ≡ Some x → unsigned_abs x < 2 ^ 64 → ds ≡ signed_decimal x
+natural_spells ds x e small = by (is_natural ds) refl e
+  where
+    by : (b : Bool) → is_natural ds ≡ b → natural_if b ds ≡ Some x → ds ≡ signed_decimal x
+    by true is e =
+        let same : pos (digits_value 10 ds) ≡ x = some_is (pos (digits_value 10 ds)) x e in
+        natural_take ds is (subst (λ y. unsigned_abs y < 2 ^ 64) (sym same) small) ∙ ap signed_decimal same
+    by false is e = absurd cc
+
+size_negated : (v : ℕ) → unsigned_abs (neg_ℤ (pos v)) ≡ v
+size_negated zero = refl
+size_negated (suc n) = refl
+
+spelled_negated : (v : ℕ) → 1 ≤ v → signed_decimal (neg_ℤ (pos v)) ≡ 45 ∷ decimal v
+spelled_negated zero h = absurd (omega arith)
+spelled_negated (suc n) h = refl
+
+negative_spells : (ds : List ℕ) (x : ℤ) → negative_of ds ≡ Some x → unsigned_abs x < 2 ^ 64 → 45 ∷ ds ≡ signed_decimal x
+negative_spells ds x e small = by (is_positive ds) refl e
+  where
+    by : (b : Bool) → is_positive ds ≡ b → negative_if b ds ≡ Some x → 45 ∷ ds ≡ signed_decimal x
+    by true is e =
+        let v = digits_value 10 ds in
+        let same : neg_ℤ (pos v) ≡ x = some_is (neg_ℤ (pos v)) x e in
+        let size : v < 2 ^ 64 = subst (λ n. n < 2 ^ 64) (size_negated v) (subst (λ y. unsigned_abs y < 2 ^ 64) (sym same) small) in
+        ap (λ w. 45 ∷ w) (positive_take ds is size) ∙ sym (spelled_negated v (positive_value ds is)) ∙ ap signed_decimal same
+    by false is e = absurd cc
+
+-- a text that spells a number is its spelling
+number_spells : (w : List ℕ) (x : ℤ) → number_of w ≡ Some x → unsigned_abs x < 2 ^ 64 → w ≡ signed_decimal x
+unfolding number_of
+number_spells [] x e small = absurd cc
+number_spells (c ∷ ds) x e small = by (c == 45) refl e
+  where
+    by : (b : Bool) → (c == 45) ≡ b → (if b then negative_of ds else natural_of (c ∷ ds)) ≡ Some x → c ∷ ds ≡ signed_decimal x
+    by true is e = ap (λ d. d ∷ ds) (eqb-true c 45 is) ∙ negative_spells ds x e small
+    by false is e = natural_spells (c ∷ ds) x e small
+
+no_sign : (ds : List ℕ) (x : ℤ) → natural_of (45 ∷ ds) ≡ Some x → ⊥
+no_sign [] x e = cc
+no_sign (d ∷ ds) x e = cc
+
+natural_number : (w : List ℕ) (x : ℤ) → natural_of w ≡ Some x → number_of w ≡ Some x
+unfolding number_of
+natural_number [] x e = e
+natural_number (c ∷ ds) x e = by (c == 45) refl
+  where
+    by : (b : Bool) → (c == 45) ≡ b → (if b then negative_of ds else natural_of (c ∷ ds)) ≡ Some x
+    by true is = absurd (no_sign ds x (subst (λ d. natural_of (d ∷ ds) ≡ Some x) (eqb-true c 45 is) e))
+    by false is = e
+
+-- the spelling of a number is read as the number
+number_again : (x : ℤ) → unsigned_abs x < 10 ^ 64 → number_of (signed_decimal x) ≡ Some x
+unfolding number_of
+number_again (pos n) h = natural_number (decimal n) (pos n) (natural_spelled n h)
+number_again (negsuc n) h = negative_spelled n h
+
+natural_in_takes : (at : ℕ) (quantity : What) (least greatest : ℕ) (x : ℤ) (n : ℕ) → natural_in at quantity least greatest x ≡ Ok n → (x ≡ pos n) × (least ≤ n) × (n ≤ greatest)
+natural_in_takes at quantity least greatest (pos m) n e =
+    let t = provided_ok (nat_le least m && nat_le m greatest) (Limit at quantity) (Ok m) n e in
+    let both = and_parts (nat_le least m) (nat_le m greatest) t.0 in
+    let same : m ≡ n = ok_is m n t.1 in
+    (ap pos same, subst (λ k. least ≤ k) same (leb-true least m both.0), subst (λ k. k ≤ greatest) same (leb-true m greatest both.1))
+natural_in_takes at quantity least greatest (negsuc m) n e = absurd cc
+
 pub natural_takes : (at : ℕ) (quantity : What) (least greatest : ℕ) (w : List ℕ) (n : ℕ) → greatest ≤ 10 ^ 9 → natural_at at quantity least greatest w ≡ Ok n → (w ≡ decimal n) × (least ≤ n) × (n ≤ greatest)
-natural_takes at quantity least greatest w n h e = ?
+unfolding natural_at
+natural_takes at quantity least greatest w n h e =
+    let b = bind_ok (ok_or (number_of w) (Number at)) (natural_in at quantity least greatest) n e in
+    let t = natural_in_takes at quantity least greatest b.0 n b.2 in
+    let is : number_of w ≡ Some (pos n) = ok_some (number_of w) (Number at) b.0 b.1 ∙ ap some t.0 in
+    let high : n ≤ greatest = t.2 in
+    (number_spells w (pos n) is (omega arith), t.1, t.2)
 
 pub natural_again : (at : ℕ) (quantity : What) (least greatest n : ℕ) → greatest ≤ 10 ^ 9 → least ≤ n → n ≤ greatest → natural_at at quantity least greatest (decimal n) ≡ Ok n
-natural_again at quantity least greatest n h low high = ?
+unfolding natural_at
+natural_again at quantity least greatest n h low high =
+    let is : number_of (decimal n) ≡ Some (pos n) = number_again (pos n) (omega arith) in
+    rw (is, le-leb least n low, le-leb n greatest high) refl
 
 pub natural_field : (n : ℕ) → n ≤ 10 ^ 9 → IsField (decimal n)
-natural_field n h = ?
+natural_field n h =
+    let digits : list_all is_ascii_digit (decimal n) ≡ true = sym (same_digits (decimal n)) ∙ digits_decimal (numerals_by_value _ tells_all_ascii_digits) n (omega arith) in
+    record { no_space = lacks_others is_ascii_digit 32 (decimal n) refl digits; no_line_feed = lacks_others is_ascii_digit 10 (decimal n) refl digits }
+
+-- the size of a number within a limit, and back
+within_size : (greatest : ℕ) (x : ℤ) → unsigned_abs x ≤ greatest → LiesWithin greatest x
+within_size greatest (pos n) h = (omega (arith, ints), omega (arith, ints))
+within_size greatest (negsuc n) h = (omega (arith, ints), omega (arith, ints))
+
+size_within : (greatest : ℕ) (x : ℤ) → LiesWithin greatest x → unsigned_abs x ≤ greatest
+size_within greatest (pos n) h = omega (arith, ints, h.0, h.1)
+size_within greatest (negsuc n) h = omega (arith, ints, h.0, h.1)
 
 pub integer_takes : (at : ℕ) (quantity : What) (greatest : ℕ) (w : List ℕ) (x : ℤ) → greatest ≤ 10 ^ 9 → integer_at at quantity greatest w ≡ Ok x → (w ≡ signed_decimal x) × LiesWithin greatest x
-integer_takes at quantity greatest w x h e = ?
+unfolding integer_at
+integer_takes at quantity greatest w x h e =
+    let b = bind_ok (ok_or (number_of w) (Number at)) (λ y. provided (nat_le (unsigned_abs y) greatest) (Limit at quantity) (Ok y)) x e in
+    let t = provided_ok (nat_le (unsigned_abs b.0) greatest) (Limit at quantity) (Ok b.0) x b.2 in
+    let same : b.0 ≡ x = ok_is b.0 x t.1 in
+    let is : number_of w ≡ Some x = ok_some (number_of w) (Number at) b.0 b.1 ∙ ap some same in
+    let size : unsigned_abs x ≤ greatest = subst (λ y. unsigned_abs y ≤ greatest) same (leb-true (unsigned_abs b.0) greatest t.0) in
+    (number_spells w x is (omega arith), within_size greatest x size)
 
 pub integer_again : (at : ℕ) (quantity : What) (greatest : ℕ) (x : ℤ) → greatest ≤ 10 ^ 9 → LiesWithin greatest x → integer_at at quantity greatest (signed_decimal x) ≡ Ok x
-integer_again at quantity greatest x h within = ?
+unfolding integer_at
+integer_again at quantity greatest x h within =
+    let size : unsigned_abs x ≤ greatest = size_within greatest x within in
+    let is : number_of (signed_decimal x) ≡ Some x = number_again x (omega arith) in
+    rw (is, le-leb (unsigned_abs x) greatest size) refl
 
 pub integer_field : (x : ℤ) → LiesWithin (10 ^ 9) x → IsField (signed_decimal x)
-integer_field x h = ?
+integer_field (pos n) h = natural_field n (size_within (10 ^ 9) (pos n) h)
+integer_field (negsuc n) h = let f = natural_field (suc n) (size_within (10 ^ 9) (negsuc n) h) in record { no_space = f.no_space; no_line_feed = f.no_line_feed }
 
 -- ---- names
 
+name_bytes : (w : List ℕ) → is_name_text w ≡ true → (1 ≤ length w) × (list_all is_name_byte w ≡ true)
+name_bytes [] h = absurd cc
+name_bytes (b ∷ bs) h = (omega arith, h)
+
+name_text : (w : List ℕ) → 1 ≤ length w → list_all is_name_byte w ≡ true → is_name_text w ≡ true
+name_text [] h k = absurd (omega arith)
+name_text (b ∷ bs) h k = k
+
 pub name_takes : (at : ℕ) (w name : List ℕ) → job_name_at at w ≡ Ok name → (w ≡ name) × IsJobName name
-name_takes at w name e = ?
+unfolding job_name_at
+name_takes at w name e =
+    let s = provided_ok (is_name_text w) (Name at) (provided (nat_le (length w) 32) (Limit at what.Name) (Ok w)) name e in
+    let t = provided_ok (nat_le (length w) 32) (Limit at what.Name) (Ok w) name s.1 in
+    let same : w ≡ name = ok_is w name t.1 in
+    let bytes = name_bytes w s.0 in
+    let is : IsJobName w = record { some = bytes.0; short = leb-true (length w) 32 t.0; bytes = AllPass-from_list_all is_name_byte w bytes.1 } in
+    (same, subst IsJobName same is)
 
 pub name_again : (at : ℕ) (name : List ℕ) → IsJobName name → job_name_at at name ≡ Ok name
-name_again at name h = ?
+unfolding job_name_at
+name_again at name h = rw (name_text name h.some (list_all-from_AllPass is_name_byte name h.bytes), le-leb (length name) 32 h.short) refl
 
 pub name_field : (name : List ℕ) → IsJobName name → IsField name
-name_field name h = ?
+name_field name h =
+    let all = list_all-from_AllPass is_name_byte name h.bytes in
+    record { no_space = lacks_others is_name_byte 32 name refl all; no_line_feed = lacks_others is_name_byte 10 name refl all }
 
 pub known_takes : (at : ℕ) (names : List (List ℕ)) (w : List ℕ) (k : ℕ) → known_at at names w ≡ Ok k → (w ≡ name_at names k) × (k < length names)
-known_takes at names w k e = ?
+unfolding known_at
+known_takes at names w k e =
+    let b = bind_ok (job_name_at at w) (λ name. ok_or (position (bytes_eq name) names) (Unknown at)) k e in
+    let found = ok_some (position (bytes_eq b.0) names) (Unknown at) k b.2 in
+    let there = position-Some (bytes_eq b.0) names k [] found in
+    ((name_takes at w b.0 b.1).0 ∙ same_bytes b.0 (get_or names k []) there.1, there.0)
+
+differs : (a b : List ℕ) → a ≢ b → bytes_eq b a ≡ false
+differs a b h = by (bytes_eq b a) refl
+  where
+    by : (t : Bool) → bytes_eq b a ≡ t → t ≡ false
+    by true e = absurd (h (sym (same_bytes b a e)))
+    by false e = refl
+
+-- a name of distinct ones is found at its place
+found_again : (names : List (List ℕ)) (k : ℕ) → AreDistinct names → k < length names → position (bytes_eq (get_or names k [])) names ≡ Some k
+found_again names k apart h =
+    let place : position_or_len (bytes_eq (get_or names k [])) names ≡ k = position_or_len_is (bytes_eq (get_or names k [])) names k [] (omega arith) (λ j before. differs (get_or names j []) (get_or names k []) (apart j k [] before h)) (λ within. (bytes_eq-Decides (get_or names k []) (get_or names k [])).1 refl) in
+    rw (place, lt-ltb k (length names) h) refl
 
 pub known_again : (at : ℕ) (names : List (List ℕ)) (k : ℕ) → AreDistinct names → All IsJobName names → k < length names → known_at at names (name_at names k) ≡ Ok k
-known_again at names k apart spelled h = ?
+unfolding known_at
+known_again at names k apart spelled h =
+    rw (name_again at (get_or names k []) (spelled k [] h), found_again names k apart h) refl
 
 -- ---- numbers behind keys
 
@@ -59,18 +255,52 @@ abbrev pub IsKeyedInteger : Bool → ℕ → ℤ → Type 0
 IsKeyedInteger true greatest x = LiesWithin greatest x
 IsKeyedInteger false greatest x = x ≡ pos 0
 
+-- the field of a key, which comes first
+keyed_takes : (at letter : ℕ) (fields : List (List ℕ)) (w : List ℕ) → keyed_at at letter (first_of fields) ≡ Ok w → fields ≡ (letter ∷ 61 ∷ w) ∷ others_of fields
+keyed_takes at letter [] w e = absurd cc
+keyed_takes at letter ([] ∷ fs) w e = absurd cc
+keyed_takes at letter ((k ∷ []) ∷ fs) w e = absurd cc
+keyed_takes at letter ((k ∷ s ∷ v) ∷ fs) w e =
+    let t = provided_ok ((k == letter) && (s == 61)) (Key at) (Ok v) w e in
+    let both = and_parts (k == letter) (s == 61) t.0 in
+    let a : k ≡ letter = eqb-true k letter both.0 in
+    let b : s ≡ 61 = eqb-true s 61 both.1 in
+    let c : v ≡ w = ok_is v w t.1 in
+    cc
+
+keyed_again : (at letter : ℕ) (w : List ℕ) → keyed_at at letter (letter ∷ 61 ∷ w) ≡ Ok w
+keyed_again at letter w = rw (eq-eqb letter letter refl) refl
+
 pub natural_key_takes : (at : ℕ) (there : Bool) (letter : ℕ) (quantity : What) (least greatest : ℕ) (fields : List (List ℕ)) (x : ℕ × List (List ℕ)) → greatest ≤ 10 ^ 9
     → natural_key_at at there letter quantity least greatest fields ≡ Ok x → (fields ≡ where_wanted there ((letter ∷ 61 ∷ decimal x.0) ∷ []) ++ x.1) × IsKeyed there least greatest x.0
-natural_key_takes at there letter quantity least greatest fields x h e = ?
+unfolding natural_key_at
+natural_key_takes at true letter quantity least greatest fields x h e =
+    let a = bind_ok (keyed_at at letter (first_of fields)) (λ w. natural_at at quantity least greatest w >>= λ n. Ok (n, others_of fields)) x e in
+    let b = bind_ok (natural_at at quantity least greatest a.0) (λ n. Ok (n, others_of fields)) x a.2 in
+    let t = natural_takes at quantity least greatest a.0 b.0 h b.1 in
+    let line : fields ≡ (letter ∷ 61 ∷ decimal b.0) ∷ others_of fields = keyed_takes at letter fields a.0 a.1 ∙ ap (λ w. (letter ∷ 61 ∷ w) ∷ others_of fields) t.0 in
+    subst (λ y. (fields ≡ (letter ∷ 61 ∷ decimal y.0) ∷ y.1) × ((least ≤ y.0) × (y.0 ≤ greatest))) (ok_is (b.0, others_of fields) x b.2) (line, (t.1, t.2))
+natural_key_takes at false letter quantity least greatest fields x h e = subst (λ y. (fields ≡ y.1) × (y.0 ≡ least)) (ok_is (least, fields) x e) (refl, refl)
 
 pub natural_key_again : (at : ℕ) (there : Bool) (letter : ℕ) (quantity : What) (least greatest n : ℕ) (more : List (List ℕ)) → greatest ≤ 10 ^ 9
     → IsKeyed there least greatest n → natural_key_at at there letter quantity least greatest (where_wanted there ((letter ∷ 61 ∷ decimal n) ∷ []) ++ more) ≡ Ok (n, more)
-natural_key_again at there letter quantity least greatest n more h k = ?
+unfolding natural_key_at
+natural_key_again at true letter quantity least greatest n more h k = rw (keyed_again at letter (decimal n), natural_again at quantity least greatest n h k.0 k.1) refl
+natural_key_again at false letter quantity least greatest n more h k = ap (λ m. Ok (m, more)) (sym k)
 
 pub integer_key_takes : (at : ℕ) (there : Bool) (letter : ℕ) (quantity : What) (greatest : ℕ) (fields : List (List ℕ)) (x : ℤ × List (List ℕ)) → greatest ≤ 10 ^ 9
     → integer_key_at at there letter quantity greatest fields ≡ Ok x → (fields ≡ where_wanted there ((letter ∷ 61 ∷ signed_decimal x.0) ∷ []) ++ x.1) × IsKeyedInteger there greatest x.0
-integer_key_takes at there letter quantity greatest fields x h e = ?
+unfolding integer_key_at
+integer_key_takes at true letter quantity greatest fields x h e =
+    let a = bind_ok (keyed_at at letter (first_of fields)) (λ w. integer_at at quantity greatest w >>= λ y. Ok (y, others_of fields)) x e in
+    let b = bind_ok (integer_at at quantity greatest a.0) (λ y. Ok (y, others_of fields)) x a.2 in
+    let t = integer_takes at quantity greatest a.0 b.0 h b.1 in
+    let line : fields ≡ (letter ∷ 61 ∷ signed_decimal b.0) ∷ others_of fields = keyed_takes at letter fields a.0 a.1 ∙ ap (λ w. (letter ∷ 61 ∷ w) ∷ others_of fields) t.0 in
+    subst (λ y. (fields ≡ (letter ∷ 61 ∷ signed_decimal y.0) ∷ y.1) × LiesWithin greatest y.0) (ok_is (b.0, others_of fields) x b.2) (line, t.1)
+integer_key_takes at false letter quantity greatest fields x h e = subst (λ y. (fields ≡ y.1) × (y.0 ≡ pos 0)) (ok_is (pos 0, fields) x e) (refl, refl)
 
 pub integer_key_again : (at : ℕ) (there : Bool) (letter : ℕ) (quantity : What) (greatest : ℕ) (x : ℤ) (more : List (List ℕ)) → greatest ≤ 10 ^ 9
     → IsKeyedInteger there greatest x → integer_key_at at there letter quantity greatest (where_wanted there ((letter ∷ 61 ∷ signed_decimal x) ∷ []) ++ more) ≡ Ok (x, more)
-integer_key_again at there letter quantity greatest x more h k = ?
+unfolding integer_key_at
+integer_key_again at true letter quantity greatest x more h k = rw (keyed_again at letter (signed_decimal x), integer_again at quantity greatest x h k) refl
+integer_key_again at false letter quantity greatest x more h k = ap (λ y. Ok (y, more)) (sym k)

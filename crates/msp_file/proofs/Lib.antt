@@ -8,10 +8,10 @@ mod LineFaults
 mod AnswerLemmas
 mod PrintLemmas
 mod NumberTexts
-mod LineLaws
-mod FieldLaws
+pub mod LineLaws
+pub mod FieldLaws
 mod JobLaws
-mod HeadLaws
+pub mod HeadLaws
 pub mod Apart
 pub mod ArcLaws
 pub mod JobsLaws

@@ -1,11 +1,18 @@
 -- A line that is read is the line that was written, and what was written is read again.
-use Rattle.std.proofs.Common.{◌≡◌, ℕ, Bool, true, false, List, [], ◌∷◌, ◌++◌, Result, Ok, Err, refl}
-use Rattle.std.specs.List.{AllByRecursion, join_with_byte}
-use Rattle.msp_name.proofs.Marks.{Lacks}
+use Rattle.std.proofs.Common.{◌≡◌, ℕ, suc, ◌+◌, ◌≤◌, Bool, true, false, ltb, ◌||◌, ◌==◌, List, [], ◌∷◌, ◌++◌, length, take, drop, get_or, position, bytes_eq, Option, Some, None, Result, Ok, Err, refl, sym, ap, subst, ◌∙◌, append_assoc, length-append, take-append-drop, drop-cons, take_at, drop_at, add-one, one-add, arith}
+use Rattle.std.specs.List.{AllByRecursion, join_with_byte, list_any, position_or_len}
+use Rattle.std.proofs.lemmas.Bool.{eqb-true, lt-ltb}
+use Rattle.std.proofs.lemmas.Slice.Eq.{bytes_eq-Decides}
+use Rattle.std.proofs.lemmas.List.Folds.{list_any-append}
+use Rattle.std.proofs.lemmas.List.Quantifiers.{position-Some}
+use Rattle.std.proofs.lemmas.List.Splits.{join_with_byte-slice_split, length-slice_split}
+use Rattle.msp_name.proofs.Marks.{Lacks, parts-whole, parts-first}
 use Rattle.msp_file.specs.declared.fault.FileFault.{FileFault}
+use Rattle.msp_file.specs.declared.fault.FileFault.TheVariants.{Missing, Cut, Line}
 use Rattle.msp_file.specs.ScheduleText.{line_feed}
 use Rattle.msp_file.specs.InstanceText.{line_text}
 use Rattle.msp_file.specs.Reading.{◌>>=◌, provided, Place, line_at, fields_of, first_of, others_of, worded_at}
+use Rattle.msp_file.proofs.NameLists.{same_bytes}
 
 -- ---- steps that did not fail
 
@@ -34,7 +41,7 @@ abbrev pub Gets : {A : Type 0} → Result (A × Place) FileFault → A → List 
 Gets read x rest = (at : ℕ) × (read ≡ Ok (x, record { at = at; rest = rest }))
 
 pub Takes-then : (p q r : Place) (a b : List ℕ) → Takes p a q → Takes q b r → Takes p (a ++ b) r
-Takes-then p q r a b h k = ?
+Takes-then p q r a b h k = h ∙ ap (λ t. a ++ t) k ∙ sym (append_assoc a b r.rest)
 
 -- ---- lines and fields
 
@@ -43,30 +50,92 @@ pub record IsField (w : List ℕ) : Type 0 where
   pub no_space : Lacks 32 w
   pub no_line_feed : Lacks 10 w
 
+-- a text cut at its first line feed
+cut : (text : List ℕ) (k : ℕ) → position (λ x. x == 10) text ≡ Some k → text ≡ (take k text ++ line_feed) ++ drop (k + 1) text
+cut text k e =
+    let h = position-Some (λ x. x == 10) text k 0 e in
+    let is : get_or text k 0 ≡ 10 = eqb-true (get_or text k 0) 10 h.1 in
+    sym (take-append-drop k text)
+    ∙ ap (λ t. take k text ++ t) (drop-cons text k 0 h.0 ∙ ap (λ x. x ∷ drop (suc k) text) is ∙ ap (λ n. 10 ∷ drop n text) (sym (add-one k)))
+    ∙ sym (append_assoc (take k text) line_feed (drop (k + 1) text))
+
+-- what reading makes of the place of a line feed
+ends_at : Place → Option ℕ → Result (List ℕ × Place) FileFault
+ends_at p (Some k) = Ok (take k p.rest, record { at = p.at + 1; rest = drop (k + 1) p.rest })
+ends_at p None = Err (elim p.rest [ [] ↦ Missing p.at | _ ∷ _ ↦ Cut p.at ])
+
 pub line_takes : (p : Place) (x : List ℕ × Place) → line_at p ≡ Ok x → Takes p (x.0 ++ line_feed) x.1
-line_takes p x e = ?
+unfolding line_at ends_at
+line_takes p x e = by (position (λ y. y == 10) p.rest) refl e
+  where
+    by : (o : Option ℕ) → position (λ y. y == 10) p.rest ≡ o → ends_at p o ≡ Ok x → Takes p (x.0 ++ line_feed) x.1
+    by (Some k) is e = subst (λ y. Takes p (y.0 ++ line_feed) y.1) (ok_is (take k p.rest, record { at = p.at + 1; rest = drop (k + 1) p.rest }) x e) (cut p.rest k is)
+    by None is e = absurd cc
+
+-- the first line feed of a text stands behind its first line
+first_feed : (line rest : List ℕ) → Lacks 10 line → position_or_len (λ x. x == 10) (line ++ (10 ∷ rest)) ≡ length line
+first_feed [] rest h = refl
+first_feed (x ∷ xs) rest h = by (x == 10) refl h (first_feed xs rest)
+  where
+    by : (t : Bool) → (x == 10) ≡ t → (t || list_any (λ y. y == 10) xs) ≡ false
+        → (Lacks 10 xs → position_or_len (λ y. y == 10) (xs ++ (10 ∷ rest)) ≡ length xs) → position_or_len (λ y. y == 10) (x ∷ (xs ++ (10 ∷ rest))) ≡ suc (length xs)
+    by true e h next = absurd cc
+    by false e h next = rw e (ap (λ n. 1 + n) (next h) ∙ one-add (length xs))
+
+feed_at : (line rest : List ℕ) → Lacks 10 line → position (λ x. x == 10) (line ++ (10 ∷ rest)) ≡ Some (length line)
+feed_at line rest h =
+    let within : ltb (length line) (length (line ++ (10 ∷ rest))) ≡ true = lt-ltb _ _ (omega (arith, length-append line (10 ∷ rest))) in
+    rw (first_feed line rest h, within) refl
 
 pub line_again : (at : ℕ) (line rest : List ℕ) → Lacks 10 line → Gets (line_at (record { at = at; rest = (line ++ line_feed) ++ rest })) line rest
-line_again at line rest h = ?
+unfolding line_at ends_at
+line_again at line rest h =
+    let text : List ℕ = (line ++ line_feed) ++ rest in
+    let there : position (λ x. x == 10) text ≡ Some (length line) = ap (position (λ x. x == 10)) (append_assoc line line_feed rest) ∙ feed_at line rest h in
+    let front : take (length line) text ≡ line = ap (take (length line)) (append_assoc line line_feed rest) ∙ take_at line (10 ∷ rest) (length line) refl in
+    let back : drop (length line + 1) text ≡ rest = drop_at (line ++ line_feed) rest (length line + 1) (length-append line line_feed) in
+    (at + 1, ap (ends_at (record { at = at; rest = text })) there ∙ rw (front, back) refl)
 
 pub fields_join : (line : List ℕ) → join_with_byte 32 (fields_of line) ≡ line
-fields_join line = ?
+fields_join line = join_with_byte-slice_split 32 line
 
 pub fields_again : (w : List ℕ) (ws : List (List ℕ)) → AllByRecursion IsField (w ∷ ws) → fields_of (join_with_byte 32 (w ∷ ws)) ≡ w ∷ ws
-fields_again w ws h = ?
+fields_again w [] h = parts-whole 32 w h.0.no_space
+fields_again w (v ∷ vs) h = parts-first 32 w (join_with_byte 32 (v ∷ vs)) h.0.no_space ∙ ap (λ ps. w ∷ ps) (fields_again v vs h.1)
 
 pub join_lacks : (w : List ℕ) (ws : List (List ℕ)) → AllByRecursion IsField (w ∷ ws) → Lacks 10 (join_with_byte 32 (w ∷ ws))
-join_lacks w ws h = ?
+join_lacks w [] h = h.0.no_line_feed
+join_lacks w (v ∷ vs) h = list_any-append (λ x. x == 10) w (32 ∷ join_with_byte 32 (v ∷ vs)) ∙ rw (h.0.no_line_feed) (join_lacks v vs h.1)
+
+-- a line has a first field
+begun : (ws : List (List ℕ)) → 1 ≤ length ws → first_of ws ∷ others_of ws ≡ ws
+begun [] h = absurd (omega arith)
+begun (w ∷ ws) h = refl
+
+fields_begin : (line : List ℕ) → first_of (fields_of line) ∷ others_of (fields_of line) ≡ fields_of line
+fields_begin line = begun (fields_of line) (omega (arith, length-slice_split (λ x. x == 32) line))
 
 -- a line by its first field and the others
 pub fields_takes : (p : Place) (x : List ℕ × Place) → line_at p ≡ Ok x → Takes p (line_text (first_of (fields_of x.0) ∷ others_of (fields_of x.0))) x.1
-fields_takes p x e = ?
+fields_takes p x e =
+    let whole : join_with_byte 32 (first_of (fields_of x.0) ∷ others_of (fields_of x.0)) ≡ x.0 = ap (join_with_byte 32) (fields_begin x.0) ∙ fields_join x.0 in
+    line_takes p x e ∙ ap (λ line. (line ++ line_feed) ++ x.1.rest) (sym whole)
 
 pub fields_line_again : (at : ℕ) (w : List ℕ) (ws : List (List ℕ)) (rest : List ℕ) → AllByRecursion IsField (w ∷ ws) → Gets (line_at (record { at = at; rest = line_text (w ∷ ws) ++ rest })) (join_with_byte 32 (w ∷ ws)) rest
-fields_line_again at w ws rest h = ?
+fields_line_again at w ws rest h = line_again at (join_with_byte 32 (w ∷ ws)) rest (join_lacks w ws h)
 
 pub worded_takes : (word : List ℕ) (p : Place) (x : List (List ℕ) × Place) → worded_at word p ≡ Ok x → Takes p (line_text (word ∷ x.0)) x.1
-worded_takes word p x e = ?
+unfolding worded_at
+worded_takes word p x e =
+    let l = bind_ok (line_at p) (λ l. provided (bytes_eq (first_of (fields_of l.0)) word) (Line p.at) (Ok (others_of (fields_of l.0), l.1))) x e in
+    let line = l.0 in
+    let t = provided_ok (bytes_eq (first_of (fields_of line.0)) word) (Line p.at) (Ok (others_of (fields_of line.0), line.1)) x l.2 in
+    let is : first_of (fields_of line.0) ≡ word = same_bytes _ _ t.0 in
+    subst (λ y. Takes p (line_text (word ∷ y.0)) y.1) (ok_is (others_of (fields_of line.0), line.1) x t.1)
+    (subst (λ v. Takes p (line_text (v ∷ others_of (fields_of line.0))) line.1) is (fields_takes p line l.1))
 
 pub worded_again : (word : List ℕ) (ws : List (List ℕ)) (at : ℕ) (rest : List ℕ) → AllByRecursion IsField (word ∷ ws) → Gets (worded_at word (record { at = at; rest = line_text (word ∷ ws) ++ rest })) ws rest
-worded_again word ws at rest h = ?
+unfolding worded_at
+worded_again word ws at rest h =
+    let line = fields_line_again at word ws rest h in
+    (line.0, rw (line.1, fields_again word ws h, (bytes_eq-Decides word word).1 refl) refl)
