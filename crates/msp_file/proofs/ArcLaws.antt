@@ -1,6 +1,6 @@
 -- The lines of arcs: what is read is the text of the arcs, and the text of arcs is read as those arcs.
-use Rattle.std.proofs.Common.{◌≡◌, ◌≢◌, ℕ, zero, suc, ◌+◌, ◌<◌, ◌≤◌, Bool, true, false, not, ◌&&◌, ◌==◌, if◌then◌else◌, List, [], ◌∷◌, ◌++◌, length, All, AllPairs, Contains, Result, Ok, Err, bytes_eq, codes, refl, sym, ap, subst, ◌∙◌, append_assoc, append-nil, arith, length-append, ltb-true, lt-ltb, eqb-true, eq-eqb}
-use Rattle.std.specs.List.{AllByRecursion, list_any, join_with_byte}
+use Rattle.std.proofs.Common.{◌≡◌, ◌≢◌, ℕ, zero, suc, ◌+◌, ◌<◌, ◌≤◌, Bool, true, false, not, ◌&&◌, ◌==◌, if◌then◌else◌, List, [], ◌∷◌, ◌++◌, length, All, AllPairs, Contains, Result, Ok, bytes_eq, codes, refl, sym, ap, subst, ◌∙◌, append_assoc, append-nil, arith, length-append, ltb-true, lt-ltb, eqb-true, eq-eqb}
+use Rattle.std.specs.List.{AllByRecursion}
 use Rattle.std.proofs.lemmas.Bool.{and_parts}
 use Rattle.std.proofs.lemmas.Map.Views.{Contains-from_any}
 use Rattle.std.proofs.lemmas.List.Folds.{list_any_at}
@@ -12,7 +12,7 @@ use Rattle.msp_file.specs.declared.draft.Draft.{Draft}
 use Rattle.msp_file.specs.JobName.{IsJobName, AreDistinct}
 use Rattle.msp_file.specs.ScheduleText.{name_at}
 use Rattle.msp_file.specs.InstanceText.{line_text, arc_fields, arcs_text}
-use Rattle.msp_file.specs.Reading.{◌>>=◌, provided, Place, line_at, fields_of, first_of, others_of, is_arc_among, with_arc, arc_line_at, end_at, arcs_at}
+use Rattle.msp_file.specs.Reading.{◌>>=◌, Place, line_at, fields_of, first_of, others_of, is_arc_among, with_arc, arc_line_at, end_at, arcs_at}
 use Rattle.msp_file.proofs.NameLists.{same_bytes}
 use Rattle.msp_file.proofs.Apart.{apart_push, apart_before}
 use Rattle.msp_file.proofs.LineLaws.{bind_ok, provided_ok, ok_is, Takes, Gets, Takes-then, IsField, fields_takes, fields_again, fields_line_again}
@@ -27,10 +27,10 @@ line_then f at w ws rest h =
     let g = fields_line_again at w ws rest h in
     (g.0, ap (λ r. r >>= λ l. f (fields_of l.0) l.1) g.1 ∙ ap (λ fields. f fields (record { at = g.0; rest = rest })) (fields_again w ws h))
 
-no_fields : (fields : List (List ℕ)) → (length fields == 1) ≡ true → fields ≡ first_of fields ∷ []
-no_fields [] h = absurd cc
-no_fields (w ∷ []) h = refl
-no_fields (w ∷ v ∷ ws) h = absurd (omega (arith, eqb-true _ _ h))
+one_field : (fields : List (List ℕ)) → (length fields == 1) ≡ true → fields ≡ first_of fields ∷ []
+one_field [] h = absurd cc
+one_field (w ∷ []) h = refl
+one_field (w ∷ v ∷ ws) h = absurd (omega (arith, eqb-true _ _ h))
 
 two_fields : (fields : List (List ℕ)) → (length fields == 2) ≡ true → fields ≡ first_of fields ∷ first_of (others_of fields) ∷ []
 two_fields [] h = absurd cc
@@ -51,7 +51,7 @@ end_takes at d fields p q x t e =
     let a = provided_ok _ _ _ x e in
     let b = provided_ok _ _ _ x a.1 in
     let first : first_of fields ≡ codes "end" = same_bytes (first_of fields) (codes "end") a.0 in
-    let others : others_of fields ≡ [] = ap others_of (no_fields fields b.0) in
+    let others : others_of fields ≡ [] = ap others_of (one_field fields b.0) in
     (sym (ok_is (d, q) x b.1), subst (λ (ws : List (List ℕ)). Takes p (line_text (codes "end" ∷ ws)) q) others (subst (λ (w : List ℕ). Takes p (line_text (w ∷ others_of fields)) q) first t))
 
 -- ---- the line of an arc
@@ -174,7 +174,7 @@ then_arcs d fields e p q x t h fit rest = subst (λ (e : Draft). (AreArcs e.name
           fit = subst (AreArcs d.names) (append_assoc d.arcs (h.arc ∷ []) a.more) a.fit;
         }
 
-pub no_arcs : (d : Draft) (p : Place) (x : Draft × Place) (q : Place) → AreArcs d.names d.arcs → x ≡ (d, q) → Takes p end_text q → AddsArcs d p x.0 x.1
+no_arcs : (d : Draft) (p : Place) (x : Draft × Place) (q : Place) → AreArcs d.names d.arcs → x ≡ (d, q) → Takes p end_text q → AddsArcs d p x.0 x.1
 no_arcs d p x q fit e t =
     subst (λ (y : Draft × Place). AddsArcs d p y.0 y.1) (sym e) (record { more = []; added = ap (λ (arcs : List Arc). record d { arcs = arcs }) (sym (append-nil d.arcs)); text = t; fit = subst (AreArcs d.names) (sym (append-nil d.arcs)) fit })
 

@@ -1,9 +1,8 @@
 -- The lines after the head: what is read is the text of the jobs and arcs, and the text of jobs and arcs is read as those.
-use Rattle.std.proofs.Common.{◌≡◌, ◌≢◌, ℕ, zero, suc, ◌+◌, ◌<◌, ◌≤◌, Bool, true, false, ◌&&◌, if◌then◌else◌, List, [], ◌∷◌, ◌++◌, length, All, AllPairs, Contains, Result, Ok, Err, bytes_eq, codes, refl, sym, ap, subst, ◌∙◌, append_assoc, append-nil, arith, length-append}
-use Rattle.std.specs.List.{AllByRecursion, join_with_byte}
+use Rattle.std.proofs.Common.{◌≡◌, ℕ, zero, suc, ◌+◌, ◌<◌, ◌≤◌, Bool, true, false, ◌&&◌, if◌then◌else◌, List, [], ◌∷◌, ◌++◌, length, All, Contains, Result, Ok, bytes_eq, codes, refl, sym, ap, subst, ◌∙◌, append_assoc, append-nil, arith, length-append}
 use Rattle.std.proofs.lemmas.Bool.{and_parts}
 use Rattle.std.proofs.lemmas.List.{get_or_at}
-use Rattle.std.proofs.lemmas.List.Elements.{All-push, All-nil, All-head, All-tail}
+use Rattle.std.proofs.lemmas.List.Elements.{All-push, All-nil}
 use Rattle.msp_class.specs.declared.class.Class.{Class}
 use Rattle.msp_instance.specs.declared.Arc.{Arc}
 use Rattle.msp_instance.specs.declared.Job.{Job}
@@ -12,14 +11,14 @@ use Rattle.msp_instance.specs.Conditions.{text_limits, IsJobOf}
 use Rattle.msp_file.specs.declared.fault.FileFault.{FileFault}
 use Rattle.msp_file.specs.declared.draft.Draft.{Draft}
 use Rattle.msp_file.specs.JobName.{IsJobName, AreDistinct}
-use Rattle.msp_file.specs.ScheduleText.{line_feed, name_at}
+use Rattle.msp_file.specs.ScheduleText.{name_at}
 use Rattle.msp_file.specs.InstanceText.{line_text, has_order, key_fields, job_fields, times_text, route_text, curve_text, job_text, jobs_text, arc_fields, arcs_text}
 use Rattle.msp_file.specs.Reading.{◌>>=◌, Place, line_at, fields_of, first_of, others_of, with_arc, arc_line_at, job_at_line, end_at, arcs_at, jobs_at}
 use Rattle.msp_file.proofs.NameLists.{same_bytes}
 use Rattle.msp_file.proofs.Apart.{apart_push, apart_before}
-use Rattle.msp_file.proofs.LineLaws.{bind_ok, ok_is, Takes, Gets, Takes-then, IsField, fields_takes}
-use Rattle.msp_file.proofs.JobLaws.{IsReadJob, with_job, job_rest, AddsJob, job_takes, job_again, job_line_fields}
-use Rattle.msp_file.proofs.ArcLaws.{line_then, end_text, end_field, end_takes, arc_takes, arc_again, arc_line_fields, AreArcs, with_arcs, AddsArcs, then_arcs, arcs_take, arc_in, arcs_again}
+use Rattle.msp_file.proofs.LineLaws.{bind_ok, Takes, Gets, Takes-then, fields_takes}
+use Rattle.msp_file.proofs.JobLaws.{IsReadJob, job_rest, AddsJob, job_takes, job_again, job_line_fields}
+use Rattle.msp_file.proofs.ArcLaws.{line_then, end_text, end_field, end_takes, arc_takes, arc_again, arc_line_fields, AreArcs, AddsArcs, then_arcs, arcs_take, arc_in, arcs_again}
 
 -- ---- what was read
 
@@ -87,7 +86,7 @@ then_job c names jobs fields e p q r x t h fit rest =
     }
 
 -- no job follows
-pub only_arcs : (c : Class) (names : List (List ℕ)) (jobs : List Job) (p q : Place) (e : Draft) (a : AddsArcs (draft_of names jobs) p e q) → AreJobs c names jobs → (has_order c.order ≡ false → a.more ≡ []) → AddsLines c names jobs p e q
+only_arcs : (c : Class) (names : List (List ℕ)) (jobs : List Job) (p q : Place) (e : Draft) (a : AddsArcs (draft_of names jobs) p e q) → AreJobs c names jobs → (has_order c.order ≡ false → a.more ≡ []) → AddsLines c names jobs p e q
 only_arcs c names jobs p q e a fit ordered =
     let n : names ≡ names ++ [] = sym (append-nil names) in
     let j : jobs ≡ jobs ++ [] = sym (append-nil jobs) in
@@ -217,7 +216,7 @@ job_in i names jobs name more_names j more fit =
 job_then_again : (i : Instance) (name : List ℕ) (more_names : List (List ℕ)) (j : Job) (more : List Job) (arcs : List Arc) (n : ℕ) (names : List (List ℕ)) (jobs : List Job) (at : ℕ) (rest : List ℕ) → i.machines ≤ 32
     → AreTextJobs i (names ++ (name ∷ more_names)) (jobs ++ (j ∷ more)) → AreArcs (names ++ (name ∷ more_names)) arcs
     → ((next : ℕ) → AreTextJobs i ((names ++ name ∷ []) ++ more_names) ((jobs ++ j ∷ []) ++ more) → AreArcs ((names ++ name ∷ []) ++ more_names) arcs
-        → Gets (jobs_at n i.class i.machines (draft_of (names ++ name ∷ []) (jobs ++ j ∷ [])) (record { at = next; rest = (jobs_text i.class more_names more ++ arcs_text ((names ++ name ∷ []) ++ more_names) arcs ++ end_text) ++ rest })) (record { names = (names ++ name ∷ []) ++ more_names; jobs = (jobs ++ j ∷ []) ++ more; arcs = arcs }) rest)
+    → Gets (jobs_at n i.class i.machines (draft_of (names ++ name ∷ []) (jobs ++ j ∷ [])) (record { at = next; rest = (jobs_text i.class more_names more ++ arcs_text ((names ++ name ∷ []) ++ more_names) arcs ++ end_text) ++ rest })) (record { names = (names ++ name ∷ []) ++ more_names; jobs = (jobs ++ j ∷ []) ++ more; arcs = arcs }) rest)
     → Gets (jobs_at (suc n) i.class i.machines (draft_of names jobs) (record { at = at; rest = (jobs_text i.class (name ∷ more_names) (j ∷ more) ++ arcs_text (names ++ (name ∷ more_names)) arcs ++ end_text) ++ rest })) (record { names = names ++ (name ∷ more_names); jobs = jobs ++ (j ∷ more); arcs = arcs }) rest
 unfolding jobs_at
 job_then_again i name more_names j more arcs n names jobs at rest machines fit arcs_fit again =
@@ -276,7 +275,6 @@ job_then_again i name more_names j more arcs n names jobs at rest machines fit a
 pub jobs_again : (i : Instance) (more_names : List (List ℕ)) (more : List Job) (arcs : List Arc) (n : ℕ) (names : List (List ℕ)) (jobs : List Job) (at : ℕ) (rest : List ℕ) → i.machines ≤ 32 → length more_names ≡ length more
     → AreTextJobs i (names ++ more_names) (jobs ++ more) → AreArcs (names ++ more_names) arcs → (has_order i.class.order ≡ false → arcs ≡ []) → length more + length arcs < n
     → Gets (jobs_at n i.class i.machines (draft_of names jobs) (record { at = at; rest = (jobs_text i.class more_names more ++ arcs_text (names ++ more_names) arcs ++ end_text) ++ rest })) (record { names = names ++ more_names; jobs = jobs ++ more; arcs = arcs }) rest
-unfolding jobs_at
 jobs_again i [] (j ∷ more) arcs n names jobs at rest machines even fit arcs_fit ordered enough = absurd (omega (arith, even))
 jobs_again i (name ∷ more_names) [] arcs n names jobs at rest machines even fit arcs_fit ordered enough = absurd (omega (arith, even))
 jobs_again i [] [] arcs n names jobs at rest machines even fit arcs_fit ordered enough =

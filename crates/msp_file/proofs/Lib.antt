@@ -15,4 +15,5 @@ pub mod HeadLaws
 pub mod Apart
 pub mod ArcLaws
 pub mod JobsLaws
-mod TextLaws
+pub mod TextLaws
+pub mod AnswerLaws

@@ -1,5 +1,5 @@
 -- Whole texts: what is read is an instance text, and an instance text is read as its instance.
-use Rattle.std.proofs.Common.{◌≡◌, ◌≢◌, ℕ, ◌+◌, ◌<◌, ◌≤◌, true, false, List, [], ◌∷◌, ◌++◌, length, All, AllPairs, ◌==◌, Result, Ok, Err, refl, sym, ap, subst, ◌∙◌, append_assoc, append-nil, arith, length-append, eqb-true, codes}
+use Rattle.std.proofs.Common.{◌≡◌, ◌≢◌, ℕ, ◌+◌, ◌<◌, ◌≤◌, false, List, [], ◌∷◌, ◌++◌, length, All, AllPairs, ◌==◌, Result, Ok, refl, sym, ap, subst, ◌∙◌, append_assoc, append-nil, arith, length-append, eqb-true, codes}
 use Rattle.std.specs.List.{join_with_byte}
 use Rattle.std.proofs.lemmas.List.{nil_from_length}
 use Rattle.std.proofs.lemmas.List.Elements.{All-nil}
@@ -24,7 +24,7 @@ use Rattle.msp_file.proofs.LineLaws.{bind_ok, provided_ok, ok_is, Takes, Gets, T
 use Rattle.msp_file.proofs.HeadLaws.{AreMachines, version_takes, version_again, class_takes, class_again, machines_takes, machines_again, speeds_takes, speeds_again}
 use Rattle.msp_file.proofs.JobLaws.{IsReadJob, job_rest}
 use Rattle.msp_file.proofs.ArcLaws.{end_text, AreArcs}
-use Rattle.msp_file.proofs.JobsLaws.{AreJobs, draft_of, AddsLines, AreTextJobs, jobs_take, jobs_again, regroup, job_text_parts}
+use Rattle.msp_file.proofs.JobsLaws.{AreJobs, AddsLines, AreTextJobs, jobs_take, jobs_again, regroup, job_text_parts}
 
 -- What reading the lines says of a text, before the conditions of its class are tested.
 pub record IsReadText (b : List ℕ) (f : Filed) : Type 0 where
@@ -100,22 +100,32 @@ front_of b spelling c machines speeds p q r d is spells good_machines good_speed
     filed = filed_of c machines speeds (record { names = lines.more_names; jobs = lines.more_jobs; arcs = lines.arcs })
 
     found : IsFront b (filed, r)
-    found = (front ++ (jobs ++ arcs ++ end_text), sym is ∙ Takes-then p q r front (jobs ++ arcs ++ end_text) head lines.text, record {
-      spelling = spelling;
-      spells = spells;
-      text = sym (regroup front jobs arcs end_text);
-      one_each = lines.fit.one_each;
-      spelled = lines.fit.spelled;
-      distinct = lines.fit.distinct;
-      few = lines.fit.few;
-      machines = good_machines c refl filed.instance refl refl;
-      speeds = good_speeds;
-      multiple = multiple;
-      jobs = lines.fit.read;
-      arcs = has_arcs c.order lines.arcs lines.ordered lines.arcs_fit.few;
-      ends = subst (λ (n : ℕ). All (λ a. (a.before < n) × (a.after < n)) lines.arcs) lines.fit.one_each lines.arcs_fit.ends;
-      once = lines.arcs_fit.once;
-    })
+    found = (
+      front ++ (jobs ++ arcs ++ end_text),
+      sym is ∙ Takes-then p q r front (jobs ++ arcs ++ end_text) head lines.text,
+      record {
+        spelling = spelling;
+        spells = spells;
+        text = sym (regroup front jobs arcs end_text);
+        one_each = lines.fit.one_each;
+        spelled = lines.fit.spelled;
+        distinct = lines.fit.distinct;
+        few = lines.fit.few;
+        machines = good_machines c refl filed.instance refl refl;
+        speeds = good_speeds;
+        multiple = multiple;
+        jobs = lines.fit.read;
+        arcs = has_arcs c.order lines.arcs lines.ordered lines.arcs_fit.few;
+        ends = subst (λ (n : ℕ). All (λ a. (a.before < n) × (a.after < n)) lines.arcs) lines.fit.one_each lines.arcs_fit.ends;
+        once = lines.arcs_fit.once;
+      },
+    )
+
+abbrev done : Filed × Place → Result (Filed × Place) FileFault
+done x = Ok x
+
+is_front : (b : List ℕ) (x y : Filed × Place) → IsFront b x → done x ≡ done y → IsFront b y
+is_front b x y h e = subst (IsFront b) (ok_is x y e) h
 
 front_takes : (b : List ℕ) (x : Filed × Place) → front_at b ≡ Ok x → IsFront b x
 unfolding front_at
@@ -134,7 +144,7 @@ front_takes b x e =
     let three = Takes-then start c.0.1 m.0.1 (version_text ++ class_text class_taken.0) (machines_text c.0.0.env m.0.0) two machines_taken.0 in
     let head = Takes-then start m.0.1 s.0.1 (version_text ++ class_text class_taken.0 ++ machines_text c.0.0.env m.0.0) (speeds_text c.0.0.env s.0.0) three speeds_taken.0 in
     let found = front_of b class_taken.0 c.0.0 m.0.0 s.0.0 start s.0.1 d.0.1 d.0.0 refl class_taken.1 machines_taken.1 speeds_taken.1 speeds_taken.2 head lines in
-    subst (IsFront b) (ok_is (filed_of c.0.0 m.0.0 s.0.0 d.0.0, d.0.1) x d.2) found
+    is_front b (filed_of c.0.0 m.0.0 s.0.0 d.0.0, d.0.1) x found d.2
 
 pub whole_takes : (b : List ℕ) (f : Filed) → filed_at b ≡ Ok f → IsReadText b f
 unfolding filed_at
