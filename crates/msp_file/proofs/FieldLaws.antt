@@ -39,7 +39,7 @@ some_is : {A : Type 0} (x y : A) → some x ≡ some y → x ≡ y
 some_is x y e = cc
 
 -- a text of bytes that pass a test lacks each byte that does not pass
-lacks_others : (passes : ℕ → Bool) (m : ℕ) (w : List ℕ) → passes m ≡ false → list_all passes w ≡ true → Lacks m w
+pub lacks_others : (passes : ℕ → Bool) (m : ℕ) (w : List ℕ) → passes m ≡ false → list_all passes w ≡ true → Lacks m w
 lacks_others passes m [] fails h = refl
 lacks_others passes m (x ∷ xs) fails h = let both = and_parts (passes x) (list_all passes xs) h in by (x == m) refl both.0 (lacks_others passes m xs fails both.1)
   where

@@ -1,45 +1,287 @@
 -- The lines of the head: what is read is the head of an instance, and the head of an instance is read as its parts.
-use Rattle.std.proofs.Common.{◌≡◌, ℕ, ◌+◌, ◌≤◌, List, [], ◌∷◌, ◌++◌, length, Result, Ok, Err, refl, codes}
-use Rattle.std.specs.List.{AllByRecursion}
+use Rattle.std.proofs.Common.{◌≡◌, ℕ, suc, ◌+◌, ◌*◌, ◌^◌, ◌≤◌, Bool, true, ◌==◌, nat_lt, List, [], ◌∷◌, ◌++◌, length, map, Option, Some, None, MatchOption, Result, Ok, Err, All, Contains, bytes_eq, is_none, refl, sym, ap, subst, ◌∙◌, append_assoc, append-nil, arith, codes, decimal, if◌then◌else◌}
+use Rattle.std.specs.Prelude.{⊤}
+use Rattle.std.specs.List.{AllByRecursion, list_all, join_with_byte}
+use Rattle.std.proofs.lemmas.Bool.{eqb-true, eq-eqb, and_from}
+use Rattle.std.proofs.lemmas.List.Elements.{All-contains, All-nil, All-cons, All-head, All-tail}
+use Rattle.std.proofs.lemmas.List.Folds.{list_all-append}
+use Rattle.std.proofs.lemmas.List.Sums.{AllPass-from_list_all}
 use Rattle.msp_class.specs.declared.class.Class.{Class}
 use Rattle.msp_class.specs.declared.class.Env.{Env}
-use Rattle.msp_name.specs.Names.{NameOf}
+use Rattle.msp_class.specs.declared.class.Env.TheVariants as env
+use Rattle.msp_class.specs.Env.{fixed_machines}
+use Rattle.msp_name.specs.declared.words.Item.{Item}
+use Rattle.msp_name.specs.Spellings.{env_texts, item_texts, crit_texts}
+use Rattle.msp_name.specs.Items.{plain_env}
+use Rattle.msp_name.specs.Names.{NameOf, bar, comma}
+use Rattle.msp_name.specs.Reading.{reading_of}
+use Rattle.msp_name.proofs.NameLemmas.{NameOf-from_reading, reading_of-NameOf}
 use Rattle.msp_instance.specs.declared.Instance.{Instance}
-use Rattle.msp_instance.specs.Instance.{kind_of}
+use Rattle.msp_instance.specs.Instance.{Kind, identical, uniform, unrelated, open_shop, flow_shop, job_shop, kind_of}
 use Rattle.msp_instance.specs.Conditions.{HasMachines, HasSpeeds, HasSmallMultiple}
 use Rattle.msp_file.specs.declared.fault.FileFault.{FileFault}
-use Rattle.msp_file.specs.InstanceText.{line_text, class_text, machines_text, speeds_text}
-use Rattle.msp_file.specs.Reading.{Place, version_at, class_at, machines_at, speeds_at}
-use Rattle.msp_file.proofs.LineLaws.{Takes, Gets, IsField}
+use Rattle.msp_file.specs.declared.fault.FileFault.TheVariants.{Head, Count, Limit}
+use Rattle.msp_file.specs.declared.fault.What.TheVariants as what
+use Rattle.msp_file.specs.ScheduleText.{line_feed}
+use Rattle.msp_file.specs.InstanceText.{where_wanted, has_speeds, line_text, class_text, machines_text, speeds_text}
+use Rattle.msp_file.specs.Reading.{◌>>=◌, provided, Place, line_at, fields_of, first_of, natural_at, version_at, spelled_class, class_in, class_at, worded_at, machines_line_at, machines_at, have_multiple, speeds_in, speeds_line_at, speeds_at}
+use Rattle.msp_file.proofs.NameLists.{same_bytes}
+use Rattle.msp_file.proofs.Multiples.{HasMultiple-from_have_multiple, have_multiple-from_HasMultiple}
+use Rattle.msp_file.proofs.LineLaws.{bind_ok, provided_ok, ok_is, Takes, Gets, IsField, line_takes, line_again, fields_join, fields_again, fields_line_again, worded_takes, worded_again}
+use Rattle.msp_file.proofs.FieldLaws.{lacks_others, natural_takes, natural_again, natural_field}
+
+-- ---- the version
 
 pub version_takes : (p q : Place) → version_at p ≡ Ok q → Takes p (line_text (codes "msp" ∷ codes "1" ∷ [])) q
-version_takes p q e = ?
+unfolding version_at
+version_takes p q e =
+    let l = bind_ok (line_at p) (λ l. provided (bytes_eq l.0 (codes "msp 1")) (Head p.at) (Ok l.1)) q e in
+    let t = provided_ok (bytes_eq l.0.0 (codes "msp 1")) (Head p.at) (Ok l.0.1) q l.2 in
+    let is : l.0.0 ≡ codes "msp 1" = same_bytes l.0.0 (codes "msp 1") t.0 in
+    subst (Takes p (line_text (codes "msp" ∷ codes "1" ∷ []))) (ok_is l.0.1 q t.1) (subst (λ line. Takes p (line ++ line_feed) l.0.1) is (line_takes p l.0 l.1))
 
 pub version_again : (at : ℕ) (rest : List ℕ) → (next : ℕ) × (version_at (record { at = at; rest = line_text (codes "msp" ∷ codes "1" ∷ []) ++ rest }) ≡ Ok (record { at = next; rest = rest }))
-version_again at rest = ?
+unfolding version_at
+version_again at rest = let line = line_again at (codes "msp 1") rest refl in (line.0, rw (line.1) refl)
+
+-- ---- the class
+
+-- a byte of a field: none that is at most a space
+abbrev is_dark : ℕ → Bool
+is_dark b = nat_lt 32 b
+
+abbrev IsDark : List ℕ → Type 0
+IsDark w = list_all is_dark w ≡ true
+
+table_dark : {A : Type 0} (table : List (List ℕ × A)) (w : List ℕ) (x : A) → list_all (λ row. list_all is_dark row.0) table ≡ true → Contains table (w, x) → IsDark w
+table_dark table w x h m = All-contains (λ row. IsDark row.0) table (w, x) (AllPass-from_list_all (λ row. list_all is_dark row.0) table h) m
+
+env_dark : list_all (λ row. list_all is_dark row.0) env_texts ≡ true
+unfolding env_texts
+env_dark = refl
+
+item_dark : list_all (λ row. list_all is_dark row.0) item_texts ≡ true
+unfolding item_texts
+item_dark = refl
+
+crit_dark : list_all (λ row. list_all is_dark row.0) crit_texts ≡ true
+unfolding crit_texts
+crit_dark = refl
+
+append_dark : (v w : List ℕ) → IsDark v → IsDark w → IsDark (v ++ w)
+append_dark v w h k = list_all-append is_dark v w ∙ and_from (list_all is_dark v) (list_all is_dark w) h k
+
+items_dark : (items : List (List ℕ × Item)) → All (Contains item_texts) items → IsDark (join_with_byte comma (map (λ w. w.0) items))
+items_dark [] h = refl
+items_dark (v ∷ []) h = table_dark item_texts v.0 v.1 item_dark (All-head (Contains item_texts) v [] h)
+items_dark (v ∷ w ∷ ws) h =
+    append_dark v.0 (comma ∷ join_with_byte comma (map (λ u. u.0) (w ∷ ws))) (table_dark item_texts v.0 v.1 item_dark (All-head (Contains item_texts) v (w ∷ ws) h)) (items_dark (w ∷ ws) (All-tail (Contains item_texts) v (w ∷ ws) h))
+
+name_dark : (spelling : List ℕ) (c : Class) → NameOf spelling c → IsDark spelling
+name_dark spelling c h =
+    let items : List ℕ = join_with_byte comma (map (λ w. w.0) h.items) in
+    let crit : IsDark (bar ∷ h.crit) = table_dark crit_texts h.crit c.crit crit_dark h.crit_spelled in
+    let back : IsDark (bar ∷ (items ++ (bar ∷ h.crit))) = append_dark items (bar ∷ h.crit) (items_dark h.items h.items_spelled) crit in
+    subst IsDark (sym h.written) (append_dark h.env (bar ∷ (items ++ (bar ∷ h.crit))) (table_dark env_texts h.env (plain_env c.env) env_dark h.env_spelled) back)
 
 -- a name of a class can stand in a line
 pub class_field : (spelling : List ℕ) (c : Class) → NameOf spelling c → IsField spelling
-class_field spelling c h = ?
+class_field spelling c h =
+    let dark = name_dark spelling c h in
+    record { no_space = lacks_others is_dark 32 spelling refl dark; no_line_feed = lacks_others is_dark 10 spelling refl dark }
+
+spelled_takes : {E : Type 0} (at : ℕ) (r : Result Class E) (c : Class) → spelled_class at r ≡ Ok c → r ≡ Ok c
+spelled_takes at (Ok d) c e = cc
+spelled_takes at (Err d) c e = absurd cc
+
+class_fields_take : (at : ℕ) (fields : List (List ℕ)) (c : Class) → class_in at fields ≡ Ok c → (spelling : List ℕ) × (fields ≡ codes "class" ∷ spelling ∷ []) × NameOf spelling c
+class_fields_take at [] c e = absurd cc
+class_fields_take at (w ∷ []) c e = absurd cc
+class_fields_take at (w ∷ name ∷ []) c e =
+    let t = provided_ok (bytes_eq w (codes "class")) (Head at) (spelled_class at (reading_of name)) c e in
+    (name, ap (λ v. v ∷ name ∷ []) (same_bytes w (codes "class") t.0), NameOf-from_reading name c (spelled_takes at (reading_of name) c t.1))
+class_fields_take at (w ∷ name ∷ v ∷ vs) c e = absurd cc
 
 pub class_takes : (p : Place) (x : Class × Place) → class_at p ≡ Ok x → (spelling : List ℕ) × NameOf spelling x.0 × Takes p (class_text spelling) x.1
-class_takes p x e = ?
+unfolding class_at class_text
+class_takes p x e =
+    let l = bind_ok (line_at p) (λ l. class_in p.at (fields_of l.0) >>= λ c. Ok (c, l.1)) x e in
+    let c = bind_ok (class_in p.at (fields_of l.0.0)) (λ c. Ok (c, l.0.1)) x l.2 in
+    let f = class_fields_take p.at (fields_of l.0.0) c.0 c.1 in
+    let line : l.0.0 ≡ join_with_byte 32 (codes "class" ∷ f.0 ∷ []) = sym (fields_join l.0.0) ∙ ap (join_with_byte 32) f.1 in
+    let text : Takes p (line_text (codes "class" ∷ f.0 ∷ [])) l.0.1 = subst (λ w. Takes p (w ++ line_feed) l.0.1) line (line_takes p l.0 l.1) in
+    subst (λ y. (spelling : List ℕ) × NameOf spelling y.0 × Takes p (line_text (codes "class" ∷ spelling ∷ [])) y.1) (ok_is (c.0, l.0.1) x c.2) (f.0, f.2, text)
 
 pub class_again : (at : ℕ) (spelling : List ℕ) (c : Class) (rest : List ℕ) → NameOf spelling c → Gets (class_at (record { at = at; rest = class_text spelling ++ rest })) c rest
-class_again at spelling c rest h = ?
+unfolding class_at class_text
+class_again at spelling c rest h =
+    let fields : AllByRecursion IsField (codes "class" ∷ spelling ∷ []) = (record { no_space = refl; no_line_feed = refl }, (class_field spelling c h, tt)) in
+    let line = fields_line_again at (codes "class") (spelling ∷ []) rest fields in
+    let after : Place = record { at = line.0; rest = rest } in
+    (line.0, rw (line.1) (ap (λ ws. class_in at ws >>= λ d. Ok (d, after)) (fields_again (codes "class") (spelling ∷ []) fields) ∙ rw (reading_of-NameOf spelling c h) refl))
 
--- The number of machines is one that the environment allows.
+-- ---- the number of machines
+
+-- The number of machines is one that the environment allows: that of an instance is, by HasMachines.
 abbrev pub AreMachines : Env → ℕ → Type 0
-AreMachines e m = (c : Class) → c.env ≡ e → (i : Instance) → i.class ≡ c → i.machines ≡ m → HasMachines i
+AreMachines e m = (1 ≤ m) × (m ≤ 32) × MatchOption (fixed_machines e) ⊤ (λ n. m ≡ n)
+
+-- a fixed number of machines is within the limits of texts
+fixed_in : (x : Env) → MatchOption (fixed_machines x) ⊤ (λ n. (1 ≤ n) × (n ≤ 32))
+fixed_in env.One = (omega arith, omega arith)
+fixed_in env.P2 = (omega arith, omega arith)
+fixed_in env.P3 = (omega arith, omega arith)
+fixed_in env.P = tt
+fixed_in env.Q2 = (omega arith, omega arith)
+fixed_in env.Q = tt
+fixed_in env.R2 = (omega arith, omega arith)
+fixed_in env.R = tt
+fixed_in env.O2 = (omega arith, omega arith)
+fixed_in env.O3 = (omega arith, omega arith)
+fixed_in env.O = tt
+fixed_in env.F2 = (omega arith, omega arith)
+fixed_in env.F3 = (omega arith, omega arith)
+fixed_in env.F = tt
+fixed_in env.J2Short = (omega arith, omega arith)
+fixed_in env.JShort = tt
+fixed_in env.J2 = (omega arith, omega arith)
+fixed_in env.J = tt
+
+single : (fields : List (List ℕ)) → (length fields == 1) ≡ true → fields ≡ first_of fields ∷ []
+single [] h = let k : length {A = List ℕ} [] ≡ 1 = eqb-true 0 1 h in absurd (omega arith)
+single (w ∷ []) h = refl
+single (w ∷ v ∷ ws) h = let k : length (w ∷ v ∷ ws) ≡ 1 = eqb-true (length (w ∷ v ∷ ws)) 1 h in absurd (omega arith)
+
+machines_line_takes : (p : Place) (x : ℕ × Place) → machines_line_at p ≡ Ok x → Takes p (line_text (codes "machines" ∷ decimal x.0 ∷ [])) x.1 × ((1 ≤ x.0) × (x.0 ≤ 32))
+unfolding machines_line_at
+machines_line_takes p x h =
+    let l = bind_ok (worded_at (codes "machines") p) (λ l. provided (length l.0 == 1) (Count p.at) (natural_at p.at what.Machines 1 32 (first_of l.0) >>= λ m. Ok (m, l.1))) x h in
+    let fields = l.0.0 in
+    let t = provided_ok (length fields == 1) (Count p.at) (natural_at p.at what.Machines 1 32 (first_of fields) >>= λ m. Ok (m, l.0.1)) x l.2 in
+    let m = bind_ok (natural_at p.at what.Machines 1 32 (first_of fields)) (λ m. Ok (m, l.0.1)) x t.1 in
+    let n = natural_takes p.at what.Machines 1 32 (first_of fields) m.0 (omega arith) m.1 in
+    let is : fields ≡ decimal m.0 ∷ [] = single fields t.0 ∙ ap (λ w. w ∷ []) n.0 in
+    let text : Takes p (line_text (codes "machines" ∷ decimal m.0 ∷ [])) l.0.1 = subst (λ ws. Takes p (line_text (codes "machines" ∷ ws)) l.0.1) is (worded_takes (codes "machines") p l.0 l.1) in
+    subst (λ y. Takes p (line_text (codes "machines" ∷ decimal y.0 ∷ [])) y.1 × ((1 ≤ y.0) × (y.0 ≤ 32))) (ok_is (m.0, l.0.1) x m.2) (text, (n.1, n.2))
+
+-- the machines by what the environment fixes
+abbrev machines_from : Option ℕ → Place → Result (ℕ × Place) FileFault
+machines_from o p = elim o [ Some machines ↦ Ok (machines, p) | None ↦ machines_line_at p ]
+
+abbrev machines_line : Option ℕ → ℕ → List ℕ
+machines_line o machines = where_wanted (is_none o) (line_text (codes "machines" ∷ decimal machines ∷ []))
 
 pub machines_takes : (e : Env) (p : Place) (x : ℕ × Place) → machines_at e p ≡ Ok x → Takes p (machines_text e x.0) x.1 × AreMachines e x.0
-machines_takes e p x h = ?
+unfolding machines_at machines_text
+machines_takes e p x h = by (fixed_machines e) (fixed_in e) h
+  where
+    by : (o : Option ℕ) → MatchOption o ⊤ (λ n. (1 ≤ n) × (n ≤ 32)) → machines_from o p ≡ Ok x
+        → Takes p (machines_line o x.0) x.1 × ((1 ≤ x.0) × (x.0 ≤ 32) × MatchOption o ⊤ (λ n. x.0 ≡ n))
+    by (Some m) within h = subst (λ (y : ℕ × Place). (p.rest ≡ y.1.rest) × ((1 ≤ y.0) × (y.0 ≤ 32) × (y.0 ≡ m))) (ok_is (m, p) x h) (refl, (within.0, within.1, refl))
+    by None within h = let t = machines_line_takes p x h in (t.0, (t.1.0, t.1.1, tt))
+
+machines_line_again : (at machines : ℕ) (rest : List ℕ) → 1 ≤ machines → machines ≤ 32 → Gets (machines_line_at (record { at = at; rest = line_text (codes "machines" ∷ decimal machines ∷ []) ++ rest })) machines rest
+unfolding machines_line_at
+machines_line_again at machines rest low high =
+    let fields : AllByRecursion IsField (codes "machines" ∷ decimal machines ∷ []) = (record { no_space = refl; no_line_feed = refl }, (natural_field machines (omega arith), tt)) in
+    let line = worded_again (codes "machines") (decimal machines ∷ []) at rest fields in
+    (line.0, rw (line.1, natural_again at what.Machines 1 32 machines (omega arith) low high) refl)
 
 pub machines_again : (i : Instance) (at : ℕ) (rest : List ℕ) → HasMachines i → Gets (machines_at i.class.env (record { at = at; rest = machines_text i.class.env i.machines ++ rest })) i.machines rest
-machines_again i at rest h = ?
+unfolding machines_at machines_text
+machines_again i at rest h = by (fixed_machines i.class.env) h.2
+  where
+    by : (o : Option ℕ) → MatchOption o ⊤ (λ n. i.machines ≡ n) → Gets (machines_from o (record { at = at; rest = machines_line o i.machines ++ rest })) i.machines rest
+    by (Some m) is = (at, ap (λ n. Ok (n, record { at = at; rest = rest })) (sym is))
+    by None is = machines_line_again at i.machines rest h.0 h.1
+
+-- ---- the speeds
+
+abbrev IsSpeed : ℕ → Type 0
+IsSpeed s = (1 ≤ s) × (s ≤ 10 ^ 6)
+
+-- the speeds of the fields, after those so far
+speeds_fields_take : (at : ℕ) (so_far : List ℕ) (fields : List (List ℕ)) (all : List ℕ) → speeds_in at so_far fields ≡ Ok all
+    → (more : List ℕ) × (all ≡ so_far ++ more) × (fields ≡ map decimal more) × All IsSpeed more
+unfolding speeds_in
+speeds_fields_take at so_far [] all e = ([], sym (ok_is so_far all e) ∙ sym (append-nil so_far), refl, All-nil IsSpeed)
+speeds_fields_take at so_far (w ∷ ws) all e =
+    let s = bind_ok (natural_at at what.Speed 1 (10 ^ 6) w) (λ speed. speeds_in at (so_far ++ speed ∷ []) ws) all e in
+    let n = natural_takes at what.Speed 1 (10 ^ 6) w s.0 (omega arith) s.1 in
+    let next = speeds_fields_take at (so_far ++ s.0 ∷ []) ws all s.2 in
+    (s.0 ∷ next.0, next.1 ∙ append_assoc so_far (s.0 ∷ []) next.0, ap (λ v. v ∷ ws) n.0 ∙ ap (λ vs. decimal s.0 ∷ vs) next.2, All-cons IsSpeed s.0 next.0 (n.1, n.2) next.3)
+
+speeds_fields_again : (at : ℕ) (so_far speeds : List ℕ) → All IsSpeed speeds → speeds_in at so_far (map decimal speeds) ≡ Ok (so_far ++ speeds)
+unfolding speeds_in
+speeds_fields_again at so_far [] h = ap Ok (sym (append-nil so_far))
+speeds_fields_again at so_far (s ∷ ss) h =
+    let range = All-head IsSpeed s ss h in
+    rw (natural_again at what.Speed 1 (10 ^ 6) s (omega arith) range.0 range.1) (speeds_fields_again at (so_far ++ s ∷ []) ss (All-tail IsSpeed s ss h) ∙ ap Ok (append_assoc so_far (s ∷ []) ss))
+
+length_decimals : (speeds : List ℕ) → length (map decimal speeds) ≡ length speeds
+length_decimals [] = refl
+length_decimals (s ∷ ss) = ap suc (length_decimals ss)
+
+decimal_fields : (speeds : List ℕ) → All IsSpeed speeds → AllByRecursion IsField (map decimal speeds)
+decimal_fields [] h = tt
+decimal_fields (s ∷ ss) h = let range = All-head IsSpeed s ss h in let high : s ≤ 10 ^ 6 = range.1 in (natural_field s (omega arith), decimal_fields ss (All-tail IsSpeed s ss h))
+
+speeds_line_takes : (machines : ℕ) (p : Place) (x : List ℕ × Place) → speeds_line_at machines p ≡ Ok x
+    → Takes p (line_text (codes "speeds" ∷ map decimal x.0)) x.1 × ((length x.0 ≡ machines) × All IsSpeed x.0) × HasSmallMultiple x.0
+unfolding speeds_line_at
+speeds_line_takes machines p x h =
+    let l = bind_ok (worded_at (codes "speeds") p) (λ l. provided (length l.0 == machines) (Count p.at) (speeds_in p.at [] l.0 >>= λ speeds. provided (have_multiple (2 ^ 30) speeds) (Limit p.at what.Multiple) (Ok (speeds, l.1)))) x h in
+    let fields = l.0.0 in
+    let t = provided_ok (length fields == machines) (Count p.at) (speeds_in p.at [] fields >>= λ speeds. provided (have_multiple (2 ^ 30) speeds) (Limit p.at what.Multiple) (Ok (speeds, l.0.1))) x l.2 in
+    let s = bind_ok (speeds_in p.at [] fields) (λ speeds. provided (have_multiple (2 ^ 30) speeds) (Limit p.at what.Multiple) (Ok (speeds, l.0.1))) x t.1 in
+    let speeds = s.0 in
+    let m = provided_ok (have_multiple (2 ^ 30) speeds) (Limit p.at what.Multiple) (Ok (speeds, l.0.1)) x s.2 in
+    let f = speeds_fields_take p.at [] fields speeds s.1 in
+    let is : fields ≡ map decimal speeds = f.2 ∙ ap (map decimal) (sym f.1) in
+    let range : All IsSpeed speeds = subst (All IsSpeed) (sym f.1) f.3 in
+    let count : length speeds ≡ machines = sym (length_decimals speeds) ∙ ap length (sym is) ∙ eqb-true (length fields) machines t.0 in
+    let text : Takes p (line_text (codes "speeds" ∷ map decimal speeds)) l.0.1 = subst (λ ws. Takes p (line_text (codes "speeds" ∷ ws)) l.0.1) is (worded_takes (codes "speeds") p l.0 l.1) in
+    subst (λ y. Takes p (line_text (codes "speeds" ∷ map decimal y.0)) y.1 × ((length y.0 ≡ machines) × All IsSpeed y.0) × HasSmallMultiple y.0) (ok_is (speeds, l.0.1) x m.1)
+    (text, (count, range), HasMultiple-from_have_multiple (2 ^ 30) speeds range m.0)
+
+no_speeds_take : (p : Place) (x : List ℕ × Place) (r : Result (List ℕ × Place) FileFault) → r ≡ Ok x → r ≡ Ok ([], p) → (p.rest ≡ x.1.rest) × (x.0 ≡ []) × HasSmallMultiple x.0
+no_speeds_take p x r e f =
+    subst (λ (y : List ℕ × Place). (p.rest ≡ y.1.rest) × (y.0 ≡ []) × HasSmallMultiple y.0) (ok_is ([], p) x (sym f ∙ e)) (refl, refl, (1, omega arith, omega arith, All-nil (λ s. (times : ℕ) × (1 ≡ times * s))))
 
 pub speeds_takes : (e : Env) (machines : ℕ) (p : Place) (x : List ℕ × Place) → speeds_at e machines p ≡ Ok x → Takes p (speeds_text e x.0) x.1 × HasSpeeds (kind_of e) machines x.0 × HasSmallMultiple x.0
-speeds_takes e machines p x h = ?
+unfolding speeds_at speeds_text
+speeds_takes e machines p x h = by (kind_of e) h
+  where
+    by : (k : Kind) → (if has_speeds k then speeds_line_at machines p else Ok ([], p)) ≡ Ok x
+        → Takes p (where_wanted (has_speeds k) (line_text (codes "speeds" ∷ map decimal x.0))) x.1 × HasSpeeds k machines x.0 × HasSmallMultiple x.0
+    by identical h = no_speeds_take p x (Ok ([], p)) h refl
+    by uniform h = speeds_line_takes machines p x h
+    by unrelated h = no_speeds_take p x (Ok ([], p)) h refl
+    by open_shop h = no_speeds_take p x (Ok ([], p)) h refl
+    by flow_shop h = no_speeds_take p x (Ok ([], p)) h refl
+    by job_shop h = no_speeds_take p x (Ok ([], p)) h refl
+
+speeds_line_again : (machines at : ℕ) (speeds rest : List ℕ) → length speeds ≡ machines → All IsSpeed speeds → HasSmallMultiple speeds
+    → Gets (speeds_line_at machines (record { at = at; rest = line_text (codes "speeds" ∷ map decimal speeds) ++ rest })) speeds rest
+unfolding speeds_line_at
+speeds_line_again machines at speeds rest count range multiple =
+    let fields : AllByRecursion IsField (codes "speeds" ∷ map decimal speeds) = (record { no_space = refl; no_line_feed = refl }, decimal_fields speeds range) in
+    let line = worded_again (codes "speeds") (map decimal speeds) at rest fields in
+    let many : (length (map decimal speeds) == machines) ≡ true = eq-eqb (length (map decimal speeds)) machines (length_decimals speeds ∙ count) in
+    (line.0, rw (line.1, many, speeds_fields_again at [] speeds range, have_multiple-from_HasMultiple (2 ^ 30) speeds multiple) refl)
 
 pub speeds_again : (e : Env) (machines at : ℕ) (speeds rest : List ℕ) → HasSpeeds (kind_of e) machines speeds → HasSmallMultiple speeds → Gets (speeds_at e machines (record { at = at; rest = speeds_text e speeds ++ rest })) speeds rest
-speeds_again e machines at speeds rest h k = ?
+unfolding speeds_at speeds_text
+speeds_again e machines at speeds rest h k = by (kind_of e) h
+  where
+    none : speeds ≡ [] → Gets {A = List ℕ} (Ok ([], record { at = at; rest = rest })) speeds rest
+    none is = (at, ap (λ s. Ok (s, record { at = at; rest = rest })) (sym is))
+
+    by : (kind : Kind) → HasSpeeds kind machines speeds
+        → Gets {A = List ℕ} (if has_speeds kind then speeds_line_at machines (record { at = at; rest = where_wanted (has_speeds kind) (line_text (codes "speeds" ∷ map decimal speeds)) ++ rest }) else Ok ([], record { at = at; rest = where_wanted (has_speeds kind) (line_text (codes "speeds" ∷ map decimal speeds)) ++ rest })) speeds rest
+    by identical h = none h
+    by uniform h = speeds_line_again machines at speeds rest h.0 h.1 k
+    by unrelated h = none h
+    by open_shop h = none h
+    by flow_shop h = none h
+    by job_shop h = none h

@@ -10,7 +10,10 @@ mod PrintLemmas
 mod NumberTexts
 pub mod LineLaws
 pub mod FieldLaws
-mod JobLaws
+pub mod KeyLaws
+pub mod NeedLaws
+pub mod CurveLaws
+pub mod JobLaws
 pub mod HeadLaws
 pub mod Apart
 pub mod ArcLaws

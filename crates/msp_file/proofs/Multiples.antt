@@ -18,18 +18,18 @@ divides_all speeds n = list_all (λ s. n % s == 0) speeds
 quotient : (x s : ℕ) → 1 ≤ s → x % s ≡ 0 → x ≡ (x / s) * s
 quotient x s h e = omega arith
 
-found : (limit : ℕ) (speeds : List ℕ) → All (λ s. (1 ≤ s) × (s ≤ 10 ^ 6)) speeds → have_multiple limit speeds ≡ true → HasMultiple limit speeds
+pub HasMultiple-from_have_multiple : (limit : ℕ) (speeds : List ℕ) → All (λ s. (1 ≤ s) × (s ≤ 10 ^ 6)) speeds → have_multiple limit speeds ≡ true → HasMultiple limit speeds
 unfolding have_multiple
-found limit speeds range h =
+HasMultiple-from_have_multiple limit speeds range h =
     let a = Any-from_list_any (divides_all speeds) (range_with_len 1 limit) h in
     let within : a.0 < limit = omega (arith, a.2, length-range_with_len 1 limit) in
     let is : a.1 ≡ 1 + a.0 = sym a.3 ∙ get_or-range_with_len 1 limit a.0 a.1 within in
     let each = AllPass-from_list_all (λ s. a.1 % s == 0) speeds a.4 in
     (a.1, omega arith, omega arith, λ k d below. (a.1 / get_or speeds k d, quotient a.1 (get_or speeds k d) (range k d below).0 (eqb-true _ _ (each k d below))))
 
-there : (limit : ℕ) (speeds : List ℕ) → HasMultiple limit speeds → have_multiple limit speeds ≡ true
+pub have_multiple-from_HasMultiple : (limit : ℕ) (speeds : List ℕ) → HasMultiple limit speeds → have_multiple limit speeds ≡ true
 unfolding have_multiple
-there limit speeds h =
+have_multiple-from_HasMultiple limit speeds h =
     let m = h.0 in
     let within : m - 1 < limit = omega (arith, h.1, h.2) in
     let is : get_or (range_with_len 1 limit) (m - 1) 0 ≡ m = get_or-range_with_len 1 limit (m - 1) 0 within ∙ omega (arith, h.1) in
@@ -43,6 +43,6 @@ multiple_decided limit speeds b range h = by b (have_multiple limit speeds) refl
   where
     by : (b t : Bool) → have_multiple limit speeds ≡ t → (IsTrue b ↔ HasMultiple limit speeds) → b ≡ t
     by true true e h = refl
-    by true false e h = let k : have_multiple limit speeds ≡ true = there limit speeds (h.0 refl) in cc
-    by false true e h = let k : false ≡ true = h.1 (found limit speeds range e) in cc
+    by true false e h = let k : have_multiple limit speeds ≡ true = have_multiple-from_HasMultiple limit speeds (h.0 refl) in cc
+    by false true e h = let k : false ≡ true = h.1 (HasMultiple-from_have_multiple limit speeds range e) in cc
     by false false e h = refl
