@@ -129,9 +129,9 @@ arc_or_end n c at names jobs fields p q x t fit false is e =
     subst (λ (y : Draft × Place). AddsLines c names jobs p y.0 y.1) (sym l.0) (only_arcs c names jobs p q d (record { more = []; added = refl; text = l.1; fit = no_arc names }) fit (λ f. refl))
 
 step_takes : (n : ℕ) (c : Class) (machines at : ℕ) (names : List (List ℕ)) (jobs : List Job) (fields : List (List ℕ)) (p q : Place) (x : Draft × Place) → Takes p (line_text (first_of fields ∷ others_of fields)) q → AreJobs c names jobs
-    → ((all_names : List (List ℕ)) (all_jobs : List Job) (r : Place) → AreJobs c all_names all_jobs → jobs_at n c machines (draft_of all_names all_jobs) r ≡ Ok x → AddsLines c all_names all_jobs r x.0 x.1)
+    → machines ≤ 32 → ((all_names : List (List ℕ)) (all_jobs : List Job) (r : Place) → AreJobs c all_names all_jobs → jobs_at n c machines (draft_of all_names all_jobs) r ≡ Ok x → AddsLines c all_names all_jobs r x.0 x.1)
     → jobs_step n c machines at (draft_of names jobs) fields q ≡ Ok x → AddsLines c names jobs p x.0 x.1
-step_takes n c machines at names jobs fields p q x t fit rest = by (bytes_eq (first_of fields) (codes "job")) refl
+step_takes n c machines at names jobs fields p q x t fit bound rest = by (bytes_eq (first_of fields) (codes "job")) refl
   where
     d : Draft
     d = draft_of names jobs
@@ -142,15 +142,15 @@ step_takes n c machines at names jobs fields p q x t fit rest = by (bytes_eq (fi
     by true is e =
         let l = bind_ok _ _ x e in
         let line = subst (λ (w : List ℕ). Takes p (line_text (w ∷ others_of fields)) q) (same_bytes (first_of fields) (codes "job") is) t in
-        then_job c names jobs (others_of fields) l.0.0 p q l.0.1 x line (job_takes c machines (draft_of names jobs) at (others_of fields) q l.0 l.1) fit (λ ns js same good. rest ns js l.0.1 good (ap (λ (f : Draft). jobs_at n c machines f l.0.1) (sym same) ∙ l.2))
+        then_job c names jobs (others_of fields) l.0.0 p q l.0.1 x line (job_takes c machines (draft_of names jobs) at (others_of fields) q l.0 bound l.1) fit (λ ns js same good. rest ns js l.0.1 good (ap (λ (f : Draft). jobs_at n c machines f l.0.1) (sym same) ∙ l.2))
     by false is e = arc_or_end n c at names jobs fields p q x t fit (has_order c.order && bytes_eq (first_of fields) (codes "arc")) refl e
 
-pub jobs_take : (n : ℕ) (c : Class) (machines : ℕ) (names : List (List ℕ)) (jobs : List Job) (p : Place) (x : Draft × Place) → AreJobs c names jobs → jobs_at n c machines (draft_of names jobs) p ≡ Ok x → AddsLines c names jobs p x.0 x.1
+pub jobs_take : (n : ℕ) (c : Class) (machines : ℕ) (names : List (List ℕ)) (jobs : List Job) (p : Place) (x : Draft × Place) → machines ≤ 32 → AreJobs c names jobs → jobs_at n c machines (draft_of names jobs) p ≡ Ok x → AddsLines c names jobs p x.0 x.1
 unfolding jobs_at
-jobs_take zero c machines names jobs p x fit e = absurd cc
-jobs_take (suc n) c machines names jobs p x fit e =
+jobs_take zero c machines names jobs p x bound fit e = absurd cc
+jobs_take (suc n) c machines names jobs p x bound fit e =
     let l = bind_ok (line_at p) _ x e in
-    step_takes n c machines p.at names jobs (fields_of l.0.0) p l.0.1 x (fields_takes p l.0 l.1) fit (λ ns js r good h. jobs_take n c machines ns js r x good h) l.2
+    step_takes n c machines p.at names jobs (fields_of l.0.0) p l.0.1 x (fields_takes p l.0 l.1) fit bound (λ ns js r good h. jobs_take n c machines ns js r x bound good h) l.2
 
 -- ---- what was written
 

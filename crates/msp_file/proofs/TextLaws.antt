@@ -111,7 +111,7 @@ front_of b spelling c machines speeds p q r d is spells good_machines good_speed
         spelled = lines.fit.spelled;
         distinct = lines.fit.distinct;
         few = lines.fit.few;
-        machines = good_machines c refl filed.instance refl refl;
+        machines = good_machines;
         speeds = good_speeds;
         multiple = multiple;
         jobs = lines.fit.read;
@@ -139,7 +139,7 @@ front_takes b x e =
     let class_taken = class_takes v.0 c.0 c.1 in
     let machines_taken = machines_takes c.0.0.env c.0.1 m.0 m.1 in
     let speeds_taken = speeds_takes c.0.0.env m.0.0 m.0.1 s.0 s.1 in
-    let lines = jobs_take (length s.0.1.rest + 1) c.0.0 m.0.0 [] [] s.0.1 d.0 (no_jobs c.0.0) d.1 in
+    let lines = jobs_take (length s.0.1.rest + 1) c.0.0 m.0.0 [] [] s.0.1 d.0 machines_taken.1.1 (no_jobs c.0.0) d.1 in
     let two = Takes-then start v.0 c.0.1 version_text (class_text class_taken.0) (version_takes start v.0 v.1) class_taken.2 in
     let three = Takes-then start c.0.1 m.0.1 (version_text ++ class_text class_taken.0) (machines_text c.0.0.env m.0.0) two machines_taken.0 in
     let head = Takes-then start m.0.1 s.0.1 (version_text ++ class_text class_taken.0 ++ machines_text c.0.0.env m.0.0) (speeds_text c.0.0.env s.0.0) three speeds_taken.0 in
