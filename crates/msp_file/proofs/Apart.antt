@@ -1,5 +1,5 @@
 -- Lists in which nothing stands twice.
-use Rattle.std.proofs.Common.{◌≢◌, ◌+◌, ◌<◌, List, [], ◌∷◌, ◌++◌, length, AllPairs, Contains, sym, ◌∙◌, refl, arith, length-append}
+use Rattle.std.proofs.Common.{◌≢◌, ◌<◌, List, [], ◌∷◌, ◌++◌, length, AllPairs, Contains, sym, ◌∙◌, refl, arith, length-append}
 use Rattle.std.proofs.lemmas.List.{get_or_append_left, get_or_at, get_or_default}
 use Rattle.std.proofs.lemmas.List.Quantifiers.{all_pairs_push}
 
