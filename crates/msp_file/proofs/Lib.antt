@@ -13,4 +13,7 @@ pub mod KeyLaws
 pub mod NeedLaws
 pub mod CurveLaws
 pub mod JobLaws
-mod TextLaws
+pub mod ArcLaws
+pub mod JobsLaws
+pub mod TextLaws
+mod AnswerLaws

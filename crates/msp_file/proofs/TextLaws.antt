@@ -1,18 +1,30 @@
 -- Whole texts: what is read is an instance text, and an instance text is read as its instance.
-use Rattle.std.proofs.Common.{◌≡◌, ℕ, ◌+◌, ◌<◌, ◌≤◌, List, [], ◌∷◌, ◌++◌, length, Result, Ok, Err, refl, codes}
-use Rattle.std.specs.Prelude.{All, AllPairs, ◌≢◌}
+use Rattle.std.proofs.Common.{◌≡◌, ◌≢◌, ℕ, ◌+◌, ◌<◌, ◌≤◌, false, List, [], ◌∷◌, ◌++◌, length, All, AllPairs, ◌==◌, Result, Ok, refl, sym, ap, subst, ◌∙◌, append_assoc, append-nil, arith, length-append, eqb-true, codes}
+use Rattle.std.specs.List.{join_with_byte}
+use Rattle.std.proofs.lemmas.List.{nil_from_length}
+use Rattle.std.proofs.lemmas.List.Elements.{All-nil}
 use Rattle.msp_class.specs.declared.class.Class.{Class}
+use Rattle.msp_class.specs.declared.class.Order.{Order}
+use Rattle.msp_class.specs.declared.class.Order.TheVariants.{Free, Chains, Intree, Outtree, Prec}
 use Rattle.msp_name.specs.Names.{NameOf}
 use Rattle.msp_instance.specs.declared.Instance.{Instance}
 use Rattle.msp_instance.specs.declared.Arc.{Arc}
+use Rattle.msp_instance.specs.declared.Job.{Job}
 use Rattle.msp_instance.specs.Instance.{kind_of}
-use Rattle.msp_instance.specs.Conditions.{HasMachines, HasSpeeds, HasSmallMultiple, HasArcs, InClass}
+use Rattle.msp_instance.specs.Conditions.{text_limits, HasMachines, HasSpeeds, HasSmallMultiple, HasArcs, MeetsConditions}
 use Rattle.msp_file.specs.declared.fault.FileFault.{FileFault}
+use Rattle.msp_file.specs.declared.fault.FileFault.TheVariants.{After}
 use Rattle.msp_file.specs.declared.filed.Filed.{Filed}
+use Rattle.msp_file.specs.declared.draft.Draft.{Draft}
 use Rattle.msp_file.specs.JobName.{IsJobName, AreDistinct}
-use Rattle.msp_file.specs.InstanceText.{instance_text, IsInstanceText}
-use Rattle.msp_file.specs.Reading.{filed_at}
-use Rattle.msp_file.proofs.JobLaws.{IsReadJob}
+use Rattle.msp_file.specs.ScheduleText.{line_feed}
+use Rattle.msp_file.specs.InstanceText.{line_text, has_order, class_text, machines_text, speeds_text, head_text, job_fields, job_text, jobs_text, arc_fields, arcs_text, instance_text, AreNamesOf, IsInstanceText}
+use Rattle.msp_file.specs.Reading.{◌>>=◌, provided, Place, version_at, class_at, machines_at, speeds_at, jobs_at, no_draft, filed_of, front_at, filed_at}
+use Rattle.msp_file.proofs.LineLaws.{bind_ok, provided_ok, ok_is, Takes, Gets, Takes-then}
+use Rattle.msp_file.proofs.HeadLaws.{AreMachines, version_takes, version_again, class_takes, class_again, machines_takes, machines_again, speeds_takes, speeds_again}
+use Rattle.msp_file.proofs.JobLaws.{IsReadJob, job_rest}
+use Rattle.msp_file.proofs.ArcLaws.{end_text, AreArcs}
+use Rattle.msp_file.proofs.JobsLaws.{AreJobs, AddsLines, AreTextJobs, jobs_take, jobs_again, regroup, job_text_parts}
 
 -- What reading the lines says of a text, before the conditions of its class are tested.
 pub record IsReadText (b : List ℕ) (f : Filed) : Type 0 where
@@ -31,8 +43,210 @@ pub record IsReadText (b : List ℕ) (f : Filed) : Type 0 where
   pub ends : All (λ a. (a.before < length f.instance.jobs) × (a.after < length f.instance.jobs)) f.instance.arcs
   pub once : AllPairs (λ a b. a ≢ b) f.instance.arcs
 
+-- ---- what is read
+
+-- the steps after the first line
+abbrev read_jobs : Class → ℕ → List ℕ → Place → Result (Filed × Place) FileFault
+read_jobs c machines speeds p = jobs_at (length p.rest + 1) c machines no_draft p >>= λ d. Ok (filed_of c machines speeds d.0, d.1)
+
+abbrev read_speeds : Class → ℕ → Place → Result (Filed × Place) FileFault
+read_speeds c machines p = speeds_at c.env machines p >>= λ s. read_jobs c machines s.0 s.1
+
+abbrev read_machines : Class → Place → Result (Filed × Place) FileFault
+read_machines c p = machines_at c.env p >>= λ m. read_speeds c m.0 m.1
+
+abbrev read_class : Place → Result (Filed × Place) FileFault
+read_class p = class_at p >>= λ c. read_machines c.0 c.1
+
+abbrev version_text : List ℕ
+version_text = line_text (codes "msp" ∷ codes "1" ∷ [])
+
+has_arcs : (o : Order) (arcs : List Arc) → (has_order o ≡ false → arcs ≡ []) → length arcs ≤ 20000 → HasArcs o arcs
+has_arcs Free arcs h few = h refl
+has_arcs Chains arcs h few = few
+has_arcs Intree arcs h few = few
+has_arcs Outtree arcs h few = few
+has_arcs Prec arcs h few = few
+
+no_jobs : (c : Class) → AreJobs c [] []
+no_jobs c = record {
+  one_each = refl;
+  spelled = All-nil IsJobName;
+  distinct = λ i j d less within. absurd (omega arith);
+  few = omega arith;
+  read = All-nil (IsReadJob c);
+}
+
+-- The text begins with that of what was read.
+abbrev IsFront : List ℕ → Filed × Place → Type 0
+IsFront b x = (front : List ℕ) × (b ≡ front ++ x.1.rest) × IsReadText front x.0
+
+-- the lines of the head and those after it, put together
+front_of : (b spelling : List ℕ) (c : Class) (machines : ℕ) (speeds : List ℕ) (p q r : Place) (d : Draft) → p.rest ≡ b → NameOf spelling c → AreMachines c.env machines → HasSpeeds (kind_of c.env) machines speeds → HasSmallMultiple speeds
+    → Takes p (version_text ++ class_text spelling ++ machines_text c.env machines ++ speeds_text c.env speeds) q → AddsLines c [] [] q d r → IsFront b (filed_of c machines speeds d, r)
+unfolding instance_text head_text
+front_of b spelling c machines speeds p q r d is spells good_machines good_speeds multiple head lines = subst (λ (e : Draft). IsFront b (filed_of c machines speeds e, r)) (sym lines.added) found
+  where
+    jobs : List ℕ
+    jobs = jobs_text c lines.more_names lines.more_jobs
+
+    arcs : List ℕ
+    arcs = arcs_text lines.more_names lines.arcs
+
+    front : List ℕ
+    front = version_text ++ class_text spelling ++ machines_text c.env machines ++ speeds_text c.env speeds
+
+    filed : Filed
+    filed = filed_of c machines speeds (record { names = lines.more_names; jobs = lines.more_jobs; arcs = lines.arcs })
+
+    found : IsFront b (filed, r)
+    found = (
+      front ++ (jobs ++ arcs ++ end_text),
+      sym is ∙ Takes-then p q r front (jobs ++ arcs ++ end_text) head lines.text,
+      record {
+        spelling = spelling;
+        spells = spells;
+        text = sym (regroup front jobs arcs end_text);
+        one_each = lines.fit.one_each;
+        spelled = lines.fit.spelled;
+        distinct = lines.fit.distinct;
+        few = lines.fit.few;
+        machines = good_machines;
+        speeds = good_speeds;
+        multiple = multiple;
+        jobs = lines.fit.read;
+        arcs = has_arcs c.order lines.arcs lines.ordered lines.arcs_fit.few;
+        ends = subst (λ (n : ℕ). All (λ a. (a.before < n) × (a.after < n)) lines.arcs) lines.fit.one_each lines.arcs_fit.ends;
+        once = lines.arcs_fit.once;
+      },
+    )
+
+abbrev done : Filed × Place → Result (Filed × Place) FileFault
+done x = Ok x
+
+is_front : (b : List ℕ) (x y : Filed × Place) → IsFront b x → done x ≡ done y → IsFront b y
+is_front b x y h e = subst (IsFront b) (ok_is x y e) h
+
+front_takes : (b : List ℕ) (x : Filed × Place) → front_at b ≡ Ok x → IsFront b x
+unfolding front_at
+front_takes b x e =
+    let start : Place = record { at = 1; rest = b } in
+    let v = bind_ok (version_at start) read_class x e in
+    let c = bind_ok (class_at v.0) (λ c. read_machines c.0 c.1) x v.2 in
+    let m = bind_ok (machines_at c.0.0.env c.0.1) (λ m. read_speeds c.0.0 m.0 m.1) x c.2 in
+    let s = bind_ok (speeds_at c.0.0.env m.0.0 m.0.1) (λ s. read_jobs c.0.0 m.0.0 s.0 s.1) x m.2 in
+    let d = bind_ok (jobs_at (length s.0.1.rest + 1) c.0.0 m.0.0 no_draft s.0.1) (λ d. Ok (filed_of c.0.0 m.0.0 s.0.0 d.0, d.1)) x s.2 in
+    let class_taken = class_takes v.0 c.0 c.1 in
+    let machines_taken = machines_takes c.0.0.env c.0.1 m.0 m.1 in
+    let speeds_taken = speeds_takes c.0.0.env m.0.0 m.0.1 s.0 s.1 in
+    let lines = jobs_take (length s.0.1.rest + 1) c.0.0 m.0.0 [] [] s.0.1 d.0 machines_taken.1.1 (no_jobs c.0.0) d.1 in
+    let two = Takes-then start v.0 c.0.1 version_text (class_text class_taken.0) (version_takes start v.0 v.1) class_taken.2 in
+    let three = Takes-then start c.0.1 m.0.1 (version_text ++ class_text class_taken.0) (machines_text c.0.0.env m.0.0) two machines_taken.0 in
+    let head = Takes-then start m.0.1 s.0.1 (version_text ++ class_text class_taken.0 ++ machines_text c.0.0.env m.0.0) (speeds_text c.0.0.env s.0.0) three speeds_taken.0 in
+    let found = front_of b class_taken.0 c.0.0 m.0.0 s.0.0 start s.0.1 d.0.1 d.0.0 refl class_taken.1 machines_taken.1 speeds_taken.1 speeds_taken.2 head lines in
+    is_front b (filed_of c.0.0 m.0.0 s.0.0 d.0.0, d.0.1) x found d.2
+
 pub whole_takes : (b : List ℕ) (f : Filed) → filed_at b ≡ Ok f → IsReadText b f
-whole_takes b f e = ?
+unfolding filed_at
+whole_takes b f e =
+    let a = bind_ok (front_at b) _ f e in
+    let g = provided_ok _ _ _ f a.2 in
+    let t = front_takes b a.0 a.1 in
+    let nothing : a.0.1.rest ≡ [] = nil_from_length a.0.1.rest (eqb-true _ _ g.0) in
+    let whole : b ≡ t.0 = t.1 ∙ ap (λ (r : List ℕ). t.0 ++ r) nothing ∙ append-nil t.0 in
+    subst (IsReadText b) (ok_is a.0.0 f g.1) (subst (λ (c : List ℕ). IsReadText c a.0.0) (sym whole) t.2)
+
+-- ---- what is written
+
+arcs_few : (o : Order) (arcs : List Arc) → HasArcs o arcs → (has_order o ≡ false → arcs ≡ []) × (length arcs ≤ 20000)
+arcs_few Free arcs h = (λ e. h, omega (arith, ap length h))
+arcs_few Chains arcs h = (λ e. absurd cc, h)
+arcs_few Intree arcs h = (λ e. absurd cc, h)
+arcs_few Outtree arcs h = (λ e. absurd cc, h)
+arcs_few Prec arcs h = (λ e. absurd cc, h)
+
+-- each line has a byte
+line_some : (fields : List (List ℕ)) → 1 ≤ length (line_text fields)
+line_some fields = omega (arith, length-append (join_with_byte 32 fields) line_feed)
+
+jobs_long : (c : Class) (names : List (List ℕ)) (jobs : List Job) → length names ≡ length jobs → length jobs ≤ length (jobs_text c names jobs)
+jobs_long c [] [] h = omega arith
+jobs_long c [] (j ∷ js) h = absurd (omega (arith, h))
+jobs_long c (name ∷ names) [] h = absurd (omega (arith, h))
+jobs_long c (name ∷ names) (j ∷ js) h =
+    let line = line_text (job_fields c name j) in
+    omega (
+      arith,
+      jobs_long c names js (omega (arith, h)),
+      length-append (job_text c name j) (jobs_text c names js),
+      ap length (job_text_parts c name j),
+      length-append line (job_rest c j),
+      line_some (job_fields c name j),
+    )
+
+arcs_long : (names : List (List ℕ)) (arcs : List Arc) → length arcs ≤ length (arcs_text names arcs)
+arcs_long names [] = omega arith
+arcs_long names (a ∷ arcs) = omega (arith, arcs_long names arcs, length-append (line_text (arc_fields names a)) (arcs_text names arcs), line_some (arc_fields names a))
+
+spread : (a b c d e : List ℕ) → a ++ b ++ c ++ d ++ e ≡ a ++ (b ++ (c ++ (d ++ e)))
+spread a b c d e = append_assoc (a ++ b ++ c) d e ∙ append_assoc (a ++ b) c (d ++ e) ∙ append_assoc a b (c ++ (d ++ e))
+
+instance_again : (spelling : List ℕ) (i : Instance) (names : List (List ℕ)) → NameOf spelling i.class → AreNamesOf names i → MeetsConditions text_limits i
+    → (at : ℕ) × (front_at (instance_text spelling names i) ≡ Ok (record { instance = i; names = names }, record { at = at; rest = [] }))
+unfolding front_at instance_text head_text
+instance_again spelling i names spells named h =
+    (d.0, ap front_at text ∙ ap (λ r. r >>= read_class) v.1 ∙ ap (λ r. r >>= λ c. read_machines c.0 c.1) c.1 ∙ ap (λ r. r >>= λ m. read_speeds i.class m.0 m.1) m.1 ∙ ap (λ r. r >>= λ s. read_jobs i.class i.machines s.0 s.1) s.1 ∙ ap (λ r. r >>= λ d. Ok (filed_of i.class i.machines i.speeds d.0, d.1)) d.1)
+  where
+    jobs : List ℕ
+    jobs = jobs_text i.class names i.jobs
+
+    arcs : List ℕ
+    arcs = arcs_text names i.arcs
+
+    lines : List ℕ
+    lines = (jobs ++ arcs ++ end_text) ++ []
+
+    speeds : List ℕ
+    speeds = speeds_text i.class.env i.speeds
+
+    machines : List ℕ
+    machines = machines_text i.class.env i.machines
+
+    head : List ℕ
+    head = version_text ++ class_text spelling ++ machines ++ speeds
+
+    text : head ++ jobs ++ arcs ++ end_text ≡ version_text ++ (class_text spelling ++ (machines ++ (speeds ++ lines)))
+    text = regroup head jobs arcs end_text ∙ ap (λ (b : List ℕ). head ++ b) (sym (append-nil (jobs ++ arcs ++ end_text))) ∙ spread version_text (class_text spelling) machines speeds lines
+
+    enough : length i.jobs + length i.arcs < length lines + 1
+    enough = omega (arith, jobs_long i.class names i.jobs named.one_each, arcs_long names i.arcs, length-append (jobs ++ arcs ++ end_text) [], length-append (jobs ++ arcs) end_text, length-append jobs arcs)
+
+    v : (next : ℕ) × (version_at (record { at = 1; rest = version_text ++ (class_text spelling ++ (machines ++ (speeds ++ lines))) }) ≡ Ok (record { at = next; rest = class_text spelling ++ (machines ++ (speeds ++ lines)) }))
+    v = version_again 1 (class_text spelling ++ (machines ++ (speeds ++ lines)))
+
+    c : Gets (class_at (record { at = v.0; rest = class_text spelling ++ (machines ++ (speeds ++ lines)) })) i.class (machines ++ (speeds ++ lines))
+    c = class_again v.0 spelling i.class (machines ++ (speeds ++ lines)) spells
+
+    m : Gets (machines_at i.class.env (record { at = c.0; rest = machines ++ (speeds ++ lines) })) i.machines (speeds ++ lines)
+    m = machines_again i c.0 (speeds ++ lines) h.machines
+
+    s : Gets (speeds_at i.class.env i.machines (record { at = m.0; rest = speeds ++ lines })) i.speeds lines
+    s = speeds_again i.class.env i.machines m.0 i.speeds lines h.speeds h.multiple
+
+    few : (has_order i.class.order ≡ false → i.arcs ≡ []) × (length i.arcs ≤ 20000)
+    few = arcs_few i.class.order i.arcs h.arcs
+
+    fit : AreTextJobs i names i.jobs
+    fit = record { spelled = named.spelled; distinct = named.distinct; few = h.few; fit = h.jobs }
+
+    arcs_fit : AreArcs names i.arcs
+    arcs_fit = record { ends = subst (λ (n : ℕ). All (λ a. (a.before < n) × (a.after < n)) i.arcs) (sym named.one_each) h.ends; once = h.once; few = few.1 }
+
+    d : Gets (jobs_at (length lines + 1) i.class i.machines no_draft (record { at = s.0; rest = lines })) (record { names = names; jobs = i.jobs; arcs = i.arcs }) []
+    d = jobs_again i names i.jobs i.arcs (length lines + 1) [] [] s.0 [] h.machines.1 named.one_each fit arcs_fit few.0 enough
 
 pub whole_again : (b : List ℕ) (i : Instance) (names : List (List ℕ)) → IsInstanceText b i names → filed_at b ≡ Ok (record { instance = i; names = names })
-whole_again b i names h = ?
+unfolding filed_at
+whole_again b i names h =
+    let front = instance_again h.spelling i names h.spells h.named h.in_class.conditions in
+    ap filed_at h.text ∙ ap (λ r. r >>= λ f. provided (length f.1.rest == 0) (After f.1.at) (Ok f.0)) front.1

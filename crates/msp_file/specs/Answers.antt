@@ -47,6 +47,18 @@ IsFaultOf read (Cycle job name) = IsCycleFault read job name
 IsFaultOf read Memory = Unit {0}
 IsFaultOf read e = read ≡ Err e
 
+-- Of the conditions of a class a text can break only these: that there is a job, and those of a job's needs and of the arcs at a job, which come with the job's name. What can be read keeps all the others.
+abbrev pub IsTextClassFault : ClassFault → Option (List ℕ) → Type 0
+IsTextClassFault class_fault.Jobs None = Unit {0}
+IsTextClassFault (class_fault.Need j) (Some name) = Unit {0}
+IsTextClassFault (class_fault.Degree j) (Some name) = Unit {0}
+IsTextClassFault _ _ = ⊥
+
+-- If the fault is a broken condition of a class, it is one that a text can break.
+abbrev pub IsTextFault : FileFault → Type 0
+IsTextFault (Class fault name) = IsTextClassFault fault name
+IsTextFault _ = Unit {0}
+
 -- The answer is the instance of the lines, which is in its class, or the first fault.
 abbrev pub IsAnswerTo : Result Filed FileFault → Result Filed FileFault → Type 0
 IsAnswerTo read (Ok filed) = (read ≡ Ok filed) × InClass filed.instance

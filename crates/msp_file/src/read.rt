@@ -1,6 +1,8 @@
-ghost use Rattle.std.specs.Prelude.{◌≡◌, ◌+◌, ◌<◌, ◌≤◌, ◌^◌, length, IfOk, MatchResult, Ok};
+ghost use Rattle.std.specs.Prelude.{◌≡◌, ℕ, ◌+◌, ◌<◌, ◌≤◌, ◌^◌, List as Items, length, IfOk, IfErr, MatchResult, Ok};
+ghost use Rattle.msp_instance.specs.declared.Instance.{Instance as InstanceValue};
 ghost use Rattle.msp_instance.specs.Conditions.{MeetsConditions, text_limits, IsAcyclic};
-ghost use Rattle.msp_file.specs.Answers.{faulty_name, IsFaultOf, IsAnswerTo};
+ghost use Rattle.msp_file.specs.Answers.{faulty_name, IsFaultOf, IsTextFault, IsAnswerTo};
+ghost use Rattle.msp_file.specs.InstanceText.{IsInstanceText};
 ghost use Rattle.msp_file.specs.Reading.{front_at, filed_at, filed_of, no_draft, jobs_at};
 ghost use Rattle.msp_file.specs.Steps.{Gives, Moves, place_of};
 
@@ -150,11 +152,17 @@ fn check_order(alloc: Global, filed: &Filed) -> Result<(), FileFault>
 
 /// Reads a whole instance text. The instance is in its class, and the fault is the first one: of the lines in order, then of the
 /// class, then a cycle.
-#[tactic(auto, using(crate::proofs::AnswerLemmas::answer_rules))]
+#[tactic(auto, using(crate::proofs::AnswerLemmas::answer_rules, crate::proofs::AnswerLaws::text_rules))]
 pub fn read_instance(alloc: Global, bytes: &[u8]) -> Result<Filed, FileFault>
     requires { length bytes.now ≤ 2 ^ 26 }
     ensures answer { IsAnswerTo (filed_at bytes.now) result }
     ensures named { IfOk result (λ f. length f.names ≡ length f.instance.jobs) }
+    // What is read is the text of the instance.
+    ensures text { IfOk result (λ f. IsInstanceText bytes.now f.instance f.names) }
+    // The text of an instance is read as that instance, unless memory runs out.
+    ensures again { (i : InstanceValue) (names : Items (Items ℕ)) → IsInstanceText bytes.now i names → Gives (λ f. f) result (Ok (record { instance = i; names = names })) }
+    // A text breaks at most these conditions of its class.
+    ensures class_faults { IfErr result (λ e. IsTextFault e) }
 {
     let filed = match filed_at(alloc, bytes) {
         Ok(filed) => filed,

@@ -1,0 +1,226 @@
+-- The lines of arcs: what is read is the text of the arcs, and the text of arcs is read as those arcs.
+use Rattle.std.proofs.Common.{◌≡◌, ◌≢◌, ℕ, zero, suc, ◌<◌, ◌≤◌, Bool, true, false, not, ◌&&◌, ◌==◌, if◌then◌else◌, List, [], ◌∷◌, ◌++◌, length, All, AllPairs, Contains, Result, Ok, bytes_eq, codes, refl, sym, ap, subst, ◌∙◌, append_assoc, append-nil, arith, length-append, ltb-true, lt-ltb, eqb-true, eq-eqb}
+use Rattle.std.specs.List.{AllByRecursion}
+use Rattle.std.proofs.lemmas.Bool.{and_parts}
+use Rattle.std.proofs.lemmas.Map.Views.{Contains-from_any}
+use Rattle.std.proofs.lemmas.List.Folds.{list_any_at}
+use Rattle.std.proofs.lemmas.List.{get_or_at}
+use Rattle.std.proofs.lemmas.List.Elements.{All-push}
+use Rattle.msp_instance.specs.declared.Arc.{Arc}
+use Rattle.msp_file.specs.declared.fault.FileFault.{FileFault}
+use Rattle.msp_file.specs.declared.draft.Draft.{Draft}
+use Rattle.msp_file.specs.JobName.{IsJobName, AreDistinct}
+use Rattle.msp_file.specs.ScheduleText.{name_at}
+use Rattle.msp_file.specs.InstanceText.{line_text, arc_fields, arcs_text}
+use Rattle.msp_file.specs.Reading.{◌>>=◌, Place, line_at, fields_of, first_of, others_of, is_arc_among, with_arc, arc_line_at, end_at, arcs_at}
+use Rattle.msp_file.proofs.NameLists.{same_bytes}
+use Rattle.msp_file.proofs.Apart.{apart_push, apart_before}
+use Rattle.msp_file.proofs.LineLaws.{bind_ok, provided_ok, ok_is, Takes, Gets, Takes-then, IsField, fields_takes, fields_again, fields_line_again}
+use Rattle.msp_file.proofs.FieldLaws.{known_takes, known_again, name_field}
+
+-- ---- a line by its fields
+
+-- what reading does with the fields of a line that was written
+pub line_then : {A : Type 0} → (f : List (List ℕ) → Place → Result A FileFault) (at : ℕ) (w : List ℕ) (ws : List (List ℕ)) (rest : List ℕ) → AllByRecursion IsField (w ∷ ws)
+    → (next : ℕ) × ((line_at (record { at = at; rest = line_text (w ∷ ws) ++ rest }) >>= λ l. f (fields_of l.0) l.1) ≡ f (w ∷ ws) (record { at = next; rest = rest }))
+line_then f at w ws rest h =
+    let g = fields_line_again at w ws rest h in
+    (g.0, ap (λ r. r >>= λ l. f (fields_of l.0) l.1) g.1 ∙ ap (λ fields. f fields (record { at = g.0; rest = rest })) (fields_again w ws h))
+
+one_field : (fields : List (List ℕ)) → (length fields == 1) ≡ true → fields ≡ first_of fields ∷ []
+one_field [] h = absurd cc
+one_field (w ∷ []) h = refl
+one_field (w ∷ v ∷ ws) h = absurd (omega (arith, eqb-true _ _ h))
+
+two_fields : (fields : List (List ℕ)) → (length fields == 2) ≡ true → fields ≡ first_of fields ∷ first_of (others_of fields) ∷ []
+two_fields [] h = absurd cc
+two_fields (w ∷ []) h = absurd cc
+two_fields (w ∷ v ∷ []) h = refl
+two_fields (w ∷ v ∷ u ∷ ws) h = absurd (omega (arith, eqb-true _ _ h))
+
+-- ---- the last line
+
+abbrev pub end_text : List ℕ
+end_text = line_text (codes "end" ∷ [])
+
+pub end_field : AllByRecursion IsField (codes "end" ∷ [])
+end_field = (record { no_space = refl; no_line_feed = refl }, tt)
+
+pub end_takes : (at : ℕ) (d : Draft) (fields : List (List ℕ)) (p q : Place) (x : Draft × Place) → Takes p (line_text (first_of fields ∷ others_of fields)) q → end_at at d fields q ≡ Ok x → (x ≡ (d, q)) × Takes p end_text q
+end_takes at d fields p q x t e =
+    let a = provided_ok _ _ _ x e in
+    let b = provided_ok _ _ _ x a.1 in
+    let first : first_of fields ≡ codes "end" = same_bytes (first_of fields) (codes "end") a.0 in
+    let others : others_of fields ≡ [] = ap others_of (one_field fields b.0) in
+    (sym (ok_is (d, q) x b.1), subst (λ (ws : List (List ℕ)). Takes p (line_text (codes "end" ∷ ws)) q) others (subst (λ (w : List ℕ). Takes p (line_text (w ∷ others_of fields)) q) first t))
+
+-- ---- the line of an arc
+
+same_arc : Arc → Arc → Bool
+same_arc a b = (b.before == a.before) && (b.after == a.after)
+
+same_arc_is : (a b : Arc) → same_arc a b ≡ true → a ≡ b
+unfolding same_arc
+same_arc_is a b h =
+    let parts = and_parts (b.before == a.before) (b.after == a.after) h in
+    rw (sym (eqb-true _ _ parts.0), sym (eqb-true _ _ parts.1)) refl
+
+same_arc_itself : (a : Arc) → same_arc a a ≡ true
+unfolding same_arc
+same_arc_itself a = rw (eq-eqb a.before a.before refl, eq-eqb a.after a.after refl) refl
+
+arc_among : (arcs : List Arc) (a : Arc) → is_arc_among arcs a.before a.after ≡ true → Contains arcs a
+unfolding same_arc
+arc_among arcs a h = Contains-from_any {eq = same_arc} same_arc_is a arcs h
+
+arc_found : (arcs : List Arc) (a : Arc) → Contains arcs a → is_arc_among arcs a.before a.after ≡ true
+unfolding same_arc
+arc_found arcs a h = list_any_at (same_arc a) arcs h.0 a h.1 (subst (λ (b : Arc). same_arc a b ≡ true) (sym h.2) (same_arc_itself a))
+
+not_there : (arcs : List Arc) (a : Arc) → not (is_arc_among arcs a.before a.after) ≡ true → ¬ Contains arcs a
+not_there arcs a h m = let e = arc_found arcs a m in absurd cc
+
+is_new : (arcs : List Arc) (a : Arc) → ¬ Contains arcs a → not (is_arc_among arcs a.before a.after) ≡ true
+is_new arcs a h = by (is_arc_among arcs a.before a.after) refl
+  where
+    by : (b : Bool) → is_arc_among arcs a.before a.after ≡ b → not b ≡ true
+    by true e = absurd (h (arc_among arcs a e))
+    by false e = refl
+
+-- What the line of an arc adds to a draft.
+pub record AddsArc (d : Draft) (fields : List (List ℕ)) (e : Draft) : Type 0 where
+  pub arc : Arc
+  pub added : e ≡ with_arc d arc.before arc.after
+  pub line : fields ≡ name_at d.names arc.before ∷ name_at d.names arc.after ∷ []
+  pub before : arc.before < length d.names
+  pub after : arc.after < length d.names
+  pub fresh : ¬ Contains d.arcs arc
+  pub few : length d.arcs < 20000
+
+pub arc_takes : (at : ℕ) (d : Draft) (fields : List (List ℕ)) (e : Draft) → arc_line_at at d fields ≡ Ok e → AddsArc d fields e
+unfolding arc_line_at
+arc_takes at d fields e h =
+    let a = provided_ok _ _ _ e h in
+    let b = provided_ok _ _ _ e a.1 in
+    let before = bind_ok _ _ e b.1 in
+    let after = bind_ok _ _ e before.2 in
+    let new = provided_ok _ _ _ e after.2 in
+    let first = known_takes at d.names (first_of fields) before.0 before.1 in
+    let second = known_takes at d.names (first_of (others_of fields)) after.0 after.1 in
+    record {
+      arc = record { before = before.0; after = after.0 };
+      added = sym (ok_is (with_arc d before.0 after.0) e new.1);
+      line = two_fields fields b.0 ∙ ap (λ (w : List ℕ). w ∷ first_of (others_of fields) ∷ []) first.0 ∙ ap (λ (w : List ℕ). name_at d.names before.0 ∷ w ∷ []) second.0;
+      before = first.1;
+      after = second.1;
+      fresh = not_there d.arcs (record { before = before.0; after = after.0 }) new.0;
+      few = ltb-true _ _ a.0;
+    }
+
+pub arc_again : (at : ℕ) (d : Draft) (a : Arc) → AreDistinct d.names → All IsJobName d.names → a.before < length d.names → a.after < length d.names → ¬ Contains d.arcs a → length d.arcs < 20000
+    → arc_line_at at d (name_at d.names a.before ∷ name_at d.names a.after ∷ []) ≡ Ok (with_arc d a.before a.after)
+unfolding arc_line_at
+arc_again at d a apart spelled before after fresh few =
+    rw (lt-ltb (length d.arcs) 20000 few, known_again at d.names a.before apart spelled before, known_again at d.names a.after apart spelled after, is_new d.arcs a fresh) refl
+
+pub arc_line_fields : (names : List (List ℕ)) (a : Arc) → All IsJobName names → a.before < length names → a.after < length names → AllByRecursion IsField (arc_fields names a)
+arc_line_fields names a spelled before after =
+    (record { no_space = refl; no_line_feed = refl }, (name_field _ (spelled a.before [] before), (name_field _ (spelled a.after [] after), tt)))
+
+-- ---- the lines after an arc
+
+-- Arcs between jobs of these names, each once, as many as a text can have.
+pub record AreArcs (names : List (List ℕ)) (arcs : List Arc) : Type 0 where
+  pub ends : All (λ a. (a.before < length names) × (a.after < length names)) arcs
+  pub once : AllPairs (λ a b. a ≢ b) arcs
+  pub few : length arcs ≤ 20000
+
+-- The draft with more arcs at the end.
+abbrev pub with_arcs : Draft → List Arc → Draft
+with_arcs d more = record d { arcs = d.arcs ++ more }
+
+-- What the lines after an arc add to a draft.
+pub record AddsArcs (d : Draft) (p : Place) (e : Draft) (q : Place) : Type 0 where
+  pub more : List Arc
+  pub added : e ≡ with_arcs d more
+  pub text : Takes p (arcs_text d.names more ++ end_text) q
+  pub fit : AreArcs d.names (d.arcs ++ more)
+
+one_arc : (d : Draft) (fields : List (List ℕ)) (e : Draft) (h : AddsArc d fields e) → AreArcs d.names d.arcs → AreArcs d.names (d.arcs ++ h.arc ∷ [])
+one_arc d fields e h fit =
+    record {
+      ends = All-push (λ a. (a.before < length d.names) × (a.after < length d.names)) d.arcs h.arc fit.ends (h.before, h.after);
+      once = apart_push d.arcs h.arc fit.once h.fresh;
+      few = omega (arith, h.few, length-append d.arcs (h.arc ∷ []));
+    }
+
+-- an arc, and what the lines after it add
+pub then_arcs : (d : Draft) (fields : List (List ℕ)) (e : Draft) (p q : Place) (x : Draft × Place) → Takes p (line_text (codes "arc" ∷ fields)) q → AddsArc d fields e → AreArcs d.names d.arcs
+    → (AreArcs e.names e.arcs → AddsArcs e q x.0 x.1) → AddsArcs d p x.0 x.1
+then_arcs d fields e p q x t h fit rest = subst (λ (e : Draft). (AreArcs e.names e.arcs → AddsArcs e q x.0 x.1) → AddsArcs d p x.0 x.1) (sym h.added) (λ after. made (after (one_arc d fields e h fit))) rest
+  where
+    f : Draft
+    f = with_arc d h.arc.before h.arc.after
+
+    line : Takes p (line_text (arc_fields d.names h.arc)) q
+    line = subst (λ (ws : List (List ℕ)). Takes p (line_text (codes "arc" ∷ ws)) q) h.line t
+
+    made : AddsArcs f q x.0 x.1 → AddsArcs d p x.0 x.1
+    made a =
+        record {
+          more = h.arc ∷ a.more;
+          added = a.added ∙ ap (λ (arcs : List Arc). record d { arcs = arcs }) (append_assoc d.arcs (h.arc ∷ []) a.more);
+          text = subst (λ (b : List ℕ). p.rest ≡ b ++ x.1.rest) (sym (append_assoc (line_text (arc_fields d.names h.arc)) (arcs_text d.names a.more) end_text)) (Takes-then p q x.1 (line_text (arc_fields d.names h.arc)) (arcs_text d.names a.more ++ end_text) line a.text);
+          fit = subst (AreArcs d.names) (append_assoc d.arcs (h.arc ∷ []) a.more) a.fit;
+        }
+
+no_arcs : (d : Draft) (p : Place) (x : Draft × Place) (q : Place) → AreArcs d.names d.arcs → x ≡ (d, q) → Takes p end_text q → AddsArcs d p x.0 x.1
+no_arcs d p x q fit e t =
+    subst (λ (y : Draft × Place). AddsArcs d p y.0 y.1) (sym e) (record { more = []; added = ap (λ (arcs : List Arc). record d { arcs = arcs }) (sym (append-nil d.arcs)); text = t; fit = subst (AreArcs d.names) (sym (append-nil d.arcs)) fit })
+
+-- what is read of the fields of a line after an arc
+abbrev arcs_step : ℕ → ℕ → Draft → List (List ℕ) → Place → Result (Draft × Place) FileFault
+arcs_step n at d fields q =
+    if bytes_eq (first_of fields) (codes "arc")
+    then (arc_line_at at d (others_of fields) >>= λ e. arcs_at n e q)
+    else end_at at d fields q
+
+step_takes : (n at : ℕ) (d : Draft) (fields : List (List ℕ)) (p q : Place) (x : Draft × Place) → Takes p (line_text (first_of fields ∷ others_of fields)) q → AreArcs d.names d.arcs
+    → ((e : Draft) → AreArcs e.names e.arcs → arcs_at n e q ≡ Ok x → AddsArcs e q x.0 x.1) → arcs_step n at d fields q ≡ Ok x → AddsArcs d p x.0 x.1
+step_takes n at d fields p q x t fit rest = by (bytes_eq (first_of fields) (codes "arc")) refl
+  where
+    by : (b : Bool) → bytes_eq (first_of fields) (codes "arc") ≡ b → (if b then (arc_line_at at d (others_of fields) >>= λ e. arcs_at n e q) else end_at at d fields q) ≡ Ok x → AddsArcs d p x.0 x.1
+    by true is e =
+        let l = bind_ok _ _ x e in
+        let line = subst (λ (w : List ℕ). Takes p (line_text (w ∷ others_of fields)) q) (same_bytes (first_of fields) (codes "arc") is) t in
+        then_arcs d (others_of fields) l.0 p q x line (arc_takes at d (others_of fields) l.0 l.1) fit (λ good. rest l.0 good l.2)
+    by false is e = let l = end_takes at d fields p q x t e in no_arcs d p x q fit l.0 l.1
+
+pub arcs_take : (n : ℕ) (d : Draft) (p : Place) (x : Draft × Place) → AreArcs d.names d.arcs → arcs_at n d p ≡ Ok x → AddsArcs d p x.0 x.1
+unfolding arcs_at
+arcs_take zero d p x fit e = absurd cc
+arcs_take (suc n) d p x fit e =
+    let l = bind_ok (line_at p) _ x e in
+    step_takes n p.at d (fields_of l.0.0) p l.0.1 x (fields_takes p l.0 l.1) fit (λ f good h. arcs_take n f l.0.1 x good h) l.2
+
+-- an arc at its place among others
+pub arc_in : (names : List (List ℕ)) (arcs : List Arc) (a : Arc) (more : List Arc) → AreArcs names (arcs ++ a ∷ more) → (a.before < length names) × (a.after < length names) × (¬ Contains arcs a) × (length arcs < 20000) × AreArcs names ((arcs ++ a ∷ []) ++ more)
+arc_in names arcs a more fit =
+    let within : length arcs < length (arcs ++ a ∷ more) = omega (arith, length-append arcs (a ∷ more)) in
+    let ends = subst (λ (b : Arc). (b.before < length names) × (b.after < length names)) (get_or_at arcs a more a (length arcs) refl) (fit.ends (length arcs) a within) in
+    (ends.0, ends.1, apart_before arcs a more fit.once, omega (arith, fit.few), subst (AreArcs names) (sym (append_assoc arcs (a ∷ []) more)) fit)
+
+pub arcs_again : (more : List Arc) (n : ℕ) (d : Draft) (at : ℕ) (rest : List ℕ) → AreDistinct d.names → All IsJobName d.names → AreArcs d.names (d.arcs ++ more) → length more < n
+    → Gets (arcs_at n d (record { at = at; rest = (arcs_text d.names more ++ end_text) ++ rest })) (with_arcs d more) rest
+unfolding arcs_at
+arcs_again more zero d at rest apart spelled fit enough = absurd (omega arith)
+arcs_again [] (suc n) d at rest apart spelled fit enough =
+    let l = line_then (arcs_step n at d) at (codes "end") [] rest end_field in
+    (l.0, l.1 ∙ ap (λ (arcs : List Arc). Ok (record d { arcs = arcs }, record { at = l.0; rest = rest })) (sym (append-nil d.arcs)))
+arcs_again (a ∷ more) (suc n) d at rest apart spelled fit enough =
+    let in_range = arc_in d.names d.arcs a more fit in
+    let text : (arcs_text d.names (a ∷ more) ++ end_text) ++ rest ≡ line_text (arc_fields d.names a) ++ ((arcs_text d.names more ++ end_text) ++ rest) = ap (λ (b : List ℕ). b ++ rest) (append_assoc (line_text (arc_fields d.names a)) (arcs_text d.names more) end_text) ∙ append_assoc (line_text (arc_fields d.names a)) (arcs_text d.names more ++ end_text) rest in
+    let l = line_then (arcs_step n at d) at (codes "arc") (name_at d.names a.before ∷ name_at d.names a.after ∷ []) ((arcs_text d.names more ++ end_text) ++ rest) (arc_line_fields d.names a spelled in_range.0 in_range.1) in
+    let one = arc_again at d a apart spelled in_range.0 in_range.1 in_range.2 in_range.3 in
+    let g = arcs_again more n (with_arc d a.before a.after) l.0 rest apart spelled in_range.4 (omega (arith, enough)) in
+    (g.0, ap (λ (b : List ℕ). arcs_at (suc n) d (record { at = at; rest = b })) text ∙ l.1 ∙ ap (λ r. r >>= λ e. arcs_at n e (record { at = l.0; rest = (arcs_text d.names more ++ end_text) ++ rest })) one ∙ g.1 ∙ ap (λ (arcs : List Arc). Ok (record d { arcs = arcs }, record { at = g.0; rest = rest })) (append_assoc d.arcs (a ∷ []) more))
