@@ -5,6 +5,7 @@ pub mod Reading
 pub mod Report
 pub mod LabelsText
 pub mod Results
+pub mod Files
 pub mod Run
 pub mod Note
 pub mod Answer
