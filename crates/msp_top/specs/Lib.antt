@@ -1,7 +1,4 @@
 pub mod Smith
-pub mod InstanceText
-pub mod Fields
-pub mod Reading
 pub mod Report
 pub mod LabelsText
 pub mod Results
