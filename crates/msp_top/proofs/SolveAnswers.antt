@@ -1,19 +1,12 @@
 -- The answer to `solve`.
-use Rattle.std.proofs.Common.{◌≡◌, ◌≢◌, ℕ, ◌≤◌, List, length, Option, Some, IfOk, Result, Ok, Err, sym, ◌∙◌}
-use Rattle.msp_instance.specs.Conditions.{InClass}
-use Rattle.msp_schedule.specs.declared.Solution.{Solution}
-use Rattle.msp_schedule.specs.Cost.{IsBest}
-use Rattle.msp_schedule.specs.Fraction.{IsLowest}
-use Rattle.msp_schedule.specs.Settled.{IsSettled}
+use Rattle.std.proofs.Common.{◌≡◌, ℕ, ◌≤◌, List, length, Option, Some, IfOk, Result, Ok, Err, sym, ◌∙◌}
 use Rattle.msp_file.specs.declared.fault.FileFault.{FileFault}
 use Rattle.msp_file.specs.declared.filed.Filed.{Filed}
 use Rattle.msp_file.specs.Reading.{filed_at}
 use Rattle.msp_file.specs.Answers.{IsFaultOf, IsAnswerTo}
 use Rattle.msp_top.specs.declared.answers.Answer.{Answer}
-use Rattle.msp_top.specs.Smith.{smith_class}
 use Rattle.msp_top.specs.Files.{file_status, file_text}
-use Rattle.msp_top.specs.Report.{solve_report}
-use Rattle.msp_top.specs.Run.{SolveIsRight, solved, misread, unsolved, input_limit, IsRead, report, refusal}
+use Rattle.msp_top.specs.Run.{SolveIsRight, misread, input_limit, refusal}
 use Rattle.msp_top.specs.Answer.{outcome_of, AnswersFiled}
 
 -- what is said of an instance is said of the text that was read as it

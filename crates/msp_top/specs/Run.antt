@@ -24,7 +24,6 @@ use Rattle.msp_schedule.specs.Cost.{IsBest}
 use Rattle.msp_schedule.specs.Fraction.{IsLowest}
 use Rattle.msp_schedule.specs.Settled.{IsSettled}
 use Rattle.msp_file.specs.declared.fault.FileFault.{FileFault}
-use Rattle.msp_file.specs.declared.filed.Filed.{Filed}
 use Rattle.msp_file.specs.Reading.{filed_at}
 use Rattle.msp_file.specs.Answers.{IsFaultOf}
 use Rattle.msp_top.specs.Smith.{smith_class}

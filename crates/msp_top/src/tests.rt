@@ -55,11 +55,7 @@ const REFUSED: &[(&[u8], u8, &[u8])] = &[
         3,
         b"msp: job a: degree\n",
     ),
-    (
-        b"msp 1\nclass 1||sumwC\nend\n",
-        3,
-        b"msp: no jobs\n",
-    ),
+    (b"msp 1\nclass 1||sumwC\nend\n", 3, b"msp: no jobs\n"),
 ];
 
 /// What a call is run on: the words, the input, and the calls of the source and of the sinks that fail.
