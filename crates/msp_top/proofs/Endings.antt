@@ -13,11 +13,14 @@ use Rattle.msp_top.specs.declared.notes.Note.{Note}
 use Rattle.msp_top.specs.declared.notes.Note.TheVariants.{TooLong, CannotRead, CannotWrite, OutOfMemory}
 use Rattle.msp_class.specs.declared.class.Class.{Class}
 use Rattle.msp_name.proofs.NameLemmas.{NameOf-determined}
+use Rattle.msp_file.specs.declared.fault.FileFault.{FileFault}
+use Rattle.msp_file.specs.declared.fault.FileFault.TheVariants as fault
 use Rattle.msp_results.specs.declared.fault.ResultFault.{ResultFault}
 use Rattle.msp_results.specs.declared.fault.ResultFault.TheVariants.{Header, Width, Name, Verdict, Source, Long, Many, Memory}
+use Rattle.msp_top.specs.Files.{file_status}
 use Rattle.msp_top.specs.Results.{results_status}
 use Rattle.msp_top.specs.Note.{note_text}
-use Rattle.msp_top.specs.Run.{Command, solve, label, Asks, IsNameWord, Outcome, report, refusal, IsRight, SolveIsRight, solved, not_readable, too_long, LabelIsRight, labelled, faulty, label_too_long, input_limit, Misfits, Reports, BreaksOff, Refuses, IsDue, IsNote, misfit as note_misfit, refused, read_fault, write_fault, memory}
+use Rattle.msp_top.specs.Run.{Command, solve, label, Asks, IsNameWord, Outcome, report, refusal, IsRight, SolveIsRight, solved, misread, unsolved, too_long, LabelIsRight, labelled, faulty, label_too_long, input_limit, Misfits, Reports, BreaksOff, Refuses, IsDue, IsNote, misfit as note_misfit, refused, read_fault, write_fault, memory}
 use Rattle.msp_top.specs.Ending.{Serves, Devices, misfit, cannot_read, no_memory, refuses, cannot_write, writes}
 
 pub serves_along : (words : List (List ℕ)) (d : Devices) (e f : Ending) → e ≡ f → Serves words d f → Serves words d e
@@ -28,11 +31,6 @@ abbrev pub HasStatus : Outcome → Type 0
 HasStatus (report status text) = status ≤ 1
 HasStatus (refusal status note) = (3 ≤ status) × (status ≤ 6)
 
-solve_status : (input : List ℕ) (outcome : Outcome) → SolveIsRight input outcome → HasStatus outcome
-solve_status input (report status text) (solved t short r) = omega arith
-solve_status input (refusal status note) (not_readable short u) = (omega arith, omega arith)
-solve_status input (refusal status note) (too_long long) = (omega arith, omega arith)
-
 one_or_none : (b : Bool) → (if b then 1 else 0) ≤ 1
 one_or_none true = omega arith
 one_or_none false = omega arith
@@ -42,6 +40,16 @@ some_number e = cc
 
 no_number : {n : ℕ} → None ≡ Some n → ⊥
 no_number e = cc
+
+file_status_range : (fault : FileFault) (status : ℕ) → file_status fault ≡ Some status → (3 ≤ status) × (status ≤ 6)
+file_status_range fault.Memory status e = absurd (no_number e)
+file_status_range _ status e = (omega (arith, some_number e), omega (arith, some_number e))
+
+solve_status : (input : List ℕ) (outcome : Outcome) → SolveIsRight input outcome → HasStatus outcome
+solve_status input (report status text) (solved t short r) = omega arith
+solve_status input (refusal status note) (misread fault s short first is) = file_status_range fault status is
+solve_status input (refusal status note) (unsolved names i short read other) = (omega arith, omega arith)
+solve_status input (refusal status note) (too_long long) = (omega arith, omega arith)
 
 results_status_range : (fault : ResultFault) (status : ℕ) → results_status fault ≡ Some status → (3 ≤ status) × (status ≤ 6)
 results_status_range Header status e = (omega (arith, some_number e), omega (arith, some_number e))

@@ -4,13 +4,8 @@ pub mod SmithSorted
 pub mod SmithFacts
 pub mod SmithBest
 pub mod SmithInstances
-pub mod Amounts
-pub mod Cuts
-pub mod JobTexts
-pub mod Plain
-pub mod Lines
-pub mod Readings
 pub mod PutsLemmas
 pub mod WordLemmas
 pub mod Endings
 pub mod LabelAnswers
+pub mod SolveAnswers

@@ -1,13 +1,14 @@
 -- What the code's answers mean.
-use Rattle.std.specs.Prelude.{ℕ, List}
+use Rattle.std.specs.Prelude.{ℕ, ◌≤◌, List, length}
 use Rattle.msp_top.specs.declared.answers.Answer.{Answer}
 use Rattle.msp_top.specs.declared.answers.Answer.TheVariants.{Report, Refusal}
 use Rattle.msp_top.specs.declared.words.Asked.{Asked}
 use Rattle.msp_top.specs.declared.words.Asked.TheVariants.{Solve, Label}
-use Rattle.msp_top.specs.Run.{Command, solve, label, Outcome, report, refusal, AreShown, IsLabelReport}
+use Rattle.msp_top.specs.Run.{Command, solve, label, Outcome, report, refusal, input_limit, IsRead, SolveIsRight, AreShown, IsLabelReport}
 use Rattle.msp_class.specs.declared.class.Class.{Class}
 use Rattle.msp_closure.specs.declared.entry.Entry.{Entry}
 use Rattle.msp_results.specs.Results.{ResultsOf}
+use Rattle.msp_file.specs.declared.filed.Filed.{Filed}
 use Rattle.msp_top.specs.Note.{note_text}
 
 abbrev pub command_of : Asked → Command
@@ -17,6 +18,10 @@ command_of (Label classes) = label classes
 abbrev pub outcome_of : Answer → Outcome
 outcome_of (Report status text) = report status text.items
 outcome_of (Refusal status note) = refusal status (note_text note)
+
+-- The answer is right for each input that is the text of the instance and of its names.
+abbrev pub AnswersFiled : Filed → Answer → Type 0
+AnswersFiled filed answer = (input : List ℕ) → length input ≤ input_limit → IsRead input filed.instance filed.names → SolveIsRight input (outcome_of answer)
 
 -- The answer is the report of the labels of the shown classes under the entries.
 abbrev pub ReportsShown : List Class → List Entry → Answer → Type 0

@@ -1,10 +1,8 @@
 pub mod Smith
-pub mod InstanceText
-pub mod Fields
-pub mod Reading
 pub mod Report
 pub mod LabelsText
 pub mod Results
+pub mod Files
 pub mod Run
 pub mod Note
 pub mod Answer

@@ -1,11 +1,11 @@
 -- What `run` answers to words and an input.
-use Rattle.std.specs.Prelude.{◌≡◌, ℕ, ◌+◌, ◌^◌, ◌<◌, ◌≤◌, ◌⊎◌, List, [], ◌∷◌, ◌++◌, Option, Some, None, Result, Ok, Err, IfSome, is_some, length, take, codes, decimal, bytes_eq, nat_lt, if◌then◌else◌}
+use Rattle.std.specs.Prelude.{◌≡◌, ◌≢◌, ℕ, ◌+◌, ◌^◌, ◌<◌, ◌≤◌, ◌⊎◌, List, [], ◌∷◌, ◌++◌, Option, Some, None, Result, Ok, Err, IfSome, is_some, length, take, codes, decimal, bytes_eq, nat_lt, if◌then◌else◌}
 use Rattle.std.specs.List.{AllZip}
 use Rattle.std.specs.Io.KnownBytes.{Appends, IsAtEnd}
 use Rattle.msp_io.specs.Faults.{Rose}
 use Rattle.msp_class.specs.declared.class.Class.{Class}
 use Rattle.msp_name.specs.declared.fault.NameFault.{NameFault}
-use Rattle.msp_name.specs.Names.{NameOf}
+use Rattle.msp_name.specs.Names.{NameOf, name_of}
 use Rattle.msp_name.specs.Reading.{reading_of}
 use Rattle.msp_name.specs.Faults.{fault_text}
 use Rattle.msp_table.specs.declared.row.Chain.{Chain}
@@ -18,11 +18,16 @@ use Rattle.msp_results.specs.declared.fault.ResultFault.{ResultFault}
 use Rattle.msp_results.specs.Results.{ResultsOf}
 use Rattle.msp_results.specs.Reading.{results_of}
 use Rattle.msp_instance.specs.declared.Instance.{Instance}
+use Rattle.msp_instance.specs.Conditions.{InClass}
 use Rattle.msp_schedule.specs.declared.Solution.{Solution}
 use Rattle.msp_schedule.specs.Cost.{IsBest}
 use Rattle.msp_schedule.specs.Fraction.{IsLowest}
 use Rattle.msp_schedule.specs.Settled.{IsSettled}
-use Rattle.msp_top.specs.InstanceText.{IsInstanceText}
+use Rattle.msp_file.specs.declared.fault.FileFault.{FileFault}
+use Rattle.msp_file.specs.Reading.{filed_at}
+use Rattle.msp_file.specs.Answers.{IsFaultOf}
+use Rattle.msp_top.specs.Smith.{smith_class}
+use Rattle.msp_top.specs.Files.{file_status, file_text}
 use Rattle.msp_top.specs.Report.{solve_report}
 use Rattle.msp_top.specs.LabelsText.{labels_report}
 use Rattle.msp_top.specs.Results.{results_status, results_text, AreAllClasses}
@@ -79,25 +84,28 @@ pub data Outcome : Type 0 where
 abbrev pub input_limit : ℕ
 input_limit = 4194304
 
+-- The input is the text of the instance and of the names of its jobs.
+abbrev pub IsRead : List ℕ → Instance → List (List ℕ) → Type 0
+IsRead input i names = (filed_at input ≡ Ok (record { instance = i; names = names })) × InClass i
+
 -- The report is one of a best schedule of the instance that the input is the text of.
 pub record IsSolveReport (input text : List ℕ) : Type 0 where
   pub names : List (List ℕ)
   pub instance : Instance
   pub solution : Solution
-  pub read : IsInstanceText input names instance
+  pub read : IsRead input instance names
+  pub class : instance.class ≡ smith_class
   pub best : IsBest instance solution
   pub lowest : IsLowest solution.cost
   pub settled : IsSettled solution.schedule
   pub printed : text ≡ solve_report names solution
 
--- No instance has the input as its text.
-abbrev pub IsUnreadable : List ℕ → Type 0
-IsUnreadable input = (names : List (List ℕ)) (instance : Instance) → IsInstanceText input names instance → ⊥
-
--- The outcome is right for `solve`: status 0 with a report, 3 where the input is no instance text, 4 where it is too long.
+-- The outcome is right for `solve`: a report, the first fault of the text, which is a limit or bad input, no solver for the class of
+-- an instance, or an input that is too long.
 pub data SolveIsRight (input : List ℕ) : Outcome → Type 0 where
   solved : (text : List ℕ) → length input ≤ input_limit → IsSolveReport input text → SolveIsRight input (report 0 text)
-  not_readable : length input ≤ input_limit → IsUnreadable input → SolveIsRight input (refusal 3 (codes "not readable"))
+  misread : (fault : FileFault) (status : ℕ) → length input ≤ input_limit → IsFaultOf (filed_at input) fault → file_status fault ≡ Some status → SolveIsRight input (refusal status (file_text fault))
+  unsolved : (names : List (List ℕ)) (i : Instance) → length input ≤ input_limit → IsRead input i names → i.class ≢ smith_class → SolveIsRight input (refusal 5 (codes "no solver for " ++ name_of i.class))
   too_long : input_limit < length input → SolveIsRight input (refusal 4 (codes "more than 4194304 bytes"))
 
 -- The classes that are labelled: those that are named, or all of them in order of rank where none is named.

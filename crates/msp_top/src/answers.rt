@@ -2,18 +2,21 @@
 ghost use Rattle.std.specs.Prelude.{◌≡◌, ◌⊎◌, ℕ, ◌≤◌, List as Items, [], length, IfOk, IfSome, IfNone, is_some, if◌then◌else◌};
 ghost use Rattle.msp_class.specs.declared.class.Class.{Class as ClassValue};
 ghost use Rattle.msp_class.specs.Rank.{rank_of};
+ghost use Rattle.msp_instance.specs.Conditions.{Inner, InClass};
+ghost use Rattle.msp_top.specs.Smith.{smith_class};
 ghost use Rattle.msp_top.specs.Run.{IsRight, SolveIsRight, LabelIsRight, AreShown};
+ghost use Rattle.msp_top.specs.Files.{file_status};
 ghost use Rattle.msp_top.specs.Results.{results_status, AreAllClasses};
-ghost use Rattle.msp_top.specs.Answer.{command_of, outcome_of, ReportsShown, ReportsLabels};
+ghost use Rattle.msp_top.specs.Answer.{command_of, outcome_of, AnswersFiled, ReportsShown, ReportsLabels};
 
 use crate::labels_text::labels_text;
 use crate::notes::Note;
-use crate::reader::{ReadRefusal, read_text};
 use crate::report::solve_text;
-use crate::smith::solve;
+use crate::smith::{solve, solves};
 use crate::words::Asked;
 use msp_class::{CLASSES, Class, List, NoMemory, unrank};
 use msp_closure::{Entry, clash, close};
+use msp_file::{FileFault, Filed, read_instance};
 use msp_results::{ResultFault, read_results};
 use std::alloc::Global;
 
@@ -39,18 +42,68 @@ fn solve_answer(alloc: Global, input: &[u8]) -> Result<Answer, NoMemory>
     requires { length input.now ≤ 4194304 }
     ensures { IfOk result (λ answer. SolveIsRight input.now (outcome_of answer)) }
 {
-    match read_text(alloc, input) {
-        Ok(named) => {
-            let solution = solve(alloc, &named.instance)?;
-            let text = solve_text(alloc, &named.names, &solution)?;
-            Ok(Answer::Report { status: 0, text })
-        }
-        Err(ReadRefusal::Unreadable) => Ok(Answer::Refusal {
-            status: 3,
-            note: Note::NotReadable,
-        }),
-        Err(ReadRefusal::Memory) => Err(NoMemory),
+    match read_instance(alloc, input) {
+        Ok(filed) => answer_filed(alloc, &filed),
+        Err(fault) => match file_status(&fault) {
+            Some(status) => Ok(Answer::Refusal {
+                status,
+                note: Note::File(fault),
+            }),
+            None => Err(NoMemory),
+        },
     }
+}
+
+/// The status of a refusal of an instance text. None comes for want of memory.
+fn file_status(fault: &FileFault) -> Option<u8>
+    ensures { result ≡ file_status fault.now }
+{
+    match fault {
+        FileFault::Limit { .. } => Some(4),
+        FileFault::Memory => None,
+        FileFault::Head { .. }
+        | FileFault::Missing { .. }
+        | FileFault::Cut { .. }
+        | FileFault::Line { .. }
+        | FileFault::Count { .. }
+        | FileFault::Key { .. }
+        | FileFault::Name { .. }
+        | FileFault::Number { .. }
+        | FileFault::Again { .. }
+        | FileFault::ArcAgain { .. }
+        | FileFault::Unknown { .. }
+        | FileFault::After { .. }
+        | FileFault::Class { .. }
+        | FileFault::Cycle { .. } => Some(3),
+    }
+}
+
+/// The answer for an instance: a best schedule, where there is a solver for its class.
+fn answer_filed(alloc: Global, filed: &Filed) -> Result<Answer, NoMemory>
+    requires class { InClass filed.now.instance }
+    requires named { length filed.now.names ≡ length filed.now.instance.jobs }
+    ensures { IfOk result (λ answer. AnswersFiled filed.now answer) }
+{
+    if solves(filed.instance.class) {
+        report_smith(alloc, filed)
+    } else {
+        Ok(Answer::Refusal {
+            status: 5,
+            note: Note::NoSolver(filed.instance.class),
+        })
+    }
+}
+
+/// The report of the schedule that Smith's rule gives.
+fn report_smith(alloc: Global, filed: &Filed) -> Result<Answer, NoMemory>
+    requires inner { Inner filed.now.instance }
+    requires class { filed.now.instance.class ≡ smith_class }
+    requires named { length filed.now.names ≡ length filed.now.instance.jobs }
+    ensures { IfOk result (λ answer. AnswersFiled filed.now answer) }
+{
+    let solution = solve(alloc, &filed.instance)?;
+    let text = solve_text(alloc, &filed.names, &solution)?;
+    Ok(Answer::Report { status: 0, text })
 }
 
 fn label_answer(alloc: Global, classes: &List<Class>, input: &[u8]) -> Result<Answer, NoMemory>

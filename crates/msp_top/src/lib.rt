@@ -4,10 +4,8 @@
 #![tactic(auto)]
 
 mod answers;
-mod fields;
 mod labels_text;
 mod notes;
-mod reader;
 mod report;
 mod serve;
 mod smith;

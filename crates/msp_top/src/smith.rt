@@ -1,4 +1,4 @@
-ghost use Rattle.std.specs.Prelude.{◌≡◌, ℕ, ◌*◌, ◌<◌, ◌≤◌, ◌^◌, ◌⊎◌, length, map, slice_index_or, All, AllPairs, IfOk, IfSome, IsPermutation};
+ghost use Rattle.std.specs.Prelude.{◌≡◌, ℕ, ◌*◌, ◌<◌, ◌≤◌, ◌^◌, ◌⊎◌, ◌↔◌, IsTrue, length, map, slice_index_or, All, AllPairs, IfOk, IfSome, IsPermutation};
 ghost use Rattle.std.specs.List.{range_with_len};
 ghost use Rattle.std.specs.Ordering.{nat_cmp, ordering_then};
 ghost use Rattle.msp_instance.specs.Instance.{job_at, need_at, no_need};
@@ -11,11 +11,28 @@ ghost use Rattle.msp_schedule.proofs.OneRow.{piece, time_at};
 ghost use Rattle.msp_class.proofs.Rows.{row};
 ghost use Rattle.msp_top.specs.Smith.{smith_class, IsSmithOrder, IsWholeRow};
 
-use msp_class::{List, NoMemory};
+use msp_class::{Class, Crit, Env, List, NoMemory, Order, Times};
 use msp_instance::{Instance, Job};
 use msp_schedule::{Piece, Schedule, Solution};
 use std::alloc::Global;
 use std::cmp::Ordering;
+
+/// The class that the rule solves: `1||sumwC`.
+const SMITH_CLASS: Class = Class {
+    env: Env::One,
+    cut: false,
+    order: Order::Free,
+    heads: false,
+    times: Times::General,
+    crit: Crit::SumWC,
+};
+
+/// Whether the rule solves the class.
+pub fn solves(class: Class) -> bool
+    ensures { IsTrue result ↔ (class ≡ smith_class) }
+{
+    class == SMITH_CLASS
+}
 
 /// What the rule compares of a job: its number, its time and its weight.
 #[derive(Clone, Copy)]
@@ -145,7 +162,6 @@ pub fn solve(alloc: Global, inst: &Instance) -> Result<Solution, NoMemory>
 #[cfg(test)]
 mod tests {
     use super::*;
-    use msp_class::{Class, Crit, Env, Order, Times};
     use msp_instance::{Curve, Need, check};
 
     fn job(alloc: Global, time: u64, weight: u64) -> Option<Job> {
@@ -180,14 +196,7 @@ mod tests {
         ensures { IfSome result (λ i. Inner i × (i.class ≡ smith_class)) }
     {
         let inst = Instance {
-            class: Class {
-                env: Env::One,
-                cut: false,
-                order: Order::Free,
-                heads: false,
-                times: Times::General,
-                crit: Crit::SumWC,
-            },
+            class: SMITH_CLASS,
             machines: 1,
             speeds: List::new(alloc),
             jobs: jobs(alloc, loads)?,

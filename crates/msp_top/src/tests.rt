@@ -6,8 +6,57 @@ use std::test::Fail;
 
 const TEXT: &[u8] = b"msp 1\nclass 1||sumwC\njob a p=3 w=1\njob b p=1 w=2\njob c p=2 w=2\nend\n";
 
+/// Its first four lines.
+const FRONT: &[u8] = b"msp 1\nclass 1||sumwC\njob a p=3 w=1\njob b p=1 w=2\n";
+
 const REPORT: &[u8] =
     b"start 1||sumwC\nsolver smith\nschedule\ncost 14\nunit 1\npiece b 1 1 0 1\npiece c 1 1 1 3\npiece a 1 1 3 6\nend\n";
+
+/// Texts that `solve` refuses, each with the status and the note.
+const REFUSED: &[(&[u8], u8, &[u8])] = &[
+    (
+        b"msp 1\nclass P||Cmax\nmachines 2\njob a p=3\nend\n",
+        5,
+        b"msp: no solver for P||Cmax\n",
+    ),
+    (FRONT, 3, b"msp: line 5: missing\n"),
+    (
+        b"msp 1\nclass 1||sumwC\njob a p=3 w=1\njob b p=1 w=2\njob c p=2 w=2\nend",
+        3,
+        b"msp: line 6: cut\n",
+    ),
+    (
+        b"msp 1\nclass 1||sumwC\njob a p=3 w=1\njob b p=1 w=2\njob c p=2 w=2\nend\nx",
+        3,
+        b"msp: line 7: after the end\n",
+    ),
+    (
+        b"msp 1\nclass 1||sumwC\njob a p=3 w=1\njob a p=1 w=2\njob c p=2 w=2\nend\n",
+        3,
+        b"msp: line 4: name again\n",
+    ),
+    (
+        b"msp 1\nclass 1||sumwC\njob a p=3 w=0\njob b p=1 w=2\njob c p=2 w=2\nend\n",
+        4,
+        b"msp: line 3: limit of weight\n",
+    ),
+    (
+        b"msp 1\nclass Q||sumC\nmachines 2\nspeeds 999983 1000000\njob a p=1\nend\n",
+        4,
+        b"msp: line 4: limit of multiple\n",
+    ),
+    (
+        b"msp 1\nclass 1|prec|fmax\njob a p=2\ncurve 1 0\njob b p=3\ncurve 0 0 5 10\njob c p=1\ncurve 2 -4\narc a b\narc b a\nend\n",
+        3,
+        b"msp: cycle at a\n",
+    ),
+    (
+        b"msp 1\nclass 1|chains|Cmax\njob a p=1\njob b p=1\njob c p=1\narc a b\narc a c\nend\n",
+        3,
+        b"msp: job a: degree\n",
+    ),
+    (b"msp 1\nclass 1||sumwC\nend\n", 3, b"msp: no jobs\n"),
+];
 
 /// What a call is run on: the words, the input, and the calls of the source and of the sinks that fail.
 #[derive(Clone, Copy)]
@@ -104,7 +153,7 @@ fn solves_small_instances(rt: HostRuntime) -> Result<(), Fail> {
 }
 
 #[test]
-fn refuses_words_and_texts(rt: HostRuntime) -> Result<(), Fail> {
+fn refuses_words(rt: HostRuntime) -> Result<(), Fail> {
     let no_words = Trial {
         words: &[],
         ..solving(TEXT)
@@ -131,13 +180,13 @@ fn refuses_words_and_texts(rt: HostRuntime) -> Result<(), Fail> {
             b"msp: usage: words fit no command\n"
         )?
     );
-    for text in [
-        b"".as_slice(),
-        b"msp 1\nclass 1||sumwC\nend\n",
-        &TEXT[1..],
-        &TEXT[..TEXT.len() - 1],
-    ] {
-        assert!(rt; gives(rt.alloc(), &solving(text), 3, b"", b"msp: not readable\n")?);
+    Ok(())
+}
+
+#[test]
+fn refuses_texts(rt: HostRuntime) -> Result<(), Fail> {
+    for (text, status, note) in REFUSED {
+        assert!(rt; gives(rt.alloc(), &solving(text), *status, b"", note)?);
     }
     Ok(())
 }
@@ -177,15 +226,16 @@ fn devices_fail(rt: HostRuntime) -> Result<(), Fail> {
     );
     let silent = Trial {
         note_fails: 1,
-        ..solving(b"msp 1\n")
+        ..solving(FRONT)
     };
     assert!(rt; gives(rt.alloc(), &silent, 3, b"", b"")?);
     Ok(())
 }
 
-fn largest(alloc: Global) -> Result<Vec<u8>, Fail> {
+/// The text of so many jobs with the greatest numbers.
+fn greatest(alloc: Global, count: u32) -> Result<Vec<u8>, Fail> {
     let mut text = b"msp 1\nclass 1||sumwC\n".to_vec(alloc)?;
-    for k in 0..400u32 {
+    for k in 0..count {
         let line = format!(in alloc; "job j{k} p=1000000000 w=1000000000\n")?;
         text.extend_from_slice(line.as_bytes())?;
     }
@@ -195,13 +245,28 @@ fn largest(alloc: Global) -> Result<Vec<u8>, Fail> {
 
 #[test]
 fn the_greatest_numbers_fit(rt: HostRuntime) -> Result<(), Fail> {
-    let text = largest(rt.alloc())?;
+    let text = greatest(rt.alloc(), 400)?;
     let seen = outcome(rt.alloc(), &solving(&text))?;
     assert_eq!(rt; seen.status, 0);
     assert!(rt;
         seen.out.starts_with(
             b"start 1||sumwC\nsolver smith\nschedule\ncost 80200000000000000000000\nunit 1\npiece j0 1 1 0 1000000000\n"
         )
+    );
+    Ok(())
+}
+
+#[test]
+fn one_job_too_many(rt: HostRuntime) -> Result<(), Fail> {
+    let text = greatest(rt.alloc(), 401)?;
+    assert!(rt;
+        gives(
+            rt.alloc(),
+            &solving(&text),
+            4,
+            b"",
+            b"msp: line 403: limit of jobs\n"
+        )?
     );
     Ok(())
 }

@@ -6,9 +6,6 @@ use Rattle.msp_top.proofs.notes.put_note.Goals as goal
 pub returns-in-Words : goal.returns-in-Words
 returns-in-Words g c = puts-along _ _ _ _ _ _ _ (sym (ap note_text c.in-Words.is)) c.put.ensures
 
-pub returns-in-NotReadable : goal.returns-in-NotReadable
-returns-in-NotReadable g c = puts-along _ _ _ _ _ _ _ (sym (ap note_text c.in-NotReadable.is)) c.put-in-NotReadable.ensures
-
 pub returns-in-TooLong : goal.returns-in-TooLong
 returns-in-TooLong g c = puts-along _ _ _ _ _ _ _ (sym (ap note_text c.in-TooLong.is)) c.put-in-TooLong.ensures
 

@@ -1,0 +1,15 @@
+use Rattle.msp_top.specs.Run.{solved}
+use Rattle.msp_top.proofs.answers.report_smith.Goals as goal
+
+pub returns : goal.returns
+returns c = λ input short read. solved c.in_ok-text.text.items short (record {
+  names = c.args.filed.now.names;
+  instance = c.args.filed.now.instance;
+  solution = c.in_ok-solution.solution;
+  read = read;
+  class = c.requires.class;
+  best = c.in_ok-solution.ensures.best;
+  lowest = c.in_ok-solution.ensures.lowest;
+  settled = c.in_ok-solution.ensures.settled;
+  printed = c.in_ok-text.ensures;
+})
