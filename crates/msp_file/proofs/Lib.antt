@@ -13,6 +13,7 @@ pub mod KeyLaws
 pub mod NeedLaws
 pub mod CurveLaws
 pub mod JobLaws
+pub mod Apart
 pub mod ArcLaws
 pub mod JobsLaws
 pub mod TextLaws

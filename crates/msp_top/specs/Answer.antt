@@ -4,11 +4,12 @@ use Rattle.msp_top.specs.declared.answers.Answer.{Answer}
 use Rattle.msp_top.specs.declared.answers.Answer.TheVariants.{Report, Refusal}
 use Rattle.msp_top.specs.declared.words.Asked.{Asked}
 use Rattle.msp_top.specs.declared.words.Asked.TheVariants.{Solve, Label}
-use Rattle.msp_top.specs.Run.{Command, solve, label, Outcome, report, refusal, input_limit, IsRead, SolveIsRight, AreShown, IsLabelReport}
+use Rattle.msp_top.specs.Run.{Command, solve, label, Outcome, report, refusal, input_limit, SolveIsRight, AreShown, IsLabelReport}
 use Rattle.msp_class.specs.declared.class.Class.{Class}
 use Rattle.msp_closure.specs.declared.entry.Entry.{Entry}
 use Rattle.msp_results.specs.Results.{ResultsOf}
 use Rattle.msp_file.specs.declared.filed.Filed.{Filed}
+use Rattle.msp_file.specs.InstanceText.{IsInstanceText}
 use Rattle.msp_top.specs.Note.{note_text}
 
 abbrev pub command_of : Asked → Command
@@ -21,7 +22,7 @@ outcome_of (Refusal status note) = refusal status (note_text note)
 
 -- The answer is right for each input that is the text of the instance and of its names.
 abbrev pub AnswersFiled : Filed → Answer → Type 0
-AnswersFiled filed answer = (input : List ℕ) → length input ≤ input_limit → IsRead input filed.instance filed.names → SolveIsRight input (outcome_of answer)
+AnswersFiled filed answer = (input : List ℕ) → length input ≤ input_limit → IsInstanceText input filed.instance filed.names → SolveIsRight input (outcome_of answer)
 
 -- The answer is the report of the labels of the shown classes under the entries.
 abbrev pub ReportsShown : List Class → List Entry → Answer → Type 0

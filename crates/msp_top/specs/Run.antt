@@ -18,7 +18,6 @@ use Rattle.msp_results.specs.declared.fault.ResultFault.{ResultFault}
 use Rattle.msp_results.specs.Results.{ResultsOf}
 use Rattle.msp_results.specs.Reading.{results_of}
 use Rattle.msp_instance.specs.declared.Instance.{Instance}
-use Rattle.msp_instance.specs.Conditions.{InClass}
 use Rattle.msp_schedule.specs.declared.Solution.{Solution}
 use Rattle.msp_schedule.specs.Cost.{IsBest}
 use Rattle.msp_schedule.specs.Fraction.{IsLowest}
@@ -26,6 +25,7 @@ use Rattle.msp_schedule.specs.Settled.{IsSettled}
 use Rattle.msp_file.specs.declared.fault.FileFault.{FileFault}
 use Rattle.msp_file.specs.Reading.{filed_at}
 use Rattle.msp_file.specs.Answers.{IsFaultOf}
+use Rattle.msp_file.specs.InstanceText.{IsInstanceText}
 use Rattle.msp_top.specs.Smith.{smith_class}
 use Rattle.msp_top.specs.Files.{file_status, file_text}
 use Rattle.msp_top.specs.Report.{solve_report}
@@ -84,16 +84,12 @@ pub data Outcome : Type 0 where
 abbrev pub input_limit : ℕ
 input_limit = 4194304
 
--- The input is the text of the instance and of the names of its jobs.
-abbrev pub IsRead : List ℕ → Instance → List (List ℕ) → Type 0
-IsRead input i names = (filed_at input ≡ Ok (record { instance = i; names = names })) × InClass i
-
 -- The report is one of a best schedule of the instance that the input is the text of.
 pub record IsSolveReport (input text : List ℕ) : Type 0 where
   pub names : List (List ℕ)
   pub instance : Instance
   pub solution : Solution
-  pub read : IsRead input instance names
+  pub read : IsInstanceText input instance names
   pub class : instance.class ≡ smith_class
   pub best : IsBest instance solution
   pub lowest : IsLowest solution.cost
@@ -105,7 +101,7 @@ pub record IsSolveReport (input text : List ℕ) : Type 0 where
 pub data SolveIsRight (input : List ℕ) : Outcome → Type 0 where
   solved : (text : List ℕ) → length input ≤ input_limit → IsSolveReport input text → SolveIsRight input (report 0 text)
   misread : (fault : FileFault) (status : ℕ) → length input ≤ input_limit → IsFaultOf (filed_at input) fault → file_status fault ≡ Some status → SolveIsRight input (refusal status (file_text fault))
-  unsolved : (names : List (List ℕ)) (i : Instance) → length input ≤ input_limit → IsRead input i names → i.class ≢ smith_class → SolveIsRight input (refusal 5 (codes "no solver for " ++ name_of i.class))
+  unsolved : (names : List (List ℕ)) (i : Instance) → length input ≤ input_limit → IsInstanceText input i names → i.class ≢ smith_class → SolveIsRight input (refusal 5 (codes "no solver for " ++ name_of i.class))
   too_long : input_limit < length input → SolveIsRight input (refusal 4 (codes "more than 4194304 bytes"))
 
 -- The classes that are labelled: those that are named, or all of them in order of rank where none is named.
