@@ -9,7 +9,7 @@ use Rattle.msp_instance.specs.declared.membership.ClassFault.TheVariants as clas
 use Rattle.msp_instance.specs.Instance.{no_job}
 use Rattle.msp_instance.specs.Conditions.{InClass}
 use Rattle.msp_instance.specs.Faults.{arc_at, HasArc, IsOf, Condition}
-use Rattle.msp_instance.proofs.FaultLemmas.{Condition-from_meets}
+use Rattle.msp_instance.proofs.FaultLemmas.{HasArc-from_all, Condition-from_meets}
 use Rattle.msp_instance.proofs.CycleLemmas.{not_acyclic}
 use Rattle.msp_file.specs.declared.fault.FileFault.{FileFault}
 use Rattle.msp_file.specs.declared.fault.FileFault.TheVariants.{Class, Cycle, Memory}
@@ -66,15 +66,6 @@ again_fault b e k i names h =
 
 -- ---- the faults of texts
 
-has_arc : (i : Instance) (at : ℕ) → All (λ a. (a.before < length i.jobs) × (a.after < length i.jobs)) i.arcs → AllPairs (λ a b. a ≢ b) i.arcs → at < length i.arcs → HasArc i at
-has_arc i at ends once within = ((ends at _ within).0, (ends at _ within).1, fresh)
-  where
-    fresh : All (λ a. a ≢ arc_at i at) (take at i.arcs)
-    fresh k d t =
-        let below : k < at = omega (arith, length-take at i.arcs) in
-        subst (λ (a : Arc). a ≢ arc_at i at) (sym (get_or-take at i.arcs k d below))
-        (subst (λ (a : Arc). get_or i.arcs k d ≢ a) (get_or_default i.arcs at d _ within) (once k at d below within))
-
 named_job : (f : Filed) (j : ℕ) → length f.names ≡ length f.instance.jobs → j < length f.instance.jobs → slice_get f.names j ≡ Some (get_or f.names j [])
 named_job f j even within = slice_get-get_or f.names j [] (omega (arith, even))
 
@@ -90,7 +81,7 @@ class_fault_of b f (class_fault.Due j) name t within broken e = absurd (broken (
 class_fault_of b f (class_fault.Weight j) name t within broken e = absurd (broken (t.jobs j no_job within).weight)
 class_fault_of b f (class_fault.Curve j) name t within broken e = absurd (broken (t.jobs j no_job within).curve)
 class_fault_of b f class_fault.Arcs name t within broken e = absurd (broken t.arcs)
-class_fault_of b f (class_fault.Arc at) name t within broken e = absurd (broken (has_arc f.instance at t.ends t.once within))
+class_fault_of b f (class_fault.Arc at) name t within broken e = absurd (broken (HasArc-from_all f.instance at t.ends t.once within))
 class_fault_of b f (class_fault.Degree j) name t within broken e = subst (IsTextClassFault (class_fault.Degree j)) (sym (e ∙ named_job f j t.one_each within)) tt
 
 text_fault : (b : List ℕ) (read : Result Filed FileFault) (e : FileFault) → ((f : Filed) → read ≡ Ok f → IsReadText b f) → IsFaultOf read e → IsTextFault e

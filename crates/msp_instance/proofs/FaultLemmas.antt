@@ -1,13 +1,14 @@
 -- Lemmas on the first fault of an instance.
-use Rattle.std.proofs.Common.{◌≡◌, ◌≢◌, ℕ, ◌<◌, ◌⊎◌, inl, inr, [], ◌∷◌, get_or, take, All, refl, sym, ◌∙◌, subst, arith}
+use Rattle.std.proofs.Common.{◌≡◌, ◌≢◌, ℕ, ◌<◌, ◌⊎◌, inl, inr, [], ◌∷◌, length, get_or, take, All, AllPairs, refl, sym, ◌∙◌, subst, arith}
 use Rattle.std.proofs.lemmas.List.{get_or_default, get_or-take, length-take}
 use Rattle.std.proofs.lemmas.Bool.{cases_lt}
+use Rattle.msp_instance.specs.declared.Arc.{Arc}
 use Rattle.msp_instance.specs.declared.Instance.{Instance}
 use Rattle.msp_instance.specs.declared.membership.ClassFault.{ClassFault}
 use Rattle.msp_instance.specs.declared.membership.ClassFault.TheVariants.{Jobs, Machines, Speeds, Multiple, Need as NeedFault, Unit as UnitFault, Head, Due, Weight, Curve as CurveFault, Arcs, Arc as ArcFault, Degree}
 use Rattle.msp_instance.specs.Instance.{kind_of, no_job}
 use Rattle.msp_instance.specs.Conditions.{text_limits, HasMachines, HasSpeeds, HasSmallMultiple, MeetsConditions}
-use Rattle.msp_instance.specs.Faults.{arc_at, HasJobs, Condition, IsOf, Turn, turn_of, IsSooner, IsFirstFault}
+use Rattle.msp_instance.specs.Faults.{arc_at, HasJobs, HasArc, Condition, IsOf, Turn, turn_of, IsSooner, IsFirstFault}
 
 not_later : (s t : Turn) → t.part < s.part → ¬ IsSooner s t
 not_later s t h (inl less) = absurd (omega arith)
@@ -28,6 +29,16 @@ IsFirstFault-multiple i jobs machines speeds broken = record { within = tt; brok
     first Multiple w s = absurd (not_itself (turn_of Multiple) s)
     first f w s = absurd (not_later (turn_of f) (turn_of Multiple) (omega arith) s)
 
+-- what holds of all arcs holds of the one of a number
+pub HasArc-from_all : (i : Instance) (at : ℕ) → All (λ a. (a.before < length i.jobs) × (a.after < length i.jobs)) i.arcs → AllPairs (λ a b. a ≢ b) i.arcs → at < length i.arcs → HasArc i at
+HasArc-from_all i at ends once within = ((ends at _ within).0, (ends at _ within).1, fresh)
+  where
+    fresh : All (λ a. a ≢ arc_at i at) (take at i.arcs)
+    fresh k d t =
+        let below : k < at = omega (arith, length-take at i.arcs) in
+        subst (λ (a : Arc). a ≢ arc_at i at) (sym (get_or-take at i.arcs k d below))
+        (subst (λ (a : Arc). get_or i.arcs k d ≢ a) (get_or_default i.arcs at d _ within) (once k at d below within))
+
 -- the condition of a fault that an instance without faults has
 pub Condition-from_meets : (i : Instance) (f : ClassFault) → MeetsConditions text_limits i → IsOf i f → Condition i f
 Condition-from_meets i Jobs h w = (h.some, h.few)
@@ -41,13 +52,7 @@ Condition-from_meets i (Due j) h w = (h.jobs j no_job w).due
 Condition-from_meets i (Weight j) h w = (h.jobs j no_job w).weight
 Condition-from_meets i (CurveFault j) h w = (h.jobs j no_job w).curve
 Condition-from_meets i Arcs h w = h.arcs
-Condition-from_meets i (ArcFault at) h w = ((h.ends at _ w).0, (h.ends at _ w).1, fresh)
-  where
-    fresh : All (λ a. a ≢ arc_at i at) (take at i.arcs)
-    fresh k d t =
-        let below : k < at = omega (arith, length-take at i.arcs) in
-        subst (λ a. a ≢ arc_at i at) (sym (get_or-take at i.arcs k d below))
-        (subst (λ a. get_or i.arcs k d ≢ a) (get_or_default i.arcs at d _ w) (h.once k at d below w))
+Condition-from_meets i (ArcFault at) h w = HasArc-from_all i at h.ends h.once w
 Condition-from_meets i (Degree j) h w = h.degree j w
 
 sooner_or_same : (s t : Turn) → (IsSooner s t ⊎ IsSooner t s) ⊎ ((s.part ≡ t.part) × (s.number ≡ t.number) × (s.step ≡ t.step))
