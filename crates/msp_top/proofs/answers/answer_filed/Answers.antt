@@ -1,6 +1,10 @@
 use Rattle.std.proofs.Common.{◌≡◌, true, false}
+use Rattle.msp_instance.proofs.Limits.{Inner-from_class}
 use Rattle.msp_top.specs.Run.{unsolved}
 use Rattle.msp_top.proofs.answers.answer_filed.Goals as goal
+
+pub report_smith-requires-clause-inner : goal.report_smith-requires-clause-inner
+report_smith-requires-clause-inner c = Inner-from_class _ c.requires.class
 
 pub returns-else-solves : goal.returns-else-solves
 returns-else-solves c = λ input short read.
