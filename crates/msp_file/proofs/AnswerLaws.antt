@@ -1,14 +1,12 @@
 -- From the answer to the text: what is read is its instance, and a fault is one that a text can have.
-use Rattle.std.proofs.Common.{◌≡◌, ◌≢◌, ℕ, ◌<◌, List, [], length, get_or, take, slice_get, All, AllPairs, Option, Some, Result, Ok, sym, subst, ◌∙◌, arith, length-take}
-use Rattle.std.proofs.lemmas.List.{get_or_default, get_or-take}
+use Rattle.std.proofs.Common.{◌≡◌, ℕ, ◌<◌, List, [], length, get_or, slice_get, Option, Some, Result, Ok, sym, subst, ◌∙◌, arith}
 use Rattle.std.proofs.lemmas.Option.{slice_get-get_or}
-use Rattle.msp_instance.specs.declared.Arc.{Arc}
 use Rattle.msp_instance.specs.declared.Instance.{Instance}
 use Rattle.msp_instance.specs.declared.membership.ClassFault.{ClassFault}
 use Rattle.msp_instance.specs.declared.membership.ClassFault.TheVariants as class_fault
 use Rattle.msp_instance.specs.Instance.{no_job}
 use Rattle.msp_instance.specs.Conditions.{InClass}
-use Rattle.msp_instance.specs.Faults.{arc_at, HasArc, IsOf, Condition}
+use Rattle.msp_instance.specs.Faults.{IsOf, Condition}
 use Rattle.msp_instance.proofs.FaultLemmas.{HasArc-from_all, Condition-from_meets}
 use Rattle.msp_instance.proofs.CycleLemmas.{not_acyclic}
 use Rattle.msp_file.specs.declared.fault.FileFault.{FileFault}

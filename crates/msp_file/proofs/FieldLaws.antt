@@ -1,13 +1,11 @@
 -- A field that is read is the field that was written, and what was written is read again.
-use Rattle.std.proofs.Common.{◌≡◌, ◌≢◌, ℕ, zero, suc, ◌+◌, ◌^◌, ◌<◌, ◌≤◌, Bool, true, false, not, ◌&&◌, ◌||◌, ◌==◌, nat_le, if◌then◌else◌, List, [], ◌∷◌, ◌++◌, length, get_or, position, bytes_eq, Option, Some, None, ok_or, Ok, ℤ, pos, negsuc, neg_ℤ, unsigned_abs, All, refl, sym, ap, subst, ◌∙◌, arith, decimal}
+use Rattle.std.proofs.Common.{◌≡◌, ◌≢◌, ℕ, suc, ◌^◌, ◌<◌, ◌≤◌, Bool, true, false, ◌&&◌, ◌||◌, ◌==◌, nat_le, List, [], ◌∷◌, ◌++◌, length, get_or, position, bytes_eq, Option, Some, None, ok_or, Ok, ℤ, pos, negsuc, unsigned_abs, All, refl, sym, ap, subst, ◌∙◌, arith, decimal}
 use Rattle.std.specs.Char.{is_ascii_digit}
 use Rattle.std.specs.Fmt.{signed_decimal}
 use Rattle.std.specs.List.{list_all, list_any, position_or_len}
-use Rattle.std.specs.Str.{all_ascii_digits}
-use Rattle.std.specs.Str.Parse.{digits_value}
 use Rattle.std.proofs.lemmas.Bool.{and_parts, eqb-true, eq-eqb, leb-true, le-leb, lt-ltb}
 use Rattle.std.proofs.lemmas.Int.{ints}
-use Rattle.std.proofs.lemmas.Fmt.{decimal-digits_value, digits_decimal}
+use Rattle.std.proofs.lemmas.Fmt.{digits_decimal}
 use Rattle.std.proofs.lemmas.Slice.Eq.{bytes_eq-Decides}
 use Rattle.std.proofs.lemmas.Str.Parse.{numerals_by_value, tells_all_ascii_digits}
 use Rattle.std.proofs.lemmas.List.Quantifiers.{position-Some}
@@ -24,7 +22,7 @@ use Rattle.msp_file.specs.ScheduleText.{name_at}
 use Rattle.msp_file.specs.InstanceText.{where_wanted}
 use Rattle.msp_file.specs.Reading.{◌>>=◌, provided, first_of, others_of, natural_in, natural_at, integer_at, is_name_text, job_name_at, known_at, keyed_at, natural_key_at, integer_key_at}
 use Rattle.msp_file.proofs.NameLists.{same_bytes}
-use Rattle.msp_text.proofs.NumberTexts.{some, some_is, same_digits, number_spells, number_again}
+use Rattle.msp_text.proofs.NumberTexts.{some, same_digits, number_spells, number_again}
 use Rattle.msp_file.proofs.LineLaws.{bind_ok, provided_ok, ok_is, IsField}
 
 ok_some : {A : Type 0} (o : Option A) (d : FileFault) (x : A) → ok_or o d ≡ Ok x → o ≡ Some x

@@ -1,8 +1,9 @@
 //! Instance texts and schedule texts: reading them with the exact first fault, and printing them.
 //!
-//! It stands on `msp_name`, `msp_schedule`, `indexmap` and `itoa`. The layers above use that `read_instance` answers as `IsAnswerTo`
-//! says of the reading of the lines, `filed_at`; that `print_instance` and `print_schedule` give exactly `instance_text` and
-//! `schedule_text`, the first of which is then an instance text; and that `Names` is seen as a list of distinct job names.
+//! It stands on `msp_text`, `msp_name`, `msp_instance`, `msp_schedule` and `indexmap`. The layers above use that `read_instance` reads
+//! exactly the instance texts of the grammar, `IsInstanceText`, each as its instance, and answers to another text its first fault,
+//! `IsFaultOf`; that `print_instance` and `print_schedule` give exactly `instance_text` and `schedule_text`, the first of which is then
+//! an instance text; and that `Names` is seen as a list of distinct job names.
 #![tactic(auto)]
 
 mod arcs;

@@ -1,4 +1,4 @@
-ghost use Rattle.std.specs.Prelude.{◌≡◌, ◌++◌, OnOk, decimal};
+ghost use Rattle.std.specs.Prelude.{◌≡◌, ◌++◌, OnOk, OnErr, decimal};
 ghost use Rattle.std.specs.Fmt.{signed_decimal};
 
 use itoa::Buffer;
@@ -6,7 +6,8 @@ use msp_class::NoMemory;
 
 /// Puts bytes at the end.
 pub fn put(out: &mut Vec<u8>, bytes: &[u8]) -> Result<(), NoMemory>
-    ensures { OnOk result (out.new.items ≡ out.old.items ++ bytes.now) }
+    ensures added { OnOk result (out.new.items ≡ out.old.items ++ bytes.now) }
+    ensures refused { OnErr result (out.new.items ≡ out.old.items) }
 {
     match out.extend_from_slice(bytes) {
         Ok(()) => Ok(()),
@@ -16,7 +17,8 @@ pub fn put(out: &mut Vec<u8>, bytes: &[u8]) -> Result<(), NoMemory>
 
 /// Puts the decimal digits of a number at the end.
 pub fn put_number(out: &mut Vec<u8>, number: u64) -> Result<(), NoMemory>
-    ensures { OnOk result (out.new.items ≡ out.old.items ++ decimal number) }
+    ensures added { OnOk result (out.new.items ≡ out.old.items ++ decimal number) }
+    ensures refused { OnErr result (out.new.items ≡ out.old.items) }
 {
     let mut buffer = Buffer::new();
     put(out, buffer.format(number).as_bytes())
@@ -24,7 +26,8 @@ pub fn put_number(out: &mut Vec<u8>, number: u64) -> Result<(), NoMemory>
 
 /// Puts a number at the end, with a `-` in front of its digits where it is negative.
 pub fn put_integer(out: &mut Vec<u8>, number: i128) -> Result<(), NoMemory>
-    ensures { OnOk result (out.new.items ≡ out.old.items ++ signed_decimal number) }
+    ensures added { OnOk result (out.new.items ≡ out.old.items ++ signed_decimal number) }
+    ensures refused { OnErr result (out.new.items ≡ out.old.items) }
 {
     let mut buffer = Buffer::new();
     put(out, buffer.format(number).as_bytes())

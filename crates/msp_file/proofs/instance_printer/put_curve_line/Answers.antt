@@ -17,6 +17,6 @@ returns c =
     c.put-2.new.out.items
     (codes "curve")
     (decimal v.slope ∷ signed_decimal v.base ∷ flat_map step_fields v.steps)
-    c.in_ok-put.ensures
+    c.in_ok-put.ensures.added
     c.in_ok-put_curve_fields.ensures)
-    c.put-2.ensures
+    c.put-2.ensures.added

@@ -14,6 +14,6 @@ returns c =
     c.put-2.new.out.items
     (codes "job")
     (c.args.name.now ∷ key_fields c.args.class c.args.job.now)
-    c.in_ok-put.ensures
+    c.in_ok-put.ensures.added
     c.in_ok-put_job_fields.ensures)
-    c.put-2.ensures
+    c.put-2.ensures.added
