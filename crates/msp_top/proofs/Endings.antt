@@ -21,7 +21,7 @@ use Rattle.msp_results.specs.declared.fault.ResultFault.TheVariants.{Header, Wid
 use Rattle.msp_top.specs.Files.{file_status}
 use Rattle.msp_top.specs.Results.{results_status}
 use Rattle.msp_top.specs.Note.{note_text}
-use Rattle.msp_top.proofs.WordLemmas.{solve_first}
+use Rattle.msp_top.proofs.WordLemmas.{label_is_not_solve, cons_heads, cons_tails, solve_first}
 use Rattle.msp_top.specs.Run.{Command, solve, label, Asks, IsNameWord, Outcome, report, refusal, IsRight, SolveIsRight, solved, misread, no_solver, not_solved, no_chain, too_long, LabelIsRight, labelled, faulty, label_too_long, input_limit, Misfits, Reports, BreaksOff, Refuses, IsDue, IsNote, misfit as note_misfit, refused, read_fault, write_fault, memory}
 use Rattle.msp_top.specs.Ending.{Serves, Devices, misfit, cannot_read, no_memory, refuses, cannot_write, writes}
 
@@ -140,18 +140,6 @@ classes_once (w ∷ names) [] b p q = absurd p
 classes_once (w ∷ names) (c ∷ a) [] p q = absurd q
 classes_once (w ∷ names) (c ∷ a) (d ∷ b) p q = ap (λ e. e ∷ a) (NameOf-determined w c d p.0.named q.0.named) ∙ ap (λ l. d ∷ l) (classes_once names a b p.1 q.1)
 
-heads : {A : Type 0} {a b : A} {xs ys : List A} → a ∷ xs ≡ b ∷ ys → a ≡ b
-heads e = cc
-
-tails : {A : Type 0} {a b : A} {xs ys : List A} → a ∷ xs ≡ b ∷ ys → xs ≡ ys
-tails e = cc
-
-label_is_not_solve : codes "label" ≡ codes "solve" → ⊥
-label_is_not_solve q = differs ((bytes_eq-Decides (codes "label") (codes "solve")).1 q)
-  where
-    differs : false ≡ true → ⊥
-    differs e = cc
-
 -- words that ask to solve name one class at most
 at_once : (words : List (List ℕ)) (a b : Option Class) → Asks words (solve a) → Asks words (solve b) → a ≡ b
 at_once words None None p q = refl
@@ -164,9 +152,9 @@ at_once words (Some c) (Some d) (m, p, mc) (n, q, nd) =
 -- words ask for one command at most
 asks_once : (words : List (List ℕ)) (a b : Command) → Asks words a → Asks words b → a ≡ b
 asks_once words (solve a) (solve b) p q = ap solve (at_once words a b p q)
-asks_once words (solve a) (label b) p q = absurd (label_is_not_solve (heads (sym q.1 ∙ (solve_first words a p).1)))
-asks_once words (label a) (solve b) p q = absurd (label_is_not_solve (heads (sym p.1 ∙ (solve_first words b q).1)))
-asks_once words (label a) (label b) p q = ap label (classes_once q.0 a b (subst (λ names. AllZip IsNameWord names a) (tails (sym p.1 ∙ q.1)) p.2) q.2)
+asks_once words (solve a) (label b) p q = absurd (label_is_not_solve (cons_heads (sym q.1 ∙ (solve_first words a p).1)))
+asks_once words (label a) (solve b) p q = absurd (label_is_not_solve (cons_heads (sym p.1 ∙ (solve_first words b q).1)))
+asks_once words (label a) (label b) p q = ap label (classes_once q.0 a b (subst (λ names. AllZip IsNameWord names a) (cons_tails (sym p.1 ∙ q.1)) p.2) q.2)
 
 pub serves_usage : (words : List (List ℕ)) (d : Devices) (e : Ending) → Serves words d e → (e.status ≡ 2) ↔ Misfits words
 serves_usage words d e (misfit n h text) = (λ is. h, λ h. refl)

@@ -1,5 +1,5 @@
 -- The texts for words that are no names.
-use Rattle.std.proofs.Common.{◌≡◌, ℕ, zero, suc, ◌+◌, ◌^◌, ◌<◌, ◌≤◌, ◌-◌, true, false, List, [], ◌∷◌, ◌++◌, length, get_or, take, drop, map, Option, Some, None, Result, Ok, Err, if◌then◌else◌, ◌↔◌, refl, sym, ap, ◌∙◌, subst, zero-add, codes, bytes_eq, arith}
+use Rattle.std.proofs.Common.{◌≡◌, ℕ, zero, suc, ◌+◌, ◌^◌, ◌<◌, ◌≤◌, ◌-◌, true, false, List, [], ◌∷◌, ◌++◌, length, get_or, take, drop, map, Option, Some, None, Result, Ok, Err, if◌then◌else◌, ◌↔◌, sym, ap, ◌∙◌, subst, zero-add, codes, bytes_eq, arith}
 use Rattle.std.specs.List.{AllZip}
 use Rattle.std.proofs.Math.Seq.{drop-cons}
 use Rattle.std.proofs.lemmas.List.{get_or-map, take_more, take_all, length-map, length-drop}
@@ -9,7 +9,7 @@ use Rattle.msp_class.specs.declared.class.Class.{Class}
 use Rattle.msp_name.specs.declared.fault.NameFault.{NameFault}
 use Rattle.msp_name.specs.Names.{NameOf}
 use Rattle.msp_name.specs.Reading.{reading_of}
-use Rattle.msp_top.specs.Run.{names_text, text_of_reading, misspelled_text, misfit_text, option_text, usage_text, IsNameWord, Command, solve, label, Asks, Misfits}
+use Rattle.msp_top.specs.Run.{names_text, text_of_reading, misspelled_text, misfit_text, option_text, usage_text, IsNameWord, Command, solve, label, Asks}
 use Rattle.msp_top.specs.declared.words.Request.{Request}
 use Rattle.msp_top.specs.declared.words.Request.TheVariants.{Command as IsCommand, Misfit, NoMemory}
 use Rattle.msp_top.specs.Words.{ReadsWords, ReadsNames, ReadsOption, ReadsAt}
@@ -119,17 +119,17 @@ tail_of : {X : Type 0} (f : X → List ℕ) (xs : List X) (x : X) → 0 < length
 tail_of f [] x l is = absurd (omega (arith, l))
 tail_of f (y ∷ ys) x l is = ap (λ z. f z ∷ map f ys) (sym is)
 
-cons_heads : {A : Type 0} {a b : A} {xs ys : List A} → a ∷ xs ≡ b ∷ ys → a ≡ b
+pub cons_heads : {A : Type 0} {a b : A} {xs ys : List A} → a ∷ xs ≡ b ∷ ys → a ≡ b
 cons_heads e = cc
 
-cons_tails : {A : Type 0} {a b : A} {xs ys : List A} → a ∷ xs ≡ b ∷ ys → xs ≡ ys
+pub cons_tails : {A : Type 0} {a b : A} {xs ys : List A} → a ∷ xs ≡ b ∷ ys → xs ≡ ys
 cons_tails e = cc
 
 differ : {X : Type 0} → false ≡ true → X
 differ e = cc
 
--- the three first words
-label_is_not_solve : label_word ≡ solve_word → ⊥
+-- the words that a command begins with
+pub label_is_not_solve : label_word ≡ solve_word → ⊥
 label_is_not_solve q = differ ((bytes_eq-Decides label_word solve_word).1 q)
 
 not_word : (word other : List ℕ) → bytes_eq word other ≡ false → word ≡ other → ⊥
@@ -146,9 +146,6 @@ usage_text-unlabelled word words e = ap (λ b. if b then names_text 2 words else
 
 usage_text-solve : (word : List ℕ) (options : List (List ℕ)) → bytes_eq word label_word ≡ false → word ≡ solve_word → usage_text (word ∷ options) ≡ option_text options
 usage_text-solve word options other e = usage_text-unlabelled word options other ∙ ap (λ b. if b then option_text options else misfit_text) ((bytes_eq-Decides word solve_word).1 e)
-
-usage_text-other : (word : List ℕ) (words : List (List ℕ)) → bytes_eq word label_word ≡ false → bytes_eq word solve_word ≡ false → usage_text (word ∷ words) ≡ misfit_text
-usage_text-other word words other e = usage_text-unlabelled word words other ∙ ap (λ b. if b then option_text words else misfit_text) e
 
 -- words that ask to solve begin with `solve`
 pub solve_first : (words : List (List ℕ)) (at : Option Class) → Asks words (solve at) → (options : List (List ℕ)) × (words ≡ solve_word ∷ options)
@@ -183,36 +180,9 @@ pub reads_part : {X : Type 0} (f : X → List ℕ) (xs part : List X) (x : X) (w
 reads_part f xs part x word r l is e cut h =
     subst (λ ws. ReadsWords ws r) (sym (tail_of f xs x l is)) (subst (λ p. ReadsWords (f x ∷ map f p) r) cut (subst (λ w. ReadsWords (w ∷ map f part) r) e h))
 
--- no word is the first of a command
-pub no_words : {X : Type 0} (f : X → List ℕ) (xs : List X) → length xs ≡ 0 → Misfits (map f xs) × (misfit_text ≡ usage_text (map f xs))
-no_words f [] l = (no_command, refl)
-  where
-    no_command : (command : Command) → Asks [] command → ⊥
-    no_command (solve at) h = let e = (solve_first [] at h).1 in cc
-    no_command (label classes) (names, h, zip) = cc
-no_words f (x ∷ xs) l = absurd (omega (arith, l))
-
--- the first word is neither `label` nor `solve`
-pub other_words : {X : Type 0} (f : X → List ℕ) (xs : List X) (x : X) (word : List ℕ) → 0 < length xs → x ≡ get_or xs 0 x → word ≡ f x → bytes_eq word label_word ≡ false → bytes_eq word solve_word ≡ false →
-    Misfits (map f xs) × (misfit_text ≡ usage_text (map f xs))
-other_words f xs x word l is e unlabelled other =
-    subst (λ ws. Misfits ws × (misfit_text ≡ usage_text ws)) (sym (tail_of f xs x l is ∙ ap (λ w. w ∷ map f (drop 1 xs)) (sym e))) (no_command, sym (usage_text-other word (map f (drop 1 xs)) unlabelled other))
-  where
-    no_command : (command : Command) → Asks (word ∷ map f (drop 1 xs)) command → ⊥
-    no_command (solve at) h = not_word word solve_word other (cons_heads (solve_first _ at h).1)
-    no_command (label classes) (names, h, zip) = not_word word label_word unlabelled (cons_heads h)
-
 -- ---- the words after `solve`
--- no word names no class
-pub no_option : {X : Type 0} (f : X → List ℕ) (xs : List X) (r : Request) → length xs ≡ 0 → ReadsOption [] r → ReadsOption (map f xs) r
-no_option f [] r l h = h
-no_option f (x ∷ xs) r l h = absurd (omega (arith, l))
-
 option_text-at : (option name : List ℕ) → option ≡ at_word → option_text (option ∷ name ∷ []) ≡ names_text 3 (name ∷ [])
 option_text-at option name e = ap (λ b. if b then names_text 3 (name ∷ []) else misfit_text) ((bytes_eq-Decides option at_word).1 e)
-
-option_text-other : (option name : List ℕ) → bytes_eq option at_word ≡ false → option_text (option ∷ name ∷ []) ≡ misfit_text
-option_text-other option name e = ap (λ b. if b then names_text 3 (name ∷ []) else misfit_text) e
 
 -- what the word after `--at` is decides what both are
 reads_at : (option name : List ℕ) (r : Request) → option ≡ at_word → ReadsAt name r → ReadsOption (option ∷ name ∷ []) r
@@ -230,32 +200,3 @@ reads_at_part f (a ∷ []) x y option name r l first second p q e h = absurd (om
 reads_at_part f (a ∷ b ∷ []) x y option name r l first second p q e h =
     subst (λ ws. ReadsOption ws r) (ap (λ w. w ∷ name ∷ []) (p ∙ ap f first) ∙ ap (λ w. f a ∷ w ∷ []) (q ∙ ap f second)) (reads_at option name r e h)
 reads_at_part f (a ∷ b ∷ d ∷ xs) x y option name r l first second p q e h = absurd (omega (arith, l))
-
--- the words are not `--at` and another one
-abbrev pub IsNoOption : List (List ℕ) → Type 0
-IsNoOption options = ((at : Option Class) → ¬ Asks (solve_word ∷ options) (solve at)) × (misfit_text ≡ option_text options)
-
-pub not_two_words : {X : Type 0} (f : X → List ℕ) (xs : List X) → (length xs ≡ 0 → ⊥) → (length xs ≡ 2 → ⊥) → IsNoOption (map f xs)
-not_two_words f [] some other = absurd (some refl)
-not_two_words f (a ∷ []) some other = (no_class, refl)
-  where
-    no_class : (at : Option Class) → Asks (solve_word ∷ f a ∷ []) (solve at) → ⊥
-    no_class None h = cc
-    no_class (Some c) (name, h, named) = cc
-not_two_words f (a ∷ b ∷ []) some other = absurd (other refl)
-not_two_words f (a ∷ b ∷ d ∷ xs) some other = (no_class, refl)
-  where
-    no_class : (at : Option Class) → Asks (solve_word ∷ f a ∷ f b ∷ f d ∷ map f xs) (solve at) → ⊥
-    no_class None h = cc
-    no_class (Some c) (name, h, named) = cc
-
-pub not_at_word : {X : Type 0} (f : X → List ℕ) (xs : List X) (x : X) (option : List ℕ) → length xs ≡ 2 → x ≡ get_or xs 0 x → option ≡ f x → bytes_eq option at_word ≡ false → IsNoOption (map f xs)
-not_at_word f [] x option l is e other = absurd (omega (arith, l))
-not_at_word f (a ∷ []) x option l is e other = absurd (omega (arith, l))
-not_at_word f (a ∷ b ∷ []) x option l is e other =
-    subst (λ w. IsNoOption (w ∷ f b ∷ [])) (e ∙ ap f is) (no_class, sym (option_text-other option (f b) other))
-  where
-    no_class : (at : Option Class) → Asks (solve_word ∷ option ∷ f b ∷ []) (solve at) → ⊥
-    no_class None h = cc
-    no_class (Some c) (name, h, named) = not_word option at_word other (cons_heads (cons_tails h))
-not_at_word f (a ∷ b ∷ d ∷ xs) x option l is e other = absurd (omega (arith, l))

@@ -36,11 +36,7 @@ const REFUSED_AT: &[(&str, &[u8], u8, &[u8])] = &[
 
 /// Texts that `solve` refuses, each with the status and the note.
 const REFUSED: &[(&[u8], u8, &[u8])] = &[
-    (
-        UNSOLVED,
-        5,
-        b"msp: no solver for P||Cmax\n",
-    ),
+    (UNSOLVED, 5, b"msp: no solver for P||Cmax\n"),
     (FRONT, 3, b"msp: line 5: missing\n"),
     (
         b"msp 1\nclass 1||sumwC\njob a p=3 w=1\njob b p=1 w=2\njob c p=2 w=2\nend",
@@ -315,10 +311,7 @@ fn labels_say_a_clash(rt: HostRuntime) -> Result<(), Fail> {
 
 #[test]
 fn labels_of_no_results(rt: HostRuntime) -> Result<(), Fail> {
-    let seen = outcome(
-        rt.alloc(),
-        &calling(&["label"], b"class,verdict,source\n"),
-    )?;
+    let seen = outcome(rt.alloc(), &calling(&["label"], b"class,verdict,source\n"))?;
     assert_eq!(rt; seen.status, 0);
     assert_eq!(rt; seen.out.iter().filter(|b| **b == b'\n').count(), 6481);
     assert!(rt;
