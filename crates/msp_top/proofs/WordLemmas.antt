@@ -1,5 +1,5 @@
 -- The texts for words that are no names.
-use Rattle.std.proofs.Common.{◌≡◌, ℕ, zero, suc, ◌+◌, ◌^◌, ◌<◌, ◌≤◌, ◌-◌, true, false, List, [], ◌∷◌, ◌++◌, length, get_or, take, drop, map, Option, Some, None, Result, Ok, Err, if◌then◌else◌, ◌↔◌, sym, ap, ◌∙◌, subst, zero-add, codes, bytes_eq, arith}
+use Rattle.std.proofs.Common.{◌≡◌, ℕ, zero, suc, ◌+◌, ◌^◌, ◌<◌, ◌-◌, true, false, List, [], ◌∷◌, ◌++◌, length, get_or, take, drop, map, Option, Some, None, Result, Ok, Err, if◌then◌else◌, ◌↔◌, sym, ap, ◌∙◌, subst, codes, bytes_eq, arith}
 use Rattle.std.specs.List.{AllZip}
 use Rattle.std.proofs.Math.Seq.{drop-cons}
 use Rattle.std.proofs.lemmas.List.{get_or-map, take_more, take_all, length-map, length-drop}
@@ -42,9 +42,6 @@ pub record HasNames (words : List (List ℕ)) (k : ℕ) : Type 0 where
   pub front : AllZip IsNameWord (take k words) classes
   pub text : names_text 2 words ≡ names_text (k + 2) (drop k words)
 
-pub HasNames-none : (words : List (List ℕ)) → HasNames words 0
-HasNames-none words = record { classes = []; front = tt; text = ap (λ n. names_text n words) (sym (zero-add 2)) }
-
 word_at : {X : Type 0} (f : X → List ℕ) (xs : List X) (k : ℕ) (x : X) → k < length xs → x ≡ get_or xs k x → get_or (map f xs) k (f x) ≡ f x
 word_at f xs k x l is = get_or-map f xs k x (f x) l ∙ ap f (sym is)
 
@@ -80,9 +77,6 @@ not_all_names f xs k x word l is e no_name classes h =
     let at = AllZip-at IsNameWord (map f xs) classes k (f x) h (omega (arith, length-map xs f)) in
     no_name at.0 (subst (λ w. IsNameWord w at.0) (word_at f xs k x l is ∙ sym e) at.1)
 
-pub HasNames-all : {X : Type 0} (f : X → List ℕ) (xs : List X) (k : ℕ) → length xs ≤ k → HasNames (map f xs) k → (classes : List Class) × AllZip IsNameWord (map f xs) classes
-HasNames-all f xs k l h = (h.classes, subst (λ ws. AllZip IsNameWord ws h.classes) (take_all k (map f xs) (omega (arith, length-map xs f))) h.front)
-
 -- ---- the classes of names
 pub name_at : {X : Type 0} (f : X → List ℕ) (xs : List X) (k : ℕ) (x : X) (word : List ℕ) → k < length xs → x ≡ get_or xs k x → word ≡ f x → (classes : List Class) × AllZip IsNameWord (map f xs) classes → (c : Class) × IsNameWord word c
 name_at f xs k x word l is e (classes, h) =
@@ -94,9 +88,6 @@ pub classes_more : {X : Type 0} (f : X → List ℕ) (xs : List X) (k : ℕ) (x 
 classes_more f xs k x word c before after l is e named grown h =
     subst (λ cs. AllZip IsNameWord (take (k + 1) (map f xs)) cs) (sym grown)
     (subst (λ ws. AllZip IsNameWord ws (before ++ c ∷ [])) (sym (front_at f xs k x l is)) (AllZip-more IsNameWord (take k (map f xs)) before (f x) c h (subst (λ w. IsNameWord w c) e named)))
-
-pub classes_all : {X : Type 0} (f : X → List ℕ) (xs : List X) (k : ℕ) (classes : List Class) → length xs ≤ k → AllZip IsNameWord (take k (map f xs)) classes → AllZip IsNameWord (map f xs) classes
-classes_all f xs k classes l h = subst (λ ws. AllZip IsNameWord ws classes) (take_all k (map f xs) (omega (arith, length-map xs f))) h
 
 -- a word that is refused is no name
 pub no_name_word : (word bytes : List ℕ) (r : Result Class NameFault) (fault : NameFault) → bytes ≡ word → r ≡ Err fault → ((c : Class) → (r ≡ Ok c) ↔ NameOf bytes c) → (c : Class) → ¬ IsNameWord word c
