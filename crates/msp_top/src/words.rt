@@ -94,6 +94,7 @@ fn read_names(alloc: Global, names: &[String]) -> Request
     }
 }
 
+/// What the word after `solve --at` asks for.
 fn read_at(name: &str) -> Request
     ensures { ReadsAt name.now result }
 {
