@@ -1,7 +1,6 @@
 -- The ways in which serving ends, from what reading, answering and writing ensure.
 use Rattle.std.proofs.Common.{◌≡◌, ◌↔◌, ℕ, ◌+◌, ◌<◌, ◌≤◌, ◌⊎◌, inl, inr, Bool, true, false, List, [], ◌∷◌, length, take, Option, Some, None, IfSome, is_some, if◌then◌else◌, refl, sym, ap, ◌∙◌, subst, codes, arith}
 use Rattle.std.specs.List.{AllZip}
-use Rattle.std.proofs.lemmas.Slice.Eq.{bytes_eq-Decides}
 use Rattle.std.specs.Io.KnownBytes.{Appends, Consumes, IsAtEnd}
 use Rattle.msp_io.specs.Faults.{Rose}
 use Rattle.msp_io.specs.Whole.{IsStop}
@@ -12,6 +11,7 @@ use Rattle.msp_top.specs.declared.serve.Ending.{Ending}
 use Rattle.msp_top.specs.declared.notes.Note.{Note}
 use Rattle.msp_top.specs.declared.notes.Note.TheVariants.{TooLong, CannotRead, CannotWrite, OutOfMemory}
 use Rattle.msp_class.specs.declared.class.Class.{Class}
+use Rattle.msp_name.specs.Names.{NameOf}
 use Rattle.msp_name.proofs.NameLemmas.{NameOf-determined}
 use Rattle.msp_file.specs.declared.fault.FileFault.{FileFault}
 use Rattle.msp_file.specs.declared.fault.FileFault.TheVariants as fault
@@ -20,7 +20,8 @@ use Rattle.msp_results.specs.declared.fault.ResultFault.TheVariants.{Header, Wid
 use Rattle.msp_top.specs.Files.{file_status}
 use Rattle.msp_top.specs.Results.{results_status}
 use Rattle.msp_top.specs.Note.{note_text}
-use Rattle.msp_top.specs.Run.{Command, solve, label, Asks, IsNameWord, Outcome, report, refusal, IsRight, SolveIsRight, solved, misread, unsolved, too_long, LabelIsRight, labelled, faulty, label_too_long, input_limit, Misfits, Reports, BreaksOff, Refuses, IsDue, IsNote, misfit as note_misfit, refused, read_fault, write_fault, memory}
+use Rattle.msp_top.proofs.WordLemmas.{label_is_not_solve, cons_heads, cons_tails, solve_first}
+use Rattle.msp_top.specs.Run.{Command, solve, label, Asks, IsNameWord, Outcome, report, refusal, IsRight, SolveIsRight, solved, misread, no_solver, not_solved, no_chain, too_long, LabelIsRight, labelled, faulty, label_too_long, input_limit, Misfits, Reports, BreaksOff, Refuses, IsDue, IsNote, misfit as note_misfit, refused, read_fault, write_fault, memory}
 use Rattle.msp_top.specs.Ending.{Serves, Devices, misfit, cannot_read, no_memory, refuses, cannot_write, writes}
 
 pub serves_along : (words : List (List ℕ)) (d : Devices) (e f : Ending) → e ≡ f → Serves words d f → Serves words d e
@@ -45,11 +46,13 @@ file_status_range : (fault : FileFault) (status : ℕ) → file_status fault ≡
 file_status_range fault.Memory status e = absurd (no_number e)
 file_status_range _ status e = (omega (arith, some_number e), omega (arith, some_number e))
 
-solve_status : (input : List ℕ) (outcome : Outcome) → SolveIsRight input outcome → HasStatus outcome
-solve_status input (report status text) (solved t short r) = omega arith
-solve_status input (refusal status note) (misread fault s short first is) = file_status_range fault status is
-solve_status input (refusal status note) (unsolved names i short read other) = (omega arith, omega arith)
-solve_status input (refusal status note) (too_long long) = (omega arith, omega arith)
+solve_status : (input : List ℕ) (at : Option Class) (outcome : Outcome) → SolveIsRight input at outcome → HasStatus outcome
+solve_status input at (report status text) (solved named t short is r) = omega arith
+solve_status input at (refusal status note) (misread named fault s short first is) = file_status_range fault status is
+solve_status input None (refusal status note) (no_solver names i short read other) = (omega arith, omega arith)
+solve_status input (Some c) (refusal status note) (not_solved d names i short read other) = (omega arith, omega arith)
+solve_status input (Some c) (refusal status note) (no_chain names i short read other) = (omega arith, omega arith)
+solve_status input at (refusal status note) (too_long named long) = (omega arith, omega arith)
 
 results_status_range : (fault : ResultFault) (status : ℕ) → results_status fault ≡ Some status → (3 ≤ status) × (status ≤ 6)
 results_status_range Header status e = (omega (arith, some_number e), omega (arith, some_number e))
@@ -67,11 +70,11 @@ label_status classes input (refusal status note) (faulty fault s short r is) = r
 label_status classes input (refusal status note) (label_too_long long) = (omega arith, omega arith)
 
 pub right_status : (command : Command) (input : List ℕ) (outcome : Outcome) → IsRight command input outcome → HasStatus outcome
-right_status solve input outcome h = solve_status input outcome h
+right_status (solve at) input outcome h = solve_status input at outcome h
 right_status (label classes) input outcome h = label_status classes input outcome h
 
 too_long_right : (command : Command) (input : List ℕ) → input_limit < length input → IsRight command input (refusal 4 (codes "more than 4194304 bytes"))
-too_long_right solve input h = too_long h
+too_long_right (solve at) input h = too_long at h
 too_long_right (label classes) input h = label_too_long h
 
 IfSome-map : (left : Option (List ℕ)) (P Q : List ℕ → Type 0) → ((input : List ℕ) → P input → Q input) → IfSome left P → IfSome left Q
@@ -123,6 +126,9 @@ right_along command input all outcome same e f h =
 pub not_two : {X : Type 0} (status other : ℕ) → 3 ≤ status → other ≡ status → other ≡ 2 → X
 not_two status other low e is = absurd (omega (arith, low, e, is))
 
+pub not_above_one : {X : Type 0} (status : ℕ) → status ≤ 1 → 2 ≤ status → X
+not_above_one status low high = absurd (omega (arith, low, high))
+
 -- ---- what each way of ending says
 
 classes_once : (names : List (List ℕ)) (a b : List Class) → AllZip IsNameWord names a → AllZip IsNameWord names b → a ≡ b
@@ -133,24 +139,21 @@ classes_once (w ∷ names) [] b p q = absurd p
 classes_once (w ∷ names) (c ∷ a) [] p q = absurd q
 classes_once (w ∷ names) (c ∷ a) (d ∷ b) p q = ap (λ e. e ∷ a) (NameOf-determined w c d p.0.named q.0.named) ∙ ap (λ l. d ∷ l) (classes_once names a b p.1 q.1)
 
-heads : {A : Type 0} {a b : A} {xs ys : List A} → a ∷ xs ≡ b ∷ ys → a ≡ b
-heads e = cc
-
-tails : {A : Type 0} {a b : A} {xs ys : List A} → a ∷ xs ≡ b ∷ ys → xs ≡ ys
-tails e = cc
-
-label_is_not_solve : codes "label" ≡ codes "solve" → ⊥
-label_is_not_solve q = differs ((bytes_eq-Decides (codes "label") (codes "solve")).1 q)
-  where
-    differs : false ≡ true → ⊥
-    differs e = cc
+-- words that ask to solve name one class at most
+at_once : (words : List (List ℕ)) (a b : Option Class) → Asks words (solve a) → Asks words (solve b) → a ≡ b
+at_once words None None p q = refl
+at_once words None (Some d) p (name, q, named) = cc
+at_once words (Some c) None (name, p, named) q = cc
+at_once words (Some c) (Some d) (m, p, mc) (n, q, nd) =
+    let same : m ≡ n = cc in
+    ap Some (NameOf-determined n c d (subst (λ w. NameOf w c) same mc.named) nd.named)
 
 -- words ask for one command at most
 asks_once : (words : List (List ℕ)) (a b : Command) → Asks words a → Asks words b → a ≡ b
-asks_once words solve solve p q = refl
-asks_once words solve (label b) p q = absurd (label_is_not_solve (heads (sym q.1 ∙ p)))
-asks_once words (label a) solve p q = absurd (label_is_not_solve (heads (sym p.1 ∙ q)))
-asks_once words (label a) (label b) p q = ap label (classes_once q.0 a b (subst (λ names. AllZip IsNameWord names a) (tails (sym p.1 ∙ q.1)) p.2) q.2)
+asks_once words (solve a) (solve b) p q = ap solve (at_once words a b p q)
+asks_once words (solve a) (label b) p q = absurd (label_is_not_solve (cons_heads (sym q.1 ∙ (solve_first words a p).1)))
+asks_once words (label a) (solve b) p q = absurd (label_is_not_solve (cons_heads (sym p.1 ∙ (solve_first words b q).1)))
+asks_once words (label a) (label b) p q = ap label (classes_once q.0 a b (subst (λ names. AllZip IsNameWord names a) (cons_tails (sym p.1 ∙ q.1)) p.2) q.2)
 
 pub serves_usage : (words : List (List ℕ)) (d : Devices) (e : Ending) → Serves words d e → (e.status ≡ 2) ↔ Misfits words
 serves_usage words d e (misfit n h text) = (λ is. h, λ h. refl)
@@ -175,6 +178,14 @@ serves_refusal words d e (no_memory command asked) low high = absurd (omega arit
 serves_refusal words d e (refuses status note from to h) low high = (note_text note, h)
 serves_refusal words d e (cannot_write rose h) low high = absurd (omega arith)
 serves_refusal words d e (writes status small h) low high = absurd (omega arith)
+
+pub serves_read_fault : (words : List (List ℕ)) (d : Devices) (e : Ending) → Serves words d e → e.status ≡ 7 → Rose d.source_faults d.source_faults_after
+serves_read_fault words d e (misfit n h text) is = absurd (omega (arith, is))
+serves_read_fault words d e (cannot_read command asked rose) is = rose
+serves_read_fault words d e (no_memory command asked) is = absurd (omega (arith, is))
+serves_read_fault words d e (refuses status note from to h) is = absurd (omega (arith, is))
+serves_read_fault words d e (cannot_write rose h) is = absurd (omega (arith, is))
+serves_read_fault words d e (writes status small h) is = absurd (omega (arith, is))
 
 pub serves_write_fault : (words : List (List ℕ)) (d : Devices) (e : Ending) → Serves words d e → e.status ≡ 8 → Rose d.out_faults d.out_faults_after × BreaksOff words d.left d.left_after d.held d.held_after
 serves_write_fault words d e (misfit n h text) is = absurd (omega (arith, is))
@@ -211,3 +222,12 @@ serves_note words d e note (no_memory command asked) is = note_along words d.lef
 serves_note words d e note (refuses status other from to h) is = note_along words d.left status other note is (refused status (note_text other) h)
 serves_note words d e note (cannot_write rose h) is = note_along words d.left 8 CannotWrite note is write_fault
 serves_note words d e note (writes status small h) is = absurd (none_is_not_some is)
+
+-- an ending with a note has a status from 2 on
+pub serves_silent : {X : Type 0} (words : List (List ℕ)) (d : Devices) (e : Ending) (note : Note) → Serves words d e → e.note ≡ Some note → e.status ≤ 1 → X
+serves_silent words d e note (misfit n h text) is low = absurd (omega (arith, low))
+serves_silent words d e note (cannot_read command asked rose) is low = absurd (omega (arith, low))
+serves_silent words d e note (no_memory command asked) is low = absurd (omega (arith, low))
+serves_silent words d e note (refuses status other from to h) is low = absurd (omega (arith, low, from))
+serves_silent words d e note (cannot_write rose h) is low = absurd (omega (arith, low))
+serves_silent words d e note (writes status small h) is low = absurd (none_is_not_some is)

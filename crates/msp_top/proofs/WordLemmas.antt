@@ -1,5 +1,5 @@
 -- The texts for words that are no names.
-use Rattle.std.proofs.Common.{◌≡◌, ℕ, zero, suc, ◌+◌, ◌^◌, ◌<◌, ◌≤◌, ◌-◌, true, false, List, [], ◌∷◌, ◌++◌, length, get_or, take, drop, map, Result, Ok, Err, if◌then◌else◌, ◌↔◌, refl, sym, ap, ◌∙◌, subst, zero-add, codes, bytes_eq, arith}
+use Rattle.std.proofs.Common.{◌≡◌, ℕ, zero, suc, ◌+◌, ◌^◌, ◌<◌, ◌-◌, true, false, List, [], ◌∷◌, ◌++◌, length, get_or, take, drop, map, Option, Some, None, Result, Ok, Err, if◌then◌else◌, ◌↔◌, sym, ap, ◌∙◌, subst, codes, bytes_eq, arith}
 use Rattle.std.specs.List.{AllZip}
 use Rattle.std.proofs.Math.Seq.{drop-cons}
 use Rattle.std.proofs.lemmas.List.{get_or-map, take_more, take_all, length-map, length-drop}
@@ -9,10 +9,10 @@ use Rattle.msp_class.specs.declared.class.Class.{Class}
 use Rattle.msp_name.specs.declared.fault.NameFault.{NameFault}
 use Rattle.msp_name.specs.Names.{NameOf}
 use Rattle.msp_name.specs.Reading.{reading_of}
-use Rattle.msp_top.specs.Run.{names_text, text_of_reading, misspelled_text, misfit_text, usage_text, IsNameWord, Command, solve, label, Asks, Misfits}
+use Rattle.msp_top.specs.Run.{names_text, text_of_reading, misspelled_text, misfit_text, option_text, usage_text, IsNameWord, Command, solve, label, Asks}
 use Rattle.msp_top.specs.declared.words.Request.{Request}
 use Rattle.msp_top.specs.declared.words.Request.TheVariants.{Command as IsCommand, Misfit, NoMemory}
-use Rattle.msp_top.specs.Words.{ReadsWords, ReadsNames}
+use Rattle.msp_top.specs.Words.{ReadsWords, ReadsNames, ReadsOption, ReadsAt}
 
 -- the text of the first word, where it is short
 pub names_text-short : (place : ℕ) (word : List ℕ) (rest : List (List ℕ)) → length word < 2 ^ 32 → names_text place (word ∷ rest) ≡ text_of_reading place (reading_of word) (names_text (place + 1) rest)
@@ -41,9 +41,6 @@ pub record HasNames (words : List (List ℕ)) (k : ℕ) : Type 0 where
   pub classes : List Class
   pub front : AllZip IsNameWord (take k words) classes
   pub text : names_text 2 words ≡ names_text (k + 2) (drop k words)
-
-pub HasNames-none : (words : List (List ℕ)) → HasNames words 0
-HasNames-none words = record { classes = []; front = tt; text = ap (λ n. names_text n words) (sym (zero-add 2)) }
 
 word_at : {X : Type 0} (f : X → List ℕ) (xs : List X) (k : ℕ) (x : X) → k < length xs → x ≡ get_or xs k x → get_or (map f xs) k (f x) ≡ f x
 word_at f xs k x l is = get_or-map f xs k x (f x) l ∙ ap f (sym is)
@@ -80,9 +77,6 @@ not_all_names f xs k x word l is e no_name classes h =
     let at = AllZip-at IsNameWord (map f xs) classes k (f x) h (omega (arith, length-map xs f)) in
     no_name at.0 (subst (λ w. IsNameWord w at.0) (word_at f xs k x l is ∙ sym e) at.1)
 
-pub HasNames-all : {X : Type 0} (f : X → List ℕ) (xs : List X) (k : ℕ) → length xs ≤ k → HasNames (map f xs) k → (classes : List Class) × AllZip IsNameWord (map f xs) classes
-HasNames-all f xs k l h = (h.classes, subst (λ ws. AllZip IsNameWord ws h.classes) (take_all k (map f xs) (omega (arith, length-map xs f))) h.front)
-
 -- ---- the classes of names
 pub name_at : {X : Type 0} (f : X → List ℕ) (xs : List X) (k : ℕ) (x : X) (word : List ℕ) → k < length xs → x ≡ get_or xs k x → word ≡ f x → (classes : List Class) × AllZip IsNameWord (map f xs) classes → (c : Class) × IsNameWord word c
 name_at f xs k x word l is e (classes, h) =
@@ -95,9 +89,6 @@ classes_more f xs k x word c before after l is e named grown h =
     subst (λ cs. AllZip IsNameWord (take (k + 1) (map f xs)) cs) (sym grown)
     (subst (λ ws. AllZip IsNameWord ws (before ++ c ∷ [])) (sym (front_at f xs k x l is)) (AllZip-more IsNameWord (take k (map f xs)) before (f x) c h (subst (λ w. IsNameWord w c) e named)))
 
-pub classes_all : {X : Type 0} (f : X → List ℕ) (xs : List X) (k : ℕ) (classes : List Class) → length xs ≤ k → AllZip IsNameWord (take k (map f xs)) classes → AllZip IsNameWord (map f xs) classes
-classes_all f xs k classes l h = subst (λ ws. AllZip IsNameWord ws classes) (take_all k (map f xs) (omega (arith, length-map xs f))) h
-
 -- a word that is refused is no name
 pub no_name_word : (word bytes : List ℕ) (r : Result Class NameFault) (fault : NameFault) → bytes ≡ word → r ≡ Err fault → ((c : Class) → (r ≡ Ok c) ↔ NameOf bytes c) → (c : Class) → ¬ IsNameWord word c
 no_name_word word bytes r fault e is named c h = ok_is_not_err (sym ((named c).1 (subst (λ w. NameOf w c) (sym e) h.named)) ∙ is)
@@ -109,71 +100,94 @@ no_name_word word bytes r fault e is named c h = ok_is_not_err (sym ((named c).1
 abbrev pub label_word : List ℕ
 label_word = codes "label"
 
+abbrev pub solve_word : List ℕ
+solve_word = codes "solve"
+
+abbrev pub at_word : List ℕ
+at_word = codes "--at"
+
 tail_of : {X : Type 0} (f : X → List ℕ) (xs : List X) (x : X) → 0 < length xs → x ≡ get_or xs 0 x → map f xs ≡ f x ∷ map f (drop 1 xs)
 tail_of f [] x l is = absurd (omega (arith, l))
 tail_of f (y ∷ ys) x l is = ap (λ z. f z ∷ map f ys) (sym is)
 
-cons_heads : {A : Type 0} {a b : A} {xs ys : List A} → a ∷ xs ≡ b ∷ ys → a ≡ b
+pub cons_heads : {A : Type 0} {a b : A} {xs ys : List A} → a ∷ xs ≡ b ∷ ys → a ≡ b
 cons_heads e = cc
 
-cons_tails : {A : Type 0} {a b : A} {xs ys : List A} → a ∷ xs ≡ b ∷ ys → xs ≡ ys
+pub cons_tails : {A : Type 0} {a b : A} {xs ys : List A} → a ∷ xs ≡ b ∷ ys → xs ≡ ys
 cons_tails e = cc
 
-usage_text-label : (word : List ℕ) (names : List (List ℕ)) → word ≡ label_word → usage_text (word ∷ names) ≡ names_text 2 names
-usage_text-label word names e = ap (λ b. if b then names_text 2 names else misfit_text) ((bytes_eq-Decides word label_word).1 e)
+differ : {X : Type 0} → false ≡ true → X
+differ e = cc
 
-usage_text-other : (word : List ℕ) (names : List (List ℕ)) → bytes_eq word label_word ≡ false → usage_text (word ∷ names) ≡ misfit_text
-usage_text-other word names e = ap (λ b. if b then names_text 2 names else misfit_text) e
+-- the words that a command begins with
+pub label_is_not_solve : label_word ≡ solve_word → ⊥
+label_is_not_solve q = differ ((bytes_eq-Decides label_word solve_word).1 q)
+
+not_word : (word other : List ℕ) → bytes_eq word other ≡ false → word ≡ other → ⊥
+not_word word other e q = differ (sym e ∙ (bytes_eq-Decides word other).1 q)
+
+abbrev solve_or_misfit : List ℕ → List (List ℕ) → List ℕ
+solve_or_misfit word words = if bytes_eq word solve_word then option_text words else misfit_text
+
+usage_text-label : (word : List ℕ) (names : List (List ℕ)) → word ≡ label_word → usage_text (word ∷ names) ≡ names_text 2 names
+usage_text-label word names e = ap (λ b. if b then names_text 2 names else solve_or_misfit word names) ((bytes_eq-Decides word label_word).1 e)
+
+usage_text-unlabelled : (word : List ℕ) (words : List (List ℕ)) → bytes_eq word label_word ≡ false → usage_text (word ∷ words) ≡ solve_or_misfit word words
+usage_text-unlabelled word words e = ap (λ b. if b then names_text 2 words else solve_or_misfit word words) e
+
+usage_text-solve : (word : List ℕ) (options : List (List ℕ)) → bytes_eq word label_word ≡ false → word ≡ solve_word → usage_text (word ∷ options) ≡ option_text options
+usage_text-solve word options other e = usage_text-unlabelled word options other ∙ ap (λ b. if b then option_text options else misfit_text) ((bytes_eq-Decides word solve_word).1 e)
+
+-- words that ask to solve begin with `solve`
+pub solve_first : (words : List (List ℕ)) (at : Option Class) → Asks words (solve at) → (options : List (List ℕ)) × (words ≡ solve_word ∷ options)
+solve_first words None h = ([], h)
+solve_first words (Some c) (name, h, named) = (codes "--at" ∷ name ∷ [], h)
 
 -- what the words after `label` are decides what all words are
-reads_label : (word : List ℕ) (names : List (List ℕ)) (r : Request) → word ≡ label_word → ReadsNames names r → ReadsWords (word ∷ names) r
+pub reads_label : (word : List ℕ) (names : List (List ℕ)) (r : Request) → word ≡ label_word → ReadsNames names r → ReadsWords (word ∷ names) r
 reads_label word names (IsCommand asked) e (classes, h, is) = subst (Asks (word ∷ names)) (sym is) (names, ap (λ w. w ∷ names) e, h)
 reads_label word names (Misfit note) e (none, text) = (no_command, text ∙ sym (usage_text-label word names e))
   where
     no_command : (command : Command) → Asks (word ∷ names) command → ⊥
-    no_command solve h = label_is_not_solve (sym e ∙ cons_heads h)
-      where
-        label_is_not_solve : label_word ≡ codes "solve" → ⊥
-        label_is_not_solve q = differs ((bytes_eq-Decides label_word (codes "solve")).1 q)
-          where
-            differs : false ≡ true → ⊥
-            differs e = cc
+    no_command (solve at) h = label_is_not_solve (sym e ∙ cons_heads (solve_first _ at h).1)
     no_command (label classes) (others, h, zip) = none classes (subst (λ ws. AllZip IsNameWord ws classes) (sym (cons_tails h)) zip)
 reads_label word names NoMemory e (classes, h) = (label classes, (names, ap (λ w. w ∷ names) e, h))
 
-pub reads_label_words : {X : Type 0} (f : X → List ℕ) (xs : List X) (x : X) (word : List ℕ) (r : Request) → 0 < length xs → x ≡ get_or xs 0 x → word ≡ f x → word ≡ label_word → ReadsNames (map f (drop 1 xs)) r → ReadsWords (map f xs) r
-reads_label_words f xs x word r l is e same h = subst (λ ws. ReadsWords ws r) (sym (tail_of f xs x l is)) (reads_label (f x) (map f (drop 1 xs)) r (sym e ∙ same) h)
+-- and so do the words after `solve`
+pub reads_solve : (word : List ℕ) (options : List (List ℕ)) (r : Request) → bytes_eq word label_word ≡ false → word ≡ solve_word → ReadsOption options r → ReadsWords (word ∷ options) r
+reads_solve word options (IsCommand asked) other e (at, h, is) = subst (Asks (word ∷ options)) (sym is) (subst (λ w. Asks (w ∷ options) (solve at)) (sym e) h)
+reads_solve word options (Misfit note) other e (none, text) = (no_command, text ∙ sym (usage_text-solve word options other e))
+  where
+    no_command : (command : Command) → Asks (word ∷ options) command → ⊥
+    no_command (solve at) h = none at (subst (λ w. Asks (w ∷ options) (solve at)) e h)
+    no_command (label classes) (names, h, zip) = not_word word label_word other (cons_heads h)
+reads_solve word options NoMemory other e h = absurd h
 
 -- the words after the first, as a slice gives them
 pub rest_part : {X : Type 0} (d xs : List X) → d ≡ xs → take (length d - 1) (drop 1 d) ≡ drop 1 xs
 rest_part d xs e = take_all (length d - 1) (drop 1 d) (omega (arith, length-drop 1 d)) ∙ ap (drop 1) e
 
-pub reads_label_part : {X : Type 0} (f : X → List ℕ) (xs part : List X) (x : X) (word : List ℕ) (r : Request) → 0 < length xs → x ≡ get_or xs 0 x → word ≡ f x → word ≡ label_word → part ≡ drop 1 xs → ReadsNames (map f part) r → ReadsWords (map f xs) r
-reads_label_part f xs part x word r l is e same cut h = reads_label_words f xs x word r l is e same (subst (λ p. ReadsNames (map f p) r) cut h)
+pub reads_part : {X : Type 0} (f : X → List ℕ) (xs part : List X) (x : X) (word : List ℕ) (r : Request) → 0 < length xs → x ≡ get_or xs 0 x → word ≡ f x → part ≡ drop 1 xs → ReadsWords (word ∷ map f part) r → ReadsWords (map f xs) r
+reads_part f xs part x word r l is e cut h =
+    subst (λ ws. ReadsWords ws r) (sym (tail_of f xs x l is)) (subst (λ p. ReadsWords (f x ∷ map f p) r) cut (subst (λ w. ReadsWords (w ∷ map f part) r) e h))
 
-pub solve_alone : {X : Type 0} (f : X → List ℕ) (xs : List X) (x : X) (word : List ℕ) → length xs ≡ 1 → x ≡ get_or xs 0 x → word ≡ f x → word ≡ codes "solve" → map f xs ≡ codes "solve" ∷ []
-solve_alone f [] x word l is e same = absurd (omega (arith, l))
-solve_alone f (y ∷ []) x word l is e same = ap (λ w. w ∷ []) (ap f (sym is) ∙ sym e ∙ same)
-solve_alone f (y ∷ z ∷ ys) x word l is e same = absurd (omega (arith, l))
+-- ---- the words after `solve`
+option_text-at : (option name : List ℕ) → option ≡ at_word → option_text (option ∷ name ∷ []) ≡ names_text 3 (name ∷ [])
+option_text-at option name e = ap (λ b. if b then names_text 3 (name ∷ []) else misfit_text) ((bytes_eq-Decides option at_word).1 e)
 
--- no word is the first of a command
-pub no_words : {X : Type 0} (f : X → List ℕ) (xs : List X) → length xs ≡ 0 → Misfits (map f xs) × (misfit_text ≡ usage_text (map f xs))
-no_words f [] l = (no_command, refl)
+-- what the word after `--at` is decides what both are
+reads_at : (option name : List ℕ) (r : Request) → option ≡ at_word → ReadsAt name r → ReadsOption (option ∷ name ∷ []) r
+reads_at option name (IsCommand asked) e (c, named, is) = (Some c, (name, ap (λ w. solve_word ∷ w ∷ name ∷ []) e, named), is)
+reads_at option name (Misfit note) e (none, text) = (no_class, text ∙ sym (option_text-at option name e))
   where
-    no_command : (command : Command) → Asks [] command → ⊥
-    no_command solve h = cc
-    no_command (label classes) (names, h, zip) = cc
-no_words f (x ∷ xs) l = absurd (omega (arith, l))
+    no_class : (at : Option Class) → Asks (solve_word ∷ option ∷ name ∷ []) (solve at) → ⊥
+    no_class None h = cc
+    no_class (Some c) (other, h, named) = none c (subst (λ w. IsNameWord w c) (sym (cons_heads (cons_tails (cons_tails h)))) named)
+reads_at option name NoMemory e h = absurd h
 
--- the first word is neither `label`, nor `solve` alone
-pub other_words : {X : Type 0} (f : X → List ℕ) (xs : List X) (x : X) (word : List ℕ) → 0 < length xs → x ≡ get_or xs 0 x → word ≡ f x → bytes_eq word label_word ≡ false →
-    (word ≡ codes "solve" → length xs ≡ 1 → ⊥) → Misfits (map f xs) × (misfit_text ≡ usage_text (map f xs))
-other_words f xs x word l is e other alone =
-    subst (λ ws. Misfits ws × (misfit_text ≡ usage_text ws)) (sym (tail_of f xs x l is)) (no_command, sym (usage_text-other (f x) (map f (drop 1 xs)) (ap (λ w. bytes_eq w label_word) (sym e) ∙ other)))
-  where
-    no_command : (command : Command) → Asks (f x ∷ map f (drop 1 xs)) command → ⊥
-    no_command solve h = alone (e ∙ cons_heads h) (omega (arith, ap length (cons_tails h), length-map (drop 1 xs) f, length-drop 1 xs))
-    no_command (label classes) (names, h, zip) = differs (sym other ∙ (bytes_eq-Decides word label_word).1 (e ∙ cons_heads h))
-      where
-        differs : false ≡ true → ⊥
-        differs q = cc
+pub reads_at_part : {X : Type 0} (f : X → List ℕ) (xs : List X) (x y : X) (option name : List ℕ) (r : Request) → length xs ≡ 2 → x ≡ get_or xs 0 x → y ≡ get_or xs 1 y → option ≡ f x → name ≡ f y → option ≡ at_word → ReadsAt name r → ReadsOption (map f xs) r
+reads_at_part f [] x y option name r l first second p q e h = absurd (omega (arith, l))
+reads_at_part f (a ∷ []) x y option name r l first second p q e h = absurd (omega (arith, l))
+reads_at_part f (a ∷ b ∷ []) x y option name r l first second p q e h =
+    subst (λ ws. ReadsOption ws r) (ap (λ w. w ∷ name ∷ []) (p ∙ ap f first) ∙ ap (λ w. f a ∷ w ∷ []) (q ∙ ap f second)) (reads_at option name r e h)
+reads_at_part f (a ∷ b ∷ d ∷ xs) x y option name r l first second p q e h = absurd (omega (arith, l))

@@ -1,5 +1,5 @@
 -- What the code's answers mean.
-use Rattle.std.specs.Prelude.{ℕ, ◌≤◌, List, length}
+use Rattle.std.specs.Prelude.{ℕ, ◌≤◌, List, length, Option}
 use Rattle.msp_top.specs.declared.answers.Answer.{Answer}
 use Rattle.msp_top.specs.declared.answers.Answer.TheVariants.{Report, Refusal}
 use Rattle.msp_top.specs.declared.words.Asked.{Asked}
@@ -13,16 +13,16 @@ use Rattle.msp_file.specs.InstanceText.{IsInstanceText}
 use Rattle.msp_top.specs.Note.{note_text}
 
 abbrev pub command_of : Asked → Command
-command_of Solve = solve
+command_of (Solve at) = solve at
 command_of (Label classes) = label classes
 
 abbrev pub outcome_of : Answer → Outcome
 outcome_of (Report status text) = report status text.items
 outcome_of (Refusal status note) = refusal status (note_text note)
 
--- The answer is right for each input that is the text of the instance and of its names.
-abbrev pub AnswersFiled : Filed → Answer → Type 0
-AnswersFiled filed answer = (input : List ℕ) → length input ≤ input_limit → IsInstanceText input filed.instance filed.names → SolveIsRight input (outcome_of answer)
+-- The answer is right, at the class that is named, for each input that is the text of the instance and of its names.
+abbrev pub AnswersFiled : Option Class → Filed → Answer → Type 0
+AnswersFiled at filed answer = (input : List ℕ) → length input ≤ input_limit → IsInstanceText input filed.instance filed.names → SolveIsRight input at (outcome_of answer)
 
 -- The answer is the report of the labels of the shown classes under the entries.
 abbrev pub ReportsShown : List Class → List Entry → Answer → Type 0

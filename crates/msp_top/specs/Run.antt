@@ -34,9 +34,10 @@ use Rattle.msp_top.specs.Results.{results_status, results_text, AreAllClasses}
 
 -- ---- the command line
 
--- A command that the words of a command line can ask for.
+-- A command that the words of a command line can ask for: to solve an instance, at a class of solvers where one is named, or to label
+-- classes.
 pub data Command : Type 0 where
-  solve : Command
+  solve : Option Class → Command
   label : List Class → Command
 
 -- The word is a name of the class. A word of 2 ^ 32 bytes or more is no name.
@@ -44,9 +45,10 @@ pub record IsNameWord (word : List ℕ) (c : Class) : Type 0 where
   pub short : length word < 2 ^ 32
   pub named : NameOf word c
 
--- The words ask for the command: `solve` alone, or `label` and any number of names of classes.
+-- The words ask for the command: `solve`, alone or with `--at` and a name of a class, or `label` and any number of names of classes.
 abbrev pub Asks : List (List ℕ) → Command → Type 0
-Asks words solve = words ≡ codes "solve" ∷ []
+Asks words (solve None) = words ≡ codes "solve" ∷ []
+Asks words (solve (Some c)) = (name : List ℕ) × (words ≡ codes "solve" ∷ codes "--at" ∷ name ∷ []) × IsNameWord name c
 Asks words (label classes) = (names : List (List ℕ)) × (words ≡ codes "label" ∷ names) × AllZip IsNameWord names classes
 
 -- The words ask for no command.
@@ -69,9 +71,15 @@ abbrev pub names_text : ℕ → List (List ℕ) → List ℕ
 names_text place [] = misfit_text
 names_text place (word ∷ words) = if nat_lt (length word) (2 ^ 32) then text_of_reading place (reading_of word) (names_text (place + 1) words) else misfit_text
 
+-- The same for the words after `solve`.
+abbrev pub option_text : List (List ℕ) → List ℕ
+option_text (option ∷ name ∷ []) = if bytes_eq option (codes "--at") then names_text 3 (name ∷ []) else misfit_text
+option_text _ = misfit_text
+
 abbrev pub usage_text : List (List ℕ) → List ℕ
 usage_text [] = misfit_text
-usage_text (word ∷ words) = if bytes_eq word (codes "label") then names_text 2 words else misfit_text
+usage_text (word ∷ words) =
+    if bytes_eq word (codes "label") then names_text 2 words else (if bytes_eq word (codes "solve") then option_text words else misfit_text)
 
 -- ---- what a whole input calls for
 
@@ -96,13 +104,21 @@ pub record IsSolveReport (input text : List ℕ) : Type 0 where
   pub settled : IsSettled solution.schedule
   pub printed : text ≡ solve_report names solution
 
--- The outcome is right for `solve`: a report, the first fault of the text, which is a limit or bad input, no solver for the class of
--- an instance, or an input that is too long.
-pub data SolveIsRight (input : List ℕ) : Outcome → Type 0 where
-  solved : (text : List ℕ) → length input ≤ input_limit → IsSolveReport input text → SolveIsRight input (report 0 text)
-  misread : (fault : FileFault) (status : ℕ) → length input ≤ input_limit → IsFaultOf (filed_at input) fault → file_status fault ≡ Some status → SolveIsRight input (refusal status (file_text fault))
-  unsolved : (names : List (List ℕ)) (i : Instance) → length input ≤ input_limit → IsInstanceText input i names → i.class ≢ smith_class → SolveIsRight input (refusal 5 (codes "no solver for " ++ name_of i.class))
-  too_long : input_limit < length input → SolveIsRight input (refusal 4 (codes "more than 4194304 bytes"))
+-- The class is the one that is named, if one is named.
+abbrev pub IsNamed : Option Class → Class → Type 0
+IsNamed None c = Unit {0}
+IsNamed (Some named) c = named ≡ c
+
+-- The outcome is right for `solve`: a report; the first fault of the text, which is a limit or bad input; no solver for the class of
+-- the instance; a named class that has no solver, or to which no reduction leads from that of the instance; or an input that is too
+-- long. Today one class has a solver, and no reduction is carried.
+pub data SolveIsRight (input : List ℕ) : Option Class → Outcome → Type 0 where
+  solved : (at : Option Class) (text : List ℕ) → length input ≤ input_limit → IsNamed at smith_class → IsSolveReport input text → SolveIsRight input at (report 0 text)
+  misread : (at : Option Class) (fault : FileFault) (status : ℕ) → length input ≤ input_limit → IsFaultOf (filed_at input) fault → file_status fault ≡ Some status → SolveIsRight input at (refusal status (file_text fault))
+  no_solver : (names : List (List ℕ)) (i : Instance) → length input ≤ input_limit → IsInstanceText input i names → i.class ≢ smith_class → SolveIsRight input None (refusal 5 (codes "no solver for " ++ name_of i.class))
+  not_solved : (c : Class) (names : List (List ℕ)) (i : Instance) → length input ≤ input_limit → IsInstanceText input i names → c ≢ smith_class → SolveIsRight input (Some c) (refusal 6 (name_of c ++ codes " is not solved"))
+  no_chain : (names : List (List ℕ)) (i : Instance) → length input ≤ input_limit → IsInstanceText input i names → i.class ≢ smith_class → SolveIsRight input (Some smith_class) (refusal 6 (codes "no chain to " ++ name_of smith_class))
+  too_long : (at : Option Class) → input_limit < length input → SolveIsRight input at (refusal 4 (codes "more than 4194304 bytes"))
 
 -- The classes that are labelled: those that are named, or all of them in order of rank where none is named.
 abbrev pub AreShown : List Class → List Class → Type 0
@@ -137,7 +153,7 @@ pub data LabelIsRight (classes : List Class) (input : List ℕ) : Outcome → Ty
 
 -- The outcome is right for a command and a whole input.
 abbrev pub IsRight : Command → List ℕ → Outcome → Type 0
-IsRight solve input outcome = SolveIsRight input outcome
+IsRight (solve at) input outcome = SolveIsRight input at outcome
 IsRight (label classes) input outcome = LabelIsRight classes input outcome
 
 -- ---- what a call of `run` leaves: what a source has left and what a sink holds stand as far as they tell it

@@ -1,10 +1,10 @@
 // What there is to say of a whole input, by the command.
-ghost use Rattle.std.specs.Prelude.{◌≡◌, ◌⊎◌, ℕ, ◌≤◌, List as Items, [], length, IfOk, IfSome, IfNone, is_some, if◌then◌else◌};
+ghost use Rattle.std.specs.Prelude.{◌≡◌, ◌⊎◌, ℕ, ◌≤◌, List as Items, [], length, Option, Some, None, IfOk, IfSome, IfNone, is_some, if◌then◌else◌};
 ghost use Rattle.msp_class.specs.declared.class.Class.{Class as ClassValue};
 ghost use Rattle.msp_class.specs.Rank.{rank_of};
 ghost use Rattle.msp_instance.specs.Conditions.{Inner, InClass};
 ghost use Rattle.msp_top.specs.Smith.{smith_class};
-ghost use Rattle.msp_top.specs.Run.{IsRight, SolveIsRight, LabelIsRight, AreShown};
+ghost use Rattle.msp_top.specs.Run.{IsRight, SolveIsRight, LabelIsRight, AreShown, IsNamed};
 ghost use Rattle.msp_top.specs.Files.{file_status};
 ghost use Rattle.msp_top.specs.Results.{results_status, AreAllClasses};
 ghost use Rattle.msp_top.specs.Answer.{command_of, outcome_of, AnswersFiled, ReportsShown, ReportsLabels};
@@ -33,17 +33,17 @@ pub fn answer_to(alloc: Global, asked: &Asked, input: &[u8]) -> Result<Answer, N
     ensures { IfOk result (λ answer. IsRight (command_of asked.now) input.now (outcome_of answer)) }
 {
     match asked {
-        Asked::Solve => solve_answer(alloc, input),
+        Asked::Solve { at } => solve_answer(alloc, *at, input),
         Asked::Label(classes) => label_answer(alloc, classes, input),
     }
 }
 
-fn solve_answer(alloc: Global, input: &[u8]) -> Result<Answer, NoMemory>
+fn solve_answer(alloc: Global, at: Option<Class>, input: &[u8]) -> Result<Answer, NoMemory>
     requires { length input.now ≤ 4194304 }
-    ensures { IfOk result (λ answer. SolveIsRight input.now (outcome_of answer)) }
+    ensures { IfOk result (λ answer. SolveIsRight input.now at (outcome_of answer)) }
 {
     match read_instance(alloc, input) {
-        Ok(filed) => answer_filed(alloc, &filed),
+        Ok(filed) => answer_filed(alloc, at, &filed),
         Err(fault) => match file_status(&fault) {
             Some(status) => Ok(Answer::Refusal {
                 status,
@@ -78,11 +78,56 @@ fn file_status(fault: &FileFault) -> Option<u8>
     }
 }
 
-/// The answer for an instance: a best schedule, where there is a solver for its class.
-fn answer_filed(alloc: Global, filed: &Filed) -> Result<Answer, NoMemory>
+/// The answer for an instance, at the class that is named, if one is named.
+fn answer_filed(alloc: Global, at: Option<Class>, filed: &Filed) -> Result<Answer, NoMemory>
     requires class { InClass filed.now.instance }
     requires named { length filed.now.names ≡ length filed.now.instance.jobs }
-    ensures { IfOk result (λ answer. AnswersFiled filed.now answer) }
+    ensures { IfOk result (λ answer. AnswersFiled at filed.now answer) }
+{
+    match at {
+        Some(class) => answer_at(alloc, class, filed),
+        None => answer_own(alloc, filed),
+    }
+}
+
+/// The answer at a named class.
+fn answer_at(alloc: Global, class: Class, filed: &Filed) -> Result<Answer, NoMemory>
+    requires class { InClass filed.now.instance }
+    requires named { length filed.now.names ≡ length filed.now.instance.jobs }
+    ensures { IfOk result (λ answer. AnswersFiled (Some class) filed.now answer) }
+{
+    if solves(class) {
+        answer_solved(alloc, class, filed)
+    } else {
+        Ok(Answer::Refusal {
+            status: 6,
+            note: Note::NotSolved(class),
+        })
+    }
+}
+
+/// The answer at a named class that has a solver: a best schedule, where the instance is one of it.
+fn answer_solved(alloc: Global, class: Class, filed: &Filed) -> Result<Answer, NoMemory>
+    requires class { InClass filed.now.instance }
+    requires named { length filed.now.names ≡ length filed.now.instance.jobs }
+    requires solved { class ≡ smith_class }
+    ensures { IfOk result (λ answer. AnswersFiled (Some class) filed.now answer) }
+{
+    if solves(filed.instance.class) {
+        report_smith(alloc, filed)
+    } else {
+        Ok(Answer::Refusal {
+            status: 6,
+            note: Note::NoChain(class),
+        })
+    }
+}
+
+/// The answer where no class is named: a best schedule, where there is a solver for the class of the instance.
+fn answer_own(alloc: Global, filed: &Filed) -> Result<Answer, NoMemory>
+    requires class { InClass filed.now.instance }
+    requires named { length filed.now.names ≡ length filed.now.instance.jobs }
+    ensures { IfOk result (λ answer. AnswersFiled None filed.now answer) }
 {
     if solves(filed.instance.class) {
         report_smith(alloc, filed)
@@ -99,7 +144,7 @@ fn report_smith(alloc: Global, filed: &Filed) -> Result<Answer, NoMemory>
     requires inner { Inner filed.now.instance }
     requires class { filed.now.instance.class ≡ smith_class }
     requires named { length filed.now.names ≡ length filed.now.instance.jobs }
-    ensures { IfOk result (λ answer. AnswersFiled filed.now answer) }
+    ensures { IfOk result (λ answer. (at : Option ClassValue) → IsNamed at smith_class → AnswersFiled at filed.now answer) }
 {
     let solution = solve(alloc, &filed.instance)?;
     let text = solve_text(alloc, &filed.names, &solution)?;

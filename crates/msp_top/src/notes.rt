@@ -23,6 +23,8 @@ pub enum Note {
     TooLong,
     File(FileFault),
     NoSolver(Class),
+    NotSolved(Class),
+    NoChain(Class),
     Results(ResultFault),
     CannotRead,
     CannotWrite,
@@ -234,11 +236,20 @@ fn put_class<E: Sink>(notes: &mut E, class: Class) -> Result<(), WriteFault>
     put(notes, print(class).bytes())
 }
 
-fn put_no_solver<E: Sink>(notes: &mut E, class: Class) -> Result<(), WriteFault>
-    ensures { Puts (E.held notes.old) (E.held notes.new) (E.faults notes.old) (E.faults notes.new) (codes "no solver for " ++ name_of class) result }
+fn put_to_class<E: Sink>(notes: &mut E, head: &[u8], class: Class) -> Result<(), WriteFault>
+    ensures { Puts (E.held notes.old) (E.held notes.new) (E.faults notes.old) (E.faults notes.new) (head.now ++ name_of class) result }
 {
-    match put(notes, b"no solver for ") {
+    match put(notes, head) {
         Ok(()) => put_class(notes, class),
+        Err(WriteFault) => Err(WriteFault),
+    }
+}
+
+fn put_not_solved<E: Sink>(notes: &mut E, class: Class) -> Result<(), WriteFault>
+    ensures { Puts (E.held notes.old) (E.held notes.new) (E.faults notes.old) (E.faults notes.new) (name_of class ++ codes " is not solved") result }
+{
+    match put_class(notes, class) {
+        Ok(()) => put(notes, b" is not solved"),
         Err(WriteFault) => Err(WriteFault),
     }
 }
@@ -251,7 +262,9 @@ fn put_note<E: Sink>(notes: &mut E, note: &Note) -> Result<(), WriteFault>
         Note::Word { place, fault } => put_misspelled(notes, *place, *fault),
         Note::TooLong => put(notes, b"more than 4194304 bytes"),
         Note::File(fault) => put_file(notes, fault),
-        Note::NoSolver(class) => put_no_solver(notes, *class),
+        Note::NoSolver(class) => put_to_class(notes, b"no solver for ", *class),
+        Note::NotSolved(class) => put_not_solved(notes, *class),
+        Note::NoChain(class) => put_to_class(notes, b"no chain to ", *class),
         Note::Results(fault) => put_results(notes, *fault),
         Note::CannotRead => put(notes, b"cannot read"),
         Note::CannotWrite => put(notes, b"cannot write"),

@@ -76,8 +76,8 @@ fn serve<S: Source, K: Sink>(
 /// `out` and, for the statuses from 2 on, one line to `notes`.
 ///
 /// The status is 0 where the report was written, 1 where it was and the known results clash, 2 where the words fit no command, 3 where
-/// the input has a fault, 4 where it breaks a limit, 5 where there is no solver for the class of the instance, 7 and 8 where the source
-/// or `out` failed, and 9 for want of memory.
+/// the input has a fault, 4 where it breaks a limit, 5 where there is no solver for the class of the instance, 6 where the named class has
+/// none or no chain leads to it, 7 and 8 where the source or `out` failed, and 9 for want of memory.
 pub fn run<S: Source, K: Sink, E: Sink>(
     alloc: Global,
     words: &Vec<String>,

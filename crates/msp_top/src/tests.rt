@@ -12,13 +12,31 @@ const FRONT: &[u8] = b"msp 1\nclass 1||sumwC\njob a p=3 w=1\njob b p=1 w=2\n";
 const REPORT: &[u8] =
     b"start 1||sumwC\nsolver smith\nschedule\ncost 14\nunit 1\npiece b 1 1 0 1\npiece c 1 1 1 3\npiece a 1 1 3 6\nend\n";
 
+/// An instance of a class that has no solver.
+const UNSOLVED: &[u8] = b"msp 1\nclass P||Cmax\nmachines 2\njob a p=3\nend\n";
+
+/// Words that fit no command, each with the note.
+const MISFITS: &[(&[&str], &[u8])] = &[
+    (&[], b"msp: usage: words fit no command\n"),
+    (&["solved"], b"msp: usage: words fit no command\n"),
+    (&["solve", "--at"], b"msp: usage: words fit no command\n"),
+    (
+        &["solve", "--at", "--at"],
+        b"msp: usage: word 3: name: not two bars\n",
+    ),
+];
+
+/// Texts that `solve --at NAME` refuses, each with the name before it, and the status and the note after it.
+const REFUSED_AT: &[(&str, &[u8], u8, &[u8])] = &[
+    ("1||sumU", TEXT, 6, b"msp: 1||sumU is not solved\n"),
+    ("P||Cmax", TEXT, 6, b"msp: P||Cmax is not solved\n"),
+    ("1||sumwC", UNSOLVED, 6, b"msp: no chain to 1||sumwC\n"),
+    ("1||sumwC", FRONT, 3, b"msp: line 5: missing\n"),
+];
+
 /// Texts that `solve` refuses, each with the status and the note.
 const REFUSED: &[(&[u8], u8, &[u8])] = &[
-    (
-        b"msp 1\nclass P||Cmax\nmachines 2\njob a p=3\nend\n",
-        5,
-        b"msp: no solver for P||Cmax\n",
-    ),
+    (UNSOLVED, 5, b"msp: no solver for P||Cmax\n"),
     (FRONT, 3, b"msp: line 5: missing\n"),
     (
         b"msp 1\nclass 1||sumwC\njob a p=3 w=1\njob b p=1 w=2\njob c p=2 w=2\nend",
@@ -88,7 +106,7 @@ fn solving(text: &[u8]) -> Trial<'_> {
     }
 }
 
-fn labelling<'a>(words: &'a [&'a str], text: &'a [u8]) -> Trial<'a> {
+fn calling<'a>(words: &'a [&'a str], text: &'a [u8]) -> Trial<'a> {
     Trial {
         words,
         ..solving(text)
@@ -154,32 +172,20 @@ fn solves_small_instances(rt: HostRuntime) -> Result<(), Fail> {
 
 #[test]
 fn refuses_words(rt: HostRuntime) -> Result<(), Fail> {
-    let no_words = Trial {
-        words: &[],
-        ..solving(TEXT)
-    };
-    assert!(rt;
-        gives(
-            rt.alloc(),
-            &no_words,
-            2,
-            b"",
-            b"msp: usage: words fit no command\n"
-        )?
-    );
-    let unknown = Trial {
-        words: &["solved"],
-        ..solving(TEXT)
-    };
-    assert!(rt;
-        gives(
-            rt.alloc(),
-            &unknown,
-            2,
-            b"",
-            b"msp: usage: words fit no command\n"
-        )?
-    );
+    for (words, note) in MISFITS {
+        assert!(rt; gives(rt.alloc(), &calling(words, TEXT), 2, b"", note)?);
+    }
+    Ok(())
+}
+
+#[test]
+fn solves_at_a_named_class(rt: HostRuntime) -> Result<(), Fail> {
+    let at_smith = calling(&["solve", "--at", "1||sumwC"], TEXT);
+    assert!(rt; gives(rt.alloc(), &at_smith, 0, REPORT, b"")?);
+    for (name, text, status, note) in REFUSED_AT {
+        let at_name = ["solve", "--at", name];
+        assert!(rt; gives(rt.alloc(), &calling(&at_name, text), *status, b"", note)?);
+    }
     Ok(())
 }
 
@@ -291,7 +297,7 @@ fn labels_say_a_clash(rt: HostRuntime) -> Result<(), Fail> {
     assert!(rt;
         gives(
             rt.alloc(),
-            &labelling(
+            &calling(
                 &["label", "1|r|Cmax", "1||Lmax", "1||Cmax"],
                 b"class,verdict,source\n1||Lmax,easy,Jackson 1955\n1|r|Cmax,hard,for the test\n"
             ),
@@ -305,10 +311,7 @@ fn labels_say_a_clash(rt: HostRuntime) -> Result<(), Fail> {
 
 #[test]
 fn labels_of_no_results(rt: HostRuntime) -> Result<(), Fail> {
-    let seen = outcome(
-        rt.alloc(),
-        &labelling(&["label"], b"class,verdict,source\n"),
-    )?;
+    let seen = outcome(rt.alloc(), &calling(&["label"], b"class,verdict,source\n"))?;
     assert_eq!(rt; seen.status, 0);
     assert_eq!(rt; seen.out.iter().filter(|b| **b == b'\n').count(), 6481);
     assert!(rt;
@@ -320,7 +323,7 @@ fn labels_of_no_results(rt: HostRuntime) -> Result<(), Fail> {
     assert!(rt;
         gives(
             rt.alloc(),
-            &labelling(&["label", "1|p=1|Cmax"], b"class,verdict,source\n"),
+            &calling(&["label", "1|p=1|Cmax"], b"class,verdict,source\n"),
             0,
             b"1|p=1|Cmax open\nend\n",
             b""
@@ -335,7 +338,7 @@ fn refuses_names_and_results(rt: HostRuntime) -> Result<(), Fail> {
     assert!(rt;
         gives(
             rt.alloc(),
-            &labelling(&["label", "1|chains,prec|Cmax"], header),
+            &calling(&["label", "1|chains,prec|Cmax"], header),
             2,
             b"",
             b"msp: usage: word 2: name: item does not fit at 9\n"
@@ -344,7 +347,7 @@ fn refuses_names_and_results(rt: HostRuntime) -> Result<(), Fail> {
     assert!(rt;
         gives(
             rt.alloc(),
-            &labelling(&["label"], b""),
+            &calling(&["label"], b""),
             3,
             b"",
             b"msp: header\n"
@@ -363,7 +366,7 @@ fn refuses_names_and_results(rt: HostRuntime) -> Result<(), Fail> {
     ] {
         let mut text = header.to_vec(rt.alloc())?;
         text.extend_from_slice(entry)?;
-        assert!(rt; gives(rt.alloc(), &labelling(&["label"], &text), 3, b"", note)?);
+        assert!(rt; gives(rt.alloc(), &calling(&["label"], &text), 3, b"", note)?);
     }
     let mut long = b"class,verdict,source\n1||Cmax,easy,".to_vec(rt.alloc())?;
     let full = long.len() + 201;
@@ -372,7 +375,7 @@ fn refuses_names_and_results(rt: HostRuntime) -> Result<(), Fail> {
     assert!(rt;
         gives(
             rt.alloc(),
-            &labelling(&["label"], &long),
+            &calling(&["label"], &long),
             4,
             b"",
             b"msp: record 1: limit of source\n"

@@ -5,7 +5,7 @@ ghost use Rattle.msp_class.specs.declared.class.Class.{Class as ClassValue};
 ghost use Rattle.msp_top.specs.Run.{Command, Asks, Misfits, IsNameWord, names_text, usage_text};
 ghost use Rattle.msp_top.specs.Note.{note_text};
 ghost use Rattle.msp_top.specs.Answer.{command_of};
-ghost use Rattle.msp_top.specs.Words.{ReadsWords, ReadsNames};
+ghost use Rattle.msp_top.specs.Words.{ReadsWords, ReadsNames, ReadsOption, ReadsAt};
 
 use crate::notes::Note;
 use msp_class::{Class, List, NoMemory};
@@ -15,7 +15,7 @@ use std::alloc::Global;
 /// The command that the words ask for.
 #[derive(Drop)]
 pub enum Asked {
-    Solve,
+    Solve { at: Option<Class> },
     Label(List<Class>),
 }
 
@@ -94,6 +94,31 @@ fn read_names(alloc: Global, names: &[String]) -> Request
     }
 }
 
+/// What the word after `solve --at` asks for.
+fn read_at(name: &str) -> Request
+    ensures { ReadsAt name.now result }
+{
+    match fault_of(name, 3) {
+        Some(note) => Request::Misfit(note),
+        None => Request::Command(Asked::Solve {
+            at: Some(class_of(name)),
+        }),
+    }
+}
+
+/// What the words after `solve` ask for.
+fn read_option(words: &[String]) -> Request
+    ensures { ReadsOption (map string_bytes words.now) result }
+{
+    if words.is_empty() {
+        return Request::Command(Asked::Solve { at: None });
+    }
+    if words.len() == 2 && words[0].as_str() == "--at" {
+        return read_at(words[1].as_str());
+    }
+    Request::Misfit(Note::Words)
+}
+
 /// What the words of a command line ask for.
 pub fn read_words(alloc: Global, words: &Vec<String>) -> Request
     ensures { ReadsWords (map string_bytes words.now.items) result }
@@ -104,8 +129,8 @@ pub fn read_words(alloc: Global, words: &Vec<String>) -> Request
     if words[0].as_str() == "label" {
         return read_names(alloc, &words[1..]);
     }
-    if words[0].as_str() == "solve" && words.len() == 1 {
-        return Request::Command(Asked::Solve);
+    if words[0].as_str() == "solve" {
+        return read_option(&words[1..]);
     }
     Request::Misfit(Note::Words)
 }

@@ -9,5 +9,8 @@ returns-in-Words g c = puts-along _ _ _ _ _ _ _ (sym (ap note_text c.in-Words.is
 pub returns-in-TooLong : goal.returns-in-TooLong
 returns-in-TooLong g c = puts-along _ _ _ _ _ _ _ (sym (ap note_text c.in-TooLong.is)) c.put-in-TooLong.ensures
 
+pub returns-in-NoSolver : goal.returns-in-NoSolver
+returns-in-NoSolver g c = puts-along _ _ _ _ _ _ _ (sym (ap note_text c.in-NoSolver.is)) c.put_to_class.ensures
+
 pub returns-in-CannotRead : goal.returns-in-CannotRead
 returns-in-CannotRead g c = puts-along _ _ _ _ _ _ _ (sym (ap note_text c.in-CannotRead.is)) c.put-in-CannotRead.ensures

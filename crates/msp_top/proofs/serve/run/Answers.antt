@@ -1,4 +1,4 @@
-use Rattle.msp_top.proofs.Endings.{serves_usage, serves_report, serves_refusal, serves_write_fault, serves_due, serves_note}
+use Rattle.msp_top.proofs.Endings.{serves_usage, serves_report, serves_refusal, serves_read_fault, serves_write_fault, serves_due, serves_note, serves_silent}
 use Rattle.msp_top.specs.Note.{note_text}
 use Rattle.msp_top.proofs.serve.run.Goals as goal
 
@@ -14,8 +14,14 @@ returns-in-Some-clause-right_report g c = serves_report _ _ _ c.serve-ending.ens
 pub returns-in_default-clause-right_report : goal.returns-in_default-clause-right_report
 returns-in_default-clause-right_report g c = serves_report _ _ _ c.serve-ending.ensures.served
 
+pub returns-in-Some-clause-silent : goal.returns-in-Some-clause-silent
+returns-in-Some-clause-silent g c = serves_silent _ _ _ _ c.serve-ending.ensures.served c.in-Some.is
+
 pub returns-in-Some-clause-refusal : goal.returns-in-Some-clause-refusal
 returns-in-Some-clause-refusal g c = serves_refusal _ _ _ c.serve-ending.ensures.served
+
+pub returns-in-Some-clause-read_fault : goal.returns-in-Some-clause-read_fault
+returns-in-Some-clause-read_fault g c = serves_read_fault _ _ _ c.serve-ending.ensures.served
 
 pub returns-in-Some-clause-write_fault : goal.returns-in-Some-clause-write_fault
 returns-in-Some-clause-write_fault g c = serves_write_fault _ _ _ c.serve-ending.ensures.served

@@ -4,7 +4,7 @@ use Rattle.msp_top.specs.Run.{report, refusal, IsRight}
 use Rattle.msp_top.specs.Ending.{misfit, cannot_read, no_memory, refuses, cannot_write, writes}
 use Rattle.msp_top.specs.Note.{note_text}
 use Rattle.msp_top.specs.Answer.{command_of, outcome_of}
-use Rattle.msp_top.proofs.Endings.{serves_along, right_status, right_along, past_limit, Refuses-too_long, Refuses-right, Reports-right, BreaksOff-right, not_two}
+use Rattle.msp_top.proofs.Endings.{serves_along, right_status, right_along, past_limit, Refuses-too_long, Refuses-right, Reports-right, BreaksOff-right, not_two, not_above_one}
 use Rattle.msp_top.specs.declared.serve.Ending.{Ending}
 use Rattle.msp_top.proofs.serve.serve.Goals as goal
 
@@ -30,6 +30,16 @@ returns-in-Ok-write_all-clause-served g c =
     let right : IsRight (command_of c.in-Command.asked) c.in-Ok.input.items (report c.in-Ok-Report.status c.in-Ok-Report.text.items) = right_along _ _ _ _ _ c.deref.ensures.value (ap outcome_of c.in-Ok-Report.field-0-is) c.in-Ok-Report.ensures in
     writes _ (right_status _ _ _ right) (Reports-right _ (command_of c.in-Command.asked) _ _ _ _ c.in-Ok.input.items c.in-Ok-Report.text.items _ c.in-Command.ensures c.in-Ok.ensures.all c.in-Ok.ensures.end right
     (subst (Appends (g.K.Sink.held c.args.out.now) (g.K.Sink.held c.write_all.new.sink)) c.deref-in-Ok-Report.ensures.value c.in-Ok-write_all.ensures.all))
+
+pub returns-in-Ok-write_all-clause-unread : goal.returns-in-Ok-write_all-clause-unread
+returns-in-Ok-write_all-clause-unread g c is =
+    let right : IsRight (command_of c.in-Command.asked) c.in-Ok.input.items (report c.in-Ok-Report.status c.in-Ok-Report.text.items) = right_along _ _ _ _ _ c.deref.ensures.value (ap outcome_of c.in-Ok-Report.field-0-is) c.in-Ok-Report.ensures in
+    not_above_one _ (right_status _ _ _ right) (search rules)
+
+pub returns-in-Ok-write_all-clause-unwritten : goal.returns-in-Ok-write_all-clause-unwritten
+returns-in-Ok-write_all-clause-unwritten g c high other =
+    let right : IsRight (command_of c.in-Command.asked) c.in-Ok.input.items (report c.in-Ok-Report.status c.in-Ok-Report.text.items) = right_along _ _ _ _ _ c.deref.ensures.value (ap outcome_of c.in-Ok-Report.field-0-is) c.in-Ok-Report.ensures in
+    not_above_one _ (right_status _ _ _ right) high
 
 pub returns-in-Ok-Report-clause-served : goal.returns-in-Ok-Report-clause-served
 returns-in-Ok-Report-clause-served g c =
