@@ -15,7 +15,7 @@ use Rattle.msp_file.specs.InstanceText.{line_text, arc_fields, arcs_text}
 use Rattle.msp_file.specs.Reading.{◌>>=◌, Place, line_at, fields_of, first_of, others_of, is_arc_among, with_arc, arc_line_at, end_at, arcs_at}
 use Rattle.msp_file.proofs.NameLists.{same_bytes}
 use Rattle.msp_file.proofs.Apart.{apart_push, apart_before}
-use Rattle.msp_file.proofs.LineLaws.{bind_ok, provided_ok, ok_is, Takes, Gets, Takes-then, IsField, fields_takes, fields_again, fields_line_again}
+use Rattle.msp_file.proofs.LineLaws.{bind_ok, provided_ok, ok_is, Takes, Gets, Takes-then, IsField, fields_takes, fields_again, fields_line_again, one_field}
 use Rattle.msp_file.proofs.FieldLaws.{known_takes, known_again, name_field}
 
 -- ---- a line by its fields
@@ -26,11 +26,6 @@ pub line_then : {A : Type 0} → (f : List (List ℕ) → Place → Result A Fil
 line_then f at w ws rest h =
     let g = fields_line_again at w ws rest h in
     (g.0, ap (λ r. r >>= λ l. f (fields_of l.0) l.1) g.1 ∙ ap (λ fields. f fields (record { at = g.0; rest = rest })) (fields_again w ws h))
-
-one_field : (fields : List (List ℕ)) → (length fields == 1) ≡ true → fields ≡ first_of fields ∷ []
-one_field [] h = absurd cc
-one_field (w ∷ []) h = refl
-one_field (w ∷ v ∷ ws) h = absurd (omega (arith, eqb-true _ _ h))
 
 two_fields : (fields : List (List ℕ)) → (length fields == 2) ≡ true → fields ≡ first_of fields ∷ first_of (others_of fields) ∷ []
 two_fields [] h = absurd cc

@@ -16,9 +16,9 @@ use Rattle.msp_file.specs.declared.fault.What.TheVariants as what
 use Rattle.msp_file.specs.declared.fault.FileFault.TheVariants.{Count, Limit}
 use Rattle.msp_file.specs.InstanceText.{line_text, where_wanted, has_curve, step_fields, curve_fields}
 use Rattle.msp_file.specs.Reading.{Place, worded_at, natural_at, integer_at, steps_at, curve_fields_at, steps_in, curve_line_at, curve_at}
-use Rattle.msp_file.proofs.LineLaws.{bind_ok, provided_ok, ok_is, Takes, Gets, IsField, worded_takes, worded_again}
+use Rattle.msp_file.proofs.LineLaws.{bind_ok, provided_ok, ok_is, Takes, Gets, IsField, worded_takes, worded_again, reads, bind_again, provided_again}
 use Rattle.msp_file.proofs.FieldLaws.{natural_takes, natural_again, natural_field, integer_takes, integer_again, integer_field}
-use Rattle.msp_file.proofs.KeyLaws.{reads, bind_again, provided_again, limit}
+use Rattle.msp_file.proofs.KeyLaws.{limit}
 use Rattle.msp_file.proofs.NeedLaws.{two_parts, word_field}
 
 -- A step in range.

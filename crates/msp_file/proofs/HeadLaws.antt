@@ -27,7 +27,7 @@ use Rattle.msp_file.specs.InstanceText.{where_wanted, has_speeds, line_text, cla
 use Rattle.msp_file.specs.Reading.{◌>>=◌, provided, Place, line_at, fields_of, first_of, natural_at, version_at, spelled_class, class_in, class_at, worded_at, machines_line_at, machines_at, have_multiple, speeds_in, speeds_line_at, speeds_at}
 use Rattle.msp_file.proofs.NameLists.{same_bytes}
 use Rattle.msp_file.proofs.Multiples.{HasMultiple-from_have_multiple, have_multiple-from_HasMultiple}
-use Rattle.msp_file.proofs.LineLaws.{bind_ok, provided_ok, ok_is, Takes, Gets, IsField, line_takes, line_again, fields_join, fields_again, fields_line_again, worded_takes, worded_again}
+use Rattle.msp_file.proofs.LineLaws.{bind_ok, provided_ok, ok_is, Takes, Gets, IsField, line_takes, line_again, fields_join, fields_again, fields_line_again, worded_takes, worded_again, one_field}
 use Rattle.msp_file.proofs.FieldLaws.{lacks_others, natural_takes, natural_again, natural_field}
 
 -- ---- the version
@@ -147,11 +147,6 @@ fixed_in env.JShort = tt
 fixed_in env.J2 = (omega arith, omega arith)
 fixed_in env.J = tt
 
-single : (fields : List (List ℕ)) → (length fields == 1) ≡ true → fields ≡ first_of fields ∷ []
-single [] h = let k : length {A = List ℕ} [] ≡ 1 = eqb-true 0 1 h in absurd (omega arith)
-single (w ∷ []) h = refl
-single (w ∷ v ∷ ws) h = let k : length (w ∷ v ∷ ws) ≡ 1 = eqb-true (length (w ∷ v ∷ ws)) 1 h in absurd (omega arith)
-
 machines_line_takes : (p : Place) (x : ℕ × Place) → machines_line_at p ≡ Ok x → Takes p (line_text (codes "machines" ∷ decimal x.0 ∷ [])) x.1 × ((1 ≤ x.0) × (x.0 ≤ 32))
 unfolding machines_line_at
 machines_line_takes p x h =
@@ -160,7 +155,7 @@ machines_line_takes p x h =
     let t = provided_ok (length fields == 1) (Count p.at) (natural_at p.at what.Machines 1 32 (first_of fields) >>= λ m. Ok (m, l.0.1)) x l.2 in
     let m = bind_ok (natural_at p.at what.Machines 1 32 (first_of fields)) (λ m. Ok (m, l.0.1)) x t.1 in
     let n = natural_takes p.at what.Machines 1 32 (first_of fields) m.0 (omega arith) m.1 in
-    let is : fields ≡ decimal m.0 ∷ [] = single fields t.0 ∙ ap (λ w. w ∷ []) n.0 in
+    let is : fields ≡ decimal m.0 ∷ [] = one_field fields t.0 ∙ ap (λ w. w ∷ []) n.0 in
     let text : Takes p (line_text (codes "machines" ∷ decimal m.0 ∷ [])) l.0.1 = subst (λ ws. Takes p (line_text (codes "machines" ∷ ws)) l.0.1) is (worded_takes (codes "machines") p l.0 l.1) in
     subst (λ y. Takes p (line_text (codes "machines" ∷ decimal y.0 ∷ [])) y.1 × ((1 ≤ y.0) × (y.0 ≤ 32))) (ok_is (m.0, l.0.1) x m.2) (text, (n.1, n.2))
 

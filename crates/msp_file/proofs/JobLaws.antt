@@ -19,9 +19,9 @@ use Rattle.msp_file.specs.declared.draft.Draft.{Draft}
 use Rattle.msp_file.specs.JobName.{IsJobName}
 use Rattle.msp_file.specs.InstanceText.{has_times, has_one_time, has_time_key, job_fields, key_fields, times_text, route_text, curve_text}
 use Rattle.msp_file.specs.Reading.{Place, job_line_at, needs_at, curve_at, job_of, job_at_line}
-use Rattle.msp_file.proofs.LineLaws.{bind_ok, provided_ok, ok_is, Takes, Takes-then, Gets, IsField}
+use Rattle.msp_file.proofs.LineLaws.{bind_ok, provided_ok, ok_is, Takes, Takes-then, Gets, IsField, bind_again, provided_again}
 use Rattle.msp_file.proofs.FieldLaws.{IsKeyed, IsKeyedInteger, name_field}
-use Rattle.msp_file.proofs.KeyLaws.{bind_again, provided_again, AreKeys, key_words, time_of, keys_of, key_fields_are, key_words_fields, job_line_takes, job_line_again}
+use Rattle.msp_file.proofs.KeyLaws.{AreKeys, key_words, time_of, keys_of, key_fields_are, key_words_fields, job_line_takes, job_line_again}
 use Rattle.msp_file.proofs.NeedLaws.{word_field, needs_text, needs_takes, needs_again}
 use Rattle.msp_file.proofs.CurveLaws.{curve_line, curve_takes, curve_again}
 

@@ -1,5 +1,5 @@
 -- The first line of a job: the name and the keys that are read are those that were written, and what was written is read again.
-use Rattle.std.proofs.Common.{◌≡◌, ℕ, suc, ◌+◌, ◌^◌, ◌≤◌, Bool, true, false, not, ◌==◌, List, [], ◌∷◌, ◌++◌, length, Result, Ok, Contains, bytes_eq, refl, ap, subst, ◌∙◌, decimal, arith}
+use Rattle.std.proofs.Common.{◌≡◌, ℕ, suc, ◌+◌, ◌^◌, ◌≤◌, Bool, true, false, not, ◌==◌, List, [], ◌∷◌, ◌++◌, length, Ok, Contains, bytes_eq, refl, ap, subst, ◌∙◌, decimal, arith}
 use Rattle.std.specs.Prelude.{if◌then◌else◌, slice_index_or, ℤ}
 use Rattle.std.specs.Fmt.{signed_decimal}
 use Rattle.std.specs.List.{AllByRecursion, list_any}
@@ -12,26 +12,14 @@ use Rattle.msp_instance.specs.declared.Job.{Job}
 use Rattle.msp_instance.specs.Instance.{no_need}
 use Rattle.msp_instance.specs.Conditions.{uses_due, uses_weight}
 use Rattle.msp_file.specs.declared.fault.What.TheVariants as what
-use Rattle.msp_file.specs.declared.fault.FileFault.{FileFault}
 use Rattle.msp_file.specs.declared.fault.FileFault.TheVariants.{Count, Again}
 use Rattle.msp_file.specs.declared.job.Keys.{Keys}
 use Rattle.msp_file.specs.JobName.{IsJobName}
 use Rattle.msp_file.specs.InstanceText.{where_wanted, has_time_key, time_key, release_key, due_key, weight_key, key_fields}
-use Rattle.msp_file.specs.Reading.{◌>>=◌, provided, natural_key_at, integer_key_at, job_name_at, keys_at, count_of_keys, job_line_at}
+use Rattle.msp_file.specs.Reading.{natural_key_at, integer_key_at, job_name_at, keys_at, count_of_keys, job_line_at}
 use Rattle.msp_file.proofs.NameLists.{is_among, not_among}
-use Rattle.msp_file.proofs.LineLaws.{bind_ok, provided_ok, ok_is, IsField}
+use Rattle.msp_file.proofs.LineLaws.{bind_ok, provided_ok, ok_is, IsField, bind_again, provided_again}
 use Rattle.msp_file.proofs.FieldLaws.{IsKeyed, IsKeyedInteger, natural_field, integer_field, name_takes, name_again, natural_key_takes, natural_key_again, integer_key_takes, integer_key_again}
-
--- ---- steps that go on
-
-abbrev pub reads : {A : Type 0} → A → Result A FileFault
-reads x = Ok x
-
-pub bind_again : {A B : Type 0} (r : Result A FileFault) (f : A → Result B FileFault) (x : A) (z : Result B FileFault) → r ≡ Ok x → f x ≡ z → (r >>= f) ≡ z
-bind_again r f x z e h = rw e h
-
-pub provided_again : {A : Type 0} (b : Bool) (d : FileFault) (next z : Result A FileFault) → b ≡ true → next ≡ z → provided b d next ≡ z
-provided_again b d next z e h = rw e h
 
 -- ---- keys
 

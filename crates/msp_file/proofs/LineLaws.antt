@@ -24,11 +24,19 @@ pub provided_ok : {A : Type 0} (b : Bool) (d : FileFault) (next : Result A FileF
 provided_ok true d next y e = (refl, e)
 provided_ok false d next y e = absurd cc
 
-abbrev done : {A : Type 0} → A → Result A FileFault
-done x = Ok x
+abbrev pub reads : {A : Type 0} → A → Result A FileFault
+reads x = Ok x
 
-pub ok_is : {A : Type 0} (x y : A) → done x ≡ done y → x ≡ y
+pub ok_is : {A : Type 0} (x y : A) → reads x ≡ reads y → x ≡ y
 ok_is x y e = cc
+
+-- ---- steps that go on
+
+pub bind_again : {A B : Type 0} (r : Result A FileFault) (f : A → Result B FileFault) (x : A) (z : Result B FileFault) → r ≡ Ok x → f x ≡ z → (r >>= f) ≡ z
+bind_again r f x z e h = rw e h
+
+pub provided_again : {A : Type 0} (b : Bool) (d : FileFault) (next z : Result A FileFault) → b ≡ true → next ≡ z → provided b d next ≡ z
+provided_again b d next z e h = rw e h
 
 -- ---- places
 
@@ -139,3 +147,9 @@ unfolding worded_at
 worded_again word ws at rest h =
     let line = fields_line_again at word ws rest h in
     (line.0, rw (line.1, fields_again word ws h, (bytes_eq-Decides word word).1 refl) refl)
+
+-- a line of one field
+pub one_field : (fields : List (List ℕ)) → (length fields == 1) ≡ true → fields ≡ first_of fields ∷ []
+one_field [] h = absurd cc
+one_field (w ∷ []) h = refl
+one_field (w ∷ v ∷ ws) h = absurd (omega (arith, eqb-true _ _ h))

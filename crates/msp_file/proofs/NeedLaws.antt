@@ -19,9 +19,9 @@ use Rattle.msp_file.specs.declared.fault.FileFault.{FileFault}
 use Rattle.msp_file.specs.declared.fault.FileFault.TheVariants.{Count, Limit}
 use Rattle.msp_file.specs.InstanceText.{line_text, where_wanted, has_times, has_time_key, has_one_time, has_machine_times, has_route, times_fields, operation_fields, route_fields}
 use Rattle.msp_file.specs.Reading.{Place, worded_at, natural_at, with_need, least_time, times_at, times_line_at, machine_at, timed_route_at, unit_route_at, operations_in, fields_in, operations_at, is_route_count, route_line_at, unwritten_needs, needs_at}
-use Rattle.msp_file.proofs.LineLaws.{bind_ok, provided_ok, ok_is, Takes, Gets, IsField, worded_takes, worded_again}
+use Rattle.msp_file.proofs.LineLaws.{bind_ok, provided_ok, ok_is, Takes, Gets, IsField, worded_takes, worded_again, reads, bind_again, provided_again}
 use Rattle.msp_file.proofs.FieldLaws.{IsKeyed, natural_takes, natural_again, natural_field}
-use Rattle.msp_file.proofs.KeyLaws.{reads, bind_again, provided_again, limit, time_of}
+use Rattle.msp_file.proofs.KeyLaws.{limit, time_of}
 
 -- What is said of one operation: its machine is one of so many, its time is in range, its time is 1.
 abbrev IsOn : ℕ → Need → Type 0

@@ -372,6 +372,7 @@ pub fn print_instance(alloc: Global, filed: &Filed) -> Result<Vec<u8>, NoMemory>
     ensures canonical { IfOk result (λ text. text.items ≡ instance_text (name_of filed.now.instance.class) filed.now.names filed.now.instance) }
     ensures text { IfOk result (λ text. IsInstanceText text.items filed.now.instance filed.now.names) }
 {
+    // `len` also tells that the names are distinct job names.
     let named = filed.names.len() == filed.instance.jobs.len();
     prove!(named);
     let mut out = Vec::new(alloc);

@@ -2,6 +2,7 @@
 use Rattle.std.proofs.Common.{◌≡◌, ℕ, ◌+◌, List, [], ◌∷◌, map, length, refl, sym, ap, ◌∙◌, Bool, true, false, cond, ◌||◌, Option, Some, None, Result, Ok, Err, All, Contains, ok_or}
 use Rattle.std.specs.List.{AllByRecursion, IsDistinct}
 use Rattle.std.proofs.lemmas.List.Elements.{All-nil, All-cons, All-head, All-tail}
+use Rattle.std.proofs.lemmas.Bool.{or_parts}
 use Rattle.msp_class.specs.declared.class.Class.{Class}
 use Rattle.msp_name.specs.declared.fault.NameFault.{NameFault}
 use Rattle.msp_name.specs.declared.fault.NameFault.TheVariants.{Item as NoItem, Twice, Clash}
@@ -22,10 +23,6 @@ pub record Reads (s : Class) (xs : List Item) (c : Class) : Type 0 where
   pub env : plain_env s.env ≡ plain_env c.env
   pub crit : s.crit ≡ c.crit
 
-or_false : (a b : Bool) → (a || b) ≡ false → (a ≡ false) × (b ≡ false)
-or_false true b h = cc
-or_false false b h = (refl, h)
-
 or_move : (a b c : Bool) → (a || (b || c)) ≡ ((b || a) || c)
 or_move true true c = refl
 or_move true false c = refl
@@ -43,7 +40,7 @@ item_eq-itself _ = refl
 fresh_back : (s d : Class) (x : Item) → Gains s x d → (xs : List Item) → AllByRecursion (λ y. has_item d y ≡ false) xs → AllByRecursion (λ y. has_item s y ≡ false) xs × AllByRecursion (λ y. item_eq x y ≡ false) xs
 fresh_back s d x g [] h = (tt, tt)
 fresh_back s d x g (y ∷ ys) h =
-    let both = or_false _ _ (sym (g.items y) ∙ h.0) in
+    let both = or_parts _ _ (sym (g.items y) ∙ h.0) in
     let rest = fresh_back s d x g ys h.1 in
     ((both.1, rest.0), (both.0, rest.1))
 

@@ -1,7 +1,7 @@
 -- Texts without a mark, and what they are cut into.
-use Rattle.std.proofs.Common.{◌≡◌, ℕ, List, [], ◌∷◌, ◌++◌, map, refl, ap, ◌∙◌, Bool, true, false, ◌||◌, ◌==◌, All, Contains}
+use Rattle.std.proofs.Common.{◌≡◌, ℕ, List, [], ◌∷◌, ◌++◌, map, refl, ap, ◌∙◌, Bool, true, false, ◌==◌, All, Contains}
 use Rattle.std.specs.List.{AllByRecursion, list_any, join_with_byte}
-use Rattle.std.proofs.lemmas.Bool.{eq-eqb}
+use Rattle.std.proofs.lemmas.Bool.{eq-eqb, or_parts}
 use Rattle.std.proofs.lemmas.List.Elements.{All-from_recursion, All-contains, All-head, All-tail}
 use Rattle.std.proofs.lemmas.List.Splits.{slice_split_none, slice_split_at, join_with_byte-slice_split}
 use Rattle.msp_class.specs.declared.class.Env.{Env}
@@ -16,13 +16,9 @@ use Rattle.msp_name.specs.Reading.{parts, words}
 abbrev pub Lacks : ℕ → List ℕ → Type 0
 Lacks m w = list_any (λ x. x == m) w ≡ false
 
-or_false : (a b : Bool) → (a || b) ≡ false → (a ≡ false) × (b ≡ false)
-or_false true b h = cc
-or_false false b h = (refl, h)
-
 each : (m : ℕ) (w : List ℕ) → Lacks m w → AllByRecursion (λ x. (x == m) ≡ false) w
 each m [] h = tt
-each m (x ∷ xs) h = let both = or_false (x == m) (list_any (λ x. x == m) xs) h in (both.0, each m xs both.1)
+each m (x ∷ xs) h = let both = or_parts (x == m) (list_any (λ x. x == m) xs) h in (both.0, each m xs both.1)
 
 pub parts-whole : (m : ℕ) (w : List ℕ) → Lacks m w → parts m w ≡ w ∷ []
 parts-whole m w h = slice_split_none (λ x. x == m) w (All-from_recursion (λ x. (x == m) ≡ false) w (each m w h))
@@ -33,7 +29,7 @@ parts-first m w ys h = slice_split_at (λ x. x == m) w m ys (All-from_recursion 
 Lacks-append : (m : ℕ) (a b : List ℕ) → Lacks m a → Lacks m b → Lacks m (a ++ b)
 Lacks-append m [] b h k = k
 Lacks-append m (x ∷ xs) b h k =
-    let both = or_false (x == m) (list_any (λ x. x == m) xs) h in
+    let both = or_parts (x == m) (list_any (λ x. x == m) xs) h in
     rw (both.0) (Lacks-append m xs b both.1 k)
 
 begins : List ℕ → Bool

@@ -2,7 +2,7 @@
 use Rattle.std.proofs.Common.{◌≡◌, ℕ, ◌≤◌, List, [], ◌∷◌, ◌++◌, length, map, refl, sym, ap, ◌∙◌, Bool, true, false, ◌||◌, ◌&&◌, not, Some, append_assoc, append-nil, lit≤, leb, bytes_eq, Contains, All, codes, length-append, arith}
 use Rattle.std.specs.List.{join_with_byte, IsDistinct, AllByRecursion}
 use Rattle.std.specs.Cmp.Lexicographic.{pointwise}
-use Rattle.std.proofs.lemmas.Bool.{leb-true}
+use Rattle.std.proofs.lemmas.Bool.{leb-true, and_parts}
 use Rattle.std.proofs.lemmas.Slice.Eq.{bytes_eq-Decides, slice_eq-Decides}
 use Rattle.std.proofs.lemmas.List.Elements.{All-nil, All-cons, All-append}
 use Rattle.msp_class.specs.declared.class.Class.{Class}
@@ -67,18 +67,14 @@ rows a p h u s = row_if a (codes "pmtn", i.Cut) ++ (order_row p ++ (row_if h (co
 texts : Bool → Order → Bool → Bool → Bool → List (List ℕ)
 texts a p h u s = text_if a (codes "pmtn") ++ (text_if (not (order_eq p o.Free)) (order_text p) ++ (text_if h (codes "r") ++ (text_if u (codes "p=1") ++ text_if s (codes "n<=2"))))
 
-and_true : (a b : Bool) → (a && b) ≡ true → (a ≡ true) × (b ≡ true)
-and_true true b h = (refl, h)
-and_true false b h = cc
-
 -- a test at each value
 all_bools : (Bool → Bool) → Bool
 all_bools f = f true && f false
 
 all_bools-at : (f : Bool → Bool) → all_bools f ≡ true → (b : Bool) → f b ≡ true
 unfolding all_bools
-all_bools-at f h true = (and_true (f true) (f false) h).0
-all_bools-at f h false = (and_true (f true) (f false) h).1
+all_bools-at f h true = (and_parts (f true) (f false) h).0
+all_bools-at f h false = (and_parts (f true) (f false) h).1
 
 all_orders : (Order → Bool) → Bool
 all_orders f = (f o.Free && f o.Chains) && (f o.Intree && (f o.Outtree && f o.Prec))
@@ -86,10 +82,10 @@ all_orders f = (f o.Free && f o.Chains) && (f o.Intree && (f o.Outtree && f o.Pr
 all_orders-at : (f : Order → Bool) → all_orders f ≡ true → (p : Order) → f p ≡ true
 unfolding all_orders
 all_orders-at f h p =
-    let x = and_true (f o.Free && f o.Chains) (f o.Intree && (f o.Outtree && f o.Prec)) h in
-    let y = and_true (f o.Free) (f o.Chains) x.0 in
-    let z = and_true (f o.Intree) (f o.Outtree && f o.Prec) x.1 in
-    let w = and_true (f o.Outtree) (f o.Prec) z.1 in
+    let x = and_parts (f o.Free && f o.Chains) (f o.Intree && (f o.Outtree && f o.Prec)) h in
+    let y = and_parts (f o.Free) (f o.Chains) x.0 in
+    let z = and_parts (f o.Intree) (f o.Outtree && f o.Prec) x.1 in
+    let w = and_parts (f o.Outtree) (f o.Prec) z.1 in
     elim p as (λ p. f p ≡ true) [ o.Free ↦ y.0 | o.Chains ↦ y.1 | o.Intree ↦ z.0 | o.Outtree ↦ w.0 | o.Prec ↦ w.1 ]
 
 every : (Bool → Order → Bool → Bool → Bool → Bool) → Bool
@@ -153,12 +149,12 @@ not_true false h = refl
 differ-all : (x : Item) (ys : List Item) → differ x ys ≡ true → AllByRecursion (λ y. item_eq x y ≡ false) ys
 unfolding differ
 differ-all x [] h = tt
-differ-all x (y ∷ ys) h = let both = and_true (not (item_eq x y)) (differ x ys) h in (not_true _ both.0, differ-all x ys both.1)
+differ-all x (y ∷ ys) h = let both = and_parts (not (item_eq x y)) (differ x ys) h in (not_true _ both.0, differ-all x ys both.1)
 
 distinct-is : (xs : List Item) → distinct xs ≡ true → IsDistinct item_eq xs
 unfolding distinct IsDistinct
 distinct-is [] h = tt
-distinct-is (x ∷ xs) h = let both = and_true (differ x xs) (distinct xs) h in (differ-all x xs both.0, distinct-is xs both.1)
+distinct-is (x ∷ xs) h = let both = and_parts (differ x xs) (distinct xs) h in (differ-all x xs both.0, distinct-is xs both.1)
 
 rows-distinct : (a : Bool) (p : Order) (h u s : Bool) → distinct (map (λ w. w.1) (rows a p h u s)) ≡ true
 unfolding rows row_if order_row distinct differ every all_bools all_orders

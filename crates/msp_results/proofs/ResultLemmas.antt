@@ -3,7 +3,7 @@ use Rattle.std.proofs.Common.{◌≡◌, ◌≢◌, ◌≤◌, ℕ, ◌+◌, ◌
 use Rattle.std.specs.Prelude.{nat_lt, nat_le, IfOk}
 use Rattle.std.specs.List.{AllZip, AllByRecursion, list_all}
 use Rattle.std.specs.Str.{is_utf8}
-use Rattle.std.proofs.lemmas.Bool.{le-ltb, le-leb, ltb-false, leb-true, eq-eqb, eqb-true}
+use Rattle.std.proofs.lemmas.Bool.{le-ltb, le-leb, ltb-false, leb-true, eq-eqb, eqb-true, and_parts}
 use Rattle.std.proofs.lemmas.List.Elements.{All-from_recursion, recursion_from_All}
 use Rattle.std.proofs.lemmas.Slice.Eq.{bytes_eq-Decides}
 use Rattle.std.proofs.lemmas.Str.{IsUtf8-from_is_utf8, is_utf8-from_IsUtf8}
@@ -19,10 +19,6 @@ use Rattle.msp_results.specs.declared.fault.ResultFault.{ResultFault}
 use Rattle.msp_results.specs.declared.fault.ResultFault.TheVariants as fault
 use Rattle.msp_results.specs.Results.{IsEntry, IsPlainText, ResultsOf, header, records_of, verdict_text}
 use Rattle.msp_results.specs.Reading.{then_after, entries_read, fields_read, is_header, is_plain, is_printable, judged, named, results_of, row_read, rows_read, sourced, three_of, verdict_read}
-
-and_true : (a b : Bool) → (a && b) ≡ true → (a ≡ true) × (b ≡ true)
-and_true true b h = (refl, h)
-and_true false b h = cc
 
 if_ok : {A : Type 0} (b : Bool) (e : ResultFault) (r : Result A ResultFault) (x : A) → cond b (Err e) r ≡ Ok x → (b ≡ false) × (r ≡ Ok x)
 if_ok true e r x h = cc
@@ -42,8 +38,8 @@ equal_test a b false e n = refl
 printable-all : (s : List ℕ) → list_all is_printable s ≡ true → AllByRecursion (λ b. (32 ≤ b) × (b ≢ 127)) s
 printable-all [] h = tt
 printable-all (b ∷ bs) h =
-    let both = and_true (is_printable b) (list_all is_printable bs) h in
-    let here = and_true (nat_le 32 b) (not (b == 127)) both.0 in
+    let both = and_parts (is_printable b) (list_all is_printable bs) h in
+    let here = and_parts (nat_le 32 b) (not (b == 127)) both.0 in
     ((leb-true 32 b here.0, unequal b 127 here.1), printable-all bs both.1)
 
 all-printable : (s : List ℕ) → AllByRecursion (λ b. (32 ≤ b) × (b ≢ 127)) s → list_all is_printable s ≡ true
@@ -56,7 +52,7 @@ all-printable (b ∷ bs) h =
 plain-is : (s : List ℕ) → is_plain s ≡ true → IsPlainText s
 unfolding is_plain
 plain-is s h =
-    let both = and_true (is_utf8 s) (list_all is_printable s) h in
+    let both = and_parts (is_utf8 s) (list_all is_printable s) h in
     record { utf8 = IsUtf8-from_is_utf8 s both.0; printable = All-from_recursion (λ b. (32 ≤ b) × (b ≢ 127)) s (printable-all s both.1) }
 
 is-plain : (s : List ℕ) → IsPlainText s → is_plain s ≡ true
@@ -194,8 +190,8 @@ headed : (o : Option (List ℕ × List ℕ × List ℕ)) → elim o as (λ _. Bo
     → o ≡ Some (codes "class", codes "verdict", codes "source")
 headed None h = cc
 headed (Some t) h =
-    let a = and_true (bytes_eq t.0 (codes "class")) _ h in
-    let b = and_true (bytes_eq t.1 (codes "verdict")) _ a.1 in
+    let a = and_parts (bytes_eq t.0 (codes "class")) _ h in
+    let b = and_parts (bytes_eq t.1 (codes "verdict")) _ a.1 in
     let x = (bytes_eq-Decides t.0 (codes "class")).0 a.0 in
     let y = (bytes_eq-Decides t.1 (codes "verdict")).0 b.0 in
     let z = (bytes_eq-Decides t.2 (codes "source")).0 b.1 in

@@ -1,10 +1,10 @@
 -- The sizes of spelled numbers.
-use Rattle.std.proofs.Common.{◌≡◌, ◌≢◌, ℕ, zero, suc, ◌+◌, ◌-◌, ◌*◌, ◌^◌, ◌<◌, ◌≤◌, min, Bool, true, false, not, ◌&&◌, ◌==◌, eqb, List, [], ◌∷◌, length, take, get_or, Some, pos, neg_ℤ, refl, sym, ap, ◌∙◌, arith, add-one}
+use Rattle.std.proofs.Common.{◌≡◌, ◌≢◌, ℕ, zero, suc, ◌+◌, ◌-◌, ◌*◌, ◌^◌, ◌<◌, ◌≤◌, min, true, not, ◌==◌, eqb, List, [], ◌∷◌, length, take, get_or, Some, pos, neg_ℤ, refl, sym, ap, ◌∙◌, arith, add-one}
 use Rattle.std.specs.Char.{is_ascii_digit, digit_value}
 use Rattle.std.specs.List.{list_all}
 use Rattle.std.specs.Int.{IsInRange}
 use Rattle.std.specs.Option.{option_map}
-use Rattle.std.proofs.lemmas.Bool.{eq-eqb}
+use Rattle.std.proofs.lemmas.Bool.{eq-eqb, and_parts}
 use Rattle.std.proofs.lemmas.Str.{digit_value_digit}
 use Rattle.std.proofs.lemmas.Str.Parse.{tells_all_ascii_digits}
 use Rattle.std.specs.Str.Parse.{digits_value, digits_value_after}
@@ -29,10 +29,6 @@ after_grows n (d ∷ ds) = let h : n * 10 + digit_value d ≤ digits_value_after
 not_zero : (c : ℕ) → not (c == 48) ≡ true → c ≢ 48
 not_zero c h e = let t : eqb c 48 ≡ true = eq-eqb c 48 e in cc
 
-both : (a b : Bool) → (a && b) ≡ true → (a ≡ true) × (b ≡ true)
-both true b h = (refl, h)
-both false b h = absurd cc
-
 in_digits : (c : ℕ) → is_ascii_digit c ≡ true → IsInRange 48 57 c
 in_digits c h = (tells_all_ascii_digits.parts c [] (rw h refl)).0
 
@@ -40,8 +36,8 @@ in_digits c h = (tells_all_ascii_digits.parts c [] (rw h refl)).0
 pub positive_value : (ds : List ℕ) → is_positive ds ≡ true → 1 ≤ digits_value 10 ds
 positive_value [] h = absurd cc
 positive_value (c ∷ ds) h =
-    let parts = both (not (c == 48)) (list_all is_ascii_digit (c ∷ ds)) h in
-    let digits = both (is_ascii_digit c) (list_all is_ascii_digit ds) parts.1 in
+    let parts = and_parts (not (c == 48)) (list_all is_ascii_digit (c ∷ ds)) h in
+    let digits = and_parts (is_ascii_digit c) (list_all is_ascii_digit ds) parts.1 in
     let range = in_digits c digits.0 in
     let value : digit_value c + 48 ≡ c = digit_value_digit c range in
     let other : c ≢ 48 = not_zero c parts.0 in

@@ -2,6 +2,7 @@
 use Rattle.std.proofs.Common.{◌≡◌, ◌↔◌, ℕ, ◌+◌, ◌<◌, ◌≤◌, ◌⊎◌, inl, inr, Bool, true, false, List, [], ◌∷◌, length, take, Option, Some, None, IfSome, is_some, if◌then◌else◌, refl, sym, ap, ◌∙◌, subst, codes, arith}
 use Rattle.std.specs.List.{AllZip}
 use Rattle.std.specs.Io.KnownBytes.{Appends, Consumes, IsAtEnd}
+use Rattle.msp_top.proofs.LabelAnswers.{no_number}
 use Rattle.msp_io.specs.Faults.{Rose}
 use Rattle.msp_io.specs.Whole.{IsStop}
 use Rattle.msp_io.specs.declared.whole.Taken.{Taken}
@@ -38,9 +39,6 @@ one_or_none false = omega arith
 
 some_number : {m n : ℕ} → Some m ≡ Some n → m ≡ n
 some_number e = cc
-
-no_number : {n : ℕ} → None ≡ Some n → ⊥
-no_number e = cc
 
 file_status_range : (fault : FileFault) (status : ℕ) → file_status fault ≡ Some status → (3 ≤ status) × (status ≤ 6)
 file_status_range fault.Memory status e = absurd (no_number e)

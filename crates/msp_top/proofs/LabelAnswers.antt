@@ -85,7 +85,7 @@ pub fault_is : (r s : Result (List Entry) ResultFault) (fault : ResultFault) →
 fault_is r s fault is other (inl memory) = absurd (other (err_same is memory))
 fault_is r s fault is other (inr same) = sym same ∙ is
 
-no_number : {n : ℕ} → None ≡ Some n → ⊥
+pub no_number : {n : ℕ} → None ≡ Some n → ⊥
 no_number e = cc
 
 pub no_memory_fault : (fault : ResultFault) (result : Option ℕ) (status : ℕ) → result ≡ results_status fault → result ≡ Some status → (fault ≡ Memory) → ⊥
