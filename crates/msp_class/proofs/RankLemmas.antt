@@ -6,7 +6,7 @@ use Rattle.msp_class.specs.declared.class.Env.{Env}
 use Rattle.msp_class.specs.declared.class.Order.{Order}
 use Rattle.msp_class.specs.declared.class.Order.TheVariants.{Free, Chains, Intree, Outtree, Prec}
 use Rattle.msp_class.specs.declared.class.Times.{Times}
-use Rattle.msp_class.specs.declared.class.Times.TheVariants.{General, Unit as UnitTimes}
+use Rattle.msp_class.specs.declared.class.Times.TheVariants.{General, Unit as UnitTimes, Equal}
 use Rattle.msp_class.specs.declared.class.Crit.{Crit}
 use Rattle.msp_class.specs.declared.class.Crit.TheVariants.{Cmax, Lmax, Fmax, SumC, SumWC, SumU, SumWU, SumT, SumWT}
 use Rattle.msp_class.proofs.EnvNumbers.{env_number-injective, env_number-below}
@@ -46,18 +46,20 @@ order_number-below Outtree = omega arith
 order_number-below Prec = omega arith
 
 abbrev kinds : List Times
-kinds = General ∷ UnitTimes ∷ []
+kinds = General ∷ UnitTimes ∷ Equal ∷ []
 
 times_at_number : (t : Times) → get_or kinds (times_number t) General ≡ t
 times_at_number General = refl
 times_at_number UnitTimes = refl
+times_at_number Equal = refl
 
 times_number-injective : (a b : Times) → times_number a ≡ times_number b → a ≡ b
 times_number-injective a b e = sym (times_at_number a) ∙ ap (λ n. get_or kinds n General) e ∙ times_at_number b
 
-pub times_number-below : (t : Times) → times_number t < 2
+pub times_number-below : (t : Times) → times_number t < 3
 times_number-below General = omega arith
 times_number-below UnitTimes = omega arith
+times_number-below Equal = omega arith
 
 abbrev crits : List Crit
 crits = Cmax ∷ Lmax ∷ Fmax ∷ SumC ∷ SumWC ∷ SumU ∷ SumWU ∷ SumT ∷ SumWT ∷ []
@@ -89,11 +91,11 @@ crit_number-below SumWT = omega arith
 
 -- numbers of six digits are equal only where all digits are
 same_digits : (e c o g t k : ℕ) (f d p h u l : ℕ)
-    → c < 2 → o < 5 → g < 2 → t < 2 → k < 9 → d < 2 → p < 5 → h < 2 → u < 2 → l < 9
-    → ((((e * 2 + c) * 5 + o) * 2 + g) * 2 + t) * 9 + k ≡ ((((f * 2 + d) * 5 + p) * 2 + h) * 2 + u) * 9 + l
+    → c < 2 → o < 5 → g < 2 → t < 3 → k < 9 → d < 2 → p < 5 → h < 2 → u < 3 → l < 9
+    → ((((e * 2 + c) * 5 + o) * 2 + g) * 3 + t) * 9 + k ≡ ((((f * 2 + d) * 5 + p) * 2 + h) * 3 + u) * 9 + l
     → (e ≡ f) × (c ≡ d) × (o ≡ p) × (g ≡ h) × (t ≡ u) × (k ≡ l)
-same_digits e c o g t k f d p h u l c2 o5 g2 t2 k9 d2 p5 h2 u2 l9 same =
-    let timed : (((e * 2 + c) * 5 + o) * 2 + g) * 2 + t ≡ (((f * 2 + d) * 5 + p) * 2 + h) * 2 + u = omega arith in
+same_digits e c o g t k f d p h u l c2 o5 g2 t3 k9 d2 p5 h2 u3 l9 same =
+    let timed : (((e * 2 + c) * 5 + o) * 2 + g) * 3 + t ≡ (((f * 2 + d) * 5 + p) * 2 + h) * 3 + u = omega arith in
     let dated : ((e * 2 + c) * 5 + o) * 2 + g ≡ ((f * 2 + d) * 5 + p) * 2 + h = omega arith in
     let ordered : (e * 2 + c) * 5 + o ≡ (f * 2 + d) * 5 + p = omega arith in
     let first : e * 2 + c ≡ f * 2 + d = omega arith in

@@ -1,6 +1,31 @@
+-- What the machine environment says of machines and routes.
 use Rattle.std.specs.Prelude.{ℕ, Bool, true, false, Option, Some, None}
 use Rattle.msp_class.specs.declared.class.Env.{Env}
 use Rattle.msp_class.specs.declared.class.Env.TheVariants.{One, P2, P3, P, Q2, Q, R2, R, O2, O3, O, F2, F3, F, J2Short, JShort, J2, J}
+use Rattle.msp_class.specs.declared.environments.EnvKind.{EnvKind}
+use Rattle.msp_class.specs.declared.environments.EnvKind.TheVariants.{Identical, Uniform, Unrelated, OpenShop, FlowShop, JobShop}
+use Rattle.msp_class.specs.declared.environments.TheConstants.{MOST_OPERATIONS, MOST_SHORT_OPERATIONS}
+
+-- the kind of an environment; one machine is the case of one identical machine
+abbrev pub kind_of : Env → EnvKind
+kind_of One = Identical
+kind_of P2 = Identical
+kind_of P3 = Identical
+kind_of P = Identical
+kind_of Q2 = Uniform
+kind_of Q = Uniform
+kind_of R2 = Unrelated
+kind_of R = Unrelated
+kind_of O2 = OpenShop
+kind_of O3 = OpenShop
+kind_of O = OpenShop
+kind_of F2 = FlowShop
+kind_of F3 = FlowShop
+kind_of F = FlowShop
+kind_of J2Short = JobShop
+kind_of JShort = JobShop
+kind_of J2 = JobShop
+kind_of J = JobShop
 
 -- the number of machines that an environment fixes, if it does
 abbrev pub fixed_machines : Env → Option ℕ
@@ -23,23 +48,32 @@ fixed_machines JShort = None
 fixed_machines J2 = Some 2
 fixed_machines J = None
 
--- whether an environment is a shop: open shops, flow shops, job shops
+-- whether each operation of a job is bound to a machine: open shops, flow shops, job shops
+abbrev pub is_shop_kind : EnvKind → Bool
+is_shop_kind Identical = false
+is_shop_kind Uniform = false
+is_shop_kind Unrelated = false
+is_shop_kind OpenShop = true
+is_shop_kind FlowShop = true
+is_shop_kind JobShop = true
+
 abbrev pub is_shop : Env → Bool
-is_shop One = false
-is_shop P2 = false
-is_shop P3 = false
-is_shop P = false
-is_shop Q2 = false
-is_shop Q = false
-is_shop R2 = false
-is_shop R = false
-is_shop O2 = true
-is_shop O3 = true
-is_shop O = true
-is_shop F2 = true
-is_shop F3 = true
-is_shop F = true
-is_shop J2Short = true
-is_shop JShort = true
-is_shop J2 = true
-is_shop J = true
+is_shop e = is_shop_kind (kind_of e)
+
+-- whether a schedule of the environment may be read from its end: all but flow shops and job shops
+abbrev pub is_mirror_kind : EnvKind → Bool
+is_mirror_kind Identical = true
+is_mirror_kind Uniform = true
+is_mirror_kind Unrelated = true
+is_mirror_kind OpenShop = true
+is_mirror_kind FlowShop = false
+is_mirror_kind JobShop = false
+
+abbrev pub is_mirror : Env → Bool
+is_mirror e = is_mirror_kind (kind_of e)
+
+-- the most operations of a route
+abbrev pub most_operations : Env → ℕ
+most_operations J2Short = MOST_SHORT_OPERATIONS
+most_operations JShort = MOST_SHORT_OPERATIONS
+most_operations _ = MOST_OPERATIONS

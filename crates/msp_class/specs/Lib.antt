@@ -1,2 +1,4 @@
+pub mod Crit
 pub mod Env
+pub mod Order
 pub mod Rank

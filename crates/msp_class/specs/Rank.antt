@@ -1,3 +1,4 @@
+-- The numbers of the classes.
 use Rattle.std.specs.Prelude.{ℕ, ◌+◌, ◌*◌, Bool, true, false}
 use Rattle.msp_class.specs.declared.class.Class.{Class}
 use Rattle.msp_class.specs.declared.class.Env.{Env}
@@ -5,7 +6,7 @@ use Rattle.msp_class.specs.declared.class.Env.TheVariants.{One, P2, P3, P, Q2, Q
 use Rattle.msp_class.specs.declared.class.Order.{Order}
 use Rattle.msp_class.specs.declared.class.Order.TheVariants.{Free, Chains, Intree, Outtree, Prec}
 use Rattle.msp_class.specs.declared.class.Times.{Times}
-use Rattle.msp_class.specs.declared.class.Times.TheVariants.{General, Unit as UnitTimes}
+use Rattle.msp_class.specs.declared.class.Times.TheVariants.{General, Unit as UnitTimes, Equal}
 use Rattle.msp_class.specs.declared.class.Crit.{Crit}
 use Rattle.msp_class.specs.declared.class.Crit.TheVariants.{Cmax, Lmax, Fmax, SumC, SumWC, SumU, SumWU, SumT, SumWT}
 
@@ -47,6 +48,7 @@ order_number Prec = 4
 abbrev pub times_number : Times → ℕ
 times_number General = 0
 times_number UnitTimes = 1
+times_number Equal = 2
 
 -- the criteria in order
 abbrev pub crit_number : Crit → ℕ
@@ -63,5 +65,5 @@ crit_number SumWT = 8
 -- the number of a class, from 0: the numbers of its parts are its digits, the environment's the highest
 unfoldable pub rank_of : Class → ℕ
 rank_of c =
-    ((((env_number c.env * 2 + flag_number c.cut) * 5 + order_number c.order) * 2 + flag_number c.heads) * 2
+    ((((env_number c.env * 2 + flag_number c.cut) * 5 + order_number c.order) * 2 + flag_number c.heads) * 3
     + times_number c.times) * 9 + crit_number c.crit

@@ -1,3 +1,4 @@
+// The parts of a class's name.
 /// The machine environment: the first field of a class's name.
 ///
 /// `J2Short` and `JShort` are `J2` and `J` where each job has at most two operations (`n<=2`).
@@ -47,11 +48,12 @@ pub enum Crit {
     SumWT,
 }
 
-/// Whether processing times are arbitrary or all equal to one.
+/// The processing times: arbitrary, all 1 (`p=1`), or all equal to a number of the instance (`p=p`).
 #[derive(Clone, Copy, Debug, PartialEq, Eq)]
 pub enum Times {
     General,
     Unit,
+    Equal,
 }
 
 /// A class of scheduling problems in the three-field notation of Graham, Lawler, Lenstra and Rinnooy Kan (1979).

@@ -1,17 +1,25 @@
-//! The classes of scheduling problems in the three-field notation, their ranks, and the list that the other crates' structs hold.
+//! The classes of scheduling problems in the three-field notation, their ranks, the facts of their parts, and the list that the
+//! other crates' structs hold.
 //!
-//! It stands on std alone. The layers above use that a `List` is seen as its list, that a refused push changes nothing, and that
-//! `rank` and `unrank` are inverse.
+//! It stands on std alone. The layers above use that a `List` is seen as its list, that a refused push changes nothing, that
+//! `rank` and `unrank` are inverse, and the facts of environments, orders and criteria, which stand nowhere else.
 #![tactic(auto)]
 
 mod class;
+mod criteria;
+mod environments;
 mod list;
-mod machines;
+mod orders;
 mod ranks;
 
 pub use class::{Class, Crit, Env, Order, Times};
+pub use criteria::{is_greatest, uses_curve, uses_due, uses_weight};
+pub use environments::{
+    EnvKind, MOST_OPERATIONS, MOST_SHORT_OPERATIONS, env_kind, fixed_machines, is_mirror, is_shop,
+    most_operations,
+};
 pub use list::List;
-pub use machines::{fixed_machines, is_shop};
+pub use orders::turned;
 pub use ranks::{CLASSES, rank, unrank};
 
 /// Want of memory, of a call that can refuse for nothing else.

@@ -1,3 +1,4 @@
+// The list that the structs of all crates hold.
 ghost use Rattle.std.specs.Prelude.{◌≡◌, [], ◌∷◌, ◌++◌, length, slice_get, OnOk, IfErr};
 ghost use Rattle.std.specs.Option.{option_copied};
 

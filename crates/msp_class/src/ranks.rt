@@ -1,3 +1,4 @@
+// The numbers of the classes.
 ghost use Rattle.std.specs.Prelude.{◌≡◌, ◌<◌, ◌↔◌, IsSome, IfSome};
 ghost use Rattle.msp_class.specs.Rank.{env_number, flag_number, order_number, times_number, crit_number, rank_of};
 ghost use Rattle.msp_class.specs.declared.class.Class.{Class};
@@ -5,7 +6,7 @@ ghost use Rattle.msp_class.specs.declared.class.Class.{Class};
 use crate::class::{Class, Crit, Env, Order, Times};
 
 /// How many classes there are.
-pub const CLASSES: u16 = 6480;
+pub const CLASSES: u16 = 9720;
 
 /// The number of a class, from 0 to `CLASSES - 1`.
 #[tactic(auto, unfolding(crate::specs::Rank::rank_of))]
@@ -16,7 +17,7 @@ pub fn rank(c: Class) -> u16
     let kind = env_place(c.env) * 2 + u16::from(c.cut);
     let ordered = kind * 5 + order_place(c.order);
     let dated = ordered * 2 + u16::from(c.heads);
-    let timed = dated * 2 + times_place(c.times);
+    let timed = dated * 3 + times_place(c.times);
     timed * 9 + crit_place(c.crit)
 }
 
@@ -35,11 +36,11 @@ fn class_at(n: u16) -> Class
     ensures { rank_of result ≡ n }
 {
     Class {
-        env: env_at(n / 360),
-        cut: flag_at(n / 180 % 2),
-        order: order_at(n / 36 % 5),
-        heads: flag_at(n / 18 % 2),
-        times: times_at(n / 9 % 2),
+        env: env_at(n / 540),
+        cut: flag_at(n / 270 % 2),
+        order: order_at(n / 54 % 5),
+        heads: flag_at(n / 27 % 2),
+        times: times_at(n / 9 % 3),
         crit: crit_at(n % 9),
     }
 }
@@ -79,7 +80,7 @@ fn order_place(o: Order) -> u16
 
 fn times_place(t: Times) -> u16
     ensures place { result ≡ times_number t }
-    ensures below { result < 2 }
+    ensures below { result < 3 }
 {
     t as u16
 }
@@ -138,10 +139,14 @@ fn order_at(n: u16) -> Order
 }
 
 fn times_at(n: u16) -> Times
-    requires { n < 2 }
+    requires { n < 3 }
     ensures { times_number result ≡ n }
 {
-    if n == 0 { Times::General } else { Times::Unit }
+    match n {
+        0 => Times::General,
+        1 => Times::Unit,
+        _ => Times::Equal,
+    }
 }
 
 fn crit_at(n: u16) -> Crit
@@ -165,42 +170,37 @@ fn crit_at(n: u16) -> Crit
 mod tests {
     use super::*;
 
+    const PLAIN: Class = Class {
+        env: Env::One,
+        cut: false,
+        order: Order::Free,
+        heads: false,
+        times: Times::General,
+        crit: Crit::Cmax,
+    };
+
     #[test]
     fn ranks_by_table(rt: HostRuntime) {
-        let plain = Class {
-            env: Env::One,
-            cut: false,
-            order: Order::Free,
-            heads: false,
-            times: Times::General,
-            crit: Crit::Cmax,
-        };
-        assert_eq!(rt; rank(plain), 0);
-        assert_eq!(rt;
-            rank(Class {
-                crit: Crit::SumWC,
-                ..plain
-            }),
-            4
-        );
-        assert_eq!(rt;
-            rank(Class {
-                times: Times::Unit,
-                ..plain
-            }),
-            9
-        );
-        assert_eq!(rt; rank(Class { cut: true, ..plain }), 180);
         let last = Class {
             env: Env::J,
             cut: true,
             order: Order::Prec,
             heads: true,
-            times: Times::Unit,
+            times: Times::Equal,
             crit: Crit::SumWT,
         };
-        assert_eq!(rt; rank(last), 6479);
-        assert_eq!(rt; unrank(6479), Some(last));
-        assert_eq!(rt; unrank(6480), None);
+        let table = [
+            (PLAIN, 0),
+            (Class { crit: Crit::SumWC, ..PLAIN }, 4),
+            (Class { times: Times::Unit, ..PLAIN }, 9),
+            (Class { times: Times::Equal, ..PLAIN }, 18),
+            (Class { cut: true, ..PLAIN }, 270),
+            (last, 9719),
+        ];
+        for (class, number) in table {
+            assert_eq!(rt; rank(class), number);
+        }
+        assert_eq!(rt; unrank(9719), Some(last));
+        assert_eq!(rt; unrank(9720), None);
     }
 }

@@ -6,3 +6,6 @@ pub mod Small
 pub mod Whole
 pub mod OneMachine
 pub mod OneRow
+pub mod Intervals
+pub mod Sequences
+pub mod Rows

@@ -12,7 +12,7 @@ use Rattle.msp_class.specs.declared.class.Crit.{Crit}
 use Rattle.msp_class.specs.declared.class.Crit.TheVariants.{SumWC}
 use Rattle.msp_class.specs.Env.{fixed_machines}
 use Rattle.msp_class.proofs.IntegerRing.{natural, pos-same}
-use Rattle.msp_class.proofs.Intervals.{IsApart, size_of, work_of, last_of, greatest_by}
+use Rattle.msp_schedule.proofs.Intervals.{IsApart, size_of, work_of, last_of, greatest_by}
 use Rattle.msp_class.proofs.Sums.{total_below, int_total_below, int_total_below-same, int_total_below-natural}
 use Rattle.msp_instance.specs.declared.Instance.{Instance}
 use Rattle.msp_instance.specs.Instance.{Kind, identical, kind_of, no_job, job_at, need_at}

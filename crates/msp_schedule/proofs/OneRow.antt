@@ -8,7 +8,7 @@ use Rattle.std.proofs.Math.Nat.{one-dvd, dvd-mul_left, eq-one_of_dvd-one}
 use Rattle.msp_class.proofs.IntegerRing.{natural, *ℤ-one}
 use Rattle.std.proofs.lemmas.List.Elements.{All-nil, All-cons}
 use Rattle.msp_class.proofs.Sums.{sum_by-mono, sum_by-constant, OnceBelow, OnceBelow-distinct, OnceBelow-contains, length-OnceBelow}
-use Rattle.msp_class.proofs.Rows.{row, Makes, begin_in, end_in, end_in-begin, length-row, row-All, row-to, row-in_order, row-positive, row-filter}
+use Rattle.msp_schedule.proofs.Rows.{row, Makes, begin_in, end_in, end_in-begin, length-row, row-All, row-to, row-in_order, row-positive, row-filter}
 use Rattle.msp_instance.specs.declared.Instance.{Instance}
 use Rattle.msp_instance.specs.Instance.{Kind, identical, unrelated, kind_of, job_at, need_at}
 use Rattle.msp_schedule.specs.declared.Piece.{Piece}

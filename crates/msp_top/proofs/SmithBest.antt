@@ -4,9 +4,9 @@ use Rattle.std.proofs.lemmas.Int.{ints}
 use Rattle.std.proofs.lemmas.List.Elements.{All-nil}
 use Rattle.std.proofs.lemmas.Nat.{mul-le}
 use Rattle.msp_class.proofs.IntegerRing.{≤ℤ_of_same, ≤ℤ_trans, pos-le, *ℤ-one}
-use Rattle.msp_class.proofs.Intervals.{last_of, last_of-least}
-use Rattle.msp_class.proofs.Rows.{row, row-jobs, row-All, row-to, length-row, last-seq_below}
-use Rattle.msp_class.proofs.Sequences.{seq, SmithBefore, smith_beats_last}
+use Rattle.msp_schedule.proofs.Intervals.{last_of, last_of-least}
+use Rattle.msp_schedule.proofs.Rows.{row, row-jobs, row-All, row-to, length-row, last-seq_below}
+use Rattle.msp_schedule.proofs.Sequences.{seq, SmithBefore, smith_beats_last}
 use Rattle.msp_class.proofs.Sums.{OnceBelow, OnceBelow-from_permutation, length-OnceBelow, total_below-bound}
 use Rattle.msp_instance.specs.declared.Arc.{Arc}
 use Rattle.msp_instance.specs.declared.Instance.{Instance}

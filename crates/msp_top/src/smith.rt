@@ -8,7 +8,7 @@ ghost use Rattle.msp_schedule.specs.Fraction.{IsLowest};
 ghost use Rattle.msp_schedule.specs.Settled.{IsSettled};
 ghost use Rattle.msp_schedule.specs.Within.{Within};
 ghost use Rattle.msp_schedule.proofs.OneRow.{piece, time_at};
-ghost use Rattle.msp_class.proofs.Rows.{row};
+ghost use Rattle.msp_schedule.proofs.Rows.{row};
 ghost use Rattle.msp_top.specs.Smith.{smith_class, IsSmithOrder, IsWholeRow};
 
 use msp_class::{Class, Crit, Env, List, NoMemory, Order, Times};

@@ -1,5 +1,5 @@
 use Rattle.std.proofs.Common.{◌≡◌, ◌*◌, ◌≤◌, take, sum_by}
-use Rattle.msp_class.proofs.Rows.{row}
+use Rattle.msp_schedule.proofs.Rows.{row}
 use Rattle.msp_schedule.proofs.OneRow.{piece, time_at}
 use Rattle.msp_top.proofs.smith.in_a_row.Given as goal
 

@@ -5,8 +5,8 @@ use Rattle.std.proofs.lemmas.List.Elements.{All-nil, All-cons, All-head, All-tai
 use Rattle.std.proofs.lemmas.List.Kept.{AllPairs-cons}
 use Rattle.std.proofs.lemmas.Bool.{eqb-true, eqb-false, eq-eqb, ne_eqb}
 use Rattle.msp_class.proofs.Sums.{sum_by-same, sum_by-scale, sum_by-OnceBelow, sum_by-filter, sum_by-map, total_below, total_below-same, OnceBelow, OnceBelow-distinct, OnceBelow-contains, AllPairs-head, AllPairs-tail, AllPairs-contains, Contains-tail}
-use Rattle.msp_class.proofs.Intervals.{IsApart, size_of, work_of, last_of, greatest_by}
-use Rattle.msp_class.proofs.Sequences.{seq}
+use Rattle.msp_schedule.proofs.Intervals.{IsApart, size_of, work_of, last_of, greatest_by}
+use Rattle.msp_schedule.proofs.Sequences.{seq}
 
 -- the row of pieces of the jobs js from the moment t on
 abbrev pub row : {P : Type 0} → (ℕ → ℕ → ℕ → P) → (ℕ → ℕ) → ℕ → List ℕ → List P
