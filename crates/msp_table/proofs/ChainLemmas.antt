@@ -1,3 +1,4 @@
+-- Laws of chains: joined, taken apart, determined by their rows, and the one nearest chain.
 use Rattle.std.proofs.Common.{◌≡◌, ℕ, Bool, Option, List, [], ◌∷◌, ◌++◌, length, Some, refl, ap, sym, subst, inl, inr, ◌∙◌, arith}
 use Rattle.std.specs.Prelude.{Contains, IsTrue, IfSome}
 use Rattle.std.proofs.lemmas.Bool.{cases_order}

@@ -1,8 +1,10 @@
+-- Chains of rows, and the nearest one.
 use Rattle.std.specs.Prelude.{ℕ, ◌≡◌, ◌<◌, ◌≤◌, Bool, true, IsTrue, List, [], ◌∷◌, length, Contains, Some, IfSome}
 use Rattle.msp_class.specs.declared.class.Class.{Class}
 use Rattle.msp_table.specs.Rows.{goes_of}
 
--- A test `usable` on the numbers of rows says which ones a chain may use: all, as here, or those that carry, by `carries`.
+-- A test `usable` on the numbers of rows says which ones a chain may use: all, as here, those that carry schedules, by `carries`,
+-- or those that keep size, by `keeps_size`.
 abbrev pub every_row : ℕ → Bool
 every_row k = true
 

@@ -1,9 +1,8 @@
-use Rattle.std.specs.Prelude.{◌==◌, Bool, true, false, List, [], ◌∷◌, ◌&&◌}
+-- The parts of a class's name, and their replacement.
+use Rattle.std.specs.Prelude.{◌==◌, Bool, true, List, [], ◌∷◌, ◌&&◌}
 use Rattle.msp_class.specs.declared.class.Class.{Class}
 use Rattle.msp_class.specs.declared.class.Env.{Env}
-use Rattle.msp_class.specs.declared.class.Env.TheVariants.{One, P2, P3, P, Q2, Q, R2, R, O2, O3, O, F2, F3, F, J2Short, JShort, J2, J}
 use Rattle.msp_class.specs.declared.class.Order.{Order}
-use Rattle.msp_class.specs.declared.class.Order.TheVariants.{Free, Chains, Intree, Outtree, Prec}
 use Rattle.msp_class.specs.declared.class.Times.{Times}
 use Rattle.msp_class.specs.declared.class.Crit.{Crit}
 use Rattle.msp_class.specs.Rank.{env_number, flag_number, order_number, times_number, crit_number}
@@ -44,32 +43,3 @@ with_part (CritIs k) c = record c { crit = k }
 abbrev pub with_all : List Part → Class → Class
 with_all [] c = c
 with_all (p ∷ ps) c = with_all ps (with_part p c)
-
--- the order of the same jobs when every arc has its ends exchanged
-abbrev pub turned : Order → Order
-turned Free = Free
-turned Chains = Chains
-turned Intree = Outtree
-turned Outtree = Intree
-turned Prec = Prec
-
--- whether a schedule of the environment may be read from its end: all but flow shops and job shops
-abbrev pub is_mirror : Env → Bool
-is_mirror One = true
-is_mirror P2 = true
-is_mirror P3 = true
-is_mirror P = true
-is_mirror Q2 = true
-is_mirror Q = true
-is_mirror R2 = true
-is_mirror R = true
-is_mirror O2 = true
-is_mirror O3 = true
-is_mirror O = true
-is_mirror F2 = false
-is_mirror F3 = false
-is_mirror F = false
-is_mirror J2Short = false
-is_mirror JShort = false
-is_mirror J2 = false
-is_mirror J = false

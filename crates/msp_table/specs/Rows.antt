@@ -1,13 +1,20 @@
+-- The table of elementary reductions, and where each row leads.
 use Rattle.std.specs.Prelude.{ℕ, ◌==◌, Bool, true, false, not, List, [], ◌∷◌, ◌&&◌, ◌||◌, if◌then◌else◌, codes, Option, Some, None, find, option_and_then}
 use Rattle.std.specs.Option.{option_map_or}
 use Rattle.msp_class.specs.declared.class.Class.{Class}
 use Rattle.msp_class.specs.declared.class.Env.TheVariants.{One, P2, P3, P, Q2, Q, R2, R, O2, O3, O, F2, F3, F, J2Short, JShort, J2, J}
 use Rattle.msp_class.specs.declared.class.Order.TheVariants.{Free, Chains, Intree, Outtree, Prec}
-use Rattle.msp_class.specs.declared.class.Times.TheVariants.{General, Unit as UnitTimes}
+use Rattle.msp_class.specs.declared.class.Times.TheVariants.{General, Unit as UnitTimes, Equal}
 use Rattle.msp_class.specs.declared.class.Crit.TheVariants.{Cmax, Lmax, Fmax, SumC, SumWC, SumU, SumWU, SumT, SumWT}
+use Rattle.msp_class.specs.Env.{is_mirror}
+use Rattle.msp_class.specs.Order.{turned}
 use Rattle.msp_table.specs.declared.row.RowKind.{RowKind}
 use Rattle.msp_table.specs.declared.row.RowKind.TheVariants.{Carries, Threshold}
-use Rattle.msp_table.specs.Parts.{Part, EnvIs, CutIs, OrderIs, HeadsIs, TimesIs, CritIs, has_all, with_all, turned, is_mirror}
+use Rattle.msp_table.specs.Parts.{Part, EnvIs, CutIs, OrderIs, HeadsIs, TimesIs, CritIs, has, has_all, with_all}
+
+-- a further condition of a row
+abbrev pub Condition : Type 0
+Condition = Class → Bool
 
 -- a row of the table: it leads from a class that has the parts on its left and meets the further condition to the same class with
 -- the parts on its right
@@ -15,63 +22,56 @@ pub record RowRule : Type 0 where
   pub number : ℕ
   pub text : List ℕ
   pub left : List Part
-  -- the further condition: further parts, and whether the environment has to be a mirror environment
-  pub given : List Part
-  pub mirror : Bool
+  pub given : Condition
   pub right : List Part
   -- whether every arc has its ends exchanged
   pub turns : Bool
 
--- a row that changes one part, in any environment
-abbrev pub rule : ℕ → List ℕ → Part → List Part → Part → RowRule
+-- a row that changes one part
+abbrev pub rule : ℕ → List ℕ → Part → Condition → Part → RowRule
 rule number text left given right = record {
   number = number;
   text = text;
   left = left ∷ [];
   given = given;
-  mirror = false;
   right = right ∷ [];
   turns = false;
 }
 
--- a row for mirror environments
-abbrev pub mirror_rule : ℕ → List ℕ → List Part → List Part → List Part → Bool → RowRule
-mirror_rule number text left given right turns = record {
+-- a row that changes several parts and exchanges the ends of every arc
+abbrev pub turning_rule : ℕ → List ℕ → List Part → Condition → List Part → RowRule
+turning_rule number text left given right = record {
   number = number;
   text = text;
   left = left;
   given = given;
-  mirror = true;
   right = right;
-  turns = turns;
+  turns = true;
 }
 
 -- further conditions
-abbrev pub no_condition : List Part
-no_condition = []
+abbrev pub no_condition : Condition
+no_condition c = true
 
-abbrev pub general_times : List Part
-general_times = TimesIs General ∷ []
+abbrev pub general_times : Condition
+general_times c = has c (TimesIs General)
 
-abbrev pub one_machine_no_r : List Part
-one_machine_no_r = EnvIs One ∷ HeadsIs false ∷ []
+abbrev pub mirror : Condition
+mirror c = is_mirror c.env
 
-abbrev pub exchangeable : List Part
-exchangeable = EnvIs One ∷ CutIs false ∷ HeadsIs false ∷ TimesIs General ∷ CritIs SumWC ∷ []
+abbrev pub mirror_no_r_cmax : Condition
+mirror_no_r_cmax c = is_mirror c.env && has_all c (HeadsIs false ∷ CritIs Cmax ∷ [])
 
-abbrev pub no_r_cmax : List Part
-no_r_cmax = HeadsIs false ∷ CritIs Cmax ∷ []
+abbrev pub one_machine_no_r : Condition
+one_machine_no_r c = has_all c (EnvIs One ∷ HeadsIs false ∷ [])
 
--- the order is as the parts on the right say, and else stays
-abbrev pub same_order : Bool
-same_order = false
+abbrev pub exchangeable : Condition
+exchangeable c = has_all c (EnvIs One ∷ CutIs false ∷ HeadsIs false ∷ TimesIs General ∷ CritIs SumWC ∷ [])
 
--- every arc has its ends exchanged
-abbrev pub turned_order : Bool
-turned_order = true
+abbrev pub no_r_cmax_sumc_sumwc : Condition
+no_r_cmax_sumc_sumwc c = has c (HeadsIs false) && (has c (CritIs Cmax) || has c (CritIs SumC) || has c (CritIs SumWC))
 
--- the table of elementary reductions: number, text, parts on the left, further condition, parts on the right; for the rows that want a
--- mirror environment also whether they turn the order
+-- the table: number, text, parts on the left, further condition, parts on the right
 unfoldable pub table : List RowRule
 table =
     rule 1 (codes "none to chains") (OrderIs Free) no_condition (OrderIs Chains) ∷
@@ -80,7 +80,7 @@ table =
     rule 4 (codes "intree to prec") (OrderIs Intree) no_condition (OrderIs Prec) ∷
     rule 5 (codes "outtree to prec") (OrderIs Outtree) no_condition (OrderIs Prec) ∷
     rule 6 (codes "no r to r") (HeadsIs false) no_condition (HeadsIs true) ∷
-    rule 7 (codes "p=1 to general") (TimesIs UnitTimes) no_condition (TimesIs General) ∷
+    rule 7 (codes "p=1 to p=p") (TimesIs UnitTimes) no_condition (TimesIs Equal) ∷
     rule 8 (codes "Cmax to Lmax") (CritIs Cmax) no_condition (CritIs Lmax) ∷
     rule 9 (codes "Lmax to fmax") (CritIs Lmax) no_condition (CritIs Fmax) ∷
     rule 10 (codes "sumC to sumwC") (CritIs SumC) no_condition (CritIs SumWC) ∷
@@ -118,14 +118,16 @@ table =
     rule 42 (codes "J2 with n<=2 to J with n<=2") (EnvIs J2Short) no_condition (EnvIs JShort) ∷
     rule 43 (codes "J2 to J") (EnvIs J2) no_condition (EnvIs J) ∷
     rule 44 (codes "J with n<=2 to J") (EnvIs JShort) no_condition (EnvIs J) ∷
-    mirror_rule 45 (codes "intree to outtree by reversal") (OrderIs Intree ∷ []) no_r_cmax (OrderIs Outtree ∷ []) same_order ∷
-    mirror_rule 46 (codes "outtree to intree by reversal") (OrderIs Outtree ∷ []) no_r_cmax (OrderIs Intree ∷ []) same_order ∷
-    mirror_rule 47 (codes "r, Cmax to no r, Lmax") (HeadsIs true ∷ CritIs Cmax ∷ []) no_condition (HeadsIs false ∷ CritIs Lmax ∷ []) turned_order ∷
-    mirror_rule 48 (codes "no r, Lmax to r, Cmax") (HeadsIs false ∷ CritIs Lmax ∷ []) no_condition (HeadsIs true ∷ CritIs Cmax ∷ []) turned_order ∷
+    rule 45 (codes "intree to outtree by reversal") (OrderIs Intree) mirror_no_r_cmax (OrderIs Outtree) ∷
+    rule 46 (codes "outtree to intree by reversal") (OrderIs Outtree) mirror_no_r_cmax (OrderIs Intree) ∷
+    turning_rule 47 (codes "r, Cmax to no r, Lmax") (HeadsIs true ∷ CritIs Cmax ∷ []) mirror (HeadsIs false ∷ CritIs Lmax ∷ []) ∷
+    turning_rule 48 (codes "no r, Lmax to r, Cmax") (HeadsIs false ∷ CritIs Lmax ∷ []) mirror (HeadsIs true ∷ CritIs Cmax ∷ []) ∷
     rule 49 (codes "pmtn to uncut") (CutIs true) one_machine_no_r (CutIs false) ∷
     rule 50 (codes "uncut to pmtn") (CutIs false) one_machine_no_r (CutIs true) ∷
     rule 51 (codes "intree to outtree by exchange") (OrderIs Intree) exchangeable (OrderIs Outtree) ∷
     rule 52 (codes "outtree to intree by exchange") (OrderIs Outtree) exchangeable (OrderIs Intree) ∷
+    rule 53 (codes "p=p to general") (TimesIs Equal) no_condition (TimesIs General) ∷
+    rule 54 (codes "p=p to p=1") (TimesIs Equal) no_r_cmax_sumc_sumwc (TimesIs UnitTimes) ∷
     []
 
 -- the row of a number, if there is one
@@ -134,7 +136,7 @@ row_of k = find (λ r. r.number == k) table
 
 -- whether a row applies to a class
 abbrev pub applies : RowRule → Class → Bool
-applies r c = has_all c r.left && has_all c r.given && (not r.mirror || is_mirror c.env)
+applies r c = has_all c r.left && r.given c
 
 -- the class to which a row leads from a class to which it applies
 abbrev pub led_to : RowRule → Class → Class
@@ -159,3 +161,7 @@ carries k = not (k == 15 || k == 16)
 -- the kind of the row of a number
 abbrev pub kind_of : ℕ → RowKind
 kind_of k = if carries k then Carries else Threshold
+
+-- every row keeps the numbers of an instance small but rows 26 and 27, which multiply them by a common multiple of the speeds
+abbrev pub keeps_size : ℕ → Bool
+keeps_size k = not (k == 26 || k == 27)

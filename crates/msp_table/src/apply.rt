@@ -1,12 +1,13 @@
+// Where each row leads.
 ghost use Rattle.std.specs.Prelude.{◌≡◌};
 ghost use Rattle.msp_table.specs.Rows.{goes_of};
 
 use crate::row::Row;
 use crate::steps::{
     crit_step, cut_step, dates_step, env_step, exchange_step, general_env_step, heads_step,
-    order_step, reversal_step, times_step,
+    order_step, reversal_step, times_step, unit_step,
 };
-use msp_class::{Class, Crit, Env, Order};
+use msp_class::{Class, Crit, Env, Order, Times};
 
 /// The class to which the row leads. None comes exactly where the row does not apply.
 #[tactic(auto, unfolding(crate::specs::Rows::table, crate::specs::Rows::goes_of))]
@@ -20,7 +21,7 @@ pub fn goes(row: Row, c: Class) -> Option<Class>
         4 => order_step(c, Order::Intree, Order::Prec),
         5 => order_step(c, Order::Outtree, Order::Prec),
         6 => heads_step(c),
-        7 => times_step(c),
+        7 => times_step(c, Times::Unit, Times::Equal),
         8 => crit_step(c, Crit::Cmax, Crit::Lmax),
         9 => crit_step(c, Crit::Lmax, Crit::Fmax),
         10 => crit_step(c, Crit::SumC, Crit::SumWC),
@@ -65,14 +66,15 @@ pub fn goes(row: Row, c: Class) -> Option<Class>
         49 => cut_step(c, false),
         50 => cut_step(c, true),
         51 => exchange_step(c, Order::Intree, Order::Outtree),
-        _ => exchange_step(c, Order::Outtree, Order::Intree),
+        52 => exchange_step(c, Order::Outtree, Order::Intree),
+        53 => times_step(c, Times::Equal, Times::General),
+        _ => unit_step(c),
     }
 }
 
 #[cfg(test)]
 mod tests {
     use super::*;
-    use msp_class::Times;
     use std::test::Fail;
 
     #[test]
@@ -102,12 +104,30 @@ mod tests {
         };
         assert_eq!(rt; goes(reverse, tree), Some(turned));
         assert_eq!(rt; goes(reverse, due), None);
-        let unit = Class {
+        let equal = Class {
             env: Env::Q,
-            times: Times::Unit,
+            heads: false,
+            times: Times::Equal,
             ..dated
         };
-        assert_eq!(rt; goes(Row::new(26).ok_or("no row 26")?, unit), None);
+        assert_eq!(rt; goes(Row::new(26).ok_or("no row 26")?, equal), None);
+        let unit = Class {
+            times: Times::Unit,
+            ..equal
+        };
+        let last = Row::new(54).ok_or("no row 54")?;
+        assert_eq!(rt; goes(last, equal), Some(unit));
+        assert_eq!(rt;
+            goes(
+                last,
+                Class {
+                    crit: Crit::Lmax,
+                    ..equal
+                }
+            ),
+            None
+        );
+        assert_eq!(rt; goes(last, unit), None);
         Ok(())
     }
 }

@@ -1,5 +1,6 @@
+// The facts of each row: its kind, whether it keeps size, its text.
 ghost use Rattle.std.specs.Prelude.{◌≡◌};
-ghost use Rattle.msp_table.specs.Rows.{kind_of, text_of};
+ghost use Rattle.msp_table.specs.Rows.{keeps_size, kind_of, text_of};
 
 use crate::row::{Row, RowKind};
 
@@ -11,6 +12,13 @@ pub fn kind(row: Row) -> RowKind
         15 | 16 => RowKind::Threshold,
         _ => RowKind::Carries,
     }
+}
+
+/// Whether the row keeps the numbers of an instance small.
+pub fn keeps_size(row: Row) -> bool
+    ensures { result ≡ keeps_size row }
+{
+    !matches!(row.number(), 26 | 27)
 }
 
 /// The row's text in the table.
@@ -25,7 +33,7 @@ pub fn text(row: Row) -> &'static str
         4 => "intree to prec",
         5 => "outtree to prec",
         6 => "no r to r",
-        7 => "p=1 to general",
+        7 => "p=1 to p=p",
         8 => "Cmax to Lmax",
         9 => "Lmax to fmax",
         10 => "sumC to sumwC",
@@ -70,7 +78,9 @@ pub fn text(row: Row) -> &'static str
         49 => "pmtn to uncut",
         50 => "uncut to pmtn",
         51 => "intree to outtree by exchange",
-        _ => "outtree to intree by exchange",
+        52 => "outtree to intree by exchange",
+        53 => "p=p to general",
+        _ => "p=p to p=1",
     }
 }
 
@@ -80,16 +90,20 @@ mod tests {
     use std::test::Fail;
 
     #[test]
-    fn names_and_kinds(rt: HostRuntime) -> Result<(), Fail> {
-        let threshold = Row::new(16).ok_or("no row 16")?;
-        assert_eq!(rt; threshold.number(), 16);
+    fn texts_and_kinds(rt: HostRuntime) -> Result<(), Fail> {
+        let first = Row::new(1).ok_or("no row 1")?;
+        assert_eq!(rt; first.number(), 1);
+        assert_eq!(rt; text(first), "none to chains");
+        assert_eq!(rt; kind(first), RowKind::Carries);
+        let threshold = Row::new(15).ok_or("no row 15")?;
+        assert_eq!(rt; text(threshold), "Lmax to sumU");
         assert_eq!(rt; kind(threshold), RowKind::Threshold);
-        assert_eq!(rt; text(threshold), "Lmax to sumT");
-        let last = Row::new(52).ok_or("no row 52")?;
-        assert_eq!(rt; kind(last), RowKind::Carries);
-        assert_eq!(rt; text(last), "outtree to intree by exchange");
+        assert!(rt; keeps_size(threshold));
+        assert!(rt; !keeps_size(Row::new(26).ok_or("no row 26")?));
+        let last = Row::new(54).ok_or("no row 54")?;
+        assert_eq!(rt; text(last), "p=p to p=1");
         assert_eq!(rt; Row::new(0), None);
-        assert_eq!(rt; Row::new(53), None);
+        assert_eq!(rt; Row::new(55), None);
         Ok(())
     }
 }

@@ -1,4 +1,4 @@
-//! The table of elementary reductions between classes: 52 rows, and chains of rows.
+//! The table of elementary reductions between classes: 54 rows, and chains of rows.
 //!
 //! It stands on `msp_class`. The layers above use that `goes` is the table: the class to which a row leads, and None exactly where
 //! the row does not apply.
@@ -10,5 +10,5 @@ mod row;
 mod steps;
 
 pub use apply::goes;
-pub use kinds::{kind, text};
+pub use kinds::{keeps_size, kind, text};
 pub use row::{Chain, ROWS, Row, RowKind};

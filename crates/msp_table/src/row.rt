@@ -1,10 +1,11 @@
+// The rows by their numbers, their kinds, and chains of them.
 ghost use Rattle.std.specs.Prelude.{◌≡◌, ◌≤◌, ◌↔◌, ℕ, IsSome, IfSome};
 
 use msp_class::{Class, List};
 use std::marker::Model;
 
 /// How many rows the table has.
-pub const ROWS: u8 = 52;
+pub const ROWS: u8 = 54;
 
 /// A row of the table. Contracts see it as its number, from 1 to `ROWS`.
 #[derive(Clone, Copy, Debug, PartialEq, Eq)]

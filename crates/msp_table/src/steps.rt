@@ -1,8 +1,9 @@
+// What each group of rows does to a class.
 ghost use Rattle.std.specs.Prelude.{◌≡◌, [], ◌∷◌, true, false, not};
-ghost use Rattle.msp_table.specs.Parts.{EnvIs, CutIs, OrderIs, HeadsIs, TimesIs, CritIs, turned, is_mirror};
-ghost use Rattle.msp_table.specs.Rows.{goes_by, rule, mirror_rule, no_condition, general_times, one_machine_no_r, exchangeable, no_r_cmax, same_order, turned_order};
+ghost use Rattle.msp_table.specs.Parts.{EnvIs, CutIs, OrderIs, HeadsIs, TimesIs, CritIs};
+ghost use Rattle.msp_table.specs.Rows.{goes_by, rule, turning_rule, no_condition, general_times, mirror, mirror_no_r_cmax, one_machine_no_r, exchangeable, no_r_cmax_sumc_sumwc};
 
-use msp_class::{Class, Crit, Env, Order, Times};
+use msp_class::{Class, Crit, Env, Order, Times, is_mirror, turned};
 
 /// The class with another environment, where it has the first.
 pub(crate) fn env_step(c: Class, from: Env, to: Env) -> Option<Class>
@@ -21,7 +22,7 @@ pub(crate) fn general_env_step(c: Class, from: Env, to: Env) -> Option<Class>
 {
     match c.times {
         Times::General => env_step(c, from, to),
-        Times::Unit => None,
+        Times::Unit | Times::Equal => None,
     }
 }
 
@@ -58,16 +59,26 @@ pub(crate) fn heads_step(c: Class) -> Option<Class>
     }
 }
 
-/// General times where all are 1.
-pub(crate) fn times_step(c: Class) -> Option<Class>
-    ensures { result ≡ goes_by (rule 0 [] (TimesIs Times.Unit) no_condition (TimesIs Times.General)) c }
+/// The class with other times, where it has the first.
+pub(crate) fn times_step(c: Class, from: Times, to: Times) -> Option<Class>
+    ensures { result ≡ goes_by (rule 0 [] (TimesIs from) no_condition (TimesIs to)) c }
 {
-    match c.times {
-        Times::General => None,
-        Times::Unit => Some(Class {
-            times: Times::General,
-            ..c
-        }),
+    if c.times == from {
+        Some(Class { times: to, ..c })
+    } else {
+        None
+    }
+}
+
+/// Equal times counted as 1, where the cost is measured from time 0 alone.
+pub(crate) fn unit_step(c: Class) -> Option<Class>
+    ensures { result ≡ goes_by (rule 0 [] (TimesIs Times.Equal) no_r_cmax_sumc_sumwc (TimesIs Times.Unit)) c }
+{
+    match c.crit {
+        Crit::Cmax | Crit::SumC | Crit::SumWC if !c.heads => {
+            times_step(c, Times::Equal, Times::Unit)
+        }
+        _ => None,
     }
 }
 
@@ -84,7 +95,7 @@ pub(crate) fn cut_step(c: Class, to: bool) -> Option<Class>
 
 /// The reversal of a schedule for the makespan without release dates.
 pub(crate) fn reversal_step(c: Class, from: Order, to: Order) -> Option<Class>
-    ensures { result ≡ goes_by (mirror_rule 0 [] (OrderIs from ∷ []) no_r_cmax (OrderIs to ∷ []) same_order) c }
+    ensures { result ≡ goes_by (rule 0 [] (OrderIs from) mirror_no_r_cmax (OrderIs to)) c }
 {
     if is_mirror(c.env) && !c.heads && c.crit == Crit::Cmax {
         order_step(c, from, to)
@@ -111,7 +122,7 @@ pub(crate) fn exchange_step(c: Class, from: Order, to: Order) -> Option<Class>
 
 /// Release dates turned into due dates by the reversal of a schedule.
 pub(crate) fn dates_step(c: Class, heads: bool, from: Crit, to: Crit) -> Option<Class>
-    ensures { result ≡ goes_by (mirror_rule 0 [] (HeadsIs heads ∷ CritIs from ∷ []) no_condition (HeadsIs (not heads) ∷ CritIs to ∷ []) turned_order) c }
+    ensures { result ≡ goes_by (turning_rule 0 [] (HeadsIs heads ∷ CritIs from ∷ []) mirror (HeadsIs (not heads) ∷ CritIs to ∷ [])) c }
 {
     if is_mirror(c.env) && c.heads == heads && c.crit == from {
         Some(Class {
@@ -122,34 +133,5 @@ pub(crate) fn dates_step(c: Class, heads: bool, from: Crit, to: Crit) -> Option<
         })
     } else {
         None
-    }
-}
-
-fn turned(o: Order) -> Order
-    ensures { result ≡ turned o }
-{
-    match o {
-        Order::Intree => Order::Outtree,
-        Order::Outtree => Order::Intree,
-        Order::Free | Order::Chains | Order::Prec => o,
-    }
-}
-
-fn is_mirror(e: Env) -> bool
-    ensures { result ≡ is_mirror e }
-{
-    match e {
-        Env::F2 | Env::F3 | Env::F | Env::J2Short | Env::JShort | Env::J2 | Env::J => false,
-        Env::One
-        | Env::P2
-        | Env::P3
-        | Env::P
-        | Env::Q2
-        | Env::Q
-        | Env::R2
-        | Env::R
-        | Env::O2
-        | Env::O3
-        | Env::O => true,
     }
 }
