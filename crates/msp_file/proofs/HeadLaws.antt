@@ -6,10 +6,12 @@ use Rattle.std.proofs.lemmas.Bool.{eqb-true, eq-eqb, and_from}
 use Rattle.std.proofs.lemmas.List.Elements.{All-contains, All-nil, All-cons, All-head, All-tail}
 use Rattle.std.proofs.lemmas.List.Folds.{list_all-append}
 use Rattle.std.proofs.lemmas.List.Sums.{AllPass-from_list_all}
+use Rattle.msp_class.specs.declared.environments.EnvKind.{EnvKind}
+use Rattle.msp_class.specs.declared.environments.EnvKind.TheVariants.{Identical, Uniform, Unrelated, OpenShop, FlowShop, JobShop}
 use Rattle.msp_class.specs.declared.class.Class.{Class}
 use Rattle.msp_class.specs.declared.class.Env.{Env}
 use Rattle.msp_class.specs.declared.class.Env.TheVariants as env
-use Rattle.msp_class.specs.Env.{fixed_machines}
+use Rattle.msp_class.specs.Env.{fixed_machines, kind_of}
 use Rattle.msp_name.specs.declared.words.Item.{Item}
 use Rattle.msp_name.specs.Spellings.{env_texts, item_texts, crit_texts}
 use Rattle.msp_name.specs.Items.{plain_env}
@@ -17,7 +19,6 @@ use Rattle.msp_name.specs.Names.{NameOf, bar, comma}
 use Rattle.msp_name.specs.Reading.{reading_of}
 use Rattle.msp_name.proofs.NameLemmas.{NameOf-from_reading, reading_of-NameOf}
 use Rattle.msp_instance.specs.declared.Instance.{Instance}
-use Rattle.msp_instance.specs.Instance.{Kind, identical, uniform, unrelated, open_shop, flow_shop, job_shop, kind_of}
 use Rattle.msp_instance.specs.Conditions.{HasMachines, HasSpeeds, HasSmallMultiple}
 use Rattle.msp_file.specs.declared.fault.FileFault.{FileFault}
 use Rattle.msp_file.specs.declared.fault.FileFault.TheVariants.{Head, Count, Limit}
@@ -247,14 +248,14 @@ pub speeds_takes : (e : Env) (machines : ℕ) (p : Place) (x : List ℕ × Place
 unfolding speeds_at speeds_text
 speeds_takes e machines p x h = by (kind_of e) h
   where
-    by : (k : Kind) → (if has_speeds k then speeds_line_at machines p else Ok ([], p)) ≡ Ok x
+    by : (k : EnvKind) → (if has_speeds k then speeds_line_at machines p else Ok ([], p)) ≡ Ok x
         → Takes p (where_wanted (has_speeds k) (line_text (codes "speeds" ∷ map decimal x.0))) x.1 × HasSpeeds k machines x.0 × HasSmallMultiple x.0
-    by identical h = no_speeds_take p x (Ok ([], p)) h refl
-    by uniform h = speeds_line_takes machines p x h
-    by unrelated h = no_speeds_take p x (Ok ([], p)) h refl
-    by open_shop h = no_speeds_take p x (Ok ([], p)) h refl
-    by flow_shop h = no_speeds_take p x (Ok ([], p)) h refl
-    by job_shop h = no_speeds_take p x (Ok ([], p)) h refl
+    by Identical h = no_speeds_take p x (Ok ([], p)) h refl
+    by Uniform h = speeds_line_takes machines p x h
+    by Unrelated h = no_speeds_take p x (Ok ([], p)) h refl
+    by OpenShop h = no_speeds_take p x (Ok ([], p)) h refl
+    by FlowShop h = no_speeds_take p x (Ok ([], p)) h refl
+    by JobShop h = no_speeds_take p x (Ok ([], p)) h refl
 
 speeds_line_again : (machines at : ℕ) (speeds rest : List ℕ) → length speeds ≡ machines → All IsSpeed speeds → HasSmallMultiple speeds
     → Gets (speeds_line_at machines (record { at = at; rest = line_text (codes "speeds" ∷ map decimal speeds) ++ rest })) speeds rest
@@ -272,11 +273,11 @@ speeds_again e machines at speeds rest h k = by (kind_of e) h
     none : speeds ≡ [] → Gets {A = List ℕ} (Ok ([], record { at = at; rest = rest })) speeds rest
     none is = (at, ap (λ s. Ok (s, record { at = at; rest = rest })) (sym is))
 
-    by : (kind : Kind) → HasSpeeds kind machines speeds
+    by : (kind : EnvKind) → HasSpeeds kind machines speeds
         → Gets {A = List ℕ} (if has_speeds kind then speeds_line_at machines (record { at = at; rest = where_wanted (has_speeds kind) (line_text (codes "speeds" ∷ map decimal speeds)) ++ rest }) else Ok ([], record { at = at; rest = where_wanted (has_speeds kind) (line_text (codes "speeds" ∷ map decimal speeds)) ++ rest })) speeds rest
-    by identical h = none h
-    by uniform h = speeds_line_again machines at speeds rest h.0 h.1 k
-    by unrelated h = none h
-    by open_shop h = none h
-    by flow_shop h = none h
-    by job_shop h = none h
+    by Identical h = none h
+    by Uniform h = speeds_line_again machines at speeds rest h.0 h.1 k
+    by Unrelated h = none h
+    by OpenShop h = none h
+    by FlowShop h = none h
+    by JobShop h = none h

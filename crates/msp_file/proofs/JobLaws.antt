@@ -4,6 +4,10 @@ use Rattle.std.specs.Prelude.{ℤ, slice_index_or, nat_lt}
 use Rattle.std.specs.List.{AllByRecursion}
 use Rattle.std.proofs.lemmas.Bool.{lt-ltb, ltb-true}
 use Rattle.std.proofs.lemmas.List.{append_assoc}
+use Rattle.msp_class.specs.declared.environments.EnvKind.{EnvKind}
+use Rattle.msp_class.specs.declared.environments.EnvKind.TheVariants.{Identical, Uniform, Unrelated, OpenShop, FlowShop, JobShop}
+use Rattle.msp_class.specs.Env.{kind_of}
+use Rattle.msp_class.specs.Crit.{uses_due, uses_weight}
 use Rattle.msp_class.specs.declared.class.Class.{Class}
 use Rattle.msp_class.specs.declared.class.Env.{Env}
 use Rattle.msp_class.specs.declared.class.Times.{Times}
@@ -11,8 +15,8 @@ use Rattle.msp_class.specs.declared.class.Times.TheVariants.{General, Unit as Un
 use Rattle.msp_instance.specs.declared.Need.{Need}
 use Rattle.msp_instance.specs.declared.Job.{Job}
 use Rattle.msp_instance.specs.declared.Instance.{Instance}
-use Rattle.msp_instance.specs.Instance.{Kind, identical, uniform, unrelated, open_shop, flow_shop, job_shop, kind_of, no_need}
-use Rattle.msp_instance.specs.Conditions.{text_limits, uses_due, uses_weight, HasNeeds, HasUnitTimes, HasRelease, HasDue, HasWeight, HasCurve, IsJobOf}
+use Rattle.msp_instance.specs.Instance.{no_need}
+use Rattle.msp_instance.specs.Conditions.{text_limits, HasNeeds, HasUnitTimes, HasRelease, HasDue, HasWeight, HasCurve, IsJobOf}
 use Rattle.msp_file.specs.declared.fault.What.TheVariants as what
 use Rattle.msp_file.specs.declared.fault.FileFault.TheVariants.{Limit}
 use Rattle.msp_file.specs.declared.draft.Draft.{Draft}
@@ -79,13 +83,13 @@ keyed_weight true w h = h
 keyed_weight false w h = h
 
 -- the one time of a job is in range
-keyed_time : (t : Times) (k : Kind) (e : Env) (m : ℕ) (needs : List Need) → HasNeeds k e m (10 ^ 9) needs → IsKeyed (has_times t && has_one_time k) 1 (10 ^ 9) (time_of (has_times t && has_one_time k) needs)
-keyed_time General identical e m needs h = h.1 0 no_need (omega (arith, h.0.0))
-keyed_time General uniform e m needs h = h.1 0 no_need (omega (arith, h.0.0))
-keyed_time General unrelated e m needs h = refl
-keyed_time General open_shop e m needs h = refl
-keyed_time General flow_shop e m needs h = refl
-keyed_time General job_shop e m needs h = refl
+keyed_time : (t : Times) (k : EnvKind) (e : Env) (m : ℕ) (needs : List Need) → HasNeeds k e m (10 ^ 9) needs → IsKeyed (has_times t && has_one_time k) 1 (10 ^ 9) (time_of (has_times t && has_one_time k) needs)
+keyed_time General Identical e m needs h = h.1 0 no_need (omega (arith, h.0.0))
+keyed_time General Uniform e m needs h = h.1 0 no_need (omega (arith, h.0.0))
+keyed_time General Unrelated e m needs h = refl
+keyed_time General OpenShop e m needs h = refl
+keyed_time General FlowShop e m needs h = refl
+keyed_time General JobShop e m needs h = refl
 keyed_time UnitTimes k e m needs h = refl
 
 keys_are : (i : Instance) (j : Job) → IsJobOf text_limits i j → AreKeys i.class (keys_of i.class j)

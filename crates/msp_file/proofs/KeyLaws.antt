@@ -5,12 +5,12 @@ use Rattle.std.specs.Fmt.{signed_decimal}
 use Rattle.std.specs.List.{AllByRecursion, list_any}
 use Rattle.std.proofs.lemmas.Bool.{eqb-true, eq-eqb}
 use Rattle.std.proofs.lemmas.List.{append_assoc, append-nil, nil_from_length}
+use Rattle.msp_class.specs.Crit.{uses_due, uses_weight}
 use Rattle.msp_class.specs.Rank.{flag_number}
 use Rattle.msp_class.specs.declared.class.Class.{Class}
 use Rattle.msp_instance.specs.declared.Need.{Need}
 use Rattle.msp_instance.specs.declared.Job.{Job}
 use Rattle.msp_instance.specs.Instance.{no_need}
-use Rattle.msp_instance.specs.Conditions.{uses_due, uses_weight}
 use Rattle.msp_file.specs.declared.fault.What.TheVariants as what
 use Rattle.msp_file.specs.declared.fault.FileFault.TheVariants.{Count, Again}
 use Rattle.msp_file.specs.declared.job.Keys.{Keys}

@@ -1,5 +1,6 @@
 -- Reading lines gives faults of lines alone.
 use Rattle.std.proofs.Common.{◌≡◌, ℕ, zero, suc, ◌+◌, ◌^◌, Bool, true, false, ◌&&◌, ◌==◌, List, [], ◌∷◌, length, Option, None, Some, Result, Ok, Err, ok_or, position, bytes_eq, codes, ℤ, pos, negsuc, refl, subst, take, drop, if◌then◌else◌}
+use Rattle.msp_class.specs.declared.environments.EnvKind.{EnvKind}
 use Rattle.msp_class.specs.Env.{fixed_machines}
 use Rattle.msp_class.specs.declared.class.Class.{Class}
 use Rattle.msp_class.specs.declared.class.Env.{Env}
@@ -8,7 +9,6 @@ use Rattle.msp_class.specs.declared.class.Times.{Times}
 use Rattle.msp_class.specs.declared.class.Times.TheVariants.{General, Unit as UnitTimes}
 use Rattle.msp_instance.specs.declared.Need.{Need}
 use Rattle.msp_instance.specs.declared.Step.{Step}
-use Rattle.msp_instance.specs.Instance.{Kind}
 use Rattle.msp_name.specs.Reading.{reading_of}
 use Rattle.msp_file.specs.declared.fault.What.{What}
 use Rattle.msp_file.specs.declared.fault.FileFault.{FileFault}
@@ -115,7 +115,7 @@ unfolding times_at
 times at least needs [] = fine needs
 times at least needs (w ∷ ws) = chain _ _ (natural at _ least (10 ^ 9) w) (λ t. times at least (with_need needs (length needs) t) ws)
 
-times_line : (k : Kind) (machines : ℕ) (p : Place) → InLines (times_line_at k machines p)
+times_line : (k : EnvKind) (machines : ℕ) (p : Place) → InLines (times_line_at k machines p)
 unfolding times_line_at
 times_line k machines p = chain _ _ (worded _ p) (λ l. given _ _ _ tt (chain _ _ (times p.at _ [] l.0) (λ needs. fine _)))
 

@@ -6,14 +6,17 @@ use Rattle.std.proofs.lemmas.Bool.{eq-eqb, le-leb}
 use Rattle.std.proofs.lemmas.List.{append_assoc, append-nil, length_push, length-map, ext_get_or}
 use Rattle.std.proofs.lemmas.List.Elements.{All-nil, All-cons, All-head, All-tail, All-map}
 use Rattle.std.proofs.lemmas.List.FromFn.{length-map-range_with_len, get_or-map-range_with_len}
+use Rattle.msp_class.specs.declared.environments.EnvKind.{EnvKind}
+use Rattle.msp_class.specs.declared.environments.EnvKind.TheVariants.{Identical, Uniform, Unrelated, OpenShop, FlowShop, JobShop}
+use Rattle.msp_class.specs.Env.{kind_of, most_operations}
 use Rattle.msp_class.specs.declared.class.Class.{Class}
 use Rattle.msp_class.specs.declared.class.Env.{Env}
 use Rattle.msp_class.specs.declared.class.Env.TheVariants.{J2Short, JShort}
 use Rattle.msp_class.specs.declared.class.Times.{Times}
 use Rattle.msp_class.specs.declared.class.Times.TheVariants.{General, Unit as UnitTimes}
 use Rattle.msp_instance.specs.declared.Need.{Need}
-use Rattle.msp_instance.specs.Instance.{Kind, identical, uniform, unrelated, open_shop, flow_shop, job_shop, kind_of, no_need}
-use Rattle.msp_instance.specs.Conditions.{most_operations, IsSingleNeed, IsNeedPerMachine, IsRoute, HasTimes, HasNeeds, HasUnitTimes}
+use Rattle.msp_instance.specs.Instance.{no_need}
+use Rattle.msp_instance.specs.Conditions.{IsSingleNeed, IsNeedPerMachine, IsRoute, HasTimes, HasNeeds, HasUnitTimes}
 use Rattle.msp_file.specs.declared.fault.What.TheVariants as what
 use Rattle.msp_file.specs.declared.fault.FileFault.{FileFault}
 use Rattle.msp_file.specs.declared.fault.FileFault.TheVariants.{Count, Limit}
@@ -70,7 +73,7 @@ times_again at least needs (n ∷ more) numbered h =
     ∙ times_again at least (needs ++ n ∷ []) more next (All-tail (IsWithin least) n more h)
     ∙ ap Ok (append_assoc needs (n ∷ []) more))
 
-pub times_line_takes : (k : Kind) (machines : ℕ) (p : Place) (x : List Need × Place) → times_line_at k machines p ≡ Ok x → Takes p (line_text (times_fields x.0)) x.1
+pub times_line_takes : (k : EnvKind) (machines : ℕ) (p : Place) (x : List Need × Place) → times_line_at k machines p ≡ Ok x → Takes p (line_text (times_fields x.0)) x.1
 unfolding times_line_at
 times_line_takes k machines p x e =
     let a = bind_ok (worded_at (codes "times") p) _ x e in
@@ -87,7 +90,7 @@ decimals_fields f (x ∷ xs) h = (natural_field (f x) (All-head (λ y. f y ≤ 1
 pub word_field : (letters : List ℕ) → list_any (λ x. x == 32) letters ≡ false → list_any (λ x. x == 10) letters ≡ false → IsField letters
 word_field letters s l = record { no_space = s; no_line_feed = l }
 
-pub times_line_again : (k : Kind) (machines at : ℕ) (needs : List Need) (rest : List ℕ) → IsNeedPerMachine machines needs → HasTimes (least_time k) (10 ^ 9) needs → Gets (times_line_at k machines (record { at = at; rest = line_text (times_fields needs) ++ rest })) needs rest
+pub times_line_again : (k : EnvKind) (machines at : ℕ) (needs : List Need) (rest : List ℕ) → IsNeedPerMachine machines needs → HasTimes (least_time k) (10 ^ 9) needs → Gets (times_line_at k machines (record { at = at; rest = line_text (times_fields needs) ++ rest })) needs rest
 unfolding times_line_at
 times_line_again k machines at needs rest each h =
     let fields : AllByRecursion IsField (times_fields needs) = (word_field (codes "times") refl refl, decimals_fields (λ n. n.time) needs (λ q d l. (h q d l).1)) in
@@ -230,38 +233,38 @@ route_line_again c machines at needs rest few route h unit =
 -- ---- all operations
 
 -- The lines of the operations, in a class of these times on machines of this kind.
-abbrev pub needs_text : Times → Kind → List Need → List ℕ
+abbrev pub needs_text : Times → EnvKind → List Need → List ℕ
 needs_text t k needs = where_wanted (has_times t && has_machine_times k) (line_text (times_fields needs)) ++ where_wanted (has_route k) (line_text (route_fields t needs))
 
 -- The reading of them.
-abbrev needs_by : Class → Times → Kind → ℕ → ℕ → Place → Result (List Need × Place) FileFault
+abbrev needs_by : Class → Times → EnvKind → ℕ → ℕ → Place → Result (List Need × Place) FileFault
 needs_by c t k machines time p =
     if has_times t && has_machine_times k
     then times_line_at k machines p
     else (if has_route k then route_line_at c machines p else Ok (unwritten_needs k machines time, p))
 
 -- What reading alone says of the operations.
-pub record AreReadNeeds (t : Times) (k : Kind) (time : ℕ) (p : Place) (needs : List Need) (q : Place) : Type 0 where
+pub record AreReadNeeds (t : Times) (k : EnvKind) (time : ℕ) (p : Place) (needs : List Need) (q : Place) : Type 0 where
   pub text : Takes p (needs_text t k needs) q
   pub times : HasUnitTimes t needs
   pub keyed : (has_times t && has_one_time k) ≡ true → (slice_index_or needs 0 no_need).time ≡ time
 
 -- what a line with a text reads, and what no line writes
-by_text : (t : Times) (k : Kind) (time : ℕ) (p : Place) (x : List Need × Place) (text : List ℕ) → needs_text t k x.0 ≡ text → Takes p text x.1 → HasUnitTimes t x.0
+by_text : (t : Times) (k : EnvKind) (time : ℕ) (p : Place) (x : List Need × Place) (text : List ℕ) → needs_text t k x.0 ≡ text → Takes p text x.1 → HasUnitTimes t x.0
     → ((has_times t && has_one_time k) ≡ true → (slice_index_or x.0 0 no_need).time ≡ time) → AreReadNeeds t k time p x.0 x.1
 by_text t k time p x text e h unit keyed = record { text = subst (λ w. Takes p w x.1) (sym e) h; times = unit; keyed = keyed }
 
-by_none : (t : Times) (k : Kind) (time : ℕ) (p : Place) (needs : List Need) (x : List Need × Place) → needs_text t k needs ≡ [] → HasUnitTimes t needs
+by_none : (t : Times) (k : EnvKind) (time : ℕ) (p : Place) (needs : List Need) (x : List Need × Place) → needs_text t k needs ≡ [] → HasUnitTimes t needs
     → ((has_times t && has_one_time k) ≡ true → (slice_index_or needs 0 no_need).time ≡ time) → reads (needs, p) ≡ Ok x → AreReadNeeds t k time p x.0 x.1
 by_none t k time p needs x e unit keyed h = subst (λ (y : List Need × Place). AreReadNeeds t k time p y.0 y.1) (ok_is (needs, p) x h) (by_text t k time p (needs, p) [] e refl unit keyed)
 
-by_times : (k : Kind) (machines time : ℕ) (p : Place) (x : List Need × Place) → needs_text General k x.0 ≡ line_text (times_fields x.0) → (has_one_time k ≡ true → ⊥) → times_line_at k machines p ≡ Ok x → AreReadNeeds General k time p x.0 x.1
+by_times : (k : EnvKind) (machines time : ℕ) (p : Place) (x : List Need × Place) → needs_text General k x.0 ≡ line_text (times_fields x.0) → (has_one_time k ≡ true → ⊥) → times_line_at k machines p ≡ Ok x → AreReadNeeds General k time p x.0 x.1
 by_times k machines time p x e many h = by_text General k time p x (line_text (times_fields x.0)) e (times_line_takes k machines p x h) tt (λ one. absurd (many one))
 
-by_route : (c : Class) (t : Times) (machines time : ℕ) (p : Place) (x : List Need × Place) → machines ≤ 32 → c.times ≡ t → needs_text t job_shop x.0 ≡ line_text (route_fields t x.0) → ((has_times t && false) ≡ true → ⊥) → route_line_at c machines p ≡ Ok x → AreReadNeeds t job_shop time p x.0 x.1
+by_route : (c : Class) (t : Times) (machines time : ℕ) (p : Place) (x : List Need × Place) → machines ≤ 32 → c.times ≡ t → needs_text t JobShop x.0 ≡ line_text (route_fields t x.0) → ((has_times t && false) ≡ true → ⊥) → route_line_at c machines p ≡ Ok x → AreReadNeeds t JobShop time p x.0 x.1
 by_route c t machines time p x few same e many h =
     let r = subst (λ u. Takes p (line_text (route_fields u x.0)) x.1 × HasUnitTimes u x.0) same (route_line_takes c machines p x few h) in
-    by_text t job_shop time p x (line_text (route_fields t x.0)) e r.0 r.1 (λ one. absurd (many one))
+    by_text t JobShop time p x (line_text (route_fields t x.0)) e r.0 r.1 (λ one. absurd (many one))
 
 -- one operation of time 1 on each machine
 abbrev unit_on : ℕ → Need
@@ -281,19 +284,19 @@ units_are machines needs each unit =
     same : (k : ℕ) → k < length needs → unit_on k ≡ get_or needs k no_need
     same k l = need_is (get_or needs k no_need) k 1 (each.1 k l) (unit k no_need l)
 
-needs_by_takes : (c : Class) (t : Times) (k : Kind) (machines time : ℕ) (p : Place) (x : List Need × Place) → machines ≤ 32 → c.times ≡ t → IsKeyed (has_times t && has_one_time k) 1 (10 ^ 9) time → needs_by c t k machines time p ≡ Ok x → AreReadNeeds t k time p x.0 x.1
-needs_by_takes c General identical machines time p x few same h e = by_none General identical time p (with_need [] 0 time) x refl tt (λ k. refl) e
-needs_by_takes c General uniform machines time p x few same h e = by_none General uniform time p (with_need [] 0 time) x refl tt (λ k. refl) e
-needs_by_takes c General unrelated machines time p x few same h e = by_times unrelated machines time p x (append-nil _) (λ k. absurd cc) e
-needs_by_takes c General open_shop machines time p x few same h e = by_times open_shop machines time p x (append-nil _) (λ k. absurd cc) e
-needs_by_takes c General flow_shop machines time p x few same h e = by_times flow_shop machines time p x (append-nil _) (λ k. absurd cc) e
-needs_by_takes c General job_shop machines time p x few same h e = by_route c General machines time p x few same refl (λ k. absurd cc) e
-needs_by_takes c UnitTimes identical machines time p x few same h e = by_none UnitTimes identical time p (with_need [] 0 time) x refl (All-cons IsUnit _ [] h (All-nil IsUnit)) (λ k. refl) e
-needs_by_takes c UnitTimes uniform machines time p x few same h e = by_none UnitTimes uniform time p (with_need [] 0 time) x refl (All-cons IsUnit _ [] h (All-nil IsUnit)) (λ k. refl) e
-needs_by_takes c UnitTimes unrelated machines time p x few same h e = by_none UnitTimes unrelated time p (units machines) x refl (units_take machines) (λ k. absurd cc) e
-needs_by_takes c UnitTimes open_shop machines time p x few same h e = by_none UnitTimes open_shop time p (units machines) x refl (units_take machines) (λ k. absurd cc) e
-needs_by_takes c UnitTimes flow_shop machines time p x few same h e = by_none UnitTimes flow_shop time p (units machines) x refl (units_take machines) (λ k. absurd cc) e
-needs_by_takes c UnitTimes job_shop machines time p x few same h e = by_route c UnitTimes machines time p x few same refl (λ k. absurd cc) e
+needs_by_takes : (c : Class) (t : Times) (k : EnvKind) (machines time : ℕ) (p : Place) (x : List Need × Place) → machines ≤ 32 → c.times ≡ t → IsKeyed (has_times t && has_one_time k) 1 (10 ^ 9) time → needs_by c t k machines time p ≡ Ok x → AreReadNeeds t k time p x.0 x.1
+needs_by_takes c General Identical machines time p x few same h e = by_none General Identical time p (with_need [] 0 time) x refl tt (λ k. refl) e
+needs_by_takes c General Uniform machines time p x few same h e = by_none General Uniform time p (with_need [] 0 time) x refl tt (λ k. refl) e
+needs_by_takes c General Unrelated machines time p x few same h e = by_times Unrelated machines time p x (append-nil _) (λ k. absurd cc) e
+needs_by_takes c General OpenShop machines time p x few same h e = by_times OpenShop machines time p x (append-nil _) (λ k. absurd cc) e
+needs_by_takes c General FlowShop machines time p x few same h e = by_times FlowShop machines time p x (append-nil _) (λ k. absurd cc) e
+needs_by_takes c General JobShop machines time p x few same h e = by_route c General machines time p x few same refl (λ k. absurd cc) e
+needs_by_takes c UnitTimes Identical machines time p x few same h e = by_none UnitTimes Identical time p (with_need [] 0 time) x refl (All-cons IsUnit _ [] h (All-nil IsUnit)) (λ k. refl) e
+needs_by_takes c UnitTimes Uniform machines time p x few same h e = by_none UnitTimes Uniform time p (with_need [] 0 time) x refl (All-cons IsUnit _ [] h (All-nil IsUnit)) (λ k. refl) e
+needs_by_takes c UnitTimes Unrelated machines time p x few same h e = by_none UnitTimes Unrelated time p (units machines) x refl (units_take machines) (λ k. absurd cc) e
+needs_by_takes c UnitTimes OpenShop machines time p x few same h e = by_none UnitTimes OpenShop time p (units machines) x refl (units_take machines) (λ k. absurd cc) e
+needs_by_takes c UnitTimes FlowShop machines time p x few same h e = by_none UnitTimes FlowShop time p (units machines) x refl (units_take machines) (λ k. absurd cc) e
+needs_by_takes c UnitTimes JobShop machines time p x few same h e = by_route c UnitTimes machines time p x few same refl (λ k. absurd cc) e
 
 pub needs_takes : (c : Class) (machines time : ℕ) (p : Place) (x : List Need × Place) → machines ≤ 32 → IsKeyed (has_time_key c) 1 (10 ^ 9) time → needs_at c machines time p ≡ Ok x → AreReadNeeds c.times (kind_of c.env) time p x.0 x.1
 unfolding needs_at
@@ -312,28 +315,28 @@ one_again time at (n ∷ m ∷ more) rest single e = absurd (omega (arith, singl
 moved : {A : Type 0} (read : Place → Result (A × Place) FileFault) (at : ℕ) (x : A) (a b rest : List ℕ) → a ≡ b → Gets (read (record { at = at; rest = b ++ rest })) x rest → Gets (read (record { at = at; rest = a ++ rest })) x rest
 moved read at x a b rest e h = rw e h
 
-times_by_again : (k : Kind) (machines at : ℕ) (needs : List Need) (rest : List ℕ) → needs_text General k needs ≡ line_text (times_fields needs) → IsNeedPerMachine machines needs → HasTimes (least_time k) (10 ^ 9) needs → Gets (times_line_at k machines (record { at = at; rest = needs_text General k needs ++ rest })) needs rest
+times_by_again : (k : EnvKind) (machines at : ℕ) (needs : List Need) (rest : List ℕ) → needs_text General k needs ≡ line_text (times_fields needs) → IsNeedPerMachine machines needs → HasTimes (least_time k) (10 ^ 9) needs → Gets (times_line_at k machines (record { at = at; rest = needs_text General k needs ++ rest })) needs rest
 times_by_again k machines at needs rest e each h = moved (times_line_at k machines) at needs _ _ rest e (times_line_again k machines at needs rest each h)
 
-route_by_again : (c : Class) (t : Times) (machines at : ℕ) (needs : List Need) (rest : List ℕ) → machines ≤ 32 → c.times ≡ t → needs_text t job_shop needs ≡ line_text (route_fields t needs) → IsRoute (most_operations c.env) machines needs → HasTimes 1 (10 ^ 9) needs → HasUnitTimes t needs
-    → Gets (route_line_at c machines (record { at = at; rest = needs_text t job_shop needs ++ rest })) needs rest
+route_by_again : (c : Class) (t : Times) (machines at : ℕ) (needs : List Need) (rest : List ℕ) → machines ≤ 32 → c.times ≡ t → needs_text t JobShop needs ≡ line_text (route_fields t needs) → IsRoute (most_operations c.env) machines needs → HasTimes 1 (10 ^ 9) needs → HasUnitTimes t needs
+    → Gets (route_line_at c machines (record { at = at; rest = needs_text t JobShop needs ++ rest })) needs rest
 route_by_again c t machines at needs rest few same e route h unit =
     moved (route_line_at c machines) at needs _ _ rest (e ∙ ap (λ u. line_text (route_fields u needs)) (sym same)) (route_line_again c machines at needs rest few route h (subst (λ u. HasUnitTimes u needs) (sym same) unit))
 
-needs_by_again : (c : Class) (t : Times) (k : Kind) (machines at : ℕ) (needs : List Need) (rest : List ℕ) → machines ≤ 32 → c.times ≡ t → HasNeeds k c.env machines (10 ^ 9) needs → HasUnitTimes t needs
+needs_by_again : (c : Class) (t : Times) (k : EnvKind) (machines at : ℕ) (needs : List Need) (rest : List ℕ) → machines ≤ 32 → c.times ≡ t → HasNeeds k c.env machines (10 ^ 9) needs → HasUnitTimes t needs
     → Gets (needs_by c t k machines (time_of (has_times t && has_one_time k) needs) (record { at = at; rest = needs_text t k needs ++ rest })) needs rest
-needs_by_again c General identical machines at needs rest few same h unit = one_again _ at needs rest h.0 (λ n e. ap (λ ns. (slice_index_or ns 0 no_need).time) e)
-needs_by_again c General uniform machines at needs rest few same h unit = one_again _ at needs rest h.0 (λ n e. ap (λ ns. (slice_index_or ns 0 no_need).time) e)
-needs_by_again c General unrelated machines at needs rest few same h unit = times_by_again unrelated machines at needs rest (append-nil _) h.0 h.1
-needs_by_again c General open_shop machines at needs rest few same h unit = times_by_again open_shop machines at needs rest (append-nil _) h.0 h.1
-needs_by_again c General flow_shop machines at needs rest few same h unit = times_by_again flow_shop machines at needs rest (append-nil _) h.0 h.1
-needs_by_again c General job_shop machines at needs rest few same h unit = route_by_again c General machines at needs rest few same refl h.0 h.1 unit
-needs_by_again c UnitTimes identical machines at needs rest few same h unit = one_again 1 at needs rest h.0 (λ n e. sym (All-head IsUnit n [] (subst (All IsUnit) e unit)))
-needs_by_again c UnitTimes uniform machines at needs rest few same h unit = one_again 1 at needs rest h.0 (λ n e. sym (All-head IsUnit n [] (subst (All IsUnit) e unit)))
-needs_by_again c UnitTimes unrelated machines at needs rest few same h unit = (at, ap (λ xs. reads (xs, record { at = at; rest = rest })) (units_are machines needs h.0 unit))
-needs_by_again c UnitTimes open_shop machines at needs rest few same h unit = (at, ap (λ xs. reads (xs, record { at = at; rest = rest })) (units_are machines needs h.0 unit))
-needs_by_again c UnitTimes flow_shop machines at needs rest few same h unit = (at, ap (λ xs. reads (xs, record { at = at; rest = rest })) (units_are machines needs h.0 unit))
-needs_by_again c UnitTimes job_shop machines at needs rest few same h unit = route_by_again c UnitTimes machines at needs rest few same refl h.0 h.1 unit
+needs_by_again c General Identical machines at needs rest few same h unit = one_again _ at needs rest h.0 (λ n e. ap (λ ns. (slice_index_or ns 0 no_need).time) e)
+needs_by_again c General Uniform machines at needs rest few same h unit = one_again _ at needs rest h.0 (λ n e. ap (λ ns. (slice_index_or ns 0 no_need).time) e)
+needs_by_again c General Unrelated machines at needs rest few same h unit = times_by_again Unrelated machines at needs rest (append-nil _) h.0 h.1
+needs_by_again c General OpenShop machines at needs rest few same h unit = times_by_again OpenShop machines at needs rest (append-nil _) h.0 h.1
+needs_by_again c General FlowShop machines at needs rest few same h unit = times_by_again FlowShop machines at needs rest (append-nil _) h.0 h.1
+needs_by_again c General JobShop machines at needs rest few same h unit = route_by_again c General machines at needs rest few same refl h.0 h.1 unit
+needs_by_again c UnitTimes Identical machines at needs rest few same h unit = one_again 1 at needs rest h.0 (λ n e. sym (All-head IsUnit n [] (subst (All IsUnit) e unit)))
+needs_by_again c UnitTimes Uniform machines at needs rest few same h unit = one_again 1 at needs rest h.0 (λ n e. sym (All-head IsUnit n [] (subst (All IsUnit) e unit)))
+needs_by_again c UnitTimes Unrelated machines at needs rest few same h unit = (at, ap (λ xs. reads (xs, record { at = at; rest = rest })) (units_are machines needs h.0 unit))
+needs_by_again c UnitTimes OpenShop machines at needs rest few same h unit = (at, ap (λ xs. reads (xs, record { at = at; rest = rest })) (units_are machines needs h.0 unit))
+needs_by_again c UnitTimes FlowShop machines at needs rest few same h unit = (at, ap (λ xs. reads (xs, record { at = at; rest = rest })) (units_are machines needs h.0 unit))
+needs_by_again c UnitTimes JobShop machines at needs rest few same h unit = route_by_again c UnitTimes machines at needs rest few same refl h.0 h.1 unit
 
 pub needs_again : (c : Class) (machines at : ℕ) (needs : List Need) (rest : List ℕ) → machines ≤ 32 → HasNeeds (kind_of c.env) c.env machines (10 ^ 9) needs → HasUnitTimes c.times needs
     → Gets (needs_at c machines (time_of (has_time_key c) needs) (record { at = at; rest = needs_text c.times (kind_of c.env) needs ++ rest })) needs rest

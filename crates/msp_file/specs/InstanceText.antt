@@ -4,7 +4,10 @@ use Rattle.std.specs.Prelude.{◌≡◌, ℕ, ◌+◌, Bool, true, false, ◌&&�
 use Rattle.std.specs.Option.{is_none}
 use Rattle.std.specs.Fmt.{signed_decimal}
 use Rattle.std.specs.List.{flat_map, join_with_byte}
-use Rattle.msp_class.specs.Env.{fixed_machines}
+use Rattle.msp_class.specs.declared.environments.EnvKind.{EnvKind}
+use Rattle.msp_class.specs.declared.environments.EnvKind.TheVariants.{Identical, Uniform, Unrelated, OpenShop, FlowShop, JobShop}
+use Rattle.msp_class.specs.Crit.{uses_due, uses_weight}
+use Rattle.msp_class.specs.Env.{fixed_machines, kind_of}
 use Rattle.msp_class.specs.declared.class.Class.{Class}
 use Rattle.msp_class.specs.declared.class.Env.{Env}
 use Rattle.msp_class.specs.declared.class.Times.{Times}
@@ -20,8 +23,8 @@ use Rattle.msp_instance.specs.declared.Curve.{Curve}
 use Rattle.msp_instance.specs.declared.Job.{Job}
 use Rattle.msp_instance.specs.declared.Arc.{Arc}
 use Rattle.msp_instance.specs.declared.Instance.{Instance}
-use Rattle.msp_instance.specs.Instance.{Kind, identical, uniform, unrelated, open_shop, flow_shop, job_shop, kind_of, no_need}
-use Rattle.msp_instance.specs.Conditions.{uses_due, uses_weight, InClass}
+use Rattle.msp_instance.specs.Instance.{no_need}
+use Rattle.msp_instance.specs.Conditions.{InClass}
 use Rattle.msp_file.specs.JobName.{IsJobName, AreDistinct}
 use Rattle.msp_file.specs.ScheduleText.{line_feed, name_at}
 
@@ -40,23 +43,23 @@ has_times General = true
 has_times UnitTimes = false
 
 -- Whether a job has one time, one for each machine, or a route.
-abbrev pub has_one_time : Kind → Bool
-has_one_time identical = true
-has_one_time uniform = true
+abbrev pub has_one_time : EnvKind → Bool
+has_one_time Identical = true
+has_one_time Uniform = true
 has_one_time _ = false
 
-abbrev pub has_machine_times : Kind → Bool
-has_machine_times unrelated = true
-has_machine_times open_shop = true
-has_machine_times flow_shop = true
+abbrev pub has_machine_times : EnvKind → Bool
+has_machine_times Unrelated = true
+has_machine_times OpenShop = true
+has_machine_times FlowShop = true
 has_machine_times _ = false
 
-abbrev pub has_route : Kind → Bool
-has_route job_shop = true
+abbrev pub has_route : EnvKind → Bool
+has_route JobShop = true
 has_route _ = false
 
-abbrev pub has_speeds : Kind → Bool
-has_speeds uniform = true
+abbrev pub has_speeds : EnvKind → Bool
+has_speeds Uniform = true
 has_speeds _ = false
 
 abbrev pub has_curve : Crit → Bool

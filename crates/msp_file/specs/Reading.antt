@@ -1,7 +1,10 @@
 -- How the text of an instance is read: line by line, and in a line from left to right, up to the first fault.
 use Rattle.std.specs.Prelude.{ℕ, zero, suc, ◌+◌, ◌-◌, ◌*◌, ◌/◌, ◌%◌, ◌^◌, Bool, true, false, ◌&&◌, not, ◌==◌, nat_le, nat_lt, if◌then◌else◌, List, [], ◌∷◌, ◌++◌, length, take, drop, map, Some, None, Result, Ok, Err, ok_or, position, codes, bytes_eq, ℤ, pos, negsuc, unsigned_abs}
 use Rattle.std.specs.List.{slice_split, list_all, list_any, range_with_len}
-use Rattle.msp_class.specs.Env.{fixed_machines}
+use Rattle.msp_class.specs.declared.environments.EnvKind.{EnvKind}
+use Rattle.msp_class.specs.declared.environments.EnvKind.TheVariants.{Identical, Uniform, Unrelated, OpenShop, FlowShop, JobShop}
+use Rattle.msp_class.specs.Crit.{uses_due, uses_weight}
+use Rattle.msp_class.specs.Env.{fixed_machines, kind_of, most_operations}
 use Rattle.msp_class.specs.Rank.{flag_number}
 use Rattle.msp_class.specs.declared.class.Class.{Class}
 use Rattle.msp_class.specs.declared.class.Env.{Env}
@@ -14,8 +17,7 @@ use Rattle.msp_instance.specs.declared.Step.{Step}
 use Rattle.msp_instance.specs.declared.Curve.{Curve}
 use Rattle.msp_instance.specs.declared.Job.{Job}
 use Rattle.msp_instance.specs.declared.Arc.{Arc}
-use Rattle.msp_instance.specs.Instance.{Kind, identical, uniform, unrelated, open_shop, flow_shop, job_shop, kind_of, no_curve}
-use Rattle.msp_instance.specs.Conditions.{uses_due, uses_weight, most_operations}
+use Rattle.msp_instance.specs.Instance.{no_curve}
 use Rattle.msp_file.specs.declared.fault.What.{What}
 use Rattle.msp_file.specs.declared.fault.What.TheVariants as what
 use Rattle.msp_file.specs.declared.fault.FileFault.{FileFault}
@@ -145,13 +147,13 @@ job_line_at c at names fields =
 
 -- ---- the operations of a job
 
-abbrev pub least_time : Kind → ℕ
-least_time identical = 1
-least_time uniform = 1
-least_time unrelated = 1
-least_time open_shop = 0
-least_time flow_shop = 0
-least_time job_shop = 1
+abbrev pub least_time : EnvKind → ℕ
+least_time Identical = 1
+least_time Uniform = 1
+least_time Unrelated = 1
+least_time OpenShop = 0
+least_time FlowShop = 0
+least_time JobShop = 1
 
 -- The needs with one more at the end.
 abbrev pub with_need : List Need → ℕ → ℕ → List Need
@@ -164,7 +166,7 @@ times_at at least needs (w ∷ ws) = do
   t ← natural_at at what.Time least (10 ^ 9) w
   times_at at least (with_need needs (length needs) t) ws
 
-unfoldable pub times_line_at : Kind → ℕ → Place → Result (List Need × Place) FileFault
+unfoldable pub times_line_at : EnvKind → ℕ → Place → Result (List Need × Place) FileFault
 times_line_at k machines p = do
   l ← worded_at (codes "times") p
   provided (length l.0 == machines) (Count p.at) (do
@@ -220,7 +222,7 @@ route_line_at c machines p = do
         Ok (needs, l.1)))
 
 -- The needs that no line writes: one with the time of the key, and in other classes of unit times one for each machine.
-abbrev pub unwritten_needs : Kind → ℕ → ℕ → List Need
+abbrev pub unwritten_needs : EnvKind → ℕ → ℕ → List Need
 unwritten_needs k machines time =
     if has_one_time k
     then with_need [] 0 time

@@ -1,5 +1,5 @@
 ghost use Rattle.std.specs.Prelude.{◌≡◌, ◌+◌, ◌++◌, ◌∷◌, ◌<◌, ◌≤◌, ◌^◌, [], ℕ, List as Items, length, All, IfOk, OnOk, MatchResult};
-ghost use Rattle.msp_instance.specs.Instance.{kind_of};
+ghost use Rattle.msp_class.specs.Env.{kind_of};
 ghost use Rattle.msp_file.specs.InstanceText.{has_speeds};
 ghost use Rattle.msp_file.specs.Reading.{fields_of, version_at, class_in, class_at, machines_line_at, machines_at, have_multiple, speeds_in, speeds_line_at, speeds_at};
 ghost use Rattle.msp_file.specs.Steps.{Fails, Gives, Leads, Moves, place_of, fields_after};

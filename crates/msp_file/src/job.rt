@@ -1,8 +1,8 @@
 ghost use Rattle.std.specs.Prelude.{◌≡◌, All, IsTrue, ◌+◌, ◌<◌, ◌≤◌, ◌^◌, length, true, false, bytes_eq, IfOk};
 ghost use Rattle.std.specs.List.{list_any};
 ghost use Rattle.msp_class.specs.Rank.{flag_number};
-ghost use Rattle.msp_instance.specs.Instance.{kind_of};
-ghost use Rattle.msp_instance.specs.Conditions.{uses_due, uses_weight};
+ghost use Rattle.msp_class.specs.Env.{kind_of};
+ghost use Rattle.msp_class.specs.Crit.{uses_due, uses_weight};
 ghost use Rattle.msp_file.specs.InstanceText.{has_times, has_one_time, has_machine_times, has_route, has_time_key, has_times_line};
 ghost use Rattle.msp_file.specs.JobName.{is_name_byte};
 ghost use Rattle.msp_file.specs.Reading.{is_name_text, job_name_at, known_at, keyed_at, natural_key_at, integer_key_at, keys_at, count_of_keys, job_line_at};

@@ -1,8 +1,8 @@
 ghost use Rattle.std.specs.Prelude.{◌≡◌, ◌+◌, ◌<◌, ◌≤◌, ◌^◌, [], length, map, IfOk, OnOk, MatchResult};
 ghost use Rattle.msp_file.specs.Reading.{natural_at, machine_at, with_need, times_at, timed_route_at, unit_route_at, operations_at};
 ghost use Rattle.std.specs.List.{range_with_len};
-ghost use Rattle.msp_instance.specs.Instance.{kind_of};
-ghost use Rattle.msp_instance.specs.Conditions.{most_operations};
+ghost use Rattle.msp_class.specs.Env.{kind_of};
+ghost use Rattle.msp_class.specs.Env.{most_operations};
 ghost use Rattle.msp_file.specs.InstanceText.{has_one_time, has_machine_times, has_route, has_times_line};
 ghost use Rattle.msp_file.specs.Reading.{least_time, operations_in, fields_in, is_route_count, times_line_at, route_line_at, unwritten_needs, needs_at};
 ghost use Rattle.msp_file.specs.Steps.{Gives, Leads, Moves, place_of, fields_after};

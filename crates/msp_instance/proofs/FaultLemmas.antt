@@ -2,11 +2,12 @@
 use Rattle.std.proofs.Common.{◌≡◌, ◌≢◌, ℕ, ◌<◌, ◌⊎◌, inl, inr, [], ◌∷◌, length, get_or, take, All, AllPairs, refl, sym, ◌∙◌, subst, arith}
 use Rattle.std.proofs.lemmas.List.{get_or_default, get_or-take, length-take}
 use Rattle.std.proofs.lemmas.Bool.{cases_lt}
+use Rattle.msp_class.specs.Env.{kind_of}
 use Rattle.msp_instance.specs.declared.Arc.{Arc}
 use Rattle.msp_instance.specs.declared.Instance.{Instance}
 use Rattle.msp_instance.specs.declared.membership.ClassFault.{ClassFault}
 use Rattle.msp_instance.specs.declared.membership.ClassFault.TheVariants.{Jobs, Machines, Speeds, Multiple, Need as NeedFault, Unit as UnitFault, Head, Due, Weight, Curve as CurveFault, Arcs, Arc as ArcFault, Degree}
-use Rattle.msp_instance.specs.Instance.{kind_of, no_job}
+use Rattle.msp_instance.specs.Instance.{no_job}
 use Rattle.msp_instance.specs.Conditions.{text_limits, HasMachines, HasSpeeds, HasSmallMultiple, MeetsConditions}
 use Rattle.msp_instance.specs.Faults.{arc_at, HasJobs, HasArc, Condition, IsOf, Turn, turn_of, IsSooner, IsFirstFault}
 

@@ -1,21 +1,22 @@
 -- What it means that an instance belongs to its class.
 use Rattle.std.specs.Prelude.{◌≡◌, ◌≢◌, ℕ, ◌*◌, ◌^◌, ◌<◌, ◌≤◌, Bool, true, false, List, [], length, slice_index_or, slice_get, ℤ, pos, neg_ℤ, ◌-ℤ◌, ◌≤ℤ◌, Some, All, AllPairs, Any, Contains, EachIndex, MatchOption, ⊤, count_by, ◌==◌}
 use Rattle.std.specs.List.{AllAdjacentBelow}
-use Rattle.msp_class.specs.Env.{fixed_machines}
+use Rattle.msp_class.specs.declared.environments.EnvKind.{EnvKind}
+use Rattle.msp_class.specs.declared.environments.EnvKind.TheVariants.{Identical, Uniform, Unrelated, OpenShop, FlowShop, JobShop}
+use Rattle.msp_class.specs.Crit.{uses_due, uses_weight, uses_curve}
+use Rattle.msp_class.specs.Env.{kind_of, fixed_machines, most_operations}
 use Rattle.msp_class.specs.declared.class.Env.{Env}
-use Rattle.msp_class.specs.declared.class.Env.TheVariants.{J2Short, JShort}
 use Rattle.msp_class.specs.declared.class.Order.{Order}
 use Rattle.msp_class.specs.declared.class.Order.TheVariants.{Free, Chains, Intree, Outtree, Prec}
 use Rattle.msp_class.specs.declared.class.Times.{Times}
-use Rattle.msp_class.specs.declared.class.Times.TheVariants.{General, Unit as UnitTimes}
-use Rattle.msp_class.specs.declared.class.Crit.{Crit}
-use Rattle.msp_class.specs.declared.class.Crit.TheVariants.{Cmax, Lmax, Fmax, SumC, SumWC, SumU, SumWU, SumT, SumWT}
+use Rattle.msp_class.specs.declared.class.Times.TheVariants.{General, Unit as UnitTimes, Equal}
 use Rattle.msp_instance.specs.declared.Need.{Need}
 use Rattle.msp_instance.specs.declared.Curve.{Curve}
 use Rattle.msp_instance.specs.declared.Job.{Job}
 use Rattle.msp_instance.specs.declared.Arc.{Arc}
 use Rattle.msp_instance.specs.declared.Instance.{Instance}
-use Rattle.msp_instance.specs.Instance.{Kind, identical, uniform, unrelated, open_shop, flow_shop, job_shop, kind_of, no_need, no_curve, job_at}
+use Rattle.msp_instance.specs.declared.ranges.TheConstants.{MOST_JOBS, MOST_MACHINES, MOST_ARCS, MOST_STEPS, GREATEST, GREATEST_SPEED, GREATEST_MULTIPLE, GREATEST_EQUAL_TIME}
+use Rattle.msp_instance.specs.Instance.{no_need, no_curve, job_at, common_time}
 
 -- How large the numbers of an instance may be: times, thresholds and adds; release dates; due dates and bases, in size.
 pub record Limits : Type 0 where
@@ -25,43 +26,20 @@ pub record Limits : Type 0 where
 
 -- The limits of instance texts.
 abbrev pub text_limits : Limits
-text_limits = record { greatest_time = 10 ^ 9; greatest_release = 10 ^ 9; greatest_date = 10 ^ 9 }
+text_limits = record { greatest_time = GREATEST; greatest_release = GREATEST; greatest_date = GREATEST }
 
 -- The factor by which carried instances on unrelated machines may be larger: the greatest common multiple of speeds.
-abbrev pub inner_factor : Kind → ℕ
-inner_factor identical = 1
-inner_factor uniform = 1
-inner_factor unrelated = 2 ^ 30
-inner_factor open_shop = 1
-inner_factor flow_shop = 1
-inner_factor job_shop = 1
+abbrev pub inner_factor : EnvKind → ℕ
+inner_factor Identical = 1
+inner_factor Uniform = 1
+inner_factor Unrelated = GREATEST_MULTIPLE
+inner_factor OpenShop = 1
+inner_factor FlowShop = 1
+inner_factor JobShop = 1
 
 -- The limits that carried instances keep.
-abbrev pub inner_limits : Kind → Limits
-inner_limits k = record { greatest_time = 10 ^ 9 * inner_factor k; greatest_release = 2 * 10 ^ 9 * inner_factor k; greatest_date = 2 * 10 ^ 9 * inner_factor k }
-
--- Whether the criterion uses due dates, and whether it uses weights.
-abbrev pub uses_due : Crit → Bool
-uses_due Cmax = false
-uses_due Lmax = true
-uses_due Fmax = false
-uses_due SumC = false
-uses_due SumWC = false
-uses_due SumU = true
-uses_due SumWU = true
-uses_due SumT = true
-uses_due SumWT = true
-
-abbrev pub uses_weight : Crit → Bool
-uses_weight Cmax = false
-uses_weight Lmax = false
-uses_weight Fmax = false
-uses_weight SumC = false
-uses_weight SumWC = true
-uses_weight SumU = false
-uses_weight SumWU = true
-uses_weight SumT = false
-uses_weight SumWT = true
+abbrev pub inner_limits : EnvKind → Limits
+inner_limits k = record { greatest_time = GREATEST * inner_factor k; greatest_release = 2 * GREATEST * inner_factor k; greatest_date = 2 * GREATEST * inner_factor k }
 
 -- The number lies between -limit and limit.
 abbrev pub LiesWithin : ℕ → ℤ → Type 0
@@ -69,26 +47,20 @@ LiesWithin limit x = (neg_ℤ (pos limit) ≤ℤ x) × (x ≤ℤ pos limit)
 
 -- The number of machines is the one that the environment fixes, and from 1 to 32.
 abbrev pub HasMachines : Instance → Type 0
-HasMachines i = (1 ≤ i.machines) × (i.machines ≤ 32) × MatchOption (fixed_machines i.class.env) ⊤ (λ m. i.machines ≡ m)
+HasMachines i = (1 ≤ i.machines) × (i.machines ≤ MOST_MACHINES) × MatchOption (fixed_machines i.class.env) ⊤ (λ m. i.machines ≡ m)
 
 -- Uniform machines have a speed each, from 1 to 1,000,000. Other machines have none.
-abbrev pub HasSpeeds : Kind → ℕ → List ℕ → Type 0
-HasSpeeds identical m speeds = speeds ≡ []
-HasSpeeds uniform m speeds = (length speeds ≡ m) × All (λ s. (1 ≤ s) × (s ≤ 10 ^ 6)) speeds
-HasSpeeds unrelated m speeds = speeds ≡ []
-HasSpeeds open_shop m speeds = speeds ≡ []
-HasSpeeds flow_shop m speeds = speeds ≡ []
-HasSpeeds job_shop m speeds = speeds ≡ []
+abbrev pub HasSpeeds : EnvKind → ℕ → List ℕ → Type 0
+HasSpeeds Identical m speeds = speeds ≡ []
+HasSpeeds Uniform m speeds = (length speeds ≡ m) × All (λ s. (1 ≤ s) × (s ≤ GREATEST_SPEED)) speeds
+HasSpeeds Unrelated m speeds = speeds ≡ []
+HasSpeeds OpenShop m speeds = speeds ≡ []
+HasSpeeds FlowShop m speeds = speeds ≡ []
+HasSpeeds JobShop m speeds = speeds ≡ []
 
--- Some number from 1 to 2 ^ 30 is a multiple of all speeds: their least common multiple is at most 2 ^ 30.
+-- Some number from 1 to the greatest multiple, 2 ^ 30, is a multiple of all speeds: their least common multiple is at most that.
 abbrev pub HasSmallMultiple : List ℕ → Type 0
-HasSmallMultiple speeds = (multiple : ℕ) × (1 ≤ multiple) × (multiple ≤ 2 ^ 30) × All (λ s. (times : ℕ) × (multiple ≡ times * s)) speeds
-
--- The most operations of a route.
-abbrev pub most_operations : Env → ℕ
-most_operations J2Short = 2
-most_operations JShort = 2
-most_operations _ = 32
+HasSmallMultiple speeds = (multiple : ℕ) × (1 ≤ multiple) × (multiple ≤ GREATEST_MULTIPLE) × All (λ s. (times : ℕ) × (multiple ≡ times * s)) speeds
 
 -- One need, on machine 0.
 abbrev pub IsSingleNeed : List Need → Type 0
@@ -105,23 +77,50 @@ pub record IsRoute (most m : ℕ) (needs : List Need) : Type 0 where
   pub machines : All (λ n. n.machine < m) needs
   pub moves : AllAdjacentBelow (λ a b. a.machine ≢ b.machine) needs (length needs)
 
+-- The least time: 0 on open and flow shops, but 1 where all times are equal.
+abbrev pub least_shop_time : Times → ℕ
+least_shop_time General = 0
+least_shop_time UnitTimes = 0
+least_shop_time Equal = 1
+
+abbrev pub least_time : EnvKind → Times → ℕ
+least_time Identical t = 1
+least_time Uniform t = 1
+least_time Unrelated t = 1
+least_time OpenShop t = least_shop_time t
+least_time FlowShop t = least_shop_time t
+least_time JobShop t = 1
+
+-- The greatest time, which has a limit of its own where all times are equal.
+abbrev pub greatest_time : Limits → Times → ℕ
+greatest_time l General = l.greatest_time
+greatest_time l UnitTimes = l.greatest_time
+greatest_time l Equal = GREATEST_EQUAL_TIME
+
+-- The machines of a job's needs are those of its environment.
+abbrev pub HasShape : EnvKind → Env → ℕ → List Need → Type 0
+HasShape Identical e m needs = IsSingleNeed needs
+HasShape Uniform e m needs = IsSingleNeed needs
+HasShape Unrelated e m needs = IsNeedPerMachine m needs
+HasShape OpenShop e m needs = IsNeedPerMachine m needs
+HasShape FlowShop e m needs = IsNeedPerMachine m needs
+HasShape JobShop e m needs = IsRoute (most_operations e) m needs
+
 -- Every time is from the least to the greatest one.
 abbrev pub HasTimes : ℕ → ℕ → List Need → Type 0
 HasTimes least greatest needs = All (λ n. (least ≤ n.time) × (n.time ≤ greatest)) needs
 
--- The needs of a job are those of its environment, with times in range. On open and flow shops a time may be 0, but not all of them.
-abbrev pub HasNeeds : Kind → Env → ℕ → ℕ → List Need → Type 0
-HasNeeds identical e m greatest needs = IsSingleNeed needs × HasTimes 1 greatest needs
-HasNeeds uniform e m greatest needs = IsSingleNeed needs × HasTimes 1 greatest needs
-HasNeeds unrelated e m greatest needs = IsNeedPerMachine m needs × HasTimes 1 greatest needs
-HasNeeds open_shop e m greatest needs = IsNeedPerMachine m needs × HasTimes 0 greatest needs × Any (λ n. 1 ≤ n.time) needs
-HasNeeds flow_shop e m greatest needs = IsNeedPerMachine m needs × HasTimes 0 greatest needs × Any (λ n. 1 ≤ n.time) needs
-HasNeeds job_shop e m greatest needs = IsRoute (most_operations e) m needs × HasTimes 1 greatest needs
+-- The needs of a job are those of its environment, with times in range, and some time is not 0.
+pub record HasNeeds (l : Limits) (i : Instance) (needs : List Need) : Type 0 where
+  pub shape : HasShape (kind_of i.class.env) i.class.env i.machines needs
+  pub times : HasTimes (least_time (kind_of i.class.env) i.class.times) (greatest_time l i.class.times) needs
+  pub some : Any (λ n. 1 ≤ n.time) needs
 
--- With unit times every time is 1.
-abbrev pub HasUnitTimes : Times → List Need → Type 0
-HasUnitTimes General needs = ⊤
-HasUnitTimes UnitTimes needs = All (λ n. n.time ≡ 1) needs
+-- With unit times every time is 1, and with equal times it is the one that all operations share.
+abbrev pub HasSameTimes : Times → ℕ → List Need → Type 0
+HasSameTimes General shared needs = ⊤
+HasSameTimes UnitTimes shared needs = All (λ n. n.time ≡ 1) needs
+HasSameTimes Equal shared needs = All (λ n. n.time ≡ shared) needs
 
 -- A release date in range, and 0 in a class without release dates.
 abbrev pub HasRelease : Limits → Bool → ℕ → Type 0
@@ -135,44 +134,37 @@ HasDue l false d = d ≡ pos 0
 
 -- A weight from 1 to 1,000,000,000, and 1 where the criterion uses none.
 abbrev pub HasWeight : Bool → ℕ → Type 0
-HasWeight true w = (1 ≤ w) × (w ≤ 10 ^ 9)
+HasWeight true w = (1 ≤ w) × (w ≤ GREATEST)
 HasWeight false w = w ≡ 1
 
 -- A cost curve in range, with at most 16 steps.
 pub record IsCurve (l : Limits) (c : Curve) : Type 0 where
-  pub slope : c.slope ≤ 10 ^ 9
+  pub slope : c.slope ≤ GREATEST
   pub base : LiesWithin l.greatest_date c.base
-  pub few : length c.steps ≤ 16
+  pub few : length c.steps ≤ MOST_STEPS
   pub steps : All (λ s. (s.above ≤ l.greatest_time) × (s.add ≤ l.greatest_time)) c.steps
 
--- A cost curve for the greatest curve cost, and none elsewhere.
-abbrev pub HasCurve : Limits → Crit → Curve → Type 0
-HasCurve l Cmax c = c ≡ no_curve
-HasCurve l Lmax c = c ≡ no_curve
-HasCurve l Fmax c = IsCurve l c
-HasCurve l SumC c = c ≡ no_curve
-HasCurve l SumWC c = c ≡ no_curve
-HasCurve l SumU c = c ≡ no_curve
-HasCurve l SumWU c = c ≡ no_curve
-HasCurve l SumT c = c ≡ no_curve
-HasCurve l SumWT c = c ≡ no_curve
+-- A cost curve in range, and none where the criterion uses none.
+abbrev pub HasCurve : Limits → Bool → Curve → Type 0
+HasCurve l true c = IsCurve l c
+HasCurve l false c = c ≡ no_curve
 
 -- A job belongs to the class of its instance.
 pub record IsJobOf (l : Limits) (i : Instance) (j : Job) : Type 0 where
-  pub needs : HasNeeds (kind_of i.class.env) i.class.env i.machines l.greatest_time j.needs
-  pub times : HasUnitTimes i.class.times j.needs
+  pub needs : HasNeeds l i j.needs
+  pub times : HasSameTimes i.class.times (common_time i) j.needs
   pub release : HasRelease l i.class.heads j.release
   pub due : HasDue l (uses_due i.class.crit) j.due
   pub weight : HasWeight (uses_weight i.class.crit) j.weight
-  pub curve : HasCurve l i.class.crit j.curve
+  pub curve : HasCurve l (uses_curve i.class.crit) j.curve
 
 -- A class without precedence has no arcs.
 abbrev pub HasArcs : Order → List Arc → Type 0
 HasArcs Free arcs = arcs ≡ []
-HasArcs Chains arcs = length arcs ≤ 20000
-HasArcs Intree arcs = length arcs ≤ 20000
-HasArcs Outtree arcs = length arcs ≤ 20000
-HasArcs Prec arcs = length arcs ≤ 20000
+HasArcs Chains arcs = length arcs ≤ MOST_ARCS
+HasArcs Intree arcs = length arcs ≤ MOST_ARCS
+HasArcs Outtree arcs = length arcs ≤ MOST_ARCS
+HasArcs Prec arcs = length arcs ≤ MOST_ARCS
 
 -- How many arcs leave a job, and how many enter it.
 abbrev pub leaving : List Arc → ℕ → ℕ
@@ -192,7 +184,7 @@ HasDegree Prec arcs j = ⊤
 -- The conditions of a class on an instance, but for cycles.
 pub record MeetsConditions (l : Limits) (i : Instance) : Type 0 where
   pub some : 1 ≤ length i.jobs
-  pub few : length i.jobs ≤ 400
+  pub few : length i.jobs ≤ MOST_JOBS
   pub machines : HasMachines i
   pub speeds : HasSpeeds (kind_of i.class.env) i.machines i.speeds
   pub multiple : HasSmallMultiple i.speeds
@@ -227,5 +219,5 @@ HasNearDues width i = (j k : ℕ) → j < length i.jobs → k < length i.jobs �
 -- The instance belongs to its class, within the limits that carried instances keep.
 pub record Inner (i : Instance) : Type 0 where
   pub conditions : MeetsConditions (inner_limits (kind_of i.class.env)) i
-  pub dues : HasNearDues (2 * 10 ^ 9 * inner_factor (kind_of i.class.env)) i
+  pub dues : HasNearDues (2 * GREATEST * inner_factor (kind_of i.class.env)) i
   pub acyclic : IsAcyclic i

@@ -1,11 +1,14 @@
 -- Which condition of its class an instance breaks first.
 use Rattle.std.specs.Prelude.{⊤, ◌≡◌, ◌≢◌, ℕ, ◌<◌, ◌≤◌, ◌⊎◌, length, slice_index_or, All, take}
+use Rattle.msp_class.specs.Env.{kind_of}
+use Rattle.msp_class.specs.Crit.{uses_due, uses_weight, uses_curve}
+use Rattle.msp_instance.specs.declared.ranges.TheConstants.{MOST_JOBS}
 use Rattle.msp_instance.specs.declared.Arc.{Arc}
 use Rattle.msp_instance.specs.declared.Instance.{Instance}
 use Rattle.msp_instance.specs.declared.membership.ClassFault.{ClassFault}
 use Rattle.msp_instance.specs.declared.membership.ClassFault.TheVariants.{Jobs, Machines, Speeds, Multiple, Need as NeedFault, Unit as UnitFault, Head, Due, Weight, Curve as CurveFault, Arcs, Arc as ArcFault, Degree}
-use Rattle.msp_instance.specs.Instance.{kind_of, job_at}
-use Rattle.msp_instance.specs.Conditions.{text_limits, uses_due, uses_weight, HasMachines, HasSpeeds, HasSmallMultiple, HasNeeds, HasUnitTimes, HasRelease, HasDue, HasWeight, HasCurve, HasArcs, HasDegree, IsJobOf}
+use Rattle.msp_instance.specs.Instance.{job_at, common_time}
+use Rattle.msp_instance.specs.Conditions.{text_limits, HasMachines, HasSpeeds, HasSmallMultiple, HasNeeds, HasSameTimes, HasRelease, HasDue, HasWeight, HasCurve, HasArcs, HasDegree, IsJobOf}
 
 -- The arc of a number, from 0.
 abbrev pub arc_at : Instance → ℕ → Arc
@@ -13,7 +16,7 @@ arc_at i at = slice_index_or i.arcs at (record { before = 0; after = 0 })
 
 -- There are from 1 to 400 jobs.
 abbrev pub HasJobs : Instance → Type 0
-HasJobs i = (1 ≤ length i.jobs) × (length i.jobs ≤ 400)
+HasJobs i = (1 ≤ length i.jobs) × (length i.jobs ≤ MOST_JOBS)
 
 -- Both ends of the arc are jobs, and no earlier arc is the same.
 abbrev pub HasArc : Instance → ℕ → Type 0
@@ -25,12 +28,12 @@ Condition i Jobs = HasJobs i
 Condition i Machines = HasMachines i
 Condition i Speeds = HasSpeeds (kind_of i.class.env) i.machines i.speeds
 Condition i Multiple = HasSmallMultiple i.speeds
-Condition i (NeedFault j) = HasNeeds (kind_of i.class.env) i.class.env i.machines text_limits.greatest_time (job_at i j).needs
-Condition i (UnitFault j) = HasUnitTimes i.class.times (job_at i j).needs
+Condition i (NeedFault j) = HasNeeds text_limits i (job_at i j).needs
+Condition i (UnitFault j) = HasSameTimes i.class.times (common_time i) (job_at i j).needs
 Condition i (Head j) = HasRelease text_limits i.class.heads (job_at i j).release
 Condition i (Due j) = HasDue text_limits (uses_due i.class.crit) (job_at i j).due
 Condition i (Weight j) = HasWeight (uses_weight i.class.crit) (job_at i j).weight
-Condition i (CurveFault j) = HasCurve text_limits i.class.crit (job_at i j).curve
+Condition i (CurveFault j) = HasCurve text_limits (uses_curve i.class.crit) (job_at i j).curve
 Condition i Arcs = HasArcs i.class.order i.arcs
 Condition i (ArcFault at) = HasArc i at
 Condition i (Degree j) = HasDegree i.class.order i.arcs j

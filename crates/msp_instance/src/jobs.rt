@@ -1,11 +1,17 @@
+// The conditions of a class on one job.
 ghost use Rattle.std.specs.Prelude.{◌≡◌, ◌≢◌, ℕ, ◌+◌, ◌<◌, ◌≤◌, ◌^◌, ◌↔◌, length, IsTrue, All, Any, EachIndex, slice_index_or};
 ghost use Rattle.std.specs.List.{AllAdjacentBelow};
-ghost use Rattle.msp_instance.specs.Instance.{kind_of, no_need, no_curve};
-ghost use Rattle.msp_instance.specs.Conditions.{text_limits, most_operations, uses_due, uses_weight, LiesWithin, IsSingleNeed, IsNeedPerMachine, IsRoute, HasTimes, HasNeeds, HasUnitTimes, HasRelease, HasDue, HasWeight, IsCurve, HasCurve};
+ghost use Rattle.msp_class.specs.Env.{kind_of};
+ghost use Rattle.msp_instance.specs.Instance.{no_need, no_curve};
+ghost use Rattle.msp_class.specs.Env.{most_operations};
+ghost use Rattle.msp_class.specs.Crit.{uses_due, uses_weight, uses_curve};
+ghost use Rattle.msp_instance.specs.Conditions.{text_limits, LiesWithin, IsSingleNeed, IsNeedPerMachine, IsRoute, HasShape, least_time, greatest_time, HasTimes, HasNeeds, HasSameTimes, HasRelease, HasDue, HasWeight, IsCurve, HasCurve};
 
-use crate::ranges::{GREATEST, MOST_OPERATIONS, MOST_STEPS};
-use crate::{Curve, Need, Step};
-use msp_class::{Crit, Env, Times};
+use crate::ranges::{GREATEST, GREATEST_EQUAL_TIME, MOST_STEPS};
+use crate::{Curve, Instance, Need, Step};
+use msp_class::{
+    Crit, Env, EnvKind, Times, env_kind, most_operations, uses_curve, uses_due, uses_weight,
+};
 
 fn is_single_need(needs: &[Need]) -> bool
     ensures { IsTrue result ↔ IsSingleNeed needs.now }
@@ -49,20 +55,30 @@ fn is_route(most: usize, machines: u32, needs: &[Need]) -> bool
         && moves_on(needs)
 }
 
-/// The most operations of a route.
-fn most_operations(env: Env) -> usize
-    ensures { result ≡ most_operations env }
+/// The least time of an operation.
+fn least_time(kind: EnvKind, times: Times) -> u64
+    ensures { result ≡ least_time kind times }
 {
-    match env {
-        Env::J2Short | Env::JShort => 2,
-        _ => MOST_OPERATIONS,
+    match (kind, times) {
+        (EnvKind::OpenShop | EnvKind::FlowShop, Times::General | Times::Unit) => 0,
+        _ => 1,
     }
 }
 
-fn has_times(least: u64, needs: &[Need]) -> bool
-    ensures { IsTrue result ↔ HasTimes least (10 ^ 9) needs.now }
+/// The greatest time of an operation in instance texts.
+fn greatest_time(times: Times) -> u64
+    ensures { result ≡ greatest_time text_limits times }
 {
-    needs.iter().all(|n| least <= n.time && n.time <= GREATEST)
+    match times {
+        Times::General | Times::Unit => GREATEST,
+        Times::Equal => GREATEST_EQUAL_TIME,
+    }
+}
+
+fn has_times(least: u64, greatest: u64, needs: &[Need]) -> bool
+    ensures { IsTrue result ↔ HasTimes least greatest needs.now }
+{
+    needs.iter().all(|n| least <= n.time && n.time <= greatest)
 }
 
 fn takes_time(needs: &[Need]) -> bool
@@ -71,30 +87,38 @@ fn takes_time(needs: &[Need]) -> bool
     needs.iter().any(|n| 1 <= n.time)
 }
 
-/// Whether the needs are those of the environment, with times in range.
-pub(crate) fn has_needs(env: Env, machines: u32, needs: &[Need]) -> bool
-    ensures { IsTrue result ↔ HasNeeds (kind_of env) env machines (10 ^ 9) needs.now }
+/// Whether the machines of the needs are those of the environment.
+fn has_shape(env: Env, machines: u32, needs: &[Need]) -> bool
+    ensures { IsTrue result ↔ HasShape (kind_of env) env machines needs.now }
 {
-    match env {
-        Env::One | Env::P2 | Env::P3 | Env::P | Env::Q2 | Env::Q => {
-            is_single_need(needs) && has_times(1, needs)
+    match env_kind(env) {
+        EnvKind::Identical | EnvKind::Uniform => is_single_need(needs),
+        EnvKind::Unrelated | EnvKind::OpenShop | EnvKind::FlowShop => {
+            is_need_per_machine(machines, needs)
         }
-        Env::R2 | Env::R => is_need_per_machine(machines, needs) && has_times(1, needs),
-        Env::O2 | Env::O3 | Env::O | Env::F2 | Env::F3 | Env::F => {
-            is_need_per_machine(machines, needs) && has_times(0, needs) && takes_time(needs)
-        }
-        Env::J2Short | Env::JShort | Env::J2 | Env::J => {
-            is_route(most_operations(env), machines, needs) && has_times(1, needs)
-        }
+        EnvKind::JobShop => is_route(most_operations(env), machines, needs),
     }
 }
 
-pub(crate) fn has_unit_times(times: Times, needs: &[Need]) -> bool
-    ensures { IsTrue result ↔ HasUnitTimes times needs.now }
+/// Whether the needs are those of the environment, with times in range.
+pub(crate) fn has_needs(inst: &Instance, needs: &[Need]) -> bool
+    ensures { IsTrue result ↔ HasNeeds text_limits inst.now needs.now }
+{
+    let class = inst.class;
+    let least = least_time(env_kind(class.env), class.times);
+    has_shape(class.env, inst.machines, needs)
+        && has_times(least, greatest_time(class.times), needs)
+        && takes_time(needs)
+}
+
+/// Whether every time is the one that the class asks for: 1, or the one that all operations share.
+pub(crate) fn has_same_times(times: Times, shared: u64, needs: &[Need]) -> bool
+    ensures { IsTrue result ↔ HasSameTimes times shared needs.now }
 {
     match times {
         Times::General => true,
         Times::Unit => needs.iter().all(|n| n.time == 1),
+        Times::Equal => needs.iter().all(|n| n.time == shared),
     }
 }
 
@@ -109,7 +133,7 @@ pub(crate) fn has_release(heads: bool, release: u64) -> bool
 }
 
 fn lies_within(x: i64) -> bool
-    ensures { IsTrue result ↔ LiesWithin (10 ^ 9) x }
+    ensures { IsTrue result ↔ LiesWithin GREATEST x }
 {
     -(GREATEST as i64) <= x && x <= GREATEST as i64
 }
@@ -117,24 +141,26 @@ fn lies_within(x: i64) -> bool
 pub(crate) fn has_due(crit: Crit, due: i64) -> bool
     ensures { IsTrue result ↔ HasDue text_limits (uses_due crit) due }
 {
-    match crit {
-        Crit::Lmax | Crit::SumU | Crit::SumWU | Crit::SumT | Crit::SumWT => lies_within(due),
-        Crit::Cmax | Crit::Fmax | Crit::SumC | Crit::SumWC => due == 0,
+    if uses_due(crit) {
+        lies_within(due)
+    } else {
+        due == 0
     }
 }
 
 pub(crate) fn has_weight(crit: Crit, weight: u64) -> bool
     ensures { IsTrue result ↔ HasWeight (uses_weight crit) weight }
 {
-    match crit {
-        Crit::SumWC | Crit::SumWU | Crit::SumWT => 1 <= weight && weight <= GREATEST,
-        Crit::Cmax | Crit::Lmax | Crit::Fmax | Crit::SumC | Crit::SumU | Crit::SumT => weight == 1,
+    if uses_weight(crit) {
+        1 <= weight && weight <= GREATEST
+    } else {
+        weight == 1
     }
 }
 
 fn has_steps(steps: &[Step]) -> bool
     ensures { IsTrue result
-        ↔ All (λ s. (s.above ≤ 10 ^ 9) × (s.add ≤ 10 ^ 9)) steps.now }
+        ↔ All (λ s. (s.above ≤ GREATEST) × (s.add ≤ GREATEST)) steps.now }
 {
     steps
         .iter()
@@ -157,17 +183,11 @@ fn is_no_curve(curve: &Curve) -> bool
 }
 
 pub(crate) fn has_curve(crit: Crit, curve: &Curve) -> bool
-    ensures { IsTrue result ↔ HasCurve text_limits crit curve.now }
+    ensures { IsTrue result ↔ HasCurve text_limits (uses_curve crit) curve.now }
 {
-    match crit {
-        Crit::Fmax => is_curve(curve),
-        Crit::Cmax
-        | Crit::Lmax
-        | Crit::SumC
-        | Crit::SumWC
-        | Crit::SumU
-        | Crit::SumWU
-        | Crit::SumT
-        | Crit::SumWT => is_no_curve(curve),
+    if uses_curve(crit) {
+        is_curve(curve)
+    } else {
+        is_no_curve(curve)
     }
 }

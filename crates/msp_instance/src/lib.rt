@@ -16,8 +16,8 @@ mod tests;
 pub use membership::{ClassFault, check};
 use msp_class::{Class, List};
 pub use ranges::{
-    GREATEST, GREATEST_MULTIPLE, GREATEST_SPEED, MOST_ARCS, MOST_JOBS, MOST_MACHINES,
-    MOST_OPERATIONS, MOST_STEPS,
+    GREATEST, GREATEST_EQUAL_TIME, GREATEST_MULTIPLE, GREATEST_SPEED, MOST_ARCS, MOST_JOBS,
+    MOST_MACHINES, MOST_STEPS,
 };
 pub use sequence::{OrderFault, forward};
 pub use speeds::has_small_multiple;

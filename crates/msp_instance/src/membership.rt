@@ -1,12 +1,13 @@
+// The test whether an instance belongs to its class.
 ghost use Rattle.std.specs.Prelude.{◌≡◌, ◌≢◌, ℕ, ◌<◌, ◌≤◌, ◌^◌, ◌↔◌, length, IsTrue, IsOk, OnOk, IfErr, All, AllPairs, take, slice_index_or};
-ghost use Rattle.msp_instance.specs.Instance.{job_at};
+ghost use Rattle.msp_instance.specs.Instance.{job_at, no_need, common_time};
 ghost use Rattle.msp_instance.specs.Conditions.{text_limits, HasMachines, HasArcs, leaving, entering, HasDegree, IsJobOf, MeetsConditions};
 ghost use Rattle.msp_instance.specs.Faults.{HasJobs, HasArc, HasFrame, HasJobsBefore, HasAllJobs, IsFirstFault};
 
-use crate::jobs::{has_curve, has_due, has_needs, has_release, has_unit_times, has_weight};
+use crate::jobs::{has_curve, has_due, has_needs, has_release, has_same_times, has_weight};
 use crate::ranges::{MOST_ARCS, MOST_JOBS, MOST_MACHINES};
 use crate::speeds::{has_small_multiple, has_speeds};
-use crate::{Arc, Instance};
+use crate::{Arc, Instance, Need};
 use msp_class::{Order, fixed_machines};
 
 /// The first condition of its class that an instance breaks. Jobs and arcs are numbered from 0.
@@ -22,7 +23,7 @@ pub enum ClassFault {
     Multiple,
     /// The job's needs are not those of the environment, or a time is out of range.
     Need { job: u32 },
-    /// A time of the job is not 1, in a class of unit times.
+    /// A time of the job is not 1, in a class of unit times, or not that of the first job's first need, in one of equal times.
     Unit { job: u32 },
     /// The release date is out of range, or not 0 in a class without release dates.
     Head { job: u32 },
@@ -76,6 +77,26 @@ fn check_frame(inst: &Instance) -> Result<(), ClassFault>
     Ok(())
 }
 
+/// The time of the first need, if there is one.
+fn first_time(needs: &[Need]) -> u64
+    ensures { result ≡ (slice_index_or needs.now 0 no_need).time }
+{
+    match needs.first() {
+        Some(need) => need.time,
+        None => 0,
+    }
+}
+
+/// The time that all operations share in a class of equal times: that of the first job's first need.
+fn common_time(inst: &Instance) -> u64
+    ensures { result ≡ common_time inst.now }
+{
+    match inst.jobs.as_slice().first() {
+        Some(job) => first_time(job.needs.as_slice()),
+        None => 0,
+    }
+}
+
 fn check_job(inst: &Instance, job: u32) -> Result<(), ClassFault>
     requires frame { HasFrame inst.now }
     requires before { HasJobsBefore inst.now job }
@@ -86,10 +107,10 @@ fn check_job(inst: &Instance, job: u32) -> Result<(), ClassFault>
     let class = inst.class;
     let data = &inst.jobs.as_slice()[job as usize];
     let needs = data.needs.as_slice();
-    if !has_needs(class.env, inst.machines, needs) {
+    if !has_needs(inst, needs) {
         return Err(ClassFault::Need { job });
     }
-    if !has_unit_times(class.times, needs) {
+    if !has_same_times(class.times, common_time(inst), needs) {
         return Err(ClassFault::Unit { job });
     }
     if !has_release(class.heads, data.release) {

@@ -1,10 +1,11 @@
+// The conditions of a class on speeds.
 ghost use Rattle.std.specs.Prelude.{◌≡◌, ℕ, ◌*◌, ◌<◌, ◌≤◌, ◌^◌, ◌↔◌, IsTrue, All};
-ghost use Rattle.msp_instance.specs.Instance.{kind_of};
+ghost use Rattle.msp_class.specs.Env.{kind_of};
 ghost use Rattle.msp_instance.specs.Conditions.{HasSpeeds, HasSmallMultiple};
 ghost use Rattle.msp_instance.specs.Multiples.{IsGreatestDivisor, IsLeastMultiple};
 
 use crate::ranges::{GREATEST_MULTIPLE, GREATEST_SPEED};
-use msp_class::Env;
+use msp_class::{Env, EnvKind, env_kind};
 
 /// The greatest common divisor (Euclid).
 fn gcd(a: u64, b: u64) -> u64
@@ -34,27 +35,16 @@ fn common_multiple(a: u64, b: u64) -> u64
 pub(crate) fn has_speeds(env: Env, machines: u32, speeds: &[u64]) -> bool
     ensures { IsTrue result ↔ HasSpeeds (kind_of env) machines speeds.now }
 {
-    match env {
-        Env::Q2 | Env::Q => {
+    match env_kind(env) {
+        EnvKind::Uniform => {
             speeds.len() == machines as usize
                 && speeds.iter().all(|s| 1 <= *s && *s <= GREATEST_SPEED)
         }
-        Env::One
-        | Env::P2
-        | Env::P3
-        | Env::P
-        | Env::R2
-        | Env::R
-        | Env::O2
-        | Env::O3
-        | Env::O
-        | Env::F2
-        | Env::F3
-        | Env::F
-        | Env::J2Short
-        | Env::JShort
-        | Env::J2
-        | Env::J => speeds.is_empty(),
+        EnvKind::Identical
+        | EnvKind::Unrelated
+        | EnvKind::OpenShop
+        | EnvKind::FlowShop
+        | EnvKind::JobShop => speeds.is_empty(),
     }
 }
 

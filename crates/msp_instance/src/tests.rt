@@ -1,3 +1,4 @@
+// Instances of the classes, and the conditions that they break.
 use crate::{Arc, ClassFault, Curve, Instance, Job, Need, OrderFault, check, forward};
 use msp_class::{Class, Crit, Env, List, Order, Times};
 use std::alloc::{AllocError, Global};

@@ -7,15 +7,17 @@ use Rattle.std.proofs.lemmas.Int.{ints, clamps}
 use Rattle.std.proofs.lemmas.List.{take_all}
 use Rattle.std.proofs.lemmas.List.Elements.{All-head, All-tail, All-filter, filter_passes}
 use Rattle.std.proofs.lemmas.List.Sums.{fold_more, sum_by-cons}
+use Rattle.msp_class.specs.declared.environments.EnvKind.{EnvKind}
+use Rattle.msp_class.specs.declared.environments.EnvKind.TheVariants.{Identical}
 use Rattle.msp_class.specs.declared.class.Env.TheVariants.{One}
 use Rattle.msp_class.specs.declared.class.Crit.{Crit}
 use Rattle.msp_class.specs.declared.class.Crit.TheVariants.{SumWC}
-use Rattle.msp_class.specs.Env.{fixed_machines}
+use Rattle.msp_class.specs.Env.{fixed_machines, kind_of}
 use Rattle.msp_class.proofs.IntegerRing.{natural, pos-same}
 use Rattle.msp_schedule.proofs.Intervals.{IsApart, size_of, work_of, last_of, greatest_by}
 use Rattle.msp_class.proofs.Sums.{total_below, int_total_below, int_total_below-same, int_total_below-natural}
 use Rattle.msp_instance.specs.declared.Instance.{Instance}
-use Rattle.msp_instance.specs.Instance.{Kind, identical, kind_of, no_job, job_at, need_at}
+use Rattle.msp_instance.specs.Instance.{no_job, job_at, need_at}
 use Rattle.msp_instance.specs.Conditions.{Limits, MeetsConditions}
 use Rattle.msp_schedule.specs.declared.Piece.{Piece}
 use Rattle.msp_schedule.specs.declared.Schedule.{Schedule}
@@ -105,7 +107,7 @@ total_lengths xs h = fold-lengths 0 xs h ∙ ap pos (zero-add (sum_by (size_of s
 
 -- ---- the one machine
 pub record IsOneMachine (i : Instance) : Type 0 where
-  pub kind : kind_of i.class.env ≡ identical
+  pub kind : kind_of i.class.env ≡ Identical
   pub one : i.machines ≡ 1
 
 pub IsOneMachine-from_env : (l : Limits) (i : Instance) → i.class.env ≡ One → MeetsConditions l i → IsOneMachine i
@@ -146,10 +148,10 @@ module _ (i : Instance) (m : IsOneMachine i) (s : Schedule) (f : Feasible i s) w
     timed_mine : All IsTimed mine
     timed_mine = All-filter (λ p. eqb p.job j) IsTimed s.pieces timed_pieces
 
-    abbrev Gets : Kind → Type 0
+    abbrev Gets : EnvKind → Type 0
     Gets x = MatchBool i.class.cut (total (map (part_of x i) (pieces_of s j 0)) ≡ s.unit *ℤ pos (whole_work x i j 0)) ((p : Piece) × (pieces_of s j 0 ≡ p ∷ []) × IsWholeWork x i s.unit p)
 
-    gets : Gets identical
+    gets : Gets Identical
     gets = subst Gets m.kind (f.work j 0 small (subst (λ x. HasOperation x i j 0) (sym m.kind) refl))
 
     -- the whole of job j in parts of the unit

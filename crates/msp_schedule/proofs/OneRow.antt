@@ -7,10 +7,13 @@ use Rattle.std.proofs.lemmas.Nat.Gcd.{dvd_antisymm, dvd_refl}
 use Rattle.std.proofs.Math.Nat.{one-dvd, dvd-mul_left, eq-one_of_dvd-one}
 use Rattle.msp_class.proofs.IntegerRing.{natural, *ℤ-one}
 use Rattle.std.proofs.lemmas.List.Elements.{All-nil, All-cons}
+use Rattle.msp_class.specs.declared.environments.EnvKind.{EnvKind}
+use Rattle.msp_class.specs.declared.environments.EnvKind.TheVariants.{Identical, Unrelated}
+use Rattle.msp_class.specs.Env.{kind_of}
 use Rattle.msp_class.proofs.Sums.{sum_by-mono, sum_by-constant, OnceBelow, OnceBelow-distinct, OnceBelow-contains, length-OnceBelow}
 use Rattle.msp_schedule.proofs.Rows.{row, Makes, begin_in, end_in, end_in-begin, length-row, row-All, row-to, row-in_order, row-positive, row-filter}
 use Rattle.msp_instance.specs.declared.Instance.{Instance}
-use Rattle.msp_instance.specs.Instance.{Kind, identical, unrelated, kind_of, job_at, need_at}
+use Rattle.msp_instance.specs.Instance.{job_at, need_at}
 use Rattle.msp_schedule.specs.declared.Piece.{Piece}
 use Rattle.msp_schedule.specs.declared.Schedule.{Schedule}
 use Rattle.msp_schedule.specs.declared.Frac.{Frac}
@@ -102,18 +105,18 @@ module _ (i : Instance) (order : List ℕ) (o : OnceBelow (length i.jobs) order)
           by : (a b p : ℕ) → b ≡ a + p → (pos b -ℤ pos a) ≡ pos 1 *ℤ pos p
           by a b p e = omega (arith, ints)
 
-      abbrev Gets : Kind → ℕ → Bool → Type 0
+      abbrev Gets : EnvKind → ℕ → Bool → Type 0
       Gets x n b = MatchBool b (total (map (part_of x i) (pieces_of (row_schedule i order) j n)) ≡ pos 1 *ℤ pos (whole_work x i j n)) ((p : Piece) × (pieces_of (row_schedule i order) j n ≡ p ∷ []) × IsWholeWork x i (pos 1) p)
 
-      gets_work : (b : Bool) → Gets identical 0 b
+      gets_work : (b : Bool) → Gets Identical 0 b
       gets_work true = ap (λ l. total (map length_of l)) one_piece ∙ omega (arith, ints, lasts)
       gets_work false = (piece j begin end, one_piece, lasts)
 
       works : (n : ℕ) → HasOperation (kind_of i.class.env) i j n → GetsWork i (row_schedule i order) j n
       works n h =
           let zero_op : n ≡ 0 = subst (λ x. HasOperation x i j n) m.kind h in
-          let P : ℕ → Type 0 = λ z. Gets identical z i.class.cut in
-          let Q : Kind → Type 0 = λ x. Gets x n i.class.cut in
+          let P : ℕ → Type 0 = λ z. Gets Identical z i.class.cut in
+          let Q : EnvKind → Type 0 = λ x. Gets x n i.class.cut in
           subst Q (sym m.kind) (subst P (sym zero_op) (gets_work i.class.cut))
 
     pub row_is_feasible : Feasible i (row_schedule i order)
@@ -149,7 +152,7 @@ module _ (i : Instance) (order : List ℕ) (o : OnceBelow (length i.jobs) order)
         let each = sum_by-mono (time_at i) (λ _. 1000000000) order (λ k d l. short (get_or order k d) (o.within k d l)) in
         omega (arith, each, sum_by-constant 1000000000 order, length-OnceBelow o)
 
-    pub row_is_within : kind_of i.class.env ≡ identical → Within i (row_schedule i order)
+    pub row_is_within : kind_of i.class.env ≡ Identical → Within i (row_schedule i order)
     row_is_within e = record {
       unit = (omega (arith, ints), omega (arith, ints));
       few = omega (arith, length-row piece (time_at i) 0 order, length-OnceBelow o);
@@ -160,7 +163,7 @@ module _ (i : Instance) (order : List ℕ) (o : OnceBelow (length i.jobs) order)
         moments_of : (p : Piece) → IsTimed p → finish p ≤ 400000000000 → IsMoment p.from × IsMoment p.to
         moments_of p t h = ((omega (arith, ints, t.from), omega (arith, ints, t.from, t.lasts, h)), (omega (arith, ints, t.to), omega (arith, ints, t.to, h)))
 
-        not_unrelated : identical ≡ unrelated → ⊥
+        not_unrelated : Identical ≡ Unrelated → ⊥
         not_unrelated h = cc
 
 -- ---- a whole cost over the unit 1: its fraction in lowest terms has the denominator 1

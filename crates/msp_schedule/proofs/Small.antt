@@ -2,6 +2,10 @@
 use Rattle.std.proofs.Common.{◌≡◌, ℕ, suc, ◌+◌, ◌*◌, ◌^◌, ◌≤◌, Bool, true, false, List, length, ℤ, pos, negsuc, ◌+ℤ◌, ◌*ℤ◌, ◌≤ℤ◌, ◌⊎◌, inl, inr, All, sum_by, refl, sym, subst, arith, lit≤}
 use Rattle.std.proofs.lemmas.Int.{ints}
 use Rattle.std.proofs.lemmas.Nat.{mul-le}
+use Rattle.msp_class.specs.declared.environments.EnvKind.{EnvKind}
+use Rattle.msp_class.specs.declared.environments.EnvKind.TheVariants.{Identical, Uniform, Unrelated, OpenShop, FlowShop, JobShop}
+use Rattle.msp_class.specs.Env.{kind_of}
+use Rattle.msp_class.specs.Crit.{uses_due, uses_weight}
 use Rattle.msp_class.specs.declared.class.Crit.{Crit}
 use Rattle.msp_class.specs.declared.class.Crit.TheVariants.{Cmax, Lmax, Fmax, SumC, SumWC, SumU, SumWU, SumT, SumWT}
 use Rattle.msp_class.proofs.IntegerRing.{natural_some}
@@ -10,8 +14,8 @@ use Rattle.msp_instance.specs.declared.Curve.{Curve}
 use Rattle.msp_instance.specs.declared.Job.{Job}
 use Rattle.msp_instance.specs.declared.Step.{Step}
 use Rattle.msp_instance.specs.declared.Instance.{Instance}
-use Rattle.msp_instance.specs.Instance.{Kind, identical, uniform, unrelated, open_shop, flow_shop, job_shop, kind_of, no_curve}
-use Rattle.msp_instance.specs.Conditions.{LiesWithin, Limits, HasDue, HasWeight, IsCurve, HasCurve, IsJobOf, MeetsConditions, Inner, InClass, uses_due, uses_weight, inner_limits, text_limits}
+use Rattle.msp_instance.specs.Instance.{no_curve}
+use Rattle.msp_instance.specs.Conditions.{LiesWithin, Limits, HasDue, HasWeight, IsCurve, HasCurve, IsJobOf, MeetsConditions, Inner, InClass, inner_limits, text_limits}
 use Rattle.msp_schedule.specs.declared.Schedule.{Schedule}
 use Rattle.msp_schedule.specs.Within.{HasSmallCost, Within}
 
@@ -77,16 +81,16 @@ HasSmallCost-from l u n i j fit small h =
 each_small : (l : Limits) (u n : ℕ) (i : Instance) → FitTogether l u → n ≤ u → MeetsConditions l i → All (HasSmallCost (pos n)) i.jobs
 each_small l u n i fit small h k d t = HasSmallCost-from l u n i _ fit small (h.jobs k d t)
 
-by_kind : (kind : Kind) (i : Instance) (n : ℕ) → MeetsConditions (inner_limits kind) i → n ≤ 10 ^ 13 → (kind ≡ unrelated → InClass i ⊎ (pos n ≤ℤ pos 4096)) → All (HasSmallCost (pos n)) i.jobs
-by_kind identical i n h small scaled = each_small _ (10 ^ 13) n i (record { dates = lit≤ tt; times = lit≤ tt; levels = lit≤ tt }) small h
-by_kind uniform i n h small scaled = each_small _ (10 ^ 13) n i (record { dates = lit≤ tt; times = lit≤ tt; levels = lit≤ tt }) small h
-by_kind unrelated i n h small scaled = elim (scaled refl) [
+by_kind : (kind : EnvKind) (i : Instance) (n : ℕ) → MeetsConditions (inner_limits kind) i → n ≤ 10 ^ 13 → (kind ≡ Unrelated → InClass i ⊎ (pos n ≤ℤ pos 4096)) → All (HasSmallCost (pos n)) i.jobs
+by_kind Identical i n h small scaled = each_small _ (10 ^ 13) n i (record { dates = lit≤ tt; times = lit≤ tt; levels = lit≤ tt }) small h
+by_kind Uniform i n h small scaled = each_small _ (10 ^ 13) n i (record { dates = lit≤ tt; times = lit≤ tt; levels = lit≤ tt }) small h
+by_kind Unrelated i n h small scaled = elim (scaled refl) [
   | inl text ↦ each_small text_limits (10 ^ 13) n i (record { dates = lit≤ tt; times = lit≤ tt; levels = lit≤ tt }) small text.conditions
   | inr low ↦ each_small _ 4096 n i (record { dates = lit≤ tt; times = lit≤ tt; levels = lit≤ tt }) (omega (arith, ints)) h
 ]
-by_kind open_shop i n h small scaled = each_small _ (10 ^ 13) n i (record { dates = lit≤ tt; times = lit≤ tt; levels = lit≤ tt }) small h
-by_kind flow_shop i n h small scaled = each_small _ (10 ^ 13) n i (record { dates = lit≤ tt; times = lit≤ tt; levels = lit≤ tt }) small h
-by_kind job_shop i n h small scaled = each_small _ (10 ^ 13) n i (record { dates = lit≤ tt; times = lit≤ tt; levels = lit≤ tt }) small h
+by_kind OpenShop i n h small scaled = each_small _ (10 ^ 13) n i (record { dates = lit≤ tt; times = lit≤ tt; levels = lit≤ tt }) small h
+by_kind FlowShop i n h small scaled = each_small _ (10 ^ 13) n i (record { dates = lit≤ tt; times = lit≤ tt; levels = lit≤ tt }) small h
+by_kind JobShop i n h small scaled = each_small _ (10 ^ 13) n i (record { dates = lit≤ tt; times = lit≤ tt; levels = lit≤ tt }) small h
 
 -- under the bounds of the calls each job's numbers are small
 pub small_costs : (i : Instance) (s : Schedule) → Inner i → Within i s → All (HasSmallCost s.unit) i.jobs

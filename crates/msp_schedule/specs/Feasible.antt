@@ -1,30 +1,33 @@
 -- When a schedule is feasible for an instance: all pairs of pieces are compared, and the unit is any number from 1.
 use Rattle.std.specs.Prelude.{◌≡◌, ◌≢◌, ℕ, ◌*◌, ◌/◌, ◌<◌, List, [], ◌∷◌, length, ℤ, pos, ◌+ℤ◌, ◌*ℤ◌, ◌≤ℤ◌, ◌<ℤ◌, slice_index_or, All, AllPairs, fold, map, MatchBool, ⊤}
+use Rattle.msp_class.specs.declared.environments.EnvKind.{EnvKind}
+use Rattle.msp_class.specs.declared.environments.EnvKind.TheVariants.{Identical, Uniform, Unrelated, OpenShop, FlowShop, JobShop}
+use Rattle.msp_class.specs.Env.{kind_of}
 use Rattle.msp_instance.specs.declared.Need.{Need}
 use Rattle.msp_instance.specs.declared.Instance.{Instance}
-use Rattle.msp_instance.specs.Instance.{Kind, identical, uniform, unrelated, open_shop, flow_shop, job_shop, kind_of, job_at, need_at}
+use Rattle.msp_instance.specs.Instance.{job_at, need_at}
 use Rattle.msp_schedule.specs.declared.Piece.{Piece}
 use Rattle.msp_schedule.specs.declared.Schedule.{Schedule}
 use Rattle.msp_schedule.specs.Piece.{length_of, IsBefore, IsApart, pieces_of}
 
 -- The job has an operation of this number with work to do. In shops an operation of time 0 has none. Elsewhere a job has the one
 -- operation 0, whose times are at least 1.
-abbrev pub HasOperation : Kind → Instance → ℕ → ℕ → Type 0
-HasOperation identical i j o = o ≡ 0
-HasOperation uniform i j o = o ≡ 0
-HasOperation unrelated i j o = o ≡ 0
-HasOperation open_shop i j o = (o < length (job_at i j).needs) × ((need_at i j o).time ≢ 0)
-HasOperation flow_shop i j o = (o < length (job_at i j).needs) × ((need_at i j o).time ≢ 0)
-HasOperation job_shop i j o = (o < length (job_at i j).needs) × ((need_at i j o).time ≢ 0)
+abbrev pub HasOperation : EnvKind → Instance → ℕ → ℕ → Type 0
+HasOperation Identical i j o = o ≡ 0
+HasOperation Uniform i j o = o ≡ 0
+HasOperation Unrelated i j o = o ≡ 0
+HasOperation OpenShop i j o = (o < length (job_at i j).needs) × ((need_at i j o).time ≢ 0)
+HasOperation FlowShop i j o = (o < length (job_at i j).needs) × ((need_at i j o).time ≢ 0)
+HasOperation JobShop i j o = (o < length (job_at i j).needs) × ((need_at i j o).time ≢ 0)
 
 -- The machine may run the operation: any machine of the instance, and in shops the operation's own.
-abbrev pub MayRun : Kind → Instance → ℕ → ℕ → ℕ → Type 0
-MayRun identical i j o m = m < i.machines
-MayRun uniform i j o m = m < i.machines
-MayRun unrelated i j o m = m < i.machines
-MayRun open_shop i j o m = m ≡ (need_at i j o).machine
-MayRun flow_shop i j o m = m ≡ (need_at i j o).machine
-MayRun job_shop i j o m = m ≡ (need_at i j o).machine
+abbrev pub MayRun : EnvKind → Instance → ℕ → ℕ → ℕ → Type 0
+MayRun Identical i j o m = m < i.machines
+MayRun Uniform i j o m = m < i.machines
+MayRun Unrelated i j o m = m < i.machines
+MayRun OpenShop i j o m = m ≡ (need_at i j o).machine
+MayRun FlowShop i j o m = m ≡ (need_at i j o).machine
+MayRun JobShop i j o m = m ≡ (need_at i j o).machine
 
 -- The piece names a job of the instance, an operation of it with work to do, and a machine that may run it.
 pub record HasPlace (i : Instance) (p : Piece) : Type 0 where
@@ -33,13 +36,13 @@ pub record HasPlace (i : Instance) (p : Piece) : Type 0 where
   pub machine : MayRun (kind_of i.class.env) i p.job p.op p.machine
 
 -- On flow and job shops the operations of a job follow each other.
-abbrev pub FollowsRoute : Kind → List Piece → Type 0
-FollowsRoute identical pieces = ⊤
-FollowsRoute uniform pieces = ⊤
-FollowsRoute unrelated pieces = ⊤
-FollowsRoute open_shop pieces = ⊤
-FollowsRoute flow_shop pieces = All (λ p. All (λ q. p.job ≡ q.job → p.op < q.op → IsBefore p q) pieces) pieces
-FollowsRoute job_shop pieces = All (λ p. All (λ q. p.job ≡ q.job → p.op < q.op → IsBefore p q) pieces) pieces
+abbrev pub FollowsRoute : EnvKind → List Piece → Type 0
+FollowsRoute Identical pieces = ⊤
+FollowsRoute Uniform pieces = ⊤
+FollowsRoute Unrelated pieces = ⊤
+FollowsRoute OpenShop pieces = ⊤
+FollowsRoute FlowShop pieces = All (λ p. All (λ q. p.job ≡ q.job → p.op < q.op → IsBefore p q) pieces) pieces
+FollowsRoute JobShop pieces = All (λ p. All (λ q. p.job ≡ q.job → p.op < q.op → IsBefore p q) pieces) pieces
 
 -- The total of numbers.
 abbrev pub total : List ℤ → ℤ
@@ -51,30 +54,30 @@ product_of_times needs = fold (λ a n. a * n.time) 1 needs
 
 -- What a piece adds to its operation, where the whole operation takes what `whole_work` says: its length, on uniform machines times
 -- the machine's speed, and on unrelated machines times the product of the job's times on the other machines.
-abbrev pub work_of : Kind → Instance → Piece → ℤ
-work_of identical i p = length_of p
-work_of uniform i p = length_of p *ℤ pos (slice_index_or i.speeds p.machine 0)
-work_of unrelated i p = length_of p *ℤ pos (product_of_times (job_at i p.job).needs / (need_at i p.job p.machine).time)
-work_of open_shop i p = length_of p
-work_of flow_shop i p = length_of p
-work_of job_shop i p = length_of p
+abbrev pub work_of : EnvKind → Instance → Piece → ℤ
+work_of Identical i p = length_of p
+work_of Uniform i p = length_of p *ℤ pos (slice_index_or i.speeds p.machine 0)
+work_of Unrelated i p = length_of p *ℤ pos (product_of_times (job_at i p.job).needs / (need_at i p.job p.machine).time)
+work_of OpenShop i p = length_of p
+work_of FlowShop i p = length_of p
+work_of JobShop i p = length_of p
 
-abbrev pub whole_work : Kind → Instance → ℕ → ℕ → ℕ
-whole_work identical i j o = (need_at i j o).time
-whole_work uniform i j o = (need_at i j o).time
-whole_work unrelated i j o = product_of_times (job_at i j).needs
-whole_work open_shop i j o = (need_at i j o).time
-whole_work flow_shop i j o = (need_at i j o).time
-whole_work job_shop i j o = (need_at i j o).time
+abbrev pub whole_work : EnvKind → Instance → ℕ → ℕ → ℕ
+whole_work Identical i j o = (need_at i j o).time
+whole_work Uniform i j o = (need_at i j o).time
+whole_work Unrelated i j o = product_of_times (job_at i j).needs
+whole_work OpenShop i j o = (need_at i j o).time
+whole_work FlowShop i j o = (need_at i j o).time
+whole_work JobShop i j o = (need_at i j o).time
 
 -- A piece is the whole operation. On unrelated machines its length is the job's time on the piece's machine.
-abbrev pub IsWholeWork : Kind → Instance → ℤ → Piece → Type 0
-IsWholeWork identical i unit p = length_of p ≡ unit *ℤ pos (need_at i p.job p.op).time
-IsWholeWork uniform i unit p = length_of p *ℤ pos (slice_index_or i.speeds p.machine 0) ≡ unit *ℤ pos (need_at i p.job p.op).time
-IsWholeWork unrelated i unit p = length_of p ≡ unit *ℤ pos (need_at i p.job p.machine).time
-IsWholeWork open_shop i unit p = length_of p ≡ unit *ℤ pos (need_at i p.job p.op).time
-IsWholeWork flow_shop i unit p = length_of p ≡ unit *ℤ pos (need_at i p.job p.op).time
-IsWholeWork job_shop i unit p = length_of p ≡ unit *ℤ pos (need_at i p.job p.op).time
+abbrev pub IsWholeWork : EnvKind → Instance → ℤ → Piece → Type 0
+IsWholeWork Identical i unit p = length_of p ≡ unit *ℤ pos (need_at i p.job p.op).time
+IsWholeWork Uniform i unit p = length_of p *ℤ pos (slice_index_or i.speeds p.machine 0) ≡ unit *ℤ pos (need_at i p.job p.op).time
+IsWholeWork Unrelated i unit p = length_of p ≡ unit *ℤ pos (need_at i p.job p.machine).time
+IsWholeWork OpenShop i unit p = length_of p ≡ unit *ℤ pos (need_at i p.job p.op).time
+IsWholeWork FlowShop i unit p = length_of p ≡ unit *ℤ pos (need_at i p.job p.op).time
+IsWholeWork JobShop i unit p = length_of p ≡ unit *ℤ pos (need_at i p.job p.op).time
 
 -- An operation gets its work: where it may be cut, in pieces that add up to it; elsewhere in exactly one piece.
 abbrev pub GetsWork : Instance → Schedule → ℕ → ℕ → Type 0

@@ -1,8 +1,9 @@
 -- The schedules that the calls take: bounds under which every sum in a product fits a signed number of 128 bits.
 use Rattle.std.specs.Prelude.{◌≡◌, ℕ, ◌*◌, ◌^◌, ◌≤◌, ◌⊎◌, length, ℤ, pos, ◌+ℤ◌, ◌*ℤ◌, ◌≤ℤ◌, All, sum_by}
+use Rattle.msp_class.specs.declared.environments.EnvKind.TheVariants.{Unrelated}
+use Rattle.msp_class.specs.Env.{kind_of}
 use Rattle.msp_instance.specs.declared.Instance.{Instance}
 use Rattle.msp_instance.specs.declared.Job.{Job}
-use Rattle.msp_instance.specs.Instance.{kind_of, unrelated}
 use Rattle.msp_instance.specs.Conditions.{InClass, LiesWithin}
 use Rattle.msp_schedule.specs.declared.Schedule.{Schedule}
 
@@ -19,7 +20,7 @@ pub record Within (i : Instance) (s : Schedule) : Type 0 where
   pub unit : IsUnit s.unit
   pub few : length s.pieces ≤ 500000
   pub moments : All (λ p. IsMoment p.from × IsMoment p.to) s.pieces
-  pub scaled : kind_of i.class.env ≡ unrelated → InClass i ⊎ (s.unit ≤ℤ pos 4096)
+  pub scaled : kind_of i.class.env ≡ Unrelated → InClass i ⊎ (s.unit ≤ℤ pos 4096)
 
 -- The numbers of a job over the unit are so small that its cost fits a signed number of 128 bits, and 400 such costs together.
 pub record HasSmallCost (unit : ℤ) (j : Job) : Type 0 where

@@ -1,10 +1,12 @@
 -- What an instance of Smith's class has.
 use Rattle.std.proofs.Common.{◌≡◌, ◌≤◌, [], length, get_or, All, ap, subst, arith}
+use Rattle.msp_class.specs.Env.{kind_of}
+use Rattle.msp_class.specs.Crit.{uses_weight}
 use Rattle.msp_class.specs.declared.class.Env.TheVariants.{One}
 use Rattle.msp_class.specs.declared.class.Crit.TheVariants.{SumWC}
 use Rattle.msp_instance.specs.declared.Instance.{Instance}
-use Rattle.msp_instance.specs.Instance.{kind_of, no_need}
-use Rattle.msp_instance.specs.Conditions.{HasNeeds, HasRelease, HasWeight, HasArcs, MeetsConditions, Inner, inner_limits, uses_weight}
+use Rattle.msp_instance.specs.Instance.{no_need}
+use Rattle.msp_instance.specs.Conditions.{HasNeeds, HasRelease, HasWeight, HasArcs, MeetsConditions, Inner, inner_limits}
 use Rattle.msp_schedule.proofs.OneMachine.{IsOneMachine, IsOneMachine-from_env}
 use Rattle.msp_top.specs.Smith.{smith_class}
 

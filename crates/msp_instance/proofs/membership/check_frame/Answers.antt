@@ -1,6 +1,6 @@
 use Rattle.std.proofs.Common.{refl, sym, subst}
 use Rattle.std.proofs.lemmas.Bool.{false≢true}
-use Rattle.msp_instance.specs.Instance.{kind_of}
+use Rattle.msp_class.specs.Env.{kind_of}
 use Rattle.msp_instance.specs.Conditions.{HasSpeeds, HasSmallMultiple}
 use Rattle.msp_instance.proofs.FaultLemmas.{IsFirstFault-multiple}
 use Rattle.msp_instance.proofs.membership.check_frame.Goals as goal
