@@ -5,9 +5,7 @@ use Rattle.std.proofs.lemmas.Nat.{mul-le}
 use Rattle.msp_class.specs.declared.environments.EnvKind.{EnvKind}
 use Rattle.msp_class.specs.declared.environments.EnvKind.TheVariants.{Identical, Uniform, Unrelated, OpenShop, FlowShop, JobShop}
 use Rattle.msp_class.specs.Env.{kind_of}
-use Rattle.msp_class.specs.Crit.{uses_due, uses_weight}
-use Rattle.msp_class.specs.declared.class.Crit.{Crit}
-use Rattle.msp_class.specs.declared.class.Crit.TheVariants.{Cmax, Lmax, Fmax, SumC, SumWC, SumU, SumWU, SumT, SumWT}
+use Rattle.msp_class.specs.Crit.{uses_due, uses_weight, uses_curve}
 use Rattle.msp_class.proofs.IntegerRing.{natural_some}
 use Rattle.msp_class.proofs.Sums.{sum_by-mono, sum_by-constant}
 use Rattle.msp_instance.specs.declared.Curve.{Curve}
@@ -35,16 +33,9 @@ weight_small false w h = omega (arith, h)
 no_curve-is : (l : Limits) → IsCurve l no_curve
 no_curve-is l = record { slope = omega arith; base = (omega (arith, ints), omega (arith, ints)); few = omega arith; steps = λ k d h. absurd (omega (arith, h)) }
 
-curve_is : (l : Limits) (crit : Crit) (c : Curve) → HasCurve l crit c → IsCurve l c
-curve_is l Cmax c h = subst (IsCurve l) (sym h) (no_curve-is l)
-curve_is l Lmax c h = subst (IsCurve l) (sym h) (no_curve-is l)
-curve_is l Fmax c h = h
-curve_is l SumC c h = subst (IsCurve l) (sym h) (no_curve-is l)
-curve_is l SumWC c h = subst (IsCurve l) (sym h) (no_curve-is l)
-curve_is l SumU c h = subst (IsCurve l) (sym h) (no_curve-is l)
-curve_is l SumWU c h = subst (IsCurve l) (sym h) (no_curve-is l)
-curve_is l SumT c h = subst (IsCurve l) (sym h) (no_curve-is l)
-curve_is l SumWT c h = subst (IsCurve l) (sym h) (no_curve-is l)
+curve_is : (l : Limits) (b : Bool) (c : Curve) → HasCurve l b c → IsCurve l c
+curve_is l true c h = h
+curve_is l false c h = subst (IsCurve l) (sym h) (no_curve-is l)
 
 adds_small : (T : ℕ) (steps : List Step) → length steps ≤ 16 → All (λ s. (s.above ≤ T) × (s.add ≤ T)) steps → sum_by (λ s. s.add) steps ≤ 16 * T
 adds_small T steps few h =
@@ -61,7 +52,7 @@ pub record FitTogether (l : Limits) (u : ℕ) : Type 0 where
 
 pub HasSmallCost-from : (l : Limits) (u n : ℕ) (i : Instance) (j : Job) → FitTogether l u → n ≤ u → IsJobOf l i j → HasSmallCost (pos n) j
 HasSmallCost-from l u n i j fit small h =
-    let curve : IsCurve l j.curve = curve_is l i.class.crit j.curve h.curve in
+    let curve : IsCurve l j.curve = curve_is l (uses_curve i.class.crit) j.curve h.curve in
     let adds = adds_small l.greatest_time j.curve.steps curve.few curve.steps in
     record {
       due = product_within n j.due u _ _ small (due_within l (uses_due i.class.crit) j.due h.due) fit.dates;

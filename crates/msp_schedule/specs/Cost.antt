@@ -2,6 +2,7 @@
 use Rattle.std.specs.Prelude.{ℕ, ◌+◌, List, [], ◌∷◌, ℤ, pos, ◌+ℤ◌, ◌-ℤ◌, ◌*ℤ◌, ◌≤ℤ◌, int_lt, fold, map, filter, unwrap_or, if◌then◌else◌, ◌==◌, sum_by}
 use Rattle.std.specs.Int.{int_max}
 use Rattle.std.specs.List.{reduce}
+use Rattle.msp_class.specs.Crit.{is_greatest}
 use Rattle.msp_class.specs.declared.class.Crit.{Crit}
 use Rattle.msp_class.specs.declared.class.Crit.TheVariants.{Cmax, Lmax, Fmax, SumC, SumWC, SumU, SumWU, SumT, SumWT}
 use Rattle.msp_instance.specs.declared.Curve.{Curve}
@@ -57,15 +58,7 @@ greatest xs = unwrap_or (reduce int_max xs) (pos 0)
 
 -- The cost of all jobs together: the greatest cost of a job, or the sum.
 abbrev pub combined : Crit → List ℤ → ℤ
-combined Cmax costs = greatest costs
-combined Lmax costs = greatest costs
-combined Fmax costs = greatest costs
-combined SumC costs = total costs
-combined SumWC costs = total costs
-combined SumU costs = total costs
-combined SumWU costs = total costs
-combined SumT costs = total costs
-combined SumWT costs = total costs
+combined crit costs = if is_greatest crit then greatest costs else total costs
 
 -- What the jobs cost each, from number k on, where `end` says when each ends.
 abbrev pub job_costs : Crit → ℤ → (ℕ → ℤ) → ℕ → List Job → List ℤ

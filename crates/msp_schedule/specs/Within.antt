@@ -2,34 +2,36 @@
 use Rattle.std.specs.Prelude.{◌≡◌, ℕ, ◌*◌, ◌^◌, ◌≤◌, ◌⊎◌, length, ℤ, pos, ◌+ℤ◌, ◌*ℤ◌, ◌≤ℤ◌, All, sum_by}
 use Rattle.msp_class.specs.declared.environments.EnvKind.TheVariants.{Unrelated}
 use Rattle.msp_class.specs.Env.{kind_of}
+use Rattle.msp_instance.specs.declared.ranges.TheConstants.{GREATEST, MOST_STEPS}
 use Rattle.msp_instance.specs.declared.Instance.{Instance}
 use Rattle.msp_instance.specs.declared.Job.{Job}
 use Rattle.msp_instance.specs.Conditions.{InClass, LiesWithin}
+use Rattle.msp_schedule.specs.declared.limits.TheConstants.{MOST_PIECES, GREATEST_UNIT, GREATEST_CARRIED_UNIT, GREATEST_MOMENT}
 use Rattle.msp_schedule.specs.declared.Schedule.{Schedule}
 
--- The moment is one from 0 to 2 * 10 ^ 26.
+-- The moment is one from 0 to the greatest, 2 * 10 ^ 26.
 abbrev pub IsMoment : ℤ → Type 0
-IsMoment x = (pos 0 ≤ℤ x) × (x ≤ℤ pos (2 * 10 ^ 26))
+IsMoment x = (pos 0 ≤ℤ x) × (x ≤ℤ GREATEST_MOMENT)
 
--- The unit is from 1 to 10 ^ 13.
+-- The unit is from 1 to the greatest, 10 ^ 13.
 abbrev pub IsUnit : ℤ → Type 0
-IsUnit unit = (pos 1 ≤ℤ unit) × (unit ≤ℤ pos (10 ^ 13))
+IsUnit unit = (pos 1 ≤ℤ unit) × (unit ≤ℤ GREATEST_UNIT)
 
 -- Unit, pieces and moments are bounded. On unrelated machines an instance beyond the limits of texts has a smaller unit.
 pub record Within (i : Instance) (s : Schedule) : Type 0 where
   pub unit : IsUnit s.unit
-  pub few : length s.pieces ≤ 500000
+  pub few : length s.pieces ≤ MOST_PIECES
   pub moments : All (λ p. IsMoment p.from × IsMoment p.to) s.pieces
-  pub scaled : kind_of i.class.env ≡ Unrelated → InClass i ⊎ (s.unit ≤ℤ pos 4096)
+  pub scaled : kind_of i.class.env ≡ Unrelated → InClass i ⊎ (s.unit ≤ℤ GREATEST_CARRIED_UNIT)
 
 -- The numbers of a job over the unit are so small that its cost fits a signed number of 128 bits, and 400 such costs together.
 pub record HasSmallCost (unit : ℤ) (j : Job) : Type 0 where
   pub due : LiesWithin (2 * 10 ^ 22) (unit *ℤ j.due)
   pub base : (adds : ℕ) → adds ≤ sum_by (λ s. s.add) j.curve.steps → LiesWithin (4 * 10 ^ 23) (unit *ℤ (j.curve.base +ℤ pos adds))
-  pub few : length j.curve.steps ≤ 16
+  pub few : length j.curve.steps ≤ MOST_STEPS
   pub steps : All (λ s. LiesWithin (2 * 10 ^ 22) (unit *ℤ pos s.above)) j.curve.steps
-  pub slope : j.curve.slope ≤ 10 ^ 9
-  pub weight : j.weight ≤ 10 ^ 9
+  pub slope : j.curve.slope ≤ GREATEST
+  pub weight : j.weight ≤ GREATEST
 
 -- The most that a job costs, in size.
 abbrev pub greatest_cost : ℕ

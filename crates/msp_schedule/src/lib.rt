@@ -10,9 +10,11 @@ ghost use Rattle.std.specs.Prelude.{pos, ◌≤ℤ◌};
 mod definitions;
 mod fraction;
 mod job_cost;
+mod limits;
 mod total_cost;
 
 pub use fraction::lowest;
+pub use limits::{GREATEST_CARRIED_UNIT, GREATEST_MOMENT, GREATEST_UNIT, MOST_PIECES};
 use msp_class::List;
 pub use total_cost::cost;
 

@@ -1,19 +1,18 @@
-ghost use Rattle.std.specs.Prelude.{◌≡◌, ℕ, ◌+◌, ◌*◌, ◌<◌, ◌≤◌, ◌^◌, ℤ, pos, ◌≤ℤ◌, ◌<ℤ◌, length, All, slice_index_or, slice_set, List, if◌then◌else◌};
+// The cost of a schedule: that of all jobs together.
+ghost use Rattle.std.specs.Prelude.{◌≡◌, ℕ, ◌+◌, ◌*◌, ◌<◌, ◌≤◌, ◌^◌, ℤ, pos, ◌≤ℤ◌, ◌<ℤ◌, length, All, slice_index_or, slice_set, List};
 ghost use Rattle.std.specs.Int.{int_max};
 ghost use Rattle.msp_schedule.specs.Cost.{last_end, job_costs, greatest, combined, cost_of};
 ghost use Rattle.msp_schedule.specs.Feasible.{total, Feasible};
 ghost use Rattle.msp_schedule.specs.Fraction.{IsOver, IsLowest};
+ghost use Rattle.msp_instance.specs.declared.ranges.TheConstants.{MOST_JOBS};
 ghost use Rattle.msp_instance.specs.Conditions.{LiesWithin, Inner};
 ghost use Rattle.msp_schedule.specs.Within.{IsMoment, IsUnit, HasSmallCost, Within};
 
 use crate::fraction::lowest;
 use crate::job_cost::job_cost_at;
 use crate::{Frac, Piece, Schedule};
-use msp_class::Crit;
-use msp_instance::{Instance, Job};
-
-/// The most jobs of an instance.
-const MOST_JOBS: usize = 400;
+use msp_class::{Crit, is_greatest};
+use msp_instance::{Instance, Job, MOST_JOBS};
 
 fn raise(ends: &mut [i128], piece: &Piece)
     requires { piece.now.job < length ends.old }
@@ -26,17 +25,17 @@ fn raise(ends: &mut [i128], piece: &Piece)
 }
 
 fn no_ends() -> [i128; MOST_JOBS]
-    ensures { (j : ℕ) → j < 400 → slice_index_or result j (pos 0) ≡ pos 0 }
+    ensures { (j : ℕ) → j < MOST_JOBS → slice_index_or result j (pos 0) ≡ pos 0 }
 {
     [0; MOST_JOBS]
 }
 
 /// The end of each job, by number, and 0 where a job has no piece.
 fn ends_of(pieces: &[Piece]) -> [i128; MOST_JOBS]
-    requires jobs { All (λ p. p.job < 400) pieces.now }
+    requires jobs { All (λ p. p.job < MOST_JOBS) pieces.now }
     requires moments { All (λ p. IsMoment p.to) pieces.now }
-    ensures ends { (j : ℕ) → j < 400 → slice_index_or result j (pos 0) ≡ last_end pieces.now j }
-    ensures moments { (j : ℕ) → j < 400 → IsMoment (last_end pieces.now j) }
+    ensures ends { (j : ℕ) → j < MOST_JOBS → slice_index_or result j (pos 0) ≡ last_end pieces.now j }
+    ensures moments { (j : ℕ) → j < MOST_JOBS → IsMoment (last_end pieces.now j) }
 {
     let mut ends = no_ends();
     for piece in pieces {
@@ -45,20 +44,10 @@ fn ends_of(pieces: &[Piece]) -> [i128; MOST_JOBS]
     ends
 }
 
-/// Whether the cost of all jobs together is the greatest one, and not the sum.
-fn takes_greatest(crit: Crit) -> bool
-    ensures { (costs : List ℤ) → combined crit costs ≡ (if result then greatest costs else total costs) }
-{
-    match crit {
-        Crit::Cmax | Crit::Lmax | Crit::Fmax => true,
-        Crit::SumC | Crit::SumWC | Crit::SumU | Crit::SumWU | Crit::SumT | Crit::SumWT => false,
-    }
-}
-
 /// The sum of the jobs' costs, where `ends` says when each job ends.
 fn sum_of_costs(crit: Crit, unit: i128, jobs: &[Job], ends: &[i128]) -> i128
     requires unit { IsUnit unit }
-    requires few { length jobs.now ≤ 400 }
+    requires few { length jobs.now ≤ MOST_JOBS }
     requires each { length jobs.now ≤ length ends.now }
     requires moments { (k : ℕ) → k < length jobs.now → IsMoment (slice_index_or ends.now k (pos 0)) }
     requires small { All (HasSmallCost unit) jobs.now }
@@ -93,14 +82,14 @@ fn greatest_of_costs(crit: Crit, unit: i128, jobs: &[Job], ends: &[i128]) -> i12
 fn combined_cost(crit: Crit, unit: i128, jobs: &[Job], ends: &[i128]) -> i128
     requires unit { IsUnit unit }
     requires some { 0 < length jobs.now }
-    requires few { length jobs.now ≤ 400 }
+    requires few { length jobs.now ≤ MOST_JOBS }
     requires each { length jobs.now ≤ length ends.now }
     requires moments { (k : ℕ) → k < length jobs.now → IsMoment (slice_index_or ends.now k (pos 0)) }
     requires small { All (HasSmallCost unit) jobs.now }
     ensures value { result ≡ combined crit (job_costs crit unit (λ k. slice_index_or ends.now k (pos 0)) 0 jobs.now) }
     ensures size { LiesWithin (84 * 10 ^ 36) result }
 {
-    if takes_greatest(crit) {
+    if is_greatest(crit) {
         greatest_of_costs(crit, unit, jobs, ends)
     } else {
         sum_of_costs(crit, unit, jobs, ends)

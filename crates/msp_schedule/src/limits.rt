@@ -1,0 +1,10 @@
+// The limits of the schedules that the calls take, and of those that texts state.
+
+/// The most pieces of a schedule.
+pub const MOST_PIECES: usize = 500_000;
+/// The greatest unit.
+pub const GREATEST_UNIT: i128 = 10_000_000_000_000;
+/// The greatest unit on unrelated machines, where the instance is beyond the limits of texts.
+pub const GREATEST_CARRIED_UNIT: i128 = 4096;
+/// The greatest moment.
+pub const GREATEST_MOMENT: i128 = 200_000_000_000_000_000_000_000_000;
