@@ -1,3 +1,4 @@
+-- Each environment has a number of its own.
 use Rattle.std.proofs.Common.{◌≡◌, ◌<◌, List, [], ◌∷◌, get_or, refl, sym, ap, ◌∙◌, arith}
 use Rattle.msp_class.specs.Rank.{env_number}
 use Rattle.msp_class.specs.declared.class.Env.{Env}

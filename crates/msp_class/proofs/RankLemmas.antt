@@ -1,3 +1,4 @@
+-- Each class has a rank of its own.
 use Rattle.std.proofs.Common.{◌≡◌, ℕ, ◌+◌, ◌*◌, ◌<◌, Bool, true, false, List, [], ◌∷◌, get_or, refl, sym, ap, ◌∙◌, arith}
 use Rattle.msp_class.specs.Rank.{env_number, flag_number, order_number, times_number, crit_number, rank_of}
 use Rattle.msp_class.specs.declared.ranks.TheConstants.{CLASSES}

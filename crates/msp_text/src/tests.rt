@@ -1,3 +1,4 @@
+// Numbers and pieces, on examples.
 use crate::{put, put_integer, put_number, read_number};
 use std::test::Fail;
 
