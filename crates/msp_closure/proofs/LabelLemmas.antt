@@ -1,21 +1,24 @@
-use Rattle.std.proofs.Common.{◌≡◌, ◌≢◌, ℕ, ◌<◌, ◌+◌, Bool, true, false, not, eqb, Option, List, length, get_or, set, Some, refl, ap, sym, ◌∙◌, subst, inl, inr, get_or-set_same, get_or-set_other, arith}
-use Rattle.std.specs.Prelude.{slice_get, IsSomeAnd}
+-- The labels from four tests of each class.
+use Rattle.std.proofs.Common.{◌≡◌, ◌≢◌, ℕ, ◌<◌, ◌+◌, Bool, true, false, not, cond, ltb, ◌&&◌, ◌||◌, Option, List, length, get_or, set, Some, refl, ap, sym, ◌∙◌, subst, inl, inr, get_or-set_same, get_or-set_other, arith}
+use Rattle.std.specs.Prelude.{slice_get, IsSomeAnd, ◌==◌}
+use Rattle.std.specs.Bool.{Decides}
 use Rattle.std.proofs.lemmas.Option.{slice_get-get_or}
-use Rattle.std.proofs.lemmas.Bool.{cases_eq, eqb-true, eqb-false}
+use Rattle.std.proofs.lemmas.Bool.{cases_eq, and_parts, lt-ltb}
+use Rattle.std.proofs.lemmas.Bool.Decides.{Decides-like, Decides-not, Decides-eqb, Decides-and, Decides-or}
 use Rattle.msp_class.specs.declared.class.Class.{Class}
 use Rattle.msp_class.specs.declared.ranks.TheConstants.{CLASSES}
 use Rattle.msp_class.specs.Rank.{rank_of}
 use Rattle.msp_class.proofs.RankLemmas.{rank_of-below, rank_of-injective}
+use Rattle.msp_table.specs.Rows.{keeps_size}
 use Rattle.msp_table.specs.Chains.{every_row}
 use Rattle.msp_closure.specs.declared.entry.Entry.{Entry}
-use Rattle.msp_closure.specs.declared.entry.Verdict.TheVariants.{Easy as ListedEasy, Hard as ListedHard}
 use Rattle.msp_closure.specs.declared.entry.Mark.{Mark}
-use Rattle.msp_closure.specs.declared.entry.Mark.TheVariants.{Unsettled}
+use Rattle.msp_closure.specs.declared.entry.Mark.TheVariants.{Easy, Pseudo, Weak, Hard, Strong, Torn, Both, Unsettled}
 use Rattle.msp_closure.specs.declared.distances.TheConstants.{FAR}
-use Rattle.msp_closure.specs.Entries.{listed, IsEasy, IsHard, Says, AreLabels}
-use Rattle.msp_closure.specs.Tables.{value_of, is_marked, AreDistances, AreReached, mark_of}
+use Rattle.msp_closure.specs.Entries.{easy_listed, pseudo_listed, hard_listed, strong_listed, LeadsToOne, IsLedTo, IsEasy, IsHard, IsStrong, Applies, label_number, Says, AreLabels}
+use Rattle.msp_closure.specs.Tables.{value_of, is_near, is_marked, AreDistances, AreReached, mark_of}
 use Rattle.msp_closure.proofs.TableLemmas.{below_next}
-use Rattle.msp_closure.proofs.EntryLemmas.{IsEasy-near, near-IsEasy}
+use Rattle.msp_closure.proofs.WayLemmas.{near_leads, leads_near}
 
 -- one more class gets its mark
 pub marks_next : (wanted : Class → Mark) (t : List Mark) (n : ℕ) (c : Class) (m : Mark) → length t ≡ CLASSES → rank_of c ≡ n → m ≡ wanted c
@@ -31,34 +34,113 @@ marks_next wanted t n c m len at is before x d below =
           get_or-set_other t (rank_of c) (rank_of x) m d apart ∙ before x d (below_next (rank_of x) n below different)
     ]
 
-says : (es : List Entry) (c : Class) (far hard : Bool) → (far ≡ false → IsEasy es c) → (far ≡ true → ¬ IsEasy es c)
-    → (hard ≡ true → IsHard es c) → (hard ≡ false → ¬ IsHard es c) → Says es c (mark_of (not far) hard)
-says es c true true near gone is_hard not_hard = (gone refl, is_hard refl)
-says es c true false near gone is_hard not_hard = (gone refl, not_hard refl)
-says es c false true near gone is_hard not_hard = (near refl, is_hard refl)
-says es c false false near gone is_hard not_hard = (near refl, not_hard refl)
+-- a test of four answers that passes everywhere
+all_of : (Bool → Bool) → Bool
+all_of test = test true && test false
 
--- the marks made from the distances to the classes listed as easy and the marks spread from those listed as hard
-pub AreLabels-from : (es : List Entry) (easy hard : List Class) (t : List ℕ) (m : List Bool) (marks : List Mark) → easy ≡ listed ListedEasy es
-    → hard ≡ listed ListedHard es → AreDistances every_row easy t → AreReached every_row hard m → length marks ≡ CLASSES
-    → ((c : Class) (d : Mark) → get_or marks (rank_of c) d ≡ mark_of (not (eqb (value_of t c) FAR)) (is_marked m c)) → AreLabels es marks
-AreLabels-from es easy hard t m marks is_easy is_hard are reached len each =
-    let near = let P : List Class → Type 0 = λ xs. AreDistances every_row xs t in subst P is_easy are in
-    let spread = let P : List Class → Type 0 = λ xs. AreReached every_row xs m in subst P is_hard reached in
-    record {
-      one_each = len;
-      each = λ c.
-          let inside : rank_of c < length marks = omega (arith, rank_of-below c) in
-          let is : slice_get marks (rank_of c) ≡ Some (mark_of (not (eqb (value_of t c) FAR)) (is_marked m c)) =
-          slice_get-get_or marks (rank_of c) Unsettled inside ∙ ap Some (each c Unsettled) in
-          let right = says es c (eqb (value_of t c) FAR) (is_marked m c)
-          (λ e. IsEasy-near es t near c (eqb-false (value_of t c) FAR e))
-          (λ e easy. near-IsEasy es t near c easy (eqb-true (value_of t c) FAR e))
-          (λ e. spread.sound c e)
-          (λ e found. let marked : is_marked m c ≡ true = spread.all found.0 c found.1 found.2 in cc) in
-          let P : _ → Type 0 = λ o. IsSomeAnd o (Says es c) in
-          subst P (sym is) right;
-    }
+all_of-at : (test : Bool → Bool) → all_of test ≡ true → (b : Bool) → test b ≡ true
+unfolding all_of
+all_of-at test all true = (and_parts (test true) (test false) all).0
+all_of-at test all false = (and_parts (test true) (test false) all).1
+
+passes : (Bool → Bool → Bool → Bool → Bool) → Bool
+passes test = all_of (λ e. all_of (λ p. all_of (λ h. all_of (λ s. test e p h s))))
+
+passes-at : (test : Bool → Bool → Bool → Bool → Bool) → passes test ≡ true → (e p h s : Bool) → test e p h s ≡ true
+unfolding passes
+passes-at test all e p h s = all_of-at (test e p h) (all_of-at (λ h. all_of (test e p h)) (all_of-at (λ p. all_of (λ h. all_of (test e p h)))
+    (all_of-at (λ e. all_of (λ p. all_of (λ h. all_of (test e p h)))) all e) p) h) s
+
+-- whether a mark applies, by the tests of a class
+applies : Bool → Bool → Bool → Bool → Mark → Bool
+applies e p h s Both = e && h
+applies e p h s Easy = e
+applies e p h s Torn = (e || p) && s
+applies e p h s Weak = h && (e || p)
+applies e p h s Strong = s
+applies e p h s Hard = h
+applies e p h s Pseudo = e || p
+applies e p h s Unsettled = true
+
+mark_of-applies : (e p h s : Bool) → applies e p h s (mark_of e p h s) ≡ true
+unfolding applies all_of passes
+mark_of-applies = passes-at (λ e p h s. applies e p h s (mark_of e p h s)) refl
+
+-- whether the mark does not apply, where it comes before the mark of the tests
+is_later : Mark → Bool → Bool → Bool → Bool → Bool
+is_later m e p h s = not (ltb (label_number m) (label_number (mark_of e p h s)) && applies e p h s m)
+
+passes-is_later : (m : Mark) → passes (is_later m) ≡ true
+unfolding applies all_of passes is_later
+passes-is_later Both = refl
+passes-is_later Easy = refl
+passes-is_later Torn = refl
+passes-is_later Weak = refl
+passes-is_later Strong = refl
+passes-is_later Hard = refl
+passes-is_later Pseudo = refl
+passes-is_later Unsettled = refl
+
+not_both : (a b : Bool) → not (a && b) ≡ true → a ≡ true → b ≡ false
+not_both true true h e = cc
+not_both true false h e = refl
+not_both false b h e = cc
+
+mark_of-first : (e p h s : Bool) (m : Mark) → label_number m < label_number (mark_of e p h s) → applies e p h s m ≡ false
+unfolding is_later
+mark_of-first e p h s m before = not_both (ltb (label_number m) (label_number (mark_of e p h s))) (applies e p h s m)
+    (passes-at (is_later m) (passes-is_later m) e p h s) (lt-ltb (label_number m) (label_number (mark_of e p h s)) before)
+
+-- what the tests of a class say
+pub record AreTests (es : List Entry) (c : Class) (e p h s : Bool) : Type 0 where
+  pub easy : Decides e (IsEasy es c)
+  pub pseudo : Decides p (LeadsToOne keeps_size (pseudo_listed es) c)
+  pub hard : Decides h (IsHard es c)
+  pub strong : Decides s (IsStrong es c)
+
+applies-Decides : (es : List Entry) (c : Class) (e p h s : Bool) (m : Mark) → AreTests es c e p h s → Decides (applies e p h s m) (Applies es c m)
+unfolding applies
+applies-Decides es c e p h s Both are = Decides-and e h are.easy are.hard
+applies-Decides es c e p h s Easy are = are.easy
+applies-Decides es c e p h s Torn are = Decides-and (e || p) s (Decides-or e p are.easy are.pseudo) are.strong
+applies-Decides es c e p h s Weak are = Decides-and h (e || p) are.hard (Decides-or e p are.easy are.pseudo)
+applies-Decides es c e p h s Strong are = are.strong
+applies-Decides es c e p h s Hard are = are.hard
+applies-Decides es c e p h s Pseudo are = Decides-or e p are.easy are.pseudo
+applies-Decides es c e p h s Unsettled are = (λ _. tt, λ _. refl)
+
+pub Says-mark_of : (es : List Entry) (c : Class) (e p h s : Bool) → AreTests es c e p h s → Says es c (mark_of e p h s)
+Says-mark_of es c e p h s are = (
+  (applies-Decides es c e p h s (mark_of e p h s) are).0 (mark_of-applies e p h s),
+  λ other before applied.
+      let not_first = mark_of-first e p h s other before in
+      let holds = (applies-Decides es c e p h s other are).1 applied in
+      cc,
+)
+
+-- whether a value is a distance says whether a chain leads to a wanted class
+pub is_near-Decides : (usable : ℕ → Bool) (wanted : List Class) (t : List ℕ) (c : Class) → AreDistances usable wanted t
+    → Decides (is_near t c) (LeadsToOne usable wanted c)
+is_near-Decides usable wanted t c are = Decides-like (is_near t c) (near_leads usable wanted t are c) (leads_near usable wanted t are c)
+    (Decides-not (value_of t c == FAR) (Decides-eqb (value_of t c) FAR))
+
+pub is_marked-Decides : (usable : ℕ → Bool) (starts : List Class) (t : List Bool) (c : Class) → AreReached usable starts t
+    → Decides (is_marked t c) (IsLedTo usable starts c)
+is_marked-Decides usable starts t c are = (are.sound c, λ led. are.all led.0 c led.1 led.2)
+
+-- the marks made from the tests
+pub AreLabels-from : (es : List Entry) (tests : (c : Class) → Bool × Bool × Bool × Bool) (marks : List Mark)
+    → ((c : Class) → AreTests es c (tests c).0 (tests c).1 (tests c).2 (tests c).3) → length marks ≡ CLASSES
+    → ((c : Class) (d : Mark) → get_or marks (rank_of c) d ≡ mark_of (tests c).0 (tests c).1 (tests c).2 (tests c).3) → AreLabels es marks
+AreLabels-from es tests marks are len each = record {
+  one_each = len;
+  each = λ c.
+      let inside : rank_of c < length marks = omega (arith, rank_of-below c) in
+      let is : slice_get marks (rank_of c) ≡ Some (mark_of (tests c).0 (tests c).1 (tests c).2 (tests c).3) =
+      slice_get-get_or marks (rank_of c) Unsettled inside ∙ ap Some (each c Unsettled) in
+      let P : Option Mark → Type 0 = λ o. IsSomeAnd o (Says es c) in
+      subst P (sym is) (Says-mark_of es c (tests c).0 (tests c).1 (tests c).2 (tests c).3 (are c));
+}
 
 -- what the label of a class says
 pub Says-label : (es : List Entry) (marks : List Mark) (c : Class) (m : Mark) → AreLabels es marks → slice_get marks (rank_of c) ≡ Some m → Says es c m

@@ -2,6 +2,6 @@ pub mod StepLemmas
 pub mod TableLemmas
 pub mod AdvanceLemmas
 pub mod NearestLemmas
-pub mod EntryLemmas
+pub mod WayLemmas
 pub mod SpreadLemmas
 pub mod LabelLemmas

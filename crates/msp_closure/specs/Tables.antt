@@ -1,24 +1,38 @@
-use Rattle.std.specs.Prelude.{ℕ, ◌≡◌, ◌≢◌, Bool, true, false, List, slice_index, slice_index_or, Contains}
+-- What the private functions make: tables with a value for each class. No public contract cites this file.
+use Rattle.std.specs.Prelude.{ℕ, ◌≡◌, ◌≢◌, ◌==◌, Bool, true, false, not, List, slice_index, slice_index_or, Contains}
 use Rattle.msp_class.specs.declared.class.Class.{Class}
 use Rattle.msp_class.specs.Rank.{rank_of}
-use Rattle.msp_table.specs.Rows.{carries}
+use Rattle.msp_table.specs.Rows.{carries, keeps_size}
 use Rattle.msp_table.specs.Chains.{every_row, Reaches, LeadsInto, IsDistance}
+use Rattle.msp_closure.specs.declared.entry.Verdict.{Verdict}
+use Rattle.msp_closure.specs.declared.entry.Verdict.TheVariants as verdict
 use Rattle.msp_closure.specs.declared.entry.Mark.{Mark}
-use Rattle.msp_closure.specs.declared.entry.Mark.TheVariants.{Easy, Hard, Unsettled, Both}
+use Rattle.msp_closure.specs.declared.entry.Mark.TheVariants.{Easy, Pseudo, Weak, Hard, Strong, Torn, Both, Unsettled}
 use Rattle.msp_closure.specs.declared.row_set.RowSet.{RowSet}
-use Rattle.msp_closure.specs.declared.row_set.RowSet.TheVariants.{Every, Carrying}
+use Rattle.msp_closure.specs.declared.row_set.RowSet.TheVariants.{Every, Carrying, KeepsSize}
 use Rattle.msp_closure.specs.declared.distances.TheConstants.{FAR}
-
--- What the private functions make: tables with a value for each class. No public contract cites this file.
+use Rattle.msp_closure.specs.Entries.{is_easy, is_pseudo, is_hard, is_strong}
 
 -- the rows that a search may use
 abbrev pub allows : RowSet → ℕ → Bool
 allows Every = every_row
 allows Carrying = carries
+allows KeepsSize = keeps_size
+
+-- whether a verdict makes the claim of another
+abbrev pub makes : Verdict → Verdict → Bool
+makes verdict.Easy = is_easy
+makes verdict.Pseudo = is_pseudo
+makes verdict.Hard = is_hard
+makes verdict.Strong = is_strong
 
 -- a number kept for each class, by rank
 abbrev pub value_of : List ℕ → Class → ℕ
 value_of table c = slice_index table (rank_of c)
+
+-- whether the number kept for a class is a distance
+abbrev pub is_near : List ℕ → Class → Bool
+is_near table c = not (value_of table c == FAR)
 
 -- a mark kept for each class, by rank
 abbrev pub is_marked : List Bool → Class → Bool
@@ -34,9 +48,13 @@ pub record AreReached (usable : ℕ → Bool) (starts : List Class) (table : Lis
   pub sound : (c : Class) → is_marked table c ≡ true → (b : Class) × Contains starts b × Reaches usable b c
   pub all : (b c : Class) → Contains starts b → Reaches usable b c → is_marked table c ≡ true
 
--- the mark of a class by two tests: whether it is easy, and whether it is hard
-abbrev pub mark_of : Bool → Bool → Mark
-mark_of true true = Both
-mark_of true false = Easy
-mark_of false true = Hard
-mark_of false false = Unsettled
+-- the mark of a class by four tests: whether it is easy, pseudopolynomial or easy, hard, and strongly hard
+abbrev pub mark_of : Bool → Bool → Bool → Bool → Mark
+mark_of true p true s = Both
+mark_of true p false s = Easy
+mark_of false true h true = Torn
+mark_of false true true false = Weak
+mark_of false true false false = Pseudo
+mark_of false false h true = Strong
+mark_of false false true false = Hard
+mark_of false false false false = Unsettled

@@ -1,3 +1,4 @@
+// A value for each class.
 ghost use Rattle.std.specs.Prelude.{◌≡◌, ◌<◌, ℕ, slice_index_or, slice_set, IfOk, length};
 ghost use Rattle.msp_class.specs.declared.class.Class.{Class};
 ghost use Rattle.msp_class.specs.Rank.{rank_of};

@@ -1,10 +1,17 @@
+// Known results, and what a list of them says of a class.
 use msp_class::{Class, List};
 
-/// What is known of a listed class: that it is solvable in polynomial time, or that it is NP-hard.
+/// What is known of a listed class.
 #[derive(Clone, Copy, Debug, PartialEq, Eq)]
 pub enum Verdict {
+    /// It is solvable in polynomial time.
     Easy,
+    /// It is solvable in pseudopolynomial time.
+    Pseudo,
+    /// It is NP-hard.
     Hard,
+    /// It is NP-hard in the strong sense.
+    Strong,
 }
 
 /// A known result: a class, its verdict, and where the result was published.
@@ -19,12 +26,20 @@ pub struct Entry {
 /// What a list of known results says of a class.
 #[derive(Clone, Copy, Debug, PartialEq, Eq)]
 pub enum Mark {
-    /// It reduces to a class listed as easy.
+    /// It is solvable in polynomial time, and nothing says that it is hard.
     Easy,
-    /// A class listed as hard reduces to it.
+    /// It is solvable in pseudopolynomial time; whether it is easy or hard is open.
+    Pseudo,
+    /// It is NP-hard, and solvable in pseudopolynomial time.
+    Weak,
+    /// It is NP-hard; whether in the strong sense is open.
     Hard,
-    /// Neither.
-    Unsettled,
-    /// Both: the list contradicts itself, unless P = NP.
+    /// It is NP-hard in the strong sense.
+    Strong,
+    /// It is NP-hard in the strong sense and solvable in pseudopolynomial time: the list contradicts itself, unless P = NP.
+    Torn,
+    /// It is easy and hard: the list contradicts itself, unless P = NP.
     Both,
+    /// The list says nothing of it.
+    Unsettled,
 }

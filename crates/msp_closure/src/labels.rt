@@ -1,7 +1,8 @@
-ghost use Rattle.std.specs.Prelude.{◌≡◌, IfOk, slice_get, slice_index_or, length, not, ◌==◌};
+// The labels of all classes.
+ghost use Rattle.std.specs.Prelude.{◌≡◌, IfOk, slice_get, slice_index_or, length};
 ghost use Rattle.msp_class.specs.Rank.{rank_of};
 ghost use Rattle.msp_closure.specs.Entries.{AreLabels};
-ghost use Rattle.msp_closure.specs.Tables.{value_of, is_marked, mark_of};
+ghost use Rattle.msp_closure.specs.Tables.{is_near, is_marked, mark_of};
 ghost use Rattle.msp_class.specs.declared.class.Class.{Class};
 
 use crate::class_table::{ClassTable, class_at};
@@ -34,10 +35,14 @@ pub fn close(alloc: Global, entries: &List<Entry>) -> Result<Labels, NoMemory>
     ensures { IfOk result (λ labels. AreLabels entries.now labels) }
 {
     let easy = listed(alloc, entries, Verdict::Easy)?;
+    let pseudo = listed(alloc, entries, Verdict::Pseudo)?;
     let hard = listed(alloc, entries, Verdict::Hard)?;
+    let strong = listed(alloc, entries, Verdict::Strong)?;
     let to_easy = distances(alloc, RowSet::Every, &easy)?;
+    let to_pseudo = distances(alloc, RowSet::KeepsSize, &pseudo)?;
     let from_hard = reached(alloc, RowSet::Every, &hard)?;
-    let marks = marked(alloc, &to_easy, &from_hard)?;
+    let from_strong = reached(alloc, RowSet::KeepsSize, &strong)?;
+    let marks = marked(alloc, &to_easy, &to_pseudo, &from_hard, &from_strong)?;
     Ok(Labels { marks })
 }
 
@@ -51,27 +56,42 @@ pub fn label(labels: &Labels, c: Class) -> Mark
 fn marked(
     alloc: Global,
     to_easy: &ClassTable<u16>,
+    to_pseudo: &ClassTable<u16>,
     from_hard: &ClassTable<bool>,
+    from_strong: &ClassTable<bool>,
 ) -> Result<ClassTable<Mark>, NoMemory>
     ensures len { IfOk result (λ table. length table ≡ CLASSES) }
-    ensures each { IfOk result (λ table. (c : Class) (d : Mark)
-        → slice_index_or table (rank_of c) d ≡ mark_of (not (value_of to_easy.now c == FAR)) (is_marked from_hard.now c)) }
+    ensures each { IfOk result (λ table. (c : Class) (d : Mark) → slice_index_or table (rank_of c) d
+        ≡ mark_of (is_near to_easy.now c) (is_near to_pseudo.now c) (is_marked from_hard.now c) (is_marked from_strong.now c)) }
 {
     let mut table = ClassTable::new(alloc, Mark::Unsettled)?;
     for n in 0..CLASSES {
         let c = class_at(n);
-        table.set(c, mark(to_easy.at(c) != FAR, from_hard.at(c)));
+        let easy = is_near(to_easy, c);
+        let pseudo = is_near(to_pseudo, c);
+        table.set(c, mark(easy, pseudo, from_hard.at(c), from_strong.at(c)));
     }
     Ok(table)
 }
 
-fn mark(easy: bool, hard: bool) -> Mark
-    ensures { result ≡ mark_of easy hard }
+fn is_near(table: &ClassTable<u16>, c: Class) -> bool
+    ensures { result ≡ is_near table.now c }
 {
-    match (easy, hard) {
-        (true, true) => Mark::Both,
-        (true, false) => Mark::Easy,
-        (false, true) => Mark::Hard,
-        (false, false) => Mark::Unsettled,
+    table.at(c) != FAR
+}
+
+/// The first mark that applies.
+fn mark(easy: bool, pseudo: bool, hard: bool, strong: bool) -> Mark
+    ensures { result ≡ mark_of easy pseudo hard strong }
+{
+    match (easy, pseudo, hard, strong) {
+        (true, _, true, _) => Mark::Both,
+        (true, _, _, _) => Mark::Easy,
+        (_, true, _, true) => Mark::Torn,
+        (_, true, true, _) => Mark::Weak,
+        (_, _, _, true) => Mark::Strong,
+        (_, _, true, _) => Mark::Hard,
+        (_, true, _, _) => Mark::Pseudo,
+        _ => Mark::Unsettled,
     }
 }

@@ -3,7 +3,7 @@
 //! It stands on `msp_class` and `msp_table`.
 #![tactic(auto)]
 
-mod clashes;
+mod chains;
 mod class_table;
 mod distances;
 mod entry;
@@ -13,6 +13,6 @@ mod reached;
 mod row_set;
 mod walk;
 
-pub use clashes::clash;
+pub use chains::{clash, route_to, strong_clash, why_easy, why_hard, why_pseudo, why_strong};
 pub use entry::{Entry, Mark, Verdict};
 pub use labels::{Labels, close, label};

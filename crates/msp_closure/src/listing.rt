@@ -1,26 +1,40 @@
+// The classes of a list of known results, by their verdicts.
 ghost use Rattle.std.specs.Prelude.{◌≡◌, IfOk};
 ghost use Rattle.msp_closure.specs.Entries.{listed};
+ghost use Rattle.msp_closure.specs.Tables.{makes};
 
 use crate::entry::{Entry, Verdict};
 use msp_class::{Class, List, NoMemory};
 use std::alloc::Global;
 
-/// The classes listed with a verdict, in the order of the entries.
+/// The classes listed with a verdict that makes the claim, in the order of the entries.
 pub(crate) fn listed(
     alloc: Global,
     entries: &List<Entry>,
-    verdict: Verdict,
+    claim: Verdict,
 ) -> Result<Vec<Class>, NoMemory>
-    ensures { IfOk result (λ classes. classes.items ≡ listed verdict entries.now) }
+    ensures { IfOk result (λ classes. classes.items ≡ listed (makes claim) entries.now) }
 {
-    let mut classes = Vec::new(alloc);
-    for entry in entries.as_slice() {
-        if entry.verdict == verdict {
-            match classes.push(entry.class) {
-                Ok(()) => (),
-                Err(_) => return Err(NoMemory),
-            }
-        }
+    let classes = entries
+        .as_slice()
+        .iter()
+        .filter(|entry| makes(claim, entry.verdict))
+        .map(|entry| entry.class)
+        .collect(alloc);
+    match classes {
+        Ok(classes) => Ok(classes),
+        Err(_) => Err(NoMemory),
     }
-    Ok(classes)
+}
+
+/// Whether a verdict makes the claim of another: one that is hard in the strong sense is hard.
+fn makes(claim: Verdict, verdict: Verdict) -> bool
+    ensures { result ≡ makes claim verdict }
+{
+    match claim {
+        Verdict::Easy => matches!(verdict, Verdict::Easy),
+        Verdict::Pseudo => matches!(verdict, Verdict::Pseudo),
+        Verdict::Hard => matches!(verdict, Verdict::Hard | Verdict::Strong),
+        Verdict::Strong => matches!(verdict, Verdict::Strong),
+    }
 }

@@ -1,15 +1,19 @@
+// The rows that a search may use, and its steps.
 ghost use Rattle.std.specs.Prelude.{◌≡◌};
 ghost use Rattle.msp_closure.specs.Tables.{allows};
 ghost use Rattle.msp_closure.specs.Walk.{step_of};
 
 use msp_class::Class;
-use msp_table::{Row, RowKind, goes, kind};
+use msp_table::{Row, RowKind, goes, keeps_size, kind};
 
 /// The rows that a search may use.
 #[derive(Clone, Copy, Debug, PartialEq, Eq)]
 pub(crate) enum RowSet {
     Every,
+    /// Those that carry schedules.
     Carrying,
+    /// Those that keep the numbers of an instance small.
+    KeepsSize,
 }
 
 /// A row, and the class to which it leads.
@@ -26,6 +30,7 @@ fn allows(rows: RowSet, row: Row) -> bool
     match rows {
         RowSet::Every => true,
         RowSet::Carrying => kind(row) == RowKind::Carries,
+        RowSet::KeepsSize => keeps_size(row),
     }
 }
 

@@ -1,3 +1,4 @@
+// The nearest chain, by distances.
 ghost use Rattle.std.specs.Prelude.{◌≡◌, ◌≢◌, ◌+◌, ◌-◌, ◌<◌, ℕ, IfOk, IfSome, IfNone, Contains};
 ghost use Rattle.msp_class.specs.declared.class.Class.{Class};
 ghost use Rattle.msp_table.specs.Chains.{IsNearest};

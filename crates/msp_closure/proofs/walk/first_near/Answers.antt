@@ -1,6 +1,6 @@
 use Rattle.std.proofs.Common.{◌≡◌, ◌∙◌, arith}
 use Rattle.msp_closure.specs.declared.distances.TheConstants.{FAR}
-use Rattle.msp_closure.proofs.EntryLemmas.{FarSoFar-more, FarSoFar-found}
+use Rattle.msp_closure.proofs.WayLemmas.{FarSoFar-more, FarSoFar-found}
 use Rattle.msp_closure.proofs.walk.first_near.Goals as goal
 
 pub returns-then-at-lt-FAR-clause-found : goal.returns-then-at-lt-FAR-clause-found

@@ -1,4 +1,4 @@
-use Rattle.msp_closure.proofs.EntryLemmas.{FarSoFar}
+use Rattle.msp_closure.proofs.WayLemmas.{FarSoFar}
 use Rattle.msp_closure.proofs.walk.first_near.Given as goal
 
 abbrev pub invariant-loop-c : goal.invariant-loop-c

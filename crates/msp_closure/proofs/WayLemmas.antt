@@ -1,0 +1,125 @@
+-- The first of the starts that leads to a wanted class, and the way from there.
+use Rattle.std.proofs.Common.{◌≡◌, ◌≢◌, ℕ, suc, ◌<◌, ◌≤◌, ◌+◌, Bool, List, [], ◌∷◌, Option, Some, None, Result, Ok, Err, length, get_or, drop, refl, ap, sym, ◌∙◌, subst, inl, inr, arith}
+use Rattle.std.specs.Prelude.{◌↔◌, Contains, IsNone, IfOk}
+use Rattle.std.proofs.lemmas.Bool.{cases_eq}
+use Rattle.std.proofs.lemmas.List.{drop_more, get_or_default}
+use Rattle.std.proofs.lemmas.List.Elements.{Contains-push, Contains-push_cases}
+use Rattle.msp_class.specs.declared.class.Class.{Class}
+use Rattle.msp_table.specs.declared.row.Chain.{Chain}
+use Rattle.msp_table.specs.Chains.{Reaches, IsNearest}
+use Rattle.msp_closure.specs.declared.distances.TheConstants.{FAR}
+use Rattle.msp_closure.specs.Entries.{LeadsToOne, IsLedTo, HasWay, IsFirst, here, later, IsWay}
+use Rattle.msp_closure.specs.Tables.{value_of, AreDistances}
+
+-- the classes before a place are far, and the first near class from there on is the first
+pub record FarSoFar (t : List ℕ) (starts : List Class) (n : ℕ) : Type 0 where
+  pub first : (x : Class) → IsFirst (λ c. value_of t c ≢ FAR) (drop n starts) x → IsFirst (λ c. value_of t c ≢ FAR) starts x
+  pub far : (k : ℕ) (d : Class) → k < n → value_of t (get_or starts k d) ≡ FAR
+
+pub FarSoFar-start : (t : List ℕ) (starts : List Class) → FarSoFar t starts 0
+FarSoFar-start t starts = record { first = λ x f. f; far = λ k d below. absurd (omega arith) }
+
+pub FarSoFar-more : (t : List ℕ) (starts : List Class) (n : ℕ) (e : Class) → n < length starts → value_of t (get_or starts n e) ≡ FAR
+    → FarSoFar t starts n → FarSoFar t starts (n + 1)
+FarSoFar-more t starts n e below is s = record {
+  first = λ x f.
+      let not_here : ¬ (value_of t (get_or starts n e) ≢ FAR) = λ near. near is in
+      let P : List Class → Type 0 = λ xs. IsFirst (λ c. value_of t c ≢ FAR) xs x in
+      s.first x (subst P (sym (drop_more starts n e below)) (later not_here f));
+  far = λ k d early. elim (cases_eq k n) as (λ _. value_of t (get_or starts k d) ≡ FAR) [
+    | inl same ↦ ap (value_of t) (ap (λ i. get_or starts i d) same ∙ get_or_default starts n d e below) ∙ is
+    | inr apart ↦ s.far k d (omega arith)
+  ];
+}
+
+pub FarSoFar-found : (t : List ℕ) (starts : List Class) (n : ℕ) (e : Class) → n < length starts → value_of t (get_or starts n e) ≢ FAR
+    → FarSoFar t starts n → IsFirst (λ c. value_of t c ≢ FAR) starts (get_or starts n e)
+FarSoFar-found t starts n e below near s =
+    let P : List Class → Type 0 = λ xs. IsFirst (λ c. value_of t c ≢ FAR) xs (get_or starts n e) in
+    s.first (get_or starts n e) (subst P (sym (drop_more starts n e below)) (here near))
+
+pub FarSoFar-none : (t : List ℕ) (starts : List Class) (n : ℕ) → length starts ≤ n → FarSoFar t starts n
+    → (c : Class) → Contains starts c → value_of t c ≡ FAR
+FarSoFar-none t starts n all s = λ c has. sym (ap (value_of t) has.2) ∙ s.far has.0 c (omega (arith, has.1))
+
+-- the first with a property is the first with an equivalent one
+IsFirst-same : {P Q : Class → Type 0} {xs : List Class} {x : Class} → ((c : Class) → P c → Q c) → ((c : Class) → Q c → P c)
+    → IsFirst P xs x → IsFirst Q xs x
+IsFirst-same to back (here p) = here (to _ p)
+IsFirst-same to back (later without f) = later (λ q. without (back _ q)) (IsFirst-same to back f)
+
+IsFirst-has : {P : Class → Type 0} {xs : List Class} {x : Class} → IsFirst P xs x → P x
+IsFirst-has (here p) = p
+IsFirst-has (later without f) = IsFirst-has f
+
+IsFirst-among : {P : Class → Type 0} {xs : List Class} {x : Class} → IsFirst P xs x → Contains xs x
+IsFirst-among (here p) = (0, omega arith, refl)
+IsFirst-among (later without f) = let h = IsFirst-among f in (suc h.0, omega (arith, h.1), h.2)
+
+-- the near classes are those that lead to a wanted class
+pub near_leads : (usable : ℕ → Bool) (wanted : List Class) (t : List ℕ) → AreDistances usable wanted t → (c : Class) → value_of t c ≢ FAR → LeadsToOne usable wanted c
+near_leads usable wanted t are c near = let into = (are.near c near).leads in (into.last, into.is_wanted, ((are.near c near).rows, into.leads))
+
+pub leads_near : (usable : ℕ → Bool) (wanted : List Class) (t : List ℕ) → AreDistances usable wanted t → (c : Class) → LeadsToOne usable wanted c → value_of t c ≢ FAR
+leads_near usable wanted t are c leads = are.all c leads.2.0 (record { last = leads.0; is_wanted = leads.1; leads = leads.2.1 })
+
+pub no_way : (usable : ℕ → Bool) (wanted starts : List Class) (t : List ℕ) → AreDistances usable wanted t
+    → ((c : Class) → Contains starts c → value_of t c ≡ FAR) → ¬ HasWay usable wanted starts
+no_way usable wanted starts t are none = λ h. leads_near usable wanted t are h.0 h.2 (none h.0 h.1)
+
+pub way_from : (usable : ℕ → Bool) (wanted starts : List Class) (t : List ℕ) (x : Class) (ks : List ℕ) → AreDistances usable wanted t
+    → IsFirst (λ c. value_of t c ≢ FAR) starts x
+    → ((wanted : List Class) → AreDistances usable wanted t → value_of t x ≢ FAR → IsNearest usable wanted x ks)
+    → IsFirst (LeadsToOne usable wanted) starts x × IsNearest usable wanted x ks
+way_from usable wanted starts t x ks are first nearest = (
+  IsFirst-same (near_leads usable wanted t are) (leads_near usable wanted t are) first,
+  nearest wanted are (IsFirst-has first),
+)
+
+-- there is no way exactly where no start leads to a wanted class
+none_exactly : {E : Type 0} (P : Type 0) (usable : ℕ → Bool) (wanted starts : List Class) (r : Result (Option Chain) E)
+    → (P → HasWay usable wanted starts) → (HasWay usable wanted starts → P) → IfOk r (λ found. IsWay usable wanted starts found)
+    → IfOk r (λ found. IsNone found ↔ (¬ P))
+none_exactly P usable wanted starts (Err e) to back way = tt
+none_exactly P usable wanted starts (Ok None) to back way = (λ _ p. way (to p), λ _. refl)
+none_exactly P usable wanted starts (Ok (Some chain)) to back way =
+    (λ is. cc, λ not. absurd (not (back (chain.from, IsFirst-among way.0, IsFirst-has way.0))))
+
+one_is : {c b : Class} → Contains (c ∷ []) b → c ≡ b
+one_is {c} {b} has = elim (Contains-push_cases [] c b has) as (λ _. c ≡ b) [ inl none ↦ absurd (omega (arith, none.1)) | inr is ↦ is ]
+
+-- from one start
+pub none_from : {E : Type 0} (usable : ℕ → Bool) (wanted listed : List Class) (c : Class) (r : Result (Option Chain) E) → wanted ≡ listed
+    → IfOk r (λ found. IsWay usable wanted (c ∷ []) found) → IfOk r (λ found. IsNone found ↔ (¬ LeadsToOne usable listed c))
+none_from usable wanted listed c r is way =
+    let P : List Class → Type 0 = λ xs. IfOk r (λ found. IsWay usable xs (c ∷ []) found) in
+    none_exactly (LeadsToOne usable listed c) usable listed (c ∷ []) r (λ leads. (c, Contains-push [] c, leads))
+    (λ h. let Q : Class → Type 0 = LeadsToOne usable listed in subst Q (sym (one_is h.1)) h.2)
+    (subst P is way)
+
+-- to one wanted class
+pub none_to : {E : Type 0} (usable : ℕ → Bool) (starts listed : List Class) (c : Class) (r : Result (Option Chain) E) → starts ≡ listed
+    → IfOk r (λ found. IsWay usable (c ∷ []) starts found) → IfOk r (λ found. IsNone found ↔ (¬ IsLedTo usable listed c))
+none_to usable starts listed c r is way =
+    let P : List Class → Type 0 = λ xs. IfOk r (λ found. IsWay usable (c ∷ []) xs found) in
+    none_exactly (IsLedTo usable listed c) usable (c ∷ []) listed r (λ led. (led.0, led.1, (c, Contains-push [] c, led.2)))
+    (λ h. let Q : Class → Type 0 = Reaches usable h.0 in (h.0, h.1, subst Q (sym (one_is h.2.1)) h.2.2))
+    (subst P is way)
+
+-- both
+pub none_between : {E : Type 0} (usable : ℕ → Bool) (a b : Class) (r : Result (Option Chain) E) → IfOk r (λ found. IsWay usable (b ∷ []) (a ∷ []) found)
+    → IfOk r (λ found. IsNone found ↔ (¬ Reaches usable a b))
+none_between usable a b r = none_exactly (Reaches usable a b) usable (b ∷ []) (a ∷ []) r
+    (λ reaches. (a, Contains-push [] a, (b, Contains-push [] b, reaches)))
+    (λ h.
+    let P : Class → Type 0 = λ x. Reaches usable x b in
+    let Q : Class → Type 0 = Reaches usable h.0 in
+    subst P (sym (one_is h.1)) (subst Q (sym (one_is h.2.1)) h.2.2))
+
+-- neither
+pub none_any : {E : Type 0} (usable : ℕ → Bool) (wanted starts goals firsts : List Class) (r : Result (Option Chain) E) → wanted ≡ goals → starts ≡ firsts
+    → IfOk r (λ found. IsWay usable wanted starts found) → IfOk r (λ found. IsNone found ↔ (¬ HasWay usable goals firsts))
+none_any usable wanted starts goals firsts r is are way =
+    let P : List Class → Type 0 = λ xs. IfOk r (λ found. IsWay usable xs starts found) in
+    let Q : List Class → Type 0 = λ xs. IfOk r (λ found. IsWay usable goals xs found) in
+    none_exactly (HasWay usable goals firsts) usable goals firsts r (λ h. h) (λ h. h) (subst Q are (subst P is way))
