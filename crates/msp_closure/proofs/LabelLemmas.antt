@@ -1,5 +1,5 @@
 -- The labels from four tests of each class.
-use Rattle.std.proofs.Common.{◌≡◌, ◌≢◌, ℕ, ◌<◌, ◌+◌, Bool, true, false, not, cond, ltb, ◌&&◌, ◌||◌, Option, List, length, get_or, set, Some, refl, ap, sym, ◌∙◌, subst, inl, inr, get_or-set_same, get_or-set_other, arith}
+use Rattle.std.proofs.Common.{◌≡◌, ◌≢◌, ℕ, ◌<◌, ◌+◌, Bool, true, false, not, ltb, ◌&&◌, ◌||◌, Option, List, length, get_or, set, Some, refl, ap, sym, ◌∙◌, subst, inl, inr, get_or-set_same, get_or-set_other, arith}
 use Rattle.std.specs.Prelude.{slice_get, IsSomeAnd, ◌==◌}
 use Rattle.std.specs.Bool.{Decides}
 use Rattle.std.proofs.lemmas.Option.{slice_get-get_or}
@@ -10,12 +10,11 @@ use Rattle.msp_class.specs.declared.ranks.TheConstants.{CLASSES}
 use Rattle.msp_class.specs.Rank.{rank_of}
 use Rattle.msp_class.proofs.RankLemmas.{rank_of-below, rank_of-injective}
 use Rattle.msp_table.specs.Rows.{keeps_size}
-use Rattle.msp_table.specs.Chains.{every_row}
 use Rattle.msp_closure.specs.declared.entry.Entry.{Entry}
 use Rattle.msp_closure.specs.declared.entry.Mark.{Mark}
 use Rattle.msp_closure.specs.declared.entry.Mark.TheVariants.{Easy, Pseudo, Weak, Hard, Strong, Torn, Both, Unsettled}
 use Rattle.msp_closure.specs.declared.distances.TheConstants.{FAR}
-use Rattle.msp_closure.specs.Entries.{easy_listed, pseudo_listed, hard_listed, strong_listed, LeadsToOne, IsLedTo, IsEasy, IsHard, IsStrong, Applies, label_number, Says, AreLabels}
+use Rattle.msp_closure.specs.Entries.{pseudo_listed, LeadsToOne, IsLedTo, IsEasy, IsHard, IsStrong, Applies, label_number, Says, AreLabels}
 use Rattle.msp_closure.specs.Tables.{value_of, is_near, is_marked, AreDistances, AreReached, mark_of}
 use Rattle.msp_closure.proofs.TableLemmas.{below_next}
 use Rattle.msp_closure.proofs.WayLemmas.{near_leads, leads_near}

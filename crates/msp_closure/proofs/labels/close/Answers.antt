@@ -1,4 +1,4 @@
-use Rattle.std.proofs.Common.{◌≡◌, Bool, List, ◌∙◌, subst}
+use Rattle.std.proofs.Common.{List, ◌∙◌, subst}
 use Rattle.msp_class.specs.declared.class.Class.{Class}
 use Rattle.msp_table.specs.Rows.{keeps_size}
 use Rattle.msp_table.specs.Chains.{every_row}
