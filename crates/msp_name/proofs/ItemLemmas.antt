@@ -9,7 +9,7 @@ use Rattle.msp_class.specs.declared.class.Times.{Times}
 use Rattle.msp_class.specs.declared.class.Times.TheVariants as t
 use Rattle.msp_name.specs.declared.words.Item.{Item}
 use Rattle.msp_name.specs.declared.words.Item.TheVariants as i
-use Rattle.msp_name.specs.Items.{has_item, plain_env, item_eq, order_eq, is_unit, is_short, with_item}
+use Rattle.msp_name.specs.Items.{has_item, plain_env, item_eq, order_eq, times_eq, is_short, with_item}
 
 -- `d` has the item `x` and those of `s`, and else is as `s`
 pub record Gains (s : Class) (x : Item) (d : Class) : Type 0 where
@@ -29,8 +29,11 @@ Gains-cut s = record { items = λ y. elim y as (λ y. has_item (record s { cut =
 Gains-heads : (s : Class) → Gains s i.Heads (record s { heads = true })
 Gains-heads s = record { items = λ y. elim y as (λ y. has_item (record s { heads = true }) y ≡ (item_eq i.Heads y || has_item s y)) [ i.Cut ↦ refl | _ ↦ refl ]; env = refl; crit = refl }
 
-Gains-unit : (s : Class) → Gains s i.Unit (record s { times = t.Unit })
-Gains-unit s = record { items = λ y. elim y as (λ y. has_item (record s { times = t.Unit }) y ≡ (item_eq i.Unit y || has_item s y)) [ i.Cut ↦ refl | _ ↦ refl ]; env = refl; crit = refl }
+Gains-unit : (s : Class) → Gains (record s { times = t.General }) i.Unit (record s { times = t.Unit })
+Gains-unit s = record { items = λ y. elim y as (λ y. has_item (record s { times = t.Unit }) y ≡ (item_eq i.Unit y || has_item (record s { times = t.General }) y)) [ i.Cut ↦ refl | _ ↦ refl ]; env = refl; crit = refl }
+
+Gains-equal : (s : Class) → Gains (record s { times = t.General }) i.Equal (record s { times = t.Equal })
+Gains-equal s = record { items = λ y. elim y as (λ y. has_item (record s { times = t.Equal }) y ≡ (item_eq i.Equal y || has_item (record s { times = t.General }) y)) [ i.Cut ↦ refl | _ ↦ refl ]; env = refl; crit = refl }
 
 Gains-chains : (s : Class) → Gains (record s { order = o.Free }) i.Chains (record s { order = o.Chains })
 Gains-chains s = record { items = λ y. elim y as (λ y. has_item (record s { order = o.Chains }) y ≡ (item_eq i.Chains y || has_item (record s { order = o.Free }) y)) [ i.Cut ↦ refl | _ ↦ refl ]; env = refl; crit = refl }
@@ -57,6 +60,11 @@ with_order-some o.Intree r d h = cc
 with_order-some o.Outtree r d h = cc
 with_order-some o.Prec r d h = cc
 
+with_times-some : (p : Times) (r d : Class) → elim p as (λ _. Option Class) [ t.General ↦ Some r | _ ↦ None ] ≡ Some d → (p ≡ t.General) × (r ≡ d)
+with_times-some t.General r d h = (refl, cc)
+with_times-some t.Unit r d h = cc
+with_times-some t.Equal r d h = cc
+
 with_short-some : (x : Env) (r q d : Class) → elim x as (λ _. Option Class) [ e.J2 ↦ Some r | e.J ↦ Some q | _ ↦ None ] ≡ Some d → ((x ≡ e.J2) × (r ≡ d)) ⊎ ((x ≡ e.J) × (q ≡ d))
 with_short-some e.J2 r q d h = inl (refl, cc)
 with_short-some e.J r q d h = inr (refl, cc)
@@ -64,6 +72,9 @@ with_short-some _ r q d h = cc
 
 free : (s : Class) (p : Order) → s.order ≡ p → record s { order = p } ≡ s
 free s p h = sym (ap (λ q. record s { order = q }) h)
+
+general : (s : Class) (p : Times) → s.times ≡ p → record s { times = p } ≡ s
+general s p h = sym (ap (λ q. record s { times = q }) h)
 
 plain : (s : Class) (x : Env) → s.env ≡ x → record s { env = x } ≡ s
 plain s x h = sym (ap (λ q. record s { env = q }) h)
@@ -76,7 +87,8 @@ Gains-with s i.Intree d h = let f = with_order-some s.order _ d h in Gains-at _ 
 Gains-with s i.Outtree d h = let f = with_order-some s.order _ d h in Gains-at _ _ s _ d (free s o.Free f.0) f.1 (Gains-outtree s)
 Gains-with s i.Prec d h = let f = with_order-some s.order _ d h in Gains-at _ _ s _ d (free s o.Free f.0) f.1 (Gains-prec s)
 Gains-with s i.Heads d h = let k : record s { heads = true } ≡ d = cc in Gains-at _ s s _ d refl k (Gains-heads s)
-Gains-with s i.Unit d h = let k : record s { times = t.Unit } ≡ d = cc in Gains-at _ s s _ d refl k (Gains-unit s)
+Gains-with s i.Unit d h = let f = with_times-some s.times _ d h in Gains-at _ _ s _ d (general s t.General f.0) f.1 (Gains-unit s)
+Gains-with s i.Equal d h = let f = with_times-some s.times _ d h in Gains-at _ _ s _ d (general s t.General f.0) f.1 (Gains-equal s)
 Gains-with s i.Short d h = elim (with_short-some s.env _ _ d h) [ inl f ↦ Gains-at _ _ s _ d (plain s e.J2 f.0) f.1 (Gains-J2 s) | inr f ↦ Gains-at _ _ s _ d (plain s e.J f.0) f.1 (Gains-J s) ]
 
 order_eq-same : (p q : Order) → order_eq p q ≡ true → p ≡ q
@@ -86,6 +98,12 @@ order_eq-same o.Intree o.Intree h = refl
 order_eq-same o.Outtree o.Outtree h = refl
 order_eq-same o.Prec o.Prec h = refl
 order_eq-same _ _ h = cc
+
+times_eq-same : (p q : Times) → times_eq p q ≡ true → p ≡ q
+times_eq-same t.General t.General h = refl
+times_eq-same t.Unit t.Unit h = refl
+times_eq-same t.Equal t.Equal h = refl
+times_eq-same _ _ h = cc
 
 -- the items of `s` are items of `c`
 pub record Within (s c : Class) : Type 0 where
@@ -119,12 +137,30 @@ is_free x s c w h k o.Prec m =
     let z : x ≡ o.Prec = cc in
     let y : order_eq s.order o.Prec ≡ false = rw z at k in cc
 
+is_general : (x : Times) (s c : Class) → Within s c → times_eq c.times x ≡ true → times_eq s.times x ≡ false → (p : Times) → s.times ≡ p → p ≡ t.General
+is_general x s c w h k t.General m = refl
+is_general x s c w h k t.Unit m =
+    let q : times_eq s.times t.Unit ≡ true = rw m refl in
+    let r : c.times ≡ t.Unit = times_eq-same _ _ (w.items i.Unit q) in
+    let u : c.times ≡ x = times_eq-same _ _ h in
+    let z : x ≡ t.Unit = cc in
+    let y : times_eq s.times t.Unit ≡ false = rw z at k in cc
+is_general x s c w h k t.Equal m =
+    let q : times_eq s.times t.Equal ≡ true = rw m refl in
+    let r : c.times ≡ t.Equal = times_eq-same _ _ (w.items i.Equal q) in
+    let u : c.times ≡ x = times_eq-same _ _ h in
+    let z : x ≡ t.Equal = cc in
+    let y : times_eq s.times t.Equal ≡ false = rw z at k in cc
+
 -- `s` has room for the item
 abbrev pub Fits : Class → Item → Type 0
 Fits s x = (d : Class) × (with_item s x ≡ Some d)
 
 fits_order : (s : Class) (r : Class) (p : Order) → p ≡ o.Free → (d : Class) × (elim p as (λ _. Option Class) [ o.Free ↦ Some r | _ ↦ None ] ≡ Some d)
 fits_order s r p h = rw h (r, refl)
+
+fits_times : (s : Class) (r : Class) (p : Times) → p ≡ t.General → (d : Class) × (elim p as (λ _. Option Class) [ t.General ↦ Some r | _ ↦ None ] ≡ Some d)
+fits_times s r p h = rw h (r, refl)
 
 short_of : (x y : Env) (r q : Class) → plain_env x ≡ plain_env y → is_short y ≡ true → is_short x ≡ false → (d : Class) × (elim x as (λ _. Option Class) [ e.J2 ↦ Some r | e.J ↦ Some q | _ ↦ None ] ≡ Some d)
 short_of e.J2 y r q h k m = (r, refl)
@@ -143,7 +179,8 @@ fits_within s c i.Intree w h k = fits_order s _ s.order (is_free o.Intree s c w 
 fits_within s c i.Outtree w h k = fits_order s _ s.order (is_free o.Outtree s c w h k s.order refl)
 fits_within s c i.Prec w h k = fits_order s _ s.order (is_free o.Prec s c w h k s.order refl)
 fits_within s c i.Heads w h k = (record s { heads = true }, refl)
-fits_within s c i.Unit w h k = (record s { times = t.Unit }, refl)
+fits_within s c i.Unit w h k = fits_times s _ s.times (is_general t.Unit s c w h k s.times refl)
+fits_within s c i.Equal w h k = fits_times s _ s.times (is_general t.Equal s c w h k s.times refl)
 fits_within s c i.Short w h k = short_of s.env c.env _ _ w.env h k
 
 order_from : Bool → Bool → Bool → Bool → Order
@@ -157,13 +194,14 @@ order_back o.Intree = refl
 order_back o.Outtree = refl
 order_back o.Prec = refl
 
-times_from : Bool → Times
-times_from a = cond a t.Unit t.General
+times_from : Bool → Bool → Times
+times_from a b = cond a t.Unit (cond b t.Equal t.General)
 
-times_back : (p : Times) → times_from (is_unit p) ≡ p
+times_back : (p : Times) → times_from (times_eq p t.Unit) (times_eq p t.Equal) ≡ p
 unfolding times_from
 times_back t.General = refl
 times_back t.Unit = refl
+times_back t.Equal = refl
 
 env_from : Bool → Env → Env
 env_from true e.J2 = e.J2Short
@@ -187,7 +225,8 @@ class_same s c h m k =
     let outtree : order_eq c.order o.Outtree ≡ order_eq s.order o.Outtree = h i.Outtree in
     let prec : order_eq c.order o.Prec ≡ order_eq s.order o.Prec = h i.Prec in
     let short : is_short c.env ≡ is_short s.env = h i.Short in
-    let unit : is_unit c.times ≡ is_unit s.times = h i.Unit in
+    let unit : times_eq c.times t.Unit ≡ times_eq s.times t.Unit = h i.Unit in
+    let equal : times_eq c.times t.Equal ≡ times_eq s.times t.Equal = h i.Equal in
     let os = order_back s.order in
     let oc = order_back c.order in
     let es = env_back s.env in

@@ -72,7 +72,7 @@ item_rows : AllByRecursion IsItemRow item_texts
 unfolding item_texts IsItemRow begins
 item_rows =
     let t : (w : List ℕ) → Lacks bar w → Lacks comma w → begins w ≡ true → IsText w = text_row in
-    (t _ refl refl refl, (t _ refl refl refl, (t _ refl refl refl, (t _ refl refl refl, (t _ refl refl refl, (t _ refl refl refl, (t _ refl refl refl, (t _ refl refl refl, (t _ refl refl refl, (t _ refl refl refl, (t _ refl refl refl, (t _ refl refl refl, (t _ refl refl refl, (t _ refl refl refl, (t _ refl refl refl, (t _ refl refl refl, (t _ refl refl refl, (t _ refl refl refl, (t _ refl refl refl, tt)))))))))))))))))))
+    (t _ refl refl refl, (t _ refl refl refl, (t _ refl refl refl, (t _ refl refl refl, (t _ refl refl refl, (t _ refl refl refl, (t _ refl refl refl, (t _ refl refl refl, (t _ refl refl refl, (t _ refl refl refl, (t _ refl refl refl, (t _ refl refl refl, (t _ refl refl refl, (t _ refl refl refl, (t _ refl refl refl, (t _ refl refl refl, (t _ refl refl refl, (t _ refl refl refl, (t _ refl refl refl, (t _ refl refl refl, (t _ refl refl refl, (t _ refl refl refl, (t _ refl refl refl, (t _ refl refl refl, tt))))))))))))))))))))))))
 
 all_texts : (items : List (List ℕ × Item)) → All (Contains item_texts) items → AllByRecursion IsText (map (λ w. w.0) items)
 unfolding IsItemRow

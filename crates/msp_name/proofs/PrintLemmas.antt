@@ -10,13 +10,15 @@ use Rattle.msp_class.specs.declared.class.Env.{Env}
 use Rattle.msp_class.specs.declared.class.Env.TheVariants as e
 use Rattle.msp_class.specs.declared.class.Order.{Order}
 use Rattle.msp_class.specs.declared.class.Order.TheVariants as o
+use Rattle.msp_class.specs.declared.class.Times.{Times}
+use Rattle.msp_class.specs.declared.class.Times.TheVariants as t
 use Rattle.msp_class.specs.declared.class.Crit.{Crit}
 use Rattle.msp_class.specs.declared.class.Crit.TheVariants as k
 use Rattle.msp_name.specs.declared.words.Item.{Item}
 use Rattle.msp_name.specs.declared.words.Item.TheVariants as i
 use Rattle.msp_name.specs.Spellings.{env_texts, item_texts, crit_texts}
-use Rattle.msp_name.specs.Items.{has_item, is_unit, is_short, order_eq, plain_env, item_eq}
-use Rattle.msp_name.specs.Names.{bar, comma, text_if, env_text, order_text, crit_text, item_texts_of, name_of, NameOf, among}
+use Rattle.msp_name.specs.Items.{has_item, is_short, order_eq, times_eq, plain_env, item_eq}
+use Rattle.msp_name.specs.Names.{bar, comma, text_if, env_text, order_text, times_text, crit_text, item_texts_of, name_of, NameOf, among}
 use Rattle.msp_name.specs.Printing.{following}
 use Rattle.msp_name.specs.Reading.{spelled}
 use Rattle.msp_name.proofs.TableLemmas.{spelled-some}
@@ -60,12 +62,17 @@ order_row o.Intree = (codes "intree", i.Intree) ∷ []
 order_row o.Outtree = (codes "outtree", i.Outtree) ∷ []
 order_row o.Prec = (codes "prec", i.Prec) ∷ []
 
--- the items by what the class says of each part
-rows : Bool → Order → Bool → Bool → Bool → List (List ℕ × Item)
-rows a p h u s = row_if a (codes "pmtn", i.Cut) ++ (order_row p ++ (row_if h (codes "r", i.Heads) ++ (row_if u (codes "p=1", i.Unit) ++ row_if s (codes "n<=2", i.Short))))
+times_row : Times → List (List ℕ × Item)
+times_row t.General = []
+times_row t.Unit = (codes "p=1", i.Unit) ∷ []
+times_row t.Equal = (codes "p=p", i.Equal) ∷ []
 
-texts : Bool → Order → Bool → Bool → Bool → List (List ℕ)
-texts a p h u s = text_if a (codes "pmtn") ++ (text_if (not (order_eq p o.Free)) (order_text p) ++ (text_if h (codes "r") ++ (text_if u (codes "p=1") ++ text_if s (codes "n<=2"))))
+-- the items by what the class says of each part
+rows : Bool → Order → Bool → Times → Bool → List (List ℕ × Item)
+rows a p h u s = row_if a (codes "pmtn", i.Cut) ++ (order_row p ++ (row_if h (codes "r", i.Heads) ++ (times_row u ++ row_if s (codes "n<=2", i.Short))))
+
+texts : Bool → Order → Bool → Times → Bool → List (List ℕ)
+texts a p h u s = text_if a (codes "pmtn") ++ (text_if (not (order_eq p o.Free)) (order_text p) ++ (text_if h (codes "r") ++ (text_if (not (times_eq u t.General)) (times_text u) ++ text_if s (codes "n<=2"))))
 
 -- a test at each value
 all_bools : (Bool → Bool) → Bool
@@ -88,29 +95,40 @@ all_orders-at f h p =
     let w = and_parts (f o.Outtree) (f o.Prec) z.1 in
     elim p as (λ p. f p ≡ true) [ o.Free ↦ y.0 | o.Chains ↦ y.1 | o.Intree ↦ z.0 | o.Outtree ↦ w.0 | o.Prec ↦ w.1 ]
 
-every : (Bool → Order → Bool → Bool → Bool → Bool) → Bool
-every f = all_bools (λ a. all_orders (λ p. all_bools (λ h. all_bools (λ u. all_bools (λ s. f a p h u s)))))
+all_times : (Times → Bool) → Bool
+all_times f = f t.General && (f t.Unit && f t.Equal)
 
-every-at : (f : Bool → Order → Bool → Bool → Bool → Bool) → every f ≡ true → (a : Bool) (p : Order) (h u s : Bool) → f a p h u s ≡ true
+all_times-at : (f : Times → Bool) → all_times f ≡ true → (p : Times) → f p ≡ true
+unfolding all_times
+all_times-at f h p =
+    let x = and_parts (f t.General) (f t.Unit && f t.Equal) h in
+    let y = and_parts (f t.Unit) (f t.Equal) x.1 in
+    elim p as (λ p. f p ≡ true) [ t.General ↦ x.0 | t.Unit ↦ y.0 | t.Equal ↦ y.1 ]
+
+every : (Bool → Order → Bool → Times → Bool → Bool) → Bool
+every f = all_bools (λ a. all_orders (λ p. all_bools (λ h. all_times (λ u. all_bools (λ s. f a p h u s)))))
+
+every-at : (f : Bool → Order → Bool → Times → Bool → Bool) → every f ≡ true → (a : Bool) (p : Order) (h : Bool) (u : Times) (s : Bool) → f a p h u s ≡ true
 unfolding every
-every-at f t a p h u s = all_bools-at _ (all_bools-at _ (all_bools-at _ (all_orders-at _ (all_bools-at _ t a) p) h) u) s
+every-at f t a p h u s = all_bools-at _ (all_times-at _ (all_bools-at _ (all_orders-at _ (all_bools-at _ t a) p) h) u) s
 
-rows-texts : (a : Bool) (p : Order) (h u s : Bool) → map (λ w. w.0) (rows a p h u s) ≡ texts a p h u s
-unfolding rows texts row_if order_row every all_bools all_orders
+rows-texts : (a : Bool) (p : Order) (h : Bool) (u : Times) (s : Bool) → map (λ w. w.0) (rows a p h u s) ≡ texts a p h u s
+unfolding rows texts row_if order_row times_row every all_bools all_orders all_times
 rows-texts a p h u s = (slice_eq-Decides bytes_eq-Decides _ _ _ refl).0 (every-at (λ a p h u s. pointwise bytes_eq (map (λ w. w.0) (rows a p h u s)) (texts a p h u s)) refl a p h u s)
 
-texts-short : (a : Bool) (p : Order) (h u s : Bool) → length (join_with_byte comma (texts a p h u s)) ≤ 23
-unfolding texts every all_bools all_orders
+texts-short : (a : Bool) (p : Order) (h : Bool) (u : Times) (s : Bool) → length (join_with_byte comma (texts a p h u s)) ≤ 23
+unfolding texts every all_bools all_orders all_times
 texts-short a p h u s = leb-true _ _ (every-at (λ a p h u s. leb (length (join_with_byte comma (texts a p h u s))) 23) refl a p h u s)
 
-has : Bool → Order → Bool → Bool → Bool → Item → Bool
+has : Bool → Order → Bool → Times → Bool → Item → Bool
 has a p h u s i.Cut = a
 has a p h u s i.Chains = order_eq p o.Chains
 has a p h u s i.Intree = order_eq p o.Intree
 has a p h u s i.Outtree = order_eq p o.Outtree
 has a p h u s i.Prec = order_eq p o.Prec
 has a p h u s i.Heads = h
-has a p h u s i.Unit = u
+has a p h u s i.Unit = times_eq u t.Unit
+has a p h u s i.Equal = times_eq u t.Equal
 has a p h u s i.Short = s
 
 same : Bool → Bool → Bool
@@ -123,8 +141,8 @@ same-is true b h = sym h
 same-is false true h = cc
 same-is false false h = refl
 
-rows-exact : (y : Item) (a : Bool) (p : Order) (h u s : Bool) → has a p h u s y ≡ among (map (λ w. w.1) (rows a p h u s)) y
-unfolding has rows row_if order_row every all_bools all_orders same
+rows-exact : (y : Item) (a : Bool) (p : Order) (h : Bool) (u : Times) (s : Bool) → has a p h u s y ≡ among (map (λ w. w.1) (rows a p h u s)) y
+unfolding has rows row_if order_row times_row every all_bools all_orders all_times same
 rows-exact i.Cut a p h u s = same-is _ _ (every-at (λ a p h u s. same (has a p h u s i.Cut) (among (map (λ w. w.1) (rows a p h u s)) i.Cut)) refl a p h u s)
 rows-exact i.Chains a p h u s = same-is _ _ (every-at (λ a p h u s. same (has a p h u s i.Chains) (among (map (λ w. w.1) (rows a p h u s)) i.Chains)) refl a p h u s)
 rows-exact i.Intree a p h u s = same-is _ _ (every-at (λ a p h u s. same (has a p h u s i.Intree) (among (map (λ w. w.1) (rows a p h u s)) i.Intree)) refl a p h u s)
@@ -132,6 +150,7 @@ rows-exact i.Outtree a p h u s = same-is _ _ (every-at (λ a p h u s. same (has 
 rows-exact i.Prec a p h u s = same-is _ _ (every-at (λ a p h u s. same (has a p h u s i.Prec) (among (map (λ w. w.1) (rows a p h u s)) i.Prec)) refl a p h u s)
 rows-exact i.Heads a p h u s = same-is _ _ (every-at (λ a p h u s. same (has a p h u s i.Heads) (among (map (λ w. w.1) (rows a p h u s)) i.Heads)) refl a p h u s)
 rows-exact i.Unit a p h u s = same-is _ _ (every-at (λ a p h u s. same (has a p h u s i.Unit) (among (map (λ w. w.1) (rows a p h u s)) i.Unit)) refl a p h u s)
+rows-exact i.Equal a p h u s = same-is _ _ (every-at (λ a p h u s. same (has a p h u s i.Equal) (among (map (λ w. w.1) (rows a p h u s)) i.Equal)) refl a p h u s)
 rows-exact i.Short a p h u s = same-is _ _ (every-at (λ a p h u s. same (has a p h u s i.Short) (among (map (λ w. w.1) (rows a p h u s)) i.Short)) refl a p h u s)
 
 differ : Item → List Item → Bool
@@ -156,8 +175,8 @@ unfolding distinct IsDistinct
 distinct-is [] h = tt
 distinct-is (x ∷ xs) h = let both = and_parts (differ x xs) (distinct xs) h in (differ-all x xs both.0, distinct-is xs both.1)
 
-rows-distinct : (a : Bool) (p : Order) (h u s : Bool) → distinct (map (λ w. w.1) (rows a p h u s)) ≡ true
-unfolding rows row_if order_row distinct differ every all_bools all_orders
+rows-distinct : (a : Bool) (p : Order) (h : Bool) (u : Times) (s : Bool) → distinct (map (λ w. w.1) (rows a p h u s)) ≡ true
+unfolding rows row_if order_row times_row distinct differ every all_bools all_orders all_times
 rows-distinct a p h u s = every-at (λ a p h u s. distinct (map (λ w. w.1) (rows a p h u s))) refl a p h u s
 
 row_if-spelled : (b : Bool) (r : List ℕ × Item) → Contains item_texts r → All (Contains item_texts) (row_if b r)
@@ -173,16 +192,22 @@ order_row-spelled o.Intree = All-cons (Contains item_texts) _ [] (spelled-some i
 order_row-spelled o.Outtree = All-cons (Contains item_texts) _ [] (spelled-some item_texts (codes "outtree") i.Outtree refl) (All-nil (Contains item_texts))
 order_row-spelled o.Prec = All-cons (Contains item_texts) _ [] (spelled-some item_texts (codes "prec") i.Prec refl) (All-nil (Contains item_texts))
 
+times_row-spelled : (p : Times) → All (Contains item_texts) (times_row p)
+unfolding times_row item_texts
+times_row-spelled t.General = All-nil (Contains item_texts)
+times_row-spelled t.Unit = All-cons (Contains item_texts) _ [] (spelled-some item_texts (codes "p=1") i.Unit refl) (All-nil (Contains item_texts))
+times_row-spelled t.Equal = All-cons (Contains item_texts) _ [] (spelled-some item_texts (codes "p=p") i.Equal refl) (All-nil (Contains item_texts))
+
 row_spelled : (w : List ℕ) (x : Item) → spelled item_texts w ≡ Some x → (b : Bool) → All (Contains item_texts) (row_if b (w, x))
 row_spelled w x h b = row_if-spelled b (w, x) (spelled-some item_texts w x h)
 
-rows-spelled : (a : Bool) (p : Order) (h u s : Bool) → All (Contains item_texts) (rows a p h u s)
+rows-spelled : (a : Bool) (p : Order) (h : Bool) (u : Times) (s : Bool) → All (Contains item_texts) (rows a p h u s)
 unfolding rows item_texts
 rows-spelled a p h u s =
     All-append (Contains item_texts) _ _ (row_spelled (codes "pmtn") i.Cut refl a)
     (All-append (Contains item_texts) _ _ (order_row-spelled p)
     (All-append (Contains item_texts) _ _ (row_spelled (codes "r") i.Heads refl h)
-    (All-append (Contains item_texts) _ _ (row_spelled (codes "p=1") i.Unit refl u) (row_spelled (codes "n<=2") i.Short refl s))))
+    (All-append (Contains item_texts) _ _ (times_row-spelled u) (row_spelled (codes "n<=2") i.Short refl s))))
 
 env-spelled : (x : Env) → spelled env_texts (env_text x) ≡ Some (plain_env x)
 unfolding env_texts
@@ -202,7 +227,7 @@ crit-short : (x : Crit) → length (crit_text x) ≤ 5
 crit-short k.Cmax = lit≤ tt
 crit-short _ = lit≤ tt
 
-class_has : (c : Class) (y : Item) → has_item c y ≡ has c.cut c.order c.heads (is_unit c.times) (is_short c.env) y
+class_has : (c : Class) (y : Item) → has_item c y ≡ has c.cut c.order c.heads c.times (is_short c.env) y
 unfolding has
 class_has c i.Cut = refl
 class_has c _ = refl
@@ -211,22 +236,22 @@ class_has c _ = refl
 pub name_of-NameOf : (c : Class) → NameOf (name_of c) c
 unfolding name_of item_texts_of texts
 name_of-NameOf c =
-    let items : List (List ℕ × Item) = rows c.cut c.order c.heads (is_unit c.times) (is_short c.env) in
+    let items : List (List ℕ × Item) = rows c.cut c.order c.heads c.times (is_short c.env) in
     record {
       env = env_text c.env;
       items = items;
       crit = crit_text c.crit;
-      written = ap (λ ws. env_text c.env ++ (bar ∷ (join_with_byte comma ws ++ (bar ∷ crit_text c.crit)))) (sym (rows-texts c.cut c.order c.heads (is_unit c.times) (is_short c.env)));
+      written = ap (λ ws. env_text c.env ++ (bar ∷ (join_with_byte comma ws ++ (bar ∷ crit_text c.crit)))) (sym (rows-texts c.cut c.order c.heads c.times (is_short c.env)));
       env_spelled = spelled-some env_texts (env_text c.env) (plain_env c.env) (env-spelled c.env);
-      items_spelled = rows-spelled c.cut c.order c.heads (is_unit c.times) (is_short c.env);
-      exact = λ y. class_has c y ∙ rows-exact y c.cut c.order c.heads (is_unit c.times) (is_short c.env);
-      once = distinct-is _ (rows-distinct c.cut c.order c.heads (is_unit c.times) (is_short c.env));
+      items_spelled = rows-spelled c.cut c.order c.heads c.times (is_short c.env);
+      exact = λ y. class_has c y ∙ rows-exact y c.cut c.order c.heads c.times (is_short c.env);
+      once = distinct-is _ (rows-distinct c.cut c.order c.heads c.times (is_short c.env));
       crit_spelled = spelled-some crit_texts (crit_text c.crit) c.crit (crit-spelled c.crit);
     }
 
 pub length-items : (c : Class) → length (join_with_byte comma (item_texts_of c)) ≤ 23
 unfolding item_texts_of texts
-length-items c = texts-short c.cut c.order c.heads (is_unit c.times) (is_short c.env)
+length-items c = texts-short c.cut c.order c.heads c.times (is_short c.env)
 
 pub length-name_of : (c : Class) → length (name_of c) ≤ 32
 unfolding name_of

@@ -36,7 +36,7 @@ env_finds = (refl, (refl, (refl, (refl, (refl, (refl, (refl, (refl, (refl, (refl
 
 item_finds : AllByRecursion (Finds item_texts) item_texts
 unfolding item_texts Finds
-item_finds = (refl, (refl, (refl, (refl, (refl, (refl, (refl, (refl, (refl, (refl, (refl, (refl, (refl, (refl, (refl, (refl, (refl, (refl, (refl, tt)))))))))))))))))))
+item_finds = (refl, (refl, (refl, (refl, (refl, (refl, (refl, (refl, (refl, (refl, (refl, (refl, (refl, (refl, (refl, (refl, (refl, (refl, (refl, (refl, (refl, (refl, (refl, (refl, tt))))))))))))))))))))))))
 
 crit_finds : AllByRecursion (Finds crit_texts) crit_texts
 unfolding crit_texts Finds

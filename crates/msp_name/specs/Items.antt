@@ -19,9 +19,11 @@ order_eq o.Outtree o.Outtree = true
 order_eq o.Prec o.Prec = true
 order_eq _ _ = false
 
-abbrev pub is_unit : Times → Bool
-is_unit t.General = false
-is_unit t.Unit = true
+abbrev pub times_eq : Times → Times → Bool
+times_eq t.General t.General = true
+times_eq t.Unit t.Unit = true
+times_eq t.Equal t.Equal = true
+times_eq _ _ = false
 
 abbrev pub is_short : Env → Bool
 is_short e.J2Short = true
@@ -36,7 +38,8 @@ has_item c i.Intree = order_eq c.order o.Intree
 has_item c i.Outtree = order_eq c.order o.Outtree
 has_item c i.Prec = order_eq c.order o.Prec
 has_item c i.Heads = c.heads
-has_item c i.Unit = is_unit c.times
+has_item c i.Unit = times_eq c.times t.Unit
+has_item c i.Equal = times_eq c.times t.Equal
 has_item c i.Short = is_short c.env
 
 -- the environment without n<=2
@@ -54,6 +57,7 @@ item_eq i.Outtree i.Outtree = true
 item_eq i.Prec i.Prec = true
 item_eq i.Heads i.Heads = true
 item_eq i.Unit i.Unit = true
+item_eq i.Equal i.Equal = true
 item_eq i.Short i.Short = true
 item_eq _ _ = false
 
@@ -64,6 +68,10 @@ bare x = record { env = x; cut = false; order = o.Free; heads = false; times = t
 -- the class with another order, where it has none
 abbrev pub with_order : Class → Order → Option Class
 with_order c x = elim c.order [ o.Free ↦ Some (record c { order = x }) | _ ↦ None ]
+
+-- the class with other times, where they are general
+abbrev pub with_times : Class → Times → Option Class
+with_times c x = elim c.times [ t.General ↦ Some (record c { times = x }) | _ ↦ None ]
 
 -- the class with n<=2, where its environment takes it
 abbrev pub with_short : Class → Option Class
@@ -77,5 +85,6 @@ with_item c i.Intree = with_order c o.Intree
 with_item c i.Outtree = with_order c o.Outtree
 with_item c i.Prec = with_order c o.Prec
 with_item c i.Heads = Some (record c { heads = true })
-with_item c i.Unit = Some (record c { times = t.Unit })
+with_item c i.Unit = with_times c t.Unit
+with_item c i.Equal = with_times c t.Equal
 with_item c i.Short = with_short c

@@ -6,11 +6,13 @@ use Rattle.msp_class.specs.declared.class.Env.{Env}
 use Rattle.msp_class.specs.declared.class.Env.TheVariants as e
 use Rattle.msp_class.specs.declared.class.Order.{Order}
 use Rattle.msp_class.specs.declared.class.Order.TheVariants as o
+use Rattle.msp_class.specs.declared.class.Times.{Times}
+use Rattle.msp_class.specs.declared.class.Times.TheVariants as t
 use Rattle.msp_class.specs.declared.class.Crit.{Crit}
 use Rattle.msp_class.specs.declared.class.Crit.TheVariants as k
 use Rattle.msp_name.specs.declared.words.Item.{Item}
 use Rattle.msp_name.specs.Spellings.{env_texts, item_texts, crit_texts}
-use Rattle.msp_name.specs.Items.{has_item, plain_env, item_eq, is_short, is_unit, order_eq}
+use Rattle.msp_name.specs.Items.{has_item, plain_env, item_eq, is_short, order_eq, times_eq}
 
 -- the code of `|`
 abbrev pub bar : ℕ
@@ -65,6 +67,12 @@ order_text o.Intree = codes "intree"
 order_text o.Outtree = codes "outtree"
 order_text o.Prec = codes "prec"
 
+-- no text where the times are general
+abbrev pub times_text : Times → List ℕ
+times_text t.General = []
+times_text t.Unit = codes "p=1"
+times_text t.Equal = codes "p=p"
+
 abbrev pub crit_text : Crit → List ℕ
 crit_text k.Cmax = codes "Cmax"
 crit_text k.Lmax = codes "Lmax"
@@ -81,13 +89,13 @@ abbrev pub text_if : Bool → List ℕ → List (List ℕ)
 text_if true w = w ∷ []
 text_if false w = []
 
--- the canonical texts of the items of a class, in the order cut, order, release dates, unit times, short routes
+-- the canonical texts of the items of a class, in the order cut, order, release dates, times, short routes
 unfoldable pub item_texts_of : Class → List (List ℕ)
 item_texts_of c =
     text_if c.cut (codes "pmtn")
     ++ (text_if (not (order_eq c.order o.Free)) (order_text c.order)
     ++ (text_if c.heads (codes "r")
-    ++ (text_if (is_unit c.times) (codes "p=1")
+    ++ (text_if (not (times_eq c.times t.General)) (times_text c.times)
     ++ text_if (is_short c.env) (codes "n<=2"))))
 
 -- the canonical spelling of a class

@@ -1,4 +1,4 @@
--- The items of a printed name, with a comma between neighbours.
+-- The items of a printed name, with a comma between neighbours. No public contract cites this file.
 use Rattle.std.specs.Prelude.{ℕ, List, [], ◌∷◌, ◌++◌, Bool, true, false}
 use Rattle.msp_name.specs.Names.{comma}
 

@@ -1,4 +1,10 @@
-use std::fmt;
+// The faults of a name, and their texts.
+ghost use Rattle.std.specs.Prelude.{◌≡◌, ◌+◌, ◌≤◌, ◌++◌, length, decimal};
+ghost use Rattle.msp_name.specs.Faults.{fault_text};
+ghost use Rattle.msp_name.specs.declared.short_text.TheConstants.{ROOM};
+
+use crate::short_text::ShortText;
+use std::marker::Model;
 
 /// The first fault of a text that is no name of a class. A place `at` counts bytes from 0.
 #[derive(Clone, Copy, Debug, PartialEq, Eq)]
@@ -11,26 +17,68 @@ pub enum NameFault {
     Item { at: u32 },
     /// The item stands there a second time.
     Twice { at: u32 },
-    /// A second order, or `n<=2` in an environment that is neither J2 nor J.
+    /// A second order, other times than those before, or `n<=2` in an environment that is neither J2 nor J.
     Clash { at: u32 },
     /// The text after the second bar is no criterion.
     Criterion { at: u32 },
 }
 
-impl fmt::Display for NameFault {
-    ghost use Rattle.std.specs.Prelude.{Some};
-    ghost use Rattle.msp_name.specs.Faults.{fault_text};
+/// The text of a fault.
+#[derive(Drop)]
+pub struct FaultText {
+    text: ShortText,
+}
 
-    ghost output = { λ f. Some (fault_text f) };
+impl Model for FaultText {
+    ghost use Rattle.std.specs.Prelude.{ℕ, List};
 
-    fn fmt<W: fmt::Write>(&self, f: &mut fmt::Formatter<W>) -> fmt::Result {
-        match *self {
-            NameFault::Bars => f.write_str("not two bars"),
-            NameFault::Environment { at } => write!(f, "environment at {at}"),
-            NameFault::Item { at } => write!(f, "item at {at}"),
-            NameFault::Twice { at } => write!(f, "item again at {at}"),
-            NameFault::Clash { at } => write!(f, "item does not fit at {at}"),
-            NameFault::Criterion { at } => write!(f, "criterion at {at}"),
+    ghost Value = { List ℕ };
+
+    ghost view = { λ t. t.text };
+}
+
+impl FaultText {
+    /// The bytes of the text.
+    pub fn bytes(&self) -> &[u8]
+        ensures { result.now ≡ self.now }
+    {
+        self.text.bytes()
+    }
+}
+
+impl NameFault {
+    /// The text of the fault. It takes no memory.
+    pub fn text(self) -> FaultText
+        ensures { result ≡ fault_text self }
+    {
+        match self {
+            NameFault::Bars => plain(b"not two bars"),
+            NameFault::Environment { at } => placed(b"environment at ", at),
+            NameFault::Item { at } => placed(b"item at ", at),
+            NameFault::Twice { at } => placed(b"item again at ", at),
+            NameFault::Clash { at } => placed(b"item does not fit at ", at),
+            NameFault::Criterion { at } => placed(b"criterion at ", at),
         }
     }
+}
+
+fn plain(bytes: &[u8]) -> FaultText
+    requires { length bytes.now ≤ ROOM }
+    ensures { result ≡ bytes.now }
+{
+    let mut text = ShortText::new();
+    text.put(bytes);
+    FaultText { text }
+}
+
+/// The text with the digits of a place behind it, which are at most 10.
+fn placed(bytes: &[u8], at: u32) -> FaultText
+    requires { length bytes.now + 10 ≤ ROOM }
+    ensures { result ≡ bytes.now ++ decimal at }
+{
+    let mut digits = itoa::Buffer::new();
+    let mut text = ShortText::new();
+    text.put(bytes);
+    text.put(digits.format(at).as_bytes());
+    FaultText { text }
 }

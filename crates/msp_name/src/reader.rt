@@ -1,6 +1,7 @@
+// How a name is read: part by part, from the left, up to the first fault.
 ghost use Rattle.std.specs.Prelude.{◌≡◌, ℕ, ◌+◌, ◌<◌, ◌^◌, ◌∷◌, [], length, MatchOption, Ok, ◌↔◌, position, ◌==◌};
 ghost use Rattle.msp_class.specs.declared.class.Class.{Class};
-ghost use Rattle.msp_name.specs.Items.{bare, has_item, with_item, with_order, with_short};
+ghost use Rattle.msp_name.specs.Items.{bare, has_item, with_item, with_order, with_short, with_times};
 ghost use Rattle.msp_name.specs.Names.{comma, NameOf};
 ghost use Rattle.msp_name.specs.Reading.{item_read, items_read, words, fields_read, parts, reading_of};
 
@@ -20,6 +21,7 @@ pub fn has_item(class: Class, item: Item) -> bool
         Item::Prec => matches!(class.order, Order::Prec),
         Item::Heads => class.heads,
         Item::Unit => matches!(class.times, Times::Unit),
+        Item::Equal => matches!(class.times, Times::Equal),
         Item::Short => matches!(class.env, Env::J2Short | Env::JShort),
     }
 }
@@ -29,6 +31,15 @@ fn with_order(class: Class, order: Order) -> Option<Class>
 {
     match class.order {
         Order::Free => Some(Class { order, ..class }),
+        _ => None,
+    }
+}
+
+fn with_times(class: Class, times: Times) -> Option<Class>
+    ensures { result ≡ with_times class times }
+{
+    match class.times {
+        Times::General => Some(Class { times, ..class }),
         _ => None,
     }
 }
@@ -63,10 +74,8 @@ fn with_item(class: Class, item: Item) -> Option<Class>
             heads: true,
             ..class
         }),
-        Item::Unit => Some(Class {
-            times: Times::Unit,
-            ..class
-        }),
+        Item::Unit => with_times(class, Times::Unit),
+        Item::Equal => with_times(class, Times::Equal),
         Item::Short => with_short(class),
     }
 }

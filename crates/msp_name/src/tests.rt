@@ -1,3 +1,4 @@
+// Every spelling, and the first faults.
 use crate::{parse, print};
 use std::process::Abort;
 use std::test::Fail;
@@ -9,7 +10,7 @@ fn reads_as(rt: &impl Abort, name: &[u8], canonical: &[u8]) {
             let text = print(class);
             assert!(rt; text.bytes() == canonical, "{class:?}");
         }
-        Err(fault) => panic!(rt; "{fault}"),
+        Err(fault) => panic!(rt; "{fault:?}"),
     }
 }
 
@@ -36,13 +37,18 @@ fn every_spelling(rt: HostRuntime) {
         (b"J2|pj=1|sumT".as_slice(), b"J2|p=1|sumT".as_slice()),
         (b"J|p_ij=1|sumT_j".as_slice(), b"J|p=1|sumT".as_slice()),
         (b"1|pij=1|sumwT".as_slice(), b"1|p=1|sumwT".as_slice()),
+        (b"1|p=p|Cmax".as_slice(), b"1|p=p|Cmax".as_slice()),
+        (b"P|p_j=p|Cmax".as_slice(), b"P|p=p|Cmax".as_slice()),
+        (b"Q|pj=p|Cmax".as_slice(), b"Q|p=p|Cmax".as_slice()),
+        (b"O|p_ij=p|Cmax".as_slice(), b"O|p=p|Cmax".as_slice()),
+        (b"F|pij=p|Cmax".as_slice(), b"F|p=p|Cmax".as_slice()),
         (b"J2|n<=2|sumw_jT_j".as_slice(), b"J2|n<=2|sumwT".as_slice()),
         (b"J|n_j<=2|Cmax".as_slice(), b"J|n<=2|Cmax".as_slice()),
         (b"J|nj<=2|Cmax".as_slice(), b"J|n<=2|Cmax".as_slice()),
         (b"1|rj,prec|Cmax".as_slice(), b"1|prec,r|Cmax".as_slice()),
         (
-            b"J2|nj<=2,p=1,r,outtree,pmtn|sumwC".as_slice(),
-            b"J2|pmtn,outtree,r,p=1,n<=2|sumwC".as_slice(),
+            b"J2|nj<=2,p=p,r,outtree,pmtn|sumwC".as_slice(),
+            b"J2|pmtn,outtree,r,p=p,n<=2|sumwC".as_slice(),
         ),
     ] {
         reads_as(&rt, name, canonical);
@@ -64,6 +70,9 @@ fn first_faults(rt: HostRuntime) -> Result<(), Fail> {
             "item does not fit at 9",
         ),
         (b"1|n<=2|Cmax".as_slice(), "item does not fit at 2"),
+        (b"1|p=1,p=p|Cmax".as_slice(), "item does not fit at 6"),
+        (b"1|p=p,r,pj=1|Cmax".as_slice(), "item does not fit at 8"),
+        (b"1|p=p,pij=p|Cmax".as_slice(), "item again at 6"),
         (b"J|nj<=2,n<=2|Cmax".as_slice(), "item again at 8"),
         (b"P|pmtn,|Cmax".as_slice(), "item at 7"),
         (b"P|,|Cmax".as_slice(), "item at 2"),
@@ -76,7 +85,7 @@ fn first_faults(rt: HostRuntime) -> Result<(), Fail> {
     ] {
         assert!(rt; name.len() < 100);
         let fault = parse(name).err().ok_or("a name")?;
-        assert_eq!(rt; fault.to_string(rt.alloc())?.as_str(), text);
+        assert_eq!(rt; fault.text().bytes(), text.as_bytes());
     }
     Ok(())
 }

@@ -1,55 +1,37 @@
+// The canonical name of a class.
 ghost use Rattle.std.specs.Prelude.{◌≡◌, ◌+◌, ◌≤◌, ◌++◌, [], length, ◌||◌, not};
 ghost use Rattle.std.specs.List.{join_with_byte};
-ghost use Rattle.msp_name.specs.Names.{comma, env_text, order_text, crit_text, text_if, item_texts_of, name_of, NameOf};
-ghost use Rattle.msp_name.specs.Items.{order_eq};
+ghost use Rattle.msp_name.specs.Names.{comma, env_text, order_text, times_text, crit_text, text_if, item_texts_of, name_of, NameOf};
+ghost use Rattle.msp_name.specs.Items.{order_eq, times_eq};
 ghost use Rattle.msp_name.specs.Printing.{following};
+ghost use Rattle.msp_name.specs.declared.short_text.TheConstants.{ROOM};
 
 use crate::reader::has_item;
+use crate::short_text::ShortText;
 use crate::words::Item;
-use msp_class::{Class, Crit, Env, Order};
+use msp_class::{Class, Crit, Env, Order, Times};
 use std::marker::Model;
 
-/// The text of a class's name, of at most 40 bytes.
+/// The text of a class's name.
 #[derive(Drop)]
 pub struct NameText {
-    buffer: [u8; 40],
-    len: usize,
+    text: ShortText,
 }
 
 impl Model for NameText {
-    ghost use Rattle.std.specs.Prelude.{ℕ, List, ◌≤◌, take};
+    ghost use Rattle.std.specs.Prelude.{ℕ, List};
 
     ghost Value = { List ℕ };
 
-    ghost view = { λ t. take t.len t.buffer };
-
-    ghost invariant = { λ t. t.len ≤ 40 };
+    ghost view = { λ t. t.text };
 }
 
 impl NameText {
-    fn new() -> NameText
-        ensures { result ≡ [] }
-    {
-        NameText {
-            buffer: [0; 40],
-            len: 0,
-        }
-    }
-
-    fn put(&mut self, text: &[u8])
-        requires { length self.old + length text.now ≤ 40 }
-        ensures { self.new ≡ self.old ++ text.now }
-    {
-        let end = self.len + text.len();
-        self.buffer[self.len..end].copy_from_slice(text);
-        self.len = end;
-    }
-
     /// The bytes of the name.
     pub fn bytes(&self) -> &[u8]
         ensures { result.now ≡ self.now }
     {
-        &self.buffer[..self.len]
+        self.text.bytes()
     }
 }
 
@@ -96,6 +78,23 @@ fn order_word(order: Order) -> &'static [u8]
     }
 }
 
+fn is_timed(times: Times) -> bool
+    ensures { result ≡ not (times_eq times Times.General) }
+{
+    !matches!(times, Times::General)
+}
+
+fn times_word(times: Times) -> &'static [u8]
+    ensures text { result.now ≡ times_text times }
+    ensures short { length result.now ≤ 3 }
+{
+    match times {
+        Times::General => b"",
+        Times::Unit => b"p=1",
+        Times::Equal => b"p=p",
+    }
+}
+
 fn crit_word(crit: Crit) -> &'static [u8]
     ensures text { result.now ≡ crit_text crit }
     ensures short { length result.now ≤ 5 }
@@ -114,8 +113,8 @@ fn crit_word(crit: Crit) -> &'static [u8]
 }
 
 /// Puts the text of an item that is wanted, with a comma before it where an item goes before. Whether an item goes before the next.
-fn put_item(text: &mut NameText, again: bool, wanted: bool, item: &[u8]) -> bool
-    requires { length text.old + length item.now + 1 ≤ 40 }
+fn put_item(text: &mut ShortText, again: bool, wanted: bool, item: &[u8]) -> bool
+    requires { length text.old + length item.now + 1 ≤ ROOM }
     ensures text { text.new ≡ text.old ++ following again (text_if wanted item.now) }
     ensures again { result ≡ (again || wanted) }
 {
@@ -129,8 +128,8 @@ fn put_item(text: &mut NameText, again: bool, wanted: bool, item: &[u8]) -> bool
     true
 }
 
-/// Puts the canonical items of a class, in the order cut, order, release dates, unit times, short routes.
-fn put_items(text: &mut NameText, class: Class)
+/// Puts the canonical items of a class, in the order cut, order, release dates, times, short routes.
+fn put_items(text: &mut ShortText, class: Class)
     requires { length text.old ≤ 3 }
     ensures items { text.new ≡ text.old ++ join_with_byte comma (item_texts_of class) }
     ensures short { length text.new ≤ length text.old + 23 }
@@ -143,15 +142,15 @@ fn put_items(text: &mut NameText, class: Class)
         order_word(class.order),
     );
     let again = put_item(text, again, class.heads, b"r");
-    let again = put_item(text, again, has_item(class, Item::Unit), b"p=1");
+    let again = put_item(text, again, is_timed(class.times), times_word(class.times));
     put_item(text, again, has_item(class, Item::Short), b"n<=2");
 }
 
 #[tactic(auto, unfolding(crate::specs::Names::name_of), using(crate::proofs::PrintLemmas::print_rules))]
-fn spell(class: Class) -> NameText
+fn spell(class: Class) -> ShortText
     ensures { result ≡ name_of class }
 {
-    let mut text = NameText::new();
+    let mut text = ShortText::new();
     text.put(env_word(class.env));
     text.put(b"|");
     put_items(&mut text, class);
@@ -166,5 +165,5 @@ pub fn print(class: Class) -> NameText
     ensures named { NameOf result class }
     ensures longest { length result ≤ 32 }
 {
-    spell(class)
+    NameText { text: spell(class) }
 }

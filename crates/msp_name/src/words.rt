@@ -1,3 +1,4 @@
+// The words of a name, by the tables of spellings.
 ghost use Rattle.std.specs.Prelude.{◌≡◌};
 ghost use Rattle.msp_name.specs.Spellings.{env_texts, item_texts, crit_texts};
 ghost use Rattle.msp_name.specs.Reading.{spelled};
@@ -14,6 +15,7 @@ pub enum Item {
     Prec,
     Heads,
     Unit,
+    Equal,
     Short,
 }
 
@@ -94,6 +96,16 @@ pub fn read_item(word: &[u8]) -> Option<Item>
         Some(Item::Unit)
     } else if word == b"pij=1".as_slice() {
         Some(Item::Unit)
+    } else if word == b"p=p".as_slice() {
+        Some(Item::Equal)
+    } else if word == b"p_j=p".as_slice() {
+        Some(Item::Equal)
+    } else if word == b"pj=p".as_slice() {
+        Some(Item::Equal)
+    } else if word == b"p_ij=p".as_slice() {
+        Some(Item::Equal)
+    } else if word == b"pij=p".as_slice() {
+        Some(Item::Equal)
     } else if word == b"n<=2".as_slice() {
         Some(Item::Short)
     } else if word == b"n_j<=2".as_slice() {
