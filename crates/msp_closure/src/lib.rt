@@ -11,6 +11,8 @@ mod labels;
 mod listing;
 mod reached;
 mod row_set;
+#[cfg(test)]
+mod tests;
 mod walk;
 
 pub use chains::{clash, route_to, strong_clash, why_easy, why_hard, why_pseudo, why_strong};
