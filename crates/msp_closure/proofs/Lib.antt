@@ -5,3 +5,5 @@ pub mod NearestLemmas
 pub mod WayLemmas
 pub mod SpreadLemmas
 pub mod LabelLemmas
+pub mod RelationLemmas
+pub mod ReachLemmas

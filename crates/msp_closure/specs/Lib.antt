@@ -1,3 +1,4 @@
 pub mod Entries
 pub mod Tables
 pub mod Walk
+pub mod Relation

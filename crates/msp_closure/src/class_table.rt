@@ -54,7 +54,7 @@ impl<T: Copy> ClassTable<T> {
 }
 
 /// So many copies of a value.
-fn filled<T: Copy>(alloc: Global, count: usize, value: T) -> Result<Vec<T>, NoMemory>
+pub(crate) fn filled<T: Copy>(alloc: Global, count: usize, value: T) -> Result<Vec<T>, NoMemory>
     ensures len { IfOk result (λ v. length v.items ≡ count) }
     ensures each { IfOk result (λ v. (k : ℕ) (d : T) → k < count → slice_index_or v.items k d ≡ value) }
 {

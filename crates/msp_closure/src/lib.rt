@@ -9,7 +9,9 @@ mod distances;
 mod entry;
 mod labels;
 mod listing;
+mod reach_bits;
 mod reached;
+mod relation;
 mod row_set;
 #[cfg(test)]
 mod tests;
@@ -17,4 +19,5 @@ mod walk;
 
 pub use chains::{clash, route_to, strong_clash, why_easy, why_hard, why_pseudo, why_strong};
 pub use entry::{Entry, Mark, Verdict};
+pub use reach_bits::{ReachBits, reach, reaches};
 pub use labels::{Labels, close, label};
