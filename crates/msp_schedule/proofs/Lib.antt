@@ -9,3 +9,4 @@ pub mod OneRow
 pub mod Intervals
 pub mod Sequences
 pub mod Rows
+pub mod Frames
