@@ -1,11 +1,14 @@
+// The fields of one record.
 ghost use Rattle.std.specs.Prelude.{◌≡◌, ◌<◌, ◌^◌, ◌⊎◌, length, Err, option_map};
 ghost use Rattle.csv.specs.Records.{fields_of};
 ghost use Rattle.std.specs.List.{list_all};
 ghost use Rattle.std.specs.Str.{is_utf8};
-ghost use Rattle.msp_results.specs.Reading.{fields_read, is_header, is_plain, is_printable, row_read, three_of, verdict_read};
+ghost use Rattle.msp_results.specs.Reading.{column_read, fields_read, is_plain, is_printable, row_read, three_of, verdict_read, version_read, word_read};
 ghost use Rattle.msp_results.specs.Records.{AreShort};
+ghost use Rattle.msp_results.specs.Results.{has_verdict};
 
 use crate::fault::ResultFault;
+use crate::version::Version;
 use csv::ByteRecord;
 use msp_class::List;
 use msp_closure::{Entry, Verdict};
@@ -38,34 +41,59 @@ fn is_plain(source: &[u8]) -> bool
     is_text(source) && has_no_control(source)
 }
 
-fn read_verdict(word: &[u8]) -> Option<Verdict>
-    ensures { result ≡ verdict_read word.now }
+/// The verdict of a word, in any version.
+fn read_word(word: &[u8]) -> Option<Verdict>
+    ensures { result ≡ word_read word.now }
 {
     if word == b"easy".as_slice() {
         Some(Verdict::Easy)
+    } else if word == b"pseudo".as_slice() {
+        Some(Verdict::Pseudo)
     } else if word == b"hard".as_slice() {
         Some(Verdict::Hard)
+    } else if word == b"strong".as_slice() {
+        Some(Verdict::Strong)
     } else {
         None
+    }
+}
+
+/// Whether a file of the version may say the verdict.
+fn has_verdict(version: Version, verdict: Verdict) -> bool
+    ensures { result ≡ has_verdict version verdict }
+{
+    match version {
+        Version::First => matches!(verdict, Verdict::Easy | Verdict::Hard),
+        Version::Second => true,
+    }
+}
+
+fn read_verdict(version: Version, word: &[u8]) -> Option<Verdict>
+    ensures { result ≡ verdict_read version word.now }
+{
+    match read_word(word) {
+        Some(verdict) if has_verdict(version, verdict) => Some(verdict),
+        _ => None,
     }
 }
 
 #[tactic(auto, unfolding(crate::specs::Reading::fields_read))]
 fn read_fields(
     alloc: Global,
+    version: Version,
     at: u32,
     name: &[u8],
     verdict: &[u8],
     source: &[u8],
 ) -> Result<Entry, ResultFault>
     requires { length name.now < 2 ^ 32 }
-    ensures { (result ≡ Err ResultFault.Memory) ⊎ (result ≡ fields_read at name.now verdict.now source.now) }
+    ensures { (result ≡ Err ResultFault.Memory) ⊎ (result ≡ fields_read version at name.now verdict.now source.now) }
 {
     let class = match parse(name) {
         Ok(class) => class,
         Err(fault) => return Err(ResultFault::Name { at, fault }),
     };
-    let Some(verdict) = read_verdict(verdict) else {
+    let Some(verdict) = read_verdict(version, verdict) else {
         return Err(ResultFault::Verdict { at });
     };
     if !is_plain(source) {
@@ -104,25 +132,45 @@ fn three(row: &ByteRecord) -> Option<(&[u8], &[u8], &[u8])>
     Some((first, second, third))
 }
 
-/// Whether the record is the header.
-pub fn is_header(row: &ByteRecord) -> bool
-    ensures { result ≡ is_header (fields_of row.now) }
+/// The version that calls its second column by the word.
+fn read_column(word: &[u8]) -> Option<Version>
+    ensures { result ≡ column_read word.now }
 {
-    match three(row) {
-        Some((class, verdict, source)) => class == b"class".as_slice()
-            && verdict == b"verdict".as_slice()
-            && source == b"source".as_slice(),
-        None => false,
+    if word == b"verdict".as_slice() {
+        Some(Version::First)
+    } else if word == b"strength".as_slice() {
+        Some(Version::Second)
+    } else {
+        None
+    }
+}
+
+/// The version of which the record is the header.
+pub fn read_version(row: &ByteRecord) -> Option<Version>
+    ensures { result ≡ version_read (fields_of row.now) }
+{
+    let Some((class, column, source)) = three(row) else {
+        return None;
+    };
+    if class == b"class".as_slice() && source == b"source".as_slice() {
+        read_column(column)
+    } else {
+        None
     }
 }
 
 /// The entry of the record with this number.
-pub fn read_row(alloc: Global, at: u32, row: &ByteRecord) -> Result<Entry, ResultFault>
+pub fn read_row(
+    alloc: Global,
+    version: Version,
+    at: u32,
+    row: &ByteRecord,
+) -> Result<Entry, ResultFault>
     requires { AreShort (fields_of row.now) }
-    ensures { (result ≡ Err ResultFault.Memory) ⊎ (result ≡ row_read at (fields_of row.now)) }
+    ensures { (result ≡ Err ResultFault.Memory) ⊎ (result ≡ row_read version at (fields_of row.now)) }
 {
     match three(row) {
-        Some((name, verdict, source)) => read_fields(alloc, at, name, verdict, source),
+        Some((name, verdict, source)) => read_fields(alloc, version, at, name, verdict, source),
         None => Err(ResultFault::Width { at }),
     }
 }

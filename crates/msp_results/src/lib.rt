@@ -1,4 +1,4 @@
-//! The file of known results: a header and one record of CSV for each entry.
+//! The file of known results, in two versions: a header and one record of CSV for each entry.
 //!
 //! It stands on `msp_name`, `msp_closure` and `csv`. The layer above uses that `read_results` gives the entries exactly where the
 //! records of the bytes are the header and these entries (`ResultsOf`), and else the first fault.
@@ -10,6 +10,7 @@ mod read;
 mod records;
 #[cfg(test)]
 mod tests;
+mod version;
 
 pub use fault::ResultFault;
 pub use read::read_results;

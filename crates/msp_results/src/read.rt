@@ -1,12 +1,14 @@
+// The entries of a file.
 ghost use Rattle.std.specs.Prelude.{◌≡◌, ◌≤◌, ◌⊎◌, length, IfOk, Ok, Err, List as Items};
 ghost use Rattle.msp_closure.specs.declared.entry.Entry.{Entry};
 ghost use Rattle.msp_results.specs.Reading.{entries_read, results_of};
 ghost use Rattle.msp_results.specs.Records.{IsReading, rows_left};
 ghost use Rattle.msp_results.specs.Results.{ResultsOf};
 
-use crate::entries::{is_header, read_row};
+use crate::entries::{read_row, read_version};
 use crate::fault::ResultFault;
 use crate::records::{next_row, open};
+use crate::version::Version;
 use csv::{ByteRecord, Reader};
 use msp_class::List;
 use msp_closure::Entry;
@@ -18,11 +20,12 @@ const MOST_ENTRIES: u32 = 20_000;
 /// The entries of the records that are left; `row` is room for one.
 fn read_entries(
     alloc: Global,
+    version: Version,
     reader: &mut Reader<&[u8]>,
     row: &mut ByteRecord,
 ) -> Result<List<Entry>, ResultFault>
     requires { IsReading reader.old }
-    ensures { (result ≡ Err ResultFault.Memory) ⊎ (result ≡ entries_read 1 (rows_left reader.old)) }
+    ensures { (result ≡ Err ResultFault.Memory) ⊎ (result ≡ entries_read version 1 (rows_left reader.old)) }
 {
     let mut entries = List::new(alloc);
     let mut at: u32 = 1;
@@ -35,7 +38,7 @@ fn read_entries(
         if at > MOST_ENTRIES {
             return Err(ResultFault::Many);
         }
-        let entry = match read_row(alloc, at, row) {
+        let entry = match read_row(alloc, version, at, row) {
             Ok(entry) => entry,
             Err(fault) => return Err(fault),
         };
@@ -59,16 +62,17 @@ fn read_records(alloc: Global, bytes: &[u8]) -> Result<List<Entry>, ResultFault>
         Ok(false) => return Err(ResultFault::Header),
         Err(fault) => return Err(fault),
     }
-    if !is_header(&row) {
+    let Some(version) = read_version(&row) else {
         return Err(ResultFault::Header);
-    }
-    read_entries(alloc, &mut reader, &mut row)
+    };
+    read_entries(alloc, version, &mut reader, &mut row)
 }
 
 /// The entries of a file of results, in order. A class may stand there more than once.
 ///
-/// The file is CSV (RFC 4180) with the header `class,verdict,source`. Reading stops at the first fault. Want of memory, and whatever else
-/// `csv` refuses, is answered as `Memory`.
+/// The file is CSV (RFC 4180). With the header `class,verdict,source` its verdicts are `easy` and `hard`, and with the header
+/// `class,strength,source` they are `easy`, `pseudo`, `hard` and `strong`. Reading stops at the first fault. Want of memory, and whatever
+/// else `csv` refuses, is answered as `Memory`.
 pub fn read_results(alloc: Global, bytes: &[u8]) -> Result<List<Entry>, ResultFault>
     requires { length bytes.now ≤ 4194304 }
     ensures ok { IfOk result (λ entries. ResultsOf bytes.now entries) }

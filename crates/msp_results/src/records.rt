@@ -1,3 +1,4 @@
+// The records of a text, one by one.
 ghost use Rattle.std.specs.Prelude.{◌≡◌, IfOk, IfErr, length, ◌≤◌};
 ghost use Rattle.csv.specs.Records.{fields_of};
 ghost use Rattle.msp_results.specs.Records.{IsReading, NextRow, rows_left};

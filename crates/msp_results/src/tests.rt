@@ -1,3 +1,4 @@
+// Worked files, and their faults.
 use crate::{ResultFault, read_results};
 use msp_class::{Class, List};
 use msp_closure::{Entry, Verdict};
@@ -65,6 +66,19 @@ fn entries_in_order(rt: HostRuntime) -> Result<(), Fail> {
 }
 
 #[test]
+fn four_verdicts(rt: HostRuntime) -> Result<(), Fail> {
+    let text =
+        b"class,strength,source\n1||Lmax,easy,\n1||sumwU,pseudo,\n1||sumwU,hard,\nF2||sumC,strong,\n";
+    let entries = read(&rt, rt.alloc(), text)?;
+    assert_eq!(rt; entries.len(), 4);
+    is_entry(&rt, &entries, 0, b"1||Lmax", Verdict::Easy, b"");
+    is_entry(&rt, &entries, 1, b"1||sumwU", Verdict::Pseudo, b"");
+    is_entry(&rt, &entries, 2, b"1||sumwU", Verdict::Hard, b"");
+    is_entry(&rt, &entries, 3, b"F2||sumC", Verdict::Strong, b"");
+    Ok(())
+}
+
+#[test]
 fn first_faults(rt: HostRuntime) -> Result<(), Fail> {
     for (text, fault) in [
         (b"".as_slice(), ResultFault::Header),
@@ -73,6 +87,15 @@ fn first_faults(rt: HostRuntime) -> Result<(), Fail> {
         (
             b"\xef\xbb\xbf\xef\xbb\xbfclass,verdict,source\n".as_slice(),
             ResultFault::Header,
+        ),
+        (b"class,strength,verdict\n".as_slice(), ResultFault::Header),
+        (
+            b"class,verdict,source\n1||sumwU,pseudo,x\n".as_slice(),
+            ResultFault::Verdict { at: 1 },
+        ),
+        (
+            b"class,strength,source\n1||sumwU,pseudo,x\n1||sumwU,weak,x\n".as_slice(),
+            ResultFault::Verdict { at: 2 },
         ),
         (
             b"class,verdict,source\nP||Cmax,maybe,x\n1||Emax".as_slice(),

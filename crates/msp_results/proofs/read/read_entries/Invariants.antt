@@ -3,7 +3,7 @@ use Rattle.msp_results.proofs.ReadLemmas.{Going}
 use Rattle.msp_results.proofs.read.read_entries.Given as goal
 
 abbrev pub invariant-rows : goal.invariant-rows
-invariant-rows l = Going l.initial.reader l.reader l.at l.entries
+invariant-rows l = Going l.version l.initial.reader l.reader l.at l.entries
 
 abbrev pub decreases-rows : goal.decreases-rows
 decreases-rows l = 20002 - l.at
