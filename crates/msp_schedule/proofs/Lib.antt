@@ -10,3 +10,4 @@ pub mod Intervals
 pub mod Sequences
 pub mod Rows
 pub mod Frames
+pub mod Charges
