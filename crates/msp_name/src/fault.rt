@@ -6,6 +6,9 @@ ghost use Rattle.msp_name.specs.declared.short_text.TheConstants.{ROOM};
 use crate::short_text::ShortText;
 use std::marker::Model;
 
+/// The greatest length of a fault's text.
+pub const LONGEST_FAULT: usize = 31;
+
 /// The first fault of a text that is no name of a class. A place `at` counts bytes from 0.
 #[derive(Clone, Copy, Debug, PartialEq, Eq)]
 pub enum NameFault {
@@ -49,7 +52,8 @@ impl FaultText {
 impl NameFault {
     /// The text of the fault. It takes no memory.
     pub fn text(self) -> FaultText
-        ensures { result ≡ fault_text self }
+        ensures text { result ≡ fault_text self }
+        ensures short { length result ≤ LONGEST_FAULT }
     {
         match self {
             NameFault::Bars => plain(b"not two bars"),
@@ -74,7 +78,8 @@ fn plain(bytes: &[u8]) -> FaultText
 /// The text with the digits of a place behind it, which are at most 10.
 fn placed(bytes: &[u8], at: u32) -> FaultText
     requires { length bytes.now + 10 ≤ ROOM }
-    ensures { result ≡ bytes.now ++ decimal at }
+    ensures text { result ≡ bytes.now ++ decimal at }
+    ensures short { length result ≤ length bytes.now + 10 }
 {
     let mut digits = itoa::Buffer::new();
     let mut text = ShortText::new();

@@ -12,6 +12,7 @@ mod tests;
 mod text;
 mod words;
 
-pub use fault::{FaultText, NameFault};
+pub use fault::{FaultText, LONGEST_FAULT, NameFault};
 pub use reader::parse;
+pub use short_text::ShortText;
 pub use text::{NameText, print};

@@ -5,7 +5,7 @@ ghost use Rattle.msp_name.specs.declared.short_text.TheConstants.{ROOM};
 use std::marker::Model;
 
 /// The most bytes of a short text.
-pub const ROOM: usize = 40;
+pub const ROOM: usize = 64;
 
 /// A text of at most `ROOM` bytes.
 #[derive(Drop)]

@@ -1,3 +1,4 @@
 pub mod Records
 pub mod Results
 pub mod Reading
+pub mod Faults

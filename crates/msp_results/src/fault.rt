@@ -1,5 +1,10 @@
 // The faults of a file of results, and their texts.
-use msp_name::NameFault;
+ghost use Rattle.std.specs.Prelude.{◌≡◌, ◌+◌, ◌≤◌, ◌++◌, length, codes, decimal};
+ghost use Rattle.msp_name.specs.Faults.{fault_text};
+ghost use Rattle.msp_name.specs.declared.short_text.TheConstants.{ROOM};
+ghost use Rattle.msp_results.specs.Faults.{record_text, results_text};
+
+use msp_name::{NameFault, ShortText};
 
 /// The first fault of a file of results. The header is record 0, and `at` is the number of an entry's record, from 1.
 #[derive(Clone, Copy, Debug, PartialEq, Eq)]
@@ -20,4 +25,53 @@ pub enum ResultFault {
     Many,
     /// Memory ran out.
     Memory,
+}
+
+impl ResultFault {
+    /// The text of the fault. It takes no memory.
+    pub fn text(self) -> ShortText
+        ensures { result ≡ results_text self }
+    {
+        match self {
+            ResultFault::Header => plain(b"header"),
+            ResultFault::Width { at } => recorded(at, b": width"),
+            ResultFault::Name { at, fault } => misnamed(at, fault),
+            ResultFault::Verdict { at } => recorded(at, b": verdict"),
+            ResultFault::Source { at } => recorded(at, b": source"),
+            ResultFault::Long { at } => recorded(at, b": limit of source"),
+            ResultFault::Many => plain(b"limit of records"),
+            ResultFault::Memory => plain(b"out of memory"),
+        }
+    }
+}
+
+fn plain(bytes: &[u8]) -> ShortText
+    requires { length bytes.now ≤ ROOM }
+    ensures { result ≡ bytes.now }
+{
+    let mut text = ShortText::new();
+    text.put(bytes);
+    text
+}
+
+/// The number of a record, which has at most 10 digits, and what is said of it.
+fn recorded(at: u32, what: &[u8]) -> ShortText
+    requires { length what.now + 17 ≤ ROOM }
+    ensures text { result ≡ record_text at what.now }
+    ensures short { length result ≤ length what.now + 17 }
+{
+    let mut digits = itoa::Buffer::new();
+    let mut text = ShortText::new();
+    text.put(b"record ");
+    text.put(digits.format(at).as_bytes());
+    text.put(what);
+    text
+}
+
+fn misnamed(at: u32, fault: NameFault) -> ShortText
+    ensures { result ≡ record_text at (codes ": name: " ++ fault_text fault) }
+{
+    let mut text = recorded(at, b": name: ");
+    text.put(fault.text().bytes());
+    text
 }
