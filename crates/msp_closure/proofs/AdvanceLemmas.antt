@@ -1,3 +1,4 @@
+-- The passes that find the distances, level by level.
 use Rattle.std.proofs.Common.{◌≡◌, ◌≢◌, ℕ, ◌<◌, ◌≤◌, ◌+◌, Bool, true, false, cond, eqb, List, [], ◌∷◌, length, get_or, set, Some, refl, ap, sym, ◌∙◌, subst, inl, inr, arith, length-set}
 use Rattle.std.specs.Prelude.{Contains}
 use Rattle.msp_table.specs.Chains.{stay, LeadsInto}

@@ -1,3 +1,4 @@
+-- The passes that mark what chains lead to.
 use Rattle.std.proofs.Common.{◌≡◌, ◌≢◌, ℕ, ◌<◌, ◌≤◌, ◌+◌, Bool, true, false, not, cond, List, [], ◌∷◌, length, get_or, set, Some, refl, ap, sym, ◌∙◌, subst, inl, inr, length-set, arith}
 use Rattle.std.specs.Prelude.{Contains}
 use Rattle.std.proofs.lemmas.List.{get_or_default}

@@ -1,3 +1,4 @@
+-- One step by a usable row.
 use Rattle.std.proofs.Common.{◌≡◌, ℕ, ◌≤◌, Bool, true, false, cond, Some, None, refl}
 use Rattle.std.specs.Prelude.{IsTrue}
 use Rattle.msp_class.specs.declared.class.Class.{Class}

@@ -1,3 +1,4 @@
+-- A table of classes, written at one of them.
 use Rattle.std.proofs.Common.{◌≡◌, ◌≢◌, ℕ, ◌<◌, ◌+◌, Bool, false, List, length, set, arith, get_or-set_same, get_or-set_other}
 use Rattle.msp_class.specs.declared.class.Class.{Class}
 use Rattle.msp_class.specs.declared.ranks.TheConstants.{CLASSES}

@@ -1,3 +1,4 @@
+-- What the steps of the private searches keep. No public contract cites this file.
 use Rattle.std.specs.Prelude.{ℕ, ◌≡◌, ◌≢◌, ◌+◌, ◌<◌, ◌≤◌, ◌==◌, Bool, true, false, List, Option, Some, None, if◌then◌else◌, count_by, not}
 use Rattle.msp_class.specs.declared.class.Class.{Class}
 use Rattle.msp_class.specs.Rank.{rank_of}
@@ -5,8 +6,6 @@ use Rattle.msp_table.specs.Rows.{goes_of}
 use Rattle.msp_table.specs.Chains.{Reaches}
 use Rattle.msp_closure.specs.declared.distances.TheConstants.{FAR}
 use Rattle.msp_closure.specs.Tables.{value_of, is_marked}
-
--- What the steps of the private searches keep. No public contract cites this file.
 
 -- the class to which a usable row leads
 abbrev pub step_of : (ℕ → Bool) → ℕ → Class → Option Class

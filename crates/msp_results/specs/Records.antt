@@ -1,4 +1,4 @@
--- The records that a reader of CSV has still to give.
+-- The records that a reader of CSV has still to give. No public contract cites this file.
 use Rattle.std.specs.Prelude.{◌≡◌, ◌≤◌, ℕ, ◌+◌, ◌<◌, ◌^◌, List, [], ◌∷◌, length, Option, Some, None, All, IsSomeAnd, Bool, true, false}
 use Rattle.csv.specs.Reading.{Ready, default_config, records_from, source_of, reader_config, reader_trim, reader_state}
 use Rattle.csv.specs.declared.parser.State.{State}

@@ -1,3 +1,4 @@
+-- The goals of `route_to` that are proved by lemmas.
 use Rattle.msp_table.specs.Rows.{carries}
 use Rattle.msp_closure.proofs.WayLemmas.{none_between}
 use Rattle.msp_closure.proofs.chains.route_to.Goals as goal

@@ -1,3 +1,4 @@
+-- The goals of `way` that are proved by lemmas.
 use Rattle.msp_closure.specs.Tables.{allows}
 use Rattle.msp_closure.proofs.WayLemmas.{no_way, way_from}
 use Rattle.msp_closure.proofs.chains.way.Goals as goal

@@ -1,3 +1,4 @@
+-- The goals of `why_hard` that are proved by lemmas.
 use Rattle.std.proofs.Common.{◌∙◌}
 use Rattle.msp_table.specs.Chains.{every_row}
 use Rattle.msp_closure.proofs.WayLemmas.{none_to}

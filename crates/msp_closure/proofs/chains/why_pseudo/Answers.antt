@@ -1,3 +1,4 @@
+-- The goals of `why_pseudo` that are proved by lemmas.
 use Rattle.std.proofs.Common.{◌∙◌}
 use Rattle.msp_table.specs.Rows.{keeps_size}
 use Rattle.msp_closure.proofs.WayLemmas.{none_from}

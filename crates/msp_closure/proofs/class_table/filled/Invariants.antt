@@ -1,3 +1,4 @@
+-- What the loop of `filled` keeps.
 use Rattle.std.proofs.Common.{◌≡◌, ℕ, ◌<◌, length, get_or}
 use Rattle.msp_closure.proofs.class_table.filled.Given as goal
 

@@ -1,3 +1,4 @@
+-- What the loop of `distances` keeps.
 use Rattle.std.proofs.Common.{◌+◌, ◌≤◌}
 use Rattle.msp_class.specs.declared.ranks.TheConstants.{CLASSES}
 use Rattle.msp_closure.specs.Tables.{allows}

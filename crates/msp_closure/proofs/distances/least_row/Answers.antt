@@ -1,3 +1,4 @@
+-- The goals of `least_row` that are proved by lemmas.
 use Rattle.std.proofs.Common.{ℕ, ◌<◌, subst, arith, below_more}
 use Rattle.msp_closure.specs.Tables.{allows}
 use Rattle.msp_closure.specs.Walk.{LeadsToValue}

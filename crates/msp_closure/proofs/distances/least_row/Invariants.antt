@@ -1,3 +1,4 @@
+-- What the loop of `least_row` keeps.
 use Rattle.std.proofs.Common.{ℕ, ◌<◌}
 use Rattle.msp_closure.specs.Tables.{allows}
 use Rattle.msp_closure.specs.Walk.{LeadsToValue}

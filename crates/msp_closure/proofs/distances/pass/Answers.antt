@@ -1,3 +1,4 @@
+-- The goals of `pass` that are proved by lemmas.
 use Rattle.std.proofs.Common.{◌<◌, ◌+◌, arith}
 use Rattle.msp_closure.specs.declared.distances.TheConstants.{FAR}
 use Rattle.msp_closure.specs.Tables.{allows}

@@ -1,3 +1,4 @@
+-- What the loop of `pass` keeps.
 use Rattle.msp_closure.specs.Tables.{allows}
 use Rattle.msp_closure.specs.Walk.{Advances}
 use Rattle.msp_closure.proofs.distances.pass.Given as goal

@@ -1,3 +1,4 @@
+-- The goals of `wanted_at_zero` that are proved by lemmas.
 use Rattle.std.proofs.Common.{refl, arith}
 use Rattle.msp_closure.proofs.AdvanceLemmas.{StartsAt-more}
 use Rattle.msp_closure.proofs.distances.wanted_at_zero.Goals as goal

@@ -1,3 +1,4 @@
+-- What the loop of `wanted_at_zero` keeps.
 use Rattle.msp_closure.proofs.AdvanceLemmas.{StartsAt}
 use Rattle.msp_closure.proofs.distances.wanted_at_zero.Given as goal
 

@@ -1,3 +1,4 @@
+-- The goals of `close` that are proved by lemmas.
 use Rattle.std.proofs.Common.{List, ◌∙◌, subst}
 use Rattle.msp_class.specs.declared.class.Class.{Class}
 use Rattle.msp_table.specs.Rows.{keeps_size}

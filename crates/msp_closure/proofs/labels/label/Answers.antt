@@ -1,3 +1,4 @@
+-- The goals of `label` that are proved by lemmas.
 use Rattle.std.proofs.Common.{◌≡◌, List, Some, sym, subst}
 use Rattle.std.specs.Prelude.{slice_get}
 use Rattle.std.proofs.lemmas.Option.{slice_get_read}

@@ -1,3 +1,4 @@
+-- The goals of `marked` that are proved by lemmas.
 use Rattle.std.proofs.Common.{false, length-set, arith}
 use Rattle.msp_class.specs.declared.class.Class.{Class}
 use Rattle.msp_class.proofs.RankLemmas.{rank_of-below}

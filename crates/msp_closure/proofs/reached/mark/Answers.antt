@@ -1,3 +1,4 @@
+-- The goals of `mark` that are proved by lemmas.
 use Rattle.std.proofs.Common.{true}
 use Rattle.msp_closure.proofs.TableLemmas.{is_marked-set_same}
 use Rattle.msp_closure.proofs.reached.mark.Goals as goal

@@ -1,3 +1,4 @@
+-- The goals of `reached` that are proved by lemmas.
 use Rattle.std.proofs.Common.{arith}
 use Rattle.msp_closure.specs.Tables.{allows}
 use Rattle.msp_closure.proofs.SpreadLemmas.{IsSpread-start, IsSpread-next, AreReached-closed, unmarked_falls}

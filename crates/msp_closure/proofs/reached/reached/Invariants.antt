@@ -1,3 +1,4 @@
+-- What the loop of `reached` keeps.
 use Rattle.msp_closure.specs.Tables.{allows}
 use Rattle.msp_closure.specs.Walk.{unmarked_count}
 use Rattle.msp_closure.proofs.SpreadLemmas.{IsSpread}

@@ -1,3 +1,4 @@
+-- The goals of `spread` that are proved by lemmas.
 use Rattle.std.proofs.Common.{Bool, subst, arith}
 use Rattle.msp_class.proofs.RankLemmas.{rank_of-below}
 use Rattle.msp_closure.specs.Tables.{allows}

@@ -1,3 +1,4 @@
+-- What the loop of `spread` keeps.
 use Rattle.std.proofs.Common.{◌≡◌, false}
 use Rattle.msp_closure.specs.Tables.{allows}
 use Rattle.msp_closure.specs.Walk.{Spreads}

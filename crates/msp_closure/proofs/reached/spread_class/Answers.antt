@@ -1,3 +1,4 @@
+-- The goals of `spread_class` that are proved by lemmas.
 use Rattle.msp_closure.specs.Tables.{allows}
 use Rattle.msp_closure.proofs.SpreadLemmas.{Spreads-none}
 use Rattle.msp_closure.proofs.reached.spread_class.Goals as goal

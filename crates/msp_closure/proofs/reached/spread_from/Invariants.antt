@@ -1,3 +1,4 @@
+-- What the loop of `spread_from` keeps.
 use Rattle.std.proofs.Common.{◌≡◌, ℕ, ◌<◌, true, false}
 use Rattle.msp_closure.specs.Tables.{allows, is_marked}
 use Rattle.msp_closure.specs.Walk.{Spreads, IsClosedAt}

@@ -1,3 +1,4 @@
+-- The goals of `starts_marked` that are proved by lemmas.
 use Rattle.std.proofs.Common.{refl, arith}
 use Rattle.msp_closure.proofs.SpreadLemmas.{StartsMarked-more}
 use Rattle.msp_closure.proofs.reached.starts_marked.Goals as goal

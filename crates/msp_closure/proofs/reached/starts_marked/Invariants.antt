@@ -1,3 +1,4 @@
+-- What the loop of `starts_marked` keeps.
 use Rattle.msp_closure.proofs.SpreadLemmas.{StartsMarked}
 use Rattle.msp_closure.proofs.reached.starts_marked.Given as goal
 

@@ -1,3 +1,4 @@
+-- What the loop of `first_near` keeps.
 use Rattle.msp_closure.proofs.WayLemmas.{FarSoFar}
 use Rattle.msp_closure.proofs.walk.first_near.Given as goal
 

@@ -1,3 +1,4 @@
+-- The goals of `nearer` that are proved by lemmas.
 use Rattle.std.proofs.Common.{Option, Some, None}
 use Rattle.std.specs.Prelude.{IfNone}
 use Rattle.msp_closure.proofs.walk.nearer.Goals as goal

@@ -1,3 +1,4 @@
+-- The goals of `walk` that are proved by lemmas.
 use Rattle.msp_closure.specs.Tables.{allows}
 use Rattle.msp_closure.proofs.NearestLemmas.{IsWalked-next, IsWalked-end}
 use Rattle.msp_closure.proofs.walk.walk.Goals as goal

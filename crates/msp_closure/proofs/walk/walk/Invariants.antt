@@ -1,3 +1,4 @@
+-- What the loop of `walk` keeps.
 use Rattle.msp_closure.specs.Tables.{allows, value_of}
 use Rattle.msp_closure.proofs.NearestLemmas.{IsWalked}
 use Rattle.msp_closure.proofs.walk.walk.Given as goal

@@ -1,3 +1,4 @@
+-- The goals of `read_entries` that are proved by lemmas.
 use Rattle.std.proofs.Common.{◌≡◌, Ok, inl, inr}
 use Rattle.csv.specs.Records.{fields_of}
 use Rattle.msp_results.specs.Reading.{row_read}

@@ -1,3 +1,4 @@
+-- What the loop of `read_entries` keeps.
 use Rattle.std.proofs.Common.{◌-◌}
 use Rattle.msp_results.proofs.ReadLemmas.{Going}
 use Rattle.msp_results.proofs.read.read_entries.Given as goal

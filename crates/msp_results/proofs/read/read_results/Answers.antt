@@ -1,3 +1,4 @@
+-- The goals of `read_results` that are proved by lemmas.
 use Rattle.std.proofs.Common.{◌∙◌, inl, inr}
 use Rattle.msp_results.proofs.ResultLemmas.{IfOk-reading, results_of-ResultsOf}
 use Rattle.msp_results.proofs.read.read_results.Goals as goal

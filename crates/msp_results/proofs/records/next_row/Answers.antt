@@ -1,3 +1,4 @@
+-- The goals of `next_row` that are proved by lemmas.
 use Rattle.std.proofs.Common.{inl}
 use Rattle.csv.specs.Records.{fields_of}
 use Rattle.msp_results.proofs.RowLemmas.{row_read}

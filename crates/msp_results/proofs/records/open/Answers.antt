@@ -1,3 +1,4 @@
+-- The goals of `open` that are proved by lemmas.
 use Rattle.std.proofs.Common.{◌∙◌}
 use Rattle.msp_results.proofs.RowLemmas.{opened}
 use Rattle.msp_results.proofs.records.open.Goals as goal

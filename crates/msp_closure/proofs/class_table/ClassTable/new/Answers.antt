@@ -1,3 +1,4 @@
+-- The goals of `new` that are proved by lemmas.
 use Rattle.msp_class.proofs.RankLemmas.{rank_of-below}
 use Rattle.msp_closure.proofs.class_table.ClassTable.new.Goals as goal
 
