@@ -191,9 +191,27 @@ mod tests {
         };
         let table = [
             (PLAIN, 0),
-            (Class { crit: Crit::SumWC, ..PLAIN }, 4),
-            (Class { times: Times::Unit, ..PLAIN }, 9),
-            (Class { times: Times::Equal, ..PLAIN }, 18),
+            (
+                Class {
+                    crit: Crit::SumWC,
+                    ..PLAIN
+                },
+                4,
+            ),
+            (
+                Class {
+                    times: Times::Unit,
+                    ..PLAIN
+                },
+                9,
+            ),
+            (
+                Class {
+                    times: Times::Equal,
+                    ..PLAIN
+                },
+                18,
+            ),
             (Class { cut: true, ..PLAIN }, 270),
             (last, 9719),
         ];

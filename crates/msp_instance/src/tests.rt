@@ -28,6 +28,11 @@ const UNIT: Class = Class {
     ..PLAIN
 };
 
+const EQUAL: Class = Class {
+    times: Times::Equal,
+    ..PLAIN
+};
+
 const WEIGHTED: Class = Class {
     crit: Crit::SumWC,
     ..PLAIN
@@ -105,7 +110,7 @@ type Case = (
     Option<ClassFault>,
 );
 
-const CASES: [Case; 18] = [
+const CASES: [Case; 21] = [
     (PLAIN, &[], &[JOB, JOB], &[], None),
     (PLAIN, &[], &[], &[], Some(ClassFault::Jobs)),
     (P2, &[], &[JOB], &[], Some(ClassFault::Machines)),
@@ -126,6 +131,21 @@ const CASES: [Case; 18] = [
         Some(ClassFault::Need { job: 1 }),
     ),
     (UNIT, &[], &[JOB], &[], Some(ClassFault::Unit { job: 0 })),
+    (EQUAL, &[], &[JOB, JOB], &[], None),
+    (
+        EQUAL,
+        &[],
+        &[JOB, Data(4, 0, 0, 1, 0)],
+        &[],
+        Some(ClassFault::Unit { job: 1 }),
+    ),
+    (
+        EQUAL,
+        &[],
+        &[Data(1_000_001, 0, 0, 1, 0)],
+        &[],
+        Some(ClassFault::Need { job: 0 }),
+    ),
     (
         PLAIN,
         &[],
