@@ -48,11 +48,11 @@ IsFirst-same : {P Q : Class → Type 0} {xs : List Class} {x : Class} → ((c : 
 IsFirst-same to back (here p) = here (to _ p)
 IsFirst-same to back (later without f) = later (λ q. without (back _ q)) (IsFirst-same to back f)
 
-IsFirst-has : {P : Class → Type 0} {xs : List Class} {x : Class} → IsFirst P xs x → P x
+pub IsFirst-has : {P : Class → Type 0} {xs : List Class} {x : Class} → IsFirst P xs x → P x
 IsFirst-has (here p) = p
 IsFirst-has (later without f) = IsFirst-has f
 
-IsFirst-among : {P : Class → Type 0} {xs : List Class} {x : Class} → IsFirst P xs x → Contains xs x
+pub IsFirst-among : {P : Class → Type 0} {xs : List Class} {x : Class} → IsFirst P xs x → Contains xs x
 IsFirst-among (here p) = (0, omega arith, refl)
 IsFirst-among (later without f) = let h = IsFirst-among f in (suc h.0, omega (arith, h.1), h.2)
 
@@ -85,7 +85,7 @@ none_exactly P usable wanted starts (Ok None) to back way = (λ _ p. way (to p),
 none_exactly P usable wanted starts (Ok (Some chain)) to back way =
     (λ is. cc, λ not. absurd (not (back (chain.from, IsFirst-among way.0, IsFirst-has way.0))))
 
-one_is : {c b : Class} → Contains (c ∷ []) b → c ≡ b
+pub one_is : {c b : Class} → Contains (c ∷ []) b → c ≡ b
 one_is {c} {b} has = elim (Contains-push_cases [] c b has) as (λ _. c ≡ b) [ inl none ↦ absurd (omega (arith, none.1)) | inr is ↦ is ]
 
 -- from one start

@@ -1,0 +1,4 @@
+pub mod ChainText
+pub mod LabelsText
+pub mod WhyText
+pub mod RowsText

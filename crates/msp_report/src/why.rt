@@ -1,0 +1,231 @@
+// The report of `why`.
+ghost use Rattle.std.specs.Prelude.{◌≡◌, ◌++◌, ◌∷◌, [], ◌+◌, OnOk, IfOk};
+ghost use Rattle.std.specs.Option.{is_some};
+ghost use Rattle.msp_table.specs.Rows.{keeps_size};
+ghost use Rattle.msp_table.specs.Chains.{every_row};
+ghost use Rattle.msp_closure.specs.Entries.{easy_listed, pseudo_listed, hard_listed, strong_listed, IsWay};
+ghost use Rattle.msp_closure.specs.Tables.{makes, mark_of};
+ghost use Rattle.msp_report.specs.WhyText.{source_text, record_line, lists, first_record, last_class, part_to, part_from, upper_part, lower_part, why_head, IsWhyText};
+
+use crate::chain_text::{put_chain, put_clash, put_name};
+use crate::labels::word;
+use msp_class::{Class, List, NoMemory, rank};
+use msp_closure::{Entry, Mark, Verdict, clash, strong_clash};
+use msp_table::{Chain, goes};
+use msp_text::{put, put_number};
+use std::alloc::Global;
+
+fn put_source(out: &mut Vec<u8>, source: &[u8]) -> Result<(), NoMemory>
+    ensures { OnOk result (out.new.items ≡ out.old.items ++ source_text source.now) }
+{
+    match source {
+        [] => Ok(()),
+        [..] => {
+            put(out, b" ")?;
+            put(out, source)
+        }
+    }
+}
+
+/// Puts the line of an entry and its number.
+#[tactic(auto, unfolding(crate::specs::WhyText::record_line))]
+fn put_record(out: &mut Vec<u8>, number: usize, entry: &Entry) -> Result<(), NoMemory>
+    ensures { OnOk result (out.new.items ≡ out.old.items ++ record_line number entry.now) }
+{
+    put(out, b"record ")?;
+    put_number(out, number as u64)?;
+    put_source(out, entry.source.as_slice())?;
+    put(out, b"\n")
+}
+
+/// Whether a verdict makes the claim of another: one that is hard in the strong sense is hard.
+fn makes(claim: Verdict, verdict: Verdict) -> bool
+    ensures { result ≡ makes claim verdict }
+{
+    match claim {
+        Verdict::Easy => matches!(verdict, Verdict::Easy),
+        Verdict::Pseudo => matches!(verdict, Verdict::Pseudo),
+        Verdict::Hard => matches!(verdict, Verdict::Hard | Verdict::Strong),
+        Verdict::Strong => matches!(verdict, Verdict::Strong),
+    }
+}
+
+/// Whether an entry lists a class with a verdict that makes the claim.
+fn lists(claim: Verdict, c: Class, entry: &Entry) -> bool
+    ensures { result ≡ lists (makes claim) c entry.now }
+{
+    makes(claim, entry.verdict) && rank(entry.class) == rank(c)
+}
+
+/// Puts the line of the first entry that lists a class with a verdict that makes the claim.
+#[tactic(auto, unfolding(crate::specs::WhyText::first_record))]
+fn put_first_record(
+    out: &mut Vec<u8>,
+    claim: Verdict,
+    entries: &[Entry],
+    c: Class,
+) -> Result<(), NoMemory>
+    ensures { OnOk result (out.new.items ≡ out.old.items ++ first_record (makes claim) entries.now c) }
+{
+    for (at, entry) in entries.iter().enumerate() {
+        if lists(claim, c, entry) {
+            return put_record(out, at + 1, entry);
+        }
+    }
+    Ok(())
+}
+
+/// The class to which a chain leads.
+fn last_class(chain: &Chain) -> Class
+    ensures { result ≡ last_class chain.now.from chain.now.rows }
+{
+    let mut here = chain.from;
+    for row in chain.rows.as_slice() {
+        match goes(*row, here) {
+            Some(next) => here = next,
+            None => return here,
+        }
+    }
+    here
+}
+
+/// Puts a chain from the class to a listed one, and the record of that one.
+fn put_part_to(
+    out: &mut Vec<u8>,
+    heading: &[u8],
+    claim: Verdict,
+    entries: &[Entry],
+    chain: &Option<Chain>,
+) -> Result<(), NoMemory>
+    ensures { OnOk result (out.new.items ≡ out.old.items ++ part_to heading.now (makes claim) entries.now chain.now) }
+{
+    match chain {
+        None => Ok(()),
+        Some(chain) => {
+            put(out, heading)?;
+            put_chain(out, chain)?;
+            put_first_record(out, claim, entries, last_class(chain))
+        }
+    }
+}
+
+/// Puts the record of a listed class, and a chain from it to the class.
+fn put_part_from(
+    out: &mut Vec<u8>,
+    heading: &[u8],
+    claim: Verdict,
+    entries: &[Entry],
+    chain: &Option<Chain>,
+) -> Result<(), NoMemory>
+    ensures { OnOk result (out.new.items ≡ out.old.items ++ part_from heading.now (makes claim) entries.now chain.now) }
+{
+    match chain {
+        None => Ok(()),
+        Some(chain) => {
+            put(out, heading)?;
+            put_first_record(out, claim, entries, chain.from)?;
+            put_chain(out, chain)
+        }
+    }
+}
+
+/// Puts why the class is easy or, where it is not, why it is pseudopolynomial.
+fn put_upper(
+    out: &mut Vec<u8>,
+    entries: &[Entry],
+    easy: &Option<Chain>,
+    pseudo: &Option<Chain>,
+) -> Result<(), NoMemory>
+    ensures { OnOk result (out.new.items ≡ out.old.items ++ upper_part entries.now easy.now pseudo.now) }
+{
+    match easy {
+        None => put_part_to(out, b"pseudo\n", Verdict::Pseudo, entries, pseudo),
+        Some(_) => put_part_to(out, b"easy\n", Verdict::Easy, entries, easy),
+    }
+}
+
+/// Puts why the class is hard, and why in the strong sense.
+fn put_lower(
+    out: &mut Vec<u8>,
+    entries: &[Entry],
+    hard: &Option<Chain>,
+    strong: &Option<Chain>,
+) -> Result<(), NoMemory>
+    ensures { OnOk result (out.new.items ≡ out.old.items ++ lower_part entries.now hard.now strong.now) }
+{
+    put_part_from(out, b"hard\n", Verdict::Hard, entries, hard)?;
+    put_part_from(out, b"strong\n", Verdict::Strong, entries, strong)
+}
+
+/// Puts the class and its label.
+fn put_head(out: &mut Vec<u8>, c: Class, mark: Mark) -> Result<(), NoMemory>
+    ensures { OnOk result (out.new.items ≡ out.old.items ++ why_head c mark) }
+{
+    put(out, b"class ")?;
+    put_name(out, c)?;
+    put(out, b"\nlabel ")?;
+    put(out, word(mark))?;
+    put(out, b"\n")
+}
+
+/// The first mark that applies.
+fn mark(easy: bool, pseudo: bool, hard: bool, strong: bool) -> Mark
+    ensures { result ≡ mark_of easy pseudo hard strong }
+{
+    match (easy, pseudo, hard, strong) {
+        (true, _, true, _) => Mark::Both,
+        (true, _, _, _) => Mark::Easy,
+        (_, true, _, true) => Mark::Torn,
+        (_, true, true, _) => Mark::Weak,
+        (_, _, _, true) => Mark::Strong,
+        (_, _, true, _) => Mark::Hard,
+        (_, true, _, _) => Mark::Pseudo,
+        _ => Mark::Unsettled,
+    }
+}
+
+/// The mark of a class by the chains that show what it is.
+fn mark_by(
+    easy: &Option<Chain>,
+    pseudo: &Option<Chain>,
+    hard: &Option<Chain>,
+    strong: &Option<Chain>,
+) -> Mark
+    ensures { result ≡ mark_of (is_some easy.now) (is_some pseudo.now) (is_some hard.now) (is_some strong.now) }
+{
+    mark(
+        easy.is_some(),
+        pseudo.is_some(),
+        hard.is_some(),
+        strong.is_some(),
+    )
+}
+
+/// The report of `why`: the class and its label, the chains that show it, then the chains that show a contradiction. The four chains
+/// are those of the closure's calls.
+pub fn why_text(
+    alloc: Global,
+    entries: &List<Entry>,
+    class: Class,
+    easy: &Option<Chain>,
+    pseudo: &Option<Chain>,
+    hard: &Option<Chain>,
+    strong: &Option<Chain>,
+) -> Result<Vec<u8>, NoMemory>
+    requires easy_chain { IsWay every_row (easy_listed entries.now) (class ∷ []) easy.now }
+    requires pseudo_chain { IsWay keeps_size (pseudo_listed entries.now) (class ∷ []) pseudo.now }
+    requires hard_chain { IsWay every_row (class ∷ []) (hard_listed entries.now) hard.now }
+    requires strong_chain { IsWay keeps_size (class ∷ []) (strong_listed entries.now) strong.now }
+    ensures { IfOk result (λ text. IsWhyText entries.now class easy.now pseudo.now hard.now strong.now text.items) }
+{
+    let clash = clash(alloc, entries)?;
+    let strong_clash = strong_clash(alloc, entries)?;
+    let mark = mark_by(easy, pseudo, hard, strong);
+    let mut out = Vec::new(alloc);
+    put_head(&mut out, class, mark)?;
+    put_upper(&mut out, entries.as_slice(), easy, pseudo)?;
+    put_lower(&mut out, entries.as_slice(), hard, strong)?;
+    put_clash(&mut out, &clash, &strong_clash)?;
+    put(&mut out, b"end\n")?;
+    Ok(out)
+}
