@@ -1,6 +1,6 @@
 -- What one job costs at its end, its charge, and what all jobs cost together: how charges grow, stretch and compare.
-use Rattle.std.proofs.Common.{◌≡◌, ℕ, suc, ◌<◌, ◌≤◌, Bool, true, false, ltb, List, [], ◌∷◌, length, get_or, map, filter, fold, All, Contains, inl, inr, ℤ, pos, ◌+ℤ◌, ◌-ℤ◌, ◌*ℤ◌, ◌≤ℤ◌, ◌<ℤ◌, if◌then◌else◌, refl, sym, ap, ap₂, subst, subst₂, ◌∙◌, arith, zero-add}
-use Rattle.std.specs.Prelude.{int_lt, ◌==◌}
+use Rattle.std.proofs.Common.{◌≡◌, ℕ, suc, ◌<◌, ◌≤◌, Bool, true, false, ltb, List, [], ◌∷◌, length, get_or, fold, All, Contains, inl, inr, ℤ, pos, ◌+ℤ◌, ◌-ℤ◌, ◌*ℤ◌, ◌≤ℤ◌, ◌<ℤ◌, if◌then◌else◌, refl, sym, ap, ap₂, subst, subst₂, ◌∙◌, arith, zero-add}
+use Rattle.std.specs.Prelude.{int_lt}
 use Rattle.std.specs.Int.{int_max}
 use Rattle.std.proofs.lemmas.Bool.{ltb-true, ltb-false}
 use Rattle.std.proofs.lemmas.Int.{ints, fold-int_max_bounds, fold-int_max_reached}
@@ -20,6 +20,7 @@ use Rattle.msp_schedule.specs.Feasible.{total}
 use Rattle.msp_schedule.specs.Cost.{end_of, jump, jumps, lateness, tardiness, late, job_cost, job_costs, greatest, cost_of}
 use Rattle.msp_schedule.proofs.Costs.{length-job_costs, get_or-job_costs}
 use Rattle.msp_schedule.proofs.OneMachine.{total_costs}
+use Rattle.msp_schedule.proofs.LastEnds.{last_end-natural}
 
 -- ---- `int_lt`
 pub int_lt-true : (a b : ℤ) → a <ℤ b → int_lt a b ≡ true
@@ -134,10 +135,6 @@ job_cost-reads SumWU unit i j x d w c = ap₂ (λ y z. pos y *ℤ (if int_lt (un
 job_cost-reads SumT unit i j x d w c = ap (λ z. int_max (pos 0) (x -ℤ (unit *ℤ z))) d
 job_cost-reads SumWT unit i j x d w c = ap₂ (λ y z. pos y *ℤ int_max (pos 0) (x -ℤ (unit *ℤ z))) w d
 
--- ---- ends
-pub end_of-natural : (s : Schedule) (j : ℕ) → pos 0 ≤ℤ end_of s j
-end_of-natural s j = (fold-int_max_bounds (pos 0) (map (λ p. p.to) (filter (λ p. p.job == j) s.pieces)) (end_of s j) refl).0
-
 -- ---- all jobs
 -- the charge of the job of a number
 abbrev pub charge_of : Instance → Schedule → ℕ → ℤ
@@ -248,7 +245,7 @@ pub record SameCharges (i j : Instance) : Type 0 where
   pub charge : (k : ℕ) → k < length i.jobs → (unit x : ℤ) → pos 1 ≤ℤ unit → pos 0 ≤ℤ x → job_cost i.class.crit unit (job_at i k) x ≡ job_cost j.class.crit unit (job_at j k) x
 
 pub cost-same_charges : (i j : Instance) (s : Schedule) → SameCharges i j → pos 1 ≤ℤ s.unit → cost_of i s ≡ cost_of j s
-cost-same_charges i j s h u = cost-same i j s s h.join h.count (λ k l. h.charge k l s.unit (end_of s k) u (end_of-natural s k))
+cost-same_charges i j s h u = cost-same i j s s h.join h.count (λ k l. h.charge k l s.unit (end_of s k) u (last_end-natural s.pieces k))
 
 pub SameCharges-from_jobs : (i j : Instance) → i.class.crit ≡ j.class.crit → length i.jobs ≡ length j.jobs →
     ((k : ℕ) → k < length i.jobs → ((job_at i k).due ≡ (job_at j k).due) × ((job_at i k).weight ≡ (job_at j k).weight) × ((job_at i k).curve ≡ (job_at j k).curve)) → SameCharges i j

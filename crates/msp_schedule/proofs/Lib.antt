@@ -10,4 +10,8 @@ pub mod Intervals
 pub mod Sequences
 pub mod Rows
 pub mod Frames
+pub mod LastEnds
 pub mod Charges
+pub mod Moves
+pub mod Transport
+pub mod Serves
