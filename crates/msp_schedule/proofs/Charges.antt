@@ -1,10 +1,12 @@
 -- What one job costs at its end, its charge, and what all jobs cost together: how charges grow, stretch and compare.
-use Rattle.std.proofs.Common.{◌≡◌, ℕ, suc, ◌<◌, ◌≤◌, Bool, true, false, ltb, List, [], ◌∷◌, length, get_or, fold, All, Contains, inl, inr, ℤ, pos, ◌+ℤ◌, ◌-ℤ◌, ◌*ℤ◌, ◌≤ℤ◌, ◌<ℤ◌, if◌then◌else◌, refl, sym, ap, ap₂, subst, subst₂, ◌∙◌, arith, zero-add}
+use Rattle.std.proofs.Common.{◌≡◌, ℕ, suc, ◌<◌, ◌≤◌, Bool, true, false, ltb, List, [], ◌∷◌, length, get_or, map, fold, All, Contains, inl, inr, ℤ, pos, ◌+ℤ◌, ◌-ℤ◌, ◌*ℤ◌, ◌≤ℤ◌, ◌<ℤ◌, if◌then◌else◌, refl, sym, ap, ap₂, subst, subst₂, ◌∙◌, arith, zero-add}
 use Rattle.std.specs.Prelude.{int_lt}
 use Rattle.std.specs.Int.{int_max}
 use Rattle.std.proofs.lemmas.Bool.{ltb-true, ltb-false}
 use Rattle.std.proofs.lemmas.Int.{ints, fold-int_max_bounds, fold-int_max_reached}
+use Rattle.std.proofs.lemmas.List.{length-map}
 use Rattle.std.proofs.lemmas.List.Elements.{All-nil, All-cons}
+use Rattle.msp_class.specs.declared.class.Class.{Class}
 use Rattle.msp_class.specs.declared.class.Crit.{Crit}
 use Rattle.msp_class.specs.declared.class.Crit.TheVariants.{Cmax, Lmax, Fmax, SumC, SumWC, SumU, SumWU, SumT, SumWT}
 use Rattle.msp_class.specs.Crit.{is_greatest}
@@ -21,6 +23,7 @@ use Rattle.msp_schedule.specs.Cost.{end_of, jump, jumps, lateness, tardiness, la
 use Rattle.msp_schedule.proofs.Costs.{length-job_costs, get_or-job_costs}
 use Rattle.msp_schedule.proofs.OneMachine.{total_costs}
 use Rattle.msp_schedule.proofs.LastEnds.{last_end-natural}
+use Rattle.msp_schedule.proofs.Frames.{job_at-map}
 
 -- ---- `int_lt`
 pub int_lt-true : (a b : ℤ) → a <ℤ b → int_lt a b ≡ true
@@ -244,8 +247,12 @@ pub record SameCharges (i j : Instance) : Type 0 where
   pub join : is_greatest i.class.crit ≡ is_greatest j.class.crit
   pub charge : (k : ℕ) → k < length i.jobs → (unit x : ℤ) → pos 1 ≤ℤ unit → pos 0 ≤ℤ x → job_cost i.class.crit unit (job_at i k) x ≡ job_cost j.class.crit unit (job_at j k) x
 
+-- schedules over one unit whose jobs end together cost the same, and one schedule too
+pub cost-same_ends : (i j : Instance) (s t : Schedule) → SameCharges i j → s.unit ≡ t.unit → pos 1 ≤ℤ s.unit → ((k : ℕ) → k < length i.jobs → end_of s k ≡ end_of t k) → cost_of i s ≡ cost_of j t
+cost-same_ends i j s t h e u ends = cost-same i j s t h.join h.count (λ k l. h.charge k l s.unit (end_of s k) u (last_end-natural s.pieces k) ∙ ap₂ (λ v x. job_cost j.class.crit v (job_at j k) x) e (ends k l))
+
 pub cost-same_charges : (i j : Instance) (s : Schedule) → SameCharges i j → pos 1 ≤ℤ s.unit → cost_of i s ≡ cost_of j s
-cost-same_charges i j s h u = cost-same i j s s h.join h.count (λ k l. h.charge k l s.unit (end_of s k) u (last_end-natural s.pieces k))
+cost-same_charges i j s h u = cost-same_ends i j s s h refl u (λ k l. refl)
 
 pub SameCharges-from_jobs : (i j : Instance) → i.class.crit ≡ j.class.crit → length i.jobs ≡ length j.jobs →
     ((k : ℕ) → k < length i.jobs → ((job_at i k).due ≡ (job_at j k).due) × ((job_at i k).weight ≡ (job_at j k).weight) × ((job_at i k).curve ≡ (job_at j k).curve)) → SameCharges i j
@@ -253,4 +260,16 @@ SameCharges-from_jobs i j e same h = record {
   count = same;
   join = ap is_greatest e;
   charge = λ k l unit x u p. let g = h k l in ap (λ c. job_cost c unit (job_at i k) x) e ∙ job_cost-reads j.class.crit unit (job_at i k) (job_at j k) x g.0 g.1 g.2;
+}
+
+-- where only the class changes, and where each job is changed by itself
+pub SameCharges-from_class : (i : Instance) (c : Class) → i.class.crit ≡ c.crit → SameCharges i (record i { class = c })
+SameCharges-from_class i c e = SameCharges-from_jobs i (record i { class = c }) e refl (λ k l. (refl, refl, refl))
+
+pub SameCharges-from_map : (i j : Instance) (f : Job → Job) → j.jobs ≡ map f i.jobs → is_greatest i.class.crit ≡ is_greatest j.class.crit →
+    ((a : Job) (unit x : ℤ) → pos 1 ≤ℤ unit → pos 0 ≤ℤ x → job_cost i.class.crit unit a x ≡ job_cost j.class.crit unit (f a) x) → SameCharges i j
+SameCharges-from_map i j f e join h = record {
+  count = sym (ap length e ∙ length-map i.jobs f);
+  join = join;
+  charge = λ k l unit x u p. h (job_at i k) unit x u p ∙ ap (λ a. job_cost j.class.crit unit a x) (sym (job_at-map i j f e k l));
 }

@@ -8,7 +8,7 @@ use Rattle.std.proofs.lemmas.List.Elements.{All-head, All-tail, All-filter, filt
 use Rattle.msp_class.specs.declared.environments.EnvKind.{EnvKind}
 use Rattle.msp_class.specs.declared.environments.EnvKind.TheVariants.{Identical, Uniform, Unrelated, OpenShop, FlowShop, JobShop}
 use Rattle.msp_class.specs.Env.{kind_of, is_mirror_kind}
-use Rattle.std.proofs.lemmas.List.{get_or_default}
+use Rattle.std.proofs.lemmas.List.{get_or_default, get_or-map}
 use Rattle.msp_class.proofs.Sums.{Contains-from_filter}
 use Rattle.msp_class.proofs.IntegerRing.{+ℤ_idl, natural_some, pos-same, *ℤ-one, *ℤ_assoc, *ℤ_comm, *ℤ-cancel_same}
 use Rattle.msp_instance.specs.declared.Need.{Need}
@@ -59,6 +59,10 @@ frame_by k i = record {
 
 abbrev pub frame_of : Instance → Frame
 frame_of i = frame_by (kind_of i.class.env) i
+
+-- a job of a list in which each job is changed by itself
+pub job_at-map : (i j : Instance) (f : Job → Job) → j.jobs ≡ map f i.jobs → (k : ℕ) → k < length i.jobs → job_at j k ≡ f (job_at i k)
+job_at-map i j f e k l = ap (λ js. slice_index_or js k no_job) e ∙ get_or-map f i.jobs k no_job no_job l
 
 -- ---- feasible over a frame
 -- the piece lasts, from moment 0 on

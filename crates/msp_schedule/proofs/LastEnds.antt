@@ -8,6 +8,7 @@ use Rattle.std.proofs.lemmas.List.Elements.{All-filter, All-contains, All-map, f
 use Rattle.msp_class.proofs.Sums.{Contains-filter, Contains-from_filter}
 use Rattle.msp_schedule.specs.declared.Piece.{Piece}
 use Rattle.msp_schedule.specs.Cost.{last_end}
+use Rattle.msp_schedule.proofs.Moves.{Contains-map}
 use Rattle.msp_schedule.proofs.Frames.{Frame, Fits, HasWork, Lasts, piece_of}
 
 abbrev of_job : List Piece → ℕ → List Piece
@@ -18,9 +19,6 @@ ends_of ps j = map (λ p. p.to) (of_job ps j)
 
 pub last_end-natural : (ps : List Piece) (j : ℕ) → pos 0 ≤ℤ last_end ps j
 last_end-natural ps j = (fold-int_max_bounds (pos 0) (ends_of ps j) (last_end ps j) refl).0
-
-Contains-map : {X Y : Type 0} (f : X → Y) (xs : List X) (x : X) → Contains xs x → Contains (map f xs) (f x)
-Contains-map f xs x (k, l, e) = (k, omega (arith, length-map xs f), get_or-map f xs k x (f x) l ∙ ap f e)
 
 Contains-from_map : {X Y : Type 0} (f : X → Y) (xs : List X) (y : Y) (d : X) → Contains (map f xs) y → (x : X) × Contains xs x × (f x ≡ y)
 Contains-from_map f xs y d (k, l, e) = let inside : k < length xs = omega (arith, length-map xs f) in (get_or xs k d, Contains-get_or xs k d inside, sym (get_or-map f xs k d y inside) ∙ e)

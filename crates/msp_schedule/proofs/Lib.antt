@@ -10,8 +10,9 @@ pub mod Intervals
 pub mod Sequences
 pub mod Rows
 pub mod Frames
-pub mod LastEnds
 pub mod Charges
 pub mod Moves
+pub mod LastEnds
 pub mod Transport
 pub mod Serves
+pub mod Mirror

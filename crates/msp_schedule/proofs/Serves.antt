@@ -1,7 +1,8 @@
 -- Schedules that serve another frame, or another instance, as they are.
-use Rattle.std.proofs.Common.{◌≡◌, ◌≢◌, ℕ, ◌*◌, ◌/◌, ◌<◌, ◌≤◌, not, true, false, List, length, get_or, All, Contains, ◌⊎◌, inl, ℤ, pos, ◌*ℤ◌, slice_index_or, refl, sym, ap, subst, ◌∙◌, arith}
-use Rattle.std.proofs.lemmas.List.{map-id, get_or_default}
+use Rattle.std.proofs.Common.{map, subst₂, ◌≡◌, ◌≢◌, ℕ, ◌*◌, ◌/◌, ◌<◌, ◌≤◌, not, true, false, List, length, get_or, All, Contains, ◌⊎◌, inl, ℤ, pos, ◌*ℤ◌, slice_index_or, refl, sym, ap, subst, ◌∙◌, arith}
+use Rattle.std.proofs.lemmas.List.{map-id, length-map, get_or_default}
 use Rattle.std.proofs.lemmas.List.Elements.{All-contains_itself}
+use Rattle.msp_class.specs.declared.class.Class.{Class}
 use Rattle.msp_class.specs.declared.environments.EnvKind.{EnvKind}
 use Rattle.msp_class.specs.declared.environments.EnvKind.TheVariants.{Identical, Uniform, Unrelated, OpenShop, FlowShop, JobShop}
 use Rattle.msp_class.specs.Env.{kind_of, is_mirror_kind}
@@ -13,7 +14,7 @@ use Rattle.msp_instance.specs.Instance.{no_need, no_job, job_at}
 use Rattle.msp_schedule.specs.declared.Piece.{Piece}
 use Rattle.msp_schedule.specs.declared.Schedule.{Schedule}
 use Rattle.msp_schedule.specs.Feasible.{Feasible, HasOperation, MayRun, product_of_times, whole_work}
-use Rattle.msp_schedule.proofs.Frames.{Frame, frame_by, frame_of, rate_on, Fits, IsShaped, HasTimePerMachine, Fits-from_feasible, Feasible-from_fits}
+use Rattle.msp_schedule.proofs.Frames.{Frame, frame_by, frame_of, rate_on, Fits, IsShaped, HasTimePerMachine, Fits-from_feasible, Feasible-from_fits, job_at-map}
 use Rattle.msp_schedule.proofs.Moves.{Suits}
 use Rattle.msp_schedule.proofs.Transport.{Stretches-identity, Fits-carried}
 
@@ -77,6 +78,10 @@ Fits-served f g D ps s fits = subst (Fits g D) (map-id ps) (Fits-carried f g D D
 -- ---- instances
 pub Feasible-served : (i j : Instance) (s : Schedule) → IsShaped i → IsShaped j → Serves (frame_of i) (frame_of j) → Feasible i s → Feasible j s
 Feasible-served i j s p q h f = Feasible-from_fits j s q (Fits-served (frame_of i) (frame_of j) s.unit s.pieces h (Fits-from_feasible i s p f))
+
+-- the same where the kinds are known
+pub Feasible-served_by : (i j : Instance) (s : Schedule) (k l : EnvKind) → kind_of i.class.env ≡ k → kind_of j.class.env ≡ l → IsShaped i → IsShaped j → Serves (frame_by k i) (frame_by l j) → Feasible i s → Feasible j s
+Feasible-served_by i j s k l d e p q h = Feasible-served i j s p q (subst₂ (λ x y. Serves (frame_by x i) (frame_by y j)) (sym d) (sym e) h)
 
 -- instances that differ in release dates, arcs, and what costs read
 pub record SameNeeds (i j : Instance) : Type 0 where
@@ -171,3 +176,21 @@ Serves-from_work i j s = record {
 -- same frame: a schedule serves both
 pub Feasible-same : (i j : Instance) (s : Schedule) → IsShaped i → SameWork i j → Feasible i s → Feasible j s
 Feasible-same i j s p h f = Feasible-served i j s p (IsShaped-same i j h.needs p) (Serves-from_work i j h) f
+
+-- where only the class changes, and where each job is changed by itself
+pub SameNeeds-from_map : (i j : Instance) (f : Job → Job) → kind_of i.class.env ≡ kind_of j.class.env → i.class.cut ≡ j.class.cut → i.machines ≡ j.machines → i.speeds ≡ j.speeds → j.jobs ≡ map f i.jobs →
+    ((a : Job) → (f a).needs ≡ a.needs) → SameNeeds i j
+SameNeeds-from_map i j f k c m s e h = record {
+  kind = k;
+  cut = c;
+  machines = m;
+  speeds = s;
+  count = sym (ap length e ∙ length-map i.jobs f);
+  needs = λ a l. sym (ap (λ x. x.needs) (job_at-map i j f e a l) ∙ h (job_at i a));
+}
+
+pub SameWork-from_map : (i j : Instance) (f : Job → Job) → SameNeeds i j → j.jobs ≡ map f i.jobs → ((a : Job) → (f a).release ≡ a.release) → i.arcs ≡ j.arcs → SameWork i j
+SameWork-from_map i j f n e h arcs = record { needs = n; heads = λ a l. sym (ap (λ x. x.release) (job_at-map i j f e a l) ∙ h (job_at i a)); arcs = arcs }
+
+pub SameWork-from_class : (i : Instance) (c : Class) → kind_of i.class.env ≡ kind_of c.env → i.class.cut ≡ c.cut → SameWork i (record i { class = c })
+SameWork-from_class i c k e = record { needs = record { kind = k; cut = e; machines = refl; speeds = refl; count = refl; needs = λ a l. refl }; heads = λ a l. refl; arcs = refl }

@@ -9,8 +9,13 @@ use Rattle.std.proofs.lemmas.List.Elements.{All-head, All-tail, All-filter, All-
 use Rattle.msp_class.proofs.IntegerRing.{≤ℤ_refl, ≤ℤ_trans, ≤ℤ_total, <ℤ_weak, one-*ℤ, *ℤ-zero, *ℤ-sub, *ℤ_comm, *ℤ-mono_nonneg, pos-le, int_max-left, int_max-right, ≤ℤ-int_max_left}
 use Rattle.msp_schedule.specs.declared.Piece.{Piece}
 use Rattle.msp_schedule.specs.Piece.{length_of, IsBefore}
-use Rattle.msp_schedule.specs.Cost.{last_end}
-use Rattle.msp_schedule.proofs.Frames.{Frame, Lasts, Stands, Fits}
+use Rattle.msp_class.specs.declared.environments.EnvKind.{EnvKind}
+use Rattle.msp_class.specs.Env.{kind_of}
+use Rattle.msp_instance.specs.declared.Instance.{Instance}
+use Rattle.msp_schedule.specs.declared.Schedule.{Schedule}
+use Rattle.msp_schedule.specs.Feasible.{Feasible}
+use Rattle.msp_schedule.specs.Cost.{last_end, end_of}
+use Rattle.msp_schedule.proofs.Frames.{Frame, frame_by, Lasts, Stands, Fits, IsShaped, Fits-from_feasible, Feasible-from_fits}
 use Rattle.msp_schedule.proofs.Moves.{All-map_pairs, filter-map, Suits, Suits-order, Moves, moved-place, moved-machine, moved-job, moved-work}
 
 -- ---- moments
@@ -145,3 +150,18 @@ module _ (f g : Frame) (D E : ℤ) (ps : List Piece) (k : ℤ) (moment : ℤ →
 
 pub length-carried : (moment : ℤ → ℤ) (number : ℕ → ℕ → ℕ) (ps : List Piece) → length (carried_all moment number ps) ≡ length ps
 length-carried moment number ps = length-map ps (carried moment number)
+
+-- ---- instances
+abbrev pub carried_schedule : ℤ → (ℤ → ℤ) → (ℕ → ℕ → ℕ) → Schedule → Schedule
+carried_schedule unit moment number s = record { unit = unit; pieces = carried_all moment number s.pieces }
+
+module _ (i j : Instance) (s : Schedule) (d e : EnvKind) (of_d : kind_of i.class.env ≡ d) (of_e : kind_of j.class.env ≡ e) (unit k : ℤ) (moment : ℤ → ℤ) (number : ℕ → ℕ → ℕ)
+    (p : IsShaped i) (f : Feasible i s) (c : Carries (frame_by d i) (frame_by e j) s.unit unit s.pieces k moment number) where
+  fits : Fits (frame_by d i) s.unit s.pieces
+  fits = subst (λ x. Fits (frame_by x i) s.unit s.pieces) of_d (Fits-from_feasible i s p f)
+
+  pub Feasible-carried : IsShaped j → Feasible j (carried_schedule unit moment number s)
+  Feasible-carried q = Feasible-from_fits j (carried_schedule unit moment number s) q (subst (λ x. Fits (frame_by x j) unit (carried_all moment number s.pieces)) (sym of_e) (Fits-carried (frame_by d i) (frame_by e j) s.unit unit s.pieces k moment number fits c))
+
+  pub end_of-carried : (a : ℕ) → end_of (carried_schedule unit moment number s) a ≡ moment (end_of s a)
+  end_of-carried = last_end-carried (frame_by d i) (frame_by e j) s.unit unit s.pieces k moment number fits c
