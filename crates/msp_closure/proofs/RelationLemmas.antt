@@ -1,8 +1,8 @@
 -- Bits of a relation: written, read, and joined by rows.
 use Rattle.std.proofs.Common.{◌≡◌, ◌≢◌, ◌⊎◌, ℕ, ◌<◌, ◌≤◌, ◌+◌, ◌-◌, ◌*◌, ◌/◌, ◌%◌, ◌^◌, Bool, true, false, not, ◌||◌, cond, eqb, max, bit_or, bit_and, List, length, get_or, set, Fits, w64, refl, ap, ap₂, sym, ◌∙◌, subst, inl, inr, arith, get_or-set_same, get_or-set_other}
-use Rattle.std.specs.Int.{bit_at}
-use Rattle.std.proofs.lemmas.Nat.{le_or_l, div_below, mod_below, same_from_place, div-add-mod'}
-use Rattle.std.proofs.lemmas.Nat.Bits.{bit_at_or, bit_at-lt, bit_at-zero, shr_and_one, bit_at_set_same, bit_at_set_other}
+use Rattle.std.specs.Int.{bit_at, trailing_zeros}
+use Rattle.std.proofs.lemmas.Nat.{le_or_l, shr-shr, shr_le, div_below, mod_below, same_from_place, div-add-mod'}
+use Rattle.std.proofs.lemmas.Nat.Bits.{bit_at_or, bit_at-lt, bit_at-zero, bit_at_above, bit_at-trailing_zeros, shr_and_one, bit_at_set_same, bit_at_set_other}
 use Rattle.std.proofs.lemmas.List.{set-get_or}
 use Rattle.std.proofs.lemmas.List.Sums.{sum_by-set}
 use Rattle.std.proofs.lemmas.Bool.{cases_eq, cases_lt, eqb-true, eq-eqb, ne_eqb, not-false}
@@ -214,3 +214,46 @@ alone_next before after c early others a b now = elim (others a b now) as (λ _.
   | inl was ↦ early a b was
   | inr pair ↦ pair.0 ∙ sym pair.1
 ]
+
+-- the lowest bit of a word from a place on
+pub record IsLowest (word from n : ℕ) : Type 0 where
+  pub inside : n < 64
+  pub is_set : bit_at word n ≡ 1
+  pub least : (k : ℕ) → from ≤ k → k < n → bit_at word k ≡ 0
+
+shifted : (word from j k : ℕ) → from + j ≡ k → bit_at (word / 2 ^ from) j ≡ bit_at word k
+shifted word from j k is = ap (λ n. n % 2) (shr-shr word from j) ∙ ap (bit_at word) is
+
+pub lowest_none : (word from k : ℕ) → word / 2 ^ from ≡ 0 → from ≤ k → bit_at word k ≡ 0
+lowest_none word from k none high =
+    sym (shifted word from (k - from) k (omega arith)) ∙ ap (λ n. bit_at n (k - from)) none ∙ bit_at-zero (k - from)
+
+pub lowest_some : (word from : ℕ) → word < 2 ^ 64 → word / 2 ^ from ≢ 0 → IsLowest word from (from + trailing_zeros w64 (word / 2 ^ from))
+lowest_some word from bound some =
+    let low = trailing_zeros w64 (word / 2 ^ from) in
+    let found = bit_at-trailing_zeros w64 (word / 2 ^ from) (omega (arith, some)) (omega (arith, shr_le word from)) in
+    let is : bit_at word (from + low) ≡ 1 = sym (shifted word from low (from + low) refl) ∙ found.1 in
+    record {
+      inside = elim (cases_lt (from + low) 64) as (λ _. from + low < 64) [
+        | inl inside ↦ inside
+        | inr high ↦ absurd (omega (arith, is, bit_at_above word 64 (from + low) bound high))
+      ];
+      is_set = is;
+      least = λ k high early. sym (shifted word from (k - from) k (omega arith)) ∙ found.2 (k - from) (omega arith);
+    }
+
+-- no bit is set in the places before a word
+abbrev pub NoneBefore : List ℕ → ℕ → ℕ → ℕ → Type 0
+NoneBefore words row from k = (j : ℕ) → from ≤ j → j / 64 < k → bit_at (get_or words (row + j / 64) 0) (j % 64) ≡ 0
+
+-- a bit of a row by its class
+pub bit_related : (ws : List ℕ) (a b : Class) (row n : ℕ) → row ≡ rank_of a * WIDTH → n ≡ rank_of b
+    → bit_at (get_or ws (row + n / 64) 0) (n % 64) ≡ 1 → relates ws a b ≡ true
+unfolding relates
+bit_related ws a b row n at is set_bit =
+    ap (λ v. eqb v 1) (ap₂ (λ i j. bit_at (get_or ws (i + j / 64) 0) (j % 64)) (sym at) (sym is) ∙ set_bit)
+
+pub no_bit_related : (ws : List ℕ) (a b : Class) (row : ℕ) → row ≡ rank_of a * WIDTH
+    → bit_at (get_or ws (row + rank_of b / 64) 0) (rank_of b % 64) ≡ 0 → relates ws a b ≡ false
+unfolding relates
+no_bit_related ws a b row at clear = ap (λ v. eqb v 1) (ap (λ i. bit_at (get_or ws (i + rank_of b / 64) 0) (rank_of b % 64)) (sym at) ∙ clear)

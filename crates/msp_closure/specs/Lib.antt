@@ -2,3 +2,5 @@ pub mod Entries
 pub mod Tables
 pub mod Walk
 pub mod Relation
+pub mod Frontier
+pub mod Standing

@@ -7,6 +7,7 @@ mod chains;
 mod class_table;
 mod distances;
 mod entry;
+mod frontier_lists;
 mod labels;
 mod listing;
 mod reach_bits;
@@ -19,5 +20,6 @@ mod walk;
 
 pub use chains::{clash, route_to, strong_clash, why_easy, why_hard, why_pseudo, why_strong};
 pub use entry::{Entry, Mark, Verdict};
-pub use reach_bits::{ReachBits, reach, reaches};
+pub use frontier_lists::{FrontierLists, frontier};
 pub use labels::{Labels, close, label};
+pub use reach_bits::{ReachBits, reach, reaches};

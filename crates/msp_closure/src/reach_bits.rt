@@ -1,5 +1,5 @@
 // The relation between classes that chains of rows make.
-ghost use Rattle.std.specs.Prelude.{◌≡◌, ◌↔◌, ℕ, true, false, IfOk, IsTrue, Some, slice_set, length};
+ghost use Rattle.std.specs.Prelude.{◌≡◌, ◌↔◌, ◌≤◌, ◌<◌, ℕ, true, false, IfOk, IfSome, IfNone, IsTrue, Some, slice_set, length};
 ghost use Rattle.msp_class.specs.declared.class.Class.{Class};
 ghost use Rattle.msp_class.specs.Rank.{rank_of};
 ghost use Rattle.msp_table.specs.Chains.{every_row, Reaches};
@@ -44,6 +44,16 @@ pub fn reaches(bits: &ReachBits, from: Class, to: Class) -> bool
     ensures { IsTrue result ↔ Reaches every_row from to }
 {
     bits.relation.relates(from, to)
+}
+
+/// The class of the least rank from a rank on to which some chain leads from the given one.
+pub(crate) fn next_reached(bits: &ReachBits, c: Class, from: u16) -> Option<Class>
+    ensures reached { IfSome result (λ b. Reaches every_row c b) }
+    ensures from { IfSome result (λ b. from ≤ rank_of b) }
+    ensures least { IfSome result (λ b. (x : Class) → from ≤ rank_of x → rank_of x < rank_of b → ¬ Reaches every_row c x) }
+    ensures none { IfNone result ((x : Class) → from ≤ rank_of x → ¬ Reaches every_row c x) }
+{
+    bits.relation.next_related(c, from)
 }
 
 /// Each class related to those to which chains lead. A pass joins the row of each class to those of the classes to which rows lead,

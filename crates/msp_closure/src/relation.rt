@@ -1,5 +1,6 @@
 // A relation between classes, as a bit for each two of them.
-ghost use Rattle.std.specs.Prelude.{◌≡◌, ◌+◌, ◌*◌, ◌/◌, ◌⊎◌, ◌<◌, ◌≤◌, ℕ, ◌/◌, ◌⊎◌, true, false, IfOk, IsTrue, bit_or, length, slice_index, slice_set};
+ghost use Rattle.std.specs.Prelude.{◌≡◌, ◌+◌, ◌*◌, ◌/◌, ◌%◌, ◌⊎◌, ◌<◌, ◌≤◌, ℕ, true, false, IfOk, IfSome, IfNone, bit_or, length, slice_index, slice_set};
+ghost use Rattle.std.specs.Int.{bit_at};
 ghost use Rattle.msp_class.specs.declared.class.Class.{Class};
 ghost use Rattle.msp_class.specs.Rank.{rank_of};
 ghost use Rattle.msp_closure.specs.Relation.{relates, Rises, JoinsWords, Joins};
@@ -52,12 +53,60 @@ impl Relation {
         word >> (rank(b) % 64) & 1 == 1
     }
 
+    /// The class of the least rank from a rank on to which the given one is related.
+    pub(crate) fn next_related(&self, c: Class, from: u16) -> Option<Class>
+        ensures related { IfSome result (λ b. relates self.now c b ≡ true) }
+        ensures from { IfSome result (λ b. from ≤ rank_of b) }
+        ensures least { IfSome result (λ b. (x : Class) → from ≤ rank_of x → rank_of x < rank_of b → relates self.now c x ≡ false) }
+        ensures none { IfNone result ((x : Class) → from ≤ rank_of x → relates self.now c x ≡ false) }
+    {
+        let row = rank(c) as usize * WIDTH;
+        match next_bit(&self.words, row, from) {
+            Some(n) if n < CLASSES => Some(class_at(n)),
+            _ => None,
+        }
+    }
+
     /// Relates a class to all to which another is related; whether one was new.
     pub(crate) fn join(&mut self, to: Class, from: Class) -> bool
         ensures joins { Joins self.old self.new to from }
         ensures rises { Rises self.old self.new result }
     {
         join_words(&mut self.words, rank(to) as usize, rank(from) as usize)
+    }
+}
+
+/// The least place of a bit that is set from a place on, in the words of a row that begin at a word.
+fn next_bit(words: &[u64], row: usize, from: u16) -> Option<u16>
+    requires inside { row + WIDTH ≤ length words.now }
+    ensures set { IfSome result (λ n. bit_at (slice_index words.now (row + n / 64)) (n % 64) ≡ 1) }
+    ensures from { IfSome result (λ n. from ≤ n) }
+    ensures least { IfSome result (λ n. (k : ℕ) → from ≤ k → k < n → bit_at (slice_index words.now (row + k / 64)) (k % 64) ≡ 0) }
+    ensures none { IfNone result ((k : ℕ) → from ≤ k → k < WIDTH * 64 → bit_at (slice_index words.now (row + k / 64)) (k % 64) ≡ 0) }
+{
+    for k in from / 64..WIDTH as u16 {
+        let low = if k == from / 64 { from % 64 } else { 0 };
+        if let Some(bit) = lowest_bit(words[row + k as usize], low) {
+            return Some(k * 64 + bit);
+        }
+    }
+    None
+}
+
+/// The place of the lowest bit of a word that is set, from a place on.
+fn lowest_bit(word: u64, from: u16) -> Option<u16>
+    requires { from < 64 }
+    ensures inside { IfSome result (λ n. n < 64) }
+    ensures set { IfSome result (λ n. bit_at word n ≡ 1) }
+    ensures from { IfSome result (λ n. from ≤ n) }
+    ensures least { IfSome result (λ n. (k : ℕ) → from ≤ k → k < n → bit_at word k ≡ 0) }
+    ensures none { IfNone result ((k : ℕ) → from ≤ k → k < 64 → bit_at word k ≡ 0) }
+{
+    let rest = word >> from;
+    if rest == 0 {
+        None
+    } else {
+        Some(from + rest.trailing_zeros() as u16)
     }
 }
 

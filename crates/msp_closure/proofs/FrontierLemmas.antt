@@ -1,0 +1,312 @@
+-- The frontier: classes struck out, and lists in order of rank.
+use Rattle.std.proofs.Common.{◌≡◌, ◌≢◌, ◌↔◌, ℕ, ◌<◌, ◌≤◌, ◌+◌, Bool, true, false, List, [], ◌∷◌, ◌++◌, length, get_or, set, refl, ap, sym, ◌∙◌, subst, inl, inr, arith}
+use Rattle.std.specs.Prelude.{Contains, AllPairs}
+use Rattle.std.proofs.lemmas.Bool.{cases_eq, cases_lt}
+use Rattle.std.proofs.lemmas.List.Elements.{Contains-get_or, Contains-push, Contains-push_cases, Contains-append_left}
+use Rattle.std.proofs.lemmas.List.Quantifiers.{all_pairs_push}
+use Rattle.msp_class.specs.declared.class.Class.{Class}
+use Rattle.msp_class.specs.declared.ranks.TheConstants.{CLASSES}
+use Rattle.msp_class.specs.Rank.{rank_of}
+use Rattle.msp_class.proofs.RankLemmas.{rank_of-below, rank_of-injective}
+use Rattle.msp_table.specs.Chains.{every_row, Reaches}
+use Rattle.msp_closure.specs.Tables.{is_marked}
+use Rattle.msp_closure.specs.Frontier.{IsMaximal, IsMinimal, ListsInOrder}
+use Rattle.msp_closure.proofs.TableLemmas.{is_marked-set_same, is_marked-set_other, below_next}
+
+-- one more class gets its mark
+pub marked_next : (wanted : Class → Bool) (t : List Bool) (n : ℕ) (c : Class) (m : Bool) → length t ≡ CLASSES → rank_of c ≡ n → m ≡ wanted c
+    → ((x : Class) → rank_of x < n → is_marked t x ≡ wanted x)
+    → (x : Class) → rank_of x < n + 1 → is_marked (set t (rank_of c) m) x ≡ wanted x
+marked_next wanted t n c m len at is before x below =
+    elim (cases_eq (rank_of x) (rank_of c)) as (λ _. is_marked (set t (rank_of c) m) x ≡ wanted x) [
+      | inl same ↦
+          let here : x ≡ c = rank_of-injective x c same in
+          ap (is_marked (set t (rank_of c) m)) here ∙ is_marked-set_same t c m len ∙ is ∙ ap wanted (sym here)
+      | inr apart ↦
+          let different : rank_of x ≢ n = λ e. apart (e ∙ sym at) in
+          is_marked-set_other t c x m apart ∙ before x (below_next (rank_of x) n below different)
+    ]
+
+-- the marked classes of rank below a number, in order
+pub record ListedBelow (t : List Bool) (classes : List Class) (n : ℕ) : Type 0 where
+  pub only : (c : Class) → Contains classes c → (is_marked t c ≡ true) × (rank_of c < n)
+  pub all : (c : Class) → is_marked t c ≡ true → rank_of c < n → Contains classes c
+  pub rises : AllPairs (λ a b. rank_of a < rank_of b) classes
+
+pub ListedBelow-start : (t : List Bool) → ListedBelow t [] 0
+ListedBelow-start t = record {
+  only = λ c has. absurd (omega (arith, has.1));
+  all = λ c marked below. absurd (omega arith);
+  rises = λ i j d before inside. absurd (omega arith);
+}
+
+pub ListedBelow-more : (t : List Bool) (classes : List Class) (n : ℕ) (c : Class) → rank_of c ≡ n → is_marked t c ≡ true
+    → ListedBelow t classes n → ListedBelow t (classes ++ c ∷ []) (n + 1)
+ListedBelow-more t classes n c at marked s = record {
+  only = λ x has. elim (Contains-push_cases classes c x has) as (λ _. (is_marked t x ≡ true) × (rank_of x < n + 1)) [
+    | inl early ↦ let old = s.only x early in (old.0, omega (arith, old.1))
+    | inr same ↦ (ap (is_marked t) (sym same) ∙ marked, omega (arith, ap rank_of same, at))
+  ];
+  all = λ x has below. elim (cases_eq (rank_of x) n) as (λ _. Contains (classes ++ c ∷ []) x) [
+    | inl same ↦
+        let P : Class → Type 0 = Contains (classes ++ c ∷ []) in
+        subst P (rank_of-injective c x (at ∙ sym same)) (Contains-push classes c)
+    | inr apart ↦ Contains-append_left classes (c ∷ []) x (s.all x has (below_next (rank_of x) n below apart))
+  ];
+  rises = all_pairs_push (λ a b. rank_of a < rank_of b) classes c s.rises
+      (λ k d inside. omega (arith, at, (s.only (get_or classes k d) (Contains-get_or classes k d inside)).1));
+}
+
+pub ListedBelow-same : (t : List Bool) (classes : List Class) (n : ℕ) (c : Class) → rank_of c ≡ n → is_marked t c ≡ false
+    → ListedBelow t classes n → ListedBelow t classes (n + 1)
+ListedBelow-same t classes n c at unmarked s = record {
+  only = λ x has. let old = s.only x has in (old.0, omega (arith, old.1));
+  all = λ x has below. elim (cases_eq (rank_of x) n) as (λ _. Contains classes x) [
+    | inl same ↦
+        let not_here : true ≡ false = sym has ∙ ap (is_marked t) (rank_of-injective x c (same ∙ sym at)) ∙ unmarked in
+        absurd (let e = not_here in cc)
+    | inr apart ↦ s.all x has (below_next (rank_of x) n below apart)
+  ];
+  rises = s.rises;
+}
+
+pub ListsInOrder-from : (t : List Bool) (classes : List Class) (n : ℕ) → CLASSES ≤ n → ListedBelow t classes n
+    → ListsInOrder (λ c. is_marked t c ≡ true) classes
+ListsInOrder-from t classes n all s = record {
+  lists = λ c. (λ has. (s.only c has).0, λ marked. s.all c marked (omega (arith, rank_of-below c)));
+  rises = s.rises;
+}
+
+-- a list of a property is a list of an equivalent one
+pub ListsInOrder-same : (P Q : Class → Type 0) (classes : List Class) → ((c : Class) → P c → Q c) → ((c : Class) → Q c → P c)
+    → ListsInOrder P classes → ListsInOrder Q classes
+ListsInOrder-same P Q classes to back s = record {
+  lists = λ c. (λ has. to c ((s.lists c).0 has), λ q. (s.lists c).1 (back c q));
+  rises = s.rises;
+}
+
+-- what the search for the next class found
+pub record IsNext (c : Class) (from : ℕ) (b : Class) : Type 0 where
+  pub reached : Reaches every_row c b
+  pub high : from ≤ rank_of b
+  pub least : (x : Class) → from ≤ rank_of x → rank_of x < rank_of b → ¬ Reaches every_row c x
+
+-- each marked class of rank below a number to which the class leads leads back
+abbrev pub LedBackBelow : List Bool → Class → ℕ → Type 0
+LedBackBelow t c n = (b : Class) → rank_of b < n → is_marked t b ≡ true → Reaches every_row c b → Reaches every_row b c
+
+pub LedBackBelow-next : (t : List Bool) (c b : Class) (from : ℕ) → IsNext c from b → (is_marked t b ≡ true → Reaches every_row b c)
+    → LedBackBelow t c from → LedBackBelow t c (rank_of b + 1)
+LedBackBelow-next t c b from next back s x below marked reaches = elim (cases_lt (rank_of x) from) as (λ _. Reaches every_row x c) [
+  | inl early ↦ s x early marked reaches
+  | inr high ↦ elim (cases_eq (rank_of x) (rank_of b)) as (λ _. Reaches every_row x c) [
+    | inl same ↦
+        let P : Class → Type 0 = λ y. is_marked t y ≡ true → Reaches every_row y c in
+        subst P (rank_of-injective b x (sym same)) back marked
+    | inr apart ↦ absurd (next.least x high (omega arith) reaches)
+  ]
+]
+
+-- the classes of rank below a number to which the class leads and that do not lead back have lost their mark
+pub record Struck (c : Class) (before left : List Bool) (n : ℕ) : Type 0 where
+  pub kept : (b : Class) → is_marked left b ≡ true → (is_marked before b ≡ true) × (rank_of b < n → Reaches every_row c b → Reaches every_row b c)
+  pub all : (b : Class) → is_marked before b ≡ true → (rank_of b < n → Reaches every_row c b → Reaches every_row b c) → is_marked left b ≡ true
+
+pub Struck-start : (c : Class) (t : List Bool) → Struck c t t 0
+Struck-start c t = record { kept = λ b marked. (marked, λ below. absurd (omega arith)); all = λ b marked back. marked }
+
+-- one class was looked at: its mark is left only if it leads back, and then as it was, and no other mark changed
+Struck-next : (c : Class) (before left after : List Bool) (from : ℕ) (b : Class) → IsNext c from b
+    → ((x : Class) → rank_of x ≢ rank_of b → is_marked after x ≡ is_marked left x)
+    → (is_marked after b ≡ true → Reaches every_row b c × (is_marked left b ≡ true))
+    → (Reaches every_row b c → is_marked left b ≡ true → is_marked after b ≡ true)
+    → Struck c before left from → Struck c before after (rank_of b + 1)
+Struck-next c before left after from b next others only back s = record {
+  kept = λ x marked. elim (cases_eq (rank_of x) (rank_of b)) as
+      (λ _. (is_marked before x ≡ true) × (rank_of x < rank_of b + 1 → Reaches every_row c x → Reaches every_row x c)) [
+        | inl same ↦
+            let is : b ≡ x = rank_of-injective b x (sym same) in
+            let here = only (ap (is_marked after) is ∙ marked) in
+            let P : Class → Type 0 = λ y. Reaches every_row y c in
+            ((s.kept x (ap (is_marked left) (sym is) ∙ here.1)).0, λ below reaches. subst P is here.0)
+        | inr apart ↦
+            let old = s.kept x (sym (others x apart) ∙ marked) in
+            (
+              old.0,
+              λ below reaches. elim (cases_lt (rank_of x) from) as (λ _. Reaches every_row x c) [
+                | inl early ↦ old.1 early reaches
+                | inr high ↦ absurd (next.least x high (omega arith) reaches)
+              ],
+            )
+      ];
+  all = λ x was leads_back.
+      let left_x : is_marked left x ≡ true = s.all x was (λ early. leads_back (omega (arith, next.high))) in
+      elim (cases_eq (rank_of x) (rank_of b)) as (λ _. is_marked after x ≡ true) [
+        | inl same ↦
+            let is : x ≡ b = rank_of-injective x b same in
+            let P : Class → Type 0 = λ y. Reaches every_row c y in
+            let Q : Class → Type 0 = λ y. Reaches every_row y c in
+            let to_b = subst Q is (leads_back (omega arith) (subst P (sym is) next.reached)) in
+            ap (is_marked after) is ∙ back to_b (ap (is_marked left) (sym is) ∙ left_x)
+        | inr apart ↦ others x apart ∙ left_x
+      ];
+}
+
+no_mark : {P : Type 0} → false ≡ true → P
+no_mark e = absurd (let both = e in cc)
+
+pub Struck-off : (c : Class) (before left : List Bool) (from : ℕ) (b : Class) → IsNext c from b → length left ≡ CLASSES
+    → ¬ Reaches every_row b c → Struck c before left from → Struck c before (set left (rank_of b) false) (rank_of b + 1)
+Struck-off c before left from b next len not_back s = Struck-next c before left (set left (rank_of b) false) from b next
+    (λ x apart. is_marked-set_other left b x false apart)
+    (λ marked. no_mark (sym (is_marked-set_same left b false len) ∙ marked))
+    (λ back. absurd (not_back back)) s
+
+pub Struck-stay : (c : Class) (before left : List Bool) (from : ℕ) (b : Class) → IsNext c from b → Reaches every_row b c
+    → Struck c before left from → Struck c before left (rank_of b + 1)
+Struck-stay c before left from b next back s = Struck-next c before left left from b next (λ x apart. refl) (λ marked. (back, marked)) (λ back marked. marked) s
+
+pub Struck-all : (c : Class) (before left : List Bool) (n : ℕ) → ((x : Class) → n ≤ rank_of x → ¬ Reaches every_row c x) → Struck c before left n
+    → (b : Class) → (is_marked left b ≡ true) ↔ ((is_marked before b ≡ true) × (Reaches every_row c b → Reaches every_row b c))
+Struck-all c before left n none s b = (
+  λ marked.
+      let old = s.kept b marked in
+      (
+        old.0,
+        λ reaches. elim (cases_lt (rank_of b) n) as (λ _. Reaches every_row b c) [
+          | inl below ↦ old.1 below reaches
+          | inr high ↦ absurd (none b high reaches)
+        ],
+      ),
+  λ both. s.all b both.0 (λ below reaches. both.1 reaches),
+)
+
+-- among the classes of rank below a number, the marks left are those of maximal classes
+pub record MaximalBelow (t left : List Bool) (n : ℕ) : Type 0 where
+  pub kept : (b : Class) → is_marked left b ≡ true
+      → (is_marked t b ≡ true) × (rank_of b < n → (x : Class) → is_marked t x ≡ true → Reaches every_row b x → Reaches every_row x b)
+  pub all : (b : Class) → is_marked t b ≡ true
+      → (rank_of b < n → (x : Class) → is_marked t x ≡ true → Reaches every_row b x → Reaches every_row x b) → is_marked left b ≡ true
+
+pub MaximalBelow-start : (t left : List Bool) → ((c : Class) → is_marked left c ≡ is_marked t c) → MaximalBelow t left 0
+MaximalBelow-start t left same = record {
+  kept = λ b marked. (sym (same b) ∙ marked, λ below. absurd (omega arith));
+  all = λ b marked back. same b ∙ marked;
+}
+
+MaximalBelow-next : (t left after : List Bool) (n : ℕ) (c : Class) → rank_of c ≡ n
+    → ((x : Class) → rank_of x ≢ rank_of c → is_marked after x ≡ is_marked left x)
+    → (is_marked after c ≡ true → ((x : Class) → is_marked t x ≡ true → Reaches every_row c x → Reaches every_row x c) × (is_marked left c ≡ true))
+    → (((x : Class) → is_marked t x ≡ true → Reaches every_row c x → Reaches every_row x c) → is_marked left c ≡ true → is_marked after c ≡ true)
+    → MaximalBelow t left n → MaximalBelow t after (n + 1)
+MaximalBelow-next t left after n c at others only back s = record {
+  kept = λ b marked. elim (cases_eq (rank_of b) (rank_of c)) as
+      (λ _. (is_marked t b ≡ true) × (rank_of b < n + 1 → (x : Class) → is_marked t x ≡ true → Reaches every_row b x → Reaches every_row x b)) [
+        | inl same ↦
+            let is : c ≡ b = rank_of-injective c b (sym same) in
+            let here = only (ap (is_marked after) is ∙ marked) in
+            let P : Class → Type 0 = λ y. (x : Class) → is_marked t x ≡ true → Reaches every_row y x → Reaches every_row x y in
+            ((s.kept b (ap (is_marked left) (sym is) ∙ here.1)).0, λ below. subst P is here.0)
+        | inr apart ↦
+            let old = s.kept b (sym (others b apart) ∙ marked) in
+            (old.0, λ below. old.1 (below_next (rank_of b) n below (λ e. apart (e ∙ sym at))))
+      ];
+  all = λ b was maximal.
+      let left_b : is_marked left b ≡ true = s.all b was (λ early. maximal (omega arith)) in
+      elim (cases_eq (rank_of b) (rank_of c)) as (λ _. is_marked after b ≡ true) [
+        | inl same ↦
+            let is : b ≡ c = rank_of-injective b c same in
+            let P : Class → Type 0 = λ y. (x : Class) → is_marked t x ≡ true → Reaches every_row y x → Reaches every_row x y in
+            ap (is_marked after) is ∙ back (subst P is (maximal (omega arith))) (ap (is_marked left) (sym is) ∙ left_b)
+        | inr apart ↦ others b apart ∙ left_b
+      ];
+}
+
+pub MaximalBelow-off : (t left : List Bool) (n : ℕ) (c : Class) → rank_of c ≡ n → length left ≡ CLASSES
+    → ¬ ((x : Class) → is_marked t x ≡ true → Reaches every_row c x → Reaches every_row x c)
+    → MaximalBelow t left n → MaximalBelow t (set left (rank_of c) false) (n + 1)
+MaximalBelow-off t left n c at len not_back s = MaximalBelow-next t left (set left (rank_of c) false) n c at
+    (λ x apart. is_marked-set_other left c x false apart)
+    (λ marked. no_mark (sym (is_marked-set_same left c false len) ∙ marked))
+    (λ back. absurd (not_back back)) s
+
+pub MaximalBelow-stay : (t left : List Bool) (n : ℕ) (c : Class) → rank_of c ≡ n
+    → ((x : Class) → is_marked t x ≡ true → Reaches every_row c x → Reaches every_row x c)
+    → MaximalBelow t left n → MaximalBelow t left (n + 1)
+MaximalBelow-stay t left n c at back s = MaximalBelow-next t left left n c at (λ x apart. refl) (λ marked. (back, marked)) (λ back marked. marked) s
+
+pub MaximalBelow-all : (t left : List Bool) (n : ℕ) → CLASSES ≤ n → MaximalBelow t left n
+    → (b : Class) → (is_marked left b ≡ true) ↔ IsMaximal (λ c. is_marked t c ≡ true) b
+MaximalBelow-all t left n all s b = (
+  λ marked. let both = s.kept b marked in (both.0, both.1 (omega (arith, rank_of-below b))),
+  λ both. s.all b both.0 (λ below. both.1),
+)
+
+-- the marks left are those of classes that lead to each marked class of rank below a number by which they are led to
+pub record MinimalBelow (t left : List Bool) (n : ℕ) : Type 0 where
+  pub kept : (b : Class) → is_marked left b ≡ true
+      → (is_marked t b ≡ true) × ((a : Class) → rank_of a < n → is_marked t a ≡ true → Reaches every_row a b → Reaches every_row b a)
+  pub all : (b : Class) → is_marked t b ≡ true
+      → ((a : Class) → rank_of a < n → is_marked t a ≡ true → Reaches every_row a b → Reaches every_row b a) → is_marked left b ≡ true
+
+pub MinimalBelow-start : (t left : List Bool) → ((c : Class) → is_marked left c ≡ is_marked t c) → MinimalBelow t left 0
+MinimalBelow-start t left same = record {
+  kept = λ b marked. (sym (same b) ∙ marked, λ a below. absurd (omega arith));
+  all = λ b marked back. same b ∙ marked;
+}
+
+-- one more class struck out what it leads to, if it is marked
+MinimalBelow-next : (t left after : List Bool) (n : ℕ) (c : Class) → rank_of c ≡ n
+    → ((b : Class) → is_marked after b ≡ true → (is_marked left b ≡ true) × (is_marked t c ≡ true → Reaches every_row c b → Reaches every_row b c))
+    → ((b : Class) → is_marked left b ≡ true → (is_marked t c ≡ true → Reaches every_row c b → Reaches every_row b c) → is_marked after b ≡ true)
+    → MinimalBelow t left n → MinimalBelow t after (n + 1)
+MinimalBelow-next t left after n c at only back s = record {
+  kept = λ b marked.
+      let here = only b marked in
+      let old = s.kept b here.0 in
+      (
+        old.0,
+        λ a below has reaches. elim (cases_eq (rank_of a) n) as (λ _. Reaches every_row b a) [
+          | inl same ↦
+              let P : Class → Type 0 = λ y. is_marked t y ≡ true → Reaches every_row y b → Reaches every_row b y in
+              subst P (rank_of-injective c a (at ∙ sym same)) here.1 has reaches
+          | inr apart ↦ old.1 a (below_next (rank_of a) n below apart) has reaches
+        ],
+      );
+  all = λ b was minimal. back b (s.all b was (λ a early. minimal a (omega arith))) (minimal c (omega arith));
+}
+
+pub MinimalBelow-struck : (t left after : List Bool) (n : ℕ) (c : Class) → rank_of c ≡ n → is_marked t c ≡ true
+    → ((b : Class) → (is_marked after b ≡ true) ↔ ((is_marked left b ≡ true) × (Reaches every_row c b → Reaches every_row b c)))
+    → MinimalBelow t left n → MinimalBelow t after (n + 1)
+MinimalBelow-struck t left after n c at has struck s = MinimalBelow-next t left after n c at
+    (λ b marked. let both = (struck b).0 marked in (both.0, λ also. both.1))
+    (λ b marked back. (struck b).1 (marked, back has)) s
+
+pub MinimalBelow-stay : (t left : List Bool) (n : ℕ) (c : Class) → rank_of c ≡ n → is_marked t c ≡ false
+    → MinimalBelow t left n → MinimalBelow t left (n + 1)
+MinimalBelow-stay t left n c at unmarked s = MinimalBelow-next t left left n c at
+    (λ b marked. (marked, λ has. no_mark (sym unmarked ∙ has)))
+    (λ b marked back. marked) s
+
+pub MinimalBelow-all : (t left : List Bool) (n : ℕ) → CLASSES ≤ n → MinimalBelow t left n
+    → (b : Class) → (is_marked left b ≡ true) ↔ IsMinimal (λ c. is_marked t c ≡ true) b
+MinimalBelow-all t left n all s b = (
+  λ marked. let both = s.kept b marked in (both.0, λ a has. both.1 a (omega (arith, rank_of-below a)) has),
+  λ both. s.all b both.0 (λ a below has. both.1 a has),
+)
+
+-- the lists of the marks left, where the marks at first were those of a property
+pub ListsInOrder-maximal : (P : Class → Type 0) (t left : List Bool) (classes : List Class) → ((c : Class) → (is_marked t c ≡ true) ↔ P c)
+    → ((b : Class) → (is_marked left b ≡ true) ↔ IsMaximal (λ c. is_marked t c ≡ true) b) → ListsInOrder (λ c. is_marked left c ≡ true) classes
+    → ListsInOrder (IsMaximal P) classes
+ListsInOrder-maximal P t left classes marks kept s = ListsInOrder-same (λ c. is_marked left c ≡ true) (IsMaximal P) classes
+    (λ c marked. let m = (kept c).0 marked in ((marks c).0 m.0, λ b p reaches. m.1 b ((marks b).1 p) reaches))
+    (λ c m. (kept c).1 ((marks c).1 m.0, λ b marked reaches. m.1 b ((marks b).0 marked) reaches)) s
+
+pub ListsInOrder-minimal : (P : Class → Type 0) (t left : List Bool) (classes : List Class) → ((c : Class) → (is_marked t c ≡ true) ↔ P c)
+    → ((b : Class) → (is_marked left b ≡ true) ↔ IsMinimal (λ c. is_marked t c ≡ true) b) → ListsInOrder (λ c. is_marked left c ≡ true) classes
+    → ListsInOrder (IsMinimal P) classes
+ListsInOrder-minimal P t left classes marks kept s = ListsInOrder-same (λ c. is_marked left c ≡ true) (IsMinimal P) classes
+    (λ c marked. let m = (kept c).0 marked in ((marks c).0 m.0, λ b p reaches. m.1 b ((marks b).1 p) reaches))
+    (λ c m. (kept c).1 ((marks c).1 m.0, λ b marked reaches. m.1 b ((marks b).0 marked) reaches)) s

@@ -1,0 +1,5 @@
+use Rattle.msp_closure.proofs.FrontierLemmas.{MinimalBelow}
+use Rattle.msp_closure.proofs.frontier_lists.keep_minimal.Given as goal
+
+abbrev pub invariant-loop-n : goal.invariant-loop-n
+invariant-loop-n l = MinimalBelow l.set l.left l.n
