@@ -177,6 +177,9 @@ cost_of-reached i s e some =
     let inside : k < length i.jobs = omega (arith, costs_list-length i s) in
     (k, inside, sym (costs_list-at i s k inside (greatest (costs_list i s))) ∙ h ∙ sym (cost_of-greatest i s e))
 
+pub cost_of-least : (i : Instance) (s : Schedule) (b : ℤ) → is_greatest i.class.crit ≡ true → 0 < length i.jobs → ((k : ℕ) → k < length i.jobs → charge_of i s k ≤ℤ b) → cost_of i s ≤ℤ b
+cost_of-least i s b e some h = let (k, l, r) = cost_of-reached i s e some in subst (λ x. x ≤ℤ b) r (h k l)
+
 pub cost_of-none : (i : Instance) (s : Schedule) → is_greatest i.class.crit ≡ true → length i.jobs ≡ 0 → cost_of i s ≡ pos 0
 cost_of-none i s e z = cost_of-greatest i s e ∙ by (costs_list i s) (costs_list-length i s ∙ z)
   where

@@ -59,7 +59,7 @@ filter-same f g (x ∷ xs) h =
     ap (λ b. cond b (x ∷ filter f xs) (filter f xs)) (All-head (λ y. f y ≡ g y) x xs h)
     ∙ ap (λ l. cond (g x) (x ∷ l) l) (filter-same f g xs (All-tail (λ y. f y ≡ g y) x xs h))
 
-both_true : (a b : Bool) → (a && b) ≡ true → (a ≡ true) × (b ≡ true)
+pub both_true : (a b : Bool) → (a && b) ≡ true → (a ≡ true) × (b ≡ true)
 both_true true b h = (refl, h)
 both_true false b h = absurd (cc)
 

@@ -70,7 +70,7 @@ Fits-served f g D ps s fits = subst (Fits g D) (map-id ps) (Fits-carried f g D D
   unit = fits.unit_from;
   moments = Stretches-identity ps;
   operations = Suits-same f g D s.operations;
-  heads = λ k d l h. ≤ℤ_trans (*ℤ-mono_nonneg D (≤ℤ_trans (pos-le (omega arith)) fits.unit_from) (pos-le (s.heads (get_or ps k d).job (fits.place k d l).job))) h;
+  heads = λ k d l inside h. ≤ℤ_trans (*ℤ-mono_nonneg D (≤ℤ_trans (pos-le (omega arith)) fits.unit_from) (pos-le (s.heads (get_or ps k d).job inside))) h;
   arcs = s.arcs;
   routed = s.routed;
 }))
@@ -111,13 +111,17 @@ IsShaped-same i j s h = record { unrelated = λ e k d l. shape k d l (h.unrelate
         let Q : List Need → Type 0 = λ ns. All (λ n. 1 ≤ n.time) ns in
         (sym (ap length same) ∙ p.0 ∙ s.machines, subst Q same p.1)
 
+-- the operation is there, with a time
+abbrev HasTime : ℕ → List Need → Type 0
+HasTime o needs = (o < length needs) × ((slice_index_or needs o no_need).time ≢ 0)
+
 has-same : (k : EnvKind) (i j : Instance) (a o : ℕ) → (job_at i a).needs ≡ (job_at j a).needs → HasOperation k i a o → HasOperation k j a o
 has-same Identical i j a o e h = h
 has-same Uniform i j a o e h = h
 has-same Unrelated i j a o e h = h
-has-same OpenShop i j a o e h = let P : List Need → Type 0 = λ ns. (o < length ns) × ((slice_index_or ns o no_need).time ≢ 0) in subst P e h
-has-same FlowShop i j a o e h = let P : List Need → Type 0 = λ ns. (o < length ns) × ((slice_index_or ns o no_need).time ≢ 0) in subst P e h
-has-same JobShop i j a o e h = let P : List Need → Type 0 = λ ns. (o < length ns) × ((slice_index_or ns o no_need).time ≢ 0) in subst P e h
+has-same OpenShop i j a o e h = subst (HasTime o) e h
+has-same FlowShop i j a o e h = subst (HasTime o) e h
+has-same JobShop i j a o e h = subst (HasTime o) e h
 
 may-same : (k : EnvKind) (i j : Instance) (a o m : ℕ) → i.machines ≡ j.machines → (job_at i a).needs ≡ (job_at j a).needs → MayRun k i a o m → MayRun k j a o m
 may-same Identical i j a o m s e h = omega arith

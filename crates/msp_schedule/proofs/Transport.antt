@@ -49,7 +49,7 @@ pub record Carries (f g : Frame) (D E : ℤ) (ps : List Piece) (k : ℤ) (moment
   pub unit : pos 1 ≤ℤ E
   pub moments : Stretches ps k moment
   pub operations : Suits f g D E k number
-  pub heads : All (λ p. (D *ℤ pos (f.head p.job)) ≤ℤ p.from → (E *ℤ pos (g.head p.job)) ≤ℤ moment p.from) ps
+  pub heads : All (λ p. p.job < f.jobs → (D *ℤ pos (f.head p.job)) ≤ℤ p.from → (E *ℤ pos (g.head p.job)) ≤ℤ moment p.from) ps
   pub arcs : All (Contains f.arcs) g.arcs
   -- where operations follow a route there, they follow it here, or each job has one operation
   pub routed : g.routed ≡ true → (f.routed ≡ true) ⊎ ((j o n : ℕ) → j < f.jobs → f.Has j o → f.Has j n → o ≡ n)
@@ -119,7 +119,7 @@ module _ (f g : Frame) (D E : ℤ) (ps : List Piece) (k : ℤ) (moment : ℤ →
     place = moved-place f g D E k number move ps fits c.operations moves;
     machine = moved-machine f g D E k number move ps fits c.operations moves;
     job = moved-job f g D E k number move ps fits c.operations moves;
-    release = All-map (λ p. (E *ℤ pos (g.head p.job)) ≤ℤ p.from) move ps (λ a d l. c.heads a d l (fits.release a d l));
+    release = All-map (λ p. (E *ℤ pos (g.head p.job)) ≤ℤ p.from) move ps (λ a d l. c.heads a d l (fits.place a d l).job (fits.release a d l));
     arc = λ a d l.
         let old = All-contains (λ x. All (λ p. All (λ q. p.job ≡ x.before → q.job ≡ x.after → IsBefore p q) ps) ps) f.arcs (get_or g.arcs a d) fits.arc (c.arcs a d l) in
         All-map_pairs (λ p q. p.job ≡ (get_or g.arcs a d).before → q.job ≡ (get_or g.arcs a d).after → IsBefore p q) move ps (λ i e m j x n s t. before (get_or ps i e) (get_or ps j x) (fits.span i e m) (fits.span j x n) (old i e m j x n s t));
