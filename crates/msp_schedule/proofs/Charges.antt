@@ -152,7 +152,7 @@ costs_list-at i s k l z = get_or-job_costs i.class.crit s.unit (end_of s) 0 k i.
 costs_list-length : (i : Instance) (s : Schedule) → length (costs_list i s) ≡ length i.jobs
 costs_list-length i s = length-job_costs i.class.crit s.unit (end_of s) 0 i.jobs
 
-pub cost_of-greatest : (i : Instance) (s : Schedule) → is_greatest i.class.crit ≡ true → cost_of i s ≡ greatest (costs_list i s)
+cost_of-greatest : (i : Instance) (s : Schedule) → is_greatest i.class.crit ≡ true → cost_of i s ≡ greatest (costs_list i s)
 cost_of-greatest i s e = ap (λ b. if b then greatest (costs_list i s) else total (costs_list i s)) e
 
 -- the sum
