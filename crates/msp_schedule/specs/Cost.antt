@@ -69,6 +69,11 @@ job_costs crit unit end k (j ∷ js) = job_cost crit unit j (end k) ∷ job_cost
 abbrev pub cost_of : Instance → Schedule → ℤ
 cost_of i s = combined i.class.crit (job_costs i.class.crit s.unit (end_of s) 0 i.jobs)
 
+-- The solution's schedule is feasible, and its cost is that of the schedule.
+pub record IsSolution (i : Instance) (s : Solution) : Type 0 where
+  pub feasible : Feasible i s.schedule
+  pub cost : IsOver s.cost (cost_of i s.schedule) s.schedule.unit
+
 -- The schedule is best: it is feasible, and no feasible schedule over any unit costs less.
 pub record Best (i : Instance) (s : Schedule) : Type 0 where
   pub feasible : Feasible i s

@@ -165,3 +165,7 @@ kind_of k = if carries k then Carries else Threshold
 -- every row keeps the numbers of an instance small but rows 26 and 27, which multiply them by a common multiple of the speeds
 abbrev pub keeps_size : ℕ → Bool
 keeps_size k = not (k == 26 || k == 27)
+
+-- row 47 turns release dates into due dates
+abbrev pub turns_dates : ℕ → Bool
+turns_dates k = k == 47
