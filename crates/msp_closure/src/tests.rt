@@ -1,6 +1,7 @@
 // Worked cases of labels and chains.
 use crate::{
-    Entry, Mark, Verdict, close, label, route_to, strong_clash, why_easy, why_hard, why_pseudo,
+    Entry, Mark, Verdict, clash, close, label, route_to, strong_clash, why_easy, why_hard,
+    why_pseudo, why_strong,
 };
 use msp_class::{Class, Crit, Env, List, Order, Times};
 use msp_table::Chain;
@@ -105,6 +106,28 @@ fn strong_and_pseudopolynomial(rt: HostRuntime) -> Result<(), Fail> {
     let chain = strong_clash(rt.alloc(), &entries)?.ok_or("no clash")?;
     assert_eq!(rt; chain.from, flow);
     has_rows(&rt, &chain, &[]);
+    let strong = why_strong(rt.alloc(), &entries, flow)?.ok_or("no chain")?;
+    has_rows(&rt, &strong, &[]);
+    Ok(())
+}
+
+#[test]
+fn easy_and_hard(rt: HostRuntime) -> Result<(), Fail> {
+    let dated = Class {
+        heads: true,
+        ..one(Crit::Cmax)
+    };
+    let results = [(one(Crit::Lmax), Verdict::Easy), (dated, Verdict::Hard)];
+    let entries = known(rt.alloc(), &results)?;
+    let marks = [
+        (dated, Mark::Both),
+        (one(Crit::Lmax), Mark::Both),
+        (one(Crit::Cmax), Mark::Easy),
+    ];
+    has_labels(&rt, rt.alloc(), &entries, &marks)?;
+    let chain = clash(rt.alloc(), &entries)?.ok_or("no clash")?;
+    assert_eq!(rt; chain.from, dated);
+    has_rows(&rt, &chain, &[47]);
     Ok(())
 }
 
