@@ -13,20 +13,6 @@ use Rattle.msp_closure.specs.Tables.{is_marked}
 use Rattle.msp_closure.specs.Frontier.{IsMaximal, IsMinimal, ListsInOrder}
 use Rattle.msp_closure.proofs.TableLemmas.{is_marked-set_same, is_marked-set_other, below_next}
 
--- one more class gets its mark
-pub marked_next : (wanted : Class → Bool) (t : List Bool) (n : ℕ) (c : Class) (m : Bool) → length t ≡ CLASSES → rank_of c ≡ n → m ≡ wanted c
-    → ((x : Class) → rank_of x < n → is_marked t x ≡ wanted x)
-    → (x : Class) → rank_of x < n + 1 → is_marked (set t (rank_of c) m) x ≡ wanted x
-marked_next wanted t n c m len at is before x below =
-    elim (cases_eq (rank_of x) (rank_of c)) as (λ _. is_marked (set t (rank_of c) m) x ≡ wanted x) [
-      | inl same ↦
-          let here : x ≡ c = rank_of-injective x c same in
-          ap (is_marked (set t (rank_of c) m)) here ∙ is_marked-set_same t c m len ∙ is ∙ ap wanted (sym here)
-      | inr apart ↦
-          let different : rank_of x ≢ n = λ e. apart (e ∙ sym at) in
-          is_marked-set_other t c x m apart ∙ before x (below_next (rank_of x) n below different)
-    ]
-
 -- the marked classes of rank below a number, in order
 pub record ListedBelow (t : List Bool) (classes : List Class) (n : ℕ) : Type 0 where
   pub only : (c : Class) → Contains classes c → (is_marked t c ≡ true) × (rank_of c < n)

@@ -1,37 +1,24 @@
 -- The labels from four tests of each class.
-use Rattle.std.proofs.Common.{◌≡◌, ◌≢◌, ℕ, ◌<◌, ◌+◌, Bool, true, false, not, ltb, ◌&&◌, ◌||◌, Option, List, length, get_or, set, Some, refl, ap, sym, ◌∙◌, subst, inl, inr, get_or-set_same, get_or-set_other, arith}
-use Rattle.std.specs.Prelude.{slice_get, IsSomeAnd, ◌==◌}
+use Rattle.std.proofs.Common.{◌≡◌, ℕ, ◌<◌, Bool, true, false, not, ltb, ◌&&◌, ◌||◌, Option, List, length, get_or, Some, refl, ap, sym, ◌∙◌, subst, arith}
+use Rattle.std.specs.Prelude.{slice_get, IsSomeAnd, Contains}
+use Rattle.std.specs.List.{list_any}
 use Rattle.std.specs.Bool.{Decides}
 use Rattle.std.proofs.lemmas.Option.{slice_get-get_or}
-use Rattle.std.proofs.lemmas.Bool.{cases_eq, and_parts, lt-ltb}
-use Rattle.std.proofs.lemmas.Bool.Decides.{Decides-like, Decides-not, Decides-eqb, Decides-and, Decides-or}
+use Rattle.std.proofs.lemmas.List.Folds.{Any-from_list_any, list_any-from_Any}
+use Rattle.std.proofs.lemmas.Bool.{and_parts, lt-ltb}
+use Rattle.std.proofs.lemmas.Bool.Decides.{Decides-and, Decides-or}
 use Rattle.msp_class.specs.declared.class.Class.{Class}
 use Rattle.msp_class.specs.declared.ranks.TheConstants.{CLASSES}
 use Rattle.msp_class.specs.Rank.{rank_of}
-use Rattle.msp_class.proofs.RankLemmas.{rank_of-below, rank_of-injective}
+use Rattle.msp_class.proofs.RankLemmas.{rank_of-below}
 use Rattle.msp_table.specs.Rows.{keeps_size}
+use Rattle.msp_table.specs.Chains.{Reaches}
 use Rattle.msp_closure.specs.declared.entry.Entry.{Entry}
 use Rattle.msp_closure.specs.declared.entry.Mark.{Mark}
 use Rattle.msp_closure.specs.declared.entry.Mark.TheVariants.{Easy, Pseudo, Weak, Hard, Strong, Torn, Both, Unsettled}
-use Rattle.msp_closure.specs.declared.distances.TheConstants.{FAR}
 use Rattle.msp_closure.specs.Entries.{pseudo_listed, LeadsToOne, IsLedTo, IsEasy, IsHard, IsStrong, Applies, label_number, Says, AreLabels}
-use Rattle.msp_closure.specs.Tables.{value_of, is_near, is_marked, AreDistances, AreReached, mark_of}
-use Rattle.msp_closure.proofs.TableLemmas.{below_next}
-use Rattle.msp_closure.proofs.WayLemmas.{near_leads, leads_near}
-
--- one more class gets its mark
-pub marks_next : (wanted : Class → Mark) (t : List Mark) (n : ℕ) (c : Class) (m : Mark) → length t ≡ CLASSES → rank_of c ≡ n → m ≡ wanted c
-    → ((x : Class) (d : Mark) → rank_of x < n → get_or t (rank_of x) d ≡ wanted x)
-    → (x : Class) (d : Mark) → rank_of x < n + 1 → get_or (set t (rank_of c) m) (rank_of x) d ≡ wanted x
-marks_next wanted t n c m len at is before x d below =
-    elim (cases_eq (rank_of x) (rank_of c)) as (λ _. get_or (set t (rank_of c) m) (rank_of x) d ≡ wanted x) [
-      | inl same ↦
-          let inside : rank_of c < length t = omega (arith, rank_of-below c) in
-          ap (λ i. get_or (set t (rank_of c) m) i d) same ∙ get_or-set_same t (rank_of c) m d inside ∙ is ∙ ap wanted (sym (rank_of-injective x c same))
-      | inr apart ↦
-          let different : rank_of x ≢ n = λ e. apart (e ∙ sym at) in
-          get_or-set_other t (rank_of c) (rank_of x) m d apart ∙ before x d (below_next (rank_of x) n below different)
-    ]
+use Rattle.msp_closure.specs.Tables.{mark_of}
+use Rattle.msp_closure.specs.Relation.{relates, IsReach}
 
 -- a test of four answers that passes everywhere
 all_of : (Bool → Bool) → Bool
@@ -117,15 +104,22 @@ Says-mark_of es c e p h s are = (
       cc,
 )
 
--- whether a value is a distance says whether a chain leads to a wanted class
-pub is_near-Decides : (usable : ℕ → Bool) (wanted : List Class) (t : List ℕ) (c : Class) → AreDistances usable wanted t
-    → Decides (is_near t c) (LeadsToOne usable wanted c)
-is_near-Decides usable wanted t c are = Decides-like (is_near t c) (near_leads usable wanted t are c) (leads_near usable wanted t are c)
-    (Decides-not (value_of t c == FAR) (Decides-eqb (value_of t c) FAR))
+-- a list has a class that passes a test exactly where the test of all of it says so
+some_passes : (p : Class → Bool) (P : Class → Type 0) → ((b : Class) → Decides (p b) (P b)) → (xs : List Class)
+    → Decides (list_any p xs) ((b : Class) × Contains xs b × P b)
+some_passes p P decides xs = (
+  λ yes. let found = Any-from_list_any p xs yes in (found.1, (found.0, found.2, found.3), (decides found.1).0 found.4),
+  λ found. list_any-from_Any p xs (found.1.0, found.0, found.1.1, found.1.2, (decides found.0).1 found.2),
+)
 
-pub is_marked-Decides : (usable : ℕ → Bool) (starts : List Class) (t : List Bool) (c : Class) → AreReached usable starts t
-    → Decides (is_marked t c) (IsLedTo usable starts c)
-is_marked-Decides usable starts t c are = (are.sound c, λ led. are.all led.0 c led.1 led.2)
+-- whether a class is related to a wanted one says whether a chain leads to a wanted one
+pub leading-Decides : (usable : ℕ → Bool) (words : List ℕ) (wanted : List Class) (c : Class) → IsReach usable words
+    → Decides (list_any (λ b. relates words c b) wanted) (LeadsToOne usable wanted c)
+leading-Decides usable words wanted c r = some_passes (λ b. relates words c b) (λ b. Reaches usable c b) (λ b. (r.sound c b, r.all c b)) wanted
+
+pub led-Decides : (usable : ℕ → Bool) (words : List ℕ) (starts : List Class) (c : Class) → IsReach usable words
+    → Decides (list_any (λ b. relates words b c) starts) (IsLedTo usable starts c)
+led-Decides usable words starts c r = some_passes (λ b. relates words b c) (λ b. Reaches usable b c) (λ b. (r.sound b c, r.all b c)) starts
 
 -- the marks made from the tests
 pub AreLabels-from : (es : List Entry) (tests : (c : Class) → Bool × Bool × Bool × Bool) (marks : List Mark)

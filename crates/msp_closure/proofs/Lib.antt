@@ -3,7 +3,6 @@ pub mod TableLemmas
 pub mod AdvanceLemmas
 pub mod NearestLemmas
 pub mod WayLemmas
-pub mod SpreadLemmas
 pub mod LabelLemmas
 pub mod RelationLemmas
 pub mod ReachLemmas

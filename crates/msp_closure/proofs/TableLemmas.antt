@@ -1,9 +1,10 @@
 -- A table of classes, written at one of them.
-use Rattle.std.proofs.Common.{◌≡◌, ◌≢◌, ℕ, ◌<◌, ◌+◌, Bool, false, List, length, set, arith, get_or-set_same, get_or-set_other}
+use Rattle.std.proofs.lemmas.Bool.{cases_eq}
+use Rattle.std.proofs.Common.{get_or, ◌≡◌, ◌≢◌, ℕ, ◌<◌, ◌+◌, Bool, false, List, length, set, arith, get_or-set_same, get_or-set_other, ap, sym, ◌∙◌, inl, inr}
 use Rattle.msp_class.specs.declared.class.Class.{Class}
 use Rattle.msp_class.specs.declared.ranks.TheConstants.{CLASSES}
 use Rattle.msp_class.specs.Rank.{rank_of}
-use Rattle.msp_class.proofs.RankLemmas.{rank_of-below}
+use Rattle.msp_class.proofs.RankLemmas.{rank_of-below, rank_of-injective}
 use Rattle.msp_closure.specs.Tables.{value_of, is_marked}
 
 -- a class written to has the value
@@ -22,3 +23,17 @@ is_marked-set_other t c x v apart = get_or-set_other t (rank_of c) (rank_of x) v
 -- a class whose rank is not the one before is not done before
 pub below_next : (n m : ℕ) → n < m + 1 → n ≢ m → n < m
 below_next n m below apart = omega arith
+
+-- one more class gets its value
+pub value_next : {X : Type 0} (wanted : Class → X) (t : List X) (n : ℕ) (c : Class) (m d : X) → length t ≡ CLASSES → rank_of c ≡ n → m ≡ wanted c
+    → ((x : Class) → rank_of x < n → get_or t (rank_of x) d ≡ wanted x)
+    → (x : Class) → rank_of x < n + 1 → get_or (set t (rank_of c) m) (rank_of x) d ≡ wanted x
+value_next wanted t n c m d len at is before x below =
+    elim (cases_eq (rank_of x) (rank_of c)) as (λ _. get_or (set t (rank_of c) m) (rank_of x) d ≡ wanted x) [
+      | inl same ↦
+          let inside : rank_of c < length t = omega (arith, rank_of-below c) in
+          ap (λ i. get_or (set t (rank_of c) m) i d) same ∙ get_or-set_same t (rank_of c) m d inside ∙ is ∙ ap wanted (sym (rank_of-injective x c same))
+      | inr apart ↦
+          let different : rank_of x ≢ n = λ e. apart (e ∙ sym at) in
+          get_or-set_other t (rank_of c) (rank_of x) m d apart ∙ before x (below_next (rank_of x) n below different)
+    ]

@@ -1,9 +1,9 @@
 -- What the private functions make: tables with a value for each class. No public contract cites this file.
-use Rattle.std.specs.Prelude.{ℕ, ◌≡◌, ◌≢◌, ◌==◌, Bool, true, false, not, List, slice_index, slice_index_or, Contains}
+use Rattle.std.specs.Prelude.{ℕ, ◌≢◌, Bool, true, false, List, slice_index, slice_index_or}
 use Rattle.msp_class.specs.declared.class.Class.{Class}
 use Rattle.msp_class.specs.Rank.{rank_of}
 use Rattle.msp_table.specs.Rows.{carries, keeps_size}
-use Rattle.msp_table.specs.Chains.{every_row, Reaches, LeadsInto, IsDistance}
+use Rattle.msp_table.specs.Chains.{every_row, LeadsInto, IsDistance}
 use Rattle.msp_closure.specs.declared.entry.Verdict.{Verdict}
 use Rattle.msp_closure.specs.declared.entry.Verdict.TheVariants as verdict
 use Rattle.msp_closure.specs.declared.entry.Mark.{Mark}
@@ -30,10 +30,6 @@ makes verdict.Strong = is_strong
 abbrev pub value_of : List ℕ → Class → ℕ
 value_of table c = slice_index table (rank_of c)
 
--- whether the number kept for a class is a distance
-abbrev pub is_near : List ℕ → Class → Bool
-is_near table c = not (value_of table c == FAR)
-
 -- a mark kept for each class, by rank
 abbrev pub is_marked : List Bool → Class → Bool
 is_marked table c = slice_index_or table (rank_of c) false
@@ -42,11 +38,6 @@ is_marked table c = slice_index_or table (rank_of c) false
 pub record AreDistances (usable : ℕ → Bool) (wanted : List Class) (table : List ℕ) : Type 0 where
   pub near : (c : Class) → value_of table c ≢ FAR → IsDistance usable wanted c (value_of table c)
   pub all : (c : Class) (ks : List ℕ) → LeadsInto usable wanted c ks → value_of table c ≢ FAR
-
--- the mark of each class says whether a chain leads to it from one of the starts
-pub record AreReached (usable : ℕ → Bool) (starts : List Class) (table : List Bool) : Type 0 where
-  pub sound : (c : Class) → is_marked table c ≡ true → (b : Class) × Contains starts b × Reaches usable b c
-  pub all : (b c : Class) → Contains starts b → Reaches usable b c → is_marked table c ≡ true
 
 -- the mark of a class by four tests: whether it is easy, pseudopolynomial or easy, hard, and strongly hard
 abbrev pub mark_of : Bool → Bool → Bool → Bool → Mark

@@ -1,11 +1,10 @@
 -- What the steps of the private searches keep. No public contract cites this file.
-use Rattle.std.specs.Prelude.{ℕ, ◌≡◌, ◌≢◌, ◌+◌, ◌<◌, ◌≤◌, ◌==◌, Bool, true, false, List, Option, Some, None, if◌then◌else◌, count_by, not}
+use Rattle.std.specs.Prelude.{ℕ, ◌≡◌, ◌≢◌, ◌+◌, ◌<◌, ◌≤◌, ◌==◌, Bool, false, List, Option, Some, None, if◌then◌else◌, count_by}
 use Rattle.msp_class.specs.declared.class.Class.{Class}
 use Rattle.msp_class.specs.Rank.{rank_of}
 use Rattle.msp_table.specs.Rows.{goes_of}
-use Rattle.msp_table.specs.Chains.{Reaches}
 use Rattle.msp_closure.specs.declared.distances.TheConstants.{FAR}
-use Rattle.msp_closure.specs.Tables.{value_of, is_marked}
+use Rattle.msp_closure.specs.Tables.{value_of}
 
 -- the class to which a usable row leads
 abbrev pub step_of : (ℕ → Bool) → ℕ → Class → Option Class
@@ -28,18 +27,3 @@ pub record Advances (usable : ℕ → Bool) (before after : List ℕ) (level : �
   pub misses : (c : Class) → rank_of c < done → value_of after c ≡ FAR → (k : ℕ) → ¬ LeadsToValue usable before c level k
   pub quiet : changed ≡ false → after ≡ before
   pub falls : far_count after + (if changed then 1 else 0) ≤ far_count before
-
--- how many classes are not marked
-abbrev pub unmarked_count : List Bool → ℕ
-unmarked_count table = count_by not table
-
--- some more classes are marked, each at the end of a chain from a class that was marked before
-pub record Spreads (usable : ℕ → Bool) (before after : List Bool) (changed : Bool) : Type 0 where
-  pub keeps : (c : Class) → is_marked before c ≡ true → is_marked after c ≡ true
-  pub sound : (c : Class) → is_marked after c ≡ true → (b : Class) × (is_marked before b ≡ true) × Reaches usable b c
-  pub quiet : changed ≡ false → after ≡ before
-  pub falls : unmarked_count after + (if changed then 1 else 0) ≤ unmarked_count before
-
--- every class to which the row leads from the class is marked
-abbrev pub IsClosedAt : (ℕ → Bool) → List Bool → Class → ℕ → Type 0
-IsClosedAt usable table c k = (x : Class) → step_of usable k c ≡ Some x → is_marked table x ≡ true

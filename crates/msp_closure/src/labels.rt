@@ -2,14 +2,14 @@
 ghost use Rattle.std.specs.Prelude.{◌≡◌, IfOk, slice_get, slice_index_or, length};
 ghost use Rattle.msp_class.specs.Rank.{rank_of};
 ghost use Rattle.msp_closure.specs.Entries.{AreLabels};
-ghost use Rattle.msp_closure.specs.Tables.{is_near, is_marked, mark_of};
+ghost use Rattle.msp_closure.specs.Tables.{is_marked, mark_of};
 ghost use Rattle.msp_class.specs.declared.class.Class.{Class};
 
 use crate::class_table::{ClassTable, class_at};
-use crate::distances::{FAR, distances};
 use crate::entry::{Entry, Mark, Verdict};
 use crate::listing::listed;
-use crate::reached::reached;
+use crate::reach_bits::related;
+use crate::reached::{leading, led};
 use crate::row_set::RowSet;
 use msp_class::{CLASSES, Class, List, NoMemory};
 use std::alloc::Global;
@@ -38,10 +38,12 @@ pub fn close(alloc: Global, entries: &List<Entry>) -> Result<Labels, NoMemory>
     let pseudo = listed(alloc, entries, Verdict::Pseudo)?;
     let hard = listed(alloc, entries, Verdict::Hard)?;
     let strong = listed(alloc, entries, Verdict::Strong)?;
-    let to_easy = distances(alloc, RowSet::Every, &easy)?;
-    let to_pseudo = distances(alloc, RowSet::KeepsSize, &pseudo)?;
-    let from_hard = reached(alloc, RowSet::Every, &hard)?;
-    let from_strong = reached(alloc, RowSet::KeepsSize, &strong)?;
+    let every = related(alloc, RowSet::Every)?;
+    let to_easy = leading(alloc, &every, &easy)?;
+    let from_hard = led(alloc, &every, &hard)?;
+    let keeping_size = related(alloc, RowSet::KeepsSize)?;
+    let to_pseudo = leading(alloc, &keeping_size, &pseudo)?;
+    let from_strong = led(alloc, &keeping_size, &strong)?;
     let marks = marked(alloc, &to_easy, &to_pseudo, &from_hard, &from_strong)?;
     Ok(Labels { marks })
 }
@@ -55,29 +57,25 @@ pub fn label(labels: &Labels, c: Class) -> Mark
 
 fn marked(
     alloc: Global,
-    to_easy: &ClassTable<u16>,
-    to_pseudo: &ClassTable<u16>,
+    to_easy: &ClassTable<bool>,
+    to_pseudo: &ClassTable<bool>,
     from_hard: &ClassTable<bool>,
     from_strong: &ClassTable<bool>,
 ) -> Result<ClassTable<Mark>, NoMemory>
     ensures len { IfOk result (λ table. length table ≡ CLASSES) }
     ensures each { IfOk result (λ table. (c : Class) (d : Mark) → slice_index_or table (rank_of c) d
-        ≡ mark_of (is_near to_easy.now c) (is_near to_pseudo.now c) (is_marked from_hard.now c) (is_marked from_strong.now c)) }
+        ≡ mark_of (is_marked to_easy.now c) (is_marked to_pseudo.now c) (is_marked from_hard.now c) (is_marked from_strong.now c)) }
 {
     let mut table = ClassTable::new(alloc, Mark::Unsettled)?;
     for n in 0..CLASSES {
         let c = class_at(n);
-        let easy = is_near(to_easy, c);
-        let pseudo = is_near(to_pseudo, c);
-        table.set(c, mark(easy, pseudo, from_hard.at(c), from_strong.at(c)));
+        let easy = to_easy.at(c);
+        let pseudo = to_pseudo.at(c);
+        let hard = from_hard.at(c);
+        let strong = from_strong.at(c);
+        table.set(c, mark(easy, pseudo, hard, strong));
     }
     Ok(table)
-}
-
-fn is_near(table: &ClassTable<u16>, c: Class) -> bool
-    ensures { result ≡ is_near table.now c }
-{
-    table.at(c) != FAR
 }
 
 /// The first mark that applies.

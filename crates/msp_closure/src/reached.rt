@@ -1,106 +1,55 @@
-// The classes to which chains lead.
-ghost use Rattle.std.specs.Prelude.{◌≡◌, ◌<◌, ℕ, Bool, true, false, IfOk, Contains, slice_set, length};
+// The classes related to one of a list, and those that one of a list is related to.
+ghost use Rattle.std.specs.Prelude.{◌≡◌, IfOk, length};
+ghost use Rattle.std.specs.List.{list_any};
 ghost use Rattle.msp_class.specs.declared.class.Class.{Class};
-ghost use Rattle.msp_class.specs.Rank.{rank_of};
-ghost use Rattle.msp_closure.specs.Tables.{allows, is_marked, AreReached};
-ghost use Rattle.msp_closure.specs.Walk.{Spreads, IsClosedAt};
+ghost use Rattle.msp_closure.specs.Tables.{is_marked};
+ghost use Rattle.msp_closure.specs.Relation.{relates};
 
 use crate::class_table::{ClassTable, class_at};
-use crate::distances::row_at;
-use crate::row_set::{RowSet, step};
+use crate::relation::Relation;
 use msp_class::{CLASSES, Class, NoMemory};
-use msp_table::{ROWS, Row};
 use std::alloc::Global;
 
-/// Marks the classes to which chains lead from the given ones.
-pub(crate) fn reached(
+/// Marks the classes that are related to a wanted one.
+pub(crate) fn leading(
     alloc: Global,
-    rows: RowSet,
-    starts: &[Class],
+    relation: &Relation,
+    wanted: &[Class],
 ) -> Result<ClassTable<bool>, NoMemory>
-    ensures { IfOk result (λ table. AreReached (allows rows) starts.now table) }
-{
-    let mut table = starts_marked(alloc, starts)?;
-    'passes: while spread(rows, &mut table) {}
-    Ok(table)
-}
-
-/// The given classes marked, and no others.
-fn starts_marked(alloc: Global, starts: &[Class]) -> Result<ClassTable<bool>, NoMemory>
-    ensures all { IfOk result (λ table. (c : Class) → Contains starts.now c → is_marked table c ≡ true) }
-    ensures only { IfOk result (λ table. (c : Class) → is_marked table c ≡ true → Contains starts.now c) }
+    ensures { IfOk result (λ table. (c : Class) → is_marked table c ≡ list_any (λ b. relates relation.now c b) wanted.now) }
 {
     let mut table = ClassTable::new(alloc, false)?;
-    for c in starts {
-        table.set(*c, true);
+    for n in 0..CLASSES {
+        let c = class_at(n);
+        table.set(c, leads_to_one(relation, wanted, c));
     }
     Ok(table)
 }
 
-/// Marks the classes to which a row leads from a marked class; whether one was new.
-fn spread(rows: RowSet, table: &mut ClassTable<bool>) -> bool
-    ensures spreads { Spreads (allows rows) table.old table.new result }
-    ensures closed { result ≡ false → (c : Class) → is_marked table.new c ≡ true → (k : ℕ) → IsClosedAt (allows rows) table.new c k }
+/// Marks the classes that one of the starts is related to.
+pub(crate) fn led(
+    alloc: Global,
+    relation: &Relation,
+    starts: &[Class],
+) -> Result<ClassTable<bool>, NoMemory>
+    ensures { IfOk result (λ table. (c : Class) → is_marked table c ≡ list_any (λ b. relates relation.now b c) starts.now) }
 {
-    let mut changed = false;
+    let mut table = ClassTable::new(alloc, false)?;
     for n in 0..CLASSES {
-        if spread_class(rows, table, class_at(n)) {
-            changed = true;
-        }
+        let c = class_at(n);
+        table.set(c, is_led_to(relation, starts, c));
     }
-    changed
+    Ok(table)
 }
 
-/// The same for one class.
-fn spread_class(rows: RowSet, table: &mut ClassTable<bool>, c: Class) -> bool
-    ensures spreads { Spreads (allows rows) table.old table.new result }
-    ensures closed { result ≡ false → is_marked table.new c ≡ true → (k : ℕ) → IsClosedAt (allows rows) table.new c k }
+fn leads_to_one(relation: &Relation, wanted: &[Class], c: Class) -> bool
+    ensures { result ≡ list_any (λ b. relates relation.now c b) wanted.now }
 {
-    if table.at(c) {
-        spread_from(rows, table, c)
-    } else {
-        false
-    }
+    wanted.iter().any(|b| relation.relates(c, *b))
 }
 
-/// The same for one marked class.
-fn spread_from(rows: RowSet, table: &mut ClassTable<bool>, c: Class) -> bool
-    requires { is_marked table.old c ≡ true }
-    ensures spreads { Spreads (allows rows) table.old table.new result }
-    ensures closed { result ≡ false → (k : ℕ) → IsClosedAt (allows rows) table.new c k }
+fn is_led_to(relation: &Relation, starts: &[Class], c: Class) -> bool
+    ensures { result ≡ list_any (λ b. relates relation.now b c) starts.now }
 {
-    let mut changed = false;
-    for k in 1..=ROWS {
-        if spread_row(rows, table, row_at(k), c) {
-            changed = true;
-        }
-    }
-    changed
-}
-
-/// The same for one row from a marked class.
-fn spread_row(rows: RowSet, table: &mut ClassTable<bool>, row: Row, c: Class) -> bool
-    requires { is_marked table.old c ≡ true }
-    ensures spreads { Spreads (allows rows) table.old table.new result }
-    ensures closed { IsClosedAt (allows rows) table.new c row }
-{
-    match step(rows, row, c) {
-        Some(next) => mark(table, next),
-        None => false,
-    }
-}
-
-/// Marks a class; whether it was not marked before.
-fn mark(table: &mut ClassTable<bool>, c: Class) -> bool
-    ensures len { length table.old ≡ CLASSES }
-    ensures new { result ≡ true → is_marked table.old c ≡ false }
-    ensures written { result ≡ true → table.new ≡ slice_set table.old (rank_of c) true }
-    ensures same { result ≡ false → table.new ≡ table.old }
-    ensures marked { is_marked table.new c ≡ true }
-{
-    if table.at(c) {
-        return false;
-    }
-    table.set(c, true);
-    true
+    starts.iter().any(|b| relation.relates(*b, c))
 }

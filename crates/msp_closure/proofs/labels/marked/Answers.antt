@@ -2,16 +2,18 @@
 use Rattle.std.proofs.Common.{false, length-set, arith}
 use Rattle.msp_class.specs.declared.class.Class.{Class}
 use Rattle.msp_class.proofs.RankLemmas.{rank_of-below}
-use Rattle.msp_closure.specs.Tables.{is_near, is_marked, mark_of}
-use Rattle.msp_closure.proofs.LabelLemmas.{marks_next}
+use Rattle.msp_closure.specs.Tables.{is_marked, mark_of}
+use Rattle.msp_closure.proofs.TableLemmas.{value_next}
 use Rattle.msp_closure.proofs.labels.marked.Goals as goal
 
 pub loop-n-preserved : goal.loop-n-preserved
 loop-n-preserved c = rw c.set.ensures.written (
   rw length-set c.loop-n.invariant.0,
-  marks_next (λ (x : Class). mark_of (is_near c.args.to_easy.now x) (is_near c.args.to_pseudo.now x) (is_marked c.args.from_hard.now x) (is_marked c.args.from_strong.now x)) c.loop-n.table c.loop-n.n
-      c.class_at-c.result c.mark.result c.loop-n.invariant.0 c.class_at-c.ensures
-      (cc (c.at.ensures.value false, c.at-in-loop-n.ensures.value false)) c.loop-n.invariant.1,
+  λ x d below.
+      value_next (λ (y : Class). mark_of (is_marked c.args.to_easy.now y) (is_marked c.args.to_pseudo.now y) (is_marked c.args.from_hard.now y)
+      (is_marked c.args.from_strong.now y)) c.loop-n.table c.loop-n.n c.class_at-c.result c.mark.result d c.loop-n.invariant.0 c.class_at-c.ensures
+      (rw (c.at-easy.ensures.value false, c.at-pseudo.ensures.value false, c.at-hard.ensures.value false, c.at-strong.ensures.value false) c.mark.ensures)
+      (λ y early. c.loop-n.invariant.1 y d early) x below,
 )
 
 pub returns-clause-each : goal.returns-clause-each

@@ -1,0 +1,18 @@
+-- The goals of `led` that are proved by lemmas.
+use Rattle.std.proofs.Common.{false, length-set, arith}
+use Rattle.std.specs.List.{list_any}
+use Rattle.msp_class.specs.declared.class.Class.{Class}
+use Rattle.msp_class.proofs.RankLemmas.{rank_of-below}
+use Rattle.msp_closure.specs.Relation.{relates}
+use Rattle.msp_closure.proofs.TableLemmas.{value_next}
+use Rattle.msp_closure.proofs.reached.led.Goals as goal
+
+pub loop-n-preserved : goal.loop-n-preserved
+loop-n-preserved c = rw c.set.ensures.written (
+  rw length-set c.loop-n.invariant.0,
+  value_next (λ (x : Class). list_any (λ b. relates c.args.relation.now b x) c.args.starts.now) c.loop-n.table c.loop-n.n c.class_at-c.result c.is_led_to.result false
+      c.loop-n.invariant.0 c.class_at-c.ensures c.is_led_to.ensures c.loop-n.invariant.1,
+)
+
+pub returns : goal.returns
+returns c = λ x. c.loop-n.invariant.1 x (omega (arith, rank_of-below x))
