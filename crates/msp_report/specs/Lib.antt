@@ -1,4 +1,5 @@
 pub mod ChainText
 pub mod LabelsText
+pub mod FrontierText
 pub mod WhyText
 pub mod RowsText

@@ -5,10 +5,14 @@
 #![tactic(auto)]
 
 mod chain_text;
+mod frontier;
 mod labels;
 mod rows;
+#[cfg(test)]
+mod tests;
 mod why;
 
+pub use frontier::frontier_text;
 pub use labels::labels_text;
 pub use rows::rows_text;
 pub use why::why_text;
