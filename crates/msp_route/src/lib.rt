@@ -8,6 +8,7 @@ mod answer;
 mod bounds;
 mod reduction;
 mod solver;
+mod via;
 
 pub use answer::{Answer, SolverName};
 pub use bounds::{
@@ -16,3 +17,4 @@ pub use bounds::{
 };
 pub use reduction::Reduction;
 pub use solver::Solver;
+pub use via::Via;

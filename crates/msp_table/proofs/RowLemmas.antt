@@ -8,7 +8,7 @@ use Rattle.msp_table.specs.declared.row.TheConstants.{ROWS}
 use Rattle.msp_table.specs.Rows.{RowRule, table, row_of, goes_by, goes_of}
 
 -- what `find` finds passes its test, and each other test that all pass
-find_passes : {X : Type 0} (p q : X → Bool) (xs : List X) (x : X) → list_all q xs ≡ true → find p xs ≡ Some x → (p x ≡ true) × (q x ≡ true)
+pub find_passes : {X : Type 0} (p q : X → Bool) (xs : List X) (x : X) → list_all q xs ≡ true → find p xs ≡ Some x → (p x ≡ true) × (q x ≡ true)
 find_passes p q [] x all found = cc
 find_passes p q (y ∷ ys) x all found =
     elim (p y) as (λ v. p y ≡ v → cond v (Some y) (find p ys) ≡ Some x → (p x ≡ true) × (q x ≡ true)) [
