@@ -1,18 +1,24 @@
 -- A reduction and a solver behind it keep what a solver owes.
-use Rattle.std.proofs.Common.{◌≡◌, ◌≢◌, ℕ, ◌≤◌, Bool, true, false, ◌⊎◌, inl, inr, length, Some, ℤ, pos, ◌≤ℤ◌, All, refl, sym, subst, arith}
+use Rattle.std.proofs.Common.{if◌then◌else◌, ◌≡◌, ◌≢◌, ℕ, ◌≤◌, Bool, true, false, ◌⊎◌, inl, inr, ℤ, ◌+ℤ◌, ◌≤ℤ◌, Result, Ok, Err, refl, sym, ◌∙◌, subst, arith}
+use Rattle.std.specs.Int.{int_max}
+use Rattle.std.specs.Prelude.{IfOk}
 use Rattle.std.proofs.lemmas.Int.{ints}
 use Rattle.msp_class.proofs.IntegerRing.{≤ℤ_refl, ≤ℤ_trans, int_max-least}
+use Rattle.msp_class.specs.declared.NoMemory.{NoMemory}
 use Rattle.msp_class.specs.declared.environments.EnvKind.{EnvKind}
 use Rattle.msp_class.specs.declared.environments.EnvKind.TheVariants.{Identical, Uniform, Unrelated, OpenShop, FlowShop, JobShop}
-use Rattle.msp_class.specs.Env.{kind_of}
+use Rattle.msp_class.specs.Env.{kind_of, is_mirror}
 use Rattle.msp_instance.specs.declared.Instance.{Instance}
-use Rattle.msp_instance.specs.Conditions.{Inner}
 use Rattle.msp_schedule.specs.declared.Schedule.{Schedule}
 use Rattle.msp_schedule.specs.declared.Solution.{Solution}
 use Rattle.msp_schedule.specs.Cost.{cost_of, Best, IsSolution, IsBest}
-use Rattle.msp_table.specs.Rows.{goes_of, turns_dates}
+use Rattle.msp_table.specs.Rows.{turns_dates}
+use Rattle.msp_table.proofs.KindLemmas.{open_shops-stay, TurnsDates-from_row}
+use Rattle.msp_route.specs.Law.{Rate, IsPositive, IsLower, IsForth, IsBack}
 use Rattle.msp_route.specs.Bounds.{EndsBy, IsSized, IsBounded, KeepsBounds, IsAnswer, greatest_unit, answer_unit, moment_after}
-use Rattle.msp_route.specs.declared.bounds.TheConstants.{GREATEST_ANSWER_MOMENT}
+use Rattle.msp_route.specs.declared.bounds.TheConstants.{GREATEST_ANSWER_MOMENT, GREATEST_RAISE, GREATEST_LINED_UP, GREATEST_OPEN_UNIT}
+use Rattle.msp_route.proofs.LowCost.{cost-low}
+use Rattle.msp_route.proofs.BestBack.{Best-from_back}
 
 -- the unit of an answer is one that a way back takes
 unit-wider : (k : EnvKind) → answer_unit k ≤ℤ greatest_unit k
@@ -33,13 +39,56 @@ IsBounded-from_answer i s h = record {
   ends = EndsBy-later _ _ s (omega (arith, ints)) h.ends;
 }
 
--- what no piece of a best lower schedule passes
-abbrev pub IsLowCost : Instance → Schedule → Type 0
-IsLowCost lower t = cost_of lower t ≤ℤ GREATEST_ANSWER_MOMENT
+-- the greatest moment of an answer is one after the row too, where that turns no dates
+later-row : (b : Bool) (row : ℕ) → turns_dates row ≡ b → b ≡ false → moment_after row GREATEST_ANSWER_MOMENT ≤ℤ GREATEST_ANSWER_MOMENT
+later-row b row e f = subst (λ x. (if x then GREATEST_ANSWER_MOMENT +ℤ GREATEST_RAISE else int_max GREATEST_ANSWER_MOMENT GREATEST_LINED_UP) ≤ℤ GREATEST_ANSWER_MOMENT) (sym (e ∙ f)) (int_max-least {b = GREATEST_LINED_UP} (≤ℤ_refl GREATEST_ANSWER_MOMENT) (omega (arith, ints)))
 
-pub ends-composed : (row : ℕ) (upper lower : Instance) (t s : Schedule) → KeepsBounds row upper lower t s → EndsBy GREATEST_ANSWER_MOMENT t → (turns_dates row ≡ true → IsLowCost lower t) → EndsBy GREATEST_ANSWER_MOMENT s
+ends-composed : (row : ℕ) (upper lower : Instance) (t s : Schedule) → KeepsBounds row upper lower t s → EndsBy GREATEST_ANSWER_MOMENT t → (turns_dates row ≡ true → cost_of lower t ≤ℤ GREATEST_ANSWER_MOMENT) → EndsBy GREATEST_ANSWER_MOMENT s
 ends-composed row upper lower t s keeps ends low = by (turns_dates row) refl
   where
     by : (b : Bool) → turns_dates row ≡ b → EndsBy GREATEST_ANSWER_MOMENT s
     by true e = EndsBy-later _ _ s (low e) (keeps.cost e)
-    by false e = EndsBy-later _ _ s (omega (arith, ints)) (subst (λ b. EndsBy (if b then _ else _) s) e (keeps.ends GREATEST_ANSWER_MOMENT ends))
+    by false e = EndsBy-later _ _ s (later-row false row e refl) (keeps.ends GREATEST_ANSWER_MOMENT ends)
+
+unit-composed : (k l : EnvKind) (before after : ℤ) → (k ≡ OpenShop → l ≡ OpenShop) → ((k ≡ Unrelated) ⊎ (l ≢ Unrelated) → after ≡ before) → after ≤ℤ greatest_unit k → before ≤ℤ answer_unit l → after ≤ℤ answer_unit k
+unit-composed Identical l before after stays same h a = h
+unit-composed Uniform l before after stays same h a = h
+unit-composed Unrelated l before after stays same h a = h
+unit-composed FlowShop l before after stays same h a = h
+unit-composed JobShop l before after stays same h a = h
+unit-composed OpenShop l before after stays same h a =
+    subst (λ x. x ≤ℤ GREATEST_OPEN_UNIT) (sym (same (inr other))) (subst (λ x. before ≤ℤ answer_unit x) (stays refl) a)
+  where
+    other : l ≢ Unrelated
+    other e = absurd (apart (sym (stays refl) ∙ e))
+      where
+        apart : OpenShop ≡ Unrelated → ⊥
+        apart f = cc
+
+IsAnswer-composed : (row : ℕ) (upper lower : Instance) (t s : Schedule) → IsLower row upper lower → IsAnswer lower t → KeepsBounds row upper lower t s → (turns_dates row ≡ true → cost_of lower t ≤ℤ GREATEST_ANSWER_MOMENT) → IsAnswer upper s
+IsAnswer-composed row upper lower t s led answer keeps low = record {
+  few = keeps.sized.few;
+  unit = unit-composed (kind_of upper.class.env) (kind_of lower.class.env) t.unit s.unit (open_shops-stay row upper.class lower.class led.class) keeps.unit keeps.sized.unit answer.unit;
+  ends = ends-composed row upper lower t s keeps answer.ends low;
+}
+
+-- what comes back from a best solution
+pub IfOk-best : (rate : Rate) (upper lower : Instance) (forth : Schedule → Schedule) (t : Schedule) (result : Result Solution NoMemory) → IsPositive rate
+    → ((u : Schedule) → IsForth rate upper lower u (forth u)) → Best lower t
+    → IfOk result (λ s. IsSolution upper s) → IfOk result (λ s. IsBack rate upper lower t s.schedule) → IfOk result (λ s. IsBest upper s)
+IfOk-best rate upper lower forth t (Ok s) positive forth_is best solution law = record {
+  best = Best-from_back rate upper lower forth t s.schedule positive forth_is law best;
+  cost = solution.cost;
+}
+IfOk-best rate upper lower forth t (Err e) positive forth_is best solution law = tt
+
+pub IfOk-answer : (row : ℕ) (upper lower : Instance) (t : Schedule) (result : Result Solution NoMemory) → IsLower row upper lower → IsAnswer lower t → (turns_dates row ≡ true → cost_of lower t ≤ℤ GREATEST_ANSWER_MOMENT)
+    → IfOk result (λ s. KeepsBounds row upper lower t s.schedule) → IfOk result (λ s. IsAnswer upper s.schedule)
+IfOk-answer row upper lower t (Ok s) led answer low keeps = IsAnswer-composed row upper lower t s.schedule led answer keeps low
+IfOk-answer row upper lower t (Err e) led answer low keeps = tt
+
+-- a best cost that release dates become is small
+pub IsLow-from_best : (row : ℕ) (upper lower : Instance) (t : Schedule) → IsLower row upper lower → IsAnswer lower t → Best lower t → turns_dates row ≡ true → cost_of lower t ≤ℤ GREATEST_ANSWER_MOMENT
+IsLow-from_best row upper lower t led answer best turns =
+    let to = TurnsDates-from_row row upper.class lower.class led.class turns in
+    cost-low lower t led.inner (subst (λ e. is_mirror e ≡ true) (sym to.env) to.mirror) to.heads to.crit answer.unit best

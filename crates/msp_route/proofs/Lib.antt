@@ -1,2 +1,3 @@
 pub mod BestBack
+pub mod LowCost
 pub mod Composed
