@@ -2,7 +2,7 @@
 use Rattle.std.proofs.Common.{◌≡◌, ℕ, List, Result, Ok, Err, sym, subst}
 use Rattle.msp_file.specs.declared.fault.FileFault.{FileFault}
 use Rattle.msp_file.specs.declared.fault.FileFault.TheVariants.{Class, Cycle, Memory}
-use Rattle.msp_file.specs.declared.filed.Filed.{Filed}
+use Rattle.msp_grammar.specs.declared.filed.Filed.{Filed}
 use Rattle.msp_file.specs.Reading.{filed_at}
 use Rattle.msp_file.specs.Steps.{Fails}
 use Rattle.msp_file.specs.Answers.{IsFaultOf}

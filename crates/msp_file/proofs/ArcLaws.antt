@@ -7,13 +7,14 @@ use Rattle.std.proofs.lemmas.List.Folds.{list_any_at}
 use Rattle.std.proofs.lemmas.List.{get_or_at}
 use Rattle.std.proofs.lemmas.List.Elements.{All-push}
 use Rattle.msp_instance.specs.declared.Arc.{Arc}
+use Rattle.msp_instance.specs.declared.ranges.TheConstants.{MOST_ARCS}
 use Rattle.msp_file.specs.declared.fault.FileFault.{FileFault}
 use Rattle.msp_file.specs.declared.draft.Draft.{Draft}
-use Rattle.msp_file.specs.JobName.{IsJobName, AreDistinct}
-use Rattle.msp_file.specs.ScheduleText.{name_at}
-use Rattle.msp_file.specs.InstanceText.{line_text, arc_fields, arcs_text}
+use Rattle.msp_job_name.specs.JobName.{IsJobName, AreDistinct}
+use Rattle.msp_grammar.specs.ScheduleText.{name_at}
+use Rattle.msp_grammar.specs.InstanceText.{line_text, arc_fields, arcs_text}
 use Rattle.msp_file.specs.Reading.{◌>>=◌, Place, line_at, fields_of, first_of, others_of, is_arc_among, with_arc, arc_line_at, end_at, arcs_at}
-use Rattle.msp_file.proofs.NameLists.{same_bytes}
+use Rattle.msp_job_name.proofs.NameLists.{same_bytes}
 use Rattle.msp_file.proofs.Apart.{apart_push, apart_before}
 use Rattle.msp_file.proofs.LineLaws.{bind_ok, provided_ok, ok_is, Takes, Gets, Takes-then, IsField, fields_takes, fields_again, fields_line_again, one_field}
 use Rattle.msp_file.proofs.FieldLaws.{known_takes, known_again, name_field}
@@ -90,7 +91,7 @@ pub record AddsArc (d : Draft) (fields : List (List ℕ)) (e : Draft) : Type 0 w
   pub before : arc.before < length d.names
   pub after : arc.after < length d.names
   pub fresh : ¬ Contains d.arcs arc
-  pub few : length d.arcs < 20000
+  pub few : length d.arcs < MOST_ARCS
 
 pub arc_takes : (at : ℕ) (d : Draft) (fields : List (List ℕ)) (e : Draft) → arc_line_at at d fields ≡ Ok e → AddsArc d fields e
 unfolding arc_line_at
@@ -112,11 +113,11 @@ arc_takes at d fields e h =
       few = ltb-true _ _ a.0;
     }
 
-pub arc_again : (at : ℕ) (d : Draft) (a : Arc) → AreDistinct d.names → All IsJobName d.names → a.before < length d.names → a.after < length d.names → ¬ Contains d.arcs a → length d.arcs < 20000
+pub arc_again : (at : ℕ) (d : Draft) (a : Arc) → AreDistinct d.names → All IsJobName d.names → a.before < length d.names → a.after < length d.names → ¬ Contains d.arcs a → length d.arcs < MOST_ARCS
     → arc_line_at at d (name_at d.names a.before ∷ name_at d.names a.after ∷ []) ≡ Ok (with_arc d a.before a.after)
 unfolding arc_line_at
 arc_again at d a apart spelled before after fresh few =
-    rw (lt-ltb (length d.arcs) 20000 few, known_again at d.names a.before apart spelled before, known_again at d.names a.after apart spelled after, is_new d.arcs a fresh) refl
+    rw (lt-ltb (length d.arcs) MOST_ARCS few, known_again at d.names a.before apart spelled before, known_again at d.names a.after apart spelled after, is_new d.arcs a fresh) refl
 
 pub arc_line_fields : (names : List (List ℕ)) (a : Arc) → All IsJobName names → a.before < length names → a.after < length names → AllByRecursion IsField (arc_fields names a)
 arc_line_fields names a spelled before after =
@@ -128,7 +129,7 @@ arc_line_fields names a spelled before after =
 pub record AreArcs (names : List (List ℕ)) (arcs : List Arc) : Type 0 where
   pub ends : All (λ a. (a.before < length names) × (a.after < length names)) arcs
   pub once : AllPairs (λ a b. a ≢ b) arcs
-  pub few : length arcs ≤ 20000
+  pub few : length arcs ≤ MOST_ARCS
 
 -- The draft with more arcs at the end.
 abbrev pub with_arcs : Draft → List Arc → Draft
@@ -199,7 +200,7 @@ arcs_take (suc n) d p x fit e =
     step_takes n p.at d (fields_of l.0.0) p l.0.1 x (fields_takes p l.0 l.1) fit (λ f good h. arcs_take n f l.0.1 x good h) l.2
 
 -- an arc at its place among others
-pub arc_in : (names : List (List ℕ)) (arcs : List Arc) (a : Arc) (more : List Arc) → AreArcs names (arcs ++ a ∷ more) → (a.before < length names) × (a.after < length names) × (¬ Contains arcs a) × (length arcs < 20000) × AreArcs names ((arcs ++ a ∷ []) ++ more)
+pub arc_in : (names : List (List ℕ)) (arcs : List Arc) (a : Arc) (more : List Arc) → AreArcs names (arcs ++ a ∷ more) → (a.before < length names) × (a.after < length names) × (¬ Contains arcs a) × (length arcs < MOST_ARCS) × AreArcs names ((arcs ++ a ∷ []) ++ more)
 arc_in names arcs a more fit =
     let within : length arcs < length (arcs ++ a ∷ more) = omega (arith, length-append arcs (a ∷ more)) in
     let ends = subst (λ (b : Arc). (b.before < length names) × (b.after < length names)) (get_or_at arcs a more a (length arcs) refl) (fit.ends (length arcs) a within) in

@@ -1,5 +1,5 @@
 -- A field that is read is the field that was written, and what was written is read again.
-use Rattle.std.proofs.Common.{◌≡◌, ◌≢◌, ℕ, suc, ◌^◌, ◌<◌, ◌≤◌, Bool, true, false, ◌&&◌, ◌||◌, ◌==◌, nat_le, List, [], ◌∷◌, ◌++◌, length, get_or, position, bytes_eq, Option, Some, None, ok_or, Ok, ℤ, pos, negsuc, unsigned_abs, All, refl, sym, ap, subst, ◌∙◌, arith, decimal}
+use Rattle.std.proofs.Common.{◌≡◌, ◌≢◌, ℕ, suc, ◌<◌, ◌≤◌, Bool, true, false, ◌&&◌, ◌||◌, ◌==◌, nat_le, List, [], ◌∷◌, ◌++◌, length, get_or, position, bytes_eq, Option, Some, None, ok_or, Ok, ℤ, pos, negsuc, unsigned_abs, All, refl, sym, ap, subst, ◌∙◌, arith, decimal}
 use Rattle.std.specs.Char.{is_ascii_digit}
 use Rattle.std.specs.Fmt.{signed_decimal}
 use Rattle.std.specs.List.{list_all, list_any, position_or_len}
@@ -12,16 +12,18 @@ use Rattle.std.proofs.lemmas.List.Quantifiers.{position-Some}
 use Rattle.std.proofs.lemmas.List.Sums.{AllPass-from_list_all, list_all-from_AllPass, position_or_len_is}
 use Rattle.msp_name.proofs.Marks.{Lacks}
 use Rattle.msp_instance.specs.Conditions.{LiesWithin}
+use Rattle.msp_instance.specs.declared.ranges.TheConstants.{GREATEST}
+use Rattle.msp_job_name.specs.declared.job_name.TheConstants.{LONGEST_NAME}
 use Rattle.msp_file.specs.declared.fault.FileFault.{FileFault}
 use Rattle.msp_file.specs.declared.fault.FileFault.TheVariants.{Number, Limit, Key, Name, Unknown}
 use Rattle.msp_file.specs.declared.fault.What.{What}
 use Rattle.msp_file.specs.declared.fault.What.TheVariants as what
-use Rattle.msp_file.specs.JobName.{is_name_byte, IsJobName, AreDistinct}
+use Rattle.msp_job_name.specs.JobName.{is_name_byte, IsJobName, AreDistinct}
 use Rattle.msp_text.specs.Numbers.{number_of}
-use Rattle.msp_file.specs.ScheduleText.{name_at}
-use Rattle.msp_file.specs.InstanceText.{where_wanted}
+use Rattle.msp_grammar.specs.ScheduleText.{name_at}
+use Rattle.msp_grammar.specs.InstanceText.{where_wanted}
 use Rattle.msp_file.specs.Reading.{◌>>=◌, provided, first_of, others_of, natural_in, natural_at, integer_at, is_name_text, job_name_at, known_at, keyed_at, natural_key_at, integer_key_at}
-use Rattle.msp_file.proofs.NameLists.{same_bytes}
+use Rattle.msp_job_name.proofs.NameLists.{same_bytes}
 use Rattle.msp_text.proofs.NumberTexts.{some, same_digits, number_spells, number_again}
 use Rattle.msp_file.proofs.LineLaws.{bind_ok, provided_ok, ok_is, IsField}
 
@@ -48,7 +50,7 @@ natural_in_takes at quantity least greatest (pos m) n e =
     (ap pos same, subst (λ k. least ≤ k) same (leb-true least m both.0), subst (λ k. k ≤ greatest) same (leb-true m greatest both.1))
 natural_in_takes at quantity least greatest (negsuc m) n e = absurd cc
 
-pub natural_takes : (at : ℕ) (quantity : What) (least greatest : ℕ) (w : List ℕ) (n : ℕ) → greatest ≤ 10 ^ 9 → natural_at at quantity least greatest w ≡ Ok n → (w ≡ decimal n) × (least ≤ n) × (n ≤ greatest)
+pub natural_takes : (at : ℕ) (quantity : What) (least greatest : ℕ) (w : List ℕ) (n : ℕ) → greatest ≤ GREATEST → natural_at at quantity least greatest w ≡ Ok n → (w ≡ decimal n) × (least ≤ n) × (n ≤ greatest)
 unfolding natural_at
 natural_takes at quantity least greatest w n h e =
     let b = bind_ok (ok_or (number_of w) (Number at)) (natural_in at quantity least greatest) n e in
@@ -57,13 +59,13 @@ natural_takes at quantity least greatest w n h e =
     let high : n ≤ greatest = t.2 in
     (number_spells w (pos n) is (omega arith), t.1, t.2)
 
-pub natural_again : (at : ℕ) (quantity : What) (least greatest n : ℕ) → greatest ≤ 10 ^ 9 → least ≤ n → n ≤ greatest → natural_at at quantity least greatest (decimal n) ≡ Ok n
+pub natural_again : (at : ℕ) (quantity : What) (least greatest n : ℕ) → greatest ≤ GREATEST → least ≤ n → n ≤ greatest → natural_at at quantity least greatest (decimal n) ≡ Ok n
 unfolding natural_at
 natural_again at quantity least greatest n h low high =
     let is : number_of (decimal n) ≡ Some (pos n) = number_again (pos n) (omega arith) in
     rw (is, le-leb least n low, le-leb n greatest high) refl
 
-pub natural_field : (n : ℕ) → n ≤ 10 ^ 9 → IsField (decimal n)
+pub natural_field : (n : ℕ) → n ≤ GREATEST → IsField (decimal n)
 natural_field n h =
     let digits : list_all is_ascii_digit (decimal n) ≡ true = sym (same_digits (decimal n)) ∙ digits_decimal (numerals_by_value _ tells_all_ascii_digits) n (omega arith) in
     record { no_space = lacks_others is_ascii_digit 32 (decimal n) refl digits; no_line_feed = lacks_others is_ascii_digit 10 (decimal n) refl digits }
@@ -77,7 +79,7 @@ size_within : (greatest : ℕ) (x : ℤ) → LiesWithin greatest x → unsigned_
 size_within greatest (pos n) h = omega (arith, ints, h.0, h.1)
 size_within greatest (negsuc n) h = omega (arith, ints, h.0, h.1)
 
-pub integer_takes : (at : ℕ) (quantity : What) (greatest : ℕ) (w : List ℕ) (x : ℤ) → greatest ≤ 10 ^ 9 → integer_at at quantity greatest w ≡ Ok x → (w ≡ signed_decimal x) × LiesWithin greatest x
+pub integer_takes : (at : ℕ) (quantity : What) (greatest : ℕ) (w : List ℕ) (x : ℤ) → greatest ≤ GREATEST → integer_at at quantity greatest w ≡ Ok x → (w ≡ signed_decimal x) × LiesWithin greatest x
 unfolding integer_at
 integer_takes at quantity greatest w x h e =
     let b = bind_ok (ok_or (number_of w) (Number at)) (λ y. provided (nat_le (unsigned_abs y) greatest) (Limit at quantity) (Ok y)) x e in
@@ -87,16 +89,16 @@ integer_takes at quantity greatest w x h e =
     let size : unsigned_abs x ≤ greatest = subst (λ y. unsigned_abs y ≤ greatest) same (leb-true (unsigned_abs b.0) greatest t.0) in
     (number_spells w x is (omega arith), within_size greatest x size)
 
-pub integer_again : (at : ℕ) (quantity : What) (greatest : ℕ) (x : ℤ) → greatest ≤ 10 ^ 9 → LiesWithin greatest x → integer_at at quantity greatest (signed_decimal x) ≡ Ok x
+pub integer_again : (at : ℕ) (quantity : What) (greatest : ℕ) (x : ℤ) → greatest ≤ GREATEST → LiesWithin greatest x → integer_at at quantity greatest (signed_decimal x) ≡ Ok x
 unfolding integer_at
 integer_again at quantity greatest x h within =
     let size : unsigned_abs x ≤ greatest = size_within greatest x within in
     let is : number_of (signed_decimal x) ≡ Some x = number_again x (omega arith) in
     rw (is, le-leb (unsigned_abs x) greatest size) refl
 
-pub integer_field : (x : ℤ) → LiesWithin (10 ^ 9) x → IsField (signed_decimal x)
-integer_field (pos n) h = natural_field n (size_within (10 ^ 9) (pos n) h)
-integer_field (negsuc n) h = let f = natural_field (suc n) (size_within (10 ^ 9) (negsuc n) h) in record { no_space = f.no_space; no_line_feed = f.no_line_feed }
+pub integer_field : (x : ℤ) → LiesWithin GREATEST x → IsField (signed_decimal x)
+integer_field (pos n) h = natural_field n (size_within GREATEST (pos n) h)
+integer_field (negsuc n) h = let f = natural_field (suc n) (size_within GREATEST (negsuc n) h) in record { no_space = f.no_space; no_line_feed = f.no_line_feed }
 
 -- ---- names
 
@@ -111,16 +113,16 @@ name_text (b ∷ bs) h k = k
 pub name_takes : (at : ℕ) (w name : List ℕ) → job_name_at at w ≡ Ok name → (w ≡ name) × IsJobName name
 unfolding job_name_at
 name_takes at w name e =
-    let s = provided_ok (is_name_text w) (Name at) (provided (nat_le (length w) 32) (Limit at what.Name) (Ok w)) name e in
-    let t = provided_ok (nat_le (length w) 32) (Limit at what.Name) (Ok w) name s.1 in
+    let s = provided_ok (is_name_text w) (Name at) (provided (nat_le (length w) LONGEST_NAME) (Limit at what.Name) (Ok w)) name e in
+    let t = provided_ok (nat_le (length w) LONGEST_NAME) (Limit at what.Name) (Ok w) name s.1 in
     let same : w ≡ name = ok_is w name t.1 in
     let bytes = name_bytes w s.0 in
-    let is : IsJobName w = record { some = bytes.0; short = leb-true (length w) 32 t.0; bytes = AllPass-from_list_all is_name_byte w bytes.1 } in
+    let is : IsJobName w = record { some = bytes.0; short = leb-true (length w) LONGEST_NAME t.0; bytes = AllPass-from_list_all is_name_byte w bytes.1 } in
     (same, subst IsJobName same is)
 
 pub name_again : (at : ℕ) (name : List ℕ) → IsJobName name → job_name_at at name ≡ Ok name
 unfolding job_name_at
-name_again at name h = rw (name_text name h.some (list_all-from_AllPass is_name_byte name h.bytes), le-leb (length name) 32 h.short) refl
+name_again at name h = rw (name_text name h.some (list_all-from_AllPass is_name_byte name h.bytes), le-leb (length name) LONGEST_NAME h.short) refl
 
 pub name_field : (name : List ℕ) → IsJobName name → IsField name
 name_field name h =
@@ -180,7 +182,7 @@ keyed_takes at letter ((k ∷ s ∷ v) ∷ fs) w e =
 keyed_again : (at letter : ℕ) (w : List ℕ) → keyed_at at letter (letter ∷ 61 ∷ w) ≡ Ok w
 keyed_again at letter w = rw (eq-eqb letter letter refl) refl
 
-pub natural_key_takes : (at : ℕ) (there : Bool) (letter : ℕ) (quantity : What) (least greatest : ℕ) (fields : List (List ℕ)) (x : ℕ × List (List ℕ)) → greatest ≤ 10 ^ 9
+pub natural_key_takes : (at : ℕ) (there : Bool) (letter : ℕ) (quantity : What) (least greatest : ℕ) (fields : List (List ℕ)) (x : ℕ × List (List ℕ)) → greatest ≤ GREATEST
     → natural_key_at at there letter quantity least greatest fields ≡ Ok x → (fields ≡ where_wanted there ((letter ∷ 61 ∷ decimal x.0) ∷ []) ++ x.1) × IsKeyed there least greatest x.0
 unfolding natural_key_at
 natural_key_takes at true letter quantity least greatest fields x h e =
@@ -191,13 +193,13 @@ natural_key_takes at true letter quantity least greatest fields x h e =
     subst (λ y. (fields ≡ (letter ∷ 61 ∷ decimal y.0) ∷ y.1) × ((least ≤ y.0) × (y.0 ≤ greatest))) (ok_is (b.0, others_of fields) x b.2) (line, (t.1, t.2))
 natural_key_takes at false letter quantity least greatest fields x h e = subst (λ y. (fields ≡ y.1) × (y.0 ≡ least)) (ok_is (least, fields) x e) (refl, refl)
 
-pub natural_key_again : (at : ℕ) (there : Bool) (letter : ℕ) (quantity : What) (least greatest n : ℕ) (more : List (List ℕ)) → greatest ≤ 10 ^ 9
+pub natural_key_again : (at : ℕ) (there : Bool) (letter : ℕ) (quantity : What) (least greatest n : ℕ) (more : List (List ℕ)) → greatest ≤ GREATEST
     → IsKeyed there least greatest n → natural_key_at at there letter quantity least greatest (where_wanted there ((letter ∷ 61 ∷ decimal n) ∷ []) ++ more) ≡ Ok (n, more)
 unfolding natural_key_at
 natural_key_again at true letter quantity least greatest n more h k = rw (keyed_again at letter (decimal n), natural_again at quantity least greatest n h k.0 k.1) refl
 natural_key_again at false letter quantity least greatest n more h k = ap (λ m. Ok (m, more)) (sym k)
 
-pub integer_key_takes : (at : ℕ) (there : Bool) (letter : ℕ) (quantity : What) (greatest : ℕ) (fields : List (List ℕ)) (x : ℤ × List (List ℕ)) → greatest ≤ 10 ^ 9
+pub integer_key_takes : (at : ℕ) (there : Bool) (letter : ℕ) (quantity : What) (greatest : ℕ) (fields : List (List ℕ)) (x : ℤ × List (List ℕ)) → greatest ≤ GREATEST
     → integer_key_at at there letter quantity greatest fields ≡ Ok x → (fields ≡ where_wanted there ((letter ∷ 61 ∷ signed_decimal x.0) ∷ []) ++ x.1) × IsKeyedInteger there greatest x.0
 unfolding integer_key_at
 integer_key_takes at true letter quantity greatest fields x h e =
@@ -208,7 +210,7 @@ integer_key_takes at true letter quantity greatest fields x h e =
     subst (λ y. (fields ≡ (letter ∷ 61 ∷ signed_decimal y.0) ∷ y.1) × LiesWithin greatest y.0) (ok_is (b.0, others_of fields) x b.2) (line, t.1)
 integer_key_takes at false letter quantity greatest fields x h e = subst (λ y. (fields ≡ y.1) × (y.0 ≡ pos 0)) (ok_is (pos 0, fields) x e) (refl, refl)
 
-pub integer_key_again : (at : ℕ) (there : Bool) (letter : ℕ) (quantity : What) (greatest : ℕ) (x : ℤ) (more : List (List ℕ)) → greatest ≤ 10 ^ 9
+pub integer_key_again : (at : ℕ) (there : Bool) (letter : ℕ) (quantity : What) (greatest : ℕ) (x : ℤ) (more : List (List ℕ)) → greatest ≤ GREATEST
     → IsKeyedInteger there greatest x → integer_key_at at there letter quantity greatest (where_wanted there ((letter ∷ 61 ∷ signed_decimal x) ∷ []) ++ more) ≡ Ok (x, more)
 unfolding integer_key_at
 integer_key_again at true letter quantity greatest x more h k = rw (keyed_again at letter (signed_decimal x), integer_again at quantity greatest x h k) refl

@@ -1,6 +1,6 @@
 -- The lines of the head: what is read is the head of an instance, and the head of an instance is read as its parts.
-use Rattle.std.proofs.Common.{◌≡◌, ℕ, suc, ◌*◌, ◌^◌, ◌≤◌, Bool, true, ◌==◌, nat_lt, List, [], ◌∷◌, ◌++◌, length, map, Option, Some, None, MatchOption, Result, Ok, Err, All, Contains, bytes_eq, is_none, refl, sym, ap, subst, ◌∙◌, append_assoc, append-nil, arith, codes, decimal, if◌then◌else◌}
-use Rattle.std.specs.Prelude.{⊤}
+use Rattle.std.proofs.Common.{◌≡◌, ℕ, suc, ◌*◌, ◌≤◌, Bool, true, ◌==◌, nat_lt, List, [], ◌∷◌, ◌++◌, length, map, Option, Some, None, MatchOption, Result, Ok, Err, All, Contains, bytes_eq, is_none, refl, sym, ap, subst, ◌∙◌, append_assoc, append-nil, arith, codes, decimal, if◌then◌else◌}
+use Rattle.std.specs.Prelude.{⊤, false}
 use Rattle.std.specs.List.{AllByRecursion, list_all, join_with_byte}
 use Rattle.std.proofs.lemmas.Bool.{eqb-true, eq-eqb, and_from}
 use Rattle.std.proofs.lemmas.List.Elements.{All-contains, All-nil, All-cons, All-head, All-tail}
@@ -10,6 +10,7 @@ use Rattle.msp_class.specs.declared.environments.EnvKind.{EnvKind}
 use Rattle.msp_class.specs.declared.environments.EnvKind.TheVariants.{Identical, Uniform, Unrelated, OpenShop, FlowShop, JobShop}
 use Rattle.msp_class.specs.declared.class.Class.{Class}
 use Rattle.msp_class.specs.declared.class.Env.{Env}
+use Rattle.msp_class.specs.declared.class.Times.{Times}
 use Rattle.msp_class.specs.declared.class.Env.TheVariants as env
 use Rattle.msp_class.specs.Env.{fixed_machines, kind_of}
 use Rattle.msp_name.specs.declared.words.Item.{Item}
@@ -20,16 +21,18 @@ use Rattle.msp_name.specs.Reading.{reading_of}
 use Rattle.msp_name.proofs.NameLemmas.{NameOf-from_reading, reading_of-NameOf}
 use Rattle.msp_instance.specs.declared.Instance.{Instance}
 use Rattle.msp_instance.specs.Conditions.{HasMachines, HasSpeeds, HasSmallMultiple}
+use Rattle.msp_instance.specs.declared.ranges.TheConstants.{GREATEST_SPEED, GREATEST_MULTIPLE, GREATEST_EQUAL_TIME, MOST_MACHINES}
 use Rattle.msp_file.specs.declared.fault.FileFault.{FileFault}
 use Rattle.msp_file.specs.declared.fault.FileFault.TheVariants.{Head, Count, Limit}
 use Rattle.msp_file.specs.declared.fault.What.TheVariants as what
-use Rattle.msp_file.specs.ScheduleText.{line_feed}
-use Rattle.msp_file.specs.InstanceText.{where_wanted, has_speeds, line_text, class_text, machines_text, speeds_text}
-use Rattle.msp_file.specs.Reading.{◌>>=◌, provided, Place, line_at, fields_of, first_of, natural_at, version_at, spelled_class, class_in, class_at, worded_at, machines_line_at, machines_at, have_multiple, speeds_in, speeds_line_at, speeds_at}
-use Rattle.msp_file.proofs.NameLists.{same_bytes}
+use Rattle.msp_grammar.specs.ScheduleText.{line_feed}
+use Rattle.msp_grammar.specs.Layout.{has_speeds, has_time_line}
+use Rattle.msp_grammar.specs.InstanceText.{where_wanted, line_text, class_text, machines_text, speeds_text, time_text}
+use Rattle.msp_file.specs.Reading.{◌>>=◌, provided, Place, line_at, fields_of, first_of, natural_at, version_at, spelled_class, class_in, class_at, worded_at, machines_line_at, machines_at, have_multiple, speeds_in, speeds_line_at, speeds_at, time_line_at, time_at}
+use Rattle.msp_job_name.proofs.NameLists.{same_bytes}
 use Rattle.msp_file.proofs.Multiples.{HasMultiple-from_have_multiple, have_multiple-from_HasMultiple}
 use Rattle.msp_file.proofs.LineLaws.{bind_ok, provided_ok, ok_is, Takes, Gets, IsField, line_takes, line_again, fields_join, fields_again, fields_line_again, worded_takes, worded_again, one_field}
-use Rattle.msp_file.proofs.FieldLaws.{lacks_others, natural_takes, natural_again, natural_field}
+use Rattle.msp_file.proofs.FieldLaws.{IsKeyed, lacks_others, natural_takes, natural_again, natural_field}
 
 -- ---- the version
 
@@ -125,10 +128,10 @@ class_again at spelling c rest h =
 
 -- The number of machines is one that the environment allows: that of an instance is, by HasMachines.
 abbrev pub AreMachines : Env → ℕ → Type 0
-AreMachines e m = (1 ≤ m) × (m ≤ 32) × MatchOption (fixed_machines e) ⊤ (λ n. m ≡ n)
+AreMachines e m = (1 ≤ m) × (m ≤ MOST_MACHINES) × MatchOption (fixed_machines e) ⊤ (λ n. m ≡ n)
 
 -- a fixed number of machines is within the limits of texts
-fixed_in : (x : Env) → MatchOption (fixed_machines x) ⊤ (λ n. (1 ≤ n) × (n ≤ 32))
+fixed_in : (x : Env) → MatchOption (fixed_machines x) ⊤ (λ n. (1 ≤ n) × (n ≤ MOST_MACHINES))
 fixed_in env.One = (omega arith, omega arith)
 fixed_in env.P2 = (omega arith, omega arith)
 fixed_in env.P3 = (omega arith, omega arith)
@@ -148,17 +151,17 @@ fixed_in env.JShort = tt
 fixed_in env.J2 = (omega arith, omega arith)
 fixed_in env.J = tt
 
-machines_line_takes : (p : Place) (x : ℕ × Place) → machines_line_at p ≡ Ok x → Takes p (line_text (codes "machines" ∷ decimal x.0 ∷ [])) x.1 × ((1 ≤ x.0) × (x.0 ≤ 32))
+machines_line_takes : (p : Place) (x : ℕ × Place) → machines_line_at p ≡ Ok x → Takes p (line_text (codes "machines" ∷ decimal x.0 ∷ [])) x.1 × ((1 ≤ x.0) × (x.0 ≤ MOST_MACHINES))
 unfolding machines_line_at
 machines_line_takes p x h =
-    let l = bind_ok (worded_at (codes "machines") p) (λ l. provided (length l.0 == 1) (Count p.at) (natural_at p.at what.Machines 1 32 (first_of l.0) >>= λ m. Ok (m, l.1))) x h in
+    let l = bind_ok (worded_at (codes "machines") p) (λ l. provided (length l.0 == 1) (Count p.at) (natural_at p.at what.Machines 1 MOST_MACHINES (first_of l.0) >>= λ m. Ok (m, l.1))) x h in
     let fields = l.0.0 in
-    let t = provided_ok (length fields == 1) (Count p.at) (natural_at p.at what.Machines 1 32 (first_of fields) >>= λ m. Ok (m, l.0.1)) x l.2 in
-    let m = bind_ok (natural_at p.at what.Machines 1 32 (first_of fields)) (λ m. Ok (m, l.0.1)) x t.1 in
-    let n = natural_takes p.at what.Machines 1 32 (first_of fields) m.0 (omega arith) m.1 in
+    let t = provided_ok (length fields == 1) (Count p.at) (natural_at p.at what.Machines 1 MOST_MACHINES (first_of fields) >>= λ m. Ok (m, l.0.1)) x l.2 in
+    let m = bind_ok (natural_at p.at what.Machines 1 MOST_MACHINES (first_of fields)) (λ m. Ok (m, l.0.1)) x t.1 in
+    let n = natural_takes p.at what.Machines 1 MOST_MACHINES (first_of fields) m.0 (omega arith) m.1 in
     let is : fields ≡ decimal m.0 ∷ [] = one_field fields t.0 ∙ ap (λ w. w ∷ []) n.0 in
     let text : Takes p (line_text (codes "machines" ∷ decimal m.0 ∷ [])) l.0.1 = subst (λ ws. Takes p (line_text (codes "machines" ∷ ws)) l.0.1) is (worded_takes (codes "machines") p l.0 l.1) in
-    subst (λ y. Takes p (line_text (codes "machines" ∷ decimal y.0 ∷ [])) y.1 × ((1 ≤ y.0) × (y.0 ≤ 32))) (ok_is (m.0, l.0.1) x m.2) (text, (n.1, n.2))
+    subst (λ y. Takes p (line_text (codes "machines" ∷ decimal y.0 ∷ [])) y.1 × ((1 ≤ y.0) × (y.0 ≤ MOST_MACHINES))) (ok_is (m.0, l.0.1) x m.2) (text, (n.1, n.2))
 
 -- the machines by what the environment fixes
 abbrev machines_from : Option ℕ → Place → Result (ℕ × Place) FileFault
@@ -171,17 +174,17 @@ pub machines_takes : (e : Env) (p : Place) (x : ℕ × Place) → machines_at e 
 unfolding machines_at machines_text
 machines_takes e p x h = by (fixed_machines e) (fixed_in e) h
   where
-    by : (o : Option ℕ) → MatchOption o ⊤ (λ n. (1 ≤ n) × (n ≤ 32)) → machines_from o p ≡ Ok x
-        → Takes p (machines_line o x.0) x.1 × ((1 ≤ x.0) × (x.0 ≤ 32) × MatchOption o ⊤ (λ n. x.0 ≡ n))
-    by (Some m) within h = subst (λ (y : ℕ × Place). (p.rest ≡ y.1.rest) × ((1 ≤ y.0) × (y.0 ≤ 32) × (y.0 ≡ m))) (ok_is (m, p) x h) (refl, (within.0, within.1, refl))
+    by : (o : Option ℕ) → MatchOption o ⊤ (λ n. (1 ≤ n) × (n ≤ MOST_MACHINES)) → machines_from o p ≡ Ok x
+        → Takes p (machines_line o x.0) x.1 × ((1 ≤ x.0) × (x.0 ≤ MOST_MACHINES) × MatchOption o ⊤ (λ n. x.0 ≡ n))
+    by (Some m) within h = subst (λ (y : ℕ × Place). (p.rest ≡ y.1.rest) × ((1 ≤ y.0) × (y.0 ≤ MOST_MACHINES) × (y.0 ≡ m))) (ok_is (m, p) x h) (refl, (within.0, within.1, refl))
     by None within h = let t = machines_line_takes p x h in (t.0, (t.1.0, t.1.1, tt))
 
-machines_line_again : (at machines : ℕ) (rest : List ℕ) → 1 ≤ machines → machines ≤ 32 → Gets (machines_line_at (record { at = at; rest = line_text (codes "machines" ∷ decimal machines ∷ []) ++ rest })) machines rest
+machines_line_again : (at machines : ℕ) (rest : List ℕ) → 1 ≤ machines → machines ≤ MOST_MACHINES → Gets (machines_line_at (record { at = at; rest = line_text (codes "machines" ∷ decimal machines ∷ []) ++ rest })) machines rest
 unfolding machines_line_at
 machines_line_again at machines rest low high =
     let fields : AllByRecursion IsField (codes "machines" ∷ decimal machines ∷ []) = (record { no_space = refl; no_line_feed = refl }, (natural_field machines (omega arith), tt)) in
     let line = worded_again (codes "machines") (decimal machines ∷ []) at rest fields in
-    (line.0, rw (line.1, natural_again at what.Machines 1 32 machines (omega arith) low high) refl)
+    (line.0, rw (line.1, natural_again at what.Machines 1 MOST_MACHINES machines (omega arith) low high) refl)
 
 pub machines_again : (i : Instance) (at : ℕ) (rest : List ℕ) → HasMachines i → Gets (machines_at i.class.env (record { at = at; rest = machines_text i.class.env i.machines ++ rest })) i.machines rest
 unfolding machines_at machines_text
@@ -194,7 +197,7 @@ machines_again i at rest h = by (fixed_machines i.class.env) h.2
 -- ---- the speeds
 
 abbrev IsSpeed : ℕ → Type 0
-IsSpeed s = (1 ≤ s) × (s ≤ 10 ^ 6)
+IsSpeed s = (1 ≤ s) × (s ≤ GREATEST_SPEED)
 
 -- the speeds of the fields, after those so far
 speeds_fields_take : (at : ℕ) (so_far : List ℕ) (fields : List (List ℕ)) (all : List ℕ) → speeds_in at so_far fields ≡ Ok all
@@ -202,8 +205,8 @@ speeds_fields_take : (at : ℕ) (so_far : List ℕ) (fields : List (List ℕ)) (
 unfolding speeds_in
 speeds_fields_take at so_far [] all e = ([], sym (ok_is so_far all e) ∙ sym (append-nil so_far), refl, All-nil IsSpeed)
 speeds_fields_take at so_far (w ∷ ws) all e =
-    let s = bind_ok (natural_at at what.Speed 1 (10 ^ 6) w) (λ speed. speeds_in at (so_far ++ speed ∷ []) ws) all e in
-    let n = natural_takes at what.Speed 1 (10 ^ 6) w s.0 (omega arith) s.1 in
+    let s = bind_ok (natural_at at what.Speed 1 GREATEST_SPEED w) (λ speed. speeds_in at (so_far ++ speed ∷ []) ws) all e in
+    let n = natural_takes at what.Speed 1 GREATEST_SPEED w s.0 (omega arith) s.1 in
     let next = speeds_fields_take at (so_far ++ s.0 ∷ []) ws all s.2 in
     (s.0 ∷ next.0, next.1 ∙ append_assoc so_far (s.0 ∷ []) next.0, ap (λ v. v ∷ ws) n.0 ∙ ap (λ vs. decimal s.0 ∷ vs) next.2, All-cons IsSpeed s.0 next.0 (n.1, n.2) next.3)
 
@@ -212,7 +215,7 @@ unfolding speeds_in
 speeds_fields_again at so_far [] h = ap Ok (sym (append-nil so_far))
 speeds_fields_again at so_far (s ∷ ss) h =
     let range = All-head IsSpeed s ss h in
-    rw (natural_again at what.Speed 1 (10 ^ 6) s (omega arith) range.0 range.1) (speeds_fields_again at (so_far ++ s ∷ []) ss (All-tail IsSpeed s ss h) ∙ ap Ok (append_assoc so_far (s ∷ []) ss))
+    rw (natural_again at what.Speed 1 GREATEST_SPEED s (omega arith) range.0 range.1) (speeds_fields_again at (so_far ++ s ∷ []) ss (All-tail IsSpeed s ss h) ∙ ap Ok (append_assoc so_far (s ∷ []) ss))
 
 length_decimals : (speeds : List ℕ) → length (map decimal speeds) ≡ length speeds
 length_decimals [] = refl
@@ -220,25 +223,25 @@ length_decimals (s ∷ ss) = ap suc (length_decimals ss)
 
 decimal_fields : (speeds : List ℕ) → All IsSpeed speeds → AllByRecursion IsField (map decimal speeds)
 decimal_fields [] h = tt
-decimal_fields (s ∷ ss) h = let range = All-head IsSpeed s ss h in let high : s ≤ 10 ^ 6 = range.1 in (natural_field s (omega arith), decimal_fields ss (All-tail IsSpeed s ss h))
+decimal_fields (s ∷ ss) h = let range = All-head IsSpeed s ss h in let high : s ≤ GREATEST_SPEED = range.1 in (natural_field s (omega arith), decimal_fields ss (All-tail IsSpeed s ss h))
 
 speeds_line_takes : (machines : ℕ) (p : Place) (x : List ℕ × Place) → speeds_line_at machines p ≡ Ok x
     → Takes p (line_text (codes "speeds" ∷ map decimal x.0)) x.1 × ((length x.0 ≡ machines) × All IsSpeed x.0) × HasSmallMultiple x.0
 unfolding speeds_line_at
 speeds_line_takes machines p x h =
-    let l = bind_ok (worded_at (codes "speeds") p) (λ l. provided (length l.0 == machines) (Count p.at) (speeds_in p.at [] l.0 >>= λ speeds. provided (have_multiple (2 ^ 30) speeds) (Limit p.at what.Multiple) (Ok (speeds, l.1)))) x h in
+    let l = bind_ok (worded_at (codes "speeds") p) (λ l. provided (length l.0 == machines) (Count p.at) (speeds_in p.at [] l.0 >>= λ speeds. provided (have_multiple GREATEST_MULTIPLE speeds) (Limit p.at what.Multiple) (Ok (speeds, l.1)))) x h in
     let fields = l.0.0 in
-    let t = provided_ok (length fields == machines) (Count p.at) (speeds_in p.at [] fields >>= λ speeds. provided (have_multiple (2 ^ 30) speeds) (Limit p.at what.Multiple) (Ok (speeds, l.0.1))) x l.2 in
-    let s = bind_ok (speeds_in p.at [] fields) (λ speeds. provided (have_multiple (2 ^ 30) speeds) (Limit p.at what.Multiple) (Ok (speeds, l.0.1))) x t.1 in
+    let t = provided_ok (length fields == machines) (Count p.at) (speeds_in p.at [] fields >>= λ speeds. provided (have_multiple GREATEST_MULTIPLE speeds) (Limit p.at what.Multiple) (Ok (speeds, l.0.1))) x l.2 in
+    let s = bind_ok (speeds_in p.at [] fields) (λ speeds. provided (have_multiple GREATEST_MULTIPLE speeds) (Limit p.at what.Multiple) (Ok (speeds, l.0.1))) x t.1 in
     let speeds = s.0 in
-    let m = provided_ok (have_multiple (2 ^ 30) speeds) (Limit p.at what.Multiple) (Ok (speeds, l.0.1)) x s.2 in
+    let m = provided_ok (have_multiple GREATEST_MULTIPLE speeds) (Limit p.at what.Multiple) (Ok (speeds, l.0.1)) x s.2 in
     let f = speeds_fields_take p.at [] fields speeds s.1 in
     let is : fields ≡ map decimal speeds = f.2 ∙ ap (map decimal) (sym f.1) in
     let range : All IsSpeed speeds = subst (All IsSpeed) (sym f.1) f.3 in
     let count : length speeds ≡ machines = sym (length_decimals speeds) ∙ ap length (sym is) ∙ eqb-true (length fields) machines t.0 in
     let text : Takes p (line_text (codes "speeds" ∷ map decimal speeds)) l.0.1 = subst (λ ws. Takes p (line_text (codes "speeds" ∷ ws)) l.0.1) is (worded_takes (codes "speeds") p l.0 l.1) in
     subst (λ y. Takes p (line_text (codes "speeds" ∷ map decimal y.0)) y.1 × ((length y.0 ≡ machines) × All IsSpeed y.0) × HasSmallMultiple y.0) (ok_is (speeds, l.0.1) x m.1)
-    (text, (count, range), HasMultiple-from_have_multiple (2 ^ 30) speeds range m.0)
+    (text, (count, range), HasMultiple-from_have_multiple GREATEST_MULTIPLE speeds range m.0)
 
 no_speeds_take : (p : Place) (x : List ℕ × Place) (r : Result (List ℕ × Place) FileFault) → r ≡ Ok x → r ≡ Ok ([], p) → (p.rest ≡ x.1.rest) × (x.0 ≡ []) × HasSmallMultiple x.0
 no_speeds_take p x r e f =
@@ -264,7 +267,7 @@ speeds_line_again machines at speeds rest count range multiple =
     let fields : AllByRecursion IsField (codes "speeds" ∷ map decimal speeds) = (record { no_space = refl; no_line_feed = refl }, decimal_fields speeds range) in
     let line = worded_again (codes "speeds") (map decimal speeds) at rest fields in
     let many : (length (map decimal speeds) == machines) ≡ true = eq-eqb (length (map decimal speeds)) machines (length_decimals speeds ∙ count) in
-    (line.0, rw (line.1, many, speeds_fields_again at [] speeds range, have_multiple-from_HasMultiple (2 ^ 30) speeds multiple) refl)
+    (line.0, rw (line.1, many, speeds_fields_again at [] speeds range, have_multiple-from_HasMultiple GREATEST_MULTIPLE speeds multiple) refl)
 
 pub speeds_again : (e : Env) (machines at : ℕ) (speeds rest : List ℕ) → HasSpeeds (kind_of e) machines speeds → HasSmallMultiple speeds → Gets (speeds_at e machines (record { at = at; rest = speeds_text e speeds ++ rest })) speeds rest
 unfolding speeds_at speeds_text
@@ -281,3 +284,49 @@ speeds_again e machines at speeds rest h k = by (kind_of e) h
     by OpenShop h = none h
     by FlowShop h = none h
     by JobShop h = none h
+
+-- ---- the time that all operations share
+
+-- The time that is read: the one of the line, and 1 in classes without it.
+abbrev pub IsShared : Times → ℕ → Type 0
+IsShared t shared = IsKeyed (has_time_line t) 1 GREATEST_EQUAL_TIME shared
+
+time_line_takes : (p : Place) (x : ℕ × Place) → time_line_at p ≡ Ok x → Takes p (line_text (codes "time" ∷ decimal x.0 ∷ [])) x.1 × ((1 ≤ x.0) × (x.0 ≤ GREATEST_EQUAL_TIME))
+unfolding time_line_at
+time_line_takes p x h =
+    let l = bind_ok (worded_at (codes "time") p) _ x h in
+    let t = provided_ok (length l.0.0 == 1) (Count p.at) _ x l.2 in
+    let m = bind_ok (natural_at p.at what.Time 1 GREATEST_EQUAL_TIME (first_of l.0.0)) _ x t.1 in
+    let n = natural_takes p.at what.Time 1 GREATEST_EQUAL_TIME (first_of l.0.0) m.0 (omega arith) m.1 in
+    let is : l.0.0 ≡ decimal m.0 ∷ [] = one_field l.0.0 t.0 ∙ ap (λ w. w ∷ []) n.0 in
+    let text : Takes p (line_text (codes "time" ∷ decimal m.0 ∷ [])) l.0.1 = subst (λ ws. Takes p (line_text (codes "time" ∷ ws)) l.0.1) is (worded_takes (codes "time") p l.0 l.1) in
+    subst (λ y. Takes p (line_text (codes "time" ∷ decimal y.0 ∷ [])) y.1 × ((1 ≤ y.0) × (y.0 ≤ GREATEST_EQUAL_TIME))) (ok_is (m.0, l.0.1) x m.2) (text, (n.1, n.2))
+
+abbrev time_by : Bool → Place → Result (ℕ × Place) FileFault
+time_by there p = if there then time_line_at p else Ok (1, p)
+
+abbrev time_line : Bool → ℕ → List ℕ
+time_line there time = where_wanted there (line_text (codes "time" ∷ decimal time ∷ []))
+
+time_by_takes : (there : Bool) (p : Place) (x : ℕ × Place) → time_by there p ≡ Ok x → Takes p (time_line there x.0) x.1 × IsKeyed there 1 GREATEST_EQUAL_TIME x.0
+time_by_takes true p x h = time_line_takes p x h
+time_by_takes false p x h = subst (λ (y : ℕ × Place). (p.rest ≡ y.1.rest) × (y.0 ≡ 1)) (ok_is (1, p) x h) (refl, refl)
+
+pub time_takes : (t : Times) (p : Place) (x : ℕ × Place) → time_at t p ≡ Ok x → Takes p (time_text t x.0) x.1 × IsShared t x.0
+unfolding time_at time_text
+time_takes t p x h = time_by_takes (has_time_line t) p x h
+
+time_line_again : (at time : ℕ) (rest : List ℕ) → 1 ≤ time → time ≤ GREATEST_EQUAL_TIME → Gets (time_line_at (record { at = at; rest = line_text (codes "time" ∷ decimal time ∷ []) ++ rest })) time rest
+unfolding time_line_at
+time_line_again at time rest low high =
+    let fields : AllByRecursion IsField (codes "time" ∷ decimal time ∷ []) = (record { no_space = refl; no_line_feed = refl }, (natural_field time (omega arith), tt)) in
+    let line = worded_again (codes "time") (decimal time ∷ []) at rest fields in
+    (line.0, rw (line.1, natural_again at what.Time 1 GREATEST_EQUAL_TIME time (omega arith) low high) refl)
+
+time_by_again : (there : Bool) (at time shared : ℕ) (rest : List ℕ) → IsKeyed there 1 GREATEST_EQUAL_TIME shared → (there ≡ true → time ≡ shared) → Gets (time_by there (record { at = at; rest = time_line there time ++ rest })) shared rest
+time_by_again true at time shared rest h e = rw (e refl) (time_line_again at shared rest h.0 h.1)
+time_by_again false at time shared rest h e = (at, ap (λ n. Ok (n, record { at = at; rest = rest })) (sym h))
+
+pub time_again : (t : Times) (at time shared : ℕ) (rest : List ℕ) → IsShared t shared → (has_time_line t ≡ true → time ≡ shared) → Gets (time_at t (record { at = at; rest = time_text t time ++ rest })) shared rest
+unfolding time_at time_text
+time_again t at time shared rest h e = time_by_again (has_time_line t) at time shared rest h e

@@ -1,5 +1,5 @@
 -- The first line of a job: the name and the keys that are read are those that were written, and what was written is read again.
-use Rattle.std.proofs.Common.{◌≡◌, ℕ, suc, ◌+◌, ◌^◌, ◌≤◌, Bool, true, false, not, ◌==◌, List, [], ◌∷◌, ◌++◌, length, Ok, Contains, bytes_eq, refl, ap, subst, ◌∙◌, decimal, arith}
+use Rattle.std.proofs.Common.{◌≡◌, ℕ, suc, ◌+◌, ◌≤◌, Bool, true, false, not, ◌==◌, List, [], ◌∷◌, ◌++◌, length, Ok, Contains, bytes_eq, refl, ap, subst, ◌∙◌, decimal, arith}
 use Rattle.std.specs.Prelude.{if◌then◌else◌, slice_index_or, ℤ}
 use Rattle.std.specs.Fmt.{signed_decimal}
 use Rattle.std.specs.List.{AllByRecursion, list_any}
@@ -11,13 +11,15 @@ use Rattle.msp_class.specs.declared.class.Class.{Class}
 use Rattle.msp_instance.specs.declared.Need.{Need}
 use Rattle.msp_instance.specs.declared.Job.{Job}
 use Rattle.msp_instance.specs.Instance.{no_need}
+use Rattle.msp_instance.specs.declared.ranges.TheConstants.{GREATEST}
 use Rattle.msp_file.specs.declared.fault.What.TheVariants as what
 use Rattle.msp_file.specs.declared.fault.FileFault.TheVariants.{Count, Again}
 use Rattle.msp_file.specs.declared.job.Keys.{Keys}
-use Rattle.msp_file.specs.JobName.{IsJobName}
-use Rattle.msp_file.specs.InstanceText.{where_wanted, has_time_key, time_key, release_key, due_key, weight_key, key_fields}
+use Rattle.msp_job_name.specs.JobName.{IsJobName}
+use Rattle.msp_grammar.specs.Layout.{has_time_key}
+use Rattle.msp_grammar.specs.InstanceText.{where_wanted, time_key, release_key, due_key, weight_key, key_fields}
 use Rattle.msp_file.specs.Reading.{natural_key_at, integer_key_at, job_name_at, keys_at, count_of_keys, job_line_at}
-use Rattle.msp_file.proofs.NameLists.{is_among, not_among}
+use Rattle.msp_job_name.proofs.NameLists.{is_among, not_among}
 use Rattle.msp_file.proofs.LineLaws.{bind_ok, provided_ok, ok_is, IsField, bind_again, provided_again}
 use Rattle.msp_file.proofs.FieldLaws.{IsKeyed, IsKeyedInteger, natural_field, integer_field, name_takes, name_again, natural_key_takes, natural_key_again, integer_key_takes, integer_key_again}
 
@@ -25,10 +27,10 @@ use Rattle.msp_file.proofs.FieldLaws.{IsKeyed, IsKeyedInteger, natural_field, in
 
 -- The values of the keys are in range, and where the class has no key they are the usual ones.
 pub record AreKeys (c : Class) (k : Keys) : Type 0 where
-  pub time : IsKeyed (has_time_key c) 1 (10 ^ 9) k.time
-  pub release : IsKeyed c.heads 0 (10 ^ 9) k.release
-  pub due : IsKeyedInteger (uses_due c.crit) (10 ^ 9) k.due
-  pub weight : IsKeyed (uses_weight c.crit) 1 (10 ^ 9) k.weight
+  pub time : IsKeyed (has_time_key c) 1 GREATEST k.time
+  pub release : IsKeyed c.heads 0 GREATEST k.release
+  pub due : IsKeyedInteger (uses_due c.crit) GREATEST k.due
+  pub weight : IsKeyed (uses_weight c.crit) 1 GREATEST k.weight
 
 -- The fields of the keys, with the fields after them.
 abbrev pub key_words : Class → Keys → List (List ℕ) → List (List ℕ)
@@ -40,20 +42,20 @@ key_words c k more =
     ++ more)))
 
 -- the bound that most readers of numbers are given
-pub limit : 10 ^ 9 ≤ 10 ^ 9
+pub limit : GREATEST ≤ GREATEST
 limit = omega arith
 
 pub keys_takes : (c : Class) (at : ℕ) (fields : List (List ℕ)) (k : Keys) → keys_at c at fields ≡ Ok k → (more : List (List ℕ)) × (fields ≡ key_words c k more) × AreKeys c k
 unfolding keys_at
 keys_takes c at fields k e =
-    let a = bind_ok (natural_key_at at (has_time_key c) 112 what.Time 1 (10 ^ 9) fields) _ k e in
-    let b = bind_ok (natural_key_at at c.heads 114 what.Release 0 (10 ^ 9) a.0.1) _ k a.2 in
-    let d = bind_ok (integer_key_at at (uses_due c.crit) 100 what.Due (10 ^ 9) b.0.1) _ k b.2 in
-    let w = bind_ok (natural_key_at at (uses_weight c.crit) 119 what.Weight 1 (10 ^ 9) d.0.1) _ k d.2 in
-    let t0 = natural_key_takes at (has_time_key c) 112 what.Time 1 (10 ^ 9) fields a.0 limit a.1 in
-    let t1 = natural_key_takes at c.heads 114 what.Release 0 (10 ^ 9) a.0.1 b.0 limit b.1 in
-    let t2 = integer_key_takes at (uses_due c.crit) 100 what.Due (10 ^ 9) b.0.1 d.0 limit d.1 in
-    let t3 = natural_key_takes at (uses_weight c.crit) 119 what.Weight 1 (10 ^ 9) d.0.1 w.0 limit w.1 in
+    let a = bind_ok (natural_key_at at (has_time_key c) 112 what.Time 1 GREATEST fields) _ k e in
+    let b = bind_ok (natural_key_at at c.heads 114 what.Release 0 GREATEST a.0.1) _ k a.2 in
+    let d = bind_ok (integer_key_at at (uses_due c.crit) 100 what.Due GREATEST b.0.1) _ k b.2 in
+    let w = bind_ok (natural_key_at at (uses_weight c.crit) 119 what.Weight 1 GREATEST d.0.1) _ k d.2 in
+    let t0 = natural_key_takes at (has_time_key c) 112 what.Time 1 GREATEST fields a.0 limit a.1 in
+    let t1 = natural_key_takes at c.heads 114 what.Release 0 GREATEST a.0.1 b.0 limit b.1 in
+    let t2 = integer_key_takes at (uses_due c.crit) 100 what.Due GREATEST b.0.1 d.0 limit d.1 in
+    let t3 = natural_key_takes at (uses_weight c.crit) 119 what.Weight 1 GREATEST d.0.1 w.0 limit w.1 in
     let made : Keys = record { time = a.0.0; release = b.0.0; due = d.0.0; weight = w.0.0 } in
     let front = λ (there : Bool) (letter : ℕ) (text : List ℕ) (x : List (List ℕ)). where_wanted there ((letter ∷ 61 ∷ text) ∷ []) ++ x in
     let text : fields ≡ key_words c made w.0.1 =
@@ -67,10 +69,10 @@ keys_takes c at fields k e =
 pub keys_again : (c : Class) (at : ℕ) (k : Keys) (more : List (List ℕ)) → AreKeys c k → keys_at c at (key_words c k more) ≡ Ok k
 unfolding keys_at
 keys_again c at k more h =
-    bind_again _ _ _ _ (natural_key_again at (has_time_key c) 112 what.Time 1 (10 ^ 9) k.time _ limit h.time) (
-    bind_again _ _ _ _ (natural_key_again at c.heads 114 what.Release 0 (10 ^ 9) k.release _ limit h.release) (
-    bind_again _ _ _ _ (integer_key_again at (uses_due c.crit) 100 what.Due (10 ^ 9) k.due _ limit h.due) (
-    bind_again _ _ _ _ (natural_key_again at (uses_weight c.crit) 119 what.Weight 1 (10 ^ 9) k.weight more limit h.weight) refl)))
+    bind_again _ _ _ _ (natural_key_again at (has_time_key c) 112 what.Time 1 GREATEST k.time _ limit h.time) (
+    bind_again _ _ _ _ (natural_key_again at c.heads 114 what.Release 0 GREATEST k.release _ limit h.release) (
+    bind_again _ _ _ _ (integer_key_again at (uses_due c.crit) 100 what.Due GREATEST k.due _ limit h.due) (
+    bind_again _ _ _ _ (natural_key_again at (uses_weight c.crit) 119 what.Weight 1 GREATEST k.weight more limit h.weight) refl)))
 
 -- ---- how many fields
 
@@ -136,11 +138,11 @@ key_field : (there : Bool) (letter : ℕ) (text : List ℕ) (more : List (List �
 key_field true letter text more s l f h = (record { no_space = rw s (f refl).no_space; no_line_feed = rw l (f refl).no_line_feed }, h)
 key_field false letter text more s l f h = h
 
-natural_keyed : (there : Bool) (least n : ℕ) → IsKeyed there least (10 ^ 9) n → there ≡ true → IsField (decimal n)
+natural_keyed : (there : Bool) (least n : ℕ) → IsKeyed there least GREATEST n → there ≡ true → IsField (decimal n)
 natural_keyed true least n h t = natural_field n h.1
 natural_keyed false least n h t = absurd cc
 
-integer_keyed : (there : Bool) (x : ℤ) → IsKeyedInteger there (10 ^ 9) x → there ≡ true → IsField (signed_decimal x)
+integer_keyed : (there : Bool) (x : ℤ) → IsKeyedInteger there GREATEST x → there ≡ true → IsField (signed_decimal x)
 integer_keyed true x h t = integer_field x h
 integer_keyed false x h t = absurd cc
 

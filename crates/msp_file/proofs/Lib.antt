@@ -1,11 +1,9 @@
-mod NameLists
 mod Fields
 mod Pairs
 mod Loops
 mod Multiples
 mod LineFaults
 mod AnswerLemmas
-mod PrintLemmas
 pub mod LineLaws
 pub mod FieldLaws
 pub mod HeadLaws

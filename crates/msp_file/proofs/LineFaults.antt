@@ -1,22 +1,21 @@
 -- Reading lines gives faults of lines alone.
-use Rattle.std.proofs.Common.{◌≡◌, ℕ, zero, suc, ◌+◌, ◌^◌, Bool, true, false, ◌&&◌, ◌==◌, List, [], ◌∷◌, length, Option, None, Some, Result, Ok, Err, ok_or, position, bytes_eq, codes, ℤ, pos, negsuc, refl, subst, take, drop, if◌then◌else◌}
-use Rattle.msp_class.specs.declared.environments.EnvKind.{EnvKind}
+use Rattle.std.proofs.Common.{◌≡◌, ℕ, zero, suc, ◌+◌, Bool, true, false, ◌&&◌, ◌==◌, List, [], ◌∷◌, length, Option, None, Some, Result, Ok, Err, ok_or, position, bytes_eq, codes, ℤ, pos, negsuc, refl, subst, take, drop, if◌then◌else◌}
 use Rattle.msp_class.specs.Env.{fixed_machines}
 use Rattle.msp_class.specs.declared.class.Class.{Class}
 use Rattle.msp_class.specs.declared.class.Env.{Env}
 use Rattle.msp_class.specs.declared.class.Crit.{Crit}
 use Rattle.msp_class.specs.declared.class.Times.{Times}
-use Rattle.msp_class.specs.declared.class.Times.TheVariants.{General, Unit as UnitTimes}
 use Rattle.msp_instance.specs.declared.Need.{Need}
 use Rattle.msp_instance.specs.declared.Step.{Step}
 use Rattle.msp_name.specs.Reading.{reading_of}
+use Rattle.msp_instance.specs.declared.ranges.TheConstants.{GREATEST, GREATEST_SPEED, GREATEST_EQUAL_TIME, MOST_MACHINES}
 use Rattle.msp_file.specs.declared.fault.What.{What}
 use Rattle.msp_file.specs.declared.fault.FileFault.{FileFault}
 use Rattle.msp_file.specs.declared.fault.FileFault.TheVariants.{Class as ClassBroken, Cycle, Memory, Missing, Cut}
 use Rattle.msp_file.specs.declared.draft.Draft.{Draft}
 use Rattle.msp_text.specs.Numbers.{number_of}
-use Rattle.msp_file.specs.InstanceText.{has_order}
-use Rattle.msp_file.specs.Reading.{first_of, others_of, ◌>>=◌, provided, Place, line_at, fields_of, worded_at, natural_in, natural_at, integer_at, job_name_at, known_at, keyed_at, natural_key_at, integer_key_at, keys_at, job_line_at, with_need, times_at, times_line_at, machine_at, timed_route_at, unit_route_at, operations_at, route_line_at, needs_at, with_step, steps_at, curve_fields_at, curve_line_at, curve_at, job_at_line, arc_line_at, end_at, arcs_at, jobs_at, version_at, class_in, spelled_class, class_at, machines_line_at, machines_at, speeds_in, speeds_line_at, speeds_at, front_at, filed_at}
+use Rattle.msp_grammar.specs.Layout.{has_order}
+use Rattle.msp_file.specs.Reading.{first_of, others_of, ◌>>=◌, provided, Place, line_at, fields_of, worded_at, natural_in, natural_at, integer_at, job_name_at, known_at, keyed_at, natural_key_at, integer_key_at, keys_at, job_line_at, with_need, times_at, times_line_at, machine_at, timed_route_at, machine_route_at, operations_at, route_line_at, needs_at, with_step, steps_at, curve_fields_at, curve_line_at, curve_at, job_at_line, arc_line_at, end_at, arcs_at, jobs_at, version_at, class_in, spelled_class, class_at, machines_line_at, machines_at, speeds_in, speeds_line_at, speeds_at, time_line_at, time_at, front_at, filed_at}
 
 -- The fault is one of a line.
 abbrev pub IsLineFault : FileFault → Type 0
@@ -101,10 +100,10 @@ integer_key at true letter q greatest fields = chain _ _ (keyed at letter _) (λ
 keys : (c : Class) (at : ℕ) (fields : List (List ℕ)) → InLines (keys_at c at fields)
 unfolding keys_at
 keys c at fields =
-    chain _ _ (natural_key at _ 112 _ 1 (10 ^ 9) fields) (λ p.
-    chain _ _ (natural_key at _ 114 _ 0 (10 ^ 9) p.1) (λ r.
-    chain _ _ (integer_key at _ 100 _ (10 ^ 9) r.1) (λ d.
-    chain _ _ (natural_key at _ 119 _ 1 (10 ^ 9) d.1) (λ w. fine _))))
+    chain _ _ (natural_key at _ 112 _ 1 GREATEST fields) (λ p.
+    chain _ _ (natural_key at _ 114 _ 0 GREATEST p.1) (λ r.
+    chain _ _ (integer_key at _ 100 _ GREATEST r.1) (λ d.
+    chain _ _ (natural_key at _ 119 _ 1 GREATEST d.1) (λ w. fine _))))
 
 job_line : (c : Class) (at : ℕ) (names fields : List (List ℕ)) → InLines (job_line_at c at names fields)
 unfolding job_line_at
@@ -113,11 +112,11 @@ job_line c at names fields = given _ _ _ tt (chain _ _ (named at _) (λ name. ch
 times : (at least : ℕ) (needs : List Need) (fields : List (List ℕ)) → InLines (times_at at least needs fields)
 unfolding times_at
 times at least needs [] = fine needs
-times at least needs (w ∷ ws) = chain _ _ (natural at _ least (10 ^ 9) w) (λ t. times at least (with_need needs (length needs) t) ws)
+times at least needs (w ∷ ws) = chain _ _ (natural at _ least GREATEST w) (λ t. times at least (with_need needs (length needs) t) ws)
 
-times_line : (k : EnvKind) (machines : ℕ) (p : Place) → InLines (times_line_at k machines p)
+times_line : (least machines : ℕ) (p : Place) → InLines (times_line_at least machines p)
 unfolding times_line_at
-times_line k machines p = chain _ _ (worded _ p) (λ l. given _ _ _ tt (chain _ _ (times p.at _ [] l.0) (λ needs. fine _)))
+times_line least machines p = chain _ _ (worded _ p) (λ l. given _ _ _ tt (chain _ _ (times p.at _ [] l.0) (λ needs. fine _)))
 
 machine : (at machines : ℕ) (w : List ℕ) → InLines (machine_at at machines w)
 unfolding machine_at
@@ -127,34 +126,34 @@ timed_route : (at machines : ℕ) (needs : List Need) (fields : List (List ℕ))
 unfolding timed_route_at
 timed_route at machines needs [] = fine needs
 timed_route at machines needs (w ∷ []) = bad _ tt
-timed_route at machines needs (w ∷ v ∷ ws) = chain _ _ (machine at machines w) (λ q. chain _ _ (natural at _ 1 (10 ^ 9) v) (λ t. timed_route at machines (with_need needs q t) ws))
+timed_route at machines needs (w ∷ v ∷ ws) = chain _ _ (machine at machines w) (λ q. chain _ _ (natural at _ 1 GREATEST v) (λ t. timed_route at machines (with_need needs q t) ws))
 
-unit_route : (at machines : ℕ) (needs : List Need) (fields : List (List ℕ)) → InLines (unit_route_at at machines needs fields)
-unfolding unit_route_at
-unit_route at machines needs [] = fine needs
-unit_route at machines needs (w ∷ ws) = chain _ _ (machine at machines w) (λ q. unit_route at machines (with_need needs q 1) ws)
+machine_route : (at machines time : ℕ) (needs : List Need) (fields : List (List ℕ)) → InLines (machine_route_at at machines time needs fields)
+unfolding machine_route_at
+machine_route at machines time needs [] = fine needs
+machine_route at machines time needs (w ∷ ws) = chain _ _ (machine at machines w) (λ q. machine_route at machines time (with_need needs q time) ws)
 
-operations : (t : Times) (at machines : ℕ) (fields : List (List ℕ)) → InLines (operations_at t at machines fields)
-operations General at machines fields = timed_route at machines [] fields
-operations UnitTimes at machines fields = unit_route at machines [] fields
+operations : (timed : Bool) (at machines time : ℕ) (fields : List (List ℕ)) → InLines (operations_at timed at machines time fields)
+operations true at machines time fields = timed_route at machines [] fields
+operations false at machines time fields = machine_route at machines time [] fields
 
-route_line : (c : Class) (machines : ℕ) (p : Place) → InLines (route_line_at c machines p)
+route_line : (timed : Bool) (most machines time : ℕ) (p : Place) → InLines (route_line_at timed most machines time p)
 unfolding route_line_at
-route_line c machines p = search (chain, worded, given, operations, fine)
+route_line timed most machines time p = search (chain, worded, given, operations, fine)
 
 needs_read : (c : Class) (machines time : ℕ) (p : Place) → InLines (needs_at c machines time p)
 unfolding needs_at
-needs_read c machines time p = either _ _ _ (times_line _ machines p) (either _ _ _ (route_line c machines p) (fine _))
+needs_read c machines time p = either _ _ _ (times_line _ machines p) (either _ _ _ (route_line _ _ machines time p) (fine _))
 
 steps : (at : ℕ) (so_far : List Step) (fields : List (List ℕ)) → InLines (steps_at at so_far fields)
 unfolding steps_at
 steps at so_far [] = fine so_far
 steps at so_far (w ∷ []) = bad _ tt
-steps at so_far (w ∷ v ∷ ws) = chain _ _ (natural at _ 0 (10 ^ 9) w) (λ above. chain _ _ (natural at _ 0 (10 ^ 9) v) (λ add. steps at (with_step so_far above add) ws))
+steps at so_far (w ∷ v ∷ ws) = chain _ _ (natural at _ 0 GREATEST w) (λ above. chain _ _ (natural at _ 0 GREATEST v) (λ add. steps at (with_step so_far above add) ws))
 
 curve_fields : (at : ℕ) (fields : List (List ℕ)) → InLines (curve_fields_at at fields)
 unfolding curve_fields_at
-curve_fields at fields = chain _ _ (natural at _ 0 (10 ^ 9) _) (λ slope. chain _ _ (integer at _ (10 ^ 9) _) (λ base. chain _ _ (steps at [] _) (λ s. fine _)))
+curve_fields at fields = chain _ _ (natural at _ 0 GREATEST _) (λ slope. chain _ _ (integer at _ GREATEST _) (λ base. chain _ _ (steps at [] _) (λ s. fine _)))
 
 curve_line : (p : Place) → InLines (curve_line_at p)
 unfolding curve_line_at
@@ -164,9 +163,9 @@ curve : (crit : Crit) (p : Place) → InLines (curve_at crit p)
 unfolding curve_at
 curve crit p = either _ _ _ (curve_line p) (fine _)
 
-job : (c : Class) (machines : ℕ) (d : Draft) (at : ℕ) (fields : List (List ℕ)) (p : Place) → InLines (job_at_line c machines d at fields p)
+job : (c : Class) (machines shared : ℕ) (d : Draft) (at : ℕ) (fields : List (List ℕ)) (p : Place) → InLines (job_at_line c machines shared d at fields p)
 unfolding job_at_line
-job c machines d at fields p = given _ _ _ tt (chain _ _ (job_line c at d.names fields) (λ l. chain _ _ (needs_read c machines _ p) (λ n. chain _ _ (curve c.crit n.1) (λ v. fine _))))
+job c machines shared d at fields p = given _ _ _ tt (chain _ _ (job_line c at d.names fields) (λ l. chain _ _ (needs_read c machines _ p) (λ n. chain _ _ (curve c.crit n.1) (λ v. fine _))))
 
 arc_line : (at : ℕ) (d : Draft) (fields : List (List ℕ)) → InLines (arc_line_at at d fields)
 unfolding arc_line_at
@@ -183,17 +182,17 @@ arcs (suc n) d p =
     let fields = fields_of l.0 in
     either (bytes_eq (first_of fields) (codes "arc")) _ _ (chain (arc_line_at p.at d (others_of fields)) _ (arc_line p.at d (others_of fields)) (λ e. arcs n e l.1)) (end_line p.at d fields l.1))
 
-jobs : (n : ℕ) (c : Class) (machines : ℕ) (d : Draft) (p : Place) → InLines (jobs_at n c machines d p)
+jobs : (n : ℕ) (c : Class) (machines shared : ℕ) (d : Draft) (p : Place) → InLines (jobs_at n c machines shared d p)
 unfolding jobs_at
-jobs zero c machines d p = bad _ tt
-jobs (suc n) c machines d p =
+jobs zero c machines shared d p = bad _ tt
+jobs (suc n) c machines shared d p =
     chain (line_at p) _ (line p) (λ l.
     let fields = fields_of l.0 in
     either
     (bytes_eq (first_of fields) (codes "job"))
     _
     _
-    (chain (job_at_line c machines d p.at (others_of fields) l.1) _ (job c machines d p.at (others_of fields) l.1) (λ e. jobs n c machines e.0 e.1))
+    (chain (job_at_line c machines shared d p.at (others_of fields) l.1) _ (job c machines shared d p.at (others_of fields) l.1) (λ e. jobs n c machines shared e.0 e.1))
     (either
     (has_order c.order && bytes_eq (first_of fields) (codes "arc"))
     _
@@ -221,7 +220,7 @@ class_line p = chain _ _ (line p) (λ l. chain _ _ (class_fields p.at (fields_of
 
 machines_line : (p : Place) → InLines (machines_line_at p)
 unfolding machines_line_at
-machines_line p = chain _ _ (worded _ p) (λ l. given _ _ _ tt (chain _ _ (natural p.at _ 1 32 _) (λ m. fine _)))
+machines_line p = chain _ _ (worded _ p) (λ l. given _ _ _ tt (chain _ _ (natural p.at _ 1 MOST_MACHINES _) (λ m. fine _)))
 
 machines_read : (e : Env) (p : Place) → InLines (machines_at e p)
 unfolding machines_at
@@ -234,7 +233,7 @@ machines_read e p = by (fixed_machines e)
 speeds_fields : (at : ℕ) (so_far : List ℕ) (fields : List (List ℕ)) → InLines (speeds_in at so_far fields)
 unfolding speeds_in
 speeds_fields at so_far [] = fine so_far
-speeds_fields at so_far (w ∷ ws) = chain _ _ (natural at _ 1 (10 ^ 6) w) (λ speed. speeds_fields at _ ws)
+speeds_fields at so_far (w ∷ ws) = chain _ _ (natural at _ 1 GREATEST_SPEED w) (λ speed. speeds_fields at _ ws)
 
 speeds_line : (machines : ℕ) (p : Place) → InLines (speeds_line_at machines p)
 unfolding speeds_line_at
@@ -244,6 +243,14 @@ speeds_read : (e : Env) (machines : ℕ) (p : Place) → InLines (speeds_at e ma
 unfolding speeds_at
 speeds_read e machines p = either _ _ _ (speeds_line machines p) (fine _)
 
+time_line : (p : Place) → InLines (time_line_at p)
+unfolding time_line_at
+time_line p = chain _ _ (worded _ p) (λ l. given _ _ _ tt (chain _ _ (natural p.at _ 1 GREATEST_EQUAL_TIME _) (λ time. fine _)))
+
+time_read : (t : Times) (p : Place) → InLines (time_at t p)
+unfolding time_at
+time_read t p = either _ _ _ (time_line p) (fine _)
+
 front : (b : List ℕ) → InLines (front_at b)
 unfolding front_at
 front b =
@@ -251,7 +258,8 @@ front b =
     chain _ _ (class_line p) (λ c.
     chain _ _ (machines_read c.0.env c.1) (λ m.
     chain _ _ (speeds_read c.0.env m.0 m.1) (λ s.
-    chain _ _ (jobs _ c.0 m.0 _ s.1) (λ d. fine _)))))
+    chain _ _ (time_read c.0.times s.1) (λ t.
+    chain _ _ (jobs _ c.0 m.0 t.0 _ t.1) (λ d. fine _))))))
 
 -- the reading of all lines of a text
 pub whole : (b : List ℕ) → InLines (filed_at b)

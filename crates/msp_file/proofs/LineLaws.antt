@@ -9,10 +9,10 @@ use Rattle.std.proofs.lemmas.List.Splits.{join_with_byte-slice_split, length-sli
 use Rattle.msp_name.proofs.Marks.{Lacks, parts-whole, parts-first}
 use Rattle.msp_file.specs.declared.fault.FileFault.{FileFault}
 use Rattle.msp_file.specs.declared.fault.FileFault.TheVariants.{Missing, Cut, Line}
-use Rattle.msp_file.specs.ScheduleText.{line_feed}
-use Rattle.msp_file.specs.InstanceText.{line_text}
+use Rattle.msp_grammar.specs.ScheduleText.{line_feed}
+use Rattle.msp_grammar.specs.InstanceText.{line_text}
 use Rattle.msp_file.specs.Reading.{◌>>=◌, provided, Place, line_at, fields_of, first_of, others_of, worded_at}
-use Rattle.msp_file.proofs.NameLists.{same_bytes}
+use Rattle.msp_job_name.proofs.NameLists.{same_bytes}
 
 -- ---- steps that did not fail
 

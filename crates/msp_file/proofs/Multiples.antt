@@ -1,11 +1,12 @@
 -- Common multiples of speeds.
-use Rattle.std.proofs.Common.{◌≡◌, ℕ, ◌+◌, ◌-◌, ◌*◌, ◌/◌, ◌%◌, ◌^◌, ◌<◌, ◌≤◌, ◌==◌, Bool, true, false, IsTrue, ◌↔◌, List, get_or, All, refl, sym, ap, ◌∙◌, arith, eq-eqb}
+use Rattle.std.proofs.Common.{◌≡◌, ℕ, ◌+◌, ◌-◌, ◌*◌, ◌/◌, ◌%◌, ◌<◌, ◌≤◌, ◌==◌, Bool, true, false, IsTrue, ◌↔◌, List, get_or, All, refl, sym, ap, ◌∙◌, arith, eq-eqb}
 use Rattle.std.proofs.Math.Nat.{mul-mod_left}
 use Rattle.std.specs.List.{list_all, range_with_len}
 use Rattle.std.proofs.lemmas.Bool.{eqb-true}
 use Rattle.std.proofs.lemmas.List.Folds.{Any-from_list_any, list_any_at}
 use Rattle.std.proofs.lemmas.List.Sums.{AllPass-from_list_all, list_all-from_AllPass}
 use Rattle.std.proofs.lemmas.List.FromFn.{length-range_with_len, get_or-range_with_len}
+use Rattle.msp_instance.specs.declared.ranges.TheConstants.{GREATEST_SPEED}
 use Rattle.msp_file.specs.Reading.{have_multiple}
 
 -- A number up to the limit that is a multiple of all speeds.
@@ -18,7 +19,7 @@ divides_all speeds n = list_all (λ s. n % s == 0) speeds
 quotient : (x s : ℕ) → 1 ≤ s → x % s ≡ 0 → x ≡ (x / s) * s
 quotient x s h e = omega arith
 
-pub HasMultiple-from_have_multiple : (limit : ℕ) (speeds : List ℕ) → All (λ s. (1 ≤ s) × (s ≤ 10 ^ 6)) speeds → have_multiple limit speeds ≡ true → HasMultiple limit speeds
+pub HasMultiple-from_have_multiple : (limit : ℕ) (speeds : List ℕ) → All (λ s. (1 ≤ s) × (s ≤ GREATEST_SPEED)) speeds → have_multiple limit speeds ≡ true → HasMultiple limit speeds
 unfolding have_multiple
 HasMultiple-from_have_multiple limit speeds range h =
     let a = Any-from_list_any (divides_all speeds) (range_with_len 1 limit) h in
@@ -38,7 +39,7 @@ have_multiple-from_HasMultiple limit speeds h =
     list_any_at (divides_all speeds) (range_with_len 1 limit) (m - 1) 0 (omega (arith, length-range_with_len 1 limit)) (ap (divides_all speeds) is ∙ all)
 
 -- what the test of the speeds answers
-pub multiple_decided : (limit : ℕ) (speeds : List ℕ) (b : Bool) → All (λ s. (1 ≤ s) × (s ≤ 10 ^ 6)) speeds → (IsTrue b ↔ HasMultiple limit speeds) → b ≡ have_multiple limit speeds
+pub multiple_decided : (limit : ℕ) (speeds : List ℕ) (b : Bool) → All (λ s. (1 ≤ s) × (s ≤ GREATEST_SPEED)) speeds → (IsTrue b ↔ HasMultiple limit speeds) → b ≡ have_multiple limit speeds
 multiple_decided limit speeds b range h = by b (have_multiple limit speeds) refl h
   where
     by : (b t : Bool) → have_multiple limit speeds ≡ t → (IsTrue b ↔ HasMultiple limit speeds) → b ≡ t

@@ -1,6 +1,6 @@
 -- The operations of a job: what is read is what was written, and what was written is read again.
-use Rattle.std.proofs.Common.{◌≡◌, ℕ, suc, ◌+◌, ◌-◌, ◌^◌, ◌<◌, ◌≤◌, true, false, ◌&&◌, ◌==◌, List, [], ◌∷◌, ◌++◌, length, map, get_or, Result, Ok, All, refl, sym, ap, ap₂, subst, ◌∙◌, codes, decimal, arith}
-use Rattle.std.specs.Prelude.{if◌then◌else◌, slice_index_or, nat_le, EachIndex}
+use Rattle.std.proofs.Common.{◌≡◌, ℕ, suc, ◌+◌, ◌-◌, ◌<◌, ◌≤◌, true, false, ◌&&◌, ◌==◌, List, [], ◌∷◌, ◌++◌, length, map, get_or, Result, Ok, All, refl, sym, ap, ap₂, subst, ◌∙◌, codes, decimal, arith}
+use Rattle.std.specs.Prelude.{⊤, Bool, if◌then◌else◌, slice_index_or, nat_le, EachIndex}
 use Rattle.std.specs.List.{AllByRecursion, list_any, flat_map, range_with_len}
 use Rattle.std.proofs.lemmas.Bool.{eq-eqb, le-leb}
 use Rattle.std.proofs.lemmas.List.{append_assoc, append-nil, length_push, length-map, ext_get_or}
@@ -9,32 +9,39 @@ use Rattle.std.proofs.lemmas.List.FromFn.{length-map-range_with_len, get_or-map-
 use Rattle.msp_class.specs.declared.environments.EnvKind.{EnvKind}
 use Rattle.msp_class.specs.declared.environments.EnvKind.TheVariants.{Identical, Uniform, Unrelated, OpenShop, FlowShop, JobShop}
 use Rattle.msp_class.specs.Env.{kind_of, most_operations}
+use Rattle.msp_class.specs.declared.environments.TheConstants.{MOST_OPERATIONS}
 use Rattle.msp_class.specs.declared.class.Class.{Class}
 use Rattle.msp_class.specs.declared.class.Env.{Env}
 use Rattle.msp_class.specs.declared.class.Env.TheVariants.{J2Short, JShort}
 use Rattle.msp_class.specs.declared.class.Times.{Times}
-use Rattle.msp_class.specs.declared.class.Times.TheVariants.{General, Unit as UnitTimes}
 use Rattle.msp_instance.specs.declared.Need.{Need}
 use Rattle.msp_instance.specs.Instance.{no_need}
-use Rattle.msp_instance.specs.Conditions.{IsSingleNeed, IsNeedPerMachine, IsRoute, HasTimes, HasNeeds, HasUnitTimes}
+use Rattle.msp_instance.specs.Conditions.{IsSingleNeed, IsNeedPerMachine, IsRoute, HasShape, HasTimes, least_time}
+use Rattle.msp_instance.specs.declared.ranges.TheConstants.{GREATEST, MOST_MACHINES}
 use Rattle.msp_file.specs.declared.fault.What.TheVariants as what
 use Rattle.msp_file.specs.declared.fault.FileFault.{FileFault}
 use Rattle.msp_file.specs.declared.fault.FileFault.TheVariants.{Count, Limit}
-use Rattle.msp_file.specs.InstanceText.{line_text, where_wanted, has_times, has_time_key, has_one_time, has_machine_times, has_route, times_fields, operation_fields, route_fields}
-use Rattle.msp_file.specs.Reading.{Place, worded_at, natural_at, with_need, least_time, times_at, times_line_at, machine_at, timed_route_at, unit_route_at, operations_in, fields_in, operations_at, is_route_count, route_line_at, unwritten_needs, needs_at}
+use Rattle.msp_grammar.specs.Layout.{has_times, has_time_key, has_one_time, has_machine_times, has_route}
+use Rattle.msp_grammar.specs.InstanceText.{line_text, where_wanted, times_fields, operation_fields, route_fields}
+use Rattle.msp_file.specs.Reading.{Place, worded_at, natural_at, with_need, times_at, times_line_at, machine_at, timed_route_at, machine_route_at, operations_in, fields_in, operations_at, is_route_count, route_line_at, unwritten_needs, needs_at}
 use Rattle.msp_file.proofs.LineLaws.{bind_ok, provided_ok, ok_is, Takes, Gets, IsField, worded_takes, worded_again, reads, bind_again, provided_again}
-use Rattle.msp_file.proofs.FieldLaws.{IsKeyed, natural_takes, natural_again, natural_field}
-use Rattle.msp_file.proofs.KeyLaws.{limit, time_of}
+use Rattle.msp_file.proofs.FieldLaws.{natural_takes, natural_again, natural_field}
+use Rattle.msp_file.proofs.KeyLaws.{limit}
 
--- What is said of one operation: its machine is one of so many, its time is in range, its time is 1.
+-- What is said of one operation: its machine is one of so many, its time is in range, its time is this one.
 abbrev IsOn : ℕ → Need → Type 0
 IsOn machines n = n.machine < machines
 
 abbrev IsWithin : ℕ → Need → Type 0
-IsWithin least n = (least ≤ n.time) × (n.time ≤ 10 ^ 9)
+IsWithin least n = (least ≤ n.time) × (n.time ≤ GREATEST)
 
-abbrev IsUnit : Need → Type 0
-IsUnit n = n.time ≡ 1
+abbrev LastsFor : ℕ → Need → Type 0
+LastsFor time n = n.time ≡ time
+
+-- Where times are not written, every time is this one.
+abbrev pub HaveTime : Bool → ℕ → List Need → Type 0
+HaveTime true time needs = ⊤
+HaveTime false time needs = All (λ n. n.time ≡ time) needs
 
 abbrev need_of : ℕ → ℕ → Need
 need_of machine time = record { machine = machine; time = time }
@@ -51,16 +58,16 @@ pub times_takes : (at least : ℕ) (needs : List Need) (ws : List (List ℕ)) (a
 unfolding times_at
 times_takes at least needs [] after e = ([], sym (ok_is needs after e) ∙ sym (append-nil needs), refl)
 times_takes at least needs (w ∷ ws) after e =
-    let a = bind_ok (natural_at at what.Time least (10 ^ 9) w) _ after e in
+    let a = bind_ok (natural_at at what.Time least GREATEST w) _ after e in
     let next : Need = record { machine = length needs; time = a.0 } in
     let r = times_takes at least (needs ++ next ∷ []) ws after a.2 in
-    (next ∷ r.0, r.1 ∙ append_assoc needs (next ∷ []) r.0, two_parts (natural_takes at what.Time least (10 ^ 9) w a.0 limit a.1).0 r.2)
+    (next ∷ r.0, r.1 ∙ append_assoc needs (next ∷ []) r.0, two_parts (natural_takes at what.Time least GREATEST w a.0 limit a.1).0 r.2)
 
 -- The machines are numbered on from n.
 abbrev AreNumberedFrom : ℕ → List Need → Type 0
 AreNumberedFrom n needs = EachIndex needs (λ k. (slice_index_or needs k no_need).machine ≡ n + k)
 
-pub times_again : (at least : ℕ) (needs more : List Need) → AreNumberedFrom (length needs) more → HasTimes least (10 ^ 9) more → times_at at least needs (map (λ n. decimal n.time) more) ≡ Ok (needs ++ more)
+pub times_again : (at least : ℕ) (needs more : List Need) → AreNumberedFrom (length needs) more → HasTimes least GREATEST more → times_at at least needs (map (λ n. decimal n.time) more) ≡ Ok (needs ++ more)
 unfolding times_at
 times_again at least needs [] numbered h = ap Ok (sym (append-nil needs))
 times_again at least needs (n ∷ more) numbered h =
@@ -68,43 +75,43 @@ times_again at least needs (n ∷ more) numbered h =
     let here : n.machine ≡ length needs = omega (arith, numbered 0 (omega arith)) in
     let is : with_need needs (length needs) n.time ≡ needs ++ n ∷ [] = ap (λ q. with_need needs q n.time) (sym here) in
     let next : AreNumberedFrom (length (needs ++ n ∷ [])) more = λ k l. omega (arith, numbered (suc k) (omega arith), length_push needs n) in
-    bind_again _ _ _ _ (natural_again at what.Time least (10 ^ 9) n.time limit first.0 first.1) (
+    bind_again _ _ _ _ (natural_again at what.Time least GREATEST n.time limit first.0 first.1) (
     ap (λ xs. times_at at least xs (map (λ n. decimal n.time) more)) is
     ∙ times_again at least (needs ++ n ∷ []) more next (All-tail (IsWithin least) n more h)
     ∙ ap Ok (append_assoc needs (n ∷ []) more))
 
-pub times_line_takes : (k : EnvKind) (machines : ℕ) (p : Place) (x : List Need × Place) → times_line_at k machines p ≡ Ok x → Takes p (line_text (times_fields x.0)) x.1
+pub times_line_takes : (least machines : ℕ) (p : Place) (x : List Need × Place) → times_line_at least machines p ≡ Ok x → Takes p (line_text (times_fields x.0)) x.1
 unfolding times_line_at
-times_line_takes k machines p x e =
+times_line_takes least machines p x e =
     let a = bind_ok (worded_at (codes "times") p) _ x e in
     let g = provided_ok (length a.0.0 == machines) (Count p.at) _ x a.2 in
-    let b = bind_ok (times_at p.at (least_time k) [] a.0.0) _ x g.1 in
-    let t = times_takes p.at (least_time k) [] a.0.0 b.0 b.1 in
+    let b = bind_ok (times_at p.at least [] a.0.0) _ x g.1 in
+    let t = times_takes p.at least [] a.0.0 b.0 b.1 in
     let fields : codes "times" ∷ a.0.0 ≡ times_fields b.0 = ap (λ ws. codes "times" ∷ ws) (t.2 ∙ ap (λ ns. map (λ n. decimal n.time) ns) (sym t.1)) in
     subst (λ (y : List Need × Place). Takes p (line_text (times_fields y.0)) y.1) (ok_is (b.0, a.0.1) x b.2) (subst (λ fs. Takes p (line_text fs) a.0.1) fields (worded_takes (codes "times") p a.0 a.1))
 
-decimals_fields : {A : Type 0} (f : A → ℕ) (xs : List A) → All (λ x. f x ≤ 10 ^ 9) xs → AllByRecursion IsField (map (λ x. decimal (f x)) xs)
+decimals_fields : {A : Type 0} (f : A → ℕ) (xs : List A) → All (λ x. f x ≤ GREATEST) xs → AllByRecursion IsField (map (λ x. decimal (f x)) xs)
 decimals_fields f [] h = tt
-decimals_fields f (x ∷ xs) h = (natural_field (f x) (All-head (λ y. f y ≤ 10 ^ 9) x xs h), decimals_fields f xs (All-tail (λ y. f y ≤ 10 ^ 9) x xs h))
+decimals_fields f (x ∷ xs) h = (natural_field (f x) (All-head (λ y. f y ≤ GREATEST) x xs h), decimals_fields f xs (All-tail (λ y. f y ≤ GREATEST) x xs h))
 
 pub word_field : (letters : List ℕ) → list_any (λ x. x == 32) letters ≡ false → list_any (λ x. x == 10) letters ≡ false → IsField letters
 word_field letters s l = record { no_space = s; no_line_feed = l }
 
-pub times_line_again : (k : EnvKind) (machines at : ℕ) (needs : List Need) (rest : List ℕ) → IsNeedPerMachine machines needs → HasTimes (least_time k) (10 ^ 9) needs → Gets (times_line_at k machines (record { at = at; rest = line_text (times_fields needs) ++ rest })) needs rest
+pub times_line_again : (least machines at : ℕ) (needs : List Need) (rest : List ℕ) → IsNeedPerMachine machines needs → HasTimes least GREATEST needs → Gets (times_line_at least machines (record { at = at; rest = line_text (times_fields needs) ++ rest })) needs rest
 unfolding times_line_at
-times_line_again k machines at needs rest each h =
+times_line_again least machines at needs rest each h =
     let fields : AllByRecursion IsField (times_fields needs) = (word_field (codes "times") refl refl, decimals_fields (λ n. n.time) needs (λ q d l. (h q d l).1)) in
     let line = worded_again (codes "times") (map (λ n. decimal n.time) needs) at rest fields in
     let numbered : AreNumberedFrom 0 needs = λ q l. omega (arith, each.1 q l) in (
       line.0,
       bind_again _ _ _ _ line.1 (
           provided_again _ _ _ _ (eq-eqb _ _ (length-map needs (λ n. decimal n.time) ∙ each.0)) (
-          bind_again _ _ _ _ (times_again at (least_time k) [] needs numbered h) refl)),
+          bind_again _ _ _ _ (times_again at least [] needs numbered h) refl)),
     )
 
 -- ---- routes
 
-machine_takes : (at machines : ℕ) (w : List ℕ) (m : ℕ) → machines ≤ 32 → machine_at at machines w ≡ Ok m → w ≡ decimal (m + 1)
+machine_takes : (at machines : ℕ) (w : List ℕ) (m : ℕ) → machines ≤ MOST_MACHINES → machine_at at machines w ≡ Ok m → w ≡ decimal (m + 1)
 unfolding machine_at
 machine_takes at machines w m few e =
     let a = bind_ok (natural_at at what.Machines 1 machines w) _ m e in
@@ -112,233 +119,251 @@ machine_takes at machines w m few e =
     let is : a.0 ≡ m + 1 = omega (arith, ok_is (a.0 - 1) m a.2, t.1) in
     t.0 ∙ ap decimal is
 
-machine_again : (at machines m : ℕ) → machines ≤ 32 → m < machines → machine_at at machines (decimal (m + 1)) ≡ Ok m
+machine_again : (at machines m : ℕ) → machines ≤ MOST_MACHINES → m < machines → machine_at at machines (decimal (m + 1)) ≡ Ok m
 unfolding machine_at
 machine_again at machines m few h =
     let is : m + 1 - 1 ≡ m = omega arith in
     bind_again _ _ _ _ (natural_again at what.Machines 1 machines (m + 1) (omega arith) (omega arith) (omega arith)) (ap Ok is)
 
-timed_takes : (at machines : ℕ) (needs : List Need) (ws : List (List ℕ)) (after : List Need) → machines ≤ 32 → timed_route_at at machines needs ws ≡ Ok after → (more : List Need) × (after ≡ needs ++ more) × (ws ≡ flat_map (operation_fields General) more)
+timed_takes : (at machines : ℕ) (needs : List Need) (ws : List (List ℕ)) (after : List Need) → machines ≤ MOST_MACHINES → timed_route_at at machines needs ws ≡ Ok after → (more : List Need) × (after ≡ needs ++ more) × (ws ≡ flat_map (operation_fields true) more)
 unfolding timed_route_at
 timed_takes at machines needs [] after few e = ([], sym (ok_is needs after e) ∙ sym (append-nil needs), refl)
 timed_takes at machines needs (w ∷ []) after few e = absurd cc
 timed_takes at machines needs (w ∷ v ∷ ws) after few e =
     let a = bind_ok (machine_at at machines w) _ after e in
-    let b = bind_ok (natural_at at what.Time 1 (10 ^ 9) v) _ after a.2 in
+    let b = bind_ok (natural_at at what.Time 1 GREATEST v) _ after a.2 in
     let next : Need = record { machine = a.0; time = b.0 } in
     let r = timed_takes at machines (needs ++ next ∷ []) ws after few b.2 in
-    (next ∷ r.0, r.1 ∙ append_assoc needs (next ∷ []) r.0, two_parts (machine_takes at machines w a.0 few a.1) (two_parts (natural_takes at what.Time 1 (10 ^ 9) v b.0 limit b.1).0 r.2))
+    (next ∷ r.0, r.1 ∙ append_assoc needs (next ∷ []) r.0, two_parts (machine_takes at machines w a.0 few a.1) (two_parts (natural_takes at what.Time 1 GREATEST v b.0 limit b.1).0 r.2))
 
-timed_again : (at machines : ℕ) (needs more : List Need) → machines ≤ 32 → All (IsOn machines) more → HasTimes 1 (10 ^ 9) more → timed_route_at at machines needs (flat_map (operation_fields General) more) ≡ Ok (needs ++ more)
+timed_again : (at machines : ℕ) (needs more : List Need) → machines ≤ MOST_MACHINES → All (IsOn machines) more → HasTimes 1 GREATEST more → timed_route_at at machines needs (flat_map (operation_fields true) more) ≡ Ok (needs ++ more)
 unfolding timed_route_at
 timed_again at machines needs [] few below h = ap Ok (sym (append-nil needs))
 timed_again at machines needs (n ∷ more) few below h =
     let first = All-head (IsWithin 1) n more h in
     bind_again _ _ _ _ (machine_again at machines n.machine few (All-head (IsOn machines) n more below)) (
-    bind_again _ _ _ _ (natural_again at what.Time 1 (10 ^ 9) n.time limit first.0 first.1) (
+    bind_again _ _ _ _ (natural_again at what.Time 1 GREATEST n.time limit first.0 first.1) (
     timed_again at machines (needs ++ n ∷ []) more few (All-tail (IsOn machines) n more below) (All-tail (IsWithin 1) n more h)
     ∙ ap Ok (append_assoc needs (n ∷ []) more)))
 
-unit_takes : (at machines : ℕ) (needs : List Need) (ws : List (List ℕ)) (after : List Need) → machines ≤ 32 → unit_route_at at machines needs ws ≡ Ok after
-    → (more : List Need) × (after ≡ needs ++ more) × (ws ≡ flat_map (operation_fields UnitTimes) more) × All IsUnit more
-unfolding unit_route_at
-unit_takes at machines needs [] after few e = ([], sym (ok_is needs after e) ∙ sym (append-nil needs), refl, All-nil IsUnit)
-unit_takes at machines needs (w ∷ ws) after few e =
+same_takes : (at machines time : ℕ) (needs : List Need) (ws : List (List ℕ)) (after : List Need) → machines ≤ MOST_MACHINES → machine_route_at at machines time needs ws ≡ Ok after
+    → (more : List Need) × (after ≡ needs ++ more) × (ws ≡ flat_map (operation_fields false) more) × All (LastsFor time) more
+unfolding machine_route_at
+same_takes at machines time needs [] after few e = ([], sym (ok_is needs after e) ∙ sym (append-nil needs), refl, All-nil (LastsFor time))
+same_takes at machines time needs (w ∷ ws) after few e =
     let a = bind_ok (machine_at at machines w) _ after e in
-    let next : Need = record { machine = a.0; time = 1 } in
-    let r = unit_takes at machines (needs ++ next ∷ []) ws after few a.2 in
-    (next ∷ r.0, r.1 ∙ append_assoc needs (next ∷ []) r.0, two_parts (machine_takes at machines w a.0 few a.1) r.2, All-cons IsUnit next r.0 refl r.3)
+    let next : Need = record { machine = a.0; time = time } in
+    let r = same_takes at machines time (needs ++ next ∷ []) ws after few a.2 in
+    (next ∷ r.0, r.1 ∙ append_assoc needs (next ∷ []) r.0, two_parts (machine_takes at machines w a.0 few a.1) r.2, All-cons (LastsFor time) next r.0 refl r.3)
 
-unit_again : (at machines : ℕ) (needs more : List Need) → machines ≤ 32 → All (IsOn machines) more → All IsUnit more → unit_route_at at machines needs (flat_map (operation_fields UnitTimes) more) ≡ Ok (needs ++ more)
-unfolding unit_route_at
-unit_again at machines needs [] few below h = ap Ok (sym (append-nil needs))
-unit_again at machines needs (n ∷ more) few below h =
-    let is : with_need needs n.machine 1 ≡ needs ++ n ∷ [] = ap (λ t. with_need needs n.machine t) (sym (All-head IsUnit n more h)) in
+same_again : (at machines time : ℕ) (needs more : List Need) → machines ≤ MOST_MACHINES → All (IsOn machines) more → All (LastsFor time) more → machine_route_at at machines time needs (flat_map (operation_fields false) more) ≡ Ok (needs ++ more)
+unfolding machine_route_at
+same_again at machines time needs [] few below h = ap Ok (sym (append-nil needs))
+same_again at machines time needs (n ∷ more) few below h =
+    let is : with_need needs n.machine time ≡ needs ++ n ∷ [] = ap (λ t. with_need needs n.machine t) (sym (All-head (LastsFor time) n more h)) in
     bind_again _ _ _ _ (machine_again at machines n.machine few (All-head (IsOn machines) n more below)) (
-    ap (λ xs. unit_route_at at machines xs (flat_map (operation_fields UnitTimes) more)) is
-    ∙ unit_again at machines (needs ++ n ∷ []) more few (All-tail (IsOn machines) n more below) (All-tail IsUnit n more h)
+    ap (λ xs. machine_route_at at machines time xs (flat_map (operation_fields false) more)) is
+    ∙ same_again at machines time (needs ++ n ∷ []) more few (All-tail (IsOn machines) n more below) (All-tail (LastsFor time) n more h)
     ∙ ap Ok (append_assoc needs (n ∷ []) more))
 
-operations_takes : (t : Times) (at machines : ℕ) (ws : List (List ℕ)) (after : List Need) → machines ≤ 32 → operations_at t at machines ws ≡ Ok after → (ws ≡ flat_map (operation_fields t) after) × HasUnitTimes t after
-operations_takes General at machines ws after few e = let r = timed_takes at machines [] ws after few e in (r.2 ∙ ap (flat_map (operation_fields General)) (sym r.1), tt)
-operations_takes UnitTimes at machines ws after few e =
-    let r = unit_takes at machines [] ws after few e in
-    (r.2 ∙ ap (flat_map (operation_fields UnitTimes)) (sym r.1), subst (All IsUnit) (sym r.1) r.3)
+operations_takes : (timed : Bool) (at machines time : ℕ) (ws : List (List ℕ)) (after : List Need) → machines ≤ MOST_MACHINES → operations_at timed at machines time ws ≡ Ok after → (ws ≡ flat_map (operation_fields timed) after) × HaveTime timed time after
+operations_takes true at machines time ws after few e = let r = timed_takes at machines [] ws after few e in (r.2 ∙ ap (flat_map (operation_fields true)) (sym r.1), tt)
+operations_takes false at machines time ws after few e =
+    let r = same_takes at machines time [] ws after few e in
+    (r.2 ∙ ap (flat_map (operation_fields false)) (sym r.1), subst (All (LastsFor time)) (sym r.1) r.3)
 
-operations_again : (t : Times) (at machines : ℕ) (needs : List Need) → machines ≤ 32 → All (IsOn machines) needs → HasTimes 1 (10 ^ 9) needs → HasUnitTimes t needs → operations_at t at machines (flat_map (operation_fields t) needs) ≡ Ok needs
-operations_again General at machines needs few below h unit = timed_again at machines [] needs few below h
-operations_again UnitTimes at machines needs few below h unit = unit_again at machines [] needs few below unit
+-- The times that are written are in range.
+abbrev FitTimes : Bool → ℕ → List Need → Type 0
+FitTimes timed least needs = timed ≡ true → HasTimes least GREATEST needs
+
+operations_again : (timed : Bool) (at machines time : ℕ) (needs : List Need) → machines ≤ MOST_MACHINES → All (IsOn machines) needs → FitTimes timed 1 needs → HaveTime timed time needs → operations_at timed at machines time (flat_map (operation_fields timed) needs) ≡ Ok needs
+operations_again true at machines time needs few below h same = timed_again at machines [] needs few below (h refl)
+operations_again false at machines time needs few below h same = same_again at machines time [] needs few below same
 
 -- The fields of a route are counted as its operations.
-length-operations : (t : Times) (needs : List Need) → length (flat_map (operation_fields t) needs) ≡ fields_in t (length needs)
-length-operations General [] = refl
-length-operations General (n ∷ needs) = let r = length-operations General needs in omega (arith, r)
-length-operations UnitTimes [] = refl
-length-operations UnitTimes (n ∷ needs) = ap suc (length-operations UnitTimes needs)
+length-operations : (timed : Bool) (needs : List Need) → length (flat_map (operation_fields timed) needs) ≡ fields_in timed (length needs)
+length-operations true [] = refl
+length-operations true (n ∷ needs) = let r = length-operations true needs in omega (arith, r)
+length-operations false [] = refl
+length-operations false (n ∷ needs) = ap suc (length-operations false needs)
 
-operations_counted : (t : Times) (n : ℕ) → operations_in t (fields_in t n) ≡ n
-operations_counted General n = omega arith
-operations_counted UnitTimes n = refl
+operations_counted : (timed : Bool) (n : ℕ) → operations_in timed (fields_in timed n) ≡ n
+operations_counted true n = omega arith
+operations_counted false n = refl
 
-few_operations : (e : Env) → most_operations e ≤ 32
+few_operations : (e : Env) → most_operations e ≤ MOST_OPERATIONS
 few_operations J2Short = omega arith
 few_operations JShort = omega arith
 few_operations _ = omega arith
 
-operations_fields : (t : Times) (machines : ℕ) (needs : List Need) → machines ≤ 32 → All (IsOn machines) needs → HasTimes 1 (10 ^ 9) needs → AllByRecursion IsField (flat_map (operation_fields t) needs)
-operations_fields General machines [] few below h = tt
-operations_fields General machines (n ∷ needs) few below h =
+timed_fields : (machines : ℕ) (needs : List Need) → machines ≤ MOST_MACHINES → All (IsOn machines) needs → HasTimes 1 GREATEST needs → AllByRecursion IsField (flat_map (operation_fields true) needs)
+timed_fields machines [] few below h = tt
+timed_fields machines (n ∷ needs) few below h =
     let here : n.machine < machines = All-head (IsOn machines) n needs below in
-    (natural_field (n.machine + 1) (omega arith), (natural_field n.time (All-head (IsWithin 1) n needs h).1, operations_fields General machines needs few (All-tail (IsOn machines) n needs below) (All-tail (IsWithin 1) n needs h)))
-operations_fields UnitTimes machines [] few below h = tt
-operations_fields UnitTimes machines (n ∷ needs) few below h =
-    let here : n.machine < machines = All-head (IsOn machines) n needs below in
-    (natural_field (n.machine + 1) (omega arith), operations_fields UnitTimes machines needs few (All-tail (IsOn machines) n needs below) (All-tail (IsWithin 1) n needs h))
+    (natural_field (n.machine + 1) (omega arith), (natural_field n.time (All-head (IsWithin 1) n needs h).1, timed_fields machines needs few (All-tail (IsOn machines) n needs below) (All-tail (IsWithin 1) n needs h)))
 
-pub route_line_takes : (c : Class) (machines : ℕ) (p : Place) (x : List Need × Place) → machines ≤ 32 → route_line_at c machines p ≡ Ok x → Takes p (line_text (route_fields c.times x.0)) x.1 × HasUnitTimes c.times x.0
+machine_fields : (machines : ℕ) (needs : List Need) → machines ≤ MOST_MACHINES → All (IsOn machines) needs → AllByRecursion IsField (flat_map (operation_fields false) needs)
+machine_fields machines [] few below = tt
+machine_fields machines (n ∷ needs) few below =
+    let here : n.machine < machines = All-head (IsOn machines) n needs below in
+    (natural_field (n.machine + 1) (omega arith), machine_fields machines needs few (All-tail (IsOn machines) n needs below))
+
+operations_fields : (timed : Bool) (machines : ℕ) (needs : List Need) → machines ≤ MOST_MACHINES → All (IsOn machines) needs → FitTimes timed 1 needs → AllByRecursion IsField (flat_map (operation_fields timed) needs)
+operations_fields true machines needs few below h = timed_fields machines needs few below (h refl)
+operations_fields false machines needs few below h = machine_fields machines needs few below
+
+route_line_takes : (timed : Bool) (most machines time : ℕ) (p : Place) (x : List Need × Place) → machines ≤ MOST_MACHINES → route_line_at timed most machines time p ≡ Ok x → Takes p (line_text (route_fields timed x.0)) x.1 × HaveTime timed time x.0
 unfolding route_line_at
-route_line_takes c machines p x few e =
+route_line_takes timed most machines time p x few e =
     let a = bind_ok (worded_at (codes "route") p) _ x e in
-    let f = provided_ok (nat_le (operations_in c.times (length a.0.0)) 32) (Limit p.at what.Route) _ x a.2 in
-    let g = provided_ok (is_route_count c.times (most_operations c.env) (length a.0.0)) (Count p.at) _ x f.1 in
-    let b = bind_ok (operations_at c.times p.at machines a.0.0) _ x g.1 in
-    let t = operations_takes c.times p.at machines a.0.0 b.0 few b.1 in
-    subst (λ (y : List Need × Place). Takes p (line_text (route_fields c.times y.0)) y.1 × HasUnitTimes c.times y.0) (ok_is (b.0, a.0.1) x b.2) (subst (λ ws. Takes p (line_text (codes "route" ∷ ws)) a.0.1) t.0 (worded_takes (codes "route") p a.0 a.1), t.1)
+    let f = provided_ok (nat_le (operations_in timed (length a.0.0)) MOST_OPERATIONS) (Limit p.at what.Route) _ x a.2 in
+    let g = provided_ok (is_route_count timed most (length a.0.0)) (Count p.at) _ x f.1 in
+    let b = bind_ok (operations_at timed p.at machines time a.0.0) _ x g.1 in
+    let t = operations_takes timed p.at machines time a.0.0 b.0 few b.1 in
+    subst (λ (y : List Need × Place). Takes p (line_text (route_fields timed y.0)) y.1 × HaveTime timed time y.0) (ok_is (b.0, a.0.1) x b.2) (subst (λ ws. Takes p (line_text (codes "route" ∷ ws)) a.0.1) t.0 (worded_takes (codes "route") p a.0 a.1), t.1)
 
-route_counted : (t : Times) (most n m : ℕ) → m ≡ fields_in t n → 1 ≤ n → n ≤ most → is_route_count t most m ≡ true
-route_counted t most n m e some few = along (operations_in t m) (fields_in t (operations_in t m)) (ap (operations_in t) e ∙ operations_counted t n) (ap (fields_in t) (ap (operations_in t) e ∙ operations_counted t n))
+route_counted : (timed : Bool) (most n m : ℕ) → m ≡ fields_in timed n → 1 ≤ n → n ≤ most → is_route_count timed most m ≡ true
+route_counted timed most n m e some few = along (operations_in timed m) (fields_in timed (operations_in timed m)) (ap (operations_in timed) e ∙ operations_counted timed n) (ap (fields_in timed) (ap (operations_in timed) e ∙ operations_counted timed n))
   where
-    along : (o f : ℕ) → o ≡ n → f ≡ fields_in t n → (nat_le 1 o && nat_le o most && (m == f)) ≡ true
+    along : (o f : ℕ) → o ≡ n → f ≡ fields_in timed n → (nat_le 1 o && nat_le o most && (m == f)) ≡ true
     along o f is same =
         let low : nat_le 1 o ≡ true = le-leb _ _ (omega arith) in
         let high : nat_le o most ≡ true = le-leb _ _ (omega arith) in
         let all : (m == f) ≡ true = eq-eqb _ _ (e ∙ sym same) in
         rw (low, high, all) refl
 
-pub route_line_again : (c : Class) (machines at : ℕ) (needs : List Need) (rest : List ℕ) → machines ≤ 32 → IsRoute (most_operations c.env) machines needs → HasTimes 1 (10 ^ 9) needs → HasUnitTimes c.times needs
-    → Gets (route_line_at c machines (record { at = at; rest = line_text (route_fields c.times needs) ++ rest })) needs rest
+route_line_again : (timed : Bool) (most machines time at : ℕ) (needs : List Need) (rest : List ℕ) → machines ≤ MOST_MACHINES → most ≤ MOST_OPERATIONS → IsRoute most machines needs → FitTimes timed 1 needs → HaveTime timed time needs
+    → Gets (route_line_at timed most machines time (record { at = at; rest = line_text (route_fields timed needs) ++ rest })) needs rest
 unfolding route_line_at
-route_line_again c machines at needs rest few route h unit =
-    let fields : AllByRecursion IsField (route_fields c.times needs) = (word_field (codes "route") refl refl, operations_fields c.times machines needs few route.machines h) in
-    let line = worded_again (codes "route") (flat_map (operation_fields c.times) needs) at rest fields in
-    let counted = length-operations c.times needs in
-    let short : operations_in c.times (length (flat_map (operation_fields c.times) needs)) ≤ 32 = omega (arith, ap (operations_in c.times) counted ∙ operations_counted c.times (length needs), route.few, few_operations c.env) in (
+route_line_again timed most machines time at needs rest few short_most route h same =
+    let fields : AllByRecursion IsField (route_fields timed needs) = (word_field (codes "route") refl refl, operations_fields timed machines needs few route.machines h) in
+    let line = worded_again (codes "route") (flat_map (operation_fields timed) needs) at rest fields in
+    let counted = length-operations timed needs in
+    let short : operations_in timed (length (flat_map (operation_fields timed) needs)) ≤ MOST_OPERATIONS = omega (arith, ap (operations_in timed) counted ∙ operations_counted timed (length needs), route.few, short_most) in (
       line.0,
       bind_again _ _ _ _ line.1 (
           provided_again _ _ _ _ (le-leb _ _ short) (
-          provided_again _ _ _ _ (route_counted c.times (most_operations c.env) (length needs) _ counted route.some route.few) (
-          bind_again _ _ _ _ (operations_again c.times at machines needs few route.machines h unit) refl))),
+          provided_again _ _ _ _ (route_counted timed most (length needs) _ counted route.some route.few) (
+          bind_again _ _ _ _ (operations_again timed at machines time needs few route.machines h same) refl))),
     )
 
 -- ---- all operations
 
--- The lines of the operations, in a class of these times on machines of this kind.
-abbrev pub needs_text : Times → EnvKind → List Need → List ℕ
-needs_text t k needs = where_wanted (has_times t && has_machine_times k) (line_text (times_fields needs)) ++ where_wanted (has_route k) (line_text (route_fields t needs))
+-- The lines of the operations, where times are written and where they are not, on machines of this kind.
+abbrev pub needs_text : Bool → EnvKind → List Need → List ℕ
+needs_text timed k needs = where_wanted (timed && has_machine_times k) (line_text (times_fields needs)) ++ where_wanted (has_route k) (line_text (route_fields timed needs))
 
 -- The reading of them.
-abbrev needs_by : Class → Times → EnvKind → ℕ → ℕ → Place → Result (List Need × Place) FileFault
-needs_by c t k machines time p =
-    if has_times t && has_machine_times k
-    then times_line_at k machines p
-    else (if has_route k then route_line_at c machines p else Ok (unwritten_needs k machines time, p))
+abbrev needs_by : Bool → EnvKind → ℕ → ℕ → ℕ → ℕ → Place → Result (List Need × Place) FileFault
+needs_by timed k least most machines time p =
+    if timed && has_machine_times k
+    then times_line_at least machines p
+    else (if has_route k then route_line_at timed most machines time p else Ok (unwritten_needs k machines time, p))
 
 -- What reading alone says of the operations.
-pub record AreReadNeeds (t : Times) (k : EnvKind) (time : ℕ) (p : Place) (needs : List Need) (q : Place) : Type 0 where
-  pub text : Takes p (needs_text t k needs) q
-  pub times : HasUnitTimes t needs
-  pub keyed : (has_times t && has_one_time k) ≡ true → (slice_index_or needs 0 no_need).time ≡ time
+pub record AreReadNeeds (timed : Bool) (k : EnvKind) (time : ℕ) (p : Place) (needs : List Need) (q : Place) : Type 0 where
+  pub text : Takes p (needs_text timed k needs) q
+  pub times : HaveTime timed time needs
+  pub keyed : (timed && has_one_time k) ≡ true → (slice_index_or needs 0 no_need).time ≡ time
 
 -- what a line with a text reads, and what no line writes
-by_text : (t : Times) (k : EnvKind) (time : ℕ) (p : Place) (x : List Need × Place) (text : List ℕ) → needs_text t k x.0 ≡ text → Takes p text x.1 → HasUnitTimes t x.0
-    → ((has_times t && has_one_time k) ≡ true → (slice_index_or x.0 0 no_need).time ≡ time) → AreReadNeeds t k time p x.0 x.1
-by_text t k time p x text e h unit keyed = record { text = subst (λ w. Takes p w x.1) (sym e) h; times = unit; keyed = keyed }
+by_text : (timed : Bool) (k : EnvKind) (time : ℕ) (p : Place) (x : List Need × Place) (text : List ℕ) → needs_text timed k x.0 ≡ text → Takes p text x.1 → HaveTime timed time x.0
+    → ((timed && has_one_time k) ≡ true → (slice_index_or x.0 0 no_need).time ≡ time) → AreReadNeeds timed k time p x.0 x.1
+by_text timed k time p x text e h same keyed = record { text = subst (λ w. Takes p w x.1) (sym e) h; times = same; keyed = keyed }
 
-by_none : (t : Times) (k : EnvKind) (time : ℕ) (p : Place) (needs : List Need) (x : List Need × Place) → needs_text t k needs ≡ [] → HasUnitTimes t needs
-    → ((has_times t && has_one_time k) ≡ true → (slice_index_or needs 0 no_need).time ≡ time) → reads (needs, p) ≡ Ok x → AreReadNeeds t k time p x.0 x.1
-by_none t k time p needs x e unit keyed h = subst (λ (y : List Need × Place). AreReadNeeds t k time p y.0 y.1) (ok_is (needs, p) x h) (by_text t k time p (needs, p) [] e refl unit keyed)
+by_none : (timed : Bool) (k : EnvKind) (time : ℕ) (p : Place) (needs : List Need) (x : List Need × Place) → needs_text timed k needs ≡ [] → HaveTime timed time needs
+    → ((timed && has_one_time k) ≡ true → (slice_index_or needs 0 no_need).time ≡ time) → reads (needs, p) ≡ Ok x → AreReadNeeds timed k time p x.0 x.1
+by_none timed k time p needs x e same keyed h = subst (λ (y : List Need × Place). AreReadNeeds timed k time p y.0 y.1) (ok_is (needs, p) x h) (by_text timed k time p (needs, p) [] e refl same keyed)
 
-by_times : (k : EnvKind) (machines time : ℕ) (p : Place) (x : List Need × Place) → needs_text General k x.0 ≡ line_text (times_fields x.0) → (has_one_time k ≡ true → ⊥) → times_line_at k machines p ≡ Ok x → AreReadNeeds General k time p x.0 x.1
-by_times k machines time p x e many h = by_text General k time p x (line_text (times_fields x.0)) e (times_line_takes k machines p x h) tt (λ one. absurd (many one))
+by_times : (k : EnvKind) (least machines time : ℕ) (p : Place) (x : List Need × Place) → needs_text true k x.0 ≡ line_text (times_fields x.0) → (has_one_time k ≡ true → ⊥) → times_line_at least machines p ≡ Ok x → AreReadNeeds true k time p x.0 x.1
+by_times k least machines time p x e many h = by_text true k time p x (line_text (times_fields x.0)) e (times_line_takes least machines p x h) tt (λ one. absurd (many one))
 
-by_route : (c : Class) (t : Times) (machines time : ℕ) (p : Place) (x : List Need × Place) → machines ≤ 32 → c.times ≡ t → needs_text t JobShop x.0 ≡ line_text (route_fields t x.0) → ((has_times t && false) ≡ true → ⊥) → route_line_at c machines p ≡ Ok x → AreReadNeeds t JobShop time p x.0 x.1
-by_route c t machines time p x few same e many h =
-    let r = subst (λ u. Takes p (line_text (route_fields u x.0)) x.1 × HasUnitTimes u x.0) same (route_line_takes c machines p x few h) in
-    by_text t JobShop time p x (line_text (route_fields t x.0)) e r.0 r.1 (λ one. absurd (many one))
+by_route : (timed : Bool) (most machines time : ℕ) (p : Place) (x : List Need × Place) → machines ≤ MOST_MACHINES → needs_text timed JobShop x.0 ≡ line_text (route_fields timed x.0) → ((timed && false) ≡ true → ⊥) → route_line_at timed most machines time p ≡ Ok x → AreReadNeeds timed JobShop time p x.0 x.1
+by_route timed most machines time p x few e many h =
+    let r = route_line_takes timed most machines time p x few h in
+    by_text timed JobShop time p x (line_text (route_fields timed x.0)) e r.0 r.1 (λ one. absurd (many one))
 
--- one operation of time 1 on each machine
-abbrev unit_on : ℕ → Need
-unit_on q = record { machine = q; time = 1 }
+-- one operation on each machine, all with this time
+abbrev same_on : ℕ → ℕ → Need
+same_on time q = record { machine = q; time = time }
 
-abbrev units : ℕ → List Need
-units machines = map unit_on (range_with_len 0 machines)
+abbrev sames : ℕ → ℕ → List Need
+sames time machines = map (same_on time) (range_with_len 0 machines)
 
-units_take : (machines : ℕ) → All IsUnit (units machines)
-units_take machines = All-map IsUnit unit_on (range_with_len 0 machines) (λ k d l. refl)
+sames_take : (time machines : ℕ) → All (LastsFor time) (sames time machines)
+sames_take time machines = All-map (LastsFor time) (same_on time) (range_with_len 0 machines) (λ k d l. refl)
 
-units_are : (machines : ℕ) (needs : List Need) → IsNeedPerMachine machines needs → All IsUnit needs → units machines ≡ needs
-units_are machines needs each unit =
-    let long = length-map-range_with_len unit_on 0 machines in
-    ext_get_or no_need (units machines) needs (long ∙ sym each.0) (λ k l. get_or-map-range_with_len unit_on 0 machines k k no_need (omega (arith, long)) (omega arith) ∙ same k (omega (arith, long, each.0)))
+sames_are : (time machines : ℕ) (needs : List Need) → IsNeedPerMachine machines needs → All (LastsFor time) needs → sames time machines ≡ needs
+sames_are time machines needs each last =
+    let long = length-map-range_with_len (same_on time) 0 machines in
+    ext_get_or no_need (sames time machines) needs (long ∙ sym each.0) (λ k l. get_or-map-range_with_len (same_on time) 0 machines k k no_need (omega (arith, long)) (omega arith) ∙ same k (omega (arith, long, each.0)))
   where
-    same : (k : ℕ) → k < length needs → unit_on k ≡ get_or needs k no_need
-    same k l = need_is (get_or needs k no_need) k 1 (each.1 k l) (unit k no_need l)
+    same : (k : ℕ) → k < length needs → same_on time k ≡ get_or needs k no_need
+    same k l = need_is (get_or needs k no_need) k time (each.1 k l) (last k no_need l)
 
-needs_by_takes : (c : Class) (t : Times) (k : EnvKind) (machines time : ℕ) (p : Place) (x : List Need × Place) → machines ≤ 32 → c.times ≡ t → IsKeyed (has_times t && has_one_time k) 1 (10 ^ 9) time → needs_by c t k machines time p ≡ Ok x → AreReadNeeds t k time p x.0 x.1
-needs_by_takes c General Identical machines time p x few same h e = by_none General Identical time p (with_need [] 0 time) x refl tt (λ k. refl) e
-needs_by_takes c General Uniform machines time p x few same h e = by_none General Uniform time p (with_need [] 0 time) x refl tt (λ k. refl) e
-needs_by_takes c General Unrelated machines time p x few same h e = by_times Unrelated machines time p x (append-nil _) (λ k. absurd cc) e
-needs_by_takes c General OpenShop machines time p x few same h e = by_times OpenShop machines time p x (append-nil _) (λ k. absurd cc) e
-needs_by_takes c General FlowShop machines time p x few same h e = by_times FlowShop machines time p x (append-nil _) (λ k. absurd cc) e
-needs_by_takes c General JobShop machines time p x few same h e = by_route c General machines time p x few same refl (λ k. absurd cc) e
-needs_by_takes c UnitTimes Identical machines time p x few same h e = by_none UnitTimes Identical time p (with_need [] 0 time) x refl (All-cons IsUnit _ [] h (All-nil IsUnit)) (λ k. refl) e
-needs_by_takes c UnitTimes Uniform machines time p x few same h e = by_none UnitTimes Uniform time p (with_need [] 0 time) x refl (All-cons IsUnit _ [] h (All-nil IsUnit)) (λ k. refl) e
-needs_by_takes c UnitTimes Unrelated machines time p x few same h e = by_none UnitTimes Unrelated time p (units machines) x refl (units_take machines) (λ k. absurd cc) e
-needs_by_takes c UnitTimes OpenShop machines time p x few same h e = by_none UnitTimes OpenShop time p (units machines) x refl (units_take machines) (λ k. absurd cc) e
-needs_by_takes c UnitTimes FlowShop machines time p x few same h e = by_none UnitTimes FlowShop time p (units machines) x refl (units_take machines) (λ k. absurd cc) e
-needs_by_takes c UnitTimes JobShop machines time p x few same h e = by_route c UnitTimes machines time p x few same refl (λ k. absurd cc) e
+-- a single operation with this time
+single_takes : (time : ℕ) → All (LastsFor time) (with_need [] 0 time)
+single_takes time = All-cons (LastsFor time) _ [] refl (All-nil (LastsFor time))
 
-pub needs_takes : (c : Class) (machines time : ℕ) (p : Place) (x : List Need × Place) → machines ≤ 32 → IsKeyed (has_time_key c) 1 (10 ^ 9) time → needs_at c machines time p ≡ Ok x → AreReadNeeds c.times (kind_of c.env) time p x.0 x.1
+needs_by_takes : (timed : Bool) (k : EnvKind) (least most machines time : ℕ) (p : Place) (x : List Need × Place) → machines ≤ MOST_MACHINES → needs_by timed k least most machines time p ≡ Ok x → AreReadNeeds timed k time p x.0 x.1
+needs_by_takes true Identical least most machines time p x few e = by_none true Identical time p (with_need [] 0 time) x refl tt (λ k. refl) e
+needs_by_takes true Uniform least most machines time p x few e = by_none true Uniform time p (with_need [] 0 time) x refl tt (λ k. refl) e
+needs_by_takes true Unrelated least most machines time p x few e = by_times Unrelated least machines time p x (append-nil _) (λ k. absurd cc) e
+needs_by_takes true OpenShop least most machines time p x few e = by_times OpenShop least machines time p x (append-nil _) (λ k. absurd cc) e
+needs_by_takes true FlowShop least most machines time p x few e = by_times FlowShop least machines time p x (append-nil _) (λ k. absurd cc) e
+needs_by_takes true JobShop least most machines time p x few e = by_route true most machines time p x few refl (λ k. absurd cc) e
+needs_by_takes false Identical least most machines time p x few e = by_none false Identical time p (with_need [] 0 time) x refl (single_takes time) (λ k. refl) e
+needs_by_takes false Uniform least most machines time p x few e = by_none false Uniform time p (with_need [] 0 time) x refl (single_takes time) (λ k. refl) e
+needs_by_takes false Unrelated least most machines time p x few e = by_none false Unrelated time p (sames time machines) x refl (sames_take time machines) (λ k. absurd cc) e
+needs_by_takes false OpenShop least most machines time p x few e = by_none false OpenShop time p (sames time machines) x refl (sames_take time machines) (λ k. absurd cc) e
+needs_by_takes false FlowShop least most machines time p x few e = by_none false FlowShop time p (sames time machines) x refl (sames_take time machines) (λ k. absurd cc) e
+needs_by_takes false JobShop least most machines time p x few e = by_route false most machines time p x few refl (λ k. absurd cc) e
+
+pub needs_takes : (c : Class) (machines time : ℕ) (p : Place) (x : List Need × Place) → machines ≤ MOST_MACHINES → needs_at c machines time p ≡ Ok x → AreReadNeeds (has_times c.times) (kind_of c.env) time p x.0 x.1
 unfolding needs_at
-needs_takes c machines time p x few h e = needs_by_takes c c.times (kind_of c.env) machines time p x few refl h e
+needs_takes c machines time p x few e = needs_by_takes (has_times c.times) (kind_of c.env) (least_time (kind_of c.env) c.times) (most_operations c.env) machines time p x few e
 
 -- the one operation of a job, which no line writes
-one_again : (time at : ℕ) (needs : List Need) (rest : List ℕ) → IsSingleNeed needs → ((n : Need) → needs ≡ n ∷ [] → time ≡ n.time) → Gets (reads (with_need [] 0 time, record { at = at; rest = rest })) needs rest
+one_again : (time at : ℕ) (needs : List Need) (rest : List ℕ) → IsSingleNeed needs → time ≡ (slice_index_or needs 0 no_need).time → Gets (reads (with_need [] 0 time, record { at = at; rest = rest })) needs rest
 one_again time at [] rest single e = absurd (omega (arith, single.0))
 one_again time at (n ∷ []) rest single e =
     let here : n.machine ≡ 0 = single.1 0 n (omega arith) in
-    let same : with_need [] 0 time ≡ n ∷ [] = ap (λ m. m ∷ []) (need_is n 0 time here (sym (e n refl))) in
+    let same : with_need [] 0 time ≡ n ∷ [] = ap (λ m. m ∷ []) (need_is n 0 time here (sym e)) in
     (at, ap (λ xs. reads (xs, record { at = at; rest = rest })) same)
 one_again time at (n ∷ m ∷ more) rest single e = absurd (omega (arith, single.0))
+
+-- the first of operations that all have this time
+first_of_same : (time : ℕ) (needs : List Need) → IsSingleNeed needs → All (LastsFor time) needs → time ≡ (slice_index_or needs 0 no_need).time
+first_of_same time needs single last = sym (last 0 no_need (omega (arith, single.0)))
 
 -- a place of which the text is known otherwise
 moved : {A : Type 0} (read : Place → Result (A × Place) FileFault) (at : ℕ) (x : A) (a b rest : List ℕ) → a ≡ b → Gets (read (record { at = at; rest = b ++ rest })) x rest → Gets (read (record { at = at; rest = a ++ rest })) x rest
 moved read at x a b rest e h = rw e h
 
-times_by_again : (k : EnvKind) (machines at : ℕ) (needs : List Need) (rest : List ℕ) → needs_text General k needs ≡ line_text (times_fields needs) → IsNeedPerMachine machines needs → HasTimes (least_time k) (10 ^ 9) needs → Gets (times_line_at k machines (record { at = at; rest = needs_text General k needs ++ rest })) needs rest
-times_by_again k machines at needs rest e each h = moved (times_line_at k machines) at needs _ _ rest e (times_line_again k machines at needs rest each h)
+times_by_again : (k : EnvKind) (least machines at : ℕ) (needs : List Need) (rest : List ℕ) → needs_text true k needs ≡ line_text (times_fields needs) → IsNeedPerMachine machines needs → HasTimes least GREATEST needs → Gets (times_line_at least machines (record { at = at; rest = needs_text true k needs ++ rest })) needs rest
+times_by_again k least machines at needs rest e each h = moved (times_line_at least machines) at needs _ _ rest e (times_line_again least machines at needs rest each h)
 
-route_by_again : (c : Class) (t : Times) (machines at : ℕ) (needs : List Need) (rest : List ℕ) → machines ≤ 32 → c.times ≡ t → needs_text t JobShop needs ≡ line_text (route_fields t needs) → IsRoute (most_operations c.env) machines needs → HasTimes 1 (10 ^ 9) needs → HasUnitTimes t needs
-    → Gets (route_line_at c machines (record { at = at; rest = needs_text t JobShop needs ++ rest })) needs rest
-route_by_again c t machines at needs rest few same e route h unit =
-    moved (route_line_at c machines) at needs _ _ rest (e ∙ ap (λ u. line_text (route_fields u needs)) (sym same)) (route_line_again c machines at needs rest few route h (subst (λ u. HasUnitTimes u needs) (sym same) unit))
+each_again : (time machines at : ℕ) (needs : List Need) (rest : List ℕ) → IsNeedPerMachine machines needs → All (LastsFor time) needs → Gets (reads (sames time machines, record { at = at; rest = rest })) needs rest
+each_again time machines at needs rest each last = (at, ap (λ xs. reads (xs, record { at = at; rest = rest })) (sames_are time machines needs each last))
 
-needs_by_again : (c : Class) (t : Times) (k : EnvKind) (machines at : ℕ) (needs : List Need) (rest : List ℕ) → machines ≤ 32 → c.times ≡ t → HasNeeds k c.env machines (10 ^ 9) needs → HasUnitTimes t needs
-    → Gets (needs_by c t k machines (time_of (has_times t && has_one_time k) needs) (record { at = at; rest = needs_text t k needs ++ rest })) needs rest
-needs_by_again c General Identical machines at needs rest few same h unit = one_again _ at needs rest h.0 (λ n e. ap (λ ns. (slice_index_or ns 0 no_need).time) e)
-needs_by_again c General Uniform machines at needs rest few same h unit = one_again _ at needs rest h.0 (λ n e. ap (λ ns. (slice_index_or ns 0 no_need).time) e)
-needs_by_again c General Unrelated machines at needs rest few same h unit = times_by_again Unrelated machines at needs rest (append-nil _) h.0 h.1
-needs_by_again c General OpenShop machines at needs rest few same h unit = times_by_again OpenShop machines at needs rest (append-nil _) h.0 h.1
-needs_by_again c General FlowShop machines at needs rest few same h unit = times_by_again FlowShop machines at needs rest (append-nil _) h.0 h.1
-needs_by_again c General JobShop machines at needs rest few same h unit = route_by_again c General machines at needs rest few same refl h.0 h.1 unit
-needs_by_again c UnitTimes Identical machines at needs rest few same h unit = one_again 1 at needs rest h.0 (λ n e. sym (All-head IsUnit n [] (subst (All IsUnit) e unit)))
-needs_by_again c UnitTimes Uniform machines at needs rest few same h unit = one_again 1 at needs rest h.0 (λ n e. sym (All-head IsUnit n [] (subst (All IsUnit) e unit)))
-needs_by_again c UnitTimes Unrelated machines at needs rest few same h unit = (at, ap (λ xs. reads (xs, record { at = at; rest = rest })) (units_are machines needs h.0 unit))
-needs_by_again c UnitTimes OpenShop machines at needs rest few same h unit = (at, ap (λ xs. reads (xs, record { at = at; rest = rest })) (units_are machines needs h.0 unit))
-needs_by_again c UnitTimes FlowShop machines at needs rest few same h unit = (at, ap (λ xs. reads (xs, record { at = at; rest = rest })) (units_are machines needs h.0 unit))
-needs_by_again c UnitTimes JobShop machines at needs rest few same h unit = route_by_again c UnitTimes machines at needs rest few same refl h.0 h.1 unit
+needs_by_again : (timed : Bool) (k : EnvKind) (e : Env) (t : Times) (machines time at : ℕ) (needs : List Need) (rest : List ℕ) → machines ≤ MOST_MACHINES → HasShape k e machines needs → FitTimes timed (least_time k t) needs → HaveTime timed time needs
+    → ((timed && has_one_time k) ≡ true → time ≡ (slice_index_or needs 0 no_need).time)
+    → Gets (needs_by timed k (least_time k t) (most_operations e) machines time (record { at = at; rest = needs_text timed k needs ++ rest })) needs rest
+needs_by_again true Identical e t machines time at needs rest few shape fit same first = one_again time at needs rest shape (first refl)
+needs_by_again true Uniform e t machines time at needs rest few shape fit same first = one_again time at needs rest shape (first refl)
+needs_by_again true Unrelated e t machines time at needs rest few shape fit same first = times_by_again Unrelated _ machines at needs rest (append-nil _) shape (fit refl)
+needs_by_again true OpenShop e t machines time at needs rest few shape fit same first = times_by_again OpenShop _ machines at needs rest (append-nil _) shape (fit refl)
+needs_by_again true FlowShop e t machines time at needs rest few shape fit same first = times_by_again FlowShop _ machines at needs rest (append-nil _) shape (fit refl)
+needs_by_again true JobShop e t machines time at needs rest few shape fit same first = route_line_again true (most_operations e) machines time at needs rest few (few_operations e) shape fit same
+needs_by_again false Identical e t machines time at needs rest few shape fit same first = one_again time at needs rest shape (first_of_same time needs shape same)
+needs_by_again false Uniform e t machines time at needs rest few shape fit same first = one_again time at needs rest shape (first_of_same time needs shape same)
+needs_by_again false Unrelated e t machines time at needs rest few shape fit same first = each_again time machines at needs rest shape same
+needs_by_again false OpenShop e t machines time at needs rest few shape fit same first = each_again time machines at needs rest shape same
+needs_by_again false FlowShop e t machines time at needs rest few shape fit same first = each_again time machines at needs rest shape same
+needs_by_again false JobShop e t machines time at needs rest few shape fit same first = route_line_again false (most_operations e) machines time at needs rest few (few_operations e) shape fit same
 
-pub needs_again : (c : Class) (machines at : ℕ) (needs : List Need) (rest : List ℕ) → machines ≤ 32 → HasNeeds (kind_of c.env) c.env machines (10 ^ 9) needs → HasUnitTimes c.times needs
-    → Gets (needs_at c machines (time_of (has_time_key c) needs) (record { at = at; rest = needs_text c.times (kind_of c.env) needs ++ rest })) needs rest
+pub needs_again : (c : Class) (machines time at : ℕ) (needs : List Need) (rest : List ℕ) → machines ≤ MOST_MACHINES → HasShape (kind_of c.env) c.env machines needs → (has_times c.times ≡ true → HasTimes (least_time (kind_of c.env) c.times) GREATEST needs) → HaveTime (has_times c.times) time needs
+    → (has_time_key c ≡ true → time ≡ (slice_index_or needs 0 no_need).time)
+    → Gets (needs_at c machines time (record { at = at; rest = needs_text (has_times c.times) (kind_of c.env) needs ++ rest })) needs rest
 unfolding needs_at
-needs_again c machines at needs rest few h unit = needs_by_again c c.times (kind_of c.env) machines at needs rest few refl h unit
+needs_again c machines time at needs rest few shape fit same first = needs_by_again (has_times c.times) (kind_of c.env) c.env c.times machines time at needs rest few shape fit same first

@@ -7,7 +7,7 @@ use Rattle.msp_instance.specs.Faults.{IsFirstFault}
 use Rattle.msp_instance.specs.Paths.{IsLeastOnCycle}
 use Rattle.msp_file.specs.declared.fault.FileFault.{FileFault}
 use Rattle.msp_file.specs.declared.fault.FileFault.TheVariants.{Class, Cycle, Memory}
-use Rattle.msp_file.specs.declared.filed.Filed.{Filed}
+use Rattle.msp_grammar.specs.declared.filed.Filed.{Filed}
 
 -- The name of the job that a fault of the class names, if it names one.
 abbrev pub faulty_name : List (List ℕ) → ClassFault → Option (List ℕ)

@@ -1,33 +1,35 @@
 -- How the text of an instance is read: line by line, and in a line from left to right, up to the first fault.
-use Rattle.std.specs.Prelude.{ℕ, zero, suc, ◌+◌, ◌-◌, ◌*◌, ◌/◌, ◌%◌, ◌^◌, Bool, true, false, ◌&&◌, not, ◌==◌, nat_le, nat_lt, if◌then◌else◌, List, [], ◌∷◌, ◌++◌, length, take, drop, map, Some, None, Result, Ok, Err, ok_or, position, codes, bytes_eq, ℤ, pos, negsuc, unsigned_abs}
+use Rattle.std.specs.Prelude.{ℕ, zero, suc, ◌+◌, ◌-◌, ◌*◌, ◌/◌, ◌%◌, Bool, true, false, ◌&&◌, not, ◌==◌, nat_le, nat_lt, if◌then◌else◌, List, [], ◌∷◌, ◌++◌, length, take, drop, map, Some, None, Result, Ok, Err, ok_or, position, codes, bytes_eq, ℤ, pos, negsuc, unsigned_abs}
 use Rattle.std.specs.List.{slice_split, list_all, list_any, range_with_len}
 use Rattle.msp_class.specs.declared.environments.EnvKind.{EnvKind}
-use Rattle.msp_class.specs.declared.environments.EnvKind.TheVariants.{Identical, Uniform, Unrelated, OpenShop, FlowShop, JobShop}
-use Rattle.msp_class.specs.Crit.{uses_due, uses_weight}
+use Rattle.msp_class.specs.declared.environments.TheConstants.{MOST_OPERATIONS}
+use Rattle.msp_class.specs.Crit.{uses_due, uses_weight, uses_curve}
 use Rattle.msp_class.specs.Env.{fixed_machines, kind_of, most_operations}
 use Rattle.msp_class.specs.Rank.{flag_number}
 use Rattle.msp_class.specs.declared.class.Class.{Class}
 use Rattle.msp_class.specs.declared.class.Env.{Env}
 use Rattle.msp_class.specs.declared.class.Times.{Times}
 use Rattle.msp_class.specs.declared.class.Crit.{Crit}
-use Rattle.msp_class.specs.declared.class.Times.TheVariants.{General, Unit as UnitTimes}
 use Rattle.msp_name.specs.Reading.{reading_of}
+use Rattle.msp_job_name.specs.declared.job_name.TheConstants.{LONGEST_NAME}
+use Rattle.msp_job_name.specs.JobName.{is_name_byte}
+use Rattle.msp_instance.specs.declared.ranges.TheConstants.{MOST_JOBS, MOST_MACHINES, MOST_ARCS, MOST_STEPS, GREATEST, GREATEST_SPEED, GREATEST_MULTIPLE, GREATEST_EQUAL_TIME}
 use Rattle.msp_instance.specs.declared.Need.{Need}
 use Rattle.msp_instance.specs.declared.Step.{Step}
 use Rattle.msp_instance.specs.declared.Curve.{Curve}
 use Rattle.msp_instance.specs.declared.Job.{Job}
 use Rattle.msp_instance.specs.declared.Arc.{Arc}
 use Rattle.msp_instance.specs.Instance.{no_curve}
+use Rattle.msp_instance.specs.Conditions.{least_time}
 use Rattle.msp_file.specs.declared.fault.What.{What}
 use Rattle.msp_file.specs.declared.fault.What.TheVariants as what
 use Rattle.msp_file.specs.declared.fault.FileFault.{FileFault}
 use Rattle.msp_file.specs.declared.fault.FileFault.TheVariants.{Head, Missing, Cut, Line, Count, Key, Name, Number, Limit, Again, ArcAgain, Unknown, After}
 use Rattle.msp_file.specs.declared.job.Keys.{Keys}
 use Rattle.msp_file.specs.declared.draft.Draft.{Draft}
-use Rattle.msp_file.specs.declared.filed.Filed.{Filed}
-use Rattle.msp_file.specs.JobName.{is_name_byte}
+use Rattle.msp_grammar.specs.declared.filed.Filed.{Filed}
+use Rattle.msp_grammar.specs.Layout.{has_times, has_time_line, has_one_time, has_route, has_speeds, has_order, has_time_key, has_times_line}
 use Rattle.msp_text.specs.Numbers.{number_of}
-use Rattle.msp_file.specs.InstanceText.{has_one_time, has_route, has_speeds, has_curve, has_order, has_time_key, has_times_line}
 
 -- the next step, or the fault
 infixl 10 ◌>>=◌
@@ -95,7 +97,7 @@ is_name_text [] = false
 is_name_text (b ∷ bs) = list_all is_name_byte (b ∷ bs)
 
 unfoldable pub job_name_at : ℕ → List ℕ → Result (List ℕ) FileFault
-job_name_at at w = provided (is_name_text w) (Name at) (provided (nat_le (length w) 32) (Limit at what.Name) (Ok w))
+job_name_at at w = provided (is_name_text w) (Name at) (provided (nat_le (length w) LONGEST_NAME) (Limit at what.Name) (Ok w))
 
 -- The name of one of these jobs: the job's number, from 0.
 unfoldable pub known_at : ℕ → List (List ℕ) → List ℕ → Result ℕ FileFault
@@ -128,10 +130,10 @@ integer_key_at at true letter quantity greatest fields = do
 -- The keys p, r, d and w, those of them that the class has. Elsewhere the time is 1, the dates are 0 and the weight is 1.
 unfoldable pub keys_at : Class → ℕ → List (List ℕ) → Result Keys FileFault
 keys_at c at fields = do
-  p ← natural_key_at at (has_time_key c) 112 what.Time 1 (10 ^ 9) fields
-  r ← natural_key_at at c.heads 114 what.Release 0 (10 ^ 9) p.1
-  d ← integer_key_at at (uses_due c.crit) 100 what.Due (10 ^ 9) r.1
-  w ← natural_key_at at (uses_weight c.crit) 119 what.Weight 1 (10 ^ 9) d.1
+  p ← natural_key_at at (has_time_key c) 112 what.Time 1 GREATEST fields
+  r ← natural_key_at at c.heads 114 what.Release 0 GREATEST p.1
+  d ← integer_key_at at (uses_due c.crit) 100 what.Due GREATEST r.1
+  w ← natural_key_at at (uses_weight c.crit) 119 what.Weight 1 GREATEST d.1
   Ok (record { time = p.0; release = r.0; due = d.0; weight = w.0 })
 
 abbrev pub count_of_keys : Class → ℕ
@@ -147,14 +149,6 @@ job_line_at c at names fields =
 
 -- ---- the operations of a job
 
-abbrev pub least_time : EnvKind → ℕ
-least_time Identical = 1
-least_time Uniform = 1
-least_time Unrelated = 1
-least_time OpenShop = 0
-least_time FlowShop = 0
-least_time JobShop = 1
-
 -- The needs with one more at the end.
 abbrev pub with_need : List Need → ℕ → ℕ → List Need
 with_need needs machine time = needs ++ record { machine = machine; time = time } ∷ []
@@ -163,14 +157,14 @@ with_need needs machine time = needs ++ record { machine = machine; time = time 
 unfoldable pub times_at : ℕ → ℕ → List Need → List (List ℕ) → Result (List Need) FileFault
 times_at at least needs [] = Ok needs
 times_at at least needs (w ∷ ws) = do
-  t ← natural_at at what.Time least (10 ^ 9) w
+  t ← natural_at at what.Time least GREATEST w
   times_at at least (with_need needs (length needs) t) ws
 
-unfoldable pub times_line_at : EnvKind → ℕ → Place → Result (List Need × Place) FileFault
-times_line_at k machines p = do
+unfoldable pub times_line_at : ℕ → ℕ → Place → Result (List Need × Place) FileFault
+times_line_at least machines p = do
   l ← worded_at (codes "times") p
   provided (length l.0 == machines) (Count p.at) (do
-    needs ← times_at p.at (least_time k) [] l.0
+    needs ← times_at p.at least [] l.0
     Ok (needs, l.1))
 
 -- The number of a machine, which texts count from 1.
@@ -185,54 +179,58 @@ timed_route_at at machines needs [] = Ok needs
 timed_route_at at machines needs (w ∷ []) = Err (Count at)
 timed_route_at at machines needs (w ∷ v ∷ ws) = do
   q ← machine_at at machines w
-  t ← natural_at at what.Time 1 (10 ^ 9) v
+  t ← natural_at at what.Time 1 GREATEST v
   timed_route_at at machines (with_need needs q t) ws
 
--- Machines in order, with unit times.
-unfoldable pub unit_route_at : ℕ → ℕ → List Need → List (List ℕ) → Result (List Need) FileFault
-unit_route_at at machines needs [] = Ok needs
-unit_route_at at machines needs (w ∷ ws) = do
+-- Machines in order, each with the same time.
+unfoldable pub machine_route_at : ℕ → ℕ → ℕ → List Need → List (List ℕ) → Result (List Need) FileFault
+machine_route_at at machines time needs [] = Ok needs
+machine_route_at at machines time needs (w ∷ ws) = do
   q ← machine_at at machines w
-  unit_route_at at machines (with_need needs q 1) ws
+  machine_route_at at machines time (with_need needs q time) ws
 
--- How many operations so many fields begin.
-abbrev pub operations_in : Times → ℕ → ℕ
-operations_in General n = (n + 1) / 2
-operations_in UnitTimes n = n
+-- How many operations so many fields begin, where times are written and where they are not.
+abbrev pub operations_in : Bool → ℕ → ℕ
+operations_in true n = (n + 1) / 2
+operations_in false n = n
 
 -- How many fields so many operations have.
-abbrev pub fields_in : Times → ℕ → ℕ
-fields_in General n = 2 * n
-fields_in UnitTimes n = n
+abbrev pub fields_in : Bool → ℕ → ℕ
+fields_in true n = 2 * n
+fields_in false n = n
 
-abbrev pub operations_at : Times → ℕ → ℕ → List (List ℕ) → Result (List Need) FileFault
-operations_at General at machines fields = timed_route_at at machines [] fields
-operations_at UnitTimes at machines fields = unit_route_at at machines [] fields
+-- Operations with their times, or where times are not written with this one.
+abbrev pub operations_at : Bool → ℕ → ℕ → ℕ → List (List ℕ) → Result (List Need) FileFault
+operations_at true at machines time fields = timed_route_at at machines [] fields
+operations_at false at machines time fields = machine_route_at at machines time [] fields
 
 -- The number of fields is one of at least one and at most so many operations.
-abbrev pub is_route_count : Times → ℕ → ℕ → Bool
-is_route_count t most n = let operations = operations_in t n in nat_le 1 operations && nat_le operations most && (n == fields_in t operations)
+abbrev pub is_route_count : Bool → ℕ → ℕ → Bool
+is_route_count timed most n = let operations = operations_in timed n in nat_le 1 operations && nat_le operations most && (n == fields_in timed operations)
 
-unfoldable pub route_line_at : Class → ℕ → Place → Result (List Need × Place) FileFault
-route_line_at c machines p = do
+unfoldable pub route_line_at : Bool → ℕ → ℕ → ℕ → Place → Result (List Need × Place) FileFault
+route_line_at timed most machines time p = do
   l ← worded_at (codes "route") p
-  provided (nat_le (operations_in c.times (length l.0)) 32) (Limit p.at what.Route) (
-      provided (is_route_count c.times (most_operations c.env) (length l.0)) (Count p.at) (do
-        needs ← operations_at c.times p.at machines l.0
+  provided (nat_le (operations_in timed (length l.0)) MOST_OPERATIONS) (Limit p.at what.Route) (
+      provided (is_route_count timed most (length l.0)) (Count p.at) (do
+        needs ← operations_at timed p.at machines time l.0
         Ok (needs, l.1)))
 
--- The needs that no line writes: one with the time of the key, and in other classes of unit times one for each machine.
+-- The needs that no line writes, all with one time: a single one, or one for each machine.
 abbrev pub unwritten_needs : EnvKind → ℕ → ℕ → List Need
 unwritten_needs k machines time =
     if has_one_time k
     then with_need [] 0 time
-    else map (λ q. record { machine = q; time = 1 }) (range_with_len 0 machines)
+    else map (λ q. record { machine = q; time = time }) (range_with_len 0 machines)
 
+-- The needs of a job. Where no line writes a time, it is this one.
 unfoldable pub needs_at : Class → ℕ → ℕ → Place → Result (List Need × Place) FileFault
 needs_at c machines time p =
     if has_times_line c
-    then times_line_at (kind_of c.env) machines p
-    else (if has_route (kind_of c.env) then route_line_at c machines p else Ok (unwritten_needs (kind_of c.env) machines time, p))
+    then times_line_at (least_time (kind_of c.env) c.times) machines p
+    else (if has_route (kind_of c.env)
+    then route_line_at (has_times c.times) (most_operations c.env) machines time p
+    else Ok (unwritten_needs (kind_of c.env) machines time, p))
 
 -- ---- the cost curve of a job
 
@@ -245,14 +243,14 @@ unfoldable pub steps_at : ℕ → List Step → List (List ℕ) → Result (List
 steps_at at steps [] = Ok steps
 steps_at at steps (w ∷ []) = Err (Count at)
 steps_at at steps (w ∷ v ∷ ws) = do
-  above ← natural_at at what.Above 0 (10 ^ 9) w
-  add ← natural_at at what.Add 0 (10 ^ 9) v
+  above ← natural_at at what.Above 0 GREATEST w
+  add ← natural_at at what.Add 0 GREATEST v
   steps_at at (with_step steps above add) ws
 
 unfoldable pub curve_fields_at : ℕ → List (List ℕ) → Result Curve FileFault
 curve_fields_at at fields = do
-  slope ← natural_at at what.Slope 0 (10 ^ 9) (first_of fields)
-  base ← integer_at at what.Base (10 ^ 9) (first_of (others_of fields))
+  slope ← natural_at at what.Slope 0 GREATEST (first_of fields)
+  base ← integer_at at what.Base GREATEST (first_of (others_of fields))
   steps ← steps_at at [] (others_of (others_of fields))
   Ok (record { slope = slope; base = base; steps = steps })
 
@@ -263,25 +261,29 @@ steps_in n = (n - 1) / 2
 unfoldable pub curve_line_at : Place → Result (Curve × Place) FileFault
 curve_line_at p = do
   l ← worded_at (codes "curve") p
-  provided (nat_le (steps_in (length l.0)) 16) (Limit p.at what.Steps) (
+  provided (nat_le (steps_in (length l.0)) MOST_STEPS) (Limit p.at what.Steps) (
       provided (length l.0 == 2 + 2 * steps_in (length l.0)) (Count p.at) (do
         curve ← curve_fields_at p.at l.0
         Ok (curve, l.1)))
 
 unfoldable pub curve_at : Crit → Place → Result (Curve × Place) FileFault
-curve_at crit p = if has_curve crit then curve_line_at p else Ok (no_curve, p)
+curve_at crit p = if uses_curve crit then curve_line_at p else Ok (no_curve, p)
 
 -- ---- jobs and arcs
 
 abbrev pub job_of : Keys → List Need → Curve → Job
 job_of keys needs curve = record { release = keys.release; due = keys.due; weight = keys.weight; needs = needs; curve = curve }
 
--- The job whose line has these fields, with the lines of it that come next, after the jobs so far.
-unfoldable pub job_at_line : Class → ℕ → Draft → ℕ → List (List ℕ) → Place → Result (Draft × Place) FileFault
-job_at_line c machines d at fields p =
-    provided (nat_lt (length d.jobs) 400) (Limit at what.Jobs) (do
+-- The time of a job's operations that no line writes: that of its key, or the one that all operations share.
+abbrev pub time_in : Class → ℕ → Keys → ℕ
+time_in c shared keys = if has_time_key c then keys.time else shared
+
+-- The job whose line has these fields, with the lines of it that come next, after the jobs so far. All operations share a time, where the class has one.
+unfoldable pub job_at_line : Class → ℕ → ℕ → Draft → ℕ → List (List ℕ) → Place → Result (Draft × Place) FileFault
+job_at_line c machines shared d at fields p =
+    provided (nat_lt (length d.jobs) MOST_JOBS) (Limit at what.Jobs) (do
       line ← job_line_at c at d.names fields
-      needs ← needs_at c machines line.1.time p
+      needs ← needs_at c machines (time_in c shared line.1) p
       curve ← curve_at c.crit needs.1
       Ok (record { names = d.names ++ line.0 ∷ []; jobs = d.jobs ++ job_of line.1 needs.0 curve.0 ∷ []; arcs = d.arcs }, curve.1))
 
@@ -296,7 +298,7 @@ with_arc d before after = record d { arcs = d.arcs ++ record { before = before; 
 -- The arc whose line has these fields, after the arcs so far.
 unfoldable pub arc_line_at : ℕ → Draft → List (List ℕ) → Result Draft FileFault
 arc_line_at at d fields =
-    provided (nat_lt (length d.arcs) 20000) (Limit at what.Arcs) (
+    provided (nat_lt (length d.arcs) MOST_ARCS) (Limit at what.Arcs) (
     provided (length fields == 2) (Count at) (do
       before ← known_at at d.names (first_of fields)
       after ← known_at at d.names (first_of (others_of fields))
@@ -316,12 +318,12 @@ arcs_at (suc n) d p = do
       else end_at p.at d (fields_of l.0) l.1
 
 -- The lines after the head and after a job, of which there are at most n: jobs, in a class with an order an arc, and the end.
-unfoldable pub jobs_at : ℕ → Class → ℕ → Draft → Place → Result (Draft × Place) FileFault
-jobs_at zero c machines d p = Err (Missing p.at)
-jobs_at (suc n) c machines d p = do
+unfoldable pub jobs_at : ℕ → Class → ℕ → ℕ → Draft → Place → Result (Draft × Place) FileFault
+jobs_at zero c machines shared d p = Err (Missing p.at)
+jobs_at (suc n) c machines shared d p = do
   l ← line_at p
   if bytes_eq (first_of (fields_of l.0)) (codes "job")
-      then (job_at_line c machines d p.at (others_of (fields_of l.0)) l.1 >>= λ e. jobs_at n c machines e.0 e.1)
+      then (job_at_line c machines shared d p.at (others_of (fields_of l.0)) l.1 >>= λ e. jobs_at n c machines shared e.0 e.1)
       else (if has_order c.order && bytes_eq (first_of (fields_of l.0)) (codes "arc")
       then (arc_line_at p.at d (others_of (fields_of l.0)) >>= λ e. arcs_at n e l.1)
       else end_at p.at d (fields_of l.0) l.1)
@@ -353,7 +355,7 @@ unfoldable pub machines_line_at : Place → Result (ℕ × Place) FileFault
 machines_line_at p = do
   l ← worded_at (codes "machines") p
   provided (length l.0 == 1) (Count p.at) (do
-    machines ← natural_at p.at what.Machines 1 32 (first_of l.0)
+    machines ← natural_at p.at what.Machines 1 MOST_MACHINES (first_of l.0)
     Ok (machines, l.1))
 
 unfoldable pub machines_at : Env → Place → Result (ℕ × Place) FileFault
@@ -366,7 +368,7 @@ have_multiple limit speeds = list_any (λ n. list_all (λ s. n % s == 0) speeds)
 unfoldable pub speeds_in : ℕ → List ℕ → List (List ℕ) → Result (List ℕ) FileFault
 speeds_in at speeds [] = Ok speeds
 speeds_in at speeds (w ∷ ws) = do
-  speed ← natural_at at what.Speed 1 (10 ^ 6) w
+  speed ← natural_at at what.Speed 1 GREATEST_SPEED w
   speeds_in at (speeds ++ speed ∷ []) ws
 
 unfoldable pub speeds_line_at : ℕ → Place → Result (List ℕ × Place) FileFault
@@ -374,10 +376,21 @@ speeds_line_at machines p = do
   l ← worded_at (codes "speeds") p
   provided (length l.0 == machines) (Count p.at) (do
     speeds ← speeds_in p.at [] l.0
-    provided (have_multiple (2 ^ 30) speeds) (Limit p.at what.Multiple) (Ok (speeds, l.1)))
+    provided (have_multiple GREATEST_MULTIPLE speeds) (Limit p.at what.Multiple) (Ok (speeds, l.1)))
 
 unfoldable pub speeds_at : Env → ℕ → Place → Result (List ℕ × Place) FileFault
 speeds_at e machines p = if has_speeds (kind_of e) then speeds_line_at machines p else Ok ([], p)
+
+-- The time that all operations share. Elsewhere it is 1.
+unfoldable pub time_line_at : Place → Result (ℕ × Place) FileFault
+time_line_at p = do
+  l ← worded_at (codes "time") p
+  provided (length l.0 == 1) (Count p.at) (do
+    time ← natural_at p.at what.Time 1 GREATEST_EQUAL_TIME (first_of l.0)
+    Ok (time, l.1))
+
+unfoldable pub time_at : Times → Place → Result (ℕ × Place) FileFault
+time_at t p = if has_time_line t then time_line_at p else Ok (1, p)
 
 -- ---- the whole
 
@@ -394,7 +407,8 @@ front_at b = do
   c ← class_at p
   machines ← machines_at c.0.env c.1
   speeds ← speeds_at c.0.env machines.0 machines.1
-  d ← jobs_at (length speeds.1.rest + 1) c.0 machines.0 no_draft speeds.1
+  shared ← time_at c.0.times speeds.1
+  d ← jobs_at (length shared.1.rest + 1) c.0 machines.0 shared.0 no_draft shared.1
   Ok (filed_of c.0 machines.0 speeds.0 d.0, d.1)
 
 -- The instance whose lines are all of the text.

@@ -43,8 +43,8 @@ AfterArc (Ok true) d p e q = (n : ℕ) → arcs_at (suc n) d p ≡ arcs_at n e q
 AfterArc (Ok false) d p e q = (n : ℕ) → arcs_at (suc n) d p ≡ Ok (e, q)
 AfterArc (Err fault) d p e q = (n : ℕ) → Fails fault (arcs_at (suc n) d p)
 
-abbrev pub AfterJob : Class → ℕ → Result Next FileFault → Draft → Place → Draft → Place → Type 0
-AfterJob c m (Ok Job) d p e q = (n : ℕ) → jobs_at (suc n) c m d p ≡ jobs_at n c m e q
-AfterJob c m (Ok Arc) d p e q = (n : ℕ) → jobs_at (suc n) c m d p ≡ arcs_at n e q
-AfterJob c m (Ok End) d p e q = (n : ℕ) → jobs_at (suc n) c m d p ≡ Ok (e, q)
-AfterJob c m (Err fault) d p e q = (n : ℕ) → Fails fault (jobs_at (suc n) c m d p)
+abbrev pub AfterJob : Class → ℕ → ℕ → Result Next FileFault → Draft → Place → Draft → Place → Type 0
+AfterJob c machines shared (Ok Job) d p e q = (n : ℕ) → jobs_at (suc n) c machines shared d p ≡ jobs_at n c machines shared e q
+AfterJob c machines shared (Ok Arc) d p e q = (n : ℕ) → jobs_at (suc n) c machines shared d p ≡ arcs_at n e q
+AfterJob c machines shared (Ok End) d p e q = (n : ℕ) → jobs_at (suc n) c machines shared d p ≡ Ok (e, q)
+AfterJob c machines shared (Err fault) d p e q = (n : ℕ) → Fails fault (jobs_at (suc n) c machines shared d p)

@@ -1,3 +1,4 @@
+// The arcs of an instance, as far as they are read.
 ghost use Rattle.std.specs.Prelude.{◌≡◌, ◌++◌, ◌∷◌, [], true, false, length, IfOk, MatchBool};
 ghost use Rattle.msp_file.specs.Reading.{is_arc_among};
 

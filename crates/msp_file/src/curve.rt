@@ -1,3 +1,4 @@
+// The line of a cost curve.
 ghost use Rattle.std.specs.Prelude.{◌≡◌, ◌+◌, ◌<◌, ◌≤◌, ◌^◌, ◌++◌, ◌∷◌, [], length, IfOk, OnOk, MatchResult};
 ghost use Rattle.msp_instance.specs.Instance.{no_curve};
 ghost use Rattle.msp_file.specs.Reading.{natural_at, integer_at, with_step, steps_at, curve_fields_at, curve_line_at, curve_at, steps_in};
@@ -7,7 +8,7 @@ use crate::fault::{FileFault, What};
 use crate::lines::{count_fields, next_field, worded_at};
 use crate::number::{integer_at, natural_at};
 use crate::place::Lines;
-use msp_class::{Crit, List};
+use msp_class::{Crit, List, uses_curve};
 use msp_instance::{Curve, GREATEST, MOST_STEPS, Step};
 use std::alloc::Global;
 
@@ -108,7 +109,7 @@ pub(crate) fn curve_at(alloc: Global, crit: Crit, lines: &mut Lines<'_>) -> Resu
     ensures moves { Moves (λ x. x) result (place_of lines.new) (curve_at crit (place_of lines.old)) }
     ensures shrinks { OnOk result (length lines.new.rest.now ≤ length lines.old.rest.now) }
 {
-    if matches!(crit, Crit::Fmax) {
+    if uses_curve(crit) {
         return curve_line_at(alloc, lines);
     }
     Ok(Curve {

@@ -1,21 +1,22 @@
+// The lines of jobs and arcs.
 ghost use Rattle.std.specs.Prelude.{◌≡◌, ◌++◌, ◌∷◌, [], ◌≤◌, ◌<◌, ℕ, List as Items, false, not, length, bytes_eq, MatchResult, Ok, IfOk, OnOk};
 ghost use Rattle.std.specs.List.{list_any};
-ghost use Rattle.msp_file.specs.InstanceText.{has_order};
-ghost use Rattle.msp_file.specs.Reading.{provided, is_arc_among, with_arc, arc_line_at, job_of, job_at_line, arcs_at, jobs_at, end_at, Place};
+ghost use Rattle.msp_instance.specs.declared.ranges.TheConstants.{MOST_JOBS};
+ghost use Rattle.msp_file.specs.Reading.{provided, is_arc_among, with_arc, arc_line_at, job_of, time_in, job_at_line, arcs_at, jobs_at, end_at, Place};
 ghost use Rattle.msp_file.specs.declared.draft.Draft.{Draft as DraftValue};
 ghost use Rattle.msp_file.specs.Steps.{Gives, Moves, AfterArc, AfterJob, place_of, fields_after};
 
 use crate::arcs::Arcs;
 use crate::curve::curve_at;
 use crate::fault::{FileFault, What};
-use crate::job::{job_line_at, known_at};
-use crate::job_name::JobName;
+use crate::job::{Keys, job_line_at, known_at};
 use crate::lines::{count_fields, line_at, next_field, split_word};
-use crate::names::Names;
 use crate::operations::needs_at;
 use crate::place::Lines;
-use msp_class::{Class, List, Order};
+use msp_class::{Class, List};
+use msp_grammar::{has_order, has_time_key};
 use msp_instance::{Arc, Job, MOST_ARCS, MOST_JOBS};
+use msp_job_name::{JobName, Names};
 use std::alloc::Global;
 
 /// The jobs and arcs read so far.
@@ -24,6 +25,14 @@ pub(crate) struct Draft {
     pub(crate) names: Names,
     pub(crate) jobs: List<Job>,
     pub(crate) arcs: Arcs,
+}
+
+/// What the head says to the lines of jobs: the class, the number of machines, and the time that all operations share.
+#[derive(Clone, Copy)]
+pub(crate) struct Frame {
+    pub(crate) class: Class,
+    pub(crate) machines: u32,
+    pub(crate) time: u64,
 }
 
 /// What a line after the head or after a job was.
@@ -48,21 +57,31 @@ fn push_job(draft: &mut Draft, name: JobName, job: Job) -> Result<(), FileFault>
     }
 }
 
+/// The time of a job's operations that no line writes.
+fn time_in(frame: Frame, keys: Keys) -> u64
+    ensures { result ≡ time_in frame.class frame.time keys }
+{
+    if has_time_key(frame.class) {
+        keys.time
+    } else {
+        frame.time
+    }
+}
+
 /// The job whose line has these fields, with the lines of it that come next, put at the end of the draft.
 #[tactic(auto, unfolding(crate::specs::Reading::job_at_line))]
 fn job_at_line(
     alloc: Global,
-    class: Class,
-    machines: u32,
+    frame: Frame,
     draft: &mut Draft,
     at: u32,
     fields: &[u8],
     lines: &mut Lines<'_>,
 ) -> Result<(), FileFault>
     requires even { length draft.old.names ≡ length draft.old.jobs }
-    ensures even { OnOk result ((length draft.new.names ≡ length draft.new.jobs) × (length draft.new.names ≤ 400)) }
+    ensures even { OnOk result ((length draft.new.names ≡ length draft.new.jobs) × (length draft.new.names ≤ MOST_JOBS)) }
     ensures shrinks { OnOk result (length lines.new.rest.now ≤ length lines.old.rest.now) }
-    ensures moves { Moves (λ _. draft.new) result (place_of lines.new) (job_at_line class machines draft.old at (fields_after fields.now) (place_of lines.old)) }
+    ensures moves { Moves (λ _. draft.new) result (place_of lines.new) (job_at_line frame.class frame.machines frame.time draft.old at (fields_after fields.now) (place_of lines.old)) }
 {
     if draft.jobs.len() >= MOST_JOBS {
         return Err(FileFault::Limit {
@@ -70,9 +89,10 @@ fn job_at_line(
             what: What::Jobs,
         });
     }
-    let (name, keys) = job_line_at(class, at, &draft.names, fields)?;
-    let needs = needs_at(alloc, class, machines, keys.time, lines)?;
-    let curve = curve_at(alloc, class.crit, lines)?;
+    let (name, keys) = job_line_at(frame.class, at, &draft.names, fields)?;
+    let time = time_in(frame, keys);
+    let needs = needs_at(alloc, frame.class, frame.machines, time, lines)?;
+    let curve = curve_at(alloc, frame.class.crit, lines)?;
     let job = Job {
         release: keys.release,
         due: keys.due,
@@ -99,7 +119,7 @@ fn add_arc(at: u32, draft: &mut Draft, before: u32, after: u32) -> Result<(), Fi
 /// The arc whose line has these fields, put at the end of the draft.
 #[tactic(auto, unfolding(crate::specs::Reading::arc_line_at))]
 fn arc_line_at(at: u32, draft: &mut Draft, fields: &[u8]) -> Result<(), FileFault>
-    requires { length draft.old.names ≤ 400 }
+    requires { length draft.old.names ≤ MOST_JOBS }
     ensures gives { Gives (λ _. draft.new) result (arc_line_at at draft.old (fields_after fields.now)) }
     ensures names { OnOk result (draft.new.names ≡ draft.old.names) }
     ensures jobs { OnOk result (draft.new.jobs ≡ draft.old.jobs) }
@@ -136,7 +156,7 @@ fn end_line(at: u32, word: &[u8], fields: &[u8]) -> Result<(), FileFault>
 /// Reads a line after an arc, and answers whether it is an arc.
 #[tactic(auto, unfolding(crate::specs::Reading::arcs_at))]
 fn arc_step(draft: &mut Draft, lines: &mut Lines<'_>) -> Result<bool, FileFault>
-    requires { length draft.old.names ≤ 400 }
+    requires { length draft.old.names ≤ MOST_JOBS }
     ensures after { AfterArc result draft.old (place_of lines.old) draft.new (place_of lines.new) }
     ensures names { OnOk result (draft.new.names ≡ draft.old.names) }
     ensures jobs { OnOk result (draft.new.jobs ≡ draft.old.jobs) }
@@ -155,7 +175,7 @@ fn arc_step(draft: &mut Draft, lines: &mut Lines<'_>) -> Result<bool, FileFault>
 
 /// Reads the lines after an arc, up to the last one.
 fn arcs_at(draft: &mut Draft, lines: &mut Lines<'_>) -> Result<(), FileFault>
-    requires { length draft.old.names ≤ 400 }
+    requires { length draft.old.names ≤ MOST_JOBS }
     ensures names { OnOk result (draft.new.names ≡ draft.old.names) }
     ensures jobs { OnOk result (draft.new.jobs ≡ draft.old.jobs) }
     ensures moves { (n : ℕ) → length lines.old.rest.now < n → Moves (λ _. draft.new) result (place_of lines.new) (arcs_at n draft.old (place_of lines.old)) }
@@ -169,25 +189,18 @@ fn arcs_at(draft: &mut Draft, lines: &mut Lines<'_>) -> Result<(), FileFault>
     }
 }
 
-fn has_order(order: Order) -> bool
-    ensures { result ≡ has_order order }
-{
-    !matches!(order, Order::Free)
-}
-
 /// Reads a line after the head or after a job, with the lines of the job that it begins.
 #[tactic(auto, unfolding(crate::specs::Reading::jobs_at))]
 fn job_step(
     alloc: Global,
-    class: Class,
-    machines: u32,
+    frame: Frame,
     draft: &mut Draft,
     lines: &mut Lines<'_>,
 ) -> Result<Next, FileFault>
     requires even { length draft.old.names ≡ length draft.old.jobs }
-    requires few { length draft.old.names ≤ 400 }
-    ensures after { AfterJob class machines result draft.old (place_of lines.old) draft.new (place_of lines.new) }
-    ensures few { OnOk result (length draft.new.names ≤ 400) }
+    requires few { length draft.old.names ≤ MOST_JOBS }
+    ensures after { AfterJob frame.class frame.machines frame.time result draft.old (place_of lines.old) draft.new (place_of lines.new) }
+    ensures few { OnOk result (length draft.new.names ≤ MOST_JOBS) }
     ensures even { OnOk result (length draft.new.names ≡ length draft.new.jobs) }
     ensures shrinks { OnOk result (length lines.new.rest.now < length lines.old.rest.now) }
 {
@@ -195,10 +208,10 @@ fn job_step(
     let line = line_at(lines)?;
     let (word, fields) = split_word(line);
     if *word == *b"job".as_slice() {
-        job_at_line(alloc, class, machines, draft, at, fields, lines)?;
+        job_at_line(alloc, frame, draft, at, fields, lines)?;
         return Ok(Next::Job);
     }
-    if has_order(class.order) && *word == *b"arc".as_slice() {
+    if has_order(frame.class.order) && *word == *b"arc".as_slice() {
         arc_line_at(at, draft, fields)?;
         return Ok(Next::Arc);
     }
@@ -209,18 +222,17 @@ fn job_step(
 /// Reads the lines after the head, up to the last one.
 pub(crate) fn jobs_at(
     alloc: Global,
-    class: Class,
-    machines: u32,
+    frame: Frame,
     draft: &mut Draft,
     lines: &mut Lines<'_>,
 ) -> Result<(), FileFault>
     requires even { length draft.old.names ≡ length draft.old.jobs }
-    requires few { length draft.old.names ≤ 400 }
+    requires few { length draft.old.names ≤ MOST_JOBS }
     ensures even { OnOk result (length draft.new.names ≡ length draft.new.jobs) }
-    ensures moves { (n : ℕ) → length lines.old.rest.now < n → Moves (λ _. draft.new) result (place_of lines.new) (jobs_at n class machines draft.old (place_of lines.old)) }
+    ensures moves { (n : ℕ) → length lines.old.rest.now < n → Moves (λ _. draft.new) result (place_of lines.new) (jobs_at n frame.class frame.machines frame.time draft.old (place_of lines.old)) }
 {
     'lines: loop {
-        match job_step(alloc, class, machines, draft, lines) {
+        match job_step(alloc, frame, draft, lines) {
             Ok(Next::Job) => {}
             Ok(Next::Arc) => return arcs_at(draft, lines),
             Ok(Next::End) => return Ok(()),

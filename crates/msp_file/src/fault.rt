@@ -1,5 +1,6 @@
-use crate::job_name::JobName;
+// The faults of texts.
 use msp_instance::ClassFault;
+use msp_job_name::JobName;
 
 /// A quantity that texts keep within limits.
 #[derive(Clone, Copy, Debug, PartialEq, Eq)]

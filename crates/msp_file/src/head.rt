@@ -1,15 +1,16 @@
+// The lines before those of the jobs.
 ghost use Rattle.std.specs.Prelude.{◌≡◌, ◌+◌, ◌++◌, ◌∷◌, ◌<◌, ◌≤◌, ◌^◌, [], ℕ, List as Items, length, All, IfOk, OnOk, MatchResult};
-ghost use Rattle.msp_class.specs.Env.{kind_of};
-ghost use Rattle.msp_file.specs.InstanceText.{has_speeds};
-ghost use Rattle.msp_file.specs.Reading.{fields_of, version_at, class_in, class_at, machines_line_at, machines_at, have_multiple, speeds_in, speeds_line_at, speeds_at};
+ghost use Rattle.msp_instance.specs.declared.ranges.TheConstants.{GREATEST_SPEED, GREATEST_MULTIPLE};
+ghost use Rattle.msp_file.specs.Reading.{fields_of, version_at, class_in, class_at, machines_line_at, machines_at, have_multiple, speeds_in, speeds_line_at, speeds_at, time_line_at, time_at};
 ghost use Rattle.msp_file.specs.Steps.{Fails, Gives, Leads, Moves, place_of, fields_after};
 
 use crate::fault::{FileFault, What};
 use crate::lines::{count_fields, line_at, next_field, split_word, worded_at};
 use crate::number::natural_at;
 use crate::place::Lines;
-use msp_class::{Class, Env, List, fixed_machines};
-use msp_instance::{GREATEST_SPEED, MOST_MACHINES, has_small_multiple};
+use msp_class::{Class, Env, List, Times, fixed_machines};
+use msp_grammar::{has_speeds, has_time_line};
+use msp_instance::{GREATEST_EQUAL_TIME, GREATEST_SPEED, MOST_MACHINES, has_small_multiple};
 use msp_name::parse;
 use std::alloc::Global;
 
@@ -87,9 +88,9 @@ pub(crate) fn machines_at(env: Env, lines: &mut Lines<'_>) -> Result<u32, FileFa
 #[tactic(auto, unfolding(crate::specs::Reading::speeds_in))]
 fn take_speed<'a>(at: u32, speeds: &mut List<u64>, rest: &'a [u8]) -> Result<&'a [u8], FileFault>
     requires some { 0 < length rest.now }
-    requires range { All (λ s. (1 ≤ s) × (s ≤ 10 ^ 6)) speeds.old }
+    requires range { All (λ s. (1 ≤ s) × (s ≤ GREATEST_SPEED)) speeds.old }
     ensures leads { Leads (λ more. speeds_in at speeds.new (fields_after more.now)) result (speeds_in at speeds.old (fields_after rest.now)) }
-    ensures range { OnOk result (All (λ s. (1 ≤ s) × (s ≤ 10 ^ 6)) speeds.new) }
+    ensures range { OnOk result (All (λ s. (1 ≤ s) × (s ≤ GREATEST_SPEED)) speeds.new) }
     ensures more { IfOk result (λ more. length more.now < length rest.now) }
 {
     let (field, more) = next_field(rest);
@@ -105,7 +106,7 @@ fn take_speed<'a>(at: u32, speeds: &mut List<u64>, rest: &'a [u8]) -> Result<&'a
 #[tactic(auto, unfolding(crate::specs::Reading::speeds_in))]
 fn speeds_in(alloc: Global, at: u32, fields: &[u8]) -> Result<List<u64>, FileFault>
     ensures gives { Gives (λ x. x) result (speeds_in at [] (fields_after fields.now)) }
-    ensures range { IfOk result (λ speeds. All (λ s. (1 ≤ s) × (s ≤ 10 ^ 6)) speeds) }
+    ensures range { IfOk result (λ speeds. All (λ s. (1 ≤ s) × (s ≤ GREATEST_SPEED)) speeds) }
 {
     let mut speeds = List::new(alloc);
     let mut rest = fields;
@@ -117,8 +118,8 @@ fn speeds_in(alloc: Global, at: u32, fields: &[u8]) -> Result<List<u64>, FileFau
 
 /// Whether the least common multiple of the speeds is in range.
 fn have_multiple(speeds: &[u64]) -> bool
-    requires { All (λ s. (1 ≤ s) × (s ≤ 10 ^ 6)) speeds.now }
-    ensures { result ≡ have_multiple (2 ^ 30) speeds.now }
+    requires { All (λ s. (1 ≤ s) × (s ≤ GREATEST_SPEED)) speeds.now }
+    ensures { result ≡ have_multiple GREATEST_MULTIPLE speeds.now }
 {
     has_small_multiple(speeds)
 }
@@ -155,12 +156,6 @@ fn speeds_line_at(
     }
 }
 
-pub(crate) fn has_speeds(env: Env) -> bool
-    ensures { result ≡ has_speeds (kind_of env) }
-{
-    matches!(env, Env::Q2 | Env::Q)
-}
-
 /// The speeds of the machines.
 #[tactic(auto, unfolding(crate::specs::Reading::speeds_at))]
 pub(crate) fn speeds_at(
@@ -175,4 +170,32 @@ pub(crate) fn speeds_at(
         return speeds_line_at(alloc, machines, lines);
     }
     Ok(List::new(alloc))
+}
+
+#[tactic(auto, unfolding(crate::specs::Reading::time_line_at))]
+fn time_line_at(lines: &mut Lines<'_>) -> Result<u64, FileFault>
+    ensures moves { Moves (λ x. x) result (place_of lines.new) (time_line_at (place_of lines.old)) }
+{
+    let at = lines.at;
+    match worded_at(lines, b"time") {
+        Ok(fields) => {
+            if count_fields(fields) != 1 {
+                return Err(FileFault::Count { at });
+            }
+            let (field, _) = next_field(fields);
+            natural_at(at, What::Time, 1, GREATEST_EQUAL_TIME, field)
+        }
+        Err(fault) => Err(fault),
+    }
+}
+
+/// The time that all operations share, and 1 in classes without one.
+#[tactic(auto, unfolding(crate::specs::Reading::time_at))]
+pub(crate) fn time_at(times: Times, lines: &mut Lines<'_>) -> Result<u64, FileFault>
+    ensures { Moves (λ x. x) result (place_of lines.new) (time_at times (place_of lines.old)) }
+{
+    if has_time_line(times) {
+        return time_line_at(lines);
+    }
+    Ok(1)
 }

@@ -1,20 +1,19 @@
+// The line of a job.
 ghost use Rattle.std.specs.Prelude.{◌≡◌, All, IsTrue, ◌+◌, ◌<◌, ◌≤◌, ◌^◌, length, true, false, bytes_eq, IfOk};
 ghost use Rattle.std.specs.List.{list_any};
 ghost use Rattle.msp_class.specs.Rank.{flag_number};
-ghost use Rattle.msp_class.specs.Env.{kind_of};
-ghost use Rattle.msp_class.specs.Crit.{uses_due, uses_weight};
-ghost use Rattle.msp_file.specs.InstanceText.{has_times, has_one_time, has_machine_times, has_route, has_time_key, has_times_line};
-ghost use Rattle.msp_file.specs.JobName.{is_name_byte};
+ghost use Rattle.msp_instance.specs.declared.ranges.TheConstants.{GREATEST};
+ghost use Rattle.msp_job_name.specs.JobName.{is_name_byte};
 ghost use Rattle.msp_file.specs.Reading.{is_name_text, job_name_at, known_at, keyed_at, natural_key_at, integer_key_at, keys_at, count_of_keys, job_line_at};
 ghost use Rattle.msp_file.specs.Steps.{Gives, fields_after};
 
 use crate::fault::{FileFault, What};
-use crate::job_name::{JobName, are_name_bytes};
 use crate::lines::{count_fields, next_field};
-use crate::names::Names;
 use crate::number::{integer_at, natural_at};
-use msp_class::{Class, Crit, Env, Times};
+use msp_class::{Class, uses_due, uses_weight};
+use msp_grammar::has_time_key;
 use msp_instance::GREATEST;
+use msp_job_name::{JobName, Names, are_name_bytes};
 
 /// The numbers in the line of a job. What the class does not write has its neutral value.
 #[derive(Clone, Copy)]
@@ -85,7 +84,7 @@ fn natural_key_at(
     least: u64,
     fields: &[u8],
 ) -> Result<(u64, &[u8]), FileFault>
-    ensures { Gives (λ x. (x.0, fields_after x.1.now)) result (natural_key_at at there letter what least (10 ^ 9) (fields_after fields.now)) }
+    ensures { Gives (λ x. (x.0, fields_after x.1.now)) result (natural_key_at at there letter what least GREATEST (fields_after fields.now)) }
 {
     if !there {
         return Ok((least, fields));
@@ -105,7 +104,7 @@ fn integer_key_at(
     what: What,
     fields: &[u8],
 ) -> Result<(i64, &[u8]), FileFault>
-    ensures { Gives (λ x. (x.0, fields_after x.1.now)) result (integer_key_at at there letter what (10 ^ 9) (fields_after fields.now)) }
+    ensures { Gives (λ x. (x.0, fields_after x.1.now)) result (integer_key_at at there letter what GREATEST (fields_after fields.now)) }
 {
     if !there {
         return Ok((0, fields));
@@ -114,32 +113,6 @@ fn integer_key_at(
     let text = keyed_at(at, letter, field)?;
     let number = integer_at(at, what, GREATEST as u32, text)?;
     Ok((number, rest))
-}
-
-/// Whether the line of a job has the key of its time.
-pub(crate) fn has_time_key(class: Class) -> bool
-    ensures { result ≡ has_time_key class }
-{
-    matches!(class.times, Times::General)
-        && matches!(
-            class.env,
-            Env::One | Env::P2 | Env::P3 | Env::P | Env::Q2 | Env::Q
-        )
-}
-
-pub(crate) fn uses_due(crit: Crit) -> bool
-    ensures { result ≡ uses_due crit }
-{
-    matches!(
-        crit,
-        Crit::Lmax | Crit::SumU | Crit::SumWU | Crit::SumT | Crit::SumWT
-    )
-}
-
-pub(crate) fn uses_weight(crit: Crit) -> bool
-    ensures { result ≡ uses_weight crit }
-{
-    matches!(crit, Crit::SumWC | Crit::SumWU | Crit::SumWT)
 }
 
 fn count_of_keys(class: Class) -> usize

@@ -1,3 +1,4 @@
+// Lines and fields.
 ghost use Rattle.std.specs.Prelude.{◌≡◌, ◌+◌, ◌∷◌, ◌<◌, ◌≤◌, ◌^◌, length, position, count_by, ◌==◌, IfOk, OnOk};
 ghost use Rattle.msp_file.specs.Reading.{line_at, worded_at, fields_of, first_of, others_of};
 ghost use Rattle.msp_file.specs.Steps.{Moves, place_of, fields_after};

@@ -1,3 +1,4 @@
+// The numbers of fields.
 ghost use Rattle.std.specs.Prelude.{◌≡◌, ◌<◌, ◌≤◌, ◌^◌, IfOk, pos, neg_ℤ, if◌then◌else◌};
 ghost use Rattle.msp_file.specs.Reading.{natural_at, integer_at};
 

@@ -1,18 +1,17 @@
+// The lines of a job's operations.
 ghost use Rattle.std.specs.Prelude.{◌≡◌, ◌+◌, ◌<◌, ◌≤◌, ◌^◌, [], length, map, IfOk, OnOk, MatchResult};
-ghost use Rattle.msp_file.specs.Reading.{natural_at, machine_at, with_need, times_at, timed_route_at, unit_route_at, operations_at};
 ghost use Rattle.std.specs.List.{range_with_len};
 ghost use Rattle.msp_class.specs.Env.{kind_of};
-ghost use Rattle.msp_class.specs.Env.{most_operations};
-ghost use Rattle.msp_file.specs.InstanceText.{has_one_time, has_machine_times, has_route, has_times_line};
-ghost use Rattle.msp_file.specs.Reading.{least_time, operations_in, fields_in, is_route_count, times_line_at, route_line_at, unwritten_needs, needs_at};
+ghost use Rattle.msp_file.specs.Reading.{natural_at, machine_at, with_need, times_at, timed_route_at, machine_route_at, operations_at, operations_in, fields_in, is_route_count, times_line_at, route_line_at, unwritten_needs, needs_at};
 ghost use Rattle.msp_file.specs.Steps.{Gives, Leads, Moves, place_of, fields_after};
 
 use crate::fault::{FileFault, What};
 use crate::lines::{count_fields, next_field, worded_at};
 use crate::number::natural_at;
 use crate::place::Lines;
-use msp_class::{Class, Env, List, Times};
-use msp_instance::{GREATEST, MOST_OPERATIONS, Need};
+use msp_class::{Class, Env, List, MOST_OPERATIONS, env_kind, most_operations};
+use msp_grammar::{has_one_time, has_route, has_times, has_times_line};
+use msp_instance::{GREATEST, Need, least_time};
 use std::alloc::Global;
 
 /// Puts a need at the end.
@@ -51,7 +50,7 @@ fn take_time<'a>(
 
 /// One time for each machine in order.
 #[tactic(auto, unfolding(crate::specs::Reading::times_at))]
-pub(crate) fn times_at(
+fn times_at(
     alloc: Global,
     at: u32,
     least: u64,
@@ -126,21 +125,22 @@ fn timed_route_at(
     Ok(needs)
 }
 
-/// The machine in the next field, put at the end of the needs with unit time.
-#[tactic(auto, unfolding(crate::specs::Reading::unit_route_at))]
-fn take_unit<'a>(
+/// The machine in the next field, put at the end of the needs with this time.
+#[tactic(auto, unfolding(crate::specs::Reading::machine_route_at))]
+fn take_machine<'a>(
     at: u32,
     machines: u32,
+    time: u64,
     needs: &mut List<Need>,
     rest: &'a [u8],
 ) -> Result<&'a [u8], FileFault>
     requires { 0 < length rest.now }
-    ensures leads { Leads (λ more. unit_route_at at machines needs.new (fields_after more.now)) result (unit_route_at at machines needs.old (fields_after rest.now)) }
+    ensures leads { Leads (λ more. machine_route_at at machines time needs.new (fields_after more.now)) result (machine_route_at at machines time needs.old (fields_after rest.now)) }
     ensures more { IfOk result (λ more. length more.now < length rest.now) }
 {
     let (word, more) = next_field(rest);
     match machine_at(at, machines, word) {
-        Ok(machine) => match push_need(needs, machine, 1) {
+        Ok(machine) => match push_need(needs, machine, time) {
             Ok(()) => Ok(more),
             Err(fault) => Err(fault),
         },
@@ -148,46 +148,40 @@ fn take_unit<'a>(
     }
 }
 
-/// Machines in order, with unit times.
-#[tactic(auto, unfolding(crate::specs::Reading::unit_route_at))]
-fn unit_route_at(
+/// Machines in order, each with the same time.
+#[tactic(auto, unfolding(crate::specs::Reading::machine_route_at))]
+fn machine_route_at(
     alloc: Global,
     at: u32,
     machines: u32,
+    time: u64,
     fields: &[u8],
 ) -> Result<List<Need>, FileFault>
-    ensures { Gives (λ x. x) result (unit_route_at at machines [] (fields_after fields.now)) }
+    ensures { Gives (λ x. x) result (machine_route_at at machines time [] (fields_after fields.now)) }
 {
     let mut needs = List::new(alloc);
     let mut rest = fields;
     'fields: while !rest.is_empty() {
-        rest = take_unit(at, machines, &mut needs, rest)?;
+        rest = take_machine(at, machines, time, &mut needs, rest)?;
     }
     Ok(needs)
 }
 
-/// The operations of a route.
-pub(crate) fn operations_at(
+/// The operations of a route, with their times, or where times are not written with this one.
+fn operations_at(
     alloc: Global,
-    times: Times,
+    timed: bool,
     at: u32,
     machines: u32,
+    time: u64,
     fields: &[u8],
 ) -> Result<List<Need>, FileFault>
-    ensures { Gives (λ x. x) result (operations_at times at machines (fields_after fields.now)) }
+    ensures { Gives (λ x. x) result (operations_at timed at machines time (fields_after fields.now)) }
 {
-    match times {
-        Times::General => timed_route_at(alloc, at, machines, fields),
-        Times::Unit => unit_route_at(alloc, at, machines, fields),
-    }
-}
-
-fn least_time(env: Env) -> u64
-    ensures { result ≡ least_time (kind_of env) }
-{
-    match env {
-        Env::O2 | Env::O3 | Env::O | Env::F2 | Env::F3 | Env::F => 0,
-        _ => 1,
+    if timed {
+        timed_route_at(alloc, at, machines, fields)
+    } else {
+        machine_route_at(alloc, at, machines, time, fields)
     }
 }
 
@@ -195,11 +189,11 @@ fn least_time(env: Env) -> u64
 #[tactic(auto, unfolding(crate::specs::Reading::times_line_at))]
 fn times_line_at(
     alloc: Global,
-    env: Env,
+    least: u64,
     machines: u32,
     lines: &mut Lines<'_>,
 ) -> Result<List<Need>, FileFault>
-    ensures moves { Moves (λ x. x) result (place_of lines.new) (times_line_at (kind_of env) machines (place_of lines.old)) }
+    ensures moves { Moves (λ x. x) result (place_of lines.new) (times_line_at least machines (place_of lines.old)) }
     ensures shrinks { OnOk result (length lines.new.rest.now ≤ length lines.old.rest.now) }
 {
     let at = lines.at;
@@ -208,91 +202,69 @@ fn times_line_at(
             if count_fields(fields) != machines as usize {
                 return Err(FileFault::Count { at });
             }
-            times_at(alloc, at, least_time(env), fields)
+            times_at(alloc, at, least, fields)
         }
         Err(fault) => Err(fault),
     }
 }
 
 /// How many operations so many fields begin.
-fn operations_in(times: Times, fields: usize) -> usize
+fn operations_in(timed: bool, fields: usize) -> usize
     requires { fields < 2 ^ 63 }
-    ensures { result ≡ operations_in times fields }
+    ensures { result ≡ operations_in timed fields }
 {
-    match times {
-        Times::General => (fields + 1) / 2,
-        Times::Unit => fields,
-    }
+    if timed { (fields + 1) / 2 } else { fields }
 }
 
-fn most_operations(env: Env) -> usize
-    ensures { result ≡ most_operations env }
-{
-    match env {
-        Env::J2Short | Env::JShort => 2,
-        _ => MOST_OPERATIONS,
-    }
-}
-
-/// Whether so many fields are those of at least one and not too many operations.
-fn is_route_count(class: Class, fields: usize) -> bool
+/// Whether so many fields are those of at least one and at most so many operations.
+fn is_route_count(timed: bool, most: usize, fields: usize) -> bool
     requires { fields < 2 ^ 63 }
-    ensures { result ≡ is_route_count class.times (most_operations class.env) fields }
+    ensures { result ≡ is_route_count timed most fields }
 {
-    let operations = operations_in(class.times, fields);
-    let whole = match class.times {
-        Times::General => fields % 2 == 0,
-        Times::Unit => true,
-    };
-    1 <= operations && operations <= most_operations(class.env) && whole
+    let operations = operations_in(timed, fields);
+    let whole = if timed { fields % 2 == 0 } else { true };
+    1 <= operations && operations <= most && whole
 }
 
 /// The line with a job's route.
 #[tactic(auto, unfolding(crate::specs::Reading::route_line_at))]
 fn route_line_at(
     alloc: Global,
-    class: Class,
+    timed: bool,
+    most: usize,
     machines: u32,
+    time: u64,
     lines: &mut Lines<'_>,
 ) -> Result<List<Need>, FileFault>
-    ensures moves { Moves (λ x. x) result (place_of lines.new) (route_line_at class machines (place_of lines.old)) }
+    ensures moves { Moves (λ x. x) result (place_of lines.new) (route_line_at timed most machines time (place_of lines.old)) }
     ensures shrinks { OnOk result (length lines.new.rest.now ≤ length lines.old.rest.now) }
 {
     let at = lines.at;
     match worded_at(lines, b"route") {
         Ok(fields) => {
             let count = count_fields(fields);
-            if operations_in(class.times, count) > MOST_OPERATIONS {
+            if operations_in(timed, count) > MOST_OPERATIONS {
                 return Err(FileFault::Limit {
                     at,
                     what: What::Route,
                 });
             }
-            if !is_route_count(class, count) {
+            if !is_route_count(timed, most, count) {
                 return Err(FileFault::Count { at });
             }
-            operations_at(alloc, class.times, at, machines, fields)
+            operations_at(alloc, timed, at, machines, time, fields)
         }
         Err(fault) => Err(fault),
     }
 }
 
-fn has_one_time(env: Env) -> bool
-    ensures { result ≡ has_one_time (kind_of env) }
-{
-    matches!(
-        env,
-        Env::One | Env::P2 | Env::P3 | Env::P | Env::Q2 | Env::Q
-    )
-}
-
-/// One need for each machine, of unit time.
-fn unit_needs(alloc: Global, machines: u32) -> Result<List<Need>, FileFault>
-    ensures { MatchResult result (λ needs. needs ≡ map (λ q. record { machine = q; time = 1 }) (range_with_len 0 machines)) (λ e. e ≡ FileFault.Memory) }
+/// One need for each machine, all with this time.
+fn same_needs(alloc: Global, machines: u32, time: u64) -> Result<List<Need>, FileFault>
+    ensures { MatchResult result (λ needs. needs ≡ map (λ q. record { machine = q; time = time }) (range_with_len 0 machines)) (λ e. e ≡ FileFault.Memory) }
 {
     let mut needs = List::new(alloc);
     for machine in 0..machines {
-        push_need(&mut needs, machine, 1)?;
+        push_need(&mut needs, machine, time)?;
     }
     Ok(needs)
 }
@@ -307,7 +279,7 @@ fn unwritten_needs(
     ensures { MatchResult result (λ needs. needs ≡ unwritten_needs (kind_of env) machines time) (λ e. e ≡ FileFault.Memory) }
 {
     if !has_one_time(env) {
-        return unit_needs(alloc, machines);
+        return same_needs(alloc, machines, time);
     }
     let mut needs = List::new(alloc);
     match push_need(&mut needs, 0, time) {
@@ -316,23 +288,7 @@ fn unwritten_needs(
     }
 }
 
-pub(crate) fn has_times_line(class: Class) -> bool
-    ensures { result ≡ has_times_line class }
-{
-    matches!(class.times, Times::General)
-        && matches!(
-            class.env,
-            Env::R2 | Env::R | Env::O2 | Env::O3 | Env::O | Env::F2 | Env::F3 | Env::F
-        )
-}
-
-pub(crate) fn has_route(env: Env) -> bool
-    ensures { result ≡ has_route (kind_of env) }
-{
-    matches!(env, Env::J2Short | Env::JShort | Env::J2 | Env::J)
-}
-
-/// The needs of a job: those of its lines, or else the one with the time of its key or those of unit time.
+/// The needs of a job. Where no line writes a time, it is this one.
 #[tactic(auto, unfolding(crate::specs::Reading::needs_at))]
 pub(crate) fn needs_at(
     alloc: Global,
@@ -345,9 +301,12 @@ pub(crate) fn needs_at(
     ensures shrinks { OnOk result (length lines.new.rest.now ≤ length lines.old.rest.now) }
 {
     if has_times_line(class) {
-        times_line_at(alloc, class.env, machines, lines)
+        let least = least_time(env_kind(class.env), class.times);
+        times_line_at(alloc, least, machines, lines)
     } else if has_route(class.env) {
-        route_line_at(alloc, class, machines, lines)
+        let timed = has_times(class.times);
+        let most = most_operations(class.env);
+        route_line_at(alloc, timed, most, machines, time, lines)
     } else {
         unwritten_needs(alloc, class.env, machines, time)
     }

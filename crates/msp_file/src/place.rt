@@ -1,3 +1,4 @@
+// What is left of a text.
 ghost use Rattle.std.specs.Prelude.{◌+◌, ◌<◌, ◌^◌, length};
 
 /// What is left of a text: the number of the next line, from 1, and the bytes.

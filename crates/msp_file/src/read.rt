@@ -1,22 +1,26 @@
+// The reader of instance texts.
 ghost use Rattle.std.specs.Prelude.{◌≡◌, ℕ, ◌+◌, ◌<◌, ◌≤◌, ◌^◌, List as Items, length, IfOk, IfErr, MatchResult, Ok};
 ghost use Rattle.msp_instance.specs.declared.Instance.{Instance as InstanceValue};
 ghost use Rattle.msp_instance.specs.Conditions.{MeetsConditions, text_limits, IsAcyclic};
+ghost use Rattle.msp_file.specs.declared.read.TheConstants.{MOST_BYTES};
 ghost use Rattle.msp_file.specs.Answers.{faulty_name, IsFaultOf, IsTextFault, IsAnswerTo};
-ghost use Rattle.msp_file.specs.InstanceText.{IsInstanceText};
+ghost use Rattle.msp_grammar.specs.InstanceText.{IsInstanceText};
 ghost use Rattle.msp_file.specs.Reading.{front_at, filed_at, filed_of, no_draft, jobs_at};
 ghost use Rattle.msp_file.specs.Steps.{Gives, Moves, place_of};
 
 use crate::arcs::Arcs;
-use crate::draft::{Draft, jobs_at};
+use crate::draft::{Draft, Frame, jobs_at};
 use crate::fault::FileFault;
-use crate::filed::Filed;
-use crate::head::{class_at, machines_at, speeds_at, version_at};
-use crate::job_name::JobName;
-use crate::names::Names;
+use crate::head::{class_at, machines_at, speeds_at, time_at, version_at};
 use crate::place::Lines;
 use msp_class::{Class, List};
+use msp_grammar::Filed;
 use msp_instance::{ClassFault, Instance, OrderFault, check, forward};
+use msp_job_name::{JobName, Names};
 use std::alloc::Global;
+
+/// The most bytes of a text that is read.
+pub const MOST_BYTES: usize = 1 << 26;
 
 fn no_draft(alloc: Global) -> Draft
     ensures { result ≡ no_draft }
@@ -56,15 +60,14 @@ fn filed_of(
 /// Reads the lines after the head.
 fn draft_at(
     alloc: Global,
-    class: Class,
-    machines: u32,
+    frame: Frame,
     lines: &mut Lines<'_>,
 ) -> Result<Draft, FileFault>
     ensures even { IfOk result (λ d. length d.names ≡ length d.jobs) }
-    ensures moves { Moves (λ d. d) result (place_of lines.new) (jobs_at (length lines.old.rest.now + 1) class machines no_draft (place_of lines.old)) }
+    ensures moves { Moves (λ d. d) result (place_of lines.new) (jobs_at (length lines.old.rest.now + 1) frame.class frame.machines frame.time no_draft (place_of lines.old)) }
 {
     let mut draft = no_draft(alloc);
-    match jobs_at(alloc, class, machines, &mut draft, lines) {
+    match jobs_at(alloc, frame, &mut draft, lines) {
         Ok(()) => Ok(draft),
         Err(fault) => Err(fault),
     }
@@ -81,14 +84,20 @@ fn front_at(alloc: Global, bytes: &[u8], lines: &mut Lines<'_>) -> Result<Filed,
     let class = class_at(lines)?;
     let machines = machines_at(class.env, lines)?;
     let speeds = speeds_at(alloc, class.env, machines, lines)?;
-    let draft = draft_at(alloc, class, machines, lines)?;
+    let time = time_at(class.times, lines)?;
+    let frame = Frame {
+        class,
+        machines,
+        time,
+    };
+    let draft = draft_at(alloc, frame, lines)?;
     filed_of(alloc, class, machines, speeds, draft)
 }
 
 /// Reads the lines of an instance that are all of a text.
 #[tactic(auto, unfolding(crate::specs::Reading::filed_at))]
 fn filed_at(alloc: Global, bytes: &[u8]) -> Result<Filed, FileFault>
-    requires { length bytes.now ≤ 2 ^ 26 }
+    requires { length bytes.now ≤ MOST_BYTES }
     ensures even { IfOk result (λ f. length f.names ≡ length f.instance.jobs) }
     ensures gives { Gives (λ x. x) result (filed_at bytes.now) }
 {
@@ -154,7 +163,7 @@ fn check_order(alloc: Global, filed: &Filed) -> Result<(), FileFault>
 /// class, then a cycle.
 #[tactic(auto, using(crate::proofs::AnswerLemmas::answer_rules, crate::proofs::AnswerLaws::text_rules))]
 pub fn read_instance(alloc: Global, bytes: &[u8]) -> Result<Filed, FileFault>
-    requires { length bytes.now ≤ 2 ^ 26 }
+    requires { length bytes.now ≤ MOST_BYTES }
     ensures answer { IsAnswerTo (filed_at bytes.now) result }
     ensures named { IfOk result (λ f. length f.names ≡ length f.instance.jobs) }
     // What is read is the text of the instance.

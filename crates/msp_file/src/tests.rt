@@ -1,122 +1,8 @@
+// Instance texts, their faults, and texts that are printed again.
 use super::*;
-use msp_class::{Env, List};
+use msp_class::Env;
 use msp_instance::{Arc, ClassFault, Need, Step};
-use msp_schedule::{Frac, Piece, Schedule, Solution, lowest};
-use std::alloc::Global;
 use std::test::Fail;
-
-fn names_of(alloc: Global, words: &[&[u8]]) -> Result<Option<Names>, Fail> {
-    let mut list = List::new(alloc);
-    for word in words {
-        list.push(JobName::new(word).ok_or("no name")?)
-            .ok()
-            .ok_or("no memory")?;
-    }
-    Ok(Names::gather(alloc, &list)?)
-}
-
-#[test]
-fn names_of_jobs(rt: HostRuntime) -> Result<(), Fail> {
-    for (bytes, is_name) in [
-        (b"".as_slice(), false),
-        (b"Az_0-9.".as_slice(), true),
-        (b"a b".as_slice(), false),
-        (b"a/b".as_slice(), false),
-        (b"12345678901234567890123456789012".as_slice(), true),
-        (b"123456789012345678901234567890123".as_slice(), false),
-    ] {
-        assert_eq!(rt; JobName::new(bytes).is_some(), is_name, "{bytes:?}");
-    }
-    let names = names_of(rt.alloc(), [b"a".as_slice(), b"b", b"ab"].as_slice())?.ok_or(
-        "a name twice",
-    )?;
-    assert_eq!(rt; names.len(), 3);
-    let last = names.get(2).ok_or("no name")?;
-    assert_eq!(rt; last.bytes(), b"ab".as_slice());
-    assert_eq!(rt; names.place(&last), Some(2));
-    assert!(rt; names.get(3).is_none());
-    assert!(rt; names_of(rt.alloc(), [b"a".as_slice(), b"b", b"a"].as_slice())?.is_none());
-    assert!(rt; names_of(rt.alloc(), [b"a".as_slice(), b"a"].as_slice())?.is_none());
-    Ok(())
-}
-
-#[test]
-fn printed_schedule(rt: HostRuntime) -> Result<(), Fail> {
-    let alloc = rt.alloc();
-    let names = names_of(alloc, [b"a".as_slice(), b"b", b"c"].as_slice())?.ok_or("a name twice")?;
-    let cost = lowest(Frac { num: 18, den: 4 });
-    assert!(rt; cost.num == 9 && cost.den == 2 && names.len() == 3);
-    let pieces = List::from_vec(vec![in alloc;
-        Piece {
-            job: 0,
-            op: 0,
-            machine: 0,
-            from: 0,
-            to: 6
-        },
-        Piece {
-            job: 1,
-            op: 0,
-            machine: 1,
-            from: 0,
-            to: 3
-        },
-        Piece {
-            job: 2,
-            op: 0,
-            machine: 1,
-            from: 3,
-            to: 9
-        },
-        Piece {
-            job: 1,
-            op: 0,
-            machine: 0,
-            from: 6,
-            to: 9
-        },
-    ]?);
-    let solution = Solution {
-        schedule: Schedule { unit: 2, pieces },
-        cost,
-    };
-    let text = print_schedule(alloc, &names, &solution)?;
-    assert_eq!(rt;
-        text.as_slice(),
-        b"schedule
-cost 9/2
-unit 2
-piece a 1 1 0 6
-piece b 1 2 0 3
-piece c 1 2 3 9
-piece b 1 1 6 9
-end
-"
-            .as_slice()
-    );
-    Ok(())
-}
-
-#[test]
-fn printed_whole_cost(rt: HostRuntime) -> Result<(), Fail> {
-    let alloc = rt.alloc();
-    let names = names_of(alloc, [b"a".as_slice()].as_slice())?.ok_or("a name twice")?;
-    let cost = lowest(Frac { num: -4, den: 2 });
-    assert!(rt; cost.num == -2 && cost.den == 1);
-    let solution = Solution {
-        schedule: Schedule {
-            unit: 1,
-            pieces: List::new(alloc),
-        },
-        cost,
-    };
-    let text = print_schedule(alloc, &names, &solution)?;
-    assert_eq!(rt;
-        text.as_slice(),
-        b"schedule\ncost -2\nunit 1\nend\n".as_slice()
-    );
-    Ok(())
-}
 
 #[test]
 fn first_faults(rt: HostRuntime) {
@@ -232,6 +118,25 @@ fn first_faults(rt: HostRuntime) {
             b"msp 1\nclass 1||Cmax\n job a p=1\nend\n".as_slice(),
             FileFault::Line { at: 3 },
         ),
+        (
+            b"msp 1\nclass P|intree,p=p|Cmax\nmachines 2\ntime 1000001\njob a\njob b\njob c\njob d\narc a d\narc b d\narc c d\nend\n".as_slice(),
+            FileFault::Limit {
+                at: 4,
+                what: What::Time,
+            },
+        ),
+        (
+            b"msp 1\nclass 1||Cmax\ntime 5\njob a p=5\nend\n".as_slice(),
+            FileFault::Line { at: 3 },
+        ),
+        (
+            b"msp 1\nclass 1|p=p|Cmax\njob a\nend\n".as_slice(),
+            FileFault::Line { at: 3 },
+        ),
+        (
+            b"msp 1\nclass Q2|p=p|Cmax\nspeeds 1 2\n".as_slice(),
+            FileFault::Missing { at: 4 },
+        ),
     ] {
         assert!(rt; text.len() < 200);
         assert_eq!(rt;
@@ -345,6 +250,9 @@ fn printed_again(rt: HostRuntime) -> Result<(), Fail> {
         b"msp 1\nclass O||Cmax\nmachines 2\njob a\ntimes 0 3\nend\n",
         b"msp 1\nclass J2|n<=2|Cmax\njob a\nroute 1 2\njob b\nroute 2 3\njob c\nroute 1 2 2 2\njob d\nroute 2 1 1 4\nend\n",
         b"msp 1\nclass J|p=1|Cmax\nmachines 2\njob a\nroute 2 1 2\nend\n",
+        b"msp 1\nclass P|intree,p=p|Cmax\nmachines 2\ntime 5\njob a\njob b\njob c\njob d\narc a d\narc b d\narc c d\nend\n",
+        b"msp 1\nclass O2|p=p|sumwC\ntime 1000000\njob a w=2\njob b w=3\nend\n",
+        b"msp 1\nclass J|p=p|Cmax\nmachines 3\ntime 7\njob a\nroute 2 1 3\njob b\nroute 3\nend\n",
     ] {
         assert!(rt; text.len() < 200);
         let filed = read_instance(rt.alloc(), text)?;

@@ -56,7 +56,7 @@ fn is_route(most: usize, machines: u32, needs: &[Need]) -> bool
 }
 
 /// The least time of an operation.
-fn least_time(kind: EnvKind, times: Times) -> u64
+pub fn least_time(kind: EnvKind, times: Times) -> u64
     ensures { result ≡ least_time kind times }
 {
     match (kind, times) {

@@ -13,7 +13,8 @@ mod speeds;
 #[cfg(test)]
 mod tests;
 
-pub use membership::{ClassFault, check};
+pub use jobs::least_time;
+pub use membership::{ClassFault, check, common_time, first_time};
 use msp_class::{Class, List};
 pub use ranges::{
     GREATEST, GREATEST_EQUAL_TIME, GREATEST_MULTIPLE, GREATEST_SPEED, MOST_ARCS, MOST_JOBS,

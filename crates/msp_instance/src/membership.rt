@@ -77,8 +77,8 @@ fn check_frame(inst: &Instance) -> Result<(), ClassFault>
     Ok(())
 }
 
-/// The time of the first need, if there is one.
-fn first_time(needs: &[Need]) -> u64
+/// The time of the first need, and 0 where there is none.
+pub fn first_time(needs: &[Need]) -> u64
     ensures { result ≡ (slice_index_or needs.now 0 no_need).time }
 {
     match needs.first() {
@@ -88,7 +88,7 @@ fn first_time(needs: &[Need]) -> u64
 }
 
 /// The time that all operations share in a class of equal times: that of the first job's first need.
-fn common_time(inst: &Instance) -> u64
+pub fn common_time(inst: &Instance) -> u64
     ensures { result ≡ common_time inst.now }
 {
     match inst.jobs.as_slice().first() {

@@ -16,3 +16,4 @@ pub mod LastEnds
 pub mod Transport
 pub mod Serves
 pub mod Mirror
+pub mod EndsAndFloors

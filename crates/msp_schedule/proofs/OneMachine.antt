@@ -14,7 +14,7 @@ use Rattle.msp_class.specs.declared.class.Crit.{Crit}
 use Rattle.msp_class.specs.declared.class.Crit.TheVariants.{SumWC}
 use Rattle.msp_class.specs.Env.{fixed_machines, kind_of}
 use Rattle.msp_class.proofs.IntegerRing.{natural, pos-same}
-use Rattle.msp_schedule.proofs.Intervals.{IsApart, size_of, work_of, last_of, greatest_by}
+use Rattle.msp_schedule.proofs.Intervals.{IsApart, IsApartOn, apart_from_one, size_of, work_of, last_of, greatest_by}
 use Rattle.msp_class.proofs.Sums.{total_below, int_total_below, int_total_below-same, int_total_below-natural}
 use Rattle.msp_instance.specs.declared.Instance.{Instance}
 use Rattle.msp_instance.specs.Instance.{no_job, job_at, need_at}
@@ -125,21 +125,19 @@ pub record IsPlan (i : Instance) (s : Schedule) : Type 0 where
   pub apart : AllPairs (IsApart start finish) s.pieces
   pub work : (j : ℕ) → j < length i.jobs → work_of job_of start finish s.pieces j ≡ nat_abs s.unit * (need_at i j 0).time
 
-module _ (i : Instance) (m : IsOneMachine i) (s : Schedule) (f : Feasible i s) where
-  timed_pieces : All IsTimed s.pieces
+-- on identical machines
+module _ (i : Instance) (kind : kind_of i.class.env ≡ Identical) (s : Schedule) (f : Feasible i s) where
+  pub timed_pieces : All IsTimed s.pieces
   timed_pieces k d l = IsTimed-from_span _ (f.span k d l)
 
   operations : All (λ p. p.op ≡ 0) s.pieces
-  operations k d l = subst (λ x. HasOperation x i (get_or s.pieces k d).job (get_or s.pieces k d).op) m.kind (f.place k d l).operation
+  operations k d l = subst (λ x. HasOperation x i (get_or s.pieces k d).job (get_or s.pieces k d).op) kind (f.place k d l).operation
 
-  machines : All (λ p. p.machine ≡ 0) s.pieces
-  machines k d l =
-      let h : (get_or s.pieces k d).machine < i.machines = subst (λ x. MayRun x i (get_or s.pieces k d).job (get_or s.pieces k d).op (get_or s.pieces k d).machine) m.kind (f.place k d l).machine in
-      let o = m.one in
-      omega arith
+  pub machines_below : All (λ p. p.machine < i.machines) s.pieces
+  machines_below k d l = subst (λ x. MayRun x i (get_or s.pieces k d).job (get_or s.pieces k d).op (get_or s.pieces k d).machine) kind (f.place k d l).machine
 
-  apart_pieces : AllPairs (IsApart start finish) s.pieces
-  apart_pieces a b d h k = apart_in_nat _ _ (timed_pieces a d (omega arith)) (timed_pieces b d k) (f.machine a b d h k (machines a d (omega arith) ∙ sym (machines b d k)))
+  pub apart_on_machines : AllPairs (IsApartOn (λ p. p.machine) start finish) s.pieces
+  apart_on_machines a b d h k e = apart_in_nat _ _ (timed_pieces a d (omega arith)) (timed_pieces b d k) (f.machine a b d h k e)
 
   module _ (j : ℕ) (small : j < length i.jobs) where
     abbrev mine : List Piece
@@ -152,7 +150,7 @@ module _ (i : Instance) (m : IsOneMachine i) (s : Schedule) (f : Feasible i s) w
     Gets x = MatchBool i.class.cut (total (map (part_of x i) (pieces_of s j 0)) ≡ s.unit *ℤ pos (whole_work x i j 0)) ((p : Piece) × (pieces_of s j 0 ≡ p ∷ []) × IsWholeWork x i s.unit p)
 
     gets : Gets Identical
-    gets = subst Gets m.kind (f.work j 0 small (subst (λ x. HasOperation x i j 0) (sym m.kind) refl))
+    gets = subst Gets kind (f.work j 0 small (subst (λ x. HasOperation x i j 0) (sym kind) refl))
 
     -- the whole of job j in parts of the unit
     abbrev whole : ℕ
@@ -179,22 +177,26 @@ module _ (i : Instance) (m : IsOneMachine i) (s : Schedule) (f : Feasible i s) w
         lasts : (m n : ℕ) (x y : ℤ) → x ≡ pos m → y ≡ pos n → n < m → x -ℤ y ≡ pos (m - n)
         lasts m n x y e f h = omega (arith, ints)
 
-    full_work : work_of job_of start finish s.pieces j ≡ whole
+    pub full_work : work_of job_of start finish s.pieces j ≡ whole
     full_work = by i.class.cut gets
       where
         by : (b : Bool) → MatchBool b (total (map length_of (pieces_of s j 0)) ≡ s.unit *ℤ pos (need_at i j 0).time) ((p : Piece) × (pieces_of s j 0 ≡ p ∷ []) × (length_of p ≡ s.unit *ℤ pos (need_at i p.job p.op).time)) → sum_by (size_of start finish) mine ≡ whole
         by true h = in_parts h
         by false h = in_one h.0 h.1 h.2
 
+module _ (i : Instance) (m : IsOneMachine i) (s : Schedule) (f : Feasible i s) where
+  machines : All (λ p. p.machine ≡ 0) s.pieces
+  machines k d l = let h = machines_below i m.kind s f k d l in let o = m.one in omega arith
+
   -- a feasible schedule on one machine is a plan
   pub IsPlan-from_feasible : IsPlan i s
   IsPlan-from_feasible = record {
     unit = natural s.unit (omega (arith, ints, f.unit));
     some = omega (arith, ints, f.unit);
-    timed = timed_pieces;
+    timed = timed_pieces i m.kind s f;
     jobs = λ k d l. (f.place k d l).job;
-    apart = apart_pieces;
-    work = full_work;
+    apart = apart_from_one (λ p. p.machine) start finish 0 s.pieces machines (apart_on_machines i m.kind s f);
+    work = full_work i m.kind s f;
   }
 
 -- ---- the sum of costs

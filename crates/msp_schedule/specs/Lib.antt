@@ -5,3 +5,4 @@ pub mod Fraction
 pub mod Within
 pub mod Settled
 pub mod Examples
+pub mod Laws

@@ -10,10 +10,12 @@ ghost use Rattle.std.specs.Prelude.{pos, ◌≤ℤ◌};
 mod definitions;
 mod fraction;
 mod job_cost;
+mod laws;
 mod limits;
 mod total_cost;
 
 pub use fraction::lowest;
+pub use laws::{law_of_ends, law_of_floors};
 pub use limits::{GREATEST_CARRIED_UNIT, GREATEST_MOMENT, GREATEST_UNIT, MOST_PIECES};
 use msp_class::List;
 pub use total_cost::cost;

@@ -1,10 +1,10 @@
 -- The answer to `solve`.
 use Rattle.std.proofs.Common.{◌≡◌, ◌≢◌, ℕ, ◌≤◌, List, ◌++◌, length, Option, Some, IfOk, Result, Ok, Err, sym, ◌∙◌, subst, codes}
 use Rattle.msp_file.specs.declared.fault.FileFault.{FileFault}
-use Rattle.msp_file.specs.declared.filed.Filed.{Filed}
+use Rattle.msp_grammar.specs.declared.filed.Filed.{Filed}
 use Rattle.msp_file.specs.Reading.{filed_at}
 use Rattle.msp_file.specs.Answers.{IsFaultOf}
-use Rattle.msp_file.specs.InstanceText.{IsInstanceText}
+use Rattle.msp_grammar.specs.InstanceText.{IsInstanceText}
 use Rattle.msp_top.specs.declared.answers.Answer.{Answer}
 use Rattle.msp_top.specs.Files.{file_status, file_text}
 use Rattle.msp_class.specs.declared.class.Class.{Class}

@@ -8,8 +8,8 @@ use Rattle.msp_top.specs.Run.{Command, solve, label, Outcome, report, refusal, i
 use Rattle.msp_class.specs.declared.class.Class.{Class}
 use Rattle.msp_closure.specs.declared.entry.Entry.{Entry}
 use Rattle.msp_results.specs.Results.{ResultsOf}
-use Rattle.msp_file.specs.declared.filed.Filed.{Filed}
-use Rattle.msp_file.specs.InstanceText.{IsInstanceText}
+use Rattle.msp_grammar.specs.declared.filed.Filed.{Filed}
+use Rattle.msp_grammar.specs.InstanceText.{IsInstanceText}
 use Rattle.msp_top.specs.Note.{note_text}
 
 abbrev pub command_of : Asked → Command

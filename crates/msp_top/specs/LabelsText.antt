@@ -4,7 +4,7 @@ use Rattle.std.specs.Option.{unwrap_or, option_map_or}
 use Rattle.std.specs.List.{flat_map}
 use Rattle.msp_class.specs.declared.class.Class.{Class}
 use Rattle.msp_class.specs.Rank.{rank_of}
-use Rattle.msp_file.specs.ScheduleText.{line_feed, space}
+use Rattle.msp_grammar.specs.ScheduleText.{line_feed, space}
 use Rattle.msp_name.specs.Names.{name_of}
 use Rattle.msp_table.specs.declared.row.Chain.{Chain}
 use Rattle.msp_table.specs.Rows.{goes_of}

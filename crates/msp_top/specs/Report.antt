@@ -1,7 +1,7 @@
 -- The texts of reports.
 use Rattle.std.specs.Prelude.{ℕ, List, ◌++◌, codes}
 use Rattle.msp_schedule.specs.declared.Solution.{Solution}
-use Rattle.msp_file.specs.ScheduleText.{schedule_text}
+use Rattle.msp_grammar.specs.ScheduleText.{schedule_text}
 
 -- The first lines of the report of `solve`: the chain, which is the class itself, and the solver.
 abbrev pub solve_head : List ℕ

@@ -25,7 +25,7 @@ use Rattle.msp_schedule.specs.Settled.{IsSettled}
 use Rattle.msp_file.specs.declared.fault.FileFault.{FileFault}
 use Rattle.msp_file.specs.Reading.{filed_at}
 use Rattle.msp_file.specs.Answers.{IsFaultOf}
-use Rattle.msp_file.specs.InstanceText.{IsInstanceText}
+use Rattle.msp_grammar.specs.InstanceText.{IsInstanceText}
 use Rattle.msp_top.specs.Smith.{smith_class}
 use Rattle.msp_top.specs.Files.{file_status, file_text}
 use Rattle.msp_top.specs.Report.{solve_report}

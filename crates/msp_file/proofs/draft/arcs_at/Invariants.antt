@@ -1,4 +1,5 @@
 use Rattle.std.proofs.Common.{◌≡◌, ℕ, ◌<◌, ◌≤◌, length}
+use Rattle.msp_instance.specs.declared.ranges.TheConstants.{MOST_JOBS}
 use Rattle.msp_file.specs.Reading.{arcs_at}
 use Rattle.msp_file.specs.Steps.{place_of}
 use Rattle.msp_file.proofs.Loops.{IsOn}
@@ -6,7 +7,7 @@ use Rattle.msp_file.proofs.draft.arcs_at.Given as goal
 
 abbrev pub invariant-lines : goal.invariant-lines
 invariant-lines l =
-    (length l.draft.names ≤ 400)
+    (length l.draft.names ≤ MOST_JOBS)
     × (l.draft.names ≡ l.fn.draft.names)
     × (l.draft.jobs ≡ l.fn.draft.jobs)
     × ((n : ℕ) → length l.fn.lines.rest.now < n → IsOn arcs_at (arcs_at n l.fn.draft (place_of l.fn.lines)) l.draft (place_of l.lines))

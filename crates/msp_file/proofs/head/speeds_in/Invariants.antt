@@ -1,11 +1,12 @@
-use Rattle.std.proofs.Common.{◌≡◌, ◌≤◌, ◌^◌, [], length, All}
+use Rattle.std.proofs.Common.{◌≡◌, ◌≤◌, [], length, All}
+use Rattle.msp_instance.specs.declared.ranges.TheConstants.{GREATEST_SPEED}
 use Rattle.msp_file.specs.Reading.{speeds_in}
 use Rattle.msp_file.specs.Steps.{fields_after}
 use Rattle.msp_file.proofs.head.speeds_in.Given as goal
 
 -- what is left gives the answer of the whole
 abbrev pub invariant-fields : goal.invariant-fields
-invariant-fields l = All (λ s. (1 ≤ s) × (s ≤ 10 ^ 6)) l.speeds × (speeds_in l.at l.speeds (fields_after l.rest) ≡ speeds_in l.at [] (fields_after l.fields))
+invariant-fields l = All (λ s. (1 ≤ s) × (s ≤ GREATEST_SPEED)) l.speeds × (speeds_in l.at l.speeds (fields_after l.rest) ≡ speeds_in l.at [] (fields_after l.fields))
 
 abbrev pub decreases-fields : goal.decreases-fields
 decreases-fields l = length l.rest

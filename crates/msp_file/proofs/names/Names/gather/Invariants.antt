@@ -1,5 +1,0 @@
-use Rattle.msp_file.proofs.NameLists.{IsGathered}
-use Rattle.msp_file.proofs.names.Names.gather.Given as goal
-
-abbrev pub invariant-loop-name : goal.invariant-loop-name
-invariant-loop-name l = IsGathered l.items l.gathered l.name-index

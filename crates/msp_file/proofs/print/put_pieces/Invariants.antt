@@ -1,6 +1,0 @@
-use Rattle.std.proofs.Common.{◌≡◌, ◌++◌, drop}
-use Rattle.msp_file.specs.ScheduleText.{piece_lines}
-use Rattle.msp_file.proofs.print.put_pieces.Given as goal
-
-abbrev pub invariant-loop-piece : goal.invariant-loop-piece
-invariant-loop-piece l = l.out.items ++ piece_lines l.names (drop l.piece-index l.pieces) ≡ l.initial.out.items ++ piece_lines l.names l.pieces

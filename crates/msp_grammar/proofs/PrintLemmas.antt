@@ -1,0 +1,52 @@
+-- Printed fields and lines.
+use Rattle.std.proofs.Common.{◌≡◌, ℕ, List, [], ◌∷◌, ◌++◌, Result, Ok, Err, refl, sym, ap, ◌∙◌, append_assoc, codes, suc, ◌+◌, ◌<◌, length, drop, get_or, add-one, drop-cons}
+use Rattle.std.specs.Prelude.{OnOk}
+use Rattle.std.specs.List.{join_with_byte}
+use Rattle.std.proofs.lemmas.List.{append-nil}
+use Rattle.std.proofs.lemmas.List.Concat.{flat_map-append}
+use Rattle.msp_grammar.specs.InstanceText.{line_text, job_text, jobs_text}
+use Rattle.msp_class.specs.declared.class.Class.{Class}
+use Rattle.msp_instance.specs.declared.Job.{Job}
+use Rattle.msp_grammar.specs.Printing.{spaced}
+
+pub on_ok : {A E : Type 0} (r : Result A E) {P Q : Type 0} → (P → Q) → OnOk r P → OnOk r Q
+on_ok (Ok x) f h = f h
+on_ok (Err e) f h = tt
+
+spaced-append : (a b : List (List ℕ)) → spaced (a ++ b) ≡ spaced a ++ spaced b
+spaced-append a b = flat_map-append (λ w. 32 ∷ w) a b
+
+one_more : (o p q : List ℕ) (a b : List (List ℕ)) → p ≡ o ++ spaced a → q ≡ p ++ spaced b → q ≡ o ++ spaced (a ++ b)
+one_more o p q a b e f = f ∙ ap (λ x. x ++ spaced b) e ∙ append_assoc o (spaced a) (spaced b) ∙ ap (λ x. o ++ x) (sym (spaced-append a b))
+
+pub four : (o p q r s : List ℕ) (a b c d : List (List ℕ)) → p ≡ o ++ spaced a → q ≡ p ++ spaced b → r ≡ q ++ spaced c → s ≡ r ++ spaced d → s ≡ o ++ spaced (a ++ b ++ c ++ d)
+four o p q r s a b c d e f g h = one_more o r s (a ++ b ++ c) d (one_more o q r (a ++ b) c (one_more o p q a b e f) g) h
+
+-- a line is its first field and the others, each behind a space
+pub line-spaced : (w : List ℕ) (ws : List (List ℕ)) → join_with_byte 32 (w ∷ ws) ≡ w ++ spaced ws
+line-spaced w [] = sym (append-nil w)
+line-spaced w (v ∷ ws) = ap (λ x. w ++ (32 ∷ x)) (line-spaced v ws)
+
+-- the first field, the others and the line feed
+pub line_put : (o p q r w : List ℕ) (ws : List (List ℕ)) → p ≡ o ++ w → q ≡ p ++ spaced ws → r ≡ q ++ 10 ∷ [] → r ≡ o ++ line_text (w ∷ ws)
+line_put o p q r w ws e f g =
+    g ∙ ap (λ x. x ++ 10 ∷ []) (f ∙ ap (λ x. x ++ spaced ws) e ∙ append_assoc o w (spaced ws) ∙ ap (λ x. o ++ x) (sym (line-spaced w ws))) ∙ append_assoc o (join_with_byte 32 (w ∷ ws)) (10 ∷ [])
+
+pub ruleset line_rules = (line_put, line-spaced)
+
+pub arc_line : (a b : List ℕ) → line_text (codes "arc" ∷ a ∷ b ∷ []) ≡ codes "arc " ++ (a ++ (32 ∷ (b ++ 10 ∷ [])))
+arc_line a b = ap (λ x. codes "arc " ++ x) (append_assoc a (32 ∷ b) (10 ∷ []))
+
+-- the lines of one job, and those of the jobs after it
+pub jobs_next : (c : Class) (names : List (List ℕ)) (jobs : List Job) (at : ℕ) (job : Job) → at < length names → at < length jobs → job ≡ get_or jobs at job
+    → jobs_text c (drop at names) (drop at jobs) ≡ job_text c (get_or names at []) job ++ jobs_text c (drop (at + 1) names) (drop (at + 1) jobs)
+jobs_next c names jobs at job h k e =
+    let n : drop at names ≡ get_or names at [] ∷ drop (at + 1) names = rw (add-one, drop-cons names at [] h) refl in
+    let j : drop at jobs ≡ job ∷ drop (at + 1) jobs = rw (add-one, drop-cons jobs at job k) (ap (λ (x : Job). x ∷ drop (suc at) jobs) (sym e)) in
+    rw (n, j) refl
+
+pub jobs_step : (c : Class) (names : List (List ℕ)) (jobs : List Job) (at : ℕ) (job : Job) (o p total : List ℕ) → at < length names → at < length jobs → job ≡ get_or jobs at job
+    → p ≡ o ++ job_text c (get_or names at []) job → o ++ jobs_text c (drop at names) (drop at jobs) ≡ total → p ++ jobs_text c (drop (at + 1) names) (drop (at + 1) jobs) ≡ total
+jobs_step c names jobs at job o p total h k e f g =
+    let rest = jobs_text c (drop (at + 1) names) (drop (at + 1) jobs) in
+    ap (λ x. x ++ rest) f ∙ append_assoc o (job_text c (get_or names at []) job) rest ∙ ap (λ x. o ++ x) (sym (jobs_next c names jobs at job h k e)) ∙ g

@@ -1,0 +1,4 @@
+pub mod Layout
+pub mod ScheduleText
+pub mod InstanceText
+pub mod Printing

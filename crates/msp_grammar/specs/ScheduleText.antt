@@ -1,0 +1,78 @@
+-- The text of a schedule.
+use Rattle.std.specs.Prelude.{ℕ, ◌+◌, ◌<◌, ◌≤◌, List, [], ◌∷◌, ◌++◌, length, slice_index_or, ℤ, pos, ◌≤ℤ◌, All, codes, decimal, if◌then◌else◌}
+use Rattle.std.specs.Fmt.{signed_decimal}
+use Rattle.std.specs.Ordering.{int_eq}
+use Rattle.std.specs.List.{flat_map}
+use Rattle.msp_class.specs.declared.environments.TheConstants.{MOST_OPERATIONS}
+use Rattle.msp_instance.specs.declared.ranges.TheConstants.{MOST_MACHINES}
+use Rattle.msp_instance.specs.Conditions.{LiesWithin}
+use Rattle.msp_schedule.specs.declared.limits.TheConstants.{MOST_PIECES}
+use Rattle.msp_schedule.specs.declared.Piece.{Piece}
+use Rattle.msp_schedule.specs.declared.Frac.{Frac}
+use Rattle.msp_schedule.specs.declared.Schedule.{Schedule}
+use Rattle.msp_schedule.specs.Within.{IsMoment, IsUnit}
+use Rattle.msp_grammar.specs.declared.limits.TheConstants.{GREATEST_COST, GREATEST_DENOMINATOR}
+
+-- The byte that ends a line, and the one between two fields.
+abbrev pub line_feed : List ℕ
+line_feed = 10 ∷ []
+
+abbrev pub space : List ℕ
+space = 32 ∷ []
+
+-- The name of the job of a number, from 0.
+abbrev pub name_at : List (List ℕ) → ℕ → List ℕ
+name_at names j = slice_index_or names j []
+
+-- A fraction: its numerator and, where it is not 1, its denominator.
+abbrev pub fraction_text : Frac → List ℕ
+fraction_text x = signed_decimal x.num ++ (if int_eq x.den (pos 1) then [] else codes "/" ++ signed_decimal x.den)
+
+-- The line of a piece: the job's name, operation and machine from 1, and the moments between which it runs.
+unfoldable pub piece_line : List (List ℕ) → Piece → List ℕ
+piece_line names p =
+    codes "piece "
+    ++ name_at names p.job
+    ++ space
+    ++ decimal (p.op + 1)
+    ++ space
+    ++ decimal (p.machine + 1)
+    ++ space
+    ++ signed_decimal p.from
+    ++ space
+    ++ signed_decimal p.to
+    ++ line_feed
+
+abbrev pub piece_lines : List (List ℕ) → List Piece → List ℕ
+piece_lines names pieces = flat_map (piece_line names) pieces
+
+unfoldable pub cost_line : Frac → List ℕ
+cost_line x = codes "cost " ++ fraction_text x ++ line_feed
+
+unfoldable pub unit_line : ℤ → List ℕ
+unit_line unit = codes "unit " ++ signed_decimal unit ++ line_feed
+
+-- The text of a schedule and its cost.
+unfoldable pub schedule_text : List (List ℕ) → Schedule → Frac → List ℕ
+schedule_text names s x =
+    codes "schedule\n" ++ cost_line x ++ unit_line s.unit ++ piece_lines names s.pieces ++ codes "end\n"
+
+-- A cost within the limits of texts.
+pub record IsStatedCost (x : Frac) : Type 0 where
+  pub num : LiesWithin GREATEST_COST x.num
+  pub den : (pos 1 ≤ℤ x.den) × (x.den ≤ℤ pos GREATEST_DENOMINATOR)
+
+-- The piece is of a named job, and its numbers are within the limits of texts.
+pub record IsStatedPiece (names : List (List ℕ)) (p : Piece) : Type 0 where
+  pub job : p.job < length names
+  pub op : p.op < MOST_OPERATIONS
+  pub machine : p.machine < MOST_MACHINES
+  pub from : IsMoment p.from
+  pub to : IsMoment p.to
+
+-- The schedule and its cost can be written as a text.
+pub record IsStated (names : List (List ℕ)) (s : Schedule) (x : Frac) : Type 0 where
+  pub cost : IsStatedCost x
+  pub unit : IsUnit s.unit
+  pub few : length s.pieces ≤ MOST_PIECES
+  pub pieces : All (IsStatedPiece names) s.pieces

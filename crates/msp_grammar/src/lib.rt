@@ -1,0 +1,24 @@
+//! The grammar of instance texts and schedule texts, and the printers.
+//!
+//! It stands on `msp_text`, `msp_name`, `msp_job_name`, `msp_instance` and `msp_schedule`. The layers above use the definitions: that
+//! bytes are a text of an instance (`IsInstanceText`), and the text of a schedule (`schedule_text`); that `print_instance` and
+//! `print_schedule` give exactly `instance_text` and `schedule_text`, the first of which is then an instance text; and, for the
+//! readers, which lines and keys the texts of a class have.
+#![tactic(auto)]
+
+mod filed;
+mod instance_printer;
+mod layout;
+mod limits;
+mod schedule_printer;
+#[cfg(test)]
+mod tests;
+
+pub use filed::Filed;
+pub use instance_printer::print_instance;
+pub use layout::{
+    has_one_time, has_order, has_route, has_speeds, has_time_key, has_time_line, has_times,
+    has_times_line,
+};
+pub use limits::{GREATEST_COST, GREATEST_DENOMINATOR};
+pub use schedule_printer::print_schedule;

@@ -1,0 +1,15 @@
+use Rattle.std.proofs.Common.{bytes_eq, not, ap, ◌∙◌}
+use Rattle.std.specs.List.{list_any}
+use Rattle.indexmap.specs.IndexSet.{insert_key}
+use Rattle.msp_job_name.proofs.NameLists.{adds}
+use Rattle.msp_job_name.proofs.names.Names.add.Goals as goal
+
+pub returns-clause-added : goal.returns-clause-added
+returns-clause-added c =
+    adds
+    c.args.self.now
+    c.insert.new.self.keys
+    c.args.name
+    c.in-Ok.added
+    (c.in-Ok.ensures.added ∙ ap (λ ks. not (list_any (bytes_eq c.args.name) ks)) c.self.view_is)
+    (c.in-Ok.ensures.keys ∙ ap (λ ks. insert_key bytes_eq ks c.args.name) c.self.view_is)

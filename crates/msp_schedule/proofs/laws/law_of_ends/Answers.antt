@@ -1,0 +1,5 @@
+use Rattle.msp_schedule.proofs.EndsAndFloors.{law_of_ends}
+use Rattle.msp_schedule.proofs.laws.law_of_ends.Goals as goal
+
+pub returns : goal.returns
+returns c = law_of_ends
