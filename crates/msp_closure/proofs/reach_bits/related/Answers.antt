@@ -1,3 +1,4 @@
+-- The goals of `related` that are proved by lemmas.
 use Rattle.std.proofs.Common.{false, arith}
 use Rattle.msp_closure.specs.Tables.{allows}
 use Rattle.msp_closure.proofs.RelationLemmas.{room_falls}

@@ -1,3 +1,4 @@
+-- What the loop of `related` keeps.
 use Rattle.msp_closure.specs.Tables.{allows}
 use Rattle.msp_closure.specs.Relation.{room}
 use Rattle.msp_closure.proofs.ReachLemmas.{IsPassed}
