@@ -1,17 +1,14 @@
 -- What the marks of known results say: easy, hard or open exactly where the class is.
-use Rattle.std.proofs.Common.{◌≡◌, ℕ, ◌<◌, Bool, true, false, List, [], ◌∷◌, cond, length, map, filter, inl, inr, refl, arith}
-use Rattle.std.specs.Prelude.{◌↔◌, Contains, IsSomeAnd, slice_get, Option, Some}
+use Rattle.std.proofs.Common.{◌<◌, List, [], ◌∷◌, cond, length, map, filter, inl, inr, refl, arith}
+use Rattle.std.specs.Prelude.{Contains}
 use Rattle.std.specs.Bool.{Decides}
 use Rattle.std.proofs.lemmas.Option.{slice_get-get_or}
 use Rattle.msp_class.specs.declared.class.Class.{Class}
-use Rattle.msp_class.specs.declared.ranks.TheConstants.{CLASSES}
 use Rattle.msp_class.specs.Rank.{rank_of}
 use Rattle.msp_class.proofs.RankLemmas.{rank_of-below}
 use Rattle.std.proofs.lemmas.List.Elements.{Contains-append_left, Contains-append_right, Contains-append_cases}
-use Rattle.msp_table.specs.Chains.{every_row}
 use Rattle.msp_table.proofs.ChainLemmas.{Leads-weaken}
 use Rattle.msp_closure.specs.declared.entry.Entry.{Entry}
-use Rattle.msp_closure.specs.declared.entry.Verdict.{Verdict}
 use Rattle.msp_closure.specs.declared.entry.Verdict.TheVariants as verdict
 use Rattle.msp_closure.specs.declared.entry.Mark.{Mark}
 use Rattle.msp_closure.specs.declared.entry.Mark.TheVariants.{Easy, Pseudo, Weak, Hard, Strong, Torn, Both, Unsettled}
