@@ -1,1 +1,2 @@
 pub mod BestBack
+pub mod EarlyAnswers
