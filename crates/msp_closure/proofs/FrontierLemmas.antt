@@ -64,7 +64,7 @@ ListsInOrder-from t classes n all s = record {
 }
 
 -- a list of a property is a list of an equivalent one
-pub ListsInOrder-same : (P Q : Class → Type 0) (classes : List Class) → ((c : Class) → P c → Q c) → ((c : Class) → Q c → P c)
+ListsInOrder-same : (P Q : Class → Type 0) (classes : List Class) → ((c : Class) → P c → Q c) → ((c : Class) → Q c → P c)
     → ListsInOrder P classes → ListsInOrder Q classes
 ListsInOrder-same P Q classes to back s = record {
   lists = λ c. (λ has. to c ((s.lists c).0 has), λ q. (s.lists c).1 (back c q));
@@ -282,17 +282,28 @@ MinimalBelow-all t left n all s b = (
   λ both. s.all b both.0 (λ a below has. both.1 a has),
 )
 
+-- a list of the maximal classes of a property is one of those of an equivalent property
+pub IsMaximal-same : (P Q : Class → Type 0) (classes : List Class) → ((c : Class) → P c ↔ Q c) → ListsInOrder (IsMaximal P) classes
+    → ListsInOrder (IsMaximal Q) classes
+IsMaximal-same P Q classes same s = ListsInOrder-same (IsMaximal P) (IsMaximal Q) classes
+    (λ c m. ((same c).0 m.0, λ b q reaches. m.1 b ((same b).1 q) reaches))
+    (λ c m. ((same c).1 m.0, λ b p reaches. m.1 b ((same b).0 p) reaches)) s
+
+pub IsMinimal-same : (P Q : Class → Type 0) (classes : List Class) → ((c : Class) → P c ↔ Q c) → ListsInOrder (IsMinimal P) classes
+    → ListsInOrder (IsMinimal Q) classes
+IsMinimal-same P Q classes same s = ListsInOrder-same (IsMinimal P) (IsMinimal Q) classes
+    (λ c m. ((same c).0 m.0, λ b q reaches. m.1 b ((same b).1 q) reaches))
+    (λ c m. ((same c).1 m.0, λ b p reaches. m.1 b ((same b).0 p) reaches)) s
+
 -- the lists of the marks left, where the marks at first were those of a property
 pub ListsInOrder-maximal : (P : Class → Type 0) (t left : List Bool) (classes : List Class) → ((c : Class) → (is_marked t c ≡ true) ↔ P c)
     → ((b : Class) → (is_marked left b ≡ true) ↔ IsMaximal (λ c. is_marked t c ≡ true) b) → ListsInOrder (λ c. is_marked left c ≡ true) classes
     → ListsInOrder (IsMaximal P) classes
-ListsInOrder-maximal P t left classes marks kept s = ListsInOrder-same (λ c. is_marked left c ≡ true) (IsMaximal P) classes
-    (λ c marked. let m = (kept c).0 marked in ((marks c).0 m.0, λ b p reaches. m.1 b ((marks b).1 p) reaches))
-    (λ c m. (kept c).1 ((marks c).1 m.0, λ b marked reaches. m.1 b ((marks b).0 marked) reaches)) s
+ListsInOrder-maximal P t left classes marks kept s = IsMaximal-same (λ c. is_marked t c ≡ true) P classes marks
+    (ListsInOrder-same (λ c. is_marked left c ≡ true) (IsMaximal (λ c. is_marked t c ≡ true)) classes (λ c. (kept c).0) (λ c. (kept c).1) s)
 
 pub ListsInOrder-minimal : (P : Class → Type 0) (t left : List Bool) (classes : List Class) → ((c : Class) → (is_marked t c ≡ true) ↔ P c)
     → ((b : Class) → (is_marked left b ≡ true) ↔ IsMinimal (λ c. is_marked t c ≡ true) b) → ListsInOrder (λ c. is_marked left c ≡ true) classes
     → ListsInOrder (IsMinimal P) classes
-ListsInOrder-minimal P t left classes marks kept s = ListsInOrder-same (λ c. is_marked left c ≡ true) (IsMinimal P) classes
-    (λ c marked. let m = (kept c).0 marked in ((marks c).0 m.0, λ b p reaches. m.1 b ((marks b).1 p) reaches))
-    (λ c m. (kept c).1 ((marks c).1 m.0, λ b marked reaches. m.1 b ((marks b).0 marked) reaches)) s
+ListsInOrder-minimal P t left classes marks kept s = IsMinimal-same (λ c. is_marked t c ≡ true) P classes marks
+    (ListsInOrder-same (λ c. is_marked left c ≡ true) (IsMinimal (λ c. is_marked t c ≡ true)) classes (λ c. (kept c).0) (λ c. (kept c).1) s)

@@ -7,3 +7,4 @@ pub mod LabelLemmas
 pub mod RelationLemmas
 pub mod ReachLemmas
 pub mod FrontierLemmas
+pub mod StandingLemmas

@@ -57,10 +57,10 @@ IsFirst-among (here p) = (0, omega arith, refl)
 IsFirst-among (later without f) = let h = IsFirst-among f in (suc h.0, omega (arith, h.1), h.2)
 
 -- the near classes are those that lead to a wanted class
-pub near_leads : (usable : ℕ → Bool) (wanted : List Class) (t : List ℕ) → AreDistances usable wanted t → (c : Class) → value_of t c ≢ FAR → LeadsToOne usable wanted c
+near_leads : (usable : ℕ → Bool) (wanted : List Class) (t : List ℕ) → AreDistances usable wanted t → (c : Class) → value_of t c ≢ FAR → LeadsToOne usable wanted c
 near_leads usable wanted t are c near = let into = (are.near c near).leads in (into.last, into.is_wanted, ((are.near c near).rows, into.leads))
 
-pub leads_near : (usable : ℕ → Bool) (wanted : List Class) (t : List ℕ) → AreDistances usable wanted t → (c : Class) → LeadsToOne usable wanted c → value_of t c ≢ FAR
+leads_near : (usable : ℕ → Bool) (wanted : List Class) (t : List ℕ) → AreDistances usable wanted t → (c : Class) → LeadsToOne usable wanted c → value_of t c ≢ FAR
 leads_near usable wanted t are c leads = are.all c leads.2.0 (record { last = leads.0; is_wanted = leads.1; leads = leads.2.1 })
 
 pub no_way : (usable : ℕ → Bool) (wanted starts : List Class) (t : List ℕ) → AreDistances usable wanted t

@@ -3,8 +3,11 @@ use Rattle.std.specs.Prelude.{◌≡◌, ◌<◌, ◌↔◌, Bool, true, false, 
 use Rattle.msp_class.specs.declared.class.Class.{Class}
 use Rattle.msp_class.specs.Rank.{rank_of}
 use Rattle.msp_table.specs.Chains.{every_row, Reaches}
+use Rattle.msp_closure.specs.declared.entry.Entry.{Entry}
 use Rattle.msp_closure.specs.declared.entry.Mark.{Mark}
 use Rattle.msp_closure.specs.declared.entry.Mark.TheVariants.{Easy, Pseudo, Weak, Hard, Strong, Torn, Both, Unsettled}
+use Rattle.msp_closure.specs.declared.frontier_lists.FrontierLists.{FrontierLists}
+use Rattle.msp_closure.specs.Entries.{IsEasy, IsHard}
 
 -- among the classes with a property, each to which a chain leads from this one leads back to it
 abbrev pub IsMaximal : (Class → Type 0) → Class → Type 0
@@ -47,3 +50,14 @@ says_open _ = false
 -- the classes whose marks pass a test
 abbrev pub HasMark : (Mark → Bool) → List Mark → Class → Type 0
 HasMark test marks c = test (mark_at marks c) ≡ true
+
+-- neither easy nor hard, by what is listed
+abbrev pub IsOpen : List Entry → Class → Type 0
+IsOpen es c = (¬ IsEasy es c) × (¬ IsHard es c)
+
+-- the frontier of what known results say of the classes
+pub record IsFrontier (es : List Entry) (lists : FrontierLists) : Type 0 where
+  pub easy : ListsInOrder (IsMaximal (IsEasy es)) lists.easy
+  pub hard : ListsInOrder (IsMinimal (IsHard es)) lists.hard
+  pub low : ListsInOrder (IsMinimal (IsOpen es)) lists.low
+  pub high : ListsInOrder (IsMaximal (IsOpen es)) lists.high

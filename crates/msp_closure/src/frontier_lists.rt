@@ -1,10 +1,12 @@
 // The frontier: the easy, hard and open classes that chains of rows lead to or from last.
-ghost use Rattle.std.specs.Prelude.{◌≡◌, ◌↔◌, ◌≤◌, ◌<◌, ℕ, true, false, IfOk, IfSome, IfNone, IsTrue, length};
+ghost use Rattle.std.specs.Prelude.{◌≡◌, ◌↔◌, ◌≤◌, ◌<◌, ℕ, List, true, false, IfOk, IfSome, IfNone, IsTrue, length};
 ghost use Rattle.msp_class.specs.declared.class.Class.{Class};
 ghost use Rattle.msp_class.specs.Rank.{rank_of};
 ghost use Rattle.msp_table.specs.Chains.{every_row, Reaches};
 ghost use Rattle.msp_closure.specs.Tables.{is_marked};
-ghost use Rattle.msp_closure.specs.Frontier.{IsMaximal, IsMinimal, ListsInOrder, mark_at, says_easy, says_hard, says_open, HasMark};
+ghost use Rattle.msp_closure.specs.Frontier.{IsMaximal, IsMinimal, ListsInOrder, mark_at, says_easy, says_hard, says_open, HasMark, IsFrontier};
+ghost use Rattle.msp_closure.specs.Entries.{AreLabels};
+ghost use Rattle.msp_closure.specs.declared.entry.Entry.{Entry};
 ghost use Rattle.msp_closure.specs.Standing.{has_standing};
 
 use crate::class_table::{ClassTable, class_at};
@@ -41,6 +43,7 @@ pub fn frontier(alloc: Global, labels: &Labels) -> Result<FrontierLists, NoMemor
     ensures hard { IfOk result (λ lists. ListsInOrder (IsMinimal (HasMark says_hard labels.now)) lists.hard) }
     ensures low { IfOk result (λ lists. ListsInOrder (IsMinimal (HasMark says_open labels.now)) lists.low) }
     ensures high { IfOk result (λ lists. ListsInOrder (IsMaximal (HasMark says_open labels.now)) lists.high) }
+    ensures known { IfOk result (λ lists. (es : List Entry) → AreLabels es labels.now → IsFrontier es lists) }
 {
     let bits = reach(alloc)?;
     let easy = maximal(alloc, &bits, labels, Standing::Easy)?;

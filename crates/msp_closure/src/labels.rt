@@ -8,7 +8,7 @@ ghost use Rattle.msp_class.specs.declared.class.Class.{Class};
 use crate::class_table::{ClassTable, class_at};
 use crate::entry::{Entry, Mark, Verdict};
 use crate::listing::listed;
-use crate::reach_bits::related;
+use crate::reach_bits::{follow, related};
 use crate::reached::{leading, led};
 use crate::row_set::RowSet;
 use msp_class::{CLASSES, Class, List, NoMemory};
@@ -38,12 +38,12 @@ pub fn close(alloc: Global, entries: &List<Entry>) -> Result<Labels, NoMemory>
     let pseudo = listed(alloc, entries, Verdict::Pseudo)?;
     let hard = listed(alloc, entries, Verdict::Hard)?;
     let strong = listed(alloc, entries, Verdict::Strong)?;
-    let every = related(alloc, RowSet::Every)?;
-    let to_easy = leading(alloc, &every, &easy)?;
-    let from_hard = led(alloc, &every, &hard)?;
-    let keeping_size = related(alloc, RowSet::KeepsSize)?;
-    let to_pseudo = leading(alloc, &keeping_size, &pseudo)?;
-    let from_strong = led(alloc, &keeping_size, &strong)?;
+    let mut relation = related(alloc, RowSet::KeepsSize)?;
+    let to_pseudo = leading(alloc, &relation, &pseudo)?;
+    let from_strong = led(alloc, &relation, &strong)?;
+    follow(alloc, RowSet::Every, &mut relation)?;
+    let to_easy = leading(alloc, &relation, &easy)?;
+    let from_hard = led(alloc, &relation, &hard)?;
     let marks = marked(alloc, &to_easy, &to_pseudo, &from_hard, &from_strong)?;
     Ok(Labels { marks })
 }

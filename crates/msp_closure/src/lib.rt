@@ -1,4 +1,5 @@
-//! What a list of known results decides about every class: the labels, and the chains of reductions that show them.
+//! What a list of known results decides about every class: the labels, the frontier, and the chains of reductions that show them.
+//! Beside them which classes each class leads to.
 //!
 //! It stands on `msp_class` and `msp_table`.
 #![tactic(auto)]

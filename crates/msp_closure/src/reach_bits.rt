@@ -4,7 +4,7 @@ ghost use Rattle.msp_class.specs.declared.class.Class.{Class};
 ghost use Rattle.msp_class.specs.Rank.{rank_of};
 ghost use Rattle.msp_table.specs.Chains.{every_row, Reaches};
 ghost use Rattle.msp_closure.specs.Tables.{allows, is_marked};
-ghost use Rattle.msp_closure.specs.Relation.{IsReach, Rises, Grows, GrowsAt, IncludesMarked, IsClosedBut};
+ghost use Rattle.msp_closure.specs.Relation.{relates, IsReach, IsSound, Rises, Grows, GrowsAt, IncludesMarked, IsClosedBut};
 
 use crate::class_table::{ClassTable, class_at};
 use crate::distances::row_at;
@@ -56,19 +56,29 @@ pub(crate) fn next_reached(bits: &ReachBits, c: Class, from: u16) -> Option<Clas
     bits.relation.next_related(c, from)
 }
 
-/// Each class related to those to which chains lead. A pass joins the row of each class to those of the classes to which rows lead,
-/// where these changed in the last pass or in this one.
+/// Each class related to those to which chains lead.
 pub(crate) fn related(alloc: Global, rows: RowSet) -> Result<Relation, NoMemory>
     ensures { IfOk result (λ relation. IsReach (allows rows) relation) }
 {
     let mut relation = Relation::identity(alloc)?;
+    follow(alloc, rows, &mut relation)?;
+    Ok(relation)
+}
+
+/// Relates each class also to those to which chains lead. A pass joins the row of each class to those of the classes to which rows
+/// lead, where these changed in the last pass or in this one.
+pub(crate) fn follow(alloc: Global, rows: RowSet, relation: &mut Relation) -> Result<(), NoMemory>
+    requires sound { IsSound (allows rows) relation.old }
+    requires itself { (c : Class) → relates relation.old c c ≡ true }
+    ensures { IfOk result (λ _. IsReach (allows rows) relation.new) }
+{
     let mut last = ClassTable::new(alloc, true)?;
     let mut fresh = ClassTable::new(alloc, false)?;
-    'passes: while pass(rows, &mut relation, &last, &mut fresh) {
+    'passes: while pass(rows, relation, &last, &mut fresh) {
         last = fresh;
         fresh = ClassTable::new(alloc, false)?;
     }
-    Ok(relation)
+    Ok(())
 }
 
 /// One pass, from the highest rank down, since most rows lead to a higher one; it marks the classes whose rows changed. Whether one did.

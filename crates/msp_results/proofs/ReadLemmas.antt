@@ -2,6 +2,7 @@
 use Rattle.std.proofs.Common.{◌≡◌, ◌≤◌, ℕ, ◌+◌, List, [], ◌∷◌, ◌++◌, refl, ap, ◌∙◌, true, false, Result, Ok, Err, arith, append_assoc}
 use Rattle.std.proofs.lemmas.Bool.{le-ltb}
 use Rattle.std.specs.Prelude.{nat_lt}
+use Rattle.msp_results.specs.declared.limits.TheConstants.{MOST_ENTRIES}
 use Rattle.csv.specs.declared.reader.Reader.{Reader}
 use Rattle.msp_closure.specs.declared.entry.Entry.{Entry}
 use Rattle.msp_results.specs.declared.fault.ResultFault.{ResultFault}
@@ -22,11 +23,11 @@ after-after xs e (Ok es) = ap (λ v. Ok v) (append_assoc xs (e ∷ []) es)
 after-after xs e (Err f) = refl
 
 -- one entry more
-pub Going-more : (version : Version) (start now new : Reader (Bor (List ℕ))) (at : ℕ) (entries : List Entry) (fields : List (List ℕ)) (e : Entry) → Going version start now at entries → NextRow true now fields new → at ≤ 20000 → Ok e ≡ row_read version at fields
+pub Going-more : (version : Version) (start now new : Reader (Bor (List ℕ))) (at : ℕ) (entries : List Entry) (fields : List (List ℕ)) (e : Entry) → Going version start now at entries → NextRow true now fields new → at ≤ MOST_ENTRIES → Ok e ≡ row_read version at fields
     → Going version start new (at + 1) (entries ++ (e ∷ []))
 Going-more version start now new at entries fields e g next few read =
     let low = g.low in
-    let under : nat_lt 20000 at ≡ false = le-ltb 20000 at few in
+    let under : nat_lt MOST_ENTRIES at ≡ false = le-ltb MOST_ENTRIES at few in
     record {
       reading = next.1;
       low = omega arith;

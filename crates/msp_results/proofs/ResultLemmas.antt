@@ -7,6 +7,7 @@ use Rattle.std.proofs.lemmas.Bool.{le-ltb, le-leb, ltb-false, leb-true, eq-eqb, 
 use Rattle.std.proofs.lemmas.List.Elements.{All-from_recursion, recursion_from_All}
 use Rattle.std.proofs.lemmas.Slice.Eq.{bytes_eq-Decides}
 use Rattle.std.proofs.lemmas.Str.{IsUtf8-from_is_utf8, is_utf8-from_IsUtf8}
+use Rattle.msp_results.specs.declared.limits.TheConstants.{MOST_ENTRIES, LONGEST_SOURCE}
 use Rattle.msp_class.specs.declared.class.Class.{Class}
 use Rattle.msp_closure.specs.declared.entry.Entry.{Entry}
 use Rattle.msp_closure.specs.declared.entry.Verdict.{Verdict}
@@ -71,7 +72,7 @@ record Says (version : Version) (name verdict source : List ℕ) (e : Entry) : T
   judged : verdict ≡ verdict_text e.verdict
   sourced : source ≡ e.source
   plain : IsPlainText source
-  short : length source ≤ 200
+  short : length source ≤ LONGEST_SOURCE
 
 named-ok : (version : Version) (at : ℕ) (r : Result Class NameFault) (v s : List ℕ) (e : Entry) → named version at r v s ≡ Ok e
     → (c : Class) × (r ≡ Ok c) × (judged at c (verdict_read version v) s ≡ Ok e)
@@ -85,13 +86,13 @@ judged-ok at c (Some w) s e h = (w, refl, h)
 entry_of : Class → Verdict → List ℕ → Entry
 entry_of c w s = record { class = c; verdict = w; source = s }
 
-sourced-ok : (at : ℕ) (c : Class) (w : Verdict) (s : List ℕ) (e : Entry) → sourced at c w s ≡ Ok e → (is_plain s ≡ true) × (length s ≤ 200) × (entry_of c w s ≡ e)
+sourced-ok : (at : ℕ) (c : Class) (w : Verdict) (s : List ℕ) (e : Entry) → sourced at c w s ≡ Ok e → (is_plain s ≡ true) × (length s ≤ LONGEST_SOURCE) × (entry_of c w s ≡ e)
 unfolding entry_of
 sourced-ok at c w s e h =
     let a = if_ok (not (is_plain s)) (fault.Source at) _ e h in
-    let b = if_ok (nat_lt 200 (length s)) (fault.Long at) _ e a.1 in
+    let b = if_ok (nat_lt LONGEST_SOURCE (length s)) (fault.Long at) _ e a.1 in
     let k : entry_of c w s ≡ e = cc b.1 in
-    (not_false (is_plain s) a.0, ltb-false 200 (length s) b.0, k)
+    (not_false (is_plain s) a.0, ltb-false LONGEST_SOURCE (length s) b.0, k)
 
 -- a verdict that is read stands there as its word
 by_words : (v : List ℕ) (w : Verdict) (a b c d : Bool) → bytes_eq v (codes "easy") ≡ a → bytes_eq v (codes "pseudo") ≡ b → bytes_eq v (codes "hard") ≡ c
@@ -153,7 +154,7 @@ row_read-ok version at fs e h =
       named = said.named;
       known = said.may_be;
       plain = subst IsPlainText said.sourced said.plain;
-      short = let P : List ℕ → Type 0 = λ v. length v ≤ 200 in subst P said.sourced said.short;
+      short = let P : List ℕ → Type 0 = λ v. length v ≤ LONGEST_SOURCE in subst P said.sourced said.short;
     }
 
 word_read-text : (w : Verdict) → word_read (verdict_text w) ≡ Some w
@@ -170,7 +171,7 @@ unfolding fields_read
 row_read-from version at fs e i =
     let name : reading_of i.name ≡ Ok e.class = reading_of-NameOf i.name e.class i.named in
     let plain : is_plain e.source ≡ true = is-plain e.source i.plain in
-    let short : nat_lt 200 (length e.source) ≡ false = le-ltb 200 (length e.source) i.short in
+    let short : nat_lt LONGEST_SOURCE (length e.source) ≡ false = le-ltb LONGEST_SOURCE (length e.source) i.short in
     rw (i.three, name, verdict_read-text version e.verdict i.known, plain, short) refl
 
 then_after-ok : (r : Result Entry ResultFault) (q : Result (List Entry) ResultFault) (es : List Entry) → then_after r q ≡ Ok es → (e : Entry) × (rest : List Entry) × (r ≡ Ok e) × (q ≡ Ok rest) × (e ∷ rest ≡ es)
@@ -189,8 +190,8 @@ entries_read-ok version at [] es h =
     let P : List Entry → Type 0 = λ v. Covers version at [] v in
     subst P k (record { each = tt; few = omega arith })
 entries_read-ok version at (r ∷ rs) es h =
-    let a = if_ok (nat_lt 20000 at) fault.Many _ es h in
-    let low : at ≤ 20000 = ltb-false 20000 at a.0 in
+    let a = if_ok (nat_lt MOST_ENTRIES at) fault.Many _ es h in
+    let low : at ≤ MOST_ENTRIES = ltb-false MOST_ENTRIES at a.0 in
     let t = then_after-ok (row_read version at r) (entries_read version (at + 1) rs) es a.1 in
     let rest = entries_read-ok version (at + 1) rs t.1 t.3 in
     let few = rest.few in
@@ -202,7 +203,7 @@ entries_read-from version at [] [] z n = refl
 entries_read-from version at [] (e ∷ es) z n = absurd z
 entries_read-from version at (r ∷ rs) [] z n = absurd z
 entries_read-from version at (r ∷ rs) (e ∷ es) z n =
-    let low : nat_lt 20000 at ≡ false = le-ltb 20000 at (omega arith) in
+    let low : nat_lt MOST_ENTRIES at ≡ false = le-ltb MOST_ENTRIES at (omega arith) in
     let here : row_read version at r ≡ Ok e = row_read-from version at r e z.0 in
     let rest : entries_read version (at + 1) rs ≡ Ok es = entries_read-from version (at + 1) rs es z.1 (omega arith) in
     rw (low, here, rest) refl

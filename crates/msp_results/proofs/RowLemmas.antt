@@ -3,6 +3,7 @@ use Rattle.std.proofs.Common.{◌≡◌, ℕ, ◌+◌, ◌≤◌, ◌<◌, ◌^�
 use Rattle.std.specs.Prelude.{IsSomeAnd}
 use Rattle.std.specs.List.{AllByRecursion}
 use Rattle.std.proofs.lemmas.List.Elements.{All-from_recursion}
+use Rattle.msp_results.specs.declared.limits.TheConstants.{LONGEST_FILE}
 use Rattle.csv.specs.Machine.{Read, next_record, step, is_end, fields_after, field_after, ends_at_end}
 use Rattle.csv.specs.Reading.{Ready, ReadRecord, Reached, default_config, records_from, records_next, reader_config, reader_trim, names_headers, reader_headers, strip_bom, is_bom}
 use Rattle.csv.specs.declared.parser.Config.{Config}
@@ -111,15 +112,15 @@ rows_from-none : (s : State) (xs : List ℕ) → next_record default_config s []
 unfolding records_from
 rows_from-none s xs e = rw (add-one (length xs), e) refl
 
-known_bytes : (o : Option (List ℕ)) → IsSomeAnd o (λ xs. length xs ≤ 4194304) → (xs : List ℕ) × (o ≡ Some xs) × (length xs ≤ 4194304)
+known_bytes : (o : Option (List ℕ)) → IsSomeAnd o (λ xs. length xs ≤ LONGEST_FILE) → (xs : List ℕ) × (o ≡ Some xs) × (length xs ≤ LONGEST_FILE)
 known_bytes None h = absurd h
 known_bytes (Some xs) h = (xs, refl, h)
 
 IsFew : Option (List ℕ) → Type 0
-IsFew o = IsSomeAnd o (λ xs. length xs ≤ 4194304)
+IsFew o = IsSomeAnd o (λ xs. length xs ≤ LONGEST_FILE)
 
 row_goes : (a b : Reader (Bor (List ℕ))) (f : List (List ℕ)) (xs z : List ℕ) (p : Read) → Ready b → reader_config b ≡ default_config → reader_trim b ≡ trim.None
-    → bytes_left a ≡ Some xs → length xs ≤ 4194304 → next_record default_config a.state [] [] xs ≡ Some p → f ≡ p.0 → p.1 ≡ b.state → p.2 ≡ z → bytes_left b ≡ Some z → NextRow true a f b
+    → bytes_left a ≡ Some xs → length xs ≤ LONGEST_FILE → next_record default_config a.state [] [] xs ≡ Some p → f ≡ p.0 → p.1 ≡ b.state → p.2 ≡ z → bytes_left b ≡ Some z → NextRow true a f b
 unfolding IsFew
 row_goes a b f xs z p ready config trim at_a few next fields state left at_b =
     let size = next-bytes default_config a.state [] [] xs p next in
@@ -127,7 +128,7 @@ row_goes a b f xs z p ready config trim at_a few next fields state left at_b =
     let tail : rows_from p.1 p.2 ≡ rows_left b = rw (state, left, at_b) refl in
     let rest = ap length left in
     let all : All (λ g. length g < 2 ^ 32) p.0 = All-from_recursion (λ g. length g < 2 ^ 32) p.0 (short_fields (2 ^ 32) p.0 (omega arith)) in
-    let fits : length z ≤ 4194304 = omega arith in (
+    let fits : length z ≤ LONGEST_FILE = omega arith in (
       ap (λ o. rows_in a.state o) at_a ∙ rows_from-more a.state xs p next ∙ ap (λ t. p.0 ∷ t) tail ∙ ap (λ t. t ∷ rows_left b) (sym fields),
       record { config = config; trim = trim; ready = ready; known = subst IsFew (sym at_b) fits },
       subst AreShort (sym fields) all,
@@ -166,9 +167,9 @@ strip_bom-shorter (x ∷ y ∷ z ∷ xs) = strip_shorter (is_bom x y z) x y z xs
 
 -- a new reader
 pub opened : (r : Reader (Bor (List ℕ))) (xs : List ℕ) → reader_config r ≡ default_config → reader_trim r ≡ trim.None → names_headers r ≡ false → reader_headers r ≡ None
-    → bytes_left r ≡ Some (strip_bom xs) → length xs ≤ 4194304 → IsReading r
+    → bytes_left r ≡ Some (strip_bom xs) → length xs ≤ LONGEST_FILE → IsReading r
 unfolding IsFew
 opened r xs config trim named headers left few =
     let less = strip_bom-shorter xs in
-    let fits : length (strip_bom xs) ≤ 4194304 = omega arith in
+    let fits : length (strip_bom xs) ≤ LONGEST_FILE = omega arith in
     record { config = config; trim = trim; ready = inr (inr (named, headers)); known = subst IsFew (sym left) fits }

@@ -2,6 +2,7 @@
 use Rattle.std.specs.Prelude.{ℕ, ◌+◌, ◌==◌, ◌&&◌, nat_le, nat_lt, List, [], ◌∷◌, ◌++◌, length, Bool, not, Option, Some, None, Result, Ok, Err, bytes_eq, codes, if◌then◌else◌}
 use Rattle.std.specs.List.{list_all}
 use Rattle.std.specs.Str.{is_utf8}
+use Rattle.msp_results.specs.declared.limits.TheConstants.{MOST_ENTRIES, LONGEST_SOURCE}
 use Rattle.msp_class.specs.declared.class.Class.{Class}
 use Rattle.msp_closure.specs.declared.entry.Entry.{Entry}
 use Rattle.msp_closure.specs.declared.entry.Verdict.{Verdict}
@@ -55,7 +56,7 @@ version_read fields = elim (three_of fields) [ Some t ↦ columns_read t | None 
 
 -- the entry of record `at` whose class and verdict are read
 abbrev pub sourced : ℕ → Class → Verdict → List ℕ → Result Entry ResultFault
-sourced at c v s = if not (is_plain s) then Err (fault.Source at) else (if nat_lt 200 (length s) then Err (fault.Long at) else Ok (record { class = c; verdict = v; source = s }))
+sourced at c v s = if not (is_plain s) then Err (fault.Source at) else (if nat_lt LONGEST_SOURCE (length s) then Err (fault.Long at) else Ok (record { class = c; verdict = v; source = s }))
 
 abbrev pub judged : ℕ → Class → Option Verdict → List ℕ → Result Entry ResultFault
 judged at c None s = Err (fault.Verdict at)
@@ -85,7 +86,7 @@ then_after (Err f) rest = Err f
 -- the entries of these records, the first of which has the number `at`
 abbrev pub entries_read : Version → ℕ → List (List (List ℕ)) → Result (List Entry) ResultFault
 entries_read version at [] = Ok []
-entries_read version at (r ∷ rs) = if nat_lt 20000 at then Err fault.Many else then_after (row_read version at r) (entries_read version (at + 1) rs)
+entries_read version at (r ∷ rs) = if nat_lt MOST_ENTRIES at then Err fault.Many else then_after (row_read version at r) (entries_read version (at + 1) rs)
 
 -- the entries of the records behind the header
 abbrev pub headed_read : Option Version → List (List (List ℕ)) → Result (List Entry) ResultFault

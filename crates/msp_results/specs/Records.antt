@@ -1,5 +1,6 @@
 -- The records that a reader of CSV has still to give. No public contract cites this file.
 use Rattle.std.specs.Prelude.{◌≡◌, ◌≤◌, ℕ, ◌+◌, ◌<◌, ◌^◌, List, [], ◌∷◌, length, Option, Some, None, All, IsSomeAnd, Bool, true, false}
+use Rattle.msp_results.specs.declared.limits.TheConstants.{LONGEST_FILE}
 use Rattle.csv.specs.Reading.{Ready, default_config, records_from, source_of, reader_config, reader_trim, reader_state}
 use Rattle.csv.specs.declared.parser.State.{State}
 use Rattle.csv.specs.declared.reader.Reader.{Reader}
@@ -27,7 +28,7 @@ pub record IsReading (r : Reader (Bor (List ℕ))) : Type 0 where
   pub config : reader_config r ≡ default_config
   pub trim : reader_trim r ≡ trim.None
   pub ready : Ready r
-  pub known : IsSomeAnd (bytes_left r) (λ xs. length xs ≤ 4194304)
+  pub known : IsSomeAnd (bytes_left r) (λ xs. length xs ≤ LONGEST_FILE)
 
 -- no field is as long as a place in a name can tell
 abbrev pub AreShort : List (List ℕ) → Type 0

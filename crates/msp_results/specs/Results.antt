@@ -1,6 +1,7 @@
 -- The file of known results: the records of its bytes are a header and one record for each entry.
 use Rattle.std.specs.Prelude.{◌≡◌, ◌≢◌, ◌≤◌, ℕ, Bool, true, false, IsTrue, List, [], ◌∷◌, length, All, IsUtf8, codes}
 use Rattle.std.specs.List.{AllZip}
+use Rattle.msp_results.specs.declared.limits.TheConstants.{MOST_ENTRIES, LONGEST_SOURCE}
 use Rattle.csv.specs.Reading.{default_config, records, strip_bom}
 use Rattle.msp_name.specs.Names.{NameOf}
 use Rattle.msp_closure.specs.declared.entry.Entry.{Entry}
@@ -46,7 +47,7 @@ pub record IsEntry (version : Version) (fields : List (List ℕ)) (e : Entry) : 
   pub named : NameOf name e.class
   pub known : IsTrue (has_verdict version e.verdict)
   pub plain : IsPlainText e.source
-  pub short : length e.source ≤ 200
+  pub short : length e.source ≤ LONGEST_SOURCE
 
 -- the records of the bytes are the header of a version and one for each entry, in order, at most 20,000
 pub record ResultsOf (b : List ℕ) (entries : List Entry) : Type 0 where
@@ -54,4 +55,4 @@ pub record ResultsOf (b : List ℕ) (entries : List Entry) : Type 0 where
   pub rows : List (List (List ℕ))
   pub headed : records_of b ≡ header version ∷ rows
   pub each : AllZip (IsEntry version) rows entries
-  pub few : length entries ≤ 20000
+  pub few : length entries ≤ MOST_ENTRIES

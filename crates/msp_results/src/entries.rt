@@ -8,15 +8,13 @@ ghost use Rattle.msp_results.specs.Records.{AreShort};
 ghost use Rattle.msp_results.specs.Results.{has_verdict};
 
 use crate::fault::ResultFault;
+use crate::limits::LONGEST_SOURCE;
 use crate::version::Version;
 use csv::ByteRecord;
 use msp_class::List;
 use msp_closure::{Entry, Verdict};
 use msp_name::parse;
 use std::alloc::Global;
-
-/// The greatest length of a source, in bytes.
-const LONGEST_SOURCE: usize = 200;
 
 #[tactic(auto, using(crate::proofs::FieldLemmas::text_rules))]
 fn is_text(source: &[u8]) -> bool

@@ -6,6 +6,7 @@
 
 mod entries;
 mod fault;
+mod limits;
 mod read;
 mod records;
 #[cfg(test)]
@@ -13,4 +14,5 @@ mod tests;
 mod version;
 
 pub use fault::ResultFault;
+pub use limits::{LONGEST_FILE, LONGEST_SOURCE, MOST_ENTRIES};
 pub use read::read_results;

@@ -1,5 +1,6 @@
 // The entries of a file.
 ghost use Rattle.std.specs.Prelude.{◌≡◌, ◌≤◌, ◌⊎◌, length, IfOk, Ok, Err, List as Items};
+ghost use Rattle.msp_results.specs.declared.limits.TheConstants.{LONGEST_FILE};
 ghost use Rattle.msp_closure.specs.declared.entry.Entry.{Entry};
 ghost use Rattle.msp_results.specs.Reading.{entries_read, results_of};
 ghost use Rattle.msp_results.specs.Records.{IsReading, rows_left};
@@ -7,15 +8,13 @@ ghost use Rattle.msp_results.specs.Results.{ResultsOf};
 
 use crate::entries::{read_row, read_version};
 use crate::fault::ResultFault;
+use crate::limits::MOST_ENTRIES;
 use crate::records::{next_row, open};
 use crate::version::Version;
 use csv::{ByteRecord, Reader};
 use msp_class::List;
 use msp_closure::Entry;
 use std::alloc::Global;
-
-/// The greatest number of entries.
-const MOST_ENTRIES: u32 = 20_000;
 
 /// The entries of the records that are left; `row` is room for one.
 fn read_entries(
@@ -52,7 +51,7 @@ fn read_entries(
 /// The entries of the records of a file.
 #[tactic(auto, unfolding(crate::specs::Reading::results_of))]
 fn read_records(alloc: Global, bytes: &[u8]) -> Result<List<Entry>, ResultFault>
-    requires { length bytes.now ≤ 4194304 }
+    requires { length bytes.now ≤ LONGEST_FILE }
     ensures { (result ≡ Err ResultFault.Memory) ⊎ (result ≡ results_of bytes.now) }
 {
     let mut reader = open(alloc, bytes);
@@ -74,7 +73,7 @@ fn read_records(alloc: Global, bytes: &[u8]) -> Result<List<Entry>, ResultFault>
 /// `class,strength,source` they are `easy`, `pseudo`, `hard` and `strong`. Reading stops at the first fault. Want of memory, and whatever
 /// else `csv` refuses, is answered as `Memory`.
 pub fn read_results(alloc: Global, bytes: &[u8]) -> Result<List<Entry>, ResultFault>
-    requires { length bytes.now ≤ 4194304 }
+    requires { length bytes.now ≤ LONGEST_FILE }
     ensures ok { IfOk result (λ entries. ResultsOf bytes.now entries) }
     ensures complete { (entries : Items Entry) → ResultsOf bytes.now entries
         → (result ≡ Err ResultFault.Memory) ⊎ (result ≡ Ok entries) }

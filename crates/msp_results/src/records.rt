@@ -1,5 +1,6 @@
 // The records of a text, one by one.
 ghost use Rattle.std.specs.Prelude.{◌≡◌, IfOk, IfErr, length, ◌≤◌};
+ghost use Rattle.msp_results.specs.declared.limits.TheConstants.{LONGEST_FILE};
 ghost use Rattle.csv.specs.Records.{fields_of};
 ghost use Rattle.msp_results.specs.Records.{IsReading, NextRow, rows_left};
 ghost use Rattle.csv.specs.Reading.{default_config, records, strip_bom};
@@ -10,7 +11,7 @@ use std::alloc::Global;
 
 /// A reader of the records of a text of at most 4,194,304 bytes.
 pub fn open(alloc: Global, text: &[u8]) -> Reader<&[u8]>
-    requires { length text.now ≤ 4194304 }
+    requires { length text.now ≤ LONGEST_FILE }
     ensures reading { IsReading result }
     ensures rows { rows_left result ≡ records default_config (strip_bom text.now) }
 {

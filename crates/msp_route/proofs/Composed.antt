@@ -7,17 +7,16 @@ use Rattle.msp_class.proofs.IntegerRing.{≤ℤ_refl, ≤ℤ_trans, int_max-leas
 use Rattle.msp_class.specs.declared.NoMemory.{NoMemory}
 use Rattle.msp_class.specs.declared.environments.EnvKind.{EnvKind}
 use Rattle.msp_class.specs.declared.environments.EnvKind.TheVariants.{Identical, Uniform, Unrelated, OpenShop, FlowShop, JobShop}
-use Rattle.msp_class.specs.Env.{kind_of, is_mirror}
+use Rattle.msp_class.specs.Env.{kind_of}
 use Rattle.msp_instance.specs.declared.Instance.{Instance}
 use Rattle.msp_schedule.specs.declared.Schedule.{Schedule}
 use Rattle.msp_schedule.specs.declared.Solution.{Solution}
 use Rattle.msp_schedule.specs.Cost.{cost_of, Best, IsSolution, IsBest}
 use Rattle.msp_table.specs.Rows.{turns_dates}
-use Rattle.msp_table.proofs.KindLemmas.{open_shops-stay, TurnsDates-from_row}
+use Rattle.msp_table.proofs.KindLemmas.{open_shops-stay}
 use Rattle.msp_route.specs.Law.{Rate, IsPositive, IsLower, IsForth, IsBack}
 use Rattle.msp_route.specs.Bounds.{EndsBy, IsSized, IsBounded, KeepsBounds, IsAnswer, greatest_unit, answer_unit, moment_after}
 use Rattle.msp_route.specs.declared.bounds.TheConstants.{GREATEST_ANSWER_MOMENT, GREATEST_RAISE, GREATEST_LINED_UP, GREATEST_OPEN_UNIT}
-use Rattle.msp_route.proofs.LowCost.{cost-low}
 use Rattle.msp_route.proofs.BestBack.{Best-from_back}
 
 -- the unit of an answer is one that a way back takes
@@ -86,9 +85,3 @@ pub IfOk-answer : (row : ℕ) (upper lower : Instance) (t : Schedule) (result : 
     → IfOk result (λ s. KeepsBounds row upper lower t s.schedule) → IfOk result (λ s. IsAnswer upper s.schedule)
 IfOk-answer row upper lower t (Ok s) led answer low keeps = IsAnswer-composed row upper lower t s.schedule led answer keeps low
 IfOk-answer row upper lower t (Err e) led answer low keeps = tt
-
--- a best cost that release dates become is small
-pub IsLow-from_best : (row : ℕ) (upper lower : Instance) (t : Schedule) → IsLower row upper lower → IsAnswer lower t → Best lower t → turns_dates row ≡ true → cost_of lower t ≤ℤ GREATEST_ANSWER_MOMENT
-IsLow-from_best row upper lower t led answer best turns =
-    let to = TurnsDates-from_row row upper.class lower.class led.class turns in
-    cost-low lower t led.inner (subst (λ e. is_mirror e ≡ true) (sym to.env) to.mirror) to.heads to.crit answer.unit best

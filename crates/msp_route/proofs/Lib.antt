@@ -1,3 +1,3 @@
 pub mod BestBack
-pub mod LowCost
+pub mod EarlyAnswers
 pub mod Composed

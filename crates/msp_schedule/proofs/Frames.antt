@@ -215,10 +215,10 @@ pub of_operation-named : (ps : List Piece) (j o : ℕ) → All (λ p. (p.job ≡
 of_operation-named ps j o a d l = let b = both_true _ _ (filter_passes (λ p. (p.job == j) && (p.op == o)) ps a d l) in (eqb-true _ _ b.0, eqb-true _ _ b.1)
 
 -- what holds of all pieces holds of the one of an operation
-of_one : (P : Piece → Type 0) (ps : List Piece) (j o : ℕ) (p : Piece) → of_operation ps j o ≡ p ∷ [] → All P ps → P p
+pub of_one : (P : Piece → Type 0) (ps : List Piece) (j o : ℕ) (p : Piece) → of_operation ps j o ≡ p ∷ [] → All P ps → P p
 of_one P ps j o p e h = All-head P p [] (subst (All P) e (All-filter (λ q. (q.job == j) && (q.op == o)) P ps h))
 
-named_one : (ps : List Piece) (j o : ℕ) (p : Piece) → of_operation ps j o ≡ p ∷ [] → (p.job ≡ j) × (p.op ≡ o)
+pub named_one : (ps : List Piece) (j o : ℕ) (p : Piece) → of_operation ps j o ≡ p ∷ [] → (p.job ≡ j) × (p.op ≡ o)
 named_one ps j o p e = let P : Piece → Type 0 = λ q. (q.job ≡ j) × (q.op ≡ o) in All-head P p [] (subst (All P) e (of_operation-named ps j o))
 
 module _ (k : EnvKind) (i : Instance) (own : k ≡ Unrelated → All (HasTimePerMachine i.machines) i.jobs) (unit : ℤ) (ps : List Piece) (stand : All (λ p. (p.job < length i.jobs) × MayRun k i p.job p.op p.machine) ps) (j o : ℕ) where

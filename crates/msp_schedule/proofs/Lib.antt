@@ -15,5 +15,7 @@ pub mod Moves
 pub mod LastEnds
 pub mod Transport
 pub mod Serves
+pub mod Series
+pub mod InSeries
 pub mod Mirror
 pub mod EndsAndFloors

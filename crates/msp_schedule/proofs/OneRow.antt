@@ -6,12 +6,11 @@ use Rattle.std.specs.Int.{IsGcd}
 use Rattle.std.proofs.lemmas.Nat.Gcd.{dvd_antisymm, dvd_refl}
 use Rattle.std.proofs.Math.Nat.{one-dvd, dvd-mul_left, eq-one_of_dvd-one}
 use Rattle.msp_class.proofs.IntegerRing.{natural, *ℤ-one}
-use Rattle.std.proofs.lemmas.List.Elements.{All-nil, All-cons}
 use Rattle.msp_class.specs.declared.environments.EnvKind.{EnvKind}
 use Rattle.msp_class.specs.declared.environments.EnvKind.TheVariants.{Identical, Unrelated}
 use Rattle.msp_class.specs.Env.{kind_of}
 use Rattle.msp_class.proofs.Sums.{sum_by-mono, sum_by-constant, OnceBelow, OnceBelow-distinct, OnceBelow-contains, length-OnceBelow}
-use Rattle.msp_schedule.proofs.Rows.{row, Makes, begin_in, end_in, end_in-begin, length-row, row-All, row-to, row-in_order, row-positive, row-filter}
+use Rattle.msp_schedule.proofs.Rows.{row, Makes, begin_in, end_in, end_in-begin, length-row, row-All, row-to, row-in_order, row-made, row-positive, row-filter}
 use Rattle.msp_instance.specs.declared.Instance.{Instance}
 use Rattle.msp_instance.specs.Instance.{job_at, need_at}
 use Rattle.msp_schedule.specs.declared.Piece.{Piece}
@@ -35,21 +34,16 @@ piece_makes = record { job_is = λ j a b. refl; from_is = λ j a b. refl; to_is 
 abbrev pub time_at : Instance → ℕ → ℕ
 time_at i j = (need_at i j 0).time
 
--- each piece of a row is one that `piece` makes
-pub row-made : (p : ℕ → ℕ) (t : ℕ) (js : List ℕ) → All (λ q. q ≡ piece q.job (start q) (finish q)) (row piece p t js)
-row-made p t [] = All-nil (λ q. q ≡ piece q.job (start q) (finish q))
-row-made p t (j ∷ js) = All-cons (λ q. q ≡ piece q.job (start q) (finish q)) (piece j t (t + p j)) (row piece p (t + p j) js) refl (row-made p (t + p j) js)
-
 pub row-timed : (p : ℕ → ℕ) (t : ℕ) (js : List ℕ) → All (λ j. 0 < p j) js → All IsTimed (row piece p t js)
 row-timed p t js h k d l =
-    let made = row-made p t js k d l in
+    let made = row-made piece p piece_makes t js k d l in
     record { from = ap (λ q. q.from) made; to = ap (λ q. q.to) made; lasts = row-positive piece p piece_makes t js h k d l }
 
 pub row-machine : (p : ℕ → ℕ) (t : ℕ) (js : List ℕ) → All (λ q. q.machine ≡ 0) (row piece p t js)
-row-machine p t js k d l = ap (λ q. q.machine) (row-made p t js k d l)
+row-machine p t js k d l = ap (λ q. q.machine) (row-made piece p piece_makes t js k d l)
 
 pub row-op : (p : ℕ → ℕ) (t : ℕ) (js : List ℕ) → All (λ q. q.op ≡ 0) (row piece p t js)
-row-op p t js k d l = ap (λ q. q.op) (row-made p t js k d l)
+row-op p t js k d l = ap (λ q. q.op) (row-made piece p piece_makes t js k d l)
 
 -- a row has the unit 1
 abbrev pub row_schedule : Instance → List ℕ → Schedule

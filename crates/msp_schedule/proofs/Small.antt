@@ -22,7 +22,7 @@ pub product_within : (n : ℕ) (x : ℤ) (u D k : ℕ) → n ≤ u → LiesWithi
 product_within n (pos a) u D k h w l = let small : a ≤ D = omega (arith, ints, w) in let p = mul-le n a u D h small in (omega (arith, ints), omega (arith, ints))
 product_within n (negsuc a) u D k h w l = let small : suc a ≤ D = omega (arith, ints, w) in let p = mul-le n (suc a) u D h small in (omega (arith, ints), omega (arith, ints))
 
-due_within : (l : Limits) (b : Bool) (d : ℤ) → HasDue l b d → LiesWithin l.greatest_date d
+pub due_within : (l : Limits) (b : Bool) (d : ℤ) → HasDue l b d → LiesWithin l.greatest_date d
 due_within l true d h = h
 due_within l false d h = (omega (arith, ints, h), omega (arith, ints, h))
 

@@ -1,18 +1,17 @@
--- What rows do to the kinds of machines, and what the row that turns release dates into due dates does to a class.
+-- What rows do to the kinds of machines.
 use Rattle.std.proofs.Common.{◌≡◌, ℕ, Bool, true, false, List, [], ◌∷◌, ◌&&◌, eqb, cond, Some, None, refl, sym, ap, subst, ◌∙◌}
 use Rattle.std.specs.List.{find, list_all}
-use Rattle.std.specs.Prelude.{option_and_then, not, ◌||◌, codes}
+use Rattle.std.specs.Prelude.{option_and_then, not, ◌||◌}
 use Rattle.std.proofs.lemmas.Bool.{and_parts, eqb-true}
 use Rattle.msp_class.specs.declared.environments.EnvKind.{EnvKind}
 use Rattle.msp_class.specs.declared.environments.EnvKind.TheVariants.{Identical, Uniform, Unrelated, OpenShop, FlowShop, JobShop}
-use Rattle.msp_class.specs.Env.{kind_of, is_mirror}
+use Rattle.msp_class.specs.Env.{kind_of}
 use Rattle.msp_class.specs.Rank.{env_number}
 use Rattle.msp_class.specs.declared.class.Class.{Class}
 use Rattle.msp_class.specs.declared.class.Env.{Env}
 use Rattle.msp_class.specs.declared.class.Env.TheVariants.{One, P2, P3, P, Q2, Q, R2, R, O2, O3, O, F2, F3, F, J2Short, JShort, J2, J}
-use Rattle.msp_class.specs.declared.class.Crit.TheVariants.{Cmax, Lmax}
 use Rattle.msp_table.specs.Parts.{Part, EnvIs, CutIs, OrderIs, HeadsIs, TimesIs, CritIs, has, has_all, with_part, with_all}
-use Rattle.msp_table.specs.Rows.{RowRule, table, row_of, applies, led_to, goes_by, goes_of, turns_dates, turning_rule, mirror}
+use Rattle.msp_table.specs.Rows.{RowRule, table, row_of, applies, led_to, goes_by, goes_of}
 use Rattle.msp_table.proofs.RowLemmas.{find_passes}
 
 -- the environment after parts are replaced
@@ -162,43 +161,3 @@ open_shops-stay k a c goes e = open-stays (kind_of a.env) (kind_of c.env) (goes-
 -- no row leaves unrelated machines
 pub unrelated_machines-stay : (k : ℕ) (a c : Class) → goes_of k a ≡ Some c → kind_of a.env ≡ Unrelated → kind_of c.env ≡ Unrelated
 unrelated_machines-stay k a c goes e = unrelated-stays (kind_of a.env) (kind_of c.env) (goes-stays k a c goes) e
-
--- ---- the row that turns release dates into due dates
-
--- where it leads
-pub record TurnsDates (a c : Class) : Type 0 where
-  pub mirror : is_mirror a.env ≡ true
-  pub env : c.env ≡ a.env
-  pub heads : c.heads ≡ false
-  pub crit : c.crit ≡ Lmax
-
-abbrev rule_47 : RowRule
-rule_47 = turning_rule 47 (codes "r, Cmax to no r, Lmax") (HeadsIs true ∷ CritIs Cmax ∷ []) mirror (HeadsIs false ∷ CritIs Lmax ∷ [])
-
-led_by_47 : (a c : Class) → goes_by rule_47 a ≡ Some c → TurnsDates a c
-led_by_47 a c goes = by (applies rule_47 a) refl
-  where
-    some_same : {x y : Class} → Some x ≡ Some y → x ≡ y
-    some_same h = cc
-
-    never : None ≡ Some c → ⊥
-    never h = cc
-
-    by : (b : Bool) → applies rule_47 a ≡ b → TurnsDates a c
-    by false e = absurd (never (subst (λ b. cond b (Some (led_to rule_47 a)) None ≡ Some c) e goes))
-    by true e =
-        let same : led_to rule_47 a ≡ c = some_same (subst (λ b. cond b (Some (led_to rule_47 a)) None ≡ Some c) e goes) in
-        record {
-          mirror = (and_parts (has_all a rule_47.left) (is_mirror a.env) e).1;
-          env = sym (ap (λ x. x.env) same);
-          heads = sym (ap (λ x. x.heads) same);
-          crit = sym (ap (λ x. x.crit) same);
-        }
-
-is_47 : (a c : Class) → goes_of 47 a ≡ Some c → goes_by rule_47 a ≡ Some c
-unfolding goes_of table
-is_47 a c h = h
-
--- the row that turns release dates into due dates
-pub TurnsDates-from_row : (k : ℕ) (a c : Class) → goes_of k a ≡ Some c → turns_dates k ≡ true → TurnsDates a c
-TurnsDates-from_row k a c goes is = led_by_47 a c (is_47 a c (subst (λ n. goes_of n a ≡ Some c) (eqb-true k 47 is) goes))

@@ -1,3 +1,4 @@
+-- The goals of `in_order` that are proved by lemmas.
 use Rattle.std.proofs.Common.{false, ◌∙◌}
 use Rattle.msp_closure.proofs.FrontierLemmas.{ListedBelow-more, ListedBelow-same, ListsInOrder-from}
 use Rattle.msp_closure.proofs.frontier_lists.in_order.Goals as goal

@@ -1,3 +1,4 @@
+-- What the loop of `in_order` keeps.
 use Rattle.msp_closure.proofs.FrontierLemmas.{ListedBelow}
 use Rattle.msp_closure.proofs.frontier_lists.in_order.Given as goal
 

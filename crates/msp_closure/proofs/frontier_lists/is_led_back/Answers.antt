@@ -1,3 +1,4 @@
+-- The goals of `is_led_back` that are proved by lemmas.
 use Rattle.std.proofs.Common.{◌≡◌, ◌+◌, ℕ, false, true, sym, ◌∙◌, subst, arith}
 use Rattle.msp_table.specs.Chains.{every_row, Reaches}
 use Rattle.msp_closure.specs.Tables.{is_marked}

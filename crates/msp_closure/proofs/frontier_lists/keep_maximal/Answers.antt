@@ -1,3 +1,4 @@
+-- The goals of `keep_maximal` that are proved by lemmas.
 use Rattle.std.proofs.Common.{false, true, ◌≡◌, sym, ◌∙◌}
 use Rattle.msp_closure.proofs.FrontierLemmas.{MaximalBelow-off, MaximalBelow-stay, MaximalBelow-all}
 use Rattle.msp_closure.proofs.frontier_lists.keep_maximal.Goals as goal

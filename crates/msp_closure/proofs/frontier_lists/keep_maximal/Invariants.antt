@@ -1,3 +1,4 @@
+-- What the loop of `keep_maximal` keeps.
 use Rattle.msp_closure.proofs.FrontierLemmas.{MaximalBelow}
 use Rattle.msp_closure.proofs.frontier_lists.keep_maximal.Given as goal
 

@@ -1,3 +1,4 @@
+-- The goals of `keep_minimal` that are proved by lemmas.
 use Rattle.std.proofs.Common.{false, ◌∙◌}
 use Rattle.msp_closure.proofs.FrontierLemmas.{MinimalBelow-struck, MinimalBelow-stay, MinimalBelow-all}
 use Rattle.msp_closure.proofs.frontier_lists.keep_minimal.Goals as goal

@@ -1,3 +1,4 @@
+-- What the loop of `keep_minimal` keeps.
 use Rattle.msp_closure.proofs.FrontierLemmas.{MinimalBelow}
 use Rattle.msp_closure.proofs.frontier_lists.keep_minimal.Given as goal
 

@@ -1,3 +1,4 @@
+-- The goals of `maximal` that are proved by lemmas.
 use Rattle.std.proofs.Common.{◌≡◌, true, sym, ◌∙◌}
 use Rattle.std.proofs.lemmas.Result.{IfOk-weaker}
 use Rattle.msp_class.specs.declared.class.Class.{Class}

@@ -1,3 +1,4 @@
+-- The goals of `strike` that are proved by lemmas.
 use Rattle.std.proofs.Common.{◌≡◌, ◌+◌, ℕ, false, true, sym, ◌∙◌, subst, arith}
 use Rattle.msp_closure.proofs.FrontierLemmas.{IsNext, Struck, Struck-off, Struck-stay, Struck-all}
 use Rattle.msp_closure.proofs.frontier_lists.strike.Goals as goal

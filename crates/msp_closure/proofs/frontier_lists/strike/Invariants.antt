@@ -1,3 +1,4 @@
+-- What the loop of `strike` keeps.
 use Rattle.std.proofs.Common.{◌-◌, ◌≤◌}
 use Rattle.msp_class.specs.declared.ranks.TheConstants.{CLASSES}
 use Rattle.msp_closure.proofs.FrontierLemmas.{Struck}

@@ -1,3 +1,4 @@
+-- The goals of `with_standing` that are proved by lemmas.
 use Rattle.std.proofs.Common.{false, sym, ap, ◌∙◌, length-set, arith}
 use Rattle.std.proofs.lemmas.Option.{get_or_from_slice_get}
 use Rattle.msp_class.specs.declared.class.Class.{Class}

@@ -1,3 +1,4 @@
+-- What the loop of `with_standing` keeps.
 use Rattle.std.proofs.Common.{◌≡◌, ◌<◌, length}
 use Rattle.msp_class.specs.declared.class.Class.{Class}
 use Rattle.msp_class.specs.declared.ranks.TheConstants.{CLASSES}

@@ -8,14 +8,21 @@ use Rattle.msp_table.specs.Chains.{every_row}
 use Rattle.msp_closure.specs.Entries.{easy_listed, pseudo_listed, hard_listed, strong_listed}
 use Rattle.msp_closure.specs.Tables.{is_marked}
 use Rattle.msp_closure.specs.Relation.{relates}
+use Rattle.msp_closure.proofs.ReachLemmas.{IsSound-every, IsReach-itself}
 use Rattle.msp_closure.proofs.LabelLemmas.{AreLabels-from, leading-Decides, led-Decides}
 use Rattle.msp_closure.proofs.labels.close.Goals as goal
+
+pub follow-requires-clause-sound : goal.follow-requires-clause-sound
+follow-requires-clause-sound c = IsSound-every c.in_ok-relation.relation c.in_ok-relation.ensures
+
+pub follow-requires-clause-itself : goal.follow-requires-clause-itself
+follow-requires-clause-itself c = IsReach-itself keeps_size c.in_ok-relation.relation c.in_ok-relation.ensures
 
 pub returns : goal.returns
 returns c =
     let es = c.args.entries.now in
-    let every = c.in_ok-every.every in
-    let keeping = c.in_ok-keeping_size.keeping_size in
+    let keeping = c.in_ok-relation.relation in
+    let every = c.follow.new.relation in
     let leads = λ (words : List _) (x : Class) (wanted : List Class). list_any (λ b. relates words x b) wanted in
     let led = λ (words : List _) (x : Class) (starts : List Class). list_any (λ b. relates words b x) starts in
     AreLabels-from es
@@ -27,13 +34,13 @@ returns c =
     ))
     c.in_ok-marks.marks
     (λ x. record {
-      easy = Decides-at _ _ (c.in_ok-to_easy.ensures x ∙ ap (leads every x) (c.deref.ensures.value ∙ c.in_ok-easy.ensures))
-          (leading-Decides every_row every (easy_listed es) x c.in_ok-every.ensures);
-      pseudo = Decides-at _ _ (c.in_ok-to_pseudo.ensures x ∙ ap (leads keeping x) (c.deref-3.ensures.value ∙ c.in_ok-pseudo.ensures))
-          (leading-Decides keeps_size keeping (pseudo_listed es) x c.in_ok-keeping_size.ensures);
-      hard = Decides-at _ _ (c.in_ok-from_hard.ensures x ∙ ap (led every x) (c.deref-2.ensures.value ∙ c.in_ok-hard.ensures))
-          (led-Decides every_row every (hard_listed es) x c.in_ok-every.ensures);
-      strong = Decides-at _ _ (c.in_ok-from_strong.ensures x ∙ ap (led keeping x) (c.deref-4.ensures.value ∙ c.in_ok-strong.ensures))
-          (led-Decides keeps_size keeping (strong_listed es) x c.in_ok-keeping_size.ensures);
+      easy = Decides-at _ _ (c.in_ok-to_easy.ensures x ∙ ap (leads every x) (c.deref-3.ensures.value ∙ c.in_ok-easy.ensures))
+          (leading-Decides every_row every (easy_listed es) x c.in_ok-follow.ensures);
+      pseudo = Decides-at _ _ (c.in_ok-to_pseudo.ensures x ∙ ap (leads keeping x) (c.deref.ensures.value ∙ c.in_ok-pseudo.ensures))
+          (leading-Decides keeps_size keeping (pseudo_listed es) x c.in_ok-relation.ensures);
+      hard = Decides-at _ _ (c.in_ok-from_hard.ensures x ∙ ap (led every x) (c.deref-4.ensures.value ∙ c.in_ok-hard.ensures))
+          (led-Decides every_row every (hard_listed es) x c.in_ok-follow.ensures);
+      strong = Decides-at _ _ (c.in_ok-from_strong.ensures x ∙ ap (led keeping x) (c.deref-2.ensures.value ∙ c.in_ok-strong.ensures))
+          (led-Decides keeps_size keeping (strong_listed es) x c.in_ok-relation.ensures);
     })
     c.in_ok-marks.ensures.len c.in_ok-marks.ensures.each

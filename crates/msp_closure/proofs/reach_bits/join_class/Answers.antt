@@ -1,3 +1,4 @@
+-- The goals of `join_class` that are proved by lemmas.
 use Rattle.std.proofs.Common.{ℕ, Bool, subst, arith}
 use Rattle.msp_closure.specs.Tables.{allows}
 use Rattle.msp_closure.specs.Relation.{Rises, IncludesMarked}

@@ -1,3 +1,4 @@
+-- What the loop of `join_class` keeps.
 use Rattle.msp_closure.specs.Tables.{allows}
 use Rattle.msp_closure.specs.Relation.{GrowsAt, Rises}
 use Rattle.msp_closure.proofs.ReachLemmas.{IncludesBefore}

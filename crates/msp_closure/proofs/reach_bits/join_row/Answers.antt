@@ -1,3 +1,4 @@
+-- The goals of `join_row` that are proved by lemmas.
 use Rattle.std.proofs.Common.{sym, ◌∙◌}
 use Rattle.msp_closure.specs.Tables.{allows}
 use Rattle.msp_closure.proofs.ReachLemmas.{GrowsAt-join, IncludesMarked-join}

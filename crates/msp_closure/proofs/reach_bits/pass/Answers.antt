@@ -1,3 +1,4 @@
+-- The goals of `pass` that are proved by lemmas.
 use Rattle.std.proofs.Common.{◌≡◌, ◌+◌, Bool, subst, arith}
 use Rattle.msp_class.specs.declared.ranks.TheConstants.{CLASSES}
 use Rattle.msp_class.specs.Rank.{rank_of}

@@ -1,3 +1,4 @@
+-- What the loop of `pass` keeps.
 use Rattle.msp_closure.specs.Tables.{allows}
 use Rattle.msp_closure.proofs.ReachLemmas.{Passed}
 use Rattle.msp_closure.proofs.reach_bits.pass.Given as goal

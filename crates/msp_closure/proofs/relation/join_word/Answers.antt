@@ -1,3 +1,4 @@
+-- The goals of `join_word` that are proved by lemmas.
 use Rattle.std.proofs.Common.{rules}
 use Rattle.msp_closure.proofs.RelationLemmas.{rises_or}
 use Rattle.msp_closure.proofs.relation.join_word.Goals as goal

@@ -1,3 +1,4 @@
+-- What the loop of `join_words` keeps.
 use Rattle.msp_closure.specs.Relation.{Rises}
 use Rattle.msp_closure.proofs.RelationLemmas.{JoinedTo}
 use Rattle.msp_closure.proofs.relation.join_words.Given as goal

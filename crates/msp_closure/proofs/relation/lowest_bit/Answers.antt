@@ -1,3 +1,4 @@
+-- The goals of `lowest_bit` that are proved by lemmas.
 use Rattle.msp_closure.proofs.RelationLemmas.{lowest_none, lowest_some}
 use Rattle.msp_closure.proofs.relation.lowest_bit.Goals as goal
 

@@ -1,3 +1,4 @@
+-- What the loop of `next_bit` keeps.
 use Rattle.msp_closure.proofs.RelationLemmas.{NoneBefore}
 use Rattle.msp_closure.proofs.relation.next_bit.Given as goal
 

@@ -1,3 +1,4 @@
+-- The goals of `relate` that are proved by lemmas.
 use Rattle.std.proofs.Common.{arith}
 use Rattle.msp_closure.proofs.RelationLemmas.{relate_itself, relate_others, relate_kept}
 use Rattle.msp_closure.proofs.relation.relate.Goals as goal

@@ -1,3 +1,4 @@
+-- The goals of `identity` that are proved by lemmas.
 use Rattle.std.proofs.Common.{arith, ◌≡◌, ℕ, List, true, length, ap, sym, ◌∙◌, subst}
 use Rattle.std.proofs.lemmas.List.{take_at}
 use Rattle.msp_class.specs.declared.class.Class.{Class}

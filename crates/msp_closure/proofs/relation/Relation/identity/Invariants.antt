@@ -1,3 +1,4 @@
+-- What the loop of `identity` keeps.
 use Rattle.std.proofs.Common.{◌≡◌, ◌<◌, ◌*◌, true, length}
 use Rattle.msp_class.specs.declared.class.Class.{Class}
 use Rattle.msp_class.specs.declared.ranks.TheConstants.{CLASSES}

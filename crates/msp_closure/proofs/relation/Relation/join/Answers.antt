@@ -1,3 +1,4 @@
+-- The goals of `join` that are proved by lemmas.
 use Rattle.std.proofs.Common.{◌≡◌, ℕ, List, length, ap, sym, ◌∙◌, subst}
 use Rattle.std.proofs.lemmas.List.{take_at}
 use Rattle.msp_class.specs.Rank.{rank_of}

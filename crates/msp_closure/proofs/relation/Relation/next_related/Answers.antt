@@ -1,3 +1,4 @@
+-- The goals of `next_related` that are proved by lemmas.
 use Rattle.std.proofs.Common.{◌≡◌, ◌*◌, ℕ, true, false, List, ap, sym, ◌∙◌, subst, arith}
 use Rattle.msp_class.specs.Rank.{rank_of}
 use Rattle.msp_class.proofs.RankLemmas.{rank_of-below}

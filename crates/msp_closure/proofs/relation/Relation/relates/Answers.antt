@@ -1,3 +1,4 @@
+-- The goals of `relates` that are proved by lemmas.
 use Rattle.std.proofs.Common.{◌≡◌, ◌/◌, ◌^◌, ◌%◌, ℕ, nat_eq, bit_and, List, subst, arith}
 use Rattle.std.proofs.lemmas.List.{get_or_read}
 use Rattle.msp_closure.specs.Relation.{relates}

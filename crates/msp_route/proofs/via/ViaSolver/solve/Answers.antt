@@ -1,7 +1,8 @@
 use Rattle.std.proofs.Common.{subst, rules}
 use Rattle.msp_schedule.specs.Cost.{Best}
 use Rattle.msp_route.specs.Bounds.{IsBounded, IsAnswer}
-use Rattle.msp_route.proofs.Composed.{IsBounded-from_answer, IfOk-best, IfOk-answer, IsLow-from_best}
+use Rattle.msp_route.proofs.Composed.{IsBounded-from_answer, IfOk-best, IfOk-answer}
+use Rattle.msp_route.proofs.EarlyAnswers.{turned_cost}
 use Rattle.msp_route.proofs.via.ViaSolver.solve.Goals as goal
 
 pub back-requires-clause-bounded : goal.back-requires-clause-bounded
@@ -24,4 +25,4 @@ returns-clause-bounds g c =
     let answer = subst (λ j. IsAnswer j t) c.in_ok-lower.ensures c.in_ok-solution.ensures.bounds in
     let best = subst (λ j. Best j t) c.in_ok-lower.ensures c.in_ok-solution.ensures.best.best in
     IfOk-answer (g.R.Reduction.number first) inst (g.R.Reduction.lower first inst) t c.back.result led answer
-    (IsLow-from_best (g.R.Reduction.number first) inst (g.R.Reduction.lower first inst) t led answer best) c.back.ensures.bounds
+    (λ turns. turned_cost (g.R.Reduction.number first) inst (g.R.Reduction.lower first inst) t turns led best answer.unit) c.back.ensures.bounds

@@ -1,0 +1,64 @@
+-- Smith's order of jobs that take time is a strict weak order, so a sort by it puts the greater weight for its time first, and ties by number.
+use Rattle.std.proofs.Common.{◌≡◌, ℕ, ◌*◌, ◌<◌, ◌≤◌, Bool, true, false, ◌⊎◌, inl, inr, List, get_or, AllPairs, ap, arith}
+use Rattle.std.specs.Ordering.{is_lt, nat_cmp, ordering_then}
+use Rattle.std.specs.Cmp.{IsStrictWeakOrder}
+use Rattle.std.specs.List.Sorted.{IsSortedBy}
+use Rattle.std.proofs.lemmas.Bool.Decides.{nat_tests}
+use Rattle.std.proofs.lemmas.List.Sorted.{sorted_far}
+use native.Mathlib.Nat.{le_of_mul-le-mul_left, mul-le-mul_left, mul-lt-mul_of_pos_left, lt_of_mul-lt-mul_left}
+
+-- the numbers m and n are compared, and then a and b
+abbrev pub less : ℕ → ℕ → ℕ → ℕ → Bool
+less m n a b = is_lt (ordering_then (nat_cmp m n) (nat_cmp a b))
+
+less-yes : (m n a b : ℕ) → less m n a b ≡ true → (m < n) ⊎ ((m ≡ n) × (a < b))
+less-yes m n a b h = grind (arith, nat_tests)
+
+less-no : (m n a b : ℕ) → less m n a b ≡ false → (n < m) ⊎ ((n ≡ m) × (b ≤ a))
+less-no m n a b h = grind (arith, nat_tests)
+
+not_less : (m n a b : ℕ) → (n < m) ⊎ ((n ≡ m) × (b ≤ a)) → less m n a b ≡ false
+not_less m n a b h = grind (arith, nat_tests)
+
+-- ratios a / P, b / Q and c / R go on past the middle one
+strict_left : (a b c P Q R : ℕ) → 0 < R → a * Q < b * P → b * R ≤ c * Q → a * R < c * P
+strict_left a b c P Q R r h k = lt_of_mul-lt-mul_left Q (omega (arith, mul-lt-mul_of_pos_left {k = R} h r, mul-le-mul_left P k))
+
+strict_right : (a b c P Q R : ℕ) → 0 < P → a * Q ≤ b * P → b * R < c * Q → a * R < c * P
+strict_right a b c P Q R r h k = lt_of_mul-lt-mul_left Q (omega (arith, mul-le-mul_left R h, mul-lt-mul_of_pos_left {k = P} k r))
+
+level : (a b c P Q R : ℕ) → 0 < Q → a * Q ≡ b * P → b * R ≡ c * Q → a * R ≡ c * P
+level a b c P Q R q h k =
+    let times : Q * (a * R) ≡ Q * (c * P) = omega (arith, ap (λ n. R * n) h, ap (λ n. P * n) k) in
+    let up : a * R ≤ c * P = le_of_mul-le-mul_left {k = Q} (omega arith) q in
+    let down : c * P ≤ a * R = le_of_mul-le-mul_left {k = Q} (omega arith) q in
+    omega arith
+
+module _ {X : Type 0} (number time weight : X → ℕ) (takes_time : (x : X) → 0 < time x) where
+  abbrev pub smith_less : X → X → Bool
+  smith_less x y = less (weight y * time x) (weight x * time y) (number x) (number y)
+
+  pub smith_less-order : IsStrictWeakOrder smith_less
+  smith_less-order = record { one_way = one_way; chain = chain }
+    where
+      one_way : (x y : X) → smith_less x y ≡ true → smith_less y x ≡ false
+      one_way x y h = not_less (weight x * time y) (weight y * time x) (number y) (number x) (elim (less-yes (weight y * time x) (weight x * time y) (number x) (number y) h) [
+        | inl a ↦ inl a
+        | inr e ↦ inr (e.0, omega (arith, e.1))
+      ])
+
+      chain : (x y z : X) → smith_less x y ≡ false → smith_less y z ≡ false → smith_less x z ≡ false
+      chain x y z h k = not_less (weight z * time x) (weight x * time z) (number x) (number z) (elim (less-no (weight y * time x) (weight x * time y) (number x) (number y) h) [
+        | inl a ↦ elim (less-no (weight z * time y) (weight y * time z) (number y) (number z) k) [
+          | inl b ↦ inl (strict_left (weight x) (weight y) (weight z) (time x) (time y) (time z) (takes_time z) a (omega (arith, b)))
+          | inr f ↦ inl (strict_left (weight x) (weight y) (weight z) (time x) (time y) (time z) (takes_time z) a (omega (arith, f.0)))
+        ]
+        | inr e ↦ elim (less-no (weight z * time y) (weight y * time z) (number y) (number z) k) [
+          | inl b ↦ inl (strict_right (weight x) (weight y) (weight z) (time x) (time y) (time z) (takes_time x) (omega (arith, e.0)) b)
+          | inr f ↦ inr (level (weight x) (weight y) (weight z) (time x) (time y) (time z) (takes_time y) e.0 f.0, omega (arith, e.1, f.1))
+        ]
+      ])
+
+  -- a first, b later: the first has the greater weight for its time, or as great a one and no greater number
+  pub smith_sorted : (xs : List X) → IsSortedBy smith_less xs → AllPairs (λ a b. (weight b * time a < weight a * time b) ⊎ ((weight b * time a ≡ weight a * time b) × (number a ≤ number b))) xs
+  smith_sorted xs h i j d l k = less-no (weight (get_or xs i d) * time (get_or xs j d)) (weight (get_or xs j d) * time (get_or xs i d)) (number (get_or xs j d)) (number (get_or xs i d)) (sorted_far smith_less smith_less-order xs h i j d (omega arith) k)
