@@ -1,7 +1,7 @@
 -- A best schedule brought back is best.
-use Rattle.std.proofs.Common.{◌≡◌, ℕ, ◌≤◌, ℤ, pos, ◌+ℤ◌, ◌*ℤ◌, ◌≤ℤ◌, ◌<ℤ◌, refl, sym, ap, ◌∙◌, subst₂, arith}
+use Rattle.std.proofs.Common.{◌≡◌, ℕ, ◌≤◌, ℤ, pos, ◌+ℤ◌, ◌*ℤ◌, ◌≤ℤ◌, ◌<ℤ◌, sym, ap, ◌∙◌, subst₂, arith}
 use Rattle.std.proofs.lemmas.Int.{ints}
-use Rattle.msp_class.proofs.IntegerRing.{≤ℤ_of_same, ≤ℤ_trans, <ℤ-≤ℤ, +ℤ_cancel, *ℤ_comm, *ℤ_assoc, *ℤ_exchange, add-*ℤ, *ℤ-mono, *ℤ-cancel, *ℤ-mono_nonneg, *ℤ-cancel_pos}
+use Rattle.msp_class.proofs.IntegerRing.{≤ℤ_of_same, ≤ℤ_trans, +ℤ_cancel, *ℤ_comm, *ℤ_assoc, *ℤ_exchange, add-*ℤ, *ℤ-mono, *ℤ-cancel, *ℤ-mono_nonneg, *ℤ-cancel_pos}
 use Rattle.msp_instance.specs.declared.Instance.{Instance}
 use Rattle.msp_schedule.specs.declared.Schedule.{Schedule}
 use Rattle.msp_schedule.specs.Feasible.{Feasible}
@@ -15,10 +15,10 @@ swapped x y z = *ℤ_exchange x y z ∙ ap (λ w. y *ℤ w) (*ℤ_comm x z) ∙ 
 pub between : (a b c d e f : ℤ) → pos 0 <ℤ d → pos 0 ≤ℤ b → pos 0 ≤ℤ f → (a *ℤ d) ≤ℤ (c *ℤ b) → (c *ℤ f) ≤ℤ (e *ℤ d) → (a *ℤ f) ≤ℤ (e *ℤ b)
 between a b c d e f some b0 f0 first second =
     *ℤ-cancel_pos d some (
-        ≤ℤ_trans (≤ℤ_of_same (swapped d a f)) (
-        ≤ℤ_trans (*ℤ-mono_nonneg f f0 first) (
-        ≤ℤ_trans (≤ℤ_of_same (swapped f c b)) (
-        ≤ℤ_trans (*ℤ-mono_nonneg b b0 second) (≤ℤ_of_same (swapped b e d))))))
+    ≤ℤ_trans (≤ℤ_of_same (swapped d a f)) (
+    ≤ℤ_trans (*ℤ-mono_nonneg f f0 first) (
+    ≤ℤ_trans (≤ℤ_of_same (swapped f c b)) (
+    ≤ℤ_trans (*ℤ-mono_nonneg b b0 second) (≤ℤ_of_same (swapped b e d))))))
 
 -- the translation of costs keeps their order
 translated : (F : ℕ) (A x D y E : ℤ) → 1 ≤ F → (((pos F *ℤ x) +ℤ (A *ℤ D)) *ℤ E) ≤ℤ (((pos F *ℤ y) +ℤ (A *ℤ E)) *ℤ D) → (x *ℤ E) ≤ℤ (y *ℤ D)
@@ -48,10 +48,10 @@ Best-from_back rate upper lower forth t s positive_rate forth_is back_is best = 
         let down = forth_is u feasible in
         let back = back_is best.feasible in
         let scaled : (cost_below rate lower t *ℤ v.unit) ≤ℤ (cost_below rate lower v *ℤ t.unit) =
-            subst₂ (λ a b. a ≤ℤ b) (sym (*ℤ_assoc (pos rate.scale) (cost_of lower t) v.unit)) (sym (*ℤ_assoc (pos rate.scale) (cost_of lower v) t.unit))
-            (*ℤ-mono rate.scale (best.least v down.0)) in
+        subst₂ (λ a b. a ≤ℤ b) (sym (*ℤ_assoc (pos rate.scale) (cost_of lower t) v.unit)) (sym (*ℤ_assoc (pos rate.scale) (cost_of lower v) t.unit))
+        (*ℤ-mono rate.scale (best.least v down.0)) in
         let half = between (cost_above rate upper s) s.unit (cost_below rate lower t) t.unit (cost_below rate lower v) v.unit
-            (positive t.unit best.feasible.unit) (natural s.unit back.0.unit) (natural v.unit down.0.unit) back.1 scaled in
+        (positive t.unit best.feasible.unit) (natural s.unit back.0.unit) (natural v.unit down.0.unit) back.1 scaled in
         translated rate.factor rate.addend (cost_of upper s) s.unit (cost_of upper u) u.unit positive_rate.factor
         (between (cost_above rate upper s) s.unit (cost_below rate lower v) v.unit (cost_above rate upper u) u.unit
         (positive v.unit down.0.unit) (natural s.unit back.0.unit) (natural u.unit feasible.unit) half down.1)

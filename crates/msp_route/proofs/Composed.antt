@@ -1,5 +1,5 @@
 -- A reduction and a solver behind it keep what a solver owes.
-use Rattle.std.proofs.Common.{if◌then◌else◌, ◌≡◌, ◌≢◌, ℕ, ◌≤◌, Bool, true, false, ◌⊎◌, inl, inr, ℤ, ◌+ℤ◌, ◌≤ℤ◌, Result, Ok, Err, refl, sym, ◌∙◌, subst, arith}
+use Rattle.std.proofs.Common.{if◌then◌else◌, ◌≡◌, ◌≢◌, ℕ, Bool, true, false, ◌⊎◌, inr, ℤ, ◌+ℤ◌, ◌≤ℤ◌, Result, Ok, Err, refl, sym, ◌∙◌, subst, arith}
 use Rattle.std.specs.Int.{int_max}
 use Rattle.std.specs.Prelude.{IfOk}
 use Rattle.std.proofs.lemmas.Int.{ints}
@@ -15,7 +15,7 @@ use Rattle.msp_schedule.specs.Cost.{cost_of, Best, IsSolution, IsBest}
 use Rattle.msp_table.specs.Rows.{turns_dates}
 use Rattle.msp_table.proofs.KindLemmas.{open_shops-stay}
 use Rattle.msp_route.specs.Law.{Rate, IsPositive, IsLower, IsForth, IsBack}
-use Rattle.msp_route.specs.Bounds.{EndsBy, IsSized, IsBounded, KeepsBounds, IsAnswer, greatest_unit, answer_unit, moment_after}
+use Rattle.msp_route.specs.Bounds.{EndsBy, IsBounded, KeepsBounds, IsAnswer, greatest_unit, answer_unit, moment_after}
 use Rattle.msp_route.specs.declared.bounds.TheConstants.{GREATEST_ANSWER_MOMENT, GREATEST_RAISE, GREATEST_LINED_UP, GREATEST_OPEN_UNIT}
 use Rattle.msp_route.proofs.BestBack.{Best-from_back}
 

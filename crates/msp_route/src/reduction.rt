@@ -27,6 +27,7 @@ pub trait Reduction {
 
     /// A schedule of the lower instance for one of the upper, and one of the upper for one of the lower.
     ghost forth: { Self → Inst → Schedule → Schedule };
+
     ghost upper: { Self → Inst → Schedule → Schedule };
 
     /// The row.
@@ -41,12 +42,7 @@ pub trait Reduction {
         ensures { IfOk result (λ j. j ≡ lower self.now inst.now) };
 
     /// A solution of the instance from one of the lower instance.
-    fn back(
-        &self,
-        alloc: Global,
-        inst: &Instance,
-        solution: Solution,
-    ) -> Result<Solution, NoMemory>
+    fn back(&self, alloc: Global, inst: &Instance, solution: Solution) -> Result<Solution, NoMemory>
         requires inner { Inner inst.now }
         requires applies { Applies (number self.now) inst.now }
         requires solution { IsSolution (lower self.now inst.now) solution }
@@ -64,5 +60,6 @@ pub trait Reduction {
 
     /// Each half of the law: a feasible schedule of either instance gives one of the other, and what it costs.
     ghost forth_is: { (self : Self) (i : Inst) (s : Schedule) → Inner i → Applies (number self) i → IsForth (rate self i) i (lower self i) s (forth self i s) };
+
     ghost back_is: { (self : Self) (i : Inst) (s : Schedule) → Inner i → Applies (number self) i → IsBack (rate self i) i (lower self i) s (upper self i s) };
 }
