@@ -17,5 +17,6 @@ pub mod Transport
 pub mod Serves
 pub mod Series
 pub mod InSeries
+pub mod Busy
 pub mod Mirror
 pub mod EndsAndFloors

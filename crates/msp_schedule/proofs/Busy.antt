@@ -1,0 +1,174 @@
+-- Moments at which some piece runs, and schedules from which all idle stretches are taken out.
+use Rattle.std.proofs.Common.{◌≡◌, ℕ, zero, suc, ◌+◌, ◌*◌, ◌-◌, ◌≤◌, ◌<◌, ◌⊎◌, inl, inr, min, Bool, true, false, cond, leb, ltb, ◌&&◌, ◌||◌, List, [], ◌∷◌, get_or, All, Contains, sum_by, ℤ, pos, nat_abs, ◌-ℤ◌, ◌*ℤ◌, ◌≤ℤ◌, refl, sym, ap, ap₂, subst, ◌∙◌, arith}
+use Rattle.std.specs.List.{list_any}
+use Rattle.std.proofs.lemmas.Bool.{leb-true, leb-false, ltb-true, ltb-false}
+use Rattle.std.proofs.lemmas.Int.{ints}
+use Rattle.std.proofs.lemmas.List.Sums.{sum_by-cons}
+use Rattle.std.proofs.lemmas.List.Folds.{list_any_none}
+use Rattle.std.proofs.lemmas.List.Elements.{All-contains_itself, Contains-get_or}
+use native.Mathlib.Nat.{mul-le-mul_left}
+use Rattle.msp_class.proofs.Sums.{cond-le, sum_by-mono, sum_by-total_below, total_below, total_below-mono, total_below-same, total_below-none, total_below-split, total_below-constant, total_below-bound}
+use Rattle.msp_class.proofs.IntegerRing.{natural, pos-le, one-*ℤ, *ℤ-sub, *ℤ-zero, *ℤ_exchange}
+use Rattle.msp_schedule.specs.declared.Piece.{Piece}
+use Rattle.msp_schedule.proofs.Intervals.{size_of}
+use Rattle.msp_schedule.proofs.OneMachine.{start, finish, IsTimed-from_span}
+use Rattle.msp_schedule.proofs.Frames.{Frame, Lasts, Fits}
+use Rattle.msp_schedule.proofs.Moves.{Suits}
+use Rattle.msp_schedule.proofs.Transport.{Stretches, Carries, carried_all, Fits-carried}
+
+-- ---- in ℕ, for elements of any type with the moments at which they begin and end
+module _ {X : Type 0} (from to : X → ℕ) where
+  -- the element runs from the moment u to the next
+  abbrev pub runs : ℕ → X → Bool
+  runs u q = leb (from q) u && ltb u (to q)
+
+  abbrev pub some_runs : List X → ℕ → Bool
+  some_runs xs u = list_any (runs u) xs
+
+  -- how many moments before t are not idle
+  abbrev pub busy : List X → ℕ → ℕ
+  busy xs t = total_below t (λ u. cond (some_runs xs u) 1 0)
+
+  runs-yes : (u : ℕ) (q : X) → from q ≤ u → u < to q → runs u q ≡ true
+  runs-yes u q h k = by (leb (from q) u) refl (ltb u (to q)) refl
+    where
+      by : (b : Bool) → leb (from q) u ≡ b → (c : Bool) → ltb u (to q) ≡ c → (b && c) ≡ true
+      by true e true f = refl
+      by true e false f = absurd (omega (arith, ltb-false _ _ f))
+      by false e c f = absurd (omega (arith, leb-false _ _ e))
+
+  runs-no : (u : ℕ) (q : X) → (u < from q) ⊎ (to q ≤ u) → runs u q ≡ false
+  runs-no u q h = by (leb (from q) u) refl (ltb u (to q)) refl
+    where
+      by : (b : Bool) → leb (from q) u ≡ b → (c : Bool) → ltb u (to q) ≡ c → (b && c) ≡ false
+      by true e true f = absurd (omega (arith, h, leb-true _ _ e, ltb-true _ _ f))
+      by true e false f = refl
+      by false e c f = refl
+
+  some_runs-yes : (xs : List X) (u : ℕ) (q : X) → Contains xs q → from q ≤ u → u < to q → some_runs xs u ≡ true
+  some_runs-yes [] u q c h k = absurd (omega (arith, c.1))
+  some_runs-yes (x ∷ xs) u q (zero, l, e) h k = ap (λ b. b || some_runs xs u) (ap (runs u) e ∙ runs-yes u q h k)
+  some_runs-yes (x ∷ xs) u q (suc n, l, e) h k = ap (λ b. runs u x || b) (some_runs-yes xs u q (n, omega arith, e) h k) ∙ or_true (runs u x)
+    where
+      or_true : (b : Bool) → (b || true) ≡ true
+      or_true true = refl
+      or_true false = refl
+
+  some_runs-no : (xs : List X) (u : ℕ) → All (λ q. (u < from q) ⊎ (to q ≤ u)) xs → some_runs xs u ≡ false
+  some_runs-no xs u h = list_any_none (runs u) xs (λ k d l. runs-no u (get_or xs k d) (h k d l))
+
+  pub busy-zero : (xs : List X) → busy xs 0 ≡ 0
+  busy-zero xs = refl
+
+  busy-add : (xs : List X) (a b : ℕ) → a ≤ b → busy xs b ≡ busy xs a + total_below (b - a) (λ i. cond (some_runs xs (a + i)) 1 0)
+  busy-add xs a b h = ap (busy xs) (split a b h) ∙ total_below-split a (b - a) (λ u. cond (some_runs xs u) 1 0)
+    where
+      split : (a b : ℕ) → a ≤ b → b ≡ a + (b - a)
+      split a b h = omega arith
+
+  pub busy-mono : (xs : List X) (a b : ℕ) → a ≤ b → busy xs a ≤ busy xs b
+  busy-mono xs a b h = omega (arith, busy-add xs a b h)
+
+  pub busy-le : (xs : List X) (t : ℕ) → busy xs t ≤ t
+  busy-le xs t = omega (arith, total_below-bound t 1 (λ u. cond (some_runs xs u) 1 0) (λ u l. cond-le (some_runs xs u) 1))
+
+  -- over a stretch that an element fills it grows as time does
+  pub busy-runs : (xs : List X) (q : X) → Contains xs q → (a b : ℕ) → from q ≤ a → a ≤ b → b ≤ to q → busy xs b ≡ busy xs a + (b - a)
+  busy-runs xs q c a b h k l =
+      busy-add xs a b k ∙ ap (λ n. busy xs a + n) (total_below-same (b - a) _ (λ _. 1) (λ i m. ap (λ t. cond t 1 0) (some_runs-yes xs (a + i) q c (omega arith) (omega arith))) ∙ total_below-constant (b - a) 1 ∙ once (b - a))
+    where
+      once : (n : ℕ) → n * 1 ≡ n
+      once n = omega arith
+
+  -- over a stretch at which none runs it stays
+  pub busy-idle : (xs : List X) (a b : ℕ) → a ≤ b → All (λ q. (to q ≤ a) ⊎ (b ≤ from q)) xs → busy xs b ≡ busy xs a
+  busy-idle xs a b k h =
+      busy-add xs a b k ∙ ap (λ n. busy xs a + n) (total_below-none (b - a) _ (λ i m. ap (λ t. cond t 1 0) (some_runs-no xs (a + i) (λ j d l. outside a b i (from (get_or xs j d)) (to (get_or xs j d)) m (h j d l))))) ∙ add-zero (busy xs a)
+    where
+      outside : (a b i u v : ℕ) → i < b - a → (v ≤ a) ⊎ (b ≤ u) → (a + i < u) ⊎ (v ≤ a + i)
+      outside a b i u v m (inl h) = inr (omega arith)
+      outside a b i u v m (inr h) = inl (omega arith)
+
+      add-zero : (n : ℕ) → n + 0 ≡ n
+      add-zero n = omega arith
+
+  -- one element runs as long as it lasts
+  runs-length : (q : X) (t : ℕ) → total_below t (λ u. cond (runs u q) 1 0) ≤ min t (to q) - from q
+  runs-length q zero = omega arith
+  runs-length q (suc t) = by (leb (from q) t) refl (ltb t (to q)) refl (runs-length q t)
+    where
+      by : (b : Bool) → leb (from q) t ≡ b → (c : Bool) → ltb t (to q) ≡ c → total_below t (λ u. cond (runs u q) 1 0) ≤ min t (to q) - from q → total_below t (λ u. cond (runs u q) 1 0) + cond (b && c) 1 0 ≤ min (suc t) (to q) - from q
+      by true e true f h = omega (arith, leb-true _ _ e, ltb-true _ _ f)
+      by true e false f h = omega (arith, ltb-false _ _ f)
+      by false e c f h = omega (arith, leb-false _ _ e)
+
+  some_runs-sum : (xs : List X) (u : ℕ) → cond (some_runs xs u) 1 0 ≤ sum_by (λ q. cond (runs u q) 1 0) xs
+  some_runs-sum [] u = omega arith
+  some_runs-sum (x ∷ xs) u = by (runs u x) (some_runs xs u) (some_runs-sum xs u) (sum_by-cons (λ q. cond (runs u q) 1 0) x xs)
+    where
+      by : (b c : Bool) {m n : ℕ} → cond c 1 0 ≤ m → n ≡ cond b 1 0 + m → cond (b || c) 1 0 ≤ n
+      by true c h e = omega arith
+      by false c h e = omega arith
+
+  -- the elements last at least as long together as some of them runs
+  pub busy-lengths : (xs : List X) (t : ℕ) → busy xs t ≤ sum_by (size_of from to) xs
+  busy-lengths xs t =
+      omega (
+        arith,
+        total_below-mono t (λ u. cond (some_runs xs u) 1 0) (λ u. sum_by (λ q. cond (runs u q) 1 0) xs) (λ u l. some_runs-sum xs u),
+        sum_by-total_below (λ q u. cond (runs u q) 1 0) t xs,
+        sum_by-mono (λ q. total_below t (λ u. cond (runs u q) 1 0)) (size_of from to) xs (λ k d l. let q = get_or xs k d in omega (arith, runs-length q t)),
+      )
+
+-- ---- pieces, with moments e times as long
+abbrev pub busy_moment : ℕ → List Piece → ℤ → ℤ
+busy_moment e ps x = pos e *ℤ pos (busy start finish ps (nat_abs x))
+
+module _ (e : ℕ) (ps : List Piece) where
+  pub Stretches-busy : 1 ≤ e → All Lasts ps → Stretches ps (pos e) (busy_moment e ps)
+  Stretches-busy some lasts = record {
+    factor = pos-le some;
+    zero_is = *ℤ-zero (pos e);
+    monotone = λ x y p h. pos-le (mul-le-mul_left e (busy-mono start finish ps (nat_abs x) (nat_abs y) (omega (arith, ints))));
+    long = λ k d l. long (get_or ps k d) (Contains-get_or ps k d l) (lasts k d l);
+  }
+    where
+      long : (p : Piece) → Contains ps p → Lasts p → (busy_moment e ps p.to -ℤ busy_moment e ps p.from) ≡ pos e *ℤ (p.to -ℤ p.from)
+      long p c h =
+          let t = IsTimed-from_span p h in
+          let more = busy-runs start finish ps p c (start p) (finish p) (omega arith) (omega (arith, t.lasts)) (omega arith) in
+          sym (*ℤ-sub (pos e) (pos (busy start finish ps (finish p))) (pos (busy start finish ps (start p))))
+          ∙ ap (λ z. pos e *ℤ z) (grown (busy start finish ps (start p)) (busy start finish ps (finish p)) (start p) (finish p) more (omega (arith, t.lasts)) ∙ sym (ap₂ ◌-ℤ◌ t.to t.from))
+        where
+          grown : (m n a b : ℕ) → n ≡ m + (b - a) → a ≤ b → pos n -ℤ pos m ≡ pos b -ℤ pos a
+          grown m n a b h k = omega (arith, ints)
+
+  -- no moment is later than e times what it was, or than e times all pieces together
+  pub busy_moment-le : (x : ℤ) → pos 0 ≤ℤ x → busy_moment e ps x ≤ℤ (pos e *ℤ x)
+  busy_moment-le x h = subst (λ y. busy_moment e ps x ≤ℤ (pos e *ℤ y)) (sym (natural x h)) (pos-le (mul-le-mul_left e (busy-le start finish ps (nat_abs x))))
+
+  pub busy_moment-lengths : (x : ℤ) → busy_moment e ps x ≤ℤ pos (e * sum_by (size_of start finish) ps)
+  busy_moment-lengths x = pos-le (mul-le-mul_left e (busy-lengths start finish ps (nat_abs x)))
+
+-- closed: over a frame without heads, the pieces at e times their busy moments fit a frame whose operations want e times as much
+pub Carries-closed : (f g : Frame) (D E : ℤ) (ps : List Piece) (e : ℕ) → 1 ≤ e → pos 1 ≤ℤ E → Fits f D ps → Suits f g D E (pos e) (λ j o. o) → ((j : ℕ) → j < f.jobs → g.head j ≡ 0) → All (Contains f.arcs) g.arcs → (g.routed ≡ true → f.routed ≡ true)
+    → Carries f g D E ps (pos e) (busy_moment e ps) (λ j o. o)
+Carries-closed f g D E ps e some unit fits suits heads arcs routed = record {
+  unit = unit;
+  moments = Stretches-busy e ps some fits.span;
+  operations = suits;
+  heads = λ k d l inside h. subst (λ m. (E *ℤ pos m) ≤ℤ busy_moment e ps (get_or ps k d).from) (sym (heads (get_or ps k d).job inside)) (subst (λ z. z ≤ℤ busy_moment e ps (get_or ps k d).from) (sym (*ℤ-zero E)) (pos-le (omega arith)));
+  arcs = arcs;
+  routed = λ r. inl (routed r);
+}
+
+pub Fits-closed : (f : Frame) (D : ℤ) (ps : List Piece) (e : ℕ) → 1 ≤ e → Fits f D ps → ((j : ℕ) → j < f.jobs → f.head j ≡ 0) → Fits (record f { want = λ j o. e * f.want j o }) D (carried_all (busy_moment e ps) (λ j o. o) ps)
+Fits-closed f D ps e some fits heads = let g : Frame = record f { want = λ j o. e * f.want j o } in Fits-carried f g D D ps (pos e) (busy_moment e ps) (λ j o. o) fits (Carries-closed f g D D ps e some fits.unit_from fits (record {
+  jobs = refl;
+  has = λ j o l h. h;
+  all = λ j o l h. (o, h, refl);
+  increasing = λ j o n l a b h. h;
+  may = λ j o m l h w. w;
+  ratio = λ j o l h. record { times = 1; over = e; some = omega arith; rate = λ m w. one-*ℤ (pos e *ℤ pos (f.rate j m)); want = one-*ℤ (D *ℤ pos (e * f.want j o)) ∙ *ℤ_exchange D (pos e) (pos (f.want j o)) };
+  cut = λ c. c;
+}) heads (All-contains_itself f.arcs) (λ r. r))
