@@ -19,13 +19,6 @@ pub record ListedBelow (t : List Bool) (classes : List Class) (n : ℕ) : Type 0
   pub all : (c : Class) → is_marked t c ≡ true → rank_of c < n → Contains classes c
   pub rises : AllPairs (λ a b. rank_of a < rank_of b) classes
 
-pub ListedBelow-start : (t : List Bool) → ListedBelow t [] 0
-ListedBelow-start t = record {
-  only = λ c has. absurd (omega (arith, has.1));
-  all = λ c marked below. absurd (omega arith);
-  rises = λ i j d before inside. absurd (omega arith);
-}
-
 pub ListedBelow-more : (t : List Bool) (classes : List Class) (n : ℕ) (c : Class) → rank_of c ≡ n → is_marked t c ≡ true
     → ListedBelow t classes n → ListedBelow t (classes ++ c ∷ []) (n + 1)
 ListedBelow-more t classes n c at marked s = record {
@@ -98,9 +91,6 @@ pub record Struck (c : Class) (before left : List Bool) (n : ℕ) : Type 0 where
   pub kept : (b : Class) → is_marked left b ≡ true → (is_marked before b ≡ true) × (rank_of b < n → Reaches every_row c b → Reaches every_row b c)
   pub all : (b : Class) → is_marked before b ≡ true → (rank_of b < n → Reaches every_row c b → Reaches every_row b c) → is_marked left b ≡ true
 
-pub Struck-start : (c : Class) (t : List Bool) → Struck c t t 0
-Struck-start c t = record { kept = λ b marked. (marked, λ below. absurd (omega arith)); all = λ b marked back. marked }
-
 -- one class was looked at: its mark is left only if it leads back, and then as it was, and no other mark changed
 Struck-next : (c : Class) (before left after : List Bool) (from : ℕ) (b : Class) → IsNext c from b
     → ((x : Class) → rank_of x ≢ rank_of b → is_marked after x ≡ is_marked left x)
@@ -169,63 +159,52 @@ Struck-all c before left n none s b = (
 
 -- among the classes of rank below a number, the marks left are those of maximal classes
 pub record MaximalBelow (t left : List Bool) (n : ℕ) : Type 0 where
-  pub kept : (b : Class) → is_marked left b ≡ true
-      → (is_marked t b ≡ true) × (rank_of b < n → (x : Class) → is_marked t x ≡ true → Reaches every_row b x → Reaches every_row x b)
-  pub all : (b : Class) → is_marked t b ≡ true
-      → (rank_of b < n → (x : Class) → is_marked t x ≡ true → Reaches every_row b x → Reaches every_row x b) → is_marked left b ≡ true
-
-pub MaximalBelow-start : (t left : List Bool) → ((c : Class) → is_marked left c ≡ is_marked t c) → MaximalBelow t left 0
-MaximalBelow-start t left same = record {
-  kept = λ b marked. (sym (same b) ∙ marked, λ below. absurd (omega arith));
-  all = λ b marked back. same b ∙ marked;
-}
-
-MaximalBelow-next : (t left after : List Bool) (n : ℕ) (c : Class) → rank_of c ≡ n
-    → ((x : Class) → rank_of x ≢ rank_of c → is_marked after x ≡ is_marked left x)
-    → (is_marked after c ≡ true → ((x : Class) → is_marked t x ≡ true → Reaches every_row c x → Reaches every_row x c) × (is_marked left c ≡ true))
-    → (((x : Class) → is_marked t x ≡ true → Reaches every_row c x → Reaches every_row x c) → is_marked left c ≡ true → is_marked after c ≡ true)
-    → MaximalBelow t left n → MaximalBelow t after (n + 1)
-MaximalBelow-next t left after n c at others only back s = record {
-  kept = λ b marked. elim (cases_eq (rank_of b) (rank_of c)) as
-      (λ _. (is_marked t b ≡ true) × (rank_of b < n + 1 → (x : Class) → is_marked t x ≡ true → Reaches every_row b x → Reaches every_row x b)) [
-        | inl same ↦
-            let is : c ≡ b = rank_of-injective c b (sym same) in
-            let here = only (ap (is_marked after) is ∙ marked) in
-            let P : Class → Type 0 = λ y. (x : Class) → is_marked t x ≡ true → Reaches every_row y x → Reaches every_row x y in
-            ((s.kept b (ap (is_marked left) (sym is) ∙ here.1)).0, λ below. subst P is here.0)
-        | inr apart ↦
-            let old = s.kept b (sym (others b apart) ∙ marked) in
-            (old.0, λ below. old.1 (below_next (rank_of b) n below (λ e. apart (e ∙ sym at))))
-      ];
-  all = λ b was maximal.
-      let left_b : is_marked left b ≡ true = s.all b was (λ early. maximal (omega arith)) in
-      elim (cases_eq (rank_of b) (rank_of c)) as (λ _. is_marked after b ≡ true) [
-        | inl same ↦
-            let is : b ≡ c = rank_of-injective b c same in
-            let P : Class → Type 0 = λ y. (x : Class) → is_marked t x ≡ true → Reaches every_row y x → Reaches every_row x y in
-            ap (is_marked after) is ∙ back (subst P is (maximal (omega arith))) (ap (is_marked left) (sym is) ∙ left_b)
-        | inr apart ↦ others b apart ∙ left_b
-      ];
-}
+  pub kept : (b : Class) → is_marked left b ≡ true → (is_marked t b ≡ true) × (rank_of b < n → IsMaximal (λ c. is_marked t c ≡ true) b)
+  pub all : (b : Class) → is_marked t b ≡ true → (rank_of b < n → IsMaximal (λ c. is_marked t c ≡ true) b) → is_marked left b ≡ true
 
 pub MaximalBelow-off : (t left : List Bool) (n : ℕ) (c : Class) → rank_of c ≡ n → length left ≡ CLASSES
-    → ¬ ((x : Class) → is_marked t x ≡ true → Reaches every_row c x → Reaches every_row x c)
-    → MaximalBelow t left n → MaximalBelow t (set left (rank_of c) false) (n + 1)
-MaximalBelow-off t left n c at len not_back s = MaximalBelow-next t left (set left (rank_of c) false) n c at
-    (λ x apart. is_marked-set_other left c x false apart)
-    (λ marked. no_mark (sym (is_marked-set_same left c false len) ∙ marked))
-    (λ back. absurd (not_back back)) s
+    → ¬ IsMaximal (λ b. is_marked t b ≡ true) c → MaximalBelow t left n → MaximalBelow t (set left (rank_of c) false) (n + 1)
+MaximalBelow-off t left n c at len beaten s = record {
+  kept = λ b marked. elim (cases_eq (rank_of b) (rank_of c)) as
+      (λ _. (is_marked t b ≡ true) × (rank_of b < n + 1 → IsMaximal (λ x. is_marked t x ≡ true) b)) [
+        | inl same ↦
+            let is : b ≡ c = rank_of-injective b c same in
+            no_mark (sym (ap (is_marked (set left (rank_of c) false)) is ∙ is_marked-set_same left c false len) ∙ marked)
+        | inr apart ↦
+            let old = s.kept b (sym (is_marked-set_other left c b false apart) ∙ marked) in
+            (old.0, λ below. old.1 (below_next (rank_of b) n below (λ e. apart (e ∙ sym at))))
+      ];
+  all = λ b was maximal. elim (cases_eq (rank_of b) (rank_of c)) as (λ _. is_marked (set left (rank_of c) false) b ≡ true) [
+    | inl same ↦
+        let P : Class → Type 0 = IsMaximal (λ x. is_marked t x ≡ true) in
+        absurd (beaten (subst P (rank_of-injective b c same) (maximal (omega arith))))
+    | inr apart ↦ is_marked-set_other left c b false apart ∙ s.all b was (λ early. maximal (omega arith))
+  ];
+}
 
 pub MaximalBelow-stay : (t left : List Bool) (n : ℕ) (c : Class) → rank_of c ≡ n
-    → ((x : Class) → is_marked t x ≡ true → Reaches every_row c x → Reaches every_row x c)
-    → MaximalBelow t left n → MaximalBelow t left (n + 1)
-MaximalBelow-stay t left n c at back s = MaximalBelow-next t left left n c at (λ x apart. refl) (λ marked. (back, marked)) (λ back marked. marked) s
+    → (is_marked t c ≡ true → IsMaximal (λ b. is_marked t b ≡ true) c) → MaximalBelow t left n → MaximalBelow t left (n + 1)
+MaximalBelow-stay t left n c at not_beaten s = record {
+  kept = λ b marked.
+      let old = s.kept b marked in
+      (
+        old.0,
+        λ below. elim (cases_eq (rank_of b) n) as (λ _. IsMaximal (λ x. is_marked t x ≡ true) b) [
+          | inl same ↦
+              let is : c ≡ b = rank_of-injective c b (at ∙ sym same) in
+              let P : Class → Type 0 = IsMaximal (λ x. is_marked t x ≡ true) in
+              subst P is (not_beaten (ap (is_marked t) is ∙ old.0))
+          | inr apart ↦ old.1 (below_next (rank_of b) n below apart)
+        ],
+      );
+  all = λ b was maximal. s.all b was (λ early. maximal (omega arith));
+}
 
 pub MaximalBelow-all : (t left : List Bool) (n : ℕ) → CLASSES ≤ n → MaximalBelow t left n
     → (b : Class) → (is_marked left b ≡ true) ↔ IsMaximal (λ c. is_marked t c ≡ true) b
 MaximalBelow-all t left n all s b = (
-  λ marked. let both = s.kept b marked in (both.0, both.1 (omega (arith, rank_of-below b))),
-  λ both. s.all b both.0 (λ below. both.1),
+  λ marked. (s.kept b marked).1 (omega (arith, rank_of-below b)),
+  λ maximal. s.all b maximal.0 (λ below. maximal),
 )
 
 -- the marks left are those of classes that lead to each marked class of rank below a number by which they are led to
@@ -234,12 +213,6 @@ pub record MinimalBelow (t left : List Bool) (n : ℕ) : Type 0 where
       → (is_marked t b ≡ true) × ((a : Class) → rank_of a < n → is_marked t a ≡ true → Reaches every_row a b → Reaches every_row b a)
   pub all : (b : Class) → is_marked t b ≡ true
       → ((a : Class) → rank_of a < n → is_marked t a ≡ true → Reaches every_row a b → Reaches every_row b a) → is_marked left b ≡ true
-
-pub MinimalBelow-start : (t left : List Bool) → ((c : Class) → is_marked left c ≡ is_marked t c) → MinimalBelow t left 0
-MinimalBelow-start t left same = record {
-  kept = λ b marked. (sym (same b) ∙ marked, λ a below. absurd (omega arith));
-  all = λ b marked back. same b ∙ marked;
-}
 
 -- one more class struck out what it leads to, if it is marked
 MinimalBelow-next : (t left after : List Bool) (n : ℕ) (c : Class) → rank_of c ≡ n

@@ -1,6 +1,5 @@
 -- The passes over a relation: what they keep, and that a quiet one ends them.
-use Rattle.std.proofs.Common.{◌≡◌, ◌≢◌, ◌⊎◌, ◌↔◌, ℕ, ◌<◌, ◌≤◌, ◌+◌, Bool, true, false, List, [], ◌∷◌, length, set, Some, refl, ap, sym, ◌∙◌, subst, inl, inr, arith}
-use Rattle.std.specs.Prelude.{IsTrue}
+use Rattle.std.proofs.Common.{◌≡◌, ◌≢◌, ◌⊎◌, ℕ, ◌<◌, ◌≤◌, ◌+◌, Bool, true, false, List, [], ◌∷◌, length, set, Some, refl, ap, sym, ◌∙◌, subst, inl, inr, arith}
 use Rattle.std.proofs.lemmas.Bool.{cases_eq, cases_Bool, or_cases, or_left, or_right}
 use Rattle.msp_class.specs.declared.class.Class.{Class}
 use Rattle.msp_class.specs.declared.ranks.TheConstants.{CLASSES}
@@ -228,8 +227,3 @@ IsReach-closed usable before after last fresh itself sound g closed unmarked = r
   all = λ a b reaches.
       related_along usable after a b reaches.0 (λ x. g.keeps x x (itself x)) (λ x k c steps. closed x k c steps (unmarked c)) reaches.1;
 }
-
--- what the bits answer
-pub IsReach-answers : (usable : ℕ → Bool) (words : List ℕ) (a b : Class) (result : Bool) → IsReach usable words → result ≡ relates words a b
-    → IsTrue result ↔ Reaches usable a b
-IsReach-answers usable words a b result r is = (λ yes. r.sound a b (sym is ∙ yes), λ reaches. is ∙ r.all a b reaches)

@@ -1,5 +1,5 @@
 -- Bits of a relation: written, read, and joined by rows.
-use Rattle.std.proofs.Common.{◌≡◌, ◌≢◌, ◌⊎◌, ℕ, ◌<◌, ◌≤◌, ◌+◌, ◌-◌, ◌*◌, ◌/◌, ◌%◌, ◌^◌, Bool, true, false, not, ◌||◌, cond, eqb, max, bit_or, bit_and, List, length, get_or, set, Fits, w64, refl, ap, ap₂, sym, ◌∙◌, subst, inl, inr, arith, get_or-set_same, get_or-set_other}
+use Rattle.std.proofs.Common.{◌≡◌, ◌≢◌, ◌⊎◌, ℕ, ◌<◌, ◌≤◌, ◌+◌, ◌-◌, ◌*◌, ◌/◌, ◌%◌, ◌^◌, Bool, true, false, not, ◌||◌, cond, eqb, max, bit_or, bit_and, List, length, get_or, set, Fits, w64, refl, ap, ap₂, sym, ◌∙◌, inl, inr, arith, get_or-set_same, get_or-set_other}
 use Rattle.std.specs.Int.{bit_at, trailing_zeros}
 use Rattle.std.proofs.lemmas.Nat.{le_or_l, shr-shr, shr_le, div_below, mod_below, same_from_place, div-add-mod'}
 use Rattle.std.proofs.lemmas.Nat.Bits.{bit_at_or, bit_at-lt, bit_at-zero, bit_at_above, bit_at-trailing_zeros, shr_and_one, bit_at_set_same, bit_at_set_other}
@@ -50,40 +50,6 @@ pub record JoinedTo (before words : List ℕ) (to from k : ℕ) : Type 0 where
   pub joined : (j : ℕ) → j < k → get_or words (to * WIDTH + j) 0 ≡ bit_or (get_or before (to * WIDTH + j) 0) (get_or before (from * WIDTH + j) 0)
   pub below : (i : ℕ) → i < to * WIDTH → get_or words i 0 ≡ get_or before i 0
   pub above : (i : ℕ) → to * WIDTH + k ≤ i → get_or words i 0 ≡ get_or before i 0
-
-pub JoinedTo-start : (words : List ℕ) (to from : ℕ) → JoinedTo words words to from 0
-JoinedTo-start words to from = record { joined = λ j below. absurd (omega arith); below = λ i b. refl; above = λ i b. refl }
-
-from_before : (before words : List ℕ) (to from k : ℕ) → k < WIDTH → JoinedTo before words to from k
-    → get_or words (from * WIDTH + k) 0 ≡ get_or before (from * WIDTH + k) 0
-from_before before words to from k short s = elim (cases_lt (from * WIDTH + k) (to * WIDTH)) as
-    (λ _. get_or words (from * WIDTH + k) 0 ≡ get_or before (from * WIDTH + k) 0) [
-      | inl low ↦ s.below (from * WIDTH + k) low
-      | inr high ↦ s.above (from * WIDTH + k) (omega arith)
-    ]
-
-pub JoinedTo-next : (before words after : List ℕ) (to from k : ℕ) → k < WIDTH → to * WIDTH + k < length words
-    → after ≡ set words (to * WIDTH + k) (bit_or (get_or words (to * WIDTH + k) 0) (get_or words (from * WIDTH + k) 0))
-    → JoinedTo before words to from k → JoinedTo before after to from (k + 1)
-JoinedTo-next before words after to from k short inside written s =
-    let y = bit_or (get_or words (to * WIDTH + k) 0) (get_or words (from * WIDTH + k) 0) in
-    let other = λ (i : ℕ) (apart : i ≢ to * WIDTH + k). ap (λ t. get_or t i 0) written ∙ get_or-set_other words (to * WIDTH + k) i y 0 apart in
-    record {
-      joined = λ j early. elim (cases_eq j k) as
-          (λ _. get_or after (to * WIDTH + j) 0 ≡ bit_or (get_or before (to * WIDTH + j) 0) (get_or before (from * WIDTH + j) 0)) [
-            | inl same ↦
-                let P : ℕ → Type 0 = λ i. get_or after (to * WIDTH + i) 0 ≡ bit_or (get_or before (to * WIDTH + i) 0) (get_or before (from * WIDTH + i) 0) in
-                subst P (sym same)
-                (ap (λ t. get_or t (to * WIDTH + k) 0) written ∙ get_or-set_same words (to * WIDTH + k) y 0 inside
-                ∙ ap₂ bit_or (s.above (to * WIDTH + k) (omega arith)) (from_before before words to from k short s))
-            | inr apart ↦ other (to * WIDTH + j) (λ e. apart (omega arith)) ∙ s.joined j (omega arith)
-          ];
-      below = λ i low. other i (λ e. absurd (omega arith)) ∙ s.below i low;
-      above = λ i high. other i (λ e. absurd (omega arith)) ∙ s.above i (omega arith);
-    }
-
-pub JoinsWords-from : (before after : List ℕ) (to from : ℕ) → JoinedTo before after to from WIDTH → JoinsWords before after to from
-JoinsWords-from before after to from s = record { joined = s.joined; below = s.below; above = s.above }
 
 -- the word of a class in a row
 pub word_below : (b : Class) → rank_of b / 64 < WIDTH

@@ -123,7 +123,7 @@ fn keep_maximal(bits: &ReachBits, set: &ClassTable<bool>, left: &mut ClassTable<
 {
     for n in 0..CLASSES {
         let c = class_at(n);
-        if !is_led_back(bits, set, c) {
+        if is_beaten(bits, set, c) {
             left.set(c, false);
         }
     }
@@ -140,6 +140,14 @@ fn keep_minimal(bits: &ReachBits, set: &ClassTable<bool>, left: &mut ClassTable<
             strike(bits, left, c);
         }
     }
+}
+
+/// Whether the class is marked and leads to a marked one that does not lead back to it.
+fn is_beaten(bits: &ReachBits, set: &ClassTable<bool>, c: Class) -> bool
+    ensures beaten { result ≡ true → ¬ IsMaximal (λ b. is_marked set.now b ≡ true) c }
+    ensures not_beaten { result ≡ false → is_marked set.now c ≡ true → IsMaximal (λ b. is_marked set.now b ≡ true) c }
+{
+    set.at(c) && !is_led_back(bits, set, c)
 }
 
 /// Whether each marked class to which the class leads leads back to it.
