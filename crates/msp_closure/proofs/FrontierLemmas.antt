@@ -106,8 +106,7 @@ Struck-next c before left after from b next others only back s = record {
             let P : Class → Type 0 = λ y. Reaches every_row y c in
             ((s.kept x (ap (is_marked left) (sym is) ∙ here.1)).0, λ below reaches. subst P is here.0)
         | inr apart ↦
-            let old = s.kept x (sym (others x apart) ∙ marked) in
-            (
+            let old = s.kept x (sym (others x apart) ∙ marked) in (
               old.0,
               λ below reaches. elim (cases_lt (rank_of x) from) as (λ _. Reaches every_row x c) [
                 | inl early ↦ old.1 early reaches
@@ -146,8 +145,7 @@ pub Struck-all : (c : Class) (before left : List Bool) (n : ℕ) → ((x : Class
     → (b : Class) → (is_marked left b ≡ true) ↔ ((is_marked before b ≡ true) × (Reaches every_row c b → Reaches every_row b c))
 Struck-all c before left n none s b = (
   λ marked.
-      let old = s.kept b marked in
-      (
+      let old = s.kept b marked in (
         old.0,
         λ reaches. elim (cases_lt (rank_of b) n) as (λ _. Reaches every_row b c) [
           | inl below ↦ old.1 below reaches
@@ -186,8 +184,7 @@ pub MaximalBelow-stay : (t left : List Bool) (n : ℕ) (c : Class) → rank_of c
     → (is_marked t c ≡ true → IsMaximal (λ b. is_marked t b ≡ true) c) → MaximalBelow t left n → MaximalBelow t left (n + 1)
 MaximalBelow-stay t left n c at not_beaten s = record {
   kept = λ b marked.
-      let old = s.kept b marked in
-      (
+      let old = s.kept b marked in (
         old.0,
         λ below. elim (cases_eq (rank_of b) n) as (λ _. IsMaximal (λ x. is_marked t x ≡ true) b) [
           | inl same ↦
@@ -222,8 +219,7 @@ MinimalBelow-next : (t left after : List Bool) (n : ℕ) (c : Class) → rank_of
 MinimalBelow-next t left after n c at only back s = record {
   kept = λ b marked.
       let here = only b marked in
-      let old = s.kept b here.0 in
-      (
+      let old = s.kept b here.0 in (
         old.0,
         λ a below has reaches. elim (cases_eq (rank_of a) n) as (λ _. Reaches every_row b a) [
           | inl same ↦

@@ -151,10 +151,10 @@ Passed-more usable before words after last fresh changed n v at len g r here p =
   quiet = λ e. cc;
   closed = λ a k c steps not_fresh done.
       let apart : rank_of c ≢ rank_of v = λ e.
-          let now : is_marked (set fresh (rank_of v) true) c ≡ true = ap (is_marked (set fresh (rank_of v) true)) (rank_of-injective c v e)
-          ∙ is_marked-set_same fresh v true len in
-          let both : true ≡ false = sym now ∙ not_fresh in
-          cc in
+      let now : is_marked (set fresh (rank_of v) true) c ≡ true = ap (is_marked (set fresh (rank_of v) true)) (rank_of-injective c v e)
+      ∙ is_marked-set_same fresh v true len in
+      let both : true ≡ false = sym now ∙ not_fresh in
+      cc in
       closed_next usable words after last fresh n v at p.closed here a k c steps (sym (is_marked-set_other fresh v c true apart) ∙ not_fresh)
       (Includes-kept usable words after v a c g apart) done;
 }

@@ -233,8 +233,14 @@ mod tests {
         }
         let labels = close(rt.alloc(), &entries)?;
         let lists = frontier(rt.alloc(), &labels)?;
-        let with_preemption = Class { cut: true, ..MAKESPAN };
-        assert_eq!(rt; lists.easy.as_slice(), [MAKESPAN, with_preemption].as_slice());
+        let with_preemption = Class {
+            cut: true,
+            ..MAKESPAN
+        };
+        assert_eq!(rt;
+            lists.easy.as_slice(),
+            [MAKESPAN, with_preemption].as_slice()
+        );
         Ok(())
     }
 }

@@ -161,7 +161,10 @@ mod tests {
         crit: Crit::Lmax,
     };
 
-    const LATE_WEIGHT: Class = Class { crit: Crit::SumWU, ..LATENESS };
+    const LATE_WEIGHT: Class = Class {
+        crit: Crit::SumWU,
+        ..LATENESS
+    };
 
     #[test]
     fn lateness_leads_to_late_weight(rt: HostRuntime) -> Result<(), Fail> {

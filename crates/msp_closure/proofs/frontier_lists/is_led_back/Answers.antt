@@ -15,7 +15,7 @@ reached-preserved c =
     let found = c.in-Some.ensures in
     let P : ℕ → Type 0 = λ n. LedBackBelow c.args.set.now c.args.c (n + 1) in (
       subst P (sym c.rank-from.ensures.rank)
-      (LedBackBelow-next c.args.set.now c.args.c c.in-Some.b c.reached.from
-      (record { reached = found.reached; high = found.from; least = found.least }) back c.reached.invariant.0),
+          (LedBackBelow-next c.args.set.now c.args.c c.in-Some.b c.reached.from
+          (record { reached = found.reached; high = found.from; least = found.least }) back c.reached.invariant.0),
       omega (arith, c.rank-from.ensures.below),
     )

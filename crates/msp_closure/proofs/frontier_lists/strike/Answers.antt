@@ -10,14 +10,14 @@ reached-preserved c =
     let next : IsNext c.args.c c.reached.from c.in-Some.b = record { reached = found.reached; high = found.from; least = found.least } in
     let P : ℕ → Type 0 = λ n. Struck c.args.c c.args.left.now c.if-not-reaches.left (n + 1) in (
       subst P (sym c.rank-from.ensures.rank)
-      (elim c.if-not-reaches.branch [
-        | then-not-reaches w ↦ rw (w.left-is, w.set.ensures.written)
-            (Struck-off c.args.c c.args.left.now c.reached.left c.reached.from c.in-Some.b next w.set.ensures.len
-            (λ back. let both : false ≡ true = sym w.if-not-reaches.true ∙ c.reaches.ensures.1 back in let e = both in cc) c.reached.invariant.0)
-        | else-not-reaches w ↦ rw w.left-is
-            (Struck-stay c.args.c c.args.left.now c.reached.left c.reached.from c.in-Some.b next (c.reaches.ensures.0 w.if-not-reaches.false)
-            c.reached.invariant.0)
-      ]),
+          (elim c.if-not-reaches.branch [
+            | then-not-reaches w ↦ rw (w.left-is, w.set.ensures.written)
+                (Struck-off c.args.c c.args.left.now c.reached.left c.reached.from c.in-Some.b next w.set.ensures.len
+                (λ back. let both : false ≡ true = sym w.if-not-reaches.true ∙ c.reaches.ensures.1 back in let e = both in cc) c.reached.invariant.0)
+            | else-not-reaches w ↦ rw w.left-is
+                (Struck-stay c.args.c c.args.left.now c.reached.left c.reached.from c.in-Some.b next (c.reaches.ensures.0 w.if-not-reaches.false)
+                c.reached.invariant.0)
+          ]),
       omega (arith, c.rank-from.ensures.below),
     )
 
