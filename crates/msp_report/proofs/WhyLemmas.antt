@@ -1,5 +1,5 @@
 -- The four chains say what the class is.
-use Rattle.std.proofs.Common.{◌≡◌, ℕ, ◌++◌, Bool, List, [], ◌∷◌, Option, Some, None, refl, sym, subst}
+use Rattle.std.proofs.Common.{ℕ, Bool, List, [], ◌∷◌, Option, Some, None, refl, sym, subst}
 use Rattle.std.specs.Bool.{Decides}
 use Rattle.std.specs.Option.{is_some}
 use Rattle.std.proofs.lemmas.List.Elements.{Contains-push}
@@ -11,7 +11,7 @@ use Rattle.msp_closure.specs.declared.entry.Entry.{Entry}
 use Rattle.msp_closure.specs.Entries.{easy_listed, pseudo_listed, hard_listed, strong_listed, LeadsToOne, IsLedTo, Says, IsWay}
 use Rattle.msp_closure.specs.Tables.{mark_of}
 use Rattle.msp_closure.proofs.WayLemmas.{IsFirst-has, IsFirst-among, one_is}
-use Rattle.msp_closure.proofs.LabelLemmas.{AreTests, Says-mark_of}
+use Rattle.msp_closure.proofs.LabelLemmas.{Says-mark_of}
 
 -- a chain from the class is there exactly where the class leads to a wanted one
 leads_exactly : (usable : ℕ → Bool) (wanted : List Class) (c : Class) (found : Option Chain) → IsWay usable wanted (c ∷ []) found

@@ -94,13 +94,7 @@ fn labels(alloc: Global, results: &[Known], classes: &[Class]) -> Result<Vec<u8>
     let labels = close(alloc, &entries)?;
     let clash = clash(alloc, &entries)?;
     let strong_clash = strong_clash(alloc, &entries)?;
-    Ok(labels_text(
-        alloc,
-        &labels,
-        &classes,
-        &clash,
-        &strong_clash,
-    )?)
+    Ok(labels_text(alloc, &labels, &classes, &clash, &strong_clash)?)
 }
 
 fn why(alloc: Global, results: &[Known], class: Class) -> Result<Vec<u8>, Fail> {
@@ -109,9 +103,7 @@ fn why(alloc: Global, results: &[Known], class: Class) -> Result<Vec<u8>, Fail> 
     let pseudo = why_pseudo(alloc, &entries, class)?;
     let hard = why_hard(alloc, &entries, class)?;
     let strong = why_strong(alloc, &entries, class)?;
-    Ok(why_text(
-        alloc, &entries, class, &easy, &pseudo, &hard, &strong,
-    )?)
+    Ok(why_text(alloc, &entries, class, &easy, &pseudo, &hard, &strong)?)
 }
 
 #[test]
