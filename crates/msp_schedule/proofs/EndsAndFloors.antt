@@ -7,7 +7,7 @@ use Rattle.std.proofs.lemmas.Nat.{le-div}
 use Rattle.std.proofs.Math.Nat.{div-mul-le_self, mul-div-le, zero-div, add-div_left}
 use Rattle.std.proofs.lemmas.List.Elements.{All-head, All-tail, All-contains_itself, Contains-get_or}
 use native.Mathlib.Nat.{mul-le-mul_left}
-use Rattle.msp_class.specs.declared.environments.EnvKind.TheVariants.{Identical, Unrelated}
+use Rattle.msp_class.specs.declared.environments.EnvKind.TheVariants.{Identical}
 use Rattle.msp_class.specs.Env.{kind_of}
 use Rattle.msp_class.proofs.Sums.{Contains-filter, cond-scale, cond-yes, total_below, total_below-same, total_below-scale, total_below-range, total_below-term}
 use Rattle.msp_class.proofs.IntegerRing.{natural, pos-le, le-pos, pos-sub, ≤ℤ_refl, ≤ℤ_trans, +ℤ_idl, one-*ℤ, *ℤ-one, *ℤ-zero}
@@ -22,7 +22,7 @@ use Rattle.msp_schedule.specs.Laws.{time_together, HasRoom, BeginsFrom, EndsLast
 use Rattle.msp_schedule.proofs.Intervals.{work_of, last_of, last_of-bound, room, law_of_ends as last_of_all}
 use Rattle.msp_schedule.proofs.OneMachine.{job_of, start, finish, timed_pieces, machines_below, apart_on_machines, full_work, last_end-is}
 use Rattle.msp_schedule.proofs.LastEnds.{last_end-bound, last_end-natural}
-use Rattle.msp_schedule.proofs.Frames.{Frame, frame_by, Stands, Fits, IsShaped, of_operation, part, Fits-from_feasible}
+use Rattle.msp_schedule.proofs.Frames.{Frame, frame_by, Stands, Fits, IsShaped, IsShaped-from_identical, of_operation, part, Fits-from_feasible}
 use Rattle.msp_schedule.proofs.Transport.{Carries, carried, carried_schedule, Feasible-carried, end_of-carried}
 use Rattle.msp_schedule.proofs.Serves.{IsMultiple-same, Suits-same}
 
@@ -132,10 +132,7 @@ whole_parts f unit ps fits e k d l = by (get_or ps k d) (Contains-get_or ps k d 
 
 module _ (i : Instance) (s : Schedule) (kind : kind_of i.class.env ≡ Identical) (whole : i.class.cut ≡ false) (ones : (j : ℕ) → j < length i.jobs → (need_at i j 0).time ≡ 1) (f : Feasible i s) where
   shaped : IsShaped i
-  shaped = record { unrelated = λ e. absurd (never (sym kind ∙ e)) }
-    where
-      never : Identical ≡ Unrelated → ⊥
-      never e = cc
+  shaped = IsShaped-from_identical i kind
 
   fits : Fits (frame_by Identical i) s.unit s.pieces
   fits = subst (λ k. Fits (frame_by k i) s.unit s.pieces) kind (Fits-from_feasible i s shaped f)

@@ -16,7 +16,7 @@ use Rattle.msp_instance.specs.declared.Arc.{Arc}
 use Rattle.msp_instance.specs.declared.Job.{Job}
 use Rattle.msp_instance.specs.declared.Instance.{Instance}
 use Rattle.msp_instance.specs.Instance.{no_need, no_job, job_at, need_at}
-use Rattle.msp_instance.specs.Conditions.{Limits, MeetsConditions, HasShape, HasTimes, least_time, greatest_time}
+use Rattle.msp_instance.specs.Conditions.{Limits, MeetsConditions, HasShape, HasTimes, HasRelease, least_time, greatest_time}
 use Rattle.msp_schedule.proofs.OneMachine.{both_true}
 use Rattle.msp_schedule.specs.declared.Piece.{Piece}
 use Rattle.msp_schedule.specs.declared.Schedule.{Schedule}
@@ -116,6 +116,12 @@ times_from JobShop l i j e s t = absurd (cc)
 
 pub IsShaped-from_conditions : (l : Limits) (i : Instance) → MeetsConditions l i → IsShaped i
 IsShaped-from_conditions l i h = record { unrelated = λ e k d b. let n = (h.jobs k d b).needs in times_from (kind_of i.class.env) l i (get_or i.jobs k d) e n.shape n.times }
+
+pub IsShaped-from_identical : (i : Instance) → kind_of i.class.env ≡ Identical → IsShaped i
+IsShaped-from_identical i kind = record { unrelated = λ e. absurd (never (sym kind ∙ e)) }
+  where
+    never : Identical ≡ Unrelated → ⊥
+    never e = cc
 
 -- a factor goes out of a product of times
 fold_times : (a : ℕ) (ns : List Need) → fold (λ b n. b * n.time) a ns ≡ a * product_of_times ns
@@ -320,6 +326,10 @@ job_work JobShop l i j s t a = shop_work (job_at i j).needs a
 
 pub HasWork-from_conditions : (l : Limits) (i : Instance) → MeetsConditions l i → HasWork (frame_of i)
 HasWork-from_conditions l i h = record { some = λ j b. let n = (h.jobs j no_job b).needs in job_work (kind_of i.class.env) l i j n.shape n.times n.some }
+
+-- in a class without release dates all are 0
+pub no_heads : (l : Limits) (i : Instance) → i.class.heads ≡ false → MeetsConditions l i → (j : ℕ) → j < length i.jobs → (job_at i j).release ≡ 0
+no_heads l i e h j b = subst (λ x. HasRelease l x (job_at i j).release) e (h.jobs j no_job b).release
 
 -- so each job has a piece where a schedule fits
 pub piece_of : (f : Frame) (unit : ℤ) (ps : List Piece) → Fits f unit ps → HasWork f → (j : ℕ) → j < f.jobs → (p : Piece) × Contains ps p × (p.job ≡ j)

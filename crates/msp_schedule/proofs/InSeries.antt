@@ -21,14 +21,14 @@ use Rattle.msp_class.proofs.Sums.{Contains-filter, sum_by-mono, sum_by-constant,
 use Rattle.msp_class.proofs.IntegerRing.{natural_some, pos-le, ≤ℤ_trans, *ℤ-cancel, *ℤ-mono, *ℤ-mono_right, *ℤ_assoc, *ℤ_comm, *ℤ-neg}
 use Rattle.msp_instance.specs.declared.Instance.{Instance}
 use Rattle.msp_instance.specs.Instance.{no_need, no_job, job_at, need_at}
-use Rattle.msp_instance.specs.Conditions.{Limits, MeetsConditions, Inner, IsSequence, GoesForward, IsAcyclic, HasShape, HasTimes, HasSpeeds, HasRelease, least_time, greatest_time, inner_limits}
+use Rattle.msp_instance.specs.Conditions.{Limits, MeetsConditions, Inner, IsSequence, GoesForward, IsAcyclic, HasShape, HasTimes, HasSpeeds, least_time, greatest_time, inner_limits}
 use Rattle.msp_instance.proofs.CycleLemmas.{OnceBelow-from_sequence, same_place}
 use Rattle.msp_schedule.specs.declared.Schedule.{Schedule}
 use Rattle.msp_schedule.specs.Feasible.{Feasible, whole_work}
 use Rattle.msp_schedule.specs.Cost.{Best, cost_of, job_cost, end_of}
 use Rattle.msp_schedule.proofs.LastEnds.{last_end-least}
 use Rattle.msp_schedule.proofs.Charges.{charge_of, cost_of-least}
-use Rattle.msp_schedule.proofs.Frames.{frame_by, frame_of, IsShaped-from_conditions, HasTimePerMachine, rate_on, rate_times, Feasible-from_fits}
+use Rattle.msp_schedule.proofs.Frames.{frame_by, frame_of, IsShaped-from_conditions, HasTimePerMachine, rate_on, rate_times, no_heads, Feasible-from_fits}
 use Rattle.msp_schedule.proofs.Small.{due_within}
 use Rattle.msp_schedule.proofs.Series.{IsSerial, MayPrecede, task, tasks_of, tasks-sum, one_by_one, series-to, Fits-series}
 
@@ -220,7 +220,7 @@ facts l i h e = record {
   own = (IsShaped-from_conditions l i h).unrelated;
   shape = λ j b. (h.jobs j no_job b).needs.shape;
   times = λ j b. (h.jobs j no_job b).needs.times;
-  heads = λ j b. subst (λ x. HasRelease l x (job_at i j).release) e (h.jobs j no_job b).release;
+  heads = no_heads l i e h;
 }
 
 -- a feasible schedule that is over after so many units of time

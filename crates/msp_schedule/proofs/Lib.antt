@@ -18,5 +18,6 @@ pub mod Serves
 pub mod Series
 pub mod InSeries
 pub mod Busy
+pub mod LineUp
 pub mod Mirror
 pub mod EndsAndFloors
