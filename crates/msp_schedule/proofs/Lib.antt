@@ -19,5 +19,6 @@ pub mod Series
 pub mod InSeries
 pub mod Busy
 pub mod LineUp
+pub mod Exchange
 pub mod Mirror
 pub mod EndsAndFloors

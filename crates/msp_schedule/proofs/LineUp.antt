@@ -57,7 +57,7 @@ module _ (i : Instance) (line : IsLine i) (D : ℕ) (unit : 1 ≤ D) (order : Li
   abbrev time : ℕ → ℕ
   time j = D * time_at i j
 
-  positive : (j : ℕ) → j < length i.jobs → 0 < time j
+  pub positive : (j : ℕ) → j < length i.jobs → 0 < time j
   positive j l = more D (time_at i j) unit (line.some j l)
     where
       more : (a b : ℕ) → 1 ≤ a → 1 ≤ b → 0 < a * b

@@ -18,7 +18,7 @@ use Rattle.msp_schedule.proofs.Frames.{Frame, Lasts, Stands, Gets, Fits, of_oper
 use Rattle.msp_schedule.proofs.Rows.{row, Makes, row-jobs, row-All, row-made, row-sizes, row-to, row-positive, row-in_order, row-arcs}
 
 -- ---- lists
-AllPairs-append : {X : Type 0} (R : X → X → Type 0) (xs ys : List X) → AllPairs R xs → AllPairs R ys → All (λ x. All (R x) ys) xs → AllPairs R (xs ++ ys)
+pub AllPairs-append : {X : Type 0} (R : X → X → Type 0) (xs ys : List X) → AllPairs R xs → AllPairs R ys → All (λ x. All (R x) ys) xs → AllPairs R (xs ++ ys)
 AllPairs-append R [] ys h k across = k
 AllPairs-append R (x ∷ xs) ys h k across = AllPairs-cons R x (xs ++ ys) (All-append (R x) xs ys (AllPairs-head R x xs h) (All-head (λ z. All (R z) ys) x xs across)) (AllPairs-append R xs ys (AllPairs-tail R x xs h) k (All-tail (λ z. All (R z) ys) x xs across))
 
