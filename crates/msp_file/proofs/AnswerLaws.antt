@@ -1,5 +1,5 @@
 -- From the answer to the text: what is read is its instance, and a fault is one that a text can have.
-use Rattle.std.proofs.Common.{◌≡◌, ℕ, zero, suc, inl, inr, refl, ◌<◌, List, [], length, get_or, slice_get, Option, Some, Result, Ok, sym, subst, ◌∙◌, arith}
+use Rattle.std.proofs.Common.{◌≡◌, ℕ, zero, suc, inl, inr, refl, ◌<◌, List, [], length, get_or, slice_get, Option, Some, Result, Ok, sym, subst, ◌∙◌, arith, Err}
 use Rattle.std.proofs.lemmas.Option.{slice_get-get_or}
 use Rattle.msp_instance.specs.declared.Instance.{Instance}
 use Rattle.msp_instance.specs.declared.membership.ClassFault.{ClassFault}
@@ -13,14 +13,16 @@ use Rattle.msp_file.specs.declared.fault.FileFault.{FileFault}
 use Rattle.msp_file.specs.declared.fault.FileFault.TheVariants.{Class, Cycle, Memory}
 use Rattle.msp_grammar.specs.declared.filed.Filed.{Filed}
 use Rattle.msp_grammar.specs.InstanceText.{IsInstanceText}
-use Rattle.msp_file.specs.Reading.{filed_at}
-use Rattle.msp_file.specs.Steps.{Fails}
+use Rattle.msp_file.specs.Reading.{Reads}
+use Rattle.msp_file.specs.Steps.{Fails, IsFaultOfFiled}
 use Rattle.msp_file.specs.Answers.{faulty_name, IsClassFault, IsCycleFault, IsFaultOf, IsTextClassFault, IsTextFault}
+use Rattle.msp_file.proofs.AnswerLemmas.{fault_of_read}
+use Rattle.msp_file.proofs.Readings.{reads_same}
 use Rattle.msp_file.proofs.TextLaws.{IsReadText, whole_takes, whole_again, text_read, times_read}
 
 -- ---- what is read
 
-pub text_of_read : (b : List ℕ) (f : Filed) → filed_at b ≡ Ok f → InClass f.instance → IsInstanceText b f.instance f.names
+pub text_of_read : (b : List ℕ) (f : Filed) → Reads b (Ok f) → InClass f.instance → IsInstanceText b f.instance f.names
 text_of_read b f e in_class =
     let t = whole_takes b f e in
     let c = in_class.conditions in
@@ -32,36 +34,28 @@ filed i names = record { instance = i; names = names }
 abbrev given : Instance → List (List ℕ) → Result Filed FileFault
 given i names = Ok (filed i names)
 
-pub again_read : (b : List ℕ) (f : Filed) → filed_at b ≡ Ok f → (i : Instance) (names : List (List ℕ)) → IsInstanceText b i names → given i names ≡ Ok f
-again_read b f e i names h = sym (whole_again b i names h) ∙ e
+same_filed : (f g : Filed) → given f.instance f.names ≡ given g.instance g.names → f ≡ g
+same_filed f g h = cc
+
+pub again_read : (b : List ℕ) (f : Filed) → Reads b (Ok f) → (i : Instance) (names : List (List ℕ)) → IsInstanceText b i names → given i names ≡ Ok f
+again_read b f e i names h = reads_same b (given i names) (Ok f) (whole_again b i names h) e
 
 -- ---- an instance of a class has no fault
 
-same_filed : (read : Result Filed FileFault) (f g : Filed) → read ≡ Ok f → read ≡ Ok g → f ≡ g
-same_filed read f g h k = cc
+in_class_of : (b : List ℕ) (i : Instance) (names : List (List ℕ)) (f : Filed) → IsInstanceText b i names → Reads b (Ok f) → InClass f.instance
+in_class_of b i names f h e = subst (λ (g : Filed). InClass g.instance) (same_filed (filed i names) f (again_read b f e i names h)) h.in_class
 
-no_class_fault : (read : Result Filed FileFault) (f : Filed) (fault : ClassFault) (name : Option (List ℕ)) → read ≡ Ok f → InClass f.instance → ¬ IsClassFault read fault name
-no_class_fault read f fault name e in_class h =
-    let same : f ≡ h.filed = same_filed read f h.filed e h.reads in
-    let whole : InClass h.filed.instance = subst (λ (g : Filed). InClass g.instance) same in_class in
-    h.first.broken (Condition-from_meets h.filed.instance fault whole.conditions h.first.within)
+no_class_fault : (b : List ℕ) (i : Instance) (names : List (List ℕ)) (fault : ClassFault) (name : Option (List ℕ)) → IsInstanceText b i names → ¬ IsClassFault b fault name
+no_class_fault b i names fault name h k = k.first.broken (Condition-from_meets k.filed.instance fault (in_class_of b i names k.filed h k.reads).conditions k.first.within)
 
-no_cycle_fault : (read : Result Filed FileFault) (f : Filed) (job : ℕ) (name : List ℕ) → read ≡ Ok f → InClass f.instance → ¬ IsCycleFault read job name
-no_cycle_fault read f job name e in_class h =
-    let same : f ≡ h.filed = same_filed read f h.filed e h.reads in
-    let whole : InClass h.filed.instance = subst (λ (g : Filed). InClass g.instance) same in_class in
-    not_acyclic h.filed.instance job h.conditions.ends h.least.inside h.least.cycle whole.acyclic
+no_cycle_fault : (b : List ℕ) (i : Instance) (names : List (List ℕ)) (job : ℕ) (name : List ℕ) → IsInstanceText b i names → ¬ IsCycleFault b job name
+no_cycle_fault b i names job name h k = not_acyclic k.filed.instance job k.conditions.ends k.least.inside k.least.cycle (in_class_of b i names k.filed h k.reads).acyclic
 
-no_fault : (read : Result Filed FileFault) (f : Filed) (e : FileFault) → read ≡ Ok f → InClass f.instance → IsFaultOf read e → Fails e read
-no_fault read f (Class fault name) h in_class k = absurd (no_class_fault read f fault name h in_class k)
-no_fault read f (Cycle job name) h in_class k = absurd (no_cycle_fault read f job name h in_class k)
-no_fault read f Memory h in_class k = tt
-no_fault read f e h in_class k = k
-
-pub again_fault : (b : List ℕ) (e : FileFault) → IsFaultOf (filed_at b) e → (i : Instance) (names : List (List ℕ)) → IsInstanceText b i names → Fails e (given i names)
-again_fault b e k i names h =
-    let reads = whole_again b i names h in
-    subst (Fails e) reads (no_fault (filed_at b) (filed i names) e reads h.in_class k)
+pub again_fault : (b : List ℕ) (e : FileFault) → IsFaultOf b e → (i : Instance) (names : List (List ℕ)) → IsInstanceText b i names → Fails e (given i names)
+again_fault b (Class fault name) k i names h = absurd (no_class_fault b i names fault name h k)
+again_fault b (Cycle job name) k i names h = absurd (no_cycle_fault b i names job name h k)
+again_fault b Memory k i names h = tt
+again_fault b e k i names h = reads_same b (given i names) (Err e) (whole_again b i names h) k
 
 -- ---- the faults of texts
 
@@ -91,11 +85,11 @@ class_fault_of b f class_fault.Arcs name t first e = absurd (first.broken t.arcs
 class_fault_of b f (class_fault.Arc at) name t first e = absurd (first.broken (HasArc-from_all f.instance at t.ends t.once first.within))
 class_fault_of b f (class_fault.Degree j) name t first e = subst (IsTextClassFault (class_fault.Degree j)) (sym (e ∙ named_job f j t.one_each first.within)) tt
 
-text_fault : (b : List ℕ) (read : Result Filed FileFault) (e : FileFault) → ((f : Filed) → read ≡ Ok f → IsReadText b f) → IsFaultOf read e → IsTextFault e
-text_fault b read (Class fault name) h k = class_fault_of b k.filed fault name (h k.filed k.reads) k.first k.named
-text_fault b read e h k = tt
+pub fault_of_text : (b : List ℕ) (e : FileFault) → IsFaultOf b e → IsTextFault e
+fault_of_text b (Class fault name) k = class_fault_of b k.filed fault name (whole_takes b k.filed k.reads) k.first k.named
+fault_of_text b e k = tt
 
-pub fault_of_text : (b : List ℕ) (e : FileFault) → IsFaultOf (filed_at b) e → IsTextFault e
-fault_of_text b e k = text_fault b (filed_at b) e (whole_takes b) k
+pub fault_of_filed : (b : List ℕ) (f : Filed) (e : FileFault) → Reads b (Ok f) → IsFaultOfFiled f e → IsTextFault e
+fault_of_filed b f e h k = fault_of_text b e (fault_of_read b f e h k)
 
-pub ruleset text_rules = (text_of_read, again_fault, fault_of_text)
+pub ruleset text_rules = (text_of_read, again_fault, fault_of_text, fault_of_filed)

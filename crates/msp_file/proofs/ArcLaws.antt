@@ -1,5 +1,5 @@
 -- The lines of arcs: what is read is the text of the arcs, and the text of arcs is read as those arcs.
-use Rattle.std.proofs.Common.{◌≡◌, ◌≢◌, ℕ, zero, suc, ◌<◌, ◌≤◌, Bool, true, false, not, ◌&&◌, ◌==◌, if◌then◌else◌, List, [], ◌∷◌, ◌++◌, length, All, AllPairs, Contains, Result, Ok, bytes_eq, codes, refl, sym, ap, subst, ◌∙◌, append_assoc, append-nil, arith, length-append, ltb-true, lt-ltb, eqb-true, eq-eqb}
+use Rattle.std.proofs.Common.{◌≡◌, ◌≢◌, ℕ, ◌<◌, ◌≤◌, Bool, true, false, not, ◌&&◌, ◌==◌, if◌then◌else◌, List, [], ◌∷◌, ◌++◌, length, All, AllPairs, Contains, Result, Ok, bytes_eq, codes, refl, sym, ap, subst, ◌∙◌, append_assoc, append-nil, arith, length-append, ltb-true, lt-ltb, eqb-true, eq-eqb, Err}
 use Rattle.std.specs.List.{AllByRecursion}
 use Rattle.std.proofs.lemmas.Bool.{and_parts}
 use Rattle.std.proofs.lemmas.Map.Views.{Contains-from_any}
@@ -13,10 +13,10 @@ use Rattle.msp_file.specs.declared.draft.Draft.{Draft}
 use Rattle.msp_job_name.specs.JobName.{IsJobName, AreDistinct}
 use Rattle.msp_grammar.specs.ScheduleText.{name_at}
 use Rattle.msp_grammar.specs.InstanceText.{line_text, arc_fields, arcs_text}
-use Rattle.msp_file.specs.Reading.{◌>>=◌, Place, line_at, fields_of, first_of, others_of, is_arc_among, with_arc, arc_line_at, end_at, arcs_at}
+use Rattle.msp_file.specs.Reading.{◌>>=◌, Place, line_at, fields_of, first_of, others_of, is_arc_among, with_arc, arc_line_at, LineRead, job_read, arc_read, end_read, end_at, arc_or_end, arc_step, ReadsArcs, arc_then, arcs_end, arcs_fault}
 use Rattle.msp_job_name.proofs.NameLists.{same_bytes}
 use Rattle.msp_file.proofs.Apart.{apart_push, apart_before}
-use Rattle.msp_file.proofs.LineLaws.{bind_ok, provided_ok, ok_is, Takes, Gets, Takes-then, IsField, fields_takes, fields_again, fields_line_again, one_field}
+use Rattle.msp_file.proofs.LineLaws.{bind_ok, provided_ok, ok_is, Takes, Takes-then, IsField, fields_takes, fields_again, fields_line_again, one_field}
 use Rattle.msp_file.proofs.FieldLaws.{known_takes, known_again, name_field}
 
 -- ---- a line by its fields
@@ -42,13 +42,13 @@ end_text = line_text (codes "end" ∷ [])
 pub end_field : AllByRecursion IsField (codes "end" ∷ [])
 end_field = (record { no_space = refl; no_line_feed = refl }, tt)
 
-pub end_takes : (at : ℕ) (d : Draft) (fields : List (List ℕ)) (p q : Place) (x : Draft × Place) → Takes p (line_text (first_of fields ∷ others_of fields)) q → end_at at d fields q ≡ Ok x → (x ≡ (d, q)) × Takes p end_text q
-end_takes at d fields p q x t e =
-    let a = provided_ok _ _ _ x e in
-    let b = provided_ok _ _ _ x a.1 in
+pub end_takes : (at : ℕ) (d : Draft) (fields : List (List ℕ)) (p q : Place) (next : LineRead) → Takes p (line_text (first_of fields ∷ others_of fields)) q → end_at at d fields q ≡ Ok next → (next ≡ end_read d q) × Takes p end_text q
+end_takes at d fields p q next t e =
+    let a = provided_ok _ _ _ next e in
+    let b = provided_ok _ _ _ next a.1 in
     let first : first_of fields ≡ codes "end" = same_bytes (first_of fields) (codes "end") a.0 in
     let others : others_of fields ≡ [] = ap others_of (one_field fields b.0) in
-    (sym (ok_is (d, q) x b.1), subst (λ (ws : List (List ℕ)). Takes p (line_text (codes "end" ∷ ws)) q) others (subst (λ (w : List ℕ). Takes p (line_text (w ∷ others_of fields)) q) first t))
+    (sym (ok_is (end_read d q) next b.1), subst (λ (ws : List (List ℕ)). Takes p (line_text (codes "end" ∷ ws)) q) others (subst (λ (w : List ℕ). Takes p (line_text (w ∷ others_of fields)) q) first t))
 
 -- ---- the line of an arc
 
@@ -174,30 +174,40 @@ no_arcs : (d : Draft) (p : Place) (x : Draft × Place) (q : Place) → AreArcs d
 no_arcs d p x q fit e t =
     subst (λ (y : Draft × Place). AddsArcs d p y.0 y.1) (sym e) (record { more = []; added = ap (λ (arcs : List Arc). record d { arcs = arcs }) (sym (append-nil d.arcs)); text = t; fit = subst (AreArcs d.names) (sym (append-nil d.arcs)) fit })
 
--- what is read of the fields of a line after an arc
-abbrev arcs_step : ℕ → ℕ → Draft → List (List ℕ) → Place → Result (Draft × Place) FileFault
-arcs_step n at d fields q =
-    if bytes_eq (first_of fields) (codes "arc")
-    then (arc_line_at at d (others_of fields) >>= λ e. arcs_at n e q)
-    else end_at at d fields q
+-- What a line that is no job's says: an arc, where there may be one, or the end.
+abbrev pub TakesArc : Bool → Draft → Place → LineRead → Type 0
+TakesArc may d p (job_read e q) = ⊥
+TakesArc may d p (arc_read e q) = (fields : List (List ℕ)) × Takes p (line_text (codes "arc" ∷ fields)) q × AddsArc d fields e × (may ≡ true)
+TakesArc may d p (end_read e q) = (e ≡ d) × Takes p end_text q
 
-step_takes : (n at : ℕ) (d : Draft) (fields : List (List ℕ)) (p q : Place) (x : Draft × Place) → Takes p (line_text (first_of fields ∷ others_of fields)) q → AreArcs d.names d.arcs
-    → ((e : Draft) → AreArcs e.names e.arcs → arcs_at n e q ≡ Ok x → AddsArcs e q x.0 x.1) → arcs_step n at d fields q ≡ Ok x → AddsArcs d p x.0 x.1
-step_takes n at d fields p q x t fit rest = by (bytes_eq (first_of fields) (codes "arc")) refl
+pub arc_or_end_takes : (may : Bool) (at : ℕ) (d : Draft) (fields : List (List ℕ)) (p q : Place) (next : LineRead) → Takes p (line_text (first_of fields ∷ others_of fields)) q → arc_or_end may at d fields q ≡ Ok next → TakesArc may d p next
+arc_or_end_takes may at d fields p q next t = by (may && bytes_eq (first_of fields) (codes "arc")) refl
   where
-    by : (b : Bool) → bytes_eq (first_of fields) (codes "arc") ≡ b → (if b then (arc_line_at at d (others_of fields) >>= λ e. arcs_at n e q) else end_at at d fields q) ≡ Ok x → AddsArcs d p x.0 x.1
+    by : (b : Bool) → (may && bytes_eq (first_of fields) (codes "arc")) ≡ b → (if b then (arc_line_at at d (others_of fields) >>= λ more. Ok (arc_read more q)) else end_at at d fields q) ≡ Ok next → TakesArc may d p next
     by true is e =
-        let l = bind_ok _ _ x e in
-        let line = subst (λ (w : List ℕ). Takes p (line_text (w ∷ others_of fields)) q) (same_bytes (first_of fields) (codes "arc") is) t in
-        then_arcs d (others_of fields) l.0 p q x line (arc_takes at d (others_of fields) l.0 l.1) fit (λ good. rest l.0 good l.2)
-    by false is e = let l = end_takes at d fields p q x t e in no_arcs d p x q fit l.0 l.1
+        let parts = and_parts may (bytes_eq (first_of fields) (codes "arc")) is in
+        let l = bind_ok _ _ next e in
+        let line = subst (λ (w : List ℕ). Takes p (line_text (w ∷ others_of fields)) q) (same_bytes (first_of fields) (codes "arc") parts.1) t in
+        subst (TakesArc may d p) (ok_is (arc_read l.0 q) next l.2) (others_of fields, line, arc_takes at d (others_of fields) l.0 l.1, parts.0)
+    by false is e = let l = end_takes at d fields p q next t e in subst (TakesArc may d p) (sym l.0) (refl, l.1)
 
-pub arcs_take : (n : ℕ) (d : Draft) (p : Place) (x : Draft × Place) → AreArcs d.names d.arcs → arcs_at n d p ≡ Ok x → AddsArcs d p x.0 x.1
-unfolding arcs_at
-arcs_take zero d p x fit e = absurd cc
-arcs_take (suc n) d p x fit e =
-    let l = bind_ok (line_at p) _ x e in
-    step_takes n p.at d (fields_of l.0.0) p l.0.1 x (fields_takes p l.0 l.1) fit (λ f good h. arcs_take n f l.0.1 x good h) l.2
+arc_step_takes : (d : Draft) (p : Place) (next : LineRead) → arc_step d p ≡ Ok next → TakesArc true d p next
+unfolding arc_step
+arc_step_takes d p next e =
+    let l = bind_ok (line_at p) _ next e in
+    arc_or_end_takes true p.at d (fields_of l.0.0) p l.0.1 next (fields_takes p l.0 l.1) l.2
+
+-- what is read last
+pub last_is : (d e : Draft) (q : Place) (read : Result (Draft × Place) FileFault) (x : Draft × Place) → e ≡ d → read ≡ Ok (e, q) → read ≡ Ok x → x ≡ (d, q)
+last_is d e q read x same ends is = ok_is x (e, q) (sym is ∙ ends) ∙ ap (λ (y : Draft). (y, q)) same
+
+pub no_answer : (read : Result (Draft × Place) FileFault) (x : Draft × Place) (fault : FileFault) → read ≡ Err fault → read ≡ Ok x → ⊥
+no_answer read x fault e f = cc
+
+pub arcs_take : (d : Draft) (p : Place) (read : Result (Draft × Place) FileFault) (x : Draft × Place) → AreArcs d.names d.arcs → ReadsArcs d p read → read ≡ Ok x → AddsArcs d p x.0 x.1
+arcs_take d p read x fit (arc_then _ e _ q _ step rest) is = let t = arc_step_takes d p (arc_read e q) step in then_arcs d t.0 e p q x t.1 t.2 fit (λ good. arcs_take e q read x good rest is)
+arcs_take d p read x fit (arcs_end _ e _ q _ step ends) is = let t = arc_step_takes d p (end_read e q) step in no_arcs d p x q fit (last_is d e q read x t.0 ends is) t.1
+arcs_take d p read x fit (arcs_fault _ _ _ fault step fails) is = absurd (no_answer read x fault fails is)
 
 -- an arc at its place among others
 pub arc_in : (names : List (List ℕ)) (arcs : List Arc) (a : Arc) (more : List Arc) → AreArcs names (arcs ++ a ∷ more) → (a.before < length names) × (a.after < length names) × (¬ Contains arcs a) × (length arcs < MOST_ARCS) × AreArcs names ((arcs ++ a ∷ []) ++ more)
@@ -206,17 +216,23 @@ arc_in names arcs a more fit =
     let ends = subst (λ (b : Arc). (b.before < length names) × (b.after < length names)) (get_or_at arcs a more a (length arcs) refl) (fit.ends (length arcs) a within) in
     (ends.0, ends.1, apart_before arcs a more fit.once, omega (arith, fit.few), subst (AreArcs names) (sym (append_assoc arcs (a ∷ []) more)) fit)
 
-pub arcs_again : (more : List Arc) (n : ℕ) (d : Draft) (at : ℕ) (rest : List ℕ) → AreDistinct d.names → All IsJobName d.names → AreArcs d.names (d.arcs ++ more) → length more < n
-    → Gets (arcs_at n d (record { at = at; rest = (arcs_text d.names more ++ end_text) ++ rest })) (with_arcs d more) rest
-unfolding arcs_at
-arcs_again more zero d at rest apart spelled fit enough = absurd (omega arith)
-arcs_again [] (suc n) d at rest apart spelled fit enough =
-    let l = line_then (arcs_step n at d) at (codes "end") [] rest end_field in
-    (l.0, l.1 ∙ ap (λ (arcs : List Arc). Ok (record d { arcs = arcs }, record { at = l.0; rest = rest })) (sym (append-nil d.arcs)))
-arcs_again (a ∷ more) (suc n) d at rest apart spelled fit enough =
+-- Reading gives the value and leaves the rest.
+abbrev pub GetsBy : {A : Type 0} → (Result (A × Place) FileFault → Type 0) → A → List ℕ → Type 0
+GetsBy Reading x rest = (at : ℕ) × Reading (Ok (x, record { at = at; rest = rest }))
+
+pub arcs_again : (more : List Arc) (d : Draft) (at : ℕ) (rest : List ℕ) → AreDistinct d.names → All IsJobName d.names → AreArcs d.names (d.arcs ++ more)
+    → GetsBy (ReadsArcs d (record { at = at; rest = (arcs_text d.names more ++ end_text) ++ rest })) (with_arcs d more) rest
+unfolding arc_step
+arcs_again [] d at rest apart spelled fit =
+    let l = line_then (arc_or_end true at d) at (codes "end") [] rest end_field in
+    (l.0, arcs_end d d _ (record { at = l.0; rest = rest }) _ l.1 (ap (λ (arcs : List Arc). Ok (record d { arcs = arcs }, record { at = l.0; rest = rest })) (append-nil d.arcs)))
+arcs_again (a ∷ more) d at rest apart spelled fit =
     let in_range = arc_in d.names d.arcs a more fit in
-    let text : (arcs_text d.names (a ∷ more) ++ end_text) ++ rest ≡ line_text (arc_fields d.names a) ++ ((arcs_text d.names more ++ end_text) ++ rest) = ap (λ (b : List ℕ). b ++ rest) (append_assoc (line_text (arc_fields d.names a)) (arcs_text d.names more) end_text) ∙ append_assoc (line_text (arc_fields d.names a)) (arcs_text d.names more ++ end_text) rest in
-    let l = line_then (arcs_step n at d) at (codes "arc") (name_at d.names a.before ∷ name_at d.names a.after ∷ []) ((arcs_text d.names more ++ end_text) ++ rest) (arc_line_fields d.names a spelled in_range.0 in_range.1) in
+    let left = (arcs_text d.names more ++ end_text) ++ rest in
+    let text : (arcs_text d.names (a ∷ more) ++ end_text) ++ rest ≡ line_text (arc_fields d.names a) ++ left = ap (λ (b : List ℕ). b ++ rest) (append_assoc (line_text (arc_fields d.names a)) (arcs_text d.names more) end_text) ∙ append_assoc (line_text (arc_fields d.names a)) (arcs_text d.names more ++ end_text) rest in
+    let l = line_then (arc_or_end true at d) at (codes "arc") (name_at d.names a.before ∷ name_at d.names a.after ∷ []) left (arc_line_fields d.names a spelled in_range.0 in_range.1) in
+    let q : Place = record { at = l.0; rest = left } in
     let one = arc_again at d a apart spelled in_range.0 in_range.1 in_range.2 in_range.3 in
-    let g = arcs_again more n (with_arc d a.before a.after) l.0 rest apart spelled in_range.4 (omega (arith, enough)) in
-    (g.0, ap (λ (b : List ℕ). arcs_at (suc n) d (record { at = at; rest = b })) text ∙ l.1 ∙ ap (λ r. r >>= λ e. arcs_at n e (record { at = l.0; rest = (arcs_text d.names more ++ end_text) ++ rest })) one ∙ g.1 ∙ ap (λ (arcs : List Arc). Ok (record d { arcs = arcs }, record { at = g.0; rest = rest })) (append_assoc d.arcs (a ∷ []) more))
+    let step : arc_step d (record { at = at; rest = (arcs_text d.names (a ∷ more) ++ end_text) ++ rest }) ≡ Ok (arc_read (with_arc d a.before a.after) q) = ap (λ (b : List ℕ). arc_step d (record { at = at; rest = b })) text ∙ l.1 ∙ ap (λ r. r >>= λ e. Ok (arc_read e q)) one in
+    let g = arcs_again more (with_arc d a.before a.after) l.0 rest apart spelled in_range.4 in
+    (g.0, subst (λ (arcs : List Arc). ReadsArcs d (record { at = at; rest = (arcs_text d.names (a ∷ more) ++ end_text) ++ rest }) (Ok (record d { arcs = arcs }, record { at = g.0; rest = rest }))) (append_assoc d.arcs (a ∷ []) more) (arc_then d (with_arc d a.before a.after) _ q _ step g.1))

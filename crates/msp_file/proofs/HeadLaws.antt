@@ -1,5 +1,5 @@
 -- The lines of the head: what is read is the head of an instance, and the head of an instance is read as its parts.
-use Rattle.std.proofs.Common.{◌≡◌, ℕ, suc, ◌*◌, ◌≤◌, Bool, true, ◌==◌, nat_lt, List, [], ◌∷◌, ◌++◌, length, map, Option, Some, None, MatchOption, Result, Ok, Err, All, Contains, bytes_eq, is_none, refl, sym, ap, subst, ◌∙◌, append_assoc, append-nil, arith, codes, decimal, if◌then◌else◌}
+use Rattle.std.proofs.Common.{◌≡◌, ℕ, suc, ◌≤◌, Bool, true, ◌==◌, nat_lt, List, [], ◌∷◌, ◌++◌, length, map, Option, Some, None, MatchOption, Result, Ok, Err, All, Contains, bytes_eq, is_none, refl, sym, ap, subst, ◌∙◌, append_assoc, append-nil, arith, codes, decimal, if◌then◌else◌}
 use Rattle.std.specs.Prelude.{⊤, false}
 use Rattle.std.specs.List.{AllByRecursion, list_all, join_with_byte}
 use Rattle.std.proofs.lemmas.Bool.{eqb-true, eq-eqb, and_from}
@@ -20,17 +20,16 @@ use Rattle.msp_name.specs.Names.{NameOf, bar, comma}
 use Rattle.msp_name.specs.Reading.{reading_of}
 use Rattle.msp_name.proofs.NameLemmas.{NameOf-from_reading, reading_of-NameOf}
 use Rattle.msp_instance.specs.declared.Instance.{Instance}
-use Rattle.msp_instance.specs.Conditions.{HasMachines, HasSpeeds, HasSmallMultiple}
-use Rattle.msp_instance.specs.declared.ranges.TheConstants.{GREATEST_SPEED, GREATEST_MULTIPLE, GREATEST_EQUAL_TIME, MOST_MACHINES}
+use Rattle.msp_instance.specs.Conditions.{HasMachines, HasSpeeds}
+use Rattle.msp_instance.specs.declared.ranges.TheConstants.{GREATEST_SPEED, GREATEST_EQUAL_TIME, MOST_MACHINES}
 use Rattle.msp_file.specs.declared.fault.FileFault.{FileFault}
-use Rattle.msp_file.specs.declared.fault.FileFault.TheVariants.{Head, Count, Limit}
+use Rattle.msp_file.specs.declared.fault.FileFault.TheVariants.{Head, Count}
 use Rattle.msp_file.specs.declared.fault.What.TheVariants as what
 use Rattle.msp_grammar.specs.ScheduleText.{line_feed}
 use Rattle.msp_grammar.specs.Layout.{has_speeds, has_time_line}
 use Rattle.msp_grammar.specs.InstanceText.{where_wanted, line_text, class_text, machines_text, speeds_text, time_text}
-use Rattle.msp_file.specs.Reading.{◌>>=◌, provided, Place, line_at, fields_of, first_of, natural_at, version_at, spelled_class, class_in, class_at, worded_at, machines_line_at, machines_at, have_multiple, speeds_in, speeds_line_at, speeds_at, time_line_at, time_at}
+use Rattle.msp_file.specs.Reading.{◌>>=◌, provided, Place, line_at, fields_of, first_of, natural_at, version_at, spelled_class, class_in, class_at, worded_at, machines_line_at, machines_at, speeds_in, speeds_line_at, speeds_at, time_line_at, time_at}
 use Rattle.msp_job_name.proofs.NameLists.{same_bytes}
-use Rattle.msp_file.proofs.Multiples.{HasMultiple-from_have_multiple, have_multiple-from_HasMultiple}
 use Rattle.msp_file.proofs.LineLaws.{bind_ok, provided_ok, ok_is, Takes, Gets, IsField, line_takes, line_again, fields_join, fields_again, fields_line_again, worded_takes, worded_again, one_field}
 use Rattle.msp_file.proofs.FieldLaws.{IsKeyed, lacks_others, natural_takes, natural_again, natural_field}
 
@@ -226,33 +225,30 @@ decimal_fields [] h = tt
 decimal_fields (s ∷ ss) h = let range = All-head IsSpeed s ss h in let high : s ≤ GREATEST_SPEED = range.1 in (natural_field s (omega arith), decimal_fields ss (All-tail IsSpeed s ss h))
 
 speeds_line_takes : (machines : ℕ) (p : Place) (x : List ℕ × Place) → speeds_line_at machines p ≡ Ok x
-    → Takes p (line_text (codes "speeds" ∷ map decimal x.0)) x.1 × ((length x.0 ≡ machines) × All IsSpeed x.0) × HasSmallMultiple x.0
+    → Takes p (line_text (codes "speeds" ∷ map decimal x.0)) x.1 × ((length x.0 ≡ machines) × All IsSpeed x.0)
 unfolding speeds_line_at
 speeds_line_takes machines p x h =
-    let l = bind_ok (worded_at (codes "speeds") p) (λ l. provided (length l.0 == machines) (Count p.at) (speeds_in p.at [] l.0 >>= λ speeds. provided (have_multiple GREATEST_MULTIPLE speeds) (Limit p.at what.Multiple) (Ok (speeds, l.1)))) x h in
+    let l = bind_ok (worded_at (codes "speeds") p) _ x h in
     let fields = l.0.0 in
-    let t = provided_ok (length fields == machines) (Count p.at) (speeds_in p.at [] fields >>= λ speeds. provided (have_multiple GREATEST_MULTIPLE speeds) (Limit p.at what.Multiple) (Ok (speeds, l.0.1))) x l.2 in
-    let s = bind_ok (speeds_in p.at [] fields) (λ speeds. provided (have_multiple GREATEST_MULTIPLE speeds) (Limit p.at what.Multiple) (Ok (speeds, l.0.1))) x t.1 in
+    let t = provided_ok (length fields == machines) (Count p.at) _ x l.2 in
+    let s = bind_ok (speeds_in p.at [] fields) _ x t.1 in
     let speeds = s.0 in
-    let m = provided_ok (have_multiple GREATEST_MULTIPLE speeds) (Limit p.at what.Multiple) (Ok (speeds, l.0.1)) x s.2 in
     let f = speeds_fields_take p.at [] fields speeds s.1 in
     let is : fields ≡ map decimal speeds = f.2 ∙ ap (map decimal) (sym f.1) in
     let range : All IsSpeed speeds = subst (All IsSpeed) (sym f.1) f.3 in
     let count : length speeds ≡ machines = sym (length_decimals speeds) ∙ ap length (sym is) ∙ eqb-true (length fields) machines t.0 in
     let text : Takes p (line_text (codes "speeds" ∷ map decimal speeds)) l.0.1 = subst (λ ws. Takes p (line_text (codes "speeds" ∷ ws)) l.0.1) is (worded_takes (codes "speeds") p l.0 l.1) in
-    subst (λ y. Takes p (line_text (codes "speeds" ∷ map decimal y.0)) y.1 × ((length y.0 ≡ machines) × All IsSpeed y.0) × HasSmallMultiple y.0) (ok_is (speeds, l.0.1) x m.1)
-    (text, (count, range), HasMultiple-from_have_multiple GREATEST_MULTIPLE speeds range m.0)
+    subst (λ y. Takes p (line_text (codes "speeds" ∷ map decimal y.0)) y.1 × ((length y.0 ≡ machines) × All IsSpeed y.0)) (ok_is (speeds, l.0.1) x s.2) (text, (count, range))
 
-no_speeds_take : (p : Place) (x : List ℕ × Place) (r : Result (List ℕ × Place) FileFault) → r ≡ Ok x → r ≡ Ok ([], p) → (p.rest ≡ x.1.rest) × (x.0 ≡ []) × HasSmallMultiple x.0
-no_speeds_take p x r e f =
-    subst (λ (y : List ℕ × Place). (p.rest ≡ y.1.rest) × (y.0 ≡ []) × HasSmallMultiple y.0) (ok_is ([], p) x (sym f ∙ e)) (refl, refl, (1, omega arith, omega arith, All-nil (λ s. (times : ℕ) × (1 ≡ times * s))))
+no_speeds_take : (p : Place) (x : List ℕ × Place) (r : Result (List ℕ × Place) FileFault) → r ≡ Ok x → r ≡ Ok ([], p) → (p.rest ≡ x.1.rest) × (x.0 ≡ [])
+no_speeds_take p x r e f = subst (λ (y : List ℕ × Place). (p.rest ≡ y.1.rest) × (y.0 ≡ [])) (ok_is ([], p) x (sym f ∙ e)) (refl, refl)
 
-pub speeds_takes : (e : Env) (machines : ℕ) (p : Place) (x : List ℕ × Place) → speeds_at e machines p ≡ Ok x → Takes p (speeds_text e x.0) x.1 × HasSpeeds (kind_of e) machines x.0 × HasSmallMultiple x.0
+pub speeds_takes : (e : Env) (machines : ℕ) (p : Place) (x : List ℕ × Place) → speeds_at e machines p ≡ Ok x → Takes p (speeds_text e x.0) x.1 × HasSpeeds (kind_of e) machines x.0
 unfolding speeds_at speeds_text
 speeds_takes e machines p x h = by (kind_of e) h
   where
     by : (k : EnvKind) → (if has_speeds k then speeds_line_at machines p else Ok ([], p)) ≡ Ok x
-        → Takes p (where_wanted (has_speeds k) (line_text (codes "speeds" ∷ map decimal x.0))) x.1 × HasSpeeds k machines x.0 × HasSmallMultiple x.0
+        → Takes p (where_wanted (has_speeds k) (line_text (codes "speeds" ∷ map decimal x.0))) x.1 × HasSpeeds k machines x.0
     by Identical h = no_speeds_take p x (Ok ([], p)) h refl
     by Uniform h = speeds_line_takes machines p x h
     by Unrelated h = no_speeds_take p x (Ok ([], p)) h refl
@@ -260,18 +256,18 @@ speeds_takes e machines p x h = by (kind_of e) h
     by FlowShop h = no_speeds_take p x (Ok ([], p)) h refl
     by JobShop h = no_speeds_take p x (Ok ([], p)) h refl
 
-speeds_line_again : (machines at : ℕ) (speeds rest : List ℕ) → length speeds ≡ machines → All IsSpeed speeds → HasSmallMultiple speeds
+speeds_line_again : (machines at : ℕ) (speeds rest : List ℕ) → length speeds ≡ machines → All IsSpeed speeds
     → Gets (speeds_line_at machines (record { at = at; rest = line_text (codes "speeds" ∷ map decimal speeds) ++ rest })) speeds rest
 unfolding speeds_line_at
-speeds_line_again machines at speeds rest count range multiple =
+speeds_line_again machines at speeds rest count range =
     let fields : AllByRecursion IsField (codes "speeds" ∷ map decimal speeds) = (record { no_space = refl; no_line_feed = refl }, decimal_fields speeds range) in
     let line = worded_again (codes "speeds") (map decimal speeds) at rest fields in
     let many : (length (map decimal speeds) == machines) ≡ true = eq-eqb (length (map decimal speeds)) machines (length_decimals speeds ∙ count) in
-    (line.0, rw (line.1, many, speeds_fields_again at [] speeds range, have_multiple-from_HasMultiple GREATEST_MULTIPLE speeds multiple) refl)
+    (line.0, rw (line.1, many, speeds_fields_again at [] speeds range) refl)
 
-pub speeds_again : (e : Env) (machines at : ℕ) (speeds rest : List ℕ) → HasSpeeds (kind_of e) machines speeds → HasSmallMultiple speeds → Gets (speeds_at e machines (record { at = at; rest = speeds_text e speeds ++ rest })) speeds rest
+pub speeds_again : (e : Env) (machines at : ℕ) (speeds rest : List ℕ) → HasSpeeds (kind_of e) machines speeds → Gets (speeds_at e machines (record { at = at; rest = speeds_text e speeds ++ rest })) speeds rest
 unfolding speeds_at speeds_text
-speeds_again e machines at speeds rest h k = by (kind_of e) h
+speeds_again e machines at speeds rest h = by (kind_of e) h
   where
     none : speeds ≡ [] → Gets {A = List ℕ} (Ok ([], record { at = at; rest = rest })) speeds rest
     none is = (at, ap (λ s. Ok (s, record { at = at; rest = rest })) (sym is))
@@ -279,7 +275,7 @@ speeds_again e machines at speeds rest h k = by (kind_of e) h
     by : (kind : EnvKind) → HasSpeeds kind machines speeds
         → Gets {A = List ℕ} (if has_speeds kind then speeds_line_at machines (record { at = at; rest = where_wanted (has_speeds kind) (line_text (codes "speeds" ∷ map decimal speeds)) ++ rest }) else Ok ([], record { at = at; rest = where_wanted (has_speeds kind) (line_text (codes "speeds" ∷ map decimal speeds)) ++ rest })) speeds rest
     by Identical h = none h
-    by Uniform h = speeds_line_again machines at speeds rest h.0 h.1 k
+    by Uniform h = speeds_line_again machines at speeds rest h.0 h.1
     by Unrelated h = none h
     by OpenShop h = none h
     by FlowShop h = none h

@@ -1,6 +1,5 @@
 -- The lines after the head: what is read is the text of the jobs and arcs, and the text of jobs and arcs is read as those.
-use Rattle.std.proofs.Common.{◌≡◌, ℕ, zero, suc, ◌+◌, ◌<◌, ◌≤◌, Bool, true, false, ◌&&◌, if◌then◌else◌, List, [], ◌∷◌, ◌++◌, length, All, Contains, Result, Ok, bytes_eq, codes, refl, sym, ap, subst, ◌∙◌, append_assoc, append-nil, arith, length-append}
-use Rattle.std.proofs.lemmas.Bool.{and_parts}
+use Rattle.std.proofs.Common.{◌≡◌, ℕ, ◌<◌, ◌≤◌, Bool, true, false, ◌&&◌, if◌then◌else◌, List, [], ◌∷◌, ◌++◌, length, All, Contains, Result, Ok, bytes_eq, codes, refl, sym, ap, subst, ◌∙◌, append_assoc, append-nil, arith, length-append}
 use Rattle.std.proofs.lemmas.List.{get_or_at}
 use Rattle.std.proofs.lemmas.List.Elements.{All-push, All-nil}
 use Rattle.msp_class.specs.declared.class.Class.{Class}
@@ -15,13 +14,13 @@ use Rattle.msp_job_name.specs.JobName.{IsJobName, AreDistinct}
 use Rattle.msp_grammar.specs.ScheduleText.{name_at}
 use Rattle.msp_grammar.specs.Layout.{has_order, has_times}
 use Rattle.msp_grammar.specs.InstanceText.{line_text, key_fields, job_fields, times_text, route_text, curve_text, job_text, jobs_text, arc_fields, arcs_text}
-use Rattle.msp_file.specs.Reading.{◌>>=◌, Place, line_at, fields_of, first_of, others_of, with_arc, arc_line_at, job_at_line, end_at, arcs_at, jobs_at}
+use Rattle.msp_file.specs.Reading.{◌>>=◌, Place, line_at, fields_of, first_of, others_of, with_arc, arc_line_at, job_at_line, LineRead, job_read, arc_read, end_read, end_at, arc_or_end, job_step, ReadsJobs, job_then, arc_after, jobs_end, jobs_fault}
 use Rattle.msp_job_name.proofs.NameLists.{same_bytes}
 use Rattle.msp_file.proofs.Apart.{apart_push, apart_before}
-use Rattle.msp_file.proofs.LineLaws.{bind_ok, Takes, Gets, Takes-then, fields_takes}
+use Rattle.msp_file.proofs.LineLaws.{bind_ok, ok_is, Takes, Gets, Takes-then, fields_takes}
 use Rattle.msp_file.proofs.NeedLaws.{HaveTime}
 use Rattle.msp_file.proofs.JobLaws.{IsReadJob, job_rest, AddsJob, job_takes, job_again, job_line_fields}
-use Rattle.msp_file.proofs.ArcLaws.{line_then, end_text, end_field, end_takes, arc_takes, arc_again, arc_line_fields, AreArcs, AddsArcs, then_arcs, arcs_take, arc_in, arcs_again}
+use Rattle.msp_file.proofs.ArcLaws.{line_then, end_text, end_field, TakesArc, arc_or_end_takes, last_is, no_answer, GetsBy, arc_again, arc_line_fields, AreArcs, AddsArcs, then_arcs, arcs_take, arc_in, arcs_again}
 
 -- ---- what was read
 
@@ -108,52 +107,56 @@ no_arc : (names : List (List ℕ)) → AreArcs names []
 no_arc names = record { ends = All-nil (λ a. (a.before < length names) × (a.after < length names)); once = λ i j d less within. absurd (omega arith); few = omega arith }
 
 -- what is read of the fields of a line after the head or after a job
-abbrev jobs_step : ℕ → Class → ℕ → ℕ → ℕ → Draft → List (List ℕ) → Place → Result (Draft × Place) FileFault
-jobs_step n c machines shared at d fields q =
+abbrev job_next : Class → ℕ → ℕ → ℕ → Draft → List (List ℕ) → Place → Result LineRead FileFault
+job_next c machines shared at d fields q =
     if bytes_eq (first_of fields) (codes "job")
-    then (job_at_line c machines shared d at (others_of fields) q >>= λ e. jobs_at n c machines shared e.0 e.1)
-    else (if has_order c.order && bytes_eq (first_of fields) (codes "arc")
-    then (arc_line_at at d (others_of fields) >>= λ e. arcs_at n e q)
-    else end_at at d fields q)
+    then (job_at_line c machines shared d at (others_of fields) q >>= λ more. Ok (job_read more.0 more.1))
+    else arc_or_end (has_order c.order) at d fields q
 
--- no line of a job comes next
-arc_or_end : (n : ℕ) (c : Class) (shared at : ℕ) (names : List (List ℕ)) (jobs : List Job) (fields : List (List ℕ)) (p q : Place) (x : Draft × Place) → Takes p (line_text (first_of fields ∷ others_of fields)) q → AreJobs c shared names jobs
-    → (b : Bool) → (has_order c.order && bytes_eq (first_of fields) (codes "arc")) ≡ b
-    → (if b then (arc_line_at at (draft_of names jobs) (others_of fields) >>= λ e. arcs_at n e q) else end_at at (draft_of names jobs) fields q) ≡ Ok x → AddsLines c shared names jobs p x.0 x.1
-arc_or_end n c shared at names jobs fields p q x t fit true is e =
-    let parts = and_parts (has_order c.order) (bytes_eq (first_of fields) (codes "arc")) is in
-    let l = bind_ok _ _ x e in
-    let line = subst (λ (w : List ℕ). Takes p (line_text (w ∷ others_of fields)) q) (same_bytes (first_of fields) (codes "arc") parts.1) t in
-    let a = then_arcs (draft_of names jobs) (others_of fields) l.0 p q x line (arc_takes at (draft_of names jobs) (others_of fields) l.0 l.1) (no_arc names) (λ good. arcs_take n l.0 q x good l.2) in
-    only_arcs c shared names jobs p x.1 x.0 a fit (λ f. absurd cc)
-arc_or_end n c shared at names jobs fields p q x t fit false is e =
-    let l = end_takes at (draft_of names jobs) fields p q x t e in
-    let d : Draft = draft_of names jobs in
-    subst (λ (y : Draft × Place). AddsLines c shared names jobs p y.0 y.1) (sym l.0) (only_arcs c shared names jobs p q d (record { more = []; added = refl; text = l.1; fit = no_arc names }) fit (λ f. refl))
+-- What a line after the head or after a job says.
+abbrev TakesLine : Class → ℕ → Draft → Place → LineRead → Type 0
+TakesLine c shared d p (job_read e r) = (fields : List (List ℕ)) × (q : Place) × Takes p (line_text (codes "job" ∷ fields)) q × AddsJob c shared d fields q e r
+TakesLine c shared d p (arc_read e q) = TakesArc (has_order c.order) d p (arc_read e q)
+TakesLine c shared d p (end_read e q) = TakesArc (has_order c.order) d p (end_read e q)
 
-step_takes : (n : ℕ) (c : Class) (machines shared at : ℕ) (names : List (List ℕ)) (jobs : List Job) (fields : List (List ℕ)) (p q : Place) (x : Draft × Place) → Takes p (line_text (first_of fields ∷ others_of fields)) q → AreJobs c shared names jobs
-    → machines ≤ MOST_MACHINES → ((all_names : List (List ℕ)) (all_jobs : List Job) (r : Place) → AreJobs c shared all_names all_jobs → jobs_at n c machines shared (draft_of all_names all_jobs) r ≡ Ok x → AddsLines c shared all_names all_jobs r x.0 x.1)
-    → jobs_step n c machines shared at (draft_of names jobs) fields q ≡ Ok x → AddsLines c shared names jobs p x.0 x.1
-step_takes n c machines shared at names jobs fields p q x t fit bound rest = by (bytes_eq (first_of fields) (codes "job")) refl
+no_job_line : (c : Class) (shared : ℕ) (d : Draft) (p : Place) (next : LineRead) → TakesArc (has_order c.order) d p next → TakesLine c shared d p next
+no_job_line c shared d p (job_read e q) h = absurd h
+no_job_line c shared d p (arc_read e q) h = h
+no_job_line c shared d p (end_read e q) h = h
+
+job_step_takes : (c : Class) (machines shared : ℕ) (d : Draft) (p : Place) (next : LineRead) → machines ≤ MOST_MACHINES → job_step c machines shared d p ≡ Ok next → TakesLine c shared d p next
+unfolding job_step
+job_step_takes c machines shared d p next bound e =
+    let l = bind_ok (line_at p) _ next e in
+    line_by (fields_of l.0.0) l.0.1 (fields_takes p l.0 l.1) (bytes_eq (first_of (fields_of l.0.0)) (codes "job")) refl l.2
   where
-    d : Draft
-    d = draft_of names jobs
-
-    by : (b : Bool) → bytes_eq (first_of fields) (codes "job") ≡ b
-        → (if b then (job_at_line c machines shared (draft_of names jobs) at (others_of fields) q >>= λ e. jobs_at n c machines shared e.0 e.1) else (if has_order c.order && bytes_eq (first_of fields) (codes "arc") then (arc_line_at at (draft_of names jobs) (others_of fields) >>= λ e. arcs_at n e q) else end_at at (draft_of names jobs) fields q)) ≡ Ok x
-        → AddsLines c shared names jobs p x.0 x.1
-    by true is e =
-        let l = bind_ok _ _ x e in
+    line_by : (fields : List (List ℕ)) (q : Place) → Takes p (line_text (first_of fields ∷ others_of fields)) q → (b : Bool) → bytes_eq (first_of fields) (codes "job") ≡ b
+        → (if b then (job_at_line c machines shared d p.at (others_of fields) q >>= λ more. Ok (job_read more.0 more.1)) else arc_or_end (has_order c.order) p.at d fields q) ≡ Ok next → TakesLine c shared d p next
+    line_by fields q t true is e =
+        let j = bind_ok _ _ next e in
         let line = subst (λ (w : List ℕ). Takes p (line_text (w ∷ others_of fields)) q) (same_bytes (first_of fields) (codes "job") is) t in
-        then_job c shared names jobs (others_of fields) l.0.0 p q l.0.1 x line (job_takes c machines shared (draft_of names jobs) at (others_of fields) q l.0 bound l.1) fit (λ ns js same good. rest ns js l.0.1 good (ap (λ (f : Draft). jobs_at n c machines shared f l.0.1) (sym same) ∙ l.2))
-    by false is e = arc_or_end n c shared at names jobs fields p q x t fit (has_order c.order && bytes_eq (first_of fields) (codes "arc")) refl e
+        subst (TakesLine c shared d p) (ok_is (job_read j.0.0 j.0.1) next j.2) (others_of fields, q, line, job_takes c machines shared d p.at (others_of fields) q j.0 bound j.1)
+    line_by fields q t false is e = no_job_line c shared d p next (arc_or_end_takes (has_order c.order) p.at d fields p q next t e)
 
-pub jobs_take : (n : ℕ) (c : Class) (machines shared : ℕ) (names : List (List ℕ)) (jobs : List Job) (p : Place) (x : Draft × Place) → machines ≤ MOST_MACHINES → AreJobs c shared names jobs → jobs_at n c machines shared (draft_of names jobs) p ≡ Ok x → AddsLines c shared names jobs p x.0 x.1
-unfolding jobs_at
-jobs_take zero c machines shared names jobs p x bound fit e = absurd cc
-jobs_take (suc n) c machines shared names jobs p x bound fit e =
-    let l = bind_ok (line_at p) _ x e in
-    step_takes n c machines shared p.at names jobs (fields_of l.0.0) p l.0.1 x (fields_takes p l.0 l.1) fit bound (λ ns js r good h. jobs_take n c machines shared ns js r x bound good h) l.2
+-- the line of a draft that has no arcs
+job_line_of : (c : Class) (machines shared : ℕ) (names : List (List ℕ)) (jobs : List Job) (d : Draft) (p : Place) (next : LineRead) → machines ≤ MOST_MACHINES → d ≡ draft_of names jobs → job_step c machines shared d p ≡ Ok next → TakesLine c shared (draft_of names jobs) p next
+job_line_of c machines shared names jobs d p next bound same e = subst (λ (y : Draft). TakesLine c shared y p next) same (job_step_takes c machines shared d p next bound e)
+
+not_both : (b : Bool) → b ≡ true → b ≡ false → ⊥
+not_both b e f = cc
+
+pub jobs_take : (c : Class) (machines shared : ℕ) (names : List (List ℕ)) (jobs : List Job) (d : Draft) (p : Place) (read : Result (Draft × Place) FileFault) (x : Draft × Place) → machines ≤ MOST_MACHINES → AreJobs c shared names jobs → d ≡ draft_of names jobs → ReadsJobs c machines shared d p read → read ≡ Ok x → AddsLines c shared names jobs p x.0 x.1
+jobs_take c machines shared names jobs d p read x bound fit same (job_then _ e _ q _ step rest) is =
+    let t = job_line_of c machines shared names jobs d p (job_read e q) bound same step in
+    then_job c shared names jobs t.0 e p t.1 q x t.2 t.3 fit (λ ns js also good. jobs_take c machines shared ns js e q read x bound good also rest is)
+jobs_take c machines shared names jobs d p read x bound fit same (arc_after _ e _ q _ step rest) is =
+    let t = job_line_of c machines shared names jobs d p (arc_read e q) bound same step in
+    let a = then_arcs (draft_of names jobs) t.0 e p q x t.1 t.2 (no_arc names) (λ good. arcs_take e q read x good rest is) in
+    only_arcs c shared names jobs p x.1 x.0 a fit (λ f. absurd (not_both (has_order c.order) t.3 f))
+jobs_take c machines shared names jobs d p read x bound fit same (jobs_end _ e _ q _ step ends) is =
+    let t = job_line_of c machines shared names jobs d p (end_read e q) bound same step in
+    subst (λ (y : Draft × Place). AddsLines c shared names jobs p y.0 y.1) (sym (last_is (draft_of names jobs) e q read x t.0 ends is)) (only_arcs c shared names jobs p q (draft_of names jobs) (record { more = []; added = refl; text = t.1; fit = no_arc names }) fit (λ f. refl))
+jobs_take c machines shared names jobs d p read x bound fit same (jobs_fault _ _ _ fault step fails) is = absurd (no_answer read x fault fails is)
 
 -- ---- what was written
 
@@ -171,26 +174,26 @@ has_some true a more h = refl
 has_some false a more h = let e = h refl in absurd cc
 
 -- the arcs, after the last job
-arcs_then : (i : Instance) (shared n : ℕ) (names : List (List ℕ)) (jobs : List Job) (arcs : List Arc) (at : ℕ) (rest : List ℕ) → AreDistinct names → All IsJobName names → AreArcs names arcs → (has_order i.class.order ≡ false → arcs ≡ []) → length arcs < n
-    → Gets (jobs_at n i.class i.machines shared (draft_of names jobs) (record { at = at; rest = (arcs_text names arcs ++ end_text) ++ rest })) (record { names = names; jobs = jobs; arcs = arcs }) rest
-unfolding jobs_at
-arcs_then i shared zero names jobs arcs at rest apart spelled fit ordered enough = absurd (omega arith)
-arcs_then i shared (suc n) names jobs [] at rest apart spelled fit ordered enough =
-    let l = line_then (jobs_step n i.class i.machines shared at (draft_of names jobs)) at (codes "end") [] rest end_field in
+arcs_then : (i : Instance) (shared : ℕ) (names : List (List ℕ)) (jobs : List Job) (arcs : List Arc) (at : ℕ) (rest : List ℕ) → AreDistinct names → All IsJobName names → AreArcs names arcs → (has_order i.class.order ≡ false → arcs ≡ [])
+    → GetsBy (ReadsJobs i.class i.machines shared (draft_of names jobs) (record { at = at; rest = (arcs_text names arcs ++ end_text) ++ rest })) (record { names = names; jobs = jobs; arcs = arcs }) rest
+unfolding job_step
+arcs_then i shared names jobs [] at rest apart spelled fit ordered =
+    let l = line_then (job_next i.class i.machines shared at (draft_of names jobs)) at (codes "end") [] rest end_field in
     let q : Place = record { at = l.0; rest = rest } in
-    let last : jobs_step n i.class i.machines shared at (draft_of names jobs) (codes "end" ∷ []) q ≡ Ok (draft_of names jobs, q) = neither (has_order i.class.order) (arc_line_at at (draft_of names jobs) [] >>= λ e. arcs_at n e q) (Ok (draft_of names jobs, q)) in
-    (l.0, l.1 ∙ last)
-arcs_then i shared (suc n) names jobs (a ∷ more) at rest apart spelled fit ordered enough =
+    let last : job_next i.class i.machines shared at (draft_of names jobs) (codes "end" ∷ []) q ≡ Ok (end_read (draft_of names jobs) q) = neither (has_order i.class.order) (arc_line_at at (draft_of names jobs) [] >>= λ e. Ok (arc_read e q)) (Ok (end_read (draft_of names jobs) q)) in
+    (l.0, jobs_end (draft_of names jobs) (draft_of names jobs) _ q _ (l.1 ∙ last) refl)
+arcs_then i shared names jobs (a ∷ more) at rest apart spelled fit ordered =
     let d : Draft = draft_of names jobs in
     let in_range = arc_in names [] a more fit in
     let fields = name_at names a.before ∷ name_at names a.after ∷ [] in
     let left = (arcs_text names more ++ end_text) ++ rest in
-    let l = line_then (jobs_step n i.class i.machines shared at (draft_of names jobs)) at (codes "arc") fields left (arc_line_fields names a spelled in_range.0 in_range.1) in
+    let l = line_then (job_next i.class i.machines shared at (draft_of names jobs)) at (codes "arc") fields left (arc_line_fields names a spelled in_range.0 in_range.1) in
     let q : Place = record { at = l.0; rest = left } in
-    let first : jobs_step n i.class i.machines shared at (draft_of names jobs) (codes "arc" ∷ fields) q ≡ (arc_line_at at (draft_of names jobs) fields >>= λ e. arcs_at n e q) = chosen (has_order i.class.order) (arc_line_at at (draft_of names jobs) fields >>= λ e. arcs_at n e q) (end_at at (draft_of names jobs) (codes "arc" ∷ fields) q) (has_some (has_order i.class.order) a more ordered) in
+    let first : job_next i.class i.machines shared at (draft_of names jobs) (codes "arc" ∷ fields) q ≡ (arc_line_at at (draft_of names jobs) fields >>= λ e. Ok (arc_read e q)) = chosen (has_order i.class.order) (arc_line_at at (draft_of names jobs) fields >>= λ e. Ok (arc_read e q)) (end_at at (draft_of names jobs) (codes "arc" ∷ fields) q) (has_some (has_order i.class.order) a more ordered) in
     let one = arc_again at (draft_of names jobs) a apart spelled in_range.0 in_range.1 in_range.2 in_range.3 in
-    let g = arcs_again more n (with_arc (draft_of names jobs) a.before a.after) l.0 rest apart spelled in_range.4 (omega (arith, enough)) in
-    (g.0, ap (λ (b : List ℕ). jobs_at (suc n) i.class i.machines shared (draft_of names jobs) (record { at = at; rest = b })) (regroup (line_text (arc_fields names a)) (arcs_text names more) end_text rest) ∙ l.1 ∙ first ∙ ap (λ r. r >>= λ e. arcs_at n e q) one ∙ g.1)
+    let step : job_step i.class i.machines shared (draft_of names jobs) (record { at = at; rest = (arcs_text names (a ∷ more) ++ end_text) ++ rest }) ≡ Ok (arc_read (with_arc (draft_of names jobs) a.before a.after) q) = ap (λ (b : List ℕ). job_step i.class i.machines shared (draft_of names jobs) (record { at = at; rest = b })) (regroup (line_text (arc_fields names a)) (arcs_text names more) end_text rest) ∙ l.1 ∙ first ∙ ap (λ r. r >>= λ e. Ok (arc_read e q)) one in
+    let g = arcs_again more (with_arc (draft_of names jobs) a.before a.after) l.0 rest apart spelled in_range.4 in
+    (g.0, arc_after (draft_of names jobs) (with_arc (draft_of names jobs) a.before a.after) _ q _ step g.1)
 
 -- a name and a job at their places among others
 record AreIn (i : Instance) (shared : ℕ) (names : List (List ℕ)) (jobs : List Job) (name : List ℕ) (j : Job) : Type 0 where
@@ -223,14 +226,14 @@ job_in i shared names jobs name more_names j more fit =
     }
 
 -- a job is read, and after it what comes after it
-job_then_again : (i : Instance) (shared : ℕ) (name : List ℕ) (more_names : List (List ℕ)) (j : Job) (more : List Job) (arcs : List Arc) (n : ℕ) (names : List (List ℕ)) (jobs : List Job) (at : ℕ) (rest : List ℕ) → i.machines ≤ MOST_MACHINES
+job_then_again : (i : Instance) (shared : ℕ) (name : List ℕ) (more_names : List (List ℕ)) (j : Job) (more : List Job) (arcs : List Arc) (names : List (List ℕ)) (jobs : List Job) (at : ℕ) (rest : List ℕ) → i.machines ≤ MOST_MACHINES
     → AreTextJobs i shared (names ++ (name ∷ more_names)) (jobs ++ (j ∷ more)) → AreArcs (names ++ (name ∷ more_names)) arcs
     → ((next : ℕ) → AreTextJobs i shared ((names ++ name ∷ []) ++ more_names) ((jobs ++ j ∷ []) ++ more) → AreArcs ((names ++ name ∷ []) ++ more_names) arcs
-    → Gets (jobs_at n i.class i.machines shared (draft_of (names ++ name ∷ []) (jobs ++ j ∷ [])) (record { at = next; rest = (jobs_text i.class more_names more ++ arcs_text ((names ++ name ∷ []) ++ more_names) arcs ++ end_text) ++ rest })) (record { names = (names ++ name ∷ []) ++ more_names; jobs = (jobs ++ j ∷ []) ++ more; arcs = arcs }) rest)
-    → Gets (jobs_at (suc n) i.class i.machines shared (draft_of names jobs) (record { at = at; rest = (jobs_text i.class (name ∷ more_names) (j ∷ more) ++ arcs_text (names ++ (name ∷ more_names)) arcs ++ end_text) ++ rest })) (record { names = names ++ (name ∷ more_names); jobs = jobs ++ (j ∷ more); arcs = arcs }) rest
-unfolding jobs_at
-job_then_again i shared name more_names j more arcs n names jobs at rest machines fit arcs_fit again =
-    (g.0, ap (λ (b : List ℕ). jobs_at (suc n) i.class i.machines shared (draft_of names jobs) (record { at = at; rest = b })) text ∙ l.1 ∙ ap (λ r. r >>= λ e. jobs_at n i.class i.machines shared e.0 e.1) one.1 ∙ g.1)
+    → GetsBy (ReadsJobs i.class i.machines shared (draft_of (names ++ name ∷ []) (jobs ++ j ∷ [])) (record { at = next; rest = (jobs_text i.class more_names more ++ arcs_text ((names ++ name ∷ []) ++ more_names) arcs ++ end_text) ++ rest })) (record { names = (names ++ name ∷ []) ++ more_names; jobs = (jobs ++ j ∷ []) ++ more; arcs = arcs }) rest)
+    → GetsBy (ReadsJobs i.class i.machines shared (draft_of names jobs) (record { at = at; rest = (jobs_text i.class (name ∷ more_names) (j ∷ more) ++ arcs_text (names ++ (name ∷ more_names)) arcs ++ end_text) ++ rest })) (record { names = names ++ (name ∷ more_names); jobs = jobs ++ (j ∷ more); arcs = arcs }) rest
+unfolding job_step
+job_then_again i shared name more_names j more arcs names jobs at rest machines fit arcs_fit again =
+    (g.0, job_then (draft_of names jobs) (draft_of (names ++ name ∷ []) (jobs ++ j ∷ [])) _ (record { at = one.0; rest = left }) _ (ap (λ (b : List ℕ). job_step i.class i.machines shared (draft_of names jobs) (record { at = at; rest = b })) text ∙ l.1 ∙ ap (λ r. r >>= λ e. Ok (job_read e.0 e.1)) one.1) g.1)
   where
     all_names : List (List ℕ)
     all_names = names ++ (name ∷ more_names)
@@ -263,8 +266,8 @@ job_then_again i shared name more_names j more arcs n names jobs at rest machine
     here : AreIn i shared names jobs name j
     here = job_in i shared names jobs name more_names j more fit
 
-    l : (next : ℕ) × ((line_at (record { at = at; rest = line ++ (job_rest i.class j ++ left) }) >>= λ l. jobs_step n i.class i.machines shared at (draft_of names jobs) (fields_of l.0) l.1) ≡ jobs_step n i.class i.machines shared at (draft_of names jobs) (codes "job" ∷ name ∷ key_fields i.class j) (record { at = next; rest = job_rest i.class j ++ left }))
-    l = line_then (jobs_step n i.class i.machines shared at (draft_of names jobs)) at (codes "job") (name ∷ key_fields i.class j) (job_rest i.class j ++ left) (job_line_fields i name j here.spelled here.job)
+    l : (next : ℕ) × ((line_at (record { at = at; rest = line ++ (job_rest i.class j ++ left) }) >>= λ l. job_next i.class i.machines shared at (draft_of names jobs) (fields_of l.0) l.1) ≡ job_next i.class i.machines shared at (draft_of names jobs) (codes "job" ∷ name ∷ key_fields i.class j) (record { at = next; rest = job_rest i.class j ++ left }))
+    l = line_then (job_next i.class i.machines shared at (draft_of names jobs)) at (codes "job") (name ∷ key_fields i.class j) (job_rest i.class j ++ left) (job_line_fields i name j here.spelled here.job)
 
     one : Gets (job_at_line i.class i.machines shared (draft_of names jobs) at (name ∷ key_fields i.class j) (record { at = l.0; rest = job_rest i.class j ++ left })) (draft_of (names ++ name ∷ []) (jobs ++ j ∷ [])) left
     one = job_again i (draft_of names jobs) at l.0 shared name j left machines here.job here.same here.spelled here.fresh here.few
@@ -272,27 +275,26 @@ job_then_again i shared name more_names j more arcs n names jobs at rest machine
     fit_on : AreTextJobs i shared ((names ++ name ∷ []) ++ more_names) ((jobs ++ j ∷ []) ++ more)
     fit_on = subst (λ (js : List Job). AreTextJobs i shared ((names ++ name ∷ []) ++ more_names) js) (sym j_is) (subst (λ (ns : List (List ℕ)). AreTextJobs i shared ns all_jobs) (sym n_is) fit)
 
-    read : Place → Result (Draft × Place) FileFault
-    read = jobs_at n i.class i.machines shared (draft_of (names ++ name ∷ []) (jobs ++ j ∷ []))
+    read : Place → Result (Draft × Place) FileFault → Type 0
+    read = ReadsJobs i.class i.machines shared (draft_of (names ++ name ∷ []) (jobs ++ j ∷ []))
 
-    before : Gets (read (record { at = one.0; rest = (jobs_text i.class more_names more ++ arcs_text ((names ++ name ∷ []) ++ more_names) arcs ++ end_text) ++ rest })) (record { names = (names ++ name ∷ []) ++ more_names; jobs = (jobs ++ j ∷ []) ++ more; arcs = arcs }) rest
+    before : GetsBy (read (record { at = one.0; rest = (jobs_text i.class more_names more ++ arcs_text ((names ++ name ∷ []) ++ more_names) arcs ++ end_text) ++ rest })) (record { names = (names ++ name ∷ []) ++ more_names; jobs = (jobs ++ j ∷ []) ++ more; arcs = arcs }) rest
     before = again one.0 fit_on (subst (λ (ns : List (List ℕ)). AreArcs ns arcs) (sym n_is) arcs_fit)
 
-    g : Gets (read (record { at = one.0; rest = left })) (record { names = all_names; jobs = all_jobs; arcs = arcs }) rest
-    g = subst (λ (js : List Job). Gets (read (record { at = one.0; rest = left })) (record { names = all_names; jobs = js; arcs = arcs }) rest) j_is
-        (subst (λ (ns : List (List ℕ)). Gets (read (record { at = one.0; rest = (jobs_text i.class more_names more ++ arcs_text ns arcs ++ end_text) ++ rest })) (record { names = ns; jobs = (jobs ++ j ∷ []) ++ more; arcs = arcs }) rest) n_is before)
+    g : GetsBy (read (record { at = one.0; rest = left })) (record { names = all_names; jobs = all_jobs; arcs = arcs }) rest
+    g = subst (λ (js : List Job). GetsBy (read (record { at = one.0; rest = left })) (record { names = all_names; jobs = js; arcs = arcs }) rest) j_is
+        (subst (λ (ns : List (List ℕ)). GetsBy (read (record { at = one.0; rest = (jobs_text i.class more_names more ++ arcs_text ns arcs ++ end_text) ++ rest })) (record { names = ns; jobs = (jobs ++ j ∷ []) ++ more; arcs = arcs }) rest) n_is before)
 
-pub jobs_again : (i : Instance) (shared : ℕ) (more_names : List (List ℕ)) (more : List Job) (arcs : List Arc) (n : ℕ) (names : List (List ℕ)) (jobs : List Job) (at : ℕ) (rest : List ℕ) → i.machines ≤ MOST_MACHINES → length more_names ≡ length more
-    → AreTextJobs i shared (names ++ more_names) (jobs ++ more) → AreArcs (names ++ more_names) arcs → (has_order i.class.order ≡ false → arcs ≡ []) → length more + length arcs < n
-    → Gets (jobs_at n i.class i.machines shared (draft_of names jobs) (record { at = at; rest = (jobs_text i.class more_names more ++ arcs_text (names ++ more_names) arcs ++ end_text) ++ rest })) (record { names = names ++ more_names; jobs = jobs ++ more; arcs = arcs }) rest
-jobs_again i shared [] (j ∷ more) arcs n names jobs at rest machines even fit arcs_fit ordered enough = absurd (omega (arith, even))
-jobs_again i shared (name ∷ more_names) [] arcs n names jobs at rest machines even fit arcs_fit ordered enough = absurd (omega (arith, even))
-jobs_again i shared [] [] arcs n names jobs at rest machines even fit arcs_fit ordered enough =
-    let read = jobs_at n i.class i.machines shared (draft_of names jobs) in
-    let here : Gets (read (record { at = at; rest = (arcs_text names arcs ++ end_text) ++ rest })) (record { names = names; jobs = jobs; arcs = arcs }) rest = arcs_then i shared n names jobs arcs at rest (subst AreDistinct (append-nil names) fit.distinct) (subst (All IsJobName) (append-nil names) fit.spelled) (subst (λ (ns : List (List ℕ)). AreArcs ns arcs) (append-nil names) arcs_fit) ordered (omega (arith, enough)) in
-    let named = subst (λ (ns : List (List ℕ)). Gets (read (record { at = at; rest = (arcs_text ns arcs ++ end_text) ++ rest })) (record { names = ns; jobs = jobs; arcs = arcs }) rest) (sym (append-nil names)) here in
-    subst (λ (js : List Job). Gets (read (record { at = at; rest = (arcs_text (names ++ []) arcs ++ end_text) ++ rest })) (record { names = names ++ []; jobs = js; arcs = arcs }) rest) (sym (append-nil jobs)) named
-jobs_again i shared (name ∷ more_names) (j ∷ more) arcs zero names jobs at rest machines even fit arcs_fit ordered enough = absurd (omega (arith, enough))
-jobs_again i shared (name ∷ more_names) (j ∷ more) arcs (suc n) names jobs at rest machines even fit arcs_fit ordered enough =
-    job_then_again i shared name more_names j more arcs n names jobs at rest machines fit arcs_fit
-    (λ next fit_on arcs_on. jobs_again i shared more_names more arcs n (names ++ name ∷ []) (jobs ++ j ∷ []) next rest machines (omega (arith, even)) fit_on arcs_on ordered (omega (arith, enough)))
+pub jobs_again : (i : Instance) (shared : ℕ) (more_names : List (List ℕ)) (more : List Job) (arcs : List Arc) (names : List (List ℕ)) (jobs : List Job) (at : ℕ) (rest : List ℕ) → i.machines ≤ MOST_MACHINES → length more_names ≡ length more
+    → AreTextJobs i shared (names ++ more_names) (jobs ++ more) → AreArcs (names ++ more_names) arcs → (has_order i.class.order ≡ false → arcs ≡ [])
+    → GetsBy (ReadsJobs i.class i.machines shared (draft_of names jobs) (record { at = at; rest = (jobs_text i.class more_names more ++ arcs_text (names ++ more_names) arcs ++ end_text) ++ rest })) (record { names = names ++ more_names; jobs = jobs ++ more; arcs = arcs }) rest
+jobs_again i shared [] (j ∷ more) arcs names jobs at rest machines even fit arcs_fit ordered = absurd (omega (arith, even))
+jobs_again i shared (name ∷ more_names) [] arcs names jobs at rest machines even fit arcs_fit ordered = absurd (omega (arith, even))
+jobs_again i shared [] [] arcs names jobs at rest machines even fit arcs_fit ordered =
+    let read = ReadsJobs i.class i.machines shared (draft_of names jobs) in
+    let here : GetsBy (read (record { at = at; rest = (arcs_text names arcs ++ end_text) ++ rest })) (record { names = names; jobs = jobs; arcs = arcs }) rest = arcs_then i shared names jobs arcs at rest (subst AreDistinct (append-nil names) fit.distinct) (subst (All IsJobName) (append-nil names) fit.spelled) (subst (λ (ns : List (List ℕ)). AreArcs ns arcs) (append-nil names) arcs_fit) ordered in
+    let named = subst (λ (ns : List (List ℕ)). GetsBy (read (record { at = at; rest = (arcs_text ns arcs ++ end_text) ++ rest })) (record { names = ns; jobs = jobs; arcs = arcs }) rest) (sym (append-nil names)) here in
+    subst (λ (js : List Job). GetsBy (read (record { at = at; rest = (arcs_text (names ++ []) arcs ++ end_text) ++ rest })) (record { names = names ++ []; jobs = js; arcs = arcs }) rest) (sym (append-nil jobs)) named
+jobs_again i shared (name ∷ more_names) (j ∷ more) arcs names jobs at rest machines even fit arcs_fit ordered =
+    job_then_again i shared name more_names j more arcs names jobs at rest machines fit arcs_fit
+    (λ next fit_on arcs_on. jobs_again i shared more_names more arcs (names ++ name ∷ []) (jobs ++ j ∷ []) next rest machines (omega (arith, even)) fit_on arcs_on ordered)

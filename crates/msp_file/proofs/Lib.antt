@@ -1,7 +1,6 @@
 mod Fields
 mod Pairs
-mod Loops
-mod Multiples
+mod Readings
 mod LineFaults
 mod AnswerLemmas
 pub mod LineLaws

@@ -1,5 +1,5 @@
 -- Reading lines gives faults of lines alone.
-use Rattle.std.proofs.Common.{◌≡◌, ℕ, zero, suc, ◌+◌, Bool, true, false, ◌&&◌, ◌==◌, List, [], ◌∷◌, length, Option, None, Some, Result, Ok, Err, ok_or, position, bytes_eq, codes, ℤ, pos, negsuc, refl, subst, take, drop, if◌then◌else◌}
+use Rattle.std.proofs.Common.{◌≡◌, ℕ, inl, inr, sym, ◌+◌, Bool, true, false, ◌&&◌, ◌==◌, List, [], ◌∷◌, length, Option, None, Some, Result, Ok, Err, ok_or, position, bytes_eq, codes, ℤ, pos, negsuc, refl, subst, take, drop, if◌then◌else◌}
 use Rattle.msp_class.specs.Env.{fixed_machines}
 use Rattle.msp_class.specs.declared.class.Class.{Class}
 use Rattle.msp_class.specs.declared.class.Env.{Env}
@@ -11,11 +11,14 @@ use Rattle.msp_name.specs.Reading.{reading_of}
 use Rattle.msp_instance.specs.declared.ranges.TheConstants.{GREATEST, GREATEST_SPEED, GREATEST_EQUAL_TIME, MOST_MACHINES}
 use Rattle.msp_file.specs.declared.fault.What.{What}
 use Rattle.msp_file.specs.declared.fault.FileFault.{FileFault}
-use Rattle.msp_file.specs.declared.fault.FileFault.TheVariants.{Class as ClassBroken, Cycle, Memory, Missing, Cut}
+use Rattle.msp_file.specs.declared.fault.FileFault.TheVariants.{Class as ClassBroken, Cycle, Memory, Missing, Cut, Limit}
+use Rattle.msp_file.specs.declared.fault.What.TheVariants as what
+use Rattle.msp_instance.specs.Conditions.{HasSmallMultiple}
 use Rattle.msp_file.specs.declared.draft.Draft.{Draft}
+use Rattle.msp_grammar.specs.declared.filed.Filed.{Filed}
 use Rattle.msp_text.specs.Numbers.{number_of}
 use Rattle.msp_grammar.specs.Layout.{has_order}
-use Rattle.msp_file.specs.Reading.{first_of, others_of, ◌>>=◌, provided, Place, line_at, fields_of, worded_at, natural_in, natural_at, integer_at, job_name_at, known_at, keyed_at, natural_key_at, integer_key_at, keys_at, job_line_at, with_need, times_at, times_line_at, machine_at, timed_route_at, machine_route_at, operations_at, route_line_at, needs_at, with_step, steps_at, curve_fields_at, curve_line_at, curve_at, job_at_line, arc_line_at, end_at, arcs_at, jobs_at, version_at, class_in, spelled_class, class_at, machines_line_at, machines_at, speeds_in, speeds_line_at, speeds_at, time_line_at, time_at, front_at, filed_at}
+use Rattle.msp_file.specs.Reading.{first_of, others_of, ◌>>=◌, provided, Place, line_at, fields_of, worded_at, natural_in, natural_at, integer_at, job_name_at, known_at, keyed_at, natural_key_at, integer_key_at, keys_at, job_line_at, with_need, times_at, times_line_at, machine_at, timed_route_at, machine_route_at, operations_at, route_line_at, needs_at, with_step, steps_at, curve_fields_at, curve_line_at, curve_at, job_at_line, arc_line_at, end_at, arc_or_end, arc_step, job_step, ReadsArcs, arc_then, arcs_end, arcs_fault, ReadsJobs, job_then, arc_after, jobs_end, jobs_fault, Then, OnlyWhere, ReadsRest, Reads, no_draft, version_at, class_in, spelled_class, class_at, machines_line_at, machines_at, speeds_in, speeds_line_at, speeds_at, time_line_at, time_at}
 
 -- The fault is one of a line.
 abbrev pub IsLineFault : FileFault → Type 0
@@ -174,31 +177,37 @@ arc_line at d fields = search (given, chain, known, fine) depth 9
 end_line : (at : ℕ) (d : Draft) (fields : List (List ℕ)) (p : Place) → InLines (end_at at d fields p)
 end_line at d fields p = search (given, fine)
 
-arcs : (n : ℕ) (d : Draft) (p : Place) → InLines (arcs_at n d p)
-unfolding arcs_at
-arcs zero d p = bad _ tt
-arcs (suc n) d p =
-    chain (line_at p) _ (line p) (λ l.
-    let fields = fields_of l.0 in
-    either (bytes_eq (first_of fields) (codes "arc")) _ _ (chain (arc_line_at p.at d (others_of fields)) _ (arc_line p.at d (others_of fields)) (λ e. arcs n e l.1)) (end_line p.at d fields l.1))
+arc_or_last : (may : Bool) (at : ℕ) (d : Draft) (fields : List (List ℕ)) (p : Place) → InLines (arc_or_end may at d fields p)
+arc_or_last may at d fields p = either (may && bytes_eq (first_of fields) (codes "arc")) _ _ (chain (arc_line_at at d (others_of fields)) _ (arc_line at d (others_of fields)) (λ e. fine _)) (end_line at d fields p)
 
-jobs : (n : ℕ) (c : Class) (machines shared : ℕ) (d : Draft) (p : Place) → InLines (jobs_at n c machines shared d p)
-unfolding jobs_at
-jobs zero c machines shared d p = bad _ tt
-jobs (suc n) c machines shared d p =
+after_arc : (d : Draft) (p : Place) → InLines (arc_step d p)
+unfolding arc_step
+after_arc d p = chain (line_at p) _ (line p) (λ l. arc_or_last true p.at d (fields_of l.0) l.1)
+
+after_job : (c : Class) (machines shared : ℕ) (d : Draft) (p : Place) → InLines (job_step c machines shared d p)
+unfolding job_step
+after_job c machines shared d p =
     chain (line_at p) _ (line p) (λ l.
     let fields = fields_of l.0 in
-    either
-    (bytes_eq (first_of fields) (codes "job"))
-    _
-    _
-    (chain (job_at_line c machines shared d p.at (others_of fields) l.1) _ (job c machines shared d p.at (others_of fields) l.1) (λ e. jobs n c machines shared e.0 e.1))
-    (either
-    (has_order c.order && bytes_eq (first_of fields) (codes "arc"))
-    _
-    _
-    (chain (arc_line_at p.at d (others_of fields)) _ (arc_line p.at d (others_of fields)) (λ e. arcs n e l.1))
-    (end_line p.at d fields l.1)))
+    either (bytes_eq (first_of fields) (codes "job")) _ _ (chain (job_at_line c machines shared d p.at (others_of fields) l.1) _ (job c machines shared d p.at (others_of fields) l.1) (λ e. fine _)) (arc_or_last (has_order c.order) p.at d fields l.1))
+
+-- what was read is a value, or a fault of a line
+is_fine : {A : Type 0} (r : Result A FileFault) (x : A) → r ≡ Ok x → InLines r
+is_fine r x e = subst InLines (sym e) (fine x)
+
+is_bad : {A B : Type 0} (r : Result A FileFault) (step : Result B FileFault) (e : FileFault) → InLines step → step ≡ Err e → r ≡ Err e → InLines r
+is_bad r step e h k is = subst InLines (sym is) (bad e (h.fault e k))
+
+arcs : (d : Draft) (p : Place) (r : Result (Draft × Place) FileFault) → ReadsArcs d p r → InLines r
+arcs d p r (arc_then _ e _ q _ step rest) = arcs e q r rest
+arcs d p r (arcs_end _ e _ q _ step is) = is_fine r (e, q) is
+arcs d p r (arcs_fault _ _ _ fault step is) = is_bad r (arc_step d p) fault (after_arc d p) step is
+
+jobs : (c : Class) (machines shared : ℕ) (d : Draft) (p : Place) (r : Result (Draft × Place) FileFault) → ReadsJobs c machines shared d p r → InLines r
+jobs c machines shared d p r (job_then _ e _ q _ step rest) = jobs c machines shared e q r rest
+jobs c machines shared d p r (arc_after _ e _ q _ step rest) = arcs e q r rest
+jobs c machines shared d p r (jobs_end _ e _ q _ step is) = is_fine r (e, q) is
+jobs c machines shared d p r (jobs_fault _ _ _ fault step is) = is_bad r (job_step c machines shared d p) fault (after_job c machines shared d p) step is
 
 version : (p : Place) → InLines (version_at p)
 unfolding version_at
@@ -237,7 +246,7 @@ speeds_fields at so_far (w ∷ ws) = chain _ _ (natural at _ 1 GREATEST_SPEED w)
 
 speeds_line : (machines : ℕ) (p : Place) → InLines (speeds_line_at machines p)
 unfolding speeds_line_at
-speeds_line machines p = chain _ _ (worded _ p) (λ l. given _ _ _ tt (chain _ _ (speeds_fields p.at [] l.0) (λ speeds. given _ _ _ tt (fine _))))
+speeds_line machines p = chain _ _ (worded _ p) (λ l. given _ _ _ tt (chain _ _ (speeds_fields p.at [] l.0) (λ speeds. fine _)))
 
 speeds_read : (e : Env) (machines : ℕ) (p : Place) → InLines (speeds_at e machines p)
 unfolding speeds_at
@@ -251,17 +260,25 @@ time_read : (t : Times) (p : Place) → InLines (time_at t p)
 unfolding time_at
 time_read t p = either _ _ _ (time_line p) (fine _)
 
-front : (b : List ℕ) → InLines (front_at b)
-unfolding front_at
-front b =
-    chain _ _ (version _) (λ p.
-    chain _ _ (class_line p) (λ c.
-    chain _ _ (machines_read c.0.env c.1) (λ m.
-    chain _ _ (speeds_read c.0.env m.0 m.1) (λ s.
-    chain _ _ (time_read c.0.times s.1) (λ t.
-    chain _ _ (jobs _ c.0 m.0 t.0 _ t.1) (λ d. fine _))))))
+then_in : {A B : Type 0} (first : Result A FileFault) (next : A → Result B FileFault → Type 0) (r : Result B FileFault) → InLines first → ((x : A) → next x r → InLines r) → Then first next r → InLines r
+then_in (Ok x) next r h k t = k x t
+then_in (Err e) next r h k t = is_bad r (Err e) e h refl t
+
+only_in : {B : Type 0} (condition : Type 0) (fault : FileFault) (next : Result B FileFault → Type 0) (r : Result B FileFault) → IsLineFault fault → (next r → InLines r) → OnlyWhere condition fault next r → InLines r
+only_in condition fault next r h k (inl t) = k t.1
+only_in condition fault next r h k (inr t) = subst InLines (sym t.1) (bad fault h)
+
+rest : (c : Class) (machines : ℕ) (speeds : List ℕ) (shared : ℕ) (p : Place) (r : Result Filed FileFault) → ReadsRest c machines speeds shared p r → InLines r
+rest c machines speeds shared p r h = subst InLines (sym h.whole) (chain h.lines _ (jobs c machines shared no_draft p h.lines h.reads) (λ l. given _ _ _ tt (fine _)))
 
 -- the reading of all lines of a text
-pub whole : (b : List ℕ) → InLines (filed_at b)
-unfolding filed_at
-whole b = chain _ _ (front b) (λ f. given _ _ _ tt (fine _))
+pub whole : (b : List ℕ) (r : Result Filed FileFault) → Reads b r → InLines r
+unfolding Reads
+whole b r h =
+    then_in (version_at (record { at = 1; rest = b })) _ r (version _) (λ (p : Place).
+    then_in (class_at p) _ r (class_line p) (λ (c : Class × Place).
+    then_in (machines_at c.0.env c.1) _ r (machines_read c.0.env c.1) (λ (m : ℕ × Place).
+    then_in (speeds_at c.0.env m.0 m.1) _ r (speeds_read c.0.env m.0 m.1) (λ (s : List ℕ × Place).
+    only_in (HasSmallMultiple s.0) (Limit m.1.at what.Multiple) (Then (time_at c.0.times s.1) (λ (t : ℕ × Place). ReadsRest c.0 m.0 s.0 t.0 t.1)) r tt (
+    then_in (time_at c.0.times s.1) (λ (t : ℕ × Place). ReadsRest c.0 m.0 s.0 t.0 t.1) r (time_read c.0.times s.1) (λ (t : ℕ × Place).
+    rest c.0 m.0 s.0 t.0 t.1 r)))))) h

@@ -1,7 +1,6 @@
 -- Whole texts: what is read is an instance text, and an instance text is read as its instance.
-use Rattle.std.proofs.Common.{◌≡◌, ◌≢◌, ℕ, ◌+◌, ◌<◌, ◌≤◌, false, List, [], ◌∷◌, ◌++◌, length, All, AllPairs, ◌==◌, Result, Ok, refl, sym, ap, subst, ◌∙◌, append_assoc, append-nil, arith, length-append, eqb-true, codes}
+use Rattle.std.proofs.Common.{◌≡◌, ◌≢◌, inl, inr, ℕ, ◌<◌, ◌≤◌, false, List, [], ◌∷◌, ◌++◌, length, All, AllPairs, ◌==◌, Result, Ok, refl, sym, ap, subst, ◌∙◌, append_assoc, append-nil, arith, eqb-true, codes, Err}
 use Rattle.std.specs.Prelude.{slice_index_or, true, if◌then◌else◌, decimal}
-use Rattle.std.specs.List.{join_with_byte}
 use Rattle.std.proofs.lemmas.List.{nil_from_length}
 use Rattle.std.proofs.lemmas.List.Elements.{All-nil}
 use Rattle.msp_class.specs.Env.{kind_of}
@@ -16,25 +15,24 @@ use Rattle.msp_name.specs.Names.{NameOf}
 use Rattle.msp_instance.specs.declared.Instance.{Instance}
 use Rattle.msp_instance.specs.declared.Arc.{Arc}
 use Rattle.msp_instance.specs.declared.Need.{Need}
-use Rattle.msp_instance.specs.declared.Job.{Job}
 use Rattle.msp_instance.specs.Instance.{no_need, no_job, job_at, common_time}
 use Rattle.msp_instance.specs.Conditions.{text_limits, least_time, greatest_time, HasNeeds, HasSameTimes, HasMachines, HasSpeeds, HasSmallMultiple, HasArcs, MeetsConditions}
 use Rattle.msp_instance.specs.declared.ranges.TheConstants.{MOST_JOBS, MOST_ARCS}
 use Rattle.msp_file.specs.declared.fault.FileFault.{FileFault}
-use Rattle.msp_file.specs.declared.fault.FileFault.TheVariants.{After}
+use Rattle.msp_file.specs.declared.fault.FileFault.TheVariants.{After, Limit}
+use Rattle.msp_file.specs.declared.fault.What.TheVariants as what
 use Rattle.msp_grammar.specs.declared.filed.Filed.{Filed}
 use Rattle.msp_file.specs.declared.draft.Draft.{Draft}
 use Rattle.msp_job_name.specs.JobName.{IsJobName, AreDistinct}
-use Rattle.msp_grammar.specs.ScheduleText.{line_feed}
 use Rattle.msp_grammar.specs.Layout.{has_order, has_times, has_time_line}
-use Rattle.msp_grammar.specs.InstanceText.{line_text, class_text, machines_text, speeds_text, time_text, head_text, job_fields, job_text, jobs_text, arc_fields, arcs_text, instance_text, AreNamesOf, IsInstanceText}
-use Rattle.msp_file.specs.Reading.{◌>>=◌, provided, Place, version_at, class_at, machines_at, speeds_at, time_at, jobs_at, no_draft, filed_of, front_at, filed_at}
+use Rattle.msp_grammar.specs.InstanceText.{line_text, class_text, machines_text, speeds_text, time_text, head_text, jobs_text, arcs_text, instance_text, AreNamesOf, IsInstanceText}
+use Rattle.msp_file.specs.Reading.{provided, Place, version_at, class_at, machines_at, speeds_at, time_at, no_draft, filed_of, ReadsJobs, Then, OnlyWhere, ReadsRest, Reads}
 use Rattle.msp_file.proofs.LineLaws.{bind_ok, provided_ok, ok_is, Takes, Gets, Takes-then}
 use Rattle.msp_file.proofs.HeadLaws.{AreMachines, IsShared, version_takes, version_again, class_takes, class_again, machines_takes, machines_again, speeds_takes, speeds_again, time_takes, time_again}
 use Rattle.msp_file.proofs.NeedLaws.{HaveTime}
-use Rattle.msp_file.proofs.JobLaws.{IsReadJob, job_rest}
-use Rattle.msp_file.proofs.ArcLaws.{end_text, AreArcs}
-use Rattle.msp_file.proofs.JobsLaws.{AreJobs, AddsLines, AreTextJobs, jobs_take, jobs_again, regroup, job_text_parts}
+use Rattle.msp_file.proofs.JobLaws.{IsReadJob}
+use Rattle.msp_file.proofs.ArcLaws.{end_text, AreArcs, GetsBy}
+use Rattle.msp_file.proofs.JobsLaws.{AreJobs, AddsLines, AreTextJobs, jobs_take, jobs_again, regroup}
 
 -- The lines before those of the jobs, with the time that all operations share.
 abbrev pub shared_head : List ℕ → Class → ℕ → List ℕ → ℕ → List ℕ
@@ -64,22 +62,6 @@ pub record IsReadText (b : List ℕ) (f : Filed) : Type 0 where
   pub once : AllPairs (λ a b. a ≢ b) f.instance.arcs
 
 -- ---- what is read
-
--- the steps after the first line
-abbrev read_jobs : Class → ℕ → List ℕ → ℕ → Place → Result (Filed × Place) FileFault
-read_jobs c machines speeds shared p = jobs_at (length p.rest + 1) c machines shared no_draft p >>= λ d. Ok (filed_of c machines speeds d.0, d.1)
-
-abbrev read_time : Class → ℕ → List ℕ → Place → Result (Filed × Place) FileFault
-read_time c machines speeds p = time_at c.times p >>= λ t. read_jobs c machines speeds t.0 t.1
-
-abbrev read_speeds : Class → ℕ → Place → Result (Filed × Place) FileFault
-read_speeds c machines p = speeds_at c.env machines p >>= λ s. read_time c machines s.0 s.1
-
-abbrev read_machines : Class → Place → Result (Filed × Place) FileFault
-read_machines c p = machines_at c.env p >>= λ m. read_speeds c m.0 m.1
-
-abbrev read_class : Place → Result (Filed × Place) FileFault
-read_class p = class_at p >>= λ c. read_machines c.0 c.1
 
 abbrev version_text : List ℕ
 version_text = line_text (codes "msp" ∷ codes "1" ∷ [])
@@ -145,43 +127,45 @@ front_of b spelling c machines speeds shared p q r d is spells good_machines goo
       },
     )
 
-abbrev done : Filed × Place → Result (Filed × Place) FileFault
-done x = Ok x
+then_ok : {A B : Type 0} (first : Result A FileFault) (next : A → Result B FileFault → Type 0) (y : B) → Then first next (Ok y) → (x : A) × (first ≡ Ok x) × next x (Ok y)
+then_ok (Ok x) next y h = (x, refl, h)
+then_ok (Err e) next y h = absurd cc
 
-is_front : (b : List ℕ) (x y : Filed × Place) → IsFront b x → done x ≡ done y → IsFront b y
-is_front b x y h e = subst (IsFront b) (ok_is x y e) h
+only_ok : {B : Type 0} (condition : Type 0) (fault : FileFault) (next : Result B FileFault → Type 0) (y : B) → OnlyWhere condition fault next (Ok y) → condition × next (Ok y)
+only_ok condition fault next y (inl h) = h
+only_ok condition fault next y (inr h) = let e = h.1 in absurd cc
 
-front_takes : (b : List ℕ) (x : Filed × Place) → front_at b ≡ Ok x → IsFront b x
-unfolding front_at
-front_takes b x e =
+-- the text ends where the lines do
+whole_of : (b : List ℕ) (c : Class) (machines : ℕ) (speeds : List ℕ) (d : Draft) (q : Place) (f : Filed) → IsFront b (filed_of c machines speeds d, q) → provided (length q.rest == 0) (After q.at) (Ok (filed_of c machines speeds d)) ≡ Ok f → IsReadText b f
+whole_of b c machines speeds d q f t e =
+    let g = provided_ok _ _ _ f e in
+    let nothing : q.rest ≡ [] = nil_from_length q.rest (eqb-true _ _ g.0) in
+    let whole : b ≡ t.0 = t.1 ∙ ap (λ (r : List ℕ). t.0 ++ r) nothing ∙ append-nil t.0 in
+    subst (IsReadText b) (ok_is (filed_of c machines speeds d) f g.1) (subst (λ (a : List ℕ). IsReadText a (filed_of c machines speeds d)) (sym whole) t.2)
+
+pub whole_takes : (b : List ℕ) (f : Filed) → Reads b (Ok f) → IsReadText b f
+unfolding Reads
+whole_takes b f h =
     let start : Place = record { at = 1; rest = b } in
-    let v = bind_ok (version_at start) read_class x e in
-    let c = bind_ok (class_at v.0) (λ c. read_machines c.0 c.1) x v.2 in
-    let m = bind_ok (machines_at c.0.0.env c.0.1) (λ m. read_speeds c.0.0 m.0 m.1) x c.2 in
-    let s = bind_ok (speeds_at c.0.0.env m.0.0 m.0.1) (λ s. read_time c.0.0 m.0.0 s.0 s.1) x m.2 in
-    let t = bind_ok (time_at c.0.0.times s.0.1) (λ t. read_jobs c.0.0 m.0.0 s.0.0 t.0 t.1) x s.2 in
-    let d = bind_ok (jobs_at (length t.0.1.rest + 1) c.0.0 m.0.0 t.0.0 no_draft t.0.1) (λ d. Ok (filed_of c.0.0 m.0.0 s.0.0 d.0, d.1)) x t.2 in
+    let v = then_ok (version_at start) _ f h in
+    let c = then_ok (class_at v.0) _ f v.2 in
+    let m = then_ok (machines_at c.0.0.env c.0.1) _ f c.2 in
+    let s = then_ok (speeds_at c.0.0.env m.0.0 m.0.1) _ f m.2 in
+    let multiple = only_ok (HasSmallMultiple s.0.0) (Limit m.0.1.at what.Multiple) (Then (time_at c.0.0.times s.0.1) (λ (t : ℕ × Place). ReadsRest c.0.0 m.0.0 s.0.0 t.0 t.1)) f s.2 in
+    let t = then_ok (time_at c.0.0.times s.0.1) (λ (t : ℕ × Place). ReadsRest c.0.0 m.0.0 s.0.0 t.0 t.1) f multiple.1 in
+    let rest : ReadsRest c.0.0 m.0.0 s.0.0 t.0.0 t.0.1 (Ok f) = t.2 in
+    let d = bind_ok rest.lines _ f (sym rest.whole) in
     let class_taken = class_takes v.0 c.0 c.1 in
     let machines_taken = machines_takes c.0.0.env c.0.1 m.0 m.1 in
     let speeds_taken = speeds_takes c.0.0.env m.0.0 m.0.1 s.0 s.1 in
     let time_taken = time_takes c.0.0.times s.0.1 t.0 t.1 in
-    let lines = jobs_take (length t.0.1.rest + 1) c.0.0 m.0.0 t.0.0 [] [] t.0.1 d.0 machines_taken.1.1 (no_jobs c.0.0 t.0.0) d.1 in
+    let lines = jobs_take c.0.0 m.0.0 t.0.0 [] [] no_draft t.0.1 rest.lines d.0 machines_taken.1.1 (no_jobs c.0.0 t.0.0) refl rest.reads d.1 in
     let two = Takes-then start v.0 c.0.1 version_text (class_text class_taken.0) (version_takes start v.0 v.1) class_taken.2 in
     let three = Takes-then start c.0.1 m.0.1 (version_text ++ class_text class_taken.0) (machines_text c.0.0.env m.0.0) two machines_taken.0 in
     let four = Takes-then start m.0.1 s.0.1 (version_text ++ class_text class_taken.0 ++ machines_text c.0.0.env m.0.0) (speeds_text c.0.0.env s.0.0) three speeds_taken.0 in
     let head = Takes-then start s.0.1 t.0.1 (version_text ++ class_text class_taken.0 ++ machines_text c.0.0.env m.0.0 ++ speeds_text c.0.0.env s.0.0) (time_text c.0.0.times t.0.0) four time_taken.0 in
-    let found = front_of b class_taken.0 c.0.0 m.0.0 s.0.0 t.0.0 start t.0.1 d.0.1 d.0.0 refl class_taken.1 machines_taken.1 speeds_taken.1 speeds_taken.2 time_taken.1 head lines in
-    is_front b (filed_of c.0.0 m.0.0 s.0.0 d.0.0, d.0.1) x found d.2
-
-pub whole_takes : (b : List ℕ) (f : Filed) → filed_at b ≡ Ok f → IsReadText b f
-unfolding filed_at
-whole_takes b f e =
-    let a = bind_ok (front_at b) _ f e in
-    let g = provided_ok _ _ _ f a.2 in
-    let t = front_takes b a.0 a.1 in
-    let nothing : a.0.1.rest ≡ [] = nil_from_length a.0.1.rest (eqb-true _ _ g.0) in
-    let whole : b ≡ t.0 = t.1 ∙ ap (λ (r : List ℕ). t.0 ++ r) nothing ∙ append-nil t.0 in
-    subst (IsReadText b) (ok_is a.0.0 f g.1) (subst (λ (c : List ℕ). IsReadText c a.0.0) (sym whole) t.2)
+    let found = front_of b class_taken.0 c.0.0 m.0.0 s.0.0 t.0.0 start t.0.1 d.0.1 d.0.0 refl class_taken.1 machines_taken.1 speeds_taken.1 multiple.0 time_taken.1 head lines in
+    whole_of b c.0.0 m.0.0 s.0.0 d.0.0 d.0.1 f found d.2
 
 -- ---- the time that all operations share
 
@@ -260,37 +244,24 @@ arcs_few Intree arcs h = (λ e. absurd cc, h)
 arcs_few Outtree arcs h = (λ e. absurd cc, h)
 arcs_few Prec arcs h = (λ e. absurd cc, h)
 
--- each line has a byte
-line_some : (fields : List (List ℕ)) → 1 ≤ length (line_text fields)
-line_some fields = omega (arith, length-append (join_with_byte 32 fields) line_feed)
-
-jobs_long : (c : Class) (names : List (List ℕ)) (jobs : List Job) → length names ≡ length jobs → length jobs ≤ length (jobs_text c names jobs)
-jobs_long c [] [] h = omega arith
-jobs_long c [] (j ∷ js) h = absurd (omega (arith, h))
-jobs_long c (name ∷ names) [] h = absurd (omega (arith, h))
-jobs_long c (name ∷ names) (j ∷ js) h =
-    let line = line_text (job_fields c name j) in
-    omega (
-      arith,
-      jobs_long c names js (omega (arith, h)),
-      length-append (job_text c name j) (jobs_text c names js),
-      ap length (job_text_parts c name j),
-      length-append line (job_rest c j),
-      line_some (job_fields c name j),
-    )
-
-arcs_long : (names : List (List ℕ)) (arcs : List Arc) → length arcs ≤ length (arcs_text names arcs)
-arcs_long names [] = omega arith
-arcs_long names (a ∷ arcs) = omega (arith, arcs_long names arcs, length-append (line_text (arc_fields names a)) (arcs_text names arcs), line_some (arc_fields names a))
-
 spread : (a b c d e f : List ℕ) → a ++ b ++ c ++ d ++ e ++ f ≡ a ++ (b ++ (c ++ (d ++ (e ++ f))))
 spread a b c d e f = append_assoc (a ++ b ++ c ++ d) e f ∙ append_assoc (a ++ b ++ c) d (e ++ f) ∙ append_assoc (a ++ b) c (d ++ (e ++ f)) ∙ append_assoc a b (c ++ (d ++ (e ++ f)))
 
-instance_again : (spelling : List ℕ) (i : Instance) (names : List (List ℕ)) → NameOf spelling i.class → AreNamesOf names i → MeetsConditions text_limits i
-    → (at : ℕ) × (front_at (instance_text spelling names i) ≡ Ok (record { instance = i; names = names }, record { at = at; rest = [] }))
-unfolding front_at instance_text head_text
+-- what comes first was read
+then_again : {A B : Type 0} (first : Result A FileFault) (next : A → Result B FileFault → Type 0) (x : A) (r : Result B FileFault) → first ≡ Ok x → next x r → Then first next r
+then_again first next x r e h = rw e h
+
+instance_again : (spelling : List ℕ) (i : Instance) (names : List (List ℕ)) → NameOf spelling i.class → AreNamesOf names i → MeetsConditions text_limits i → Reads (instance_text spelling names i) (Ok (record { instance = i; names = names }))
+unfolding Reads instance_text head_text
 instance_again spelling i names spells named h =
-    (d.0, ap front_at text ∙ ap (λ r. r >>= read_class) v.1 ∙ ap (λ r. r >>= λ c. read_machines c.0 c.1) c.1 ∙ ap (λ r. r >>= λ m. read_speeds i.class m.0 m.1) m.1 ∙ ap (λ r. r >>= λ s. read_time i.class i.machines s.0 s.1) s.1 ∙ ap (λ r. r >>= λ t. read_jobs i.class i.machines i.speeds t.0 t.1) t.1 ∙ ap (λ r. r >>= λ d. Ok (filed_of i.class i.machines i.speeds d.0, d.1)) d.1)
+    then_again _ _ _ _ (ap (λ (b : List ℕ). version_at (record { at = 1; rest = b })) text ∙ v.1) (
+    then_again _ _ _ _ c.1 (
+    then_again _ _ _ _ m.1 (
+    then_again _ _ _ _ s.1 (inl (
+      h.multiple,
+      (
+          then_again _ _ _ _ t.1 (record { lines = Ok (record { names = names; jobs = i.jobs; arcs = i.arcs }, record { at = d.0; rest = [] }); reads = d.1; whole = refl })),
+    )))))
   where
     shared : ℕ
     shared = shared_time_of i.class.times (common_time i)
@@ -319,9 +290,6 @@ instance_again spelling i names spells named h =
     text : head ++ jobs ++ arcs ++ end_text ≡ version_text ++ (class_text spelling ++ (machines ++ (speeds ++ (time ++ lines))))
     text = regroup head jobs arcs end_text ∙ ap (λ (b : List ℕ). head ++ b) (sym (append-nil (jobs ++ arcs ++ end_text))) ∙ spread version_text (class_text spelling) machines speeds time lines
 
-    enough : length i.jobs + length i.arcs < length lines + 1
-    enough = omega (arith, jobs_long i.class names i.jobs named.one_each, arcs_long names i.arcs, length-append (jobs ++ arcs ++ end_text) [], length-append (jobs ++ arcs) end_text, length-append jobs arcs)
-
     v : (next : ℕ) × (version_at (record { at = 1; rest = version_text ++ (class_text spelling ++ (machines ++ (speeds ++ (time ++ lines)))) }) ≡ Ok (record { at = next; rest = class_text spelling ++ (machines ++ (speeds ++ (time ++ lines))) }))
     v = version_again 1 (class_text spelling ++ (machines ++ (speeds ++ (time ++ lines))))
 
@@ -332,7 +300,7 @@ instance_again spelling i names spells named h =
     m = machines_again i c.0 (speeds ++ (time ++ lines)) h.machines
 
     s : Gets (speeds_at i.class.env i.machines (record { at = m.0; rest = speeds ++ (time ++ lines) })) i.speeds (time ++ lines)
-    s = speeds_again i.class.env i.machines m.0 i.speeds (time ++ lines) h.speeds h.multiple
+    s = speeds_again i.class.env i.machines m.0 i.speeds (time ++ lines) h.speeds
 
     t : Gets (time_at i.class.times (record { at = s.0; rest = time ++ lines })) shared lines
     t = time_again i.class.times s.0 (common_time i) shared lines (shared_in i h) (shared_is i.class.times (common_time i))
@@ -346,11 +314,8 @@ instance_again spelling i names spells named h =
     arcs_fit : AreArcs names i.arcs
     arcs_fit = record { ends = subst (λ (n : ℕ). All (λ a. (a.before < n) × (a.after < n)) i.arcs) (sym named.one_each) h.ends; once = h.once; few = few.1 }
 
-    d : Gets (jobs_at (length lines + 1) i.class i.machines shared no_draft (record { at = t.0; rest = lines })) (record { names = names; jobs = i.jobs; arcs = i.arcs }) []
-    d = jobs_again i shared names i.jobs i.arcs (length lines + 1) [] [] t.0 [] h.machines.1 named.one_each fit arcs_fit few.0 enough
+    d : GetsBy (ReadsJobs i.class i.machines shared no_draft (record { at = t.0; rest = lines })) (record { names = names; jobs = i.jobs; arcs = i.arcs }) []
+    d = jobs_again i shared names i.jobs i.arcs [] [] t.0 [] h.machines.1 named.one_each fit arcs_fit few.0
 
-pub whole_again : (b : List ℕ) (i : Instance) (names : List (List ℕ)) → IsInstanceText b i names → filed_at b ≡ Ok (record { instance = i; names = names })
-unfolding filed_at
-whole_again b i names h =
-    let front = instance_again h.spelling i names h.spells h.named h.in_class.conditions in
-    ap filed_at h.text ∙ ap (λ r. r >>= λ f. provided (length f.1.rest == 0) (After f.1.at) (Ok f.0)) front.1
+pub whole_again : (b : List ℕ) (i : Instance) (names : List (List ℕ)) → IsInstanceText b i names → Reads b (Ok (record { instance = i; names = names }))
+whole_again b i names h = subst (λ (text : List ℕ). Reads text (Ok (record { instance = i; names = names }))) (sym h.text) (instance_again h.spelling i names h.spells h.named h.in_class.conditions)

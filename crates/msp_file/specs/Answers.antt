@@ -8,6 +8,7 @@ use Rattle.msp_instance.specs.Paths.{IsLeastOnCycle}
 use Rattle.msp_file.specs.declared.fault.FileFault.{FileFault}
 use Rattle.msp_file.specs.declared.fault.FileFault.TheVariants.{Class, Cycle, Memory}
 use Rattle.msp_grammar.specs.declared.filed.Filed.{Filed}
+use Rattle.msp_file.specs.Reading.{Reads}
 
 -- The name of the job that a fault of the class names, if it names one.
 abbrev pub faulty_name : List (List ℕ) → ClassFault → Option (List ℕ)
@@ -26,26 +27,26 @@ faulty_name names class_fault.Arcs = None
 faulty_name names (class_fault.Arc at) = None
 
 -- The lines are those of an instance that breaks a condition of its class, this one first.
-pub record IsClassFault (read : Result Filed FileFault) (fault : ClassFault) (name : Option (List ℕ)) : Type 0 where
+pub record IsClassFault (bytes : List ℕ) (fault : ClassFault) (name : Option (List ℕ)) : Type 0 where
   pub filed : Filed
-  pub reads : read ≡ Ok filed
+  pub reads : Reads bytes (Ok filed)
   pub first : IsFirstFault filed.instance fault
   pub named : name ≡ faulty_name filed.names fault
 
 -- The lines are those of an instance that meets the conditions of its class and has a cycle, on which this job is the least.
-pub record IsCycleFault (read : Result Filed FileFault) (job : ℕ) (name : List ℕ) : Type 0 where
+pub record IsCycleFault (bytes : List ℕ) (job : ℕ) (name : List ℕ) : Type 0 where
   pub filed : Filed
-  pub reads : read ≡ Ok filed
+  pub reads : Reads bytes (Ok filed)
   pub conditions : MeetsConditions text_limits filed.instance
   pub least : IsLeastOnCycle (length filed.instance.jobs) filed.instance.arcs job
   pub named : slice_get filed.names job ≡ Some name
 
--- The fault is the first one of a text with this reading of its lines. Want of memory says nothing.
-abbrev pub IsFaultOf : Result Filed FileFault → FileFault → Type 0
-IsFaultOf read (Class fault name) = IsClassFault read fault name
-IsFaultOf read (Cycle job name) = IsCycleFault read job name
-IsFaultOf read Memory = Unit {0}
-IsFaultOf read e = read ≡ Err e
+-- The fault is the first one of the text. Want of memory says nothing.
+abbrev pub IsFaultOf : List ℕ → FileFault → Type 0
+IsFaultOf bytes (Class fault name) = IsClassFault bytes fault name
+IsFaultOf bytes (Cycle job name) = IsCycleFault bytes job name
+IsFaultOf bytes Memory = Unit {0}
+IsFaultOf bytes e = Reads bytes (Err e)
 
 -- Of the conditions of a class a text can break only these: that there is a job, and those of a job's needs and of the arcs at a job, which come with the job's name. What can be read keeps all the others.
 abbrev pub IsTextClassFault : ClassFault → Option (List ℕ) → Type 0
@@ -60,6 +61,6 @@ IsTextFault (Class fault name) = IsTextClassFault fault name
 IsTextFault _ = Unit {0}
 
 -- The answer is the instance of the lines, which is in its class, or the first fault.
-abbrev pub IsAnswerTo : Result Filed FileFault → Result Filed FileFault → Type 0
-IsAnswerTo read (Ok filed) = (read ≡ Ok filed) × InClass filed.instance
-IsAnswerTo read (Err e) = IsFaultOf read e
+abbrev pub IsAnswerTo : List ℕ → Result Filed FileFault → Type 0
+IsAnswerTo bytes (Ok filed) = Reads bytes (Ok filed) × InClass filed.instance
+IsAnswerTo bytes (Err e) = IsFaultOf bytes e

@@ -1,5 +1,5 @@
 -- How the text of an instance is read: line by line, and in a line from left to right, up to the first fault.
-use Rattle.std.specs.Prelude.{ℕ, zero, suc, ◌+◌, ◌-◌, ◌*◌, ◌/◌, ◌%◌, Bool, true, false, ◌&&◌, not, ◌==◌, nat_le, nat_lt, if◌then◌else◌, List, [], ◌∷◌, ◌++◌, length, take, drop, map, Some, None, Result, Ok, Err, ok_or, position, codes, bytes_eq, ℤ, pos, negsuc, unsigned_abs}
+use Rattle.std.specs.Prelude.{◌≡◌, ◌⊎◌, ℕ, ◌+◌, ◌-◌, ◌*◌, ◌/◌, Bool, true, false, ◌&&◌, not, ◌==◌, nat_le, nat_lt, if◌then◌else◌, List, [], ◌∷◌, ◌++◌, length, take, drop, map, Some, None, Result, Ok, Err, ok_or, position, codes, bytes_eq, ℤ, pos, negsuc, unsigned_abs}
 use Rattle.std.specs.List.{slice_split, list_all, list_any, range_with_len}
 use Rattle.msp_class.specs.declared.environments.EnvKind.{EnvKind}
 use Rattle.msp_class.specs.declared.environments.TheConstants.{MOST_OPERATIONS}
@@ -13,14 +13,14 @@ use Rattle.msp_class.specs.declared.class.Crit.{Crit}
 use Rattle.msp_name.specs.Reading.{reading_of}
 use Rattle.msp_job_name.specs.declared.job_name.TheConstants.{LONGEST_NAME}
 use Rattle.msp_job_name.specs.JobName.{is_name_byte}
-use Rattle.msp_instance.specs.declared.ranges.TheConstants.{MOST_JOBS, MOST_MACHINES, MOST_ARCS, MOST_STEPS, GREATEST, GREATEST_SPEED, GREATEST_MULTIPLE, GREATEST_EQUAL_TIME}
+use Rattle.msp_instance.specs.declared.ranges.TheConstants.{MOST_JOBS, MOST_MACHINES, MOST_ARCS, MOST_STEPS, GREATEST, GREATEST_SPEED, GREATEST_EQUAL_TIME}
 use Rattle.msp_instance.specs.declared.Need.{Need}
 use Rattle.msp_instance.specs.declared.Step.{Step}
 use Rattle.msp_instance.specs.declared.Curve.{Curve}
 use Rattle.msp_instance.specs.declared.Job.{Job}
 use Rattle.msp_instance.specs.declared.Arc.{Arc}
 use Rattle.msp_instance.specs.Instance.{no_curve}
-use Rattle.msp_instance.specs.Conditions.{least_time}
+use Rattle.msp_instance.specs.Conditions.{HasSmallMultiple, least_time}
 use Rattle.msp_file.specs.declared.fault.What.{What}
 use Rattle.msp_file.specs.declared.fault.What.TheVariants as what
 use Rattle.msp_file.specs.declared.fault.FileFault.{FileFault}
@@ -34,8 +34,8 @@ use Rattle.msp_text.specs.Numbers.{number_of}
 -- the next step, or the fault
 infixl 10 ◌>>=◌
 abbrev pub ◌>>=◌ : {A B : Type 0} → Result A FileFault → (A → Result B FileFault) → Result B FileFault
-(Ok x) >>= f = f x
-(Err e) >>= f = Err e
+(Ok value) >>= next = next value
+(Err fault) >>= next = Err fault
 
 -- what comes next where the test holds, or else the fault
 abbrev pub provided : {A : Type 0} → Bool → FileFault → Result A FileFault → Result A FileFault
@@ -51,100 +51,100 @@ pub record Place : Type 0 where
 
 -- The next line, without its line feed.
 unfoldable pub line_at : Place → Result (List ℕ × Place) FileFault
-line_at p =
-    elim (position (λ x. x == 10) p.rest) [
-      | Some k ↦ Ok (take k p.rest, record { at = p.at + 1; rest = drop (k + 1) p.rest })
-      | None ↦ Err (elim p.rest [ [] ↦ Missing p.at | _ ∷ _ ↦ Cut p.at ])
+line_at place =
+    elim (position (λ byte. byte == 10) place.rest) [
+      | Some length ↦ Ok (take length place.rest, record { at = place.at + 1; rest = drop (length + 1) place.rest })
+      | None ↦ Err (elim place.rest [ [] ↦ Missing place.at | _ ∷ _ ↦ Cut place.at ])
     ]
 
 -- The fields of a line.
 abbrev pub fields_of : List ℕ → List (List ℕ)
-fields_of line = slice_split (λ x. x == 32) line
+fields_of line = slice_split (λ byte. byte == 32) line
 
 abbrev pub first_of : List (List ℕ) → List ℕ
 first_of [] = []
-first_of (w ∷ ws) = w
+first_of (field ∷ others) = field
 
 abbrev pub others_of : List (List ℕ) → List (List ℕ)
 others_of [] = []
-others_of (w ∷ ws) = ws
+others_of (field ∷ others) = others
 
 -- The fields after the first word of the line that has to come next.
 unfoldable pub worded_at : List ℕ → Place → Result (List (List ℕ) × Place) FileFault
-worded_at word p = do
-  l ← line_at p
-  provided (bytes_eq (first_of (fields_of l.0)) word) (Line p.at) (Ok (others_of (fields_of l.0), l.1))
+worded_at word place = do
+  line ← line_at place
+  provided (bytes_eq (first_of (fields_of line.0)) word) (Line place.at) (Ok (others_of (fields_of line.0), line.1))
 
 -- ---- fields by their kinds
 
 -- A number in range, with the quantity that it is of.
 abbrev pub natural_in : ℕ → What → ℕ → ℕ → ℤ → Result ℕ FileFault
-natural_in at quantity least greatest (pos n) = provided (nat_le least n && nat_le n greatest) (Limit at quantity) (Ok n)
-natural_in at quantity least greatest (negsuc n) = Err (Limit at quantity)
+natural_in at quantity least greatest (pos number) = provided (nat_le least number && nat_le number greatest) (Limit at quantity) (Ok number)
+natural_in at quantity least greatest (negsuc size) = Err (Limit at quantity)
 
 unfoldable pub natural_at : ℕ → What → ℕ → ℕ → List ℕ → Result ℕ FileFault
-natural_at at quantity least greatest w = ok_or (number_of w) (Number at) >>= natural_in at quantity least greatest
+natural_at at quantity least greatest field = ok_or (number_of field) (Number at) >>= natural_in at quantity least greatest
 
 -- A number of at most this size, of either sign.
 unfoldable pub integer_at : ℕ → What → ℕ → List ℕ → Result ℤ FileFault
-integer_at at quantity greatest w = do
-  x ← ok_or (number_of w) (Number at)
-  provided (nat_le (unsigned_abs x) greatest) (Limit at quantity) (Ok x)
+integer_at at quantity greatest field = do
+  number ← ok_or (number_of field) (Number at)
+  provided (nat_le (unsigned_abs number) greatest) (Limit at quantity) (Ok number)
 
 -- The name of a job.
 abbrev pub is_name_text : List ℕ → Bool
 is_name_text [] = false
-is_name_text (b ∷ bs) = list_all is_name_byte (b ∷ bs)
+is_name_text (byte ∷ bytes) = list_all is_name_byte (byte ∷ bytes)
 
 unfoldable pub job_name_at : ℕ → List ℕ → Result (List ℕ) FileFault
-job_name_at at w = provided (is_name_text w) (Name at) (provided (nat_le (length w) LONGEST_NAME) (Limit at what.Name) (Ok w))
+job_name_at at field = provided (is_name_text field) (Name at) (provided (nat_le (length field) LONGEST_NAME) (Limit at what.Name) (Ok field))
 
 -- The name of one of these jobs: the job's number, from 0.
 unfoldable pub known_at : ℕ → List (List ℕ) → List ℕ → Result ℕ FileFault
-known_at at names w = do
-  name ← job_name_at at w
+known_at at names field = do
+  name ← job_name_at at field
   ok_or (position (bytes_eq name) names) (Unknown at)
 
 -- The text behind a key: one letter and `=`.
 abbrev pub keyed_at : ℕ → ℕ → List ℕ → Result (List ℕ) FileFault
-keyed_at at letter (k ∷ e ∷ w) = provided ((k == letter) && (e == 61)) (Key at) (Ok w)
+keyed_at at letter (key ∷ equals ∷ text) = provided ((key == letter) && (equals == 61)) (Key at) (Ok text)
 keyed_at at letter _ = Err (Key at)
 
 -- A number behind a key in the next field, where the class has the key, and the fields after it.
 unfoldable pub natural_key_at : ℕ → Bool → ℕ → What → ℕ → ℕ → List (List ℕ) → Result (ℕ × List (List ℕ)) FileFault
 natural_key_at at false letter quantity least greatest fields = Ok (least, fields)
 natural_key_at at true letter quantity least greatest fields = do
-  w ← keyed_at at letter (first_of fields)
-  n ← natural_at at quantity least greatest w
-  Ok (n, others_of fields)
+  text ← keyed_at at letter (first_of fields)
+  number ← natural_at at quantity least greatest text
+  Ok (number, others_of fields)
 
 unfoldable pub integer_key_at : ℕ → Bool → ℕ → What → ℕ → List (List ℕ) → Result (ℤ × List (List ℕ)) FileFault
 integer_key_at at false letter quantity greatest fields = Ok (pos 0, fields)
 integer_key_at at true letter quantity greatest fields = do
-  w ← keyed_at at letter (first_of fields)
-  x ← integer_at at quantity greatest w
-  Ok (x, others_of fields)
+  text ← keyed_at at letter (first_of fields)
+  number ← integer_at at quantity greatest text
+  Ok (number, others_of fields)
 
 -- ---- the line of a job
 
 -- The keys p, r, d and w, those of them that the class has. Elsewhere the time is 1, the dates are 0 and the weight is 1.
 unfoldable pub keys_at : Class → ℕ → List (List ℕ) → Result Keys FileFault
-keys_at c at fields = do
-  p ← natural_key_at at (has_time_key c) 112 what.Time 1 GREATEST fields
-  r ← natural_key_at at c.heads 114 what.Release 0 GREATEST p.1
-  d ← integer_key_at at (uses_due c.crit) 100 what.Due GREATEST r.1
-  w ← natural_key_at at (uses_weight c.crit) 119 what.Weight 1 GREATEST d.1
-  Ok (record { time = p.0; release = r.0; due = d.0; weight = w.0 })
+keys_at class at fields = do
+  time ← natural_key_at at (has_time_key class) 112 what.Time 1 GREATEST fields
+  release ← natural_key_at at class.heads 114 what.Release 0 GREATEST time.1
+  due ← integer_key_at at (uses_due class.crit) 100 what.Due GREATEST release.1
+  weight ← natural_key_at at (uses_weight class.crit) 119 what.Weight 1 GREATEST due.1
+  Ok (record { time = time.0; release = release.0; due = due.0; weight = weight.0 })
 
 abbrev pub count_of_keys : Class → ℕ
-count_of_keys c = flag_number (has_time_key c) + flag_number c.heads + flag_number (uses_due c.crit) + flag_number (uses_weight c.crit)
+count_of_keys class = flag_number (has_time_key class) + flag_number class.heads + flag_number (uses_due class.crit) + flag_number (uses_weight class.crit)
 
 -- The name and the keys in the line of a job whose name no earlier job has.
 unfoldable pub job_line_at : Class → ℕ → List (List ℕ) → List (List ℕ) → Result (List ℕ × Keys) FileFault
-job_line_at c at names fields =
-    provided (length fields == 1 + count_of_keys c) (Count at) (do
+job_line_at class at names fields =
+    provided (length fields == 1 + count_of_keys class) (Count at) (do
       name ← job_name_at at (first_of fields)
-      keys ← keys_at c at (others_of fields)
+      keys ← keys_at class at (others_of fields)
       provided (not (list_any (bytes_eq name) names)) (Again at) (Ok (name, keys)))
 
 -- ---- the operations of a job
@@ -156,48 +156,48 @@ with_need needs machine time = needs ++ record { machine = machine; time = time 
 -- One time for each machine in order, after the needs so far.
 unfoldable pub times_at : ℕ → ℕ → List Need → List (List ℕ) → Result (List Need) FileFault
 times_at at least needs [] = Ok needs
-times_at at least needs (w ∷ ws) = do
-  t ← natural_at at what.Time least GREATEST w
-  times_at at least (with_need needs (length needs) t) ws
+times_at at least needs (field ∷ others) = do
+  time ← natural_at at what.Time least GREATEST field
+  times_at at least (with_need needs (length needs) time) others
 
 unfoldable pub times_line_at : ℕ → ℕ → Place → Result (List Need × Place) FileFault
-times_line_at least machines p = do
-  l ← worded_at (codes "times") p
-  provided (length l.0 == machines) (Count p.at) (do
-    needs ← times_at p.at least [] l.0
-    Ok (needs, l.1))
+times_line_at least machines place = do
+  line ← worded_at (codes "times") place
+  provided (length line.0 == machines) (Count place.at) (do
+    needs ← times_at place.at least [] line.0
+    Ok (needs, line.1))
 
 -- The number of a machine, which texts count from 1.
 unfoldable pub machine_at : ℕ → ℕ → List ℕ → Result ℕ FileFault
-machine_at at machines w = do
-  q ← natural_at at what.Machines 1 machines w
-  Ok (q - 1)
+machine_at at machines field = do
+  number ← natural_at at what.Machines 1 machines field
+  Ok (number - 1)
 
 -- Machines in order, each with its time.
 unfoldable pub timed_route_at : ℕ → ℕ → List Need → List (List ℕ) → Result (List Need) FileFault
 timed_route_at at machines needs [] = Ok needs
-timed_route_at at machines needs (w ∷ []) = Err (Count at)
-timed_route_at at machines needs (w ∷ v ∷ ws) = do
-  q ← machine_at at machines w
-  t ← natural_at at what.Time 1 GREATEST v
-  timed_route_at at machines (with_need needs q t) ws
+timed_route_at at machines needs (field ∷ []) = Err (Count at)
+timed_route_at at machines needs (field ∷ second ∷ others) = do
+  machine ← machine_at at machines field
+  time ← natural_at at what.Time 1 GREATEST second
+  timed_route_at at machines (with_need needs machine time) others
 
 -- Machines in order, each with the same time.
 unfoldable pub machine_route_at : ℕ → ℕ → ℕ → List Need → List (List ℕ) → Result (List Need) FileFault
 machine_route_at at machines time needs [] = Ok needs
-machine_route_at at machines time needs (w ∷ ws) = do
-  q ← machine_at at machines w
-  machine_route_at at machines time (with_need needs q time) ws
+machine_route_at at machines time needs (field ∷ others) = do
+  machine ← machine_at at machines field
+  machine_route_at at machines time (with_need needs machine time) others
 
 -- How many operations so many fields begin, where times are written and where they are not.
 abbrev pub operations_in : Bool → ℕ → ℕ
-operations_in true n = (n + 1) / 2
-operations_in false n = n
+operations_in true fields = (fields + 1) / 2
+operations_in false fields = fields
 
 -- How many fields so many operations have.
 abbrev pub fields_in : Bool → ℕ → ℕ
-fields_in true n = 2 * n
-fields_in false n = n
+fields_in true operations = 2 * operations
+fields_in false operations = operations
 
 -- Operations with their times, or where times are not written with this one.
 abbrev pub operations_at : Bool → ℕ → ℕ → ℕ → List (List ℕ) → Result (List Need) FileFault
@@ -206,31 +206,31 @@ operations_at false at machines time fields = machine_route_at at machines time 
 
 -- The number of fields is one of at least one and at most so many operations.
 abbrev pub is_route_count : Bool → ℕ → ℕ → Bool
-is_route_count timed most n = let operations = operations_in timed n in nat_le 1 operations && nat_le operations most && (n == fields_in timed operations)
+is_route_count timed most fields = let operations = operations_in timed fields in nat_le 1 operations && nat_le operations most && (fields == fields_in timed operations)
 
 unfoldable pub route_line_at : Bool → ℕ → ℕ → ℕ → Place → Result (List Need × Place) FileFault
-route_line_at timed most machines time p = do
-  l ← worded_at (codes "route") p
-  provided (nat_le (operations_in timed (length l.0)) MOST_OPERATIONS) (Limit p.at what.Route) (
-      provided (is_route_count timed most (length l.0)) (Count p.at) (do
-        needs ← operations_at timed p.at machines time l.0
-        Ok (needs, l.1)))
+route_line_at timed most machines time place = do
+  line ← worded_at (codes "route") place
+  provided (nat_le (operations_in timed (length line.0)) MOST_OPERATIONS) (Limit place.at what.Route) (
+      provided (is_route_count timed most (length line.0)) (Count place.at) (do
+        needs ← operations_at timed place.at machines time line.0
+        Ok (needs, line.1)))
 
 -- The needs that no line writes, all with one time: a single one, or one for each machine.
 abbrev pub unwritten_needs : EnvKind → ℕ → ℕ → List Need
-unwritten_needs k machines time =
-    if has_one_time k
+unwritten_needs kind machines time =
+    if has_one_time kind
     then with_need [] 0 time
-    else map (λ q. record { machine = q; time = time }) (range_with_len 0 machines)
+    else map (λ number. record { machine = number; time = time }) (range_with_len 0 machines)
 
 -- The needs of a job. Where no line writes a time, it is this one.
 unfoldable pub needs_at : Class → ℕ → ℕ → Place → Result (List Need × Place) FileFault
-needs_at c machines time p =
-    if has_times_line c
-    then times_line_at (least_time (kind_of c.env) c.times) machines p
-    else (if has_route (kind_of c.env)
-    then route_line_at (has_times c.times) (most_operations c.env) machines time p
-    else Ok (unwritten_needs (kind_of c.env) machines time, p))
+needs_at class machines time place =
+    if has_times_line class
+    then times_line_at (least_time (kind_of class.env) class.times) machines place
+    else (if has_route (kind_of class.env)
+    then route_line_at (has_times class.times) (most_operations class.env) machines time place
+    else Ok (unwritten_needs (kind_of class.env) machines time, place))
 
 -- ---- the cost curve of a job
 
@@ -241,11 +241,11 @@ with_step steps above add = steps ++ record { above = above; add = add } ∷ []
 -- Thresholds, each with its add, after the steps so far.
 unfoldable pub steps_at : ℕ → List Step → List (List ℕ) → Result (List Step) FileFault
 steps_at at steps [] = Ok steps
-steps_at at steps (w ∷ []) = Err (Count at)
-steps_at at steps (w ∷ v ∷ ws) = do
-  above ← natural_at at what.Above 0 GREATEST w
-  add ← natural_at at what.Add 0 GREATEST v
-  steps_at at (with_step steps above add) ws
+steps_at at steps (field ∷ []) = Err (Count at)
+steps_at at steps (field ∷ second ∷ others) = do
+  above ← natural_at at what.Above 0 GREATEST field
+  add ← natural_at at what.Add 0 GREATEST second
+  steps_at at (with_step steps above add) others
 
 unfoldable pub curve_fields_at : ℕ → List (List ℕ) → Result Curve FileFault
 curve_fields_at at fields = do
@@ -256,18 +256,18 @@ curve_fields_at at fields = do
 
 -- How many steps so many fields begin.
 abbrev pub steps_in : ℕ → ℕ
-steps_in n = (n - 1) / 2
+steps_in fields = (fields - 1) / 2
 
 unfoldable pub curve_line_at : Place → Result (Curve × Place) FileFault
-curve_line_at p = do
-  l ← worded_at (codes "curve") p
-  provided (nat_le (steps_in (length l.0)) MOST_STEPS) (Limit p.at what.Steps) (
-      provided (length l.0 == 2 + 2 * steps_in (length l.0)) (Count p.at) (do
-        curve ← curve_fields_at p.at l.0
-        Ok (curve, l.1)))
+curve_line_at place = do
+  line ← worded_at (codes "curve") place
+  provided (nat_le (steps_in (length line.0)) MOST_STEPS) (Limit place.at what.Steps) (
+      provided (length line.0 == 2 + 2 * steps_in (length line.0)) (Count place.at) (do
+        curve ← curve_fields_at place.at line.0
+        Ok (curve, line.1)))
 
 unfoldable pub curve_at : Crit → Place → Result (Curve × Place) FileFault
-curve_at crit p = if uses_curve crit then curve_line_at p else Ok (no_curve, p)
+curve_at crit place = if uses_curve crit then curve_line_at place else Ok (no_curve, place)
 
 -- ---- jobs and arcs
 
@@ -276,121 +276,137 @@ job_of keys needs curve = record { release = keys.release; due = keys.due; weigh
 
 -- The time of a job's operations that no line writes: that of its key, or the one that all operations share.
 abbrev pub time_in : Class → ℕ → Keys → ℕ
-time_in c shared keys = if has_time_key c then keys.time else shared
+time_in class shared keys = if has_time_key class then keys.time else shared
 
 -- The job whose line has these fields, with the lines of it that come next, after the jobs so far. All operations share a time, where the class has one.
 unfoldable pub job_at_line : Class → ℕ → ℕ → Draft → ℕ → List (List ℕ) → Place → Result (Draft × Place) FileFault
-job_at_line c machines shared d at fields p =
-    provided (nat_lt (length d.jobs) MOST_JOBS) (Limit at what.Jobs) (do
-      line ← job_line_at c at d.names fields
-      needs ← needs_at c machines (time_in c shared line.1) p
-      curve ← curve_at c.crit needs.1
-      Ok (record { names = d.names ++ line.0 ∷ []; jobs = d.jobs ++ job_of line.1 needs.0 curve.0 ∷ []; arcs = d.arcs }, curve.1))
+job_at_line class machines shared draft at fields place =
+    provided (nat_lt (length draft.jobs) MOST_JOBS) (Limit at what.Jobs) (do
+      line ← job_line_at class at draft.names fields
+      needs ← needs_at class machines (time_in class shared line.1) place
+      curve ← curve_at class.crit needs.1
+      Ok (record { names = draft.names ++ line.0 ∷ []; jobs = draft.jobs ++ job_of line.1 needs.0 curve.0 ∷ []; arcs = draft.arcs }, curve.1))
 
 -- The arc is one of these.
 abbrev pub is_arc_among : List Arc → ℕ → ℕ → Bool
-is_arc_among arcs before after = list_any (λ a. (a.before == before) && (a.after == after)) arcs
+is_arc_among arcs before after = list_any (λ arc. (arc.before == before) && (arc.after == after)) arcs
 
 -- The draft with one more arc at the end.
 abbrev pub with_arc : Draft → ℕ → ℕ → Draft
-with_arc d before after = record d { arcs = d.arcs ++ record { before = before; after = after } ∷ [] }
+with_arc draft before after = record draft { arcs = draft.arcs ++ record { before = before; after = after } ∷ [] }
 
 -- The arc whose line has these fields, after the arcs so far.
 unfoldable pub arc_line_at : ℕ → Draft → List (List ℕ) → Result Draft FileFault
-arc_line_at at d fields =
-    provided (nat_lt (length d.arcs) MOST_ARCS) (Limit at what.Arcs) (
+arc_line_at at draft fields =
+    provided (nat_lt (length draft.arcs) MOST_ARCS) (Limit at what.Arcs) (
     provided (length fields == 2) (Count at) (do
-      before ← known_at at d.names (first_of fields)
-      after ← known_at at d.names (first_of (others_of fields))
-      provided (not (is_arc_among d.arcs before after)) (ArcAgain at) (Ok (with_arc d before after))))
+      before ← known_at at draft.names (first_of fields)
+      after ← known_at at draft.names (first_of (others_of fields))
+      provided (not (is_arc_among draft.arcs before after)) (ArcAgain at) (Ok (with_arc draft before after))))
+
+-- What a line after the head, a job or an arc was, with the draft and the place after it: a job with all its lines, an arc, or the end.
+pub data LineRead : Type 0 where
+  job_read : Draft → Place → LineRead
+  arc_read : Draft → Place → LineRead
+  end_read : Draft → Place → LineRead
 
 -- The last line.
-abbrev pub end_at : ℕ → Draft → List (List ℕ) → Place → Result (Draft × Place) FileFault
-end_at at d fields p = provided (bytes_eq (first_of fields) (codes "end")) (Line at) (provided (length fields == 1) (Count at) (Ok (d, p)))
+abbrev pub end_at : ℕ → Draft → List (List ℕ) → Place → Result LineRead FileFault
+end_at at draft fields place = provided (bytes_eq (first_of fields) (codes "end")) (Line at) (provided (length fields == 1) (Count at) (Ok (end_read draft place)))
 
--- The lines after an arc, of which there are at most n: arcs, and the end.
-unfoldable pub arcs_at : ℕ → Draft → Place → Result (Draft × Place) FileFault
-arcs_at zero d p = Err (Missing p.at)
-arcs_at (suc n) d p = do
-  l ← line_at p
-  if bytes_eq (first_of (fields_of l.0)) (codes "arc")
-      then (arc_line_at p.at d (others_of (fields_of l.0)) >>= λ e. arcs_at n e l.1)
-      else end_at p.at d (fields_of l.0) l.1
+-- An arc where there may be one, or else the last line.
+abbrev pub arc_or_end : Bool → ℕ → Draft → List (List ℕ) → Place → Result LineRead FileFault
+arc_or_end may at draft fields place =
+    if may && bytes_eq (first_of fields) (codes "arc")
+    then (arc_line_at at draft (others_of fields) >>= λ more. Ok (arc_read more place))
+    else end_at at draft fields place
 
--- The lines after the head and after a job, of which there are at most n: jobs, in a class with an order an arc, and the end.
-unfoldable pub jobs_at : ℕ → Class → ℕ → ℕ → Draft → Place → Result (Draft × Place) FileFault
-jobs_at zero c machines shared d p = Err (Missing p.at)
-jobs_at (suc n) c machines shared d p = do
-  l ← line_at p
-  if bytes_eq (first_of (fields_of l.0)) (codes "job")
-      then (job_at_line c machines shared d p.at (others_of (fields_of l.0)) l.1 >>= λ e. jobs_at n c machines shared e.0 e.1)
-      else (if has_order c.order && bytes_eq (first_of (fields_of l.0)) (codes "arc")
-      then (arc_line_at p.at d (others_of (fields_of l.0)) >>= λ e. arcs_at n e l.1)
-      else end_at p.at d (fields_of l.0) l.1)
+-- A line after an arc.
+unfoldable pub arc_step : Draft → Place → Result LineRead FileFault
+arc_step draft place = do
+  line ← line_at place
+  arc_or_end true place.at draft (fields_of line.0) line.1
+
+-- A line after the head or after a job, with the lines of the job that it begins. Arcs stand only in classes with an order.
+unfoldable pub job_step : Class → ℕ → ℕ → Draft → Place → Result LineRead FileFault
+job_step class machines shared draft place = do
+  line ← line_at place
+  if bytes_eq (first_of (fields_of line.0)) (codes "job")
+      then (job_at_line class machines shared draft place.at (others_of (fields_of line.0)) line.1 >>= λ more. Ok (job_read more.0 more.1))
+      else arc_or_end (has_order class.order) place.at draft (fields_of line.0) line.1
+
+-- The lines after an arc are read so: each is an arc, up to the end or a fault.
+pub data ReadsArcs : Draft → Place → Result (Draft × Place) FileFault → Type 0 where
+  arc_then : (draft more : Draft) (place next : Place) (read : Result (Draft × Place) FileFault) → arc_step draft place ≡ Ok (arc_read more next) → ReadsArcs more next read → ReadsArcs draft place read
+  arcs_end : (draft all : Draft) (place next : Place) (read : Result (Draft × Place) FileFault) → arc_step draft place ≡ Ok (end_read all next) → read ≡ Ok (all, next) → ReadsArcs draft place read
+  arcs_fault : (draft : Draft) (place : Place) (read : Result (Draft × Place) FileFault) (fault : FileFault) → arc_step draft place ≡ Err fault → read ≡ Err fault → ReadsArcs draft place read
+
+-- The lines after the head or after a job are read so: jobs, then arcs, up to the end or a fault.
+pub data ReadsJobs (class : Class) (machines shared : ℕ) : Draft → Place → Result (Draft × Place) FileFault → Type 0 where
+  job_then : (draft more : Draft) (place next : Place) (read : Result (Draft × Place) FileFault) → job_step class machines shared draft place ≡ Ok (job_read more next) → ReadsJobs class machines shared more next read → ReadsJobs class machines shared draft place read
+  arc_after : (draft more : Draft) (place next : Place) (read : Result (Draft × Place) FileFault) → job_step class machines shared draft place ≡ Ok (arc_read more next) → ReadsArcs more next read → ReadsJobs class machines shared draft place read
+  jobs_end : (draft all : Draft) (place next : Place) (read : Result (Draft × Place) FileFault) → job_step class machines shared draft place ≡ Ok (end_read all next) → read ≡ Ok (all, next) → ReadsJobs class machines shared draft place read
+  jobs_fault : (draft : Draft) (place : Place) (read : Result (Draft × Place) FileFault) (fault : FileFault) → job_step class machines shared draft place ≡ Err fault → read ≡ Err fault → ReadsJobs class machines shared draft place read
 
 -- ---- the head
 
 unfoldable pub version_at : Place → Result Place FileFault
-version_at p = do
-  l ← line_at p
-  provided (bytes_eq l.0 (codes "msp 1")) (Head p.at) (Ok l.1)
+version_at place = do
+  line ← line_at place
+  provided (bytes_eq line.0 (codes "msp 1")) (Head place.at) (Ok line.1)
 
 -- A spelling of a class, or a fault of the head.
 abbrev pub spelled_class : {E : Type 0} → ℕ → Result Class E → Result Class FileFault
-spelled_class at (Ok c) = Ok c
-spelled_class at (Err e) = Err (Head at)
+spelled_class at (Ok class) = Ok class
+spelled_class at (Err fault) = Err (Head at)
 
 abbrev pub class_in : ℕ → List (List ℕ) → Result Class FileFault
-class_in at (w ∷ name ∷ []) = provided (bytes_eq w (codes "class")) (Head at) (spelled_class at (reading_of name))
+class_in at (word ∷ name ∷ []) = provided (bytes_eq word (codes "class")) (Head at) (spelled_class at (reading_of name))
 class_in at _ = Err (Head at)
 
 unfoldable pub class_at : Place → Result (Class × Place) FileFault
-class_at p = do
-  l ← line_at p
-  c ← class_in p.at (fields_of l.0)
-  Ok (c, l.1)
+class_at place = do
+  line ← line_at place
+  class ← class_in place.at (fields_of line.0)
+  Ok (class, line.1)
 
 -- The number of machines.
 unfoldable pub machines_line_at : Place → Result (ℕ × Place) FileFault
-machines_line_at p = do
-  l ← worded_at (codes "machines") p
-  provided (length l.0 == 1) (Count p.at) (do
-    machines ← natural_at p.at what.Machines 1 MOST_MACHINES (first_of l.0)
-    Ok (machines, l.1))
+machines_line_at place = do
+  line ← worded_at (codes "machines") place
+  provided (length line.0 == 1) (Count place.at) (do
+    machines ← natural_at place.at what.Machines 1 MOST_MACHINES (first_of line.0)
+    Ok (machines, line.1))
 
 unfoldable pub machines_at : Env → Place → Result (ℕ × Place) FileFault
-machines_at e p = elim (fixed_machines e) [ Some machines ↦ Ok (machines, p) | None ↦ machines_line_at p ]
-
--- Some number from 1 to the limit is a multiple of all speeds.
-unfoldable pub have_multiple : ℕ → List ℕ → Bool
-have_multiple limit speeds = list_any (λ n. list_all (λ s. n % s == 0) speeds) (range_with_len 1 limit)
+machines_at env place = elim (fixed_machines env) [ Some machines ↦ Ok (machines, place) | None ↦ machines_line_at place ]
 
 unfoldable pub speeds_in : ℕ → List ℕ → List (List ℕ) → Result (List ℕ) FileFault
 speeds_in at speeds [] = Ok speeds
-speeds_in at speeds (w ∷ ws) = do
-  speed ← natural_at at what.Speed 1 GREATEST_SPEED w
-  speeds_in at (speeds ++ speed ∷ []) ws
+speeds_in at speeds (field ∷ others) = do
+  speed ← natural_at at what.Speed 1 GREATEST_SPEED field
+  speeds_in at (speeds ++ speed ∷ []) others
 
 unfoldable pub speeds_line_at : ℕ → Place → Result (List ℕ × Place) FileFault
-speeds_line_at machines p = do
-  l ← worded_at (codes "speeds") p
-  provided (length l.0 == machines) (Count p.at) (do
-    speeds ← speeds_in p.at [] l.0
-    provided (have_multiple GREATEST_MULTIPLE speeds) (Limit p.at what.Multiple) (Ok (speeds, l.1)))
+speeds_line_at machines place = do
+  line ← worded_at (codes "speeds") place
+  provided (length line.0 == machines) (Count place.at) (do
+    speeds ← speeds_in place.at [] line.0
+    Ok (speeds, line.1))
 
 unfoldable pub speeds_at : Env → ℕ → Place → Result (List ℕ × Place) FileFault
-speeds_at e machines p = if has_speeds (kind_of e) then speeds_line_at machines p else Ok ([], p)
+speeds_at env machines place = if has_speeds (kind_of env) then speeds_line_at machines place else Ok ([], place)
 
 -- The time that all operations share. Elsewhere it is 1.
 unfoldable pub time_line_at : Place → Result (ℕ × Place) FileFault
-time_line_at p = do
-  l ← worded_at (codes "time") p
-  provided (length l.0 == 1) (Count p.at) (do
-    time ← natural_at p.at what.Time 1 GREATEST_EQUAL_TIME (first_of l.0)
-    Ok (time, l.1))
+time_line_at place = do
+  line ← worded_at (codes "time") place
+  provided (length line.0 == 1) (Count place.at) (do
+    time ← natural_at place.at what.Time 1 GREATEST_EQUAL_TIME (first_of line.0)
+    Ok (time, line.1))
 
 unfoldable pub time_at : Times → Place → Result (ℕ × Place) FileFault
-time_at t p = if has_time_line t then time_line_at p else Ok (1, p)
+time_at times place = if has_time_line times then time_line_at place else Ok (1, place)
 
 -- ---- the whole
 
@@ -398,21 +414,33 @@ abbrev pub no_draft : Draft
 no_draft = record { names = []; jobs = []; arcs = [] }
 
 abbrev pub filed_of : Class → ℕ → List ℕ → Draft → Filed
-filed_of c machines speeds d = record { instance = record { class = c; machines = machines; speeds = speeds; jobs = d.jobs; arcs = d.arcs }; names = d.names }
+filed_of class machines speeds draft = record { instance = record { class = class; machines = machines; speeds = speeds; jobs = draft.jobs; arcs = draft.arcs }; names = draft.names }
 
--- The instance at the front of a text, and what is left after its last line. A text has at most as many lines as bytes.
-unfoldable pub front_at : List ℕ → Result (Filed × Place) FileFault
-front_at b = do
-  p ← version_at (record { at = 1; rest = b })
-  c ← class_at p
-  machines ← machines_at c.0.env c.1
-  speeds ← speeds_at c.0.env machines.0 machines.1
-  shared ← time_at c.0.times speeds.1
-  d ← jobs_at (length shared.1.rest + 1) c.0 machines.0 shared.0 no_draft shared.1
-  Ok (filed_of c.0 machines.0 speeds.0 d.0, d.1)
+-- What is read is the fault of what comes first, or what comes next.
+abbrev pub Then : {A B : Type 0} → Result A FileFault → (A → Result B FileFault → Type 0) → Result B FileFault → Type 0
+Then (Ok value) next read = next value read
+Then (Err fault) next read = read ≡ Err fault
 
--- The instance whose lines are all of the text.
-unfoldable pub filed_at : List ℕ → Result Filed FileFault
-filed_at b = do
-  f ← front_at b
-  provided (length f.1.rest == 0) (After f.1.at) (Ok f.0)
+-- What is read is what comes next where the condition holds, or else the fault.
+abbrev pub OnlyWhere : {B : Type 0} → Type 0 → FileFault → (Result B FileFault → Type 0) → Result B FileFault → Type 0
+OnlyWhere condition fault next read = (condition × next read) ⊎ ((¬ condition) × (read ≡ Err fault))
+
+-- The lines after the head are all of the text.
+pub record ReadsRest (class : Class) (machines : ℕ) (speeds : List ℕ) (shared : ℕ) (place : Place) (read : Result Filed FileFault) : Type 0 where
+  pub lines : Result (Draft × Place) FileFault
+  pub reads : ReadsJobs class machines shared no_draft place lines
+  pub whole : read ≡ (lines >>= λ line. provided (length line.1.rest == 0) (After line.1.at) (Ok (filed_of class machines speeds line.0)))
+
+-- The lines after those of the machines are read so. The speeds have a common multiple that is not too great.
+abbrev pub ReadsSpeeds : Class → ℕ → Place → Result Filed FileFault → Type 0
+ReadsSpeeds class machines place read =
+    Then (speeds_at class.env machines place) (λ speeds.
+    OnlyWhere (HasSmallMultiple speeds.0) (Limit place.at what.Multiple) (
+    Then (time_at class.times speeds.1) (λ shared. ReadsRest class machines speeds.0 shared.0 shared.1))) read
+
+-- The lines of a text are read so: as those of one instance, or up to the first fault.
+unfoldable pub Reads : List ℕ → Result Filed FileFault → Type 0
+Reads bytes read =
+    Then (version_at (record { at = 1; rest = bytes })) (λ place.
+    Then (class_at place) (λ class.
+    Then (machines_at class.0.env class.1) (λ machines. ReadsSpeeds class.0 machines.0 machines.1))) read

@@ -1,13 +1,18 @@
--- What the functions that read say: that they read as the definitions do, unless memory runs out.
-use Rattle.std.specs.Prelude.{◌≡◌, ℕ, suc, Bool, true, false, List, [], ◌∷◌, Result, Ok, Err}
+-- What the functions that read say: that they read as the definitions do, unless memory runs out. A public contract cites `Gives` alone.
+use Rattle.std.specs.Prelude.{◌≡◌, ℕ, Bool, true, false, List, [], ◌∷◌, length, slice_get, Some, Result, Ok, Err}
 use Rattle.msp_file.specs.declared.fault.FileFault.{FileFault}
-use Rattle.msp_file.specs.declared.fault.FileFault.TheVariants.{Memory}
+use Rattle.msp_file.specs.declared.fault.FileFault.TheVariants.{Class as ClassBroken, Cycle, Memory}
+use Rattle.msp_grammar.specs.declared.filed.Filed.{Filed}
+use Rattle.msp_instance.specs.Conditions.{MeetsConditions, text_limits}
+use Rattle.msp_instance.specs.Faults.{IsFirstFault}
+use Rattle.msp_instance.specs.Paths.{IsLeastOnCycle}
+use Rattle.msp_file.specs.Answers.{faulty_name}
 use Rattle.msp_file.specs.declared.place.Lines.{Lines}
 use Rattle.msp_file.specs.declared.draft.Draft.{Draft}
 use Rattle.msp_file.specs.declared.draft.Next.{Next}
 use Rattle.msp_file.specs.declared.draft.Next.TheVariants.{Job, Arc, End}
 use Rattle.msp_class.specs.declared.class.Class.{Class}
-use Rattle.msp_file.specs.Reading.{Place, fields_of, arcs_at, jobs_at}
+use Rattle.msp_file.specs.Reading.{Place, fields_of, job_read, arc_read, end_read, arc_step, job_step}
 
 -- Where memory runs out, nothing is said. Another fault is that of the reading.
 abbrev pub Fails : {Y : Type 0} → FileFault → Result Y FileFault → Type 0
@@ -37,14 +42,34 @@ abbrev pub fields_after : List ℕ → List (List ℕ)
 fields_after [] = []
 fields_after (space ∷ bytes) = fields_of bytes
 
--- How reading goes on after a line: the lines after an arc, and those after the head or a job.
+-- The same by a relation: where memory runs out nothing is said, and another fault is one that is read.
+abbrev pub FailsBy : {Y : Type 0} → FileFault → (Result Y FileFault → Type 0) → Type 0
+FailsBy Memory Reading = Unit {0}
+FailsBy e Reading = Reading (Err e)
+
+abbrev pub GivesBy : {Y : Type 0} → Result Y FileFault → (Result Y FileFault → Type 0) → Type 0
+GivesBy (Ok x) Reading = Reading (Ok x)
+GivesBy (Err e) Reading = FailsBy e Reading
+
+abbrev pub MovesBy : {X Y : Type 0} → (X → Y) → Result X FileFault → Place → (Result (Y × Place) FileFault → Type 0) → Type 0
+MovesBy view (Ok x) after Reading = Reading (Ok (view x, after))
+MovesBy view (Err e) after Reading = FailsBy e Reading
+
+-- What a line after an arc was, and one after the head or a job.
 abbrev pub AfterArc : Result Bool FileFault → Draft → Place → Draft → Place → Type 0
-AfterArc (Ok true) d p e q = (n : ℕ) → arcs_at (suc n) d p ≡ arcs_at n e q
-AfterArc (Ok false) d p e q = (n : ℕ) → arcs_at (suc n) d p ≡ Ok (e, q)
-AfterArc (Err fault) d p e q = (n : ℕ) → Fails fault (arcs_at (suc n) d p)
+AfterArc (Ok true) d p e q = arc_step d p ≡ Ok (arc_read e q)
+AfterArc (Ok false) d p e q = arc_step d p ≡ Ok (end_read e q)
+AfterArc (Err fault) d p e q = Fails fault (arc_step d p)
 
 abbrev pub AfterJob : Class → ℕ → ℕ → Result Next FileFault → Draft → Place → Draft → Place → Type 0
-AfterJob c machines shared (Ok Job) d p e q = (n : ℕ) → jobs_at (suc n) c machines shared d p ≡ jobs_at n c machines shared e q
-AfterJob c machines shared (Ok Arc) d p e q = (n : ℕ) → jobs_at (suc n) c machines shared d p ≡ arcs_at n e q
-AfterJob c machines shared (Ok End) d p e q = (n : ℕ) → jobs_at (suc n) c machines shared d p ≡ Ok (e, q)
-AfterJob c machines shared (Err fault) d p e q = (n : ℕ) → Fails fault (jobs_at (suc n) c machines shared d p)
+AfterJob c machines shared (Ok Job) d p e q = job_step c machines shared d p ≡ Ok (job_read e q)
+AfterJob c machines shared (Ok Arc) d p e q = job_step c machines shared d p ≡ Ok (arc_read e q)
+AfterJob c machines shared (Ok End) d p e q = job_step c machines shared d p ≡ Ok (end_read e q)
+AfterJob c machines shared (Err fault) d p e q = Fails fault (job_step c machines shared d p)
+
+-- The fault is one of the instance that was read: the first broken condition of its class, or a cycle.
+abbrev pub IsFaultOfFiled : Filed → FileFault → Type 0
+IsFaultOfFiled filed (ClassBroken fault name) = IsFirstFault filed.instance fault × (name ≡ faulty_name filed.names fault)
+IsFaultOfFiled filed (Cycle job name) = MeetsConditions text_limits filed.instance × IsLeastOnCycle (length filed.instance.jobs) filed.instance.arcs job × (slice_get filed.names job ≡ Some name)
+IsFaultOfFiled filed Memory = Unit {0}
+IsFaultOfFiled filed _ = ⊥

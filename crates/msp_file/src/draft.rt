@@ -2,9 +2,9 @@
 ghost use Rattle.std.specs.Prelude.{◌≡◌, ◌++◌, ◌∷◌, [], ◌≤◌, ◌<◌, ℕ, List as Items, false, not, length, bytes_eq, MatchResult, Ok, IfOk, OnOk};
 ghost use Rattle.std.specs.List.{list_any};
 ghost use Rattle.msp_instance.specs.declared.ranges.TheConstants.{MOST_JOBS};
-ghost use Rattle.msp_file.specs.Reading.{provided, is_arc_among, with_arc, arc_line_at, job_of, time_in, job_at_line, arcs_at, jobs_at, end_at, Place};
+ghost use Rattle.msp_file.specs.Reading.{provided, is_arc_among, with_arc, arc_line_at, job_of, time_in, job_at_line, arc_step, job_step, ReadsArcs, ReadsJobs, end_read, end_at, Place};
 ghost use Rattle.msp_file.specs.declared.draft.Draft.{Draft as DraftValue};
-ghost use Rattle.msp_file.specs.Steps.{Gives, Moves, AfterArc, AfterJob, place_of, fields_after};
+ghost use Rattle.msp_file.specs.Steps.{Gives, Moves, MovesBy, AfterArc, AfterJob, place_of, fields_after};
 
 use crate::arcs::Arcs;
 use crate::curve::curve_at;
@@ -142,7 +142,7 @@ fn arc_line_at(at: u32, draft: &mut Draft, fields: &[u8]) -> Result<(), FileFaul
 
 /// The last line.
 fn end_line(at: u32, word: &[u8], fields: &[u8]) -> Result<(), FileFault>
-    ensures { (d : DraftValue) (p : Place) (ws : Items (Items ℕ)) → ws ≡ word.now ∷ fields_after fields.now → Gives (λ _. (d, p)) result (end_at at d ws p) }
+    ensures { (d : DraftValue) (p : Place) (ws : Items (Items ℕ)) → ws ≡ word.now ∷ fields_after fields.now → Gives (λ _. end_read d p) result (end_at at d ws p) }
 {
     if *word != *b"end".as_slice() {
         return Err(FileFault::Line { at });
@@ -154,7 +154,7 @@ fn end_line(at: u32, word: &[u8], fields: &[u8]) -> Result<(), FileFault>
 }
 
 /// Reads a line after an arc, and answers whether it is an arc.
-#[tactic(auto, unfolding(crate::specs::Reading::arcs_at))]
+#[tactic(auto, unfolding(crate::specs::Reading::arc_step))]
 fn arc_step(draft: &mut Draft, lines: &mut Lines<'_>) -> Result<bool, FileFault>
     requires { length draft.old.names ≤ MOST_JOBS }
     ensures after { AfterArc result draft.old (place_of lines.old) draft.new (place_of lines.new) }
@@ -178,7 +178,7 @@ fn arcs_at(draft: &mut Draft, lines: &mut Lines<'_>) -> Result<(), FileFault>
     requires { length draft.old.names ≤ MOST_JOBS }
     ensures names { OnOk result (draft.new.names ≡ draft.old.names) }
     ensures jobs { OnOk result (draft.new.jobs ≡ draft.old.jobs) }
-    ensures moves { (n : ℕ) → length lines.old.rest.now < n → Moves (λ _. draft.new) result (place_of lines.new) (arcs_at n draft.old (place_of lines.old)) }
+    ensures moves { MovesBy (λ _. draft.new) result (place_of lines.new) (ReadsArcs draft.old (place_of lines.old)) }
 {
     'lines: loop {
         match arc_step(draft, lines) {
@@ -190,7 +190,7 @@ fn arcs_at(draft: &mut Draft, lines: &mut Lines<'_>) -> Result<(), FileFault>
 }
 
 /// Reads a line after the head or after a job, with the lines of the job that it begins.
-#[tactic(auto, unfolding(crate::specs::Reading::jobs_at))]
+#[tactic(auto, unfolding(crate::specs::Reading::job_step))]
 fn job_step(
     alloc: Global,
     frame: Frame,
@@ -229,7 +229,7 @@ pub(crate) fn jobs_at(
     requires even { length draft.old.names ≡ length draft.old.jobs }
     requires few { length draft.old.names ≤ MOST_JOBS }
     ensures even { OnOk result (length draft.new.names ≡ length draft.new.jobs) }
-    ensures moves { (n : ℕ) → length lines.old.rest.now < n → Moves (λ _. draft.new) result (place_of lines.new) (jobs_at n frame.class frame.machines frame.time draft.old (place_of lines.old)) }
+    ensures moves { MovesBy (λ _. draft.new) result (place_of lines.new) (ReadsJobs frame.class frame.machines frame.time draft.old (place_of lines.old)) }
 {
     'lines: loop {
         match job_step(alloc, frame, draft, lines) {

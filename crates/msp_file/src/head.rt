@@ -1,7 +1,7 @@
 // The lines before those of the jobs.
 ghost use Rattle.std.specs.Prelude.{◌≡◌, ◌+◌, ◌++◌, ◌∷◌, ◌<◌, ◌≤◌, ◌^◌, [], ℕ, List as Items, length, All, IfOk, OnOk, MatchResult};
-ghost use Rattle.msp_instance.specs.declared.ranges.TheConstants.{GREATEST_SPEED, GREATEST_MULTIPLE};
-ghost use Rattle.msp_file.specs.Reading.{fields_of, version_at, class_in, class_at, machines_line_at, machines_at, have_multiple, speeds_in, speeds_line_at, speeds_at, time_line_at, time_at};
+ghost use Rattle.msp_instance.specs.declared.ranges.TheConstants.{GREATEST_SPEED};
+ghost use Rattle.msp_file.specs.Reading.{fields_of, version_at, class_in, class_at, machines_line_at, machines_at, speeds_in, speeds_line_at, speeds_at, time_line_at, time_at};
 ghost use Rattle.msp_file.specs.Steps.{Fails, Gives, Leads, Moves, place_of, fields_after};
 
 use crate::fault::{FileFault, What};
@@ -10,7 +10,7 @@ use crate::number::natural_at;
 use crate::place::Lines;
 use msp_class::{Class, Env, List, Times, fixed_machines};
 use msp_grammar::{has_speeds, has_time_line};
-use msp_instance::{GREATEST_EQUAL_TIME, GREATEST_SPEED, MOST_MACHINES, has_small_multiple};
+use msp_instance::{GREATEST_EQUAL_TIME, GREATEST_SPEED, MOST_MACHINES};
 use msp_name::parse;
 use std::alloc::Global;
 
@@ -116,14 +116,6 @@ fn speeds_in(alloc: Global, at: u32, fields: &[u8]) -> Result<List<u64>, FileFau
     Ok(speeds)
 }
 
-/// Whether the least common multiple of the speeds is in range.
-fn have_multiple(speeds: &[u64]) -> bool
-    requires { All (λ s. (1 ≤ s) × (s ≤ GREATEST_SPEED)) speeds.now }
-    ensures { result ≡ have_multiple GREATEST_MULTIPLE speeds.now }
-{
-    has_small_multiple(speeds)
-}
-
 /// The line with the speeds of the machines.
 #[tactic(auto, unfolding(crate::specs::Reading::speeds_line_at))]
 fn speeds_line_at(
@@ -131,7 +123,8 @@ fn speeds_line_at(
     machines: u32,
     lines: &mut Lines<'_>,
 ) -> Result<List<u64>, FileFault>
-    ensures { Moves (λ x. x) result (place_of lines.new) (speeds_line_at machines (place_of lines.old)) }
+    ensures moves { Moves (λ x. x) result (place_of lines.new) (speeds_line_at machines (place_of lines.old)) }
+    ensures range { IfOk result (λ speeds. All (λ s. (1 ≤ s) × (s ≤ GREATEST_SPEED)) speeds) }
 {
     let at = lines.at;
     match worded_at(lines, b"speeds") {
@@ -139,18 +132,7 @@ fn speeds_line_at(
             if count_fields(fields) != machines as usize {
                 return Err(FileFault::Count { at });
             }
-            match speeds_in(alloc, at, fields) {
-                Ok(speeds) => {
-                    if !have_multiple(speeds.as_slice()) {
-                        return Err(FileFault::Limit {
-                            at,
-                            what: What::Multiple,
-                        });
-                    }
-                    Ok(speeds)
-                }
-                Err(fault) => Err(fault),
-            }
+            speeds_in(alloc, at, fields)
         }
         Err(fault) => Err(fault),
     }
@@ -164,7 +146,8 @@ pub(crate) fn speeds_at(
     machines: u32,
     lines: &mut Lines<'_>,
 ) -> Result<List<u64>, FileFault>
-    ensures { Moves (λ x. x) result (place_of lines.new) (speeds_at env machines (place_of lines.old)) }
+    ensures moves { Moves (λ x. x) result (place_of lines.new) (speeds_at env machines (place_of lines.old)) }
+    ensures range { IfOk result (λ speeds. All (λ s. (1 ≤ s) × (s ≤ GREATEST_SPEED)) speeds) }
 {
     if has_speeds(env) {
         return speeds_line_at(alloc, machines, lines);

@@ -50,12 +50,7 @@ fn take_time<'a>(
 
 /// One time for each machine in order.
 #[tactic(auto, unfolding(crate::specs::Reading::times_at))]
-fn times_at(
-    alloc: Global,
-    at: u32,
-    least: u64,
-    fields: &[u8],
-) -> Result<List<Need>, FileFault>
+fn times_at(alloc: Global, at: u32, least: u64, fields: &[u8]) -> Result<List<Need>, FileFault>
     requires { length fields.now < 2 ^ 32 }
     ensures { Gives (λ x. x) result (times_at at least [] (fields_after fields.now)) }
 {

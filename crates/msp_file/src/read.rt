@@ -3,19 +3,19 @@ ghost use Rattle.std.specs.Prelude.{◌≡◌, ℕ, ◌+◌, ◌<◌, ◌≤◌,
 ghost use Rattle.msp_instance.specs.declared.Instance.{Instance as InstanceValue};
 ghost use Rattle.msp_instance.specs.Conditions.{MeetsConditions, text_limits, IsAcyclic};
 ghost use Rattle.msp_file.specs.declared.read.TheConstants.{MOST_BYTES};
-ghost use Rattle.msp_file.specs.Answers.{faulty_name, IsFaultOf, IsTextFault, IsAnswerTo};
+ghost use Rattle.msp_file.specs.Answers.{faulty_name, IsTextFault, IsAnswerTo};
 ghost use Rattle.msp_grammar.specs.InstanceText.{IsInstanceText};
-ghost use Rattle.msp_file.specs.Reading.{front_at, filed_at, filed_of, no_draft, jobs_at};
-ghost use Rattle.msp_file.specs.Steps.{Gives, Moves, place_of};
+ghost use Rattle.msp_file.specs.Reading.{Reads, ReadsRest, ReadsSpeeds, filed_of, no_draft};
+ghost use Rattle.msp_file.specs.Steps.{Gives, GivesBy, IsFaultOfFiled, place_of};
 
 use crate::arcs::Arcs;
 use crate::draft::{Draft, Frame, jobs_at};
-use crate::fault::FileFault;
+use crate::fault::{FileFault, What};
 use crate::head::{class_at, machines_at, speeds_at, time_at, version_at};
 use crate::place::Lines;
 use msp_class::{Class, List};
 use msp_grammar::Filed;
-use msp_instance::{ClassFault, Instance, OrderFault, check, forward};
+use msp_instance::{ClassFault, Instance, OrderFault, check, forward, has_small_multiple};
 use msp_job_name::{JobName, Names};
 use std::alloc::Global;
 
@@ -57,56 +57,73 @@ fn filed_of(
     })
 }
 
-/// Reads the lines after the head.
-fn draft_at(
+/// Reads the lines after the head, which are all of the text.
+#[tactic(auto, using(crate::proofs::Readings::rest_rules))]
+fn rest_at(
     alloc: Global,
     frame: Frame,
+    speeds: List<u64>,
     lines: &mut Lines<'_>,
-) -> Result<Draft, FileFault>
-    ensures even { IfOk result (λ d. length d.names ≡ length d.jobs) }
-    ensures moves { Moves (λ d. d) result (place_of lines.new) (jobs_at (length lines.old.rest.now + 1) frame.class frame.machines frame.time no_draft (place_of lines.old)) }
+) -> Result<Filed, FileFault>
+    ensures even { IfOk result (λ f. length f.names ≡ length f.instance.jobs) }
+    ensures gives { GivesBy result (ReadsRest frame.class frame.machines speeds frame.time (place_of lines.old)) }
 {
     let mut draft = no_draft(alloc);
     match jobs_at(alloc, frame, &mut draft, lines) {
-        Ok(()) => Ok(draft),
+        Ok(()) => {
+            if !lines.rest.is_empty() {
+                return Err(FileFault::After { at: lines.at });
+            }
+            filed_of(alloc, frame.class, frame.machines, speeds, draft)
+        }
         Err(fault) => Err(fault),
     }
 }
 
-/// Reads the lines of an instance at the front of a text.
-#[tactic(auto, unfolding(crate::specs::Reading::front_at))]
-fn front_at(alloc: Global, bytes: &[u8], lines: &mut Lines<'_>) -> Result<Filed, FileFault>
-    requires { place_of lines.old ≡ record { at = 1; rest = bytes.now } }
+/// Reads the lines after those of the machines.
+#[tactic(auto, using(crate::proofs::Readings::speeds_rules))]
+fn speeds_on(
+    alloc: Global,
+    class: Class,
+    machines: u32,
+    lines: &mut Lines<'_>,
+) -> Result<Filed, FileFault>
     ensures even { IfOk result (λ f. length f.names ≡ length f.instance.jobs) }
-    ensures moves { Moves (λ x. x) result (place_of lines.new) (front_at bytes.now) }
+    ensures gives { GivesBy result (ReadsSpeeds class machines (place_of lines.old)) }
 {
-    version_at(lines)?;
-    let class = class_at(lines)?;
-    let machines = machines_at(class.env, lines)?;
+    let at = lines.at;
     let speeds = speeds_at(alloc, class.env, machines, lines)?;
-    let time = time_at(class.times, lines)?;
-    let frame = Frame {
-        class,
-        machines,
-        time,
-    };
-    let draft = draft_at(alloc, frame, lines)?;
-    filed_of(alloc, class, machines, speeds, draft)
+    if !has_small_multiple(speeds.as_slice()) {
+        return Err(FileFault::Limit {
+            at,
+            what: What::Multiple,
+        });
+    }
+    match time_at(class.times, lines) {
+        Ok(time) => {
+            let frame = Frame {
+                class,
+                machines,
+                time,
+            };
+            rest_at(alloc, frame, speeds, lines)
+        }
+        Err(fault) => Err(fault),
+    }
 }
 
-/// Reads the lines of an instance that are all of a text.
-#[tactic(auto, unfolding(crate::specs::Reading::filed_at))]
+/// Reads the lines of a text, which are those of one instance.
+#[tactic(auto, unfolding(crate::specs::Reading::Reads), using(crate::proofs::Readings::then_rules))]
 fn filed_at(alloc: Global, bytes: &[u8]) -> Result<Filed, FileFault>
     requires { length bytes.now ≤ MOST_BYTES }
     ensures even { IfOk result (λ f. length f.names ≡ length f.instance.jobs) }
-    ensures gives { Gives (λ x. x) result (filed_at bytes.now) }
+    ensures gives { GivesBy result (Reads bytes.now) }
 {
     let mut lines = Lines { at: 1, rest: bytes };
-    let filed = front_at(alloc, bytes, &mut lines)?;
-    if !lines.rest.is_empty() {
-        return Err(FileFault::After { at: lines.at });
-    }
-    Ok(filed)
+    version_at(&mut lines)?;
+    let class = class_at(&mut lines)?;
+    let machines = machines_at(class.env, &mut lines)?;
+    speeds_on(alloc, class, machines, &mut lines)
 }
 
 /// The name of the job that a fault of the class names, if it names one.
@@ -132,7 +149,7 @@ fn faulty_name(names: &Names, fault: ClassFault) -> Option<JobName>
 
 /// The first condition that the instance breaks, as a fault of its text.
 fn check_class(filed: &Filed) -> Result<(), FileFault>
-    ensures { MatchResult result (λ _. MeetsConditions text_limits filed.now.instance) (λ e. IsFaultOf (Ok filed.now) e) }
+    ensures { MatchResult result (λ _. MeetsConditions text_limits filed.now.instance) (λ e. IsFaultOfFiled filed.now e) }
 {
     match check(&filed.instance) {
         Ok(()) => Ok(()),
@@ -147,7 +164,7 @@ fn check_class(filed: &Filed) -> Result<(), FileFault>
 fn check_order(alloc: Global, filed: &Filed) -> Result<(), FileFault>
     requires conditions { MeetsConditions text_limits filed.now.instance }
     requires even { length filed.now.names ≡ length filed.now.instance.jobs }
-    ensures { MatchResult result (λ _. IsAcyclic filed.now.instance) (λ e. IsFaultOf (Ok filed.now) e) }
+    ensures { MatchResult result (λ _. IsAcyclic filed.now.instance) (λ e. IsFaultOfFiled filed.now e) }
 {
     match forward(alloc, &filed.instance) {
         Ok(_) => Ok(()),
@@ -164,7 +181,7 @@ fn check_order(alloc: Global, filed: &Filed) -> Result<(), FileFault>
 #[tactic(auto, using(crate::proofs::AnswerLemmas::answer_rules, crate::proofs::AnswerLaws::text_rules))]
 pub fn read_instance(alloc: Global, bytes: &[u8]) -> Result<Filed, FileFault>
     requires { length bytes.now ≤ MOST_BYTES }
-    ensures answer { IsAnswerTo (filed_at bytes.now) result }
+    ensures answer { IsAnswerTo bytes.now result }
     ensures named { IfOk result (λ f. length f.names ≡ length f.instance.jobs) }
     // What is read is the text of the instance.
     ensures text { IfOk result (λ f. IsInstanceText bytes.now f.instance f.names) }

@@ -9,11 +9,11 @@ ghost use Rattle.msp_grammar.specs.Printing.{spaced};
 ghost use Rattle.msp_grammar.specs.ScheduleText.{name_at};
 
 use crate::filed::Filed;
-use crate::layout::{has_route, has_speeds, has_time_key, has_time_line, has_times, has_times_line};
-use crate::schedule_printer::put_name;
-use msp_class::{
-    Class, Env, NoMemory, Times, fixed_machines, uses_curve, uses_due, uses_weight,
+use crate::layout::{
+    has_route, has_speeds, has_time_key, has_time_line, has_times, has_times_line,
 };
+use crate::schedule_printer::put_name;
+use msp_class::{Class, Env, NoMemory, Times, fixed_machines, uses_curve, uses_due, uses_weight};
 use msp_instance::{Arc, Curve, Instance, Job, Need, Step, common_time, first_time};
 use msp_job_name::Names;
 use msp_name::print;

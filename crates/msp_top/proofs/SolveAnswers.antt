@@ -2,7 +2,6 @@
 use Rattle.std.proofs.Common.{◌≡◌, ◌≢◌, ℕ, ◌≤◌, List, ◌++◌, length, Option, Some, IfOk, Result, Ok, Err, sym, ◌∙◌, subst, codes}
 use Rattle.msp_file.specs.declared.fault.FileFault.{FileFault}
 use Rattle.msp_grammar.specs.declared.filed.Filed.{Filed}
-use Rattle.msp_file.specs.Reading.{filed_at}
 use Rattle.msp_file.specs.Answers.{IsFaultOf}
 use Rattle.msp_grammar.specs.InstanceText.{IsInstanceText}
 use Rattle.msp_top.specs.declared.answers.Answer.{Answer}
@@ -30,5 +29,5 @@ no_chain_right input c names i short read other solved =
     let P : Class → Type 0 = λ d. SolveIsRight input (Some d) (refusal 6 (codes "no chain to " ++ name_of d)) in
     subst P (sym solved) (no_chain names i short read other)
 
-pub misread_right : (input : List ℕ) (at : Option Class) (fault : FileFault) (found : Option ℕ) (status : ℕ) → length input ≤ input_limit → IsFaultOf (filed_at input) fault → found ≡ file_status fault → found ≡ Some status → SolveIsRight input at (refusal status (file_text fault))
+pub misread_right : (input : List ℕ) (at : Option Class) (fault : FileFault) (found : Option ℕ) (status : ℕ) → length input ≤ input_limit → IsFaultOf input fault → found ≡ file_status fault → found ≡ Some status → SolveIsRight input at (refusal status (file_text fault))
 misread_right input at fault found status short first e is = misread at fault status short first (sym e ∙ is)

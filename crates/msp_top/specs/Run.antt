@@ -23,7 +23,6 @@ use Rattle.msp_schedule.specs.Cost.{IsBest}
 use Rattle.msp_schedule.specs.Fraction.{IsLowest}
 use Rattle.msp_schedule.specs.Settled.{IsSettled}
 use Rattle.msp_file.specs.declared.fault.FileFault.{FileFault}
-use Rattle.msp_file.specs.Reading.{filed_at}
 use Rattle.msp_file.specs.Answers.{IsFaultOf}
 use Rattle.msp_grammar.specs.InstanceText.{IsInstanceText}
 use Rattle.msp_top.specs.Smith.{smith_class}
@@ -114,7 +113,7 @@ IsNamed (Some named) c = named ≡ c
 -- long. Today one class has a solver, and no reduction is carried.
 pub data SolveIsRight (input : List ℕ) : Option Class → Outcome → Type 0 where
   solved : (at : Option Class) (text : List ℕ) → length input ≤ input_limit → IsNamed at smith_class → IsSolveReport input text → SolveIsRight input at (report 0 text)
-  misread : (at : Option Class) (fault : FileFault) (status : ℕ) → length input ≤ input_limit → IsFaultOf (filed_at input) fault → file_status fault ≡ Some status → SolveIsRight input at (refusal status (file_text fault))
+  misread : (at : Option Class) (fault : FileFault) (status : ℕ) → length input ≤ input_limit → IsFaultOf input fault → file_status fault ≡ Some status → SolveIsRight input at (refusal status (file_text fault))
   no_solver : (names : List (List ℕ)) (i : Instance) → length input ≤ input_limit → IsInstanceText input i names → i.class ≢ smith_class → SolveIsRight input None (refusal 5 (codes "no solver for " ++ name_of i.class))
   not_solved : (c : Class) (names : List (List ℕ)) (i : Instance) → length input ≤ input_limit → IsInstanceText input i names → c ≢ smith_class → SolveIsRight input (Some c) (refusal 6 (name_of c ++ codes " is not solved"))
   no_chain : (names : List (List ℕ)) (i : Instance) → length input ≤ input_limit → IsInstanceText input i names → i.class ≢ smith_class → SolveIsRight input (Some smith_class) (refusal 6 (codes "no chain to " ++ name_of smith_class))

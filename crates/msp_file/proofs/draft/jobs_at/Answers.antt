@@ -1,7 +1,8 @@
-use Rattle.std.proofs.Common.{subst}
-use Rattle.msp_file.specs.Reading.{jobs_at, arcs_at}
-use Rattle.msp_file.specs.Steps.{place_of, Moves}
-use Rattle.msp_file.proofs.Loops.{goes_on, is_done, has_failed, leads_on}
+-- The goals of `jobs_at` that are proved by lemmas.
+use Rattle.std.proofs.Common.{refl}
+use Rattle.msp_file.specs.Reading.{job_then, arc_after, jobs_end}
+use Rattle.msp_file.specs.Steps.{place_of}
+use Rattle.msp_file.proofs.Readings.{job_fails, fails_on, moves_on}
 use Rattle.msp_file.proofs.draft.jobs_at.Goals as goal
 
 pub lines-preserved : goal.lines-preserved
@@ -10,21 +11,18 @@ lines-preserved c =
     let step = rw c.in-Ok-Job.field-0-is at says.after in (
       says.even,
       says.few,
-      λ n h. goes_on (λ k. jobs_at k c.args.frame.class c.args.frame.machines c.args.frame.time) (jobs_at n c.args.frame.class c.args.frame.machines c.args.frame.time c.args.draft.now (place_of c.args.lines.now)) c.lines.draft c.job_step.new.draft (place_of c.lines.lines) (place_of c.job_step.new.lines) (c.lines.invariant.2 n h) step says.shrinks,
+      λ read h. c.lines.invariant.2 read (job_then c.lines.draft c.job_step.new.draft (place_of c.lines.lines) (place_of c.job_step.new.lines) read step h),
     )
 
 pub returns-in-Ok-Arc-clause-moves : goal.returns-in-Ok-Arc-clause-moves
-returns-in-Ok-Arc-clause-moves c = λ n h.
-    let says = c.in-Ok-Arc.ensures in
-    let step = rw c.in-Ok-Arc.field-0-is at says.after in
-    let on = leads_on (λ k. jobs_at k c.args.frame.class c.args.frame.machines c.args.frame.time) arcs_at (jobs_at n c.args.frame.class c.args.frame.machines c.args.frame.time c.args.draft.now (place_of c.args.lines.now)) c.lines.draft c.job_step.new.draft (place_of c.lines.lines) (place_of c.job_step.new.lines) (c.lines.invariant.2 n h) step says.shrinks in
-    subst (λ r. Moves (λ _. c.arcs_at.new.draft) c.arcs_at.result (place_of c.arcs_at.new.lines) r) on.same (c.arcs_at.ensures.moves on.lines on.enough)
+returns-in-Ok-Arc-clause-moves c =
+    let step = rw c.in-Ok-Arc.field-0-is at c.in-Ok-Arc.ensures.after in
+    moves_on (λ _. c.arcs_at.new.draft) c.arcs_at.result (place_of c.arcs_at.new.lines) _ _ (λ read h. c.lines.invariant.2 read (arc_after c.lines.draft c.job_step.new.draft (place_of c.lines.lines) (place_of c.job_step.new.lines) read step h)) c.arcs_at.ensures.moves
 
 pub returns-in-Ok-End-clause-moves : goal.returns-in-Ok-End-clause-moves
-returns-in-Ok-End-clause-moves c = λ n h.
+returns-in-Ok-End-clause-moves c =
     let step = rw c.in-Ok-End.field-0-is at c.in-Ok-End.ensures.after in
-    is_done (λ k. jobs_at k c.args.frame.class c.args.frame.machines c.args.frame.time) (jobs_at n c.args.frame.class c.args.frame.machines c.args.frame.time c.args.draft.now (place_of c.args.lines.now)) c.lines.draft c.job_step.new.draft (place_of c.lines.lines) (place_of c.job_step.new.lines) (c.lines.invariant.2 n h) step
+    c.lines.invariant.2 _ (jobs_end c.lines.draft c.job_step.new.draft (place_of c.lines.lines) (place_of c.job_step.new.lines) _ step refl)
 
 pub returns-in-Err-clause-moves : goal.returns-in-Err-clause-moves
-returns-in-Err-clause-moves c = λ n h.
-    has_failed (λ k. jobs_at k c.args.frame.class c.args.frame.machines c.args.frame.time) (jobs_at n c.args.frame.class c.args.frame.machines c.args.frame.time c.args.draft.now (place_of c.args.lines.now)) c.lines.draft (place_of c.lines.lines) c.in-Err.fault (c.lines.invariant.2 n h) c.in-Err.ensures.after
+returns-in-Err-clause-moves c = fails_on c.in-Err.fault _ _ c.lines.invariant.2 (job_fails c.args.frame.class c.args.frame.machines c.args.frame.time c.lines.draft (place_of c.lines.lines) c.in-Err.fault c.in-Err.ensures.after)

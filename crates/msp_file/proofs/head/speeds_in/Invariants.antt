@@ -1,3 +1,4 @@
+-- What holds in the loop of `speeds_in`.
 use Rattle.std.proofs.Common.{◌≡◌, ◌≤◌, [], length, All}
 use Rattle.msp_instance.specs.declared.ranges.TheConstants.{GREATEST_SPEED}
 use Rattle.msp_file.specs.Reading.{speeds_in}

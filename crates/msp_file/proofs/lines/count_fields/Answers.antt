@@ -1,3 +1,4 @@
+-- The goals of `count_fields` that are proved by lemmas.
 use Rattle.std.proofs.Common.{◌∙◌, ap, count_by, ◌==◌}
 use Rattle.std.proofs.lemmas.List.{take_rest}
 use Rattle.msp_file.proofs.Fields.{fields_counted}

@@ -1,3 +1,4 @@
+-- The goals of `same_needs` that are proved by lemmas.
 use Rattle.std.proofs.Common.{ap, sym, ◌∙◌, zero-add}
 use Rattle.std.proofs.lemmas.List.FromFn.{map-range_with_len_more}
 use Rattle.msp_file.specs.Reading.{with_need}

@@ -1,3 +1,4 @@
+-- What holds in the loop of `same_needs`.
 use Rattle.std.proofs.Common.{◌≡◌, map}
 use Rattle.std.specs.List.{range_with_len}
 use Rattle.msp_file.proofs.operations.same_needs.Given as goal

@@ -1,3 +1,4 @@
+-- The goals of `take_timed` that are proved by lemmas.
 use Rattle.std.proofs.Common.{◌<◌, ◌∷◌, ap, ◌∙◌, length, rules}
 use Rattle.msp_file.proofs.Pairs.{timed_next}
 use Rattle.msp_file.specs.Steps.{fields_after}

@@ -1,3 +1,4 @@
+-- What holds in the loop of `times_at`.
 use Rattle.std.proofs.Common.{◌≡◌, ◌+◌, ◌≤◌, [], length}
 use Rattle.msp_file.specs.Reading.{times_at}
 use Rattle.msp_file.specs.Steps.{fields_after}

@@ -1,3 +1,4 @@
+-- The goals of `read_instance` that are proved by lemmas.
 use Rattle.msp_file.proofs.AnswerLaws.{again_read}
 use Rattle.msp_file.proofs.read.read_instance.Goals as goal
 

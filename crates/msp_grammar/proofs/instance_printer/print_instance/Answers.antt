@@ -1,3 +1,4 @@
+-- The goals of `print_instance` that are proved by lemmas.
 use Rattle.std.proofs.Common.{ap, ◌++◌, ◌∙◌}
 use Rattle.msp_name.specs.Names.{name_of}
 use Rattle.msp_name.proofs.PrintLemmas.{name_of-NameOf}

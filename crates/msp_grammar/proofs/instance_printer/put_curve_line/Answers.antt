@@ -1,3 +1,4 @@
+-- The goals of `put_curve_line` that are proved by lemmas.
 use Rattle.std.proofs.Common.{codes, ◌∷◌, decimal}
 use Rattle.std.specs.Fmt.{signed_decimal}
 use Rattle.std.specs.List.{flat_map}

@@ -1,3 +1,4 @@
+-- The goals of `put_job_line` that are proved by lemmas.
 use Rattle.std.proofs.Common.{codes, ◌∷◌}
 use Rattle.msp_grammar.specs.InstanceText.{key_fields}
 use Rattle.msp_grammar.proofs.PrintLemmas.{on_ok, line_put}

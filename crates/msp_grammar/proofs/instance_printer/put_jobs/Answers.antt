@@ -1,3 +1,4 @@
+-- The goals of `put_jobs` that are proved by lemmas.
 use Rattle.std.proofs.Common.{◌<◌, length, arith}
 use Rattle.msp_grammar.proofs.PrintLemmas.{jobs_step}
 use Rattle.msp_grammar.proofs.instance_printer.put_jobs.Goals as goal

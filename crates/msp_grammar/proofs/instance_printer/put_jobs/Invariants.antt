@@ -1,3 +1,4 @@
+-- What holds in the loop of `put_jobs`.
 use Rattle.std.proofs.Common.{◌≡◌, ◌++◌, drop}
 use Rattle.msp_grammar.specs.InstanceText.{jobs_text}
 use Rattle.msp_grammar.proofs.instance_printer.put_jobs.Given as goal

@@ -1,3 +1,4 @@
+-- What holds in the loop of `put_operations`.
 use Rattle.std.proofs.Common.{◌≡◌, ◌++◌, drop}
 use Rattle.std.specs.List.{flat_map}
 use Rattle.msp_grammar.specs.InstanceText.{operation_fields}

@@ -1,3 +1,4 @@
+-- What holds in the loop of `put_speed_fields`.
 use Rattle.std.proofs.Common.{◌≡◌, ◌++◌, drop, map, decimal}
 use Rattle.msp_grammar.specs.Printing.{spaced}
 use Rattle.msp_grammar.proofs.instance_printer.put_speed_fields.Given as goal

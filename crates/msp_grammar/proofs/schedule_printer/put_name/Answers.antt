@@ -1,3 +1,4 @@
+-- The goals of `put_name` that are proved by lemmas.
 use Rattle.std.proofs.Common.{◌≡◌, [], ap, ◌∙◌, sym}
 use Rattle.std.specs.Option.{unwrap_or}
 use Rattle.std.proofs.lemmas.List.{append-nil}

@@ -1,3 +1,4 @@
+-- What holds in the loop of `put_pieces`.
 use Rattle.std.proofs.Common.{◌≡◌, ◌++◌, drop}
 use Rattle.msp_grammar.specs.ScheduleText.{piece_lines}
 use Rattle.msp_grammar.proofs.schedule_printer.put_pieces.Given as goal

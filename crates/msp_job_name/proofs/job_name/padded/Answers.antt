@@ -1,3 +1,4 @@
+-- The goals of `padded` that are proved by lemmas.
 use Rattle.std.proofs.Common.{length, ap, ◌++◌, ◌∙◌, drop, replicate}
 use Rattle.std.proofs.lemmas.List.{drop-replicate}
 use Rattle.msp_job_name.proofs.job_name.padded.Goals as goal

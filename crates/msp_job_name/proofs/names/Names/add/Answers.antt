@@ -1,3 +1,4 @@
+-- The goals of `add` that are proved by lemmas.
 use Rattle.std.proofs.Common.{bytes_eq, not, ap, ◌∙◌}
 use Rattle.std.specs.List.{list_any}
 use Rattle.indexmap.specs.IndexSet.{insert_key}

@@ -1,3 +1,4 @@
+-- The goals of `gather` that are proved by lemmas.
 use Rattle.msp_job_name.proofs.NameLists.{gathered_next}
 use Rattle.msp_job_name.proofs.names.Names.gather.Goals as goal
 

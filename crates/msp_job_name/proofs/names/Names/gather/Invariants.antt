@@ -1,3 +1,4 @@
+-- What holds in the loop of `gather`.
 use Rattle.msp_job_name.proofs.NameLists.{IsGathered}
 use Rattle.msp_job_name.proofs.names.Names.gather.Given as goal
 

@@ -1,3 +1,4 @@
+-- The goals of `place` that are proved by lemmas.
 use Rattle.std.proofs.Common.{bytes_eq, position, ap, ◌∙◌}
 use Rattle.std.specs.List.{list_any}
 use Rattle.msp_job_name.proofs.NameLists.{placed}
