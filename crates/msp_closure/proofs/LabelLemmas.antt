@@ -16,8 +16,7 @@ use Rattle.msp_table.specs.Chains.{Reaches}
 use Rattle.msp_closure.specs.declared.entry.Entry.{Entry}
 use Rattle.msp_closure.specs.declared.entry.Mark.{Mark}
 use Rattle.msp_closure.specs.declared.entry.Mark.TheVariants.{Easy, Pseudo, Weak, Hard, Strong, Torn, Both, Unsettled}
-use Rattle.msp_closure.specs.Entries.{pseudo_listed, LeadsToOne, IsLedTo, IsEasy, IsHard, IsStrong, Applies, label_number, Says, AreLabels}
-use Rattle.msp_closure.specs.Tables.{mark_of}
+use Rattle.msp_closure.specs.Entries.{pseudo_listed, LeadsToOne, IsLedTo, IsEasy, IsHard, IsStrong, Applies, label_number, Says, AreLabels, mark_of}
 use Rattle.msp_closure.specs.Relation.{relates, IsReach}
 
 -- a test of four answers that passes everywhere

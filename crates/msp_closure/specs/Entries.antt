@@ -30,6 +30,13 @@ abbrev pub is_strong : Verdict → Bool
 is_strong verdict.Strong = true
 is_strong _ = false
 
+-- whether a verdict makes the claim of another
+abbrev pub makes : Verdict → Verdict → Bool
+makes verdict.Easy = is_easy
+makes verdict.Pseudo = is_pseudo
+makes verdict.Hard = is_hard
+makes verdict.Strong = is_strong
+
 -- the classes of the entries whose verdict passes the test, in the order of the entries
 abbrev pub listed : (Verdict → Bool) → List Entry → List Class
 listed test es = map (λ e. e.class) (filter (λ e. test e.verdict) es)
@@ -95,6 +102,17 @@ label_number Unsettled = 7
 -- the mark is the first that applies to the class
 abbrev pub Says : List Entry → Class → Mark → Type 0
 Says es c m = Applies es c m × ((other : Mark) → label_number other < label_number m → ¬ Applies es c other)
+
+-- the mark of a class by four tests: whether it is easy, pseudopolynomial or easy, hard, and strongly hard
+abbrev pub mark_of : Bool → Bool → Bool → Bool → Mark
+mark_of true p true s = Both
+mark_of true p false s = Easy
+mark_of false true h true = Torn
+mark_of false true true false = Weak
+mark_of false true false false = Pseudo
+mark_of false false h true = Strong
+mark_of false false true false = Hard
+mark_of false false false false = Unsettled
 
 -- the labels of the entries: one mark for each class in order of rank, and each says what holds
 pub record AreLabels (es : List Entry) (marks : List Mark) : Type 0 where

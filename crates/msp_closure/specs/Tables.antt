@@ -19,13 +19,6 @@ allows Every = every_row
 allows Carrying = carries
 allows KeepsSize = keeps_size
 
--- whether a verdict makes the claim of another
-abbrev pub makes : Verdict → Verdict → Bool
-makes verdict.Easy = is_easy
-makes verdict.Pseudo = is_pseudo
-makes verdict.Hard = is_hard
-makes verdict.Strong = is_strong
-
 -- a number kept for each class, by rank
 abbrev pub value_of : List ℕ → Class → ℕ
 value_of table c = slice_index table (rank_of c)
@@ -38,14 +31,3 @@ is_marked table c = slice_index_or table (rank_of c) false
 pub record AreDistances (usable : ℕ → Bool) (wanted : List Class) (table : List ℕ) : Type 0 where
   pub near : (c : Class) → value_of table c ≢ FAR → IsDistance usable wanted c (value_of table c)
   pub all : (c : Class) (ks : List ℕ) → LeadsInto usable wanted c ks → value_of table c ≢ FAR
-
--- the mark of a class by four tests: whether it is easy, pseudopolynomial or easy, hard, and strongly hard
-abbrev pub mark_of : Bool → Bool → Bool → Bool → Mark
-mark_of true p true s = Both
-mark_of true p false s = Easy
-mark_of false true h true = Torn
-mark_of false true true false = Weak
-mark_of false true false false = Pseudo
-mark_of false false h true = Strong
-mark_of false false true false = Hard
-mark_of false false false false = Unsettled

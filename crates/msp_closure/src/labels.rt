@@ -1,8 +1,8 @@
 // The labels of all classes.
 ghost use Rattle.std.specs.Prelude.{◌≡◌, IfOk, slice_get, slice_index_or, length};
 ghost use Rattle.msp_class.specs.Rank.{rank_of};
-ghost use Rattle.msp_closure.specs.Entries.{AreLabels};
-ghost use Rattle.msp_closure.specs.Tables.{is_marked, mark_of};
+ghost use Rattle.msp_closure.specs.Entries.{AreLabels, mark_of};
+ghost use Rattle.msp_closure.specs.Tables.{is_marked};
 ghost use Rattle.msp_class.specs.declared.class.Class.{Class};
 
 use crate::class_table::{ClassTable, class_at};
@@ -73,23 +73,25 @@ fn marked(
         let pseudo = to_pseudo.at(c);
         let hard = from_hard.at(c);
         let strong = from_strong.at(c);
-        table.set(c, mark(easy, pseudo, hard, strong));
+        table.set(c, Mark::of(easy, pseudo, hard, strong));
     }
     Ok(table)
 }
 
-/// The first mark that applies.
-fn mark(easy: bool, pseudo: bool, hard: bool, strong: bool) -> Mark
-    ensures { result ≡ mark_of easy pseudo hard strong }
-{
-    match (easy, pseudo, hard, strong) {
-        (true, _, true, _) => Mark::Both,
-        (true, _, _, _) => Mark::Easy,
-        (_, true, _, true) => Mark::Torn,
-        (_, true, true, _) => Mark::Weak,
-        (_, _, _, true) => Mark::Strong,
-        (_, _, true, _) => Mark::Hard,
-        (_, true, _, _) => Mark::Pseudo,
-        _ => Mark::Unsettled,
+impl Mark {
+    /// The first mark that applies to a class that is easy, pseudopolynomial or easy, hard, and strongly hard, or not.
+    pub fn of(easy: bool, pseudo: bool, hard: bool, strong: bool) -> Mark
+        ensures { result ≡ mark_of easy pseudo hard strong }
+    {
+        match (easy, pseudo, hard, strong) {
+            (true, _, true, _) => Mark::Both,
+            (true, _, _, _) => Mark::Easy,
+            (_, true, _, true) => Mark::Torn,
+            (_, true, true, _) => Mark::Weak,
+            (_, _, _, true) => Mark::Strong,
+            (_, _, true, _) => Mark::Hard,
+            (_, true, _, _) => Mark::Pseudo,
+            _ => Mark::Unsettled,
+        }
     }
 }

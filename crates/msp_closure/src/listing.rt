@@ -1,7 +1,6 @@
 // The classes of a list of known results, by their verdicts.
 ghost use Rattle.std.specs.Prelude.{◌≡◌, IfOk};
-ghost use Rattle.msp_closure.specs.Entries.{listed};
-ghost use Rattle.msp_closure.specs.Tables.{makes};
+ghost use Rattle.msp_closure.specs.Entries.{listed, makes};
 
 use crate::entry::{Entry, Verdict};
 use msp_class::{Class, List, NoMemory};
@@ -18,7 +17,7 @@ pub(crate) fn listed(
     let classes = entries
         .as_slice()
         .iter()
-        .filter(|entry| makes(claim, entry.verdict))
+        .filter(|entry| entry.verdict.makes(claim))
         .map(|entry| entry.class)
         .collect(alloc);
     match classes {
@@ -27,14 +26,16 @@ pub(crate) fn listed(
     }
 }
 
-/// Whether a verdict makes the claim of another: one that is hard in the strong sense is hard.
-fn makes(claim: Verdict, verdict: Verdict) -> bool
-    ensures { result ≡ makes claim verdict }
-{
-    match claim {
-        Verdict::Easy => matches!(verdict, Verdict::Easy),
-        Verdict::Pseudo => matches!(verdict, Verdict::Pseudo),
-        Verdict::Hard => matches!(verdict, Verdict::Hard | Verdict::Strong),
-        Verdict::Strong => matches!(verdict, Verdict::Strong),
+impl Verdict {
+    /// Whether it makes the claim of another: one that is hard in the strong sense is hard.
+    pub fn makes(self, claim: Verdict) -> bool
+        ensures { result ≡ makes claim self }
+    {
+        match claim {
+            Verdict::Easy => matches!(self, Verdict::Easy),
+            Verdict::Pseudo => matches!(self, Verdict::Pseudo),
+            Verdict::Hard => matches!(self, Verdict::Hard | Verdict::Strong),
+            Verdict::Strong => matches!(self, Verdict::Strong),
+        }
     }
 }

@@ -8,8 +8,7 @@ use Rattle.msp_table.specs.declared.row.Chain.{Chain}
 use Rattle.msp_table.specs.Rows.{keeps_size}
 use Rattle.msp_table.specs.Chains.{every_row, Reaches}
 use Rattle.msp_closure.specs.declared.entry.Entry.{Entry}
-use Rattle.msp_closure.specs.Entries.{easy_listed, pseudo_listed, hard_listed, strong_listed, LeadsToOne, IsLedTo, Says, IsWay}
-use Rattle.msp_closure.specs.Tables.{mark_of}
+use Rattle.msp_closure.specs.Entries.{easy_listed, pseudo_listed, hard_listed, strong_listed, LeadsToOne, IsLedTo, Says, IsWay, mark_of}
 use Rattle.msp_closure.proofs.WayLemmas.{IsFirst-has, IsFirst-among, one_is}
 use Rattle.msp_closure.proofs.LabelLemmas.{Says-mark_of}
 

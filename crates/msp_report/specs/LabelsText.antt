@@ -1,11 +1,10 @@
 -- The text of the report of `label`.
-use Rattle.std.specs.Prelude.{ℕ, List, ◌++◌, Option, slice_get, codes}
-use Rattle.std.specs.Option.{unwrap_or}
+use Rattle.std.specs.Prelude.{ℕ, List, ◌++◌, Option, codes}
 use Rattle.std.specs.List.{flat_map}
 use Rattle.msp_class.specs.declared.class.Class.{Class}
-use Rattle.msp_class.specs.Rank.{rank_of}
 use Rattle.msp_name.specs.Names.{name_of}
 use Rattle.msp_table.specs.declared.row.Chain.{Chain}
+use Rattle.msp_closure.specs.Frontier.{mark_at}
 use Rattle.msp_closure.specs.declared.entry.Mark.{Mark}
 use Rattle.msp_closure.specs.declared.entry.Mark.TheVariants.{Easy, Pseudo, Weak, Hard, Strong, Torn, Both, Unsettled}
 use Rattle.msp_report.specs.ChainText.{clash_part, end_line}
@@ -20,10 +19,6 @@ label_text Strong = codes "strong"
 label_text Hard = codes "hard"
 label_text Pseudo = codes "pseudo"
 label_text Unsettled = codes "open"
-
--- the mark of a class in a list with one mark for each class, in order of rank
-abbrev pub mark_at : List Mark → Class → Mark
-mark_at marks c = unwrap_or (slice_get marks (rank_of c)) Unsettled
 
 -- the line of a class: its name and its label
 unfoldable pub label_line : List Mark → Class → List ℕ

@@ -1,5 +1,6 @@
 // The report of `label`.
 ghost use Rattle.std.specs.Prelude.{◌≡◌, ◌++◌, OnOk, IfOk};
+ghost use Rattle.msp_closure.specs.Frontier.{mark_at};
 ghost use Rattle.msp_report.specs.LabelsText.{label_text, label_line, label_lines, labels_report};
 
 use crate::chain_text::{put_clash, put_name};
@@ -25,13 +26,20 @@ pub(crate) fn word(mark: Mark) -> &'static [u8]
     }
 }
 
+/// The word of the mark of a class.
+fn label_word(labels: &Labels, c: Class) -> &'static [u8]
+    ensures { result.now ≡ label_text (mark_at labels.now c) }
+{
+    word(label(labels, c))
+}
+
 #[tactic(auto, unfolding(crate::specs::LabelsText::label_line))]
 fn put_label(out: &mut Vec<u8>, labels: &Labels, c: Class) -> Result<(), NoMemory>
     ensures { OnOk result (out.new.items ≡ out.old.items ++ label_line labels.now c) }
 {
     put_name(out, c)?;
     put(out, b" ")?;
-    put(out, word(label(labels, c)))?;
+    put(out, label_word(labels, c))?;
     put(out, b"\n")
 }
 

@@ -3,8 +3,7 @@ ghost use Rattle.std.specs.Prelude.{◌≡◌, ◌++◌, ◌∷◌, [], ◌+◌,
 ghost use Rattle.std.specs.Option.{is_some};
 ghost use Rattle.msp_table.specs.Rows.{keeps_size};
 ghost use Rattle.msp_table.specs.Chains.{every_row};
-ghost use Rattle.msp_closure.specs.Entries.{easy_listed, pseudo_listed, hard_listed, strong_listed, IsWay};
-ghost use Rattle.msp_closure.specs.Tables.{makes, mark_of};
+ghost use Rattle.msp_closure.specs.Entries.{easy_listed, pseudo_listed, hard_listed, strong_listed, IsWay, makes, mark_of};
 ghost use Rattle.msp_report.specs.WhyText.{source_text, record_line, lists, first_record, last_class, part_to, part_from, upper_part, lower_part, why_head, IsWhyText};
 
 use crate::chain_text::{put_chain, put_clash, put_name};
@@ -38,23 +37,11 @@ fn put_record(out: &mut Vec<u8>, number: usize, entry: &Entry) -> Result<(), NoM
     put(out, b"\n")
 }
 
-/// Whether a verdict makes the claim of another: one that is hard in the strong sense is hard.
-fn makes(claim: Verdict, verdict: Verdict) -> bool
-    ensures { result ≡ makes claim verdict }
-{
-    match claim {
-        Verdict::Easy => matches!(verdict, Verdict::Easy),
-        Verdict::Pseudo => matches!(verdict, Verdict::Pseudo),
-        Verdict::Hard => matches!(verdict, Verdict::Hard | Verdict::Strong),
-        Verdict::Strong => matches!(verdict, Verdict::Strong),
-    }
-}
-
 /// Whether an entry lists a class with a verdict that makes the claim.
 fn lists(claim: Verdict, c: Class, entry: &Entry) -> bool
     ensures { result ≡ lists (makes claim) c entry.now }
 {
-    makes(claim, entry.verdict) && rank(entry.class) == rank(c)
+    entry.verdict.makes(claim) && rank(entry.class) == rank(c)
 }
 
 /// Puts the line of the first entry that lists a class with a verdict that makes the claim.
@@ -168,22 +155,6 @@ fn put_head(out: &mut Vec<u8>, c: Class, mark: Mark) -> Result<(), NoMemory>
     put(out, b"\n")
 }
 
-/// The first mark that applies.
-fn mark(easy: bool, pseudo: bool, hard: bool, strong: bool) -> Mark
-    ensures { result ≡ mark_of easy pseudo hard strong }
-{
-    match (easy, pseudo, hard, strong) {
-        (true, _, true, _) => Mark::Both,
-        (true, _, _, _) => Mark::Easy,
-        (_, true, _, true) => Mark::Torn,
-        (_, true, true, _) => Mark::Weak,
-        (_, _, _, true) => Mark::Strong,
-        (_, _, true, _) => Mark::Hard,
-        (_, true, _, _) => Mark::Pseudo,
-        _ => Mark::Unsettled,
-    }
-}
-
 /// The mark of a class by the chains that show what it is.
 fn mark_by(
     easy: &Option<Chain>,
@@ -193,7 +164,7 @@ fn mark_by(
 ) -> Mark
     ensures { result ≡ mark_of (is_some easy.now) (is_some pseudo.now) (is_some hard.now) (is_some strong.now) }
 {
-    mark(
+    Mark::of(
         easy.is_some(),
         pseudo.is_some(),
         hard.is_some(),

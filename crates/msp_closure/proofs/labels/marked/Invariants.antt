@@ -4,7 +4,8 @@ use Rattle.msp_class.specs.declared.class.Class.{Class}
 use Rattle.msp_class.specs.declared.ranks.TheConstants.{CLASSES}
 use Rattle.msp_class.specs.Rank.{rank_of}
 use Rattle.msp_closure.specs.declared.entry.Mark.{Mark}
-use Rattle.msp_closure.specs.Tables.{is_marked, mark_of}
+use Rattle.msp_closure.specs.Tables.{is_marked}
+use Rattle.msp_closure.specs.Entries.{mark_of}
 use Rattle.msp_closure.proofs.labels.marked.Given as goal
 
 abbrev pub invariant-loop-n : goal.invariant-loop-n

@@ -1,5 +1,5 @@
 use Rattle.std.proofs.Common.{◌≡◌, ◌+◌, drop}
-use Rattle.msp_closure.specs.Tables.{makes}
+use Rattle.msp_closure.specs.Entries.{makes}
 use Rattle.msp_report.specs.WhyText.{record_from}
 use Rattle.msp_report.proofs.why.put_first_record.Given as goal
 
