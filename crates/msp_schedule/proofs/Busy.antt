@@ -1,7 +1,8 @@
 -- Moments at which some piece runs, and schedules from which all idle stretches are taken out.
-use Rattle.std.proofs.Common.{◌≡◌, ℕ, zero, suc, ◌+◌, ◌*◌, ◌-◌, ◌≤◌, ◌<◌, ◌⊎◌, inl, inr, min, Bool, true, false, cond, leb, ltb, ◌&&◌, ◌||◌, List, [], ◌∷◌, get_or, All, Contains, sum_by, ℤ, pos, nat_abs, ◌-ℤ◌, ◌*ℤ◌, ◌≤ℤ◌, refl, sym, ap, ap₂, subst, ◌∙◌, arith}
+use Rattle.std.proofs.Common.{◌≡◌, ℕ, zero, suc, ◌+◌, ◌*◌, ◌-◌, ◌≤◌, ◌<◌, ◌⊎◌, inl, inr, min, max, Bool, true, false, cond, leb, ltb, ◌&&◌, ◌||◌, List, [], ◌∷◌, length, get_or, All, AllPairs, Contains, sum_by, ℤ, pos, nat_abs, ◌-ℤ◌, ◌*ℤ◌, ◌≤ℤ◌, refl, sym, ap, ap₂, subst, ◌∙◌, arith}
 use Rattle.std.specs.List.{list_any}
-use Rattle.std.proofs.lemmas.Bool.{leb-true, leb-false, ltb-true, ltb-false}
+use Rattle.std.proofs.lemmas.List.{get_or_default}
+use Rattle.std.proofs.lemmas.Bool.{cases_lt, leb-true, leb-false, ltb-true, ltb-false}
 use Rattle.std.proofs.lemmas.Int.{ints}
 use Rattle.std.proofs.lemmas.List.Sums.{sum_by-cons}
 use Rattle.std.proofs.lemmas.List.Folds.{list_any_none}
@@ -119,6 +120,81 @@ module _ {X : Type 0} (from to : X → ℕ) where
         sum_by-total_below (λ q u. cond (runs u q) 1 0) t xs,
         sum_by-mono (λ q. total_below t (λ u. cond (runs u q) 1 0)) (size_of from to) xs (λ k d l. let q = get_or xs k d in omega (arith, runs-length q t)),
       )
+
+  -- ---- a sweep over the elements in the order in which they begin
+  -- it is the moment 0, or the end of one that begins before the k-th and all later ones
+  abbrev pub Attains : List X → ℕ → ℕ → Type 0
+  Attains xs k reach = (reach ≡ 0) ⊎ ((q : X) × Contains xs q × (to q ≡ reach) × ((i : ℕ) (d : X) → k ≤ i → i < length xs → from q ≤ from (get_or xs i d)))
+
+  -- k of them are done: they end by `reach`, before which `idle` moments are idle
+  pub record IsSwept (xs : List X) (k reach idle : ℕ) : Type 0 where
+    pub ends : (i : ℕ) (d : X) → i < k → i < length xs → to (get_or xs i d) ≤ reach
+    pub idle_is : busy xs reach + idle ≡ reach
+    pub attained : Attains xs k reach
+
+  pub IsSwept-none : (xs : List X) → IsSwept xs 0 0 0
+  IsSwept-none xs = record { ends = λ i d l m. absurd (omega arith); idle_is = refl; attained = inl refl }
+
+  -- what the next one adds to the idle moments, and what is busy before it and by its end
+  pub record IsSweepStep (xs : List X) (k reach idle : ℕ) (p : X) (new : ℕ) : Type 0 where
+    pub begins : busy xs (from p) + new ≡ from p
+    pub finishes : busy xs (to p) + new ≡ to p
+    pub next : IsSwept xs (k + 1) (max reach (to p)) new
+
+  module _ (xs : List X) (rises : AllPairs (λ x y. from x ≤ from y) xs) (lasts : All (λ q. from q < to q) xs) (k reach idle : ℕ) (d : X) (inside : k < length xs) (so_far : IsSwept xs k reach idle) where
+    abbrev p : X
+    p = get_or xs k d
+
+    later : (i : ℕ) (c : X) → k ≤ i → i < length xs → from p ≤ from (get_or xs i c)
+    later i c l m = elim (cases_lt k i) [
+      | inl less ↦ subst (λ x. from p ≤ from x) (get_or_default xs i d c m) (rises k i d less m)
+      | inr past ↦ let same : k ≡ i = omega arith in omega (arith, ap from (ap (λ n. get_or xs n d) same ∙ get_or_default xs i d c m))
+    ]
+
+    abbrev new : ℕ
+    new = idle + (from p - reach)
+
+    begins : busy xs (from p) + new ≡ from p
+    begins = elim (cases_lt reach (from p)) [
+      | inl after ↦ omega (arith, busy-idle xs reach (from p) (omega arith) (λ i c m. elim (cases_lt i k) [ inl done ↦ inl (so_far.ends i c done m) | inr past ↦ inr (later i c (omega arith) m) ]), so_far.idle_is, after)
+      | inr before ↦ elim so_far.attained [
+        | inl none ↦ omega (arith, so_far.idle_is, ap (busy xs) none, ap (busy xs) (zero_from none before))
+        | inr found ↦ let (q, c, e, h) = found in omega (arith, so_far.idle_is, busy-runs xs q c (from p) reach (h k d (omega arith) inside) (omega arith) (omega (arith, e)), before)
+      ]
+    ]
+      where
+        zero_from : reach ≡ 0 → from p ≤ reach → from p ≡ 0
+        zero_from e h = omega arith
+
+    lasts_here : from p < to p
+    lasts_here = lasts k d inside
+
+    finishes : busy xs (to p) + new ≡ to p
+    finishes = omega (arith, begins, lasts_here, busy-runs xs p (Contains-get_or xs k d inside) (from p) (to p) (omega arith) (omega (arith, lasts_here)) (omega arith))
+
+    next_reach : (busy xs (max reach (to p)) + new ≡ max reach (to p)) × Attains xs (k + 1) (max reach (to p))
+    next_reach = elim (cases_lt reach (to p)) [
+      | inl after ↦ let e : to p ≡ max reach (to p) = omega arith in (subst (λ r. busy xs r + new ≡ r) e finishes, subst (Attains xs (k + 1)) e (inr (p, Contains-get_or xs k d inside, refl, λ i c l m. later i c (omega arith) m)))
+      | inr before ↦ let e : reach ≡ max reach (to p) = omega arith in (subst (λ r. busy xs r + new ≡ r) e (omega (arith, so_far.idle_is, before, lasts_here)), subst (Attains xs (k + 1)) e (kept so_far.attained))
+    ]
+      where
+        kept : Attains xs k reach → Attains xs (k + 1) reach
+        kept (inl none) = inl none
+        kept (inr (q, c, e, h)) = inr (q, c, e, λ i b l m. h i b (omega arith) m)
+
+    pub IsSwept-next : IsSweepStep xs k reach idle p new
+    IsSwept-next = record {
+      begins = begins;
+      finishes = finishes;
+      next = record {
+        ends = λ i c l m. elim (cases_lt i k) [
+          | inl less ↦ omega (arith, so_far.ends i c less m)
+          | inr past ↦ let same : k ≡ i = omega arith in omega (arith, ap to (ap (λ n. get_or xs n d) same ∙ get_or_default xs i d c m))
+        ];
+        idle_is = next_reach.0;
+        attained = next_reach.1;
+      };
+    }
 
 -- ---- pieces, with moments e times as long
 abbrev pub busy_moment : ℕ → List Piece → ℤ → ℤ

@@ -20,5 +20,6 @@ pub mod InSeries
 pub mod Busy
 pub mod LineUp
 pub mod Exchange
+pub mod UnitTimes
 pub mod Mirror
 pub mod EndsAndFloors
