@@ -1,5 +1,5 @@
 -- One machine without release dates: the jobs in the order of their ends, lined up without gaps, end no later.
-use Rattle.std.proofs.Common.{◌≡◌, ◌≢◌, ℕ, ◌+◌, ◌*◌, ◌≤◌, ◌<◌, Bool, true, false, cond, eqb, leb, if◌then◌else◌, List, [], ◌∷◌, get_or, length, All, AllPairs, Contains, count_by, ℤ, pos, nat_abs, ◌≤ℤ◌, ◌<ℤ◌, refl, sym, ap, subst, subst₂, ◌∙◌, arith}
+use Rattle.std.proofs.Common.{◌≡◌, ◌≢◌, ◌⊎◌, inl, inr, ℕ, zero, suc, ◌+◌, ◌*◌, ◌≤◌, ◌<◌, Bool, true, false, cond, eqb, leb, if◌then◌else◌, List, [], ◌∷◌, get_or, length, All, AllPairs, Contains, count_by, ℤ, pos, nat_abs, ◌≤ℤ◌, ◌<ℤ◌, refl, sym, ap, ap₂, subst, subst₂, ◌∙◌, arith}
 use Rattle.std.specs.Prelude.{int_lt}
 use Rattle.std.specs.List.{range_with_len}
 use Rattle.std.proofs.lemmas.List.Kept.{AllPairs-cons}
@@ -11,8 +11,8 @@ use Rattle.msp_class.specs.declared.environments.EnvKind.TheVariants.{Identical,
 use Rattle.msp_class.specs.declared.environments.EnvKind.{EnvKind}
 use Rattle.msp_class.specs.declared.class.Env.TheVariants.{One}
 use Rattle.msp_class.specs.Env.{kind_of}
-use Rattle.msp_class.proofs.Sums.{cond-yes, AllPairs-head, AllPairs-tail, Contains-tail, OnceBelow, OnceBelow-distinct, OnceBelow-contains, OnceBelow-range}
-use Rattle.msp_class.proofs.IntegerRing.{natural, pos-le, le-pos, ≤ℤ_trans, ≤ℤ_of_same}
+use Rattle.msp_class.proofs.Sums.{cond-yes, AllPairs-head, AllPairs-tail, Contains-tail, AllPairs-contains, OnceBelow, OnceBelow-distinct, OnceBelow-contains, OnceBelow-range}
+use Rattle.msp_class.proofs.IntegerRing.{natural, pos-le, le-pos, ≤ℤ_trans, ≤ℤ_of_same, ≤ℤ_antisym, ≤ℤ_total}
 use Rattle.msp_instance.specs.declared.Arc.{Arc}
 use Rattle.msp_instance.specs.declared.Instance.{Instance}
 use Rattle.msp_instance.specs.Instance.{no_job, no_need, job_at, need_at}
@@ -21,10 +21,10 @@ use Rattle.msp_schedule.specs.declared.Schedule.{Schedule}
 use Rattle.msp_schedule.specs.Piece.{IsBefore}
 use Rattle.msp_schedule.specs.Feasible.{Feasible}
 use Rattle.msp_schedule.specs.Cost.{cost_of, last_end, end_of}
-use Rattle.msp_schedule.proofs.Intervals.{last_of, last_of-bound}
+use Rattle.msp_schedule.proofs.Intervals.{IsApart, last_of, last_of-bound}
 use Rattle.msp_schedule.proofs.Sequences.{done_by, ends_cover_work}
 use Rattle.msp_schedule.proofs.Rows.{row, end_in, row-last}
-use Rattle.msp_schedule.proofs.OneMachine.{job_of, start, finish, IsOneMachine, IsOneMachine-from_env, IsPlan, IsPlan-from_feasible, last_end-is}
+use Rattle.msp_schedule.proofs.OneMachine.{job_of, start, finish, IsTimed, IsOneMachine, IsOneMachine-from_env, IsPlan, IsPlan-from_feasible, last_end-is}
 use Rattle.msp_schedule.proofs.OneRow.{piece, piece_makes, time_at, row-timed}
 use Rattle.msp_schedule.proofs.Frames.{frame_by, Lasts, Fits, HasWork, IsShaped-from_identical, piece_of, Fits-from_feasible, Feasible-from_fits}
 use Rattle.msp_schedule.proofs.LastEnds.{last_end-contains, last_end-reached}
@@ -166,6 +166,31 @@ module _ (i : Instance) (line : IsLine i) (s : Schedule) (f : Feasible i s) (ord
       never : (x : ℤ) → x <ℤ x → ⊥
       never x h = omega (arith, ints)
 
+  -- no two jobs end together
+  ends_differ : (a b : ℕ) → a < length i.jobs → b < length i.jobs → end_of s a ≡ end_of s b → a ≡ b
+  ends_differ a b l m e =
+      let (p, cp, jp, tp) = last_end-reached (frame_by Identical i) s.unit s.pieces fits works a l in
+      let (q, cq, jq, tq) = last_end-reached (frame_by Identical i) s.unit s.pieces fits works b m in
+      let h = All-contains IsTimed s.pieces p plan.timed cp in
+      let k = All-contains IsTimed s.pieces q plan.timed cq in
+      let together : finish p ≡ finish q = ap nat_abs (tp ∙ e ∙ sym tq) in
+      elim (AllPairs-contains (IsApart start finish) s.pieces p q plan.apart cp cq) [
+        | inl apart ↦ absurd (never (start p) (finish p) (start q) (finish q) h.lasts k.lasts together apart)
+        | inr rest ↦ elim rest [
+          | inl same ↦ sym jp ∙ ap (λ x. x.job) same ∙ jq
+          | inr apart ↦ absurd (never (start q) (finish q) (start p) (finish p) k.lasts h.lasts (sym together) apart)
+        ]
+      ]
+    where
+      never : (a b c d : ℕ) → a < b → c < d → b ≡ d → (b ≤ c) ⊎ (d ≤ a) → ⊥
+      never a b c d h k e r = omega arith
+
+  pub rises_strictly : AllPairs (λ a b. end_of s a <ℤ end_of s b) order
+  rises_strictly a b d h k = strictly (end_of s (get_or order a d)) (end_of s (get_or order b d)) (rises a b d h k) (λ e. OnceBelow-distinct o a b d h k (ends_differ (get_or order a d) (get_or order b d) (o.within a d (omega arith)) (o.within b d k) e))
+    where
+      strictly : (x y : ℤ) → x ≤ℤ y → x ≢ y → x <ℤ y
+      strictly x y h n = elim (≤ℤ_total y x) [ inl below ↦ absurd (n (≤ℤ_antisym h below)) | inr less ↦ less ]
+
 -- ---- for another instance with the same times and arcs
 row_agree : (p q : ℕ → ℕ) (t : ℕ) (js : List ℕ) → All (λ k. p k ≡ q k) js → row piece p t js ≡ row piece q t js
 row_agree p q t [] h = refl
@@ -221,8 +246,8 @@ abbrev pub order_of_ends : Instance → Schedule → List ℕ
 order_of_ends i s = sorted_by (end_of s) (range_with_len 0 (length i.jobs))
 
 module _ (f : ℕ → ℤ) where
-  abbrev R : ℕ → ℕ → Type 0
-  R a b = f a ≤ℤ f b
+  abbrev Rises : ℕ → ℕ → Type 0
+  Rises a b = f a ≤ℤ f b
 
   insert_by-All : (P : ℕ → Type 0) (x : ℕ) (ys : List ℕ) → P x → All P ys → All P (insert_by f x ys)
   insert_by-All P x [] p h = All-cons P x [] p h
@@ -234,7 +259,7 @@ module _ (f : ℕ → ℤ) where
 
   insert_by-rises : (x : ℕ) (ys : List ℕ) → AllPairs (λ a b. f a ≤ℤ f b) ys → AllPairs (λ a b. f a ≤ℤ f b) (insert_by f x ys)
   insert_by-rises x [] h = λ i j d a b. absurd (omega arith)
-  insert_by-rises x (y ∷ ys) h = by (int_lt (f y) (f x)) refl (insert_by-rises x ys (AllPairs-tail R y ys h))
+  insert_by-rises x (y ∷ ys) h = by (int_lt (f y) (f x)) refl (insert_by-rises x ys (AllPairs-tail Rises y ys h))
     where
       weak : (a b : ℤ) → int_lt a b ≡ true → a ≤ℤ b
       weak a b e = omega (arith, ints)
@@ -242,9 +267,9 @@ module _ (f : ℕ → ℤ) where
       turned : (a b : ℤ) → int_lt b a ≡ false → a ≤ℤ b
       turned a b e = omega (arith, ints)
 
-      by : (b : Bool) → int_lt (f y) (f x) ≡ b → AllPairs R (insert_by f x ys) → AllPairs R (if b then y ∷ insert_by f x ys else x ∷ y ∷ ys)
-      by true e later = AllPairs-cons R y (insert_by f x ys) (insert_by-All (R y) x ys (weak (f y) (f x) e) (AllPairs-head R y ys h)) later
-      by false e later = let first = turned (f x) (f y) e in AllPairs-cons R x (y ∷ ys) (All-cons (R x) y ys first (λ k d l. ≤ℤ_trans first (AllPairs-head R y ys h k d l))) h
+      by : (b : Bool) → int_lt (f y) (f x) ≡ b → AllPairs Rises (insert_by f x ys) → AllPairs Rises (if b then y ∷ insert_by f x ys else x ∷ y ∷ ys)
+      by true e later = AllPairs-cons Rises y (insert_by f x ys) (insert_by-All (Rises y) x ys (weak (f y) (f x) e) (AllPairs-head Rises y ys h)) later
+      by false e later = let first = turned (f x) (f y) e in AllPairs-cons Rises x (y ∷ ys) (All-cons (Rises x) y ys first (λ k d l. ≤ℤ_trans first (AllPairs-head Rises y ys h k d l))) h
 
   insert_by-count : (i x : ℕ) (ys : List ℕ) → count_by (λ z. eqb z i) (insert_by f x ys) ≡ count_by (λ z. eqb z i) (x ∷ ys)
   insert_by-count i x [] = refl
@@ -276,3 +301,34 @@ order_of_ends-once i s = sorted_by-OnceBelow (end_of s) (length i.jobs) (range_w
 
 pub order_of_ends-rises : (i : Instance) (s : Schedule) → AllPairs (λ a b. end_of s a ≤ℤ end_of s b) (order_of_ends i s)
 order_of_ends-rises i s = sorted_by-rises (end_of s) (range_with_len 0 (length i.jobs))
+
+-- it is the only one: lists with the same elements that rise strictly are the same
+rising_once : {X : Type 0} (R : X → X → Type 0) → ((x y : X) → R x y → R y x → ⊥) → (xs ys : List X) → AllPairs R xs → AllPairs R ys → All (Contains ys) xs → All (Contains xs) ys → xs ≡ ys
+rising_once R apart [] [] h k f g = refl
+rising_once R apart [] (y ∷ ys) h k f g = absurd (omega (arith, (All-head (Contains []) y ys g).1))
+rising_once R apart (x ∷ xs) [] h k f g = absurd (omega (arith, (All-head (Contains []) x xs f).1))
+rising_once {X} R apart (x ∷ xs) (y ∷ ys) h k f g = ap₂ (λ z zs. z ∷ zs) same (rising_once R apart xs ys (AllPairs-tail R x xs h) (AllPairs-tail R y ys k) (λ i d l. rest x y ys same (AllPairs-head R x xs h i d l) (All-tail (Contains (y ∷ ys)) x xs f i d l)) (λ i d l. rest y x xs (sym same) (AllPairs-head R y ys k i d l) (All-tail (Contains (x ∷ xs)) y ys g i d l)))
+  where
+    first : (a b : X) (bs : List X) → Contains (b ∷ bs) a → AllPairs R (b ∷ bs) → (b ≡ a) ⊎ R b a
+    first a b bs (zero, l, e) r = inl e
+    first a b bs (suc n, l, e) r = inr (All-contains (R b) bs a (AllPairs-head R b bs r) (n, omega arith, e))
+
+    same : x ≡ y
+    same = elim (first x y ys (All-head (Contains (y ∷ ys)) x xs f) k) [
+      | inl e ↦ sym e
+      | inr below ↦ elim (first y x xs (All-head (Contains (x ∷ xs)) y ys g) h) [ inl e ↦ e | inr above ↦ absurd (apart x y above below) ]
+    ]
+
+    rest : (a b : X) (bs : List X) → a ≡ b → {z : X} → R a z → Contains (b ∷ bs) z → Contains bs z
+    rest a b bs e {z} r (zero, l, s) = absurd (apart a a (subst (R a) (sym s ∙ sym e) r) (subst (R a) (sym s ∙ sym e) r))
+    rest a b bs e {z} r (suc n, l, s) = (n, omega arith, s)
+
+pub order_of_ends-only : (i : Instance) → IsLine i → (s : Schedule) → Feasible i s → (order : List ℕ) → OnceBelow (length i.jobs) order → AllPairs (λ a b. end_of s a ≤ℤ end_of s b) order → order ≡ order_of_ends i s
+order_of_ends-only i line s f order o rises =
+    let model = order_of_ends i s in
+    let once = order_of_ends-once i s in
+    rising_once (λ a b. end_of s a <ℤ end_of s b) (λ x y. never (end_of s x) (end_of s y)) order model (rises_strictly i line s f order o rises) (rises_strictly i line s f model once (order_of_ends-rises i s))
+    (λ k d l. OnceBelow-contains once (get_or order k d) (o.within k d l)) (λ k d l. OnceBelow-contains o (get_or model k d) (once.within k d l))
+  where
+    never : (x y : ℤ) → x <ℤ y → y <ℤ x → ⊥
+    never x y h k = omega (arith, ints)

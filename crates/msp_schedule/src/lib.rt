@@ -1,7 +1,7 @@
 //! Schedules over any unit, and what it means that a schedule is feasible, what it costs, and that it is best.
 //!
-//! It stands on `msp_instance`. The layers above use the definitions `Feasible`, `cost_of` and `Best`, and that `cost` gives the
-//! cost in lowest terms.
+//! It stands on `msp_instance`. The layers above use the definitions `Feasible`, `cost_of` and `Best`, that `cost` gives the cost in
+//! lowest terms, and the laws `law_of_ends` and `law_of_floors` of schedules on identical machines.
 #![tactic(auto)]
 
 ghost use Rattle.std.specs.Prelude.{pos, ◌≤ℤ◌};
