@@ -19,7 +19,7 @@ flag_at_number : (b : Bool) → get_or flags (flag_number b) false ≡ b
 flag_at_number false = refl
 flag_at_number true = refl
 
-flag_number-injective : (a b : Bool) → flag_number a ≡ flag_number b → a ≡ b
+pub flag_number-injective : (a b : Bool) → flag_number a ≡ flag_number b → a ≡ b
 flag_number-injective a b e = sym (flag_at_number a) ∙ ap (λ n. get_or flags n false) e ∙ flag_at_number b
 
 pub flag_number-below : (b : Bool) → flag_number b < 2
@@ -36,7 +36,7 @@ order_at_number Intree = refl
 order_at_number Outtree = refl
 order_at_number Prec = refl
 
-order_number-injective : (a b : Order) → order_number a ≡ order_number b → a ≡ b
+pub order_number-injective : (a b : Order) → order_number a ≡ order_number b → a ≡ b
 order_number-injective a b e = sym (order_at_number a) ∙ ap (λ n. get_or orders n Free) e ∙ order_at_number b
 
 pub order_number-below : (o : Order) → order_number o < 5
@@ -54,7 +54,7 @@ times_at_number General = refl
 times_at_number UnitTimes = refl
 times_at_number Equal = refl
 
-times_number-injective : (a b : Times) → times_number a ≡ times_number b → a ≡ b
+pub times_number-injective : (a b : Times) → times_number a ≡ times_number b → a ≡ b
 times_number-injective a b e = sym (times_at_number a) ∙ ap (λ n. get_or kinds n General) e ∙ times_at_number b
 
 pub times_number-below : (t : Times) → times_number t < 3
@@ -76,7 +76,7 @@ crit_at_number SumWU = refl
 crit_at_number SumT = refl
 crit_at_number SumWT = refl
 
-crit_number-injective : (a b : Crit) → crit_number a ≡ crit_number b → a ≡ b
+pub crit_number-injective : (a b : Crit) → crit_number a ≡ crit_number b → a ≡ b
 crit_number-injective a b e = sym (crit_at_number a) ∙ ap (λ n. get_or crits n Cmax) e ∙ crit_at_number b
 
 pub crit_number-below : (k : Crit) → crit_number k < 9

@@ -1,0 +1,31 @@
+-- The instances to which the rows lead, and how costs and schedules are translated.
+use Rattle.std.specs.Prelude.{ℕ, [], ℤ, pos, neg_ℤ, ◌+ℤ◌, map, unwrap_or}
+use Rattle.msp_class.specs.declared.class.Crit.{Crit}
+use Rattle.msp_instance.specs.declared.Job.{Job}
+use Rattle.msp_instance.specs.declared.Instance.{Instance}
+use Rattle.msp_table.specs.Rows.{goes_of}
+use Rattle.msp_route.specs.Law.{Rate}
+
+-- The instance under the class to which the row leads.
+abbrev pub led : ℕ → Instance → Instance
+led row i = record i { class = unwrap_or (goes_of row i.class) i.class }
+
+-- Costs stay.
+abbrev pub same_costs : Rate
+same_costs = record { factor = 1; addend = pos 0; scale = 1 }
+
+-- The job whose curve is its lateness, of slope 1 and base -d and without steps. The due date is put back to 0.
+abbrev pub by_curve : Job → Job
+by_curve j = record j { due = pos 0; curve = record { slope = 1; base = neg_ℤ j.due; steps = [] } }
+
+-- The instance to which row 9 leads: the lateness of each job is its curve.
+abbrev pub led_by_curves : Instance → Instance
+led_by_curves i = record (led 9 i) { jobs = map by_curve i.jobs }
+
+-- The job with its due date raised by the bound.
+abbrev pub raised : ℤ → Job → Job
+raised bound j = record j { due = j.due +ℤ bound }
+
+-- The instance of another criterion, with all due dates raised by the bound.
+abbrev pub shift_of : ℤ → Crit → Instance → Instance
+shift_of bound crit i = record i { class = record i.class { crit = crit }; jobs = map (raised bound) i.jobs }

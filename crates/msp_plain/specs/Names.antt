@@ -1,0 +1,285 @@
+-- The rows that change the class alone: the instances at both ends have the same schedules at the same costs. No public contract cites this file.
+use Rattle.std.proofs.Common.{◌≡◌, ℕ, zero, suc, ◌+◌, ◌*◌, ◌<◌, ◌≤◌, Bool, true, false, List, [], ◌∷◌, length, get_or, All, Any, ℤ, pos, ◌-ℤ◌, ◌*ℤ◌, ◌≤ℤ◌, Option, Some, None, IsSome, if◌then◌else◌, refl, sym, ap, subst, subst₂, ◌∙◌, arith}
+use Rattle.std.specs.Prelude.{◌==◌, ◌&&◌, slice_index_or}
+use Rattle.std.specs.Int.{int_max}
+use Rattle.std.proofs.lemmas.Bool.{eqb-true}
+use Rattle.std.proofs.lemmas.Int.{ints}
+use Rattle.msp_class.specs.declared.class.Class.{Class}
+use Rattle.msp_class.specs.declared.class.Order.{Order}
+use Rattle.msp_class.specs.declared.class.Order.TheVariants.{Free, Chains, Intree, Outtree, Prec}
+use Rattle.msp_class.specs.declared.class.Times.{Times}
+use Rattle.msp_class.specs.declared.class.Times.TheVariants.{General, Unit as UnitTimes, Equal}
+use Rattle.msp_class.specs.declared.class.Crit.{Crit}
+use Rattle.msp_class.specs.declared.class.Crit.TheVariants.{Cmax, Lmax, Fmax, SumC, SumWC, SumU, SumWU, SumT, SumWT}
+use Rattle.msp_class.specs.declared.environments.EnvKind.{EnvKind}
+use Rattle.msp_class.specs.declared.environments.EnvKind.TheVariants.{Identical, Uniform, Unrelated, OpenShop, FlowShop, JobShop}
+use Rattle.msp_class.specs.Env.{kind_of}
+use Rattle.msp_class.specs.Crit.{is_greatest, uses_due, uses_weight, uses_curve}
+use Rattle.msp_class.proofs.RankLemmas.{flag_number-injective, order_number-injective, times_number-injective, crit_number-injective}
+use Rattle.msp_class.proofs.IntegerRing.{*ℤ-zero, one-*ℤ, int_max-right}
+use Rattle.msp_instance.specs.declared.ranges.TheConstants.{GREATEST, GREATEST_EQUAL_TIME}
+use Rattle.msp_instance.specs.declared.Need.{Need}
+use Rattle.msp_instance.specs.declared.Arc.{Arc}
+use Rattle.msp_instance.specs.declared.Job.{Job}
+use Rattle.msp_instance.specs.declared.Instance.{Instance}
+use Rattle.msp_instance.specs.Instance.{no_need, no_job, job_at, common_time}
+use Rattle.msp_instance.specs.Conditions.{Limits, IsJobOf, HasNeeds, HasTimes, HasSameTimes, HasRelease, HasDue, HasWeight, HasCurve, HasArcs, HasDegree, LiesWithin, Inner, inner_limits, inner_factor, least_time, greatest_time}
+use Rattle.msp_schedule.specs.Cost.{job_cost, lateness, tardiness, late}
+use Rattle.msp_schedule.proofs.Charges.{SameCharges, SameCharges-from_class}
+use Rattle.msp_schedule.proofs.Serves.{SameWork-from_class}
+use Rattle.msp_table.specs.Rows.{goes_of, table}
+use Rattle.msp_schedule.specs.declared.Schedule.{Schedule}
+use Rattle.msp_schedule.specs.declared.Solution.{Solution}
+use Rattle.msp_schedule.specs.Cost.{IsSolution}
+use Rattle.msp_route.specs.Bounds.{IsBounded, KeepsBounds}
+use Rattle.msp_route.specs.Law.{Applies, IsBack}
+use Rattle.msp_plain.specs.Changes.{led, same_costs}
+use Rattle.msp_plain.specs.Inner.{changed, Inner-recast}
+use Rattle.msp_plain.specs.Alike.{Alike, Alike-led, IsSolution-alike, IsBack-alike, KeepsBounds-alike}
+
+-- what it takes that a row applies
+pub some_if : (b : Bool) (c : Class) → IsSome (if b && true && true then Some c else None) → (b ≡ true) × ((if b && true && true then Some c else None) ≡ Some c)
+some_if true c h = (refl, refl)
+some_if false c h = absurd (cc)
+
+-- ---- precedence
+-- arcs of the one order are arcs of the other
+record OrderGrows (from to : Order) : Type 0 where
+  arcs : (l : List Arc) → HasArcs from l → HasArcs to l
+  degree : (l : List Arc) (j : ℕ) → HasArcs from l → HasDegree from l j → HasDegree to l j
+
+no_arcs : OrderGrows Free Chains
+no_arcs = record {
+  arcs = λ l e. omega (arith, ap length e);
+  degree = λ l j e h. subst (λ k. HasDegree Chains k j) (sym e) (omega arith, omega arith);
+}
+
+leaving_once : OrderGrows Chains Intree
+leaving_once = record { arcs = λ l h. h; degree = λ l j e h. h.0 }
+
+entering_once : OrderGrows Chains Outtree
+entering_once = record { arcs = λ l h. h; degree = λ l j e h. h.1 }
+
+any_leaving : OrderGrows Intree Prec
+any_leaving = record { arcs = λ l h. h; degree = λ l j e h. tt }
+
+any_entering : OrderGrows Outtree Prec
+any_entering = record { arcs = λ l h. h; degree = λ l j e h. tt }
+
+alike_order : (row : ℕ) (from to : Order) → OrderGrows from to → (i : Instance) → i.class.order ≡ from → goes_of row i.class ≡ Some (record i.class { order = to }) → Inner i → Alike row i (led row i)
+alike_order row from to grows i e g inner = Alike-led row i (record i.class { order = to }) i.jobs g (record {
+  lower = record {
+    inner = Inner-recast i to i.class.heads i.class.times i.class.crit (λ a h. record {
+      needs = record { shape = h.needs.shape; times = h.needs.times; some = h.needs.some };
+      times = h.times;
+      release = h.release;
+      due = h.due;
+      weight = h.weight;
+      curve = h.curve;
+    }) (grows.arcs i.arcs arcs) (λ j l. grows.degree i.arcs j arcs (subst (λ o. HasDegree o i.arcs j) e (inner.conditions.degree j l))) inner;
+    class = g;
+  };
+  work = SameWork-from_class i (record i.class { order = to }) refl refl;
+  charges = SameCharges-from_class i (record i.class { order = to }) refl;
+})
+  where
+    arcs : HasArcs from i.arcs
+    arcs = subst (λ o. HasArcs o i.arcs) e inner.conditions.arcs
+
+pub alike_1 : (i : Instance) → Inner i → Applies 1 i → Alike 1 i (led 1 i)
+unfolding goes_of table
+alike_1 i inner h = let (b, g) = some_if _ _ h in alike_order 1 Free Chains no_arcs i (order_number-injective _ Free (eqb-true _ _ b)) g inner
+
+pub alike_2 : (i : Instance) → Inner i → Applies 2 i → Alike 2 i (led 2 i)
+unfolding goes_of table
+alike_2 i inner h = let (b, g) = some_if _ _ h in alike_order 2 Chains Intree leaving_once i (order_number-injective _ Chains (eqb-true _ _ b)) g inner
+
+pub alike_3 : (i : Instance) → Inner i → Applies 3 i → Alike 3 i (led 3 i)
+unfolding goes_of table
+alike_3 i inner h = let (b, g) = some_if _ _ h in alike_order 3 Chains Outtree entering_once i (order_number-injective _ Chains (eqb-true _ _ b)) g inner
+
+pub alike_4 : (i : Instance) → Inner i → Applies 4 i → Alike 4 i (led 4 i)
+unfolding goes_of table
+alike_4 i inner h = let (b, g) = some_if _ _ h in alike_order 4 Intree Prec any_leaving i (order_number-injective _ Intree (eqb-true _ _ b)) g inner
+
+pub alike_5 : (i : Instance) → Inner i → Applies 5 i → Alike 5 i (led 5 i)
+unfolding goes_of table
+alike_5 i inner h = let (b, g) = some_if _ _ h in alike_order 5 Outtree Prec any_entering i (order_number-injective _ Outtree (eqb-true _ _ b)) g inner
+
+-- ---- release dates
+abbrev limits_of : Instance → Limits
+limits_of i = inner_limits (kind_of i.class.env)
+
+none_in_range : (l : Limits) (r : ℕ) → HasRelease l false r → HasRelease l true r
+none_in_range l r h = omega (arith, h)
+
+pub alike_6 : (i : Instance) → Inner i → Applies 6 i → Alike 6 i (led 6 i)
+unfolding goes_of table
+alike_6 i inner h = let (b, g) = some_if _ _ h in by (flag_number-injective _ false (eqb-true _ _ b)) g
+  where
+    by : i.class.heads ≡ false → goes_of 6 i.class ≡ Some (record i.class { heads = true }) → Alike 6 i (led 6 i)
+    by e g = Alike-led 6 i (record i.class { heads = true }) i.jobs g (record {
+      lower = record {
+        inner = Inner-recast i i.class.order true i.class.times i.class.crit (λ a h. record {
+          needs = record { shape = h.needs.shape; times = h.needs.times; some = h.needs.some };
+          times = h.times;
+          release = none_in_range (limits_of i) a.release (subst (λ b. HasRelease (limits_of i) b a.release) e h.release);
+          due = h.due;
+          weight = h.weight;
+          curve = h.curve;
+        }) inner.conditions.arcs inner.conditions.degree inner;
+        class = g;
+      };
+      work = SameWork-from_class i (record i.class { heads = true }) refl refl;
+      charges = SameCharges-from_class i (record i.class { heads = true }) refl;
+    })
+
+-- ---- times
+alike_times : (row : ℕ) (to : Times) (i : Instance) → ((a : Job) → IsJobOf (limits_of i) i a → HasTimes (least_time (kind_of i.class.env) to) (greatest_time (limits_of i) to) a.needs × HasSameTimes to (common_time i) a.needs) →
+    goes_of row i.class ≡ Some (record i.class { times = to }) → Inner i → Alike row i (led row i)
+alike_times row to i own g inner = Alike-led row i (record i.class { times = to }) i.jobs g (record {
+  lower = record {
+    inner = Inner-recast i i.class.order i.class.heads to i.class.crit (λ a h. let t = own a h in record {
+      needs = record { shape = h.needs.shape; times = t.0; some = h.needs.some };
+      times = t.1;
+      release = h.release;
+      due = h.due;
+      weight = h.weight;
+      curve = h.curve;
+    }) inner.conditions.arcs inner.conditions.degree inner;
+    class = g;
+  };
+  work = SameWork-from_class i (record i.class { times = to }) refl refl;
+  charges = SameCharges-from_class i (record i.class { times = to }) refl;
+})
+
+least_shared : (k : EnvKind) → least_time k Equal ≡ 1
+least_shared Identical = refl
+least_shared Uniform = refl
+least_shared Unrelated = refl
+least_shared OpenShop = refl
+least_shared FlowShop = refl
+least_shared JobShop = refl
+
+least_one : (k : EnvKind) → least_time k General ≤ 1
+least_one Identical = omega arith
+least_one Uniform = omega arith
+least_one Unrelated = omega arith
+least_one OpenShop = omega arith
+least_one FlowShop = omega arith
+least_one JobShop = omega arith
+
+factor_some : (k : EnvKind) → 1 ≤ inner_factor k
+factor_some Identical = omega arith
+factor_some Uniform = omega arith
+factor_some Unrelated = omega arith
+factor_some OpenShop = omega arith
+factor_some FlowShop = omega arith
+factor_some JobShop = omega arith
+
+some_need : (needs : List Need) → Any (λ n. 1 ≤ n.time) needs → 0 < length needs
+some_need needs (k, n, l, e, p) = omega arith
+
+-- where every time is 1, so is the one that all share
+units : (i : Instance) (a : Job) → i.class.times ≡ UnitTimes → IsJobOf (limits_of i) i a → All (λ n. n.time ≡ 1) a.needs
+units i a e h = subst (λ t. HasSameTimes t (common_time i) a.needs) e h.times
+
+shared_unit : (i : Instance) → i.class.times ≡ UnitTimes → Inner i → common_time i ≡ 1
+shared_unit i e inner = let h = inner.conditions.jobs 0 no_job inner.conditions.some in units i (job_at i 0) e h 0 no_need (some_need (job_at i 0).needs h.needs.some)
+
+pub alike_7 : (i : Instance) → Inner i → Applies 7 i → Alike 7 i (led 7 i)
+unfolding goes_of table
+alike_7 i inner h = let (b, g) = some_if _ _ h in by (times_number-injective _ UnitTimes (eqb-true _ _ b)) g
+  where
+    by : i.class.times ≡ UnitTimes → goes_of 7 i.class ≡ Some (record i.class { times = Equal }) → Alike 7 i (led 7 i)
+    by e g = alike_times 7 Equal i (λ a h. let ones = units i a e h in
+        ((λ k d l. (omega (arith, ones k d l, least_shared (kind_of i.class.env)), omega (arith, ones k d l))), (λ k d l. ones k d l ∙ sym (shared_unit i e inner)))) g inner
+
+equal_in_range : (k : EnvKind) (needs : List Need) → HasTimes (least_time k Equal) (greatest_time (inner_limits k) Equal) needs → HasTimes (least_time k General) (greatest_time (inner_limits k) General) needs
+equal_in_range k needs h = λ j d l. let t = h j d l in (omega (arith, t.0, least_shared k, least_one k), omega (arith, t.1, factor_some k))
+
+pub alike_53 : (i : Instance) → Inner i → Applies 53 i → Alike 53 i (led 53 i)
+unfolding goes_of table
+alike_53 i inner h = let (b, g) = some_if _ _ h in by (times_number-injective _ Equal (eqb-true _ _ b)) g
+  where
+    by : i.class.times ≡ Equal → goes_of 53 i.class ≡ Some (record i.class { times = General }) → Alike 53 i (led 53 i)
+    by e g = alike_times 53 General i (λ a h. (equal_in_range (kind_of i.class.env) a.needs (subst (λ t. HasTimes (least_time (kind_of i.class.env) t) (greatest_time (limits_of i) t) a.needs) e h.needs.times), tt)) g inner
+
+-- ---- the criterion
+-- jobs of the one criterion are jobs of the other, and are charged the same
+record CritGrows (from to : Crit) : Type 0 where
+  join : is_greatest from ≡ is_greatest to
+  due : (l : Limits) (d : ℤ) → HasDue l (uses_due from) d → HasDue l (uses_due to) d
+  weight : (w : ℕ) → HasWeight (uses_weight from) w → HasWeight (uses_weight to) w
+  curve : uses_curve from ≡ uses_curve to
+  charge : (l : Limits) (a : Job) → HasDue l (uses_due from) a.due → HasWeight (uses_weight from) a.weight → (unit x : ℤ) → pos 0 ≤ℤ x → job_cost from unit a x ≡ job_cost to unit a x
+
+alike_crit : (row : ℕ) (from to : Crit) → CritGrows from to → (i : Instance) → i.class.crit ≡ from → goes_of row i.class ≡ Some (record i.class { crit = to }) → Inner i → Alike row i (led row i)
+alike_crit row from to grows i e g inner = Alike-led row i (record i.class { crit = to }) i.jobs g (record {
+  lower = record {
+    inner = Inner-recast i i.class.order i.class.heads i.class.times to (λ a h. record {
+      needs = record { shape = h.needs.shape; times = h.needs.times; some = h.needs.some };
+      times = h.times;
+      release = h.release;
+      due = grows.due (limits_of i) a.due (due_of a h);
+      weight = grows.weight a.weight (weight_of a h);
+      curve = subst (λ b. HasCurve (limits_of i) b a.curve) (ap uses_curve e ∙ grows.curve) h.curve;
+    }) inner.conditions.arcs inner.conditions.degree inner;
+    class = g;
+  };
+  work = SameWork-from_class i (record i.class { crit = to }) refl refl;
+  charges = record {
+    count = refl;
+    join = ap is_greatest e ∙ grows.join;
+    charge = λ k l unit x u p. let h = inner.conditions.jobs k no_job l in ap (λ c. job_cost c unit (job_at i k) x) e ∙ grows.charge (limits_of i) (job_at i k) (due_of (job_at i k) h) (weight_of (job_at i k) h) unit x p;
+  };
+})
+  where
+    due_of : (a : Job) → IsJobOf (limits_of i) i a → HasDue (limits_of i) (uses_due from) a.due
+    due_of a h = subst (λ c. HasDue (limits_of i) (uses_due c) a.due) e h.due
+
+    weight_of : (a : Job) → IsJobOf (limits_of i) i a → HasWeight (uses_weight from) a.weight
+    weight_of a h = subst (λ c. HasWeight (uses_weight c) a.weight) e h.weight
+
+no_date : (l : Limits) (d : ℤ) → HasDue l false d → HasDue l true d
+no_date l d e = (omega (arith, ints, e), omega (arith, ints, e))
+
+no_weight : (w : ℕ) → HasWeight false w → HasWeight true w
+no_weight w e = (omega (arith, e), omega (arith, e))
+
+-- what is charged at a due date of 0, and by a weight of 1
+never_due : (unit : ℤ) (a : Job) (x : ℤ) → a.due ≡ pos 0 → x ≡ lateness unit a x
+never_due unit a x e = sym (ap (λ d. x -ℤ (unit *ℤ d)) e ∙ ap (λ z. x -ℤ z) (*ℤ-zero unit) ∙ kept x)
+  where
+    kept : (x : ℤ) → (x -ℤ pos 0) ≡ x
+    kept x = omega (arith, ints)
+
+never_late : (unit : ℤ) (a : Job) (x : ℤ) → pos 0 ≤ℤ x → a.due ≡ pos 0 → x ≡ int_max (pos 0) (lateness unit a x)
+never_late unit a x p e = sym (int_max-right (pos 0) x p) ∙ ap (int_max (pos 0)) (never_due unit a x e)
+
+once : (w : ℕ) (x : ℤ) → w ≡ 1 → x ≡ pos w *ℤ x
+once w x e = sym (ap (λ n. pos n *ℤ x) e ∙ one-*ℤ x)
+
+pub alike_8 : (i : Instance) → Inner i → Applies 8 i → Alike 8 i (led 8 i)
+unfolding goes_of table
+alike_8 i inner h = let (b, g) = some_if _ _ h in alike_crit 8 Cmax Lmax (record { join = refl; due = no_date; weight = λ w h. h; curve = refl; charge = λ l a d w unit x p. never_due unit a x d }) i (crit_number-injective _ Cmax (eqb-true _ _ b)) g inner
+
+pub alike_10 : (i : Instance) → Inner i → Applies 10 i → Alike 10 i (led 10 i)
+unfolding goes_of table
+alike_10 i inner h = let (b, g) = some_if _ _ h in alike_crit 10 SumC SumWC (record { join = refl; due = λ l d h. h; weight = no_weight; curve = refl; charge = λ l a d w unit x p. once a.weight x w }) i (crit_number-injective _ SumC (eqb-true _ _ b)) g inner
+
+pub alike_11 : (i : Instance) → Inner i → Applies 11 i → Alike 11 i (led 11 i)
+unfolding goes_of table
+alike_11 i inner h = let (b, g) = some_if _ _ h in alike_crit 11 SumC SumT (record { join = refl; due = no_date; weight = λ w h. h; curve = refl; charge = λ l a d w unit x p. never_late unit a x p d }) i (crit_number-injective _ SumC (eqb-true _ _ b)) g inner
+
+pub alike_12 : (i : Instance) → Inner i → Applies 12 i → Alike 12 i (led 12 i)
+unfolding goes_of table
+alike_12 i inner h = let (b, g) = some_if _ _ h in alike_crit 12 SumWC SumWT (record { join = refl; due = no_date; weight = λ w h. h; curve = refl; charge = λ l a d w unit x p. ap (λ z. pos a.weight *ℤ z) (never_late unit a x p d) }) i (crit_number-injective _ SumWC (eqb-true _ _ b)) g inner
+
+pub alike_13 : (i : Instance) → Inner i → Applies 13 i → Alike 13 i (led 13 i)
+unfolding goes_of table
+alike_13 i inner h = let (b, g) = some_if _ _ h in alike_crit 13 SumT SumWT (record { join = refl; due = λ l d h. h; weight = no_weight; curve = refl; charge = λ l a d w unit x p. once a.weight (tardiness unit a x) w }) i (crit_number-injective _ SumT (eqb-true _ _ b)) g inner
+
+pub alike_14 : (i : Instance) → Inner i → Applies 14 i → Alike 14 i (led 14 i)
+unfolding goes_of table
+alike_14 i inner h = let (b, g) = some_if _ _ h in alike_crit 14 SumU SumWU (record { join = refl; due = λ l d h. h; weight = no_weight; curve = refl; charge = λ l a d w unit x p. once a.weight (late unit a x) w }) i (crit_number-injective _ SumU (eqb-true _ _ b)) g inner

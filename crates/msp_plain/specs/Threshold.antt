@@ -1,0 +1,27 @@
+-- What a bound on the greatest lateness has to do with sums: no job is late, or tardy, once its due date is raised by the bound.
+use Rattle.std.specs.Prelude.{◌≡◌, ◌⊎◌, ◌↔◌, ℤ, pos, ◌*ℤ◌, ◌≤ℤ◌}
+use Rattle.msp_class.specs.declared.class.Crit.{Crit}
+use Rattle.msp_class.specs.declared.class.Crit.TheVariants.{Lmax, SumU, SumT}
+use Rattle.msp_instance.specs.declared.Instance.{Instance}
+use Rattle.msp_instance.specs.Conditions.{Inner}
+use Rattle.msp_schedule.specs.declared.Schedule.{Schedule}
+use Rattle.msp_schedule.specs.Feasible.{Feasible}
+use Rattle.msp_schedule.specs.Cost.{cost_of}
+use Rattle.msp_plain.specs.Changes.{shift_of}
+
+-- The number of late jobs, or the total tardiness.
+abbrev pub IsThresholdSum : Crit → Type 0
+IsThresholdSum crit = (crit ≡ SumU) ⊎ (crit ≡ SumT)
+
+-- The greatest lateness of the schedule is at most the bound.
+abbrev pub Meets : Instance → Schedule → ℤ → Type 0
+Meets i s bound = cost_of i s ≤ℤ (bound *ℤ s.unit)
+
+-- The instance with raised due dates has the same feasible schedules, and one meets the bound exactly where it costs 0 there.
+pub record IsThreshold (i : Instance) (bound : ℤ) (crit : Crit) (s : Schedule) : Type 0 where
+  pub same : Feasible i s ↔ Feasible (shift_of bound crit i) s
+  pub meets : Feasible i s → Meets i s bound ↔ (cost_of (shift_of bound crit i) s ≡ pos 0)
+
+-- The two threshold rows.
+abbrev pub ThresholdLaw : Type 0
+ThresholdLaw = (i : Instance) (bound : ℤ) (crit : Crit) (s : Schedule) → Inner i → i.class.crit ≡ Lmax → IsThresholdSum crit → IsThreshold i bound crit s

@@ -1,0 +1,13 @@
+//! The reductions that change names and criteria alone, and those that turn a bound on the greatest lateness into a sum.
+#![tactic(auto)]
+
+mod copies;
+mod criteria;
+mod curves;
+mod names;
+mod threshold;
+
+pub use criteria::{Row8, Row10, Row11, Row12, Row13, Row14};
+pub use curves::Row9;
+pub use names::{Row1, Row2, Row3, Row4, Row5, Row6, Row7, Row53};
+pub use threshold::{meets, shifted, threshold_law};

@@ -1,0 +1,79 @@
+// Whether the greatest lateness can be kept within a bound, as a question on sums.
+ghost use Rattle.std.specs.Prelude.{◌≡◌, ◌↔◌, ◌*◌, ◌^◌, ◌<◌, length, IfOk, IsTrue, All, map, ◌+ℤ◌, ◌*ℤ◌, ◌≤ℤ◌, slice_index_or, pos};
+ghost use Rattle.msp_class.specs.declared.class.Crit.TheVariants.{Lmax};
+ghost use Rattle.msp_class.specs.Env.{kind_of};
+ghost use Rattle.msp_instance.specs.Conditions.{Inner, LiesWithin, inner_limits};
+ghost use Rattle.msp_instance.specs.Instance.{no_job};
+ghost use Rattle.msp_schedule.specs.Feasible.{Feasible};
+ghost use Rattle.msp_schedule.specs.Within.{Within, IsUnit};
+ghost use Rattle.msp_plain.specs.Changes.{raised, shift_of};
+ghost use Rattle.msp_plain.specs.Threshold.{IsThresholdSum, Meets, ThresholdLaw};
+
+use crate::copies::recast;
+use msp_class::{Class, Crit, List, NoMemory};
+use msp_instance::{Instance, Job};
+use msp_schedule::{Piece, Schedule};
+use std::alloc::Global;
+
+fn raise_all(jobs: &mut [Job], bound: i64)
+    requires { All (λ j. LiesWithin (2 ^ 62) (j.due +ℤ bound)) jobs.old }
+    ensures { jobs.new ≡ map (raised bound) jobs.old }
+{
+    for job in jobs.iter_mut() {
+        job.due += bound;
+    }
+}
+
+/// The instance with its due dates raised by the bound, and the number of late jobs or the total tardiness as its criterion.
+pub fn shifted(
+    alloc: Global,
+    inst: &Instance,
+    bound: i64,
+    crit: Crit,
+) -> Result<Instance, NoMemory>
+    requires inner { Inner inst.now }
+    requires lateness { inst.now.class.crit ≡ Lmax }
+    requires sum { IsThresholdSum crit }
+    requires dates { All (λ j. LiesWithin (inner_limits (kind_of inst.now.class.env)).greatest_date (j.due +ℤ bound)) inst.now.jobs }
+    ensures value { IfOk result (λ j. j ≡ shift_of bound crit inst.now) }
+    ensures inner { IfOk result Inner }
+{
+    let mut shifted = recast(alloc, inst, Class { crit, ..inst.class })?;
+    let mut jobs = shifted.jobs.take_all();
+    raise_all(&mut jobs, bound);
+    shifted.jobs = List::from_vec(jobs);
+    Ok(shifted)
+}
+
+/// Whether the piece is as late as the bound at most.
+fn is_in_time(jobs: &[Job], unit: i128, bound: i64, piece: &Piece) -> bool
+    requires unit { IsUnit unit }
+    requires job { piece.now.job < length jobs.now }
+    requires due { All (λ j. LiesWithin (2 ^ 62) j.due) jobs.now }
+    requires bound { LiesWithin (2 * 10 ^ 18) bound }
+    ensures { IsTrue result ↔ (piece.now.to ≤ℤ (unit *ℤ ((slice_index_or jobs.now piece.now.job no_job).due +ℤ bound))) }
+{
+    let due = jobs[piece.job as usize].due as i128;
+    piece.to <= unit * (due + bound as i128)
+}
+
+/// Whether the greatest lateness is at most the bound.
+pub fn meets(inst: &Instance, s: &Schedule, bound: i64) -> bool
+    requires inner { Inner inst.now }
+    requires within { Within inst.now s.now }
+    requires feasible { Feasible inst.now s.now }
+    requires lateness { inst.now.class.crit ≡ Lmax }
+    requires bound { LiesWithin (2 * 10 ^ 18) bound }
+    ensures { IsTrue result ↔ Meets inst.now s.now bound }
+{
+    let jobs = inst.jobs.as_slice();
+    s.pieces
+        .as_slice()
+        .iter()
+        .all(|p| is_in_time(jobs, s.unit, bound, p))
+}
+
+/// The law of the two threshold rows: the greatest lateness is at most the bound exactly where the sum is 0 at raised due dates.
+pub fn threshold_law()
+    ensures { ThresholdLaw }
+{}
