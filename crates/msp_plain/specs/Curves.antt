@@ -99,6 +99,9 @@ factor_bound JobShop = omega arith
 pub date_fits : (k : EnvKind) (d : ℤ) → LiesWithin (2 * GREATEST * inner_factor k) d → LiesWithin (2 ^ 62) d
 date_fits k d h = let b = factor_bound k in (omega (arith, ints, h.0, b), omega (arith, ints, h.1, b))
 
+pub dates_within : (i : Instance) → Inner i → i.class.crit ≡ Lmax → All (λ j. LiesWithin (2 ^ 62) j.due) i.jobs
+dates_within i inner e = λ k d l. date_fits (kind_of i.class.env) (get_or i.jobs k d).due (dated i e (get_or i.jobs k d) (inner.conditions.jobs k d l))
+
 pub dates_fit : (i : Instance) → Inner i → Applies 9 i → All (λ j. LiesWithin (2 ^ 62) j.due) i.jobs
 unfolding goes_of table
-dates_fit i inner h = let (b, g) = some_if _ _ h in λ k d l. date_fits (kind_of i.class.env) (get_or i.jobs k d).due (dated i (crit_number-injective _ Lmax (eqb-true _ _ b)) (get_or i.jobs k d) (inner.conditions.jobs k d l))
+dates_fit i inner h = let (b, g) = some_if _ _ h in dates_within i inner (crit_number-injective _ Lmax (eqb-true _ _ b))

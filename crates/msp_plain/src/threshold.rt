@@ -1,12 +1,12 @@
 // Whether the greatest lateness can be kept within a bound, as a question on sums.
-ghost use Rattle.std.specs.Prelude.{◌≡◌, ◌↔◌, ◌*◌, ◌^◌, ◌<◌, length, IfOk, IsTrue, All, map, ◌+ℤ◌, ◌*ℤ◌, ◌≤ℤ◌, slice_index_or, pos};
+ghost use Rattle.std.specs.Prelude.{◌≡◌, ◌↔◌, ◌*◌, ◌^◌, ◌<◌, length, IfOk, IsTrue, All, map, ◌+ℤ◌};
 ghost use Rattle.msp_class.specs.declared.class.Crit.TheVariants.{Lmax};
 ghost use Rattle.msp_class.specs.Env.{kind_of};
 ghost use Rattle.msp_instance.specs.Conditions.{Inner, LiesWithin, inner_limits};
-ghost use Rattle.msp_instance.specs.Instance.{no_job};
 ghost use Rattle.msp_schedule.specs.Feasible.{Feasible};
 ghost use Rattle.msp_schedule.specs.Within.{Within, IsUnit};
 ghost use Rattle.msp_plain.specs.Changes.{raised, shift_of};
+ghost use Rattle.msp_plain.specs.Raised.{IsInTime};
 ghost use Rattle.msp_plain.specs.Threshold.{IsThresholdSum, Meets, ThresholdLaw};
 
 use crate::copies::recast;
@@ -15,12 +15,19 @@ use msp_instance::{Instance, Job};
 use msp_schedule::{Piece, Schedule};
 use std::alloc::Global;
 
+fn raise(job: &mut Job, bound: i64)
+    requires { LiesWithin (2 ^ 62) (job.old.due +ℤ bound) }
+    ensures { job.new ≡ raised bound job.old }
+{
+    job.due += bound;
+}
+
 fn raise_all(jobs: &mut [Job], bound: i64)
     requires { All (λ j. LiesWithin (2 ^ 62) (j.due +ℤ bound)) jobs.old }
     ensures { jobs.new ≡ map (raised bound) jobs.old }
 {
     for job in jobs.iter_mut() {
-        job.due += bound;
+        raise(job, bound);
     }
 }
 
@@ -45,16 +52,38 @@ pub fn shifted(
     Ok(shifted)
 }
 
-/// Whether the piece is as late as the bound at most.
+/// The due date raised by the bound, without limit.
+fn raised_due(due: i64, bound: i64) -> i128
+    ensures { result ≡ due +ℤ bound }
+{
+    due as i128 + bound as i128
+}
+
+/// Whether the piece ends no later than its job's due date and the bound together.
 fn is_in_time(jobs: &[Job], unit: i128, bound: i64, piece: &Piece) -> bool
     requires unit { IsUnit unit }
     requires job { piece.now.job < length jobs.now }
     requires due { All (λ j. LiesWithin (2 ^ 62) j.due) jobs.now }
     requires bound { LiesWithin (2 * 10 ^ 18) bound }
-    ensures { IsTrue result ↔ (piece.now.to ≤ℤ (unit *ℤ ((slice_index_or jobs.now piece.now.job no_job).due +ℤ bound))) }
+    ensures { IsTrue result ↔ IsInTime jobs.now unit bound piece.now }
 {
-    let due = jobs[piece.job as usize].due as i128;
-    piece.to <= unit * (due + bound as i128)
+    let due = jobs[piece.job as usize].due;
+    piece.to <= unit * raised_due(due, bound)
+}
+
+fn all_in_time(jobs: &[Job], s: &Schedule, bound: i64) -> bool
+    requires unit { IsUnit s.now.unit }
+    requires jobs { All (λ p. p.job < length jobs.now) s.now.pieces }
+    requires due { All (λ j. LiesWithin (2 ^ 62) j.due) jobs.now }
+    requires bound { LiesWithin (2 * 10 ^ 18) bound }
+    ensures { IsTrue result ↔ All (IsInTime jobs.now s.now.unit bound) s.now.pieces }
+{
+    for piece in s.pieces.as_slice() {
+        if !is_in_time(jobs, s.unit, bound, piece) {
+            return false;
+        }
+    }
+    true
 }
 
 /// Whether the greatest lateness is at most the bound.
@@ -66,11 +95,7 @@ pub fn meets(inst: &Instance, s: &Schedule, bound: i64) -> bool
     requires bound { LiesWithin (2 * 10 ^ 18) bound }
     ensures { IsTrue result ↔ Meets inst.now s.now bound }
 {
-    let jobs = inst.jobs.as_slice();
-    s.pieces
-        .as_slice()
-        .iter()
-        .all(|p| is_in_time(jobs, s.unit, bound, p))
+    all_in_time(inst.jobs.as_slice(), s, bound)
 }
 
 /// The law of the two threshold rows: the greatest lateness is at most the bound exactly where the sum is 0 at raised due dates.

@@ -1,4 +1,4 @@
--- The jobs before the place are charged by curves, the others as before.
+-- The jobs before the place are charged by curves, the others are as they were.
 use Rattle.std.proofs.Common.{◌≡◌, ◌++◌, map, take, drop}
 use Rattle.msp_plain.specs.Changes.{by_curve}
 use Rattle.msp_plain.proofs.curves.charge_all_by_curves.Given as goal

@@ -1,4 +1,4 @@
--- The jobs before the place are charged by threshold, the others as before.
+-- The jobs before the place are raised, the others are as they were.
 use Rattle.std.proofs.Common.{◌≡◌, ◌++◌, map, take, drop}
 use Rattle.msp_plain.specs.Changes.{raised}
 use Rattle.msp_plain.proofs.threshold.raise_all.Given as goal
