@@ -5,3 +5,4 @@ pub mod Alike
 pub mod Names
 pub mod Curves
 pub mod Raised
+pub mod Examples
