@@ -15,6 +15,7 @@ mod limits;
 mod total_cost;
 
 pub use fraction::lowest;
+pub use job_cost::job_cost_at;
 pub use laws::{law_of_ends, law_of_floors};
 pub use limits::{GREATEST_CARRIED_UNIT, GREATEST_MOMENT, GREATEST_UNIT, MOST_PIECES};
 use msp_class::List;

@@ -1,5 +1,5 @@
 -- What an instance of a class on one machine has, where release dates are 0 and times are arbitrary.
-use Rattle.std.proofs.Common.{◌≡◌, ℕ, ◌<◌, ◌≤◌, false, length, get_or, All, ap, subst, subst₂, arith, slice_index_or}
+use Rattle.std.proofs.Common.{◌≡◌, ℕ, ◌<◌, ◌≤◌, false, length, get_or, All, subst, subst₂, arith, slice_index_or}
 use Rattle.msp_class.specs.declared.class.Env.{Env}
 use Rattle.msp_class.specs.declared.class.Env.TheVariants.{One}
 use Rattle.msp_class.specs.declared.class.Times.{Times}

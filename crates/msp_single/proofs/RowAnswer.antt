@@ -1,8 +1,6 @@
 -- A row of the jobs on one machine as an answer: the releases allow it, and it lies within the bounds.
 use Rattle.std.proofs.Common.{◌≡◌, ℕ, ◌<◌, ◌≤◌, List, length, get_or, ℤ, pos, ◌*ℤ◌, ◌≤ℤ◌, All, sym, subst, arith}
 use Rattle.std.proofs.lemmas.Int.{ints}
-use Rattle.msp_class.specs.declared.environments.EnvKind.{EnvKind}
-use Rattle.msp_class.specs.declared.environments.EnvKind.TheVariants.{Identical}
 use Rattle.msp_class.proofs.Sums.{OnceBelow, length-OnceBelow}
 use Rattle.msp_instance.specs.declared.Instance.{Instance}
 use Rattle.msp_instance.specs.Instance.{job_at, no_job}

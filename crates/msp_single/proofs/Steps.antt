@@ -1,12 +1,14 @@
 -- One step of a loop that puts jobs in a row, at the numbers as the code passes them.
-use Rattle.std.proofs.Common.{◌≡◌, ℕ, ◌+◌, ◌*◌, ◌<◌, ◌≤◌, Bool, false, not, cond, List, [], ◌∷◌, ◌++◌, length, get_or, take, sum_by, pos, ℤ, All, OnOk, Ok, Err, Result, sym, ap, ◌∙◌, arith, slice_index_or}
+use Rattle.std.proofs.Common.{◌≡◌, ℕ, suc, ◌+◌, ◌*◌, ◌<◌, ◌≤◌, Bool, false, not, cond, List, [], ◌∷◌, ◌++◌, length, get_or, take, sum_by, pos, ℤ, All, OnOk, Ok, Err, Result, sym, ap, ◌∙◌, arith, slice_index_or}
 use Rattle.std.specs.Result.{is_err}
+use Rattle.std.specs.List.{range_with_len}
 use Rattle.std.proofs.lemmas.List.{take_more, get_or_default}
 use Rattle.std.proofs.lemmas.List.Sums.{sum_by-append, sum_by-cons}
+use Rattle.msp_class.proofs.Sums.{range_with_len_last}
 use Rattle.msp_schedule.proofs.Rows.{row, row-append}
 use Rattle.msp_instance.specs.declared.Job.{Job}
 use Rattle.msp_instance.specs.declared.Instance.{Instance}
-use Rattle.msp_instance.specs.Instance.{no_need, no_job, job_at, need_at}
+use Rattle.msp_instance.specs.Instance.{no_need, no_job, job_at}
 use Rattle.msp_schedule.specs.declared.Piece.{Piece}
 use Rattle.msp_schedule.proofs.OneRow.{piece, time_at}
 
@@ -51,3 +53,10 @@ time_read i jobs j time job e l at is =
 
 pub ends_early : (i : Instance) (j k moment time : ℕ) → All (λ y. (0 < length y.needs) × ((slice_index_or y.needs 0 no_need).time ≤ 1000000000)) i.jobs → j < length i.jobs → time ≡ time_at i j → moment ≤ 1000000000 * k → moment + time ≤ 1000000000 * (k + 1)
 ends_early i j k moment time h l is early = omega (arith, (h j no_job l).1)
+
+-- one more number
+pub range-next : (new old : List ℕ) (k : ℕ) → new ≡ old ++ k ∷ [] → old ≡ range_with_len 0 k → new ≡ range_with_len 0 (k + 1)
+range-next new old k e so_far =
+    let place : k ≡ 0 + k = omega arith in
+    let back : suc k ≡ k + 1 = omega arith in
+    e ∙ ap (λ l. l ++ k ∷ []) so_far ∙ ap (λ n. range_with_len 0 k ++ n ∷ []) place ∙ sym (range_with_len_last 0 k) ∙ ap (range_with_len 0) back

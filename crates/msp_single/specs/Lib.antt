@@ -1,1 +1,3 @@
 pub mod Smith
+pub mod Lawler
+pub mod Candidates

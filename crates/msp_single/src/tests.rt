@@ -4,7 +4,7 @@ ghost use Rattle.msp_class.specs.declared.class.Env.TheVariants.{One};
 ghost use Rattle.msp_class.specs.declared.class.Times.TheVariants.{General};
 ghost use Rattle.msp_instance.specs.Conditions.{Inner};
 
-use crate::Smith;
+use crate::{Lawler, Smith};
 use msp_class::{Class, Crit, Env, List, Order, Times};
 use msp_instance::{Arc, Curve, Instance, Job, Need, Step, check, forward};
 use msp_route::Solver;
@@ -152,5 +152,48 @@ fn smith_breaks_ties_by_number(rt: HostRuntime) {
     let best = smith(rt.alloc(), &[load(2, 1), load(4, 2)]).expect(&rt, "there is memory");
     let pieces = [on_machine(0, 0, 2), on_machine(1, 2, 6)];
     assert_eq!(rt; best.cost.num, 14);
+    assert_eq!(rt; best.schedule.pieces.as_slice(), pieces.as_slice());
+}
+
+/// A job with a time and a curve.
+fn priced(time: u64, slope: u64, base: i64, step: Option<Step>) -> Data {
+    Data {
+        time,
+        weight: 1,
+        slope,
+        base,
+        step,
+    }
+}
+
+fn lawler(alloc: Global, all: &[Data], before: &[(u32, u32)]) -> Option<Solution> {
+    let class = class(Order::Prec, Crit::Fmax);
+    let inst = instance(alloc, class, jobs(alloc, all)?, arcs(alloc, before)?)?;
+    Lawler.solve(alloc, &inst).ok()
+}
+
+#[test]
+fn lawler_heeds_arcs(rt: HostRuntime) {
+    let all = [
+        priced(2, 1, 0, None),
+        priced(3, 0, 0, Some(Step { above: 5, add: 10 })),
+        priced(1, 2, -4, None),
+    ];
+    let best = lawler(rt.alloc(), &all, &[(0, 1)]).expect(&rt, "there is memory");
+    let pieces = [
+        on_machine(0, 0, 2),
+        on_machine(1, 2, 5),
+        on_machine(2, 5, 6),
+    ];
+    assert_eq!(rt; best.cost.num, 8);
+    assert_eq!(rt; best.schedule.pieces.as_slice(), pieces.as_slice());
+}
+
+#[test]
+fn lawler_orders_jobs_by_due_date(rt: HostRuntime) {
+    let all = [priced(2, 1, -4, None), priced(3, 1, 2, None)];
+    let best = lawler(rt.alloc(), &all, &[]).expect(&rt, "there is memory");
+    let pieces = [on_machine(1, 0, 3), on_machine(0, 3, 5)];
+    assert_eq!(rt; best.cost.num, 5);
     assert_eq!(rt; best.schedule.pieces.as_slice(), pieces.as_slice());
 }

@@ -1,0 +1,136 @@
+-- The row of the jobs in Lawler's order is best, and in the form of an answer.
+use Rattle.std.proofs.Common.{◌≡◌, ◌≢◌, ℕ, ◌+◌, ◌<◌, ◌≤◌, inl, inr, List, ◌∷◌, ◌++◌, length, get_or, take, drop, map, pos, ◌≤ℤ◌, All, AllPairs, Contains, refl, sym, ap, ap₂, subst, ◌∙◌, arith}
+use Rattle.std.proofs.lemmas.Int.{ints}
+use Rattle.std.proofs.lemmas.List.{take-append-drop, drop_more, get_or-take, length-take, get_or_default}
+use Rattle.std.proofs.lemmas.List.Sums.{sum_by_more}
+use Rattle.std.proofs.lemmas.List.Elements.{All-take, All-contains, Contains-get_or}
+use Rattle.msp_class.proofs.IntegerRing.{≤ℤ_of_same, <ℤ_weak}
+use Rattle.msp_class.proofs.Sums.{OnceBelow, OnceBelow-from_permutation, OnceBelow-distinct, OnceBelow-contains}
+use Rattle.msp_instance.specs.declared.Arc.{Arc}
+use Rattle.msp_instance.specs.declared.Instance.{Instance}
+use Rattle.msp_instance.specs.Conditions.{Inner}
+use Rattle.msp_instance.specs.Paths.{HasStep}
+use Rattle.msp_schedule.specs.declared.Piece.{Piece}
+use Rattle.msp_schedule.specs.declared.Schedule.{Schedule}
+use Rattle.msp_schedule.specs.Piece.{IsBefore}
+use Rattle.msp_schedule.specs.Feasible.{Feasible}
+use Rattle.msp_schedule.specs.Cost.{end_of, Best}
+use Rattle.msp_schedule.specs.Settled.{IsSettled}
+use Rattle.msp_schedule.specs.Within.{Within}
+use Rattle.msp_schedule.proofs.Rows.{row, row-jobs, row-last, row-arcs, end_in, end_in-at}
+use Rattle.msp_schedule.proofs.OneMachine.{job_of, start, finish, IsTimed, last_end-is}
+use Rattle.msp_schedule.proofs.OneRow.{piece, piece_makes, time_at, row_schedule, row_is_feasible, row_is_settled, row_is_within}
+use Rattle.msp_route.specs.Bounds.{IsAnswer}
+use Rattle.msp_single.specs.Lawler.{lawler_class, time_together, cost_at, CostsLess, IsLawlerOrder}
+use Rattle.msp_single.proofs.Certified.{ranked, Rises, IsCertified, best_by_certificates}
+use Rattle.msp_single.proofs.Facts.{takes_time, is_short}
+use Rattle.msp_single.proofs.LawlerFacts.{IsLawlerInstance, IsLawlerInstance-from_class}
+use Rattle.msp_single.proofs.RowAnswer.{timed, released, row_is_answer}
+
+-- what is said of the answer's schedule
+pub record IsLawlerSchedule (i : Instance) (s : Schedule) : Type 0 where
+  pub best : Best i s
+  pub settled : IsSettled s
+  pub within : Within i s
+  pub answer : IsAnswer i s
+  pub order : IsLawlerOrder i (map job_of s.pieces)
+
+module _ (i : Instance) (h : IsLawlerInstance i) (order : List ℕ) (o : IsLawlerOrder i order) where
+  once : OnceBelow (length i.jobs) order
+  once = OnceBelow-from_permutation o.all
+
+  distinct : AllPairs (λ x y. x ≢ y) order
+  distinct = OnceBelow-distinct once
+
+  abbrev pieces : List Piece
+  pieces = row piece (time_at i) 0 order
+
+  abbrev rank : ℕ → ℕ
+  rank = (ranked i h.inner.acyclic).0
+
+  rises : Rises i rank
+  rises = (ranked i h.inner.acyclic).1
+
+  -- ---- arcs go forward
+  loose : (j : ℕ) → ¬ HasStep i.arcs j j
+  loose j c = let l : rank j < rank j = All-contains (λ a. rank a.before < rank a.after) i.arcs (record { before = j; after = j }) rises c in absurd (omega (arith, l))
+
+  forward : AllPairs (λ x y. ¬ HasStep i.arcs y x) order
+  forward a b d less inside c =
+      let free = (o.last b inside).free in
+      let here : get_or order b d ≡ get_or order b 0 = get_or_default order b d 0 inside in
+      let not_there = All-contains (λ v. v.before ≡ get_or order b 0 → ¬ Contains (take (b + 1) order) v.after) i.arcs (record { before = get_or order b d; after = get_or order a d }) free c here in
+      not_there (a, omega (arith, length-take (b + 1) order, less, inside), get_or-take (b + 1) order a (get_or order a d) (omega (arith, less)) ∙ get_or_default order a (get_or order a d) d (omega (arith, less, inside)))
+
+  in_order : All (λ a. All (λ p. All (λ q. p.job ≡ a.before → q.job ≡ a.after → IsBefore p q) pieces) pieces) i.arcs
+  in_order k d l x u lx y v ly e e' =
+      let p = get_or pieces x u in
+      let q = get_or pieces y v in
+      let step : HasStep i.arcs p.job q.job = subst (Contains i.arcs) (same (get_or i.arcs k d) p.job q.job e e') (Contains-get_or i.arcs k d l) in
+      in_int p q (timed i h.plain order once x u lx) (timed i h.plain order once y v ly) (row-arcs piece (time_at i) piece_makes (HasStep i.arcs) 0 order loose forward p q (Contains-get_or pieces x u lx) (Contains-get_or pieces y v ly) step)
+    where
+      same : (a : Arc) (m n : ℕ) → m ≡ a.before → n ≡ a.after → a ≡ record { before = m; after = n }
+      same a m n f g = sym (ap₂ (λ b c. record { before = b; after = c }) f g)
+
+      in_int : (p q : Piece) → IsTimed p → IsTimed q → finish p ≤ start q → IsBefore p q
+      in_int p q tp tq l = omega (arith, ints, tp.to, tq.from, l)
+
+  lawler_is_feasible : Feasible i (row_schedule i order)
+  lawler_is_feasible = row_is_feasible i order once (takes_time i h.plain) h.plain.machine (released i h.plain order once) in_order
+
+  -- ---- each job is certified when it ends
+  module _ (k : ℕ) (inside : k < length order) where
+    abbrev moment : ℕ
+    moment = time_together i (take (k + 1) order)
+
+    abbrev first : List ℕ
+    first = take (k + 1) order
+
+    certified : IsCertified i (λ _. 0) (get_or order k 0) moment
+    certified = record {
+      jobs = first;
+      from = 0;
+      some = omega (arith, length-take (k + 1) order, inside);
+      inside = All-take (λ x. x < length i.jobs) (k + 1) order once.within;
+      apart = λ a b d less l.
+          let short : b < k + 1 = omega (arith, length-take (k + 1) order, l) in
+          let long : b < length order = omega (arith, length-take (k + 1) order, l) in
+          λ e. distinct a b d less long (sym (get_or-take (k + 1) order a d (omega (arith, less, short))) ∙ e ∙ get_or-take (k + 1) order b d short);
+      begin = λ a d l. omega arith;
+      whole = omega arith;
+      least = λ a d l free. at_most (get_or first a d) ((o.last k inside).least a d l free);
+    }
+      where
+        at_most : (x : ℕ) → CostsLess i moment (get_or order k 0) x → cost_at i (get_or order k 0) moment ≤ℤ cost_at i x moment
+        at_most x c = elim c [ inl l ↦ <ℤ_weak l | inr e ↦ ≤ℤ_of_same e.0 ]
+
+    ends_then : end_of (row_schedule i order) (get_or order k 0) ≡ pos moment
+    ends_then =
+        let j = get_or order k 0 in
+        let split : order ≡ take k order ++ j ∷ drop (k + 1) order = sym (take-append-drop k order) ∙ ap (λ l. take k order ++ l) (drop_more order k 0 inside) in
+        let others : All (λ x. x ≢ j) (take k order) = λ a d l e. distinct a k 0 (omega (arith, length-take k order, l)) inside (get_or_default order a 0 d (omega (arith, length-take k order, l, inside)) ∙ sym (get_or-take k order a d (omega (arith, length-take k order, l))) ∙ e) in
+        last_end-is pieces j (timed i h.plain order once)
+        ∙ ap pos (row-last piece (time_at i) piece_makes 0 order j distinct (Contains-get_or order k 0 inside)
+        ∙ ap (λ l. end_in (time_at i) 0 l j) split
+        ∙ end_in-at (time_at i) 0 (take k order) j (drop (k + 1) order) others
+        ∙ omega (arith, sum_by_more (time_at i) order k 0 inside))
+
+  each_certified : (j : ℕ) → j < length i.jobs → (moment : ℕ) × (end_of (row_schedule i order) j ≤ℤ pos moment) × IsCertified i (λ _. 0) j moment
+  each_certified j l =
+      let (k, inside, e) = OnceBelow-contains once j l in
+      let is : get_or order k 0 ≡ j = get_or_default order k 0 j inside ∙ e in
+      (moment k inside, ≤ℤ_of_same (ap (end_of (row_schedule i order)) (sym is) ∙ ends_then k inside), subst (λ x. IsCertified i (λ _. 0) x (moment k inside)) is (certified k inside))
+
+  pub lawler_schedule : IsLawlerSchedule i (row_schedule i order)
+  lawler_schedule = record {
+    best = best_by_certificates i h.plain.machine (takes_time i h.plain) h.inner.conditions.ends (omega (arith, h.plain.some)) h.greatest (λ _. 0) rank (λ j l. inl (omega arith)) rises (row_schedule i order) refl lawler_is_feasible each_certified;
+    settled = row_is_settled i order once (takes_time i h.plain);
+    within = row_is_within i order once (takes_time i h.plain) h.plain.few (is_short i h.plain) h.plain.machine.kind;
+    answer = row_is_answer i h.plain order once;
+    order = subst (IsLawlerOrder i) (sym (row-jobs piece (time_at i) piece_makes 0 order)) o;
+  }
+
+-- ---- at the numbers as the code passes them
+pub IsLawlerSchedule-made : (i : Instance) → i.class ≡ lawler_class → Inner i → (made : List Piece) (numbers order : List ℕ) → IsLawlerOrder i order → made ≡ row piece (time_at i) 0 numbers → numbers ≡ order → IsLawlerSchedule i (record { unit = pos 1; pieces = made })
+IsLawlerSchedule-made i class inner made numbers order o laid same =
+    subst (IsLawlerSchedule i) (sym (ap (λ ps. record { unit = pos 1; pieces = ps }) (laid ∙ ap (row piece (time_at i) 0) same))) (lawler_schedule i (IsLawlerInstance-from_class i class inner) order o)

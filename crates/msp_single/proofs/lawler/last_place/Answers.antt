@@ -1,0 +1,12 @@
+use Rattle.msp_single.proofs.Search.{some_open, goes_last}
+use Rattle.msp_single.proofs.lawler.last_place.Goals as goal
+
+pub unreachable-requires : goal.unreachable-requires
+unreachable-requires c =
+    some_open c.args.inst.now c.args.left.now c.marks_of-is_left.result c.blocked_jobs-blocked.result c.as_slice.result.now c.as_slice.ensures c.requires.inner.conditions.few c.requires.inner.conditions.ends c.marks_of-is_left.ensures c.blocked_jobs-blocked.ensures
+    c.requires.inside c.requires.inner.acyclic c.requires.some c.in-None.ensures
+
+pub returns-clause-last : goal.returns-clause-last
+returns-clause-last c =
+    goes_last c.args.inst.now c.args.left.now c.marks_of-is_left.result c.blocked_jobs-blocked.result c.as_slice.result.now c.as_slice.ensures c.requires.inner.conditions.few c.requires.inner.conditions.ends c.marks_of-is_left.ensures c.blocked_jobs-blocked.ensures
+    c.requires.inside c.in-Some.last c.total_time.result c.total_time.ensures.value c.in-Some.ensures

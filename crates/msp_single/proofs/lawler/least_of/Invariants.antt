@@ -1,0 +1,8 @@
+use Rattle.std.proofs.Common.{false, slice_index_or}
+use Rattle.msp_single.specs.Lawler.{cost_at}
+use Rattle.msp_single.specs.Candidates.{IsFound}
+use Rattle.msp_single.proofs.lawler.least_of.Given as goal
+
+-- what was found so far
+abbrev pub invariant-loop-place : goal.invariant-loop-place
+invariant-loop-place l = IsFound l.jobs (λ j. slice_index_or l.blocked j false) (λ j. cost_at l.inst j l.moment) l.place l.best

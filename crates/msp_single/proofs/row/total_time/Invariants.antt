@@ -1,0 +1,10 @@
+use Rattle.std.proofs.Common.{◌≡◌, ◌*◌, ◌≤◌, take, sum_by}
+use Rattle.msp_schedule.proofs.OneRow.{time_at}
+use Rattle.msp_single.proofs.row.total_time.Given as goal
+
+-- how long the jobs so far take
+abbrev pub invariant-loop-k : goal.invariant-loop-k
+invariant-loop-k l = record {
+  value : l.total ≡ sum_by (time_at l.inst) (take l.k l.jobs);
+  early : l.total ≤ 1000000000 * l.k;
+}
