@@ -27,7 +27,7 @@ use Rattle.msp_schedule.proofs.Intervals.{work_of, last_of, last_of-bound, last_
 use Rattle.msp_schedule.proofs.OneMachine.{job_of, start, finish, IsTimed, IsOneMachine, IsPlan, IsPlan-from_feasible, last_end-is}
 use Rattle.msp_schedule.proofs.OneRow.{time_at}
 use Rattle.msp_schedule.proofs.Charges.{job_cost-mono, job_cost-scale, charge_of, cost_of-bound, cost_of-reached}
-use Rattle.msp_single.specs.Lawler.{time_together, cost_at, HasNoSuccessor}
+use Rattle.msp_single.specs.Lawler.{total_time, cost_at, HasNoSuccessor}
 
 -- ---- ranks that rise along the arcs
 abbrev pub Rises : Instance → (ℕ → ℕ) → Type 0
@@ -72,7 +72,7 @@ pub record IsCertified (i : Instance) (heads : ℕ → ℕ) (j moment : ℕ) : T
   pub inside : All (λ k. k < length i.jobs) jobs
   pub apart : AllPairs (λ k l. k ≢ l) jobs
   pub begin : All (λ k. from ≤ heads k) jobs
-  pub whole : moment ≡ from + time_together i jobs
+  pub whole : moment ≡ from + total_time i jobs
   pub least : All (λ k. HasNoSuccessor i jobs k → cost_at i j moment ≤ℤ cost_at i k moment) jobs
 
 -- ---- a list without repeats sums to the total of its members
@@ -162,7 +162,7 @@ module _ (i : Instance) (m : IsOneMachine i) (takes : (j : ℕ) → j < length i
     abbrev work : ℕ
     work = total_below (length i.jobs) (λ k. cond (among k) (work_of job_of start finish t.pieces k) 0)
 
-    work_is : work ≡ unit * time_together i certified.jobs
+    work_is : work ≡ unit * total_time i certified.jobs
     work_is =
         let n = length i.jobs in
         total_below-same n _ (λ k. unit * cond (among k) (time_at i k) 0) (λ k l. ap (λ w. cond (among k) w 0) (plan.work k l) ∙ cond-scale (among k) unit (time_at i k))

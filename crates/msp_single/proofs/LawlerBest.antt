@@ -21,7 +21,7 @@ use Rattle.msp_schedule.proofs.Rows.{row, row-jobs, row-last, row-arcs, end_in, 
 use Rattle.msp_schedule.proofs.OneMachine.{job_of, start, finish, IsTimed, last_end-is}
 use Rattle.msp_schedule.proofs.OneRow.{piece, piece_makes, time_at, row_schedule, row_is_feasible, row_is_settled, row_is_within}
 use Rattle.msp_route.specs.Bounds.{IsAnswer}
-use Rattle.msp_single.specs.Lawler.{lawler_class, time_together, cost_at, CostsLess, IsLawlerOrder}
+use Rattle.msp_single.specs.Lawler.{lawler_class, total_time, cost_at, CostsLess, IsLawlerOrder}
 use Rattle.msp_single.proofs.Certified.{ranked, Rises, IsCertified, best_by_certificates}
 use Rattle.msp_single.proofs.Facts.{takes_time, is_short}
 use Rattle.msp_single.proofs.LawlerFacts.{IsLawlerInstance, IsLawlerInstance-from_class}
@@ -81,7 +81,7 @@ module _ (i : Instance) (h : IsLawlerInstance i) (order : List ℕ) (o : IsLawle
   -- ---- each job is certified when it ends
   module _ (k : ℕ) (inside : k < length order) where
     abbrev moment : ℕ
-    moment = time_together i (take (k + 1) order)
+    moment = total_time i (take (k + 1) order)
 
     abbrev first : List ℕ
     first = take (k + 1) order
@@ -131,6 +131,5 @@ module _ (i : Instance) (h : IsLawlerInstance i) (order : List ℕ) (o : IsLawle
   }
 
 -- ---- at the numbers as the code passes them
-pub IsLawlerSchedule-made : (i : Instance) → i.class ≡ lawler_class → Inner i → (made : List Piece) (numbers order : List ℕ) → IsLawlerOrder i order → made ≡ row piece (time_at i) 0 numbers → numbers ≡ order → IsLawlerSchedule i (record { unit = pos 1; pieces = made })
-IsLawlerSchedule-made i class inner made numbers order o laid same =
-    subst (IsLawlerSchedule i) (sym (ap (λ ps. record { unit = pos 1; pieces = ps }) (laid ∙ ap (row piece (time_at i) 0) same))) (lawler_schedule i (IsLawlerInstance-from_class i class inner) order o)
+pub IsLawlerSchedule-made : (i : Instance) → i.class ≡ lawler_class → Inner i → (numbers order : List ℕ) → IsLawlerOrder i order → numbers ≡ order → IsLawlerSchedule i (row_schedule i numbers)
+IsLawlerSchedule-made i class inner numbers order o same = subst (λ js. IsLawlerSchedule i (row_schedule i js)) (sym same) (lawler_schedule i (IsLawlerInstance-from_class i class inner) order o)

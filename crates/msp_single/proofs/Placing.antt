@@ -10,13 +10,13 @@ use Rattle.std.proofs.lemmas.List.Sorted.{IsPermutation-swap, IsPermutation-sym,
 use Rattle.msp_class.proofs.Sums.{sum_by-IsPermutation, OnceBelow-from_permutation, length-OnceBelow}
 use Rattle.msp_instance.specs.declared.Instance.{Instance}
 use Rattle.msp_schedule.proofs.OneRow.{time_at}
-use Rattle.msp_single.specs.Lawler.{time_together, HasNoSuccessor, CostsLess, GoesLast}
+use Rattle.msp_single.specs.Lawler.{total_time, HasNoSuccessor, CostsLess, GoesLast}
 
 -- the order of the jobs before the last one does not matter
 pub GoesLast-permutation : (i : Instance) (xs ys : List ℕ) (j : ℕ) → IsPermutation xs ys → GoesLast i xs j → GoesLast i ys j
 GoesLast-permutation i xs ys j p h = record {
   free = still xs ys p j h.free;
-  least = All-permutation (λ x. HasNoSuccessor i ys x → CostsLess i (time_together i ys) j x) xs ys p (λ k d l free. subst (λ m. CostsLess i m j (get_or xs k d)) (sym (sum_by-IsPermutation (time_at i) xs ys p)) (h.least k d l (still ys xs (IsPermutation-sym xs ys p) (get_or xs k d) free)));
+  least = All-permutation (λ x. HasNoSuccessor i ys x → CostsLess i (total_time i ys) j x) xs ys p (λ k d l free. subst (λ m. CostsLess i m j (get_or xs k d)) (sym (sum_by-IsPermutation (time_at i) xs ys p)) (h.least k d l (still ys xs (IsPermutation-sym xs ys p) (get_or xs k d) free)));
 }
   where
     still : (xs ys : List ℕ) → IsPermutation xs ys → (x : ℕ) → HasNoSuccessor i xs x → HasNoSuccessor i ys x

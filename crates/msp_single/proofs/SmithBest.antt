@@ -85,6 +85,5 @@ module _ (i : Instance) (h : IsSmithInstance i) (order : List ℕ) (o : IsSmithO
   }
 
 -- ---- at the numbers as the code passes them
-pub IsSmithSchedule-made : (i : Instance) → i.class ≡ smith_class → Inner i → (made : List Piece) (numbers order : List ℕ) → IsSmithOrder i order → made ≡ row piece (time_at i) 0 numbers → numbers ≡ order → IsSmithSchedule i (record { unit = pos 1; pieces = made })
-IsSmithSchedule-made i class inner made numbers order o laid same =
-    subst (IsSmithSchedule i) (sym (ap (λ ps. record { unit = pos 1; pieces = ps }) (laid ∙ ap (row piece (time_at i) 0) same))) (smith_schedule i (IsSmithInstance-from_class i class inner) order o)
+pub IsSmithSchedule-made : (i : Instance) → i.class ≡ smith_class → Inner i → (numbers order : List ℕ) → IsSmithOrder i order → numbers ≡ order → IsSmithSchedule i (row_schedule i numbers)
+IsSmithSchedule-made i class inner numbers order o same = subst (λ js. IsSmithSchedule i (row_schedule i js)) (sym same) (smith_schedule i (IsSmithInstance-from_class i class inner) order o)

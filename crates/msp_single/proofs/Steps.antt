@@ -10,7 +10,7 @@ use Rattle.msp_instance.specs.declared.Job.{Job}
 use Rattle.msp_instance.specs.declared.Instance.{Instance}
 use Rattle.msp_instance.specs.Instance.{no_need, no_job, job_at}
 use Rattle.msp_schedule.specs.declared.Piece.{Piece}
-use Rattle.msp_schedule.proofs.OneRow.{piece, time_at}
+use Rattle.msp_schedule.proofs.OneRow.{piece, time_at, row_schedule}
 
 -- what a push that was not refused leaves
 pub pushed : {X : Type 0} (new old more : List X) (ok err : Bool) → new ≡ cond ok more old → ok ≡ not err → err ≡ false → new ≡ more
@@ -60,3 +60,7 @@ range-next new old k e so_far =
     let place : k ≡ 0 + k = omega arith in
     let back : suc k ≡ k + 1 = omega arith in
     e ∙ ap (λ l. l ++ k ∷ []) so_far ∙ ap (λ n. range_with_len 0 k ++ n ∷ []) place ∙ sym (range_with_len_last 0 k) ∙ ap (range_with_len 0) back
+
+-- the pieces of a row as a schedule
+pub as_schedule : (i : Instance) (made : List Piece) (order : List ℕ) → made ≡ row piece (time_at i) 0 order → record { unit = pos 1; pieces = made } ≡ row_schedule i order
+as_schedule i made order e = ap (λ ps. record { unit = pos 1; pieces = ps }) e

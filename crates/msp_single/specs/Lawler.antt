@@ -15,8 +15,8 @@ abbrev pub lawler_class : Class
 lawler_class = record { env = One; cut = false; order = Prec; heads = false; times = General; crit = Fmax }
 
 -- How long the jobs take one after another.
-abbrev pub time_together : Instance → List ℕ → ℕ
-time_together i jobs = sum_by (λ j. (need_at i j 0).time) jobs
+abbrev pub total_time : Instance → List ℕ → ℕ
+total_time i jobs = sum_by (λ j. (need_at i j 0).time) jobs
 
 -- What a job costs that ends at the moment.
 abbrev pub cost_at : Instance → ℕ → ℕ → ℤ
@@ -34,7 +34,7 @@ CostsLess i moment a b = (cost_at i a moment <ℤ cost_at i b moment) ⊎ ((cost
 -- the lesser number.
 pub record GoesLast (i : Instance) (jobs : List ℕ) (last : ℕ) : Type 0 where
   pub free : HasNoSuccessor i jobs last
-  pub least : All (λ j. HasNoSuccessor i jobs j → CostsLess i (time_together i jobs) last j) jobs
+  pub least : All (λ j. HasNoSuccessor i jobs j → CostsLess i (total_time i jobs) last j) jobs
 
 -- All jobs, each once, by Lawler's rule: each is the last one of itself and those before it.
 pub record IsLawlerOrder (i : Instance) (order : List ℕ) : Type 0 where

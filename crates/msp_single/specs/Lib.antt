@@ -1,3 +1,4 @@
 pub mod Smith
 pub mod Lawler
 pub mod Candidates
+pub mod Row

@@ -10,11 +10,11 @@ ghost use Rattle.msp_route.specs.Bounds.{IsAnswer};
 ghost use Rattle.msp_single.specs.Lawler.{lawler_class, cost_at, GoesLast, IsLawlerOrder};
 ghost use Rattle.msp_single.specs.Candidates.{Precedes, IsFound};
 
-use crate::row::{in_a_row, total_time};
+use crate::row::{solution_in_order, total_time};
 use msp_class::{Class, Crit, Env, NoMemory, Order, Times};
 use msp_instance::{Arc, Instance, MOST_JOBS};
 use msp_route::Solver;
-use msp_schedule::{Schedule, Solution, job_cost_at};
+use msp_schedule::{Solution, job_cost_at};
 use std::alloc::Global;
 
 /// The class that the rule solves: `1|prec|fmax`.
@@ -218,9 +218,6 @@ impl Solver for Lawler {
         ensures lowest { IfOk result (λ s. IsLowest s.cost) }
     {
         let order = lawler_order(alloc, inst)?;
-        let pieces = in_a_row(alloc, inst, &order)?;
-        let schedule = Schedule { unit: 1, pieces };
-        let cost = msp_schedule::cost(inst, &schedule);
-        Ok(Solution { schedule, cost })
+        solution_in_order(alloc, inst, &order)
     }
 }

@@ -2,12 +2,16 @@
 ghost use Rattle.std.specs.Prelude.{◌≡◌, ◌*◌, ◌<◌, ◌≤◌, length, slice_index_or, sum_by, All, IfOk};
 ghost use Rattle.msp_instance.specs.declared.ranges.TheConstants.{GREATEST, MOST_JOBS};
 ghost use Rattle.msp_instance.specs.Instance.{no_need};
-ghost use Rattle.msp_schedule.proofs.OneRow.{piece, time_at};
+ghost use Rattle.msp_instance.specs.Conditions.{Inner};
+ghost use Rattle.msp_schedule.specs.Within.{Within};
+ghost use Rattle.msp_schedule.specs.Feasible.{Feasible};
+ghost use Rattle.msp_schedule.proofs.OneRow.{piece, time_at, row_schedule};
 ghost use Rattle.msp_schedule.proofs.Rows.{row};
+ghost use Rattle.msp_single.specs.Row.{IsRowSolution};
 
 use msp_class::{List, NoMemory};
 use msp_instance::{Instance, Job};
-use msp_schedule::Piece;
+use msp_schedule::{Piece, Schedule, Solution};
 use std::alloc::Global;
 
 /// The time of a job's first operation.
@@ -35,7 +39,7 @@ pub fn total_time(inst: &Instance, jobs: &[u32]) -> u64
 }
 
 /// The pieces of the jobs one after another on machine 0, from moment 0 on.
-pub fn in_a_row(alloc: Global, inst: &Instance, order: &[u32]) -> Result<List<Piece>, NoMemory>
+fn in_a_row(alloc: Global, inst: &Instance, order: &[u32]) -> Result<List<Piece>, NoMemory>
     requires few { length order.now ≤ MOST_JOBS }
     requires jobs { All (λ j. j < length inst.now.jobs) order.now }
     requires needs { All (λ j. (0 < length j.needs) × ((slice_index_or j.needs 0 no_need).time ≤ GREATEST)) inst.now.jobs }
@@ -59,4 +63,24 @@ pub fn in_a_row(alloc: Global, inst: &Instance, order: &[u32]) -> Result<List<Pi
         moment = end;
     }
     Ok(pieces)
+}
+
+/// The solution in which the jobs run one after another from moment 0 on.
+pub fn solution_in_order(
+    alloc: Global,
+    inst: &Instance,
+    order: &[u32],
+) -> Result<Solution, NoMemory>
+    requires inner { Inner inst.now }
+    requires few { length order.now ≤ MOST_JOBS }
+    requires jobs { All (λ j. j < length inst.now.jobs) order.now }
+    requires needs { All (λ j. (0 < length j.needs) × ((slice_index_or j.needs 0 no_need).time ≤ GREATEST)) inst.now.jobs }
+    requires within { Within inst.now (row_schedule inst.now order.now) }
+    requires feasible { Feasible inst.now (row_schedule inst.now order.now) }
+    ensures { IfOk result (λ s. IsRowSolution inst.now order.now s) }
+{
+    let pieces = in_a_row(alloc, inst, order)?;
+    let schedule = Schedule { unit: 1, pieces };
+    let cost = msp_schedule::cost(inst, &schedule);
+    Ok(Solution { schedule, cost })
 }

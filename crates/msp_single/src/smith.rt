@@ -11,11 +11,11 @@ ghost use Rattle.msp_schedule.specs.Settled.{IsSettled};
 ghost use Rattle.msp_route.specs.Bounds.{IsAnswer};
 ghost use Rattle.msp_single.specs.Smith.{smith_class, IsSmithOrder};
 
-use crate::row::{first_time, in_a_row};
+use crate::row::{first_time, solution_in_order};
 use msp_class::{Class, Crit, Env, NoMemory, Order, Times};
 use msp_instance::Instance;
 use msp_route::Solver;
-use msp_schedule::{Schedule, Solution};
+use msp_schedule::Solution;
 use std::alloc::Global;
 use std::cmp::Ordering;
 
@@ -134,9 +134,6 @@ impl Solver for Smith {
         ensures lowest { IfOk result (λ s. IsLowest s.cost) }
     {
         let order = smith_order(alloc, inst)?;
-        let pieces = in_a_row(alloc, inst, &order)?;
-        let schedule = Schedule { unit: 1, pieces };
-        let cost = msp_schedule::cost(inst, &schedule);
-        Ok(Solution { schedule, cost })
+        solution_in_order(alloc, inst, &order)
     }
 }
