@@ -64,3 +64,7 @@ IsTextFault _ = Unit {0}
 abbrev pub IsAnswerTo : List ℕ → Result Filed FileFault → Type 0
 IsAnswerTo bytes (Ok filed) = Reads bytes (Ok filed) × InClass filed.instance
 IsAnswerTo bytes (Err e) = IsFaultOf bytes e
+
+-- Each text is read in one way, so its first fault is one.
+abbrev pub ReadsOneWay : Type 0
+ReadsOneWay = (bytes : List ℕ) (read other : Result Filed FileFault) → Reads bytes read → Reads bytes other → read ≡ other

@@ -3,7 +3,7 @@ ghost use Rattle.std.specs.Prelude.{◌≡◌, ℕ, ◌+◌, ◌<◌, ◌≤◌,
 ghost use Rattle.msp_instance.specs.declared.Instance.{Instance as InstanceValue};
 ghost use Rattle.msp_instance.specs.Conditions.{MeetsConditions, text_limits, IsAcyclic};
 ghost use Rattle.msp_file.specs.declared.read.TheConstants.{MOST_BYTES};
-ghost use Rattle.msp_file.specs.Answers.{faulty_name, IsTextFault, IsAnswerTo};
+ghost use Rattle.msp_file.specs.Answers.{faulty_name, IsTextFault, IsAnswerTo, ReadsOneWay};
 ghost use Rattle.msp_grammar.specs.InstanceText.{IsInstanceText};
 ghost use Rattle.msp_file.specs.Reading.{Reads, ReadsRest, ReadsSpeeds, filed_of, no_draft};
 ghost use Rattle.msp_file.specs.Steps.{Gives, GivesBy, IsFaultOfFiled, place_of};
@@ -198,3 +198,8 @@ pub fn read_instance(alloc: Global, bytes: &[u8]) -> Result<Filed, FileFault>
     check_order(alloc, &filed)?;
     Ok(filed)
 }
+
+/// Each text is read in one way: the definition of reading by relations gives one instance or one first fault.
+pub fn texts_are_read_one_way()
+    ensures { ReadsOneWay }
+{}
