@@ -14,6 +14,9 @@ pub mod Charges
 pub mod Moves
 pub mod LastEnds
 pub mod Transport
+pub mod Permuted
+pub mod Shrunk
+pub mod SettledSchedules
 pub mod Serves
 pub mod Series
 pub mod InSeries

@@ -43,7 +43,7 @@ pub total-cons : (x : ℤ) (xs : List ℤ) → total (x ∷ xs) ≡ x +ℤ total
 total-cons x xs = total_from (pos 0 +ℤ x) xs ∙ ap (λ z. z +ℤ total xs) (+ℤ_idl x)
 
 -- multiples of two lists of numbers that are equal one by one have equal totals
-total-multiples : {X : Type 0} (a b : ℤ) (f g : X → ℤ) (xs : List X) → All (λ x. a *ℤ f x ≡ b *ℤ g x) xs → a *ℤ total (map f xs) ≡ b *ℤ total (map g xs)
+pub total-multiples : {X : Type 0} (a b : ℤ) (f g : X → ℤ) (xs : List X) → All (λ x. a *ℤ f x ≡ b *ℤ g x) xs → a *ℤ total (map f xs) ≡ b *ℤ total (map g xs)
 total-multiples a b f g [] h = *ℤ-zero a ∙ sym (*ℤ-zero b)
 total-multiples a b f g (x ∷ xs) h =
     ap (λ z. a *ℤ z) (total-cons (f x) (map f xs)) ∙ *ℤ-add a (f x) (total (map f xs))

@@ -4,5 +4,6 @@ pub mod Cost
 pub mod Fraction
 pub mod Within
 pub mod Settled
+pub mod Divisor
 pub mod Examples
 pub mod Laws

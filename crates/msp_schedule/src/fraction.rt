@@ -6,7 +6,7 @@ ghost use Rattle.msp_schedule.specs.Fraction.{IsLowest, IsSameFraction};
 use crate::Frac;
 
 /// The greatest common divisor (Euclid).
-fn gcd(a: u128, b: u128) -> u128
+pub(crate) fn gcd(a: u128, b: u128) -> u128
     ensures { IsGcd a b result }
 {
     let mut x = a;
@@ -29,7 +29,7 @@ fn with_sign(size: u128, like: i128) -> i128
     if like < 0 { -value } else { value }
 }
 
-fn quotient(whole: u128, divisor: u128) -> i128
+pub(crate) fn quotient(whole: u128, divisor: u128) -> i128
     requires small { whole < 2 ^ 127 }
     requires some { 0 < divisor }
     ensures { result ≡ pos (whole / divisor) }

@@ -12,6 +12,7 @@ mod fraction;
 mod job_cost;
 mod laws;
 mod limits;
+mod settling;
 mod total_cost;
 
 pub use fraction::lowest;
@@ -19,6 +20,7 @@ pub use job_cost::job_cost_at;
 pub use laws::{law_of_ends, law_of_floors};
 pub use limits::{GREATEST_CARRIED_UNIT, GREATEST_MOMENT, GREATEST_UNIT, MOST_PIECES};
 use msp_class::List;
+pub use settling::settle;
 pub use total_cost::cost;
 
 /// A piece of work on an operation of a job, all three numbered from 0. A moment `x` stands for the time `x / unit`.
