@@ -78,8 +78,9 @@ lateness_in_time i bound s k e = subst (λ c. in_time i bound s k ↔ (job_cost 
 
 meets_jobs : (i : Instance) (bound : ℤ) (s : Schedule) → i.class.crit ≡ Lmax → 0 < length i.jobs → Meets i s bound ↔ ((k : ℕ) → k < length i.jobs → in_time i bound s k)
 meets_jobs i bound s e some = (
-    (λ h k l. (lateness_in_time i bound s k e).1 (≤ℤ_trans (cost_of-bound i s (ap is_greatest e) k l) h)),
-    (λ h. cost_of-least i s (bound *ℤ s.unit) (ap is_greatest e) some (λ k l. (lateness_in_time i bound s k e).0 (h k l))))
+  (λ h k l. (lateness_in_time i bound s k e).1 (≤ℤ_trans (cost_of-bound i s (ap is_greatest e) k l) h)),
+  (λ h. cost_of-least i s (bound *ℤ s.unit) (ap is_greatest e) some (λ k l. (lateness_in_time i bound s k e).0 (h k l))),
+)
 
 pub meets_pieces : (i : Instance) (bound : ℤ) (s : Schedule) → Inner i → Feasible i s → i.class.crit ≡ Lmax → All (IsInTime i.jobs s.unit bound) s.pieces ↔ Meets i s bound
 meets_pieces i bound s inner f e = (up, down)
@@ -152,8 +153,9 @@ pub threshold : (i : Instance) (bound : ℤ) (crit : Crit) (s : Schedule) → In
 threshold i bound crit s inner e sum = record {
   same = (Feasible-same i later s shaped work, Feasible-same later i s (IsShaped-same i later work.needs shaped) (SameWork-sym i later work));
   meets = λ f. (
-      (λ h. sum_of f ∙ (zero f).1 (λ k l. (at k l f).zero_is.0 ((meets_jobs i bound s e inner.conditions.some).0 h k l))),
-      (λ h. (meets_jobs i bound s e inner.conditions.some).1 (λ k l. (at k l f).zero_is.1 ((zero f).0 (sym (sum_of f) ∙ h) k l))));
+    (λ h. sum_of f ∙ (zero f).1 (λ k l. (at k l f).zero_is.0 ((meets_jobs i bound s e inner.conditions.some).0 h k l))),
+    (λ h. (meets_jobs i bound s e inner.conditions.some).1 (λ k l. (at k l f).zero_is.1 ((zero f).0 (sym (sum_of f) ∙ h) k l))),
+  );
 }
   where
     later : Instance

@@ -32,12 +32,7 @@ fn raise_all(jobs: &mut [Job], bound: i64)
 }
 
 /// The instance with its due dates raised by the bound, and the number of late jobs or the total tardiness as its criterion.
-pub fn shifted(
-    alloc: Global,
-    inst: &Instance,
-    bound: i64,
-    crit: Crit,
-) -> Result<Instance, NoMemory>
+pub fn shifted(alloc: Global, inst: &Instance, bound: i64, crit: Crit) -> Result<Instance, NoMemory>
     requires inner { Inner inst.now }
     requires lateness { inst.now.class.crit ≡ Lmax }
     requires sum { IsThresholdSum crit }

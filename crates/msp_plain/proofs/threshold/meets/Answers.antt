@@ -20,6 +20,7 @@ pieces c = meets_pieces c.args.inst.now c.args.bound c.args.s.now c.requires.inn
 
 pub returns : goal.returns
 returns c =
-    let bound_is = to_z-of_z w64 c.args.bound c.ranges.bound in
-    ((λ h. (pieces c).0 (subst₂ (λ js b. All (IsInTime js c.args.s.now.unit b) c.args.s.now.pieces) c.as_slice.ensures bound_is (c.all_in_time.ensures.0 h))),
-    (λ h. c.all_in_time.ensures.1 (subst₂ (λ js b. All (IsInTime js c.args.s.now.unit b) c.args.s.now.pieces) (sym c.as_slice.ensures) (sym bound_is) ((pieces c).1 h))))
+    let bound_is = to_z-of_z w64 c.args.bound c.ranges.bound in (
+      (λ h. (pieces c).0 (subst₂ (λ js b. All (IsInTime js c.args.s.now.unit b) c.args.s.now.pieces) c.as_slice.ensures bound_is (c.all_in_time.ensures.0 h))),
+      (λ h. c.all_in_time.ensures.1 (subst₂ (λ js b. All (IsInTime js c.args.s.now.unit b) c.args.s.now.pieces) (sym c.as_slice.ensures) (sym bound_is) ((pieces c).1 h))),
+    )
