@@ -239,8 +239,8 @@ module _ (usable : ℕ → Bool) (wanted : List Class) (before after : List ℕ)
       near_from_row usable wanted before after level changed small is a c first.next k steps near_before
 
   -- a pass that changes nothing ends the walk
-  pub AreDistances-quiet : changed ≡ false → AreDistances usable wanted after
-  AreDistances-quiet still = record {
+  pub AreDistances-quiet : changed ≡ false → level ≤ CLASSES → AreDistances usable wanted after
+  AreDistances-quiet still most = record {
     near = λ c near.
         let low = sound_next c near in
         record {
@@ -253,6 +253,9 @@ module _ (usable : ℕ → Bool) (wanted : List Class) (before after : List ℕ)
           ];
         };
     all = reached_all still;
+    few = λ c near.
+        let same : value_of after c ≡ value_of before c = ap (λ t. value_of t c) (a.quiet still) in
+        omega (arith, same, most, (is.sound c (λ e. near (same ∙ e))).0);
   }
 
 pub far_count-most : (t : List ℕ) → length t ≡ CLASSES → far_count t ≤ CLASSES

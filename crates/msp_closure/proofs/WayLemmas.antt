@@ -5,6 +5,7 @@ use Rattle.std.proofs.lemmas.Bool.{cases_eq}
 use Rattle.std.proofs.lemmas.List.{drop_more, get_or_default}
 use Rattle.std.proofs.lemmas.List.Elements.{Contains-push, Contains-push_cases}
 use Rattle.msp_class.specs.declared.class.Class.{Class}
+use Rattle.msp_class.specs.declared.ranks.TheConstants.{CLASSES}
 use Rattle.msp_table.specs.declared.row.Chain.{Chain}
 use Rattle.msp_table.specs.Chains.{Reaches, IsNearest}
 use Rattle.msp_closure.specs.declared.distances.TheConstants.{FAR}
@@ -75,6 +76,15 @@ way_from usable wanted starts t x ks are first nearest = (
   IsFirst-same (near_leads usable wanted t are) (leads_near usable wanted t are) first,
   nearest wanted are (IsFirst-has first),
 )
+
+-- the way is no longer than there are classes
+pub way_few : (usable : ℕ → Bool) (wanted starts : List Class) (t : List ℕ) (x : Class) (ks : List ℕ) → AreDistances usable wanted t
+    → IsFirst (λ c. value_of t c ≢ FAR) starts x
+    → ((wanted : List Class) → AreDistances usable wanted t → value_of t x ≢ FAR → IsNearest usable wanted x ks) → length ks ≤ CLASSES
+way_few usable wanted starts t x ks are first nearest =
+    let near = IsFirst-has first in
+    let away = are.near x near in
+    omega (arith, (nearest wanted are near).shortest away.rows away.leads, away.length_is, are.few x near)
 
 -- there is no way exactly where no start leads to a wanted class
 none_exactly : {E : Type 0} (P : Type 0) (usable : ℕ → Bool) (wanted starts : List Class) (r : Result (Option Chain) E)

@@ -1,22 +1,18 @@
 -- What the private functions make: tables with a value for each class. No public contract cites this file.
-use Rattle.std.specs.Prelude.{ℕ, ◌≢◌, Bool, true, false, List, slice_index, slice_index_or}
+use Rattle.std.specs.Prelude.{ℕ, ◌≢◌, ◌≤◌, Bool, false, List, slice_index, slice_index_or}
 use Rattle.msp_class.specs.declared.class.Class.{Class}
+use Rattle.msp_class.specs.declared.ranks.TheConstants.{CLASSES}
 use Rattle.msp_class.specs.Rank.{rank_of}
-use Rattle.msp_table.specs.Rows.{carries, keeps_size}
+use Rattle.msp_table.specs.Rows.{is_built, keeps_size}
 use Rattle.msp_table.specs.Chains.{every_row, LeadsInto, IsDistance}
-use Rattle.msp_closure.specs.declared.entry.Verdict.{Verdict}
-use Rattle.msp_closure.specs.declared.entry.Verdict.TheVariants as verdict
-use Rattle.msp_closure.specs.declared.entry.Mark.{Mark}
-use Rattle.msp_closure.specs.declared.entry.Mark.TheVariants.{Easy, Pseudo, Weak, Hard, Strong, Torn, Both, Unsettled}
 use Rattle.msp_closure.specs.declared.row_set.RowSet.{RowSet}
-use Rattle.msp_closure.specs.declared.row_set.RowSet.TheVariants.{Every, Carrying, KeepsSize}
+use Rattle.msp_closure.specs.declared.row_set.RowSet.TheVariants.{Every, Built, KeepsSize}
 use Rattle.msp_closure.specs.declared.distances.TheConstants.{FAR}
-use Rattle.msp_closure.specs.Entries.{is_easy, is_pseudo, is_hard, is_strong}
 
 -- the rows that a search may use
 abbrev pub allows : RowSet → ℕ → Bool
 allows Every = every_row
-allows Carrying = carries
+allows Built = is_built
 allows KeepsSize = keeps_size
 
 -- a number kept for each class, by rank
@@ -31,3 +27,4 @@ is_marked table c = slice_index_or table (rank_of c) false
 pub record AreDistances (usable : ℕ → Bool) (wanted : List Class) (table : List ℕ) : Type 0 where
   pub near : (c : Class) → value_of table c ≢ FAR → IsDistance usable wanted c (value_of table c)
   pub all : (c : Class) (ks : List ℕ) → LeadsInto usable wanted c ks → value_of table c ≢ FAR
+  pub few : (c : Class) → value_of table c ≢ FAR → value_of table c ≤ CLASSES

@@ -4,14 +4,14 @@ ghost use Rattle.msp_closure.specs.Tables.{allows};
 ghost use Rattle.msp_closure.specs.Walk.{step_of};
 
 use msp_class::Class;
-use msp_table::{Row, RowKind, goes, keeps_size, kind};
+use msp_table::{Row, goes, is_built, keeps_size};
 
 /// The rows that a search may use.
 #[derive(Clone, Copy, Debug, PartialEq, Eq)]
 pub(crate) enum RowSet {
     Every,
-    /// Those that carry schedules.
-    Carrying,
+    /// Those that are built as reductions.
+    Built,
     /// Those that keep the numbers of an instance small.
     KeepsSize,
 }
@@ -29,7 +29,7 @@ fn allows(rows: RowSet, row: Row) -> bool
 {
     match rows {
         RowSet::Every => true,
-        RowSet::Carrying => kind(row) == RowKind::Carries,
+        RowSet::Built => is_built(row),
         RowSet::KeepsSize => keeps_size(row),
     }
 }

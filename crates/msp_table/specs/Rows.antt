@@ -1,5 +1,5 @@
 -- The table of elementary reductions, and where each row leads.
-use Rattle.std.specs.Prelude.{ℕ, ◌==◌, Bool, true, false, not, List, [], ◌∷◌, ◌&&◌, ◌||◌, if◌then◌else◌, codes, Option, Some, None, find, option_and_then}
+use Rattle.std.specs.Prelude.{ℕ, ◌==◌, nat_le, Bool, true, false, not, List, [], ◌∷◌, ◌&&◌, ◌||◌, if◌then◌else◌, codes, Option, Some, None, find, option_and_then}
 use Rattle.std.specs.Option.{option_map_or}
 use Rattle.msp_class.specs.declared.class.Class.{Class}
 use Rattle.msp_class.specs.declared.class.Env.TheVariants.{One, P2, P3, P, Q2, Q, R2, R, O2, O3, O, F2, F3, F, J2Short, JShort, J2, J}
@@ -157,6 +157,10 @@ text_of k = option_map_or (λ r. r.text) (row_of k) []
 -- every row carries schedules back and forth but rows 15 and 16, which answer only whether a threshold can be met
 abbrev pub carries : ℕ → Bool
 carries k = not (k == 15 || k == 16)
+
+-- the part of `carries` that has types today: the rows 1 to 14 and 53 are built as reductions
+abbrev pub is_built : ℕ → Bool
+is_built k = nat_le 1 k && nat_le k 14 || k == 53
 
 -- the kind of the row of a number
 abbrev pub kind_of : ℕ → RowKind

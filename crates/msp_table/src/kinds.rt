@@ -1,6 +1,6 @@
 // The facts of each row: its kind, whether it keeps size, its text.
 ghost use Rattle.std.specs.Prelude.{◌≡◌};
-ghost use Rattle.msp_table.specs.Rows.{keeps_size, kind_of, text_of};
+ghost use Rattle.msp_table.specs.Rows.{is_built, keeps_size, kind_of, text_of};
 
 use crate::row::{Row, RowKind};
 
@@ -19,6 +19,13 @@ pub fn keeps_size(row: Row) -> bool
     ensures { result ≡ keeps_size row }
 {
     !matches!(row.number(), 26 | 27)
+}
+
+/// Whether the row is built as a reduction: the part of the carrying rows that has types today.
+pub fn is_built(row: Row) -> bool
+    ensures { result ≡ is_built row }
+{
+    matches!(row.number(), 1..=14 | 53)
 }
 
 /// The row's text in the table.
@@ -99,6 +106,8 @@ mod tests {
         assert_eq!(rt; text(threshold), "Lmax to sumU");
         assert_eq!(rt; kind(threshold), RowKind::Threshold);
         assert!(rt; keeps_size(threshold));
+        assert!(rt; is_built(first));
+        assert!(rt; !is_built(threshold));
         assert!(rt; !keeps_size(Row::new(26).ok_or("no row 26")?));
         let last = Row::new(54).ok_or("no row 54")?;
         assert_eq!(rt; text(last), "p=p to p=1");

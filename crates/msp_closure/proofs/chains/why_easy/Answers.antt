@@ -5,4 +5,4 @@ use Rattle.msp_closure.proofs.WayLemmas.{none_from}
 use Rattle.msp_closure.proofs.chains.why_easy.Goals as goal
 
 pub returns-clause-none : goal.returns-clause-none
-returns-clause-none c = none_from every_row _ _ c.args.c c.way.result (c.deref.ensures.value ∙ c.in_ok-listed.ensures) c.way.ensures
+returns-clause-none c = none_from every_row _ _ c.args.c c.way.result (c.deref.ensures.value ∙ c.in_ok-listed.ensures) c.way.ensures.way

@@ -5,4 +5,4 @@ use Rattle.msp_closure.proofs.WayLemmas.{none_to}
 use Rattle.msp_closure.proofs.chains.why_strong.Goals as goal
 
 pub returns-clause-none : goal.returns-clause-none
-returns-clause-none c = none_to keeps_size _ _ c.args.c c.way.result (c.deref.ensures.value ∙ c.in_ok-listed.ensures) c.way.ensures
+returns-clause-none c = none_to keeps_size _ _ c.args.c c.way.result (c.deref.ensures.value ∙ c.in_ok-listed.ensures) c.way.ensures.way

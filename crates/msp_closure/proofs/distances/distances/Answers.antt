@@ -22,4 +22,4 @@ pub returns : goal.returns
 returns c =
     let small : c.passes.level + 1 < FAR = omega arith in
     AreDistances-quiet (allows c.args.rows) c.args.wanted.now c.passes.table c.pass.new.table c.passes.level c.pass.result small c.passes.invariant.0 c.pass.ensures
-    c.passes-test.false
+    c.passes-test.false (omega (arith, c.passes.invariant.1))
