@@ -1,3 +1,4 @@
+-- The goals of `read_by` that are proved by lemmas.
 use Rattle.std.proofs.Common.{ℕ, arith, ◌++◌, take}
 use Rattle.std.proofs.lemmas.List.{length-take, length-append}
 use Rattle.msp_io.proofs.Moved.{Consumes-more}

@@ -1,3 +1,4 @@
+-- What the loop of `read_by` keeps.
 use Rattle.std.proofs.Common.{◌≤◌, ◌-◌, vec_len}
 use Rattle.std.specs.Io.KnownBytes.{Consumes}
 use Rattle.msp_io.proofs.whole.read_by.Given as goal

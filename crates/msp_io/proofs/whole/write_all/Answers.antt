@@ -1,3 +1,4 @@
+-- The goals of `write_all` that are proved by lemmas.
 use Rattle.std.proofs.Common.{ℕ, arith}
 use Rattle.std.proofs.lemmas.List.{length-take, length-drop}
 use Rattle.msp_io.proofs.Moved.{Appends-further}

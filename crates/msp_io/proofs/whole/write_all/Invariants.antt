@@ -1,3 +1,4 @@
+-- What the loop of `write_all` keeps.
 use Rattle.std.proofs.Common.{◌≤◌, ◌-◌, length, take}
 use Rattle.std.specs.Io.KnownBytes.{Appends}
 use Rattle.msp_io.proofs.whole.write_all.Given as goal

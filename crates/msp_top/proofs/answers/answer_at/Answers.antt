@@ -1,3 +1,4 @@
+-- The goals of `answer_at` that are proved by lemmas.
 use Rattle.std.proofs.Common.{◌≡◌, true, false, inr}
 use Rattle.msp_top.specs.Solves.{not_solved}
 use Rattle.msp_top.proofs.answers.answer_at.Goals as goal

@@ -1,3 +1,4 @@
+-- The goals of `answer_solved` that are proved by lemmas.
 use Rattle.std.proofs.Common.{◌≡◌, true, false, inr, Some}
 use Rattle.msp_instance.proofs.Limits.{Inner-from_class}
 use Rattle.msp_top.specs.Answers.{Answers, SolvesFiled}

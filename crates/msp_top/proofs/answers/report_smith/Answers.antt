@@ -1,3 +1,4 @@
+-- The goals of `report_smith` that are proved by lemmas.
 use Rattle.msp_top.specs.Solves.{solved}
 use Rattle.msp_top.proofs.answers.report_smith.Goals as goal
 

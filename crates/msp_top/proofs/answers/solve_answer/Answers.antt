@@ -1,3 +1,4 @@
+-- The goals of `solve_answer` that are proved by lemmas.
 use Rattle.msp_top.specs.Solves.{SolveIsRight}
 use Rattle.msp_top.specs.Answers.{Answers}
 use Rattle.msp_top.proofs.Exits.{exits}

@@ -1,3 +1,4 @@
+-- The goals of `put_file` that are proved by lemmas.
 use Rattle.std.proofs.Common.{ap, sym}
 use Rattle.msp_top.specs.Files.{file_text}
 use Rattle.msp_top.proofs.PutsLemmas.{puts-along}

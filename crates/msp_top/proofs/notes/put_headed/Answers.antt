@@ -1,3 +1,4 @@
+-- The goals of `put_headed` that are proved by lemmas.
 use Rattle.msp_top.proofs.PutsLemmas.{puts-along, puts-exit, puts-then}
 use Rattle.msp_top.proofs.notes.put_headed.Goals as goal
 

@@ -1,3 +1,4 @@
+-- The goals of `put_job` that are proved by lemmas.
 use Rattle.std.proofs.Common.{◌++◌, codes}
 use Rattle.msp_top.proofs.PutsLemmas.{puts-exit, puts-then}
 use Rattle.msp_top.proofs.notes.put_job.Goals as goal

@@ -1,3 +1,4 @@
+-- The goals of `put_limit` that are proved by lemmas.
 use Rattle.std.proofs.Common.{◌++◌, append_assoc, codes, decimal}
 use Rattle.msp_top.specs.Files.{quantity_text, at_line}
 use Rattle.msp_top.proofs.PutsLemmas.{puts-exit, puts-then, puts-along}

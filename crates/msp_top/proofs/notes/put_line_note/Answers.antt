@@ -1,3 +1,4 @@
+-- The goals of `put_line_note` that are proved by lemmas.
 use Rattle.std.proofs.Common.{◌++◌, ap, codes, decimal}
 use Rattle.msp_top.proofs.PutsLemmas.{puts-along, puts-exit, puts-stop, puts-then}
 use Rattle.msp_top.proofs.notes.put_line_note.Goals as goal

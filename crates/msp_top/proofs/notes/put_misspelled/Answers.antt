@@ -1,3 +1,4 @@
+-- The goals of `put_misspelled` that are proved by lemmas.
 use Rattle.std.proofs.Common.{◌++◌, ◌∙◌, codes, decimal}
 use Rattle.msp_name.specs.Faults.{fault_text}
 use Rattle.msp_top.proofs.PutsLemmas.{puts-along, puts-exit, puts-stop, puts-then}

@@ -1,3 +1,4 @@
+-- The goals of `put_not_solved` that are proved by lemmas.
 use Rattle.std.proofs.Common.{codes, ◌∙◌}
 use Rattle.msp_name.specs.Names.{name_of}
 use Rattle.msp_top.proofs.PutsLemmas.{puts-along, puts-exit, puts-then}

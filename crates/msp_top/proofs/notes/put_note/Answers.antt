@@ -1,3 +1,4 @@
+-- The goals of `put_note` that are proved by lemmas.
 use Rattle.std.proofs.Common.{ap, sym}
 use Rattle.msp_top.specs.Note.{note_text}
 use Rattle.msp_top.proofs.PutsLemmas.{puts-along}

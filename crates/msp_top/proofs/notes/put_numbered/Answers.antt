@@ -1,3 +1,4 @@
+-- The goals of `put_numbered` that are proved by lemmas.
 use Rattle.std.proofs.Common.{decimal}
 use Rattle.msp_top.proofs.PutsLemmas.{puts-exit, puts-then}
 use Rattle.msp_top.proofs.notes.put_numbered.Goals as goal

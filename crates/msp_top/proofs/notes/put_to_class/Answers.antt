@@ -1,3 +1,4 @@
+-- The goals of `put_to_class` that are proved by lemmas.
 use Rattle.std.proofs.Common.{◌∙◌}
 use Rattle.msp_name.specs.Names.{name_of}
 use Rattle.msp_top.proofs.PutsLemmas.{puts-along, puts-exit, puts-then}

@@ -1,3 +1,4 @@
+-- The goals of `put_too_long` that are proved by lemmas.
 use Rattle.std.proofs.Common.{◌++◌, codes, decimal}
 use Rattle.msp_top.specs.declared.answers.TheConstants.{INPUT_LIMIT}
 use Rattle.msp_top.proofs.PutsLemmas.{puts-exit, puts-then}

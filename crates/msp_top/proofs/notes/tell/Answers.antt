@@ -1,3 +1,4 @@
+-- The goals of `tell` that are proved by lemmas.
 use Rattle.msp_top.proofs.PutsLemmas.{told}
 use Rattle.msp_top.proofs.notes.tell.Goals as goal
 

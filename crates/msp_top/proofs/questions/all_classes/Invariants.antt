@@ -1,3 +1,4 @@
+-- What the loop of `all_classes` keeps.
 use Rattle.msp_top.proofs.QuestionAnswers.{HasClasses}
 use Rattle.msp_top.proofs.questions.all_classes.Given as goal
 

@@ -1,3 +1,4 @@
+-- The goals of `answer_question` that are proved by lemmas.
 use Rattle.msp_top.specs.Reports.{reported}
 use Rattle.msp_top.proofs.Exits.{exits}
 use Rattle.msp_top.proofs.QuestionAnswers.{misread_right}

@@ -1,3 +1,4 @@
+-- The goals of `status_of` that are proved by lemmas.
 use Rattle.std.proofs.Common.{◌∙◌, sym}
 use Rattle.msp_top.proofs.WordLemmas.{differ}
 use Rattle.msp_top.proofs.QuestionAnswers.{status_first, status_second, status_none}

@@ -1,3 +1,4 @@
+-- The goals of `text_of_why` that are proved by lemmas.
 use Rattle.msp_top.proofs.QuestionAnswers.{why_right}
 use Rattle.msp_top.proofs.questions.text_of_why.Goals as goal
 

@@ -1,3 +1,4 @@
+-- The goals of `perform` that are proved by lemmas.
 use Rattle.std.proofs.Common.{ap, Err, IfErr, ◌≢◌}
 use Rattle.msp_top.specs.Ending.{Serves}
 use Rattle.msp_top.proofs.Exits.{exits}

@@ -1,3 +1,4 @@
+-- The goals of `run` that are proved by lemmas.
 use Rattle.std.proofs.Common.{Ok, Err, arith}
 use Rattle.msp_top.proofs.Endings.{serves_known, serves_usage, serves_report, report_is_low, refusal_is_high, serves_refusal, serves_read_fault, serves_write_fault, serves_rows_status, serves_due, serves_note}
 use Rattle.msp_top.specs.Note.{note_text}

@@ -1,3 +1,4 @@
+-- The goals of `serve` that are proved by lemmas.
 use Rattle.std.proofs.Common.{map, string_bytes}
 use Rattle.msp_top.specs.Ending.{Serves}
 use Rattle.msp_top.proofs.Exits.{exits}

@@ -1,3 +1,4 @@
+-- The goals of `smith_order` that are proved by lemmas.
 use Rattle.std.proofs.Common.{◌≡◌, ◌∙◌, ap, map}
 use Rattle.std.proofs.lemmas.Result.{IfOk-weaker}
 use Rattle.msp_top.specs.SmithRule.{IsSmithOrder}

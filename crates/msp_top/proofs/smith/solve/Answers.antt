@@ -1,3 +1,4 @@
+-- The goals of `solve` that are proved by lemmas.
 use Rattle.std.proofs.Common.{◌≡◌, List, ℕ, length, sym, subst, arith}
 use Rattle.msp_class.proofs.Sums.{OnceBelow, OnceBelow-from_permutation, length-OnceBelow}
 use Rattle.msp_instance.specs.declared.Instance.{Instance}

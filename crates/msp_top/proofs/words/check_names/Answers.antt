@@ -1,3 +1,4 @@
+-- The goals of `check_names` that are proved by lemmas.
 use Rattle.std.proofs.Common.{string_bytes, map}
 use Rattle.msp_top.proofs.WordLemmas.{HasNames-next, HasNames-fault, not_all_names, first_misfit}
 use Rattle.msp_top.proofs.words.check_names.Goals as goal

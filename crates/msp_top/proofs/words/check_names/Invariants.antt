@@ -1,3 +1,4 @@
+-- What the loop of `check_names` keeps.
 use Rattle.std.proofs.Common.{map, string_bytes}
 use Rattle.msp_top.proofs.WordLemmas.{HasNames}
 use Rattle.msp_top.proofs.words.check_names.Given as goal

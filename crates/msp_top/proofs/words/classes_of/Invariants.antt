@@ -1,3 +1,4 @@
+-- What the loop of `classes_of` keeps.
 use Rattle.std.proofs.Common.{map, take, string_bytes}
 use Rattle.std.specs.List.{AllZip}
 use Rattle.msp_top.specs.Commands.{IsNameWord}

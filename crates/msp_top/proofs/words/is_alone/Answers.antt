@@ -1,3 +1,4 @@
+-- The goals of `is_alone` that are proved by lemmas.
 use Rattle.std.proofs.Common.{length, ap, ◌∙◌, sym}
 use Rattle.std.proofs.lemmas.Bool.Decides.{Decides-eqb}
 use Rattle.std.proofs.lemmas.Slice.Eq.{bytes_eq-Decides}

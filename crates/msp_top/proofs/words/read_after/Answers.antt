@@ -1,3 +1,4 @@
+-- The goals of `read_after` that are proved by lemmas.
 use Rattle.std.proofs.Common.{◌∙◌, ◌∷◌, ◌≡◌, true, false, refl, sym, string_bytes, map}
 use Rattle.std.proofs.lemmas.Slice.Eq.{bytes_eq-Decides}
 use Rattle.msp_top.specs.Words.{ReadsWords}

@@ -1,3 +1,4 @@
+-- The goals of `read_name` that are proved by lemmas.
 use Rattle.std.proofs.Common.{arith}
 use Rattle.msp_top.proofs.WordLemmas.{names_text-fault, no_name_word}
 use Rattle.msp_top.proofs.words.read_name.Goals as goal

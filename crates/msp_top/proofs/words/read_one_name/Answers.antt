@@ -1,3 +1,4 @@
+-- The goals of `read_one_name` that are proved by lemmas.
 use Rattle.std.proofs.Common.{string_bytes, rules}
 use Rattle.msp_top.proofs.WordLemmas.{reads_one}
 use Rattle.msp_top.proofs.words.read_one_name.Goals as goal

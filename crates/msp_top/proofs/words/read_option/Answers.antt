@@ -1,3 +1,4 @@
+-- The goals of `read_option` that are proved by lemmas.
 use Rattle.std.proofs.Common.{◌∙◌, sym, string_bytes, map, Ok, rules}
 use Rattle.std.proofs.lemmas.Slice.Eq.{bytes_eq-Decides}
 use Rattle.msp_top.specs.Words.{ReadsOption}

@@ -1,3 +1,4 @@
+-- The goals of `read_words` that are proved by lemmas.
 use Rattle.std.proofs.Common.{string_bytes, rules}
 use Rattle.msp_top.proofs.WordLemmas.{reads_part, rest_part}
 use Rattle.msp_top.proofs.words.read_words.Goals as goal
