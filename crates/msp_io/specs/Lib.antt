@@ -2,4 +2,5 @@ pub mod Faults
 pub mod Memory
 pub mod Sources
 pub mod StdAdapters
+pub mod Views
 pub mod Whole

@@ -79,9 +79,7 @@ impl MemorySink {
 }
 
 impl Sink for MemorySink {
-    ghost held = { λ s. Some s.held };
-
-    ghost faults = { λ s. in_64_bits s.faults };
+    ghost seen = { λ s. record { held = Some s.held; faults = in_64_bits s.faults } };
 
     ghost fits = { λ s. in_64_bits-fits s.faults };
 
@@ -128,9 +126,7 @@ impl SureSink {
 }
 
 impl Sink for SureSink {
-    ghost held = { λ _. None };
-
-    ghost faults = { λ _. 0 };
+    ghost seen = { λ _. record { held = None; faults = 0 } };
 
     ghost fits = { λ _. in_64_bits-fits 0 };
 

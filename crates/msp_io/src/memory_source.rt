@@ -44,9 +44,7 @@ impl SureSource {
 }
 
 impl Source for SureSource {
-    ghost left = { λ s. Some s.bytes };
-
-    ghost faults = { λ _. 0 };
+    ghost seen = { λ s. record { left = Some s.bytes; faults = 0 } };
 
     ghost fits = { λ _. in_64_bits-fits 0 };
 
@@ -103,9 +101,7 @@ impl MemorySource {
 }
 
 impl Source for MemorySource {
-    ghost left = { λ s. Some s.bytes };
-
-    ghost faults = { λ s. in_64_bits s.faults };
+    ghost seen = { λ s. record { left = Some s.bytes; faults = in_64_bits s.faults } };
 
     ghost fits = { λ s. in_64_bits-fits s.faults };
 

@@ -31,9 +31,7 @@ impl<R: Read> Source for StdSource<R> {
     ghost use Rattle.msp_io.specs.Sources.{TellsEnd};
     ghost use Rattle.msp_io.specs.StdAdapters.{source_inner, source_faults};
 
-    ghost left = { λ s. R.remaining (source_inner s) };
-
-    ghost faults = { λ s. source_faults s };
+    ghost seen = { λ s. record { left = R.remaining (source_inner s); faults = source_faults s } };
 
     ghost fits = { λ s. s.fits };
 
@@ -87,9 +85,7 @@ impl<W: Write> Sink for StdSink<W> {
     ghost use Rattle.msp_io.specs.Faults.{one_more};
     ghost use Rattle.msp_io.specs.StdAdapters.{sink_inner, sink_faults};
 
-    ghost held = { λ s. W.contents (sink_inner s) };
-
-    ghost faults = { λ s. sink_faults s };
+    ghost seen = { λ s. record { held = W.contents (sink_inner s); faults = sink_faults s } };
 
     ghost fits = { λ s. s.fits };
 

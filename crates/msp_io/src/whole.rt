@@ -1,8 +1,8 @@
 // Whole reads and whole writes.
-ghost use Rattle.std.specs.Prelude.{◌<◌, ◌≤◌, ◌^◌, ◌+◌, ℕ, List, length, take, IfOk, IfErr, OnOk, OnErr, IsErrOf};
-ghost use Rattle.std.specs.Io.KnownBytes.{Consumes, Appends, IsAtEnd};
+ghost use Rattle.std.specs.Prelude.{◌<◌, ◌≤◌, ◌^◌, ℕ, List, length, IfOk, IfErr, OnOk, IsErrOf};
+ghost use Rattle.std.specs.Io.KnownBytes.{Consumes, IsAtEnd};
 ghost use Rattle.msp_io.specs.Faults.{Rose};
-ghost use Rattle.msp_io.specs.Whole.{IsStop};
+ghost use Rattle.msp_io.specs.Whole.{IsStop, Puts};
 
 use crate::{Failed, Sink, Source};
 use std::alloc::Global;
@@ -35,15 +35,15 @@ pub fn read_all<S: Source>(alloc: Global, source: &mut S, limit: u64) -> Result<
     requires { limit < 2 ^ 32 }
 
     // All that was left, to the end.
-    ensures all { IfOk result (λ all. Consumes (S.left source.old) (S.left source.new) all.items) }
-    ensures end { OnOk result (IsAtEnd (S.left source.new)) }
+    ensures all { IfOk result (λ all. Consumes (S.seen source.old).left (S.seen source.new).left all.items) }
+    ensures end { OnOk result (IsAtEnd (S.seen source.new).left) }
     ensures within { IfOk result (λ all. length all.items ≤ limit) }
 
     // What was taken is the front of what was left.
     ensures stopped { IfErr result (λ why. (taken : List ℕ)
-        × Consumes (S.left source.old) (S.left source.new) taken × IsStop why limit (length taken)) }
-    ensures fault { IsErrOf result Taken.ReadFault → Rose (S.faults source.old) (S.faults source.new) }
-    ensures faults { S.faults source.old ≤ S.faults source.new }
+        × Consumes (S.seen source.old).left (S.seen source.new).left taken × IsStop why limit (length taken)) }
+    ensures fault { IsErrOf result Taken.ReadFault → Rose (S.seen source.old).faults (S.seen source.new).faults }
+    ensures faults { (S.seen source.old).faults ≤ (S.seen source.new).faults }
 {
     let mut chunk = [0; CHUNK];
     read_by(alloc, source, limit, &mut chunk)
@@ -58,13 +58,13 @@ fn read_by<S: Source>(
 ) -> Result<Vec<u8>, Taken>
     requires limit { limit < 2 ^ 32 }
     requires room { 0 < length chunk.old }
-    ensures all { IfOk result (λ all. Consumes (S.left source.old) (S.left source.new) all.items) }
-    ensures end { OnOk result (IsAtEnd (S.left source.new)) }
+    ensures all { IfOk result (λ all. Consumes (S.seen source.old).left (S.seen source.new).left all.items) }
+    ensures end { OnOk result (IsAtEnd (S.seen source.new).left) }
     ensures within { IfOk result (λ all. length all.items ≤ limit) }
     ensures stopped { IfErr result (λ why. (taken : List ℕ)
-        × Consumes (S.left source.old) (S.left source.new) taken × IsStop why limit (length taken)) }
-    ensures fault { IsErrOf result Taken.ReadFault → Rose (S.faults source.old) (S.faults source.new) }
-    ensures faults { S.faults source.old ≤ S.faults source.new }
+        × Consumes (S.seen source.old).left (S.seen source.new).left taken × IsStop why limit (length taken)) }
+    ensures fault { IsErrOf result Taken.ReadFault → Rose (S.seen source.old).faults (S.seen source.new).faults }
+    ensures faults { (S.seen source.old).faults ≤ (S.seen source.new).faults }
 {
     let mut bytes = Vec::new(alloc);
     'pieces: loop {
@@ -91,13 +91,7 @@ fn read_by<S: Source>(
 ///
 /// `WriteFault` comes only where the sink failed in this call. The front of `bytes` may be held then.
 pub fn write_all<K: Sink>(sink: &mut K, bytes: &[u8]) -> Result<(), WriteFault>
-    ensures all { OnOk result (Appends (K.held sink.old) (K.held sink.new) bytes.now) }
-
-    // What was appended is the front of the bytes, and not all of them.
-    ensures stopped { OnErr result ((count : ℕ) × (count < length bytes.now)
-        × Appends (K.held sink.old) (K.held sink.new) (take count bytes.now)) }
-    ensures fault { OnErr result (Rose (K.faults sink.old) (K.faults sink.new)) }
-    ensures faults { K.faults sink.old ≤ K.faults sink.new }
+    ensures { Puts (K.seen sink.old) (K.seen sink.new) bytes.now result }
 {
     let mut done = 0;
     'pieces: while done < bytes.len() {

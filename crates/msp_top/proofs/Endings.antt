@@ -1,133 +1,189 @@
 -- The ways in which serving ends, from what reading, answering and writing ensure.
-use Rattle.std.proofs.Common.{◌≡◌, ◌↔◌, ℕ, ◌+◌, ◌<◌, ◌≤◌, ◌⊎◌, inl, inr, Bool, true, false, List, [], ◌∷◌, length, take, Option, Some, None, IfSome, is_some, if◌then◌else◌, refl, sym, ap, ◌∙◌, subst, codes, arith}
+use Rattle.std.proofs.Common.{◌≡◌, ◌≢◌, ◌↔◌, ℕ, ◌≤◌, ◌⊎◌, inl, inr, List, [], ◌∷◌, length, Option, Some, None, IfSome, Result, Ok, Err, IfErr, refl, sym, ap, ◌∙◌, subst, codes, arith}
 use Rattle.std.specs.List.{AllZip}
 use Rattle.std.specs.Io.KnownBytes.{Appends, Consumes, IsAtEnd}
-use Rattle.msp_top.proofs.LabelAnswers.{no_number}
 use Rattle.msp_io.specs.Faults.{Rose}
-use Rattle.msp_io.specs.Whole.{IsStop}
+use Rattle.msp_io.specs.Views.{SourceView, SinkView}
+use Rattle.msp_io.specs.Whole.{IsStop, Puts}
 use Rattle.msp_io.specs.declared.whole.Taken.{Taken}
-use Rattle.msp_io.specs.declared.whole.Taken.TheVariants.{TooLong as TakenTooLong}
+use Rattle.msp_io.specs.declared.whole.Taken.TheVariants as taken
+use Rattle.msp_io.specs.declared.whole.WriteFault.{WriteFault}
 use Rattle.msp_io.proofs.Moved.{all_left, more_left}
-use Rattle.msp_top.specs.declared.serve.Ending.{Ending}
-use Rattle.msp_top.specs.declared.notes.Note.{Note}
-use Rattle.msp_top.specs.declared.notes.Note.TheVariants.{TooLong, CannotRead, CannotWrite, OutOfMemory}
 use Rattle.msp_class.specs.declared.class.Class.{Class}
 use Rattle.msp_name.specs.Names.{NameOf}
 use Rattle.msp_name.proofs.NameLemmas.{NameOf-determined}
 use Rattle.msp_file.specs.declared.fault.FileFault.{FileFault}
-use Rattle.msp_file.specs.declared.fault.FileFault.TheVariants as fault
+use Rattle.msp_file.specs.declared.fault.FileFault.TheVariants.{Memory as FileMemory}
+use Rattle.msp_closure.specs.declared.entry.Entry.{Entry}
+use Rattle.msp_report.specs.RowsText.{rows_report}
 use Rattle.msp_results.specs.declared.fault.ResultFault.{ResultFault}
-use Rattle.msp_results.specs.declared.fault.ResultFault.TheVariants.{Header, Width, Name, Verdict, Source, Long, Many, Memory}
+use Rattle.msp_results.specs.declared.fault.ResultFault.TheVariants.{Memory}
+use Rattle.msp_top.specs.declared.answers.TheConstants.{INPUT_LIMIT}
+use Rattle.msp_top.specs.declared.answers.Report.{Report}
+use Rattle.msp_top.specs.declared.refusal.Refusal.{Refusal}
+use Rattle.msp_top.specs.declared.notes.Note.TheVariants.{TooLong}
+use Rattle.msp_top.specs.declared.command.Command.{Command}
+use Rattle.msp_top.specs.declared.command.Command.TheVariants.{Solve, Answer}
+use Rattle.msp_top.specs.declared.command.Request.{Request}
+use Rattle.msp_top.specs.declared.command.Request.TheVariants.{Rows, Command as IsCommand}
+use Rattle.msp_top.specs.declared.command.Question.{Question}
+use Rattle.msp_top.specs.declared.command.Question.TheVariants.{Label, Frontier, Why}
+use Rattle.msp_top.specs.Commands.{Asks, AsksForRows, IsNameWord, Misfits}
 use Rattle.msp_top.specs.Files.{file_status}
 use Rattle.msp_top.specs.Results.{results_status}
+use Rattle.msp_top.specs.Outcome.{Outcome, report, refusal}
+use Rattle.msp_top.specs.Solves.{SolveIsRight, solved, misread, no_solver, not_solved, no_chain}
+use Rattle.msp_top.specs.Reports.{HasClashStatus, contradicts, agrees, ReadsResults, reported, misread as misread_results}
+use Rattle.msp_top.specs.Run.{IsRight, IsRightWithin, too_long, short, IsRightReport, of_input, of_rows, Reports, BreaksOff, Refuses, IsDue, IsNote, misfit as note_misfit, refused as note_refused, read_fault, write_fault, memory as note_memory}
 use Rattle.msp_top.specs.Note.{note_text}
-use Rattle.msp_top.proofs.WordLemmas.{label_is_not_solve, cons_heads, cons_tails, solve_first}
-use Rattle.msp_top.specs.Run.{Command, solve, label, Asks, IsNameWord, Outcome, report, refusal, IsRight, SolveIsRight, solved, misread, no_solver, not_solved, no_chain, too_long, LabelIsRight, labelled, faulty, label_too_long, input_limit, Misfits, Reports, BreaksOff, Refuses, IsDue, IsNote, misfit as note_misfit, refused, read_fault, write_fault, memory}
-use Rattle.msp_top.specs.Ending.{Serves, Devices, misfit, cannot_read, no_memory, refuses, cannot_write, writes}
+use Rattle.msp_top.specs.Refusals.{of_taken, of_write_fault, out_of_memory}
+use Rattle.msp_top.specs.Answers.{Answers}
+use Rattle.msp_top.specs.Words.{ReadsWords}
+use Rattle.msp_top.specs.Ending.{Serves, status_of, misfit, cannot_read, no_memory, refuses, cannot_write, writes}
+use Rattle.msp_top.proofs.WordLemmas.{first_word, asks_first, cons_heads, cons_tails, not_word, solve_word, rows_word}
 
-pub serves_along : (words : List (List ℕ)) (d : Devices) (e f : Ending) → e ≡ f → Serves words d f → Serves words d e
-serves_along words d e f same h = subst (Serves words d) (sym same) h
+-- ---- the statuses of right outcomes
 
--- the status of a right outcome: 0 or 1 of a report, 3 to 6 of a refusal
+-- 0 or 1 of a report, 3 to 6 of a refusal
 abbrev pub HasStatus : Outcome → Type 0
 HasStatus (report status text) = status ≤ 1
 HasStatus (refusal status note) = (3 ≤ status) × (status ≤ 6)
 
-one_or_none : (b : Bool) → (if b then 1 else 0) ≤ 1
-one_or_none true = omega arith
-one_or_none false = omega arith
+file_range : (fault : FileFault) → fault ≢ FileMemory → (3 ≤ file_status fault) × (file_status fault ≤ 6)
+file_range FileMemory other = absurd (other refl)
+file_range _ other = (omega arith, omega arith)
 
-some_number : {m n : ℕ} → Some m ≡ Some n → m ≡ n
-some_number e = cc
-
-file_status_range : (fault : FileFault) (status : ℕ) → file_status fault ≡ Some status → (3 ≤ status) × (status ≤ 6)
-file_status_range fault.Memory status e = absurd (no_number e)
-file_status_range _ status e = (omega (arith, some_number e), omega (arith, some_number e))
+results_range : (fault : ResultFault) → fault ≢ Memory → (3 ≤ results_status fault) × (results_status fault ≤ 6)
+results_range Memory other = absurd (other refl)
+results_range _ other = (omega arith, omega arith)
 
 solve_status : (input : List ℕ) (at : Option Class) (outcome : Outcome) → SolveIsRight input at outcome → HasStatus outcome
-solve_status input at (report status text) (solved named t short is r) = omega arith
-solve_status input at (refusal status note) (misread named fault s short first is) = file_status_range fault status is
-solve_status input None (refusal status note) (no_solver names i short read other) = (omega arith, omega arith)
-solve_status input (Some c) (refusal status note) (not_solved d names i short read other) = (omega arith, omega arith)
-solve_status input (Some c) (refusal status note) (no_chain names i short read other) = (omega arith, omega arith)
-solve_status input at (refusal status note) (too_long named long) = (omega arith, omega arith)
+solve_status input at (report status text) (solved named t is r) = omega arith
+solve_status input at (refusal status note) (misread named fault other first) = file_range fault other
+solve_status input None (refusal status note) (no_solver names i read other) = (omega arith, omega arith)
+solve_status input (Some class) (refusal status note) (not_solved named names i read other) = (omega arith, omega arith)
+solve_status input (Some class) (refusal status note) (no_chain names i read other) = (omega arith, omega arith)
 
-results_status_range : (fault : ResultFault) (status : ℕ) → results_status fault ≡ Some status → (3 ≤ status) × (status ≤ 6)
-results_status_range Header status e = (omega (arith, some_number e), omega (arith, some_number e))
-results_status_range (Width at) status e = (omega (arith, some_number e), omega (arith, some_number e))
-results_status_range (Name at fault) status e = (omega (arith, some_number e), omega (arith, some_number e))
-results_status_range (Verdict at) status e = (omega (arith, some_number e), omega (arith, some_number e))
-results_status_range (Source at) status e = (omega (arith, some_number e), omega (arith, some_number e))
-results_status_range (Long at) status e = (omega (arith, some_number e), omega (arith, some_number e))
-results_status_range Many status e = (omega (arith, some_number e), omega (arith, some_number e))
-results_status_range Memory status e = absurd (no_number e)
+clash_status : (entries : List Entry) (status : ℕ) → HasClashStatus entries status → status ≤ 1
+clash_status entries status (contradicts h) = omega arith
+clash_status entries status (agrees h g) = omega arith
 
-label_status : (classes : List Class) (input : List ℕ) (outcome : Outcome) → LabelIsRight classes input outcome → HasStatus outcome
-label_status classes input (report status text) (labelled s t short r) = subst (λ n. n ≤ 1) (sym r.status_is) (one_or_none (is_some r.clash))
-label_status classes input (refusal status note) (faulty fault s short r is) = results_status_range fault status is
-label_status classes input (refusal status note) (label_too_long long) = (omega arith, omega arith)
+question_status : (question : Question) (input : List ℕ) (outcome : Outcome) → ReadsResults question input outcome → HasStatus outcome
+question_status question input (report status text) (reported entries s t read is r) = clash_status entries status is
+question_status question input (refusal status note) (misread_results fault other first) = results_range fault other
 
-pub right_status : (command : Command) (input : List ℕ) (outcome : Outcome) → IsRight command input outcome → HasStatus outcome
-right_status (solve at) input outcome h = solve_status input at outcome h
-right_status (label classes) input outcome h = label_status classes input outcome h
+within_status : (command : Command) (input : List ℕ) (outcome : Outcome) → IsRightWithin command input outcome → HasStatus outcome
+within_status (Solve at) input outcome h = solve_status input at outcome h
+within_status (Answer question) input outcome h = question_status question input outcome h
 
-too_long_right : (command : Command) (input : List ℕ) → input_limit < length input → IsRight command input (refusal 4 (codes "more than 4194304 bytes"))
-too_long_right (solve at) input h = too_long at h
-too_long_right (label classes) input h = label_too_long h
+-- ---- what each way of ending says
+
+-- what was answered to the input as it was passed on
+pub right_same : (command : Command) (passed input : List ℕ) (outcome : Outcome) → passed ≡ input → IsRightWithin command passed outcome → IsRightWithin command input outcome
+right_same command passed input outcome e h = let P : List ℕ → Type 0 = λ l. IsRightWithin command l outcome in subst P e h
+
+pub answered_same : (command : Command) (passed input : List ℕ) (first why : Refusal) → passed ≡ input → why ≡ first → Answers (IsRightWithin command passed) (Err first) → Answers (IsRightWithin command input) (Err why)
+answered_same command passed input first why e same h =
+    let P : List ℕ → Type 0 = λ l. Answers (IsRightWithin command l) (Err why) in
+    let Q : Refusal → Type 0 = λ r. Answers (IsRightWithin command passed) (Err r) in
+    subst P e (subst Q (sym same) h)
+
+pub taken_is_no_usage : (cause : Taken) (why : Refusal) → why ≡ of_taken cause → why.status ≢ 2
+taken_is_no_usage cause why e is = by_cause cause (sym (ap (λ w. w.status) e) ∙ is)
+  where
+    by_cause : (cause : Taken) → (of_taken cause).status ≡ 2 → ⊥
+    by_cause taken.ReadFault e = omega (arith, e)
+    by_cause taken.TooLong e = omega (arith, e)
+    by_cause taken.Memory e = omega (arith, e)
+
+pub refused_is_no_usage : (command : Command) (input : List ℕ) (why : Refusal) → Answers (IsRightWithin command input) (Err why) → why.status ≢ 2
+refused_is_no_usage command input why (inl wanting) is = omega (arith, wanting.0, is)
+refused_is_no_usage command input why (inr right) is = omega (arith, (within_status command input _ right).0, is)
 
 IfSome-map : (left : Option (List ℕ)) (P Q : List ℕ → Type 0) → ((input : List ℕ) → P input → Q input) → IfSome left P → IfSome left Q
 IfSome-map None P Q f h = tt
 IfSome-map (Some input) P Q f h = f input h
 
-pub Refuses-too_long : (words : List (List ℕ)) (command : Command) (left left_after : Option (List ℕ)) (taken : List ℕ) → Asks words command → Consumes left left_after taken → length taken ≡ input_limit + 1 → Refuses words left 4 (note_text TooLong)
-Refuses-too_long words command left left_after taken asked front count = record {
-  command = command;
-  asked = asked;
-  right = IfSome-map left _ _ (too_long_right command) (more_left left left_after taken input_limit front count);
-}
+-- the words ask for nothing, or there was no memory to read them
+pub serves_words : (words : List (List ℕ)) (s : SourceView) (o : SinkView) (first why : Refusal) → ReadsWords words (Err first) → why ≡ first → Serves words s s o o (Err why)
+serves_words words s o first why h same = let P : Refusal → Type 0 = λ r. Serves words s s o o (Err r) in subst P (sym same) (by_cause h)
+  where
+    by_cause : ReadsWords words (Err first) → Serves words s s o o (Err first)
+    by_cause (inl m) = let P : ℕ → Type 0 = λ n. Serves words s s o o (Err (record { status = n; note = first.note })) in subst P (sym m.0) (misfit first.note m.1 m.2)
+    by_cause (inr (wanting, (command, asked))) = no_memory command first asked wanting
 
-pub Refuses-right : (words : List (List ℕ)) (command : Command) (left left_after : Option (List ℕ)) (all : List ℕ) (status : ℕ) (note : List ℕ) → Asks words command → Consumes left left_after all → IsAtEnd left_after →
-    IsRight command all (refusal status note) → Refuses words left status note
-Refuses-right words command left left_after all status note asked front ended right = record {
-  command = command;
-  asked = asked;
-  right = IfSome-map left (λ l. all ≡ l) _ (λ input e. subst (λ l. IsRight command l (refusal status note)) e right) (all_left left left_after all front ended);
-}
+-- what the words ask for, as the code has taken it apart
+pub asks_for_rows : (words : List (List ℕ)) (request : Request) → ReadsWords words (Ok request) → request ≡ Rows → AsksForRows words
+asks_for_rows words request h e = let P : Request → Type 0 = λ r. ReadsWords words (Ok r) in subst P e h
 
-pub Reports-right : (words : List (List ℕ)) (command : Command) (left left_after held held_after : Option (List ℕ)) (all text : List ℕ) (status : ℕ) → Asks words command → Consumes left left_after all → IsAtEnd left_after →
-    IsRight command all (report status text) → Appends held held_after text → Reports words left left_after held held_after status
-Reports-right words command left left_after held held_after all text status asked front ended right grown = record {
-  command = command;
-  asked = asked;
-  ended = ended;
-  right = IfSome-map left (λ l. all ≡ l) _ (λ input e. (text, subst (λ l. IsRight command l (report status text)) e right, grown)) (all_left left left_after all front ended);
-}
+pub asks_for : (words : List (List ℕ)) (request : Request) (command : Command) → ReadsWords words (Ok request) → request ≡ IsCommand command → Asks words command
+asks_for words request command h e = let P : Request → Type 0 = λ r. ReadsWords words (Ok r) in subst P e h
 
-pub BreaksOff-right : (words : List (List ℕ)) (command : Command) (left left_after held held_after : Option (List ℕ)) (all text : List ℕ) (status count : ℕ) → Asks words command → Consumes left left_after all → IsAtEnd left_after →
-    IsRight command all (report status text) → Appends held held_after (take count text) → BreaksOff words left left_after held held_after
-BreaksOff-right words command left left_after held held_after all text status count asked front ended right grown = record {
-  command = command;
-  asked = asked;
-  ended = ended;
-  right = IfSome-map left (λ l. all ≡ l) _ (λ input e. (status, text, count, subst (λ l. IsRight command l (report status text)) e right, grown)) (all_left left left_after all front ended);
-}
+-- what is no usage says nothing of usage
+pub never_usage : (X : Type 0) (r : Result ℕ Refusal) → IfErr r (λ why. why.status ≢ 2) → IfErr r (λ why. why.status ≡ 2 → X)
+never_usage X (Ok status) h = tt
+never_usage X (Err why) h = λ is. absurd (h is)
 
-pub past_limit : (why : Taken) (limit count : ℕ) → why ≡ TakenTooLong → IsStop why limit count → count ≡ limit + 1
-past_limit why limit count is h = let P : Taken → Type 0 = λ w. IsStop w limit count in subst P is h
+-- the input was not taken whole
+pub serves_taken : (words : List (List ℕ)) (s t : SourceView) (o : SinkView) (command : Command) (cause : Taken) (why : Refusal) → Asks words command → why ≡ of_taken cause → (cause ≡ taken.ReadFault → Rose s.faults t.faults) →
+    (bytes : List ℕ) × Consumes s.left t.left bytes × IsStop cause INPUT_LIMIT (length bytes) → Serves words s t o o (Err why)
+serves_taken words s t o command cause why asked e rose stop =
+    let P : Refusal → Type 0 = λ r. Serves words s t o o (Err r) in
+    subst P (sym e) (by_cause cause rose stop)
+  where
+    by_cause : (cause : Taken) → (cause ≡ taken.ReadFault → Rose s.faults t.faults) → (bytes : List ℕ) × Consumes s.left t.left bytes × IsStop cause INPUT_LIMIT (length bytes) → Serves words s t o o (Err (of_taken cause))
+    by_cause taken.ReadFault rose stop = cannot_read command asked (rose refl)
+    by_cause taken.Memory rose stop = no_memory command out_of_memory asked (refl, refl)
+    by_cause taken.TooLong rose (bytes, front, count) = refuses 4 TooLong (omega arith) (omega arith) (record {
+      command = command;
+      asked = asked;
+      right = IfSome-map s.left _ _ (λ input more. too_long more) (more_left s.left t.left bytes INPUT_LIMIT front count);
+    })
 
--- an answer's outcome, as the code has taken it apart
-pub right_along : (command : Command) (input all : List ℕ) (outcome same : Outcome) → input ≡ all → outcome ≡ same → IsRight command input outcome → IsRight command all same
-right_along command input all outcome same e f h =
-    let P : List ℕ → Type 0 = λ l. IsRight command l same in
-    subst P e (subst (IsRight command input) f h)
+-- the input was taken whole and refused
+pub serves_refused : (words : List (List ℕ)) (s t : SourceView) (o : SinkView) (command : Command) (input : List ℕ) (why : Refusal) → Asks words command → Consumes s.left t.left input → IsAtEnd t.left → length input ≤ INPUT_LIMIT →
+    Answers (IsRightWithin command input) (Err why) → Serves words s t o o (Err why)
+serves_refused words s t o command input why asked front ended within (inl memory) = no_memory command why asked memory
+serves_refused words s t o command input why asked front ended within (inr right) =
+    let range = within_status command input _ right in
+    refuses why.status why.note range.0 range.1 (record {
+      command = command;
+      asked = asked;
+      right = IfSome-map s.left (λ l. input ≡ l) _ (λ l e. subst (λ i. IsRight command i (refusal why.status (note_text why.note))) e (short _ within right)) (all_left s.left t.left input front ended);
+    })
 
-pub not_two : {X : Type 0} (status other : ℕ) → 3 ≤ status → other ≡ status → other ≡ 2 → X
-not_two status other low e is = absurd (omega (arith, low, e, is))
+-- the report of the whole input is right
+right_report : (words : List (List ℕ)) (s t : SourceView) (command : Command) (input : List ℕ) (made : Report) → Asks words command → Consumes s.left t.left input → IsAtEnd t.left → length input ≤ INPUT_LIMIT →
+    IsRightWithin command input (report made.status made.text.items) → IsRightReport words s t made.status made.text.items
+right_report words s t command input made asked front ended within right =
+    of_input command made.status made.text.items asked ended (IfSome-map s.left (λ l. input ≡ l) _ (λ l e. subst (λ i. IsRight command i (report made.status made.text.items)) e (short _ within right)) (all_left s.left t.left input front ended))
 
-pub not_above_one : {X : Type 0} (status : ℕ) → status ≤ 1 → 2 ≤ status → X
-not_above_one status low high = absurd (omega (arith, low, high))
+-- a report was written whole
+pub serves_written : (words : List (List ℕ)) (s t : SourceView) (o p : SinkView) (command : Command) (input : List ℕ) (made : Report) (bytes : List ℕ) → Asks words command → Consumes s.left t.left input → IsAtEnd t.left → length input ≤ INPUT_LIMIT →
+    IsRightWithin command input (report made.status made.text.items) → bytes ≡ made.text.items → Appends o.held p.held bytes → Serves words s t o p (Ok made.status)
+serves_written words s t o p command input made bytes asked front ended within right e grown =
+    writes made.status (within_status command input _ right) (made.text.items, right_report words s t command input made asked front ended within right, subst (Appends o.held p.held) e grown)
 
--- ---- what each way of ending says
+breaks_off : (words : List (List ℕ)) (s t : SourceView) (o p : SinkView) (status : ℕ) (text bytes : List ℕ) (fault : WriteFault) (why : Refusal) → IsRightReport words s t status text → bytes ≡ text → Puts o p bytes (Err fault) → why ≡ of_write_fault → Serves words s t o p (Err why)
+breaks_off words s t o p status text bytes fault why right e put is =
+    let P : Refusal → Type 0 = λ r. Serves words s t o p (Err r) in
+    let all : Puts o p text (Err fault) = subst (λ b. Puts o p b (Err fault)) e put in
+    subst P (sym is) (cannot_write (record { status = status; text = text; count = all.stopped.0; right = right; part = all.stopped.2; failed = all.fault }))
+
+-- a report was begun, and the sink failed
+pub serves_broken : (words : List (List ℕ)) (s t : SourceView) (o p : SinkView) (command : Command) (input : List ℕ) (made : Report) (bytes : List ℕ) (fault : WriteFault) (why : Refusal) → Asks words command → Consumes s.left t.left input → IsAtEnd t.left →
+    length input ≤ INPUT_LIMIT → IsRightWithin command input (report made.status made.text.items) → bytes ≡ made.text.items → Puts o p bytes (Err fault) → why ≡ of_write_fault → Serves words s t o p (Err why)
+serves_broken words s t o p command input made bytes fault why asked front ended within right e put is =
+    breaks_off words s t o p made.status made.text.items bytes fault why (right_report words s t command input made asked front ended within right) e put is
+
+-- the table of rows was written whole, or the sink failed
+pub serves_rows : (words : List (List ℕ)) (s : SourceView) (o p : SinkView) (bytes : List ℕ) → AsksForRows words → bytes ≡ rows_report → Appends o.held p.held bytes → Serves words s s o p (Ok 0)
+serves_rows words s o p bytes asked e grown = writes 0 (omega arith) (rows_report, of_rows asked, subst (Appends o.held p.held) e grown)
+
+pub serves_rows_broken : (words : List (List ℕ)) (s : SourceView) (o p : SinkView) (bytes : List ℕ) (fault : WriteFault) (why : Refusal) → AsksForRows words → bytes ≡ rows_report → Puts o p bytes (Err fault) → why ≡ of_write_fault → Serves words s s o p (Err why)
+serves_rows_broken words s o p bytes fault why asked e put is = breaks_off words s s o p 0 rows_report bytes fault why (of_rows asked) e put is
+
+-- ---- words ask for one command at most
 
 classes_once : (names : List (List ℕ)) (a b : List Class) → AllZip IsNameWord names a → AllZip IsNameWord names b → a ≡ b
 classes_once [] [] [] p q = refl
@@ -137,8 +193,7 @@ classes_once (w ∷ names) [] b p q = absurd p
 classes_once (w ∷ names) (c ∷ a) [] p q = absurd q
 classes_once (w ∷ names) (c ∷ a) (d ∷ b) p q = ap (λ e. e ∷ a) (NameOf-determined w c d p.0.named q.0.named) ∙ ap (λ l. d ∷ l) (classes_once names a b p.1 q.1)
 
--- words that ask to solve name one class at most
-at_once : (words : List (List ℕ)) (a b : Option Class) → Asks words (solve a) → Asks words (solve b) → a ≡ b
+at_once : (words : List (List ℕ)) (a b : Option Class) → Asks words (Solve a) → Asks words (Solve b) → a ≡ b
 at_once words None None p q = refl
 at_once words None (Some d) p (name, q, named) = cc
 at_once words (Some c) None (name, p, named) q = cc
@@ -146,86 +201,136 @@ at_once words (Some c) (Some d) (m, p, mc) (n, q, nd) =
     let same : m ≡ n = cc in
     ap Some (NameOf-determined n c d (subst (λ w. NameOf w c) same mc.named) nd.named)
 
--- words ask for one command at most
+why_once : (words : List (List ℕ)) (c d : Class) → Asks words (Answer (Why c)) → Asks words (Answer (Why d)) → c ≡ d
+why_once words c d (m, p, mc) (n, q, nd) =
+    let same : m ≡ n = cc in
+    NameOf-determined n c d (subst (λ w. NameOf w c) same mc.named) nd.named
+
+same_first : (words : List (List ℕ)) (a b : Command) → Asks words a → Asks words b → first_word a ≡ first_word b
+same_first words a b p q = cons_heads (sym (asks_first words a p).1 ∙ (asks_first words b q).1)
+
+asks_solve : (words : List (List ℕ)) (at : Option Class) (question : Question) → Asks words (Solve at) → Asks words (Answer question) → Solve at ≡ Answer question
+asks_solve words at (Label classes) p q = not_word solve_word (first_word (Answer (Label classes))) refl (same_first words (Solve at) (Answer (Label classes)) p q)
+asks_solve words at Frontier p q = not_word solve_word (first_word (Answer Frontier)) refl (same_first words (Solve at) (Answer Frontier) p q)
+asks_solve words at (Why class) p q = not_word solve_word (first_word (Answer (Why class))) refl (same_first words (Solve at) (Answer (Why class)) p q)
+
 asks_once : (words : List (List ℕ)) (a b : Command) → Asks words a → Asks words b → a ≡ b
-asks_once words (solve a) (solve b) p q = ap solve (at_once words a b p q)
-asks_once words (solve a) (label b) p q = absurd (label_is_not_solve (cons_heads (sym q.1 ∙ (solve_first words a p).1)))
-asks_once words (label a) (solve b) p q = absurd (label_is_not_solve (cons_heads (sym p.1 ∙ (solve_first words b q).1)))
-asks_once words (label a) (label b) p q = ap label (classes_once q.0 a b (subst (λ names. AllZip IsNameWord names a) (cons_tails (sym p.1 ∙ q.1)) p.2) q.2)
+asks_once words (Solve a) (Solve b) p q = ap Solve (at_once words a b p q)
+asks_once words (Answer (Label a)) (Answer (Label b)) p q = ap (λ classes. Answer (Label classes)) (classes_once q.0 a b (subst (λ names. AllZip IsNameWord names a) (cons_tails (sym p.1 ∙ q.1)) p.2) q.2)
+asks_once words (Answer Frontier) (Answer Frontier) p q = refl
+asks_once words (Answer (Why a)) (Answer (Why b)) p q = ap (λ class. Answer (Why class)) (why_once words a b p q)
+asks_once words (Solve a) (Answer b) p q = asks_solve words a b p q
+asks_once words (Answer a) (Solve b) p q = sym (asks_solve words b a q p)
+asks_once words (Answer (Label a)) (Answer b) p q = not_word (first_word (Answer (Label a))) (first_word (Answer b)) refl (same_first words (Answer (Label a)) (Answer b) p q)
+asks_once words (Answer Frontier) (Answer b) p q = not_word (first_word (Answer Frontier)) (first_word (Answer b)) refl (same_first words (Answer Frontier) (Answer b) p q)
+asks_once words (Answer (Why a)) (Answer b) p q = not_word (first_word (Answer (Why a))) (first_word (Answer b)) refl (same_first words (Answer (Why a)) (Answer b) p q)
 
-pub serves_usage : (words : List (List ℕ)) (d : Devices) (e : Ending) → Serves words d e → (e.status ≡ 2) ↔ Misfits words
-serves_usage words d e (misfit n h text) = (λ is. h, λ h. refl)
-serves_usage words d e (cannot_read command asked rose) = (λ is. absurd (omega (arith, is)), λ h. absurd (h command asked))
-serves_usage words d e (no_memory command asked) = (λ is. absurd (omega (arith, is)), λ h. absurd (h command asked))
-serves_usage words d e (refuses status note from to r) = (λ is. absurd (omega (arith, is, from)), λ h. absurd (h r.command r.asked))
-serves_usage words d e (cannot_write rose r) = (λ is. absurd (omega (arith, is)), λ h. absurd (h r.command r.asked))
-serves_usage words d e (writes status small r) = (λ is. absurd (omega (arith, is, small)), λ h. absurd (h r.command r.asked))
+-- words that ask for the table of rows ask for no command
+pub rows_are_no_command : {X : Type 0} (words : List (List ℕ)) (command : Command) → AsksForRows words → Asks words command → X
+rows_are_no_command words command h asked = by_command command (cons_heads (sym h ∙ (asks_first words command asked).1))
+  where
+    by_command : {X : Type 0} (command : Command) → rows_word ≡ first_word command → X
+    by_command (Solve at) e = not_word rows_word (first_word (Solve at)) refl e
+    by_command (Answer (Label classes)) e = not_word rows_word (first_word (Answer (Label classes))) refl e
+    by_command (Answer Frontier) e = not_word rows_word (first_word (Answer Frontier)) refl e
+    by_command (Answer (Why class)) e = not_word rows_word (first_word (Answer (Why class))) refl e
 
-pub serves_report : (words : List (List ℕ)) (d : Devices) (e : Ending) → Serves words d e → e.status ≤ 1 → Reports words d.left d.left_after d.held d.held_after e.status
-serves_report words d e (misfit n h text) low = absurd (omega (arith, low))
-serves_report words d e (cannot_read command asked rose) low = absurd (omega (arith, low))
-serves_report words d e (no_memory command asked) low = absurd (omega (arith, low))
-serves_report words d e (refuses status note from to h) low = absurd (omega (arith, low, from))
-serves_report words d e (cannot_write rose h) low = absurd (omega (arith, low))
-serves_report words d e (writes status small h) low = h
+no_report : {X : Type 0} (words : List (List ℕ)) (s t : SourceView) (status : ℕ) (text : List ℕ) → Misfits words → IsRightReport words s t status text → X
+no_report words s t status text none (of_input command n l asked ended right) = absurd (none.no_command command asked)
+no_report words s t status text none (of_rows asked) = absurd (none.no_rows asked)
 
-pub serves_refusal : (words : List (List ℕ)) (d : Devices) (e : Ending) → Serves words d e → 3 ≤ e.status → e.status ≤ 6 → (note : List ℕ) × Refuses words d.left e.status note
-serves_refusal words d e (misfit n h text) low high = absurd (omega arith)
-serves_refusal words d e (cannot_read command asked rose) low high = absurd (omega arith)
-serves_refusal words d e (no_memory command asked) low high = absurd (omega arith)
-serves_refusal words d e (refuses status note from to h) low high = (note_text note, h)
-serves_refusal words d e (cannot_write rose h) low high = absurd (omega arith)
-serves_refusal words d e (writes status small h) low high = absurd (omega arith)
+-- ---- what an ending says
 
-pub serves_read_fault : (words : List (List ℕ)) (d : Devices) (e : Ending) → Serves words d e → e.status ≡ 7 → Rose d.source_faults d.source_faults_after
-serves_read_fault words d e (misfit n h text) is = absurd (omega (arith, is))
-serves_read_fault words d e (cannot_read command asked rose) is = rose
-serves_read_fault words d e (no_memory command asked) is = absurd (omega (arith, is))
-serves_read_fault words d e (refuses status note from to h) is = absurd (omega (arith, is))
-serves_read_fault words d e (cannot_write rose h) is = absurd (omega (arith, is))
-serves_read_fault words d e (writes status small h) is = absurd (omega (arith, is))
+pub serves_known : (words : List (List ℕ)) (s t : SourceView) (o p : SinkView) (r : Result ℕ Refusal) → Serves words s t o p r → status_of r ≤ 9
+serves_known words s t o p r (misfit n h text) = omega arith
+serves_known words s t o p r (cannot_read command asked rose) = omega arith
+serves_known words s t o p r (no_memory command why asked memory) = omega (arith, memory.0)
+serves_known words s t o p r (refuses status note from to h) = omega (arith, to)
+serves_known words s t o p r (cannot_write h) = omega arith
+serves_known words s t o p r (writes status small h) = omega (arith, small)
 
-pub serves_write_fault : (words : List (List ℕ)) (d : Devices) (e : Ending) → Serves words d e → e.status ≡ 8 → Rose d.out_faults d.out_faults_after × BreaksOff words d.left d.left_after d.held d.held_after
-serves_write_fault words d e (misfit n h text) is = absurd (omega (arith, is))
-serves_write_fault words d e (cannot_read command asked rose) is = absurd (omega (arith, is))
-serves_write_fault words d e (no_memory command asked) is = absurd (omega (arith, is))
-serves_write_fault words d e (refuses status note from to h) is = absurd (omega (arith, is))
-serves_write_fault words d e (cannot_write rose h) is = (rose, h)
-serves_write_fault words d e (writes status small h) is = absurd (omega (arith, is))
+pub serves_usage : (words : List (List ℕ)) (s t : SourceView) (o p : SinkView) (r : Result ℕ Refusal) → Serves words s t o p r → (status_of r ≡ 2) ↔ Misfits words
+serves_usage words s t o p r (misfit n h text) = (λ is. h, λ h. refl)
+serves_usage words s t o p r (cannot_read command asked rose) = (λ is. absurd (omega (arith, is)), λ none. absurd (none.no_command command asked))
+serves_usage words s t o p r (no_memory command why asked memory) = (λ is. absurd (omega (arith, is, memory.0)), λ none. absurd (none.no_command command asked))
+serves_usage words s t o p r (refuses status note from to h) = (λ is. absurd (omega (arith, is, from)), λ none. absurd (none.no_command h.command h.asked))
+serves_usage words s t o p r (cannot_write h) = (λ is. absurd (omega (arith, is)), λ none. no_report words s t h.status h.text none h.right)
+serves_usage words s t o p r (writes status small (text, right, grown)) = (λ is. absurd (omega (arith, is, small)), λ none. no_report words s t status text none right)
 
-pub serves_due : (words : List (List ℕ)) (d : Devices) (e : Ending) → Serves words d e → (command : Command) → Asks words command → ¬ Rose d.source_faults d.source_faults_after → ¬ Rose d.out_faults d.out_faults_after →
-    (e.status ≡ 9) ⊎ IfSome d.left (λ input. IsDue command input e.status)
-serves_due words d e (misfit n h text) command asked source out = absurd (h command asked)
-serves_due words d e (cannot_read other asks rose) command asked source out = absurd (source rose)
-serves_due words d e (no_memory other asks) command asked source out = inl refl
-serves_due words d e (refuses status note from to h) command asked source out =
-    inr (IfSome-map d.left _ _ (λ input r. inr (note_text note, subst (λ c. IsRight c input (refusal status (note_text note))) (asks_once words h.command command h.asked asked) r)) h.right)
-serves_due words d e (cannot_write rose h) command asked source out = absurd (out rose)
-serves_due words d e (writes status small h) command asked source out =
-    inr (IfSome-map d.left _ _ (λ input r. inl (r.0, subst (λ c. IsRight c input (report status r.0)) (asks_once words h.command command h.asked asked) r.1)) h.right)
+pub serves_report : (words : List (List ℕ)) (s t : SourceView) (o p : SinkView) (r : Result ℕ Refusal) → Serves words s t o p r → status_of r ≤ 1 → Reports words s t o p (status_of r)
+serves_report words s t o p r (misfit n h text) low = absurd (omega (arith, low))
+serves_report words s t o p r (cannot_read command asked rose) low = absurd (omega (arith, low))
+serves_report words s t o p r (no_memory command why asked memory) low = absurd (omega (arith, low, memory.0))
+serves_report words s t o p r (refuses status note from to h) low = absurd (omega (arith, low, from))
+serves_report words s t o p r (cannot_write h) low = absurd (omega (arith, low))
+serves_report words s t o p r (writes status small h) low = h
 
-some_same : (a b : Note) → Some a ≡ Some b → a ≡ b
-some_same a b e = cc
+-- a refusal has a status from 2 on
+pub refusal_is_high : {X : Type 0} (words : List (List ℕ)) (s t : SourceView) (o p : SinkView) (why : Refusal) → Serves words s t o p (Err why) → why.status ≤ 1 → X
+refusal_is_high words s t o p why (misfit n h text) low = absurd (omega (arith, low))
+refusal_is_high words s t o p why (cannot_read command asked rose) low = absurd (omega (arith, low))
+refusal_is_high words s t o p why (no_memory command w asked memory) low = absurd (omega (arith, low, memory.0))
+refusal_is_high words s t o p why (refuses status note from to h) low = absurd (omega (arith, low, from))
+refusal_is_high words s t o p why (cannot_write h) low = absurd (omega (arith, low))
 
-none_is_not_some : {a : Note} → None ≡ Some a → ⊥
-none_is_not_some e = cc
+pub report_is_low : (words : List (List ℕ)) (s t : SourceView) (o p : SinkView) (status : ℕ) → Serves words s t o p (Ok status) → status ≤ 1
+report_is_low words s t o p status (writes n small h) = small
 
-note_along : (words : List (List ℕ)) (left : Option (List ℕ)) (status : ℕ) (a b : Note) → Some a ≡ Some b → IsNote words left status (note_text a) → IsNote words left status (note_text b)
-note_along words left status a b e h = subst (λ n. IsNote words left status (note_text n)) (some_same a b e) h
+pub serves_refusal : (words : List (List ℕ)) (s t : SourceView) (o p : SinkView) (why : Refusal) → Serves words s t o p (Err why) → 3 ≤ why.status → why.status ≤ 6 → (note : List ℕ) × Refuses words s why.status note
+serves_refusal words s t o p why (misfit n h text) low high = absurd (omega (arith, low))
+serves_refusal words s t o p why (cannot_read command asked rose) low high = absurd (omega (arith, high))
+serves_refusal words s t o p why (no_memory command w asked memory) low high = absurd (omega (arith, high, memory.0))
+serves_refusal words s t o p why (refuses status note from to h) low high = (note_text note, h)
+serves_refusal words s t o p why (cannot_write h) low high = absurd (omega (arith, high))
 
-pub serves_note : (words : List (List ℕ)) (d : Devices) (e : Ending) (note : Note) → Serves words d e → e.note ≡ Some note → IsNote words d.left e.status (note_text note)
-serves_note words d e note (misfit n h text) is = note_along words d.left 2 n note is (subst (IsNote words d.left 2) (sym text) note_misfit)
-serves_note words d e note (cannot_read command asked rose) is = note_along words d.left 7 CannotRead note is read_fault
-serves_note words d e note (no_memory command asked) is = note_along words d.left 9 OutOfMemory note is memory
-serves_note words d e note (refuses status other from to h) is = note_along words d.left status other note is (refused status (note_text other) h)
-serves_note words d e note (cannot_write rose h) is = note_along words d.left 8 CannotWrite note is write_fault
-serves_note words d e note (writes status small h) is = absurd (none_is_not_some is)
+pub serves_read_fault : (words : List (List ℕ)) (s t : SourceView) (o p : SinkView) (why : Refusal) → Serves words s t o p (Err why) → why.status ≡ 7 → Rose s.faults t.faults
+serves_read_fault words s t o p why (misfit n h text) is = absurd (omega (arith, is))
+serves_read_fault words s t o p why (cannot_read command asked rose) is = rose
+serves_read_fault words s t o p why (no_memory command w asked memory) is = absurd (omega (arith, is, memory.0))
+serves_read_fault words s t o p why (refuses status note from to h) is = absurd (omega (arith, is, to))
+serves_read_fault words s t o p why (cannot_write h) is = absurd (omega (arith, is))
 
--- an ending with a note has a status from 2 on
-pub serves_silent : {X : Type 0} (words : List (List ℕ)) (d : Devices) (e : Ending) (note : Note) → Serves words d e → e.note ≡ Some note → e.status ≤ 1 → X
-serves_silent words d e note (misfit n h text) is low = absurd (omega (arith, low))
-serves_silent words d e note (cannot_read command asked rose) is low = absurd (omega (arith, low))
-serves_silent words d e note (no_memory command asked) is low = absurd (omega (arith, low))
-serves_silent words d e note (refuses status other from to h) is low = absurd (omega (arith, low, from))
-serves_silent words d e note (cannot_write rose h) is low = absurd (omega (arith, low))
-serves_silent words d e note (writes status small h) is low = absurd (none_is_not_some is)
+pub serves_write_fault : (words : List (List ℕ)) (s t : SourceView) (o p : SinkView) (why : Refusal) → Serves words s t o p (Err why) → why.status ≡ 8 → BreaksOff words s t o p
+serves_write_fault words s t o p why (misfit n h text) is = absurd (omega (arith, is))
+serves_write_fault words s t o p why (cannot_read command asked rose) is = absurd (omega (arith, is))
+serves_write_fault words s t o p why (no_memory command w asked memory) is = absurd (omega (arith, is, memory.0))
+serves_write_fault words s t o p why (refuses status note from to h) is = absurd (omega (arith, is, to))
+serves_write_fault words s t o p why (cannot_write h) is = h
+
+written_due : (words : List (List ℕ)) (s t : SourceView) (status : ℕ) (text : List ℕ) (command : Command) → Asks words command → IsRightReport words s t status text → IfSome s.left (λ input. IsDue command input status)
+written_due words s t status text command asked (of_input other n l asks ended right) =
+    IfSome-map s.left _ _ (λ input r. inl (text, subst (λ c. IsRight c input (report status text)) (asks_once words other command asks asked) r)) right
+written_due words s t status text command asked (of_rows asks) = rows_are_no_command words command asks asked
+
+pub serves_due : (words : List (List ℕ)) (s t : SourceView) (o p : SinkView) (r : Result ℕ Refusal) → Serves words s t o p r → (command : Command) → Asks words command → ¬ Rose s.faults t.faults → ¬ Rose o.faults p.faults →
+    (status_of r ≡ 9) ⊎ IfSome s.left (λ input. IsDue command input (status_of r))
+serves_due words s t o p r (misfit n h text) command asked source out = absurd (h.no_command command asked)
+serves_due words s t o p r (cannot_read other asks rose) command asked source out = absurd (source rose)
+serves_due words s t o p r (no_memory other why asks wanting) command asked source out = inl wanting.0
+serves_due words s t o p r (refuses status note from to h) command asked source out =
+    inr (IfSome-map s.left _ _ (λ input right. inr (note_text note, subst (λ c. IsRight c input (refusal status (note_text note))) (asks_once words h.command command h.asked asked) right)) h.right)
+serves_due words s t o p r (cannot_write h) command asked source out = absurd (out h.failed)
+serves_due words s t o p r (writes status small (text, right, grown)) command asked source out = inr (written_due words s t status text command asked right)
+
+-- the table of rows is written, or the sink failed
+rows_status : (words : List (List ℕ)) (s t : SourceView) (status : ℕ) (text : List ℕ) → AsksForRows words → IsRightReport words s t status text → status ≡ 0
+rows_status words s t status text asked (of_input command n l asks ended right) = rows_are_no_command words command asked asks
+rows_status words s t status text asked (of_rows asks) = refl
+
+pub serves_rows_status : (words : List (List ℕ)) (s t : SourceView) (o p : SinkView) (r : Result ℕ Refusal) → Serves words s t o p r → AsksForRows words → (status_of r ≡ 0) ⊎ (status_of r ≡ 8)
+serves_rows_status words s t o p r (misfit n h text) rows = absurd (h.no_rows rows)
+serves_rows_status words s t o p r (cannot_read command asked rose) rows = rows_are_no_command words command rows asked
+serves_rows_status words s t o p r (no_memory command why asked wanting) rows = rows_are_no_command words command rows asked
+serves_rows_status words s t o p r (refuses status note from to h) rows = rows_are_no_command words h.command rows h.asked
+serves_rows_status words s t o p r (cannot_write h) rows = inr refl
+serves_rows_status words s t o p r (writes status small (text, right, grown)) rows = inl (rows_status words s t status text rows right)
+
+pub serves_note : (words : List (List ℕ)) (s t : SourceView) (o p : SinkView) (why : Refusal) → Serves words s t o p (Err why) → IsNote words s why.status (note_text why.note)
+serves_note words s t o p why (misfit n h text) = subst (IsNote words s 2) (sym text) note_misfit
+serves_note words s t o p why (cannot_read command asked rose) = read_fault
+serves_note words s t o p why (no_memory command w asked wanting) = by_memory why.status (note_text why.note) wanting.0 wanting.1
+  where
+    by_memory : (status : ℕ) (text : List ℕ) → status ≡ 9 → text ≡ codes "out of memory" → IsNote words s status text
+    by_memory status text e f = let P : ℕ → Type 0 = λ n. IsNote words s n text in subst P (sym e) (subst (IsNote words s 9) (sym f) note_memory)
+serves_note words s t o p why (refuses status note from to h) = note_refused status (note_text note) h
+serves_note words s t o p why (cannot_write h) = write_fault

@@ -1,3 +1,4 @@
+pub mod Exits
 pub mod SmithOrder
 pub mod SmithSteps
 pub mod SmithSorted
@@ -7,5 +8,5 @@ pub mod SmithInstances
 pub mod PutsLemmas
 pub mod WordLemmas
 pub mod Endings
-pub mod LabelAnswers
+pub mod QuestionAnswers
 pub mod SolveAnswers

@@ -24,7 +24,8 @@ use Rattle.msp_schedule.specs.Settled.{IsSettled}
 use Rattle.msp_schedule.specs.Within.{Within}
 use Rattle.msp_schedule.proofs.OneMachine.{job_of, start, finish, IsTimed, IsPlan-from_feasible, weighted_cost}
 use Rattle.msp_schedule.proofs.OneRow.{piece, piece_makes, time_at, row_schedule, row-timed, row-op, row-machine, row_is_feasible, row_is_settled, row_is_within, row_ends, whole_fraction}
-use Rattle.msp_top.specs.Smith.{smith_class, GoesBefore, IsSmithOrder, IsWholeRow}
+use Rattle.msp_top.specs.Smith.{smith_class}
+use Rattle.msp_top.specs.SmithRule.{GoesBefore, IsSmithOrder, IsWholeRow}
 use Rattle.msp_top.proofs.SmithFacts.{IsSmithInstance, IsSmithInstance-from_class}
 
 abbrev weight_at : Instance → ℕ → ℕ

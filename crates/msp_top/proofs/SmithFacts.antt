@@ -6,7 +6,7 @@ use Rattle.msp_class.specs.declared.class.Env.TheVariants.{One}
 use Rattle.msp_class.specs.declared.class.Crit.TheVariants.{SumWC}
 use Rattle.msp_instance.specs.declared.Instance.{Instance}
 use Rattle.msp_instance.specs.Instance.{no_need}
-use Rattle.msp_instance.specs.Conditions.{HasNeeds, HasRelease, HasWeight, HasArcs, MeetsConditions, Inner, inner_limits}
+use Rattle.msp_instance.specs.Conditions.{HasShape, HasTimes, least_time, greatest_time, HasRelease, HasWeight, HasArcs, MeetsConditions, Inner, inner_limits}
 use Rattle.msp_schedule.proofs.OneMachine.{IsOneMachine, IsOneMachine-from_env}
 use Rattle.msp_top.specs.Smith.{smith_class}
 
@@ -29,8 +29,11 @@ IsSmithInstance-from_class i e h =
       few = m.few;
       arcs = subst (λ o. HasArcs o i.arcs) (ap (λ c. c.order) e) m.arcs;
       needs = λ k d l.
-          let n = subst (λ v. HasNeeds (kind_of v) v i.machines (inner_limits (kind_of v)).greatest_time (get_or i.jobs k d).needs) env (m.jobs k d l).needs in
-          (n.0.0, (n.1 0 no_need (omega (arith, n.0.0))).0, (n.1 0 no_need (omega (arith, n.0.0))).1);
+          let has = (m.jobs k d l).needs in
+          let shape = subst (λ c. HasShape (kind_of c.env) c.env i.machines (get_or i.jobs k d).needs) e has.shape in
+          let times = subst (λ c. HasTimes (least_time (kind_of c.env) c.times) (greatest_time (inner_limits (kind_of c.env)) c.times) (get_or i.jobs k d).needs) e has.times in
+          let one = times 0 no_need (omega (arith, shape.0)) in
+          (shape.0, one.0, one.1);
       release = λ k d l. subst (λ b. HasRelease (inner_limits (kind_of i.class.env)) b (get_or i.jobs k d).release) (ap (λ c. c.heads) e) (m.jobs k d l).release;
       weight = λ k d l. let w = subst (λ c. HasWeight (uses_weight c) (get_or i.jobs k d).weight) (ap (λ c. c.crit) e) (m.jobs k d l).weight in w.1;
     }

@@ -8,7 +8,7 @@ use Rattle.msp_class.proofs.Sums.{AllPairs-head, AllPairs-tail, OnceBelow-from_p
 use Rattle.msp_instance.specs.declared.Instance.{Instance}
 use Rattle.msp_instance.specs.Instance.{job_at, need_at}
 use Rattle.msp_top.specs.declared.smith.Load.{Load}
-use Rattle.msp_top.specs.Smith.{GoesBefore, IsSmithOrder}
+use Rattle.msp_top.specs.SmithRule.{GoesBefore, IsSmithOrder}
 use Rattle.msp_top.proofs.SmithSteps.{IsLoadOf}
 
 abbrev pub Sorted : List Load → Type 0

@@ -1,6 +1,7 @@
 -- The texts for words that are no names.
-use Rattle.std.proofs.Common.{◌≡◌, ℕ, zero, suc, ◌+◌, ◌^◌, ◌<◌, ◌-◌, true, false, List, [], ◌∷◌, ◌++◌, length, get_or, take, drop, map, Option, Some, None, Result, Ok, Err, if◌then◌else◌, ◌↔◌, sym, ap, ◌∙◌, subst, codes, bytes_eq, arith}
+use Rattle.std.proofs.Common.{◌≡◌, ℕ, zero, suc, ◌+◌, ◌^◌, ◌<◌, ◌-◌, true, false, List, [], ◌∷◌, ◌++◌, length, get_or, take, drop, map, Option, Some, None, Result, Ok, Err, IfErr, if◌then◌else◌, ◌↔◌, inl, inr, refl, sym, ap, ◌∙◌, subst, codes, bytes_eq, arith}
 use Rattle.std.specs.List.{AllZip}
+use Rattle.std.specs.Result.{IsErrAnd}
 use Rattle.std.proofs.Math.Seq.{drop-cons}
 use Rattle.std.proofs.lemmas.List.{get_or-map, take_more, take_all, length-map, length-drop}
 use Rattle.std.proofs.lemmas.Slice.Eq.{bytes_eq-Decides}
@@ -9,10 +10,18 @@ use Rattle.msp_class.specs.declared.class.Class.{Class}
 use Rattle.msp_name.specs.declared.fault.NameFault.{NameFault}
 use Rattle.msp_name.specs.Names.{NameOf}
 use Rattle.msp_name.specs.Reading.{reading_of}
-use Rattle.msp_top.specs.Run.{names_text, text_of_reading, misspelled_text, misfit_text, option_text, usage_text, IsNameWord, Command, solve, label, Asks}
-use Rattle.msp_top.specs.declared.words.Request.{Request}
-use Rattle.msp_top.specs.declared.words.Request.TheVariants.{Command as IsCommand, Misfit, NoMemory}
-use Rattle.msp_top.specs.Words.{ReadsWords, ReadsNames, ReadsOption, ReadsAt}
+use Rattle.msp_top.specs.declared.command.Command.{Command}
+use Rattle.msp_top.specs.declared.command.Command.TheVariants.{Solve, Answer}
+use Rattle.msp_top.specs.declared.command.Question.TheVariants.{Label, Frontier, Why}
+use Rattle.msp_top.specs.declared.command.Request.{Request}
+use Rattle.msp_top.specs.declared.refusal.Refusal.{Refusal}
+use Rattle.msp_top.specs.declared.words.Misfit.{Misfit}
+use Rattle.msp_top.specs.declared.words.Misfit.TheVariants.{Form}
+use Rattle.msp_top.specs.Commands.{IsNameWord, Asks, Misfits}
+use Rattle.msp_top.specs.Usage.{names_text, name_text, text_of_reading, misspelled_text, misfit_text, option_text, later_text}
+use Rattle.msp_top.specs.Note.{usage_note}
+use Rattle.msp_top.specs.Refusals.{of_misfit}
+use Rattle.msp_top.specs.Words.{ReadsWords, ReadsName, ReadsNames, ReadsOneName, ReadsOption}
 
 -- the text of the first word, where it is short
 pub names_text-short : (place : ℕ) (word : List ℕ) (rest : List (List ℕ)) → length word < 2 ^ 32 → names_text place (word ∷ rest) ≡ text_of_reading place (reading_of word) (names_text (place + 1) rest)
@@ -70,6 +79,12 @@ pub HasNames-fault : {X : Type 0} (f : X → List ℕ) (xs : List X) (k : ℕ) (
 HasNames-fault f xs k x word text l is e fault h =
     fault (drop (k + 1) (map f xs)) ∙ ap (λ w. names_text (k + 2) (w ∷ drop (k + 1) (map f xs))) e ∙ sym (ap (names_text (k + 2)) (rest_at f xs k x l is)) ∙ sym h.text
 
+-- the fault of all words is the misfit of the first that is no name
+pub first_misfit : (words : List (List ℕ)) (r : Result (Unit {0}) Misfit) (first : Misfit) → IsErrAnd r (λ misfit. misfit ≡ first) → usage_note first ≡ names_text 2 words → ((classes : List Class) → ¬ AllZip IsNameWord words classes) →
+    IfErr r (λ misfit. (usage_note misfit ≡ names_text 2 words) × ((classes : List Class) → ¬ AllZip IsNameWord words classes))
+first_misfit words (Ok u) first is text none = tt
+first_misfit words (Err misfit) first is text none = (ap usage_note is ∙ text, none)
+
 -- where a word is no name, not all are names
 pub not_all_names : {X : Type 0} (f : X → List ℕ) (xs : List X) (k : ℕ) (x : X) (word : List ℕ) → k < length xs → x ≡ get_or xs k x → word ≡ f x → ((c : Class) → ¬ IsNameWord word c) →
     (classes : List Class) → ¬ AllZip IsNameWord (map f xs) classes
@@ -100,15 +115,20 @@ no_name_word word bytes r fault e is named c h = ok_is_not_err (sym ((named c).1
 abbrev pub label_word : List ℕ
 label_word = codes "label"
 
+abbrev pub why_word : List ℕ
+why_word = codes "why"
+
 abbrev pub solve_word : List ℕ
 solve_word = codes "solve"
 
 abbrev pub at_word : List ℕ
 at_word = codes "--at"
 
-tail_of : {X : Type 0} (f : X → List ℕ) (xs : List X) (x : X) → 0 < length xs → x ≡ get_or xs 0 x → map f xs ≡ f x ∷ map f (drop 1 xs)
-tail_of f [] x l is = absurd (omega (arith, l))
-tail_of f (y ∷ ys) x l is = ap (λ z. f z ∷ map f ys) (sym is)
+abbrev pub frontier_word : List ℕ
+frontier_word = codes "frontier"
+
+abbrev pub rows_word : List ℕ
+rows_word = codes "rows"
 
 pub cons_heads : {A : Type 0} {a b : A} {xs ys : List A} → a ∷ xs ≡ b ∷ ys → a ≡ b
 cons_heads e = cc
@@ -116,78 +136,185 @@ cons_heads e = cc
 pub cons_tails : {A : Type 0} {a b : A} {xs ys : List A} → a ∷ xs ≡ b ∷ ys → xs ≡ ys
 cons_tails e = cc
 
-differ : {X : Type 0} → false ≡ true → X
+pub differ : {X : Type 0} → false ≡ true → X
 differ e = cc
 
--- the words that a command begins with
-pub label_is_not_solve : label_word ≡ solve_word → ⊥
-label_is_not_solve q = differ ((bytes_eq-Decides label_word solve_word).1 q)
-
-not_word : (word other : List ℕ) → bytes_eq word other ≡ false → word ≡ other → ⊥
+pub not_word : {X : Type 0} (word other : List ℕ) → bytes_eq word other ≡ false → word ≡ other → X
 not_word word other e q = differ (sym e ∙ (bytes_eq-Decides word other).1 q)
 
-abbrev solve_or_misfit : List ℕ → List (List ℕ) → List ℕ
-solve_or_misfit word words = if bytes_eq word solve_word then option_text words else misfit_text
+-- the word with which a command begins
+abbrev pub first_word : Command → List ℕ
+first_word (Solve at) = solve_word
+first_word (Answer (Label classes)) = label_word
+first_word (Answer Frontier) = frontier_word
+first_word (Answer (Why class)) = why_word
 
-usage_text-label : (word : List ℕ) (names : List (List ℕ)) → word ≡ label_word → usage_text (word ∷ names) ≡ names_text 2 names
-usage_text-label word names e = ap (λ b. if b then names_text 2 names else solve_or_misfit word names) ((bytes_eq-Decides word label_word).1 e)
+pub asks_first : (words : List (List ℕ)) (command : Command) → Asks words command → (later : List (List ℕ)) × (words ≡ first_word command ∷ later)
+asks_first words (Solve None) h = ([], h)
+asks_first words (Solve (Some class)) (name, h, named) = (codes "--at" ∷ name ∷ [], h)
+asks_first words (Answer (Label classes)) (names, h, zip) = (names, h)
+asks_first words (Answer Frontier) h = ([], h)
+asks_first words (Answer (Why class)) (name, h, named) = (name ∷ [], h)
 
-usage_text-unlabelled : (word : List ℕ) (words : List (List ℕ)) → bytes_eq word label_word ≡ false → usage_text (word ∷ words) ≡ solve_or_misfit word words
-usage_text-unlabelled word words e = ap (λ b. if b then names_text 2 words else solve_or_misfit word words) e
+begins : (word : List ℕ) (words : List (List ℕ)) (command : Command) → Asks (word ∷ words) command → word ≡ first_word command
+begins word words command h = cons_heads (asks_first (word ∷ words) command h).1
 
-usage_text-solve : (word : List ℕ) (options : List (List ℕ)) → bytes_eq word label_word ≡ false → word ≡ solve_word → usage_text (word ∷ options) ≡ option_text options
-usage_text-solve word options other e = usage_text-unlabelled word options other ∙ ap (λ b. if b then option_text options else misfit_text) ((bytes_eq-Decides word solve_word).1 e)
+-- no words ask for nothing
+pub nothing_asked : Misfits []
+nothing_asked = record {
+  no_command = λ command h. let e = (asks_first [] command h).1 in cc;
+  no_rows = λ h. cc;
+}
 
--- words that ask to solve begin with `solve`
-pub solve_first : (words : List (List ℕ)) (at : Option Class) → Asks words (solve at) → (options : List (List ℕ)) × (words ≡ solve_word ∷ options)
-solve_first words None h = ([], h)
-solve_first words (Some c) (name, h, named) = (codes "--at" ∷ name ∷ [], h)
+-- ---- what the words after the first are decides what all words are
 
--- what the words after `label` are decides what all words are
-pub reads_label : (word : List ℕ) (names : List (List ℕ)) (r : Request) → word ≡ label_word → ReadsNames names r → ReadsWords (word ∷ names) r
-reads_label word names (IsCommand asked) e (classes, h, is) = subst (Asks (word ∷ names)) (sym is) (names, ap (λ w. w ∷ names) e, h)
-reads_label word names (Misfit note) e (none, text) = (no_command, text ∙ sym (usage_text-label word names e))
+reads_label_misfit : (names : List (List ℕ)) → ((classes : List Class) → ¬ AllZip IsNameWord names classes) → Misfits (label_word ∷ names)
+reads_label_misfit names none = record { no_command = no_command; no_rows = λ h. not_word label_word rows_word refl (cons_heads h) }
   where
-    no_command : (command : Command) → Asks (word ∷ names) command → ⊥
-    no_command (solve at) h = label_is_not_solve (sym e ∙ cons_heads (solve_first _ at h).1)
-    no_command (label classes) (others, h, zip) = none classes (subst (λ ws. AllZip IsNameWord ws classes) (sym (cons_tails h)) zip)
-reads_label word names NoMemory e (classes, h) = (label classes, (names, ap (λ w. w ∷ names) e, h))
+    no_command : (command : Command) → ¬ Asks (label_word ∷ names) command
+    no_command (Solve at) h = not_word label_word solve_word refl (begins _ _ (Solve at) h)
+    no_command (Answer (Label classes)) (others, h, zip) = none classes (subst (λ ws. AllZip IsNameWord ws classes) (sym (cons_tails h)) zip)
+    no_command (Answer Frontier) h = not_word label_word frontier_word refl (cons_heads h)
+    no_command (Answer (Why class)) (name, h, named) = not_word label_word why_word refl (cons_heads h)
 
--- and so do the words after `solve`
-pub reads_solve : (word : List ℕ) (options : List (List ℕ)) (r : Request) → bytes_eq word label_word ≡ false → word ≡ solve_word → ReadsOption options r → ReadsWords (word ∷ options) r
-reads_solve word options (IsCommand asked) other e (at, h, is) = subst (Asks (word ∷ options)) (sym is) (subst (λ w. Asks (w ∷ options) (solve at)) (sym e) h)
-reads_solve word options (Misfit note) other e (none, text) = (no_command, text ∙ sym (usage_text-solve word options other e))
+reads_why_misfit : (words : List (List ℕ)) → ((name : List ℕ) (class : Class) → words ≡ name ∷ [] → ¬ IsNameWord name class) → Misfits (why_word ∷ words)
+reads_why_misfit words none = record { no_command = no_command; no_rows = λ h. not_word why_word rows_word refl (cons_heads h) }
   where
-    no_command : (command : Command) → Asks (word ∷ options) command → ⊥
-    no_command (solve at) h = none at (subst (λ w. Asks (w ∷ options) (solve at)) e h)
-    no_command (label classes) (names, h, zip) = not_word word label_word other (cons_heads h)
-reads_solve word options NoMemory other e h = absurd h
+    no_command : (command : Command) → ¬ Asks (why_word ∷ words) command
+    no_command (Solve at) h = not_word why_word solve_word refl (begins _ _ (Solve at) h)
+    no_command (Answer (Label classes)) (names, h, zip) = not_word why_word label_word refl (cons_heads h)
+    no_command (Answer Frontier) h = not_word why_word frontier_word refl (cons_heads h)
+    no_command (Answer (Why class)) (name, h, named) = none name class (cons_tails h) named
+
+reads_solve_misfit : (options : List (List ℕ)) → ((at : Option Class) → ¬ Asks (solve_word ∷ options) (Solve at)) → Misfits (solve_word ∷ options)
+reads_solve_misfit options none = record { no_command = no_command; no_rows = λ h. not_word solve_word rows_word refl (cons_heads h) }
+  where
+    no_command : (command : Command) → ¬ Asks (solve_word ∷ options) command
+    no_command (Solve at) h = none at h
+    no_command (Answer (Label classes)) (names, h, zip) = not_word solve_word label_word refl (cons_heads h)
+    no_command (Answer Frontier) h = not_word solve_word frontier_word refl (cons_heads h)
+    no_command (Answer (Why class)) (name, h, named) = not_word solve_word why_word refl (cons_heads h)
+
+pub reads_label : (word : List ℕ) (names : List (List ℕ)) (classes : List Class) → word ≡ label_word → AllZip IsNameWord names classes → Asks (word ∷ names) (Answer (Label classes))
+reads_label word names classes e h = (names, ap (λ w. w ∷ names) e, h)
+
+pub refuses_label : (word : List ℕ) (names : List (List ℕ)) (first why : Refusal) → word ≡ label_word → ReadsNames names (Err first) → why ≡ first → ReadsWords (word ∷ names) (Err why)
+refuses_label word names first why e h same =
+    let P : List ℕ → Type 0 = λ w. ReadsWords (w ∷ names) (Err first) in
+    let Q : Refusal → Type 0 = λ r. ReadsWords (word ∷ names) (Err r) in
+    subst Q (sym same) (subst P (sym e) (by_cause h))
+  where
+    by_cause : ReadsNames names (Err first) → ReadsWords (label_word ∷ names) (Err first)
+    by_cause (inl (status, none, text)) = inl (status, reads_label_misfit names none, text)
+    by_cause (inr (memory, (classes, zip))) = inr (memory, (Answer (Label classes), (names, refl, zip)))
+
+pub reads_why : (word : List ℕ) (words : List (List ℕ)) (class : Class) → word ≡ why_word → ReadsOneName words (Ok class) → Asks (word ∷ words) (Answer (Why class))
+reads_why word words class e (name, h, named) = (name, ap (λ w. w ∷ words) e ∙ ap (λ ws. why_word ∷ ws) h, named)
+
+pub refuses_why : (word : List ℕ) (words : List (List ℕ)) (misfit : Misfit) (why : Refusal) → word ≡ why_word → ReadsOneName words (Err misfit) → why ≡ of_misfit misfit → ReadsWords (word ∷ words) (Err why)
+refuses_why word words misfit why e (none, text) is =
+    let P : List ℕ → Type 0 = λ w. ReadsWords (w ∷ words) (Err (of_misfit misfit)) in
+    let Q : Refusal → Type 0 = λ r. ReadsWords (word ∷ words) (Err r) in
+    subst Q (sym is) (subst P (sym e) (inl (refl, reads_why_misfit words none, text)))
+
+pub reads_solve : (word : List ℕ) (options : List (List ℕ)) (at : Option Class) → word ≡ solve_word → Asks (solve_word ∷ options) (Solve at) → Asks (word ∷ options) (Solve at)
+reads_solve word options at e h = subst (λ w. Asks (w ∷ options) (Solve at)) (sym e) h
+
+pub refuses_solve : (word : List ℕ) (options : List (List ℕ)) (misfit : Misfit) (why : Refusal) → word ≡ solve_word → ReadsOption options (Err misfit) → why ≡ of_misfit misfit → ReadsWords (word ∷ options) (Err why)
+refuses_solve word options misfit why e (none, text) is =
+    let P : List ℕ → Type 0 = λ w. ReadsWords (w ∷ options) (Err (of_misfit misfit)) in
+    let Q : Refusal → Type 0 = λ r. ReadsWords (word ∷ options) (Err r) in
+    subst Q (sym is) (subst P (sym e) (inl (refl, reads_solve_misfit options none, text)))
+
+pub none_of : {X : Type 0} (xs : List X) → length xs ≡ 0 → xs ≡ []
+none_of [] e = refl
+none_of (x ∷ xs) e = absurd (omega (arith, e))
+
+-- a first word with no words behind it
+pub alone : {X : Type 0} (f : X → List ℕ) (xs : List X) (word name : List ℕ) → (word ≡ name) × (xs ≡ []) → word ∷ map f xs ≡ name ∷ []
+alone f xs word name (e, none) = ap (λ w. w ∷ map f xs) e ∙ ap (λ ys. name ∷ map f ys) none
+
+map_none : {X Y : Type 0} (f : X → Y) (xs : List X) → map f xs ≡ [] → xs ≡ []
+map_none f [] e = refl
+map_none f (x ∷ xs) e = cc
+
+-- a first word that is none of those with which a command begins, or that has words behind it where none may follow
+pub refuses_all : {X : Type 0} (f : X → List ℕ) (word : List ℕ) (xs : List X) (why : Refusal) → bytes_eq word label_word ≡ false → bytes_eq word why_word ≡ false → bytes_eq word solve_word ≡ false →
+    ¬ ((word ≡ frontier_word) × (xs ≡ [])) → ¬ ((word ≡ rows_word) × (xs ≡ [])) → why ≡ of_misfit Form → ReadsWords (word ∷ map f xs) (Err why)
+refuses_all f word xs why label why_not solve frontier rows is =
+    let Q : Refusal → Type 0 = λ r. ReadsWords (word ∷ map f xs) (Err r) in
+    subst Q (sym is) (inl (refl, record { no_command = no_command; no_rows = λ h. rows (cons_heads h, map_none f xs (cons_tails h)) }, sym text))
+  where
+    no_command : (command : Command) → ¬ Asks (word ∷ map f xs) command
+    no_command (Solve at) h = not_word word solve_word solve (begins _ _ (Solve at) h)
+    no_command (Answer (Label classes)) (names, h, zip) = not_word word label_word label (cons_heads h)
+    no_command (Answer Frontier) h = frontier (cons_heads h, map_none f xs (cons_tails h))
+    no_command (Answer (Why class)) (name, h, named) = not_word word why_word why_not (cons_heads h)
+    after_why : List ℕ
+    after_why = if bytes_eq word solve_word then option_text (map f xs) else misfit_text
+    after_label : List ℕ
+    after_label = if bytes_eq word why_word then name_text (map f xs) else after_why
+    text : later_text word (map f xs) ≡ misfit_text
+    text = ap (λ b. if b then names_text 2 (map f xs) else after_label) label ∙ ap (λ b. if b then name_text (map f xs) else after_why) why_not ∙ ap (λ b. if b then option_text (map f xs) else misfit_text) solve
+
+tail_of : {X : Type 0} (f : X → List ℕ) (xs : List X) (x : X) → 0 < length xs → x ≡ get_or xs 0 x → map f xs ≡ f x ∷ map f (drop 1 xs)
+tail_of f [] x l is = absurd (omega (arith, l))
+tail_of f (y ∷ ys) x l is = ap (λ z. f z ∷ map f ys) (sym is)
 
 -- the words after the first, as a slice gives them
 pub rest_part : {X : Type 0} (d xs : List X) → d ≡ xs → take (length d - 1) (drop 1 d) ≡ drop 1 xs
 rest_part d xs e = take_all (length d - 1) (drop 1 d) (omega (arith, length-drop 1 d)) ∙ ap (drop 1) e
 
-pub reads_part : {X : Type 0} (f : X → List ℕ) (xs part : List X) (x : X) (word : List ℕ) (r : Request) → 0 < length xs → x ≡ get_or xs 0 x → word ≡ f x → part ≡ drop 1 xs → ReadsWords (word ∷ map f part) r → ReadsWords (map f xs) r
+pub reads_part : {X : Type 0} (f : X → List ℕ) (xs part : List X) (x : X) (word : List ℕ) (r : Result Request Refusal) → 0 < length xs → x ≡ get_or xs 0 x → word ≡ f x → part ≡ drop 1 xs → ReadsWords (word ∷ map f part) r → ReadsWords (map f xs) r
 reads_part f xs part x word r l is e cut h =
     subst (λ ws. ReadsWords ws r) (sym (tail_of f xs x l is)) (subst (λ p. ReadsWords (f x ∷ map f p) r) cut (subst (λ w. ReadsWords (w ∷ map f part) r) e h))
+
+-- ---- the words after `why`
+one_item : {X : Type 0} (f : X → List ℕ) (xs : List X) (x : X) (word : List ℕ) → length xs ≡ 1 → x ≡ get_or xs 0 x → word ≡ f x → map f xs ≡ word ∷ []
+one_item f [] x word l is e = absurd (omega (arith, l))
+one_item f (a ∷ []) x word l is e = ap (λ w. w ∷ []) (ap f (sym is) ∙ sym e)
+one_item f (a ∷ b ∷ xs) x word l is e = absurd (omega (arith, l))
+
+pub reads_one : {X : Type 0} (f : X → List ℕ) (xs : List X) (x : X) (word : List ℕ) (r : Result Class Misfit) → length xs ≡ 1 → x ≡ get_or xs 0 x → word ≡ f x → ReadsName word 2 r → ReadsOneName (map f xs) r
+reads_one f xs x word r l is e h = let P : List (List ℕ) → Type 0 = λ ws. ReadsOneName ws r in subst P (sym (one_item f xs x word l is e)) (by_result r h)
+  where
+    by_result : (r : Result Class Misfit) → ReadsName word 2 r → ReadsOneName (word ∷ []) r
+    by_result (Ok class) named = (word, refl, named)
+    by_result (Err misfit) (text, none) = (λ name class e named. none class (subst (λ w. IsNameWord w class) (sym (cons_heads e)) named), text [])
+
+pub reads_not_one : {X : Type 0} (f : X → List ℕ) (xs : List X) → (length xs ≡ 1 → ⊥) → ReadsOneName (map f xs) (Err Form)
+reads_not_one f [] l = (λ name class e named. let q : [] ≡ name ∷ [] = e in cc, refl)
+reads_not_one f (a ∷ []) l = absurd (l refl)
+reads_not_one f (a ∷ b ∷ xs) l = (λ name class e named. let q : map f xs ≡ map f xs = refl in two_not_one e, refl)
+  where
+    two_not_one : {u v w : List ℕ} {ws : List (List ℕ)} → u ∷ v ∷ ws ≡ w ∷ [] → ⊥
+    two_not_one e = cc
 
 -- ---- the words after `solve`
 option_text-at : (option name : List ℕ) → option ≡ at_word → option_text (option ∷ name ∷ []) ≡ names_text 3 (name ∷ [])
 option_text-at option name e = ap (λ b. if b then names_text 3 (name ∷ []) else misfit_text) ((bytes_eq-Decides option at_word).1 e)
 
--- what the word after `--at` is decides what both are
-reads_at : (option name : List ℕ) (r : Request) → option ≡ at_word → ReadsAt name r → ReadsOption (option ∷ name ∷ []) r
-reads_at option name (IsCommand asked) e (c, named, is) = (Some c, (name, ap (λ w. solve_word ∷ w ∷ name ∷ []) e, named), is)
-reads_at option name (Misfit note) e (none, text) = (no_class, text ∙ sym (option_text-at option name e))
-  where
-    no_class : (at : Option Class) → Asks (solve_word ∷ option ∷ name ∷ []) (solve at) → ⊥
-    no_class None h = cc
-    no_class (Some c) (other, h, named) = none c (subst (λ w. IsNameWord w c) (sym (cons_heads (cons_tails (cons_tails h)))) named)
-reads_at option name NoMemory e h = absurd h
+-- the class after `--at`
+abbrev pub at_class : Result Class Misfit → Result (Option Class) Misfit
+at_class (Ok class) = Ok (Some class)
+at_class (Err misfit) = Err misfit
 
-pub reads_at_part : {X : Type 0} (f : X → List ℕ) (xs : List X) (x y : X) (option name : List ℕ) (r : Request) → length xs ≡ 2 → x ≡ get_or xs 0 x → y ≡ get_or xs 1 y → option ≡ f x → name ≡ f y → option ≡ at_word → ReadsAt name r → ReadsOption (map f xs) r
+reads_at : (option name : List ℕ) (r : Result Class Misfit) → option ≡ at_word → ReadsName name 3 r → ReadsOption (option ∷ name ∷ []) (at_class r)
+reads_at option name (Ok class) e named = (name, ap (λ w. solve_word ∷ w ∷ name ∷ []) e, named)
+reads_at option name (Err misfit) e (text, none) = (no_class, text [] ∙ sym (option_text-at option name e))
+  where
+    no_class : (at : Option Class) → ¬ Asks (solve_word ∷ option ∷ name ∷ []) (Solve at)
+    no_class None h = cc
+    no_class (Some class) (other, h, named) = none class (subst (λ w. IsNameWord w class) (sym (cons_heads (cons_tails (cons_tails h)))) named)
+
+pub reads_at_part : {X : Type 0} (f : X → List ℕ) (xs : List X) (x y : X) (option name : List ℕ) (r : Result Class Misfit) → length xs ≡ 2 → x ≡ get_or xs 0 x → y ≡ get_or xs 1 y → option ≡ f x → name ≡ f y → option ≡ at_word → ReadsName name 3 r → ReadsOption (map f xs) (at_class r)
 reads_at_part f [] x y option name r l first second p q e h = absurd (omega (arith, l))
 reads_at_part f (a ∷ []) x y option name r l first second p q e h = absurd (omega (arith, l))
 reads_at_part f (a ∷ b ∷ []) x y option name r l first second p q e h =
-    subst (λ ws. ReadsOption ws r) (ap (λ w. w ∷ name ∷ []) (p ∙ ap f first) ∙ ap (λ w. f a ∷ w ∷ []) (q ∙ ap f second)) (reads_at option name r e h)
+    subst (λ ws. ReadsOption ws (at_class r)) (ap (λ w. w ∷ name ∷ []) (p ∙ ap f first) ∙ ap (λ w. f a ∷ w ∷ []) (q ∙ ap f second)) (reads_at option name r e h)
 reads_at_part f (a ∷ b ∷ d ∷ xs) x y option name r l first second p q e h = absurd (omega (arith, l))
+
+pub refuses_at_part : {X : Type 0} (f : X → List ℕ) (xs : List X) (x y : X) (option name : List ℕ) (first misfit : Misfit) → length xs ≡ 2 → x ≡ get_or xs 0 x → y ≡ get_or xs 1 y → option ≡ f x → name ≡ f y → option ≡ at_word → ReadsName name 3 (Err first) → misfit ≡ first → ReadsOption (map f xs) (Err misfit)
+refuses_at_part f xs x y option name first misfit l a b p q e h same =
+    let P : Misfit → Type 0 = λ m. ReadsOption (map f xs) (Err m) in
+    subst P (sym same) (reads_at_part f xs x y option name (Err first) l a b p q e h)

@@ -1,5 +1,5 @@
 -- What is said of an instance text that has a fault.
-use Rattle.std.specs.Prelude.{ℕ, Option, Some, None, List, [], ◌++◌, codes, decimal}
+use Rattle.std.specs.Prelude.{ℕ, Option, Some, List, [], ◌++◌, codes, decimal}
 use Rattle.msp_instance.specs.declared.membership.ClassFault.{ClassFault}
 use Rattle.msp_instance.specs.declared.membership.ClassFault.TheVariants as class_fault
 use Rattle.msp_file.specs.declared.fault.What.{What}
@@ -32,23 +32,10 @@ quantity_text what.Cost = codes "cost"
 quantity_text what.Pieces = codes "pieces"
 
 -- A passed limit has a status of its own, and every other fault is bad input. Want of memory is no fault of the text.
-abbrev pub file_status : FileFault → Option ℕ
-file_status (fault.Limit at quantity) = Some 4
-file_status fault.Memory = None
-file_status (fault.Head at) = Some 3
-file_status (fault.Missing at) = Some 3
-file_status (fault.Cut at) = Some 3
-file_status (fault.Line at) = Some 3
-file_status (fault.Count at) = Some 3
-file_status (fault.Key at) = Some 3
-file_status (fault.Name at) = Some 3
-file_status (fault.Number at) = Some 3
-file_status (fault.Again at) = Some 3
-file_status (fault.ArcAgain at) = Some 3
-file_status (fault.Unknown at) = Some 3
-file_status (fault.After at) = Some 3
-file_status (fault.Class broken name) = Some 3
-file_status (fault.Cycle job name) = Some 3
+abbrev pub file_status : FileFault → ℕ
+file_status (fault.Limit at quantity) = 4
+file_status fault.Memory = 9
+file_status _ = 3
 
 -- The line of a fault, and what it is.
 abbrev pub at_line : ℕ → List ℕ → List ℕ

@@ -1,16 +1,22 @@
--- The texts of the notes.
+-- The texts of the notes that the code makes. No public contract cites this file.
 use Rattle.std.specs.Prelude.{ℕ, List, ◌++◌, codes}
 use Rattle.msp_name.specs.Names.{name_of}
 use Rattle.msp_top.specs.declared.notes.Note.{Note}
-use Rattle.msp_top.specs.declared.notes.Note.TheVariants.{Words, Word, TooLong, File, NoSolver, NotSolved, NoChain, Results, CannotRead, CannotWrite, OutOfMemory}
-use Rattle.msp_top.specs.Run.{misfit_text, misspelled_text}
+use Rattle.msp_top.specs.declared.notes.Note.TheVariants.{Usage, TooLong, File, NoSolver, NotSolved, NoChain, Results, CannotRead, CannotWrite, OutOfMemory}
+use Rattle.msp_top.specs.declared.words.Misfit.{Misfit}
+use Rattle.msp_top.specs.declared.words.Misfit.TheVariants.{Form, Name}
+use Rattle.msp_top.specs.Usage.{misfit_text, misspelled_text}
+use Rattle.msp_top.specs.Run.{too_long_text}
 use Rattle.msp_top.specs.Files.{file_text}
-use Rattle.msp_top.specs.Results.{results_text}
+use Rattle.msp_results.specs.Faults.{results_text}
+
+abbrev pub usage_note : Misfit → List ℕ
+usage_note Form = misfit_text
+usage_note (Name place fault) = misspelled_text place fault
 
 abbrev pub note_text : Note → List ℕ
-note_text Words = misfit_text
-note_text (Word place fault) = misspelled_text place fault
-note_text TooLong = codes "more than 4194304 bytes"
+note_text (Usage misfit) = usage_note misfit
+note_text TooLong = too_long_text
 note_text (File fault) = file_text fault
 note_text (NoSolver class) = codes "no solver for " ++ name_of class
 note_text (NotSolved class) = name_of class ++ codes " is not solved"

@@ -1,33 +1,46 @@
--- What reading the words of a command line gives.
-use Rattle.std.specs.Prelude.{◌≡◌, ℕ, List, [], ◌∷◌, Option, Some, codes}
-use Rattle.msp_top.specs.declared.words.Request.{Request}
-use Rattle.msp_top.specs.declared.words.Request.TheVariants.{Command as IsCommand, Misfit, NoMemory}
+-- What reading the words of a command line gives. No public contract cites this file.
+use Rattle.std.specs.Prelude.{◌≡◌, ◌⊎◌, ℕ, List, [], ◌∷◌, Option, Result, Ok, Err, codes}
 use Rattle.std.specs.List.{AllZip}
 use Rattle.msp_class.specs.declared.class.Class.{Class}
-use Rattle.msp_top.specs.Run.{Command, solve, label, Asks, Misfits, IsNameWord, names_text, option_text, usage_text}
-use Rattle.msp_top.specs.Note.{note_text}
-use Rattle.msp_top.specs.Answer.{command_of}
+use Rattle.msp_top.specs.declared.command.Command.{Command}
+use Rattle.msp_top.specs.declared.command.Command.TheVariants.{Solve}
+use Rattle.msp_top.specs.declared.command.Request.{Request}
+use Rattle.msp_top.specs.declared.command.Request.TheVariants.{Rows, Command as IsCommand}
+use Rattle.msp_top.specs.declared.words.Misfit.{Misfit}
+use Rattle.msp_top.specs.declared.refusal.Refusal.{Refusal}
+use Rattle.msp_top.specs.Commands.{Asks, AsksForRows, Misfits, IsNameWord}
+use Rattle.msp_top.specs.Usage.{names_text, name_text, option_text, usage_text}
+use Rattle.msp_top.specs.Note.{usage_note, note_text}
+use Rattle.msp_top.specs.Answers.{IsNoMemory}
 
--- A command is one that the words ask for. A misfit has its note. Memory may be wanting only for words that ask for a command.
-abbrev pub ReadsWords : List (List ℕ) → Request → Type 0
-ReadsWords words (IsCommand asked) = Asks words (command_of asked)
-ReadsWords words (Misfit note) = Misfits words × (note_text note ≡ usage_text words)
-ReadsWords words NoMemory = (command : Command) × Asks words command
+-- The words are a misfit, with its status and its note.
+abbrev pub IsMisfit : List (List ℕ) → Refusal → Type 0
+IsMisfit words why = (why.status ≡ 2) × Misfits words × (note_text why.note ≡ usage_text words)
 
--- The same for the words after `label`.
-abbrev pub ReadsNames : List (List ℕ) → Request → Type 0
-ReadsNames names (IsCommand asked) = (classes : List Class) × AllZip IsNameWord names classes × (command_of asked ≡ label classes)
-ReadsNames names (Misfit note) = ((classes : List Class) → ¬ AllZip IsNameWord names classes) × (note_text note ≡ names_text 2 names)
-ReadsNames names NoMemory = (classes : List Class) × AllZip IsNameWord names classes
+-- A request is what the words ask for. Memory may be wanting only for words that ask for a command.
+abbrev pub ReadsWords : List (List ℕ) → Result Request Refusal → Type 0
+ReadsWords words (Ok Rows) = AsksForRows words
+ReadsWords words (Ok (IsCommand command)) = Asks words command
+ReadsWords words (Err why) = IsMisfit words why ⊎ (IsNoMemory why × ((command : Command) × Asks words command))
 
--- The same for the words after `solve`. Reading them takes no memory.
-abbrev pub ReadsOption : List (List ℕ) → Request → Type 0
-ReadsOption options (IsCommand asked) = (at : Option Class) × Asks (codes "solve" ∷ options) (solve at) × (command_of asked ≡ solve at)
-ReadsOption options (Misfit note) = ((at : Option Class) → ¬ Asks (codes "solve" ∷ options) (solve at)) × (note_text note ≡ option_text options)
-ReadsOption options NoMemory = ⊥
+-- The word at this place is the name of the class, or it is no name, and the note says so.
+abbrev pub ReadsName : List ℕ → ℕ → Result Class Misfit → Type 0
+ReadsName word place (Ok class) = IsNameWord word class
+ReadsName word place (Err misfit) = ((rest : List (List ℕ)) → usage_note misfit ≡ names_text place (word ∷ rest)) × ((class : Class) → ¬ IsNameWord word class)
 
--- The same for the word after `solve --at`.
-abbrev pub ReadsAt : List ℕ → Request → Type 0
-ReadsAt name (IsCommand asked) = (c : Class) × IsNameWord name c × (command_of asked ≡ solve (Some c))
-ReadsAt name (Misfit note) = ((c : Class) → ¬ IsNameWord name c) × (note_text note ≡ names_text 3 (name ∷ []))
-ReadsAt name NoMemory = ⊥
+-- The words after `label` are names of the classes.
+abbrev pub ReadsNames : List (List ℕ) → Result (List Class) Refusal → Type 0
+ReadsNames names (Ok classes) = AllZip IsNameWord names classes
+ReadsNames names (Err why) =
+    ((why.status ≡ 2) × ((classes : List Class) → ¬ AllZip IsNameWord names classes) × (note_text why.note ≡ names_text 2 names))
+    ⊎ (IsNoMemory why × ((classes : List Class) × AllZip IsNameWord names classes))
+
+-- The words after `why` are the name of the class.
+abbrev pub ReadsOneName : List (List ℕ) → Result Class Misfit → Type 0
+ReadsOneName words (Ok class) = (name : List ℕ) × (words ≡ name ∷ []) × IsNameWord name class
+ReadsOneName words (Err misfit) = ((name : List ℕ) (class : Class) → words ≡ name ∷ [] → ¬ IsNameWord name class) × (usage_note misfit ≡ name_text words)
+
+-- The words after `solve` name the class, if one is named.
+abbrev pub ReadsOption : List (List ℕ) → Result (Option Class) Misfit → Type 0
+ReadsOption options (Ok at) = Asks (codes "solve" ∷ options) (Solve at)
+ReadsOption options (Err misfit) = ((at : Option Class) → ¬ Asks (codes "solve" ∷ options) (Solve at)) × (usage_note misfit ≡ option_text options)

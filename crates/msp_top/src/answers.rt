@@ -1,88 +1,58 @@
 // What there is to say of a whole input, by the command.
-ghost use Rattle.std.specs.Prelude.{◌≡◌, ◌⊎◌, ℕ, ◌≤◌, List as Items, [], length, Option, Some, None, IfOk, IfSome, IfNone, is_some, if◌then◌else◌};
+ghost use Rattle.std.specs.Prelude.{◌≡◌, ◌≤◌, length, Option, IfOk};
 ghost use Rattle.msp_class.specs.declared.class.Class.{Class as ClassValue};
-ghost use Rattle.msp_class.specs.Rank.{rank_of};
 ghost use Rattle.msp_instance.specs.Conditions.{Inner, InClass};
 ghost use Rattle.msp_top.specs.Smith.{smith_class};
-ghost use Rattle.msp_top.specs.Run.{IsRight, SolveIsRight, LabelIsRight, AreShown, IsNamed};
-ghost use Rattle.msp_top.specs.Files.{file_status};
-ghost use Rattle.msp_top.specs.Results.{results_status, AreAllClasses};
-ghost use Rattle.msp_top.specs.Answer.{command_of, outcome_of, AnswersFiled, ReportsShown, ReportsLabels};
+ghost use Rattle.msp_top.specs.Solves.{SolveIsRight, IsNamed};
+ghost use Rattle.msp_top.specs.Outcome.{report};
+ghost use Rattle.msp_top.specs.Run.{IsRightWithin};
+ghost use Rattle.msp_top.specs.Answers.{Answers, SolvesFiled};
 
-use crate::labels_text::labels_text;
+use crate::command::Command;
 use crate::notes::Note;
+use crate::questions::answer_question;
+use crate::refusal::Refusal;
 use crate::report::solve_text;
 use crate::smith::{solve, solves};
-use crate::words::Asked;
-use msp_class::{CLASSES, Class, List, NoMemory, unrank};
-use msp_closure::{Entry, clash, close};
-use msp_file::{FileFault, Filed, read_instance};
-use msp_results::{ResultFault, read_results};
+use msp_class::{Class, NoMemory};
+use msp_file::read_instance;
+use msp_grammar::Filed;
 use std::alloc::Global;
 
-/// What there is to say of a whole input.
+/// The most bytes of an input.
+pub const INPUT_LIMIT: u64 = 4_194_304;
+
+/// A report of a whole input, and its status.
 #[derive(Drop)]
-pub enum Answer {
-    Report { status: u8, text: Vec<u8> },
-    Refusal { status: u8, note: Note },
+pub struct Report {
+    pub status: u8,
+    pub text: Vec<u8>,
 }
 
 /// The answer to a command and a whole input.
-pub fn answer_to(alloc: Global, asked: &Asked, input: &[u8]) -> Result<Answer, NoMemory>
-    requires { length input.now ≤ 4194304 }
-    ensures { IfOk result (λ answer. IsRight (command_of asked.now) input.now (outcome_of answer)) }
+pub fn answer_to(alloc: Global, command: &Command, input: &[u8]) -> Result<Report, Refusal>
+    requires { length input.now ≤ INPUT_LIMIT }
+    ensures { Answers (IsRightWithin command.now input.now) result }
 {
-    match asked {
-        Asked::Solve { at } => solve_answer(alloc, *at, input),
-        Asked::Label(classes) => label_answer(alloc, classes, input),
+    match command {
+        Command::Solve { at } => solve_answer(alloc, *at, input),
+        Command::Answer { question } => answer_question(alloc, question, input),
     }
 }
 
-fn solve_answer(alloc: Global, at: Option<Class>, input: &[u8]) -> Result<Answer, NoMemory>
-    requires { length input.now ≤ 4194304 }
-    ensures { IfOk result (λ answer. SolveIsRight input.now at (outcome_of answer)) }
+fn solve_answer(alloc: Global, at: Option<Class>, input: &[u8]) -> Result<Report, Refusal>
+    requires { length input.now ≤ INPUT_LIMIT }
+    ensures { Answers (SolveIsRight input.now at) result }
 {
-    match read_instance(alloc, input) {
-        Ok(filed) => answer_filed(alloc, at, &filed),
-        Err(fault) => match file_status(&fault) {
-            Some(status) => Ok(Answer::Refusal {
-                status,
-                note: Note::File(fault),
-            }),
-            None => Err(NoMemory),
-        },
-    }
-}
-
-/// The status of a refusal of an instance text. None comes for want of memory.
-fn file_status(fault: &FileFault) -> Option<u8>
-    ensures { result ≡ file_status fault.now }
-{
-    match fault {
-        FileFault::Limit { .. } => Some(4),
-        FileFault::Memory => None,
-        FileFault::Head { .. }
-        | FileFault::Missing { .. }
-        | FileFault::Cut { .. }
-        | FileFault::Line { .. }
-        | FileFault::Count { .. }
-        | FileFault::Key { .. }
-        | FileFault::Name { .. }
-        | FileFault::Number { .. }
-        | FileFault::Again { .. }
-        | FileFault::ArcAgain { .. }
-        | FileFault::Unknown { .. }
-        | FileFault::After { .. }
-        | FileFault::Class { .. }
-        | FileFault::Cycle { .. } => Some(3),
-    }
+    let filed = read_instance(alloc, input)?;
+    answer_filed(alloc, at, &filed)
 }
 
 /// The answer for an instance, at the class that is named, if one is named.
-fn answer_filed(alloc: Global, at: Option<Class>, filed: &Filed) -> Result<Answer, NoMemory>
+fn answer_filed(alloc: Global, at: Option<Class>, filed: &Filed) -> Result<Report, Refusal>
     requires class { InClass filed.now.instance }
     requires named { length filed.now.names ≡ length filed.now.instance.jobs }
-    ensures { IfOk result (λ answer. AnswersFiled at filed.now answer) }
+    ensures { Answers (SolvesFiled at filed.now) result }
 {
     match at {
         Some(class) => answer_at(alloc, class, filed),
@@ -91,15 +61,15 @@ fn answer_filed(alloc: Global, at: Option<Class>, filed: &Filed) -> Result<Answe
 }
 
 /// The answer at a named class.
-fn answer_at(alloc: Global, class: Class, filed: &Filed) -> Result<Answer, NoMemory>
+fn answer_at(alloc: Global, class: Class, filed: &Filed) -> Result<Report, Refusal>
     requires class { InClass filed.now.instance }
     requires named { length filed.now.names ≡ length filed.now.instance.jobs }
-    ensures { IfOk result (λ answer. AnswersFiled (Some class) filed.now answer) }
+    ensures { Answers (SolvesFiled (Some class) filed.now) result }
 {
     if solves(class) {
         answer_solved(alloc, class, filed)
     } else {
-        Ok(Answer::Refusal {
+        Err(Refusal {
             status: 6,
             note: Note::NotSolved(class),
         })
@@ -107,16 +77,16 @@ fn answer_at(alloc: Global, class: Class, filed: &Filed) -> Result<Answer, NoMem
 }
 
 /// The answer at a named class that has a solver: a best schedule, where the instance is one of it.
-fn answer_solved(alloc: Global, class: Class, filed: &Filed) -> Result<Answer, NoMemory>
+fn answer_solved(alloc: Global, class: Class, filed: &Filed) -> Result<Report, Refusal>
     requires class { InClass filed.now.instance }
     requires named { length filed.now.names ≡ length filed.now.instance.jobs }
     requires solved { class ≡ smith_class }
-    ensures { IfOk result (λ answer. AnswersFiled (Some class) filed.now answer) }
+    ensures { Answers (SolvesFiled (Some class) filed.now) result }
 {
     if solves(filed.instance.class) {
-        report_smith(alloc, filed)
+        Ok(report_smith(alloc, filed)?)
     } else {
-        Ok(Answer::Refusal {
+        Err(Refusal {
             status: 6,
             note: Note::NoChain(class),
         })
@@ -124,15 +94,15 @@ fn answer_solved(alloc: Global, class: Class, filed: &Filed) -> Result<Answer, N
 }
 
 /// The answer where no class is named: a best schedule, where there is a solver for the class of the instance.
-fn answer_own(alloc: Global, filed: &Filed) -> Result<Answer, NoMemory>
+fn answer_own(alloc: Global, filed: &Filed) -> Result<Report, Refusal>
     requires class { InClass filed.now.instance }
     requires named { length filed.now.names ≡ length filed.now.instance.jobs }
-    ensures { IfOk result (λ answer. AnswersFiled None filed.now answer) }
+    ensures { Answers (SolvesFiled None filed.now) result }
 {
     if solves(filed.instance.class) {
-        report_smith(alloc, filed)
+        Ok(report_smith(alloc, filed)?)
     } else {
-        Ok(Answer::Refusal {
+        Err(Refusal {
             status: 5,
             note: Note::NoSolver(filed.instance.class),
         })
@@ -140,92 +110,13 @@ fn answer_own(alloc: Global, filed: &Filed) -> Result<Answer, NoMemory>
 }
 
 /// The report of the schedule that Smith's rule gives.
-fn report_smith(alloc: Global, filed: &Filed) -> Result<Answer, NoMemory>
+fn report_smith(alloc: Global, filed: &Filed) -> Result<Report, NoMemory>
     requires inner { Inner filed.now.instance }
     requires class { filed.now.instance.class ≡ smith_class }
     requires named { length filed.now.names ≡ length filed.now.instance.jobs }
-    ensures { IfOk result (λ answer. (at : Option ClassValue) → IsNamed at smith_class → AnswersFiled at filed.now answer) }
+    ensures { (at : Option ClassValue) → IsNamed at smith_class → IfOk result (λ made. SolvesFiled at filed.now (report made.status made.text.items)) }
 {
     let solution = solve(alloc, &filed.instance)?;
     let text = solve_text(alloc, &filed.names, &solution)?;
-    Ok(Answer::Report { status: 0, text })
-}
-
-fn label_answer(alloc: Global, classes: &List<Class>, input: &[u8]) -> Result<Answer, NoMemory>
-    requires { length input.now ≤ 4194304 }
-    ensures { IfOk result (λ answer. LabelIsRight classes.now input.now (outcome_of answer)) }
-{
-    match read_results(alloc, input) {
-        Ok(entries) => report_labels(alloc, classes, &entries),
-        Err(fault) => match status_of(fault) {
-            Some(status) => Ok(Answer::Refusal {
-                status,
-                note: Note::Results(fault),
-            }),
-            None => Err(NoMemory),
-        },
-    }
-}
-
-/// The status of a refusal of the results. None comes for want of memory.
-fn status_of(fault: ResultFault) -> Option<u8>
-    ensures { result ≡ results_status fault }
-{
-    match fault {
-        ResultFault::Long { .. } | ResultFault::Many => Some(4),
-        ResultFault::Header
-        | ResultFault::Width { .. }
-        | ResultFault::Name { .. }
-        | ResultFault::Verdict { .. }
-        | ResultFault::Source { .. } => Some(3),
-        ResultFault::Memory => None,
-    }
-}
-
-/// All classes, in order of rank.
-fn all_classes(alloc: Global) -> Result<List<Class>, NoMemory>
-    ensures { IfOk result (λ classes. AreAllClasses classes) }
-{
-    let mut classes = List::new(alloc);
-    for n in 0..CLASSES {
-        let Some(class) = unrank(n) else {
-            unreachable!();
-        };
-        if classes.push(class).is_err() {
-            return Err(NoMemory);
-        }
-    }
-    Ok(classes)
-}
-
-fn report_shown(
-    alloc: Global,
-    shown: &List<Class>,
-    entries: &List<Entry>,
-) -> Result<Answer, NoMemory>
-    ensures { IfOk result (λ answer. ReportsShown shown.now entries.now answer) }
-{
-    let labels = close(alloc, entries)?;
-    let found = clash(alloc, entries)?;
-    let text = labels_text(alloc, &labels, shown, &found)?;
-    if found.is_some() {
-        Ok(Answer::Report { status: 1, text })
-    } else {
-        Ok(Answer::Report { status: 0, text })
-    }
-}
-
-fn report_labels(
-    alloc: Global,
-    classes: &List<Class>,
-    entries: &List<Entry>,
-) -> Result<Answer, NoMemory>
-    ensures { IfOk result (λ answer. ReportsLabels classes.now entries.now answer) }
-{
-    if classes.len() == 0 {
-        let all = all_classes(alloc)?;
-        report_shown(alloc, &all, entries)
-    } else {
-        report_shown(alloc, classes, entries)
-    }
+    Ok(Report { status: 0, text })
 }

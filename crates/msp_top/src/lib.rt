@@ -4,8 +4,10 @@
 #![tactic(auto)]
 
 mod answers;
-mod labels_text;
+mod command;
 mod notes;
+mod questions;
+mod refusal;
 mod report;
 mod serve;
 mod smith;

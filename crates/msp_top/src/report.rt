@@ -1,10 +1,12 @@
+// The report of `solve`.
 ghost use Rattle.std.specs.Prelude.{◌≡◌, IfOk};
 ghost use Rattle.msp_schedule.specs.Fraction.{IsLowest};
 ghost use Rattle.msp_grammar.specs.ScheduleText.{IsStated};
 ghost use Rattle.msp_top.specs.Report.{solve_report};
 
 use msp_class::NoMemory;
-use msp_file::{Names, print_schedule};
+use msp_grammar::print_schedule;
+use msp_job_name::Names;
 use msp_schedule::Solution;
 use msp_text::put;
 use std::alloc::Global;

@@ -1,75 +1,56 @@
-// `run`: the words are read, the input is taken, answered, and what there is to say is written.
-ghost use Rattle.std.specs.Prelude.{◌≡◌, ◌⊎◌, ℕ, ◌+◌, ◌<◌, ◌≤◌, ◌↔◌, ◌≢◌, List, length, take, map, string_bytes, MatchOption, IfOk, IfSome, IsErrOf, OnErr};
-ghost use Rattle.std.specs.Io.KnownBytes.{Appends, Keeps, Consumes, IsAtEnd};
+// `run`: the words are read, the input is taken and answered, and what there is to say is written.
+ghost use Rattle.std.specs.Prelude.{◌≡◌, ◌≢◌, ◌⊎◌, ◌↔◌, ◌≤◌, ℕ, List, map, string_bytes, IfErr, IfSome};
 ghost use Rattle.msp_io.specs.Faults.{Rose};
-ghost use Rattle.msp_top.specs.Run.{Command, Asks, Misfits, IsTold, IsNote, IsDue, Reports, BreaksOff, Refuses};
-ghost use Rattle.msp_top.specs.Ending.{Serves, ends_with};
+ghost use Rattle.msp_top.specs.declared.command.Command.{Command as CommandValue};
+ghost use Rattle.msp_top.specs.Commands.{Asks, AsksForRows, Misfits};
+ghost use Rattle.msp_top.specs.Run.{IsTold, IsNote, IsDue, Reports, BreaksOff, Refuses};
+ghost use Rattle.msp_top.specs.Ending.{Serves};
 
-use crate::answers::{Answer, answer_to};
-use crate::notes::{Note, tell};
-use crate::words::{Request, read_words};
-use msp_class::NoMemory;
-use msp_io::{Sink, Source, Taken, WriteFault, read_all, write_all};
+use crate::answers::{INPUT_LIMIT, answer_to};
+use crate::command::{Command, Request};
+use crate::notes::tell;
+use crate::refusal::Refusal;
+use crate::words::read_words;
+use msp_io::{Sink, Source, read_all, write_all};
+use msp_report::rows_text;
 use std::alloc::Global;
 
-/// The most bytes of an input.
-const INPUT_LIMIT: u64 = 4_194_304;
-
-/// How a call ends: its status, and the note to be told.
-#[derive(Clone, Copy, Debug, PartialEq, Eq)]
-struct Ending {
-    status: u8,
-    note: Option<Note>,
-}
-
-fn refused(status: u8, note: Note) -> Ending
-    ensures { result ≡ ends_with status note }
-{
-    Ending {
-        status,
-        note: Some(note),
-    }
-}
-
+/// Serves the words of a command line, and answers the status of the report that was written.
 fn serve<S: Source, K: Sink>(
     alloc: Global,
     words: &Vec<String>,
     source: &mut S,
     out: &mut K,
-) -> Ending
-    ensures served { Serves (map string_bytes words.now.items)
-        (record {
-          left = S.left source.old;
-          left_after = S.left source.new;
-          source_faults = S.faults source.old;
-          source_faults_after = S.faults source.new;
-          held = K.held out.old;
-          held_after = K.held out.new;
-          out_faults = K.faults out.old;
-          out_faults_after = K.faults out.new;
-        }) result }
-    ensures unread { result.status ≡ 2 → source.new ≡ source.old }
-    ensures unwritten { 2 ≤ result.status → result.status ≢ 8 → out.new ≡ out.old }
+) -> Result<u8, Refusal>
+    ensures served { Serves (map string_bytes words.now.items) (S.seen source.old) (S.seen source.new) (K.seen out.old) (K.seen out.new) result }
+    ensures unread { IfErr result (λ why. why.status ≡ 2 → source.new ≡ source.old) }
+    ensures unwritten { IfErr result (λ why. why.status ≢ 8 → out.new ≡ out.old) }
+    ensures rows { AsksForRows (map string_bytes words.now.items) → source.new ≡ source.old }
 {
-    let asked = match read_words(alloc, words) {
-        Request::Command(asked) => asked,
-        Request::Misfit(note) => return refused(2, note),
-        Request::NoMemory => return refused(9, Note::OutOfMemory),
-    };
-    let input = match read_all(alloc, source, INPUT_LIMIT) {
-        Ok(input) => input,
-        Err(Taken::ReadFault) => return refused(7, Note::CannotRead),
-        Err(Taken::TooLong) => return refused(4, Note::TooLong),
-        Err(Taken::Memory) => return refused(9, Note::OutOfMemory),
-    };
-    match answer_to(alloc, &asked, &input) {
-        Ok(Answer::Report { status, text }) => match write_all(out, &text) {
-            Ok(()) => Ending { status, note: None },
-            Err(WriteFault) => refused(8, Note::CannotWrite),
-        },
-        Ok(Answer::Refusal { status, note }) => refused(status, note),
-        Err(NoMemory) => refused(9, Note::OutOfMemory),
+    match read_words(alloc, words)? {
+        Request::Rows => {
+            write_all(out, rows_text())?;
+            Ok(0)
+        }
+        Request::Command(command) => perform(alloc, &command, source, out),
     }
+}
+
+/// Reads the input of a command, and writes the report.
+fn perform<S: Source, K: Sink>(
+    alloc: Global,
+    command: &Command,
+    source: &mut S,
+    out: &mut K,
+) -> Result<u8, Refusal>
+    ensures served { (words : List (List ℕ)) → Asks words command.now → Serves words (S.seen source.old) (S.seen source.new) (K.seen out.old) (K.seen out.new) result }
+    ensures not_usage { IfErr result (λ why. why.status ≢ 2) }
+    ensures unwritten { IfErr result (λ why. why.status ≢ 8 → out.new ≡ out.old) }
+{
+    let input = read_all(alloc, source, INPUT_LIMIT)?;
+    let report = answer_to(alloc, command, &input)?;
+    write_all(out, &report.text)?;
+    Ok(report.status)
 }
 
 /// Serves the words of a command line, without the program's name: reads `source` where the command reads, writes the report to
@@ -85,34 +66,41 @@ pub fn run<S: Source, K: Sink, E: Sink>(
     out: &mut K,
     notes: &mut E,
 ) -> u8
+    ensures known { result ≤ 9 }
+
     // Status 2 comes exactly where the words fit no command. Nothing is read or written then.
     ensures usage { (result ≡ 2) ↔ Misfits (map string_bytes words.now.items) }
     ensures unread { result ≡ 2 → (source.new ≡ source.old) × (out.new ≡ out.old) }
 
     // A status below 2 comes with a right report of the whole input, and without a note.
-    ensures right_report { result ≤ 1 → Reports (map string_bytes words.now.items) (S.left source.old) (S.left source.new) (K.held out.old) (K.held out.new) result }
+    ensures right_report { result ≤ 1 → Reports (map string_bytes words.now.items) (S.seen source.old) (S.seen source.new) (K.seen out.old) (K.seen out.new) result }
     ensures silent { result ≤ 1 → notes.new ≡ notes.old }
 
     // A refusal of the input is the right one, and nothing is written.
-    ensures refusal { 3 ≤ result → result ≤ 6 → (note : List ℕ) × Refuses (map string_bytes words.now.items) (S.left source.old) result note }
-    ensures read_fault { result ≡ 7 → Rose (S.faults source.old) (S.faults source.new) }
-    ensures write_fault { result ≡ 8 → Rose (K.faults out.old) (K.faults out.new) × BreaksOff (map string_bytes words.now.items) (S.left source.old) (S.left source.new) (K.held out.old) (K.held out.new) }
+    ensures refusal { 3 ≤ result → result ≤ 6 → (note : List ℕ) × Refuses (map string_bytes words.now.items) (S.seen source.old) result note }
+    ensures read_fault { result ≡ 7 → Rose (S.seen source.old).faults (S.seen source.new).faults }
+    ensures write_fault { result ≡ 8 → BreaksOff (map string_bytes words.now.items) (S.seen source.old) (S.seen source.new) (K.seen out.old) (K.seen out.new) }
 
     // Statuses other than 0, 1 and 8 leave `out` as it was.
     ensures unwritten { 2 ≤ result → result ≢ 8 → out.new ≡ out.old }
 
+    // The table of rows takes no memory, and nothing is read for it: it is written, or `out` failed.
+    ensures rows { AsksForRows (map string_bytes words.now.items) → (source.new ≡ source.old) × ((result ≡ 0) ⊎ (result ≡ 8)) }
+
     // Words that fit and no new fault give the status that the whole input is due, or want of memory.
-    ensures completeness { (command : Command) → Asks (map string_bytes words.now.items) command
-        → ¬ Rose (S.faults source.old) (S.faults source.new) → ¬ Rose (K.faults out.old) (K.faults out.new)
-        → (result ≡ 9) ⊎ IfSome (S.left source.old) (λ input. IsDue command input result) }
+    ensures completeness { (command : CommandValue) → Asks (map string_bytes words.now.items) command
+        → ¬ Rose (S.seen source.old).faults (S.seen source.new).faults → ¬ Rose (K.seen out.old).faults (K.seen out.new).faults
+        → (result ≡ 9) ⊎ IfSome (S.seen source.old).left (λ input. IsDue command input result) }
 
     // Each status from 2 on has its note.
-    ensures note { 2 ≤ result → (note : List ℕ) × IsNote (map string_bytes words.now.items) (S.left source.old) result note
-        × IsTold (E.held notes.old) (E.held notes.new) (E.faults notes.old) (E.faults notes.new) note }
+    ensures note { 2 ≤ result → (note : List ℕ) × IsNote (map string_bytes words.now.items) (S.seen source.old) result note
+        × IsTold (E.seen notes.old) (E.seen notes.new) note }
 {
-    let ending = serve(alloc, words, source, out);
-    if let Some(note) = &ending.note {
-        tell(note, notes);
+    match serve(alloc, words, source, out) {
+        Ok(status) => status,
+        Err(why) => {
+            tell(&why.note, notes);
+            why.status
+        }
     }
-    ending.status
 }

@@ -1,3 +1,4 @@
+// Smith's rule: the jobs in order of weight for time, one after another.
 ghost use Rattle.std.specs.Prelude.{◌≡◌, ℕ, ◌*◌, ◌<◌, ◌≤◌, ◌^◌, ◌⊎◌, ◌↔◌, IsTrue, length, map, slice_index_or, All, AllPairs, IfOk, IfSome, IsPermutation};
 ghost use Rattle.std.specs.List.{range_with_len};
 ghost use Rattle.std.specs.Ordering.{nat_cmp, ordering_then};
@@ -9,7 +10,8 @@ ghost use Rattle.msp_schedule.specs.Settled.{IsSettled};
 ghost use Rattle.msp_schedule.specs.Within.{Within};
 ghost use Rattle.msp_schedule.proofs.OneRow.{piece, time_at};
 ghost use Rattle.msp_schedule.proofs.Rows.{row};
-ghost use Rattle.msp_top.specs.Smith.{smith_class, IsSmithOrder, IsWholeRow};
+ghost use Rattle.msp_top.specs.Smith.{smith_class};
+ghost use Rattle.msp_top.specs.SmithRule.{IsSmithOrder, IsWholeRow};
 
 use msp_class::{Class, Crit, Env, List, NoMemory, Order, Times};
 use msp_instance::{Instance, Job};

@@ -15,65 +15,324 @@ const REPORT: &[u8] =
 /// An instance of a class that has no solver.
 const UNSOLVED: &[u8] = b"msp 1\nclass P||Cmax\nmachines 2\njob a p=3\nend\n";
 
-/// Words that fit no command, each with the note.
-const MISFITS: &[(&[&str], &[u8])] = &[
-    (&[], b"msp: usage: words fit no command\n"),
-    (&["solved"], b"msp: usage: words fit no command\n"),
-    (&["solve", "--at"], b"msp: usage: words fit no command\n"),
-    (
-        &["solve", "--at", "--at"],
-        b"msp: usage: word 3: name: not two bars\n",
-    ),
-];
+/// What a call is run on, and what it gives.
+struct Case {
+    words: &'static [&'static str],
+    text: &'static [u8],
+    status: u8,
+    out: &'static [u8],
+    notes: &'static [u8],
+}
 
-/// Texts that `solve --at NAME` refuses, each with the name before it, and the status and the note after it.
-const REFUSED_AT: &[(&str, &[u8], u8, &[u8])] = &[
-    ("1||sumU", TEXT, 6, b"msp: 1||sumU is not solved\n"),
-    ("P||Cmax", TEXT, 6, b"msp: P||Cmax is not solved\n"),
-    ("1||sumwC", UNSOLVED, 6, b"msp: no chain to 1||sumwC\n"),
-    ("1||sumwC", FRONT, 3, b"msp: line 5: missing\n"),
-];
-
-/// Texts that `solve` refuses, each with the status and the note.
-const REFUSED: &[(&[u8], u8, &[u8])] = &[
-    (UNSOLVED, 5, b"msp: no solver for P||Cmax\n"),
-    (FRONT, 3, b"msp: line 5: missing\n"),
-    (
-        b"msp 1\nclass 1||sumwC\njob a p=3 w=1\njob b p=1 w=2\njob c p=2 w=2\nend",
-        3,
-        b"msp: line 6: cut\n",
-    ),
-    (
-        b"msp 1\nclass 1||sumwC\njob a p=3 w=1\njob b p=1 w=2\njob c p=2 w=2\nend\nx",
-        3,
-        b"msp: line 7: after the end\n",
-    ),
-    (
-        b"msp 1\nclass 1||sumwC\njob a p=3 w=1\njob a p=1 w=2\njob c p=2 w=2\nend\n",
-        3,
-        b"msp: line 4: name again\n",
-    ),
-    (
-        b"msp 1\nclass 1||sumwC\njob a p=3 w=0\njob b p=1 w=2\njob c p=2 w=2\nend\n",
-        4,
-        b"msp: line 3: limit of weight\n",
-    ),
-    (
-        b"msp 1\nclass Q||sumC\nmachines 2\nspeeds 999983 1000000\njob a p=1\nend\n",
-        4,
-        b"msp: line 4: limit of multiple\n",
-    ),
-    (
-        b"msp 1\nclass 1|prec|fmax\njob a p=2\ncurve 1 0\njob b p=3\ncurve 0 0 5 10\njob c p=1\ncurve 2 -4\narc a b\narc b a\nend\n",
-        3,
-        b"msp: cycle at a\n",
-    ),
-    (
-        b"msp 1\nclass 1|chains|Cmax\njob a p=1\njob b p=1\njob c p=1\narc a b\narc a c\nend\n",
-        3,
-        b"msp: job a: degree\n",
-    ),
-    (b"msp 1\nclass 1||sumwC\nend\n", 3, b"msp: no jobs\n"),
+const CASES: &[Case] = &[
+    Case {
+        words: &["solve"],
+        text: TEXT,
+        status: 0,
+        out: REPORT,
+        notes: b"",
+    },
+    Case {
+        words: &["solve", "--at", "1||sumwC"],
+        text: TEXT,
+        status: 0,
+        out: REPORT,
+        notes: b"",
+    },
+    Case {
+        words: &["solve"],
+        text: b"msp 1\nclass 1||sumwC\njob a p=2 w=1\njob b p=4 w=2\nend\n",
+        status: 0,
+        out: b"start 1||sumwC\nsolver smith\nschedule\ncost 14\nunit 1\npiece a 1 1 0 2\npiece b 1 1 2 6\nend\n",
+        notes: b"",
+    },
+    Case {
+        words: &["solve"],
+        text: b"msp 1\nclass 1||sumwC\njob a p=1 w=1\nend\n",
+        status: 0,
+        out: b"start 1||sumwC\nsolver smith\nschedule\ncost 1\nunit 1\npiece a 1 1 0 1\nend\n",
+        notes: b"",
+    },
+    Case {
+        words: &[],
+        text: TEXT,
+        status: 2,
+        out: b"",
+        notes: b"msp: usage: words fit no command\n",
+    },
+    Case {
+        words: &["solved"],
+        text: TEXT,
+        status: 2,
+        out: b"",
+        notes: b"msp: usage: words fit no command\n",
+    },
+    Case {
+        words: &["solve", "--at"],
+        text: TEXT,
+        status: 2,
+        out: b"",
+        notes: b"msp: usage: words fit no command\n",
+    },
+    Case {
+        words: &["solve", "--at", "1||Cmax", "x"],
+        text: TEXT,
+        status: 2,
+        out: b"",
+        notes: b"msp: usage: words fit no command\n",
+    },
+    Case {
+        words: &["frontier", "1||Cmax"],
+        text: TEXT,
+        status: 2,
+        out: b"",
+        notes: b"msp: usage: words fit no command\n",
+    },
+    Case {
+        words: &["rows", "1"],
+        text: TEXT,
+        status: 2,
+        out: b"",
+        notes: b"msp: usage: words fit no command\n",
+    },
+    Case {
+        words: &["why"],
+        text: TEXT,
+        status: 2,
+        out: b"",
+        notes: b"msp: usage: words fit no command\n",
+    },
+    Case {
+        words: &["why", "1||Cmax", "1||Cmax"],
+        text: TEXT,
+        status: 2,
+        out: b"",
+        notes: b"msp: usage: words fit no command\n",
+    },
+    Case {
+        words: &["solve", "--at", "--at"],
+        text: TEXT,
+        status: 2,
+        out: b"",
+        notes: b"msp: usage: word 3: name: not two bars\n",
+    },
+    Case {
+        words: &["label", "1||Cmax", "1|chains,prec|Cmax"],
+        text: b"class,verdict,source\n",
+        status: 2,
+        out: b"",
+        notes: b"msp: usage: word 3: name: item does not fit at 9\n",
+    },
+    Case {
+        words: &["why", "1|chains,prec|Cmax"],
+        text: b"class,verdict,source\n",
+        status: 2,
+        out: b"",
+        notes: b"msp: usage: word 2: name: item does not fit at 9\n",
+    },
+    Case {
+        words: &["why", "1|p=1,p=p|Cmax"],
+        text: b"class,verdict,source\n",
+        status: 2,
+        out: b"",
+        notes: b"msp: usage: word 2: name: item does not fit at 6\n",
+    },
+    Case {
+        words: &["solve", "--at", "1||sumU"],
+        text: TEXT,
+        status: 6,
+        out: b"",
+        notes: b"msp: 1||sumU is not solved\n",
+    },
+    Case {
+        words: &["solve", "--at", "P||Cmax"],
+        text: TEXT,
+        status: 6,
+        out: b"",
+        notes: b"msp: P||Cmax is not solved\n",
+    },
+    Case {
+        words: &["solve", "--at", "1||sumwC"],
+        text: UNSOLVED,
+        status: 6,
+        out: b"",
+        notes: b"msp: no chain to 1||sumwC\n",
+    },
+    Case {
+        words: &["solve", "--at", "1||sumwC"],
+        text: FRONT,
+        status: 3,
+        out: b"",
+        notes: b"msp: line 5: missing\n",
+    },
+    Case {
+        words: &["solve"],
+        text: UNSOLVED,
+        status: 5,
+        out: b"",
+        notes: b"msp: no solver for P||Cmax\n",
+    },
+    Case {
+        words: &["solve"],
+        text: FRONT,
+        status: 3,
+        out: b"",
+        notes: b"msp: line 5: missing\n",
+    },
+    Case {
+        words: &["solve"],
+        text: b"msp 1\nclass 1||sumwC\njob a p=3 w=1\njob b p=1 w=2\njob c p=2 w=2\nend",
+        status: 3,
+        out: b"",
+        notes: b"msp: line 6: cut\n",
+    },
+    Case {
+        words: &["solve"],
+        text: b"msp 1\nclass 1||sumwC\njob a p=3 w=1\njob b p=1 w=2\njob c p=2 w=2\nend\nx",
+        status: 3,
+        out: b"",
+        notes: b"msp: line 7: after the end\n",
+    },
+    Case {
+        words: &["solve"],
+        text: b"msp 1\nclass 1||sumwC\njob a p=3 w=1\njob a p=1 w=2\njob c p=2 w=2\nend\n",
+        status: 3,
+        out: b"",
+        notes: b"msp: line 4: name again\n",
+    },
+    Case {
+        words: &["solve"],
+        text: b"msp 1\nclass 1||sumwC\njob a p=3 w=0\njob b p=1 w=2\njob c p=2 w=2\nend\n",
+        status: 4,
+        out: b"",
+        notes: b"msp: line 3: limit of weight\n",
+    },
+    Case {
+        words: &["solve"],
+        text: b"msp 1\nclass Q||sumC\nmachines 2\nspeeds 999983 1000000\njob a p=1\nend\n",
+        status: 4,
+        out: b"",
+        notes: b"msp: line 4: limit of multiple\n",
+    },
+    Case {
+        words: &["solve"],
+        text: b"msp 1\nclass P|intree,p=p|Cmax\nmachines 2\ntime 1000001\njob a\njob b\narc a b\nend\n",
+        status: 4,
+        out: b"",
+        notes: b"msp: line 4: limit of time\n",
+    },
+    Case {
+        words: &["solve"],
+        text: b"msp 1\nclass 1|prec|fmax\njob a p=2\ncurve 1 0\njob b p=3\ncurve 0 0 5 10\njob c p=1\ncurve 2 -4\narc a b\narc b a\nend\n",
+        status: 3,
+        out: b"",
+        notes: b"msp: cycle at a\n",
+    },
+    Case {
+        words: &["solve"],
+        text: b"msp 1\nclass 1|chains|Cmax\njob a p=1\njob b p=1\njob c p=1\narc a b\narc a c\nend\n",
+        status: 3,
+        out: b"",
+        notes: b"msp: job a: degree\n",
+    },
+    Case {
+        words: &["solve"],
+        text: b"msp 1\nclass 1||sumwC\nend\n",
+        status: 3,
+        out: b"",
+        notes: b"msp: no jobs\n",
+    },
+    Case {
+        words: &["label", "1|r|Cmax", "1||Lmax", "1||Cmax"],
+        text: b"class,verdict,source\n1||Lmax,easy,Jackson 1955\n1|r|Cmax,hard,for the test\n",
+        status: 1,
+        out: b"1|r|Cmax both\n1||Lmax both\n1||Cmax easy\nclash\nstart 1|r|Cmax\nrow 47 1||Lmax\nend\n",
+        notes: b"",
+    },
+    Case {
+        words: &["label", "1|p=1|Cmax"],
+        text: b"class,verdict,source\n",
+        status: 0,
+        out: b"1|p=1|Cmax open\nend\n",
+        notes: b"",
+    },
+    Case {
+        words: &["why", "P||Lmax"],
+        text: b"class,verdict,source\nP2||Cmax,hard,Karp 1972\n",
+        status: 0,
+        out: b"class P||Lmax\nlabel hard\nhard\nrecord 1 Karp 1972\nstart P2||Cmax\nrow 8 P2||Lmax\nrow 18 P||Lmax\nend\n",
+        notes: b"",
+    },
+    Case {
+        words: &["why", "1||Lmax"],
+        text: b"class,verdict,source\n1|prec|fmax,easy,Lawler 1973\n",
+        status: 0,
+        out: b"class 1||Lmax\nlabel easy\neasy\nstart 1||Lmax\nrow 1 1|chains|Lmax\nrow 2 1|intree|Lmax\nrow 4 1|prec|Lmax\nrow 9 1|prec|fmax\nrecord 1 Lawler 1973\nend\n",
+        notes: b"",
+    },
+    Case {
+        words: &["label", "1||sumwU", "1||sumU", "1||Lmax", "1|chains|sumwU"],
+        text: b"class,strength,source\n1||sumwU,hard,Karp 1972\n1||sumwU,pseudo,Lawler and Moore 1969\n",
+        status: 0,
+        out: b"1||sumwU weak\n1||sumU pseudo\n1||Lmax pseudo\n1|chains|sumwU hard\nend\n",
+        notes: b"",
+    },
+    Case {
+        words: &["why", "1||Lmax"],
+        text: b"class,strength,source\n1||sumwU,hard,Karp 1972\n1||sumwU,pseudo,Lawler and Moore 1969\n",
+        status: 0,
+        out: b"class 1||Lmax\nlabel pseudo\npseudo\nstart 1||Lmax\nrow 15 1||sumU\nrow 14 1||sumwU\nrecord 2 Lawler and Moore 1969\nend\n",
+        notes: b"",
+    },
+    Case {
+        words: &["label", "Q2||Cmax", "P2||Cmax"],
+        text: b"class,strength,source\nR2||Cmax,pseudo,x\n",
+        status: 0,
+        out: b"Q2||Cmax open\nP2||Cmax pseudo\nend\n",
+        notes: b"",
+    },
+    Case {
+        words: &["label", "F2||sumC"],
+        text: b"class,strength,source\nF2||sumC,strong,x\nF2||sumC,pseudo,y\n",
+        status: 1,
+        out: b"F2||sumC torn\nstrong clash\nstart F2||sumC\nend\n",
+        notes: b"",
+    },
+    Case {
+        words: &["why", "F2||sumC"],
+        text: b"class,strength,source\nF2||sumC,strong,x\n",
+        status: 0,
+        out: b"class F2||sumC\nlabel strong\nhard\nrecord 1 x\nstart F2||sumC\nstrong\nrecord 1 x\nstart F2||sumC\nend\n",
+        notes: b"",
+    },
+    Case {
+        words: &["label"],
+        text: b"class,verdict,source\n1||sumwU,pseudo,x\n",
+        status: 3,
+        out: b"",
+        notes: b"msp: record 1: verdict\n",
+    },
+    Case {
+        words: &["label"],
+        text: b"",
+        status: 3,
+        out: b"",
+        notes: b"msp: header\n",
+    },
+    Case {
+        words: &["frontier"],
+        text: b"class,verdict,source\n1||Emax,easy,x\n",
+        status: 3,
+        out: b"",
+        notes: b"msp: record 1: name: criterion at 3\n",
+    },
+    Case {
+        words: &["why", "1||Cmax"],
+        text: b"class,verdict,source\n1||Cmax,easy\n",
+        status: 3,
+        out: b"",
+        notes: b"msp: record 1: width\n",
+    },
 ];
 
 /// What a call is run on: the words, the input, and the calls of the source and of the sinks that fail.
@@ -147,53 +406,48 @@ fn gives(
 }
 
 #[test]
-fn solves_small_instances(rt: HostRuntime) -> Result<(), Fail> {
-    assert!(rt; gives(rt.alloc(), &solving(TEXT), 0, REPORT, b"")?);
+fn answers_each_case(rt: HostRuntime) -> Result<(), Fail> {
+    for case in CASES {
+        let trial = calling(case.words, case.text);
+        assert!(rt; gives(rt.alloc(), &trial, case.status, case.out, case.notes)?);
+    }
+    Ok(())
+}
+
+fn lines(text: &[u8]) -> usize {
+    text.iter().filter(|b| **b == b'\n').count()
+}
+
+#[test]
+fn labels_all_classes(rt: HostRuntime) -> Result<(), Fail> {
+    let seen = outcome(rt.alloc(), &calling(&["label"], b"class,verdict,source\n"))?;
+    assert_eq!(rt; seen.status, 0);
+    assert_eq!(rt; lines(&seen.out), 9721);
     assert!(rt;
-        gives(
-            rt.alloc(),
-            &solving(b"msp 1\nclass 1||sumwC\njob a p=2 w=1\njob b p=4 w=2\nend\n"),
-            0,
-            b"start 1||sumwC\nsolver smith\nschedule\ncost 14\nunit 1\npiece a 1 1 0 2\npiece b 1 1 2 6\nend\n",
-            b""
-        )?
+        seen.out.starts_with(
+            b"1||Cmax open\n1||Lmax open\n1||fmax open\n1||sumC open\n1||sumwC open\n1||sumU open\n1||sumwU open\n1||sumT open\n1||sumwT open\n1|p=1|Cmax open\n"
+        )
     );
-    assert!(rt;
-        gives(
-            rt.alloc(),
-            &solving(b"msp 1\nclass 1||sumwC\njob a p=1 w=1\nend\n"),
-            0,
-            b"start 1||sumwC\nsolver smith\nschedule\ncost 1\nunit 1\npiece a 1 1 0 1\nend\n",
-            b""
-        )?
-    );
+    assert!(rt; seen.out.ends_with(b"\nJ|pmtn,prec,r,p=p|sumwT open\nend\n"));
     Ok(())
 }
 
 #[test]
-fn refuses_words(rt: HostRuntime) -> Result<(), Fail> {
-    for (words, note) in MISFITS {
-        assert!(rt; gives(rt.alloc(), &calling(words, TEXT), 2, b"", note)?);
-    }
+fn draws_the_frontier(rt: HostRuntime) -> Result<(), Fail> {
+    let results = b"class,verdict,source\n1||Cmax,easy,\n";
+    let seen = outcome(rt.alloc(), &calling(&["frontier"], results))?;
+    assert_eq!(rt; seen.status, 0);
+    assert!(rt; seen.out.starts_with(b"maximal easy 2\n1||Cmax\n1|pmtn|Cmax\nminimal hard 0\n"));
     Ok(())
 }
 
 #[test]
-fn solves_at_a_named_class(rt: HostRuntime) -> Result<(), Fail> {
-    let at_smith = calling(&["solve", "--at", "1||sumwC"], TEXT);
-    assert!(rt; gives(rt.alloc(), &at_smith, 0, REPORT, b"")?);
-    for (name, text, status, note) in REFUSED_AT {
-        let at_name = ["solve", "--at", name];
-        assert!(rt; gives(rt.alloc(), &calling(&at_name, text), *status, b"", note)?);
-    }
-    Ok(())
-}
-
-#[test]
-fn refuses_texts(rt: HostRuntime) -> Result<(), Fail> {
-    for (text, status, note) in REFUSED {
-        assert!(rt; gives(rt.alloc(), &solving(text), *status, b"", note)?);
-    }
+fn writes_the_rows(rt: HostRuntime) -> Result<(), Fail> {
+    let seen = outcome(rt.alloc(), &calling(&["rows"], b""))?;
+    assert_eq!(rt; seen.status, 0);
+    assert_eq!(rt; lines(&seen.out), 55);
+    assert!(rt; seen.out.starts_with(b"row 1 carries none to chains\n"));
+    assert!(rt; seen.out.ends_with(b"\nrow 54 carries p=p to p=1\nend\n"));
     Ok(())
 }
 
@@ -292,94 +546,3 @@ fn one_byte_too_many(rt: HostRuntime) -> Result<(), Fail> {
     Ok(())
 }
 
-#[test]
-fn labels_say_a_clash(rt: HostRuntime) -> Result<(), Fail> {
-    assert!(rt;
-        gives(
-            rt.alloc(),
-            &calling(
-                &["label", "1|r|Cmax", "1||Lmax", "1||Cmax"],
-                b"class,verdict,source\n1||Lmax,easy,Jackson 1955\n1|r|Cmax,hard,for the test\n"
-            ),
-            1,
-            b"1|r|Cmax both\n1||Lmax both\n1||Cmax easy\nclash\nstart 1|r|Cmax\nrow 47 1||Lmax\nend\n",
-            b""
-        )?
-    );
-    Ok(())
-}
-
-#[test]
-fn labels_of_no_results(rt: HostRuntime) -> Result<(), Fail> {
-    let seen = outcome(rt.alloc(), &calling(&["label"], b"class,verdict,source\n"))?;
-    assert_eq!(rt; seen.status, 0);
-    assert_eq!(rt; seen.out.iter().filter(|b| **b == b'\n').count(), 6481);
-    assert!(rt;
-        seen.out.starts_with(
-            b"1||Cmax open\n1||Lmax open\n1||fmax open\n1||sumC open\n1||sumwC open\n1||sumU open\n1||sumwU open\n1||sumT open\n1||sumwT open\n1|p=1|Cmax open\n"
-        )
-    );
-    assert!(rt; seen.out.ends_with(b"\nJ|pmtn,prec,r,p=1|sumwT open\nend\n"));
-    assert!(rt;
-        gives(
-            rt.alloc(),
-            &calling(&["label", "1|p=1|Cmax"], b"class,verdict,source\n"),
-            0,
-            b"1|p=1|Cmax open\nend\n",
-            b""
-        )?
-    );
-    Ok(())
-}
-
-#[test]
-fn refuses_names_and_results(rt: HostRuntime) -> Result<(), Fail> {
-    let header = b"class,verdict,source\n".as_slice();
-    assert!(rt;
-        gives(
-            rt.alloc(),
-            &calling(&["label", "1|chains,prec|Cmax"], header),
-            2,
-            b"",
-            b"msp: usage: word 2: name: item does not fit at 9\n"
-        )?
-    );
-    assert!(rt;
-        gives(
-            rt.alloc(),
-            &calling(&["label"], b""),
-            3,
-            b"",
-            b"msp: header\n"
-        )?
-    );
-    for (entry, note) in [
-        (
-            b"P||Cmax,maybe,x\n".as_slice(),
-            b"msp: record 1: verdict\n".as_slice(),
-        ),
-        (
-            b"1||Emax,easy,x\n",
-            b"msp: record 1: name: criterion at 3\n",
-        ),
-        (b"1||Cmax,easy\n", b"msp: record 1: width\n"),
-    ] {
-        let mut text = header.to_vec(rt.alloc())?;
-        text.extend_from_slice(entry)?;
-        assert!(rt; gives(rt.alloc(), &calling(&["label"], &text), 3, b"", note)?);
-    }
-    let mut long = b"class,verdict,source\n1||Cmax,easy,".to_vec(rt.alloc())?;
-    let full = long.len() + 201;
-    long.resize(full, b'x')?;
-    long.push(b'\n')?;
-    assert!(rt;
-        gives(
-            rt.alloc(),
-            &calling(&["label"], &long),
-            4,
-            b"",
-            b"msp: record 1: limit of source\n"
-        )?
-    );
-    Ok(())
-}

@@ -1,60 +1,51 @@
 // The words of a command line.
-ghost use Rattle.std.specs.Prelude.{◌≡◌, ℕ, ◌+◌, ◌^◌, ◌<◌, ◌∷◌, List as Items, map, drop, length, string_bytes, MatchOption, IfOk, IsSome};
+ghost use Rattle.std.specs.Prelude.{◌≡◌, ◌↔◌, ℕ, ◌+◌, ◌∷◌, [], List as Items, map, string_bytes, IsTrue, IfOk, OnOk, IfErr};
 ghost use Rattle.std.specs.List.{AllZip};
 ghost use Rattle.msp_class.specs.declared.class.Class.{Class as ClassValue};
-ghost use Rattle.msp_top.specs.Run.{Command, Asks, Misfits, IsNameWord, names_text, usage_text};
-ghost use Rattle.msp_top.specs.Note.{note_text};
-ghost use Rattle.msp_top.specs.Answer.{command_of};
-ghost use Rattle.msp_top.specs.Words.{ReadsWords, ReadsNames, ReadsOption, ReadsAt};
+ghost use Rattle.msp_top.specs.Commands.{IsNameWord};
+ghost use Rattle.msp_top.specs.Usage.{names_text};
+ghost use Rattle.msp_top.specs.Note.{usage_note};
+ghost use Rattle.msp_top.specs.Words.{ReadsWords, ReadsName, ReadsNames, ReadsOneName, ReadsOption};
 
-use crate::notes::Note;
+use crate::command::{Command, Question, Request};
+use crate::refusal::Refusal;
 use msp_class::{Class, List, NoMemory};
-use msp_name::parse;
+use msp_name::{NameFault, parse};
 use std::alloc::Global;
 
-/// The command that the words ask for.
-#[derive(Drop)]
-pub enum Asked {
-    Solve { at: Option<Class> },
-    Label(List<Class>),
+/// Why words ask for no command. A place of a word counts from 1.
+#[derive(Clone, Copy, Debug, PartialEq, Eq)]
+pub enum Misfit {
+    /// They have not the form of a command.
+    Form,
+    /// A word that is to be a name is none.
+    Name { place: u64, fault: NameFault },
 }
 
-/// What the words of a command line are.
-#[derive(Drop)]
-pub enum Request {
-    Command(Asked),
-    Misfit(Note),
-    NoMemory,
-}
-
-/// The note for a word that is no name. None comes exactly where it is a name.
-fn fault_of(word: &str, place: u64) -> Option<Note>
-    ensures { (rest : Items (Items ℕ)) → MatchOption result
-        (((c : ClassValue) × IsNameWord word.now c) × (names_text place (word.now ∷ rest) ≡ names_text (place + 1) rest))
-        (λ note. (note_text note ≡ names_text place (word.now ∷ rest)) × ((c : ClassValue) → ¬ IsNameWord word.now c)) }
+/// The class of a name that stands at a place, counted from 1.
+fn read_name(word: &str, place: u64) -> Result<Class, Misfit>
+    ensures read { ReadsName word.now place result }
+    ensures later { IfOk result (λ _. (rest : Items (Items ℕ)) → names_text place (word.now ∷ rest) ≡ names_text (place + 1) rest) }
 {
     if word.len() as u64 >= 1 << 32 {
-        return Some(Note::Words);
+        return Err(Misfit::Form);
     }
     match parse(word.as_bytes()) {
-        Ok(_) => None,
-        Err(fault) => Some(Note::Word { place, fault }),
+        Ok(class) => Ok(class),
+        Err(fault) => Err(Misfit::Name { place, fault }),
     }
 }
 
-/// The note for the first word that is no name. None comes exactly where all words are names.
-fn first_fault(names: &[String]) -> Option<Note>
-    ensures { let words = map string_bytes names.now in MatchOption result
-        ((classes : Items ClassValue) × AllZip IsNameWord words classes)
-        (λ note. (note_text note ≡ names_text 2 words) × ((classes : Items ClassValue) → ¬ AllZip IsNameWord words classes)) }
+/// Finds the first word that is no name.
+fn check_names(names: &[String]) -> Result<(), Misfit>
+    ensures names { OnOk result ((classes : Items ClassValue) × AllZip IsNameWord (map string_bytes names.now) classes) }
+    ensures fault { let words = map string_bytes names.now in IfErr result (λ misfit.
+        (usage_note misfit ≡ names_text 2 words) × ((classes : Items ClassValue) → ¬ AllZip IsNameWord words classes)) }
 {
     for k in 0..names.len() {
-        match fault_of(names[k].as_str(), k as u64 + 2) {
-            Some(note) => return Some(note),
-            None => (),
-        }
+        read_name(names[k].as_str(), k as u64 + 2)?;
     }
-    None
+    Ok(())
 }
 
 /// The class of a name.
@@ -82,55 +73,82 @@ fn classes_of(alloc: Global, names: &[String]) -> Result<List<Class>, NoMemory>
     Ok(classes)
 }
 
-fn read_names(alloc: Global, names: &[String]) -> Request
+/// The classes of the words after `label`. No memory is taken for words that are no names.
+fn read_names(alloc: Global, names: &[String]) -> Result<List<Class>, Refusal>
     ensures { ReadsNames (map string_bytes names.now) result }
 {
-    if let Some(note) = first_fault(names) {
-        return Request::Misfit(note);
-    }
-    match classes_of(alloc, names) {
-        Ok(classes) => Request::Command(Asked::Label(classes)),
-        Err(NoMemory) => Request::NoMemory,
-    }
+    check_names(names)?;
+    Ok(classes_of(alloc, names)?)
 }
 
-/// What the word after `solve --at` asks for.
-fn read_at(name: &str) -> Request
-    ensures { ReadsAt name.now result }
+/// The class of the word after `why`.
+fn read_one_name(words: &[String]) -> Result<Class, Misfit>
+    ensures { ReadsOneName (map string_bytes words.now) result }
 {
-    match fault_of(name, 3) {
-        Some(note) => Request::Misfit(note),
-        None => Request::Command(Asked::Solve {
-            at: Some(class_of(name)),
-        }),
+    if words.len() == 1 {
+        read_name(words[0].as_str(), 2)
+    } else {
+        Err(Misfit::Form)
     }
 }
 
-/// What the words after `solve` ask for.
-fn read_option(words: &[String]) -> Request
+/// The class that the words after `solve` name, if there are any.
+fn read_option(words: &[String]) -> Result<Option<Class>, Misfit>
     ensures { ReadsOption (map string_bytes words.now) result }
 {
     if words.is_empty() {
-        return Request::Command(Asked::Solve { at: None });
+        return Ok(None);
     }
     if words.len() == 2 && words[0].as_str() == "--at" {
-        return read_at(words[1].as_str());
+        return Ok(Some(read_name(words[1].as_str(), 3)?));
     }
-    Request::Misfit(Note::Words)
+    Err(Misfit::Form)
+}
+
+/// Whether the first word is the name of a command and no word follows.
+fn is_alone(name: &str, word: &str, words: &[String]) -> bool
+    ensures { IsTrue result ↔ ((word.now ≡ name.now) × (words.now ≡ [])) }
+{
+    word == name && words.is_empty()
+}
+
+/// What a first word and the words after it ask for.
+fn read_after(alloc: Global, word: &str, words: &[String]) -> Result<Request, Refusal>
+    ensures { ReadsWords (word.now ∷ map string_bytes words.now) result }
+{
+    if word == "label" {
+        let classes = read_names(alloc, words)?;
+        return Ok(Request::Command(Command::Answer {
+            question: Question::Label { classes },
+        }));
+    }
+    if word == "why" {
+        let class = read_one_name(words)?;
+        return Ok(Request::Command(Command::Answer {
+            question: Question::Why { class },
+        }));
+    }
+    if word == "solve" {
+        let at = read_option(words)?;
+        return Ok(Request::Command(Command::Solve { at }));
+    }
+    if is_alone("frontier", word, words) {
+        return Ok(Request::Command(Command::Answer {
+            question: Question::Frontier,
+        }));
+    }
+    if is_alone("rows", word, words) {
+        return Ok(Request::Rows);
+    }
+    Err(Refusal::from(Misfit::Form))
 }
 
 /// What the words of a command line ask for.
-pub fn read_words(alloc: Global, words: &Vec<String>) -> Request
+pub fn read_words(alloc: Global, words: &Vec<String>) -> Result<Request, Refusal>
     ensures { ReadsWords (map string_bytes words.now.items) result }
 {
     if words.is_empty() {
-        return Request::Misfit(Note::Words);
+        return Err(Refusal::from(Misfit::Form));
     }
-    if words[0].as_str() == "label" {
-        return read_names(alloc, &words[1..]);
-    }
-    if words[0].as_str() == "solve" {
-        return read_option(&words[1..]);
-    }
-    Request::Misfit(Note::Words)
+    read_after(alloc, words[0].as_str(), &words[1..])
 }

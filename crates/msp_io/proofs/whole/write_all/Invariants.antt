@@ -1,3 +1,4 @@
+-- What the loop of `write_all` keeps.
 use Rattle.std.proofs.Common.{◌≤◌, ◌-◌, length, take}
 use Rattle.std.specs.Io.KnownBytes.{Appends}
 use Rattle.msp_io.proofs.whole.write_all.Given as goal
@@ -5,8 +6,8 @@ use Rattle.msp_io.proofs.whole.write_all.Given as goal
 abbrev pub invariant-pieces : goal.invariant-pieces
 invariant-pieces g l = record {
   within : l.done ≤ length l.bytes;
-  appended : Appends (g.K.Sink.held l.initial.sink) (g.K.Sink.held l.sink) (take l.done l.bytes);
-  counts : g.K.Sink.faults l.initial.sink ≤ g.K.Sink.faults l.sink;
+  appended : Appends (g.K.Sink.seen l.initial.sink).held (g.K.Sink.seen l.sink).held (take l.done l.bytes);
+  counts : (g.K.Sink.seen l.initial.sink).faults ≤ (g.K.Sink.seen l.sink).faults;
 }
 
 abbrev pub decreases-pieces : goal.decreases-pieces

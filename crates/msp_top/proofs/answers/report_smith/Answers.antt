@@ -1,8 +1,9 @@
-use Rattle.msp_top.specs.Run.{solved}
+-- The goals of `report_smith` that are proved by lemmas.
+use Rattle.msp_top.specs.Solves.{solved}
 use Rattle.msp_top.proofs.answers.report_smith.Goals as goal
 
 pub returns : goal.returns
-returns c = λ at named input short read. solved at c.in_ok-text.text.items short named (record {
+returns c = λ at named input read. solved at c.in_ok-text.text.items named (record {
   names = c.args.filed.now.names;
   instance = c.args.filed.now.instance;
   solution = c.in_ok-solution.solution;

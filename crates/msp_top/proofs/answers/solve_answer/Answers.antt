@@ -1,8 +1,13 @@
+-- The goals of `solve_answer` that are proved by lemmas.
+use Rattle.msp_top.specs.Solves.{SolveIsRight}
+use Rattle.msp_top.specs.Answers.{Answers}
+use Rattle.msp_top.proofs.Exits.{exits}
 use Rattle.msp_top.proofs.SolveAnswers.{filed_right, misread_right}
 use Rattle.msp_top.proofs.answers.solve_answer.Goals as goal
 
-pub returns-in-Ok : goal.returns-in-Ok
-returns-in-Ok c = filed_right _ c.args.at c.in-Ok.filed c.answer_filed.result c.requires c.in-Ok.ensures.text c.answer_filed.ensures
+pub returns-in_err-filed : goal.returns-in_err-filed
+returns-in_err-filed c = exits _ (Answers (SolveIsRight c.args.input.now c.args.at)) c.from_residual.result c.from_residual.ensures.1
+    (λ why e. misread_right c.args.input.now c.args.at c.in_err-filed.field-0.0 why c.in_err-filed.ensures.answer e)
 
-pub returns-in-Some : goal.returns-in-Some
-returns-in-Some c = misread_right _ c.args.at c.in-Err.fault c.file_status.result c.in-Some.status c.requires c.in-Err.ensures.answer c.file_status.ensures c.in-Some.is
+pub returns : goal.returns
+returns c = filed_right c.args.input.now c.args.at c.in_ok-filed.filed c.answer_filed.result c.in_ok-filed.ensures.text c.answer_filed.ensures

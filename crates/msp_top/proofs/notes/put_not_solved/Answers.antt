@@ -1,10 +1,11 @@
-use Rattle.std.proofs.Common.{codes}
+-- The goals of `put_not_solved` that are proved by lemmas.
+use Rattle.std.proofs.Common.{codes, ◌∙◌}
 use Rattle.msp_name.specs.Names.{name_of}
-use Rattle.msp_top.proofs.PutsLemmas.{puts-stop, puts-then}
+use Rattle.msp_top.proofs.PutsLemmas.{puts-along, puts-exit, puts-then}
 use Rattle.msp_top.proofs.notes.put_not_solved.Goals as goal
 
-pub returns-in-Ok : goal.returns-in-Ok
-returns-in-Ok g c = puts-then _ _ _ _ _ _ (name_of c.args.class) (codes " is not solved") _ _ c.in-Ok.field-0 c.in-Ok.is c.put_class.ensures c.put.ensures
+pub returns-in_err-write_all : goal.returns-in_err-write_all
+returns-in_err-write_all g c = puts-exit _ _ _ (name_of c.args.class) (codes " is not solved") c.from_residual.result _ c.from_residual.ensures.1 (puts-along _ _ _ _ _ (c.bytes.ensures ∙ c.print.ensures.text) c.in_err-write_all.ensures)
 
-pub returns-in-Err : goal.returns-in-Err
-returns-in-Err g c = puts-stop _ _ _ _ (name_of c.args.class) (codes " is not solved") _ _ c.in-Err.is c.put_class.ensures
+pub returns : goal.returns
+returns g c = puts-then _ _ _ (name_of c.args.class) (codes " is not solved") _ _ (puts-along _ _ _ _ _ (c.bytes.ensures ∙ c.print.ensures.text) c.in_ok-write_all.ensures) c.write_all-2.ensures

@@ -1,9 +1,10 @@
+-- The goals of `put_numbered` that are proved by lemmas.
 use Rattle.std.proofs.Common.{decimal}
-use Rattle.msp_top.proofs.PutsLemmas.{puts-stop, puts-then}
+use Rattle.msp_top.proofs.PutsLemmas.{puts-exit, puts-then}
 use Rattle.msp_top.proofs.notes.put_numbered.Goals as goal
 
-pub returns-in-Ok : goal.returns-in-Ok
-returns-in-Ok g c = puts-then _ _ _ _ _ _ (c.args.head.now) (decimal c.args.number) _ _ c.in-Ok.field-0 c.in-Ok.is c.put.ensures c.put_number.ensures
+pub returns-in_err-write_all : goal.returns-in_err-write_all
+returns-in_err-write_all g c = puts-exit _ _ _ c.args.head.now (decimal c.args.number) c.from_residual.result _ c.from_residual.ensures.1 c.in_err-write_all.ensures
 
-pub returns-in-Err : goal.returns-in-Err
-returns-in-Err g c = puts-stop _ _ _ _ (c.args.head.now) (decimal c.args.number) _ _ c.in-Err.is c.put.ensures
+pub returns : goal.returns
+returns g c = puts-then _ _ _ c.args.head.now (decimal c.args.number) _ _ c.in_ok-write_all.ensures c.put_number.ensures

@@ -1,3 +1,4 @@
+-- The goals of `in_a_row` that are proved by lemmas.
 use Rattle.std.proofs.Common.{◌∙◌, refl, rules}
 use Rattle.std.proofs.lemmas.Int.{to_z-of_z}
 use Rattle.std.specs.Int.{w128}

@@ -1,3 +1,4 @@
+-- What the loop of `in_a_row` keeps.
 use Rattle.std.proofs.Common.{◌≡◌, ◌*◌, ◌≤◌, take, sum_by}
 use Rattle.msp_schedule.proofs.Rows.{row}
 use Rattle.msp_schedule.proofs.OneRow.{piece, time_at}

@@ -1,3 +1,4 @@
+-- The goals of `loads_of` that are proved by lemmas.
 use Rattle.std.proofs.Common.{refl, sym, ap}
 use Rattle.msp_top.proofs.SmithSteps.{pushed, numbers-next, each-next}
 use Rattle.msp_top.proofs.smith.loads_of.Goals as goal

@@ -1,3 +1,4 @@
+-- What the loop of `loads_of` keeps.
 use Rattle.std.proofs.Common.{◌≡◌, map, All}
 use Rattle.std.specs.List.{range_with_len}
 use Rattle.msp_instance.specs.Instance.{job_at, need_at}

@@ -1,6 +1,7 @@
+-- The goals of `smith_order` that are proved by lemmas.
 use Rattle.std.proofs.Common.{◌≡◌, ◌∙◌, ap, map}
 use Rattle.std.proofs.lemmas.Result.{IfOk-weaker}
-use Rattle.msp_top.specs.Smith.{IsSmithOrder}
+use Rattle.msp_top.specs.SmithRule.{IsSmithOrder}
 use Rattle.msp_top.proofs.SmithSorted.{smith_order_is}
 use Rattle.msp_top.proofs.smith.smith_order.Goals as goal
 

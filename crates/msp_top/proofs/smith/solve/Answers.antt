@@ -1,7 +1,8 @@
+-- The goals of `solve` that are proved by lemmas.
 use Rattle.std.proofs.Common.{◌≡◌, List, ℕ, length, sym, subst, arith}
 use Rattle.msp_class.proofs.Sums.{OnceBelow, OnceBelow-from_permutation, length-OnceBelow}
 use Rattle.msp_instance.specs.declared.Instance.{Instance}
-use Rattle.msp_top.specs.Smith.{IsSmithOrder}
+use Rattle.msp_top.specs.SmithRule.{IsSmithOrder}
 use Rattle.msp_top.proofs.SmithBest.{IsSmithSchedule-made, IsWholeRow-made}
 use Rattle.msp_top.proofs.smith.solve.Goals as goal
 

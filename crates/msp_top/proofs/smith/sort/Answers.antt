@@ -1,3 +1,4 @@
+-- The goals of `sort` that are proved by lemmas.
 use Rattle.std.proofs.Common.{◌<◌, rules}
 use Rattle.std.proofs.lemmas.List.Sorted.{answers_always}
 use Rattle.msp_top.specs.declared.smith.Load.{Load}

@@ -1,3 +1,4 @@
+-- The goals of `class_of` that are proved by lemmas.
 use Rattle.msp_top.proofs.WordLemmas.{no_name_word}
 use Rattle.msp_top.proofs.words.class_of.Goals as goal
 

@@ -1,3 +1,4 @@
+-- The goals of `classes_of` that are proved by lemmas.
 use Rattle.std.proofs.Common.{string_bytes, rules}
 use Rattle.msp_top.proofs.WordLemmas.{name_at, classes_more}
 use Rattle.msp_top.proofs.words.classes_of.Goals as goal

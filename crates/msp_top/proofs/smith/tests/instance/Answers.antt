@@ -1,3 +1,4 @@
+-- The goals of `instance` that are proved by lemmas.
 use Rattle.std.proofs.Common.{refl, rules}
 use Rattle.msp_top.proofs.SmithInstances.{Inner-smith}
 use Rattle.msp_top.proofs.smith.tests.instance.Goals as goal

@@ -1,6 +1,0 @@
-use Rattle.std.proofs.Common.{◌≡◌, ◌++◌, drop}
-use Rattle.msp_top.specs.LabelsText.{label_lines}
-use Rattle.msp_top.proofs.labels_text.put_labels.Given as goal
-
-abbrev pub invariant-loop-c : goal.invariant-loop-c
-invariant-loop-c l = l.out.items ++ label_lines l.labels (drop l.c-index l.classes) ≡ l.initial.out.items ++ label_lines l.labels l.classes

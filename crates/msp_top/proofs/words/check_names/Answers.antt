@@ -1,0 +1,13 @@
+-- The goals of `check_names` that are proved by lemmas.
+use Rattle.std.proofs.Common.{string_bytes, map}
+use Rattle.msp_top.proofs.WordLemmas.{HasNames-next, HasNames-fault, not_all_names, first_misfit}
+use Rattle.msp_top.proofs.words.check_names.Goals as goal
+
+pub returns-in_err-read_name-clause-fault : goal.returns-in_err-read_name-clause-fault
+returns-in_err-read_name-clause-fault c = first_misfit (map string_bytes c.args.names.now) c.from_residual.result c.in_err-read_name.field-0.0 c.from_residual.ensures.1
+    (HasNames-fault string_bytes c.args.names.now c.loop-k.k c.index-names-k.result _ _ c.loop-k-test.true c.index-names-k.is c.as_str.ensures.value c.in_err-read_name.ensures.read.0 c.loop-k.invariant)
+    (not_all_names string_bytes c.args.names.now c.loop-k.k c.index-names-k.result _ c.loop-k-test.true c.index-names-k.is c.as_str.ensures.value c.in_err-read_name.ensures.read.1)
+
+pub loop-k-preserved : goal.loop-k-preserved
+loop-k-preserved c =
+    HasNames-next string_bytes c.args.names.now c.loop-k.k c.index-names-k.result _ c.in_ok-read_name.field-0 c.loop-k-test.true c.index-names-k.is c.as_str.ensures.value c.in_ok-read_name.ensures.read c.in_ok-read_name.ensures.later c.loop-k.invariant

@@ -1,0 +1,38 @@
+-- The goals of `read_after` that are proved by lemmas.
+use Rattle.std.proofs.Common.{◌∙◌, ◌∷◌, ◌≡◌, true, false, refl, sym, string_bytes, map}
+use Rattle.std.proofs.lemmas.Slice.Eq.{bytes_eq-Decides}
+use Rattle.msp_top.specs.Words.{ReadsWords}
+use Rattle.msp_top.proofs.Exits.{exits}
+use Rattle.msp_top.proofs.WordLemmas.{frontier_word, rows_word, alone, reads_label, refuses_label, reads_why, refuses_why, reads_solve, refuses_solve, refuses_all}
+use Rattle.msp_top.proofs.words.read_after.Goals as goal
+
+pub returns-then-eq : goal.returns-then-eq
+returns-then-eq c = reads_label c.args.word.now (map string_bytes c.args.words.now) c.in_ok-classes.classes ((bytes_eq-Decides _ _).0 (sym c.eq.ensures ∙ c.if-eq.true)) c.in_ok-classes.ensures
+
+pub returns-in_err-classes : goal.returns-in_err-classes
+returns-in_err-classes c = exits _ (ReadsWords (c.args.word.now ∷ map string_bytes c.args.words.now)) c.from_residual.result c.from_residual.ensures.1
+    (λ why e. refuses_label c.args.word.now (map string_bytes c.args.words.now) c.in_err-classes.field-0.0 why ((bytes_eq-Decides _ _).0 (sym c.eq.ensures ∙ c.if-eq.true)) c.in_err-classes.ensures e)
+
+pub returns-then-eq-2 : goal.returns-then-eq-2
+returns-then-eq-2 c = reads_why c.args.word.now (map string_bytes c.args.words.now) c.in_ok-class.class ((bytes_eq-Decides _ _).0 (sym c.eq-2.ensures ∙ c.if-eq-2.true)) c.in_ok-class.ensures
+
+pub returns-in_err-class : goal.returns-in_err-class
+returns-in_err-class c = exits _ (ReadsWords (c.args.word.now ∷ map string_bytes c.args.words.now)) c.from_residual-in_err-class.result c.from_residual-in_err-class.ensures.1
+    (λ why e. refuses_why c.args.word.now (map string_bytes c.args.words.now) c.in_err-class.field-0.0 why ((bytes_eq-Decides _ _).0 (sym c.eq-2.ensures ∙ c.if-eq-2.true)) c.in_err-class.ensures e)
+
+pub returns-then-eq-3 : goal.returns-then-eq-3
+returns-then-eq-3 c = reads_solve c.args.word.now (map string_bytes c.args.words.now) c.in_ok-at.at ((bytes_eq-Decides _ _).0 (sym c.eq-3.ensures ∙ c.if-eq-3.true)) c.in_ok-at.ensures
+
+pub returns-in_err-at : goal.returns-in_err-at
+returns-in_err-at c = exits _ (ReadsWords (c.args.word.now ∷ map string_bytes c.args.words.now)) c.from_residual-in_err-at.result c.from_residual-in_err-at.ensures.1
+    (λ why e. refuses_solve c.args.word.now (map string_bytes c.args.words.now) c.in_err-at.field-0.0 why ((bytes_eq-Decides _ _).0 (sym c.eq-3.ensures ∙ c.if-eq-3.true)) c.in_err-at.ensures e)
+
+pub returns-then-is_alone : goal.returns-then-is_alone
+returns-then-is_alone c = alone string_bytes c.args.words.now c.args.word.now frontier_word (c.if-is_alone.ensures.0 refl)
+
+pub returns-then-is_alone-2 : goal.returns-then-is_alone-2
+returns-then-is_alone-2 c = alone string_bytes c.args.words.now c.args.word.now rows_word (c.if-is_alone-2.ensures.0 refl)
+
+pub returns : goal.returns
+returns c = refuses_all string_bytes c.args.word.now c.args.words.now c.from.result (sym c.eq.ensures ∙ c.if-eq.false) (sym c.eq-2.ensures ∙ c.if-eq-2.false) (sym c.eq-3.ensures ∙ c.if-eq-3.false)
+    (λ h. let e : false ≡ true = c.if-is_alone.ensures.1 h in cc) (λ h. let e : false ≡ true = c.if-is_alone-2.ensures.1 h in cc) c.from.ensures

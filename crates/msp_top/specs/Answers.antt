@@ -1,0 +1,22 @@
+-- What the code's answers mean. No public contract cites this file.
+use Rattle.std.specs.Prelude.{◌≡◌, ◌⊎◌, ℕ, List, Option, Result, Ok, Err, codes}
+use Rattle.msp_top.specs.declared.answers.Report.{Report}
+use Rattle.msp_top.specs.declared.refusal.Refusal.{Refusal}
+use Rattle.msp_class.specs.declared.class.Class.{Class}
+use Rattle.msp_grammar.specs.declared.filed.Filed.{Filed}
+use Rattle.msp_grammar.specs.InstanceText.{IsInstanceText}
+use Rattle.msp_top.specs.Outcome.{Outcome, report, refusal}
+use Rattle.msp_top.specs.Solves.{SolveIsRight}
+use Rattle.msp_top.specs.Note.{note_text}
+
+abbrev pub IsNoMemory : Refusal → Type 0
+IsNoMemory why = (why.status ≡ 9) × (note_text why.note ≡ codes "out of memory")
+
+-- The answer is a right outcome, or memory was wanting.
+abbrev pub Answers : (Outcome → Type 0) → Result Report Refusal → Type 0
+Answers IsRight (Ok made) = IsRight (report made.status made.text.items)
+Answers IsRight (Err why) = IsNoMemory why ⊎ IsRight (refusal why.status (note_text why.note))
+
+-- The outcome is right, at the class that is named, for each input that is the text of the instance and of its names.
+abbrev pub SolvesFiled : Option Class → Filed → Outcome → Type 0
+SolvesFiled at filed outcome = (input : List ℕ) → IsInstanceText input filed.instance filed.names → SolveIsRight input at outcome

@@ -1,0 +1,43 @@
+-- The texts of the notes for words that ask for nothing: that they fit no command, or the place and the fault of a misspelled name.
+use Rattle.std.specs.Prelude.{ℕ, ◌+◌, ◌^◌, List, [], ◌∷◌, ◌++◌, Result, Ok, Err, length, codes, decimal, bytes_eq, nat_lt, if◌then◌else◌}
+use Rattle.msp_class.specs.declared.class.Class.{Class}
+use Rattle.msp_name.specs.declared.fault.NameFault.{NameFault}
+use Rattle.msp_name.specs.Reading.{reading_of}
+use Rattle.msp_name.specs.Faults.{fault_text}
+
+abbrev pub misfit_text : List ℕ
+misfit_text = codes "usage: words fit no command"
+
+abbrev pub misspelled_text : ℕ → NameFault → List ℕ
+misspelled_text place fault = codes "usage: word " ++ decimal place ++ codes ": name: " ++ fault_text fault
+
+-- The text of what reading a word at this place gave, where the later words have their own.
+abbrev pub text_of_reading : ℕ → Result Class NameFault → List ℕ → List ℕ
+text_of_reading place (Ok class) later = later
+text_of_reading place (Err fault) later = misspelled_text place fault
+
+-- The text for the first of these words that is no name. The first of them has this place, counted from 1.
+abbrev pub names_text : ℕ → List (List ℕ) → List ℕ
+names_text place [] = misfit_text
+names_text place (word ∷ words) = if nat_lt (length word) (2 ^ 32) then text_of_reading place (reading_of word) (names_text (place + 1) words) else misfit_text
+
+-- The text for the words after `why`.
+abbrev pub name_text : List (List ℕ) → List ℕ
+name_text (name ∷ []) = names_text 2 (name ∷ [])
+name_text _ = misfit_text
+
+-- The text for the words after `solve`.
+abbrev pub option_text : List (List ℕ) → List ℕ
+option_text (option ∷ name ∷ []) = if bytes_eq option (codes "--at") then names_text 3 (name ∷ []) else misfit_text
+option_text _ = misfit_text
+
+-- The text for the words after a first word.
+abbrev pub later_text : List ℕ → List (List ℕ) → List ℕ
+later_text word words =
+    if bytes_eq word (codes "label") then names_text 2 words
+    else (if bytes_eq word (codes "why") then name_text words
+    else (if bytes_eq word (codes "solve") then option_text words else misfit_text))
+
+abbrev pub usage_text : List (List ℕ) → List ℕ
+usage_text [] = misfit_text
+usage_text (word ∷ words) = later_text word words

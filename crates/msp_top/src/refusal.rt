@@ -1,0 +1,142 @@
+// Why a call gives no report.
+ghost use Rattle.std.specs.Prelude.{◌≡◌};
+ghost use Rattle.msp_top.specs.Files.{file_status};
+ghost use Rattle.msp_top.specs.Results.{results_status};
+
+use crate::notes::Note;
+use crate::words::Misfit;
+use msp_class::NoMemory;
+use msp_file::FileFault;
+use msp_io::{Taken, WriteFault};
+use msp_results::ResultFault;
+
+/// The status of a call that gives no report, and the note to be told.
+#[derive(Clone, Copy, Debug, PartialEq, Eq)]
+pub struct Refusal {
+    pub status: u8,
+    pub note: Note,
+}
+
+impl From<Misfit> for Refusal {
+    ghost use Rattle.msp_top.specs.Refusals.{of_misfit};
+
+    ghost from_gives = { λ misfit refusal. refusal ≡ of_misfit misfit };
+
+    fn from(misfit: Misfit) -> Refusal {
+        Refusal {
+            status: 2,
+            note: Note::Usage(misfit),
+        }
+    }
+}
+
+impl From<NoMemory> for Refusal {
+    ghost use Rattle.msp_top.specs.Refusals.{out_of_memory};
+
+    ghost from_gives = { λ _ refusal. refusal ≡ out_of_memory };
+
+    fn from(_: NoMemory) -> Refusal {
+        Refusal {
+            status: 9,
+            note: Note::OutOfMemory,
+        }
+    }
+}
+
+impl From<Taken> for Refusal {
+    ghost use Rattle.msp_top.specs.Refusals.{of_taken};
+
+    ghost from_gives = { λ why refusal. refusal ≡ of_taken why };
+
+    fn from(why: Taken) -> Refusal {
+        match why {
+            Taken::ReadFault => Refusal {
+                status: 7,
+                note: Note::CannotRead,
+            },
+            Taken::TooLong => Refusal {
+                status: 4,
+                note: Note::TooLong,
+            },
+            Taken::Memory => Refusal::from(NoMemory),
+        }
+    }
+}
+
+impl From<WriteFault> for Refusal {
+    ghost use Rattle.msp_top.specs.Refusals.{of_write_fault};
+
+    ghost from_gives = { λ _ refusal. refusal ≡ of_write_fault };
+
+    fn from(_: WriteFault) -> Refusal {
+        Refusal {
+            status: 8,
+            note: Note::CannotWrite,
+        }
+    }
+}
+
+impl From<FileFault> for Refusal {
+    ghost use Rattle.msp_top.specs.Refusals.{of_file_fault};
+
+    ghost from_gives = { λ fault refusal. refusal ≡ of_file_fault fault };
+
+    fn from(fault: FileFault) -> Refusal {
+        Refusal {
+            status: file_status(&fault),
+            note: Note::File(fault),
+        }
+    }
+}
+
+impl From<ResultFault> for Refusal {
+    ghost use Rattle.msp_top.specs.Refusals.{of_result_fault};
+
+    ghost from_gives = { λ fault refusal. refusal ≡ of_result_fault fault };
+
+    fn from(fault: ResultFault) -> Refusal {
+        Refusal {
+            status: results_status(fault),
+            note: Note::Results(fault),
+        }
+    }
+}
+
+/// The status for a fault of an instance text.
+fn file_status(fault: &FileFault) -> u8
+    ensures { result ≡ file_status fault.now }
+{
+    match fault {
+        FileFault::Limit { .. } => 4,
+        FileFault::Memory => 9,
+        FileFault::Head { .. }
+        | FileFault::Missing { .. }
+        | FileFault::Cut { .. }
+        | FileFault::Line { .. }
+        | FileFault::Count { .. }
+        | FileFault::Key { .. }
+        | FileFault::Name { .. }
+        | FileFault::Number { .. }
+        | FileFault::Again { .. }
+        | FileFault::ArcAgain { .. }
+        | FileFault::Unknown { .. }
+        | FileFault::After { .. }
+        | FileFault::Class { .. }
+        | FileFault::Cycle { .. } => 3,
+    }
+}
+
+/// The status for a fault of a file of results.
+fn results_status(fault: ResultFault) -> u8
+    ensures { result ≡ results_status fault }
+{
+    match fault {
+        ResultFault::Long { .. } | ResultFault::Many => 4,
+        ResultFault::Memory => 9,
+        ResultFault::Header
+        | ResultFault::Width { .. }
+        | ResultFault::Name { .. }
+        | ResultFault::Verdict { .. }
+        | ResultFault::Source { .. } => 3,
+    }
+}
