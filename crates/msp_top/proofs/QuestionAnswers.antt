@@ -12,6 +12,9 @@ use Rattle.msp_table.specs.Chains.{every_row}
 use Rattle.msp_closure.specs.declared.entry.Entry.{Entry}
 use Rattle.msp_closure.specs.Entries.{easy_listed, pseudo_listed, hard_listed, strong_listed, HasWay, IsWay}
 use Rattle.msp_closure.proofs.WayLemmas.{IsFirst-among, IsFirst-has}
+use Rattle.msp_closure.specs.declared.frontier_lists.FrontierLists.{FrontierLists}
+use Rattle.msp_closure.specs.Frontier.{IsFrontier}
+use Rattle.msp_report.specs.FrontierText.{frontier_report}
 use Rattle.msp_report.specs.WhyText.{IsWhyText}
 use Rattle.msp_results.specs.declared.fault.ResultFault.{ResultFault}
 use Rattle.msp_results.specs.declared.fault.ResultFault.TheVariants.{Memory}
@@ -19,7 +22,7 @@ use Rattle.msp_results.specs.Reading.{results_of}
 use Rattle.msp_top.specs.declared.command.Question.{Question}
 use Rattle.msp_top.specs.declared.refusal.Refusal.{Refusal}
 use Rattle.msp_top.specs.Results.{AreAllClasses}
-use Rattle.msp_top.specs.Reports.{AreClashes, HasClashStatus, contradicts, agrees, AreShown, IsLabelReport, IsWhyReport, ReadsResults, misread}
+use Rattle.msp_top.specs.Reports.{AreClashes, HasClashStatus, contradicts, agrees, AreShown, IsLabelReport, IsFrontierReport, IsWhyReport, ReadsResults, misread}
 use Rattle.msp_top.specs.Refusals.{of_result_fault}
 use Rattle.msp_top.specs.Answers.{Answers}
 
@@ -72,6 +75,20 @@ pub named_shown : {V E : Type 0} (items : V → List ℕ) (classes : List Class)
     ((shown : List Class) → AreShown shown classes → IfOk r (λ text. IsLabelReport shown entries (items text))) → IfOk r (λ text. IsLabelReport classes entries (items text))
 named_shown items [] entries r l report = absurd (l refl)
 named_shown items (c ∷ cs) entries r l report = report (c ∷ cs) refl
+
+-- ---- the frontier
+
+pub frontier_right : {V E : Type 0} (items : V → List ℕ) (entries : List Entry) (lists : FrontierLists) (clash strong_clash : Option Chain) (r : Result V E) → IsFrontier entries lists → AreClashes entries clash strong_clash →
+    IfOk r (λ text. items text ≡ frontier_report lists clash strong_clash) → IfOk r (λ text. IsFrontierReport entries (items text))
+frontier_right items entries lists clash strong_clash (Ok text) frontier clashes printed = record {
+  lists = lists;
+  clash = clash;
+  strong_clash = strong_clash;
+  frontier = frontier;
+  clashes = clashes;
+  printed = printed;
+}
+frontier_right items entries lists clash strong_clash (Err e) frontier clashes printed = tt
 
 -- ---- what shows the label of a class
 

@@ -250,10 +250,13 @@ refuses_all f word xs why label why_not solve frontier rows is =
     no_command (Answer (Label classes)) (names, h, zip) = not_word word label_word label (cons_heads h)
     no_command (Answer Frontier) h = frontier (cons_heads h, map_none f xs (cons_tails h))
     no_command (Answer (Why class)) (name, h, named) = not_word word why_word why_not (cons_heads h)
+
     after_why : List ℕ
     after_why = if bytes_eq word solve_word then option_text (map f xs) else misfit_text
+
     after_label : List ℕ
     after_label = if bytes_eq word why_word then name_text (map f xs) else after_why
+
     text : later_text word (map f xs) ≡ misfit_text
     text = ap (λ b. if b then names_text 2 (map f xs) else after_label) label ∙ ap (λ b. if b then name_text (map f xs) else after_why) why_not ∙ ap (λ b. if b then option_text (map f xs) else misfit_text) solve
 

@@ -19,11 +19,7 @@ use msp_table::Chain;
 use std::alloc::Global;
 
 /// The answer to a question and a whole input.
-pub fn answer_question(
-    alloc: Global,
-    question: &Question,
-    input: &[u8],
-) -> Result<Report, Refusal>
+pub fn answer_question(alloc: Global, question: &Question, input: &[u8]) -> Result<Report, Refusal>
     requires { length input.now ≤ INPUT_LIMIT }
     ensures { Answers (ReadsResults question.now input.now) result }
 {
@@ -31,11 +27,7 @@ pub fn answer_question(
     Ok(report_on(alloc, question, &entries)?)
 }
 
-fn report_on(
-    alloc: Global,
-    question: &Question,
-    entries: &List<Entry>,
-) -> Result<Report, NoMemory>
+fn report_on(alloc: Global, question: &Question, entries: &List<Entry>) -> Result<Report, NoMemory>
     ensures status { IfOk result (λ made. HasClashStatus entries.now made.status) }
     ensures text { IfOk result (λ made. IsReportOn question.now entries.now made.text.items) }
 {

@@ -437,7 +437,10 @@ fn draws_the_frontier(rt: HostRuntime) -> Result<(), Fail> {
     let results = b"class,verdict,source\n1||Cmax,easy,\n";
     let seen = outcome(rt.alloc(), &calling(&["frontier"], results))?;
     assert_eq!(rt; seen.status, 0);
-    assert!(rt; seen.out.starts_with(b"maximal easy 2\n1||Cmax\n1|pmtn|Cmax\nminimal hard 0\n"));
+    assert!(rt;
+        seen.out
+            .starts_with(b"maximal easy 2\n1||Cmax\n1|pmtn|Cmax\nminimal hard 0\n")
+    );
     Ok(())
 }
 
@@ -545,4 +548,3 @@ fn one_byte_too_many(rt: HostRuntime) -> Result<(), Fail> {
     assert_eq!(rt; notes.bytes(), b"msp: more than 4194304 bytes\n".as_slice());
     Ok(())
 }
-
