@@ -1,5 +1,5 @@
 -- The instance and the schedule of the tests. No public contract cites this file.
-use Rattle.std.proofs.Common.{◌≡◌, ◌≢◌, ℕ, zero, suc, ◌+◌, ◌*◌, ◌<◌, ◌≤◌, Bool, true, false, List, [], ◌∷◌, length, get_or, All, AllPairs, Any, ◌⊎◌, inl, inr, ℤ, pos, ◌-ℤ◌, ◌*ℤ◌, ◌≤ℤ◌, ◌<ℤ◌, refl, sym, ap, subst, ◌∙◌, arith}
+use Rattle.std.proofs.Common.{◌≡◌, ◌≢◌, ℕ, zero, suc, ◌+◌, ◌*◌, ◌<◌, ◌≤◌, Bool, true, false, List, [], ◌∷◌, length, get_or, All, AllPairs, Any, Contains, ◌⊎◌, inl, inr, ℤ, pos, negsuc, ◌+ℤ◌, ◌-ℤ◌, ◌*ℤ◌, ◌≤ℤ◌, ◌<ℤ◌, refl, sym, ap, subst, subst₂, ◌∙◌, arith}
 use Rattle.std.proofs.lemmas.Int.{ints}
 use Rattle.std.proofs.lemmas.List.Elements.{All-nil, All-cons}
 use Rattle.msp_class.specs.declared.class.Class.{Class}
@@ -9,6 +9,7 @@ use Rattle.msp_class.specs.declared.class.Order.TheVariants.{Free, Chains, Intre
 use Rattle.msp_class.specs.declared.class.Times.{Times}
 use Rattle.msp_class.specs.declared.class.Times.TheVariants.{General, Unit as UnitTimes, Equal}
 use Rattle.msp_class.specs.declared.class.Crit.{Crit}
+use Rattle.msp_class.specs.declared.class.Crit.TheVariants.{Lmax}
 use Rattle.msp_class.specs.declared.environments.EnvKind.{EnvKind}
 use Rattle.msp_class.specs.declared.environments.EnvKind.TheVariants.{Identical, Uniform, Unrelated, OpenShop, FlowShop, JobShop}
 use Rattle.msp_class.specs.Crit.{uses_due, uses_weight, uses_curve}
@@ -16,11 +17,12 @@ use Rattle.msp_instance.specs.declared.Need.{Need}
 use Rattle.msp_instance.specs.declared.Job.{Job}
 use Rattle.msp_instance.specs.declared.Instance.{Instance}
 use Rattle.msp_instance.specs.Instance.{no_curve, job_at}
-use Rattle.msp_instance.specs.Conditions.{Limits, inner_limits, HasArcs, HasDegree, HasTimes, HasSameTimes, HasRelease, HasDue, HasWeight, HasCurve, IsJobOf, Inner, HasNearDues, least_time, greatest_time}
+use Rattle.msp_instance.specs.Conditions.{Limits, inner_limits, HasArcs, HasDegree, HasTimes, HasSameTimes, HasRelease, HasDue, HasWeight, HasCurve, IsJobOf, Inner, HasNearDues, LiesWithin, least_time, greatest_time}
 use Rattle.msp_schedule.specs.declared.Piece.{Piece}
 use Rattle.msp_schedule.specs.declared.Schedule.{Schedule}
 use Rattle.msp_schedule.specs.Feasible.{Feasible, HasPlace, GetsWork}
 use Rattle.msp_schedule.specs.Within.{Within, IsMoment}
+use Rattle.msp_route.specs.Law.{Rate, IsForth}
 use Rattle.msp_route.specs.Bounds.{IsBounded, greatest_unit}
 use Rattle.msp_schedule.specs.Piece.{IsApart}
 use Rattle.msp_schedule.proofs.Frames.{Lasts}
@@ -175,3 +177,74 @@ IsBounded-one i = record { sized = record { few = omega arith; unit = by (kind_o
     by OpenShop = omega (arith, ints)
     by FlowShop = omega (arith, ints)
     by JobShop = omega (arith, ints)
+
+-- what a reduction makes of them, where it keeps the schedule
+pub Feasible-below : (lower : Instance → Instance) (forth : Instance → Schedule → Schedule) (rate : Rate) (c : Class) (i j : Instance) (s : Schedule) → i ≡ single c → j ≡ lower i → s ≡ from_zero → c.env ≡ One → c.cut ≡ false → forth (single c) from_zero ≡ from_zero
+    → IsForth rate (single c) (lower (single c)) from_zero (forth (single c) from_zero) → Feasible j s
+Feasible-below lower forth rate c i j s e f h one uncut same law = subst₂ Feasible (sym (f ∙ ap lower e)) (sym h) (subst (Feasible (lower (single c))) same (law (Feasible-one c one uncut)).0)
+
+-- ---- two jobs with due dates
+abbrev pub dated : ℕ → ℤ → Job
+dated time due = record { release = 0; due = due; weight = 1; needs = record { machine = 0; time = time } ∷ []; curve = no_curve }
+
+-- jobs of times 2 and 3 with due dates 4 and -2
+abbrev pub pair : Instance
+pair = record {
+  class = record { env = One; cut = false; order = Free; heads = false; times = General; crit = Lmax };
+  machines = 1;
+  speeds = [];
+  jobs = dated 2 (pos 4) ∷ dated 3 (negsuc 1) ∷ [];
+  arcs = [];
+}
+
+two_each : {X : Type 0} (P : X → Type 0) (x y : X) → P x → P y → All P (x ∷ y ∷ [])
+two_each P x y h k = All-cons P x (y ∷ []) h (one_each P y k)
+
+dated_job : (time : ℕ) (due : ℤ) → 1 ≤ time → time ≤ GREATEST * 1 → LiesWithin (2 * GREATEST * 1) due → IsJobOf (inner_limits Identical) pair (dated time due)
+dated_job time due some small d = record {
+  needs = record { shape = (refl, one_each (λ n. n.machine ≡ 0) need refl); times = one_each (λ n. (1 ≤ n.time) × (n.time ≤ GREATEST * 1)) need (some, small); some = (0, need, omega arith, refl, some) };
+  times = tt;
+  release = refl;
+  due = d;
+  weight = refl;
+  curve = refl;
+}
+  where
+    need : Need
+    need = record { machine = 0; time = time }
+
+pub Inner-pair : Inner pair
+Inner-pair = record {
+  conditions = record {
+    some = omega arith;
+    few = omega arith;
+    machines = (omega arith, omega arith, refl);
+    speeds = refl;
+    multiple = (1, omega arith, omega arith, All-nil _);
+    jobs = two_each (IsJobOf (inner_limits Identical) pair) (dated 2 (pos 4)) (dated 3 (negsuc 1)) (dated_job 2 (pos 4) (omega arith) (omega arith) (omega (arith, ints), omega (arith, ints))) (dated_job 3 (negsuc 1) (omega arith) (omega arith) (omega (arith, ints), omega (arith, ints)));
+    arcs = refl;
+    ends = All-nil _;
+    once = no_pairs (λ a b. a ≢ b) pair.arcs (omega arith);
+    degree = λ j l. tt;
+  };
+  dues = near;
+  acyclic = (0 ∷ 1 ∷ [], record { whole = refl; each = each }, All-nil _);
+}
+  where
+    near : HasNearDues (2 * GREATEST * 1) pair
+    near zero zero a b = omega (arith, ints)
+    near zero (suc zero) a b = omega (arith, ints)
+    near (suc zero) zero a b = omega (arith, ints)
+    near (suc zero) (suc zero) a b = omega (arith, ints)
+    near (suc (suc j)) k a b = absurd (omega arith)
+    near zero (suc (suc k)) a b = absurd (omega arith)
+    near (suc zero) (suc (suc k)) a b = absurd (omega arith)
+
+    each : (j : ℕ) → j < 2 → Contains (0 ∷ 1 ∷ []) j
+    each zero l = (0, omega arith, refl)
+    each (suc zero) l = (1, omega arith, refl)
+    each (suc (suc j)) l = absurd (omega arith)
+
+-- raised by 5
+pub pair-raised : All (λ j. LiesWithin (inner_limits Identical).greatest_date (j.due +ℤ pos 5)) pair.jobs
+pair-raised = two_each (λ j. LiesWithin (2 * GREATEST * 1) (j.due +ℤ pos 5)) (dated 2 (pos 4)) (dated 3 (negsuc 1)) (omega (arith, ints), omega (arith, ints)) (omega (arith, ints), omega (arith, ints))

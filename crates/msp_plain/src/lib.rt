@@ -5,6 +5,8 @@ mod copies;
 mod criteria;
 mod curves;
 mod names;
+#[cfg(test)]
+mod tests;
 mod threshold;
 
 pub use criteria::{Row8, Row10, Row11, Row12, Row13, Row14};

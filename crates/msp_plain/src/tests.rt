@@ -1,0 +1,204 @@
+// Each row carries an instance down and a schedule back, and the bound on the greatest lateness is tried from both sides.
+ghost use Rattle.std.specs.Prelude.{◌≡◌, true, false, [], ◌∷◌, IfOk};
+ghost use Rattle.msp_class.specs.declared.class.Env.TheVariants.{One};
+ghost use Rattle.msp_plain.specs.Examples.{single, from_zero, dated, pair};
+
+use crate::*;
+use msp_class::{Class, Crit, Env, List, NoMemory, Order, Times};
+use msp_instance::{Curve, Instance, Job, Need};
+use msp_route::Reduction;
+use msp_schedule::{Piece, Schedule, Solution, cost};
+use msp_table::goes;
+use std::alloc::Global;
+use std::test::Fail;
+
+fn list_of<T: Drop>(alloc: Global, item: T) -> Result<List<T>, NoMemory>
+    ensures { IfOk result (λ l. l ≡ item ∷ []) }
+{
+    let mut list = List::new(alloc);
+    match list.push(item) {
+        Ok(()) => Ok(list),
+        Err(_) => Err(NoMemory),
+    }
+}
+
+/// One job of time 1 on one machine.
+fn single(alloc: Global, class: Class) -> Result<Instance, NoMemory>
+    ensures { IfOk result (λ i. i ≡ single class) }
+{
+    let need = Need {
+        machine: 0,
+        time: 1,
+    };
+    let job = Job {
+        release: 0,
+        due: 0,
+        weight: 1,
+        needs: list_of(alloc, need)?,
+        curve: Curve {
+            slope: 0,
+            base: 0,
+            steps: List::new(alloc),
+        },
+    };
+    Ok(Instance {
+        class,
+        machines: 1,
+        speeds: List::new(alloc),
+        jobs: list_of(alloc, job)?,
+        arcs: List::new(alloc),
+    })
+}
+
+/// The job from moment 0 to 1.
+fn from_zero(alloc: Global) -> Result<Schedule, NoMemory>
+    ensures { IfOk result (λ s. s ≡ from_zero) }
+{
+    let piece = Piece {
+        job: 0,
+        op: 0,
+        machine: 0,
+        from: 0,
+        to: 1,
+    };
+    Ok(Schedule {
+        unit: 1,
+        pieces: list_of(alloc, piece)?,
+    })
+}
+
+/// Whether the job, which ends at 1, costs 1 below and above.
+fn costs_one<R: Reduction>(alloc: Global, row: &R, class: Class) -> Result<bool, NoMemory>
+    requires one { class.env ≡ One }
+    requires uncut { class.cut ≡ false }
+    requires same { R.forth row.now (single class) from_zero ≡ from_zero }
+{
+    if goes(row.row(), class).is_none() {
+        return Ok(false);
+    }
+    let inst = single(alloc, class)?;
+    let lower = row.down(alloc, &inst)?;
+    let schedule = from_zero(alloc)?;
+    let cost = cost(&lower, &schedule);
+    let upper = row.back(alloc, &inst, Solution { schedule, cost })?;
+    Ok(cost.num == 1 && cost.den == 1 && upper.cost.num == 1 && upper.cost.den == 1)
+}
+
+const LEAST: Class = Class {
+    env: Env::One,
+    cut: false,
+    order: Order::Free,
+    heads: false,
+    times: Times::Unit,
+    crit: Crit::Cmax,
+};
+
+fn of_order(order: Order) -> Class
+    ensures one { result.env ≡ One }
+    ensures uncut { result.cut ≡ false }
+{
+    Class { order, ..LEAST }
+}
+
+fn of_crit(crit: Crit) -> Class
+    ensures one { result.env ≡ One }
+    ensures uncut { result.cut ≡ false }
+    ensures crit { result.crit ≡ crit }
+{
+    Class { crit, ..LEAST }
+}
+
+fn of_times(times: Times) -> Class
+    ensures one { result.env ≡ One }
+    ensures uncut { result.cut ≡ false }
+{
+    Class { times, ..LEAST }
+}
+
+fn orders_and_times_cost_one(alloc: Global) -> Result<bool, NoMemory> {
+    Ok(costs_one(alloc, &Row1, LEAST)?
+        && costs_one(alloc, &Row2, of_order(Order::Chains))?
+        && costs_one(alloc, &Row3, of_order(Order::Chains))?
+        && costs_one(alloc, &Row4, of_order(Order::Intree))?
+        && costs_one(alloc, &Row5, of_order(Order::Outtree))?
+        && costs_one(alloc, &Row6, LEAST)?
+        && costs_one(alloc, &Row7, LEAST)?
+        && costs_one(alloc, &Row53, of_times(Times::Equal))?)
+}
+
+fn criteria_cost_one(alloc: Global) -> Result<bool, NoMemory> {
+    Ok(costs_one(alloc, &Row8, LEAST)?
+        && costs_one(alloc, &Row9, of_crit(Crit::Lmax))?
+        && costs_one(alloc, &Row10, of_crit(Crit::SumC))?
+        && costs_one(alloc, &Row11, of_crit(Crit::SumC))?
+        && costs_one(alloc, &Row12, of_crit(Crit::SumWC))?
+        && costs_one(alloc, &Row13, of_crit(Crit::SumT))?
+        && costs_one(alloc, &Row14, of_crit(Crit::SumU))?)
+}
+
+fn is_late_by_one(alloc: Global) -> Result<bool, NoMemory> {
+    let inst = single(alloc, of_crit(Crit::Lmax))?;
+    let s = from_zero(alloc)?;
+    Ok(meets(&inst, &s, 1) && !meets(&inst, &s, 0))
+}
+
+fn dated(alloc: Global, time: u64, due: i64) -> Result<Job, NoMemory>
+    ensures { IfOk result (λ j. j ≡ dated time due) }
+{
+    Ok(Job {
+        release: 0,
+        due,
+        weight: 1,
+        needs: list_of(alloc, Need { machine: 0, time })?,
+        curve: Curve {
+            slope: 0,
+            base: 0,
+            steps: List::new(alloc),
+        },
+    })
+}
+
+/// Jobs of times 2 and 3 with due dates 4 and -2.
+fn pair(alloc: Global) -> Result<Instance, NoMemory>
+    ensures { IfOk result (λ i. i ≡ pair) }
+{
+    let mut jobs = list_of(alloc, dated(alloc, 2, 4)?)?;
+    if jobs.push(dated(alloc, 3, -2)?).is_err() {
+        return Err(NoMemory);
+    }
+    Ok(Instance {
+        class: Class {
+            times: Times::General,
+            crit: Crit::Lmax,
+            ..LEAST
+        },
+        machines: 1,
+        speeds: List::new(alloc),
+        jobs,
+        arcs: List::new(alloc),
+    })
+}
+
+#[test]
+fn due_dates_are_raised(rt: HostRuntime) -> Result<(), Fail> {
+    let inst = pair(rt.alloc())?;
+    let raised = shifted(rt.alloc(), &inst, 5, Crit::SumU)?;
+    let [first, second] = raised.jobs.as_slice() else {
+        return Err("two jobs".into());
+    };
+    assert!(rt; first.due == 9 && second.due == 3 && raised.class.crit == Crit::SumU);
+    Ok(())
+}
+
+#[test]
+fn rows_carry_down_and_back(rt: HostRuntime) -> Result<(), Fail> {
+    assert!(rt; orders_and_times_cost_one(rt.alloc())?);
+    assert!(rt; criteria_cost_one(rt.alloc())?);
+    Ok(())
+}
+
+#[test]
+fn a_bound_is_met_at_its_end(rt: HostRuntime) -> Result<(), Fail> {
+    assert!(rt; is_late_by_one(rt.alloc())?);
+    Ok(())
+}
