@@ -1,12 +1,10 @@
 -- Instances whose feasible schedules are the same, at the same costs. No public contract cites this file.
-use Rattle.std.proofs.Common.{◌≡◌, ℕ, false, true, List, All, ℤ, pos, ◌+ℤ◌, ◌*ℤ◌, ◌≤ℤ◌, Some, unwrap_or, if◌then◌else◌, refl, sym, ap, subst, ◌∙◌, arith}
+use Rattle.std.proofs.Common.{◌≡◌, ℕ, false, List, pos, ◌+ℤ◌, ◌*ℤ◌, ◌≤ℤ◌, Some, unwrap_or, if◌then◌else◌, refl, sym, ap, subst, ◌∙◌, arith}
 use Rattle.std.specs.Int.{int_max}
 use Rattle.std.proofs.lemmas.List.Sorted.{IsPermutation-refl}
 use Rattle.msp_class.specs.declared.class.Class.{Class}
-use Rattle.msp_class.specs.declared.environments.EnvKind.{EnvKind}
-use Rattle.msp_class.specs.declared.environments.EnvKind.TheVariants.{Identical, Uniform, Unrelated, OpenShop, FlowShop, JobShop}
 use Rattle.msp_class.specs.Env.{kind_of}
-use Rattle.msp_class.proofs.IntegerRing.{≤ℤ_trans, ≤ℤ_of_same, ≤ℤ-int_max_left, zero-*ℤ, +ℤ_idr, pos-le}
+use Rattle.msp_class.proofs.IntegerRing.{≤ℤ_trans, ≤ℤ_of_same, ≤ℤ-int_max_left, zero-*ℤ, +ℤ_idr}
 use Rattle.msp_instance.specs.declared.Job.{Job}
 use Rattle.msp_instance.specs.declared.Instance.{Instance}
 use Rattle.msp_instance.specs.Conditions.{Inner, inner_limits}
@@ -14,12 +12,12 @@ use Rattle.msp_schedule.specs.declared.Schedule.{Schedule}
 use Rattle.msp_schedule.specs.declared.Solution.{Solution}
 use Rattle.msp_schedule.specs.Feasible.{Feasible}
 use Rattle.msp_schedule.specs.Cost.{cost_of, IsSolution}
-use Rattle.msp_schedule.proofs.Frames.{IsShaped, IsShaped-from_conditions}
+use Rattle.msp_schedule.proofs.Frames.{IsShaped-from_conditions}
 use Rattle.msp_schedule.proofs.Serves.{SameWork, SameWork-sym, Feasible-same}
 use Rattle.msp_schedule.proofs.Charges.{SameCharges, cost-same_charges}
 use Rattle.msp_table.specs.Rows.{goes_of, turns_dates}
 use Rattle.msp_route.specs.Law.{IsLower, IsPositive, IsForth, IsBack, IsReordered, cost_above, cost_below}
-use Rattle.msp_route.specs.Bounds.{IsSized, IsBounded, KeepsBounds, EndsBy, moment_after, greatest_unit}
+use Rattle.msp_route.specs.Bounds.{IsBounded, KeepsBounds, greatest_unit}
 use Rattle.msp_route.specs.declared.bounds.TheConstants.{GREATEST_LINED_UP, GREATEST_RAISE}
 use Rattle.msp_plain.specs.Changes.{led, same_costs}
 

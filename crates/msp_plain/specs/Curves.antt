@@ -1,12 +1,9 @@
 -- The row from the greatest lateness to the greatest cost by curves: charges are the same. No public contract cites this file.
-use Rattle.std.proofs.Common.{◌≡◌, ℕ, ◌+◌, ◌*◌, ◌^◌, ◌<◌, ◌≤◌, List, [], length, get_or, map, All, ℤ, pos, neg_ℤ, ◌+ℤ◌, ◌-ℤ◌, ◌*ℤ◌, ◌≤ℤ◌, Some, refl, sym, ap, subst, ◌∙◌, arith}
-use Rattle.std.specs.Prelude.{slice_index_or}
+use Rattle.std.proofs.Common.{◌≡◌, ℕ, ◌*◌, ◌^◌, ◌<◌, ◌≤◌, length, get_or, map, All, ℤ, pos, neg_ℤ, ◌+ℤ◌, ◌-ℤ◌, ◌*ℤ◌, ◌≤ℤ◌, Some, refl, sym, ap, subst, ◌∙◌, arith}
 use Rattle.std.proofs.lemmas.Bool.{eqb-true}
 use Rattle.std.proofs.lemmas.Int.{ints}
 use Rattle.std.proofs.lemmas.List.{length-map}
 use Rattle.std.proofs.lemmas.List.Elements.{All-map, All-nil}
-use Rattle.msp_class.specs.declared.class.Class.{Class}
-use Rattle.msp_class.specs.declared.class.Crit.{Crit}
 use Rattle.msp_class.specs.declared.class.Crit.TheVariants.{Lmax, Fmax}
 use Rattle.msp_class.specs.declared.environments.EnvKind.{EnvKind}
 use Rattle.msp_class.specs.declared.environments.EnvKind.TheVariants.{Identical, Uniform, Unrelated, OpenShop, FlowShop, JobShop}
@@ -17,15 +14,15 @@ use Rattle.msp_class.proofs.IntegerRing.{one-*ℤ, *ℤ-neg, +ℤ_idr}
 use Rattle.msp_instance.specs.declared.ranges.TheConstants.{GREATEST, GREATEST_MULTIPLE}
 use Rattle.msp_instance.specs.declared.Job.{Job}
 use Rattle.msp_instance.specs.declared.Instance.{Instance}
-use Rattle.msp_instance.specs.Instance.{no_need, no_job, job_at, common_time}
-use Rattle.msp_instance.specs.Conditions.{Limits, IsJobOf, HasSameTimes, HasDue, HasWeight, LiesWithin, Inner, inner_limits, inner_factor}
+use Rattle.msp_instance.specs.Instance.{job_at}
+use Rattle.msp_instance.specs.Conditions.{IsJobOf, HasSameTimes, HasDue, HasWeight, LiesWithin, Inner, inner_limits, inner_factor}
 use Rattle.msp_schedule.specs.Cost.{job_cost, lateness}
 use Rattle.msp_schedule.proofs.Frames.{job_at-map}
 use Rattle.msp_schedule.proofs.Charges.{SameCharges-from_map}
 use Rattle.msp_schedule.proofs.Serves.{SameNeeds-from_map, SameWork-from_map}
 use Rattle.msp_table.specs.Rows.{goes_of, table}
 use Rattle.msp_route.specs.Law.{Applies}
-use Rattle.msp_plain.specs.Changes.{led, by_curve, led_by_curves}
+use Rattle.msp_plain.specs.Changes.{by_curve, led_by_curves}
 use Rattle.msp_plain.specs.Inner.{changed, common_time-map, Inner-changed}
 use Rattle.msp_plain.specs.Alike.{Alike, Alike-led}
 use Rattle.msp_plain.specs.Names.{some_if}

@@ -1,5 +1,5 @@
 -- The instance and the schedule of the tests. No public contract cites this file.
-use Rattle.std.proofs.Common.{◌≡◌, ◌≢◌, ℕ, zero, suc, ◌+◌, ◌*◌, ◌<◌, ◌≤◌, Bool, true, false, List, [], ◌∷◌, length, get_or, All, AllPairs, Any, Contains, ◌⊎◌, inl, inr, ℤ, pos, negsuc, ◌+ℤ◌, ◌-ℤ◌, ◌*ℤ◌, ◌≤ℤ◌, ◌<ℤ◌, refl, sym, ap, subst, subst₂, ◌∙◌, arith}
+use Rattle.std.proofs.Common.{◌≡◌, ◌≢◌, ℕ, zero, suc, ◌*◌, ◌<◌, ◌≤◌, Bool, true, false, List, [], ◌∷◌, length, All, AllPairs, Contains, inr, ℤ, pos, negsuc, ◌+ℤ◌, ◌*ℤ◌, ◌≤ℤ◌, refl, sym, ap, subst, subst₂, ◌∙◌, arith}
 use Rattle.std.proofs.lemmas.Int.{ints}
 use Rattle.std.proofs.lemmas.List.Elements.{All-nil, All-cons}
 use Rattle.msp_class.specs.declared.class.Class.{Class}
@@ -17,7 +17,7 @@ use Rattle.msp_instance.specs.declared.Need.{Need}
 use Rattle.msp_instance.specs.declared.Job.{Job}
 use Rattle.msp_instance.specs.declared.Instance.{Instance}
 use Rattle.msp_instance.specs.Instance.{no_curve, job_at}
-use Rattle.msp_instance.specs.Conditions.{Limits, inner_limits, HasArcs, HasDegree, HasTimes, HasSameTimes, HasRelease, HasDue, HasWeight, HasCurve, IsJobOf, Inner, HasNearDues, LiesWithin, least_time, greatest_time}
+use Rattle.msp_instance.specs.Conditions.{inner_limits, HasArcs, HasDegree, HasTimes, HasSameTimes, HasRelease, HasDue, HasWeight, HasCurve, IsJobOf, Inner, HasNearDues, LiesWithin, least_time, greatest_time}
 use Rattle.msp_schedule.specs.declared.Piece.{Piece}
 use Rattle.msp_schedule.specs.declared.Schedule.{Schedule}
 use Rattle.msp_schedule.specs.Feasible.{Feasible, HasPlace, GetsWork}

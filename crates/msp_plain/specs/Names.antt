@@ -1,6 +1,6 @@
 -- The rows that change the class alone: the instances at both ends have the same schedules at the same costs. No public contract cites this file.
-use Rattle.std.proofs.Common.{◌≡◌, ℕ, zero, suc, ◌+◌, ◌*◌, ◌<◌, ◌≤◌, Bool, true, false, List, [], ◌∷◌, length, get_or, All, Any, ℤ, pos, ◌-ℤ◌, ◌*ℤ◌, ◌≤ℤ◌, Option, Some, None, IsSome, if◌then◌else◌, refl, sym, ap, subst, subst₂, ◌∙◌, arith}
-use Rattle.std.specs.Prelude.{◌==◌, ◌&&◌, slice_index_or}
+use Rattle.std.proofs.Common.{◌≡◌, ℕ, ◌<◌, ◌≤◌, Bool, true, false, List, length, All, Any, ℤ, pos, ◌-ℤ◌, ◌*ℤ◌, ◌≤ℤ◌, Some, None, IsSome, if◌then◌else◌, refl, sym, ap, subst, ◌∙◌, arith}
+use Rattle.std.specs.Prelude.{◌&&◌}
 use Rattle.std.specs.Int.{int_max}
 use Rattle.std.proofs.lemmas.Bool.{eqb-true}
 use Rattle.std.proofs.lemmas.Int.{ints}
@@ -10,32 +10,27 @@ use Rattle.msp_class.specs.declared.class.Order.TheVariants.{Free, Chains, Intre
 use Rattle.msp_class.specs.declared.class.Times.{Times}
 use Rattle.msp_class.specs.declared.class.Times.TheVariants.{General, Unit as UnitTimes, Equal}
 use Rattle.msp_class.specs.declared.class.Crit.{Crit}
-use Rattle.msp_class.specs.declared.class.Crit.TheVariants.{Cmax, Lmax, Fmax, SumC, SumWC, SumU, SumWU, SumT, SumWT}
+use Rattle.msp_class.specs.declared.class.Crit.TheVariants.{Cmax, Lmax, SumC, SumWC, SumU, SumWU, SumT, SumWT}
 use Rattle.msp_class.specs.declared.environments.EnvKind.{EnvKind}
 use Rattle.msp_class.specs.declared.environments.EnvKind.TheVariants.{Identical, Uniform, Unrelated, OpenShop, FlowShop, JobShop}
 use Rattle.msp_class.specs.Env.{kind_of}
 use Rattle.msp_class.specs.Crit.{is_greatest, uses_due, uses_weight, uses_curve}
 use Rattle.msp_class.proofs.RankLemmas.{flag_number-injective, order_number-injective, times_number-injective, crit_number-injective}
 use Rattle.msp_class.proofs.IntegerRing.{*ℤ-zero, one-*ℤ, int_max-right}
-use Rattle.msp_instance.specs.declared.ranges.TheConstants.{GREATEST, GREATEST_EQUAL_TIME}
 use Rattle.msp_instance.specs.declared.Need.{Need}
 use Rattle.msp_instance.specs.declared.Arc.{Arc}
 use Rattle.msp_instance.specs.declared.Job.{Job}
 use Rattle.msp_instance.specs.declared.Instance.{Instance}
 use Rattle.msp_instance.specs.Instance.{no_need, no_job, job_at, common_time}
-use Rattle.msp_instance.specs.Conditions.{Limits, IsJobOf, HasNeeds, HasTimes, HasSameTimes, HasRelease, HasDue, HasWeight, HasCurve, HasArcs, HasDegree, LiesWithin, Inner, inner_limits, inner_factor, least_time, greatest_time}
+use Rattle.msp_instance.specs.Conditions.{Limits, IsJobOf, HasTimes, HasSameTimes, HasRelease, HasDue, HasWeight, HasCurve, HasArcs, HasDegree, Inner, inner_limits, inner_factor, least_time, greatest_time}
 use Rattle.msp_schedule.specs.Cost.{job_cost, lateness, tardiness, late}
-use Rattle.msp_schedule.proofs.Charges.{SameCharges, SameCharges-from_class}
+use Rattle.msp_schedule.proofs.Charges.{SameCharges-from_class}
 use Rattle.msp_schedule.proofs.Serves.{SameWork-from_class}
 use Rattle.msp_table.specs.Rows.{goes_of, table}
-use Rattle.msp_schedule.specs.declared.Schedule.{Schedule}
-use Rattle.msp_schedule.specs.declared.Solution.{Solution}
-use Rattle.msp_schedule.specs.Cost.{IsSolution}
-use Rattle.msp_route.specs.Bounds.{IsBounded, KeepsBounds}
-use Rattle.msp_route.specs.Law.{Applies, IsBack}
-use Rattle.msp_plain.specs.Changes.{led, same_costs}
-use Rattle.msp_plain.specs.Inner.{changed, Inner-recast}
-use Rattle.msp_plain.specs.Alike.{Alike, Alike-led, IsSolution-alike, IsBack-alike, KeepsBounds-alike}
+use Rattle.msp_route.specs.Law.{Applies}
+use Rattle.msp_plain.specs.Changes.{led}
+use Rattle.msp_plain.specs.Inner.{Inner-recast}
+use Rattle.msp_plain.specs.Alike.{Alike, Alike-led}
 
 -- what it takes that a row applies
 pub some_if : (b : Bool) (c : Class) → IsSome (if b && true && true then Some c else None) → (b ≡ true) × ((if b && true && true then Some c else None) ≡ Some c)

@@ -1,12 +1,12 @@
 -- Raised due dates: the instance is an inner one, and the law of the threshold rows. No public contract cites this file.
-use Rattle.std.proofs.Common.{◌≡◌, ℕ, ◌+◌, ◌*◌, ◌^◌, ◌<◌, ◌≤◌, Bool, true, false, List, [], length, get_or, map, All, ◌⊎◌, inl, inr, ℤ, pos, ◌+ℤ◌, ◌-ℤ◌, ◌*ℤ◌, ◌≤ℤ◌, ◌<ℤ◌, if◌then◌else◌, refl, sym, ap, subst, subst₂, ◌∙◌, arith}
+use Rattle.std.proofs.Common.{◌≡◌, ℕ, ◌*◌, ◌<◌, ◌≤◌, Bool, true, false, List, length, get_or, map, All, inl, inr, ℤ, pos, ◌+ℤ◌, ◌-ℤ◌, ◌*ℤ◌, ◌≤ℤ◌, if◌then◌else◌, refl, sym, ap, subst, subst₂, ◌∙◌, arith}
 use Rattle.std.specs.Prelude.{int_lt, ◌↔◌, slice_index_or, nat_abs}
 use Rattle.std.specs.Int.{int_max}
 use Rattle.std.proofs.lemmas.Int.{ints}
 use Rattle.std.proofs.lemmas.List.{length-map}
 use Rattle.std.proofs.lemmas.List.Elements.{All-map, All-contains}
 use Rattle.msp_class.specs.declared.class.Crit.{Crit}
-use Rattle.msp_class.specs.declared.class.Crit.TheVariants.{Lmax, SumU, SumT}
+use Rattle.msp_class.specs.declared.class.Crit.TheVariants.{Lmax}
 use Rattle.msp_class.specs.Env.{kind_of}
 use Rattle.msp_class.specs.Crit.{is_greatest, uses_due, uses_weight, uses_curve}
 use Rattle.msp_class.proofs.IntegerRing.{*ℤ-add, *ℤ_comm, ≤ℤ_trans, natural, pos-same, int_max-left, ≤ℤ-int_max_left, ≤ℤ-int_max_right}
@@ -14,7 +14,7 @@ use Rattle.msp_class.proofs.Sums.{total_below, total_below-term, total_below-non
 use Rattle.msp_instance.specs.declared.ranges.TheConstants.{GREATEST}
 use Rattle.msp_instance.specs.declared.Job.{Job}
 use Rattle.msp_instance.specs.declared.Instance.{Instance}
-use Rattle.msp_instance.specs.Instance.{no_job, job_at, common_time}
+use Rattle.msp_instance.specs.Instance.{no_job, job_at}
 use Rattle.msp_instance.specs.Conditions.{IsJobOf, HasSameTimes, HasDue, HasWeight, HasCurve, LiesWithin, Inner, inner_limits, inner_factor}
 use Rattle.msp_schedule.specs.declared.Piece.{Piece}
 use Rattle.msp_schedule.specs.declared.Schedule.{Schedule}
@@ -26,7 +26,7 @@ use Rattle.msp_schedule.proofs.Charges.{charge_of, cost_of-sum, cost_of-bound, c
 use Rattle.msp_schedule.proofs.Serves.{SameWork, SameWork-sym, SameNeeds-from_map, SameWork-from_map, IsShaped-same, Feasible-same}
 use Rattle.msp_plain.specs.Changes.{raised, shift_of}
 use Rattle.msp_plain.specs.Threshold.{IsThresholdSum, IsThreshold, Meets}
-use Rattle.msp_plain.specs.Inner.{changed, common_time-map, Inner-changed}
+use Rattle.msp_plain.specs.Inner.{common_time-map, Inner-changed}
 
 -- what both sums have in common with the greatest lateness
 sum_uses : (crit : Crit) → IsThresholdSum crit → (uses_due crit ≡ true) × (uses_weight crit ≡ false) × (uses_curve crit ≡ false)

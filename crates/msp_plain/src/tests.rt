@@ -116,24 +116,28 @@ fn of_times(times: Times) -> Class
 }
 
 fn orders_and_times_cost_one(alloc: Global) -> Result<bool, NoMemory> {
-    Ok(costs_one(alloc, &Row1, LEAST)?
-        && costs_one(alloc, &Row2, of_order(Order::Chains))?
-        && costs_one(alloc, &Row3, of_order(Order::Chains))?
-        && costs_one(alloc, &Row4, of_order(Order::Intree))?
-        && costs_one(alloc, &Row5, of_order(Order::Outtree))?
-        && costs_one(alloc, &Row6, LEAST)?
-        && costs_one(alloc, &Row7, LEAST)?
-        && costs_one(alloc, &Row53, of_times(Times::Equal))?)
+    Ok(
+        costs_one(alloc, &Row1, LEAST)?
+            && costs_one(alloc, &Row2, of_order(Order::Chains))?
+            && costs_one(alloc, &Row3, of_order(Order::Chains))?
+            && costs_one(alloc, &Row4, of_order(Order::Intree))?
+            && costs_one(alloc, &Row5, of_order(Order::Outtree))?
+            && costs_one(alloc, &Row6, LEAST)?
+            && costs_one(alloc, &Row7, LEAST)?
+            && costs_one(alloc, &Row53, of_times(Times::Equal))?,
+    )
 }
 
 fn criteria_cost_one(alloc: Global) -> Result<bool, NoMemory> {
-    Ok(costs_one(alloc, &Row8, LEAST)?
-        && costs_one(alloc, &Row9, of_crit(Crit::Lmax))?
-        && costs_one(alloc, &Row10, of_crit(Crit::SumC))?
-        && costs_one(alloc, &Row11, of_crit(Crit::SumC))?
-        && costs_one(alloc, &Row12, of_crit(Crit::SumWC))?
-        && costs_one(alloc, &Row13, of_crit(Crit::SumT))?
-        && costs_one(alloc, &Row14, of_crit(Crit::SumU))?)
+    Ok(
+        costs_one(alloc, &Row8, LEAST)?
+            && costs_one(alloc, &Row9, of_crit(Crit::Lmax))?
+            && costs_one(alloc, &Row10, of_crit(Crit::SumC))?
+            && costs_one(alloc, &Row11, of_crit(Crit::SumC))?
+            && costs_one(alloc, &Row12, of_crit(Crit::SumWC))?
+            && costs_one(alloc, &Row13, of_crit(Crit::SumT))?
+            && costs_one(alloc, &Row14, of_crit(Crit::SumU))?,
+    )
 }
 
 fn is_late_by_one(alloc: Global) -> Result<bool, NoMemory> {

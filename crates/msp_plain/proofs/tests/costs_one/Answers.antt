@@ -1,5 +1,5 @@
 -- The job and its schedule are those of the examples, which the row keeps.
-use Rattle.std.proofs.Common.{rules, ◌≡◌, sym, ap, subst}
+use Rattle.std.proofs.Common.{rules, sym, subst}
 use Rattle.msp_instance.specs.Conditions.{Inner}
 use Rattle.msp_schedule.specs.Cost.{IsSolution}
 use Rattle.msp_route.specs.Law.{Applies}

@@ -1,8 +1,8 @@
 -- Every piece is in time exactly where the bound is met.
-use Rattle.std.proofs.Common.{◌≡◌, ◌<◌, ◌^◌, length, get_or, All, sym, subst, subst₂}
+use Rattle.std.proofs.Common.{◌<◌, ◌^◌, length, get_or, All, sym, subst, subst₂}
 use Rattle.std.specs.Int.{w64}
 use Rattle.std.proofs.lemmas.Int.{to_z-of_z}
-use Rattle.std.specs.Prelude.{◌↔◌, IsTrue}
+use Rattle.std.specs.Prelude.{◌↔◌}
 use Rattle.msp_instance.specs.Conditions.{LiesWithin}
 use Rattle.msp_plain.specs.Curves.{dates_within}
 use Rattle.msp_plain.specs.Raised.{IsInTime, meets_pieces}

@@ -1,5 +1,5 @@
 -- One more job is raised.
-use Rattle.std.proofs.Common.{rules, ◌<◌, length, arith}
+use Rattle.std.proofs.Common.{rules}
 use Rattle.msp_plain.specs.Changes.{raised}
 use Rattle.msp_plain.proofs.InPlace.{changed_next}
 use Rattle.msp_plain.proofs.threshold.raise_all.Goals as goal

@@ -1,11 +1,10 @@
 -- The raised due dates fit their type, and the instance is an inner one.
-use Rattle.std.proofs.Common.{rules, arith, ◌≡◌, ◌^◌, All, ◌+ℤ◌, get_or, sym, ap, subst, ◌∙◌}
+use Rattle.std.proofs.Common.{arith, ◌^◌, All, ◌+ℤ◌, get_or, sym, ap, subst, ◌∙◌}
 use Rattle.std.proofs.lemmas.Grind.{common_steps}
 use Rattle.std.specs.Int.{w64}
 use Rattle.std.proofs.lemmas.Int.{to_z-of_z}
 use Rattle.msp_class.specs.Env.{kind_of}
 use Rattle.msp_instance.specs.Conditions.{LiesWithin, Inner}
-use Rattle.msp_plain.specs.Changes.{shift_of}
 use Rattle.msp_plain.specs.Curves.{date_fits}
 use Rattle.msp_plain.specs.Raised.{Inner-shifted}
 use Rattle.msp_plain.proofs.threshold.shifted.Goals as goal
