@@ -1,0 +1,1 @@
+// Chains of rows on small instances.
