@@ -13,7 +13,6 @@ use Rattle.msp_class.proofs.IntegerRing.{≤ℤ_trans, int_max-least}
 use Rattle.msp_table.specs.Rows.{table, goes_of, turns_dates}
 use Rattle.msp_table.specs.Chains.{Leads}
 use Rattle.msp_table.proofs.ChainLemmas.{Leads-first}
-use Rattle.msp_route.specs.Bounds.{moment_after}
 use Rattle.msp_route.specs.declared.bounds.TheConstants.{GREATEST_ANSWER_MOMENT, GREATEST_BACK_MOMENT, GREATEST_RAISE, GREATEST_LINED_UP}
 use Rattle.msp_carry.specs.Moments.{moment_over}
 

@@ -7,7 +7,5 @@
 mod along;
 mod rows;
 mod step;
-#[cfg(test)]
-mod tests;
 
 pub use along::{bring, carry, solve_along};

@@ -1,0 +1,37 @@
+-- The chain that is left, and what comes back over its first row.
+use Rattle.std.proofs.Common.{◌<◌, length, subst}
+use Rattle.msp_route.specs.Bounds.{IsBounded}
+use Rattle.msp_carry.proofs.ChainSteps.{behind, first_step, stays_at, carried_on, IsBounded-chain, IfOk-ends}
+use Rattle.msp_carry.proofs.along.+solve_over.Goals as goal
+
+pub solve-requires-clause-class : goal.solve-requires-clause-class
+solve-requires-clause-class g t c = stays_at c.args.inst.now.class _ c.args.rows.now c.in-empty.len_below c.requires.chain.leads
+
+pub down-requires-clause-built : goal.down-requires-clause-built
+down-requires-clause-built g t c = (first_step c.args.inst.now c.row-item.result c.args.rows.now _ c.in-len1-up.len_at_least c.row-item.is c.requires.chain).built
+
+pub down-requires-clause-applies : goal.down-requires-clause-applies
+down-requires-clause-applies g t c = (first_step c.args.inst.now c.row-item.result c.args.rows.now _ c.in-len1-up.len_at_least c.row-item.is c.requires.chain).applies
+
+pub solve_over-requires : goal.solve_over-requires
+solve_over-requires g t c κs within =
+    let first = first_step c.args.inst.now c.row-item.result c.args.rows.now _ c.in-len1-up.len_at_least c.row-item.is c.requires.chain in
+    let lower = c.in_ok-lower-in-len1-up.lower in
+    let led = c.in_ok-lower-in-len1-up.ensures.led in
+    (subst (λ n. length (behind c.args.rows.now) < n) c.decreases first.shorter, (within, (led.inner, (first.rest lower led, subst (λ x. g.S.Solver.can_solve c.args.solver.now x) (carried_on first c.in_ok-lower-in-len1-up.ensures.same) c.requires.fits))))
+
+pub back-requires-clause-built : goal.back-requires-clause-built
+back-requires-clause-built g t c = (first_step c.args.inst.now c.row-item.result c.args.rows.now _ c.in-len1-up.len_at_least c.row-item.is c.requires.chain).built
+
+pub back-requires-clause-bounded : goal.back-requires-clause-bounded
+back-requires-clause-bounded g t c =
+    let first = first_step c.args.inst.now c.row-item.result c.args.rows.now _ c.in-len1-up.len_at_least c.row-item.is c.requires.chain in
+    let lower = c.in_ok-lower-in-len1-up.lower in
+    let s = c.in_ok-solution-in-len1-up.solution.schedule in
+    subst (λ x. IsBounded x s) c.in_ok-lower-in-len1-up.ensures.same
+    (IsBounded-chain lower _ _ s (first.rest lower c.in_ok-lower-in-len1-up.ensures.led) c.in_ok-solution-in-len1-up.ensures.sized c.in_ok-solution-in-len1-up.ensures.ends)
+
+pub returns-in_ok-solution-in-len1-up-clause-ends : goal.returns-in_ok-solution-in-len1-up-clause-ends
+returns-in_ok-solution-in-len1-up-clause-ends g t c =
+    IfOk-ends _ c.in_ok-solution-in-len1-up.solution.schedule c.back.result (first_step c.args.inst.now c.row-item.result c.args.rows.now _ c.in-len1-up.len_at_least c.row-item.is c.requires.chain)
+    c.in_ok-solution-in-len1-up.ensures.ends c.back.ensures.bounds

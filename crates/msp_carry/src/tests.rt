@@ -1,1 +1,0 @@
-// Chains of rows on small instances.
