@@ -13,6 +13,7 @@ ghost use Rattle.msp_carry.specs.Moments.{moment_over};
 use crate::rows::{back, down};
 use msp_class::{List, NoMemory};
 use msp_instance::Instance;
+use msp_plain::recast;
 use msp_route::Solver;
 use msp_schedule::Solution;
 use msp_table::Row;
@@ -43,7 +44,7 @@ pub fn carry(alloc: Global, inst: &Instance, rows: &List<Row>) -> Result<Instanc
     ensures class { IfOk result (λ j. Leads is_built inst.now.class rows.now j.class) }
 {
     match rows.as_slice() {
-        [] => inst.copy(alloc),
+        [] => recast(alloc, inst, inst.class),
         [row, rest @ ..] => {
             let lower = down(alloc, inst, *row)?;
             carry_on(alloc, lower, rest)

@@ -5,7 +5,6 @@
 //! cycles, and `forward` is the rest: it puts the jobs into an order in which every arc goes forward.
 #![tactic(auto)]
 
-mod copies;
 mod jobs;
 mod membership;
 mod ranges;

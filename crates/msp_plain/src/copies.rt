@@ -47,7 +47,7 @@ fn copied_jobs(alloc: Global, jobs: &[Job]) -> Result<List<Job>, NoMemory>
 }
 
 /// The same instance in another class.
-pub(crate) fn recast(alloc: Global, inst: &Instance, class: Class) -> Result<Instance, NoMemory>
+pub fn recast(alloc: Global, inst: &Instance, class: Class) -> Result<Instance, NoMemory>
     ensures { IfOk result (λ copy. copy ≡ record inst.now { class = class }) }
 {
     Ok(Instance {

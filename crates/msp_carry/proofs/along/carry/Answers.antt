@@ -14,8 +14,8 @@ carry_on-requires-clause-chain c =
 
 pub returns-in-empty-clause-class : goal.returns-in-empty-clause-class
 returns-in-empty-clause-class c =
-    subst (λ rows. IfOk c.copy.result (λ j. Leads is_built c.args.inst.now.class rows j.class)) c.as_slice.ensures
-    (IfOk-stay c.args.inst.now c.as_slice.result.now c.copy.result c.in-empty.len_below c.copy.ensures)
+    subst (λ rows. IfOk c.recast.result (λ j. Leads is_built c.args.inst.now.class rows j.class)) c.as_slice.ensures
+    (IfOk-stay c.args.inst.now c.as_slice.result.now c.recast.result c.in-empty.len_below c.recast.ensures)
 
 pub returns-in_ok-lower-in-len1-up-clause-class : goal.returns-in_ok-lower-in-len1-up-clause-class
 returns-in_ok-lower-in-len1-up-clause-class c =

@@ -1,0 +1,86 @@
+-- What is picked from the list, and a best schedule that is settled.
+use Rattle.std.proofs.Common.{◌≡◌, ℕ, zero, suc, ◌<◌, ◌≤◌, List, [], ◌∷◌, length, map, ℤ, pos, ◌*ℤ◌, ◌≤ℤ◌, ◌<ℤ◌, sym, ap, ap₂, subst, subst₂, ◌∙◌, arith}
+use Rattle.std.specs.Prelude.{slice_get, Contains, IfSome, IfOk, Option, Some, None, Result, Ok, Err}
+use Rattle.std.proofs.lemmas.Int.{ints}
+use Rattle.std.proofs.lemmas.Option.{slice_get_within, get_or_from_slice_get}
+use Rattle.msp_class.specs.declared.class.Class.{Class}
+use Rattle.msp_class.specs.declared.ranks.TheConstants.{CLASSES}
+use Rattle.msp_class.proofs.IntegerRing.{*ℤ_assoc, *ℤ_comm, *ℤ_exchange, *ℤ-mono_nonneg, *ℤ-cancel_pos}
+use Rattle.msp_instance.specs.declared.Instance.{Instance}
+use Rattle.msp_schedule.specs.declared.Schedule.{Schedule}
+use Rattle.msp_schedule.specs.Feasible.{Feasible}
+use Rattle.msp_schedule.specs.Cost.{cost_of, Best}
+use Rattle.msp_table.specs.Rows.{is_built}
+use Rattle.msp_table.specs.declared.row.Chain.{Chain}
+use Rattle.msp_table.specs.Chains.{Reaches, IsNearest}
+use Rattle.msp_closure.specs.Entries.{IsFirst, here, later, IsWay}
+use Rattle.msp_closure.proofs.WayLemmas.{IsFirst-among, one_is}
+use Rattle.msp_dispatch.specs.declared.solved_list.SolvedClass.{SolvedClass}
+use Rattle.msp_dispatch.specs.declared.pick.Pick.{Pick}
+use Rattle.msp_dispatch.specs.Solved.{solves, solved_list, solved_classes}
+use Rattle.msp_dispatch.specs.Dispatch.{IsTarget, IsReported, IsAnswered}
+use Rattle.msp_dispatch.specs.declared.Cannot.{Cannot}
+use Rattle.msp_route.specs.declared.answer.Answer.{Answer}
+use Rattle.msp_dispatch.specs.Pick.{IsRoute, IsPick}
+
+-- ---- a schedule that is feasible and costs as much as a best one is best
+module _ (i : Instance) (s t : Schedule) (best : Best i s) (same : cost_of i t *ℤ s.unit ≡ cost_of i s *ℤ t.unit) where
+  positive : (u : ℤ) → pos 1 ≤ℤ u → (pos 0 <ℤ u) × (pos 0 ≤ℤ u)
+  positive u h = (omega (arith, ints), omega (arith, ints))
+
+  settled_least : pos 1 ≤ℤ t.unit → (r : Schedule) → Feasible i r → (cost_of i t *ℤ r.unit) ≤ℤ (cost_of i r *ℤ t.unit)
+  settled_least u r f =
+      *ℤ-cancel_pos s.unit (positive s.unit best.feasible.unit).0
+      (subst₂ (λ x y. x ≤ℤ y) (sym (left (cost_of i s) (cost_of i t) s.unit t.unit r.unit same)) (right (cost_of i r) s.unit t.unit)
+      (*ℤ-mono_nonneg t.unit (positive t.unit u).1 (best.least r f)))
+    where
+      left : (c d u v w : ℤ) → d *ℤ u ≡ c *ℤ v → u *ℤ (d *ℤ w) ≡ v *ℤ (c *ℤ w)
+      left c d u v w e = sym (*ℤ_assoc u d w) ∙ ap (λ x. x *ℤ w) (*ℤ_comm u d ∙ e ∙ *ℤ_comm c v) ∙ *ℤ_assoc v c w
+
+      right : (c u v : ℤ) → v *ℤ (c *ℤ u) ≡ u *ℤ (c *ℤ v)
+      right c u v = ap (λ x. v *ℤ x) (*ℤ_comm c u) ∙ *ℤ_exchange v u c ∙ ap (λ x. u *ℤ x) (*ℤ_comm v c)
+
+  pub Best-settled : Feasible i t → Best i t
+  Best-settled f = record { feasible = f; least = settled_least f.unit }
+
+-- ---- routes
+pub IsRoute-from_way : (from : Class) (n : ℕ) (e : SolvedClass) (found : Option Chain) (c : Chain) → found ≡ Some c → slice_get solved_list n ≡ Some e → IsWay is_built (e.class ∷ []) (from ∷ []) found
+    → IfSome found (λ x. length x.rows ≤ CLASSES) → IsRoute from (record { place = n; entry = e; chain = c })
+IsRoute-from_way from n e found c is at led short =
+    let way : IsWay is_built (e.class ∷ []) (from ∷ []) (Some c) = subst (IsWay is_built (e.class ∷ []) (from ∷ [])) is led in
+    let few : length c.rows ≤ CLASSES = subst (λ o. IfSome o (λ x. length x.rows ≤ CLASSES)) is short in
+    let start : from ≡ c.from = one_is (IsFirst-among way.0) in
+    record { listed = at; start = sym start; nearest = subst (λ x. IsNearest is_built (e.class ∷ []) x c.rows) (sym start) way.1; few = few }
+
+pub IsRoute-reaches : (from : Class) (p : Pick) → IsRoute from p → Reaches is_built from p.entry.class
+IsRoute-reaches from p h =
+    let into = h.nearest.leads in
+    subst (Reaches is_built from) (sym (one_is into.is_wanted)) (p.chain.rows, into.leads)
+
+first_in : (P : Class → Type 0) (xs : List SolvedClass) (n : ℕ) (e : SolvedClass) → slice_get xs n ≡ Some e → P e.class → ((k : ℕ) → k < n → IfSome (slice_get xs k) (λ x. ¬ P x.class)) → IsFirst P (map (λ x. x.class) xs) e.class
+first_in P [] n e g p h = absurd (cc)
+first_in P (x ∷ xs) zero e g p h = let same : x ≡ e = cc in subst (λ y. IsFirst P (y.class ∷ map (λ z. z.class) xs) e.class) (sym same) (here p)
+first_in P (x ∷ xs) (suc n) e g p h = later (h 0 (omega arith)) (first_in P xs n e g p (λ k l. h (suc k) (omega arith)))
+
+-- the first of the list to which a chain leads
+pub first_led : (from : Class) (p : Pick) → IsRoute from p → ((k : ℕ) → k < p.place → IfSome (slice_get solved_list k) (λ e. ¬ Reaches is_built from e.class)) → IsFirst (Reaches is_built from) solved_classes p.entry.class
+first_led from p h none = first_in (Reaches is_built from) solved_list p.place p.entry h.listed (IsRoute-reaches from p h) none
+
+-- what a pick says of the answer that is made from it
+pub answered : (i : Instance) (at : Option Class) (p : Pick) (r : Result Answer Cannot) → IsPick i.class at p → IfOk r (λ a. a.chain ≡ p.chain) → IfOk r (λ a. a.target ≡ p.entry.class)
+    → IfOk r (λ a. a.solver ≡ p.entry.solver) → IfOk r (λ a. IsReported i a.solution) → IfOk r (IsAnswered i at)
+answered i at p (Err e) h chain target solver solution = tt
+answered i at p (Ok a) h chain target solver solution = record {
+  target = subst (IsTarget i.class at) (sym target) h.target;
+  solver = subst (Contains solved_list) (sym (ap₂ solves target solver)) (p.place, slice_get_within solved_list p.place p.entry h.route.listed, get_or_from_slice_get solved_list p.place p.entry p.entry h.route.listed);
+  from = ap (λ c. c.from) chain ∙ h.route.start;
+  nearest = subst₂ (λ t c. IsNearest is_built (t ∷ []) i.class c.rows) (sym target) (sym chain) h.route.nearest;
+  solution = solution;
+}
+
+-- the pick that is found first
+pub IsPick-first : (from : Class) (n : ℕ) (found : Option Pick) (p : Pick) → found ≡ Some p → IfSome found (λ q. (q.place ≡ n) × IsRoute from q)
+    → ((k : ℕ) → k < n → IfSome (slice_get solved_list k) (λ e. ¬ Reaches is_built from e.class)) → IsPick from None p
+IsPick-first from n found p is picked none =
+    let h : (p.place ≡ n) × IsRoute from p = subst (λ o. IfSome o (λ q. (q.place ≡ n) × IsRoute from q)) is picked in
+    record { target = first_led from p h.1 (λ k l. none k (omega (arith, l, h.0))); route = h.1 }

@@ -1,0 +1,3 @@
+pub mod Solved
+pub mod Dispatch
+pub mod Pick

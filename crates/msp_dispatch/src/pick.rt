@@ -1,0 +1,102 @@
+// Which class of the list an instance is led to, and by which rows.
+ghost use Rattle.std.specs.Prelude.{◌≡◌, ◌↔◌, slice_get, Some, IfOk, IfErr, IfSome, IfNone, IsTrue, Contains};
+ghost use Rattle.msp_table.specs.Rows.{is_built};
+ghost use Rattle.msp_table.specs.Chains.{Reaches};
+ghost use Rattle.msp_dispatch.specs.Solved.{solved_list, solved_classes};
+ghost use Rattle.msp_dispatch.specs.Dispatch.{IsFault};
+ghost use Rattle.msp_dispatch.specs.Pick.{IsRoute, IsPick};
+
+use crate::Cannot;
+use crate::solved_list::{SOLVED, SolvedClass, entry_at, solved};
+use msp_class::{Class, NoMemory, rank};
+use msp_closure::route_to;
+use msp_table::Chain;
+use std::alloc::Global;
+
+/// An entry of the list, its place, and the nearest chain to its class.
+#[derive(Drop)]
+pub(crate) struct Pick {
+    pub place: u32,
+    pub entry: SolvedClass,
+    pub chain: Chain,
+}
+
+/// The pick of a place. None comes exactly where no chain leads to its class, or nothing stands there.
+fn pick_at(alloc: Global, from: Class, place: u32) -> Result<Option<Pick>, NoMemory>
+    ensures none { IfOk result (λ found. IfNone found (IfSome (slice_get solved_list place) (λ e. ¬ Reaches is_built from e.class))) }
+    ensures pick { IfOk result (λ found. IfSome found (λ p. (p.place ≡ place) × IsRoute from p)) }
+{
+    match entry_at(place) {
+        None => Ok(None),
+        Some(entry) => match route_to(alloc, from, entry.class) {
+            Err(_) => Err(NoMemory),
+            Ok(None) => Ok(None),
+            Ok(Some(chain)) => Ok(Some(Pick {
+                place,
+                entry,
+                chain,
+            })),
+        },
+    }
+}
+
+fn is_same(a: Class, b: Class) -> bool
+    ensures { IsTrue result ↔ (a ≡ b) }
+{
+    rank(a) == rank(b)
+}
+
+/// The place of a class in the list.
+fn place_of(class: Class) -> Option<u32>
+    ensures some { IfSome result (λ n. slice_get solved_classes n ≡ Some class) }
+    ensures none { IfNone result (¬ Contains solved_classes class) }
+{
+    for place in 0..SOLVED {
+        match solved(place) {
+            Some(other) if is_same(other, class) => return Some(place),
+            _ => (),
+        }
+    }
+    None
+}
+
+/// The pick of the first class of the list to which a chain leads.
+fn first_pick(alloc: Global, from: Class) -> Result<Pick, Cannot>
+    ensures pick { IfOk result (IsPick from None) }
+    ensures fault { IfErr result (IsFault from None) }
+{
+    for place in 0..SOLVED {
+        match pick_at(alloc, from, place) {
+            Err(_) => return Err(Cannot::Memory),
+            Ok(Some(pick)) => return Ok(pick),
+            Ok(None) => (),
+        }
+    }
+    Err(Cannot::NoSolver { class: from })
+}
+
+/// The pick of the class that is asked for.
+fn given_pick(alloc: Global, from: Class, at: Class) -> Result<Pick, Cannot>
+    ensures pick { IfOk result (IsPick from (Some at)) }
+    ensures fault { IfErr result (IsFault from (Some at)) }
+{
+    match place_of(at) {
+        None => Err(Cannot::NotSolved { class: at }),
+        Some(place) => match pick_at(alloc, from, place) {
+            Err(_) => Err(Cannot::Memory),
+            Ok(None) => Err(Cannot::NoRoute { from, to: at }),
+            Ok(Some(pick)) => Ok(pick),
+        },
+    }
+}
+
+/// The pick of the class that is asked for, or else of the first to which a chain leads.
+pub(crate) fn choose(alloc: Global, from: Class, at: Option<Class>) -> Result<Pick, Cannot>
+    ensures pick { IfOk result (IsPick from at) }
+    ensures fault { IfErr result (IsFault from at) }
+{
+    match at {
+        None => first_pick(alloc, from),
+        Some(class) => given_pick(alloc, from, class),
+    }
+}

@@ -1,0 +1,47 @@
+// The classes that are solved, each with its solver.
+ghost use Rattle.std.specs.Prelude.{◌≡◌, slice_get};
+ghost use Rattle.msp_dispatch.specs.Solved.{solved_list, solved_classes};
+
+use msp_class::Class;
+use msp_route::{Solver, SolverName};
+use msp_single::{Lawler, Smith};
+
+/// How many classes are solved.
+pub const SOLVED: u32 = 2;
+
+/// A class that is solved, and its solver.
+#[derive(Clone, Copy, Debug, PartialEq, Eq)]
+pub struct SolvedClass {
+    pub class: Class,
+    pub solver: SolverName,
+}
+
+fn entry<S: Solver>(solver: &S, name: SolverName) -> SolvedClass
+    ensures { result ≡ record { class = S.solved solver.now; solver = name } }
+{
+    SolvedClass {
+        class: solver.target(),
+        solver: name,
+    }
+}
+
+/// The entry at a place of the list.
+pub(crate) fn entry_at(n: u32) -> Option<SolvedClass>
+    ensures { result ≡ slice_get solved_list n }
+{
+    match n {
+        0 => Some(entry(&Smith, SolverName::Smith)),
+        1 => Some(entry(&Lawler, SolverName::Lawler)),
+        _ => None,
+    }
+}
+
+/// The class at a place, from 0, of the list of classes that are solved. None comes exactly from the length of the list on.
+pub fn solved(n: u32) -> Option<Class>
+    ensures { result ≡ slice_get solved_classes n }
+{
+    match entry_at(n) {
+        None => None,
+        Some(entry) => Some(entry.class),
+    }
+}
