@@ -120,7 +120,10 @@ fn lateness_by_lawler(rt: HostRuntime) -> Result<(), Fail> {
             to: 5,
         },
     ];
-    assert_eq!(rt; answer.solution.schedule.pieces.as_slice(), pieces.as_slice());
+    assert_eq!(rt;
+        answer.solution.schedule.pieces.as_slice(),
+        pieces.as_slice()
+    );
     Ok(())
 }
 
