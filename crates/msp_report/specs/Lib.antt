@@ -3,3 +3,4 @@ pub mod LabelsText
 pub mod FrontierText
 pub mod WhyText
 pub mod RowsText
+pub mod SolveText

@@ -1,13 +1,14 @@
-//! The texts of reports: labels of classes, the frontier, why a class has its label, and the table of rows.
+//! The texts of reports: labels of classes, the frontier, why a class has its label, the table of rows, and the answer to an instance.
 //!
-//! It stands on `msp_class`, `msp_name`, `msp_table`, `msp_closure` and `msp_text`. The layer above uses that each text is exactly the
-//! one that `specs/` defines.
+//! It stands on `msp_class`, `msp_name`, `msp_table`, `msp_closure`, `msp_route`, `msp_grammar` and `msp_text`. The layer above uses
+//! that each text is exactly the one that `specs/` defines.
 #![tactic(auto)]
 
 mod chain_text;
 mod frontier;
 mod labels;
 mod rows;
+mod solve;
 #[cfg(test)]
 mod tests;
 mod why;
@@ -15,4 +16,5 @@ mod why;
 pub use frontier::frontier_text;
 pub use labels::labels_text;
 pub use rows::rows_text;
+pub use solve::solve_text;
 pub use why::why_text;

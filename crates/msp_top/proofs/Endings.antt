@@ -15,6 +15,8 @@ use Rattle.msp_name.proofs.NameLemmas.{NameOf-determined}
 use Rattle.msp_file.specs.declared.fault.FileFault.{FileFault}
 use Rattle.msp_file.specs.declared.fault.FileFault.TheVariants.{Memory as FileMemory}
 use Rattle.msp_closure.specs.declared.entry.Entry.{Entry}
+use Rattle.msp_dispatch.specs.declared.Cannot.{Cannot}
+use Rattle.msp_dispatch.specs.declared.Cannot.TheVariants.{Memory as CannotMemory}
 use Rattle.msp_report.specs.RowsText.{rows_report}
 use Rattle.msp_results.specs.declared.fault.ResultFault.{ResultFault}
 use Rattle.msp_results.specs.declared.fault.ResultFault.TheVariants.{Memory}
@@ -30,9 +32,10 @@ use Rattle.msp_top.specs.declared.command.Question.{Question}
 use Rattle.msp_top.specs.declared.command.Question.TheVariants.{Label, Frontier, Why}
 use Rattle.msp_top.specs.Commands.{Asks, AsksForRows, IsNameWord, Misfits}
 use Rattle.msp_top.specs.Files.{file_status}
+use Rattle.msp_top.specs.Cannots.{cannot_status}
 use Rattle.msp_top.specs.Results.{results_status}
 use Rattle.msp_top.specs.Outcome.{Outcome, report, refusal}
-use Rattle.msp_top.specs.Solves.{SolveIsRight, solved, misread, no_solver, not_solved, no_chain}
+use Rattle.msp_top.specs.Solves.{SolveIsRight, solved, misread, unsolved}
 use Rattle.msp_top.specs.Reports.{HasClashStatus, contradicts, agrees, ReadsResults, reported, misread as misread_results}
 use Rattle.msp_top.specs.Run.{IsRight, IsRightWithin, too_long, short, IsRightReport, of_input, of_rows, Reports, BreaksOff, Refuses, IsDue, IsNote, misfit as note_misfit, refused as note_refused, read_fault, write_fault, memory as note_memory}
 use Rattle.msp_top.specs.Note.{note_text}
@@ -57,12 +60,14 @@ results_range : (fault : ResultFault) → fault ≢ Memory → (3 ≤ results_st
 results_range Memory other = absurd (other refl)
 results_range _ other = (omega arith, omega arith)
 
+cannot_range : (cannot : Cannot) → cannot ≢ CannotMemory → (3 ≤ cannot_status cannot) × (cannot_status cannot ≤ 6)
+cannot_range CannotMemory other = absurd (other refl)
+cannot_range _ other = (omega arith, omega arith)
+
 solve_status : (input : List ℕ) (at : Option Class) (outcome : Outcome) → SolveIsRight input at outcome → HasStatus outcome
-solve_status input at (report status text) (solved named t is r) = omega arith
-solve_status input at (refusal status note) (misread named fault other first) = file_range fault other
-solve_status input None (refusal status note) (no_solver names i read other) = (omega arith, omega arith)
-solve_status input (Some class) (refusal status note) (not_solved named names i read other) = (omega arith, omega arith)
-solve_status input (Some class) (refusal status note) (no_chain names i read other) = (omega arith, omega arith)
+solve_status input at (report status text) (solved t is) = omega arith
+solve_status input at (refusal status note) (misread fault other first) = file_range fault other
+solve_status input at (refusal status note) (unsolved names i cannot read other fault) = cannot_range cannot other
 
 clash_status : (entries : List Entry) (status : ℕ) → HasClashStatus entries status → status ≤ 1
 clash_status entries status (contradicts h) = omega arith

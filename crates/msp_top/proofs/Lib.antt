@@ -1,10 +1,7 @@
 pub mod Exits
-pub mod SmithOrder
-pub mod SmithSteps
-pub mod SmithSorted
-pub mod SmithFacts
-pub mod SmithBest
-pub mod SmithInstances
+pub mod Divided
+pub mod CostBounds
+pub mod Stated
 pub mod PutsLemmas
 pub mod WordLemmas
 pub mod Endings

@@ -1,19 +1,19 @@
 -- The answer to `solve`.
-use Rattle.std.proofs.Common.{◌≡◌, ◌≢◌, inl, inr, ℕ, List, ◌++◌, Option, Some, Result, Ok, Err, refl, sym, subst, codes}
+use Rattle.std.proofs.Common.{◌≡◌, inl, inr, ℕ, List, Option, Result, Ok, Err, refl, sym, subst}
 use Rattle.msp_class.specs.declared.class.Class.{Class}
-use Rattle.msp_name.specs.Names.{name_of}
-use Rattle.msp_instance.specs.declared.Instance.{Instance}
 use Rattle.msp_file.specs.declared.fault.FileFault.{FileFault}
 use Rattle.msp_file.specs.declared.fault.FileFault.TheVariants.{Memory}
 use Rattle.msp_grammar.specs.declared.filed.Filed.{Filed}
 use Rattle.msp_file.specs.Answers.{IsFaultOf}
+use Rattle.msp_dispatch.specs.declared.Cannot.{Cannot}
+use Rattle.msp_dispatch.specs.declared.Cannot.TheVariants.{Memory as NoMemory}
+use Rattle.msp_dispatch.specs.Dispatch.{IsFault}
 use Rattle.msp_grammar.specs.InstanceText.{IsInstanceText}
 use Rattle.msp_top.specs.declared.answers.Report.{Report}
 use Rattle.msp_top.specs.declared.refusal.Refusal.{Refusal}
-use Rattle.msp_top.specs.Smith.{smith_class}
-use Rattle.msp_top.specs.Outcome.{Outcome, refusal}
-use Rattle.msp_top.specs.Solves.{SolveIsRight, misread, no_chain}
-use Rattle.msp_top.specs.Refusals.{out_of_memory, of_file_fault}
+use Rattle.msp_top.specs.Outcome.{Outcome}
+use Rattle.msp_top.specs.Solves.{SolveIsRight, misread, unsolved}
+use Rattle.msp_top.specs.Refusals.{out_of_memory, of_file_fault, of_cannot}
 use Rattle.msp_top.specs.Answers.{Answers, SolvesFiled}
 
 -- a right outcome of one kind is one of another
@@ -32,13 +32,14 @@ filed_right input at filed r read h = answers-along (SolvesFiled at filed) (Solv
 
 misread_first : (input : List ℕ) (at : Option Class) (fault : FileFault) → IsFaultOf input fault → Answers (SolveIsRight input at) (Err (of_file_fault fault))
 misread_first input at Memory h = inl (refl, refl)
-misread_first input at fault h = inr (misread at fault (λ e. cc) h)
+misread_first input at fault h = inr (misread fault (λ e. cc) h)
 
 pub misread_right : (input : List ℕ) (at : Option Class) (fault : FileFault) (why : Refusal) → IsFaultOf input fault → why ≡ of_file_fault fault → Answers (SolveIsRight input at) (Err why)
 misread_right input at fault why first e = let Q : Refusal → Type 0 = λ w. Answers (SolveIsRight input at) (Err w) in subst Q (sym e) (misread_first input at fault first)
 
--- no chain leads to the one class that has a solver
-pub no_chain_right : (input : List ℕ) (class : Class) (names : List (List ℕ)) (i : Instance) → IsInstanceText input i names → i.class ≢ smith_class → class ≡ smith_class → SolveIsRight input (Some class) (refusal 6 (codes "no chain to " ++ name_of class))
-no_chain_right input class names i read other solved =
-    let P : Class → Type 0 = λ c. SolveIsRight input (Some c) (refusal 6 (codes "no chain to " ++ name_of c)) in
-    subst P (sym solved) (no_chain names i read other)
+cannot_first : (at : Option Class) (filed : Filed) (cannot : Cannot) → IsFault filed.instance.class at cannot → Answers (SolvesFiled at filed) (Err (of_cannot cannot))
+cannot_first at filed NoMemory h = inl (refl, refl)
+cannot_first at filed cannot h = inr (λ input read. unsolved filed.names filed.instance cannot read (λ e. cc) h)
+
+pub cannot_right : (at : Option Class) (filed : Filed) (cannot : Cannot) (why : Refusal) → IsFault filed.instance.class at cannot → why ≡ of_cannot cannot → Answers (SolvesFiled at filed) (Err why)
+cannot_right at filed cannot why fault e = let Q : Refusal → Type 0 = λ w. Answers (SolvesFiled at filed) (Err w) in subst Q (sym e) (cannot_first at filed cannot fault)

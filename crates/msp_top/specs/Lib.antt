@@ -1,14 +1,12 @@
-pub mod Smith
-pub mod Report
 pub mod Results
 pub mod Files
+pub mod Cannots
 pub mod Commands
 pub mod Usage
 pub mod Outcome
 pub mod Solves
 pub mod Reports
 pub mod Run
-pub mod SmithRule
 pub mod Note
 pub mod Refusals
 pub mod Answers

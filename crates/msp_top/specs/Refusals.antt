@@ -3,10 +3,12 @@ use Rattle.msp_io.specs.declared.whole.Taken.{Taken}
 use Rattle.msp_io.specs.declared.whole.Taken.TheVariants as taken
 use Rattle.msp_file.specs.declared.fault.FileFault.{FileFault}
 use Rattle.msp_results.specs.declared.fault.ResultFault.{ResultFault}
+use Rattle.msp_dispatch.specs.declared.Cannot.{Cannot}
 use Rattle.msp_top.specs.declared.refusal.Refusal.{Refusal}
-use Rattle.msp_top.specs.declared.notes.Note.TheVariants.{Usage, CannotRead, CannotWrite, OutOfMemory, TooLong, File, Results}
+use Rattle.msp_top.specs.declared.notes.Note.TheVariants.{Usage, CannotRead, CannotWrite, OutOfMemory, TooLong, File, Unsolved, Results}
 use Rattle.msp_top.specs.declared.words.Misfit.{Misfit}
 use Rattle.msp_top.specs.Files.{file_status}
+use Rattle.msp_top.specs.Cannots.{cannot_status}
 use Rattle.msp_top.specs.Results.{results_status}
 
 abbrev pub out_of_memory : Refusal
@@ -22,6 +24,9 @@ of_write_fault = record { status = 8; note = CannotWrite }
 
 abbrev pub of_file_fault : FileFault → Refusal
 of_file_fault fault = record { status = file_status fault; note = File fault }
+
+abbrev pub of_cannot : Cannot → Refusal
+of_cannot cannot = record { status = cannot_status cannot; note = Unsolved cannot }
 
 abbrev pub of_result_fault : ResultFault → Refusal
 of_result_fault fault = record { status = results_status fault; note = Results fault }

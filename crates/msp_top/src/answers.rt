@@ -1,22 +1,18 @@
 // What there is to say of a whole input, by the command.
-ghost use Rattle.std.specs.Prelude.{◌≡◌, ◌≤◌, length, Option, IfOk};
-ghost use Rattle.msp_class.specs.declared.class.Class.{Class as ClassValue};
-ghost use Rattle.msp_instance.specs.Conditions.{Inner, InClass};
-ghost use Rattle.msp_top.specs.Smith.{smith_class};
-ghost use Rattle.msp_top.specs.Solves.{SolveIsRight, IsNamed};
-ghost use Rattle.msp_top.specs.Outcome.{report};
+ghost use Rattle.std.specs.Prelude.{◌≡◌, ◌≤◌, length};
+ghost use Rattle.msp_instance.specs.Conditions.{InClass};
+ghost use Rattle.msp_top.specs.Solves.{SolveIsRight};
 ghost use Rattle.msp_top.specs.Run.{IsRightWithin};
 ghost use Rattle.msp_top.specs.Answers.{Answers, SolvesFiled};
 
 use crate::command::Command;
-use crate::notes::Note;
 use crate::questions::answer_question;
 use crate::refusal::Refusal;
-use crate::report::solve_text;
-use crate::smith::{solve, solves};
-use msp_class::{Class, NoMemory};
+use msp_class::Class;
+use msp_dispatch::solve_any;
 use msp_file::read_instance;
 use msp_grammar::Filed;
+use msp_report::solve_text;
 use std::alloc::Global;
 
 /// The most bytes of an input.
@@ -54,69 +50,7 @@ fn answer_filed(alloc: Global, at: Option<Class>, filed: &Filed) -> Result<Repor
     requires named { length filed.now.names ≡ length filed.now.instance.jobs }
     ensures { Answers (SolvesFiled at filed.now) result }
 {
-    match at {
-        Some(class) => answer_at(alloc, class, filed),
-        None => answer_own(alloc, filed),
-    }
-}
-
-/// The answer at a named class.
-fn answer_at(alloc: Global, class: Class, filed: &Filed) -> Result<Report, Refusal>
-    requires class { InClass filed.now.instance }
-    requires named { length filed.now.names ≡ length filed.now.instance.jobs }
-    ensures { Answers (SolvesFiled (Some class) filed.now) result }
-{
-    if solves(class) {
-        answer_solved(alloc, class, filed)
-    } else {
-        Err(Refusal {
-            status: 6,
-            note: Note::NotSolved(class),
-        })
-    }
-}
-
-/// The answer at a named class that has a solver: a best schedule, where the instance is one of it.
-fn answer_solved(alloc: Global, class: Class, filed: &Filed) -> Result<Report, Refusal>
-    requires class { InClass filed.now.instance }
-    requires named { length filed.now.names ≡ length filed.now.instance.jobs }
-    requires solved { class ≡ smith_class }
-    ensures { Answers (SolvesFiled (Some class) filed.now) result }
-{
-    if solves(filed.instance.class) {
-        Ok(report_smith(alloc, filed)?)
-    } else {
-        Err(Refusal {
-            status: 6,
-            note: Note::NoChain(class),
-        })
-    }
-}
-
-/// The answer where no class is named: a best schedule, where there is a solver for the class of the instance.
-fn answer_own(alloc: Global, filed: &Filed) -> Result<Report, Refusal>
-    requires class { InClass filed.now.instance }
-    requires named { length filed.now.names ≡ length filed.now.instance.jobs }
-    ensures { Answers (SolvesFiled None filed.now) result }
-{
-    if solves(filed.instance.class) {
-        Ok(report_smith(alloc, filed)?)
-    } else {
-        Err(Refusal {
-            status: 5,
-            note: Note::NoSolver(filed.instance.class),
-        })
-    }
-}
-
-/// The report of the schedule that Smith's rule gives.
-fn report_smith(alloc: Global, filed: &Filed) -> Result<Report, NoMemory>
-    requires inner { Inner filed.now.instance }
-    requires class { filed.now.instance.class ≡ smith_class }
-    requires named { length filed.now.names ≡ length filed.now.instance.jobs }
-    ensures { (at : Option ClassValue) → IsNamed at smith_class → IfOk result (λ made. SolvesFiled at filed.now (report made.status made.text.items)) }
-{
-    let solution = solve(alloc, &filed.instance)?;
-    let text = solve_text(alloc, &filed.names, &solution)?;
+    let answer = solve_any(alloc, &filed.instance, at)?;
+    let text = solve_text(alloc, &filed.names, &answer)?;
     Ok(Report { status: 0, text })
 }

@@ -8,9 +8,7 @@ mod command;
 mod notes;
 mod questions;
 mod refusal;
-mod report;
 mod serve;
-mod smith;
 #[cfg(test)]
 mod tests;
 mod words;

@@ -6,10 +6,12 @@ ghost use Rattle.msp_top.specs.Usage.{misspelled_text};
 ghost use Rattle.msp_top.specs.Run.{IsTold, note_line, too_long_text};
 ghost use Rattle.msp_top.specs.Note.{usage_note, note_text};
 ghost use Rattle.msp_top.specs.Files.{quantity_text, at_line, broken_text, file_text};
+ghost use Rattle.msp_top.specs.Cannots.{cannot_text};
 
 use crate::answers::INPUT_LIMIT;
 use crate::words::Misfit;
 use msp_class::Class;
+use msp_dispatch::Cannot;
 use msp_file::{FileFault, What};
 use msp_instance::ClassFault;
 use msp_io::{Sink, WriteFault, write_all};
@@ -23,9 +25,7 @@ pub enum Note {
     Usage(Misfit),
     TooLong,
     File(FileFault),
-    NoSolver(Class),
-    NotSolved(Class),
-    NoChain(Class),
+    Unsolved(Cannot),
     Results(ResultFault),
     CannotRead,
     CannotWrite,
@@ -181,6 +181,17 @@ fn put_not_solved<E: Sink>(notes: &mut E, class: Class) -> Result<(), WriteFault
     write_all(notes, b" is not solved")
 }
 
+fn put_cannot<E: Sink>(notes: &mut E, why: Cannot) -> Result<(), WriteFault>
+    ensures { Puts (E.seen notes.old) (E.seen notes.new) (cannot_text why) result }
+{
+    match why {
+        Cannot::NoSolver { class } => put_to_class(notes, b"no solver for ", class),
+        Cannot::NotSolved { class } => put_not_solved(notes, class),
+        Cannot::NoRoute { to, .. } => put_to_class(notes, b"no chain to ", to),
+        Cannot::Memory => write_all(notes, b"out of memory"),
+    }
+}
+
 fn put_note<E: Sink>(notes: &mut E, note: &Note) -> Result<(), WriteFault>
     ensures { Puts (E.seen notes.old) (E.seen notes.new) (note_text note.now) result }
 {
@@ -188,9 +199,7 @@ fn put_note<E: Sink>(notes: &mut E, note: &Note) -> Result<(), WriteFault>
         Note::Usage(misfit) => put_misfit(notes, *misfit),
         Note::TooLong => put_too_long(notes),
         Note::File(fault) => put_file(notes, fault),
-        Note::NoSolver(class) => put_to_class(notes, b"no solver for ", *class),
-        Note::NotSolved(class) => put_not_solved(notes, *class),
-        Note::NoChain(class) => put_to_class(notes, b"no chain to ", *class),
+        Note::Unsolved(why) => put_cannot(notes, *why),
         Note::Results(fault) => write_all(notes, fault.text().bytes()),
         Note::CannotRead => write_all(notes, b"cannot read"),
         Note::CannotWrite => write_all(notes, b"cannot write"),

@@ -1,11 +1,13 @@
 // Why a call gives no report.
 ghost use Rattle.std.specs.Prelude.{◌≡◌};
 ghost use Rattle.msp_top.specs.Files.{file_status};
+ghost use Rattle.msp_top.specs.Cannots.{cannot_status};
 ghost use Rattle.msp_top.specs.Results.{results_status};
 
 use crate::notes::Note;
 use crate::words::Misfit;
 use msp_class::NoMemory;
+use msp_dispatch::Cannot;
 use msp_file::FileFault;
 use msp_io::{Taken, WriteFault};
 use msp_results::ResultFault;
@@ -89,6 +91,19 @@ impl From<FileFault> for Refusal {
     }
 }
 
+impl From<Cannot> for Refusal {
+    ghost use Rattle.msp_top.specs.Refusals.{of_cannot};
+
+    ghost from_gives = { λ cannot refusal. refusal ≡ of_cannot cannot };
+
+    fn from(cannot: Cannot) -> Refusal {
+        Refusal {
+            status: cannot_status(cannot),
+            note: Note::Unsolved(cannot),
+        }
+    }
+}
+
 impl From<ResultFault> for Refusal {
     ghost use Rattle.msp_top.specs.Refusals.{of_result_fault};
 
@@ -123,6 +138,17 @@ fn file_status(fault: &FileFault) -> u8
         | FileFault::After { .. }
         | FileFault::Class { .. }
         | FileFault::Cycle { .. } => 3,
+    }
+}
+
+/// The status where an instance is not solved.
+fn cannot_status(cannot: Cannot) -> u8
+    ensures { result ≡ cannot_status cannot }
+{
+    match cannot {
+        Cannot::NoSolver { .. } => 5,
+        Cannot::NotSolved { .. } | Cannot::NoRoute { .. } => 6,
+        Cannot::Memory => 9,
     }
 }
 

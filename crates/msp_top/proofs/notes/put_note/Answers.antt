@@ -7,8 +7,5 @@ use Rattle.msp_top.proofs.notes.put_note.Goals as goal
 pub returns-in-TooLong : goal.returns-in-TooLong
 returns-in-TooLong g c = puts-along _ _ _ _ _ (sym (ap note_text c.in-TooLong.is)) c.put_too_long.ensures
 
-pub returns-in-NoSolver : goal.returns-in-NoSolver
-returns-in-NoSolver g c = puts-along _ _ _ _ _ (sym (ap note_text c.in-NoSolver.is)) c.put_to_class.ensures
-
 pub returns-in-CannotRead : goal.returns-in-CannotRead
 returns-in-CannotRead g c = puts-along _ _ _ _ _ (sym (ap note_text c.in-CannotRead.is)) c.write_all-in-CannotRead.ensures

@@ -1,0 +1,101 @@
+-- A solution in the form of a report can be written as a text.
+use Rattle.std.proofs.Common.{◌≡◌, ℕ, zero, suc, ◌*◌, ◌^◌, ◌<◌, ◌≤◌, List, length, get_or, All, ℤ, pos, negsuc, neg_ℤ, ◌*ℤ◌, ◌≤ℤ◌, unsigned_abs, refl, sym, ap, ◌∙◌, subst, arith}
+use Rattle.std.proofs.lemmas.Int.{ints}
+use Rattle.std.specs.Int.{IsGcd}
+use Rattle.msp_class.specs.declared.class.Env.{Env}
+use Rattle.msp_class.specs.declared.class.Env.TheVariants.{J2Short, JShort}
+use Rattle.msp_class.specs.declared.environments.EnvKind.{EnvKind}
+use Rattle.msp_class.specs.declared.environments.EnvKind.TheVariants as kind
+use Rattle.msp_class.specs.declared.environments.TheConstants.{MOST_OPERATIONS}
+use Rattle.msp_class.specs.Env.{kind_of, most_operations}
+use Rattle.msp_class.proofs.IntegerRing.{natural_some}
+use Rattle.msp_instance.specs.declared.ranges.TheConstants.{MOST_MACHINES}
+use Rattle.msp_instance.specs.declared.Instance.{Instance}
+use Rattle.msp_instance.specs.declared.Need.{Need}
+use Rattle.msp_instance.specs.Instance.{no_need, no_job, job_at, need_at}
+use Rattle.msp_instance.specs.Conditions.{LiesWithin, HasShape, InClass, text_limits}
+use Rattle.msp_instance.proofs.Limits.{Inner-from_class}
+use Rattle.msp_schedule.specs.declared.Frac.{Frac}
+use Rattle.msp_schedule.specs.declared.Piece.{Piece}
+use Rattle.msp_schedule.specs.declared.Solution.{Solution}
+use Rattle.msp_schedule.specs.Cost.{cost_of}
+use Rattle.msp_schedule.specs.Feasible.{HasOperation, MayRun, HasPlace}
+use Rattle.msp_schedule.specs.Fraction.{IsOver, IsLowest}
+use Rattle.msp_schedule.specs.Within.{IsUnit}
+use Rattle.msp_grammar.specs.ScheduleText.{IsStatedCost, IsStatedPiece, IsStated}
+use Rattle.msp_dispatch.specs.Dispatch.{IsReported}
+use Rattle.msp_top.proofs.Divided.{IsPrimeTo-from_gcd, lowest_is_least}
+use Rattle.msp_top.proofs.CostBounds.{greatest_total, cost_of_small}
+
+-- ---- the cost
+abs_within : (x : ℤ) (n : ℕ) → LiesWithin n x → unsigned_abs x ≤ n
+abs_within (pos a) n h = omega (arith, ints, h)
+abs_within (negsuc a) n h = omega (arith, ints, h)
+
+within_abs : (x : ℤ) (n : ℕ) → unsigned_abs x ≤ n → LiesWithin n x
+within_abs (pos a) n h = (omega (arith, ints, h), omega (arith, ints, h))
+within_abs (negsuc a) n h = (omega (arith, ints, h), omega (arith, ints, h))
+
+abs_negated : (a : ℕ) → unsigned_abs (neg_ℤ (pos a)) ≡ a
+abs_negated zero = refl
+abs_negated (suc a) = refl
+
+abs_product : (x : ℤ) (n : ℕ) → unsigned_abs (x *ℤ pos n) ≡ unsigned_abs x * n
+abs_product (pos a) n = refl
+abs_product (negsuc a) n = abs_negated (suc a * n)
+
+stated_cost : (f : Frac) (c unit : ℤ) → IsOver f c unit → IsLowest f → IsUnit unit → LiesWithin greatest_total c → IsStatedCost f
+stated_cost f c unit over low u small =
+    let (n, unit_is) = natural_some unit (omega (arith, ints, u)) in
+    let (d, den_is) = natural_some f.den (omega (arith, ints, f.positive)) in
+    let e : f.num *ℤ pos n ≡ c *ℤ pos d = subst (λ y. f.num *ℤ pos n ≡ c *ℤ y) den_is (subst (λ y. f.num *ℤ y ≡ c *ℤ f.den) unit_is over) in
+    let sizes : unsigned_abs f.num * n ≡ unsigned_abs c * d = sym (abs_product f.num n) ∙ ap unsigned_abs e ∙ abs_product c d in
+    let prime : IsGcd (unsigned_abs f.num) d 1 = subst (λ y. IsGcd (unsigned_abs f.num) (unsigned_abs y) 1) den_is low in
+    let (less, least) = lowest_is_least (unsigned_abs f.num) d (unsigned_abs c) n (IsPrimeTo-from_gcd _ _ prime) (omega (arith, ints, f.positive, den_is)) (omega (arith, ints, u, unit_is)) sizes in
+    let bound = abs_within c greatest_total small in
+    record {
+      num = within_abs f.num _ (omega (arith, least, bound));
+      den = (f.positive, omega (arith, ints, less, den_is, unit_is, u));
+    }
+
+-- ---- the pieces
+few_operations : (e : Env) → most_operations e ≤ MOST_OPERATIONS
+few_operations J2Short = omega arith
+few_operations JShort = omega arith
+few_operations _ = omega arith
+
+operation_small : (k : EnvKind) (e : Env) (i : Instance) (j o : ℕ) → i.machines ≤ 32 → HasShape k e i.machines (job_at i j).needs → HasOperation k i j o → o < 32
+operation_small kind.Identical e i j o few shape h = omega (arith, h)
+operation_small kind.Uniform e i j o few shape h = omega (arith, h)
+operation_small kind.Unrelated e i j o few shape h = omega (arith, h)
+operation_small kind.OpenShop e i j o few shape h = omega (arith, h.0, shape.0, few)
+operation_small kind.FlowShop e i j o few shape h = omega (arith, h.0, shape.0, few)
+operation_small kind.JobShop e i j o few shape h = omega (arith, h.0, shape.few, few_operations e)
+
+machine_small : (k : EnvKind) (e : Env) (i : Instance) (j o m : ℕ) → i.machines ≤ 32 → HasShape k e i.machines (job_at i j).needs → HasOperation k i j o → MayRun k i j o m → m < 32
+machine_small kind.Identical e i j o m few shape h r = omega (arith, r, few)
+machine_small kind.Uniform e i j o m few shape h r = omega (arith, r, few)
+machine_small kind.Unrelated e i j o m few shape h r = omega (arith, r, few)
+machine_small kind.OpenShop e i j o m few shape h r = let same = shape.1 o h.0 in omega (arith, r, same, h.0, shape.0, few)
+machine_small kind.FlowShop e i j o m few shape h r = let same = shape.1 o h.0 in omega (arith, r, same, h.0, shape.0, few)
+machine_small kind.JobShop e i j o m few shape h r = let below = shape.machines o no_need h.0 in omega (arith, r, below, few)
+
+shape_of : (i : Instance) (j : ℕ) → InClass i → j < length i.jobs → HasShape (kind_of i.class.env) i.class.env i.machines (job_at i j).needs
+shape_of i j h l = (h.conditions.jobs j no_job l).needs.shape
+
+pub stated : (names : List (List ℕ)) (i : Instance) (s : Solution) → InClass i → length names ≡ length i.jobs → IsReported i s → IsStated names s.schedule s.cost
+stated names i s h named r = record {
+  cost = stated_cost s.cost (cost_of i s.schedule) s.schedule.unit r.best.cost r.lowest r.within.unit (cost_of_small i s.schedule (Inner-from_class i h) r.within);
+  unit = r.within.unit;
+  few = r.within.few;
+  pieces = λ k d l.
+      let place : HasPlace i (get_or s.schedule.pieces k d) = r.best.best.feasible.place k d l in
+      let shape = shape_of i (get_or s.schedule.pieces k d).job h place.job in
+      record {
+        job = subst (λ n. (get_or s.schedule.pieces k d).job < n) (sym named) place.job;
+        op = operation_small (kind_of i.class.env) i.class.env i _ _ h.conditions.machines.1 shape place.operation;
+        machine = machine_small (kind_of i.class.env) i.class.env i _ _ _ h.conditions.machines.1 shape place.operation place.machine;
+        from = (r.within.moments k d l).0;
+        to = (r.within.moments k d l).1;
+      };
+}
