@@ -90,14 +90,16 @@ pub lowest_is_least : (n d x u : ℕ) → IsPrimeTo n d → 0 < d → 0 < u → 
 lowest_is_least n d x u prime some lasts e =
     let (t, is) = shared (n + d) n d u x (omega arith) some prime (e ∙ commuted x d) in
     let several : 0 < t = positive d t u lasts is in
-    let low : d ≤ u = multiple d t u several is in
-    (low, elim (cases_lt x n) [
-      | inr h ↦ h
-      | inl h ↦
-          let p = mul-le (x + 1) d n u (omega (arith, h)) low in
-          let q : (x + 1) * d ≤ x * d = subst (λ y. (x + 1) * d ≤ y) e p in
-          absurd (omega (arith, q, some))
-    ])
+    let low : d ≤ u = multiple d t u several is in (
+      low,
+      elim (cases_lt x n) [
+        | inr h ↦ h
+        | inl h ↦
+            let p = mul-le (x + 1) d n u (omega (arith, h)) low in
+            let q : (x + 1) * d ≤ x * d = subst (λ y. (x + 1) * d ≤ y) e p in
+            absurd (omega (arith, q, some))
+      ],
+    )
   where
     commuted : (x d : ℕ) → x * d ≡ d * x
     commuted x d = omega arith
