@@ -5,7 +5,8 @@ use Rattle.msp_class.specs.declared.ranks.TheConstants.{CLASSES}
 use Rattle.msp_instance.specs.declared.Instance.{Instance}
 use Rattle.msp_table.specs.Rows.{is_built}
 use Rattle.msp_table.specs.Chains.{Leads}
-use Rattle.msp_plain.specs.Changes.{led, led_by_curves}
+use Rattle.msp_route.specs.Changes.{led}
+use Rattle.msp_plain.specs.Changes.{led_by_curves}
 
 -- The instance to which a built row leads.
 unfoldable pub lower_of : ℕ → Instance → Instance

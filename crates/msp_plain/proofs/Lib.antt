@@ -1,2 +1,1 @@
-mod InPlace
 mod InTime

@@ -1,18 +1,9 @@
--- The instances to which the rows lead, and how costs and schedules are translated.
-use Rattle.std.specs.Prelude.{ℕ, [], ℤ, pos, neg_ℤ, ◌+ℤ◌, map, unwrap_or}
+-- The changes of data that rows make, and those of the threshold rows.
+use Rattle.std.specs.Prelude.{[], ℤ, pos, neg_ℤ, ◌+ℤ◌, map}
 use Rattle.msp_class.specs.declared.class.Crit.{Crit}
 use Rattle.msp_instance.specs.declared.Job.{Job}
 use Rattle.msp_instance.specs.declared.Instance.{Instance}
-use Rattle.msp_table.specs.Rows.{goes_of}
-use Rattle.msp_route.specs.Law.{Rate}
-
--- The instance under the class to which the row leads.
-abbrev pub led : ℕ → Instance → Instance
-led row i = record i { class = unwrap_or (goes_of row i.class) i.class }
-
--- Costs stay.
-abbrev pub same_costs : Rate
-same_costs = record { factor = 1; addend = pos 0; scale = 1 }
+use Rattle.msp_route.specs.Changes.{led}
 
 -- The job whose curve is its lateness, of slope 1 and base -d and without steps. The due date is put back to 0.
 abbrev pub by_curve : Job → Job

@@ -23,8 +23,8 @@ use Rattle.msp_schedule.proofs.Serves.{SameNeeds-from_map, SameWork-from_map}
 use Rattle.msp_table.specs.Rows.{goes_of, table}
 use Rattle.msp_route.specs.Law.{Applies}
 use Rattle.msp_plain.specs.Changes.{by_curve, led_by_curves}
-use Rattle.msp_plain.specs.Inner.{changed, common_time-map, Inner-changed}
-use Rattle.msp_plain.specs.Alike.{Alike, Alike-led}
+use Rattle.msp_route.proofs.InnerChanges.{changed, common_time-map, Inner-changed}
+use Rattle.msp_route.proofs.Alike.{Alike, Alike-led}
 use Rattle.msp_plain.specs.Names.{some_if}
 
 -- a due date in the range of the class

@@ -28,9 +28,9 @@ use Rattle.msp_schedule.proofs.Charges.{SameCharges-from_class}
 use Rattle.msp_schedule.proofs.Serves.{SameWork-from_class}
 use Rattle.msp_table.specs.Rows.{goes_of, table}
 use Rattle.msp_route.specs.Law.{Applies}
-use Rattle.msp_plain.specs.Changes.{led}
-use Rattle.msp_plain.specs.Inner.{Inner-recast}
-use Rattle.msp_plain.specs.Alike.{Alike, Alike-led}
+use Rattle.msp_route.specs.Changes.{led}
+use Rattle.msp_route.proofs.InnerChanges.{Inner-recast}
+use Rattle.msp_route.proofs.Alike.{Alike, Alike-led}
 
 -- what it takes that a row applies
 pub some_if : (b : Bool) (c : Class) → IsSome (if b && true && true then Some c else None) → (b ≡ true) × ((if b && true && true then Some c else None) ≡ Some c)

@@ -26,7 +26,7 @@ use Rattle.msp_schedule.proofs.Charges.{charge_of, cost_of-sum, cost_of-bound, c
 use Rattle.msp_schedule.proofs.Serves.{SameWork, SameWork-sym, SameNeeds-from_map, SameWork-from_map, IsShaped-same, Feasible-same}
 use Rattle.msp_plain.specs.Changes.{raised, shift_of}
 use Rattle.msp_plain.specs.Threshold.{IsThresholdSum, IsThreshold, Meets}
-use Rattle.msp_plain.specs.Inner.{common_time-map, Inner-changed}
+use Rattle.msp_route.proofs.InnerChanges.{common_time-map, Inner-changed}
 
 -- what both sums have in common with the greatest lateness
 sum_uses : (crit : Crit) → IsThresholdSum crit → (uses_due crit ≡ true) × (uses_weight crit ≡ false) × (uses_curve crit ≡ false)

@@ -1,12 +1,11 @@
 // The rows whose criterion is another one at neutral data, which the instance holds. The class alone changes.
-ghost use Rattle.msp_plain.specs.Changes.{led, same_costs};
-ghost use Rattle.msp_plain.specs.Alike.{IsPositive-same, IsForth-alike, IsBack-alike};
+ghost use Rattle.msp_route.specs.Changes.{led, same_costs};
+ghost use Rattle.msp_route.proofs.Alike.{IsPositive-same, IsForth-alike, IsBack-alike};
 ghost use Rattle.msp_plain.specs.Names.{alike_8, alike_10, alike_11, alike_12, alike_13, alike_14};
 
-use crate::copies::led;
 use msp_class::NoMemory;
 use msp_instance::Instance;
-use msp_route::Reduction;
+use msp_route::{Reduction, led};
 use msp_schedule::Solution;
 use msp_table::Row;
 use std::alloc::Global;

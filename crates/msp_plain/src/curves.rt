@@ -1,14 +1,14 @@
 // The row from the greatest lateness to the greatest cost by curves.
 ghost use Rattle.std.specs.Prelude.{◌≡◌, ◌^◌, All, map};
 ghost use Rattle.msp_instance.specs.Conditions.{LiesWithin};
-ghost use Rattle.msp_plain.specs.Changes.{by_curve, led_by_curves, same_costs};
-ghost use Rattle.msp_plain.specs.Alike.{IsPositive-same, IsForth-alike, IsBack-alike};
+ghost use Rattle.msp_route.specs.Changes.{same_costs};
+ghost use Rattle.msp_plain.specs.Changes.{by_curve, led_by_curves};
+ghost use Rattle.msp_route.proofs.Alike.{IsPositive-same, IsForth-alike, IsBack-alike};
 ghost use Rattle.msp_plain.specs.Curves.{alike_9};
 
-use crate::copies::led;
 use msp_class::{List, NoMemory};
 use msp_instance::{Curve, Instance, Job};
-use msp_route::Reduction;
+use msp_route::{Reduction, led};
 use msp_schedule::Solution;
 use msp_table::Row;
 use std::alloc::Global;

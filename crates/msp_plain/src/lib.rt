@@ -3,7 +3,6 @@
 //! It stands on `msp_route`. The layer above uses that each row is a lawful `Reduction`, and the threshold law.
 #![tactic(auto)]
 
-mod copies;
 mod criteria;
 mod curves;
 mod names;
@@ -11,7 +10,6 @@ mod names;
 mod tests;
 mod threshold;
 
-pub use copies::recast;
 pub use criteria::{Row8, Row10, Row11, Row12, Row13, Row14};
 pub use curves::Row9;
 pub use names::{Row1, Row2, Row3, Row4, Row5, Row6, Row7, Row53};

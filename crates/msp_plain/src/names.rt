@@ -1,12 +1,11 @@
 // The rows that widen the precedence constraints, the release dates or the processing times. The class alone changes.
-ghost use Rattle.msp_plain.specs.Changes.{led, same_costs};
-ghost use Rattle.msp_plain.specs.Alike.{IsPositive-same, IsForth-alike, IsBack-alike};
+ghost use Rattle.msp_route.specs.Changes.{led, same_costs};
+ghost use Rattle.msp_route.proofs.Alike.{IsPositive-same, IsForth-alike, IsBack-alike};
 ghost use Rattle.msp_plain.specs.Names.{alike_1, alike_2, alike_3, alike_4, alike_5, alike_6, alike_7, alike_53};
 
-use crate::copies::led;
 use msp_class::NoMemory;
 use msp_instance::Instance;
-use msp_route::Reduction;
+use msp_route::{Reduction, led};
 use msp_schedule::Solution;
 use msp_table::Row;
 use std::alloc::Global;

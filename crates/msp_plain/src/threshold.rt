@@ -9,9 +9,9 @@ ghost use Rattle.msp_plain.specs.Changes.{raised, shift_of};
 ghost use Rattle.msp_plain.specs.Raised.{IsInTime};
 ghost use Rattle.msp_plain.specs.Threshold.{IsThresholdSum, Meets, ThresholdLaw};
 
-use crate::copies::recast;
 use msp_class::{Class, Crit, List, NoMemory};
 use msp_instance::{Instance, Job};
+use msp_route::recast;
 use msp_schedule::{Piece, Schedule};
 use std::alloc::Global;
 

@@ -1,3 +1,6 @@
 pub mod BestBack
 pub mod EarlyAnswers
 pub mod Composed
+pub mod Alike
+pub mod InnerChanges
+pub mod InPlace

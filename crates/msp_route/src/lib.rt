@@ -6,6 +6,7 @@
 
 mod answer;
 mod bounds;
+mod copies;
 mod reduction;
 mod solver;
 mod via;
@@ -15,6 +16,7 @@ pub use bounds::{
     GREATEST_ANSWER_MOMENT, GREATEST_BACK_MOMENT, GREATEST_LINED_UP, GREATEST_OPEN_UNIT,
     GREATEST_RAISE,
 };
+pub use copies::{led, recast};
 pub use reduction::Reduction;
 pub use solver::Solver;
 pub use via::Via;

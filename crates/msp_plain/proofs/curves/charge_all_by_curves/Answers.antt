@@ -1,7 +1,7 @@
 -- One more job is charged by its curve.
 use Rattle.std.proofs.Common.{rules}
 use Rattle.msp_plain.specs.Changes.{by_curve}
-use Rattle.msp_plain.proofs.InPlace.{changed_next}
+use Rattle.msp_route.proofs.InPlace.{changed_next}
 use Rattle.msp_plain.proofs.curves.charge_all_by_curves.Goals as goal
 
 pub loop-job-preserved : goal.loop-job-preserved

@@ -1,7 +1,7 @@
 -- One more job is raised.
 use Rattle.std.proofs.Common.{rules}
 use Rattle.msp_plain.specs.Changes.{raised}
-use Rattle.msp_plain.proofs.InPlace.{changed_next}
+use Rattle.msp_route.proofs.InPlace.{changed_next}
 use Rattle.msp_plain.proofs.threshold.raise_all.Goals as goal
 
 pub loop-job-preserved : goal.loop-job-preserved

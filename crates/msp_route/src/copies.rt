@@ -1,7 +1,7 @@
 // Copies of instances.
 ghost use Rattle.std.specs.Prelude.{◌≡◌, IfOk, IsSome};
 ghost use Rattle.msp_table.specs.Rows.{goes_of};
-ghost use Rattle.msp_plain.specs.Changes.{led};
+ghost use Rattle.msp_route.specs.Changes.{led};
 
 use msp_class::{Class, List, NoMemory};
 use msp_instance::{Curve, Instance, Job};
@@ -60,7 +60,7 @@ pub fn recast(alloc: Global, inst: &Instance, class: Class) -> Result<Instance, 
 }
 
 /// The same instance in the class to which the row leads.
-pub(crate) fn led(alloc: Global, inst: &Instance, row: Row) -> Result<Instance, NoMemory>
+pub fn led(alloc: Global, inst: &Instance, row: Row) -> Result<Instance, NoMemory>
     requires applies { IsSome (goes_of row inst.now.class) }
     ensures { IfOk result (λ copy. copy ≡ led row inst.now) }
 {

@@ -1,4 +1,4 @@
--- Changed instances keep the inner limits. No public contract cites this file.
+-- Changed instances keep the inner limits.
 use Rattle.std.proofs.Common.{◌≡◌, ℕ, ◌*◌, ◌<◌, Bool, List, length, get_or, map, All, refl, sym, ap, ◌∙◌, arith}
 use Rattle.std.specs.Prelude.{slice_index_or}
 use Rattle.msp_class.specs.declared.class.Order.{Order}

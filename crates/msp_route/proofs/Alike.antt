@@ -1,4 +1,4 @@
--- Instances whose feasible schedules are the same, at the same costs. No public contract cites this file.
+-- Instances whose feasible schedules are the same, at the same costs.
 use Rattle.std.proofs.Common.{◌≡◌, ℕ, false, List, pos, ◌+ℤ◌, ◌*ℤ◌, ◌≤ℤ◌, Some, unwrap_or, if◌then◌else◌, refl, sym, ap, subst, ◌∙◌, arith}
 use Rattle.std.specs.Int.{int_max}
 use Rattle.std.proofs.lemmas.List.Sorted.{IsPermutation-refl}
@@ -19,7 +19,7 @@ use Rattle.msp_table.specs.Rows.{goes_of, turns_dates}
 use Rattle.msp_route.specs.Law.{IsLower, IsPositive, IsForth, IsBack, IsReordered, cost_above, cost_below}
 use Rattle.msp_route.specs.Bounds.{IsBounded, KeepsBounds, greatest_unit}
 use Rattle.msp_route.specs.declared.bounds.TheConstants.{GREATEST_LINED_UP, GREATEST_RAISE}
-use Rattle.msp_plain.specs.Changes.{led, same_costs}
+use Rattle.msp_route.specs.Changes.{led, same_costs}
 
 -- the row leads to the instance, which has the same schedules at the same costs
 pub record Alike (row : ℕ) (i j : Instance) : Type 0 where
