@@ -1,0 +1,6 @@
+//! The reductions that change the environment: more machines, machines of another kind, and shops.
+//!
+//! It stands on `msp_route`. The layer above uses that each row is a lawful `Reduction`.
+#![tactic(auto)]
+
+mod environments;
