@@ -1,0 +1,2 @@
+pub mod InnerMachines
+pub mod Served
