@@ -4,3 +4,6 @@
 #![tactic(auto)]
 
 mod environments;
+mod shops;
+
+pub use shops::{Row28, Row29, Row30, Row31};
