@@ -5,5 +5,7 @@
 
 mod environments;
 mod shops;
+mod unrelated;
 
 pub use shops::{Row28, Row29, Row30, Row31};
+pub use unrelated::{Row23, Row24};

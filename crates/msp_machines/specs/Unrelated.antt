@@ -1,0 +1,90 @@
+-- The changes that the rows to unrelated machines make.
+use Rattle.std.specs.Prelude.{ℕ, ◌*◌, ◌/◌, ◌%◌, ◌==◌, List, [], length, pos, ◌*ℤ◌, slice_index_or, map, fold, find, unwrap_or}
+use Rattle.std.specs.List.{list_all, range_with_len}
+use Rattle.msp_class.specs.declared.class.Crit.{Crit}
+use Rattle.msp_class.specs.declared.class.Crit.TheVariants.{Cmax, Lmax, Fmax, SumC, SumWC, SumU, SumWU, SumT, SumWT}
+use Rattle.msp_instance.specs.declared.Need.{Need}
+use Rattle.msp_instance.specs.declared.Step.{Step}
+use Rattle.msp_instance.specs.declared.Curve.{Curve}
+use Rattle.msp_instance.specs.declared.Job.{Job}
+use Rattle.msp_instance.specs.declared.Instance.{Instance}
+use Rattle.msp_instance.specs.Instance.{no_need}
+use Rattle.msp_schedule.specs.declared.Piece.{Piece}
+use Rattle.msp_schedule.specs.declared.Schedule.{Schedule}
+use Rattle.msp_route.specs.Law.{Rate}
+use Rattle.msp_route.specs.Changes.{led}
+
+-- One need on each of some machines, in order, with the time there.
+abbrev pub need_on : (ℕ → ℕ) → ℕ → Need
+need_on time m = record { machine = m; time = time m }
+
+abbrev pub needs_by : ℕ → (ℕ → ℕ) → List Need
+needs_by machines time = map (need_on time) (range_with_len 0 machines)
+
+-- The time of a job with one need.
+abbrev pub only_time : Job → ℕ
+only_time j = (slice_index_or j.needs 0 no_need).time
+
+-- ---- from identical machines
+-- The job takes its time on each machine.
+abbrev pub on_each_machine : ℕ → Job → Job
+on_each_machine machines j = record j { needs = needs_by machines (λ m. only_time j) }
+
+-- The instance to which the rows from identical machines lead.
+abbrev pub led_to_each : ℕ → Instance → Instance
+led_to_each row i = record (led row i) { jobs = map (on_each_machine i.machines) i.jobs }
+
+-- ---- from uniform machines
+-- The least common multiple of numbers from 1 on: the first of 1, 2 and so on, up to their product, that each of them divides.
+unfoldable pub least_common_multiple : List ℕ → ℕ
+least_common_multiple xs = unwrap_or (find (λ n. list_all (λ x. n % x == 0) xs) (range_with_len 1 (fold ◌*◌ 1 xs))) 1
+
+-- The curve in times that are some times as long: thresholds, adds and base are multiplied, and the slope stays.
+abbrev pub stretched_step : ℕ → Step → Step
+stretched_step factor s = record { above = factor * s.above; add = factor * s.add }
+
+abbrev pub stretched_curve : ℕ → Curve → Curve
+stretched_curve factor c = record {
+  slope = c.slope;
+  base = pos factor *ℤ c.base;
+  steps = map (stretched_step factor) c.steps;
+}
+
+-- The job in times that are some times as long. On each machine it takes its time divided by the speed there.
+abbrev pub stretched : ℕ → List ℕ → Job → Job
+stretched factor speeds j = record {
+  release = factor * j.release;
+  due = pos factor *ℤ j.due;
+  weight = j.weight;
+  needs = needs_by (length speeds) (λ m. only_time j * (factor / slice_index_or speeds m 0));
+  curve = stretched_curve factor j.curve;
+}
+
+-- The instance to which the rows from uniform machines lead, with times as long as the least common multiple of the speeds.
+abbrev pub led_by_speeds : ℕ → Instance → Instance
+led_by_speeds row i = record (led row i) { speeds = []; jobs = map (stretched (least_common_multiple i.speeds) i.speeds) i.jobs }
+
+-- By how much costs grow with times: a number of late jobs stays.
+abbrev pub cost_factor : Crit → ℕ → ℕ
+cost_factor Cmax factor = factor
+cost_factor Lmax factor = factor
+cost_factor Fmax factor = factor
+cost_factor SumC factor = factor
+cost_factor SumWC factor = factor
+cost_factor SumU factor = 1
+cost_factor SumWU factor = 1
+cost_factor SumT factor = factor
+cost_factor SumWT factor = factor
+
+abbrev pub speed_rate : Instance → Rate
+speed_rate i = record { factor = cost_factor i.class.crit (least_common_multiple i.speeds); addend = pos 0; scale = 1 }
+
+-- The schedule with all moments multiplied; and with the unit multiplied, so that all times are as much shorter.
+abbrev pub stretched_piece : ℕ → Piece → Piece
+stretched_piece factor p = record p { from = pos factor *ℤ p.from; to = pos factor *ℤ p.to }
+
+abbrev pub stretched_schedule : ℕ → Schedule → Schedule
+stretched_schedule factor s = record { unit = s.unit; pieces = map (stretched_piece factor) s.pieces }
+
+abbrev pub shrunk_schedule : ℕ → Schedule → Schedule
+shrunk_schedule factor s = record { unit = s.unit *ℤ pos factor; pieces = s.pieces }
