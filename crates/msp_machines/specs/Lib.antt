@@ -1,5 +1,6 @@
 pub mod InnerMachines
 pub mod Served
+pub mod Environments
 pub mod Shops
 pub mod IdleMachines
 pub mod Renumbered
