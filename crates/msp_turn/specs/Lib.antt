@@ -1,2 +1,5 @@
 pub mod Turned
 pub mod TurnedArcs
+pub mod Reversal
+pub mod ReversalLaw
+pub mod ReversalRows

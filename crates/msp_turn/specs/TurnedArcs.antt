@@ -50,10 +50,13 @@ read_back xs p x l e =
 
 GoesForward-turned : (order : List ℕ) (a : Arc) → GoesForward order a → GoesForward (reverse order) (turned_arc a)
 GoesForward-turned order a (p, q, less, before, after) =
-    let l : q < length order = slice_get_within order q a.after after in
-    (length order - 1 - q, length order - 1 - p, omega arith,
-    read_back order q a.after l (get_or_from_slice_get order q a.after a.after after),
-    read_back order p a.before (omega arith) (get_or_from_slice_get order p a.before a.before before))
+    let l : q < length order = slice_get_within order q a.after after in (
+      length order - 1 - q,
+      length order - 1 - p,
+      omega arith,
+      read_back order q a.after l (get_or_from_slice_get order q a.after a.after after),
+      read_back order p a.before (omega arith) (get_or_from_slice_get order p a.before a.before before),
+    )
 
 Contains-reverse : (xs : List ℕ) (x : ℕ) → Contains xs x → Contains (reverse xs) x
 Contains-reverse xs x (p, l, e) =
@@ -67,9 +70,10 @@ turned_with i h c jobs = record i { class = record i.class { order = turned i.cl
 
 IsAcyclic-turned : (i : Instance) (h : Bool) (c : Crit) (jobs : List Job) → length jobs ≡ length i.jobs → IsAcyclic i → IsAcyclic (turned_with i h c jobs)
 IsAcyclic-turned i h c jobs same (order, listed, forward) = (
-    reverse order,
-    record { whole = length-reverse order ∙ listed.whole ∙ sym same; each = λ j l. Contains-reverse order j (listed.each j (omega (arith, same))) },
-    All-map (GoesForward (reverse order)) turned_arc i.arcs (λ k d l. GoesForward-turned order (get_or i.arcs k d) (forward k d l)))
+  reverse order,
+  record { whole = length-reverse order ∙ listed.whole ∙ sym same; each = λ j l. Contains-reverse order j (listed.each j (omega (arith, same))) },
+  All-map (GoesForward (reverse order)) turned_arc i.arcs (λ k d l. GoesForward-turned order (get_or i.arcs k d) (forward k d l)),
+)
 
 pub Inner-turned : (i : Instance) (h : Bool) (c : Crit) (jobs : List Job) → length jobs ≡ length i.jobs →
     All (IsJobOf (inner_limits (kind_of i.class.env)) (turned_with i h c jobs)) jobs →

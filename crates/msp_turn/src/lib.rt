@@ -4,3 +4,7 @@
 #![tactic(auto)]
 
 mod arcs;
+mod reversal;
+mod trees;
+
+pub use trees::{Row45, Row46};
