@@ -1,10 +1,11 @@
 -- The passes that find the distances, level by level.
-use Rattle.std.proofs.Common.{◌≡◌, ◌≢◌, ℕ, ◌<◌, ◌≤◌, ◌+◌, Bool, true, false, cond, eqb, List, [], ◌∷◌, length, get_or, set, Some, refl, ap, sym, ◌∙◌, subst, inl, inr, arith, length-set}
+use Rattle.std.proofs.Common.{◌≡◌, ◌≢◌, ℕ, ◌<◌, ◌≤◌, ◌+◌, Bool, true, false, cond, eqb, List, [], ◌∷◌, length, get_or, set, Some, refl, ap, sym, ◌∙◌, subst, inl, inr, arith, length-set, get_or-set_same, get_or-set_other}
 use Rattle.std.specs.Prelude.{Contains}
 use Rattle.msp_table.specs.Chains.{stay, LeadsInto}
 use Rattle.msp_table.proofs.ChainLemmas.{LeadsInto-step, LeadsInto-none, LeadsInto-first}
 use Rattle.msp_closure.proofs.StepLemmas.{step_of-parts, step_of-from}
 use Rattle.std.proofs.lemmas.List.{get_or_default}
+use Rattle.std.proofs.lemmas.List.Elements.{Contains-get_or}
 use Rattle.std.proofs.lemmas.List.Sums.{sum_by-set, count_by-le-length}
 use Rattle.std.proofs.lemmas.Bool.{cases_eq, cases_lt, eq-eqb, ne_eqb, cond-true, cond-false}
 use Rattle.msp_class.specs.declared.class.Class.{Class}
@@ -13,57 +14,25 @@ use Rattle.msp_class.specs.Rank.{rank_of}
 use Rattle.msp_class.proofs.RankLemmas.{rank_of-below, rank_of-injective}
 use Rattle.msp_closure.specs.declared.distances.TheConstants.{FAR}
 use Rattle.msp_closure.specs.Tables.{value_of, AreDistances}
-use Rattle.msp_closure.specs.Walk.{step_of, LeadsToValue, far_count, Advances}
+use Rattle.msp_closure.specs.Walk.{step_of, LeadsToValue, far_count, Raises, Advances}
+use Rattle.msp_closure.specs.declared.links.Link.{Link}
+use Rattle.msp_closure.specs.Links.{link, AreLinks}
 use Rattle.msp_closure.proofs.TableLemmas.{value_of-set_same, value_of-set_other, below_next}
 
--- a pass begins with nothing done
-pub Advances-start : (usable : ℕ → Bool) (t : List ℕ) (level : ℕ) → Advances usable t t level false 0
-Advances-start usable t level = record {
-  keeps = λ c near. refl;
-  reaches = λ c far near. absurd (near far);
-  misses = λ c below. absurd (omega arith);
-  quiet = λ e. refl;
-  falls = omega arith;
-}
-
 -- during a pass a class has the level exactly where it had it before
-leads_before : (usable : ℕ → Bool) (before after : List ℕ) (level n k : ℕ) (changed : Bool) (c : Class) → level < FAR
-    → Advances usable before after level changed n → LeadsToValue usable after c level k → LeadsToValue usable before c level k
-leads_before usable before after level n k changed c small a leads = (
-  leads.0,
-  leads.1,
-  elim (cases_eq (value_of before leads.0) FAR) as (λ _. value_of before leads.0 ≡ level) [
-    | inl far ↦
-        let near : value_of after leads.0 ≢ FAR = λ e. absurd (omega (arith, leads.2)) in
-        absurd (omega (arith, leads.2, (a.reaches leads.0 far near).0))
-    | inr near ↦ sym (a.keeps leads.0 near) ∙ leads.2
-  ],
-)
+level_before : (usable : ℕ → Bool) (before after : List ℕ) (level : ℕ) (changed : Bool) (x : Class) → level < FAR
+    → Raises usable before after level changed → value_of after x ≡ level → value_of before x ≡ level
+level_before usable before after level changed x small r now = elim (cases_eq (value_of before x) FAR) as (λ _. value_of before x ≡ level) [
+  | inl far ↦
+      let near : value_of after x ≢ FAR = λ e. absurd (omega arith) in
+      absurd (omega (arith, (r.reaches x far near).0))
+  | inr near ↦ sym (r.keeps x near) ∙ now
+]
 
-leads_after : (usable : ℕ → Bool) (before after : List ℕ) (level n k : ℕ) (changed : Bool) (c : Class) → level < FAR
-    → Advances usable before after level changed n → LeadsToValue usable before c level k → LeadsToValue usable after c level k
-leads_after usable before after level n k changed c small a leads =
-    let near : value_of before leads.0 ≢ FAR = λ e. absurd (omega (arith, leads.2)) in
-    (leads.0, leads.1, a.keeps leads.0 near ∙ leads.2)
-
--- a class visited without a change
-pub Advances-same : (usable : ℕ → Bool) (before after : List ℕ) (level n : ℕ) (changed : Bool) (c : Class) → level < FAR
-    → rank_of c ≡ n → (value_of after c ≡ FAR → (k : ℕ) → ¬ LeadsToValue usable after c level k)
-    → Advances usable before after level changed n → Advances usable before after level changed (n + 1)
-Advances-same usable before after level n changed c small at missed a = record {
-  keeps = a.keeps;
-  reaches = a.reaches;
-  misses = λ x below far k leads. elim (cases_eq (rank_of x) n) as (λ _. ⊥) [
-    | inl here ↦
-        let same : x ≡ c = rank_of-injective x c (here ∙ sym at) in
-        missed (ap (value_of after) (sym same) ∙ far) k
-        (leads_after usable before after level n k changed c small a
-        (let P : Class → Type 0 = λ y. LeadsToValue usable before y level k in subst P same leads))
-    | inr apart ↦ a.misses x (below_next (rank_of x) n below apart) far k leads
-  ];
-  quiet = a.quiet;
-  falls = a.falls;
-}
+level_after : (usable : ℕ → Bool) (before after : List ℕ) (level : ℕ) (changed : Bool) (x : Class) → level < FAR
+    → Raises usable before after level changed → value_of before x ≡ level → value_of after x ≡ level
+level_after usable before after level changed x small r was =
+    let near : value_of before x ≢ FAR = λ e. absurd (omega arith) in r.keeps x near ∙ was
 
 far_count-set : (t : List ℕ) (c : Class) (v : ℕ) → length t ≡ CLASSES → value_of t c ≡ FAR → v ≢ FAR
     → far_count (set t (rank_of c) v) + 1 ≡ far_count t
@@ -74,48 +43,108 @@ far_count-set t c v len far near =
     omega (arith, sum_by-set (λ x. cond (eqb x FAR) 1 0) t (rank_of c) v 0 below, was, is)
 
 -- a far class gets the next level
-pub Advances-more : (usable : ℕ → Bool) (before after : List ℕ) (level n : ℕ) (changed : Bool) (c : Class) → level + 1 < FAR
-    → length after ≡ CLASSES → rank_of c ≡ n → value_of after c ≡ FAR → (k : ℕ) × LeadsToValue usable after c level k
-    → Advances usable before after level changed n
-    → Advances usable before (set after (rank_of c) (level + 1)) level true (n + 1)
-Advances-more usable before after level n changed c small len at far leads a =
+Raises-more : (usable : ℕ → Bool) (before after : List ℕ) (level : ℕ) (changed : Bool) (c : Class) → level + 1 < FAR
+    → length after ≡ CLASSES → value_of after c ≡ FAR → (k : ℕ) × LeadsToValue usable before c level k
+    → Raises usable before after level changed → Raises usable before (set after (rank_of c) (level + 1)) level true
+Raises-more usable before after level changed c small len far leads r =
     let was_far : value_of before c ≡ FAR = elim (cases_eq (value_of before c) FAR) as (λ _. value_of before c ≡ FAR) [
       | inl e ↦ e
-      | inr near ↦ absurd (near (sym (a.keeps c near) ∙ far))
+      | inr near ↦ absurd (near (sym (r.keeps c near) ∙ far))
     ] in
     let next : value_of (set after (rank_of c) (level + 1)) c ≡ level + 1 = value_of-set_same after c (level + 1) len in
     let other = λ (x : Class) (apart : rank_of x ≢ rank_of c). value_of-set_other after c x (level + 1) apart in
     record {
       keeps = λ x near. elim (cases_eq (rank_of x) (rank_of c)) as (λ _. value_of (set after (rank_of c) (level + 1)) x ≡ value_of before x) [
         | inl same ↦ absurd (near (ap (value_of before) (rank_of-injective x c same) ∙ was_far))
-        | inr apart ↦ other x apart ∙ a.keeps x near
+        | inr apart ↦ other x apart ∙ r.keeps x near
       ];
       reaches = λ x was near. elim (cases_eq (rank_of x) (rank_of c)) as
           (λ _. (value_of (set after (rank_of c) (level + 1)) x ≡ level + 1) × ((k : ℕ) × LeadsToValue usable before x level k)) [
             | inl same ↦
-                let is : x ≡ c = rank_of-injective x c same in (
-                  ap (value_of (set after (rank_of c) (level + 1))) is ∙ next,
-                  (
-                    leads.0,
-                    let P : Class → Type 0 = λ y. LeadsToValue usable before y level leads.0 in
-                        subst P (sym is) (leads_before usable before after level n leads.0 changed c (omega arith) a leads.1),
-                  ),
-                )
+                let is : x ≡ c = rank_of-injective x c same in
+                let P : Class → Type 0 = λ y. LeadsToValue usable before y level leads.0 in
+                (ap (value_of (set after (rank_of c) (level + 1))) is ∙ next, (leads.0, subst P (sym is) leads.1))
             | inr apart ↦
-                let r = a.reaches x was (λ e. near (other x apart ∙ e)) in
-                (other x apart ∙ r.0, r.1)
+                let old = r.reaches x was (λ e. near (other x apart ∙ e)) in
+                (other x apart ∙ old.0, old.1)
           ];
-      misses = λ x below still k. elim (cases_eq (rank_of x) n) as (λ _. LeadsToValue usable before x level k → ⊥) [
-        | inl here ↦ λ l.
-            let is : x ≡ c = rank_of-injective x c (here ∙ sym at) in
-            absurd (omega (arith, sym next ∙ ap (value_of (set after (rank_of c) (level + 1))) (sym is) ∙ still))
-        | inr apart ↦ λ l.
-            let different : rank_of x ≢ rank_of c = λ e. apart (e ∙ at) in
-            a.misses x (below_next (rank_of x) n below apart) (sym (other x different) ∙ still) k l
-      ];
       quiet = λ e. cc;
-      falls = omega (arith, a.falls, far_count-set after c (level + 1) len far (λ e. absurd (omega arith)));
+      falls = omega (arith, r.falls, far_count-set after c (level + 1) len far (λ e. absurd (omega arith)));
     }
+
+-- a pass over the first links: where one leads to a class of the level, its own class is not far
+pub record Passes (usable : ℕ → Bool) (ls : List Link) (before after : List ℕ) (level : ℕ) (changed : Bool) (done : ℕ) : Type 0 where
+  pub raises : Raises usable before after level changed
+  pub misses : (j : ℕ) (d : Link) → j < done → get_or after (get_or ls j d).from 0 ≡ FAR → get_or before (get_or ls j d).to 0 ≢ level
+
+pub Passes-start : (usable : ℕ → Bool) (ls : List Link) (t : List ℕ) (level : ℕ) → Passes usable ls t t level false 0
+Passes-start usable ls t level = record {
+  raises = record {
+    keeps = λ c near. refl;
+    reaches = λ c far near. absurd (near far);
+    quiet = λ e. refl;
+    falls = omega arith;
+  };
+  misses = λ j d below. absurd (omega arith);
+}
+
+module _ (usable : ℕ → Bool) (ls : List Link) (before after : List ℕ) (level n : ℕ) (changed : Bool) (e : Link) (small : level + 1 < FAR)
+    (below : n < length ls) (are : AreLinks usable ls) (p : Passes usable ls before after level changed n) where
+  -- a link visited without a change
+  pub Passes-same : (get_or after (get_or ls n e).from 0 ≡ FAR → get_or after (get_or ls n e).to 0 ≢ level)
+      → Passes usable ls before after level changed (n + 1)
+  Passes-same missed = record {
+    raises = p.raises;
+    misses = λ j d early. elim (cases_eq j n) as (λ _. get_or after (get_or ls j d).from 0 ≡ FAR → get_or before (get_or ls j d).to 0 ≢ level) [
+      | inl here ↦
+          let same : get_or ls j d ≡ get_or ls n e = ap (λ i. get_or ls i d) here ∙ get_or_default ls n d e below in
+          let s = are.sound (get_or ls n e) (Contains-get_or ls n e below) in
+          let to : (get_or ls n e).to ≡ rank_of s.next = ap (λ l. l.to) s.joins in
+          let P : Link → Type 0 = λ l. get_or after l.from 0 ≡ FAR → get_or before l.to 0 ≢ level in
+          subst P (sym same)
+          (λ far was. missed far (ap (λ i. get_or after i 0) to
+          ∙ level_after usable before after level changed s.next (omega arith) p.raises (sym (ap (λ i. get_or before i 0) to) ∙ was)))
+      | inr apart ↦ p.misses j d (below_next j n early apart)
+    ];
+  }
+
+  -- the class of a link gets the next level
+  pub Passes-more : length after ≡ CLASSES → get_or after (get_or ls n e).from 0 ≡ FAR → get_or after (get_or ls n e).to 0 ≡ level
+      → Passes usable ls before (set after (get_or ls n e).from (level + 1)) level true (n + 1)
+  Passes-more len far leads =
+      let s = are.sound (get_or ls n e) (Contains-get_or ls n e below) in
+      let from : (get_or ls n e).from ≡ rank_of s.start = ap (λ l. l.from) s.joins in
+      let to : (get_or ls n e).to ≡ rank_of s.next = ap (λ l. l.to) s.joins in
+      let value : value_of after s.next ≡ level = sym (ap (λ i. get_or after i 0) to) ∙ leads in
+      let led : LeadsToValue usable before s.start level s.row =
+      (s.next, s.steps, level_before usable before after level changed s.next (omega arith) p.raises value) in
+      let P : ℕ → Type 0 = λ i. Raises usable before (set after i (level + 1)) level true in
+      let inside : (get_or ls n e).from < length after = omega (arith, rank_of-below s.start) in
+      let next : get_or (set after (get_or ls n e).from (level + 1)) (get_or ls n e).from 0 ≡ level + 1
+      = get_or-set_same after (get_or ls n e).from (level + 1) 0 inside in
+      record {
+        raises = subst P (sym from)
+            (Raises-more usable before after level changed s.start small len (sym (ap (λ i. get_or after i 0) from) ∙ far) (s.row, led) p.raises);
+        misses = λ j d early still. elim (cases_eq (get_or ls j d).from (get_or ls n e).from) as (λ _. get_or before (get_or ls j d).to 0 ≢ level) [
+          | inl same ↦ absurd (omega (arith, sym next ∙ sym (ap (λ i. get_or (set after (get_or ls n e).from (level + 1)) i 0) same) ∙ still))
+          | inr apart ↦
+              let not_here : j ≢ n = λ here. apart (ap (λ l. l.from) (ap (λ i. get_or ls i d) here ∙ get_or_default ls n d e below)) in
+              p.misses j d (below_next j n early not_here)
+              (sym (get_or-set_other after (get_or ls n e).from (get_or ls j d).from (level + 1) 0 apart) ∙ still)
+        ];
+      }
+
+-- all links are passed
+pub Advances-passed : (usable : ℕ → Bool) (ls : List Link) (before after : List ℕ) (level n : ℕ) (changed : Bool) → length ls ≤ n
+    → AreLinks usable ls → Passes usable ls before after level changed n → Advances usable before after level changed
+Advances-passed usable ls before after level n changed most are p = record {
+  raises = p.raises;
+  misses = λ c far k leads.
+      let has = are.all k c leads.0 leads.1 in
+      let from : (get_or ls has.0 (link c leads.0)).from ≡ rank_of c = ap (λ l. l.from) has.2 in
+      let to : (get_or ls has.0 (link c leads.0)).to ≡ rank_of leads.0 = ap (λ l. l.to) has.2 in
+      p.misses has.0 (link c leads.0) (omega (arith, has.1)) (ap (λ i. get_or after i 0) from ∙ far) (ap (λ i. get_or before i 0) to ∙ leads.2);
+}
 
 -- after some passes the values up to the level are the distances, and all others are far
 pub record IsLevel (usable : ℕ → Bool) (wanted : List Class) (t : List ℕ) (level : ℕ) : Type 0 where
@@ -136,18 +165,18 @@ IsLevel-start usable wanted t zero far = record {
     complete c (k ∷ ks) into short = absurd (omega arith)
 
 module _ (usable : ℕ → Bool) (wanted : List Class) (before after : List ℕ) (level : ℕ) (changed : Bool) (small : level + 1 < FAR)
-    (is : IsLevel usable wanted before level) (a : Advances usable before after level changed CLASSES) where
+    (is : IsLevel usable wanted before level) (a : Advances usable before after level changed) where
   -- a class from which a row leads to a near class is near
   near_from_row : (c x : Class) (k : ℕ) → step_of usable k c ≡ Some x → value_of before x ≢ FAR → value_of after c ≢ FAR
   near_from_row c x k steps near far =
       let low = is.sound x near in
-      let not_level : value_of before x ≢ level = λ e. a.misses c (rank_of-below c) far k (x, steps, e) in
+      let not_level : value_of before x ≢ level = λ e. a.misses c far k (x, steps, e) in
       let parts = step_of-parts usable k c x steps in
       let into : LeadsInto usable wanted c (k ∷ low.1.0) = LeadsInto-step parts.0 parts.1 low.1.2 in
       let short : length (k ∷ low.1.0) ≤ level = omega (arith, low.0, low.1.1) in
       let value : value_of before c ≤ length (k ∷ low.1.0) = is.complete c (k ∷ low.1.0) into short in
       let near_before : value_of before c ≢ FAR = λ e. absurd (omega arith) in
-      near_before (sym (a.keeps c near_before) ∙ far)
+      near_before (sym (a.raises.keeps c near_before) ∙ far)
 
 -- the first classes of the list are at 0, and only classes of the list are near
 pub record StartsAt (wanted : List Class) (t : List ℕ) (n : ℕ) : Type 0 where
@@ -180,12 +209,12 @@ StartsAt-more wanted t n x e below at s =
 
 -- what the next pass makes of the values
 module _ (usable : ℕ → Bool) (wanted : List Class) (before after : List ℕ) (level : ℕ) (changed : Bool) (small : level + 1 < FAR)
-    (is : IsLevel usable wanted before level) (a : Advances usable before after level changed CLASSES) where
+    (is : IsLevel usable wanted before level) (a : Advances usable before after level changed) where
   complete_next : (c : Class) (ks : List ℕ) → LeadsInto usable wanted c ks → length ks ≤ level + 1 → value_of after c ≤ length ks
   complete_next c [] into short =
       let low : value_of before c ≤ 0 = is.complete c [] into (omega arith) in
       let near : value_of before c ≢ FAR = λ e. absurd (omega arith) in
-      omega (arith, a.keeps c near)
+      omega (arith, a.raises.keeps c near)
   complete_next c (k ∷ ks) into short =
       let first = LeadsInto-first into in
       let steps : step_of usable k c ≡ Some first.next = step_of-from usable k c first.next first.is_usable first.goes in
@@ -197,13 +226,13 @@ module _ (usable : ℕ → Bool) (wanted : List Class) (before after : List ℕ)
           | inl early ↦
               let value : value_of before c ≤ length (k ∷ ks) = is.complete c (k ∷ ks) into (omega arith) in
               absurd (omega arith)
-          | inr late ↦ omega (arith, (a.reaches c far reached).0)
+          | inr late ↦ omega (arith, (a.raises.reaches c far reached).0)
         ]
         | inr was ↦ elim (cases_lt (length ks) level) as (λ _. value_of after c ≤ length (k ∷ ks)) [
           | inl early ↦
               let value : value_of before c ≤ length (k ∷ ks) = is.complete c (k ∷ ks) into (omega arith) in
-              omega (arith, a.keeps c was)
-          | inr late ↦ omega (arith, a.keeps c was, (is.sound c was).0)
+              omega (arith, a.raises.keeps c was)
+          | inr late ↦ omega (arith, a.raises.keeps c was, (is.sound c was).0)
         ]
       ]
 
@@ -212,7 +241,7 @@ module _ (usable : ℕ → Bool) (wanted : List Class) (before after : List ℕ)
   sound_next c near = elim (cases_eq (value_of before c) FAR) as
       (λ _. (value_of after c ≤ level + 1) × ((ks : List ℕ) × (length ks ≡ value_of after c) × LeadsInto usable wanted c ks)) [
         | inl far ↦
-            let reached = a.reaches c far near in
+            let reached = a.raises.reaches c far near in
             let k = reached.1.0 in
             let leads = reached.1.1 in
             let next_near : value_of before leads.0 ≢ FAR = λ e. absurd (omega (arith, leads.2)) in
@@ -222,7 +251,7 @@ module _ (usable : ℕ → Bool) (wanted : List Class) (before after : List ℕ)
             (omega (arith, reached.0), (k ∷ low.1.0, long, LeadsInto-step parts.0 parts.1 low.1.2))
         | inr was ↦
             let low = is.sound c was in
-            (omega (arith, low.0, a.keeps c was), (low.1.0, low.1.1 ∙ sym (a.keeps c was), low.1.2))
+            (omega (arith, low.0, a.raises.keeps c was), (low.1.0, low.1.1 ∙ sym (a.raises.keeps c was), low.1.2))
       ]
 
   -- the values are right up to the next level
@@ -235,7 +264,7 @@ module _ (usable : ℕ → Bool) (wanted : List Class) (before after : List ℕ)
       let first = LeadsInto-first into in
       let steps : step_of usable k c ≡ Some first.next = step_of-from usable k c first.next first.is_usable first.goes in
       let near : value_of after first.next ≢ FAR = reached_all still first.next ks first.rest in
-      let near_before : value_of before first.next ≢ FAR = λ e. near (ap (λ t. value_of t first.next) (a.quiet still) ∙ e) in
+      let near_before : value_of before first.next ≢ FAR = λ e. near (ap (λ t. value_of t first.next) (a.raises.quiet still) ∙ e) in
       near_from_row usable wanted before after level changed small is a c first.next k steps near_before
 
   -- a pass that changes nothing ends the walk
@@ -254,7 +283,7 @@ module _ (usable : ℕ → Bool) (wanted : List Class) (before after : List ℕ)
         };
     all = reached_all still;
     few = λ c near.
-        let same : value_of after c ≡ value_of before c = ap (λ t. value_of t c) (a.quiet still) in
+        let same : value_of after c ≡ value_of before c = ap (λ t. value_of t c) (a.raises.quiet still) in
         omega (arith, same, most, (is.sound c (λ e. near (same ∙ e))).0);
   }
 
@@ -262,7 +291,7 @@ pub far_count-most : (t : List ℕ) → length t ≡ CLASSES → far_count t ≤
 far_count-most t len = omega (arith, count_by-le-length (λ v. eqb v FAR) t)
 
 -- a pass that changes something leaves fewer far classes
-pub far_falls : {usable : ℕ → Bool} {before after : List ℕ} {level n : ℕ} {changed : Bool} → Advances usable before after level changed n
+pub far_falls : {usable : ℕ → Bool} {before after : List ℕ} {level : ℕ} {changed : Bool} → Advances usable before after level changed
     → changed ≡ true → far_count after + 1 ≤ far_count before
-far_falls {usable} {before} {after} {level} {n} {changed} a is =
-    let one : ◌≡◌ {A = ℕ} (cond changed 1 0) 1 = cond-true changed 1 0 is in omega (arith, a.falls)
+far_falls {usable} {before} {after} {level} {changed} a is =
+    let one : ◌≡◌ {A = ℕ} (cond changed 1 0) 1 = cond-true changed 1 0 is in omega (arith, a.raises.falls)

@@ -1,5 +1,6 @@
 pub mod StepLemmas
 pub mod TableLemmas
+pub mod LinkLemmas
 pub mod AdvanceLemmas
 pub mod NearestLemmas
 pub mod WayLemmas

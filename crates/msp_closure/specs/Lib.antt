@@ -1,6 +1,7 @@
 pub mod Entries
 pub mod Tables
 pub mod Walk
+pub mod Links
 pub mod Relation
 pub mod Frontier
 pub mod Standing

@@ -1,7 +1,6 @@
 -- What the steps of the private searches keep. No public contract cites this file.
-use Rattle.std.specs.Prelude.{ℕ, ◌≡◌, ◌≢◌, ◌+◌, ◌<◌, ◌≤◌, ◌==◌, Bool, false, List, Option, Some, None, if◌then◌else◌, count_by}
+use Rattle.std.specs.Prelude.{ℕ, ◌≡◌, ◌≢◌, ◌+◌, ◌≤◌, ◌==◌, Bool, false, List, Option, Some, None, if◌then◌else◌, count_by}
 use Rattle.msp_class.specs.declared.class.Class.{Class}
-use Rattle.msp_class.specs.Rank.{rank_of}
 use Rattle.msp_table.specs.Rows.{goes_of}
 use Rattle.msp_closure.specs.declared.distances.TheConstants.{FAR}
 use Rattle.msp_closure.specs.Tables.{value_of}
@@ -18,12 +17,15 @@ LeadsToValue usable table c v k = (x : Class) × (step_of usable k c ≡ Some x)
 abbrev pub far_count : List ℕ → ℕ
 far_count table = count_by (λ v. v == FAR) table
 
--- one pass of the breadth walk over the classes of rank below `done`: a far class gets the next level exactly where a row leads
--- from it to a class of this level, and nothing else changes
-pub record Advances (usable : ℕ → Bool) (before after : List ℕ) (level : ℕ) (changed : Bool) (done : ℕ) : Type 0 where
+-- far classes get the next level, each only where a row leads from it to a class of this level, and nothing else changes
+pub record Raises (usable : ℕ → Bool) (before after : List ℕ) (level : ℕ) (changed : Bool) : Type 0 where
   pub keeps : (c : Class) → value_of before c ≢ FAR → value_of after c ≡ value_of before c
   pub reaches : (c : Class) → value_of before c ≡ FAR → value_of after c ≢ FAR
       → (value_of after c ≡ level + 1) × ((k : ℕ) × LeadsToValue usable before c level k)
-  pub misses : (c : Class) → rank_of c < done → value_of after c ≡ FAR → (k : ℕ) → ¬ LeadsToValue usable before c level k
   pub quiet : changed ≡ false → after ≡ before
   pub falls : far_count after + (if changed then 1 else 0) ≤ far_count before
+
+-- one pass of the breadth walk: a far class gets the next level exactly where a row leads from it to a class of this level
+pub record Advances (usable : ℕ → Bool) (before after : List ℕ) (level : ℕ) (changed : Bool) : Type 0 where
+  pub raises : Raises usable before after level changed
+  pub misses : (c : Class) → value_of after c ≡ FAR → (k : ℕ) → ¬ LeadsToValue usable before c level k

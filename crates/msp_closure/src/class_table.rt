@@ -41,7 +41,7 @@ impl<T: Copy> ClassTable<T> {
         ensures len { length self.now ≡ CLASSES }
         ensures value { (d : T) → slice_index_or self.now (rank_of c) d ≡ result }
     {
-        self.values[rank(c) as usize]
+        self.at_rank(rank(c))
     }
 
     /// Gives a class another value.
@@ -49,7 +49,25 @@ impl<T: Copy> ClassTable<T> {
         ensures len { length self.old ≡ CLASSES }
         ensures written { self.new ≡ slice_set self.old (rank_of c) value }
     {
-        self.values[rank(c) as usize] = value;
+        self.set_rank(rank(c), value);
+    }
+
+    /// The value of the class of a rank.
+    pub(crate) fn at_rank(&self, n: u16) -> T
+        requires { n < CLASSES }
+        ensures len { length self.now ≡ CLASSES }
+        ensures value { (d : T) → slice_index_or self.now n d ≡ result }
+    {
+        self.values[n as usize]
+    }
+
+    /// Gives the class of a rank another value.
+    pub(crate) fn set_rank(&mut self, n: u16, value: T)
+        requires { n < CLASSES }
+        ensures len { length self.old ≡ CLASSES }
+        ensures written { self.new ≡ slice_set self.old n value }
+    {
+        self.values[n as usize] = value;
     }
 }
 

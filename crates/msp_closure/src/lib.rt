@@ -10,6 +10,7 @@ mod distances;
 mod entry;
 mod frontier_lists;
 mod labels;
+mod links;
 mod listing;
 mod reach_bits;
 mod reached;

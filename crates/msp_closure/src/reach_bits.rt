@@ -7,9 +7,8 @@ ghost use Rattle.msp_closure.specs.Tables.{allows, is_marked};
 ghost use Rattle.msp_closure.specs.Relation.{relates, IsReach, IsSound, Rises, Grows, GrowsAt, IncludesMarked, IsClosedBut};
 
 use crate::class_table::{ClassTable, class_at};
-use crate::distances::row_at;
 use crate::relation::Relation;
-use crate::row_set::{RowSet, step};
+use crate::row_set::{RowSet, row_at, step};
 use msp_class::{CLASSES, Class, NoMemory};
 use msp_table::{ROWS, Row};
 use std::alloc::Global;

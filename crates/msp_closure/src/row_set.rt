@@ -1,10 +1,10 @@
 // The rows that a search may use, and its steps.
-ghost use Rattle.std.specs.Prelude.{◌≡◌};
+ghost use Rattle.std.specs.Prelude.{◌≡◌, ◌≤◌};
 ghost use Rattle.msp_closure.specs.Tables.{allows};
 ghost use Rattle.msp_closure.specs.Walk.{step_of};
 
 use msp_class::Class;
-use msp_table::{Row, goes, is_built, keeps_size};
+use msp_table::{ROWS, Row, goes, is_built, keeps_size};
 
 /// The rows that a search may use.
 #[derive(Clone, Copy, Debug, PartialEq, Eq)]
@@ -43,4 +43,13 @@ pub(crate) fn step(rows: RowSet, row: Row, c: Class) -> Option<Class>
     } else {
         None
     }
+}
+
+/// The row of a number.
+pub(crate) fn row_at(n: u8) -> Row
+    requires from_one { 1 ≤ n }
+    requires to_last { n ≤ ROWS }
+    ensures { result ≡ n }
+{
+    Row::new(n).unwrap()
 }

@@ -7,10 +7,10 @@ ghost use Rattle.msp_closure.specs.Tables.{allows, value_of, AreDistances};
 ghost use Rattle.msp_closure.specs.Walk.{step_of, LeadsToValue};
 
 use crate::class_table::ClassTable;
-use crate::distances::{FAR, least_row};
-use crate::row_set::{RowSet, RowStep};
+use crate::distances::FAR;
+use crate::row_set::{RowSet, RowStep, row_at, step};
 use msp_class::{Class, List, NoMemory};
-use msp_table::Row;
+use msp_table::{ROWS, Row};
 use std::alloc::Global;
 
 /// The rows of the chain to the nearest wanted class, by the distances to the wanted classes.
@@ -48,6 +48,35 @@ fn nearer(rows: RowSet, table: &ClassTable<u16>, c: Class) -> Option<RowStep>
         None
     } else {
         least_row(rows, table, c, value - 1)
+    }
+}
+
+/// The least row that leads to a class with the value, and this class.
+fn least_row(rows: RowSet, table: &ClassTable<u16>, c: Class, value: u16) -> Option<RowStep>
+    ensures steps { IfSome result (λ s. step_of (allows rows) s.row c ≡ Some s.next) }
+    ensures value { IfSome result (λ s. value_of table.now s.next ≡ value) }
+    ensures least { IfSome result (λ s. (k : ℕ) → k < s.row → ¬ LeadsToValue (allows rows) table.now c value k) }
+    ensures none { IfNone result ((k : ℕ) → ¬ LeadsToValue (allows rows) table.now c value k) }
+{
+    for k in 1..=ROWS {
+        let row = row_at(k);
+        match step_to(rows, table, row, c, value) {
+            Some(next) => return Some(RowStep { row, next }),
+            None => (),
+        }
+    }
+    None
+}
+
+/// The class to which the row leads, if it has the value.
+fn step_to(rows: RowSet, table: &ClassTable<u16>, row: Row, c: Class, value: u16) -> Option<Class>
+    ensures steps { IfSome result (λ x. step_of (allows rows) row c ≡ Some x) }
+    ensures value { IfSome result (λ x. value_of table.now x ≡ value) }
+    ensures none { IfNone result (¬ LeadsToValue (allows rows) table.now c value row) }
+{
+    match step(rows, row, c) {
+        Some(next) if table.at(next) == value => Some(next),
+        _ => None,
     }
 }
 

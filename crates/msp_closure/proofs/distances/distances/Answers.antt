@@ -1,7 +1,10 @@
 -- The goals of `distances` that are proved by lemmas.
-use Rattle.std.proofs.Common.{◌<◌, ◌+◌, arith}
+use Rattle.std.proofs.Common.{◌<◌, ◌+◌, List, sym, subst, arith}
 use Rattle.msp_closure.specs.declared.distances.TheConstants.{FAR}
+use Rattle.msp_closure.specs.declared.links.Link.{Link}
 use Rattle.msp_closure.specs.Tables.{allows}
+use Rattle.msp_closure.specs.Links.{AreLinks}
+use Rattle.msp_closure.proofs.LinkLemmas.{AreInside-links}
 use Rattle.msp_closure.proofs.AdvanceLemmas.{IsLevel-start, IsLevel-next, AreDistances-quiet, far_count-most, far_falls}
 use Rattle.msp_closure.proofs.distances.distances.Goals as goal
 
@@ -11,15 +14,24 @@ passes-init c = (
   omega (arith, far_count-most c.in_ok-table.table c.in_ok-table.ensures.len),
 )
 
+pub pass-requires-clause-inside : goal.pass-requires-clause-inside
+pass-requires-clause-inside c =
+    let P : List Link → Type 0 = AreLinks (allows c.args.rows) in
+    AreInside-links (allows c.args.rows) c.deref.result.now (subst P (sym c.deref.ensures.value) c.in_ok-links.ensures)
+
 pub passes-preserved : goal.passes-preserved
 passes-preserved c =
-    let small : c.passes.level + 1 < FAR = omega arith in (
-      IsLevel-next (allows c.args.rows) c.args.wanted.now c.passes.table c.pass.new.table c.passes.level c.pass.result small c.passes.invariant.0 c.pass.ensures,
-      omega (arith, c.passes.invariant.1, far_falls c.pass.ensures c.passes-test.true),
+    let small : c.passes.level + 1 < FAR = omega arith in
+    let P : List Link → Type 0 = AreLinks (allows c.args.rows) in
+    let advances = c.pass.ensures (allows c.args.rows) (subst P (sym c.deref.ensures.value) c.in_ok-links.ensures) in (
+      IsLevel-next (allows c.args.rows) c.args.wanted.now c.passes.table c.pass.new.table c.passes.level c.pass.result small c.passes.invariant.0 advances,
+      omega (arith, c.passes.invariant.1, far_falls advances c.passes-test.true),
     )
 
 pub returns : goal.returns
 returns c =
     let small : c.passes.level + 1 < FAR = omega arith in
-    AreDistances-quiet (allows c.args.rows) c.args.wanted.now c.passes.table c.pass.new.table c.passes.level c.pass.result small c.passes.invariant.0 c.pass.ensures
-    c.passes-test.false (omega (arith, c.passes.invariant.1))
+    let P : List Link → Type 0 = AreLinks (allows c.args.rows) in
+    let advances = c.pass.ensures (allows c.args.rows) (subst P (sym c.deref.ensures.value) c.in_ok-links.ensures) in
+    AreDistances-quiet (allows c.args.rows) c.args.wanted.now c.passes.table c.pass.new.table c.passes.level c.pass.result small c.passes.invariant.0
+    advances c.passes-test.false (omega (arith, c.passes.invariant.1))

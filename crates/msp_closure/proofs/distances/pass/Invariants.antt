@@ -1,7 +1,8 @@
 -- What the loop of `pass` keeps.
-use Rattle.msp_closure.specs.Tables.{allows}
-use Rattle.msp_closure.specs.Walk.{Advances}
+use Rattle.std.proofs.Common.{ℕ, Bool}
+use Rattle.msp_closure.specs.Links.{AreLinks}
+use Rattle.msp_closure.proofs.AdvanceLemmas.{Passes}
 use Rattle.msp_closure.proofs.distances.pass.Given as goal
 
-abbrev pub invariant-loop-n : goal.invariant-loop-n
-invariant-loop-n l = Advances (allows l.rows) l.fn.table l.table l.level l.changed l.n
+abbrev pub invariant-loop-link : goal.invariant-loop-link
+invariant-loop-link l = (usable : ℕ → Bool) → AreLinks usable l.links → Passes usable l.links l.fn.table l.table l.level l.changed l.link-index

@@ -3,7 +3,7 @@ use Rattle.std.proofs.Common.{ℕ, ◌<◌, subst, arith, below_more}
 use Rattle.msp_closure.specs.Tables.{allows}
 use Rattle.msp_closure.specs.Walk.{LeadsToValue}
 use Rattle.msp_closure.proofs.StepLemmas.{step_of-numbered}
-use Rattle.msp_closure.proofs.distances.least_row.Goals as goal
+use Rattle.msp_closure.proofs.walk.least_row.Goals as goal
 
 pub loop-k-init : goal.loop-k-init
 loop-k-init c = λ j below leads.
