@@ -7,3 +7,4 @@ pub mod Renumbered
 pub mod Unrelated
 pub mod NeedsBy
 pub mod OnEach
+pub mod Routes

@@ -39,10 +39,16 @@ with_number number p = record p { op = number p }
 abbrev pub numbered : (Piece → ℕ) → Schedule → Schedule
 numbered number s = record s { pieces = map (with_number number) s.pieces }
 
--- Each operation has its place in the route as its number.
-abbrev pub numbered_by_route : Instance → Schedule → Schedule
-numbered_by_route i s = numbered (λ p. place_in_route (job_at i p.job).needs p.op) s
+-- The number of a piece's operation: its place in the job's route, and the number of its machine, as on a flow shop.
+abbrev pub route_number : Instance → Piece → ℕ
+route_number i p = place_in_route (job_at i p.job).needs p.op
 
--- Each operation has the number of its machine, as on a flow shop.
+abbrev pub machine_number : Piece → ℕ
+machine_number p = p.machine
+
+-- The schedule with the numbers of operations in the routes, and with those on the flow shop.
+abbrev pub numbered_by_route : Instance → Schedule → Schedule
+numbered_by_route i s = numbered (route_number i) s
+
 abbrev pub numbered_by_machine : Schedule → Schedule
-numbered_by_machine s = numbered (λ p. p.machine) s
+numbered_by_machine s = numbered machine_number s

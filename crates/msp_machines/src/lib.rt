@@ -10,5 +10,5 @@ mod unrelated;
 pub use environments::{
     Row17, Row18, Row19, Row22, Row25, Row35, Row36, Row37, Row38, Row41, Row42, Row43, Row44,
 };
-pub use shops::{Row28, Row29, Row30, Row31};
+pub use shops::{Row28, Row29, Row30, Row31, Row39, Row40};
 pub use unrelated::{Row23, Row24};

@@ -4,14 +4,16 @@ ghost use Rattle.msp_instance.specs.Conditions.{Inner};
 ghost use Rattle.msp_route.specs.Law.{Applies};
 ghost use Rattle.msp_route.specs.Changes.{same_costs};
 ghost use Rattle.msp_route.proofs.Alike.{IsPositive-same};
-ghost use Rattle.msp_machines.specs.Shops.{with_idle_operation, with_idle_machine};
+ghost use Rattle.msp_machines.specs.Shops.{with_idle_operation, with_idle_machine, without_empty, without_empty_operations, with_number, machine_number, numbered_by_route, numbered_by_machine};
 ghost use Rattle.msp_machines.specs.Served.{IsForth-served, IsBack-served};
 ghost use Rattle.msp_machines.specs.IdleMachines.{serves_28, serves_29, serves_30, serves_31};
+ghost use Rattle.msp_machines.specs.Renumbered.{IsForth-renumbered, IsBack-renumbered};
+ghost use Rattle.msp_machines.specs.Routes.{renumbered_39, renumbered_40};
 
 use msp_class::{List, NoMemory};
 use msp_instance::{Instance, Job, Need};
 use msp_route::{Reduction, led};
-use msp_schedule::Solution;
+use msp_schedule::{Piece, Solution};
 use msp_table::Row;
 use std::alloc::Global;
 
@@ -212,4 +214,133 @@ impl Reduction for Row31 {
     ghost forth_is = { λ self i s inner applies. IsForth-served (serves_31 i inner applies) inner s };
 
     ghost back_is = { λ self i s inner applies. IsBack-served (serves_31 i inner applies) inner s };
+}
+
+/// Leaves out the job's operations of time 0.
+fn leave_out_empty(job: &mut Job)
+    ensures { job.new ≡ without_empty job.old }
+{
+    let mut needs = job.needs.take_all();
+    needs.retain(|need| need.time != 0);
+    job.needs = List::from_vec(needs);
+}
+
+fn leave_out_all_empty(jobs: &mut [Job])
+    ensures { jobs.new ≡ map without_empty jobs.old }
+{
+    for job in jobs.iter_mut() {
+        leave_out_empty(job);
+    }
+}
+
+/// The instance of the class to which the row leads, whose jobs have the operations that take time.
+fn without_empty_operations(alloc: Global, inst: &Instance, row: Row) -> Result<Instance, NoMemory>
+    requires applies { Applies row inst.now }
+    ensures { IfOk result (λ j. j ≡ without_empty_operations row inst.now) }
+{
+    let mut lower = led(alloc, inst, row)?;
+    let mut jobs = lower.jobs.take_all();
+    leave_out_all_empty(&mut jobs);
+    lower.jobs = List::from_vec(jobs);
+    Ok(lower)
+}
+
+fn number_by_machine(pieces: &mut [Piece])
+    ensures { pieces.new ≡ map (with_number machine_number) pieces.old }
+{
+    for piece in pieces.iter_mut() {
+        piece.op = piece.machine;
+    }
+}
+
+/// Gives each operation the number of its machine, which it has on a flow shop.
+fn numbered_by_machine(mut solution: Solution) -> Solution
+    ensures { result ≡ record solution { schedule = numbered_by_machine solution.schedule } }
+{
+    let mut pieces = solution.schedule.pieces.take_all();
+    number_by_machine(&mut pieces);
+    solution.schedule.pieces = List::from_vec(pieces);
+    solution
+}
+
+/// A flow shop of two machines is a job shop of at most two operations a job: those that take time (Lageweg, Lawler, Lenstra and Rinnooy Kan 1982).
+#[derive(Clone, Copy, Debug)]
+pub struct Row39;
+
+impl Reduction for Row39 {
+    ghost number = { λ self. 39 };
+
+    ghost lower = { λ self. without_empty_operations 39 };
+
+    ghost rate = { λ self i. same_costs };
+
+    ghost forth = { λ self. numbered_by_route };
+
+    ghost upper = { λ self i. numbered_by_machine };
+
+    fn row(&self) -> Row {
+        Row::new(39).unwrap()
+    }
+
+    fn down(&self, alloc: Global, inst: &Instance) -> Result<Instance, NoMemory> {
+        without_empty_operations(alloc, inst, self.row())
+    }
+
+    fn back(
+        &self,
+        _alloc: Global,
+        _inst: &Instance,
+        solution: Solution,
+    ) -> Result<Solution, NoMemory> {
+        Ok(numbered_by_machine(solution))
+    }
+
+    ghost lower_is = { λ self i inner applies. (renumbered_39 i inner applies).lower };
+
+    ghost rate_is = { λ self i inner applies. IsPositive-same };
+
+    ghost forth_is = { λ self i s inner applies. IsForth-renumbered (renumbered_39 i inner applies) s };
+
+    ghost back_is = { λ self i s inner applies. IsBack-renumbered (renumbered_39 i inner applies) s };
+}
+
+/// A flow shop is a job shop in which each job takes the machines on which it has work in order (Lageweg, Lawler, Lenstra and Rinnooy Kan 1982).
+#[derive(Clone, Copy, Debug)]
+pub struct Row40;
+
+impl Reduction for Row40 {
+    ghost number = { λ self. 40 };
+
+    ghost lower = { λ self. without_empty_operations 40 };
+
+    ghost rate = { λ self i. same_costs };
+
+    ghost forth = { λ self. numbered_by_route };
+
+    ghost upper = { λ self i. numbered_by_machine };
+
+    fn row(&self) -> Row {
+        Row::new(40).unwrap()
+    }
+
+    fn down(&self, alloc: Global, inst: &Instance) -> Result<Instance, NoMemory> {
+        without_empty_operations(alloc, inst, self.row())
+    }
+
+    fn back(
+        &self,
+        _alloc: Global,
+        _inst: &Instance,
+        solution: Solution,
+    ) -> Result<Solution, NoMemory> {
+        Ok(numbered_by_machine(solution))
+    }
+
+    ghost lower_is = { λ self i inner applies. (renumbered_40 i inner applies).lower };
+
+    ghost rate_is = { λ self i inner applies. IsPositive-same };
+
+    ghost forth_is = { λ self i s inner applies. IsForth-renumbered (renumbered_40 i inner applies) s };
+
+    ghost back_is = { λ self i s inner applies. IsBack-renumbered (renumbered_40 i inner applies) s };
 }

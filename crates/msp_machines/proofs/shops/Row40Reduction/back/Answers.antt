@@ -1,0 +1,8 @@
+-- The lower schedule with the numbers of its machines is the upper one.
+use Rattle.std.proofs.Common.{refl}
+use Rattle.msp_machines.specs.Renumbered.{brought_renumbered}
+use Rattle.msp_machines.specs.Routes.{renumbered_40}
+use Rattle.msp_machines.proofs.shops.Row40Reduction.back.Goals as goal
+
+pub returns : goal.returns
+returns c = brought_renumbered (renumbered_40 c.args._inst.now c.requires.inner c.requires.applies) refl c.args.solution c.numbered_by_machine.result c.numbered_by_machine.ensures c.requires.solution c.requires.bounded
