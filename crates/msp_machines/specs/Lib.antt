@@ -8,3 +8,5 @@ pub mod Unrelated
 pub mod NeedsBy
 pub mod OnEach
 pub mod Routes
+pub mod Machines
+pub mod SameJobs

@@ -4,11 +4,13 @@
 #![tactic(auto)]
 
 mod environments;
+mod same_jobs;
 mod shops;
 mod unrelated;
 
 pub use environments::{
     Row17, Row18, Row19, Row22, Row25, Row35, Row36, Row37, Row38, Row41, Row42, Row43, Row44,
 };
+pub use same_jobs::{Row20, Row21, Row32, Row33, Row34};
 pub use shops::{Row28, Row29, Row30, Row31, Row39, Row40};
 pub use unrelated::{Row23, Row24};
