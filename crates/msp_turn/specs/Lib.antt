@@ -3,3 +3,4 @@ pub mod TurnedArcs
 pub mod Reversal
 pub mod ReversalLaw
 pub mod ReversalRows
+pub mod ReversalDates

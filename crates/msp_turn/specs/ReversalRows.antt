@@ -33,14 +33,14 @@ pub record IsReversal (row : ℕ) (addend : ℤ) (i j : Instance) : Type 0 where
   pub reverse : IsReverse addend (pos 0) i j
 
 -- what it takes that a row applies
-some_if : (x y : Bool) (c : Class) → IsSome (if x && y then Some c else None) → (x ≡ true) × (y ≡ true) × ((if x && y then Some c else None) ≡ Some c)
+pub some_if : (x y : Bool) (c : Class) → IsSome (if x && y then Some c else None) → (x ≡ true) × (y ≡ true) × ((if x && y then Some c else None) ≡ Some c)
 some_if true true c h = (refl, refl, refl)
 some_if true false c h = absurd (cc)
 some_if false y c h = absurd (cc)
 
 -- ---- charges
 -- the greatest end charges the end
-cmax_charge : (crit : Crit) (a : Job) (r : ℕ) → crit ≡ Cmax → r ≡ 0 → (unit x : ℤ) → (job_cost crit unit a x +ℤ (pos 0 *ℤ unit)) ≡ (x +ℤ (unit *ℤ pos r))
+pub cmax_charge : (crit : Crit) (a : Job) (r : ℕ) → crit ≡ Cmax → r ≡ 0 → (unit x : ℤ) → (job_cost crit unit a x +ℤ (pos 0 *ℤ unit)) ≡ (x +ℤ (unit *ℤ pos r))
 cmax_charge crit a r e z unit x =
     ap (λ c. job_cost c unit a x +ℤ (pos 0 *ℤ unit)) e ∙ ap (λ y. x +ℤ y) (zero-*ℤ unit ∙ sym (*ℤ-zero unit) ∙ ap (λ n. unit *ℤ pos n) (sym z))
 

@@ -4,7 +4,9 @@
 #![tactic(auto)]
 
 mod arcs;
+mod dates;
 mod reversal;
 mod trees;
 
+pub use dates::{Row47, Row48};
 pub use trees::{Row45, Row46};
