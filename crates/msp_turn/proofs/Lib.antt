@@ -1,1 +1,5 @@
 mod ReversalBounds
+pub mod EndOrder
+pub mod RowSteps
+pub mod LineLimits
+pub mod BroughtBack

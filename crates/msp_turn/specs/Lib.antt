@@ -4,3 +4,6 @@ pub mod Reversal
 pub mod ReversalLaw
 pub mod ReversalRows
 pub mod ReversalDates
+pub mod LinedUp
+pub mod SameRate
+pub mod OneMachine

@@ -1,0 +1,91 @@
+-- Jobs lined up on one machine: their needs, and the limits that the line keeps.
+use Rattle.std.proofs.Common.{◌≡◌, ℕ, ◌+◌, ◌*◌, ◌^◌, ◌<◌, ◌≤◌, List, length, get_or, sum_by, All, IsPermutation, ℤ, pos, ◌≤ℤ◌, refl, sym, ap, subst, ◌∙◌, arith, slice_index_or}
+use Rattle.std.specs.List.{range_with_len}
+use Rattle.std.proofs.lemmas.Int.{ints}
+use Rattle.msp_class.specs.declared.environments.EnvKind.{EnvKind}
+use Rattle.msp_class.specs.declared.environments.EnvKind.TheVariants.{Identical, Unrelated}
+use Rattle.msp_class.specs.declared.class.Env.{Env}
+use Rattle.msp_class.specs.declared.class.Env.TheVariants.{One}
+use Rattle.msp_class.specs.declared.class.Times.{Times}
+use Rattle.msp_class.specs.declared.class.Times.TheVariants.{General, Unit as UnitTimes, Equal}
+use Rattle.msp_class.specs.Env.{kind_of}
+use Rattle.msp_class.proofs.Sums.{sum_by-mono, sum_by-constant, OnceBelow, OnceBelow-from_permutation, length-OnceBelow}
+use Rattle.msp_instance.specs.declared.Instance.{Instance}
+use Rattle.msp_instance.specs.Instance.{no_need, no_job}
+use Rattle.msp_instance.specs.Conditions.{HasShape, HasTimes, Inner, Limits, inner_limits, least_time, greatest_time}
+use Rattle.msp_schedule.specs.declared.Piece.{Piece}
+use Rattle.msp_schedule.specs.declared.Schedule.{Schedule}
+use Rattle.msp_schedule.specs.declared.limits.TheConstants.{GREATEST_UNIT}
+use Rattle.msp_schedule.specs.Feasible.{Feasible}
+use Rattle.msp_schedule.specs.Within.{IsMoment, Within}
+use Rattle.msp_schedule.proofs.Rows.{row, row-to, length-row}
+use Rattle.msp_schedule.proofs.OneMachine.{finish, IsTimed, timed_pieces}
+use Rattle.msp_schedule.proofs.OneRow.{piece, piece_makes, time_at}
+use Rattle.msp_schedule.proofs.LineUp.{lined_up}
+use Rattle.msp_turn.proofs.RowSteps.{short_length, greatest_length}
+
+module _ (i : Instance) (one : i.class.env ≡ One) (inner : Inner i) where
+  in_time : (t : Times) → greatest_time (inner_limits Identical) t ≤ 1000000000
+  in_time General = omega arith
+  in_time UnitTimes = omega arith
+  in_time Equal = omega arith
+
+  pub short_needs : All (λ a. (0 < length a.needs) × ((slice_index_or a.needs 0 no_need).time ≤ 1000000000)) i.jobs
+  short_needs k d l =
+      let n = (inner.conditions.jobs k d l).needs in
+      let shape = subst (λ e. HasShape (kind_of e) e i.machines (get_or i.jobs k d).needs) one n.shape in
+      let S : Env → Type 0 = λ e. HasTimes (least_time (kind_of e) i.class.times) (greatest_time (inner_limits (kind_of e)) i.class.times) (get_or i.jobs k d).needs in
+      let times = subst S one n.times in
+      (omega (arith, shape.0), omega (arith, (times 0 no_need (omega (arith, shape.0))).1, in_time i.class.times))
+
+  pub short_time : (j : ℕ) → j < length i.jobs → time_at i j ≤ 1000000000
+  short_time j l = (short_needs j no_job l).1
+
+  module _ (D : ℕ) (small : pos D ≤ℤ GREATEST_UNIT) (order : List ℕ) (all : IsPermutation (range_with_len 0 (length i.jobs)) order) where
+    abbrev pieces : List Piece
+    pieces = row piece (λ j. D * time_at i j) 0 order
+
+    once : OnceBelow (length i.jobs) order
+    once = OnceBelow-from_permutation all
+
+    pub few_jobs : length order ≤ 400
+    few_jobs = omega (arith, length-OnceBelow once, inner.conditions.few)
+
+    pub within_jobs : All (λ j. j < length i.jobs) order
+    within_jobs = once.within
+
+    pub few_pieces : length pieces ≤ 400
+    few_pieces = omega (arith, length-row piece (λ j. D * time_at i j) 0 order, few_jobs)
+
+    whole : sum_by (λ j. D * time_at i j) order ≤ 4 * 10 ^ 24
+    whole =
+        let each = sum_by-mono (λ j. D * time_at i j) (λ _. greatest_length) order (λ k d l. short_length i D small (get_or order k d) (short_time (get_or order k d) (once.within k d l))) in
+        omega (arith, each, sum_by-constant greatest_length order, few_jobs)
+
+    module _ (f : Feasible i (lined_up i D order)) where
+      timed : All IsTimed pieces
+      timed = timed_pieces i (ap kind_of one) (lined_up i D order) f
+
+      pub line_ends : All (λ p. p.to ≤ℤ pos (4 * 10 ^ 24)) pieces
+      line_ends k d l = early (get_or pieces k d) (timed k d l) (omega (arith, row-to piece (λ j. D * time_at i j) piece_makes 0 order k d l, whole))
+        where
+          early : (p : Piece) → IsTimed p → finish p ≤ 4 * 10 ^ 24 → p.to ≤ℤ pos (4 * 10 ^ 24)
+          early p t h = omega (arith, ints, t.to, h)
+
+      pub line_within : Within i (lined_up i D order)
+      line_within = record {
+        unit = (f.unit, small);
+        few = omega (arith, few_pieces);
+        moments = λ k d l. moments_of (get_or pieces k d) (timed k d l) (line_ends k d l);
+        scaled = λ u. absurd (not_unrelated (sym (ap kind_of one) ∙ u));
+      }
+        where
+          moments_of : (p : Piece) → IsTimed p → p.to ≤ℤ pos (4 * 10 ^ 24) → IsMoment p.from × IsMoment p.to
+          moments_of p t h = ((omega (arith, ints, t.from), omega (arith, ints, t.from, t.to, t.lasts, h)), (omega (arith, ints, t.to), omega (arith, ints, h)))
+
+          not_unrelated : Identical ≡ Unrelated → ⊥
+          not_unrelated h = cc
+
+-- the pieces as a schedule
+pub as_line : (i : Instance) (D : ℕ) (order : List ℕ) (unit : ℤ) (made : List Piece) → unit ≡ pos D → made ≡ row piece (λ j. D * time_at i j) 0 order → record { unit = unit; pieces = made } ≡ lined_up i D order
+as_line i D order unit made e f = ap (λ u. record { unit = u; pieces = made }) e ∙ ap (λ ps. record { unit = pos D; pieces = ps }) f
