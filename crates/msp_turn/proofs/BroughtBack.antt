@@ -1,10 +1,9 @@
 -- What is brought back: the lower schedule as it is, or its jobs lined up.
-use Rattle.std.proofs.Common.{◌≡◌, ℕ, ◌*◌, ◌^◌, ◌≤◌, Bool, true, false, List, length, get_or, All, AllPairs, IsPermutation, ℤ, pos, nat_abs, to_z, of_z, FitsSigned, Result, Ok, Err, IfOk, ◌+ℤ◌, ◌*ℤ◌, ◌≤ℤ◌, if◌then◌else◌, refl, sym, ap, ap₂, subst, ◌∙◌, arith}
+use Rattle.std.proofs.Common.{◌≡◌, ℕ, false, List, length, get_or, AllPairs, IsPermutation, ℤ, pos, nat_abs, to_z, of_z, FitsSigned, Result, Ok, Err, IfOk, ◌+ℤ◌, ◌*ℤ◌, ◌≤ℤ◌, if◌then◌else◌, refl, sym, ap, ap₂, subst, ◌∙◌, arith}
 use Rattle.std.specs.Int.{int_max, w128}
 use Rattle.std.specs.List.{range_with_len}
 use Rattle.std.proofs.lemmas.Int.{ints, to_z-of_z}
 use Rattle.std.proofs.lemmas.List.Sorted.{IsPermutation-refl, IsPermutation-trans}
-use Rattle.msp_class.specs.declared.environments.EnvKind.TheVariants.{Identical}
 use Rattle.msp_class.specs.declared.class.Env.TheVariants.{One}
 use Rattle.msp_class.specs.declared.NoMemory.{NoMemory}
 use Rattle.msp_class.specs.Env.{kind_of}
@@ -20,7 +19,7 @@ use Rattle.msp_schedule.specs.declared.limits.TheConstants.{GREATEST_UNIT}
 use Rattle.msp_schedule.proofs.LineUp.{lined_up, order_of_ends, order_of_ends-only}
 use Rattle.msp_table.specs.Rows.{turns_dates}
 use Rattle.msp_route.specs.Law.{IsBack, IsReordered}
-use Rattle.msp_route.specs.Bounds.{EndsBy, IsBounded, KeepsBounds, greatest_unit, moment_after}
+use Rattle.msp_route.specs.Bounds.{IsBounded, KeepsBounds, greatest_unit, moment_after}
 use Rattle.msp_route.specs.declared.bounds.TheConstants.{GREATEST_LINED_UP, GREATEST_RAISE}
 use Rattle.msp_route.specs.Changes.{same_costs}
 use Rattle.msp_turn.specs.LinedUp.{IsLinedUp}

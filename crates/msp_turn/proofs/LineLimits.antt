@@ -1,8 +1,7 @@
 -- Jobs lined up on one machine: their needs, and the limits that the line keeps.
-use Rattle.std.proofs.Common.{◌≡◌, ℕ, ◌+◌, ◌*◌, ◌^◌, ◌<◌, ◌≤◌, List, length, get_or, sum_by, All, IsPermutation, ℤ, pos, ◌≤ℤ◌, refl, sym, ap, subst, ◌∙◌, arith, slice_index_or}
+use Rattle.std.proofs.Common.{◌≡◌, ℕ, ◌*◌, ◌^◌, ◌<◌, ◌≤◌, List, length, get_or, sum_by, All, IsPermutation, ℤ, pos, ◌≤ℤ◌, sym, ap, subst, ◌∙◌, arith, slice_index_or}
 use Rattle.std.specs.List.{range_with_len}
 use Rattle.std.proofs.lemmas.Int.{ints}
-use Rattle.msp_class.specs.declared.environments.EnvKind.{EnvKind}
 use Rattle.msp_class.specs.declared.environments.EnvKind.TheVariants.{Identical, Unrelated}
 use Rattle.msp_class.specs.declared.class.Env.{Env}
 use Rattle.msp_class.specs.declared.class.Env.TheVariants.{One}
@@ -12,9 +11,8 @@ use Rattle.msp_class.specs.Env.{kind_of}
 use Rattle.msp_class.proofs.Sums.{sum_by-mono, sum_by-constant, OnceBelow, OnceBelow-from_permutation, length-OnceBelow}
 use Rattle.msp_instance.specs.declared.Instance.{Instance}
 use Rattle.msp_instance.specs.Instance.{no_need, no_job}
-use Rattle.msp_instance.specs.Conditions.{HasShape, HasTimes, Inner, Limits, inner_limits, least_time, greatest_time}
+use Rattle.msp_instance.specs.Conditions.{HasShape, HasTimes, Inner, inner_limits, least_time, greatest_time}
 use Rattle.msp_schedule.specs.declared.Piece.{Piece}
-use Rattle.msp_schedule.specs.declared.Schedule.{Schedule}
 use Rattle.msp_schedule.specs.declared.limits.TheConstants.{GREATEST_UNIT}
 use Rattle.msp_schedule.specs.Feasible.{Feasible}
 use Rattle.msp_schedule.specs.Within.{IsMoment, Within}

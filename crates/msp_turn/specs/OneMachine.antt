@@ -1,5 +1,5 @@
 -- The rows between cut and uncut jobs on one machine without release dates: the laws. No public contract cites this file.
-use Rattle.std.proofs.Common.{◌≡◌, ◌≢◌, ℕ, ◌<◌, Bool, true, false, not, List, length, get_or, All, AllPairs, ℤ, pos, nat_abs, ◌≤ℤ◌, inl, Some, None, IsSome, unwrap_or, if◌then◌else◌, refl, sym, ap, subst, ◌∙◌, arith}
+use Rattle.std.proofs.Common.{◌≡◌, ◌≢◌, ℕ, ◌<◌, Bool, true, false, not, List, length, All, AllPairs, pos, nat_abs, ◌≤ℤ◌, inl, Some, None, IsSome, unwrap_or, if◌then◌else◌, refl, sym, ap, subst, ◌∙◌, arith}
 use Rattle.std.specs.Prelude.{◌&&◌}
 use Rattle.std.proofs.lemmas.Bool.{eqb-true}
 use Rattle.std.proofs.lemmas.Int.{ints}
@@ -126,8 +126,8 @@ pub record IsNoDearer (i j : Instance) (s t : Schedule) : Type 0 where
 pub lined_by_ends : (i j : Instance) → IsLine i → IsLine j → SameLine i j → SameCharges i j → ((k : ℕ) → k < length j.jobs → (job_at j k).release ≡ 0) → (s : Schedule) → Feasible i s → IsNoDearer i j s (lined_up j (nat_abs s.unit) (order_of_ends i s))
 lined_by_ends i j line other same charges heads s f = record {
   feasible = Feasible-lined_up j other (nat_abs s.unit) (omega (arith, ints, f.unit)) order (subst (λ n. OnceBelow n order) same.count once) heads
-  (subst (λ l. AllPairs (MayPrecede l) order) same.arcs (forward_by_ends i line s f order once rises))
-  (subst (λ l. All (λ a. a.before ≢ a.after) l) same.arcs (loose_by_ends i line s f order once rises));
+      (subst (λ l. AllPairs (MayPrecede l) order) same.arcs (forward_by_ends i line s f order once rises))
+      (subst (λ l. All (λ a. a.before ≢ a.after) l) same.arcs (loose_by_ends i line s f order once rises));
   unit = sym (natural s.unit (omega (arith, ints, f.unit)));
   cost = cost-lined_up i j line other same s f order once rises charges;
 }

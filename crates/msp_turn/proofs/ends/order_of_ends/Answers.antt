@@ -1,5 +1,5 @@
 -- The numbers of the sorted ends.
-use Rattle.std.proofs.Common.{◌≡◌, ◌∙◌, ap, map, List, ℕ, AllPairs, IsPermutation, ◌≤ℤ◌}
+use Rattle.std.proofs.Common.{◌≡◌, ◌∙◌, ap, map, AllPairs, IsPermutation, ◌≤ℤ◌}
 use Rattle.std.specs.List.{range_with_len}
 use Rattle.std.proofs.lemmas.Result.{IfOk-weaker}
 use Rattle.msp_schedule.specs.Cost.{end_of}

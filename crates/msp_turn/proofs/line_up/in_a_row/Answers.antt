@@ -1,9 +1,9 @@
 -- One more job is laid at the end of the row.
-use Rattle.std.proofs.Common.{ℕ, ◌≡◌, ◌*◌, ◌+◌, ◌≤◌, ◌^◌, ◌∙◌, refl, rules, get_or, pos, arith}
+use Rattle.std.proofs.Common.{ℕ, ◌≡◌, ◌*◌, ◌+◌, refl, rules, get_or, arith}
 use Rattle.std.proofs.lemmas.Int.{ints, to_z-of_z}
 use Rattle.std.specs.Int.{w128}
 use Rattle.msp_schedule.proofs.OneRow.{time_at}
-use Rattle.msp_turn.proofs.RowSteps.{on_ok, laid-next, ends-next, length_read, greatest_length, moment-next}
+use Rattle.msp_turn.proofs.RowSteps.{on_ok, laid-next, ends-next, length_read, moment-next}
 use Rattle.msp_turn.proofs.line_up.in_a_row.Goals as goal
 
 pub overflow_add-end : goal.overflow_add-end

@@ -1,12 +1,8 @@
 -- The jobs are lined up in the order of their ends.
-use Rattle.std.proofs.Common.{List, ℕ, refl}
+use Rattle.std.proofs.Common.{refl}
 use Rattle.std.proofs.lemmas.List.Sorted.{IsPermutation-refl}
 use Rattle.std.proofs.lemmas.Result.{IfOk-weaker}
-use Rattle.msp_schedule.specs.declared.Solution.{Solution}
-use Rattle.msp_schedule.specs.Cost.{IsSolution}
-use Rattle.msp_route.specs.Law.{IsBack, IsReordered}
-use Rattle.msp_route.specs.Bounds.{KeepsBounds}
-use Rattle.msp_route.specs.Changes.{led, same_costs}
+use Rattle.msp_route.specs.Changes.{led}
 use Rattle.msp_turn.specs.LinedUp.{by_ends, IsLinedUp}
 use Rattle.msp_turn.specs.OneMachine.{Recuts-50, led-env, lower_50, back_50}
 use Rattle.msp_turn.proofs.BroughtBack.{IsBrought, found_feasible, found_brought, each_of}
