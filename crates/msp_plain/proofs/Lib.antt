@@ -1,1 +1,4 @@
 mod InTime
+mod Sweeps
+mod Closed
+mod EqualBounds

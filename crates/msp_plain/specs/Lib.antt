@@ -2,5 +2,8 @@ pub mod Changes
 pub mod Threshold
 pub mod Names
 pub mod Curves
+pub mod Equal
+pub mod EqualLaws
+pub mod Lengths
 pub mod Raised
 pub mod Examples
