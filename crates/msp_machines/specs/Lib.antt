@@ -10,3 +10,7 @@ pub mod OnEach
 pub mod Routes
 pub mod Machines
 pub mod SameJobs
+pub mod LeastMultiple
+pub mod StretchedCharges
+pub mod StretchedInner
+pub mod Stretched

@@ -26,18 +26,15 @@ some_time : (needs : List Need) (n top : ℕ) → 1 ≤ n → length needs ≡ n
 some_time needs n top some e h = let inside : 0 < length needs = omega arith in (0, get_or needs 0 no_need, inside, get_or_default needs 0 (get_or needs 0 no_need) no_need inside, (h 0 no_need inside).0)
 
 -- they are the needs of a job of an instance on that many unrelated machines, where times are in range
-pub HasNeeds-needs_by : (i : Instance) (time : ℕ → ℕ) → kind_of i.class.env ≡ Unrelated → 1 ≤ i.machines → ((m : ℕ) → m < i.machines → (1 ≤ time m) × (time m ≤ greatest_time (inner_limits Unrelated) i.class.times)) → HasNeeds (inner_limits (kind_of i.class.env)) i (needs_by i.machines time)
-HasNeeds-needs_by i time kind some h = record {
-  shape = subst (λ k. HasShape k i.class.env i.machines needs) (sym kind) (IsNeedPerMachine-needs_by i.machines time);
-  times = subst (λ k. HasTimes (least_time k i.class.times) (greatest_time (inner_limits k) i.class.times) needs) (sym kind) times;
-  some = some_time needs i.machines _ some (length-needs_by i.machines time) times;
+pub HasNeeds-needs_by : (i : Instance) (n : ℕ) (time : ℕ → ℕ) → kind_of i.class.env ≡ Unrelated → n ≡ i.machines → 1 ≤ n → ((m : ℕ) → m < n → (1 ≤ time m) × (time m ≤ greatest_time (inner_limits Unrelated) i.class.times)) → HasNeeds (inner_limits (kind_of i.class.env)) i (needs_by n time)
+HasNeeds-needs_by i n time kind count some h = record {
+  shape = subst (λ k. HasShape k i.class.env i.machines (needs_by n time)) (sym kind) (subst (λ m. IsNeedPerMachine m (needs_by n time)) count (IsNeedPerMachine-needs_by n time));
+  times = subst (λ k. HasTimes (least_time k i.class.times) (greatest_time (inner_limits k) i.class.times) (needs_by n time)) (sym kind) times;
+  some = some_time (needs_by n time) n _ some (length-needs_by n time) times;
 }
   where
-    needs : List Need
-    needs = needs_by i.machines time
-
-    times : HasTimes 1 (greatest_time (inner_limits Unrelated) i.class.times) needs
-    times = All-needs_by (λ x. (1 ≤ x.time) × (x.time ≤ greatest_time (inner_limits Unrelated) i.class.times)) i.machines time h
+    times : HasTimes 1 (greatest_time (inner_limits Unrelated) i.class.times) (needs_by n time)
+    times = All-needs_by (λ x. (1 ≤ x.time) × (x.time ≤ greatest_time (inner_limits Unrelated) i.class.times)) n time h
 
 -- the needs on one machine more
 pub next_needs : (new needs : List Need) (n : ℕ) (time : ℕ → ℕ) → new ≡ needs ++ need_on time n ∷ [] → needs ≡ needs_by n time → new ≡ needs_by (n + 1) time

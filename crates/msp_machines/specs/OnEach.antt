@@ -80,7 +80,7 @@ module _ (row : ℕ) (i : Instance) (e : Env) (from : kind_of i.class.env ≡ Id
       HasNeeds (inner_limits (kind_of e)) lower (needs_by i.machines (λ m. (slice_index_or needs 0 no_need).time)) × HasSameTimes i.class.times (common_time lower) (needs_by i.machines (λ m. (slice_index_or needs 0 no_need).time))
   own needs h same =
       let t = h.times 0 no_need (single needs h) in (
-        HasNeeds-needs_by lower (λ m. (slice_index_or needs 0 no_need).time) to machines_some (λ m l.
+        HasNeeds-needs_by lower i.machines (λ m. (slice_index_or needs 0 no_need).time) to refl machines_some (λ m l.
             (subst (λ k. least_time k i.class.times ≤ (slice_index_or needs 0 no_need).time) from t.0, greater i.class.times (slice_index_or needs 0 no_need).time (subst (λ k. (slice_index_or needs 0 no_need).time ≤ greatest_time (inner_limits k) i.class.times) from t.1))),
         subst (λ s. HasSameTimes i.class.times s (needs_by i.machines (λ m. (slice_index_or needs 0 no_need).time))) (sym shared_is) (same_times i.class.times (common_time i) needs i.machines (single needs h) same),
       )

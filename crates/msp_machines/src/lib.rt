@@ -13,4 +13,4 @@ pub use environments::{
 };
 pub use same_jobs::{Row20, Row21, Row32, Row33, Row34};
 pub use shops::{Row28, Row29, Row30, Row31, Row39, Row40};
-pub use unrelated::{Row23, Row24};
+pub use unrelated::{Row23, Row24, Row26, Row27};

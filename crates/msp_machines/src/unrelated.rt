@@ -1,16 +1,27 @@
 // The rows to unrelated machines.
-ghost use Rattle.std.specs.Prelude.{◌≡◌, IfOk, map};
+ghost use Rattle.std.specs.Prelude.{◌≡◌, ℕ, ◌*◌, ◌/◌, ◌^◌, ◌<◌, ◌≤◌, IfOk, map, length, slice_index_or, All, pos, ◌*ℤ◌, ◌≤ℤ◌};
+ghost use Rattle.msp_instance.specs.declared.ranges.TheConstants.{GREATEST, GREATEST_MULTIPLE, GREATEST_SPEED, MOST_MACHINES};
+ghost use Rattle.msp_instance.specs.Conditions.{HasSmallMultiple, LiesWithin, Inner};
+ghost use Rattle.msp_class.specs.declared.environments.EnvKind.TheVariants.{Uniform};
+ghost use Rattle.msp_class.specs.Env.{kind_of};
+ghost use Rattle.msp_schedule.specs.declared.limits.TheConstants.{GREATEST_CARRIED_UNIT};
+ghost use Rattle.msp_schedule.specs.Feasible.{Feasible};
+ghost use Rattle.msp_schedule.specs.Within.{Within};
+ghost use Rattle.msp_schedule.specs.Cost.{IsSolution};
+ghost use Rattle.msp_instance.specs.Multiples.{IsGreatestDivisor, IsLeastMultiple};
 ghost use Rattle.msp_route.specs.Law.{Applies};
 ghost use Rattle.msp_route.specs.Changes.{same_costs};
 ghost use Rattle.msp_route.proofs.Alike.{IsPositive-same};
-ghost use Rattle.msp_machines.specs.Unrelated.{needs_by, only_time, on_each_machine, led_to_each};
+ghost use Rattle.msp_machines.specs.Unrelated.{needs_by, only_time, on_each_machine, led_to_each, least_common_multiple, stretched_step, stretched_curve, stretched, led_by_speeds, speed_rate, stretched_schedule, shrunk_schedule};
+ghost use Rattle.msp_machines.specs.StretchedInner.{IsStretchable};
+ghost use Rattle.msp_machines.specs.Stretched.{led_26, led_27};
 ghost use Rattle.msp_machines.specs.OnEach.{serves_23, serves_24};
 ghost use Rattle.msp_machines.specs.Served.{IsForth-served, IsBack-served};
 
 use msp_class::{List, NoMemory};
-use msp_instance::{Instance, Job, Need};
+use msp_instance::{Curve, Instance, Job, Need, Step};
 use msp_route::{Reduction, led};
-use msp_schedule::Solution;
+use msp_schedule::{Schedule, Solution, cost};
 use msp_table::Row;
 use std::alloc::Global;
 
@@ -142,4 +153,270 @@ impl Reduction for Row24 {
     ghost forth_is = { λ self i s inner applies. IsForth-served (serves_24 i inner applies) inner s };
 
     ghost back_is = { λ self i s inner applies. IsBack-served (serves_24 i inner applies) inner s };
+}
+
+/// The greatest common divisor (Euclid).
+fn gcd(a: u64, b: u64) -> u64
+    ensures { IsGreatestDivisor a b result }
+{
+    let mut x = a;
+    let mut y = b;
+    while y != 0 {
+        let rest = x % y;
+        x = y;
+        y = rest;
+    }
+    x
+}
+
+/// The least common multiple of two numbers.
+fn common_multiple(a: u64, b: u64) -> u64
+    requires a { (1 ≤ a) × (a ≤ GREATEST_MULTIPLE) }
+    requires b { (1 ≤ b) × (b ≤ GREATEST_SPEED) }
+    ensures least { IsLeastMultiple a b result }
+    ensures some { 1 ≤ result }
+{
+    a / gcd(a, b) * b
+}
+
+/// The least common multiple of all speeds.
+fn least_common_multiple(speeds: &[u64]) -> u64
+    requires speeds { All (λ s. (1 ≤ s) × (s ≤ GREATEST_SPEED)) speeds.now }
+    requires small { HasSmallMultiple speeds.now }
+    ensures value { result ≡ least_common_multiple speeds.now }
+    ensures small { result ≤ GREATEST_MULTIPLE }
+{
+    let mut multiple = 1;
+    for speed in speeds {
+        multiple = common_multiple(multiple, *speed);
+    }
+    multiple
+}
+
+fn product(a: u64, b: u64) -> u64
+    requires a { a < 2 ^ 31 }
+    requires b { b < 2 ^ 31 }
+    ensures { result ≡ a * b }
+{
+    a * b
+}
+
+fn signed_product(factor: u64, x: i64) -> i64
+    requires factor { factor ≤ GREATEST_MULTIPLE }
+    requires x { LiesWithin (2 * GREATEST) x }
+    ensures { result ≡ pos factor *ℤ x }
+{
+    factor as i64 * x
+}
+
+/// One need on each machine, with the time multiplied by the factor and divided by the speed.
+fn needs_by_speeds(
+    alloc: Global,
+    time: u64,
+    factor: u64,
+    speeds: &[u64],
+) -> Result<List<Need>, NoMemory>
+    requires time { time ≤ GREATEST }
+    requires factor { factor ≤ GREATEST_MULTIPLE }
+    requires speeds { All (λ s. 1 ≤ s) speeds.now }
+    requires few { length speeds.now ≤ MOST_MACHINES }
+    ensures { IfOk result (λ needs. needs ≡ needs_by (length speeds.now) (λ m. time * (factor / slice_index_or speeds.now m 0))) }
+{
+    let mut needs = List::new(alloc);
+    for (machine, speed) in speeds.iter().enumerate() {
+        let need = Need {
+            machine: machine as u32,
+            time: product(time, factor / *speed),
+        };
+        if needs.push(need).is_err() {
+            return Err(NoMemory);
+        }
+    }
+    Ok(needs)
+}
+
+fn stretch_step(factor: u64, step: &mut Step)
+    requires factor { factor ≤ GREATEST_MULTIPLE }
+    requires step { (step.old.above ≤ GREATEST) × (step.old.add ≤ GREATEST) }
+    ensures { step.new ≡ stretched_step factor step.old }
+{
+    step.above = product(factor, step.above);
+    step.add = product(factor, step.add);
+}
+
+fn stretch_steps(factor: u64, steps: &mut [Step])
+    requires factor { factor ≤ GREATEST_MULTIPLE }
+    requires steps { All (λ s. (s.above ≤ GREATEST) × (s.add ≤ GREATEST)) steps.old }
+    ensures { steps.new ≡ map (stretched_step factor) steps.old }
+{
+    for step in steps.iter_mut() {
+        stretch_step(factor, step);
+    }
+}
+
+fn stretch_curve(factor: u64, curve: &mut Curve)
+    requires factor { factor ≤ GREATEST_MULTIPLE }
+    requires base { LiesWithin (2 * GREATEST) curve.old.base }
+    requires steps { All (λ s. (s.above ≤ GREATEST) × (s.add ≤ GREATEST)) curve.old.steps }
+    ensures { curve.new ≡ stretched_curve factor curve.old }
+{
+    curve.base = signed_product(factor, curve.base);
+    let mut steps = curve.steps.take_all();
+    stretch_steps(factor, &mut steps);
+    curve.steps = List::from_vec(steps);
+}
+
+/// Multiplies the times of a job on uniform machines, and gives it a need on each machine.
+fn stretch(alloc: Global, job: &mut Job, factor: u64, speeds: &[u64]) -> Result<(), NoMemory>
+    requires job { IsStretchable job.old }
+    requires factor { factor ≤ GREATEST_MULTIPLE }
+    requires speeds { All (λ s. 1 ≤ s) speeds.now }
+    requires few { length speeds.now ≤ MOST_MACHINES }
+    ensures { IfOk result (λ done. job.new ≡ stretched factor speeds.now job.old) }
+{
+    job.needs = needs_by_speeds(alloc, only_time(job), factor, speeds)?;
+    job.release = product(factor, job.release);
+    job.due = signed_product(factor, job.due);
+    stretch_curve(factor, &mut job.curve);
+    Ok(())
+}
+
+fn stretch_all(alloc: Global, jobs: &mut [Job], factor: u64, speeds: &[u64]) -> Result<(), NoMemory>
+    requires jobs { All IsStretchable jobs.old }
+    requires factor { factor ≤ GREATEST_MULTIPLE }
+    requires speeds { All (λ s. 1 ≤ s) speeds.now }
+    requires few { length speeds.now ≤ MOST_MACHINES }
+    ensures { IfOk result (λ done. jobs.new ≡ map (stretched factor speeds.now) jobs.old) }
+{
+    for job in jobs.iter_mut() {
+        stretch(alloc, job, factor, speeds)?;
+    }
+    Ok(())
+}
+
+/// The instance to which the row from uniform machines leads.
+fn led_by_speeds(alloc: Global, inst: &Instance, row: Row) -> Result<Instance, NoMemory>
+    requires inner { Inner inst.now }
+    requires applies { Applies row inst.now }
+    requires uniform { kind_of inst.now.class.env ≡ Uniform }
+    ensures { IfOk result (λ lower. lower ≡ led_by_speeds row inst.now) }
+{
+    let speeds = inst.speeds.as_slice();
+    let factor = least_common_multiple(speeds);
+    let mut lower = led(alloc, inst, row)?;
+    let mut jobs = lower.jobs.take_all();
+    stretch_all(alloc, &mut jobs, factor, speeds)?;
+    lower.jobs = List::from_vec(jobs);
+    lower.speeds = List::new(alloc);
+    Ok(lower)
+}
+
+/// The same pieces over a unit that is as many times as large.
+fn shrunk(schedule: Schedule, factor: u64) -> Schedule
+    requires unit { (pos 1 ≤ℤ schedule.unit) × (schedule.unit ≤ℤ GREATEST_CARRIED_UNIT) }
+    requires factor { factor ≤ GREATEST_MULTIPLE }
+    ensures { result ≡ shrunk_schedule factor schedule }
+{
+    Schedule {
+        unit: schedule.unit * factor as i128,
+        pieces: schedule.pieces,
+    }
+}
+
+/// The solution on uniform machines from a schedule of the instance to which the row leads.
+fn solution_by_speeds(inst: &Instance, schedule: Schedule) -> Solution
+    requires inner { Inner inst.now }
+    requires uniform { kind_of inst.now.class.env ≡ Uniform }
+    requires unit { (pos 1 ≤ℤ schedule.unit) × (schedule.unit ≤ℤ GREATEST_CARRIED_UNIT) }
+    requires within { Within inst.now (shrunk_schedule (least_common_multiple inst.now.speeds) schedule) }
+    requires feasible { Feasible inst.now (shrunk_schedule (least_common_multiple inst.now.speeds) schedule) }
+    ensures schedule { result.schedule ≡ shrunk_schedule (least_common_multiple inst.now.speeds) schedule }
+    ensures solution { IsSolution inst.now result }
+{
+    let schedule = shrunk(schedule, least_common_multiple(inst.speeds.as_slice()));
+    let cost = cost(inst, &schedule);
+    Solution { schedule, cost }
+}
+
+/// Uniform machines are unrelated ones: with times as long as the least common multiple of the speeds, each job takes its time
+/// divided by the speed (Lageweg, Lawler, Lenstra and Rinnooy Kan 1982).
+#[derive(Clone, Copy, Debug)]
+pub struct Row26;
+
+impl Reduction for Row26 {
+    ghost number = { λ self. 26 };
+
+    ghost lower = { λ self. led_by_speeds 26 };
+
+    ghost rate = { λ self. speed_rate };
+
+    ghost forth = { λ self i. stretched_schedule (least_common_multiple i.speeds) };
+
+    ghost upper = { λ self i. shrunk_schedule (least_common_multiple i.speeds) };
+
+    fn row(&self) -> Row {
+        Row::new(26).unwrap()
+    }
+
+    fn down(&self, alloc: Global, inst: &Instance) -> Result<Instance, NoMemory> {
+        led_by_speeds(alloc, inst, self.row())
+    }
+
+    fn back(
+        &self,
+        _alloc: Global,
+        inst: &Instance,
+        solution: Solution,
+    ) -> Result<Solution, NoMemory> {
+        Ok(solution_by_speeds(inst, solution.schedule))
+    }
+
+    ghost lower_is = { λ self i inner applies. (led_26 i inner applies).lower };
+
+    ghost rate_is = { λ self i inner applies. (led_26 i inner applies).rate };
+
+    ghost forth_is = { λ self i s inner applies. (led_26 i inner applies).forth s };
+
+    ghost back_is = { λ self i s inner applies. (led_26 i inner applies).back s };
+}
+
+/// Two uniform machines are unrelated ones, in the same way (Lageweg, Lawler, Lenstra and Rinnooy Kan 1982).
+#[derive(Clone, Copy, Debug)]
+pub struct Row27;
+
+impl Reduction for Row27 {
+    ghost number = { λ self. 27 };
+
+    ghost lower = { λ self. led_by_speeds 27 };
+
+    ghost rate = { λ self. speed_rate };
+
+    ghost forth = { λ self i. stretched_schedule (least_common_multiple i.speeds) };
+
+    ghost upper = { λ self i. shrunk_schedule (least_common_multiple i.speeds) };
+
+    fn row(&self) -> Row {
+        Row::new(27).unwrap()
+    }
+
+    fn down(&self, alloc: Global, inst: &Instance) -> Result<Instance, NoMemory> {
+        led_by_speeds(alloc, inst, self.row())
+    }
+
+    fn back(
+        &self,
+        _alloc: Global,
+        inst: &Instance,
+        solution: Solution,
+    ) -> Result<Solution, NoMemory> {
+        Ok(solution_by_speeds(inst, solution.schedule))
+    }
+
+    ghost lower_is = { λ self i inner applies. (led_27 i inner applies).lower };
+
+    ghost rate_is = { λ self i inner applies. (led_27 i inner applies).rate };
+
+    ghost forth_is = { λ self i s inner applies. (led_27 i inner applies).forth s };
+
+    ghost back_is = { λ self i s inner applies. (led_27 i inner applies).back s };
 }

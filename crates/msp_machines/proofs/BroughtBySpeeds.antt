@@ -1,0 +1,83 @@
+-- What is brought back from unrelated machines to uniform ones.
+use Rattle.std.proofs.Common.{◌≡◌, ℕ, ◌^◌, ◌≤◌, inl, inr, false, ℤ, pos, negsuc, ◌+ℤ◌, ◌*ℤ◌, ◌≤ℤ◌, ◌<ℤ◌, if◌then◌else◌, sym, ap, subst, ◌∙◌, arith}
+use Rattle.std.specs.Int.{int_max}
+use Rattle.std.proofs.lemmas.Int.{ints}
+use Rattle.std.proofs.lemmas.Nat.{mul-le}
+use Rattle.std.proofs.lemmas.List.Sorted.{IsPermutation-refl}
+use Rattle.std.specs.List.Sorted.{IsPermutation}
+use Rattle.msp_class.specs.declared.environments.EnvKind.TheVariants.{Uniform, Unrelated}
+use Rattle.msp_class.specs.Env.{kind_of}
+use Rattle.msp_class.proofs.IntegerRing.{≤ℤ_trans, ≤ℤ-int_max_left, pos-le, le-pos}
+use Rattle.msp_instance.specs.declared.ranges.TheConstants.{GREATEST_MULTIPLE}
+use Rattle.msp_instance.specs.declared.Instance.{Instance}
+use Rattle.msp_schedule.specs.declared.limits.TheConstants.{GREATEST_CARRIED_UNIT}
+use Rattle.msp_schedule.specs.declared.Schedule.{Schedule}
+use Rattle.msp_schedule.specs.declared.Solution.{Solution}
+use Rattle.msp_schedule.specs.Feasible.{Feasible}
+use Rattle.msp_schedule.specs.Cost.{IsSolution}
+use Rattle.msp_schedule.specs.Within.{Within, IsUnit, IsMoment}
+use Rattle.msp_table.specs.Rows.{turns_dates}
+use Rattle.msp_route.specs.declared.bounds.TheConstants.{GREATEST_BACK_MOMENT, GREATEST_LINED_UP, GREATEST_RAISE}
+use Rattle.msp_route.specs.Law.{IsBack, IsReordered}
+use Rattle.msp_route.specs.Bounds.{IsBounded, KeepsBounds, greatest_unit}
+use Rattle.msp_machines.specs.Unrelated.{least_common_multiple, speed_rate, shrunk_schedule}
+use Rattle.msp_machines.specs.Stretched.{IsLedBySpeeds}
+
+unit_fits : (u : ℤ) (n : ℕ) → pos 1 ≤ℤ u → u ≤ℤ GREATEST_CARRIED_UNIT → 1 ≤ n → n ≤ GREATEST_MULTIPLE → IsUnit (u *ℤ pos n)
+unit_fits (negsuc u) n h k some small = absurd (omega (arith, ints))
+unit_fits (pos u) n h k some small = (pos-le (mul-le 1 1 u n (le-pos h) some), pos-le (omega (arith, mul-le u n 4096 (2 ^ 30) (le-pos k) small)))
+
+moment : (x y : ℤ) → pos 0 ≤ℤ x → x <ℤ y → y ≤ℤ GREATEST_BACK_MOMENT → IsMoment x × IsMoment y
+moment x y p q r = ((p, omega (arith, ints)), (omega (arith, ints), omega (arith, ints)))
+
+module _ {row : ℕ} {i j : Instance} (h : IsLedBySpeeds row i j) (t : Schedule) (f : Feasible j t) (b : IsBounded j t) where
+  abbrev after : Schedule
+  after = shrunk_schedule (least_common_multiple i.speeds) t
+
+  pub unit_small : (pos 1 ≤ℤ t.unit) × (t.unit ≤ℤ GREATEST_CARRIED_UNIT)
+  unit_small = (f.unit, subst (λ k. t.unit ≤ℤ greatest_unit k) h.to b.sized.unit)
+
+  unit_is : IsUnit (t.unit *ℤ pos (least_common_multiple i.speeds))
+  unit_is = unit_fits t.unit (least_common_multiple i.speeds) unit_small.0 unit_small.1 h.some h.small
+
+  other_kind : (kind_of i.class.env ≡ Unrelated) → ⊥
+  other_kind e = apart (sym h.from ∙ e)
+    where
+      apart : Uniform ≡ Unrelated → ⊥
+      apart e = cc
+
+  pub Within-after : Within i after
+  Within-after = record {
+    unit = unit_is;
+    few = b.sized.few;
+    moments = λ k d l. let s = f.span k d l in moment _ _ s.0 s.1 (b.ends k d l);
+    scaled = λ e. absurd (other_kind e);
+  }
+
+  pub feasible_after : Feasible i after
+  feasible_after = (h.back t f).0
+
+  KeepsBounds-after : turns_dates row ≡ false → KeepsBounds row i j t after
+  KeepsBounds-after stays = record {
+    sized = record { few = b.sized.few; unit = subst (λ k. (t.unit *ℤ pos (least_common_multiple i.speeds)) ≤ℤ greatest_unit k) (sym h.from) unit_is.1 };
+    unit = λ w. elim w [ inl e ↦ absurd (other_kind e) | inr e ↦ absurd (e h.to) ];
+    ends = λ m e k d l. ≤ℤ_trans (e k d l) (subst (λ t. m ≤ℤ (if t then m +ℤ GREATEST_RAISE else int_max m GREATEST_LINED_UP)) (sym stays) (≤ℤ-int_max_left m GREATEST_LINED_UP));
+    cost = λ yes. absurd (cc);
+  }
+
+  -- what is brought back
+  abbrev IsBroughtBack : Solution → Type 0
+  IsBroughtBack s = record {
+    solution : IsSolution i s;
+    law : IsBack (speed_rate i) i j t s.schedule;
+    same : IsReordered after s.schedule;
+    bounds : KeepsBounds row i j t s.schedule;
+  }
+
+  pub brought_back : turns_dates row ≡ false → (s : Solution) → s.schedule ≡ after → IsSolution i s → IsBroughtBack s
+  brought_back stays s e solution = record {
+    solution = solution;
+    law = subst (IsBack (speed_rate i) i j t) (sym e) (h.back t);
+    same = record { unit = ap (λ x. x.unit) e; pieces = subst (λ x. IsPermutation t.pieces x.pieces) (sym e) (IsPermutation-refl t.pieces) };
+    bounds = subst (KeepsBounds row i j t) (sym e) (KeepsBounds-after stays);
+  }
