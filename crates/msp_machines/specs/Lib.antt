@@ -14,3 +14,4 @@ pub mod LeastMultiple
 pub mod StretchedCharges
 pub mod StretchedInner
 pub mod Stretched
+pub mod ShopExamples

@@ -5,6 +5,8 @@
 
 mod environments;
 mod same_jobs;
+#[cfg(test)]
+mod shop_tests;
 mod shops;
 mod unrelated;
 
