@@ -3,3 +3,5 @@ pub mod EndOrder
 pub mod RowSteps
 pub mod LineLimits
 pub mod BroughtBack
+pub mod ExchangeSteps
+pub mod FromLast

@@ -7,3 +7,5 @@ pub mod ReversalDates
 pub mod LinedUp
 pub mod SameRate
 pub mod OneMachine
+pub mod Exchanged
+pub mod ExchangeRows

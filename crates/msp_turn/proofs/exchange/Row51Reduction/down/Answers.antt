@@ -1,0 +1,6 @@
+-- Times and weights are in each other's range.
+use Rattle.msp_turn.specs.ExchangeRows.{exchange_51}
+use Rattle.msp_turn.proofs.exchange.Row51Reduction.down.Goals as goal
+
+pub exchanged-requires-clause-jobs : goal.exchanged-requires-clause-jobs
+exchanged-requires-clause-jobs c = (exchange_51 c.args.inst.now c.requires.inner c.requires.applies).jobs
