@@ -21,7 +21,7 @@ unit_job j = record j { needs = map unit_need j.needs }
 abbrev pub led_to_unit : Instance → Instance
 led_to_unit i = record (led 54 i) { jobs = map unit_job i.jobs }
 
--- The common time of the upper instance times a cost below stands for a cost above.
+-- A cost below, multiplied by the common time, stands for the cost above.
 abbrev pub by_common_time : Instance → Rate
 by_common_time i = record { factor = 1; addend = pos 0; scale = common_time i }
 

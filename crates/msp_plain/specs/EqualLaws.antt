@@ -26,6 +26,7 @@ use Rattle.msp_schedule.specs.declared.Schedule.{Schedule}
 use Rattle.msp_schedule.specs.declared.limits.TheConstants.{GREATEST_UNIT}
 use Rattle.msp_schedule.specs.Feasible.{Feasible}
 use Rattle.msp_schedule.specs.Cost.{cost_of, end_of}
+use Rattle.msp_schedule.proofs.OneMachine.{both_true}
 use Rattle.msp_schedule.proofs.Frames.{IsShaped, IsShaped-from_conditions, job_at-map}
 use Rattle.msp_schedule.proofs.Busy.{busy_moment-lengths}
 use Rattle.msp_schedule.proofs.Permuted.{Feasible-permutation, last_end-permutation}
@@ -43,10 +44,6 @@ some_given : (b g : Bool) (c : Class) → IsSome (if b && true && g then Some c 
 some_given true true c h = (refl, refl, refl)
 some_given true false c h = absurd (cc)
 some_given false g c h = absurd (cc)
-
-both_true : (a b : Bool) → (a && b) ≡ true → (a ≡ true) × (b ≡ true)
-both_true true b h = (refl, h)
-both_true false b h = absurd (cc)
 
 one_true : (a b c : Bool) → (a || b || c) ≡ true → (a ≡ true) ⊎ ((b ≡ true) ⊎ (c ≡ true))
 one_true true b c h = inl refl

@@ -53,7 +53,7 @@ single c = record {
 abbrev pub from_zero : Schedule
 from_zero = record { unit = pos 1; pieces = the_piece ∷ [] }
 
-one_each : {X : Type 0} (P : X → Type 0) (x : X) → P x → All P (x ∷ [])
+pub one_each : {X : Type 0} (P : X → Type 0) (x : X) → P x → All P (x ∷ [])
 one_each P x h = All-cons P x [] h (All-nil P)
 
 no_pairs : {X : Type 0} (R : X → X → Type 0) (xs : List X) → length xs ≤ 1 → AllPairs R xs
@@ -197,7 +197,7 @@ pair = record {
   arcs = [];
 }
 
-two_each : {X : Type 0} (P : X → Type 0) (x y : X) → P x → P y → All P (x ∷ y ∷ [])
+pub two_each : {X : Type 0} (P : X → Type 0) (x y : X) → P x → P y → All P (x ∷ y ∷ [])
 two_each P x y h k = All-cons P x (y ∷ []) h (one_each P y k)
 
 dated_job : (time : ℕ) (due : ℤ) → 1 ≤ time → time ≤ GREATEST * 1 → LiesWithin (2 * GREATEST * 1) due → IsJobOf (inner_limits Identical) pair (dated time due)

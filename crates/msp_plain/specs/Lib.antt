@@ -7,3 +7,4 @@ pub mod EqualLaws
 pub mod Lengths
 pub mod Raised
 pub mod Examples
+pub mod EqualExamples

@@ -2,6 +2,7 @@
 ghost use Rattle.std.specs.Prelude.{◌≡◌, true, false, [], ◌∷◌, IfOk};
 ghost use Rattle.msp_class.specs.declared.class.Env.TheVariants.{One};
 ghost use Rattle.msp_plain.specs.Examples.{single, from_zero, dated, pair};
+ghost use Rattle.msp_plain.specs.EqualExamples.{equal_pair, unit_piece, with_idle};
 
 use crate::*;
 use msp_class::{Class, Crit, Env, List, NoMemory, Order, Times};
@@ -183,6 +184,64 @@ fn pair(alloc: Global) -> Result<Instance, NoMemory>
     })
 }
 
+/// Two jobs of time 3.
+fn equal_pair(alloc: Global) -> Result<Instance, NoMemory>
+    ensures { IfOk result (λ i. i ≡ equal_pair) }
+{
+    let mut jobs = list_of(alloc, dated(alloc, 3, 0)?)?;
+    if jobs.push(dated(alloc, 3, 0)?).is_err() {
+        return Err(NoMemory);
+    }
+    Ok(Instance {
+        class: Class {
+            times: Times::Equal,
+            ..LEAST
+        },
+        machines: 1,
+        speeds: List::new(alloc),
+        jobs,
+        arcs: List::new(alloc),
+    })
+}
+
+fn unit_piece(job: u32, from: u8, to: u8) -> Piece
+    ensures { result ≡ unit_piece job from to }
+{
+    Piece {
+        job,
+        op: 0,
+        machine: 0,
+        from: i128::from(from),
+        to: i128::from(to),
+    }
+}
+
+/// One job from moment 4 to 5, the other from 1 to 2.
+fn with_idle(alloc: Global) -> Result<Schedule, NoMemory>
+    ensures { IfOk result (λ s. s ≡ with_idle) }
+{
+    let mut pieces = list_of(alloc, unit_piece(0, 4, 5))?;
+    if pieces.push(unit_piece(1, 1, 2)).is_err() {
+        return Err(NoMemory);
+    }
+    Ok(Schedule { unit: 1, pieces })
+}
+
+/// Whether the jobs follow each other from 0 on once they are of time 3 again.
+fn idle_is_taken_out(alloc: Global) -> Result<bool, NoMemory> {
+    let inst = equal_pair(alloc)?;
+    let lower = Row54.down(alloc, &inst)?;
+    let schedule = with_idle(alloc)?;
+    let cost = cost(&lower, &schedule);
+    let upper = Row54.back(alloc, &inst, Solution { schedule, cost })?;
+    let [first, second] = upper.schedule.pieces.as_slice() else {
+        return Ok(false);
+    };
+    let early = first.job == 1 && first.from == 0 && first.to == 3;
+    let late = second.job == 0 && second.from == 3 && second.to == 6;
+    Ok(early && late && cost.num == 5 && upper.cost.num == 6 && upper.cost.den == 1)
+}
+
 #[test]
 fn due_dates_are_raised(rt: HostRuntime) -> Result<(), Fail> {
     let inst = pair(rt.alloc())?;
@@ -204,5 +263,11 @@ fn rows_carry_down_and_back(rt: HostRuntime) -> Result<(), Fail> {
 #[test]
 fn a_bound_is_met_at_its_end(rt: HostRuntime) -> Result<(), Fail> {
     assert!(rt; is_late_by_one(rt.alloc())?);
+    Ok(())
+}
+
+#[test]
+fn equal_times_come_back_without_idle(rt: HostRuntime) -> Result<(), Fail> {
+    assert!(rt; idle_is_taken_out(rt.alloc())?);
     Ok(())
 }
