@@ -1,6 +1,7 @@
 pub mod Turned
 pub mod TurnedArcs
 pub mod Reversal
+pub mod Examples
 pub mod ReversalLaw
 pub mod ReversalRows
 pub mod ReversalDates

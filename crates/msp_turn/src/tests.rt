@@ -1,0 +1,172 @@
+// Each row carries an instance down and a schedule back, and the costs are those found by hand.
+ghost use Rattle.std.specs.Prelude.{◌≡◌, ◌∷◌, [], false, IfOk};
+ghost use Rattle.msp_instance.specs.Conditions.{Inner};
+ghost use Rattle.msp_schedule.specs.Feasible.{Feasible};
+ghost use Rattle.msp_schedule.specs.Within.{Within};
+ghost use Rattle.msp_table.specs.Rows.{turns_dates};
+ghost use Rattle.msp_route.specs.Law.{Applies};
+ghost use Rattle.msp_route.specs.Bounds.{IsBounded};
+ghost use Rattle.msp_turn.specs.Examples.{job_of, pair, in_turn};
+
+use crate::*;
+use msp_class::{Class, Crit, Env, List, NoMemory, Order, Times};
+use msp_instance::{Arc, Curve, Instance, Job, Need};
+use msp_route::Reduction;
+use msp_schedule::{Frac, Piece, Schedule, Solution, cost};
+use std::alloc::Global;
+use std::test::Fail;
+
+fn list_of<T: Drop>(alloc: Global, item: T) -> Result<List<T>, NoMemory>
+    ensures { IfOk result (λ l. l ≡ item ∷ []) }
+{
+    let mut list = List::new(alloc);
+    match list.push(item) {
+        Ok(()) => Ok(list),
+        Err(_) => Err(NoMemory),
+    }
+}
+
+fn two<T: Drop>(alloc: Global, first: T, second: T) -> Result<List<T>, NoMemory>
+    ensures { IfOk result (λ l. l ≡ first ∷ second ∷ []) }
+{
+    let mut list = list_of(alloc, first)?;
+    match list.push(second) {
+        Ok(()) => Ok(list),
+        Err(_) => Err(NoMemory),
+    }
+}
+
+fn job_of(alloc: Global, release: u64, time: u64) -> Result<Job, NoMemory>
+    ensures { IfOk result (λ j. j ≡ job_of release time) }
+{
+    Ok(Job {
+        release,
+        due: 0,
+        weight: 1,
+        needs: list_of(alloc, Need { machine: 0, time })?,
+        curve: Curve {
+            slope: 0,
+            base: 0,
+            steps: List::new(alloc),
+        },
+    })
+}
+
+/// Jobs of times 2 and 1 on one machine, the first before the second.
+fn pair(alloc: Global, class: Class, first: u64, second: u64) -> Result<Instance, NoMemory>
+    ensures { IfOk result (λ i. i ≡ pair class first second) }
+{
+    let arc = Arc {
+        before: 0,
+        after: 1,
+    };
+    Ok(Instance {
+        class,
+        machines: 1,
+        speeds: List::new(alloc),
+        jobs: two(alloc, job_of(alloc, first, 2)?, job_of(alloc, second, 1)?)?,
+        arcs: list_of(alloc, arc)?,
+    })
+}
+
+/// The jobs of the pair, each in one piece.
+fn in_turn(alloc: Global, first: i8, second: i8) -> Result<Schedule, NoMemory>
+    ensures { IfOk result (λ s. s ≡ in_turn first second) }
+{
+    let early = Piece {
+        job: 0,
+        op: 0,
+        machine: 0,
+        from: first as i128,
+        to: first as i128 + 2,
+    };
+    let late = Piece {
+        job: 1,
+        op: 0,
+        machine: 0,
+        from: second as i128,
+        to: second as i128 + 1,
+    };
+    Ok(Schedule {
+        unit: 1,
+        pieces: two(alloc, early, late)?,
+    })
+}
+
+fn is(cost: Frac, num: i128) -> bool {
+    cost.num == num && cost.den == 1
+}
+
+/// Whether a schedule two rows below costs the first number, and the second and the third when it is brought back row by row.
+fn costs<A: Reduction, B: Reduction>(
+    alloc: Global,
+    first: &A,
+    second: &B,
+    inst: &Instance,
+    schedule: Schedule,
+    expected: [i128; 3],
+) -> Result<bool, NoMemory>
+    requires inner { Inner inst.now }
+    requires first { Applies (A.number first.now) inst.now }
+    requires second { Applies (B.number second.now) (A.lower first.now inst.now) }
+    requires dates { turns_dates (B.number second.now) ≡ false }
+    requires feasible { Feasible (B.lower second.now (A.lower first.now inst.now)) schedule }
+    requires within { Within (B.lower second.now (A.lower first.now inst.now)) schedule }
+    requires bounded { IsBounded (B.lower second.now (A.lower first.now inst.now)) schedule }
+{
+    let middle = first.down(alloc, inst)?;
+    let low = second.down(alloc, &middle)?;
+    let cost = cost(&low, &schedule);
+    let below = second.back(alloc, &middle, Solution { schedule, cost })?;
+    let between = below.cost;
+    let above = first.back(alloc, inst, below)?;
+    Ok(is(cost, expected[0]) && is(between, expected[1]) && is(above.cost, expected[2]))
+}
+
+const TREE: Class = Class {
+    env: Env::One,
+    cut: false,
+    order: Order::Intree,
+    heads: false,
+    times: Times::General,
+    crit: Crit::Cmax,
+};
+
+/// The schedule idles up to moment 1. Read from its end at 4 it begins at 0.
+fn tree_costs(alloc: Global) -> Result<bool, NoMemory> {
+    let inst = pair(alloc, TREE, 0, 0)?;
+    costs(
+        alloc,
+        &Row45,
+        &Row46,
+        &inst,
+        in_turn(alloc, 1, 3)?,
+        [4, 3, 3],
+    )
+}
+
+const DATED: Class = Class {
+    order: Order::Prec,
+    heads: true,
+    ..TREE
+};
+
+/// Release dates 3 and 10 become due dates -3 and -10, and these release dates 0 and 7.
+fn dates_cost(alloc: Global) -> Result<bool, NoMemory> {
+    let inst = pair(alloc, DATED, 3, 10)?;
+    costs(
+        alloc,
+        &Row47,
+        &Row48,
+        &inst,
+        in_turn(alloc, 0, 7)?,
+        [8, 11, 11],
+    )
+}
+
+#[test]
+fn rows_carry_down_and_back(rt: HostRuntime) -> Result<(), Fail> {
+    assert!(rt; tree_costs(rt.alloc())?);
+    assert!(rt; dates_cost(rt.alloc())?);
+    Ok(())
+}
