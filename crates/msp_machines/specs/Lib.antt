@@ -15,3 +15,4 @@ pub mod StretchedCharges
 pub mod StretchedInner
 pub mod Stretched
 pub mod ShopExamples
+pub mod Examples

@@ -8,6 +8,8 @@ mod same_jobs;
 #[cfg(test)]
 mod shop_tests;
 mod shops;
+#[cfg(test)]
+mod tests;
 mod unrelated;
 
 pub use environments::{

@@ -15,7 +15,7 @@ use msp_table::Row;
 use std::alloc::Global;
 
 /// A speed of 1 for each machine.
-fn equal_speeds(alloc: Global, machines: u32) -> Result<List<u64>, NoMemory>
+pub(crate) fn equal_speeds(alloc: Global, machines: u32) -> Result<List<u64>, NoMemory>
     ensures { IfOk result (λ speeds. speeds ≡ equal_speeds machines) }
 {
     let mut speeds = List::new(alloc);
