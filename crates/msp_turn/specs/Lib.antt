@@ -10,3 +10,4 @@ pub mod SameRate
 pub mod OneMachine
 pub mod Exchanged
 pub mod ExchangeRows
+pub mod LineExamples

@@ -65,8 +65,8 @@ fn order_from_last(alloc: Global, count: u32, schedule: &Schedule) -> Result<Vec
     Ok(order)
 }
 
-/// On one machine a schedule of an intree, read from its last job to its first, is one of an outtree that costs as much where times and
-/// weights are exchanged (Lawler 1978).
+/// Jobs of an intree, put in the opposite order, are jobs of an outtree that cost as much with times and weights exchanged, as a chart of
+/// both in two dimensions shows (Eastman, Even and Isaacs 1964).
 #[derive(Clone, Copy, Debug)]
 pub struct Row51;
 
@@ -108,8 +108,8 @@ impl Reduction for Row51 {
     ghost back_is = { λ self i s inner applies. IsBack-exchanged 51 i (exchanged 51 i) (exchange_51 i inner applies) inner s };
 }
 
-/// On one machine a schedule of an outtree, read from its last job to its first, is one of an intree that costs as much where times and
-/// weights are exchanged (Lawler 1978).
+/// Jobs of an outtree, put in the opposite order, are jobs of an intree that cost as much with times and weights exchanged, as a chart of
+/// both in two dimensions shows (Eastman, Even and Isaacs 1964).
 #[derive(Clone, Copy, Debug)]
 pub struct Row52;
 

@@ -13,7 +13,8 @@ use msp_schedule::Solution;
 use msp_table::Row;
 use std::alloc::Global;
 
-/// Where jobs may be cut, none needs to be: in the order of their ends, one after another, they end no later (McNaughton 1959).
+/// Where jobs may be cut, none needs to be: one after another in the order of their ends they end no later (Conway, Maxwell and Miller
+/// 1967).
 #[derive(Clone, Copy, Debug)]
 pub struct Row49;
 
@@ -54,7 +55,8 @@ impl Reduction for Row49 {
     ghost back_is = { λ self. back_49 };
 }
 
-/// Jobs that are not cut are jobs that may be cut; back, they are put one after another in the order of their ends (McNaughton 1959).
+/// Jobs that are not cut serve where jobs may be cut. Back, the jobs are put one after another in the order of their ends (Conway,
+/// Maxwell and Miller 1967).
 #[derive(Clone, Copy, Debug)]
 pub struct Row50;
 

@@ -170,3 +170,40 @@ fn rows_carry_down_and_back(rt: HostRuntime) -> Result<(), Fail> {
     assert!(rt; dates_cost(rt.alloc())?);
     Ok(())
 }
+
+/// The schedule idles up to moment 1 and from 3 to 4. Lined up, the jobs end at 2 and 3.
+fn cut_costs(alloc: Global) -> Result<bool, NoMemory> {
+    let inst = pair(alloc, Class { cut: true, ..TREE }, 0, 0)?;
+    costs(
+        alloc,
+        &Row49,
+        &Row50,
+        &inst,
+        in_turn(alloc, 1, 4)?,
+        [5, 3, 3],
+    )
+}
+
+/// The same. With times 1 and 1 and weights 2 and 1 in between, the second job goes first.
+fn exchange_costs(alloc: Global) -> Result<bool, NoMemory> {
+    let class = Class {
+        crit: Crit::SumWC,
+        ..TREE
+    };
+    let inst = pair(alloc, class, 0, 0)?;
+    costs(
+        alloc,
+        &Row51,
+        &Row52,
+        &inst,
+        in_turn(alloc, 1, 4)?,
+        [8, 5, 5],
+    )
+}
+
+#[test]
+fn rows_on_one_machine_carry_down_and_back(rt: HostRuntime) -> Result<(), Fail> {
+    assert!(rt; cut_costs(rt.alloc())?);
+    assert!(rt; exchange_costs(rt.alloc())?);
+    Ok(())
+}
