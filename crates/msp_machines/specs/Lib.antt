@@ -16,3 +16,4 @@ pub mod StretchedInner
 pub mod Stretched
 pub mod ShopExamples
 pub mod Examples
+pub mod UnrelatedExamples
