@@ -1,0 +1,9 @@
+//! Hu's rule: unit jobs of an intree on identical machines, by levels.
+//!
+//! It stands on `msp_schedule` and `msp_route`. The layers above use the clauses of `Solver`, that the cost is the greatest bound of a
+//! level, and the law of levels, a lower bound for every feasible schedule.
+#![tactic(auto)]
+
+mod law;
+
+pub use law::law_of_levels;
