@@ -1,3 +1,4 @@
+mod Moments
 mod ReversalBounds
 pub mod EndOrder
 pub mod RowSteps

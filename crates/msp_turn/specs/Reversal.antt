@@ -15,7 +15,8 @@ use Rattle.msp_turn.specs.Turned.{turned_arcs}
 abbrev pub led_turned : ℕ → Instance → Instance
 led_turned row i = record (led row i) { arcs = turned_arcs i.arcs }
 
--- The job without its release date, which before the end of all is its due date.
+-- The job without its release date r, and with the due date -r: as long as it waited at the beginning, it has to be ready before the
+-- end.
 abbrev pub due_by_release : Job → Job
 due_by_release j = record j { release = 0; due = neg_ℤ (pos j.release) }
 
@@ -27,7 +28,7 @@ led_to_due_dates i = record (led_turned 47 i) { jobs = map due_by_release i.jobs
 abbrev pub greatest_due : Instance → ℤ
 greatest_due i = greatest (map (λ j. j.due) i.jobs)
 
--- The job without its due date. Its release date is the time from its due date to the last.
+-- The job without its due date, and with the time from its due date to the last one as its release date.
 abbrev pub release_by_due : ℤ → Job → Job
 release_by_due last j = record j { release = unsigned_abs (last -ℤ j.due); due = pos 0 }
 
@@ -43,10 +44,10 @@ raised_costs addend = record { factor = 1; addend = addend; scale = 1 }
 abbrev pub reversed_piece : ℤ → Piece → Piece
 reversed_piece last p = record p { from = last -ℤ p.to; to = last -ℤ p.from }
 
--- The moment up to which pieces reach, each with the release date of its job after it.
+-- The moment from which a schedule is read back: the greatest end of a piece with the release date of its job added.
 abbrev pub turning_moment : Instance → Schedule → ℤ
 turning_moment i s = fold int_max (pos 0) (map (λ p. p.to +ℤ (s.unit *ℤ pos (job_at i p.job).release)) s.pieces)
 
--- The schedule as it is read from its end, so late that each job of the instance begins after its release date.
+-- The schedule as it is read from that moment back, so that no job of the instance begins before its release date.
 abbrev pub reversed_for : Instance → Schedule → Schedule
 reversed_for i s = record { unit = s.unit; pieces = map (reversed_piece (turning_moment i s)) s.pieces }

@@ -20,7 +20,7 @@ fn turn(arc: &mut Arc)
 }
 
 /// Exchanges the ends of every arc.
-pub(crate) fn turn_all(arcs: &mut [Arc])
+fn turn_all(arcs: &mut [Arc])
     ensures { arcs.new ≡ turned_arcs arcs.old }
 {
     for arc in arcs.iter_mut() {

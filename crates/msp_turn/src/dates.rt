@@ -1,6 +1,7 @@
 // The rows by reversal in which release dates and due dates take each other's places.
 ghost use Rattle.std.specs.Prelude.{◌≡◌, ◌^◌, ◌<◌, pos, All, map};
 ghost use Rattle.msp_schedule.specs.Cost.{greatest};
+ghost use Rattle.msp_route.specs.Changes.{same_costs};
 ghost use Rattle.msp_turn.specs.Reversal.{due_by_release, led_to_due_dates, greatest_due, release_by_due, led_to_release_dates, raised_costs, reversed_for};
 ghost use Rattle.msp_turn.specs.ReversalLaw.{IsPositive-raised, IsForth-reversed, IsBack-reversed};
 ghost use Rattle.msp_turn.specs.ReversalDates.{reversal_47, reversal_48};
@@ -64,7 +65,7 @@ impl Reduction for Row47 {
 
     ghost lower = { λ self. led_to_due_dates };
 
-    ghost rate = { λ self i. raised_costs (pos 0) };
+    ghost rate = { λ self i. same_costs };
 
     ghost forth = { λ self i s. reversed_for (led_to_due_dates i) s };
 

@@ -1,4 +1,5 @@
-//! The reductions that turn schedules round: by reversal of time, and those on one machine between cut and uncut jobs and by exchange of times and weights.
+//! The reductions that read schedules from their end, those on one machine between cut and uncut jobs, and those by exchange of times
+//! and weights.
 //!
 //! It stands on `msp_route`. The layer above uses that each row is a lawful `Reduction`.
 #![tactic(auto)]

@@ -1,6 +1,7 @@
 // The rows between intrees and outtrees by reversal.
 ghost use Rattle.std.specs.Prelude.{pos};
-ghost use Rattle.msp_turn.specs.Reversal.{led_turned, raised_costs, reversed_for};
+ghost use Rattle.msp_route.specs.Changes.{same_costs};
+ghost use Rattle.msp_turn.specs.Reversal.{led_turned, reversed_for};
 ghost use Rattle.msp_turn.specs.ReversalLaw.{IsPositive-raised, IsForth-reversed, IsBack-reversed};
 ghost use Rattle.msp_turn.specs.ReversalRows.{reversal_45, reversal_46};
 
@@ -22,7 +23,7 @@ impl Reduction for Row45 {
 
     ghost lower = { λ self. led_turned 45 };
 
-    ghost rate = { λ self i. raised_costs (pos 0) };
+    ghost rate = { λ self i. same_costs };
 
     ghost forth = { λ self i s. reversed_for (led_turned 45 i) s };
 
@@ -63,7 +64,7 @@ impl Reduction for Row46 {
 
     ghost lower = { λ self. led_turned 46 };
 
-    ghost rate = { λ self i. raised_costs (pos 0) };
+    ghost rate = { λ self i. same_costs };
 
     ghost forth = { λ self i s. reversed_for (led_turned 46 i) s };
 
