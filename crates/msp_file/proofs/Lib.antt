@@ -15,3 +15,5 @@ pub mod ArcLaws
 pub mod JobsLaws
 pub mod TextLaws
 mod AnswerLaws
+mod LineCounts
+mod FrontLaws

@@ -1,5 +1,5 @@
 -- Reading lines gives faults of lines alone.
-use Rattle.std.proofs.Common.{◌≡◌, ℕ, inl, inr, sym, ◌+◌, Bool, true, false, ◌&&◌, ◌==◌, List, [], ◌∷◌, length, Option, None, Some, Result, Ok, Err, ok_or, position, bytes_eq, codes, ℤ, pos, negsuc, refl, subst, take, drop, if◌then◌else◌}
+use Rattle.std.proofs.Common.{◌≡◌, ◌⊎◌, ℕ, inl, inr, ap, sym, ◌+◌, Bool, true, false, ◌&&◌, ◌==◌, List, [], ◌∷◌, length, Option, None, Some, Result, Ok, Err, ok_or, position, bytes_eq, codes, ℤ, pos, negsuc, refl, subst, take, drop, if◌then◌else◌}
 use Rattle.msp_class.specs.Env.{fixed_machines}
 use Rattle.msp_class.specs.declared.class.Class.{Class}
 use Rattle.msp_class.specs.declared.class.Env.{Env}
@@ -11,20 +11,21 @@ use Rattle.msp_name.specs.Reading.{reading_of}
 use Rattle.msp_instance.specs.declared.ranges.TheConstants.{GREATEST, GREATEST_SPEED, GREATEST_EQUAL_TIME, MOST_MACHINES}
 use Rattle.msp_file.specs.declared.fault.What.{What}
 use Rattle.msp_file.specs.declared.fault.FileFault.{FileFault}
-use Rattle.msp_file.specs.declared.fault.FileFault.TheVariants.{Class as ClassBroken, Cycle, Memory, Missing, Cut, Limit}
+use Rattle.msp_file.specs.declared.fault.FileFault.TheVariants.{Class as ClassBroken, Cycle, Memory, After, Missing, Cut, Limit}
 use Rattle.msp_file.specs.declared.fault.What.TheVariants as what
 use Rattle.msp_instance.specs.Conditions.{HasSmallMultiple}
 use Rattle.msp_file.specs.declared.draft.Draft.{Draft}
 use Rattle.msp_grammar.specs.declared.filed.Filed.{Filed}
 use Rattle.msp_text.specs.Numbers.{number_of}
 use Rattle.msp_grammar.specs.Layout.{has_order}
-use Rattle.msp_file.specs.Reading.{first_of, others_of, ◌>>=◌, provided, Place, line_at, fields_of, worded_at, natural_in, natural_at, integer_at, job_name_at, known_at, keyed_at, natural_key_at, integer_key_at, keys_at, job_line_at, with_need, times_at, times_line_at, machine_at, timed_route_at, machine_route_at, operations_at, route_line_at, needs_at, with_step, steps_at, curve_fields_at, curve_line_at, curve_at, job_at_line, arc_line_at, end_at, arc_or_end, arc_step, job_step, ReadsArcs, arc_then, arcs_end, arcs_fault, ReadsJobs, job_then, arc_after, jobs_end, jobs_fault, Then, OnlyWhere, ReadsRest, Reads, no_draft, version_at, class_in, spelled_class, class_at, machines_line_at, machines_at, speeds_in, speeds_line_at, speeds_at, time_line_at, time_at}
+use Rattle.msp_file.specs.Reading.{first_of, others_of, ◌>>=◌, provided, Place, line_at, fields_of, worded_at, natural_in, natural_at, integer_at, job_name_at, known_at, keyed_at, natural_key_at, integer_key_at, keys_at, job_line_at, with_need, times_at, times_line_at, machine_at, timed_route_at, machine_route_at, operations_at, route_line_at, needs_at, with_step, steps_at, curve_fields_at, curve_line_at, curve_at, job_at_line, arc_line_at, end_at, arc_or_end, arc_step, job_step, ReadsArcs, arc_then, arcs_end, arcs_fault, ReadsJobs, job_then, arc_after, jobs_end, jobs_fault, Then, OnlyWhere, ReadsRest, ReadsLines, ReadsFront, start_of, all_of, front_of, Reads, no_draft, version_at, class_in, spelled_class, class_at, machines_line_at, machines_at, speeds_in, speeds_line_at, speeds_at, time_line_at, time_at}
 
 -- The fault is one of a line.
 abbrev pub IsLineFault : FileFault → Type 0
 IsLineFault (ClassBroken fault name) = ⊥
 IsLineFault (Cycle job name) = ⊥
 IsLineFault Memory = ⊥
+IsLineFault (After at) = ⊥
 IsLineFault _ = Unit {0}
 
 pub record InLines {A : Type 0} (r : Result A FileFault) : Type 0 where
@@ -268,17 +269,36 @@ only_in : {B : Type 0} (condition : Type 0) (fault : FileFault) (next : Result B
 only_in condition fault next r h k (inl t) = k t.1
 only_in condition fault next r h k (inr t) = subst InLines (sym t.1) (bad fault h)
 
-rest : (c : Class) (machines : ℕ) (speeds : List ℕ) (shared : ℕ) (p : Place) (r : Result Filed FileFault) → ReadsRest c machines speeds shared p r → InLines r
-rest c machines speeds shared p r h = subst InLines (sym h.whole) (chain h.lines _ (jobs c machines shared no_draft p h.lines h.reads) (λ l. given _ _ _ tt (fine _)))
+rest : (c : Class) (machines : ℕ) (speeds : List ℕ) (shared : ℕ) (p : Place) (r : Result (Filed × Place) FileFault) → ReadsRest c machines speeds shared p r → InLines r
+rest c machines speeds shared p r h = subst InLines (sym h.filed) (chain h.lines _ (jobs c machines shared no_draft p h.lines h.reads) (λ l. fine _))
 
--- the reading of all lines of a text
-pub whole : (b : List ℕ) (r : Result Filed FileFault) → Reads b r → InLines r
-unfolding Reads
-whole b r h =
-    then_in (version_at (record { at = 1; rest = b })) _ r (version _) (λ (p : Place).
+-- the reading of the lines of an instance
+pub lines_in : (p : Place) (r : Result (Filed × Place) FileFault) → ReadsLines p r → InLines r
+unfolding ReadsLines
+lines_in p r h =
+    then_in (version_at p) _ r (version p) (λ (p : Place).
     then_in (class_at p) _ r (class_line p) (λ (c : Class × Place).
     then_in (machines_at c.0.env c.1) _ r (machines_read c.0.env c.1) (λ (m : ℕ × Place).
     then_in (speeds_at c.0.env m.0 m.1) _ r (speeds_read c.0.env m.0 m.1) (λ (s : List ℕ × Place).
     only_in (HasSmallMultiple s.0) (Limit m.1.at what.Multiple) (Then (time_at c.0.times s.1) (λ (t : ℕ × Place). ReadsRest c.0 m.0 s.0 t.0 t.1)) r tt (
     then_in (time_at c.0.times s.1) (λ (t : ℕ × Place). ReadsRest c.0 m.0 s.0 t.0 t.1) r (time_read c.0.times s.1) (λ (t : ℕ × Place).
     rest c.0 m.0 s.0 t.0 t.1 r)))))) h
+
+-- what follows the lines is the one fault of a text beside those of its lines
+pub whole : (b : List ℕ) (e : FileFault) → Reads b (Err e) → IsLineFault e ⊎ ((at : ℕ) × (e ≡ After at))
+whole b e h = by h.lines (lines_in (start_of b) h.lines h.reads) h.is
+  where
+    by : (lines : Result (Filed × Place) FileFault) → InLines lines → Err e ≡ (lines >>= all_of) → IsLineFault e ⊎ ((at : ℕ) × (e ≡ After at))
+    by (Err d) k is = let same : d ≡ e = cc in inl (k.fault e (ap Err same))
+    by (Ok x) k is = last (length x.1.rest == 0) is
+      where
+        last : (b : Bool) → Err e ≡ provided b (After x.1.at) (Ok x.0) → IsLineFault e ⊎ ((at : ℕ) × (e ≡ After at))
+        last true same = absurd cc
+        last false same = inr (x.1.at, cc)
+
+pub front : (b : List ℕ) (e : FileFault) → ReadsFront b (Err e) → IsLineFault e
+front b e h = by h.lines (lines_in (start_of b) h.lines h.reads) h.is
+  where
+    by : (lines : Result (Filed × Place) FileFault) → InLines lines → Err e ≡ (lines >>= front_of) → IsLineFault e
+    by (Err d) k is = let same : d ≡ e = cc in k.fault e (ap Err same)
+    by (Ok x) k is = absurd cc

@@ -7,8 +7,8 @@ use Rattle.msp_file.specs.declared.fault.What.TheVariants as what
 use Rattle.msp_instance.specs.Conditions.{HasSmallMultiple}
 use Rattle.msp_file.specs.declared.draft.Draft.{Draft}
 use Rattle.msp_grammar.specs.declared.filed.Filed.{Filed}
-use Rattle.msp_file.specs.Reading.{◌>>=◌, provided, Place, version_at, class_at, machines_at, speeds_at, time_at, LineRead, job_read, arc_read, end_read, arc_step, job_step, ReadsArcs, arc_then, arcs_end, arcs_fault, ReadsJobs, job_then, arc_after, jobs_end, jobs_fault, Then, OnlyWhere, ReadsRest, ReadsSpeeds, Reads, no_draft, filed_of}
-use Rattle.msp_file.specs.Steps.{Fails, FailsBy, GivesBy, MovesBy}
+use Rattle.msp_file.specs.Reading.{◌>>=◌, Place, version_at, class_at, machines_at, speeds_at, time_at, LineRead, job_read, arc_read, end_read, arc_step, job_step, ReadsArcs, arc_then, arcs_end, arcs_fault, ReadsJobs, job_then, arc_after, jobs_end, jobs_fault, Then, OnlyWhere, ReadsRest, ReadsSpeeds, ReadsLines, start_of, ReadsBy, all_of, Reads, ReadsFront, no_draft, filed_of}
+use Rattle.msp_file.specs.Steps.{Fails, FailsBy, MovesBy}
 
 -- ---- a text is read in one way
 
@@ -88,33 +88,60 @@ only_same condition fault next r s f (inl h) (inr k) = absurd (k.0 h.0)
 only_same condition fault next r s f (inr h) (inl k) = absurd (h.0 k.0)
 only_same condition fault next r s f (inr h) (inr k) = h.1 ∙ sym k.1
 
-rest_same : (c : Class) (machines : ℕ) (speeds : List ℕ) (shared : ℕ) (p : Place) (r s : Result Filed FileFault) → ReadsRest c machines speeds shared p r → ReadsRest c machines speeds shared p s → r ≡ s
+rest_same : (c : Class) (machines : ℕ) (speeds : List ℕ) (shared : ℕ) (p : Place) (r s : Result (Filed × Place) FileFault) → ReadsRest c machines speeds shared p r → ReadsRest c machines speeds shared p s → r ≡ s
 rest_same c machines speeds shared p r s h k =
-    h.whole ∙ ap (λ (lines : Result (Draft × Place) FileFault). lines >>= λ l. provided (length l.1.rest == 0) (After l.1.at) (Ok (filed_of c machines speeds l.0))) (jobs_same c machines shared no_draft p h.lines k.lines h.reads k.reads) ∙ sym k.whole
+    h.filed ∙ ap (λ (lines : Result (Draft × Place) FileFault). lines >>= λ l. Ok (filed_of c machines speeds l.0, l.1)) (jobs_same c machines shared no_draft p h.lines k.lines h.reads k.reads) ∙ sym k.filed
 
-pub reads_same : (b : List ℕ) (r s : Result Filed FileFault) → Reads b r → Reads b s → r ≡ s
-unfolding Reads
-reads_same b r s h k =
-    then_same (version_at (record { at = 1; rest = b })) _ r s (λ (p : Place).
+pub lines_same : (start : Place) (r s : Result (Filed × Place) FileFault) → ReadsLines start r → ReadsLines start s → r ≡ s
+unfolding ReadsLines
+lines_same start r s h k =
+    then_same (version_at start) _ r s (λ (p : Place).
     then_same (class_at p) _ r s (λ (c : Class × Place).
     then_same (machines_at c.0.env c.1) _ r s (λ (m : ℕ × Place).
     then_same (speeds_at c.0.env m.0 m.1) _ r s (λ (x : List ℕ × Place).
     only_same (HasSmallMultiple x.0) (Limit m.1.at what.Multiple) (Then (time_at c.0.times x.1) (λ (t : ℕ × Place). ReadsRest c.0 m.0 x.0 t.0 t.1)) r s (
     then_same (time_at c.0.times x.1) (λ (t : ℕ × Place). ReadsRest c.0 m.0 x.0 t.0 t.1) r s (λ (t : ℕ × Place). rest_same c.0 m.0 x.0 t.0 t.1 r s)))))) h k
 
+pub by_same : (last : Filed × Place → Result Filed FileFault) (b : List ℕ) (r s : Result Filed FileFault) → ReadsBy last b r → ReadsBy last b s → r ≡ s
+by_same last b r s h k = h.is ∙ ap (λ (lines : Result (Filed × Place) FileFault). lines >>= last) (lines_same (start_of b) h.lines k.lines h.reads k.reads) ∙ sym k.is
+
+pub reads_same : (b : List ℕ) (r s : Result Filed FileFault) → Reads b r → Reads b s → r ≡ s
+reads_same b r s h k = by_same all_of b r s h k
+
 -- ---- functions that read
+
+abbrev same : Filed → Filed
+same f = f
 
 pub then_fails : {A B : Type 0} (first : Result A FileFault) (next : A → Result B FileFault → Type 0) (e : FileFault) → Fails e first → FailsBy e (Then first next)
 then_fails first next Memory h = tt
 then_fails first next e h = rw h refl
 
-pub then_goes : {A B : Type 0} (first : Result A FileFault) (next : A → Result B FileFault → Type 0) (x : A) (result : Result B FileFault) → first ≡ Ok x → GivesBy result (next x) → GivesBy result (Then first next)
-then_goes first next x result h k = rw h k
+pub then_goes : {A X Y : Type 0} (view : X → Y) (first : Result A FileFault) (next : A → Result (Y × Place) FileFault → Type 0) (x : A) (result : Result X FileFault) (after : Place) → first ≡ Ok x → MovesBy view result after (next x) → MovesBy view result after (Then first next)
+then_goes view first next x result after h k = rw h k
 
-pub only_goes : {B : Type 0} (condition : Type 0) (fault : FileFault) (next : Result B FileFault → Type 0) (result : Result B FileFault) → condition → GivesBy result next → GivesBy result (OnlyWhere condition fault next)
-only_goes condition fault next (Ok x) c h = inl (c, h)
-only_goes condition fault next (Err Memory) c h = tt
-only_goes condition fault next (Err e) c h = inl (c, h)
+pub only_goes : {X Y : Type 0} (view : X → Y) (condition : Type 0) (fault : FileFault) (next : Result (Y × Place) FileFault → Type 0) (result : Result X FileFault) (after : Place) → condition → MovesBy view result after next → MovesBy view result after (OnlyWhere condition fault next)
+only_goes view condition fault next (Ok x) after c h = inl (c, h)
+only_goes view condition fault next (Err Memory) after c h = tt
+only_goes view condition fault next (Err e) after c h = inl (c, h)
+
+-- the lines of an instance, and what follows them
+pub whole_fails : (b : List ℕ) (e : FileFault) → FailsBy e (ReadsLines (start_of b)) → FailsBy e (Reads b)
+whole_fails b Memory h = tt
+whole_fails b e h = record { lines = Err e; reads = h; is = refl }
+
+pub whole_after : (b : List ℕ) (f : Filed) (q : Place) → ReadsLines (start_of b) (Ok (f, q)) → (length q.rest == 0) ≡ false → Reads b (Err (After q.at))
+whole_after b f q h e = record { lines = Ok (f, q); reads = h; is = rw e refl }
+
+pub whole_done : (b : List ℕ) (f : Filed) (q : Place) → ReadsLines (start_of b) (Ok (f, q)) → (length q.rest == 0) ≡ true → Reads b (Ok f)
+whole_done b f q h e = record { lines = Ok (f, q); reads = h; is = rw e refl }
+
+pub front_fails : (b : List ℕ) (e : FileFault) → FailsBy e (ReadsLines (start_of b)) → FailsBy e (ReadsFront b)
+front_fails b Memory h = tt
+front_fails b e h = record { lines = Err e; reads = h; is = refl }
+
+pub front_done : (b : List ℕ) (f : Filed) (q : Place) → ReadsLines (start_of b) (Ok (f, q)) → ReadsFront b (Ok f)
+front_done b f q h = record { lines = Ok (f, q); reads = h; is = refl }
 
 -- the speeds, and the time after them
 pub speeds_refused : (c : Class) (machines : ℕ) (p q : Place) (speeds : List ℕ) → speeds_at c.env machines p ≡ Ok (speeds, q) → ¬ HasSmallMultiple speeds → ReadsSpeeds c machines p (Err (Limit p.at what.Multiple))
@@ -124,22 +151,19 @@ pub speeds_stopped : (c : Class) (machines : ℕ) (p q : Place) (speeds : List �
 speeds_stopped c machines p q speeds Memory h small f = tt
 speeds_stopped c machines p q speeds e h small f = rw h (inl (small, rw f refl))
 
-pub speeds_done : (c : Class) (machines : ℕ) (p q z : Place) (speeds : List ℕ) (shared : ℕ) (result : Result Filed FileFault) → speeds_at c.env machines p ≡ Ok (speeds, q) → HasSmallMultiple speeds → time_at c.times q ≡ Ok (shared, z)
-    → GivesBy result (ReadsRest c machines speeds shared z) → GivesBy result (ReadsSpeeds c machines p)
-speeds_done c machines p q z speeds shared result h small f rest =
-    then_goes (speeds_at c.env machines p) _ (speeds, q) result h (
-    only_goes (HasSmallMultiple speeds) (Limit p.at what.Multiple) (Then (time_at c.times q) (λ (t : ℕ × Place). ReadsRest c machines speeds t.0 t.1)) result small (
-    then_goes (time_at c.times q) (λ (t : ℕ × Place). ReadsRest c machines speeds t.0 t.1) (shared, z) result f rest))
+pub speeds_done : (c : Class) (machines : ℕ) (p q z after : Place) (speeds : List ℕ) (shared : ℕ) (result : Result Filed FileFault) → speeds_at c.env machines p ≡ Ok (speeds, q) → HasSmallMultiple speeds → time_at c.times q ≡ Ok (shared, z)
+    → MovesBy same result after (ReadsRest c machines speeds shared z) → MovesBy same result after (ReadsSpeeds c machines p)
+speeds_done c machines p q z after speeds shared result h small f rest =
+    then_goes same (speeds_at c.env machines p) _ (speeds, q) result after h (
+    only_goes same (HasSmallMultiple speeds) (Limit p.at what.Multiple) (Then (time_at c.times q) (λ (t : ℕ × Place). ReadsRest c machines speeds t.0 t.1)) result after small (
+    then_goes same (time_at c.times q) (λ (t : ℕ × Place). ReadsRest c machines speeds t.0 t.1) (shared, z) result after f rest))
 
 pub rest_fails : (c : Class) (machines : ℕ) (speeds : List ℕ) (shared : ℕ) (p : Place) (e : FileFault) → FailsBy e (ReadsJobs c machines shared no_draft p) → FailsBy e (ReadsRest c machines speeds shared p)
 rest_fails c machines speeds shared p Memory h = tt
-rest_fails c machines speeds shared p e h = record { lines = Err e; reads = h; whole = refl }
+rest_fails c machines speeds shared p e h = record { lines = Err e; reads = h; filed = refl }
 
-pub rest_after : (c : Class) (machines : ℕ) (speeds : List ℕ) (shared : ℕ) (p q : Place) (d : Draft) → ReadsJobs c machines shared no_draft p (Ok (d, q)) → (length q.rest == 0) ≡ false → ReadsRest c machines speeds shared p (Err (After q.at))
-rest_after c machines speeds shared p q d h e = record { lines = Ok (d, q); reads = h; whole = rw e refl }
-
-pub rest_done : (c : Class) (machines : ℕ) (speeds : List ℕ) (shared : ℕ) (p q : Place) (d : Draft) (f : Filed) → ReadsJobs c machines shared no_draft p (Ok (d, q)) → (length q.rest == 0) ≡ true → f ≡ filed_of c machines speeds d → ReadsRest c machines speeds shared p (Ok f)
-rest_done c machines speeds shared p q d f h e is = record { lines = Ok (d, q); reads = h; whole = rw (e, is) refl }
+pub rest_done : (c : Class) (machines : ℕ) (speeds : List ℕ) (shared : ℕ) (p q : Place) (d : Draft) (f : Filed) → ReadsJobs c machines shared no_draft p (Ok (d, q)) → f ≡ filed_of c machines speeds d → ReadsRest c machines speeds shared p (Ok (f, q))
+rest_done c machines speeds shared p q d f h is = record { lines = Ok (d, q); reads = h; filed = rw is refl }
 
 pub arc_fails : (d : Draft) (p : Place) (e : FileFault) → Fails e (arc_step d p) → FailsBy e (ReadsArcs d p)
 arc_fails d p Memory h = tt
@@ -162,4 +186,6 @@ pub ruleset then_rules = (then_fails, then_goes)
 
 pub ruleset speeds_rules = (then_fails, speeds_refused, speeds_stopped, speeds_done)
 
-pub ruleset rest_rules = (rest_fails, rest_after, rest_done)
+pub ruleset rest_rules = (rest_fails, rest_done)
+
+pub ruleset whole_rules = (whole_fails, whole_after, whole_done)

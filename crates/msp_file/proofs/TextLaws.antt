@@ -1,5 +1,5 @@
 -- Whole texts: what is read is an instance text, and an instance text is read as its instance.
-use Rattle.std.proofs.Common.{◌≡◌, ◌≢◌, inl, inr, ℕ, ◌<◌, ◌≤◌, false, List, [], ◌∷◌, ◌++◌, length, All, AllPairs, ◌==◌, Result, Ok, refl, sym, ap, subst, ◌∙◌, append_assoc, append-nil, arith, eqb-true, codes, Err}
+use Rattle.std.proofs.Common.{◌≡◌, ◌≢◌, inl, inr, ℕ, ◌<◌, ◌≤◌, false, List, [], ◌∷◌, ◌++◌, length, All, AllPairs, Result, Ok, refl, sym, ap, subst, ◌∙◌, append_assoc, append-nil, arith, eqb-true, codes, Err}
 use Rattle.std.specs.Prelude.{slice_index_or, true, if◌then◌else◌, decimal}
 use Rattle.std.proofs.lemmas.List.{nil_from_length}
 use Rattle.std.proofs.lemmas.List.Elements.{All-nil}
@@ -19,14 +19,14 @@ use Rattle.msp_instance.specs.Instance.{no_need, no_job, job_at, common_time}
 use Rattle.msp_instance.specs.Conditions.{text_limits, least_time, greatest_time, HasNeeds, HasSameTimes, HasMachines, HasSpeeds, HasSmallMultiple, HasArcs, MeetsConditions}
 use Rattle.msp_instance.specs.declared.ranges.TheConstants.{MOST_JOBS, MOST_ARCS}
 use Rattle.msp_file.specs.declared.fault.FileFault.{FileFault}
-use Rattle.msp_file.specs.declared.fault.FileFault.TheVariants.{After, Limit}
+use Rattle.msp_file.specs.declared.fault.FileFault.TheVariants.{Limit}
 use Rattle.msp_file.specs.declared.fault.What.TheVariants as what
 use Rattle.msp_grammar.specs.declared.filed.Filed.{Filed}
 use Rattle.msp_file.specs.declared.draft.Draft.{Draft}
 use Rattle.msp_job_name.specs.JobName.{IsJobName, AreDistinct}
 use Rattle.msp_grammar.specs.Layout.{has_order, has_times, has_time_line}
 use Rattle.msp_grammar.specs.InstanceText.{line_text, class_text, machines_text, speeds_text, time_text, head_text, jobs_text, arcs_text, instance_text, AreNamesOf, IsInstanceText}
-use Rattle.msp_file.specs.Reading.{provided, Place, version_at, class_at, machines_at, speeds_at, time_at, no_draft, filed_of, ReadsJobs, Then, OnlyWhere, ReadsRest, Reads}
+use Rattle.msp_file.specs.Reading.{Place, version_at, class_at, machines_at, speeds_at, time_at, no_draft, filed_of, ReadsJobs, Then, OnlyWhere, ReadsRest, ReadsLines, start_of, all_of, front_of, Reads, ReadsFront}
 use Rattle.msp_file.proofs.LineLaws.{bind_ok, provided_ok, ok_is, Takes, Gets, Takes-then}
 use Rattle.msp_file.proofs.HeadLaws.{AreMachines, IsShared, version_takes, version_again, class_takes, class_again, machines_takes, machines_again, speeds_takes, speeds_again, time_takes, time_again}
 use Rattle.msp_file.proofs.NeedLaws.{HaveTime}
@@ -83,13 +83,13 @@ no_jobs c shared = record {
 }
 
 -- The text begins with that of what was read.
-abbrev IsFront : List ℕ → Filed × Place → Type 0
+abbrev pub IsFront : List ℕ → Filed × Place → Type 0
 IsFront b x = (front : List ℕ) × (b ≡ front ++ x.1.rest) × IsReadText front x.0
 
 -- the lines of the head and those after it, put together
-front_of : (b spelling : List ℕ) (c : Class) (machines : ℕ) (speeds : List ℕ) (shared : ℕ) (p q r : Place) (d : Draft) → p.rest ≡ b → NameOf spelling c → AreMachines c.env machines → HasSpeeds (kind_of c.env) machines speeds → HasSmallMultiple speeds → IsShared c.times shared
+together : (b spelling : List ℕ) (c : Class) (machines : ℕ) (speeds : List ℕ) (shared : ℕ) (p q r : Place) (d : Draft) → p.rest ≡ b → NameOf spelling c → AreMachines c.env machines → HasSpeeds (kind_of c.env) machines speeds → HasSmallMultiple speeds → IsShared c.times shared
     → Takes p (shared_head spelling c machines speeds shared) q → AddsLines c shared [] [] q d r → IsFront b (filed_of c machines speeds d, r)
-front_of b spelling c machines speeds shared p q r d is spells good_machines good_speeds multiple sharing head lines = subst (λ (e : Draft). IsFront b (filed_of c machines speeds e, r)) (sym lines.added) found
+together b spelling c machines speeds shared p q r d is spells good_machines good_speeds multiple sharing head lines = subst (λ (e : Draft). IsFront b (filed_of c machines speeds e, r)) (sym lines.added) found
   where
     jobs : List ℕ
     jobs = jobs_text c lines.more_names lines.more_jobs
@@ -135,18 +135,9 @@ only_ok : {B : Type 0} (condition : Type 0) (fault : FileFault) (next : Result B
 only_ok condition fault next y (inl h) = h
 only_ok condition fault next y (inr h) = let e = h.1 in absurd cc
 
--- the text ends where the lines do
-whole_of : (b : List ℕ) (c : Class) (machines : ℕ) (speeds : List ℕ) (d : Draft) (q : Place) (f : Filed) → IsFront b (filed_of c machines speeds d, q) → provided (length q.rest == 0) (After q.at) (Ok (filed_of c machines speeds d)) ≡ Ok f → IsReadText b f
-whole_of b c machines speeds d q f t e =
-    let g = provided_ok _ _ _ f e in
-    let nothing : q.rest ≡ [] = nil_from_length q.rest (eqb-true _ _ g.0) in
-    let whole : b ≡ t.0 = t.1 ∙ ap (λ (r : List ℕ). t.0 ++ r) nothing ∙ append-nil t.0 in
-    subst (IsReadText b) (ok_is (filed_of c machines speeds d) f g.1) (subst (λ (a : List ℕ). IsReadText a (filed_of c machines speeds d)) (sym whole) t.2)
-
-pub whole_takes : (b : List ℕ) (f : Filed) → Reads b (Ok f) → IsReadText b f
-unfolding Reads
-whole_takes b f h =
-    let start : Place = record { at = 1; rest = b } in
+pub lines_take : (start : Place) (f : Filed × Place) → ReadsLines start (Ok f) → IsFront start.rest f
+unfolding ReadsLines
+lines_take start f h =
     let v = then_ok (version_at start) _ f h in
     let c = then_ok (class_at v.0) _ f v.2 in
     let m = then_ok (machines_at c.0.0.env c.0.1) _ f c.2 in
@@ -154,7 +145,7 @@ whole_takes b f h =
     let multiple = only_ok (HasSmallMultiple s.0.0) (Limit m.0.1.at what.Multiple) (Then (time_at c.0.0.times s.0.1) (λ (t : ℕ × Place). ReadsRest c.0.0 m.0.0 s.0.0 t.0 t.1)) f s.2 in
     let t = then_ok (time_at c.0.0.times s.0.1) (λ (t : ℕ × Place). ReadsRest c.0.0 m.0.0 s.0.0 t.0 t.1) f multiple.1 in
     let rest : ReadsRest c.0.0 m.0.0 s.0.0 t.0.0 t.0.1 (Ok f) = t.2 in
-    let d = bind_ok rest.lines _ f (sym rest.whole) in
+    let d = bind_ok rest.lines _ f (sym rest.filed) in
     let class_taken = class_takes v.0 c.0 c.1 in
     let machines_taken = machines_takes c.0.0.env c.0.1 m.0 m.1 in
     let speeds_taken = speeds_takes c.0.0.env m.0.0 m.0.1 s.0 s.1 in
@@ -164,8 +155,27 @@ whole_takes b f h =
     let three = Takes-then start c.0.1 m.0.1 (version_text ++ class_text class_taken.0) (machines_text c.0.0.env m.0.0) two machines_taken.0 in
     let four = Takes-then start m.0.1 s.0.1 (version_text ++ class_text class_taken.0 ++ machines_text c.0.0.env m.0.0) (speeds_text c.0.0.env s.0.0) three speeds_taken.0 in
     let head = Takes-then start s.0.1 t.0.1 (version_text ++ class_text class_taken.0 ++ machines_text c.0.0.env m.0.0 ++ speeds_text c.0.0.env s.0.0) (time_text c.0.0.times t.0.0) four time_taken.0 in
-    let found = front_of b class_taken.0 c.0.0 m.0.0 s.0.0 t.0.0 start t.0.1 d.0.1 d.0.0 refl class_taken.1 machines_taken.1 speeds_taken.1 multiple.0 time_taken.1 head lines in
-    whole_of b c.0.0 m.0.0 s.0.0 d.0.0 d.0.1 f found d.2
+    let found = together start.rest class_taken.0 c.0.0 m.0.0 s.0.0 t.0.0 start t.0.1 d.0.1 d.0.0 refl class_taken.1 machines_taken.1 speeds_taken.1 multiple.0 time_taken.1 head lines in
+    subst (IsFront start.rest) (ok_is (filed_of c.0.0 m.0.0 s.0.0 d.0.0, d.0.1) f d.2) found
+
+-- the text ends where the lines do
+whole_of : (b : List ℕ) (x : Filed × Place) (f : Filed) → IsFront b x → all_of x ≡ Ok f → IsReadText b f
+whole_of b x f t e =
+    let g = provided_ok _ _ _ f e in
+    let nothing : x.1.rest ≡ [] = nil_from_length x.1.rest (eqb-true _ _ g.0) in
+    let whole : b ≡ t.0 = t.1 ∙ ap (λ (r : List ℕ). t.0 ++ r) nothing ∙ append-nil t.0 in
+    subst (IsReadText b) (ok_is x.0 f g.1) (subst (λ (a : List ℕ). IsReadText a x.0) (sym whole) t.2)
+
+pub whole_takes : (b : List ℕ) (f : Filed) → Reads b (Ok f) → IsReadText b f
+whole_takes b f h =
+    let x = bind_ok h.lines all_of f (sym h.is) in
+    whole_of b x.0 f (lines_take (start_of b) x.0 (subst (ReadsLines (start_of b)) x.1 h.reads)) x.2
+
+pub front_takes : (b : List ℕ) (f : Filed) → ReadsFront b (Ok f) → (front : List ℕ) × IsReadText front f
+front_takes b f h =
+    let x = bind_ok h.lines front_of f (sym h.is) in
+    let t = lines_take (start_of b) x.0 (subst (ReadsLines (start_of b)) x.1 h.reads) in
+    (t.0, subst (IsReadText t.0) (ok_is x.0.0 f x.2) t.2)
 
 -- ---- the time that all operations share
 
@@ -251,17 +261,19 @@ spread a b c d e f = append_assoc (a ++ b ++ c ++ d) e f ∙ append_assoc (a ++ 
 then_again : {A B : Type 0} (first : Result A FileFault) (next : A → Result B FileFault → Type 0) (x : A) (r : Result B FileFault) → first ≡ Ok x → next x r → Then first next r
 then_again first next x r e h = rw e h
 
-instance_again : (spelling : List ℕ) (i : Instance) (names : List (List ℕ)) → NameOf spelling i.class → AreNamesOf names i → MeetsConditions text_limits i → Reads (instance_text spelling names i) (Ok (record { instance = i; names = names }))
-unfolding Reads instance_text head_text
-instance_again spelling i names spells named h =
-    then_again _ _ _ _ (ap (λ (b : List ℕ). version_at (record { at = 1; rest = b })) text ∙ v.1) (
-    then_again _ _ _ _ c.1 (
-    then_again _ _ _ _ m.1 (
-    then_again _ _ _ _ s.1 (inl (
-      h.multiple,
-      (
-          then_again _ _ _ _ t.1 (record { lines = Ok (record { names = names; jobs = i.jobs; arcs = i.arcs }, record { at = d.0; rest = [] }); reads = d.1; whole = refl })),
-    )))))
+lines_again : (spelling : List ℕ) (i : Instance) (names : List (List ℕ)) (rest : List ℕ) → NameOf spelling i.class → AreNamesOf names i → MeetsConditions text_limits i → GetsBy (ReadsLines (start_of (instance_text spelling names i ++ rest))) (record { instance = i; names = names }) rest
+unfolding ReadsLines instance_text head_text
+lines_again spelling i names rest spells named h = (
+  d.0,
+  then_again _ _ _ _ (ap (λ (b : List ℕ). version_at (record { at = 1; rest = b })) text ∙ v.1) (
+      then_again _ _ _ _ c.1 (
+      then_again _ _ _ _ m.1 (
+      then_again _ _ _ _ s.1 (inl (
+        h.multiple,
+        (
+            then_again _ _ _ _ t.1 (record { lines = Ok (record { names = names; jobs = i.jobs; arcs = i.arcs }, record { at = d.0; rest = rest }); reads = d.1; filed = refl })),
+      ))))),
+)
   where
     shared : ℕ
     shared = shared_time_of i.class.times (common_time i)
@@ -273,7 +285,7 @@ instance_again spelling i names spells named h =
     arcs = arcs_text names i.arcs
 
     lines : List ℕ
-    lines = (jobs ++ arcs ++ end_text) ++ []
+    lines = (jobs ++ arcs ++ end_text) ++ rest
 
     speeds : List ℕ
     speeds = speeds_text i.class.env i.speeds
@@ -287,8 +299,8 @@ instance_again spelling i names spells named h =
     head : List ℕ
     head = version_text ++ class_text spelling ++ machines ++ speeds ++ time
 
-    text : head ++ jobs ++ arcs ++ end_text ≡ version_text ++ (class_text spelling ++ (machines ++ (speeds ++ (time ++ lines))))
-    text = regroup head jobs arcs end_text ∙ ap (λ (b : List ℕ). head ++ b) (sym (append-nil (jobs ++ arcs ++ end_text))) ∙ spread version_text (class_text spelling) machines speeds time lines
+    text : (head ++ jobs ++ arcs ++ end_text) ++ rest ≡ version_text ++ (class_text spelling ++ (machines ++ (speeds ++ (time ++ lines))))
+    text = ap (λ (b : List ℕ). b ++ rest) (regroup head jobs arcs end_text) ∙ append_assoc head (jobs ++ arcs ++ end_text) rest ∙ spread version_text (class_text spelling) machines speeds time lines
 
     v : (next : ℕ) × (version_at (record { at = 1; rest = version_text ++ (class_text spelling ++ (machines ++ (speeds ++ (time ++ lines)))) }) ≡ Ok (record { at = next; rest = class_text spelling ++ (machines ++ (speeds ++ (time ++ lines))) }))
     v = version_again 1 (class_text spelling ++ (machines ++ (speeds ++ (time ++ lines))))
@@ -314,8 +326,15 @@ instance_again spelling i names spells named h =
     arcs_fit : AreArcs names i.arcs
     arcs_fit = record { ends = subst (λ (n : ℕ). All (λ a. (a.before < n) × (a.after < n)) i.arcs) (sym named.one_each) h.ends; once = h.once; few = few.1 }
 
-    d : GetsBy (ReadsJobs i.class i.machines shared no_draft (record { at = t.0; rest = lines })) (record { names = names; jobs = i.jobs; arcs = i.arcs }) []
-    d = jobs_again i shared names i.jobs i.arcs [] [] t.0 [] h.machines.1 named.one_each fit arcs_fit few.0
+    d : GetsBy (ReadsJobs i.class i.machines shared no_draft (record { at = t.0; rest = lines })) (record { names = names; jobs = i.jobs; arcs = i.arcs }) rest
+    d = jobs_again i shared names i.jobs i.arcs [] [] t.0 rest h.machines.1 named.one_each fit arcs_fit few.0
+
+pub front_again : (b text rest : List ℕ) (i : Instance) (names : List (List ℕ)) → b ≡ text ++ rest → IsInstanceText text i names → GetsBy (ReadsLines (start_of b)) (record { instance = i; names = names }) rest
+front_again b text rest i names whole h =
+    let same : b ≡ instance_text h.spelling names i ++ rest = whole ∙ ap (λ (t : List ℕ). t ++ rest) h.text in
+    subst (λ (t : List ℕ). GetsBy (ReadsLines (start_of t)) (record { instance = i; names = names }) rest) (sym same) (lines_again h.spelling i names rest h.spells h.named h.in_class.conditions)
 
 pub whole_again : (b : List ℕ) (i : Instance) (names : List (List ℕ)) → IsInstanceText b i names → Reads b (Ok (record { instance = i; names = names }))
-whole_again b i names h = subst (λ (text : List ℕ). Reads text (Ok (record { instance = i; names = names }))) (sym h.text) (instance_again h.spelling i names h.spells h.named h.in_class.conditions)
+whole_again b i names h =
+    let g = front_again b b [] i names (sym (append-nil b)) h in
+    record { lines = Ok (record { instance = i; names = names }, record { at = g.0; rest = [] }); reads = g.1; is = refl }

@@ -425,22 +425,48 @@ Then (Err fault) next read = read ≡ Err fault
 abbrev pub OnlyWhere : {B : Type 0} → Type 0 → FileFault → (Result B FileFault → Type 0) → Result B FileFault → Type 0
 OnlyWhere condition fault next read = (condition × next read) ⊎ ((¬ condition) × (read ≡ Err fault))
 
--- The lines after the head are all of the text.
-pub record ReadsRest (class : Class) (machines : ℕ) (speeds : List ℕ) (shared : ℕ) (place : Place) (read : Result Filed FileFault) : Type 0 where
+-- The lines after the head.
+pub record ReadsRest (class : Class) (machines : ℕ) (speeds : List ℕ) (shared : ℕ) (place : Place) (read : Result (Filed × Place) FileFault) : Type 0 where
   pub lines : Result (Draft × Place) FileFault
   pub reads : ReadsJobs class machines shared no_draft place lines
-  pub whole : read ≡ (lines >>= λ line. provided (length line.1.rest == 0) (After line.1.at) (Ok (filed_of class machines speeds line.0)))
+  pub filed : read ≡ (lines >>= λ line. Ok (filed_of class machines speeds line.0, line.1))
 
 -- The lines after those of the machines are read so. The speeds have a common multiple that is not too great.
-abbrev pub ReadsSpeeds : Class → ℕ → Place → Result Filed FileFault → Type 0
+abbrev pub ReadsSpeeds : Class → ℕ → Place → Result (Filed × Place) FileFault → Type 0
 ReadsSpeeds class machines place read =
     Then (speeds_at class.env machines place) (λ speeds.
     OnlyWhere (HasSmallMultiple speeds.0) (Limit place.at what.Multiple) (
     Then (time_at class.times speeds.1) (λ shared. ReadsRest class machines speeds.0 shared.0 shared.1))) read
 
--- The lines of a text are read so: as those of one instance, or up to the first fault.
-unfoldable pub Reads : List ℕ → Result Filed FileFault → Type 0
-Reads bytes read =
-    Then (version_at (record { at = 1; rest = bytes })) (λ place.
+-- The lines from a place on are read so: as those of one instance, up to the place after them, or up to the first fault.
+unfoldable pub ReadsLines : Place → Result (Filed × Place) FileFault → Type 0
+ReadsLines place read =
+    Then (version_at place) (λ place.
     Then (class_at place) (λ class.
     Then (machines_at class.0.env class.1) (λ machines. ReadsSpeeds class.0 machines.0 machines.1))) read
+
+-- The place before the first line of a text.
+abbrev pub start_of : List ℕ → Place
+start_of bytes = record { at = 1; rest = bytes }
+
+-- What is read of the lines of one instance at the front of a text.
+pub record ReadsBy (last : Filed × Place → Result Filed FileFault) (bytes : List ℕ) (read : Result Filed FileFault) : Type 0 where
+  pub lines : Result (Filed × Place) FileFault
+  pub reads : ReadsLines (start_of bytes) lines
+  pub is : read ≡ (lines >>= last)
+
+-- What was read is all, if nothing follows it.
+abbrev pub all_of : {A : Type 0} → A × Place → Result A FileFault
+all_of x = provided (length x.1.rest == 0) (After x.1.at) (Ok x.0)
+
+-- What was read, whatever follows it.
+abbrev pub front_of : {A : Type 0} → A × Place → Result A FileFault
+front_of x = Ok x.0
+
+-- The lines of a text are read so: as those of one instance and no more, or up to the first fault.
+abbrev pub Reads : List ℕ → Result Filed FileFault → Type 0
+Reads bytes read = ReadsBy all_of bytes read
+
+-- The lines at the front of a text are read so: as those of one instance, or up to the first fault.
+abbrev pub ReadsFront : List ℕ → Result Filed FileFault → Type 0
+ReadsFront bytes read = ReadsBy front_of bytes read

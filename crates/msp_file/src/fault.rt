@@ -1,6 +1,12 @@
-// The faults of texts.
+// The faults of texts, and what is said of them.
+ghost use Rattle.std.specs.Prelude.{◌≡◌, ◌+◌, ◌≤◌, ◌++◌, length, codes};
+ghost use Rattle.msp_name.specs.declared.short_text.TheConstants.{ROOM};
+ghost use Rattle.msp_job_name.specs.declared.job_name.TheConstants.{LONGEST_NAME};
+ghost use Rattle.msp_file.specs.Faults.{quantity_text, at_line, broken_text, file_text};
+
 use msp_instance::ClassFault;
 use msp_job_name::JobName;
+use msp_name::ShortText;
 
 /// A quantity that texts keep within limits.
 #[derive(Clone, Copy, Debug, PartialEq, Eq)]
@@ -96,4 +102,125 @@ pub enum FileFault {
     },
     /// There was not memory enough.
     Memory,
+}
+
+impl What {
+    /// The word for the quantity.
+    fn word(self) -> &'static [u8]
+        ensures value { result.now ≡ quantity_text self }
+        ensures short { length result.now ≤ 8 }
+    {
+        match self {
+            What::Jobs => b"jobs",
+            What::Arcs => b"arcs",
+            What::Name => b"name",
+            What::Machines => b"machines",
+            What::Speed => b"speed",
+            What::Multiple => b"multiple",
+            What::Time => b"time",
+            What::Release => b"release",
+            What::Due => b"due",
+            What::Weight => b"weight",
+            What::Slope => b"slope",
+            What::Base => b"base",
+            What::Above => b"above",
+            What::Add => b"add",
+            What::Steps => b"steps",
+            What::Route => b"route",
+            What::Place => b"place",
+            What::Unit => b"unit",
+            What::Moment => b"moment",
+            What::Cost => b"cost",
+            What::Pieces => b"pieces",
+        }
+    }
+}
+
+fn plain(bytes: &[u8]) -> ShortText
+    requires { length bytes.now ≤ ROOM }
+    ensures { result ≡ bytes.now }
+{
+    let mut text = ShortText::new();
+    text.put(bytes);
+    text
+}
+
+/// The number of a line, which has at most 10 digits, and what is said of it.
+fn at_line(at: u32, what: &[u8]) -> ShortText
+    requires { length what.now + 17 ≤ ROOM }
+    ensures text { result ≡ at_line at what.now }
+    ensures short { length result ≤ length what.now + 17 }
+{
+    let mut digits = itoa::Buffer::new();
+    let mut text = plain(b"line ");
+    text.put(digits.format(at).as_bytes());
+    text.put(b": ");
+    text.put(what);
+    text
+}
+
+fn limit(at: u32, what: What) -> ShortText
+    ensures { result ≡ at_line at (codes "limit of " ++ quantity_text what) }
+{
+    let mut text = at_line(at, b"limit of ");
+    text.put(what.word());
+    text
+}
+
+/// The name of a job behind some bytes.
+fn headed(head: &[u8], name: &JobName) -> ShortText
+    requires { length head.now + LONGEST_NAME ≤ ROOM }
+    ensures text { result ≡ head.now ++ name.now }
+    ensures short { length result ≤ length head.now + LONGEST_NAME }
+{
+    let mut text = plain(head);
+    text.put(name.bytes());
+    text
+}
+
+fn of_job(name: &JobName, what: &[u8]) -> ShortText
+    requires { length what.now + LONGEST_NAME + 4 ≤ ROOM }
+    ensures { result ≡ codes "job " ++ name.now ++ what.now }
+{
+    let mut text = headed(b"job ", name);
+    text.put(what);
+    text
+}
+
+/// The condition of the class that is broken.
+fn broken(fault: ClassFault, name: &Option<JobName>) -> ShortText
+    ensures { result ≡ broken_text fault name.now }
+{
+    match (fault, name) {
+        (ClassFault::Jobs, _) => plain(b"no jobs"),
+        (ClassFault::Need { .. }, Some(name)) => of_job(name, b": needs"),
+        (ClassFault::Degree { .. }, Some(name)) => of_job(name, b": degree"),
+        _ => ShortText::new(),
+    }
+}
+
+impl FileFault {
+    /// The text of the fault. It takes no memory.
+    pub fn text(&self) -> ShortText
+        ensures { result ≡ file_text self.now }
+    {
+        match self {
+            FileFault::Head { at } => at_line(*at, b"head"),
+            FileFault::Missing { at } => at_line(*at, b"missing"),
+            FileFault::Cut { at } => at_line(*at, b"cut"),
+            FileFault::Line { at } => at_line(*at, b"not expected here"),
+            FileFault::Count { at } => at_line(*at, b"count of fields"),
+            FileFault::Key { at } => at_line(*at, b"key"),
+            FileFault::Name { at } => at_line(*at, b"name"),
+            FileFault::Number { at } => at_line(*at, b"number"),
+            FileFault::Limit { at, what } => limit(*at, *what),
+            FileFault::Again { at } => at_line(*at, b"name again"),
+            FileFault::ArcAgain { at } => at_line(*at, b"arc again"),
+            FileFault::Unknown { at } => at_line(*at, b"unknown name"),
+            FileFault::After { at } => at_line(*at, b"after the end"),
+            FileFault::Class { fault, name } => broken(*fault, name),
+            FileFault::Cycle { name, .. } => headed(b"cycle at ", name),
+            FileFault::Memory => plain(b"out of memory"),
+        }
+    }
 }

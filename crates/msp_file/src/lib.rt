@@ -22,4 +22,4 @@ mod tests;
 pub use fault::{FileFault, What};
 pub use msp_grammar::{Filed, print_instance, print_schedule};
 pub use msp_job_name::{JobName, Names};
-pub use read::{MOST_BYTES, read_instance, texts_are_read_one_way};
+pub use read::{Front, MOST_BYTES, read_front, read_instance, texts_are_read_one_way};

@@ -1,12 +1,12 @@
 // The reader of instance texts.
 ghost use Rattle.std.specs.Prelude.{◌≡◌, ℕ, ◌+◌, ◌<◌, ◌≤◌, ◌^◌, List as Items, length, IfOk, IfErr, MatchResult, Ok};
 ghost use Rattle.msp_instance.specs.declared.Instance.{Instance as InstanceValue};
-ghost use Rattle.msp_instance.specs.Conditions.{MeetsConditions, text_limits, IsAcyclic};
+ghost use Rattle.msp_instance.specs.Conditions.{MeetsConditions, text_limits, IsAcyclic, InClass};
 ghost use Rattle.msp_file.specs.declared.read.TheConstants.{MOST_BYTES};
-ghost use Rattle.msp_file.specs.Answers.{faulty_name, IsTextFault, IsAnswerTo, ReadsOneWay};
+ghost use Rattle.msp_file.specs.Answers.{faulty_name, IsTextFault, IsFrontFault, IsFrontFaultOf, IsFrontText, IsAnswerTo, ReadsOneWay};
 ghost use Rattle.msp_grammar.specs.InstanceText.{IsInstanceText};
-ghost use Rattle.msp_file.specs.Reading.{Reads, ReadsRest, ReadsSpeeds, filed_of, no_draft};
-ghost use Rattle.msp_file.specs.Steps.{Gives, GivesBy, IsFaultOfFiled, place_of};
+ghost use Rattle.msp_file.specs.Reading.{Reads, ReadsLines, ReadsRest, ReadsSpeeds, filed_of, no_draft};
+ghost use Rattle.msp_file.specs.Steps.{Gives, GivesBy, MovesBy, IsFaultOfFiled, place_of};
 
 use crate::arcs::Arcs;
 use crate::draft::{Draft, Frame, jobs_at};
@@ -57,7 +57,7 @@ fn filed_of(
     })
 }
 
-/// Reads the lines after the head, which are all of the text.
+/// Reads the lines after the head.
 #[tactic(auto, using(crate::proofs::Readings::rest_rules))]
 fn rest_at(
     alloc: Global,
@@ -66,16 +66,11 @@ fn rest_at(
     lines: &mut Lines<'_>,
 ) -> Result<Filed, FileFault>
     ensures even { IfOk result (λ f. length f.names ≡ length f.instance.jobs) }
-    ensures gives { GivesBy result (ReadsRest frame.class frame.machines speeds frame.time (place_of lines.old)) }
+    ensures moves { MovesBy (λ f. f) result (place_of lines.new) (ReadsRest frame.class frame.machines speeds frame.time (place_of lines.old)) }
 {
     let mut draft = no_draft(alloc);
     match jobs_at(alloc, frame, &mut draft, lines) {
-        Ok(()) => {
-            if !lines.rest.is_empty() {
-                return Err(FileFault::After { at: lines.at });
-            }
-            filed_of(alloc, frame.class, frame.machines, speeds, draft)
-        }
+        Ok(()) => filed_of(alloc, frame.class, frame.machines, speeds, draft),
         Err(fault) => Err(fault),
     }
 }
@@ -89,7 +84,7 @@ fn speeds_on(
     lines: &mut Lines<'_>,
 ) -> Result<Filed, FileFault>
     ensures even { IfOk result (λ f. length f.names ≡ length f.instance.jobs) }
-    ensures gives { GivesBy result (ReadsSpeeds class machines (place_of lines.old)) }
+    ensures moves { MovesBy (λ f. f) result (place_of lines.new) (ReadsSpeeds class machines (place_of lines.old)) }
 {
     let at = lines.at;
     let speeds = speeds_at(alloc, class.env, machines, lines)?;
@@ -112,18 +107,35 @@ fn speeds_on(
     }
 }
 
-/// Reads the lines of a text, which are those of one instance.
-#[tactic(auto, unfolding(crate::specs::Reading::Reads), using(crate::proofs::Readings::then_rules))]
+/// Reads the lines of one instance.
+#[tactic(auto, unfolding(crate::specs::Reading::ReadsLines), using(crate::proofs::Readings::then_rules))]
+fn lines_at(alloc: Global, lines: &mut Lines<'_>) -> Result<Filed, FileFault>
+    ensures even { IfOk result (λ f. length f.names ≡ length f.instance.jobs) }
+    ensures moves { MovesBy (λ f. f) result (place_of lines.new) (ReadsLines (place_of lines.old)) }
+{
+    version_at(lines)?;
+    let class = class_at(lines)?;
+    let machines = machines_at(class.env, lines)?;
+    speeds_on(alloc, class, machines, lines)
+}
+
+/// Reads the lines of a text, which are those of one instance and no more.
+#[tactic(auto, using(crate::proofs::Readings::whole_rules))]
 fn filed_at(alloc: Global, bytes: &[u8]) -> Result<Filed, FileFault>
     requires { length bytes.now ≤ MOST_BYTES }
     ensures even { IfOk result (λ f. length f.names ≡ length f.instance.jobs) }
     ensures gives { GivesBy result (Reads bytes.now) }
 {
     let mut lines = Lines { at: 1, rest: bytes };
-    version_at(&mut lines)?;
-    let class = class_at(&mut lines)?;
-    let machines = machines_at(class.env, &mut lines)?;
-    speeds_on(alloc, class, machines, &mut lines)
+    match lines_at(alloc, &mut lines) {
+        Ok(filed) => {
+            if !lines.rest.is_empty() {
+                return Err(FileFault::After { at: lines.at });
+            }
+            Ok(filed)
+        }
+        Err(fault) => Err(fault),
+    }
 }
 
 /// The name of the job that a fault of the class names, if it names one.
@@ -176,6 +188,17 @@ fn check_order(alloc: Global, filed: &Filed) -> Result<(), FileFault>
     }
 }
 
+/// Whether the instance is in its class: the first condition that it breaks, and else a cycle, as a fault of the text.
+fn check_filed(alloc: Global, filed: &Filed) -> Result<(), FileFault>
+    requires { length filed.now.names ≡ length filed.now.instance.jobs }
+    ensures { MatchResult result (λ _. InClass filed.now.instance) (λ e. IsFaultOfFiled filed.now e) }
+{
+    match check_class(filed) {
+        Ok(()) => check_order(alloc, filed),
+        Err(fault) => Err(fault),
+    }
+}
+
 /// Reads a whole instance text. The instance is in its class, and the fault is the first one: of the lines in order, then of the
 /// class, then a cycle.
 #[tactic(auto, using(crate::proofs::AnswerLemmas::answer_rules, crate::proofs::AnswerLaws::text_rules))]
@@ -194,9 +217,48 @@ pub fn read_instance(alloc: Global, bytes: &[u8]) -> Result<Filed, FileFault>
         Ok(filed) => filed,
         Err(fault) => return Err(fault),
     };
-    check_class(&filed)?;
-    check_order(alloc, &filed)?;
-    Ok(filed)
+    match check_filed(alloc, &filed) {
+        Ok(()) => Ok(filed),
+        Err(fault) => Err(fault),
+    }
+}
+
+/// An instance that stands as a text at the front of other bytes.
+#[derive(Drop)]
+pub struct Front {
+    pub filed: Filed,
+    /// How many bytes the text has.
+    pub used: usize,
+    /// The number of the line after the text, from 1.
+    pub line: u32,
+}
+
+/// Reads the instance text at the front of the bytes, whatever follows it. The instance is in its class, and the fault is the first
+/// one: of the lines in order, then of the class, then a cycle.
+#[tactic(auto, using(crate::proofs::FrontLaws::front_text_rules))]
+pub fn read_front(alloc: Global, bytes: &[u8]) -> Result<Front, FileFault>
+    requires { length bytes.now ≤ MOST_BYTES }
+    ensures fault { IfErr result (λ e. IsFrontFaultOf bytes.now e) }
+    // What is read is the text of the instance, and all after it is left.
+    ensures text { IfOk result (λ f. IsFrontText bytes.now f.filed.instance f.filed.names f.used f.line) }
+    // The text of an instance at the front is read as that instance, unless memory runs out.
+    ensures again { (i : InstanceValue) (names : Items (Items ℕ)) (used line : ℕ) → IsFrontText bytes.now i names used line → Gives (λ f. f) result (Ok (record { filed = record { instance = i; names = names }; used = used; line = line })) }
+    // A text breaks at most these conditions of its class, and what follows it is no fault.
+    ensures front_faults { IfErr result (λ e. IsFrontFault e) }
+{
+    let mut lines = Lines { at: 1, rest: bytes };
+    let filed = match lines_at(alloc, &mut lines) {
+        Ok(filed) => filed,
+        Err(fault) => return Err(fault),
+    };
+    match check_filed(alloc, &filed) {
+        Ok(()) => Ok(Front {
+            filed,
+            used: bytes.len() - lines.rest.len(),
+            line: lines.at,
+        }),
+        Err(fault) => Err(fault),
+    }
 }
 
 /// Each text is read in one way: the definition of reading by relations gives one instance or one first fault.

@@ -6,7 +6,7 @@ use Rattle.msp_top.specs.declared.words.Misfit.{Misfit}
 use Rattle.msp_top.specs.declared.words.Misfit.TheVariants.{Form, Name}
 use Rattle.msp_top.specs.Usage.{misfit_text, misspelled_text}
 use Rattle.msp_top.specs.Run.{too_long_text}
-use Rattle.msp_top.specs.Files.{file_text}
+use Rattle.msp_file.specs.Faults.{file_text}
 use Rattle.msp_top.specs.Cannots.{cannot_text}
 use Rattle.msp_results.specs.Faults.{results_text}
 

@@ -11,7 +11,8 @@ use Rattle.msp_report.specs.SolveText.{solve_report}
 use Rattle.msp_dispatch.specs.declared.Cannot.{Cannot}
 use Rattle.msp_dispatch.specs.declared.Cannot.TheVariants.{Memory as NoMemory}
 use Rattle.msp_dispatch.specs.Dispatch.{IsAnswered, IsFault}
-use Rattle.msp_top.specs.Files.{file_status, file_text}
+use Rattle.msp_file.specs.Faults.{file_text}
+use Rattle.msp_top.specs.Files.{file_status}
 use Rattle.msp_top.specs.Cannots.{cannot_status, cannot_text}
 use Rattle.msp_top.specs.Outcome.{Outcome, report, refusal}
 

@@ -1,9 +1,0 @@
--- The goals of `put_headed` that are proved by lemmas.
-use Rattle.msp_top.proofs.PutsLemmas.{puts-along, puts-exit, puts-then}
-use Rattle.msp_top.proofs.notes.put_headed.Goals as goal
-
-pub returns-in_err-write_all : goal.returns-in_err-write_all
-returns-in_err-write_all g c = puts-exit _ _ _ c.args.head.now c.args.name.now c.from_residual.result _ c.from_residual.ensures.1 c.in_err-write_all.ensures
-
-pub returns : goal.returns
-returns g c = puts-then _ _ _ c.args.head.now c.args.name.now _ _ c.in_ok-write_all.ensures (puts-along _ _ _ _ _ c.bytes.ensures.value c.write_all-2.ensures)
