@@ -1,5 +1,5 @@
 -- How large the cost of a schedule within the bounds can be.
-use Rattle.std.proofs.Common.{◌≡◌, ℕ, ◌+◌, ◌*◌, ◌^◌, ◌≤◌, ◌<◌, Bool, true, false, cond, List, [], ◌∷◌, length, get_or, fold, All, Contains, inl, inr, ℤ, pos, neg_ℤ, ◌+ℤ◌, ◌-ℤ◌, ◌*ℤ◌, ◌≤ℤ◌, int_lt, refl, sym, ap, ◌∙◌, subst, arith, lit≤}
+use Rattle.std.proofs.Common.{ℕ, ◌+◌, ◌*◌, ◌^◌, ◌≤◌, ◌<◌, Bool, true, false, cond, List, [], ◌∷◌, length, get_or, fold, All, inl, inr, ℤ, pos, ◌+ℤ◌, ◌-ℤ◌, ◌*ℤ◌, int_lt, refl, sym, subst, arith, lit≤}
 use Rattle.std.specs.Int.{int_max}
 use Rattle.std.proofs.lemmas.Int.{ints, clamps, fold-int_max_reached}
 use Rattle.std.proofs.lemmas.List.Elements.{All-head, All-tail, All-contains}
@@ -12,7 +12,7 @@ use Rattle.msp_instance.specs.Instance.{no_job}
 use Rattle.msp_instance.specs.Conditions.{LiesWithin, Inner}
 use Rattle.msp_schedule.specs.declared.Piece.{Piece}
 use Rattle.msp_schedule.specs.declared.Schedule.{Schedule}
-use Rattle.msp_schedule.specs.Cost.{last_end, end_of, jumps, lateness, tardiness, late, job_cost, job_costs, greatest, combined, cost_of}
+use Rattle.msp_schedule.specs.Cost.{last_end, end_of, jumps, job_cost, job_costs, greatest, cost_of}
 use Rattle.msp_schedule.specs.Feasible.{total}
 use Rattle.msp_schedule.specs.Within.{IsMoment, IsUnit, HasSmallCost, Within, greatest_cost}
 use Rattle.msp_schedule.proofs.Costs.{length-job_costs, get_or-job_costs}

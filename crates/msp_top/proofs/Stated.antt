@@ -1,5 +1,5 @@
 -- A solution in the form of a report can be written as a text.
-use Rattle.std.proofs.Common.{◌≡◌, ℕ, zero, suc, ◌*◌, ◌^◌, ◌<◌, ◌≤◌, List, length, get_or, All, ℤ, pos, negsuc, neg_ℤ, ◌*ℤ◌, ◌≤ℤ◌, unsigned_abs, refl, sym, ap, ◌∙◌, subst, arith}
+use Rattle.std.proofs.Common.{◌≡◌, ℕ, zero, suc, ◌*◌, ◌<◌, ◌≤◌, List, length, get_or, ℤ, pos, negsuc, neg_ℤ, ◌*ℤ◌, unsigned_abs, refl, sym, ap, ◌∙◌, subst, arith}
 use Rattle.std.proofs.lemmas.Int.{ints}
 use Rattle.std.specs.Int.{IsGcd}
 use Rattle.msp_class.specs.declared.class.Env.{Env}
@@ -9,20 +9,17 @@ use Rattle.msp_class.specs.declared.environments.EnvKind.TheVariants as kind
 use Rattle.msp_class.specs.declared.environments.TheConstants.{MOST_OPERATIONS}
 use Rattle.msp_class.specs.Env.{kind_of, most_operations}
 use Rattle.msp_class.proofs.IntegerRing.{natural_some}
-use Rattle.msp_instance.specs.declared.ranges.TheConstants.{MOST_MACHINES}
 use Rattle.msp_instance.specs.declared.Instance.{Instance}
-use Rattle.msp_instance.specs.declared.Need.{Need}
-use Rattle.msp_instance.specs.Instance.{no_need, no_job, job_at, need_at}
-use Rattle.msp_instance.specs.Conditions.{LiesWithin, HasShape, InClass, text_limits}
+use Rattle.msp_instance.specs.Instance.{no_need, no_job, job_at}
+use Rattle.msp_instance.specs.Conditions.{LiesWithin, HasShape, InClass}
 use Rattle.msp_instance.proofs.Limits.{Inner-from_class}
 use Rattle.msp_schedule.specs.declared.Frac.{Frac}
-use Rattle.msp_schedule.specs.declared.Piece.{Piece}
 use Rattle.msp_schedule.specs.declared.Solution.{Solution}
 use Rattle.msp_schedule.specs.Cost.{cost_of}
 use Rattle.msp_schedule.specs.Feasible.{HasOperation, MayRun, HasPlace}
 use Rattle.msp_schedule.specs.Fraction.{IsOver, IsLowest}
 use Rattle.msp_schedule.specs.Within.{IsUnit}
-use Rattle.msp_grammar.specs.ScheduleText.{IsStatedCost, IsStatedPiece, IsStated}
+use Rattle.msp_grammar.specs.ScheduleText.{IsStatedCost, IsStated}
 use Rattle.msp_dispatch.specs.Dispatch.{IsReported}
 use Rattle.msp_top.proofs.Divided.{IsPrimeTo-from_gcd, lowest_is_least}
 use Rattle.msp_top.proofs.CostBounds.{greatest_total, cost_of_small}
