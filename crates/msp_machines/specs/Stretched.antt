@@ -333,7 +333,6 @@ pub record IsLedBySpeeds (row : ℕ) (i j : Instance) : Type 0 where
   pub to : kind_of j.class.env ≡ Unrelated
   pub some : 1 ≤ least_common_multiple i.speeds
   pub small : least_common_multiple i.speeds ≤ GREATEST_MULTIPLE
-  pub general : i.class.times ≡ General
 
 led_there : (row : ℕ) (i : Instance) (e : Env) → kind_of i.class.env ≡ Uniform → kind_of e ≡ Unrelated → fixed_machines i.class.env ≡ fixed_machines e → i.class.times ≡ General → goes_of row i.class ≡ Some (record i.class { env = e }) → Inner i → IsLedBySpeeds row i (led_by_speeds row i)
 led_there row i e from to fixed general g inner = subst (IsLedBySpeeds row i) (sym (ap (λ o. record i { class = unwrap_or o i.class; speeds = []; jobs = map (stretched (least_common_multiple i.speeds) i.speeds) i.jobs }) g)) (record {
@@ -345,7 +344,6 @@ led_there row i e from to fixed general g inner = subst (IsLedBySpeeds row i) (s
   to = to;
   some = factor_some row i e from to fixed general g inner;
   small = factor_small row i e from to fixed general g inner;
-  general = general;
 })
 
 pub led_26 : (i : Instance) → Inner i → Applies 26 i → IsLedBySpeeds 26 i (led_by_speeds 26 i)

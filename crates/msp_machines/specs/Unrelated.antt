@@ -39,7 +39,7 @@ led_to_each row i = record (led row i) { jobs = map (on_each_machine i.machines)
 unfoldable pub least_common_multiple : List ℕ → ℕ
 least_common_multiple xs = unwrap_or (find (λ n. list_all (λ x. n % x == 0) xs) (range_with_len 1 (fold ◌*◌ 1 xs))) 1
 
--- The curve in times that are some times as long: thresholds, adds and base are multiplied, and the slope stays.
+-- A step and a curve with times and costs multiplied by the factor. The slope stays, since the time that it multiplies grows.
 abbrev pub stretched_step : ℕ → Step → Step
 stretched_step factor s = record { above = factor * s.above; add = factor * s.add }
 
@@ -50,7 +50,7 @@ stretched_curve factor c = record {
   steps = map (stretched_step factor) c.steps;
 }
 
--- The job in times that are some times as long. On each machine it takes its time divided by the speed there.
+-- The job with its times multiplied by the factor, a multiple of all speeds. On each machine its time is divided by the speed there.
 abbrev pub stretched : ℕ → List ℕ → Job → Job
 stretched factor speeds j = record {
   release = factor * j.release;
@@ -60,11 +60,11 @@ stretched factor speeds j = record {
   curve = stretched_curve factor j.curve;
 }
 
--- The instance to which the rows from uniform machines lead, with times as long as the least common multiple of the speeds.
+-- The instance to which the rows from uniform machines lead: all times are multiplied by the least common multiple of the speeds.
 abbrev pub led_by_speeds : ℕ → Instance → Instance
 led_by_speeds row i = record (led row i) { speeds = []; jobs = map (stretched (least_common_multiple i.speeds) i.speeds) i.jobs }
 
--- By how much costs grow with times: a number of late jobs stays.
+-- By how much costs grow where all times are multiplied by the factor: a number of late jobs stays.
 abbrev pub cost_factor : Crit → ℕ → ℕ
 cost_factor Cmax factor = factor
 cost_factor Lmax factor = factor
@@ -76,10 +76,12 @@ cost_factor SumWU factor = 1
 cost_factor SumT factor = factor
 cost_factor SumWT factor = factor
 
+-- How the rows from uniform machines translate costs.
 abbrev pub speed_rate : Instance → Rate
 speed_rate i = record { factor = cost_factor i.class.crit (least_common_multiple i.speeds); addend = pos 0; scale = 1 }
 
--- The schedule with all moments multiplied; and with the unit multiplied, so that all times are as much shorter.
+-- The schedule with all moments multiplied by the factor; and with the unit multiplied, so that each moment stands for a time as much
+-- earlier.
 abbrev pub stretched_piece : ℕ → Piece → Piece
 stretched_piece factor p = record p { from = pos factor *ℤ p.from; to = pos factor *ℤ p.to }
 

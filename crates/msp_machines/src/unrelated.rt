@@ -338,8 +338,8 @@ fn solution_by_speeds(inst: &Instance, schedule: Schedule) -> Solution
     Solution { schedule, cost }
 }
 
-/// Uniform machines are unrelated ones: with times as long as the least common multiple of the speeds, each job takes its time
-/// divided by the speed (Lageweg, Lawler, Lenstra and Rinnooy Kan 1982).
+/// Uniform machines are unrelated ones: once all times are multiplied by the least common multiple of the speeds, a job takes its time
+/// divided by the speed on each machine (Lageweg, Lawler, Lenstra and Rinnooy Kan 1982).
 #[derive(Clone, Copy, Debug)]
 pub struct Row26;
 
