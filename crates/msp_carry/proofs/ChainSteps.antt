@@ -15,7 +15,7 @@ use Rattle.msp_schedule.specs.declared.Schedule.{Schedule}
 use Rattle.msp_schedule.specs.declared.Solution.{Solution}
 use Rattle.msp_schedule.specs.Feasible.{Feasible}
 use Rattle.msp_schedule.specs.Within.{Within, IsMoment}
-use Rattle.msp_table.specs.Rows.{is_built}
+use Rattle.msp_table.specs.Rows.{carries}
 use Rattle.msp_table.specs.Chains.{Leads, stay, step}
 use Rattle.msp_table.proofs.ChainLemmas.{Leads-first, Leads-one}
 use Rattle.msp_route.specs.Law.{Applies, IsLower}
@@ -33,10 +33,10 @@ behind rows = take (length rows - 1) (drop 1 rows)
 pub record FirstStep (i : Instance) (k : ℕ) (rows : List ℕ) (last : Class) : Type 0 where
   pub is : rows ≡ k ∷ behind rows
   pub shorter : length (behind rows) < length rows
-  pub built : IsTrue (is_built k)
+  pub usable : IsTrue (carries k)
   pub applies : Applies k i
   pub rest : (j : Instance) → IsLower k i j → IsChainTo j (behind rows) last
-  pub leads : (j : Instance) (c : Class) → IsLower k i j → Leads is_built j.class (behind rows) c → Leads is_built i.class rows c
+  pub leads : (j : Instance) (c : Class) → IsLower k i j → Leads carries j.class (behind rows) c → Leads carries i.class rows c
 
 same_some : {x y : Class} → Some x ≡ Some y → x ≡ y
 same_some e = cc
@@ -49,17 +49,17 @@ pub first_step : (i : Instance) (k : ℕ) (rows : List ℕ) (last : Class) → 1
 first_step i k rows last some is chain =
     let split = first_is rows k some is in
     let long : length rows ≡ length (k ∷ behind rows) = ap length split in
-    let first = Leads-first (subst (λ r. Leads is_built i.class r last) split chain.leads) in
+    let first = Leads-first (subst (λ r. Leads carries i.class r last) split chain.leads) in
     record {
       is = split;
       shorter = omega (arith, long);
-      built = first.is_usable;
+      usable = first.is_usable;
       applies = subst IsSome (sym first.goes) refl;
       rest = λ j led. record {
-        leads = subst (λ c. Leads is_built c (behind rows) last) (same_some (sym first.goes ∙ led.class)) first.rest;
+        leads = subst (λ c. Leads carries c (behind rows) last) (same_some (sym first.goes ∙ led.class)) first.rest;
         few = omega (arith, chain.few, long);
       };
-      leads = λ j c led leads. subst (λ r. Leads is_built i.class r c) (sym split) (step first.is_usable led.class leads);
+      leads = λ j c led leads. subst (λ r. Leads carries i.class r c) (sym split) (step first.is_usable led.class leads);
     }
 
 -- a chain without rows stays
@@ -67,15 +67,15 @@ pub no_rows : (rows : List ℕ) → length rows < 1 → rows ≡ []
 no_rows [] none = refl
 no_rows (k ∷ ks) none = absurd (omega (arith, none))
 
-pub stays_at : (a b : Class) (rows : List ℕ) → length rows < 1 → Leads is_built a rows b → a ≡ b
-stays_at a b rows none leads = Leads-one {usable = is_built} a a b [] stay (subst (λ r. Leads is_built a r b) (no_rows rows none) leads)
+pub stays_at : (a b : Class) (rows : List ℕ) → length rows < 1 → Leads carries a rows b → a ≡ b
+stays_at a b rows none leads = Leads-one {usable = carries} a a b [] stay (subst (λ r. Leads carries a r b) (no_rows rows none) leads)
 
-pub IfOk-stay : (i : Instance) (rows : List ℕ) (result : Result Instance NoMemory) → length rows < 1 → IfOk result (λ j. j ≡ i) → IfOk result (λ j. Leads is_built i.class rows j.class)
-IfOk-stay i rows (Ok j) none same = subst (λ r. Leads is_built i.class r j.class) (sym (no_rows rows none)) (subst (λ x. Leads is_built i.class [] x.class) (sym same) stay)
+pub IfOk-stay : (i : Instance) (rows : List ℕ) (result : Result Instance NoMemory) → length rows < 1 → IfOk result (λ j. j ≡ i) → IfOk result (λ j. Leads carries i.class rows j.class)
+IfOk-stay i rows (Ok j) none same = subst (λ r. Leads carries i.class r j.class) (sym (no_rows rows none)) (subst (λ x. Leads carries i.class [] x.class) (sym same) stay)
 IfOk-stay i rows (Err e) none same = tt
 
 pub IfOk-leads : {i j : Instance} {k : ℕ} {rows : List ℕ} {last : Class} (result : Result Instance NoMemory) → FirstStep i k rows last → IsLower k i j
-    → IfOk result (λ x. Leads is_built j.class (behind rows) x.class) → IfOk result (λ x. Leads is_built i.class rows x.class)
+    → IfOk result (λ x. Leads carries j.class (behind rows) x.class) → IfOk result (λ x. Leads carries i.class rows x.class)
 IfOk-leads {i} {j} (Ok x) first led leads = first.leads j x.class led leads
 IfOk-leads (Err e) first led leads = tt
 
@@ -86,7 +86,7 @@ carried_on {i} {j} {k} {rows} first same = ap (λ r. carried r i) first.is ∙ a
 pub IsBounded-chain : (i : Instance) (rows : List ℕ) (last : Class) (s : Schedule) → IsChainTo i rows last → IsSized i s → EndsBy (moment_over rows) s → IsBounded i s
 IsBounded-chain i rows last s chain sized ends = record {
   sized = sized;
-  ends = λ k d l. ≤ℤ_trans (ends k d l) (moment_over-low is_built i.class last rows chain.leads chain.few);
+  ends = λ k d l. ≤ℤ_trans (ends k d l) (moment_over-low carries i.class last rows chain.leads chain.few);
 }
 
 pub IfOk-ends : {i : Instance} {k : ℕ} {rows : List ℕ} {last : Class} (lower : Instance) (t : Schedule) (result : Result Solution NoMemory) → FirstStep i k rows last → EndsBy (moment_over (behind rows)) t

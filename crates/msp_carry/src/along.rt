@@ -3,7 +3,7 @@ ghost use Rattle.std.specs.Prelude.{◌≡◌, IfOk};
 ghost use Rattle.msp_instance.specs.Conditions.{Inner};
 ghost use Rattle.msp_schedule.specs.Cost.{IsSolution, IsBest};
 ghost use Rattle.msp_schedule.specs.Within.{Within};
-ghost use Rattle.msp_table.specs.Rows.{is_built};
+ghost use Rattle.msp_table.specs.Rows.{carries};
 ghost use Rattle.msp_table.specs.Chains.{Leads};
 ghost use Rattle.msp_route.specs.Bounds.{IsSized, EndsBy};
 ghost use Rattle.msp_route.specs.declared.bounds.TheConstants.{GREATEST_ANSWER_MOMENT};
@@ -23,7 +23,7 @@ fn carry_on(alloc: Global, inst: Instance, rows: &[Row]) -> Result<Instance, NoM
     requires chain { IsChain inst rows.now }
     ensures same { IfOk result (λ j. j ≡ carried rows.now inst) }
     ensures inner { IfOk result (λ j. Inner j) }
-    ensures class { IfOk result (λ j. Leads is_built inst.class rows.now j.class) }
+    ensures class { IfOk result (λ j. Leads carries inst.class rows.now j.class) }
 {
     match rows {
         [] => Ok(inst),
@@ -40,7 +40,7 @@ pub fn carry(alloc: Global, inst: &Instance, rows: &List<Row>) -> Result<Instanc
     requires chain { IsChain inst.now rows.now }
     ensures same { IfOk result (λ j. j ≡ carried rows.now inst.now) }
     ensures inner { IfOk result (λ j. Inner j) }
-    ensures class { IfOk result (λ j. Leads is_built inst.now.class rows.now j.class) }
+    ensures class { IfOk result (λ j. Leads carries inst.now.class rows.now j.class) }
 {
     match rows.as_slice() {
         [] => recast(alloc, inst, inst.class),

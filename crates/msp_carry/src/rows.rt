@@ -1,8 +1,8 @@
-// The built rows by their numbers.
+// The carrying rows by their numbers.
 ghost use Rattle.std.specs.Prelude.{◌≡◌, IfOk, IsTrue};
 ghost use Rattle.msp_instance.specs.Conditions.{Inner};
 ghost use Rattle.msp_schedule.specs.Cost.{IsSolution, IsBest};
-ghost use Rattle.msp_table.specs.Rows.{is_built};
+ghost use Rattle.msp_table.specs.Rows.{carries};
 ghost use Rattle.msp_route.specs.Law.{Applies, IsLower};
 ghost use Rattle.msp_route.specs.Bounds.{IsBounded, KeepsBounds};
 ghost use Rattle.msp_carry.specs.Carried.{lower_of};
@@ -10,14 +10,21 @@ ghost use Rattle.msp_carry.specs.Carried.{lower_of};
 use crate::step::{step_back, step_down};
 use msp_class::NoMemory;
 use msp_instance::Instance;
+use msp_machines::{
+    Row17, Row18, Row19, Row20, Row21, Row22, Row23, Row24, Row25, Row26, Row27, Row28, Row29,
+    Row30, Row31, Row32, Row33, Row34, Row35, Row36, Row37, Row38, Row39, Row40, Row41, Row42,
+    Row43, Row44,
+};
 use msp_plain::{
     Row1, Row2, Row3, Row4, Row5, Row6, Row7, Row8, Row9, Row10, Row11, Row12, Row13, Row14, Row53,
+    Row54,
 };
 use msp_schedule::Solution;
 use msp_table::Row;
+use msp_turn::{Row45, Row46, Row47, Row48, Row49, Row50, Row51, Row52};
 use std::alloc::Global;
 
-/// Calls the step at the reduction of the row, which is a built one.
+/// Calls the step at the reduction of the row, which is a carrying one.
 macro_rules! at_row {
     ($row:expr, $step:ident, $($argument:expr),*) => {
         match $row.number() {
@@ -35,7 +42,44 @@ macro_rules! at_row {
             12 => $step(&Row12, $($argument),*),
             13 => $step(&Row13, $($argument),*),
             14 => $step(&Row14, $($argument),*),
-            _ => $step(&Row53, $($argument),*),
+            17 => $step(&Row17, $($argument),*),
+            18 => $step(&Row18, $($argument),*),
+            19 => $step(&Row19, $($argument),*),
+            20 => $step(&Row20, $($argument),*),
+            21 => $step(&Row21, $($argument),*),
+            22 => $step(&Row22, $($argument),*),
+            23 => $step(&Row23, $($argument),*),
+            24 => $step(&Row24, $($argument),*),
+            25 => $step(&Row25, $($argument),*),
+            26 => $step(&Row26, $($argument),*),
+            27 => $step(&Row27, $($argument),*),
+            28 => $step(&Row28, $($argument),*),
+            29 => $step(&Row29, $($argument),*),
+            30 => $step(&Row30, $($argument),*),
+            31 => $step(&Row31, $($argument),*),
+            32 => $step(&Row32, $($argument),*),
+            33 => $step(&Row33, $($argument),*),
+            34 => $step(&Row34, $($argument),*),
+            35 => $step(&Row35, $($argument),*),
+            36 => $step(&Row36, $($argument),*),
+            37 => $step(&Row37, $($argument),*),
+            38 => $step(&Row38, $($argument),*),
+            39 => $step(&Row39, $($argument),*),
+            40 => $step(&Row40, $($argument),*),
+            41 => $step(&Row41, $($argument),*),
+            42 => $step(&Row42, $($argument),*),
+            43 => $step(&Row43, $($argument),*),
+            44 => $step(&Row44, $($argument),*),
+            45 => $step(&Row45, $($argument),*),
+            46 => $step(&Row46, $($argument),*),
+            47 => $step(&Row47, $($argument),*),
+            48 => $step(&Row48, $($argument),*),
+            49 => $step(&Row49, $($argument),*),
+            50 => $step(&Row50, $($argument),*),
+            51 => $step(&Row51, $($argument),*),
+            52 => $step(&Row52, $($argument),*),
+            53 => $step(&Row53, $($argument),*),
+            _ => $step(&Row54, $($argument),*),
         }
     };
 }
@@ -44,7 +88,7 @@ macro_rules! at_row {
 #[tactic(auto, unfolding(crate::specs::Carried::lower_of))]
 pub(crate) fn down(alloc: Global, inst: &Instance, row: Row) -> Result<Instance, NoMemory>
     requires inner { Inner inst.now }
-    requires built { IsTrue (is_built row) }
+    requires carries { IsTrue (carries row) }
     requires applies { Applies row inst.now }
     ensures same { IfOk result (λ j. j ≡ lower_of row inst.now) }
     ensures led { IfOk result (λ j. IsLower row inst.now j) }
@@ -61,7 +105,7 @@ pub(crate) fn back(
     solution: Solution,
 ) -> Result<Solution, NoMemory>
     requires inner { Inner inst.now }
-    requires built { IsTrue (is_built row) }
+    requires carries { IsTrue (carries row) }
     requires applies { Applies row inst.now }
     requires solution { IsSolution (lower_of row inst.now) solution }
     requires bounded { IsBounded (lower_of row inst.now) solution.schedule }

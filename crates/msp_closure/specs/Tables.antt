@@ -3,16 +3,16 @@ use Rattle.std.specs.Prelude.{ℕ, ◌≢◌, ◌≤◌, Bool, false, List, slic
 use Rattle.msp_class.specs.declared.class.Class.{Class}
 use Rattle.msp_class.specs.declared.ranks.TheConstants.{CLASSES}
 use Rattle.msp_class.specs.Rank.{rank_of}
-use Rattle.msp_table.specs.Rows.{is_built, keeps_size}
+use Rattle.msp_table.specs.Rows.{carries, keeps_size}
 use Rattle.msp_table.specs.Chains.{every_row, LeadsInto, IsDistance}
 use Rattle.msp_closure.specs.declared.row_set.RowSet.{RowSet}
-use Rattle.msp_closure.specs.declared.row_set.RowSet.TheVariants.{Every, Built, KeepsSize}
+use Rattle.msp_closure.specs.declared.row_set.RowSet.TheVariants.{Every, Carrying, KeepsSize}
 use Rattle.msp_closure.specs.declared.distances.TheConstants.{FAR}
 
 -- the rows that a search may use
 abbrev pub allows : RowSet → ℕ → Bool
 allows Every = every_row
-allows Built = is_built
+allows Carrying = carries
 allows KeepsSize = keeps_size
 
 -- a number kept for each class, by rank

@@ -1,7 +1,7 @@
 // The chains that show what known results say.
 ghost use Rattle.std.specs.Prelude.{◌≡◌, ◌↔◌, ◌≤◌, ◌∷◌, [], length, IfOk, IfSome, IsNone};
 ghost use Rattle.msp_class.specs.declared.ranks.TheConstants.{CLASSES};
-ghost use Rattle.msp_table.specs.Rows.{is_built, keeps_size};
+ghost use Rattle.msp_table.specs.Rows.{carries, keeps_size};
 ghost use Rattle.msp_table.specs.Chains.{every_row, Reaches};
 ghost use Rattle.msp_closure.specs.Entries.{easy_listed, pseudo_listed, hard_listed, strong_listed, LeadsToOne, IsEasy, IsHard, IsStrong, IsClash, IsStrongClash, IsWay};
 ghost use Rattle.msp_closure.specs.Tables.{allows};
@@ -98,13 +98,13 @@ pub fn strong_clash(alloc: Global, entries: &List<Entry>) -> Result<Option<Chain
     )
 }
 
-/// The nearest chain of built rows from one class to another. None comes exactly where there is none.
+/// The nearest chain of carrying rows from one class to another. None comes exactly where there is none.
 pub fn route_to(alloc: Global, from: Class, to: Class) -> Result<Option<Chain>, NoMemory>
-    ensures none { IfOk result (λ found. IsNone found ↔ (¬ Reaches is_built from to)) }
-    ensures way { IfOk result (λ found. IsWay is_built (to ∷ []) (from ∷ []) found) }
+    ensures none { IfOk result (λ found. IsNone found ↔ (¬ Reaches carries from to)) }
+    ensures way { IfOk result (λ found. IsWay carries (to ∷ []) (from ∷ []) found) }
     ensures few { IfOk result (λ found. IfSome found (λ chain. length chain.rows ≤ CLASSES)) }
 {
-    way(alloc, RowSet::Built, &[from], &[to])
+    way(alloc, RowSet::Carrying, &[from], &[to])
 }
 
 /// The chain from the first of the starts that leads to a wanted class, to the nearest such class.

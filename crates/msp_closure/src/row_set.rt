@@ -4,14 +4,14 @@ ghost use Rattle.msp_closure.specs.Tables.{allows};
 ghost use Rattle.msp_closure.specs.Walk.{step_of};
 
 use msp_class::Class;
-use msp_table::{ROWS, Row, goes, is_built, keeps_size};
+use msp_table::{ROWS, Row, carries, goes, keeps_size};
 
 /// The rows that a search may use.
 #[derive(Clone, Copy, Debug, PartialEq, Eq)]
 pub(crate) enum RowSet {
     Every,
-    /// Those that are built as reductions.
-    Built,
+    /// Those that carry schedules.
+    Carrying,
     /// Those that keep the numbers of an instance small.
     KeepsSize,
 }
@@ -29,7 +29,7 @@ fn allows(rows: RowSet, row: Row) -> bool
 {
     match rows {
         RowSet::Every => true,
-        RowSet::Built => is_built(row),
+        RowSet::Carrying => carries(row),
         RowSet::KeepsSize => keeps_size(row),
     }
 }

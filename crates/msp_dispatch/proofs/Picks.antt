@@ -10,7 +10,7 @@ use Rattle.msp_instance.specs.declared.Instance.{Instance}
 use Rattle.msp_schedule.specs.declared.Schedule.{Schedule}
 use Rattle.msp_schedule.specs.Feasible.{Feasible}
 use Rattle.msp_schedule.specs.Cost.{cost_of, Best}
-use Rattle.msp_table.specs.Rows.{is_built}
+use Rattle.msp_table.specs.Rows.{carries}
 use Rattle.msp_table.specs.declared.row.Chain.{Chain}
 use Rattle.msp_table.specs.Chains.{Reaches, IsNearest}
 use Rattle.msp_closure.specs.Entries.{IsFirst, here, later, IsWay}
@@ -44,18 +44,18 @@ module _ (i : Instance) (s t : Schedule) (best : Best i s) (same : cost_of i t *
   Best-settled f = record { feasible = f; least = settled_least f.unit }
 
 -- ---- routes
-pub IsRoute-from_way : (from : Class) (n : ℕ) (e : SolvedClass) (found : Option Chain) (c : Chain) → found ≡ Some c → slice_get solved_list n ≡ Some e → IsWay is_built (e.class ∷ []) (from ∷ []) found
+pub IsRoute-from_way : (from : Class) (n : ℕ) (e : SolvedClass) (found : Option Chain) (c : Chain) → found ≡ Some c → slice_get solved_list n ≡ Some e → IsWay carries (e.class ∷ []) (from ∷ []) found
     → IfSome found (λ x. length x.rows ≤ CLASSES) → IsRoute from (record { place = n; entry = e; chain = c })
 IsRoute-from_way from n e found c is at led short =
-    let way : IsWay is_built (e.class ∷ []) (from ∷ []) (Some c) = subst (IsWay is_built (e.class ∷ []) (from ∷ [])) is led in
+    let way : IsWay carries (e.class ∷ []) (from ∷ []) (Some c) = subst (IsWay carries (e.class ∷ []) (from ∷ [])) is led in
     let few : length c.rows ≤ CLASSES = subst (λ o. IfSome o (λ x. length x.rows ≤ CLASSES)) is short in
     let start : from ≡ c.from = one_is (IsFirst-among way.0) in
-    record { listed = at; start = sym start; nearest = subst (λ x. IsNearest is_built (e.class ∷ []) x c.rows) (sym start) way.1; few = few }
+    record { listed = at; start = sym start; nearest = subst (λ x. IsNearest carries (e.class ∷ []) x c.rows) (sym start) way.1; few = few }
 
-pub IsRoute-reaches : (from : Class) (p : Pick) → IsRoute from p → Reaches is_built from p.entry.class
+pub IsRoute-reaches : (from : Class) (p : Pick) → IsRoute from p → Reaches carries from p.entry.class
 IsRoute-reaches from p h =
     let into = h.nearest.leads in
-    subst (Reaches is_built from) (sym (one_is into.is_wanted)) (p.chain.rows, into.leads)
+    subst (Reaches carries from) (sym (one_is into.is_wanted)) (p.chain.rows, into.leads)
 
 first_in : (P : Class → Type 0) (xs : List SolvedClass) (n : ℕ) (e : SolvedClass) → slice_get xs n ≡ Some e → P e.class → ((k : ℕ) → k < n → IfSome (slice_get xs k) (λ x. ¬ P x.class)) → IsFirst P (map (λ x. x.class) xs) e.class
 first_in P [] n e g p h = absurd (cc)
@@ -63,8 +63,8 @@ first_in P (x ∷ xs) zero e g p h = let same : x ≡ e = cc in subst (λ y. IsF
 first_in P (x ∷ xs) (suc n) e g p h = later (h 0 (omega arith)) (first_in P xs n e g p (λ k l. h (suc k) (omega arith)))
 
 -- the first of the list to which a chain leads
-pub first_led : (from : Class) (p : Pick) → IsRoute from p → ((k : ℕ) → k < p.place → IfSome (slice_get solved_list k) (λ e. ¬ Reaches is_built from e.class)) → IsFirst (Reaches is_built from) solved_classes p.entry.class
-first_led from p h none = first_in (Reaches is_built from) solved_list p.place p.entry h.listed (IsRoute-reaches from p h) none
+pub first_led : (from : Class) (p : Pick) → IsRoute from p → ((k : ℕ) → k < p.place → IfSome (slice_get solved_list k) (λ e. ¬ Reaches carries from e.class)) → IsFirst (Reaches carries from) solved_classes p.entry.class
+first_led from p h none = first_in (Reaches carries from) solved_list p.place p.entry h.listed (IsRoute-reaches from p h) none
 
 -- what a pick says of the answer that is made from it
 pub answered : (i : Instance) (at : Option Class) (p : Pick) (r : Result Answer Cannot) → IsPick i.class at p → IfOk r (λ a. a.chain ≡ p.chain) → IfOk r (λ a. a.target ≡ p.entry.class)
@@ -74,13 +74,13 @@ answered i at p (Ok a) h chain target solver solution = record {
   target = subst (IsTarget i.class at) (sym target) h.target;
   solver = subst (Contains solved_list) (sym (ap₂ solves target solver)) (p.place, slice_get_within solved_list p.place p.entry h.route.listed, get_or_from_slice_get solved_list p.place p.entry p.entry h.route.listed);
   from = ap (λ c. c.from) chain ∙ h.route.start;
-  nearest = subst₂ (λ t c. IsNearest is_built (t ∷ []) i.class c.rows) (sym target) (sym chain) h.route.nearest;
+  nearest = subst₂ (λ t c. IsNearest carries (t ∷ []) i.class c.rows) (sym target) (sym chain) h.route.nearest;
   solution = solution;
 }
 
 -- the pick that is found first
 pub IsPick-first : (from : Class) (n : ℕ) (found : Option Pick) (p : Pick) → found ≡ Some p → IfSome found (λ q. (q.place ≡ n) × IsRoute from q)
-    → ((k : ℕ) → k < n → IfSome (slice_get solved_list k) (λ e. ¬ Reaches is_built from e.class)) → IsPick from None p
+    → ((k : ℕ) → k < n → IfSome (slice_get solved_list k) (λ e. ¬ Reaches carries from e.class)) → IsPick from None p
 IsPick-first from n found p is picked none =
     let h : (p.place ≡ n) × IsRoute from p = subst (λ o. IfSome o (λ q. (q.place ≡ n) × IsRoute from q)) is picked in
     record { target = first_led from p h.1 (λ k l. none k (omega (arith, l, h.0))); route = h.1 }

@@ -3,7 +3,7 @@ use Rattle.std.specs.Prelude.{◌≡◌, ℕ, ◌≤◌, List, [], ◌∷◌, le
 use Rattle.msp_class.specs.declared.class.Class.{Class}
 use Rattle.msp_class.specs.declared.ranks.TheConstants.{CLASSES}
 use Rattle.msp_instance.specs.declared.Instance.{Instance}
-use Rattle.msp_table.specs.Rows.{is_built}
+use Rattle.msp_table.specs.Rows.{carries}
 use Rattle.msp_table.specs.Chains.{IsNearest}
 use Rattle.msp_carry.specs.Carried.{IsChainTo}
 use Rattle.msp_dispatch.specs.declared.pick.Pick.{Pick}
@@ -14,7 +14,7 @@ use Rattle.msp_dispatch.specs.Dispatch.{IsTarget}
 pub record IsRoute (from : Class) (p : Pick) : Type 0 where
   pub listed : slice_get solved_list p.place ≡ Some p.entry
   pub start : p.chain.from ≡ from
-  pub nearest : IsNearest is_built (p.entry.class ∷ []) from p.chain.rows
+  pub nearest : IsNearest carries (p.entry.class ∷ []) from p.chain.rows
   pub few : length p.chain.rows ≤ CLASSES
 
 -- The pick leads to the class at which an instance is solved.

@@ -1,6 +1,6 @@
 // Which class of the list an instance is led to, and by which rows.
 ghost use Rattle.std.specs.Prelude.{◌≡◌, ◌↔◌, slice_get, Some, IfOk, IfErr, IfSome, IfNone, IsTrue, Contains};
-ghost use Rattle.msp_table.specs.Rows.{is_built};
+ghost use Rattle.msp_table.specs.Rows.{carries};
 ghost use Rattle.msp_table.specs.Chains.{Reaches};
 ghost use Rattle.msp_dispatch.specs.Solved.{solved_list, solved_classes};
 ghost use Rattle.msp_dispatch.specs.Dispatch.{IsFault};
@@ -23,7 +23,7 @@ pub(crate) struct Pick {
 
 /// The pick of a place. None comes exactly where no chain leads to its class, or nothing stands there.
 fn pick_at(alloc: Global, from: Class, place: u32) -> Result<Option<Pick>, NoMemory>
-    ensures none { IfOk result (λ found. IfNone found (IfSome (slice_get solved_list place) (λ e. ¬ Reaches is_built from e.class))) }
+    ensures none { IfOk result (λ found. IfNone found (IfSome (slice_get solved_list place) (λ e. ¬ Reaches carries from e.class))) }
     ensures pick { IfOk result (λ found. IfSome found (λ p. (p.place ≡ place) × IsRoute from p)) }
 {
     match entry_at(place) {

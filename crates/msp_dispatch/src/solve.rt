@@ -83,7 +83,7 @@ fn answer(alloc: Global, inst: &Instance, pick: Pick) -> Result<Answer, Cannot>
     }
 }
 
-/// A best solution of the instance: at the class that is asked for, or else at the first of the list to which built rows lead.
+/// A best solution of the instance: at the class that is asked for, or else at the first of the list to which carrying rows lead.
 pub fn solve_any(alloc: Global, inst: &Instance, at: Option<Class>) -> Result<Answer, Cannot>
     requires { InClass inst.now }
     ensures answer { IfOk result (IsAnswered inst.now at) }

@@ -158,10 +158,6 @@ text_of k = option_map_or (λ r. r.text) (row_of k) []
 abbrev pub carries : ℕ → Bool
 carries k = not (k == 15 || k == 16)
 
--- the part of `carries` that has types today: the rows 1 to 14 and 53 are built as reductions
-abbrev pub is_built : ℕ → Bool
-is_built k = nat_le 1 k && nat_le k 14 || k == 53
-
 -- the kind of the row of a number
 abbrev pub kind_of : ℕ → RowKind
 kind_of k = if carries k then Carries else Threshold

@@ -1,6 +1,6 @@
 // The facts of each row: its kind, whether it keeps size, its text.
 ghost use Rattle.std.specs.Prelude.{◌≡◌};
-ghost use Rattle.msp_table.specs.Rows.{is_built, keeps_size, kind_of, text_of};
+ghost use Rattle.msp_table.specs.Rows.{carries, keeps_size, kind_of, text_of};
 
 use crate::row::{Row, RowKind};
 
@@ -21,11 +21,14 @@ pub fn keeps_size(row: Row) -> bool
     !matches!(row.number(), 26 | 27)
 }
 
-/// Whether the row is built as a reduction: the part of the carrying rows that has types today.
-pub fn is_built(row: Row) -> bool
-    ensures { result ≡ is_built row }
+/// Whether the row carries schedules: each row but 15 and 16.
+pub fn carries(row: Row) -> bool
+    ensures { result ≡ carries row }
 {
-    matches!(row.number(), 1..=14 | 53)
+    match kind(row) {
+        RowKind::Carries => true,
+        RowKind::Threshold => false,
+    }
 }
 
 /// The row's text in the table.
@@ -106,8 +109,8 @@ mod tests {
         assert_eq!(rt; text(threshold), "Lmax to sumU");
         assert_eq!(rt; kind(threshold), RowKind::Threshold);
         assert!(rt; keeps_size(threshold));
-        assert!(rt; is_built(first));
-        assert!(rt; !is_built(threshold));
+        assert!(rt; carries(first));
+        assert!(rt; !carries(threshold));
         assert!(rt; !keeps_size(Row::new(26).ok_or("no row 26")?));
         let last = Row::new(54).ok_or("no row 54")?;
         assert_eq!(rt; text(last), "p=p to p=1");

@@ -10,5 +10,5 @@ mod row;
 mod steps;
 
 pub use apply::goes;
-pub use kinds::{is_built, keeps_size, kind, text};
+pub use kinds::{carries, keeps_size, kind, text};
 pub use row::{Chain, ROWS, Row, RowKind};

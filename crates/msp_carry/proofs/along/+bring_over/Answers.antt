@@ -5,8 +5,8 @@ use Rattle.msp_route.specs.Bounds.{IsSized, IsBounded}
 use Rattle.msp_carry.proofs.ChainSteps.{behind, first_step, carried_on, IsBounded-chain, IfOk-ends}
 use Rattle.msp_carry.proofs.along.+bring_over.Goals as goal
 
-pub down-requires-clause-built : goal.down-requires-clause-built
-down-requires-clause-built t c = (first_step c.args.inst.now c.row-item.result c.args.rows.now c.requires.chain.0 c.in-len1-up.len_at_least c.row-item.is c.requires.chain.1).built
+pub down-requires-clause-carries : goal.down-requires-clause-carries
+down-requires-clause-carries t c = (first_step c.args.inst.now c.row-item.result c.args.rows.now c.requires.chain.0 c.in-len1-up.len_at_least c.row-item.is c.requires.chain.1).usable
 
 pub down-requires-clause-applies : goal.down-requires-clause-applies
 down-requires-clause-applies t c = (first_step c.args.inst.now c.row-item.result c.args.rows.now c.requires.chain.0 c.in-len1-up.len_at_least c.row-item.is c.requires.chain.1).applies
@@ -19,8 +19,8 @@ bring_over-requires t c =
     let same = carried_on first c.in_ok-lower-in-len1-up.ensures.same in
     (subst (λ n. length (behind c.args.rows.now) < n) c.decreases first.shorter, (led.inner, ((c.requires.chain.0, first.rest lower led), (subst (λ x. IsSolution x c.args.last) same c.requires.solution, (subst (λ x. IsSized x c.args.last.schedule) same c.requires.sized, c.requires.ends)))))
 
-pub back-requires-clause-built : goal.back-requires-clause-built
-back-requires-clause-built t c = (first_step c.args.inst.now c.row-item.result c.args.rows.now c.requires.chain.0 c.in-len1-up.len_at_least c.row-item.is c.requires.chain.1).built
+pub back-requires-clause-carries : goal.back-requires-clause-carries
+back-requires-clause-carries t c = (first_step c.args.inst.now c.row-item.result c.args.rows.now c.requires.chain.0 c.in-len1-up.len_at_least c.row-item.is c.requires.chain.1).usable
 
 pub back-requires-clause-bounded : goal.back-requires-clause-bounded
 back-requires-clause-bounded t c =

@@ -7,8 +7,8 @@ use Rattle.msp_carry.proofs.along.+solve_over.Goals as goal
 pub solve-requires-clause-class : goal.solve-requires-clause-class
 solve-requires-clause-class g t c = stays_at c.args.inst.now.class _ c.args.rows.now c.in-empty.len_below c.requires.chain.leads
 
-pub down-requires-clause-built : goal.down-requires-clause-built
-down-requires-clause-built g t c = (first_step c.args.inst.now c.row-item.result c.args.rows.now _ c.in-len1-up.len_at_least c.row-item.is c.requires.chain).built
+pub down-requires-clause-carries : goal.down-requires-clause-carries
+down-requires-clause-carries g t c = (first_step c.args.inst.now c.row-item.result c.args.rows.now _ c.in-len1-up.len_at_least c.row-item.is c.requires.chain).usable
 
 pub down-requires-clause-applies : goal.down-requires-clause-applies
 down-requires-clause-applies g t c = (first_step c.args.inst.now c.row-item.result c.args.rows.now _ c.in-len1-up.len_at_least c.row-item.is c.requires.chain).applies
@@ -20,8 +20,8 @@ solve_over-requires g t c κs within =
     let led = c.in_ok-lower-in-len1-up.ensures.led in
     (subst (λ n. length (behind c.args.rows.now) < n) c.decreases first.shorter, (within, (led.inner, (first.rest lower led, subst (λ x. g.S.Solver.can_solve c.args.solver.now x) (carried_on first c.in_ok-lower-in-len1-up.ensures.same) c.requires.fits))))
 
-pub back-requires-clause-built : goal.back-requires-clause-built
-back-requires-clause-built g t c = (first_step c.args.inst.now c.row-item.result c.args.rows.now _ c.in-len1-up.len_at_least c.row-item.is c.requires.chain).built
+pub back-requires-clause-carries : goal.back-requires-clause-carries
+back-requires-clause-carries g t c = (first_step c.args.inst.now c.row-item.result c.args.rows.now _ c.in-len1-up.len_at_least c.row-item.is c.requires.chain).usable
 
 pub back-requires-clause-bounded : goal.back-requires-clause-bounded
 back-requires-clause-bounded g t c =

@@ -1,0 +1,9 @@
+-- The last row of the table.
+use Rattle.std.proofs.Common.{◌≡◌, ℕ, subst}
+use Rattle.msp_instance.specs.declared.Instance.{Instance}
+use Rattle.msp_plain.specs.Equal.{led_to_unit}
+use Rattle.msp_carry.specs.Carried.{lower_of}
+
+pub at_last_row : (P : Instance → Type 0) (row : ℕ) (i : Instance) → row ≡ 54 → P (lower_of row i) → P (led_to_unit i)
+unfolding lower_of
+at_last_row P row i e h = subst (λ r. P (lower_of r i)) e h
