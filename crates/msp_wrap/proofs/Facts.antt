@@ -1,0 +1,147 @@
+-- What an instance of the class of McNaughton's rule has, and the size of its least end.
+use Rattle.std.proofs.Common.{◌≡◌, ℕ, zero, suc, ◌+◌, ◌*◌, ◌-◌, ◌<◌, ◌≤◌, ◌⊎◌, inl, inr, max, true, false, Bool, leb, List, [], ◌∷◌, length, get_or, take, fold, map, All, sum_by, refl, sym, ap, ◌∙◌, subst, subst₂, arith}
+use Rattle.std.proofs.lemmas.Bool.{leb-true, leb-false}
+use Rattle.std.proofs.lemmas.List.{take_more, take_all, length-map, get_or-map}
+use Rattle.std.proofs.lemmas.List.Elements.{All-nil, All-cons, All-head, All-tail, All-map}
+use Rattle.std.proofs.lemmas.List.Sums.{sum_by-append, sum_by-cons}
+use Rattle.std.proofs.Math.Nat.{mul-le-mul_left}
+use Rattle.msp_class.specs.declared.class.Env.{Env}
+use Rattle.msp_class.specs.declared.class.Env.TheVariants.{P as SomeMachines}
+use Rattle.msp_class.specs.declared.class.Times.{Times}
+use Rattle.msp_class.specs.declared.class.Times.TheVariants.{General}
+use Rattle.msp_class.specs.declared.class.Crit.TheVariants.{Cmax}
+use Rattle.msp_class.specs.declared.environments.EnvKind.TheVariants.{Identical}
+use Rattle.msp_class.specs.Env.{kind_of}
+use Rattle.msp_class.proofs.Sums.{total_below, total_below-split, sum_by-mono, sum_by-constant}
+use Rattle.msp_instance.specs.declared.Instance.{Instance}
+use Rattle.msp_instance.specs.Instance.{no_need, no_job}
+use Rattle.msp_instance.specs.Conditions.{HasShape, HasTimes, HasRelease, HasArcs, MeetsConditions, Inner, inner_limits, least_time, greatest_time}
+use Rattle.msp_schedule.proofs.OneRow.{time_at}
+use Rattle.msp_wrap.specs.Wrap.{wrap_class, time_of, longest_time, total_time, least_end}
+
+pub record IsWrapInstance (i : Instance) : Type 0 where
+  pub kind : kind_of i.class.env ≡ Identical
+  pub cut : i.class.cut ≡ true
+  pub crit : i.class.crit ≡ Cmax
+  pub arcs : i.arcs ≡ []
+  pub some : 1 ≤ length i.jobs
+  pub few : length i.jobs ≤ 400
+  pub machine : 1 ≤ i.machines
+  pub machines : i.machines ≤ 32
+  pub needs : All (λ j. (length j.needs ≡ 1) × (1 ≤ time_of j) × (time_of j ≤ 1000000000)) i.jobs
+  pub release : All (λ j. j.release ≡ 0) i.jobs
+
+pub IsWrapInstance-from_class : (i : Instance) → i.class ≡ wrap_class → Inner i → IsWrapInstance i
+IsWrapInstance-from_class i e h =
+    let env : i.class.env ≡ SomeMachines = ap (λ c. c.env) e in
+    let times : i.class.times ≡ General = ap (λ c. c.times) e in
+    let heads : i.class.heads ≡ false = ap (λ c. c.heads) e in
+    let m : MeetsConditions (inner_limits (kind_of i.class.env)) i = h.conditions in
+    record {
+      kind = ap kind_of env;
+      cut = ap (λ c. c.cut) e;
+      crit = ap (λ c. c.crit) e;
+      arcs = subst (λ o. HasArcs o i.arcs) (ap (λ c. c.order) e) m.arcs;
+      some = m.some;
+      few = m.few;
+      machine = m.machines.0;
+      machines = m.machines.1;
+      needs = λ k d l.
+          let n = (m.jobs k d l).needs in
+          let shape = subst (λ v. HasShape (kind_of v) v i.machines (get_or i.jobs k d).needs) env n.shape in
+          let S : Env → Times → Type 0 = λ v t. HasTimes (least_time (kind_of v) t) (greatest_time (inner_limits (kind_of v)) t) (get_or i.jobs k d).needs in
+          let in_range = subst₂ S env times n.times in
+          (shape.0, (in_range 0 no_need (omega (arith, shape.0))).0, (in_range 0 no_need (omega (arith, shape.0))).1);
+      release = λ k d l. subst (λ b. HasRelease (inner_limits (kind_of i.class.env)) b (get_or i.jobs k d).release) heads (m.jobs k d l).release;
+    }
+
+-- as the code asks for it
+pub short_needs : (i : Instance) → IsWrapInstance i → All (λ j. (0 < length j.needs) × (time_of j ≤ 1000000000)) i.jobs
+short_needs i h k d l = (omega (arith, (h.needs k d l).0), (h.needs k d l).2)
+
+-- ---- the greatest of numbers
+pub fold_max-bound : (a : ℕ) (xs : List ℕ) → (a ≤ fold max a xs) × All (λ x. x ≤ fold max a xs) xs
+fold_max-bound a [] = (omega arith, All-nil (λ x. x ≤ a))
+fold_max-bound a (x ∷ xs) = let h = fold_max-bound (max a x) xs in (omega (arith, h.0), All-cons (λ y. y ≤ fold max (max a x) xs) x xs (omega (arith, h.0)) h.1)
+
+pub fold_max-least : (a b : ℕ) (xs : List ℕ) → a ≤ b → All (λ x. x ≤ b) xs → fold max a xs ≤ b
+fold_max-least a b [] l h = l
+fold_max-least a b (x ∷ xs) l h = fold_max-least (max a x) b xs (omega (arith, All-head (λ y. y ≤ b) x xs h)) (All-tail (λ y. y ≤ b) x xs h)
+
+pub fold_max-reached : (a : ℕ) (xs : List ℕ) → (fold max a xs ≡ a) ⊎ ((k : ℕ) × (k < length xs) × (get_or xs k 0 ≡ fold max a xs))
+fold_max-reached a [] = inl refl
+fold_max-reached a (x ∷ xs) = by (leb x a) refl (fold_max-reached (max a x) xs)
+  where
+    left : (m n : ℕ) → n ≤ m → max m n ≡ m
+    left m n l = omega arith
+
+    right : (m n : ℕ) → m < n → n ≡ max m n
+    right m n l = omega arith
+
+    by : (b : Bool) → leb x a ≡ b → (fold max (max a x) xs ≡ max a x) ⊎ ((k : ℕ) × (k < length xs) × (get_or xs k 0 ≡ fold max (max a x) xs)) → (fold max (max a x) xs ≡ a) ⊎ ((k : ℕ) × (k < suc (length xs)) × (get_or (x ∷ xs) k 0 ≡ fold max (max a x) xs))
+    by true e (inl s) = inl (s ∙ left a x (leb-true x a e))
+    by false e (inl s) = inr (0, omega arith, right a x (leb-false x a e) ∙ sym s)
+    by b e (inr s) = inr (suc s.0, omega (arith, s.1), s.2)
+
+-- ---- sums over a list by its places
+sum_by-take : {X : Type 0} (f : X → ℕ) (xs : List X) (d : X) (k : ℕ) → k ≤ length xs → sum_by f (take k xs) ≡ total_below k (λ j. f (get_or xs j d))
+sum_by-take f xs d zero l = refl
+sum_by-take f xs d (suc k) l =
+    ap (λ n. sum_by f (take n xs)) (more k) ∙ ap (sum_by f) (take_more xs k d (omega arith)) ∙ sum_by-append f (take k xs) (get_or xs k d ∷ [])
+    ∙ ap (λ n. n + sum_by f (get_or xs k d ∷ [])) (sum_by-take f xs d k (omega arith)) ∙ ap (λ n. total_below k (λ j. f (get_or xs j d)) + n) (one (get_or xs k d))
+  where
+    more : (k : ℕ) → suc k ≡ k + 1
+    more k = omega arith
+
+    one : (x : _) → sum_by f (x ∷ []) ≡ f x
+    one x = omega (arith, sum_by-cons f x [])
+
+pub sum_by-places : {X : Type 0} (f : X → ℕ) (xs : List X) (d : X) → sum_by f xs ≡ total_below (length xs) (λ j. f (get_or xs j d))
+sum_by-places f xs d = ap (sum_by f) (sym (take_all (length xs) xs (omega arith))) ∙ sum_by-take f xs d (length xs) (omega arith)
+
+pub total_below-within : (f : ℕ → ℕ) (k n : ℕ) → k ≤ n → total_below k f ≤ total_below n f
+total_below-within f k n l = omega (arith, ap (λ x. total_below x f) (whole k n l), total_below-split k (n - k) f)
+  where
+    whole : (k n : ℕ) → k ≤ n → n ≡ k + (n - k)
+    whole k n l = omega arith
+
+-- ---- the least end
+module _ (i : Instance) (h : IsWrapInstance i) where
+  pub total_time-is : total_time i ≡ total_below (length i.jobs) (time_at i)
+  total_time-is = sum_by-places time_of i.jobs no_job
+
+  pub time_at-longest : (j : ℕ) → j < length i.jobs → time_at i j ≤ longest_time i
+  time_at-longest j l =
+      let inside : j < length (map time_of i.jobs) = omega (arith, length-map i.jobs time_of) in
+      subst (λ x. x ≤ longest_time i) (get_or-map time_of i.jobs j no_job 0 l) ((fold_max-bound 0 (map time_of i.jobs)).1 j 0 inside)
+
+  -- it is the time of a job
+  pub longest_time-reached : (j : ℕ) × (j < length i.jobs) × (time_at i j ≡ longest_time i)
+  longest_time-reached = elim (fold_max-reached 0 (map time_of i.jobs)) [
+    | inl e ↦ absurd (omega (arith, e, h.some, time_at-longest 0 (omega (arith, h.some)), (h.needs 0 no_job (omega (arith, h.some))).1))
+    | inr r ↦
+        let inside : r.0 < length i.jobs = omega (arith, r.1, length-map i.jobs time_of) in
+        (r.0, inside, sym (get_or-map time_of i.jobs r.0 no_job 0 inside) ∙ r.2)
+  ]
+
+  pub longest_time-short : longest_time i ≤ 1000000000
+  longest_time-short = fold_max-least 0 1000000000 (map time_of i.jobs) (omega arith) (All-map (λ x. x ≤ 1000000000) time_of i.jobs (λ k d l. (h.needs k d l).2))
+
+  pub total_time-short : total_time i ≤ 400000000000
+  total_time-short = omega (arith, sum_by-mono time_of (λ _. 1000000000) i.jobs (λ k d l. (h.needs k d l).2), sum_by-constant 1000000000 i.jobs, h.few)
+
+  pub job_fits : (j : ℕ) → j < length i.jobs → i.machines * time_at i j ≤ least_end i
+  job_fits j l = let p = mul-le-mul_left i.machines (time_at-longest j l) in omega (arith, p)
+
+  pub jobs_fit : (k : ℕ) → k ≤ length i.jobs → total_below k (time_at i) ≤ least_end i
+  jobs_fit k l = omega (arith, total_time-is, total_below-within (time_at i) k (length i.jobs) l)
+
+  pub least_end-short : least_end i ≤ 400000000000
+  least_end-short = let p = mul-le-mul_left i.machines longest_time-short in omega (arith, p, h.machines, total_time-short)
+
+  -- a job takes time on the machines together
+  pub work_positive : (j : ℕ) → j < length i.jobs → 0 < i.machines * time_at i j
+  work_positive j l = more i.machines (time_at i j) h.machine (h.needs j no_job l).1
+    where
+      more : (m t : ℕ) → 1 ≤ m → 1 ≤ t → 0 < m * t
+      more m t p q = grind arith

@@ -1,0 +1,4 @@
+pub mod Facts
+pub mod Steps
+pub mod Lower
+pub mod Best
