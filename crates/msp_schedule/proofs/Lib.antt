@@ -26,3 +26,7 @@ pub mod Exchange
 pub mod UnitTimes
 pub mod Mirror
 pub mod EndsAndFloors
+pub mod OverlapFacts
+pub mod Among
+pub mod WholeWork
+pub mod FirstBreaks

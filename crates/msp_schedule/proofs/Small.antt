@@ -1,5 +1,5 @@
 -- The numbers of an inner instance over a bounded unit are small.
-use Rattle.std.proofs.Common.{◌≡◌, ℕ, suc, ◌+◌, ◌*◌, ◌^◌, ◌≤◌, Bool, true, false, List, length, ℤ, pos, negsuc, ◌+ℤ◌, ◌*ℤ◌, ◌≤ℤ◌, ◌⊎◌, inl, inr, All, sum_by, refl, sym, subst, arith, lit≤}
+use Rattle.std.proofs.Common.{◌≡◌, ℕ, suc, ◌+◌, ◌*◌, ◌^◌, ◌<◌, ◌≤◌, Bool, true, false, List, length, ℤ, pos, negsuc, ◌+ℤ◌, ◌*ℤ◌, ◌≤ℤ◌, ◌⊎◌, inl, inr, All, sum_by, refl, sym, subst, arith, lit≤}
 use Rattle.std.proofs.lemmas.Int.{ints}
 use Rattle.std.proofs.lemmas.Nat.{mul-le}
 use Rattle.msp_class.specs.declared.environments.EnvKind.{EnvKind}
@@ -12,8 +12,11 @@ use Rattle.msp_instance.specs.declared.Curve.{Curve}
 use Rattle.msp_instance.specs.declared.Job.{Job}
 use Rattle.msp_instance.specs.declared.Step.{Step}
 use Rattle.msp_instance.specs.declared.Instance.{Instance}
-use Rattle.msp_instance.specs.Instance.{no_curve}
-use Rattle.msp_instance.specs.Conditions.{LiesWithin, Limits, HasDue, HasWeight, IsCurve, HasCurve, IsJobOf, MeetsConditions, Inner, InClass, inner_limits, text_limits}
+use Rattle.msp_class.specs.declared.class.Times.{Times}
+use Rattle.msp_class.specs.declared.class.Times.TheVariants.{General, Unit as UnitTimes, Equal}
+use Rattle.msp_instance.specs.Instance.{no_curve, no_job, no_need, job_at, need_at}
+use Rattle.msp_schedule.specs.Works.{AreSmallTimes}
+use Rattle.msp_instance.specs.Conditions.{LiesWithin, Limits, HasRelease, greatest_time, HasDue, HasWeight, IsCurve, HasCurve, IsJobOf, MeetsConditions, Inner, InClass, inner_limits, text_limits}
 use Rattle.msp_schedule.specs.declared.Schedule.{Schedule}
 use Rattle.msp_schedule.specs.Within.{HasSmallCost, Within}
 
@@ -49,6 +52,8 @@ pub record FitTogether (l : Limits) (u : ℕ) : Type 0 where
   pub dates : u * l.greatest_date ≤ 2 * 10 ^ 22
   pub times : u * l.greatest_time ≤ 2 * 10 ^ 22
   pub levels : u * (l.greatest_date + 16 * l.greatest_time) ≤ 4 * 10 ^ 23
+  pub releases : l.greatest_release ≤ l.greatest_date
+  pub equal : 10 ^ 6 ≤ l.greatest_time
 
 pub HasSmallCost-from : (l : Limits) (u n : ℕ) (i : Instance) (j : Job) → FitTogether l u → n ≤ u → IsJobOf l i j → HasSmallCost (pos n) j
 HasSmallCost-from l u n i j fit small h =
@@ -72,22 +77,59 @@ HasSmallCost-from l u n i j fit small h =
 each_small : (l : Limits) (u n : ℕ) (i : Instance) → FitTogether l u → n ≤ u → MeetsConditions l i → All (HasSmallCost (pos n)) i.jobs
 each_small l u n i fit small h k d t = HasSmallCost-from l u n i _ fit small (h.jobs k d t)
 
-by_kind : (kind : EnvKind) (i : Instance) (n : ℕ) → MeetsConditions (inner_limits kind) i → n ≤ 10 ^ 13 → (kind ≡ Unrelated → InClass i ⊎ (pos n ≤ℤ pos 4096)) → All (HasSmallCost (pos n)) i.jobs
-by_kind Identical i n h small scaled = each_small _ (10 ^ 13) n i (record { dates = lit≤ tt; times = lit≤ tt; levels = lit≤ tt }) small h
-by_kind Uniform i n h small scaled = each_small _ (10 ^ 13) n i (record { dates = lit≤ tt; times = lit≤ tt; levels = lit≤ tt }) small h
+-- limits that an instance meets, which are small together with the unit
+pub record HasLimits (i : Instance) (n : ℕ) : Type 0 where
+  pub limits : Limits
+  pub most : ℕ
+  pub together : FitTogether limits most
+  pub unit : n ≤ most
+  pub conditions : MeetsConditions limits i
+
+by_kind : (kind : EnvKind) (i : Instance) (n : ℕ) → MeetsConditions (inner_limits kind) i → n ≤ 10 ^ 13 → (kind ≡ Unrelated → InClass i ⊎ (pos n ≤ℤ pos 4096)) → HasLimits i n
+by_kind Identical i n h small scaled = record { limits = inner_limits Identical; most = 10 ^ 13; together = record { dates = lit≤ tt; times = lit≤ tt; levels = lit≤ tt; releases = lit≤ tt; equal = lit≤ tt }; unit = small; conditions = h }
+by_kind Uniform i n h small scaled = record { limits = inner_limits Uniform; most = 10 ^ 13; together = record { dates = lit≤ tt; times = lit≤ tt; levels = lit≤ tt; releases = lit≤ tt; equal = lit≤ tt }; unit = small; conditions = h }
 by_kind Unrelated i n h small scaled = elim (scaled refl) [
-  | inl text ↦ each_small text_limits (10 ^ 13) n i (record { dates = lit≤ tt; times = lit≤ tt; levels = lit≤ tt }) small text.conditions
-  | inr low ↦ each_small _ 4096 n i (record { dates = lit≤ tt; times = lit≤ tt; levels = lit≤ tt }) (omega (arith, ints)) h
+  | inl text ↦ record { limits = text_limits; most = 10 ^ 13; together = record { dates = lit≤ tt; times = lit≤ tt; levels = lit≤ tt; releases = lit≤ tt; equal = lit≤ tt }; unit = small; conditions = text.conditions }
+  | inr low ↦ record { limits = inner_limits Unrelated; most = 4096; together = record { dates = lit≤ tt; times = lit≤ tt; levels = lit≤ tt; releases = lit≤ tt; equal = lit≤ tt }; unit = omega (arith, ints); conditions = h }
 ]
-by_kind OpenShop i n h small scaled = each_small _ (10 ^ 13) n i (record { dates = lit≤ tt; times = lit≤ tt; levels = lit≤ tt }) small h
-by_kind FlowShop i n h small scaled = each_small _ (10 ^ 13) n i (record { dates = lit≤ tt; times = lit≤ tt; levels = lit≤ tt }) small h
-by_kind JobShop i n h small scaled = each_small _ (10 ^ 13) n i (record { dates = lit≤ tt; times = lit≤ tt; levels = lit≤ tt }) small h
+by_kind OpenShop i n h small scaled = record { limits = inner_limits OpenShop; most = 10 ^ 13; together = record { dates = lit≤ tt; times = lit≤ tt; levels = lit≤ tt; releases = lit≤ tt; equal = lit≤ tt }; unit = small; conditions = h }
+by_kind FlowShop i n h small scaled = record { limits = inner_limits FlowShop; most = 10 ^ 13; together = record { dates = lit≤ tt; times = lit≤ tt; levels = lit≤ tt; releases = lit≤ tt; equal = lit≤ tt }; unit = small; conditions = h }
+by_kind JobShop i n h small scaled = record { limits = inner_limits JobShop; most = 10 ^ 13; together = record { dates = lit≤ tt; times = lit≤ tt; levels = lit≤ tt; releases = lit≤ tt; equal = lit≤ tt }; unit = small; conditions = h }
+
+-- the unit as a natural number, with such limits
+pub small_unit : (i : Instance) (s : Schedule) → Inner i → Within i s → (n : ℕ) × (s.unit ≡ pos n) × HasLimits i n
+small_unit i s h w =
+    let n = natural_some s.unit (omega (arith, ints, w.unit.0)) in
+    let unit_is = n.1 in
+    let Q : ℤ → Type 0 = λ x. InClass i ⊎ (x ≤ℤ pos 4096) in
+    (n.0, n.1, by_kind (kind_of i.class.env) i n.0 h.conditions (omega (arith, ints, w.unit.1, unit_is)) (λ e. subst Q n.1 (w.scaled e)))
 
 -- under the bounds of the calls each job's numbers are small
 pub small_costs : (i : Instance) (s : Schedule) → Inner i → Within i s → All (HasSmallCost s.unit) i.jobs
 small_costs i s h w =
-    let n = natural_some s.unit (omega (arith, ints, w.unit.0)) in
-    let unit_is = n.1 in
+    let (n, unit_is, has) = small_unit i s h w in
     let P : ℤ → Type 0 = λ x. All (HasSmallCost x) i.jobs in
-    let Q : ℤ → Type 0 = λ x. InClass i ⊎ (x ≤ℤ pos 4096) in
-    subst P (sym n.1) (by_kind (kind_of i.class.env) i n.0 h.conditions (omega (arith, ints, w.unit.1, unit_is)) (λ e. subst Q n.1 (w.scaled e)))
+    subst P (sym unit_is) (each_small has.limits has.most n i has.together has.unit has.conditions)
+
+release_small : (l : Limits) (b : Bool) (r : ℕ) → l.greatest_release ≤ l.greatest_date → HasRelease l b r → LiesWithin l.greatest_date (pos r)
+release_small l true r le h = (omega (arith, ints), omega (arith, ints, h, le))
+release_small l false r le h = (omega (arith, ints), omega (arith, ints, h))
+
+-- release dates, and times, over the unit
+pub small_releases : (i : Instance) (s : Schedule) → Inner i → Within i s → (j : ℕ) → j < length i.jobs → LiesWithin (2 * 10 ^ 22) (s.unit *ℤ pos (job_at i j).release)
+small_releases i s h w j l =
+    let (n, unit_is, has) = small_unit i s h w in
+    subst (λ x. LiesWithin (2 * 10 ^ 22) (x *ℤ pos (job_at i j).release)) (sym unit_is)
+    (product_within n (pos (job_at i j).release) has.most has.limits.greatest_date _ has.unit (release_small has.limits i.class.heads (job_at i j).release has.together.releases (has.conditions.jobs j no_job l).release) has.together.dates)
+
+time_small : (l : Limits) (t : Times) (x : ℕ) → 10 ^ 6 ≤ l.greatest_time → x ≤ greatest_time l t → LiesWithin l.greatest_time (pos x)
+time_small l General x some h = (omega (arith, ints), omega (arith, ints, h))
+time_small l UnitTimes x some h = (omega (arith, ints), omega (arith, ints, h))
+time_small l Equal x some h = (omega (arith, ints), omega (arith, ints, h, some))
+
+pub small_times : (i : Instance) (s : Schedule) → Inner i → Within i s → AreSmallTimes i s.unit
+small_times i s h w j o l inside =
+    let (n, unit_is, has) = small_unit i s h w in
+    let times = (has.conditions.jobs j no_job l).needs.times o no_need inside in
+    subst (λ x. LiesWithin (2 * 10 ^ 22) (x *ℤ pos (need_at i j o).time)) (sym unit_is)
+    (product_within n (pos (need_at i j o).time) has.most has.limits.greatest_time _ has.unit (time_small has.limits i.class.times (need_at i j o).time has.together.equal times.1) has.together.times)

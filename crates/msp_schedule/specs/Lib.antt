@@ -7,3 +7,6 @@ pub mod Settled
 pub mod Divisor
 pub mod Examples
 pub mod Laws
+pub mod Breaks
+pub mod Lanes
+pub mod Works

@@ -1,9 +1,12 @@
 // Fractions in lowest terms.
 ghost use Rattle.std.specs.Prelude.{◌≡◌, ℕ, ◌+◌, ◌*◌, ◌/◌, ◌<◌, ◌≤◌, ◌^◌, ℤ, pos, neg_ℤ, ◌*ℤ◌, ◌≤ℤ◌, ◌<ℤ◌, unsigned_abs};
 ghost use Rattle.std.specs.Int.{IsGcd};
-ghost use Rattle.msp_schedule.specs.Fraction.{IsLowest, IsSameFraction};
+ghost use Rattle.std.specs.Ordering.{int_cmp};
+ghost use Rattle.msp_schedule.specs.Fraction.{IsComparable, IsLowest, IsSameFraction};
 
 use crate::Frac;
+use crate::job_cost::product;
+use std::cmp::Ordering;
 
 /// The greatest common divisor (Euclid).
 pub(crate) fn gcd(a: u128, b: u128) -> u128
@@ -50,4 +53,13 @@ pub fn lowest(f: Frac) -> Frac
         num: with_sign(size / divisor, f.num),
         den: quotient(whole, divisor),
     }
+}
+
+/// The order of two fractions. A product of a numerator of one and the denominator of the other fits a signed number of 128 bits.
+pub fn compare(a: Frac, b: Frac) -> Ordering
+    requires a { IsComparable a }
+    requires b { IsComparable b }
+    ensures { result ≡ int_cmp (a.num *ℤ b.den) (b.num *ℤ a.den) }
+{
+    product(a.num, b.den).cmp(&product(b.num, a.den))
 }

@@ -8,7 +8,7 @@ ghost use Rattle.msp_schedule.specs.Within.{IsMoment, IsUnit, HasSmallCost, grea
 use msp_class::Crit;
 use msp_instance::{Curve, Job, Step};
 
-fn product(a: i128, b: i128) -> i128
+pub(crate) fn product(a: i128, b: i128) -> i128
     requires { unsigned_abs a * unsigned_abs b < 2 ^ 127 }
     ensures { result ≡ a *ℤ b }
 {

@@ -1,24 +1,32 @@
 //! Schedules over any unit, and what it means that a schedule is feasible, what it costs, and that it is best.
 //!
-//! It stands on `msp_instance`. The layers above use the definitions `Feasible`, `cost_of` and `Best`, that `cost` gives the cost in
-//! lowest terms, and the laws `law_of_ends` and `law_of_floors` of schedules on identical machines.
+//! It stands on `msp_instance`. The layers above use the definitions `Feasible`, `cost_of` and `Best`, that `first_break` answers None
+//! exactly where a schedule is feasible, that `cost` gives the cost in lowest terms, and the laws `law_of_ends` and `law_of_floors` of schedules on identical machines.
 #![tactic(auto)]
 
 ghost use Rattle.std.specs.Prelude.{pos, ◌≤ℤ◌};
 
+mod breaks;
 #[cfg(test)]
 mod definitions;
 mod fraction;
 mod job_cost;
 mod laws;
 mod limits;
+mod overlaps;
+mod routes;
 mod settling;
 mod total_cost;
+mod work;
 
-pub use fraction::lowest;
+pub use breaks::{Break, first_break};
+pub use fraction::{compare, lowest};
 pub use job_cost::job_cost_at;
 pub use laws::{law_of_ends, law_of_floors};
-pub use limits::{GREATEST_CARRIED_UNIT, GREATEST_MOMENT, GREATEST_UNIT, MOST_PIECES};
+pub use limits::{
+    GREATEST_CARRIED_UNIT, GREATEST_DENOMINATOR, GREATEST_MOMENT, GREATEST_NUMERATOR,
+    GREATEST_UNIT, MOST_PIECES,
+};
 use msp_class::List;
 pub use settling::settle;
 pub use total_cost::cost;

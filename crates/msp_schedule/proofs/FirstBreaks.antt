@@ -1,0 +1,180 @@
+-- Conditions that are kept are not broken, and the first one that is broken is named.
+use Rattle.std.proofs.Common.{◌≡◌, ℕ, suc, List, ◌<◌, ◌⊎◌, inl, inr, length, get_or, All, AllPairs, ℤ, pos, ◌*ℤ◌, ◌≤ℤ◌, ◌<ℤ◌, refl, sym, ap, subst, ◌∙◌, arith, Option, Some, None}
+use Rattle.std.proofs.lemmas.Int.{ints}
+use Rattle.std.proofs.lemmas.Bool.{cases_lt}
+use Rattle.std.specs.Prelude.{IsNone, IfSome, ◌↔◌}
+use Rattle.msp_schedule.specs.Works.{IsDecision, IsWorked, LacksWorkAmong}
+use Rattle.msp_class.specs.declared.environments.EnvKind.{EnvKind}
+use Rattle.msp_class.specs.declared.environments.EnvKind.TheVariants.{Identical, Uniform, Unrelated, OpenShop, FlowShop, JobShop}
+use Rattle.msp_class.specs.Env.{kind_of}
+use Rattle.msp_instance.specs.declared.Instance.{Instance}
+use Rattle.msp_instance.specs.Instance.{job_at}
+use Rattle.msp_schedule.specs.declared.Piece.{Piece}
+use Rattle.msp_schedule.specs.declared.Schedule.{Schedule}
+use Rattle.msp_schedule.specs.declared.breaks.Break.{Break}
+use Rattle.msp_schedule.specs.declared.breaks.Break.TheVariants.{Span, Place, Machine, Job, Release, Arc, Route, Work}
+use Rattle.msp_schedule.specs.Piece.{IsApart}
+use Rattle.msp_schedule.specs.Feasible.{Feasible, FollowsRoute, HasOperation, HasPlace, GetsWork}
+use Rattle.msp_schedule.specs.Within.{Within}
+use Rattle.msp_schedule.specs.Breaks.{piece_at, no_piece, no_arc, IsLeast, IsLeastOperation, IsEarly, Overlaps, KeepsArc, KeepsRoute, HasRoutes, IsBroken, IsFirstBreak, turn_of}
+
+-- the conditions before a turn
+pub record KeepsUpTo (n : ℕ) (i : Instance) (s : Schedule) : Type 0 where
+  pub span : 0 < n → All (λ p. p.from <ℤ p.to) s.pieces
+  pub place : 1 < n → All (HasPlace i) s.pieces
+  pub machine : 2 < n → AllPairs (λ p q. p.machine ≡ q.machine → IsApart p q) s.pieces
+  pub job : 3 < n → AllPairs (λ p q. p.job ≡ q.job → IsApart p q) s.pieces
+  pub release : 4 < n → All (λ p. (s.unit *ℤ pos (job_at i p.job).release) ≤ℤ p.from) s.pieces
+  pub arc : 5 < n → All (KeepsArc s.pieces) i.arcs
+  pub route : 6 < n → HasRoutes i → (j o : ℕ) → j < length i.jobs → KeepsRoute s.pieces j o
+  pub work : 7 < n → (j o : ℕ) → j < length i.jobs → HasOperation (kind_of i.class.env) i j o → GetsWork i s j o
+
+-- two pieces of a lane that overlap are not apart
+overlap_is_not_apart : (a b : Piece) → a.from <ℤ a.to → b.from <ℤ b.to → (a.from ≤ℤ b.from) → b.from <ℤ a.to → ¬ IsApart a b
+overlap_is_not_apart a b la lb order early (inl h) = omega (arith, ints, h, early)
+overlap_is_not_apart a b la lb order early (inr h) = omega (arith, ints, h, lb, order)
+
+module _ (lane : Piece → ℕ) (xs : List Piece) (lasts : All (λ p. p.from <ℤ p.to) xs) (apart : AllPairs (λ p q. lane p ≡ lane q → IsApart p q) xs) where
+  pub no_overlap : (k l : ℕ) → ¬ Overlaps lane xs k l
+  no_overlap k l o = overlap_is_not_apart (piece_at xs k) (piece_at xs l) (lasts k no_piece o.one) (lasts l no_piece o.other) (weak o.ahead) o.early pair
+    where
+      weak : ((piece_at xs k).from <ℤ (piece_at xs l).from) ⊎ (((piece_at xs k).from ≡ (piece_at xs l).from) × (k < l)) → (piece_at xs k).from ≤ℤ (piece_at xs l).from
+      weak (inl h) = omega (arith, ints, h)
+      weak (inr (e, h)) = omega (arith, ints, e)
+
+      swap : (a b : Piece) → IsApart a b → IsApart b a
+      swap a b (inl h) = inr h
+      swap a b (inr h) = inl h
+
+      self : k ≡ l → ⊥
+      self e = by (o.ahead)
+        where
+          by : ((piece_at xs k).from <ℤ (piece_at xs l).from) ⊎ (((piece_at xs k).from ≡ (piece_at xs l).from) × (k < l)) → ⊥
+          by (inl h) = let same : (piece_at xs k).from ≡ (piece_at xs l).from = ap (λ x. (piece_at xs x).from) e in omega (arith, ints, h, same)
+          by (inr (f, h)) = omega (arith, h, e)
+
+      pair : IsApart (piece_at xs k) (piece_at xs l)
+      pair = elim (cases_lt k l) [
+        | inl less ↦ apart k l no_piece less o.other o.same
+        | inr more ↦ elim (cases_lt l k) [
+          | inl less ↦ swap (piece_at xs l) (piece_at xs k) (apart l k no_piece less o.one (sym o.same))
+          | inr back ↦ absurd (self (omega (arith, more, back)))
+        ]
+      ]
+
+module _ (i : Instance) (s : Schedule) where
+  pub not_broken : (n : ℕ) → KeepsUpTo n i s → (b : Break) → turn_of b < n → ¬ IsBroken i s b
+  not_broken n h (Span k) t b = let lasts = h.span t k no_piece b.inside in let empty = b.holds in omega (arith, ints)
+  not_broken n h (Place k) t b = b.holds (h.place (omega (arith, t)) k no_piece b.inside)
+  not_broken n h (Machine k l) t b = no_overlap (λ p. p.machine) s.pieces (h.span (omega (arith, t))) (h.machine (omega (arith, t))) k l b.overlap
+  not_broken n h (Job k l) t b = no_overlap (λ p. p.job) s.pieces (h.span (omega (arith, t))) (h.job (omega (arith, t))) k l b.overlap
+  not_broken n h (Release k) t b = let late = h.release (omega (arith, t)) k no_piece b.inside in let early = b.holds in omega (arith, ints)
+  not_broken n h (Arc k) t b = b.holds (h.arc (omega (arith, t)) k no_arc b.inside)
+  not_broken n h (Route j o) t b = b.1.holds (h.route (omega (arith, t)) b.0 j o b.1.inside)
+  not_broken n h (Work j o) t b = b.holds.1 (h.work (omega (arith, t)) j o b.inside b.holds.0)
+
+  pub first_of : (b : Break) → KeepsUpTo (turn_of b) i s → IsBroken i s b → IsFirstBreak i s b
+  first_of b h broken = record { broken = broken; first = λ c t. not_broken (turn_of b) h c t }
+
+  -- each condition is kept: the schedule is feasible
+  routed_by : (k : EnvKind) → kind_of i.class.env ≡ k → All (HasPlace i) s.pieces → (HasRoutes i → (j o : ℕ) → j < length i.jobs → KeepsRoute s.pieces j o) → FollowsRoute k s.pieces
+  routed_by Identical e place h = tt
+  routed_by Uniform e place h = tt
+  routed_by Unrelated e place h = tt
+  routed_by OpenShop e place h = tt
+  routed_by FlowShop e place h = λ k d l m b n same less. h (inl e) (get_or s.pieces m b).job (get_or s.pieces m b).op (place m b n).job k d l m b n same refl less refl
+  routed_by JobShop e place h = λ k d l m b n same less. h (inr e) (get_or s.pieces m b).job (get_or s.pieces m b).op (place m b n).job k d l m b n same refl less refl
+
+  pub feasible_if_kept : Within i s → KeepsUpTo 8 i s → Feasible i s
+  feasible_if_kept w h = record {
+    unit = w.unit.0;
+    span = λ k d l. ((w.moments k d l).0.0, h.span (omega arith) k d l);
+    place = h.place (omega arith);
+    machine = h.machine (omega arith);
+    job = h.job (omega arith);
+    release = h.release (omega arith);
+    arc = h.arc (omega arith);
+    route = routed_by (kind_of i.class.env) refl (h.place (omega arith)) (h.route (omega arith));
+    work = h.work (omega arith);
+  }
+
+  -- a feasible schedule keeps them all
+  routes_by : (k : EnvKind) → FollowsRoute k s.pieces → (k ≡ FlowShop) ⊎ (k ≡ JobShop) → (j o : ℕ) → KeepsRoute s.pieces j o
+  routes_by Identical h (inl e) j o = absurd (cc)
+  routes_by Identical h (inr e) j o = absurd (cc)
+  routes_by Uniform h (inl e) j o = absurd (cc)
+  routes_by Uniform h (inr e) j o = absurd (cc)
+  routes_by Unrelated h (inl e) j o = absurd (cc)
+  routes_by Unrelated h (inr e) j o = absurd (cc)
+  routes_by OpenShop h (inl e) j o = absurd (cc)
+  routes_by OpenShop h (inr e) j o = absurd (cc)
+  routes_by FlowShop h routed j o = λ k d l m b n ej eq less eo. h k d l m b n (ej ∙ sym eq) (subst (λ x. (get_or s.pieces k d).op < x) (sym eo) less)
+  routes_by JobShop h routed j o = λ k d l m b n ej eq less eo. h k d l m b n (ej ∙ sym eq) (subst (λ x. (get_or s.pieces k d).op < x) (sym eo) less)
+
+  pub kept_if_feasible : (n : ℕ) → Feasible i s → KeepsUpTo n i s
+  kept_if_feasible n f = record {
+    span = λ t k d l. (f.span k d l).1;
+    place = λ t. f.place;
+    machine = λ t. f.machine;
+    job = λ t. f.job;
+    release = λ t. f.release;
+    arc = λ t. f.arc;
+    route = λ t routed j o l. routes_by (kind_of i.class.env) f.route routed j o;
+    work = λ t. f.work;
+  }
+
+  pub decided : (result : Option Break) → IsDecision i s result → IsNone result ↔ Feasible i s
+  decided None h = (λ e. h, λ f. refl)
+  decided (Some b) h = (λ e. absurd (cc), λ f. absurd (not_broken (suc (turn_of b)) (kept_if_feasible (suc (turn_of b)) f) b (omega arith) h.broken))
+
+  pub named : (result : Option Break) → IsDecision i s result → IfSome result (IsFirstBreak i s)
+  named None h = tt
+  named (Some b) h = h
+
+  -- one condition after another
+  pub up_to_none : KeepsUpTo 0 i s
+  up_to_none = record { span = λ t. absurd (omega (arith, t)); place = λ t. absurd (omega (arith, t)); machine = λ t. absurd (omega (arith, t)); job = λ t. absurd (omega (arith, t)); release = λ t. absurd (omega (arith, t)); arc = λ t. absurd (omega (arith, t)); route = λ t. absurd (omega (arith, t)); work = λ t. absurd (omega (arith, t)) }
+
+  pub up_to_span : KeepsUpTo 0 i s → All (λ p. p.from <ℤ p.to) s.pieces → KeepsUpTo 1 i s
+  up_to_span h x = record { span = λ t. x; place = λ t. absurd (omega (arith, t)); machine = λ t. absurd (omega (arith, t)); job = λ t. absurd (omega (arith, t)); release = λ t. absurd (omega (arith, t)); arc = λ t. absurd (omega (arith, t)); route = λ t. absurd (omega (arith, t)); work = λ t. absurd (omega (arith, t)) }
+
+  pub up_to_place : KeepsUpTo 1 i s → All (HasPlace i) s.pieces → KeepsUpTo 2 i s
+  up_to_place h x = record { span = λ t. h.span (omega arith); place = λ t. x; machine = λ t. absurd (omega (arith, t)); job = λ t. absurd (omega (arith, t)); release = λ t. absurd (omega (arith, t)); arc = λ t. absurd (omega (arith, t)); route = λ t. absurd (omega (arith, t)); work = λ t. absurd (omega (arith, t)) }
+
+  pub up_to_machine : KeepsUpTo 2 i s → AllPairs (λ p q. p.machine ≡ q.machine → IsApart p q) s.pieces → KeepsUpTo 3 i s
+  up_to_machine h x = record { span = λ t. h.span (omega arith); place = λ t. h.place (omega arith); machine = λ t. x; job = λ t. absurd (omega (arith, t)); release = λ t. absurd (omega (arith, t)); arc = λ t. absurd (omega (arith, t)); route = λ t. absurd (omega (arith, t)); work = λ t. absurd (omega (arith, t)) }
+
+  pub up_to_job : KeepsUpTo 3 i s → AllPairs (λ p q. p.job ≡ q.job → IsApart p q) s.pieces → KeepsUpTo 4 i s
+  up_to_job h x = record { span = λ t. h.span (omega arith); place = λ t. h.place (omega arith); machine = λ t. h.machine (omega arith); job = λ t. x; release = λ t. absurd (omega (arith, t)); arc = λ t. absurd (omega (arith, t)); route = λ t. absurd (omega (arith, t)); work = λ t. absurd (omega (arith, t)) }
+
+  pub up_to_release : KeepsUpTo 4 i s → All (λ p. (s.unit *ℤ pos (job_at i p.job).release) ≤ℤ p.from) s.pieces → KeepsUpTo 5 i s
+  up_to_release h x = record { span = λ t. h.span (omega arith); place = λ t. h.place (omega arith); machine = λ t. h.machine (omega arith); job = λ t. h.job (omega arith); release = λ t. x; arc = λ t. absurd (omega (arith, t)); route = λ t. absurd (omega (arith, t)); work = λ t. absurd (omega (arith, t)) }
+
+  pub up_to_arc : KeepsUpTo 5 i s → All (KeepsArc s.pieces) i.arcs → KeepsUpTo 6 i s
+  up_to_arc h x = record { span = λ t. h.span (omega arith); place = λ t. h.place (omega arith); machine = λ t. h.machine (omega arith); job = λ t. h.job (omega arith); release = λ t. h.release (omega arith); arc = λ t. x; route = λ t. absurd (omega (arith, t)); work = λ t. absurd (omega (arith, t)) }
+
+  pub up_to_route : KeepsUpTo 6 i s → (HasRoutes i → (j o : ℕ) → j < length i.jobs → KeepsRoute s.pieces j o) → KeepsUpTo 7 i s
+  up_to_route h x = record { span = λ t. h.span (omega arith); place = λ t. h.place (omega arith); machine = λ t. h.machine (omega arith); job = λ t. h.job (omega arith); release = λ t. h.release (omega arith); arc = λ t. h.arc (omega arith); route = λ t. x; work = λ t. absurd (omega (arith, t)) }
+
+  pub up_to_work : KeepsUpTo 7 i s → ((j o : ℕ) → j < length i.jobs → HasOperation (kind_of i.class.env) i j o → GetsWork i s j o) → KeepsUpTo 8 i s
+  up_to_work h x = record { span = λ t. h.span (omega arith); place = λ t. h.place (omega arith); machine = λ t. h.machine (omega arith); job = λ t. h.job (omega arith); release = λ t. h.release (omega arith); arc = λ t. h.arc (omega arith); route = λ t. h.route (omega arith); work = λ t. x }
+
+  -- the same where the unit is passed as a number
+  pub up_to_release_at : (u : ℤ) → u ≡ s.unit → KeepsUpTo 4 i s → All (λ p. (u *ℤ pos (job_at i p.job).release) ≤ℤ p.from) s.pieces → KeepsUpTo 5 i s
+  up_to_release_at u e h x = up_to_release h (subst (λ v. All (λ p. (v *ℤ pos (job_at i p.job).release) ≤ℤ p.from) s.pieces) e x)
+
+  pub up_to_work_at : (u : ℤ) → u ≡ s.unit → KeepsUpTo 7 i s → ((j o : ℕ) → j < length i.jobs → IsWorked i u s.pieces j o) → KeepsUpTo 8 i s
+  up_to_work_at u e h x = up_to_work h (subst (λ v. (j o : ℕ) → j < length i.jobs → IsWorked i v s.pieces j o) e x)
+
+  pub first_release_at : (u : ℤ) (k : ℕ) → u ≡ s.unit → KeepsUpTo 4 i s → IsLeast (length s.pieces) (λ l. IsEarly i u (piece_at s.pieces l)) k → IsFirstBreak i s (Release k)
+  first_release_at u k e h x = first_of (Release k) h (subst (λ v. IsLeast (length s.pieces) (λ l. IsEarly i v (piece_at s.pieces l)) k) e x)
+
+  pub first_work_at : (u : ℤ) (j o : ℕ) → u ≡ s.unit → KeepsUpTo 7 i s → IsLeastOperation i (LacksWorkAmong i u s.pieces) j o → IsFirstBreak i s (Work j o)
+  first_work_at u j o e h x = first_of (Work j o) h (subst (λ v. IsLeastOperation i (LacksWorkAmong i v s.pieces) j o) e x)
+
+-- the schedule whose pieces are passed as a slice
+abbrev pub with_pieces : Schedule → List Piece → Schedule
+with_pieces s xs = record { unit = s.unit; pieces = xs }
+
+pub same_schedule : (s : Schedule) (xs : List Piece) → xs ≡ s.pieces → with_pieces s xs ≡ s
+same_schedule s xs e = ap (with_pieces s) e

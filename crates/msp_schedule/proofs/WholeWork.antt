@@ -1,0 +1,168 @@
+-- A piece that is its whole operation, by one form for all kinds of machines.
+use Rattle.std.proofs.Common.{◌≡◌, ◌≢◌, ℕ, ◌+◌, inl, inr, ◌*◌, ◌^◌, ◌<◌, ◌≤◌, Bool, true, false, List, [], ◌∷◌, ℤ, pos, ◌*ℤ◌, length, get_or, map, All, MatchBool, refl, sym, ap, ap₂, subst, subst₂, ◌∙◌, arith}
+use Rattle.std.proofs.lemmas.List.Elements.{All-head, All-filter}
+use Rattle.std.proofs.lemmas.Bool.{cases_lt}
+use Rattle.std.specs.Prelude.{IsTrue, ◌↔◌, ◌==◌, ◌&&◌}
+use Rattle.msp_class.specs.declared.class.Env.{Env}
+use Rattle.msp_class.specs.declared.environments.EnvKind.{EnvKind}
+use Rattle.msp_class.specs.declared.environments.EnvKind.TheVariants.{Identical, Uniform, Unrelated, OpenShop, FlowShop, JobShop}
+use Rattle.msp_class.specs.Env.{kind_of}
+use Rattle.msp_instance.specs.declared.Instance.{Instance}
+use Rattle.msp_instance.specs.Instance.{no_job, job_at, need_at}
+use Rattle.msp_instance.specs.Conditions.{HasShape, Inner, LiesWithin}
+use Rattle.msp_schedule.specs.declared.Piece.{Piece}
+use Rattle.msp_schedule.specs.Feasible.{HasPlace, HasOperation, MayRun, IsWholeWork, total, work_of, whole_work}
+use Rattle.msp_schedule.specs.Breaks.{pieces_among, IsLeast, IsLeastOperation}
+use Rattle.msp_schedule.specs.Works.{AreSmallTimes, GetsWorkAmong, LacksWorkAmong, IsWorked, need_of, measured_by}
+
+inside_by : (k : EnvKind) (e : Env) (i : Instance) (p : Piece) → HasShape k e i.machines (job_at i p.job).needs → HasOperation k i p.job p.op → MayRun k i p.job p.op p.machine → need_of k p < length (job_at i p.job).needs
+inside_by Identical e i p shape op may = omega (arith, shape.0, op)
+inside_by Uniform e i p shape op may = omega (arith, shape.0, op)
+inside_by Unrelated e i p shape op may = omega (arith, shape.0, may)
+inside_by OpenShop e i p shape op may = op.0
+inside_by FlowShop e i p shape op may = op.0
+inside_by JobShop e i p shape op may = op.0
+
+-- the need of a piece is there
+pub need_inside : (i : Instance) (p : Piece) → Inner i → HasPlace i p → need_of (kind_of i.class.env) p < length (job_at i p.job).needs
+need_inside i p inner h = inside_by (kind_of i.class.env) i.class.env i p (inner.conditions.jobs p.job no_job h.job).needs.shape h.operation h.machine
+
+whole_by : (k : EnvKind) (i : Instance) (unit : ℤ) (p : Piece) → IsWholeWork k i unit p → measured_by k i p ≡ unit *ℤ pos (need_at i p.job (need_of k p)).time
+whole_by Identical i unit p h = h
+whole_by Uniform i unit p h = h
+whole_by Unrelated i unit p h = h
+whole_by OpenShop i unit p h = h
+whole_by FlowShop i unit p h = h
+whole_by JobShop i unit p h = h
+
+by_whole : (k : EnvKind) (i : Instance) (unit : ℤ) (p : Piece) → measured_by k i p ≡ unit *ℤ pos (need_at i p.job (need_of k p)).time → IsWholeWork k i unit p
+by_whole Identical i unit p h = h
+by_whole Uniform i unit p h = h
+by_whole Unrelated i unit p h = h
+by_whole OpenShop i unit p h = h
+by_whole FlowShop i unit p h = h
+by_whole JobShop i unit p h = h
+
+pub is_whole : (i : Instance) (unit : ℤ) (p : Piece) → IsWholeWork (kind_of i.class.env) i unit p → measured_by (kind_of i.class.env) i p ≡ unit *ℤ pos (need_at i p.job (need_of (kind_of i.class.env) p)).time
+is_whole i = whole_by (kind_of i.class.env) i
+
+pub whole_is : (i : Instance) (unit : ℤ) (p : Piece) → measured_by (kind_of i.class.env) i p ≡ unit *ℤ pos (need_at i p.job (need_of (kind_of i.class.env) p)).time → IsWholeWork (kind_of i.class.env) i unit p
+whole_is i = by_whole (kind_of i.class.env) i
+
+pub small_time : (i : Instance) (unit u : ℤ) (j o at t : ℕ) → u ≡ unit → at ≡ o → t ≡ (need_at i j at).time → AreSmallTimes i unit → j < length i.jobs → o < length (job_at i j).needs → LiesWithin (2 * 10 ^ 22) (u *ℤ pos t)
+small_time i unit u j o at t eu ea et h inside need =
+    subst₂ (λ x y. LiesWithin (2 * 10 ^ 22) (x *ℤ pos y)) (sym eu) (sym (et ∙ ap (λ k. (need_at i j k).time) ea)) (h j o inside need)
+
+pub whole_if : (i : Instance) (unit : ℤ) (p : Piece) (m : ℤ) (at t : ℕ) (takes : Bool) → m ≡ measured_by (kind_of i.class.env) i p → at ≡ need_of (kind_of i.class.env) p → t ≡ (need_at i p.job at).time →
+    IsTrue takes ↔ (m ≡ unit *ℤ pos t) → IsTrue takes ↔ IsWholeWork (kind_of i.class.env) i unit p
+whole_if i unit p m at t takes em ea et (to, from) =
+    (λ h. whole_is i unit p (sym em ∙ to h ∙ time), λ h. from (em ∙ is_whole i unit p h ∙ sym time))
+  where
+    time : unit *ℤ pos t ≡ unit *ℤ pos (need_at i p.job (need_of (kind_of i.class.env) p)).time
+    time = ap (λ k. unit *ℤ pos k) (et ∙ ap (λ k. (need_at i p.job k).time) ea)
+
+-- the same at the numbers as they are passed
+pub whole_if-passed : (i : Instance) (unit u : ℤ) (p : Piece) (m n : ℤ) (at t : ℕ) (takes : Bool) → u ≡ unit → n ≡ m → m ≡ measured_by (kind_of i.class.env) i p → at ≡ need_of (kind_of i.class.env) p → t ≡ (need_at i p.job at).time →
+    IsTrue takes ↔ (n ≡ u *ℤ pos t) → IsTrue takes ↔ IsWholeWork (kind_of i.class.env) i unit p
+whole_if-passed i unit u p m n at t takes eu en em ea et h =
+    whole_if i unit p m at t takes em ea et (subst₂ (λ x y. IsTrue takes ↔ (x ≡ y *ℤ pos t)) en eu h)
+
+-- the sole piece of an operation is one of the pieces
+pub sole_has : (P : Piece → Type 0) (xs : List Piece) (j o : ℕ) (p : Piece) → pieces_among xs j o ≡ p ∷ [] → All P xs → P p
+sole_has P xs j o p e h = All-head P p [] (subst (All P) e (All-filter (λ q. (q.job == j) && (q.op == o)) P xs h))
+
+operation_inside_by : (k : EnvKind) (e : Env) (i : Instance) (j o : ℕ) → k ≢ Unrelated → HasShape k e i.machines (job_at i j).needs → HasOperation k i j o → o < length (job_at i j).needs
+operation_inside_by Identical e i j o n shape op = omega (arith, shape.0, op)
+operation_inside_by Uniform e i j o n shape op = omega (arith, shape.0, op)
+operation_inside_by Unrelated e i j o n shape op = absurd (n refl)
+operation_inside_by OpenShop e i j o n shape op = op.0
+operation_inside_by FlowShop e i j o n shape op = op.0
+operation_inside_by JobShop e i j o n shape op = op.0
+
+-- the need of an operation is there, and says how much work it is
+pub operation_inside : (i : Instance) (j o : ℕ) → kind_of i.class.env ≢ Unrelated → Inner i → j < length i.jobs → HasOperation (kind_of i.class.env) i j o → o < length (job_at i j).needs
+operation_inside i j o n inner job op = operation_inside_by (kind_of i.class.env) i.class.env i j o n (inner.conditions.jobs j no_job job).needs.shape op
+
+whole_work_by : (k : EnvKind) (i : Instance) (j o : ℕ) → k ≢ Unrelated → whole_work k i j o ≡ (need_at i j o).time
+whole_work_by Identical i j o n = refl
+whole_work_by Uniform i j o n = refl
+whole_work_by Unrelated i j o n = absurd (n refl)
+whole_work_by OpenShop i j o n = refl
+whole_work_by FlowShop i j o n = refl
+whole_work_by JobShop i j o n = refl
+
+-- what a cut operation gets, and a whole one
+pub gets_cut : (i : Instance) (unit u : ℤ) (xs : List Piece) (j o : ℕ) (sum n : ℤ) (t : ℕ) (takes : Bool) → i.class.cut ≡ true → kind_of i.class.env ≢ Unrelated → u ≡ unit → n ≡ sum → t ≡ (need_at i j o).time →
+    sum ≡ total (map (work_of (kind_of i.class.env) i) (pieces_among xs j o)) → IsTrue takes ↔ (n ≡ u *ℤ pos t) → IsTrue takes ↔ GetsWorkAmong i unit xs j o
+gets_cut i unit u xs j o sum n t takes cut other eu en et es h =
+    subst (λ b. IsTrue takes ↔ MatchBool b Cut Whole) (sym cut)
+    (subst₂ (λ x y. IsTrue takes ↔ (x ≡ y)) (en ∙ es) (ap₂ (λ x k. x *ℤ pos k) eu (et ∙ sym (whole_work_by (kind_of i.class.env) i j o other))) h)
+  where
+    Cut : Type 0
+    Cut = total (map (work_of (kind_of i.class.env) i) (pieces_among xs j o)) ≡ unit *ℤ pos (whole_work (kind_of i.class.env) i j o)
+
+    Whole : Type 0
+    Whole = (p : Piece) × (pieces_among xs j o ≡ p ∷ []) × IsWholeWork (kind_of i.class.env) i unit p
+
+pub gets_whole : (i : Instance) (unit : ℤ) (xs : List Piece) (j o : ℕ) (p : Piece) (whole : Bool) → i.class.cut ≡ false → pieces_among xs j o ≡ p ∷ [] → IsTrue whole ↔ IsWholeWork (kind_of i.class.env) i unit p → IsTrue whole ↔ GetsWorkAmong i unit xs j o
+gets_whole i unit xs j o p whole cut sole (to, from) =
+    subst (λ b. IsTrue whole ↔ MatchBool b Cut Whole) (sym cut) (λ h. (p, sole, to h), λ w. from (subst (IsWholeWork (kind_of i.class.env) i unit) (same (sym w.1 ∙ sole)) w.2))
+  where
+    Cut : Type 0
+    Cut = total (map (work_of (kind_of i.class.env) i) (pieces_among xs j o)) ≡ unit *ℤ pos (whole_work (kind_of i.class.env) i j o)
+
+    Whole : Type 0
+    Whole = (q : Piece) × (pieces_among xs j o ≡ q ∷ []) × IsWholeWork (kind_of i.class.env) i unit q
+
+    same : {q : Piece} → q ∷ [] ≡ p ∷ [] → q ≡ p
+    same e = ap (λ l. get_or l 0 p) e
+
+pub gets_none : (i : Instance) (unit : ℤ) (xs : List Piece) (j o : ℕ) → i.class.cut ≡ false → ((p : Piece) → ¬ (pieces_among xs j o ≡ p ∷ [])) → ¬ GetsWorkAmong i unit xs j o
+gets_none i unit xs j o cut none h = none (own h).0 (own h).1
+  where
+    own : GetsWorkAmong i unit xs j o → (q : Piece) × (pieces_among xs j o ≡ q ∷ []) × IsWholeWork (kind_of i.class.env) i unit q
+    own g = subst (λ b. MatchBool b (total (map (work_of (kind_of i.class.env) i) (pieces_among xs j o)) ≡ unit *ℤ pos (whole_work (kind_of i.class.env) i j o)) ((q : Piece) × (pieces_among xs j o ≡ q ∷ []) × IsWholeWork (kind_of i.class.env) i unit q)) cut g
+
+-- ---- the first operation that lacks work
+pub not_lacking : (i : Instance) (u : ℤ) (xs : List Piece) (j o : ℕ) → IsWorked i u xs j o → ¬ LacksWorkAmong i u xs j o
+not_lacking i u xs j o h (op, none) = none (h op)
+
+pub lacks_first : (i : Instance) (unit u : ℤ) (xs : List Piece) (j ops o : ℕ) → u ≡ unit → o < ops → LacksWorkAmong i u xs j o → ((q : ℕ) → q < o → IsWorked i u xs j q) → IsLeast ops (λ q. LacksWorkAmong i unit xs j q) o
+lacks_first i unit u xs j ops o e inside lacks before = subst (λ v. IsLeast ops (λ q. LacksWorkAmong i v xs j q) o) e (record { inside = inside; holds = lacks; least = λ q below. not_lacking i u xs j q (before q below) })
+
+-- an operation beyond the needs has no work to do
+beyond_by : (k : EnvKind) (e : Env) (i : Instance) (j o : ℕ) → 1 ≤ i.machines → HasShape k e i.machines (job_at i j).needs → HasOperation k i j o → o < length (job_at i j).needs
+beyond_by Identical e i j o m shape op = omega (arith, shape.0, op)
+beyond_by Uniform e i j o m shape op = omega (arith, shape.0, op)
+beyond_by Unrelated e i j o m shape op = omega (arith, shape.0, op, m)
+beyond_by OpenShop e i j o m shape op = op.0
+beyond_by FlowShop e i j o m shape op = op.0
+beyond_by JobShop e i j o m shape op = op.0
+
+pub all_worked : (i : Instance) (u : ℤ) (xs : List Piece) (j ops : ℕ) → Inner i → j < length i.jobs → ops ≡ length (job_at i j).needs → ((q : ℕ) → q < ops → IsWorked i u xs j q) → (q : ℕ) → IsWorked i u xs j q
+all_worked i u xs j ops inner inside es h q op = h q (subst (λ n. q < n) (sym es) (beyond_by (kind_of i.class.env) i.class.env i j q inner.conditions.machines.0 (inner.conditions.jobs j no_job inside).needs.shape op)) op
+
+pub worked_next : (i : Instance) (u v : ℤ) (xs : List Piece) (job ops : ℕ) → v ≡ u → Inner i → job < length i.jobs → ops ≡ length (job_at i job).needs → ((q : ℕ) → q < ops → IsWorked i v xs job q) → ((j o : ℕ) → j < job → IsWorked i u xs j o) → (j o : ℕ) → j < job + 1 → IsWorked i u xs j o
+worked_next i u v xs job ops e inner inside es own before j o below = elim (cases_lt j job) [
+  | inl less ↦ before j o less
+  | inr more ↦ subst (λ k. IsWorked i u xs k o) (omega (arith, below, more)) (all_worked i u xs job ops inner inside es (subst (λ x. (q : ℕ) → q < ops → IsWorked i x xs job q) e own) o)
+]
+
+pub lacks_least : (i : Instance) (unit u v : ℤ) (xs : List Piece) (job ops o : ℕ) → u ≡ unit → v ≡ u → job < length i.jobs → IsLeast ops (λ q. LacksWorkAmong i v xs job q) o → ((j q : ℕ) → j < job → IsWorked i u xs j q) → IsLeastOperation i (LacksWorkAmong i unit xs) job o
+lacks_least i unit u v xs job ops o e f inside least before = subst (λ x. IsLeastOperation i (LacksWorkAmong i x xs) job o) e (record {
+  inside = inside;
+  holds = subst (λ x. LacksWorkAmong i x xs job o) f least.holds;
+  job = λ k q below. not_lacking i u xs k q (before k q below);
+  operation = λ q below. subst (λ x. ¬ LacksWorkAmong i x xs job q) f (least.least q below);
+})
+
+measured_is : (k : EnvKind) (i : Instance) (p : Piece) → k ≢ Unrelated → measured_by k i p ≡ work_of k i p
+measured_is Identical i p n = refl
+measured_is Uniform i p n = refl
+measured_is Unrelated i p n = absurd (n refl)
+measured_is OpenShop i p n = refl
+measured_is FlowShop i p n = refl
+measured_is JobShop i p n = refl
+
+pub work_is : (i : Instance) (p : Piece) (w : ℤ) → kind_of i.class.env ≢ Unrelated → w ≡ measured_by (kind_of i.class.env) i p → w ≡ work_of (kind_of i.class.env) i p
+work_is i p w n e = e ∙ measured_is (kind_of i.class.env) i p n

@@ -1,0 +1,8 @@
+use Rattle.std.proofs.lemmas.Int.{to_z-of_z}
+use Rattle.std.specs.Int.{w128}
+use Rattle.msp_schedule.proofs.WholeWork.{lacks_first}
+use Rattle.msp_schedule.proofs.routes.first_unworked.Goals as goal
+
+pub returns-then-lacks_work-clause-some : goal.returns-then-lacks_work-clause-some
+returns-then-lacks_work-clause-some c =
+    lacks_first c.args.inst.now c.args.unit _ c.args.pieces.now c.args.job c.args.ops c.loop-op.op (to_z-of_z w128 c.args.unit c.ranges.unit) c.loop-op-test.true (c.lacks_work.ensures.lacks c.if-lacks_work.true) c.loop-op.invariant

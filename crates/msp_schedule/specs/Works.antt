@@ -1,0 +1,55 @@
+-- The work of an operation among some pieces, and what is found of a schedule. No public contract cites this file.
+use Rattle.std.specs.Prelude.{◌≡◌, ℕ, ◌*◌, ◌^◌, ◌<◌, List, [], ◌∷◌, length, ℤ, pos, ◌*ℤ◌, map, slice_index_or, MatchBool, Option, Some, None}
+use Rattle.msp_class.specs.declared.environments.EnvKind.{EnvKind}
+use Rattle.msp_class.specs.declared.environments.EnvKind.TheVariants.{Identical, Uniform, Unrelated, OpenShop, FlowShop, JobShop}
+use Rattle.msp_class.specs.Env.{kind_of}
+use Rattle.msp_instance.specs.declared.Instance.{Instance}
+use Rattle.msp_instance.specs.Instance.{job_at, need_at}
+use Rattle.msp_instance.specs.Conditions.{LiesWithin}
+use Rattle.msp_schedule.specs.declared.Piece.{Piece}
+use Rattle.msp_schedule.specs.declared.Schedule.{Schedule}
+use Rattle.msp_schedule.specs.declared.breaks.Break.{Break}
+use Rattle.msp_schedule.specs.Piece.{length_of}
+use Rattle.msp_schedule.specs.Feasible.{Feasible, HasOperation, total, work_of, whole_work, IsWholeWork}
+use Rattle.msp_schedule.specs.Breaks.{pieces_among, IsFirstBreak}
+
+-- The number of the need that says how long the piece's operation takes: on unrelated machines that of its machine.
+abbrev pub need_of : EnvKind → Piece → ℕ
+need_of Identical p = p.op
+need_of Uniform p = p.op
+need_of Unrelated p = p.machine
+need_of OpenShop p = p.op
+need_of FlowShop p = p.op
+need_of JobShop p = p.op
+
+-- How long the piece lasts, on uniform machines times the machine's speed.
+abbrev pub measured_by : EnvKind → Instance → Piece → ℤ
+measured_by Identical i p = length_of p
+measured_by Uniform i p = length_of p *ℤ pos (slice_index_or i.speeds p.machine 0)
+measured_by Unrelated i p = length_of p
+measured_by OpenShop i p = length_of p
+measured_by FlowShop i p = length_of p
+measured_by JobShop i p = length_of p
+
+-- The times over the unit fit a signed number of 128 bits.
+abbrev pub AreSmallTimes : Instance → ℤ → Type 0
+AreSmallTimes i unit = (j o : ℕ) → j < length i.jobs → o < length (job_at i j).needs → LiesWithin (2 * 10 ^ 22) (unit *ℤ pos (need_at i j o).time)
+
+-- The operation gets its work from these pieces.
+abbrev pub GetsWorkAmong : Instance → ℤ → List Piece → ℕ → ℕ → Type 0
+GetsWorkAmong i unit pieces j o = MatchBool i.class.cut
+    (total (map (work_of (kind_of i.class.env) i) (pieces_among pieces j o)) ≡ unit *ℤ pos (whole_work (kind_of i.class.env) i j o))
+    ((p : Piece) × (pieces_among pieces j o ≡ p ∷ []) × IsWholeWork (kind_of i.class.env) i unit p)
+
+-- Where the operation has work to do, it gets it from these pieces.
+abbrev pub IsWorked : Instance → ℤ → List Piece → ℕ → ℕ → Type 0
+IsWorked i unit pieces j o = HasOperation (kind_of i.class.env) i j o → GetsWorkAmong i unit pieces j o
+
+-- The operation has work to do and does not get it from these pieces.
+abbrev pub LacksWorkAmong : Instance → ℤ → List Piece → ℕ → ℕ → Type 0
+LacksWorkAmong i unit pieces j o = HasOperation (kind_of i.class.env) i j o × (¬ GetsWorkAmong i unit pieces j o)
+
+-- What is found of a schedule: nothing where it is feasible, and else the first break.
+abbrev pub IsDecision : Instance → Schedule → Option Break → Type 0
+IsDecision i s None = Feasible i s
+IsDecision i s (Some b) = IsFirstBreak i s b
