@@ -11,3 +11,10 @@ pub mod LawlerFacts
 pub mod LawlerBest
 pub mod Search
 pub mod Placing
+pub mod MooreFacts
+pub mod MooreChoice
+pub mod MooreSteps
+pub mod DateOrder
+pub mod MooreOrder
+pub mod LateJobs
+pub mod MooreBest

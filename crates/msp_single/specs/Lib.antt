@@ -1,4 +1,5 @@
 pub mod Smith
 pub mod Lawler
+pub mod Moore
 pub mod Candidates
 pub mod Row

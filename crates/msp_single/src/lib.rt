@@ -1,14 +1,16 @@
-//! Solvers on one machine, where jobs are neither cut nor released late: Smith's rule and Lawler's rule.
+//! Solvers on one machine, where jobs are neither cut nor released late: the rules of Smith, Lawler and Moore.
 //!
 //! It stands on `msp_schedule` and `msp_route`. The layers above use the clauses of `Solver`: the answers are best. The jobs run one
 //! after another from moment 0 on.
 #![tactic(auto)]
 
 mod lawler;
+mod moore;
 mod row;
 mod smith;
 #[cfg(test)]
 mod tests;
 
 pub use lawler::Lawler;
+pub use moore::Moore;
 pub use smith::Smith;

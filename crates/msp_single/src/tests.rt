@@ -4,7 +4,7 @@ ghost use Rattle.msp_class.specs.declared.class.Env.TheVariants.{One};
 ghost use Rattle.msp_class.specs.declared.class.Times.TheVariants.{General};
 ghost use Rattle.msp_instance.specs.Conditions.{Inner};
 
-use crate::{Lawler, Smith};
+use crate::{Lawler, Moore, Smith};
 use msp_class::{Class, Crit, Env, List, Order, Times};
 use msp_instance::{Arc, Curve, Instance, Job, Need, Step, check, forward};
 use msp_route::Solver;
@@ -25,10 +25,11 @@ fn class(order: Order, crit: Crit) -> Class
     }
 }
 
-/// A job of a time and a weight, with a curve of a slope, a base, and at most one step.
+/// A job of a time, a due date and a weight, with a curve of a slope, a base, and at most one step.
 #[derive(Clone, Copy)]
 struct Data {
     time: u64,
+    due: i64,
     weight: u64,
     slope: u64,
     base: i64,
@@ -52,7 +53,7 @@ fn job(alloc: Global, data: Data) -> Option<Job> {
     }
     Some(Job {
         release: 0,
-        due: 0,
+        due: data.due,
         weight: data.weight,
         needs,
         curve: Curve {
@@ -121,6 +122,7 @@ fn on_machine(job: u32, from: i128, to: i128) -> Piece {
 fn load(time: u64, weight: u64) -> Data {
     Data {
         time,
+        due: 0,
         weight,
         slope: 0,
         base: 0,
@@ -159,6 +161,7 @@ fn smith_breaks_ties_by_number(rt: HostRuntime) {
 fn priced(time: u64, slope: u64, base: i64, step: Option<Step>) -> Data {
     Data {
         time,
+        due: 0,
         weight: 1,
         slope,
         base,
@@ -195,5 +198,33 @@ fn lawler_orders_jobs_by_due_date(rt: HostRuntime) {
     let best = lawler(rt.alloc(), &all, &[]).expect(&rt, "there is memory");
     let pieces = [on_machine(1, 0, 3), on_machine(0, 3, 5)];
     assert_eq!(rt; best.cost.num, 5);
+    assert_eq!(rt; best.schedule.pieces.as_slice(), pieces.as_slice());
+}
+
+/// A job with a time and a due date alone.
+fn dated(time: u64, due: i64) -> Data {
+    Data {
+        due,
+        ..load(time, 1)
+    }
+}
+
+fn moore(alloc: Global, all: &[Data]) -> Option<Solution> {
+    let class = class(Order::Free, Crit::SumU);
+    let inst = instance(alloc, class, jobs(alloc, all)?, List::new(alloc))?;
+    Moore.solve(alloc, &inst).ok()
+}
+
+#[test]
+fn moore_drops_the_longest_job(rt: HostRuntime) {
+    let all = [dated(2, 3), dated(3, 5), dated(2, 6), dated(4, 8)];
+    let best = moore(rt.alloc(), &all).expect(&rt, "there is memory");
+    let pieces = [
+        on_machine(0, 0, 2),
+        on_machine(2, 2, 4),
+        on_machine(3, 4, 8),
+        on_machine(1, 8, 11),
+    ];
+    assert_eq!(rt; best.cost.num, 1);
     assert_eq!(rt; best.schedule.pieces.as_slice(), pieces.as_slice());
 }

@@ -1,0 +1,120 @@
+-- The row of the jobs in Moore's order is best, and in the form of an answer.
+use Rattle.std.proofs.Common.{◌≡◌, ◌≢◌, ℕ, ◌*◌, ◌<◌, ◌≤◌, Bool, cond, not, inl, inr, List, ◌++◌, length, get_or, map, ℤ, pos, nat_abs, ◌*ℤ◌, ◌≤ℤ◌, All, AllPairs, IsPermutation, sum_by, refl, sym, ap, ◌∙◌, subst, arith}
+use Rattle.std.specs.List.{range_with_len}
+use native.Mathlib.Nat.{mul-le-mul_left}
+use Rattle.std.proofs.lemmas.List.{length-append}
+use Rattle.std.proofs.lemmas.List.Elements.{All-nil}
+use Rattle.std.proofs.lemmas.List.Sums.{sum_by-append}
+use Rattle.std.proofs.lemmas.List.Sorted.{IsPermutation-trans, IsPermutation-append_right}
+use Rattle.msp_class.proofs.IntegerRing.{≤ℤ_of_same, ≤ℤ_trans, <ℤ_weak, pos-le, *ℤ-one, one-*ℤ}
+use Rattle.msp_class.proofs.Sums.{OnceBelow, OnceBelow-from_permutation, OnceBelow-distinct, OnceBelow-contains, length-OnceBelow, sum_by-OnceBelow, sum_by-none, sum_by-mono, sum_by-constant, cond-no, cond-le}
+use Rattle.msp_instance.specs.declared.Arc.{Arc}
+use Rattle.msp_instance.specs.declared.Instance.{Instance}
+use Rattle.msp_instance.specs.Conditions.{Inner}
+use Rattle.msp_schedule.specs.declared.Piece.{Piece}
+use Rattle.msp_schedule.specs.declared.Schedule.{Schedule}
+use Rattle.msp_schedule.specs.Piece.{IsBefore}
+use Rattle.msp_schedule.specs.Feasible.{Feasible}
+use Rattle.msp_schedule.specs.Cost.{end_of, cost_of, Best}
+use Rattle.msp_schedule.specs.Settled.{IsSettled}
+use Rattle.msp_schedule.specs.Within.{Within}
+use Rattle.msp_schedule.proofs.Rows.{row, row-jobs, row-last, end_in}
+use Rattle.msp_schedule.proofs.OneMachine.{job_of, IsPlan-from_feasible, last_end-is}
+use Rattle.msp_schedule.proofs.OneRow.{piece, piece_makes, time_at, row_schedule, row_is_feasible, row_is_settled, row_is_within}
+use Rattle.msp_route.specs.Bounds.{IsAnswer}
+use Rattle.msp_single.specs.Moore.{moore_class, IsDueBefore, IsMooreOrder}
+use Rattle.msp_single.proofs.Facts.{takes_time, is_short}
+use Rattle.msp_single.proofs.RowAnswer.{timed, released, row_is_answer}
+use Rattle.msp_single.proofs.MooreFacts.{IsMooreInstance, IsMooreInstance-from_class}
+use Rattle.msp_single.proofs.MooreChoice.{All-front, choice-permutation, choice-on_time, choice-most}
+use Rattle.msp_single.proofs.LateJobs.{due_at, is_late, late_jobs, late_cost, not_late, late_and_on_time, ends_on_time, on_time_in_a_row}
+
+pub all_in_order : (i : Instance) (order : List ℕ) → IsMooreOrder i order → IsPermutation (range_with_len 0 (length i.jobs)) order
+all_in_order i order o =
+    subst (IsPermutation (range_with_len 0 (length i.jobs))) (sym o.whole)
+    (IsPermutation-trans _ _ _ o.all (IsPermutation-trans _ _ _ (choice-permutation (time_at i) (λ j. j) (due_at i) o.choice) (IsPermutation-append_right o.accepted o.dropped o.late o.moved)))
+
+-- what is said of the answer's schedule
+pub record IsMooreSchedule (i : Instance) (s : Schedule) : Type 0 where
+  pub best : Best i s
+  pub settled : IsSettled s
+  pub within : Within i s
+  pub answer : IsAnswer i s
+  pub order : IsMooreOrder i (map job_of s.pieces)
+
+module _ (i : Instance) (h : IsMooreInstance i) (order : List ℕ) (o : IsMooreOrder i order) where
+  once : OnceBelow (length i.jobs) order
+  once = OnceBelow-from_permutation (all_in_order i order o)
+
+  abbrev pieces : List Piece
+  pieces = row piece (time_at i) 0 order
+
+  no_arcs : All (λ a. All (λ p. All (λ q. p.job ≡ a.before → q.job ≡ a.after → IsBefore p q) pieces) pieces) i.arcs
+  no_arcs = subst (λ arcs. All (λ a. All (λ p. All (λ q. p.job ≡ a.before → q.job ≡ a.after → IsBefore p q) pieces) pieces) arcs) (sym h.arcs) (All-nil (λ (a : Arc). All (λ p. All (λ q. p.job ≡ a.before → q.job ≡ a.after → IsBefore p q) pieces) pieces))
+
+  row_feasible : Feasible i (row_schedule i order)
+  row_feasible = row_is_feasible i order once (takes_time i h.plain) h.plain.machine (released i h.plain order once) no_arcs
+
+  sorted : AllPairs (λ a b. due_at i a ≤ℤ due_at i b) o.by_date
+  sorted a b d l k = at_most (get_or o.by_date a d) (get_or o.by_date b d) (o.sorted a b d l k)
+    where
+      at_most : (x y : ℕ) → IsDueBefore i x y → due_at i x ≤ℤ due_at i y
+      at_most x y g = elim g [ inl l ↦ <ℤ_weak l | inr e ↦ ≤ℤ_of_same e.0 ]
+
+  distinct : AllPairs (λ x y. x ≢ y) (o.accepted ++ o.late)
+  distinct = subst (AllPairs (λ x y. x ≢ y)) o.whole (OnceBelow-distinct once)
+
+  -- ---- no job that is accepted is late
+  accepted_within : All (λ j. j < length i.jobs) o.accepted
+  accepted_within = All-front (λ j. j < length i.jobs) o.accepted o.late (subst (All (λ j. j < length i.jobs)) o.whole once.within)
+
+  ends : (j : ℕ) → j < length i.jobs → end_of (row_schedule i order) j ≡ pos (end_in (time_at i) 0 (o.accepted ++ o.late) j)
+  ends j l =
+      last_end-is pieces j (timed i h.plain order once)
+      ∙ ap pos (row-last piece (time_at i) piece_makes 0 order j (OnceBelow-distinct once) (OnceBelow-contains once j l) ∙ ap (λ js. end_in (time_at i) 0 js j) o.whole)
+
+  -- 1 for a late job
+  abbrev mark : ℕ → ℕ
+  mark j = cond (is_late i (row_schedule i order) j) 1 0
+
+  accepted_on_time : All (λ j. mark j ≡ 0) o.accepted
+  accepted_on_time k d l =
+      let j = get_or o.accepted k d in
+      let fits = ends_on_time (time_at i) (due_at i) 0 o.accepted o.late distinct (choice-on_time (time_at i) (λ j. j) (due_at i) o.choice sorted) k d l in
+      cond-no 1 (not_late (pos 1 *ℤ due_at i j) (end_of (row_schedule i order) j) (≤ℤ_trans (≤ℤ_of_same (ends j (accepted_within k d l))) (≤ℤ_trans fits (≤ℤ_of_same (sym (one-*ℤ (due_at i j)))))))
+
+  -- at most the dropped jobs are late
+  upper : late_jobs i (row_schedule i order) ≤ length o.late
+  upper =
+      omega (arith, sum_by-OnceBelow mark once, ap (sum_by mark) o.whole, sum_by-append mark o.accepted o.late, sum_by-none mark o.accepted accepted_on_time, sum_by-mono mark (λ _. 1) o.late (λ k d l. cond-le (is_late i (row_schedule i order) (get_or o.late k d)) 1), sum_by-constant 1 o.late)
+
+  -- in any feasible schedule as many jobs are late
+  lower : (t : Schedule) → Feasible i t → length o.late ≤ late_jobs i t
+  lower t f =
+      let dates : OnceBelow (length i.jobs) o.by_date = OnceBelow-from_permutation o.all in
+      let on_time : ℕ → Bool = λ j. not (is_late i t j) in
+      let most = choice-most (time_at i) (λ j. j) (due_at i) on_time o.choice (on_time_in_a_row i h.plain.machine t f o.by_date dates.within (OnceBelow-distinct dates) sorted) in
+      omega (arith, most, late_and_on_time (is_late i t) o.by_date, sum_by-OnceBelow (λ j. cond (is_late i t j) 1 0) dates, length-OnceBelow dates, length-OnceBelow once, ap length o.whole, length-append o.accepted o.late)
+
+  beats : (t : Schedule) → Feasible i t → (cost_of i (row_schedule i order) *ℤ t.unit) ≤ℤ (cost_of i t *ℤ pos 1)
+  beats t f =
+      let unit = (IsPlan-from_feasible i h.plain.machine t f).unit in
+      in_int _ _ t.unit (late_jobs i (row_schedule i order)) (late_jobs i t) (nat_abs t.unit) (late_cost i (row_schedule i order) 1 h.crit refl) (late_cost i t (nat_abs t.unit) h.crit unit) unit (omega (arith, upper, lower t f))
+    where
+      in_int : (x y u : ℤ) (a b d : ℕ) → x ≡ pos (1 * a) → y ≡ pos (d * b) → u ≡ pos d → a ≤ b → (x *ℤ u) ≤ℤ (y *ℤ pos 1)
+      in_int x y u a b d ex ey eu l =
+          let same : 1 * a * d ≡ d * a = omega arith in
+          ≤ℤ_trans (≤ℤ_of_same (ap (λ z. z *ℤ u) ex ∙ ap (λ z. pos (1 * a) *ℤ z) eu ∙ ap pos same)) (≤ℤ_trans (pos-le (mul-le-mul_left d l)) (≤ℤ_of_same (sym (*ℤ-one y ∙ ey))))
+
+  pub moore_schedule : IsMooreSchedule i (row_schedule i order)
+  moore_schedule = record {
+    best = record { feasible = row_feasible; least = beats };
+    settled = row_is_settled i order once (takes_time i h.plain);
+    within = row_is_within i order once (takes_time i h.plain) h.plain.few (is_short i h.plain) h.plain.machine.kind;
+    answer = row_is_answer i h.plain order once;
+    order = subst (IsMooreOrder i) (sym (row-jobs piece (time_at i) piece_makes 0 order)) o;
+  }
+
+-- ---- at the numbers as the code passes them
+pub IsMooreSchedule-made : (i : Instance) → i.class ≡ moore_class → Inner i → (numbers order : List ℕ) → IsMooreOrder i order → numbers ≡ order → IsMooreSchedule i (row_schedule i numbers)
+IsMooreSchedule-made i class inner numbers order o same = subst (λ js. IsMooreSchedule i (row_schedule i js)) (sym same) (moore_schedule i (IsMooreInstance-from_class i class inner) order o)

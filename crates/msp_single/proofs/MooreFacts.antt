@@ -1,0 +1,19 @@
+-- What an instance of Moore's class has.
+use Rattle.std.proofs.Common.{◌≡◌, [], ap, subst}
+use Rattle.msp_class.specs.declared.class.Crit.TheVariants.{SumU}
+use Rattle.msp_instance.specs.declared.Instance.{Instance}
+use Rattle.msp_instance.specs.Conditions.{HasArcs, Inner}
+use Rattle.msp_single.specs.Moore.{moore_class}
+use Rattle.msp_single.proofs.Facts.{IsPlain, IsPlain-from}
+
+pub record IsMooreInstance (i : Instance) : Type 0 where
+  pub crit : i.class.crit ≡ SumU
+  pub plain : IsPlain i
+  pub arcs : i.arcs ≡ []
+
+pub IsMooreInstance-from_class : (i : Instance) → i.class ≡ moore_class → Inner i → IsMooreInstance i
+IsMooreInstance-from_class i e h = record {
+  crit = ap (λ c. c.crit) e;
+  plain = IsPlain-from i (ap (λ c. c.env) e) (ap (λ c. c.times) e) (ap (λ c. c.heads) e) h;
+  arcs = subst (λ o. HasArcs o i.arcs) (ap (λ c. c.order) e) h.conditions.arcs;
+}

@@ -1,0 +1,8 @@
+use Rattle.std.proofs.Common.{rules}
+use Rattle.std.proofs.lemmas.List.Sorted.{answers_always}
+use Rattle.msp_single.specs.declared.moore.Task.{Task}
+use Rattle.msp_single.proofs.DateOrder.{number_less, number_less-order, number_sorted}
+use Rattle.msp_single.proofs.moore.sort_by_number.Goals as goal
+
+pub returns-clause-sorted : goal.returns-clause-sorted
+returns-clause-sorted c = number_sorted (λ (t : Task). t.due) (λ t. t.job) _ (c.sort_unstable_by.ensures.sorted (number_less (λ t. t.due) (λ t. t.job)) (number_less-order (λ t. t.due) (λ t. t.job)) (answers_always _ _ _ (λ f a r g h. search rules)))

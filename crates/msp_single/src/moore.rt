@@ -1,0 +1,251 @@
+// Moore's rule: jobs by due date, and the longest one accepted is dropped at an overrun.
+ghost use Rattle.std.specs.Prelude.{◌≡◌, ℕ, ◌+◌, ◌*◌, ◌<◌, ◌≤◌, ◌⊎◌, ◌<ℤ◌, ◌++◌, List, [], ◌∷◌, true, false, length, map, slice_index_or, sum_by, All, AllPairs, IfOk, IsPermutation, ⊤};
+ghost use Rattle.std.specs.List.{range_with_len, remove};
+ghost use Rattle.std.specs.Ordering.{int_cmp, nat_cmp, ordering_then};
+ghost use Rattle.msp_instance.specs.declared.ranges.TheConstants.{GREATEST, MOST_JOBS};
+ghost use Rattle.msp_instance.specs.Instance.{job_at, need_at, no_need};
+ghost use Rattle.msp_instance.specs.Conditions.{Inner};
+ghost use Rattle.msp_schedule.specs.Cost.{IsBest};
+ghost use Rattle.msp_schedule.specs.Fraction.{IsLowest};
+ghost use Rattle.msp_schedule.specs.Settled.{IsSettled};
+ghost use Rattle.msp_route.specs.Bounds.{IsAnswer};
+ghost use Rattle.msp_single.specs.Moore.{moore_class, IsLongest, IsChoice, IsMooreOrder};
+
+use crate::row::{first_time, solution_in_order};
+use msp_class::{Class, Crit, Env, NoMemory, Order, Times};
+use msp_instance::Instance;
+use msp_route::Solver;
+use msp_schedule::Solution;
+use std::alloc::Global;
+use std::cmp::Ordering;
+
+/// The class that the rule solves: `1||sumU`.
+const MOORE_CLASS: Class = Class {
+    env: Env::One,
+    cut: false,
+    order: Order::Free,
+    heads: false,
+    times: Times::General,
+    crit: Crit::SumU,
+};
+
+/// What the rule reads of a job: its number, its time and its due date.
+#[derive(Clone, Copy)]
+struct Task {
+    job: u32,
+    time: u64,
+    due: i64,
+}
+
+/// The tasks that are accepted, how long they take together, and those that are dropped.
+#[derive(Drop)]
+struct Choice {
+    accepted: Vec<Task>,
+    total: u64,
+    dropped: Vec<Task>,
+}
+
+/// What the rule reads, of each job.
+fn tasks_of(alloc: Global, inst: &Instance) -> Result<Vec<Task>, NoMemory>
+    requires few { length inst.now.jobs ≤ MOST_JOBS }
+    requires needs { All (λ j. (0 < length j.needs) × (0 < (slice_index_or j.needs 0 no_need).time)) inst.now.jobs }
+    ensures numbers { IfOk result (λ ts. map (λ t. t.job) ts.items ≡ range_with_len 0 (length inst.now.jobs)) }
+    ensures each { IfOk result (λ ts. All (λ t. (t.time ≡ (need_at inst.now t.job 0).time) × (t.due ≡ (job_at inst.now t.job).due)) ts.items) }
+{
+    let jobs = inst.jobs.as_slice();
+    let mut tasks = Vec::new(alloc);
+    for k in 0..jobs.len() {
+        let time = first_time(&jobs[k]);
+        let due = jobs[k].due;
+        let task = Task {
+            job: k as u32,
+            time,
+            due,
+        };
+        if tasks.push(task).is_err() {
+            return Err(NoMemory);
+        }
+    }
+    Ok(tasks)
+}
+
+/// Whether `a` goes before `b`: by due date, and then by number.
+fn compare(a: &Task, b: &Task) -> Ordering
+    ensures { result ≡ ordering_then (int_cmp a.now.due b.now.due) (nat_cmp a.now.job b.now.job) }
+{
+    a.due.cmp(&b.due).then(a.job.cmp(&b.job))
+}
+
+fn sort_by_date(tasks: &mut Vec<Task>)
+    ensures permutation { IsPermutation tasks.old.items tasks.new.items }
+    ensures sorted { AllPairs (λ a b. (a.due <ℤ b.due) ⊎ ((a.due ≡ b.due) × (a.job ≤ b.job))) tasks.new.items }
+{
+    tasks.sort_unstable_by(|a, b| compare(a, b));
+}
+
+fn compare_numbers(a: &Task, b: &Task) -> Ordering
+    ensures { result ≡ nat_cmp a.now.job b.now.job }
+{
+    a.job.cmp(&b.job)
+}
+
+fn sort_by_number(tasks: &mut Vec<Task>)
+    ensures permutation { IsPermutation tasks.old.items tasks.new.items }
+    ensures sorted { AllPairs (λ a b. a.job ≤ b.job) tasks.new.items }
+{
+    tasks.sort_unstable_by(|a, b| compare_numbers(a, b));
+}
+
+/// Whether `a` is dropped rather than `b`: it takes longer, or as long and has the lesser number.
+fn outlasts(a: &Task, b: &Task) -> bool
+    ensures yes { result ≡ true → (b.now.time < a.now.time) ⊎ ((b.now.time ≡ a.now.time) × (a.now.job ≤ b.now.job)) }
+    ensures no { result ≡ false → (a.now.time < b.now.time) ⊎ ((a.now.time ≡ b.now.time) × (b.now.job ≤ a.now.job)) }
+{
+    a.time > b.time || (a.time == b.time && a.job < b.job)
+}
+
+/// The place of the longest task, ties to the lesser number.
+fn longest(tasks: &[Task]) -> usize
+    requires { 0 < length tasks.now }
+    ensures place { result < length tasks.now }
+    ensures longest { (d : Task) → All (λ t. (t.time < (slice_index_or tasks.now result d).time) ⊎ ((t.time ≡ (slice_index_or tasks.now result d).time) × ((slice_index_or tasks.now result d).job ≤ t.job))) tasks.now }
+{
+    let mut best = 0;
+    for place in 0..tasks.len() {
+        if outlasts(&tasks[place], &tasks[best]) {
+            best = place;
+        }
+    }
+    best
+}
+
+/// Drops the longest task that is accepted.
+fn drop_longest(choice: &mut Choice) -> Result<(), NoMemory>
+    requires some { 0 < length choice.old.accepted.items }
+    requires total { choice.old.total ≡ sum_by (λ t. t.time) choice.old.accepted.items }
+    ensures total { choice.new.total ≡ sum_by (λ t. t.time) choice.new.accepted.items }
+    ensures early { choice.new.total ≤ choice.old.total }
+    ensures dropped { IfOk result (λ _. (place : ℕ) × (longest : Task) × IsLongest (λ t. t.time) (λ t. t.job) choice.old.accepted.items place longest
+        × (choice.new.accepted.items ≡ remove choice.old.accepted.items place) × (choice.new.dropped.items ≡ choice.old.dropped.items ++ longest ∷ [])) }
+{
+    let place = longest(choice.accepted.as_slice());
+    let longest = choice.accepted.remove(place);
+    choice.total -= longest.time;
+    if choice.dropped.push(longest).is_err() {
+        return Err(NoMemory);
+    }
+    Ok(())
+}
+
+/// Accepts one more task, and drops the longest one where it would be late.
+fn accept(choice: &mut Choice, task: Task) -> Result<(), NoMemory>
+    requires total { choice.old.total ≡ sum_by (λ t. t.time) choice.old.accepted.items }
+    requires early { choice.old.total ≤ GREATEST * MOST_JOBS }
+    requires short { task.time ≤ GREATEST }
+    ensures total { IfOk result (λ _. choice.new.total ≡ sum_by (λ t. t.time) choice.new.accepted.items) }
+    ensures early { choice.new.total ≤ choice.old.total + task.time }
+    ensures next { IfOk result (λ _. (seen : List Task) → IsChoice (λ t. t.time) (λ t. t.job) (λ t. t.due) seen choice.old.accepted.items choice.old.dropped.items
+        → IsChoice (λ t. t.time) (λ t. t.job) (λ t. t.due) (seen ++ task ∷ []) choice.new.accepted.items choice.new.dropped.items) }
+{
+    choice.total += task.time;
+    if choice.accepted.push(task).is_err() {
+        return Err(NoMemory);
+    }
+    if i128::from(choice.total) > i128::from(task.due) {
+        return drop_longest(choice);
+    }
+    Ok(())
+}
+
+/// Chooses the tasks that are on time, of all by due date.
+fn choose(alloc: Global, tasks: &[Task]) -> Result<Choice, NoMemory>
+    requires few { length tasks.now ≤ MOST_JOBS }
+    requires short { All (λ t. t.time ≤ GREATEST) tasks.now }
+    ensures { IfOk result (λ c. IsChoice (λ t. t.time) (λ t. t.job) (λ t. t.due) tasks.now c.accepted.items c.dropped.items) }
+{
+    let mut choice = Choice {
+        accepted: Vec::new(alloc),
+        total: 0,
+        dropped: Vec::new(alloc),
+    };
+    for k in 0..tasks.len() {
+        accept(&mut choice, tasks[k])?;
+    }
+    Ok(choice)
+}
+
+fn numbers_of(alloc: Global, tasks: &[Task]) -> Result<Vec<u32>, NoMemory>
+    ensures { IfOk result (λ numbers. numbers.items ≡ map (λ t. t.job) tasks.now) }
+{
+    match tasks.iter().map(|task| task.job).collect(alloc) {
+        Ok(numbers) => Ok(numbers),
+        Err(_) => Err(NoMemory),
+    }
+}
+
+/// The numbers of the tasks that are accepted, in their order, and of those that are dropped, sorted.
+fn in_order(alloc: Global, choice: Choice) -> Result<Vec<u32>, NoMemory>
+    ensures { IfOk result (λ o. (late : List Task) × IsPermutation choice.dropped.items late × AllPairs (λ a b. a.job ≤ b.job) late × (o.items ≡ map (λ t. t.job) (choice.accepted.items ++ late))) }
+{
+    let Choice {
+        mut accepted,
+        mut dropped,
+        ..
+    } = choice;
+    sort_by_number(&mut dropped);
+    if accepted.append(&mut dropped).is_err() {
+        return Err(NoMemory);
+    }
+    numbers_of(alloc, &accepted)
+}
+
+/// The numbers of the jobs in the order of the rule.
+fn moore_order(alloc: Global, inst: &Instance) -> Result<Vec<u32>, NoMemory>
+    requires few { length inst.now.jobs ≤ MOST_JOBS }
+    requires needs { All (λ j. (0 < length j.needs) × (0 < (slice_index_or j.needs 0 no_need).time)) inst.now.jobs }
+    requires short { All (λ j. (slice_index_or j.needs 0 no_need).time ≤ GREATEST) inst.now.jobs }
+    ensures { IfOk result (λ o. IsMooreOrder inst.now o.items) }
+{
+    let mut tasks = tasks_of(alloc, inst)?;
+    sort_by_date(&mut tasks);
+    let choice = choose(alloc, &tasks)?;
+    in_order(alloc, choice)
+}
+
+/// Finds a schedule with the least number of late jobs: by due date, ties by number, each job is accepted, and at an overrun the longest
+/// accepted one is dropped; the accepted ones run by due date, and then the dropped ones by number (Moore 1968, after Hodgson).
+#[derive(Clone, Copy, Debug)]
+pub struct Moore;
+
+impl Solver for Moore {
+    ghost solved = { λ _. moore_class };
+
+    ghost can_solve = { λ _ _. ⊤ };
+
+    ghost may_ask = { λ _ _. ⊤ };
+
+    fn target(&self) -> Class {
+        MOORE_CLASS
+    }
+
+    fn fits(&self, _inst: &Instance) -> bool {
+        true
+    }
+
+    fn solve(&self, alloc: Global, inst: &Instance) -> Result<Solution, NoMemory>
+        requires inner { Inner inst.now }
+        requires class { inst.now.class ≡ moore_class }
+
+        // What every solver ensures.
+        ensures best { IfOk result (λ s. IsBest inst.now s) }
+        ensures bounds { IfOk result (λ s. IsAnswer inst.now s.schedule) }
+
+        // The form of the answer.
+        ensures order { IfOk result (λ s. IsMooreOrder inst.now (map (λ p. p.job) s.schedule.pieces)) }
+        ensures settled { IfOk result (λ s. IsSettled s.schedule) }
+        ensures lowest { IfOk result (λ s. IsLowest s.cost) }
+    {
+        let order = moore_order(alloc, inst)?;
+        solution_in_order(alloc, inst, &order)
+    }
+}
