@@ -1,1 +1,3 @@
 mod LevelBound
+mod JobLevels
+mod Ranks

@@ -5,5 +5,6 @@
 #![tactic(auto)]
 
 mod law;
+mod level;
 
 pub use law::law_of_levels;
