@@ -1,3 +1,5 @@
 mod LevelBound
 mod JobLevels
 mod Ranks
+mod Counts
+mod SlotSteps

@@ -6,5 +6,6 @@
 
 mod law;
 mod level;
+mod slot;
 
 pub use law::law_of_levels;

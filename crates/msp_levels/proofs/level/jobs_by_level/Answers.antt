@@ -15,6 +15,6 @@ pub returns-clause-falling : goal.returns-clause-falling
 returns-clause-falling c =
     IfOk-weaker c.numbers_of.result (λ n. n.items ≡ map (λ r. r.job) c.as_slice.result.now) (λ n. AllPairs (λ a b. slice_index c.args.levels.now b ≤ slice_index c.args.levels.now a) n.items)
     (λ n e. ranked_falling c.args.levels.now c.in_ok-all.all.items c.sort_by_key.new.self.items n.items c.requires.small c.in_ok-all.ensures.levels c.sort_by_key.ensures.permutation
-        (IsNonDecreasingBy-from_sort_by_key (λ r. 4294967295 - r.level) c.sort_by_key.new.self.items (on_ok c.sort_by_key.result _ c.is_err.result c.sort_by_key.ensures.sorted c.is_err.ensures.value c.if-is_err.false) (λ a r q k. search rules))
-        (e ∙ ap (map (λ r. r.job)) c.as_slice.ensures.value))
+    (IsNonDecreasingBy-from_sort_by_key (λ r. 4294967295 - r.level) c.sort_by_key.new.self.items (on_ok c.sort_by_key.result _ c.is_err.result c.sort_by_key.ensures.sorted c.is_err.ensures.value c.if-is_err.false) (λ a r q k. search rules))
+    (e ∙ ap (map (λ r. r.job)) c.as_slice.ensures.value))
     c.numbers_of.ensures

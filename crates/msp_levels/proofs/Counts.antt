@@ -1,0 +1,204 @@
+-- How many jobs of a list have a level, and that a slot of the rule leaves no more jobs of high levels than fit the moments that are left.
+use Rattle.std.proofs.Common.{◌≡◌, ◌≢◌, ℕ, zero, suc, ◌+◌, ◌-◌, ◌*◌, ◌<◌, ◌≤◌, ◌⊎◌, inl, inr, Bool, true, false, not, cond, eqb, leb, List, [], ◌∷◌, ◌++◌, length, get_or, filter, count_by, sum_by, All, Contains, IsPermutation, refl, sym, ap, subst, ◌∙◌, arith}
+use Rattle.std.proofs.lemmas.Bool.{cases_Bool, cases_lt, eqb-true, eq-eqb, leb-true, le-leb, false≢true}
+use Rattle.std.proofs.lemmas.Bool.Decides.{nat_tests}
+use Rattle.std.proofs.lemmas.List.Elements.{All-head, All-tail, All-cons, All-filter, All-contains, filter_passes, Contains-get_or, Contains-append_left, Contains-append_right}
+use Rattle.std.proofs.lemmas.List.Sums.{length-filter, sum_by-cons, sum_by-append, get_or-le-sum_by}
+use Rattle.std.proofs.lemmas.List.Filters.{length-filter_both, sum_by-filter_both}
+use Rattle.std.proofs.lemmas.List.Sorted.{All-permutation, sum_by-IsPermutation, Contains-permutation, IsPermutation-sym}
+use native.Mathlib.Nat.{mul-le-mul_left, lt_of_mul-lt-mul_left}
+use Rattle.msp_class.proofs.Sums.{Contains-filter, Contains-from_filter, sum_by-contains}
+
+-- ---- lists without repeats
+abbrev pub HasOnce : List ℕ → Type 0
+HasOnce xs = (k : ℕ) → count_by (λ x. eqb x k) xs ≤ 1
+
+HasOnce-filter : (p : ℕ → Bool) (xs : List ℕ) → HasOnce xs → HasOnce (filter p xs)
+HasOnce-filter p xs h k = omega (arith, h k, sum_by-filter_both p (λ x. not (p x)) (λ x. refl) (λ x. cond (eqb x k) 1 0) xs)
+
+Contains-rest : (x y : ℕ) (xs : List ℕ) → Contains (x ∷ xs) y → x ≢ y → Contains xs y
+Contains-rest x y xs (zero, l, e) ne = absurd (ne e)
+Contains-rest x y xs (suc k, l, e) ne = (k, omega (arith, l), e)
+
+-- a list without repeats is no longer than one whose members give all of its members
+pub cover : (f : ℕ → ℕ) (xs ys : List ℕ) → HasOnce ys → All (λ y. (x : ℕ) × Contains xs x × (f x ≡ y)) ys → length ys ≤ length xs
+cover f [] [] once h = omega arith
+cover f [] (y ∷ ys) once h = let (x, (k, l, e), g) = h 0 y (omega arith) in absurd (omega (arith, l))
+cover f (x ∷ xs) ys once h =
+    let few = cover f xs (filter other ys) (HasOnce-filter other ys once) others in
+    omega (arith, few, length-filter_both here other (λ y. refl) ys, length-filter here ys, once (f x))
+  where
+    here : ℕ → Bool
+    here y = eqb y (f x)
+
+    other : ℕ → Bool
+    other y = not (eqb y (f x))
+
+    others : All (λ y. (x : ℕ) × Contains xs x × (f x ≡ y)) (filter other ys)
+    others k d l =
+        let (z, c, e) = All-filter other (λ y. (z : ℕ) × Contains (x ∷ xs) z × (f z ≡ y)) ys h k d l in
+        let passes : other (get_or (filter other ys) k d) ≡ true = filter_passes other ys k d l in
+        (z, Contains-rest x z xs c (λ same. absurd (by (get_or (filter other ys) k d) passes (sym e ∙ ap f (sym same)))), e)
+      where
+        by : (y : ℕ) → not (eqb y (f x)) ≡ true → y ≡ f x → ⊥
+        by y p e = false≢true (sym (ap not (eq-eqb y (f x) e)) ∙ p)
+
+-- ---- levels
+abbrev pub level_at : (ℕ → ℕ) → ℕ → List ℕ → ℕ
+level_at level t xs = sum_by (λ j. cond (eqb (level j) t) 1 0) xs
+
+abbrev pub level_from : (ℕ → ℕ) → ℕ → List ℕ → ℕ
+level_from level t xs = sum_by (λ j. cond (leb t (level j)) 1 0) xs
+
+from_next : (level : ℕ → ℕ) (t : ℕ) (xs : List ℕ) → level_from level t xs ≡ level_at level t xs + level_from level (t + 1) xs
+from_next level t [] = refl
+from_next level t (x ∷ xs) = omega (arith, sum_by-cons (λ j. cond (leb t (level j)) 1 0) x xs, sum_by-cons (λ j. cond (eqb (level j) t) 1 0) x xs, sum_by-cons (λ j. cond (leb (t + 1) (level j)) 1 0) x xs, from_next level t xs, one (level x))
+  where
+    one : (l : ℕ) → cond (leb t l) 1 0 ≡ cond (eqb l t) 1 0 + cond (leb (t + 1) l) 1 0
+    one l = grind (arith, nat_tests)
+
+none_from : (level : ℕ → ℕ) (t : ℕ) (xs : List ℕ) → All (λ j. level j < t) xs → level_from level t xs ≡ 0
+none_from level t [] h = refl
+none_from level t (x ∷ xs) h = omega (arith, sum_by-cons (λ j. cond (leb t (level j)) 1 0) x xs, none_from level t xs (All-tail (λ j. level j < t) x xs h), one (level x) (All-head (λ j. level j < t) x xs h))
+  where
+    one : (l : ℕ) → l < t → cond (leb t l) 1 0 + 0 ≡ 0
+    one l h = grind (arith, nat_tests)
+
+all_from : (level : ℕ → ℕ) (t : ℕ) (xs : List ℕ) → All (λ j. t ≤ level j) xs → level_from level t xs ≡ length xs
+all_from level t [] h = refl
+all_from level t (x ∷ xs) h = omega (arith, sum_by-cons (λ j. cond (leb t (level j)) 1 0) x xs, all_from level t xs (All-tail (λ j. t ≤ level j) x xs h), one (level x) (All-head (λ j. t ≤ level j) x xs h))
+  where
+    one : (l : ℕ) → t ≤ l → cond (leb t l) 1 0 + 0 ≡ 1
+    one l h = grind (arith, nat_tests)
+
+from_most : (level : ℕ → ℕ) (t : ℕ) (xs : List ℕ) → level_from level t xs ≤ length xs
+from_most level t [] = omega arith
+from_most level t (x ∷ xs) = omega (arith, sum_by-cons (λ j. cond (leb t (level j)) 1 0) x xs, from_most level t xs, one (leb t (level x)))
+  where
+    one : (b : Bool) → cond b 1 0 ≤ 1
+    one true = omega arith
+    one false = omega arith
+
+some_from : (level : ℕ → ℕ) (xs : List ℕ) (j : ℕ) → Contains xs j → 1 ≤ level_from level (level j) xs
+some_from level xs j c = omega (arith, sum_by-contains (λ k. cond (leb (level j) (level k)) 1 0) xs j c, one (level j))
+  where
+    one : (l : ℕ) → cond (leb l l) 1 0 + 0 ≡ 1
+    one l = grind (arith, nat_tests)
+
+-- ---- one slot
+all_or : {X : Type 0} (P : X → Type 0) (Q : Type 0) (xs : List X) → All (λ x. P x ⊎ Q) xs → All P xs ⊎ Q
+all_or P Q [] h = inl (λ k d l. absurd (omega (arith, l)))
+all_or P Q (x ∷ xs) h = elim (All-head (λ x. P x ⊎ Q) x xs h) [
+  | inr q ↦ inr q
+  | inl p ↦ elim (all_or P Q xs (All-tail (λ x. P x ⊎ Q) x xs h)) [ inl ps ↦ inl (All-cons P x xs p ps) | inr q ↦ inr q ]
+]
+
+-- for each job, the jobs of at least its level fit the slots before the last that its level leaves
+abbrev pub Fits : ℕ → (ℕ → ℕ) → List ℕ → ℕ → Type 0
+Fits m level xs g = All (λ j. level_from level (level j) xs + m * level j ≤ m * g) xs
+
+pub Fits-low : (m : ℕ) (level : ℕ → ℕ) (xs : List ℕ) (g : ℕ) → Fits m level xs g → All (λ j. level j < g) xs
+Fits-low m level xs g h k d l = lt_of_mul-lt-mul_left m (omega (arith, h k d l, some_from level xs (get_or xs k d) (Contains-get_or xs k d l)))
+
+pub Fits-permutation : (m : ℕ) (level : ℕ → ℕ) (xs ys : List ℕ) (g : ℕ) → IsPermutation xs ys → Fits m level xs g → Fits m level ys g
+Fits-permutation m level xs ys g p h = All-permutation (λ j. level_from level (level j) ys + m * level j ≤ m * g) xs ys p (λ k d l. omega (arith, h k d l, sum_by-IsPermutation (λ j. cond (leb (level (get_or xs k d)) (level j)) 1 0) xs ys p))
+
+module _ (m : ℕ) (level after : ℕ → ℕ) (blocked : ℕ → Bool) (left taken rest : List ℕ) (perm : IsPermutation left (taken ++ rest)) (few : length taken ≤ m) (once : HasOnce left)
+    (kept : All (λ j. (blocked j ≡ true) ⊎ ((length taken ≡ m) × All (λ f. level j ≤ level f) taken)) rest)
+    (why : All (λ j. blocked j ≡ true → (a : ℕ) × Contains left a × (after a ≡ j) × (level a ≡ level j + 1)) left) where
+  split : (f : ℕ → ℕ) → sum_by f left ≡ sum_by f taken + sum_by f rest
+  split f = sym (sum_by-IsPermutation f left (taken ++ rest) perm) ∙ sum_by-append f taken rest
+
+  in_left : (j : ℕ) → Contains rest j → Contains left j
+  in_left j c = Contains-permutation (taken ++ rest) left j (IsPermutation-sym left (taken ++ rest) perm) (Contains-append_right taken rest j c)
+
+  taken_in_left : (j : ℕ) → Contains taken j → Contains left j
+  taken_in_left j c = Contains-permutation (taken ++ rest) left j (IsPermutation-sym left (taken ++ rest) perm) (Contains-append_left taken rest j c)
+
+  -- the jobs of a level that are left because they are blocked are no more than those of the next level
+  width : (t : ℕ) → All (λ j. t ≤ level j → blocked j ≡ true) rest → level_at level t rest ≤ level_at level (t + 1) left
+  width t h = omega (arith, cover after above here (HasOnce-filter at rest once_rest) each, length-filter at rest, length-filter over left)
+    where
+      at : ℕ → Bool
+      at j = eqb (level j) t
+
+      over : ℕ → Bool
+      over j = eqb (level j) (t + 1)
+
+      here : List ℕ
+      here = filter at rest
+
+      above : List ℕ
+      above = filter over left
+
+      once_rest : HasOnce rest
+      once_rest k = omega (arith, once k, split (λ x. cond (eqb x k) 1 0))
+
+      each : All (λ j. (a : ℕ) × Contains above a × (after a ≡ j)) here
+      each k d l =
+          let j = get_or here k d in
+          let (c, e) = Contains-from_filter at rest j (Contains-get_or here k d l) in
+          let is : level j ≡ t = eqb-true (level j) t e in
+          let shut = All-contains (λ j. t ≤ level j → blocked j ≡ true) rest j h c (omega (arith, is)) in
+          let (a, ca, to, step) = All-contains (λ j. blocked j ≡ true → (a : ℕ) × Contains left a × (after a ≡ j) × (level a ≡ level j + 1)) left j why (in_left j c) shut in
+          (a, Contains-filter over left a ca (eq-eqb (level a) (t + 1) (omega (arith, step, is))), to)
+
+  module _ (g : ℕ) (low : All (λ j. level j ≤ g) left) where
+    low_rest : (t : ℕ) → g < t → All (λ j. level j < t) rest
+    low_rest t h k d l = let b = All-contains (λ j. level j ≤ g) left (get_or rest k d) low (in_left (get_or rest k d) (Contains-get_or rest k d l)) in omega (arith, b, h)
+
+    low_taken : (t : ℕ) → g < t → All (λ j. level j < t) taken
+    low_taken t h k d l = let b = All-contains (λ j. level j ≤ g) left (get_or taken k d) low (taken_in_left (get_or taken k d) (Contains-get_or taken k d l)) in omega (arith, b, h)
+
+    -- where all that is left from a level on is blocked: the jobs of a level are no more than those taken of higher ones
+    narrow : (d t : ℕ) → t + d ≡ g → All (λ j. t ≤ level j → blocked j ≡ true) rest → (level_at level t rest ≤ level_from level (t + 1) taken) × (level_from level t rest ≤ m * d)
+    narrow zero t e h =
+        let here : level_at level t rest ≤ level_from level (t + 1) taken = omega (arith, width t h, from_next level (t + 1) left, none_from level (t + 1) taken (low_taken (t + 1) (omega (arith, e))), none_from level (t + 1) rest (low_rest (t + 1) (omega (arith, e))), split (λ j. cond (leb (t + 1) (level j)) 1 0)) in
+        (here, omega (arith, here, from_next level t rest, none_from level (t + 1) taken (low_taken (t + 1) (omega (arith, e))), none_from level (t + 1) rest (low_rest (t + 1) (omega (arith, e)))))
+    narrow (suc d) t e h =
+        let (a, b) = narrow d (t + 1) (omega (arith, e)) (λ k x l w. h k x l (omega (arith, w))) in
+        let here : level_at level t rest ≤ level_from level (t + 1) taken = omega (arith, width t h, split (λ j. cond (eqb (level j) (t + 1)) 1 0), a, from_next level (t + 1) taken) in
+        let room : m * suc d ≡ m + m * d = omega arith in
+        (here, omega (arith, here, from_next level t rest, b, from_most level (t + 1) taken, few, room))
+
+    pub Fits-next : Fits m level left (g + 1) → Fits m level rest g
+    Fits-next h k d l = elim (all_or (λ r. t ≤ level r → blocked r ≡ true) Full rest either) [
+      | inl shut ↦
+          let (a, b) = narrow (g - t) t (omega (arith, below)) shut in
+          let room : m * t + m * (g - t) ≡ m * g = sum_is t (omega (arith, below)) in
+          omega (arith, b, room)
+      | inr full ↦ omega (arith, all_from level t taken full.1, full.0, split (λ j. cond (leb t (level j)) 1 0), old)
+    ]
+      where
+        j : ℕ
+        j = get_or rest k d
+
+        t : ℕ
+        t = level j
+
+        here : Contains left j
+        here = in_left j (Contains-get_or rest k d l)
+
+        below : t ≤ g
+        below = All-contains (λ j. level j ≤ g) left j low here
+
+        old : level_from level t left + m * t ≤ m * (g + 1)
+        old = All-contains (λ j. level_from level (level j) left + m * level j ≤ m * (g + 1)) left j h here
+
+        sum_is : (t : ℕ) → t ≤ g → m * t + m * (g - t) ≡ m * g
+        sum_is t h = let e : t + (g - t) ≡ g = omega arith in sums (g - t) ∙ ap (λ n. m * n) e
+          where
+            sums : (n : ℕ) → m * t + m * n ≡ m * (t + n)
+            sums n = omega arith
+
+        Full : Type 0
+        Full = (length taken ≡ m) × All (λ f. t ≤ level f) taken
+
+        either : All (λ r. (t ≤ level r → blocked r ≡ true) ⊎ Full) rest
+        either n x b = elim (cases_lt (level (get_or rest n x)) t) [
+          | inl less ↦ inl (λ w. absurd (omega (arith, less, w)))
+          | inr more ↦ elim (kept n x b) [
+            | inl shut ↦ inl (λ _. shut)
+            | inr full ↦ inr (full.0, λ p q w. let u = full.1 p q w in omega (arith, u, more))
+          ]
+        ]
