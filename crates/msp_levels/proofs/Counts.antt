@@ -8,6 +8,7 @@ use Rattle.std.proofs.lemmas.List.Filters.{length-filter_both, sum_by-filter_bot
 use Rattle.std.proofs.lemmas.List.Sorted.{All-permutation, sum_by-IsPermutation, Contains-permutation, IsPermutation-sym}
 use native.Mathlib.Nat.{mul-le-mul_left, lt_of_mul-lt-mul_left}
 use Rattle.msp_class.proofs.Sums.{Contains-filter, Contains-from_filter, sum_by-contains}
+use Rattle.msp_levels.specs.Steps.{level_from, Fits}
 
 -- ---- lists without repeats
 abbrev pub HasOnce : List ℕ → Type 0
@@ -46,9 +47,6 @@ cover f (x ∷ xs) ys once h =
 -- ---- levels
 abbrev pub level_at : (ℕ → ℕ) → ℕ → List ℕ → ℕ
 level_at level t xs = sum_by (λ j. cond (eqb (level j) t) 1 0) xs
-
-abbrev pub level_from : (ℕ → ℕ) → ℕ → List ℕ → ℕ
-level_from level t xs = sum_by (λ j. cond (leb t (level j)) 1 0) xs
 
 from_next : (level : ℕ → ℕ) (t : ℕ) (xs : List ℕ) → level_from level t xs ≡ level_at level t xs + level_from level (t + 1) xs
 from_next level t [] = refl
@@ -92,10 +90,6 @@ all_or P Q (x ∷ xs) h = elim (All-head (λ x. P x ⊎ Q) x xs h) [
   | inr q ↦ inr q
   | inl p ↦ elim (all_or P Q xs (All-tail (λ x. P x ⊎ Q) x xs h)) [ inl ps ↦ inl (All-cons P x xs p ps) | inr q ↦ inr q ]
 ]
-
--- for each job, the jobs of at least its level fit the slots before the last that its level leaves
-abbrev pub Fits : ℕ → (ℕ → ℕ) → List ℕ → ℕ → Type 0
-Fits m level xs g = All (λ j. level_from level (level j) xs + m * level j ≤ m * g) xs
 
 pub Fits-low : (m : ℕ) (level : ℕ → ℕ) (xs : List ℕ) (g : ℕ) → Fits m level xs g → All (λ j. level j < g) xs
 Fits-low m level xs g h k d l = lt_of_mul-lt-mul_left m (omega (arith, h k d l, some_from level xs (get_or xs k d) (Contains-get_or xs k d l)))

@@ -3,3 +3,5 @@ mod JobLevels
 mod Ranks
 mod Counts
 mod SlotSteps
+mod Progress
+mod Facts

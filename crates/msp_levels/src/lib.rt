@@ -6,6 +6,7 @@
 
 mod law;
 mod level;
+mod rule;
 mod slot;
 
 pub use law::law_of_levels;

@@ -1,0 +1,69 @@
+-- What an instance of the rule's class has.
+use Rattle.std.proofs.Common.{◌≡◌, ℕ, ◌+◌, ◌<◌, ◌≤◌, false, List, [], ◌++◌, length, All, sym, ap, subst, subst₂, ◌∙◌, arith}
+use Rattle.msp_class.specs.declared.class.Crit.TheVariants.{Cmax}
+use Rattle.msp_class.specs.declared.environments.EnvKind.TheVariants.{Identical}
+use Rattle.msp_class.specs.Env.{kind_of}
+use Rattle.msp_instance.specs.declared.Arc.{Arc}
+use Rattle.msp_instance.specs.declared.Instance.{Instance}
+use Rattle.msp_instance.specs.Instance.{no_need, no_job, job_at, need_at, common_time}
+use Rattle.msp_instance.specs.Conditions.{HasShape, HasSameTimes, HasDegree, MeetsConditions, Inner, inner_limits, leaving}
+use Rattle.msp_schedule.specs.declared.Piece.{Piece}
+use Rattle.msp_schedule.proofs.Frames.{no_heads}
+use Rattle.msp_levels.specs.Levels.{levels_class, AreLevels}
+use Rattle.msp_levels.specs.Steps.{is_blocked, IsSlot, seats, IsByLevel, IsUnderWay}
+use Rattle.msp_levels.proofs.Progress.{IsForest, fewer, left_inside, IsUnderWay-start, IsUnderWay-next}
+
+pub record IsUnitForest (i : Instance) : Type 0 where
+  pub kind : kind_of i.class.env ≡ Identical
+  pub cut : i.class.cut ≡ false
+  pub crit : i.class.crit ≡ Cmax
+  pub some : 1 ≤ length i.jobs
+  pub few : length i.jobs ≤ 400
+  pub machines : 1 ≤ i.machines
+  pub most : i.machines ≤ 32
+  pub ones : (j : ℕ) → j < length i.jobs → (need_at i j 0).time ≡ 1
+  pub release : (j : ℕ) → j < length i.jobs → (job_at i j).release ≡ 0
+  pub ends : All (λ a. (a.before < length i.jobs) × (a.after < length i.jobs)) i.arcs
+  pub degree : (j : ℕ) → j < length i.jobs → leaving i.arcs j ≤ 1
+
+pub IsUnitForest-from : (i : Instance) → i.class ≡ levels_class → Inner i → IsUnitForest i
+IsUnitForest-from i e h =
+    let kind : kind_of i.class.env ≡ Identical = ap (λ c. kind_of c.env) e in
+    record {
+      kind = kind;
+      cut = ap (λ c. c.cut) e;
+      crit = ap (λ c. c.crit) e;
+      some = h.conditions.some;
+      few = h.conditions.few;
+      machines = h.conditions.machines.0;
+      most = h.conditions.machines.1;
+      ones = λ j b.
+          let job = h.conditions.jobs j no_job b in
+          let shape = subst (λ k. HasShape k i.class.env i.machines (job_at i j).needs) kind job.needs.shape in
+          let times = subst (λ c. HasSameTimes c.times (common_time i) (job_at i j).needs) e job.times in
+          times 0 no_need (omega (arith, shape.0));
+      release = no_heads (inner_limits (kind_of i.class.env)) i (ap (λ c. c.heads) e) h.conditions;
+      ends = h.conditions.ends;
+      degree = λ j b. subst (λ c. HasDegree c.order i.arcs j) e (h.conditions.degree j b);
+    }
+
+pub IsForest-from : (i : Instance) (level : ℕ → ℕ) → IsUnitForest i → AreLevels i level → IsForest i level
+IsForest-from i level t levels = record { few = t.degree; ends = t.ends; levels = levels; some = t.machines }
+
+-- ---- one slot, at the numbers as the code passes them
+module _ (i : Instance) (t : IsUnitForest i) (moment : ℕ) (pieces new : List Piece) (left shown taken passed rest : List ℕ) (arcs : List Arc) (e : arcs ≡ i.arcs) (f : shown ≡ left) (g : passed ≡ taken)
+    (s : IsSlot shown (is_blocked arcs shown) i.machines taken rest) (some_left : 0 < length left) (u : IsUnderWay i moment pieces left) where
+  here : IsSlot left (is_blocked i.arcs left) i.machines taken rest
+  here = subst₂ (λ a l. IsSlot l (is_blocked a l) i.machines taken rest) e f s
+
+  pub slot_smaller : length rest < length left
+  slot_smaller = fewer i moment pieces left taken rest u here (IsForest-from i u.level t u.levels) some_left
+
+  pub slot_done : new ≡ pieces ++ seats moment 0 passed → IsUnderWay i (moment + 1) new rest
+  slot_done n = subst (λ ps. IsUnderWay i (moment + 1) ps rest) (ap (λ js. pieces ++ seats moment 0 js) (sym g) ∙ sym n) (IsUnderWay-next i moment pieces left taken rest u here (IsForest-from i u.level t u.levels) some_left)
+
+pub inside_shown : (i : Instance) (moment : ℕ) (pieces : List Piece) (left shown : List ℕ) → IsUnitForest i → shown ≡ left → IsUnderWay i moment pieces left → All (λ j. j < 400) shown
+inside_shown i moment pieces left shown t e u = subst (All (λ j. j < 400)) (sym e) (λ k d l. omega (arith, left_inside i moment pieces left u k d l, t.few))
+
+pub start_at : (i : Instance) (order : List ℕ) (pieces : List Piece) → IsUnitForest i → pieces ≡ [] → IsByLevel i order → IsUnderWay i 0 pieces order
+start_at i order pieces t e h = subst (λ ps. IsUnderWay i 0 ps order) (sym e) (IsUnderWay-start i order t.ends h)
