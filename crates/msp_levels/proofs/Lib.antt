@@ -5,3 +5,4 @@ mod Counts
 mod SlotSteps
 mod Progress
 mod Facts
+mod HuBest

@@ -10,3 +10,4 @@ mod rule;
 mod slot;
 
 pub use law::law_of_levels;
+pub use rule::{Levels, schedule_by_levels};

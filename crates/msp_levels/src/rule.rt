@@ -1,14 +1,30 @@
 // Hu's rule.
-ghost use Rattle.std.specs.Prelude.{◌≡◌, ◌*◌, ◌≤◌, length, IfOk, []};
+ghost use Rattle.std.specs.Prelude.{◌≡◌, IfOk, ⊤};
 ghost use Rattle.msp_instance.specs.Conditions.{Inner};
-ghost use Rattle.msp_levels.specs.Levels.{levels_class};
+ghost use Rattle.msp_schedule.specs.Cost.{IsBest};
+ghost use Rattle.msp_schedule.specs.Fraction.{IsLowest};
+ghost use Rattle.msp_schedule.specs.Settled.{IsSettled};
+ghost use Rattle.msp_route.specs.Bounds.{IsAnswer};
+ghost use Rattle.msp_levels.specs.Levels.{levels_class, IsLevelCost};
 ghost use Rattle.msp_levels.specs.Steps.{IsByLevel, IsUnderWay, IsHuSchedule};
 
+use crate::level::{jobs_by_level, levels_of};
 use crate::slot::{Slot, next_slot, put_pieces};
-use msp_class::{List, NoMemory};
+use msp_class::{Class, Crit, Env, List, NoMemory, Order, Times};
 use msp_instance::Instance;
-use msp_schedule::Piece;
+use msp_route::Solver;
+use msp_schedule::{Piece, Schedule, Solution};
 use std::alloc::Global;
+
+/// The class that the rule solves: `P|intree,p=1|Cmax`.
+const LEVELS_CLASS: Class = Class {
+    env: Env::P,
+    cut: false,
+    order: Order::Intree,
+    heads: false,
+    times: Times::Unit,
+    crit: Crit::Cmax,
+};
 
 /// The pieces of all jobs, slot by slot.
 fn pieces_by_level(alloc: Global, inst: &Instance, order: Vec<u32>) -> Result<List<Piece>, NoMemory>
@@ -28,4 +44,49 @@ fn pieces_by_level(alloc: Global, inst: &Instance, order: Vec<u32>) -> Result<Li
         moment += 1;
     }
     Ok(pieces)
+}
+
+/// A schedule of least makespan, with its cost: the greatest bound of a level.
+pub fn schedule_by_levels(alloc: Global, inst: &Instance) -> Result<Solution, NoMemory>
+    requires inner { Inner inst.now }
+    requires class { inst.now.class ≡ levels_class }
+    ensures best { IfOk result (λ s. IsBest inst.now s) }
+    ensures bounds { IfOk result (λ s. IsAnswer inst.now s.schedule) }
+    ensures cost { IfOk result (λ s. IsLevelCost inst.now s.cost) }
+
+    // The form of the answer.
+    ensures settled { IfOk result (λ s. IsSettled s.schedule) }
+    ensures lowest { IfOk result (λ s. IsLowest s.cost) }
+{
+    let levels = levels_of(alloc, inst)?;
+    let order = jobs_by_level(alloc, inst.jobs.len(), &levels)?;
+    let pieces = pieces_by_level(alloc, inst, order)?;
+    let schedule = Schedule { unit: 1, pieces };
+    let cost = msp_schedule::cost(inst, &schedule);
+    Ok(Solution { schedule, cost })
+}
+
+/// Finds a schedule of least makespan: at each moment, of the jobs that no job left must precede, those of highest level, on machines in
+/// order, ties to the lesser number (Hu 1961).
+#[derive(Clone, Copy, Debug)]
+pub struct Levels;
+
+impl Solver for Levels {
+    ghost solved = { λ _. levels_class };
+
+    ghost can_solve = { λ _ _. ⊤ };
+
+    ghost may_ask = { λ _ _. ⊤ };
+
+    fn target(&self) -> Class {
+        LEVELS_CLASS
+    }
+
+    fn fits(&self, _inst: &Instance) -> bool {
+        true
+    }
+
+    fn solve(&self, alloc: Global, inst: &Instance) -> Result<Solution, NoMemory> {
+        schedule_by_levels(alloc, inst)
+    }
 }

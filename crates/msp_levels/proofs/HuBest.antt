@@ -1,0 +1,238 @@
+-- The schedule of the rule is feasible and best, and costs the greatest bound of a level.
+use Rattle.std.proofs.Common.{◌≡◌, ◌≢◌, ℕ, zero, suc, ◌+◌, ◌-◌, ◌*◌, ◌/◌, ◌<◌, ◌≤◌, ◌⊎◌, inl, inr, Bool, true, false, cond, eqb, List, [], ◌∷◌, ◌++◌, length, get_or, map, filter, count_by, sum_by, ℤ, pos, nat_abs, unsigned_abs, ◌-ℤ◌, ◌*ℤ◌, ◌≤ℤ◌, ◌<ℤ◌, All, AllPairs, Contains, MatchBool, refl, sym, ap, ap₂, subst, subst₂, ◌∙◌, arith}
+use Prim.Native.Nat.{◌∣◌}
+use Rattle.std.specs.List.{range_with_len}
+use Rattle.std.proofs.lemmas.Bool.{cases_lt}
+use Rattle.std.proofs.lemmas.Int.{ints}
+use Rattle.std.proofs.lemmas.Nat.{le-div}
+use Rattle.std.proofs.lemmas.Nat.Gcd.{dvd_antisymm}
+use Rattle.std.proofs.Math.Nat.{one-dvd}
+use native.Mathlib.Nat.{mul-le-mul_left}
+use Rattle.std.proofs.lemmas.List.{append-nil, length-map, get_or-map}
+use Rattle.std.proofs.lemmas.List.Elements.{All-contains, Contains-get_or}
+use Rattle.std.proofs.lemmas.List.Sums.{length-filter, sum_by-cons}
+use Rattle.msp_class.specs.Crit.{is_greatest}
+use Rattle.msp_class.specs.declared.class.Crit.{Crit}
+use Rattle.msp_class.specs.declared.class.Crit.TheVariants.{Cmax}
+use Rattle.msp_class.specs.declared.environments.EnvKind.{EnvKind}
+use Rattle.msp_class.specs.declared.environments.EnvKind.TheVariants.{Identical, Unrelated}
+use Rattle.msp_class.specs.Env.{kind_of}
+use Rattle.msp_class.proofs.IntegerRing.{natural, pos-le, le-pos, zero-le-pos, ≤ℤ_refl, ≤ℤ_trans, ≤ℤ_of_same, ≤ℤ_antisym, one-*ℤ, *ℤ-one, *ℤ_comm, *ℤ-mono_right}
+use Rattle.msp_class.proofs.Sums.{OnceBelow, OnceBelow-from_permutation, OnceBelow-distinct, OnceBelow-range, length-OnceBelow}
+use Rattle.msp_instance.specs.declared.Instance.{Instance}
+use Rattle.msp_instance.specs.Instance.{job_at, need_at}
+use Rattle.msp_instance.specs.Paths.{HasStep}
+use Rattle.msp_instance.specs.Conditions.{Inner}
+use Rattle.msp_schedule.specs.declared.Piece.{Piece}
+use Rattle.msp_schedule.specs.declared.Schedule.{Schedule}
+use Rattle.msp_schedule.specs.declared.Frac.{Frac}
+use Rattle.msp_schedule.specs.Fraction.{IsOver}
+use Rattle.msp_schedule.specs.Piece.{length_of, pieces_of, IsBefore, IsApart}
+use Rattle.msp_schedule.specs.Feasible.{Feasible, HasPlace, HasOperation, MayRun, FollowsRoute, GetsWork, IsWholeWork, total, whole_work, work_of}
+use Rattle.msp_schedule.specs.Cost.{cost_of, end_of, job_cost, Best}
+use Rattle.msp_schedule.specs.Settled.{IsSettled}
+use Rattle.msp_schedule.specs.Within.{IsMoment, Within}
+use Rattle.msp_schedule.proofs.OneMachine.{pieces_of-job}
+use Rattle.msp_schedule.proofs.Intervals.{greatest_below, greatest_below-bound, greatest_below-reached}
+use Rattle.msp_schedule.proofs.LastEnds.{last_end-least}
+use Rattle.msp_schedule.proofs.Moves.{Contains-map}
+use Rattle.msp_schedule.proofs.Frames.{of_one, named_one}
+use Rattle.msp_schedule.proofs.Charges.{charge_of, cost_of-bound, cost_of-least}
+use Rattle.msp_route.specs.Bounds.{IsAnswer, answer_unit}
+use Rattle.msp_levels.specs.Levels.{levels_class, LeadsOut, IsLevel, AreLevels, jobs_from, level_bound, IsGreatestBound, IsLevelCost, StepsDown}
+use Rattle.msp_levels.specs.Steps.{level_from, Fits, begin_of, IsMade, StandsFirst, IsUnderWay, IsHuSchedule}
+use Rattle.msp_levels.proofs.Facts.{IsUnitForest, IsUnitForest-from}
+use Rattle.msp_levels.proofs.LevelBound.{law_of_levels}
+
+-- ---- lists
+count-map : {X : Type 0} (f : X → ℕ) (j : ℕ) (xs : List X) → count_by (λ x. eqb (f x) j) xs ≡ count_by (λ n. eqb n j) (map f xs)
+count-map f j [] = refl
+count-map f j (x ∷ xs) = omega (arith, sum_by-cons (λ x. cond (eqb (f x) j) 1 0) x xs, sum_by-cons (λ n. cond (eqb n j) 1 0) (f x) (map f xs), count-map f j xs)
+
+one_of : {X : Type 0} (xs : List X) → length xs ≡ 1 → (x : X) × (xs ≡ x ∷ [])
+one_of [] e = absurd (omega (arith, e))
+one_of (x ∷ []) e = (x, refl)
+one_of (x ∷ y ∷ xs) e = absurd (omega (arith, e))
+
+-- the quotient rounded up is enough
+enough : (n m : ℕ) → 1 ≤ m → n ≤ m * ((n + (m - 1)) / m)
+enough n m some = elim (cases_lt (m * ((n + (m - 1)) / m)) n) [
+  | inl less ↦ let more : (n + (m - 1)) / m + 1 ≤ (n + (m - 1)) / m = le-div ((n + (m - 1)) / m + 1) (n + (m - 1)) m some (omega (arith, less, some)) in absurd (omega (arith, more))
+  | inr more ↦ more
+]
+
+abbrev schedule_of : List Piece → Schedule
+schedule_of pieces = record { unit = pos 1; pieces = pieces }
+
+module _ (i : Instance) (t : IsUnitForest i) (moment : ℕ) (pieces : List Piece) (u : IsUnderWay i moment pieces []) where
+  abbrev n : ℕ
+  n = length i.jobs
+
+  jobs : OnceBelow n (map (λ p. p.job) pieces)
+  jobs = subst (OnceBelow n) (append-nil (map (λ p. p.job) pieces)) (OnceBelow-from_permutation u.all)
+
+  count : length pieces ≡ n
+  count = sym (length-map pieces (λ p. p.job)) ∙ length-OnceBelow jobs
+
+  job_inside : All (λ p. p.job < n) pieces
+  job_inside k d l = All-contains (λ j. j < n) (map (λ p. p.job) pieces) (get_or pieces k d).job jobs.within (Contains-map (λ p. p.job) pieces (get_or pieces k d) (Contains-get_or pieces k d l))
+
+  ops : All (λ p. p.op ≡ 0) pieces
+  ops k d l = (u.made k d l).op
+
+  apart_jobs : AllPairs (λ p q. p.job ≢ q.job) pieces
+  apart_jobs a b d l k e =
+      let kb : b < length (map (λ p. p.job) pieces) = omega (arith, k, length-map pieces (λ p. p.job)) in
+      OnceBelow-distinct jobs a b 0 l kb (get_or-map (λ p. p.job) pieces a d 0 (omega (arith, k, l)) ∙ e ∙ sym (get_or-map (λ p. p.job) pieces b d 0 k))
+
+  piece_of_job : (j : ℕ) → j < n → (p : Piece) × (pieces_of (schedule_of pieces) j 0 ≡ p ∷ [])
+  piece_of_job j b =
+      let is = pieces_of-job (schedule_of pieces) j ops in
+      let (p, e) = one_of (filter (λ p. eqb p.job j) pieces) (length-filter (λ p. eqb p.job j) pieces ∙ count-map (λ p. p.job) j pieces ∙ jobs.once j b) in
+      (p, is ∙ e)
+
+  machines_apart : AllPairs (λ p q. p.machine ≡ q.machine → IsApart p q) pieces
+  machines_apart a b d l k e = by (get_or pieces a d) (get_or pieces b d) (u.made a d (omega (arith, k, l))) (u.made b d k) (u.apart a b d l k) e
+    where
+      by : (p q : Piece) → IsMade i moment p → IsMade i moment q → StandsFirst p q → p.machine ≡ q.machine → IsApart p q
+      by p q f g h e = elim h [ inl less ↦ inl (omega (arith, ints, f.to, g.from, less)) | inr same ↦ absurd (omega (arith, same.1, e)) ]
+
+  works : (j o : ℕ) → j < n → HasOperation (kind_of i.class.env) i j o → GetsWork i (schedule_of pieces) j o
+  works j o b h = subst (λ o. GetsWork i (schedule_of pieces) j o) (sym first) (subst (λ c. MatchBool c (total (map (work_of (kind_of i.class.env) i) (pieces_of (schedule_of pieces) j 0)) ≡ pos 1 *ℤ pos (whole_work (kind_of i.class.env) i j 0)) ((p : Piece) × (pieces_of (schedule_of pieces) j 0 ≡ p ∷ []) × IsWholeWork (kind_of i.class.env) i (pos 1) p)) (sym t.cut) (let (p, e) = piece_of_job j b in (p, e, subst (λ k. IsWholeWork k i (pos 1) p) (sym t.kind) (whole p e))))
+    where
+      first : o ≡ 0
+      first = subst (λ k. HasOperation k i j o) t.kind h
+
+      whole : (p : Piece) → pieces_of (schedule_of pieces) j 0 ≡ p ∷ [] → length_of p ≡ pos 1 *ℤ pos (need_at i p.job p.op).time
+      whole p e =
+          let (of, o) = named_one pieces j 0 p e in
+          let m = of_one (IsMade i moment) pieces j 0 p e u.made in
+          by p.from p.to (begin_of p) (need_at i p.job p.op).time m.from m.to (ap₂ (λ x y. (need_at i x y).time) of o ∙ t.ones j b)
+        where
+          by : (x y : ℤ) (b time : ℕ) → x ≡ pos b → y ≡ pos (b + 1) → time ≡ 1 → (y -ℤ x) ≡ pos 1 *ℤ pos time
+          by x y b time e f g = omega (arith, ints, e, f, g)
+
+  feasible : Feasible i (schedule_of pieces)
+  feasible = record {
+    unit = ≤ℤ_refl (pos 1);
+    span = λ k d l. let m = u.made k d l in (omega (arith, ints, m.from), omega (arith, ints, m.from, m.to));
+    place = λ k d l. let m = u.made k d l in let p = get_or pieces k d in record {
+      job = job_inside k d l;
+      operation = subst (λ x. HasOperation x i p.job p.op) (sym t.kind) m.op;
+      machine = subst (λ x. MayRun x i p.job p.op p.machine) (sym t.kind) m.machine;
+    };
+    machine = machines_apart;
+    job = λ a b d l k e. absurd (apart_jobs a b d l k e);
+    release = λ k d l. released (get_or pieces k d).from (job_at i (get_or pieces k d).job).release (begin_of (get_or pieces k d)) (u.made k d l).from (t.release (get_or pieces k d).job (job_inside k d l));
+    arc = u.forward;
+    route = subst (λ k. FollowsRoute k pieces) (sym t.kind) tt;
+    work = works;
+  }
+    where
+      released : (x : ℤ) (r b : ℕ) → x ≡ pos b → r ≡ 0 → (pos 1 *ℤ pos r) ≤ℤ x
+      released x r b e z = omega (arith, ints, e, z)
+
+  -- ---- the cost
+  abbrev levels_bound : ℕ
+  levels_bound = greatest_below n (λ j. level_bound i u.level (u.level j))
+
+  is_greatest_bound : IsGreatestBound i u.level levels_bound
+  is_greatest_bound = record { reached = greatest_below-reached n (λ j. level_bound i u.level (u.level j)) t.some; greatest = greatest_below-bound n (λ j. level_bound i u.level (u.level j)) }
+
+  fits : Fits i.machines u.level (range_with_len 0 n) levels_bound
+  fits k d l = by (u.level (get_or (range_with_len 0 n) k d)) (greatest_below-bound n (λ j. level_bound i u.level (u.level j)) (get_or (range_with_len 0 n) k d) (inside k d l))
+    where
+      inside : All (λ j. j < n) (range_with_len 0 n)
+      inside = (OnceBelow-range n).within
+
+      by : (x : ℕ) → level_bound i u.level x ≤ levels_bound → level_from u.level x (range_with_len 0 n) + i.machines * x ≤ i.machines * levels_bound
+      by x h = omega (arith, enough (jobs_from i u.level x) i.machines t.machines, mul-le-mul_left i.machines h)
+
+  soon_enough : moment ≤ levels_bound
+  soon_enough = let (slots, e, f) = u.bound levels_bound fits in omega (arith, e)
+
+  charge : (s : Schedule) (k : ℕ) → charge_of i s k ≡ end_of s k
+  charge s k = ap (λ c. job_cost c s.unit (job_at i k) (end_of s k)) t.crit
+
+  greatest_crit : is_greatest i.class.crit ≡ true
+  greatest_crit = ap is_greatest t.crit
+
+  upper : cost_of i (schedule_of pieces) ≤ℤ pos levels_bound
+  upper = cost_of-least i (schedule_of pieces) (pos levels_bound) greatest_crit t.some (λ k b. subst (λ x. x ≤ℤ pos levels_bound) (sym (charge (schedule_of pieces) k)) (last_end-least pieces k (pos levels_bound) (zero-le-pos levels_bound) (λ m d l e. early (get_or pieces m d) (u.made m d l))))
+    where
+      early : (p : Piece) → IsMade i moment p → p.to ≤ℤ pos levels_bound
+      early p h = omega (arith, ints, h.to, h.early, soon_enough)
+
+  steps_down : StepsDown i u.level
+  steps_down j b some = by (u.level j) refl (u.levels j b).path
+    where
+      by : (l : ℕ) → u.level j ≡ l → LeadsOut i.arcs l j → (k : ℕ) × (k < n) × HasStep i.arcs j k × (u.level j ≤ u.level k + 1)
+      by zero e p = absurd (omega (arith, e, some))
+      by (suc l) e (k, step, p) =
+          let inside = (All-contains (λ a. (a.before < n) × (a.after < n)) i.arcs (record { before = j; after = k }) t.ends step).1 in
+          (k, inside, step, omega (arith, e, (u.levels k inside).longest l p))
+
+  lower : (s : Schedule) → Feasible i s → (s.unit *ℤ pos levels_bound) ≤ℤ cost_of i s
+  lower s f =
+      let (j, b, e) = is_greatest_bound.reached in
+      let (k, inside, bound) = law_of_levels i s u.level (u.level j) j t.kind t.cut t.ones steps_down f b (omega arith) in
+      ≤ℤ_trans (subst (λ v. (s.unit *ℤ pos v) ≤ℤ end_of s k) e bound) (subst (λ x. x ≤ℤ cost_of i s) (charge s k) (cost_of-bound i s greatest_crit k inside))
+
+  cost_is : cost_of i (schedule_of pieces) ≡ pos levels_bound
+  cost_is = ≤ℤ_antisym upper (subst (λ x. x ≤ℤ cost_of i (schedule_of pieces)) (one-*ℤ (pos levels_bound)) (lower (schedule_of pieces) feasible))
+
+  best : Best i (schedule_of pieces)
+  best = record { feasible = feasible; least = least }
+    where
+      least : (s : Schedule) → Feasible i s → (cost_of i (schedule_of pieces) *ℤ s.unit) ≤ℤ (cost_of i s *ℤ pos 1)
+      least s f = subst₂ (λ x y. x ≤ℤ y) (*ℤ_comm s.unit (pos levels_bound) ∙ ap (λ x. x *ℤ s.unit) (sym cost_is)) (sym (*ℤ-one (cost_of i s))) (lower s f)
+
+  -- ---- bounds, and the form of a report
+  ends_soon : All (λ p. p.to ≤ℤ pos 400) pieces
+  ends_soon k d l = by (get_or pieces k d) (u.made k d l)
+    where
+      by : (p : Piece) → IsMade i moment p → p.to ≤ℤ pos 400
+      by p h = omega (arith, ints, h.to, h.early, u.soon, t.few)
+
+  within : Within i (schedule_of pieces)
+  within = record {
+    unit = (omega (arith, ints), omega (arith, ints));
+    few = omega (arith, count, t.few);
+    moments = λ k d l. by (get_or pieces k d) (u.made k d l) (ends_soon k d l);
+    scaled = λ _. inr (omega (arith, ints));
+  }
+    where
+      by : (p : Piece) → IsMade i moment p → p.to ≤ℤ pos 400 → IsMoment p.from × IsMoment p.to
+      by p h e = ((omega (arith, ints, h.from), omega (arith, ints, h.from, h.to, e)), (omega (arith, ints, h.to), omega (arith, ints, e)))
+
+  answer : IsAnswer i (schedule_of pieces)
+  answer = record {
+    few = omega (arith, count, t.few);
+    unit = subst (λ k. pos 1 ≤ℤ answer_unit k) (sym t.kind) (omega (arith, ints));
+    ends = λ k d l. by (get_or pieces k d) (ends_soon k d l);
+  }
+    where
+      by : (p : Piece) → p.to ≤ℤ pos 400 → p.to ≤ℤ pos 10000000000000000000000000
+      by p e = omega (arith, ints, e)
+
+  settled : IsSettled (schedule_of pieces)
+  settled = record { lowest = λ d divides _. dvd_antisymm divides (one-dvd d); order = λ a b d l k. by (get_or pieces a d) (get_or pieces b d) (u.made a d (omega (arith, l, k))) (u.made b d k) (u.apart a b d l k) }
+    where
+      by : (p q : Piece) → IsMade i moment p → IsMade i moment q → StandsFirst p q → (p.from <ℤ q.from) ⊎ ((p.from ≡ q.from) × (p.machine ≤ q.machine))
+      by p q f g h = elim h [ inl less ↦ inl (omega (arith, ints, f.from, g.from, less)) | inr same ↦ inr (f.from ∙ ap pos same.0 ∙ sym g.from, omega (arith, same.1)) ]
+
+  level_cost : (cost : Frac) → IsOver cost (cost_of i (schedule_of pieces)) (pos 1) → IsLevelCost i cost
+  level_cost cost h = (u.level, levels_bound, u.levels, is_greatest_bound, subst (λ x. IsOver cost x (pos 1)) cost_is h)
+
+-- what a schedule of the rule has
+pub record IsHuAnswer (i : Instance) (s : Schedule) : Type 0 where
+  pub best : Best i s
+  pub within : Within i s
+  pub answer : IsAnswer i s
+  pub settled : IsSettled s
+  pub cost : (cost : Frac) → IsOver cost (cost_of i s) s.unit → IsLevelCost i cost
+
+pub IsHuAnswer-from : (i : Instance) → i.class ≡ levels_class → Inner i → (pieces : List Piece) → IsHuSchedule i pieces → IsHuAnswer i (record { unit = pos 1; pieces = pieces })
+IsHuAnswer-from i class inner pieces (moment, u) =
+    let t = IsUnitForest-from i class inner in
+    record { best = best i t moment pieces u; within = within i t moment pieces u; answer = answer i t moment pieces u; settled = settled i t moment pieces u; cost = level_cost i t moment pieces u }
