@@ -1,12 +1,12 @@
 -- How many jobs of a list have a level, and that a slot of the rule leaves no more jobs of high levels than fit the moments that are left.
-use Rattle.std.proofs.Common.{◌≡◌, ◌≢◌, ℕ, zero, suc, ◌+◌, ◌-◌, ◌*◌, ◌<◌, ◌≤◌, ◌⊎◌, inl, inr, Bool, true, false, not, cond, eqb, leb, List, [], ◌∷◌, ◌++◌, length, get_or, filter, count_by, sum_by, All, Contains, IsPermutation, refl, sym, ap, subst, ◌∙◌, arith}
-use Rattle.std.proofs.lemmas.Bool.{cases_Bool, cases_lt, eqb-true, eq-eqb, leb-true, le-leb, false≢true}
+use Rattle.std.proofs.Common.{◌≡◌, ◌≢◌, ℕ, zero, suc, ◌+◌, ◌-◌, ◌*◌, ◌<◌, ◌≤◌, ◌⊎◌, inl, inr, Bool, true, false, not, cond, eqb, leb, List, [], ◌∷◌, ◌++◌, length, get_or, filter, count_by, sum_by, All, Contains, IsPermutation, refl, sym, ap, ◌∙◌, arith}
+use Rattle.std.proofs.lemmas.Bool.{cases_lt, eqb-true, eq-eqb, false≢true}
 use Rattle.std.proofs.lemmas.Bool.Decides.{nat_tests}
 use Rattle.std.proofs.lemmas.List.Elements.{All-head, All-tail, All-cons, All-filter, All-contains, filter_passes, Contains-get_or, Contains-append_left, Contains-append_right}
-use Rattle.std.proofs.lemmas.List.Sums.{length-filter, sum_by-cons, sum_by-append, get_or-le-sum_by}
+use Rattle.std.proofs.lemmas.List.Sums.{length-filter, sum_by-cons, sum_by-append}
 use Rattle.std.proofs.lemmas.List.Filters.{length-filter_both, sum_by-filter_both}
 use Rattle.std.proofs.lemmas.List.Sorted.{All-permutation, sum_by-IsPermutation, Contains-permutation, IsPermutation-sym}
-use native.Mathlib.Nat.{mul-le-mul_left, lt_of_mul-lt-mul_left}
+use native.Mathlib.Nat.{lt_of_mul-lt-mul_left}
 use Rattle.msp_class.proofs.Sums.{Contains-filter, Contains-from_filter, sum_by-contains}
 use Rattle.msp_levels.specs.Steps.{level_from, Fits}
 

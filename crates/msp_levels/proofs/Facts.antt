@@ -6,7 +6,7 @@ use Rattle.msp_class.specs.Env.{kind_of}
 use Rattle.msp_instance.specs.declared.Arc.{Arc}
 use Rattle.msp_instance.specs.declared.Instance.{Instance}
 use Rattle.msp_instance.specs.Instance.{no_need, no_job, job_at, need_at, common_time}
-use Rattle.msp_instance.specs.Conditions.{HasShape, HasSameTimes, HasDegree, MeetsConditions, Inner, inner_limits, leaving}
+use Rattle.msp_instance.specs.Conditions.{HasShape, HasSameTimes, HasDegree, Inner, inner_limits, leaving}
 use Rattle.msp_schedule.specs.declared.Piece.{Piece}
 use Rattle.msp_schedule.proofs.Frames.{no_heads}
 use Rattle.msp_levels.specs.Levels.{levels_class, AreLevels}

@@ -1,6 +1,5 @@
 -- The schedule of the rule is feasible and best, and costs the greatest bound of a level.
-use Rattle.std.proofs.Common.{◌≡◌, ◌≢◌, ℕ, zero, suc, ◌+◌, ◌-◌, ◌*◌, ◌/◌, ◌<◌, ◌≤◌, ◌⊎◌, inl, inr, Bool, true, false, cond, eqb, List, [], ◌∷◌, ◌++◌, length, get_or, map, filter, count_by, sum_by, ℤ, pos, nat_abs, unsigned_abs, ◌-ℤ◌, ◌*ℤ◌, ◌≤ℤ◌, ◌<ℤ◌, All, AllPairs, Contains, MatchBool, refl, sym, ap, ap₂, subst, subst₂, ◌∙◌, arith}
-use Prim.Native.Nat.{◌∣◌}
+use Rattle.std.proofs.Common.{◌≡◌, ◌≢◌, ℕ, zero, suc, ◌+◌, ◌-◌, ◌*◌, ◌/◌, ◌<◌, ◌≤◌, ◌⊎◌, inl, inr, true, cond, eqb, List, [], ◌∷◌, length, get_or, map, filter, count_by, ℤ, pos, ◌-ℤ◌, ◌*ℤ◌, ◌≤ℤ◌, ◌<ℤ◌, All, AllPairs, MatchBool, refl, sym, ap, ap₂, subst, subst₂, ◌∙◌, arith}
 use Rattle.std.specs.List.{range_with_len}
 use Rattle.std.proofs.lemmas.Bool.{cases_lt}
 use Rattle.std.proofs.lemmas.Int.{ints}
@@ -12,12 +11,8 @@ use Rattle.std.proofs.lemmas.List.{append-nil, length-map, get_or-map}
 use Rattle.std.proofs.lemmas.List.Elements.{All-contains, Contains-get_or}
 use Rattle.std.proofs.lemmas.List.Sums.{length-filter, sum_by-cons}
 use Rattle.msp_class.specs.Crit.{is_greatest}
-use Rattle.msp_class.specs.declared.class.Crit.{Crit}
-use Rattle.msp_class.specs.declared.class.Crit.TheVariants.{Cmax}
-use Rattle.msp_class.specs.declared.environments.EnvKind.{EnvKind}
-use Rattle.msp_class.specs.declared.environments.EnvKind.TheVariants.{Identical, Unrelated}
 use Rattle.msp_class.specs.Env.{kind_of}
-use Rattle.msp_class.proofs.IntegerRing.{natural, pos-le, le-pos, zero-le-pos, ≤ℤ_refl, ≤ℤ_trans, ≤ℤ_of_same, ≤ℤ_antisym, one-*ℤ, *ℤ-one, *ℤ_comm, *ℤ-mono_right}
+use Rattle.msp_class.proofs.IntegerRing.{zero-le-pos, ≤ℤ_refl, ≤ℤ_trans, ≤ℤ_antisym, one-*ℤ, *ℤ-one, *ℤ_comm}
 use Rattle.msp_class.proofs.Sums.{OnceBelow, OnceBelow-from_permutation, OnceBelow-distinct, OnceBelow-range, length-OnceBelow}
 use Rattle.msp_instance.specs.declared.Instance.{Instance}
 use Rattle.msp_instance.specs.Instance.{job_at, need_at}
@@ -27,8 +22,8 @@ use Rattle.msp_schedule.specs.declared.Piece.{Piece}
 use Rattle.msp_schedule.specs.declared.Schedule.{Schedule}
 use Rattle.msp_schedule.specs.declared.Frac.{Frac}
 use Rattle.msp_schedule.specs.Fraction.{IsOver}
-use Rattle.msp_schedule.specs.Piece.{length_of, pieces_of, IsBefore, IsApart}
-use Rattle.msp_schedule.specs.Feasible.{Feasible, HasPlace, HasOperation, MayRun, FollowsRoute, GetsWork, IsWholeWork, total, whole_work, work_of}
+use Rattle.msp_schedule.specs.Piece.{length_of, pieces_of, IsApart}
+use Rattle.msp_schedule.specs.Feasible.{Feasible, HasOperation, MayRun, FollowsRoute, GetsWork, IsWholeWork, total, whole_work, work_of}
 use Rattle.msp_schedule.specs.Cost.{cost_of, end_of, job_cost, Best}
 use Rattle.msp_schedule.specs.Settled.{IsSettled}
 use Rattle.msp_schedule.specs.Within.{IsMoment, Within}
@@ -39,7 +34,7 @@ use Rattle.msp_schedule.proofs.Moves.{Contains-map}
 use Rattle.msp_schedule.proofs.Frames.{of_one, named_one}
 use Rattle.msp_schedule.proofs.Charges.{charge_of, cost_of-bound, cost_of-least}
 use Rattle.msp_route.specs.Bounds.{IsAnswer, answer_unit}
-use Rattle.msp_levels.specs.Levels.{levels_class, LeadsOut, IsLevel, AreLevels, jobs_from, level_bound, IsGreatestBound, IsLevelCost, StepsDown}
+use Rattle.msp_levels.specs.Levels.{levels_class, LeadsOut, jobs_from, level_bound, IsGreatestBound, IsLevelCost, StepsDown}
 use Rattle.msp_levels.specs.Steps.{level_from, Fits, begin_of, IsMade, StandsFirst, IsUnderWay, IsHuSchedule}
 use Rattle.msp_levels.proofs.Facts.{IsUnitForest, IsUnitForest-from}
 use Rattle.msp_levels.proofs.LevelBound.{law_of_levels}

@@ -1,27 +1,27 @@
 -- One slot more: what the pieces and the jobs that are left keep.
-use Rattle.std.proofs.Common.{◌≡◌, ◌≢◌, ℕ, zero, suc, ◌+◌, ◌-◌, ◌*◌, ◌<◌, ◌≤◌, ◌⊎◌, inl, inr, Bool, true, false, cond, eqb, List, [], ◌∷◌, ◌++◌, length, get_or, map, filter, count_by, ℤ, pos, nat_abs, ◌≤ℤ◌, All, AllPairs, Contains, IsPermutation, refl, sym, ap, subst, subst₂, ◌∙◌, arith, append_assoc}
+use Rattle.std.proofs.Common.{◌≡◌, ◌≢◌, ℕ, zero, suc, ◌+◌, ◌<◌, ◌≤◌, ◌⊎◌, inl, inr, Bool, true, false, cond, eqb, List, [], ◌∷◌, ◌++◌, length, get_or, map, filter, count_by, pos, All, AllPairs, Contains, IsPermutation, refl, sym, ap, subst, subst₂, ◌∙◌, arith, append_assoc}
 use Rattle.std.specs.Prelude.{◌==◌, ◌&&◌}
 use Rattle.std.specs.List.{list_any, range_with_len}
 use Rattle.std.proofs.lemmas.Bool.{eqb-true, eq-eqb, false≢true}
 use Rattle.std.proofs.lemmas.Int.{ints}
-use Rattle.std.proofs.lemmas.List.{length-append, map-append, get_or_default, length-map, get_or-map}
+use Rattle.std.proofs.lemmas.List.{length-append, map-append, get_or_default}
 use Rattle.std.proofs.lemmas.List.Elements.{All-head, All-tail, All-weaker, All-append, All-contains, Contains-get_or, Contains-append_left, Contains-append_right, Contains-append_cases}
 use Rattle.std.proofs.lemmas.List.Folds.{Any-from_list_any, list_any_at}
 use Rattle.std.proofs.lemmas.List.Kept.{AllPairs-cons}
 use Rattle.std.proofs.lemmas.List.Sums.{length-filter, sum_by-append}
 use Rattle.std.proofs.lemmas.List.Sorted.{Contains-permutation, length_permutation, IsPermutation-sym, IsPermutation-trans, IsPermutation-append_right}
-use Rattle.msp_class.proofs.Sums.{Contains-filter, AllPairs-head, AllPairs-tail, OnceBelow, OnceBelow-from_permutation, OnceBelow-distinct, OnceBelow-contains, length-OnceBelow, count_by-distinct}
+use Rattle.msp_class.proofs.Sums.{Contains-filter, AllPairs-head, AllPairs-tail, OnceBelow-from_permutation, OnceBelow-distinct, OnceBelow-contains, length-OnceBelow, count_by-distinct}
 use Rattle.msp_instance.specs.declared.Arc.{Arc}
 use Rattle.msp_instance.specs.declared.Instance.{Instance}
 use Rattle.msp_instance.specs.Conditions.{leaving}
 use Rattle.msp_instance.proofs.ListingLemmas.{list_any-from_Contains, Contains-from_list_any, count-from_contains}
 use Rattle.msp_schedule.specs.declared.Piece.{Piece}
 use Rattle.msp_schedule.specs.Piece.{IsBefore}
-use Rattle.msp_schedule.proofs.Intervals.{greatest_by, greatest_by-contains, greatest_by-reached}
+use Rattle.msp_schedule.proofs.Intervals.{greatest_by-contains, greatest_by-reached}
 use Rattle.msp_schedule.proofs.OneMachine.{both_true}
 use Rattle.msp_schedule.proofs.Moves.{Contains-map}
 use Rattle.msp_levels.specs.Levels.{LeadsOut, IsLevel, AreLevels}
-use Rattle.msp_levels.specs.Steps.{is_blocked, IsSlot, piece_at, seats, begin_of, IsMade, StandsFirst, IsByLevel, IsUnderWay, Fits}
+use Rattle.msp_levels.specs.Steps.{is_blocked, IsSlot, piece_at, seats, IsMade, StandsFirst, IsByLevel, IsUnderWay, Fits}
 use Rattle.msp_levels.proofs.Counts.{HasOnce, Fits-low, Fits-permutation, Fits-next}
 
 -- ---- arcs of an intree

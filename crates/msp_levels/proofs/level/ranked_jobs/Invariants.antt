@@ -1,4 +1,4 @@
-use Rattle.std.proofs.Common.{◌≡◌, ℕ, ◌≤◌, map, All, slice_index}
+use Rattle.std.proofs.Common.{◌≡◌, map, All, slice_index}
 use Rattle.std.specs.List.{range_with_len}
 use Rattle.msp_levels.proofs.level.ranked_jobs.Given as goal
 

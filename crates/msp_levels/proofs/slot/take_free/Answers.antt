@@ -1,4 +1,4 @@
-use Rattle.std.proofs.Common.{false, refl, arith, rules, slice_index_or}
+use Rattle.std.proofs.Common.{false, refl, rules, slice_index_or}
 use Rattle.msp_levels.proofs.SlotSteps.{IsSlot-next, IsSlot-all}
 use Rattle.msp_levels.proofs.slot.take_free.Goals as goal
 
