@@ -13,13 +13,13 @@ use Rattle.msp_file.specs.declared.fault.FileFault.{FileFault}
 use Rattle.msp_file.specs.declared.fault.FileFault.TheVariants.{Class, Cycle, Memory, After}
 use Rattle.msp_grammar.specs.declared.filed.Filed.{Filed}
 use Rattle.msp_grammar.specs.InstanceText.{IsInstanceText}
-use Rattle.msp_file.specs.Reading.{front_of, Reads, ReadsFront}
+use Rattle.msp_file.specs.Reading.{Reads, ReadsFront}
 use Rattle.msp_file.specs.Steps.{Fails, IsFaultOfFiled}
 use Rattle.msp_file.specs.Answers.{faulty_name, IsClassFault, IsCycleFault, IsFaultBy, IsFaultOf, IsFrontFaultOf, IsTextClassFault, IsTextFault, IsFrontFault, IsFrontText}
 use Rattle.msp_file.proofs.AnswerLemmas.{fault_of_whole}
 use Rattle.msp_file.proofs.LineFaults.{front}
 use Rattle.msp_file.proofs.LineLaws.{reads, ok_is}
-use Rattle.msp_file.proofs.Readings.{by_same, reads_same, front_done}
+use Rattle.msp_file.proofs.Readings.{front_same, reads_same, front_done}
 use Rattle.msp_file.proofs.TextLaws.{IsReadText, whole_takes, whole_again, front_takes, front_again, text_read, times_read}
 
 -- ---- what is read
@@ -73,7 +73,7 @@ again_fault b e k i names h = no_fault (Reads b) (filed i names) e (record { one
 pub front_is_good : (b : List ℕ) (i : Instance) (names : List (List ℕ)) (used line : ℕ) → IsFrontText b i names used line → IsGood (ReadsFront b) (filed i names)
 front_is_good b i names used line h =
     let g = front_again b h.text h.rest i names h.whole h.is in
-    record { one = by_same front_of b; read = front_done b (filed i names) (record { at = g.0; rest = h.rest }) g.1; in_class = h.is.in_class }
+    record { one = front_same b; read = front_done b (filed i names) (record { at = g.0; rest = h.rest }) g.1; in_class = h.is.in_class }
 
 pub again_front_fault : (b : List ℕ) (e : FileFault) → IsFrontFaultOf b e → (i : Instance) (names : List (List ℕ)) (used line : ℕ) → IsFrontText b i names used line → Fails e (given i names)
 again_front_fault b e k i names used line h = no_fault (ReadsFront b) (filed i names) e (front_is_good b i names used line h) k

@@ -13,7 +13,7 @@ use Rattle.msp_file.specs.declared.draft.Draft.{Draft}
 use Rattle.msp_job_name.specs.JobName.{IsJobName, AreDistinct}
 use Rattle.msp_grammar.specs.ScheduleText.{name_at}
 use Rattle.msp_grammar.specs.InstanceText.{line_text, arc_fields, arcs_text}
-use Rattle.msp_file.specs.Reading.{◌>>=◌, Place, line_at, fields_of, first_of, others_of, is_arc_among, with_arc, arc_line_at, LineRead, job_read, arc_read, end_read, end_at, arc_or_end, arc_step, ReadsArcs, arc_then, arcs_end, arcs_fault}
+use Rattle.msp_file.specs.Reading.{◌>>=◌, Place, line_at, fields_of, first_of, others_of, is_arc_among, with_arc, arc_line_at, LineRead, job_read, more_read, end_read, end_at, arc_or_end, arc_step, ReadsArcs, more_then, more_end, more_fault}
 use Rattle.msp_job_name.proofs.NameLists.{same_bytes}
 use Rattle.msp_file.proofs.Apart.{apart_push, apart_before}
 use Rattle.msp_file.proofs.LineLaws.{bind_ok, provided_ok, ok_is, Takes, Takes-then, IsField, fields_takes, fields_again, fields_line_again, one_field}
@@ -42,7 +42,7 @@ end_text = line_text (codes "end" ∷ [])
 pub end_field : AllByRecursion IsField (codes "end" ∷ [])
 end_field = (record { no_space = refl; no_line_feed = refl }, tt)
 
-pub end_takes : (at : ℕ) (d : Draft) (fields : List (List ℕ)) (p q : Place) (next : LineRead) → Takes p (line_text (first_of fields ∷ others_of fields)) q → end_at at d fields q ≡ Ok next → (next ≡ end_read d q) × Takes p end_text q
+pub end_takes : {A : Type 0} (at : ℕ) (d : A) (fields : List (List ℕ)) (p q : Place) (next : LineRead A) → Takes p (line_text (first_of fields ∷ others_of fields)) q → end_at at d fields q ≡ Ok next → (next ≡ end_read d q) × Takes p end_text q
 end_takes at d fields p q next t e =
     let a = provided_ok _ _ _ next e in
     let b = provided_ok _ _ _ next a.1 in
@@ -175,39 +175,39 @@ no_arcs d p x q fit e t =
     subst (λ (y : Draft × Place). AddsArcs d p y.0 y.1) (sym e) (record { more = []; added = ap (λ (arcs : List Arc). record d { arcs = arcs }) (sym (append-nil d.arcs)); text = t; fit = subst (AreArcs d.names) (sym (append-nil d.arcs)) fit })
 
 -- What a line that is no job's says: an arc, where there may be one, or the end.
-abbrev pub TakesArc : Bool → Draft → Place → LineRead → Type 0
+abbrev pub TakesArc : Bool → Draft → Place → LineRead Draft → Type 0
 TakesArc may d p (job_read e q) = ⊥
-TakesArc may d p (arc_read e q) = (fields : List (List ℕ)) × Takes p (line_text (codes "arc" ∷ fields)) q × AddsArc d fields e × (may ≡ true)
+TakesArc may d p (more_read e q) = (fields : List (List ℕ)) × Takes p (line_text (codes "arc" ∷ fields)) q × AddsArc d fields e × (may ≡ true)
 TakesArc may d p (end_read e q) = (e ≡ d) × Takes p end_text q
 
-pub arc_or_end_takes : (may : Bool) (at : ℕ) (d : Draft) (fields : List (List ℕ)) (p q : Place) (next : LineRead) → Takes p (line_text (first_of fields ∷ others_of fields)) q → arc_or_end may at d fields q ≡ Ok next → TakesArc may d p next
+pub arc_or_end_takes : (may : Bool) (at : ℕ) (d : Draft) (fields : List (List ℕ)) (p q : Place) (next : LineRead Draft) → Takes p (line_text (first_of fields ∷ others_of fields)) q → arc_or_end may at d fields q ≡ Ok next → TakesArc may d p next
 arc_or_end_takes may at d fields p q next t = by (may && bytes_eq (first_of fields) (codes "arc")) refl
   where
-    by : (b : Bool) → (may && bytes_eq (first_of fields) (codes "arc")) ≡ b → (if b then (arc_line_at at d (others_of fields) >>= λ more. Ok (arc_read more q)) else end_at at d fields q) ≡ Ok next → TakesArc may d p next
+    by : (b : Bool) → (may && bytes_eq (first_of fields) (codes "arc")) ≡ b → (if b then (arc_line_at at d (others_of fields) >>= λ more. Ok (more_read more q)) else end_at at d fields q) ≡ Ok next → TakesArc may d p next
     by true is e =
         let parts = and_parts may (bytes_eq (first_of fields) (codes "arc")) is in
         let l = bind_ok _ _ next e in
         let line = subst (λ (w : List ℕ). Takes p (line_text (w ∷ others_of fields)) q) (same_bytes (first_of fields) (codes "arc") parts.1) t in
-        subst (TakesArc may d p) (ok_is (arc_read l.0 q) next l.2) (others_of fields, line, arc_takes at d (others_of fields) l.0 l.1, parts.0)
+        subst (TakesArc may d p) (ok_is (more_read l.0 q) next l.2) (others_of fields, line, arc_takes at d (others_of fields) l.0 l.1, parts.0)
     by false is e = let l = end_takes at d fields p q next t e in subst (TakesArc may d p) (sym l.0) (refl, l.1)
 
-arc_step_takes : (d : Draft) (p : Place) (next : LineRead) → arc_step d p ≡ Ok next → TakesArc true d p next
+arc_step_takes : (d : Draft) (p : Place) (next : LineRead Draft) → arc_step d p ≡ Ok next → TakesArc true d p next
 unfolding arc_step
 arc_step_takes d p next e =
     let l = bind_ok (line_at p) _ next e in
     arc_or_end_takes true p.at d (fields_of l.0.0) p l.0.1 next (fields_takes p l.0 l.1) l.2
 
 -- what is read last
-pub last_is : (d e : Draft) (q : Place) (read : Result (Draft × Place) FileFault) (x : Draft × Place) → e ≡ d → read ≡ Ok (e, q) → read ≡ Ok x → x ≡ (d, q)
-last_is d e q read x same ends is = ok_is x (e, q) (sym is ∙ ends) ∙ ap (λ (y : Draft). (y, q)) same
+pub last_is : {A : Type 0} (d e : A) (q : Place) (read : Result (A × Place) FileFault) (x : A × Place) → e ≡ d → read ≡ Ok (e, q) → read ≡ Ok x → x ≡ (d, q)
+last_is {A} d e q read x same ends is = let last : A × Place = (e, q) in ok_is x last (sym is ∙ ends) ∙ ap (λ (y : A). (y, q)) same
 
-pub no_answer : (read : Result (Draft × Place) FileFault) (x : Draft × Place) (fault : FileFault) → read ≡ Err fault → read ≡ Ok x → ⊥
+pub no_answer : {A : Type 0} (read : Result A FileFault) (x : A) (fault : FileFault) → read ≡ Err fault → read ≡ Ok x → ⊥
 no_answer read x fault e f = cc
 
 pub arcs_take : (d : Draft) (p : Place) (read : Result (Draft × Place) FileFault) (x : Draft × Place) → AreArcs d.names d.arcs → ReadsArcs d p read → read ≡ Ok x → AddsArcs d p x.0 x.1
-arcs_take d p read x fit (arc_then _ e _ q _ step rest) is = let t = arc_step_takes d p (arc_read e q) step in then_arcs d t.0 e p q x t.1 t.2 fit (λ good. arcs_take e q read x good rest is)
-arcs_take d p read x fit (arcs_end _ e _ q _ step ends) is = let t = arc_step_takes d p (end_read e q) step in no_arcs d p x q fit (last_is d e q read x t.0 ends is) t.1
-arcs_take d p read x fit (arcs_fault _ _ _ fault step fails) is = absurd (no_answer read x fault fails is)
+arcs_take d p read x fit (more_then _ e _ q _ step rest) is = let t = arc_step_takes d p (more_read e q) step in then_arcs d t.0 e p q x t.1 t.2 fit (λ good. arcs_take e q read x good rest is)
+arcs_take d p read x fit (more_end _ e _ q _ step ends) is = let t = arc_step_takes d p (end_read e q) step in no_arcs d p x q fit (last_is d e q read x t.0 ends is) t.1
+arcs_take d p read x fit (more_fault _ _ _ fault step fails) is = absurd (no_answer read x fault fails is)
 
 -- an arc at its place among others
 pub arc_in : (names : List (List ℕ)) (arcs : List Arc) (a : Arc) (more : List Arc) → AreArcs names (arcs ++ a ∷ more) → (a.before < length names) × (a.after < length names) × (¬ Contains arcs a) × (length arcs < MOST_ARCS) × AreArcs names ((arcs ++ a ∷ []) ++ more)
@@ -225,7 +225,7 @@ pub arcs_again : (more : List Arc) (d : Draft) (at : ℕ) (rest : List ℕ) → 
 unfolding arc_step
 arcs_again [] d at rest apart spelled fit =
     let l = line_then (arc_or_end true at d) at (codes "end") [] rest end_field in
-    (l.0, arcs_end d d _ (record { at = l.0; rest = rest }) _ l.1 (ap (λ (arcs : List Arc). Ok (record d { arcs = arcs }, record { at = l.0; rest = rest })) (append-nil d.arcs)))
+    (l.0, more_end d d _ (record { at = l.0; rest = rest }) _ l.1 (ap (λ (arcs : List Arc). Ok (record d { arcs = arcs }, record { at = l.0; rest = rest })) (append-nil d.arcs)))
 arcs_again (a ∷ more) d at rest apart spelled fit =
     let in_range = arc_in d.names d.arcs a more fit in
     let left = (arcs_text d.names more ++ end_text) ++ rest in
@@ -233,6 +233,6 @@ arcs_again (a ∷ more) d at rest apart spelled fit =
     let l = line_then (arc_or_end true at d) at (codes "arc") (name_at d.names a.before ∷ name_at d.names a.after ∷ []) left (arc_line_fields d.names a spelled in_range.0 in_range.1) in
     let q : Place = record { at = l.0; rest = left } in
     let one = arc_again at d a apart spelled in_range.0 in_range.1 in_range.2 in_range.3 in
-    let step : arc_step d (record { at = at; rest = (arcs_text d.names (a ∷ more) ++ end_text) ++ rest }) ≡ Ok (arc_read (with_arc d a.before a.after) q) = ap (λ (b : List ℕ). arc_step d (record { at = at; rest = b })) text ∙ l.1 ∙ ap (λ r. r >>= λ e. Ok (arc_read e q)) one in
+    let step : arc_step d (record { at = at; rest = (arcs_text d.names (a ∷ more) ++ end_text) ++ rest }) ≡ Ok (more_read (with_arc d a.before a.after) q) = ap (λ (b : List ℕ). arc_step d (record { at = at; rest = b })) text ∙ l.1 ∙ ap (λ r. r >>= λ e. Ok (more_read e q)) one in
     let g = arcs_again more (with_arc d a.before a.after) l.0 rest apart spelled in_range.4 in
-    (g.0, subst (λ (arcs : List Arc). ReadsArcs d (record { at = at; rest = (arcs_text d.names (a ∷ more) ++ end_text) ++ rest }) (Ok (record d { arcs = arcs }, record { at = g.0; rest = rest }))) (append_assoc d.arcs (a ∷ []) more) (arc_then d (with_arc d a.before a.after) _ q _ step g.1))
+    (g.0, subst (λ (arcs : List Arc). ReadsArcs d (record { at = at; rest = (arcs_text d.names (a ∷ more) ++ end_text) ++ rest }) (Ok (record d { arcs = arcs }, record { at = g.0; rest = rest }))) (append_assoc d.arcs (a ∷ []) more) (more_then d (with_arc d a.before a.after) _ q _ step g.1))

@@ -1,11 +1,11 @@
 -- A field that is read is the field that was written, and what was written is read again.
-use Rattle.std.proofs.Common.{◌≡◌, ◌≢◌, ℕ, suc, ◌<◌, ◌≤◌, Bool, true, false, ◌&&◌, ◌||◌, ◌==◌, nat_le, List, [], ◌∷◌, ◌++◌, length, get_or, position, bytes_eq, Option, Some, None, ok_or, Ok, ℤ, pos, negsuc, unsigned_abs, All, refl, sym, ap, subst, ◌∙◌, arith, decimal}
+use Rattle.std.proofs.Common.{◌≡◌, ◌≢◌, ℕ, suc, ◌<◌, ◌≤◌, ◌^◌, Bool, true, false, ◌&&◌, ◌||◌, ◌==◌, nat_le, List, [], ◌∷◌, ◌++◌, length, get_or, position, bytes_eq, Option, Some, None, ok_or, Ok, ℤ, pos, negsuc, unsigned_abs, All, refl, sym, ap, subst, ◌∙◌, arith, decimal}
 use Rattle.std.specs.Char.{is_ascii_digit}
 use Rattle.std.specs.Fmt.{signed_decimal}
 use Rattle.std.specs.List.{list_all, list_any, position_or_len}
 use Rattle.std.proofs.lemmas.Bool.{and_parts, eqb-true, eq-eqb, leb-true, le-leb, lt-ltb}
 use Rattle.std.proofs.lemmas.Int.{ints}
-use Rattle.std.proofs.lemmas.Fmt.{digits_decimal}
+use Rattle.std.proofs.lemmas.Fmt.{decimal_is_IsNumeral_wide}
 use Rattle.std.proofs.lemmas.Slice.Eq.{bytes_eq-Decides}
 use Rattle.std.proofs.lemmas.Str.Parse.{numerals_by_value, tells_all_ascii_digits}
 use Rattle.std.proofs.lemmas.List.Quantifiers.{position-Some}
@@ -27,7 +27,7 @@ use Rattle.msp_job_name.proofs.NameLists.{same_bytes}
 use Rattle.msp_text.proofs.NumberTexts.{some, same_digits, number_spells, number_again}
 use Rattle.msp_file.proofs.LineLaws.{bind_ok, provided_ok, ok_is, IsField}
 
-ok_some : {A : Type 0} (o : Option A) (d : FileFault) (x : A) → ok_or o d ≡ Ok x → o ≡ Some x
+pub ok_some : {A : Type 0} (o : Option A) (d : FileFault) (x : A) → ok_or o d ≡ Ok x → o ≡ Some x
 ok_some (Some y) d x e = cc
 ok_some None d x e = absurd cc
 
@@ -42,7 +42,7 @@ lacks_others passes m (x ∷ xs) fails h = let both = and_parts (passes x) (list
 
 -- ---- numbers
 
-natural_in_takes : (at : ℕ) (quantity : What) (least greatest : ℕ) (x : ℤ) (n : ℕ) → natural_in at quantity least greatest x ≡ Ok n → (x ≡ pos n) × (least ≤ n) × (n ≤ greatest)
+pub natural_in_takes : (at : ℕ) (quantity : What) (least greatest : ℕ) (x : ℤ) (n : ℕ) → natural_in at quantity least greatest x ≡ Ok n → (x ≡ pos n) × (least ≤ n) × (n ≤ greatest)
 natural_in_takes at quantity least greatest (pos m) n e =
     let t = provided_ok (nat_le least m && nat_le m greatest) (Limit at quantity) (Ok m) n e in
     let both = and_parts (nat_le least m) (nat_le m greatest) t.0 in
@@ -50,32 +50,45 @@ natural_in_takes at quantity least greatest (pos m) n e =
     (ap pos same, subst (λ k. least ≤ k) same (leb-true least m both.0), subst (λ k. k ≤ greatest) same (leb-true m greatest both.1))
 natural_in_takes at quantity least greatest (negsuc m) n e = absurd cc
 
-pub natural_takes : (at : ℕ) (quantity : What) (least greatest : ℕ) (w : List ℕ) (n : ℕ) → greatest ≤ GREATEST → natural_at at quantity least greatest w ≡ Ok n → (w ≡ decimal n) × (least ≤ n) × (n ≤ greatest)
+pub wide_takes : (at : ℕ) (quantity : What) (least greatest : ℕ) (w : List ℕ) (n : ℕ) → greatest < 10 ^ 64 → natural_at at quantity least greatest w ≡ Ok n → (w ≡ decimal n) × (least ≤ n) × (n ≤ greatest)
 unfolding natural_at
-natural_takes at quantity least greatest w n h e =
+wide_takes at quantity least greatest w n h e =
     let b = bind_ok (ok_or (number_of w) (Number at)) (natural_in at quantity least greatest) n e in
     let t = natural_in_takes at quantity least greatest b.0 n b.2 in
     let is : number_of w ≡ Some (pos n) = ok_some (number_of w) (Number at) b.0 b.1 ∙ ap some t.0 in
     let high : n ≤ greatest = t.2 in
     (number_spells w (pos n) is (omega arith), t.1, t.2)
 
-pub natural_again : (at : ℕ) (quantity : What) (least greatest n : ℕ) → greatest ≤ GREATEST → least ≤ n → n ≤ greatest → natural_at at quantity least greatest (decimal n) ≡ Ok n
+pub natural_takes : (at : ℕ) (quantity : What) (least greatest : ℕ) (w : List ℕ) (n : ℕ) → greatest ≤ GREATEST → natural_at at quantity least greatest w ≡ Ok n → (w ≡ decimal n) × (least ≤ n) × (n ≤ greatest)
+natural_takes at quantity least greatest w n h e = wide_takes at quantity least greatest w n (omega arith) e
+
+pub wide_again : (at : ℕ) (quantity : What) (least greatest n : ℕ) → greatest < 10 ^ 64 → least ≤ n → n ≤ greatest → natural_at at quantity least greatest (decimal n) ≡ Ok n
 unfolding natural_at
-natural_again at quantity least greatest n h low high =
+wide_again at quantity least greatest n h low high =
     let is : number_of (decimal n) ≡ Some (pos n) = number_again (pos n) (omega arith) in
     rw (is, le-leb least n low, le-leb n greatest high) refl
 
+pub natural_again : (at : ℕ) (quantity : What) (least greatest n : ℕ) → greatest ≤ GREATEST → least ≤ n → n ≤ greatest → natural_at at quantity least greatest (decimal n) ≡ Ok n
+natural_again at quantity least greatest n h low high = wide_again at quantity least greatest n (omega arith) low high
+
+-- the digits of a number are no other byte
+pub digits_lack : (m n : ℕ) → is_ascii_digit m ≡ false → n < 10 ^ 64 → Lacks m (decimal n)
+digits_lack m n other h =
+    let digits : list_all is_ascii_digit (decimal n) ≡ true = sym (same_digits (decimal n)) ∙ (numerals_by_value _ tells_all_ascii_digits).from (decimal n) (decimal_is_IsNumeral_wide n h).0.1 in
+    lacks_others is_ascii_digit m (decimal n) other digits
+
+pub wide_field : (n : ℕ) → n < 10 ^ 64 → IsField (decimal n)
+wide_field n h = record { no_space = digits_lack 32 n refl h; no_line_feed = digits_lack 10 n refl h }
+
 pub natural_field : (n : ℕ) → n ≤ GREATEST → IsField (decimal n)
-natural_field n h =
-    let digits : list_all is_ascii_digit (decimal n) ≡ true = sym (same_digits (decimal n)) ∙ digits_decimal (numerals_by_value _ tells_all_ascii_digits) n (omega arith) in
-    record { no_space = lacks_others is_ascii_digit 32 (decimal n) refl digits; no_line_feed = lacks_others is_ascii_digit 10 (decimal n) refl digits }
+natural_field n h = wide_field n (omega arith)
 
 -- the size of a number within a limit, and back
-within_size : (greatest : ℕ) (x : ℤ) → unsigned_abs x ≤ greatest → LiesWithin greatest x
+pub within_size : (greatest : ℕ) (x : ℤ) → unsigned_abs x ≤ greatest → LiesWithin greatest x
 within_size greatest (pos n) h = (omega (arith, ints), omega (arith, ints))
 within_size greatest (negsuc n) h = (omega (arith, ints), omega (arith, ints))
 
-size_within : (greatest : ℕ) (x : ℤ) → LiesWithin greatest x → unsigned_abs x ≤ greatest
+pub size_within : (greatest : ℕ) (x : ℤ) → LiesWithin greatest x → unsigned_abs x ≤ greatest
 size_within greatest (pos n) h = omega (arith, ints, h.0, h.1)
 size_within greatest (negsuc n) h = omega (arith, ints, h.0, h.1)
 

@@ -1,5 +1,5 @@
 -- The lines of the head: what is read is the head of an instance, and the head of an instance is read as its parts.
-use Rattle.std.proofs.Common.{◌≡◌, ℕ, suc, ◌≤◌, Bool, true, ◌==◌, nat_lt, List, [], ◌∷◌, ◌++◌, length, map, Option, Some, None, MatchOption, Result, Ok, Err, All, Contains, bytes_eq, is_none, refl, sym, ap, subst, ◌∙◌, append_assoc, append-nil, arith, codes, decimal, if◌then◌else◌}
+use Rattle.std.proofs.Common.{◌≡◌, ℕ, suc, ◌≤◌, Bool, true, ◌==◌, nat_lt, List, [], ◌∷◌, ◌++◌, length, map, Option, Some, None, MatchOption, Result, Ok, Err, All, Contains, bytes_eq, is_none, refl, sym, ap, subst, ◌∙◌, append_assoc, append-nil, arith, codes, decimal, if◌then◌else◌, ◌<◌, ◌^◌}
 use Rattle.std.specs.Prelude.{⊤, false}
 use Rattle.std.specs.List.{AllByRecursion, list_all, join_with_byte}
 use Rattle.std.proofs.lemmas.Bool.{eqb-true, eq-eqb, and_from}
@@ -24,14 +24,15 @@ use Rattle.msp_instance.specs.Conditions.{HasMachines, HasSpeeds}
 use Rattle.msp_instance.specs.declared.ranges.TheConstants.{GREATEST_SPEED, GREATEST_EQUAL_TIME, MOST_MACHINES}
 use Rattle.msp_file.specs.declared.fault.FileFault.{FileFault}
 use Rattle.msp_file.specs.declared.fault.FileFault.TheVariants.{Head, Count}
+use Rattle.msp_file.specs.declared.fault.What.{What}
 use Rattle.msp_file.specs.declared.fault.What.TheVariants as what
 use Rattle.msp_grammar.specs.ScheduleText.{line_feed}
 use Rattle.msp_grammar.specs.Layout.{has_speeds, has_time_line}
 use Rattle.msp_grammar.specs.InstanceText.{where_wanted, line_text, class_text, machines_text, speeds_text, time_text}
-use Rattle.msp_file.specs.Reading.{◌>>=◌, provided, Place, line_at, fields_of, first_of, natural_at, version_at, spelled_class, class_in, class_at, worded_at, machines_line_at, machines_at, speeds_in, speeds_line_at, speeds_at, time_line_at, time_at}
+use Rattle.msp_file.specs.Reading.{◌>>=◌, provided, Place, line_at, fields_of, first_of, natural_at, version_at, spelled_class, class_in, class_at, worded_at, number_line_at, machines_line_at, machines_at, speeds_in, speeds_line_at, speeds_at, time_line_at, time_at}
 use Rattle.msp_job_name.proofs.NameLists.{same_bytes}
 use Rattle.msp_file.proofs.LineLaws.{bind_ok, provided_ok, ok_is, Takes, Gets, IsField, line_takes, line_again, fields_join, fields_again, fields_line_again, worded_takes, worded_again, one_field}
-use Rattle.msp_file.proofs.FieldLaws.{IsKeyed, lacks_others, natural_takes, natural_again, natural_field}
+use Rattle.msp_file.proofs.FieldLaws.{wide_takes, wide_again, wide_field, IsKeyed, lacks_others, natural_takes, natural_again, natural_field}
 
 -- ---- the version
 
@@ -150,17 +151,26 @@ fixed_in env.JShort = tt
 fixed_in env.J2 = (omega arith, omega arith)
 fixed_in env.J = tt
 
+pub number_line_takes : (word : List ℕ) (quantity : What) (greatest : ℕ) (p : Place) (x : ℕ × Place) → greatest < 10 ^ 64 → number_line_at word quantity greatest p ≡ Ok x → Takes p (line_text (word ∷ decimal x.0 ∷ [])) x.1 × ((1 ≤ x.0) × (x.0 ≤ greatest))
+unfolding number_line_at
+number_line_takes word quantity greatest p x few h =
+    let l = bind_ok (worded_at word p) _ x h in
+    let t = provided_ok (length l.0.0 == 1) (Count p.at) _ x l.2 in
+    let m = bind_ok (natural_at p.at quantity 1 greatest (first_of l.0.0)) _ x t.1 in
+    let n = wide_takes p.at quantity 1 greatest (first_of l.0.0) m.0 few m.1 in
+    let is : l.0.0 ≡ decimal m.0 ∷ [] = one_field l.0.0 t.0 ∙ ap (λ w. w ∷ []) n.0 in
+    let text : Takes p (line_text (word ∷ decimal m.0 ∷ [])) l.0.1 = subst (λ ws. Takes p (line_text (word ∷ ws)) l.0.1) is (worded_takes word p l.0 l.1) in
+    subst (λ y. Takes p (line_text (word ∷ decimal y.0 ∷ [])) y.1 × ((1 ≤ y.0) × (y.0 ≤ greatest))) (ok_is (m.0, l.0.1) x m.2) (text, (n.1, n.2))
+
+pub number_line_again : (word : List ℕ) (quantity : What) (greatest at number : ℕ) (rest : List ℕ) → IsField word → greatest < 10 ^ 64 → 1 ≤ number → number ≤ greatest
+    → Gets (number_line_at word quantity greatest (record { at = at; rest = line_text (word ∷ decimal number ∷ []) ++ rest })) number rest
+unfolding number_line_at
+number_line_again word quantity greatest at number rest worded few low high =
+    let line = worded_again word (decimal number ∷ []) at rest (worded, (wide_field number (omega arith), tt)) in
+    (line.0, rw (line.1, wide_again at quantity 1 greatest number few low high) refl)
+
 machines_line_takes : (p : Place) (x : ℕ × Place) → machines_line_at p ≡ Ok x → Takes p (line_text (codes "machines" ∷ decimal x.0 ∷ [])) x.1 × ((1 ≤ x.0) × (x.0 ≤ MOST_MACHINES))
-unfolding machines_line_at
-machines_line_takes p x h =
-    let l = bind_ok (worded_at (codes "machines") p) (λ l. provided (length l.0 == 1) (Count p.at) (natural_at p.at what.Machines 1 MOST_MACHINES (first_of l.0) >>= λ m. Ok (m, l.1))) x h in
-    let fields = l.0.0 in
-    let t = provided_ok (length fields == 1) (Count p.at) (natural_at p.at what.Machines 1 MOST_MACHINES (first_of fields) >>= λ m. Ok (m, l.0.1)) x l.2 in
-    let m = bind_ok (natural_at p.at what.Machines 1 MOST_MACHINES (first_of fields)) (λ m. Ok (m, l.0.1)) x t.1 in
-    let n = natural_takes p.at what.Machines 1 MOST_MACHINES (first_of fields) m.0 (omega arith) m.1 in
-    let is : fields ≡ decimal m.0 ∷ [] = one_field fields t.0 ∙ ap (λ w. w ∷ []) n.0 in
-    let text : Takes p (line_text (codes "machines" ∷ decimal m.0 ∷ [])) l.0.1 = subst (λ ws. Takes p (line_text (codes "machines" ∷ ws)) l.0.1) is (worded_takes (codes "machines") p l.0 l.1) in
-    subst (λ y. Takes p (line_text (codes "machines" ∷ decimal y.0 ∷ [])) y.1 × ((1 ≤ y.0) × (y.0 ≤ MOST_MACHINES))) (ok_is (m.0, l.0.1) x m.2) (text, (n.1, n.2))
+machines_line_takes p x h = number_line_takes (codes "machines") what.Machines MOST_MACHINES p x (omega arith) h
 
 -- the machines by what the environment fixes
 abbrev machines_from : Option ℕ → Place → Result (ℕ × Place) FileFault
@@ -179,11 +189,7 @@ machines_takes e p x h = by (fixed_machines e) (fixed_in e) h
     by None within h = let t = machines_line_takes p x h in (t.0, (t.1.0, t.1.1, tt))
 
 machines_line_again : (at machines : ℕ) (rest : List ℕ) → 1 ≤ machines → machines ≤ MOST_MACHINES → Gets (machines_line_at (record { at = at; rest = line_text (codes "machines" ∷ decimal machines ∷ []) ++ rest })) machines rest
-unfolding machines_line_at
-machines_line_again at machines rest low high =
-    let fields : AllByRecursion IsField (codes "machines" ∷ decimal machines ∷ []) = (record { no_space = refl; no_line_feed = refl }, (natural_field machines (omega arith), tt)) in
-    let line = worded_again (codes "machines") (decimal machines ∷ []) at rest fields in
-    (line.0, rw (line.1, natural_again at what.Machines 1 MOST_MACHINES machines (omega arith) low high) refl)
+machines_line_again at machines rest low high = number_line_again (codes "machines") what.Machines MOST_MACHINES at machines rest (record { no_space = refl; no_line_feed = refl }) (omega arith) low high
 
 pub machines_again : (i : Instance) (at : ℕ) (rest : List ℕ) → HasMachines i → Gets (machines_at i.class.env (record { at = at; rest = machines_text i.class.env i.machines ++ rest })) i.machines rest
 unfolding machines_at machines_text
@@ -288,15 +294,7 @@ abbrev pub IsShared : Times → ℕ → Type 0
 IsShared t shared = IsKeyed (has_time_line t) 1 GREATEST_EQUAL_TIME shared
 
 time_line_takes : (p : Place) (x : ℕ × Place) → time_line_at p ≡ Ok x → Takes p (line_text (codes "time" ∷ decimal x.0 ∷ [])) x.1 × ((1 ≤ x.0) × (x.0 ≤ GREATEST_EQUAL_TIME))
-unfolding time_line_at
-time_line_takes p x h =
-    let l = bind_ok (worded_at (codes "time") p) _ x h in
-    let t = provided_ok (length l.0.0 == 1) (Count p.at) _ x l.2 in
-    let m = bind_ok (natural_at p.at what.Time 1 GREATEST_EQUAL_TIME (first_of l.0.0)) _ x t.1 in
-    let n = natural_takes p.at what.Time 1 GREATEST_EQUAL_TIME (first_of l.0.0) m.0 (omega arith) m.1 in
-    let is : l.0.0 ≡ decimal m.0 ∷ [] = one_field l.0.0 t.0 ∙ ap (λ w. w ∷ []) n.0 in
-    let text : Takes p (line_text (codes "time" ∷ decimal m.0 ∷ [])) l.0.1 = subst (λ ws. Takes p (line_text (codes "time" ∷ ws)) l.0.1) is (worded_takes (codes "time") p l.0 l.1) in
-    subst (λ y. Takes p (line_text (codes "time" ∷ decimal y.0 ∷ [])) y.1 × ((1 ≤ y.0) × (y.0 ≤ GREATEST_EQUAL_TIME))) (ok_is (m.0, l.0.1) x m.2) (text, (n.1, n.2))
+time_line_takes p x h = number_line_takes (codes "time") what.Time GREATEST_EQUAL_TIME p x (omega arith) h
 
 abbrev time_by : Bool → Place → Result (ℕ × Place) FileFault
 time_by there p = if there then time_line_at p else Ok (1, p)
@@ -313,11 +311,7 @@ unfolding time_at time_text
 time_takes t p x h = time_by_takes (has_time_line t) p x h
 
 time_line_again : (at time : ℕ) (rest : List ℕ) → 1 ≤ time → time ≤ GREATEST_EQUAL_TIME → Gets (time_line_at (record { at = at; rest = line_text (codes "time" ∷ decimal time ∷ []) ++ rest })) time rest
-unfolding time_line_at
-time_line_again at time rest low high =
-    let fields : AllByRecursion IsField (codes "time" ∷ decimal time ∷ []) = (record { no_space = refl; no_line_feed = refl }, (natural_field time (omega arith), tt)) in
-    let line = worded_again (codes "time") (decimal time ∷ []) at rest fields in
-    (line.0, rw (line.1, natural_again at what.Time 1 GREATEST_EQUAL_TIME time (omega arith) low high) refl)
+time_line_again at time rest low high = number_line_again (codes "time") what.Time GREATEST_EQUAL_TIME at time rest (record { no_space = refl; no_line_feed = refl }) (omega arith) low high
 
 time_by_again : (there : Bool) (at time shared : ℕ) (rest : List ℕ) → IsKeyed there 1 GREATEST_EQUAL_TIME shared → (there ≡ true → time ≡ shared) → Gets (time_by there (record { at = at; rest = time_line there time ++ rest })) shared rest
 time_by_again true at time shared rest h e = rw (e refl) (time_line_again at shared rest h.0 h.1)

@@ -14,7 +14,7 @@ use Rattle.msp_job_name.specs.JobName.{IsJobName, AreDistinct}
 use Rattle.msp_grammar.specs.ScheduleText.{name_at}
 use Rattle.msp_grammar.specs.Layout.{has_order, has_times}
 use Rattle.msp_grammar.specs.InstanceText.{line_text, key_fields, job_fields, times_text, route_text, curve_text, job_text, jobs_text, arc_fields, arcs_text}
-use Rattle.msp_file.specs.Reading.{◌>>=◌, Place, line_at, fields_of, first_of, others_of, with_arc, arc_line_at, job_at_line, LineRead, job_read, arc_read, end_read, end_at, arc_or_end, job_step, ReadsJobs, job_then, arc_after, jobs_end, jobs_fault}
+use Rattle.msp_file.specs.Reading.{◌>>=◌, Place, line_at, fields_of, first_of, others_of, with_arc, arc_line_at, job_at_line, LineRead, job_read, more_read, end_read, end_at, arc_or_end, job_step, ReadsJobs, job_then, arc_after, jobs_end, jobs_fault}
 use Rattle.msp_job_name.proofs.NameLists.{same_bytes}
 use Rattle.msp_file.proofs.Apart.{apart_push, apart_before}
 use Rattle.msp_file.proofs.LineLaws.{bind_ok, ok_is, Takes, Gets, Takes-then, fields_takes}
@@ -107,24 +107,24 @@ no_arc : (names : List (List ℕ)) → AreArcs names []
 no_arc names = record { ends = All-nil (λ a. (a.before < length names) × (a.after < length names)); once = λ i j d less within. absurd (omega arith); few = omega arith }
 
 -- what is read of the fields of a line after the head or after a job
-abbrev job_next : Class → ℕ → ℕ → ℕ → Draft → List (List ℕ) → Place → Result LineRead FileFault
+abbrev job_next : Class → ℕ → ℕ → ℕ → Draft → List (List ℕ) → Place → Result (LineRead Draft) FileFault
 job_next c machines shared at d fields q =
     if bytes_eq (first_of fields) (codes "job")
     then (job_at_line c machines shared d at (others_of fields) q >>= λ more. Ok (job_read more.0 more.1))
     else arc_or_end (has_order c.order) at d fields q
 
 -- What a line after the head or after a job says.
-abbrev TakesLine : Class → ℕ → Draft → Place → LineRead → Type 0
+abbrev TakesLine : Class → ℕ → Draft → Place → LineRead Draft → Type 0
 TakesLine c shared d p (job_read e r) = (fields : List (List ℕ)) × (q : Place) × Takes p (line_text (codes "job" ∷ fields)) q × AddsJob c shared d fields q e r
-TakesLine c shared d p (arc_read e q) = TakesArc (has_order c.order) d p (arc_read e q)
+TakesLine c shared d p (more_read e q) = TakesArc (has_order c.order) d p (more_read e q)
 TakesLine c shared d p (end_read e q) = TakesArc (has_order c.order) d p (end_read e q)
 
-no_job_line : (c : Class) (shared : ℕ) (d : Draft) (p : Place) (next : LineRead) → TakesArc (has_order c.order) d p next → TakesLine c shared d p next
+no_job_line : (c : Class) (shared : ℕ) (d : Draft) (p : Place) (next : LineRead Draft) → TakesArc (has_order c.order) d p next → TakesLine c shared d p next
 no_job_line c shared d p (job_read e q) h = absurd h
-no_job_line c shared d p (arc_read e q) h = h
+no_job_line c shared d p (more_read e q) h = h
 no_job_line c shared d p (end_read e q) h = h
 
-job_step_takes : (c : Class) (machines shared : ℕ) (d : Draft) (p : Place) (next : LineRead) → machines ≤ MOST_MACHINES → job_step c machines shared d p ≡ Ok next → TakesLine c shared d p next
+job_step_takes : (c : Class) (machines shared : ℕ) (d : Draft) (p : Place) (next : LineRead Draft) → machines ≤ MOST_MACHINES → job_step c machines shared d p ≡ Ok next → TakesLine c shared d p next
 unfolding job_step
 job_step_takes c machines shared d p next bound e =
     let l = bind_ok (line_at p) _ next e in
@@ -139,7 +139,7 @@ job_step_takes c machines shared d p next bound e =
     line_by fields q t false is e = no_job_line c shared d p next (arc_or_end_takes (has_order c.order) p.at d fields p q next t e)
 
 -- the line of a draft that has no arcs
-job_line_of : (c : Class) (machines shared : ℕ) (names : List (List ℕ)) (jobs : List Job) (d : Draft) (p : Place) (next : LineRead) → machines ≤ MOST_MACHINES → d ≡ draft_of names jobs → job_step c machines shared d p ≡ Ok next → TakesLine c shared (draft_of names jobs) p next
+job_line_of : (c : Class) (machines shared : ℕ) (names : List (List ℕ)) (jobs : List Job) (d : Draft) (p : Place) (next : LineRead Draft) → machines ≤ MOST_MACHINES → d ≡ draft_of names jobs → job_step c machines shared d p ≡ Ok next → TakesLine c shared (draft_of names jobs) p next
 job_line_of c machines shared names jobs d p next bound same e = subst (λ (y : Draft). TakesLine c shared y p next) same (job_step_takes c machines shared d p next bound e)
 
 not_both : (b : Bool) → b ≡ true → b ≡ false → ⊥
@@ -150,7 +150,7 @@ jobs_take c machines shared names jobs d p read x bound fit same (job_then _ e _
     let t = job_line_of c machines shared names jobs d p (job_read e q) bound same step in
     then_job c shared names jobs t.0 e p t.1 q x t.2 t.3 fit (λ ns js also good. jobs_take c machines shared ns js e q read x bound good also rest is)
 jobs_take c machines shared names jobs d p read x bound fit same (arc_after _ e _ q _ step rest) is =
-    let t = job_line_of c machines shared names jobs d p (arc_read e q) bound same step in
+    let t = job_line_of c machines shared names jobs d p (more_read e q) bound same step in
     let a = then_arcs (draft_of names jobs) t.0 e p q x t.1 t.2 (no_arc names) (λ good. arcs_take e q read x good rest is) in
     only_arcs c shared names jobs p x.1 x.0 a fit (λ f. absurd (not_both (has_order c.order) t.3 f))
 jobs_take c machines shared names jobs d p read x bound fit same (jobs_end _ e _ q _ step ends) is =
@@ -180,7 +180,7 @@ unfolding job_step
 arcs_then i shared names jobs [] at rest apart spelled fit ordered =
     let l = line_then (job_next i.class i.machines shared at (draft_of names jobs)) at (codes "end") [] rest end_field in
     let q : Place = record { at = l.0; rest = rest } in
-    let last : job_next i.class i.machines shared at (draft_of names jobs) (codes "end" ∷ []) q ≡ Ok (end_read (draft_of names jobs) q) = neither (has_order i.class.order) (arc_line_at at (draft_of names jobs) [] >>= λ e. Ok (arc_read e q)) (Ok (end_read (draft_of names jobs) q)) in
+    let last : job_next i.class i.machines shared at (draft_of names jobs) (codes "end" ∷ []) q ≡ Ok (end_read (draft_of names jobs) q) = neither (has_order i.class.order) (arc_line_at at (draft_of names jobs) [] >>= λ e. Ok (more_read e q)) (Ok (end_read (draft_of names jobs) q)) in
     (l.0, jobs_end (draft_of names jobs) (draft_of names jobs) _ q _ (l.1 ∙ last) refl)
 arcs_then i shared names jobs (a ∷ more) at rest apart spelled fit ordered =
     let d : Draft = draft_of names jobs in
@@ -189,9 +189,9 @@ arcs_then i shared names jobs (a ∷ more) at rest apart spelled fit ordered =
     let left = (arcs_text names more ++ end_text) ++ rest in
     let l = line_then (job_next i.class i.machines shared at (draft_of names jobs)) at (codes "arc") fields left (arc_line_fields names a spelled in_range.0 in_range.1) in
     let q : Place = record { at = l.0; rest = left } in
-    let first : job_next i.class i.machines shared at (draft_of names jobs) (codes "arc" ∷ fields) q ≡ (arc_line_at at (draft_of names jobs) fields >>= λ e. Ok (arc_read e q)) = chosen (has_order i.class.order) (arc_line_at at (draft_of names jobs) fields >>= λ e. Ok (arc_read e q)) (end_at at (draft_of names jobs) (codes "arc" ∷ fields) q) (has_some (has_order i.class.order) a more ordered) in
+    let first : job_next i.class i.machines shared at (draft_of names jobs) (codes "arc" ∷ fields) q ≡ (arc_line_at at (draft_of names jobs) fields >>= λ e. Ok (more_read e q)) = chosen (has_order i.class.order) (arc_line_at at (draft_of names jobs) fields >>= λ e. Ok (more_read e q)) (end_at at (draft_of names jobs) (codes "arc" ∷ fields) q) (has_some (has_order i.class.order) a more ordered) in
     let one = arc_again at (draft_of names jobs) a apart spelled in_range.0 in_range.1 in_range.2 in_range.3 in
-    let step : job_step i.class i.machines shared (draft_of names jobs) (record { at = at; rest = (arcs_text names (a ∷ more) ++ end_text) ++ rest }) ≡ Ok (arc_read (with_arc (draft_of names jobs) a.before a.after) q) = ap (λ (b : List ℕ). job_step i.class i.machines shared (draft_of names jobs) (record { at = at; rest = b })) (regroup (line_text (arc_fields names a)) (arcs_text names more) end_text rest) ∙ l.1 ∙ first ∙ ap (λ r. r >>= λ e. Ok (arc_read e q)) one in
+    let step : job_step i.class i.machines shared (draft_of names jobs) (record { at = at; rest = (arcs_text names (a ∷ more) ++ end_text) ++ rest }) ≡ Ok (more_read (with_arc (draft_of names jobs) a.before a.after) q) = ap (λ (b : List ℕ). job_step i.class i.machines shared (draft_of names jobs) (record { at = at; rest = b })) (regroup (line_text (arc_fields names a)) (arcs_text names more) end_text rest) ∙ l.1 ∙ first ∙ ap (λ r. r >>= λ e. Ok (more_read e q)) one in
     let g = arcs_again more (with_arc (draft_of names jobs) a.before a.after) l.0 rest apart spelled in_range.4 in
     (g.0, arc_after (draft_of names jobs) (with_arc (draft_of names jobs) a.before a.after) _ q _ step g.1)
 

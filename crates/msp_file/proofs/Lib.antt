@@ -17,3 +17,5 @@ pub mod TextLaws
 mod AnswerLaws
 mod LineCounts
 mod FrontLaws
+mod CostReading
+mod ScheduleLaws

@@ -17,9 +17,10 @@ use Rattle.msp_grammar.specs.declared.filed.Filed.{Filed}
 use Rattle.msp_grammar.specs.Layout.{has_order}
 use Rattle.msp_file.specs.declared.fault.FileFault.{FileFault}
 use Rattle.msp_file.specs.declared.fault.FileFault.TheVariants.{Limit, Missing, Cut, Line, Count}
+use Rattle.msp_file.specs.declared.fault.What.{What}
 use Rattle.msp_file.specs.declared.fault.What.TheVariants as what
 use Rattle.msp_file.specs.declared.draft.Draft.{Draft}
-use Rattle.msp_file.specs.Reading.{◌>>=◌, provided, Place, line_at, fields_of, first_of, others_of, worded_at, times_line_at, operations_in, is_route_count, route_line_at, steps_in, needs_at, curve_line_at, curve_at, job_at_line, arc_line_at, LineRead, job_read, arc_read, end_read, arc_or_end, arc_step, job_step, ReadsArcs, arc_then, arcs_end, arcs_fault, ReadsJobs, job_then, arc_after, jobs_end, jobs_fault, Then, OnlyWhere, ReadsRest, ReadsLines, no_draft, version_at, class_at, machines_line_at, machines_at, speeds_line_at, speeds_at, time_line_at, time_at}
+use Rattle.msp_file.specs.Reading.{◌>>=◌, provided, Place, line_at, fields_of, first_of, others_of, worded_at, times_line_at, operations_in, is_route_count, route_line_at, steps_in, needs_at, curve_line_at, curve_at, job_at_line, arc_line_at, LineRead, job_read, more_read, end_read, arc_or_end, arc_step, job_step, ReadsArcs, more_then, more_end, more_fault, ReadsJobs, job_then, arc_after, jobs_end, jobs_fault, Then, OnlyWhere, ReadsRest, ReadsLines, no_draft, version_at, class_at, number_line_at, machines_line_at, machines_at, speeds_line_at, speeds_at, time_at}
 
 -- The lines in what is left of a text.
 abbrev pub feeds : List ℕ → ℕ
@@ -42,9 +43,9 @@ after x = x.1
 abbrev place : Place → Place
 place p = p
 
-abbrev after_line : LineRead → Place
+abbrev after_line : LineRead Draft → Place
 after_line (job_read d p) = p
-after_line (arc_read d p) = p
+after_line (more_read d p) = p
 after_line (end_read d p) = p
 
 stays : {A : Type 0} (left : A → Place) (p : Place) (x : A) → left x ≡ p → Counts left p (Ok x)
@@ -150,13 +151,13 @@ fails : {A : Type 0} (left : A → Place) (p : Place) (r : Result A FileFault) (
 fails left p r e is = record { same = λ y h. absurd cc }
 
 arcs : (d : Draft) (p : Place) (r : Result (Draft × Place) FileFault) → ReadsArcs d p r → Counts after p r
-arcs d p r (arc_then _ e _ q _ step rest) = along after p q r ((after_arc d p).same (arc_read e q) step) (arcs e q r rest)
-arcs d p r (arcs_end _ e _ q _ step is) = ends after p r (e, q) is ((after_arc d p).same (end_read e q) step)
-arcs d p r (arcs_fault _ _ _ fault step is) = fails after p r fault is
+arcs d p r (more_then _ e _ q _ step rest) = along after p q r ((after_arc d p).same (more_read e q) step) (arcs e q r rest)
+arcs d p r (more_end _ e _ q _ step is) = ends after p r (e, q) is ((after_arc d p).same (end_read e q) step)
+arcs d p r (more_fault _ _ _ fault step is) = fails after p r fault is
 
 jobs : (c : Class) (machines shared : ℕ) (d : Draft) (p : Place) (r : Result (Draft × Place) FileFault) → ReadsJobs c machines shared d p r → Counts after p r
 jobs c machines shared d p r (job_then _ e _ q _ step rest) = along after p q r ((after_job c machines shared d p).same (job_read e q) step) (jobs c machines shared e q r rest)
-jobs c machines shared d p r (arc_after _ e _ q _ step rest) = along after p q r ((after_job c machines shared d p).same (arc_read e q) step) (arcs e q r rest)
+jobs c machines shared d p r (arc_after _ e _ q _ step rest) = along after p q r ((after_job c machines shared d p).same (more_read e q) step) (arcs e q r rest)
 jobs c machines shared d p r (jobs_end _ e _ q _ step is) = ends after p r (e, q) is ((after_job c machines shared d p).same (end_read e q) step)
 jobs c machines shared d p r (jobs_fault _ _ _ fault step is) = fails after p r fault is
 
@@ -170,9 +171,9 @@ class_line : (p : Place) → Counts after p (class_at p)
 unfolding class_at
 class_line p = goes after after p (line_at p) _ (line p) (λ l. within after l.1 _ _ (λ c. stays after l.1 _ refl))
 
-machines_line : (p : Place) → Counts after p (machines_line_at p)
-unfolding machines_line_at
-machines_line p = goes after after p (worded_at (codes "machines") p) _ (worded _ p) (λ l. given after l.1 _ _ _ (within after l.1 _ _ (λ m. stays after l.1 _ refl)))
+number_line : (word : List ℕ) (q : What) (greatest : ℕ) (p : Place) → Counts after p (number_line_at word q greatest p)
+unfolding number_line_at
+number_line word q greatest p = goes after after p (worded_at word p) _ (worded word p) (λ l. given after l.1 _ _ _ (within after l.1 _ _ (λ m. stays after l.1 _ refl)))
 
 machines : (e : Env) (p : Place) → Counts after p (machines_at e p)
 unfolding machines_at
@@ -180,7 +181,7 @@ machines e p = by (fixed_machines e)
   where
     by : (o : Option ℕ) → Counts {A = ℕ × Place} after p (elim o [ Some machines ↦ Ok (machines, p) | None ↦ machines_line_at p ])
     by (Some m) = stays after p _ refl
-    by None = machines_line p
+    by None = number_line _ _ _ p
 
 speeds_line : (machines : ℕ) (p : Place) → Counts after p (speeds_line_at machines p)
 unfolding speeds_line_at
@@ -190,13 +191,9 @@ speeds : (e : Env) (machines : ℕ) (p : Place) → Counts after p (speeds_at e 
 unfolding speeds_at
 speeds e machines p = either after p _ _ _ (speeds_line machines p) (stays after p _ refl)
 
-time_line : (p : Place) → Counts after p (time_line_at p)
-unfolding time_line_at
-time_line p = goes after after p (worded_at (codes "time") p) _ (worded _ p) (λ l. given after l.1 _ _ _ (within after l.1 _ _ (λ time. stays after l.1 _ refl)))
-
 time : (t : Times) (p : Place) → Counts after p (time_at t p)
 unfolding time_at
-time t p = either after p _ _ _ (time_line p) (stays after p _ refl)
+time t p = either after p _ _ _ (number_line _ _ _ p) (stays after p _ refl)
 
 then_counts : {A B : Type 0} (left : A → Place) (last : B → Place) (p : Place) (first : Result A FileFault) (next : A → Result B FileFault → Type 0) (r : Result B FileFault) → Counts left p first → ((x : A) → next x r → Counts last (left x) r) → Then first next r → Counts last p r
 then_counts left last p (Ok x) next r h k t = along last p (left x) r (h.same x refl) (k x t)

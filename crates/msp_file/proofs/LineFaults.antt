@@ -1,5 +1,5 @@
 -- Reading lines gives faults of lines alone.
-use Rattle.std.proofs.Common.{◌≡◌, ◌⊎◌, ℕ, inl, inr, ap, sym, ◌+◌, Bool, true, false, ◌&&◌, ◌==◌, List, [], ◌∷◌, length, Option, None, Some, Result, Ok, Err, ok_or, position, bytes_eq, codes, ℤ, pos, negsuc, refl, subst, take, drop, if◌then◌else◌}
+use Rattle.std.proofs.Common.{◌≡◌, ◌⊎◌, ℕ, inl, inr, ap, sym, ◌+◌, nat_le, Bool, true, false, ◌&&◌, ◌==◌, List, [], ◌∷◌, length, Option, None, Some, Result, Ok, Err, ok_or, position, bytes_eq, codes, ℤ, pos, negsuc, unsigned_abs, nat_lt, refl, subst, take, drop, if◌then◌else◌}
 use Rattle.msp_class.specs.Env.{fixed_machines}
 use Rattle.msp_class.specs.declared.class.Class.{Class}
 use Rattle.msp_class.specs.declared.class.Env.{Env}
@@ -8,17 +8,25 @@ use Rattle.msp_class.specs.declared.class.Times.{Times}
 use Rattle.msp_instance.specs.declared.Need.{Need}
 use Rattle.msp_instance.specs.declared.Step.{Step}
 use Rattle.msp_name.specs.Reading.{reading_of}
-use Rattle.msp_instance.specs.declared.ranges.TheConstants.{GREATEST, GREATEST_SPEED, GREATEST_EQUAL_TIME, MOST_MACHINES}
+use Rattle.msp_instance.specs.declared.ranges.TheConstants.{GREATEST, GREATEST_SPEED, MOST_MACHINES}
+use Rattle.msp_class.specs.declared.environments.TheConstants.{MOST_OPERATIONS}
+use Rattle.msp_schedule.specs.declared.limits.TheConstants.{MOST_PIECES}
+use Rattle.msp_schedule.specs.declared.Piece.{Piece}
+use Rattle.msp_grammar.specs.declared.limits.TheConstants.{GREATEST_COST, GREATEST_DENOMINATOR}
+use Rattle.msp_file.specs.declared.schedule.Stated.{Stated}
+use Rattle.msp_file.specs.ScheduleReading.{title_at, denominator_at, cost_in, cost_at, unit_at, moment_at, span_at, place_at, piece_at, piece_line_at, piece_step, IsStatedAs, ReadsPieces, ReadsStated, ReadsSchedule}
+use Rattle.msp_file.specs.ScheduleAnswers.{IsScheduleFault}
 use Rattle.msp_file.specs.declared.fault.What.{What}
 use Rattle.msp_file.specs.declared.fault.FileFault.{FileFault}
-use Rattle.msp_file.specs.declared.fault.FileFault.TheVariants.{Class as ClassBroken, Cycle, Memory, After, Missing, Cut, Limit}
+use Rattle.msp_file.specs.declared.fault.FileFault.TheVariants.{Class as ClassBroken, Cycle, Memory, After, Head, Missing, Cut, Line, Count, Key, Name, Number, Limit, Again, ArcAgain, Unknown}
 use Rattle.msp_file.specs.declared.fault.What.TheVariants as what
 use Rattle.msp_instance.specs.Conditions.{HasSmallMultiple}
 use Rattle.msp_file.specs.declared.draft.Draft.{Draft}
 use Rattle.msp_grammar.specs.declared.filed.Filed.{Filed}
+use Rattle.msp_job_name.specs.declared.job_name.TheConstants.{LONGEST_NAME}
 use Rattle.msp_text.specs.Numbers.{number_of}
 use Rattle.msp_grammar.specs.Layout.{has_order}
-use Rattle.msp_file.specs.Reading.{first_of, others_of, ◌>>=◌, provided, Place, line_at, fields_of, worded_at, natural_in, natural_at, integer_at, job_name_at, known_at, keyed_at, natural_key_at, integer_key_at, keys_at, job_line_at, with_need, times_at, times_line_at, machine_at, timed_route_at, machine_route_at, operations_at, route_line_at, needs_at, with_step, steps_at, curve_fields_at, curve_line_at, curve_at, job_at_line, arc_line_at, end_at, arc_or_end, arc_step, job_step, ReadsArcs, arc_then, arcs_end, arcs_fault, ReadsJobs, job_then, arc_after, jobs_end, jobs_fault, Then, OnlyWhere, ReadsRest, ReadsLines, ReadsFront, start_of, all_of, front_of, Reads, no_draft, version_at, class_in, spelled_class, class_at, machines_line_at, machines_at, speeds_in, speeds_line_at, speeds_at, time_line_at, time_at}
+use Rattle.msp_file.specs.Reading.{first_of, others_of, ◌>>=◌, provided, Place, line_at, fields_of, worded_at, natural_in, natural_at, ordinal_at, number_line_at, integer_at, is_name_text, job_name_at, known_at, keyed_at, natural_key_at, integer_key_at, keys_at, job_line_at, with_need, times_at, times_line_at, machine_at, timed_route_at, machine_route_at, operations_at, route_line_at, needs_at, with_step, steps_at, curve_fields_at, curve_line_at, curve_at, job_at_line, arc_line_at, end_at, arc_or_end, arc_step, job_step, LineRead, end_read, ReadsMore, ReadsArcs, more_then, more_end, more_fault, ReadsJobs, job_then, arc_after, jobs_end, jobs_fault, Then, OnlyWhere, ReadsRest, ReadsLines, ReadsFront, start_of, all_of, front_of, Reads, no_draft, version_at, class_in, spelled_class, class_at, machines_line_at, machines_at, speeds_in, speeds_line_at, speeds_at, time_line_at, time_at}
 
 -- The fault is one of a line.
 abbrev pub IsLineFault : FileFault → Type 0
@@ -28,63 +36,130 @@ IsLineFault Memory = ⊥
 IsLineFault (After at) = ⊥
 IsLineFault _ = Unit {0}
 
-pub record InLines {A : Type 0} (r : Result A FileFault) : Type 0 where
-  pub fault : (e : FileFault) → r ≡ Err e → IsLineFault e
+-- A fault of a line that texts of every kind can have.
+abbrev pub IsPlainFault : FileFault → Type 0
+IsPlainFault (Missing at) = Unit {0}
+IsPlainFault (Cut at) = Unit {0}
+IsPlainFault (Line at) = Unit {0}
+IsPlainFault (Count at) = Unit {0}
+IsPlainFault (Name at) = Unit {0}
+IsPlainFault (Number at) = Unit {0}
+IsPlainFault (Limit at quantity) = Unit {0}
+IsPlainFault (Unknown at) = Unit {0}
+IsPlainFault _ = ⊥
 
-fine : {A : Type 0} (x : A) → InLines (Ok x)
-fine x = record { fault = λ e h. absurd cc }
+-- The faults of what is read are all of this kind.
+pub record InBy (P : FileFault → Type 0) {A : Type 0} (r : Result A FileFault) : Type 0 where
+  pub fault : (e : FileFault) → r ≡ Err e → P e
 
-bad : {A : Type 0} (e : FileFault) → IsLineFault e → InLines {A = A} (Err e)
-bad {A} e h = record { fault = λ d k. let same : e ≡ d = cc in subst IsLineFault same h }
+abbrev pub InLines : {A : Type 0} → Result A FileFault → Type 0
+InLines r = InBy IsLineFault r
 
-chain : {A B : Type 0} (r : Result A FileFault) (f : A → Result B FileFault) → InLines r → ((x : A) → InLines (f x)) → InLines (r >>= f)
-chain (Ok x) f h k = k x
-chain (Err e) f h k = bad e (h.fault e refl)
+abbrev pub IsPlain : {A : Type 0} → Result A FileFault → Type 0
+IsPlain r = InBy IsPlainFault r
 
-given : {A : Type 0} (b : Bool) (e : FileFault) (r : Result A FileFault) → IsLineFault e → InLines r → InLines (provided b e r)
-given true e r h k = k
-given false e r h k = bad e h
+module _ {P : FileFault → Type 0} where
+  fine : {A : Type 0} (x : A) → InBy P (Ok x)
+  fine x = record { fault = λ e h. absurd cc }
 
-or_fault : {A : Type 0} (o : Option A) (e : FileFault) → IsLineFault e → InLines (ok_or o e)
-or_fault None e h = bad e h
-or_fault (Some x) e h = fine x
+  bad : {A : Type 0} (e : FileFault) → P e → InBy P {A = A} (Err e)
+  bad {A} e h = record { fault = λ d k. let same : e ≡ d = cc in subst P same h }
 
-either : {A : Type 0} (b : Bool) (r s : Result A FileFault) → InLines r → InLines s → InLines (if b then r else s)
-either true r s h k = h
-either false r s h k = k
+  chain : {A B : Type 0} (r : Result A FileFault) (f : A → Result B FileFault) → InBy P r → ((x : A) → InBy P (f x)) → InBy P (r >>= f)
+  chain (Ok x) f h k = k x
+  chain (Err e) f h k = bad e (h.fault e refl)
 
-line : (p : Place) → InLines (line_at p)
+  given : {A : Type 0} (b : Bool) (e : FileFault) (r : Result A FileFault) → P e → InBy P r → InBy P (provided b e r)
+  given true e r h k = k
+  given false e r h k = bad e h
+
+  or_fault : {A : Type 0} (o : Option A) (e : FileFault) → P e → InBy P (ok_or o e)
+  or_fault None e h = bad e h
+  or_fault (Some x) e h = fine x
+
+  either : {A : Type 0} (b : Bool) (r s : Result A FileFault) → InBy P r → InBy P s → InBy P (if b then r else s)
+  either true r s h k = h
+  either false r s h k = k
+
+plain_is : (e : FileFault) → IsPlainFault e → IsLineFault e
+plain_is (ClassBroken fault name) h = h
+plain_is (Cycle job name) h = h
+plain_is Memory h = h
+plain_is (After at) h = h
+plain_is (Head at) h = tt
+plain_is (Missing at) h = tt
+plain_is (Cut at) h = tt
+plain_is (Line at) h = tt
+plain_is (Count at) h = tt
+plain_is (Key at) h = tt
+plain_is (Name at) h = tt
+plain_is (Number at) h = tt
+plain_is (Limit at quantity) h = tt
+plain_is (Again at) h = tt
+plain_is (ArcAgain at) h = tt
+plain_is (Unknown at) h = tt
+
+widen : {A : Type 0} (r : Result A FileFault) → IsPlain r → InLines r
+widen r h = record { fault = λ e k. plain_is e (h.fault e k) }
+
+line_plain : (p : Place) → IsPlain (line_at p)
 unfolding line_at
-line p = by (position (λ x. x == 10) p.rest) p.rest
+line_plain p = by (position (λ x. x == 10) p.rest) p.rest
   where
-    by : (o : Option ℕ) (rest : List ℕ) → InLines {A = List ℕ × Place} (elim o [ Some k ↦ Ok (take k p.rest, record { at = p.at + 1; rest = drop (k + 1) p.rest }) | None ↦ Err (elim rest [ [] ↦ Missing p.at | _ ∷ _ ↦ Cut p.at ]) ])
+    by : (o : Option ℕ) (rest : List ℕ) → IsPlain {A = List ℕ × Place} (elim o [ Some k ↦ Ok (take k p.rest, record { at = p.at + 1; rest = drop (k + 1) p.rest }) | None ↦ Err (elim rest [ [] ↦ Missing p.at | _ ∷ _ ↦ Cut p.at ]) ])
     by (Some k) rest = fine _
     by None [] = bad _ tt
     by None (x ∷ xs) = bad _ tt
 
-worded : (word : List ℕ) (p : Place) → InLines (worded_at word p)
+worded_plain : (word : List ℕ) (p : Place) → IsPlain (worded_at word p)
 unfolding worded_at
-worded word p = chain (line_at p) _ (line p) (λ l. given _ _ _ tt (fine _))
+worded_plain word p = chain (line_at p) _ (line_plain p) (λ l. given _ _ _ tt (fine _))
 
-natural_range : (at : ℕ) (q : What) (least greatest : ℕ) (x : ℤ) → InLines (natural_in at q least greatest x)
+natural_range : (at : ℕ) (q : What) (least greatest : ℕ) (x : ℤ) → IsPlain (natural_in at q least greatest x)
 natural_range at q least greatest (pos n) = given _ _ _ tt (fine n)
 natural_range at q least greatest (negsuc n) = bad _ tt
 
-natural : (at : ℕ) (q : What) (least greatest : ℕ) (w : List ℕ) → InLines (natural_at at q least greatest w)
+natural_plain : (at : ℕ) (q : What) (least greatest : ℕ) (w : List ℕ) → IsPlain (natural_at at q least greatest w)
 unfolding natural_at
-natural at q least greatest w = chain _ _ (or_fault (number_of w) _ tt) (natural_range at q least greatest)
+natural_plain at q least greatest w = chain _ _ (or_fault (number_of w) _ tt) (natural_range at q least greatest)
+
+ordinal_plain : (at : ℕ) (q : What) (most : ℕ) (w : List ℕ) → IsPlain (ordinal_at at q most w)
+unfolding ordinal_at
+ordinal_plain at q most w = chain _ _ (natural_plain at q 1 most w) (λ n. fine _)
+
+number_line_plain : (word : List ℕ) (q : What) (greatest : ℕ) (p : Place) → IsPlain (number_line_at word q greatest p)
+unfolding number_line_at
+number_line_plain word q greatest p = chain _ _ (worded_plain word p) (λ l. given _ _ _ tt (chain _ _ (natural_plain p.at q 1 greatest _) (λ n. fine _)))
+
+named_plain : (at : ℕ) (w : List ℕ) → IsPlain (job_name_at at w)
+unfolding job_name_at
+named_plain at w = given (is_name_text w) (Name at) _ tt (given (nat_le (length w) LONGEST_NAME) (Limit at what.Name) _ tt (fine w))
+
+known_plain : (at : ℕ) (names : List (List ℕ)) (w : List ℕ) → IsPlain (known_at at names w)
+unfolding known_at
+known_plain at names w = chain _ _ (named_plain at w) (λ name. or_fault (position (bytes_eq name) names) _ tt)
+
+end_plain : {A : Type 0} (at : ℕ) (d : A) (fields : List (List ℕ)) (p : Place) → IsPlain (end_at at d fields p)
+end_plain at d fields p = given (bytes_eq (first_of fields) (codes "end")) (Line at) _ tt (given (length fields == 1) (Count at) _ tt (fine (end_read d p)))
+
+line : (p : Place) → InLines (line_at p)
+line p = widen _ (line_plain p)
+
+worded : (word : List ℕ) (p : Place) → InLines (worded_at word p)
+worded word p = widen _ (worded_plain word p)
+
+natural : (at : ℕ) (q : What) (least greatest : ℕ) (w : List ℕ) → InLines (natural_at at q least greatest w)
+natural at q least greatest w = widen _ (natural_plain at q least greatest w)
 
 integer : (at : ℕ) (q : What) (greatest : ℕ) (w : List ℕ) → InLines (integer_at at q greatest w)
 unfolding integer_at
 integer at q greatest w = chain _ _ (or_fault (number_of w) _ tt) (λ x. given _ _ _ tt (fine x))
 
 named : (at : ℕ) (w : List ℕ) → InLines (job_name_at at w)
-unfolding job_name_at
-named at w = search (given, fine)
+named at w = widen _ (named_plain at w)
 
 known : (at : ℕ) (names : List (List ℕ)) (w : List ℕ) → InLines (known_at at names w)
-unfolding known_at
-known at names w = chain _ _ (named at w) (λ name. or_fault (position (bytes_eq name) names) _ tt)
+known at names w = widen _ (known_plain at names w)
 
 keyed : (at letter : ℕ) (w : List ℕ) → InLines (keyed_at at letter w)
 keyed at letter [] = bad _ tt
@@ -123,8 +198,7 @@ unfolding times_line_at
 times_line least machines p = chain _ _ (worded _ p) (λ l. given _ _ _ tt (chain _ _ (times p.at _ [] l.0) (λ needs. fine _)))
 
 machine : (at machines : ℕ) (w : List ℕ) → InLines (machine_at at machines w)
-unfolding machine_at
-machine at machines w = chain _ _ (natural at _ 1 machines w) (λ q. fine _)
+machine at machines w = widen _ (ordinal_plain at what.Machines machines w)
 
 timed_route : (at machines : ℕ) (needs : List Need) (fields : List (List ℕ)) → InLines (timed_route_at at machines needs fields)
 unfolding timed_route_at
@@ -176,7 +250,7 @@ unfolding arc_line_at
 arc_line at d fields = search (given, chain, known, fine) depth 9
 
 end_line : (at : ℕ) (d : Draft) (fields : List (List ℕ)) (p : Place) → InLines (end_at at d fields p)
-end_line at d fields p = search (given, fine)
+end_line at d fields p = widen _ (end_plain at d fields p)
 
 arc_or_last : (may : Bool) (at : ℕ) (d : Draft) (fields : List (List ℕ)) (p : Place) → InLines (arc_or_end may at d fields p)
 arc_or_last may at d fields p = either (may && bytes_eq (first_of fields) (codes "arc")) _ _ (chain (arc_line_at at d (others_of fields)) _ (arc_line at d (others_of fields)) (λ e. fine _)) (end_line at d fields p)
@@ -193,16 +267,19 @@ after_job c machines shared d p =
     either (bytes_eq (first_of fields) (codes "job")) _ _ (chain (job_at_line c machines shared d p.at (others_of fields) l.1) _ (job c machines shared d p.at (others_of fields) l.1) (λ e. fine _)) (arc_or_last (has_order c.order) p.at d fields l.1))
 
 -- what was read is a value, or a fault of a line
-is_fine : {A : Type 0} (r : Result A FileFault) (x : A) → r ≡ Ok x → InLines r
-is_fine r x e = subst InLines (sym e) (fine x)
+is_fine : {P : FileFault → Type 0} {A : Type 0} (r : Result A FileFault) (x : A) → r ≡ Ok x → InBy P r
+is_fine {P} r x e = subst (InBy P) (sym e) (fine x)
 
-is_bad : {A B : Type 0} (r : Result A FileFault) (step : Result B FileFault) (e : FileFault) → InLines step → step ≡ Err e → r ≡ Err e → InLines r
-is_bad r step e h k is = subst InLines (sym is) (bad e (h.fault e k))
+is_bad : {P : FileFault → Type 0} {A B : Type 0} (r : Result A FileFault) (step : Result B FileFault) (e : FileFault) → InBy P step → step ≡ Err e → r ≡ Err e → InBy P r
+is_bad {P} r step e h k is = subst (InBy P) (sym is) (bad e (h.fault e k))
+
+more : {P : FileFault → Type 0} {A : Type 0} (step : A → Place → Result (LineRead A) FileFault) → ((d : A) (p : Place) → InBy P (step d p)) → (d : A) (p : Place) (r : Result (A × Place) FileFault) → ReadsMore step d p r → InBy P r
+more step h d p r (more_then _ e _ q _ one rest) = more step h e q r rest
+more step h d p r (more_end _ e _ q _ one is) = is_fine r (e, q) is
+more step h d p r (more_fault _ _ _ fault one is) = is_bad r (step d p) fault (h d p) one is
 
 arcs : (d : Draft) (p : Place) (r : Result (Draft × Place) FileFault) → ReadsArcs d p r → InLines r
-arcs d p r (arc_then _ e _ q _ step rest) = arcs e q r rest
-arcs d p r (arcs_end _ e _ q _ step is) = is_fine r (e, q) is
-arcs d p r (arcs_fault _ _ _ fault step is) = is_bad r (arc_step d p) fault (after_arc d p) step is
+arcs d p r h = more arc_step after_arc d p r h
 
 jobs : (c : Class) (machines shared : ℕ) (d : Draft) (p : Place) (r : Result (Draft × Place) FileFault) → ReadsJobs c machines shared d p r → InLines r
 jobs c machines shared d p r (job_then _ e _ q _ step rest) = jobs c machines shared e q r rest
@@ -229,8 +306,7 @@ unfolding class_at
 class_line p = chain _ _ (line p) (λ l. chain _ _ (class_fields p.at (fields_of l.0)) (λ c. fine _))
 
 machines_line : (p : Place) → InLines (machines_line_at p)
-unfolding machines_line_at
-machines_line p = chain _ _ (worded _ p) (λ l. given _ _ _ tt (chain _ _ (natural p.at _ 1 MOST_MACHINES _) (λ m. fine _)))
+machines_line p = widen _ (number_line_plain _ _ _ p)
 
 machines_read : (e : Env) (p : Place) → InLines (machines_at e p)
 unfolding machines_at
@@ -254,14 +330,13 @@ unfolding speeds_at
 speeds_read e machines p = either _ _ _ (speeds_line machines p) (fine _)
 
 time_line : (p : Place) → InLines (time_line_at p)
-unfolding time_line_at
-time_line p = chain _ _ (worded _ p) (λ l. given _ _ _ tt (chain _ _ (natural p.at _ 1 GREATEST_EQUAL_TIME _) (λ time. fine _)))
+time_line p = widen _ (number_line_plain _ _ _ p)
 
 time_read : (t : Times) (p : Place) → InLines (time_at t p)
 unfolding time_at
 time_read t p = either _ _ _ (time_line p) (fine _)
 
-then_in : {A B : Type 0} (first : Result A FileFault) (next : A → Result B FileFault → Type 0) (r : Result B FileFault) → InLines first → ((x : A) → next x r → InLines r) → Then first next r → InLines r
+then_in : {P : FileFault → Type 0} {A B : Type 0} (first : Result A FileFault) (next : A → Result B FileFault → Type 0) (r : Result B FileFault) → InBy P first → ((x : A) → next x r → InBy P r) → Then first next r → InBy P r
 then_in (Ok x) next r h k t = k x t
 then_in (Err e) next r h k t = is_bad r (Err e) e h refl t
 
@@ -302,3 +377,105 @@ front b e h = by h.lines (lines_in (start_of b) h.lines h.reads) h.is
     by : (lines : Result (Filed × Place) FileFault) → InLines lines → Err e ≡ (lines >>= front_of) → IsLineFault e
     by (Err d) k is = let same : d ≡ e = cc in k.fault e (ap Err same)
     by (Ok x) k is = absurd cc
+
+-- ---- schedules
+
+title : (p : Place) → IsPlain (title_at p)
+unfolding title_at
+title p = chain _ _ (worded_plain _ p) (λ l. given _ _ _ tt (fine _))
+
+denominator : (at : ℕ) (ws : List (List ℕ)) → IsPlain (denominator_at at ws)
+denominator at [] = fine _
+denominator at (w ∷ []) = or_fault (number_of w) _ tt
+denominator at (w ∷ v ∷ ws) = bad _ tt
+
+cost_fields : (at : ℕ) (w : List ℕ) → IsPlain (cost_in at w)
+unfolding cost_in
+cost_fields at w =
+    chain _ _ (or_fault (number_of _) _ tt) (λ x.
+    chain _ _ (denominator at _) (λ y.
+    given (nat_le (unsigned_abs x) GREATEST_COST) (Limit at what.Cost) _ tt (chain _ _ (natural_range at what.Cost 1 GREATEST_DENOMINATOR y) (λ d. fine _))))
+
+cost : (p : Place) → IsPlain (cost_at p)
+unfolding cost_at
+cost p = chain _ _ (worded_plain _ p) (λ l. given _ _ _ tt (chain _ _ (cost_fields p.at _) (λ x. fine _)))
+
+unit : (p : Place) → IsPlain (unit_at p)
+unfolding unit_at
+unit p = chain _ _ (number_line_plain _ _ _ p) (λ u. fine _)
+
+moment : (at : ℕ) (w : List ℕ) → IsPlain (moment_at at w)
+unfolding moment_at
+moment at w = chain _ _ (natural_plain at _ 0 _ w) (λ m. fine _)
+
+span : (at : ℕ) (fields : List (List ℕ)) → IsPlain (span_at at fields)
+unfolding span_at
+span at fields = chain _ _ (moment at _) (λ from. chain _ _ (moment at _) (λ to. fine _))
+
+piece_place : (at : ℕ) (fields : List (List ℕ)) → IsPlain (place_at at fields)
+unfolding place_at
+piece_place at fields = chain _ _ (ordinal_plain at _ MOST_OPERATIONS _) (λ op. chain _ _ (ordinal_plain at _ MOST_MACHINES _) (λ machine. fine _))
+
+piece : (names : List (List ℕ)) (at : ℕ) (fields : List (List ℕ)) → IsPlain (piece_at names at fields)
+unfolding piece_at
+piece names at fields = chain _ _ (known_plain at names _) (λ job. chain _ _ (piece_place at _) (λ place. chain _ _ (span at _) (λ s. fine _)))
+
+piece_line : (names : List (List ℕ)) (at : ℕ) (pieces : List Piece) (fields : List (List ℕ)) → IsPlain (piece_line_at names at pieces fields)
+unfolding piece_line_at
+piece_line names at pieces fields =
+    given (nat_lt (length pieces) MOST_PIECES) (Limit at what.Pieces) _ tt (
+    given (length fields == 5) (Count at) _ tt (chain _ _ (piece names at fields) (λ p. fine _)))
+
+after_piece : (names : List (List ℕ)) (pieces : List Piece) (p : Place) → IsPlain (piece_step names pieces p)
+unfolding piece_step
+after_piece names pieces p =
+    chain (line_at p) _ (line_plain p) (λ l.
+    let fields = fields_of l.0 in
+    either (bytes_eq (first_of fields) (codes "piece")) _ _ (chain (piece_line_at names p.at pieces (others_of fields)) _ (piece_line names p.at pieces (others_of fields)) (λ e. fine _)) (end_plain p.at pieces fields l.1))
+
+stated_in : (x : ℤ × ℤ) (unit : ℤ) (lines : Result (List Piece × Place) FileFault) (r : Result (Stated × Place) FileFault) → IsPlain lines → IsStatedAs x unit lines r → IsPlain r
+stated_in x unit (Ok line) (Ok s) h k = fine s
+stated_in x unit (Err e) (Err d) h k = bad d (h.fault d (ap Err (sym k)))
+stated_in x unit (Ok line) (Err d) h k = absurd k
+stated_in x unit (Err e) (Ok s) h k = absurd k
+
+pieces_in : (names : List (List ℕ)) (x : ℤ × ℤ) (unit : ℤ) (p : Place) (r : Result (Stated × Place) FileFault) → ReadsPieces names x unit p r → IsPlain r
+pieces_in names x unit p r h = stated_in x unit h.lines r (more (piece_step names) (after_piece names) [] p h.lines h.reads) h.stated
+
+stated : (names : List (List ℕ)) (p : Place) (r : Result (Stated × Place) FileFault) → ReadsStated names p r → IsPlain r
+unfolding ReadsStated
+stated names p r h =
+    then_in (title_at p) _ r (title p) (λ (p : Place).
+    then_in (cost_at p) _ r (cost p) (λ (x : (ℤ × ℤ) × Place).
+    then_in (unit_at x.1) _ r (unit x.1) (λ (u : ℤ × Place).
+    pieces_in names x.0 u.0 u.1 r))) h
+
+plain_schedule : (e : FileFault) → IsPlainFault e → IsScheduleFault e
+plain_schedule (ClassBroken fault name) h = h
+plain_schedule (Cycle job name) h = h
+plain_schedule Memory h = tt
+plain_schedule (After at) h = tt
+plain_schedule (Head at) h = h
+plain_schedule (Missing at) h = tt
+plain_schedule (Cut at) h = tt
+plain_schedule (Line at) h = tt
+plain_schedule (Count at) h = tt
+plain_schedule (Key at) h = h
+plain_schedule (Name at) h = tt
+plain_schedule (Number at) h = tt
+plain_schedule (Limit at quantity) h = tt
+plain_schedule (Again at) h = h
+plain_schedule (ArcAgain at) h = h
+plain_schedule (Unknown at) h = tt
+
+-- the faults of a schedule text
+pub schedule_faults : (names : List (List ℕ)) (line : ℕ) (b : List ℕ) (e : FileFault) → ReadsSchedule names line b (Err e) → IsScheduleFault e
+schedule_faults names line b e h = by h.lines (stated names (record { at = line; rest = b }) h.lines h.reads) h.is
+  where
+    by : (lines : Result (Stated × Place) FileFault) → IsPlain lines → Err e ≡ (lines >>= all_of) → IsScheduleFault e
+    by (Err d) k is = let same : d ≡ e = cc in plain_schedule e (k.fault e (ap Err same))
+    by (Ok x) k is = last (length x.1.rest == 0) is
+      where
+        last : (b : Bool) → Err e ≡ provided b (After x.1.at) (Ok x.0) → IsScheduleFault e
+        last true same = absurd cc
+        last false same = let is : After x.1.at ≡ e = cc in subst IsScheduleFault is tt

@@ -116,7 +116,7 @@ join_lacks w [] h = h.0.no_line_feed
 join_lacks w (v ∷ vs) h = list_any-append (λ x. x == 10) w (32 ∷ join_with_byte 32 (v ∷ vs)) ∙ rw (h.0.no_line_feed) (join_lacks v vs h.1)
 
 -- a line has a first field
-begun : (ws : List (List ℕ)) → 1 ≤ length ws → first_of ws ∷ others_of ws ≡ ws
+pub begun : (ws : List (List ℕ)) → 1 ≤ length ws → first_of ws ∷ others_of ws ≡ ws
 begun [] h = absurd (omega arith)
 begun (w ∷ ws) h = refl
 

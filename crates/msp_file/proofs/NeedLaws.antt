@@ -18,12 +18,13 @@ use Rattle.msp_instance.specs.declared.Need.{Need}
 use Rattle.msp_instance.specs.Instance.{no_need}
 use Rattle.msp_instance.specs.Conditions.{IsSingleNeed, IsNeedPerMachine, IsRoute, HasShape, HasTimes, least_time}
 use Rattle.msp_instance.specs.declared.ranges.TheConstants.{GREATEST, MOST_MACHINES}
+use Rattle.msp_file.specs.declared.fault.What.{What}
 use Rattle.msp_file.specs.declared.fault.What.TheVariants as what
 use Rattle.msp_file.specs.declared.fault.FileFault.{FileFault}
 use Rattle.msp_file.specs.declared.fault.FileFault.TheVariants.{Count, Limit}
 use Rattle.msp_grammar.specs.Layout.{has_times, has_time_key, has_one_time, has_machine_times, has_route}
 use Rattle.msp_grammar.specs.InstanceText.{line_text, where_wanted, times_fields, operation_fields, route_fields}
-use Rattle.msp_file.specs.Reading.{Place, worded_at, natural_at, with_need, times_at, times_line_at, machine_at, timed_route_at, machine_route_at, operations_in, fields_in, operations_at, is_route_count, route_line_at, unwritten_needs, needs_at}
+use Rattle.msp_file.specs.Reading.{Place, worded_at, natural_at, with_need, times_at, times_line_at, ordinal_at, machine_at, timed_route_at, machine_route_at, operations_in, fields_in, operations_at, is_route_count, route_line_at, unwritten_needs, needs_at}
 use Rattle.msp_file.proofs.LineLaws.{bind_ok, provided_ok, ok_is, Takes, Gets, IsField, worded_takes, worded_again, reads, bind_again, provided_again}
 use Rattle.msp_file.proofs.FieldLaws.{natural_takes, natural_again, natural_field}
 use Rattle.msp_file.proofs.KeyLaws.{limit}
@@ -111,19 +112,25 @@ times_line_again least machines at needs rest each h =
 
 -- ---- routes
 
+pub ordinal_takes : (at : ℕ) (quantity : What) (most : ℕ) (w : List ℕ) (k : ℕ) → most ≤ GREATEST → ordinal_at at quantity most w ≡ Ok k → (w ≡ decimal (k + 1)) × (k < most)
+unfolding ordinal_at
+ordinal_takes at quantity most w k few e =
+    let a = bind_ok (natural_at at quantity 1 most w) _ k e in
+    let t = natural_takes at quantity 1 most w a.0 few a.1 in
+    let is : a.0 ≡ k + 1 = omega (arith, ok_is (a.0 - 1) k a.2, t.1) in
+    (t.0 ∙ ap decimal is, omega (arith, is, t.2))
+
+pub ordinal_again : (at : ℕ) (quantity : What) (most k : ℕ) → most ≤ GREATEST → k < most → ordinal_at at quantity most (decimal (k + 1)) ≡ Ok k
+unfolding ordinal_at
+ordinal_again at quantity most k few h =
+    let is : k + 1 - 1 ≡ k = omega arith in
+    bind_again _ _ _ _ (natural_again at quantity 1 most (k + 1) few (omega arith) (omega arith)) (ap Ok is)
+
 machine_takes : (at machines : ℕ) (w : List ℕ) (m : ℕ) → machines ≤ MOST_MACHINES → machine_at at machines w ≡ Ok m → w ≡ decimal (m + 1)
-unfolding machine_at
-machine_takes at machines w m few e =
-    let a = bind_ok (natural_at at what.Machines 1 machines w) _ m e in
-    let t = natural_takes at what.Machines 1 machines w a.0 (omega arith) a.1 in
-    let is : a.0 ≡ m + 1 = omega (arith, ok_is (a.0 - 1) m a.2, t.1) in
-    t.0 ∙ ap decimal is
+machine_takes at machines w m few e = (ordinal_takes at what.Machines machines w m (omega arith) e).0
 
 machine_again : (at machines m : ℕ) → machines ≤ MOST_MACHINES → m < machines → machine_at at machines (decimal (m + 1)) ≡ Ok m
-unfolding machine_at
-machine_again at machines m few h =
-    let is : m + 1 - 1 ≡ m = omega arith in
-    bind_again _ _ _ _ (natural_again at what.Machines 1 machines (m + 1) (omega arith) (omega arith) (omega arith)) (ap Ok is)
+machine_again at machines m few h = ordinal_again at what.Machines machines m (omega arith) h
 
 timed_takes : (at machines : ℕ) (needs : List Need) (ws : List (List ℕ)) (after : List Need) → machines ≤ MOST_MACHINES → timed_route_at at machines needs ws ≡ Ok after → (more : List Need) × (after ≡ needs ++ more) × (ws ≡ flat_map (operation_fields true) more)
 unfolding timed_route_at

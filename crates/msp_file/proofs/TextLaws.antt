@@ -127,7 +127,7 @@ together b spelling c machines speeds shared p q r d is spells good_machines goo
       },
     )
 
-then_ok : {A B : Type 0} (first : Result A FileFault) (next : A → Result B FileFault → Type 0) (y : B) → Then first next (Ok y) → (x : A) × (first ≡ Ok x) × next x (Ok y)
+pub then_ok : {A B : Type 0} (first : Result A FileFault) (next : A → Result B FileFault → Type 0) (y : B) → Then first next (Ok y) → (x : A) × (first ≡ Ok x) × next x (Ok y)
 then_ok (Ok x) next y h = (x, refl, h)
 then_ok (Err e) next y h = absurd cc
 
@@ -254,11 +254,11 @@ arcs_few Intree arcs h = (λ e. absurd cc, h)
 arcs_few Outtree arcs h = (λ e. absurd cc, h)
 arcs_few Prec arcs h = (λ e. absurd cc, h)
 
-spread : (a b c d e f : List ℕ) → a ++ b ++ c ++ d ++ e ++ f ≡ a ++ (b ++ (c ++ (d ++ (e ++ f))))
+pub spread : (a b c d e f : List ℕ) → a ++ b ++ c ++ d ++ e ++ f ≡ a ++ (b ++ (c ++ (d ++ (e ++ f))))
 spread a b c d e f = append_assoc (a ++ b ++ c ++ d) e f ∙ append_assoc (a ++ b ++ c) d (e ++ f) ∙ append_assoc (a ++ b) c (d ++ (e ++ f)) ∙ append_assoc a b (c ++ (d ++ (e ++ f)))
 
 -- what comes first was read
-then_again : {A B : Type 0} (first : Result A FileFault) (next : A → Result B FileFault → Type 0) (x : A) (r : Result B FileFault) → first ≡ Ok x → next x r → Then first next r
+pub then_again : {A B : Type 0} (first : Result A FileFault) (next : A → Result B FileFault → Type 0) (x : A) (r : Result B FileFault) → first ≡ Ok x → next x r → Then first next r
 then_again first next x r e h = rw e h
 
 lines_again : (spelling : List ℕ) (i : Instance) (names : List (List ℕ)) (rest : List ℕ) → NameOf spelling i.class → AreNamesOf names i → MeetsConditions text_limits i → GetsBy (ReadsLines (start_of (instance_text spelling names i ++ rest))) (record { instance = i; names = names }) rest

@@ -1,4 +1,6 @@
 pub mod Reading
 pub mod Steps
 pub mod Answers
+pub mod ScheduleReading
+pub mod ScheduleAnswers
 pub mod Faults

@@ -167,11 +167,15 @@ times_line_at least machines place = do
     needs ← times_at place.at least [] line.0
     Ok (needs, line.1))
 
--- The number of a machine, which texts count from 1.
-unfoldable pub machine_at : ℕ → ℕ → List ℕ → Result ℕ FileFault
-machine_at at machines field = do
-  number ← natural_at at what.Machines 1 machines field
+-- A number of so many, which texts count from 1.
+unfoldable pub ordinal_at : ℕ → What → ℕ → List ℕ → Result ℕ FileFault
+ordinal_at at quantity most field = do
+  number ← natural_at at quantity 1 most field
   Ok (number - 1)
+
+-- The number of a machine.
+abbrev pub machine_at : ℕ → ℕ → List ℕ → Result ℕ FileFault
+machine_at at machines field = ordinal_at at what.Machines machines field
 
 -- Machines in order, each with its time.
 unfoldable pub timed_route_at : ℕ → ℕ → List Need → List (List ℕ) → Result (List Need) FileFault
@@ -304,47 +308,52 @@ arc_line_at at draft fields =
       after ← known_at at draft.names (first_of (others_of fields))
       provided (not (is_arc_among draft.arcs before after)) (ArcAgain at) (Ok (with_arc draft before after))))
 
--- What a line after the head, a job or an arc was, with the draft and the place after it: a job with all its lines, an arc, or the end.
-pub data LineRead : Type 0 where
-  job_read : Draft → Place → LineRead
-  arc_read : Draft → Place → LineRead
-  end_read : Draft → Place → LineRead
+-- What a line was, with what is read up to it and the place after it: a job with all its lines, one of the lines that may follow each
+-- other up to the end, or the end.
+pub data LineRead (A : Type 0) : Type 0 where
+  job_read : A → Place → LineRead A
+  more_read : A → Place → LineRead A
+  end_read : A → Place → LineRead A
 
 -- The last line.
-abbrev pub end_at : ℕ → Draft → List (List ℕ) → Place → Result LineRead FileFault
+abbrev pub end_at : {A : Type 0} → ℕ → A → List (List ℕ) → Place → Result (LineRead A) FileFault
 end_at at draft fields place = provided (bytes_eq (first_of fields) (codes "end")) (Line at) (provided (length fields == 1) (Count at) (Ok (end_read draft place)))
 
 -- An arc where there may be one, or else the last line.
-abbrev pub arc_or_end : Bool → ℕ → Draft → List (List ℕ) → Place → Result LineRead FileFault
+abbrev pub arc_or_end : Bool → ℕ → Draft → List (List ℕ) → Place → Result (LineRead Draft) FileFault
 arc_or_end may at draft fields place =
     if may && bytes_eq (first_of fields) (codes "arc")
-    then (arc_line_at at draft (others_of fields) >>= λ more. Ok (arc_read more place))
+    then (arc_line_at at draft (others_of fields) >>= λ more. Ok (more_read more place))
     else end_at at draft fields place
 
 -- A line after an arc.
-unfoldable pub arc_step : Draft → Place → Result LineRead FileFault
+unfoldable pub arc_step : Draft → Place → Result (LineRead Draft) FileFault
 arc_step draft place = do
   line ← line_at place
   arc_or_end true place.at draft (fields_of line.0) line.1
 
 -- A line after the head or after a job, with the lines of the job that it begins. Arcs stand only in classes with an order.
-unfoldable pub job_step : Class → ℕ → ℕ → Draft → Place → Result LineRead FileFault
+unfoldable pub job_step : Class → ℕ → ℕ → Draft → Place → Result (LineRead Draft) FileFault
 job_step class machines shared draft place = do
   line ← line_at place
   if bytes_eq (first_of (fields_of line.0)) (codes "job")
       then (job_at_line class machines shared draft place.at (others_of (fields_of line.0)) line.1 >>= λ more. Ok (job_read more.0 more.1))
       else arc_or_end (has_order class.order) place.at draft (fields_of line.0) line.1
 
--- The lines after an arc are read so: each is an arc, up to the end or a fault.
-pub data ReadsArcs : Draft → Place → Result (Draft × Place) FileFault → Type 0 where
-  arc_then : (draft more : Draft) (place next : Place) (read : Result (Draft × Place) FileFault) → arc_step draft place ≡ Ok (arc_read more next) → ReadsArcs more next read → ReadsArcs draft place read
-  arcs_end : (draft all : Draft) (place next : Place) (read : Result (Draft × Place) FileFault) → arc_step draft place ≡ Ok (end_read all next) → read ≡ Ok (all, next) → ReadsArcs draft place read
-  arcs_fault : (draft : Draft) (place : Place) (read : Result (Draft × Place) FileFault) (fault : FileFault) → arc_step draft place ≡ Err fault → read ≡ Err fault → ReadsArcs draft place read
+-- Lines are read so by one step each, up to the end or a fault.
+pub data ReadsMore {A : Type 0} (step : A → Place → Result (LineRead A) FileFault) : A → Place → Result (A × Place) FileFault → Type 0 where
+  more_then : (draft more : A) (place next : Place) (read : Result (A × Place) FileFault) → step draft place ≡ Ok (more_read more next) → ReadsMore step more next read → ReadsMore step draft place read
+  more_end : (draft all : A) (place next : Place) (read : Result (A × Place) FileFault) → step draft place ≡ Ok (end_read all next) → read ≡ Ok (all, next) → ReadsMore step draft place read
+  more_fault : (draft : A) (place : Place) (read : Result (A × Place) FileFault) (fault : FileFault) → step draft place ≡ Err fault → read ≡ Err fault → ReadsMore step draft place read
+
+-- The lines after an arc: each is an arc.
+abbrev pub ReadsArcs : Draft → Place → Result (Draft × Place) FileFault → Type 0
+ReadsArcs draft place read = ReadsMore arc_step draft place read
 
 -- The lines after the head or after a job are read so: jobs, then arcs, up to the end or a fault.
 pub data ReadsJobs (class : Class) (machines shared : ℕ) : Draft → Place → Result (Draft × Place) FileFault → Type 0 where
   job_then : (draft more : Draft) (place next : Place) (read : Result (Draft × Place) FileFault) → job_step class machines shared draft place ≡ Ok (job_read more next) → ReadsJobs class machines shared more next read → ReadsJobs class machines shared draft place read
-  arc_after : (draft more : Draft) (place next : Place) (read : Result (Draft × Place) FileFault) → job_step class machines shared draft place ≡ Ok (arc_read more next) → ReadsArcs more next read → ReadsJobs class machines shared draft place read
+  arc_after : (draft more : Draft) (place next : Place) (read : Result (Draft × Place) FileFault) → job_step class machines shared draft place ≡ Ok (more_read more next) → ReadsArcs more next read → ReadsJobs class machines shared draft place read
   jobs_end : (draft all : Draft) (place next : Place) (read : Result (Draft × Place) FileFault) → job_step class machines shared draft place ≡ Ok (end_read all next) → read ≡ Ok (all, next) → ReadsJobs class machines shared draft place read
   jobs_fault : (draft : Draft) (place : Place) (read : Result (Draft × Place) FileFault) (fault : FileFault) → job_step class machines shared draft place ≡ Err fault → read ≡ Err fault → ReadsJobs class machines shared draft place read
 
@@ -370,13 +379,17 @@ class_at place = do
   class ← class_in place.at (fields_of line.0)
   Ok (class, line.1)
 
--- The number of machines.
-unfoldable pub machines_line_at : Place → Result (ℕ × Place) FileFault
-machines_line_at place = do
-  line ← worded_at (codes "machines") place
+-- A line with one number of at least 1 behind its word.
+unfoldable pub number_line_at : List ℕ → What → ℕ → Place → Result (ℕ × Place) FileFault
+number_line_at word quantity greatest place = do
+  line ← worded_at word place
   provided (length line.0 == 1) (Count place.at) (do
-    machines ← natural_at place.at what.Machines 1 MOST_MACHINES (first_of line.0)
-    Ok (machines, line.1))
+    number ← natural_at place.at quantity 1 greatest (first_of line.0)
+    Ok (number, line.1))
+
+-- The number of machines.
+abbrev pub machines_line_at : Place → Result (ℕ × Place) FileFault
+machines_line_at place = number_line_at (codes "machines") what.Machines MOST_MACHINES place
 
 unfoldable pub machines_at : Env → Place → Result (ℕ × Place) FileFault
 machines_at env place = elim (fixed_machines env) [ Some machines ↦ Ok (machines, place) | None ↦ machines_line_at place ]
@@ -398,12 +411,8 @@ unfoldable pub speeds_at : Env → ℕ → Place → Result (List ℕ × Place) 
 speeds_at env machines place = if has_speeds (kind_of env) then speeds_line_at machines place else Ok ([], place)
 
 -- The time that all operations share. Elsewhere it is 1.
-unfoldable pub time_line_at : Place → Result (ℕ × Place) FileFault
-time_line_at place = do
-  line ← worded_at (codes "time") place
-  provided (length line.0 == 1) (Count place.at) (do
-    time ← natural_at place.at what.Time 1 GREATEST_EQUAL_TIME (first_of line.0)
-    Ok (time, line.1))
+abbrev pub time_line_at : Place → Result (ℕ × Place) FileFault
+time_line_at place = number_line_at (codes "time") what.Time GREATEST_EQUAL_TIME place
 
 unfoldable pub time_at : Times → Place → Result (ℕ × Place) FileFault
 time_at times place = if has_time_line times then time_line_at place else Ok (1, place)
@@ -449,10 +458,10 @@ ReadsLines place read =
 abbrev pub start_of : List ℕ → Place
 start_of bytes = record { at = 1; rest = bytes }
 
--- What is read of the lines of one instance at the front of a text.
-pub record ReadsBy (last : Filed × Place → Result Filed FileFault) (bytes : List ℕ) (read : Result Filed FileFault) : Type 0 where
-  pub lines : Result (Filed × Place) FileFault
-  pub reads : ReadsLines (start_of bytes) lines
+-- What is read is the last step after lines that are read so.
+pub record ReadsBy {A B : Type 0} (last : A → Result B FileFault) (Lines : Result A FileFault → Type 0) (read : Result B FileFault) : Type 0 where
+  pub lines : Result A FileFault
+  pub reads : Lines lines
   pub is : read ≡ (lines >>= last)
 
 -- What was read is all, if nothing follows it.
@@ -465,8 +474,8 @@ front_of x = Ok x.0
 
 -- The lines of a text are read so: as those of one instance and no more, or up to the first fault.
 abbrev pub Reads : List ℕ → Result Filed FileFault → Type 0
-Reads bytes read = ReadsBy all_of bytes read
+Reads bytes read = ReadsBy all_of (ReadsLines (start_of bytes)) read
 
 -- The lines at the front of a text are read so: as those of one instance, or up to the first fault.
 abbrev pub ReadsFront : List ℕ → Result Filed FileFault → Type 0
-ReadsFront bytes read = ReadsBy front_of bytes read
+ReadsFront bytes read = ReadsBy front_of (ReadsLines (start_of bytes)) read

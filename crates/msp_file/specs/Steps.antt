@@ -1,5 +1,6 @@
 -- What the functions that read say: that they read as the definitions do, unless memory runs out. A public contract cites `Gives` alone.
-use Rattle.std.specs.Prelude.{◌≡◌, ℕ, Bool, true, false, List, [], ◌∷◌, length, slice_get, Some, Result, Ok, Err}
+use Rattle.std.specs.Prelude.{◌≡◌, ℕ, ℤ, ◌==◌, Bool, true, false, List, [], ◌∷◌, length, slice_get, Some, Result, Ok, Err}
+use Rattle.std.specs.List.{slice_split}
 use Rattle.msp_file.specs.declared.fault.FileFault.{FileFault}
 use Rattle.msp_file.specs.declared.fault.FileFault.TheVariants.{Class as ClassBroken, Cycle, Memory}
 use Rattle.msp_grammar.specs.declared.filed.Filed.{Filed}
@@ -7,12 +8,15 @@ use Rattle.msp_instance.specs.Conditions.{MeetsConditions, text_limits}
 use Rattle.msp_instance.specs.Faults.{IsFirstFault}
 use Rattle.msp_instance.specs.Paths.{IsLeastOnCycle}
 use Rattle.msp_file.specs.Answers.{faulty_name}
+use Rattle.msp_schedule.specs.declared.Frac.{Frac}
+use Rattle.msp_text.specs.declared.number.Spelled.{Spelled}
+use Rattle.msp_text.specs.Numbers.{capped}
 use Rattle.msp_file.specs.declared.place.Lines.{Lines}
 use Rattle.msp_file.specs.declared.draft.Draft.{Draft}
 use Rattle.msp_file.specs.declared.draft.Next.{Next}
 use Rattle.msp_file.specs.declared.draft.Next.TheVariants.{Job, Arc, End}
 use Rattle.msp_class.specs.declared.class.Class.{Class}
-use Rattle.msp_file.specs.Reading.{Place, fields_of, job_read, arc_read, end_read, arc_step, job_step}
+use Rattle.msp_file.specs.Reading.{Place, LineRead, job_read, more_read, end_read, job_step}
 
 -- Where memory runs out, nothing is said. Another fault is that of the reading.
 abbrev pub Fails : {Y : Type 0} → FileFault → Result Y FileFault → Type 0
@@ -34,13 +38,26 @@ abbrev pub Leads : {X Y : Type 0} → (X → Result Y FileFault) → Result X Fi
 Leads next (Ok x) read = read ≡ next x
 Leads next (Err e) read = Fails e read
 
+-- A number as it is read in 128 bits.
+abbrev pub spelled_as : Result ℤ FileFault → Result Spelled FileFault
+spelled_as (Ok number) = Ok (capped number)
+spelled_as (Err e) = Err e
+
+-- A fraction by its numerator and its denominator.
+abbrev pub parts_of : Frac → ℤ × ℤ
+parts_of x = (x.num, x.den)
+
 abbrev pub place_of : Lines → Place
 place_of lines = record { at = lines.at; rest = lines.rest.now }
 
+-- The parts of a text from the mark before them on.
+abbrev pub parts_after : ℕ → List ℕ → List (List ℕ)
+parts_after mark [] = []
+parts_after mark (first ∷ bytes) = slice_split (λ byte. byte == mark) bytes
+
 -- The fields of a line from the space before them on.
 abbrev pub fields_after : List ℕ → List (List ℕ)
-fields_after [] = []
-fields_after (space ∷ bytes) = fields_of bytes
+fields_after bytes = parts_after 32 bytes
 
 -- The same by a relation: where memory runs out nothing is said, and another fault is one that is read.
 abbrev pub FailsBy : {Y : Type 0} → FileFault → (Result Y FileFault → Type 0) → Type 0
@@ -55,15 +72,15 @@ abbrev pub MovesBy : {X Y : Type 0} → (X → Y) → Result X FileFault → Pla
 MovesBy view (Ok x) after Reading = Reading (Ok (view x, after))
 MovesBy view (Err e) after Reading = FailsBy e Reading
 
--- What a line after an arc was, and one after the head or a job.
-abbrev pub AfterArc : Result Bool FileFault → Draft → Place → Draft → Place → Type 0
-AfterArc (Ok true) d p e q = arc_step d p ≡ Ok (arc_read e q)
-AfterArc (Ok false) d p e q = arc_step d p ≡ Ok (end_read e q)
-AfterArc (Err fault) d p e q = Fails fault (arc_step d p)
+-- What a line was that is one more or the end, and what one after the head or a job was.
+abbrev pub AfterLine : {A : Type 0} → (A → Place → Result (LineRead A) FileFault) → Result Bool FileFault → A → Place → A → Place → Type 0
+AfterLine step (Ok true) d p e q = step d p ≡ Ok (more_read e q)
+AfterLine step (Ok false) d p e q = step d p ≡ Ok (end_read e q)
+AfterLine step (Err fault) d p e q = Fails fault (step d p)
 
 abbrev pub AfterJob : Class → ℕ → ℕ → Result Next FileFault → Draft → Place → Draft → Place → Type 0
 AfterJob c machines shared (Ok Job) d p e q = job_step c machines shared d p ≡ Ok (job_read e q)
-AfterJob c machines shared (Ok Arc) d p e q = job_step c machines shared d p ≡ Ok (arc_read e q)
+AfterJob c machines shared (Ok Arc) d p e q = job_step c machines shared d p ≡ Ok (more_read e q)
 AfterJob c machines shared (Ok End) d p e q = job_step c machines shared d p ≡ Ok (end_read e q)
 AfterJob c machines shared (Err fault) d p e q = Fails fault (job_step c machines shared d p)
 

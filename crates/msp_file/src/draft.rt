@@ -4,7 +4,8 @@ ghost use Rattle.std.specs.List.{list_any};
 ghost use Rattle.msp_instance.specs.declared.ranges.TheConstants.{MOST_JOBS};
 ghost use Rattle.msp_file.specs.Reading.{provided, is_arc_among, with_arc, arc_line_at, job_of, time_in, job_at_line, arc_step, job_step, ReadsArcs, ReadsJobs, end_read, end_at, Place};
 ghost use Rattle.msp_file.specs.declared.draft.Draft.{Draft as DraftValue};
-ghost use Rattle.msp_file.specs.Steps.{Gives, Moves, MovesBy, AfterArc, AfterJob, place_of, fields_after};
+ghost use Rattle.msp_schedule.specs.declared.Piece.{Piece as PieceValue};
+ghost use Rattle.msp_file.specs.Steps.{Gives, Moves, MovesBy, AfterLine, AfterJob, place_of, fields_after};
 
 use crate::arcs::Arcs;
 use crate::curve::curve_at;
@@ -141,8 +142,9 @@ fn arc_line_at(at: u32, draft: &mut Draft, fields: &[u8]) -> Result<(), FileFaul
 }
 
 /// The last line.
-fn end_line(at: u32, word: &[u8], fields: &[u8]) -> Result<(), FileFault>
-    ensures { (d : DraftValue) (p : Place) (ws : Items (Items ℕ)) → ws ≡ word.now ∷ fields_after fields.now → Gives (λ _. end_read d p) result (end_at at d ws p) }
+pub(crate) fn end_line(at: u32, word: &[u8], fields: &[u8]) -> Result<(), FileFault>
+    ensures arcs { (d : DraftValue) (p : Place) (ws : Items (Items ℕ)) → ws ≡ word.now ∷ fields_after fields.now → Gives (λ _. end_read d p) result (end_at at d ws p) }
+    ensures pieces { (d : Items PieceValue) (p : Place) (ws : Items (Items ℕ)) → ws ≡ word.now ∷ fields_after fields.now → Gives (λ _. end_read d p) result (end_at at d ws p) }
 {
     if *word != *b"end".as_slice() {
         return Err(FileFault::Line { at });
@@ -157,7 +159,7 @@ fn end_line(at: u32, word: &[u8], fields: &[u8]) -> Result<(), FileFault>
 #[tactic(auto, unfolding(crate::specs::Reading::arc_step))]
 fn arc_step(draft: &mut Draft, lines: &mut Lines<'_>) -> Result<bool, FileFault>
     requires { length draft.old.names ≤ MOST_JOBS }
-    ensures after { AfterArc result draft.old (place_of lines.old) draft.new (place_of lines.new) }
+    ensures after { AfterLine arc_step result draft.old (place_of lines.old) draft.new (place_of lines.new) }
     ensures names { OnOk result (draft.new.names ≡ draft.old.names) }
     ensures jobs { OnOk result (draft.new.jobs ≡ draft.old.jobs) }
     ensures shrinks { OnOk result (length lines.new.rest.now < length lines.old.rest.now) }

@@ -1,7 +1,7 @@
 // The lines before those of the jobs.
 ghost use Rattle.std.specs.Prelude.{◌≡◌, ◌+◌, ◌++◌, ◌∷◌, ◌<◌, ◌≤◌, ◌^◌, [], ℕ, List as Items, length, All, IfOk, OnOk, MatchResult};
 ghost use Rattle.msp_instance.specs.declared.ranges.TheConstants.{GREATEST_SPEED};
-ghost use Rattle.msp_file.specs.Reading.{fields_of, version_at, class_in, class_at, machines_line_at, machines_at, speeds_in, speeds_line_at, speeds_at, time_line_at, time_at};
+ghost use Rattle.msp_file.specs.Reading.{fields_of, version_at, class_in, class_at, number_line_at, machines_line_at, machines_at, speeds_in, speeds_line_at, speeds_at, time_line_at, time_at};
 ghost use Rattle.msp_file.specs.Steps.{Fails, Gives, Leads, Moves, place_of, fields_after};
 
 use crate::fault::{FileFault, What};
@@ -53,22 +53,35 @@ pub(crate) fn class_at(lines: &mut Lines<'_>) -> Result<Class, FileFault>
     class_in(at, line)
 }
 
-#[tactic(auto, unfolding(crate::specs::Reading::machines_line_at))]
-fn machines_line_at(lines: &mut Lines<'_>) -> Result<u32, FileFault>
-    ensures moves { Moves (λ m. m) result (place_of lines.new) (machines_line_at (place_of lines.old)) }
+/// A line with one number of at least 1 behind its word.
+#[tactic(auto, unfolding(crate::specs::Reading::number_line_at))]
+pub(crate) fn number_line_at(
+    lines: &mut Lines<'_>,
+    word: &[u8],
+    what: What,
+    greatest: u64,
+) -> Result<u64, FileFault>
+    ensures moves { Moves (λ n. n) result (place_of lines.new) (number_line_at word.now what greatest (place_of lines.old)) }
+    ensures range { IfOk result (λ n. (1 ≤ n) × (n ≤ greatest)) }
 {
     let at = lines.at;
-    match worded_at(lines, b"machines") {
+    match worded_at(lines, word) {
         Ok(fields) => {
             if count_fields(fields) != 1 {
                 return Err(FileFault::Count { at });
             }
             let (field, _) = next_field(fields);
-            match natural_at(at, What::Machines, 1, MOST_MACHINES as u64, field) {
-                Ok(machines) => Ok(machines as u32),
-                Err(fault) => Err(fault),
-            }
+            natural_at(at, what, 1, greatest, field)
         }
+        Err(fault) => Err(fault),
+    }
+}
+
+fn machines_line_at(lines: &mut Lines<'_>) -> Result<u32, FileFault>
+    ensures moves { Moves (λ m. m) result (place_of lines.new) (machines_line_at (place_of lines.old)) }
+{
+    match number_line_at(lines, b"machines", What::Machines, MOST_MACHINES as u64) {
+        Ok(machines) => Ok(machines as u32),
         Err(fault) => Err(fault),
     }
 }
@@ -155,21 +168,10 @@ pub(crate) fn speeds_at(
     Ok(List::new(alloc))
 }
 
-#[tactic(auto, unfolding(crate::specs::Reading::time_line_at))]
 fn time_line_at(lines: &mut Lines<'_>) -> Result<u64, FileFault>
     ensures moves { Moves (λ x. x) result (place_of lines.new) (time_line_at (place_of lines.old)) }
 {
-    let at = lines.at;
-    match worded_at(lines, b"time") {
-        Ok(fields) => {
-            if count_fields(fields) != 1 {
-                return Err(FileFault::Count { at });
-            }
-            let (field, _) = next_field(fields);
-            natural_at(at, What::Time, 1, GREATEST_EQUAL_TIME, field)
-        }
-        Err(fault) => Err(fault),
-    }
+    number_line_at(lines, b"time", What::Time, GREATEST_EQUAL_TIME)
 }
 
 /// The time that all operations share, and 1 in classes without one.

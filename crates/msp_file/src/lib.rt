@@ -1,8 +1,10 @@
-//! The reader of instance texts, with the exact first fault.
+//! The readers of instance texts and schedule texts, with the exact first fault and its text.
 //!
-//! It stands on `msp_text`, `msp_name`, `msp_job_name`, `msp_grammar` and `msp_instance`. The layers above use that `read_instance`
-//! reads exactly the instance texts of the grammar, `IsInstanceText`, each as its instance, and answers to another text its first
-//! fault, `IsFaultOf`. The printers and names of the layers below are re-exported here.
+//! It stands on `msp_text`, `msp_name`, `msp_job_name`, `msp_grammar`, `msp_instance` and `msp_schedule`. The layers above use that
+//! `read_instance` reads exactly the instance texts of the grammar, `IsInstanceText`, each as its instance, and answers to another text
+//! its first fault, `IsFaultOf`; that `read_front` reads such a text at the front of other bytes, `IsFrontText`; that `read_schedule`
+//! reads exactly the schedule texts, `IsScheduleText`; and that a fault has its text, `file_text`. The printers and names of the layers
+//! below are re-exported here.
 #![tactic(auto)]
 
 mod arcs;
@@ -16,6 +18,9 @@ mod number;
 mod operations;
 mod place;
 mod read;
+mod schedule;
+#[cfg(test)]
+mod schedule_tests;
 #[cfg(test)]
 mod tests;
 
@@ -23,3 +28,6 @@ pub use fault::{FileFault, What};
 pub use msp_grammar::{Filed, print_instance, print_schedule};
 pub use msp_job_name::{JobName, Names};
 pub use read::{Front, MOST_BYTES, read_front, read_instance, texts_are_read_one_way};
+pub use schedule::{
+    LAST_LINE, Stated, printed_schedules_are_read, read_schedule, schedules_are_read_one_way,
+};

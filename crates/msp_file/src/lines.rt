@@ -1,7 +1,8 @@
 // Lines and fields.
 ghost use Rattle.std.specs.Prelude.{◌≡◌, ◌+◌, ◌∷◌, ◌<◌, ◌≤◌, ◌^◌, length, position, count_by, ◌==◌, IfOk, OnOk};
+ghost use Rattle.std.specs.List.{slice_split};
 ghost use Rattle.msp_file.specs.Reading.{line_at, worded_at, fields_of, first_of, others_of};
-ghost use Rattle.msp_file.specs.Steps.{Moves, place_of, fields_after};
+ghost use Rattle.msp_file.specs.Steps.{Moves, place_of, parts_after, fields_after};
 
 use crate::fault::FileFault;
 use crate::place::Lines;
@@ -41,17 +42,26 @@ pub(crate) fn line_at<'a>(lines: &mut Lines<'a>) -> Result<&'a [u8], FileFault>
     }
 }
 
-/// The first word of a line, and the bytes from the space behind it on.
+/// The part of a text up to the first mark, and the bytes from the mark on.
 #[tactic(auto, using(crate::proofs::Fields::split_rules))]
+pub(crate) fn split_first(text: &[u8], mark: u8) -> (&[u8], &[u8])
+    ensures parts { slice_split (λ x. x == mark) text.now ≡ result.0.now ∷ parts_after mark result.1.now }
+    ensures first { length result.0.now ≤ length text.now }
+    ensures short { length result.1.now ≤ length text.now }
+{
+    match find(text, mark) {
+        Some(end) => text.split_at(end),
+        None => text.split_at(text.len()),
+    }
+}
+
+/// The first word of a line, and the bytes from the space behind it on.
 pub(crate) fn split_word(line: &[u8]) -> (&[u8], &[u8])
     ensures fields { fields_of line.now ≡ result.0.now ∷ fields_after result.1.now }
     ensures word { length result.0.now ≤ length line.now }
     ensures short { length result.1.now ≤ length line.now }
 {
-    match find(line, b' ') {
-        Some(end) => line.split_at(end),
-        None => line.split_at(line.len()),
-    }
+    split_first(line, b' ')
 }
 
 /// The next field, and the bytes from the space behind it on. No bytes have no field.

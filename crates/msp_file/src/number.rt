@@ -1,12 +1,33 @@
 // The numbers of fields.
 ghost use Rattle.std.specs.Prelude.{◌≡◌, ◌<◌, ◌≤◌, ◌^◌, IfOk, pos, neg_ℤ, if◌then◌else◌};
-ghost use Rattle.msp_file.specs.Reading.{natural_at, integer_at};
+ghost use Rattle.msp_file.specs.Reading.{natural_at, ordinal_at, integer_at};
 
 use crate::fault::{FileFault, What};
 use msp_text::{Spelled, read_number};
 
 /// The number of a field, where it is in range.
 #[tactic(auto, unfolding(crate::specs::Reading::natural_at))]
+pub(crate) fn wide_at(
+    at: u32,
+    what: What,
+    least: u128,
+    greatest: u128,
+    bytes: &[u8],
+) -> Result<u128, FileFault>
+    requires { greatest < 2 ^ 127 }
+    ensures value { result ≡ natural_at at what least greatest bytes.now }
+    ensures range { IfOk result (λ n. (least ≤ n) × (n ≤ greatest)) }
+{
+    let Some(number) = read_number(bytes) else {
+        return Err(FileFault::Number { at });
+    };
+    if number.negative || number.size < least || number.size > greatest {
+        return Err(FileFault::Limit { at, what });
+    }
+    Ok(number.size)
+}
+
+/// The same of a number of 64 bits.
 pub(crate) fn natural_at(
     at: u32,
     what: What,
@@ -17,20 +38,29 @@ pub(crate) fn natural_at(
     ensures value { result ≡ natural_at at what least greatest bytes.now }
     ensures range { IfOk result (λ n. (least ≤ n) × (n ≤ greatest)) }
 {
-    let Some(number) = read_number(bytes) else {
-        return Err(FileFault::Number { at });
-    };
-    if number.negative || number.size < least as u128 || number.size > greatest as u128 {
-        return Err(FileFault::Limit { at, what });
+    match wide_at(at, what, least as u128, greatest as u128, bytes) {
+        Ok(number) => Ok(number as u64),
+        Err(fault) => Err(fault),
     }
-    Ok(number.size as u64)
 }
 
-fn with_sign(number: Spelled) -> i64
-    requires { number.size < 2 ^ 32 }
+/// The number of a field, from 0, where the text counts so many from 1.
+#[tactic(auto, unfolding(crate::specs::Reading::ordinal_at))]
+pub(crate) fn ordinal_at(at: u32, what: What, most: u32, field: &[u8]) -> Result<u32, FileFault>
+    ensures { result ≡ ordinal_at at what most field.now }
+{
+    match natural_at(at, what, 1, most as u64, field) {
+        Ok(number) => Ok((number - 1) as u32),
+        Err(fault) => Err(fault),
+    }
+}
+
+/// The number with its sign.
+pub(crate) fn with_sign(number: Spelled) -> i128
+    requires { number.size < 2 ^ 127 }
     ensures { result ≡ (if number.negative then neg_ℤ (pos number.size) else pos number.size) }
 {
-    let size = number.size as i64;
+    let size = number.size as i128;
     if number.negative { -size } else { size }
 }
 
@@ -45,5 +75,5 @@ pub(crate) fn integer_at(at: u32, what: What, greatest: u32, bytes: &[u8]) -> Re
     if number.size > greatest as u128 {
         return Err(FileFault::Limit { at, what });
     }
-    Ok(with_sign(number))
+    Ok(with_sign(number) as i64)
 }

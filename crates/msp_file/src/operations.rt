@@ -7,7 +7,7 @@ ghost use Rattle.msp_file.specs.Steps.{Gives, Leads, Moves, place_of, fields_aft
 
 use crate::fault::{FileFault, What};
 use crate::lines::{count_fields, next_field, worded_at};
-use crate::number::natural_at;
+use crate::number::{natural_at, ordinal_at};
 use crate::place::Lines;
 use msp_class::{Class, Env, List, MOST_OPERATIONS, env_kind, most_operations};
 use msp_grammar::{has_one_time, has_route, has_times, has_times_line};
@@ -63,14 +63,10 @@ fn times_at(alloc: Global, at: u32, least: u64, fields: &[u8]) -> Result<List<Ne
 }
 
 /// The number of a machine, from 0.
-#[tactic(auto, unfolding(crate::specs::Reading::machine_at))]
 fn machine_at(at: u32, machines: u32, field: &[u8]) -> Result<u32, FileFault>
     ensures { result ≡ machine_at at machines field.now }
 {
-    match natural_at(at, What::Machines, 1, machines as u64, field) {
-        Ok(machine) => Ok((machine - 1) as u32),
-        Err(fault) => Err(fault),
-    }
+    ordinal_at(at, What::Machines, machines, field)
 }
 
 /// The machine and the time in the next two fields, put at the end of the needs.

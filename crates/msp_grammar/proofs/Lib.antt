@@ -1,1 +1,1 @@
-mod PrintLemmas
+pub mod PrintLemmas

@@ -1,12 +1,18 @@
 -- Printed fields and lines.
-use Rattle.std.proofs.Common.{◌≡◌, ℕ, List, [], ◌∷◌, ◌++◌, Result, Ok, Err, refl, sym, ap, ◌∙◌, append_assoc, codes, suc, ◌+◌, ◌<◌, length, drop, get_or, add-one, drop-cons}
+use Rattle.std.proofs.Common.{◌≡◌, ℕ, Bool, true, false, ℤ, pos, if◌then◌else◌, List, [], ◌∷◌, ◌++◌, Result, Ok, Err, refl, sym, ap, ◌∙◌, append_assoc, codes, suc, ◌+◌, ◌<◌, length, drop, get_or, add-one, drop-cons}
 use Rattle.std.specs.Prelude.{OnOk}
+use Rattle.std.specs.Fmt.{signed_decimal}
+use Rattle.std.specs.Ordering.{int_eq}
 use Rattle.std.specs.List.{join_with_byte}
 use Rattle.std.proofs.lemmas.List.{append-nil}
+use Rattle.std.proofs.lemmas.Bool.Decides.{Decides-int_eq}
 use Rattle.std.proofs.lemmas.List.Concat.{flat_map-append}
 use Rattle.msp_grammar.specs.InstanceText.{line_text, job_text, jobs_text}
 use Rattle.msp_class.specs.declared.class.Class.{Class}
 use Rattle.msp_instance.specs.declared.Job.{Job}
+use Rattle.msp_schedule.specs.declared.Frac.{Frac}
+use Rattle.msp_schedule.specs.declared.Schedule.{Schedule}
+use Rattle.msp_grammar.specs.ScheduleText.{fraction_text, IsFractionText, alone, over, schedule_text, IsStated, IsScheduleText}
 use Rattle.msp_grammar.specs.Printing.{spaced}
 
 pub on_ok : {A E : Type 0} (r : Result A E) {P Q : Type 0} → (P → Q) → OnOk r P → OnOk r Q
@@ -50,3 +56,15 @@ pub jobs_step : (c : Class) (names : List (List ℕ)) (jobs : List Job) (at : �
 jobs_step c names jobs at job o p total h k e f g =
     let rest = jobs_text c (drop (at + 1) names) (drop (at + 1) jobs) in
     ap (λ x. x ++ rest) f ∙ append_assoc o (job_text c (get_or names at []) job) rest ∙ ap (λ x. o ++ x) (sym (jobs_next c names jobs at job h k e)) ∙ g
+
+fraction_spelled : (x : Frac) → IsFractionText x (fraction_text x)
+fraction_spelled x = by (int_eq x.den (pos 1)) refl
+  where
+    by : (b : Bool) → int_eq x.den (pos 1) ≡ b → IsFractionText x (signed_decimal x.num ++ (if b then [] else codes "/" ++ signed_decimal x.den))
+    by true e = alone ((Decides-int_eq x.den (pos 1)).0 e) (append-nil (signed_decimal x.num))
+    by false e = over (sym (append_assoc (signed_decimal x.num) (codes "/") (signed_decimal x.den)))
+
+-- what is printed is a text of the schedule
+pub printed : (names : List (List ℕ)) (s : Schedule) (x : Frac) (b : List ℕ) → IsStated names s x → b ≡ schedule_text names s x → IsScheduleText b names s x
+unfolding schedule_text
+printed names s x b h e = record { spelling = fraction_text x; spells = fraction_spelled x; text = e; stated = h }

@@ -1,5 +1,5 @@
 -- The text of a schedule.
-use Rattle.std.specs.Prelude.{ℕ, ◌+◌, ◌<◌, ◌≤◌, List, [], ◌∷◌, ◌++◌, length, slice_index_or, ℤ, pos, ◌≤ℤ◌, All, codes, decimal, if◌then◌else◌}
+use Rattle.std.specs.Prelude.{◌≡◌, ℕ, ◌+◌, ◌<◌, ◌≤◌, List, [], ◌∷◌, ◌++◌, length, slice_index_or, ℤ, pos, ◌≤ℤ◌, All, codes, decimal, if◌then◌else◌}
 use Rattle.std.specs.Fmt.{signed_decimal}
 use Rattle.std.specs.Ordering.{int_eq}
 use Rattle.std.specs.List.{flat_map}
@@ -28,6 +28,11 @@ name_at names j = slice_index_or names j []
 abbrev pub fraction_text : Frac → List ℕ
 fraction_text x = signed_decimal x.num ++ (if int_eq x.den (pos 1) then [] else codes "/" ++ signed_decimal x.den)
 
+-- A spelling of a fraction: its numerator alone where its denominator is 1, or its numerator, `/` and its denominator.
+pub data IsFractionText (x : Frac) (w : List ℕ) : Type 0 where
+  alone : x.den ≡ pos 1 → w ≡ signed_decimal x.num → IsFractionText x w
+  over : w ≡ signed_decimal x.num ++ codes "/" ++ signed_decimal x.den → IsFractionText x w
+
 -- The line of a piece: the job's name, operation and machine from 1, and the moments between which it runs.
 unfoldable pub piece_line : List (List ℕ) → Piece → List ℕ
 piece_line names p =
@@ -46,16 +51,20 @@ piece_line names p =
 abbrev pub piece_lines : List (List ℕ) → List Piece → List ℕ
 piece_lines names pieces = flat_map (piece_line names) pieces
 
-unfoldable pub cost_line : Frac → List ℕ
-cost_line x = codes "cost " ++ fraction_text x ++ line_feed
+unfoldable pub cost_line : List ℕ → List ℕ
+cost_line cost = codes "cost " ++ cost ++ line_feed
 
 unfoldable pub unit_line : ℤ → List ℕ
 unit_line unit = codes "unit " ++ signed_decimal unit ++ line_feed
 
--- The text of a schedule and its cost.
+-- The text of a schedule, with a spelling of its cost.
+abbrev pub stated_text : List ℕ → List (List ℕ) → Schedule → List ℕ
+stated_text cost names s =
+    codes "schedule\n" ++ cost_line cost ++ unit_line s.unit ++ piece_lines names s.pieces ++ codes "end\n"
+
+-- The text of a schedule and its cost, as it is printed.
 unfoldable pub schedule_text : List (List ℕ) → Schedule → Frac → List ℕ
-schedule_text names s x =
-    codes "schedule\n" ++ cost_line x ++ unit_line s.unit ++ piece_lines names s.pieces ++ codes "end\n"
+schedule_text names s x = stated_text (fraction_text x) names s
 
 -- A cost within the limits of texts.
 pub record IsStatedCost (x : Frac) : Type 0 where
@@ -76,3 +85,11 @@ pub record IsStated (names : List (List ℕ)) (s : Schedule) (x : Frac) : Type 0
   pub unit : IsUnit s.unit
   pub few : length s.pieces ≤ MOST_PIECES
   pub pieces : All (IsStatedPiece names) s.pieces
+
+-- The bytes are a text of the schedule and its cost, which are within the limits of texts. The cost is written as it is, in lowest
+-- terms or not.
+pub record IsScheduleText (b : List ℕ) (names : List (List ℕ)) (s : Schedule) (x : Frac) : Type 0 where
+  pub spelling : List ℕ
+  pub spells : IsFractionText x spelling
+  pub text : b ≡ stated_text spelling names s
+  pub stated : IsStated names s x

@@ -2,7 +2,7 @@
 ghost use Rattle.std.specs.Prelude.{◌≡◌, ◌+◌, ◌<◌, ◌^◌, ◌≤◌, ◌++◌, drop, All, OnOk, IfOk, codes, decimal};
 ghost use Rattle.std.specs.Fmt.{signed_decimal};
 ghost use Rattle.msp_schedule.specs.Fraction.{IsLowest};
-ghost use Rattle.msp_grammar.specs.ScheduleText.{line_feed, space, name_at, fraction_text, piece_line, piece_lines, cost_line, unit_line, schedule_text, IsStated};
+ghost use Rattle.msp_grammar.specs.ScheduleText.{line_feed, space, name_at, fraction_text, piece_line, piece_lines, cost_line, unit_line, schedule_text, IsStated, IsScheduleText};
 
 use msp_class::NoMemory;
 use msp_job_name::Names;
@@ -71,7 +71,7 @@ fn put_pieces(out: &mut Vec<u8>, names: &Names, pieces: &[Piece]) -> Result<(), 
 
 #[tactic(auto, unfolding(crate::specs::ScheduleText::cost_line))]
 fn put_cost(out: &mut Vec<u8>, cost: Frac) -> Result<(), NoMemory>
-    ensures { OnOk result (out.new.items ≡ out.old.items ++ cost_line cost) }
+    ensures { OnOk result (out.new.items ≡ out.old.items ++ cost_line (fraction_text cost)) }
 {
     put(out, b"cost ")?;
     put_fraction(out, cost)?;
@@ -104,6 +104,7 @@ fn put_schedule(
 }
 
 /// The text of a schedule and its cost.
+#[tactic(auto, using(crate::proofs::PrintLemmas::printed))]
 pub fn print_schedule(
     alloc: Global,
     names: &Names,
@@ -111,7 +112,9 @@ pub fn print_schedule(
 ) -> Result<Vec<u8>, NoMemory>
     requires stated { IsStated names.now solution.now.schedule solution.now.cost }
     requires lowest { IsLowest solution.now.cost }
-    ensures { IfOk result (λ text. text.items ≡ schedule_text names.now solution.now.schedule solution.now.cost) }
+    ensures text { IfOk result (λ text. text.items ≡ schedule_text names.now solution.now.schedule solution.now.cost) }
+    // It is a text of the schedule and its cost.
+    ensures again { IfOk result (λ text. IsScheduleText text.items names.now solution.now.schedule solution.now.cost) }
 {
     let mut out = Vec::new(alloc);
     put_schedule(&mut out, names, &solution.schedule, solution.cost)?;

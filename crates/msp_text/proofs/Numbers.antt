@@ -22,7 +22,7 @@ size_more ds i size d m s h e f g k =
     cap_more v d m s (2 ^ 128 - 1) (g ∙ ap (λ n. min (n * 10) (2 ^ 128 - 1)) e) k
     ∙ ap (λ n. min (v * 10 + n) (2 ^ 128 - 1)) f ∙ ap (λ n. min n (2 ^ 128 - 1)) (sym (digits_value_more 10 ds i h))
 
-after_grows : (n : ℕ) (ds : List ℕ) → n ≤ digits_value_after 10 n ds
+pub after_grows : (n : ℕ) (ds : List ℕ) → n ≤ digits_value_after 10 n ds
 after_grows n [] = omega arith
 after_grows n (d ∷ ds) = let h : n * 10 + digit_value d ≤ digits_value_after 10 (n * 10 + digit_value d) ds = after_grows (n * 10 + digit_value d) ds in omega arith
 

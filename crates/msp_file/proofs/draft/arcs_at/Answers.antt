@@ -1,8 +1,8 @@
 -- The goals of `arcs_at` that are proved by lemmas.
 use Rattle.std.proofs.Common.{refl, ◌∙◌}
-use Rattle.msp_file.specs.Reading.{arc_then, arcs_end}
+use Rattle.msp_file.specs.Reading.{arc_step, more_then, more_end}
 use Rattle.msp_file.specs.Steps.{place_of}
-use Rattle.msp_file.proofs.Readings.{arc_fails, fails_on}
+use Rattle.msp_file.proofs.Readings.{more_fails, fails_on}
 use Rattle.msp_file.proofs.draft.arcs_at.Goals as goal
 
 pub lines-preserved : goal.lines-preserved
@@ -11,13 +11,13 @@ lines-preserved c =
       rw c.in-Ok-true.ensures.names c.lines.invariant.0,
       c.in-Ok-true.ensures.names ∙ c.lines.invariant.1,
       c.in-Ok-true.ensures.jobs ∙ c.lines.invariant.2,
-      λ read h. c.lines.invariant.3 read (arc_then c.lines.draft c.arc_step.new.draft (place_of c.lines.lines) (place_of c.arc_step.new.lines) read step h),
+      λ read h. c.lines.invariant.3 read (more_then c.lines.draft c.arc_step.new.draft (place_of c.lines.lines) (place_of c.arc_step.new.lines) read step h),
     )
 
 pub returns-in-Ok-false-clause-moves : goal.returns-in-Ok-false-clause-moves
 returns-in-Ok-false-clause-moves c =
     let step = rw c.in-Ok-false.field-0-test at c.in-Ok-false.ensures.after in
-    c.lines.invariant.3 _ (arcs_end c.lines.draft c.arc_step.new.draft (place_of c.lines.lines) (place_of c.arc_step.new.lines) _ step refl)
+    c.lines.invariant.3 _ (more_end c.lines.draft c.arc_step.new.draft (place_of c.lines.lines) (place_of c.arc_step.new.lines) _ step refl)
 
 pub returns-in-Err-clause-moves : goal.returns-in-Err-clause-moves
-returns-in-Err-clause-moves c = fails_on c.in-Err.fault _ _ c.lines.invariant.3 (arc_fails c.lines.draft (place_of c.lines.lines) c.in-Err.fault c.in-Err.ensures.after)
+returns-in-Err-clause-moves c = fails_on c.in-Err.fault _ _ c.lines.invariant.3 (more_fails arc_step c.lines.draft (place_of c.lines.lines) c.in-Err.fault c.in-Err.ensures.after)

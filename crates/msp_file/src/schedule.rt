@@ -1,0 +1,360 @@
+// The reader of schedule texts.
+ghost use Rattle.std.specs.Prelude.{◌≡◌, ◌<◌, ◌≤◌, ◌^◌, ◌++◌, ◌∷◌, [], length, All, OnOk, IfOk, IfErr, MatchResult, Ok, ℤ};
+ghost use Rattle.msp_text.specs.Numbers.{capped};
+ghost use Rattle.msp_schedule.specs.declared.Schedule.{Schedule as ScheduleValue};
+ghost use Rattle.msp_schedule.specs.declared.Frac.{Frac as FracValue};
+ghost use Rattle.msp_grammar.specs.ScheduleText.{IsScheduleText};
+ghost use Rattle.msp_file.specs.declared.read.TheConstants.{MOST_BYTES};
+ghost use Rattle.msp_file.specs.declared.schedule.TheConstants.{LAST_LINE};
+ghost use Rattle.msp_file.specs.Reading.{ReadsMore};
+ghost use Rattle.msp_file.specs.ScheduleReading.{title_at, number_at, denominator_at, cost_of, cost_in, cost_at, unit_at, moment_at, span_at, place_at, piece_at, piece_line_at, piece_step, ReadsPieces, ReadsStated, ReadsSchedule};
+ghost use Rattle.msp_file.specs.ScheduleAnswers.{IsScheduleFaultOf, IsScheduleFault, SchedulesReadOneWay, PrintedReadAgain};
+ghost use Rattle.msp_file.specs.Steps.{Fails, Gives, GivesBy, Moves, MovesBy, AfterLine, spelled_as, parts_of, place_of, parts_after, fields_after};
+
+use crate::draft::end_line;
+use crate::fault::{FileFault, What};
+use crate::head::number_line_at;
+use crate::job::known_at;
+use crate::lines::{count_fields, line_at, next_field, split_first, split_word, worded_at};
+use crate::number::{ordinal_at, wide_at, with_sign};
+use crate::place::Lines;
+use crate::read::MOST_BYTES;
+use msp_class::{List, MOST_OPERATIONS};
+use msp_grammar::{GREATEST_COST, GREATEST_DENOMINATOR};
+use msp_instance::MOST_MACHINES;
+use msp_job_name::Names;
+use msp_schedule::{Frac, GREATEST_MOMENT, GREATEST_UNIT, MOST_PIECES, Piece, Schedule};
+use msp_text::{Spelled, read_number};
+use std::alloc::Global;
+
+/// The greatest number of a schedule text's first line.
+pub const LAST_LINE: u32 = 1 << 27;
+
+/// A schedule and its cost, as a text states them.
+#[derive(Drop)]
+pub struct Stated {
+    pub schedule: Schedule,
+    pub cost: Frac,
+}
+
+/// The first line.
+#[tactic(auto, unfolding(crate::specs::ScheduleReading::title_at))]
+fn title_at(lines: &mut Lines<'_>) -> Result<(), FileFault>
+    ensures { MatchResult result (λ _. title_at (place_of lines.old) ≡ Ok (place_of lines.new)) (λ e. Fails e (title_at (place_of lines.old))) }
+{
+    let at = lines.at;
+    match worded_at(lines, b"schedule") {
+        Ok(fields) => {
+            if count_fields(fields) != 0 {
+                return Err(FileFault::Count { at });
+            }
+            Ok(())
+        }
+        Err(fault) => Err(fault),
+    }
+}
+
+fn number_at(at: u32, field: &[u8]) -> Result<Spelled, FileFault>
+    ensures { result ≡ spelled_as (number_at at field.now) }
+{
+    match read_number(field) {
+        Some(number) => Ok(number),
+        None => Err(FileFault::Number { at }),
+    }
+}
+
+/// The denominator behind the first `/`. It is 1 where there is none.
+fn denominator_at(at: u32, rest: &[u8]) -> Result<Spelled, FileFault>
+    ensures { result ≡ spelled_as (denominator_at at (parts_after 47 rest.now)) }
+{
+    match rest {
+        [] => Ok(Spelled {
+            negative: false,
+            size: 1,
+        }),
+        [_, more @ ..] => {
+            let (part, others) = split_first(more, b'/');
+            if !others.is_empty() {
+                return Err(FileFault::Number { at });
+            }
+            number_at(at, part)
+        }
+    }
+}
+
+/// A cost whose numbers are in range.
+fn cost_of(at: u32, numerator: Spelled, denominator: Spelled) -> Result<Frac, FileFault>
+    ensures { (x y : ℤ) → numerator ≡ capped x → denominator ≡ capped y → Gives parts_of result (cost_of at x y) }
+{
+    let limit = Err(FileFault::Limit {
+        at,
+        what: What::Cost,
+    });
+    if numerator.size > GREATEST_COST {
+        return limit;
+    }
+    if denominator.negative
+        || denominator.size < 1
+        || denominator.size > GREATEST_DENOMINATOR as u128
+    {
+        return limit;
+    }
+    Ok(Frac {
+        num: with_sign(numerator),
+        den: denominator.size as i128,
+    })
+}
+
+/// A cost: a number, or two with `/` between them.
+#[tactic(auto, unfolding(crate::specs::ScheduleReading::cost_in), using(crate::proofs::CostReading::cost_rules))]
+fn cost_in(at: u32, field: &[u8]) -> Result<Frac, FileFault>
+    ensures { Gives parts_of result (cost_in at field.now) }
+{
+    let (top, rest) = split_first(field, b'/');
+    match number_at(at, top) {
+        Ok(numerator) => match denominator_at(at, rest) {
+            Ok(denominator) => cost_of(at, numerator, denominator),
+            Err(fault) => Err(fault),
+        },
+        Err(fault) => Err(fault),
+    }
+}
+
+#[tactic(auto, unfolding(crate::specs::ScheduleReading::cost_at))]
+fn cost_at(lines: &mut Lines<'_>) -> Result<Frac, FileFault>
+    ensures { Moves parts_of result (place_of lines.new) (cost_at (place_of lines.old)) }
+{
+    let at = lines.at;
+    match worded_at(lines, b"cost") {
+        Ok(fields) => {
+            if count_fields(fields) != 1 {
+                return Err(FileFault::Count { at });
+            }
+            let (field, _) = next_field(fields);
+            cost_in(at, field)
+        }
+        Err(fault) => Err(fault),
+    }
+}
+
+#[tactic(auto, unfolding(crate::specs::ScheduleReading::unit_at))]
+fn unit_at(lines: &mut Lines<'_>) -> Result<i128, FileFault>
+    ensures { Moves (λ x. x) result (place_of lines.new) (unit_at (place_of lines.old)) }
+{
+    match number_line_at(lines, b"unit", What::Unit, GREATEST_UNIT as u64) {
+        Ok(unit) => Ok(unit as i128),
+        Err(fault) => Err(fault),
+    }
+}
+
+#[tactic(auto, unfolding(crate::specs::ScheduleReading::moment_at))]
+fn moment_at(at: u32, field: &[u8]) -> Result<i128, FileFault>
+    ensures { result ≡ moment_at at field.now }
+{
+    match wide_at(at, What::Moment, 0, GREATEST_MOMENT as u128, field) {
+        Ok(moment) => Ok(moment as i128),
+        Err(fault) => Err(fault),
+    }
+}
+
+/// The moments between which a piece runs.
+#[tactic(auto, unfolding(crate::specs::ScheduleReading::span_at))]
+fn span_at(at: u32, fields: &[u8]) -> Result<(i128, i128), FileFault>
+    ensures { result ≡ span_at at (fields_after fields.now) }
+{
+    let (first, others) = next_field(fields);
+    let (second, _) = next_field(others);
+    match moment_at(at, first) {
+        Ok(from) => match moment_at(at, second) {
+            Ok(to) => Ok((from, to)),
+            Err(fault) => Err(fault),
+        },
+        Err(fault) => Err(fault),
+    }
+}
+
+/// The operation and the machine of a piece, and the fields after them.
+#[tactic(auto, unfolding(crate::specs::ScheduleReading::place_at))]
+fn place_at(at: u32, fields: &[u8]) -> Result<(u32, u32, &[u8]), FileFault>
+    ensures { Gives (λ x. (x.0, x.1, fields_after x.2.now)) result (place_at at (fields_after fields.now)) }
+{
+    let (first, others) = next_field(fields);
+    let (second, rest) = next_field(others);
+    match ordinal_at(at, What::Place, MOST_OPERATIONS as u32, first) {
+        Ok(op) => match ordinal_at(at, What::Place, MOST_MACHINES, second) {
+            Ok(machine) => Ok((op, machine, rest)),
+            Err(fault) => Err(fault),
+        },
+        Err(fault) => Err(fault),
+    }
+}
+
+/// A piece of one of the named jobs.
+#[tactic(auto, unfolding(crate::specs::ScheduleReading::piece_at))]
+fn piece_at(at: u32, names: &Names, fields: &[u8]) -> Result<Piece, FileFault>
+    requires { length names.now < 2 ^ 32 }
+    ensures { Gives (λ p. p) result (piece_at names.now at (fields_after fields.now)) }
+{
+    let (first, others) = next_field(fields);
+    match known_at(at, names, first) {
+        Ok(job) => match place_at(at, others) {
+            Ok((op, machine, rest)) => match span_at(at, rest) {
+                Ok((from, to)) => Ok(Piece {
+                    job,
+                    op,
+                    machine,
+                    from,
+                    to,
+                }),
+                Err(fault) => Err(fault),
+            },
+            Err(fault) => Err(fault),
+        },
+        Err(fault) => Err(fault),
+    }
+}
+
+/// The piece whose line has these fields, put at the end of the pieces.
+#[tactic(auto, unfolding(crate::specs::ScheduleReading::piece_line_at))]
+fn piece_line_at(
+    at: u32,
+    names: &Names,
+    pieces: &mut List<Piece>,
+    fields: &[u8],
+) -> Result<(), FileFault>
+    requires { length names.now < 2 ^ 32 }
+    ensures { Gives (λ _. pieces.new) result (piece_line_at names.now at pieces.old (fields_after fields.now)) }
+{
+    if pieces.len() >= MOST_PIECES {
+        return Err(FileFault::Limit {
+            at,
+            what: What::Pieces,
+        });
+    }
+    if count_fields(fields) != 5 {
+        return Err(FileFault::Count { at });
+    }
+    match piece_at(at, names, fields) {
+        Ok(piece) => match pieces.push(piece) {
+            Ok(()) => Ok(()),
+            Err(_) => Err(FileFault::Memory),
+        },
+        Err(fault) => Err(fault),
+    }
+}
+
+/// Reads a line after the unit, and answers whether it is a piece.
+#[tactic(auto, unfolding(crate::specs::ScheduleReading::piece_step))]
+fn piece_step(
+    names: &Names,
+    pieces: &mut List<Piece>,
+    lines: &mut Lines<'_>,
+) -> Result<bool, FileFault>
+    requires { length names.now < 2 ^ 32 }
+    ensures after { AfterLine (piece_step names.now) result pieces.old (place_of lines.old) pieces.new (place_of lines.new) }
+    ensures shrinks { OnOk result (length lines.new.rest.now < length lines.old.rest.now) }
+{
+    let at = lines.at;
+    let line = line_at(lines)?;
+    let (word, fields) = split_word(line);
+    if *word == *b"piece".as_slice() {
+        piece_line_at(at, names, pieces, fields)?;
+        return Ok(true);
+    }
+    end_line(at, word, fields)?;
+    Ok(false)
+}
+
+/// Reads the lines after the unit, up to the last one.
+fn pieces_at(alloc: Global, names: &Names, lines: &mut Lines<'_>) -> Result<List<Piece>, FileFault>
+    requires { length names.now < 2 ^ 32 }
+    ensures { MovesBy (λ x. x) result (place_of lines.new) (ReadsMore (piece_step names.now) [] (place_of lines.old)) }
+{
+    let mut pieces = List::new(alloc);
+    'lines: loop {
+        match piece_step(names, &mut pieces, lines) {
+            Ok(true) => {}
+            Ok(false) => return Ok(pieces),
+            Err(fault) => return Err(fault),
+        }
+    }
+}
+
+/// Reads the lines of one schedule.
+#[tactic(auto, unfolding(crate::specs::ScheduleReading::ReadsStated), using(crate::proofs::Readings::then_rules, crate::proofs::Readings::pieces_rules))]
+fn stated_at(alloc: Global, names: &Names, lines: &mut Lines<'_>) -> Result<Stated, FileFault>
+    requires { length names.now < 2 ^ 32 }
+    ensures { MovesBy (λ s. s) result (place_of lines.new) (ReadsStated names.now (place_of lines.old)) }
+{
+    title_at(lines)?;
+    let cost = cost_at(lines)?;
+    let unit = unit_at(lines)?;
+    match pieces_at(alloc, names, lines) {
+        Ok(pieces) => Ok(Stated {
+            schedule: Schedule { unit, pieces },
+            cost,
+        }),
+        Err(fault) => Err(fault),
+    }
+}
+
+/// Reads the lines of a text, which are those of one schedule and no more.
+#[tactic(auto, using(crate::proofs::Readings::whole_rules))]
+fn schedule_at(alloc: Global, names: &Names, bytes: &[u8], line: u32) -> Result<Stated, FileFault>
+    requires names { length names.now < 2 ^ 32 }
+    requires bytes { length bytes.now ≤ MOST_BYTES }
+    requires line { line ≤ LAST_LINE }
+    ensures { GivesBy result (ReadsSchedule names.now line bytes.now) }
+{
+    let mut lines = Lines {
+        at: line,
+        rest: bytes,
+    };
+    match stated_at(alloc, names, &mut lines) {
+        Ok(stated) => {
+            if !lines.rest.is_empty() {
+                return Err(FileFault::After { at: lines.at });
+            }
+            Ok(stated)
+        }
+        Err(fault) => Err(fault),
+    }
+}
+
+/// Reads a schedule text, the first line of which has the number `line`. The fault is the first one. A name is one of the named jobs.
+#[tactic(auto, using(crate::proofs::ScheduleLaws::schedule_rules))]
+pub fn read_schedule(
+    alloc: Global,
+    names: &Names,
+    bytes: &[u8],
+    line: u32,
+) -> Result<Stated, FileFault>
+    requires bytes { length bytes.now ≤ MOST_BYTES }
+    requires line { (1 ≤ line) × (line ≤ LAST_LINE) }
+    ensures fault { IfErr result (λ e. IsScheduleFaultOf names.now line bytes.now e) }
+    // What is read is a text of the schedule and its cost.
+    ensures text { IfOk result (λ s. IsScheduleText bytes.now names.now s.schedule s.cost) }
+    // A text of a schedule and its cost is read as these, unless memory runs out.
+    ensures again { (s : ScheduleValue) (x : FracValue) → IsScheduleText bytes.now names.now s x → Gives (λ f. f) result (Ok (record { schedule = s; cost = x })) }
+    // A schedule text has only these faults.
+    ensures schedule_faults { IfErr result (λ e. IsScheduleFault e) }
+{
+    // More names than a piece can number are more than memory holds.
+    if names.len() > u32::MAX as usize {
+        return Err(FileFault::Memory);
+    }
+    match schedule_at(alloc, names, bytes, line) {
+        Ok(stated) => Ok(stated),
+        Err(fault) => Err(fault),
+    }
+}
+
+/// Each schedule text is read in one way: the definition of reading by relations gives one schedule or one first fault.
+pub fn schedules_are_read_one_way()
+    ensures { SchedulesReadOneWay }
+{}
+
+/// The printed text of a schedule is read as that schedule and its cost.
+pub fn printed_schedules_are_read()
+    ensures { PrintedReadAgain }
+{}
