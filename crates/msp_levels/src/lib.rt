@@ -8,6 +8,8 @@ mod law;
 mod level;
 mod rule;
 mod slot;
+#[cfg(test)]
+mod tests;
 
 pub use law::law_of_levels;
 pub use rule::{Levels, schedule_by_levels};
