@@ -1,0 +1,142 @@
+-- The row of the jobs in a cheapest order is best, and in the form of an answer.
+use Rattle.std.proofs.Common.{◌≡◌, ℕ, ◌*◌, ◌<◌, ◌≤◌, List, length, get_or, ℤ, pos, nat_abs, ◌*ℤ◌, ◌≤ℤ◌, All, Contains, refl, sym, ap, ap₂, subst, ◌∙◌, arith, slice_index_or}
+use Rattle.std.proofs.lemmas.Int.{ints}
+use native.Mathlib.Nat.{mul-le-mul_left}
+use Rattle.std.proofs.lemmas.List.{get_or_past}
+use Rattle.std.proofs.lemmas.List.Elements.{Contains-get_or}
+use Rattle.msp_class.proofs.IntegerRing.{natural, ≤ℤ_of_same, ≤ℤ_trans, pos-le, *ℤ-one}
+use Rattle.msp_class.proofs.Sums.{OnceBelow}
+use Rattle.msp_class.specs.declared.class.Crit.TheVariants.{SumWC}
+use Rattle.msp_instance.specs.declared.Arc.{Arc}
+use Rattle.msp_instance.specs.declared.Instance.{Instance}
+use Rattle.msp_instance.specs.Instance.{no_job, no_need}
+use Rattle.msp_instance.specs.Conditions.{Inner, HasDegree, entering}
+use Rattle.msp_instance.specs.Paths.{HasStep}
+use Rattle.msp_instance.proofs.CycleLemmas.{OnceBelow-from_sequence}
+use Rattle.msp_schedule.specs.declared.Piece.{Piece}
+use Rattle.msp_schedule.specs.declared.Schedule.{Schedule}
+use Rattle.msp_schedule.specs.Piece.{IsBefore}
+use Rattle.msp_schedule.specs.Feasible.{Feasible}
+use Rattle.msp_schedule.specs.Cost.{cost_of, Best}
+use Rattle.msp_schedule.specs.Settled.{IsSettled}
+use Rattle.msp_schedule.specs.Within.{Within}
+use Rattle.msp_schedule.proofs.Rows.{row, row-arcs, last-seq_below}
+use Rattle.msp_schedule.proofs.Sequences.{seq}
+use Rattle.msp_schedule.proofs.Charges.{SameCharges-from_jobs}
+use Rattle.msp_schedule.proofs.OneMachine.{start, finish, IsTimed, weighted_cost}
+use Rattle.msp_schedule.proofs.OneRow.{piece, piece_makes, time_at, row_schedule, row_is_feasible, row_is_settled, row_is_within}
+use Rattle.msp_schedule.proofs.LineUp.{IsLine as IsOneLine, IsLine-from_conditions, SameLine-refl, cost-lined_up, forward_by_ends, order_of_ends, order_of_ends-once, order_of_ends-rises}
+use Rattle.msp_schedule.proofs.Exchange.{cost_of-lined_up}
+use Rattle.msp_route.specs.Bounds.{IsAnswer}
+use Rattle.msp_trees.specs.Horn.{horn_class}
+use Rattle.msp_trees.specs.Joining.{before, weight_at, IsCheapest}
+use Rattle.msp_trees.proofs.Facts.{IsPlain, IsPlain-from, takes_time, is_short}
+use Rattle.msp_trees.proofs.RowAnswer.{timed, released, row_is_answer}
+use Rattle.msp_trees.proofs.Joins.{IsTree}
+use Rattle.msp_trees.proofs.Before.{before_within, before_start, forward_from_arcs, steps_forward, may_precede, no_loop, before_loose}
+
+-- what an instance of the class has
+pub record IsHornInstance (i : Instance) : Type 0 where
+  pub crit : i.class.crit ≡ SumWC
+  pub plain : IsPlain i
+  pub line : IsOneLine i
+  pub inner : Inner i
+  pub few : (j : ℕ) → j < length i.jobs → entering i.arcs j ≤ 1
+  pub tree : IsTree (length i.jobs) (before i) (time_at i)
+
+pub IsHornInstance-from_class : (i : Instance) → i.class ≡ horn_class → Inner i → IsHornInstance i
+IsHornInstance-from_class i e h =
+    let ends = h.conditions.ends in
+    let (order, q, forward) = h.acyclic in
+    let once = OnceBelow-from_sequence i order q in
+    record {
+      crit = ap (λ c. c.crit) e;
+      plain = IsPlain-from i (ap (λ c. c.env) e) (ap (λ c. c.times) e) (ap (λ c. c.heads) e) h;
+      line = IsLine-from_conditions _ i (ap (λ c. c.env) e) h.conditions;
+      inner = h;
+      few = λ j l. subst (λ o. HasDegree o i.arcs j) (ap (λ c. c.order) e) (h.conditions.degree j l);
+      tree = record {
+        within = λ j l. before_within i ends j;
+        loose = before_loose i ends order q forward;
+        start = λ j l s. let at = before_start i ends in absurd (omega (arith, at, s, l));
+        time = no_time i;
+        forward = (order, once, forward_from_arcs i ends order once (may_precede i ends order q forward));
+      };
+    }
+  where
+    no_time : (i : Instance) → time_at i (length i.jobs) ≡ 0
+    no_time i = ap (λ j. (slice_index_or j.needs 0 no_need).time) (get_or_past i.jobs (length i.jobs) no_job (omega arith))
+
+-- what is said of the answer's schedule
+pub record IsHornSchedule (i : Instance) (s : Schedule) : Type 0 where
+  pub best : Best i s
+  pub settled : IsSettled s
+  pub within : Within i s
+  pub answer : IsAnswer i s
+
+module _ (i : Instance) (h : IsHornInstance i) (order : List ℕ) (o : IsCheapest (length i.jobs) (before i) (time_at i) (weight_at i) order) where
+  abbrev pieces : List Piece
+  pieces = row piece (time_at i) 0 order
+
+  -- ---- it is feasible
+  loose : (j : ℕ) → ¬ HasStep i.arcs j j
+  loose = let (all, q, forward) = h.inner.acyclic in no_loop i h.inner.conditions.ends all q forward
+
+  in_order : All (λ a. All (λ p. All (λ q. p.job ≡ a.before → q.job ≡ a.after → IsBefore p q) pieces) pieces) i.arcs
+  in_order k d l x u lx y v ly e e' =
+      let p = get_or pieces x u in
+      let q = get_or pieces y v in
+      let step : HasStep i.arcs p.job q.job = subst (Contains i.arcs) (same (get_or i.arcs k d) p.job q.job e e') (Contains-get_or i.arcs k d l) in
+      in_int p q (timed i h.plain order o.once x u lx) (timed i h.plain order o.once y v ly) (row-arcs piece (time_at i) piece_makes (HasStep i.arcs) 0 order loose (steps_forward i h.inner.conditions.ends h.few order o.forward) p q (Contains-get_or pieces x u lx) (Contains-get_or pieces y v ly) step)
+    where
+      same : (a : Arc) (m n : ℕ) → m ≡ a.before → n ≡ a.after → a ≡ record { before = m; after = n }
+      same a m n f g = sym (ap₂ (λ b c. record { before = b; after = c }) f g)
+
+      in_int : (p q : Piece) → IsTimed p → IsTimed q → finish p ≤ start q → IsBefore p q
+      in_int p q tp tq l = omega (arith, ints, tp.to, tq.from, l)
+
+  horn_is_feasible : Feasible i (row_schedule i order)
+  horn_is_feasible = row_is_feasible i order o.once (takes_time i h.plain) h.plain.machine (released i h.plain order o.once) in_order
+
+  -- ---- no schedule costs less
+  abbrev least_cost : ℕ
+  least_cost = seq (time_at i) (weight_at i) 0 order
+
+  horn_cost : cost_of i (row_schedule i order) ≡ pos least_cost
+  horn_cost = weighted_cost i (row_schedule i order) h.crit (timed i h.plain order o.once) ∙ ap pos (last-seq_below piece piece_makes (time_at i) (weight_at i) (length i.jobs) 0 order o.once)
+
+  module _ (t : Schedule) (f : Feasible i t) where
+    abbrev by_ends : List ℕ
+    by_ends = order_of_ends i t
+
+    abbrev D : ℕ
+    D = nat_abs t.unit
+
+    once_by_ends : OnceBelow (length i.jobs) by_ends
+    once_by_ends = order_of_ends-once i t
+
+    least_by_ends : least_cost ≤ seq (time_at i) (weight_at i) 0 by_ends
+    least_by_ends = o.least by_ends once_by_ends (forward_from_arcs i h.inner.conditions.ends by_ends once_by_ends (forward_by_ends i h.line t f by_ends once_by_ends (order_of_ends-rises i t)))
+
+    ends_cost : pos (D * seq (time_at i) (weight_at i) 0 by_ends) ≤ℤ cost_of i t
+    ends_cost =
+        ≤ℤ_trans (≤ℤ_of_same (sym (cost_of-lined_up i h.line h.crit D (omega (arith, ints, f.unit)) by_ends once_by_ends)))
+        (cost-lined_up i i h.line h.line (SameLine-refl i) t f by_ends once_by_ends (order_of_ends-rises i t) (SameCharges-from_jobs i i refl refl (λ k l. (refl, refl, refl))))
+
+    horn_beats : (cost_of i (row_schedule i order) *ℤ t.unit) ≤ℤ (cost_of i t *ℤ pos 1)
+    horn_beats =
+        let more : D * least_cost ≤ D * seq (time_at i) (weight_at i) 0 by_ends = mul-le-mul_left D least_by_ends in
+        in_int _ _ t.unit least_cost D horn_cost (natural t.unit (omega (arith, ints, f.unit))) (≤ℤ_trans (pos-le more) ends_cost)
+      where
+        in_int : (x y u : ℤ) (a d : ℕ) → x ≡ pos a → u ≡ pos d → pos (d * a) ≤ℤ y → (x *ℤ u) ≤ℤ (y *ℤ pos 1)
+        in_int x y u a d ex eu l =
+            let same : a * d ≡ d * a = omega arith in
+            ≤ℤ_trans (≤ℤ_of_same (ap (λ z. z *ℤ u) ex ∙ ap (λ z. pos a *ℤ z) eu ∙ ap pos same)) (≤ℤ_trans l (≤ℤ_of_same (sym (*ℤ-one y))))
+
+  pub horn_schedule : IsHornSchedule i (row_schedule i order)
+  horn_schedule = record {
+    best = record { feasible = horn_is_feasible; least = horn_beats };
+    settled = row_is_settled i order o.once (takes_time i h.plain);
+    within = row_is_within i order o.once (takes_time i h.plain) h.plain.few (is_short i h.plain) h.plain.machine.kind;
+    answer = row_is_answer i h.plain order o.once;
+  }

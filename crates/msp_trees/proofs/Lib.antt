@@ -1,0 +1,8 @@
+pub mod Lists
+pub mod Joins
+pub mod Before
+pub mod HornBest
+pub mod Picks
+pub mod Facts
+pub mod Steps
+pub mod RowAnswer

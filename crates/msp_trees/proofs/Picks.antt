@@ -1,0 +1,317 @@
+-- The block that is joined next and the one that it is joined behind, as the code passes them.
+use Rattle.std.proofs.Common.{◌≡◌, ◌≢◌, ℕ, zero, suc, ◌+◌, ◌-◌, ◌*◌, ◌<◌, ◌≤◌, ◌⊎◌, inl, inr, Bool, true, false, if◌then◌else◌, List, [], ◌∷◌, ◌++◌, length, get_or, take, drop, set, remove, map, All, Contains, IsPermutation, sum_by, refl, sym, ap, ap₂, subst, ◌∙◌, arith, slice_index_or, None, Some}
+use Rattle.std.specs.Prelude.{◌==◌}
+use Rattle.std.specs.List.{concat, list_any, slice_get, range_with_len}
+use native.Mathlib.Nat.{le_of_mul-le-mul_left, mul-le-mul_left}
+use Rattle.std.proofs.lemmas.Bool.{cases_lt, eq-eqb, ne_eqb}
+use Rattle.std.proofs.lemmas.List.{append_assoc, take_all, map-append, drop_more, take_more, get_or_default, get_or_past, length-append, get_or-set_same, get_or-set_other, set_split}
+use Rattle.std.proofs.lemmas.Option.{slice_get_cases}
+use Rattle.std.proofs.lemmas.List.Edits.{get_or-remove_below}
+use Rattle.std.proofs.lemmas.List.Sums.{sum_by_more, sum_by-cons}
+use Rattle.std.proofs.lemmas.List.Elements.{All-head, All-contains, Contains-append_left, Contains-append_cases}
+use Rattle.std.proofs.lemmas.List.Sorted.{IsPermutation-remove, IsPermutation-middle, IsPermutation-trans, IsPermutation-sym, IsPermutation-cons, Contains-permutation}
+use Rattle.msp_class.proofs.Sums.{AllPairs-head, Contains-tail, OnceBelow, OnceBelow-distinct, OnceBelow-contains, length-OnceBelow, range_with_len_last}
+use Rattle.msp_instance.specs.declared.Arc.{Arc}
+use Rattle.msp_instance.specs.declared.Instance.{Instance}
+use Rattle.msp_instance.specs.declared.Job.{Job}
+use Rattle.msp_instance.specs.Instance.{no_job, no_need}
+use Rattle.msp_instance.specs.Conditions.{Inner}
+use Rattle.msp_instance.proofs.ListingLemmas.{list_any-from_Contains}
+use Rattle.msp_schedule.proofs.OneRow.{time_at, row_schedule}
+use Rattle.msp_trees.specs.declared.joining.Load.{Load}
+use Rattle.msp_trees.specs.Horn.{horn_class}
+use Rattle.msp_trees.specs.Joining.{first_before, before, weight_at, time_of, weight_of, IsForward, IsBranch, IsJoined, AreJoined, IsCheapest, HasGreatestRatio}
+use Rattle.msp_trees.proofs.Lists.{All-right, pairs_left, pairs_right, pairs_across, taken, concat-permutation, All-concat}
+use Rattle.msp_trees.proofs.Facts.{takes_time}
+use Rattle.msp_trees.proofs.Joins.{IsTree, joined-start, joined-next, cheapest}
+use Rattle.msp_trees.proofs.HornBest.{IsHornInstance, IsHornInstance-from_class, IsHornSchedule, horn_schedule}
+use Rattle.std.proofs.lemmas.List.Folds.{concat-append}
+
+-- ---- reading the instance
+slice_get_none : (jobs : List Job) (j : ℕ) → slice_get jobs j ≡ None → length jobs ≤ j
+slice_get_none jobs j e = elim (slice_get_cases jobs j).1 [
+  | inl h ↦ absurd (never (sym h.2 ∙ e))
+  | inr h ↦ h.0
+]
+  where
+    never : {x : Job} → Some x ≡ None → ⊥
+    never e = absurd (cc)
+
+pub time_past : (i : Instance) (j : ℕ) → slice_get i.jobs j ≡ None → 0 ≡ time_at i j
+time_past i j e = ap (λ x. (slice_index_or x.needs 0 no_need).time) (sym (get_or_past i.jobs j no_job (slice_get_none i.jobs j e)))
+
+pub weight_past : (i : Instance) (j : ℕ) → slice_get i.jobs j ≡ None → 0 ≡ weight_at i j
+weight_past i j e = ap (λ x. x.weight) (sym (get_or_past i.jobs j no_job (slice_get_none i.jobs j e)))
+
+-- ---- the loop over the arcs
+pub before-found : (arcs : List Arc) (k start job b : ℕ) (d : Arc) → k < length arcs → (get_or arcs k d).after ≡ job → b ≡ first_before (drop k arcs) start job → (get_or arcs k d).before ≡ b
+before-found arcs k start job b d l e h =
+    sym (h ∙ ap (λ l. first_before l start job) (drop_more arcs k d l) ∙ ap (λ t. if t then (get_or arcs k d).before else first_before (drop (k + 1) arcs) start job) (eq-eqb _ _ e))
+
+pub before-next : (arcs : List Arc) (k start job b : ℕ) (d : Arc) → k < length arcs → (get_or arcs k d).after ≢ job → b ≡ first_before (drop k arcs) start job → b ≡ first_before (drop (k + 1) arcs) start job
+before-next arcs k start job b d l n h =
+    h ∙ ap (λ l. first_before l start job) (drop_more arcs k d l) ∙ ap (λ t. if t then (get_or arcs k d).before else first_before (drop (k + 1) arcs) start job) (ne_eqb _ _ n)
+
+-- ---- the loop over a block
+pub appended-next : (start block new jobs : List ℕ) (k : ℕ) → new ≡ block ++ get_or jobs k 0 ∷ [] → k < length jobs → block ≡ start ++ take k jobs → new ≡ start ++ take (k + 1) jobs
+appended-next start block new jobs k e l h = e ∙ ap (λ b. b ++ get_or jobs k 0 ∷ []) h ∙ append_assoc start (take k jobs) (get_or jobs k 0 ∷ []) ∙ ap (λ b. start ++ b) (sym (take_more jobs k 0 l))
+
+pub sum-next : (f : ℕ → ℕ) (jobs : List ℕ) (k so_far now : ℕ) → k < length jobs → now ≡ f (get_or jobs k 0) → so_far ≡ sum_by f (take k jobs) → so_far + now ≡ sum_by f (take (k + 1) jobs)
+sum-next f jobs k so_far now l e h = omega (arith, e, h, sum_by_more f jobs k 0 l)
+
+-- ---- the search for a job's block
+abbrev pub HasNot : List (List ℕ) → ℕ → ℕ → Type 0
+HasNot blocks job k = (m : ℕ) → m < k → ¬ Contains (get_or blocks m []) job
+
+pub not_here-next : (blocks : List (List ℕ)) (job k : ℕ) (block slice : List ℕ) (r : Bool) → k < length blocks → block ≡ get_or blocks k block → slice ≡ block → r ≡ list_any (λ y. y == job) slice → r ≡ false → HasNot blocks job k → HasNot blocks job (k + 1)
+not_here-next blocks job k block slice r l at same found missed h m less c = elim (cases_lt m k) [
+  | inl early ↦ h m early c
+  | inr late ↦
+      let is : m ≡ k = omega (arith, less, late) in
+      let here : get_or blocks m [] ≡ slice = ap (λ x. get_or blocks x []) is ∙ get_or_default blocks k [] block l ∙ sym at ∙ sym same in
+      never r (found ∙ list_any-from_Contains slice job (subst (λ b. Contains b job) here c)) missed
+]
+  where
+    never : (b : Bool) → b ≡ true → b ≡ false → ⊥
+    never b e f = absurd (cc)
+
+block_with : (blocks : List (List ℕ)) (job : ℕ) → Contains (concat blocks) job → (k : ℕ) × (k < length blocks) × Contains (get_or blocks k []) job
+block_with [] job c = absurd (omega (arith, c.1))
+block_with (b ∷ blocks) job c = elim (Contains-append_cases b (concat blocks) job c) [
+  | inl h ↦ (0, omega arith, h)
+  | inr h ↦ let (k, l, d) = block_with blocks job h in (suc k, omega (arith, l), d)
+]
+
+pub not_nowhere : (blocks : List (List ℕ)) (job k : ℕ) → Contains (concat blocks) job → length blocks ≤ k → HasNot blocks job k → ⊥
+not_nowhere blocks job k c l h = let (m, s, d) = block_with blocks job c in h m (omega (arith, s, l)) d
+
+-- ---- blocks
+module _ (n : ℕ) (before p w : ℕ → ℕ) (blocks : List (List ℕ)) (joined : IsJoined n before p w blocks) where
+  pub block_is_some : (k : ℕ) → k < length blocks → 0 < length (get_or blocks k [])
+  block_is_some k l = some (get_or blocks k []) (joined.branches k [] l)
+    where
+      some : (b : List ℕ) → IsBranch before b → 0 < length b
+      some [] h = absurd h
+      some (x ∷ xs) h = omega arith
+
+  pub block_is_few : (k : ℕ) → k < length blocks → length (get_or blocks k []) ≤ n + 1
+  block_is_few k l = omega (arith, shorter blocks k l, length-OnceBelow joined.once)
+    where
+      shorter : (bs : List (List ℕ)) (k : ℕ) → k < length bs → length (get_or bs k []) ≤ length (concat bs)
+      shorter [] k l = absurd (omega arith)
+      shorter (b ∷ bs) zero l = omega (arith, length-append b (concat bs))
+      shorter (b ∷ bs) (suc k) l = omega (arith, length-append b (concat bs), shorter bs k (omega arith))
+
+  -- the start is in the first one alone
+  pub no_start : (k : ℕ) → 1 ≤ k → k < length blocks → All (λ j. j < n) (get_or blocks k [])
+  no_start k some l = by blocks joined.once joined.start k some l
+    where
+      below : (a : ℕ) → a < n + 1 → n ≢ a → a < n
+      below a h k = let other : a ≢ n = λ e. k (sym e) in omega (arith, h, other)
+
+      by : (bs : List (List ℕ)) → OnceBelow (n + 1) (concat bs) → Contains (get_or bs 0 []) n → (k : ℕ) → 1 ≤ k → k < length bs → All (λ j. j < n) (get_or bs k [])
+      by [] o s k some l = absurd (omega (arith, l))
+      by (b ∷ bs) o s zero some l = absurd (omega arith)
+      by (b ∷ bs) o s (suc k) some l =
+          let apart = All-contains (λ x. All (λ y. x ≢ y) (concat bs)) b n (pairs_across (λ x y. x ≢ y) b (concat bs) (OnceBelow-distinct o)) s in
+          let small = All-right (λ x. x < n + 1) b (concat bs) o.within in
+          All-concat (λ j. j < n) bs (λ m d t. below (get_or (concat bs) m d) (small m d t) (apart m d t)) k [] (omega arith)
+
+  module _ (tree : IsTree n before p) (place : ℕ) (later : 1 ≤ place) (inside : place < length blocks) (next : List ℕ) (is : next ≡ get_or blocks place []) where
+    parts : IsPermutation blocks (next ∷ remove blocks place)
+    parts = IsPermutation-remove blocks place next inside (is ∙ get_or_default blocks place [] next inside)
+
+    -- what is before its first job is in another block
+    pub before_elsewhere : Contains (concat (remove blocks place)) (before (get_or next 0 0))
+    before_elsewhere = by next is parts
+      where
+        by : (us : List ℕ) → us ≡ get_or blocks place [] → IsPermutation blocks (us ∷ remove blocks place) → Contains (concat (remove blocks place)) (before (get_or us 0 0))
+        by [] e q = absurd (omega (arith, block_is_some place inside, ap length e))
+        by (x ∷ xs) e q =
+            let small : x < n = All-head (λ j. j < n) x xs (subst (All (λ j. j < n)) (sym e) (no_start place later inside)) in
+            let there = Contains-permutation (concat blocks) ((x ∷ xs) ++ concat (remove blocks place)) (before x) (concat-permutation blocks ((x ∷ xs) ∷ remove blocks place) q) (OnceBelow-contains joined.once (before x) (tree.within x small)) in
+            elim (Contains-append_cases (x ∷ xs) (concat (remove blocks place)) (before x) there) [
+              | inl c ↦ absurd (not_inside x xs q small c)
+              | inr c ↦ c
+            ]
+          where
+            not_inside : (x : ℕ) (xs : List ℕ) → IsPermutation blocks ((x ∷ xs) ∷ remove blocks place) → x < n → Contains (x ∷ xs) (before x) → ⊥
+            not_inside x xs q small c =
+                let (order, o, f) = tree.forward in
+                let (line, h) = joined.cheap order o f in
+                let (a, b, m) = taken (x ∷ xs) (remove blocks place) line (IsPermutation-trans ((x ∷ xs) ∷ remove blocks place) blocks line (IsPermutation-sym blocks ((x ∷ xs) ∷ remove blocks place) q) h.same) in
+                let whole = subst (IsForward before) (ap concat m.is ∙ concat-append a ((x ∷ xs) ∷ b)) h.forward in
+                let own = pairs_left (λ u v. before u ≢ v) (x ∷ xs) (concat b) (pairs_right (λ u v. before u ≢ v) (concat a) ((x ∷ xs) ++ concat b) whole) in
+                All-contains (λ y. before x ≢ y) xs (before x) (AllPairs-head (λ u v. before u ≢ v) x xs own) (Contains-tail x xs (before x) c (λ s. tree.loose x small (sym s))) refl
+
+    -- joined behind that block
+    pub joined_behind : (behind : ℕ) → behind < length (remove blocks place) → Contains (get_or (remove blocks place) behind []) (before (get_or next 0 0))
+        → ((k : ℕ) → 1 ≤ k → k < length blocks → sum_by w (get_or blocks k []) * sum_by p (get_or blocks place []) ≤ sum_by w (get_or blocks place []) * sum_by p (get_or blocks k []))
+        → (new : List (List ℕ)) → new ≡ set (remove blocks place) behind (get_or (remove blocks place) behind [] ++ next) → IsJoined n before p w new
+    joined_behind behind short holds ratio new e = by next is parts holds e
+      where
+        rest : List (List ℕ)
+        rest = remove blocks place
+
+        vs : List ℕ
+        vs = get_or (remove blocks place) behind []
+
+        first_kept : get_or rest 0 [] ≡ get_or blocks 0 []
+        first_kept = get_or-remove_below blocks place [] 0 (omega (arith, later)) inside
+
+        starts : (us : List ℕ) → Contains (get_or (set rest behind (vs ++ us)) 0 []) n
+        starts us = elim (cases_lt 0 behind) [
+          | inl past ↦ subst (λ b. Contains b n) (sym (get_or-set_other rest behind 0 (vs ++ us) [] (omega (arith, past)) ∙ first_kept)) joined.start
+          | inr here ↦
+              let zero_is : behind ≡ 0 = omega (arith, here) in
+              let made : get_or (set rest behind (vs ++ us)) 0 [] ≡ vs ++ us = ap (λ m. get_or (set rest behind (vs ++ us)) m []) (sym zero_is) ∙ get_or-set_same rest behind (vs ++ us) [] short in
+              let same : vs ≡ get_or blocks 0 [] = ap (λ m. get_or rest m []) zero_is ∙ first_kept in
+              subst (λ b. Contains b n) (sym made) (Contains-append_left vs us n (subst (λ b. Contains b n) (sym same) joined.start))
+        ]
+
+        by : (us : List ℕ) → us ≡ get_or blocks place [] → IsPermutation blocks (us ∷ rest) → Contains vs (before (get_or us 0 0)) → new ≡ set rest behind (vs ++ us) → IsJoined n before p w new
+        by [] f q c g = absurd (omega (arith, block_is_some place inside, ap length f))
+        by (x ∷ xs) f q c g =
+            let us : List ℕ = x ∷ xs in
+            joined-next n before p w tree blocks joined vs x xs (remove rest behind)
+            (IsPermutation-trans blocks (us ∷ rest) (us ∷ vs ∷ remove rest behind) q (IsPermutation-cons us rest (vs ∷ remove rest behind) (IsPermutation-remove rest behind vs short (get_or_default rest behind [] vs short))))
+            c
+            (λ k d l. each us f (get_or blocks k d) k l (get_or_default blocks k d [] l))
+            new
+            (subst (IsPermutation ((vs ++ us) ∷ remove rest behind)) (sym (g ∙ set_split rest behind (vs ++ us) short)) (IsPermutation-sym (take behind rest ++ (vs ++ us) ∷ drop (suc behind) rest) ((vs ++ us) ∷ remove rest behind) (IsPermutation-middle (take behind rest) (vs ++ us) (drop (suc behind) rest))))
+            (subst (λ l. Contains (get_or l 0 []) n) (sym g) (starts us))
+          where
+            each : (us : List ℕ) → us ≡ get_or blocks place [] → (b : List ℕ) (k : ℕ) → k < length blocks → b ≡ get_or blocks k [] → ¬ Contains b n → sum_by w b * sum_by p us ≤ sum_by w us * sum_by p b
+            each us f b k l e none = elim (cases_lt 0 k) [
+              | inl some ↦ subst (λ u. sum_by w b * sum_by p u ≤ sum_by w u * sum_by p b) (sym f) (subst (λ c. sum_by w c * sum_by p (get_or blocks place []) ≤ sum_by w (get_or blocks place []) * sum_by p c) (sym e) (ratio k some l))
+              | inr zero_is ↦ let is : k ≡ 0 = omega (arith, zero_is) in absurd (none (subst (λ c. Contains c n) (sym (e ∙ ap (λ m. get_or blocks m []) is)) joined.start))
+            ]
+
+-- ---- the greatest ratio so far
+pub ratio_on : (wa pa wb pb wc pc : ℕ) → 0 < pb → wa * pb ≤ wb * pa → wb * pc ≤ wc * pb → wa * pc ≤ wc * pa
+ratio_on wa pa wb pb wc pc positive h k = le_of_mul-le-mul_left {k = pb} (omega (arith, mul-le-mul_left pc h, mul-le-mul_left pa k)) positive
+
+-- ---- in an instance
+pub read_block : (blocks : List (List ℕ)) (k : ℕ) (block slice : List ℕ) → k < length blocks → block ≡ get_or blocks k block → slice ≡ block → slice ≡ get_or blocks k []
+read_block blocks k block slice l at same = same ∙ at ∙ get_or_default blocks k block [] l
+
+module _ (i : Instance) (class : i.class ≡ horn_class) (inner : Inner i) (blocks : List (List ℕ)) (joined : AreJoined i blocks) where
+  abbrev horn : IsHornInstance i
+  horn = IsHornInstance-from_class i class inner
+
+  pub block_takes_time : (k : ℕ) → 1 ≤ k → k < length blocks → 0 < time_of i (get_or blocks k [])
+  block_takes_time k some l = by (get_or blocks k []) (block_is_some (length i.jobs) (before i) (time_at i) (weight_at i) blocks joined k l) (no_start (length i.jobs) (before i) (time_at i) (weight_at i) blocks joined k some l)
+    where
+      by : (b : List ℕ) → 0 < length b → All (λ j. j < length i.jobs) b → 0 < time_of i b
+      by [] h a = absurd (omega (arith, h))
+      by (x ∷ xs) h a = omega (arith, sum_by-cons (time_at i) x xs, takes_time i horn.plain x (All-head (λ j. j < length i.jobs) x xs a))
+
+  pub few_in_block : (k : ℕ) (slice : List ℕ) → k < length blocks → slice ≡ get_or blocks k [] → length slice ≤ 401
+  few_in_block k slice l e = omega (arith, ap length e, block_is_few (length i.jobs) (before i) (time_at i) (weight_at i) blocks joined k l, inner.conditions.few)
+
+  pub some_in_block : (k : ℕ) (slice : List ℕ) → k < length blocks → slice ≡ get_or blocks k [] → 0 < length slice
+  some_in_block k slice l e = omega (arith, ap length e, block_is_some (length i.jobs) (before i) (time_at i) (weight_at i) blocks joined k l)
+
+  module _ (place : ℕ) (later : 1 ≤ place) (inside : place < length blocks) (next rest : List ℕ) (others : List (List ℕ)) (taken_out : next ≡ get_or blocks place next) (same : rest ≡ next) (left : others ≡ remove blocks place) where
+    abbrev is : next ≡ get_or blocks place []
+    is = taken_out ∙ get_or_default blocks place next [] inside
+
+    pub goes_behind : (seen : List (List ℕ)) (b : ℕ) → seen ≡ others → b ≡ before i (get_or rest 0 0) → Contains (concat seen) b
+    goes_behind seen b e h =
+        subst (λ l. Contains (concat l) b) (sym (e ∙ left)) (subst (Contains (concat (remove blocks place))) (sym (h ∙ ap (λ l. before i (get_or l 0 0)) same)) (before_elsewhere (length i.jobs) (before i) (time_at i) (weight_at i) blocks joined horn.tree place later inside next is))
+
+    pub joined_again : (seen : List (List ℕ)) (b behind : ℕ) → seen ≡ others → b ≡ before i (get_or rest 0 0) → HasGreatestRatio i blocks place → behind < length seen → Contains (get_or seen behind []) b
+        → (vs us new : List ℕ) → vs ≡ get_or others behind vs → us ≡ next → new ≡ vs ++ us → AreJoined i (set others behind new)
+    joined_again seen b behind e h ratio short holds vs us new at again made =
+        let whole = e ∙ left in
+        let short' = subst (λ l. behind < length l) whole short in
+        joined_behind (length i.jobs) (before i) (time_at i) (weight_at i) blocks joined horn.tree place later inside next is behind short'
+        (subst (Contains (get_or (remove blocks place) behind [])) (h ∙ ap (λ l. before i (get_or l 0 0)) same) (subst (λ l. Contains (get_or l behind []) b) whole holds))
+        ratio (set others behind new)
+        (ap (λ l. set l behind new) left ∙ ap (set (remove blocks place) behind) (made ∙ ap₂ (λ x y. x ++ y) (at ∙ ap (λ l. get_or l behind vs) left ∙ get_or_default (remove blocks place) behind vs [] short') again))
+
+-- ---- the block of greatest ratio so far
+pub record IsBestSoFar (i : Instance) (blocks : List (List ℕ)) (best : Load) (count : ℕ) : Type 0 where
+  pub later : 1 ≤ best.place
+  pub early : best.place < count
+  pub time : best.time ≡ time_of i (get_or blocks best.place [])
+  pub weight : best.weight ≡ weight_of i (get_or blocks best.place [])
+  pub some : 0 < best.time
+  pub ratio : (k : ℕ) → 1 ≤ k → k < count → weight_of i (get_or blocks k []) * best.time ≤ best.weight * time_of i (get_or blocks k [])
+
+module _ (i : Instance) (blocks : List (List ℕ)) where
+  pub best-first : (x : Load) (jobs : List ℕ) → x.place ≡ 1 → jobs ≡ get_or blocks 1 [] → x.time ≡ time_of i jobs → x.weight ≡ weight_of i jobs → 0 < time_of i (get_or blocks 1 []) → IsBestSoFar i blocks x 2
+  best-first x jobs place e time weight some =
+      let time' = time ∙ ap (time_of i) e in
+      let weight' = weight ∙ ap (weight_of i) e in
+      record {
+        later = omega (arith, place);
+        early = omega (arith, place);
+        time = time' ∙ ap (λ k. time_of i (get_or blocks k [])) (sym place);
+        weight = weight' ∙ ap (λ k. weight_of i (get_or blocks k [])) (sym place);
+        some = omega (arith, time', some);
+        ratio = λ k from l. own k (omega (arith, from, l)) (time_of i (get_or blocks 1 [])) (weight_of i (get_or blocks 1 [])) x.time x.weight time' weight';
+      }
+    where
+      own : (k : ℕ) → k ≡ 1 → (p w t v : ℕ) → t ≡ time_of i (get_or blocks 1 []) → v ≡ weight_of i (get_or blocks 1 []) → weight_of i (get_or blocks k []) * t ≤ v * time_of i (get_or blocks k [])
+      own k one p w t v e f = equal _ _ _ _ (ap (λ m. weight_of i (get_or blocks m [])) one ∙ sym f) (e ∙ ap (λ m. time_of i (get_or blocks m [])) (sym one))
+        where
+          equal : (a b c d : ℕ) → a ≡ c → b ≡ d → a * b ≤ c * d
+          equal a b c d g h = omega (arith, ap₂ (λ m n. m * n) g h)
+
+  pub best-next : (a b r : Load) (jobs : List ℕ) (k : ℕ) → 1 ≤ k → b.place ≡ k → jobs ≡ get_or blocks k [] → b.time ≡ time_of i jobs → b.weight ≡ weight_of i jobs → 0 < time_of i (get_or blocks k [])
+      → (r ≡ a) ⊎ (r ≡ b) → a.weight * r.time ≤ r.weight * a.time → b.weight * r.time ≤ r.weight * b.time → IsBestSoFar i blocks a k → IsBestSoFar i blocks r (k + 1)
+  best-next a b r jobs k from place e time weight some either of_a of_b h = record {
+    later = elim either [ inl s ↦ omega (arith, ap (λ x. x.place) s, h.later) | inr s ↦ omega (arith, ap (λ x. x.place) s, place, from) ];
+    early = elim either [ inl s ↦ omega (arith, ap (λ x. x.place) s, h.early) | inr s ↦ omega (arith, ap (λ x. x.place) s, place) ];
+    time = elim either [ inl s ↦ subst (λ x. x.time ≡ time_of i (get_or blocks x.place [])) (sym s) h.time | inr s ↦ subst (λ x. x.time ≡ time_of i (get_or blocks x.place [])) (sym s) (time' ∙ ap (λ m. time_of i (get_or blocks m [])) (sym place)) ];
+    weight = elim either [ inl s ↦ subst (λ x. x.weight ≡ weight_of i (get_or blocks x.place [])) (sym s) h.weight | inr s ↦ subst (λ x. x.weight ≡ weight_of i (get_or blocks x.place [])) (sym s) (weight' ∙ ap (λ m. weight_of i (get_or blocks m [])) (sym place)) ];
+    some = elim either [ inl s ↦ omega (arith, ap (λ x. x.time) s, h.some) | inr s ↦ omega (arith, ap (λ x. x.time) s, time', some) ];
+    ratio = λ m one l. elim (cases_lt m k) [
+      | inl earlier ↦ ratio_on (weight_of i (get_or blocks m [])) (time_of i (get_or blocks m [])) a.weight a.time r.weight r.time h.some (h.ratio m one earlier) of_a
+      | inr late ↦
+          let now : k ≡ m = omega (arith, late, l) in
+          subst (λ n. weight_of i (get_or blocks n []) * r.time ≤ r.weight * time_of i (get_or blocks n [])) now (subst (λ n. n * r.time ≤ r.weight * time_of i (get_or blocks k [])) weight' (subst (λ n. b.weight * r.time ≤ r.weight * n) time' of_b))
+    ];
+  }
+    where
+      time' : b.time ≡ time_of i (get_or blocks k [])
+      time' = time ∙ ap (time_of i) e
+
+      weight' : b.weight ≡ weight_of i (get_or blocks k [])
+      weight' = weight ∙ ap (weight_of i) e
+
+  pub best-end : (best : Load) (count : ℕ) → length blocks ≤ count → IsBestSoFar i blocks best count → HasGreatestRatio i blocks best.place
+  best-end best count all h k one l = subst (λ n. weight_of i (get_or blocks k []) * n ≤ weight_of i (get_or blocks best.place []) * time_of i (get_or blocks k [])) h.time (subst (λ n. weight_of i (get_or blocks k []) * best.time ≤ n * time_of i (get_or blocks k [])) h.weight (h.ratio k one (omega (arith, l, all))))
+
+-- ---- the first blocks
+pub singles-next : (count k : ℕ) (new old : List (List ℕ)) (block : List ℕ) → new ≡ old ++ block ∷ [] → block ≡ k ∷ [] → old ≡ (count ∷ []) ∷ map (λ (j : ℕ). j ∷ []) (range_with_len 0 k) → new ≡ (count ∷ []) ∷ map (λ (j : ℕ). j ∷ []) (range_with_len 0 (k + 1))
+singles-next count k new old block e f h =
+    let one : ℕ → List ℕ = λ j. j ∷ [] in
+    let last : range_with_len 0 (k + 1) ≡ range_with_len 0 k ++ k ∷ [] = ap (range_with_len 0) (more k) ∙ range_with_len_last 0 k ∙ ap (λ m. range_with_len 0 k ++ m ∷ []) (none k) in
+    e ∙ ap₂ (λ l b. l ++ b ∷ []) h f ∙ ap (λ l. (count ∷ []) ∷ l) (sym (ap (map one) last ∙ map-append one (range_with_len 0 k) (k ∷ [])))
+  where
+    more : (k : ℕ) → k + 1 ≡ suc k
+    more k = omega arith
+
+    none : (k : ℕ) → 0 + k ≡ k
+    none k = omega arith
+
+pub joined-begin : (i : Instance) (class : i.class ≡ horn_class) (inner : Inner i) (count : ℕ) (blocks : List (List ℕ)) → count ≡ length i.jobs → blocks ≡ (count ∷ []) ∷ map (λ (j : ℕ). j ∷ []) (range_with_len 0 count) → AreJoined i blocks
+joined-begin i class inner count blocks e h = subst (AreJoined i) (sym (h ∙ ap (λ n. (n ∷ []) ∷ map (λ (j : ℕ). j ∷ []) (range_with_len 0 n)) e)) (joined-start (length i.jobs) (before i) (time_at i) (weight_at i) (IsHornInstance-from_class i class inner).tree)
+
+-- ---- the last block
+-- the jobs behind the start
+abbrev pub behind_first : List ℕ → List ℕ
+behind_first jobs = take (length jobs - 1) (drop 1 jobs)
+
+pub cheapest_behind : (i : Instance) (class : i.class ≡ horn_class) (inner : Inner i) (jobs seen : List ℕ) → AreJoined i (jobs ∷ []) → seen ≡ jobs → IsCheapest (length i.jobs) (before i) (time_at i) (weight_at i) (behind_first seen)
+cheapest_behind i class inner jobs seen joined e =
+    let (order, f, o) = cheapest (length i.jobs) (before i) (time_at i) (weight_at i) (IsHornInstance-from_class i class inner).tree jobs joined in
+    subst (IsCheapest (length i.jobs) (before i) (time_at i) (weight_at i)) (sym (ap behind_first (e ∙ f) ∙ rest (length i.jobs) order)) o
+  where
+    rest : (n : ℕ) (order : List ℕ) → behind_first (n ∷ order) ≡ order
+    rest n order = take_all (length (n ∷ order) - 1) order (omega arith)
+
+pub horn_made : (i : Instance) (class : i.class ≡ horn_class) (inner : Inner i) (jobs seen : List ℕ) → AreJoined i (jobs ∷ []) → seen ≡ jobs → IsHornSchedule i (row_schedule i (behind_first seen))
+horn_made i class inner jobs seen joined e = horn_schedule i (IsHornInstance-from_class i class inner) (behind_first seen) (cheapest_behind i class inner jobs seen joined e)

@@ -1,0 +1,14 @@
+-- Joined blocks, fewer in each round.
+use Rattle.std.proofs.Common.{◌<◌, length}
+use Rattle.msp_trees.specs.Joining.{AreJoined}
+use Rattle.msp_trees.proofs.joining.join_all.Given as goal
+
+-- some blocks are left
+abbrev pub invariant-loop-blocks : goal.invariant-loop-blocks
+invariant-loop-blocks l = record {
+  some : 0 < length l.blocks.items;
+  joined : AreJoined l.inst l.blocks.items;
+}
+
+abbrev pub decreases-loop-blocks : goal.decreases-loop-blocks
+decreases-loop-blocks l = length l.blocks.items

@@ -1,0 +1,15 @@
+-- The load of the jobs so far.
+use Rattle.std.proofs.Common.{◌≡◌, ◌*◌, ◌≤◌, take, sum_by}
+use Rattle.msp_schedule.proofs.OneRow.{time_at}
+use Rattle.msp_trees.specs.Joining.{weight_at}
+use Rattle.msp_trees.proofs.joining.load_of.Given as goal
+
+-- the time and the weight of the jobs so far
+abbrev pub invariant-loop-k : goal.invariant-loop-k
+invariant-loop-k l = record {
+  place : l.load.place ≡ l.place;
+  time : l.load.time ≡ sum_by (time_at l.inst) (take l.k l.jobs);
+  weight : l.load.weight ≡ sum_by (weight_at l.inst) (take l.k l.jobs);
+  short : l.load.time ≤ 1000000000 * l.k;
+  light : l.load.weight ≤ 1000000000 * l.k;
+}

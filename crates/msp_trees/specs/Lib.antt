@@ -1,0 +1,3 @@
+pub mod Horn
+pub mod Joining
+pub mod Row

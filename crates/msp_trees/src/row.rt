@@ -1,0 +1,70 @@
+// Jobs that run one after another.
+ghost use Rattle.std.specs.Prelude.{◌≡◌, ◌*◌, ◌<◌, ◌≤◌, length, slice_index_or, All, IfOk};
+ghost use Rattle.msp_instance.specs.declared.ranges.TheConstants.{GREATEST, MOST_JOBS};
+ghost use Rattle.msp_instance.specs.Instance.{no_need};
+ghost use Rattle.msp_instance.specs.Conditions.{Inner};
+ghost use Rattle.msp_schedule.specs.Within.{Within};
+ghost use Rattle.msp_schedule.specs.Feasible.{Feasible};
+ghost use Rattle.msp_schedule.proofs.OneRow.{piece, time_at, row_schedule};
+ghost use Rattle.msp_schedule.proofs.Rows.{row};
+ghost use Rattle.msp_trees.specs.Row.{IsRowSolution};
+
+use msp_class::{List, NoMemory};
+use msp_instance::{Instance, Job};
+use msp_schedule::{Piece, Schedule, Solution};
+use std::alloc::Global;
+
+/// The time of a job's first operation.
+pub fn first_time(job: &Job) -> u64
+    requires { 0 < length job.now.needs }
+    ensures { result ≡ (slice_index_or job.now.needs 0 no_need).time }
+{
+    job.needs.as_slice()[0].time
+}
+
+/// The pieces of the jobs one after another on machine 0, from moment 0 on.
+fn in_a_row(alloc: Global, inst: &Instance, order: &[u32]) -> Result<List<Piece>, NoMemory>
+    requires few { length order.now ≤ MOST_JOBS }
+    requires jobs { All (λ j. j < length inst.now.jobs) order.now }
+    requires needs { All (λ j. (0 < length j.needs) × ((slice_index_or j.needs 0 no_need).time ≤ GREATEST)) inst.now.jobs }
+    ensures { IfOk result (λ pieces. pieces ≡ row piece (time_at inst.now) 0 order.now) }
+{
+    let jobs = inst.jobs.as_slice();
+    let mut pieces = List::new(alloc);
+    let mut moment: u64 = 0;
+    for k in 0..order.len() {
+        let end = moment + first_time(&jobs[order[k] as usize]);
+        let next = Piece {
+            job: order[k],
+            op: 0,
+            machine: 0,
+            from: i128::from(moment),
+            to: i128::from(end),
+        };
+        if pieces.push(next).is_err() {
+            return Err(NoMemory);
+        }
+        moment = end;
+    }
+    Ok(pieces)
+}
+
+/// The solution in which the jobs run one after another from moment 0 on.
+pub fn solution_in_order(
+    alloc: Global,
+    inst: &Instance,
+    order: &[u32],
+) -> Result<Solution, NoMemory>
+    requires inner { Inner inst.now }
+    requires few { length order.now ≤ MOST_JOBS }
+    requires jobs { All (λ j. j < length inst.now.jobs) order.now }
+    requires needs { All (λ j. (0 < length j.needs) × ((slice_index_or j.needs 0 no_need).time ≤ GREATEST)) inst.now.jobs }
+    requires within { Within inst.now (row_schedule inst.now order.now) }
+    requires feasible { Feasible inst.now (row_schedule inst.now order.now) }
+    ensures { IfOk result (λ s. IsRowSolution inst.now order.now s) }
+{
+    let pieces = in_a_row(alloc, inst, order)?;
+    let schedule = Schedule { unit: 1, pieces };
+    let cost = msp_schedule::cost(inst, &schedule);
+    Ok(Solution { schedule, cost })
+}
