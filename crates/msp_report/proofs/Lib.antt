@@ -1,2 +1,4 @@
 pub mod RowsLemmas
 pub mod WhyLemmas
+pub mod Divided
+pub mod CheckLemmas

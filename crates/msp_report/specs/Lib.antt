@@ -4,3 +4,4 @@ pub mod FrontierText
 pub mod WhyText
 pub mod RowsText
 pub mod SolveText
+pub mod CheckText

@@ -1,10 +1,12 @@
-//! The texts of reports: labels of classes, the frontier, why a class has its label, the table of rows, and the answer to an instance.
+//! The texts of reports: labels of classes, the frontier, why a class has its label, the table of rows, the answer to an instance, and
+//! the check of a schedule.
 //!
-//! It stands on `msp_class`, `msp_name`, `msp_table`, `msp_closure`, `msp_route`, `msp_grammar` and `msp_text`. The layer above uses
-//! that each text is exactly the one that `specs/` defines.
+//! It stands on `msp_class`, `msp_name`, `msp_table`, `msp_closure`, `msp_route`, `msp_grammar`, `msp_file` and `msp_text`. The layer
+//! above uses that each text is exactly the one that `specs/` defines.
 #![tactic(auto)]
 
 mod chain_text;
+mod check;
 mod frontier;
 mod labels;
 mod rows;
@@ -13,6 +15,7 @@ mod solve;
 mod tests;
 mod why;
 
+pub use check::{check_text, states_its_cost};
 pub use frontier::frontier_text;
 pub use labels::labels_text;
 pub use rows::rows_text;

@@ -1,5 +1,4 @@
 pub mod Exits
-pub mod Divided
 pub mod CostBounds
 pub mod Stated
 pub mod PutsLemmas

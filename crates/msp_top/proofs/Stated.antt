@@ -21,7 +21,7 @@ use Rattle.msp_schedule.specs.Fraction.{IsOver, IsLowest}
 use Rattle.msp_schedule.specs.Within.{IsUnit}
 use Rattle.msp_grammar.specs.ScheduleText.{IsStatedCost, IsStated}
 use Rattle.msp_dispatch.specs.Dispatch.{IsReported}
-use Rattle.msp_top.proofs.Divided.{IsPrimeTo-from_gcd, lowest_is_least}
+use Rattle.msp_report.proofs.Divided.{IsPrimeTo-from_gcd, lowest_is_least}
 use Rattle.msp_top.proofs.CostBounds.{greatest_total, cost_of_small}
 
 -- ---- the cost
