@@ -14,8 +14,8 @@ use Rattle.msp_file.specs.declared.fault.FileFault.TheVariants.{Class, Cycle, Me
 use Rattle.msp_grammar.specs.declared.filed.Filed.{Filed}
 use Rattle.msp_grammar.specs.InstanceText.{IsInstanceText}
 use Rattle.msp_file.specs.Reading.{Reads, ReadsFront}
-use Rattle.msp_file.specs.Steps.{Fails, IsFaultOfFiled}
-use Rattle.msp_file.specs.Answers.{faulty_name, IsClassFault, IsCycleFault, IsFaultBy, IsFaultOf, IsFrontFaultOf, IsTextClassFault, IsTextFault, IsFrontFault, IsFrontText}
+use Rattle.msp_file.specs.Steps.{IsFaultOfFiled}
+use Rattle.msp_file.specs.Answers.{faulty_name, IsClassFault, IsCycleFault, IsFaultBy, IsFaultOf, IsFrontFaultOf, IsTextClassFault, IsTextFault, IsFrontFault, IsFrontText, Fails}
 use Rattle.msp_file.proofs.AnswerLemmas.{fault_of_whole}
 use Rattle.msp_file.proofs.LineFaults.{front}
 use Rattle.msp_file.proofs.LineLaws.{reads, ok_is}

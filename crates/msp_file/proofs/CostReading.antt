@@ -5,10 +5,11 @@ use Rattle.std.proofs.lemmas.List.Splits.{length-slice_split}
 use Rattle.msp_schedule.specs.declared.Frac.{Frac}
 use Rattle.msp_text.specs.declared.number.Spelled.{Spelled}
 use Rattle.msp_text.specs.Numbers.{capped}
+use Rattle.msp_file.specs.Answers.{Gives}
 use Rattle.msp_file.specs.declared.fault.FileFault.{FileFault}
 use Rattle.msp_file.specs.declared.fault.FileFault.TheVariants.{Number}
 use Rattle.msp_file.specs.ScheduleReading.{number_at, denominator_at, cost_of, cost_in}
-use Rattle.msp_file.specs.Steps.{Gives, spelled_as, parts_of, parts_after}
+use Rattle.msp_file.specs.Steps.{spelled_as, parts_of, parts_after}
 
 -- parts behind the denominator
 too_many : (at : ℕ) (part : List ℕ) (parts : List (List ℕ)) → 1 ≤ length parts → denominator_at at (part ∷ parts) ≡ Err (Number at)

@@ -7,8 +7,8 @@ use Rattle.msp_file.specs.declared.fault.FileFault.TheVariants.{Memory}
 use Rattle.msp_file.specs.declared.read.Front.{Front}
 use Rattle.msp_grammar.specs.declared.filed.Filed.{Filed}
 use Rattle.msp_file.specs.Reading.{Place, ReadsLines, start_of}
-use Rattle.msp_file.specs.Steps.{Fails, FailsBy, IsFaultOfFiled}
-use Rattle.msp_file.specs.Answers.{IsFrontText, IsFrontFaultOf}
+use Rattle.msp_file.specs.Steps.{FailsBy, IsFaultOfFiled}
+use Rattle.msp_file.specs.Answers.{IsFrontText, IsFrontFaultOf, Fails}
 use Rattle.msp_file.proofs.Readings.{lines_same, front_fails, front_done}
 use Rattle.msp_file.proofs.LineLaws.{reads, ok_is}
 use Rattle.msp_file.proofs.LineCounts.{feeds, feeds-append, line_after}

@@ -3,6 +3,7 @@ use Rattle.std.proofs.Common.{◌≡◌, ℕ, ◌==◌, true, false, inl, inr, L
 use Rattle.std.specs.Int.Signed.{◌≤ℤ◌}
 use Rattle.std.proofs.Math.Dec.{T_prop}
 use Rattle.msp_class.specs.declared.class.Class.{Class}
+use Rattle.msp_file.specs.Answers.{Fails}
 use Rattle.msp_file.specs.declared.fault.FileFault.{FileFault}
 use Rattle.msp_file.specs.declared.fault.FileFault.TheVariants.{Memory, After, Limit}
 use Rattle.msp_file.specs.declared.fault.What.TheVariants as what
@@ -15,7 +16,7 @@ use Rattle.msp_schedule.specs.declared.Frac.{Frac}
 use Rattle.msp_schedule.specs.declared.Schedule.{Schedule}
 use Rattle.msp_file.specs.declared.schedule.Stated.{Stated}
 use Rattle.msp_file.specs.ScheduleReading.{title_at, cost_at, unit_at, piece_step, IsStatedAs, ReadsPieces, ReadsStated, ReadsSchedule}
-use Rattle.msp_file.specs.Steps.{Fails, FailsBy, MovesBy, parts_of}
+use Rattle.msp_file.specs.Steps.{FailsBy, MovesBy, parts_of}
 
 -- ---- a text is read in one way
 

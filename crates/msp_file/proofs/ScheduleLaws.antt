@@ -25,6 +25,7 @@ use Rattle.msp_job_name.proofs.NameLists.{same_bytes}
 use Rattle.msp_grammar.specs.declared.limits.TheConstants.{GREATEST_COST, GREATEST_DENOMINATOR}
 use Rattle.msp_grammar.specs.ScheduleText.{line_feed, name_at, IsFractionText, alone, over, piece_line, piece_lines, cost_line, unit_line, stated_text, schedule_text, IsStatedCost, IsStatedPiece, IsStated, IsScheduleText}
 use Rattle.msp_grammar.specs.InstanceText.{line_text}
+use Rattle.msp_file.specs.Answers.{Fails}
 use Rattle.msp_file.specs.declared.fault.FileFault.{FileFault}
 use Rattle.msp_file.specs.declared.fault.FileFault.TheVariants.{Count, Number, Limit, Memory}
 use Rattle.msp_file.specs.declared.fault.What.TheVariants as what
@@ -33,7 +34,7 @@ use Rattle.msp_file.specs.Reading.{◌>>=◌, Place, line_at, fields_of, first_o
 use Rattle.msp_file.specs.ScheduleReading.{title_at, number_at, denominator_at, cost_of, cost_in, cost_at, unit_at, moment_at, span_at, place_at, piece_at, piece_line_at, piece_step, IsStatedAs, ReadsPieces, ReadsStated, ReadsSchedule}
 use Rattle.msp_grammar.proofs.PrintLemmas.{printed}
 use Rattle.msp_file.specs.ScheduleAnswers.{IsScheduleFaultOf, IsScheduleFault}
-use Rattle.msp_file.specs.Steps.{Fails, FailsBy, parts_of}
+use Rattle.msp_file.specs.Steps.{FailsBy, parts_of}
 use Rattle.msp_file.proofs.LineFaults.{schedule_faults}
 use Rattle.msp_file.proofs.Readings.{schedule_same}
 use Rattle.msp_file.proofs.LineLaws.{bind_ok, provided_ok, reads, ok_is, bind_again, provided_again, Takes, Gets, Takes-then, IsField, fields_takes, worded_takes, worded_again, begun, one_field}

@@ -4,13 +4,23 @@ use Rattle.msp_instance.specs.declared.Instance.{Instance}
 use Rattle.msp_grammar.specs.InstanceText.{IsInstanceText}
 use Rattle.msp_instance.specs.declared.membership.ClassFault.{ClassFault}
 use Rattle.msp_instance.specs.declared.membership.ClassFault.TheVariants as class_fault
-use Rattle.msp_instance.specs.Conditions.{MeetsConditions, text_limits, InClass}
+use Rattle.msp_instance.specs.Conditions.{MeetsConditions, text_limits}
 use Rattle.msp_instance.specs.Faults.{IsFirstFault}
 use Rattle.msp_instance.specs.Paths.{IsLeastOnCycle}
 use Rattle.msp_file.specs.declared.fault.FileFault.{FileFault}
 use Rattle.msp_file.specs.declared.fault.FileFault.TheVariants.{Class, Cycle, Memory, After}
 use Rattle.msp_grammar.specs.declared.filed.Filed.{Filed}
 use Rattle.msp_file.specs.Reading.{Reads, ReadsFront}
+
+-- Where memory runs out, nothing is said. Another fault is the one that is due.
+abbrev pub Fails : {Y : Type 0} → FileFault → Result Y FileFault → Type 0
+Fails Memory due = Unit {0}
+Fails e due = due ≡ Err e
+
+-- The result, seen by view, is what is due, or memory runs out.
+abbrev pub Gives : {X Y : Type 0} → (X → Y) → Result X FileFault → Result Y FileFault → Type 0
+Gives view (Ok x) due = due ≡ Ok (view x)
+Gives view (Err e) due = Fails e due
 
 -- The name of the job that a fault of the class names, if it names one.
 abbrev pub faulty_name : List (List ℕ) → ClassFault → Option (List ℕ)
@@ -74,11 +84,6 @@ IsTextFault _ = Unit {0}
 abbrev pub IsFrontFault : FileFault → Type 0
 IsFrontFault (After at) = ⊥
 IsFrontFault e = IsTextFault e
-
--- The answer is the instance of the lines, which is in its class, or the first fault.
-abbrev pub IsAnswerTo : List ℕ → Result Filed FileFault → Type 0
-IsAnswerTo bytes (Ok filed) = Reads bytes (Ok filed) × InClass filed.instance
-IsAnswerTo bytes (Err e) = IsFaultOf bytes e
 
 -- Each text is read in one way, so its first fault is one.
 abbrev pub ReadsOneWay : Type 0

@@ -1,4 +1,4 @@
--- What the functions that read say: that they read as the definitions do, unless memory runs out. A public contract cites `Gives` alone.
+-- What the functions that read say: that they read as the definitions do, unless memory runs out. No public contract cites this file.
 use Rattle.std.specs.Prelude.{◌≡◌, ℕ, ℤ, ◌==◌, Bool, true, false, List, [], ◌∷◌, length, slice_get, Some, Result, Ok, Err}
 use Rattle.std.specs.List.{slice_split}
 use Rattle.msp_file.specs.declared.fault.FileFault.{FileFault}
@@ -7,7 +7,7 @@ use Rattle.msp_grammar.specs.declared.filed.Filed.{Filed}
 use Rattle.msp_instance.specs.Conditions.{MeetsConditions, text_limits}
 use Rattle.msp_instance.specs.Faults.{IsFirstFault}
 use Rattle.msp_instance.specs.Paths.{IsLeastOnCycle}
-use Rattle.msp_file.specs.Answers.{faulty_name}
+use Rattle.msp_file.specs.Answers.{faulty_name, Fails}
 use Rattle.msp_schedule.specs.declared.Frac.{Frac}
 use Rattle.msp_text.specs.declared.number.Spelled.{Spelled}
 use Rattle.msp_text.specs.Numbers.{capped}
@@ -18,17 +18,7 @@ use Rattle.msp_file.specs.declared.draft.Next.TheVariants.{Job, Arc, End}
 use Rattle.msp_class.specs.declared.class.Class.{Class}
 use Rattle.msp_file.specs.Reading.{Place, LineRead, job_read, more_read, end_read, job_step}
 
--- Where memory runs out, nothing is said. Another fault is that of the reading.
-abbrev pub Fails : {Y : Type 0} → FileFault → Result Y FileFault → Type 0
-Fails Memory read = Unit {0}
-Fails e read = read ≡ Err e
-
--- The result, seen by view, is what reading gives.
-abbrev pub Gives : {X Y : Type 0} → (X → Y) → Result X FileFault → Result Y FileFault → Type 0
-Gives view (Ok x) read = read ≡ Ok (view x)
-Gives view (Err e) read = Fails e read
-
--- The same of a function that leaves the place after what it read.
+-- By `Gives` a function reads what reading gives. The same of a function that leaves the place after what it read.
 abbrev pub Moves : {X Y : Type 0} → (X → Y) → Result X FileFault → Place → Result (Y × Place) FileFault → Type 0
 Moves view (Ok x) after read = read ≡ Ok (view x, after)
 Moves view (Err e) after read = Fails e read

@@ -1,8 +1,9 @@
 // The lines before those of the jobs.
 ghost use Rattle.std.specs.Prelude.{◌≡◌, ◌+◌, ◌++◌, ◌∷◌, ◌<◌, ◌≤◌, ◌^◌, [], ℕ, List as Items, length, All, IfOk, OnOk, MatchResult};
 ghost use Rattle.msp_instance.specs.declared.ranges.TheConstants.{GREATEST_SPEED};
+ghost use Rattle.msp_file.specs.Answers.{Fails, Gives};
 ghost use Rattle.msp_file.specs.Reading.{fields_of, version_at, class_in, class_at, number_line_at, machines_line_at, machines_at, speeds_in, speeds_line_at, speeds_at, time_line_at, time_at};
-ghost use Rattle.msp_file.specs.Steps.{Fails, Gives, Leads, Moves, place_of, fields_after};
+ghost use Rattle.msp_file.specs.Steps.{Leads, Moves, place_of, fields_after};
 
 use crate::fault::{FileFault, What};
 use crate::lines::{count_fields, line_at, next_field, split_word, worded_at};

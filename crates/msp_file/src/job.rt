@@ -4,8 +4,9 @@ ghost use Rattle.std.specs.List.{list_any};
 ghost use Rattle.msp_class.specs.Rank.{flag_number};
 ghost use Rattle.msp_instance.specs.declared.ranges.TheConstants.{GREATEST};
 ghost use Rattle.msp_job_name.specs.JobName.{is_name_byte};
+ghost use Rattle.msp_file.specs.Answers.{Gives};
 ghost use Rattle.msp_file.specs.Reading.{is_name_text, job_name_at, known_at, keyed_at, natural_key_at, integer_key_at, keys_at, count_of_keys, job_line_at};
-ghost use Rattle.msp_file.specs.Steps.{Gives, fields_after};
+ghost use Rattle.msp_file.specs.Steps.{fields_after};
 
 use crate::fault::{FileFault, What};
 use crate::lines::{count_fields, next_field};

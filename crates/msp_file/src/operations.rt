@@ -2,8 +2,9 @@
 ghost use Rattle.std.specs.Prelude.{◌≡◌, ◌+◌, ◌<◌, ◌≤◌, ◌^◌, [], length, map, IfOk, OnOk, MatchResult};
 ghost use Rattle.std.specs.List.{range_with_len};
 ghost use Rattle.msp_class.specs.Env.{kind_of};
+ghost use Rattle.msp_file.specs.Answers.{Gives};
 ghost use Rattle.msp_file.specs.Reading.{natural_at, machine_at, with_need, times_at, timed_route_at, machine_route_at, operations_at, operations_in, fields_in, is_route_count, times_line_at, route_line_at, unwritten_needs, needs_at};
-ghost use Rattle.msp_file.specs.Steps.{Gives, Leads, Moves, place_of, fields_after};
+ghost use Rattle.msp_file.specs.Steps.{Leads, Moves, place_of, fields_after};
 
 use crate::fault::{FileFault, What};
 use crate::lines::{count_fields, next_field, worded_at};

@@ -3,10 +3,10 @@ ghost use Rattle.std.specs.Prelude.{◌≡◌, ℕ, ◌+◌, ◌<◌, ◌≤◌,
 ghost use Rattle.msp_instance.specs.declared.Instance.{Instance as InstanceValue};
 ghost use Rattle.msp_instance.specs.Conditions.{MeetsConditions, text_limits, IsAcyclic, InClass};
 ghost use Rattle.msp_file.specs.declared.read.TheConstants.{MOST_BYTES};
-ghost use Rattle.msp_file.specs.Answers.{faulty_name, IsTextFault, IsFrontFault, IsFrontFaultOf, IsFrontText, IsAnswerTo, ReadsOneWay};
+ghost use Rattle.msp_file.specs.Answers.{faulty_name, IsTextFault, IsFrontFault, IsFaultOf, IsFrontFaultOf, IsFrontText, Gives, ReadsOneWay};
 ghost use Rattle.msp_grammar.specs.InstanceText.{IsInstanceText};
 ghost use Rattle.msp_file.specs.Reading.{Reads, ReadsLines, ReadsRest, ReadsSpeeds, filed_of, no_draft};
-ghost use Rattle.msp_file.specs.Steps.{Gives, GivesBy, MovesBy, IsFaultOfFiled, place_of};
+ghost use Rattle.msp_file.specs.Steps.{GivesBy, MovesBy, IsFaultOfFiled, place_of};
 
 use crate::arcs::Arcs;
 use crate::draft::{Draft, Frame, jobs_at};
@@ -204,8 +204,7 @@ fn check_filed(alloc: Global, filed: &Filed) -> Result<(), FileFault>
 #[tactic(auto, using(crate::proofs::AnswerLemmas::answer_rules, crate::proofs::AnswerLaws::text_rules))]
 pub fn read_instance(alloc: Global, bytes: &[u8]) -> Result<Filed, FileFault>
     requires { length bytes.now ≤ MOST_BYTES }
-    ensures answer { IsAnswerTo bytes.now result }
-    ensures named { IfOk result (λ f. length f.names ≡ length f.instance.jobs) }
+    ensures fault { IfErr result (λ e. IsFaultOf bytes.now e) }
     // What is read is the text of the instance.
     ensures text { IfOk result (λ f. IsInstanceText bytes.now f.instance f.names) }
     // The text of an instance is read as that instance, unless memory runs out.

@@ -8,8 +8,9 @@ ghost use Rattle.msp_file.specs.declared.read.TheConstants.{MOST_BYTES};
 ghost use Rattle.msp_file.specs.declared.schedule.TheConstants.{LAST_LINE};
 ghost use Rattle.msp_file.specs.Reading.{ReadsMore};
 ghost use Rattle.msp_file.specs.ScheduleReading.{title_at, number_at, denominator_at, cost_of, cost_in, cost_at, unit_at, moment_at, span_at, place_at, piece_at, piece_line_at, piece_step, ReadsPieces, ReadsStated, ReadsSchedule};
+ghost use Rattle.msp_file.specs.Answers.{Fails, Gives};
 ghost use Rattle.msp_file.specs.ScheduleAnswers.{IsScheduleFaultOf, IsScheduleFault, SchedulesReadOneWay, PrintedReadAgain};
-ghost use Rattle.msp_file.specs.Steps.{Fails, Gives, GivesBy, Moves, MovesBy, AfterLine, spelled_as, parts_of, place_of, parts_after, fields_after};
+ghost use Rattle.msp_file.specs.Steps.{GivesBy, Moves, MovesBy, AfterLine, spelled_as, parts_of, place_of, parts_after, fields_after};
 
 use crate::draft::end_line;
 use crate::fault::{FileFault, What};

@@ -7,7 +7,7 @@ use Rattle.msp_top.proofs.answers.solve_answer.Goals as goal
 
 pub returns-in_err-filed : goal.returns-in_err-filed
 returns-in_err-filed c = exits _ (Answers (SolveIsRight c.args.input.now c.args.at)) c.from_residual.result c.from_residual.ensures.1
-    (λ why e. misread_right c.args.input.now c.args.at c.in_err-filed.field-0.0 why c.in_err-filed.ensures.answer e)
+    (λ why e. misread_right c.args.input.now c.args.at c.in_err-filed.field-0.0 why c.in_err-filed.ensures.fault e)
 
 pub returns : goal.returns
 returns c = filed_right c.args.input.now c.args.at c.in_ok-filed.filed c.answer_filed.result c.in_ok-filed.ensures.text c.answer_filed.ensures
