@@ -2,7 +2,7 @@
 use Rattle.std.proofs.Common.{◌≡◌, ◌≢◌, ℕ, zero, suc, ◌+◌, ◌-◌, ◌*◌, ◌<◌, ◌≤◌, ◌⊎◌, inl, inr, Bool, true, false, if◌then◌else◌, List, [], ◌∷◌, ◌++◌, length, get_or, take, drop, set, remove, map, All, Contains, IsPermutation, sum_by, refl, sym, ap, ap₂, subst, ◌∙◌, arith, slice_index_or, None, Some}
 use Rattle.std.specs.Prelude.{◌==◌}
 use Rattle.std.specs.List.{concat, list_any, slice_get, range_with_len}
-use native.Mathlib.Nat.{le_of_mul-le-mul_left, mul-le-mul_left}
+use native.Mathlib.Nat.{le_of_mul-le-mul_left, mul-le-mul_left, mul-lt-mul_of_pos_left, lt_of_mul-lt-mul_left}
 use Rattle.std.proofs.lemmas.Bool.{cases_lt, eq-eqb, ne_eqb}
 use Rattle.std.proofs.lemmas.List.{append_assoc, take_all, map-append, drop_more, take_more, get_or_default, get_or_past, length-append, get_or-set_same, get_or-set_other, set_split}
 use Rattle.std.proofs.lemmas.Option.{slice_get_cases}
@@ -20,7 +20,7 @@ use Rattle.msp_instance.proofs.ListingLemmas.{list_any-from_Contains}
 use Rattle.msp_schedule.proofs.OneRow.{time_at, row_schedule}
 use Rattle.msp_trees.specs.declared.joining.Load.{Load}
 use Rattle.msp_trees.specs.Horn.{horn_class}
-use Rattle.msp_trees.specs.Joining.{first_before, before, weight_at, time_of, weight_of, IsForward, IsBranch, IsJoined, AreJoined, IsCheapest, HasGreatestRatio}
+use Rattle.msp_trees.specs.Joining.{first_before, before, weight_at, time_of, weight_of, IsForward, IsBranch, IsJoined, AreJoined, IsCheapest, IsJoinedBefore, GoesNext}
 use Rattle.msp_trees.proofs.Lists.{All-right, pairs_left, pairs_right, pairs_across, taken, concat-permutation, All-concat}
 use Rattle.msp_trees.proofs.Facts.{takes_time}
 use Rattle.msp_trees.proofs.Joins.{IsTree, joined-start, joined-next, cheapest}
@@ -187,9 +187,36 @@ module _ (n : ℕ) (before p w : ℕ → ℕ) (blocks : List (List ℕ)) (joined
               | inr zero_is ↦ let is : k ≡ 0 = omega (arith, zero_is) in absurd (none (subst (λ c. Contains c n) (sym (e ∙ ap (λ m. get_or blocks m []) is)) joined.start))
             ]
 
--- ---- the greatest ratio so far
-pub ratio_on : (wa pa wb pb wc pc : ℕ) → 0 < pb → wa * pb ≤ wb * pa → wb * pc ≤ wc * pb → wa * pc ≤ wc * pa
-ratio_on wa pa wb pb wc pc positive h k = le_of_mul-le-mul_left {k = pb} (omega (arith, mul-le-mul_left pc h, mul-le-mul_left pa k)) positive
+-- ---- what is joined before another
+-- of weights for times: the weight w for the time p with the first job g comes after v for t with f
+abbrev pub Leads : ℕ → ℕ → ℕ → ℕ → ℕ → ℕ → Type 0
+Leads v t f w p g = (w * t < v * p) ⊎ ((w * t ≡ v * p) × (f ≤ g))
+
+pub at_most : (v t f w p g : ℕ) → Leads v t f w p g → w * t ≤ v * p
+at_most v t f w p g h = elim h [ inl l ↦ omega (arith, l) | inr e ↦ omega (arith, e.0) ]
+
+strict_left : (a b c P Q R : ℕ) → 0 < R → a * Q < b * P → b * R ≤ c * Q → a * R < c * P
+strict_left a b c P Q R r h k = lt_of_mul-lt-mul_left Q (omega (arith, mul-lt-mul_of_pos_left {k = R} h r, mul-le-mul_left P k))
+
+strict_right : (a b c P Q R : ℕ) → 0 < P → a * Q ≤ b * P → b * R < c * Q → a * R < c * P
+strict_right a b c P Q R r h k = lt_of_mul-lt-mul_left Q (omega (arith, mul-le-mul_left R h, mul-lt-mul_of_pos_left {k = P} k r))
+
+level : (a b c P Q R : ℕ) → 0 < Q → a * Q ≡ b * P → b * R ≡ c * Q → a * R ≡ c * P
+level a b c P Q R q h k =
+    let times : Q * (a * R) ≡ Q * (c * P) = omega (arith, ap (λ n. R * n) h, ap (λ n. P * n) k) in
+    let up : a * R ≤ c * P = le_of_mul-le-mul_left {k = Q} (omega arith) q in
+    let down : c * P ≤ a * R = le_of_mul-le-mul_left {k = Q} (omega arith) q in
+    omega arith
+
+-- it goes on past a middle one
+pub leads_on : (wa pa fa wb pb fb wc pc fc : ℕ) → 0 < pa → 0 < pb → 0 < pc → Leads wb pb fb wa pa fa → Leads wc pc fc wb pb fb → Leads wc pc fc wa pa fa
+leads_on wa pa fa wb pb fb wc pc fc sa sb sc h k = elim h [
+  | inl l ↦ inl (strict_left wa wb wc pa pb pc sc l (at_most wc pc fc wb pb fb k))
+  | inr e ↦ elim k [
+    | inl l ↦ inl (strict_right wa wb wc pa pb pc sa (omega (arith, e.0)) l)
+    | inr f ↦ inr (level wa wb wc pa pb pc sb e.0 f.0, omega (arith, e.1, f.1))
+  ]
+]
 
 -- ---- in an instance
 pub read_block : (blocks : List (List ℕ)) (k : ℕ) (block slice : List ℕ) → k < length blocks → block ≡ get_or blocks k block → slice ≡ block → slice ≡ get_or blocks k []
@@ -220,69 +247,87 @@ module _ (i : Instance) (class : i.class ≡ horn_class) (inner : Inner i) (bloc
     goes_behind seen b e h =
         subst (λ l. Contains (concat l) b) (sym (e ∙ left)) (subst (Contains (concat (remove blocks place))) (sym (h ∙ ap (λ l. before i (get_or l 0 0)) same)) (before_elsewhere (length i.jobs) (before i) (time_at i) (weight_at i) blocks joined horn.tree place later inside next is))
 
-    pub joined_again : (seen : List (List ℕ)) (b behind : ℕ) → seen ≡ others → b ≡ before i (get_or rest 0 0) → HasGreatestRatio i blocks place → behind < length seen → Contains (get_or seen behind []) b
+    pub joined_again : (seen : List (List ℕ)) (b behind : ℕ) → seen ≡ others → b ≡ before i (get_or rest 0 0) → GoesNext i blocks place → behind < length seen → Contains (get_or seen behind []) b
         → (vs us new : List ℕ) → vs ≡ get_or others behind vs → us ≡ next → new ≡ vs ++ us → AreJoined i (set others behind new)
     joined_again seen b behind e h ratio short holds vs us new at again made =
         let whole = e ∙ left in
         let short' = subst (λ l. behind < length l) whole short in
         joined_behind (length i.jobs) (before i) (time_at i) (weight_at i) blocks joined horn.tree place later inside next is behind short'
         (subst (Contains (get_or (remove blocks place) behind [])) (h ∙ ap (λ l. before i (get_or l 0 0)) same) (subst (λ l. Contains (get_or l behind []) b) whole holds))
-        ratio (set others behind new)
+        (λ k from l. at_most _ _ (get_or (get_or blocks place []) 0 0) _ _ (get_or (get_or blocks k []) 0 0) (ratio k from l)) (set others behind new)
         (ap (λ l. set l behind new) left ∙ ap (set (remove blocks place) behind) (made ∙ ap₂ (λ x y. x ++ y) (at ∙ ap (λ l. get_or l behind vs) left ∙ get_or_default (remove blocks place) behind vs [] short') again))
 
--- ---- the block of greatest ratio so far
+-- ---- the block that is joined before all others so far
 pub record IsBestSoFar (i : Instance) (blocks : List (List ℕ)) (best : Load) (count : ℕ) : Type 0 where
   pub later : 1 ≤ best.place
   pub early : best.place < count
+  pub first : best.first ≡ get_or (get_or blocks best.place []) 0 0
   pub time : best.time ≡ time_of i (get_or blocks best.place [])
   pub weight : best.weight ≡ weight_of i (get_or blocks best.place [])
   pub some : 0 < best.time
-  pub ratio : (k : ℕ) → 1 ≤ k → k < count → weight_of i (get_or blocks k []) * best.time ≤ best.weight * time_of i (get_or blocks k [])
+  pub leads : (k : ℕ) → 1 ≤ k → k < count → Leads best.weight best.time best.first (weight_of i (get_or blocks k [])) (time_of i (get_or blocks k [])) (get_or (get_or blocks k []) 0 0)
 
 module _ (i : Instance) (blocks : List (List ℕ)) where
-  pub best-first : (x : Load) (jobs : List ℕ) → x.place ≡ 1 → jobs ≡ get_or blocks 1 [] → x.time ≡ time_of i jobs → x.weight ≡ weight_of i jobs → 0 < time_of i (get_or blocks 1 []) → IsBestSoFar i blocks x 2
-  best-first x jobs place e time weight some =
-      let time' = time ∙ ap (time_of i) e in
-      let weight' = weight ∙ ap (weight_of i) e in
+  -- the load is that of the block at the place
+  record IsLoadAt (x : Load) (k : ℕ) : Type 0 where
+    place : x.place ≡ k
+    first : x.first ≡ get_or (get_or blocks k []) 0 0
+    time : x.time ≡ time_of i (get_or blocks k [])
+    weight : x.weight ≡ weight_of i (get_or blocks k [])
+
+  load_at : (x : Load) (jobs : List ℕ) (k : ℕ) → x.place ≡ k → x.first ≡ get_or jobs 0 0 → jobs ≡ get_or blocks k [] → x.time ≡ time_of i jobs → x.weight ≡ weight_of i jobs → IsLoadAt x k
+  load_at x jobs k place first e time weight = record { place = place; first = first ∙ ap (λ l. get_or l 0 0) e; time = time ∙ ap (time_of i) e; weight = weight ∙ ap (weight_of i) e }
+
+  -- what leads a load leads its block
+  leads_block : (r x : Load) (k : ℕ) → IsLoadAt x k → Leads r.weight r.time r.first x.weight x.time x.first → Leads r.weight r.time r.first (weight_of i (get_or blocks k [])) (time_of i (get_or blocks k [])) (get_or (get_or blocks k []) 0 0)
+  leads_block r x k h l =
+      let one = subst (λ n. Leads r.weight r.time r.first n x.time x.first) h.weight l in
+      let two = subst (λ n. Leads r.weight r.time r.first (weight_of i (get_or blocks k [])) n x.first) h.time one in
+      subst (λ n. Leads r.weight r.time r.first (weight_of i (get_or blocks k [])) (time_of i (get_or blocks k [])) n) h.first two
+
+  pub best-first : (x : Load) (jobs : List ℕ) → x.place ≡ 1 → x.first ≡ get_or jobs 0 0 → jobs ≡ get_or blocks 1 [] → x.time ≡ time_of i jobs → x.weight ≡ weight_of i jobs → 0 < time_of i (get_or blocks 1 []) → IsBestSoFar i blocks x 2
+  best-first x jobs place first e time weight some =
+      let at = load_at x jobs 1 place first e time weight in
       record {
         later = omega (arith, place);
         early = omega (arith, place);
-        time = time' ∙ ap (λ k. time_of i (get_or blocks k [])) (sym place);
-        weight = weight' ∙ ap (λ k. weight_of i (get_or blocks k [])) (sym place);
-        some = omega (arith, time', some);
-        ratio = λ k from l. own k (omega (arith, from, l)) (time_of i (get_or blocks 1 [])) (weight_of i (get_or blocks 1 [])) x.time x.weight time' weight';
+        first = at.first ∙ ap (λ k. get_or (get_or blocks k []) 0 0) (sym place);
+        time = at.time ∙ ap (λ k. time_of i (get_or blocks k [])) (sym place);
+        weight = at.weight ∙ ap (λ k. weight_of i (get_or blocks k [])) (sym place);
+        some = omega (arith, at.time, some);
+        leads = λ k from l. let one : 1 ≡ k = omega (arith, from, l) in subst (λ n. Leads x.weight x.time x.first (weight_of i (get_or blocks n [])) (time_of i (get_or blocks n [])) (get_or (get_or blocks n []) 0 0)) one (leads_block x x 1 at (inr (refl, omega arith)));
+      }
+
+  pub best-next : (a b r : Load) (jobs : List ℕ) (k : ℕ) → 1 ≤ k → b.place ≡ k → b.first ≡ get_or jobs 0 0 → jobs ≡ get_or blocks k [] → b.time ≡ time_of i jobs → b.weight ≡ weight_of i jobs → ((m : ℕ) → 1 ≤ m → m < k + 1 → 0 < time_of i (get_or blocks m []))
+      → (r ≡ a) ⊎ (r ≡ b) → Leads r.weight r.time r.first a.weight a.time a.first → Leads r.weight r.time r.first b.weight b.time b.first → IsBestSoFar i blocks a k → IsBestSoFar i blocks r (k + 1)
+  best-next a b r jobs k from place first e time weight positive either of_a of_b h =
+      let some : 0 < r.time = elim either [ inl s ↦ omega (arith, ap (λ x. x.time) s, h.some) | inr s ↦ omega (arith, ap (λ x. x.time) s, at.time, positive k from (omega arith)) ] in
+      record {
+        later = elim either [ inl s ↦ omega (arith, ap (λ x. x.place) s, h.later) | inr s ↦ omega (arith, ap (λ x. x.place) s, place, from) ];
+        early = elim either [ inl s ↦ omega (arith, ap (λ x. x.place) s, h.early) | inr s ↦ omega (arith, ap (λ x. x.place) s, place) ];
+        first = elim either [ inl s ↦ subst (λ x. x.first ≡ get_or (get_or blocks x.place []) 0 0) (sym s) h.first | inr s ↦ subst (λ x. x.first ≡ get_or (get_or blocks x.place []) 0 0) (sym s) (at.first ∙ ap (λ m. get_or (get_or blocks m []) 0 0) (sym place)) ];
+        time = elim either [ inl s ↦ subst (λ x. x.time ≡ time_of i (get_or blocks x.place [])) (sym s) h.time | inr s ↦ subst (λ x. x.time ≡ time_of i (get_or blocks x.place [])) (sym s) (at.time ∙ ap (λ m. time_of i (get_or blocks m [])) (sym place)) ];
+        weight = elim either [ inl s ↦ subst (λ x. x.weight ≡ weight_of i (get_or blocks x.place [])) (sym s) h.weight | inr s ↦ subst (λ x. x.weight ≡ weight_of i (get_or blocks x.place [])) (sym s) (at.weight ∙ ap (λ m. weight_of i (get_or blocks m [])) (sym place)) ];
+        some = some;
+        leads = λ m one l. elim (cases_lt m k) [
+          | inl earlier ↦ leads_on _ _ _ a.weight a.time a.first r.weight r.time r.first (positive m one l) h.some some (h.leads m one earlier) of_a
+          | inr late ↦
+              let now : k ≡ m = omega (arith, late, l) in
+              subst (λ n. Leads r.weight r.time r.first (weight_of i (get_or blocks n [])) (time_of i (get_or blocks n [])) (get_or (get_or blocks n []) 0 0)) now (leads_block r b k at of_b)
+        ];
       }
     where
-      own : (k : ℕ) → k ≡ 1 → (p w t v : ℕ) → t ≡ time_of i (get_or blocks 1 []) → v ≡ weight_of i (get_or blocks 1 []) → weight_of i (get_or blocks k []) * t ≤ v * time_of i (get_or blocks k [])
-      own k one p w t v e f = equal _ _ _ _ (ap (λ m. weight_of i (get_or blocks m [])) one ∙ sym f) (e ∙ ap (λ m. time_of i (get_or blocks m [])) (sym one))
-        where
-          equal : (a b c d : ℕ) → a ≡ c → b ≡ d → a * b ≤ c * d
-          equal a b c d g h = omega (arith, ap₂ (λ m n. m * n) g h)
+      at : IsLoadAt b k
+      at = load_at b jobs k place first e time weight
 
-  pub best-next : (a b r : Load) (jobs : List ℕ) (k : ℕ) → 1 ≤ k → b.place ≡ k → jobs ≡ get_or blocks k [] → b.time ≡ time_of i jobs → b.weight ≡ weight_of i jobs → 0 < time_of i (get_or blocks k [])
-      → (r ≡ a) ⊎ (r ≡ b) → a.weight * r.time ≤ r.weight * a.time → b.weight * r.time ≤ r.weight * b.time → IsBestSoFar i blocks a k → IsBestSoFar i blocks r (k + 1)
-  best-next a b r jobs k from place e time weight some either of_a of_b h = record {
-    later = elim either [ inl s ↦ omega (arith, ap (λ x. x.place) s, h.later) | inr s ↦ omega (arith, ap (λ x. x.place) s, place, from) ];
-    early = elim either [ inl s ↦ omega (arith, ap (λ x. x.place) s, h.early) | inr s ↦ omega (arith, ap (λ x. x.place) s, place) ];
-    time = elim either [ inl s ↦ subst (λ x. x.time ≡ time_of i (get_or blocks x.place [])) (sym s) h.time | inr s ↦ subst (λ x. x.time ≡ time_of i (get_or blocks x.place [])) (sym s) (time' ∙ ap (λ m. time_of i (get_or blocks m [])) (sym place)) ];
-    weight = elim either [ inl s ↦ subst (λ x. x.weight ≡ weight_of i (get_or blocks x.place [])) (sym s) h.weight | inr s ↦ subst (λ x. x.weight ≡ weight_of i (get_or blocks x.place [])) (sym s) (weight' ∙ ap (λ m. weight_of i (get_or blocks m [])) (sym place)) ];
-    some = elim either [ inl s ↦ omega (arith, ap (λ x. x.time) s, h.some) | inr s ↦ omega (arith, ap (λ x. x.time) s, time', some) ];
-    ratio = λ m one l. elim (cases_lt m k) [
-      | inl earlier ↦ ratio_on (weight_of i (get_or blocks m [])) (time_of i (get_or blocks m [])) a.weight a.time r.weight r.time h.some (h.ratio m one earlier) of_a
-      | inr late ↦
-          let now : k ≡ m = omega (arith, late, l) in
-          subst (λ n. weight_of i (get_or blocks n []) * r.time ≤ r.weight * time_of i (get_or blocks n [])) now (subst (λ n. n * r.time ≤ r.weight * time_of i (get_or blocks k [])) weight' (subst (λ n. b.weight * r.time ≤ r.weight * n) time' of_b))
-    ];
-  }
-    where
-      time' : b.time ≡ time_of i (get_or blocks k [])
-      time' = time ∙ ap (time_of i) e
-
-      weight' : b.weight ≡ weight_of i (get_or blocks k [])
-      weight' = weight ∙ ap (weight_of i) e
-
-  pub best-end : (best : Load) (count : ℕ) → length blocks ≤ count → IsBestSoFar i blocks best count → HasGreatestRatio i blocks best.place
-  best-end best count all h k one l = subst (λ n. weight_of i (get_or blocks k []) * n ≤ weight_of i (get_or blocks best.place []) * time_of i (get_or blocks k [])) h.time (subst (λ n. weight_of i (get_or blocks k []) * best.time ≤ n * time_of i (get_or blocks k [])) h.weight (h.ratio k one (omega (arith, l, all))))
+  pub best-end : (best : Load) (count : ℕ) → length blocks ≤ count → IsBestSoFar i blocks best count → GoesNext i blocks best.place
+  best-end best count all h k one l =
+      let w = weight_of i (get_or blocks k []) in
+      let p = time_of i (get_or blocks k []) in
+      let g = get_or (get_or blocks k []) 0 0 in
+      let a = subst (λ n. Leads n best.time best.first w p g) h.weight (h.leads k one (omega (arith, l, all))) in
+      let b = subst (λ n. Leads (weight_of i (get_or blocks best.place [])) n best.first w p g) h.time a in
+      subst (λ n. Leads (weight_of i (get_or blocks best.place [])) (time_of i (get_or blocks best.place [])) n w p g) h.first b
 
 -- ---- the first blocks
 pub singles-next : (count k : ℕ) (new old : List (List ℕ)) (block : List ℕ) → new ≡ old ++ block ∷ [] → block ≡ k ∷ [] → old ≡ (count ∷ []) ∷ map (λ (j : ℕ). j ∷ []) (range_with_len 0 k) → new ≡ (count ∷ []) ∷ map (λ (j : ℕ). j ∷ []) (range_with_len 0 (k + 1))

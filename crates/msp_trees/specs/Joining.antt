@@ -1,5 +1,5 @@
 -- Jobs that are joined into blocks, and the blocks that Horn's rule leaves. No public contract cites this file.
-use Rattle.std.specs.Prelude.{◌≢◌, ◌==◌, ℕ, ◌+◌, ◌*◌, ◌<◌, ◌≤◌, List, [], ◌∷◌, length, slice_index_or, All, AllPairs, Contains, IsPermutation, sum_by, if◌then◌else◌}
+use Rattle.std.specs.Prelude.{◌≡◌, ◌≢◌, ◌==◌, ℕ, ◌+◌, ◌*◌, ◌<◌, ◌≤◌, ◌⊎◌, List, [], ◌∷◌, length, slice_index_or, All, AllPairs, Contains, IsPermutation, sum_by, if◌then◌else◌}
 use Rattle.std.specs.List.{concat}
 use Rattle.msp_class.proofs.Sums.{OnceBelow}
 use Rattle.msp_instance.specs.declared.Arc.{Arc}
@@ -60,8 +60,12 @@ time_of i jobs = sum_by (time_at i) jobs
 abbrev pub weight_of : Instance → List ℕ → ℕ
 weight_of i jobs = sum_by (weight_at i) jobs
 
--- The block at the place has the greatest ratio of weight to time of those after the first.
-abbrev pub HasGreatestRatio : Instance → List (List ℕ) → ℕ → Type 0
-HasGreatestRatio i blocks place =
-    (k : ℕ) → 1 ≤ k → k < length blocks →
-    weight_of i (slice_index_or blocks k []) * time_of i (slice_index_or blocks place []) ≤ weight_of i (slice_index_or blocks place []) * time_of i (slice_index_or blocks k [])
+-- Block a is joined before block b: it has the greater weight for its time, or as great a one and the lesser first job.
+abbrev pub IsJoinedBefore : Instance → List ℕ → List ℕ → Type 0
+IsJoinedBefore i a b =
+    (weight_of i b * time_of i a < weight_of i a * time_of i b)
+    ⊎ ((weight_of i b * time_of i a ≡ weight_of i a * time_of i b) × (slice_index_or a 0 0 ≤ slice_index_or b 0 0))
+
+-- The block at the place is joined before all others but the first one.
+abbrev pub GoesNext : Instance → List (List ℕ) → ℕ → Type 0
+GoesNext i blocks place = (k : ℕ) → 1 ≤ k → k < length blocks → IsJoinedBefore i (slice_index_or blocks place []) (slice_index_or blocks k [])

@@ -6,7 +6,7 @@ ghost use Rattle.msp_instance.specs.Instance.{job_at};
 ghost use Rattle.msp_instance.specs.Conditions.{Inner};
 ghost use Rattle.msp_schedule.proofs.OneRow.{time_at};
 ghost use Rattle.msp_trees.specs.Horn.{horn_class};
-ghost use Rattle.msp_trees.specs.Joining.{before, weight_at, time_of, weight_of, AreJoined, HasGreatestRatio};
+ghost use Rattle.msp_trees.specs.Joining.{before, weight_at, time_of, weight_of, AreJoined, GoesNext};
 
 use msp_class::{List, NoMemory};
 use msp_instance::Instance;
@@ -67,6 +67,7 @@ fn load_of(inst: &Instance, jobs: &[u32], place: usize) -> Load
     requires some { 0 < length jobs.now }
     requires few { length jobs.now ≤ MOST_JOBS + 1 }
     ensures place { result.place ≡ place }
+    ensures first { result.first ≡ slice_index_or jobs.now 0 0 }
     ensures time { result.time ≡ time_of inst.now jobs.now }
     ensures weight { result.weight ≡ weight_of inst.now jobs.now }
 {
@@ -86,8 +87,8 @@ fn load_of(inst: &Instance, jobs: &[u32], place: usize) -> Load
 /// The one of two blocks that is joined first: the one of greater weight for its time, ties to the lesser number of the first job.
 fn better(a: Load, b: Load) -> Load
     ensures either { (result ≡ a) ⊎ (result ≡ b) }
-    ensures a { a.weight * result.time ≤ result.weight * a.time }
-    ensures b { b.weight * result.time ≤ result.weight * b.time }
+    ensures a { (a.weight * result.time < result.weight * a.time) ⊎ ((a.weight * result.time ≡ result.weight * a.time) × (result.first ≤ a.first)) }
+    ensures b { (b.weight * result.time < result.weight * b.time) ⊎ ((b.weight * result.time ≡ result.weight * b.time) × (result.first ≤ b.first)) }
 {
     let for_a = u128::from(a.weight) * u128::from(b.time);
     let for_b = u128::from(b.weight) * u128::from(a.time);
@@ -98,7 +99,8 @@ fn better(a: Load, b: Load) -> Load
     }
 }
 
-/// The place of the block that is joined next: of those after the first, the one of greatest weight for its time.
+/// The place of the block that is joined next: of those after the first, the one of greatest weight for its time, ties to
+/// the lesser number of the first job.
 fn next_place(inst: &Instance, blocks: &[List<u32>]) -> usize
     requires inner { Inner inst.now }
     requires class { inst.now.class ≡ horn_class }
@@ -106,7 +108,7 @@ fn next_place(inst: &Instance, blocks: &[List<u32>]) -> usize
     requires joined { AreJoined inst.now blocks.now }
     ensures later { 1 ≤ result }
     ensures inside { result < length blocks.now }
-    ensures ratio { HasGreatestRatio inst.now blocks.now result }
+    ensures next { GoesNext inst.now blocks.now result }
 {
     let mut best = load_of(inst, blocks[1].as_slice(), 1);
     for place in 2..blocks.len() {

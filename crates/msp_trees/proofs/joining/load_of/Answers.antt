@@ -15,6 +15,7 @@ overflow_add-load-in-loop-k c = omega (arith, c.weight.ensures.size, c.loop-k.in
 pub loop-k-preserved : goal.loop-k-preserved
 loop-k-preserved c = record {
   place = c.loop-k.invariant.place;
+  first = c.loop-k.invariant.first;
   time = sum-next (time_at c.args.inst.now) c.args.jobs.now c.loop-k.k _ _ c.loop-k-test.true c.time_taken.ensures.value c.loop-k.invariant.time;
   weight = sum-next (weight_at c.args.inst.now) c.args.jobs.now c.loop-k.k _ _ c.loop-k-test.true c.weight.ensures.value c.loop-k.invariant.weight;
   short = omega (arith, c.time_taken.ensures.size, c.loop-k.invariant.short);
@@ -29,3 +30,6 @@ returns-clause-time c = c.loop-k.invariant.time ∙ ap (sum_by (time_at c.args.i
 
 pub returns-clause-weight : goal.returns-clause-weight
 returns-clause-weight c = c.loop-k.invariant.weight ∙ ap (sum_by (weight_at c.args.inst.now)) (take_all c.loop-k.k c.args.jobs.now c.loop-k-test.false)
+
+pub returns-clause-first : goal.returns-clause-first
+returns-clause-first c = c.loop-k.invariant.first

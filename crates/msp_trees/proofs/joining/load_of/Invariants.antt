@@ -1,5 +1,5 @@
 -- The load of the jobs so far.
-use Rattle.std.proofs.Common.{◌≡◌, ◌*◌, ◌≤◌, take, sum_by}
+use Rattle.std.proofs.Common.{◌≡◌, ◌*◌, ◌≤◌, take, sum_by, slice_index_or}
 use Rattle.msp_schedule.proofs.OneRow.{time_at}
 use Rattle.msp_trees.specs.Joining.{weight_at}
 use Rattle.msp_trees.proofs.joining.load_of.Given as goal
@@ -8,6 +8,7 @@ use Rattle.msp_trees.proofs.joining.load_of.Given as goal
 abbrev pub invariant-loop-k : goal.invariant-loop-k
 invariant-loop-k l = record {
   place : l.load.place ≡ l.place;
+  first : l.load.first ≡ slice_index_or l.jobs 0 0;
   time : l.load.time ≡ sum_by (time_at l.inst) (take l.k l.jobs);
   weight : l.load.weight ≡ sum_by (weight_at l.inst) (take l.k l.jobs);
   short : l.load.time ≤ 1000000000 * l.k;
