@@ -12,7 +12,8 @@ use Rattle.msp_instance.specs.Conditions.{IsSequence, GoesForward, entering}
 use Rattle.msp_instance.specs.Paths.{HasStep}
 use Rattle.msp_instance.proofs.CycleLemmas.{same_place}
 use Rattle.msp_schedule.proofs.Series.{MayPrecede}
-use Rattle.msp_trees.specs.Joining.{first_before, before, IsForward}
+use Rattle.msp_trees.specs.Horn.{first_before, before}
+use Rattle.msp_trees.specs.Joining.{IsForward}
 
 -- ---- in a list of arcs
 -- the start, or an arc leads from it

@@ -29,7 +29,8 @@ use Rattle.msp_schedule.proofs.LineUp.{IsLine as IsOneLine, IsLine-from_conditio
 use Rattle.msp_schedule.proofs.Exchange.{cost_of-lined_up}
 use Rattle.msp_route.specs.Bounds.{IsAnswer}
 use Rattle.msp_trees.specs.Horn.{horn_class}
-use Rattle.msp_trees.specs.Joining.{before, weight_at, IsCheapest}
+use Rattle.msp_trees.specs.Horn.{before, weight_at}
+use Rattle.msp_trees.specs.Joining.{IsCheapest}
 use Rattle.msp_trees.proofs.Facts.{IsPlain, IsPlain-from, takes_time, is_short}
 use Rattle.msp_trees.proofs.RowAnswer.{timed, released, row_is_answer}
 use Rattle.msp_trees.proofs.Joins.{IsTree}

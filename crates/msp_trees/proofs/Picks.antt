@@ -17,10 +17,13 @@ use Rattle.msp_instance.specs.declared.Job.{Job}
 use Rattle.msp_instance.specs.Instance.{no_job, no_need}
 use Rattle.msp_instance.specs.Conditions.{Inner}
 use Rattle.msp_instance.proofs.ListingLemmas.{list_any-from_Contains}
-use Rattle.msp_schedule.proofs.OneRow.{time_at, row_schedule}
+use Rattle.msp_schedule.proofs.OneRow.{time_at, row_schedule, piece, piece_makes}
+use Rattle.msp_schedule.proofs.OneMachine.{job_of}
+use Rattle.msp_schedule.proofs.Rows.{row, row-jobs}
 use Rattle.msp_trees.specs.declared.joining.Load.{Load}
 use Rattle.msp_trees.specs.Horn.{horn_class}
-use Rattle.msp_trees.specs.Joining.{first_before, before, weight_at, time_of, weight_of, IsForward, IsBranch, IsJoined, AreJoined, IsCheapest, IsJoinedBefore, GoesNext}
+use Rattle.msp_trees.specs.Horn.{first_before, before, weight_at, time_of, weight_of, GoesNext, Joins, JoinTo, nothing_joined, one_more, single_blocks, IsHornOrder}
+use Rattle.msp_trees.specs.Joining.{IsForward, IsBranch, IsJoined, AreJoined, IsCheapest}
 use Rattle.msp_trees.proofs.Lists.{All-right, pairs_left, pairs_right, pairs_across, taken, concat-permutation, All-concat}
 use Rattle.msp_trees.proofs.Facts.{takes_time}
 use Rattle.msp_trees.proofs.Joins.{IsTree, joined-start, joined-next, cheapest}
@@ -247,6 +250,23 @@ module _ (i : Instance) (class : i.class ≡ horn_class) (inner : Inner i) (bloc
     goes_behind seen b e h =
         subst (λ l. Contains (concat l) b) (sym (e ∙ left)) (subst (Contains (concat (remove blocks place))) (sym (h ∙ ap (λ l. before i (get_or l 0 0)) same)) (before_elsewhere (length i.jobs) (before i) (time_at i) (weight_at i) blocks joined horn.tree place later inside next is))
 
+    pub joins_again : (seen : List (List ℕ)) (b behind : ℕ) → seen ≡ others → b ≡ before i (get_or rest 0 0) → GoesNext i blocks place → behind < length seen → Contains (get_or seen behind []) b
+        → (vs us new : List ℕ) → vs ≡ get_or others behind vs → us ≡ next → new ≡ vs ++ us → Joins i blocks (set others behind new)
+    joins_again seen b behind e h goes short holds vs us new at again made =
+        let whole = e ∙ left in
+        let short' = subst (λ l. behind < length l) whole short in (
+          place,
+          behind,
+          record {
+            later = later;
+            inside = inside;
+            next = goes;
+            there = short';
+            holds = subst (Contains (get_or (remove blocks place) behind [])) (h ∙ ap (λ l. before i (get_or l 0 0)) (same ∙ is)) (subst (λ l. Contains (get_or l behind []) b) whole holds);
+            is = ap (λ l. set l behind new) left ∙ ap (set (remove blocks place) behind) (made ∙ ap₂ (λ x y. x ++ y) (at ∙ ap (λ l. get_or l behind vs) left ∙ get_or_default (remove blocks place) behind vs [] short') (again ∙ is));
+          },
+        )
+
     pub joined_again : (seen : List (List ℕ)) (b behind : ℕ) → seen ≡ others → b ≡ before i (get_or rest 0 0) → GoesNext i blocks place → behind < length seen → Contains (get_or seen behind []) b
         → (vs us new : List ℕ) → vs ≡ get_or others behind vs → us ≡ next → new ≡ vs ++ us → AreJoined i (set others behind new)
     joined_again seen b behind e h ratio short holds vs us new at again made =
@@ -358,5 +378,17 @@ cheapest_behind i class inner jobs seen joined e =
     rest : (n : ℕ) (order : List ℕ) → behind_first (n ∷ order) ≡ order
     rest n order = take_all (length (n ∷ order) - 1) order (omega arith)
 
+pub horn_order : (i : Instance) (class : i.class ≡ horn_class) (inner : Inner i) (jobs seen : List ℕ) → AreJoined i (jobs ∷ []) → seen ≡ jobs → JoinTo i (single_blocks (length i.jobs)) (jobs ∷ []) → IsHornOrder i (map job_of (row piece (time_at i) 0 (behind_first seen)))
+horn_order i class inner jobs seen joined e join =
+    let (order, f, o) = cheapest (length i.jobs) (before i) (time_at i) (weight_at i) (IsHornInstance-from_class i class inner).tree jobs joined in
+    subst (IsHornOrder i) (sym (row-jobs piece (time_at i) piece_makes 0 (behind_first seen) ∙ ap behind_first (e ∙ f) ∙ take_all (length (length i.jobs ∷ order) - 1) order (omega arith))) (subst (λ l. JoinTo i (single_blocks (length i.jobs)) (l ∷ [])) f join)
+
 pub horn_made : (i : Instance) (class : i.class ≡ horn_class) (inner : Inner i) (jobs seen : List ℕ) → AreJoined i (jobs ∷ []) → seen ≡ jobs → IsHornSchedule i (row_schedule i (behind_first seen))
 horn_made i class inner jobs seen joined e = horn_schedule i (IsHornInstance-from_class i class inner) (behind_first seen) (cheapest_behind i class inner jobs seen joined e)
+
+-- ---- blocks are joined again and again
+pub join-start : (i : Instance) (blocks : List (List ℕ)) → JoinTo i blocks blocks
+join-start i blocks = nothing_joined
+
+pub join-next : (i : Instance) (first blocks last : List (List ℕ)) → JoinTo i first blocks → Joins i blocks last → JoinTo i first last
+join-next i first blocks last h k = one_more h k

@@ -1,11 +1,11 @@
 // Horn's rule: the solver.
-ghost use Rattle.std.specs.Prelude.{◌≡◌, IfOk, ⊤};
+ghost use Rattle.std.specs.Prelude.{◌≡◌, map, IfOk, ⊤};
 ghost use Rattle.msp_instance.specs.Conditions.{Inner};
 ghost use Rattle.msp_schedule.specs.Cost.{IsBest};
 ghost use Rattle.msp_schedule.specs.Fraction.{IsLowest};
 ghost use Rattle.msp_schedule.specs.Settled.{IsSettled};
 ghost use Rattle.msp_route.specs.Bounds.{IsAnswer};
-ghost use Rattle.msp_trees.specs.Horn.{horn_class};
+ghost use Rattle.msp_trees.specs.Horn.{horn_class, IsHornOrder};
 
 use crate::joining::joined_jobs;
 use crate::row::solution_in_order;
@@ -54,6 +54,7 @@ impl Solver for Horn {
         ensures bounds { IfOk result (λ s. IsAnswer inst.now s.schedule) }
 
         // The form of the answer.
+        ensures order { IfOk result (λ s. IsHornOrder inst.now (map (λ p. p.job) s.schedule.pieces)) }
         ensures settled { IfOk result (λ s. IsSettled s.schedule) }
         ensures lowest { IfOk result (λ s. IsLowest s.cost) }
     {

@@ -6,7 +6,8 @@ ghost use Rattle.msp_instance.specs.Instance.{job_at};
 ghost use Rattle.msp_instance.specs.Conditions.{Inner};
 ghost use Rattle.msp_schedule.proofs.OneRow.{time_at};
 ghost use Rattle.msp_trees.specs.Horn.{horn_class};
-ghost use Rattle.msp_trees.specs.Joining.{before, weight_at, time_of, weight_of, AreJoined, GoesNext};
+ghost use Rattle.msp_trees.specs.Horn.{before, weight_at, time_of, weight_of, GoesNext, Joins, JoinTo, single_blocks};
+ghost use Rattle.msp_trees.specs.Joining.{AreJoined};
 
 use msp_class::{List, NoMemory};
 use msp_instance::Instance;
@@ -149,6 +150,7 @@ fn join_next(inst: &Instance, blocks: &mut Vec<List<u32>>) -> Result<(), NoMemor
     requires class { inst.now.class ≡ horn_class }
     requires some { 1 < length blocks.old.items }
     requires joined { AreJoined inst.now blocks.old.items }
+    ensures joins { OnOk result (Joins inst.now blocks.old.items blocks.new.items) }
     ensures joined { OnOk result (AreJoined inst.now blocks.new.items) }
     ensures shorter { length blocks.new.items + 1 ≡ length blocks.old.items }
 {
@@ -165,6 +167,7 @@ fn join_all(inst: &Instance, blocks: &mut Vec<List<u32>>) -> Result<(), NoMemory
     requires class { inst.now.class ≡ horn_class }
     requires some { 0 < length blocks.old.items }
     requires joined { AreJoined inst.now blocks.old.items }
+    ensures join { OnOk result (JoinTo inst.now blocks.old.items blocks.new.items) }
     ensures joined { OnOk result (AreJoined inst.now blocks.new.items) }
     ensures one { OnOk result (length blocks.new.items ≡ 1) }
 {
@@ -190,7 +193,7 @@ fn single(alloc: Global, job: u32) -> Result<List<u32>, NoMemory>
 /// A block for the start, and one for each job.
 fn singles(alloc: Global, count: usize) -> Result<Vec<List<u32>>, NoMemory>
     requires { count ≤ MOST_JOBS }
-    ensures { IfOk result (λ blocks. blocks.items ≡ (count ∷ []) ∷ map (λ j. j ∷ []) (range_with_len 0 count)) }
+    ensures { IfOk result (λ blocks. blocks.items ≡ single_blocks count) }
 {
     let mut blocks = Vec::new(alloc);
     if blocks.push(single(alloc, count as u32)?).is_err() {
@@ -208,7 +211,8 @@ fn singles(alloc: Global, count: usize) -> Result<Vec<List<u32>>, NoMemory>
 pub fn joined_jobs(alloc: Global, inst: &Instance) -> Result<List<u32>, NoMemory>
     requires inner { Inner inst.now }
     requires class { inst.now.class ≡ horn_class }
-    ensures { IfOk result (λ jobs. AreJoined inst.now (jobs ∷ [])) }
+    ensures join { IfOk result (λ jobs. JoinTo inst.now (single_blocks (length inst.now.jobs)) (jobs ∷ [])) }
+    ensures joined { IfOk result (λ jobs. AreJoined inst.now (jobs ∷ [])) }
 {
     let mut blocks = singles(alloc, inst.jobs.len())?;
     join_all(inst, &mut blocks)?;

@@ -1,7 +1,7 @@
 -- The first arc that leads to the job tells what is before it.
 use Rattle.std.proofs.Common.{length, sym, ap, ◌∙◌}
 use Rattle.std.proofs.lemmas.List.{drop_all}
-use Rattle.msp_trees.specs.Joining.{first_before}
+use Rattle.msp_trees.specs.Horn.{first_before}
 use Rattle.msp_trees.proofs.Picks.{before-found, before-next}
 use Rattle.msp_trees.proofs.joining.job_before.Goals as goal
 

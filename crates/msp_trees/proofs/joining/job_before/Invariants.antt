@@ -1,6 +1,6 @@
 -- No arc so far leads to the job.
 use Rattle.std.proofs.Common.{◌≡◌, length, drop}
-use Rattle.msp_trees.specs.Joining.{first_before, before}
+use Rattle.msp_trees.specs.Horn.{first_before, before}
 use Rattle.msp_trees.proofs.joining.job_before.Given as goal
 
 -- what is before the job is so by the arcs that are left

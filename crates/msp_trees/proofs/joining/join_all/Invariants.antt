@@ -1,5 +1,6 @@
 -- Joined blocks, fewer in each round.
 use Rattle.std.proofs.Common.{◌<◌, length}
+use Rattle.msp_trees.specs.Horn.{JoinTo}
 use Rattle.msp_trees.specs.Joining.{AreJoined}
 use Rattle.msp_trees.proofs.joining.join_all.Given as goal
 
@@ -7,6 +8,7 @@ use Rattle.msp_trees.proofs.joining.join_all.Given as goal
 abbrev pub invariant-loop-blocks : goal.invariant-loop-blocks
 invariant-loop-blocks l = record {
   some : 0 < length l.blocks.items;
+  join : JoinTo l.inst l.fn.blocks.items l.blocks.items;
   joined : AreJoined l.inst l.blocks.items;
 }
 
