@@ -30,3 +30,8 @@ pub mod OverlapFacts
 pub mod Among
 pub mod WholeWork
 pub mod FirstBreaks
+pub mod ArcTimes
+pub mod JobShares
+pub mod MarkFacts
+pub mod SortedPieces
+pub mod SweepFacts

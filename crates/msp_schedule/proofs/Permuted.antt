@@ -112,7 +112,7 @@ greater_commutes a x y = grind (arith, ints)
 pub last_end-permutation : (ps qs : List Piece) → IsPermutation ps qs → (j : ℕ) → last_end ps j ≡ last_end qs j
 last_end-permutation ps qs h j = fold-permutation int_max greater_commutes (λ p. p.to) (filter (λ p. p.job == j) ps) (filter (λ p. p.job == j) qs) (filter-permutation (λ p. p.job == j) ps qs h) (pos 0)
 
-twice : (R : Piece → Piece → Type 0) (ps qs : List Piece) → IsPermutation ps qs → All (λ p. All (R p) ps) ps → All (λ p. All (R p) qs) qs
+pub twice : (R : Piece → Piece → Type 0) (ps qs : List Piece) → IsPermutation ps qs → All (λ p. All (R p) ps) ps → All (λ p. All (R p) qs) qs
 twice R ps qs h a = All-permutation (λ p. All (R p) qs) ps qs h (λ k d l. All-permutation (R (get_or ps k d)) ps qs h (a k d l))
 
 apart_both : (p q : Piece) → IsApart p q → IsApart q p
@@ -133,7 +133,7 @@ module _ (i : Instance) (s t : Schedule) (units : s.unit ≡ t.unit) (h : IsPerm
   abbrev Work : Schedule → ℕ → ℕ → Bool → Type 0
   Work r j o cut = MatchBool cut (total (map (work_of (kind_of i.class.env) i) (pieces_of r j o)) ≡ r.unit *ℤ pos (whole_work (kind_of i.class.env) i j o)) ((p : Piece) × (pieces_of r j o ≡ p ∷ []) × IsWholeWork (kind_of i.class.env) i r.unit p)
 
-  work_permuted : (j o : ℕ) (cut : Bool) → Work s j o cut → Work t j o cut
+  pub work_permuted : (j o : ℕ) (cut : Bool) → Work s j o cut → Work t j o cut
   work_permuted j o true w = sym (fold-permutation ◌+ℤ◌ add_commutes (work_of (kind_of i.class.env) i) (pieces_of s j o) (pieces_of t j o) (mine j o) (pos 0)) ∙ w ∙ ap (λ u. u *ℤ pos (whole_work (kind_of i.class.env) i j o)) units
   work_permuted j o false (p, e, w) = (p, one_left p (pieces_of t j o) (subst (λ l. IsPermutation l (pieces_of t j o)) e (mine j o)), subst (λ u. IsWholeWork (kind_of i.class.env) i u p) units w)
 

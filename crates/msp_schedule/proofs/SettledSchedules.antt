@@ -75,10 +75,10 @@ pub Halfway-all : (xs ys zs : List Piece) (i : ℕ) → length zs ≤ i → leng
 Halfway-all xs ys zs i l m h = sym (take_all i zs l) ∙ h.done ∙ take_all i ys m
 
 -- ---- the order
-abbrev less : ℤ → ℤ → ℕ → ℕ → Bool
+abbrev pub less : ℤ → ℤ → ℕ → ℕ → Bool
 less x y a b = is_lt (ordering_then (int_cmp x y) (nat_cmp a b))
 
-less-no : (x y : ℤ) (a b : ℕ) → less x y a b ≡ false → (y <ℤ x) ⊎ ((y ≡ x) × (b ≤ a))
+pub less-no : (x y : ℤ) (a b : ℕ) → less x y a b ≡ false → (y <ℤ x) ⊎ ((y ≡ x) × (b ≤ a))
 less-no x y a b h = by (int_lt x y) refl (int_lt y x) refl h
   where
     by : (s : Bool) → int_lt x y ≡ s → (t : Bool) → int_lt y x ≡ t → is_lt (ordering_then (cond s Less (cond t Greater Equal)) (nat_cmp a b)) ≡ false → (y <ℤ x) ⊎ ((y ≡ x) × (b ≤ a))
@@ -89,7 +89,7 @@ less-no x y a b h = by (int_lt x y) refl (int_lt y x) refl h
         machines : (a b : ℕ) → is_lt (nat_cmp a b) ≡ false → b ≤ a
         machines a b k = grind (arith, nat_tests)
 
-not_less : (x y : ℤ) (a b : ℕ) → (y <ℤ x) ⊎ ((y ≡ x) × (b ≤ a)) → less x y a b ≡ false
+pub not_less : (x y : ℤ) (a b : ℕ) → (y <ℤ x) ⊎ ((y ≡ x) × (b ≤ a)) → less x y a b ≡ false
 not_less x y a b h = by (int_lt x y) refl (int_lt y x) refl h
   where
     by : (s : Bool) → int_lt x y ≡ s → (t : Bool) → int_lt y x ≡ t → (y <ℤ x) ⊎ ((y ≡ x) × (b ≤ a)) → is_lt (ordering_then (cond s Less (cond t Greater Equal)) (nat_cmp a b)) ≡ false
@@ -105,7 +105,7 @@ not_less x y a b h = by (int_lt x y) refl (int_lt y x) refl h
         machines : (a b : ℕ) → b ≤ a → is_lt (nat_cmp a b) ≡ false
         machines a b k = grind (arith, nat_tests)
 
-less-yes : (x y : ℤ) (a b : ℕ) → less x y a b ≡ true → (x <ℤ y) ⊎ ((x ≡ y) × (a < b))
+pub less-yes : (x y : ℤ) (a b : ℕ) → less x y a b ≡ true → (x <ℤ y) ⊎ ((x ≡ y) × (a < b))
 less-yes x y a b h = by (int_lt x y) refl (int_lt y x) refl h
   where
     by : (s : Bool) → int_lt x y ≡ s → (t : Bool) → int_lt y x ≡ t → is_lt (ordering_then (cond s Less (cond t Greater Equal)) (nat_cmp a b)) ≡ true → (x <ℤ y) ⊎ ((x ≡ y) × (a < b))

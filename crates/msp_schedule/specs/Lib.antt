@@ -10,3 +10,5 @@ pub mod Laws
 pub mod Breaks
 pub mod Lanes
 pub mod Works
+pub mod Begins
+pub mod Marks

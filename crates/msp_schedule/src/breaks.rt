@@ -8,7 +8,8 @@ ghost use Rattle.msp_instance.specs.Instance.{job_at, no_need};
 ghost use Rattle.msp_schedule.specs.Feasible.{Feasible, HasOperation, HasPlace, MayRun};
 ghost use Rattle.msp_class.specs.declared.environments.EnvKind.TheVariants.{Unrelated};
 ghost use Rattle.msp_instance.specs.Conditions.{LiesWithin, Inner};
-ghost use Rattle.msp_schedule.specs.Within.{Within};
+ghost use Rattle.msp_schedule.specs.Within.{IsMoment, Within};
+ghost use Rattle.msp_schedule.specs.Begins.{IsEarlierEnd};
 ghost use Rattle.msp_schedule.specs.Works.{IsDecision};
 ghost use Rattle.msp_schedule.specs.Breaks.{piece_at, IsLeast, IsEmpty, IsEarly, no_arc, KeepsArc, KeepsRoute, IsFirstBreak};
 
@@ -40,7 +41,7 @@ pub enum Break {
     Work { job: u32, op: u32 },
 }
 
-fn first_empty(pieces: &[Piece]) -> Option<u32>
+pub(crate) fn first_empty(pieces: &[Piece]) -> Option<u32>
     requires few { length pieces.now ≤ MOST_PIECES }
     ensures none { IsNone result → All (λ p. p.from <ℤ p.to) pieces.now }
     ensures some { IfSome result (λ k. IsLeast (length pieces.now) (λ l. IsEmpty (piece_at pieces.now l)) k) }
@@ -106,7 +107,7 @@ fn has_place(inst: &Instance, piece: &Piece) -> bool
         && may_run(inst, needs, piece.op, piece.machine)
 }
 
-fn first_misplaced(inst: &Instance, pieces: &[Piece]) -> Option<u32>
+pub(crate) fn first_misplaced(inst: &Instance, pieces: &[Piece]) -> Option<u32>
     requires few { length pieces.now ≤ MOST_PIECES }
     ensures none { IsNone result → All (HasPlace inst.now) pieces.now }
     ensures some { IfSome result (λ k. IsLeast (length pieces.now) (λ l. ¬ HasPlace inst.now (piece_at pieces.now l)) k) }
@@ -134,7 +135,7 @@ fn is_early(inst: &Instance, unit: i128, piece: &Piece) -> bool
     piece.from < product(unit, i128::from(release_of(inst, piece.job)))
 }
 
-fn first_early(inst: &Instance, unit: i128, pieces: &[Piece]) -> Option<u32>
+pub(crate) fn first_early(inst: &Instance, unit: i128, pieces: &[Piece]) -> Option<u32>
     requires few { length pieces.now ≤ MOST_PIECES }
     requires jobs { All (λ p. p.job < length inst.now.jobs) pieces.now }
     requires small { (j : ℕ) → j < length inst.now.jobs → LiesWithin (2 * 10 ^ 22) (unit *ℤ pos (job_at inst.now j).release) }
@@ -184,12 +185,31 @@ fn operation_begins_from(pieces: &[Piece], job: u32, op: u32, moment: i128) -> b
         .all(|q| q.job != job || q.op != op || moment <= q.from)
 }
 
+/// Whether the piece is one of the job's operations before this one.
+fn is_earlier(piece: &Piece, job: u32, op: u32) -> bool
+    ensures { IsTrue result ↔ ((piece.now.job ≡ job) × (piece.now.op < op)) }
+{
+    piece.job == job && piece.op < op
+}
+
+/// The last end of the pieces of the job's operations before this one, and 0 where there is none.
+fn earlier_end(pieces: &[Piece], job: u32, op: u32) -> i128
+    ensures { IsEarlierEnd pieces.now job op result }
+{
+    let mut end = 0;
+    for p in pieces {
+        if is_earlier(p, job, op) {
+            end = p.to.max(end);
+        }
+    }
+    end
+}
+
 pub(crate) fn keeps_route(pieces: &[Piece], job: u32, op: u32) -> bool
+    requires moments { All (λ p. IsMoment p.from × IsMoment p.to) pieces.now }
     ensures { IsTrue result ↔ KeepsRoute pieces.now job op }
 {
-    pieces.iter().all(|p| p.job != job
-        || op <= p.op
-        || operation_begins_from(pieces, job, op, p.to))
+    operation_begins_from(pieces, job, op, earlier_end(pieces, job, op))
 }
 
 fn found(inst: &Instance, s: &Schedule) -> Option<Break>

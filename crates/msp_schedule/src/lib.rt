@@ -1,11 +1,12 @@
 //! Schedules over any unit, and what it means that a schedule is feasible, what it costs, and that it is best.
 //!
-//! It stands on `msp_instance`. The layers above use the definitions `Feasible`, `cost_of` and `Best`, that `first_break` answers None
-//! exactly where a schedule is feasible, that `cost` gives the cost in lowest terms, and the laws `law_of_ends` and `law_of_floors` of schedules on identical machines.
+//! It stands on `msp_instance`. The layers above use the definitions `Feasible`, `cost_of` and `Best`, that `first_break` and
+//! `swept` answer None exactly where a schedule is feasible, that `cost` gives the cost in lowest terms, and the laws `law_of_ends` and `law_of_floors` of schedules on identical machines.
 #![tactic(auto)]
 
 ghost use Rattle.std.specs.Prelude.{pos, ◌≤ℤ◌};
 
+mod arcs;
 mod breaks;
 #[cfg(test)]
 mod definitions;
@@ -13,9 +14,12 @@ mod fraction;
 mod job_cost;
 mod laws;
 mod limits;
+mod marks;
 mod overlaps;
 mod routes;
 mod settling;
+mod shares;
+mod sweep;
 mod total_cost;
 mod work;
 
@@ -29,6 +33,7 @@ pub use limits::{
 };
 use msp_class::List;
 pub use settling::settle;
+pub use sweep::swept;
 pub use total_cost::cost;
 
 /// A piece of work on an operation of a job, all three numbered from 0. A moment `x` stands for the time `x / unit`.

@@ -17,7 +17,8 @@ use msp_class::{EnvKind, env_kind};
 use msp_instance::Instance;
 
 /// The first of so many operations of the job that begins before an earlier one ends.
-fn first_unrouted(pieces: &[Piece], job: u32, ops: u32) -> Option<u32>
+pub(crate) fn first_unrouted(pieces: &[Piece], job: u32, ops: u32) -> Option<u32>
+    requires moments { All (λ p. IsMoment p.from × IsMoment p.to) pieces.now }
     ensures none { IsNone result → (o : ℕ) → o < ops → KeepsRoute pieces.now job o }
     ensures some { IfSome result (λ o. IsLeast ops (λ q. ¬ KeepsRoute pieces.now job q) o) }
 {
@@ -30,7 +31,7 @@ fn first_unrouted(pieces: &[Piece], job: u32, ops: u32) -> Option<u32>
 }
 
 /// How many needs the job has.
-fn needs_of(inst: &Instance, job: u32) -> u32
+pub(crate) fn needs_of(inst: &Instance, job: u32) -> u32
     requires job { job < length inst.now.jobs }
     requires few { length (job_at inst.now job).needs < 2 ^ 32 }
     ensures { result ≡ length (job_at inst.now job).needs }
@@ -43,6 +44,7 @@ pub(crate) fn first_route(inst: &Instance, pieces: &[Piece]) -> Option<(u32, u32
     requires jobs { length inst.now.jobs < 2 ^ 32 }
     requires needs { (j : ℕ) → j < length inst.now.jobs → length (job_at inst.now j).needs < 2 ^ 32 }
     requires places { All (λ p. p.op < length (job_at inst.now p.job).needs) pieces.now }
+    requires moments { All (λ p. IsMoment p.from × IsMoment p.to) pieces.now }
     ensures none { IsNone result → (j o : ℕ) → j < length inst.now.jobs → KeepsRoute pieces.now j o }
     ensures some { IfSome result (λ at. IsLeastOperation inst.now (λ j o. ¬ KeepsRoute pieces.now j o) at.0 at.1) }
 {
@@ -71,7 +73,13 @@ fn lacks_work(inst: &Instance, unit: i128, pieces: &[Piece], job: u32, op: u32) 
 }
 
 /// The first of so many operations of the job that lacks work.
-fn first_unworked(inst: &Instance, unit: i128, pieces: &[Piece], job: u32, ops: u32) -> Option<u32>
+pub(crate) fn first_unworked(
+    inst: &Instance,
+    unit: i128,
+    pieces: &[Piece],
+    job: u32,
+    ops: u32,
+) -> Option<u32>
     requires inner { Inner inst.now }
     requires checked { ¬ ((inst.now.class.cut ≡ true) × (kind_of inst.now.class.env ≡ Unrelated)) }
     requires few { length pieces.now ≤ MOST_PIECES }
@@ -113,6 +121,7 @@ pub(crate) fn first_work(inst: &Instance, unit: i128, pieces: &[Piece]) -> Optio
 pub(crate) fn first_out_of_route(inst: &Instance, pieces: &[Piece]) -> Option<(u32, u32)>
     requires inner { Inner inst.now }
     requires places { All (HasPlace inst.now) pieces.now }
+    requires moments { All (λ p. IsMoment p.from × IsMoment p.to) pieces.now }
     ensures none { IsNone result → HasRoutes inst.now → (j o : ℕ) → j < length inst.now.jobs → KeepsRoute pieces.now j o }
     ensures some { IfSome result (λ at. HasRoutes inst.now × IsLeastOperation inst.now (λ j o. ¬ KeepsRoute pieces.now j o) at.0 at.1) }
 {

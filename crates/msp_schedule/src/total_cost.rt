@@ -31,7 +31,7 @@ fn no_ends() -> [i128; MOST_JOBS]
 }
 
 /// The end of each job, by number, and 0 where a job has no piece.
-fn ends_of(pieces: &[Piece]) -> [i128; MOST_JOBS]
+pub(crate) fn ends_of(pieces: &[Piece]) -> [i128; MOST_JOBS]
     requires jobs { All (λ p. p.job < MOST_JOBS) pieces.now }
     requires moments { All (λ p. IsMoment p.to) pieces.now }
     ensures ends { (j : ℕ) → j < MOST_JOBS → slice_index_or result j (pos 0) ≡ last_end pieces.now j }

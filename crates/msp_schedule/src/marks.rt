@@ -1,0 +1,100 @@
+// Pieces that overlap on a machine or in a job, found by sorting.
+ghost use Rattle.std.specs.Prelude.{◌≡◌, ℕ, ◌<◌, ◌≤◌, ◌+◌, ◌<ℤ◌, ◌↔◌, length, AllPairs, IsPermutation, IsTrue, IsNone, IfOk, IfSome};
+ghost use Rattle.std.specs.Ordering.{int_cmp, nat_cmp, ordering_then};
+ghost use Rattle.msp_schedule.specs.declared.limits.TheConstants.{MOST_PIECES};
+ghost use Rattle.msp_schedule.specs.Piece.{IsApart};
+ghost use Rattle.msp_schedule.specs.Breaks.{IsFirstOverlap};
+ghost use Rattle.msp_schedule.specs.Lanes.{lane_of};
+ghost use Rattle.msp_schedule.specs.Marks.{mark_of, AreMarks, IsNotAfter, Meets, IsClearBelow, IsFirstMeeting};
+
+use crate::Piece;
+use crate::overlaps::{Lane, lane_of};
+use msp_class::NoMemory;
+use std::alloc::Global;
+use std::cmp::Ordering;
+
+/// What is sorted of a piece: its machine or job, its number and its moments.
+#[derive(Clone, Copy)]
+pub(crate) struct Mark {
+    lane: u32,
+    number: u32,
+    from: i128,
+    to: i128,
+}
+
+fn mark_of(lane: Lane, piece: &Piece, number: u32) -> Mark
+    ensures { result ≡ mark_of lane piece.now number }
+{
+    Mark {
+        lane: lane_of(lane, piece),
+        number,
+        from: piece.from,
+        to: piece.to,
+    }
+}
+
+/// The marks of all pieces, by number.
+fn marks_of(alloc: Global, lane: Lane, pieces: &[Piece]) -> Result<Vec<Mark>, NoMemory>
+    requires few { length pieces.now ≤ MOST_PIECES }
+    ensures { IfOk result (λ marks. AreMarks lane pieces.now (length pieces.now) marks.items) }
+{
+    let mut marks = Vec::new(alloc);
+    for at in 0..pieces.len() {
+        let mark = mark_of(lane, &pieces[at], at as u32);
+        if marks.push(mark).is_err() {
+            return Err(NoMemory);
+        }
+    }
+    Ok(marks)
+}
+
+/// Whether `a` comes before `b`: by machine or job, then by beginning, then by number.
+fn compare(a: &Mark, b: &Mark) -> Ordering
+    ensures { result ≡ ordering_then (nat_cmp a.now.lane b.now.lane) (ordering_then (int_cmp a.now.from b.now.from) (nat_cmp a.now.number b.now.number)) }
+{
+    a.lane
+        .cmp(&b.lane)
+        .then(a.from.cmp(&b.from).then(a.number.cmp(&b.number)))
+}
+
+fn sort(marks: &mut Vec<Mark>)
+    ensures permutation { IsPermutation marks.old.items marks.new.items }
+    ensures sorted { AllPairs IsNotAfter marks.new.items }
+{
+    marks.sort_unstable_by(|a, b| compare(a, b));
+}
+
+/// Whether the next begins before the one ends, on the same machine or in the same job.
+fn meets(one: &Mark, next: &Mark) -> bool
+    ensures { IsTrue result ↔ Meets one.now next.now }
+{
+    one.lane == next.lane && next.from < one.to
+}
+
+/// The numbers of the first two neighbours that meet.
+fn first_meeting(marks: &[Mark]) -> Option<(u32, u32)>
+    ensures none { IsNone result → IsClearBelow marks.now (length marks.now) }
+    ensures some { IfSome result (λ pair. IsFirstMeeting marks.now pair.0 pair.1) }
+{
+    for at in 1..marks.len() {
+        if meets(&marks[at - 1], &marks[at]) {
+            return Some((marks[at - 1].number, marks[at].number));
+        }
+    }
+    None
+}
+
+/// The first two pieces that overlap.
+pub(crate) fn swept_overlap(
+    alloc: Global,
+    lane: Lane,
+    pieces: &[Piece],
+) -> Result<Option<(u32, u32)>, NoMemory>
+    requires few { length pieces.now ≤ MOST_PIECES }
+    ensures none { IfOk result (λ r. IsNone r → AllPairs (λ p q. lane_of lane p ≡ lane_of lane q → IsApart p q) pieces.now) }
+    ensures some { IfOk result (λ r. IfSome r (λ pair. IsFirstOverlap (lane_of lane) pieces.now pair.0 pair.1)) }
+{
+    let mut marks = marks_of(alloc, lane, pieces)?;
+    sort(&mut marks);
+    Ok(first_meeting(&marks))
+}
