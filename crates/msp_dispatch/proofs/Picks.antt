@@ -1,5 +1,5 @@
 -- What is picked from the list, and a best schedule that is settled.
-use Rattle.std.proofs.Common.{◌≡◌, ℕ, zero, suc, ◌<◌, ◌≤◌, List, [], ◌∷◌, length, map, ℤ, pos, ◌*ℤ◌, ◌≤ℤ◌, ◌<ℤ◌, sym, ap, ap₂, subst, subst₂, ◌∙◌, arith}
+use Rattle.std.proofs.Common.{◌≡◌, ◌≢◌, ℕ, zero, suc, ◌<◌, ◌≤◌, List, [], ◌∷◌, length, map, ℤ, pos, ◌*ℤ◌, ◌≤ℤ◌, ◌<ℤ◌, sym, ap, ap₂, subst, subst₂, ◌∙◌, arith}
 use Rattle.std.specs.Prelude.{slice_get, Contains, IfSome, IfOk, Option, Some, None, Result, Ok, Err}
 use Rattle.std.proofs.lemmas.Int.{ints}
 use Rattle.std.proofs.lemmas.Option.{slice_get_within, get_or_from_slice_get}
@@ -65,6 +65,24 @@ first_in P (x ∷ xs) (suc n) e g p h = later (h 0 (omega arith)) (first_in P xs
 -- the first of the list to which a chain leads
 pub first_led : (from : Class) (p : Pick) → IsRoute from p → ((k : ℕ) → k < p.place → IfSome (slice_get solved_list k) (λ e. ¬ Reaches carries from e.class)) → IsFirst (Reaches carries from) solved_classes p.entry.class
 first_led from p h none = first_in (Reaches carries from) solved_list p.place p.entry h.listed (IsRoute-reaches from p h) none
+
+-- no chain leads to a class of the list, where none leads to that of an entry
+none_in : (P : Class → Type 0) (xs : List SolvedClass) → ((k : ℕ) → k < length xs → IfSome (slice_get xs k) (λ x. ¬ P x.class)) → (t : Class) → Contains (map (λ x. x.class) xs) t → ¬ P t
+none_in P [] h t (k, inside, e) = absurd (omega (arith, inside))
+none_in P (x ∷ xs) h t (zero, inside, e) = λ p. h 0 (omega arith) (subst P (sym e) p)
+none_in P (x ∷ xs) h t (suc k, inside, e) = none_in P xs (λ n l. h (suc n) (omega (arith, l))) t (k, omega (arith, inside), e)
+
+pub none_led : (from : Class) (n : ℕ) → length solved_list ≤ n → ((k : ℕ) → k < n → IfSome (slice_get solved_list k) (λ e. ¬ Reaches carries from e.class)) → (t : Class) → Contains solved_classes t → ¬ Reaches carries from t
+none_led from n whole h t inside = none_in (Reaches carries from) solved_list (λ k l. h k (omega (arith, l, whole))) t inside
+
+-- a class that stands at no place is not in the list
+absent : (xs : List Class) (c : Class) → ((k : ℕ) → k < length xs → slice_get xs k ≢ Some c) → ¬ Contains xs c
+absent [] c h (k, inside, e) = omega (arith, inside)
+absent (x ∷ xs) c h (zero, inside, e) = h 0 (omega arith) (ap Some e)
+absent (x ∷ xs) c h (suc k, inside, e) = absent xs c (λ n l. h (suc n) (omega (arith, l))) (k, omega (arith, inside), e)
+
+pub not_listed : (c : Class) (n : ℕ) → length solved_classes ≤ n → ((k : ℕ) → k < n → slice_get solved_classes k ≢ Some c) → ¬ Contains solved_classes c
+not_listed c n whole h = absent solved_classes c (λ k l. h k (omega (arith, l, whole)))
 
 -- what a pick says of the answer that is made from it
 pub answered : (i : Instance) (at : Option Class) (p : Pick) (r : Result Answer Cannot) → IsPick i.class at p → IfOk r (λ a. a.chain ≡ p.chain) → IfOk r (λ a. a.target ≡ p.entry.class)

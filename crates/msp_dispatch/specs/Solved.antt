@@ -5,6 +5,10 @@ use Rattle.msp_route.specs.declared.answer.SolverName.{SolverName}
 use Rattle.msp_route.specs.declared.answer.SolverName.TheVariants as solver
 use Rattle.msp_single.specs.Smith.{smith_class}
 use Rattle.msp_single.specs.Lawler.{lawler_class}
+use Rattle.msp_single.specs.Moore.{moore_class}
+use Rattle.msp_trees.specs.Horn.{horn_class}
+use Rattle.msp_wrap.specs.Wrap.{wrap_class}
+use Rattle.msp_levels.specs.Levels.{levels_class}
 use Rattle.msp_dispatch.specs.declared.solved_list.SolvedClass.{SolvedClass}
 
 abbrev pub solves : Class → SolverName → SolvedClass
@@ -14,6 +18,10 @@ abbrev pub solved_list : List SolvedClass
 solved_list =
     solves smith_class solver.Smith ∷
     solves lawler_class solver.Lawler ∷
+    solves moore_class solver.Moore ∷
+    solves horn_class solver.Horn ∷
+    solves wrap_class solver.Wrap ∷
+    solves levels_class solver.Levels ∷
     []
 
 abbrev pub solved_classes : List Class

@@ -46,15 +46,24 @@ fn is_same(a: Class, b: Class) -> bool
     rank(a) == rank(b)
 }
 
+/// Whether the class stands at the place of the list.
+fn stands_at(class: Class, place: u32) -> bool
+    ensures { IsTrue result ↔ (slice_get solved_classes place ≡ Some class) }
+{
+    match solved(place) {
+        Some(other) => is_same(other, class),
+        None => false,
+    }
+}
+
 /// The place of a class in the list.
 fn place_of(class: Class) -> Option<u32>
     ensures some { IfSome result (λ n. slice_get solved_classes n ≡ Some class) }
     ensures none { IfNone result (¬ Contains solved_classes class) }
 {
     for place in 0..SOLVED {
-        match solved(place) {
-            Some(other) if is_same(other, class) => return Some(place),
-            _ => (),
+        if stands_at(class, place) {
+            return Some(place);
         }
     }
     None

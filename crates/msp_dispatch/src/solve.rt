@@ -13,10 +13,13 @@ use crate::pick::{Pick, choose};
 use msp_carry::solve_along;
 use msp_class::{Class, List, NoMemory};
 use msp_instance::Instance;
+use msp_levels::Levels;
 use msp_route::Answer;
 use msp_schedule::{Solution, cost, settle};
-use msp_single::{Lawler, Smith};
+use msp_single::{Lawler, Moore, Smith};
 use msp_table::Row;
+use msp_trees::Horn;
+use msp_wrap::Wrap;
 use std::alloc::Global;
 
 /// Calls with the solver of a place of the list.
@@ -24,7 +27,11 @@ macro_rules! at_solver {
     ($place:expr, $call:ident, $($argument:expr),*) => {
         match $place {
             0 => $call($($argument),*, &Smith),
-            _ => $call($($argument),*, &Lawler),
+            1 => $call($($argument),*, &Lawler),
+            2 => $call($($argument),*, &Moore),
+            3 => $call($($argument),*, &Horn),
+            4 => $call($($argument),*, &Wrap),
+            _ => $call($($argument),*, &Levels),
         }
     };
 }

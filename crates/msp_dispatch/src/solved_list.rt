@@ -3,11 +3,14 @@ ghost use Rattle.std.specs.Prelude.{◌≡◌, slice_get};
 ghost use Rattle.msp_dispatch.specs.Solved.{solved_list, solved_classes};
 
 use msp_class::Class;
+use msp_levels::Levels;
 use msp_route::{Solver, SolverName};
-use msp_single::{Lawler, Smith};
+use msp_single::{Lawler, Moore, Smith};
+use msp_trees::Horn;
+use msp_wrap::Wrap;
 
 /// How many classes are solved.
-pub const SOLVED: u32 = 2;
+pub const SOLVED: u32 = 6;
 
 /// A class that is solved, and its solver.
 #[derive(Clone, Copy, Debug, PartialEq, Eq)]
@@ -32,6 +35,10 @@ pub(crate) fn entry_at(n: u32) -> Option<SolvedClass>
     match n {
         0 => Some(entry(&Smith, SolverName::Smith)),
         1 => Some(entry(&Lawler, SolverName::Lawler)),
+        2 => Some(entry(&Moore, SolverName::Moore)),
+        3 => Some(entry(&Horn, SolverName::Horn)),
+        4 => Some(entry(&Wrap, SolverName::Wrap)),
+        5 => Some(entry(&Levels, SolverName::Levels)),
         _ => None,
     }
 }
