@@ -20,6 +20,8 @@ mod routes;
 mod settling;
 mod shares;
 mod sweep;
+#[cfg(test)]
+mod tests;
 mod total_cost;
 mod work;
 
