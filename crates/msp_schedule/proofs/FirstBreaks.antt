@@ -3,7 +3,7 @@ use Rattle.std.proofs.Common.{◌≡◌, ℕ, suc, List, ◌<◌, ◌⊎◌, inl
 use Rattle.std.proofs.lemmas.Int.{ints}
 use Rattle.std.proofs.lemmas.Bool.{cases_lt}
 use Rattle.std.specs.Prelude.{IsNone, IfSome, ◌↔◌}
-use Rattle.msp_schedule.specs.Works.{IsDecision, IsWorked, LacksWorkAmong}
+use Rattle.msp_schedule.specs.Works.{IsWorked, LacksWorkAmong}
 use Rattle.msp_class.specs.declared.environments.EnvKind.{EnvKind}
 use Rattle.msp_class.specs.declared.environments.EnvKind.TheVariants.{Identical, Uniform, Unrelated, OpenShop, FlowShop, JobShop}
 use Rattle.msp_class.specs.Env.{kind_of}
@@ -16,7 +16,7 @@ use Rattle.msp_schedule.specs.declared.breaks.Break.TheVariants.{Span, Place, Ma
 use Rattle.msp_schedule.specs.Piece.{IsApart}
 use Rattle.msp_schedule.specs.Feasible.{Feasible, FollowsRoute, HasOperation, HasPlace, GetsWork}
 use Rattle.msp_schedule.specs.Within.{Within}
-use Rattle.msp_schedule.specs.Breaks.{piece_at, no_piece, no_arc, IsLeast, IsLeastOperation, IsEarly, Overlaps, KeepsArc, KeepsRoute, HasRoutes, IsBroken, IsFirstBreak, turn_of}
+use Rattle.msp_schedule.specs.Breaks.{piece_at, no_piece, no_arc, IsLeast, IsLeastOperation, IsEarly, Overlaps, KeepsArc, KeepsRoute, HasRoutes, IsBroken, IsDecision, IsFirstBreak, turn_of}
 
 -- the conditions before a turn
 pub record KeepsUpTo (n : ℕ) (i : Instance) (s : Schedule) : Type 0 where

@@ -1,5 +1,5 @@
 -- The first condition of a feasible schedule that a schedule breaks, and where.
-use Rattle.std.specs.Prelude.{◌≡◌, ℕ, ◌<◌, ◌≤◌, ◌⊎◌, List, length, ℤ, pos, ◌*ℤ◌, ◌≤ℤ◌, ◌<ℤ◌, slice_index_or, filter, ◌==◌, ◌&&◌, All}
+use Rattle.std.specs.Prelude.{◌≡◌, ℕ, ◌<◌, ◌≤◌, ◌⊎◌, List, length, ℤ, pos, ◌*ℤ◌, ◌≤ℤ◌, ◌<ℤ◌, slice_index_or, filter, ◌==◌, ◌&&◌, Option, Some, None, All}
 use Rattle.msp_class.specs.declared.environments.EnvKind.TheVariants.{FlowShop, JobShop}
 use Rattle.msp_class.specs.Env.{kind_of}
 use Rattle.msp_instance.specs.declared.Arc.{Arc as ArcValue}
@@ -10,7 +10,7 @@ use Rattle.msp_schedule.specs.declared.Schedule.{Schedule}
 use Rattle.msp_schedule.specs.declared.breaks.Break.{Break}
 use Rattle.msp_schedule.specs.declared.breaks.Break.TheVariants.{Span, Place, Machine, Job, Release, Arc, Route, Work}
 use Rattle.msp_schedule.specs.Piece.{IsBefore}
-use Rattle.msp_schedule.specs.Feasible.{HasOperation, HasPlace, GetsWork}
+use Rattle.msp_schedule.specs.Feasible.{Feasible, HasOperation, HasPlace, GetsWork}
 
 -- The piece of a number, from 0. What is read where there is none has no length.
 abbrev pub no_piece : PieceValue
@@ -111,3 +111,8 @@ turn_of (Work j o) = 7
 pub record IsFirstBreak (i : Instance) (s : Schedule) (b : Break) : Type 0 where
   pub broken : IsBroken i s b
   pub first : (c : Break) → turn_of c < turn_of b → ¬ IsBroken i s c
+
+-- What is found of a schedule: nothing where it is feasible, and else the first break.
+abbrev pub IsDecision : Instance → Schedule → Option Break → Type 0
+IsDecision i s None = Feasible i s
+IsDecision i s (Some b) = IsFirstBreak i s b

@@ -1,5 +1,5 @@
--- The work of an operation among some pieces, and what is found of a schedule. No public contract cites this file.
-use Rattle.std.specs.Prelude.{◌≡◌, ℕ, ◌*◌, ◌^◌, ◌<◌, List, [], ◌∷◌, length, ℤ, pos, ◌*ℤ◌, map, slice_index_or, MatchBool, Option, Some, None}
+-- The work of an operation among some pieces. No public contract cites this file.
+use Rattle.std.specs.Prelude.{◌≡◌, ℕ, ◌*◌, ◌^◌, ◌<◌, List, [], ◌∷◌, length, ℤ, pos, ◌*ℤ◌, map, slice_index_or, MatchBool}
 use Rattle.msp_class.specs.declared.environments.EnvKind.{EnvKind}
 use Rattle.msp_class.specs.declared.environments.EnvKind.TheVariants.{Identical, Uniform, Unrelated, OpenShop, FlowShop, JobShop}
 use Rattle.msp_class.specs.Env.{kind_of}
@@ -7,11 +7,9 @@ use Rattle.msp_instance.specs.declared.Instance.{Instance}
 use Rattle.msp_instance.specs.Instance.{job_at, need_at}
 use Rattle.msp_instance.specs.Conditions.{LiesWithin}
 use Rattle.msp_schedule.specs.declared.Piece.{Piece}
-use Rattle.msp_schedule.specs.declared.Schedule.{Schedule}
-use Rattle.msp_schedule.specs.declared.breaks.Break.{Break}
 use Rattle.msp_schedule.specs.Piece.{length_of}
-use Rattle.msp_schedule.specs.Feasible.{Feasible, HasOperation, total, work_of, whole_work, IsWholeWork}
-use Rattle.msp_schedule.specs.Breaks.{pieces_among, IsFirstBreak}
+use Rattle.msp_schedule.specs.Feasible.{HasOperation, total, work_of, whole_work, IsWholeWork}
+use Rattle.msp_schedule.specs.Breaks.{pieces_among}
 
 -- The number of the need that says how long the piece's operation takes: on unrelated machines that of its machine.
 abbrev pub need_of : EnvKind → Piece → ℕ
@@ -48,8 +46,3 @@ IsWorked i unit pieces j o = HasOperation (kind_of i.class.env) i j o → GetsWo
 -- The operation has work to do and does not get it from these pieces.
 abbrev pub LacksWorkAmong : Instance → ℤ → List Piece → ℕ → ℕ → Type 0
 LacksWorkAmong i unit pieces j o = HasOperation (kind_of i.class.env) i j o × (¬ GetsWorkAmong i unit pieces j o)
-
--- What is found of a schedule: nothing where it is feasible, and else the first break.
-abbrev pub IsDecision : Instance → Schedule → Option Break → Type 0
-IsDecision i s None = Feasible i s
-IsDecision i s (Some b) = IsFirstBreak i s b

@@ -10,8 +10,7 @@ ghost use Rattle.msp_class.specs.declared.environments.EnvKind.TheVariants.{Unre
 ghost use Rattle.msp_instance.specs.Conditions.{LiesWithin, Inner};
 ghost use Rattle.msp_schedule.specs.Within.{IsMoment, Within};
 ghost use Rattle.msp_schedule.specs.Begins.{IsEarlierEnd};
-ghost use Rattle.msp_schedule.specs.Works.{IsDecision};
-ghost use Rattle.msp_schedule.specs.Breaks.{piece_at, IsLeast, IsEmpty, IsEarly, no_arc, KeepsArc, KeepsRoute, IsFirstBreak};
+ghost use Rattle.msp_schedule.specs.Breaks.{piece_at, IsLeast, IsEmpty, IsEarly, no_arc, KeepsArc, KeepsRoute, IsDecision, IsFirstBreak};
 
 use crate::job_cost::product;
 use crate::overlaps::{Lane, first_overlap};

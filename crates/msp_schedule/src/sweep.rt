@@ -3,10 +3,9 @@ ghost use Rattle.std.specs.Prelude.{true, ◌≡◌, ◌↔◌, IsNone, IfOk, If
 ghost use Rattle.msp_class.specs.Env.{kind_of};
 ghost use Rattle.msp_class.specs.declared.environments.EnvKind.TheVariants.{Unrelated};
 ghost use Rattle.msp_instance.specs.Conditions.{Inner};
-ghost use Rattle.msp_schedule.specs.Breaks.{IsFirstBreak};
+ghost use Rattle.msp_schedule.specs.Breaks.{IsDecision, IsFirstBreak};
 ghost use Rattle.msp_schedule.specs.Feasible.{Feasible};
 ghost use Rattle.msp_schedule.specs.Within.{Within};
-ghost use Rattle.msp_schedule.specs.Works.{IsDecision};
 
 use crate::Schedule;
 use crate::arcs::swept_arc;
