@@ -2,7 +2,7 @@
 use Rattle.std.specs.Prelude.{◌≡◌, ◌≤◌, ℤ, ◌*ℤ◌, unsigned_abs}
 use Rattle.std.specs.Int.{IsGcd}
 use Rattle.msp_schedule.specs.declared.Frac.{Frac}
-use Rattle.msp_schedule.specs.declared.limits.TheConstants.{GREATEST_NUMERATOR, GREATEST_DENOMINATOR}
+use Rattle.msp_schedule.specs.declared.limits.TheConstants.{GREATEST_COMPARED_NUMERATOR, GREATEST_COMPARED_DENOMINATOR}
 
 -- The two fractions are the same number.
 abbrev pub IsSameFraction : Frac → Frac → Type 0
@@ -18,5 +18,5 @@ IsLowest f = IsGcd (unsigned_abs f.num) (unsigned_abs f.den) 1
 
 -- Numerator and denominator are so small that fractions can be compared.
 pub record IsComparable (f : Frac) : Type 0 where
-  pub num : unsigned_abs f.num ≤ GREATEST_NUMERATOR
-  pub den : unsigned_abs f.den ≤ GREATEST_DENOMINATOR
+  pub num : unsigned_abs f.num ≤ GREATEST_COMPARED_NUMERATOR
+  pub den : unsigned_abs f.den ≤ GREATEST_COMPARED_DENOMINATOR

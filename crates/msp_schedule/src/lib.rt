@@ -30,8 +30,8 @@ pub use fraction::{compare, lowest};
 pub use job_cost::job_cost_at;
 pub use laws::{law_of_ends, law_of_floors};
 pub use limits::{
-    GREATEST_CARRIED_UNIT, GREATEST_DENOMINATOR, GREATEST_MOMENT, GREATEST_NUMERATOR,
-    GREATEST_UNIT, MOST_PIECES,
+    GREATEST_CARRIED_UNIT, GREATEST_COMPARED_DENOMINATOR, GREATEST_COMPARED_NUMERATOR,
+    GREATEST_MOMENT, GREATEST_UNIT, MOST_PIECES,
 };
 use msp_class::List;
 pub use settling::settle;

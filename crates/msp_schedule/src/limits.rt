@@ -9,6 +9,6 @@ pub const GREATEST_CARRIED_UNIT: i128 = 4096;
 /// The greatest moment.
 pub const GREATEST_MOMENT: i128 = 200_000_000_000_000_000_000_000_000;
 /// The greatest size of a numerator that `compare` takes.
-pub const GREATEST_NUMERATOR: u128 = 1 << 80;
+pub const GREATEST_COMPARED_NUMERATOR: u128 = 1 << 80;
 /// The greatest denominator that `compare` takes.
-pub const GREATEST_DENOMINATOR: u128 = 1 << 44;
+pub const GREATEST_COMPARED_DENOMINATOR: u128 = 1 << 44;
