@@ -14,18 +14,19 @@ use Rattle.msp_name.specs.Names.{NameOf}
 use Rattle.msp_name.proofs.NameLemmas.{NameOf-determined}
 use Rattle.msp_file.specs.declared.fault.FileFault.{FileFault}
 use Rattle.msp_file.specs.declared.fault.FileFault.TheVariants.{Memory as FileMemory}
+use Rattle.msp_instance.specs.declared.Instance.{Instance}
+use Rattle.msp_file.specs.declared.schedule.Stated.{Stated}
 use Rattle.msp_closure.specs.declared.entry.Entry.{Entry}
 use Rattle.msp_dispatch.specs.declared.Cannot.{Cannot}
 use Rattle.msp_dispatch.specs.declared.Cannot.TheVariants.{Memory as CannotMemory}
 use Rattle.msp_report.specs.RowsText.{rows_report}
 use Rattle.msp_results.specs.declared.fault.ResultFault.{ResultFault}
 use Rattle.msp_results.specs.declared.fault.ResultFault.TheVariants.{Memory}
-use Rattle.msp_top.specs.declared.answers.TheConstants.{INPUT_LIMIT}
 use Rattle.msp_top.specs.declared.answers.Report.{Report}
 use Rattle.msp_top.specs.declared.refusal.Refusal.{Refusal}
 use Rattle.msp_top.specs.declared.notes.Note.TheVariants.{TooLong}
 use Rattle.msp_top.specs.declared.command.Command.{Command}
-use Rattle.msp_top.specs.declared.command.Command.TheVariants.{Solve, Answer}
+use Rattle.msp_top.specs.declared.command.Command.TheVariants.{Solve, Check, Answer}
 use Rattle.msp_top.specs.declared.command.Request.{Request}
 use Rattle.msp_top.specs.declared.command.Request.TheVariants.{Rows, Command as IsCommand}
 use Rattle.msp_top.specs.declared.command.Question.{Question}
@@ -36,14 +37,15 @@ use Rattle.msp_top.specs.Cannots.{cannot_status}
 use Rattle.msp_top.specs.Results.{results_status}
 use Rattle.msp_top.specs.Outcome.{Outcome, report, refusal}
 use Rattle.msp_top.specs.Solves.{SolveIsRight, solved, misread, unsolved}
+use Rattle.msp_top.specs.Checks.{HasCheckStatus, holds, fails, CheckIsRight, checked, misread_front, unchecked, misread_rest}
 use Rattle.msp_top.specs.Reports.{HasClashStatus, contradicts, agrees, ReadsResults, reported, misread as misread_results}
-use Rattle.msp_top.specs.Run.{IsRight, IsRightWithin, too_long, short, IsRightReport, of_input, of_rows, Reports, BreaksOff, Refuses, IsDue, IsNote, misfit as note_misfit, refused as note_refused, read_fault, write_fault, memory as note_memory}
+use Rattle.msp_top.specs.Run.{limit_of, IsRight, IsRightWithin, too_long, short, IsRightReport, of_input, of_rows, Reports, BreaksOff, Refuses, IsDue, IsNote, misfit as note_misfit, refused as note_refused, read_fault, write_fault, memory as note_memory}
 use Rattle.msp_top.specs.Note.{note_text}
 use Rattle.msp_top.specs.Refusals.{of_taken, of_write_fault, out_of_memory}
 use Rattle.msp_top.specs.Answers.{Answers}
 use Rattle.msp_top.specs.Words.{ReadsWords}
 use Rattle.msp_top.specs.Ending.{Serves, status_of, misfit, cannot_read, no_memory, refuses, cannot_write, writes}
-use Rattle.msp_top.proofs.WordLemmas.{first_word, asks_first, cons_heads, cons_tails, not_word, solve_word, rows_word}
+use Rattle.msp_top.proofs.WordLemmas.{first_word, asks_first, cons_heads, cons_tails, not_word, solve_word, label_word, frontier_word, why_word, check_word, rows_word}
 
 -- ---- the statuses of right outcomes
 
@@ -69,6 +71,16 @@ solve_status input at (report status text) (solved t is) = omega arith
 solve_status input at (refusal status note) (misread fault other first) = file_range fault other
 solve_status input at (refusal status note) (unsolved names i cannot read other fault) = cannot_range cannot other
 
+feasible_status : (i : Instance) (s : Stated) (status : ℕ) → HasCheckStatus i s status → status ≤ 1
+feasible_status i s status (holds h e) = omega arith
+feasible_status i s status (fails h) = omega arith
+
+check_status : (input : List ℕ) (outcome : Outcome) → CheckIsRight input outcome → HasStatus outcome
+check_status input (report status text) (checked filed s line rest n t begins may read is r) = feasible_status filed.instance s status is
+check_status input (refusal status note) (misread_front fault other first) = file_range fault other
+check_status input (refusal status note) (unchecked filed line rest begins cut) = (omega arith, omega arith)
+check_status input (refusal status note) (misread_rest filed line rest fault begins may other first) = file_range fault other
+
 clash_status : (entries : List Entry) (status : ℕ) → HasClashStatus entries status → status ≤ 1
 clash_status entries status (contradicts h) = omega arith
 clash_status entries status (agrees h g) = omega arith
@@ -79,6 +91,7 @@ question_status question input (refusal status note) (misread_results fault othe
 
 within_status : (command : Command) (input : List ℕ) (outcome : Outcome) → IsRightWithin command input outcome → HasStatus outcome
 within_status (Solve at) input outcome h = solve_status input at outcome h
+within_status Check input outcome h = check_status input outcome h
 within_status (Answer question) input outcome h = question_status question input outcome h
 
 -- ---- what each way of ending says
@@ -92,14 +105,6 @@ answered_same command passed input first why e same h =
     let P : List ℕ → Type 0 = λ l. Answers (IsRightWithin command l) (Err why) in
     let Q : Refusal → Type 0 = λ r. Answers (IsRightWithin command passed) (Err r) in
     subst P e (subst Q (sym same) h)
-
-pub taken_is_no_usage : (cause : Taken) (why : Refusal) → why ≡ of_taken cause → why.status ≢ 2
-taken_is_no_usage cause why e is = by_cause cause (sym (ap (λ w. w.status) e) ∙ is)
-  where
-    by_cause : (cause : Taken) → (of_taken cause).status ≡ 2 → ⊥
-    by_cause taken.ReadFault e = omega (arith, e)
-    by_cause taken.TooLong e = omega (arith, e)
-    by_cause taken.Memory e = omega (arith, e)
 
 pub refused_is_no_usage : (command : Command) (input : List ℕ) (why : Refusal) → Answers (IsRightWithin command input) (Err why) → why.status ≢ 2
 refused_is_no_usage command input why (inl wanting) is = omega (arith, wanting.0, is)
@@ -130,23 +135,24 @@ never_usage X (Ok status) h = tt
 never_usage X (Err why) h = λ is. absurd (h is)
 
 -- the input was not taken whole
-pub serves_taken : (words : List (List ℕ)) (s t : SourceView) (o : SinkView) (command : Command) (cause : Taken) (why : Refusal) → Asks words command → why ≡ of_taken cause → (cause ≡ taken.ReadFault → Rose s.faults t.faults) →
-    (bytes : List ℕ) × Consumes s.left t.left bytes × IsStop cause INPUT_LIMIT (length bytes) → Serves words s t o o (Err why)
-serves_taken words s t o command cause why asked e rose stop =
+pub serves_taken : (words : List (List ℕ)) (s t : SourceView) (o : SinkView) (command : Command) (limit : ℕ) (cause : Taken) (why : Refusal) → Asks words command → limit ≡ limit_of command → why ≡ of_taken limit cause → (cause ≡ taken.ReadFault → Rose s.faults t.faults) →
+    (bytes : List ℕ) × Consumes s.left t.left bytes × IsStop cause limit (length bytes) → Serves words s t o o (Err why)
+serves_taken words s t o command limit cause why asked same e rose stop =
     let P : Refusal → Type 0 = λ r. Serves words s t o o (Err r) in
-    subst P (sym e) (by_cause cause rose stop)
+    let Q : ℕ → Type 0 = λ n. (bytes : List ℕ) × Consumes s.left t.left bytes × IsStop cause n (length bytes) in
+    subst P (sym (e ∙ ap (λ n. of_taken n cause) same)) (by_cause cause rose (subst Q same stop))
   where
-    by_cause : (cause : Taken) → (cause ≡ taken.ReadFault → Rose s.faults t.faults) → (bytes : List ℕ) × Consumes s.left t.left bytes × IsStop cause INPUT_LIMIT (length bytes) → Serves words s t o o (Err (of_taken cause))
+    by_cause : (cause : Taken) → (cause ≡ taken.ReadFault → Rose s.faults t.faults) → (bytes : List ℕ) × Consumes s.left t.left bytes × IsStop cause (limit_of command) (length bytes) → Serves words s t o o (Err (of_taken (limit_of command) cause))
     by_cause taken.ReadFault rose stop = cannot_read command asked (rose refl)
     by_cause taken.Memory rose stop = no_memory command out_of_memory asked (refl, refl)
-    by_cause taken.TooLong rose (bytes, front, count) = refuses 4 TooLong (omega arith) (omega arith) (record {
+    by_cause taken.TooLong rose (bytes, front, count) = refuses 4 (TooLong (limit_of command)) (omega arith) (omega arith) (record {
       command = command;
       asked = asked;
-      right = IfSome-map s.left _ _ (λ input more. too_long more) (more_left s.left t.left bytes INPUT_LIMIT front count);
+      right = IfSome-map s.left _ _ (λ input more. too_long more) (more_left s.left t.left bytes (limit_of command) front count);
     })
 
 -- the input was taken whole and refused
-pub serves_refused : (words : List (List ℕ)) (s t : SourceView) (o : SinkView) (command : Command) (input : List ℕ) (why : Refusal) → Asks words command → Consumes s.left t.left input → IsAtEnd t.left → length input ≤ INPUT_LIMIT →
+pub serves_refused : (words : List (List ℕ)) (s t : SourceView) (o : SinkView) (command : Command) (input : List ℕ) (why : Refusal) → Asks words command → Consumes s.left t.left input → IsAtEnd t.left → length input ≤ limit_of command →
     Answers (IsRightWithin command input) (Err why) → Serves words s t o o (Err why)
 serves_refused words s t o command input why asked front ended within (inl memory) = no_memory command why asked memory
 serves_refused words s t o command input why asked front ended within (inr right) =
@@ -158,13 +164,13 @@ serves_refused words s t o command input why asked front ended within (inr right
     })
 
 -- the report of the whole input is right
-right_report : (words : List (List ℕ)) (s t : SourceView) (command : Command) (input : List ℕ) (made : Report) → Asks words command → Consumes s.left t.left input → IsAtEnd t.left → length input ≤ INPUT_LIMIT →
+right_report : (words : List (List ℕ)) (s t : SourceView) (command : Command) (input : List ℕ) (made : Report) → Asks words command → Consumes s.left t.left input → IsAtEnd t.left → length input ≤ limit_of command →
     IsRightWithin command input (report made.status made.text.items) → IsRightReport words s t made.status made.text.items
 right_report words s t command input made asked front ended within right =
     of_input command made.status made.text.items asked ended (IfSome-map s.left (λ l. input ≡ l) _ (λ l e. subst (λ i. IsRight command i (report made.status made.text.items)) e (short _ within right)) (all_left s.left t.left input front ended))
 
 -- a report was written whole
-pub serves_written : (words : List (List ℕ)) (s t : SourceView) (o p : SinkView) (command : Command) (input : List ℕ) (made : Report) (bytes : List ℕ) → Asks words command → Consumes s.left t.left input → IsAtEnd t.left → length input ≤ INPUT_LIMIT →
+pub serves_written : (words : List (List ℕ)) (s t : SourceView) (o p : SinkView) (command : Command) (input : List ℕ) (made : Report) (bytes : List ℕ) → Asks words command → Consumes s.left t.left input → IsAtEnd t.left → length input ≤ limit_of command →
     IsRightWithin command input (report made.status made.text.items) → bytes ≡ made.text.items → Appends o.held p.held bytes → Serves words s t o p (Ok made.status)
 serves_written words s t o p command input made bytes asked front ended within right e grown =
     writes made.status (within_status command input _ right) (made.text.items, right_report words s t command input made asked front ended within right, subst (Appends o.held p.held) e grown)
@@ -177,7 +183,7 @@ breaks_off words s t o p status text bytes fault why right e put is =
 
 -- a report was begun, and the sink failed
 pub serves_broken : (words : List (List ℕ)) (s t : SourceView) (o p : SinkView) (command : Command) (input : List ℕ) (made : Report) (bytes : List ℕ) (fault : WriteFault) (why : Refusal) → Asks words command → Consumes s.left t.left input → IsAtEnd t.left →
-    length input ≤ INPUT_LIMIT → IsRightWithin command input (report made.status made.text.items) → bytes ≡ made.text.items → Puts o p bytes (Err fault) → why ≡ of_write_fault → Serves words s t o p (Err why)
+    length input ≤ limit_of command → IsRightWithin command input (report made.status made.text.items) → bytes ≡ made.text.items → Puts o p bytes (Err fault) → why ≡ of_write_fault → Serves words s t o p (Err why)
 serves_broken words s t o p command input made bytes fault why asked front ended within right e put is =
     breaks_off words s t o p made.status made.text.items bytes fault why (right_report words s t command input made asked front ended within right) e put is
 
@@ -219,11 +225,21 @@ asks_solve words at (Label classes) p q = not_word solve_word (first_word (Answe
 asks_solve words at Frontier p q = not_word solve_word (first_word (Answer Frontier)) refl (same_first words (Solve at) (Answer Frontier) p q)
 asks_solve words at (Why class) p q = not_word solve_word (first_word (Answer (Why class))) refl (same_first words (Solve at) (Answer (Why class)) p q)
 
+asks_check : {X : Type 0} (words : List (List ℕ)) (question : Question) → Asks words Check → Asks words (Answer question) → X
+asks_check words (Label classes) p q = not_word check_word label_word refl (same_first words Check (Answer (Label classes)) p q)
+asks_check words Frontier p q = not_word check_word frontier_word refl (same_first words Check (Answer Frontier) p q)
+asks_check words (Why class) p q = not_word check_word why_word refl (same_first words Check (Answer (Why class)) p q)
+
 asks_once : (words : List (List ℕ)) (a b : Command) → Asks words a → Asks words b → a ≡ b
 asks_once words (Solve a) (Solve b) p q = ap Solve (at_once words a b p q)
 asks_once words (Answer (Label a)) (Answer (Label b)) p q = ap (λ classes. Answer (Label classes)) (classes_once q.0 a b (subst (λ names. AllZip IsNameWord names a) (cons_tails (sym p.1 ∙ q.1)) p.2) q.2)
 asks_once words (Answer Frontier) (Answer Frontier) p q = refl
 asks_once words (Answer (Why a)) (Answer (Why b)) p q = ap (λ class. Answer (Why class)) (why_once words a b p q)
+asks_once words Check Check p q = refl
+asks_once words Check (Solve b) p q = not_word check_word solve_word refl (same_first words Check (Solve b) p q)
+asks_once words (Solve a) Check p q = not_word solve_word check_word refl (same_first words (Solve a) Check p q)
+asks_once words Check (Answer b) p q = asks_check words b p q
+asks_once words (Answer a) Check p q = asks_check words a q p
 asks_once words (Solve a) (Answer b) p q = asks_solve words a b p q
 asks_once words (Answer a) (Solve b) p q = sym (asks_solve words b a q p)
 asks_once words (Answer (Label a)) (Answer b) p q = not_word (first_word (Answer (Label a))) (first_word (Answer b)) refl (same_first words (Answer (Label a)) (Answer b) p q)
@@ -236,6 +252,7 @@ rows_are_no_command words command h asked = by_command command (cons_heads (sym 
   where
     by_command : {X : Type 0} (command : Command) → rows_word ≡ first_word command → X
     by_command (Solve at) e = not_word rows_word (first_word (Solve at)) refl e
+    by_command Check e = not_word rows_word check_word refl e
     by_command (Answer (Label classes)) e = not_word rows_word (first_word (Answer (Label classes))) refl e
     by_command (Answer Frontier) e = not_word rows_word (first_word (Answer Frontier)) refl e
     by_command (Answer (Why class)) e = not_word rows_word (first_word (Answer (Why class))) refl e

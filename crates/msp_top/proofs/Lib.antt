@@ -6,3 +6,4 @@ pub mod WordLemmas
 pub mod Endings
 pub mod QuestionAnswers
 pub mod SolveAnswers
+pub mod CheckAnswers

@@ -11,7 +11,7 @@ use Rattle.msp_name.specs.declared.fault.NameFault.{NameFault}
 use Rattle.msp_name.specs.Names.{NameOf}
 use Rattle.msp_name.specs.Reading.{reading_of}
 use Rattle.msp_top.specs.declared.command.Command.{Command}
-use Rattle.msp_top.specs.declared.command.Command.TheVariants.{Solve, Answer}
+use Rattle.msp_top.specs.declared.command.Command.TheVariants.{Solve, Check, Answer}
 use Rattle.msp_top.specs.declared.command.Question.TheVariants.{Label, Frontier, Why}
 use Rattle.msp_top.specs.declared.command.Request.{Request}
 use Rattle.msp_top.specs.declared.refusal.Refusal.{Refusal}
@@ -127,6 +127,9 @@ at_word = codes "--at"
 abbrev pub frontier_word : List ℕ
 frontier_word = codes "frontier"
 
+abbrev pub check_word : List ℕ
+check_word = codes "check"
+
 abbrev pub rows_word : List ℕ
 rows_word = codes "rows"
 
@@ -145,6 +148,7 @@ not_word word other e q = differ (sym e ∙ (bytes_eq-Decides word other).1 q)
 -- the word with which a command begins
 abbrev pub first_word : Command → List ℕ
 first_word (Solve at) = solve_word
+first_word Check = check_word
 first_word (Answer (Label classes)) = label_word
 first_word (Answer Frontier) = frontier_word
 first_word (Answer (Why class)) = why_word
@@ -152,6 +156,7 @@ first_word (Answer (Why class)) = why_word
 pub asks_first : (words : List (List ℕ)) (command : Command) → Asks words command → (later : List (List ℕ)) × (words ≡ first_word command ∷ later)
 asks_first words (Solve None) h = ([], h)
 asks_first words (Solve (Some class)) (name, h, named) = (codes "--at" ∷ name ∷ [], h)
+asks_first words Check h = ([], h)
 asks_first words (Answer (Label classes)) (names, h, zip) = (names, h)
 asks_first words (Answer Frontier) h = ([], h)
 asks_first words (Answer (Why class)) (name, h, named) = (name ∷ [], h)
@@ -173,6 +178,7 @@ reads_label_misfit names none = record { no_command = no_command; no_rows = λ h
   where
     no_command : (command : Command) → ¬ Asks (label_word ∷ names) command
     no_command (Solve at) h = not_word label_word solve_word refl (begins _ _ (Solve at) h)
+    no_command Check h = not_word label_word check_word refl (cons_heads h)
     no_command (Answer (Label classes)) (others, h, zip) = none classes (subst (λ ws. AllZip IsNameWord ws classes) (sym (cons_tails h)) zip)
     no_command (Answer Frontier) h = not_word label_word frontier_word refl (cons_heads h)
     no_command (Answer (Why class)) (name, h, named) = not_word label_word why_word refl (cons_heads h)
@@ -182,6 +188,7 @@ reads_why_misfit words none = record { no_command = no_command; no_rows = λ h. 
   where
     no_command : (command : Command) → ¬ Asks (why_word ∷ words) command
     no_command (Solve at) h = not_word why_word solve_word refl (begins _ _ (Solve at) h)
+    no_command Check h = not_word why_word check_word refl (cons_heads h)
     no_command (Answer (Label classes)) (names, h, zip) = not_word why_word label_word refl (cons_heads h)
     no_command (Answer Frontier) h = not_word why_word frontier_word refl (cons_heads h)
     no_command (Answer (Why class)) (name, h, named) = none name class (cons_tails h) named
@@ -191,6 +198,7 @@ reads_solve_misfit options none = record { no_command = no_command; no_rows = λ
   where
     no_command : (command : Command) → ¬ Asks (solve_word ∷ options) command
     no_command (Solve at) h = none at h
+    no_command Check h = not_word solve_word check_word refl (cons_heads h)
     no_command (Answer (Label classes)) (names, h, zip) = not_word solve_word label_word refl (cons_heads h)
     no_command (Answer Frontier) h = not_word solve_word frontier_word refl (cons_heads h)
     no_command (Answer (Why class)) (name, h, named) = not_word solve_word why_word refl (cons_heads h)
@@ -240,13 +248,14 @@ map_none f (x ∷ xs) e = cc
 
 -- a first word that is none of those with which a command begins, or that has words behind it where none may follow
 pub refuses_all : {X : Type 0} (f : X → List ℕ) (word : List ℕ) (xs : List X) (why : Refusal) → bytes_eq word label_word ≡ false → bytes_eq word why_word ≡ false → bytes_eq word solve_word ≡ false →
-    ¬ ((word ≡ frontier_word) × (xs ≡ [])) → ¬ ((word ≡ rows_word) × (xs ≡ [])) → why ≡ of_misfit Form → ReadsWords (word ∷ map f xs) (Err why)
-refuses_all f word xs why label why_not solve frontier rows is =
+    ¬ ((word ≡ frontier_word) × (xs ≡ [])) → ¬ ((word ≡ check_word) × (xs ≡ [])) → ¬ ((word ≡ rows_word) × (xs ≡ [])) → why ≡ of_misfit Form → ReadsWords (word ∷ map f xs) (Err why)
+refuses_all f word xs why label why_not solve frontier check rows is =
     let Q : Refusal → Type 0 = λ r. ReadsWords (word ∷ map f xs) (Err r) in
     subst Q (sym is) (inl (refl, record { no_command = no_command; no_rows = λ h. rows (cons_heads h, map_none f xs (cons_tails h)) }, sym text))
   where
     no_command : (command : Command) → ¬ Asks (word ∷ map f xs) command
     no_command (Solve at) h = not_word word solve_word solve (begins _ _ (Solve at) h)
+    no_command Check h = check (cons_heads h, map_none f xs (cons_tails h))
     no_command (Answer (Label classes)) (names, h, zip) = not_word word label_word label (cons_heads h)
     no_command (Answer Frontier) h = frontier (cons_heads h, map_none f xs (cons_tails h))
     no_command (Answer (Why class)) (name, h, named) = not_word word why_word why_not (cons_heads h)

@@ -7,6 +7,7 @@ use Rattle.msp_grammar.specs.declared.filed.Filed.{Filed}
 use Rattle.msp_grammar.specs.InstanceText.{IsInstanceText}
 use Rattle.msp_top.specs.Outcome.{Outcome, report, refusal}
 use Rattle.msp_top.specs.Solves.{SolveIsRight}
+use Rattle.msp_top.specs.Checks.{CheckIsRight, BeginsWith}
 use Rattle.msp_top.specs.Note.{note_text}
 
 abbrev pub IsNoMemory : Refusal → Type 0
@@ -20,3 +21,7 @@ Answers IsRight (Err why) = IsNoMemory why ⊎ IsRight (refusal why.status (note
 -- The outcome is right, at the class that is named, for each input that is the text of the instance and of its names.
 abbrev pub SolvesFiled : Option Class → Filed → Outcome → Type 0
 SolvesFiled at filed outcome = (input : List ℕ) → IsInstanceText input filed.instance filed.names → SolveIsRight input at outcome
+
+-- The outcome is right for each input that begins with the instance's text, which this rest follows.
+abbrev pub ChecksRest : Filed → ℕ → List ℕ → Outcome → Type 0
+ChecksRest filed line rest outcome = (input : List ℕ) → BeginsWith input filed line rest → CheckIsRight input outcome

@@ -4,7 +4,7 @@ use Rattle.std.specs.List.{AllZip}
 use Rattle.msp_class.specs.declared.class.Class.{Class}
 use Rattle.msp_name.specs.Names.{NameOf}
 use Rattle.msp_top.specs.declared.command.Command.{Command}
-use Rattle.msp_top.specs.declared.command.Command.TheVariants.{Solve, Answer}
+use Rattle.msp_top.specs.declared.command.Command.TheVariants.{Solve, Check, Answer}
 use Rattle.msp_top.specs.declared.command.Question.TheVariants.{Label, Frontier, Why}
 
 -- The word is a name of the class. A word of 2 ^ 32 bytes or more is no name.
@@ -12,11 +12,12 @@ pub record IsNameWord (word : List ℕ) (class : Class) : Type 0 where
   pub short : length word < 2 ^ 32
   pub named : NameOf word class
 
--- The words ask for the command: `solve`, alone or with `--at` and a name of a class; `label` and any number of names; `frontier`; `why`
--- and a name.
+-- The words ask for the command: `solve`, alone or with `--at` and a name of a class; `check`; `label` and any number of names;
+-- `frontier`; `why` and a name.
 abbrev pub Asks : List (List ℕ) → Command → Type 0
 Asks words (Solve None) = words ≡ codes "solve" ∷ []
 Asks words (Solve (Some class)) = (name : List ℕ) × (words ≡ codes "solve" ∷ codes "--at" ∷ name ∷ []) × IsNameWord name class
+Asks words Check = words ≡ codes "check" ∷ []
 Asks words (Answer (Label classes)) = (names : List (List ℕ)) × (words ≡ codes "label" ∷ names) × AllZip IsNameWord names classes
 Asks words (Answer Frontier) = words ≡ codes "frontier" ∷ []
 Asks words (Answer (Why class)) = (name : List ℕ) × (words ≡ codes "why" ∷ name ∷ []) × IsNameWord name class

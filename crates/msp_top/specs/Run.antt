@@ -4,27 +4,35 @@ use Rattle.std.specs.Io.KnownBytes.{Appends, IsAtEnd}
 use Rattle.msp_io.specs.Faults.{Rose}
 use Rattle.msp_io.specs.Views.{SourceView, SinkView}
 use Rattle.msp_report.specs.RowsText.{rows_report}
-use Rattle.msp_top.specs.declared.answers.TheConstants.{INPUT_LIMIT}
+use Rattle.msp_top.specs.declared.answers.TheConstants.{INPUT_LIMIT, CHECK_LIMIT}
 use Rattle.msp_top.specs.declared.command.Command.{Command}
-use Rattle.msp_top.specs.declared.command.Command.TheVariants.{Solve, Answer}
+use Rattle.msp_top.specs.declared.command.Command.TheVariants.{Solve, Check, Answer}
 use Rattle.msp_top.specs.Commands.{Asks, AsksForRows}
 use Rattle.msp_top.specs.Usage.{usage_text}
 use Rattle.msp_top.specs.Outcome.{Outcome, report, refusal}
 use Rattle.msp_top.specs.Solves.{SolveIsRight}
+use Rattle.msp_top.specs.Checks.{CheckIsRight}
 use Rattle.msp_top.specs.Reports.{ReadsResults}
 
 -- The outcome is right for a command and an input within the limit.
 abbrev pub IsRightWithin : Command → List ℕ → Outcome → Type 0
 IsRightWithin (Solve at) input outcome = SolveIsRight input at outcome
+IsRightWithin Check input outcome = CheckIsRight input outcome
 IsRightWithin (Answer question) input outcome = ReadsResults question input outcome
 
-abbrev pub too_long_text : List ℕ
-too_long_text = codes "more than " ++ decimal INPUT_LIMIT ++ codes " bytes"
+-- The most bytes of an input.
+abbrev pub limit_of : Command → ℕ
+limit_of (Solve at) = INPUT_LIMIT
+limit_of Check = CHECK_LIMIT
+limit_of (Answer question) = INPUT_LIMIT
+
+abbrev pub too_long_text : ℕ → List ℕ
+too_long_text limit = codes "more than " ++ decimal limit ++ codes " bytes"
 
 -- The outcome is right for a command and a whole input.
 pub data IsRight (command : Command) (input : List ℕ) : Outcome → Type 0 where
-  too_long : INPUT_LIMIT < length input → IsRight command input (refusal 4 too_long_text)
-  short : (outcome : Outcome) → length input ≤ INPUT_LIMIT → IsRightWithin command input outcome → IsRight command input outcome
+  too_long : limit_of command < length input → IsRight command input (refusal 4 (too_long_text (limit_of command)))
+  short : (outcome : Outcome) → length input ≤ limit_of command → IsRightWithin command input outcome → IsRight command input outcome
 
 -- The report is right for the words: of the whole input, by a command that reads it to its end, or the table of rows, for which nothing
 -- is read.

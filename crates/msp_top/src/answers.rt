@@ -1,10 +1,11 @@
 // What there is to say of a whole input, by the command.
-ghost use Rattle.std.specs.Prelude.{◌≡◌, ◌≤◌, length};
+ghost use Rattle.std.specs.Prelude.{◌≡◌, ◌<◌, ◌≤◌, ◌^◌, length};
 ghost use Rattle.msp_instance.specs.Conditions.{InClass};
 ghost use Rattle.msp_top.specs.Solves.{SolveIsRight};
-ghost use Rattle.msp_top.specs.Run.{IsRightWithin};
+ghost use Rattle.msp_top.specs.Run.{IsRightWithin, limit_of};
 ghost use Rattle.msp_top.specs.Answers.{Answers, SolvesFiled};
 
+use crate::checks::check_answer;
 use crate::command::Command;
 use crate::questions::answer_question;
 use crate::refusal::Refusal;
@@ -15,8 +16,21 @@ use msp_grammar::Filed;
 use msp_report::solve_text;
 use std::alloc::Global;
 
-/// The most bytes of an input.
+/// The most bytes of an input, but for that of `check`.
 pub const INPUT_LIMIT: u64 = 4_194_304;
+/// The most bytes of an instance text with a schedule text after it.
+pub const CHECK_LIMIT: u64 = 67_108_864;
+
+/// The most bytes of the input of a command.
+pub fn limit_of(command: &Command) -> u64
+    ensures limit { result ≡ limit_of command.now }
+    ensures small { result < 2 ^ 32 }
+{
+    match command {
+        Command::Check => CHECK_LIMIT,
+        Command::Solve { .. } | Command::Answer { .. } => INPUT_LIMIT,
+    }
+}
 
 /// A report of a whole input, and its status.
 #[derive(Drop)]
@@ -27,11 +41,12 @@ pub struct Report {
 
 /// The answer to a command and a whole input.
 pub fn answer_to(alloc: Global, command: &Command, input: &[u8]) -> Result<Report, Refusal>
-    requires { length input.now ≤ INPUT_LIMIT }
+    requires { length input.now ≤ limit_of command.now }
     ensures { Answers (IsRightWithin command.now input.now) result }
 {
     match command {
         Command::Solve { at } => solve_answer(alloc, *at, input),
+        Command::Check => check_answer(alloc, input),
         Command::Answer { question } => answer_question(alloc, question, input),
     }
 }

@@ -17,6 +17,8 @@ pub enum Question {
 pub enum Command {
     /// To solve an instance, at a class of solvers where one is named.
     Solve { at: Option<Class> },
+    /// To check a schedule that stands after its instance.
+    Check,
     /// To answer a question from a file of results.
     Answer { question: Question },
 }

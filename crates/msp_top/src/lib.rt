@@ -4,6 +4,7 @@
 #![tactic(auto)]
 
 mod answers;
+mod checks;
 mod command;
 mod notes;
 mod questions;

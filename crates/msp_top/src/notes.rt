@@ -7,7 +7,6 @@ ghost use Rattle.msp_top.specs.Run.{IsTold, note_line, too_long_text};
 ghost use Rattle.msp_top.specs.Note.{usage_note, note_text};
 ghost use Rattle.msp_top.specs.Cannots.{cannot_text};
 
-use crate::answers::INPUT_LIMIT;
 use crate::words::Misfit;
 use msp_class::Class;
 use msp_dispatch::Cannot;
@@ -20,9 +19,12 @@ use msp_results::ResultFault;
 #[derive(Clone, Copy, Debug, PartialEq, Eq)]
 pub enum Note {
     Usage(Misfit),
-    TooLong,
+    /// The input has more bytes than this.
+    TooLong { limit: u64 },
     File(FileFault),
     Unsolved(Cannot),
+    /// No schedules of the class are checked.
+    Unchecked { class: Class },
     Results(ResultFault),
     CannotRead,
     CannotWrite,
@@ -60,10 +62,10 @@ fn put_misfit<E: Sink>(notes: &mut E, misfit: Misfit) -> Result<(), WriteFault>
     }
 }
 
-fn put_too_long<E: Sink>(notes: &mut E) -> Result<(), WriteFault>
-    ensures { Puts (E.seen notes.old) (E.seen notes.new) too_long_text result }
+fn put_too_long<E: Sink>(notes: &mut E, limit: u64) -> Result<(), WriteFault>
+    ensures { Puts (E.seen notes.old) (E.seen notes.new) (too_long_text limit) result }
 {
-    put_numbered(notes, b"more than ", INPUT_LIMIT)?;
+    put_numbered(notes, b"more than ", limit)?;
     write_all(notes, b" bytes")
 }
 
@@ -97,9 +99,10 @@ fn put_note<E: Sink>(notes: &mut E, note: &Note) -> Result<(), WriteFault>
 {
     match note {
         Note::Usage(misfit) => put_misfit(notes, *misfit),
-        Note::TooLong => put_too_long(notes),
+        Note::TooLong { limit } => put_too_long(notes, *limit),
         Note::File(fault) => write_all(notes, fault.text().bytes()),
         Note::Unsolved(why) => put_cannot(notes, *why),
+        Note::Unchecked { class } => put_to_class(notes, b"no check for ", *class),
         Note::Results(fault) => write_all(notes, fault.text().bytes()),
         Note::CannotRead => write_all(notes, b"cannot read"),
         Note::CannotWrite => write_all(notes, b"cannot write"),

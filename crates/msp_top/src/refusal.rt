@@ -1,12 +1,13 @@
 // Why a call gives no report.
 ghost use Rattle.std.specs.Prelude.{◌≡◌};
+ghost use Rattle.msp_top.specs.Refusals.{of_taken, of_unchecked};
 ghost use Rattle.msp_top.specs.Files.{file_status};
 ghost use Rattle.msp_top.specs.Cannots.{cannot_status};
 ghost use Rattle.msp_top.specs.Results.{results_status};
 
 use crate::notes::Note;
 use crate::words::Misfit;
-use msp_class::NoMemory;
+use msp_class::{Class, NoMemory};
 use msp_dispatch::Cannot;
 use msp_file::FileFault;
 use msp_io::{Taken, WriteFault};
@@ -41,26 +42,6 @@ impl From<NoMemory> for Refusal {
         Refusal {
             status: 9,
             note: Note::OutOfMemory,
-        }
-    }
-}
-
-impl From<Taken> for Refusal {
-    ghost use Rattle.msp_top.specs.Refusals.{of_taken};
-
-    ghost from_gives = { λ why refusal. refusal ≡ of_taken why };
-
-    fn from(why: Taken) -> Refusal {
-        match why {
-            Taken::ReadFault => Refusal {
-                status: 7,
-                note: Note::CannotRead,
-            },
-            Taken::TooLong => Refusal {
-                status: 4,
-                note: Note::TooLong,
-            },
-            Taken::Memory => Refusal::from(NoMemory),
         }
     }
 }
@@ -117,7 +98,34 @@ impl From<ResultFault> for Refusal {
     }
 }
 
-/// The status for a fault of an instance text.
+/// The refusal of an input that was not taken whole, and that may have so many bytes.
+pub fn not_taken(why: Taken, limit: u64) -> Refusal
+    ensures { result ≡ of_taken limit why }
+{
+    match why {
+        Taken::ReadFault => Refusal {
+            status: 7,
+            note: Note::CannotRead,
+        },
+        Taken::TooLong => Refusal {
+            status: 4,
+            note: Note::TooLong { limit },
+        },
+        Taken::Memory => Refusal::from(NoMemory),
+    }
+}
+
+/// The refusal of a class whose schedules are not checked.
+pub fn unchecked(class: Class) -> Refusal
+    ensures { result ≡ of_unchecked class }
+{
+    Refusal {
+        status: 5,
+        note: Note::Unchecked { class },
+    }
+}
+
+/// The status for a fault of a text.
 fn file_status(fault: &FileFault) -> u8
     ensures { result ≡ file_status fault.now }
 {

@@ -6,10 +6,10 @@ ghost use Rattle.msp_top.specs.Commands.{Asks, AsksForRows, Misfits};
 ghost use Rattle.msp_top.specs.Run.{IsTold, IsNote, IsDue, Reports, BreaksOff, Refuses};
 ghost use Rattle.msp_top.specs.Ending.{Serves};
 
-use crate::answers::{INPUT_LIMIT, answer_to};
+use crate::answers::{answer_to, limit_of};
 use crate::command::{Command, Request};
 use crate::notes::tell;
-use crate::refusal::Refusal;
+use crate::refusal::{Refusal, not_taken};
 use crate::words::read_words;
 use msp_io::{Sink, Source, read_all, write_all};
 use msp_report::rows_text;
@@ -47,7 +47,11 @@ fn perform<S: Source, K: Sink>(
     ensures not_usage { IfErr result (λ why. why.status ≢ 2) }
     ensures unwritten { IfErr result (λ why. why.status ≢ 8 → out.new ≡ out.old) }
 {
-    let input = read_all(alloc, source, INPUT_LIMIT)?;
+    let limit = limit_of(command);
+    let input = match read_all(alloc, source, limit) {
+        Ok(input) => input,
+        Err(why) => return Err(not_taken(why, limit)),
+    };
     let report = answer_to(alloc, command, &input)?;
     write_all(out, &report.text)?;
     Ok(report.status)
@@ -56,9 +60,10 @@ fn perform<S: Source, K: Sink>(
 /// Serves the words of a command line, without the program's name: reads `source` where the command reads, writes the report to
 /// `out` and, for the statuses from 2 on, one line to `notes`.
 ///
-/// The status is 0 where the report was written, 1 where it was and the known results clash, 2 where the words fit no command, 3 where
-/// the input has a fault, 4 where it breaks a limit, 5 where there is no solver for the class of the instance, 6 where the named class has
-/// none or no chain leads to it, 7 and 8 where the source or `out` failed, and 9 for want of memory.
+/// The status is 0 where the report was written, 1 where it was and the known results clash, or the checked schedule is not feasible or
+/// has another cost, 2 where the words fit no command, 3 where the input has a fault, 4 where it breaks a limit, 5 where there is no solver
+/// for the class of the instance or its schedules are not checked, 6 where the named class has no solver or no chain leads to it, 7 and 8
+/// where the source or `out` failed, and 9 for want of memory.
 pub fn run<S: Source, K: Sink, E: Sink>(
     alloc: Global,
     words: &Vec<String>,

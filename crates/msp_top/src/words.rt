@@ -137,6 +137,9 @@ fn read_after(alloc: Global, word: &str, words: &[String]) -> Result<Request, Re
             question: Question::Frontier,
         }));
     }
+    if is_alone("check", word, words) {
+        return Ok(Request::Command(Command::Check));
+    }
     if is_alone("rows", word, words) {
         return Ok(Request::Rows);
     }

@@ -3,7 +3,7 @@ use Rattle.std.proofs.Common.{◌∙◌, ◌∷◌, ◌≡◌, true, false, refl
 use Rattle.std.proofs.lemmas.Slice.Eq.{bytes_eq-Decides}
 use Rattle.msp_top.specs.Words.{ReadsWords}
 use Rattle.msp_top.proofs.Exits.{exits}
-use Rattle.msp_top.proofs.WordLemmas.{frontier_word, rows_word, alone, reads_label, refuses_label, reads_why, refuses_why, reads_solve, refuses_solve, refuses_all}
+use Rattle.msp_top.proofs.WordLemmas.{frontier_word, check_word, rows_word, alone, reads_label, refuses_label, reads_why, refuses_why, reads_solve, refuses_solve, refuses_all}
 use Rattle.msp_top.proofs.words.read_after.Goals as goal
 
 pub returns-then-eq : goal.returns-then-eq
@@ -31,8 +31,11 @@ pub returns-then-is_alone : goal.returns-then-is_alone
 returns-then-is_alone c = alone string_bytes c.args.words.now c.args.word.now frontier_word (c.if-is_alone.ensures.0 refl)
 
 pub returns-then-is_alone-2 : goal.returns-then-is_alone-2
-returns-then-is_alone-2 c = alone string_bytes c.args.words.now c.args.word.now rows_word (c.if-is_alone-2.ensures.0 refl)
+returns-then-is_alone-2 c = alone string_bytes c.args.words.now c.args.word.now check_word (c.if-is_alone-2.ensures.0 refl)
+
+pub returns-then-is_alone-3 : goal.returns-then-is_alone-3
+returns-then-is_alone-3 c = alone string_bytes c.args.words.now c.args.word.now rows_word (c.if-is_alone-3.ensures.0 refl)
 
 pub returns : goal.returns
 returns c = refuses_all string_bytes c.args.word.now c.args.words.now c.from.result (sym c.eq.ensures ∙ c.if-eq.false) (sym c.eq-2.ensures ∙ c.if-eq-2.false) (sym c.eq-3.ensures ∙ c.if-eq-3.false)
-    (λ h. let e : false ≡ true = c.if-is_alone.ensures.1 h in cc) (λ h. let e : false ≡ true = c.if-is_alone-2.ensures.1 h in cc) c.from.ensures
+    (λ h. let e : false ≡ true = c.if-is_alone.ensures.1 h in cc) (λ h. let e : false ≡ true = c.if-is_alone-2.ensures.1 h in cc) (λ h. let e : false ≡ true = c.if-is_alone-3.ensures.1 h in cc) c.from.ensures

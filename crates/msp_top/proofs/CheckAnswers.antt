@@ -1,0 +1,85 @@
+-- The answer to `check`.
+use Rattle.std.proofs.Common.{◌≡◌, ◌↔◌, inl, inr, ℕ, ◌+◌, ◌-◌, ◌≤◌, ◌==◌, List, ◌++◌, length, drop, take, Option, Some, None, IsNone, IfSome, Result, Err, refl, sym, ap, ◌∙◌, subst, arith}
+use Rattle.std.proofs.Math.Seq.{drop-append_seam}
+use Rattle.std.proofs.lemmas.List.{length-append, length-drop, take_all}
+use Rattle.std.proofs.lemmas.List.Sums.{count_by-le-length}
+use Rattle.msp_instance.specs.declared.Instance.{Instance}
+use Rattle.msp_instance.proofs.Limits.{Inner-from_class}
+use Rattle.msp_schedule.specs.declared.Schedule.{Schedule}
+use Rattle.msp_schedule.specs.declared.breaks.Break.{Break}
+use Rattle.msp_schedule.specs.Feasible.{Feasible}
+use Rattle.msp_schedule.specs.Breaks.{IsFirstBreak}
+use Rattle.msp_schedule.specs.Works.{IsDecision}
+use Rattle.msp_grammar.specs.declared.filed.Filed.{Filed}
+use Rattle.msp_file.specs.declared.fault.FileFault.{FileFault}
+use Rattle.msp_file.specs.declared.fault.FileFault.TheVariants.{Memory}
+use Rattle.msp_file.specs.declared.read.Front.{Front}
+use Rattle.msp_file.specs.declared.schedule.Stated.{Stated}
+use Rattle.msp_file.specs.Answers.{IsFrontFaultOf, IsFrontText}
+use Rattle.msp_file.specs.ScheduleAnswers.{IsScheduleFaultOf}
+use Rattle.msp_report.proofs.CheckLemmas.{stated_within}
+use Rattle.msp_top.specs.declared.answers.Report.{Report}
+use Rattle.msp_top.specs.declared.refusal.Refusal.{Refusal}
+use Rattle.msp_top.specs.Checks.{IsUnchecked, BeginsWith, HasCheckStatus, fails, CheckIsRight, misread_front, unchecked, misread_rest}
+use Rattle.msp_top.specs.Refusals.{of_file_fault, of_unchecked}
+use Rattle.msp_top.specs.Answers.{Answers, ChecksRest}
+use Rattle.msp_top.proofs.SolveAnswers.{answers-along}
+
+-- ---- the front
+pub front_inside : (input : List ℕ) (f : Front) → IsFrontText input f.filed.instance f.filed.names f.used f.line → f.used ≤ length input
+front_inside input f h = omega (arith, h.long, ap length h.whole, length-append h.text h.rest)
+
+pub front_line : (input : List ℕ) (f : Front) (limit : ℕ) → IsFrontText input f.filed.instance f.filed.names f.used f.line → length input ≤ limit → (1 ≤ f.line) × (f.line ≤ limit + 1)
+front_line input f limit h within =
+    let count = count_by-le-length (λ byte. byte == 10) h.text in
+    let inside = front_inside input f h in (
+      omega (arith, h.counted),
+      omega (arith, h.counted, count, inside, h.long, within),
+    )
+
+begins : (input rest : List ℕ) (f : Front) → IsFrontText input f.filed.instance f.filed.names f.used f.line → rest ≡ drop f.used input → BeginsWith input f.filed f.line rest
+begins input rest f h e =
+    let same : drop f.used input ≡ h.rest = ap (λ n. drop n input) h.long ∙ ap (drop (length h.text)) h.whole ∙ drop-append_seam h.text h.rest in
+    record { front = h.text; whole = h.whole ∙ ap (λ r. h.text ++ r) (sym (e ∙ same)); is = h.is; counted = h.counted }
+
+-- the bytes after the text of the instance, as a slice gives them
+pub rest_part : (used : ℕ) (input : List ℕ) → take (length input - used) (drop used input) ≡ drop used input
+rest_part used input = take_all (length input - used) (drop used input) (omega (arith, length-drop used input))
+
+pub front_right : (input rest : List ℕ) (f : Front) (r : Result Report Refusal) → IsFrontText input f.filed.instance f.filed.names f.used f.line → rest ≡ drop f.used input → Answers (ChecksRest f.filed f.line rest) r → Answers (CheckIsRight input) r
+front_right input rest f r h e right = answers-along (ChecksRest f.filed f.line rest) (CheckIsRight input) r (λ outcome g. g input (begins input rest f h e)) right
+
+front_first : (input : List ℕ) (fault : FileFault) → IsFrontFaultOf input fault → Answers (CheckIsRight input) (Err (of_file_fault fault))
+front_first input Memory h = inl (refl, refl)
+front_first input fault h = inr (misread_front fault (λ e. cc) h)
+
+pub front_misread : (input : List ℕ) (fault : FileFault) (why : Refusal) → IsFrontFaultOf input fault → why ≡ of_file_fault fault → Answers (CheckIsRight input) (Err why)
+front_misread input fault why first e = let Q : Refusal → Type 0 = λ w. Answers (CheckIsRight input) (Err w) in subst Q (sym e) (front_first input fault first)
+
+-- ---- the rest
+pub rest_unchecked : (filed : Filed) (line : ℕ) (rest : List ℕ) (why : Refusal) → IsUnchecked filed.instance.class → why ≡ of_unchecked filed.instance.class → Answers (ChecksRest filed line rest) (Err why)
+rest_unchecked filed line rest why cut e =
+    let Q : Refusal → Type 0 = λ w. Answers (ChecksRest filed line rest) (Err w) in
+    subst Q (sym e) (inr (λ input begins. unchecked filed line rest begins cut))
+
+rest_first : (filed : Filed) (line : ℕ) (rest : List ℕ) (fault : FileFault) → ¬ IsUnchecked filed.instance.class → IsScheduleFaultOf filed.names line rest fault → Answers (ChecksRest filed line rest) (Err (of_file_fault fault))
+rest_first filed line rest Memory may h = inl (refl, refl)
+rest_first filed line rest fault may h = inr (λ input begins. misread_rest filed line rest fault begins may (λ e. cc) h)
+
+pub rest_misread : (filed : Filed) (line : ℕ) (rest : List ℕ) (fault : FileFault) (why : Refusal) → ¬ IsUnchecked filed.instance.class → IsScheduleFaultOf filed.names line rest fault → why ≡ of_file_fault fault → Answers (ChecksRest filed line rest) (Err why)
+rest_misread filed line rest fault why may first e =
+    let Q : Refusal → Type 0 = λ w. Answers (ChecksRest filed line rest) (Err w) in
+    subst Q (sym e) (rest_first filed line rest fault may first)
+
+-- ---- the status
+pub status_broken : (i : Instance) (s : Stated) (broken : Option Break) (b : Break) → broken ≡ Some b → (IsNone broken ↔ Feasible i s.schedule) → HasCheckStatus i s 1
+status_broken i s broken b e decided = fails (λ h. no_none b (subst IsNone e (decided.1 h.0)))
+  where
+    no_none : (b : Break) → IsNone (Some b) → ⊥
+    no_none b h = cc
+
+pub decision : (i : Instance) (s : Schedule) (broken : Option Break) → (IsNone broken ↔ Feasible i s) → IfSome broken (IsFirstBreak i s) → IsDecision i s broken
+decision i s None decided first = decided.0 refl
+decision i s (Some b) decided first = first
+
+pub ruleset check_rules = (Inner-from_class, stated_within)
