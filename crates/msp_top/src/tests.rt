@@ -15,10 +15,6 @@ const REPORT: &[u8] =
 /// An instance of a class that has no solver.
 const UNSOLVED: &[u8] = b"msp 1\nclass P||Cmax\nmachines 2\njob a p=3\nend\n";
 
-/// An instance with a schedule after it.
-const CHECKED: &[u8] =
-    b"msp 1\nclass P|pmtn|Cmax\nmachines 2\njob a p=3\njob b p=3\njob c p=3\nend\nschedule\ncost 9/2\nunit 2\npiece a 1 1 0 6\npiece b 1 2 0 3\npiece c 1 2 3 9\npiece b 1 1 6 9\nend\n";
-
 /// What a call is run on, and what it gives.
 struct Case {
     words: &'static [&'static str],
@@ -245,55 +241,6 @@ const CASES: &[Case] = &[
         status: 3,
         out: b"",
         notes: b"msp: line 5: missing\n",
-    },
-    Case {
-        words: &["check"],
-        text: CHECKED,
-        status: 0,
-        out: b"class P|pmtn|Cmax\njobs 3\npieces 4\nfeasible yes\ncost 9/2\nstated 9/2\nagree yes\nend\n",
-        notes: b"",
-    },
-    Case {
-        words: &["check"],
-        text: b"msp 1\nclass P|pmtn|Cmax\nmachines 2\njob a p=3\njob b p=3\njob c p=3\nend\nschedule\ncost 5\nunit 2\npiece a 1 1 0 6\npiece b 1 2 0 3\npiece c 1 2 3 9\npiece b 1 1 6 9\nend\n",
-        status: 1,
-        out: b"class P|pmtn|Cmax\njobs 3\npieces 4\nfeasible yes\ncost 9/2\nstated 5\nagree no\nend\n",
-        notes: b"",
-    },
-    Case {
-        words: &["check"],
-        text: b"msp 1\nclass P|pmtn|Cmax\nmachines 2\njob a p=3\njob b p=3\nend\nschedule\ncost 5\nunit 1\npiece a 1 1 0 2\npiece a 1 2 1 2\npiece b 1 2 2 5\nend\n",
-        status: 1,
-        out: b"class P|pmtn|Cmax\njobs 2\npieces 3\nfeasible no\nbreak job 1 2\nend\n",
-        notes: b"",
-    },
-    Case {
-        words: &["check"],
-        text: b"msp 1\nclass R2|pmtn|Cmax\njob a\ntimes 2 3\nend\n",
-        status: 5,
-        out: b"",
-        notes: b"msp: no check for R2|pmtn|Cmax\n",
-    },
-    Case {
-        words: &["check"],
-        text: TEXT,
-        status: 3,
-        out: b"",
-        notes: b"msp: line 7: missing\n",
-    },
-    Case {
-        words: &["check"],
-        text: b"msp 1\nclass 1||Cmax\njob a p=1\nend\nschedule\ncost 4/2\nunit 0\nend\n",
-        status: 4,
-        out: b"",
-        notes: b"msp: line 7: limit of unit\n",
-    },
-    Case {
-        words: &["check", "1||Cmax"],
-        text: CHECKED,
-        status: 2,
-        out: b"",
-        notes: b"msp: usage: words fit no command\n",
     },
     Case {
         words: &["solve"],
@@ -538,6 +485,71 @@ fn gives(
 #[test]
 fn answers_each_case(rt: HostRuntime) -> Result<(), Fail> {
     for case in CASES {
+        let trial = calling(case.words, case.text);
+        assert!(rt; gives(rt.alloc(), &trial, case.status, case.out, case.notes)?);
+    }
+    Ok(())
+}
+
+/// An instance with a schedule after it.
+const CHECKED: &[u8] =
+    b"msp 1\nclass P|pmtn|Cmax\nmachines 2\njob a p=3\njob b p=3\njob c p=3\nend\nschedule\ncost 9/2\nunit 2\npiece a 1 1 0 6\npiece b 1 2 0 3\npiece c 1 2 3 9\npiece b 1 1 6 9\nend\n";
+
+const CHECKS: &[Case] = &[
+    Case {
+        words: &["check"],
+        text: CHECKED,
+        status: 0,
+        out: b"class P|pmtn|Cmax\njobs 3\npieces 4\nfeasible yes\ncost 9/2\nstated 9/2\nagree yes\nend\n",
+        notes: b"",
+    },
+    Case {
+        words: &["check"],
+        text: b"msp 1\nclass P|pmtn|Cmax\nmachines 2\njob a p=3\njob b p=3\njob c p=3\nend\nschedule\ncost 5\nunit 2\npiece a 1 1 0 6\npiece b 1 2 0 3\npiece c 1 2 3 9\npiece b 1 1 6 9\nend\n",
+        status: 1,
+        out: b"class P|pmtn|Cmax\njobs 3\npieces 4\nfeasible yes\ncost 9/2\nstated 5\nagree no\nend\n",
+        notes: b"",
+    },
+    Case {
+        words: &["check"],
+        text: b"msp 1\nclass P|pmtn|Cmax\nmachines 2\njob a p=3\njob b p=3\nend\nschedule\ncost 5\nunit 1\npiece a 1 1 0 2\npiece a 1 2 1 2\npiece b 1 2 2 5\nend\n",
+        status: 1,
+        out: b"class P|pmtn|Cmax\njobs 2\npieces 3\nfeasible no\nbreak job 1 2\nend\n",
+        notes: b"",
+    },
+    Case {
+        words: &["check"],
+        text: b"msp 1\nclass R2|pmtn|Cmax\njob a\ntimes 2 3\nend\n",
+        status: 5,
+        out: b"",
+        notes: b"msp: no check for R2|pmtn|Cmax\n",
+    },
+    Case {
+        words: &["check"],
+        text: TEXT,
+        status: 3,
+        out: b"",
+        notes: b"msp: line 7: missing\n",
+    },
+    Case {
+        words: &["check"],
+        text: b"msp 1\nclass 1||Cmax\njob a p=1\nend\nschedule\ncost 4/2\nunit 0\nend\n",
+        status: 4,
+        out: b"",
+        notes: b"msp: line 7: limit of unit\n",
+    },
+    Case {
+        words: &["check", "1||Cmax"],
+        text: CHECKED,
+        status: 2,
+        out: b"",
+        notes: b"msp: usage: words fit no command\n",
+    },
+];
+
+#[test]
+fn checks_schedules(rt: HostRuntime) -> Result<(), Fail> {
+    for case in CHECKS {
         let trial = calling(case.words, case.text);
         assert!(rt; gives(rt.alloc(), &trial, case.status, case.out, case.notes)?);
     }
