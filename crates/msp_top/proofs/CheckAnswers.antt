@@ -8,8 +8,7 @@ use Rattle.msp_instance.proofs.Limits.{Inner-from_class}
 use Rattle.msp_schedule.specs.declared.Schedule.{Schedule}
 use Rattle.msp_schedule.specs.declared.breaks.Break.{Break}
 use Rattle.msp_schedule.specs.Feasible.{Feasible}
-use Rattle.msp_schedule.specs.Breaks.{IsFirstBreak}
-use Rattle.msp_schedule.specs.Works.{IsDecision}
+use Rattle.msp_schedule.specs.Breaks.{IsFirstBreak, IsDecision}
 use Rattle.msp_grammar.specs.declared.filed.Filed.{Filed}
 use Rattle.msp_file.specs.declared.fault.FileFault.{FileFault}
 use Rattle.msp_file.specs.declared.fault.FileFault.TheVariants.{Memory}

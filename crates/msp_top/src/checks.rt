@@ -12,7 +12,7 @@ use crate::refusal::{Refusal, unchecked};
 use msp_class::{Class, EnvKind, NoMemory, env_kind};
 use msp_file::{Filed, Stated, read_front, read_schedule};
 use msp_report::{check_text, states_its_cost};
-use msp_schedule::{Break, first_break};
+use msp_schedule::{Break, swept};
 use std::alloc::Global;
 
 /// The answer to a text of an instance with that of a schedule after it.
@@ -72,7 +72,7 @@ fn report_on(alloc: Global, filed: &Filed, stated: &Stated) -> Result<Report, No
     ensures status { IfOk result (λ made. HasCheckStatus filed.now.instance stated.now made.status) }
     ensures text { IfOk result (λ made. IsCheckReport filed.now stated.now made.text.items) }
 {
-    let broken = first_break(&filed.instance, &stated.schedule);
+    let broken = swept(alloc, &filed.instance, &stated.schedule)?;
     let text = check_text(alloc, filed, stated, broken)?;
     Ok(Report {
         status: status_of(filed, stated, broken),

@@ -24,7 +24,7 @@ struct Case {
     notes: &'static [u8],
 }
 
-const CASES: &[Case] = &[
+const SOLVED: &[Case] = &[
     Case {
         words: &["solve"],
         text: TEXT,
@@ -123,6 +123,9 @@ const CASES: &[Case] = &[
         out: b"start 1|r|Cmax\nrow 1 1|chains,r|Cmax\nrow 2 1|intree,r|Cmax\nrow 4 1|prec,r|Cmax\nrow 47 1|prec|Lmax\nrow 9 1|prec|fmax\nsolver lawler\nschedule\ncost 11\nunit 1\npiece a 1 1 9 10\npiece b 1 1 10 11\nend\n",
         notes: b"",
     },
+];
+
+const CASES: &[Case] = &[
     Case {
         words: &["solve", "--at", "1|prec|fmax"],
         text: TEXT,
@@ -480,6 +483,15 @@ fn gives(
 ) -> Result<bool, Fail> {
     let seen = outcome(alloc, trial)?;
     Ok(seen.status == status && seen.out.as_slice() == out && seen.notes.as_slice() == notes)
+}
+
+#[test]
+fn solves_each_case(rt: HostRuntime) -> Result<(), Fail> {
+    for case in SOLVED {
+        let trial = calling(case.words, case.text);
+        assert!(rt; gives(rt.alloc(), &trial, case.status, case.out, case.notes)?);
+    }
+    Ok(())
 }
 
 #[test]
