@@ -531,6 +531,20 @@ const CHECKS: &[Case] = &[
     },
     Case {
         words: &["check"],
+        text: b"msp 1\nclass P|pmtn|Cmax\nmachines 2\njob a p=3\njob b p=3\njob c p=3\nend\nschedule\ncost 9/2\nunit 2\npiece a 1 1 6 6\nend\n",
+        status: 1,
+        out: b"class P|pmtn|Cmax\njobs 3\npieces 1\nfeasible no\nbreak span 1\nend\n",
+        notes: b"",
+    },
+    Case {
+        words: &["check"],
+        text: b"msp 1\nclass P|pmtn|Cmax\nmachines 2\njob a p=3\njob b p=3\njob c p=3\nend\nschedule\ncost 9/2\nunit 2\npiece a 1 3 0 6\nend\n",
+        status: 1,
+        out: b"class P|pmtn|Cmax\njobs 3\npieces 1\nfeasible no\nbreak place 1\nend\n",
+        notes: b"",
+    },
+    Case {
+        words: &["check"],
         text: b"msp 1\nclass R2|pmtn|Cmax\njob a\ntimes 2 3\nend\n",
         status: 5,
         out: b"",
