@@ -1,0 +1,2 @@
+//! Assignment with prices.
+#![tactic(auto)]

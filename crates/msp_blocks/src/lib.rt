@@ -1,0 +1,2 @@
+//! The solvers on one machine by blocks.
+#![tactic(auto)]

@@ -1,0 +1,2 @@
+//! Instances made from a number.
+#![tactic(auto)]

@@ -1,0 +1,2 @@
+//! The solvers of two-machine shops.
+#![tactic(auto)]

@@ -1,0 +1,2 @@
+//! The solver on one machine by shortest remaining time.
+#![tactic(auto)]

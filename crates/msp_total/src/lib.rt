@@ -1,0 +1,2 @@
+//! The solvers of total completion time on parallel machines, and of unit slots.
+#![tactic(auto)]
