@@ -1,0 +1,63 @@
+-- What holds of jobs that pass over a first and then over a second machine. No public contract cites this file.
+use Rattle.std.specs.Prelude.{◌≡◌, ℕ, ◌+◌, ◌*◌, ◌<◌, ◌≤◌, ◌⊎◌, ◌++◌, ◌==◌, List, [], ◌∷◌, if◌then◌else◌, pos, All, AllPairs, Contains, length, sum_by}
+use Rattle.msp_instance.specs.declared.ranges.TheConstants.{GREATEST}
+use Rattle.msp_schedule.specs.declared.Piece.{Piece}
+use Rattle.msp_schedule.proofs.Intervals.{IsApartOn}
+use Rattle.msp_schedule.proofs.OneMachine.{start, finish, IsTimed}
+use Rattle.msp_shops.specs.declared.pass.JobTimes.{JobTimes}
+use Rattle.msp_shops.specs.declared.pass.Moments.{Moments}
+use Rattle.msp_shops.specs.declared.pass.Stage.{Stage}
+
+-- A job's operation in one piece that begins at the moment. One that takes no time has no piece.
+abbrev pub whole_piece : ℕ → Stage → ℕ → ℕ → Piece
+whole_piece job stage begin time = record { job = job; op = stage.op; machine = stage.machine; from = pos begin; to = pos (begin + time) }
+
+abbrev pub part : ℕ → Stage → ℕ → ℕ → List Piece
+part job stage begin time = if time == 0 then [] else whole_piece job stage begin time ∷ []
+
+-- The piece is an operation of this stage of a job, with all its time, between two moments.
+pub record IsOperation (stage : Stage) (number time earliest latest : ℕ) (p : Piece) : Type 0 where
+  pub job : p.job ≡ number
+  pub op : p.op ≡ stage.op
+  pub machine : p.machine ≡ stage.machine
+  pub whole : finish p ≡ start p + time
+  pub from : earliest ≤ start p
+  pub to : finish p ≤ latest
+
+-- The piece is an operation of the job, between the moments of its machine.
+abbrev pub IsOf : Stage → Stage → Moments → Moments → Piece → JobTimes → Type 0
+IsOf first second from to p j = IsOperation first j.job j.first from.first to.first p ⊎ IsOperation second j.job j.second from.second to.second p
+
+-- A piece of the job's operation is there.
+abbrev pub HasPiece : List Piece → Stage → ℕ → Type 0
+HasPiece pieces stage job = (p : Piece) × Contains pieces p × (p.job ≡ job) × (p.op ≡ stage.op)
+
+abbrev pub machine_of : Piece → ℕ
+machine_of p = p.machine
+
+-- The pieces are the operations of the jobs, each once and between the moments of its machine; on a machine they are apart; and the second
+-- one of a job begins no earlier than the first one ends.
+pub record IsTidy (first second : Stage) (jobs : List JobTimes) (from to : Moments) (pieces : List Piece) : Type 0 where
+  pub timed : All IsTimed pieces
+  pub known : All (λ p. (j : JobTimes) × Contains jobs j × IsOf first second from to p j) pieces
+  pub has_first : All (λ j. 0 < j.first → HasPiece pieces first j.job) jobs
+  pub has_second : All (λ j. 0 < j.second → HasPiece pieces second j.job) jobs
+  pub apart : AllPairs (IsApartOn machine_of start finish) pieces
+  -- of two pieces of a job the earlier in the list is the first operation, and ends no later than the other begins
+  pub in_order : AllPairs (λ p q. p.job ≡ q.job → (p.op ≡ first.op) × (q.op ≡ second.op) × (finish p ≤ start q)) pieces
+
+-- The second machine ends when it has run all jobs without a gap from its beginning on, or without a gap from the moment on at which some
+-- job comes from the first machine, which has run that job and those before it without a gap.
+abbrev pub IsCritical : List JobTimes → Moments → ℕ → Type 0
+IsCritical jobs from end =
+    (end ≡ from.second + sum_by (λ j. j.second) jobs)
+    ⊎ ((before : List JobTimes) × (job : JobTimes) × (after : List JobTimes) × (jobs ≡ before ++ job ∷ after)
+    × (end ≡ from.first + sum_by (λ j. j.first) before + job.first + job.second + sum_by (λ j. j.second) after))
+
+-- The jobs have passed, from the moments on at which the machines were free until those at which they are free again.
+pub record IsPass (first second : Stage) (jobs : List JobTimes) (from to : Moments) (pieces : List Piece) : Type 0 where
+  pub tidy : IsTidy first second jobs from to pieces
+  pub first_end : to.first ≡ from.first + sum_by (λ j. j.first) jobs
+  pub second_end : IsCritical jobs from to.second
+  pub later : from.second ≤ to.second
+  pub small : (to.first ≤ from.first + length jobs * GREATEST) × (to.second ≤ from.first + from.second + 2 * (length jobs * GREATEST))
