@@ -35,3 +35,6 @@ pub mod JobShares
 pub mod MarkFacts
 pub mod SortedPieces
 pub mod SweepFacts
+pub mod Positions
+pub mod SolePieces
+pub mod PriceBounds

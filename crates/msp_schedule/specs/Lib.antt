@@ -12,3 +12,4 @@ pub mod Lanes
 pub mod Works
 pub mod Begins
 pub mod Marks
+pub mod Prices

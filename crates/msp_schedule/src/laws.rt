@@ -1,5 +1,6 @@
-// Laws of feasible schedules on one machine and on identical machines, on which solvers stand.
+// Laws of feasible schedules, on which solvers stand.
 ghost use Rattle.msp_schedule.specs.Laws.{LawOfEnds, LawOfFloors};
+ghost use Rattle.msp_schedule.specs.Prices.{LawOfPrices};
 
 /// Jobs that do not begin before a moment end only when all machines together have had the time for them.
 pub fn law_of_ends()
@@ -9,4 +10,9 @@ pub fn law_of_ends()
 /// Jobs of one unit of time may begin at multiples of the unit, and no job ends later.
 pub fn law_of_floors()
     ensures { LawOfFloors }
+{}
+
+/// Prices of jobs and positions bound the sum of completion times on unrelated machines.
+pub fn law_of_prices()
+    ensures { LawOfPrices }
 {}
