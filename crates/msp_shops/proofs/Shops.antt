@@ -1,0 +1,280 @@
+-- Pieces of an uncut shop as a schedule over the unit 1: when it is feasible, and when no feasible schedule ends earlier.
+use Rattle.std.proofs.Common.{◌≡◌, ◌≢◌, ℕ, ◌+◌, ◌*◌, ◌<◌, ◌≤◌, ◌⊎◌, ◌^◌, inl, inr, true, false, List, [], ◌∷◌, length, get_or, map, ℤ, pos, nat_abs, ◌*ℤ◌, ◌≤ℤ◌, All, AllPairs, Contains, Bool, MatchBool, refl, sym, ap, ◌∙◌, subst, arith}
+use Rattle.std.specs.Prelude.{◌==◌, ◌&&◌}
+use Rattle.std.proofs.lemmas.Bool.{eq-eqb}
+use Rattle.std.proofs.lemmas.Int.{ints}
+use Rattle.std.proofs.lemmas.List.Elements.{All-nil, Contains-get_or}
+use Rattle.std.proofs.lemmas.List.Kept.{AllPairs-filter}
+use Rattle.msp_class.specs.declared.environments.EnvKind.{EnvKind}
+use Rattle.msp_class.specs.declared.environments.EnvKind.TheVariants.{Identical, Uniform, Unrelated, OpenShop, FlowShop, JobShop}
+use Rattle.msp_class.specs.declared.class.Crit.TheVariants.{Cmax}
+use Rattle.msp_class.specs.Env.{kind_of}
+use Rattle.msp_class.specs.Crit.{is_greatest}
+use Rattle.msp_class.proofs.IntegerRing.{natural, pos-le, ≤ℤ_trans, ≤ℤ_antisym, *ℤ-one, one-*ℤ}
+use Rattle.msp_class.proofs.Sums.{AllPairs-contains, Contains-filter}
+use Rattle.msp_instance.specs.declared.Arc.{Arc}
+use Rattle.msp_instance.specs.declared.Instance.{Instance}
+use Rattle.msp_instance.specs.Instance.{no_job, job_at, need_at}
+use Rattle.msp_schedule.specs.declared.Piece.{Piece}
+use Rattle.msp_schedule.specs.declared.Schedule.{Schedule}
+use Rattle.msp_schedule.specs.Piece.{length_of, pieces_of, IsBefore}
+use Rattle.msp_schedule.specs.Feasible.{Feasible, HasPlace, HasOperation, MayRun, FollowsRoute, GetsWork, IsWholeWork, total, whole_work, work_of}
+use Rattle.msp_schedule.specs.Cost.{cost_of, end_of, job_cost, Best}
+use Rattle.msp_schedule.specs.Within.{IsMoment, Within}
+use Rattle.msp_schedule.proofs.Intervals.{IsApartOn}
+use Rattle.msp_schedule.proofs.OneMachine.{start, finish, IsTimed, IsTimed-from_span, apart_in_int}
+use Rattle.msp_schedule.proofs.Frames.{of_operation-named, of_one}
+use Rattle.msp_schedule.proofs.LastEnds.{last_end-bound, last_end-least, last_end-natural}
+use Rattle.msp_schedule.proofs.Charges.{cost_of-bound, cost_of-least}
+use Rattle.msp_route.specs.Bounds.{IsAnswer, answer_unit}
+use Rattle.msp_shops.specs.Pass.{machine_of}
+
+-- ---- the kinds of shops
+abbrev pub IsShopKind : EnvKind → Type 0
+IsShopKind Identical = ⊥
+IsShopKind Uniform = ⊥
+IsShopKind Unrelated = ⊥
+IsShopKind OpenShop = Unit {0}
+IsShopKind FlowShop = Unit {0}
+IsShopKind JobShop = Unit {0}
+
+-- a job's operation that takes time
+abbrev pub IsTimely : Instance → ℕ → ℕ → Type 0
+IsTimely i j o = (o < length (job_at i j).needs) × ((need_at i j o).time ≢ 0)
+
+has_by : (k : EnvKind) (i : Instance) (j o : ℕ) → IsShopKind k → IsTimely i j o → HasOperation k i j o
+has_by Identical i j o s h = absurd s
+has_by Uniform i j o s h = absurd s
+has_by Unrelated i j o s h = absurd s
+has_by OpenShop i j o s h = h
+has_by FlowShop i j o s h = h
+has_by JobShop i j o s h = h
+
+by_has : (k : EnvKind) (i : Instance) (j o : ℕ) → IsShopKind k → HasOperation k i j o → IsTimely i j o
+by_has Identical i j o s h = absurd s
+by_has Uniform i j o s h = absurd s
+by_has Unrelated i j o s h = absurd s
+by_has OpenShop i j o s h = h
+by_has FlowShop i j o s h = h
+by_has JobShop i j o s h = h
+
+may_by : (k : EnvKind) (i : Instance) (j o m : ℕ) → IsShopKind k → m ≡ (need_at i j o).machine → MayRun k i j o m
+may_by Identical i j o m s h = absurd s
+may_by Uniform i j o m s h = absurd s
+may_by Unrelated i j o m s h = absurd s
+may_by OpenShop i j o m s h = h
+may_by FlowShop i j o m s h = h
+may_by JobShop i j o m s h = h
+
+whole_by : (k : EnvKind) (i : Instance) (unit : ℤ) (p : Piece) → IsShopKind k → length_of p ≡ unit *ℤ pos (need_at i p.job p.op).time → IsWholeWork k i unit p
+whole_by Identical i unit p s h = absurd s
+whole_by Uniform i unit p s h = absurd s
+whole_by Unrelated i unit p s h = absurd s
+whole_by OpenShop i unit p s h = h
+whole_by FlowShop i unit p s h = h
+whole_by JobShop i unit p s h = h
+
+route_by : (k : EnvKind) (ps : List Piece) → IsShopKind k → (k ≡ OpenShop) ⊎ All (λ p. All (λ q. p.job ≡ q.job → p.op < q.op → IsBefore p q) ps) ps → FollowsRoute k ps
+route_by Identical ps s h = absurd s
+route_by Uniform ps s h = absurd s
+route_by Unrelated ps s h = absurd s
+route_by OpenShop ps s h = tt
+route_by FlowShop ps s (inl e) = absurd (cc)
+route_by FlowShop ps s (inr h) = h
+route_by JobShop ps s (inl e) = absurd (cc)
+route_by JobShop ps s (inr h) = h
+
+-- the unit is within the limits of an answer
+unit_by : (k : EnvKind) → IsShopKind k → pos 1 ≤ℤ answer_unit k
+unit_by Identical s = absurd s
+unit_by Uniform s = absurd s
+unit_by Unrelated s = absurd s
+unit_by OpenShop s = omega (arith, ints)
+unit_by FlowShop s = omega (arith, ints)
+unit_by JobShop s = omega (arith, ints)
+
+not_unrelated : (k : EnvKind) → IsShopKind k → k ≡ Unrelated → ⊥
+not_unrelated k s e = absurd (subst IsShopKind e s)
+
+-- a shop without preemption, precedence and release dates, and the greatest completion time
+pub record IsPlainShop (i : Instance) : Type 0 where
+  pub kind : IsShopKind (kind_of i.class.env)
+  pub cut : i.class.cut ≡ false
+  pub crit : i.class.crit ≡ Cmax
+  pub arcs : i.arcs ≡ []
+  pub release : All (λ j. j.release ≡ 0) i.jobs
+  pub some : 1 ≤ length i.jobs
+
+-- ---- plans: the pieces of all operations that take time
+pub record IsShopPlan (i : Instance) (ps : List Piece) : Type 0 where
+  pub timed : All IsTimed ps
+  pub job : All (λ p. p.job < length i.jobs) ps
+  pub operation : All (λ p. p.op < length (job_at i p.job).needs) ps
+  pub machine : All (λ p. p.machine ≡ (need_at i p.job p.op).machine) ps
+  pub whole : All (λ p. finish p ≡ start p + (need_at i p.job p.op).time) ps
+  pub apart : AllPairs (IsApartOn machine_of start finish) ps
+  -- the pieces of a job stand in the order in which they run
+  pub in_order : AllPairs (λ p q. p.job ≡ q.job → (p.op ≢ q.op) × (finish p ≤ start q)) ps
+  -- which is that of their numbers, but on open shops
+  pub route : (kind_of i.class.env ≡ OpenShop) ⊎ AllPairs (λ p q. p.job ≡ q.job → p.op < q.op) ps
+  pub each : (j o : ℕ) → j < length i.jobs → IsTimely i j o → (p : Piece) × Contains ps p × (p.job ≡ j) × (p.op ≡ o)
+
+abbrev pub over_one : List Piece → Schedule
+over_one ps = record { unit = pos 1; pieces = ps }
+
+module _ (i : Instance) (h : IsPlainShop i) (ps : List Piece) (w : IsShopPlan i ps) where
+  abbrev s : Schedule
+  s = over_one ps
+
+  lasts : (p : Piece) (t : ℕ) → IsTimed p → finish p ≡ start p + t → (t ≢ 0) × (length_of p ≡ pos t)
+  lasts p t d e = (λ z. absurd (omega (arith, d.lasts, e, z)), omega (arith, ints, d.from, d.to, e))
+
+  places : All (HasPlace i) ps
+  places k d l = let p = get_or ps k d in record {
+    job = w.job k d l;
+    operation = has_by (kind_of i.class.env) i p.job p.op h.kind (w.operation k d l, (lasts p _ (w.timed k d l) (w.whole k d l)).0);
+    machine = may_by (kind_of i.class.env) i p.job p.op p.machine h.kind (w.machine k d l);
+  }
+
+  released : All (λ p. (pos 1 *ℤ pos (job_at i p.job).release) ≤ℤ p.from) ps
+  released k d l = by (get_or ps k d).from _ (job_at i (get_or ps k d).job).release (w.timed k d l).from (h.release (get_or ps k d).job no_job (w.job k d l))
+    where
+      by : (x : ℤ) (n r : ℕ) → x ≡ pos n → r ≡ 0 → (pos 1 *ℤ pos r) ≤ℤ x
+      by x n r e z = subst (λ y. (pos 1 *ℤ pos y) ≤ℤ x) (sym z) (omega (arith, ints, e))
+
+  no_arcs : All (λ a. All (λ p. All (λ r. p.job ≡ a.before → r.job ≡ a.after → IsBefore p r) ps) ps) i.arcs
+  no_arcs = subst (λ arcs. All (λ a. All (λ p. All (λ r. p.job ≡ a.before → r.job ≡ a.after → IsBefore p r) ps) ps) arcs) (sym h.arcs) (All-nil (λ (a : Arc). All (λ p. All (λ r. p.job ≡ a.before → r.job ≡ a.after → IsBefore p r) ps) ps))
+
+  before : (p q : Piece) → IsTimed p → IsTimed q → finish p ≤ start q → IsBefore p q
+  before p q t u l = omega (arith, ints, t.to, u.from, l)
+
+  abbrev Follows : Piece → Piece → Type 0
+  Follows p q = p.job ≡ q.job → (p.op < q.op) × IsBefore p q
+
+  routed : (kind_of i.class.env ≡ OpenShop) ⊎ AllPairs (λ p q. p.job ≡ q.job → p.op < q.op) ps → (kind_of i.class.env ≡ OpenShop) ⊎ All (λ p. All (λ q. p.job ≡ q.job → p.op < q.op → IsBefore p q) ps) ps
+  routed (inl e) = inl e
+  routed (inr r) = inr (λ a d l b e m same less. by (get_or ps a d) (get_or ps b e) same less
+      (AllPairs-contains Follows ps (get_or ps a d) (get_or ps b e)
+      (λ x y c g k same. (r x y c g k same, before _ _ (w.timed x c (omega arith)) (w.timed y c k) (w.in_order x y c g k same).1))
+      (Contains-get_or ps a d l) (Contains-get_or ps b e m)))
+    where
+      by : (p q : Piece) → p.job ≡ q.job → p.op < q.op → Follows p q ⊎ ((p ≡ q) ⊎ Follows q p) → IsBefore p q
+      by p q same less (inl f) = (f same).1
+      by p q same less (inr (inl e)) = absurd (omega (arith, less, ap (λ x. x.op) e))
+      by p q same less (inr (inr f)) = absurd (omega (arith, less, (f (sym same)).0))
+
+  module _ (j o : ℕ) (inside : j < length i.jobs) (timely : IsTimely i j o) where
+    abbrev mine : List Piece
+    mine = pieces_of s j o
+
+    sole : (p : Piece) × (mine ≡ p ∷ [])
+    sole = by mine refl
+      where
+        both : (a b : Bool) → a ≡ true → b ≡ true → (a && b) ≡ true
+        both a b e f = cc
+
+        found : Contains mine (w.each j o inside timely).0
+        found = let e = w.each j o inside timely in Contains-filter (λ p. (p.job == j) && (p.op == o)) ps e.0 e.1 (both _ _ (eq-eqb _ _ e.2) (eq-eqb _ _ e.3))
+
+        by : (l : List Piece) → mine ≡ l → (p : Piece) × (mine ≡ p ∷ [])
+        by [] e = absurd (omega (arith, (subst (λ l. Contains l (w.each j o inside timely).0) e found).1))
+        by (p ∷ []) e = (p, e)
+        by (p ∷ q ∷ rest) e = absurd (
+            let pairs = subst (AllPairs (λ p q. p.job ≡ q.job → (p.op ≢ q.op) × (finish p ≤ start q))) e (AllPairs-filter (λ p q. p.job ≡ q.job → (p.op ≢ q.op) × (finish p ≤ start q)) (λ p. (p.job == j) && (p.op == o)) ps w.in_order) in
+            let named = subst (All (λ p. (p.job ≡ j) × (p.op ≡ o))) e (of_operation-named ps j o) in
+            let a : (p.job ≡ j) × (p.op ≡ o) = named 0 p (omega arith) in
+            let b : (q.job ≡ j) × (q.op ≡ o) = named 1 p (omega arith) in
+            (pairs 0 1 p (omega arith) (omega arith) (a.0 ∙ sym b.0)).0 (a.1 ∙ sym b.1))
+
+    works : GetsWork i s j o
+    works =
+        let (p, e) = sole in
+        let t : IsTimed p = of_one IsTimed ps j o p e w.timed in
+        let long : finish p ≡ start p + (need_at i p.job p.op).time = of_one (λ p. finish p ≡ start p + (need_at i p.job p.op).time) ps j o p e w.whole in
+        subst (λ b. MatchBool b (total (map (work_of (kind_of i.class.env) i) mine) ≡ pos 1 *ℤ pos (whole_work (kind_of i.class.env) i j o)) ((p : Piece) × (mine ≡ p ∷ []) × IsWholeWork (kind_of i.class.env) i (pos 1) p)) (sym h.cut)
+        (p, e, whole_by (kind_of i.class.env) i (pos 1) p h.kind ((lasts p _ t long).1 ∙ sym (one-*ℤ _)))
+
+  pub Feasible-from_plan : Feasible i s
+  Feasible-from_plan = record {
+    unit = omega (arith, ints);
+    span = λ k d l. let t = w.timed k d l in (omega (arith, ints, t.from), omega (arith, ints, t.from, t.to, t.lasts));
+    place = places;
+    machine = λ a b d m k e. apart_in_int _ _ (w.timed a d (omega arith)) (w.timed b d k) (w.apart a b d m k e);
+    job = λ a b d m k e. inl (before _ _ (w.timed a d (omega arith)) (w.timed b d k) (w.in_order a b d m k e).1);
+    release = released;
+    arc = no_arcs;
+    route = route_by (kind_of i.class.env) ps h.kind (routed w.route);
+    work = λ j o l op. works j o l (by_has (kind_of i.class.env) i j o h.kind op);
+  }
+
+-- ---- the greatest end as a cost
+module _ (i : Instance) (h : IsPlainShop i) (t : Schedule) (f : Feasible i t) where
+  end_below : (j : ℕ) → j < length i.jobs → end_of t j ≤ℤ cost_of i t
+  end_below j l = subst (λ x. job_cost x t.unit (job_at i j) (end_of t j) ≤ℤ cost_of i t) h.crit (cost_of-bound i t (ap is_greatest h.crit) j l)
+
+  pub cost_natural : cost_of i t ≡ pos (nat_abs (cost_of i t))
+  cost_natural = natural (cost_of i t) (≤ℤ_trans (last_end-natural t.pieces 0) (end_below 0 (omega (arith, h.some))))
+
+  pub ends_by_cost : All (λ p. finish p ≤ nat_abs (cost_of i t)) t.pieces
+  ends_by_cost k d l =
+      let u = IsTimed-from_span (get_or t.pieces k d) (f.span k d l) in
+      omega (arith, ints, u.to, cost_natural, last_end-bound t.pieces k d l, end_below (get_or t.pieces k d).job (f.place k d l).job)
+
+-- no feasible schedule ends before the moment
+abbrev pub IsLeastEnd : Instance → ℕ → Type 0
+IsLeastEnd i end = (t : Schedule) → Feasible i t → (c : ℕ) → All (λ p. finish p ≤ c) t.pieces → nat_abs t.unit * end ≤ c
+
+-- what is said of the answer's schedule
+pub record IsBestPlan (i : Instance) (end : ℕ) (s : Schedule) : Type 0 where
+  pub best : Best i s
+  pub within : Within i s
+  pub answer : IsAnswer i s
+  pub cost : cost_of i s ≡ pos end
+
+module _ (i : Instance) (h : IsPlainShop i) (end : ℕ) (least : IsLeastEnd i end) where
+  bound : (t : Schedule) → Feasible i t → (pos end *ℤ t.unit) ≤ℤ cost_of i t
+  bound t f = by (cost_of i t) t.unit _ _ (cost_natural i h t f) (natural t.unit (omega (arith, ints, f.unit))) (least t f _ (ends_by_cost i h t f))
+    where
+      by : (x u : ℤ) (c n : ℕ) → x ≡ pos c → u ≡ pos n → n * end ≤ c → (pos end *ℤ u) ≤ℤ x
+      by x u c n e g l =
+          let turned : end * n ≤ c = omega arith in
+          subst (λ y. (pos end *ℤ y) ≤ℤ x) (sym g) (subst (λ y. (pos end *ℤ pos n) ≤ℤ y) (sym e) (pos-le turned))
+
+  module _ (ps : List Piece) (w : IsShopPlan i ps) (few : length ps ≤ 500000) (ends : All (λ p. finish p ≤ end) ps) (short : end ≤ 10 ^ 25) where
+    abbrev made : Schedule
+    made = over_one ps
+
+    feasible : Feasible i made
+    feasible = Feasible-from_plan i h ps w
+
+    ended : All (λ p. p.to ≤ℤ pos end) ps
+    ended k d l = omega (arith, ints, (w.timed k d l).to, ends k d l)
+
+    upper : cost_of i made ≤ℤ pos end
+    upper = cost_of-least i made (pos end) (ap is_greatest h.crit) (omega (arith, h.some)) (λ k l. subst (λ x. job_cost x made.unit (job_at i k) (end_of made k) ≤ℤ pos end) (sym h.crit) (last_end-least ps k (pos end) (omega (arith, ints)) (λ n d m _. ended n d m)))
+
+    cost_is : cost_of i made ≡ pos end
+    cost_is = ≤ℤ_antisym upper (subst (λ x. x ≤ℤ cost_of i made) (*ℤ-one (pos end)) (bound made feasible))
+
+    moments : All (λ p. IsMoment p.from × IsMoment p.to) ps
+    moments k d l = by (get_or ps k d) (w.timed k d l) (omega (arith, ends k d l, short))
+      where
+        by : (p : Piece) → IsTimed p → finish p ≤ 10 ^ 25 → IsMoment p.from × IsMoment p.to
+        by p t m = ((omega (arith, ints, t.from), omega (arith, ints, t.from, t.lasts, m)), (omega (arith, ints, t.to), omega (arith, ints, t.to, m)))
+
+    pub IsBestPlan-from_plan : IsBestPlan i end made
+    IsBestPlan-from_plan = record {
+      best = record { feasible = feasible; least = λ t f. subst (λ x. (x *ℤ t.unit) ≤ℤ (cost_of i t *ℤ pos 1)) (sym cost_is) (subst (λ x. (pos end *ℤ t.unit) ≤ℤ x) (sym (*ℤ-one (cost_of i t))) (bound t f)) };
+      within = record {
+        unit = (omega (arith, ints), omega (arith, ints));
+        few = few;
+        moments = moments;
+        scaled = λ u. absurd (not_unrelated (kind_of i.class.env) h.kind u);
+      };
+      answer = record {
+        few = few;
+        unit = unit_by (kind_of i.class.env) h.kind;
+        ends = λ k d l. omega (arith, ints, ended k d l, short);
+      };
+      cost = cost_is;
+    }
