@@ -9,7 +9,8 @@ use Rattle.msp_instance.specs.Instance.{no_need, no_job, job_at, need_at, common
 use Rattle.msp_instance.specs.Conditions.{HasShape, HasSameTimes, HasDegree, Inner, inner_limits, leaving}
 use Rattle.msp_schedule.specs.declared.Piece.{Piece}
 use Rattle.msp_schedule.proofs.Frames.{no_heads}
-use Rattle.msp_levels.specs.Levels.{levels_class, AreLevels}
+use Rattle.msp_schedule.specs.Levels.{AreLevels}
+use Rattle.msp_levels.specs.Levels.{levels_class}
 use Rattle.msp_levels.specs.Steps.{is_blocked, IsSlot, seats, IsByLevel, IsUnderWay}
 use Rattle.msp_levels.proofs.Progress.{IsForest, fewer, left_inside, IsUnderWay-start, IsUnderWay-next}
 

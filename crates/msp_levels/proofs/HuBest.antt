@@ -34,10 +34,11 @@ use Rattle.msp_schedule.proofs.Moves.{Contains-map}
 use Rattle.msp_schedule.proofs.Frames.{of_one, named_one}
 use Rattle.msp_schedule.proofs.Charges.{charge_of, cost_of-bound, cost_of-least}
 use Rattle.msp_route.specs.Bounds.{IsAnswer, answer_unit}
-use Rattle.msp_levels.specs.Levels.{levels_class, LeadsOut, jobs_from, level_bound, IsGreatestBound, IsLevelCost, StepsDown}
+use Rattle.msp_schedule.specs.Levels.{LeadsOut, jobs_from, level_bound, StepsDown}
+use Rattle.msp_levels.specs.Levels.{levels_class, IsGreatestBound, IsLevelCost}
 use Rattle.msp_levels.specs.Steps.{level_from, Fits, begin_of, IsMade, StandsFirst, IsUnderWay, IsHuSchedule}
 use Rattle.msp_levels.proofs.Facts.{IsUnitForest, IsUnitForest-from}
-use Rattle.msp_levels.proofs.LevelBound.{law_of_levels}
+use Rattle.msp_schedule.proofs.LevelBound.{law_of_levels}
 
 -- ---- lists
 count-map : {X : Type 0} (f : X → ℕ) (j : ℕ) (xs : List X) → count_by (λ x. eqb (f x) j) xs ≡ count_by (λ n. eqb n j) (map f xs)

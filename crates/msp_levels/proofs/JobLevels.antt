@@ -10,7 +10,7 @@ use Rattle.msp_instance.specs.declared.Instance.{Instance}
 use Rattle.msp_instance.specs.Conditions.{IsSequence, GoesForward}
 use Rattle.msp_instance.specs.Paths.{HasStep}
 use Rattle.msp_instance.proofs.CycleLemmas.{OnceBelow-from_sequence}
-use Rattle.msp_levels.specs.Levels.{LeadsOut, IsLevel, AreLevels}
+use Rattle.msp_schedule.specs.Levels.{LeadsOut, IsLevel, AreLevels}
 use Rattle.msp_levels.specs.Steps.{IsOver}
 
 abbrev none : List ℕ

@@ -1,4 +1,3 @@
-mod LevelBound
 mod JobLevels
 mod Ranks
 mod Counts

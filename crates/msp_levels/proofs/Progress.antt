@@ -20,7 +20,7 @@ use Rattle.msp_schedule.specs.Piece.{IsBefore}
 use Rattle.msp_schedule.proofs.Intervals.{greatest_by-contains, greatest_by-reached}
 use Rattle.msp_schedule.proofs.OneMachine.{both_true}
 use Rattle.msp_schedule.proofs.Moves.{Contains-map}
-use Rattle.msp_levels.specs.Levels.{LeadsOut, IsLevel, AreLevels}
+use Rattle.msp_schedule.specs.Levels.{LeadsOut, IsLevel, AreLevels}
 use Rattle.msp_levels.specs.Steps.{is_blocked, IsSlot, piece_at, seats, IsMade, StandsFirst, IsByLevel, IsUnderWay, Fits}
 use Rattle.msp_levels.proofs.Counts.{HasOnce, Fits-low, Fits-permutation, Fits-next}
 

@@ -5,7 +5,7 @@ use Rattle.msp_instance.specs.declared.Arc.{Arc}
 use Rattle.msp_instance.specs.declared.Instance.{Instance}
 use Rattle.msp_schedule.specs.declared.Piece.{Piece}
 use Rattle.msp_schedule.specs.Piece.{IsBefore}
-use Rattle.msp_levels.specs.Levels.{AreLevels}
+use Rattle.msp_schedule.specs.Levels.{AreLevels}
 
 -- The number is one more than the greatest level of a job to which one of the arcs leads from this one, and 0 where none does.
 pub record IsOver (arcs : List Arc) (level : ℕ → ℕ) (job result : ℕ) : Type 0 where

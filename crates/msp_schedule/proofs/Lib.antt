@@ -26,6 +26,9 @@ pub mod Exchange
 pub mod UnitTimes
 pub mod Mirror
 pub mod EndsAndFloors
+pub mod LevelBound
+pub mod Places
+pub mod Loads
 pub mod OverlapFacts
 pub mod Among
 pub mod WholeWork

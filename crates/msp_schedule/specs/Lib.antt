@@ -13,3 +13,5 @@ pub mod Works
 pub mod Begins
 pub mod Marks
 pub mod Prices
+pub mod Levels
+pub mod Loads

@@ -1,5 +1,7 @@
 // Laws of feasible schedules, on which solvers stand.
 ghost use Rattle.msp_schedule.specs.Laws.{LawOfEnds, LawOfFloors};
+ghost use Rattle.msp_schedule.specs.Levels.{LawOfLevels};
+ghost use Rattle.msp_schedule.specs.Loads.{LawOfLines, LawOfMachines};
 ghost use Rattle.msp_schedule.specs.Prices.{LawOfPrices};
 
 /// Jobs that do not begin before a moment end only when all machines together have had the time for them.
@@ -15,4 +17,19 @@ pub fn law_of_floors()
 /// Prices of jobs and positions bound the sum of completion times on unrelated machines.
 pub fn law_of_prices()
     ensures { LawOfPrices }
+{}
+
+/// Jobs of at least a level end only when the machines have had the time for them, and as many units earlier as the level says.
+pub fn law_of_levels()
+    ensures { LawOfLevels }
+{}
+
+/// In shops all jobs end only when each machine has had the time for its operations.
+pub fn law_of_machines()
+    ensures { LawOfMachines }
+{}
+
+/// In shops a job ends only when it has had the time for its operations.
+pub fn law_of_lines()
+    ensures { LawOfLines }
 {}

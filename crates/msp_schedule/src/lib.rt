@@ -1,11 +1,14 @@
 //! Schedules over any unit, and what it means that a schedule is feasible, what it costs, and that it is best.
 //!
 //! It stands on `msp_instance`. The layers above use the definitions `Feasible`, `cost_of` and `Best`, that `first_break` and
-//! `swept` answer None exactly where a schedule is feasible, that `cost` gives the cost in lowest terms, and the laws
-//! `law_of_ends` and `law_of_floors` of schedules on identical machines, and `law_of_prices` on unrelated machines.
+//! `swept` answer None exactly where a schedule is feasible, that `cost` gives the cost in lowest terms, and the laws of feasible
+//! schedules: `law_of_ends`, `law_of_floors` and `law_of_levels` on identical machines, `law_of_prices` on unrelated machines, and
+//! `law_of_machines` and `law_of_lines` in shops.
 #![tactic(auto)]
 
 ghost use Rattle.std.specs.Prelude.{pos, ◌≤ℤ◌};
+
+use msp_class::List;
 
 mod arcs;
 mod breaks;
@@ -29,12 +32,13 @@ mod work;
 pub use breaks::{Break, first_break};
 pub use fraction::{compare, lowest};
 pub use job_cost::job_cost_at;
-pub use laws::{law_of_ends, law_of_floors, law_of_prices};
+pub use laws::{
+    law_of_ends, law_of_floors, law_of_levels, law_of_lines, law_of_machines, law_of_prices,
+};
 pub use limits::{
     GREATEST_CARRIED_UNIT, GREATEST_COMPARED_DENOMINATOR, GREATEST_COMPARED_NUMERATOR,
     GREATEST_MOMENT, GREATEST_UNIT, MOST_PIECES,
 };
-use msp_class::List;
 pub use settling::settle;
 pub use sweep::swept;
 pub use total_cost::cost;

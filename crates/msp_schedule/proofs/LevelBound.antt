@@ -21,7 +21,7 @@ use Rattle.msp_schedule.specs.Laws.{time_together, HasRoom, EndsLast, floored, f
 use Rattle.msp_schedule.proofs.EndsAndFloors.{law_of_ends, law_of_floors}
 use Rattle.msp_schedule.proofs.LastEnds.{last_end-reached}
 use Rattle.msp_schedule.proofs.Frames.{frame_of, HasWork, IsShaped-from_identical, Fits-from_feasible}
-use Rattle.msp_levels.specs.Levels.{StepsDown, jobs_from, level_bound, LawOfLevels}
+use Rattle.msp_schedule.specs.Levels.{StepsDown, jobs_from, level_bound, LawOfLevels}
 
 -- ---- numbers
 -- the quotient rounded up
