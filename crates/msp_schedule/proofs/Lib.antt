@@ -41,3 +41,4 @@ pub mod SweepFacts
 pub mod Positions
 pub mod SolePieces
 pub mod PriceBounds
+pub mod Certified

@@ -15,3 +15,4 @@ pub mod Marks
 pub mod Prices
 pub mod Levels
 pub mod Loads
+pub mod Blocks

@@ -1,4 +1,5 @@
 // Laws of feasible schedules, on which solvers stand.
+ghost use Rattle.msp_schedule.specs.Blocks.{LawOfBlocks};
 ghost use Rattle.msp_schedule.specs.Laws.{LawOfEnds, LawOfFloors};
 ghost use Rattle.msp_schedule.specs.Levels.{LawOfLevels};
 ghost use Rattle.msp_schedule.specs.Loads.{LawOfLines, LawOfMachines};
@@ -32,4 +33,10 @@ pub fn law_of_machines()
 /// In shops a job ends only when it has had the time for its operations.
 pub fn law_of_lines()
     ensures { LawOfLines }
+{}
+
+/// On one machine no schedule costs less, by the greatest cost of a job, than the value of a block: the jobs cannot all be done earlier,
+/// and one that leads to none of them ends last.
+pub fn law_of_blocks()
+    ensures { LawOfBlocks }
 {}

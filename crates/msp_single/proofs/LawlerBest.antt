@@ -21,8 +21,9 @@ use Rattle.msp_schedule.proofs.Rows.{row, row-jobs, row-last, row-arcs, end_in, 
 use Rattle.msp_schedule.proofs.OneMachine.{job_of, start, finish, IsTimed, last_end-is}
 use Rattle.msp_schedule.proofs.OneRow.{piece, piece_makes, time_at, row_schedule, row_is_feasible, row_is_settled, row_is_within}
 use Rattle.msp_route.specs.Bounds.{IsAnswer}
-use Rattle.msp_single.specs.Lawler.{lawler_class, total_time, cost_at, CostsLess, IsLawlerOrder}
-use Rattle.msp_single.proofs.Certified.{ranked, Rises, IsCertified, best_by_certificates}
+use Rattle.msp_single.specs.Lawler.{lawler_class, CostsLess, IsLawlerOrder}
+use Rattle.msp_schedule.specs.Blocks.{total_time, cost_at}
+use Rattle.msp_schedule.proofs.Certified.{ranked, Rises, IsCertified, best_by_certificates}
 use Rattle.msp_single.proofs.Facts.{takes_time, is_short}
 use Rattle.msp_single.proofs.LawlerFacts.{IsLawlerInstance, IsLawlerInstance-from_class}
 use Rattle.msp_single.proofs.RowAnswer.{timed, released, row_is_answer}
@@ -123,7 +124,7 @@ module _ (i : Instance) (h : IsLawlerInstance i) (order : List ℕ) (o : IsLawle
 
   pub lawler_schedule : IsLawlerSchedule i (row_schedule i order)
   lawler_schedule = record {
-    best = best_by_certificates i h.plain.machine (takes_time i h.plain) h.inner.conditions.ends (omega (arith, h.plain.some)) h.greatest (λ _. 0) rank (λ j l. inl (omega arith)) rises (row_schedule i order) refl lawler_is_feasible each_certified;
+    best = best_by_certificates i h.plain.machine (takes_time i h.plain) h.inner.conditions.ends (omega (arith, h.plain.some)) h.greatest (λ _. 0) (λ j l. inl (omega arith)) (row_schedule i order) refl lawler_is_feasible each_certified;
     settled = row_is_settled i order once (takes_time i h.plain);
     within = row_is_within i order once (takes_time i h.plain) h.plain.few (is_short i h.plain) h.plain.machine.kind;
     answer = row_is_answer i h.plain order once;

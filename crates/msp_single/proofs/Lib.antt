@@ -6,7 +6,6 @@ pub mod SmithSteps
 pub mod SmithSorted
 pub mod SmithFacts
 pub mod SmithBest
-pub mod Certified
 pub mod LawlerFacts
 pub mod LawlerBest
 pub mod Search

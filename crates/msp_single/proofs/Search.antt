@@ -12,9 +12,10 @@ use Rattle.msp_instance.specs.Conditions.{IsAcyclic}
 use Rattle.msp_instance.proofs.ListingLemmas.{list_any-from_Contains, Contains-from_list_any}
 use Rattle.msp_schedule.proofs.Intervals.{greatest_by, greatest_by-contains, greatest_by-reached}
 use Rattle.msp_single.specs.declared.lawler.Candidate.{Candidate}
-use Rattle.msp_single.specs.Lawler.{total_time, cost_at, HasNoSuccessor, CostsLess, GoesLast}
+use Rattle.msp_schedule.specs.Blocks.{total_time, cost_at, HasNoSuccessor}
+use Rattle.msp_single.specs.Lawler.{CostsLess, GoesLast}
 use Rattle.msp_single.specs.Candidates.{Precedes, IsFirstCandidate, IsFound}
-use Rattle.msp_single.proofs.Certified.{ranked}
+use Rattle.msp_schedule.proofs.Certified.{ranked}
 
 -- ---- one more job
 module _ (jobs : List ℕ) (blocked : ℕ → Bool) (cost : ℕ → ℤ) (k : ℕ) (j : ℕ) (inside : k < length jobs) (at : j ≡ get_or jobs k 0) where

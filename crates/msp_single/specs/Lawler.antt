@@ -1,5 +1,5 @@
 -- The class that Lawler's rule solves, and the order in which the rule puts the jobs.
-use Rattle.std.specs.Prelude.{◌≡◌, ℕ, ◌+◌, ◌<◌, ◌≤◌, ◌⊎◌, false, List, length, take, slice_index_or, ℤ, pos, ◌<ℤ◌, All, Contains, IsPermutation, sum_by}
+use Rattle.std.specs.Prelude.{◌≡◌, ℕ, ◌+◌, ◌<◌, ◌≤◌, ◌⊎◌, false, List, length, take, slice_index_or, ◌<ℤ◌, All, IsPermutation}
 use Rattle.std.specs.List.{range_with_len}
 use Rattle.msp_class.specs.declared.class.Class.{Class}
 use Rattle.msp_class.specs.declared.class.Env.TheVariants.{One}
@@ -7,24 +7,11 @@ use Rattle.msp_class.specs.declared.class.Order.TheVariants.{Prec}
 use Rattle.msp_class.specs.declared.class.Times.TheVariants.{General}
 use Rattle.msp_class.specs.declared.class.Crit.TheVariants.{Fmax}
 use Rattle.msp_instance.specs.declared.Instance.{Instance}
-use Rattle.msp_instance.specs.Instance.{job_at, need_at}
-use Rattle.msp_schedule.specs.Cost.{job_cost}
+use Rattle.msp_schedule.specs.Blocks.{total_time, cost_at, HasNoSuccessor}
 
 -- One machine, precedence, neither preemption nor release dates, any times, and the greatest cost of a job by its curve: `1|prec|fmax`.
 abbrev pub lawler_class : Class
 lawler_class = record { env = One; cut = false; order = Prec; heads = false; times = General; crit = Fmax }
-
--- How long the jobs take one after another.
-abbrev pub total_time : Instance → List ℕ → ℕ
-total_time i jobs = sum_by (λ j. (need_at i j 0).time) jobs
-
--- What a job costs that ends at the moment.
-abbrev pub cost_at : Instance → ℕ → ℕ → ℤ
-cost_at i j moment = job_cost i.class.crit (pos 1) (job_at i j) (pos moment)
-
--- No arc leads from the job to one of the jobs.
-abbrev pub HasNoSuccessor : Instance → List ℕ → ℕ → Type 0
-HasNoSuccessor i jobs j = All (λ a. a.before ≡ j → ¬ Contains jobs a.after) i.arcs
 
 -- Job a costs less than job b at the moment, or as much and has no greater number.
 abbrev pub CostsLess : Instance → ℕ → ℕ → ℕ → Type 0

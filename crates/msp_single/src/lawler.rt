@@ -3,11 +3,12 @@ ghost use Rattle.std.specs.Prelude.{◌≡◌, ◌*◌, ◌<◌, ◌≤◌, ◌�
 ghost use Rattle.std.specs.List.{list_any, range_with_len};
 ghost use Rattle.msp_instance.specs.declared.ranges.TheConstants.{GREATEST, MOST_JOBS};
 ghost use Rattle.msp_instance.specs.Conditions.{Inner};
+ghost use Rattle.msp_schedule.specs.Blocks.{cost_at};
 ghost use Rattle.msp_schedule.specs.Cost.{IsBest};
 ghost use Rattle.msp_schedule.specs.Fraction.{IsLowest};
 ghost use Rattle.msp_schedule.specs.Settled.{IsSettled};
 ghost use Rattle.msp_route.specs.Bounds.{IsAnswer};
-ghost use Rattle.msp_single.specs.Lawler.{lawler_class, cost_at, GoesLast, IsLawlerOrder};
+ghost use Rattle.msp_single.specs.Lawler.{lawler_class, GoesLast, IsLawlerOrder};
 ghost use Rattle.msp_single.specs.Candidates.{Precedes, IsFound};
 
 use crate::row::{solution_in_order, total_time};

@@ -1,5 +1,5 @@
 use Rattle.std.proofs.Common.{false, slice_index_or}
-use Rattle.msp_single.specs.Lawler.{cost_at}
+use Rattle.msp_schedule.specs.Blocks.{cost_at}
 use Rattle.msp_single.specs.Candidates.{IsFound}
 use Rattle.msp_single.proofs.lawler.least_of.Given as goal
 
