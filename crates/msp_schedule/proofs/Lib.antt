@@ -29,6 +29,8 @@ pub mod EndsAndFloors
 pub mod LevelBound
 pub mod Places
 pub mod Loads
+pub mod Groups
+pub mod Makespan
 pub mod OverlapFacts
 pub mod Among
 pub mod WholeWork

@@ -1,5 +1,5 @@
--- Two laws of feasible schedules on one machine and on identical machines.
-use Rattle.std.specs.Prelude.{◌≡◌, ℕ, ◌/◌, ◌<◌, ◌≤◌, Bool, true, false, length, map, ℤ, pos, nat_abs, ◌+ℤ◌, ◌-ℤ◌, ◌*ℤ◌, ◌≤ℤ◌, All, sum_by, if◌then◌else◌}
+-- Three laws of feasible schedules on one machine and on identical machines.
+use Rattle.std.specs.Prelude.{◌≡◌, ℕ, ◌/◌, ◌<◌, ◌≤◌, Bool, true, false, length, map, ℤ, pos, nat_abs, ◌+ℤ◌, ◌-ℤ◌, ◌*ℤ◌, ◌≤ℤ◌, All, sum_by, count_by, min, if◌then◌else◌}
 use Rattle.std.specs.List.{range_with_len}
 use Rattle.msp_class.specs.declared.environments.EnvKind.TheVariants.{Identical}
 use Rattle.msp_class.specs.Env.{kind_of}
@@ -37,6 +37,23 @@ pub record LawOfEnds : Type 0 where
   pub last : (i : Instance) (s : Schedule) (test : ℕ → Bool) (begin : ℤ) → kind_of i.class.env ≡ Identical → Feasible i s → pos 0 ≤ℤ begin → BeginsFrom begin test s
       → ((j : ℕ) → j < length i.jobs → 1 ≤ (need_at i j 0).time) → (j : ℕ) → j < length i.jobs → test j ≡ true
       → (k : ℕ) × EndsLast i s test k × HasRoom i s test begin (end_of s k)
+
+-- How many jobs pass a test.
+abbrev pub jobs_together : Instance → (ℕ → Bool) → ℕ
+jobs_together i test = count_by test (range_with_len 0 (length i.jobs))
+
+-- Up to the moment `end` the machines that the jobs that pass the test can use, no more than the jobs are, have as much time as they take.
+abbrev pub HasTimeFor : Instance → Schedule → (ℕ → Bool) → ℤ → Type 0
+HasTimeFor i s test end = (s.unit *ℤ pos (time_together i test)) ≤ℤ (pos (min (jobs_together i test) i.machines) *ℤ end)
+
+-- The law of groups: jobs on identical machines, cut or not, end only when as many machines as they can use have had the time for them.
+pub record LawOfGroups : Type 0 where
+  -- at any moment by which they all end
+  pub room : (i : Instance) (s : Schedule) (test : ℕ → Bool) (end : ℤ) → kind_of i.class.env ≡ Identical → Feasible i s → pos 0 ≤ℤ end
+      → ((j : ℕ) → j < length i.jobs → test j ≡ true → end_of s j ≤ℤ end) → HasTimeFor i s test end
+  -- at the greatest of their ends, where there is such a job
+  pub last : (i : Instance) (s : Schedule) (test : ℕ → Bool) → kind_of i.class.env ≡ Identical → Feasible i s → (j : ℕ) → j < length i.jobs → test j ≡ true
+      → (k : ℕ) × EndsLast i s test k × HasTimeFor i s test (end_of s k)
 
 -- The greatest multiple of the unit that is not after the moment, where the moment is at least 0 and the unit at least 1.
 abbrev pub floor : ℤ → ℤ → ℤ

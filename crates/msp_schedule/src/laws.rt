@@ -1,6 +1,6 @@
 // Laws of feasible schedules, on which solvers stand.
 ghost use Rattle.msp_schedule.specs.Blocks.{LawOfBlocks};
-ghost use Rattle.msp_schedule.specs.Laws.{LawOfEnds, LawOfFloors};
+ghost use Rattle.msp_schedule.specs.Laws.{LawOfEnds, LawOfFloors, LawOfGroups};
 ghost use Rattle.msp_schedule.specs.Levels.{LawOfLevels};
 ghost use Rattle.msp_schedule.specs.Loads.{LawOfLines, LawOfMachines};
 ghost use Rattle.msp_schedule.specs.Prices.{LawOfPrices};
@@ -8,6 +8,11 @@ ghost use Rattle.msp_schedule.specs.Prices.{LawOfPrices};
 /// Jobs that do not begin before a moment end only when all machines together have had the time for them.
 pub fn law_of_ends()
     ensures { LawOfEnds }
+{}
+
+/// Jobs end only when as many machines as they can use have had the time for them.
+pub fn law_of_groups()
+    ensures { LawOfGroups }
 {}
 
 /// Jobs of one unit of time may begin at multiples of the unit, and no job ends later.

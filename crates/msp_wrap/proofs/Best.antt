@@ -7,7 +7,6 @@ use Rattle.std.proofs.Math.Nat.{mul-le-mul_left}
 use Rattle.msp_class.specs.declared.environments.EnvKind.{EnvKind}
 use Rattle.msp_class.specs.declared.environments.EnvKind.TheVariants.{Identical, Unrelated}
 use Rattle.msp_class.specs.Env.{kind_of}
-use Rattle.msp_class.specs.Crit.{is_greatest}
 use Rattle.msp_class.proofs.IntegerRing.{≤ℤ_antisym, *ℤ_comm, *ℤ-cancel}
 use Rattle.msp_instance.specs.declared.Arc.{Arc}
 use Rattle.msp_instance.specs.declared.Instance.{Instance}
@@ -18,23 +17,22 @@ use Rattle.msp_schedule.specs.declared.Schedule.{Schedule}
 use Rattle.msp_schedule.specs.declared.Frac.{Frac}
 use Rattle.msp_schedule.specs.Piece.{length_of, pieces_of, IsBefore}
 use Rattle.msp_schedule.specs.Feasible.{Feasible, HasPlace, HasOperation, MayRun, FollowsRoute, GetsWork, IsWholeWork, total, whole_work, work_of as part_of}
-use Rattle.msp_schedule.specs.Cost.{cost_of, end_of, job_cost, Best}
+use Rattle.msp_schedule.specs.Cost.{cost_of, Best}
 use Rattle.msp_schedule.specs.Fraction.{IsOver}
 use Rattle.msp_schedule.specs.Within.{IsMoment, Within}
 use Rattle.msp_schedule.proofs.OneMachine.{finish, IsTimed, apart_in_int, pieces_of-job, total_lengths}
 use Rattle.msp_schedule.proofs.OneRow.{time_at}
-use Rattle.msp_schedule.proofs.LastEnds.{last_end-least}
-use Rattle.msp_schedule.proofs.Charges.{cost_of-least}
+use Rattle.msp_schedule.proofs.Groups.{job_is_over, jobs_are_over}
+use Rattle.msp_schedule.proofs.Makespan.{ends_by_whole_cost, cost_by_ends, cost_above}
 use Rattle.std.proofs.lemmas.List.Elements.{All-filter}
 use Rattle.msp_route.specs.Bounds.{IsAnswer, answer_unit}
 use Rattle.msp_wrap.specs.Wrap.{wrap_class, longest_time, total_time, least_end, IsWrapCost}
 use Rattle.msp_wrap.specs.Laying.{IsWrapped, IsWhollyWrapped}
 use Rattle.msp_wrap.proofs.Facts.{IsWrapInstance, IsWrapInstance-from_class, longest_time-reached, total_time-is, least_end-short}
-use Rattle.msp_wrap.proofs.Lower.{job_is_over, jobs_are_over, ends_by_cost, cost_above}
 
 -- ---- lower: each feasible schedule
 pub wrap_bound : (i : Instance) → IsWrapInstance i → (s : Schedule) → Feasible i s → (pos (least_end i) *ℤ s.unit) ≤ℤ (cost_of i s *ℤ pos i.machines)
-wrap_bound i h s f = cost_above i h.kind h.crit h.some s f (least_end i) (by (i.machines * longest_time i) (total_time i) by_longest by_total)
+wrap_bound i h s f = cost_above i h.crit s h.some i.machines (least_end i) f.unit (by (i.machines * longest_time i) (total_time i) by_longest by_total)
   where
     c : ℕ
     c = nat_abs (cost_of i s)
@@ -45,11 +43,11 @@ wrap_bound i h s f = cost_above i h.kind h.crit h.some s f (least_end i) (by (i.
     by_longest : unit * (i.machines * longest_time i) ≤ i.machines * c
     by_longest =
         let (j, l, e) = longest_time-reached i h in
-        let over : unit * longest_time i ≤ c = subst (λ t. unit * t ≤ c) e (job_is_over i h.kind s f c (ends_by_cost i h.kind h.crit h.some s f) j l) in
+        let over : unit * longest_time i ≤ c = subst (λ t. unit * t ≤ c) e (job_is_over i h.kind s f c (ends_by_whole_cost i h.crit s h.some) j l) in
         omega (arith, mul-le-mul_left i.machines over)
 
     by_total : unit * total_time i ≤ i.machines * c
-    by_total = subst (λ t. unit * t ≤ i.machines * c) (sym (total_time-is i h)) (jobs_are_over i h.kind s f c (ends_by_cost i h.kind h.crit h.some s f))
+    by_total = subst (λ t. unit * t ≤ i.machines * c) (sym (total_time-is i h)) (jobs_are_over i h.kind s f c (ends_by_whole_cost i h.crit s h.some))
 
     by : (x y : ℕ) → unit * x ≤ i.machines * c → unit * y ≤ i.machines * c → unit * max x y ≤ i.machines * c
     by x y p q = elim (either x y) [ inl e ↦ subst (λ n. unit * n ≤ i.machines * c) (sym e) p | inr e ↦ subst (λ n. unit * n ≤ i.machines * c) (sym e) q ]
@@ -124,7 +122,7 @@ module _ (i : Instance) (h : IsWrapInstance i) (end q o : ℕ) (ps : List Piece)
   ends k d l = let t = w.laid.timed k d l in omega (arith, ints, t.to, w.laid.ends k d l, is)
 
   upper : cost_of i s ≤ℤ pos (least_end i)
-  upper = cost_of-least i s (pos (least_end i)) (ap is_greatest h.crit) (omega (arith, h.some)) (λ k l. subst (λ x. job_cost x s.unit (job_at i k) (end_of s k) ≤ℤ pos (least_end i)) (sym h.crit) (last_end-least ps k (pos (least_end i)) (omega (arith, ints)) (λ n d m _. ends n d m)))
+  upper = cost_by_ends i h.crit s h.some (pos (least_end i)) (omega (arith, ints)) ends
 
   cost_is : cost_of i s ≡ pos (least_end i)
   cost_is = ≤ℤ_antisym upper (*ℤ-cancel i.machines (omega (arith, h.machine)) (turned (pos (least_end i)) (cost_of i s) (pos i.machines) (wrap_bound i h s is_feasible)))

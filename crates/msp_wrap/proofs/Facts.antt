@@ -1,9 +1,8 @@
 -- What an instance of the class of McNaughton's rule has, and the size of its least end.
-use Rattle.std.proofs.Common.{◌≡◌, ℕ, zero, suc, ◌+◌, ◌*◌, ◌-◌, ◌<◌, ◌≤◌, ◌⊎◌, inl, inr, max, true, false, Bool, leb, List, [], ◌∷◌, length, get_or, take, fold, map, All, sum_by, refl, sym, ap, ◌∙◌, subst, subst₂, arith}
+use Rattle.std.proofs.Common.{◌≡◌, ℕ, suc, ◌*◌, ◌<◌, ◌≤◌, ◌⊎◌, inl, inr, max, true, false, Bool, leb, List, [], ◌∷◌, length, get_or, fold, map, All, refl, sym, ap, ◌∙◌, subst, subst₂, arith}
 use Rattle.std.proofs.lemmas.Bool.{leb-true, leb-false}
-use Rattle.std.proofs.lemmas.List.{take_more, take_all, length-map, get_or-map}
+use Rattle.std.proofs.lemmas.List.{length-map, get_or-map}
 use Rattle.std.proofs.lemmas.List.Elements.{All-nil, All-cons, All-head, All-tail, All-map}
-use Rattle.std.proofs.lemmas.List.Sums.{sum_by-append, sum_by-cons}
 use Rattle.std.proofs.Math.Nat.{mul-le-mul_left}
 use Rattle.msp_class.specs.declared.class.Env.{Env}
 use Rattle.msp_class.specs.declared.class.Env.TheVariants.{P as SomeMachines}
@@ -12,11 +11,12 @@ use Rattle.msp_class.specs.declared.class.Times.TheVariants.{General}
 use Rattle.msp_class.specs.declared.class.Crit.TheVariants.{Cmax}
 use Rattle.msp_class.specs.declared.environments.EnvKind.TheVariants.{Identical}
 use Rattle.msp_class.specs.Env.{kind_of}
-use Rattle.msp_class.proofs.Sums.{total_below, total_below-split, sum_by-mono, sum_by-constant}
+use Rattle.msp_class.proofs.Sums.{total_below, sum_by-mono, sum_by-constant}
 use Rattle.msp_instance.specs.declared.Instance.{Instance}
 use Rattle.msp_instance.specs.Instance.{no_need, no_job}
 use Rattle.msp_instance.specs.Conditions.{HasShape, HasTimes, HasRelease, HasArcs, MeetsConditions, Inner, inner_limits, least_time, greatest_time}
 use Rattle.msp_schedule.proofs.OneRow.{time_at}
+use Rattle.msp_schedule.proofs.Places.{sum_by-places, total_below-within}
 use Rattle.msp_wrap.specs.Wrap.{wrap_class, time_of, longest_time, total_time, least_end}
 
 pub record IsWrapInstance (i : Instance) : Type 0 where
@@ -82,28 +82,6 @@ fold_max-reached a (x ∷ xs) = by (leb x a) refl (fold_max-reached (max a x) xs
     by true e (inl s) = inl (s ∙ left a x (leb-true x a e))
     by false e (inl s) = inr (0, omega arith, right a x (leb-false x a e) ∙ sym s)
     by b e (inr s) = inr (suc s.0, omega (arith, s.1), s.2)
-
--- ---- sums over a list by its places
-sum_by-take : {X : Type 0} (f : X → ℕ) (xs : List X) (d : X) (k : ℕ) → k ≤ length xs → sum_by f (take k xs) ≡ total_below k (λ j. f (get_or xs j d))
-sum_by-take f xs d zero l = refl
-sum_by-take f xs d (suc k) l =
-    ap (λ n. sum_by f (take n xs)) (more k) ∙ ap (sum_by f) (take_more xs k d (omega arith)) ∙ sum_by-append f (take k xs) (get_or xs k d ∷ [])
-    ∙ ap (λ n. n + sum_by f (get_or xs k d ∷ [])) (sum_by-take f xs d k (omega arith)) ∙ ap (λ n. total_below k (λ j. f (get_or xs j d)) + n) (one (get_or xs k d))
-  where
-    more : (k : ℕ) → suc k ≡ k + 1
-    more k = omega arith
-
-    one : (x : _) → sum_by f (x ∷ []) ≡ f x
-    one x = omega (arith, sum_by-cons f x [])
-
-pub sum_by-places : {X : Type 0} (f : X → ℕ) (xs : List X) (d : X) → sum_by f xs ≡ total_below (length xs) (λ j. f (get_or xs j d))
-sum_by-places f xs d = ap (sum_by f) (sym (take_all (length xs) xs (omega arith))) ∙ sum_by-take f xs d (length xs) (omega arith)
-
-pub total_below-within : (f : ℕ → ℕ) (k n : ℕ) → k ≤ n → total_below k f ≤ total_below n f
-total_below-within f k n l = omega (arith, ap (λ x. total_below x f) (whole k n l), total_below-split k (n - k) f)
-  where
-    whole : (k n : ℕ) → k ≤ n → n ≡ k + (n - k)
-    whole k n l = omega arith
 
 -- ---- the least end
 module _ (i : Instance) (h : IsWrapInstance i) where

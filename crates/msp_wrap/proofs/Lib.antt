@@ -1,4 +1,3 @@
 pub mod Facts
 pub mod Steps
-pub mod Lower
 pub mod Best
