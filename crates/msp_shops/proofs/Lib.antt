@@ -1,2 +1,4 @@
 pub mod Passing
 pub mod Shops
+pub mod OpenSteps
+pub mod OpenPlan

@@ -33,7 +33,14 @@ Contains-part job stage begin time some = by (time == 0) refl
     by true e = absurd (omega (arith, some, eqb-true time 0 e))
     by false e = (0, omega arith, refl)
 
-AllPairs-part : (R : Piece → Piece → Type 0) (job : ℕ) (stage : Stage) (begin time : ℕ) → AllPairs R (part job stage begin time)
+pub length-part : (job : ℕ) (stage : Stage) (begin time : ℕ) → length (part job stage begin time) ≤ 1
+length-part job stage begin time = by (time == 0)
+  where
+    by : (b : Bool) → length (cond b [] (whole_piece job stage begin time ∷ [])) ≤ 1
+    by true = omega arith
+    by false = omega arith
+
+pub AllPairs-part : (R : Piece → Piece → Type 0) (job : ℕ) (stage : Stage) (begin time : ℕ) → AllPairs R (part job stage begin time)
 AllPairs-part R job stage begin time = by (time == 0)
   where
     by : (b : Bool) → AllPairs R (cond b [] (whole_piece job stage begin time ∷ []))
@@ -174,6 +181,7 @@ module _ (first second : Stage) (machines : first.machine ≢ second.machine) (f
     first_end = omega arith;
     second_end = inl (omega arith);
     later = omega arith;
+    few = omega arith;
     small = (omega arith, omega arith);
   }
 
@@ -188,6 +196,15 @@ module _ (first second : Stage) (machines : first.machine ≢ second.machine) (f
         first_end = omega (arith, h.first_end, sum_by_push (λ k. k.first) jobs j);
         second_end = critical_next jobs from at.first at.second j h.first_end h.second_end;
         later = omega (arith, h.later);
+        few = omega (
+          arith,
+          h.few,
+          more,
+          length-append (ps ++ part j.job first at.first j.first) (part j.job second begin j.second),
+          length-append ps (part j.job first at.first j.first),
+          length-part j.job first at.first j.first,
+          length-part j.job second begin j.second,
+        );
         small = (omega (arith, h.small.0, short.0, more), omega (arith, h.small.0, h.small.1, short.0, short.1, more));
       }
 

@@ -1,5 +1,5 @@
 -- Pieces of an uncut shop as a schedule over the unit 1: when it is feasible, and when no feasible schedule ends earlier.
-use Rattle.std.proofs.Common.{◌≡◌, ◌≢◌, ℕ, ◌+◌, ◌*◌, ◌<◌, ◌≤◌, ◌⊎◌, ◌^◌, inl, inr, true, false, List, [], ◌∷◌, length, get_or, map, ℤ, pos, nat_abs, ◌*ℤ◌, ◌≤ℤ◌, All, AllPairs, Contains, Bool, MatchBool, refl, sym, ap, ◌∙◌, subst, arith}
+use Rattle.std.proofs.Common.{◌≡◌, ◌≢◌, ℕ, ◌+◌, ◌<◌, ◌≤◌, ◌⊎◌, ◌^◌, inl, inr, true, false, List, [], ◌∷◌, length, get_or, map, ℤ, pos, ◌*ℤ◌, ◌≤ℤ◌, All, AllPairs, Contains, Bool, MatchBool, refl, sym, ap, ◌∙◌, subst, arith}
 use Rattle.std.specs.Prelude.{◌==◌, ◌&&◌}
 use Rattle.std.proofs.lemmas.Bool.{eq-eqb}
 use Rattle.std.proofs.lemmas.Int.{ints}
@@ -8,9 +8,8 @@ use Rattle.std.proofs.lemmas.List.Kept.{AllPairs-filter}
 use Rattle.msp_class.specs.declared.environments.EnvKind.{EnvKind}
 use Rattle.msp_class.specs.declared.environments.EnvKind.TheVariants.{Identical, Uniform, Unrelated, OpenShop, FlowShop, JobShop}
 use Rattle.msp_class.specs.declared.class.Crit.TheVariants.{Cmax}
-use Rattle.msp_class.specs.Env.{kind_of}
-use Rattle.msp_class.specs.Crit.{is_greatest}
-use Rattle.msp_class.proofs.IntegerRing.{natural, pos-le, ≤ℤ_trans, ≤ℤ_antisym, *ℤ-one, one-*ℤ}
+use Rattle.msp_class.specs.Env.{kind_of, is_shop_kind, is_shop}
+use Rattle.msp_class.proofs.IntegerRing.{≤ℤ_antisym, *ℤ_comm, *ℤ-one, one-*ℤ}
 use Rattle.msp_class.proofs.Sums.{AllPairs-contains, Contains-filter}
 use Rattle.msp_instance.specs.declared.Arc.{Arc}
 use Rattle.msp_instance.specs.declared.Instance.{Instance}
@@ -19,65 +18,56 @@ use Rattle.msp_schedule.specs.declared.Piece.{Piece}
 use Rattle.msp_schedule.specs.declared.Schedule.{Schedule}
 use Rattle.msp_schedule.specs.Piece.{length_of, pieces_of, IsBefore}
 use Rattle.msp_schedule.specs.Feasible.{Feasible, HasPlace, HasOperation, MayRun, FollowsRoute, GetsWork, IsWholeWork, total, whole_work, work_of}
-use Rattle.msp_schedule.specs.Cost.{cost_of, end_of, job_cost, Best}
+use Rattle.msp_schedule.specs.Cost.{cost_of, end_of, Best}
 use Rattle.msp_schedule.specs.Within.{IsMoment, Within}
 use Rattle.msp_schedule.proofs.Intervals.{IsApartOn}
-use Rattle.msp_schedule.proofs.OneMachine.{start, finish, IsTimed, IsTimed-from_span, apart_in_int}
+use Rattle.msp_schedule.proofs.OneMachine.{start, finish, IsTimed, apart_in_int}
 use Rattle.msp_schedule.proofs.Frames.{of_operation-named, of_one}
-use Rattle.msp_schedule.proofs.LastEnds.{last_end-bound, last_end-least, last_end-natural}
-use Rattle.msp_schedule.proofs.Charges.{cost_of-bound, cost_of-least}
+use Rattle.msp_schedule.proofs.Makespan.{cost_natural, ends_by_cost, cost_by_ends}
 use Rattle.msp_route.specs.Bounds.{IsAnswer, answer_unit}
 use Rattle.msp_shops.specs.Pass.{machine_of}
 
 -- ---- the kinds of shops
-abbrev pub IsShopKind : EnvKind → Type 0
-IsShopKind Identical = ⊥
-IsShopKind Uniform = ⊥
-IsShopKind Unrelated = ⊥
-IsShopKind OpenShop = Unit {0}
-IsShopKind FlowShop = Unit {0}
-IsShopKind JobShop = Unit {0}
-
 -- a job's operation that takes time
 abbrev pub IsTimely : Instance → ℕ → ℕ → Type 0
 IsTimely i j o = (o < length (job_at i j).needs) × ((need_at i j o).time ≢ 0)
 
-has_by : (k : EnvKind) (i : Instance) (j o : ℕ) → IsShopKind k → IsTimely i j o → HasOperation k i j o
-has_by Identical i j o s h = absurd s
-has_by Uniform i j o s h = absurd s
-has_by Unrelated i j o s h = absurd s
+has_by : (k : EnvKind) (i : Instance) (j o : ℕ) → is_shop_kind k ≡ true → IsTimely i j o → HasOperation k i j o
+has_by Identical i j o s h = absurd (cc)
+has_by Uniform i j o s h = absurd (cc)
+has_by Unrelated i j o s h = absurd (cc)
 has_by OpenShop i j o s h = h
 has_by FlowShop i j o s h = h
 has_by JobShop i j o s h = h
 
-by_has : (k : EnvKind) (i : Instance) (j o : ℕ) → IsShopKind k → HasOperation k i j o → IsTimely i j o
-by_has Identical i j o s h = absurd s
-by_has Uniform i j o s h = absurd s
-by_has Unrelated i j o s h = absurd s
+by_has : (k : EnvKind) (i : Instance) (j o : ℕ) → is_shop_kind k ≡ true → HasOperation k i j o → IsTimely i j o
+by_has Identical i j o s h = absurd (cc)
+by_has Uniform i j o s h = absurd (cc)
+by_has Unrelated i j o s h = absurd (cc)
 by_has OpenShop i j o s h = h
 by_has FlowShop i j o s h = h
 by_has JobShop i j o s h = h
 
-may_by : (k : EnvKind) (i : Instance) (j o m : ℕ) → IsShopKind k → m ≡ (need_at i j o).machine → MayRun k i j o m
-may_by Identical i j o m s h = absurd s
-may_by Uniform i j o m s h = absurd s
-may_by Unrelated i j o m s h = absurd s
+may_by : (k : EnvKind) (i : Instance) (j o m : ℕ) → is_shop_kind k ≡ true → m ≡ (need_at i j o).machine → MayRun k i j o m
+may_by Identical i j o m s h = absurd (cc)
+may_by Uniform i j o m s h = absurd (cc)
+may_by Unrelated i j o m s h = absurd (cc)
 may_by OpenShop i j o m s h = h
 may_by FlowShop i j o m s h = h
 may_by JobShop i j o m s h = h
 
-whole_by : (k : EnvKind) (i : Instance) (unit : ℤ) (p : Piece) → IsShopKind k → length_of p ≡ unit *ℤ pos (need_at i p.job p.op).time → IsWholeWork k i unit p
-whole_by Identical i unit p s h = absurd s
-whole_by Uniform i unit p s h = absurd s
-whole_by Unrelated i unit p s h = absurd s
+whole_by : (k : EnvKind) (i : Instance) (unit : ℤ) (p : Piece) → is_shop_kind k ≡ true → length_of p ≡ unit *ℤ pos (need_at i p.job p.op).time → IsWholeWork k i unit p
+whole_by Identical i unit p s h = absurd (cc)
+whole_by Uniform i unit p s h = absurd (cc)
+whole_by Unrelated i unit p s h = absurd (cc)
 whole_by OpenShop i unit p s h = h
 whole_by FlowShop i unit p s h = h
 whole_by JobShop i unit p s h = h
 
-route_by : (k : EnvKind) (ps : List Piece) → IsShopKind k → (k ≡ OpenShop) ⊎ All (λ p. All (λ q. p.job ≡ q.job → p.op < q.op → IsBefore p q) ps) ps → FollowsRoute k ps
-route_by Identical ps s h = absurd s
-route_by Uniform ps s h = absurd s
-route_by Unrelated ps s h = absurd s
+route_by : (k : EnvKind) (ps : List Piece) → is_shop_kind k ≡ true → (k ≡ OpenShop) ⊎ All (λ p. All (λ q. p.job ≡ q.job → p.op < q.op → IsBefore p q) ps) ps → FollowsRoute k ps
+route_by Identical ps s h = absurd (cc)
+route_by Uniform ps s h = absurd (cc)
+route_by Unrelated ps s h = absurd (cc)
 route_by OpenShop ps s h = tt
 route_by FlowShop ps s (inl e) = absurd (cc)
 route_by FlowShop ps s (inr h) = h
@@ -85,20 +75,23 @@ route_by JobShop ps s (inl e) = absurd (cc)
 route_by JobShop ps s (inr h) = h
 
 -- the unit is within the limits of an answer
-unit_by : (k : EnvKind) → IsShopKind k → pos 1 ≤ℤ answer_unit k
-unit_by Identical s = absurd s
-unit_by Uniform s = absurd s
-unit_by Unrelated s = absurd s
+unit_by : (k : EnvKind) → is_shop_kind k ≡ true → pos 1 ≤ℤ answer_unit k
+unit_by Identical s = absurd (cc)
+unit_by Uniform s = absurd (cc)
+unit_by Unrelated s = absurd (cc)
 unit_by OpenShop s = omega (arith, ints)
 unit_by FlowShop s = omega (arith, ints)
 unit_by JobShop s = omega (arith, ints)
 
-not_unrelated : (k : EnvKind) → IsShopKind k → k ≡ Unrelated → ⊥
-not_unrelated k s e = absurd (subst IsShopKind e s)
+not_unrelated : (k : EnvKind) → is_shop_kind k ≡ true → k ≡ Unrelated → ⊥
+not_unrelated k s e = never (sym (ap is_shop_kind e) ∙ s)
+  where
+    never : is_shop_kind Unrelated ≡ true → ⊥
+    never e = absurd (cc)
 
 -- a shop without preemption, precedence and release dates, and the greatest completion time
 pub record IsPlainShop (i : Instance) : Type 0 where
-  pub kind : IsShopKind (kind_of i.class.env)
+  pub kind : is_shop i.class.env ≡ true
   pub cut : i.class.cut ≡ false
   pub crit : i.class.crit ≡ Cmax
   pub arcs : i.arcs ≡ []
@@ -207,22 +200,10 @@ module _ (i : Instance) (h : IsPlainShop i) (ps : List Piece) (w : IsShopPlan i 
     work = λ j o l op. works j o l (by_has (kind_of i.class.env) i j o h.kind op);
   }
 
--- ---- the greatest end as a cost
-module _ (i : Instance) (h : IsPlainShop i) (t : Schedule) (f : Feasible i t) where
-  end_below : (j : ℕ) → j < length i.jobs → end_of t j ≤ℤ cost_of i t
-  end_below j l = subst (λ x. job_cost x t.unit (job_at i j) (end_of t j) ≤ℤ cost_of i t) h.crit (cost_of-bound i t (ap is_greatest h.crit) j l)
-
-  pub cost_natural : cost_of i t ≡ pos (nat_abs (cost_of i t))
-  cost_natural = natural (cost_of i t) (≤ℤ_trans (last_end-natural t.pieces 0) (end_below 0 (omega (arith, h.some))))
-
-  pub ends_by_cost : All (λ p. finish p ≤ nat_abs (cost_of i t)) t.pieces
-  ends_by_cost k d l =
-      let u = IsTimed-from_span (get_or t.pieces k d) (f.span k d l) in
-      omega (arith, ints, u.to, cost_natural, last_end-bound t.pieces k d l, end_below (get_or t.pieces k d).job (f.place k d l).job)
-
+-- ---- best
 -- no feasible schedule ends before the moment
 abbrev pub IsLeastEnd : Instance → ℕ → Type 0
-IsLeastEnd i end = (t : Schedule) → Feasible i t → (c : ℕ) → All (λ p. finish p ≤ c) t.pieces → nat_abs t.unit * end ≤ c
+IsLeastEnd i end = (t : Schedule) → Feasible i t → (c : ℤ) → pos 0 ≤ℤ c → ((j : ℕ) → j < length i.jobs → end_of t j ≤ℤ c) → (t.unit *ℤ pos end) ≤ℤ c
 
 -- what is said of the answer's schedule
 pub record IsBestPlan (i : Instance) (end : ℕ) (s : Schedule) : Type 0 where
@@ -233,12 +214,7 @@ pub record IsBestPlan (i : Instance) (end : ℕ) (s : Schedule) : Type 0 where
 
 module _ (i : Instance) (h : IsPlainShop i) (end : ℕ) (least : IsLeastEnd i end) where
   bound : (t : Schedule) → Feasible i t → (pos end *ℤ t.unit) ≤ℤ cost_of i t
-  bound t f = by (cost_of i t) t.unit _ _ (cost_natural i h t f) (natural t.unit (omega (arith, ints, f.unit))) (least t f _ (ends_by_cost i h t f))
-    where
-      by : (x u : ℤ) (c n : ℕ) → x ≡ pos c → u ≡ pos n → n * end ≤ c → (pos end *ℤ u) ≤ℤ x
-      by x u c n e g l =
-          let turned : end * n ≤ c = omega arith in
-          subst (λ y. (pos end *ℤ y) ≤ℤ x) (sym g) (subst (λ y. (pos end *ℤ pos n) ≤ℤ y) (sym e) (pos-le turned))
+  bound t f = subst (λ x. x ≤ℤ cost_of i t) (*ℤ_comm t.unit (pos end)) (least t f (cost_of i t) (omega (arith, ints, cost_natural i h.crit t h.some)) (ends_by_cost i h.crit t))
 
   module _ (ps : List Piece) (w : IsShopPlan i ps) (few : length ps ≤ 500000) (ends : All (λ p. finish p ≤ end) ps) (short : end ≤ 10 ^ 25) where
     abbrev made : Schedule
@@ -251,7 +227,7 @@ module _ (i : Instance) (h : IsPlainShop i) (end : ℕ) (least : IsLeastEnd i en
     ended k d l = omega (arith, ints, (w.timed k d l).to, ends k d l)
 
     upper : cost_of i made ≤ℤ pos end
-    upper = cost_of-least i made (pos end) (ap is_greatest h.crit) (omega (arith, h.some)) (λ k l. subst (λ x. job_cost x made.unit (job_at i k) (end_of made k) ≤ℤ pos end) (sym h.crit) (last_end-least ps k (pos end) (omega (arith, ints)) (λ n d m _. ended n d m)))
+    upper = cost_by_ends i h.crit made h.some (pos end) (omega (arith, ints)) ended
 
     cost_is : cost_of i made ≡ pos end
     cost_is = ≤ℤ_antisym upper (subst (λ x. x ≤ℤ cost_of i made) (*ℤ-one (pos end)) (bound made feasible))

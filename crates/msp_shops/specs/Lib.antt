@@ -1,1 +1,3 @@
 pub mod Pass
+pub mod Open
+pub mod OpenOrder

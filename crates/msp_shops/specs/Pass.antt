@@ -60,4 +60,5 @@ pub record IsPass (first second : Stage) (jobs : List JobTimes) (from to : Momen
   pub first_end : to.first ≡ from.first + sum_by (λ j. j.first) jobs
   pub second_end : IsCritical jobs from to.second
   pub later : from.second ≤ to.second
+  pub few : length pieces ≤ 2 * length jobs
   pub small : (to.first ≤ from.first + length jobs * GREATEST) × (to.second ≤ from.first + from.second + 2 * (length jobs * GREATEST))
