@@ -1,0 +1,10 @@
+pub mod Counts
+pub mod Lower
+pub mod Lists
+pub mod Laying
+pub mod Facts
+pub mod Steps
+pub mod Queue
+pub mod Instances
+pub mod Arrivals
+pub mod Best
