@@ -1,7 +1,6 @@
 // The row from equal times to unit times, where no release dates and no due dates tie jobs to moments.
 ghost use Rattle.std.specs.Prelude.{◌≡◌, ℕ, pos, ◌+ℤ◌, ◌-ℤ◌, ◌*ℤ◌, ◌≤ℤ◌, ◌<ℤ◌, length, map, All, AllPairs, IsPermutation};
 ghost use Rattle.std.specs.Int.{int_max};
-ghost use Rattle.std.specs.Ordering.{int_cmp, nat_cmp, ordering_then};
 ghost use Rattle.msp_instance.specs.Instance.{common_time};
 ghost use Rattle.msp_route.specs.Bounds.{EndsBy};
 ghost use Rattle.msp_route.specs.Law.{IsReordered};
@@ -13,10 +12,9 @@ ghost use Rattle.msp_plain.specs.EqualLaws.{lower_54, positive_54, forth_54, bac
 use msp_class::{List, NoMemory};
 use msp_instance::{Instance, Job, Need, common_time};
 use msp_route::{Reduction, led};
-use msp_schedule::{Piece, Schedule, Solution, cost};
+use msp_schedule::{Piece, Schedule, Solution, cost, sort_pieces};
 use msp_table::Row;
 use std::alloc::Global;
-use std::cmp::Ordering;
 
 fn set_times(needs: &mut [Need])
     ensures { needs.new ≡ map unit_need needs.old }
@@ -41,20 +39,6 @@ fn make_all_unit(jobs: &mut [Job])
     for job in jobs.iter_mut() {
         make_unit(job);
     }
-}
-
-/// Whether `a` is swept before `b`.
-fn compare(a: &Piece, b: &Piece) -> Ordering
-    ensures { result ≡ ordering_then (int_cmp a.now.from b.now.from) (nat_cmp a.now.machine b.now.machine) }
-{
-    a.from.cmp(&b.from).then(a.machine.cmp(&b.machine))
-}
-
-fn sort(pieces: &mut Vec<Piece>)
-    ensures permutation { IsPermutation pieces.old.items pieces.new.items }
-    ensures sorted { AllPairs IsReportedFirst pieces.new.items }
-{
-    pieces.sort_unstable_by(|a, b| compare(a, b));
 }
 
 /// A sweep over pieces as they begin: the moment by which those so far end, and how many moments before it are idle.
@@ -137,7 +121,7 @@ fn close_up(s: &mut Schedule, time: u64)
     ensures { IsReordered (closed_up time s.old) s.new }
 {
     let mut pieces = s.pieces.take_all();
-    sort(&mut pieces);
+    sort_pieces(&mut pieces);
     close(&mut pieces, time);
     s.pieces = List::from_vec(pieces);
 }

@@ -159,11 +159,11 @@ cost_of-greatest i s e = ap (λ b. if b then greatest (costs_list i s) else tota
 pub cost_of-sum : (i : Instance) (s : Schedule) → is_greatest i.class.crit ≡ false → cost_of i s ≡ int_total_below (length i.jobs) (charge_of i s)
 cost_of-sum i s e = ap (λ b. if b then greatest (costs_list i s) else total (costs_list i s)) e ∙ total_costs i.class.crit s.unit (end_of s) i
 
-greatest-bound : (xs : List ℤ) → All (λ x. x ≤ℤ greatest xs) xs
+pub greatest-bound : (xs : List ℤ) → All (λ x. x ≤ℤ greatest xs) xs
 greatest-bound [] = All-nil (λ x. x ≤ℤ pos 0)
 greatest-bound (x ∷ xs) = let h = fold-int_max_bounds x xs (fold int_max x xs) refl in All-cons (λ y. y ≤ℤ fold int_max x xs) x xs h.0 h.1
 
-greatest-reached : (xs : List ℤ) → 0 < length xs → Contains xs (greatest xs)
+pub greatest-reached : (xs : List ℤ) → 0 < length xs → Contains xs (greatest xs)
 greatest-reached [] h = absurd (omega arith)
 greatest-reached (x ∷ xs) h = elim (fold-int_max_reached x xs (fold int_max x xs) refl) [ inl e ↦ (0, omega arith, sym e) | inr c ↦ (suc c.0, omega (arith, c.1), c.2) ]
 

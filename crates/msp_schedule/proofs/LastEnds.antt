@@ -11,10 +11,10 @@ use Rattle.msp_schedule.specs.Cost.{last_end}
 use Rattle.msp_schedule.proofs.Moves.{Contains-map}
 use Rattle.msp_schedule.proofs.Frames.{Frame, Fits, HasWork, Lasts, piece_of}
 
-abbrev of_job : List Piece → ℕ → List Piece
+abbrev pub of_job : List Piece → ℕ → List Piece
 of_job ps j = filter (λ p. p.job == j) ps
 
-abbrev ends_of : List Piece → ℕ → List ℤ
+abbrev pub ends_of : List Piece → ℕ → List ℤ
 ends_of ps j = map (λ p. p.to) (of_job ps j)
 
 pub last_end-natural : (ps : List Piece) (j : ℕ) → pos 0 ≤ℤ last_end ps j

@@ -16,6 +16,7 @@ pub mod LastEnds
 pub mod Transport
 pub mod Permuted
 pub mod Shrunk
+pub mod DateOrder
 pub mod SettledSchedules
 pub mod Serves
 pub mod Series
@@ -31,6 +32,8 @@ pub mod Places
 pub mod Loads
 pub mod Groups
 pub mod Makespan
+pub mod Parts
+pub mod LateJobs
 pub mod OverlapFacts
 pub mod Among
 pub mod WholeWork

@@ -5,7 +5,7 @@ use Rattle.std.specs.Ordering.{int_cmp, nat_cmp, ordering_then, is_lt}
 use Rattle.std.specs.declared.cmp.Ordering.{Ordering}
 use Rattle.std.specs.declared.cmp.Ordering.TheVariants.{Less, Equal, Greater}
 use Rattle.std.proofs.lemmas.Bool.Decides.{nat_tests}
-use Rattle.msp_schedule.proofs.SettledSchedules.{less, less-no, less-yes, not_less}
+use Rattle.msp_schedule.proofs.DateOrder.{less, less-no, less-yes, not_less}
 use Rattle.std.proofs.lemmas.Bool.{cases_Bool, cases_lt, eqb-true}
 use Rattle.std.proofs.lemmas.Int.{ints}
 use Rattle.std.proofs.lemmas.List.{get_or_default}

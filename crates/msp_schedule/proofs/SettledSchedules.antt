@@ -1,19 +1,15 @@
 -- Dividing a schedule by its greatest common divisor, and putting its pieces in order.
-use Rattle.std.proofs.Common.{◌≡◌, ◌≢◌, ℕ, slice_set, zero, suc, negsuc, ◌+◌, ◌*◌, ◌/◌, ◌<◌, ◌≤◌, Bool, true, false, cond, List, [], ◌∷◌, ◌++◌, length, get_or, take, map, All, AllPairs, IsPermutation, ◌⊎◌, inl, inr, ℤ, pos, ◌*ℤ◌, ◌≤ℤ◌, ◌<ℤ◌, unsigned_abs, refl, sym, ap, ap₂, subst, ◌∙◌, arith}
-use Rattle.std.specs.Prelude.{int_lt}
+use Rattle.std.proofs.Common.{◌≡◌, ◌≢◌, ℕ, slice_set, zero, suc, negsuc, ◌+◌, ◌*◌, ◌/◌, ◌<◌, ◌≤◌, Bool, List, [], ◌∷◌, ◌++◌, length, get_or, take, map, All, AllPairs, IsPermutation, inl, inr, ℤ, pos, ◌*ℤ◌, ◌≤ℤ◌, ◌<ℤ◌, unsigned_abs, refl, sym, ap, ap₂, subst, ◌∙◌, arith}
 use Rattle.std.specs.Int.{IsGcd}
-use Rattle.std.specs.Ordering.{is_lt, int_cmp, nat_cmp, ordering_then}
-use Rattle.std.specs.declared.cmp.Ordering.TheVariants.{Less, Equal, Greater}
 use Rattle.std.specs.Cmp.{IsStrictWeakOrder}
 use Rattle.std.specs.List.Sorted.{IsSortedBy}
 use Rattle.std.proofs.Math.Nat.{div-mul_cancel, mul-div_cancel', dvd_of_mul-dvd-mul_right, mul-dvd-mul_right, pos_of_dvd_of_pos, one-mul, div-le_self, eq-one_of_dvd-one}
 use Prim.Native.Nat.{◌∣◌}
-use Rattle.std.proofs.lemmas.Bool.Decides.{nat_tests}
 use Rattle.std.proofs.lemmas.Int.{ints}
 use Rattle.std.proofs.lemmas.Nat.Gcd.{dvd_trans, dvd_refl}
 use Rattle.std.proofs.lemmas.List.{length-map, get_or-map, get_or-set_other, take_more, take_more_set, take_all}
 use Rattle.std.proofs.lemmas.List.Elements.{All-head, All-tail, All-nil, All-cons, All-push, All-map}
-use Rattle.std.proofs.lemmas.List.Sorted.{sorted_far, All-permutation, length_permutation, IsPermutation-sym}
+use Rattle.std.proofs.lemmas.List.Sorted.{All-permutation, length_permutation, IsPermutation-sym}
 use Rattle.msp_class.proofs.IntegerRing.{pos-le, *ℤ-zero, *ℤ_assoc, *ℤ_comm, ≤ℤ_trans}
 use Rattle.msp_instance.specs.declared.Instance.{Instance}
 use Rattle.msp_schedule.specs.declared.Piece.{Piece}
@@ -23,6 +19,7 @@ use Rattle.msp_schedule.specs.Divisor.{IsCommonDivisor, part_of, divided}
 use Rattle.msp_schedule.specs.Feasible.{Feasible}
 use Rattle.msp_schedule.specs.Settled.{IsReportedFirst, IsSettled}
 use Rattle.msp_schedule.specs.Within.{IsMoment, Within}
+use Rattle.msp_schedule.proofs.DateOrder.{date_less, date_less-order, date_sorted}
 use Rattle.msp_schedule.proofs.Charges.{SameCharges-from_jobs, cost-same_ends}
 use Rattle.msp_schedule.proofs.Permuted.{Feasible-permutation, last_end-permutation}
 use Rattle.msp_schedule.proofs.Shrunk.{All-from_map, grown, grown_schedule, Feasible-shrunk, cost-grown}
@@ -75,67 +72,14 @@ pub Halfway-all : (xs ys zs : List Piece) (i : ℕ) → length zs ≤ i → leng
 Halfway-all xs ys zs i l m h = sym (take_all i zs l) ∙ h.done ∙ take_all i ys m
 
 -- ---- the order
-abbrev pub less : ℤ → ℤ → ℕ → ℕ → Bool
-less x y a b = is_lt (ordering_then (int_cmp x y) (nat_cmp a b))
-
-pub less-no : (x y : ℤ) (a b : ℕ) → less x y a b ≡ false → (y <ℤ x) ⊎ ((y ≡ x) × (b ≤ a))
-less-no x y a b h = by (int_lt x y) refl (int_lt y x) refl h
-  where
-    by : (s : Bool) → int_lt x y ≡ s → (t : Bool) → int_lt y x ≡ t → is_lt (ordering_then (cond s Less (cond t Greater Equal)) (nat_cmp a b)) ≡ false → (y <ℤ x) ⊎ ((y ≡ x) × (b ≤ a))
-    by true e t f k = absurd (cc)
-    by false e true f k = inl (omega (arith, ints))
-    by false e false f k = inr (omega (arith, ints), machines a b k)
-      where
-        machines : (a b : ℕ) → is_lt (nat_cmp a b) ≡ false → b ≤ a
-        machines a b k = grind (arith, nat_tests)
-
-pub not_less : (x y : ℤ) (a b : ℕ) → (y <ℤ x) ⊎ ((y ≡ x) × (b ≤ a)) → less x y a b ≡ false
-not_less x y a b h = by (int_lt x y) refl (int_lt y x) refl h
-  where
-    by : (s : Bool) → int_lt x y ≡ s → (t : Bool) → int_lt y x ≡ t → (y <ℤ x) ⊎ ((y ≡ x) × (b ≤ a)) → is_lt (ordering_then (cond s Less (cond t Greater Equal)) (nat_cmp a b)) ≡ false
-    by true e t f (inl k) = absurd (omega (arith, ints))
-    by true e t f (inr k) = absurd (never x y e k.0)
-      where
-        never : (x y : ℤ) → int_lt x y ≡ true → y ≡ x → ⊥
-        never x y e k = omega (arith, ints)
-    by false e true f k = refl
-    by false e false f (inl k) = absurd (omega (arith, ints))
-    by false e false f (inr k) = machines a b k.1
-      where
-        machines : (a b : ℕ) → b ≤ a → is_lt (nat_cmp a b) ≡ false
-        machines a b k = grind (arith, nat_tests)
-
-pub less-yes : (x y : ℤ) (a b : ℕ) → less x y a b ≡ true → (x <ℤ y) ⊎ ((x ≡ y) × (a < b))
-less-yes x y a b h = by (int_lt x y) refl (int_lt y x) refl h
-  where
-    by : (s : Bool) → int_lt x y ≡ s → (t : Bool) → int_lt y x ≡ t → is_lt (ordering_then (cond s Less (cond t Greater Equal)) (nat_cmp a b)) ≡ true → (x <ℤ y) ⊎ ((x ≡ y) × (a < b))
-    by true e t f k = inl (omega (arith, ints))
-    by false e true f k = absurd (cc)
-    by false e false f k = inr (omega (arith, ints), machines a b k)
-      where
-        machines : (a b : ℕ) → is_lt (nat_cmp a b) ≡ true → a < b
-        machines a b k = grind (arith, nat_tests)
-
 abbrev pub piece_less : Piece → Piece → Bool
-piece_less p q = less p.from q.from p.machine q.machine
+piece_less = date_less (λ p. p.from) (λ p. p.machine)
 
 pub piece_less-order : IsStrictWeakOrder piece_less
-piece_less-order = record {
-  one_way = λ p q h. not_less q.from p.from q.machine p.machine (elim (less-yes p.from q.from p.machine q.machine h) [ inl a ↦ inl a | inr e ↦ inr (e.0, weak p.machine q.machine e.1) ]);
-  chain = λ p q r h k. not_less p.from r.from p.machine r.machine (joined p.from q.from r.from p.machine q.machine r.machine (less-no p.from q.from p.machine q.machine h) (less-no q.from r.from q.machine r.machine k));
-}
-  where
-    weak : (a b : ℕ) → a < b → a ≤ b
-    weak a b h = omega arith
-
-    joined : (x y z : ℤ) (a b c : ℕ) → (y <ℤ x) ⊎ ((y ≡ x) × (b ≤ a)) → (z <ℤ y) ⊎ ((z ≡ y) × (c ≤ b)) → (z <ℤ x) ⊎ ((z ≡ x) × (c ≤ a))
-    joined x y z a b c (inl h) (inl k) = inl (omega (arith, ints))
-    joined x y z a b c (inl h) (inr k) = inl (subst (λ v. v <ℤ x) (sym k.0) h)
-    joined x y z a b c (inr h) (inl k) = inl (subst (λ v. z <ℤ v) h.0 k)
-    joined x y z a b c (inr h) (inr k) = inr (k.0 ∙ h.0, omega (arith, h.1, k.1))
+piece_less-order = date_less-order (λ p. p.from) (λ p. p.machine)
 
 pub pieces_sorted : (ps : List Piece) → IsSortedBy piece_less ps → AllPairs IsReportedFirst ps
-pieces_sorted ps h i j d l k = less-no (get_or ps j d).from (get_or ps i d).from (get_or ps j d).machine (get_or ps i d).machine (sorted_far piece_less piece_less-order ps h i j d (omega arith) k)
+pieces_sorted = date_sorted (λ p. p.from) (λ p. p.machine)
 
 -- ---- the whole
 part-grown : (g : ℕ) (x : ℤ) → pos 0 ≤ℤ x → g ∣ unsigned_abs x → pos g *ℤ part_of g x ≡ x

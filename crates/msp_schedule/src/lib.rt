@@ -40,7 +40,7 @@ pub use limits::{
     GREATEST_CARRIED_UNIT, GREATEST_COMPARED_DENOMINATOR, GREATEST_COMPARED_NUMERATOR,
     GREATEST_MOMENT, GREATEST_UNIT, MOST_PIECES,
 };
-pub use settling::settle;
+pub use settling::{settle, sort_pieces};
 pub use sweep::swept;
 pub use total_cost::cost;
 

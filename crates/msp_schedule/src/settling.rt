@@ -77,7 +77,8 @@ fn compare(a: &Piece, b: &Piece) -> Ordering
     a.from.cmp(&b.from).then(a.machine.cmp(&b.machine))
 }
 
-fn sort(pieces: &mut Vec<Piece>)
+/// Puts pieces in the order of a report: as they begin, ties by the lesser machine.
+pub fn sort_pieces(pieces: &mut Vec<Piece>)
     ensures permutation { IsPermutation pieces.old.items pieces.new.items }
     ensures sorted { AllPairs IsReportedFirst pieces.new.items }
 {
@@ -96,7 +97,7 @@ pub fn settle(s: &mut Schedule)
     let divisor = common_divisor(s);
     let mut pieces = s.pieces.take_all();
     divide_all(&mut pieces, divisor);
-    sort(&mut pieces);
+    sort_pieces(&mut pieces);
     s.unit = part(s.unit, divisor);
     s.pieces = List::from_vec(pieces);
 }

@@ -13,7 +13,5 @@ pub mod Placing
 pub mod MooreFacts
 pub mod MooreChoice
 pub mod MooreSteps
-pub mod DateOrder
 pub mod MooreOrder
-pub mod LateJobs
 pub mod MooreBest

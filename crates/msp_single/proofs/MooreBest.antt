@@ -26,8 +26,9 @@ use Rattle.msp_single.specs.Moore.{moore_class, IsDueBefore, IsMooreOrder}
 use Rattle.msp_single.proofs.Facts.{takes_time, is_short}
 use Rattle.msp_single.proofs.RowAnswer.{timed, released, row_is_answer}
 use Rattle.msp_single.proofs.MooreFacts.{IsMooreInstance, IsMooreInstance-from_class}
-use Rattle.msp_single.proofs.MooreChoice.{All-front, choice-permutation, choice-on_time, choice-most}
-use Rattle.msp_single.proofs.LateJobs.{due_at, is_late, late_jobs, late_cost, not_late, late_and_on_time, ends_on_time, on_time_in_a_row}
+use Rattle.msp_single.proofs.MooreChoice.{choice-permutation, choice-on_time, choice-most}
+use Rattle.msp_schedule.proofs.Parts.{All-front}
+use Rattle.msp_schedule.proofs.LateJobs.{due_at, is_late, late_jobs, late_cost, not_late, late_and_on_time, ends_on_time, on_time_in_a_row}
 
 pub all_in_order : (i : Instance) (order : List ℕ) → IsMooreOrder i order → IsPermutation (range_with_len 0 (length i.jobs)) order
 all_in_order i order o =

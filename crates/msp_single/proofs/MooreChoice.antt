@@ -14,30 +14,9 @@ use Rattle.std.proofs.lemmas.List.Sums.{sum_by-cons, sum_by-append, sum_by-remov
 use Rattle.std.proofs.lemmas.List.Sorted.{IsPermutation-refl, IsPermutation-sym, IsPermutation-trans, IsPermutation-cons, IsPermutation-middle, IsPermutation-to_front, IsPermutation-append_left, IsPermutation-remove, All-permutation}
 use Rattle.msp_class.proofs.IntegerRing.{≤ℤ_trans, pos-le}
 use Rattle.msp_class.proofs.Sums.{AllPairs-head, AllPairs-tail}
+use Rattle.msp_schedule.proofs.LateJobs.{OnTime}
+use Rattle.msp_schedule.proofs.Parts.{All-front, All-back, AllPairs-front}
 use Rattle.msp_single.specs.Moore.{IsLongest, IsChoice, none, kept, overrun}
-
--- ---- lists
-pub All-front : {X : Type 0} (P : X → Type 0) (xs ys : List X) → All P (xs ++ ys) → All P xs
-All-front P [] ys h = All-nil P
-All-front P (x ∷ xs) ys h = All-cons P x xs (All-head P x (xs ++ ys) h) (All-front P xs ys (All-tail P x (xs ++ ys) h))
-
-pub All-back : {X : Type 0} (P : X → Type 0) (xs ys : List X) → All P (xs ++ ys) → All P ys
-All-back P [] ys h = h
-All-back P (x ∷ xs) ys h = All-back P xs ys (All-tail P x (xs ++ ys) h)
-
-pub AllPairs-front : {X : Type 0} (R : X → X → Type 0) (xs ys : List X) → AllPairs R (xs ++ ys) → AllPairs R xs
-AllPairs-front R [] ys h = λ i j d a b. absurd (omega (arith, b))
-AllPairs-front R (x ∷ xs) ys h = AllPairs-cons R x xs (All-front (R x) xs ys (AllPairs-head R x (xs ++ ys) h)) (AllPairs-front R xs ys (AllPairs-tail R x (xs ++ ys) h))
-
--- each is related to the last one
-pub AllPairs-last : {X : Type 0} (R : X → X → Type 0) (xs : List X) (x : X) → AllPairs R (xs ++ x ∷ []) → All (λ y. R y x) xs
-AllPairs-last R [] x h = All-nil (λ y. R y x)
-AllPairs-last R (y ∷ ys) x h = All-cons (λ z. R z x) y ys (All-head (R y) x [] (All-back (R y) ys (x ∷ []) (AllPairs-head R y (ys ++ x ∷ []) h))) (AllPairs-last R ys x (AllPairs-tail R y (ys ++ x ∷ []) h))
-
--- ---- a row from a moment on in which each element ends by its due date
-abbrev pub OnTime : {X : Type 0} → (X → ℕ) → (X → ℤ) → ℕ → List X → Type 0
-OnTime time due t [] = ⊤
-OnTime time due t (x ∷ xs) = (pos (t + time x) ≤ℤ due x) × OnTime time due (t + time x) xs
 
 -- the room that the elements leave below a length
 abbrev pub slack : {X : Type 0} → (X → ℕ) → ℕ → List X → ℕ

@@ -12,7 +12,8 @@ use Rattle.msp_schedule.proofs.OneRow.{time_at}
 use Rattle.msp_schedule.proofs.Shrunk.{All-from_map}
 use Rattle.msp_single.specs.declared.moore.Task.{Task}
 use Rattle.msp_single.specs.Moore.{IsLongest, IsChoice, none, kept, overrun, IsDueBefore, IsMooreOrder}
-use Rattle.msp_single.proofs.MooreChoice.{All-front, All-back, accepted_of, keeps, drops, choice-permutation}
+use Rattle.msp_schedule.proofs.Parts.{All-front, All-back}
+use Rattle.msp_single.proofs.MooreChoice.{accepted_of, keeps, drops, choice-permutation}
 use Rattle.msp_single.proofs.MooreSteps.{IsTaskOf, Chooses}
 
 remove-map : {X Y : Type 0} (f : X → Y) (xs : List X) (k : ℕ) → map f (remove xs k) ≡ remove (map f xs) k

@@ -9,7 +9,7 @@ use Rattle.msp_plain.proofs.equal.close_up.Goals as goal
 use Rattle.msp_plain.proofs.equal.close_up.Goals.{After-deref_mut}
 
 ordered : (c : After-deref_mut) → IsPermutation c.args.s.now.pieces c.deref_mut.result.now
-ordered c = put_in_order _ _ _ _ c.take_all-pieces.ensures.all c.sort.ensures.permutation c.deref_mut.ensures.value
+ordered c = put_in_order _ _ _ _ c.take_all-pieces.ensures.all c.sort_pieces.ensures.permutation c.deref_mut.ensures.value
 
 pub close-requires-clause-span : goal.close-requires-clause-span
 close-requires-clause-span c = All-permutation (λ p. (pos 0 ≤ℤ p.from) × (p.from <ℤ p.to)) c.args.s.now.pieces c.deref_mut.result.now (ordered c) c.requires.span
@@ -21,5 +21,5 @@ pub returns : goal.returns
 returns c = record {
   unit = refl;
   pieces = subst (IsPermutation (closed c.args.time c.args.s.now.pieces)) (grind (arith, common_steps))
-      (closed-permutation c.args.time c.args.s.now.pieces c.deref_mut.result.now (put_in_order _ _ _ _ c.take_all-pieces.ensures.all c.sort.ensures.permutation c.deref_mut.ensures.value));
+      (closed-permutation c.args.time c.args.s.now.pieces c.deref_mut.result.now (put_in_order _ _ _ _ c.take_all-pieces.ensures.all c.sort_pieces.ensures.permutation c.deref_mut.ensures.value));
 }

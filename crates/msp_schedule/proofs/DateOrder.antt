@@ -9,7 +9,7 @@ use Rattle.std.proofs.lemmas.Bool.Decides.{nat_tests}
 use Rattle.std.proofs.lemmas.Int.{ints}
 use Rattle.std.proofs.lemmas.List.Sorted.{sorted_far}
 
-abbrev less : ℤ → ℤ → ℕ → ℕ → Bool
+abbrev pub less : ℤ → ℤ → ℕ → ℕ → Bool
 less x y a b = is_lt (ordering_then (int_cmp x y) (nat_cmp a b))
 
 number-no : (a b : ℕ) → is_lt (nat_cmp a b) ≡ false → b ≤ a
@@ -21,7 +21,7 @@ number-yes a b k = grind (arith, nat_tests)
 not_number : (a b : ℕ) → b ≤ a → is_lt (nat_cmp a b) ≡ false
 not_number a b k = grind (arith, nat_tests)
 
-less-no : (x y : ℤ) (a b : ℕ) → less x y a b ≡ false → (y <ℤ x) ⊎ ((y ≡ x) × (b ≤ a))
+pub less-no : (x y : ℤ) (a b : ℕ) → less x y a b ≡ false → (y <ℤ x) ⊎ ((y ≡ x) × (b ≤ a))
 less-no x y a b h = by (int_lt x y) refl (int_lt y x) refl h
   where
     by : (s : Bool) → int_lt x y ≡ s → (t : Bool) → int_lt y x ≡ t → is_lt (ordering_then (cond s Less (cond t Greater Equal)) (nat_cmp a b)) ≡ false → (y <ℤ x) ⊎ ((y ≡ x) × (b ≤ a))
@@ -29,7 +29,7 @@ less-no x y a b h = by (int_lt x y) refl (int_lt y x) refl h
     by false e true f k = inl (omega (arith, ints))
     by false e false f k = inr (omega (arith, ints), number-no a b k)
 
-not_less : (x y : ℤ) (a b : ℕ) → (y <ℤ x) ⊎ ((y ≡ x) × (b ≤ a)) → less x y a b ≡ false
+pub not_less : (x y : ℤ) (a b : ℕ) → (y <ℤ x) ⊎ ((y ≡ x) × (b ≤ a)) → less x y a b ≡ false
 not_less x y a b h = by (int_lt x y) refl (int_lt y x) refl h
   where
     by : (s : Bool) → int_lt x y ≡ s → (t : Bool) → int_lt y x ≡ t → (y <ℤ x) ⊎ ((y ≡ x) × (b ≤ a)) → is_lt (ordering_then (cond s Less (cond t Greater Equal)) (nat_cmp a b)) ≡ false
@@ -42,7 +42,7 @@ not_less x y a b h = by (int_lt x y) refl (int_lt y x) refl h
     by false e false f (inl k) = absurd (omega (arith, ints))
     by false e false f (inr k) = not_number a b k.1
 
-less-yes : (x y : ℤ) (a b : ℕ) → less x y a b ≡ true → (x <ℤ y) ⊎ ((x ≡ y) × (a < b))
+pub less-yes : (x y : ℤ) (a b : ℕ) → less x y a b ≡ true → (x <ℤ y) ⊎ ((x ≡ y) × (a < b))
 less-yes x y a b h = by (int_lt x y) refl (int_lt y x) refl h
   where
     by : (s : Bool) → int_lt x y ≡ s → (t : Bool) → int_lt y x ≡ t → is_lt (ordering_then (cond s Less (cond t Greater Equal)) (nat_cmp a b)) ≡ true → (x <ℤ y) ⊎ ((x ≡ y) × (a < b))

@@ -1,6 +1,6 @@
--- The number of late jobs as a cost, and the jobs that are on time in a feasible schedule on one machine.
+-- The number of late jobs as a cost, rows in which no job is late, and the jobs that are on time in a feasible schedule on one machine.
 use Rattle.std.proofs.Common.{◌≡◌, ◌≢◌, ℕ, ◌+◌, ◌*◌, ◌<◌, ◌≤◌, Bool, true, false, cond, not, List, [], ◌∷◌, ◌++◌, length, get_or, filter, ℤ, pos, ◌-ℤ◌, ◌*ℤ◌, ◌≤ℤ◌, All, AllPairs, sum_by, if◌then◌else◌, refl, sym, ap, subst, ◌∙◌, arith}
-use Rattle.std.specs.Prelude.{int_lt}
+use Rattle.std.specs.Prelude.{int_lt, ⊤}
 use Rattle.std.proofs.lemmas.Int.{ints}
 use Rattle.std.proofs.lemmas.Bool.{eq-eqb, ne_eqb}
 use Rattle.std.proofs.lemmas.List.{append_assoc}
@@ -24,7 +24,7 @@ use Rattle.msp_schedule.proofs.OneMachine.{IsOneMachine}
 use Rattle.msp_schedule.proofs.OneRow.{time_at}
 use Rattle.msp_schedule.proofs.Rows.{end_in}
 use Rattle.msp_schedule.proofs.EndsAndFloors.{law_of_ends}
-use Rattle.msp_single.proofs.MooreChoice.{OnTime, All-front, All-back, AllPairs-front, AllPairs-last}
+use Rattle.msp_schedule.proofs.Parts.{All-front, All-back, AllPairs-front, AllPairs-last}
 
 abbrev pub due_at : Instance → ℕ → ℤ
 due_at i j = (job_at i j).due
@@ -64,7 +64,11 @@ in_time a b h = by (int_lt a b) refl h
 pub late_and_on_time : (f : ℕ → Bool) (xs : List ℕ) → sum_by (λ j. cond (f j) 1 0) xs + length (filter (λ j. not (f j)) xs) ≡ length xs
 late_and_on_time f xs = omega (arith, length-filter f xs, length-filter_both f (λ j. not (f j)) (λ j. refl) xs)
 
--- ---- rows
+-- ---- a row from a moment on in which each element ends by its due date
+abbrev pub OnTime : {X : Type 0} → (X → ℕ) → (X → ℤ) → ℕ → List X → Type 0
+OnTime time due t [] = ⊤
+OnTime time due t (x ∷ xs) = (pos (t + time x) ≤ℤ due x) × OnTime time due (t + time x) xs
+
 -- it is enough to look at each element after those before it
 pub OnTime-from_parts : (p : ℕ → ℕ) (due : ℕ → ℤ) (t : ℕ) (zs : List ℕ) → ((xs : List ℕ) (x : ℕ) (ys : List ℕ) → zs ≡ xs ++ x ∷ ys → pos (t + sum_by p xs + p x) ≤ℤ due x) → OnTime p due t zs
 OnTime-from_parts p due t [] h = tt
