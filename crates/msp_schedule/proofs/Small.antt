@@ -18,7 +18,7 @@ use Rattle.msp_instance.specs.Instance.{no_curve, no_job, no_need, job_at, need_
 use Rattle.msp_schedule.specs.Works.{AreSmallTimes}
 use Rattle.msp_instance.specs.Conditions.{LiesWithin, Limits, HasRelease, greatest_time, HasDue, HasWeight, IsCurve, HasCurve, IsJobOf, MeetsConditions, Inner, InClass, inner_limits, text_limits}
 use Rattle.msp_schedule.specs.declared.Schedule.{Schedule}
-use Rattle.msp_schedule.specs.Within.{HasSmallCost, Within}
+use Rattle.msp_schedule.specs.Within.{HasSmallCost, Within, greatest_scaled}
 
 -- a product of a number up to u and one within D
 pub product_within : (n : ℕ) (x : ℤ) (u D k : ℕ) → n ≤ u → LiesWithin D x → u * D ≤ k → LiesWithin k (pos n *ℤ x)
@@ -116,10 +116,10 @@ release_small l true r le h = (omega (arith, ints), omega (arith, ints, h, le))
 release_small l false r le h = (omega (arith, ints), omega (arith, ints, h))
 
 -- release dates, and times, over the unit
-pub small_releases : (i : Instance) (s : Schedule) → Inner i → Within i s → (j : ℕ) → j < length i.jobs → LiesWithin (2 * 10 ^ 22) (s.unit *ℤ pos (job_at i j).release)
+pub small_releases : (i : Instance) (s : Schedule) → Inner i → Within i s → (j : ℕ) → j < length i.jobs → LiesWithin greatest_scaled (s.unit *ℤ pos (job_at i j).release)
 small_releases i s h w j l =
     let (n, unit_is, has) = small_unit i s h w in
-    subst (λ x. LiesWithin (2 * 10 ^ 22) (x *ℤ pos (job_at i j).release)) (sym unit_is)
+    subst (λ x. LiesWithin greatest_scaled (x *ℤ pos (job_at i j).release)) (sym unit_is)
     (product_within n (pos (job_at i j).release) has.most has.limits.greatest_date _ has.unit (release_small has.limits i.class.heads (job_at i j).release has.together.releases (has.conditions.jobs j no_job l).release) has.together.dates)
 
 time_small : (l : Limits) (t : Times) (x : ℕ) → 10 ^ 6 ≤ l.greatest_time → x ≤ greatest_time l t → LiesWithin l.greatest_time (pos x)
@@ -131,5 +131,5 @@ pub small_times : (i : Instance) (s : Schedule) → Inner i → Within i s → A
 small_times i s h w j o l inside =
     let (n, unit_is, has) = small_unit i s h w in
     let times = (has.conditions.jobs j no_job l).needs.times o no_need inside in
-    subst (λ x. LiesWithin (2 * 10 ^ 22) (x *ℤ pos (need_at i j o).time)) (sym unit_is)
+    subst (λ x. LiesWithin greatest_scaled (x *ℤ pos (need_at i j o).time)) (sym unit_is)
     (product_within n (pos (need_at i j o).time) has.most has.limits.greatest_time _ has.unit (time_small has.limits i.class.times (need_at i j o).time has.together.equal times.1) has.together.times)

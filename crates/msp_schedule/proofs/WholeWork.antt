@@ -1,5 +1,5 @@
 -- A piece that is its whole operation, by one form for all kinds of machines.
-use Rattle.std.proofs.Common.{◌≡◌, ◌≢◌, ℕ, ◌+◌, inl, inr, ◌*◌, ◌^◌, ◌<◌, ◌≤◌, Bool, true, false, List, [], ◌∷◌, ℤ, pos, ◌*ℤ◌, length, get_or, map, All, MatchBool, refl, sym, ap, ap₂, subst, subst₂, ◌∙◌, arith}
+use Rattle.std.proofs.Common.{◌≡◌, ◌≢◌, ℕ, ◌+◌, inl, inr, ◌<◌, ◌≤◌, Bool, true, false, List, [], ◌∷◌, ℤ, pos, ◌*ℤ◌, length, get_or, map, All, MatchBool, refl, sym, ap, ap₂, subst, subst₂, ◌∙◌, arith}
 use Rattle.std.proofs.lemmas.List.Elements.{All-head, All-filter}
 use Rattle.std.proofs.lemmas.Bool.{cases_lt}
 use Rattle.std.specs.Prelude.{IsTrue, ◌↔◌, ◌==◌, ◌&&◌}
@@ -14,6 +14,7 @@ use Rattle.msp_schedule.specs.declared.Piece.{Piece}
 use Rattle.msp_schedule.specs.Feasible.{HasPlace, HasOperation, MayRun, IsWholeWork, total, work_of, whole_work}
 use Rattle.msp_schedule.specs.Breaks.{pieces_among, IsLeast, IsLeastOperation}
 use Rattle.msp_schedule.specs.Works.{AreSmallTimes, GetsWorkAmong, LacksWorkAmong, IsWorked, need_of, measured_by}
+use Rattle.msp_schedule.specs.Within.{greatest_scaled}
 
 inside_by : (k : EnvKind) (e : Env) (i : Instance) (p : Piece) → HasShape k e i.machines (job_at i p.job).needs → HasOperation k i p.job p.op → MayRun k i p.job p.op p.machine → need_of k p < length (job_at i p.job).needs
 inside_by Identical e i p shape op may = omega (arith, shape.0, op)
@@ -49,9 +50,9 @@ is_whole i = whole_by (kind_of i.class.env) i
 pub whole_is : (i : Instance) (unit : ℤ) (p : Piece) → measured_by (kind_of i.class.env) i p ≡ unit *ℤ pos (need_at i p.job (need_of (kind_of i.class.env) p)).time → IsWholeWork (kind_of i.class.env) i unit p
 whole_is i = by_whole (kind_of i.class.env) i
 
-pub small_time : (i : Instance) (unit u : ℤ) (j o at t : ℕ) → u ≡ unit → at ≡ o → t ≡ (need_at i j at).time → AreSmallTimes i unit → j < length i.jobs → o < length (job_at i j).needs → LiesWithin (2 * 10 ^ 22) (u *ℤ pos t)
+pub small_time : (i : Instance) (unit u : ℤ) (j o at t : ℕ) → u ≡ unit → at ≡ o → t ≡ (need_at i j at).time → AreSmallTimes i unit → j < length i.jobs → o < length (job_at i j).needs → LiesWithin greatest_scaled (u *ℤ pos t)
 small_time i unit u j o at t eu ea et h inside need =
-    subst₂ (λ x y. LiesWithin (2 * 10 ^ 22) (x *ℤ pos y)) (sym eu) (sym (et ∙ ap (λ k. (need_at i j k).time) ea)) (h j o inside need)
+    subst₂ (λ x y. LiesWithin greatest_scaled (x *ℤ pos y)) (sym eu) (sym (et ∙ ap (λ k. (need_at i j k).time) ea)) (h j o inside need)
 
 pub whole_if : (i : Instance) (unit : ℤ) (p : Piece) (m : ℤ) (at t : ℕ) (takes : Bool) → m ≡ measured_by (kind_of i.class.env) i p → at ≡ need_of (kind_of i.class.env) p → t ≡ (need_at i p.job at).time →
     IsTrue takes ↔ (m ≡ unit *ℤ pos t) → IsTrue takes ↔ IsWholeWork (kind_of i.class.env) i unit p

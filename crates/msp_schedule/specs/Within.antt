@@ -24,15 +24,31 @@ pub record Within (i : Instance) (s : Schedule) : Type 0 where
   pub moments : All (λ p. IsMoment p.from × IsMoment p.to) s.pieces
   pub scaled : kind_of i.class.env ≡ Unrelated → InClass i ⊎ (s.unit ≤ℤ GREATEST_CARRIED_UNIT)
 
+-- The most, in size, of a date, a time or a threshold over the unit.
+abbrev pub greatest_scaled : ℕ
+greatest_scaled = 2 * 10 ^ 22
+
+-- The most, in size, of a curve without its slope over the unit: its base and adds of steps.
+abbrev pub greatest_level : ℕ
+greatest_level = 4 * 10 ^ 23
+
+-- The most, in size, that a moment lies after a due date.
+abbrev pub greatest_lateness : ℕ
+greatest_lateness = 20002 * 10 ^ 22
+
 -- The numbers of a job over the unit are so small that its cost fits a signed number of 128 bits, and 400 such costs together.
 pub record HasSmallCost (unit : ℤ) (j : Job) : Type 0 where
-  pub due : LiesWithin (2 * 10 ^ 22) (unit *ℤ j.due)
-  pub base : (adds : ℕ) → adds ≤ sum_by (λ s. s.add) j.curve.steps → LiesWithin (4 * 10 ^ 23) (unit *ℤ (j.curve.base +ℤ pos adds))
+  pub due : LiesWithin greatest_scaled (unit *ℤ j.due)
+  pub base : (adds : ℕ) → adds ≤ sum_by (λ s. s.add) j.curve.steps → LiesWithin greatest_level (unit *ℤ (j.curve.base +ℤ pos adds))
   pub few : length j.curve.steps ≤ MOST_STEPS
-  pub steps : All (λ s. LiesWithin (2 * 10 ^ 22) (unit *ℤ pos s.above)) j.curve.steps
+  pub steps : All (λ s. LiesWithin greatest_scaled (unit *ℤ pos s.above)) j.curve.steps
   pub slope : j.curve.slope ≤ GREATEST
   pub weight : j.weight ≤ GREATEST
 
 -- The most that a job costs, in size.
 abbrev pub greatest_cost : ℕ
 greatest_cost = 21 * 10 ^ 34
+
+-- The most that all jobs cost together, in size.
+abbrev pub greatest_total : ℕ
+greatest_total = 84 * 10 ^ 36

@@ -10,6 +10,7 @@ use Rattle.msp_schedule.specs.declared.Piece.{Piece}
 use Rattle.msp_schedule.specs.Piece.{length_of}
 use Rattle.msp_schedule.specs.Feasible.{HasOperation, total, work_of, whole_work, IsWholeWork}
 use Rattle.msp_schedule.specs.Breaks.{pieces_among}
+use Rattle.msp_schedule.specs.Within.{greatest_scaled}
 
 -- The number of the need that says how long the piece's operation takes: on unrelated machines that of its machine.
 abbrev pub need_of : EnvKind → Piece → ℕ
@@ -29,9 +30,16 @@ measured_by OpenShop i p = length_of p
 measured_by FlowShop i p = length_of p
 measured_by JobShop i p = length_of p
 
+-- The most, in size, of the length of a piece, and of its work.
+abbrev pub greatest_length : ℕ
+greatest_length = 2 * 10 ^ 26
+
+abbrev pub greatest_work : ℕ
+greatest_work = 2 * 10 ^ 32
+
 -- The times over the unit fit a signed number of 128 bits.
 abbrev pub AreSmallTimes : Instance → ℤ → Type 0
-AreSmallTimes i unit = (j o : ℕ) → j < length i.jobs → o < length (job_at i j).needs → LiesWithin (2 * 10 ^ 22) (unit *ℤ pos (need_at i j o).time)
+AreSmallTimes i unit = (j o : ℕ) → j < length i.jobs → o < length (job_at i j).needs → LiesWithin greatest_scaled (unit *ℤ pos (need_at i j o).time)
 
 -- The operation gets its work from these pieces.
 abbrev pub GetsWorkAmong : Instance → ℤ → List Piece → ℕ → ℕ → Type 0

@@ -8,7 +8,7 @@ ghost use Rattle.msp_instance.specs.Instance.{job_at, no_need};
 ghost use Rattle.msp_schedule.specs.Feasible.{Feasible, HasOperation, HasPlace, MayRun};
 ghost use Rattle.msp_class.specs.declared.environments.EnvKind.TheVariants.{Unrelated};
 ghost use Rattle.msp_instance.specs.Conditions.{LiesWithin, Inner};
-ghost use Rattle.msp_schedule.specs.Within.{IsMoment, Within};
+ghost use Rattle.msp_schedule.specs.Within.{IsMoment, Within, greatest_scaled};
 ghost use Rattle.msp_schedule.specs.Begins.{IsEarlierEnd};
 ghost use Rattle.msp_schedule.specs.Breaks.{piece_at, IsLeast, IsEmpty, IsEarly, no_arc, KeepsArc, KeepsRoute, IsDecision, IsFirstBreak};
 
@@ -128,7 +128,7 @@ fn release_of(inst: &Instance, job: u32) -> u64
 
 fn is_early(inst: &Instance, unit: i128, piece: &Piece) -> bool
     requires job { piece.now.job < length inst.now.jobs }
-    requires small { LiesWithin (2 * 10 ^ 22) (unit *ℤ pos (job_at inst.now piece.now.job).release) }
+    requires small { LiesWithin greatest_scaled (unit *ℤ pos (job_at inst.now piece.now.job).release) }
     ensures { IsTrue result ↔ IsEarly inst.now unit piece.now }
 {
     piece.from < product(unit, i128::from(release_of(inst, piece.job)))
@@ -137,7 +137,7 @@ fn is_early(inst: &Instance, unit: i128, piece: &Piece) -> bool
 pub(crate) fn first_early(inst: &Instance, unit: i128, pieces: &[Piece]) -> Option<u32>
     requires few { length pieces.now ≤ MOST_PIECES }
     requires jobs { All (λ p. p.job < length inst.now.jobs) pieces.now }
-    requires small { (j : ℕ) → j < length inst.now.jobs → LiesWithin (2 * 10 ^ 22) (unit *ℤ pos (job_at inst.now j).release) }
+    requires small { (j : ℕ) → j < length inst.now.jobs → LiesWithin greatest_scaled (unit *ℤ pos (job_at inst.now j).release) }
     ensures none { IsNone result → All (λ p. (unit *ℤ pos (job_at inst.now p.job).release) ≤ℤ p.from) pieces.now }
     ensures some { IfSome result (λ k. IsLeast (length pieces.now) (λ l. IsEarly inst.now unit (piece_at pieces.now l)) k) }
 {

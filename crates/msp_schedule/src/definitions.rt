@@ -2,7 +2,8 @@
 ghost use Rattle.std.specs.Prelude.{◌≡◌, pos};
 ghost use Rattle.msp_schedule.specs.Cost.{cost_of};
 ghost use Rattle.msp_schedule.specs.Feasible.{Feasible};
-ghost use Rattle.msp_schedule.specs.Examples.{Costs, weighted, by_ratio, no_span, no_place, at_once, half_done, parallel, on_both, released, too_early, ordered, backward, flow, second_first};
+ghost use Rattle.msp_schedule.specs.Loads.{machine_load, job_length};
+ghost use Rattle.msp_schedule.specs.Examples.{Costs, weighted, by_ratio, no_span, no_place, at_once, half_done, parallel, on_both, released, too_early, ordered, backward, flow, second_first, back_again};
 
 fn a_schedule_by_ratio_is_feasible()
     ensures feasible { Feasible weighted by_ratio }
@@ -24,9 +25,15 @@ fn each_broken_condition_is_refused()
     ensures work { ¬ Feasible weighted half_done }
 {}
 
+fn loads_and_lengths_add_up_times()
+    ensures loads { (machine_load back_again 0 ≡ 6) × (machine_load back_again 1 ≡ 8) }
+    ensures lengths { (job_length back_again 0 ≡ 9) × (job_length back_again 1 ≡ 5) }
+{}
+
 #[test]
 fn the_definitions_hold_where_they_should() {
     a_schedule_by_ratio_is_feasible();
     each_criterion_has_its_cost();
     each_broken_condition_is_refused();
+    loads_and_lengths_add_up_times();
 }

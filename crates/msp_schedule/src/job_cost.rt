@@ -1,9 +1,10 @@
 // The cost of one job.
 ghost use Rattle.std.specs.Prelude.{◌≡◌, ℕ, ◌+◌, ◌*◌, ◌<◌, ◌≤◌, ◌^◌, ℤ, pos, neg_ℤ, ◌+ℤ◌, ◌-ℤ◌, ◌*ℤ◌, ◌≤ℤ◌, ◌<ℤ◌, unsigned_abs, sum_by, length, All, int_lt, if◌then◌else◌};
 ghost use Rattle.std.specs.Int.{int_max};
+ghost use Rattle.msp_instance.specs.declared.ranges.TheConstants.{GREATEST};
 ghost use Rattle.msp_instance.specs.Conditions.{LiesWithin};
 ghost use Rattle.msp_schedule.specs.Cost.{jump, jumps, lateness, tardiness, late, job_cost};
-ghost use Rattle.msp_schedule.specs.Within.{IsMoment, IsUnit, HasSmallCost, greatest_cost};
+ghost use Rattle.msp_schedule.specs.Within.{IsMoment, IsUnit, HasSmallCost, greatest_cost, greatest_scaled, greatest_lateness, greatest_level};
 
 use msp_class::Crit;
 use msp_instance::{Curve, Job, Step};
@@ -18,16 +19,16 @@ pub(crate) fn product(a: i128, b: i128) -> i128
 /// How far the moment is after the due date.
 fn lateness_at(unit: i128, due: i64, end: i128) -> i128
     requires moment { IsMoment end }
-    requires small { LiesWithin (2 * 10 ^ 22) (unit *ℤ due) }
+    requires small { LiesWithin greatest_scaled (unit *ℤ due) }
     ensures value { result ≡ end -ℤ (unit *ℤ due) }
-    ensures size { LiesWithin (20002 * 10 ^ 22) result }
+    ensures size { LiesWithin greatest_lateness result }
 {
     end - product(unit, i128::from(due))
 }
 
 fn weighted(weight: u64, x: i128) -> i128
-    requires weight { weight ≤ 10 ^ 9 }
-    requires small { LiesWithin (20002 * 10 ^ 22) x }
+    requires weight { weight ≤ GREATEST }
+    requires small { LiesWithin greatest_lateness x }
     ensures value { result ≡ pos weight *ℤ x }
     ensures size { LiesWithin greatest_cost result }
 {
@@ -36,7 +37,7 @@ fn weighted(weight: u64, x: i128) -> i128
 
 /// What a step adds at the moment.
 fn jump_at(unit: i128, step: Step, end: i128) -> u64
-    requires { LiesWithin (2 * 10 ^ 22) (unit *ℤ pos step.above) }
+    requires { LiesWithin greatest_scaled (unit *ℤ pos step.above) }
     ensures { result ≡ jump unit step end }
 {
     if product(unit, i128::from(step.above)) < end {
@@ -49,7 +50,7 @@ fn jump_at(unit: i128, step: Step, end: i128) -> u64
 /// What a curve adds in steps whose threshold is before the moment.
 fn jumps_at(unit: i128, curve: &Curve, end: i128) -> u128
     requires few { length curve.now.steps ≤ 16 }
-    requires small { All (λ s. LiesWithin (2 * 10 ^ 22) (unit *ℤ pos s.above)) curve.now.steps }
+    requires small { All (λ s. LiesWithin greatest_scaled (unit *ℤ pos s.above)) curve.now.steps }
     ensures value { result ≡ jumps unit curve.now end }
     ensures size { result ≤ 2 ^ 68 }
 {
@@ -62,9 +63,9 @@ fn jumps_at(unit: i128, curve: &Curve, end: i128) -> u128
 
 fn tardiness_at(unit: i128, due: i64, end: i128) -> i128
     requires moment { IsMoment end }
-    requires small { LiesWithin (2 * 10 ^ 22) (unit *ℤ due) }
+    requires small { LiesWithin greatest_scaled (unit *ℤ due) }
     ensures value { result ≡ int_max (pos 0) (end -ℤ (unit *ℤ due)) }
-    ensures size { LiesWithin (20002 * 10 ^ 22) result }
+    ensures size { LiesWithin greatest_lateness result }
 {
     let late = lateness_at(unit, due, end);
     if late < 0 { 0 } else { late }
@@ -74,9 +75,9 @@ fn tardiness_at(unit: i128, due: i64, end: i128) -> i128
 fn late_at(unit: i128, due: i64, end: i128) -> i128
     requires unit { IsUnit unit }
     requires moment { IsMoment end }
-    requires small { LiesWithin (2 * 10 ^ 22) (unit *ℤ due) }
+    requires small { LiesWithin greatest_scaled (unit *ℤ due) }
     ensures value { result ≡ (if int_lt (unit *ℤ due) end then unit else pos 0) }
-    ensures size { LiesWithin (20002 * 10 ^ 22) result }
+    ensures size { LiesWithin greatest_lateness result }
 {
     if product(unit, i128::from(due)) < end {
         unit
@@ -88,15 +89,15 @@ fn late_at(unit: i128, due: i64, end: i128) -> i128
 /// `unit * (base + adds)`.
 fn level_at(unit: i128, base: i64, adds: u128) -> i128
     requires small { adds ≤ 2 ^ 68 }
-    requires level { LiesWithin (4 * 10 ^ 23) (unit *ℤ (base +ℤ pos adds)) }
+    requires level { LiesWithin greatest_level (unit *ℤ (base +ℤ pos adds)) }
     ensures value { result ≡ unit *ℤ (base +ℤ pos adds) }
-    ensures size { LiesWithin (4 * 10 ^ 23) result }
+    ensures size { LiesWithin greatest_level result }
 {
     product(unit, i128::from(base) + adds as i128)
 }
 
 fn slope_cost(slope: u64, end: i128) -> i128
-    requires slope { slope ≤ 10 ^ 9 }
+    requires slope { slope ≤ GREATEST }
     requires moment { IsMoment end }
     ensures value { result ≡ pos slope *ℤ end }
     ensures size { LiesWithin (2 * 10 ^ 35) result }
@@ -107,9 +108,9 @@ fn slope_cost(slope: u64, end: i128) -> i128
 fn curve_cost(unit: i128, curve: &Curve, end: i128) -> i128
     requires moment { IsMoment end }
     requires few { length curve.now.steps ≤ 16 }
-    requires small { All (λ s. LiesWithin (2 * 10 ^ 22) (unit *ℤ pos s.above)) curve.now.steps }
-    requires slope { curve.now.slope ≤ 10 ^ 9 }
-    requires base { (adds : ℕ) → adds ≤ sum_by (λ s. s.add) curve.now.steps → LiesWithin (4 * 10 ^ 23) (unit *ℤ (curve.now.base +ℤ pos adds)) }
+    requires small { All (λ s. LiesWithin greatest_scaled (unit *ℤ pos s.above)) curve.now.steps }
+    requires slope { curve.now.slope ≤ GREATEST }
+    requires base { (adds : ℕ) → adds ≤ sum_by (λ s. s.add) curve.now.steps → LiesWithin greatest_level (unit *ℤ (curve.now.base +ℤ pos adds)) }
     ensures value { result ≡ (pos curve.now.slope *ℤ end) +ℤ (unit *ℤ (curve.now.base +ℤ pos (jumps unit curve.now end))) }
     ensures size { LiesWithin greatest_cost result }
 {

@@ -6,7 +6,7 @@ ghost use Rattle.msp_schedule.specs.Feasible.{total, Feasible};
 ghost use Rattle.msp_schedule.specs.Fraction.{IsOver, IsLowest};
 ghost use Rattle.msp_instance.specs.declared.ranges.TheConstants.{MOST_JOBS};
 ghost use Rattle.msp_instance.specs.Conditions.{LiesWithin, Inner};
-ghost use Rattle.msp_schedule.specs.Within.{IsMoment, IsUnit, HasSmallCost, Within};
+ghost use Rattle.msp_schedule.specs.Within.{IsMoment, IsUnit, HasSmallCost, Within, greatest_total};
 
 use crate::fraction::lowest;
 use crate::job_cost::job_cost_at;
@@ -52,7 +52,7 @@ fn sum_of_costs(crit: Crit, unit: i128, jobs: &[Job], ends: &[i128]) -> i128
     requires moments { (k : ℕ) → k < length jobs.now → IsMoment (slice_index_or ends.now k (pos 0)) }
     requires small { All (HasSmallCost unit) jobs.now }
     ensures value { result ≡ total (job_costs crit unit (λ k. slice_index_or ends.now k (pos 0)) 0 jobs.now) }
-    ensures size { LiesWithin (84 * 10 ^ 36) result }
+    ensures size { LiesWithin greatest_total result }
 {
     let mut sum: i128 = 0;
     for k in 0..jobs.len() {
@@ -69,7 +69,7 @@ fn greatest_of_costs(crit: Crit, unit: i128, jobs: &[Job], ends: &[i128]) -> i12
     requires moments { (k : ℕ) → k < length jobs.now → IsMoment (slice_index_or ends.now k (pos 0)) }
     requires small { All (HasSmallCost unit) jobs.now }
     ensures value { result ≡ greatest (job_costs crit unit (λ k. slice_index_or ends.now k (pos 0)) 0 jobs.now) }
-    ensures size { LiesWithin (84 * 10 ^ 36) result }
+    ensures size { LiesWithin greatest_total result }
 {
     let mut top = job_cost_at(crit, unit, &jobs[0], ends[0]);
     for k in 1..jobs.len() {
@@ -87,7 +87,7 @@ fn combined_cost(crit: Crit, unit: i128, jobs: &[Job], ends: &[i128]) -> i128
     requires moments { (k : ℕ) → k < length jobs.now → IsMoment (slice_index_or ends.now k (pos 0)) }
     requires small { All (HasSmallCost unit) jobs.now }
     ensures value { result ≡ combined crit (job_costs crit unit (λ k. slice_index_or ends.now k (pos 0)) 0 jobs.now) }
-    ensures size { LiesWithin (84 * 10 ^ 36) result }
+    ensures size { LiesWithin greatest_total result }
 {
     if is_greatest(crit) {
         greatest_of_costs(crit, unit, jobs, ends)

@@ -7,8 +7,8 @@ ghost use Rattle.msp_class.specs.Env.{kind_of};
 ghost use Rattle.msp_instance.specs.Conditions.{LiesWithin, Inner};
 ghost use Rattle.msp_schedule.specs.declared.limits.TheConstants.{MOST_PIECES};
 ghost use Rattle.msp_schedule.specs.Feasible.{HasOperation, HasPlace, IsWholeWork, total, work_of};
-ghost use Rattle.msp_schedule.specs.Works.{AreSmallTimes, GetsWorkAmong, need_of, measured_by};
-ghost use Rattle.msp_schedule.specs.Within.{IsMoment};
+ghost use Rattle.msp_schedule.specs.Works.{AreSmallTimes, GetsWorkAmong, need_of, measured_by, greatest_length, greatest_work};
+ghost use Rattle.msp_schedule.specs.Within.{IsMoment, greatest_scaled};
 ghost use Rattle.msp_schedule.specs.declared.Piece.{Piece as PieceValue};
 ghost use Rattle.msp_schedule.specs.Piece.{length_of};
 ghost use Rattle.msp_schedule.specs.Breaks.{pieces_among};
@@ -68,7 +68,7 @@ fn time_of(inst: &Instance, job: u32, at: u32) -> u64
 
 /// Whether the length is this time over the unit.
 fn takes(length: i128, unit: i128, time: u64) -> bool
-    requires { LiesWithin (2 * 10 ^ 22) (unit *ℤ pos time) }
+    requires { LiesWithin greatest_scaled (unit *ℤ pos time) }
     ensures { IsTrue result ↔ (length ≡ unit *ℤ pos time) }
 {
     length == product(unit, i128::from(time))
@@ -76,10 +76,10 @@ fn takes(length: i128, unit: i128, time: u64) -> bool
 
 /// The length times the speed.
 fn sped(length: i128, speed: u64) -> i128
-    requires length { LiesWithin (2 * 10 ^ 26) length }
+    requires length { LiesWithin greatest_length length }
     requires speed { speed ≤ GREATEST_SPEED }
     ensures value { result ≡ length *ℤ pos speed }
-    ensures size { LiesWithin (2 * 10 ^ 32) result }
+    ensures size { LiesWithin greatest_work result }
 {
     product(length, i128::from(speed))
 }
@@ -91,7 +91,7 @@ fn measured(inst: &Instance, piece: &Piece) -> i128
     requires from { IsMoment piece.now.from }
     requires to { IsMoment piece.now.to }
     ensures value { result ≡ measured_by (kind_of inst.now.class.env) inst.now piece.now }
-    ensures size { LiesWithin (2 * 10 ^ 32) result }
+    ensures size { LiesWithin greatest_work result }
 {
     match env_kind(inst.class.env) {
         EnvKind::Uniform => sped(length_at(piece), speed_of(inst, piece.machine)),
@@ -107,7 +107,7 @@ fn work_at(inst: &Instance, piece: &Piece) -> i128
     requires from { IsMoment piece.now.from }
     requires to { IsMoment piece.now.to }
     ensures value { result ≡ work_of (kind_of inst.now.class.env) inst.now piece.now }
-    ensures size { LiesWithin (2 * 10 ^ 32) result }
+    ensures size { LiesWithin greatest_work result }
 {
     measured(inst, piece)
 }
@@ -120,7 +120,7 @@ fn added(inst: &Instance, piece: &Piece, job: u32, op: u32) -> i128
     requires from { IsMoment piece.now.from }
     requires to { IsMoment piece.now.to }
     ensures value { result ≡ (if (piece.now.job == job) && (piece.now.op == op) then work_of (kind_of inst.now.class.env) inst.now piece.now else pos 0) }
-    ensures size { LiesWithin (2 * 10 ^ 32) result }
+    ensures size { LiesWithin greatest_work result }
 {
     if is_of(piece, job, op) {
         work_at(inst, piece)

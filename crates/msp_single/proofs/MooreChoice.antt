@@ -15,7 +15,7 @@ use Rattle.std.proofs.lemmas.List.Sorted.{IsPermutation-refl, IsPermutation-sym,
 use Rattle.msp_class.proofs.IntegerRing.{≤ℤ_trans, pos-le}
 use Rattle.msp_class.proofs.Sums.{AllPairs-head, AllPairs-tail}
 use Rattle.msp_schedule.proofs.LateJobs.{OnTime}
-use Rattle.msp_schedule.proofs.Parts.{All-front, All-back, AllPairs-front}
+use Rattle.msp_schedule.proofs.Parts.{All-front, All-back, AllPairs-front, AllPairs-last}
 use Rattle.msp_single.specs.Moore.{IsLongest, IsChoice, none, kept, overrun}
 
 -- the room that the elements leave below a length

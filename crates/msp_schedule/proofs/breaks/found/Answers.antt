@@ -1,11 +1,11 @@
-use Rattle.std.proofs.Common.{refl, rules, sym, subst, pos, ◌*ℤ◌, ◌*◌, ◌^◌, ◌<◌, ℕ, length}
+use Rattle.std.proofs.Common.{refl, rules, sym, subst, pos, ◌*ℤ◌, ◌<◌, ℕ, length}
 use Rattle.std.proofs.lemmas.Int.{to_z-of_z}
 use Rattle.std.specs.Int.{w128}
 use Rattle.msp_instance.specs.Instance.{job_at}
 use Rattle.msp_instance.specs.Conditions.{LiesWithin}
 use Rattle.msp_schedule.specs.declared.breaks.Break.TheVariants.{Job, Release, Arc, Route, Work}
 use Rattle.msp_schedule.specs.Works.{AreSmallTimes}
-use Rattle.msp_schedule.specs.Within.{Within}
+use Rattle.msp_schedule.specs.Within.{Within, greatest_scaled}
 use Rattle.msp_schedule.specs.Feasible.{Feasible}
 use Rattle.msp_schedule.specs.Breaks.{IsFirstBreak, IsLeast, KeepsArc, no_arc}
 use Rattle.std.specs.Prelude.{All, slice_index_or}
@@ -17,7 +17,7 @@ pub returns-in-Some-first_overlap-2 : goal.returns-in-Some-first_overlap-2
 returns-in-Some-first_overlap-2 c = subst (λ t. IsFirstBreak c.args.inst.now t (Job c.in-Some-first_overlap-2.first c.in-Some-first_overlap-2.second)) (same_schedule c.args.s.now c.as_slice-pieces.result.now c.as_slice-pieces.ensures) (first_of c.args.inst.now (with_pieces c.args.s.now c.as_slice-pieces.result.now) (Job c.in-Some-first_overlap-2.first c.in-Some-first_overlap-2.second) (up_to_machine c.args.inst.now (with_pieces c.args.s.now c.as_slice-pieces.result.now) (up_to_place c.args.inst.now (with_pieces c.args.s.now c.as_slice-pieces.result.now) (up_to_span c.args.inst.now (with_pieces c.args.s.now c.as_slice-pieces.result.now) (up_to_none c.args.inst.now (with_pieces c.args.s.now c.as_slice-pieces.result.now)) (c.in_default.ensures.none refl)) (c.in_default-first_misplaced.ensures.none refl)) (c.in_default-first_overlap.ensures.none refl)) c.in-Some-first_overlap-2.ensures.some)
 
 pub first_early-requires-clause-small : goal.first_early-requires-clause-small
-first_early-requires-clause-small c = subst (λ u. (j : ℕ) → j < length c.args.inst.now.jobs → LiesWithin (2 * 10 ^ 22) (u *ℤ pos (job_at c.args.inst.now j).release)) (sym (to_z-of_z w128 c.args.s.now.unit (search rules))) (small_releases c.args.inst.now c.args.s.now c.requires.inner c.requires.within)
+first_early-requires-clause-small c = subst (λ u. (j : ℕ) → j < length c.args.inst.now.jobs → LiesWithin greatest_scaled (u *ℤ pos (job_at c.args.inst.now j).release)) (sym (to_z-of_z w128 c.args.s.now.unit (search rules))) (small_releases c.args.inst.now c.args.s.now c.requires.inner c.requires.within)
 
 pub first_work-requires-clause-small : goal.first_work-requires-clause-small
 first_work-requires-clause-small c = subst (AreSmallTimes c.args.inst.now) (sym (to_z-of_z w128 c.args.s.now.unit (search rules))) (small_times c.args.inst.now c.args.s.now c.requires.inner c.requires.within)

@@ -1,4 +1,4 @@
-use Rattle.std.proofs.Common.{refl, rules, to_z, of_z, sym, subst, pos, ◌*ℤ◌, ◌*◌, ◌^◌, ◌<◌, ℕ, length}
+use Rattle.std.proofs.Common.{refl, rules, to_z, of_z, sym, subst, pos, ◌*ℤ◌, ◌<◌, ℕ, length}
 use Rattle.std.specs.Prelude.{All, IfSome, slice_index_or}
 use Rattle.std.proofs.lemmas.Int.{to_z-of_z}
 use Rattle.std.specs.Int.{w128}
@@ -6,7 +6,7 @@ use Rattle.msp_instance.specs.Instance.{job_at}
 use Rattle.msp_instance.specs.Conditions.{LiesWithin}
 use Rattle.msp_schedule.specs.declared.breaks.Break.TheVariants.{Job, Release, Arc, Route, Work}
 use Rattle.msp_schedule.specs.Works.{AreSmallTimes, LacksWorkAmong}
-use Rattle.msp_schedule.specs.Within.{Within}
+use Rattle.msp_schedule.specs.Within.{Within, greatest_scaled}
 use Rattle.msp_schedule.specs.Feasible.{Feasible}
 use Rattle.msp_schedule.specs.Breaks.{IsFirstBreak, IsFirstOverlap, IsLeast, IsLeastOperation, KeepsArc, KeepsRoute, HasRoutes, no_arc}
 use Rattle.msp_schedule.proofs.Small.{small_releases, small_times}
@@ -18,7 +18,7 @@ pub returns-in-Some-3 : goal.returns-in-Some-3
 returns-in-Some-3 c = subst (λ t. IsFirstBreak c.args.inst.now t (Job c.in-Some-3.first c.in-Some-3.second)) (same_schedule c.args.s.now c.as_slice-pieces.result.now c.as_slice-pieces.ensures) (first_of c.args.inst.now (with_pieces c.args.s.now c.as_slice-pieces.result.now) (Job c.in-Some-3.first c.in-Some-3.second) (up_to_machine c.args.inst.now (with_pieces c.args.s.now c.as_slice-pieces.result.now) (up_to_place c.args.inst.now (with_pieces c.args.s.now c.as_slice-pieces.result.now) (up_to_span c.args.inst.now (with_pieces c.args.s.now c.as_slice-pieces.result.now) (up_to_none c.args.inst.now (with_pieces c.args.s.now c.as_slice-pieces.result.now)) (c.in_default.ensures.none refl)) (c.in_default-first_misplaced.ensures.none refl)) (c.in_ok-first.ensures.none (none_is _ c.in_default-2.is))) (subst (λ r. IfSome r (λ pair. IsFirstOverlap (λ p. p.job) c.as_slice-pieces.result.now pair.0 pair.1)) c.in-Some-3.is c.in_ok-first-2.ensures.some))
 
 pub first_early-requires-clause-small : goal.first_early-requires-clause-small
-first_early-requires-clause-small c = subst (λ u. (j : ℕ) → j < length c.args.inst.now.jobs → LiesWithin (2 * 10 ^ 22) (u *ℤ pos (job_at c.args.inst.now j).release)) (sym (to_z-of_z w128 c.args.s.now.unit (search rules))) (small_releases c.args.inst.now c.args.s.now c.requires.inner c.requires.within)
+first_early-requires-clause-small c = subst (λ u. (j : ℕ) → j < length c.args.inst.now.jobs → LiesWithin greatest_scaled (u *ℤ pos (job_at c.args.inst.now j).release)) (sym (to_z-of_z w128 c.args.s.now.unit (search rules))) (small_releases c.args.inst.now c.args.s.now c.requires.inner c.requires.within)
 
 pub returns-in-Some-first_early : goal.returns-in-Some-first_early
 returns-in-Some-first_early c = subst (λ t. IsFirstBreak c.args.inst.now t (Release c.in-Some-first_early.piece)) (same_schedule c.args.s.now c.as_slice-pieces.result.now c.as_slice-pieces.ensures) (first_release_at c.args.inst.now (with_pieces c.args.s.now c.as_slice-pieces.result.now) _ _ (to_z-of_z w128 c.args.s.now.unit (search rules)) (up_to_job c.args.inst.now (with_pieces c.args.s.now c.as_slice-pieces.result.now) (up_to_machine c.args.inst.now (with_pieces c.args.s.now c.as_slice-pieces.result.now) (up_to_place c.args.inst.now (with_pieces c.args.s.now c.as_slice-pieces.result.now) (up_to_span c.args.inst.now (with_pieces c.args.s.now c.as_slice-pieces.result.now) (up_to_none c.args.inst.now (with_pieces c.args.s.now c.as_slice-pieces.result.now)) (c.in_default.ensures.none refl)) (c.in_default-first_misplaced.ensures.none refl)) (c.in_ok-first.ensures.none (none_is _ c.in_default-2.is))) (c.in_ok-first-2.ensures.none (none_is _ c.in_default-3.is))) c.in-Some-first_early.ensures.some)
