@@ -1,5 +1,5 @@
 -- Pieces of an uncut shop as a schedule over the unit 1: when it is feasible, and when no feasible schedule ends earlier.
-use Rattle.std.proofs.Common.{◌≡◌, ◌≢◌, ℕ, ◌+◌, ◌<◌, ◌≤◌, ◌⊎◌, ◌^◌, inl, inr, true, false, List, [], ◌∷◌, length, get_or, map, ℤ, pos, ◌*ℤ◌, ◌≤ℤ◌, All, AllPairs, Contains, Bool, MatchBool, refl, sym, ap, ◌∙◌, subst, arith}
+use Rattle.std.proofs.Common.{◌≡◌, ◌≢◌, ℕ, ◌+◌, ◌*◌, ◌<◌, ◌≤◌, ◌⊎◌, ◌^◌, inl, inr, true, false, List, [], ◌∷◌, length, get_or, map, ℤ, pos, nat_abs, ◌*ℤ◌, ◌≤ℤ◌, ◌<ℤ◌, All, AllPairs, Contains, Bool, MatchBool, refl, sym, ap, ◌∙◌, subst, subst₂, arith}
 use Rattle.std.specs.Prelude.{◌==◌, ◌&&◌}
 use Rattle.std.proofs.lemmas.Bool.{eq-eqb}
 use Rattle.std.proofs.lemmas.Int.{ints}
@@ -9,7 +9,7 @@ use Rattle.msp_class.specs.declared.environments.EnvKind.{EnvKind}
 use Rattle.msp_class.specs.declared.environments.EnvKind.TheVariants.{Identical, Uniform, Unrelated, OpenShop, FlowShop, JobShop}
 use Rattle.msp_class.specs.declared.class.Crit.TheVariants.{Cmax}
 use Rattle.msp_class.specs.Env.{kind_of, is_shop_kind, is_shop}
-use Rattle.msp_class.proofs.IntegerRing.{≤ℤ_antisym, *ℤ_comm, *ℤ-one, one-*ℤ}
+use Rattle.msp_class.proofs.IntegerRing.{natural, pos-le, ≤ℤ_antisym, *ℤ_comm, *ℤ-one, one-*ℤ}
 use Rattle.msp_class.proofs.Sums.{AllPairs-contains, Contains-filter}
 use Rattle.msp_instance.specs.declared.Arc.{Arc}
 use Rattle.msp_instance.specs.declared.Instance.{Instance}
@@ -21,8 +21,9 @@ use Rattle.msp_schedule.specs.Feasible.{Feasible, HasPlace, HasOperation, MayRun
 use Rattle.msp_schedule.specs.Cost.{cost_of, end_of, Best}
 use Rattle.msp_schedule.specs.Within.{IsMoment, Within}
 use Rattle.msp_schedule.proofs.Intervals.{IsApartOn}
-use Rattle.msp_schedule.proofs.OneMachine.{start, finish, IsTimed, apart_in_int}
+use Rattle.msp_schedule.proofs.OneMachine.{start, finish, IsTimed, IsTimed-from_span, apart_in_int}
 use Rattle.msp_schedule.proofs.Frames.{of_operation-named, of_one}
+use Rattle.msp_schedule.proofs.LastEnds.{last_end-bound}
 use Rattle.msp_schedule.proofs.Makespan.{cost_natural, ends_by_cost, cost_by_ends}
 use Rattle.msp_route.specs.Bounds.{IsAnswer, answer_unit}
 use Rattle.msp_shops.specs.Pass.{machine_of}
@@ -204,6 +205,14 @@ module _ (i : Instance) (h : IsPlainShop i) (ps : List Piece) (w : IsShopPlan i 
 -- no feasible schedule ends before the moment
 abbrev pub IsLeastEnd : Instance → ℕ → Type 0
 IsLeastEnd i end = (t : Schedule) → Feasible i t → (c : ℤ) → pos 0 ≤ℤ c → ((j : ℕ) → j < length i.jobs → end_of t j ≤ℤ c) → (t.unit *ℤ pos end) ≤ℤ c
+
+-- the same by the ends of its pieces, in ℕ
+pub IsLeastEnd-from_pieces : (i : Instance) (end : ℕ) → ((t : Schedule) → Feasible i t → (c : ℕ) → All (λ p. finish p ≤ c) t.pieces → nat_abs t.unit * end ≤ c) → IsLeastEnd i end
+IsLeastEnd-from_pieces i end h t f c b ends =
+    subst₂ (λ x y. (x *ℤ pos end) ≤ℤ y) (sym (natural t.unit (omega (arith, ints, f.unit)))) (sym (natural c b)) (pos-le (h t f (nat_abs c) (λ k d l. ended (get_or t.pieces k d) (f.span k d l) (last_end-bound t.pieces k d l) (ends (get_or t.pieces k d).job (f.place k d l).job))))
+  where
+    ended : (p : Piece) → (pos 0 ≤ℤ p.from) × (p.from <ℤ p.to) → p.to ≤ℤ end_of t p.job → end_of t p.job ≤ℤ c → finish p ≤ nat_abs c
+    ended p s l m = omega (arith, ints, (IsTimed-from_span p s).to, natural c b, l, m)
 
 -- what is said of the answer's schedule
 pub record IsBestPlan (i : Instance) (end : ℕ) (s : Schedule) : Type 0 where
