@@ -6,6 +6,7 @@
 
 mod assignment;
 mod costs;
+mod search;
 mod stored;
 
 pub use assignment::{Assignment, MOST_COLUMNS, MOST_ROWS, assign};

@@ -1,0 +1,5 @@
+pub mod Lists
+pub mod Owners
+pub mod Bounds
+pub mod Relaxed
+pub mod Growth
