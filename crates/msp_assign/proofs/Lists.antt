@@ -1,5 +1,5 @@
 -- Reads of lists of numbers and flags after a write or a push.
-use Rattle.std.proofs.Common.{◌≡◌, ◌≢◌, ℕ, ◌+◌, ◌<◌, ◌⊎◌, inl, inr, refl, List, ◌++◌, Bool, true, false, eqb, length, take, drop, Contains, All, cond, count_by, ◌*◌, ◌-◌, subst, ◌∙◌, arith}
+use Rattle.std.proofs.Common.{◌≡◌, ◌≢◌, ℕ, ◌+◌, ◌<◌, ◌≤◌, ◌⊎◌, inl, inr, refl, List, ◌++◌, Bool, true, false, eqb, length, take, drop, Contains, All, cond, count_by, ◌*◌, ◌-◌, subst, ◌∙◌, arith}
 use Rattle.std.proofs.lemmas.Bool.{eqb-true, eqb-false}
 use Rattle.std.proofs.Math.Seq.{take-append_seam}
 use Rattle.std.proofs.lemmas.List.{get_or_default}
@@ -31,6 +31,10 @@ pub true_or_not : (b : Bool) → (b ≡ true) ⊎ (b ≡ false)
 true_or_not true = inl refl
 true_or_not false = inr refl
 
+-- a number that is contained is counted
+pub counted : (xs : List ℕ) (i : ℕ) → Contains xs i → 1 ≤ count_by (λ x. eqb x i) xs
+counted xs i c = omega (arith, sum_by-contains (λ x. cond (eqb x i) 1 0) xs i c, cond-yes 1 (eq-eqb i i refl))
+
 -- numbers below n that are fewer than n miss one
 module _ (n : ℕ) (xs : List ℕ) (inside : All (λ x. x < n) xs) (few : length xs < n) where
   times : ℕ → ℕ
@@ -48,7 +52,7 @@ module _ (n : ℕ) (xs : List ℕ) (inside : All (λ x. x < n) xs) (few : length
 
   not_contained : (i : ℕ) → 0 < 1 - times i → ¬ Contains xs i
   unfolding times
-  not_contained i l c = omega (arith, sum_by-contains (λ x. cond (eqb x i) 1 0) xs i c, cond-yes 1 (eq-eqb i i refl))
+  not_contained i l c = omega (arith, counted xs i c)
 
   pub missing : (c : ℕ) × (c < n) × ¬ Contains xs c
   missing = let w = total_below-some n (λ i. 1 - times i) some_left in (w.0, w.1, not_contained w.0 w.2)

@@ -12,19 +12,19 @@ pub record IsOwnersBelow (columns k : ℕ) (column : List ℕ) (owner : List (Op
 later : (k : ℕ) (column : List ℕ) (c : ℕ) (o : Option ℕ) → at column k ≢ c → MatchOption o ((r : ℕ) → r < k → at column r ≢ c) (λ r. (r < k) × (at column r ≡ c))
     → MatchOption o ((r : ℕ) → r < k + 1 → at column r ≢ c) (λ r. (r < k + 1) × (at column r ≡ c))
 later k column c None ne h = λ r l. elim (same_or_not r k) [
-    | inl e ↦ λ q. ne (ap (at column) (sym e) ∙ q)
-    | inr n ↦ h r (omega arith)
-  ]
+  | inl e ↦ λ q. ne (ap (at column) (sym e) ∙ q)
+  | inr n ↦ h r (omega arith)
+]
 later k column c (Some r) ne h = (omega (arith, h.0), h.1)
 
 pub IsOwnersBelow-next : (columns k : ℕ) (column : List ℕ) (owner : List (Option ℕ)) → IsOwnersBelow columns k column owner → at column k < columns → IsOwnersBelow columns (k + 1) column (set owner (at column k) (Some k))
 IsOwnersBelow-next columns k column owner h l = record {
-    size = length-set owner (at column k) (Some k) ∙ h.size;
-    each = λ c lc. elim (same_or_not c (at column k)) [
-      | inl e ↦ subst (λ o. MatchOption o ((r : ℕ) → r < k + 1 → at column r ≢ c) (λ r. (r < k + 1) × (at column r ≡ c))) (sym (ap (λ d. get_or (set owner (at column k) (Some k)) d None) e ∙ get_or-set_same owner (at column k) (Some k) None (omega (arith, h.size)))) (omega arith, sym e)
-      | inr n ↦ subst (λ o. MatchOption o ((r : ℕ) → r < k + 1 → at column r ≢ c) (λ r. (r < k + 1) × (at column r ≡ c))) (sym (get_or-set_other owner (at column k) c (Some k) None n)) (later k column c (get_or owner c None) (λ q. n (sym q)) (h.each c lc))
-    ];
-  }
+  size = length-set owner (at column k) (Some k) ∙ h.size;
+  each = λ c lc. elim (same_or_not c (at column k)) [
+    | inl e ↦ subst (λ o. MatchOption o ((r : ℕ) → r < k + 1 → at column r ≢ c) (λ r. (r < k + 1) × (at column r ≡ c))) (sym (ap (λ d. get_or (set owner (at column k) (Some k)) d None) e ∙ get_or-set_same owner (at column k) (Some k) None (omega (arith, h.size)))) (omega arith, sym e)
+    | inr n ↦ subst (λ o. MatchOption o ((r : ℕ) → r < k + 1 → at column r ≢ c) (λ r. (r < k + 1) × (at column r ≡ c))) (sym (get_or-set_other owner (at column k) c (Some k) None n)) (later k column c (get_or owner c None) (λ q. n (sym q)) (h.each c lc))
+  ];
+}
 
 none_contained : (column : List ℕ) (c : ℕ) (o : Option ℕ) → MatchOption o ((r : ℕ) → r < length column → at column r ≢ c) (λ r. (r < length column) × (at column r ≡ c)) → MatchOption o (¬ Contains column c) (λ r. (r < length column) × (at column r ≡ c))
 none_contained column c None h = λ m. let q = at-Contains column c m in h q.0 q.1 q.2

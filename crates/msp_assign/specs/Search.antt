@@ -1,6 +1,7 @@
 -- The search for a free column for one more row, from the columns and prices of the rows before it. No public contract cites this file.
-use Rattle.std.specs.Prelude.{◌≡◌, ◌≢◌, ℕ, ◌+◌, ◌-◌, ◌<◌, ◌≤◌, ◌^◌, ◌⊎◌, ℤ, List, [], ◌∷◌, ◌++◌, Bool, true, false, cond, Option, None, length, slice_index_or, sum_by, unsigned_abs, MatchOption, All, AllPairs, Contains}
+use Rattle.std.specs.Prelude.{pos, neg_ℤ, ◌≡◌, ◌≢◌, ℕ, ◌+◌, ◌-◌, ◌<◌, ◌≤◌, ◌^◌, ◌⊎◌, ℤ, List, [], ◌∷◌, ◌++◌, Bool, true, false, cond, Option, None, length, slice_index_or, sum_by, unsigned_abs, MatchOption, All, AllPairs, Contains}
 use Rattle.std.specs.List.Sorted.{IsPermutation}
+use Rattle.msp_assign.specs.Prices.{price_at}
 
 abbrev pub at : List ℕ → ℕ → ℕ
 at xs k = slice_index_or xs k 0
@@ -109,3 +110,12 @@ IsStep column tree free c = (c ≡ free) ⊎ ((k : ℕ) × (1 ≤ k) × (k < len
 pub record IsPassedOn (column «from» tree : List ℕ) (free : ℕ) (next : List ℕ) : Type 0 where
   pub same : IsPermutation (column ++ free ∷ []) next
   pub each : (r : ℕ) → r ≤ length column → ((r < length column) × (at next r ≡ at column r)) ⊎ ((at tree (at «from» (at next r)) ≡ r) × IsStep column tree free (at next r))
+
+-- The prices of the rows: what each pays at its column. Those of the columns: as far below 0 as they fell.
+pub record IsRowPrices (cost : ℕ → ℕ → ℕ) (fall column : List ℕ) (prices : List ℤ) : Type 0 where
+  pub size : length prices ≡ length column
+  pub each : (r : ℕ) → r < length column → price_at prices r ≡ pos (paid cost fall r (at column r))
+
+pub record IsColumnPrices (fall : List ℕ) (prices : List ℤ) : Type 0 where
+  pub size : length prices ≡ length fall
+  pub each : (c : ℕ) → c < length fall → price_at prices c ≡ neg_ℤ (pos (at fall c))

@@ -3,8 +3,10 @@ ghost use Rattle.std.specs.Prelude.{◌≡◌, ◌≤◌, ◌^◌, IfOk};
 ghost use Rattle.msp_assign.specs.Prices.{HasCosts, IsAssigned, IsPriced, IsLeast, cost_of, price_of};
 
 use crate::Costs;
+use crate::placing::placed;
+use crate::prices::{column_prices, row_prices};
 use msp_class::{List, NoMemory};
-use std::alloc::Global;
+use std::alloc::{AllocError, Global};
 
 /// The column of each row, and the prices of the rows and the columns.
 #[derive(Drop)]
@@ -19,6 +21,29 @@ pub const MOST_ROWS: u32 = 400;
 /// The most columns.
 pub const MOST_COLUMNS: u32 = 1 << 20;
 
+/// The columns of the rows, and the prices.
+fn priced<C: Costs>(alloc: Global, costs: &C) -> Result<Assignment, AllocError>
+    requires few { C.row_count costs.now ≤ MOST_ROWS }
+    requires enough { C.row_count costs.now ≤ C.column_count costs.now }
+    requires costs { HasCosts (C.row_count costs.now) (C.column_count costs.now) (C.cost costs.now) }
+    ensures assigned { IfOk result (λ a. IsAssigned (C.row_count costs.now) (C.column_count costs.now) a.column) }
+    ensures priced { IfOk result (λ a. IsPriced (C.row_count costs.now) (C.column_count costs.now) (C.cost costs.now) a) }
+{
+    let placement = placed(alloc, costs)?;
+    let row_price = row_prices(
+        alloc,
+        costs,
+        placement.falls.as_slice(),
+        placement.column_of.as_slice(),
+    )?;
+    let column_price = column_prices(alloc, placement.falls.as_slice())?;
+    Ok(Assignment {
+        column: List::from_vec(placement.column_of),
+        row_price,
+        column_price,
+    })
+}
+
 /// Gives each row a column of its own, at least cost, with prices that show it. Row after row takes the shortest path to a free
 /// column, and the prices move with the paths (Kuhn 1955, Tomizawa 1971).
 pub fn assign<C: Costs>(alloc: Global, costs: &C) -> Result<Assignment, NoMemory>
@@ -32,5 +57,8 @@ pub fn assign<C: Costs>(alloc: Global, costs: &C) -> Result<Assignment, NoMemory
     ensures least { IfOk result (λ a. IsLeast (C.row_count costs.now) (C.column_count costs.now) (C.cost costs.now) a.column) }
     ensures total { IfOk result (λ a. cost_of (C.row_count costs.now) (C.cost costs.now) a.column ≡ price_of (C.row_count costs.now) (C.column_count costs.now) a) }
 {
-    Err(NoMemory)
+    match priced(alloc, costs) {
+        Ok(assignment) => Ok(assignment),
+        Err(_) => Err(NoMemory),
+    }
 }

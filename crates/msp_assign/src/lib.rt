@@ -6,6 +6,8 @@
 
 mod assignment;
 mod costs;
+mod placing;
+mod prices;
 mod search;
 mod stored;
 

@@ -141,7 +141,9 @@ fn relax<C: Costs>(
         distance: u128::MAX,
     };
     for column in 0..costs.columns() {
-        nearest = relax_column(costs, falls, settled, reached, distance, from, column, nearest);
+        nearest = relax_column(
+            costs, falls, settled, reached, distance, from, column, nearest,
+        );
     }
     nearest.column
 }
