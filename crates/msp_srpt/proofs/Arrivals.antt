@@ -1,11 +1,11 @@
 -- The jobs come one after another by release date: the loop over them.
-use Rattle.std.proofs.Common.{◌≡◌, ℕ, suc, ◌+◌, ◌*◌, ◌-◌, ◌<◌, ◌≤◌, inl, inr, Bool, true, false, cond, eqb, List, [], ◌∷◌, ◌++◌, length, get_or, map, take, drop, All, AllPairs, IsPermutation, sum_by, count_by, refl, sym, ap, ◌∙◌, subst, arith}
+use Rattle.std.proofs.Common.{◌≡◌, ℕ, ◌+◌, ◌*◌, ◌<◌, ◌≤◌, inl, inr, Bool, true, false, cond, eqb, List, [], ◌∷◌, ◌++◌, length, get_or, map, take, drop, All, AllPairs, IsPermutation, sum_by, count_by, refl, sym, ap, ◌∙◌, subst, arith}
 use Rattle.std.specs.Prelude.{◌==◌}
 use Rattle.std.specs.List.{range_with_len}
 use Rattle.std.proofs.lemmas.Bool.{cases_lt, eqb-true, eq-eqb}
 use Rattle.std.proofs.lemmas.List.{map-append, take_more, take_all, take-append-drop, length-map, length-drop, get_or-map, get_or-drop, get_or_default}
 use Rattle.std.proofs.lemmas.List.Sorted.{IsPermutation-map, All-permutation}
-use Rattle.msp_class.proofs.Sums.{total_below-same, total_below-only, total_below-constant, total_below-mono, sum_by-append, sum_by-cons, sum_by-map, sum_by-none, sum_by-mono, sum_by-constant, sum_by-OnceBelow, length-OnceBelow, eqb_comm, cond-yes, cond-no, OnceBelow, OnceBelow-from_permutation}
+use Rattle.msp_class.proofs.Sums.{total_below-same, total_below-only, sum_by-append, sum_by-cons, sum_by-map, sum_by-none, sum_by-mono, sum_by-constant, sum_by-OnceBelow, length-OnceBelow, eqb_comm, cond-yes, OnceBelow, OnceBelow-from_permutation}
 use Rattle.msp_instance.specs.declared.Instance.{Instance}
 use Rattle.msp_instance.specs.Instance.{job_at}
 use Rattle.msp_schedule.specs.declared.Piece.{Piece}

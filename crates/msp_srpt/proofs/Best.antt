@@ -1,6 +1,5 @@
 -- The pieces of all jobs as a schedule: it is feasible, keeps the rule and is best.
-use Rattle.std.proofs.Common.{◌≡◌, ℕ, suc, ◌+◌, ◌*◌, ◌-◌, ◌<◌, ◌≤◌, ◌⊎◌, inl, inr, min, Bool, true, false, cond, eqb, List, [], ◌∷◌, length, get_or, filter, map, ℤ, pos, nat_abs, ◌*ℤ◌, ◌≤ℤ◌, ◌<ℤ◌, All, AllPairs, MatchBool, sum_by, refl, sym, ap, ◌∙◌, subst, arith}
-use Prim.Native.Nat.{◌∣◌}
+use Rattle.std.proofs.Common.{◌≡◌, ℕ, ◌+◌, ◌*◌, ◌-◌, ◌<◌, ◌≤◌, ◌⊎◌, inl, inr, min, Bool, true, false, cond, eqb, List, [], ◌∷◌, length, get_or, map, ℤ, pos, nat_abs, ◌*ℤ◌, ◌≤ℤ◌, All, AllPairs, MatchBool, refl, sym, ap, ◌∙◌, subst, arith}
 use Rattle.std.specs.Prelude.{◌==◌}
 use Rattle.std.proofs.Math.Nat.{one-dvd}
 use Rattle.std.proofs.lemmas.Bool.{cases_lt, eq-eqb}
@@ -20,15 +19,15 @@ use Rattle.msp_instance.specs.Instance.{job_at}
 use Rattle.msp_instance.specs.Conditions.{Inner}
 use Rattle.msp_schedule.specs.declared.Piece.{Piece}
 use Rattle.msp_schedule.specs.declared.Schedule.{Schedule}
-use Rattle.msp_schedule.specs.Piece.{length_of, pieces_of, IsBefore, IsApart}
+use Rattle.msp_schedule.specs.Piece.{length_of, pieces_of, IsBefore}
 use Rattle.msp_schedule.specs.Feasible.{Feasible, HasPlace, HasOperation, MayRun, FollowsRoute, GetsWork, IsWholeWork, total, whole_work, work_of as part_of}
 use Rattle.msp_schedule.specs.Cost.{cost_of, end_of, job_cost, Best}
 use Rattle.msp_schedule.specs.Settled.{IsSettled}
 use Rattle.msp_schedule.proofs.Charges.{charge_of, cost_of-sum}
 use Rattle.msp_schedule.proofs.Intervals.{last_of, last_of-least, size_of, work_of}
-use Rattle.msp_schedule.proofs.OneMachine.{job_of, start, finish, IsTimed, IsPlan, IsPlan-from_feasible, apart_in_int, last_end-is, pieces_of-job, total_lengths}
+use Rattle.msp_schedule.proofs.OneMachine.{job_of, start, finish, IsTimed, IsPlan-from_feasible, last_end-is, pieces_of-job, total_lengths}
 use Rattle.msp_schedule.proofs.OneRow.{time_at}
-use Rattle.msp_srpt.specs.Shortest.{shortest_class, run_before, left_of, IsWaiting, KeepsRule, idle, runs, IsShortestFirst}
+use Rattle.msp_srpt.specs.Shortest.{shortest_class, run_before, IsWaiting, KeepsRule, idle, runs, IsShortestFirst}
 use Rattle.msp_srpt.specs.Running.{IsCarriedOut, IsLaid}
 use Rattle.msp_srpt.proofs.Laying.{run_of, run-settled, run-unborn}
 use Rattle.msp_srpt.proofs.Lower.{IsDue, Keeps, rests, serves, ends_below}

@@ -1,12 +1,11 @@
 -- Why no schedule on one machine has a lesser sum of ends than one that keeps the rule of shortest remaining time. Numbers alone: the
 -- jobs are those below n, released at `r`, with the times `p`; `run t j` says how long job j runs before the moment t under the rule. The
 -- other schedule is any list of pieces that are apart, in parts of a unit.
-use Rattle.std.proofs.Common.{◌≡◌, ℕ, zero, suc, ◌+◌, ◌*◌, ◌-◌, ◌<◌, ◌≤◌, ◌⊎◌, inl, inr, Bool, true, false, cond, eqb, leb, List, length, get_or, filter, All, AllPairs, Contains, sum_by, refl, sym, ap, ◌∙◌, subst, subst₂, arith}
+use Rattle.std.proofs.Common.{◌≡◌, ℕ, zero, suc, ◌+◌, ◌*◌, ◌-◌, ◌<◌, ◌≤◌, ◌⊎◌, inl, inr, Bool, true, false, cond, eqb, leb, List, get_or, filter, All, AllPairs, Contains, sum_by, refl, sym, ap, ◌∙◌, subst, subst₂, arith}
 use Rattle.std.proofs.Math.Nat.{mul-le-mul_left}
-use Rattle.std.proofs.lemmas.Bool.{leb-true, leb-false, eqb-true, eqb-false, eq-eqb, cases_lt}
+use Rattle.std.proofs.lemmas.Bool.{leb-true, leb-false, eqb-true, eq-eqb, cases_lt}
 use Rattle.std.proofs.lemmas.List.Elements.{All-filter, All-contains, filter_passes}
-use Rattle.std.proofs.lemmas.List.Kept.{AllPairs-filter}
-use Rattle.msp_class.proofs.Sums.{total_below, total_below-mono, total_below-same, total_below-add, total_below-scale, total_below-only, total_below-none, cond-yes, cond-no, cond-le, cond-mono, sum_by-mono, sum_by-same, sum_by-add, sum_by-by_key_filter, sum_by-agree}
+use Rattle.msp_class.proofs.Sums.{total_below, total_below-mono, total_below-add, total_below-scale, total_below-only, total_below-none, cond-le, sum_by-same, sum_by-add, sum_by-by_key_filter, sum_by-agree}
 use Rattle.msp_schedule.proofs.Intervals.{IsApart, overlap_of, overlap-add, overlap-inside, size_of, packing, work_of, last_of, last_of-bound, piece_of}
 use Rattle.msp_srpt.proofs.Counts.{at_most, total_from_counts, total_below-carried}
 

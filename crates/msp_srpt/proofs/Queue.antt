@@ -1,17 +1,15 @@
 -- The queue of tasks, and the steps of the rule as the code takes them.
-use Rattle.std.proofs.Common.{◌≡◌, ℕ, ◌+◌, ◌-◌, ◌<◌, ◌≤◌, ◌⊎◌, inl, inr, Bool, true, false, cond, List, [], ◌∷◌, ◌++◌, length, get_or, map, All, IsPermutation, Option, Some, None, Result, Ok, Err, refl, sym, ap, ◌∙◌, subst, arith}
+use Rattle.std.proofs.Common.{◌≡◌, ℕ, ◌+◌, ◌-◌, ◌<◌, ◌≤◌, ◌⊎◌, false, List, [], ◌∷◌, length, All, IsPermutation, refl, sym, ◌∙◌, subst, arith}
 use Rattle.std.specs.Ordering.{is_lt, nat_cmp, ordering_then}
 use Rattle.std.specs.declared.cmp.Reverse.{Reverse}
 use Rattle.std.specs.BinaryHeap.{IsUpperBound}
-use Rattle.std.specs.List.{AllByRecursion}
 use Rattle.std.proofs.lemmas.Bool.Decides.{nat_tests}
 use Rattle.std.proofs.lemmas.List.Elements.{All-nil, All-cons, All-head, All-tail}
 use Rattle.std.proofs.lemmas.List.Sorted.{IsPermutation-map, All-permutation}
-use Rattle.msp_instance.specs.declared.Instance.{Instance}
 use Rattle.msp_instance.specs.Instance.{job_at}
 use Rattle.msp_schedule.specs.declared.Piece.{Piece}
 use Rattle.msp_srpt.specs.declared.shortest.Task.{Task}
-use Rattle.msp_srpt.specs.Running.{Precedes, tasks_in, HaveCome, IsUnderWay, GoesOn, Runs}
+use Rattle.msp_srpt.specs.Running.{Precedes, tasks_in, IsUnderWay, GoesOn, Runs}
 use Rattle.msp_srpt.proofs.Steps.{IsUnderWay-permuted, IsUnderWay-idle, IsUnderWay-complete, IsUnderWay-cut}
 
 -- ---- what is not greater runs no later

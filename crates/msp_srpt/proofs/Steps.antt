@@ -1,19 +1,17 @@
 -- The steps of the rule: a job comes, the first task runs, none waits.
-use Rattle.std.proofs.Common.{◌≡◌, ◌≢◌, ℕ, suc, ◌+◌, ◌-◌, ◌<◌, ◌≤◌, ◌⊎◌, inl, inr, min, Bool, true, false, cond, List, [], ◌∷◌, ◌++◌, length, get_or, All, Contains, IsPermutation, sum_by, count_by, refl, sym, ap, ◌∙◌, subst, arith}
+use Rattle.std.proofs.Common.{◌≡◌, ℕ, ◌+◌, ◌-◌, ◌<◌, ◌≤◌, ◌⊎◌, inl, inr, min, Bool, true, false, cond, List, [], ◌∷◌, ◌++◌, length, get_or, All, Contains, IsPermutation, sum_by, count_by, refl, sym, ap, ◌∙◌, subst, arith}
 use Rattle.std.specs.Prelude.{◌==◌}
-use Rattle.std.proofs.lemmas.Bool.{cases_lt, eqb-true, eqb-false, eq-eqb, ne_eqb}
-use Rattle.std.proofs.lemmas.List.{length-append}
-use Rattle.std.proofs.lemmas.List.Elements.{All-nil, All-cons, All-head, All-tail, All-contains}
+use Rattle.std.proofs.lemmas.Bool.{cases_lt, eqb-true, eq-eqb}
+use Rattle.std.proofs.lemmas.List.Elements.{All-cons, All-head, All-tail, All-contains}
 use Rattle.std.proofs.lemmas.List.Sorted.{All-permutation, length_permutation}
-use Rattle.msp_class.proofs.Sums.{sum_by-append, sum_by-cons, sum_by-same, sum_by-none, sum_by-some, sum_by-contains, sum_by-IsPermutation, cond-yes, cond-no}
+use Rattle.msp_class.proofs.Sums.{sum_by-append, sum_by-cons, sum_by-none, sum_by-some, sum_by-contains, sum_by-IsPermutation, cond-yes, cond-no}
 use Rattle.msp_instance.specs.declared.Instance.{Instance}
 use Rattle.msp_instance.specs.Instance.{job_at}
 use Rattle.msp_schedule.specs.declared.Piece.{Piece}
-use Rattle.msp_schedule.proofs.OneMachine.{start, finish}
 use Rattle.msp_schedule.proofs.OneRow.{time_at}
 use Rattle.msp_srpt.specs.declared.shortest.Task.{Task}
 use Rattle.msp_srpt.specs.Shortest.{run_before, left_of, IsWaiting, IsAhead, KeepsRule, idle, runs}
-use Rattle.msp_srpt.specs.Running.{Precedes, IsLaid, HasRun, HaveCome, IsUnderWay, waiting, brought}
+use Rattle.msp_srpt.specs.Running.{Precedes, HasRun, HaveCome, IsUnderWay, waiting, brought}
 use Rattle.msp_srpt.proofs.Lists.{sum_by-zero}
 use Rattle.msp_srpt.proofs.Laying.{run-settled}
 

@@ -1,4 +1,4 @@
-use Rattle.std.proofs.Common.{refl, sym, ap, ◌∙◌, rules}
+use Rattle.std.proofs.Common.{refl, sym, ap}
 use Rattle.msp_srpt.proofs.Facts.{pushed, numbers-next, each-next}
 use Rattle.msp_srpt.proofs.shortest.arrivals_of.Goals as goal
 
