@@ -10,6 +10,8 @@ mod placing;
 mod prices;
 mod search;
 mod stored;
+#[cfg(test)]
+mod tests;
 
 pub use assignment::{Assignment, MOST_COLUMNS, MOST_ROWS, assign};
 pub use costs::Costs;
