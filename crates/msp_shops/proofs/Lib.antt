@@ -2,3 +2,14 @@ pub mod Passing
 pub mod Shops
 pub mod OpenSteps
 pub mod OpenPlan
+pub mod Cut
+pub mod Threshold
+pub mod JohnsonOrder
+pub mod Sorted
+pub mod ShopPieces
+pub mod Stages
+pub mod LaidPieces
+pub mod InSeries
+pub mod Grouped
+pub mod ShopClasses
+pub mod Answered

@@ -4,7 +4,16 @@
 //! `open_shop`: the cost is the greatest of the loads of both machines and of the lengths of the jobs.
 #![tactic(auto)]
 
+mod groups;
+mod jackson;
+mod johnson;
 mod open;
+mod order;
 mod pass;
+#[cfg(test)]
+mod tests;
+mod two_machines;
 
+pub use jackson::Jackson;
+pub use johnson::Johnson;
 pub use open::{Open2, open_shop};

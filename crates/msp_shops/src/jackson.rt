@@ -1,0 +1,47 @@
+// Jackson's rule for two machines on which jobs have at most two operations.
+ghost use Rattle.std.specs.Prelude.{⊤};
+ghost use Rattle.msp_shops.specs.Classes.{jackson_class};
+
+use crate::two_machines::in_series;
+use msp_class::{Class, Crit, Env, NoMemory, Order, Times};
+use msp_instance::Instance;
+use msp_route::Solver;
+use msp_schedule::Solution;
+use std::alloc::Global;
+
+/// The class that the rule solves: `J2|n<=2|Cmax`.
+const JACKSON_CLASS: Class = Class {
+    env: Env::J2Short,
+    cut: false,
+    order: Order::Free,
+    heads: false,
+    times: Times::General,
+    crit: Crit::Cmax,
+};
+
+/// Finds a schedule of least length on two machines, where each job has at most two operations in an order of its own: each machine
+/// takes first the jobs that go on to the other one, in Johnson's order, then those that it has alone, and last those that come from
+/// the other one (Jackson 1956).
+#[derive(Clone, Copy, Debug)]
+pub struct Jackson;
+
+impl Solver for Jackson {
+    ghost solved = { λ _. jackson_class };
+
+    ghost can_solve = { λ _ _. ⊤ };
+
+    ghost may_ask = { λ _ _. ⊤ };
+
+    fn target(&self) -> Class {
+        JACKSON_CLASS
+    }
+
+    fn fits(&self, _inst: &Instance) -> bool {
+        true
+    }
+
+    /// A job with one operation takes no time on the machine that it has not, so in Johnson's order it comes after those with two.
+    fn solve(&self, alloc: Global, inst: &Instance) -> Result<Solution, NoMemory> {
+        in_series(alloc, inst)
+    }
+}

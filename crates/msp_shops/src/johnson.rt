@@ -1,0 +1,46 @@
+// Johnson's rule for two machines in series.
+ghost use Rattle.std.specs.Prelude.{⊤};
+ghost use Rattle.msp_shops.specs.Classes.{johnson_class};
+
+use crate::two_machines::in_series;
+use msp_class::{Class, Crit, Env, NoMemory, Order, Times};
+use msp_instance::Instance;
+use msp_route::Solver;
+use msp_schedule::Solution;
+use std::alloc::Global;
+
+/// The class that the rule solves: `F2||Cmax`.
+const JOHNSON_CLASS: Class = Class {
+    env: Env::F2,
+    cut: false,
+    order: Order::Free,
+    heads: false,
+    times: Times::General,
+    crit: Crit::Cmax,
+};
+
+/// Finds a schedule of least length on two machines in series: first the jobs that take no longer on the first machine, by increasing
+/// time there, then the others, by decreasing time on the second one; each operation begins as early as it can (Johnson 1954).
+#[derive(Clone, Copy, Debug)]
+pub struct Johnson;
+
+impl Solver for Johnson {
+    ghost solved = { λ _. johnson_class };
+
+    ghost can_solve = { λ _ _. ⊤ };
+
+    ghost may_ask = { λ _ _. ⊤ };
+
+    fn target(&self) -> Class {
+        JOHNSON_CLASS
+    }
+
+    fn fits(&self, _inst: &Instance) -> bool {
+        true
+    }
+
+    /// All jobs begin on the first machine.
+    fn solve(&self, alloc: Global, inst: &Instance) -> Result<Solution, NoMemory> {
+        in_series(alloc, inst)
+    }
+}
