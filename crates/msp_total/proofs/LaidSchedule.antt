@@ -1,0 +1,164 @@
+-- Laid jobs as a schedule on machines of any kind: it is feasible, what it costs, and its bounds.
+use Rattle.std.proofs.Common.{◌≡◌, ℕ, ◌+◌, ◌*◌, ◌<◌, ◌≤◌, ◌^◌, false, cond, eqb, List, [], ◌∷◌, length, get_or, map, filter, count_by, ℤ, pos, ◌*ℤ◌, ◌≤ℤ◌, All, Contains, MatchBool, inr, refl, sym, ap, subst, ◌∙◌, arith}
+use Rattle.std.proofs.lemmas.Int.{ints}
+use Rattle.std.proofs.lemmas.List.{length-map}
+use Rattle.std.proofs.lemmas.List.Elements.{All-nil, All-contains}
+use Rattle.std.proofs.lemmas.List.Sums.{length-filter, sum_by-cons}
+use Rattle.msp_class.specs.declared.class.Crit.TheVariants.{SumC}
+use Rattle.msp_class.specs.declared.environments.EnvKind.TheVariants.{Unrelated}
+use Rattle.msp_class.specs.Crit.{is_greatest}
+use Rattle.msp_class.specs.Env.{kind_of}
+use Rattle.msp_class.proofs.IntegerRing.{≤ℤ_trans, ≤ℤ_of_same, pos-le}
+use Rattle.msp_class.proofs.Sums.{Contains-from_filter, total_below, int_total_below-natural, OnceBelow, length-OnceBelow}
+use Rattle.msp_instance.specs.declared.Arc.{Arc}
+use Rattle.msp_instance.specs.declared.Instance.{Instance}
+use Rattle.msp_instance.specs.Instance.{job_at}
+use Rattle.msp_schedule.specs.declared.Piece.{Piece}
+use Rattle.msp_schedule.specs.declared.Schedule.{Schedule}
+use Rattle.msp_schedule.specs.Piece.{pieces_of, IsBefore}
+use Rattle.msp_schedule.specs.Feasible.{Feasible, HasPlace, HasOperation, MayRun, FollowsRoute, IsWholeWork, total, whole_work, work_of}
+use Rattle.msp_schedule.specs.Cost.{cost_of, end_of, job_cost}
+use Rattle.msp_schedule.specs.Within.{IsMoment, Within}
+use Rattle.msp_schedule.proofs.OneMachine.{job_of, finish, IsTimed, apart_in_int, pieces_of-job, last_end-is}
+use Rattle.msp_schedule.proofs.Intervals.{last_of}
+use Rattle.msp_schedule.proofs.Moves.{Contains-map}
+use Rattle.msp_schedule.proofs.Charges.{cost_of-sum, charge_of}
+use Rattle.msp_route.specs.Bounds.{IsAnswer, answer_unit}
+use Rattle.msp_total.specs.declared.lay.Place.{Place}
+use Rattle.msp_total.specs.Places.{laid}
+use Rattle.msp_total.specs.Turns.{seats, machine_at}
+use Rattle.msp_total.proofs.LaidJobs.{piece_before, laid-length, laid-jobs, laid-All, piece_made, laid-apart, laid-distinct, ends_of_jobs, sum_of_laid_ends, ends_soon, length_at}
+
+-- the instance has machines that may run any job, whole and at any time
+pub record IsPlain (i : Instance) : Type 0 where
+  pub cut : i.class.cut ≡ false
+  pub crit : i.class.crit ≡ SumC
+  pub arcs : i.arcs ≡ []
+  pub few : length i.jobs ≤ 400
+  pub release : (j : ℕ) → j < length i.jobs → (job_at i j).release ≡ 0
+  pub first : (j o : ℕ) → HasOperation (kind_of i.class.env) i j o → o ≡ 0
+  pub operation : (j : ℕ) → HasOperation (kind_of i.class.env) i j 0
+  pub may_run : (j m : ℕ) → m < i.machines → MayRun (kind_of i.class.env) i j 0 m
+  pub route : (ps : List Piece) → FollowsRoute (kind_of i.class.env) ps
+
+-- the places are those of all jobs, each for its time
+pub record AreFitting (i : Instance) (unit : ℕ) (places : List Place) : Type 0 where
+  pub some : 1 ≤ unit
+  pub few : unit ≤ 2 ^ 30
+  pub bounded : pos unit ≤ℤ answer_unit (kind_of i.class.env)
+  pub scaled : kind_of i.class.env ≡ Unrelated → pos unit ≤ℤ pos 4096
+  pub jobs : OnceBelow (length i.jobs) (map (λ p. p.job) places)
+  pub inside : All (λ p. p.machine < i.machines) places
+  pub lasts : All (λ p. 0 < p.length) places
+  pub short : All (λ p. p.length ≤ (1000000000 * 2 ^ 30)) places
+  pub work : (p : Place) (rest : List Place) → Contains places p → IsWholeWork (kind_of i.class.env) i (pos unit) (piece_before p rest)
+
+abbrev pub schedule_of : ℕ → List Place → Schedule
+schedule_of unit places = record { unit = pos unit; pieces = laid places }
+
+-- ---- lists
+count-map : {X : Type 0} (f : X → ℕ) (j : ℕ) (xs : List X) → count_by (λ x. eqb (f x) j) xs ≡ count_by (λ n. eqb n j) (map f xs)
+count-map f j [] = refl
+count-map f j (x ∷ xs) = omega (arith, sum_by-cons (λ x. cond (eqb (f x) j) 1 0) x xs, sum_by-cons (λ n. cond (eqb n j) 1 0) (f x) (map f xs), count-map f j xs)
+
+one_of : {X : Type 0} (xs : List X) → length xs ≡ 1 → (x : X) × (xs ≡ x ∷ [])
+one_of [] e = absurd (omega (arith, e))
+one_of (x ∷ []) e = (x, refl)
+one_of (x ∷ y ∷ xs) e = absurd (omega (arith, e))
+
+module _ (i : Instance) (plain : IsPlain i) (unit : ℕ) (places : List Place) (fits : AreFitting i unit places) where
+  abbrev n : ℕ
+  n = length i.jobs
+
+  abbrev s : Schedule
+  s = schedule_of unit places
+
+  count : length places ≡ n
+  count = sym (length-map places (λ p. p.job)) ∙ length-OnceBelow fits.jobs
+
+  lasting : (p : Place) → Contains places p → 0 < p.length
+  lasting p c = All-contains (λ q. 0 < q.length) places p fits.lasts c
+
+  timed : All IsTimed (laid places)
+  timed = laid-All IsTimed places (λ p rest c l. (piece_made p rest (lasting p c)).timed)
+
+  placed : All (HasPlace i) (laid places)
+  placed = laid-All (HasPlace i) places (λ p rest c l. record {
+    job = All-contains (λ j. j < n) (map (λ q. q.job) places) p.job fits.jobs.within (Contains-map (λ q. q.job) places p c);
+    operation = plain.operation p.job;
+    machine = plain.may_run p.job p.machine (All-contains (λ q. q.machine < i.machines) places p fits.inside c);
+  })
+
+  ops : All (λ q. q.op ≡ 0) (laid places)
+  ops = laid-All (λ q. q.op ≡ 0) places (λ p rest c l. refl)
+
+  whole : All (IsWholeWork (kind_of i.class.env) i (pos unit)) (laid places)
+  whole = laid-All (IsWholeWork (kind_of i.class.env) i (pos unit)) places (λ p rest c l. fits.work p rest c)
+
+  jobs : OnceBelow n (map (λ q. q.job) (laid places))
+  jobs = subst (OnceBelow n) (sym (laid-jobs places)) fits.jobs
+
+  piece_of_job : (j : ℕ) → j < n → (p : Piece) × (pieces_of s j 0 ≡ p ∷ [])
+  piece_of_job j l =
+      let (p, e) = one_of (filter (λ q. eqb q.job j) (laid places)) (length-filter (λ q. eqb q.job j) (laid places) ∙ count-map (λ q. q.job) j (laid places) ∙ jobs.once j l) in
+      (p, pieces_of-job s j ops ∙ e)
+
+  abbrev Gets : ℕ → Type 0
+  Gets o = (j : ℕ) → j < n → MatchBool i.class.cut (total (map (work_of (kind_of i.class.env) i) (pieces_of s j o)) ≡ pos unit *ℤ pos (whole_work (kind_of i.class.env) i j o)) ((p : Piece) × (pieces_of s j o ≡ p ∷ []) × IsWholeWork (kind_of i.class.env) i (pos unit) p)
+
+  gets : Gets 0
+  gets j l = subst (λ b. MatchBool b (total (map (work_of (kind_of i.class.env) i) (pieces_of s j 0)) ≡ pos unit *ℤ pos (whole_work (kind_of i.class.env) i j 0)) ((p : Piece) × (pieces_of s j 0 ≡ p ∷ []) × IsWholeWork (kind_of i.class.env) i (pos unit) p)) (sym plain.cut)
+      (let (p, e) = piece_of_job j l in (p, e, All-contains (IsWholeWork (kind_of i.class.env) i (pos unit)) (laid places) p whole (Contains-from_filter _ (laid places) p (subst (λ xs. Contains xs p) (sym e) (0, omega arith, refl))).0))
+
+  no_arcs : All (λ a. All (λ p. All (λ r. p.job ≡ a.before → r.job ≡ a.after → IsBefore p r) (laid places)) (laid places)) i.arcs
+  no_arcs = subst (λ arcs. All (λ a. All (λ p. All (λ r. p.job ≡ a.before → r.job ≡ a.after → IsBefore p r) (laid places)) (laid places)) arcs) (sym plain.arcs) (All-nil (λ (a : Arc). All (λ p. All (λ r. p.job ≡ a.before → r.job ≡ a.after → IsBefore p r) (laid places)) (laid places)))
+
+  pub laid_is_feasible : Feasible i s
+  laid_is_feasible = record {
+    unit = omega (arith, ints, fits.some);
+    span = λ k d l. let t = timed k d l in (omega (arith, ints, t.from), omega (arith, ints, t.from, t.to, t.lasts));
+    place = placed;
+    machine = λ a b d l k e. apart_in_int _ _ (timed a d (omega arith)) (timed b d k) (laid-apart places fits.lasts a b d l k e);
+    job = λ a b d l k e. absurd (laid-distinct n places fits.jobs a b d l k e);
+    release = λ k d l. released (get_or (laid places) k d).from unit (job_at i (get_or (laid places) k d).job).release _ (timed k d l).from (plain.release (get_or (laid places) k d).job (placed k d l).job);
+    arc = no_arcs;
+    route = plain.route (laid places);
+    work = λ j o l h. subst Gets (sym (plain.first j o h)) gets j l;
+  }
+    where
+      released : (x : ℤ) (u r b : ℕ) → x ≡ pos b → r ≡ 0 → (pos u *ℤ pos r) ≤ℤ x
+      released x u r b e z = subst (λ y. (pos u *ℤ pos y) ≤ℤ x) (sym z) (omega (arith, ints, e))
+
+  -- ---- the cost
+  pub laid_costs : cost_of i s ≤ℤ pos (total_below (length places) (λ r. length_at places r * (seats (machine_at places) r (machine_at places r) + 1)))
+  laid_costs =
+      ≤ℤ_trans (≤ℤ_of_same (cost_of-sum i s (ap is_greatest plain.crit) ∙ int_total_below-natural n (charge_of i s) (last_of job_of finish (laid places)) (λ j l. ap (λ c. job_cost c s.unit (job_at i j) (end_of s j)) plain.crit ∙ last_end-is (laid places) j timed)))
+      (subst (λ x. pos (total_below n (last_of job_of finish (laid places))) ≤ℤ pos x) (sum_of_laid_ends i.machines places fits.inside) (pos-le (ends_of_jobs n places fits.jobs)))
+
+  -- ---- bounds
+  ends : All (λ q. finish q ≤ 400 * (1000000000 * 2 ^ 30)) (laid places)
+  ends k d l = omega (arith, ends_soon ((1000000000 * 2 ^ 30)) places fits.short k d l, count, plain.few)
+
+  moments : All (λ q. IsMoment q.from × IsMoment q.to) (laid places)
+  moments k d l = by (get_or (laid places) k d) (timed k d l) (ends k d l)
+    where
+      by : (p : Piece) → IsTimed p → finish p ≤ 400 * (1000000000 * 2 ^ 30) → IsMoment p.from × IsMoment p.to
+      by p t m = ((omega (arith, ints, t.from), omega (arith, ints, t.from, t.lasts, m)), (omega (arith, ints, t.to), omega (arith, ints, t.to, m)))
+
+  pub laid_is_within : Within i s
+  laid_is_within = record {
+    unit = (omega (arith, ints, fits.some), omega (arith, ints, fits.few));
+    few = omega (arith, laid-length places, count, plain.few);
+    moments = moments;
+    scaled = λ u. inr (fits.scaled u);
+  }
+
+  pub laid_is_answer : IsAnswer i s
+  laid_is_answer = record {
+    few = omega (arith, laid-length places, count, plain.few);
+    unit = fits.bounded;
+    ends = λ k d l. by (get_or (laid places) k d) (timed k d l) (ends k d l);
+  }
+    where
+      by : (p : Piece) → IsTimed p → finish p ≤ 400 * (1000000000 * 2 ^ 30) → p.to ≤ℤ pos 10000000000000000000000000
+      by p t m = omega (arith, ints, t.to, m)

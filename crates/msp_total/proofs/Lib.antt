@@ -1,0 +1,8 @@
+mod Greedy
+mod LaidJobs
+mod LowestMultiple
+mod LaySteps
+mod UniformFacts
+mod TurnSteps
+mod LaidSchedule
+mod UniformBest

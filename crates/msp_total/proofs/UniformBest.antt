@@ -1,0 +1,389 @@
+-- The jobs that took their turns, as a schedule on uniform machines: it is feasible and best, and lies within the bounds.
+use Rattle.std.proofs.Common.{◌≡◌, ℕ, ◌+◌, ◌*◌, ◌-◌, ◌/◌, ◌<◌, ◌≤◌, ◌^◌, Bool, true, false, eqb, ◌⊎◌, inl, inr, List, length, get_or, map, ℤ, pos, nat_abs, ◌-ℤ◌, ◌*ℤ◌, ◌≤ℤ◌, All, slice_index_or, refl, sym, ap, ap₂, subst, subst₂, ◌∙◌, arith}
+use Rattle.std.proofs.lemmas.Bool.{eqb-true, eqb-false}
+use Rattle.std.proofs.lemmas.Int.{ints}
+use Rattle.std.proofs.lemmas.Nat.{mul-le}
+use Rattle.std.proofs.Math.Nat.{div-mul_cancel, mul-le-mul_left}
+use Rattle.std.proofs.lemmas.List.{length-map, get_or-map, get_or_default, same_lists}
+use Rattle.std.proofs.lemmas.List.Elements.{All-contains, Contains-get_or}
+use Rattle.msp_schedule.proofs.Moves.{Contains-map}
+use Rattle.msp_class.specs.declared.environments.EnvKind.TheVariants.{Uniform, Unrelated}
+use Rattle.msp_class.specs.Env.{kind_of}
+use Rattle.msp_class.proofs.IntegerRing.{natural, pos-le, pos-same, ≤ℤ_trans, *ℤ_comm, *ℤ-mono_nonneg}
+use Rattle.msp_class.proofs.Sums.{sum_by-map, sum_by-OnceBelow, total_below, total_below-same, total_below-scale, OnceBelow, OnceBelow-from_permutation, OnceBelow-distinct, length-OnceBelow}
+use Rattle.msp_instance.specs.declared.Instance.{Instance}
+use Rattle.msp_instance.specs.Instance.{need_at}
+use Rattle.msp_schedule.specs.declared.Piece.{Piece}
+use Rattle.msp_schedule.specs.declared.Schedule.{Schedule}
+use Rattle.msp_schedule.specs.Piece.{length_of}
+use Rattle.msp_schedule.specs.Feasible.{Feasible, HasOperation, MayRun, FollowsRoute, IsWholeWork}
+use Rattle.msp_schedule.specs.Cost.{cost_of, Best}
+use Rattle.msp_schedule.specs.Within.{Within}
+use Rattle.msp_schedule.proofs.Intervals.{IsApart}
+use Rattle.msp_schedule.proofs.OneMachine.{start, finish, IsTimed}
+use Rattle.msp_schedule.proofs.Positions.{position_of, position_of-some, position_of-few, position_of-once, sum_of_ends}
+use Rattle.msp_schedule.proofs.SolePieces.{only_piece, IsOnly, is_only, only_timed, only_placed, only_apart, sum_of_only_ends}
+use Rattle.msp_route.specs.Bounds.{IsAnswer, answer_unit}
+use Rattle.msp_total.specs.declared.lay.Place.{Place}
+use Rattle.msp_total.specs.declared.uniform.Timed.{Timed}
+use Rattle.msp_total.specs.Multiple.{IsCommon}
+use Rattle.msp_total.specs.Places.{no_place, ArePlaces, laid}
+use Rattle.msp_total.specs.Turns.{no_timed, timed_at, IsByTime, seats, multiplier, number_at, machine_at, AreTurns}
+use Rattle.msp_total.proofs.Greedy.{taken, least_in_all}
+use Rattle.msp_total.proofs.LaidJobs.{piece_before, piece_long, sum_by-places, length_at}
+use Rattle.msp_total.proofs.LaidSchedule.{IsPlain, AreFitting, schedule_of, laid_is_feasible, laid_costs, laid_is_within, laid_is_answer}
+use Rattle.msp_total.proofs.UniformFacts.{IsUniformInstance}
+
+pub IsPlain-from_uniform : (i : Instance) → IsUniformInstance i → IsPlain i
+IsPlain-from_uniform i h = record {
+  cut = h.cut;
+  crit = h.crit;
+  arcs = h.arcs;
+  few = h.few;
+  release = h.release;
+  first = λ j o op. subst (λ k. HasOperation k i j o) h.kind op;
+  operation = λ j. subst (λ k. HasOperation k i j 0) (sym h.kind) refl;
+  may_run = λ j m l. subst (λ k. MayRun k i j 0 m) (sym h.kind) l;
+  route = λ ps. subst (λ k. FollowsRoute k ps) (sym h.kind) tt;
+}
+
+-- ---- the steps of the machines
+abbrev pub steps_by : Instance → ℕ → List ℕ
+steps_by i unit = map (λ s. unit / s) i.speeds
+
+module _ (i : Instance) (h : IsUniformInstance i) (unit : ℕ) (common : IsCommon i.speeds unit) where
+  abbrev step : ℕ → ℕ
+  step m = number_at (steps_by i unit) m
+
+  abbrev speed : ℕ → ℕ
+  speed m = slice_index_or i.speeds m 0
+
+  pub steps-length : length (steps_by i unit) ≡ i.machines
+  steps-length = length-map i.speeds (λ s. unit / s) ∙ h.count
+
+  step-speed : (m : ℕ) → m < i.machines → step m * speed m ≡ unit
+  step-speed m l =
+      let inside : m < length i.speeds = omega (arith, l, h.count) in
+      ap (λ x. x * speed m) (get_or-map (λ s. unit / s) i.speeds m 0 0 inside) ∙ div-mul_cancel (speed m) (common.common m 0 inside)
+
+  step-some : (m : ℕ) → m < i.machines → 1 ≤ step m
+  step-some m l = by (step m) (speed m) unit (step-speed m l) common.some
+    where
+      by : (a b u : ℕ) → a * b ≡ u → 1 ≤ u → 1 ≤ a
+      by a b u e k = grind arith
+
+  pub step-most : (m : ℕ) → m < i.machines → step m ≤ unit
+  step-most m l = by (step m) (speed m) unit (step-speed m l) (h.speeds m 0 (omega (arith, l, h.count))).0
+    where
+      by : (a b u : ℕ) → a * b ≡ u → 1 ≤ b → a ≤ u
+      by a b u e k = grind arith
+
+  -- ---- the jobs in turn
+  module _ (few : unit ≤ 2 ^ 30) (jobs : List Timed) (sorted : IsByTime i jobs) (places : List Place) (turns : AreTurns (steps_by i unit) jobs places) where
+    abbrev n : ℕ
+    n = length i.jobs
+
+    abbrev time_of : ℕ → ℕ
+    time_of j = (need_at i j 0).time
+
+    abbrev time : ℕ → ℕ
+    time r = (timed_at jobs r).time
+
+    abbrev job : ℕ → ℕ
+    job r = (timed_at jobs r).job
+
+    abbrev machine : ℕ → ℕ
+    machine r = machine_at places r
+
+    once : OnceBelow n (map (λ t. t.job) jobs)
+    once = OnceBelow-from_permutation sorted.all
+
+    jobs-count : length jobs ≡ n
+    jobs-count = sym (length-map jobs (λ t. t.job)) ∙ length-OnceBelow once
+
+    count : length places ≡ n
+    count = turns.count ∙ jobs-count
+
+    job-inside : (r : ℕ) → r < n → job r < n
+    job-inside r l = subst (λ x. x < n) (get_or-map (λ (t : Timed). t.job) jobs r no_timed 0 inside) (once.within r 0 (omega (arith, inside, length-map jobs (λ t. t.job))))
+      where
+        inside : r < length jobs
+        inside = omega (arith, l, jobs-count)
+
+    job-once : (a b : ℕ) → a < n → b < n → job a ≡ job b → a ≡ b
+    job-once a b l m e = by (eqb a b) refl
+      where
+        at : (r : ℕ) → r < n → get_or (map (λ t. t.job) jobs) r 0 ≡ job r
+        at r k = get_or-map (λ (t : Timed). t.job) jobs r no_timed 0 (omega (arith, k, jobs-count))
+
+        apart : (a b : ℕ) → a < b → b < n → job a ≡ job b → ⊥
+        apart a b k m e = OnceBelow-distinct once a b 0 k (omega (arith, m, jobs-count, length-map jobs (λ t. t.job))) (at a (omega arith) ∙ e ∙ sym (at b m))
+
+        order : (a b : ℕ) → (a ≡ b → ⊥) → (a < b) ⊎ (b < a)
+        order a b n = grind arith
+
+        by : (t : Bool) → eqb a b ≡ t → a ≡ b
+        by true f = eqb-true a b f
+        by false f = elim (order a b (eqb-false a b f)) [ inl k ↦ absurd (apart a b k m e) | inr k ↦ absurd (apart b a k l (sym e)) ]
+
+    time-is : (r : ℕ) → r < n → time r ≡ time_of (job r)
+    time-is r l = sorted.times r no_timed (omega (arith, l, jobs-count))
+
+    falls : (a b : ℕ) → a ≤ b → b < n → time b ≤ time a
+    falls a b l m = by (eqb a b) refl
+      where
+        by : (t : Bool) → eqb a b ≡ t → time b ≤ time a
+        by true e = omega (arith, ap time (eqb-true a b e))
+        by false e = sorted.falling a b no_timed (less a b l (eqb-false a b e)) (omega (arith, m, jobs-count))
+          where
+            less : (a b : ℕ) → a ≤ b → (a ≡ b → ⊥) → a < b
+            less a b l n = omega arith
+
+    machine-inside : (r : ℕ) → r < n → machine r < i.machines
+    machine-inside r l = omega (arith, (turns.each r (omega (arith, l, count))).inside, steps-length)
+
+    greedy : (r m : ℕ) → r < n → m < i.machines → taken n i.machines step machine r ≤ multiplier step m (seats machine r m)
+    greedy r m l k = (turns.each r (omega (arith, l, count))).least m (omega (arith, k, steps-length))
+
+    length-is : (r : ℕ) → r < n → length_at places r ≡ time r * step (machine r)
+    length-is r l = (turns.each r (omega (arith, l, count))).length_is
+
+    -- the sum of completion times, over the unit
+    abbrev pub value : ℕ
+    value = total_below n (λ r. time r * taken n i.machines step machine r)
+
+    -- ---- feasible
+    same-jobs : map (λ p. p.job) places ≡ map (λ t. t.job) jobs
+    same-jobs = same_lists _ _ (length-map places (λ p. p.job) ∙ turns.count ∙ sym (length-map jobs (λ t. t.job)))
+        (λ r d l. let inside : r < length places = omega (arith, l, length-map places (λ p. p.job)) in
+        get_or-map (λ (p : Place). p.job) places r no_place d inside ∙ (turns.each r inside).job ∙ sym (get_or-map (λ (t : Timed). t.job) jobs r no_timed d (omega (arith, inside, turns.count))))
+
+    record IsMeant (p : Place) : Type 0 where
+      machine_inside : p.machine < i.machines
+      lasts : 0 < p.length
+      short : p.length ≤ 1000000000 * 2 ^ 30
+      work : p.length * speed p.machine ≡ unit * time_of p.job
+
+    meant : All IsMeant places
+    meant r d l = subst IsMeant (get_or_default places r no_place d l) (record {
+      machine_inside = machine-inside r (omega (arith, l, count));
+      lasts = omega (arith, long, mul-le 1 1 (time r) (step (machine r)) (omega (arith, at, (h.times (job r) inside).0)) (step-some (machine r) on));
+      short = omega (arith, long, mul-le (time r) (step (machine r)) 1000000000 (2 ^ 30) (omega (arith, at, (h.times (job r) inside).1)) (omega (arith, step-most (machine r) on, few)));
+      work = ap (λ x. x * speed (machine r)) long ∙ grouped (time r) (step (machine r)) (speed (machine r)) ∙ ap (λ x. x * time r) (step-speed (machine r) on) ∙ ap (λ x. unit * x) (at ∙ ap time_of (sym (turns.each r l).job));
+    })
+      where
+        below : r < n
+        below = omega (arith, l, count)
+
+        on : machine r < i.machines
+        on = machine-inside r below
+
+        inside : job r < n
+        inside = job-inside r below
+
+        at : time r ≡ time_of (job r)
+        at = time-is r below
+
+        long : length_at places r ≡ time r * step (machine r)
+        long = length-is r below
+
+        grouped : (a b c : ℕ) → a * b * c ≡ b * c * a
+        grouped a b c = omega arith
+
+    pub fitting : AreFitting i unit places
+    fitting = record {
+      some = common.some;
+      few = few;
+      bounded = subst (λ k. pos unit ≤ℤ answer_unit k) (sym h.kind) (omega (arith, ints, few));
+      scaled = λ u. absurd (not_unrelated (sym h.kind ∙ u));
+      jobs = subst (OnceBelow n) (sym same-jobs) once;
+      inside = λ k d l. (meant k d l).machine_inside;
+      lasts = λ k d l. (meant k d l).lasts;
+      short = λ k d l. (meant k d l).short;
+      work = λ p rest c. subst (λ k. IsWholeWork k i (pos unit) (piece_before p rest)) (sym h.kind) (ap (λ x. x *ℤ pos (speed p.machine)) (piece_long p rest) ∙ ap pos (All-contains IsMeant places p meant c).work);
+    }
+      where
+        not_unrelated : Uniform ≡ Unrelated → ⊥
+        not_unrelated e = cc
+
+    abbrev s : Schedule
+    s = schedule_of unit places
+
+    upper : cost_of i s ≤ℤ pos value
+    upper = subst (λ x. cost_of i s ≤ℤ pos x) (ap (λ k. total_below k (λ r. length_at places r * (seats machine r (machine r) + 1))) count ∙ total_below-same n _ _ (λ r l. ap (λ x. x * (seats machine r (machine r) + 1)) (length-is r l) ∙ grouped (time r) (step (machine r)) (seats machine r (machine r) + 1)))
+        (laid_costs i (IsPlain-from_uniform i h) unit places fitting)
+      where
+        grouped : (a b c : ℕ) → a * b * c ≡ a * (c * b)
+        grouped a b c = omega arith
+
+    -- ---- no feasible schedule costs less
+    module _ (t : Schedule) (f : Feasible i t) where
+      abbrev other : ℕ
+      other = nat_abs t.unit
+
+      abbrev on : ℕ → ℕ
+      on j = (only_piece t j).machine
+
+      abbrev begin : ℕ → ℕ
+      begin j = start (only_piece t j)
+
+      abbrev end : ℕ → ℕ
+      end j = finish (only_piece t j)
+
+      abbrev place : ℕ → ℕ
+      place j = position_of n on end j
+
+      works : (j : ℕ) → j < n → HasOperation (kind_of i.class.env) i j 0
+      works j l = subst (λ k. HasOperation k i j 0) (sym h.kind) refl
+
+      lasts : (j : ℕ) → j < n → begin j < end j
+      lasts j l = (only_timed i t h.cut works f j l).lasts
+
+      apart : (a b : ℕ) → a < n → b < n → (a ≡ b → ⊥) → on a ≡ on b → IsApart begin end a b
+      apart a b l m ne same = only_apart i t h.cut works f a b l m ne same
+
+      on-inside : (j : ℕ) → j < n → on j < i.machines
+      on-inside j l = subst (λ k. MayRun k i (only_piece t j).job (only_piece t j).op (on j)) h.kind (only_placed i t h.cut works f j l).machine
+
+      -- the unit times a job's length is its step times its time
+      size : (j : ℕ) → j < n → unit * (end j - begin j) ≡ step (on j) * (other * time_of j)
+      size j l = by (end j - begin j) (step (on j)) (speed (on j)) unit (other * time_of j) (step-speed (on j) (on-inside j l)) work
+        where
+          only : IsOnly i t h.cut works f j (only_piece t j)
+          only = is_only i t h.cut works f j l
+
+          at : IsTimed (only_piece t j)
+          at = only_timed i t h.cut works f j l
+
+          by : (x s v u w : ℕ) → s * v ≡ u → x * v ≡ w → u * x ≡ s * w
+          by x s v u w e g = ap (λ y. y * x) (sym e) ∙ turned s v x ∙ ap (λ y. s * y) g
+            where
+              turned : (a b c : ℕ) → a * b * c ≡ a * (c * b)
+              turned a b c = omega arith
+
+          long : length_of (only_piece t j) ≡ pos (end j - begin j)
+          long = lasting (end j) (begin j) (only_piece t j).to (only_piece t j).from at.to at.from at.lasts
+            where
+              lasting : (m k : ℕ) (x y : ℤ) → x ≡ pos m → y ≡ pos k → k < m → x -ℤ y ≡ pos (m - k)
+              lasting m k x y e g l = omega (arith, ints)
+
+          need_is : need_at i (only_piece t j).job (only_piece t j).op ≡ need_at i j 0
+          need_is = ap₂ (need_at i) only.job only.op
+
+          work : (end j - begin j) * speed (on j) ≡ other * time_of j
+          work = pos-same (
+              sym (ap (λ x. x *ℤ pos (speed (on j))) long)
+              ∙ subst (λ k. IsWholeWork k i t.unit (only_piece t j)) h.kind only.work
+              ∙ ap (λ x. t.unit *ℤ pos x.time) need_is ∙ ap (λ u. u *ℤ pos (time_of j)) (natural t.unit (omega (arith, ints, f.unit))))
+
+      abbrev weighed : ℕ → ℕ
+      weighed j = time_of j * multiplier step (on j) (place j - 1)
+
+      ends_take : other * total_below n weighed ≤ unit * total_below n end
+      ends_take = subst (λ x. x ≤ unit * total_below n end)
+          (sym (total_below-scale n unit (λ j. (end j - begin j) * place j)) ∙ total_below-same n _ (λ j. other * weighed j) (λ j l. turned unit (end j - begin j) (place j) (step (on j)) other (time_of j) (size j l) (position_of-some n on end j l)) ∙ total_below-scale n other weighed)
+          (mul-le-mul_left unit (sum_of_ends n on end begin lasts apart))
+        where
+          turned : (u x k s d t : ℕ) → u * x ≡ s * (d * t) → 1 ≤ k → u * (x * k) ≡ d * (t * ((k - 1 + 1) * s))
+          turned u x k s d t e some = grouped u x k ∙ ap (λ y. y * k) e ∙ ap (λ y. s * (d * t) * y) (sym (back k some)) ∙ moved s d t (k - 1 + 1)
+            where
+              grouped : (a b c : ℕ) → a * (b * c) ≡ a * b * c
+              grouped a b c = omega arith
+
+              back : (c : ℕ) → 1 ≤ c → c - 1 + 1 ≡ c
+              back c m = omega arith
+
+              moved : (a b c e : ℕ) → a * (b * c) * e ≡ b * (c * (e * a))
+              moved a b c e = omega arith
+
+      reordered : total_below n weighed ≡ total_below n (λ r. time r * multiplier step (on (job r)) (place (job r) - 1))
+      reordered =
+          sym (sum_by-OnceBelow weighed once) ∙ sum_by-map weighed (λ (t : Timed). t.job) jobs ∙ sum_by-places (λ (t : Timed). weighed t.job) jobs no_timed
+          ∙ ap (λ k. total_below k (λ r. weighed (job r))) jobs-count ∙ total_below-same n _ _ (λ r l. ap (λ x. x * multiplier step (on (job r)) (place (job r) - 1)) (sym (time-is r l)))
+
+      least : value ≤ total_below n weighed
+      least = subst (λ x. value ≤ x) (sym reordered)
+          (least_in_all n i.machines step machine machine-inside greedy time (λ r. on (job r)) (λ r. place (job r) - 1) falls
+          (λ a l. let j = job-inside a l in (on-inside (job a) j, below (place (job a)) n (position_of-some n on end (job a) j) (position_of-few n on end (job a))))
+          (λ a b l m same e. let ja = job-inside a l in let jb = job-inside b m in
+          job-once a b l m (position_of-once n on end begin lasts apart (job a) (job b) ja jb same (back (place (job a)) (place (job b)) (position_of-some n on end (job a) ja) (position_of-some n on end (job b) jb) e))))
+        where
+          below : (c n : ℕ) → 1 ≤ c → c ≤ n → c - 1 < n
+          below c n h k = omega arith
+
+          back : (c d : ℕ) → 1 ≤ c → 1 ≤ d → c - 1 ≡ d - 1 → c ≡ d
+          back c d h k e = omega arith
+
+      lower : (t.unit *ℤ pos value) ≤ℤ (pos unit *ℤ cost_of i t)
+      lower =
+          subst (λ u. (u *ℤ pos value) ≤ℤ (pos unit *ℤ cost_of i t)) (sym (natural t.unit (omega (arith, ints, f.unit))))
+          (≤ℤ_trans (pos-le (mul-le-mul_left other least)) (≤ℤ_trans (pos-le ends_take) (*ℤ-mono_nonneg (pos unit) (pos-le none) (sum_of_only_ends i t h.cut works f h.crit))))
+        where
+          none : 0 ≤ unit
+          none = omega arith
+
+    pub best : Best i s
+    best = record { feasible = laid_is_feasible i (IsPlain-from_uniform i h) unit places fitting; least = least_cost }
+      where
+        least_cost : (t : Schedule) → Feasible i t → (cost_of i s *ℤ t.unit) ≤ℤ (cost_of i t *ℤ pos unit)
+        least_cost t f = subst₂ (λ x y. x ≤ℤ y) (*ℤ_comm t.unit (cost_of i s)) (*ℤ_comm (pos unit) (cost_of i t))
+            (≤ℤ_trans (*ℤ-mono_nonneg t.unit (positive t.unit f.unit) upper) (lower t f))
+          where
+            positive : (u : ℤ) → pos 1 ≤ℤ u → pos 0 ≤ℤ u
+            positive u k = omega (arith, ints)
+
+-- ---- as the code has it
+pub record IsUniformAnswer (i : Instance) (s : Schedule) : Type 0 where
+  pub best : Best i s
+  pub within : Within i s
+  pub answer : IsAnswer i s
+
+pub IsUniformAnswer-from : (i : Instance) → IsUniformInstance i → (unit : ℕ) (u : ℤ) (steps : List ℕ) (jobs : List Timed) (places : List Place) (pieces : List Piece) → IsCommon i.speeds unit → unit ≤ 2 ^ 30 → u ≡ pos unit → steps ≡ steps_by i unit → IsByTime i jobs → AreTurns steps jobs places → pieces ≡ laid places
+    → IsUniformAnswer i (record { unit = u; pieces = pieces })
+IsUniformAnswer-from i h unit u steps jobs places pieces common few e is sorted turns all =
+    let fits = subst (λ x. AreTurns x jobs places) is turns in
+    let fit = fitting i h unit common few jobs sorted places fits in
+    subst₂ (λ x y. IsUniformAnswer i (record { unit = x; pieces = y })) (sym e) (sym all) (record {
+      best = best i h unit common few jobs sorted places fits;
+      within = laid_is_within i (IsPlain-from_uniform i h) unit places fit;
+      answer = laid_is_answer i (IsPlain-from_uniform i h) unit places fit;
+    })
+
+-- the steps of the code, over slices that are the same lists
+module _ (i : Instance) (h : IsUniformInstance i) (speeds : List ℕ) (unit : ℕ) (same_speeds : speeds ≡ i.speeds) (common : IsCommon speeds unit) (few : unit ≤ 2 ^ 30) where
+  common_of : IsCommon i.speeds unit
+  common_of = subst (λ l. IsCommon l unit) same_speeds common
+
+  steps_are : (steps taken : List ℕ) → steps ≡ map (λ s. unit / s) speeds → taken ≡ steps → taken ≡ steps_by i unit
+  steps_are steps taken e f = f ∙ e ∙ ap (map (λ s. unit / s)) same_speeds
+
+  pub steps_small : (steps taken : List ℕ) → steps ≡ map (λ s. unit / s) speeds → taken ≡ steps → All (λ s. s ≤ 2 ^ 30) taken
+  steps_small steps taken e f = subst (All (λ s. s ≤ 2 ^ 30)) (sym (steps_are steps taken e f)) small
+    where
+      small : All (λ s. s ≤ 2 ^ 30) (steps_by i unit)
+      small k d l = omega (arith, get_or_default (steps_by i unit) k d 0 l, step-most i h unit common_of k (omega (arith, l, steps-length i h unit common_of)), few)
+
+  pub steps_count : (steps taken : List ℕ) → steps ≡ map (λ s. unit / s) speeds → taken ≡ steps → length taken ≡ i.machines
+  steps_count steps taken e f = ap length (steps_are steps taken e f) ∙ steps-length i h unit common_of
+
+  module _ (jobs taken : List Timed) (sorted : IsByTime i jobs) (same_jobs : taken ≡ jobs) where
+    pub jobs_few : length taken ≤ 400
+    jobs_few = omega (arith, ap length same_jobs, length-map jobs (λ t. t.job), length-OnceBelow (OnceBelow-from_permutation sorted.all), h.few)
+
+    pub jobs_short : All (λ t. t.time ≤ 1000000000) taken
+    jobs_short = subst (All (λ t. t.time ≤ 1000000000)) (sym same_jobs) (λ k d l. omega (arith, sorted.times k d l, (h.times (get_or jobs k d).job (inside k d l)).1))
+      where
+        inside : All (λ t. t.job < length i.jobs) jobs
+        inside k d l = All-contains (λ j. j < length i.jobs) (map (λ t. t.job) jobs) (get_or jobs k d).job (OnceBelow-from_permutation sorted.all).within (Contains-map (λ t. t.job) jobs (get_or jobs k d) (Contains-get_or jobs k d l))
+
+    module _ (steps slice : List ℕ) (are_steps : steps ≡ map (λ s. unit / s) speeds) (same_steps : slice ≡ steps) (places listed : List Place) (turns : AreTurns slice taken places) (same_places : listed ≡ places) where
+      turns_of : AreTurns (steps_by i unit) jobs places
+      turns_of = subst₂ (λ x y. AreTurns x y places) (steps_are steps slice are_steps same_steps) same_jobs turns
+
+      pub places_small : ArePlaces listed
+      places_small =
+          let f = fitting i h unit common_of few jobs sorted places turns_of in
+          subst ArePlaces (sym same_places) (omega (arith, turns_of.count, ap length same_jobs, jobs_few), λ k d l. (omega (arith, f.inside k d l, h.machines), f.short k d l))
+
+      pub answer_read : (u : ℤ) (pieces : List Piece) → u ≡ pos unit → pieces ≡ laid listed → IsUniformAnswer i (record { unit = u; pieces = pieces })
+      answer_read u pieces e all = IsUniformAnswer-from i h unit u (steps_by i unit) jobs places pieces common_of few e refl sorted turns_of (all ∙ ap laid same_places)

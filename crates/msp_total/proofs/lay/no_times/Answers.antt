@@ -1,0 +1,5 @@
+use Rattle.std.proofs.lemmas.List.{get_or-replicate}
+use Rattle.msp_total.proofs.lay.no_times.Goals as goal
+
+pub returns : goal.returns
+returns c m h = get_or-replicate 32 m 0 0 h

@@ -1,0 +1,191 @@
+// Uniform machines: the longest jobs take the positions of least multiplier.
+ghost use Rattle.std.specs.Prelude.{◌≡◌, ◌+◌, ◌*◌, ◌/◌, ◌<◌, ◌≤◌, length, map, slice_set, All, IfOk, ⊤};
+ghost use Rattle.std.specs.List.{range_with_len};
+ghost use Rattle.msp_instance.specs.declared.ranges.TheConstants.{GREATEST, GREATEST_MULTIPLE, MOST_JOBS, MOST_MACHINES};
+ghost use Rattle.msp_instance.specs.Instance.{need_at};
+ghost use Rattle.msp_instance.specs.Conditions.{Inner};
+ghost use Rattle.msp_schedule.specs.Cost.{IsBest};
+ghost use Rattle.msp_route.specs.Bounds.{IsAnswer};
+ghost use Rattle.msp_total.specs.Classes.{uniform_class};
+ghost use Rattle.msp_total.specs.Turns.{IsByTime, IsFirstLeast, AreTurns, number_at};
+
+use crate::lay::{Place, lay};
+use crate::multiple::multiple_of_all;
+use msp_class::{Class, Crit, Env, NoMemory, Order, Times};
+use msp_instance::{Instance, first_time};
+use msp_route::Solver;
+use msp_schedule::{Schedule, Solution};
+use std::alloc::Global;
+
+/// The class that the rule solves: `Q||sumC`.
+const UNIFORM_CLASS: Class = Class {
+    env: Env::Q,
+    cut: false,
+    order: Order::Free,
+    heads: false,
+    times: Times::General,
+    crit: Crit::SumC,
+};
+
+/// A job and its time.
+#[derive(Clone, Copy)]
+pub struct Timed {
+    pub job: u32,
+    pub time: u64,
+}
+
+/// The jobs with their times.
+fn timed_jobs(alloc: Global, inst: &Instance) -> Result<Vec<Timed>, NoMemory>
+    requires { length inst.now.jobs ≤ MOST_JOBS }
+    ensures jobs { IfOk result (λ all. map (λ t. t.job) all.items ≡ range_with_len 0 (length inst.now.jobs)) }
+    ensures times { IfOk result (λ all. All (λ t. t.time ≡ (need_at inst.now t.job 0).time) all.items) }
+{
+    let jobs = inst.jobs.as_slice();
+    let mut all = Vec::new(alloc);
+    for k in 0..jobs.len() {
+        let time = first_time(jobs[k].needs.as_slice());
+        let timed = Timed {
+            job: k as u32,
+            time,
+        };
+        if all.push(timed).is_err() {
+            return Err(NoMemory);
+        }
+    }
+    Ok(all)
+}
+
+/// All jobs by falling time, ties by number.
+fn jobs_by_time(alloc: Global, inst: &Instance) -> Result<Vec<Timed>, NoMemory>
+    requires inner { Inner inst.now }
+    requires class { inst.now.class ≡ uniform_class }
+    ensures { IfOk result (λ jobs. IsByTime inst.now jobs.items) }
+{
+    let mut jobs = timed_jobs(alloc, inst)?;
+    if jobs.sort_by_key(|timed| u64::MAX - timed.time).is_err() {
+        return Err(NoMemory);
+    }
+    Ok(jobs)
+}
+
+/// What one end counts on each machine: the unit over its speed.
+fn steps_of(alloc: Global, speeds: &[u64], unit: u64) -> Result<Vec<u64>, NoMemory>
+    requires { All (λ s. 1 ≤ s) speeds.now }
+    ensures { IfOk result (λ steps. steps.items ≡ map (λ s. unit / s) speeds.now) }
+{
+    let mut steps = Vec::new(alloc);
+    for speed in speeds {
+        if steps.push(unit / *speed).is_err() {
+            return Err(NoMemory);
+        }
+    }
+    Ok(steps)
+}
+
+/// The place of the least number, ties to the first.
+fn least_of(numbers: &[u64]) -> usize
+    requires { 0 < length numbers.now }
+    ensures { IsFirstLeast numbers.now result }
+{
+    let mut least = 0;
+    for k in 1..numbers.len() {
+        if numbers[k] < numbers[least] {
+            least = k;
+        }
+    }
+    least
+}
+
+/// The place of the next job: the machine where it counts least. `next` has what it counts on each.
+fn take_turn(next: &mut Vec<u64>, steps: &[u64], timed: Timed) -> Place
+    requires some { 0 < length steps.now }
+    requires few { length steps.now ≤ MOST_MACHINES }
+    requires same { length next.old.items ≡ length steps.now }
+    requires steps { All (λ s. s ≤ GREATEST_MULTIPLE) steps.now }
+    requires next { All (λ s. s ≤ MOST_JOBS * GREATEST_MULTIPLE) next.old.items }
+    requires time { timed.time ≤ GREATEST }
+    ensures least { IsFirstLeast next.old.items result.machine }
+    ensures job { result.job ≡ timed.job }
+    ensures length_is { result.length ≡ timed.time * number_at steps.now result.machine }
+    ensures next { next.new.items ≡ slice_set next.old.items result.machine (number_at next.old.items result.machine + number_at steps.now result.machine) }
+{
+    let machine = least_of(next);
+    let step = steps[machine];
+    next[machine] += step;
+    Place {
+        job: timed.job,
+        machine: machine as u32,
+        length: timed.time * step,
+    }
+}
+
+/// The places of the jobs, in turn.
+fn places_of(alloc: Global, jobs: &[Timed], steps: &[u64]) -> Result<Vec<Place>, NoMemory>
+    requires some { 0 < length steps.now }
+    requires few { length steps.now ≤ MOST_MACHINES }
+    requires jobs { length jobs.now ≤ MOST_JOBS }
+    requires steps { All (λ s. s ≤ GREATEST_MULTIPLE) steps.now }
+    requires times { All (λ t. t.time ≤ GREATEST) jobs.now }
+    ensures { IfOk result (λ places. AreTurns steps.now jobs.now places.items) }
+{
+    let mut places = Vec::new(alloc);
+    let mut next = match Vec::from_slice(alloc, steps) {
+        Ok(next) => next,
+        Err(_) => return Err(NoMemory),
+    };
+    for timed in jobs {
+        let place = take_turn(&mut next, steps, *timed);
+        if places.push(place).is_err() {
+            return Err(NoMemory);
+        }
+    }
+    Ok(places)
+}
+
+/// A best schedule on uniform machines. The longest job comes first and takes the position of least multiplier, and so on: a job that k
+/// others follow on a machine of speed s counts (k + 1) / s times its time (Horowitz and Sahni 1976). The unit is the least common
+/// multiple of the speeds.
+pub fn schedule_by_multipliers(alloc: Global, inst: &Instance) -> Result<Solution, NoMemory>
+    requires inner { Inner inst.now }
+    requires class { inst.now.class ≡ uniform_class }
+    ensures best { IfOk result (λ s. IsBest inst.now s) }
+    ensures bounds { IfOk result (λ s. IsAnswer inst.now s.schedule) }
+{
+    let speeds = inst.speeds.as_slice();
+    let unit = multiple_of_all(speeds);
+    let steps = steps_of(alloc, speeds, unit)?;
+    let jobs = jobs_by_time(alloc, inst)?;
+    let places = places_of(alloc, jobs.as_slice(), steps.as_slice())?;
+    let pieces = lay(alloc, places.as_slice())?;
+    let schedule = Schedule {
+        unit: i128::from(unit),
+        pieces,
+    };
+    let cost = msp_schedule::cost(inst, &schedule);
+    Ok(Solution { schedule, cost })
+}
+
+/// Finds a schedule of least total completion time on uniform machines: the longest jobs take the least multipliers, ties to the lesser
+/// machine (Horowitz and Sahni 1976).
+#[derive(Clone, Copy, Debug)]
+pub struct Uniform;
+
+impl Solver for Uniform {
+    ghost solved = { λ _. uniform_class };
+
+    ghost can_solve = { λ _ _. ⊤ };
+
+    ghost may_ask = { λ _ _. ⊤ };
+
+    fn target(&self) -> Class {
+        UNIFORM_CLASS
+    }
+
+    fn fits(&self, _inst: &Instance) -> bool {
+        true
+    }
+
+    fn solve(&self, alloc: Global, inst: &Instance) -> Result<Solution, NoMemory> {
+        schedule_by_multipliers(alloc, inst)
+    }
+}
