@@ -12,10 +12,10 @@ use std::alloc::Global;
 
 fn needs(alloc: Global, times: &[u64]) -> Option<List<Need>> {
     let mut needs = List::new(alloc);
-    for machine in 0..times.len() {
+    for place in 0..times.len() {
         let need = Need {
-            machine: machine as u32,
-            time: times[machine],
+            machine: u32::try_from(place).ok()?,
+            time: times[place],
         };
         if needs.push(need).is_err() {
             return None;
