@@ -57,11 +57,11 @@ abbrev pub schedule_of : ℕ → List Place → Schedule
 schedule_of unit places = record { unit = pos unit; pieces = laid places }
 
 -- ---- lists
-count-map : {X : Type 0} (f : X → ℕ) (j : ℕ) (xs : List X) → count_by (λ x. eqb (f x) j) xs ≡ count_by (λ n. eqb n j) (map f xs)
+pub count-map : {X : Type 0} (f : X → ℕ) (j : ℕ) (xs : List X) → count_by (λ x. eqb (f x) j) xs ≡ count_by (λ n. eqb n j) (map f xs)
 count-map f j [] = refl
 count-map f j (x ∷ xs) = omega (arith, sum_by-cons (λ x. cond (eqb (f x) j) 1 0) x xs, sum_by-cons (λ n. cond (eqb n j) 1 0) (f x) (map f xs), count-map f j xs)
 
-one_of : {X : Type 0} (xs : List X) → length xs ≡ 1 → (x : X) × (xs ≡ x ∷ [])
+pub one_of : {X : Type 0} (xs : List X) → length xs ≡ 1 → (x : X) × (xs ≡ x ∷ [])
 one_of [] e = absurd (omega (arith, e))
 one_of (x ∷ []) e = (x, refl)
 one_of (x ∷ y ∷ xs) e = absurd (omega (arith, e))

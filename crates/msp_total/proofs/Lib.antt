@@ -6,3 +6,9 @@ mod UniformFacts
 mod TurnSteps
 mod LaidSchedule
 mod UniformBest
+mod Seats
+mod SlotBound
+mod Filling
+mod Laid
+mod SlotFacts
+mod SlotBest

@@ -1,13 +1,21 @@
-//! The solvers of total completion time on uniform and unrelated machines.
+//! The solvers of total completion time on uniform and unrelated machines, and of unit jobs with release dates by slots.
 //!
 //! It stands on `msp_route`, and on `msp_assign` for least assignments. The layers above use the clauses of `Solver`: the answers are
 //! best.
 #![tactic(auto)]
 
+mod earliest;
 mod lay;
 mod multiple;
+mod slot_costs;
+mod slot_table;
+#[cfg(test)]
+mod slot_tests;
 #[cfg(test)]
 mod tests;
 mod uniform;
+mod unit_slots;
 
+pub use slot_table::Slots;
 pub use uniform::{Uniform, schedule_by_multipliers};
+pub use unit_slots::{SlotsCount, SlotsLate};

@@ -1,0 +1,188 @@
+// Unit jobs in the slots of the earliest schedule, at least cost.
+ghost use Rattle.std.specs.Prelude.{◌≡◌, ◌<◌, ◌≤◌, ◌^◌, ◌*◌, true, false, length, map, All, IfOk, ⊤};
+ghost use Rattle.msp_instance.specs.declared.ranges.TheConstants.{GREATEST, MOST_JOBS};
+ghost use Rattle.msp_instance.specs.Conditions.{Inner};
+ghost use Rattle.msp_schedule.specs.Cost.{IsBest};
+ghost use Rattle.msp_route.specs.Bounds.{IsAnswer};
+ghost use Rattle.msp_total.specs.Slots.{slot_class};
+ghost use Rattle.msp_total.specs.SlotSteps.{slot_piece, IsTable, AreLaid, AreLeastLaid};
+
+use crate::earliest::{Slot, earliest_slots, releases_of, sorted_releases};
+use crate::slot_table::Slots;
+use msp_assign::{Assignment, assign};
+use msp_class::{Class, Crit, Env, List, NoMemory, Order, Times};
+use msp_instance::{Instance, Job};
+use msp_route::Solver;
+use msp_schedule::{Piece, Schedule, Solution};
+use std::alloc::Global;
+
+/// `P|r,p=1|sumwT`.
+const LATE_CLASS: Class = Class {
+    env: Env::P,
+    cut: false,
+    order: Order::Free,
+    heads: true,
+    times: Times::Unit,
+    crit: Crit::SumWT,
+};
+
+/// `P|r,p=1|sumwU`.
+const COUNT_CLASS: Class = Class {
+    env: Env::P,
+    cut: false,
+    order: Order::Free,
+    heads: true,
+    times: Times::Unit,
+    crit: Crit::SumWU,
+};
+
+fn starts_of(alloc: Global, slots: &[Slot]) -> Result<Vec<u64>, NoMemory>
+    ensures { IfOk result (λ all. all.items ≡ map (λ s. s.start) slots.now) }
+{
+    match slots.iter().map(|slot| slot.start).collect(alloc) {
+        Ok(all) => Ok(all),
+        Err(_) => Err(NoMemory),
+    }
+}
+
+fn dues_of(alloc: Global, jobs: &[Job]) -> Result<Vec<i64>, NoMemory>
+    ensures { IfOk result (λ all. all.items ≡ map (λ j. j.due) jobs.now) }
+{
+    match jobs.iter().map(|job| job.due).collect(alloc) {
+        Ok(all) => Ok(all),
+        Err(_) => Err(NoMemory),
+    }
+}
+
+fn weights_of(alloc: Global, jobs: &[Job]) -> Result<Vec<u64>, NoMemory>
+    ensures { IfOk result (λ all. all.items ≡ map (λ j. j.weight) jobs.now) }
+{
+    match jobs.iter().map(|job| job.weight).collect(alloc) {
+        Ok(all) => Ok(all),
+        Err(_) => Err(NoMemory),
+    }
+}
+
+/// What the jobs cost in the slots.
+fn table_of(alloc: Global, inst: &Instance, slots: &[Slot], late: bool) -> Result<Slots, NoMemory>
+    requires jobs { length inst.now.jobs ≤ MOST_JOBS }
+    requires slots { length slots.now ≤ MOST_JOBS }
+    requires light { All (λ w. w ≤ GREATEST) (map (λ j. j.weight) inst.now.jobs) }
+    ensures { IfOk result (IsTable inst.now late slots.now) }
+{
+    let jobs = inst.jobs.as_slice();
+    let start = List::from_vec(starts_of(alloc, slots)?);
+    let release = List::from_vec(releases_of(alloc, jobs)?);
+    let due = List::from_vec(dues_of(alloc, jobs)?);
+    let weight = List::from_vec(weights_of(alloc, jobs)?);
+    Ok(Slots {
+        late,
+        start,
+        release,
+        due,
+        weight,
+    })
+}
+
+fn piece_of(job: u32, slot: &Slot) -> Piece
+    ensures { result ≡ slot_piece job slot.now }
+{
+    Piece {
+        job,
+        op: 0,
+        machine: slot.machine,
+        from: i128::from(slot.start),
+        to: i128::from(slot.start) + 1,
+    }
+}
+
+/// The jobs in the slots of their columns.
+fn laid_out(alloc: Global, slots: &[Slot], column: &[u32]) -> Result<List<Piece>, NoMemory>
+    requires few { length column.now ≤ MOST_JOBS }
+    requires inside { All (λ c. c < length slots.now) column.now }
+    ensures { IfOk result (AreLaid slots.now column.now (length column.now)) }
+{
+    let mut pieces = List::new(alloc);
+    for job in 0..column.len() {
+        let next = piece_of(job as u32, &slots[column[job] as usize]);
+        if pieces.push(next).is_err() {
+            return Err(NoMemory);
+        }
+    }
+    Ok(pieces)
+}
+
+/// The pieces of a schedule of least cost.
+fn least_pieces(alloc: Global, inst: &Instance, late: bool) -> Result<List<Piece>, NoMemory>
+    requires inner { Inner inst.now }
+    requires class { inst.now.class ≡ slot_class late }
+    ensures { IfOk result (AreLeastLaid inst.now late) }
+{
+    let heads = sorted_releases(alloc, inst.jobs.as_slice())?;
+    let slots = earliest_slots(alloc, heads.as_slice(), inst.machines)?;
+    let table = table_of(alloc, inst, slots.as_slice(), late)?;
+    let Assignment { column, .. } = assign(alloc, &table)?;
+    laid_out(alloc, slots.as_slice(), column.as_slice())
+}
+
+/// A schedule of least weighted tardiness, or where `late` is false, of least weight of late jobs, with its cost.
+fn schedule_in_slots(alloc: Global, inst: &Instance, late: bool) -> Result<Solution, NoMemory>
+    requires inner { Inner inst.now }
+    requires class { inst.now.class ≡ slot_class late }
+    ensures best { IfOk result (λ s. IsBest inst.now s) }
+    ensures bounds { IfOk result (λ s. IsAnswer inst.now s.schedule) }
+{
+    let pieces = least_pieces(alloc, inst, late)?;
+    let schedule = Schedule { unit: 1, pieces };
+    let cost = msp_schedule::cost(inst, &schedule);
+    Ok(Solution { schedule, cost })
+}
+
+/// Finds a schedule of unit jobs with release dates on identical machines whose weighted tardiness is least: a least assignment of the
+/// jobs to the slots of the earliest schedule (Lawler 1964).
+#[derive(Clone, Copy, Debug)]
+pub struct SlotsLate;
+
+impl Solver for SlotsLate {
+    ghost solved = { λ _. slot_class true };
+
+    ghost can_solve = { λ _ _. ⊤ };
+
+    ghost may_ask = { λ _ _. ⊤ };
+
+    fn target(&self) -> Class {
+        LATE_CLASS
+    }
+
+    fn fits(&self, _inst: &Instance) -> bool {
+        true
+    }
+
+    fn solve(&self, alloc: Global, inst: &Instance) -> Result<Solution, NoMemory> {
+        schedule_in_slots(alloc, inst, true)
+    }
+}
+
+/// Finds a schedule of unit jobs with release dates on identical machines whose late jobs weigh least, in the same way.
+#[derive(Clone, Copy, Debug)]
+pub struct SlotsCount;
+
+impl Solver for SlotsCount {
+    ghost solved = { λ _. slot_class false };
+
+    ghost can_solve = { λ _ _. ⊤ };
+
+    ghost may_ask = { λ _ _. ⊤ };
+
+    fn target(&self) -> Class {
+        COUNT_CLASS
+    }
+
+    fn fits(&self, _inst: &Instance) -> bool {
+        true
+    }
+
+    fn solve(&self, alloc: Global, inst: &Instance) -> Result<Solution, NoMemory> {
+        schedule_in_slots(alloc, inst, false)
+    }
+}
