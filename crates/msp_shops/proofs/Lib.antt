@@ -1,7 +1,8 @@
 pub mod Passing
 pub mod Shops
-pub mod OpenSteps
+pub mod OpenFacts
 pub mod OpenPlan
+pub mod OpenSteps
 pub mod Cut
 pub mod Threshold
 pub mod JohnsonOrder

@@ -1,220 +1,29 @@
--- The pieces of an open shop as the rule lays them: they are a plan, and end by the greatest of the loads and lengths, before which no
--- feasible schedule ends.
-use Rattle.std.proofs.Common.{◌≡◌, ◌≢◌, ℕ, zero, suc, ◌+◌, ◌<◌, ◌≤◌, ◌⊎◌, inl, inr, max, min, true, false, Bool, cond, eqb, leb, List, [], ◌∷◌, ◌++◌, length, get_or, map, All, AllPairs, Contains, pos, ◌*ℤ◌, ◌≤ℤ◌, sum_by, refl, sym, ap, ap₂, subst, subst₂, ◌∙◌, arith, length-append}
-use Rattle.std.specs.Prelude.{IsPermutation, MatchOption, ⊤}
-use Rattle.std.specs.List.{range_with_len}
-use Rattle.std.proofs.lemmas.Bool.{leb-true, leb-false}
-use Rattle.std.proofs.lemmas.List.{length-map, get_or-map, get_or_append_left, get_or-append-add}
-use Rattle.std.proofs.Math.Seq.{get_or-append_seam}
+-- The pieces of an open shop as the rule lays them: they are a plan, and end by the greatest of the loads and lengths.
+use Rattle.std.proofs.Common.{◌≡◌, ◌≢◌, ℕ, zero, suc, ◌+◌, ◌<◌, ◌≤◌, ◌⊎◌, inl, inr, max, List, [], ◌∷◌, ◌++◌, length, get_or, map, All, AllPairs, Contains, sum_by, refl, sym, ap, ap₂, subst, ◌∙◌, arith, length-append}
+use Rattle.std.specs.Prelude.{IsPermutation}
+use Rattle.std.proofs.lemmas.List.{length-map, get_or-map}
 use Rattle.std.proofs.lemmas.List.Elements.{All-append, All-contains, All-map, All-head, All-tail, Contains-append_left, Contains-append_right}
-use Rattle.std.proofs.lemmas.List.Sums.{sum_by-append, sum_by-cons}
-use Rattle.std.proofs.lemmas.List.Sorted.{IsPermutation-map, IsPermutation-trans, IsPermutation-append_right, All-permutation, Contains-permutation, sum_by-IsPermutation}
-use Rattle.msp_class.specs.declared.class.Env.{Env}
-use Rattle.msp_class.specs.declared.class.Env.TheVariants.{O2}
-use Rattle.msp_class.specs.declared.class.Times.{Times}
-use Rattle.msp_class.specs.declared.environments.EnvKind.TheVariants.{OpenShop}
-use Rattle.msp_class.specs.Env.{kind_of, fixed_machines, is_shop}
-use Rattle.msp_class.proofs.IntegerRing.{≤ℤ_trans}
-use Rattle.msp_class.proofs.Sums.{total_below, total_below-same, total_below-bound, total_below-range, sum_by-mono, sum_by-map, OnceBelow, OnceBelow-range, OnceBelow-permutation, OnceBelow-distinct, OnceBelow-contains, length-OnceBelow, AllPairs-tail, AllPairs-head}
-use Rattle.msp_instance.specs.declared.Need.{Need}
+use Rattle.std.proofs.lemmas.List.Sums.{sum_by-cons}
+use Rattle.std.proofs.lemmas.List.Sorted.{IsPermutation-map, All-permutation, Contains-permutation, sum_by-IsPermutation}
+use Rattle.msp_class.proofs.Sums.{total_below, total_below-range, sum_by-map, OnceBelow, OnceBelow-range, OnceBelow-permutation, OnceBelow-distinct, OnceBelow-contains, length-OnceBelow, AllPairs-tail, AllPairs-head}
 use Rattle.msp_instance.specs.declared.Instance.{Instance}
-use Rattle.msp_instance.specs.Instance.{no_need, no_job, job_at, need_at}
-use Rattle.msp_instance.specs.Conditions.{HasShape, HasTimes, HasRelease, HasArcs, MeetsConditions, Inner, inner_limits, least_time, greatest_time}
+use Rattle.msp_instance.specs.Instance.{need_at}
 use Rattle.msp_schedule.specs.declared.Piece.{Piece}
-use Rattle.msp_schedule.specs.declared.Schedule.{Schedule}
-use Rattle.msp_schedule.specs.declared.Frac.{Frac}
-use Rattle.msp_schedule.specs.Fraction.{IsOver}
-use Rattle.msp_schedule.specs.Cost.{cost_of}
-use Rattle.msp_schedule.specs.Loads.{machine_load, job_length}
-use Rattle.msp_schedule.proofs.Intervals.{IsApartOn, greatest_by, greatest_by-contains, greatest_by-reached}
+use Rattle.msp_schedule.specs.Loads.{machine_load}
+use Rattle.msp_schedule.proofs.Intervals.{IsApartOn}
 use Rattle.msp_schedule.proofs.OneMachine.{start, finish, IsTimed}
 use Rattle.msp_schedule.proofs.Series.{AllPairs-append}
 use Rattle.msp_schedule.proofs.Moves.{Contains-map}
-use Rattle.msp_schedule.proofs.Places.{sum_by-places}
-use Rattle.msp_schedule.proofs.Loads.{law_of_machines, law_of_lines}
 use Rattle.msp_shops.specs.declared.pass.JobTimes.{JobTimes}
 use Rattle.msp_shops.specs.declared.pass.Moments.{Moments}
 use Rattle.msp_shops.specs.declared.pass.Stage.{Stage}
-use Rattle.msp_shops.specs.Pass.{whole_piece, part, machine_of, IsOperation, IsOf, HasPiece, IsPass, IsCritical}
-use Rattle.msp_shops.specs.Open.{open_class, IsOpenEnd, IsOpenCost}
-use Rattle.msp_shops.specs.OpenOrder.{times_at, all_times, turned, lesser, IsSpecial, AreGrouped, IsLaid, IsLaidOut, on_first, on_second, IsOpenPlan}
+use Rattle.msp_shops.specs.Pass.{whole_piece, part, machine_of, IsOperation, IsOf, HasPiece, IsPass}
+use Rattle.msp_shops.specs.Open.{IsOpenEnd}
+use Rattle.msp_shops.specs.Times.{times_at}
+use Rattle.msp_shops.specs.OpenOrder.{all_times, IsSpecial, AreGrouped}
 use Rattle.msp_shops.proofs.Passing.{All-part, Contains-part, AllPairs-part, length-part}
-use Rattle.msp_shops.proofs.Shops.{IsPlainShop, IsTimely, IsShopPlan, IsLeastEnd, IsBestPlan, IsBestPlan-from_plan, over_one}
-
--- ---- what an instance of the class has
-pub record IsOpenInstance (i : Instance) : Type 0 where
-  pub kind : kind_of i.class.env ≡ OpenShop
-  pub shop : IsPlainShop i
-  pub few : length i.jobs ≤ 400
-  pub needs : (j : ℕ) → j < length i.jobs → length (job_at i j).needs ≡ 2
-  pub machines : (j o : ℕ) → j < length i.jobs → o < 2 → (need_at i j o).machine ≡ o
-  pub times : (j o : ℕ) → j < length i.jobs → o < 2 → (need_at i j o).time ≤ 1000000000
-
-pub IsOpenInstance-from_class : (i : Instance) → i.class ≡ open_class → Inner i → IsOpenInstance i
-IsOpenInstance-from_class i e h =
-    let env : i.class.env ≡ O2 = ap (λ c. c.env) e in
-    let m : MeetsConditions (inner_limits (kind_of i.class.env)) i = h.conditions in
-    record {
-      kind = ap kind_of env;
-      shop = record {
-        kind = ap is_shop env;
-        cut = ap (λ c. c.cut) e;
-        crit = ap (λ c. c.crit) e;
-        arcs = subst (λ o. HasArcs o i.arcs) (ap (λ c. c.order) e) m.arcs;
-        release = λ k d l. subst (λ b. HasRelease (inner_limits (kind_of i.class.env)) b (get_or i.jobs k d).release) (ap (λ c. c.heads) e) (m.jobs k d l).release;
-        some = m.some;
-      };
-      few = m.few;
-      needs = λ j l. let s = shape env m j l in omega (arith, s.0, two env m);
-      machines = λ j o l b. let s = shape env m j l in s.1 o (omega (arith, s.0, two env m, b));
-      times = λ j o l b. let s = shape env m j l in
-          let S : Env → Times → Type 0 = λ v t. HasTimes (least_time (kind_of v) t) (greatest_time (inner_limits (kind_of v)) t) (job_at i j).needs in
-          (subst₂ S env (ap (λ c. c.times) e) (m.jobs j no_job l).needs.times o no_need (omega (arith, s.0, two env m, b))).1;
-    }
-  where
-    two : i.class.env ≡ O2 → MeetsConditions (inner_limits (kind_of i.class.env)) i → i.machines ≡ 2
-    two env m = subst (λ v. MatchOption (fixed_machines v) ⊤ (λ n. i.machines ≡ n)) env m.machines.2
-
-    shape : i.class.env ≡ O2 → MeetsConditions (inner_limits (kind_of i.class.env)) i → (j : ℕ) → j < length i.jobs → HasShape OpenShop O2 i.machines (job_at i j).needs
-    shape env m j l = subst (λ v. HasShape (kind_of v) v i.machines (job_at i j).needs) env (m.jobs j no_job l).needs.shape
-
--- ---- loads and lengths
-one_or_other : (o : ℕ) → o < 2 → (o ≡ 0) ⊎ (o ≡ 1)
-one_or_other zero l = inl refl
-one_or_other (suc zero) l = inr refl
-one_or_other (suc (suc o)) l = absurd (omega arith)
-
-load_of_two : (needs : List Need) (o : ℕ) → length needs ≡ 2 → ((k : ℕ) → k < 2 → (get_or needs k no_need).machine ≡ k) → o < 2 → sum_by (λ n. cond (eqb n.machine o) n.time 0) needs ≡ (get_or needs o no_need).time
-load_of_two [] o e m l = absurd (omega (arith, e))
-load_of_two (a ∷ []) o e m l = absurd (omega (arith, e))
-load_of_two (a ∷ b ∷ c ∷ needs) o e m l = absurd (omega (arith, e))
-load_of_two (a ∷ b ∷ []) o e m l = by (one_or_other o l)
-  where
-    on : Need → ℕ
-    on n = cond (eqb n.machine o) n.time 0
-
-    sums : sum_by on (a ∷ b ∷ []) ≡ on a + on b
-    sums = omega (arith, sum_by-cons on a (b ∷ []), sum_by-cons on b [])
-
-    first_at : on a ≡ cond (eqb 0 o) a.time 0
-    first_at = ap (λ k. cond (eqb k o) a.time 0) (m 0 (omega arith))
-
-    second_at : on b ≡ cond (eqb 1 o) b.time 0
-    second_at = ap (λ k. cond (eqb k o) b.time 0) (m 1 (omega arith))
-
-    by : (o ≡ 0) ⊎ (o ≡ 1) → sum_by on (a ∷ b ∷ []) ≡ (get_or (a ∷ b ∷ []) o no_need).time
-    by (inl z) =
-        let one : on a ≡ a.time = first_at ∙ ap (λ k. cond (eqb 0 k) a.time 0) z in
-        let two : on b ≡ 0 = second_at ∙ ap (λ k. cond (eqb 1 k) b.time 0) z in
-        subst (λ n. sum_by on (a ∷ b ∷ []) ≡ (get_or (a ∷ b ∷ []) n no_need).time) (sym z) (omega (arith, sums, one, two))
-    by (inr z) =
-        let one : on a ≡ 0 = first_at ∙ ap (λ k. cond (eqb 0 k) a.time 0) z in
-        let two : on b ≡ b.time = second_at ∙ ap (λ k. cond (eqb 1 k) b.time 0) z in
-        subst (λ n. sum_by on (a ∷ b ∷ []) ≡ (get_or (a ∷ b ∷ []) n no_need).time) (sym z) (omega (arith, sums, one, two))
-
-length_of_two : (needs : List Need) → length needs ≡ 2 → sum_by (λ n. n.time) needs ≡ (get_or needs 0 no_need).time + (get_or needs 1 no_need).time
-length_of_two [] e = absurd (omega (arith, e))
-length_of_two (a ∷ []) e = absurd (omega (arith, e))
-length_of_two (a ∷ b ∷ c ∷ needs) e = absurd (omega (arith, e))
-length_of_two (a ∷ b ∷ []) e = omega (arith, sum_by-cons (λ (n : Need). n.time) a (b ∷ []), sum_by-cons (λ (n : Need). n.time) b [])
-
-module _ (i : Instance) (h : IsOpenInstance i) where
-  load_is : (o : ℕ) → o < 2 → machine_load i o ≡ total_below (length i.jobs) (λ j. (need_at i j o).time)
-  load_is o l =
-      sum_by-places (λ j. sum_by (λ n. cond (eqb n.machine o) n.time 0) j.needs) i.jobs no_job
-      ∙ total_below-same (length i.jobs) _ (λ j. (need_at i j o).time) (λ j b. load_of_two (job_at i j).needs o (h.needs j b) (λ k m. h.machines j k b m) l)
-
-  length_is : (j : ℕ) → j < length i.jobs → job_length i j ≡ (need_at i j 0).time + (need_at i j 1).time
-  length_is j l = length_of_two (job_at i j).needs (h.needs j l)
-
-  load_short : (o : ℕ) → o < 2 → machine_load i o ≤ 400000000000
-  load_short o l = omega (arith, load_is o l, total_below-bound (length i.jobs) 1000000000 (λ j. (need_at i j o).time) (λ j b. h.times j o b l), h.few)
-
-  length_short : (j : ℕ) → j < length i.jobs → job_length i j ≤ 2000000000
-  length_short j l = omega (arith, length_is j l, h.times j 0 l (omega arith), h.times j 1 l (omega arith))
-
-  pub end_short : (end : ℕ) → IsOpenEnd i end → end ≤ 400000000000
-  end_short end e = by e.reached
-    where
-      by : (end ≡ machine_load i 0) ⊎ ((end ≡ machine_load i 1) ⊎ ((j : ℕ) × (j < length i.jobs) × (end ≡ job_length i j))) → end ≤ 400000000000
-      by (inl f) = omega (arith, f, load_short 0 (omega arith))
-      by (inr (inl f)) = omega (arith, f, load_short 1 (omega arith))
-      by (inr (inr (j, l, f))) = omega (arith, f, length_short j l)
-
-  pub least_end : (end : ℕ) → IsOpenEnd i end → IsLeastEnd i end
-  least_end end e t f c b ends = by e.reached
-    where
-      by : (end ≡ machine_load i 0) ⊎ ((end ≡ machine_load i 1) ⊎ ((j : ℕ) × (j < length i.jobs) × (end ≡ job_length i j))) → (t.unit *ℤ pos end) ≤ℤ c
-      by (inl g) = subst (λ n. (t.unit *ℤ pos n) ≤ℤ c) (sym g) (law_of_machines i t 0 c h.shop.kind f b ends)
-      by (inr (inl g)) = subst (λ n. (t.unit *ℤ pos n) ≤ℤ c) (sym g) (law_of_machines i t 1 c h.shop.kind f b ends)
-      by (inr (inr (j, l, g))) = subst (λ n. (t.unit *ℤ pos n) ≤ℤ c) (sym g) (≤ℤ_trans (law_of_lines i t j h.shop.kind f l) (ends j l))
-
-abbrev pub job_numbers : Instance → List ℕ
-job_numbers i = range_with_len 0 (length i.jobs)
-
--- there is a greatest of the loads and lengths
-abbrev pub open_end : Instance → ℕ
-open_end i = max (max (machine_load i 0) (machine_load i 1)) (greatest_by (job_length i) (job_numbers i))
-
-pub IsOpenEnd-open_end : (i : Instance) → 1 ≤ length i.jobs → IsOpenEnd i (open_end i)
-IsOpenEnd-open_end i some = record {
-  first_load = omega arith;
-  second_load = omega arith;
-  lengths = λ j l. omega (arith, greatest_by-contains (job_length i) (job_numbers i) j (OnceBelow-contains (OnceBelow-range (length i.jobs)) j l));
-  reached = by (machine_load i 0) (machine_load i 1) (greatest_by (job_length i) (job_numbers i)) (greatest_by-reached (job_length i) (job_numbers i) (omega (arith, some, length-OnceBelow (OnceBelow-range (length i.jobs)))));
-}
-  where
-    by : (a b c : ℕ) → (j : ℕ) × Contains (job_numbers i) j × (job_length i j ≡ c) → (max (max a b) c ≡ a) ⊎ ((max (max a b) c ≡ b) ⊎ ((j : ℕ) × (j < length i.jobs) × (max (max a b) c ≡ job_length i j)))
-    by a b c (j, k, e) = choose (leb b a) (leb c (max a b)) refl refl
-      where
-        choose : (s t : Bool) → leb b a ≡ s → leb c (max a b) ≡ t → (max (max a b) c ≡ a) ⊎ ((max (max a b) c ≡ b) ⊎ ((j : ℕ) × (j < length i.jobs) × (max (max a b) c ≡ job_length i j)))
-        choose true true f g = inl (omega (arith, leb-true _ _ f, leb-true _ _ g))
-        choose false true f g = inr (inl (omega (arith, leb-false _ _ f, leb-true _ _ g)))
-        choose s false f g = inr (inr (j, All-contains (λ x. x < length i.jobs) (job_numbers i) j (OnceBelow-range (length i.jobs)).within k, omega (arith, leb-false _ _ g, e)))
-
--- ---- the critical job
-critical_end : (others : List JobTimes) (a b end y : ℕ) → a ≤ b → All (λ t. min t.first t.second ≤ min a b) others → AreGrouped others → a + sum_by (λ t. t.first) others ≤ end → b + sum_by (λ t. t.second) others ≤ end →
-    IsCritical others (record { first = 0; second = b }) y → y ≤ end
-critical_end others a b end y small greatest grouped one two (inl e) = omega (arith, e, two)
-critical_end others a b end y small greatest grouped one two (inr (before, k, rest, is, e)) =
-    by (leb k.first k.second) refl
-  where
-    in_all : All (λ t. min t.first t.second ≤ min a b) (before ++ k ∷ rest)
-    in_all = subst (All (λ t. min t.first t.second ≤ min a b)) is greatest
-
-    in_groups : AreGrouped (before ++ k ∷ rest)
-    in_groups = subst AreGrouped is grouped
-
-    sums : (f : JobTimes → ℕ) → sum_by f others ≡ sum_by f before + (f k + sum_by f rest)
-    sums f = ap (sum_by f) is ∙ sum_by-append f before (k ∷ rest) ∙ ap (λ n. sum_by f before + n) (sum_by-cons f k rest)
-
-    long : length (before ++ k ∷ rest) ≡ length before + suc (length rest)
-    long = length-append before (k ∷ rest)
-
-    mine : min k.first k.second ≤ min a b
-    mine = All-contains (λ t. min t.first t.second ≤ min a b) (before ++ k ∷ rest) k in_all (Contains-append_right before (k ∷ rest) k (0, omega arith, refl))
-
-    ahead : k.first ≤ k.second → All (λ t. t.first ≤ t.second) before
-    ahead l n d b = subst (λ t. t.first ≤ t.second) (get_or_append_left before (k ∷ rest) d n b)
-        (in_groups n (length before) d b (omega (arith, long)) (subst (λ t. t.first ≤ t.second) (sym (get_or-append_seam before k rest d)) l))
-
-    behind : k.second < k.first → All (λ t. t.second ≤ t.first) rest
-    behind l n d b =
-        let at : get_or (before ++ k ∷ rest) (length before + suc n) d ≡ get_or rest n d = get_or-append-add before (k ∷ rest) (suc n) d in
-        let R : JobTimes → JobTimes → Type 0 = λ s t. t.first ≤ t.second → s.first ≤ s.second in
-        let r : R k (get_or rest n d) = subst₂ R (get_or-append_seam before k rest d) at (in_groups (length before) (length before + suc n) d (omega arith) (omega (arith, long, b))) in
-        other (get_or rest n d) r
-      where
-        other : (t : JobTimes) → (t.first ≤ t.second → k.first ≤ k.second) → t.second ≤ t.first
-        other t r = grind arith
-
-    by : (c : Bool) → leb k.first k.second ≡ c → y ≤ end
-    by true f =
-        let l = leb-true k.first k.second f in
-        omega (arith, e, l, mine, sum_by-mono (λ t. t.first) (λ t. t.second) before (ahead l), sums (λ t. t.second), two)
-    by false f =
-        let l = leb-false k.first k.second f in
-        omega (arith, e, l, mine, small, sum_by-mono (λ t. t.second) (λ t. t.first) rest (behind l), sums (λ t. t.first), one)
+use Rattle.msp_shops.proofs.Shops.{IsTimely, IsShopPlan, IsBestPlan, IsBestPlan-from_plan, over_one}
+use Rattle.msp_shops.proofs.OpenFacts.{IsOpenInstance, job_numbers, one_or_other, load_is, length_is, end_short, least_end, critical_end}
 
 -- ---- all jobs, the special one before the others
 pub record AreStages (first second : Stage) : Type 0 where
@@ -471,85 +280,3 @@ module _ (i : Instance) (h : IsOpenInstance i) (first second : Stage) (g : AreSt
           (omega (arith, length-append (before ++ laid) after, length-append before laid, length-part special.job second 0 special.second, length-part special.job first last special.first, p.few, few_others))
           (λ k d l. (known k d l).4)
           (omega (arith, end_short i h end e))
-
--- ---- as the code has it
-first_stages : AreStages on_first on_second
-first_stages = record { one = refl; two = refl; one_small = omega arith; two_small = omega arith; other = λ e. absurd (omega (arith, e)) }
-
-second_stages : AreStages on_second on_first
-second_stages = record { one = refl; two = refl; one_small = omega arith; two_small = omega arith; other = λ e. absurd (omega (arith, e)) }
-
-best_laid : (i : Instance) → IsOpenInstance i → (first second : Stage) → AreStages first second → (ps : List Piece) → IsLaidOut i first second ps → IsBestPlan i (open_end i) (over_one ps)
-best_laid i h first second g ps w =
-    let (to, laid, p, e) = w.laid in
-    subst (λ l. IsBestPlan i (open_end i) (over_one l)) (sym e) (IsBestPlan-from_laid i h first second g w.special w.others w.all (open_end i) (IsOpenEnd-open_end i h.shop.some) w.is_special w.grouped to laid p)
-
-pub IsBestPlan-from_open : (i : Instance) → i.class ≡ open_class → Inner i → (ps : List Piece) → IsOpenPlan i ps → IsBestPlan i (open_end i) (over_one ps)
-IsBestPlan-from_open i class inner ps (inl w) = best_laid i (IsOpenInstance-from_class i class inner) on_first on_second first_stages ps w
-IsBestPlan-from_open i class inner ps (inr w) = best_laid i (IsOpenInstance-from_class i class inner) on_second on_first second_stages ps w
-
-pub IsOpenCost-read : (i : Instance) → i.class ≡ open_class → Inner i → (cost : Frac) (s : Schedule) → IsBestPlan i (open_end i) s → IsOver cost (cost_of i s) (pos 1) → IsOpenCost i cost
-IsOpenCost-read i class inner cost s w over = (open_end i, IsOpenEnd-open_end i (IsOpenInstance-from_class i class inner).shop.some, subst (λ x. IsOver cost x (pos 1)) w.cost over)
-
--- what is asked of the jobs before they are laid
-pub record IsReady (i : Instance) (first second : Stage) (special : JobTimes) (others : List JobTimes) : Type 0 where
-  pub all : IsPermutation (all_times i first.op second.op) (special ∷ others)
-  pub few : length others ≤ 400
-  pub once : AllPairs (λ a b. a.job ≢ b.job) others
-  pub short : All (λ t. (t.first ≤ 1000000000) × (t.second ≤ 1000000000)) others
-  pub short_special : (special.first ≤ 1000000000) × (special.second ≤ 1000000000)
-
-IsReady-from_all : (i : Instance) → IsOpenInstance i → (first second : Stage) → AreStages first second → (special : JobTimes) (others : List JobTimes) → IsPermutation (all_times i first.op second.op) (special ∷ others) → IsReady i first second special others
-IsReady-from_all i h first second g special others all = record {
-  all = all;
-  few = few_others i h first second g special others all;
-  once = distinct_others i h first second g special others all;
-  short = short_others i h first second g special others all;
-  short_special = short_special i h first second g special others all;
-}
-
-sorted_rest : (times rest sorted : List JobTimes) (special : JobTimes) → IsPermutation times (special ∷ rest) → IsPermutation rest sorted → IsPermutation times (special ∷ sorted)
-sorted_rest times rest sorted special p q = IsPermutation-trans times (special ∷ rest) (special ∷ sorted) p (IsPermutation-append_right (special ∷ []) rest sorted q)
-
-turned_times : (i : Instance) (xs : List ℕ) → map turned (map (times_at i 0 1) xs) ≡ map (times_at i 1 0) xs
-turned_times i [] = refl
-turned_times i (x ∷ xs) = ap (λ l. times_at i 1 0 x ∷ l) (turned_times i xs)
-
-pub ready : (i : Instance) → i.class ≡ open_class → Inner i → (times rest sorted others : List JobTimes) (special : JobTimes) → times ≡ all_times i 0 1 → IsPermutation times (special ∷ rest) → IsPermutation rest sorted → others ≡ sorted → IsReady i on_first on_second special others
-ready i class inner times rest sorted others special is p q same =
-    IsReady-from_all i (IsOpenInstance-from_class i class inner) on_first on_second first_stages special others
-    (subst₂ (λ l m. IsPermutation l (special ∷ m)) is (sym same) (sorted_rest times rest sorted special p q))
-
-pub ready_turned : (i : Instance) → i.class ≡ open_class → Inner i → (times rest exchanged sorted others : List JobTimes) (special other : JobTimes) → times ≡ all_times i 0 1 → IsPermutation times (special ∷ rest) → exchanged ≡ map turned rest → IsPermutation exchanged sorted → others ≡ sorted → other ≡ turned special → IsReady i on_second on_first other others
-ready_turned i class inner times rest exchanged sorted others special other is p turns q same e =
-    IsReady-from_all i (IsOpenInstance-from_class i class inner) on_second on_first second_stages other others
-    (subst₂ (λ x m. IsPermutation (all_times i 1 0) (x ∷ m)) (sym e) (sym same)
-    (subst (λ l. IsPermutation l (turned special ∷ sorted)) (ap (map turned) is ∙ turned_times i (job_numbers i))
-    (sorted_rest (map turned times) (map turned rest) sorted (turned special) (IsPermutation-map turned times (special ∷ rest) p) (subst (λ l. IsPermutation l sorted) turns q))))
-
-pub laid_first : (i : Instance) (special : JobTimes) (rest sorted others : List JobTimes) (ps : List Piece) → IsReady i on_first on_second special others → special.first ≤ special.second → All (λ t. lesser t ≤ lesser special) rest → IsPermutation rest sorted → AreGrouped sorted → others ≡ sorted →
-    IsLaid on_first on_second special others ps → IsOpenPlan i ps
-laid_first i special rest sorted others ps r small greatest q grouped same laid = inl (record {
-  special = special;
-  others = others;
-  all = r.all;
-  is_special = record { lesser_first = small; greatest = subst (All (λ t. lesser t ≤ lesser special)) (sym same) (All-permutation (λ t. lesser t ≤ lesser special) rest sorted q greatest) };
-  grouped = subst AreGrouped (sym same) grouped;
-  laid = laid;
-})
-
-pub laid_second : (i : Instance) (special other : JobTimes) (rest exchanged sorted others : List JobTimes) (ps : List Piece) → IsReady i on_second on_first other others → other ≡ turned special → special.second < special.first → All (λ t. lesser t ≤ lesser special) rest →
-    exchanged ≡ map turned rest → IsPermutation exchanged sorted → AreGrouped sorted → others ≡ sorted → IsLaid on_second on_first other others ps → IsOpenPlan i ps
-laid_second i special other rest exchanged sorted others ps r e small greatest turns q grouped same laid = inr (record {
-  special = other;
-  others = others;
-  all = r.all;
-  is_special = record {
-    lesser_first = subst (λ t. t.first ≤ t.second) (sym e) (omega (arith, small));
-    greatest = subst₂ (λ x l. All (λ t. lesser t ≤ lesser x) l) (sym e) (sym same)
-        (All-permutation (λ t. lesser t ≤ lesser (turned special)) exchanged sorted q
-        (subst (All (λ t. lesser t ≤ lesser (turned special))) (sym turns) (All-map (λ t. lesser t ≤ lesser (turned special)) turned rest (λ k d l. omega (arith, greatest k d l)))));
-  };
-  grouped = subst AreGrouped (sym same) grouped;
-  laid = laid;
-})

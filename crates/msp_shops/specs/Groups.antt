@@ -7,8 +7,8 @@ use Rattle.msp_instance.specs.declared.Instance.{Instance}
 use Rattle.msp_instance.specs.declared.ranges.TheConstants.{GREATEST, MOST_JOBS}
 use Rattle.msp_instance.specs.Instance.{job_at, need_at}
 use Rattle.msp_shops.specs.declared.pass.JobTimes.{JobTimes}
-use Rattle.msp_shops.specs.OpenOrder.{times_at}
 use Rattle.msp_shops.specs.Order.{GoesBefore}
+use Rattle.msp_shops.specs.Times.{times_at}
 
 -- A job's times on the machine of its first operation and on that of its second one; 0 where it has only one.
 abbrev pub route_times : Instance → ℕ → JobTimes

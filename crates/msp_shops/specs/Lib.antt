@@ -1,5 +1,6 @@
 pub mod Classes
 pub mod Pass
+pub mod Times
 pub mod Open
 pub mod OpenOrder
 pub mod Order

@@ -3,17 +3,14 @@
 use Rattle.std.specs.Prelude.{◌≡◌, ℕ, ◌≤◌, ◌⊎◌, ◌++◌, List, ◌∷◌, length, map, max, min, All, AllPairs, IsPermutation}
 use Rattle.std.specs.List.{range_with_len}
 use Rattle.msp_instance.specs.declared.Instance.{Instance}
-use Rattle.msp_instance.specs.Instance.{need_at}
 use Rattle.msp_schedule.specs.declared.Piece.{Piece}
 use Rattle.msp_shops.specs.declared.pass.JobTimes.{JobTimes}
 use Rattle.msp_shops.specs.declared.pass.Moments.{Moments}
 use Rattle.msp_shops.specs.declared.pass.Stage.{Stage}
 use Rattle.msp_shops.specs.Pass.{part, IsPass}
+use Rattle.msp_shops.specs.Times.{times_at}
 
--- The times of each job at two operations, in order of number.
-abbrev pub times_at : Instance → ℕ → ℕ → ℕ → JobTimes
-times_at i first second j = record { job = j; first = (need_at i j first).time; second = (need_at i j second).time }
-
+-- The times of all jobs at two operations, in order of number.
 abbrev pub all_times : Instance → ℕ → ℕ → List JobTimes
 all_times i first second = map (times_at i first second) (range_with_len 0 (length i.jobs))
 

@@ -28,7 +28,7 @@ fn time_of(needs: &[Need], op: usize) -> u64
 }
 
 /// The job's times on the machines of its first and of its second operation.
-fn times_of(inst: &Instance, job: u32) -> JobTimes
+pub fn times_of(inst: &Instance, job: u32) -> JobTimes
     requires inside { job < length inst.now.jobs }
     ensures { result ≡ route_times inst.now job }
 {

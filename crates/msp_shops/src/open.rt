@@ -1,12 +1,14 @@
 // Open shops of two machines: the rule of Gonzalez and Sahni.
-ghost use Rattle.std.specs.Prelude.{◌≡◌, ◌≢◌, ◌+◌, ◌*◌, ◌<◌, ◌≤◌, ◌∷◌, length, map, min, All, AllPairs, IfOk, IsPermutation, if◌then◌else◌, nat_le, ⊤};
+ghost use Rattle.std.specs.Prelude.{◌≡◌, ◌≢◌, ◌+◌, ◌*◌, ◌<◌, ◌≤◌, ◌∷◌, length, map, min, All, AllPairs, IfOk, IsPermutation, ⊤};
 ghost use Rattle.msp_instance.specs.declared.ranges.TheConstants.{GREATEST, MOST_JOBS};
 ghost use Rattle.msp_instance.specs.Conditions.{Inner};
 ghost use Rattle.msp_schedule.specs.Cost.{IsBest};
 ghost use Rattle.msp_route.specs.Bounds.{IsAnswer};
 ghost use Rattle.msp_shops.specs.Open.{open_class, IsOpenCost};
-ghost use Rattle.msp_shops.specs.OpenOrder.{all_times, turned, lesser, AreGrouped, IsLaid, IsOpenPlan};
+ghost use Rattle.msp_shops.specs.OpenOrder.{all_times, turned, lesser, IsLaid, IsOpenPlan};
 
+use crate::groups::times_of;
+use crate::order::put_in_order;
 use crate::pass::{JobTimes, Moments, Stage, pass, put};
 use msp_class::{Class, Crit, Env, List, NoMemory, Order, Times};
 use msp_instance::Instance;
@@ -29,22 +31,14 @@ const ON_FIRST: Stage = Stage { op: 0, machine: 0 };
 
 const ON_SECOND: Stage = Stage { op: 1, machine: 1 };
 
-/// The times of each job on both machines, in order of number.
-fn times_of(alloc: Global, inst: &Instance) -> Result<Vec<JobTimes>, NoMemory>
-    requires few { length inst.now.jobs ≤ MOST_JOBS }
-    requires needs { All (λ j. length j.needs ≡ 2) inst.now.jobs }
+/// The times of all jobs on both machines, in order of number.
+fn times_of_jobs(alloc: Global, inst: &Instance) -> Result<Vec<JobTimes>, NoMemory>
+    requires { length inst.now.jobs ≤ MOST_JOBS }
     ensures { IfOk result (λ times. times.items ≡ all_times inst.now 0 1) }
 {
-    let jobs = inst.jobs.as_slice();
     let mut times = Vec::new(alloc);
-    for k in 0..jobs.len() {
-        let needs = jobs[k].needs.as_slice();
-        let job = JobTimes {
-            job: k as u32,
-            first: needs[0].time,
-            second: needs[1].time,
-        };
-        if times.push(job).is_err() {
+    for k in 0..inst.jobs.len() {
+        if times.push(times_of(inst, k as u32)).is_err() {
             return Err(NoMemory);
         }
     }
@@ -88,21 +82,6 @@ fn turn_all(alloc: Global, jobs: &[JobTimes]) -> Result<Vec<JobTimes>, NoMemory>
     }
 }
 
-/// Whether the job takes longer on the first machine than on the second, as 1 or 0.
-fn group(job: &JobTimes) -> u8
-    ensures { result ≡ (if nat_le job.now.first job.now.second then 0 else 1) }
-{
-    if job.first <= job.second { 0 } else { 1 }
-}
-
-/// Puts the jobs that take no longer on the first machine than on the second before the others.
-fn sort_by_group(jobs: &mut Vec<JobTimes>)
-    ensures all { IsPermutation jobs.old.items jobs.new.items }
-    ensures grouped { AreGrouped jobs.new.items }
-{
-    jobs.sort_unstable_by_key(|job| group(job));
-}
-
 /// The special job first on the second machine and last on the first one, and the others between.
 fn lay(
     alloc: Global,
@@ -135,20 +114,21 @@ fn lay(
     Ok(pieces)
 }
 
-/// The pieces by the rule. The special job goes last on the machine on which it takes no longer than on the other.
+/// The pieces by the rule. The special job goes last on the machine on which it takes no longer than on the other; there those jobs of
+/// the others go first that take no longer than on the other, as in Johnson's order.
 fn open_pieces(alloc: Global, inst: &Instance) -> Result<List<Piece>, NoMemory>
     requires inner { Inner inst.now }
     requires class { inst.now.class ≡ open_class }
     ensures { IfOk result (λ pieces. IsOpenPlan inst.now pieces) }
 {
-    let mut others = times_of(alloc, inst)?;
+    let mut others = times_of_jobs(alloc, inst)?;
     let special = take_special(&mut others);
     if special.first <= special.second {
-        sort_by_group(&mut others);
+        put_in_order(&mut others)?;
         return lay(alloc, special, &others, ON_FIRST, ON_SECOND);
     }
     let mut exchanged = turn_all(alloc, &others)?;
-    sort_by_group(&mut exchanged);
+    put_in_order(&mut exchanged)?;
     lay(alloc, turn(&special), &exchanged, ON_SECOND, ON_FIRST)
 }
 

@@ -1,8 +1,8 @@
-// Best schedules of small shops of two machines in series.
+// Best schedules of small shops of two machines.
 ghost use Rattle.std.specs.Prelude.{◌≡◌, IfSome};
 ghost use Rattle.msp_instance.specs.Conditions.{Inner};
 
-use crate::{Jackson, Johnson};
+use crate::{Jackson, Johnson, Open2};
 use msp_class::{Class, List};
 use msp_instance::{Curve, Instance, Job, Need, check, forward};
 use msp_route::Solver;
@@ -83,6 +83,11 @@ fn jackson(alloc: Global, routes: &[&[Need]]) -> Option<Solution> {
     Jackson.solve(alloc, &inst).ok()
 }
 
+fn open2(alloc: Global, routes: &[&[Need]]) -> Option<Solution> {
+    let inst = instance(alloc, Open2.target(), jobs(alloc, routes)?)?;
+    Open2.solve(alloc, &inst).ok()
+}
+
 #[test]
 fn three_jobs_in_johnsons_order(rt: HostRuntime) {
     let routes: [&[Need]; 3] = [
@@ -138,5 +143,32 @@ fn one_job_alone(rt: HostRuntime) {
     let best = jackson(rt.alloc(), &routes).expect(&rt, "there is memory");
     let pieces = [part(0, 0, 1, 0, 2), part(0, 1, 0, 2, 5)];
     assert_eq!(rt; best.cost.num, 5);
+    assert_eq!(rt; best.schedule.pieces.as_slice(), pieces.as_slice());
+}
+
+#[test]
+fn two_jobs_in_an_open_shop(rt: HostRuntime) {
+    let routes: [&[Need]; 2] = [&[need(0, 3), need(1, 5)], &[need(0, 4), need(1, 1)]];
+    let best = open2(rt.alloc(), &routes).expect(&rt, "there is memory");
+    let pieces = [
+        part(0, 1, 1, 0, 5),
+        part(1, 0, 0, 0, 4),
+        part(1, 1, 1, 5, 6),
+        part(0, 0, 0, 5, 8),
+    ];
+    assert_eq!(rt; best.cost.num, 8);
+    assert_eq!(rt; best.schedule.pieces.as_slice(), pieces.as_slice());
+}
+
+#[test]
+fn a_job_of_one_operation_in_an_open_shop(rt: HostRuntime) {
+    let routes: [&[Need]; 2] = [&[need(0, 6), need(1, 2)], &[need(0, 0), need(1, 7)]];
+    let best = open2(rt.alloc(), &routes).expect(&rt, "there is memory");
+    let pieces = [
+        part(0, 0, 0, 0, 6),
+        part(1, 1, 1, 0, 7),
+        part(0, 1, 1, 7, 9),
+    ];
+    assert_eq!(rt; best.cost.num, 9);
     assert_eq!(rt; best.schedule.pieces.as_slice(), pieces.as_slice());
 }

@@ -1,4 +1,4 @@
-use Rattle.msp_shops.proofs.OpenPlan.{IsBestPlan-from_open, IsOpenCost-read}
+use Rattle.msp_shops.proofs.OpenSteps.{IsBestPlan-from_open, IsOpenCost-read}
 use Rattle.msp_shops.proofs.open.open_shop.Goals as goal
 
 pub cost-cost-requires-clause-within : goal.cost-cost-requires-clause-within
