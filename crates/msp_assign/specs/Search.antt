@@ -1,7 +1,7 @@
 -- The search for a free column for one more row, from the columns and prices of the rows before it. No public contract cites this file.
 use Rattle.std.specs.Prelude.{pos, neg_ℤ, ◌≡◌, ◌≢◌, ℕ, ◌+◌, ◌-◌, ◌<◌, ◌≤◌, ◌^◌, ◌⊎◌, ℤ, List, [], ◌∷◌, ◌++◌, Bool, true, false, cond, Option, None, length, slice_index_or, sum_by, unsigned_abs, MatchOption, All, AllPairs, Contains}
 use Rattle.std.specs.List.Sorted.{IsPermutation}
-use Rattle.msp_assign.specs.Prices.{price_at}
+use Rattle.msp_assign.specs.Prices.{HasCosts, price_at}
 
 abbrev pub at : List ℕ → ℕ → ℕ
 at xs k = slice_index_or xs k 0
@@ -70,6 +70,18 @@ pub record IsSearch (cost : ℕ → ℕ → ℕ) (columns : ℕ) (fall column di
 -- How many columns are not settled.
 abbrev pub unsettled : List Bool → ℕ
 unsettled settled = sum_by (λ b. cond b 0 1) settled
+
+-- A row that was reached pays at its own column no more than at any, and the lists have all columns.
+pub record HasEdges (rows columns : ℕ) (cost : ℕ → ℕ → ℤ) (fall : List ℕ) (r depth own : ℕ) (settled : List Bool) (distance «from» : List ℕ) : Type 0 where
+  pub costs : HasCosts rows columns cost
+  pub falls : length fall ≡ columns
+  pub low : (c : ℕ) → c < columns → at fall c ≤ 2 ^ 100
+  pub flags : length settled ≡ columns
+  pub distances : length distance ≡ columns
+  pub places : length «from» ≡ columns
+  pub inside : r < rows
+  pub near : depth ≤ 2 ^ 101
+  pub least : (c : ℕ) → c < columns → own ≤ paid (sizes cost) fall r c
 
 -- A row that was reached: its place in the tree, how far it is, and what it pays at its own column.
 pub record IsRelaxedAt (cost : ℕ → ℕ → ℕ) (fall : List ℕ) (r place depth own : ℕ) (settled : List Bool) (distance «from» next next_from : List ℕ) (c : ℕ) : Type 0 where

@@ -1,7 +1,7 @@
 // The search for a free column for one more row.
 ghost use Rattle.std.specs.Prelude.{◌≡◌, ◌+◌, ◌<◌, ◌≤◌, ◌^◌, ℕ, All, Contains, IfOk, OnOk, false, length};
 ghost use Rattle.msp_assign.specs.Prices.{HasCosts};
-ghost use Rattle.msp_assign.specs.Search.{at, is_in, sizes, paid, unsettled, IsPlaced, IsOwners, IsTree, IsSearch, IsNearest, IsRelaxed, IsRelaxedOnce, IsShortened};
+ghost use Rattle.msp_assign.specs.Search.{at, is_in, sizes, paid, unsettled, IsPlaced, IsOwners, IsTree, IsSearch, IsNearest, IsRelaxed, IsRelaxedOnce, IsShortened, HasEdges};
 
 use crate::Costs;
 use std::alloc::{AllocError, Global};
@@ -60,22 +60,14 @@ pub struct Nearest {
 fn relax_column<C: Costs>(
     costs: &C,
     falls: &[u128],
-    settled: &[bool],
     reached: Reached,
+    column: u32,
+    settled: &[bool],
     distance: &mut [u128],
     from: &mut [usize],
-    column: u32,
     nearest: Nearest,
 ) -> Nearest
-    requires costs { HasCosts (C.row_count costs.now) (C.column_count costs.now) (C.cost costs.now) }
-    requires falls { length falls.now ≡ C.column_count costs.now }
-    requires low { (c : ℕ) → c < C.column_count costs.now → at falls.now c ≤ 2 ^ 100 }
-    requires flags { length settled.now ≡ C.column_count costs.now }
-    requires distances { length distance.old ≡ C.column_count costs.now }
-    requires places { length from.old ≡ C.column_count costs.now }
-    requires row { reached.row < C.row_count costs.now }
-    requires near { reached.depth ≤ 2 ^ 101 }
-    requires own { (c : ℕ) → c < C.column_count costs.now → reached.own ≤ paid (sizes (C.cost costs.now)) falls.now reached.row c }
+    requires edges { HasEdges (C.row_count costs.now) (C.column_count costs.now) (C.cost costs.now) falls.now reached.row reached.depth reached.own settled.now distance.old from.old }
     requires column { column < C.column_count costs.now }
     ensures { IsRelaxedOnce (sizes (C.cost costs.now)) falls.now reached.row reached.place reached.depth reached.own settled.now distance.old from.old distance.new from.new column nearest.column nearest.distance result.column result.distance }
 {
@@ -123,15 +115,7 @@ fn relax<C: Costs>(
     distance: &mut [u128],
     from: &mut [usize],
 ) -> u32
-    requires costs { HasCosts (C.row_count costs.now) (C.column_count costs.now) (C.cost costs.now) }
-    requires falls { length falls.now ≡ C.column_count costs.now }
-    requires low { (c : ℕ) → c < C.column_count costs.now → at falls.now c ≤ 2 ^ 100 }
-    requires flags { length settled.now ≡ C.column_count costs.now }
-    requires distances { length distance.old ≡ C.column_count costs.now }
-    requires places { length from.old ≡ C.column_count costs.now }
-    requires row { reached.row < C.row_count costs.now }
-    requires near { reached.depth ≤ 2 ^ 101 }
-    requires own { (c : ℕ) → c < C.column_count costs.now → reached.own ≤ paid (sizes (C.cost costs.now)) falls.now reached.row c }
+    requires edges { HasEdges (C.row_count costs.now) (C.column_count costs.now) (C.cost costs.now) falls.now reached.row reached.depth reached.own settled.now distance.old from.old }
     requires some { (c : ℕ) × (c < C.column_count costs.now) × (is_in settled.now c ≡ false) }
     ensures relaxed { IsRelaxed (sizes (C.cost costs.now)) (C.column_count costs.now) falls.now reached.row reached.place reached.depth reached.own settled.now distance.old from.old distance.new from.new }
     ensures nearest { IsNearest (C.column_count costs.now) distance.new settled.now result }
@@ -142,7 +126,7 @@ fn relax<C: Costs>(
     };
     for column in 0..costs.columns() {
         nearest = relax_column(
-            costs, falls, settled, reached, distance, from, column, nearest,
+            costs, falls, reached, column, settled, distance, from, nearest,
         );
     }
     nearest.column
