@@ -1,2 +1,15 @@
-//! The solvers on one machine by blocks.
+//! Solvers on one machine for the greatest cost of a job by its curve, where jobs are released late: by blocks, with preemption or with
+//! unit times.
+//!
+//! It stands on `msp_schedule`, `msp_route`, and on Lawler's choice in `msp_single`. The layers above use the clauses of `Solver`: the
+//! answers are best.
 #![tactic(auto)]
+
+mod blocks;
+mod filling;
+mod heads;
+mod order;
+#[cfg(test)]
+mod tests;
+
+pub use blocks::{Blocks, UnitBlocks, schedule_by_blocks};

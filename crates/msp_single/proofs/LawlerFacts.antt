@@ -1,7 +1,6 @@
 -- What an instance of Lawler's class has.
-use Rattle.std.proofs.Common.{◌≡◌, ℕ, ◌<◌, length, get_or, List, [], pos, true, sym, ap, ◌∙◌, subst, arith}
+use Rattle.std.proofs.Common.{◌≡◌, ℕ, ◌<◌, inr, length, get_or, List, [], pos, true, sym, ap, ◌∙◌, subst, arith}
 use Rattle.std.proofs.lemmas.Int.{ints}
-use Rattle.msp_class.specs.declared.environments.EnvKind.TheVariants.{Identical, Unrelated}
 use Rattle.msp_class.specs.Crit.{is_greatest}
 use Rattle.msp_instance.specs.declared.Job.{Job}
 use Rattle.msp_instance.specs.declared.Instance.{Instance}
@@ -28,16 +27,13 @@ IsLawlerInstance-from_class i e h = record {
 abbrev idle : Schedule
 idle = record { unit = pos 1; pieces = [] }
 
-idle_is_within : (i : Instance) → IsPlain i → Within i idle
-idle_is_within i h = record {
+idle_is_within : (i : Instance) → Within i idle
+idle_is_within i = record {
   unit = (omega (arith, ints), omega (arith, ints));
   few = omega arith;
   moments = λ k d l. absurd (omega (arith, l));
-  scaled = λ e. absurd (not_unrelated (sym h.machine.kind ∙ e));
+  scaled = λ e. inr (omega (arith, ints));
 }
-  where
-    not_unrelated : Identical ≡ Unrelated → ⊥
-    not_unrelated e = cc
 
-pub small_job : (i : Instance) → i.class ≡ lawler_class → Inner i → (jobs : List Job) (k : ℕ) (j : Job) → jobs ≡ i.jobs → j ≡ get_or jobs k j → k < length i.jobs → HasSmallCost (pos 1) j
-small_job i e inner jobs k j same is l = subst (HasSmallCost (pos 1)) (sym (is ∙ ap (λ xs. get_or xs k j) same)) (small_costs i idle inner (idle_is_within i (IsLawlerInstance-from_class i e inner).plain) k j l)
+pub small_job : (i : Instance) → Inner i → (jobs : List Job) (k : ℕ) (j : Job) → jobs ≡ i.jobs → j ≡ get_or jobs k j → k < length i.jobs → HasSmallCost (pos 1) j
+small_job i inner jobs k j same is l = subst (HasSmallCost (pos 1)) (sym (is ∙ ap (λ xs. get_or xs k j) same)) (small_costs i idle inner (idle_is_within i) k j l)

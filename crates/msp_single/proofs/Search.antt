@@ -12,8 +12,8 @@ use Rattle.msp_instance.specs.Conditions.{IsAcyclic}
 use Rattle.msp_instance.proofs.ListingLemmas.{list_any-from_Contains, Contains-from_list_any}
 use Rattle.msp_schedule.proofs.Intervals.{greatest_by, greatest_by-contains, greatest_by-reached}
 use Rattle.msp_single.specs.declared.lawler.Candidate.{Candidate}
-use Rattle.msp_schedule.specs.Blocks.{total_time, cost_at, HasNoSuccessor}
-use Rattle.msp_single.specs.Lawler.{CostsLess, GoesLast}
+use Rattle.msp_schedule.specs.Blocks.{cost_at, HasNoSuccessor}
+use Rattle.msp_single.specs.Lawler.{CostsLess, EndsAt}
 use Rattle.msp_single.specs.Candidates.{Precedes, IsFirstCandidate, IsFound}
 use Rattle.msp_schedule.proofs.Certified.{ranked}
 
@@ -115,10 +115,10 @@ module _ (i : Instance) (left : List ℕ) (marks blocked : List Bool) (arcs : Li
         last : (rank : ℕ → ℕ) (a : Arc) (j : ℕ) → rank a.before < rank a.after → a.before ≡ j → rank j ≡ greatest_by rank left → rank a.after ≤ greatest_by rank left → ⊥
         last rank a j r e t g = omega (arith, r, ap rank e, t, g)
 
-    pub goes_last : (c : Candidate) (moment : ℕ) → moment ≡ total_time i left → IsFirstCandidate left (λ j. slice_index_or blocked j false) (λ j. cost_at i j moment) (length left) c → GoesLast i left (get_or left c.place 0)
-    goes_last c moment e h = subst (GoesLast i left) h.is (record {
+    pub ends_last : (c : Candidate) (moment : ℕ) → IsFirstCandidate left (λ j. slice_index_or blocked j false) (λ j. cost_at i j moment) (length left) c → EndsAt i moment left (get_or left c.place 0)
+    ends_last c moment h = subst (EndsAt i moment left) h.is (record {
       free = free_from_open c.job here h.free;
-      least = λ k d l free. subst (λ m. CostsLess i m c.job (get_or left k d)) e (in_costs (get_or left k d) (all k d l (open_from_free (get_or left k d) (inside k d l) free)));
+      least = λ k d l free. in_costs (get_or left k d) (all k d l (open_from_free (get_or left k d) (inside k d l) free));
     })
       where
         here : c.job < length i.jobs

@@ -17,11 +17,15 @@ lawler_class = record { env = One; cut = false; order = Prec; heads = false; tim
 abbrev pub CostsLess : Instance → ℕ → ℕ → ℕ → Type 0
 CostsLess i moment a b = (cost_at i a moment <ℤ cost_at i b moment) ⊎ ((cost_at i a moment ≡ cost_at i b moment) × (a ≤ b))
 
--- Of the jobs, the last one by Lawler's rule: of those without a successor among them it costs least when all of them are done, ties to
--- the lesser number.
-pub record GoesLast (i : Instance) (jobs : List ℕ) (last : ℕ) : Type 0 where
+-- Of the jobs, the one that ends last at the moment: of those without a successor among them it costs least there, ties to the lesser
+-- number.
+pub record EndsAt (i : Instance) (moment : ℕ) (jobs : List ℕ) (last : ℕ) : Type 0 where
   pub free : HasNoSuccessor i jobs last
-  pub least : All (λ j. HasNoSuccessor i jobs j → CostsLess i (total_time i jobs) last j) jobs
+  pub least : All (λ j. HasNoSuccessor i jobs j → CostsLess i moment last j) jobs
+
+-- Of the jobs, the last one by Lawler's rule: it ends last when all of them are done.
+abbrev pub GoesLast : Instance → List ℕ → ℕ → Type 0
+GoesLast i jobs last = EndsAt i (total_time i jobs) jobs last
 
 -- All jobs, each once, by Lawler's rule: each is the last one of itself and those before it.
 pub record IsLawlerOrder (i : Instance) (order : List ℕ) : Type 0 where

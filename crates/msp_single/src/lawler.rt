@@ -8,7 +8,7 @@ ghost use Rattle.msp_schedule.specs.Cost.{IsBest};
 ghost use Rattle.msp_schedule.specs.Fraction.{IsLowest};
 ghost use Rattle.msp_schedule.specs.Settled.{IsSettled};
 ghost use Rattle.msp_route.specs.Bounds.{IsAnswer};
-ghost use Rattle.msp_single.specs.Lawler.{lawler_class, GoesLast, IsLawlerOrder};
+ghost use Rattle.msp_single.specs.Lawler.{lawler_class, EndsAt, IsLawlerOrder};
 ghost use Rattle.msp_single.specs.Candidates.{Precedes, IsFound};
 
 use crate::row::{solution_in_order, total_time};
@@ -78,9 +78,7 @@ fn blocked_jobs(arcs: &[Arc], is_left: &[bool; MOST_JOBS]) -> [bool; MOST_JOBS]
 /// What a job costs that ends at the moment.
 fn price(inst: &Instance, job: u32, moment: u64) -> i128
     requires inner { Inner inst.now }
-    requires class { inst.now.class ≡ lawler_class }
     requires inside { job < length inst.now.jobs }
-    requires early { moment ≤ GREATEST * MOST_JOBS }
     ensures { result ≡ cost_at inst.now job moment }
 {
     job_cost_at(
@@ -111,9 +109,7 @@ fn least_of(
     moment: u64,
 ) -> Option<Candidate>
     requires inner { Inner inst.now }
-    requires class { inst.now.class ≡ lawler_class }
     requires inside { All (λ j. j < length inst.now.jobs) jobs.now }
-    requires early { moment ≤ GREATEST * MOST_JOBS }
     ensures { IsFound jobs.now (λ j. slice_index_or blocked.now j false) (λ j. cost_at inst.now j moment) (length jobs.now) result }
 {
     let mut best = None;
@@ -127,19 +123,18 @@ fn least_of(
     best
 }
 
-/// The place of the job that goes last of those left.
-fn last_place(inst: &Instance, left: &[u32]) -> usize
+/// The place of the job that ends last of those left, where they are done at the moment: of those that no other one must follow the one
+/// that costs least.
+pub fn last_place(inst: &Instance, left: &[u32], moment: u64) -> usize
     requires inner { Inner inst.now }
-    requires class { inst.now.class ≡ lawler_class }
-    requires few { length left.now ≤ MOST_JOBS }
     requires some { 0 < length left.now }
     requires inside { All (λ j. j < length inst.now.jobs) left.now }
     ensures place { result < length left.now }
-    ensures last { GoesLast inst.now left.now (slice_index_or left.now result 0) }
+    ensures last { EndsAt inst.now moment left.now (slice_index_or left.now result 0) }
 {
     let is_left = marks_of(left);
     let blocked = blocked_jobs(inst.arcs.as_slice(), &is_left);
-    match least_of(inst, left, &blocked, total_time(inst, left)) {
+    match least_of(inst, left, &blocked, moment) {
         Some(last) => last.place,
         None => unreachable!(),
     }
@@ -154,7 +149,8 @@ fn put_in_order(inst: &Instance, order: &mut [u32])
 {
     let mut left = order.len();
     while left > 0 {
-        let place = last_place(inst, &order[..left]);
+        let first = &order[..left];
+        let place = last_place(inst, first, total_time(inst, first));
         left -= 1;
         order.swap(place, left);
     }

@@ -11,6 +11,7 @@ mod smith;
 #[cfg(test)]
 mod tests;
 
-pub use lawler::Lawler;
+pub use lawler::{Lawler, last_place};
 pub use moore::Moore;
+pub use row::total_time;
 pub use smith::Smith;

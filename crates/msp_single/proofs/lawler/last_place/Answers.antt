@@ -1,4 +1,4 @@
-use Rattle.msp_single.proofs.Search.{some_open, goes_last}
+use Rattle.msp_single.proofs.Search.{some_open, ends_last}
 use Rattle.msp_single.proofs.lawler.last_place.Goals as goal
 
 pub unreachable-requires : goal.unreachable-requires
@@ -8,5 +8,5 @@ unreachable-requires c =
 
 pub returns-clause-last : goal.returns-clause-last
 returns-clause-last c =
-    goes_last c.args.inst.now c.args.left.now c.marks_of-is_left.result c.blocked_jobs-blocked.result c.as_slice.result.now c.as_slice.ensures c.requires.inner.conditions.few c.requires.inner.conditions.ends c.marks_of-is_left.ensures c.blocked_jobs-blocked.ensures
-    c.requires.inside c.in-Some.last c.total_time.result c.total_time.ensures.value c.in-Some.ensures
+    ends_last c.args.inst.now c.args.left.now c.marks_of-is_left.result c.blocked_jobs-blocked.result c.as_slice.result.now c.as_slice.ensures c.requires.inner.conditions.few c.requires.inner.conditions.ends c.marks_of-is_left.ensures c.blocked_jobs-blocked.ensures
+    c.requires.inside c.in-Some.last c.args.moment c.in-Some.ensures

@@ -1,0 +1,273 @@
+-- One job more is placed: the one that ends last in the first block takes what the others of the block leave of its time.
+use Rattle.std.proofs.Common.{◌≡◌, ◌≢◌, ℕ, ◌+◌, ◌<◌, ◌≤◌, false, eqb, ◌⊎◌, inl, inr, List, [], ◌∷◌, ◌++◌, length, get_or, filter, All, AllPairs, Contains, sum_by, ◌≤ℤ◌, sym, ap, subst, ◌∙◌, arith, le_trans, length-append, append_assoc}
+use Rattle.std.proofs.lemmas.Bool.{cases_Bool, eqb-true, eqb-false, eq-eqb}
+use Rattle.std.proofs.lemmas.List.Sums.{sum_by-cons, sum_by-append}
+use Rattle.std.proofs.lemmas.List.Elements.{All-cons, All-append, All-contains, Contains-append_left, Contains-append_cases, filter-append}
+use Rattle.msp_class.proofs.IntegerRing.{≤ℤ_of_same, <ℤ_weak}
+use Rattle.msp_class.proofs.Sums.{AllPairs-head, AllPairs-tail}
+use Rattle.msp_instance.specs.declared.Arc.{Arc}
+use Rattle.msp_instance.specs.declared.Instance.{Instance}
+use Rattle.msp_schedule.specs.declared.Piece.{Piece}
+use Rattle.msp_schedule.specs.Blocks.{cost_at}
+use Rattle.msp_schedule.proofs.Certified.{IsCertified}
+use Rattle.msp_schedule.proofs.Intervals.{IsApart, size_of, work_of}
+use Rattle.msp_schedule.proofs.JobShares.{filter_none, filter_whole}
+use Rattle.msp_schedule.proofs.OneMachine.{job_of, start, finish}
+use Rattle.msp_schedule.proofs.OneRow.{piece, time_at}
+use Rattle.msp_schedule.proofs.Series.{AllPairs-append}
+use Rattle.msp_single.specs.Lawler.{EndsAt, CostsLess}
+use Rattle.msp_blocks.specs.Filling.{done_by, busy_until, Follow, gaps, IsPut, IsFilling}
+use Rattle.msp_blocks.proofs.Lists.{All-without, All-at, All-before, AllPairs-without, AllPairs-before, AllPairs-after, Contains-with, Contains-at, Contains-without, Contains-once}
+use Rattle.msp_blocks.proofs.Idle.{done-mono, done-tight, busy-mono, busy-append, busy-done, busy-without, Follow-append, around, gaps-inside, gaps-made, gaps-apart, gaps-size, gaps-few, gaps-idle}
+
+-- what holds of the pieces of a job: the rest is by whose they are
+work_of-append : (ps new : List Piece) (j : ℕ) → work_of job_of start finish (ps ++ new) j ≡ work_of job_of start finish ps j + work_of job_of start finish new j
+work_of-append ps new j = ap (sum_by (size_of start finish)) (filter-append (λ q. eqb (job_of q) j) ps new) ∙ sum_by-append (size_of start finish) (filter (λ q. eqb (job_of q) j) ps) (filter (λ q. eqb (job_of q) j) new)
+
+work_of-none : (ps : List Piece) (j : ℕ) → All (λ p. p.job ≢ j) ps → work_of job_of start finish ps j ≡ 0
+work_of-none ps j h = ap (sum_by (size_of start finish)) (filter_none (λ q. eqb (job_of q) j) ps (λ k d l. no (get_or ps k d).job (h k d l)))
+  where
+    no : (m : ℕ) → m ≢ j → eqb m j ≡ false
+    no m n = elim (cases_Bool (eqb m j)) [ inl e ↦ absurd (n (eqb-true m j e)) | inr e ↦ e ]
+
+work_of-own : (ps : List Piece) (j : ℕ) → All (λ p. p.job ≡ j) ps → work_of job_of start finish ps j ≡ sum_by (size_of start finish) ps
+work_of-own ps j h = ap (sum_by (size_of start finish)) (filter_whole (λ q. eqb (job_of q) j) ps (λ k d l. eq-eqb _ _ (h k d l)))
+
+module _ (i : Instance) (head : ℕ → ℕ) (greatest : ℕ) (takes : (j : ℕ) → j < length i.jobs → 0 < time_at i j)
+    (rises : All (λ a. head a.before + time_at i a.before ≤ head a.after) i.arcs)
+    (X : List ℕ) (l : ℕ) (Y C : List ℕ) (ps : List Piece) (f : IsFilling i head greatest ((X ++ l ∷ Y) ++ C) ps)
+    (h e : ℕ) (first : h ≡ head (get_or (X ++ l ∷ Y) 0 0)) (tight : Follow head (time_at i) h (X ++ l ∷ Y)) (end : e ≡ h + sum_by (time_at i) (X ++ l ∷ Y)) (small : e ≤ greatest)
+    (later : All (λ c. e < head c) C) (last : EndsAt i e (X ++ l ∷ Y) l) where
+  abbrev time : ℕ → ℕ
+  time = time_at i
+
+  abbrev block : List ℕ
+  block = X ++ l ∷ Y
+
+  abbrev rest : List ℕ
+  rest = X ++ Y ++ C
+
+  -- the same list as before
+  whole_is : block ++ C ≡ X ++ l ∷ (Y ++ C)
+  whole_is = append_assoc X (l ∷ Y) C
+
+  rest_is : rest ≡ X ++ (Y ++ C)
+  rest_is = append_assoc X Y C
+
+  abbrev m : ℕ
+  m = h + sum_by time X
+
+  abbrev new : List Piece
+  new = gaps head time l m Y e
+
+  in_block : 0 < length block
+  in_block = omega (arith, length-append X (l ∷ Y))
+
+  tail : Follow head time m (l ∷ Y)
+  tail = (Follow-append head time h X (l ∷ Y) tight).1
+
+  head_is_early : head l ≤ m
+  head_is_early = tail.0
+
+  parts : e ≡ m + (time l + sum_by time Y)
+  parts = omega (arith, end, sum_by-append time X (l ∷ Y), sum_by-cons time l Y)
+
+  room : done_by head time m Y ≤ e
+  room = omega (arith, done-mono head time m (m + time l) Y (omega arith), done-tight head time (m + time l) Y tail.1, parts)
+
+  inside : All (λ g. (m ≤ start g) × (finish g ≤ e)) new
+  inside = gaps-inside head time l m e Y room
+
+  made : All (λ g. (g ≡ piece l (start g) (finish g)) × (start g < finish g)) new
+  made = gaps-made head time l m e Y
+
+  own : All (λ g. g.job ≡ l) new
+  own k d b = ap (λ g. g.job) (made k d b).0
+
+  -- ---- what was there
+  all_before : All (λ j. j < length i.jobs) (X ++ l ∷ (Y ++ C))
+  all_before = subst (All (λ j. j < length i.jobs)) whole_is f.inside
+
+  distinct_before : AllPairs (λ j k. j ≢ k) (X ++ l ∷ (Y ++ C))
+  distinct_before = subst (AllPairs (λ j k. j ≢ k)) whole_is f.distinct
+
+  sorted_before : AllPairs (λ j k. head j ≤ head k) (X ++ l ∷ (Y ++ C))
+  sorted_before = subst (AllPairs (λ j k. head j ≤ head k)) whole_is f.sorted
+
+  l_inside : l < length i.jobs
+  l_inside = All-at (λ j. j < length i.jobs) X l (Y ++ C) all_before
+
+  to_whole : (j : ℕ) → Contains rest j → Contains (block ++ C) j
+  to_whole j c = subst (λ xs. Contains xs j) (sym whole_is) (Contains-with X l (Y ++ C) j (subst (λ xs. Contains xs j) rest_is c))
+
+  to_rest : (j : ℕ) → j ≢ l → Contains (block ++ C) j → Contains rest j
+  to_rest j other c = subst (λ xs. Contains xs j) (sym rest_is) (Contains-without X l (Y ++ C) j other (subst (λ xs. Contains xs j) whole_is c))
+
+  l_left : Contains (block ++ C) l
+  l_left = Contains-append_left block C l (Contains-at X l Y)
+
+  l_gone : ¬ Contains rest l
+  l_gone c = Contains-once X l (Y ++ C) distinct_before (subst (λ xs. Contains xs l) rest_is c)
+
+  l_new : All (λ p. p.job ≢ l) ps
+  l_new k d b same = f.placed k d b (subst (Contains (block ++ C)) (sym same) l_left)
+
+  distinct_block : AllPairs (λ j k. j ≢ k) block
+  distinct_block = AllPairs-before (λ j k. j ≢ k) block C f.distinct
+
+  -- the first head is the least
+  from_first : All (λ k. h ≤ head k) block
+  from_first = subst (λ n. All (λ k. n ≤ head k) block) (sym first) (by block in_block (AllPairs-before (λ j k. head j ≤ head k) block C f.sorted))
+    where
+      by : (xs : List ℕ) → 0 < length xs → AllPairs (λ j k. head j ≤ head k) xs → All (λ k. head (get_or xs 0 0) ≤ head k) xs
+      by [] some s = absurd (omega (arith, some))
+      by (x ∷ xs) some s = All-cons (λ k. head x ≤ head k) x xs (omega arith) (AllPairs-head (λ j k. head j ≤ head k) x xs s)
+
+  -- each older piece lies before or after the block
+  apart_from_block : All (λ p. (finish p ≤ h) ⊎ (e ≤ start p)) ps
+  apart_from_block k d b =
+      let p = get_or ps k d in
+      elim (around head time h (start p) (finish p) block C in_block first tight (f.put k d b).timed.lasts (f.idle k d b)) [ inl g ↦ inl g | inr g ↦ inr (omega (arith, end, g)) ]
+
+  -- ---- what is there now
+  put_now : All (IsPut i) (ps ++ new)
+  put_now = All-append (IsPut i) ps new f.put (λ k d b. is_put (get_or new k d) (made k d b).0 (made k d b).1)
+    where
+      is_put : (g : Piece) → g ≡ piece l (start g) (finish g) → start g < finish g → IsPut i g
+      is_put g is less = record {
+        job = subst (λ x. x < length i.jobs) (sym (ap (λ g. g.job) is)) l_inside;
+        op = ap (λ g. g.op) is;
+        machine = ap (λ g. g.machine) is;
+        timed = record { from = ap (λ g. g.from) is; to = ap (λ g. g.to) is; lasts = less };
+      }
+
+  placed_now : All (λ p. ¬ Contains rest p.job) (ps ++ new)
+  placed_now = All-append (λ p. ¬ Contains rest p.job) ps new (λ k d b c. f.placed k d b (to_whole _ c)) (λ k d b c. l_gone (subst (Contains rest) (own k d b) c))
+
+  after_now : All (λ p. head p.job ≤ start p) (ps ++ new)
+  after_now = All-append (λ p. head p.job ≤ start p) ps new f.after (λ k d b. omega (arith, ap head (own k d b), head_is_early, (inside k d b).0))
+
+  abbrev Idle : Piece → Type 0
+  Idle p = busy_until head time 0 (X ++ (Y ++ C)) (finish p) ≤ start p
+
+  still_idle : All Idle ps
+  still_idle k d b = le_trans (busy-without head time 0 X l (Y ++ C) (finish (get_or ps k d))) (subst (λ xs. busy_until head time 0 xs (finish (get_or ps k d)) ≤ start (get_or ps k d)) whole_is (f.idle k d b))
+
+  sorted_after : AllPairs (λ j k. head j ≤ head k) (Y ++ C)
+  sorted_after = AllPairs-tail (λ j k. head j ≤ head k) l (Y ++ C) (AllPairs-after (λ j k. head j ≤ head k) X (l ∷ (Y ++ C)) sorted_before)
+
+  begun : (y : ℕ) → busy_until head time 0 X y ≤ m
+  begun y = le_trans (busy-done head time 0 X y) (subst (λ n. done_by head time 0 X ≤ n) (done-tight head time h X (Follow-append head time h X (l ∷ Y) tight).0) (done-mono head time 0 h X (omega arith)))
+
+  newly_idle : All Idle new
+  newly_idle k d b =
+      let y = finish (get_or new k d) in
+      subst (λ n. n ≤ start (get_or new k d)) (sym (busy-append head time 0 X (Y ++ C) y))
+      (le_trans (busy-mono head time (busy_until head time 0 X y) m (Y ++ C) y (begun y)) (gaps-idle head time l m m e Y C (omega arith) sorted_after later k d b))
+
+  idle_now : All (λ p. busy_until head time 0 rest (finish p) ≤ start p) (ps ++ new)
+  idle_now = subst (λ r. All (λ p. busy_until head time 0 r (finish p) ≤ start p) (ps ++ new)) (sym rest_is) (All-append Idle ps new still_idle newly_idle)
+
+  apart_now : AllPairs (IsApart start finish) (ps ++ new)
+  apart_now = AllPairs-append (IsApart start finish) ps new f.apart (gaps-apart head time l m e Y room) (λ k d b k' d' b'. elim (apart_from_block k d b) [
+    | inl g ↦ inl (omega (arith, g, (inside k' d' b').0))
+    | inr g ↦ inr (omega (arith, g, (inside k' d' b').1))
+  ])
+
+  -- along one arc
+  module _ (n : ℕ) (d : Arc) (b : n < length i.arcs) where
+    abbrev a : Arc
+    a = get_or i.arcs n d
+
+    rise : head a.before + time a.before ≤ head a.after
+    rise = rises n d b
+
+    early_new : All (λ p. p.job ≡ a.before → Contains rest a.after → finish p ≤ head a.after) new
+    early_new k x y same c = elim (Contains-append_cases block C a.after (to_whole a.after c)) [
+      | inl here ↦ absurd (last.free n d b (sym same ∙ own k x y) here)
+      | inr there ↦ omega (arith, (inside k x y).1, All-contains (λ c. e < head c) C a.after later there)
+    ]
+
+    old_new : (k : ℕ) (x : Piece) → k < length ps → (k' : ℕ) (x' : Piece) → k' < length new → (get_or ps k x).job ≡ a.before → (get_or new k' x').job ≡ a.after → finish (get_or ps k x) ≤ start (get_or new k' x')
+    old_new k x y k' x' y' same is =
+        let to_l : a.after ≡ l = sym is ∙ own k' x' y' in
+        omega (arith, f.early n d b k x y same (subst (Contains (block ++ C)) (sym to_l) l_left), ap head to_l, head_is_early, (inside k' x' y').0)
+
+    new_old : (k : ℕ) (x : Piece) → k < length new → (k' : ℕ) (x' : Piece) → k' < length ps → (get_or new k x).job ≡ a.before → (get_or ps k' x').job ≡ a.after → finish (get_or new k x) ≤ start (get_or ps k' x')
+    new_old k x y k' x' y' same is = elim (apart_from_block k' x' y') [
+      | inl g ↦
+          let from_l : a.before ≡ l = sym same ∙ own k x y in
+          let first_head = All-contains (λ k. h ≤ head k) block l from_first (Contains-at X l Y) in
+          absurd (omega (arith, g, first_head, ap head from_l, rise, ap head is, f.after k' x' y', (f.put k' x' y').timed.lasts))
+      | inr g ↦ omega (arith, g, (inside k x y).1)
+    ]
+
+    new_new : (k : ℕ) (x : Piece) → k < length new → (k' : ℕ) (x' : Piece) → k' < length new → (get_or new k x).job ≡ a.before → (get_or new k' x').job ≡ a.after → ⊥
+    new_new k x y k' x' y' same is =
+        let from_l : a.before ≡ l = sym same ∙ own k x y in
+        let to_l : a.after ≡ l = sym is ∙ own k' x' y' in
+        omega (arith, rise, ap head from_l, ap head to_l, ap time from_l, takes l l_inside)
+
+  early_now : All (λ a. All (λ p. p.job ≡ a.before → Contains rest a.after → finish p ≤ head a.after) (ps ++ new)) i.arcs
+  early_now n d b = All-append (λ p. p.job ≡ (get_or i.arcs n d).before → Contains rest (get_or i.arcs n d).after → finish p ≤ head (get_or i.arcs n d).after) ps new (λ k x y same c. f.early n d b k x y same (to_whole (get_or i.arcs n d).after c)) (early_new n d b)
+
+  ordered_now : All (λ a. All (λ p. All (λ q. p.job ≡ a.before → q.job ≡ a.after → finish p ≤ start q) (ps ++ new)) (ps ++ new)) i.arcs
+  ordered_now n d b = All-append (λ p. All (λ q. p.job ≡ (get_or i.arcs n d).before → q.job ≡ (get_or i.arcs n d).after → finish p ≤ start q) (ps ++ new)) ps new
+      (λ k x y. All-append (λ q. (get_or ps k x).job ≡ (get_or i.arcs n d).before → q.job ≡ (get_or i.arcs n d).after → finish (get_or ps k x) ≤ start q) ps new (f.ordered n d b k x y) (λ k' x' y' same is. old_new n d b k x y k' x' y' same is))
+      (λ k x y. All-append (λ q. (get_or new k x).job ≡ (get_or i.arcs n d).before → q.job ≡ (get_or i.arcs n d).after → finish (get_or new k x) ≤ start q) ps new (λ k' x' y' same is. new_old n d b k x y k' x' y' same is) (λ k' x' y' same is. absurd (new_new n d b k x y k' x' y' same is)))
+
+  abbrev Done : ℕ → Type 0
+  Done j = (end : ℕ) × All (λ p. p.job ≡ j → finish p ≤ end) (ps ++ new) × IsCertified i head j end
+
+  certified_last : IsCertified i head l e
+  certified_last = record {
+    jobs = block;
+    from = h;
+    some = in_block;
+    inside = All-before (λ j. j < length i.jobs) block C f.inside;
+    apart = distinct_block;
+    begin = from_first;
+    whole = end;
+    least = λ k d b free. at_most (get_or block k d) (last.least k d b free);
+  }
+    where
+      at_most : (x : ℕ) → CostsLess i e l x → cost_at i l e ≤ℤ cost_at i x e
+      at_most x c = elim c [ inl g ↦ <ℤ_weak g | inr g ↦ ≤ℤ_of_same g.0 ]
+
+  done_last : Done l
+  done_last = (e, All-append (λ p. p.job ≡ l → finish p ≤ e) ps new (λ k d b same. absurd (l_new k d b same)) (λ k d b same. (inside k d b).1), certified_last)
+
+  done_older : (j : ℕ) → j < length i.jobs → ¬ Contains (block ++ C) j → Done j
+  done_older j b gone =
+      let (end, ended, c) = f.certified j b gone in
+      (end, All-append (λ p. p.job ≡ j → finish p ≤ end) ps new ended (λ k d n same. absurd (gone (subst (Contains (block ++ C)) (sym (own k d n) ∙ same) l_left))), c)
+
+  work_last : work_of job_of start finish (ps ++ new) l ≡ time l
+  work_last = omega (arith, work_of-append ps new l, work_of-none ps l l_new, work_of-own new l own, gaps-size head time l m e Y room, parts)
+
+  work_older : (j : ℕ) → j ≢ l → work_of job_of start finish ps j ≡ time j → work_of job_of start finish (ps ++ new) j ≡ time j
+  work_older j other is = omega (arith, work_of-append ps new j, is, work_of-none new j (λ k d b same. other (sym same ∙ own k d b)))
+
+  pub IsFilling-next : IsFilling i head greatest rest (ps ++ new)
+  IsFilling-next = record {
+    inside = subst (All (λ j. j < length i.jobs)) (sym rest_is) (All-without (λ j. j < length i.jobs) X l (Y ++ C) all_before);
+    distinct = subst (AllPairs (λ j k. j ≢ k)) (sym rest_is) (AllPairs-without (λ j k. j ≢ k) X l (Y ++ C) distinct_before);
+    sorted = subst (AllPairs (λ j k. head j ≤ head k)) (sym rest_is) (AllPairs-without (λ j k. head j ≤ head k) X l (Y ++ C) sorted_before);
+    put = put_now;
+    placed = placed_now;
+    after = after_now;
+    idle = idle_now;
+    apart = apart_now;
+    early = early_now;
+    ordered = ordered_now;
+    work = λ j b gone. elim (cases_Bool (eqb j l)) [
+      | inl same ↦ subst (λ x. work_of job_of start finish (ps ++ new) x ≡ time x) (sym (eqb-true j l same)) work_last
+      | inr other ↦ work_older j (eqb-false j l other) (f.work j b (λ c. gone (to_rest j (eqb-false j l other) c)))
+    ];
+    certified = λ j b gone. elim (cases_Bool (eqb j l)) [
+      | inl same ↦ subst Done (sym (eqb-true j l same)) done_last
+      | inr other ↦ done_older j b (λ c. gone (to_rest j (eqb-false j l other) c))
+    ];
+    few = omega (arith, f.few, length-append ps new, gaps-few head time l m e Y, length-append block C, length-append X (l ∷ Y), length-append (X ++ Y) C, length-append X Y);
+    ends = All-append (λ p. finish p ≤ greatest) ps new f.ends (λ k d b. omega (arith, (inside k d b).1, small));
+  }

@@ -1,0 +1,217 @@
+-- All jobs are placed: the pieces are a feasible schedule, and it is best.
+use Rattle.std.proofs.Common.{◌≡◌, ℕ, ◌+◌, ◌<◌, ◌≤◌, ◌⊎◌, inl, inr, Bool, true, false, List, [], ◌∷◌, length, get_or, map, filter, ℤ, pos, ◌-ℤ◌, ◌*ℤ◌, ◌≤ℤ◌, All, AllPairs, Contains, IsPermutation, MatchBool, sum_by, refl, sym, ap, ◌∙◌, subst, arith}
+use Rattle.std.specs.Prelude.{◌==◌}
+use Rattle.std.specs.List.{range_with_len}
+use Rattle.std.proofs.lemmas.Int.{ints}
+use Rattle.std.proofs.lemmas.List.Sums.{sum_by-cons}
+use Rattle.std.proofs.lemmas.List.Elements.{All-nil, All-filter, All-head, All-tail}
+use Rattle.msp_class.specs.declared.environments.EnvKind.{EnvKind}
+use Rattle.msp_class.specs.declared.environments.EnvKind.TheVariants.{Identical, Unrelated}
+use Rattle.msp_class.specs.declared.class.Times.TheVariants.{Unit as UnitTimes}
+use Rattle.msp_class.specs.declared.class.Crit.TheVariants.{Fmax}
+use Rattle.msp_class.specs.declared.class.Env.TheVariants.{One}
+use Rattle.msp_class.specs.Env.{kind_of}
+use Rattle.msp_class.specs.Crit.{is_greatest}
+use Rattle.msp_class.proofs.Sums.{OnceBelow-from_permutation, OnceBelow-distinct, OnceBelow-contains, length-OnceBelow}
+use Rattle.msp_instance.specs.declared.Instance.{Instance}
+use Rattle.msp_instance.specs.Instance.{job_at, need_at, no_job, no_need}
+use Rattle.msp_instance.specs.Conditions.{HasSameTimes, Inner}
+use Rattle.msp_schedule.specs.declared.Piece.{Piece}
+use Rattle.msp_schedule.specs.declared.Schedule.{Schedule}
+use Rattle.msp_schedule.specs.Piece.{length_of, pieces_of, IsBefore}
+use Rattle.msp_schedule.specs.Feasible.{Feasible, HasPlace, HasOperation, MayRun, FollowsRoute, GetsWork, IsWholeWork, total, whole_work, work_of as part_of}
+use Rattle.msp_schedule.specs.Cost.{Best, end_of}
+use Rattle.msp_schedule.specs.Within.{IsMoment, Within}
+use Rattle.msp_schedule.proofs.Intervals.{size_of}
+use Rattle.msp_schedule.proofs.OneMachine.{start, finish, IsTimed, apart_in_int, pieces_of-job, total_lengths}
+use Rattle.msp_schedule.proofs.OneRow.{time_at}
+use Rattle.msp_schedule.proofs.LastEnds.{last_end-least}
+use Rattle.msp_schedule.proofs.Certified.{IsCertified, best_by_certificates}
+use Rattle.msp_route.specs.Bounds.{IsAnswer, answer_unit}
+use Rattle.msp_blocks.specs.Heads.{AreHeads}
+use Rattle.msp_blocks.specs.Filling.{IsPut, IsFilling, greatest_end}
+use Rattle.msp_blocks.proofs.Facts.{IsOneInstance, IsOneInstance-from, takes_time}
+
+-- ---- before the first job is placed
+pub IsFilling-none : (i : Instance) → IsOneInstance i → (head : ℕ → ℕ) (jobs : List ℕ) → IsPermutation (range_with_len 0 (length i.jobs)) jobs → AllPairs (λ a b. head a ≤ head b) jobs → IsFilling i head greatest_end jobs []
+IsFilling-none i one head jobs all rising =
+    let once = OnceBelow-from_permutation all in
+    record {
+      inside = once.within;
+      distinct = OnceBelow-distinct once;
+      sorted = rising;
+      put = All-nil _;
+      placed = All-nil _;
+      after = All-nil _;
+      idle = All-nil _;
+      apart = λ a b d l m. absurd (omega (arith, l, m));
+      early = λ k d l. All-nil _;
+      ordered = λ k d l. All-nil _;
+      work = λ j l gone. absurd (gone (OnceBelow-contains once j l));
+      certified = λ j l gone. absurd (gone (OnceBelow-contains once j l));
+      few = omega (arith, length-OnceBelow once, one.few);
+      ends = All-nil _;
+    }
+
+-- a job that takes one unit has one piece
+sole_piece : (ps : List Piece) → All IsTimed ps → sum_by (size_of start finish) ps ≡ 1 → (p : Piece) × (ps ≡ p ∷ []) × (finish p ≡ start p + 1)
+sole_piece [] t e = absurd (omega (arith, e))
+sole_piece (p ∷ []) t e = (p, refl, omega (arith, e, sum_by-cons (size_of start finish) p [], (All-head IsTimed p [] t).lasts))
+sole_piece (p ∷ q ∷ ps) t e =
+    let rest = All-tail IsTimed p (q ∷ ps) t in
+    absurd (omega (arith, e, sum_by-cons (size_of start finish) p (q ∷ ps), sum_by-cons (size_of start finish) q ps, (All-head IsTimed p (q ∷ ps) t).lasts, (All-head IsTimed q ps rest).lasts))
+
+-- with unit times each job takes one
+unit_time : (i : Instance) → IsOneInstance i → i.class.times ≡ UnitTimes → (j : ℕ) → j < length i.jobs → time_at i j ≡ 1
+unit_time i one e j l =
+    let same = subst (λ t. HasSameTimes t (need_at i 0 0).time (job_at i j).needs) e (one.inner.conditions.jobs j no_job l).times in
+    same 0 no_need (omega (arith, (one.needs j no_job l).0))
+
+module _ (i : Instance) (one : IsOneInstance i) (heads : List ℕ) (are : AreHeads i heads) (ps : List Piece) (f : IsFilling i (λ j. get_or heads j 0) greatest_end [] ps) where
+  abbrev s : Schedule
+  s = record { unit = pos 1; pieces = ps }
+
+  timed : All IsTimed ps
+  timed k d l = (f.put k d l).timed
+
+  nothing : (j : ℕ) → ¬ Contains [] j
+  nothing j c = omega (arith, c.1)
+
+  places : All (HasPlace i) ps
+  places k d l =
+      let p = f.put k d l in
+      let single = one.machine.one in
+      record {
+        job = p.job;
+        operation = subst (λ x. HasOperation x i (get_or ps k d).job (get_or ps k d).op) (sym one.machine.kind) p.op;
+        machine = subst (λ x. MayRun x i (get_or ps k d).job (get_or ps k d).op (get_or ps k d).machine) (sym one.machine.kind) (omega (arith, p.machine, single));
+      }
+
+  released : All (λ p. (pos 1 *ℤ pos (job_at i p.job).release) ≤ℤ p.from) ps
+  released k d l = by (get_or ps k d).from (start (get_or ps k d)) (job_at i (get_or ps k d).job).release (timed k d l).from (omega (arith, are.release (get_or ps k d).job (f.put k d l).job, f.after k d l))
+    where
+      by : (x : ℤ) (n r : ℕ) → x ≡ pos n → r ≤ n → (pos 1 *ℤ pos r) ≤ℤ x
+      by x n r e m = omega (arith, ints, e, m)
+
+  in_order : All (λ a. All (λ p. All (λ q. p.job ≡ a.before → q.job ≡ a.after → IsBefore p q) ps) ps) i.arcs
+  in_order n d b k x y k' x' y' same is = by (get_or ps k x) (get_or ps k' x') (timed k x y) (timed k' x' y') (f.ordered n d b k x y k' x' y' same is)
+    where
+      by : (p q : Piece) → IsTimed p → IsTimed q → finish p ≤ start q → IsBefore p q
+      by p q tp tq l = omega (arith, ints, tp.to, tq.from, l)
+
+  module _ (whole : (i.class.cut ≡ true) ⊎ (i.class.times ≡ UnitTimes)) where
+    module _ (j : ℕ) (small : j < length i.jobs) where
+      abbrev mine : List Piece
+      mine = filter (λ p. p.job == j) ps
+
+      same_pieces : pieces_of s j 0 ≡ mine
+      same_pieces = pieces_of-job s j (λ k d l. (f.put k d l).op)
+
+      timed_mine : All IsTimed mine
+      timed_mine = All-filter (λ p. p.job == j) IsTimed ps timed
+
+      work_is : sum_by (size_of start finish) mine ≡ time_at i j
+      work_is = f.work j small (nothing j)
+
+      adds_up : total (map length_of (pieces_of s j 0)) ≡ pos 1 *ℤ pos (time_at i j)
+      adds_up = ap (λ l. total (map length_of l)) same_pieces ∙ total_lengths mine timed_mine ∙ by (sum_by (size_of start finish) mine) (time_at i j) work_is
+        where
+          by : (a b : ℕ) → a ≡ b → pos a ≡ pos 1 *ℤ pos b
+          by a b e = omega (arith, ints, e)
+
+      abbrev Gets : EnvKind → ℕ → Bool → Type 0
+      Gets x n b = MatchBool b (total (map (part_of x i) (pieces_of s j n)) ≡ pos 1 *ℤ pos (whole_work x i j n)) ((p : Piece) × (pieces_of s j n ≡ p ∷ []) × IsWholeWork x i (pos 1) p)
+
+      in_one : i.class.times ≡ UnitTimes → (p : Piece) × (pieces_of s j 0 ≡ p ∷ []) × IsWholeWork Identical i (pos 1) p
+      in_one unit =
+          let (p, is, size) = sole_piece mine timed_mine (work_is ∙ unit_time i one unit j small) in
+          let put : IsPut i p = All-head (IsPut i) p [] (subst (All (IsPut i)) is (All-filter (λ p. p.job == j) (IsPut i) ps f.put)) in
+          let time_is : (need_at i p.job p.op).time ≡ 1 = ap (λ o. (need_at i p.job o).time) put.op ∙ unit_time i one unit p.job put.job in
+          (p, same_pieces ∙ is, by p.from p.to (start p) (finish p) _ put.timed.from put.timed.to size time_is)
+        where
+          by : (x y : ℤ) (a b t : ℕ) → x ≡ pos a → y ≡ pos b → b ≡ a + 1 → t ≡ 1 → (y -ℤ x) ≡ pos 1 *ℤ pos t
+          by x y a b t e g h k = omega (arith, ints, e, g, h, k)
+
+      gets : (b : Bool) → i.class.cut ≡ b → Gets Identical 0 b
+      gets true e = adds_up
+      gets false e = elim whole [ inl cut ↦ absurd (cc) | inr unit ↦ in_one unit ]
+
+      works : (n : ℕ) → HasOperation (kind_of i.class.env) i j n → GetsWork i s j n
+      works n h =
+          let zero_op : n ≡ 0 = subst (λ x. HasOperation x i j n) one.machine.kind h in
+          subst (λ x. Gets x n i.class.cut) (sym one.machine.kind) (subst (λ z. Gets Identical z i.class.cut) (sym zero_op) (gets i.class.cut refl))
+
+    is_feasible : Feasible i s
+    is_feasible = record {
+      unit = omega (arith, ints);
+      span = λ k d l. let t = timed k d l in (omega (arith, ints, t.from), omega (arith, ints, t.from, t.to, t.lasts));
+      place = places;
+      machine = λ a b d m k _. apart_in_int _ _ (timed a d (omega (arith, m, k))) (timed b d k) (f.apart a b d m k);
+      job = λ a b d m k _. apart_in_int _ _ (timed a d (omega (arith, m, k))) (timed b d k) (f.apart a b d m k);
+      release = released;
+      arc = in_order;
+      route = subst (λ x. FollowsRoute x ps) (sym one.machine.kind) tt;
+      work = λ j n l h. works j l n h;
+    }
+
+    each : (k : ℕ) → k < length i.jobs → (moment : ℕ) × (end_of s k ≤ℤ pos moment) × IsCertified i (λ j. get_or heads j 0) k moment
+    each k l =
+        let (end, ended, certified) = f.certified k l (nothing k) in
+        (end, last_end-least ps k (pos end) (omega (arith, ints)) (λ n d m same. by (get_or ps n d) (timed n d m) end (ended n d m same)), certified)
+      where
+        by : (p : Piece) → IsTimed p → (e : ℕ) → finish p ≤ e → p.to ≤ℤ pos e
+        by p t e l = omega (arith, ints, t.to, l)
+
+    is_best : is_greatest i.class.crit ≡ true → Best i s
+    is_best greatest = best_by_certificates i one.machine (takes_time i one) one.inner.conditions.ends (omega (arith, one.some)) greatest (λ j. get_or heads j 0) are.sound s refl is_feasible each
+
+  is_within : Within i s
+  is_within = record {
+    unit = (omega (arith, ints), omega (arith, ints));
+    few = omega (arith, f.few);
+    moments = λ k d l. by (get_or ps k d) (timed k d l) (f.ends k d l);
+    scaled = λ u. absurd (not_unrelated (sym one.machine.kind ∙ u));
+  }
+    where
+      by : (p : Piece) → IsTimed p → finish p ≤ 802000000000 → IsMoment p.from × IsMoment p.to
+      by p t h = ((omega (arith, ints, t.from), omega (arith, ints, t.from, t.lasts, h)), (omega (arith, ints, t.to), omega (arith, ints, t.to, h)))
+
+      not_unrelated : Identical ≡ Unrelated → ⊥
+      not_unrelated h = cc
+
+  is_answer : IsAnswer i s
+  is_answer = record {
+    few = omega (arith, f.few);
+    unit = subst (λ k. pos 1 ≤ℤ answer_unit k) (sym one.machine.kind) (omega (arith, ints));
+    ends = λ k d l. by (get_or ps k d) (timed k d l) (f.ends k d l);
+  }
+    where
+      by : (p : Piece) → IsTimed p → finish p ≤ 802000000000 → p.to ≤ℤ pos 10000000000000000000000000
+      by p t l = omega (arith, ints, t.to, l)
+
+-- what is said of the answer's schedule
+pub record IsBlockSchedule (i : Instance) (s : Schedule) : Type 0 where
+  pub best : Best i s
+  pub within : Within i s
+  pub answer : IsAnswer i s
+
+pub IsBlockSchedule-made : (i : Instance) → i.class.env ≡ One → i.class.crit ≡ Fmax → Inner i → (i.class.cut ≡ true) ⊎ (i.class.times ≡ UnitTimes) → (heads : List ℕ) → AreHeads i heads → (ps : List Piece) → IsFilling i (λ j. get_or heads j 0) greatest_end [] ps
+    → IsBlockSchedule i (record { unit = pos 1; pieces = ps })
+IsBlockSchedule-made i env crit inner whole heads are ps f =
+    let one = IsOneInstance-from i env inner in
+    record { best = is_best i one heads are ps f whole (ap is_greatest crit); within = is_within i one heads are ps f; answer = is_answer i one heads are ps f }
+
+-- ---- as the code passes them
+pub filling_passed : (i : Instance) → i.class.env ≡ One → Inner i → (heads first second jobs : List ℕ) → AreHeads i heads → first ≡ heads → second ≡ heads → IsPermutation (range_with_len 0 (length first)) jobs
+    → AllPairs (λ a b. get_or first a 0 ≤ get_or first b 0) jobs → IsFilling i (λ j. get_or second j 0) greatest_end jobs []
+filling_passed i env inner heads first second jobs are same again all rising =
+    let one = IsOneInstance-from i env inner in
+    IsFilling-none i one (λ j. get_or second j 0) jobs (subst (λ n. IsPermutation (range_with_len 0 n) jobs) (ap length same ∙ are.each) all) (subst (λ hs. AllPairs (λ a b. get_or hs a 0 ≤ get_or hs b 0) jobs) (same ∙ sym again) rising)
+
+pub filling_end : (i : Instance) (head : ℕ → ℕ) (greatest : ℕ) (left : List ℕ) (ps : List Piece) → length left ≤ 0 → IsFilling i head greatest left ps → IsFilling i head greatest [] ps
+filling_end i head greatest [] ps l f = f
+filling_end i head greatest (j ∷ js) ps l f = absurd (omega (arith, l))
+
+pub schedule_passed : (i : Instance) → i.class.env ≡ One → i.class.crit ≡ Fmax → Inner i → (i.class.cut ≡ true) ⊎ (i.class.times ≡ UnitTimes) → (heads second : List ℕ) → AreHeads i heads → second ≡ heads → (ps : List Piece) → IsFilling i (λ j. get_or second j 0) greatest_end [] ps
+    → IsBlockSchedule i (record { unit = pos 1; pieces = ps })
+schedule_passed i env crit inner whole heads second are same ps f = IsBlockSchedule-made i env crit inner whole second (subst (AreHeads i) (sym same) are) ps f

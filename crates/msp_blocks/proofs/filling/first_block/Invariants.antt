@@ -1,0 +1,14 @@
+use Rattle.std.proofs.Common.{◌-◌, ◌+◌, ◌*◌, ◌≤◌, length, slice_index_or}
+use Rattle.msp_schedule.proofs.OneRow.{time_at}
+use Rattle.msp_blocks.specs.Filling.{IsFirstBlock}
+use Rattle.msp_blocks.proofs.filling.first_block.Given as goal
+
+-- the block so far
+abbrev pub invariant-loop-end : goal.invariant-loop-end
+invariant-loop-end l = record {
+  block : IsFirstBlock (λ j. slice_index_or l.heads j 0) (time_at l.inst) l.left l.count l.end;
+  small : l.end ≤ 1000000000 * (402 + l.count);
+}
+
+abbrev pub decreases-loop-end : goal.decreases-loop-end
+decreases-loop-end l = length l.left - l.count

@@ -1,0 +1,16 @@
+use Rattle.std.proofs.Common.{refl, arith}
+use Rattle.msp_blocks.proofs.Facts.{IsOneInstance-from}
+use Rattle.msp_blocks.proofs.Raising.{raised_next, AreHeads-end, job_inside}
+use Rattle.msp_blocks.proofs.heads.put_heads.Goals as goal
+
+pub raised-requires-clause-inside : goal.raised-requires-clause-inside
+raised-requires-clause-inside c = job_inside c.args.inst.now c.args.order.now c.requires.sequence c.loop-place.place _ c.loop-place-test.true refl
+
+pub bounds-heads-job : goal.bounds-heads-job
+bounds-heads-job c = omega (arith, job_inside c.args.inst.now c.args.order.now c.requires.sequence c.loop-place.place _ c.loop-place-test.true refl, c.loop-place.invariant.each)
+
+pub loop-place-preserved : goal.loop-place-preserved
+loop-place-preserved c = raised_next c.args.inst.now (IsOneInstance-from c.args.inst.now c.requires.machine c.requires.inner) c.args.order.now c.requires.sequence c.requires.forward c.loop-place.heads c.loop-place.place _ c.raised.result c.loop-place-test.true refl c.raised.ensures c.loop-place.invariant
+
+pub returns : goal.returns
+returns c = AreHeads-end c.args.inst.now (IsOneInstance-from c.args.inst.now c.requires.machine c.requires.inner) c.args.order.now c.loop-place.heads c.loop-place.place (omega (arith, c.loop-place-test.false)) c.requires.inner.conditions.ends c.requires.sequence c.loop-place.invariant

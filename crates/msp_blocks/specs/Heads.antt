@@ -1,0 +1,27 @@
+-- Heads raised along the arcs. No public contract cites this file.
+use Rattle.std.specs.Prelude.{◌≡◌, ℕ, ◌+◌, ◌*◌, ◌≤◌, ◌<◌, ◌⊎◌, List, length, All, Contains, slice_index_or}
+use Rattle.msp_instance.specs.declared.Arc.{Arc}
+use Rattle.msp_instance.specs.declared.Instance.{Instance}
+use Rattle.msp_instance.specs.declared.ranges.TheConstants.{GREATEST, MOST_JOBS}
+use Rattle.msp_instance.specs.Instance.{job_at, need_at}
+use Rattle.msp_schedule.specs.Blocks.{IsSound}
+
+-- The head of a job, by the heads of the jobs from which one of the arcs leads to it: the greatest of its release date and of what these
+-- take from their heads on.
+pub record IsRaised (i : Instance) (arcs : List Arc) (heads : ℕ → ℕ) (job head : ℕ) : Type 0 where
+  pub release : (job_at i job).release ≤ head
+  pub above : All (λ a. a.after ≡ job → heads a.before + (need_at i a.before 0).time ≤ head) arcs
+  pub reached : (head ≡ (job_at i job).release) ⊎ ((a : Arc) × Contains arcs a × (a.after ≡ job) × (head ≡ heads a.before + (need_at i a.before 0).time))
+
+-- No head is later than this.
+abbrev pub greatest_head : ℕ
+greatest_head = GREATEST * (2 + MOST_JOBS)
+
+-- A head for each job: not before its release date, nor before a job from which an arc leads to it has had its time from its own head on,
+-- and no later than one of these.
+pub record AreHeads (i : Instance) (heads : List ℕ) : Type 0 where
+  pub each : length heads ≡ length i.jobs
+  pub release : (j : ℕ) → j < length i.jobs → (job_at i j).release ≤ slice_index_or heads j 0
+  pub arcs : All (λ a. slice_index_or heads a.before 0 + (need_at i a.before 0).time ≤ slice_index_or heads a.after 0) i.arcs
+  pub sound : IsSound i (λ j. slice_index_or heads j 0)
+  pub small : All (λ h. h ≤ greatest_head) heads

@@ -1,0 +1,106 @@
+// The solvers by blocks.
+ghost use Rattle.std.specs.Prelude.{◌≡◌, ◌⊎◌, true, IfOk, ⊤};
+ghost use Rattle.msp_class.specs.declared.class.Env.TheVariants.{One};
+ghost use Rattle.msp_class.specs.declared.class.Times.TheVariants.{Unit};
+ghost use Rattle.msp_class.specs.declared.class.Crit.TheVariants.{Fmax};
+ghost use Rattle.msp_instance.specs.Conditions.{Inner};
+ghost use Rattle.msp_schedule.specs.Cost.{IsBest};
+ghost use Rattle.msp_route.specs.Bounds.{IsAnswer};
+ghost use Rattle.msp_blocks.specs.Blocks.{blocks_class, unit_blocks_class};
+
+use crate::filling::filled;
+use crate::heads::heads_of;
+use crate::order::jobs_by_head;
+use msp_class::{Class, Crit, Env, NoMemory, Order, Times};
+use msp_instance::Instance;
+use msp_route::Solver;
+use msp_schedule::{Schedule, Solution};
+use std::alloc::Global;
+
+/// The class that is solved with preemption: `1|pmtn,prec,r|fmax`.
+const BLOCKS_CLASS: Class = Class {
+    env: Env::One,
+    cut: true,
+    order: Order::Prec,
+    heads: true,
+    times: Times::General,
+    crit: Crit::Fmax,
+};
+
+/// The class that is solved with unit times: `1|prec,r,p=1|fmax`.
+const UNIT_BLOCKS_CLASS: Class = Class {
+    env: Env::One,
+    cut: false,
+    order: Order::Prec,
+    heads: true,
+    times: Times::Unit,
+    crit: Crit::Fmax,
+};
+
+/// A best schedule of the instance by blocks (Baker, Lawler, Lenstra and Rinnooy Kan 1983). Release dates are raised along the arcs, and
+/// the earliest schedule is cut into blocks, in which the machine is never idle. In a block the job that costs least at its end, of those
+/// that no other one of it must follow, takes what the others leave when they are run without it. Where all times are 1, no job is cut.
+pub fn schedule_by_blocks(alloc: Global, inst: &Instance) -> Result<Solution, NoMemory>
+    requires inner { Inner inst.now }
+    requires machine { inst.now.class.env ≡ One }
+    requires crit { inst.now.class.crit ≡ Fmax }
+    requires whole { (inst.now.class.cut ≡ true) ⊎ (inst.now.class.times ≡ Unit) }
+    ensures best { IfOk result (λ s. IsBest inst.now s) }
+    ensures bounds { IfOk result (λ s. IsAnswer inst.now s.schedule) }
+{
+    let heads = heads_of(alloc, inst)?;
+    let jobs = jobs_by_head(alloc, heads.as_slice())?;
+    let pieces = filled(alloc, inst, heads.as_slice(), jobs)?;
+    let schedule = Schedule { unit: 1, pieces };
+    let cost = msp_schedule::cost(inst, &schedule);
+    Ok(Solution { schedule, cost })
+}
+
+/// Finds a schedule of least greatest cost on one machine with precedence, release dates and preemption, by blocks (Baker, Lawler,
+/// Lenstra and Rinnooy Kan 1983).
+#[derive(Clone, Copy, Debug)]
+pub struct Blocks;
+
+impl Solver for Blocks {
+    ghost solved = { λ _. blocks_class };
+
+    ghost can_solve = { λ _ _. ⊤ };
+
+    ghost may_ask = { λ _ _. ⊤ };
+
+    fn target(&self) -> Class {
+        BLOCKS_CLASS
+    }
+
+    fn fits(&self, _inst: &Instance) -> bool {
+        true
+    }
+
+    fn solve(&self, alloc: Global, inst: &Instance) -> Result<Solution, NoMemory> {
+        schedule_by_blocks(alloc, inst)
+    }
+}
+
+/// Finds a schedule of least greatest cost on one machine with precedence, release dates and unit times, by blocks: no job is cut.
+#[derive(Clone, Copy, Debug)]
+pub struct UnitBlocks;
+
+impl Solver for UnitBlocks {
+    ghost solved = { λ _. unit_blocks_class };
+
+    ghost can_solve = { λ _ _. ⊤ };
+
+    ghost may_ask = { λ _ _. ⊤ };
+
+    fn target(&self) -> Class {
+        UNIT_BLOCKS_CLASS
+    }
+
+    fn fits(&self, _inst: &Instance) -> bool {
+        true
+    }
+
+    fn solve(&self, alloc: Global, inst: &Instance) -> Result<Solution, NoMemory> {
+        schedule_by_blocks(alloc, inst)
+    }
+}
