@@ -2,8 +2,8 @@
 //!
 //! It stands on `msp_instance`. The layers above use the definitions `Feasible`, `cost_of` and `Best`, that `first_break` and
 //! `swept` answer None exactly where a schedule is feasible, that `cost` gives the cost in lowest terms, and the laws of feasible
-//! schedules: `law_of_ends`, `law_of_groups`, `law_of_floors` and `law_of_levels` on identical machines, `law_of_prices` on unrelated
-//! machines, and `law_of_machines` and `law_of_lines` in shops.
+//! schedules: `law_of_blocks` on one machine, `law_of_ends`, `law_of_groups`, `law_of_floors` and `law_of_levels` on identical machines,
+//! `law_of_prices` on unrelated machines, and `law_of_machines` and `law_of_lines` in shops.
 #![tactic(auto)]
 
 ghost use Rattle.std.specs.Prelude.{pos, ◌≤ℤ◌};
