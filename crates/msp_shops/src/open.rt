@@ -1,5 +1,5 @@
 // Open shops of two machines: the rule of Gonzalez and Sahni.
-ghost use Rattle.std.specs.Prelude.{◌≡◌, ◌≢◌, ◌+◌, ◌*◌, ◌<◌, ◌≤◌, ◌∷◌, length, map, min, All, AllPairs, IfOk, IsPermutation, ⊤};
+ghost use Rattle.std.specs.Prelude.{◌≡◌, ◌≢◌, ◌<◌, ◌≤◌, ◌∷◌, length, map, All, AllPairs, IfOk, IsPermutation, ⊤};
 ghost use Rattle.msp_instance.specs.declared.ranges.TheConstants.{GREATEST, MOST_JOBS};
 ghost use Rattle.msp_instance.specs.Conditions.{Inner};
 ghost use Rattle.msp_schedule.specs.Cost.{IsBest};
@@ -114,8 +114,8 @@ fn lay(
     Ok(pieces)
 }
 
-/// The pieces by the rule. The special job goes last on the machine on which it takes no longer than on the other; there those jobs of
-/// the others go first that take no longer than on the other, as in Johnson's order.
+/// The pieces by the rule. The special job goes last on the machine on which it takes no longer than on the other. The others go over
+/// that machine first, in Johnson's order.
 fn open_pieces(alloc: Global, inst: &Instance) -> Result<List<Piece>, NoMemory>
     requires inner { Inner inst.now }
     requires class { inst.now.class ≡ open_class }
