@@ -1,5 +1,6 @@
 -- The slots of the earliest schedule as they are found one after another, and the pieces that take them. No public contract cites this file.
-use Rattle.std.specs.Prelude.{◌≡◌, ℕ, ◌+◌, ◌<◌, ◌≤◌, ◌⊎◌, Bool, List, length, map, slice_index_or, pos, IsPermutation}
+use Rattle.std.specs.Prelude.{◌≡◌, ℕ, ◌+◌, ◌*◌, ◌<◌, ◌≤◌, ◌⊎◌, Bool, List, length, map, slice_index_or, pos, IsPermutation}
+use Rattle.msp_instance.specs.declared.ranges.TheConstants.{GREATEST}
 use Rattle.msp_instance.specs.declared.Instance.{Instance}
 use Rattle.msp_schedule.specs.declared.Piece.{Piece}
 use Rattle.msp_total.specs.declared.earliest.Slot.{Slot}
@@ -39,7 +40,8 @@ pub record AreFilled (machines : ℕ) (heads : List ℕ) (k moment taken : ℕ) 
   -- before the moment all machines are taken once all jobs are released
   pub full : (x : ℕ) → ((j : ℕ) → j < k → head_in heads j ≤ x) → x < moment → machines ≤ begin_at k (start_in slots) x
   pub used : begin_at k (start_in slots) moment ≡ taken
-  pub soon : moment ≤ 2000000000 + k
+  -- and no release date is later than the greatest one of an instance
+  pub soon : moment ≤ 2 * GREATEST + k
 
 -- The slots for all release dates.
 abbrev pub AreSlots : ℕ → List ℕ → List Slot → Type 0

@@ -1,5 +1,6 @@
 // What jobs cost in slots.
 ghost use Rattle.std.specs.Prelude.{◌≡◌, ◌+◌, ◌*◌, ◌<◌, ◌≤◌, ◌^◌, pos, ◌*ℤ◌, unsigned_abs, length};
+ghost use Rattle.msp_instance.specs.declared.ranges.TheConstants.{GREATEST};
 ghost use Rattle.msp_instance.specs.Conditions.{LiesWithin};
 ghost use Rattle.msp_total.specs.Slots.{past_due, slot_cost};
 
@@ -17,7 +18,7 @@ fn product(a: i128, b: i128) -> i128
 }
 
 fn weighed(weight: u64, past: i128) -> i128
-    requires weight { weight ≤ 1000000000 }
+    requires weight { weight ≤ GREATEST }
     requires past { LiesWithin (2 ^ 66) past }
     ensures { result ≡ pos weight *ℤ past }
 {

@@ -16,25 +16,20 @@ use msp_route::Solver;
 use msp_schedule::{Piece, Schedule, Solution};
 use std::alloc::Global;
 
-/// `P|r,p=1|sumwT`.
-const LATE_CLASS: Class = Class {
-    env: Env::P,
-    cut: false,
-    order: Order::Free,
-    heads: true,
-    times: Times::Unit,
-    crit: Crit::SumWT,
-};
-
-/// `P|r,p=1|sumwU`.
-const COUNT_CLASS: Class = Class {
-    env: Env::P,
-    cut: false,
-    order: Order::Free,
-    heads: true,
-    times: Times::Unit,
-    crit: Crit::SumWU,
-};
+/// The class of unit jobs with release dates on identical machines, by weighted tardiness or by the weight of late jobs.
+fn class_of(late: bool) -> Class
+    ensures { result ≡ slot_class late }
+{
+    let crit = if late { Crit::SumWT } else { Crit::SumWU };
+    Class {
+        env: Env::P,
+        cut: false,
+        order: Order::Free,
+        heads: true,
+        times: Times::Unit,
+        crit,
+    }
+}
 
 fn starts_of(alloc: Global, slots: &[Slot]) -> Result<Vec<u64>, NoMemory>
     ensures { IfOk result (λ all. all.items ≡ map (λ s. s.start) slots.now) }
@@ -151,7 +146,7 @@ impl Solver for SlotsLate {
     ghost may_ask = { λ _ _. ⊤ };
 
     fn target(&self) -> Class {
-        LATE_CLASS
+        class_of(true)
     }
 
     fn fits(&self, _inst: &Instance) -> bool {
@@ -175,7 +170,7 @@ impl Solver for SlotsCount {
     ghost may_ask = { λ _ _. ⊤ };
 
     fn target(&self) -> Class {
-        COUNT_CLASS
+        class_of(false)
     }
 
     fn fits(&self, _inst: &Instance) -> bool {
