@@ -1,5 +1,5 @@
 -- The rows from identical machines that leave the jobs as they are: to machines of equal speeds, and from one machine to shops. No public contract cites this file.
-use Rattle.std.proofs.Common.{◌≡◌, ◌≢◌, ℕ, ◌*◌, ◌<◌, ◌≤◌, List, [], length, MatchOption, inr, Some, unwrap_or, refl, sym, ap, subst, subst₂, ◌∙◌, arith}
+use Rattle.std.proofs.Common.{◌≡◌, ◌≢◌, ℕ, ◌*◌, ◌<◌, ◌≤◌, true, List, [], length, MatchOption, inr, Some, unwrap_or, refl, sym, ap, subst, subst₂, ◌∙◌, arith}
 use Rattle.std.specs.Bool.{⊤}
 use Rattle.std.proofs.lemmas.Bool.{eqb-true}
 use Rattle.std.proofs.lemmas.List.{length-replicate, get_or-replicate}
@@ -9,9 +9,9 @@ use Rattle.msp_class.specs.declared.class.Env.TheVariants.{One, P2, P, Q2, Q, O,
 use Rattle.msp_class.specs.declared.class.Times.{Times}
 use Rattle.msp_class.specs.declared.class.Times.TheVariants.{General, Unit as UnitTimes, Equal}
 use Rattle.msp_class.specs.declared.environments.EnvKind.{EnvKind}
-use Rattle.msp_class.specs.declared.environments.EnvKind.TheVariants.{Identical, Uniform, OpenShop, FlowShop, JobShop}
+use Rattle.msp_class.specs.declared.environments.EnvKind.TheVariants.{Identical, Uniform, Unrelated, OpenShop, FlowShop, JobShop}
 use Rattle.msp_class.specs.declared.environments.TheConstants.{MOST_SHORT_OPERATIONS}
-use Rattle.msp_class.specs.Env.{kind_of, fixed_machines}
+use Rattle.msp_class.specs.Env.{kind_of, fixed_machines, is_shop_kind}
 use Rattle.msp_class.proofs.EnvNumbers.{env_number-injective}
 use Rattle.msp_class.proofs.IntegerRing.{≤ℤ_of_same}
 use Rattle.msp_instance.specs.declared.ranges.TheConstants.{GREATEST_SPEED}
@@ -205,53 +205,30 @@ shop_least General = omega arith
 shop_least UnitTimes = omega arith
 shop_least Equal = omega arith
 
+-- the machines of the instance in an environment without speeds
+one_machine : (i : Instance) → i.class.env ≡ One → Inner i → (e : Env) (m : ℕ) → 1 ≤ m → m ≤ 32 → HasSpeeds (kind_of e) m [] → MatchOption (fixed_machines e) ⊤ (λ n. m ≡ n) → AreMachines e m i.speeds
+one_machine i env inner e m some few none fixed = record { some = some; few = few; fixed = fixed; speeds = subst (HasSpeeds (kind_of e) m) (sym (no_speeds i env inner)) none; multiple = inner.conditions.multiple }
+
+-- each job runs its one operation on machine 0
+shop_runs : (i : Instance) (env : i.class.env ≡ One) (inner : Inner i) (e : Env) (l : EnvKind) (m : ℕ) → is_shop_kind l ≡ true → (takes : TakesSingle e l m) (machines : AreMachines e m i.speeds) → RunsSingle i e l m i.speeds (ap kind_of env) takes machines inner
+shop_runs i env inner e Identical m s takes machines = absurd (cc)
+shop_runs i env inner e Uniform m s takes machines = absurd (cc)
+shop_runs i env inner e Unrelated m s takes machines = absurd (cc)
+shop_runs i env inner e OpenShop m s takes machines = record { has = run_has i env inner; all = run_all i env inner; may = run_may i env inner; may_back = run_may_back i env inner; rate = λ a n w. refl; want = λ a o. refl }
+shop_runs i env inner e FlowShop m s takes machines = record { has = run_has i env inner; all = run_all i env inner; may = run_may i env inner; may_back = run_may_back i env inner; rate = λ a n w. refl; want = λ a o. refl }
+shop_runs i env inner e JobShop m s takes machines = record { has = run_has i env inner; all = run_all i env inner; may = run_may i env inner; may_back = run_may_back i env inner; rate = λ a n w. refl; want = λ a o. refl }
+
+serves_shop : (row : ℕ) (i : Instance) → i.class.env ≡ One → (e : Env) (l : EnvKind) (m : ℕ) → is_shop_kind l ≡ true → TakesSingle e l m → AreMachines e m i.speeds → goes_of row i.class ≡ Some (record i.class { env = e }) → Inner i → ServesBoth row i (record (led row i) { machines = m })
+serves_shop row i env e l m s takes machines g inner = ServesBoth-led i e l m i.speeds (ap kind_of env) takes machines inner (shop_runs i env inner e l m s takes machines) row g
+
 serves_flow : (i : Instance) → i.class.env ≡ One → goes_of 32 i.class ≡ Some (record i.class { env = F }) → Inner i → ServesBoth 32 i (led 32 i)
-serves_flow i env g inner = ServesBoth-led i F FlowShop i.machines i.speeds (ap kind_of env) (record {
-  kind = refl;
-  shape = per_machine i env inner;
-  least = shop_least;
-  factor = refl;
-  unit = refl;
-}) (record { some = inner.conditions.machines.0; few = inner.conditions.machines.1; fixed = tt; speeds = no_speeds i env inner; multiple = inner.conditions.multiple }) inner (record {
-  has = run_has i env inner;
-  all = run_all i env inner;
-  may = run_may i env inner;
-  may_back = run_may_back i env inner;
-  rate = λ a n w. refl;
-  want = λ a o. refl;
-}) 32 g
+serves_flow i env g inner = serves_shop 32 i env F FlowShop i.machines refl (record { kind = refl; shape = per_machine i env inner; least = shop_least; factor = refl; unit = refl }) (one_machine i env inner F i.machines inner.conditions.machines.0 inner.conditions.machines.1 refl tt) g inner
 
 serves_open : (i : Instance) → i.class.env ≡ One → goes_of 33 i.class ≡ Some (record i.class { env = O }) → Inner i → ServesBoth 33 i (led 33 i)
-serves_open i env g inner = ServesBoth-led i O OpenShop i.machines i.speeds (ap kind_of env) (record {
-  kind = refl;
-  shape = per_machine i env inner;
-  least = shop_least;
-  factor = refl;
-  unit = refl;
-}) (record { some = inner.conditions.machines.0; few = inner.conditions.machines.1; fixed = tt; speeds = no_speeds i env inner; multiple = inner.conditions.multiple }) inner (record {
-  has = run_has i env inner;
-  all = run_all i env inner;
-  may = run_may i env inner;
-  may_back = run_may_back i env inner;
-  rate = λ a n w. refl;
-  want = λ a o. refl;
-}) 33 g
+serves_open i env g inner = serves_shop 33 i env O OpenShop i.machines refl (record { kind = refl; shape = per_machine i env inner; least = shop_least; factor = refl; unit = refl }) (one_machine i env inner O i.machines inner.conditions.machines.0 inner.conditions.machines.1 refl tt) g inner
 
 serves_job : (i : Instance) → i.class.env ≡ One → goes_of 34 i.class ≡ Some (record i.class { env = J2Short }) → Inner i → ServesBoth 34 i (led_to_two_machines 34 i)
-serves_job i env g inner = ServesBoth-led i J2Short JobShop 2 i.speeds (ap kind_of env) (record {
-  kind = refl;
-  shape = route i env inner;
-  least = λ t. omega arith;
-  factor = refl;
-  unit = refl;
-}) (record { some = omega arith; few = omega arith; fixed = refl; speeds = no_speeds i env inner; multiple = inner.conditions.multiple }) inner (record {
-  has = run_has i env inner;
-  all = run_all i env inner;
-  may = run_may i env inner;
-  may_back = run_may_back i env inner;
-  rate = λ a n w. refl;
-  want = λ a o. refl;
-}) 34 g
+serves_job i env g inner = serves_shop 34 i env J2Short JobShop 2 refl (record { kind = refl; shape = route i env inner; least = λ t. omega arith; factor = refl; unit = refl }) (one_machine i env inner J2Short 2 (omega arith) (omega arith) refl refl) g inner
 
 pub serves_32 : (i : Instance) → Inner i → Applies 32 i → ServesBoth 32 i (led 32 i)
 unfolding goes_of table
