@@ -12,3 +12,6 @@ mod Filling
 mod Laid
 mod SlotFacts
 mod SlotBest
+mod UnrelatedFacts
+mod ColumnSteps
+mod UnrelatedBest

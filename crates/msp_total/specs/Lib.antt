@@ -5,3 +5,5 @@ pub mod Turns
 pub mod Seating
 pub mod SlotSteps
 pub mod Slots
+pub mod Positions
+pub mod Columns

@@ -7,6 +7,7 @@
 mod earliest;
 mod lay;
 mod multiple;
+mod positions;
 mod slot_costs;
 mod slot_table;
 #[cfg(test)]
@@ -15,7 +16,10 @@ mod slot_tests;
 mod tests;
 mod uniform;
 mod unit_slots;
+mod unrelated;
 
+pub use positions::Positions;
 pub use slot_table::Slots;
 pub use uniform::{Uniform, schedule_by_multipliers};
 pub use unit_slots::{SlotsCount, SlotsLate};
+pub use unrelated::{Unrelated, schedule_by_positions};

@@ -1,10 +1,9 @@
 // Best schedules of small instances.
 ghost use Rattle.std.specs.Prelude.{◌≡◌, IfSome};
 ghost use Rattle.msp_instance.specs.Conditions.{Inner};
-ghost use Rattle.msp_total.specs.Classes.{uniform_class};
 
-use crate::Uniform;
-use msp_class::List;
+use crate::{Uniform, Unrelated};
+use msp_class::{Class, List};
 use msp_instance::{Curve, Instance, Job, Need, check, forward};
 use msp_route::Solver;
 use msp_schedule::{Piece, Solution};
@@ -56,12 +55,12 @@ fn numbers(alloc: Global, values: &[u64]) -> Option<List<u64>> {
     Some(numbers)
 }
 
-/// Two uniform machines, or None where the instance does not belong to the class, or for want of memory.
-fn uniform(alloc: Global, speeds: &[u64], times: &[&[u64]]) -> Option<Instance>
-    ensures { IfSome result (λ i. Inner i × (i.class ≡ uniform_class)) }
+/// Two machines, or None where the instance does not belong to the class, or for want of memory.
+fn instance(alloc: Global, class: Class, speeds: &[u64], times: &[&[u64]]) -> Option<Instance>
+    ensures { IfSome result (λ i. Inner i × (i.class ≡ class)) }
 {
     let inst = Instance {
-        class: Uniform.target(),
+        class,
         machines: 2,
         speeds: numbers(alloc, speeds)?,
         jobs: jobs(alloc, times)?,
@@ -86,17 +85,30 @@ fn part(job: u32, machine: u32, from: i128, to: i128) -> Piece {
     }
 }
 
-fn solved(alloc: Global, speeds: &[u64], times: &[&[u64]]) -> Option<Solution> {
-    let inst = uniform(alloc, speeds, times)?;
+fn on_uniform(alloc: Global, speeds: &[u64], times: &[&[u64]]) -> Option<Solution> {
+    let inst = instance(alloc, Uniform.target(), speeds, times)?;
     Uniform.solve(alloc, &inst).ok()
+}
+
+fn on_unrelated(alloc: Global, times: &[&[u64]]) -> Option<Solution> {
+    let inst = instance(alloc, Unrelated.target(), &[], times)?;
+    Unrelated.solve(alloc, &inst).ok()
 }
 
 #[test]
 fn two_jobs_on_two_uniform_machines(rt: HostRuntime) {
-    let best = solved(rt.alloc(), &[3, 2], &[&[5], &[4]]).expect(&rt, "there is memory");
+    let best = on_uniform(rt.alloc(), &[3, 2], &[&[5], &[4]]).expect(&rt, "there is memory");
     let pieces = [part(0, 0, 0, 10), part(1, 1, 0, 12)];
     assert_eq!(rt; best.cost.num, 11);
     assert_eq!(rt; best.cost.den, 3);
     assert_eq!(rt; best.schedule.unit, 6);
     assert_eq!(rt; best.schedule.pieces.as_slice(), pieces.as_slice());
+}
+
+#[test]
+fn three_jobs_on_two_unrelated_machines(rt: HostRuntime) {
+    let best = on_unrelated(rt.alloc(), &[&[1, 9], &[2, 3], &[3, 5]]).expect(&rt, "there is memory");
+    assert_eq!(rt; best.cost.num, 8);
+    assert_eq!(rt; best.cost.den, 1);
+    assert_eq!(rt; best.schedule.pieces.len(), 3);
 }

@@ -1,0 +1,105 @@
+-- Steps of the loops over times, and over jobs and their columns.
+use Rattle.std.proofs.Common.{◌≡◌, ℕ, suc, ◌+◌, ◌*◌, ◌-◌, ◌/◌, ◌%◌, ◌<◌, ◌≤◌, ◌^◌, Bool, true, false, eqb, leb, List, [], ◌∷◌, ◌++◌, length, get_or, map, All, IsPermutation, refl, sym, ap, subst, ◌∙◌, arith}
+use Rattle.std.specs.Prelude.{slice_index_or}
+use Rattle.std.specs.List.{range_with_len}
+use Rattle.std.specs.List.Sorted.{IsNonDecreasingBy}
+use Rattle.std.proofs.lemmas.Bool.{eqb-true, eqb-false, leb-true, leb-false}
+use Rattle.std.proofs.lemmas.Nat.{mul-le}
+use Rattle.std.proofs.lemmas.List.{map-append, get_or_default, get_or-append_right, get_or_append_left, length-append, length-map, get_or-map}
+use Rattle.std.proofs.lemmas.List.Elements.{All-push}
+use Rattle.std.proofs.lemmas.List.Sorted.{IsPermutation-map, All-permutation}
+use Rattle.std.proofs.Math.Nat.{mul-le-mul_right, mod-lt, div-mul-le_self}
+use Rattle.msp_class.proofs.IntegerRing.{pos-le}
+use Rattle.msp_class.proofs.Sums.{range_with_len_last}
+use Rattle.msp_instance.specs.declared.Job.{Job}
+use Rattle.msp_instance.specs.declared.Need.{Need}
+use Rattle.msp_instance.specs.declared.Instance.{Instance}
+use Rattle.msp_instance.specs.Instance.{no_need, no_job, job_at, need_at}
+use Rattle.msp_assign.specs.Prices.{HasCosts, column_of}
+use Rattle.msp_total.specs.declared.positions.Positions.{Positions}
+use Rattle.msp_total.specs.declared.unrelated.Chosen.{Chosen}
+use Rattle.msp_total.specs.Positions.{time_in, position_cost}
+use Rattle.msp_total.specs.Columns.{HasTimes, HasShortTimes, IsByColumn}
+
+-- ---- times
+-- the times of one job more
+pub times-next : (i : Instance) (jobs : List Job) (k : ℕ) (j : Job) (needs : List Need) (old new : List ℕ) → jobs ≡ i.jobs → k < length jobs → needs ≡ (get_or jobs k j).needs → length needs ≡ i.machines → new ≡ old ++ map (λ n. n.time) needs → HasTimes i k old → HasTimes i (k + 1) new
+times-next i jobs k j needs old new e l is count all h = record {
+  count = ap length all ∙ length-append old (map (λ n. n.time) needs) ∙ longer (length old) (length (map (λ (n : Need). n.time) needs)) k i.machines h.count (length-map needs (λ n. n.time) ∙ count);
+  each = λ a m b c. by a m b c (eqb a k) refl;
+}
+  where
+    longer : (x y k m : ℕ) → x ≡ k * m → y ≡ m → x + y ≡ (k + 1) * m
+    longer x y k m p q = omega (arith, p, q)
+
+    job_is : (get_or jobs k j).needs ≡ (get_or i.jobs k no_job).needs
+    job_is = ap (λ (x : Job). x.needs) (get_or_default jobs k j no_job l ∙ ap (λ xs. get_or xs k no_job) e)
+
+    by : (a m : ℕ) → a < k + 1 → m < i.machines → (b : Bool) → eqb a k ≡ b → time_in i.machines new a m ≡ (need_at i a m).time
+    by a m b c true f =
+        let same : a ≡ k = eqb-true a k f in
+        ap (λ xs. get_or xs (a * i.machines + m) 0) all
+        ∙ get_or-append_right old (map (λ n. n.time) needs) (k * i.machines) (a * i.machines + m) 0 h.count (omega (arith, ap (λ x. x * i.machines) same))
+        ∙ ap (λ x. get_or (map (λ (n : Need). n.time) needs) x 0) (rest (a * i.machines) (k * i.machines) m (ap (λ x. x * i.machines) same))
+        ∙ get_or-map (λ (n : Need). n.time) needs m no_need 0 (omega (arith, c, count))
+        ∙ ap (λ xs. (slice_index_or xs m no_need).time) (is ∙ job_is) ∙ ap (λ x. (need_at i x m).time) (sym same)
+      where
+        rest : (x y m : ℕ) → x ≡ y → x + m - y ≡ m
+        rest x y m e = omega (arith, e)
+    by a m b c false f =
+        let less : a < k = other a k b (eqb-false a k f) in
+        ap (λ xs. get_or xs (a * i.machines + m) 0) all
+        ∙ get_or_append_left old (map (λ n. n.time) needs) 0 (a * i.machines + m) (omega (arith, h.count, inside a k m i.machines less c))
+        ∙ h.each a m less c
+      where
+        other : (m n : ℕ) → m < n + 1 → (m ≡ n → ⊥) → m < n
+        other m n l ne = omega arith
+
+        inside : (a k m w : ℕ) → a < k → m < w → a * w + m < k * w
+        inside a k m w p q = let s : (a + 1) * w ≤ k * w = mul-le-mul_right w (omega arith) in omega (arith, s)
+
+pub needs_count : (i : Instance) (jobs : List Job) (k : ℕ) (j : Job) (needs : List Need) → jobs ≡ i.jobs → k < length jobs → needs ≡ (get_or jobs k j).needs → ((a : ℕ) → a < length i.jobs → length (job_at i a).needs ≡ i.machines) → length needs ≡ i.machines
+needs_count i jobs k j needs e l is h = ap length (is ∙ ap (λ (x : Job). x.needs) (get_or_default jobs k j no_job l ∙ ap (λ xs. get_or xs k no_job) e)) ∙ h k (omega (arith, l, ap length e))
+
+-- ---- columns
+-- the machine of a column
+pub machine_inside : (each machines c : ℕ) → c < each * machines → c / each < machines
+machine_inside each machines c l = by (leb machines (c / each)) refl
+  where
+    by : (b : Bool) → leb machines (c / each) ≡ b → c / each < machines
+    by true e = absurd (omega (arith, mul-le-mul_right each (leb-true machines (c / each) e), div-mul-le_self c each))
+    by false e = leb-false machines (c / each) e
+
+-- ---- costs of a table
+pub costs_small : (p : Positions) (each : ℕ) → p.jobs ≤ 400 → (1 ≤ each) × (each ≤ p.jobs) → HasShortTimes p → HasCosts p.jobs (each * p.machines) (position_cost each p.machines p.times)
+costs_small p each few h short r c l k = (pos-le none, pos-le (bound _ (mul-le (c % each + 1) (time_in p.machines p.times r (c / each)) 400 (1000000000 * 2 ^ 30) (rest (c % each) (mod-lt c h.0)) (short r (c / each) l (machine_inside each p.machines c k)))))
+  where
+    none : 0 ≤ (c % each + 1) * time_in p.machines p.times r (c / each)
+    none = omega arith
+
+    rest : (x : ℕ) → x < each → x + 1 ≤ 400
+    rest x g = omega (arith, h.1, few)
+
+    bound : (x : ℕ) → x ≤ 400 * (1000000000 * 2 ^ 30) → x ≤ 2 ^ 100
+    bound x g = omega (arith, g)
+
+-- ---- jobs and columns
+pub numbers-next : (new old : List Chosen) (x : Chosen) (k : ℕ) → new ≡ old ++ x ∷ [] → x.job ≡ k → map (λ r. r.job) old ≡ range_with_len 0 k → map (λ r. r.job) new ≡ range_with_len 0 (k + 1)
+numbers-next new old x k e is so_far =
+    let place : x.job ≡ 0 + k = omega (arith, is) in
+    let back : suc k ≡ k + 1 = omega arith in
+    ap (map (λ r. r.job)) e ∙ map-append (λ r. r.job) old (x ∷ []) ∙ ap (λ l. l ++ x.job ∷ []) so_far
+    ∙ ap (λ n. range_with_len 0 k ++ n ∷ []) place ∙ sym (range_with_len_last 0 k) ∙ ap (range_with_len 0) back
+
+abbrev pub HasColumn : List ℕ → Chosen → Type 0
+HasColumn column c = c.column ≡ column_of column c.job
+
+pub columns-next : (column : List ℕ) (new old : List Chosen) (x : Chosen) → new ≡ old ++ x ∷ [] → HasColumn column x → All (HasColumn column) old → All (HasColumn column) new
+columns-next column new old x e is so_far = subst (All (HasColumn column)) (sym e) (All-push (HasColumn column) old x so_far is)
+
+pub by_column : (column : List ℕ) (all sorted : List Chosen) → map (λ c. c.job) all ≡ range_with_len 0 (length column) → All (HasColumn column) all → IsPermutation all sorted → IsNonDecreasingBy (λ c. c.column) sorted → IsByColumn (length column) column sorted
+by_column column all sorted e columns p up = record {
+  all = subst (λ l. IsPermutation l (map (λ c. c.job) sorted)) e (IsPermutation-map (λ c. c.job) all sorted p);
+  columns = All-permutation (HasColumn column) all sorted p columns;
+  rising = λ a b d l k. up a b d (omega (arith, l)) k;
+}

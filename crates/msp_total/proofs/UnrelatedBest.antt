@@ -1,0 +1,381 @@
+-- Jobs at the positions of a least assignment, as a schedule on unrelated machines: it is feasible and best, and lies within the bounds.
+use Rattle.std.proofs.Common.{◌≡◌, ℕ, zero, suc, ◌+◌, ◌*◌, ◌-◌, ◌/◌, ◌%◌, ◌<◌, ◌≤◌, ◌^◌, Bool, true, false, cond, eqb, ltb, ◌⊎◌, inl, inr, List, length, get_or, map, ℤ, pos, ◌+ℤ◌, ◌*ℤ◌, ◌≤ℤ◌, All, refl, sym, ap, ap₂, subst, subst₂, ◌∙◌, arith}
+use Rattle.std.proofs.lemmas.Bool.{eqb-true, ltb-true, ltb-false}
+use Rattle.std.proofs.lemmas.Int.{ints}
+use Rattle.std.proofs.Math.Nat.{mul-le-mul_left, mul-le-mul_right, div-mul-le_self, div-add-mod}
+use Rattle.std.proofs.lemmas.List.{length-map, get_or-map, get_or_default, same_lists}
+use Rattle.std.proofs.lemmas.List.Elements.{All-contains}
+use lib.Arith.{digits_div, digits_mod}
+use Rattle.msp_class.proofs.IntegerRing.{pos-le, ≤ℤ_refl, ≤ℤ_trans, one-*ℤ, *ℤ_comm, *ℤ-mono_nonneg, *ℤ-one}
+use Rattle.msp_class.proofs.Sums.{cond-yes, cond-no, sum_by-map, sum_by-OnceBelow, total_below, total_below-mono, total_below-constant, int_total_below, int_total_below-same, int_total_below-natural, OnceBelow, OnceBelow-from_permutation, OnceBelow-distinct, length-OnceBelow}
+use Rattle.msp_instance.specs.declared.Instance.{Instance}
+use Rattle.msp_instance.specs.Instance.{need_at}
+use Rattle.msp_schedule.specs.declared.Piece.{Piece}
+use Rattle.msp_schedule.specs.declared.Schedule.{Schedule}
+use Rattle.msp_schedule.specs.Feasible.{Feasible, HasOperation, MayRun, FollowsRoute, IsWholeWork}
+use Rattle.msp_schedule.specs.Cost.{cost_of, Best}
+use Rattle.msp_schedule.specs.Within.{Within}
+use Rattle.msp_schedule.specs.Prices.{ArePrices, all_prices, prices_on_machine}
+use Rattle.msp_schedule.proofs.PriceBounds.{law_of_prices, total_over_range}
+use Rattle.msp_route.specs.Bounds.{IsAnswer, answer_unit}
+use Rattle.msp_assign.specs.declared.assignment.Assignment.{Assignment}
+use Rattle.msp_assign.specs.Prices.{column_of, price_at}
+use Rattle.msp_total.specs.declared.lay.Place.{Place}
+use Rattle.msp_total.specs.declared.positions.Positions.{Positions}
+use Rattle.msp_total.specs.declared.unrelated.Chosen.{Chosen}
+use Rattle.msp_total.specs.Places.{no_place, ArePlaces, laid}
+use Rattle.msp_total.specs.Positions.{time_in, position_cost}
+use Rattle.msp_total.specs.Turns.{seats, machine_at}
+use Rattle.msp_total.specs.Columns.{IsTableOf, HasShortTimes, IsPlacing, no_chosen, chosen_at, IsByColumn, ArePlacesOf}
+use Rattle.msp_total.proofs.ColumnSteps.{machine_inside}
+use Rattle.msp_total.proofs.LaidJobs.{piece_before, piece_long, sum_by-places, length_at}
+use Rattle.msp_total.proofs.LaidSchedule.{IsPlain, AreFitting, schedule_of, laid_is_feasible, laid_costs, laid_is_within, laid_is_answer}
+use Rattle.msp_total.proofs.UnrelatedFacts.{IsUnrelatedInstance}
+
+-- ---- totals of integers
+int_total_below-split : (a b : ℕ) (f : ℕ → ℤ) → int_total_below (a + b) f ≡ int_total_below a f +ℤ int_total_below b (λ k. f (a + k))
+int_total_below-split a zero f = ap (λ k. int_total_below k f) none ∙ omega (arith, ints)
+  where
+    none : a + 0 ≡ a
+    none = omega arith
+int_total_below-split a (suc b) f = ap (λ k. int_total_below k f) next ∙ by (int_total_below (a + b) f) (int_total_below a f) (int_total_below b (λ k. f (a + k))) (f (a + b)) (int_total_below-split a b f)
+  where
+    next : a + suc b ≡ suc (a + b)
+    next = omega arith
+
+    by : (w x y z : ℤ) → w ≡ x +ℤ y → w +ℤ z ≡ x +ℤ (y +ℤ z)
+    by w x y z e = omega (arith, ints)
+
+int_total_below-zeros : (n : ℕ) (f : ℕ → ℤ) → ((k : ℕ) → k < n → f k ≡ pos 0) → int_total_below n f ≡ pos 0
+int_total_below-zeros n f h = int_total_below-natural n f (λ _. 0) h ∙ ap pos (total_below-constant n 0 ∙ omega arith)
+
+-- by machine
+by_machine : (each machines : ℕ) (v : ℕ → ℤ) → int_total_below (each * machines) v ≡ int_total_below machines (λ m. int_total_below each (λ k. v (m * each + k)))
+by_machine each zero v = ap (λ k. int_total_below k v) none
+  where
+    none : each * 0 ≡ 0
+    none = omega arith
+by_machine each (suc m) v =
+    ap (λ k. int_total_below k v) next ∙ int_total_below-split (m * each) each v
+    ∙ ap (λ x. x +ℤ int_total_below each (λ k. v (m * each + k))) (ap (λ k. int_total_below k v) turned ∙ by_machine each m v)
+  where
+    next : each * suc m ≡ m * each + each
+    next = omega arith
+
+    turned : m * each ≡ each * m
+    turned = omega arith
+
+-- the price where it is there, and else 0
+abbrev pub kept : Bool → ℤ → ℤ
+kept true x = x
+kept false x = pos 0
+
+-- the prices of all positions: those that are left out have price 0
+abbrev pub position_price : ℕ → (ℕ → ℤ) → ℕ → ℕ → ℤ
+position_price each v m k = kept (ltb k each) (v (m * each + k))
+
+cut_off : (each n : ℕ) (v : ℕ → ℤ) (m : ℕ) → each ≤ n → int_total_below n (position_price each v m) ≡ int_total_below each (λ k. v (m * each + k))
+cut_off each n v m l =
+    ap (λ k. int_total_below k (position_price each v m)) whole ∙ int_total_below-split each (n - each) (position_price each v m)
+    ∙ ap₂ (λ x y. x +ℤ y) (int_total_below-same each (position_price each v m) (λ k. v (m * each + k)) (λ k h. there k (ltb k each) refl h)) (int_total_below-zeros (n - each) (λ k. position_price each v m (each + k)) (λ k h. gone k (ltb (each + k) each) refl))
+    ∙ omega (arith, ints)
+  where
+    whole : n ≡ each + (n - each)
+    whole = omega arith
+
+    there : (k : ℕ) (b : Bool) → ltb k each ≡ b → k < each → kept (ltb k each) (v (m * each + k)) ≡ v (m * each + k)
+    there k true e h = ap (λ b. kept b (v (m * each + k))) e
+    there k false e h = absurd (omega (arith, h, ltb-false k each e))
+
+    gone : (k : ℕ) (b : Bool) → ltb (each + k) each ≡ b → kept (ltb (each + k) each) (v (m * each + (each + k))) ≡ pos 0
+    gone k true e = absurd (omega (arith, ltb-true (each + k) each e))
+    gone k false e = ap (λ b. kept b (v (m * each + (each + k)))) e
+
+-- ---- positions by rising column
+-- of the columns of a machine that come before a moment in the order, no more are taken than lie below
+below_column : (each : ℕ) (column machine : ℕ → ℕ) (r m x : ℕ) → ((a : ℕ) → a < r → machine a * each ≤ column a) → ((a b : ℕ) → a < b → b < r → column a < column b) → ((a : ℕ) → a < r → column a < x) → m * each ≤ x → seats machine r m + m * each ≤ x
+below_column each column machine zero m x starts rises under low = omega (arith, low)
+below_column each column machine (suc r) m x starts rises under low =
+    by (eqb (machine r) m) refl
+    (λ e. below_column each column machine r m (column r) (λ a l. starts a (omega arith)) (λ a b l h. rises a b l (omega arith)) (λ a l. rises a r l (omega arith)) (subst (λ k. k * each ≤ column r) (eqb-true (machine r) m e) (starts r (omega arith))))
+    (below_column each column machine r m x (λ a l. starts a (omega arith)) (λ a b l h. rises a b l (omega arith)) (λ a l. under a (omega arith)) low)
+  where
+    by : (b : Bool) → eqb (machine r) m ≡ b → (eqb (machine r) m ≡ true → seats machine r m + m * each ≤ column r) → seats machine r m + m * each ≤ x → seats machine r m + cond (eqb (machine r) m) 1 0 + m * each ≤ x
+    by true e taken other = omega (arith, taken e, under r (omega arith), cond-yes 1 e)
+    by false e taken other = omega (arith, other, cond-no 1 e)
+
+pub IsPlain-from_unrelated : (i : Instance) → IsUnrelatedInstance i → IsPlain i
+IsPlain-from_unrelated i h = record {
+  cut = h.cut;
+  crit = h.crit;
+  arcs = h.arcs;
+  few = h.few;
+  release = h.release;
+  first = λ j o op. subst (λ k. HasOperation k i j o) h.kind op;
+  operation = λ j. subst (λ k. HasOperation k i j 0) (sym h.kind) refl;
+  may_run = λ j m l. subst (λ k. MayRun k i j 0 m) (sym h.kind) l;
+  route = λ ps. subst (λ k. FollowsRoute k ps) (sym h.kind) tt;
+}
+
+-- what is said of the answer's schedule
+pub record IsUnrelatedAnswer (i : Instance) (s : Schedule) : Type 0 where
+  pub best : Best i s
+  pub within : Within i s
+  pub answer : IsAnswer i s
+
+module _ (i : Instance) (h : IsUnrelatedInstance i) (p : Positions) (table : IsTableOf i p) where
+  abbrev n : ℕ
+  n = length i.jobs
+
+  abbrev time : ℕ → ℕ → ℕ
+  time j m = (need_at i j m).time
+
+  read : (j m : ℕ) → j < n → m < i.machines → time_in p.machines p.times j m ≡ time j m
+  read j m l k = ap (λ w. time_in w p.times j m) table.machines ∙ table.times.each j m (omega (arith, l, table.jobs)) k
+
+  pub short_times : HasShortTimes p
+  short_times j m l k =
+      let a : j < n = omega (arith, l, table.jobs) in
+      let b : m < i.machines = omega (arith, k, table.machines) in
+      omega (arith, read j m a b, (h.times j m a b).1)
+
+  module _ (each : ℕ) (a : Assignment) (placing : IsPlacing p each a) where
+    abbrev row : ℕ → ℤ
+    row j = price_at a.row_price j
+
+    abbrev position : ℕ → ℤ
+    position c = price_at a.column_price c
+
+    abbrev at : ℕ → ℕ
+    at j = column_of a.column j
+
+    few : each ≤ n
+    few = omega (arith, placing.few, table.jobs)
+
+    columns_is : each * p.machines ≡ each * i.machines
+    columns_is = ap (λ w. each * w) table.machines
+
+    at-inside : (j : ℕ) → j < n → at j < each * i.machines
+    at-inside j l = omega (arith, placing.first.assigned.inside j 0 (omega (arith, l, placing.first.assigned.all, table.jobs)), columns_is)
+
+    -- what a job costs at a column
+    abbrev cost_at : ℕ → ℕ → ℕ
+    cost_at j c = (c % each + 1) * time j (c / each)
+
+    cost_is : (j c : ℕ) → j < n → c < each * i.machines → position_cost each p.machines p.times j c ≡ pos (cost_at j c)
+    cost_is j c l k = ap (λ x. pos ((c % each + 1) * x)) (read j (c / each) l (machine_inside each i.machines c k))
+
+    abbrev value : ℕ
+    value = total_below n (λ j. cost_at j (at j))
+
+    -- all prices together are the cost of the assignment
+    total_is : int_total_below n row +ℤ int_total_below (each * i.machines) position ≡ pos value
+    total_is =
+        sym (ap₂ (λ x y. int_total_below x row +ℤ int_total_below y position) table.jobs columns_is) ∙ sym placing.first.total
+        ∙ ap (λ x. int_total_below x (λ j. position_cost each p.machines p.times j (at j))) table.jobs
+        ∙ int_total_below-natural n (λ j. position_cost each p.machines p.times j (at j)) (λ j. cost_at j (at j)) (λ j l. cost_is j (at j) l (at-inside j l))
+
+    prices_are : all_prices i row (position_price each position) ≡ pos value
+    prices_are =
+        ap₂ (λ x y. x +ℤ y) (total_over_range n row)
+        (total_over_range i.machines (prices_on_machine i (position_price each position)) ∙ int_total_below-same i.machines _ (λ m. int_total_below each (λ k. position (m * each + k))) (λ m l. total_over_range n (position_price each position m) ∙ cut_off each n position m few) ∙ sym (by_machine each i.machines position))
+        ∙ total_is
+
+    prices_fit : ArePrices i row (position_price each position)
+    prices_fit = record { low = λ m k l b. low m k l (ltb k each) refl; fair = λ j m k l b c. fair j m k l b (ltb k each) refl c }
+      where
+        inside : (m k : ℕ) → m < i.machines → k < each → m * each + k < each * i.machines
+        inside m k l b = let s = mul-le-mul_right each (next m i.machines l) in omega (arith, s)
+          where
+            next : (x y : ℕ) → x < y → x + 1 ≤ y
+            next x y g = omega arith
+
+        low : (m k : ℕ) → m < i.machines → (b : Bool) → ltb k each ≡ b → kept (ltb k each) (position (m * each + k)) ≤ℤ pos 0
+        low m k l true e = subst (λ b. kept b (position (m * each + k)) ≤ℤ pos 0) (sym e) (placing.first.priced.low (m * each + k) (omega (arith, inside m k l (ltb-true k each e), columns_is)))
+        low m k l false e = subst (λ b. kept b (position (m * each + k)) ≤ℤ pos 0) (sym e) (≤ℤ_refl (pos 0))
+
+        fair : (j m k : ℕ) → j < n → m < i.machines → (b : Bool) → ltb k each ≡ b → k < n → (row j +ℤ kept (ltb k each) (position (m * each + k))) ≤ℤ pos ((k + 1) * time j m)
+        fair j m k l b true e c =
+            let less = ltb-true k each e in
+            subst (λ t. (row j +ℤ kept t (position (m * each + k))) ≤ℤ pos ((k + 1) * time j m)) (sym e)
+            (subst (λ x. (row j +ℤ position (m * each + k)) ≤ℤ x) (cost_is j (m * each + k) l (inside m k b less) ∙ ap₂ (λ x y. pos ((x + 1) * time j y)) (digits_mod m less) (digits_div m less))
+            (placing.first.priced.at_most j (m * each + k) (omega (arith, l, table.jobs)) (omega (arith, inside m k b less, columns_is))))
+        fair j m k l b false e c =
+            let more = ltb-false k each e in
+            subst (λ t. (row j +ℤ kept t (position (m * each + k))) ≤ℤ pos ((k + 1) * time j m)) (sym e)
+            (later (row j) _ (subst (λ x. row j ≤ℤ pos ((each + 1) * x)) (read j m l b) (placing.left_out (omega (arith, more, c, table.jobs)) j m (omega (arith, l, table.jobs)) (omega (arith, b, table.machines))))
+            (mul-le-mul_right (time j m) (one_more each k more)))
+          where
+            one_more : (x y : ℕ) → x ≤ y → x + 1 ≤ y + 1
+            one_more x y g = omega arith
+
+            later : (u : ℤ) (x : ℕ) {y : ℕ} → u ≤ℤ pos x → x ≤ y → (u +ℤ pos 0) ≤ℤ pos y
+            later u x {y} g k = omega (arith, ints, g, k)
+
+    -- ---- the jobs by rising column
+    module _ (column : List ℕ) (same_column : column ≡ a.column) (chosen listed : List Chosen) (sorted : IsByColumn (length column) column chosen) (same_chosen : listed ≡ chosen) where
+      abbrev job : ℕ → ℕ
+      job r = (chosen_at chosen r).job
+
+      abbrev column_at : ℕ → ℕ
+      column_at r = (chosen_at chosen r).column
+
+      column-count : length column ≡ n
+      column-count = ap length same_column ∙ placing.first.assigned.all ∙ table.jobs
+
+      once : OnceBelow n (map (λ c. c.job) chosen)
+      once = subst (λ k. OnceBelow k (map (λ c. c.job) chosen)) column-count (OnceBelow-from_permutation sorted.all)
+
+      chosen-count : length chosen ≡ n
+      chosen-count = sym (length-map chosen (λ c. c.job)) ∙ length-OnceBelow once
+
+      job-inside : (r : ℕ) → r < n → job r < n
+      job-inside r l = subst (λ x. x < n) (get_or-map (λ (c : Chosen). c.job) chosen r no_chosen 0 inside) (once.within r 0 (omega (arith, inside, length-map chosen (λ c. c.job))))
+        where
+          inside : r < length chosen
+          inside = omega (arith, l, chosen-count)
+
+      job-apart : (r q : ℕ) → r < q → q < n → job r ≡ job q → ⊥
+      job-apart r q l m e = OnceBelow-distinct once r q 0 l (omega (arith, m, chosen-count, length-map chosen (λ c. c.job))) (read_job r (omega arith) ∙ e ∙ sym (read_job q m))
+        where
+          read_job : (r : ℕ) → r < n → get_or (map (λ c. c.job) chosen) r 0 ≡ job r
+          read_job r k = get_or-map (λ (c : Chosen). c.job) chosen r no_chosen 0 (omega (arith, k, chosen-count))
+
+      column-is : (r : ℕ) → r < n → column_at r ≡ at (job r)
+      column-is r l = sorted.columns r no_chosen (omega (arith, l, chosen-count)) ∙ ap (λ xs. column_of xs (job r)) same_column
+
+      column-inside : (r : ℕ) → r < n → column_at r < each * i.machines
+      column-inside r l = omega (arith, column-is r l, at-inside (job r) (job-inside r l))
+
+      at-once : (j k : ℕ) → j < n → k < n → (j ≡ k → ⊥) → at j ≡ at k → ⊥
+      at-once j k l m ne e = elim (order j k ne) [ inl less ↦ apart j k less m e | inr more ↦ apart k j more l (sym e) ]
+        where
+          apart : (j k : ℕ) → j < k → k < n → at j ≡ at k → ⊥
+          apart j k l m e = placing.first.assigned.apart j k 0 l (omega (arith, m, placing.first.assigned.all, table.jobs)) e
+
+          order : (j k : ℕ) → (j ≡ k → ⊥) → (j < k) ⊎ (k < j)
+          order j k ne = grind arith
+
+      rises : (r q : ℕ) → r < q → q < n → column_at r < column_at q
+      rises r q l m = strict (column_at r) (column_at q) (sorted.rising r q no_chosen l (omega (arith, m, chosen-count)))
+          (λ e. at-once (job r) (job q) (job-inside r (omega arith)) (job-inside q m) (job-apart r q l m) (sym (column-is r (omega arith)) ∙ e ∙ column-is q m))
+        where
+          strict : (x y : ℕ) → x ≤ y → (x ≡ y → ⊥) → x < y
+          strict x y g ne = omega arith
+
+      pub chosen_inside : All (λ c. (c.job < p.jobs) × (c.column < each * p.machines)) listed
+      chosen_inside = subst (All (λ c. (c.job < p.jobs) × (c.column < each * p.machines))) (sym same_chosen) inside
+        where
+          inside : All (λ c. (c.job < p.jobs) × (c.column < each * p.machines)) chosen
+          inside r d l =
+              let below : r < n = omega (arith, l, chosen-count) in
+              subst (λ (c : Chosen). (c.job < p.jobs) × (c.column < each * p.machines)) (get_or_default chosen r no_chosen d l) (omega (arith, job-inside r below, table.jobs), omega (arith, column-inside r below, columns_is))
+
+      module _ (places : List Place) (turns : ArePlacesOf p each listed places) where
+        abbrev machine : ℕ → ℕ
+        machine r = machine_at places r
+
+        count : length places ≡ n
+        count = turns.count ∙ ap length same_chosen ∙ chosen-count
+
+        machine-is : (r : ℕ) → r < n → machine r ≡ column_at r / each
+        machine-is r l = (turns.placed r (omega (arith, l, count))).1 ∙ ap (λ xs. (chosen_at xs r).column / each) same_chosen
+
+        machine-below : (r : ℕ) → r < n → machine r < i.machines
+        machine-below r l = omega (arith, machine-is r l, machine_inside each i.machines (column_at r) (column-inside r l))
+
+        length-is : (r : ℕ) → r < n → length_at places r ≡ time (job r) (column_at r / each)
+        length-is r l = (turns.placed r (omega (arith, l, count))).2 ∙ ap (λ xs. time_in p.machines p.times (chosen_at xs r).job ((chosen_at xs r).column / each)) same_chosen ∙ read (job r) (column_at r / each) (job-inside r l) (machine_inside each i.machines (column_at r) (column-inside r l))
+
+        -- a job is followed by no more jobs than its position says
+        position-is : (r : ℕ) → r < n → seats machine r (machine r) + 1 ≤ column_at r % each + 1
+        position-is r l = by (seats machine r (machine r)) (machine r * each) (column_at r) (column_at r % each)
+            (below_column each column_at machine r (machine r) (column_at r) (λ a m. starts a (omega arith)) (λ a b m k. rises a b m (omega arith)) (λ a m. rises a r m l) (starts r l))
+            (parts r l)
+          where
+            starts : (r : ℕ) → r < n → machine r * each ≤ column_at r
+            starts r l = omega (arith, ap (λ x. x * each) (machine-is r l), div-mul-le_self (column_at r) each)
+
+            parts : (r : ℕ) → r < n → column_at r ≡ machine r * each + column_at r % each
+            parts r l = omega (arith, ap (λ x. x * each) (machine-is r l), div-add-mod (column_at r) each)
+
+            by : (s m c d : ℕ) → s + m ≤ c → c ≡ m + d → s + 1 ≤ d + 1
+            by s m c d g e = omega (arith, g, e)
+
+        same-jobs : map (λ q. q.job) places ≡ map (λ c. c.job) chosen
+        same-jobs = same_lists _ _ (length-map places (λ q. q.job) ∙ turns.count ∙ ap length same_chosen ∙ sym (length-map chosen (λ c. c.job)))
+            (λ r d l. let inside : r < length places = omega (arith, l, length-map places (λ q. q.job)) in
+            get_or-map (λ (q : Place). q.job) places r no_place d inside ∙ (turns.placed r inside).0 ∙ ap (λ xs. (chosen_at xs r).job) same_chosen ∙ sym (get_or-map (λ (c : Chosen). c.job) chosen r no_chosen d (omega (arith, inside, count, chosen-count))))
+
+        record IsMeant (q : Place) : Type 0 where
+          machine_is : q.machine < i.machines
+          lasts : 0 < q.length
+          short : q.length ≤ 1000000000 * 2 ^ 30
+          work : q.length ≡ time q.job q.machine
+
+        meant : All IsMeant places
+        meant r d l = subst IsMeant (get_or_default places r no_place d l) (record {
+          machine_is = machine-below r below;
+          lasts = omega (arith, length-is r below, (h.times (job r) (column_at r / each) (job-inside r below) on).0);
+          short = omega (arith, length-is r below, (h.times (job r) (column_at r / each) (job-inside r below) on).1);
+          work = length-is r below ∙ ap₂ time (sym ((turns.placed r l).0 ∙ ap (λ xs. (chosen_at xs r).job) same_chosen)) (sym (machine-is r below));
+        })
+          where
+            below : r < n
+            below = omega (arith, l, count)
+
+            on : column_at r / each < i.machines
+            on = machine_inside each i.machines (column_at r) (column-inside r below)
+
+        pub fitting : AreFitting i 1 places
+        fitting = record {
+          some = omega arith;
+          few = omega arith;
+          bounded = subst (λ k. pos 1 ≤ℤ answer_unit k) (sym h.kind) (omega (arith, ints));
+          scaled = λ u. omega (arith, ints);
+          jobs = subst (OnceBelow n) (sym same-jobs) once;
+          inside = λ k d l. (meant k d l).machine_is;
+          lasts = λ k d l. (meant k d l).lasts;
+          short = λ k d l. (meant k d l).short;
+          work = λ q rest c. subst (λ k. IsWholeWork k i (pos 1) (piece_before q rest)) (sym h.kind) (piece_long q rest ∙ ap pos (All-contains IsMeant places q meant c).work ∙ sym (one-*ℤ (pos (time q.job q.machine))));
+        }
+
+        abbrev s : Schedule
+        s = schedule_of 1 places
+
+        upper : cost_of i s ≤ℤ pos value
+        upper = ≤ℤ_trans (laid_costs i (IsPlain-from_unrelated i h) 1 places fitting) (pos-le (subst (λ x. x ≤ value) (ap (λ k. total_below k (λ r. length_at places r * (seats machine r (machine r) + 1))) (sym count))
+            (subst (λ x. total_below n (λ r. length_at places r * (seats machine r (machine r) + 1)) ≤ x) (sym reordered) (total_below-mono n _ _ term))))
+          where
+            reordered : value ≡ total_below n (λ r. cost_at (job r) (at (job r)))
+            reordered =
+                sym (sum_by-OnceBelow (λ j. cost_at j (at j)) once) ∙ sum_by-map (λ j. cost_at j (at j)) (λ (c : Chosen). c.job) chosen ∙ sum_by-places (λ (c : Chosen). cost_at c.job (at c.job)) chosen no_chosen
+                ∙ ap (λ k. total_below k (λ r. cost_at (job r) (at (job r)))) chosen-count
+
+            term : (r : ℕ) → r < n → length_at places r * (seats machine r (machine r) + 1) ≤ cost_at (job r) (at (job r))
+            term r l = subst (λ c. length_at places r * (seats machine r (machine r) + 1) ≤ cost_at (job r) c) (column-is r l)
+                (by (length_at places r) (time (job r) (column_at r / each)) (seats machine r (machine r) + 1) (column_at r % each + 1) (length-is r l) (position-is r l))
+              where
+                by : (x t u w : ℕ) → x ≡ t → u ≤ w → x * u ≤ w * t
+                by x t u w e g = omega (arith, ap (λ y. y * u) e, mul-le-mul_left t g)
+
+        pub best : Best i s
+        best = record { feasible = laid_is_feasible i (IsPlain-from_unrelated i h) 1 places fitting; least = least }
+          where
+            least : (t : Schedule) → Feasible i t → (cost_of i s *ℤ t.unit) ≤ℤ (cost_of i t *ℤ pos 1)
+            least t f =
+                subst₂ (λ x y. x ≤ℤ y) (*ℤ_comm t.unit (cost_of i s)) (sym (*ℤ-one (cost_of i t)))
+                (≤ℤ_trans (*ℤ-mono_nonneg t.unit (positive t.unit f.unit) upper) (subst (λ x. (t.unit *ℤ x) ≤ℤ cost_of i t) prices_are (law_of_prices i t row (position_price each position) h.kind h.cut h.crit f prices_fit)))
+              where
+                positive : (u : ℤ) → pos 1 ≤ℤ u → pos 0 ≤ℤ u
+                positive u k = omega (arith, ints)
+
+        pub places_small : (laid_places : List Place) → laid_places ≡ places → ArePlaces laid_places
+        places_small laid_places e = subst ArePlaces (sym e) (omega (arith, count, h.few), λ k d l. (omega (arith, fitting.inside k d l, h.machines), fitting.short k d l))
+
+        pub answer_read : (laid_places : List Place) (pieces : List Piece) → laid_places ≡ places → pieces ≡ laid laid_places → IsUnrelatedAnswer i (record { unit = pos 1; pieces = pieces })
+        answer_read laid_places pieces e all = subst (λ x. IsUnrelatedAnswer i (record { unit = pos 1; pieces = x })) (sym (all ∙ ap laid e)) (record {
+          best = best;
+          within = laid_is_within i (IsPlain-from_unrelated i h) 1 places fitting;
+          answer = laid_is_answer i (IsPlain-from_unrelated i h) 1 places fitting;
+        })

@@ -1,0 +1,66 @@
+-- Jobs by the columns that an assignment gives them. No public contract cites this file.
+use Rattle.std.specs.Prelude.{◌≡◌, ℕ, ◌+◌, ◌*◌, ◌/◌, ◌<◌, ◌≤◌, List, length, map, pos, ◌≤ℤ◌, slice_index_or, All, AllPairs, IsPermutation}
+use Rattle.std.specs.List.{range_with_len}
+use Rattle.msp_instance.specs.declared.ranges.TheConstants.{GREATEST, GREATEST_MULTIPLE}
+use Rattle.msp_instance.specs.declared.Instance.{Instance}
+use Rattle.msp_instance.specs.Instance.{need_at}
+use Rattle.msp_assign.specs.declared.assignment.Assignment.{Assignment}
+use Rattle.msp_assign.specs.Prices.{IsAssigned, IsPriced, column_of, price_at, cost_of, price_of}
+use Rattle.msp_total.specs.declared.lay.Place.{Place}
+use Rattle.msp_total.specs.declared.positions.Positions.{Positions}
+use Rattle.msp_total.specs.declared.unrelated.Chosen.{Chosen}
+use Rattle.msp_total.specs.Places.{place_at}
+use Rattle.msp_total.specs.Positions.{time_in, position_cost}
+
+-- The times of the first jobs, by job and machine.
+pub record HasTimes (i : Instance) (jobs : ℕ) (times : List ℕ) : Type 0 where
+  pub count : length times ≡ jobs * i.machines
+  pub each : (j m : ℕ) → j < jobs → m < i.machines → time_in i.machines times j m ≡ (need_at i j m).time
+
+-- The table has the times of the instance.
+pub record IsTableOf (i : Instance) (p : Positions) : Type 0 where
+  pub jobs : p.jobs ≡ length i.jobs
+  pub machines : p.machines ≡ i.machines
+  pub times : HasTimes i p.jobs p.times
+
+-- No time of the table is longer than those of an inner instance.
+abbrev pub HasShortTimes : Positions → Type 0
+HasShortTimes p = (j m : ℕ) → j < p.jobs → m < p.machines → time_in p.machines p.times j m ≤ GREATEST * GREATEST_MULTIPLE
+
+-- What a job adds at a position of the table, where each machine has so many.
+abbrev pub cost_in : ℕ → Positions → ℕ → ℕ → ℕ
+cost_in each p j m = (each + 1) * time_in p.machines p.times j m
+
+-- A least assignment to the first positions of each machine, so many, with its prices.
+pub record IsFirstPlacing (p : Positions) (each : ℕ) (a : Assignment) : Type 0 where
+  pub assigned : IsAssigned p.jobs (each * p.machines) a.column
+  pub priced : IsPriced p.jobs (each * p.machines) (position_cost each p.machines p.times) a
+  pub total : cost_of p.jobs (position_cost each p.machines p.times) a.column ≡ price_of p.jobs (each * p.machines) a
+
+-- The same, and where positions are left out, no job's price is above what it adds at the next position of any machine.
+pub record IsPlacing (p : Positions) (each : ℕ) (a : Assignment) : Type 0 where
+  pub some : 1 ≤ each
+  pub few : each ≤ p.jobs
+  pub first : IsFirstPlacing p each a
+  pub left_out : each < p.jobs → (j m : ℕ) → j < p.jobs → m < p.machines → price_at a.row_price j ≤ℤ pos (cost_in each p j m)
+
+-- A job and its column; what is read where there is none.
+abbrev pub no_chosen : Chosen
+no_chosen = record { job = 0; column = 0 }
+
+abbrev pub chosen_at : List Chosen → ℕ → Chosen
+chosen_at chosen k = slice_index_or chosen k no_chosen
+
+-- All jobs with their columns, by rising column.
+pub record IsByColumn (jobs : ℕ) (column : List ℕ) (chosen : List Chosen) : Type 0 where
+  pub all : IsPermutation (range_with_len 0 jobs) (map (λ c. c.job) chosen)
+  pub columns : All (λ c. c.column ≡ column_of column c.job) chosen
+  pub rising : AllPairs (λ a b. a.column ≤ b.column) chosen
+
+-- The places of the jobs, in the same order.
+abbrev pub IsPlaceOf : Positions → ℕ → Chosen → Place → Type 0
+IsPlaceOf p each c q = (q.job ≡ c.job) × (q.machine ≡ c.column / each) × (q.length ≡ time_in p.machines p.times c.job (c.column / each))
+
+pub record ArePlacesOf (p : Positions) (each : ℕ) (chosen : List Chosen) (places : List Place) : Type 0 where
+  pub count : length places ≡ length chosen
+  pub placed : (r : ℕ) → r < length places → IsPlaceOf p each (chosen_at chosen r) (place_at places r)
