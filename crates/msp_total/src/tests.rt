@@ -107,7 +107,10 @@ fn two_jobs_on_two_uniform_machines(rt: HostRuntime) {
 
 #[test]
 fn three_jobs_on_two_unrelated_machines(rt: HostRuntime) {
-    let best = on_unrelated(rt.alloc(), &[&[1, 9], &[2, 3], &[3, 5]]).expect(&rt, "there is memory");
+    let best = on_unrelated(rt.alloc(), &[&[1, 9], &[2, 3], &[3, 5]]).expect(
+        &rt,
+        "there is memory",
+    );
     assert_eq!(rt; best.cost.num, 8);
     assert_eq!(rt; best.cost.den, 1);
     assert_eq!(rt; best.schedule.pieces.len(), 3);
