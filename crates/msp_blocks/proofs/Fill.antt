@@ -15,7 +15,7 @@ use Rattle.msp_schedule.proofs.JobShares.{filter_none, filter_whole}
 use Rattle.msp_schedule.proofs.OneMachine.{job_of, start, finish}
 use Rattle.msp_schedule.proofs.OneRow.{piece, time_at}
 use Rattle.msp_schedule.proofs.Series.{AllPairs-append}
-use Rattle.msp_single.specs.Lawler.{EndsAt, CostsLess}
+use Rattle.msp_route.specs.LastJob.{EndsAt, CostsLess}
 use Rattle.msp_blocks.specs.Filling.{done_by, busy_until, Follow, gaps, IsPut, IsFilling}
 use Rattle.msp_blocks.proofs.Lists.{All-without, All-at, All-before, AllPairs-without, AllPairs-before, AllPairs-after, Contains-with, Contains-at, Contains-without, Contains-once}
 use Rattle.msp_blocks.proofs.Idle.{done-mono, done-tight, busy-mono, busy-append, busy-done, busy-without, Follow-append, around, gaps-inside, gaps-made, gaps-apart, gaps-size, gaps-few, gaps-idle}

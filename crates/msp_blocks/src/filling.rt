@@ -10,8 +10,8 @@ ghost use Rattle.msp_blocks.specs.Filling.{done_by, gap, gaps, IsFirstBlock, IsF
 use crate::heads::time_of;
 use msp_class::{List, NoMemory};
 use msp_instance::Instance;
+use msp_route::{last_place, total_time};
 use msp_schedule::Piece;
-use msp_single::{last_place, total_time};
 use std::alloc::Global;
 
 /// The first jobs, which run without idle time up to an end.

@@ -1,8 +1,8 @@
 //! Solvers on one machine for the greatest cost of a job by its curve, where jobs are released late: by blocks, with preemption or with
 //! unit times.
 //!
-//! It stands on `msp_schedule`, `msp_route`, and on Lawler's choice in `msp_single`. The layers above use the clauses of `Solver`: the
-//! answers are best.
+//! It stands on `msp_schedule` and `msp_route`, whose `last_place` chooses the last job of a block as Lawler's rule does. The layers above
+//! use the clauses of `Solver`: the answers are best.
 #![tactic(auto)]
 
 mod blocks;

@@ -1,11 +1,12 @@
 // One slot of the rule: of the jobs left the first that are free, on machines in order.
-ghost use Rattle.std.specs.Prelude.{◌≡◌, ◌==◌, ◌&&◌, ◌||◌, ◌++◌, ◌∷◌, [], ℕ, ◌<◌, ◌≤◌, false, length, slice_index_or, slice_set, All, IfOk, OnOk, if◌then◌else◌};
+ghost use Rattle.std.specs.Prelude.{◌≡◌, ◌==◌, ◌&&◌, ◌++◌, ◌∷◌, [], ℕ, ◌<◌, ◌≤◌, false, length, slice_index_or, All, IfOk, OnOk, if◌then◌else◌};
 ghost use Rattle.std.specs.List.{list_any};
 ghost use Rattle.msp_instance.specs.declared.ranges.TheConstants.{MOST_JOBS, MOST_MACHINES};
 ghost use Rattle.msp_levels.specs.Steps.{is_blocked, IsSlot, seats};
 
 use msp_class::{List, NoMemory};
 use msp_instance::{Arc, MOST_JOBS};
+use msp_route::{mark, marks_of, no_marks};
 use msp_schedule::Piece;
 use std::alloc::Global;
 
@@ -14,33 +15,6 @@ use std::alloc::Global;
 pub struct Slot {
     pub taken: Vec<u32>,
     pub rest: Vec<u32>,
-}
-
-fn no_marks() -> [bool; MOST_JOBS]
-    ensures { (j : ℕ) → j < MOST_JOBS → slice_index_or result j false ≡ false }
-{
-    [false; MOST_JOBS]
-}
-
-/// Marks a job where there is a reason.
-fn mark(marks: &mut [bool], job: u32, reason: bool)
-    requires { job < length marks.old }
-    ensures { marks.new ≡ slice_set marks.old job (slice_index_or marks.old job false || reason) }
-{
-    let at = job as usize;
-    marks[at] = marks[at] || reason;
-}
-
-/// A mark for each job of the list.
-fn marks_of(jobs: &[u32]) -> [bool; MOST_JOBS]
-    requires { All (λ j. j < MOST_JOBS) jobs.now }
-    ensures { (j : ℕ) → j < MOST_JOBS → slice_index_or result j false ≡ list_any (λ k. k == j) jobs.now }
-{
-    let mut marks = no_marks();
-    for job in jobs {
-        mark(&mut marks, *job, true);
-    }
-    marks
 }
 
 /// A mark for each job to which an arc leads from a job that is left.

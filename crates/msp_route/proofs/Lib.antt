@@ -4,3 +4,5 @@ pub mod Composed
 pub mod Alike
 pub mod InnerChanges
 pub mod InPlace
+pub mod JobReads
+pub mod Search

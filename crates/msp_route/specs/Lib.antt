@@ -1,3 +1,5 @@
 pub mod Law
 pub mod Bounds
 pub mod Changes
+pub mod LastJob
+pub mod Candidates

@@ -1,14 +1,19 @@
 //! Reductions that carry instances and schedules, solvers, and a solver composed of both.
 //!
 //! It stands on `msp_schedule` and `msp_table`. The layers above use the traits `Reduction` and `Solver` alone: what a lawful
-//! reduction does to costs, so that a best schedule brought back is best, and that a solver's answer is best within its bounds.
+//! reduction does to costs, so that a best schedule brought back is best, and that a solver's answer is best within its bounds. What more
+//! than one solver needs stands here too, since no solver's crate stands on another's: the job that ends last (`last_place`), how long
+//! jobs take one after another (`total_time`), and marks of jobs.
 #![tactic(auto)]
 
 mod answer;
 mod bounds;
 mod copies;
+mod last_job;
+mod marks;
 mod reduction;
 mod solver;
+mod times;
 mod via;
 
 pub use answer::{Answer, SolverName};
@@ -17,6 +22,9 @@ pub use bounds::{
     GREATEST_RAISE,
 };
 pub use copies::{led, recast};
+pub use last_job::last_place;
+pub use marks::{mark, marks_of, no_marks};
 pub use reduction::Reduction;
 pub use solver::Solver;
+pub use times::{first_time, total_time};
 pub use via::Via;

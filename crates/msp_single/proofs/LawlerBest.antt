@@ -21,7 +21,8 @@ use Rattle.msp_schedule.proofs.Rows.{row, row-jobs, row-last, row-arcs, end_in, 
 use Rattle.msp_schedule.proofs.OneMachine.{job_of, start, finish, IsTimed, last_end-is}
 use Rattle.msp_schedule.proofs.OneRow.{piece, piece_makes, time_at, row_schedule, row_is_feasible, row_is_settled, row_is_within}
 use Rattle.msp_route.specs.Bounds.{IsAnswer}
-use Rattle.msp_single.specs.Lawler.{lawler_class, CostsLess, IsLawlerOrder}
+use Rattle.msp_route.specs.LastJob.{CostsLess}
+use Rattle.msp_single.specs.Lawler.{lawler_class, IsLawlerOrder}
 use Rattle.msp_schedule.specs.Blocks.{total_time, cost_at}
 use Rattle.msp_schedule.proofs.Certified.{ranked, Rises, IsCertified, best_by_certificates}
 use Rattle.msp_single.proofs.Facts.{takes_time, is_short}

@@ -8,7 +8,6 @@ pub mod SmithFacts
 pub mod SmithBest
 pub mod LawlerFacts
 pub mod LawlerBest
-pub mod Search
 pub mod Placing
 pub mod MooreFacts
 pub mod MooreChoice

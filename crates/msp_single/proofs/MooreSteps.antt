@@ -12,7 +12,7 @@ use Rattle.msp_instance.specs.declared.Instance.{Instance}
 use Rattle.msp_instance.specs.Instance.{no_need, job_at, need_at}
 use Rattle.msp_single.specs.declared.moore.Task.{Task}
 use Rattle.msp_single.specs.Moore.{IsLongest, IsChoice}
-use Rattle.msp_single.proofs.Steps.{read_job}
+use Rattle.msp_route.proofs.JobReads.{read_job}
 use Rattle.msp_single.proofs.MooreChoice.{keeps, drops}
 
 abbrev pub IsTaskOf : Instance → Task → Type 0

@@ -11,7 +11,8 @@ use Rattle.msp_class.proofs.Sums.{sum_by-IsPermutation, OnceBelow-from_permutati
 use Rattle.msp_instance.specs.declared.Instance.{Instance}
 use Rattle.msp_schedule.proofs.OneRow.{time_at}
 use Rattle.msp_schedule.specs.Blocks.{total_time, HasNoSuccessor}
-use Rattle.msp_single.specs.Lawler.{CostsLess, GoesLast}
+use Rattle.msp_route.specs.LastJob.{CostsLess}
+use Rattle.msp_single.specs.Lawler.{GoesLast}
 
 -- the order of the jobs before the last one does not matter
 pub GoesLast-permutation : (i : Instance) (xs ys : List ℕ) (j : ℕ) → IsPermutation xs ys → GoesLast i xs j → GoesLast i ys j

@@ -8,7 +8,7 @@ use Rattle.msp_instance.specs.declared.Job.{Job}
 use Rattle.msp_instance.specs.declared.Instance.{Instance}
 use Rattle.msp_instance.specs.Instance.{no_need, job_at, need_at}
 use Rattle.msp_single.specs.declared.smith.Load.{Load}
-use Rattle.msp_single.proofs.Steps.{read_job}
+use Rattle.msp_route.proofs.JobReads.{read_job}
 
 abbrev pub IsLoadOf : Instance → Load → Type 0
 IsLoadOf i x = (x.time ≡ (need_at i x.job 0).time) × (x.weight ≡ (job_at i x.job).weight)

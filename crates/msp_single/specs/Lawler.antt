@@ -1,5 +1,5 @@
 -- The class that Lawler's rule solves, and the order in which the rule puts the jobs.
-use Rattle.std.specs.Prelude.{◌≡◌, ℕ, ◌+◌, ◌<◌, ◌≤◌, ◌⊎◌, false, List, length, take, slice_index_or, ◌<ℤ◌, All, IsPermutation}
+use Rattle.std.specs.Prelude.{ℕ, ◌+◌, ◌<◌, false, List, length, take, slice_index_or, IsPermutation}
 use Rattle.std.specs.List.{range_with_len}
 use Rattle.msp_class.specs.declared.class.Class.{Class}
 use Rattle.msp_class.specs.declared.class.Env.TheVariants.{One}
@@ -7,21 +7,12 @@ use Rattle.msp_class.specs.declared.class.Order.TheVariants.{Prec}
 use Rattle.msp_class.specs.declared.class.Times.TheVariants.{General}
 use Rattle.msp_class.specs.declared.class.Crit.TheVariants.{Fmax}
 use Rattle.msp_instance.specs.declared.Instance.{Instance}
-use Rattle.msp_schedule.specs.Blocks.{total_time, cost_at, HasNoSuccessor}
+use Rattle.msp_schedule.specs.Blocks.{total_time}
+use Rattle.msp_route.specs.LastJob.{EndsAt}
 
 -- One machine, precedence, neither preemption nor release dates, any times, and the greatest cost of a job by its curve: `1|prec|fmax`.
 abbrev pub lawler_class : Class
 lawler_class = record { env = One; cut = false; order = Prec; heads = false; times = General; crit = Fmax }
-
--- Job a costs less than job b at the moment, or as much and has no greater number.
-abbrev pub CostsLess : Instance → ℕ → ℕ → ℕ → Type 0
-CostsLess i moment a b = (cost_at i a moment <ℤ cost_at i b moment) ⊎ ((cost_at i a moment ≡ cost_at i b moment) × (a ≤ b))
-
--- Of the jobs, the one that ends last at the moment: of those without a successor among them it costs least there, ties to the lesser
--- number.
-pub record EndsAt (i : Instance) (moment : ℕ) (jobs : List ℕ) (last : ℕ) : Type 0 where
-  pub free : HasNoSuccessor i jobs last
-  pub least : All (λ j. HasNoSuccessor i jobs j → CostsLess i moment last j) jobs
 
 -- Of the jobs, the last one by Lawler's rule: it ends last when all of them are done.
 abbrev pub GoesLast : Instance → List ℕ → ℕ → Type 0

@@ -1,5 +1,4 @@
 pub mod Smith
 pub mod Lawler
 pub mod Moore
-pub mod Candidates
 pub mod Row

@@ -1,5 +1,5 @@
 // Jobs that run one after another.
-ghost use Rattle.std.specs.Prelude.{◌≡◌, ◌*◌, ◌<◌, ◌≤◌, length, slice_index_or, sum_by, All, IfOk};
+ghost use Rattle.std.specs.Prelude.{◌≡◌, ◌*◌, ◌<◌, ◌≤◌, length, slice_index_or, All, IfOk};
 ghost use Rattle.msp_instance.specs.declared.ranges.TheConstants.{GREATEST, MOST_JOBS};
 ghost use Rattle.msp_instance.specs.Instance.{no_need};
 ghost use Rattle.msp_instance.specs.Conditions.{Inner};
@@ -10,33 +10,10 @@ ghost use Rattle.msp_schedule.proofs.Rows.{row};
 ghost use Rattle.msp_single.specs.Row.{IsRowSolution};
 
 use msp_class::{List, NoMemory};
-use msp_instance::{Instance, Job};
+use msp_instance::Instance;
+use msp_route::first_time;
 use msp_schedule::{Piece, Schedule, Solution};
 use std::alloc::Global;
-
-/// The time of a job's first operation.
-pub fn first_time(job: &Job) -> u64
-    requires { 0 < length job.now.needs }
-    ensures { result ≡ (slice_index_or job.now.needs 0 no_need).time }
-{
-    job.needs.as_slice()[0].time
-}
-
-/// How long the jobs take one after another.
-pub fn total_time(inst: &Instance, jobs: &[u32]) -> u64
-    requires few { length jobs.now ≤ MOST_JOBS }
-    requires jobs { All (λ j. j < length inst.now.jobs) jobs.now }
-    requires needs { All (λ j. (0 < length j.needs) × ((slice_index_or j.needs 0 no_need).time ≤ GREATEST)) inst.now.jobs }
-    ensures value { result ≡ sum_by (time_at inst.now) jobs.now }
-    ensures size { result ≤ GREATEST * MOST_JOBS }
-{
-    let all = inst.jobs.as_slice();
-    let mut total: u64 = 0;
-    for k in 0..jobs.len() {
-        total += first_time(&all[jobs[k] as usize]);
-    }
-    total
-}
 
 /// The pieces of the jobs one after another on machine 0, from moment 0 on.
 fn in_a_row(alloc: Global, inst: &Instance, order: &[u32]) -> Result<List<Piece>, NoMemory>

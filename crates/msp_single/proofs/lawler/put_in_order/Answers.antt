@@ -1,5 +1,5 @@
 use Rattle.std.proofs.Common.{take, get_or, subst, arith}
-use Rattle.msp_single.specs.Lawler.{EndsAt}
+use Rattle.msp_route.specs.LastJob.{EndsAt}
 use Rattle.msp_single.proofs.Placing.{placed-next, length_is, take_within}
 use Rattle.std.proofs.lemmas.List.{length-take}
 use Rattle.std.proofs.lemmas.List.Sorted.{IsPermutation-trans}

@@ -1,7 +1,8 @@
 use Rattle.std.proofs.Common.{◌∙◌, refl, rules}
 use Rattle.std.proofs.lemmas.Int.{to_z-of_z}
 use Rattle.std.specs.Int.{w128}
-use Rattle.msp_single.proofs.Steps.{on_ok, laid-next, ends-next, time_read, ends_early}
+use Rattle.msp_route.proofs.JobReads.{ends-next, time_read, ends_early}
+use Rattle.msp_single.proofs.Steps.{on_ok, laid-next}
 use Rattle.msp_single.proofs.row.in_a_row.Goals as goal
 
 pub loop-k-preserved : goal.loop-k-preserved

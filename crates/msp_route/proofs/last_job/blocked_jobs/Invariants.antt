@@ -1,6 +1,6 @@
 use Rattle.std.proofs.Common.{◌≡◌, ℕ, ◌<◌, ◌==◌, ◌&&◌, false, take, slice_index_or}
 use Rattle.std.specs.List.{list_any}
-use Rattle.msp_single.proofs.lawler.blocked_jobs.Given as goal
+use Rattle.msp_route.proofs.last_job.blocked_jobs.Given as goal
 
 -- the jobs before of the arcs so far are marked where the arc leads to a job that is left
 abbrev pub invariant-loop-arc : goal.invariant-loop-arc

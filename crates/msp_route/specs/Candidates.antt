@@ -1,6 +1,6 @@
--- The search for the job that goes last by Lawler's rule. No public contract cites this file.
+-- The search for the job that ends last. No public contract cites this file.
 use Rattle.std.specs.Prelude.{◌≡◌, ℕ, ◌<◌, ◌≤◌, ◌⊎◌, Bool, true, false, List, take, slice_index_or, Option, Some, None, ℤ, ◌<ℤ◌, All}
-use Rattle.msp_single.specs.declared.lawler.Candidate.{Candidate}
+use Rattle.msp_route.specs.declared.last_job.Candidate.{Candidate}
 
 -- The candidate costs less than what has the cost and the number, or as much and has no greater number.
 abbrev pub Precedes : Candidate → ℤ → ℕ → Type 0

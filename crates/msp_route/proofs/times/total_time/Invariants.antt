@@ -1,6 +1,6 @@
 use Rattle.std.proofs.Common.{◌≡◌, ◌*◌, ◌≤◌, take, sum_by}
 use Rattle.msp_schedule.proofs.OneRow.{time_at}
-use Rattle.msp_single.proofs.row.total_time.Given as goal
+use Rattle.msp_route.proofs.times.total_time.Given as goal
 
 -- how long the jobs so far take
 abbrev pub invariant-loop-k : goal.invariant-loop-k

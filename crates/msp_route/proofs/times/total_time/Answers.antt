@@ -1,6 +1,6 @@
 use Rattle.std.proofs.Common.{refl}
-use Rattle.msp_single.proofs.Steps.{ends-next, time_read, ends_early}
-use Rattle.msp_single.proofs.row.total_time.Goals as goal
+use Rattle.msp_route.proofs.JobReads.{ends-next, time_read, ends_early}
+use Rattle.msp_route.proofs.times.total_time.Goals as goal
 
 pub loop-k-preserved : goal.loop-k-preserved
 loop-k-preserved c =

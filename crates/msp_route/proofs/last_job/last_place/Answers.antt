@@ -1,5 +1,5 @@
-use Rattle.msp_single.proofs.Search.{some_open, ends_last}
-use Rattle.msp_single.proofs.lawler.last_place.Goals as goal
+use Rattle.msp_route.proofs.Search.{some_open, ends_last}
+use Rattle.msp_route.proofs.last_job.last_place.Goals as goal
 
 pub unreachable-requires : goal.unreachable-requires
 unreachable-requires c =

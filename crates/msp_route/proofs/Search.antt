@@ -1,4 +1,4 @@
--- The search for the job that goes last: one more job, and what was found among all.
+-- The search for the job that ends last: one more job, and what was found among all.
 use Rattle.std.proofs.Common.{◌≡◌, ℕ, ◌+◌, ◌<◌, ◌≤◌, ◌⊎◌, inl, inr, Bool, true, false, ◌==◌, ◌&&◌, List, length, get_or, take, Option, Some, None, IfSome, ℤ, ◌<ℤ◌, All, sym, ap, ◌∙◌, subst, arith, slice_index_or}
 use Rattle.std.specs.List.{list_any}
 use Rattle.std.proofs.lemmas.Bool.{cases_Bool, eqb-true, eq-eqb, false≢true}
@@ -11,10 +11,10 @@ use Rattle.msp_instance.specs.declared.Instance.{Instance}
 use Rattle.msp_instance.specs.Conditions.{IsAcyclic}
 use Rattle.msp_instance.proofs.ListingLemmas.{list_any-from_Contains, Contains-from_list_any}
 use Rattle.msp_schedule.proofs.Intervals.{greatest_by, greatest_by-contains, greatest_by-reached}
-use Rattle.msp_single.specs.declared.lawler.Candidate.{Candidate}
+use Rattle.msp_route.specs.declared.last_job.Candidate.{Candidate}
 use Rattle.msp_schedule.specs.Blocks.{cost_at, HasNoSuccessor}
-use Rattle.msp_single.specs.Lawler.{CostsLess, EndsAt}
-use Rattle.msp_single.specs.Candidates.{Precedes, IsFirstCandidate, IsFound}
+use Rattle.msp_route.specs.LastJob.{CostsLess, EndsAt}
+use Rattle.msp_route.specs.Candidates.{Precedes, IsFirstCandidate, IsFound}
 use Rattle.msp_schedule.proofs.Certified.{ranked}
 
 -- ---- one more job

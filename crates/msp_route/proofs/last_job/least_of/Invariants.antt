@@ -1,7 +1,7 @@
 use Rattle.std.proofs.Common.{false, slice_index_or}
 use Rattle.msp_schedule.specs.Blocks.{cost_at}
-use Rattle.msp_single.specs.Candidates.{IsFound}
-use Rattle.msp_single.proofs.lawler.least_of.Given as goal
+use Rattle.msp_route.specs.Candidates.{IsFound}
+use Rattle.msp_route.proofs.last_job.least_of.Given as goal
 
 -- what was found so far
 abbrev pub invariant-loop-place : goal.invariant-loop-place

@@ -2,10 +2,10 @@ use Rattle.std.proofs.Common.{◌≡◌, ℕ, ℤ, Bool, ◌+◌, false, length,
 use Rattle.std.specs.Int.{w128}
 use Rattle.std.proofs.lemmas.Int.{to_z-of_z}
 use Rattle.msp_schedule.specs.Blocks.{cost_at}
-use Rattle.msp_single.specs.Candidates.{IsFound}
-use Rattle.msp_single.proofs.Search.{found-skip, found-take}
-use Rattle.msp_single.proofs.lawler.least_of.Goals as goal
-use Rattle.msp_single.proofs.lawler.least_of.Goals.{then-not-blocked-job, else-not-blocked-job}
+use Rattle.msp_route.specs.Candidates.{IsFound}
+use Rattle.msp_route.proofs.Search.{found-skip, found-take}
+use Rattle.msp_route.proofs.last_job.least_of.Goals as goal
+use Rattle.msp_route.proofs.last_job.least_of.Goals.{then-not-blocked-job, else-not-blocked-job}
 
 pub loop-place-preserved : goal.loop-place-preserved
 loop-place-preserved c =

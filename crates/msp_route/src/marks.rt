@@ -1,0 +1,34 @@
+// Marks of jobs.
+ghost use Rattle.std.specs.Prelude.{◌≡◌, ◌<◌, ◌==◌, ◌||◌, ℕ, false, length, slice_index_or, slice_set, All};
+ghost use Rattle.std.specs.List.{list_any};
+ghost use Rattle.msp_instance.specs.declared.ranges.TheConstants.{MOST_JOBS};
+
+use msp_instance::MOST_JOBS;
+
+/// A mark for each job, none set.
+pub fn no_marks() -> [bool; MOST_JOBS]
+    ensures { (j : ℕ) → j < MOST_JOBS → slice_index_or result j false ≡ false }
+{
+    [false; MOST_JOBS]
+}
+
+/// Marks a job where there is a reason.
+pub fn mark(marks: &mut [bool], job: u32, reason: bool)
+    requires { job < length marks.old }
+    ensures { marks.new ≡ slice_set marks.old job (slice_index_or marks.old job false || reason) }
+{
+    let at = job as usize;
+    marks[at] = marks[at] || reason;
+}
+
+/// A mark for each job of the list.
+pub fn marks_of(jobs: &[u32]) -> [bool; MOST_JOBS]
+    requires { All (λ j. j < MOST_JOBS) jobs.now }
+    ensures { (j : ℕ) → j < MOST_JOBS → slice_index_or result j false ≡ list_any (λ k. k == j) jobs.now }
+{
+    let mut marks = no_marks();
+    for job in jobs {
+        mark(&mut marks, *job, true);
+    }
+    marks
+}
