@@ -17,6 +17,7 @@ use Rattle.msp_closure.specs.Entries.{IsFirst, here, later, IsWay}
 use Rattle.msp_closure.proofs.WayLemmas.{IsFirst-among, one_is}
 use Rattle.msp_dispatch.specs.declared.solved_list.SolvedClass.{SolvedClass}
 use Rattle.msp_dispatch.specs.declared.pick.Pick.{Pick}
+use Rattle.msp_dispatch.specs.Reached.{is_marked, AreReached}
 use Rattle.msp_dispatch.specs.Solved.{solves, solved_list, solved_classes}
 use Rattle.msp_dispatch.specs.Dispatch.{IsTarget, IsReported, IsAnswered}
 use Rattle.msp_dispatch.specs.declared.Cannot.{Cannot}
@@ -61,6 +62,10 @@ first_in : (P : Class → Type 0) (xs : List SolvedClass) (n : ℕ) (e : SolvedC
 first_in P [] n e g p h = absurd (cc)
 first_in P (x ∷ xs) zero e g p h = let same : x ≡ e = cc in subst (λ y. IsFirst P (y.class ∷ map (λ z. z.class) xs) e.class) (sym same) (here p)
 first_in P (x ∷ xs) (suc n) e g p h = later (h 0 (omega arith)) (first_in P xs n e g p (λ k l. h (suc k) (omega arith)))
+
+-- no chain leads to the class of an entry that is not marked
+pub unreached : (from : Class) (marks : List Bool) (place : ℕ) (e : SolvedClass) → AreReached from marks → slice_get solved_list place ≡ Some e → is_marked marks e.class ≡ false → IfSome (slice_get solved_list place) (λ x. ¬ Reaches carries from x.class)
+unreached from marks place e h g n = subst (λ o. IfSome o (λ x. ¬ Reaches carries from x.class)) (sym g) (λ r. absurd (let yes = (h e.class).1 r in cc))
 
 -- the first of the list to which a chain leads
 pub first_led : (from : Class) (p : Pick) → IsRoute from p → ((k : ℕ) → k < p.place → IfSome (slice_get solved_list k) (λ e. ¬ Reaches carries from e.class)) → IsFirst (Reaches carries from) solved_classes p.entry.class

@@ -1,3 +1,4 @@
 pub mod Solved
 pub mod Dispatch
 pub mod Pick
+pub mod Reached

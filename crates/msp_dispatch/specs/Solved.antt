@@ -1,5 +1,5 @@
 -- The classes that are solved, each with its solver, in the order in which they are tried.
-use Rattle.std.specs.Prelude.{List, [], ◌∷◌, map}
+use Rattle.std.specs.Prelude.{true, false, List, [], ◌∷◌, map}
 use Rattle.msp_class.specs.declared.class.Class.{Class}
 use Rattle.msp_route.specs.declared.answer.SolverName.{SolverName}
 use Rattle.msp_route.specs.declared.answer.SolverName.TheVariants as solver
@@ -7,8 +7,14 @@ use Rattle.msp_single.specs.Smith.{smith_class}
 use Rattle.msp_single.specs.Lawler.{lawler_class}
 use Rattle.msp_single.specs.Moore.{moore_class}
 use Rattle.msp_trees.specs.Horn.{horn_class}
+use Rattle.msp_blocks.specs.Blocks.{blocks_class, unit_blocks_class}
+use Rattle.msp_srpt.specs.Shortest.{shortest_class}
 use Rattle.msp_wrap.specs.Wrap.{wrap_class}
 use Rattle.msp_levels.specs.Levels.{levels_class}
+use Rattle.msp_total.specs.Classes.{uniform_class, unrelated_class}
+use Rattle.msp_total.specs.Slots.{slot_class}
+use Rattle.msp_shops.specs.Classes.{johnson_class, jackson_class}
+use Rattle.msp_shops.specs.Open.{open_class}
 use Rattle.msp_dispatch.specs.declared.solved_list.SolvedClass.{SolvedClass}
 
 abbrev pub solves : Class → SolverName → SolvedClass
@@ -20,8 +26,18 @@ solved_list =
     solves lawler_class solver.Lawler ∷
     solves moore_class solver.Moore ∷
     solves horn_class solver.Horn ∷
+    solves blocks_class solver.Blocks ∷
+    solves unit_blocks_class solver.UnitBlocks ∷
+    solves shortest_class solver.Shortest ∷
     solves wrap_class solver.Wrap ∷
     solves levels_class solver.Levels ∷
+    solves uniform_class solver.Uniform ∷
+    solves unrelated_class solver.Unrelated ∷
+    solves (slot_class true) solver.SlotsLate ∷
+    solves (slot_class false) solver.SlotsCount ∷
+    solves johnson_class solver.Johnson ∷
+    solves jackson_class solver.Jackson ∷
+    solves open_class solver.Open2 ∷
     []
 
 abbrev pub solved_classes : List Class

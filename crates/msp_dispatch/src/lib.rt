@@ -5,6 +5,7 @@
 #![tactic(auto)]
 
 mod pick;
+mod reached;
 mod solve;
 mod solved_list;
 #[cfg(test)]

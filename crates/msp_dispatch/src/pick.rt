@@ -1,12 +1,15 @@
 // Which class of the list an instance is led to, and by which rows.
-ghost use Rattle.std.specs.Prelude.{◌≡◌, ◌↔◌, slice_get, Some, IfOk, IfErr, IfSome, IfNone, IsTrue, Contains};
+ghost use Rattle.std.specs.Prelude.{◌≡◌, ◌↔◌, length, slice_get, Some, IfOk, IfErr, IfSome, IfNone, IsTrue, Contains};
+ghost use Rattle.msp_class.specs.declared.ranks.TheConstants.{CLASSES};
 ghost use Rattle.msp_table.specs.Rows.{carries};
 ghost use Rattle.msp_table.specs.Chains.{Reaches};
 ghost use Rattle.msp_dispatch.specs.Solved.{solved_list, solved_classes};
 ghost use Rattle.msp_dispatch.specs.Dispatch.{IsFault};
 ghost use Rattle.msp_dispatch.specs.Pick.{IsRoute, IsPick};
+ghost use Rattle.msp_dispatch.specs.Reached.{AreReached};
 
 use crate::Cannot;
+use crate::reached::{is_reached, reached};
 use crate::solved_list::{SOLVED, SolvedClass, entry_at, solved};
 use msp_class::{Class, NoMemory, rank};
 use msp_closure::route_to;
@@ -37,6 +40,31 @@ fn pick_at(alloc: Global, from: Class, place: u32) -> Result<Option<Pick>, NoMem
                 chain,
             })),
         },
+    }
+}
+
+/// The same by the marks of the classes to which a chain leads.
+#[tactic(auto, using(crate::proofs::Picks::unreached))]
+fn pick_marked(
+    alloc: Global,
+    marks: &[bool],
+    from: Class,
+    place: u32,
+) -> Result<Option<Pick>, NoMemory>
+    requires size { length marks.now ≡ CLASSES }
+    requires marks { AreReached from marks.now }
+    ensures none { IfOk result (λ found. IfNone found (IfSome (slice_get solved_list place) (λ e. ¬ Reaches carries from e.class))) }
+    ensures pick { IfOk result (λ found. IfSome found (λ p. (p.place ≡ place) × IsRoute from p)) }
+{
+    match entry_at(place) {
+        None => Ok(None),
+        Some(entry) => {
+            if is_reached(marks, entry.class) {
+                pick_at(alloc, from, place)
+            } else {
+                Ok(None)
+            }
+        }
     }
 }
 
@@ -74,8 +102,12 @@ fn first_pick(alloc: Global, from: Class) -> Result<Pick, Cannot>
     ensures pick { IfOk result (IsPick from None) }
     ensures fault { IfErr result (IsFault from None) }
 {
+    let marks = match reached(alloc, from) {
+        Ok(marks) => marks,
+        Err(_) => return Err(Cannot::Memory),
+    };
     for place in 0..SOLVED {
-        match pick_at(alloc, from, place) {
+        match pick_marked(alloc, &marks, from, place) {
             Err(_) => return Err(Cannot::Memory),
             Ok(Some(pick)) => return Ok(pick),
             Ok(None) => (),

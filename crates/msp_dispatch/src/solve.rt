@@ -10,14 +10,18 @@ ghost use Rattle.msp_dispatch.specs.Pick.{IsRoute, IsLedTo};
 
 use crate::Cannot;
 use crate::pick::{Pick, choose};
+use msp_blocks::{Blocks, UnitBlocks};
 use msp_carry::solve_along;
 use msp_class::{Class, List, NoMemory};
 use msp_instance::Instance;
 use msp_levels::Levels;
 use msp_route::Answer;
 use msp_schedule::{Solution, cost, settle};
+use msp_shops::{Jackson, Johnson, Open2};
 use msp_single::{Lawler, Moore, Smith};
+use msp_srpt::Shortest;
 use msp_table::Row;
+use msp_total::{SlotsCount, SlotsLate, Uniform, Unrelated};
 use msp_trees::Horn;
 use msp_wrap::Wrap;
 use std::alloc::Global;
@@ -30,8 +34,18 @@ macro_rules! at_solver {
             1 => $call($($argument),*, &Lawler),
             2 => $call($($argument),*, &Moore),
             3 => $call($($argument),*, &Horn),
-            4 => $call($($argument),*, &Wrap),
-            _ => $call($($argument),*, &Levels),
+            4 => $call($($argument),*, &Blocks),
+            5 => $call($($argument),*, &UnitBlocks),
+            6 => $call($($argument),*, &Shortest),
+            7 => $call($($argument),*, &Wrap),
+            8 => $call($($argument),*, &Levels),
+            9 => $call($($argument),*, &Uniform),
+            10 => $call($($argument),*, &Unrelated),
+            11 => $call($($argument),*, &SlotsLate),
+            12 => $call($($argument),*, &SlotsCount),
+            13 => $call($($argument),*, &Johnson),
+            14 => $call($($argument),*, &Jackson),
+            _ => $call($($argument),*, &Open2),
         }
     };
 }

@@ -2,15 +2,19 @@
 ghost use Rattle.std.specs.Prelude.{◌≡◌, slice_get};
 ghost use Rattle.msp_dispatch.specs.Solved.{solved_list, solved_classes};
 
+use msp_blocks::{Blocks, UnitBlocks};
 use msp_class::Class;
 use msp_levels::Levels;
 use msp_route::{Solver, SolverName};
+use msp_shops::{Jackson, Johnson, Open2};
 use msp_single::{Lawler, Moore, Smith};
+use msp_srpt::Shortest;
+use msp_total::{SlotsCount, SlotsLate, Uniform, Unrelated};
 use msp_trees::Horn;
 use msp_wrap::Wrap;
 
 /// How many classes are solved.
-pub const SOLVED: u32 = 6;
+pub const SOLVED: u32 = 16;
 
 /// A class that is solved, and its solver.
 #[derive(Clone, Copy, Debug, PartialEq, Eq)]
@@ -37,8 +41,18 @@ pub(crate) fn entry_at(n: u32) -> Option<SolvedClass>
         1 => Some(entry(&Lawler, SolverName::Lawler)),
         2 => Some(entry(&Moore, SolverName::Moore)),
         3 => Some(entry(&Horn, SolverName::Horn)),
-        4 => Some(entry(&Wrap, SolverName::Wrap)),
-        5 => Some(entry(&Levels, SolverName::Levels)),
+        4 => Some(entry(&Blocks, SolverName::Blocks)),
+        5 => Some(entry(&UnitBlocks, SolverName::UnitBlocks)),
+        6 => Some(entry(&Shortest, SolverName::Shortest)),
+        7 => Some(entry(&Wrap, SolverName::Wrap)),
+        8 => Some(entry(&Levels, SolverName::Levels)),
+        9 => Some(entry(&Uniform, SolverName::Uniform)),
+        10 => Some(entry(&Unrelated, SolverName::Unrelated)),
+        11 => Some(entry(&SlotsLate, SolverName::SlotsLate)),
+        12 => Some(entry(&SlotsCount, SolverName::SlotsCount)),
+        13 => Some(entry(&Johnson, SolverName::Johnson)),
+        14 => Some(entry(&Jackson, SolverName::Jackson)),
+        15 => Some(entry(&Open2, SolverName::Open2)),
         _ => None,
     }
 }
