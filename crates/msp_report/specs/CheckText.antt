@@ -1,6 +1,5 @@
 -- The report of `check`.
 use Rattle.std.specs.Prelude.{◌≡◌, ℕ, ◌+◌, Bool, IsTrue, ◌↔◌, List, ◌++◌, length, Option, Some, None, codes, decimal, if◌then◌else◌}
-use Rattle.msp_name.specs.Names.{name_of}
 use Rattle.msp_instance.specs.declared.Instance.{Instance}
 use Rattle.msp_schedule.specs.declared.Frac.{Frac}
 use Rattle.msp_schedule.specs.declared.Schedule.{Schedule}
@@ -11,17 +10,12 @@ use Rattle.msp_schedule.specs.Fraction.{IsOver, IsSameFraction, IsLowest}
 use Rattle.msp_grammar.specs.ScheduleText.{line_feed, space, name_at, fraction_text}
 use Rattle.msp_grammar.specs.declared.filed.Filed.{Filed}
 use Rattle.msp_file.specs.declared.schedule.Stated.{Stated}
+use Rattle.msp_report.specs.Lines.{class_line, number_line}
 
 -- the class, and how many jobs and pieces there are
 unfoldable pub count_lines : Instance → Schedule → List ℕ
 count_lines i s =
-    codes "class "
-    ++ name_of i.class
-    ++ codes "\njobs "
-    ++ decimal (length i.jobs)
-    ++ codes "\npieces "
-    ++ decimal (length s.pieces)
-    ++ line_feed
+    class_line i.class ++ number_line (codes "jobs ") (length i.jobs) ++ number_line (codes "pieces ") (length s.pieces)
 
 -- where a condition is broken: pieces, operations and arcs are counted from 1, and a job has its name
 abbrev pub numbers_text : ℕ → ℕ → List ℕ

@@ -1,7 +1,9 @@
 pub mod ChainText
+pub mod Lines
 pub mod LabelsText
 pub mod FrontierText
 pub mod WhyText
 pub mod RowsText
 pub mod SolveText
+pub mod TrialText
 pub mod CheckText

@@ -7,26 +7,22 @@ ghost use Rattle.msp_schedule.specs.Fraction.{IsSameFraction, IsLowest};
 ghost use Rattle.msp_grammar.specs.ScheduleText.{name_at, fraction_text, IsStated};
 ghost use Rattle.msp_report.specs.CheckText.{count_lines, numbers_text, operation_text, break_text, broken_lines, yes_or_no, cost_lines, StatesItsCost, AreCostLines, AreCheckLines, IsCheckText};
 
+use crate::lines::{put_class_line, put_fraction, put_number_line};
 use msp_class::NoMemory;
 use msp_file::{Filed, Stated};
 use msp_instance::Instance;
 use msp_job_name::Names;
-use msp_name::print;
 use msp_schedule::{Break, Frac, Schedule, cost, lowest};
-use msp_text::{put, put_integer, put_number};
+use msp_text::{put, put_number};
 use std::alloc::Global;
 
 #[tactic(auto, unfolding(crate::specs::CheckText::count_lines))]
 fn put_counts(out: &mut Vec<u8>, inst: &Instance, s: &Schedule) -> Result<(), NoMemory>
     ensures { OnOk result (out.new.items ≡ out.old.items ++ count_lines inst.now s.now) }
 {
-    put(out, b"class ")?;
-    put(out, print(inst.class).bytes())?;
-    put(out, b"\njobs ")?;
-    put_number(out, inst.jobs.len() as u64)?;
-    put(out, b"\npieces ")?;
-    put_number(out, s.pieces.len() as u64)?;
-    put(out, b"\n")
+    put_class_line(out, inst.class)?;
+    put_number_line(out, b"jobs ", inst.jobs.len() as u64)?;
+    put_number_line(out, b"pieces ", s.pieces.len() as u64)
 }
 
 /// Puts a word, and a number counted from 1.
@@ -91,17 +87,6 @@ fn put_broken(out: &mut Vec<u8>, names: &Names, broken: Break) -> Result<(), NoM
     put(out, b"feasible no\nbreak ")?;
     put_break(out, names, broken)?;
     put(out, b"\n")
-}
-
-fn put_fraction(out: &mut Vec<u8>, fraction: Frac) -> Result<(), NoMemory>
-    ensures { OnOk result (out.new.items ≡ out.old.items ++ fraction_text fraction) }
-{
-    put_integer(out, fraction.num)?;
-    if fraction.den == 1 {
-        return Ok(());
-    }
-    put(out, b"/")?;
-    put_integer(out, fraction.den)
 }
 
 fn put_yes_or_no(out: &mut Vec<u8>, agrees: bool) -> Result<(), NoMemory>

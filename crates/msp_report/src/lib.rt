@@ -1,5 +1,5 @@
-//! The texts of reports: labels of classes, the frontier, why a class has its label, the table of rows, the answer to an instance, and
-//! the check of a schedule.
+//! The texts of reports: labels of classes, the frontier, why a class has its label, the table of rows, the answer to an instance,
+//! whole or in a few lines, and the check of a schedule.
 //!
 //! It stands on `msp_class`, `msp_name`, `msp_table`, `msp_closure`, `msp_route`, `msp_grammar`, `msp_file` and `msp_text`. The layer
 //! above uses that each text is exactly the one that `specs/` defines.
@@ -9,10 +9,12 @@ mod chain_text;
 mod check;
 mod frontier;
 mod labels;
+mod lines;
 mod rows;
 mod solve;
 #[cfg(test)]
 mod tests;
+mod trial;
 mod why;
 
 pub use check::{check_text, states_its_cost};
@@ -20,4 +22,5 @@ pub use frontier::frontier_text;
 pub use labels::labels_text;
 pub use rows::rows_text;
 pub use solve::solve_text;
+pub use trial::trial_text;
 pub use why::why_text;

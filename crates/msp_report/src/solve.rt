@@ -37,7 +37,7 @@ fn word(solver: SolverName) -> &'static [u8]
 }
 
 #[tactic(auto, unfolding(crate::specs::SolveText::solver_line))]
-fn put_solver(out: &mut Vec<u8>, solver: SolverName) -> Result<(), NoMemory>
+pub(crate) fn put_solver(out: &mut Vec<u8>, solver: SolverName) -> Result<(), NoMemory>
     ensures { OnOk result (out.new.items ≡ out.old.items ++ solver_line solver) }
 {
     put(out, b"solver ")?;

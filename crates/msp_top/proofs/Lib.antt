@@ -3,7 +3,10 @@ pub mod CostBounds
 pub mod Stated
 pub mod PutsLemmas
 pub mod WordLemmas
+pub mod TrialWords
+pub mod OneCommand
 pub mod Endings
 pub mod QuestionAnswers
 pub mod SolveAnswers
+pub mod TrialAnswers
 pub mod CheckAnswers

@@ -18,18 +18,18 @@ use Rattle.msp_top.specs.declared.refusal.Refusal.{Refusal}
 use Rattle.msp_top.specs.declared.words.Misfit.{Misfit}
 use Rattle.msp_top.specs.declared.words.Misfit.TheVariants.{Form}
 use Rattle.msp_top.specs.Commands.{IsNameWord, Asks, Misfits}
-use Rattle.msp_top.specs.Usage.{names_text, name_text, text_of_reading, misspelled_text, misfit_text, option_text, later_text}
+use Rattle.msp_top.specs.Usage.{names_text, name_text, name_then, text_of_reading, misspelled_text, misfit_text, option_text, trial_text, later_text}
 use Rattle.msp_top.specs.Note.{usage_note}
 use Rattle.msp_top.specs.Refusals.{of_misfit}
 use Rattle.msp_top.specs.Words.{ReadsWords, ReadsName, ReadsNames, ReadsOneName, ReadsOption}
 
--- the text of the first word, where it is short
-pub names_text-short : (place : ℕ) (word : List ℕ) (rest : List (List ℕ)) → length word < 2 ^ 32 → names_text place (word ∷ rest) ≡ text_of_reading place (reading_of word) (names_text (place + 1) rest)
-names_text-short place word rest short = ap (λ b. if b then text_of_reading place (reading_of word) (names_text (place + 1) rest) else misfit_text) (lt-ltb (length word) (2 ^ 32) short)
+-- the text of a word that is to be a name, where it is short
+pub name_then-short : (place : ℕ) (word later : List ℕ) → length word < 2 ^ 32 → name_then place word later ≡ text_of_reading place (reading_of word) later
+name_then-short place word later short = ap (λ b. if b then text_of_reading place (reading_of word) later else misfit_text) (lt-ltb (length word) (2 ^ 32) short)
 
-pub names_text-fault : (place : ℕ) (word bytes : List ℕ) (rest : List (List ℕ)) (r : Result Class NameFault) (fault : NameFault) → length word < 2 ^ 32 → bytes ≡ word → r ≡ reading_of bytes → r ≡ Err fault → misspelled_text place fault ≡ names_text place (word ∷ rest)
-names_text-fault place word bytes rest r fault short e reads is =
-    sym (names_text-short place word rest short ∙ ap (λ s. text_of_reading place s (names_text (place + 1) rest)) (ap reading_of (sym e) ∙ sym reads ∙ is))
+pub name_then-fault : (place : ℕ) (word bytes later : List ℕ) (r : Result Class NameFault) (fault : NameFault) → length word < 2 ^ 32 → bytes ≡ word → r ≡ reading_of bytes → r ≡ Err fault → misspelled_text place fault ≡ name_then place word later
+name_then-fault place word bytes later r fault short e reads is =
+    sym (name_then-short place word later short ∙ ap (λ s. text_of_reading place s later) (ap reading_of (sym e) ∙ sym reads ∙ is))
 
 -- ---- lists side by side
 AllZip-more : {A B : Type 0} (R : A → B → Type 0) (xs : List A) (ys : List B) (x : A) (y : B) → AllZip R xs ys → R x y → AllZip R (xs ++ x ∷ []) (ys ++ y ∷ [])
@@ -64,20 +64,20 @@ front_at : {X : Type 0} (f : X → List ℕ) (xs : List X) (k : ℕ) (x : X) →
 front_at f xs k x l is = take_more (map f xs) k (f x) (omega (arith, length-map xs f)) ∙ ap (λ w. take k (map f xs) ++ w ∷ []) (word_at f xs k x l is)
 
 pub HasNames-next : {X : Type 0} (f : X → List ℕ) (xs : List X) (k : ℕ) (x : X) (word : List ℕ) (c : Class) → k < length xs → x ≡ get_or xs k x → word ≡ f x → IsNameWord word c →
-    ((rest : List (List ℕ)) → names_text (k + 2) (word ∷ rest) ≡ names_text ((k + 2) + 1) rest) → HasNames (map f xs) k → HasNames (map f xs) (k + 1)
+    ((later : List ℕ) → name_then (k + 2) word later ≡ later) → HasNames (map f xs) k → HasNames (map f xs) (k + 1)
 HasNames-next f xs k x word c l is e named step h = record {
   classes = h.classes ++ c ∷ [];
   front = subst (λ ws. AllZip IsNameWord ws (h.classes ++ c ∷ [])) (sym (front_at f xs k x l is)) (AllZip-more IsNameWord (take k (map f xs)) h.classes (f x) c h.front (subst (λ w. IsNameWord w c) e named));
-  text = h.text ∙ ap (names_text (k + 2)) (rest_at f xs k x l is) ∙ ap (λ w. names_text (k + 2) (w ∷ drop (k + 1) (map f xs))) (sym e) ∙ step (drop (k + 1) (map f xs)) ∙ ap (λ n. names_text n (drop (k + 1) (map f xs))) (places k);
+  text = h.text ∙ ap (names_text (k + 2)) (rest_at f xs k x l is) ∙ ap (λ w. names_text (k + 2) (w ∷ drop (k + 1) (map f xs))) (sym e) ∙ step (names_text ((k + 2) + 1) (drop (k + 1) (map f xs))) ∙ ap (λ n. names_text n (drop (k + 1) (map f xs))) (places k);
 }
   where
     places : (k : ℕ) → (k + 2) + 1 ≡ (k + 1) + 2
     places k = omega arith
 
 pub HasNames-fault : {X : Type 0} (f : X → List ℕ) (xs : List X) (k : ℕ) (x : X) (word text : List ℕ) → k < length xs → x ≡ get_or xs k x → word ≡ f x →
-    ((rest : List (List ℕ)) → text ≡ names_text (k + 2) (word ∷ rest)) → HasNames (map f xs) k → text ≡ names_text 2 (map f xs)
+    ((later : List ℕ) → text ≡ name_then (k + 2) word later) → HasNames (map f xs) k → text ≡ names_text 2 (map f xs)
 HasNames-fault f xs k x word text l is e fault h =
-    fault (drop (k + 1) (map f xs)) ∙ ap (λ w. names_text (k + 2) (w ∷ drop (k + 1) (map f xs))) e ∙ sym (ap (names_text (k + 2)) (rest_at f xs k x l is)) ∙ sym h.text
+    fault (names_text ((k + 2) + 1) (drop (k + 1) (map f xs))) ∙ ap (λ w. names_text (k + 2) (w ∷ drop (k + 1) (map f xs))) e ∙ sym (ap (names_text (k + 2)) (rest_at f xs k x l is)) ∙ sym h.text
 
 -- the fault of all words is the misfit of the first that is no name
 pub first_misfit : (words : List (List ℕ)) (r : Result (Unit {0}) Misfit) (first : Misfit) → IsErrAnd r (λ misfit. misfit ≡ first) → usage_note first ≡ names_text 2 words → ((classes : List Class) → ¬ AllZip IsNameWord words classes) →
@@ -130,6 +130,9 @@ frontier_word = codes "frontier"
 abbrev pub check_word : List ℕ
 check_word = codes "check"
 
+abbrev pub trial_word : List ℕ
+trial_word = codes "trial"
+
 abbrev pub rows_word : List ℕ
 rows_word = codes "rows"
 
@@ -164,17 +167,21 @@ asks_first words (Answer (Why class)) (name, h, named) = (name ∷ [], h)
 begins : (word : List ℕ) (words : List (List ℕ)) (command : Command) → Asks (word ∷ words) command → word ≡ first_word command
 begins word words command h = cons_heads (asks_first (word ∷ words) command h).1
 
+none_is_some : {X : Type 0} {w : List ℕ} {ws : List (List ℕ)} → [] ≡ w ∷ ws → X
+none_is_some e = cc
+
 -- no words ask for nothing
 pub nothing_asked : Misfits []
 nothing_asked = record {
   no_command = λ command h. let e = (asks_first [] command h).1 in cc;
   no_rows = λ h. cc;
+  no_trial = λ trial h. none_is_some h.form;
 }
 
 -- ---- what the words after the first are decides what all words are
 
 reads_label_misfit : (names : List (List ℕ)) → ((classes : List Class) → ¬ AllZip IsNameWord names classes) → Misfits (label_word ∷ names)
-reads_label_misfit names none = record { no_command = no_command; no_rows = λ h. not_word label_word rows_word refl (cons_heads h) }
+reads_label_misfit names none = record { no_command = no_command; no_rows = λ h. not_word label_word rows_word refl (cons_heads h); no_trial = λ trial h. not_word label_word trial_word refl (cons_heads h.form) }
   where
     no_command : (command : Command) → ¬ Asks (label_word ∷ names) command
     no_command (Solve at) h = not_word label_word solve_word refl (begins _ _ (Solve at) h)
@@ -184,7 +191,7 @@ reads_label_misfit names none = record { no_command = no_command; no_rows = λ h
     no_command (Answer (Why class)) (name, h, named) = not_word label_word why_word refl (cons_heads h)
 
 reads_why_misfit : (words : List (List ℕ)) → ((name : List ℕ) (class : Class) → words ≡ name ∷ [] → ¬ IsNameWord name class) → Misfits (why_word ∷ words)
-reads_why_misfit words none = record { no_command = no_command; no_rows = λ h. not_word why_word rows_word refl (cons_heads h) }
+reads_why_misfit words none = record { no_command = no_command; no_rows = λ h. not_word why_word rows_word refl (cons_heads h); no_trial = λ trial h. not_word why_word trial_word refl (cons_heads h.form) }
   where
     no_command : (command : Command) → ¬ Asks (why_word ∷ words) command
     no_command (Solve at) h = not_word why_word solve_word refl (begins _ _ (Solve at) h)
@@ -194,7 +201,7 @@ reads_why_misfit words none = record { no_command = no_command; no_rows = λ h. 
     no_command (Answer (Why class)) (name, h, named) = none name class (cons_tails h) named
 
 reads_solve_misfit : (options : List (List ℕ)) → ((at : Option Class) → ¬ Asks (solve_word ∷ options) (Solve at)) → Misfits (solve_word ∷ options)
-reads_solve_misfit options none = record { no_command = no_command; no_rows = λ h. not_word solve_word rows_word refl (cons_heads h) }
+reads_solve_misfit options none = record { no_command = no_command; no_rows = λ h. not_word solve_word rows_word refl (cons_heads h); no_trial = λ trial h. not_word solve_word trial_word refl (cons_heads h.form) }
   where
     no_command : (command : Command) → ¬ Asks (solve_word ∷ options) command
     no_command (Solve at) h = none at h
@@ -247,11 +254,19 @@ map_none f [] e = refl
 map_none f (x ∷ xs) e = cc
 
 -- a first word that is none of those with which a command begins, or that has words behind it where none may follow
-pub refuses_all : {X : Type 0} (f : X → List ℕ) (word : List ℕ) (xs : List X) (why : Refusal) → bytes_eq word label_word ≡ false → bytes_eq word why_word ≡ false → bytes_eq word solve_word ≡ false →
+pub refuses_all : {X : Type 0} (f : X → List ℕ) (word : List ℕ) (xs : List X) (why : Refusal) → bytes_eq word label_word ≡ false → bytes_eq word why_word ≡ false → bytes_eq word solve_word ≡ false → bytes_eq word trial_word ≡ false →
     ¬ ((word ≡ frontier_word) × (xs ≡ [])) → ¬ ((word ≡ check_word) × (xs ≡ [])) → ¬ ((word ≡ rows_word) × (xs ≡ [])) → why ≡ of_misfit Form → ReadsWords (word ∷ map f xs) (Err why)
-refuses_all f word xs why label why_not solve frontier check rows is =
+refuses_all f word xs why label why_not solve trial_not frontier check rows is =
     let Q : Refusal → Type 0 = λ r. ReadsWords (word ∷ map f xs) (Err r) in
-    subst Q (sym is) (inl (refl, record { no_command = no_command; no_rows = λ h. rows (cons_heads h, map_none f xs (cons_tails h)) }, sym text))
+    subst Q (sym is) (inl (
+      refl,
+      record {
+        no_command = no_command;
+        no_rows = λ h. rows (cons_heads h, map_none f xs (cons_tails h));
+        no_trial = λ trial h. not_word word trial_word trial_not (cons_heads h.form);
+      },
+      sym text,
+    ))
   where
     no_command : (command : Command) → ¬ Asks (word ∷ map f xs) command
     no_command (Solve at) h = not_word word solve_word solve (begins _ _ (Solve at) h)
@@ -260,14 +275,17 @@ refuses_all f word xs why label why_not solve frontier check rows is =
     no_command (Answer Frontier) h = frontier (cons_heads h, map_none f xs (cons_tails h))
     no_command (Answer (Why class)) (name, h, named) = not_word word why_word why_not (cons_heads h)
 
+    after_solve : List ℕ
+    after_solve = if bytes_eq word trial_word then trial_text (map f xs) else misfit_text
+
     after_why : List ℕ
-    after_why = if bytes_eq word solve_word then option_text (map f xs) else misfit_text
+    after_why = if bytes_eq word solve_word then option_text (map f xs) else after_solve
 
     after_label : List ℕ
     after_label = if bytes_eq word why_word then name_text (map f xs) else after_why
 
     text : later_text word (map f xs) ≡ misfit_text
-    text = ap (λ b. if b then names_text 2 (map f xs) else after_label) label ∙ ap (λ b. if b then name_text (map f xs) else after_why) why_not ∙ ap (λ b. if b then option_text (map f xs) else misfit_text) solve
+    text = ap (λ b. if b then names_text 2 (map f xs) else after_label) label ∙ ap (λ b. if b then name_text (map f xs) else after_why) why_not ∙ ap (λ b. if b then option_text (map f xs) else after_solve) solve ∙ ap (λ b. if b then trial_text (map f xs) else misfit_text) trial_not
 
 tail_of : {X : Type 0} (f : X → List ℕ) (xs : List X) (x : X) → 0 < length xs → x ≡ get_or xs 0 x → map f xs ≡ f x ∷ map f (drop 1 xs)
 tail_of f [] x l is = absurd (omega (arith, l))
@@ -292,7 +310,7 @@ reads_one f xs x word r l is e h = let P : List (List ℕ) → Type 0 = λ ws. R
   where
     by_result : (r : Result Class Misfit) → ReadsName word 2 r → ReadsOneName (word ∷ []) r
     by_result (Ok class) named = (word, refl, named)
-    by_result (Err misfit) (text, none) = (λ name class e named. none class (subst (λ w. IsNameWord w class) (sym (cons_heads e)) named), text [])
+    by_result (Err misfit) (text, none) = (λ name class e named. none class (subst (λ w. IsNameWord w class) (sym (cons_heads e)) named), text misfit_text)
 
 pub reads_not_one : {X : Type 0} (f : X → List ℕ) (xs : List X) → (length xs ≡ 1 → ⊥) → ReadsOneName (map f xs) (Err Form)
 reads_not_one f [] l = (λ name class e named. let q : [] ≡ name ∷ [] = e in cc, refl)
@@ -313,7 +331,7 @@ at_class (Err misfit) = Err misfit
 
 reads_at : (option name : List ℕ) (r : Result Class Misfit) → option ≡ at_word → ReadsName name 3 r → ReadsOption (option ∷ name ∷ []) (at_class r)
 reads_at option name (Ok class) e named = (name, ap (λ w. solve_word ∷ w ∷ name ∷ []) e, named)
-reads_at option name (Err misfit) e (text, none) = (no_class, text [] ∙ sym (option_text-at option name e))
+reads_at option name (Err misfit) e (text, none) = (no_class, text misfit_text ∙ sym (option_text-at option name e))
   where
     no_class : (at : Option Class) → ¬ Asks (solve_word ∷ option ∷ name ∷ []) (Solve at)
     no_class None h = cc

@@ -1,10 +1,13 @@
 -- What the code's answers mean. No public contract cites this file.
-use Rattle.std.specs.Prelude.{◌≡◌, ◌⊎◌, ℕ, List, Option, Result, Ok, Err, codes}
+use Rattle.std.specs.Prelude.{◌≡◌, ◌⊎◌, ℕ, ◌≤◌, List, Option, Result, Ok, Err, codes}
 use Rattle.msp_top.specs.declared.answers.Report.{Report}
 use Rattle.msp_top.specs.declared.refusal.Refusal.{Refusal}
 use Rattle.msp_class.specs.declared.class.Class.{Class}
+use Rattle.msp_gen.specs.Faults.{IsCount}
 use Rattle.msp_grammar.specs.declared.filed.Filed.{Filed}
 use Rattle.msp_grammar.specs.InstanceText.{IsInstanceText}
+use Rattle.msp_top.specs.declared.command.TheConstants.{GREATEST_SEED}
+use Rattle.msp_top.specs.declared.command.Trial.{Trial}
 use Rattle.msp_top.specs.Outcome.{Outcome, report, refusal}
 use Rattle.msp_top.specs.Solves.{SolveIsRight}
 use Rattle.msp_top.specs.Checks.{CheckIsRight, BeginsWith}
@@ -25,3 +28,8 @@ SolvesFiled at filed outcome = (input : List ℕ) → IsInstanceText input filed
 -- The outcome is right for each input that begins with the instance's text, which this rest follows.
 abbrev pub ChecksRest : Filed → ℕ → List ℕ → Outcome → Type 0
 ChecksRest filed line rest outcome = (input : List ℕ) → BeginsWith input filed line rest → CheckIsRight input outcome
+
+-- The numbers of the trial lie in their ranges.
+pub record IsInRange (trial : Trial) : Type 0 where
+  pub jobs : IsCount trial.jobs
+  pub seed : trial.seed ≤ GREATEST_SEED

@@ -5,6 +5,7 @@ pub mod Commands
 pub mod Usage
 pub mod Outcome
 pub mod Solves
+pub mod Trials
 pub mod Checks
 pub mod Reports
 pub mod Run

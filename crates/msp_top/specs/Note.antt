@@ -3,8 +3,8 @@ use Rattle.std.specs.Prelude.{ℕ, List, codes}
 use Rattle.msp_top.specs.declared.notes.Note.{Note}
 use Rattle.msp_top.specs.declared.notes.Note.TheVariants.{Usage, TooLong, File, Unsolved, Unchecked, Results, CannotRead, CannotWrite, OutOfMemory}
 use Rattle.msp_top.specs.declared.words.Misfit.{Misfit}
-use Rattle.msp_top.specs.declared.words.Misfit.TheVariants.{Form, Name}
-use Rattle.msp_top.specs.Usage.{misfit_text, misspelled_text}
+use Rattle.msp_top.specs.declared.words.Misfit.TheVariants.{Form, Name, Number}
+use Rattle.msp_top.specs.Usage.{misfit_text, misspelled_text, misnumbered_text}
 use Rattle.msp_top.specs.Run.{too_long_text}
 use Rattle.msp_file.specs.Faults.{file_text}
 use Rattle.msp_top.specs.Cannots.{cannot_text}
@@ -14,6 +14,7 @@ use Rattle.msp_results.specs.Faults.{results_text}
 abbrev pub usage_note : Misfit → List ℕ
 usage_note Form = misfit_text
 usage_note (Name place fault) = misspelled_text place fault
+usage_note (Number place least greatest) = misnumbered_text place least greatest
 
 abbrev pub note_text : Note → List ℕ
 note_text (Usage misfit) = usage_note misfit

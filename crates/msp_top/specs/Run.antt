@@ -7,12 +7,14 @@ use Rattle.msp_report.specs.RowsText.{rows_report}
 use Rattle.msp_top.specs.declared.answers.TheConstants.{INPUT_LIMIT, CHECK_LIMIT}
 use Rattle.msp_top.specs.declared.command.Command.{Command}
 use Rattle.msp_top.specs.declared.command.Command.TheVariants.{Solve, Check, Answer}
-use Rattle.msp_top.specs.Commands.{Asks, AsksForRows}
+use Rattle.msp_top.specs.declared.command.Trial.{Trial}
+use Rattle.msp_top.specs.Commands.{Asks, AsksForRows, AsksForTrial}
 use Rattle.msp_top.specs.Usage.{usage_text}
 use Rattle.msp_top.specs.Outcome.{Outcome, report, refusal}
 use Rattle.msp_top.specs.Solves.{SolveIsRight}
 use Rattle.msp_top.specs.Checks.{CheckIsRight}
 use Rattle.msp_top.specs.Reports.{ReadsResults}
+use Rattle.msp_top.specs.Trials.{TrialIsRight}
 
 -- The outcome is right for a command and an input within the limit.
 abbrev pub IsRightWithin : Command → List ℕ → Outcome → Type 0
@@ -34,10 +36,11 @@ pub data IsRight (command : Command) (input : List ℕ) : Outcome → Type 0 whe
   too_long : limit_of command < length input → IsRight command input (refusal 4 (too_long_text (limit_of command)))
   short : (outcome : Outcome) → length input ≤ limit_of command → IsRightWithin command input outcome → IsRight command input outcome
 
--- The report is right for the words: of the whole input, by a command that reads it to its end, or the table of rows, for which nothing
--- is read.
+-- The report is right for the words: of the whole input, by a command that reads it to its end, or that of a trial or the table of rows,
+-- for which nothing is read.
 pub data IsRightReport (words : List (List ℕ)) (source source_after : SourceView) : ℕ → List ℕ → Type 0 where
   of_input : (command : Command) (status : ℕ) (text : List ℕ) → Asks words command → IsAtEnd source_after.left → IfSome source.left (λ input. IsRight command input (report status text)) → IsRightReport words source source_after status text
+  of_trial : (trial : Trial) (status : ℕ) (text : List ℕ) → AsksForTrial words trial → TrialIsRight trial (report status text) → IsRightReport words source source_after status text
   of_rows : AsksForRows words → IsRightReport words source source_after 0 rows_report
 
 -- A right report was appended whole.
@@ -53,11 +56,10 @@ pub record BreaksOff (words : List (List ℕ)) (source source_after : SourceView
   pub part : Appends out.held out_after.held (take count text)
   pub failed : Rose out.faults out_after.faults
 
--- The status and the note are the right refusal of the input, by a command that the words ask for.
-pub record Refuses (words : List (List ℕ)) (source : SourceView) (status : ℕ) (note : List ℕ) : Type 0 where
-  pub command : Command
-  pub asked : Asks words command
-  pub right : IfSome source.left (λ input. IsRight command input (refusal status note))
+-- The status and the note are the right refusal of the input, by a command that the words ask for, or that of a trial.
+pub data Refuses (words : List (List ℕ)) (source : SourceView) (status : ℕ) (note : List ℕ) : Type 0 where
+  input_refused : (command : Command) → Asks words command → IfSome source.left (λ input. IsRight command input (refusal status note)) → Refuses words source status note
+  trial_refused : (trial : Trial) → AsksForTrial words trial → TrialIsRight trial (refusal status note) → Refuses words source status note
 
 -- The text of the note for each status from 2 on.
 pub data IsNote (words : List (List ℕ)) (source : SourceView) : ℕ → List ℕ → Type 0 where
@@ -79,3 +81,6 @@ IsTold notes notes_after text =
 -- The status is that of a right outcome.
 abbrev pub IsDue : Command → List ℕ → ℕ → Type 0
 IsDue command input status = ((text : List ℕ) × IsRight command input (report status text)) ⊎ ((note : List ℕ) × IsRight command input (refusal status note))
+
+abbrev pub IsTrialDue : Trial → ℕ → Type 0
+IsTrialDue trial status = ((text : List ℕ) × TrialIsRight trial (report status text)) ⊎ ((note : List ℕ) × TrialIsRight trial (refusal status note))

@@ -5,11 +5,12 @@ use Rattle.msp_class.specs.declared.class.Class.{Class}
 use Rattle.msp_top.specs.declared.command.Command.{Command}
 use Rattle.msp_top.specs.declared.command.Command.TheVariants.{Solve}
 use Rattle.msp_top.specs.declared.command.Request.{Request}
-use Rattle.msp_top.specs.declared.command.Request.TheVariants.{Rows, Command as IsCommand}
+use Rattle.msp_top.specs.declared.command.Request.TheVariants.{Rows, Trial as IsTrial, Command as IsCommand}
+use Rattle.msp_top.specs.declared.command.Trial.{Trial}
 use Rattle.msp_top.specs.declared.words.Misfit.{Misfit}
 use Rattle.msp_top.specs.declared.refusal.Refusal.{Refusal}
-use Rattle.msp_top.specs.Commands.{Asks, AsksForRows, Misfits, IsNameWord}
-use Rattle.msp_top.specs.Usage.{names_text, name_text, option_text, usage_text}
+use Rattle.msp_top.specs.Commands.{Asks, AsksForRows, AsksForTrial, Misfits, IsNameWord, IsNumberWord}
+use Rattle.msp_top.specs.Usage.{names_text, name_text, name_then, number_then, option_text, trial_text, usage_text}
 use Rattle.msp_top.specs.Note.{usage_note, note_text}
 use Rattle.msp_top.specs.Answers.{IsNoMemory}
 
@@ -20,13 +21,20 @@ IsMisfit words why = (why.status ≡ 2) × Misfits words × (note_text why.note 
 -- A request is what the words ask for. Memory may be wanting only for words that ask for a command.
 abbrev pub ReadsWords : List (List ℕ) → Result Request Refusal → Type 0
 ReadsWords words (Ok Rows) = AsksForRows words
+ReadsWords words (Ok (IsTrial trial)) = AsksForTrial words trial
 ReadsWords words (Ok (IsCommand command)) = Asks words command
 ReadsWords words (Err why) = IsMisfit words why ⊎ (IsNoMemory why × ((command : Command) × Asks words command))
 
 -- The word at this place is the name of the class, or it is no name, and the note says so.
 abbrev pub ReadsName : List ℕ → ℕ → Result Class Misfit → Type 0
 ReadsName word place (Ok class) = IsNameWord word class
-ReadsName word place (Err misfit) = ((rest : List (List ℕ)) → usage_note misfit ≡ names_text place (word ∷ rest)) × ((class : Class) → ¬ IsNameWord word class)
+ReadsName word place (Err misfit) = ((later : List ℕ) → usage_note misfit ≡ name_then place word later) × ((class : Class) → ¬ IsNameWord word class)
+
+-- The word at this place is the number, which lies in the range, or it is none, and the note says so.
+abbrev pub ReadsNumber : ℕ → ℕ → List ℕ → ℕ → Result ℕ Misfit → Type 0
+ReadsNumber least greatest word place (Ok number) = IsNumberWord least greatest word number
+ReadsNumber least greatest word place (Err misfit) =
+    ((later : List ℕ) → usage_note misfit ≡ number_then place least greatest word later) × ((number : ℕ) → ¬ IsNumberWord least greatest word number)
 
 -- The words after `label` are names of the classes.
 abbrev pub ReadsNames : List (List ℕ) → Result (List Class) Refusal → Type 0
@@ -44,3 +52,8 @@ ReadsOneName words (Err misfit) = ((name : List ℕ) (class : Class) → words �
 abbrev pub ReadsOption : List (List ℕ) → Result (Option Class) Misfit → Type 0
 ReadsOption options (Ok at) = Asks (codes "solve" ∷ options) (Solve at)
 ReadsOption options (Err misfit) = ((at : Option Class) → ¬ Asks (codes "solve" ∷ options) (Solve at)) × (usage_note misfit ≡ option_text options)
+
+-- The words after `trial` ask for the trial.
+abbrev pub ReadsTrial : List (List ℕ) → Result Trial Misfit → Type 0
+ReadsTrial words (Ok trial) = AsksForTrial (codes "trial" ∷ words) trial
+ReadsTrial words (Err misfit) = ((trial : Trial) → ¬ AsksForTrial (codes "trial" ∷ words) trial) × (usage_note misfit ≡ trial_text words)

@@ -23,10 +23,23 @@ pub enum Command {
     Answer { question: Question },
 }
 
+/// The greatest seed of a trial.
+pub const GREATEST_SEED: u32 = 2_147_483_647;
+
+/// A trial: an instance of a class, with so many jobs, is made from a seed and solved.
+#[derive(Clone, Copy, Debug, PartialEq, Eq)]
+pub struct Trial {
+    pub class: Class,
+    pub jobs: u32,
+    pub seed: u32,
+}
+
 /// What words ask for.
 #[derive(Drop)]
 pub enum Request {
     /// The table of rows, for which nothing is read.
     Rows,
+    /// A trial, for which nothing is read either.
+    Trial(Trial),
     Command(Command),
 }

@@ -4,6 +4,8 @@
 #![tactic(auto)]
 
 mod answers;
+#[cfg(test)]
+mod check_tests;
 mod checks;
 mod command;
 mod notes;
@@ -12,6 +14,10 @@ mod refusal;
 mod serve;
 #[cfg(test)]
 mod tests;
+#[cfg(test)]
+mod trial_tests;
+mod trial_words;
+mod trials;
 mod words;
 
 pub use serve::run;

@@ -2,7 +2,7 @@
 ghost use Rattle.std.specs.Prelude.{◌≡◌, ◌++◌, codes, decimal};
 ghost use Rattle.msp_name.specs.Names.{name_of};
 ghost use Rattle.msp_io.specs.Whole.{Puts};
-ghost use Rattle.msp_top.specs.Usage.{misspelled_text};
+ghost use Rattle.msp_top.specs.Usage.{misspelled_text, misnumbered_text};
 ghost use Rattle.msp_top.specs.Run.{IsTold, note_line, too_long_text};
 ghost use Rattle.msp_top.specs.Note.{usage_note, note_text};
 ghost use Rattle.msp_top.specs.Cannots.{cannot_text};
@@ -53,12 +53,30 @@ fn put_misspelled<E: Sink>(notes: &mut E, place: u64, fault: NameFault) -> Resul
     write_all(notes, fault.text().bytes())
 }
 
+fn put_misnumbered<E: Sink>(
+    notes: &mut E,
+    place: u64,
+    least: u64,
+    greatest: u64,
+) -> Result<(), WriteFault>
+    ensures { Puts (E.seen notes.old) (E.seen notes.new) (misnumbered_text place least greatest) result }
+{
+    put_numbered(notes, b"usage: word ", place)?;
+    put_numbered(notes, b": not a number from ", least)?;
+    put_numbered(notes, b" to ", greatest)
+}
+
 fn put_misfit<E: Sink>(notes: &mut E, misfit: Misfit) -> Result<(), WriteFault>
     ensures { Puts (E.seen notes.old) (E.seen notes.new) (usage_note misfit) result }
 {
     match misfit {
         Misfit::Form => write_all(notes, b"usage: words fit no command"),
         Misfit::Name { place, fault } => put_misspelled(notes, place, fault),
+        Misfit::Number {
+            place,
+            least,
+            greatest,
+        } => put_misnumbered(notes, place, least as u64, greatest as u64),
     }
 }
 

@@ -1,15 +1,19 @@
 // `run`: the words are read, the input is taken and answered, and what there is to say is written.
 ghost use Rattle.std.specs.Prelude.{◌≡◌, ◌≢◌, ◌⊎◌, ◌↔◌, ◌≤◌, ℕ, List, map, string_bytes, IfErr, IfSome};
 ghost use Rattle.msp_io.specs.Faults.{Rose};
+ghost use Rattle.msp_io.specs.Views.{SourceView};
 ghost use Rattle.msp_top.specs.declared.command.Command.{Command as CommandValue};
-ghost use Rattle.msp_top.specs.Commands.{Asks, AsksForRows, Misfits};
-ghost use Rattle.msp_top.specs.Run.{IsTold, IsNote, IsDue, Reports, BreaksOff, Refuses};
+ghost use Rattle.msp_top.specs.declared.command.Trial.{Trial as TrialValue};
+ghost use Rattle.msp_top.specs.Commands.{Asks, AsksForRows, AsksForTrial, Misfits};
+ghost use Rattle.msp_top.specs.Run.{IsTold, IsNote, IsDue, IsTrialDue, Reports, BreaksOff, Refuses};
+ghost use Rattle.msp_top.specs.Answers.{IsInRange};
 ghost use Rattle.msp_top.specs.Ending.{Serves};
 
 use crate::answers::{answer_to, limit_of};
-use crate::command::{Command, Request};
+use crate::command::{Command, Request, Trial};
 use crate::notes::tell;
 use crate::refusal::{Refusal, not_taken};
+use crate::trials::trial_answer;
 use crate::words::read_words;
 use msp_io::{Sink, Source, read_all, write_all};
 use msp_report::rows_text;
@@ -26,14 +30,27 @@ fn serve<S: Source, K: Sink>(
     ensures unread { IfErr result (λ why. why.status ≡ 2 → source.new ≡ source.old) }
     ensures unwritten { IfErr result (λ why. why.status ≢ 8 → out.new ≡ out.old) }
     ensures rows { AsksForRows (map string_bytes words.now.items) → source.new ≡ source.old }
+    ensures trial { (trial : TrialValue) → AsksForTrial (map string_bytes words.now.items) trial → source.new ≡ source.old }
 {
     match read_words(alloc, words)? {
         Request::Rows => {
             write_all(out, rows_text())?;
             Ok(0)
         }
+        Request::Trial(trial) => try_out(alloc, &trial, out),
         Request::Command(command) => perform(alloc, &command, source, out),
     }
+}
+
+/// Solves the instance of a trial, and writes the report.
+fn try_out<K: Sink>(alloc: Global, trial: &Trial, out: &mut K) -> Result<u8, Refusal>
+    requires { IsInRange trial.now }
+    ensures served { (words : List (List ℕ)) (source : SourceView) → AsksForTrial words trial.now → Serves words source source (K.seen out.old) (K.seen out.new) result }
+    ensures unwritten { IfErr result (λ why. why.status ≢ 8 → out.new ≡ out.old) }
+{
+    let made = trial_answer(alloc, trial)?;
+    write_all(out, &made.text)?;
+    Ok(made.status)
 }
 
 /// Reads the input of a command, and writes the report.
@@ -91,6 +108,10 @@ pub fn run<S: Source, K: Sink, E: Sink>(
 
     // The table of rows takes no memory, and nothing is read for it: it is written, or `out` failed.
     ensures rows { AsksForRows (map string_bytes words.now.items) → (source.new ≡ source.old) × ((result ≡ 0) ⊎ (result ≡ 8)) }
+
+    // A trial reads nothing, so the source does not end it. Where `out` has no new fault it ends as is due, or for want of memory.
+    ensures trial { (trial : TrialValue) → AsksForTrial (map string_bytes words.now.items) trial
+        → (source.new ≡ source.old) × (result ≢ 7) × (¬ Rose (K.seen out.old).faults (K.seen out.new).faults → (result ≡ 9) ⊎ IsTrialDue trial result) }
 
     // Words that fit and no new fault give the status that the whole input is due, or want of memory.
     ensures completeness { (command : CommandValue) → Asks (map string_bytes words.now.items) command

@@ -1,10 +1,11 @@
-// The whole command line over a source and sinks in memory, by full bytes.
+// The whole command line over a source and sinks in memory, by full bytes: solving, questions, misfits and failing devices.
 use crate::run;
 use msp_io::{MemorySink, MemorySource};
 use std::alloc::Global;
 use std::test::Fail;
 
-const TEXT: &[u8] = b"msp 1\nclass 1||sumwC\njob a p=3 w=1\njob b p=1 w=2\njob c p=2 w=2\nend\n";
+pub const TEXT: &[u8] =
+    b"msp 1\nclass 1||sumwC\njob a p=3 w=1\njob b p=1 w=2\njob c p=2 w=2\nend\n";
 
 /// Its first four lines.
 const FRONT: &[u8] = b"msp 1\nclass 1||sumwC\njob a p=3 w=1\njob b p=1 w=2\n";
@@ -16,15 +17,15 @@ const REPORT: &[u8] =
 const UNSOLVED: &[u8] = b"msp 1\nclass P||Cmax\nmachines 2\njob a p=3\nend\n";
 
 /// What a call is run on, and what it gives.
-struct Case {
-    words: &'static [&'static str],
-    text: &'static [u8],
-    status: u8,
-    out: &'static [u8],
-    notes: &'static [u8],
+pub struct Case {
+    pub words: &'static [&'static str],
+    pub text: &'static [u8],
+    pub status: u8,
+    pub out: &'static [u8],
+    pub notes: &'static [u8],
 }
 
-const SOLVED: &[Case] = &[
+pub const SOLVED: &[Case] = &[
     Case {
         words: &["solve"],
         text: TEXT,
@@ -417,25 +418,25 @@ const CASES: &[Case] = &[
 
 /// What a call is run on: the words, the input, and the calls of the source and of the sinks that fail.
 #[derive(Clone, Copy)]
-struct Trial<'a> {
-    words: &'a [&'a str],
-    text: &'a [u8],
-    read_fails: u64,
-    write_fails: u64,
-    note_fails: u64,
-    room: u32,
+pub struct Call<'a> {
+    pub words: &'a [&'a str],
+    pub text: &'a [u8],
+    pub read_fails: u64,
+    pub write_fails: u64,
+    pub note_fails: u64,
+    pub room: u32,
 }
 
 /// What a call gave.
 #[derive(Drop)]
-struct Seen {
-    status: u8,
-    out: Vec<u8>,
-    notes: Vec<u8>,
+pub struct Seen {
+    pub status: u8,
+    pub out: Vec<u8>,
+    pub notes: Vec<u8>,
 }
 
-fn solving(text: &[u8]) -> Trial<'_> {
-    Trial {
+fn solving(text: &[u8]) -> Call<'_> {
+    Call {
         words: &["solve"],
         text,
         read_fails: 0,
@@ -445,26 +446,26 @@ fn solving(text: &[u8]) -> Trial<'_> {
     }
 }
 
-fn calling<'a>(words: &'a [&'a str], text: &'a [u8]) -> Trial<'a> {
-    Trial {
+pub fn calling<'a>(words: &'a [&'a str], text: &'a [u8]) -> Call<'a> {
+    Call {
         words,
         ..solving(text)
     }
 }
 
 /// Runs a call with steps of 10 bytes. A number of 0 is the number of no call.
-fn outcome(alloc: Global, trial: &Trial<'_>) -> Result<Seen, Fail> {
+pub fn outcome(alloc: Global, call: &Call<'_>) -> Result<Seen, Fail> {
     let mut words = Vec::new(alloc);
-    for word in trial.words {
+    for word in call.words {
         words.push(String::from_str(alloc, word)?)?;
     }
     let mut source = MemorySource::new(
-        trial.text.to_vec(alloc)?,
+        call.text.to_vec(alloc)?,
         10,
-        [trial.read_fails].to_vec(alloc)?,
+        [call.read_fails].to_vec(alloc)?,
     );
-    let mut out = MemorySink::new(alloc, trial.room, 10, [trial.write_fails].to_vec(alloc)?)?;
-    let mut notes = MemorySink::new(alloc, 1000, 10, [trial.note_fails].to_vec(alloc)?)?;
+    let mut out = MemorySink::new(alloc, call.room, 10, [call.write_fails].to_vec(alloc)?)?;
+    let mut notes = MemorySink::new(alloc, 1000, 10, [call.note_fails].to_vec(alloc)?)?;
     let status = run(alloc, &words, &mut source, &mut out, &mut notes);
     Ok(Seen {
         status,
@@ -474,22 +475,22 @@ fn outcome(alloc: Global, trial: &Trial<'_>) -> Result<Seen, Fail> {
 }
 
 /// Whether a call gives this status, report and notes.
-fn gives(
+pub fn gives(
     alloc: Global,
-    trial: &Trial<'_>,
+    call: &Call<'_>,
     status: u8,
     out: &[u8],
     notes: &[u8],
 ) -> Result<bool, Fail> {
-    let seen = outcome(alloc, trial)?;
+    let seen = outcome(alloc, call)?;
     Ok(seen.status == status && seen.out.as_slice() == out && seen.notes.as_slice() == notes)
 }
 
 #[test]
 fn solves_each_case(rt: HostRuntime) -> Result<(), Fail> {
     for case in SOLVED {
-        let trial = calling(case.words, case.text);
-        assert!(rt; gives(rt.alloc(), &trial, case.status, case.out, case.notes)?);
+        let call = calling(case.words, case.text);
+        assert!(rt; gives(rt.alloc(), &call, case.status, case.out, case.notes)?);
     }
     Ok(())
 }
@@ -497,180 +498,9 @@ fn solves_each_case(rt: HostRuntime) -> Result<(), Fail> {
 #[test]
 fn answers_each_case(rt: HostRuntime) -> Result<(), Fail> {
     for case in CASES {
-        let trial = calling(case.words, case.text);
-        assert!(rt; gives(rt.alloc(), &trial, case.status, case.out, case.notes)?);
+        let call = calling(case.words, case.text);
+        assert!(rt; gives(rt.alloc(), &call, case.status, case.out, case.notes)?);
     }
-    Ok(())
-}
-
-/// An instance with a schedule after it.
-const CHECKED: &[u8] =
-    b"msp 1\nclass P|pmtn|Cmax\nmachines 2\njob a p=3\njob b p=3\njob c p=3\nend\nschedule\ncost 9/2\nunit 2\npiece a 1 1 0 6\npiece b 1 2 0 3\npiece c 1 2 3 9\npiece b 1 1 6 9\nend\n";
-
-const CHECKS: &[Case] = &[
-    Case {
-        words: &["check"],
-        text: CHECKED,
-        status: 0,
-        out: b"class P|pmtn|Cmax\njobs 3\npieces 4\nfeasible yes\ncost 9/2\nstated 9/2\nagree yes\nend\n",
-        notes: b"",
-    },
-    Case {
-        words: &["check"],
-        text: b"msp 1\nclass P|pmtn|Cmax\nmachines 2\njob a p=3\njob b p=3\njob c p=3\nend\nschedule\ncost 5\nunit 2\npiece a 1 1 0 6\npiece b 1 2 0 3\npiece c 1 2 3 9\npiece b 1 1 6 9\nend\n",
-        status: 1,
-        out: b"class P|pmtn|Cmax\njobs 3\npieces 4\nfeasible yes\ncost 9/2\nstated 5\nagree no\nend\n",
-        notes: b"",
-    },
-    Case {
-        words: &["check"],
-        text: b"msp 1\nclass P|pmtn|Cmax\nmachines 2\njob a p=3\njob b p=3\nend\nschedule\ncost 5\nunit 1\npiece a 1 1 0 2\npiece a 1 2 1 2\npiece b 1 2 2 5\nend\n",
-        status: 1,
-        out: b"class P|pmtn|Cmax\njobs 2\npieces 3\nfeasible no\nbreak job 1 2\nend\n",
-        notes: b"",
-    },
-    Case {
-        words: &["check"],
-        text: b"msp 1\nclass P|pmtn|Cmax\nmachines 2\njob a p=3\njob b p=3\njob c p=3\nend\nschedule\ncost 9/2\nunit 2\npiece a 1 1 6 6\nend\n",
-        status: 1,
-        out: b"class P|pmtn|Cmax\njobs 3\npieces 1\nfeasible no\nbreak span 1\nend\n",
-        notes: b"",
-    },
-    Case {
-        words: &["check"],
-        text: b"msp 1\nclass P|pmtn|Cmax\nmachines 2\njob a p=3\njob b p=3\njob c p=3\nend\nschedule\ncost 9/2\nunit 2\npiece a 1 3 0 6\nend\n",
-        status: 1,
-        out: b"class P|pmtn|Cmax\njobs 3\npieces 1\nfeasible no\nbreak place 1\nend\n",
-        notes: b"",
-    },
-    Case {
-        words: &["check"],
-        text: b"msp 1\nclass R2|pmtn|Cmax\njob a\ntimes 2 3\nend\n",
-        status: 5,
-        out: b"",
-        notes: b"msp: no check for R2|pmtn|Cmax\n",
-    },
-    Case {
-        words: &["check"],
-        text: TEXT,
-        status: 3,
-        out: b"",
-        notes: b"msp: line 7: missing\n",
-    },
-    Case {
-        words: &["check"],
-        text: b"msp 1\nclass 1||Cmax\njob a p=1\nend\nschedule\ncost 4/2\nunit 0\nend\n",
-        status: 4,
-        out: b"",
-        notes: b"msp: line 7: limit of unit\n",
-    },
-    Case {
-        words: &["check", "1||Cmax"],
-        text: CHECKED,
-        status: 2,
-        out: b"",
-        notes: b"msp: usage: words fit no command\n",
-    },
-];
-
-#[test]
-fn checks_schedules(rt: HostRuntime) -> Result<(), Fail> {
-    for case in CHECKS {
-        let trial = calling(case.words, case.text);
-        assert!(rt; gives(rt.alloc(), &trial, case.status, case.out, case.notes)?);
-    }
-    Ok(())
-}
-
-/// The text of an instance with the schedule of a report behind it.
-fn behind(alloc: Global, text: &[u8], report: &[u8]) -> Result<Vec<u8>, Fail> {
-    let mut whole = text.to_vec(alloc)?;
-    for at in 0..report.len() {
-        if report[at..].starts_with(b"schedule\n") {
-            whole.extend_from_slice(&report[at..])?;
-            return Ok(whole);
-        }
-    }
-    Ok(whole)
-}
-
-#[test]
-fn what_is_solved_is_feasible(rt: HostRuntime) -> Result<(), Fail> {
-    for case in SOLVED {
-        let text = behind(rt.alloc(), case.text, case.out)?;
-        let seen = outcome(rt.alloc(), &calling(&["check"], &text))?;
-        assert_eq!(rt; seen.status, 0);
-    }
-    Ok(())
-}
-
-/// One job with so many equal pieces.
-fn equal_pieces(alloc: Global, count: u32) -> Result<Vec<u8>, Fail> {
-    let mut text = b"msp 1\nclass 1||sumwC\njob a p=1 w=1\nend\nschedule\ncost 1\nunit 1\n".to_vec(
-        alloc,
-    )?;
-    for _ in 0..count {
-        text.extend_from_slice(b"piece a 1 1 0 1\n")?;
-    }
-    text.extend_from_slice(b"end\n")?;
-    Ok(text)
-}
-
-#[test]
-fn many_equal_pieces(rt: HostRuntime) -> Result<(), Fail> {
-    let text = equal_pieces(rt.alloc(), 500_000)?;
-    assert!(rt;
-        gives(
-            rt.alloc(),
-            &calling(&["check"], &text),
-            1,
-            b"class 1||sumwC\njobs 1\npieces 500000\nfeasible no\nbreak machine 1 2\nend\n",
-            b""
-        )?
-    );
-    Ok(())
-}
-
-#[test]
-fn one_piece_too_many(rt: HostRuntime) -> Result<(), Fail> {
-    let text = equal_pieces(rt.alloc(), 500_001)?;
-    assert!(rt;
-        gives(
-            rt.alloc(),
-            &calling(&["check"], &text),
-            4,
-            b"",
-            b"msp: line 500008: limit of pieces\n"
-        )?
-    );
-    Ok(())
-}
-
-/// One job that is cut into so many pieces, one after another.
-fn pieces_in_a_row(alloc: Global, count: u32) -> Result<Vec<u8>, Fail> {
-    let mut text = format!(in alloc;
-        "msp 1\nclass 1|pmtn|Cmax\njob a p={count}\nend\nschedule\ncost {count}\nunit 1\n"
-    )?;
-    for k in 0..count {
-        let line = format!(in alloc; "piece a 1 1 {k} {}\n", u64::from(k) + 1)?;
-        text.push_str(&line)?;
-    }
-    text.push_str("end\n")?;
-    Ok(text.into_bytes())
-}
-
-#[test]
-fn many_pieces_in_a_row(rt: HostRuntime) -> Result<(), Fail> {
-    let text = pieces_in_a_row(rt.alloc(), 500_000)?;
-    assert!(rt;
-        gives(
-            rt.alloc(),
-            &calling(&["check"], &text),
-            0,
-            b"class 1|pmtn|Cmax\njobs 1\npieces 500000\nfeasible yes\ncost 500000\nstated 500000\nagree yes\nend\n",
-            b""
-        )?
-    );
     Ok(())
 }
 
@@ -716,12 +546,12 @@ fn writes_the_rows(rt: HostRuntime) -> Result<(), Fail> {
 
 #[test]
 fn devices_fail(rt: HostRuntime) -> Result<(), Fail> {
-    let reading = Trial {
+    let reading = Call {
         read_fails: 2,
         ..solving(TEXT)
     };
     assert!(rt; gives(rt.alloc(), &reading, 7, b"", b"msp: cannot read\n")?);
-    let writing = Trial {
+    let writing = Call {
         write_fails: 2,
         ..solving(TEXT)
     };
@@ -734,7 +564,7 @@ fn devices_fail(rt: HostRuntime) -> Result<(), Fail> {
             b"msp: cannot write\n"
         )?
     );
-    let full = Trial {
+    let full = Call {
         room: 12,
         ..solving(TEXT)
     };
@@ -747,7 +577,7 @@ fn devices_fail(rt: HostRuntime) -> Result<(), Fail> {
             b"msp: cannot write\n"
         )?
     );
-    let silent = Trial {
+    let silent = Call {
         note_fails: 1,
         ..solving(FRONT)
     };

@@ -1,14 +1,15 @@
 // The words of a command line.
-ghost use Rattle.std.specs.Prelude.{◌≡◌, ◌↔◌, ℕ, ◌+◌, ◌∷◌, [], List as Items, map, string_bytes, IsTrue, IfOk, OnOk, IfErr};
+ghost use Rattle.std.specs.Prelude.{◌≡◌, ◌↔◌, ℕ, ◌∷◌, [], List as Items, map, string_bytes, IsTrue, IfOk, OnOk, IfErr};
 ghost use Rattle.std.specs.List.{AllZip};
 ghost use Rattle.msp_class.specs.declared.class.Class.{Class as ClassValue};
 ghost use Rattle.msp_top.specs.Commands.{IsNameWord};
-ghost use Rattle.msp_top.specs.Usage.{names_text};
+ghost use Rattle.msp_top.specs.Usage.{name_then, names_text};
 ghost use Rattle.msp_top.specs.Note.{usage_note};
 ghost use Rattle.msp_top.specs.Words.{ReadsWords, ReadsName, ReadsNames, ReadsOneName, ReadsOption};
 
 use crate::command::{Command, Question, Request};
 use crate::refusal::Refusal;
+use crate::trial_words::read_trial;
 use msp_class::{Class, List, NoMemory};
 use msp_name::{NameFault, parse};
 use std::alloc::Global;
@@ -19,13 +20,22 @@ pub enum Misfit {
     /// They have not the form of a command.
     Form,
     /// A word that is to be a name is none.
-    Name { place: u64, fault: NameFault },
+    Name {
+        place: u64,
+        fault: NameFault,
+    },
+    /// A word that is to be a number in a range is none.
+    Number {
+        place: u64,
+        least: u32,
+        greatest: u32,
+    },
 }
 
 /// The class of a name that stands at a place, counted from 1.
-fn read_name(word: &str, place: u64) -> Result<Class, Misfit>
+pub fn read_name(word: &str, place: u64) -> Result<Class, Misfit>
     ensures read { ReadsName word.now place result }
-    ensures later { IfOk result (λ _. (rest : Items (Items ℕ)) → names_text place (word.now ∷ rest) ≡ names_text (place + 1) rest) }
+    ensures later { IfOk result (λ _. (later : Items ℕ) → name_then place word.now later ≡ later) }
 {
     if word.len() as u64 >= 1 << 32 {
         return Err(Misfit::Form);
@@ -131,6 +141,10 @@ fn read_after(alloc: Global, word: &str, words: &[String]) -> Result<Request, Re
     if word == "solve" {
         let at = read_option(words)?;
         return Ok(Request::Command(Command::Solve { at }));
+    }
+    if word == "trial" {
+        let trial = read_trial(words)?;
+        return Ok(Request::Trial(trial));
     }
     if is_alone("frontier", word, words) {
         return Ok(Request::Command(Command::Answer {

@@ -1,6 +1,6 @@
 -- The goals of `run` that are proved by lemmas.
 use Rattle.std.proofs.Common.{Ok, Err, arith}
-use Rattle.msp_top.proofs.Endings.{serves_known, serves_usage, serves_report, report_is_low, refusal_is_high, serves_refusal, serves_read_fault, serves_write_fault, serves_rows_status, serves_due, serves_note}
+use Rattle.msp_top.proofs.Endings.{serves_known, serves_usage, serves_report, report_is_low, refusal_is_high, serves_refusal, serves_read_fault, serves_write_fault, serves_rows_status, serves_trial_status, serves_trial_due, serves_due, serves_note}
 use Rattle.msp_top.specs.Note.{note_text}
 use Rattle.msp_top.proofs.serve.run.Goals as goal
 
@@ -31,6 +31,13 @@ returns-in-Ok-clause-unwritten g c high other = absurd (omega (arith, high, repo
 pub returns-in-Ok-clause-rows : goal.returns-in-Ok-clause-rows
 returns-in-Ok-clause-rows g c rows = (c.in-Ok.ensures.rows rows, serves_rows_status _ _ _ _ _ (Ok c.in-Ok.status) c.in-Ok.ensures.served rows)
 
+pub returns-in-Ok-clause-trial : goal.returns-in-Ok-clause-trial
+returns-in-Ok-clause-trial g c trial asked = (
+  c.in-Ok.ensures.trial trial asked,
+  serves_trial_status _ _ _ _ _ (Ok c.in-Ok.status) c.in-Ok.ensures.served trial asked,
+  serves_trial_due _ _ _ _ _ (Ok c.in-Ok.status) c.in-Ok.ensures.served trial asked,
+)
+
 pub returns-in-Ok-clause-completeness : goal.returns-in-Ok-clause-completeness
 returns-in-Ok-clause-completeness g c = serves_due _ _ _ _ _ (Ok c.in-Ok.status) c.in-Ok.ensures.served
 
@@ -60,6 +67,13 @@ returns-in-Err-clause-write_fault g c = serves_write_fault _ _ _ _ _ c.in-Err.wh
 
 pub returns-in-Err-clause-rows : goal.returns-in-Err-clause-rows
 returns-in-Err-clause-rows g c rows = (c.in-Err.ensures.rows rows, serves_rows_status _ _ _ _ _ (Err c.in-Err.why) c.in-Err.ensures.served rows)
+
+pub returns-in-Err-clause-trial : goal.returns-in-Err-clause-trial
+returns-in-Err-clause-trial g c trial asked = (
+  c.in-Err.ensures.trial trial asked,
+  serves_trial_status _ _ _ _ _ (Err c.in-Err.why) c.in-Err.ensures.served trial asked,
+  serves_trial_due _ _ _ _ _ (Err c.in-Err.why) c.in-Err.ensures.served trial asked,
+)
 
 pub returns-in-Err-clause-completeness : goal.returns-in-Err-clause-completeness
 returns-in-Err-clause-completeness g c = serves_due _ _ _ _ _ (Err c.in-Err.why) c.in-Err.ensures.served

@@ -2,7 +2,8 @@
 use Rattle.std.proofs.Common.{map, string_bytes}
 use Rattle.msp_top.specs.Ending.{Serves}
 use Rattle.msp_top.proofs.Exits.{exits}
-use Rattle.msp_top.proofs.Endings.{serves_words, serves_rows, serves_rows_broken, asks_for_rows, asks_for, never_usage, rows_are_no_command}
+use Rattle.msp_top.proofs.Endings.{serves_words, serves_rows, serves_rows_broken, asks_for_rows, asks_for_trial, asks_for, never_usage, trial_in_range}
+use Rattle.msp_top.proofs.OneCommand.{rows_are_no_command, trial_is_no_command}
 use Rattle.msp_top.proofs.serve.serve.Goals as goal
 
 pub returns-in_err-read_words-clause-served : goal.returns-in_err-read_words-clause-served
@@ -18,6 +19,12 @@ returns-in_err-write_all-in-Rows-clause-served g c =
 pub returns-in_ok-write_all-in-Rows-clause-served : goal.returns-in_ok-write_all-in-Rows-clause-served
 returns-in_ok-write_all-in-Rows-clause-served g c = serves_rows _ _ _ _ _ (asks_for_rows _ c.in_ok-read_words.field-0 c.in_ok-read_words.ensures c.in-Rows.is) c.rows_text.ensures c.in_ok-write_all-in-Rows.ensures.all
 
+pub try_out-requires : goal.try_out-requires
+try_out-requires g c = trial_in_range _ c.in-Trial.trial (asks_for_trial _ c.in_ok-read_words.field-0 c.in-Trial.trial c.in_ok-read_words.ensures c.in-Trial.is)
+
+pub returns-in-Trial-clause-served : goal.returns-in-Trial-clause-served
+returns-in-Trial-clause-served g c = c.try_out.ensures.served _ _ (asks_for_trial _ c.in_ok-read_words.field-0 c.in-Trial.trial c.in_ok-read_words.ensures c.in-Trial.is)
+
 pub returns-in-Command-clause-served : goal.returns-in-Command-clause-served
 returns-in-Command-clause-served g c = c.perform.ensures.served _ (asks_for _ c.in_ok-read_words.field-0 c.in-Command.command c.in_ok-read_words.ensures c.in-Command.is)
 
@@ -26,3 +33,6 @@ returns-in-Command-clause-unread g c = never_usage _ c.perform.result c.perform.
 
 pub returns-in-Command-clause-rows : goal.returns-in-Command-clause-rows
 returns-in-Command-clause-rows g c rows = rows_are_no_command _ c.in-Command.command rows (asks_for _ c.in_ok-read_words.field-0 c.in-Command.command c.in_ok-read_words.ensures c.in-Command.is)
+
+pub returns-in-Command-clause-trial : goal.returns-in-Command-clause-trial
+returns-in-Command-clause-trial g c trial asked = trial_is_no_command _ trial c.in-Command.command asked (asks_for _ c.in_ok-read_words.field-0 c.in-Command.command c.in_ok-read_words.ensures c.in-Command.is)

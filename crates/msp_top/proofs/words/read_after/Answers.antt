@@ -4,6 +4,7 @@ use Rattle.std.proofs.lemmas.Slice.Eq.{bytes_eq-Decides}
 use Rattle.msp_top.specs.Words.{ReadsWords}
 use Rattle.msp_top.proofs.Exits.{exits}
 use Rattle.msp_top.proofs.WordLemmas.{frontier_word, check_word, rows_word, alone, reads_label, refuses_label, reads_why, refuses_why, reads_solve, refuses_solve, refuses_all}
+use Rattle.msp_top.proofs.TrialWords.{reads_trial, refuses_trial}
 use Rattle.msp_top.proofs.words.read_after.Goals as goal
 
 pub returns-then-eq : goal.returns-then-eq
@@ -27,6 +28,13 @@ pub returns-in_err-at : goal.returns-in_err-at
 returns-in_err-at c = exits _ (ReadsWords (c.args.word.now ∷ map string_bytes c.args.words.now)) c.from_residual-in_err-at.result c.from_residual-in_err-at.ensures.1
     (λ why e. refuses_solve c.args.word.now (map string_bytes c.args.words.now) c.in_err-at.field-0.0 why ((bytes_eq-Decides _ _).0 (sym c.eq-3.ensures ∙ c.if-eq-3.true)) c.in_err-at.ensures e)
 
+pub returns-then-eq-4 : goal.returns-then-eq-4
+returns-then-eq-4 c = reads_trial c.args.word.now (map string_bytes c.args.words.now) c.in_ok-trial.trial ((bytes_eq-Decides _ _).0 (sym c.eq-4.ensures ∙ c.if-eq-4.true)) c.in_ok-trial.ensures
+
+pub returns-in_err-trial : goal.returns-in_err-trial
+returns-in_err-trial c = exits _ (ReadsWords (c.args.word.now ∷ map string_bytes c.args.words.now)) c.from_residual-in_err-trial.result c.from_residual-in_err-trial.ensures.1
+    (λ why e. refuses_trial c.args.word.now (map string_bytes c.args.words.now) c.in_err-trial.field-0.0 why ((bytes_eq-Decides _ _).0 (sym c.eq-4.ensures ∙ c.if-eq-4.true)) c.in_err-trial.ensures e)
+
 pub returns-then-is_alone : goal.returns-then-is_alone
 returns-then-is_alone c = alone string_bytes c.args.words.now c.args.word.now frontier_word (c.if-is_alone.ensures.0 refl)
 
@@ -37,5 +45,5 @@ pub returns-then-is_alone-3 : goal.returns-then-is_alone-3
 returns-then-is_alone-3 c = alone string_bytes c.args.words.now c.args.word.now rows_word (c.if-is_alone-3.ensures.0 refl)
 
 pub returns : goal.returns
-returns c = refuses_all string_bytes c.args.word.now c.args.words.now c.from.result (sym c.eq.ensures ∙ c.if-eq.false) (sym c.eq-2.ensures ∙ c.if-eq-2.false) (sym c.eq-3.ensures ∙ c.if-eq-3.false)
+returns c = refuses_all string_bytes c.args.word.now c.args.words.now c.from.result (sym c.eq.ensures ∙ c.if-eq.false) (sym c.eq-2.ensures ∙ c.if-eq-2.false) (sym c.eq-3.ensures ∙ c.if-eq-3.false) (sym c.eq-4.ensures ∙ c.if-eq-4.false)
     (λ h. let e : false ≡ true = c.if-is_alone.ensures.1 h in cc) (λ h. let e : false ≡ true = c.if-is_alone-2.ensures.1 h in cc) (λ h. let e : false ≡ true = c.if-is_alone-3.ensures.1 h in cc) c.from.ensures
