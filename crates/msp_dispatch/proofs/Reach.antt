@@ -58,7 +58,7 @@ module _ (class : Class) (marks : List Bool) (size : length marks ≡ CLASSES) (
     sound = All-cons (λ c. c ≡ class) class [] refl (All-nil (λ c. c ≡ class));
     keeps = keep;
     fresh = fresh;
-    falls = fewer
+    falls = fewer;
   })
     where
       keep : (c : Class) → is_marked marks c ≡ true → is_marked (set marks (rank_of class) true) c ≡ true
@@ -67,6 +67,7 @@ module _ (class : Class) (marks : List Bool) (size : length marks ≡ CLASSES) (
           by : (c ≡ class) ⊎ (rank_of c ≢ rank_of class) → is_marked (set marks (rank_of class) true) c ≡ true
           by (inl q) = subst (λ x. is_marked (set marks (rank_of class) true) x ≡ true) (sym q) at_itself
           by (inr n) = elsewhere c n ∙ h
+
       fresh : (c : Class) → is_marked (set marks (rank_of class) true) c ≡ true → (is_marked marks c ≡ true) ⊎ Contains (class ∷ []) c
       fresh c h = by (same_or_not c)
         where
@@ -86,7 +87,7 @@ grows_on P met met_then met_after marks marks_then marks_after g h = record {
   sound = All-append P g.behind h.behind g.sound h.sound;
   keeps = λ c m. h.keeps c (g.keeps c m);
   fresh = fresh;
-  falls = omega (arith, g.falls, h.falls, length-append g.behind h.behind)
+  falls = omega (arith, g.falls, h.falls, length-append g.behind h.behind);
 }
   where
     fresh : (c : Class) → is_marked marks_after c ≡ true → (is_marked marks c ≡ true) ⊎ Contains (g.behind ++ h.behind) c
@@ -95,6 +96,7 @@ grows_on P met met_then met_after marks marks_then marks_after g h = record {
         earlier : (is_marked marks c ≡ true) ⊎ Contains g.behind c → (is_marked marks c ≡ true) ⊎ Contains (g.behind ++ h.behind) c
         earlier (inl a) = inl a
         earlier (inr b) = inr (contains_front g.behind h.behind c b)
+
         by : (is_marked marks_then c ≡ true) ⊎ Contains h.behind c → (is_marked marks c ≡ true) ⊎ Contains (g.behind ++ h.behind) c
         by (inl a) = earlier (g.fresh c a)
         by (inr b) = inr (contains_back g.behind h.behind c b)
@@ -118,6 +120,7 @@ search_start from marks met marks_after none g here = record { size = g.size; st
   where
     sound : All (Reaches carries from) ([] ++ g.behind)
     sound k d l = ([], subst (Leads carries from []) (sym (g.sound k d l)) stay)
+
     known : (c : Class) → is_marked marks_after c ≡ true → Contains met c
     known c m = by (g.fresh c m)
       where
@@ -139,26 +142,31 @@ search_next from met marks done class met_after marks_after l at h g f = record 
   start = g.keeps from h.start;
   sound = subst (All (Reaches carries from)) (sym g.front) (All-append (Reaches carries from) met g.behind h.sound (λ k d m. leads_on from class (get_or g.behind k d) here (g.sound k d m)));
   known = known;
-  closed = closed
+  closed = closed;
 }
   where
     here : Reaches carries from class
     here = subst (Reaches carries from) (sym at) (h.sound done class l)
+
     known : (c : Class) → is_marked marks_after c ≡ true → Contains met_after c
     known c m = subst (λ xs. Contains xs c) (sym g.front) (by (g.fresh c m))
       where
         by : (is_marked marks c ≡ true) ⊎ Contains g.behind c → Contains (met ++ g.behind) c
         by (inl a) = contains_front met g.behind c (h.known c a)
         by (inr b) = contains_back met g.behind c b
+
     read : (j : ℕ) (d : Class) → j < length met → get_or met_after j d ≡ get_or met j d
     read j d m = ap (λ xs. get_or xs j d) g.front ∙ get_or_append_left met g.behind d j m
+
     small : (k : ℕ) {x : Class} → goes_of k class ≡ Some x → k < ROWS + 1
     small k e = omega (arith, (goes_of-numbered k class _ e).1)
+
     closed : (j : ℕ) (d x : Class) → j < done + 1 → Steps (get_or met_after j d) x → is_marked marks_after x ≡ true
     closed j d x m s = by (cases_lt j done)
       where
         s' : Steps (get_or met j d) x
         s' = subst (λ a. Steps a x) (read j d (omega (arith, l, m))) s
+
         by : (j < done) ⊎ (done ≤ j) → is_marked marks_after x ≡ true
         by (inl n) = g.keeps x (h.closed j d x n s')
         by (inr n) =
@@ -178,10 +186,13 @@ search_end from met marks done l h c = (sound, all)
   where
     sound : is_marked marks c ≡ true → Reaches carries from c
     sound m = let (k, i, e) = h.known c m in subst (Reaches carries from) e (h.sound k c i)
+
     closed : (a x : Class) → is_marked marks a ≡ true → Steps a x → is_marked marks x ≡ true
     closed a x m s = let t = h.known a m in h.closed t.0 a x (omega (arith, l, t.1)) (subst (λ b. Steps b x) (sym t.2) s)
+
     by : (ks : List ℕ) (a b : Class) → Leads carries a ks b → is_marked marks a ≡ true → is_marked marks b ≡ true
     by [] a b stay m = m
     by (k ∷ ks) a b (step t e rest) m = by ks _ b rest (closed a _ m (k, t, e))
+
     all : Reaches carries from c → is_marked marks c ≡ true
     all (ks, leads) = by ks from c leads h.start

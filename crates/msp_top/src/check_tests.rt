@@ -83,7 +83,7 @@ fn checks_schedules(rt: HostRuntime) -> Result<(), Fail> {
 }
 
 /// The text of an instance with the schedule of a report behind it.
-fn behind(alloc: Global, text: &[u8], report: &[u8]) -> Result<Vec<u8>, Fail> {
+pub fn behind(alloc: Global, text: &[u8], report: &[u8]) -> Result<Vec<u8>, Fail> {
     let mut whole = text.to_vec(alloc)?;
     for at in 0..report.len() {
         if report[at..].starts_with(b"schedule\n") {

@@ -13,6 +13,8 @@ mod questions;
 mod refusal;
 mod serve;
 #[cfg(test)]
+mod solver_tests;
+#[cfg(test)]
 mod tests;
 #[cfg(test)]
 mod trial_tests;

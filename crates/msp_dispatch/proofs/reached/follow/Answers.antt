@@ -9,6 +9,7 @@ pub follow_row-requires-clause-size : goal.follow_row-requires-clause-size
 follow_row-requires-clause-size c = c.loop-n.invariant.0.size
 
 pub loop-n-preserved : goal.loop-n-preserved
-loop-n-preserved c =
-    (grows_on (Steps c.args.class) _ _ _ _ _ _ c.loop-n.invariant.0 c.in_ok-follow_row.ensures.grows,
-     followed_more c.args.class c.loop-n.n _ _ c.in_ok-follow_row.ensures.grows.keeps c.loop-n.invariant.1 c.in_ok-follow_row.ensures.followed)
+loop-n-preserved c = (
+  grows_on (Steps c.args.class) _ _ _ _ _ _ c.loop-n.invariant.0 c.in_ok-follow_row.ensures.grows,
+  followed_more c.args.class c.loop-n.n _ _ c.in_ok-follow_row.ensures.grows.keeps c.loop-n.invariant.1 c.in_ok-follow_row.ensures.followed,
+)

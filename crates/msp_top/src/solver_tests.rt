@@ -1,0 +1,240 @@
+// Each solver over a source and sinks in memory: worked examples by full bytes, and two hundred drawn jobs.
+use crate::check_tests::behind;
+use crate::tests::{Case, calling, gives, outcome};
+use std::alloc::Global;
+use std::test::Fail;
+
+/// Examples that have one answer.
+const WORKED: &[Case] = &[
+    Case {
+        words: &["solve"],
+        text: b"msp 1\nclass Q||sumC\nmachines 2\nspeeds 3 2\njob a p=5\njob b p=4\nend\n",
+        status: 0,
+        out: b"start Q||sumC\nsolver uniform\nschedule\ncost 11/3\nunit 3\npiece a 1 1 0 5\npiece b 1 2 0 6\nend\n",
+        notes: b"",
+    },
+    Case {
+        words: &["solve", "--at", "R||sumC"],
+        text: b"msp 1\nclass Q||sumC\nmachines 2\nspeeds 3 2\njob a p=5\njob b p=4\nend\n",
+        status: 0,
+        out: b"start Q||sumC\nrow 26 R||sumC\nsolver unrelated\nschedule\ncost 11/3\nunit 3\npiece a 1 1 0 5\npiece b 1 2 0 6\nend\n",
+        notes: b"",
+    },
+    Case {
+        words: &["solve"],
+        text: b"msp 1\nclass R||sumC\nmachines 2\njob a\ntimes 1 9\njob b\ntimes 2 3\njob c\ntimes 3 5\nend\n",
+        status: 0,
+        out: b"start R||sumC\nsolver unrelated\nschedule\ncost 8\nunit 1\npiece a 1 1 0 1\npiece b 1 2 0 3\npiece c 1 1 1 4\nend\n",
+        notes: b"",
+    },
+    Case {
+        words: &["solve"],
+        text: b"msp 1\nclass F2||Cmax\njob a\ntimes 3 2\njob b\ntimes 1 4\njob c\ntimes 2 0\nend\n",
+        status: 0,
+        out: b"start F2||Cmax\nsolver johnson\nschedule\ncost 7\nunit 1\npiece b 1 1 0 1\npiece a 1 1 1 4\npiece b 2 2 1 5\npiece c 1 1 4 6\npiece a 2 2 5 7\nend\n",
+        notes: b"",
+    },
+    Case {
+        words: &["solve"],
+        text: b"msp 1\nclass J2|n<=2|Cmax\njob a\nroute 1 2\njob b\nroute 2 3\njob c\nroute 1 2 2 2\njob d\nroute 2 1 1 4\nend\n",
+        status: 0,
+        out: b"start J2|n<=2|Cmax\nsolver jackson\nschedule\ncost 8\nunit 1\npiece c 1 1 0 2\npiece d 1 2 0 1\npiece b 1 2 1 4\npiece a 1 1 2 4\npiece d 2 1 4 8\npiece c 2 2 4 6\nend\n",
+        notes: b"",
+    },
+    Case {
+        words: &["solve"],
+        text: b"msp 1\nclass 1|pmtn,r|sumC\njob a p=4 r=0\njob b p=1 r=1\nend\n",
+        status: 0,
+        out: b"start 1|pmtn,r|sumC\nsolver shortest\nschedule\ncost 7\nunit 1\npiece a 1 1 0 1\npiece b 1 1 1 2\npiece a 1 1 2 5\nend\n",
+        notes: b"",
+    },
+    Case {
+        words: &["solve"],
+        text: b"msp 1\nclass 1|pmtn,r|fmax\njob a p=4 r=0\ncurve 1 0\njob b p=1 r=1\ncurve 3 0\nend\n",
+        status: 0,
+        out: b"start 1|pmtn,r|fmax\nrow 1 1|pmtn,chains,r|fmax\nrow 2 1|pmtn,intree,r|fmax\nrow 4 1|pmtn,prec,r|fmax\nsolver blocks\nschedule\ncost 6\nunit 1\npiece a 1 1 0 1\npiece b 1 1 1 2\npiece a 1 1 2 5\nend\n",
+        notes: b"",
+    },
+    Case {
+        words: &["solve"],
+        text: b"msp 1\nclass 1|r,p=1|fmax\njob a r=0\ncurve 1 0\njob b r=0\ncurve 2 0\nend\n",
+        status: 0,
+        out: b"start 1|r,p=1|fmax\nrow 1 1|chains,r,p=1|fmax\nrow 2 1|intree,r,p=1|fmax\nrow 4 1|prec,r,p=1|fmax\nsolver unit-blocks\nschedule\ncost 2\nunit 1\npiece b 1 1 0 1\npiece a 1 1 1 2\nend\n",
+        notes: b"",
+    },
+    Case {
+        words: &["solve"],
+        text: b"msp 1\nclass P|r,p=1|sumwT\nmachines 1\njob a r=0 d=1 w=1\njob b r=0 d=1 w=3\nend\n",
+        status: 0,
+        out: b"start P|r,p=1|sumwT\nsolver slots-late\nschedule\ncost 1\nunit 1\npiece b 1 1 0 1\npiece a 1 1 1 2\nend\n",
+        notes: b"",
+    },
+    Case {
+        words: &["solve"],
+        text: b"msp 1\nclass F2||Cmax\njob a\ntimes 3 0\njob b\ntimes 1 0\nend\n",
+        status: 0,
+        out: b"start F2||Cmax\nsolver johnson\nschedule\ncost 4\nunit 1\npiece a 1 1 0 3\npiece b 1 1 3 4\nend\n",
+        notes: b"",
+    },
+    Case {
+        words: &["solve"],
+        text: b"msp 1\nclass F2||Cmax\njob a\ntimes 2 3\nend\n",
+        status: 0,
+        out: b"start F2||Cmax\nsolver johnson\nschedule\ncost 5\nunit 1\npiece a 1 1 0 2\npiece a 2 2 2 5\nend\n",
+        notes: b"",
+    },
+    Case {
+        words: &["solve"],
+        text: b"msp 1\nclass 1|pmtn,prec,r|fmax\njob a p=6 r=0\ncurve 1 0\njob b p=1 r=1\ncurve 1 10\njob c p=1 r=3\ncurve 1 20\narc b c\nend\n",
+        status: 0,
+        out: b"start 1|pmtn,prec,r|fmax\nsolver blocks\nschedule\ncost 24\nunit 1\npiece a 1 1 0 1\npiece b 1 1 1 2\npiece a 1 1 2 3\npiece c 1 1 3 4\npiece a 1 1 4 8\nend\n",
+        notes: b"",
+    },
+    Case {
+        words: &["solve"],
+        text: b"msp 1\nclass 1|pmtn,prec,r|fmax\njob a p=2 r=0\ncurve 1 0\njob b p=3 r=0\ncurve 2 0\njob c p=1 r=0\ncurve 3 0\narc a b\narc b c\nend\n",
+        status: 0,
+        out: b"start 1|pmtn,prec,r|fmax\nsolver blocks\nschedule\ncost 18\nunit 1\npiece a 1 1 0 2\npiece b 1 1 2 5\npiece c 1 1 5 6\nend\n",
+        notes: b"",
+    },
+];
+
+/// Examples that have many best schedules: how the answer begins.
+const FREE: &[Case] = &[
+    Case {
+        words: &["solve"],
+        text: b"msp 1\nclass O2||Cmax\njob a\ntimes 3 5\njob b\ntimes 4 1\nend\n",
+        status: 0,
+        out: b"start O2||Cmax\nsolver open2\nschedule\ncost 8\nunit 1\n",
+        notes: b"",
+    },
+    Case {
+        words: &["solve"],
+        text: b"msp 1\nclass P|r,p=1|sumwU\nmachines 1\njob a r=0 d=1 w=1\njob b r=0 d=1 w=3\nend\n",
+        status: 0,
+        out: b"start P|r,p=1|sumwU\nsolver slots-count\nschedule\ncost 1\nunit 1\n",
+        notes: b"",
+    },
+    Case {
+        words: &["solve"],
+        text: b"msp 1\nclass O2||Cmax\njob a\ntimes 3 5\nend\n",
+        status: 0,
+        out: b"start O2||Cmax\nsolver open2\nschedule\ncost 8\nunit 1\n",
+        notes: b"",
+    },
+];
+
+/// Two hundred drawn jobs of each class that has a solver: how the answer begins.
+const DRAWN: &[(&str, &[u8])] = &[
+    (
+        "1||sumwC",
+        b"class 1||sumwC\njobs 200\nseed 1\nsolver smith\nrows 0\n",
+    ),
+    (
+        "1|prec|fmax",
+        b"class 1|prec|fmax\njobs 200\nseed 1\nsolver lawler\nrows 0\n",
+    ),
+    (
+        "1||sumU",
+        b"class 1||sumU\njobs 200\nseed 1\nsolver moore\nrows 0\n",
+    ),
+    (
+        "1|outtree|sumwC",
+        b"class 1|outtree|sumwC\njobs 200\nseed 1\nsolver horn\nrows 0\n",
+    ),
+    (
+        "1|pmtn,prec,r|fmax",
+        b"class 1|pmtn,prec,r|fmax\njobs 200\nseed 1\nsolver blocks\nrows 0\n",
+    ),
+    (
+        "1|prec,r,p=1|fmax",
+        b"class 1|prec,r,p=1|fmax\njobs 200\nseed 1\nsolver unit-blocks\nrows 0\n",
+    ),
+    (
+        "1|pmtn,r|sumC",
+        b"class 1|pmtn,r|sumC\njobs 200\nseed 1\nsolver shortest\nrows 0\n",
+    ),
+    (
+        "P|pmtn|Cmax",
+        b"class P|pmtn|Cmax\njobs 200\nseed 1\nsolver wrap\nrows 0\n",
+    ),
+    (
+        "P|intree,p=1|Cmax",
+        b"class P|intree,p=1|Cmax\njobs 200\nseed 1\nsolver levels\nrows 0\n",
+    ),
+    (
+        "Q||sumC",
+        b"class Q||sumC\njobs 200\nseed 1\nsolver uniform\nrows 0\n",
+    ),
+    (
+        "R||sumC",
+        b"class R||sumC\njobs 200\nseed 1\nsolver unrelated\nrows 0\n",
+    ),
+    (
+        "P|r,p=1|sumwT",
+        b"class P|r,p=1|sumwT\njobs 200\nseed 1\nsolver slots-late\nrows 0\n",
+    ),
+    (
+        "P|r,p=1|sumwU",
+        b"class P|r,p=1|sumwU\njobs 200\nseed 1\nsolver slots-count\nrows 0\n",
+    ),
+    (
+        "F2||Cmax",
+        b"class F2||Cmax\njobs 200\nseed 1\nsolver johnson\nrows 0\n",
+    ),
+    (
+        "J2|n<=2|Cmax",
+        b"class J2|n<=2|Cmax\njobs 200\nseed 1\nsolver jackson\nrows 0\n",
+    ),
+    (
+        "O2||Cmax",
+        b"class O2||Cmax\njobs 200\nseed 1\nsolver open2\nrows 0\n",
+    ),
+];
+
+/// Whether the call answers status 0 and a report that begins so.
+fn begins(alloc: Global, words: &[&str], text: &[u8], front: &[u8]) -> Result<bool, Fail> {
+    let seen = outcome(alloc, &calling(words, text))?;
+    Ok(seen.status == 0 && seen.out.as_slice().starts_with(front))
+}
+
+#[test]
+fn each_solver_answers(rt: HostRuntime) -> Result<(), Fail> {
+    for case in WORKED {
+        let call = calling(case.words, case.text);
+        assert!(rt; gives(rt.alloc(), &call, case.status, case.out, case.notes)?);
+    }
+    Ok(())
+}
+
+#[test]
+fn free_choices_cost_the_least(rt: HostRuntime) -> Result<(), Fail> {
+    for case in FREE {
+        assert!(rt; begins(rt.alloc(), case.words, case.text, case.out)?);
+    }
+    Ok(())
+}
+
+#[test]
+fn what_each_solver_answers_is_feasible(rt: HostRuntime) -> Result<(), Fail> {
+    for case in FREE {
+        let solved = outcome(rt.alloc(), &calling(case.words, case.text))?;
+        let text = behind(rt.alloc(), case.text, &solved.out)?;
+        let seen = outcome(rt.alloc(), &calling(&["check"], &text))?;
+        assert_eq!(rt; seen.status, 0);
+    }
+    for case in WORKED {
+        let text = behind(rt.alloc(), case.text, case.out)?;
+        let seen = outcome(rt.alloc(), &calling(&["check"], &text))?;
+        assert_eq!(rt; seen.status, 0);
+    }
+    Ok(())
+}
+
+#[test]
+fn two_hundred_jobs_of_each_class(rt: HostRuntime) -> Result<(), Fail> {
+    for (class, front) in DRAWN {
+        assert!(rt; begins(rt.alloc(), &["trial", class, "200", "1"], b"", front)?);
+    }
+    Ok(())
+}
