@@ -4,7 +4,7 @@ use std::alloc::Global;
 use std::test::Fail;
 
 /// An instance with a schedule after it.
-const CHECKED: &[u8] =
+pub const CHECKED: &[u8] =
     b"msp 1\nclass P|pmtn|Cmax\nmachines 2\njob a p=3\njob b p=3\njob c p=3\nend\nschedule\ncost 9/2\nunit 2\npiece a 1 1 0 6\npiece b 1 2 0 3\npiece c 1 2 3 9\npiece b 1 1 6 9\nend\n";
 
 const CHECKS: &[Case] = &[

@@ -8,6 +8,8 @@ mod answers;
 mod check_tests;
 mod checks;
 mod command;
+#[cfg(test)]
+mod hostile_tests;
 mod notes;
 mod questions;
 mod refusal;

@@ -416,11 +416,13 @@ const CASES: &[Case] = &[
     },
 ];
 
-/// What a call is run on: the words, the input, and the calls of the source and of the sinks that fail.
+/// What a call is run on: the words, the input, how many bytes a device takes or gives at once, and the calls of the source and of the
+/// sinks that fail.
 #[derive(Clone, Copy)]
 pub struct Call<'a> {
     pub words: &'a [&'a str],
     pub text: &'a [u8],
+    pub step: u32,
     pub read_fails: u64,
     pub write_fails: u64,
     pub note_fails: u64,
@@ -439,6 +441,7 @@ fn solving(text: &[u8]) -> Call<'_> {
     Call {
         words: &["solve"],
         text,
+        step: 10,
         read_fails: 0,
         write_fails: 0,
         note_fails: 0,
@@ -453,19 +456,20 @@ pub fn calling<'a>(words: &'a [&'a str], text: &'a [u8]) -> Call<'a> {
     }
 }
 
-/// Runs a call with steps of 10 bytes. A number of 0 is the number of no call.
+/// Runs a call. A number of 0 is the number of no call.
 pub fn outcome(alloc: Global, call: &Call<'_>) -> Result<Seen, Fail> {
+    let step = call.step.max(1);
     let mut words = Vec::new(alloc);
     for word in call.words {
         words.push(String::from_str(alloc, word)?)?;
     }
     let mut source = MemorySource::new(
         call.text.to_vec(alloc)?,
-        10,
+        step,
         [call.read_fails].to_vec(alloc)?,
     );
-    let mut out = MemorySink::new(alloc, call.room, 10, [call.write_fails].to_vec(alloc)?)?;
-    let mut notes = MemorySink::new(alloc, 1000, 10, [call.note_fails].to_vec(alloc)?)?;
+    let mut out = MemorySink::new(alloc, call.room, step, [call.write_fails].to_vec(alloc)?)?;
+    let mut notes = MemorySink::new(alloc, 1000, step, [call.note_fails].to_vec(alloc)?)?;
     let status = run(alloc, &words, &mut source, &mut out, &mut notes);
     Ok(Seen {
         status,

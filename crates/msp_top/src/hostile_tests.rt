@@ -1,0 +1,264 @@
+// Devices that fail at one of their calls, texts that are cut at each byte, and damaged texts.
+ghost use Rattle.std.specs.Prelude.{◌≢◌};
+
+use crate::check_tests::CHECKED;
+use crate::run;
+use crate::tests::{Call, Case, Seen, TEXT, calling, gives, outcome};
+use msp_io::{SureSink, SureSource};
+use std::alloc::Global;
+use std::test::Fail;
+
+/// A call of each command that makes and solves, checks or only writes: its words, its input, and whether it reads.
+const CALLS: &[(&[&str], &[u8], bool)] = &[
+    (&["solve"], TEXT, true),
+    (&["check"], CHECKED, true),
+    (&["trial", "1||sumwC", "3", "1"], b"", false),
+    (&["rows"], b"", false),
+];
+
+const RESULTS: &[u8] = b"class,strength,source\n1||sumwU,hard,Karp 1972\n1||sumwU,pseudo,Lawler and Moore 1969\n";
+
+/// The same for the commands that read results.
+const QUESTIONS: &[(&[&str], &[u8], bool)] = &[
+    (&["label", "1||sumwU", "1||Lmax"], RESULTS, true),
+    (&["why", "1||Lmax"], RESULTS, true),
+    (&["frontier"], RESULTS, true),
+];
+
+fn is_same(seen: &Seen, whole: &Seen) -> bool {
+    seen.status == whole.status
+        && seen.out.as_slice() == whole.out.as_slice()
+        && seen.notes.as_slice() == whole.notes.as_slice()
+}
+
+/// How many calls it takes to move so many bytes.
+fn calls_for(bytes: usize, step: u32) -> u64 {
+    (bytes as u64).div_ceil(u64::from(step.max(1)))
+}
+
+/// Whether the answer is right where the call of the source of this number fails. The last call finds the end of the input.
+fn answers_a_read_fault(
+    alloc: Global,
+    call: &Call<'_>,
+    reads: bool,
+    whole: &Seen,
+    number: u64,
+) -> Result<bool, Fail> {
+    let seen = outcome(
+        alloc,
+        &Call {
+            read_fails: number,
+            ..*call
+        },
+    )?;
+    if reads && number <= calls_for(call.text.len(), call.step).saturating_add(1) {
+        return Ok(seen.status == 7 && seen.out.is_empty());
+    }
+    Ok(is_same(&seen, whole))
+}
+
+/// Whether the answer is right where the call of the sink of this number fails: what was written before stands there.
+fn answers_a_write_fault(
+    alloc: Global,
+    call: &Call<'_>,
+    whole: &Seen,
+    number: u64,
+) -> Result<bool, Fail> {
+    let seen = outcome(
+        alloc,
+        &Call {
+            write_fails: number,
+            ..*call
+        },
+    )?;
+    if number <= calls_for(whole.out.len(), call.step) {
+        let written = number.saturating_sub(1) * u64::from(call.step);
+        return Ok(
+            seen.status == 8
+                && seen.out.len() as u64 == written
+                && whole.out.as_slice().starts_with(&seen.out),
+        );
+    }
+    Ok(is_same(&seen, whole))
+}
+
+/// Whether each failing call, up to the fortieth, is answered as it should be.
+fn answers_each_fault(alloc: Global, call: &Call<'_>, reads: bool) -> Result<bool, Fail> {
+    let whole = outcome(alloc, call)?;
+    for number in 1..=40 {
+        if !answers_a_read_fault(alloc, call, reads, &whole, number)? {
+            return Ok(false);
+        }
+        if !answers_a_write_fault(alloc, call, &whole, number)? {
+            return Ok(false);
+        }
+    }
+    Ok(true)
+}
+
+#[test]
+fn failing_devices(rt: HostRuntime) -> Result<(), Fail> {
+    for (words, text, reads) in CALLS {
+        for step in [1, 7] {
+            let call = Call {
+                step,
+                ..calling(words, text)
+            };
+            assert!(rt; answers_each_fault(rt.alloc(), &call, *reads)?);
+        }
+    }
+    Ok(())
+}
+
+#[test]
+fn failing_devices_and_results(rt: HostRuntime) -> Result<(), Fail> {
+    for (words, text, reads) in QUESTIONS {
+        for step in [1, 7] {
+            let call = Call {
+                step,
+                ..calling(words, text)
+            };
+            assert!(rt; answers_each_fault(rt.alloc(), &call, *reads)?);
+        }
+    }
+    Ok(())
+}
+
+/// A call over devices that do not fail.
+fn surely(
+    alloc: Global,
+    words: &Vec<String>,
+    source: &mut SureSource,
+    out: &mut SureSink,
+    notes: &mut SureSink,
+) -> u8
+    ensures read { result ≢ 7 }
+    ensures written { result ≢ 8 }
+{
+    run(alloc, words, source, out, notes)
+}
+
+#[test]
+fn sure_devices(rt: HostRuntime) -> Result<(), Fail> {
+    let mut words = Vec::new(rt.alloc());
+    words.push(String::from_str(rt.alloc(), "solve")?)?;
+    let mut source = SureSource::new(TEXT.to_vec(rt.alloc())?, 7);
+    let mut out = SureSink::new();
+    let mut notes = SureSink::new();
+    let status = surely(rt.alloc(), &words, &mut source, &mut out, &mut notes);
+    assert_eq!(rt; status, 0);
+    Ok(())
+}
+
+/// Inputs of which no front is one.
+const WHOLE: &[(&[&str], &[u8])] = &[
+    (&["solve"], TEXT),
+    (
+        &["solve"],
+        b"msp 1\nclass 1||Lmax\njob a p=2 d=4\njob b p=3 d=-2\nend\n",
+    ),
+    (&["check"], CHECKED),
+    (
+        &["solve"],
+        b"msp 1\nclass Q||sumC\nmachines 2\nspeeds 3 2\njob a p=5\njob b p=4\nend\n",
+    ),
+    (
+        &["solve"],
+        b"msp 1\nclass J2|n<=2|Cmax\njob a\nroute 1 2\njob b\nroute 2 3\njob c\nroute 1 2 2 2\njob d\nroute 2 1 1 4\nend\n",
+    ),
+    (
+        &["solve"],
+        b"msp 1\nclass 1|prec|fmax\njob a p=2\ncurve 1 0\njob b p=3\ncurve 0 0 5 10\njob c p=1\ncurve 2 -4\narc a b\nend\n",
+    ),
+];
+
+/// Whether the whole text, and no front of it, is answered with status 0.
+fn only_whole(alloc: Global, words: &[&str], text: &[u8]) -> Result<bool, Fail> {
+    for cut in 0..text.len() {
+        if outcome(alloc, &calling(words, &text[..cut]))?.status == 0 {
+            return Ok(false);
+        }
+    }
+    Ok(outcome(alloc, &calling(words, text))?.status == 0)
+}
+
+#[test]
+fn cut_at_each_byte(rt: HostRuntime) -> Result<(), Fail> {
+    for (words, text) in WHOLE {
+        assert!(rt; only_whole(rt.alloc(), words, text)?);
+    }
+    Ok(())
+}
+
+/// Results that are not quoted as they should be, and schedules with one fault.
+const DAMAGED: &[Case] = &[
+    Case {
+        words: &["label"],
+        text: b"class,verdict,source\n1|pmtn,r|Lmax,easy,x\n",
+        status: 3,
+        out: b"",
+        notes: b"msp: record 1: width\n",
+    },
+    Case {
+        words: &["label", "1|pmtn,r|Lmax"],
+        text: b"class,verdict,source\n\"1|pmtn,r|Lmax\",easy,x\n",
+        status: 0,
+        out: b"1|pmtn,r|Lmax easy\nend\n",
+        notes: b"",
+    },
+    Case {
+        words: &["check"],
+        text: b"msp 1\nclass P|pmtn|Cmax\nmachines 2\njob a p=3\njob b p=3\njob c p=3\nend\nschedule\ncost 9/2\nunit 0\npiece a 1 1 0 6\nend\n",
+        status: 4,
+        out: b"",
+        notes: b"msp: line 10: limit of unit\n",
+    },
+    Case {
+        words: &["check"],
+        text: b"msp 1\nclass P|pmtn|Cmax\nmachines 2\njob a p=3\njob b p=3\njob c p=3\nend\nschedule\ncost 9/2\nunit 2\npiece z 1 1 0 6\nend\n",
+        status: 3,
+        out: b"",
+        notes: b"msp: line 11: unknown name\n",
+    },
+    Case {
+        words: &["check"],
+        text: b"msp 1\nclass P|pmtn|Cmax\nmachines 2\njob a p=3\njob b p=3\njob c p=3\nend\nschedule\ncost 9/2\nunit 2\npiece a 1 33 0 6\nend\n",
+        status: 4,
+        out: b"",
+        notes: b"msp: line 11: limit of place\n",
+    },
+    Case {
+        words: &["check"],
+        text: b"msp 1\nclass P|pmtn|Cmax\nmachines 2\njob a p=3\njob b p=3\njob c p=3\nend\nschedule\ncost 9/2\nunit 2\npiece a 1 1 0 200000000000000000000000001\nend\n",
+        status: 4,
+        out: b"",
+        notes: b"msp: line 11: limit of moment\n",
+    },
+];
+
+#[test]
+fn damaged_texts(rt: HostRuntime) -> Result<(), Fail> {
+    for case in DAMAGED {
+        let call = calling(case.words, case.text);
+        assert!(rt; gives(rt.alloc(), &call, case.status, case.out, case.notes)?);
+    }
+    Ok(())
+}
+
+/// So many entries.
+fn entries(alloc: Global, count: u32) -> Result<Vec<u8>, Fail> {
+    let mut text = b"class,verdict,source\n".to_vec(alloc)?;
+    for _ in 0..count {
+        text.extend_from_slice(b"1||Cmax,easy,x\n")?;
+    }
+    Ok(text)
+}
+
+#[test]
+fn one_entry_too_many(rt: HostRuntime) -> Result<(), Fail> {
+    let most = entries(rt.alloc(), 20_000)?;
+    assert!(rt; gives(rt.alloc(), &calling(&["label", "1||Cmax"], &most), 0, b"1||Cmax easy\nend\n", b"")?);
+    let text = entries(rt.alloc(), 20_001)?;
+    assert!(rt; gives(rt.alloc(), &calling(&["label"], &text), 4, b"", b"msp: limit of records\n")?);
+    Ok(())
+}
