@@ -1,6 +1,7 @@
 -- What is picked from the list, and a best schedule that is settled.
-use Rattle.std.proofs.Common.{◌≡◌, ◌≢◌, ℕ, zero, suc, ◌<◌, ◌≤◌, List, [], ◌∷◌, length, map, ℤ, pos, ◌*ℤ◌, ◌≤ℤ◌, ◌<ℤ◌, sym, ap, ap₂, subst, subst₂, ◌∙◌, arith}
+use Rattle.std.proofs.Common.{◌≡◌, ◌≢◌, ℕ, zero, suc, ◌+◌, ◌<◌, ◌≤◌, ◌⊎◌, inl, inr, ◌↔◌, Bool, true, false, IsTrue, List, [], ◌∷◌, length, map, ℤ, pos, ◌*ℤ◌, ◌≤ℤ◌, ◌<ℤ◌, sym, ap, ap₂, subst, subst₂, ◌∙◌, arith}
 use Rattle.std.specs.Prelude.{slice_get, Contains, IfSome, IfOk, Option, Some, None, Result, Ok, Err}
+use Rattle.std.proofs.lemmas.Bool.{cases_lt}
 use Rattle.std.proofs.lemmas.Int.{ints}
 use Rattle.std.proofs.lemmas.Option.{slice_get_within, get_or_from_slice_get}
 use Rattle.msp_class.specs.declared.class.Class.{Class}
@@ -62,6 +63,17 @@ first_in : (P : Class → Type 0) (xs : List SolvedClass) (n : ℕ) (e : SolvedC
 first_in P [] n e g p h = absurd (cc)
 first_in P (x ∷ xs) zero e g p h = let same : x ≡ e = cc in subst (λ y. IsFirst P (y.class ∷ map (λ z. z.class) xs) e.class) (sym same) (here p)
 first_in P (x ∷ xs) (suc n) e g p h = later (h 0 (omega arith)) (first_in P xs n e g p (λ k l. h (suc k) (omega arith)))
+
+-- what holds of all places before the next
+pub places_next : (P : ℕ → Type 0) (n : ℕ) → ((k : ℕ) → k < n → P k) → P n → (k : ℕ) → k < n + 1 → P k
+places_next P n h last k l = by (cases_lt k n)
+  where
+    by : (k < n) ⊎ (n ≤ k) → P k
+    by (inl m) = h k m
+    by (inr m) = let same : n ≡ k = omega (arith, l, m) in subst P same last
+
+pub not_there : (b : Bool) (T : Type 0) → b ≡ false → (IsTrue b ↔ T) → ¬ T
+not_there b T e h t = absurd (let yes : b ≡ true = h.1 t in cc)
 
 -- no chain leads to the class of an entry that is not marked
 pub unreached : (from : Class) (marks : List Bool) (place : ℕ) (e : SolvedClass) → AreReached from marks → slice_get solved_list place ≡ Some e → is_marked marks e.class ≡ false → IfSome (slice_get solved_list place) (λ x. ¬ Reaches carries from x.class)

@@ -1,6 +1,6 @@
 -- The search for the classes to which carrying rows lead.
-use Rattle.std.proofs.Common.{◌≡◌, ◌≢◌, ℕ, zero, suc, ◌+◌, ◌-◌, ◌<◌, ◌≤◌, ◌⊎◌, inl, inr, ◌↔◌, eqb, Bool, true, false, not, IsTrue, List, [], ◌∷◌, ◌++◌, length, get_or, set, All, Some, refl, sym, ap, subst, ◌∙◌, length-append, append_assoc, append-nil, eqb-true, eq-eqb, arith}
-use Rattle.std.specs.Prelude.{Contains, count_by, cond}
+use Rattle.std.proofs.Common.{◌≡◌, ◌≢◌, ℕ, ◌+◌, ◌-◌, ◌<◌, ◌≤◌, ◌⊎◌, inl, inr, eqb, Bool, true, false, not, IsTrue, List, [], ◌∷◌, ◌++◌, length, get_or, set, All, Some, refl, sym, ap, subst, ◌∙◌, length-append, append_assoc, append-nil, eqb-true, eq-eqb, arith}
+use Rattle.std.specs.Prelude.{Contains, cond}
 use Rattle.std.proofs.lemmas.Bool.{cases_lt}
 use Rattle.std.proofs.lemmas.List.{length-set, get_or-set_same, get_or-set_other, get_or_append_left, get_or-append-add, get_or_default}
 use Rattle.std.proofs.lemmas.List.Elements.{All-nil, All-cons, All-append}

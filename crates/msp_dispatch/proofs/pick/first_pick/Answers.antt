@@ -1,5 +1,9 @@
-use Rattle.std.proofs.Common.{refl, arith}
-use Rattle.msp_dispatch.proofs.Picks.{IsPick-first, none_led}
+use Rattle.std.proofs.Common.{refl, subst, arith}
+use Rattle.std.specs.Prelude.{slice_get, IfNone, IfSome}
+use Rattle.msp_table.specs.Rows.{carries}
+use Rattle.msp_table.specs.Chains.{Reaches}
+use Rattle.msp_dispatch.specs.Solved.{solved_list}
+use Rattle.msp_dispatch.proofs.Picks.{IsPick-first, none_led, places_next}
 use Rattle.msp_dispatch.proofs.pick.first_pick.Goals as goal
 
 pub returns-in-Ok-Some-clause-pick : goal.returns-in-Ok-Some-clause-pick
@@ -7,3 +11,8 @@ returns-in-Ok-Some-clause-pick c = IsPick-first c.args.from c.loop-place.place c
 
 pub returns-clause-fault : goal.returns-clause-fault
 returns-clause-fault c = (refl, none_led c.args.from c.loop-place.place (omega (arith, c.loop-place-test.false)) c.loop-place.invariant)
+
+pub loop-place-preserved : goal.loop-place-preserved
+loop-place-preserved c =
+    places_next (λ k. IfSome (slice_get solved_list k) (λ e. ¬ Reaches carries c.args.from e.class)) c.loop-place.place c.loop-place.invariant
+    (subst (λ o. IfNone o (IfSome (slice_get solved_list c.loop-place.place) (λ e. ¬ Reaches carries c.args.from e.class))) c.in-Ok-None.field-0-is c.in-Ok-None.ensures.none)

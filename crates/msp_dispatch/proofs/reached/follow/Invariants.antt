@@ -1,5 +1,3 @@
-use Rattle.std.proofs.Common.{◌≡◌, length}
-use Rattle.msp_class.specs.declared.ranks.TheConstants.{CLASSES}
 use Rattle.msp_dispatch.specs.Reached.{Steps, Grows, IsFollowed}
 use Rattle.msp_dispatch.proofs.reached.follow.Given as goal
 

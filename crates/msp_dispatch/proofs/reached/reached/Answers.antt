@@ -1,4 +1,4 @@
-use Rattle.std.proofs.Common.{◌≡◌, ◌<◌, length, false, subst, sym, arith}
+use Rattle.std.proofs.Common.{◌≡◌, ◌<◌, length, false, subst, arith}
 use Rattle.msp_class.specs.Rank.{rank_of}
 use Rattle.msp_class.proofs.RankLemmas.{rank_of-below}
 use Rattle.msp_dispatch.specs.Reached.{Steps, Grows}

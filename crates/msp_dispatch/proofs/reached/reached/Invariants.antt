@@ -1,4 +1,4 @@
-use Rattle.std.proofs.Common.{◌≡◌, ◌+◌, ◌-◌, ◌≤◌, length}
+use Rattle.std.proofs.Common.{◌+◌, ◌-◌, ◌≤◌, length}
 use Rattle.msp_dispatch.specs.Reached.{IsSearch, unset}
 use Rattle.msp_dispatch.proofs.reached.reached.Given as goal
 
