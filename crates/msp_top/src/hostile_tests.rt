@@ -16,7 +16,8 @@ const CALLS: &[(&[&str], &[u8], bool)] = &[
     (&["rows"], b"", false),
 ];
 
-const RESULTS: &[u8] = b"class,strength,source\n1||sumwU,hard,Karp 1972\n1||sumwU,pseudo,Lawler and Moore 1969\n";
+const RESULTS: &[u8] =
+    b"class,strength,source\n1||sumwU,hard,Karp 1972\n1||sumwU,pseudo,Lawler and Moore 1969\n";
 
 /// The same for the commands that read results.
 const QUESTIONS: &[(&[&str], &[u8], bool)] = &[
@@ -257,8 +258,24 @@ fn entries(alloc: Global, count: u32) -> Result<Vec<u8>, Fail> {
 #[test]
 fn one_entry_too_many(rt: HostRuntime) -> Result<(), Fail> {
     let most = entries(rt.alloc(), 20_000)?;
-    assert!(rt; gives(rt.alloc(), &calling(&["label", "1||Cmax"], &most), 0, b"1||Cmax easy\nend\n", b"")?);
+    assert!(rt;
+        gives(
+            rt.alloc(),
+            &calling(&["label", "1||Cmax"], &most),
+            0,
+            b"1||Cmax easy\nend\n",
+            b""
+        )?
+    );
     let text = entries(rt.alloc(), 20_001)?;
-    assert!(rt; gives(rt.alloc(), &calling(&["label"], &text), 4, b"", b"msp: limit of records\n")?);
+    assert!(rt;
+        gives(
+            rt.alloc(),
+            &calling(&["label"], &text),
+            4,
+            b"",
+            b"msp: limit of records\n"
+        )?
+    );
     Ok(())
 }
