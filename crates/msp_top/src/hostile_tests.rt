@@ -73,7 +73,7 @@ fn answers_a_write_fault(
         },
     )?;
     if number <= calls_for(whole.out.len(), call.step) {
-        let written = number.saturating_sub(1) * u64::from(call.step);
+        let written = number.saturating_sub(1).wrapping_mul(u64::from(call.step));
         return Ok(
             seen.status == 8
                 && seen.out.len() as u64 == written
