@@ -97,6 +97,13 @@ const WORKED: &[Case] = &[
         out: b"start 1|pmtn,prec,r|fmax\nsolver blocks\nschedule\ncost 18\nunit 1\npiece a 1 1 0 2\npiece b 1 1 2 5\npiece c 1 1 5 6\nend\n",
         notes: b"",
     },
+    Case {
+        words: &["solve"],
+        text: b"msp 1\nclass 1|pmtn,prec,r|fmax\njob a p=8 r=0\ncurve 1 0\njob b p=4 r=1\ncurve 1 20\njob c p=1 r=2\ncurve 1 40\nend\n",
+        status: 0,
+        out: b"start 1|pmtn,prec,r|fmax\nsolver blocks\nschedule\ncost 43\nunit 1\npiece a 1 1 0 1\npiece b 1 1 1 2\npiece c 1 1 2 3\npiece b 1 1 3 6\npiece a 1 1 6 13\nend\n",
+        notes: b"",
+    },
 ];
 
 /// Examples that have many best schedules: how the answer begins.
@@ -236,5 +243,65 @@ fn two_hundred_jobs_of_each_class(rt: HostRuntime) -> Result<(), Fail> {
     for (class, front) in DRAWN {
         assert!(rt; begins(rt.alloc(), &["trial", class, "200", "1"], b"", front)?);
     }
+    Ok(())
+}
+
+const BLOCKS: &[u8] = b"msp 1\nclass 1|pmtn,prec,r|fmax\n";
+
+/// So many jobs that each have a block of their own, and the answer.
+fn apart(alloc: Global, count: u32) -> Result<(Vec<u8>, Vec<u8>), Fail> {
+    let mut text = BLOCKS.to_vec(alloc)?;
+    let mut report =
+        b"start 1|pmtn,prec,r|fmax\nsolver blocks\nschedule\ncost 1199\nunit 1\n".to_vec(alloc)?;
+    for k in 0..count {
+        let begin = 3 * u64::from(k);
+        let job = format!(in alloc; "job j{k} p=2 r={begin}\ncurve 1 0\n")?;
+        text.extend_from_slice(job.as_bytes())?;
+        let piece = format!(in alloc; "piece j{k} 1 1 {begin} {}\n", begin + 2)?;
+        report.extend_from_slice(piece.as_bytes())?;
+    }
+    text.extend_from_slice(b"end\n")?;
+    report.extend_from_slice(b"end\n")?;
+    Ok((text, report))
+}
+
+/// Four hundred jobs, each of which interrupts the one before it and ends before that goes on.
+fn nested(alloc: Global) -> Result<Vec<u8>, Fail> {
+    let mut text = BLOCKS.to_vec(alloc)?;
+    for k in 0..400_u32 {
+        let base = 1000 * u64::from(k);
+        let job = format!(in alloc; "job j{k} p=2 r={k}\ncurve 1 {base}\n")?;
+        text.extend_from_slice(job.as_bytes())?;
+    }
+    text.extend_from_slice(b"end\n")?;
+    Ok(text)
+}
+
+/// Their schedule: the last job is not interrupted.
+fn interrupted(alloc: Global) -> Result<Vec<u8>, Fail> {
+    let mut report =
+        b"start 1|pmtn,prec,r|fmax\nsolver blocks\nschedule\ncost 399401\nunit 1\n".to_vec(alloc)?;
+    for k in 0..399_u32 {
+        let piece = format!(in alloc; "piece j{k} 1 1 {k} {}\n", u64::from(k) + 1)?;
+        report.extend_from_slice(piece.as_bytes())?;
+    }
+    report.extend_from_slice(b"piece j399 1 1 399 401\n")?;
+    for k in 0..399_u32 {
+        let job = 398_u32.saturating_sub(k);
+        let begin = u64::from(k) + 401;
+        let piece = format!(in alloc; "piece j{job} 1 1 {begin} {}\n", begin + 1)?;
+        report.extend_from_slice(piece.as_bytes())?;
+    }
+    report.extend_from_slice(b"end\n")?;
+    Ok(report)
+}
+
+#[test]
+fn four_hundred_blocks(rt: HostRuntime) -> Result<(), Fail> {
+    let (text, report) = apart(rt.alloc(), 400)?;
+    assert!(rt; gives(rt.alloc(), &calling(&["solve"], &text), 0, &report, b"")?);
+    let deep = nested(rt.alloc())?;
+    let answer = interrupted(rt.alloc())?;
+    assert!(rt; gives(rt.alloc(), &calling(&["solve"], &deep), 0, &answer, b"")?);
     Ok(())
 }
