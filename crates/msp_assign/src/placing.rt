@@ -1,5 +1,6 @@
 // One more row: the prices move, and the columns are passed on along the way to the free one.
 ghost use Rattle.std.specs.Prelude.{◌≡◌, ◌+◌, ◌<◌, ◌≤◌, ◌^◌, ℕ, All, IfOk, OnOk, length};
+ghost use Rattle.msp_class.specs.declared.list.TheConstants.{PLACES};
 ghost use Rattle.msp_assign.specs.Prices.{HasCosts};
 ghost use Rattle.msp_assign.specs.Search.{at, sizes, IsPlaced, IsTree, IsLowered, IsPassedOn};
 
@@ -55,7 +56,7 @@ fn place_row<C: Costs>(
     requires placed { IsPlaced (sizes (C.cost costs.now)) (C.column_count costs.now) falls.old column_of.old.items }
     requires more { length column_of.old.items < C.row_count costs.now }
     requires enough { C.row_count costs.now ≤ C.column_count costs.now }
-    requires few { length column_of.old.items < 2 ^ 32 }
+    requires few { length column_of.old.items < PLACES }
     ensures placed { OnOk result (IsPlaced (sizes (C.cost costs.now)) (C.column_count costs.now) falls.new column_of.new.items) }
     ensures longer { OnOk result (length column_of.new.items ≡ length column_of.old.items + 1) }
 {

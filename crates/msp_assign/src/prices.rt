@@ -1,5 +1,6 @@
 // The prices of the rows and the columns.
 ghost use Rattle.std.specs.Prelude.{◌≡◌, ◌<◌, ◌≤◌, ◌^◌, ℕ, All, IfOk, length};
+ghost use Rattle.msp_class.specs.declared.list.TheConstants.{PLACES};
 ghost use Rattle.msp_assign.specs.Prices.{HasCosts};
 ghost use Rattle.msp_assign.specs.Search.{at, sizes, IsRowPrices, IsColumnPrices};
 
@@ -19,7 +20,7 @@ pub fn row_prices<C: Costs>(
     requires falls { length falls.now ≡ C.column_count costs.now }
     requires low { (c : ℕ) → c < C.column_count costs.now → at falls.now c ≤ 2 ^ 100 }
     requires rows { length column_of.now ≡ C.row_count costs.now }
-    requires few { length column_of.now < 2 ^ 32 }
+    requires few { length column_of.now < PLACES }
     requires inside { All (λ c. c < C.column_count costs.now) column_of.now }
     ensures { IfOk result (λ prices. IsRowPrices (sizes (C.cost costs.now)) falls.now column_of.now prices) }
 {

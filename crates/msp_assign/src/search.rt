@@ -1,5 +1,6 @@
 // The search for a free column for one more row.
 ghost use Rattle.std.specs.Prelude.{◌≡◌, ◌+◌, ◌<◌, ◌≤◌, ◌^◌, ℕ, All, Contains, IfOk, OnOk, false, length};
+ghost use Rattle.msp_class.specs.declared.list.TheConstants.{PLACES};
 ghost use Rattle.msp_assign.specs.Prices.{HasCosts};
 ghost use Rattle.msp_assign.specs.Search.{at, is_in, sizes, paid, unsettled, IsPlaced, IsOwners, IsTree, IsSearch, IsNearest, IsRelaxed, IsRelaxedOnce, IsShortened, HasEdges};
 
@@ -25,7 +26,7 @@ pub fn owners(
     columns: u32,
     column_of: &[u32],
 ) -> Result<Vec<Option<u32>>, AllocError>
-    requires few { length column_of.now < 2 ^ 32 }
+    requires few { length column_of.now < PLACES }
     requires inside { All (λ c. c < columns) column_of.now }
     ensures { IfOk result (λ owner. IsOwners columns column_of.now owner.items) }
 {
@@ -157,7 +158,7 @@ fn begun<C: Costs>(
     requires costs { HasCosts (C.row_count costs.now) (C.column_count costs.now) (C.cost costs.now) }
     requires placed { IsPlaced (sizes (C.cost costs.now)) (C.column_count costs.now) falls.now column_of.now }
     requires more { length column_of.now < C.row_count costs.now }
-    requires few { length column_of.now < 2 ^ 32 }
+    requires few { length column_of.now < PLACES }
     requires some { 1 ≤ C.column_count costs.now }
     ensures search { IfOk result (λ s. IsSearch (sizes (C.cost costs.now)) (C.column_count costs.now) falls.now column_of.now s.distance.items s.from.items s.settled.items s.tree.items) }
     ensures nearest { IfOk result (λ s. IsNearest (C.column_count costs.now) s.distance.items s.settled.items s.nearest) }
@@ -244,7 +245,7 @@ pub fn find_free<C: Costs>(
     requires placed { IsPlaced (sizes (C.cost costs.now)) (C.column_count costs.now) falls.now column_of.now }
     requires more { length column_of.now < C.row_count costs.now }
     requires enough { C.row_count costs.now ≤ C.column_count costs.now }
-    requires few { length column_of.now < 2 ^ 32 }
+    requires few { length column_of.now < PLACES }
     requires owner { IsOwners (C.column_count costs.now) column_of.now owner.now }
     ensures search { IfOk result (λ s. IsSearch (sizes (C.cost costs.now)) (C.column_count costs.now) falls.now column_of.now s.distance.items s.from.items s.settled.items s.tree.items) }
     ensures nearest { IfOk result (λ s. IsNearest (C.column_count costs.now) s.distance.items s.settled.items s.nearest) }

@@ -18,7 +18,7 @@ pub use environments::{
     EnvKind, MOST_OPERATIONS, MOST_SHORT_OPERATIONS, env_kind, fixed_machines, is_mirror, is_shop,
     most_operations,
 };
-pub use list::List;
+pub use list::{List, PLACES};
 pub use orders::turned;
 pub use ranks::{CLASSES, rank, unrank};
 

@@ -6,6 +6,9 @@ use std::alloc::Global;
 use std::marker::Model;
 use std::mem;
 
+/// So many places a `u32` tells apart. A text that is read has fewer bytes, a list that is numbered fewer items.
+pub const PLACES: usize = 1 << 32;
+
 /// A list that keeps the order of its items. Contracts see it as that list.
 #[derive(Drop)]
 pub struct List<T> {

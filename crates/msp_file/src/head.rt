@@ -1,5 +1,6 @@
 // The lines before those of the jobs.
-ghost use Rattle.std.specs.Prelude.{◌≡◌, ◌+◌, ◌++◌, ◌∷◌, ◌<◌, ◌≤◌, ◌^◌, [], ℕ, List as Items, length, All, IfOk, OnOk, MatchResult};
+ghost use Rattle.std.specs.Prelude.{◌≡◌, ◌+◌, ◌++◌, ◌∷◌, ◌<◌, ◌≤◌, [], ℕ, List as Items, length, All, IfOk, OnOk, MatchResult};
+ghost use Rattle.msp_class.specs.declared.list.TheConstants.{PLACES};
 ghost use Rattle.msp_instance.specs.declared.ranges.TheConstants.{GREATEST_SPEED};
 ghost use Rattle.msp_file.specs.Answers.{Fails, Gives};
 ghost use Rattle.msp_file.specs.Reading.{fields_of, version_at, class_in, class_at, number_line_at, machines_line_at, machines_at, speeds_in, speeds_line_at, speeds_at, time_line_at, time_at};
@@ -30,7 +31,7 @@ pub(crate) fn version_at(lines: &mut Lines<'_>) -> Result<(), FileFault>
 
 /// The class of a line.
 fn class_in(at: u32, line: &[u8]) -> Result<Class, FileFault>
-    requires { length line.now < 2 ^ 32 }
+    requires { length line.now < PLACES }
     ensures { result ≡ class_in at (fields_of line.now) }
 {
     let (word, rest) = split_word(line);

@@ -1,6 +1,7 @@
 // The line of a job.
-ghost use Rattle.std.specs.Prelude.{◌≡◌, All, IsTrue, ◌+◌, ◌<◌, ◌≤◌, ◌^◌, length, true, false, bytes_eq, IfOk};
+ghost use Rattle.std.specs.Prelude.{◌≡◌, All, IsTrue, ◌+◌, ◌<◌, ◌≤◌, length, true, false, bytes_eq, IfOk};
 ghost use Rattle.std.specs.List.{list_any};
+ghost use Rattle.msp_class.specs.declared.list.TheConstants.{PLACES};
 ghost use Rattle.msp_class.specs.Rank.{flag_number};
 ghost use Rattle.msp_instance.specs.declared.ranges.TheConstants.{GREATEST};
 ghost use Rattle.msp_job_name.specs.JobName.{is_name_byte};
@@ -55,7 +56,7 @@ pub(crate) fn job_name_at(at: u32, bytes: &[u8]) -> Result<JobName, FileFault>
 /// The number of the job of a name, from 0.
 #[tactic(auto, unfolding(crate::specs::Reading::known_at))]
 pub(crate) fn known_at(at: u32, names: &Names, bytes: &[u8]) -> Result<u32, FileFault>
-    requires { length names.now < 2 ^ 32 }
+    requires { length names.now < PLACES }
     ensures { result ≡ known_at at names.now bytes.now }
 {
     let name = job_name_at(at, bytes)?;

@@ -1,6 +1,7 @@
 // Lines and fields.
-ghost use Rattle.std.specs.Prelude.{◌≡◌, ◌+◌, ◌∷◌, ◌<◌, ◌≤◌, ◌^◌, length, position, count_by, ◌==◌, IfOk, OnOk};
+ghost use Rattle.std.specs.Prelude.{◌≡◌, ◌+◌, ◌∷◌, ◌<◌, ◌≤◌, length, position, count_by, ◌==◌, IfOk, OnOk};
 ghost use Rattle.std.specs.List.{slice_split};
+ghost use Rattle.msp_class.specs.declared.list.TheConstants.{PLACES};
 ghost use Rattle.msp_file.specs.Reading.{line_at, worded_at, fields_of, first_of, others_of};
 ghost use Rattle.msp_file.specs.Steps.{Moves, place_of, parts_after, fields_after};
 
@@ -24,7 +25,7 @@ fn count_spaces(bytes: &[u8]) -> usize
 #[tactic(auto, unfolding(crate::specs::Reading::line_at), using(std::proofs::lemmas::List::take_rest))]
 pub(crate) fn line_at<'a>(lines: &mut Lines<'a>) -> Result<&'a [u8], FileFault>
     ensures moves { Moves (λ line. line.now) result (place_of lines.new) (line_at (place_of lines.old)) }
-    ensures short { IfOk result (λ line. length line.now < 2 ^ 32) }
+    ensures short { IfOk result (λ line. length line.now < PLACES) }
     ensures shrinks { OnOk result (length lines.new.rest.now < length lines.old.rest.now) }
 {
     let at = lines.at;
@@ -94,7 +95,7 @@ pub(crate) fn count_fields(rest: &[u8]) -> usize
 #[tactic(auto, unfolding(crate::specs::Reading::worded_at))]
 pub(crate) fn worded_at<'a>(lines: &mut Lines<'a>, word: &[u8]) -> Result<&'a [u8], FileFault>
     ensures moves { Moves (λ rest. fields_after rest.now) result (place_of lines.new) (worded_at word.now (place_of lines.old)) }
-    ensures short { IfOk result (λ rest. length rest.now < 2 ^ 32) }
+    ensures short { IfOk result (λ rest. length rest.now < PLACES) }
     ensures shrinks { OnOk result (length lines.new.rest.now ≤ length lines.old.rest.now) }
 {
     let at = lines.at;

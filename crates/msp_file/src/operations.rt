@@ -1,6 +1,7 @@
 // The lines of a job's operations.
 ghost use Rattle.std.specs.Prelude.{◌≡◌, ◌+◌, ◌<◌, ◌≤◌, ◌^◌, [], length, map, IfOk, OnOk, MatchResult};
 ghost use Rattle.std.specs.List.{range_with_len};
+ghost use Rattle.msp_class.specs.declared.list.TheConstants.{PLACES};
 ghost use Rattle.msp_class.specs.Env.{kind_of};
 ghost use Rattle.msp_file.specs.Answers.{Gives};
 ghost use Rattle.msp_file.specs.Reading.{natural_at, machine_at, with_need, times_at, timed_route_at, machine_route_at, operations_at, operations_in, fields_in, is_route_count, times_line_at, route_line_at, unwritten_needs, needs_at};
@@ -34,7 +35,7 @@ fn take_time<'a>(
     rest: &'a [u8],
 ) -> Result<&'a [u8], FileFault>
     requires some { 0 < length rest.now }
-    requires few { length needs.old < 2 ^ 32 }
+    requires few { length needs.old < PLACES }
     ensures leads { Leads (λ more. times_at at least needs.new (fields_after more.now)) result (times_at at least needs.old (fields_after rest.now)) }
     ensures more { IfOk result (λ more. (length needs.new ≡ length needs.old + 1) × (length more.now < length rest.now)) }
 {
@@ -52,7 +53,7 @@ fn take_time<'a>(
 /// One time for each machine in order.
 #[tactic(auto, unfolding(crate::specs::Reading::times_at))]
 fn times_at(alloc: Global, at: u32, least: u64, fields: &[u8]) -> Result<List<Need>, FileFault>
-    requires { length fields.now < 2 ^ 32 }
+    requires { length fields.now < PLACES }
     ensures { Gives (λ x. x) result (times_at at least [] (fields_after fields.now)) }
 {
     let mut needs = List::new(alloc);

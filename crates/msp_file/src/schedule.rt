@@ -1,5 +1,6 @@
 // The reader of schedule texts.
-ghost use Rattle.std.specs.Prelude.{◌≡◌, ◌<◌, ◌≤◌, ◌^◌, ◌++◌, ◌∷◌, [], length, All, OnOk, IfOk, IfErr, MatchResult, Ok, ℤ};
+ghost use Rattle.std.specs.Prelude.{◌≡◌, ◌<◌, ◌≤◌, ◌++◌, ◌∷◌, [], length, All, OnOk, IfOk, IfErr, MatchResult, Ok, ℤ};
+ghost use Rattle.msp_class.specs.declared.list.TheConstants.{PLACES};
 ghost use Rattle.msp_text.specs.Numbers.{capped};
 ghost use Rattle.msp_schedule.specs.declared.Schedule.{Schedule as ScheduleValue};
 ghost use Rattle.msp_schedule.specs.declared.Frac.{Frac as FracValue};
@@ -193,7 +194,7 @@ fn place_at(at: u32, fields: &[u8]) -> Result<(u32, u32, &[u8]), FileFault>
 /// A piece of one of the named jobs.
 #[tactic(auto, unfolding(crate::specs::ScheduleReading::piece_at))]
 fn piece_at(at: u32, names: &Names, fields: &[u8]) -> Result<Piece, FileFault>
-    requires { length names.now < 2 ^ 32 }
+    requires { length names.now < PLACES }
     ensures { Gives (λ p. p) result (piece_at names.now at (fields_after fields.now)) }
 {
     let (first, others) = next_field(fields);
@@ -223,7 +224,7 @@ fn piece_line_at(
     pieces: &mut List<Piece>,
     fields: &[u8],
 ) -> Result<(), FileFault>
-    requires { length names.now < 2 ^ 32 }
+    requires { length names.now < PLACES }
     ensures { Gives (λ _. pieces.new) result (piece_line_at names.now at pieces.old (fields_after fields.now)) }
 {
     if pieces.len() >= MOST_PIECES {
@@ -251,7 +252,7 @@ fn piece_step(
     pieces: &mut List<Piece>,
     lines: &mut Lines<'_>,
 ) -> Result<bool, FileFault>
-    requires { length names.now < 2 ^ 32 }
+    requires { length names.now < PLACES }
     ensures after { AfterLine (piece_step names.now) result pieces.old (place_of lines.old) pieces.new (place_of lines.new) }
     ensures shrinks { OnOk result (length lines.new.rest.now < length lines.old.rest.now) }
 {
@@ -268,7 +269,7 @@ fn piece_step(
 
 /// Reads the lines after the unit, up to the last one.
 fn pieces_at(alloc: Global, names: &Names, lines: &mut Lines<'_>) -> Result<List<Piece>, FileFault>
-    requires { length names.now < 2 ^ 32 }
+    requires { length names.now < PLACES }
     ensures { MovesBy (λ x. x) result (place_of lines.new) (ReadsMore (piece_step names.now) [] (place_of lines.old)) }
 {
     let mut pieces = List::new(alloc);
@@ -284,7 +285,7 @@ fn pieces_at(alloc: Global, names: &Names, lines: &mut Lines<'_>) -> Result<List
 /// Reads the lines of one schedule.
 #[tactic(auto, unfolding(crate::specs::ScheduleReading::ReadsStated), using(crate::proofs::Readings::then_rules, crate::proofs::Readings::pieces_rules))]
 fn stated_at(alloc: Global, names: &Names, lines: &mut Lines<'_>) -> Result<Stated, FileFault>
-    requires { length names.now < 2 ^ 32 }
+    requires { length names.now < PLACES }
     ensures { MovesBy (λ s. s) result (place_of lines.new) (ReadsStated names.now (place_of lines.old)) }
 {
     title_at(lines)?;
@@ -302,7 +303,7 @@ fn stated_at(alloc: Global, names: &Names, lines: &mut Lines<'_>) -> Result<Stat
 /// Reads the lines of a text, which are those of one schedule and no more.
 #[tactic(auto, using(crate::proofs::Readings::whole_rules))]
 fn schedule_at(alloc: Global, names: &Names, bytes: &[u8], line: u32) -> Result<Stated, FileFault>
-    requires names { length names.now < 2 ^ 32 }
+    requires names { length names.now < PLACES }
     requires bytes { length bytes.now ≤ MOST_BYTES }
     requires line { line ≤ LAST_LINE }
     ensures { GivesBy result (ReadsSchedule names.now line bytes.now) }

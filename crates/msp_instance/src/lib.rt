@@ -21,7 +21,7 @@ pub use ranges::{
     MOST_MACHINES, MOST_STEPS,
 };
 pub use sequence::{OrderFault, forward};
-pub use speeds::has_small_multiple;
+pub use speeds::{common_multiple, has_small_multiple};
 
 /// An operation that a job needs: its machine, from 0, and its processing time.
 ///

@@ -1,7 +1,8 @@
 // An order of the jobs in which every arc goes forward, or the least job on a cycle.
-ghost use Rattle.std.specs.Prelude.{◌≡◌, ℕ, ◌+◌, ◌-◌, ◌<◌, ◌≤◌, ◌^◌, ◌==◌, ◌++◌, length, IfOk, IfErr, OnOk, IsTrue, ◌↔◌, All, Contains, true, false, slice_index, slice_index_or, slice_set, take, filter, [], ◌∷◌, if◌then◌else◌};
+ghost use Rattle.std.specs.Prelude.{◌≡◌, ℕ, ◌+◌, ◌-◌, ◌<◌, ◌≤◌, ◌==◌, ◌++◌, length, IfOk, IfErr, OnOk, IsTrue, ◌↔◌, All, Contains, true, false, slice_index, slice_index_or, slice_set, take, filter, [], ◌∷◌, if◌then◌else◌};
 ghost use Rattle.std.specs.List.{range_with_len};
 ghost use Rattle.std.specs.List.Sorted.{IsPermutation, IsNonDecreasingBy};
+ghost use Rattle.msp_class.specs.declared.list.TheConstants.{PLACES};
 ghost use Rattle.msp_instance.specs.Conditions.{entering, IsSequence, GoesForward};
 ghost use Rattle.msp_instance.specs.Paths.{HasPath, IsLeastOnCycle, IsOrderFault};
 ghost use Rattle.msp_instance.specs.Listing.{IsListing, IsLongestOrder, IsMet};
@@ -65,7 +66,7 @@ fn entering_counts(alloc: Global, jobs: usize, arcs: &[Arc]) -> Result<Vec<usize
 
 /// The jobs that no arc enters.
 fn free_jobs(alloc: Global, entering: &[usize]) -> Result<Vec<u32>, AllocError>
-    requires { length entering.now < 2 ^ 32 }
+    requires { length entering.now < PLACES }
     ensures { IfOk result (λ free. free.items ≡ filter (λ k. slice_index entering.now k == 0) (range_with_len 0 (length entering.now))) }
 {
     let mut free = Vec::new(alloc);
@@ -110,7 +111,7 @@ fn release(counts: &mut [usize], order: &mut Vec<u32>, leaving: &[Arc]) -> Resul
 /// The jobs in an order in which every arc goes forward, as far as there is one: a job is listed once every arc into it comes from a
 /// job before it (Kahn 1962).
 fn longest_order(alloc: Global, jobs: usize, sorted: &[Arc]) -> Result<Vec<u32>, AllocError>
-    requires few { jobs < 2 ^ 32 }
+    requires few { jobs < PLACES }
     requires sorted { IsNonDecreasingBy (λ a. a.before) sorted.now }
     requires ends { All (λ a. (a.before < jobs) × (a.after < jobs)) sorted.now }
     ensures { IfOk result (λ order. IsLongestOrder sorted.now jobs order.items) }
@@ -183,7 +184,7 @@ fn leads_to_itself(
 
 /// The least job from which a path of arcs leads to itself.
 fn least_on_cycle(alloc: Global, jobs: usize, sorted: &[Arc]) -> Result<u32, AllocError>
-    requires few { jobs < 2 ^ 32 }
+    requires few { jobs < PLACES }
     requires sorted { IsNonDecreasingBy (λ a. a.before) sorted.now }
     requires ends { All (λ a. (a.before < jobs) × (a.after < jobs)) sorted.now }
     requires some { (j : ℕ) × (j < jobs) × HasPath sorted.now j j }
@@ -202,7 +203,7 @@ fn least_on_cycle(alloc: Global, jobs: usize, sorted: &[Arc]) -> Result<u32, All
 /// It takes time linear in the jobs and arcs, up to sorting the arcs. Where there is a cycle, the search for the least job on one
 /// takes as long again for each job.
 pub fn forward(alloc: Global, inst: &Instance) -> Result<List<u32>, OrderFault>
-    requires few { length inst.now.jobs < 2 ^ 32 }
+    requires few { length inst.now.jobs < PLACES }
     requires ends { All (λ a. (a.before < length inst.now.jobs) × (a.after < length inst.now.jobs)) inst.now.arcs }
     ensures sequence { IfOk result (IsSequence inst.now) }
     ensures forward { IfOk result (λ order. All (GoesForward order) inst.now.arcs) }

@@ -1,6 +1,7 @@
 // The conditions of a class on speeds.
-ghost use Rattle.std.specs.Prelude.{◌≡◌, ℕ, ◌*◌, ◌<◌, ◌≤◌, ◌^◌, ◌↔◌, IsTrue, All};
+ghost use Rattle.std.specs.Prelude.{◌≡◌, ℕ, ◌*◌, ◌<◌, ◌≤◌, ◌↔◌, IsTrue, All};
 ghost use Rattle.msp_class.specs.Env.{kind_of};
+ghost use Rattle.msp_instance.specs.declared.ranges.TheConstants.{GREATEST_MULTIPLE, GREATEST_SPEED};
 ghost use Rattle.msp_instance.specs.Conditions.{HasSpeeds, HasSmallMultiple};
 ghost use Rattle.msp_instance.specs.Multiples.{IsGreatestDivisor, IsLeastMultiple};
 
@@ -21,10 +22,10 @@ fn gcd(a: u64, b: u64) -> u64
     x
 }
 
-/// The least common multiple.
-fn common_multiple(a: u64, b: u64) -> u64
-    requires a { (1 ≤ a) × (a ≤ 2 ^ 30) }
-    requires b { (1 ≤ b) × (b ≤ 10 ^ 6) }
+/// The least common multiple of two numbers.
+pub fn common_multiple(a: u64, b: u64) -> u64
+    requires a { (1 ≤ a) × (a ≤ GREATEST_MULTIPLE) }
+    requires b { (1 ≤ b) × (b ≤ GREATEST_SPEED) }
     ensures least { IsLeastMultiple a b result }
     ensures some { 1 ≤ result }
 {
@@ -48,9 +49,9 @@ pub(crate) fn has_speeds(env: Env, machines: u32, speeds: &[u64]) -> bool
     }
 }
 
-/// Whether the least common multiple of the speeds is at most 2^30.
+/// Whether the least common multiple of the speeds is at most `GREATEST_MULTIPLE`.
 pub fn has_small_multiple(speeds: &[u64]) -> bool
-    requires { All (λ s. (1 ≤ s) × (s ≤ 10 ^ 6)) speeds.now }
+    requires { All (λ s. (1 ≤ s) × (s ≤ GREATEST_SPEED)) speeds.now }
     ensures { IsTrue result ↔ HasSmallMultiple speeds.now }
 {
     let mut multiple = 1;

@@ -21,7 +21,7 @@ pub use memory_source::{MemorySource, SureSource};
 pub use sink::Sink;
 pub use source::{Failed, Source};
 pub use std_io::{StdSink, StdSource};
-pub use whole::{Taken, WriteFault, read_all, write_all};
+pub use whole::{GREATEST_LIMIT, Taken, WriteFault, read_all, write_all};
 
 #[cfg(test)]
 mod tests;

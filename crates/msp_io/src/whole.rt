@@ -1,11 +1,15 @@
 // Whole reads and whole writes.
-ghost use Rattle.std.specs.Prelude.{◌<◌, ◌≤◌, ◌^◌, ℕ, List, length, IfOk, IfErr, OnOk, IsErrOf};
+ghost use Rattle.std.specs.Prelude.{◌<◌, ◌≤◌, ℕ, List, length, IfOk, IfErr, OnOk, IsErrOf};
 ghost use Rattle.std.specs.Io.KnownBytes.{Consumes, IsAtEnd};
 ghost use Rattle.msp_io.specs.Faults.{Rose};
 ghost use Rattle.msp_io.specs.Whole.{IsStop, Puts};
+ghost use Rattle.msp_io.specs.declared.whole.TheConstants.{GREATEST_LIMIT};
 
 use crate::{Failed, Sink, Source};
 use std::alloc::Global;
+
+/// The greatest limit of a whole read, in bytes.
+pub const GREATEST_LIMIT: u64 = 4_294_967_295;
 
 const CHUNK: usize = 4096;
 
@@ -32,7 +36,7 @@ pub struct WriteFault;
 /// `limit` was taken, and then nothing more is read. `Memory` comes where memory runs out. In each case what was
 /// taken is lost.
 pub fn read_all<S: Source>(alloc: Global, source: &mut S, limit: u64) -> Result<Vec<u8>, Taken>
-    requires { limit < 2 ^ 32 }
+    requires { limit ≤ GREATEST_LIMIT }
 
     // All that was left, to the end.
     ensures all { IfOk result (λ all. Consumes (S.seen source.old).left (S.seen source.new).left all.items) }
@@ -56,7 +60,7 @@ fn read_by<S: Source>(
     limit: u64,
     chunk: &mut [u8],
 ) -> Result<Vec<u8>, Taken>
-    requires limit { limit < 2 ^ 32 }
+    requires limit { limit ≤ GREATEST_LIMIT }
     requires room { 0 < length chunk.old }
     ensures all { IfOk result (λ all. Consumes (S.seen source.old).left (S.seen source.new).left all.items) }
     ensures end { OnOk result (IsAtEnd (S.seen source.new).left) }

@@ -1,5 +1,5 @@
 // The rows to unrelated machines.
-ghost use Rattle.std.specs.Prelude.{◌≡◌, ℕ, ◌*◌, ◌/◌, ◌^◌, ◌<◌, ◌≤◌, IfOk, map, length, slice_index_or, All, pos, ◌*ℤ◌, ◌≤ℤ◌};
+ghost use Rattle.std.specs.Prelude.{◌≡◌, ℕ, ◌*◌, ◌/◌, ◌≤◌, IfOk, map, length, slice_index_or, All, pos, ◌*ℤ◌, ◌≤ℤ◌};
 ghost use Rattle.msp_instance.specs.declared.ranges.TheConstants.{GREATEST, GREATEST_MULTIPLE, GREATEST_SPEED, MOST_MACHINES};
 ghost use Rattle.msp_instance.specs.Conditions.{HasSmallMultiple, LiesWithin, Inner};
 ghost use Rattle.msp_class.specs.declared.environments.EnvKind.TheVariants.{Uniform};
@@ -8,7 +8,6 @@ ghost use Rattle.msp_schedule.specs.declared.limits.TheConstants.{GREATEST_CARRI
 ghost use Rattle.msp_schedule.specs.Feasible.{Feasible};
 ghost use Rattle.msp_schedule.specs.Within.{Within};
 ghost use Rattle.msp_schedule.specs.Cost.{IsSolution};
-ghost use Rattle.msp_instance.specs.Multiples.{IsGreatestDivisor, IsLeastMultiple};
 ghost use Rattle.msp_route.specs.Law.{Applies};
 ghost use Rattle.msp_route.specs.Changes.{same_costs};
 ghost use Rattle.msp_route.proofs.Alike.{IsPositive-same};
@@ -19,7 +18,7 @@ ghost use Rattle.msp_machines.specs.OnEach.{serves_23, serves_24};
 ghost use Rattle.msp_machines.specs.Served.{IsForth-served, IsBack-served};
 
 use msp_class::{List, NoMemory};
-use msp_instance::{Curve, Instance, Job, Need, Step};
+use msp_instance::{Curve, Instance, Job, Need, Step, common_multiple};
 use msp_route::{Reduction, led};
 use msp_schedule::{Schedule, Solution, cost};
 use msp_table::Row;
@@ -155,30 +154,6 @@ impl Reduction for Row24 {
     ghost back_is = { λ self i s inner applies. IsBack-served (serves_24 i inner applies) inner s };
 }
 
-/// The greatest common divisor (Euclid).
-fn gcd(a: u64, b: u64) -> u64
-    ensures { IsGreatestDivisor a b result }
-{
-    let mut x = a;
-    let mut y = b;
-    while y != 0 {
-        let rest = x % y;
-        x = y;
-        y = rest;
-    }
-    x
-}
-
-/// The least common multiple of two numbers.
-fn common_multiple(a: u64, b: u64) -> u64
-    requires a { (1 ≤ a) × (a ≤ GREATEST_MULTIPLE) }
-    requires b { (1 ≤ b) × (b ≤ GREATEST_SPEED) }
-    ensures least { IsLeastMultiple a b result }
-    ensures some { 1 ≤ result }
-{
-    a / gcd(a, b) * b
-}
-
 /// The least common multiple of all speeds.
 fn least_common_multiple(speeds: &[u64]) -> u64
     requires speeds { All (λ s. (1 ≤ s) × (s ≤ GREATEST_SPEED)) speeds.now }
@@ -194,8 +169,8 @@ fn least_common_multiple(speeds: &[u64]) -> u64
 }
 
 fn product(a: u64, b: u64) -> u64
-    requires a { a < 2 ^ 31 }
-    requires b { b < 2 ^ 31 }
+    requires a { a ≤ GREATEST }
+    requires b { b ≤ GREATEST_MULTIPLE }
     ensures { result ≡ a * b }
 {
     a * b

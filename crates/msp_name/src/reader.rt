@@ -1,5 +1,6 @@
 // How a name is read: part by part, from the left, up to the first fault.
-ghost use Rattle.std.specs.Prelude.{◌≡◌, ℕ, ◌+◌, ◌<◌, ◌^◌, ◌∷◌, [], length, MatchOption, Ok, ◌↔◌, position, ◌==◌};
+ghost use Rattle.std.specs.Prelude.{◌≡◌, ℕ, ◌+◌, ◌<◌, ◌∷◌, [], length, MatchOption, Ok, ◌↔◌, position, ◌==◌};
+ghost use Rattle.msp_class.specs.declared.list.TheConstants.{PLACES};
 ghost use Rattle.msp_class.specs.declared.class.Class.{Class};
 ghost use Rattle.msp_name.specs.Items.{bare, has_item, with_item, with_order, with_short, with_times};
 ghost use Rattle.msp_name.specs.Names.{comma, NameOf};
@@ -118,7 +119,7 @@ fn add_item(class: Class, word: &[u8], at: u32) -> Result<Class, NameFault>
 
 /// The class with the items of a text that is not empty, whose first byte has the place `at`.
 fn add_items(class: Class, text: &[u8], at: u32) -> Result<Class, NameFault>
-    requires { at + length text.now < 2 ^ 32 }
+    requires { at + length text.now < PLACES }
     ensures { result ≡ items_read at class (parts comma text.now) }
 {
     let mut class = class;
@@ -137,7 +138,7 @@ fn add_items(class: Class, text: &[u8], at: u32) -> Result<Class, NameFault>
 
 /// The class of an environment and the items of a text, whose first byte has the place `at`.
 fn read_items(env: Env, text: &[u8], at: u32) -> Result<Class, NameFault>
-    requires { at + length text.now < 2 ^ 32 }
+    requires { at + length text.now < PLACES }
     ensures { result ≡ items_read at (bare env) (words text.now) }
 {
     let class = Class {
@@ -157,7 +158,7 @@ fn read_items(env: Env, text: &[u8], at: u32) -> Result<Class, NameFault>
 /// The class of the three texts round the bars.
 #[tactic(auto, unfolding(crate::specs::Reading::fields_read))]
 fn read_fields(env: &[u8], items: &[u8], crit: &[u8]) -> Result<Class, NameFault>
-    requires { length env.now + length items.now + 2 < 2 ^ 32 }
+    requires { length env.now + length items.now + 2 < PLACES }
     ensures { result ≡ fields_read env.now items.now crit.now }
 {
     let Some(machines) = read_env(env) else {
@@ -179,7 +180,7 @@ fn read_fields(env: &[u8], items: &[u8], crit: &[u8]) -> Result<Class, NameFault
 /// The class of a name, cut at its bars.
 #[tactic(auto, using(crate::proofs::Bars::bar_rules))]
 fn read_name(bytes: &[u8]) -> Result<Class, NameFault>
-    requires { length bytes.now < 2 ^ 32 }
+    requires { length bytes.now < PLACES }
     ensures { result ≡ reading_of bytes.now }
 {
     let Some((env, rest)) = cut(bytes, b'|') else {
@@ -199,7 +200,7 @@ fn read_name(bytes: &[u8]) -> Result<Class, NameFault>
 /// The items stand in any order, with one comma between neighbours. The fault is the first in the order bars, environment, items from
 /// left to right, criterion.
 pub fn parse(bytes: &[u8]) -> Result<Class, NameFault>
-    requires { length bytes.now < 2 ^ 32 }
+    requires { length bytes.now < PLACES }
     ensures ok { (c : Class) → (result ≡ Ok c) ↔ NameOf bytes.now c }
 
     // The fault is the first that reading from the left comes to.

@@ -3,6 +3,7 @@ use Rattle.std.proofs.Common.{◌≡◌, ℕ, ◌+◌, ◌≤◌, ◌<◌, ◌^�
 use Rattle.std.specs.Prelude.{IsSomeAnd}
 use Rattle.std.specs.List.{AllByRecursion}
 use Rattle.std.proofs.lemmas.List.Elements.{All-from_recursion}
+use Rattle.msp_class.specs.declared.list.TheConstants.{PLACES}
 use Rattle.msp_results.specs.declared.limits.TheConstants.{LONGEST_FILE}
 use Rattle.csv.specs.Machine.{Read, next_record, step, is_end, fields_after, field_after, ends_at_end}
 use Rattle.csv.specs.Reading.{Ready, ReadRecord, Reached, default_config, records_from, records_next, reader_config, reader_trim, names_headers, reader_headers, strip_bom, is_bom}
@@ -127,7 +128,7 @@ row_goes a b f xs z p ready config trim at_a few next fields state left at_b =
     let none : bytes_in [] ≡ 0 = bytes_in-nil in
     let tail : rows_from p.1 p.2 ≡ rows_left b = rw (state, left, at_b) refl in
     let rest = ap length left in
-    let all : All (λ g. length g < 2 ^ 32) p.0 = All-from_recursion (λ g. length g < 2 ^ 32) p.0 (short_fields (2 ^ 32) p.0 (omega arith)) in
+    let all : All (λ g. length g < PLACES) p.0 = All-from_recursion (λ g. length g < PLACES) p.0 (short_fields PLACES p.0 (omega arith)) in
     let fits : length z ≤ LONGEST_FILE = omega arith in (
       ap (λ o. rows_in a.state o) at_a ∙ rows_from-more a.state xs p next ∙ ap (λ t. p.0 ∷ t) tail ∙ ap (λ t. t ∷ rows_left b) (sym fields),
       record { config = config; trim = trim; ready = ready; known = subst IsFew (sym at_b) fits },

@@ -1,5 +1,6 @@
 -- The records that a reader of CSV has still to give. No public contract cites this file.
-use Rattle.std.specs.Prelude.{◌≡◌, ◌≤◌, ℕ, ◌+◌, ◌<◌, ◌^◌, List, [], ◌∷◌, length, Option, Some, None, All, IsSomeAnd, Bool, true, false}
+use Rattle.std.specs.Prelude.{◌≡◌, ◌≤◌, ℕ, ◌+◌, ◌<◌, List, [], ◌∷◌, length, Option, Some, None, All, IsSomeAnd, Bool, true, false}
+use Rattle.msp_class.specs.declared.list.TheConstants.{PLACES}
 use Rattle.msp_results.specs.declared.limits.TheConstants.{LONGEST_FILE}
 use Rattle.csv.specs.Reading.{Ready, default_config, records_from, source_of, reader_config, reader_trim, reader_state}
 use Rattle.csv.specs.declared.parser.State.{State}
@@ -32,7 +33,7 @@ pub record IsReading (r : Reader (Bor (List ℕ))) : Type 0 where
 
 -- no field is as long as a place in a name can tell
 abbrev pub AreShort : List (List ℕ) → Type 0
-AreShort fields = All (λ f. length f < 2 ^ 32) fields
+AreShort fields = All (λ f. length f < PLACES) fields
 
 -- what a read gives: the next record, or that there is none
 abbrev pub NextRow : Bool → Reader (Bor (List ℕ)) → List (List ℕ) → Reader (Bor (List ℕ)) → Type 0

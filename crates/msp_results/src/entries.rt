@@ -1,8 +1,9 @@
 // The fields of one record.
-ghost use Rattle.std.specs.Prelude.{◌≡◌, ◌<◌, ◌^◌, ◌⊎◌, length, Err, option_map};
+ghost use Rattle.std.specs.Prelude.{◌≡◌, ◌<◌, ◌⊎◌, length, Err, option_map};
 ghost use Rattle.csv.specs.Records.{fields_of};
 ghost use Rattle.std.specs.List.{list_all};
 ghost use Rattle.std.specs.Str.{is_utf8};
+ghost use Rattle.msp_class.specs.declared.list.TheConstants.{PLACES};
 ghost use Rattle.msp_results.specs.Reading.{column_read, fields_read, is_plain, is_printable, row_read, three_of, verdict_read, version_read, word_read};
 ghost use Rattle.msp_results.specs.Records.{AreShort};
 ghost use Rattle.msp_results.specs.Results.{has_verdict};
@@ -84,7 +85,7 @@ fn read_fields(
     verdict: &[u8],
     source: &[u8],
 ) -> Result<Entry, ResultFault>
-    requires { length name.now < 2 ^ 32 }
+    requires { length name.now < PLACES }
     ensures { (result ≡ Err ResultFault.Memory) ⊎ (result ≡ fields_read version at name.now verdict.now source.now) }
 {
     let class = match parse(name) {

@@ -1,5 +1,6 @@
 // The first operation that is out of its route, and the first that lacks work.
-ghost use Rattle.std.specs.Prelude.{◌≡◌, ℕ, ◌<◌, ◌≤◌, ◌^◌, true, false, length, All, IsTrue, IsNone, IfSome, ◌↔◌};
+ghost use Rattle.std.specs.Prelude.{◌≡◌, ℕ, ◌<◌, ◌≤◌, true, false, length, All, IsTrue, IsNone, IfSome, ◌↔◌};
+ghost use Rattle.msp_class.specs.declared.list.TheConstants.{PLACES};
 ghost use Rattle.msp_class.specs.declared.environments.EnvKind.TheVariants.{Unrelated};
 ghost use Rattle.msp_class.specs.Env.{kind_of};
 ghost use Rattle.msp_instance.specs.Instance.{job_at};
@@ -33,7 +34,7 @@ pub(crate) fn first_unrouted(pieces: &[Piece], job: u32, ops: u32) -> Option<u32
 /// How many needs the job has.
 pub(crate) fn needs_of(inst: &Instance, job: u32) -> u32
     requires job { job < length inst.now.jobs }
-    requires few { length (job_at inst.now job).needs < 2 ^ 32 }
+    requires few { length (job_at inst.now job).needs < PLACES }
     ensures { result ≡ length (job_at inst.now job).needs }
 {
     inst.jobs.as_slice()[job as usize].needs.len() as u32
@@ -41,8 +42,8 @@ pub(crate) fn needs_of(inst: &Instance, job: u32) -> u32
 
 /// The first operation that begins before an earlier one of its job ends.
 pub(crate) fn first_route(inst: &Instance, pieces: &[Piece]) -> Option<(u32, u32)>
-    requires jobs { length inst.now.jobs < 2 ^ 32 }
-    requires needs { (j : ℕ) → j < length inst.now.jobs → length (job_at inst.now j).needs < 2 ^ 32 }
+    requires jobs { length inst.now.jobs < PLACES }
+    requires needs { (j : ℕ) → j < length inst.now.jobs → length (job_at inst.now j).needs < PLACES }
     requires places { All (λ p. p.op < length (job_at inst.now p.job).needs) pieces.now }
     requires moments { All (λ p. IsMoment p.from × IsMoment p.to) pieces.now }
     ensures none { IsNone result → (j o : ℕ) → j < length inst.now.jobs → KeepsRoute pieces.now j o }

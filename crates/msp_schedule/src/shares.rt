@@ -1,6 +1,7 @@
 // The pieces of one job after another, in a list that is sorted by job: routes and work.
-ghost use Rattle.std.specs.Prelude.{◌≡◌, ℕ, ◌<◌, ◌≤◌, ◌^◌, true, length, take, drop, filter, ◌==◌, All, IsPermutation, IsNone, IfOk, IfSome};
+ghost use Rattle.std.specs.Prelude.{◌≡◌, ℕ, ◌<◌, ◌≤◌, true, length, take, drop, filter, ◌==◌, All, IsPermutation, IsNone, IfOk, IfSome};
 ghost use Rattle.std.specs.List.Sorted.{IsNonDecreasingBy};
+ghost use Rattle.msp_class.specs.declared.list.TheConstants.{PLACES};
 ghost use Rattle.msp_class.specs.declared.environments.EnvKind.TheVariants.{Unrelated};
 ghost use Rattle.msp_class.specs.Env.{kind_of};
 ghost use Rattle.msp_instance.specs.declared.ranges.TheConstants.{MOST_JOBS};
@@ -79,7 +80,7 @@ fn unrouted_in(pieces: &[Piece], job: u32, ops: u32) -> Option<u32>
 fn route_in(inst: &Instance, pieces: &[Piece]) -> Option<(u32, u32)>
     requires sorted { IsNonDecreasingBy (λ p. p.job) pieces.now }
     requires jobs { length inst.now.jobs ≤ MOST_JOBS }
-    requires needs { (j : ℕ) → j < length inst.now.jobs → length (job_at inst.now j).needs < 2 ^ 32 }
+    requires needs { (j : ℕ) → j < length inst.now.jobs → length (job_at inst.now j).needs < PLACES }
     requires places { All (λ p. p.op < length (job_at inst.now p.job).needs) pieces.now }
     requires moments { All (λ p. IsMoment p.from × IsMoment p.to) pieces.now }
     ensures none { IsNone result → (j o : ℕ) → j < length inst.now.jobs → KeepsRoute pieces.now j o }

@@ -1,6 +1,7 @@
 -- The words after `trial`.
 use Rattle.std.proofs.Common.{◌≡◌, ℕ, ◌+◌, ◌^◌, ◌<◌, ◌≤◌, Bool, true, false, ◌&&◌, nat_le, List, [], ◌∷◌, length, get_or, map, Option, Some, None, Result, Ok, Err, ℤ, pos, negsuc, if◌then◌else◌, refl, sym, ap, ◌∙◌, subst, arith, inl}
 use Rattle.std.proofs.lemmas.Bool.{lt-ltb, le-leb, leb-true}
+use Rattle.msp_class.specs.declared.list.TheConstants.{PLACES}
 use Rattle.msp_class.specs.declared.class.Class.{Class}
 use Rattle.msp_text.specs.Numbers.{number_of}
 use Rattle.msp_instance.specs.declared.ranges.TheConstants.{MOST_JOBS}
@@ -36,7 +37,7 @@ within_there : (least greatest m : ℕ) → least ≤ m → m ≤ greatest → n
 within_there least greatest m low high =
     ap (λ b. if b && nat_le m greatest then Some m else None) (le-leb least m low) ∙ ap (λ b. if b then Some m else None) (le-leb m greatest high)
 
-pub number_word : (least greatest : ℕ) (word bytes : List ℕ) (r : Option ℕ) (m : ℕ) → length word < 2 ^ 32 → bytes ≡ word → r ≡ number_within least greatest (number_of bytes) → r ≡ Some m → IsNumberWord least greatest word m
+pub number_word : (least greatest : ℕ) (word bytes : List ℕ) (r : Option ℕ) (m : ℕ) → length word < PLACES → bytes ≡ word → r ≡ number_within least greatest (number_of bytes) → r ≡ Some m → IsNumberWord least greatest word m
 number_word least greatest word bytes r m short e reads is =
     let found = within_found least greatest (number_of bytes) m (sym reads ∙ is) in
     record { short = short; spelled = ap number_of (sym e) ∙ found.0; low = found.1; high = found.2 }
@@ -50,9 +51,9 @@ no_number_word least greatest word bytes r e reads is m h =
     none_is_not q = cc
 
 -- the text of a word that is to be a number, where it is short
-pub number_then-short : (place least greatest : ℕ) (word bytes later : List ℕ) (r : Option ℕ) → length word < 2 ^ 32 → bytes ≡ word → r ≡ number_within least greatest (number_of bytes) → number_then place least greatest word later ≡ text_of_number place least greatest r later
+pub number_then-short : (place least greatest : ℕ) (word bytes later : List ℕ) (r : Option ℕ) → length word < PLACES → bytes ≡ word → r ≡ number_within least greatest (number_of bytes) → number_then place least greatest word later ≡ text_of_number place least greatest r later
 number_then-short place least greatest word bytes later r short e reads =
-    ap (λ b. if b then text_of_number place least greatest (number_within least greatest (number_of word)) later else misfit_text) (lt-ltb (length word) (2 ^ 32) short)
+    ap (λ b. if b then text_of_number place least greatest (number_within least greatest (number_of word)) later else misfit_text) (lt-ltb (length word) PLACES short)
     ∙ ap (λ w. text_of_number place least greatest (number_within least greatest (number_of w)) later) (sym e)
     ∙ ap (λ o. text_of_number place least greatest o later) (sym reads)
 

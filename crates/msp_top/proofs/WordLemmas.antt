@@ -6,6 +6,7 @@ use Rattle.std.proofs.Math.Seq.{drop-cons}
 use Rattle.std.proofs.lemmas.List.{get_or-map, take_more, take_all, length-map, length-drop}
 use Rattle.std.proofs.lemmas.Slice.Eq.{bytes_eq-Decides}
 use Rattle.std.proofs.lemmas.Bool.{lt-ltb}
+use Rattle.msp_class.specs.declared.list.TheConstants.{PLACES}
 use Rattle.msp_class.specs.declared.class.Class.{Class}
 use Rattle.msp_name.specs.declared.fault.NameFault.{NameFault}
 use Rattle.msp_name.specs.Names.{NameOf}
@@ -24,10 +25,10 @@ use Rattle.msp_top.specs.Refusals.{of_misfit}
 use Rattle.msp_top.specs.Words.{ReadsWords, ReadsName, ReadsNames, ReadsOneName, ReadsOption}
 
 -- the text of a word that is to be a name, where it is short
-pub name_then-short : (place : ℕ) (word later : List ℕ) → length word < 2 ^ 32 → name_then place word later ≡ text_of_reading place (reading_of word) later
-name_then-short place word later short = ap (λ b. if b then text_of_reading place (reading_of word) later else misfit_text) (lt-ltb (length word) (2 ^ 32) short)
+pub name_then-short : (place : ℕ) (word later : List ℕ) → length word < PLACES → name_then place word later ≡ text_of_reading place (reading_of word) later
+name_then-short place word later short = ap (λ b. if b then text_of_reading place (reading_of word) later else misfit_text) (lt-ltb (length word) PLACES short)
 
-pub name_then-fault : (place : ℕ) (word bytes later : List ℕ) (r : Result Class NameFault) (fault : NameFault) → length word < 2 ^ 32 → bytes ≡ word → r ≡ reading_of bytes → r ≡ Err fault → misspelled_text place fault ≡ name_then place word later
+pub name_then-fault : (place : ℕ) (word bytes later : List ℕ) (r : Result Class NameFault) (fault : NameFault) → length word < PLACES → bytes ≡ word → r ≡ reading_of bytes → r ≡ Err fault → misspelled_text place fault ≡ name_then place word later
 name_then-fault place word bytes later r fault short e reads is =
     sym (name_then-short place word later short ∙ ap (λ s. text_of_reading place s later) (ap reading_of (sym e) ∙ sym reads ∙ is))
 

@@ -1,6 +1,7 @@
 -- Which words of a command line ask for what.
-use Rattle.std.specs.Prelude.{◌≡◌, ℕ, ◌^◌, ◌<◌, ◌≤◌, List, [], ◌∷◌, Some, None, pos, length, codes}
+use Rattle.std.specs.Prelude.{◌≡◌, ℕ, ◌<◌, ◌≤◌, List, [], ◌∷◌, Some, None, pos, length, codes}
 use Rattle.std.specs.List.{AllZip}
+use Rattle.msp_class.specs.declared.list.TheConstants.{PLACES}
 use Rattle.msp_class.specs.declared.class.Class.{Class}
 use Rattle.msp_name.specs.Names.{NameOf}
 use Rattle.msp_text.specs.Numbers.{number_of}
@@ -11,14 +12,14 @@ use Rattle.msp_top.specs.declared.command.Command.TheVariants.{Solve, Check, Ans
 use Rattle.msp_top.specs.declared.command.Question.TheVariants.{Label, Frontier, Why}
 use Rattle.msp_top.specs.declared.command.Trial.{Trial}
 
--- The word is a name of the class. A word of 2 ^ 32 bytes or more is no name.
+-- The word is a name of the class. A word of `PLACES` bytes or more is no name.
 pub record IsNameWord (word : List ℕ) (class : Class) : Type 0 where
-  pub short : length word < 2 ^ 32
+  pub short : length word < PLACES
   pub named : NameOf word class
 
--- The word spells the number, which lies in a range. A word of 2 ^ 32 bytes or more is no number.
+-- The word spells the number, which lies in a range. A word of `PLACES` bytes or more is no number.
 pub record IsNumberWord (least greatest : ℕ) (word : List ℕ) (number : ℕ) : Type 0 where
-  pub short : length word < 2 ^ 32
+  pub short : length word < PLACES
   pub spelled : number_of word ≡ Some (pos number)
   pub low : least ≤ number
   pub high : number ≤ greatest

@@ -1,6 +1,7 @@
 -- The texts of the notes for words that ask for nothing: that they fit no command, or the place and the fault of a misspelled name, or of
 -- a word that is no number in range.
-use Rattle.std.specs.Prelude.{ℕ, ◌+◌, ◌^◌, ◌&&◌, List, [], ◌∷◌, ◌++◌, Option, Some, None, Result, Ok, Err, ℤ, pos, negsuc, length, codes, decimal, bytes_eq, nat_lt, nat_le, if◌then◌else◌}
+use Rattle.std.specs.Prelude.{ℕ, ◌+◌, ◌&&◌, List, [], ◌∷◌, ◌++◌, Option, Some, None, Result, Ok, Err, ℤ, pos, negsuc, length, codes, decimal, bytes_eq, nat_lt, nat_le, if◌then◌else◌}
+use Rattle.msp_class.specs.declared.list.TheConstants.{PLACES}
 use Rattle.msp_class.specs.declared.class.Class.{Class}
 use Rattle.msp_name.specs.declared.fault.NameFault.{NameFault}
 use Rattle.msp_name.specs.Reading.{reading_of}
@@ -22,7 +23,7 @@ text_of_reading place (Err fault) later = misspelled_text place fault
 
 -- The text for a word at this place that is to be a name, where the later words have their own.
 abbrev pub name_then : ℕ → List ℕ → List ℕ → List ℕ
-name_then place word later = if nat_lt (length word) (2 ^ 32) then text_of_reading place (reading_of word) later else misfit_text
+name_then place word later = if nat_lt (length word) PLACES then text_of_reading place (reading_of word) later else misfit_text
 
 -- The text for the first of these words that is no name. The first of them has this place, counted from 1.
 abbrev pub names_text : ℕ → List (List ℕ) → List ℕ
@@ -56,7 +57,7 @@ text_of_number place least greatest None later = misnumbered_text place least gr
 
 abbrev pub number_then : ℕ → ℕ → ℕ → List ℕ → List ℕ → List ℕ
 number_then place least greatest word later =
-    if nat_lt (length word) (2 ^ 32) then text_of_number place least greatest (number_within least greatest (number_of word)) later else misfit_text
+    if nat_lt (length word) PLACES then text_of_number place least greatest (number_within least greatest (number_of word)) later else misfit_text
 
 -- The text for the words after `trial`.
 abbrev pub trial_text : List (List ℕ) → List ℕ

@@ -1,5 +1,6 @@
 // What there is to say of a whole input, by the command.
-ghost use Rattle.std.specs.Prelude.{◌≡◌, ◌<◌, ◌≤◌, ◌^◌, length};
+ghost use Rattle.std.specs.Prelude.{◌≡◌, ◌≤◌, length};
+ghost use Rattle.msp_io.specs.declared.whole.TheConstants.{GREATEST_LIMIT};
 ghost use Rattle.msp_instance.specs.Conditions.{InClass};
 ghost use Rattle.msp_top.specs.Solves.{SolveIsRight};
 ghost use Rattle.msp_top.specs.Run.{IsRightWithin, limit_of};
@@ -24,7 +25,7 @@ pub const CHECK_LIMIT: u64 = 67_108_864;
 /// The most bytes of the input of a command.
 pub fn limit_of(command: &Command) -> u64
     ensures limit { result ≡ limit_of command.now }
-    ensures small { result < 2 ^ 32 }
+    ensures small { result ≤ GREATEST_LIMIT }
 {
     match command {
         Command::Check => CHECK_LIMIT,

@@ -1,5 +1,6 @@
 // Positions on unrelated machines, as columns of an assignment of jobs.
-ghost use Rattle.std.specs.Prelude.{◌≡◌, ◌*◌, ◌+◌, ◌^◌, ◌<◌, ◌≤◌, pos, length};
+ghost use Rattle.std.specs.Prelude.{◌≡◌, ◌*◌, ◌+◌, ◌<◌, ◌≤◌, pos, length};
+ghost use Rattle.msp_class.specs.declared.list.TheConstants.{PLACES};
 ghost use Rattle.msp_total.specs.Positions.{time_in, position_cost};
 
 use msp_assign::Costs;
@@ -13,7 +14,7 @@ pub struct Positions {
     pub machines: u32,
     pub times: List<u64>,
     ghost whole: { length times ≡ jobs * machines },
-    ghost few: { jobs * machines < 2 ^ 32 },
+    ghost few: { jobs * machines < PLACES },
 }
 
 /// The time of the job on the machine.

@@ -1,5 +1,6 @@
 // A table of what jobs cost in slots, by its data.
-ghost use Rattle.std.specs.Prelude.{◌≡◌, ◌<◌, ◌≤◌, ◌^◌, length, All};
+ghost use Rattle.std.specs.Prelude.{◌≡◌, ◌<◌, ◌≤◌, length, All};
+ghost use Rattle.msp_class.specs.declared.list.TheConstants.{PLACES};
 ghost use Rattle.msp_instance.specs.declared.ranges.TheConstants.{GREATEST};
 
 use msp_class::List;
@@ -15,7 +16,7 @@ pub struct Slots {
     pub weight: List<u64>,
     ghost dues: { length due ≡ length release },
     ghost weights: { length weight ≡ length release },
-    ghost jobs: { length release < 2 ^ 32 },
-    ghost slots: { length start < 2 ^ 32 },
+    ghost jobs: { length release < PLACES },
+    ghost slots: { length start < PLACES },
     ghost light: { All (λ w. w ≤ GREATEST) weight },
 }
