@@ -6,3 +6,4 @@ pub mod InnerChanges
 pub mod InPlace
 pub mod JobReads
 pub mod Search
+pub mod Pushes
