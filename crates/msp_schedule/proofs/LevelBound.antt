@@ -4,7 +4,7 @@ use Rattle.std.proofs.lemmas.Bool.{leb-true, le-leb}
 use Rattle.std.proofs.lemmas.Int.{ints}
 use Rattle.std.proofs.lemmas.Nat.{div_below}
 use native.Mathlib.Nat.{mul-le-mul_left, le_of_mul-le-mul_left}
-use Rattle.std.proofs.lemmas.List.Elements.{All-contains, All-map}
+use Rattle.std.proofs.lemmas.List.Elements.{All-contains}
 use Rattle.msp_class.specs.declared.environments.EnvKind.TheVariants.{Identical}
 use Rattle.msp_class.specs.Env.{kind_of}
 use Rattle.msp_class.proofs.Sums.{total_below-same, total_below-term, total_below-range, cond-yes}
@@ -17,8 +17,9 @@ use Rattle.msp_schedule.specs.declared.Schedule.{Schedule}
 use Rattle.msp_schedule.specs.Piece.{IsBefore}
 use Rattle.msp_schedule.specs.Feasible.{Feasible, HasOperation, whole_work}
 use Rattle.msp_schedule.specs.Cost.{end_of}
-use Rattle.msp_schedule.specs.Laws.{time_together, HasRoom, EndsLast, floored, floored_piece}
+use Rattle.msp_schedule.specs.Laws.{time_together, HasRoom, EndsLast, floored}
 use Rattle.msp_schedule.proofs.EndsAndFloors.{law_of_ends, law_of_floors}
+use Rattle.msp_schedule.proofs.Floored.{FillsUnit, floored-fills}
 use Rattle.msp_schedule.proofs.LastEnds.{last_end-reached}
 use Rattle.msp_schedule.proofs.Frames.{frame_of, HasWork, IsShaped-from_identical, Fits-from_feasible}
 use Rattle.msp_schedule.specs.Levels.{StepsDown, jobs_from, level_bound, LawOfLevels}
@@ -45,7 +46,7 @@ module _ (i : Instance) (level : ℕ → ℕ) (kind : kind_of i.class.env ≡ Id
       ∙ sym (total_below-range n (λ j. cond (leb t (level j)) 1 0))
 
   -- in a schedule whose pieces last one unit and begin at multiples of it
-  module _ (s : Schedule) (f : Feasible i s) (unit : ℕ) (unit_is : s.unit ≡ pos unit) (pieces : All (λ p. (q : ℕ) × (p.from ≡ pos (unit * q)) × (p.to ≡ pos (unit * q + unit))) s.pieces) where
+  module _ (s : Schedule) (f : Feasible i s) (unit : ℕ) (unit_is : s.unit ≡ pos unit) (pieces : All (FillsUnit unit) s.pieces) where
     some_unit : 1 ≤ unit
     some_unit = le-pos (subst (λ x. pos 1 ≤ℤ x) unit_is f.unit)
 
@@ -61,7 +62,7 @@ module _ (i : Instance) (level : ℕ → ℕ) (kind : kind_of i.class.env ≡ Id
     run : (j : ℕ) → j < length i.jobs → (q : ℕ) × IsRun j q
     run j b =
         let (p, c, e, r) = last_end-reached (frame_of i) s.unit s.pieces (Fits-from_feasible i s (IsShaped-from_identical i kind) f) works j b in
-        let (q, from, to) = All-contains (λ p. (q : ℕ) × (p.from ≡ pos (unit * q)) × (p.to ≡ pos (unit * q + unit))) s.pieces p pieces c in
+        let (q, from, to) = All-contains (FillsUnit unit) s.pieces p pieces c in
         (q, record { piece = p; here = c; of = e; from = from; to = to; end = sym r ∙ to })
 
     -- along an arc
@@ -128,19 +129,10 @@ module _ (i : Instance) (level : ℕ → ℕ) (kind : kind_of i.class.env ≡ Id
             by : (v : ℕ) → v ≤ r + 1 → unit * v ≤ unit * r + unit
             by v h = omega (arith, mul-le-mul_left unit h)
 
-multiples : (s : Schedule) → pos 1 ≤ℤ s.unit → All (λ p. (q : ℕ) × (p.from ≡ pos (nat_abs s.unit * q)) × (p.to ≡ pos (nat_abs s.unit * q + nat_abs s.unit))) (floored s).pieces
-multiples s h = All-map (λ p. (q : ℕ) × (p.from ≡ pos (nat_abs s.unit * q)) × (p.to ≡ pos (nat_abs s.unit * q + nat_abs s.unit))) (floored_piece s.unit) s.pieces (λ k d l. let p = get_or s.pieces k d in by (nat_abs p.from / nat_abs s.unit))
-  where
-    is : s.unit ≡ pos (nat_abs s.unit)
-    is = natural s.unit (omega (arith, ints))
-
-    by : (q : ℕ) → (r : ℕ) × (s.unit *ℤ pos q ≡ pos (nat_abs s.unit * r)) × ((s.unit *ℤ pos q) +ℤ s.unit ≡ pos (nat_abs s.unit * r + nat_abs s.unit))
-    by q = (q, ap (λ u. u *ℤ pos q) is, ap (λ u. (u *ℤ pos q) +ℤ u) is)
-
 pub law_of_levels : LawOfLevels
 law_of_levels i s level t j kind whole ones steps f b h =
     let (g, no_later) = law_of_floors i s kind whole ones f in
     let (k, last, room) = law_of_ends.last i (floored s) (λ _. true) (pos 0) kind g (≤ℤ_refl (pos 0)) (λ n x l e. (g.span n x l).0) (λ m l. omega (arith, ones m l)) j b refl in
     let unit_is : s.unit ≡ pos (nat_abs s.unit) = natural s.unit (omega (arith, ints, f.unit)) in
-    let (r, z) = run i level kind ones steps (floored s) g (nat_abs s.unit) unit_is (multiples s f.unit) k last.inside in
-    (k, last.inside, ≤ℤ_trans (bound i level kind ones steps (floored s) g (nat_abs s.unit) unit_is (multiples s f.unit) k r last z t j b h) (no_later k))
+    let (r, z) = run i level kind ones steps (floored s) g (nat_abs s.unit) unit_is (floored-fills s f.unit) k last.inside in
+    (k, last.inside, ≤ℤ_trans (bound i level kind ones steps (floored s) g (nat_abs s.unit) unit_is (floored-fills s f.unit) k r last z t j b h) (no_later k))

@@ -27,8 +27,10 @@ pub mod Exchange
 pub mod UnitTimes
 pub mod Mirror
 pub mod EndsAndFloors
+pub mod Floored
 pub mod LevelBound
 pub mod Places
+pub mod OnceEach
 pub mod Loads
 pub mod Groups
 pub mod Makespan
