@@ -9,6 +9,10 @@ use Rattle.msp_instance.specs.Conditions.{InClass, LiesWithin}
 use Rattle.msp_schedule.specs.declared.limits.TheConstants.{MOST_PIECES, GREATEST_UNIT, GREATEST_CARRIED_UNIT, GREATEST_MOMENT}
 use Rattle.msp_schedule.specs.declared.Schedule.{Schedule}
 
+-- Numbers of type i128 are below it, and not below its negative.
+abbrev pub i128_limit : ℕ
+i128_limit = 2 ^ 127
+
 -- The moment is one from 0 to the greatest, 2 * 10 ^ 26.
 abbrev pub IsMoment : ℤ → Type 0
 IsMoment x = (pos 0 ≤ℤ x) × (x ≤ℤ GREATEST_MOMENT)
@@ -44,6 +48,14 @@ pub record HasSmallCost (unit : ℤ) (j : Job) : Type 0 where
   pub steps : All (λ s. LiesWithin greatest_scaled (unit *ℤ pos s.above)) j.curve.steps
   pub slope : j.curve.slope ≤ GREATEST
   pub weight : j.weight ≤ GREATEST
+
+-- The most that the steps of a curve add together: MOST_STEPS adds of 64 bits.
+abbrev pub greatest_adds : ℕ
+greatest_adds = 2 ^ 68
+
+-- The most that a curve costs by its slope over the unit: the greatest slope at the greatest moment.
+abbrev pub greatest_slope_cost : ℕ
+greatest_slope_cost = 2 * 10 ^ 35
 
 -- The most that a job costs, in size.
 abbrev pub greatest_cost : ℕ

@@ -1,8 +1,9 @@
 // Fractions in lowest terms.
-ghost use Rattle.std.specs.Prelude.{◌≡◌, ℕ, ◌+◌, ◌*◌, ◌/◌, ◌<◌, ◌≤◌, ◌^◌, ℤ, pos, neg_ℤ, ◌*ℤ◌, ◌≤ℤ◌, ◌<ℤ◌, unsigned_abs};
+ghost use Rattle.std.specs.Prelude.{◌≡◌, ℕ, ◌+◌, ◌*◌, ◌/◌, ◌<◌, ◌≤◌, ℤ, pos, neg_ℤ, ◌*ℤ◌, ◌≤ℤ◌, ◌<ℤ◌, unsigned_abs};
 ghost use Rattle.std.specs.Int.{IsGcd};
 ghost use Rattle.std.specs.Ordering.{int_cmp};
 ghost use Rattle.msp_schedule.specs.Fraction.{IsComparable, IsLowest, IsSameFraction};
+ghost use Rattle.msp_schedule.specs.Within.{i128_limit};
 
 use crate::Frac;
 use crate::job_cost::product;
@@ -24,7 +25,7 @@ pub(crate) fn gcd(a: u128, b: u128) -> u128
 
 /// The number of this size with the sign of `like`.
 fn with_sign(size: u128, like: i128) -> i128
-    requires { size < 2 ^ 127 }
+    requires { size < i128_limit }
     ensures positive { pos 0 ≤ℤ like → result ≡ pos size }
     ensures negative { like <ℤ pos 0 → result ≡ neg_ℤ (pos size) }
 {
@@ -33,7 +34,7 @@ fn with_sign(size: u128, like: i128) -> i128
 }
 
 pub(crate) fn quotient(whole: u128, divisor: u128) -> i128
-    requires small { whole < 2 ^ 127 }
+    requires small { whole < i128_limit }
     requires some { 0 < divisor }
     ensures { result ≡ pos (whole / divisor) }
 {
@@ -42,7 +43,7 @@ pub(crate) fn quotient(whole: u128, divisor: u128) -> i128
 
 /// The same fraction in lowest terms.
 pub fn lowest(f: Frac) -> Frac
-    requires { neg_ℤ (pos (2 ^ 127)) <ℤ f.num }
+    requires { neg_ℤ (pos i128_limit) <ℤ f.num }
     ensures same { IsSameFraction f result }
     ensures lowest { IsLowest result }
 {

@@ -1,16 +1,16 @@
 // The cost of one job.
-ghost use Rattle.std.specs.Prelude.{◌≡◌, ℕ, ◌+◌, ◌*◌, ◌<◌, ◌≤◌, ◌^◌, ℤ, pos, neg_ℤ, ◌+ℤ◌, ◌-ℤ◌, ◌*ℤ◌, ◌≤ℤ◌, ◌<ℤ◌, unsigned_abs, sum_by, length, All, int_lt, if◌then◌else◌};
+ghost use Rattle.std.specs.Prelude.{◌≡◌, ℕ, ◌+◌, ◌*◌, ◌<◌, ◌≤◌, ℤ, pos, neg_ℤ, ◌+ℤ◌, ◌-ℤ◌, ◌*ℤ◌, ◌≤ℤ◌, ◌<ℤ◌, unsigned_abs, sum_by, length, All, int_lt, if◌then◌else◌};
 ghost use Rattle.std.specs.Int.{int_max};
-ghost use Rattle.msp_instance.specs.declared.ranges.TheConstants.{GREATEST};
+ghost use Rattle.msp_instance.specs.declared.ranges.TheConstants.{GREATEST, MOST_STEPS};
 ghost use Rattle.msp_instance.specs.Conditions.{LiesWithin};
 ghost use Rattle.msp_schedule.specs.Cost.{jump, jumps, lateness, tardiness, late, job_cost};
-ghost use Rattle.msp_schedule.specs.Within.{IsMoment, IsUnit, HasSmallCost, greatest_cost, greatest_scaled, greatest_lateness, greatest_level};
+ghost use Rattle.msp_schedule.specs.Within.{i128_limit, IsMoment, IsUnit, HasSmallCost, greatest_cost, greatest_scaled, greatest_lateness, greatest_level, greatest_adds, greatest_slope_cost};
 
 use msp_class::Crit;
 use msp_instance::{Curve, Job, Step};
 
 pub(crate) fn product(a: i128, b: i128) -> i128
-    requires { unsigned_abs a * unsigned_abs b < 2 ^ 127 }
+    requires { unsigned_abs a * unsigned_abs b < i128_limit }
     ensures { result ≡ a *ℤ b }
 {
     a * b
@@ -49,10 +49,10 @@ fn jump_at(unit: i128, step: Step, end: i128) -> u64
 
 /// What a curve adds in steps whose threshold is before the moment.
 fn jumps_at(unit: i128, curve: &Curve, end: i128) -> u128
-    requires few { length curve.now.steps ≤ 16 }
+    requires few { length curve.now.steps ≤ MOST_STEPS }
     requires small { All (λ s. LiesWithin greatest_scaled (unit *ℤ pos s.above)) curve.now.steps }
     ensures value { result ≡ jumps unit curve.now end }
-    ensures size { result ≤ 2 ^ 68 }
+    ensures size { result ≤ greatest_adds }
 {
     let mut total: u128 = 0;
     for step in curve.steps.as_slice() {
@@ -88,7 +88,7 @@ fn late_at(unit: i128, due: i64, end: i128) -> i128
 
 /// `unit * (base + adds)`.
 fn level_at(unit: i128, base: i64, adds: u128) -> i128
-    requires small { adds ≤ 2 ^ 68 }
+    requires small { adds ≤ greatest_adds }
     requires level { LiesWithin greatest_level (unit *ℤ (base +ℤ pos adds)) }
     ensures value { result ≡ unit *ℤ (base +ℤ pos adds) }
     ensures size { LiesWithin greatest_level result }
@@ -100,14 +100,14 @@ fn slope_cost(slope: u64, end: i128) -> i128
     requires slope { slope ≤ GREATEST }
     requires moment { IsMoment end }
     ensures value { result ≡ pos slope *ℤ end }
-    ensures size { LiesWithin (2 * 10 ^ 35) result }
+    ensures size { LiesWithin greatest_slope_cost result }
 {
     product(i128::from(slope), end)
 }
 
 fn curve_cost(unit: i128, curve: &Curve, end: i128) -> i128
     requires moment { IsMoment end }
-    requires few { length curve.now.steps ≤ 16 }
+    requires few { length curve.now.steps ≤ MOST_STEPS }
     requires small { All (λ s. LiesWithin greatest_scaled (unit *ℤ pos s.above)) curve.now.steps }
     requires slope { curve.now.slope ≤ GREATEST }
     requires base { (adds : ℕ) → adds ≤ sum_by (λ s. s.add) curve.now.steps → LiesWithin greatest_level (unit *ℤ (curve.now.base +ℤ pos adds)) }
