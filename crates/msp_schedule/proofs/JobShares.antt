@@ -12,10 +12,10 @@ use Rattle.msp_class.proofs.Sums.{Contains-filter}
 use Rattle.msp_class.specs.Env.{kind_of}
 use Rattle.msp_instance.specs.declared.Instance.{Instance}
 use Rattle.msp_schedule.specs.declared.Piece.{Piece}
-use Rattle.msp_schedule.specs.Feasible.{IsWholeWork, total, whole_work, work_of}
+use Rattle.msp_schedule.specs.Feasible.{HasPlace, IsWholeWork, total, whole_work, work_of}
 use Rattle.msp_schedule.specs.Begins.{IsEarlierEnd}
 use Rattle.msp_schedule.specs.Breaks.{KeepsRoute, pieces_among, IsLeast}
-use Rattle.msp_schedule.specs.Works.{GetsWorkAmong, LacksWorkAmong, IsWorked}
+use Rattle.msp_schedule.specs.Works.{AreMeasurable, GetsWorkAmong, LacksWorkAmong, IsWorked}
 use Rattle.msp_schedule.specs.Within.{IsMoment}
 use Rattle.msp_schedule.proofs.ArcTimes.{fewer}
 
@@ -123,8 +123,17 @@ module _ (xs : List Piece) (j : ℕ) where
   pub shared : (P : Piece → Type 0) (ys : List Piece) → ys ≡ Share → All P xs → All P ys
   shared P ys e h = subst (All P) (sym e) (All-filter (λ p. p.job == j) P xs h)
 
-  pub few_shared : (ys : List Piece) (n : ℕ) → ys ≡ Share → length xs ≤ n → length ys ≤ n
+  few_shared : (ys : List Piece) (n : ℕ) → ys ≡ Share → length xs ≤ n → length ys ≤ n
   few_shared ys n e h = omega (arith, ap length e, length-filter_both (λ p. p.job == j) (λ p. not (p.job == j)) (λ _. refl) xs, h)
+
+  pub measured_share : (ys : List Piece) (i : Instance) → ys ≡ Share → AreMeasurable i xs → AreMeasurable i ys
+  measured_share ys i e h = record {
+    inner = h.inner;
+    checked = h.checked;
+    few = few_shared ys _ e h.few;
+    place = shared (HasPlace i) ys e h.place;
+    moments = shared (λ p. IsMoment p.from × IsMoment p.to) ys e h.moments;
+  }
 
 -- ---- the last end of earlier operations
 abbrev EndsBy : List Piece → ℕ → ℕ → ℤ → Type 0

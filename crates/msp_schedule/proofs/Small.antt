@@ -18,7 +18,7 @@ use Rattle.msp_instance.specs.Instance.{no_curve, no_job, no_need, job_at, need_
 use Rattle.msp_schedule.specs.Works.{AreSmallTimes}
 use Rattle.msp_instance.specs.Conditions.{LiesWithin, Limits, HasRelease, greatest_time, HasDue, HasWeight, IsCurve, HasCurve, IsJobOf, MeetsConditions, Inner, InClass, inner_limits, text_limits}
 use Rattle.msp_schedule.specs.declared.Schedule.{Schedule}
-use Rattle.msp_schedule.specs.Within.{HasSmallCost, Within, greatest_scaled}
+use Rattle.msp_schedule.specs.Within.{HasSmallCost, Within, greatest_scaled, greatest_level}
 
 -- a product of a number up to u and one within D
 pub product_within : (n : ℕ) (x : ℤ) (u D k : ℕ) → n ≤ u → LiesWithin D x → u * D ≤ k → LiesWithin k (pos n *ℤ x)
@@ -49,9 +49,9 @@ adds_small T steps few h =
 
 -- the limits and the unit are small together
 pub record FitTogether (l : Limits) (u : ℕ) : Type 0 where
-  pub dates : u * l.greatest_date ≤ 2 * 10 ^ 22
-  pub times : u * l.greatest_time ≤ 2 * 10 ^ 22
-  pub levels : u * (l.greatest_date + 16 * l.greatest_time) ≤ 4 * 10 ^ 23
+  pub dates : u * l.greatest_date ≤ greatest_scaled
+  pub times : u * l.greatest_time ≤ greatest_scaled
+  pub levels : u * (l.greatest_date + 16 * l.greatest_time) ≤ greatest_level
   pub releases : l.greatest_release ≤ l.greatest_date
   pub equal : 10 ^ 6 ≤ l.greatest_time
 

@@ -7,8 +7,9 @@ use Rattle.msp_instance.specs.Instance.{job_at}
 use Rattle.msp_schedule.specs.declared.Piece.{Piece}
 use Rattle.msp_schedule.specs.Feasible.{HasOperation, HasPlace}
 use Rattle.msp_schedule.specs.Piece.{IsBefore}
+use Rattle.msp_schedule.specs.Within.{IsMoment}
 use Rattle.msp_schedule.specs.Breaks.{KeepsRoute, HasRoutes, IsLeastOperation}
-use Rattle.msp_schedule.specs.Works.{GetsWorkAmong, LacksWorkAmong, IsWorked}
+use Rattle.msp_schedule.specs.Works.{AreMeasurable, GetsWorkAmong, LacksWorkAmong, IsWorked}
 use Rattle.msp_schedule.proofs.Permuted.{twice, work_permuted}
 
 -- the operation of a piece that has a place is one of its job's needs, where operations have a route
@@ -26,8 +27,17 @@ module _ (xs ys zs : List Piece) (h : IsPermutation xs ys) (e : zs ≡ ys) where
   pub of_sorted : (P : Piece → Type 0) → All P xs → All P zs
   of_sorted P = All-permutation P xs zs forth
 
-  pub few_sorted : (n : ℕ) → length xs ≤ n → length zs ≤ n
+  few_sorted : (n : ℕ) → length xs ≤ n → length zs ≤ n
   few_sorted n l = omega (arith, length_permutation xs zs forth, l)
+
+  pub measured_sorted : (i : Instance) → AreMeasurable i xs → AreMeasurable i zs
+  measured_sorted i h = record {
+    inner = h.inner;
+    checked = h.checked;
+    few = few_sorted _ h.few;
+    place = of_sorted (HasPlace i) h.place;
+    moments = of_sorted (λ p. IsMoment p.from × IsMoment p.to) h.moments;
+  }
 
   pub inside_sorted : (i : Instance) → HasRoutes i → All (HasPlace i) xs → All (λ p. p.op < length (job_at i p.job).needs) zs
   inside_sorted i routes place k d l = routed_inside i routes _ (of_sorted (HasPlace i) place k d l)

@@ -1,16 +1,17 @@
 -- The work of an operation among some pieces. No public contract cites this file.
-use Rattle.std.specs.Prelude.{◌≡◌, ℕ, ◌*◌, ◌^◌, ◌<◌, List, [], ◌∷◌, length, ℤ, pos, ◌*ℤ◌, map, slice_index_or, MatchBool}
+use Rattle.std.specs.Prelude.{true, ◌≡◌, ℕ, ◌*◌, ◌^◌, ◌<◌, ◌≤◌, All, List, [], ◌∷◌, length, ℤ, pos, ◌*ℤ◌, map, slice_index_or, MatchBool}
 use Rattle.msp_class.specs.declared.environments.EnvKind.{EnvKind}
 use Rattle.msp_class.specs.declared.environments.EnvKind.TheVariants.{Identical, Uniform, Unrelated, OpenShop, FlowShop, JobShop}
 use Rattle.msp_class.specs.Env.{kind_of}
 use Rattle.msp_instance.specs.declared.Instance.{Instance}
 use Rattle.msp_instance.specs.Instance.{job_at, need_at}
-use Rattle.msp_instance.specs.Conditions.{LiesWithin}
+use Rattle.msp_instance.specs.Conditions.{LiesWithin, Inner}
 use Rattle.msp_schedule.specs.declared.Piece.{Piece}
+use Rattle.msp_schedule.specs.declared.limits.TheConstants.{MOST_PIECES}
 use Rattle.msp_schedule.specs.Piece.{length_of}
-use Rattle.msp_schedule.specs.Feasible.{HasOperation, total, work_of, whole_work, IsWholeWork}
+use Rattle.msp_schedule.specs.Feasible.{HasOperation, HasPlace, total, work_of, whole_work, IsWholeWork}
 use Rattle.msp_schedule.specs.Breaks.{pieces_among}
-use Rattle.msp_schedule.specs.Within.{greatest_scaled}
+use Rattle.msp_schedule.specs.Within.{IsMoment, greatest_scaled}
 
 -- The number of the need that says how long the piece's operation takes: on unrelated machines that of its machine.
 abbrev pub need_of : EnvKind → Piece → ℕ
@@ -40,6 +41,15 @@ greatest_work = 2 * 10 ^ 32
 -- The times over the unit fit a signed number of 128 bits.
 abbrev pub AreSmallTimes : Instance → ℤ → Type 0
 AreSmallTimes i unit = (j o : ℕ) → j < length i.jobs → o < length (job_at i j).needs → LiesWithin greatest_scaled (unit *ℤ pos (need_at i j o).time)
+
+-- Whether operations get their work from these pieces can be decided: the instance is inner, the pieces are few, have their places and
+-- bounded moments, and on unrelated machines no operation may be cut.
+pub record AreMeasurable (i : Instance) (pieces : List Piece) : Type 0 where
+  pub inner : Inner i
+  pub checked : ¬ ((i.class.cut ≡ true) × (kind_of i.class.env ≡ Unrelated))
+  pub few : length pieces ≤ MOST_PIECES
+  pub place : All (HasPlace i) pieces
+  pub moments : All (λ p. IsMoment p.from × IsMoment p.to) pieces
 
 -- The operation gets its work from these pieces.
 abbrev pub GetsWorkAmong : Instance → ℤ → List Piece → ℕ → ℕ → Type 0

@@ -1,10 +1,9 @@
 // Arcs by the last end and the first beginning of each job.
-ghost use Rattle.std.specs.Prelude.{◌≡◌, ℕ, ◌<◌, ◌≤◌, ◌↔◌, ℤ, pos, ◌≤ℤ◌, length, All, slice_index_or, slice_set, IsTrue, IsNone, IfSome};
+ghost use Rattle.std.specs.Prelude.{◌≡◌, ℕ, ◌<◌, ◌≤◌, ◌↔◌, pos, ◌≤ℤ◌, length, All, slice_index_or, slice_set, IsTrue, IsNone, IfSome};
 ghost use Rattle.std.specs.Int.{int_min};
 ghost use Rattle.msp_instance.specs.declared.ranges.TheConstants.{MOST_ARCS, MOST_JOBS};
 ghost use Rattle.msp_schedule.specs.declared.limits.TheConstants.{GREATEST_MOMENT};
 ghost use Rattle.msp_schedule.specs.Within.{IsMoment};
-ghost use Rattle.msp_schedule.specs.Cost.{last_end};
 ghost use Rattle.msp_schedule.specs.Breaks.{IsLeast, no_arc, KeepsArc};
 ghost use Rattle.msp_schedule.specs.Begins.{AreBegins};
 

@@ -1,5 +1,5 @@
 // The first condition of a feasible schedule that a schedule breaks.
-ghost use Rattle.std.specs.Prelude.{true, ◌≡◌, ◌≢◌, ℕ, ◌*◌, ◌<◌, ◌≤◌, ◌^◌, ◌↔◌, slice_index_or, ℤ, pos, ◌*ℤ◌, ◌≤ℤ◌, ◌<ℤ◌, length, All, IsTrue, IsNone, IfSome};
+ghost use Rattle.std.specs.Prelude.{true, ◌≡◌, ◌≢◌, ℕ, ◌<◌, ◌≤◌, ◌↔◌, slice_index_or, pos, ◌*ℤ◌, ◌≤ℤ◌, ◌<ℤ◌, length, All, IsTrue, IsNone, IfSome};
 ghost use Rattle.msp_schedule.specs.declared.limits.TheConstants.{MOST_PIECES};
 ghost use Rattle.msp_class.specs.Env.{kind_of};
 ghost use Rattle.msp_instance.specs.declared.Instance.{Instance as InstanceValue};

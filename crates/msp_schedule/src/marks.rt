@@ -1,5 +1,5 @@
 // Pieces that overlap on a machine or in a job, found by sorting.
-ghost use Rattle.std.specs.Prelude.{◌≡◌, ℕ, ◌<◌, ◌≤◌, ◌+◌, ◌<ℤ◌, ◌↔◌, length, AllPairs, IsPermutation, IsTrue, IsNone, IfOk, IfSome};
+ghost use Rattle.std.specs.Prelude.{◌≡◌, ◌≤◌, ◌↔◌, length, AllPairs, IsPermutation, IsTrue, IsNone, IfOk, IfSome};
 ghost use Rattle.std.specs.Ordering.{int_cmp, nat_cmp, ordering_then};
 ghost use Rattle.msp_schedule.specs.declared.limits.TheConstants.{MOST_PIECES};
 ghost use Rattle.msp_schedule.specs.Piece.{IsApart};

@@ -1,15 +1,12 @@
 // The first operation that is out of its route, and the first that lacks work.
-ghost use Rattle.std.specs.Prelude.{◌≡◌, ℕ, ◌<◌, ◌≤◌, true, false, length, All, IsTrue, IsNone, IfSome, ◌↔◌};
+ghost use Rattle.std.specs.Prelude.{◌≡◌, ℕ, ◌<◌, true, false, length, All, IsNone, IfSome};
 ghost use Rattle.msp_class.specs.declared.list.TheConstants.{PLACES};
-ghost use Rattle.msp_class.specs.declared.environments.EnvKind.TheVariants.{Unrelated};
-ghost use Rattle.msp_class.specs.Env.{kind_of};
 ghost use Rattle.msp_instance.specs.Instance.{job_at};
 ghost use Rattle.msp_instance.specs.Conditions.{Inner};
-ghost use Rattle.msp_schedule.specs.declared.limits.TheConstants.{MOST_PIECES};
-ghost use Rattle.msp_schedule.specs.Feasible.{HasOperation, HasPlace};
+ghost use Rattle.msp_schedule.specs.Feasible.{HasPlace};
 ghost use Rattle.msp_schedule.specs.Within.{IsMoment};
 ghost use Rattle.msp_schedule.specs.Breaks.{IsLeast, IsLeastOperation, KeepsRoute, HasRoutes};
-ghost use Rattle.msp_schedule.specs.Works.{AreSmallTimes, GetsWorkAmong, LacksWorkAmong, IsWorked};
+ghost use Rattle.msp_schedule.specs.Works.{AreMeasurable, AreSmallTimes, LacksWorkAmong, IsWorked};
 
 use crate::Piece;
 use crate::breaks::{has_operation, keeps_route};
@@ -59,12 +56,8 @@ pub(crate) fn first_route(inst: &Instance, pieces: &[Piece]) -> Option<(u32, u32
 
 /// Whether the operation has work to do and does not get it.
 fn lacks_work(inst: &Instance, unit: i128, pieces: &[Piece], job: u32, op: u32) -> bool
-    requires inner { Inner inst.now }
-    requires checked { ¬ ((inst.now.class.cut ≡ true) × (kind_of inst.now.class.env ≡ Unrelated)) }
-    requires few { length pieces.now ≤ MOST_PIECES }
+    requires measured { AreMeasurable inst.now pieces.now }
     requires small { AreSmallTimes inst.now unit }
-    requires place { All (HasPlace inst.now) pieces.now }
-    requires moments { All (λ p. IsMoment p.from × IsMoment p.to) pieces.now }
     requires job { job < length inst.now.jobs }
     ensures lacks { result ≡ true → LacksWorkAmong inst.now unit pieces.now job op }
     ensures worked { result ≡ false → IsWorked inst.now unit pieces.now job op }
@@ -81,12 +74,8 @@ pub(crate) fn first_unworked(
     job: u32,
     ops: u32,
 ) -> Option<u32>
-    requires inner { Inner inst.now }
-    requires checked { ¬ ((inst.now.class.cut ≡ true) × (kind_of inst.now.class.env ≡ Unrelated)) }
-    requires few { length pieces.now ≤ MOST_PIECES }
+    requires measured { AreMeasurable inst.now pieces.now }
     requires small { AreSmallTimes inst.now unit }
-    requires place { All (HasPlace inst.now) pieces.now }
-    requires moments { All (λ p. IsMoment p.from × IsMoment p.to) pieces.now }
     requires job { job < length inst.now.jobs }
     ensures none { IsNone result → (o : ℕ) → o < ops → IsWorked inst.now unit pieces.now job o }
     ensures some { IfSome result (λ o. IsLeast ops (λ q. LacksWorkAmong inst.now unit pieces.now job q) o) }
@@ -101,12 +90,8 @@ pub(crate) fn first_unworked(
 
 /// The first operation that lacks work.
 pub(crate) fn first_work(inst: &Instance, unit: i128, pieces: &[Piece]) -> Option<(u32, u32)>
-    requires inner { Inner inst.now }
-    requires checked { ¬ ((inst.now.class.cut ≡ true) × (kind_of inst.now.class.env ≡ Unrelated)) }
-    requires few { length pieces.now ≤ MOST_PIECES }
+    requires measured { AreMeasurable inst.now pieces.now }
     requires small { AreSmallTimes inst.now unit }
-    requires place { All (HasPlace inst.now) pieces.now }
-    requires moments { All (λ p. IsMoment p.from × IsMoment p.to) pieces.now }
     ensures none { IsNone result → (j o : ℕ) → j < length inst.now.jobs → IsWorked inst.now unit pieces.now j o }
     ensures some { IfSome result (λ at. IsLeastOperation inst.now (LacksWorkAmong inst.now unit pieces.now) at.0 at.1) }
 {

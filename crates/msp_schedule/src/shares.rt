@@ -1,17 +1,14 @@
 // The pieces of one job after another, in a list that is sorted by job: routes and work.
-ghost use Rattle.std.specs.Prelude.{◌≡◌, ℕ, ◌<◌, ◌≤◌, true, length, take, drop, filter, ◌==◌, All, IsPermutation, IsNone, IfOk, IfSome};
+ghost use Rattle.std.specs.Prelude.{◌≡◌, ℕ, ◌<◌, ◌≤◌, length, take, drop, filter, ◌==◌, All, IsPermutation, IsNone, IfOk, IfSome};
 ghost use Rattle.std.specs.List.Sorted.{IsNonDecreasingBy};
 ghost use Rattle.msp_class.specs.declared.list.TheConstants.{PLACES};
-ghost use Rattle.msp_class.specs.declared.environments.EnvKind.TheVariants.{Unrelated};
-ghost use Rattle.msp_class.specs.Env.{kind_of};
 ghost use Rattle.msp_instance.specs.declared.ranges.TheConstants.{MOST_JOBS};
 ghost use Rattle.msp_instance.specs.Instance.{job_at};
 ghost use Rattle.msp_instance.specs.Conditions.{Inner};
-ghost use Rattle.msp_schedule.specs.declared.limits.TheConstants.{MOST_PIECES};
 ghost use Rattle.msp_schedule.specs.Feasible.{HasPlace};
 ghost use Rattle.msp_schedule.specs.Within.{IsMoment};
 ghost use Rattle.msp_schedule.specs.Breaks.{IsLeast, IsLeastOperation, KeepsRoute, HasRoutes};
-ghost use Rattle.msp_schedule.specs.Works.{AreSmallTimes, LacksWorkAmong, IsWorked};
+ghost use Rattle.msp_schedule.specs.Works.{AreMeasurable, AreSmallTimes, LacksWorkAmong, IsWorked};
 
 use crate::Piece;
 use crate::routes::{first_unrouted, first_unworked, needs_of};
@@ -97,12 +94,8 @@ fn route_in(inst: &Instance, pieces: &[Piece]) -> Option<(u32, u32)>
 /// The first of so many operations of the job that lacks work.
 fn unworked_in(inst: &Instance, unit: i128, pieces: &[Piece], job: u32, ops: u32) -> Option<u32>
     requires sorted { IsNonDecreasingBy (λ p. p.job) pieces.now }
-    requires inner { Inner inst.now }
-    requires checked { ¬ ((inst.now.class.cut ≡ true) × (kind_of inst.now.class.env ≡ Unrelated)) }
-    requires few { length pieces.now ≤ MOST_PIECES }
+    requires measured { AreMeasurable inst.now pieces.now }
     requires small { AreSmallTimes inst.now unit }
-    requires place { All (HasPlace inst.now) pieces.now }
-    requires moments { All (λ p. IsMoment p.from × IsMoment p.to) pieces.now }
     requires job { job < length inst.now.jobs }
     ensures none { IsNone result → (o : ℕ) → o < ops → IsWorked inst.now unit pieces.now job o }
     ensures some { IfSome result (λ o. IsLeast ops (λ q. LacksWorkAmong inst.now unit pieces.now job q) o) }
@@ -113,12 +106,8 @@ fn unworked_in(inst: &Instance, unit: i128, pieces: &[Piece], job: u32, ops: u32
 /// The first operation that lacks work.
 fn work_in(inst: &Instance, unit: i128, pieces: &[Piece]) -> Option<(u32, u32)>
     requires sorted { IsNonDecreasingBy (λ p. p.job) pieces.now }
-    requires inner { Inner inst.now }
-    requires checked { ¬ ((inst.now.class.cut ≡ true) × (kind_of inst.now.class.env ≡ Unrelated)) }
-    requires few { length pieces.now ≤ MOST_PIECES }
+    requires measured { AreMeasurable inst.now pieces.now }
     requires small { AreSmallTimes inst.now unit }
-    requires place { All (HasPlace inst.now) pieces.now }
-    requires moments { All (λ p. IsMoment p.from × IsMoment p.to) pieces.now }
     ensures none { IsNone result → (j o : ℕ) → j < length inst.now.jobs → IsWorked inst.now unit pieces.now j o }
     ensures some { IfSome result (λ at. IsLeastOperation inst.now (LacksWorkAmong inst.now unit pieces.now) at.0 at.1) }
 {
@@ -172,12 +161,8 @@ pub(crate) fn swept_work(
     unit: i128,
     pieces: &[Piece],
 ) -> Result<Option<(u32, u32)>, NoMemory>
-    requires inner { Inner inst.now }
-    requires checked { ¬ ((inst.now.class.cut ≡ true) × (kind_of inst.now.class.env ≡ Unrelated)) }
-    requires few { length pieces.now ≤ MOST_PIECES }
+    requires measured { AreMeasurable inst.now pieces.now }
     requires small { AreSmallTimes inst.now unit }
-    requires place { All (HasPlace inst.now) pieces.now }
-    requires moments { All (λ p. IsMoment p.from × IsMoment p.to) pieces.now }
     ensures none { IfOk result (λ r. IsNone r → (j o : ℕ) → j < length inst.now.jobs → IsWorked inst.now unit pieces.now j o) }
     ensures some { IfOk result (λ r. IfSome r (λ at. IsLeastOperation inst.now (LacksWorkAmong inst.now unit pieces.now) at.0 at.1)) }
 {

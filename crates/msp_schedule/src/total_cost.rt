@@ -1,5 +1,5 @@
 // The cost of a schedule: that of all jobs together.
-ghost use Rattle.std.specs.Prelude.{◌≡◌, ℕ, ◌+◌, ◌*◌, ◌<◌, ◌≤◌, ◌^◌, ℤ, pos, ◌≤ℤ◌, ◌<ℤ◌, length, All, slice_index_or, slice_set, List};
+ghost use Rattle.std.specs.Prelude.{◌≡◌, ℕ, ◌<◌, ◌≤◌, pos, length, All, slice_index_or, slice_set};
 ghost use Rattle.std.specs.Int.{int_max};
 ghost use Rattle.msp_schedule.specs.Cost.{last_end, job_costs, greatest, combined, cost_of};
 ghost use Rattle.msp_schedule.specs.Feasible.{total, Feasible};

@@ -1,5 +1,5 @@
 // Whether an operation gets its work.
-ghost use Rattle.std.specs.Prelude.{true, ◌≡◌, ◌≢◌, ℕ, ◌+◌, ◌*◌, ◌/◌, ◌<◌, ◌≤◌, ◌^◌, ◌↔◌, List, [], ◌∷◌, ℤ, pos, ◌-ℤ◌, ◌*ℤ◌, ◌≤ℤ◌, ◌<ℤ◌, length, map, filter, ◌==◌, ◌&&◌, All, IsTrue, IsSome, IfNone, IfSome, slice_index_or, if◌then◌else◌};
+ghost use Rattle.std.specs.Prelude.{◌≡◌, ◌≢◌, ◌<◌, ◌≤◌, ◌↔◌, [], ◌∷◌, pos, ◌*ℤ◌, length, map, ◌==◌, ◌&&◌, All, IsTrue, IfNone, IfSome, slice_index_or, if◌then◌else◌};
 ghost use Rattle.msp_instance.specs.declared.ranges.TheConstants.{GREATEST_SPEED};
 ghost use Rattle.msp_instance.specs.Instance.{job_at, need_at};
 ghost use Rattle.msp_class.specs.declared.environments.EnvKind.TheVariants.{Unrelated};
@@ -7,7 +7,7 @@ ghost use Rattle.msp_class.specs.Env.{kind_of};
 ghost use Rattle.msp_instance.specs.Conditions.{LiesWithin, Inner};
 ghost use Rattle.msp_schedule.specs.declared.limits.TheConstants.{MOST_PIECES};
 ghost use Rattle.msp_schedule.specs.Feasible.{HasOperation, HasPlace, IsWholeWork, total, work_of};
-ghost use Rattle.msp_schedule.specs.Works.{AreSmallTimes, GetsWorkAmong, need_of, measured_by, greatest_length, greatest_work};
+ghost use Rattle.msp_schedule.specs.Works.{AreMeasurable, AreSmallTimes, GetsWorkAmong, need_of, measured_by, greatest_length, greatest_work};
 ghost use Rattle.msp_schedule.specs.Within.{IsMoment, greatest_scaled};
 ghost use Rattle.msp_schedule.specs.declared.Piece.{Piece as PieceValue};
 ghost use Rattle.msp_schedule.specs.Piece.{length_of};
@@ -170,12 +170,8 @@ fn is_whole_work(inst: &Instance, unit: i128, piece: &Piece) -> bool
 
 /// Whether the operation gets its work.
 pub(crate) fn gets_work(inst: &Instance, unit: i128, pieces: &[Piece], job: u32, op: u32) -> bool
-    requires inner { Inner inst.now }
-    requires checked { ¬ ((inst.now.class.cut ≡ true) × (kind_of inst.now.class.env ≡ Unrelated)) }
-    requires few { length pieces.now ≤ MOST_PIECES }
+    requires measured { AreMeasurable inst.now pieces.now }
     requires small { AreSmallTimes inst.now unit }
-    requires place { All (HasPlace inst.now) pieces.now }
-    requires moments { All (λ p. IsMoment p.from × IsMoment p.to) pieces.now }
     requires job { job < length inst.now.jobs }
     requires operation { HasOperation (kind_of inst.now.class.env) inst.now job op }
     ensures { IsTrue result ↔ GetsWorkAmong inst.now unit pieces.now job op }

@@ -4,16 +4,17 @@ use Rattle.std.specs.Int.{w64, w128}
 use Rattle.msp_instance.specs.declared.Curve.{Curve}
 use Rattle.msp_instance.specs.Conditions.{LiesWithin}
 use Rattle.msp_schedule.specs.Cost.{jumps}
+use Rattle.msp_schedule.specs.Within.{greatest_level}
 use Rattle.msp_schedule.proofs.Jumps.{jumps_le}
 use Rattle.msp_schedule.proofs.job_cost.curve_cost.Goals as goal
 
 -- the level of a curve is small, at the numbers as they are passed
 passed_small : (unit u base b end x : ℤ) (c : Curve) (adds : ℕ) → u ≡ unit → b ≡ base → adds ≡ jumps x c end →
-    ((adds : ℕ) → adds ≤ sum_by (λ s. s.add) c.steps → LiesWithin 400000000000000000000000 (unit *ℤ (base +ℤ pos adds))) →
-    LiesWithin 400000000000000000000000 (u *ℤ (b +ℤ pos adds))
+    ((adds : ℕ) → adds ≤ sum_by (λ s. s.add) c.steps → LiesWithin greatest_level (unit *ℤ (base +ℤ pos adds))) →
+    LiesWithin greatest_level (u *ℤ (b +ℤ pos adds))
 passed_small unit u base b end x c adds eu eb ea h =
-    let P : ℤ → Type 0 = λ k. LiesWithin 400000000000000000000000 (k *ℤ (b +ℤ pos adds)) in
-    let Q : ℤ → Type 0 = λ k. LiesWithin 400000000000000000000000 (unit *ℤ (k +ℤ pos adds)) in
+    let P : ℤ → Type 0 = λ k. LiesWithin greatest_level (k *ℤ (b +ℤ pos adds)) in
+    let Q : ℤ → Type 0 = λ k. LiesWithin greatest_level (unit *ℤ (k +ℤ pos adds)) in
     let small = jumps_le x end c.steps in
     let R : ℕ → Type 0 = λ k. k ≤ sum_by (λ s. s.add) c.steps in
     subst P (sym eu) (subst Q (sym eb) (h adds (subst R (sym ea) small)))

@@ -1,18 +1,10 @@
 use Rattle.std.proofs.lemmas.Int.{to_z-of_z}
 use Rattle.std.specs.Int.{w128}
-use Rattle.msp_schedule.specs.Feasible.{HasPlace}
-use Rattle.msp_schedule.specs.Within.{IsMoment}
-use Rattle.msp_schedule.proofs.SortedPieces.{of_sorted, few_sorted, works_sorted, work_sorted}
+use Rattle.msp_schedule.proofs.SortedPieces.{measured_sorted, works_sorted, work_sorted}
 use Rattle.msp_schedule.proofs.shares.swept_work.Goals as goal
 
-pub work_in-requires-clause-few : goal.work_in-requires-clause-few
-work_in-requires-clause-few c = few_sorted c.args.pieces.now _ _ c.in_ok-sorted.ensures.permutation c.deref.ensures.value _ c.requires.few
-
-pub work_in-requires-clause-place : goal.work_in-requires-clause-place
-work_in-requires-clause-place c = of_sorted c.args.pieces.now _ _ c.in_ok-sorted.ensures.permutation c.deref.ensures.value (HasPlace c.args.inst.now) c.requires.place
-
-pub work_in-requires-clause-moments : goal.work_in-requires-clause-moments
-work_in-requires-clause-moments c = of_sorted c.args.pieces.now _ _ c.in_ok-sorted.ensures.permutation c.deref.ensures.value (λ p. IsMoment p.from × IsMoment p.to) c.requires.moments
+pub work_in-requires-clause-measured : goal.work_in-requires-clause-measured
+work_in-requires-clause-measured c = measured_sorted c.args.pieces.now _ _ c.in_ok-sorted.ensures.permutation c.deref.ensures.value c.args.inst.now c.requires.measured
 
 pub returns-clause-none : goal.returns-clause-none
 returns-clause-none c = λ e. works_sorted c.args.pieces.now _ _ c.in_ok-sorted.ensures.permutation c.deref.ensures.value c.args.inst.now c.args.unit _ (to_z-of_z w128 c.args.unit c.ranges.unit) (c.work_in.ensures.none e)
