@@ -3,9 +3,13 @@ use Rattle.std.specs.Prelude.{◌≡◌, ◌≢◌, ℕ, ◌<◌, ◌^◌, ℤ, 
 use Rattle.msp_class.proofs.Sums.{int_total_below}
 use Rattle.msp_assign.specs.declared.assignment.Assignment.{Assignment}
 
+-- The most that a row costs at a column.
+abbrev pub greatest_cost : ℕ
+greatest_cost = 2 ^ 100
+
 -- Every cost is at least 0, and at most 2^100.
 abbrev pub HasCosts : ℕ → ℕ → (ℕ → ℕ → ℤ) → Type 0
-HasCosts rows columns cost = (r c : ℕ) → r < rows → c < columns → (pos 0 ≤ℤ cost r c) × (cost r c ≤ℤ pos (2 ^ 100))
+HasCosts rows columns cost = (r c : ℕ) → r < rows → c < columns → (pos 0 ≤ℤ cost r c) × (cost r c ≤ℤ pos greatest_cost)
 
 -- Each row has a column of its own: the columns of the rows, in order of the rows.
 pub record IsAssigned (rows columns : ℕ) (column : List ℕ) : Type 0 where

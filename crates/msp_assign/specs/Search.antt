@@ -1,7 +1,7 @@
 -- The search for a free column for one more row, from the columns and prices of the rows before it. No public contract cites this file.
 use Rattle.std.specs.Prelude.{pos, neg_ℤ, ◌≡◌, ◌≢◌, ℕ, ◌+◌, ◌-◌, ◌<◌, ◌≤◌, ◌^◌, ◌⊎◌, ℤ, List, [], ◌∷◌, ◌++◌, Bool, true, false, cond, Option, None, length, slice_index_or, sum_by, unsigned_abs, MatchOption, All, AllPairs, Contains}
 use Rattle.std.specs.List.Sorted.{IsPermutation}
-use Rattle.msp_assign.specs.Prices.{HasCosts, price_at}
+use Rattle.msp_assign.specs.Prices.{greatest_cost, HasCosts, price_at}
 
 abbrev pub at : List ℕ → ℕ → ℕ
 at xs k = slice_index_or xs k 0
@@ -13,6 +13,10 @@ sizes cost r c = unsigned_abs (cost r c)
 abbrev pub paid : (ℕ → ℕ → ℕ) → List ℕ → ℕ → ℕ → ℕ
 paid cost fall r c = cost r c + at fall c
 
+-- The most that a row pays at a column, and that the search goes: a cost, and a price as far below 0.
+abbrev pub greatest_payment : ℕ
+greatest_payment = 2 ^ 101
+
 -- The row pays at no column less than at c.
 pub record IsCheapest (cost : ℕ → ℕ → ℕ) (columns : ℕ) (fall : List ℕ) (r c : ℕ) : Type 0 where
   pub cheapest : (d : ℕ) → d < columns → paid cost fall r c ≤ paid cost fall r d
@@ -20,7 +24,7 @@ pub record IsCheapest (cost : ℕ → ℕ → ℕ) (columns : ℕ) (fall : List 
 -- The rows so far have columns of their own, each where it pays least. Only a column that a row has is priced.
 pub record IsPlaced (cost : ℕ → ℕ → ℕ) (columns : ℕ) (fall column : List ℕ) : Type 0 where
   pub size : length fall ≡ columns
-  pub low : (c : ℕ) → c < columns → at fall c ≤ 2 ^ 100
+  pub low : (c : ℕ) → c < columns → at fall c ≤ greatest_cost
   pub inside : All (λ c. c < columns) column
   pub apart : AllPairs (λ c d. c ≢ d) column
   pub cheapest : (r : ℕ) → r < length column → IsCheapest cost columns fall r (at column r)
@@ -65,7 +69,7 @@ pub record IsSearch (cost : ℕ → ℕ → ℕ) (columns : ℕ) (fall column di
   pub level_own : (k : ℕ) → 1 ≤ k → k < length tree → IsLevel cost columns fall distance (at tree k) (at column (at tree k))
   pub level : (c : ℕ) → c < columns → IsLevel cost columns fall distance (at tree (at «from» c)) c
   pub nearer : (c d : ℕ) → c < columns → d < columns → is_in settled c ≡ true → is_in settled d ≡ false → at distance c ≤ at distance d
-  pub low : (c : ℕ) → c < columns → at distance c ≤ 2 ^ 101
+  pub low : (c : ℕ) → c < columns → at distance c ≤ greatest_payment
 
 -- How many columns are not settled.
 abbrev pub unsettled : List Bool → ℕ
@@ -75,12 +79,12 @@ unsettled settled = sum_by (λ b. cond b 0 1) settled
 pub record HasEdges (rows columns : ℕ) (cost : ℕ → ℕ → ℤ) (fall : List ℕ) (r depth own : ℕ) (settled : List Bool) (distance «from» : List ℕ) : Type 0 where
   pub costs : HasCosts rows columns cost
   pub falls : length fall ≡ columns
-  pub low : (c : ℕ) → c < columns → at fall c ≤ 2 ^ 100
+  pub low : (c : ℕ) → c < columns → at fall c ≤ greatest_cost
   pub flags : length settled ≡ columns
   pub distances : length distance ≡ columns
   pub places : length «from» ≡ columns
   pub inside : r < rows
-  pub near : depth ≤ 2 ^ 101
+  pub near : depth ≤ greatest_payment
   pub least : (c : ℕ) → c < columns → own ≤ paid (sizes cost) fall r c
 
 -- A row that was reached: its place in the tree, how far it is, and what it pays at its own column.

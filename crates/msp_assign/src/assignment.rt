@@ -1,5 +1,5 @@
 // The assignment of rows to columns of least cost.
-ghost use Rattle.std.specs.Prelude.{◌≡◌, ◌≤◌, ◌^◌, IfOk};
+ghost use Rattle.std.specs.Prelude.{◌≡◌, ◌≤◌, IfOk};
 ghost use Rattle.msp_assign.specs.Prices.{HasCosts, IsAssigned, IsPriced, IsLeast, cost_of, price_of};
 
 use crate::Costs;

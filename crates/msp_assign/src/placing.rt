@@ -1,8 +1,8 @@
 // One more row: the prices move, and the columns are passed on along the way to the free one.
-ghost use Rattle.std.specs.Prelude.{◌≡◌, ◌+◌, ◌<◌, ◌≤◌, ◌^◌, ℕ, All, IfOk, OnOk, length};
+ghost use Rattle.std.specs.Prelude.{◌≡◌, ◌+◌, ◌<◌, ◌≤◌, ℕ, All, IfOk, OnOk, length};
 ghost use Rattle.msp_class.specs.declared.list.TheConstants.{PLACES};
-ghost use Rattle.msp_assign.specs.Prices.{HasCosts};
-ghost use Rattle.msp_assign.specs.Search.{at, sizes, IsPlaced, IsTree, IsLowered, IsPassedOn};
+ghost use Rattle.msp_assign.specs.Prices.{greatest_cost, HasCosts};
+ghost use Rattle.msp_assign.specs.Search.{greatest_payment, at, sizes, IsPlaced, IsTree, IsLowered, IsPassedOn};
 
 use crate::Costs;
 use crate::search::{find_free, owners};
@@ -11,8 +11,8 @@ use std::alloc::{AllocError, Global};
 /// Lowers the price of each column that is nearer than the free one, by as much as it is nearer.
 fn lower(falls: &mut [u128], distance: &[u128], far: u128)
     requires sizes { length distance.now ≡ length falls.old }
-    requires low { (c : ℕ) → c < length falls.old → at falls.old c ≤ 2 ^ 100 }
-    requires near { far ≤ 2 ^ 101 }
+    requires low { (c : ℕ) → c < length falls.old → at falls.old c ≤ greatest_cost }
+    requires near { far ≤ greatest_payment }
     ensures { IsLowered (length falls.old) far distance.now falls.old falls.new }
 {
     for column in 0..falls.len() {
@@ -81,7 +81,6 @@ pub struct Placement {
 
 /// Gives each row a column, row after row.
 pub fn placed<C: Costs>(alloc: Global, costs: &C) -> Result<Placement, AllocError>
-    requires few { C.row_count costs.now ≤ 2 ^ 31 }
     requires enough { C.row_count costs.now ≤ C.column_count costs.now }
     requires costs { HasCosts (C.row_count costs.now) (C.column_count costs.now) (C.cost costs.now) }
     ensures placed { IfOk result (λ p. IsPlaced (sizes (C.cost costs.now)) (C.column_count costs.now) p.falls.items p.column_of.items) }

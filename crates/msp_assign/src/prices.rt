@@ -1,7 +1,7 @@
 // The prices of the rows and the columns.
-ghost use Rattle.std.specs.Prelude.{◌≡◌, ◌<◌, ◌≤◌, ◌^◌, ℕ, All, IfOk, length};
+ghost use Rattle.std.specs.Prelude.{◌≡◌, ◌<◌, ◌≤◌, ℕ, All, IfOk, length};
 ghost use Rattle.msp_class.specs.declared.list.TheConstants.{PLACES};
-ghost use Rattle.msp_assign.specs.Prices.{HasCosts};
+ghost use Rattle.msp_assign.specs.Prices.{greatest_cost, HasCosts};
 ghost use Rattle.msp_assign.specs.Search.{at, sizes, IsRowPrices, IsColumnPrices};
 
 use crate::Costs;
@@ -18,7 +18,7 @@ pub fn row_prices<C: Costs>(
 ) -> Result<List<i128>, AllocError>
     requires costs { HasCosts (C.row_count costs.now) (C.column_count costs.now) (C.cost costs.now) }
     requires falls { length falls.now ≡ C.column_count costs.now }
-    requires low { (c : ℕ) → c < C.column_count costs.now → at falls.now c ≤ 2 ^ 100 }
+    requires low { (c : ℕ) → c < C.column_count costs.now → at falls.now c ≤ greatest_cost }
     requires rows { length column_of.now ≡ C.row_count costs.now }
     requires few { length column_of.now < PLACES }
     requires inside { All (λ c. c < C.column_count costs.now) column_of.now }
@@ -34,7 +34,7 @@ pub fn row_prices<C: Costs>(
 
 /// The prices of the columns.
 pub fn column_prices(alloc: Global, falls: &[u128]) -> Result<List<i128>, AllocError>
-    requires { (c : ℕ) → c < length falls.now → at falls.now c ≤ 2 ^ 100 }
+    requires { (c : ℕ) → c < length falls.now → at falls.now c ≤ greatest_cost }
     ensures { IfOk result (λ prices. IsColumnPrices falls.now prices) }
 {
     let mut prices = Vec::new(alloc);

@@ -1,8 +1,8 @@
 // The search for a free column for one more row.
-ghost use Rattle.std.specs.Prelude.{◌≡◌, ◌+◌, ◌<◌, ◌≤◌, ◌^◌, ℕ, All, Contains, IfOk, OnOk, false, length};
+ghost use Rattle.std.specs.Prelude.{◌≡◌, ◌+◌, ◌<◌, ◌≤◌, ℕ, All, Contains, IfOk, OnOk, false, length};
 ghost use Rattle.msp_class.specs.declared.list.TheConstants.{PLACES};
-ghost use Rattle.msp_assign.specs.Prices.{HasCosts};
-ghost use Rattle.msp_assign.specs.Search.{at, is_in, sizes, paid, unsettled, IsPlaced, IsOwners, IsTree, IsSearch, IsNearest, IsRelaxed, IsRelaxedOnce, IsShortened, HasEdges};
+ghost use Rattle.msp_assign.specs.Prices.{greatest_cost, HasCosts};
+ghost use Rattle.msp_assign.specs.Search.{greatest_payment, at, is_in, sizes, paid, unsettled, IsPlaced, IsOwners, IsTree, IsSearch, IsNearest, IsRelaxed, IsRelaxedOnce, IsShortened, HasEdges};
 
 use crate::Costs;
 use std::alloc::{AllocError, Global};
@@ -11,11 +11,11 @@ use std::alloc::{AllocError, Global};
 pub fn payment<C: Costs>(costs: &C, falls: &[u128], row: u32, column: u32) -> u128
     requires costs { HasCosts (C.row_count costs.now) (C.column_count costs.now) (C.cost costs.now) }
     requires falls { length falls.now ≡ C.column_count costs.now }
-    requires low { (c : ℕ) → c < C.column_count costs.now → at falls.now c ≤ 2 ^ 100 }
+    requires low { (c : ℕ) → c < C.column_count costs.now → at falls.now c ≤ greatest_cost }
     requires row { row < C.row_count costs.now }
     requires column { column < C.column_count costs.now }
     ensures value { result ≡ paid (sizes (C.cost costs.now)) falls.now row column }
-    ensures bound { result ≤ 2 ^ 101 }
+    ensures bound { result ≤ greatest_payment }
 {
     costs.at(row, column).unsigned_abs() + falls[column as usize]
 }
