@@ -17,11 +17,8 @@ pub read_job : (i : Instance) (jobs : List Job) (k : ℕ) (j : Job) → jobs ≡
 read_job i jobs k j e l is = is ∙ get_or_default jobs k j no_job l ∙ ap (λ xs. get_or xs k no_job) e
 
 -- the end after one more job
-pub ends-next : (i : Instance) (order : List ℕ) (k j moment time : ℕ) → k < length order → j ≡ get_or order k 0 → time ≡ time_at i j →
-    moment ≡ sum_by (time_at i) (take k order) → moment + time ≡ sum_by (time_at i) (take (k + 1) order)
-ends-next i order k j moment time l at is ends =
-    let p = time_at i in
-    omega (arith, ends, is, ap p at, ap (sum_by p) (take_more order k 0 l), sum_by-append p (take k order) (get_or order k 0 ∷ []), sum_by-cons p (get_or order k 0) [])
+pub ends-next : (p : ℕ → ℕ) (order : List ℕ) (k j moment end : ℕ) → end ≡ moment + p j → k < length order → j ≡ get_or order k 0 → moment ≡ sum_by p (take k order) → end ≡ sum_by p (take (k + 1) order)
+ends-next p order k j moment end is l at ends = omega (arith, ends, is, ap p at, ap (sum_by p) (take_more order k 0 l), sum_by-append p (take k order) (get_or order k 0 ∷ []), sum_by-cons p (get_or order k 0) [])
 
 -- the time that was read of the job j
 pub time_read : (i : Instance) (jobs : List Job) (j time : ℕ) (job : Job) → jobs ≡ i.jobs → j < length i.jobs → job ≡ get_or jobs j job → time ≡ (slice_index_or job.needs 0 no_need).time → time ≡ time_at i j

@@ -7,3 +7,7 @@ pub mod InPlace
 pub mod JobReads
 pub mod Search
 pub mod Pushes
+pub mod RowSteps
+pub mod PlainJobs
+pub mod RowAnswer
+pub mod Ratios

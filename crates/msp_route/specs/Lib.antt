@@ -3,3 +3,4 @@ pub mod Bounds
 pub mod Changes
 pub mod LastJob
 pub mod Candidates
+pub mod Row

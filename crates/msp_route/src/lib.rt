@@ -3,7 +3,8 @@
 //! It stands on `msp_schedule` and `msp_table`. The layers above use the traits `Reduction` and `Solver` alone: what a lawful
 //! reduction does to costs, so that a best schedule brought back is best, and that a solver's answer is best within its bounds. What more
 //! than one solver needs stands here too, since no solver's crate stands on another's: the job that ends last (`last_place`), how long
-//! jobs take one after another (`total_time`), and marks of jobs.
+//! jobs take one after another (`total_time`), their pieces and the solution where they run so (`in_a_row`, `solution_in_order`), and marks
+//! of jobs.
 #![tactic(auto)]
 
 mod answer;
@@ -12,6 +13,7 @@ mod copies;
 mod last_job;
 mod marks;
 mod reduction;
+mod row;
 mod solver;
 mod times;
 mod via;
@@ -25,6 +27,7 @@ pub use copies::{led, recast};
 pub use last_job::last_place;
 pub use marks::{mark, marks_of, no_marks};
 pub use reduction::Reduction;
+pub use row::{in_a_row, solution_in_order};
 pub use solver::Solver;
 pub use times::{first_time, total_time};
 pub use via::Via;

@@ -25,9 +25,9 @@ use Rattle.msp_route.specs.LastJob.{CostsLess}
 use Rattle.msp_single.specs.Lawler.{lawler_class, IsLawlerOrder}
 use Rattle.msp_schedule.specs.Blocks.{total_time, cost_at}
 use Rattle.msp_schedule.proofs.Certified.{ranked, Rises, IsCertified, best_by_certificates}
-use Rattle.msp_single.proofs.Facts.{takes_time, is_short}
+use Rattle.msp_route.proofs.PlainJobs.{takes_time, is_short}
 use Rattle.msp_single.proofs.LawlerFacts.{IsLawlerInstance, IsLawlerInstance-from_class}
-use Rattle.msp_single.proofs.RowAnswer.{timed, released, row_is_answer}
+use Rattle.msp_route.proofs.RowAnswer.{timed, released, row_is_answer}
 
 -- what is said of the answer's schedule
 pub record IsLawlerSchedule (i : Instance) (s : Schedule) : Type 0 where

@@ -4,7 +4,7 @@ use Rattle.msp_class.specs.Crit.{is_greatest}
 use Rattle.msp_instance.specs.declared.Instance.{Instance}
 use Rattle.msp_instance.specs.Conditions.{Inner}
 use Rattle.msp_single.specs.Lawler.{lawler_class}
-use Rattle.msp_single.proofs.Facts.{IsPlain, IsPlain-from}
+use Rattle.msp_route.proofs.PlainJobs.{IsPlain, IsPlain-from}
 
 pub record IsLawlerInstance (i : Instance) : Type 0 where
   pub greatest : is_greatest i.class.crit ≡ true

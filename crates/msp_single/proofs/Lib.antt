@@ -1,6 +1,3 @@
-pub mod Facts
-pub mod Steps
-pub mod RowAnswer
 pub mod SmithOrder
 pub mod SmithSteps
 pub mod SmithSorted

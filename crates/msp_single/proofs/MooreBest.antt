@@ -23,8 +23,8 @@ use Rattle.msp_schedule.proofs.OneMachine.{job_of, IsPlan-from_feasible, last_en
 use Rattle.msp_schedule.proofs.OneRow.{piece, piece_makes, time_at, row_schedule, row_is_feasible, row_is_settled, row_is_within}
 use Rattle.msp_route.specs.Bounds.{IsAnswer}
 use Rattle.msp_single.specs.Moore.{moore_class, IsDueBefore, IsMooreOrder}
-use Rattle.msp_single.proofs.Facts.{takes_time, is_short}
-use Rattle.msp_single.proofs.RowAnswer.{timed, released, row_is_answer}
+use Rattle.msp_route.proofs.PlainJobs.{takes_time, is_short}
+use Rattle.msp_route.proofs.RowAnswer.{timed, released, row_is_answer}
 use Rattle.msp_single.proofs.MooreFacts.{IsMooreInstance, IsMooreInstance-from_class}
 use Rattle.msp_single.proofs.MooreChoice.{choice-permutation, choice-on_time, choice-most}
 use Rattle.msp_schedule.proofs.Parts.{All-front}

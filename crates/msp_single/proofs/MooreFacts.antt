@@ -4,7 +4,7 @@ use Rattle.msp_class.specs.declared.class.Crit.TheVariants.{SumU}
 use Rattle.msp_instance.specs.declared.Instance.{Instance}
 use Rattle.msp_instance.specs.Conditions.{HasArcs, Inner}
 use Rattle.msp_single.specs.Moore.{moore_class}
-use Rattle.msp_single.proofs.Facts.{IsPlain, IsPlain-from}
+use Rattle.msp_route.proofs.PlainJobs.{IsPlain, IsPlain-from}
 
 pub record IsMooreInstance (i : Instance) : Type 0 where
   pub crit : i.class.crit ≡ SumU

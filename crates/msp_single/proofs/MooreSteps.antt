@@ -1,12 +1,11 @@
 -- The steps of Moore's rule at the numbers as the code passes them.
-use Rattle.std.proofs.Common.{◌≡◌, ℕ, suc, ◌+◌, ◌<◌, ◌≤◌, true, false, ◌⊎◌, inl, inr, List, [], ◌∷◌, ◌++◌, length, get_or, map, take, sum_by, ℤ, pos, ◌≤ℤ◌, ◌<ℤ◌, All, refl, sym, ap, ◌∙◌, subst, arith, slice_index_or}
+use Rattle.std.proofs.Common.{◌≡◌, ℕ, ◌+◌, ◌<◌, ◌≤◌, true, false, ◌⊎◌, inl, inr, List, [], ◌∷◌, ◌++◌, length, get_or, take, sum_by, ℤ, pos, ◌≤ℤ◌, ◌<ℤ◌, All, refl, sym, ap, ◌∙◌, subst, arith, slice_index_or}
 use Rattle.std.specs.Prelude.{int_lt}
-use Rattle.std.specs.List.{range_with_len, remove}
+use Rattle.std.specs.List.{remove}
 use Rattle.std.proofs.lemmas.Int.{ints}
-use Rattle.std.proofs.lemmas.List.{map-append, take_more, get_or_default}
+use Rattle.std.proofs.lemmas.List.{take_more, get_or_default}
 use Rattle.std.proofs.lemmas.List.Elements.{All-push}
 use Rattle.std.proofs.lemmas.List.Sums.{sum_by-append, sum_by-cons}
-use Rattle.msp_class.proofs.Sums.{range_with_len_last}
 use Rattle.msp_instance.specs.declared.Job.{Job}
 use Rattle.msp_instance.specs.declared.Instance.{Instance}
 use Rattle.msp_instance.specs.Instance.{no_need, job_at, need_at}
@@ -17,13 +16,6 @@ use Rattle.msp_single.proofs.MooreChoice.{keeps, drops}
 
 abbrev pub IsTaskOf : Instance → Task → Type 0
 IsTaskOf i x = (x.time ≡ (need_at i x.job 0).time) × (x.due ≡ (job_at i x.job).due)
-
-pub numbers-next : (new ts : List Task) (x : Task) (k : ℕ) → new ≡ ts ++ x ∷ [] → x.job ≡ k → map (λ y. y.job) ts ≡ range_with_len 0 k → map (λ y. y.job) new ≡ range_with_len 0 (k + 1)
-numbers-next new ts x k e is so_far =
-    let place : x.job ≡ 0 + k = omega (arith, is) in
-    let back : suc k ≡ k + 1 = omega arith in
-    ap (map (λ y. y.job)) e ∙ map-append (λ y. y.job) ts (x ∷ []) ∙ ap (λ l. l ++ x.job ∷ []) so_far
-    ∙ ap (λ n. range_with_len 0 k ++ n ∷ []) place ∙ sym (range_with_len_last 0 k) ∙ ap (range_with_len 0) back
 
 pub each-next : (i : Instance) (new ts : List Task) (x : Task) (jobs : List Job) (k : ℕ) (j w : Job) → new ≡ ts ++ x ∷ [] → jobs ≡ i.jobs → k < length jobs → j ≡ get_or jobs k j → w ≡ get_or jobs k w →
     x.job ≡ k → x.time ≡ (slice_index_or j.needs 0 no_need).time → x.due ≡ w.due → All (IsTaskOf i) ts → All (IsTaskOf i) new

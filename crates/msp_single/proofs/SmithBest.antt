@@ -20,8 +20,8 @@ use Rattle.msp_schedule.proofs.OneMachine.{job_of, start, finish, IsPlan-from_fe
 use Rattle.msp_schedule.proofs.OneRow.{piece, piece_makes, time_at, row_schedule, row_is_feasible, row_is_settled, row_is_within}
 use Rattle.msp_route.specs.Bounds.{IsAnswer}
 use Rattle.msp_single.specs.Smith.{smith_class, GoesBefore, IsSmithOrder}
-use Rattle.msp_single.proofs.Facts.{takes_time, is_short}
-use Rattle.msp_single.proofs.RowAnswer.{timed, released, row_is_answer}
+use Rattle.msp_route.proofs.PlainJobs.{takes_time, is_short}
+use Rattle.msp_route.proofs.RowAnswer.{timed, released, row_is_answer}
 use Rattle.msp_single.proofs.SmithFacts.{IsSmithInstance, IsSmithInstance-from_class}
 
 abbrev weight_at : Instance → ℕ → ℕ

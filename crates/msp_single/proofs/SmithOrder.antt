@@ -1,11 +1,11 @@
 -- Smith's order of jobs that take time is a strict weak order, so a sort by it puts the greater weight for its time first, and ties by number.
-use Rattle.std.proofs.Common.{◌≡◌, ℕ, ◌*◌, ◌<◌, ◌≤◌, Bool, true, false, ◌⊎◌, inl, inr, List, get_or, AllPairs, ap, arith}
+use Rattle.std.proofs.Common.{◌≡◌, ℕ, ◌*◌, ◌<◌, ◌≤◌, Bool, true, false, ◌⊎◌, inl, inr, List, get_or, AllPairs, arith}
 use Rattle.std.specs.Ordering.{is_lt, nat_cmp, ordering_then}
 use Rattle.std.specs.Cmp.{IsStrictWeakOrder}
 use Rattle.std.specs.List.Sorted.{IsSortedBy}
 use Rattle.std.proofs.lemmas.Bool.Decides.{nat_tests}
 use Rattle.std.proofs.lemmas.List.Sorted.{sorted_far}
-use native.Mathlib.Nat.{le_of_mul-le-mul_left, mul-le-mul_left, mul-lt-mul_of_pos_left, lt_of_mul-lt-mul_left}
+use Rattle.msp_route.proofs.Ratios.{strict_left, strict_right, level}
 
 -- the numbers m and n are compared, and then a and b
 abbrev pub less : ℕ → ℕ → ℕ → ℕ → Bool
@@ -19,20 +19,6 @@ less-no m n a b h = grind (arith, nat_tests)
 
 not_less : (m n a b : ℕ) → (n < m) ⊎ ((n ≡ m) × (b ≤ a)) → less m n a b ≡ false
 not_less m n a b h = grind (arith, nat_tests)
-
--- ratios a / P, b / Q and c / R go on past the middle one
-strict_left : (a b c P Q R : ℕ) → 0 < R → a * Q < b * P → b * R ≤ c * Q → a * R < c * P
-strict_left a b c P Q R r h k = lt_of_mul-lt-mul_left Q (omega (arith, mul-lt-mul_of_pos_left {k = R} h r, mul-le-mul_left P k))
-
-strict_right : (a b c P Q R : ℕ) → 0 < P → a * Q ≤ b * P → b * R < c * Q → a * R < c * P
-strict_right a b c P Q R r h k = lt_of_mul-lt-mul_left Q (omega (arith, mul-le-mul_left R h, mul-lt-mul_of_pos_left {k = P} k r))
-
-level : (a b c P Q R : ℕ) → 0 < Q → a * Q ≡ b * P → b * R ≡ c * Q → a * R ≡ c * P
-level a b c P Q R q h k =
-    let times : Q * (a * R) ≡ Q * (c * P) = omega (arith, ap (λ n. R * n) h, ap (λ n. P * n) k) in
-    let up : a * R ≤ c * P = le_of_mul-le-mul_left {k = Q} (omega arith) q in
-    let down : c * P ≤ a * R = le_of_mul-le-mul_left {k = Q} (omega arith) q in
-    omega arith
 
 module _ {X : Type 0} (number time weight : X → ℕ) (takes_time : (x : X) → 0 < time x) where
   abbrev pub smith_less : X → X → Bool

@@ -1,9 +1,6 @@
 -- One step of the loop that reads what Smith's rule compares, at the numbers as the code passes them.
-use Rattle.std.proofs.Common.{◌≡◌, ℕ, suc, ◌+◌, ◌<◌, List, [], ◌∷◌, ◌++◌, length, get_or, map, All, sym, ap, ◌∙◌, subst, arith, slice_index_or}
-use Rattle.std.specs.List.{range_with_len}
-use Rattle.std.proofs.lemmas.List.{map-append}
+use Rattle.std.proofs.Common.{◌≡◌, ℕ, ◌<◌, List, [], ◌∷◌, ◌++◌, length, get_or, All, sym, ap, ◌∙◌, subst, slice_index_or}
 use Rattle.std.proofs.lemmas.List.Elements.{All-push}
-use Rattle.msp_class.proofs.Sums.{range_with_len_last}
 use Rattle.msp_instance.specs.declared.Job.{Job}
 use Rattle.msp_instance.specs.declared.Instance.{Instance}
 use Rattle.msp_instance.specs.Instance.{no_need, job_at, need_at}
@@ -12,13 +9,6 @@ use Rattle.msp_route.proofs.JobReads.{read_job}
 
 abbrev pub IsLoadOf : Instance → Load → Type 0
 IsLoadOf i x = (x.time ≡ (need_at i x.job 0).time) × (x.weight ≡ (job_at i x.job).weight)
-
-pub numbers-next : (new ls : List Load) (x : Load) (k : ℕ) → new ≡ ls ++ x ∷ [] → x.job ≡ k → map (λ y. y.job) ls ≡ range_with_len 0 k → map (λ y. y.job) new ≡ range_with_len 0 (k + 1)
-numbers-next new ls x k e is so_far =
-    let place : x.job ≡ 0 + k = omega (arith, is) in
-    let back : suc k ≡ k + 1 = omega arith in
-    ap (map (λ y. y.job)) e ∙ map-append (λ y. y.job) ls (x ∷ []) ∙ ap (λ l. l ++ x.job ∷ []) so_far
-    ∙ ap (λ n. range_with_len 0 k ++ n ∷ []) place ∙ sym (range_with_len_last 0 k) ∙ ap (range_with_len 0) back
 
 pub each-next : (i : Instance) (new ls : List Load) (x : Load) (jobs : List Job) (k : ℕ) (j w : Job) → new ≡ ls ++ x ∷ [] → jobs ≡ i.jobs → k < length jobs → j ≡ get_or jobs k j → w ≡ get_or jobs k w →
     x.job ≡ k → x.time ≡ (slice_index_or j.needs 0 no_need).time → x.weight ≡ w.weight → All (IsLoadOf i) ls → All (IsLoadOf i) new

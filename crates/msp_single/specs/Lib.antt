@@ -1,4 +1,3 @@
 pub mod Smith
 pub mod Lawler
 pub mod Moore
-pub mod Row

@@ -9,10 +9,9 @@ ghost use Rattle.msp_schedule.specs.Settled.{IsSettled};
 ghost use Rattle.msp_route.specs.Bounds.{IsAnswer};
 ghost use Rattle.msp_single.specs.Lawler.{lawler_class, IsLawlerOrder};
 
-use crate::row::solution_in_order;
 use msp_class::{Class, Crit, Env, NoMemory, Order, Times};
 use msp_instance::Instance;
-use msp_route::{Solver, last_place, total_time};
+use msp_route::{Solver, last_place, solution_in_order, total_time};
 use msp_schedule::Solution;
 use std::alloc::Global;
 

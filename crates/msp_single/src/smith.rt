@@ -11,10 +11,9 @@ ghost use Rattle.msp_schedule.specs.Settled.{IsSettled};
 ghost use Rattle.msp_route.specs.Bounds.{IsAnswer};
 ghost use Rattle.msp_single.specs.Smith.{smith_class, IsSmithOrder};
 
-use crate::row::solution_in_order;
 use msp_class::{Class, Crit, Env, NoMemory, Order, Times};
 use msp_instance::Instance;
-use msp_route::{Solver, first_time};
+use msp_route::{Solver, first_time, solution_in_order};
 use msp_schedule::Solution;
 use std::alloc::Global;
 use std::cmp::Ordering;

@@ -31,8 +31,8 @@ use Rattle.msp_route.specs.Bounds.{IsAnswer}
 use Rattle.msp_trees.specs.Horn.{horn_class}
 use Rattle.msp_trees.specs.Horn.{before, weight_at}
 use Rattle.msp_trees.specs.Joining.{IsCheapest}
-use Rattle.msp_trees.proofs.Facts.{IsPlain, IsPlain-from, takes_time, is_short}
-use Rattle.msp_trees.proofs.RowAnswer.{timed, released, row_is_answer}
+use Rattle.msp_route.proofs.PlainJobs.{IsPlain, IsPlain-from, takes_time, is_short}
+use Rattle.msp_route.proofs.RowAnswer.{timed, released, row_is_answer}
 use Rattle.msp_trees.proofs.Joins.{IsTree}
 use Rattle.msp_trees.proofs.Before.{before_within, before_start, forward_from_arcs, steps_forward, may_precede, no_loop, before_loose}
 

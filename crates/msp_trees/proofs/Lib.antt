@@ -3,6 +3,3 @@ pub mod Joins
 pub mod Before
 pub mod HornBest
 pub mod Picks
-pub mod Facts
-pub mod Steps
-pub mod RowAnswer

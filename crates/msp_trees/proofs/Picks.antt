@@ -2,7 +2,6 @@
 use Rattle.std.proofs.Common.{◌≡◌, ◌≢◌, ℕ, zero, suc, ◌+◌, ◌-◌, ◌*◌, ◌<◌, ◌≤◌, ◌⊎◌, inl, inr, Bool, true, false, if◌then◌else◌, List, [], ◌∷◌, ◌++◌, length, get_or, take, drop, set, remove, map, All, Contains, IsPermutation, sum_by, refl, sym, ap, ap₂, subst, ◌∙◌, arith, slice_index_or, None, Some}
 use Rattle.std.specs.Prelude.{◌==◌}
 use Rattle.std.specs.List.{concat, list_any, slice_get, range_with_len}
-use native.Mathlib.Nat.{le_of_mul-le-mul_left, mul-le-mul_left, mul-lt-mul_of_pos_left, lt_of_mul-lt-mul_left}
 use Rattle.std.proofs.lemmas.Bool.{cases_lt, eq-eqb, ne_eqb}
 use Rattle.std.proofs.lemmas.List.{append_assoc, take_all, map-append, drop_more, take_more, get_or_default, get_or_past, length-append, get_or-set_same, get_or-set_other, set_split}
 use Rattle.std.proofs.lemmas.Option.{slice_get_cases}
@@ -25,7 +24,8 @@ use Rattle.msp_trees.specs.Horn.{horn_class}
 use Rattle.msp_trees.specs.Horn.{first_before, before, weight_at, time_of, weight_of, GoesNext, Joins, JoinTo, nothing_joined, one_more, single_blocks, IsHornOrder}
 use Rattle.msp_trees.specs.Joining.{IsForward, IsBranch, IsJoined, AreJoined, IsCheapest}
 use Rattle.msp_trees.proofs.Lists.{All-right, pairs_left, pairs_right, pairs_across, taken, concat-permutation, All-concat}
-use Rattle.msp_trees.proofs.Facts.{takes_time}
+use Rattle.msp_route.proofs.Ratios.{strict_left, strict_right, level}
+use Rattle.msp_route.proofs.PlainJobs.{takes_time}
 use Rattle.msp_trees.proofs.Joins.{IsTree, joined-start, joined-next, cheapest}
 use Rattle.msp_trees.proofs.HornBest.{IsHornInstance, IsHornInstance-from_class, IsHornSchedule, horn_schedule}
 use Rattle.std.proofs.lemmas.List.Folds.{concat-append}
@@ -197,19 +197,6 @@ Leads v t f w p g = (w * t < v * p) ⊎ ((w * t ≡ v * p) × (f ≤ g))
 
 pub at_most : (v t f w p g : ℕ) → Leads v t f w p g → w * t ≤ v * p
 at_most v t f w p g h = elim h [ inl l ↦ omega (arith, l) | inr e ↦ omega (arith, e.0) ]
-
-strict_left : (a b c P Q R : ℕ) → 0 < R → a * Q < b * P → b * R ≤ c * Q → a * R < c * P
-strict_left a b c P Q R r h k = lt_of_mul-lt-mul_left Q (omega (arith, mul-lt-mul_of_pos_left {k = R} h r, mul-le-mul_left P k))
-
-strict_right : (a b c P Q R : ℕ) → 0 < P → a * Q ≤ b * P → b * R < c * Q → a * R < c * P
-strict_right a b c P Q R r h k = lt_of_mul-lt-mul_left Q (omega (arith, mul-le-mul_left R h, mul-lt-mul_of_pos_left {k = P} k r))
-
-level : (a b c P Q R : ℕ) → 0 < Q → a * Q ≡ b * P → b * R ≡ c * Q → a * R ≡ c * P
-level a b c P Q R q h k =
-    let times : Q * (a * R) ≡ Q * (c * P) = omega (arith, ap (λ n. R * n) h, ap (λ n. P * n) k) in
-    let up : a * R ≤ c * P = le_of_mul-le-mul_left {k = Q} (omega arith) q in
-    let down : c * P ≤ a * R = le_of_mul-le-mul_left {k = Q} (omega arith) q in
-    omega arith
 
 -- it goes on past a middle one
 pub leads_on : (wa pa fa wb pb fb wc pc fc : ℕ) → 0 < pa → 0 < pb → 0 < pc → Leads wb pb fb wa pa fa → Leads wc pc fc wb pb fb → Leads wc pc fc wa pa fa

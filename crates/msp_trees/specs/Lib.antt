@@ -1,3 +1,2 @@
 pub mod Horn
 pub mod Joining
-pub mod Row

@@ -8,10 +8,9 @@ ghost use Rattle.msp_route.specs.Bounds.{IsAnswer};
 ghost use Rattle.msp_trees.specs.Horn.{horn_class, IsHornOrder};
 
 use crate::joining::joined_jobs;
-use crate::row::solution_in_order;
 use msp_class::{Class, Crit, Env, NoMemory, Order, Times};
 use msp_instance::Instance;
-use msp_route::Solver;
+use msp_route::{Solver, solution_in_order};
 use msp_schedule::Solution;
 use std::alloc::Global;
 

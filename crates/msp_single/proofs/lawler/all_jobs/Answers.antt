@@ -1,4 +1,4 @@
-use Rattle.msp_single.proofs.Steps.{pushed, range-next}
+use Rattle.msp_route.proofs.Pushes.{pushed, range-next}
 use Rattle.msp_single.proofs.lawler.all_jobs.Goals as goal
 
 pub loop-job-preserved : goal.loop-job-preserved

@@ -2,7 +2,7 @@ use Rattle.std.proofs.Common.{◌∙◌, rules}
 use Rattle.std.specs.Int.{w64, w128}
 use Rattle.std.proofs.lemmas.Int.{to_z-of_z}
 use Rattle.std.proofs.lemmas.Result.{IfOk-weaker}
-use Rattle.msp_single.proofs.Steps.{pushed}
+use Rattle.msp_route.proofs.Pushes.{pushed}
 use Rattle.msp_single.proofs.MooreSteps.{accept-kept, accept-overrun, overran, not_overran}
 use Rattle.msp_single.proofs.moore.accept.Goals as goal
 

@@ -1,7 +1,7 @@
 -- The jobs are put at the end one by one.
 use Rattle.std.proofs.Common.{◌++◌, sym, ap, ◌∙◌}
 use Rattle.std.proofs.lemmas.List.{append-nil, take_all}
-use Rattle.msp_trees.proofs.Steps.{on_ok}
+use Rattle.msp_route.proofs.Pushes.{on_ok}
 use Rattle.msp_trees.proofs.Picks.{appended-next}
 use Rattle.msp_trees.proofs.joining.append.Goals as goal
 

@@ -1,6 +1,6 @@
 -- One more block is joined.
 use Rattle.std.proofs.Common.{rules}
-use Rattle.msp_trees.proofs.Steps.{on_ok}
+use Rattle.msp_route.proofs.Pushes.{on_ok}
 use Rattle.msp_trees.proofs.Picks.{join-start, join-next}
 use Rattle.msp_trees.proofs.joining.join_all.Goals as goal
 

@@ -1,5 +1,5 @@
 -- One more block of one job.
-use Rattle.msp_trees.proofs.Steps.{pushed}
+use Rattle.msp_route.proofs.Pushes.{pushed}
 use Rattle.msp_trees.proofs.Picks.{singles-next}
 use Rattle.msp_trees.proofs.joining.singles.Goals as goal
 

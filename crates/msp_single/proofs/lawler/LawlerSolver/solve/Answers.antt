@@ -8,8 +8,8 @@ use Rattle.msp_schedule.specs.Settled.{IsSettled}
 use Rattle.msp_schedule.proofs.OneMachine.{job_of}
 use Rattle.msp_route.specs.Bounds.{IsAnswer}
 use Rattle.msp_single.specs.Lawler.{IsLawlerOrder}
-use Rattle.msp_single.specs.Row.{IsRowSolution}
-use Rattle.msp_single.proofs.Facts.{short_needs}
+use Rattle.msp_route.specs.Row.{IsRowSolution}
+use Rattle.msp_route.proofs.PlainJobs.{short_needs}
 use Rattle.msp_single.proofs.LawlerFacts.{IsLawlerInstance-from_class}
 use Rattle.msp_single.proofs.LawlerBest.{IsLawlerSchedule-made}
 use Rattle.msp_single.proofs.lawler.LawlerSolver.solve.Goals as goal

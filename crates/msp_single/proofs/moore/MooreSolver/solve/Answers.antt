@@ -8,8 +8,8 @@ use Rattle.msp_schedule.specs.Settled.{IsSettled}
 use Rattle.msp_schedule.proofs.OneMachine.{job_of}
 use Rattle.msp_route.specs.Bounds.{IsAnswer}
 use Rattle.msp_single.specs.Moore.{IsMooreOrder}
-use Rattle.msp_single.specs.Row.{IsRowSolution}
-use Rattle.msp_single.proofs.Facts.{fair_needs, short_needs}
+use Rattle.msp_route.specs.Row.{IsRowSolution}
+use Rattle.msp_route.proofs.PlainJobs.{fair_needs, short_needs}
 use Rattle.msp_single.proofs.MooreFacts.{IsMooreInstance-from_class}
 use Rattle.msp_single.proofs.MooreBest.{all_in_order, IsMooreSchedule-made}
 use Rattle.msp_single.proofs.moore.MooreSolver.solve.Goals as goal

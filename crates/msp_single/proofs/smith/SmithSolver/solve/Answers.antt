@@ -8,8 +8,8 @@ use Rattle.msp_schedule.specs.Settled.{IsSettled}
 use Rattle.msp_schedule.proofs.OneMachine.{job_of}
 use Rattle.msp_route.specs.Bounds.{IsAnswer}
 use Rattle.msp_single.specs.Smith.{IsSmithOrder}
-use Rattle.msp_single.specs.Row.{IsRowSolution}
-use Rattle.msp_single.proofs.Facts.{fair_needs, short_needs}
+use Rattle.msp_route.specs.Row.{IsRowSolution}
+use Rattle.msp_route.proofs.PlainJobs.{fair_needs, short_needs}
 use Rattle.msp_single.proofs.SmithFacts.{IsSmithInstance-from_class}
 use Rattle.msp_single.proofs.SmithBest.{IsSmithSchedule-made}
 use Rattle.msp_single.proofs.smith.SmithSolver.solve.Goals as goal

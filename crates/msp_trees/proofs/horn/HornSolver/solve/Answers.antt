@@ -8,8 +8,8 @@ use Rattle.msp_schedule.specs.Settled.{IsSettled}
 use Rattle.msp_route.specs.Bounds.{IsAnswer}
 use Rattle.msp_trees.specs.Horn.{IsHornOrder}
 use Rattle.msp_schedule.proofs.OneMachine.{job_of}
-use Rattle.msp_trees.specs.Row.{IsRowSolution}
-use Rattle.msp_trees.proofs.Facts.{short_needs}
+use Rattle.msp_route.specs.Row.{IsRowSolution}
+use Rattle.msp_route.proofs.PlainJobs.{short_needs}
 use Rattle.msp_trees.proofs.HornBest.{IsHornInstance-from_class}
 use Rattle.msp_trees.proofs.Picks.{behind_first, cheapest_behind, horn_order, horn_made}
 use Rattle.msp_trees.proofs.horn.HornSolver.solve.Goals as goal

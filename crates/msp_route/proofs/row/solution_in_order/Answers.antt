@@ -1,8 +1,9 @@
+-- The row is within the limits, and its cost is taken.
 use Rattle.std.proofs.Common.{sym, subst}
 use Rattle.msp_schedule.specs.Feasible.{Feasible}
 use Rattle.msp_schedule.specs.Within.{Within}
-use Rattle.msp_single.proofs.Steps.{as_schedule}
-use Rattle.msp_single.proofs.row.solution_in_order.Goals as goal
+use Rattle.msp_route.proofs.RowSteps.{as_schedule}
+use Rattle.msp_route.proofs.row.solution_in_order.Goals as goal
 
 pub cost-cost-requires-clause-within : goal.cost-cost-requires-clause-within
 cost-cost-requires-clause-within c = subst (Within c.args.inst.now) (sym (as_schedule c.args.inst.now _ c.args.order.now c.in_ok-pieces.ensures)) c.requires.within

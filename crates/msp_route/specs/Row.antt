@@ -1,4 +1,4 @@
--- The solution in which jobs run one after another. No public contract cites this file.
+-- The solution in which jobs run one after another.
 use Rattle.std.specs.Prelude.{◌≡◌, ℕ, List}
 use Rattle.msp_instance.specs.declared.Instance.{Instance}
 use Rattle.msp_schedule.specs.declared.Solution.{Solution}

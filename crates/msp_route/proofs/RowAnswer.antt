@@ -9,7 +9,7 @@ use Rattle.msp_schedule.proofs.Rows.{row, row-All, row-to, length-row}
 use Rattle.msp_schedule.proofs.OneMachine.{finish, IsTimed}
 use Rattle.msp_schedule.proofs.OneRow.{piece, piece_makes, time_at, row_schedule, row-timed, row_ends}
 use Rattle.msp_route.specs.Bounds.{IsAnswer, answer_unit}
-use Rattle.msp_trees.proofs.Facts.{IsPlain, takes_time, is_short}
+use Rattle.msp_route.proofs.PlainJobs.{IsPlain, takes_time, is_short}
 
 module _ (i : Instance) (h : IsPlain i) (order : List ℕ) (once : OnceBelow (length i.jobs) order) where
   abbrev pieces : List Piece
