@@ -1,0 +1,14 @@
+//! Instances and schedules for the tests of other crates.
+//!
+//! It stands on `msp_class`, `msp_instance` and `msp_schedule`. Tests of the layers above use it, and no program does.
+#![tactic(auto)]
+
+mod instances;
+mod job_data;
+mod lists;
+mod pieces;
+
+pub use instances::{class, in_class, instance, instance_by_needs};
+pub use job_data::{JobData, UNIT_JOB, jobs, load, need, one_job, timed};
+pub use lists::list_of;
+pub use pieces::{one_piece, operation_piece, piece, piece_on, unit_piece};
