@@ -1,9 +1,9 @@
 // Shortest remaining time: at each moment the released job runs that still needs the least time.
-ghost use Rattle.std.specs.Prelude.{◌≡◌, ℕ, ◌+◌, ◌-◌, ◌*◌, ◌<◌, ◌≤◌, [], ◌∷◌, true, false, length, map, slice_index_or, vec_len, All, AllPairs, IfOk, IfNone, IfSome, IsPermutation, ⊤};
+ghost use Rattle.std.specs.Prelude.{◌≡◌, ℕ, ◌+◌, ◌-◌, ◌*◌, ◌<◌, ◌≤◌, [], ◌∷◌, true, false, length, map, vec_len, All, AllPairs, IfOk, IfNone, IfSome, IsPermutation, ⊤};
 ghost use Rattle.std.specs.BinaryHeap.{heap_items, heap_len};
 ghost use Rattle.std.specs.List.{range_with_len};
 ghost use Rattle.msp_instance.specs.declared.ranges.TheConstants.{MOST_JOBS};
-ghost use Rattle.msp_instance.specs.Instance.{job_at, need_at, no_need};
+ghost use Rattle.msp_instance.specs.Instance.{job_at, need_at};
 ghost use Rattle.msp_instance.specs.Conditions.{Inner};
 ghost use Rattle.msp_schedule.specs.Cost.{IsBest};
 ghost use Rattle.msp_schedule.specs.Fraction.{IsLowest};
@@ -13,8 +13,8 @@ ghost use Rattle.msp_srpt.specs.Shortest.{shortest_class, IsShortestFirst};
 ghost use Rattle.msp_srpt.specs.Running.{Precedes, IsQueue, tasks_in, HasBegun, Runs, GoesOn, IsCarriedOut};
 
 use msp_class::{Class, Crit, Env, List, NoMemory, Order, Times};
-use msp_instance::{GREATEST, Instance, Job};
-use msp_route::Solver;
+use msp_instance::{GREATEST, Instance};
+use msp_route::{Solver, first_time};
 use msp_schedule::{Piece, Schedule, Solution};
 use std::alloc::Global;
 use std::cmp::Reverse;
@@ -45,14 +45,6 @@ struct Task {
 struct Arrival {
     release: u64,
     task: Task,
-}
-
-/// The time of a job's one operation.
-fn first_time(job: &Job) -> u64
-    requires { 0 < length job.now.needs }
-    ensures { result ≡ (slice_index_or job.now.needs 0 no_need).time }
-{
-    job.needs.as_slice()[0].time
 }
 
 /// The arrivals of all jobs, in order of number.

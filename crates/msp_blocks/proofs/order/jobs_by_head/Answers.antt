@@ -2,7 +2,8 @@ use Rattle.std.proofs.Common.{◌≡◌, ◌≤◌, ◌∙◌, length, map, ap, 
 use Rattle.std.specs.List.{range_with_len}
 use Rattle.std.proofs.lemmas.Result.{IfOk-weaker}
 use Rattle.std.proofs.lemmas.List.Sorted.{IsNonDecreasingBy-from_sort_by_key}
-use Rattle.msp_blocks.proofs.Waiting.{on_ok, waiting_all, waiting_rising}
+use Rattle.msp_route.proofs.Pushes.{on_ok}
+use Rattle.msp_blocks.proofs.Waiting.{waiting_all, waiting_rising}
 use Rattle.msp_blocks.proofs.order.jobs_by_head.Goals as goal
 
 pub returns-clause-all : goal.returns-clause-all

@@ -2,7 +2,7 @@ use Rattle.std.proofs.Common.{◌∙◌, rules}
 use Rattle.std.specs.Int.{w128}
 use Rattle.std.proofs.lemmas.Int.{to_z-of_z}
 use Rattle.msp_srpt.proofs.Laying.{Runs-laid}
-use Rattle.msp_srpt.proofs.Facts.{pushed}
+use Rattle.msp_route.proofs.Pushes.{pushed}
 use Rattle.msp_srpt.proofs.shortest.lay.Goals as goal
 
 pub returns-clause-run : goal.returns-clause-run

@@ -1,5 +1,5 @@
 use Rattle.msp_srpt.proofs.Queue.{tasks-moved}
-use Rattle.msp_srpt.proofs.Facts.{on_ok}
+use Rattle.msp_route.proofs.Pushes.{on_ok}
 use Rattle.msp_srpt.proofs.shortest.put.Goals as goal
 
 pub returns-clause-tasks : goal.returns-clause-tasks

@@ -1,7 +1,7 @@
 use Rattle.std.proofs.Common.{◌<◌, ◌≤◌, ◌+◌, ◌*◌, length, arith, rules}
 use Rattle.msp_srpt.proofs.Arrivals.{AreSorted-made, comes, early, in_order, carried_out}
 use Rattle.msp_srpt.proofs.Instances.{IsShortestInstance-from_class}
-use Rattle.msp_srpt.proofs.Facts.{on_ok}
+use Rattle.msp_route.proofs.Pushes.{on_ok}
 use Rattle.msp_srpt.proofs.Queue.{still_put}
 use Rattle.msp_srpt.proofs.shortest.shortest_pieces.Goals as goal
 
