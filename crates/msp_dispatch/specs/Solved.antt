@@ -1,5 +1,5 @@
 -- The classes that are solved, each with its solver, in the order in which they are tried.
-use Rattle.std.specs.Prelude.{true, false, List, [], ◌∷◌, map}
+use Rattle.std.specs.Prelude.{List, [], ◌∷◌, map}
 use Rattle.msp_class.specs.declared.class.Class.{Class}
 use Rattle.msp_route.specs.declared.answer.SolverName.{SolverName}
 use Rattle.msp_route.specs.declared.answer.SolverName.TheVariants as solver
@@ -12,7 +12,7 @@ use Rattle.msp_srpt.specs.Shortest.{shortest_class}
 use Rattle.msp_wrap.specs.Wrap.{wrap_class}
 use Rattle.msp_levels.specs.Levels.{levels_class}
 use Rattle.msp_total.specs.Classes.{uniform_class, unrelated_class}
-use Rattle.msp_total.specs.Slots.{slot_class}
+use Rattle.msp_total.specs.Slots.{tardiness_class, late_jobs_class}
 use Rattle.msp_shops.specs.Classes.{johnson_class, jackson_class}
 use Rattle.msp_shops.specs.Open.{open_class}
 use Rattle.msp_dispatch.specs.declared.solved_list.SolvedClass.{SolvedClass}
@@ -33,8 +33,8 @@ solved_list =
     solves levels_class solver.Levels ∷
     solves uniform_class solver.Uniform ∷
     solves unrelated_class solver.Unrelated ∷
-    solves (slot_class true) solver.SlotsLate ∷
-    solves (slot_class false) solver.SlotsCount ∷
+    solves tardiness_class solver.SlotsLate ∷
+    solves late_jobs_class solver.SlotsCount ∷
     solves johnson_class solver.Johnson ∷
     solves jackson_class solver.Jackson ∷
     solves open_class solver.Open2 ∷

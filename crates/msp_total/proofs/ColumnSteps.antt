@@ -1,16 +1,15 @@
 -- Steps of the loops over times, and over jobs and their columns.
-use Rattle.std.proofs.Common.{◌≡◌, ℕ, suc, ◌+◌, ◌*◌, ◌-◌, ◌/◌, ◌%◌, ◌<◌, ◌≤◌, ◌^◌, Bool, true, false, eqb, leb, List, [], ◌∷◌, ◌++◌, length, get_or, map, All, IsPermutation, refl, sym, ap, subst, ◌∙◌, arith}
+use Rattle.std.proofs.Common.{◌≡◌, ℕ, ◌+◌, ◌*◌, ◌-◌, ◌/◌, ◌%◌, ◌<◌, ◌≤◌, ◌^◌, Bool, true, false, eqb, leb, List, [], ◌∷◌, ◌++◌, length, get_or, map, All, IsPermutation, refl, sym, ap, subst, ◌∙◌, arith}
 use Rattle.std.specs.Prelude.{slice_index_or}
 use Rattle.std.specs.List.{range_with_len}
 use Rattle.std.specs.List.Sorted.{IsNonDecreasingBy}
 use Rattle.std.proofs.lemmas.Bool.{eqb-true, eqb-false, leb-true, leb-false}
 use Rattle.std.proofs.lemmas.Nat.{mul-le}
-use Rattle.std.proofs.lemmas.List.{map-append, get_or_default, get_or-append_right, get_or_append_left, length-append, length-map, get_or-map}
+use Rattle.std.proofs.lemmas.List.{get_or_default, get_or-append_right, get_or_append_left, length-append, length-map, get_or-map}
 use Rattle.std.proofs.lemmas.List.Elements.{All-push}
 use Rattle.std.proofs.lemmas.List.Sorted.{IsPermutation-map, All-permutation}
 use Rattle.std.proofs.Math.Nat.{mul-le-mul_right, mod-lt, div-mul-le_self}
 use Rattle.msp_class.proofs.IntegerRing.{pos-le}
-use Rattle.msp_class.proofs.Sums.{range_with_len_last}
 use Rattle.msp_instance.specs.declared.Job.{Job}
 use Rattle.msp_instance.specs.declared.Need.{Need}
 use Rattle.msp_instance.specs.declared.Instance.{Instance}
@@ -84,13 +83,6 @@ costs_small p each few h short r c l k = (pos-le none, pos-le (bound _ (mul-le (
     bound x g = omega (arith, g)
 
 -- ---- jobs and columns
-pub numbers-next : (new old : List Chosen) (x : Chosen) (k : ℕ) → new ≡ old ++ x ∷ [] → x.job ≡ k → map (λ r. r.job) old ≡ range_with_len 0 k → map (λ r. r.job) new ≡ range_with_len 0 (k + 1)
-numbers-next new old x k e is so_far =
-    let place : x.job ≡ 0 + k = omega (arith, is) in
-    let back : suc k ≡ k + 1 = omega arith in
-    ap (map (λ r. r.job)) e ∙ map-append (λ r. r.job) old (x ∷ []) ∙ ap (λ l. l ++ x.job ∷ []) so_far
-    ∙ ap (λ n. range_with_len 0 k ++ n ∷ []) place ∙ sym (range_with_len_last 0 k) ∙ ap (range_with_len 0) back
-
 abbrev pub HasColumn : List ℕ → Chosen → Type 0
 HasColumn column c = c.column ≡ column_of column c.job
 

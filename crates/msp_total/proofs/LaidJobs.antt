@@ -20,11 +20,6 @@ pub total_below-first : (n : ℕ) (f : ℕ → ℕ) → total_below (suc n) f �
 total_below-first zero f = omega arith
 total_below-first (suc n) f = omega (arith, total_below-first n f)
 
--- the sum over a list, place by place
-pub sum_by-places : {X : Type 0} (f : X → ℕ) (xs : List X) (d : X) → sum_by f xs ≡ total_below (length xs) (λ r. f (get_or xs r d))
-sum_by-places f [] d = refl
-sum_by-places f (x ∷ xs) d = sum_by-cons f x xs ∙ ap (λ t. f x + t) (sum_by-places f xs d) ∙ sym (total_below-first (length xs) (λ r. f (get_or (x ∷ xs) r d)))
-
 -- ---- the time of a machine
 pub time_on-cons : (m : ℕ) (p : Place) (ps : List Place) → time_on m (p ∷ ps) ≡ cond (eqb p.machine m) p.length 0 + time_on m ps
 time_on-cons m p ps = sum_by-cons (λ q. cond (eqb q.machine m) q.length 0) p ps

@@ -1,9 +1,8 @@
 -- Laid jobs as a schedule on machines of any kind: it is feasible, what it costs, and its bounds.
-use Rattle.std.proofs.Common.{◌≡◌, ℕ, ◌+◌, ◌*◌, ◌<◌, ◌≤◌, ◌^◌, false, cond, eqb, List, [], ◌∷◌, length, get_or, map, filter, count_by, ℤ, pos, ◌*ℤ◌, ◌≤ℤ◌, All, Contains, MatchBool, inr, refl, sym, ap, subst, ◌∙◌, arith}
+use Rattle.std.proofs.Common.{◌≡◌, ℕ, ◌+◌, ◌*◌, ◌<◌, ◌≤◌, ◌^◌, false, List, [], ◌∷◌, length, get_or, map, ℤ, pos, ◌*ℤ◌, ◌≤ℤ◌, All, Contains, MatchBool, inr, refl, sym, ap, subst, ◌∙◌, arith}
 use Rattle.std.proofs.lemmas.Int.{ints}
 use Rattle.std.proofs.lemmas.List.{length-map}
 use Rattle.std.proofs.lemmas.List.Elements.{All-nil, All-contains}
-use Rattle.std.proofs.lemmas.List.Sums.{length-filter, sum_by-cons}
 use Rattle.msp_class.specs.declared.class.Crit.TheVariants.{SumC}
 use Rattle.msp_class.specs.declared.environments.EnvKind.TheVariants.{Unrelated}
 use Rattle.msp_class.specs.Crit.{is_greatest}
@@ -21,6 +20,7 @@ use Rattle.msp_schedule.specs.Cost.{cost_of, end_of, job_cost}
 use Rattle.msp_schedule.specs.Within.{IsMoment, Within}
 use Rattle.msp_schedule.proofs.OneMachine.{job_of, finish, IsTimed, apart_in_int, pieces_of-job, last_end-is}
 use Rattle.msp_schedule.proofs.Intervals.{last_of}
+use Rattle.msp_schedule.proofs.OnceEach.{OnceBelow-one}
 use Rattle.msp_schedule.proofs.Moves.{Contains-map}
 use Rattle.msp_schedule.proofs.Charges.{cost_of-sum, charge_of}
 use Rattle.msp_route.specs.Bounds.{IsAnswer, answer_unit}
@@ -56,16 +56,6 @@ pub record AreFitting (i : Instance) (unit : ℕ) (places : List Place) : Type 0
 abbrev pub schedule_of : ℕ → List Place → Schedule
 schedule_of unit places = record { unit = pos unit; pieces = laid places }
 
--- ---- lists
-pub count-map : {X : Type 0} (f : X → ℕ) (j : ℕ) (xs : List X) → count_by (λ x. eqb (f x) j) xs ≡ count_by (λ n. eqb n j) (map f xs)
-count-map f j [] = refl
-count-map f j (x ∷ xs) = omega (arith, sum_by-cons (λ x. cond (eqb (f x) j) 1 0) x xs, sum_by-cons (λ n. cond (eqb n j) 1 0) (f x) (map f xs), count-map f j xs)
-
-pub one_of : {X : Type 0} (xs : List X) → length xs ≡ 1 → (x : X) × (xs ≡ x ∷ [])
-one_of [] e = absurd (omega (arith, e))
-one_of (x ∷ []) e = (x, refl)
-one_of (x ∷ y ∷ xs) e = absurd (omega (arith, e))
-
 module _ (i : Instance) (plain : IsPlain i) (unit : ℕ) (places : List Place) (fits : AreFitting i unit places) where
   abbrev n : ℕ
   n = length i.jobs
@@ -100,7 +90,7 @@ module _ (i : Instance) (plain : IsPlain i) (unit : ℕ) (places : List Place) (
 
   piece_of_job : (j : ℕ) → j < n → (p : Piece) × (pieces_of s j 0 ≡ p ∷ [])
   piece_of_job j l =
-      let (p, e) = one_of (filter (λ q. eqb q.job j) (laid places)) (length-filter (λ q. eqb q.job j) (laid places) ∙ count-map (λ q. q.job) j (laid places) ∙ jobs.once j l) in
+      let (p, e) = OnceBelow-one (λ q. q.job) (laid places) jobs j l in
       (p, pieces_of-job s j ops ∙ e)
 
   abbrev Gets : ℕ → Type 0

@@ -1,6 +1,5 @@
 -- Steps of the loops that lay jobs on machines.
-use Rattle.std.proofs.Common.{◌≡◌, ℕ, ◌+◌, ◌*◌, ◌<◌, ◌≤◌, ◌^◌, Bool, true, false, cond, eqb, not, List, [], ◌∷◌, ◌++◌, length, get_or, take, drop, set, All, OnOk, Ok, Err, Result, refl, sym, ap, subst, ◌∙◌, arith}
-use Rattle.std.specs.Result.{is_err}
+use Rattle.std.proofs.Common.{◌≡◌, ℕ, ◌+◌, ◌*◌, ◌<◌, ◌≤◌, ◌^◌, Bool, true, false, cond, eqb, List, [], ◌∷◌, ◌++◌, length, get_or, take, drop, set, All, refl, sym, ap, subst, ◌∙◌, arith}
 use Rattle.std.specs.Prelude.{slice_index_or}
 use Rattle.std.proofs.lemmas.Bool.{eqb-true, eqb-false}
 use Rattle.std.proofs.lemmas.Grind.{get_or-set_at}
@@ -12,14 +11,6 @@ use Rattle.msp_schedule.specs.declared.Piece.{Piece}
 use Rattle.msp_total.specs.declared.lay.Place.{Place}
 use Rattle.msp_total.specs.Places.{no_place, ArePlaces, time_on, piece_until, laid}
 use Rattle.msp_total.proofs.LaidJobs.{time_on-cons, time_on-own, time_on-most}
-
--- what a call that was not refused leaves
-pub on_ok : {A E : Type 0} (r : Result A E) (P : Type 0) (b : Bool) → OnOk r P → b ≡ is_err r → b ≡ false → P
-on_ok (Ok a) P b h e f = h
-on_ok (Err x) P b h e f = absurd (cc)
-
-pub pushed : {X : Type 0} (new old more : List X) (ok err : Bool) → new ≡ cond ok more old → ok ≡ not err → err ≡ false → new ≡ more
-pushed new old more ok err e is f = e ∙ ap (λ b. cond b more old) (is ∙ ap not f)
 
 -- the numbers of a list are those of a function, machine by machine
 abbrev pub AreTimes : List ℕ → List Place → Type 0

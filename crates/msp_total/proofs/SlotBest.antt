@@ -8,7 +8,6 @@ use Rattle.std.proofs.lemmas.Int.{ints}
 use Rattle.std.proofs.lemmas.List.{length-map, get_or-map}
 use Rattle.std.proofs.lemmas.List.FromFn.{length-map-range_with_len, get_or-map-range_with_len}
 use Rattle.std.proofs.lemmas.List.Elements.{All-nil, All-map, All-contains}
-use Rattle.std.proofs.lemmas.List.Sums.{length-filter}
 use Rattle.msp_class.specs.Env.{kind_of}
 use Rattle.msp_class.proofs.IntegerRing.{natural, pos-le, le-pos, pos-lt, int_max-right, zero-le-pos, ≤ℤ_refl, ≤ℤ_trans, *ℤ-one, *ℤ_comm, *ℤ-mono_nonneg}
 use Rattle.msp_class.proofs.Sums.{OnceBelow, OnceBelow-from_distinct, Contains-from_filter, int_total_below, int_total_below-same, int_total_below-mono, int_total_below-scale}
@@ -23,12 +22,12 @@ use Rattle.msp_schedule.specs.Cost.{cost_of, end_of, job_cost, Best}
 use Rattle.msp_schedule.specs.Within.{IsMoment, Within}
 use Rattle.msp_schedule.proofs.OneMachine.{pieces_of-job}
 use Rattle.msp_schedule.proofs.Charges.{charge_of, cost_of-sum, job_cost-mono, job_cost-scale}
+use Rattle.msp_schedule.proofs.OnceEach.{OnceBelow-one}
 use Rattle.msp_route.specs.Bounds.{IsAnswer, answer_unit}
 use Rattle.msp_assign.specs.Prices.{IsAssigned, column_of}
-use Rattle.msp_total.specs.Slots.{slot_class, forbidden, slot_cost}
+use Rattle.msp_total.specs.Slots.{forbidden, slot_cost}
 use Rattle.msp_total.specs.Seating.{one_if, begin_at, IsSeated}
-use Rattle.msp_total.specs.SlotSteps.{start_in, machine_in, head_in, piece_in, AreFilled, AreLeastLaid}
-use Rattle.msp_total.proofs.LaidSchedule.{count-map, one_of}
+use Rattle.msp_total.specs.SlotSteps.{slot_class, start_in, machine_in, head_in, piece_in, AreFilled, AreLeastLaid}
 use Rattle.msp_total.proofs.Seats.{HasSeats, law_of_seats, at_more}
 use Rattle.msp_total.proofs.SlotBound.{head_at, begins_of}
 use Rattle.msp_total.proofs.SlotFacts.{IsUnitShop, IsUnitShop-from, sums, ended, ended_small, cost_early, cost_in_time, cost_natural, heads_many, released-sorted, slots_soon}
@@ -238,7 +237,7 @@ module _ (i : Instance) (late : Bool) (h : IsUnitShop i late) (pieces : List Pie
   -- the one piece of a job
   mine : (j : ℕ) → j < n → filter (λ p. eqb p.job j) pieces ≡ piece_in l.slots j (col j) ∷ []
   mine j b =
-      let (p, e) = one_of (filter (λ p. eqb p.job j) pieces) (length-filter (λ p. eqb p.job j) pieces ∙ count-map (λ p. p.job) j pieces ∙ jobs.once j b) in
+      let (p, e) = OnceBelow-one (λ p. p.job) pieces jobs j b in
       let c : Contains (filter (λ p. eqb p.job j) pieces) p = subst (λ ps. Contains ps p) (sym e) (0, omega arith, refl) in
       let (inside, passes) = Contains-from_filter (λ p. eqb p.job j) pieces p c in
       let is = All-contains (λ p. p ≡ piece_in l.slots p.job (col p.job)) pieces p (all_pieces (λ p. p ≡ piece_in l.slots p.job (col p.job)) (λ j b. refl)) inside in

@@ -1,12 +1,12 @@
 -- What a feasible schedule of unit jobs on identical machines has: whole moments at which its jobs could begin, no more at a time than there
 -- are machines, and none of them later than the job begins.
-use Rattle.std.proofs.Common.{◌≡◌, ℕ, zero, suc, [], ◌∷◌, ◌+◌, ◌*◌, ◌/◌, ◌-◌, ◌<◌, ◌≤◌, Bool, true, false, cond, eqb, length, get_or, pos, nat_abs, ◌+ℤ◌, ◌-ℤ◌, ◌*ℤ◌, ◌≤ℤ◌, All, Contains, refl, sym, ap, subst, subst₂, ◌∙◌, arith}
+use Rattle.std.proofs.Common.{◌≡◌, ℕ, zero, suc, [], ◌∷◌, ◌+◌, ◌*◌, ◌/◌, ◌-◌, ◌<◌, ◌≤◌, Bool, true, false, cond, eqb, length, get_or, pos, nat_abs, ◌-ℤ◌, ◌*ℤ◌, ◌≤ℤ◌, All, Contains, refl, sym, ap, subst, subst₂, ◌∙◌, arith}
 use Rattle.std.specs.Prelude.{◌==◌, ◌&&◌}
 use Rattle.std.proofs.lemmas.Bool.{eqb-true, eq-eqb}
 use Rattle.std.proofs.lemmas.Int.{ints}
 use Rattle.std.proofs.Math.Nat.{mul-div_cancel_left}
 use native.Mathlib.Nat.{le_of_mul-le-mul_left}
-use Rattle.std.proofs.lemmas.List.Elements.{All-contains, All-map, Contains-get_or}
+use Rattle.std.proofs.lemmas.List.Elements.{All-contains, Contains-get_or}
 use Rattle.msp_class.specs.declared.environments.EnvKind.TheVariants.{Identical}
 use Rattle.msp_class.specs.Env.{kind_of}
 use Rattle.msp_class.proofs.Sums.{total_below, total_below-same, total_below-range, Contains-filter}
@@ -17,8 +17,9 @@ use Rattle.msp_schedule.specs.declared.Piece.{Piece}
 use Rattle.msp_schedule.specs.declared.Schedule.{Schedule}
 use Rattle.msp_schedule.specs.Feasible.{Feasible, HasPlace, HasOperation, whole_work}
 use Rattle.msp_schedule.specs.Cost.{end_of}
-use Rattle.msp_schedule.specs.Laws.{time_together, HasRoom, BeginsFrom, floored, floored_piece}
+use Rattle.msp_schedule.specs.Laws.{time_together, HasRoom, BeginsFrom, floored}
 use Rattle.msp_schedule.proofs.EndsAndFloors.{law_of_ends, law_of_floors}
+use Rattle.msp_schedule.proofs.Floored.{FillsUnit, floored-fills}
 use Rattle.msp_schedule.proofs.LastEnds.{last_end-reached}
 use Rattle.msp_schedule.proofs.Frames.{frame_of, of_operation, HasWork, IsShaped-from_identical, Fits-from_feasible}
 use Rattle.msp_total.specs.Seating.{one_if, begin_at, IsSeated}
@@ -41,7 +42,7 @@ module _ (i : Instance) (kind : kind_of i.class.env ≡ Identical) (ones : (k : 
   together test = total_below-range (length i.jobs) (λ j. cond (test j) (need_at i j 0).time 0) ∙ total_below-same (length i.jobs) _ (λ j. one_if (test j)) (λ j b. ap (λ x. cond (test j) x 0) (ones j b))
 
   -- in a schedule whose pieces last one unit and begin at multiples of it
-  module _ (s : Schedule) (f : Feasible i s) (unit : ℕ) (unit_is : s.unit ≡ pos unit) (pieces : All (λ p. (q : ℕ) × (p.from ≡ pos (unit * q)) × (p.to ≡ pos (unit * q + unit))) s.pieces) where
+  module _ (s : Schedule) (f : Feasible i s) (unit : ℕ) (unit_is : s.unit ≡ pos unit) (pieces : All (FillsUnit unit) s.pieces) where
     some_unit : 1 ≤ unit
     some_unit = le-pos (subst (λ x. pos 1 ≤ℤ x) unit_is f.unit)
 
@@ -65,7 +66,7 @@ module _ (i : Instance) (kind : kind_of i.class.env ≡ Identical) (ones : (k : 
     run : (j : ℕ) → j < length i.jobs → IsRun j
     run j b =
         let (p, c, e, r) = last_end-reached (frame_of i) s.unit s.pieces (Fits-from_feasible i s (IsShaped-from_identical i kind) f) works j b in
-        let (q, from, to) = All-contains (λ p. (q : ℕ) × (p.from ≡ pos (unit * q)) × (p.to ≡ pos (unit * q + unit))) s.pieces p pieces c in
+        let (q, from, to) = All-contains (FillsUnit unit) s.pieces p pieces c in
         let is : begin j ≡ q = begin_is j q (sym r ∙ to) in
         record { piece = p; here = c; of = e; from = from ∙ ap (λ n. pos (unit * n)) (sym is); end = sym r ∙ to ∙ ap (λ n. pos (unit * n + unit)) (sym is) }
 
@@ -122,19 +123,10 @@ module _ (i : Instance) (kind : kind_of i.class.env ≡ Identical) (ones : (k : 
       ends = λ j b. subst₂ (λ u e. (u *ℤ pos (begin j + 1)) ≤ℤ e) (sym unit_is) (sym (run j b).end) (pos-le (omega arith));
     }
 
-multiples : (s : Schedule) → pos 1 ≤ℤ s.unit → All (λ p. (q : ℕ) × (p.from ≡ pos (nat_abs s.unit * q)) × (p.to ≡ pos (nat_abs s.unit * q + nat_abs s.unit))) (floored s).pieces
-multiples s h = All-map (λ p. (q : ℕ) × (p.from ≡ pos (nat_abs s.unit * q)) × (p.to ≡ pos (nat_abs s.unit * q + nat_abs s.unit))) (floored_piece s.unit) s.pieces (λ k d l. let p = get_or s.pieces k d in by (nat_abs p.from / nat_abs s.unit))
-  where
-    is : s.unit ≡ pos (nat_abs s.unit)
-    is = natural s.unit (omega (arith, ints))
-
-    by : (q : ℕ) → (r : ℕ) × (s.unit *ℤ pos q ≡ pos (nat_abs s.unit * r)) × ((s.unit *ℤ pos q) +ℤ s.unit ≡ pos (nat_abs s.unit * r + nat_abs s.unit))
-    by q = (q, ap (λ u. u *ℤ pos q) is, ap (λ u. (u *ℤ pos q) +ℤ u) is)
-
 -- every feasible schedule has such moments
 pub begins_of : (i : Instance) (s : Schedule) → kind_of i.class.env ≡ Identical → i.class.cut ≡ false → ((k : ℕ) → k < length i.jobs → (need_at i k 0).time ≡ 1) → Feasible i s → (begin : ℕ → ℕ) × HasBegins i s begin
 begins_of i s kind uncut ones f =
     let (g, no_later) = law_of_floors i s kind uncut ones f in
     let unit_is : s.unit ≡ pos (nat_abs s.unit) = natural s.unit (omega (arith, ints, f.unit)) in
-    let h = HasBegins-here i kind ones (floored s) g (nat_abs s.unit) unit_is (multiples s f.unit) uncut in
-    (begin i kind ones (floored s) g (nat_abs s.unit) unit_is (multiples s f.unit), record { seated = h.seated; ends = λ j b. ≤ℤ_trans (h.ends j b) (no_later j) })
+    let h = HasBegins-here i kind ones (floored s) g (nat_abs s.unit) unit_is (floored-fills s f.unit) uncut in
+    (begin i kind ones (floored s) g (nat_abs s.unit) unit_is (floored-fills s f.unit), record { seated = h.seated; ends = λ j b. ≤ℤ_trans (h.ends j b) (no_later j) })

@@ -7,8 +7,6 @@ use Rattle.std.proofs.lemmas.Int.{ints, clamps}
 use Rattle.std.proofs.lemmas.List.{length-map, get_or-map}
 use Rattle.std.proofs.lemmas.List.Elements.{All-map}
 use Rattle.std.proofs.lemmas.List.Sorted.{All-permutation, length_permutation}
-use Rattle.msp_class.specs.declared.class.Class.{Class}
-use Rattle.msp_class.specs.declared.class.Times.TheVariants.{Unit as UnitTimes}
 use Rattle.msp_class.specs.declared.environments.EnvKind.TheVariants.{Identical}
 use Rattle.msp_class.specs.Crit.{is_greatest, uses_due, uses_weight}
 use Rattle.msp_class.specs.Env.{kind_of}
@@ -16,17 +14,18 @@ use Rattle.msp_class.proofs.IntegerRing.{one-*ℤ, *ℤ-mono, *ℤ-zero, ≤ℤ_
 use Rattle.msp_class.proofs.Sums.{total_below, sum_by-map, sum_by-IsPermutation}
 use Rattle.msp_instance.specs.declared.Job.{Job}
 use Rattle.msp_instance.specs.declared.Instance.{Instance}
-use Rattle.msp_instance.specs.Instance.{no_need, no_job, job_at, need_at, common_time}
-use Rattle.msp_instance.specs.Conditions.{Limits, LiesWithin, HasShape, HasSameTimes, HasRelease, HasDue, HasWeight, HasArcs, Inner, inner_limits}
+use Rattle.msp_instance.specs.Instance.{no_need, no_job, job_at, need_at}
+use Rattle.msp_instance.specs.Conditions.{Limits, LiesWithin, HasDue, HasWeight, Inner, inner_limits}
 use Rattle.msp_schedule.specs.declared.Piece.{Piece}
 use Rattle.msp_schedule.specs.Cost.{job_cost}
 use Rattle.msp_assign.specs.Prices.{HasCosts, IsAssigned, IsLeast}
 use Rattle.msp_total.specs.declared.earliest.Slot.{Slot}
 use Rattle.msp_total.specs.declared.slot_table.Slots.{Slots}
+use Rattle.msp_schedule.proofs.OfClass.{inner_of}
 use Rattle.msp_schedule.proofs.Places.{sum_by-places}
-use Rattle.msp_total.specs.Slots.{slot_crit, slot_class, forbidden, past_due, slot_cost}
+use Rattle.msp_total.specs.Slots.{forbidden, past_due, slot_cost}
 use Rattle.msp_total.specs.Seating.{one_if}
-use Rattle.msp_total.specs.SlotSteps.{no_slot, start_in, head_in, IsTable, AreSlots, AreLaid, AreLeastLaid}
+use Rattle.msp_total.specs.SlotSteps.{slot_crit, slot_class, no_slot, start_in, head_in, IsTable, AreSlots, AreLaid, AreLeastLaid}
 use Rattle.msp_total.proofs.Seats.{released_by}
 use Rattle.msp_total.proofs.SlotBound.{head_at}
 
@@ -52,27 +51,23 @@ weight_of : (late : Bool) (w : ℕ) → HasWeight (uses_weight (slot_crit late))
 weight_of true w h = h.1
 weight_of false w h = h.1
 
-ones_of : (i : Instance) (c : Class) → i.class ≡ c → kind_of c.env ≡ Identical → c.times ≡ UnitTimes → Inner i → (j : ℕ) → j < length i.jobs → (need_at i j 0).time ≡ 1
-ones_of i c e kind unit h j b =
-    let job = h.conditions.jobs j no_job b in
-    let one = subst (λ k. HasShape k i.class.env i.machines (job_at i j).needs) (ap (λ c. kind_of c.env) e ∙ kind) job.needs.shape in
-    subst (λ t. HasSameTimes t (common_time i) (job_at i j).needs) (ap (λ c. c.times) e ∙ unit) job.times 0 no_need (omega (arith, one.0))
-
 pub IsUnitShop-from : (i : Instance) (late : Bool) → i.class ≡ slot_class late → Inner i → IsUnitShop i late
-IsUnitShop-from i late e h = record {
-  kind = ap (λ c. kind_of c.env) e;
-  cut = ap (λ c. c.cut) e;
-  crit = ap (λ c. c.crit) e;
-  some = h.conditions.some;
-  few = h.conditions.few;
-  machines = h.conditions.machines.0;
-  most = h.conditions.machines.1;
-  arcs = subst (λ c. HasArcs c.order i.arcs) e h.conditions.arcs;
-  ones = ones_of i (slot_class late) e refl refl h;
-  heads = λ j d b. subst (λ c. HasRelease (inner_limits (kind_of c.env)) c.heads (get_or i.jobs j d).release) e (h.conditions.jobs j d b).release;
-  dues = λ j d b. due_of late (inner_limits Identical) (get_or i.jobs j d).due (subst (λ c. HasDue (inner_limits (kind_of c.env)) (uses_due c.crit) (get_or i.jobs j d).due) e (h.conditions.jobs j d b).due);
-  weights = λ j d b. weight_of late (get_or i.jobs j d).weight (subst (λ c. HasWeight (uses_weight c.crit) (get_or i.jobs j d).weight) e (h.conditions.jobs j d b).weight);
-}
+IsUnitShop-from i late e h =
+    let m = (inner_of i (slot_class late) e h).conditions in
+    record {
+      kind = ap (λ c. kind_of c.env) e;
+      cut = ap (λ c. c.cut) e;
+      crit = ap (λ c. c.crit) e;
+      some = m.some;
+      few = m.few;
+      machines = m.machines.0;
+      most = m.machines.1;
+      arcs = m.arcs;
+      ones = λ j b. let job = m.jobs j no_job b in job.times 0 no_need (omega (arith, job.needs.shape.0));
+      heads = λ j d b. (m.jobs j d b).release;
+      dues = λ j d b. due_of late (inner_limits Identical) (get_or i.jobs j d).due (m.jobs j d b).due;
+      weights = λ j d b. weight_of late (get_or i.jobs j d).weight (m.jobs j d b).weight;
+    }
 
 pub sums : (i : Instance) (late : Bool) → IsUnitShop i late → is_greatest i.class.crit ≡ false
 sums i late h = ap is_greatest h.crit ∙ by late

@@ -5,11 +5,11 @@ use Rattle.std.specs.List.{range_with_len}
 use Rattle.std.specs.List.Sorted.{IsNonDecreasingBy}
 use Rattle.std.proofs.lemmas.Bool.{eqb-true, eqb-false}
 use Rattle.std.proofs.lemmas.Grind.{get_or-set_at}
-use Rattle.std.proofs.lemmas.List.{map-append, get_or-set_other, get_or_default, get_or-append_right, get_or_append_left, length-append, length-take, length-set, get_or-take}
+use Rattle.std.proofs.lemmas.List.{get_or-set_other, get_or_default, get_or-append_right, get_or_append_left, length-append, length-take, length-set, get_or-take}
 use Rattle.std.proofs.lemmas.List.Elements.{All-push}
 use Rattle.std.proofs.lemmas.List.Sorted.{IsPermutation-map, All-permutation}
 use Rattle.std.proofs.Math.Nat.{mul-le-mul_right}
-use Rattle.msp_class.proofs.Sums.{range_with_len_last, cond-yes, cond-no, cond-le, total_below-same, total_below-bound}
+use Rattle.msp_class.proofs.Sums.{cond-yes, cond-no, cond-le, total_below-same, total_below-bound}
 use Rattle.msp_instance.specs.declared.Instance.{Instance}
 use Rattle.msp_instance.specs.declared.Job.{Job}
 use Rattle.msp_instance.specs.declared.Need.{Need}
@@ -20,13 +20,6 @@ use Rattle.msp_total.specs.Places.{no_place, place_at}
 use Rattle.msp_total.specs.Turns.{no_timed, timed_at, IsByTime, seats, multiplier, number_at, machine_at, IsFirstLeast, IsTurn, AreTurns, AreNext}
 
 -- ---- the jobs with their times
-pub numbers-next : (new old : List Timed) (x : Timed) (k : ℕ) → new ≡ old ++ x ∷ [] → x.job ≡ k → map (λ r. r.job) old ≡ range_with_len 0 k → map (λ r. r.job) new ≡ range_with_len 0 (k + 1)
-numbers-next new old x k e is so_far =
-    let place : x.job ≡ 0 + k = omega (arith, is) in
-    let back : suc k ≡ k + 1 = omega arith in
-    ap (map (λ r. r.job)) e ∙ map-append (λ r. r.job) old (x ∷ []) ∙ ap (λ l. l ++ x.job ∷ []) so_far
-    ∙ ap (λ n. range_with_len 0 k ++ n ∷ []) place ∙ sym (range_with_len_last 0 k) ∙ ap (range_with_len 0) back
-
 -- a time, as the code reads it
 pub time_read : (i : Instance) (jobs : List Job) (k : ℕ) (j : Job) (needs : List Need) (t : ℕ) → jobs ≡ i.jobs → k < length jobs → needs ≡ (get_or jobs k j).needs → t ≡ (slice_index_or needs 0 no_need).time → t ≡ (need_at i k 0).time
 time_read i jobs k j needs t e l n v = v ∙ ap (λ x. (slice_index_or x 0 no_need).time) (n ∙ ap (λ (x : Job). x.needs) (get_or_default jobs k j no_job l ∙ ap (λ xs. get_or xs k no_job) e))

@@ -24,13 +24,14 @@ use Rattle.msp_schedule.proofs.OneMachine.{start, finish, IsTimed}
 use Rattle.msp_schedule.proofs.Positions.{position_of, position_of-some, position_of-few, position_of-once, sum_of_ends}
 use Rattle.msp_schedule.proofs.SolePieces.{only_piece, IsOnly, is_only, only_timed, only_placed, only_apart, sum_of_only_ends}
 use Rattle.msp_route.specs.Bounds.{IsAnswer, answer_unit}
+use Rattle.msp_schedule.proofs.Places.{sum_by-places}
 use Rattle.msp_total.specs.declared.lay.Place.{Place}
 use Rattle.msp_total.specs.declared.uniform.Timed.{Timed}
 use Rattle.msp_total.specs.Multiple.{IsCommon}
 use Rattle.msp_total.specs.Places.{no_place, ArePlaces, laid}
 use Rattle.msp_total.specs.Turns.{no_timed, timed_at, IsByTime, seats, multiplier, number_at, machine_at, AreTurns}
 use Rattle.msp_total.proofs.Greedy.{taken, least_in_all}
-use Rattle.msp_total.proofs.LaidJobs.{piece_before, piece_long, sum_by-places, length_at}
+use Rattle.msp_total.proofs.LaidJobs.{piece_before, piece_long, length_at}
 use Rattle.msp_total.proofs.LaidSchedule.{IsPlain, AreFitting, schedule_of, laid_is_feasible, laid_costs, laid_is_within, laid_is_answer}
 use Rattle.msp_total.proofs.UniformFacts.{IsUniformInstance}
 

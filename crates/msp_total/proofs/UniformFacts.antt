@@ -1,9 +1,5 @@
 -- What an instance of uniform machines has.
-use Rattle.std.proofs.Common.{◌≡◌, ℕ, ◌<◌, ◌≤◌, Bool, true, false, leb, slice_index_or, [], length, All, refl, ap, subst, subst₂, arith}
-use Rattle.msp_class.specs.declared.class.Env.{Env}
-use Rattle.msp_class.specs.declared.class.Env.TheVariants.{Q}
-use Rattle.msp_class.specs.declared.class.Times.{Times}
-use Rattle.msp_class.specs.declared.class.Times.TheVariants.{General}
+use Rattle.std.proofs.Common.{◌≡◌, ℕ, ◌<◌, ◌≤◌, Bool, true, false, leb, slice_index_or, [], length, All, refl, ap, arith}
 use Rattle.msp_class.specs.declared.class.Crit.TheVariants.{SumC}
 use Rattle.msp_class.specs.declared.environments.EnvKind.TheVariants.{Uniform}
 use Rattle.msp_class.specs.Env.{kind_of}
@@ -12,7 +8,8 @@ use Rattle.std.proofs.lemmas.Bool.{leb-true, leb-false}
 use Rattle.msp_instance.specs.declared.Job.{Job}
 use Rattle.msp_instance.specs.declared.Instance.{Instance}
 use Rattle.msp_instance.specs.Instance.{no_need, no_job, job_at, need_at}
-use Rattle.msp_instance.specs.Conditions.{HasShape, HasTimes, HasRelease, HasSpeeds, HasSmallMultiple, HasArcs, MeetsConditions, Inner, inner_limits, least_time, greatest_time}
+use Rattle.msp_instance.specs.Conditions.{HasSmallMultiple, Inner}
+use Rattle.msp_schedule.proofs.OfClass.{inner_of}
 use Rattle.msp_total.specs.Classes.{uniform_class}
 
 pub record IsUniformInstance (i : Instance) : Type 0 where
@@ -32,29 +29,21 @@ pub record IsUniformInstance (i : Instance) : Type 0 where
 
 pub IsUniformInstance-from_class : (i : Instance) → i.class ≡ uniform_class → Inner i → IsUniformInstance i
 IsUniformInstance-from_class i e h =
-    let env : i.class.env ≡ Q = ap (λ c. c.env) e in
-    let times : i.class.times ≡ General = ap (λ c. c.times) e in
-    let heads : i.class.heads ≡ false = ap (λ c. c.heads) e in
-    let m : MeetsConditions (inner_limits (kind_of i.class.env)) i = h.conditions in
-    let speeds = subst (λ v. HasSpeeds (kind_of v) i.machines i.speeds) env m.speeds in
+    let m = (inner_of i uniform_class e h).conditions in
     record {
-      kind = ap kind_of env;
+      kind = ap (λ c. kind_of c.env) e;
       cut = ap (λ c. c.cut) e;
       crit = ap (λ c. c.crit) e;
-      arcs = subst (λ o. HasArcs o i.arcs) (ap (λ c. c.order) e) m.arcs;
+      arcs = m.arcs;
       some = m.some;
       few = m.few;
       machine = m.machines.0;
       machines = m.machines.1;
-      count = speeds.0;
-      speeds = speeds.1;
+      count = m.speeds.0;
+      speeds = m.speeds.1;
       multiple = m.multiple;
-      times = λ j l.
-          let n = (m.jobs j no_job l).needs in
-          let shape = subst (λ v. HasShape (kind_of v) v i.machines (job_at i j).needs) env n.shape in
-          let S : Env → Times → Type 0 = λ v t. HasTimes (least_time (kind_of v) t) (greatest_time (inner_limits (kind_of v)) t) (job_at i j).needs in
-          (subst₂ S env times n.times) 0 no_need (omega (arith, shape.0));
-      release = λ j l. subst (λ b. HasRelease (inner_limits (kind_of i.class.env)) b (job_at i j).release) heads (m.jobs j no_job l).release;
+      times = λ j l. let n = (m.jobs j no_job l).needs in n.times 0 no_need (omega (arith, n.shape.0));
+      release = λ j l. (m.jobs j no_job l).release;
     }
 
 -- each speed is at least 1

@@ -20,6 +20,7 @@ use Rattle.msp_schedule.proofs.PriceBounds.{law_of_prices, total_over_range}
 use Rattle.msp_route.specs.Bounds.{IsAnswer, answer_unit}
 use Rattle.msp_assign.specs.declared.assignment.Assignment.{Assignment}
 use Rattle.msp_assign.specs.Prices.{column_of, price_at}
+use Rattle.msp_schedule.proofs.Places.{sum_by-places}
 use Rattle.msp_total.specs.declared.lay.Place.{Place}
 use Rattle.msp_total.specs.declared.positions.Positions.{Positions}
 use Rattle.msp_total.specs.declared.unrelated.Chosen.{Chosen}
@@ -28,7 +29,7 @@ use Rattle.msp_total.specs.Positions.{time_in, position_cost}
 use Rattle.msp_total.specs.Turns.{seats, machine_at}
 use Rattle.msp_total.specs.Columns.{IsTableOf, HasShortTimes, IsPlacing, no_chosen, chosen_at, IsByColumn, ArePlacesOf}
 use Rattle.msp_total.proofs.ColumnSteps.{machine_inside}
-use Rattle.msp_total.proofs.LaidJobs.{piece_before, piece_long, sum_by-places, length_at}
+use Rattle.msp_total.proofs.LaidJobs.{piece_before, piece_long, length_at}
 use Rattle.msp_total.proofs.LaidSchedule.{IsPlain, AreFitting, schedule_of, laid_is_feasible, laid_costs, laid_is_within, laid_is_answer}
 use Rattle.msp_total.proofs.UnrelatedFacts.{IsUnrelatedInstance}
 

@@ -1,13 +1,24 @@
 -- The slots of the earliest schedule as they are found one after another, and the pieces that take them. No public contract cites this file.
-use Rattle.std.specs.Prelude.{◌≡◌, ℕ, ◌+◌, ◌*◌, ◌<◌, ◌≤◌, ◌⊎◌, Bool, List, length, map, slice_index_or, pos, IsPermutation}
+use Rattle.std.specs.Prelude.{◌≡◌, ℕ, ◌+◌, ◌*◌, ◌<◌, ◌≤◌, ◌⊎◌, Bool, true, false, List, length, map, slice_index_or, pos, IsPermutation}
+use Rattle.msp_class.specs.declared.class.Class.{Class}
+use Rattle.msp_class.specs.declared.class.Crit.{Crit}
+use Rattle.msp_class.specs.declared.class.Crit.TheVariants.{SumWT, SumWU}
 use Rattle.msp_instance.specs.declared.ranges.TheConstants.{GREATEST}
 use Rattle.msp_instance.specs.declared.Instance.{Instance}
 use Rattle.msp_schedule.specs.declared.Piece.{Piece}
 use Rattle.msp_total.specs.declared.earliest.Slot.{Slot}
 use Rattle.msp_assign.specs.Prices.{IsAssigned, IsLeast}
 use Rattle.msp_total.specs.declared.slot_table.Slots.{Slots}
-use Rattle.msp_total.specs.Slots.{slot_cost}
+use Rattle.msp_total.specs.Slots.{tardiness_class, slot_cost}
 use Rattle.msp_total.specs.Seating.{begin_at, IsSeated, IsTight, Rises}
+
+-- The class that is solved: by the weighted tardiness, or where `late` is false, by the weighted number of late jobs.
+abbrev pub slot_crit : Bool → Crit
+slot_crit true = SumWT
+slot_crit false = SumWU
+
+abbrev pub slot_class : Bool → Class
+slot_class late = record tardiness_class { crit = slot_crit late }
 
 abbrev pub no_slot : Slot
 no_slot = record { start = 0; machine = 0 }

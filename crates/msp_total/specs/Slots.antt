@@ -5,22 +5,25 @@ use Rattle.msp_class.specs.declared.class.Class.{Class}
 use Rattle.msp_class.specs.declared.class.Env.TheVariants.{P as Parallel}
 use Rattle.msp_class.specs.declared.class.Order.TheVariants.{Free}
 use Rattle.msp_class.specs.declared.class.Times.TheVariants.{Unit as UnitTimes}
-use Rattle.msp_class.specs.declared.class.Crit.{Crit}
 use Rattle.msp_class.specs.declared.class.Crit.TheVariants.{SumWT, SumWU}
 use Rattle.msp_total.specs.declared.slot_table.Slots.{Slots}
 
--- Identical machines, neither preemption nor precedence, release dates, unit times, and the total weighted tardiness or number of late
--- jobs: `P|r,p=1|sumwT` and `P|r,p=1|sumwU`.
-abbrev pub slot_crit : Bool → Crit
-slot_crit true = SumWT
-slot_crit false = SumWU
+-- Identical machines, neither preemption nor precedence, release dates, unit times, and the total weighted tardiness:
+-- `P|r,p=1|sumwT`.
+abbrev pub tardiness_class : Class
+tardiness_class = record { env = Parallel; cut = false; order = Free; heads = true; times = UnitTimes; crit = SumWT }
 
-abbrev pub slot_class : Bool → Class
-slot_class late = record { env = Parallel; cut = false; order = Free; heads = true; times = UnitTimes; crit = slot_crit late }
+-- The same by the weighted number of late jobs: `P|r,p=1|sumwU`.
+abbrev pub late_jobs_class : Class
+late_jobs_class = record tardiness_class { crit = SumWU }
 
 -- More than any schedule costs.
 abbrev pub forbidden : ℤ
 forbidden = pos (2 ^ 90)
+
+-- The most, in size, that the end of a slot is past a due date.
+abbrev pub greatest_past : ℕ
+greatest_past = 2 ^ 66
 
 -- How far the end is past the due date, or whether it is.
 abbrev pub past_due : Bool → ℤ → ℤ → ℤ

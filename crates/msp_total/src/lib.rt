@@ -20,6 +20,6 @@ mod unrelated;
 
 pub use positions::Positions;
 pub use slot_table::Slots;
-pub use uniform::{Uniform, schedule_by_multipliers};
+pub use uniform::Uniform;
 pub use unit_slots::{SlotsCount, SlotsLate};
-pub use unrelated::{Unrelated, schedule_by_positions};
+pub use unrelated::Unrelated;

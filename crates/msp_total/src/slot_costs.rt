@@ -2,7 +2,7 @@
 ghost use Rattle.std.specs.Prelude.{◌≡◌, ◌+◌, ◌*◌, ◌<◌, ◌≤◌, ◌^◌, pos, ◌*ℤ◌, unsigned_abs, length};
 ghost use Rattle.msp_instance.specs.declared.ranges.TheConstants.{GREATEST};
 ghost use Rattle.msp_instance.specs.Conditions.{LiesWithin};
-ghost use Rattle.msp_total.specs.Slots.{past_due, slot_cost};
+ghost use Rattle.msp_total.specs.Slots.{greatest_past, past_due, slot_cost};
 
 use crate::slot_table::Slots;
 use msp_assign::Costs;
@@ -19,7 +19,7 @@ fn product(a: i128, b: i128) -> i128
 
 fn weighed(weight: u64, past: i128) -> i128
     requires weight { weight ≤ GREATEST }
-    requires past { LiesWithin (2 ^ 66) past }
+    requires past { LiesWithin greatest_past past }
     ensures { result ≡ pos weight *ℤ past }
 {
     product(i128::from(weight), past)
@@ -28,7 +28,7 @@ fn weighed(weight: u64, past: i128) -> i128
 /// How far the end of the slot that begins at `start` is past the due date, or where `late` is false, 1 where it is past it.
 fn past(late: bool, start: u64, due: &i64) -> i128
     ensures value { result ≡ past_due late (pos (start + 1)) due.now }
-    ensures size { LiesWithin (2 ^ 66) result }
+    ensures size { LiesWithin greatest_past result }
 {
     let end = i128::from(start) + 1;
     let date = i128::from(*due);

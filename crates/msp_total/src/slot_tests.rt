@@ -1,7 +1,6 @@
 // Best schedules of small instances of unit jobs with release dates.
 ghost use Rattle.std.specs.Prelude.{◌≡◌, true, false, IfSome};
 ghost use Rattle.msp_instance.specs.Conditions.{Inner};
-ghost use Rattle.msp_total.specs.Slots.{slot_class};
 
 use crate::{SlotsCount, SlotsLate};
 use msp_class::{Class, List};

@@ -145,7 +145,7 @@ fn places_of(alloc: Global, jobs: &[Timed], steps: &[u64]) -> Result<Vec<Place>,
 /// A best schedule on uniform machines. The longest job comes first and takes the position of least multiplier, and so on: a job that k
 /// others follow on a machine of speed s counts (k + 1) / s times its time (Horowitz and Sahni 1976). The unit is the least common
 /// multiple of the speeds.
-pub fn schedule_by_multipliers(alloc: Global, inst: &Instance) -> Result<Solution, NoMemory>
+fn schedule_by_multipliers(alloc: Global, inst: &Instance) -> Result<Solution, NoMemory>
     requires inner { Inner inst.now }
     requires class { inst.now.class ≡ uniform_class }
     ensures best { IfOk result (λ s. IsBest inst.now s) }

@@ -1,11 +1,11 @@
 // Unit jobs in the slots of the earliest schedule, at least cost.
-ghost use Rattle.std.specs.Prelude.{◌≡◌, ◌<◌, ◌≤◌, ◌^◌, ◌*◌, true, false, length, map, All, IfOk, ⊤};
+ghost use Rattle.std.specs.Prelude.{◌≡◌, ◌<◌, ◌≤◌, length, map, All, IfOk, ⊤};
 ghost use Rattle.msp_instance.specs.declared.ranges.TheConstants.{GREATEST, MOST_JOBS};
 ghost use Rattle.msp_instance.specs.Conditions.{Inner};
 ghost use Rattle.msp_schedule.specs.Cost.{IsBest};
 ghost use Rattle.msp_route.specs.Bounds.{IsAnswer};
-ghost use Rattle.msp_total.specs.Slots.{slot_class};
-ghost use Rattle.msp_total.specs.SlotSteps.{slot_piece, IsTable, AreLaid, AreLeastLaid};
+ghost use Rattle.msp_total.specs.Slots.{tardiness_class, late_jobs_class};
+ghost use Rattle.msp_total.specs.SlotSteps.{slot_class, slot_piece, IsTable, AreLaid, AreLeastLaid};
 
 use crate::earliest::{Slot, earliest_slots, releases_of, sorted_releases};
 use crate::slot_table::Slots;
@@ -139,7 +139,7 @@ fn schedule_in_slots(alloc: Global, inst: &Instance, late: bool) -> Result<Solut
 pub struct SlotsLate;
 
 impl Solver for SlotsLate {
-    ghost solved = { λ _. slot_class true };
+    ghost solved = { λ _. tardiness_class };
 
     ghost can_solve = { λ _ _. ⊤ };
 
@@ -163,7 +163,7 @@ impl Solver for SlotsLate {
 pub struct SlotsCount;
 
 impl Solver for SlotsCount {
-    ghost solved = { λ _. slot_class false };
+    ghost solved = { λ _. late_jobs_class };
 
     ghost can_solve = { λ _ _. ⊤ };
 

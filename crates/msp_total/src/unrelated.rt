@@ -208,7 +208,7 @@ fn places_of(
 
 /// A best schedule on unrelated machines: a least assignment of the jobs to positions, counted from each machine's end; a job that k
 /// others follow adds k + 1 times its time there (Horn 1973, Bruno, Coffman and Sethi 1974). The unit is 1.
-pub fn schedule_by_positions(alloc: Global, inst: &Instance) -> Result<Solution, NoMemory>
+fn schedule_by_positions(alloc: Global, inst: &Instance) -> Result<Solution, NoMemory>
     requires inner { Inner inst.now }
     requires class { inst.now.class ≡ unrelated_class }
     ensures best { IfOk result (λ s. IsBest inst.now s) }

@@ -1,4 +1,4 @@
-use Rattle.msp_total.proofs.LaySteps.{pushed}
+use Rattle.msp_route.proofs.Pushes.{pushed}
 use Rattle.msp_total.proofs.Filling.{filled_next}
 use Rattle.msp_total.proofs.earliest.earliest_slots.Goals as goal
 

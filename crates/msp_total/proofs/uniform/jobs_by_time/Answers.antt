@@ -1,7 +1,7 @@
 use Rattle.std.proofs.Common.{◌-◌, rules}
 use Rattle.std.proofs.lemmas.List.Sorted.{IsNonDecreasingBy-from_sort_by_key}
 use Rattle.msp_total.proofs.UniformFacts.{IsUniformInstance-from_class, times_small}
-use Rattle.msp_total.proofs.LaySteps.{on_ok}
+use Rattle.msp_route.proofs.Pushes.{on_ok}
 use Rattle.msp_total.proofs.TurnSteps.{by_time}
 use Rattle.msp_total.proofs.uniform.jobs_by_time.Goals as goal
 

@@ -1,6 +1,6 @@
 use Rattle.std.proofs.Common.{refl, arith, slice_index_or}
 use Rattle.msp_total.specs.Turns.{no_timed}
-use Rattle.msp_total.proofs.LaySteps.{pushed}
+use Rattle.msp_route.proofs.Pushes.{pushed}
 use Rattle.msp_total.proofs.TurnSteps.{next-small, turn_taken}
 use Rattle.msp_total.proofs.uniform.places_of.Goals as goal
 

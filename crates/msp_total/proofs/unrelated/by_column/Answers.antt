@@ -1,6 +1,6 @@
 use Rattle.std.proofs.Common.{rules}
 use Rattle.std.proofs.lemmas.List.Sorted.{IsNonDecreasingBy-from_sort_by_key}
-use Rattle.msp_total.proofs.LaySteps.{on_ok}
+use Rattle.msp_route.proofs.Pushes.{on_ok}
 use Rattle.msp_total.proofs.ColumnSteps.{by_column}
 use Rattle.msp_total.proofs.unrelated.by_column.Goals as goal
 
