@@ -1,5 +1,5 @@
 -- What is brought back from unrelated machines to uniform ones.
-use Rattle.std.proofs.Common.{◌≡◌, ℕ, ◌^◌, ◌≤◌, inl, inr, false, ℤ, pos, negsuc, ◌+ℤ◌, ◌*ℤ◌, ◌≤ℤ◌, ◌<ℤ◌, if◌then◌else◌, sym, ap, subst, ◌∙◌, arith}
+use Rattle.std.proofs.Common.{◌≡◌, ℕ, ◌≤◌, inl, inr, false, ℤ, pos, negsuc, ◌+ℤ◌, ◌*ℤ◌, ◌≤ℤ◌, ◌<ℤ◌, if◌then◌else◌, sym, ap, subst, ◌∙◌, arith}
 use Rattle.std.specs.Int.{int_max}
 use Rattle.std.proofs.lemmas.Int.{ints}
 use Rattle.std.proofs.lemmas.Nat.{mul-le}
@@ -25,7 +25,7 @@ use Rattle.msp_machines.specs.Stretched.{IsLedBySpeeds}
 
 unit_fits : (u : ℤ) (n : ℕ) → pos 1 ≤ℤ u → u ≤ℤ GREATEST_CARRIED_UNIT → 1 ≤ n → n ≤ GREATEST_MULTIPLE → IsUnit (u *ℤ pos n)
 unit_fits (negsuc u) n h k some small = absurd (omega (arith, ints))
-unit_fits (pos u) n h k some small = (pos-le (mul-le 1 1 u n (le-pos h) some), pos-le (omega (arith, mul-le u n 4096 (2 ^ 30) (le-pos k) small)))
+unit_fits (pos u) n h k some small = (pos-le (mul-le 1 1 u n (le-pos h) some), pos-le (omega (arith, mul-le u n 4096 GREATEST_MULTIPLE (le-pos k) small)))
 
 moment : (x y : ℤ) → pos 0 ≤ℤ x → x <ℤ y → y ≤ℤ GREATEST_BACK_MOMENT → IsMoment x × IsMoment y
 moment x y p q r = ((p, omega (arith, ints)), (omega (arith, ints), omega (arith, ints)))

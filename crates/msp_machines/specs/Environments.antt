@@ -1,9 +1,7 @@
 -- The rows that lead to an environment of which theirs is a case: both have the same schedules at the same costs. No public contract cites this file.
-use Rattle.std.proofs.Common.{◌≡◌, ℕ, Bool, true, false, List, MatchOption, Some, None, IsSome, if◌then◌else◌, refl, ap, subst, ◌∙◌, arith}
-use Rattle.std.specs.Prelude.{◌&&◌}
+use Rattle.std.proofs.Common.{◌≡◌, ℕ, List, MatchOption, Some, refl, ap, subst, ◌∙◌, arith}
 use Rattle.std.specs.Bool.{⊤}
 use Rattle.std.proofs.lemmas.Bool.{eqb-true}
-use Rattle.msp_class.specs.declared.class.Class.{Class}
 use Rattle.msp_class.specs.declared.class.Env.{Env}
 use Rattle.msp_class.specs.declared.class.Env.TheVariants.{One, P2, P3, P, Q2, Q, R2, R, O2, O3, O, F2, F3, F, J2Short, JShort, J2, J}
 use Rattle.msp_class.specs.Env.{kind_of, fixed_machines}
@@ -18,12 +16,8 @@ use Rattle.msp_table.specs.Rows.{goes_of, table}
 use Rattle.msp_route.specs.Law.{Applies}
 use Rattle.msp_route.specs.Changes.{led}
 use Rattle.msp_route.proofs.Alike.{Alike, Alike-led}
+use Rattle.msp_route.proofs.Applied.{part_alone}
 use Rattle.msp_machines.specs.InnerMachines.{AreMachines, AreWithin-self, Inner-same_jobs}
-
--- what it takes that a row applies, and what its left part says
-pub some_if : (b : Bool) (c : Class) → IsSome (if b && true && true then Some c else None) → (b ≡ true) × ((if b && true && true then Some c else None) ≡ Some c)
-some_if true c h = (refl, refl)
-some_if false c h = absurd (cc)
 
 -- each instance of the one environment is one of the other
 record EnvGrows (from to : Env) : Type 0 where
@@ -63,52 +57,52 @@ longer h = record { some = h.some; few = omega (arith, h.few); machines = h.mach
 
 pub alike_17 : (i : Instance) → Inner i → Applies 17 i → Alike 17 i (led 17 i)
 unfolding goes_of table
-alike_17 i inner h = let (b, g) = some_if _ _ h in alike_env 17 One P (record { kind = refl; machines = λ m h. tt; shape = λ m needs h. h }) i (env_number-injective _ One (eqb-true _ _ b)) g inner
+alike_17 i inner h = let (b, g) = part_alone _ _ h in alike_env 17 One P (record { kind = refl; machines = λ m h. tt; shape = λ m needs h. h }) i (env_number-injective _ One (eqb-true _ _ b)) g inner
 
 pub alike_18 : (i : Instance) → Inner i → Applies 18 i → Alike 18 i (led 18 i)
 unfolding goes_of table
-alike_18 i inner h = let (b, g) = some_if _ _ h in alike_env 18 P2 P (record { kind = refl; machines = λ m h. tt; shape = λ m needs h. h }) i (env_number-injective _ P2 (eqb-true _ _ b)) g inner
+alike_18 i inner h = let (b, g) = part_alone _ _ h in alike_env 18 P2 P (record { kind = refl; machines = λ m h. tt; shape = λ m needs h. h }) i (env_number-injective _ P2 (eqb-true _ _ b)) g inner
 
 pub alike_19 : (i : Instance) → Inner i → Applies 19 i → Alike 19 i (led 19 i)
 unfolding goes_of table
-alike_19 i inner h = let (b, g) = some_if _ _ h in alike_env 19 P3 P (record { kind = refl; machines = λ m h. tt; shape = λ m needs h. h }) i (env_number-injective _ P3 (eqb-true _ _ b)) g inner
+alike_19 i inner h = let (b, g) = part_alone _ _ h in alike_env 19 P3 P (record { kind = refl; machines = λ m h. tt; shape = λ m needs h. h }) i (env_number-injective _ P3 (eqb-true _ _ b)) g inner
 
 pub alike_22 : (i : Instance) → Inner i → Applies 22 i → Alike 22 i (led 22 i)
 unfolding goes_of table
-alike_22 i inner h = let (b, g) = some_if _ _ h in alike_env 22 Q2 Q (record { kind = refl; machines = λ m h. tt; shape = λ m needs h. h }) i (env_number-injective _ Q2 (eqb-true _ _ b)) g inner
+alike_22 i inner h = let (b, g) = part_alone _ _ h in alike_env 22 Q2 Q (record { kind = refl; machines = λ m h. tt; shape = λ m needs h. h }) i (env_number-injective _ Q2 (eqb-true _ _ b)) g inner
 
 pub alike_25 : (i : Instance) → Inner i → Applies 25 i → Alike 25 i (led 25 i)
 unfolding goes_of table
-alike_25 i inner h = let (b, g) = some_if _ _ h in alike_env 25 R2 R (record { kind = refl; machines = λ m h. tt; shape = λ m needs h. h }) i (env_number-injective _ R2 (eqb-true _ _ b)) g inner
+alike_25 i inner h = let (b, g) = part_alone _ _ h in alike_env 25 R2 R (record { kind = refl; machines = λ m h. tt; shape = λ m needs h. h }) i (env_number-injective _ R2 (eqb-true _ _ b)) g inner
 
 pub alike_35 : (i : Instance) → Inner i → Applies 35 i → Alike 35 i (led 35 i)
 unfolding goes_of table
-alike_35 i inner h = let (b, g) = some_if _ _ h in alike_env 35 F2 F (record { kind = refl; machines = λ m h. tt; shape = λ m needs h. h }) i (env_number-injective _ F2 (eqb-true _ _ b)) g inner
+alike_35 i inner h = let (b, g) = part_alone _ _ h in alike_env 35 F2 F (record { kind = refl; machines = λ m h. tt; shape = λ m needs h. h }) i (env_number-injective _ F2 (eqb-true _ _ b)) g inner
 
 pub alike_36 : (i : Instance) → Inner i → Applies 36 i → Alike 36 i (led 36 i)
 unfolding goes_of table
-alike_36 i inner h = let (b, g) = some_if _ _ h in alike_env 36 F3 F (record { kind = refl; machines = λ m h. tt; shape = λ m needs h. h }) i (env_number-injective _ F3 (eqb-true _ _ b)) g inner
+alike_36 i inner h = let (b, g) = part_alone _ _ h in alike_env 36 F3 F (record { kind = refl; machines = λ m h. tt; shape = λ m needs h. h }) i (env_number-injective _ F3 (eqb-true _ _ b)) g inner
 
 pub alike_37 : (i : Instance) → Inner i → Applies 37 i → Alike 37 i (led 37 i)
 unfolding goes_of table
-alike_37 i inner h = let (b, g) = some_if _ _ h in alike_env 37 O2 O (record { kind = refl; machines = λ m h. tt; shape = λ m needs h. h }) i (env_number-injective _ O2 (eqb-true _ _ b)) g inner
+alike_37 i inner h = let (b, g) = part_alone _ _ h in alike_env 37 O2 O (record { kind = refl; machines = λ m h. tt; shape = λ m needs h. h }) i (env_number-injective _ O2 (eqb-true _ _ b)) g inner
 
 pub alike_38 : (i : Instance) → Inner i → Applies 38 i → Alike 38 i (led 38 i)
 unfolding goes_of table
-alike_38 i inner h = let (b, g) = some_if _ _ h in alike_env 38 O3 O (record { kind = refl; machines = λ m h. tt; shape = λ m needs h. h }) i (env_number-injective _ O3 (eqb-true _ _ b)) g inner
+alike_38 i inner h = let (b, g) = part_alone _ _ h in alike_env 38 O3 O (record { kind = refl; machines = λ m h. tt; shape = λ m needs h. h }) i (env_number-injective _ O3 (eqb-true _ _ b)) g inner
 
 pub alike_41 : (i : Instance) → Inner i → Applies 41 i → Alike 41 i (led 41 i)
 unfolding goes_of table
-alike_41 i inner h = let (b, g) = some_if _ _ h in alike_env 41 J2Short J2 (record { kind = refl; machines = λ m h. h; shape = λ m needs h. longer h }) i (env_number-injective _ J2Short (eqb-true _ _ b)) g inner
+alike_41 i inner h = let (b, g) = part_alone _ _ h in alike_env 41 J2Short J2 (record { kind = refl; machines = λ m h. h; shape = λ m needs h. longer h }) i (env_number-injective _ J2Short (eqb-true _ _ b)) g inner
 
 pub alike_42 : (i : Instance) → Inner i → Applies 42 i → Alike 42 i (led 42 i)
 unfolding goes_of table
-alike_42 i inner h = let (b, g) = some_if _ _ h in alike_env 42 J2Short JShort (record { kind = refl; machines = λ m h. tt; shape = λ m needs h. h }) i (env_number-injective _ J2Short (eqb-true _ _ b)) g inner
+alike_42 i inner h = let (b, g) = part_alone _ _ h in alike_env 42 J2Short JShort (record { kind = refl; machines = λ m h. tt; shape = λ m needs h. h }) i (env_number-injective _ J2Short (eqb-true _ _ b)) g inner
 
 pub alike_43 : (i : Instance) → Inner i → Applies 43 i → Alike 43 i (led 43 i)
 unfolding goes_of table
-alike_43 i inner h = let (b, g) = some_if _ _ h in alike_env 43 J2 J (record { kind = refl; machines = λ m h. tt; shape = λ m needs h. h }) i (env_number-injective _ J2 (eqb-true _ _ b)) g inner
+alike_43 i inner h = let (b, g) = part_alone _ _ h in alike_env 43 J2 J (record { kind = refl; machines = λ m h. tt; shape = λ m needs h. h }) i (env_number-injective _ J2 (eqb-true _ _ b)) g inner
 
 pub alike_44 : (i : Instance) → Inner i → Applies 44 i → Alike 44 i (led 44 i)
 unfolding goes_of table
-alike_44 i inner h = let (b, g) = some_if _ _ h in alike_env 44 JShort J (record { kind = refl; machines = λ m h. tt; shape = λ m needs h. longer h }) i (env_number-injective _ JShort (eqb-true _ _ b)) g inner
+alike_44 i inner h = let (b, g) = part_alone _ _ h in alike_env 44 JShort J (record { kind = refl; machines = λ m h. tt; shape = λ m needs h. longer h }) i (env_number-injective _ JShort (eqb-true _ _ b)) g inner

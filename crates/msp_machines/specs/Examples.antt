@@ -1,10 +1,10 @@
 -- The instance and the schedule of the tests. No public contract cites this file.
-use Rattle.std.proofs.Common.{◌≡◌, ◌≢◌, ℕ, zero, suc, ◌<◌, ◌≤◌, false, List, [], ◌∷◌, length, All, AllPairs, inr, pos, ◌*ℤ◌, ◌≤ℤ◌, if◌then◌else◌, slice_index_or, refl, sym, ap, subst, subst₂, ◌∙◌, arith}
+use Rattle.std.proofs.Common.{◌≡◌, ◌≢◌, ℕ, zero, suc, ◌<◌, ◌≤◌, false, List, [], ◌∷◌, length, All, inr, pos, ◌*ℤ◌, ◌≤ℤ◌, if◌then◌else◌, slice_index_or, refl, sym, ap, subst, subst₂, ◌∙◌, arith}
 use Rattle.std.specs.Prelude.{◌==◌}
 use Rattle.std.proofs.lemmas.Bool.{ne_eqb}
 use Rattle.std.proofs.lemmas.Int.{ints}
 use Rattle.std.proofs.lemmas.List.{get_or-replicate}
-use Rattle.std.proofs.lemmas.List.Elements.{All-nil, All-cons}
+use Rattle.std.proofs.lemmas.List.Elements.{All-nil}
 use Rattle.msp_class.specs.declared.class.Env.{Env}
 use Rattle.msp_class.specs.declared.class.Order.TheVariants.{Free}
 use Rattle.msp_class.specs.declared.class.Times.TheVariants.{General}
@@ -25,8 +25,9 @@ use Rattle.msp_schedule.specs.Feasible.{Feasible, HasPlace, HasOperation, MayRun
 use Rattle.msp_schedule.specs.Within.{Within, IsMoment}
 use Rattle.msp_schedule.proofs.Frames.{Lasts}
 use Rattle.msp_route.specs.Law.{Rate, IsForth}
-use Rattle.msp_route.specs.Bounds.{IsBounded, greatest_unit}
+use Rattle.msp_route.specs.Bounds.{IsBounded}
 use Rattle.msp_route.specs.declared.bounds.TheConstants.{GREATEST_BACK_MOMENT}
+use Rattle.msp_route.proofs.Samples.{one_each, no_pairs, unit_one}
 use Rattle.msp_machines.specs.Machines.{equal_speeds}
 use Rattle.msp_machines.specs.Unrelated.{needs_by}
 use Rattle.msp_machines.specs.NeedsBy.{get_or-needs_by, length-needs_by}
@@ -73,12 +74,6 @@ the_piece = record { job = 0; op = 0; machine = 0; from = pos 0; to = pos 1 }
 -- the job from moment 0 to 1
 abbrev pub from_zero : Schedule
 from_zero = record { unit = pos 1; pieces = the_piece ∷ [] }
-
-one_each : {X : Type 0} (P : X → Type 0) (x : X) → P x → All P (x ∷ [])
-one_each P x h = All-cons P x [] h (All-nil P)
-
-no_pairs : {X : Type 0} (R : X → X → Type 0) (xs : List X) → length xs ≤ 1 → AllPairs R xs
-no_pairs R xs h = λ i j d a b. absurd (omega arith)
 
 pub Inner-sample : (e : Env) (m : ℕ) → MeetsConditions text_limits (sample e m) → Inner (sample e m)
 Inner-sample e m h = Inner-from_class (sample e m) (record { conditions = h; acyclic = (0 ∷ [], record { whole = refl; each = λ j l. (0, omega arith, omega (arith, l)) }, All-nil _) })
@@ -169,15 +164,7 @@ Within-sample i = record {
 }
 
 pub IsBounded-sample : (i : Instance) → IsBounded i from_zero
-IsBounded-sample i = record { sized = record { few = omega arith; unit = by (kind_of i.class.env) }; ends = one_each (λ p. p.to ≤ℤ GREATEST_BACK_MOMENT) the_piece (omega (arith, ints)) }
-  where
-    by : (k : EnvKind) → pos 1 ≤ℤ greatest_unit k
-    by Identical = omega (arith, ints)
-    by Uniform = omega (arith, ints)
-    by Unrelated = omega (arith, ints)
-    by OpenShop = omega (arith, ints)
-    by FlowShop = omega (arith, ints)
-    by JobShop = omega (arith, ints)
+IsBounded-sample i = record { sized = record { few = omega arith; unit = unit_one (kind_of i.class.env) }; ends = one_each (λ p. p.to ≤ℤ GREATEST_BACK_MOMENT) the_piece (omega (arith, ints)) }
 
 -- what a reduction makes of it, where it keeps the schedule
 pub Feasible-below : (lower : Instance → Instance) (forth : Instance → Schedule → Schedule) (rate : Rate) (e : Env) (m : ℕ) (i j : Instance) (s : Schedule) → i ≡ sample e m → j ≡ lower i → s ≡ from_zero → 1 ≤ m → forth (sample e m) from_zero ≡ from_zero

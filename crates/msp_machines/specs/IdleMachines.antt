@@ -1,14 +1,14 @@
 -- The rows that lead to a shop with one more machine, on which no job takes time: the same schedules are feasible. No public contract cites this file.
-use Rattle.std.proofs.Common.{◌≡◌, ◌≢◌, ℕ, ◌+◌, ◌*◌, ◌<◌, ◌≤◌, Bool, true, false, not, ltb, List, [], ◌∷◌, ◌++◌, length, All, Any, Contains, ◌⊎◌, inl, inr, Some, None, IsSome, if◌then◌else◌, MatchOption, slice_index_or, refl, sym, ap, ap₂, subst, ◌∙◌, arith}
-use Rattle.std.specs.Prelude.{◌&&◌, unwrap_or, map, Option, ⊤}
+use Rattle.std.proofs.Common.{◌≡◌, ◌≢◌, ℕ, ◌+◌, ◌*◌, ◌<◌, ◌≤◌, Bool, true, false, not, ltb, List, [], ◌∷◌, ◌++◌, length, All, Any, Contains, ◌⊎◌, inl, inr, Some, None, MatchOption, slice_index_or, refl, sym, ap, ap₂, subst, ◌∙◌, arith}
+use Rattle.std.specs.Prelude.{◌↔◌, unwrap_or, map, Option, ⊤}
 use Rattle.std.proofs.lemmas.Bool.{eqb-true, ltb-true, ltb-false}
 use Rattle.std.proofs.lemmas.List.{length-map, length_push, get_or_push, get_or_append_left}
 use Rattle.std.proofs.lemmas.List.Elements.{All-push, All-contains_itself}
-use Rattle.msp_class.specs.declared.class.Class.{Class}
 use Rattle.msp_class.specs.declared.class.Env.{Env}
 use Rattle.msp_class.specs.declared.class.Env.TheVariants.{One, O2, O3, F2, F3}
 use Rattle.msp_class.specs.declared.class.Times.TheVariants.{General}
 use Rattle.msp_class.specs.declared.environments.EnvKind.{EnvKind}
+use Rattle.msp_class.specs.declared.environments.EnvKind.TheVariants.{Identical, OpenShop, FlowShop}
 use Rattle.msp_class.specs.Env.{kind_of, fixed_machines, is_mirror_kind}
 use Rattle.msp_class.proofs.EnvNumbers.{env_number-injective}
 use Rattle.msp_class.proofs.IntegerRing.{≤ℤ_of_same}
@@ -18,6 +18,7 @@ use Rattle.msp_instance.specs.declared.Need.{Need}
 use Rattle.msp_instance.specs.declared.Instance.{Instance}
 use Rattle.msp_instance.specs.Instance.{no_need, no_job, job_at, need_at, common_time}
 use Rattle.msp_instance.specs.Conditions.{Limits, HasSpeeds, HasShape, HasTimes, HasNeeds, HasSameTimes, IsSingleNeed, IsNeedPerMachine, Inner, inner_limits, inner_factor, least_time, greatest_time}
+use Rattle.msp_schedule.specs.declared.limits.TheConstants.{GREATEST_UNIT}
 use Rattle.msp_schedule.specs.Feasible.{HasOperation, MayRun, whole_work}
 use Rattle.msp_schedule.proofs.Frames.{frame_by, frame_of, rate_on, job_at-map}
 use Rattle.msp_schedule.proofs.Serves.{IsMultiple-same, Serves}
@@ -25,6 +26,7 @@ use Rattle.msp_schedule.proofs.Charges.{SameCharges-from_map, job_cost-reads}
 use Rattle.msp_table.specs.Rows.{goes_of, table}
 use Rattle.msp_route.specs.Law.{Applies}
 use Rattle.msp_route.specs.Bounds.{greatest_unit}
+use Rattle.msp_route.proofs.Applied.{part_and_condition}
 use Rattle.msp_machines.specs.Shops.{with_idle_operation, with_idle_machine}
 use Rattle.msp_machines.specs.InnerMachines.{in_environment, with_needs, Inner-with_needs, AreWithin-any}
 use Rattle.msp_machines.specs.Served.{ServesBoth}
@@ -114,7 +116,7 @@ module _ (k l : EnvKind) (i j : Instance) (s : SameTimes k l i j) (cut : i.class
     routed = λ e. inl (routed e);
   }
 
--- ---- the rows
+-- ---- one machine more
 -- the jobs of one instance have those of the other, and on one machine more an operation of time 0
 record IsWidened (from to : Env) (m : ℕ) (i j : Instance) : Type 0 where
   machines : i.machines ≡ m
@@ -218,14 +220,30 @@ module _ (from to : Env) (m : ℕ) (w : Widens from to m) (i : Instance) (of_fro
       (sym (ap₂ (λ o k. record i { class = unwrap_or o i.class; machines = k + 1; jobs = map (with_idle_operation k) i.jobs }) goes machines))
       (ServesBoth-widened row goes)
 
--- what it takes that a row applies
-some_if : (b c : Bool) (x : Class) → IsSome (if b && true && c then Some x else None) → (b ≡ true) × (c ≡ true) × ((if b && true && c then Some x else None) ≡ Some x)
-some_if true true x h = (refl, refl, refl)
-some_if true false x h = absurd (cc)
-some_if false c x h = absurd (cc)
+-- ---- open shops and flow shops
+-- each job has a need for each machine, and an operation for each need that takes time, which runs there
+record IsShop (k : EnvKind) : Type 0 where
+  has : (i : Instance) (a o : ℕ) → HasOperation k i a o ↔ HasTime o (job_at i a).needs
+  may : (i : Instance) (a o m : ℕ) → MayRun k i a o m ↔ (m ≡ (need_at i a o).machine)
+  time : (i : Instance) (a o : ℕ) → whole_work k i a o ≡ (need_at i a o).time
+  rate : (i : Instance) (a m : ℕ) → rate_on k i a m ≡ 1
+  shape : (e : Env) (m : ℕ) (ns : List Need) → HasShape k e m ns ↔ IsNeedPerMachine m ns
+  speeds : (m : ℕ) (s : List ℕ) → HasSpeeds k m s ↔ (s ≡ [])
+  factor : inner_factor k ≡ 1
+  units : greatest_unit k ≡ GREATEST_UNIT
+  least : least_time k General ≡ 0
+
+as_it_is : {A : Type 0} → A ↔ A
+as_it_is = ((λ h. h), (λ h. h))
+
+flow_shop : IsShop FlowShop
+flow_shop = record { has = λ i a o. as_it_is; may = λ i a o m. as_it_is; time = λ i a o. refl; rate = λ i a m. refl; shape = λ e m ns. as_it_is; speeds = λ m s. as_it_is; factor = refl; units = refl; least = refl }
+
+open_shop : IsShop OpenShop
+open_shop = record { has = λ i a o. as_it_is; may = λ i a o m. as_it_is; time = λ i a o. refl; rate = λ i a m. refl; shape = λ e m ns. as_it_is; speeds = λ m s. as_it_is; factor = refl; units = refl; least = refl }
 
 -- ---- from one machine
-module _ (i j : Instance) (to : Env) (v : IsWidened One to 1 i j) where
+module _ (i j : Instance) (to : Env) (v : IsWidened One to 1 i j) (shop : IsShop (kind_of to)) where
   single_at : (a : ℕ) → a < length i.jobs → IsSingleNeed (job_at i a).needs
   single_at a l = v.shape a l
 
@@ -253,59 +271,38 @@ module _ (i j : Instance) (to : Env) (v : IsWidened One to 1 i j) where
   single_may_back : (a o m : ℕ) → a < length i.jobs → o ≡ 0 → m ≡ (need_at j a o).machine → m < i.machines
   single_may_back a o m l h w = omega (arith, single_machine a o l h, v.machines)
 
+  single_same : SameTimes Identical (kind_of to) i j
+  single_same = record {
+    has = λ a o l h. (shop.has j a o).1 (single_has a o l h);
+    all = λ a o l h. single_all a o l ((shop.has j a o).0 h);
+    may = λ a o m l h w. (shop.may j a o m).1 (single_may a o m l h w);
+    may_back = λ a o m l h w. single_may_back a o m l h ((shop.may j a o m).0 w);
+    time = λ a o l h. shop.time j a o ∙ ap (λ n. n.time) (single_need a o l h);
+    rate = λ a m. shop.rate j a m;
+  }
+
 single_per_machine : (ns : List Need) → IsSingleNeed ns → IsNeedPerMachine 1 ns
 single_per_machine ns h = (h.0, λ k l. h.1 k no_need l ∙ omega (arith, h.0))
 
-one_to_flow : Widens One F2 1
-one_to_flow = record {
+from_one : (to : Env) → fixed_machines to ≡ Some 2 → IsShop (kind_of to) → Widens One to 1
+from_one to two shop = record {
   from_machines = refl;
-  to_machines = refl;
+  to_machines = two;
   few = omega arith;
-  speeds = λ s h. h;
+  speeds = λ s h. (shop.speeds 2 s).1 h;
   factor = refl;
-  factor_to = refl;
-  units = refl;
-  least = refl;
+  factor_to = shop.factor;
+  units = sym shop.units;
+  least = shop.least;
   shape = single_per_machine;
-  shape_to = λ ns h. h;
-  same = λ i j v. record {
-    has = single_has i j F2 v;
-    all = single_all i j F2 v;
-    may = single_may i j F2 v;
-    may_back = single_may_back i j F2 v;
-    time = λ a o l h. ap (λ n. n.time) (single_need i j F2 v a o l h);
-    rate = λ a m. refl;
-  };
+  shape_to = λ ns h. (shop.shape to 2 ns).1 h;
+  same = λ i j v. single_same i j to v shop;
   routed_down = λ i e. inr (λ a o n l h k. h ∙ sym k);
   routed_up = λ e. absurd (cc);
 }
 
-one_to_open : Widens One O2 1
-one_to_open = record {
-  from_machines = refl;
-  to_machines = refl;
-  few = omega arith;
-  speeds = λ s h. h;
-  factor = refl;
-  factor_to = refl;
-  units = refl;
-  least = refl;
-  shape = single_per_machine;
-  shape_to = λ ns h. h;
-  same = λ i j v. record {
-    has = single_has i j O2 v;
-    all = single_all i j O2 v;
-    may = single_may i j O2 v;
-    may_back = single_may_back i j O2 v;
-    time = λ a o l h. ap (λ n. n.time) (single_need i j O2 v a o l h);
-    rate = λ a m. refl;
-  };
-  routed_down = λ i e. absurd (cc);
-  routed_up = λ e. absurd (cc);
-}
-
 -- ---- from two machines
-module _ (i j : Instance) (from to : Env) (v : IsWidened from to 2 i j) where
+module _ (i j : Instance) (from to : Env) (v : IsWidened from to 2 i j) (above : IsShop (kind_of from)) (below : IsShop (kind_of to)) where
   pair_has : (a o : ℕ) → a < length i.jobs → HasTime o (job_at i a).needs → HasTime o (job_at j a).needs
   pair_has a o l h = subst (HasTime o) (sym (v.needs a l)) (has_wider 2 o (job_at i a).needs h)
 
@@ -321,66 +318,46 @@ module _ (i j : Instance) (from to : Env) (v : IsWidened from to 2 i j) where
   pair_may_back : (a o m : ℕ) → a < length i.jobs → HasTime o (job_at i a).needs → m ≡ (need_at j a o).machine → m ≡ (need_at i a o).machine
   pair_may_back a o m l h w = w ∙ ap (λ n. n.machine) (pair_need a o l h)
 
-flow_to_flow : Widens F2 F3 2
-flow_to_flow = record {
-  from_machines = refl;
-  to_machines = refl;
+  pair_same : SameTimes (kind_of from) (kind_of to) i j
+  pair_same = record {
+    has = λ a o l h. (below.has j a o).1 (pair_has a o l ((above.has i a o).0 h));
+    all = λ a o l h. (above.has i a o).1 (pair_all a o l ((below.has j a o).0 h));
+    may = λ a o m l h w. (below.may j a o m).1 (pair_may a o m l ((above.has i a o).0 h) ((above.may i a o m).0 w));
+    may_back = λ a o m l h w. (above.may i a o m).1 (pair_may_back a o m l ((above.has i a o).0 h) ((below.may j a o m).0 w));
+    time = λ a o l h. below.time j a o ∙ ap (λ n. n.time) (pair_need a o l ((above.has i a o).0 h)) ∙ sym (above.time i a o);
+    rate = λ a m. below.rate j a m ∙ sym (above.rate i a m);
+  }
+
+from_two : (from to : Env) → fixed_machines from ≡ Some 2 → fixed_machines to ≡ Some 3 → kind_of from ≡ kind_of to → IsShop (kind_of from) → IsShop (kind_of to) → Widens from to 2
+from_two from to two three kinds above below = record {
+  from_machines = two;
+  to_machines = three;
   few = omega arith;
-  speeds = λ s h. h;
-  factor = refl;
-  factor_to = refl;
-  units = refl;
-  least = refl;
-  shape = λ ns h. h;
-  shape_to = λ ns h. h;
-  same = λ i j v. record {
-    has = pair_has i j F2 F3 v;
-    all = pair_all i j F2 F3 v;
-    may = pair_may i j F2 F3 v;
-    may_back = pair_may_back i j F2 F3 v;
-    time = λ a o l h. ap (λ n. n.time) (pair_need i j F2 F3 v a o l h);
-    rate = λ a m. refl;
-  };
-  routed_down = λ i e. inl refl;
-  routed_up = λ e. refl;
+  speeds = λ s h. (below.speeds 3 s).1 ((above.speeds 2 s).0 h);
+  factor = above.factor;
+  factor_to = below.factor;
+  units = above.units ∙ sym below.units;
+  least = below.least;
+  shape = λ ns h. (above.shape from 2 ns).0 h;
+  shape_to = λ ns h. (below.shape to 3 ns).1 h;
+  same = λ i j v. pair_same i j from to v above below;
+  routed_down = λ i e. inl (subst IsRouted (sym kinds) e);
+  routed_up = λ e. subst IsRouted kinds e;
 }
 
-open_to_open : Widens O2 O3 2
-open_to_open = record {
-  from_machines = refl;
-  to_machines = refl;
-  few = omega arith;
-  speeds = λ s h. h;
-  factor = refl;
-  factor_to = refl;
-  units = refl;
-  least = refl;
-  shape = λ ns h. h;
-  shape_to = λ ns h. h;
-  same = λ i j v. record {
-    has = pair_has i j O2 O3 v;
-    all = pair_all i j O2 O3 v;
-    may = pair_may i j O2 O3 v;
-    may_back = pair_may_back i j O2 O3 v;
-    time = λ a o l h. ap (λ n. n.time) (pair_need i j O2 O3 v a o l h);
-    rate = λ a m. refl;
-  };
-  routed_down = λ i e. absurd (cc);
-  routed_up = λ e. absurd (cc);
-}
-
+-- ---- the rows
 pub serves_28 : (i : Instance) → Inner i → Applies 28 i → ServesBoth 28 i (with_idle_machine 28 i)
 unfolding goes_of table
-serves_28 i inner h = let (b, g, e) = some_if _ _ _ h in ServesBoth-led One F2 1 one_to_flow i (env_number-injective _ One (eqb-true _ _ b)) (times_number-injective _ General (eqb-true _ _ g)) inner 28 e
+serves_28 i inner h = let (b, g, e) = part_and_condition _ _ _ h in ServesBoth-led One F2 1 (from_one F2 refl flow_shop) i (env_number-injective _ One (eqb-true _ _ b)) (times_number-injective _ General (eqb-true _ _ g)) inner 28 e
 
 pub serves_29 : (i : Instance) → Inner i → Applies 29 i → ServesBoth 29 i (with_idle_machine 29 i)
 unfolding goes_of table
-serves_29 i inner h = let (b, g, e) = some_if _ _ _ h in ServesBoth-led One O2 1 one_to_open i (env_number-injective _ One (eqb-true _ _ b)) (times_number-injective _ General (eqb-true _ _ g)) inner 29 e
+serves_29 i inner h = let (b, g, e) = part_and_condition _ _ _ h in ServesBoth-led One O2 1 (from_one O2 refl open_shop) i (env_number-injective _ One (eqb-true _ _ b)) (times_number-injective _ General (eqb-true _ _ g)) inner 29 e
 
 pub serves_30 : (i : Instance) → Inner i → Applies 30 i → ServesBoth 30 i (with_idle_machine 30 i)
 unfolding goes_of table
-serves_30 i inner h = let (b, g, e) = some_if _ _ _ h in ServesBoth-led F2 F3 2 flow_to_flow i (env_number-injective _ F2 (eqb-true _ _ b)) (times_number-injective _ General (eqb-true _ _ g)) inner 30 e
+serves_30 i inner h = let (b, g, e) = part_and_condition _ _ _ h in ServesBoth-led F2 F3 2 (from_two F2 F3 refl refl refl flow_shop flow_shop) i (env_number-injective _ F2 (eqb-true _ _ b)) (times_number-injective _ General (eqb-true _ _ g)) inner 30 e
 
 pub serves_31 : (i : Instance) → Inner i → Applies 31 i → ServesBoth 31 i (with_idle_machine 31 i)
 unfolding goes_of table
-serves_31 i inner h = let (b, g, e) = some_if _ _ _ h in ServesBoth-led O2 O3 2 open_to_open i (env_number-injective _ O2 (eqb-true _ _ b)) (times_number-injective _ General (eqb-true _ _ g)) inner 31 e
+serves_31 i inner h = let (b, g, e) = part_and_condition _ _ _ h in ServesBoth-led O2 O3 2 (from_two O2 O3 refl refl refl open_shop open_shop) i (env_number-injective _ O2 (eqb-true _ _ b)) (times_number-injective _ General (eqb-true _ _ g)) inner 31 e

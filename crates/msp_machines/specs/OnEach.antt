@@ -1,11 +1,10 @@
 -- The rows from identical to unrelated machines: schedules and costs stay. No public contract cites this file.
-use Rattle.std.proofs.Common.{◌≡◌, ℕ, ◌*◌, ◌/◌, ◌<◌, ◌≤◌, Bool, true, false, List, [], length, map, All, Some, None, IsSome, unwrap_or, if◌then◌else◌, inl, ◌≤ℤ◌, slice_index_or, refl, sym, ap, subst, subst₂, ◌∙◌, arith}
+use Rattle.std.proofs.Common.{◌≡◌, ℕ, ◌*◌, ◌/◌, ◌<◌, ◌≤◌, List, [], length, map, All, Some, unwrap_or, inl, ◌≤ℤ◌, slice_index_or, refl, sym, ap, subst, subst₂, ◌∙◌, arith}
 use Rattle.std.proofs.lemmas.Bool.{eqb-true}
 use Rattle.std.proofs.lemmas.Int.{ints}
 use Rattle.std.proofs.lemmas.List.{length-map}
 use Rattle.std.proofs.lemmas.List.Elements.{All-contains_itself}
-use Rattle.std.specs.Prelude.{◌&&◌, MatchOption, ⊤}
-use Rattle.msp_class.specs.declared.class.Class.{Class}
+use Rattle.std.specs.Prelude.{MatchOption, ⊤}
 use Rattle.msp_class.specs.declared.class.Env.{Env}
 use Rattle.msp_class.specs.declared.class.Env.TheVariants.{P2, P, R2, R}
 use Rattle.msp_class.specs.declared.class.Times.{Times}
@@ -25,6 +24,7 @@ use Rattle.msp_schedule.proofs.Frames.{frame_by, rate_on, IsShaped-from_conditio
 use Rattle.msp_table.specs.Rows.{goes_of, table}
 use Rattle.msp_route.specs.Law.{Applies}
 use Rattle.msp_route.specs.Bounds.{greatest_unit}
+use Rattle.msp_route.proofs.Applied.{part_alone}
 use Rattle.msp_machines.specs.Unrelated.{needs_by, on_each_machine, led_to_each}
 use Rattle.msp_machines.specs.NeedsBy.{get_or-needs_by, All-needs_by, HasNeeds-needs_by}
 use Rattle.msp_machines.specs.InnerMachines.{in_environment, AreMachines, AreWithin-any, Inner-with_needs}
@@ -166,19 +166,13 @@ module _ (row : ℕ) (i : Instance) (e : Env) (from : kind_of i.class.env ≡ Id
   }
 
 -- ---- the two rows
--- what it takes that a row applies
-pub some_if : (b given : Bool) (c : Class) → IsSome (if (b && true) && given then Some c else None) → (b ≡ true) × (given ≡ true) × ((if (b && true) && given then Some c else None) ≡ Some c)
-some_if true true c h = (refl, refl, refl)
-some_if true false c h = absurd (cc)
-some_if false given c h = absurd (cc)
-
 shared : (row : ℕ) (i : Instance) (e : Env) → kind_of i.class.env ≡ Identical → kind_of e ≡ Unrelated → fixed_machines i.class.env ≡ fixed_machines e → goes_of row i.class ≡ Some (record i.class { env = e }) → Inner i → ServesBoth row i (led_to_each row i)
 shared row i e from to fixed g inner = subst (ServesBoth row i) (sym (ap (λ o. record i { class = unwrap_or o i.class; jobs = map (on_each_machine i.machines) i.jobs }) g)) (serves_both row i e from to fixed g inner)
 
 pub serves_23 : (i : Instance) → Inner i → Applies 23 i → ServesBoth 23 i (led_to_each 23 i)
 unfolding goes_of table
-serves_23 i inner h = let (b, c, g) = some_if _ _ _ h in let e = env_number-injective _ P2 (eqb-true _ _ b) in shared 23 i R2 (ap kind_of e) refl (ap fixed_machines e) g inner
+serves_23 i inner h = let (b, g) = part_alone _ _ h in let e = env_number-injective _ P2 (eqb-true _ _ b) in shared 23 i R2 (ap kind_of e) refl (ap fixed_machines e) g inner
 
 pub serves_24 : (i : Instance) → Inner i → Applies 24 i → ServesBoth 24 i (led_to_each 24 i)
 unfolding goes_of table
-serves_24 i inner h = let (b, c, g) = some_if _ _ _ h in let e = env_number-injective _ P (eqb-true _ _ b) in shared 24 i R (ap kind_of e) refl (ap fixed_machines e) g inner
+serves_24 i inner h = let (b, g) = part_alone _ _ h in let e = env_number-injective _ P (eqb-true _ _ b) in shared 24 i R (ap kind_of e) refl (ap fixed_machines e) g inner

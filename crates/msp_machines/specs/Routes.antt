@@ -1,11 +1,10 @@
 -- The rows from flow shops to job shops: the operations that take time are a job's route. No public contract cites this file.
-use Rattle.std.proofs.Common.{◌≡◌, ◌≢◌, ℕ, zero, suc, ◌+◌, ◌<◌, ◌≤◌, Bool, true, false, not, cond, List, [], ◌∷◌, length, get_or, map, filter, take, All, AllPairs, Any, inl, Some, None, IsSome, if◌then◌else◌, MatchOption, slice_index_or, ℤ, pos, ◌*ℤ◌, ◌≤ℤ◌, refl, sym, ap, ap₂, subst, subst₂, ◌∙◌, arith}
-use Rattle.std.specs.Prelude.{◌&&◌, ◌==◌, unwrap_or, ⊤}
+use Rattle.std.proofs.Common.{◌≡◌, ◌≢◌, ℕ, zero, suc, ◌+◌, ◌<◌, ◌≤◌, Bool, true, false, not, cond, List, [], ◌∷◌, length, get_or, map, filter, take, All, AllPairs, Any, inl, Some, MatchOption, slice_index_or, ℤ, pos, ◌*ℤ◌, ◌≤ℤ◌, refl, sym, ap, ap₂, subst, subst₂, ◌∙◌, arith}
+use Rattle.std.specs.Prelude.{◌==◌, unwrap_or, ⊤}
 use Rattle.std.proofs.lemmas.Bool.{eqb-true, eq-eqb, ne_eqb}
 use Rattle.std.proofs.lemmas.List.{length-map, get_or_default}
 use Rattle.std.proofs.lemmas.List.Elements.{All-head, All-tail, All-filter, All-contains_itself, filter_passes}
 use Rattle.std.proofs.lemmas.List.Kept.{AllPairs-filter}
-use Rattle.msp_class.specs.declared.class.Class.{Class}
 use Rattle.msp_class.specs.declared.class.Env.{Env}
 use Rattle.msp_class.specs.declared.class.Env.TheVariants.{F2, F, J2Short, J}
 use Rattle.msp_class.specs.declared.class.Times.{Times}
@@ -28,6 +27,7 @@ use Rattle.msp_schedule.proofs.Transport.{Stretches-identity, carried, carried_s
 use Rattle.msp_table.specs.Rows.{goes_of, table}
 use Rattle.msp_route.specs.Law.{Applies}
 use Rattle.msp_route.specs.Bounds.{greatest_unit}
+use Rattle.msp_route.proofs.Applied.{part_alone}
 use Rattle.msp_machines.specs.Shops.{takes_time, place_in_route, without_empty, without_empty_operations, with_number, numbered, route_number, machine_number}
 use Rattle.msp_machines.specs.Renumbered.{Renumbered}
 use Rattle.msp_machines.specs.InnerMachines.{in_environment, with_needs, Inner-with_needs, AreWithin-any}
@@ -330,24 +330,19 @@ module _ (to : Env) (i : Instance) (w : IsRouting to i) (inner : Inner i) where
       (sym (ap (λ o. record i { class = unwrap_or o i.class; jobs = map without_empty i.jobs }) goes))
       (Renumbered-routed row goes)
 
--- what it takes that a row applies
-some_if : (b : Bool) (x : Class) → IsSome (if b && true && true then Some x else None) → (b ≡ true) × ((if b && true && true then Some x else None) ≡ Some x)
-some_if true x h = (refl, refl)
-some_if false x h = absurd (cc)
-
 two_machines : (i : Instance) → i.class.env ≡ F2 → Inner i → i.machines ≡ 2
 two_machines i e inner = subst (λ x. MatchOption (fixed_machines x) ⊤ (λ m. i.machines ≡ m)) e inner.conditions.machines.2
 
 pub renumbered_39 : (i : Instance) → Inner i → Applies 39 i → Renumbered 39 i (without_empty_operations 39 i) (route_number i) machine_number
 unfolding goes_of table
-renumbered_39 i inner h = let (b, g) = some_if _ _ h in by (env_number-injective _ F2 (eqb-true _ _ b)) g
+renumbered_39 i inner h = let (b, g) = part_alone _ _ h in by (env_number-injective _ F2 (eqb-true _ _ b)) g
   where
     by : i.class.env ≡ F2 → goes_of 39 i.class ≡ Some (record i.class { env = J2Short }) → Renumbered 39 i (without_empty_operations 39 i) (route_number i) machine_number
     by e g = Renumbered-led J2Short i (record { flow = ap kind_of e; job = refl; fixed = two_machines i e inner; fits = omega (arith, two_machines i e inner) }) inner 39 g
 
 pub renumbered_40 : (i : Instance) → Inner i → Applies 40 i → Renumbered 40 i (without_empty_operations 40 i) (route_number i) machine_number
 unfolding goes_of table
-renumbered_40 i inner h = let (b, g) = some_if _ _ h in by (env_number-injective _ F (eqb-true _ _ b)) g
+renumbered_40 i inner h = let (b, g) = part_alone _ _ h in by (env_number-injective _ F (eqb-true _ _ b)) g
   where
     by : i.class.env ≡ F → goes_of 40 i.class ≡ Some (record i.class { env = J }) → Renumbered 40 i (without_empty_operations 40 i) (route_number i) machine_number
     by e g = Renumbered-led J i (record { flow = ap kind_of e; job = refl; fixed = tt; fits = omega (arith, inner.conditions.machines.1) }) inner 40 g

@@ -27,9 +27,9 @@ use Rattle.msp_table.specs.Rows.{goes_of, table}
 use Rattle.msp_route.specs.Law.{Applies}
 use Rattle.msp_route.specs.Bounds.{greatest_unit}
 use Rattle.msp_route.specs.Changes.{led}
+use Rattle.msp_route.proofs.Applied.{part_alone}
 use Rattle.msp_machines.specs.InnerMachines.{in_environment, AreMachines, AreWithin-any, Inner-same_jobs}
 use Rattle.msp_machines.specs.Served.{ServesBoth}
-use Rattle.msp_machines.specs.Environments.{some_if}
 use Rattle.msp_machines.specs.Machines.{equal_speeds, led_at_equal_speeds, led_to_two_machines}
 
 -- ---- the lower instance is an inner one
@@ -144,11 +144,11 @@ serves_speeds row i e from to fixed g inner = ServesBoth-led i e Uniform i.machi
 
 pub serves_20 : (i : Instance) → Inner i → Applies 20 i → ServesBoth 20 i (led_at_equal_speeds 20 i)
 unfolding goes_of table
-serves_20 i inner h = let (b, g) = some_if _ _ h in let e = env_number-injective _ P2 (eqb-true _ _ b) in serves_speeds 20 i Q2 (ap kind_of e) refl (ap fixed_machines e) g inner
+serves_20 i inner h = let (b, g) = part_alone _ _ h in let e = env_number-injective _ P2 (eqb-true _ _ b) in serves_speeds 20 i Q2 (ap kind_of e) refl (ap fixed_machines e) g inner
 
 pub serves_21 : (i : Instance) → Inner i → Applies 21 i → ServesBoth 21 i (led_at_equal_speeds 21 i)
 unfolding goes_of table
-serves_21 i inner h = let (b, g) = some_if _ _ h in let e = env_number-injective _ P (eqb-true _ _ b) in serves_speeds 21 i Q (ap kind_of e) refl (ap fixed_machines e) g inner
+serves_21 i inner h = let (b, g) = part_alone _ _ h in let e = env_number-injective _ P (eqb-true _ _ b) in serves_speeds 21 i Q (ap kind_of e) refl (ap fixed_machines e) g inner
 
 -- ---- shops
 module _ (i : Instance) (env : i.class.env ≡ One) (inner : Inner i) where
@@ -232,12 +232,12 @@ serves_job i env g inner = serves_shop 34 i env J2Short JobShop 2 refl (record {
 
 pub serves_32 : (i : Instance) → Inner i → Applies 32 i → ServesBoth 32 i (led 32 i)
 unfolding goes_of table
-serves_32 i inner h = let (b, g) = some_if _ _ h in serves_flow i (env_number-injective _ One (eqb-true _ _ b)) g inner
+serves_32 i inner h = let (b, g) = part_alone _ _ h in serves_flow i (env_number-injective _ One (eqb-true _ _ b)) g inner
 
 pub serves_33 : (i : Instance) → Inner i → Applies 33 i → ServesBoth 33 i (led 33 i)
 unfolding goes_of table
-serves_33 i inner h = let (b, g) = some_if _ _ h in serves_open i (env_number-injective _ One (eqb-true _ _ b)) g inner
+serves_33 i inner h = let (b, g) = part_alone _ _ h in serves_open i (env_number-injective _ One (eqb-true _ _ b)) g inner
 
 pub serves_34 : (i : Instance) → Inner i → Applies 34 i → ServesBoth 34 i (led_to_two_machines 34 i)
 unfolding goes_of table
-serves_34 i inner h = let (b, g) = some_if _ _ h in serves_job i (env_number-injective _ One (eqb-true _ _ b)) g inner
+serves_34 i inner h = let (b, g) = part_alone _ _ h in serves_job i (env_number-injective _ One (eqb-true _ _ b)) g inner

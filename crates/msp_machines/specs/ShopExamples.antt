@@ -1,31 +1,31 @@
 -- The instances and the pieces of the tests of shops. No public contract cites this file.
-use Rattle.std.proofs.Common.{◌≡◌, ◌≢◌, ℕ, zero, suc, ◌*◌, ◌<◌, ◌≤◌, false, List, [], ◌∷◌, length, All, AllPairs, Any, inr, pos, ◌-ℤ◌, ◌*ℤ◌, ◌≤ℤ◌, slice_index_or, rules, refl, sym, subst₂, arith}
+use Rattle.std.proofs.Common.{◌≡◌, ◌≢◌, ℕ, zero, suc, ◌*◌, ◌<◌, ◌≤◌, false, List, [], ◌∷◌, All, Any, inr, pos, ◌*ℤ◌, ◌≤ℤ◌, slice_index_or, rules, refl, sym, subst₂, arith}
 use Rattle.std.proofs.lemmas.Int.{ints}
-use Rattle.std.proofs.lemmas.List.Elements.{All-nil, All-cons}
+use Rattle.std.proofs.lemmas.List.Elements.{All-nil}
 use Rattle.msp_class.specs.declared.class.Env.{Env}
 use Rattle.msp_class.specs.declared.class.Env.TheVariants.{One, O2, F2, F}
 use Rattle.msp_class.specs.declared.class.Order.TheVariants.{Free}
 use Rattle.msp_class.specs.declared.class.Times.TheVariants.{General}
 use Rattle.msp_class.specs.declared.class.Crit.TheVariants.{Cmax}
-use Rattle.msp_class.specs.declared.environments.EnvKind.{EnvKind}
-use Rattle.msp_class.specs.declared.environments.EnvKind.TheVariants.{Identical, Uniform, Unrelated, OpenShop, FlowShop, JobShop}
+use Rattle.msp_class.specs.declared.environments.EnvKind.TheVariants.{FlowShop}
 use Rattle.msp_class.specs.Env.{kind_of}
 use Rattle.msp_instance.specs.declared.ranges.TheConstants.{GREATEST}
 use Rattle.msp_instance.specs.declared.Need.{Need}
 use Rattle.msp_instance.specs.declared.Job.{Job}
 use Rattle.msp_instance.specs.declared.Instance.{Instance}
 use Rattle.msp_instance.specs.Instance.{no_need, no_curve, job_at}
-use Rattle.msp_instance.specs.Conditions.{HasMachines, HasSpeeds, HasNeeds, HasNearDues, HasTimes, IsJobOf, IsNeedPerMachine, Inner, inner_limits, inner_factor}
+use Rattle.msp_instance.specs.Conditions.{HasMachines, HasSpeeds, HasNeeds, HasTimes, IsJobOf, IsNeedPerMachine, Inner, inner_limits, inner_factor}
 use Rattle.msp_schedule.specs.declared.Piece.{Piece}
 use Rattle.msp_schedule.specs.declared.Schedule.{Schedule}
 use Rattle.msp_schedule.specs.Piece.{IsBefore, IsApart}
 use Rattle.msp_schedule.specs.Feasible.{Feasible, HasPlace, HasOperation, FollowsRoute, GetsWork}
 use Rattle.msp_schedule.specs.Within.{Within, IsMoment}
 use Rattle.msp_schedule.proofs.Frames.{Lasts}
-use Rattle.msp_route.specs.Bounds.{IsBounded, greatest_unit}
+use Rattle.msp_route.specs.Bounds.{IsBounded}
 use Rattle.msp_route.specs.declared.bounds.TheConstants.{GREATEST_BACK_MOMENT}
 use Rattle.msp_table.specs.Rows.{goes_of, table}
 use Rattle.msp_route.specs.Law.{Applies}
+use Rattle.msp_route.proofs.Samples.{one_each, two_each, no_pairs, near_one, unit_one}
 use Rattle.msp_machines.specs.Shops.{with_idle_machine, without_empty_operations}
 use Rattle.msp_machines.specs.Served.{IsForth-served}
 use Rattle.msp_machines.specs.IdleMachines.{serves_28, serves_29, serves_30, serves_31}
@@ -60,15 +60,6 @@ piece_of op machine = record { job = 0; op = op; machine = machine; from = pos 0
 abbrev pub alone : Piece → Schedule
 alone p = record { unit = pos 1; pieces = p ∷ [] }
 
-one_each : {X : Type 0} (P : X → Type 0) (x : X) → P x → All P (x ∷ [])
-one_each P x h = All-cons P x [] h (All-nil P)
-
-two_each : {X : Type 0} (P : X → Type 0) (x y : X) → P x → P y → All P (x ∷ y ∷ [])
-two_each P x y h k = All-cons P x (y ∷ []) h (one_each P y k)
-
-no_pairs : {X : Type 0} (R : X → X → Type 0) (xs : List X) → length xs ≤ 1 → AllPairs R xs
-no_pairs R xs h = λ i j d a b. absurd (omega arith)
-
 -- ---- the instances
 module _ (env : Env) (machines : ℕ) (needs : List Need) where
   abbrev inst : Instance
@@ -88,17 +79,9 @@ module _ (env : Env) (machines : ℕ) (needs : List Need) where
       once = no_pairs (λ a b. a ≢ b) inst.arcs (omega arith);
       degree = λ j l. tt;
     };
-    dues = near;
+    dues = near_one (2 * GREATEST * inner_factor (kind_of env)) inst (job_of needs);
     acyclic = (0 ∷ [], record { whole = refl; each = λ j l. (0, omega arith, omega (arith, l)) }, All-nil _);
   }
-    where
-      small : (n : ℕ) → (pos 0 -ℤ pos 0) ≤ℤ pos n
-      small n = omega (arith, ints)
-
-      near : HasNearDues (2 * GREATEST * inner_factor (kind_of env)) inst
-      near zero zero a b = small _
-      near (suc j) k a b = absurd (omega arith)
-      near zero (suc k) a b = absurd (omega arith)
 
   Feasible-sample : (op machine : ℕ) → HasPlace inst (piece_of op machine) → FollowsRoute (kind_of env) (piece_of op machine ∷ []) → ((o : ℕ) → HasOperation (kind_of env) inst 0 o → GetsWork inst (alone (piece_of op machine)) 0 o) → Feasible inst (alone (piece_of op machine))
   Feasible-sample op machine place route work = record {
@@ -211,16 +194,8 @@ sampled i j op machine inner lower f = record {
     moments = one_each (λ p. IsMoment p.from × IsMoment p.to) (piece_of op machine) ((omega (arith, ints), omega (arith, ints)), (omega (arith, ints), omega (arith, ints)));
     scaled = λ e. inr (omega (arith, ints));
   };
-  bounded = record { sized = record { few = omega arith; unit = by (kind_of j.class.env) }; ends = one_each (λ p. p.to ≤ℤ GREATEST_BACK_MOMENT) (piece_of op machine) (omega (arith, ints)) };
+  bounded = record { sized = record { few = omega arith; unit = unit_one (kind_of j.class.env) }; ends = one_each (λ p. p.to ≤ℤ GREATEST_BACK_MOMENT) (piece_of op machine) (omega (arith, ints)) };
 }
-  where
-    by : (k : EnvKind) → pos 1 ≤ℤ greatest_unit k
-    by Identical = omega (arith, ints)
-    by Uniform = omega (arith, ints)
-    by Unrelated = omega (arith, ints)
-    by OpenShop = omega (arith, ints)
-    by FlowShop = omega (arith, ints)
-    by JobShop = omega (arith, ints)
 
 applies_28 : Applies 28 (sample One 1 one_need)
 unfolding goes_of table

@@ -34,13 +34,13 @@ use Rattle.msp_schedule.proofs.Transport.{Carries, Stretches-identity, Stretches
 use Rattle.msp_schedule.proofs.Charges.{charge_of, cost-multiple, job_cost-scale}
 use Rattle.msp_table.specs.Rows.{goes_of, table}
 use Rattle.msp_route.specs.Law.{Rate, Applies, IsLower, IsPositive, IsForth, IsBack}
+use Rattle.msp_route.proofs.Applied.{part_and_condition}
 use Rattle.msp_machines.specs.Unrelated.{only_time, least_common_multiple, stretched, cost_factor, led_by_speeds, speed_rate, stretched_schedule, shrunk_schedule}
 use Rattle.msp_machines.specs.NeedsBy.{get_or-needs_by, HasNeeds-needs_by}
 use Rattle.msp_machines.specs.InnerMachines.{in_environment, AreMachines, Inner-in_environment}
 use Rattle.msp_machines.specs.LeastMultiple.{least_multiple, least-small}
 use Rattle.msp_machines.specs.StretchedCharges.{job_cost-stretched}
 use Rattle.msp_machines.specs.StretchedInner.{HasRelease-product, HasDue-product, HasCurve-product, near-product}
-use Rattle.msp_machines.specs.OnEach.{some_if}
 
 -- ---- speeds
 speeds_some : (m : ℕ) (speeds : List ℕ) → HasSpeeds Uniform m speeds → All (λ s. 1 ≤ s) speeds
@@ -348,8 +348,8 @@ led_there row i e from to fixed general g inner = subst (IsLedBySpeeds row i) (s
 
 pub led_26 : (i : Instance) → Inner i → Applies 26 i → IsLedBySpeeds 26 i (led_by_speeds 26 i)
 unfolding goes_of table
-led_26 i inner h = let (b, c, g) = some_if _ _ _ h in let e = env_number-injective _ Q (eqb-true _ _ b) in led_there 26 i R (ap kind_of e) refl (ap fixed_machines e) (times_number-injective _ General (eqb-true _ _ c)) g inner
+led_26 i inner h = let (b, c, g) = part_and_condition _ _ _ h in let e = env_number-injective _ Q (eqb-true _ _ b) in led_there 26 i R (ap kind_of e) refl (ap fixed_machines e) (times_number-injective _ General (eqb-true _ _ c)) g inner
 
 pub led_27 : (i : Instance) → Inner i → Applies 27 i → IsLedBySpeeds 27 i (led_by_speeds 27 i)
 unfolding goes_of table
-led_27 i inner h = let (b, c, g) = some_if _ _ _ h in let e = env_number-injective _ Q2 (eqb-true _ _ b) in led_there 27 i R2 (ap kind_of e) refl (ap fixed_machines e) (times_number-injective _ General (eqb-true _ _ c)) g inner
+led_27 i inner h = let (b, c, g) = part_and_condition _ _ _ h in let e = env_number-injective _ Q2 (eqb-true _ _ b) in led_there 27 i R2 (ap kind_of e) refl (ap fixed_machines e) (times_number-injective _ General (eqb-true _ _ c)) g inner

@@ -1,8 +1,6 @@
 -- Two jobs on two machines, and schedules of them. No public contract cites this file.
-use Rattle.std.proofs.Common.{◌≡◌, ℕ, zero, suc, ◌<◌, ◌≤◌, false, List, [], ◌∷◌, All, AllPairs, inr, pos, ◌*ℤ◌, ◌≤ℤ◌, ◌<ℤ◌, refl, sym, ap, subst, arith}
+use Rattle.std.proofs.Common.{◌≡◌, ℕ, zero, suc, ◌<◌, ◌≤◌, false, List, [], ◌∷◌, inr, pos, ◌*ℤ◌, ◌≤ℤ◌, ◌<ℤ◌, refl, sym, ap, subst, arith}
 use Rattle.std.proofs.lemmas.Int.{ints}
-use Rattle.std.proofs.lemmas.List.Elements.{All-nil, All-cons}
-use Rattle.std.proofs.lemmas.List.Kept.{AllPairs-cons}
 use Rattle.msp_class.specs.declared.class.Env.{Env}
 use Rattle.msp_class.specs.declared.class.Env.TheVariants.{P2, P, Q2, Q}
 use Rattle.msp_class.specs.declared.class.Order.TheVariants.{Free}
@@ -18,11 +16,10 @@ use Rattle.msp_schedule.specs.declared.Schedule.{Schedule}
 use Rattle.msp_schedule.specs.Piece.{IsApart}
 use Rattle.msp_schedule.specs.Feasible.{Feasible, HasPlace, HasOperation, MayRun, IsWholeWork, GetsWork, FollowsRoute}
 use Rattle.msp_schedule.specs.Within.{Within, IsMoment}
-use Rattle.msp_class.specs.declared.environments.EnvKind.{EnvKind}
-use Rattle.msp_class.specs.declared.environments.EnvKind.TheVariants.{Identical, Uniform, Unrelated, OpenShop, FlowShop, JobShop}
 use Rattle.msp_route.specs.declared.bounds.TheConstants.{GREATEST_BACK_MOMENT}
-use Rattle.msp_route.specs.Bounds.{IsBounded, greatest_unit}
+use Rattle.msp_route.specs.Bounds.{IsBounded}
 use Rattle.msp_route.specs.Law.{Applies}
+use Rattle.msp_route.proofs.Samples.{two_each, one_pair, unit_one}
 use Rattle.msp_machines.specs.Unrelated.{least_common_multiple, led_to_each, led_by_speeds, stretched_schedule}
 use Rattle.msp_machines.specs.Served.{IsForth-served}
 use Rattle.msp_machines.specs.OnEach.{serves_23, serves_24}
@@ -48,12 +45,6 @@ alone j end = record { job = j; op = 0; machine = j; from = pos 0; to = pos end 
 abbrev pub side_by_side : ℕ → ℕ → Schedule
 side_by_side first second = record { unit = pos 1; pieces = alone 0 first ∷ alone 1 second ∷ [] }
 
-both : (X : Piece → Type 0) (x y : Piece) → X x → X y → All X (x ∷ y ∷ [])
-both X x y p q = All-cons X x (y ∷ []) p (All-cons X y [] q (All-nil X))
-
-pairs : (R : Piece → Piece → Type 0) (x y : Piece) → R x y → AllPairs R (x ∷ y ∷ [])
-pairs R x y r = AllPairs-cons R x (y ∷ []) (All-cons (R x) y [] r (All-nil (R x))) (λ i j d lt below. absurd (omega (arith, below)))
-
 -- it is feasible where both pieces are whole operations
 module _ (env : Env) (speeds : List ℕ) (first second : ℕ) where
   abbrev i : Instance
@@ -70,11 +61,11 @@ module _ (env : Env) (speeds : List ℕ) (first second : ℕ) where
   feasible : 1 ≤ first → 1 ≤ second → AreWhole → Feasible i (side_by_side first second)
   feasible p q h = record {
     unit = omega (arith, ints);
-    span = both (λ x. (pos 0 ≤ℤ x.from) × (x.from <ℤ x.to)) (alone 0 first) (alone 1 second) (omega (arith, ints), omega (arith, ints)) (omega (arith, ints), omega (arith, ints));
-    place = both (HasPlace i) (alone 0 first) (alone 1 second) (record { job = omega arith; operation = h.has 0; machine = h.may 0 (omega arith) }) (record { job = omega arith; operation = h.has 1; machine = h.may 1 (omega arith) });
-    machine = pairs (λ x y. x.machine ≡ y.machine → IsApart x y) (alone 0 first) (alone 1 second) (λ e. absurd (omega (arith, e)));
-    job = pairs (λ x y. x.job ≡ y.job → IsApart x y) (alone 0 first) (alone 1 second) (λ e. absurd (omega (arith, e)));
-    release = both (λ x. (pos 1 *ℤ pos (job_at i x.job).release) ≤ℤ x.from) (alone 0 first) (alone 1 second) (omega (arith, ints)) (omega (arith, ints));
+    span = two_each (λ x. (pos 0 ≤ℤ x.from) × (x.from <ℤ x.to)) (alone 0 first) (alone 1 second) (omega (arith, ints), omega (arith, ints)) (omega (arith, ints), omega (arith, ints));
+    place = two_each (HasPlace i) (alone 0 first) (alone 1 second) (record { job = omega arith; operation = h.has 0; machine = h.may 0 (omega arith) }) (record { job = omega arith; operation = h.has 1; machine = h.may 1 (omega arith) });
+    machine = one_pair (λ x y. x.machine ≡ y.machine → IsApart x y) (alone 0 first) (alone 1 second) (λ e. absurd (omega (arith, e)));
+    job = one_pair (λ x y. x.job ≡ y.job → IsApart x y) (alone 0 first) (alone 1 second) (λ e. absurd (omega (arith, e)));
+    release = two_each (λ x. (pos 1 *ℤ pos (job_at i x.job).release) ≤ℤ x.from) (alone 0 first) (alone 1 second) (omega (arith, ints)) (omega (arith, ints));
     arc = λ k d l. absurd (omega (arith, l));
     route = h.route;
     work = work;
@@ -150,20 +141,12 @@ pub Within-side : (j : Instance) (first second : ℕ) → AreEnds first second �
 Within-side j first second h = record {
   unit = (omega (arith, ints), omega (arith, ints));
   few = omega arith;
-  moments = both (λ x. IsMoment x.from × IsMoment x.to) (alone 0 first) (alone 1 second) ((omega (arith, ints), omega (arith, ints)), moment first h.0) ((omega (arith, ints), omega (arith, ints)), moment second h.1);
+  moments = two_each (λ x. IsMoment x.from × IsMoment x.to) (alone 0 first) (alone 1 second) ((omega (arith, ints), omega (arith, ints)), moment first h.0) ((omega (arith, ints), omega (arith, ints)), moment second h.1);
   scaled = λ e. inr (omega (arith, ints));
 }
 
 pub IsBounded-side : (j : Instance) (first second : ℕ) → AreEnds first second → IsBounded j (side_by_side first second)
 IsBounded-side j first second h = record {
-  sized = record { few = omega arith; unit = by (kind_of j.class.env) };
-  ends = both (λ x. x.to ≤ℤ GREATEST_BACK_MOMENT) (alone 0 first) (alone 1 second) (early first h.0) (early second h.1);
+  sized = record { few = omega arith; unit = unit_one (kind_of j.class.env) };
+  ends = two_each (λ x. x.to ≤ℤ GREATEST_BACK_MOMENT) (alone 0 first) (alone 1 second) (early first h.0) (early second h.1);
 }
-  where
-    by : (k : EnvKind) → pos 1 ≤ℤ greatest_unit k
-    by Identical = omega (arith, ints)
-    by Uniform = omega (arith, ints)
-    by Unrelated = omega (arith, ints)
-    by OpenShop = omega (arith, ints)
-    by FlowShop = omega (arith, ints)
-    by JobShop = omega (arith, ints)

@@ -1,5 +1,5 @@
 // The rows to unrelated machines.
-ghost use Rattle.std.specs.Prelude.{◌≡◌, ℕ, ◌*◌, ◌/◌, ◌≤◌, IfOk, map, length, slice_index_or, All, pos, ◌*ℤ◌, ◌≤ℤ◌};
+ghost use Rattle.std.specs.Prelude.{◌≡◌, ◌*◌, ◌/◌, ◌≤◌, IfOk, map, length, slice_index_or, All, pos, ◌*ℤ◌, ◌≤ℤ◌};
 ghost use Rattle.msp_instance.specs.declared.ranges.TheConstants.{GREATEST, GREATEST_MULTIPLE, GREATEST_SPEED, MOST_MACHINES};
 ghost use Rattle.msp_instance.specs.Conditions.{HasSmallMultiple, LiesWithin, Inner};
 ghost use Rattle.msp_class.specs.declared.environments.EnvKind.TheVariants.{Uniform};
@@ -169,8 +169,8 @@ fn least_common_multiple(speeds: &[u64]) -> u64
 }
 
 fn product(a: u64, b: u64) -> u64
-    requires a { a ≤ GREATEST }
-    requires b { b ≤ GREATEST_MULTIPLE }
+    requires a { a ≤ 2 * GREATEST }
+    requires b { b ≤ 2 * GREATEST }
     ensures { result ≡ a * b }
 {
     a * b

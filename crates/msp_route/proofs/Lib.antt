@@ -11,3 +11,5 @@ pub mod RowSteps
 pub mod PlainJobs
 pub mod RowAnswer
 pub mod Ratios
+pub mod Applied
+pub mod Samples

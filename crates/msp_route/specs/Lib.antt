@@ -4,3 +4,4 @@ pub mod Changes
 pub mod LastJob
 pub mod Candidates
 pub mod Row
+pub mod Sizes
