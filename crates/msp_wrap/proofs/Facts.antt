@@ -1,20 +1,17 @@
 -- What an instance of the class of McNaughton's rule has, and the size of its least end.
-use Rattle.std.proofs.Common.{◌≡◌, ℕ, suc, ◌*◌, ◌<◌, ◌≤◌, ◌⊎◌, inl, inr, max, true, false, Bool, leb, List, [], ◌∷◌, length, get_or, fold, map, All, refl, sym, ap, ◌∙◌, subst, subst₂, arith}
+use Rattle.std.proofs.Common.{◌≡◌, ℕ, suc, ◌*◌, ◌<◌, ◌≤◌, ◌⊎◌, inl, inr, max, true, false, Bool, leb, List, [], ◌∷◌, length, get_or, fold, map, All, refl, sym, ap, ◌∙◌, subst, arith}
 use Rattle.std.proofs.lemmas.Bool.{leb-true, leb-false}
 use Rattle.std.proofs.lemmas.List.{length-map, get_or-map}
 use Rattle.std.proofs.lemmas.List.Elements.{All-nil, All-cons, All-head, All-tail, All-map}
 use Rattle.std.proofs.Math.Nat.{mul-le-mul_left}
-use Rattle.msp_class.specs.declared.class.Env.{Env}
-use Rattle.msp_class.specs.declared.class.Env.TheVariants.{P as SomeMachines}
-use Rattle.msp_class.specs.declared.class.Times.{Times}
-use Rattle.msp_class.specs.declared.class.Times.TheVariants.{General}
 use Rattle.msp_class.specs.declared.class.Crit.TheVariants.{Cmax}
 use Rattle.msp_class.specs.declared.environments.EnvKind.TheVariants.{Identical}
 use Rattle.msp_class.specs.Env.{kind_of}
 use Rattle.msp_class.proofs.Sums.{total_below, sum_by-mono, sum_by-constant}
 use Rattle.msp_instance.specs.declared.Instance.{Instance}
 use Rattle.msp_instance.specs.Instance.{no_need, no_job}
-use Rattle.msp_instance.specs.Conditions.{HasShape, HasTimes, HasRelease, HasArcs, MeetsConditions, Inner, inner_limits, least_time, greatest_time}
+use Rattle.msp_instance.specs.Conditions.{Inner}
+use Rattle.msp_schedule.proofs.OfClass.{inner_of}
 use Rattle.msp_schedule.proofs.OneRow.{time_at}
 use Rattle.msp_schedule.proofs.Places.{sum_by-places, total_below-within}
 use Rattle.msp_wrap.specs.Wrap.{wrap_class, time_of, longest_time, total_time, least_end}
@@ -33,26 +30,18 @@ pub record IsWrapInstance (i : Instance) : Type 0 where
 
 pub IsWrapInstance-from_class : (i : Instance) → i.class ≡ wrap_class → Inner i → IsWrapInstance i
 IsWrapInstance-from_class i e h =
-    let env : i.class.env ≡ SomeMachines = ap (λ c. c.env) e in
-    let times : i.class.times ≡ General = ap (λ c. c.times) e in
-    let heads : i.class.heads ≡ false = ap (λ c. c.heads) e in
-    let m : MeetsConditions (inner_limits (kind_of i.class.env)) i = h.conditions in
+    let m = (inner_of i wrap_class e h).conditions in
     record {
-      kind = ap kind_of env;
+      kind = ap (λ c. kind_of c.env) e;
       cut = ap (λ c. c.cut) e;
       crit = ap (λ c. c.crit) e;
-      arcs = subst (λ o. HasArcs o i.arcs) (ap (λ c. c.order) e) m.arcs;
+      arcs = m.arcs;
       some = m.some;
       few = m.few;
       machine = m.machines.0;
       machines = m.machines.1;
-      needs = λ k d l.
-          let n = (m.jobs k d l).needs in
-          let shape = subst (λ v. HasShape (kind_of v) v i.machines (get_or i.jobs k d).needs) env n.shape in
-          let S : Env → Times → Type 0 = λ v t. HasTimes (least_time (kind_of v) t) (greatest_time (inner_limits (kind_of v)) t) (get_or i.jobs k d).needs in
-          let in_range = subst₂ S env times n.times in
-          (shape.0, (in_range 0 no_need (omega (arith, shape.0))).0, (in_range 0 no_need (omega (arith, shape.0))).1);
-      release = λ k d l. subst (λ b. HasRelease (inner_limits (kind_of i.class.env)) b (get_or i.jobs k d).release) heads (m.jobs k d l).release;
+      needs = λ k d l. let n = (m.jobs k d l).needs in let t = n.times 0 no_need (omega (arith, n.shape.0)) in (n.shape.0, t.0, t.1);
+      release = λ k d l. (m.jobs k d l).release;
     }
 
 -- as the code asks for it

@@ -1,7 +1,6 @@
 -- One job more: its pieces are laid at the place with room.
-use Rattle.std.proofs.Common.{◌≡◌, ℕ, suc, ◌+◌, ◌*◌, ◌-◌, ◌<◌, ◌≤◌, ◌⊎◌, inl, inr, Bool, true, false, cond, eqb, leb, List, [], ◌∷◌, ◌++◌, length, get_or, filter, All, AllPairs, sum_by, OnOk, Ok, Err, Result, refl, sym, ap, ◌∙◌, subst, arith, length-append}
+use Rattle.std.proofs.Common.{◌≡◌, ℕ, suc, ◌+◌, ◌*◌, ◌-◌, ◌<◌, ◌≤◌, ◌⊎◌, inl, inr, Bool, true, false, cond, eqb, leb, List, [], ◌∷◌, ◌++◌, length, get_or, filter, All, AllPairs, sum_by, refl, sym, ap, ◌∙◌, subst, arith, length-append}
 use Rattle.std.proofs.lemmas.Bool.{eqb-true, eqb-false, leb-true, leb-false}
-use Rattle.std.specs.Result.{is_err}
 use Rattle.std.proofs.lemmas.List.{get_or_default}
 use Rattle.std.proofs.lemmas.List.Sums.{sum_by-append, sum_by-cons}
 use Rattle.std.proofs.lemmas.List.Elements.{All-nil, All-cons, All-push, filter-append}
@@ -268,7 +267,3 @@ IsWrapped-none i end = record {
   work = λ j l. absurd (omega arith);
   few = omega arith;
 }
-
-pub on_ok : {A E : Type 0} (r : Result A E) (P : Type 0) (b : Bool) → OnOk r P → b ≡ is_err r → b ≡ false → P
-on_ok (Ok a) P b h e f = h
-on_ok (Err x) P b h e f = absurd (cc)

@@ -1,6 +1,7 @@
 use Rattle.std.proofs.Common.{arith}
+use Rattle.msp_route.proofs.Pushes.{on_ok}
 use Rattle.msp_wrap.proofs.Facts.{IsWrapInstance-from_class}
-use Rattle.msp_wrap.proofs.Steps.{on_ok, work_read, place_small, done_small, next_small, one_made, two_made}
+use Rattle.msp_wrap.proofs.Steps.{work_read, place_small, done_small, next_small, one_made, two_made}
 use Rattle.msp_wrap.proofs.wrap.put_job.Goals as goal
 
 pub opened-at-requires : goal.opened-at-requires
