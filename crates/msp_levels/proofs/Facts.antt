@@ -5,10 +5,10 @@ use Rattle.msp_class.specs.declared.environments.EnvKind.TheVariants.{Identical}
 use Rattle.msp_class.specs.Env.{kind_of}
 use Rattle.msp_instance.specs.declared.Arc.{Arc}
 use Rattle.msp_instance.specs.declared.Instance.{Instance}
-use Rattle.msp_instance.specs.Instance.{no_need, no_job, job_at, need_at, common_time}
-use Rattle.msp_instance.specs.Conditions.{HasShape, HasSameTimes, HasDegree, Inner, inner_limits, leaving}
+use Rattle.msp_instance.specs.Instance.{no_need, no_job, job_at, need_at}
+use Rattle.msp_instance.specs.Conditions.{Inner, leaving}
 use Rattle.msp_schedule.specs.declared.Piece.{Piece}
-use Rattle.msp_schedule.proofs.Frames.{no_heads}
+use Rattle.msp_schedule.proofs.OfClass.{inner_of}
 use Rattle.msp_schedule.specs.Levels.{AreLevels}
 use Rattle.msp_levels.specs.Levels.{levels_class}
 use Rattle.msp_levels.specs.Steps.{is_blocked, IsSlot, seats, IsByLevel, IsUnderWay}
@@ -29,23 +29,19 @@ pub record IsUnitForest (i : Instance) : Type 0 where
 
 pub IsUnitForest-from : (i : Instance) → i.class ≡ levels_class → Inner i → IsUnitForest i
 IsUnitForest-from i e h =
-    let kind : kind_of i.class.env ≡ Identical = ap (λ c. kind_of c.env) e in
+    let m = (inner_of i levels_class e h).conditions in
     record {
-      kind = kind;
+      kind = ap (λ c. kind_of c.env) e;
       cut = ap (λ c. c.cut) e;
       crit = ap (λ c. c.crit) e;
-      some = h.conditions.some;
-      few = h.conditions.few;
-      machines = h.conditions.machines.0;
-      most = h.conditions.machines.1;
-      ones = λ j b.
-          let job = h.conditions.jobs j no_job b in
-          let shape = subst (λ k. HasShape k i.class.env i.machines (job_at i j).needs) kind job.needs.shape in
-          let times = subst (λ c. HasSameTimes c.times (common_time i) (job_at i j).needs) e job.times in
-          times 0 no_need (omega (arith, shape.0));
-      release = no_heads (inner_limits (kind_of i.class.env)) i (ap (λ c. c.heads) e) h.conditions;
-      ends = h.conditions.ends;
-      degree = λ j b. subst (λ c. HasDegree c.order i.arcs j) e (h.conditions.degree j b);
+      some = m.some;
+      few = m.few;
+      machines = m.machines.0;
+      most = m.machines.1;
+      ones = λ j b. let job = m.jobs j no_job b in job.times 0 no_need (omega (arith, job.needs.shape.0));
+      release = λ j b. (m.jobs j no_job b).release;
+      ends = m.ends;
+      degree = m.degree;
     }
 
 pub IsForest-from : (i : Instance) (level : ℕ → ℕ) → IsUnitForest i → AreLevels i level → IsForest i level

@@ -1,5 +1,5 @@
 -- The schedule of the rule is feasible and best, and costs the greatest bound of a level.
-use Rattle.std.proofs.Common.{◌≡◌, ◌≢◌, ℕ, zero, suc, ◌+◌, ◌-◌, ◌*◌, ◌/◌, ◌<◌, ◌≤◌, ◌⊎◌, inl, inr, true, cond, eqb, List, [], ◌∷◌, length, get_or, map, filter, count_by, ℤ, pos, ◌-ℤ◌, ◌*ℤ◌, ◌≤ℤ◌, ◌<ℤ◌, All, AllPairs, MatchBool, refl, sym, ap, ap₂, subst, subst₂, ◌∙◌, arith}
+use Rattle.std.proofs.Common.{◌≡◌, ◌≢◌, ℕ, zero, suc, ◌+◌, ◌-◌, ◌*◌, ◌/◌, ◌<◌, ◌≤◌, ◌⊎◌, inl, inr, true, List, [], ◌∷◌, length, get_or, map, ℤ, pos, ◌-ℤ◌, ◌*ℤ◌, ◌≤ℤ◌, ◌<ℤ◌, All, AllPairs, MatchBool, refl, sym, ap, ap₂, subst, subst₂, ◌∙◌, arith}
 use Rattle.std.specs.List.{range_with_len}
 use Rattle.std.proofs.lemmas.Bool.{cases_lt}
 use Rattle.std.proofs.lemmas.Int.{ints}
@@ -9,7 +9,6 @@ use Rattle.std.proofs.Math.Nat.{one-dvd}
 use native.Mathlib.Nat.{mul-le-mul_left}
 use Rattle.std.proofs.lemmas.List.{append-nil, length-map, get_or-map}
 use Rattle.std.proofs.lemmas.List.Elements.{All-contains, Contains-get_or}
-use Rattle.std.proofs.lemmas.List.Sums.{length-filter, sum_by-cons}
 use Rattle.msp_class.specs.Crit.{is_greatest}
 use Rattle.msp_class.specs.Env.{kind_of}
 use Rattle.msp_class.proofs.IntegerRing.{zero-le-pos, ≤ℤ_refl, ≤ℤ_trans, ≤ℤ_antisym, one-*ℤ, *ℤ-one, *ℤ_comm}
@@ -28,6 +27,7 @@ use Rattle.msp_schedule.specs.Cost.{cost_of, end_of, job_cost, Best}
 use Rattle.msp_schedule.specs.Settled.{IsSettled}
 use Rattle.msp_schedule.specs.Within.{IsMoment, Within}
 use Rattle.msp_schedule.proofs.OneMachine.{pieces_of-job}
+use Rattle.msp_schedule.proofs.OnceEach.{OnceBelow-one}
 use Rattle.msp_schedule.proofs.Intervals.{greatest_below, greatest_below-bound, greatest_below-reached}
 use Rattle.msp_schedule.proofs.LastEnds.{last_end-least}
 use Rattle.msp_schedule.proofs.Moves.{Contains-map}
@@ -39,16 +39,6 @@ use Rattle.msp_levels.specs.Levels.{levels_class, IsGreatestBound, IsLevelCost}
 use Rattle.msp_levels.specs.Steps.{level_from, Fits, begin_of, IsMade, StandsFirst, IsUnderWay, IsHuSchedule}
 use Rattle.msp_levels.proofs.Facts.{IsUnitForest, IsUnitForest-from}
 use Rattle.msp_schedule.proofs.LevelBound.{law_of_levels}
-
--- ---- lists
-count-map : {X : Type 0} (f : X → ℕ) (j : ℕ) (xs : List X) → count_by (λ x. eqb (f x) j) xs ≡ count_by (λ n. eqb n j) (map f xs)
-count-map f j [] = refl
-count-map f j (x ∷ xs) = omega (arith, sum_by-cons (λ x. cond (eqb (f x) j) 1 0) x xs, sum_by-cons (λ n. cond (eqb n j) 1 0) (f x) (map f xs), count-map f j xs)
-
-one_of : {X : Type 0} (xs : List X) → length xs ≡ 1 → (x : X) × (xs ≡ x ∷ [])
-one_of [] e = absurd (omega (arith, e))
-one_of (x ∷ []) e = (x, refl)
-one_of (x ∷ y ∷ xs) e = absurd (omega (arith, e))
 
 -- the quotient rounded up is enough
 enough : (n m : ℕ) → 1 ≤ m → n ≤ m * ((n + (m - 1)) / m)
@@ -84,7 +74,7 @@ module _ (i : Instance) (t : IsUnitForest i) (moment : ℕ) (pieces : List Piece
   piece_of_job : (j : ℕ) → j < n → (p : Piece) × (pieces_of (schedule_of pieces) j 0 ≡ p ∷ [])
   piece_of_job j b =
       let is = pieces_of-job (schedule_of pieces) j ops in
-      let (p, e) = one_of (filter (λ p. eqb p.job j) pieces) (length-filter (λ p. eqb p.job j) pieces ∙ count-map (λ p. p.job) j pieces ∙ jobs.once j b) in
+      let (p, e) = OnceBelow-one (λ p. p.job) pieces jobs j b in
       (p, is ∙ e)
 
   machines_apart : AllPairs (λ p q. p.machine ≡ q.machine → IsApart p q) pieces

@@ -1,28 +1,11 @@
 -- The jobs with their levels, as they are listed and sorted.
-use Rattle.std.proofs.Common.{◌≡◌, ℕ, suc, ◌+◌, ◌-◌, ◌<◌, ◌≤◌, Bool, false, not, cond, List, [], ◌∷◌, ◌++◌, length, get_or, map, All, AllPairs, IsPermutation, OnOk, Ok, Err, Result, sym, ap, subst, subst₂, ◌∙◌, arith}
-use Rattle.std.specs.Result.{is_err}
+use Rattle.std.proofs.Common.{◌≡◌, ℕ, ◌-◌, ◌<◌, ◌≤◌, List, [], ◌∷◌, ◌++◌, length, get_or, map, All, AllPairs, IsPermutation, sym, subst, subst₂, arith}
 use Rattle.std.specs.List.{range_with_len}
 use Rattle.std.specs.List.Sorted.{IsNonDecreasingBy}
-use Rattle.std.proofs.lemmas.List.{map-append, length-map, get_or-map}
+use Rattle.std.proofs.lemmas.List.{length-map, get_or-map}
 use Rattle.std.proofs.lemmas.List.Elements.{All-push}
 use Rattle.std.proofs.lemmas.List.Sorted.{IsPermutation-map, All-permutation}
-use Rattle.msp_class.proofs.Sums.{range_with_len_last}
 use Rattle.msp_levels.specs.declared.level.Ranked.{Ranked}
-
--- what a push that was not refused leaves
-pub pushed : {X : Type 0} (new old more : List X) (ok err : Bool) → new ≡ cond ok more old → ok ≡ not err → err ≡ false → new ≡ more
-pushed new old more ok err e is f = e ∙ ap (λ b. cond b more old) (is ∙ ap not f)
-
-pub on_ok : {A E : Type 0} (r : Result A E) (P : Type 0) (b : Bool) → OnOk r P → b ≡ is_err r → b ≡ false → P
-on_ok (Ok a) P b h e f = h
-on_ok (Err x) P b h e f = absurd (cc)
-
-pub numbers-next : (new old : List Ranked) (x : Ranked) (k : ℕ) → new ≡ old ++ x ∷ [] → x.job ≡ k → map (λ r. r.job) old ≡ range_with_len 0 k → map (λ r. r.job) new ≡ range_with_len 0 (k + 1)
-numbers-next new old x k e is so_far =
-    let place : x.job ≡ 0 + k = omega (arith, is) in
-    let back : suc k ≡ k + 1 = omega arith in
-    ap (map (λ r. r.job)) e ∙ map-append (λ r. r.job) old (x ∷ []) ∙ ap (λ l. l ++ x.job ∷ []) so_far
-    ∙ ap (λ n. range_with_len 0 k ++ n ∷ []) place ∙ sym (range_with_len_last 0 k) ∙ ap (range_with_len 0) back
 
 abbrev pub HasLevel : List ℕ → Ranked → Type 0
 HasLevel levels r = r.level ≡ get_or levels r.job 0

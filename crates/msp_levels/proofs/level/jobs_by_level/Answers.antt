@@ -2,7 +2,8 @@ use Rattle.std.proofs.Common.{◌≡◌, ◌≤◌, ◌-◌, ◌∙◌, map, ap,
 use Rattle.std.specs.List.{range_with_len}
 use Rattle.std.proofs.lemmas.Result.{IfOk-weaker}
 use Rattle.std.proofs.lemmas.List.Sorted.{IsNonDecreasingBy-from_sort_by_key}
-use Rattle.msp_levels.proofs.Ranks.{on_ok, ranked_all, ranked_falling}
+use Rattle.msp_route.proofs.Pushes.{on_ok}
+use Rattle.msp_levels.proofs.Ranks.{ranked_all, ranked_falling}
 use Rattle.msp_levels.proofs.level.jobs_by_level.Goals as goal
 
 pub returns-clause-all : goal.returns-clause-all

@@ -1,7 +1,7 @@
 use Rattle.std.proofs.Common.{◌∙◌, refl, rules}
 use Rattle.std.proofs.lemmas.Int.{to_z-of_z}
 use Rattle.std.specs.Int.{w128}
-use Rattle.msp_levels.proofs.Ranks.{on_ok}
+use Rattle.msp_route.proofs.Pushes.{on_ok}
 use Rattle.msp_levels.proofs.SlotSteps.{seats-next}
 use Rattle.msp_levels.proofs.slot.put_pieces.Goals as goal
 
