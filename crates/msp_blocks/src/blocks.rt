@@ -40,7 +40,7 @@ const UNIT_BLOCKS_CLASS: Class = Class {
 /// A best schedule of the instance by blocks (Baker, Lawler, Lenstra and Rinnooy Kan 1983). Release dates are raised along the arcs, and
 /// the earliest schedule is cut into blocks, in which the machine is never idle. In a block the job that costs least at its end, of those
 /// that no other one of it must follow, takes what the others leave when they are run without it. Where all times are 1, no job is cut.
-pub fn schedule_by_blocks(alloc: Global, inst: &Instance) -> Result<Solution, NoMemory>
+fn schedule_by_blocks(alloc: Global, inst: &Instance) -> Result<Solution, NoMemory>
     requires inner { Inner inst.now }
     requires machine { inst.now.class.env ≡ One }
     requires crit { inst.now.class.crit ≡ Fmax }

@@ -12,4 +12,4 @@ mod order;
 #[cfg(test)]
 mod tests;
 
-pub use blocks::{Blocks, UnitBlocks, schedule_by_blocks};
+pub use blocks::{Blocks, UnitBlocks};
