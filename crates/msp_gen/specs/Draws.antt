@@ -1,5 +1,6 @@
 -- Draws: numbers that follow from a seed, one after another.
 use Rattle.std.specs.Prelude.{ℕ, zero, suc, ◌+◌, ◌*◌, ◌/◌, ◌%◌, Bool, true, false, Option, Some, None, List, [], ◌∷◌, ◌++◌}
+use Rattle.msp_gen.specs.declared.limits.TheConstants.{SEEDS}
 
 -- What was drawn, and the seed of the next draw.
 pub record Drawn (A : Type 0) : Type 0 where
@@ -8,7 +9,7 @@ pub record Drawn (A : Type 0) : Type 0 where
 
 -- Each draw changes the seed so: a linear congruence modulo 2 ^ 31.
 unfoldable pub next_seed : ℕ → ℕ
-next_seed seed = (1103515245 * seed + 12345) % 2147483648
+next_seed seed = (1103515245 * seed + 12345) % SEEDS
 
 -- A number below `below`, where that is at least 1.
 abbrev pub draw : ℕ → ℕ → Drawn ℕ

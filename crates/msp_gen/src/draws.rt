@@ -1,15 +1,15 @@
 // Draws: numbers that follow from a seed.
 ghost use Rattle.std.specs.Prelude.{◌≡◌, ◌<◌};
+ghost use Rattle.msp_gen.specs.declared.limits.TheConstants.{SEEDS};
 ghost use Rattle.msp_gen.specs.Draws.{next_seed, draw, draw_from_one};
 
-/// One more than the greatest seed.
-pub const SEEDS: u64 = 2_147_483_648;
+use crate::limits::SEEDS;
 
 /// A source of numbers: a linear congruence, of which the upper fifteen bits are drawn.
 #[derive(Drop)]
 pub struct Draws {
     pub seed: u64,
-    ghost seeded: { seed < 2147483648 },
+    ghost seeded: { seed < SEEDS },
 }
 
 impl Draws {

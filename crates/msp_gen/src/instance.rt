@@ -1,9 +1,8 @@
 // The whole instance.
-ghost use Rattle.std.specs.Prelude.{◌≡◌, ◌<◌, ◌≤◌, ◌↔◌, [], IfOk, IfErr};
-ghost use Rattle.msp_class.specs.Env.{kind_of};
+ghost use Rattle.std.specs.Prelude.{◌≡◌, ◌<◌, ◌≤◌, IfOk, IfErr};
 ghost use Rattle.msp_instance.specs.declared.ranges.TheConstants.{MOST_JOBS};
 ghost use Rattle.msp_instance.specs.Conditions.{InClass};
-ghost use Rattle.msp_gen.specs.Draws.{draw_turns};
+ghost use Rattle.msp_gen.specs.declared.limits.TheConstants.{SEEDS};
 ghost use Rattle.msp_gen.specs.Generated.{machines_of, draw_speeds, draw_shared_time, generated};
 ghost use Rattle.msp_gen.specs.Faults.{IsCount, IsGenFault};
 
@@ -82,9 +81,9 @@ fn drawn(alloc: Global, class: Class, count: u32, draws: &mut Draws) -> Result<I
     })
 }
 
-/// The instance of the class with so many jobs, from 1 to 400, that the seed, below 2^31, makes. It belongs to its class.
+/// The instance of the class with so many jobs, from 1 to 400, that the seed makes. It belongs to its class.
 pub fn generate(alloc: Global, class: Class, jobs: u32, seed: u32) -> Result<Instance, GenFault>
-    requires { seed < 2147483648 }
+    requires { seed < SEEDS }
     ensures instance { IfOk result (λ inst. inst ≡ generated class jobs seed) }
     ensures in_class { IfOk result (λ inst. InClass inst) }
     ensures count { IfOk result (λ _. IsCount jobs) }

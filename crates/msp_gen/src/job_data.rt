@@ -1,7 +1,6 @@
 // Jobs: their needs, and what their class uses of release date, due date, weight and cost curve.
-ghost use Rattle.std.specs.Prelude.{◌≡◌, ◌<◌, ◌≤◌, pos, IfOk};
+ghost use Rattle.std.specs.Prelude.{◌≡◌, ◌<◌, IfOk};
 ghost use Rattle.msp_class.specs.Crit.{uses_due, uses_weight, uses_curve};
-ghost use Rattle.msp_instance.specs.declared.ranges.TheConstants.{MOST_MACHINES, MOST_JOBS};
 ghost use Rattle.msp_instance.specs.Instance.{no_curve};
 ghost use Rattle.msp_gen.specs.Draws.{draw, draw_from_one, draw_where, draw_turns, draw_one};
 ghost use Rattle.msp_gen.specs.Generated.{machines_of, draw_step, draw_curve, draw_job};

@@ -7,9 +7,11 @@
 mod draws;
 mod instance;
 mod job_data;
+mod limits;
 mod precedence;
 mod routes;
 #[cfg(test)]
 mod tests;
 
 pub use instance::{GenFault, generate};
+pub use limits::SEEDS;

@@ -1,9 +1,9 @@
 // Precedence: the arcs of each order, drawn in turns.
-ghost use Rattle.std.specs.Prelude.{◌≡◌, ◌<◌, ◌≤◌, ◌-◌, ◌++◌, IfOk, OnOk, IsTrue};
+ghost use Rattle.std.specs.Prelude.{◌≡◌, ◌<◌, ◌≤◌, ◌-◌, IfOk};
 ghost use Rattle.std.specs.List.{list_any};
 ghost use Rattle.msp_instance.specs.declared.ranges.TheConstants.{MOST_JOBS};
 ghost use Rattle.msp_gen.specs.Draws.{draw, draw_turns, listed};
-ghost use Rattle.msp_gen.specs.Generated.{draw_before, draw_behind, draw_arcs, arc_turns, is_same, added};
+ghost use Rattle.msp_gen.specs.Generated.{draw_before, draw_behind, draw_arcs, arc_turns, is_same};
 
 use crate::draws::Draws;
 use msp_class::{List, NoMemory, Order};

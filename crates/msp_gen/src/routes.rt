@@ -1,9 +1,9 @@
 // The times of a job, and on which machines it needs them.
-ghost use Rattle.std.specs.Prelude.{◌≡◌, ◌<◌, ◌≤◌, ◌++◌, [], ◌∷◌, length, IfOk, OnOk};
+ghost use Rattle.std.specs.Prelude.{◌≡◌, ◌<◌, ◌≤◌, IfOk};
 ghost use Rattle.msp_class.specs.Env.{kind_of, most_operations};
 ghost use Rattle.msp_instance.specs.declared.ranges.TheConstants.{MOST_MACHINES};
-ghost use Rattle.msp_gen.specs.Draws.{Drawn, draw_one, draw_turns};
-ghost use Rattle.msp_gen.specs.Generated.{machines_of, draw_some_time, draw_shop_time, draw_need, draw_machine, draw_operation, most_drawn, draw_needs};
+ghost use Rattle.msp_gen.specs.Draws.{draw_one, draw_turns};
+ghost use Rattle.msp_gen.specs.Generated.{machines_of, draw_some_time, draw_shop_time, draw_need, draw_machine, draw_operation, draw_needs};
 
 use crate::draws::Draws;
 use msp_class::{Class, EnvKind, List, NoMemory, Times, env_kind, most_operations};
