@@ -1,5 +1,6 @@
 -- What the readers of instance texts answer.
 use Rattle.std.specs.Prelude.{◌≡◌, ℕ, ◌+◌, ◌==◌, List, ◌++◌, length, count_by, slice_get, Option, Some, None, Result, Ok, Err}
+use Rattle.msp_text.specs.Bytes.{line_feed_byte}
 use Rattle.msp_instance.specs.declared.Instance.{Instance}
 use Rattle.msp_grammar.specs.InstanceText.{IsInstanceText}
 use Rattle.msp_instance.specs.declared.membership.ClassFault.{ClassFault}
@@ -96,4 +97,4 @@ pub record IsFrontText (bytes : List ℕ) (i : Instance) (names : List (List ℕ
   pub whole : bytes ≡ text ++ rest
   pub is : IsInstanceText text i names
   pub long : used ≡ length text
-  pub counted : line ≡ count_by (λ byte. byte == 10) text + 1
+  pub counted : line ≡ count_by (λ byte. byte == line_feed_byte) text + 1

@@ -31,6 +31,14 @@ quantity_text what.Moment = codes "moment"
 quantity_text what.Cost = codes "cost"
 quantity_text what.Pieces = codes "pieces"
 
+-- The most bytes of the word for a quantity.
+abbrev pub longest_quantity : ℕ
+longest_quantity = 8
+
+-- The most bytes in front of what is said of a line: `line `, a number of 10 digits and `: `.
+abbrev pub longest_line_head : ℕ
+longest_line_head = 17
+
 -- The line of a fault, and what it is.
 abbrev pub at_line : ℕ → List ℕ → List ℕ
 at_line at text = codes "line " ++ decimal at ++ codes ": " ++ text

@@ -29,6 +29,7 @@ use Rattle.msp_file.specs.declared.job.Keys.{Keys}
 use Rattle.msp_file.specs.declared.draft.Draft.{Draft}
 use Rattle.msp_grammar.specs.declared.filed.Filed.{Filed}
 use Rattle.msp_grammar.specs.Layout.{has_times, has_time_line, has_one_time, has_route, has_speeds, has_order, has_time_key, has_times_line}
+use Rattle.msp_text.specs.Bytes.{line_feed_byte, space_byte, equals_byte}
 use Rattle.msp_text.specs.Numbers.{number_of}
 
 -- the next step, or the fault
@@ -52,14 +53,14 @@ pub record Place : Type 0 where
 -- The next line, without its line feed.
 unfoldable pub line_at : Place → Result (List ℕ × Place) FileFault
 line_at place =
-    elim (position (λ byte. byte == 10) place.rest) [
+    elim (position (λ byte. byte == line_feed_byte) place.rest) [
       | Some length ↦ Ok (take length place.rest, record { at = place.at + 1; rest = drop (length + 1) place.rest })
       | None ↦ Err (elim place.rest [ [] ↦ Missing place.at | _ ∷ _ ↦ Cut place.at ])
     ]
 
 -- The fields of a line.
 abbrev pub fields_of : List ℕ → List (List ℕ)
-fields_of line = slice_split (λ byte. byte == 32) line
+fields_of line = slice_split (λ byte. byte == space_byte) line
 
 abbrev pub first_of : List (List ℕ) → List ℕ
 first_of [] = []
@@ -105,9 +106,22 @@ known_at at names field = do
   name ← job_name_at at field
   ok_or (position (bytes_eq name) names) (Unknown at)
 
+-- The letters of the keys.
+abbrev pub time_letter : ℕ
+time_letter = 112
+
+abbrev pub release_letter : ℕ
+release_letter = 114
+
+abbrev pub due_letter : ℕ
+due_letter = 100
+
+abbrev pub weight_letter : ℕ
+weight_letter = 119
+
 -- The text behind a key: one letter and `=`.
 abbrev pub keyed_at : ℕ → ℕ → List ℕ → Result (List ℕ) FileFault
-keyed_at at letter (key ∷ equals ∷ text) = provided ((key == letter) && (equals == 61)) (Key at) (Ok text)
+keyed_at at letter (key ∷ equals ∷ text) = provided ((key == letter) && (equals == equals_byte)) (Key at) (Ok text)
 keyed_at at letter _ = Err (Key at)
 
 -- A number behind a key in the next field, where the class has the key, and the fields after it.
@@ -130,11 +144,15 @@ integer_key_at at true letter quantity greatest fields = do
 -- The keys p, r, d and w, those of them that the class has. Elsewhere the time is 1, the dates are 0 and the weight is 1.
 unfoldable pub keys_at : Class → ℕ → List (List ℕ) → Result Keys FileFault
 keys_at class at fields = do
-  time ← natural_key_at at (has_time_key class) 112 what.Time 1 GREATEST fields
-  release ← natural_key_at at class.heads 114 what.Release 0 GREATEST time.1
-  due ← integer_key_at at (uses_due class.crit) 100 what.Due GREATEST release.1
-  weight ← natural_key_at at (uses_weight class.crit) 119 what.Weight 1 GREATEST due.1
+  time ← natural_key_at at (has_time_key class) time_letter what.Time 1 GREATEST fields
+  release ← natural_key_at at class.heads release_letter what.Release 0 GREATEST time.1
+  due ← integer_key_at at (uses_due class.crit) due_letter what.Due GREATEST release.1
+  weight ← natural_key_at at (uses_weight class.crit) weight_letter what.Weight 1 GREATEST due.1
   Ok (record { time = time.0; release = release.0; due = due.0; weight = weight.0 })
+
+-- The most keys of a job's line.
+abbrev pub most_keys : ℕ
+most_keys = 4
 
 abbrev pub count_of_keys : Class → ℕ
 count_of_keys class = flag_number (has_time_key class) + flag_number class.heads + flag_number (uses_due class.crit) + flag_number (uses_weight class.crit)

@@ -6,6 +6,7 @@ use Rattle.msp_instance.specs.declared.ranges.TheConstants.{MOST_MACHINES}
 use Rattle.msp_schedule.specs.declared.limits.TheConstants.{MOST_PIECES, GREATEST_UNIT, GREATEST_MOMENT}
 use Rattle.msp_schedule.specs.declared.Piece.{Piece}
 use Rattle.msp_grammar.specs.declared.limits.TheConstants.{GREATEST_COST, GREATEST_DENOMINATOR}
+use Rattle.msp_text.specs.Bytes.{slash_byte}
 use Rattle.msp_text.specs.Numbers.{number_of}
 use Rattle.msp_file.specs.declared.fault.What.TheVariants as what
 use Rattle.msp_file.specs.declared.fault.FileFault.{FileFault}
@@ -39,8 +40,8 @@ cost_of at numerator denominator =
 -- A cost, by its numerator and its denominator: a number, or two with `/` between them.
 unfoldable pub cost_in : ℕ → List ℕ → Result (ℤ × ℤ) FileFault
 cost_in at field = do
-  numerator ← number_at at (first_of (slice_split (λ byte. byte == 47) field))
-  denominator ← denominator_at at (others_of (slice_split (λ byte. byte == 47) field))
+  numerator ← number_at at (first_of (slice_split (λ byte. byte == slash_byte) field))
+  denominator ← denominator_at at (others_of (slice_split (λ byte. byte == slash_byte) field))
   cost_of at numerator denominator
 
 unfoldable pub cost_at : Place → Result ((ℤ × ℤ) × Place) FileFault

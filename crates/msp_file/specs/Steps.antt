@@ -1,5 +1,5 @@
 -- What the functions that read say: that they read as the definitions do, unless memory runs out. No public contract cites this file.
-use Rattle.std.specs.Prelude.{◌≡◌, ℕ, ℤ, ◌==◌, Bool, true, false, List, [], ◌∷◌, length, slice_get, Some, Result, Ok, Err}
+use Rattle.std.specs.Prelude.{◌≡◌, ℕ, ℤ, ◌^◌, ◌==◌, Bool, true, false, List, [], ◌∷◌, length, slice_get, Some, Result, Ok, Err}
 use Rattle.std.specs.List.{slice_split}
 use Rattle.msp_file.specs.declared.fault.FileFault.{FileFault}
 use Rattle.msp_file.specs.declared.fault.FileFault.TheVariants.{Class as ClassBroken, Cycle, Memory}
@@ -10,6 +10,7 @@ use Rattle.msp_instance.specs.Paths.{IsLeastOnCycle}
 use Rattle.msp_file.specs.Answers.{faulty_name, Fails}
 use Rattle.msp_schedule.specs.declared.Frac.{Frac}
 use Rattle.msp_text.specs.declared.number.Spelled.{Spelled}
+use Rattle.msp_text.specs.Bytes.{space_byte}
 use Rattle.msp_text.specs.Numbers.{capped}
 use Rattle.msp_file.specs.declared.place.Lines.{Lines}
 use Rattle.msp_file.specs.declared.draft.Draft.{Draft}
@@ -40,6 +41,10 @@ parts_of x = (x.num, x.den)
 abbrev pub place_of : Lines → Place
 place_of lines = record { at = lines.at; rest = lines.rest.now }
 
+-- A slice has fewer items.
+abbrev pub slice_limit : ℕ
+slice_limit = 2 ^ 63
+
 -- The parts of a text from the mark before them on.
 abbrev pub parts_after : ℕ → List ℕ → List (List ℕ)
 parts_after mark [] = []
@@ -47,7 +52,7 @@ parts_after mark (first ∷ bytes) = slice_split (λ byte. byte == mark) bytes
 
 -- The fields of a line from the space before them on.
 abbrev pub fields_after : List ℕ → List (List ℕ)
-fields_after bytes = parts_after 32 bytes
+fields_after bytes = parts_after space_byte bytes
 
 -- The same by a relation: where memory runs out nothing is said, and another fault is one that is read.
 abbrev pub FailsBy : {Y : Type 0} → FileFault → (Result Y FileFault → Type 0) → Type 0

@@ -1,8 +1,7 @@
 // The line of a cost curve.
-ghost use Rattle.std.specs.Prelude.{◌≡◌, ◌+◌, ◌<◌, ◌≤◌, ◌^◌, ◌++◌, ◌∷◌, [], length, IfOk, OnOk, MatchResult};
-ghost use Rattle.msp_instance.specs.Instance.{no_curve};
+ghost use Rattle.std.specs.Prelude.{◌≡◌, ◌<◌, ◌≤◌, [], length, IfOk, OnOk, MatchResult};
 ghost use Rattle.msp_file.specs.Answers.{Gives};
-ghost use Rattle.msp_file.specs.Reading.{natural_at, integer_at, with_step, steps_at, curve_fields_at, curve_line_at, curve_at, steps_in};
+ghost use Rattle.msp_file.specs.Reading.{with_step, steps_at, curve_fields_at, curve_line_at, curve_at, steps_in};
 ghost use Rattle.msp_file.specs.Steps.{Leads, Moves, place_of, fields_after};
 
 use crate::fault::{FileFault, What};

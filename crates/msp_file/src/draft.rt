@@ -1,9 +1,9 @@
 // The lines of jobs and arcs.
-ghost use Rattle.std.specs.Prelude.{◌≡◌, ◌++◌, ◌∷◌, [], ◌≤◌, ◌<◌, ℕ, List as Items, false, not, length, bytes_eq, MatchResult, Ok, IfOk, OnOk};
+ghost use Rattle.std.specs.Prelude.{◌≡◌, ◌++◌, ◌∷◌, [], ◌≤◌, ◌<◌, ℕ, List as Items, false, not, length, bytes_eq, MatchResult, Ok, OnOk};
 ghost use Rattle.std.specs.List.{list_any};
 ghost use Rattle.msp_instance.specs.declared.ranges.TheConstants.{MOST_JOBS};
 ghost use Rattle.msp_file.specs.Answers.{Gives};
-ghost use Rattle.msp_file.specs.Reading.{provided, is_arc_among, with_arc, arc_line_at, job_of, time_in, job_at_line, arc_step, job_step, ReadsArcs, ReadsJobs, end_read, end_at, Place};
+ghost use Rattle.msp_file.specs.Reading.{provided, is_arc_among, with_arc, arc_line_at, time_in, job_at_line, arc_step, ReadsArcs, ReadsJobs, end_read, end_at, Place};
 ghost use Rattle.msp_file.specs.declared.draft.Draft.{Draft as DraftValue};
 ghost use Rattle.msp_schedule.specs.declared.Piece.{Piece as PieceValue};
 ghost use Rattle.msp_file.specs.Steps.{Moves, MovesBy, AfterLine, AfterJob, place_of, fields_after};

@@ -2,7 +2,7 @@
 ghost use Rattle.std.specs.Prelude.{◌≡◌, ◌+◌, ◌≤◌, ◌++◌, length, codes};
 ghost use Rattle.msp_name.specs.declared.short_text.TheConstants.{ROOM};
 ghost use Rattle.msp_job_name.specs.declared.job_name.TheConstants.{LONGEST_NAME};
-ghost use Rattle.msp_file.specs.Faults.{quantity_text, at_line, broken_text, file_text};
+ghost use Rattle.msp_file.specs.Faults.{quantity_text, longest_quantity, longest_line_head, at_line, broken_text, file_text};
 
 use msp_instance::ClassFault;
 use msp_job_name::JobName;
@@ -108,7 +108,7 @@ impl What {
     /// The word for the quantity.
     fn word(self) -> &'static [u8]
         ensures value { result.now ≡ quantity_text self }
-        ensures short { length result.now ≤ 8 }
+        ensures short { length result.now ≤ longest_quantity }
     {
         match self {
             What::Jobs => b"jobs",
@@ -147,9 +147,9 @@ fn plain(bytes: &[u8]) -> ShortText
 
 /// The number of a line, which has at most 10 digits, and what is said of it.
 fn at_line(at: u32, what: &[u8]) -> ShortText
-    requires { length what.now + 17 ≤ ROOM }
+    requires { length what.now + longest_line_head ≤ ROOM }
     ensures text { result ≡ at_line at what.now }
-    ensures short { length result ≤ length what.now + 17 }
+    ensures short { length result ≤ length what.now + longest_line_head }
 {
     let mut digits = itoa::Buffer::new();
     let mut text = plain(b"line ");
@@ -179,7 +179,7 @@ fn headed(head: &[u8], name: &JobName) -> ShortText
 }
 
 fn of_job(name: &JobName, what: &[u8]) -> ShortText
-    requires { length what.now + LONGEST_NAME + 4 ≤ ROOM }
+    requires { length what.now + LONGEST_NAME + length (codes "job ") ≤ ROOM }
     ensures { result ≡ codes "job " ++ name.now ++ what.now }
 {
     let mut text = headed(b"job ", name);

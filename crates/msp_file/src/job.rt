@@ -1,12 +1,11 @@
 // The line of a job.
-ghost use Rattle.std.specs.Prelude.{◌≡◌, All, IsTrue, ◌+◌, ◌<◌, ◌≤◌, length, true, false, bytes_eq, IfOk};
+ghost use Rattle.std.specs.Prelude.{◌≡◌, All, IsTrue, ◌<◌, ◌≤◌, length, false, bytes_eq, IfOk};
 ghost use Rattle.std.specs.List.{list_any};
 ghost use Rattle.msp_class.specs.declared.list.TheConstants.{PLACES};
-ghost use Rattle.msp_class.specs.Rank.{flag_number};
 ghost use Rattle.msp_instance.specs.declared.ranges.TheConstants.{GREATEST};
 ghost use Rattle.msp_job_name.specs.JobName.{is_name_byte};
 ghost use Rattle.msp_file.specs.Answers.{Gives};
-ghost use Rattle.msp_file.specs.Reading.{is_name_text, job_name_at, known_at, keyed_at, natural_key_at, integer_key_at, keys_at, count_of_keys, job_line_at};
+ghost use Rattle.msp_file.specs.Reading.{is_name_text, job_name_at, known_at, keyed_at, natural_key_at, integer_key_at, keys_at, count_of_keys, most_keys, job_line_at};
 ghost use Rattle.msp_file.specs.Steps.{fields_after};
 
 use crate::fault::{FileFault, What};
@@ -119,7 +118,7 @@ fn integer_key_at(
 
 fn count_of_keys(class: Class) -> usize
     ensures value { result ≡ count_of_keys class }
-    ensures few { result ≤ 4 }
+    ensures few { result ≤ most_keys }
 {
     has_time_key(class) as usize
         + class.heads as usize

@@ -1,7 +1,8 @@
 // Lines and fields.
-ghost use Rattle.std.specs.Prelude.{◌≡◌, ◌+◌, ◌∷◌, ◌<◌, ◌≤◌, length, position, count_by, ◌==◌, IfOk, OnOk};
+ghost use Rattle.std.specs.Prelude.{◌≡◌, ◌∷◌, ◌<◌, ◌≤◌, length, position, count_by, ◌==◌, IfOk, OnOk};
 ghost use Rattle.std.specs.List.{slice_split};
 ghost use Rattle.msp_class.specs.declared.list.TheConstants.{PLACES};
+ghost use Rattle.msp_text.specs.Bytes.{space_byte};
 ghost use Rattle.msp_file.specs.Reading.{line_at, worded_at, fields_of, first_of, others_of};
 ghost use Rattle.msp_file.specs.Steps.{Moves, place_of, parts_after, fields_after};
 
@@ -15,7 +16,7 @@ fn find(bytes: &[u8], mark: u8) -> Option<usize>
 }
 
 fn count_spaces(bytes: &[u8]) -> usize
-    ensures value { result ≡ count_by (λ x. x == 32) bytes.now }
+    ensures value { result ≡ count_by (λ x. x == space_byte) bytes.now }
     ensures few { result ≤ length bytes.now }
 {
     bytes.iter().filter(|byte| **byte == b' ').count()

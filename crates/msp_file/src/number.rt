@@ -1,5 +1,6 @@
 // The numbers of fields.
-ghost use Rattle.std.specs.Prelude.{◌≡◌, ◌<◌, ◌≤◌, ◌^◌, IfOk, pos, neg_ℤ, if◌then◌else◌};
+ghost use Rattle.std.specs.Prelude.{◌≡◌, ◌<◌, ◌≤◌, IfOk, pos, neg_ℤ, if◌then◌else◌};
+ghost use Rattle.msp_schedule.specs.Within.{i128_limit};
 ghost use Rattle.msp_file.specs.Reading.{natural_at, ordinal_at, integer_at};
 
 use crate::fault::{FileFault, What};
@@ -14,7 +15,7 @@ pub(crate) fn wide_at(
     greatest: u128,
     bytes: &[u8],
 ) -> Result<u128, FileFault>
-    requires { greatest < 2 ^ 127 }
+    requires { greatest < i128_limit }
     ensures value { result ≡ natural_at at what least greatest bytes.now }
     ensures range { IfOk result (λ n. (least ≤ n) × (n ≤ greatest)) }
 {
@@ -57,7 +58,7 @@ pub(crate) fn ordinal_at(at: u32, what: What, most: u32, field: &[u8]) -> Result
 
 /// The number with its sign.
 pub(crate) fn with_sign(number: Spelled) -> i128
-    requires { number.size < 2 ^ 127 }
+    requires { number.size < i128_limit }
     ensures { result ≡ (if number.negative then neg_ℤ (pos number.size) else pos number.size) }
 {
     let size = number.size as i128;

@@ -1,11 +1,11 @@
 // The lines of a job's operations.
-ghost use Rattle.std.specs.Prelude.{◌≡◌, ◌+◌, ◌<◌, ◌≤◌, ◌^◌, [], length, map, IfOk, OnOk, MatchResult};
+ghost use Rattle.std.specs.Prelude.{◌≡◌, ◌+◌, ◌<◌, ◌≤◌, [], length, map, IfOk, OnOk, MatchResult};
 ghost use Rattle.std.specs.List.{range_with_len};
 ghost use Rattle.msp_class.specs.declared.list.TheConstants.{PLACES};
 ghost use Rattle.msp_class.specs.Env.{kind_of};
 ghost use Rattle.msp_file.specs.Answers.{Gives};
-ghost use Rattle.msp_file.specs.Reading.{natural_at, machine_at, with_need, times_at, timed_route_at, machine_route_at, operations_at, operations_in, fields_in, is_route_count, times_line_at, route_line_at, unwritten_needs, needs_at};
-ghost use Rattle.msp_file.specs.Steps.{Leads, Moves, place_of, fields_after};
+ghost use Rattle.msp_file.specs.Reading.{machine_at, with_need, times_at, timed_route_at, machine_route_at, operations_at, operations_in, is_route_count, times_line_at, route_line_at, unwritten_needs, needs_at};
+ghost use Rattle.msp_file.specs.Steps.{Leads, Moves, place_of, fields_after, slice_limit};
 
 use crate::fault::{FileFault, What};
 use crate::lines::{count_fields, next_field, worded_at};
@@ -203,7 +203,7 @@ fn times_line_at(
 
 /// How many operations so many fields begin.
 fn operations_in(timed: bool, fields: usize) -> usize
-    requires { fields < 2 ^ 63 }
+    requires { fields < slice_limit }
     ensures { result ≡ operations_in timed fields }
 {
     if timed { (fields + 1) / 2 } else { fields }
@@ -211,7 +211,7 @@ fn operations_in(timed: bool, fields: usize) -> usize
 
 /// Whether so many fields are those of at least one and at most so many operations.
 fn is_route_count(timed: bool, most: usize, fields: usize) -> bool
-    requires { fields < 2 ^ 63 }
+    requires { fields < slice_limit }
     ensures { result ≡ is_route_count timed most fields }
 {
     let operations = operations_in(timed, fields);

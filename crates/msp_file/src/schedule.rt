@@ -1,6 +1,7 @@
 // The reader of schedule texts.
-ghost use Rattle.std.specs.Prelude.{◌≡◌, ◌<◌, ◌≤◌, ◌++◌, ◌∷◌, [], length, All, OnOk, IfOk, IfErr, MatchResult, Ok, ℤ};
+ghost use Rattle.std.specs.Prelude.{◌≡◌, ◌<◌, ◌≤◌, [], length, OnOk, IfOk, IfErr, MatchResult, Ok, ℤ};
 ghost use Rattle.msp_class.specs.declared.list.TheConstants.{PLACES};
+ghost use Rattle.msp_text.specs.Bytes.{slash_byte};
 ghost use Rattle.msp_text.specs.Numbers.{capped};
 ghost use Rattle.msp_schedule.specs.declared.Schedule.{Schedule as ScheduleValue};
 ghost use Rattle.msp_schedule.specs.declared.Frac.{Frac as FracValue};
@@ -8,7 +9,7 @@ ghost use Rattle.msp_grammar.specs.ScheduleText.{IsScheduleText};
 ghost use Rattle.msp_file.specs.declared.read.TheConstants.{MOST_BYTES};
 ghost use Rattle.msp_file.specs.declared.schedule.TheConstants.{LAST_LINE};
 ghost use Rattle.msp_file.specs.Reading.{ReadsMore};
-ghost use Rattle.msp_file.specs.ScheduleReading.{title_at, number_at, denominator_at, cost_of, cost_in, cost_at, unit_at, moment_at, span_at, place_at, piece_at, piece_line_at, piece_step, ReadsPieces, ReadsStated, ReadsSchedule};
+ghost use Rattle.msp_file.specs.ScheduleReading.{title_at, number_at, denominator_at, cost_of, cost_in, cost_at, unit_at, moment_at, span_at, place_at, piece_at, piece_line_at, piece_step, ReadsStated, ReadsSchedule};
 ghost use Rattle.msp_file.specs.Answers.{Fails, Gives};
 ghost use Rattle.msp_file.specs.ScheduleAnswers.{IsScheduleFaultOf, IsScheduleFault, SchedulesReadOneWay, PrintedReadAgain};
 ghost use Rattle.msp_file.specs.Steps.{GivesBy, Moves, MovesBy, AfterLine, spelled_as, parts_of, place_of, parts_after, fields_after};
@@ -67,7 +68,7 @@ fn number_at(at: u32, field: &[u8]) -> Result<Spelled, FileFault>
 
 /// The denominator behind the first `/`. It is 1 where there is none.
 fn denominator_at(at: u32, rest: &[u8]) -> Result<Spelled, FileFault>
-    ensures { result ≡ spelled_as (denominator_at at (parts_after 47 rest.now)) }
+    ensures { result ≡ spelled_as (denominator_at at (parts_after slash_byte rest.now)) }
 {
     match rest {
         [] => Ok(Spelled {

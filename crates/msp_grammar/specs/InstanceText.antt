@@ -18,13 +18,14 @@ use Rattle.msp_instance.specs.declared.Arc.{Arc}
 use Rattle.msp_instance.specs.declared.Instance.{Instance}
 use Rattle.msp_instance.specs.Instance.{no_need, common_time}
 use Rattle.msp_instance.specs.Conditions.{InClass}
+use Rattle.msp_text.specs.Bytes.{space_byte}
 use Rattle.msp_job_name.specs.JobName.{IsJobName, AreDistinct}
 use Rattle.msp_grammar.specs.Layout.{has_times, has_time_key, has_times_line, has_route, has_speeds, has_time_line}
 use Rattle.msp_grammar.specs.ScheduleText.{line_feed, name_at}
 
 -- A line by its fields: one space between two of them, and a line feed at the end.
 abbrev pub line_text : List (List ℕ) → List ℕ
-line_text fields = join_with_byte 32 fields ++ line_feed
+line_text fields = join_with_byte space_byte fields ++ line_feed
 
 -- What stands there only where it is wanted.
 abbrev pub where_wanted : {A : Type 0} → Bool → List A → List A

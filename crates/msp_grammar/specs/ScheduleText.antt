@@ -11,14 +11,15 @@ use Rattle.msp_schedule.specs.declared.Piece.{Piece}
 use Rattle.msp_schedule.specs.declared.Frac.{Frac}
 use Rattle.msp_schedule.specs.declared.Schedule.{Schedule}
 use Rattle.msp_schedule.specs.Within.{IsMoment, IsUnit}
+use Rattle.msp_text.specs.Bytes.{line_feed_byte, space_byte}
 use Rattle.msp_grammar.specs.declared.limits.TheConstants.{GREATEST_COST, GREATEST_DENOMINATOR}
 
--- The byte that ends a line, and the one between two fields.
+-- The text that ends a line, and the one between two fields.
 abbrev pub line_feed : List ℕ
-line_feed = 10 ∷ []
+line_feed = line_feed_byte ∷ []
 
 abbrev pub space : List ℕ
-space = 32 ∷ []
+space = space_byte ∷ []
 
 -- The name of the job of a number, from 0.
 abbrev pub name_at : List (List ℕ) → ℕ → List ℕ

@@ -1,8 +1,8 @@
 // The printer of schedule texts.
-ghost use Rattle.std.specs.Prelude.{◌≡◌, ◌+◌, ◌<◌, ◌^◌, ◌≤◌, ◌++◌, drop, All, OnOk, IfOk, codes, decimal};
+ghost use Rattle.std.specs.Prelude.{◌≡◌, ◌+◌, ◌++◌, OnOk, IfOk, decimal};
 ghost use Rattle.std.specs.Fmt.{signed_decimal};
 ghost use Rattle.msp_schedule.specs.Fraction.{IsLowest};
-ghost use Rattle.msp_grammar.specs.ScheduleText.{line_feed, space, name_at, fraction_text, piece_line, piece_lines, cost_line, unit_line, schedule_text, IsStated, IsScheduleText};
+ghost use Rattle.msp_grammar.specs.ScheduleText.{space, name_at, fraction_text, piece_line, piece_lines, cost_line, unit_line, schedule_text, IsStated, IsScheduleText};
 
 use msp_class::NoMemory;
 use msp_job_name::Names;
