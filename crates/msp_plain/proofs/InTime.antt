@@ -10,16 +10,18 @@ use Rattle.msp_instance.specs.Conditions.{LiesWithin}
 use Rattle.msp_instance.specs.declared.Job.{Job}
 use Rattle.msp_schedule.specs.declared.Piece.{Piece}
 use Rattle.msp_plain.specs.Raised.{IsInTime}
+use Rattle.msp_plain.specs.Threshold.{greatest_threshold}
 use Rattle.msp_schedule.specs.Within.{IsUnit}
 use Rattle.msp_schedule.proofs.Small.{product_within}
+use Rattle.msp_route.specs.Sizes.{greatest_row_date}
 
-both_within : (d b : ℤ) → LiesWithin (2 ^ 62) d → LiesWithin (2 * 10 ^ 18) b → LiesWithin (10 ^ 19) (d +ℤ b)
+both_within : (d b : ℤ) → LiesWithin greatest_row_date d → LiesWithin greatest_threshold b → LiesWithin (10 ^ 19) (d +ℤ b)
 both_within d b h k = (omega (arith, ints, h.0, k.0), omega (arith, ints, h.1, k.1))
 
 within_fits : (x : ℤ) → LiesWithin (10 ^ 32) x → FitsSigned w128 x
 within_fits x h = omega (arith, ints, h.0, h.1)
 
-pub latest_fits : (unit d b : ℤ) → IsUnit unit → LiesWithin (2 ^ 62) d → LiesWithin (2 * 10 ^ 18) b → FitsSigned w128 (unit *ℤ (d +ℤ b))
+pub latest_fits : (unit d b : ℤ) → IsUnit unit → LiesWithin greatest_row_date d → LiesWithin greatest_threshold b → FitsSigned w128 (unit *ℤ (d +ℤ b))
 latest_fits unit d b u h k =
     let (n, e) = natural_some unit (omega (arith, ints, u.0)) in
     subst (λ z. FitsSigned w128 (z *ℤ (d +ℤ b))) (sym e) (within_fits _ (product_within n (d +ℤ b) (10 ^ 13) (10 ^ 19) (10 ^ 32) (omega (arith, ints, e, u.1)) (both_within d b h k) (omega arith)))
@@ -27,17 +29,17 @@ latest_fits unit d b u h k =
 pub fits_again : (u s x y : ℤ) → u ≡ x → s ≡ y → FitsSigned w128 (x *ℤ y) → FitsSigned w128 (u *ℤ s)
 fits_again u s x y e f h = subst (FitsSigned w128) (sym (ap₂ (λ a b. a *ℤ b) e f)) h
 
-pub narrow_fits : (x : ℤ) → LiesWithin (2 ^ 62) x → FitsSigned w64 x
+pub narrow_fits : (x : ℤ) → LiesWithin greatest_row_date x → FitsSigned w64 x
 narrow_fits x h = omega (arith, ints, h.0, h.1)
 
-bound_within : (b : ℤ) → LiesWithin (2 * 10 ^ 18) b → LiesWithin (2 ^ 62) b
+bound_within : (b : ℤ) → LiesWithin greatest_threshold b → LiesWithin greatest_row_date b
 bound_within b h = (omega (arith, ints, h.0), omega (arith, ints, h.1))
 
 sum_fits : (x : ℤ) → LiesWithin (10 ^ 19) x → FitsSigned w128 x
 sum_fits x h = omega (arith, ints, h.0, h.1)
 
 -- the sum as the types read it
-pub sum_is : (x d b c : ℤ) → x ≡ to_z w64 (of_z w64 c) +ℤ to_z w64 (of_z w64 b) → c ≡ d → LiesWithin (2 ^ 62) d → LiesWithin (2 * 10 ^ 18) b → to_z w128 (of_z w128 x) ≡ d +ℤ b
+pub sum_is : (x d b c : ℤ) → x ≡ to_z w64 (of_z w64 c) +ℤ to_z w64 (of_z w64 b) → c ≡ d → LiesWithin greatest_row_date d → LiesWithin greatest_threshold b → to_z w128 (of_z w128 x) ≡ d +ℤ b
 sum_is x d b c e same h k =
     let due_is : to_z w64 (of_z w64 c) ≡ d = ap (λ z. to_z w64 (of_z w64 z)) same ∙ to_z-of_z w64 d (narrow_fits d h) in
     let whole : x ≡ d +ℤ b = e ∙ ap₂ ◌+ℤ◌ due_is (to_z-of_z w64 b (narrow_fits b (bound_within b k))) in

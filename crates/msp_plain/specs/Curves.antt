@@ -1,5 +1,5 @@
 -- The row from the greatest lateness to the greatest cost by curves: charges are the same. No public contract cites this file.
-use Rattle.std.proofs.Common.{◌≡◌, ℕ, ◌*◌, ◌^◌, ◌<◌, ◌≤◌, length, get_or, map, All, ℤ, pos, neg_ℤ, ◌+ℤ◌, ◌-ℤ◌, ◌*ℤ◌, ◌≤ℤ◌, Some, refl, sym, ap, subst, ◌∙◌, arith}
+use Rattle.std.proofs.Common.{◌≡◌, ℕ, ◌*◌, ◌<◌, ◌≤◌, length, get_or, map, All, ℤ, pos, neg_ℤ, ◌+ℤ◌, ◌-ℤ◌, ◌*ℤ◌, ◌≤ℤ◌, Some, refl, sym, ap, subst, ◌∙◌, arith}
 use Rattle.std.proofs.lemmas.Bool.{eqb-true}
 use Rattle.std.proofs.lemmas.Int.{ints}
 use Rattle.std.proofs.lemmas.List.{length-map}
@@ -25,7 +25,8 @@ use Rattle.msp_route.specs.Law.{Applies}
 use Rattle.msp_plain.specs.Changes.{by_curve, led_by_curves}
 use Rattle.msp_route.proofs.InnerChanges.{changed, common_time-map, Inner-changed}
 use Rattle.msp_route.proofs.Alike.{Alike, Alike-led}
-use Rattle.msp_plain.specs.Names.{some_if}
+use Rattle.msp_route.specs.Sizes.{greatest_row_date}
+use Rattle.msp_route.proofs.Applied.{part_alone}
 
 -- a due date in the range of the class
 dated : (i : Instance) → i.class.crit ≡ Lmax → (a : Job) → IsJobOf (inner_limits (kind_of i.class.env)) i a → LiesWithin (2 * GREATEST * inner_factor (kind_of i.class.env)) a.due
@@ -73,7 +74,7 @@ by_curve_inner i e inner = Inner-changed i i.class.order i.class.heads i.class.t
 
 pub alike_9 : (i : Instance) → Inner i → Applies 9 i → Alike 9 i (led_by_curves i)
 unfolding goes_of table
-alike_9 i inner h = let (b, g) = some_if _ _ h in by (crit_number-injective _ Lmax (eqb-true _ _ b)) g
+alike_9 i inner h = let (b, g) = part_alone _ _ h in by (crit_number-injective _ Lmax (eqb-true _ _ b)) g
   where
     by : i.class.crit ≡ Lmax → goes_of 9 i.class ≡ Some (record i.class { crit = Fmax }) → Alike 9 i (led_by_curves i)
     by e g =
@@ -93,12 +94,12 @@ factor_bound OpenShop = omega arith
 factor_bound FlowShop = omega arith
 factor_bound JobShop = omega arith
 
-pub date_fits : (k : EnvKind) (d : ℤ) → LiesWithin (2 * GREATEST * inner_factor k) d → LiesWithin (2 ^ 62) d
+pub date_fits : (k : EnvKind) (d : ℤ) → LiesWithin (2 * GREATEST * inner_factor k) d → LiesWithin greatest_row_date d
 date_fits k d h = let b = factor_bound k in (omega (arith, ints, h.0, b), omega (arith, ints, h.1, b))
 
-pub dates_within : (i : Instance) → Inner i → i.class.crit ≡ Lmax → All (λ j. LiesWithin (2 ^ 62) j.due) i.jobs
+pub dates_within : (i : Instance) → Inner i → i.class.crit ≡ Lmax → All (λ j. LiesWithin greatest_row_date j.due) i.jobs
 dates_within i inner e = λ k d l. date_fits (kind_of i.class.env) (get_or i.jobs k d).due (dated i e (get_or i.jobs k d) (inner.conditions.jobs k d l))
 
-pub dates_fit : (i : Instance) → Inner i → Applies 9 i → All (λ j. LiesWithin (2 ^ 62) j.due) i.jobs
+pub dates_fit : (i : Instance) → Inner i → Applies 9 i → All (λ j. LiesWithin greatest_row_date j.due) i.jobs
 unfolding goes_of table
-dates_fit i inner h = let (b, g) = some_if _ _ h in dates_within i inner (crit_number-injective _ Lmax (eqb-true _ _ b))
+dates_fit i inner h = let (b, g) = part_alone _ _ h in dates_within i inner (crit_number-injective _ Lmax (eqb-true _ _ b))

@@ -1,20 +1,18 @@
 -- Two jobs of equal times, and a schedule of unit times with idle stretches, for a test. No public contract cites this file.
-use Rattle.std.proofs.Common.{◌≡◌, ℕ, zero, suc, ◌*◌, ◌<◌, ◌≤◌, false, [], ◌∷◌, AllPairs, Contains, inr, pos, ◌*ℤ◌, ◌≤ℤ◌, refl, sym, ap, subst, subst₂, ◌∙◌, arith}
+use Rattle.std.proofs.Common.{◌≡◌, ℕ, zero, suc, ◌*◌, ◌<◌, ◌≤◌, false, [], ◌∷◌, inr, pos, ◌*ℤ◌, ◌≤ℤ◌, refl, sym, ap, subst, subst₂, ◌∙◌, arith}
 use Rattle.std.proofs.lemmas.Int.{ints}
 use Rattle.std.proofs.lemmas.List.Elements.{All-nil}
-use Rattle.std.proofs.lemmas.List.Kept.{AllPairs-cons}
 use Rattle.msp_class.specs.declared.class.Env.TheVariants.{One}
 use Rattle.msp_class.specs.declared.class.Order.TheVariants.{Free}
 use Rattle.msp_class.specs.declared.class.Times.TheVariants.{Equal}
 use Rattle.msp_class.specs.declared.class.Crit.TheVariants.{Cmax}
-use Rattle.msp_class.specs.declared.environments.EnvKind.{EnvKind}
-use Rattle.msp_class.specs.declared.environments.EnvKind.TheVariants.{Identical, Uniform, Unrelated, OpenShop, FlowShop, JobShop}
+use Rattle.msp_class.specs.declared.environments.EnvKind.TheVariants.{Identical}
 use Rattle.msp_class.specs.Env.{kind_of}
 use Rattle.msp_instance.specs.declared.ranges.TheConstants.{GREATEST, GREATEST_EQUAL_TIME}
 use Rattle.msp_instance.specs.declared.Need.{Need}
 use Rattle.msp_instance.specs.declared.Instance.{Instance}
 use Rattle.msp_instance.specs.Instance.{job_at}
-use Rattle.msp_instance.specs.Conditions.{inner_limits, IsJobOf, Inner, HasNearDues}
+use Rattle.msp_instance.specs.Conditions.{inner_limits, IsJobOf, Inner}
 use Rattle.msp_schedule.specs.declared.Piece.{Piece}
 use Rattle.msp_schedule.specs.declared.Schedule.{Schedule}
 use Rattle.msp_schedule.specs.Piece.{IsApart}
@@ -23,11 +21,12 @@ use Rattle.msp_schedule.specs.Within.{Within, IsMoment}
 use Rattle.msp_schedule.proofs.Frames.{Lasts}
 use Rattle.msp_table.specs.Rows.{goes_of, table}
 use Rattle.msp_route.specs.Law.{Applies}
-use Rattle.msp_route.specs.Bounds.{IsBounded, greatest_unit}
+use Rattle.msp_route.specs.Bounds.{IsBounded}
 use Rattle.msp_route.specs.declared.bounds.TheConstants.{GREATEST_BACK_MOMENT}
+use Rattle.msp_route.proofs.Samples.{one_each, two_each, one_pair, both_listed, near_two, unit_one}
 use Rattle.msp_plain.specs.Equal.{led_to_unit}
 use Rattle.msp_plain.specs.EqualLaws.{unit_of, led_is, leads_54, lower_54}
-use Rattle.msp_plain.specs.Examples.{one_each, two_each, dated}
+use Rattle.msp_plain.specs.Examples.{dated}
 
 -- two jobs of time 3 on one machine
 abbrev pub equal_pair : Instance
@@ -45,9 +44,6 @@ unit_piece job from to = record { job = job; op = 0; machine = 0; from = pos fro
 -- one job from moment 4 to 5, the other from 1 to 2
 abbrev pub with_idle : Schedule
 with_idle = record { unit = pos 1; pieces = unit_piece 0 4 5 ∷ unit_piece 1 1 2 ∷ [] }
-
-one_pair : {X : Type 0} (R : X → X → Type 0) (x y : X) → R x y → AllPairs R (x ∷ y ∷ [])
-one_pair R x y h = AllPairs-cons R x (y ∷ []) (one_each (R x) y h) (λ i j d a b. absurd (omega (arith, b)))
 
 equal_job : IsJobOf (inner_limits Identical) equal_pair (dated 3 (pos 0))
 equal_job = record {
@@ -76,23 +72,9 @@ Inner-equal = record {
     once = λ i j d a b. absurd (omega (arith, b));
     degree = λ j l. tt;
   };
-  dues = near;
-  acyclic = (0 ∷ 1 ∷ [], record { whole = refl; each = each }, All-nil _);
+  dues = near_two (2 * GREATEST * 1) equal_pair (dated 3 (pos 0)) (dated 3 (pos 0)) (omega (arith, ints)) (omega (arith, ints));
+  acyclic = (0 ∷ 1 ∷ [], record { whole = refl; each = both_listed }, All-nil _);
 }
-  where
-    near : HasNearDues (2 * GREATEST * 1) equal_pair
-    near zero zero a b = omega (arith, ints)
-    near zero (suc zero) a b = omega (arith, ints)
-    near (suc zero) zero a b = omega (arith, ints)
-    near (suc zero) (suc zero) a b = omega (arith, ints)
-    near (suc (suc j)) k a b = absurd (omega arith)
-    near zero (suc (suc k)) a b = absurd (omega arith)
-    near (suc zero) (suc (suc k)) a b = absurd (omega arith)
-
-    each : (j : ℕ) → j < 2 → Contains (0 ∷ 1 ∷ []) j
-    each zero l = (0, omega arith, refl)
-    each (suc zero) l = (1, omega arith, refl)
-    each (suc (suc j)) l = absurd (omega arith)
 
 pub Applies-equal : Applies 54 equal_pair
 unfolding goes_of table
@@ -133,15 +115,7 @@ Within-idle i = record {
 }
 
 pub IsBounded-idle : (i : Instance) → IsBounded i with_idle
-IsBounded-idle i = record { sized = record { few = omega arith; unit = by (kind_of i.class.env) }; ends = two_each (λ p. p.to ≤ℤ GREATEST_BACK_MOMENT) (unit_piece 0 4 5) (unit_piece 1 1 2) (omega (arith, ints)) (omega (arith, ints)) }
-  where
-    by : (k : EnvKind) → pos 1 ≤ℤ greatest_unit k
-    by Identical = omega (arith, ints)
-    by Uniform = omega (arith, ints)
-    by Unrelated = omega (arith, ints)
-    by OpenShop = omega (arith, ints)
-    by FlowShop = omega (arith, ints)
-    by JobShop = omega (arith, ints)
+IsBounded-idle i = record { sized = record { few = omega arith; unit = unit_one (kind_of i.class.env) }; ends = two_each (λ p. p.to ≤ℤ GREATEST_BACK_MOMENT) (unit_piece 0 4 5) (unit_piece 1 1 2) (omega (arith, ints)) (omega (arith, ints)) }
 
 -- what the test knows of them
 pub Feasible-test : (i j : Instance) (s : Schedule) → i ≡ equal_pair → j ≡ led_to_unit i → s ≡ with_idle → Feasible j s

@@ -1,13 +1,12 @@
 -- The row from equal times to unit times: both instances have the same schedules on another scale. No public contract cites this file.
-use Rattle.std.proofs.Common.{◌≡◌, ℕ, ◌+◌, ◌*◌, ◌<◌, ◌≤◌, ◌⊎◌, Bool, true, false, List, length, get_or, map, inl, inr, ℤ, pos, nat_abs, ◌+ℤ◌, ◌-ℤ◌, ◌*ℤ◌, ◌≤ℤ◌, Some, None, IsSome, unwrap_or, if◌then◌else◌, refl, sym, ap, subst, ◌∙◌, arith}
-use Rattle.std.specs.Prelude.{◌&&◌, ◌||◌}
+use Rattle.std.proofs.Common.{◌≡◌, ℕ, ◌+◌, ◌*◌, ◌<◌, ◌≤◌, ◌⊎◌, Bool, true, false, List, length, get_or, map, inl, inr, ℤ, pos, nat_abs, ◌+ℤ◌, ◌-ℤ◌, ◌*ℤ◌, ◌≤ℤ◌, Some, unwrap_or, if◌then◌else◌, refl, sym, ap, subst, ◌∙◌, arith, ◌^◌}
+use Rattle.std.specs.Prelude.{◌||◌}
 use Rattle.std.proofs.lemmas.Bool.{eqb-true}
 use Rattle.std.proofs.lemmas.Int.{ints}
 use Rattle.std.proofs.lemmas.Nat.{mul-le}
 use Rattle.std.proofs.lemmas.List.{length-map, get_or-map}
 use Rattle.std.proofs.lemmas.List.Elements.{All-map}
 use Rattle.std.proofs.lemmas.List.Sorted.{IsPermutation-refl}
-use Rattle.msp_class.specs.declared.class.Class.{Class}
 use Rattle.msp_class.specs.declared.class.Env.{Env}
 use Rattle.msp_class.specs.declared.class.Times.TheVariants.{Unit as UnitTimes, Equal}
 use Rattle.msp_class.specs.declared.class.Crit.TheVariants.{Cmax, SumC, SumWC}
@@ -16,7 +15,8 @@ use Rattle.msp_class.specs.declared.environments.EnvKind.TheVariants.{Identical,
 use Rattle.msp_class.specs.Env.{kind_of}
 use Rattle.msp_class.proofs.RankLemmas.{flag_number-injective, times_number-injective, crit_number-injective}
 use Rattle.msp_class.proofs.IntegerRing.{pos-le, one-*ℤ, zero-*ℤ, +ℤ_idr, *ℤ_assoc, *ℤ_comm, *ℤ-mono, *ℤ-mono_nonneg, ≤ℤ_trans, ≤ℤ_of_same}
-use Rattle.msp_instance.specs.declared.ranges.TheConstants.{GREATEST}
+use Rattle.msp_class.specs.declared.environments.TheConstants.{MOST_OPERATIONS}
+use Rattle.msp_instance.specs.declared.ranges.TheConstants.{GREATEST, GREATEST_EQUAL_TIME, MOST_JOBS}
 use Rattle.msp_instance.specs.declared.Need.{Need}
 use Rattle.msp_instance.specs.declared.Job.{Job}
 use Rattle.msp_instance.specs.declared.Instance.{Instance}
@@ -36,15 +36,11 @@ use Rattle.msp_route.specs.Law.{Applies, IsLower, IsPositive, IsForth, IsBack, I
 use Rattle.msp_route.specs.Bounds.{EndsBy}
 use Rattle.msp_route.specs.declared.bounds.TheConstants.{GREATEST_LINED_UP}
 use Rattle.msp_route.proofs.InnerChanges.{changed, Inner-changed}
+use Rattle.msp_route.proofs.Applied.{part_and_condition}
 use Rattle.msp_plain.specs.Equal.{unit_need, unit_job, led_to_unit, by_common_time, over_time, closed, closed_up}
 use Rattle.msp_plain.specs.Lengths.{lengths_of_units}
 
 -- ---- where the row applies
-some_given : (b g : Bool) (c : Class) → IsSome (if b && true && g then Some c else None) → (b ≡ true) × (g ≡ true) × ((if b && true && g then Some c else None) ≡ Some c)
-some_given true true c h = (refl, refl, refl)
-some_given true false c h = absurd (cc)
-some_given false g c h = absurd (cc)
-
 one_true : (a b c : Bool) → (a || b || c) ≡ true → (a ≡ true) ⊎ ((b ≡ true) ⊎ (c ≡ true))
 one_true true b c h = inl refl
 one_true false true c h = inr (inl refl)
@@ -59,7 +55,7 @@ pub record LeadsToUnit (i : Instance) : Type 0 where
 pub leads_54 : (i : Instance) → Applies 54 i → LeadsToUnit i
 unfolding goes_of table
 leads_54 i h =
-    let (b, g, e) = some_given _ _ _ h in
+    let (b, g, e) = part_and_condition _ _ _ h in
     let (none, crit) = both_true _ _ g in
     record {
       times = times_number-injective _ Equal (eqb-true _ _ b);
@@ -217,8 +213,7 @@ module _ (i : Instance) (inner : Inner i) (leads : LeadsToUnit i) where
         (end_of-closed_le e i j shared here there inner.conditions.machines.0 no_heads t f a))),
   )
 
-  -- the common time is at most 1,000,000
-  small_time : common_time i ≤ 1000000
+  small_time : common_time i ≤ GREATEST_EQUAL_TIME
   small_time =
       let first = inner.conditions.jobs 0 no_job inner.conditions.some in
       let (k, n, l, s, p) = first.needs.some in
@@ -229,10 +224,10 @@ module _ (i : Instance) (inner : Inner i) (leads : LeadsToUnit i) where
   closed_early t f small = All-map (λ p. p.to ≤ℤ GREATEST_LINED_UP) _ t.pieces (λ k d l.
       ≤ℤ_trans (busy_moment-lengths e t.pieces (get_or t.pieces k d).to) (bounded e t.unit _ small_time f.unit small (lengths_of_units limits j t (unit_inner i inner).conditions refl f)))
     where
-      bounded : (e : ℕ) (unit : ℤ) (m : ℕ) → e ≤ 1000000 → pos 1 ≤ℤ unit → unit ≤ℤ GREATEST_UNIT → m ≤ 12800 * nat_abs unit → pos (e * m) ≤ℤ GREATEST_LINED_UP
+      bounded : (e : ℕ) (unit : ℤ) (m : ℕ) → e ≤ GREATEST_EQUAL_TIME → pos 1 ≤ℤ unit → unit ≤ℤ GREATEST_UNIT → m ≤ MOST_JOBS * MOST_OPERATIONS * nat_abs unit → pos (e * m) ≤ℤ GREATEST_LINED_UP
       bounded e unit m h one k l =
-          let low : nat_abs unit ≤ 10000000000000 = omega (arith, ints) in
-          let most = mul-le e m 1000000 128000000000000000 h (omega arith) in
+          let low : nat_abs unit ≤ 10 ^ 13 = omega (arith, ints) in
+          let most = mul-le e m GREATEST_EQUAL_TIME (MOST_JOBS * MOST_OPERATIONS * 10 ^ 13) h (omega arith) in
           pos-le (omega arith)
 
 -- ---- as the row states them

@@ -1,7 +1,7 @@
 -- The instance and the schedule of the tests. No public contract cites this file.
-use Rattle.std.proofs.Common.{◌≡◌, ◌≢◌, ℕ, zero, suc, ◌*◌, ◌<◌, ◌≤◌, Bool, true, false, List, [], ◌∷◌, length, All, AllPairs, Contains, inr, ℤ, pos, negsuc, ◌+ℤ◌, ◌*ℤ◌, ◌≤ℤ◌, refl, sym, ap, subst, subst₂, ◌∙◌, arith}
+use Rattle.std.proofs.Common.{◌≡◌, ◌≢◌, ℕ, zero, suc, ◌*◌, ◌<◌, ◌≤◌, Bool, true, false, [], ◌∷◌, All, inr, ℤ, pos, negsuc, ◌+ℤ◌, ◌*ℤ◌, ◌≤ℤ◌, refl, sym, ap, subst, subst₂, ◌∙◌, arith}
 use Rattle.std.proofs.lemmas.Int.{ints}
-use Rattle.std.proofs.lemmas.List.Elements.{All-nil, All-cons}
+use Rattle.std.proofs.lemmas.List.Elements.{All-nil}
 use Rattle.msp_class.specs.declared.class.Class.{Class}
 use Rattle.msp_class.specs.declared.class.Env.TheVariants.{One}
 use Rattle.msp_class.specs.declared.class.Order.{Order}
@@ -10,23 +10,23 @@ use Rattle.msp_class.specs.declared.class.Times.{Times}
 use Rattle.msp_class.specs.declared.class.Times.TheVariants.{General, Unit as UnitTimes, Equal}
 use Rattle.msp_class.specs.declared.class.Crit.{Crit}
 use Rattle.msp_class.specs.declared.class.Crit.TheVariants.{Lmax}
-use Rattle.msp_class.specs.declared.environments.EnvKind.{EnvKind}
-use Rattle.msp_class.specs.declared.environments.EnvKind.TheVariants.{Identical, Uniform, Unrelated, OpenShop, FlowShop, JobShop}
+use Rattle.msp_class.specs.declared.environments.EnvKind.TheVariants.{Identical}
 use Rattle.msp_class.specs.Crit.{uses_due, uses_weight, uses_curve}
 use Rattle.msp_instance.specs.declared.Need.{Need}
 use Rattle.msp_instance.specs.declared.Job.{Job}
 use Rattle.msp_instance.specs.declared.Instance.{Instance}
 use Rattle.msp_instance.specs.Instance.{no_curve, job_at}
-use Rattle.msp_instance.specs.Conditions.{inner_limits, HasArcs, HasDegree, HasTimes, HasSameTimes, HasRelease, HasDue, HasWeight, HasCurve, IsJobOf, Inner, HasNearDues, LiesWithin, least_time, greatest_time}
+use Rattle.msp_instance.specs.Conditions.{inner_limits, HasArcs, HasDegree, HasTimes, HasSameTimes, HasRelease, HasDue, HasWeight, HasCurve, IsJobOf, Inner, LiesWithin, least_time, greatest_time}
 use Rattle.msp_schedule.specs.declared.Piece.{Piece}
 use Rattle.msp_schedule.specs.declared.Schedule.{Schedule}
 use Rattle.msp_schedule.specs.Feasible.{Feasible, HasPlace, GetsWork}
 use Rattle.msp_schedule.specs.Within.{Within, IsMoment}
 use Rattle.msp_route.specs.Law.{Rate, IsForth}
-use Rattle.msp_route.specs.Bounds.{IsBounded, greatest_unit}
+use Rattle.msp_route.specs.Bounds.{IsBounded}
 use Rattle.msp_schedule.specs.Piece.{IsApart}
 use Rattle.msp_schedule.proofs.Frames.{Lasts}
 use Rattle.msp_route.specs.declared.bounds.TheConstants.{GREATEST_BACK_MOMENT}
+use Rattle.msp_route.proofs.Samples.{one_each, two_each, no_pairs, near_one, near_two, unit_one, both_listed}
 use Rattle.msp_class.specs.Env.{kind_of}
 use Rattle.msp_instance.specs.declared.ranges.TheConstants.{GREATEST, GREATEST_EQUAL_TIME}
 
@@ -52,12 +52,6 @@ single c = record {
 -- the job from moment 0 to 1
 abbrev pub from_zero : Schedule
 from_zero = record { unit = pos 1; pieces = the_piece ∷ [] }
-
-pub one_each : {X : Type 0} (P : X → Type 0) (x : X) → P x → All P (x ∷ [])
-one_each P x h = All-cons P x [] h (All-nil P)
-
-no_pairs : {X : Type 0} (R : X → X → Type 0) (xs : List X) → length xs ≤ 1 → AllPairs R xs
-no_pairs R xs h = λ i j d a b. absurd (omega arith)
 
 module _ (cut : Bool) (order : Order) (heads : Bool) (times : Times) (crit : Crit) where
   abbrev pub class_of : Class
@@ -127,14 +121,9 @@ module _ (cut : Bool) (order : Order) (heads : Bool) (times : Times) (crit : Cri
       once = no_pairs (λ a b. a ≢ b) (inst.arcs) (omega arith);
       degree = λ j l. no_degree order j;
     };
-    dues = near_dues;
+    dues = near_one (2 * GREATEST * 1) inst the_job;
     acyclic = (0 ∷ [], record { whole = refl; each = λ j l. (0, omega arith, omega (arith, l)) }, All-nil _);
   }
-    where
-      near_dues : HasNearDues (2 * GREATEST * 1) inst
-      near_dues zero zero a b = omega (arith, ints)
-      near_dues (suc j) k a b = absurd (omega arith)
-      near_dues zero (suc k) a b = absurd (omega arith)
 
 -- the class, seen by its parts
 pub Inner-one : (c : Class) → c.env ≡ One → Inner (single c)
@@ -168,15 +157,7 @@ Within-one i = record {
 }
 
 pub IsBounded-one : (i : Instance) → IsBounded i from_zero
-IsBounded-one i = record { sized = record { few = omega arith; unit = by (kind_of i.class.env) }; ends = one_each (λ p. p.to ≤ℤ GREATEST_BACK_MOMENT) the_piece (omega (arith, ints)) }
-  where
-    by : (k : EnvKind) → pos 1 ≤ℤ greatest_unit k
-    by Identical = omega (arith, ints)
-    by Uniform = omega (arith, ints)
-    by Unrelated = omega (arith, ints)
-    by OpenShop = omega (arith, ints)
-    by FlowShop = omega (arith, ints)
-    by JobShop = omega (arith, ints)
+IsBounded-one i = record { sized = record { few = omega arith; unit = unit_one (kind_of i.class.env) }; ends = one_each (λ p. p.to ≤ℤ GREATEST_BACK_MOMENT) the_piece (omega (arith, ints)) }
 
 -- what a reduction makes of them, where it keeps the schedule
 pub Feasible-below : (lower : Instance → Instance) (forth : Instance → Schedule → Schedule) (rate : Rate) (c : Class) (i j : Instance) (s : Schedule) → i ≡ single c → j ≡ lower i → s ≡ from_zero → c.env ≡ One → c.cut ≡ false → forth (single c) from_zero ≡ from_zero
@@ -196,9 +177,6 @@ pair = record {
   jobs = dated 2 (pos 4) ∷ dated 3 (negsuc 1) ∷ [];
   arcs = [];
 }
-
-pub two_each : {X : Type 0} (P : X → Type 0) (x y : X) → P x → P y → All P (x ∷ y ∷ [])
-two_each P x y h k = All-cons P x (y ∷ []) h (one_each P y k)
 
 dated_job : (time : ℕ) (due : ℤ) → 1 ≤ time → time ≤ GREATEST * 1 → LiesWithin (2 * GREATEST * 1) due → IsJobOf (inner_limits Identical) pair (dated time due)
 dated_job time due some small d = record {
@@ -227,23 +205,9 @@ Inner-pair = record {
     once = no_pairs (λ a b. a ≢ b) pair.arcs (omega arith);
     degree = λ j l. tt;
   };
-  dues = near;
-  acyclic = (0 ∷ 1 ∷ [], record { whole = refl; each = each }, All-nil _);
+  dues = near_two (2 * GREATEST * 1) pair (dated 2 (pos 4)) (dated 3 (negsuc 1)) (omega (arith, ints)) (omega (arith, ints));
+  acyclic = (0 ∷ 1 ∷ [], record { whole = refl; each = both_listed }, All-nil _);
 }
-  where
-    near : HasNearDues (2 * GREATEST * 1) pair
-    near zero zero a b = omega (arith, ints)
-    near zero (suc zero) a b = omega (arith, ints)
-    near (suc zero) zero a b = omega (arith, ints)
-    near (suc zero) (suc zero) a b = omega (arith, ints)
-    near (suc (suc j)) k a b = absurd (omega arith)
-    near zero (suc (suc k)) a b = absurd (omega arith)
-    near (suc zero) (suc (suc k)) a b = absurd (omega arith)
-
-    each : (j : ℕ) → j < 2 → Contains (0 ∷ 1 ∷ []) j
-    each zero l = (0, omega arith, refl)
-    each (suc zero) l = (1, omega arith, refl)
-    each (suc (suc j)) l = absurd (omega arith)
 
 -- raised by 5
 pub pair-raised : All (λ j. LiesWithin (inner_limits Identical).greatest_date (j.due +ℤ pos 5)) pair.jobs

@@ -12,10 +12,12 @@ use Rattle.msp_class.specs.declared.environments.EnvKind.TheVariants.{Identical,
 use Rattle.msp_class.specs.Env.{kind_of, most_operations}
 use Rattle.msp_class.proofs.IntegerRing.{pos-le, le-pos, *ℤ-one, +ℤ_mono, ≤ℤ_refl}
 use Rattle.msp_class.proofs.Sums.{sum_by-by_key_filter, total_below-bound}
+use Rattle.msp_class.specs.declared.environments.TheConstants.{MOST_OPERATIONS}
 use Rattle.msp_instance.specs.declared.Need.{Need}
 use Rattle.msp_instance.specs.declared.Instance.{Instance}
 use Rattle.msp_instance.specs.Instance.{no_need, no_job, job_at, need_at}
 use Rattle.msp_instance.specs.Conditions.{Limits, MeetsConditions, HasShape, HasSpeeds, HasSameTimes}
+use Rattle.msp_instance.specs.declared.ranges.TheConstants.{MOST_JOBS}
 use Rattle.msp_schedule.specs.declared.Piece.{Piece}
 use Rattle.msp_schedule.specs.declared.Schedule.{Schedule}
 use Rattle.msp_schedule.specs.Piece.{length_of}
@@ -100,7 +102,7 @@ module _ (f : Frame) (unit : ℤ) (ps : List Piece) (w : ℕ) (fits : Fits f uni
       (λ k d l. let s = fits.place k d l in (s.job, one.few (get_or ps k d).job (get_or ps k d).op s.job s.operation)) (λ j o l h. operation_length j o l)
 
 -- ---- an instance of unit times
-few_operations : (e : Env) → most_operations e ≤ 32
+few_operations : (e : Env) → most_operations e ≤ MOST_OPERATIONS
 few_operations One = omega arith
 few_operations P2 = omega arith
 few_operations P3 = omega arith
@@ -131,7 +133,7 @@ module _ (l : Limits) (i : Instance) (h : MeetsConditions l i) (unit_times : i.c
   time_is : (o : ℕ) → o < length (job_at i j).needs → (need_at i j o).time ≡ 1
   time_is o k = ones o no_need k
 
-  few_by : (k : EnvKind) → HasShape k i.class.env i.machines (job_at i j).needs → (o : ℕ) → HasOperation k i j o → o < 32
+  few_by : (k : EnvKind) → HasShape k i.class.env i.machines (job_at i j).needs → (o : ℕ) → HasOperation k i j o → o < MOST_OPERATIONS
   few_by Identical s o e = omega (arith, e)
   few_by Uniform s o e = omega (arith, e)
   few_by Unrelated s o e = omega (arith, e)
@@ -155,17 +157,17 @@ module _ (l : Limits) (i : Instance) (h : MeetsConditions l i) (unit_times : i.c
   rate_by FlowShop s own o m r = omega arith
   rate_by JobShop s own o m r = omega arith
 
-wants_one : (l : Limits) (i : Instance) → MeetsConditions l i → i.class.times ≡ UnitTimes → WantsOne (frame_by (kind_of i.class.env) i) 32
+wants_one : (l : Limits) (i : Instance) → MeetsConditions l i → i.class.times ≡ UnitTimes → WantsOne (frame_by (kind_of i.class.env) i) MOST_OPERATIONS
 wants_one l i h e = record {
   few = λ j o inside has. few_by l i h e j inside (kind_of i.class.env) (h.jobs j no_job inside).needs.shape o has;
   want = λ j o inside has. want_by l i h e j inside (kind_of i.class.env) (h.jobs j no_job inside).needs.shape o has;
   rate = λ j o m inside may. rate_by l i h e j inside (kind_of i.class.env) h.speeds (IsShaped-from_conditions l i h).unrelated o m may;
 }
 
--- 400 jobs have 32 operations each at most, and each operation is at most a unit long
-pub lengths_of_units : (l : Limits) (i : Instance) (s : Schedule) → MeetsConditions l i → i.class.times ≡ UnitTimes → Feasible i s → sum_by (size_of start finish) s.pieces ≤ 12800 * nat_abs s.unit
+-- each operation is at most a unit long
+pub lengths_of_units : (l : Limits) (i : Instance) (s : Schedule) → MeetsConditions l i → i.class.times ≡ UnitTimes → Feasible i s → sum_by (size_of start finish) s.pieces ≤ MOST_JOBS * MOST_OPERATIONS * nat_abs s.unit
 lengths_of_units l i s h e f =
-    bounded (length i.jobs) (nat_abs s.unit) _ h.few (lengths_fit (frame_by (kind_of i.class.env) i) s.unit s.pieces 32 (Fits-from_feasible i s (IsShaped-from_conditions l i h) f) (wants_one l i h e))
+    bounded (length i.jobs) (nat_abs s.unit) _ h.few (lengths_fit (frame_by (kind_of i.class.env) i) s.unit s.pieces MOST_OPERATIONS (Fits-from_feasible i s (IsShaped-from_conditions l i h) f) (wants_one l i h e))
   where
-    bounded : (n u m : ℕ) → n ≤ 400 → m ≤ n * (32 * u) → m ≤ 12800 * u
-    bounded n u m few k = let most = mul-le n (32 * u) 400 (32 * u) few (omega arith) in omega arith
+    bounded : (n u m : ℕ) → n ≤ MOST_JOBS → m ≤ n * (MOST_OPERATIONS * u) → m ≤ MOST_JOBS * MOST_OPERATIONS * u
+    bounded n u m few k = let most = mul-le n (MOST_OPERATIONS * u) MOST_JOBS (MOST_OPERATIONS * u) few (omega arith) in omega arith

@@ -1,10 +1,8 @@
 -- The rows that change the class alone: the instances at both ends have the same schedules at the same costs. No public contract cites this file.
-use Rattle.std.proofs.Common.{◌≡◌, ℕ, ◌<◌, ◌≤◌, Bool, true, false, List, length, All, Any, ℤ, pos, ◌-ℤ◌, ◌*ℤ◌, ◌≤ℤ◌, Some, None, IsSome, if◌then◌else◌, refl, sym, ap, subst, ◌∙◌, arith}
-use Rattle.std.specs.Prelude.{◌&&◌}
+use Rattle.std.proofs.Common.{◌≡◌, ℕ, ◌<◌, ◌≤◌, true, false, List, length, All, Any, ℤ, pos, ◌-ℤ◌, ◌*ℤ◌, ◌≤ℤ◌, Some, if◌then◌else◌, refl, sym, ap, subst, ◌∙◌, arith}
 use Rattle.std.specs.Int.{int_max}
 use Rattle.std.proofs.lemmas.Bool.{eqb-true}
 use Rattle.std.proofs.lemmas.Int.{ints}
-use Rattle.msp_class.specs.declared.class.Class.{Class}
 use Rattle.msp_class.specs.declared.class.Order.{Order}
 use Rattle.msp_class.specs.declared.class.Order.TheVariants.{Free, Chains, Intree, Outtree, Prec}
 use Rattle.msp_class.specs.declared.class.Times.{Times}
@@ -31,11 +29,7 @@ use Rattle.msp_route.specs.Law.{Applies}
 use Rattle.msp_route.specs.Changes.{led}
 use Rattle.msp_route.proofs.InnerChanges.{Inner-recast}
 use Rattle.msp_route.proofs.Alike.{Alike, Alike-led}
-
--- what it takes that a row applies
-pub some_if : (b : Bool) (c : Class) → IsSome (if b && true && true then Some c else None) → (b ≡ true) × ((if b && true && true then Some c else None) ≡ Some c)
-some_if true c h = (refl, refl)
-some_if false c h = absurd (cc)
+use Rattle.msp_route.proofs.Applied.{part_alone}
 
 -- ---- precedence
 -- arcs of the one order are arcs of the other
@@ -83,23 +77,23 @@ alike_order row from to grows i e g inner = Alike-led row i (record i.class { or
 
 pub alike_1 : (i : Instance) → Inner i → Applies 1 i → Alike 1 i (led 1 i)
 unfolding goes_of table
-alike_1 i inner h = let (b, g) = some_if _ _ h in alike_order 1 Free Chains no_arcs i (order_number-injective _ Free (eqb-true _ _ b)) g inner
+alike_1 i inner h = let (b, g) = part_alone _ _ h in alike_order 1 Free Chains no_arcs i (order_number-injective _ Free (eqb-true _ _ b)) g inner
 
 pub alike_2 : (i : Instance) → Inner i → Applies 2 i → Alike 2 i (led 2 i)
 unfolding goes_of table
-alike_2 i inner h = let (b, g) = some_if _ _ h in alike_order 2 Chains Intree leaving_once i (order_number-injective _ Chains (eqb-true _ _ b)) g inner
+alike_2 i inner h = let (b, g) = part_alone _ _ h in alike_order 2 Chains Intree leaving_once i (order_number-injective _ Chains (eqb-true _ _ b)) g inner
 
 pub alike_3 : (i : Instance) → Inner i → Applies 3 i → Alike 3 i (led 3 i)
 unfolding goes_of table
-alike_3 i inner h = let (b, g) = some_if _ _ h in alike_order 3 Chains Outtree entering_once i (order_number-injective _ Chains (eqb-true _ _ b)) g inner
+alike_3 i inner h = let (b, g) = part_alone _ _ h in alike_order 3 Chains Outtree entering_once i (order_number-injective _ Chains (eqb-true _ _ b)) g inner
 
 pub alike_4 : (i : Instance) → Inner i → Applies 4 i → Alike 4 i (led 4 i)
 unfolding goes_of table
-alike_4 i inner h = let (b, g) = some_if _ _ h in alike_order 4 Intree Prec any_leaving i (order_number-injective _ Intree (eqb-true _ _ b)) g inner
+alike_4 i inner h = let (b, g) = part_alone _ _ h in alike_order 4 Intree Prec any_leaving i (order_number-injective _ Intree (eqb-true _ _ b)) g inner
 
 pub alike_5 : (i : Instance) → Inner i → Applies 5 i → Alike 5 i (led 5 i)
 unfolding goes_of table
-alike_5 i inner h = let (b, g) = some_if _ _ h in alike_order 5 Outtree Prec any_entering i (order_number-injective _ Outtree (eqb-true _ _ b)) g inner
+alike_5 i inner h = let (b, g) = part_alone _ _ h in alike_order 5 Outtree Prec any_entering i (order_number-injective _ Outtree (eqb-true _ _ b)) g inner
 
 -- ---- release dates
 abbrev limits_of : Instance → Limits
@@ -110,7 +104,7 @@ none_in_range l r h = omega (arith, h)
 
 pub alike_6 : (i : Instance) → Inner i → Applies 6 i → Alike 6 i (led 6 i)
 unfolding goes_of table
-alike_6 i inner h = let (b, g) = some_if _ _ h in by (flag_number-injective _ false (eqb-true _ _ b)) g
+alike_6 i inner h = let (b, g) = part_alone _ _ h in by (flag_number-injective _ false (eqb-true _ _ b)) g
   where
     by : i.class.heads ≡ false → goes_of 6 i.class ≡ Some (record i.class { heads = true }) → Alike 6 i (led 6 i)
     by e g = Alike-led 6 i (record i.class { heads = true }) i.jobs g (record {
@@ -184,7 +178,7 @@ shared_unit i e inner = let h = inner.conditions.jobs 0 no_job inner.conditions.
 
 pub alike_7 : (i : Instance) → Inner i → Applies 7 i → Alike 7 i (led 7 i)
 unfolding goes_of table
-alike_7 i inner h = let (b, g) = some_if _ _ h in by (times_number-injective _ UnitTimes (eqb-true _ _ b)) g
+alike_7 i inner h = let (b, g) = part_alone _ _ h in by (times_number-injective _ UnitTimes (eqb-true _ _ b)) g
   where
     by : i.class.times ≡ UnitTimes → goes_of 7 i.class ≡ Some (record i.class { times = Equal }) → Alike 7 i (led 7 i)
     by e g = alike_times 7 Equal i (λ a h. let ones = units i a e h in
@@ -195,7 +189,7 @@ equal_in_range k needs h = λ j d l. let t = h j d l in (omega (arith, t.0, leas
 
 pub alike_53 : (i : Instance) → Inner i → Applies 53 i → Alike 53 i (led 53 i)
 unfolding goes_of table
-alike_53 i inner h = let (b, g) = some_if _ _ h in by (times_number-injective _ Equal (eqb-true _ _ b)) g
+alike_53 i inner h = let (b, g) = part_alone _ _ h in by (times_number-injective _ Equal (eqb-true _ _ b)) g
   where
     by : i.class.times ≡ Equal → goes_of 53 i.class ≡ Some (record i.class { times = General }) → Alike 53 i (led 53 i)
     by e g = alike_times 53 General i (λ a h. (equal_in_range (kind_of i.class.env) a.needs (subst (λ t. HasTimes (least_time (kind_of i.class.env) t) (greatest_time (limits_of i) t) a.needs) e h.needs.times), tt)) g inner
@@ -257,24 +251,24 @@ once w x e = sym (ap (λ n. pos n *ℤ x) e ∙ one-*ℤ x)
 
 pub alike_8 : (i : Instance) → Inner i → Applies 8 i → Alike 8 i (led 8 i)
 unfolding goes_of table
-alike_8 i inner h = let (b, g) = some_if _ _ h in alike_crit 8 Cmax Lmax (record { join = refl; due = no_date; weight = λ w h. h; curve = refl; charge = λ l a d w unit x p. never_due unit a x d }) i (crit_number-injective _ Cmax (eqb-true _ _ b)) g inner
+alike_8 i inner h = let (b, g) = part_alone _ _ h in alike_crit 8 Cmax Lmax (record { join = refl; due = no_date; weight = λ w h. h; curve = refl; charge = λ l a d w unit x p. never_due unit a x d }) i (crit_number-injective _ Cmax (eqb-true _ _ b)) g inner
 
 pub alike_10 : (i : Instance) → Inner i → Applies 10 i → Alike 10 i (led 10 i)
 unfolding goes_of table
-alike_10 i inner h = let (b, g) = some_if _ _ h in alike_crit 10 SumC SumWC (record { join = refl; due = λ l d h. h; weight = no_weight; curve = refl; charge = λ l a d w unit x p. once a.weight x w }) i (crit_number-injective _ SumC (eqb-true _ _ b)) g inner
+alike_10 i inner h = let (b, g) = part_alone _ _ h in alike_crit 10 SumC SumWC (record { join = refl; due = λ l d h. h; weight = no_weight; curve = refl; charge = λ l a d w unit x p. once a.weight x w }) i (crit_number-injective _ SumC (eqb-true _ _ b)) g inner
 
 pub alike_11 : (i : Instance) → Inner i → Applies 11 i → Alike 11 i (led 11 i)
 unfolding goes_of table
-alike_11 i inner h = let (b, g) = some_if _ _ h in alike_crit 11 SumC SumT (record { join = refl; due = no_date; weight = λ w h. h; curve = refl; charge = λ l a d w unit x p. never_late unit a x p d }) i (crit_number-injective _ SumC (eqb-true _ _ b)) g inner
+alike_11 i inner h = let (b, g) = part_alone _ _ h in alike_crit 11 SumC SumT (record { join = refl; due = no_date; weight = λ w h. h; curve = refl; charge = λ l a d w unit x p. never_late unit a x p d }) i (crit_number-injective _ SumC (eqb-true _ _ b)) g inner
 
 pub alike_12 : (i : Instance) → Inner i → Applies 12 i → Alike 12 i (led 12 i)
 unfolding goes_of table
-alike_12 i inner h = let (b, g) = some_if _ _ h in alike_crit 12 SumWC SumWT (record { join = refl; due = no_date; weight = λ w h. h; curve = refl; charge = λ l a d w unit x p. ap (λ z. pos a.weight *ℤ z) (never_late unit a x p d) }) i (crit_number-injective _ SumWC (eqb-true _ _ b)) g inner
+alike_12 i inner h = let (b, g) = part_alone _ _ h in alike_crit 12 SumWC SumWT (record { join = refl; due = no_date; weight = λ w h. h; curve = refl; charge = λ l a d w unit x p. ap (λ z. pos a.weight *ℤ z) (never_late unit a x p d) }) i (crit_number-injective _ SumWC (eqb-true _ _ b)) g inner
 
 pub alike_13 : (i : Instance) → Inner i → Applies 13 i → Alike 13 i (led 13 i)
 unfolding goes_of table
-alike_13 i inner h = let (b, g) = some_if _ _ h in alike_crit 13 SumT SumWT (record { join = refl; due = λ l d h. h; weight = no_weight; curve = refl; charge = λ l a d w unit x p. once a.weight (tardiness unit a x) w }) i (crit_number-injective _ SumT (eqb-true _ _ b)) g inner
+alike_13 i inner h = let (b, g) = part_alone _ _ h in alike_crit 13 SumT SumWT (record { join = refl; due = λ l d h. h; weight = no_weight; curve = refl; charge = λ l a d w unit x p. once a.weight (tardiness unit a x) w }) i (crit_number-injective _ SumT (eqb-true _ _ b)) g inner
 
 pub alike_14 : (i : Instance) → Inner i → Applies 14 i → Alike 14 i (led 14 i)
 unfolding goes_of table
-alike_14 i inner h = let (b, g) = some_if _ _ h in alike_crit 14 SumU SumWU (record { join = refl; due = λ l d h. h; weight = no_weight; curve = refl; charge = λ l a d w unit x p. once a.weight (late unit a x) w }) i (crit_number-injective _ SumU (eqb-true _ _ b)) g inner
+alike_14 i inner h = let (b, g) = part_alone _ _ h in alike_crit 14 SumU SumWU (record { join = refl; due = λ l d h. h; weight = no_weight; curve = refl; charge = λ l a d w unit x p. once a.weight (late unit a x) w }) i (crit_number-injective _ SumU (eqb-true _ _ b)) g inner

@@ -1,5 +1,5 @@
 -- What a bound on the greatest lateness has to do with sums: no job is late, or tardy, once its due date is raised by the bound.
-use Rattle.std.specs.Prelude.{◌≡◌, ◌⊎◌, ◌↔◌, ℤ, pos, ◌*ℤ◌, ◌≤ℤ◌}
+use Rattle.std.specs.Prelude.{◌≡◌, ℕ, ◌*◌, ◌^◌, ◌⊎◌, ◌↔◌, ℤ, pos, ◌*ℤ◌, ◌≤ℤ◌}
 use Rattle.msp_class.specs.declared.class.Crit.{Crit}
 use Rattle.msp_class.specs.declared.class.Crit.TheVariants.{Lmax, SumU, SumT}
 use Rattle.msp_instance.specs.declared.Instance.{Instance}
@@ -8,6 +8,10 @@ use Rattle.msp_schedule.specs.declared.Schedule.{Schedule}
 use Rattle.msp_schedule.specs.Feasible.{Feasible}
 use Rattle.msp_schedule.specs.Cost.{cost_of}
 use Rattle.msp_plain.specs.Changes.{shift_of}
+
+-- The most, in size, of a bound on the greatest lateness.
+abbrev pub greatest_threshold : ℕ
+greatest_threshold = 2 * 10 ^ 18
 
 -- The number of late jobs, or the total tardiness.
 abbrev pub IsThresholdSum : Crit → Type 0

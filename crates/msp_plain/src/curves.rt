@@ -1,9 +1,10 @@
 // The row from the greatest lateness to the greatest cost by curves.
-ghost use Rattle.std.specs.Prelude.{◌≡◌, ◌^◌, All, map};
+ghost use Rattle.std.specs.Prelude.{◌≡◌, All, map};
 ghost use Rattle.msp_instance.specs.Conditions.{LiesWithin};
 ghost use Rattle.msp_route.specs.Changes.{same_costs};
 ghost use Rattle.msp_plain.specs.Changes.{by_curve, led_by_curves};
 ghost use Rattle.msp_route.proofs.Alike.{IsPositive-same, IsForth-alike, IsBack-alike};
+ghost use Rattle.msp_route.specs.Sizes.{greatest_row_date};
 ghost use Rattle.msp_plain.specs.Curves.{alike_9};
 
 use msp_class::{List, NoMemory};
@@ -15,7 +16,7 @@ use std::alloc::Global;
 
 /// Makes the lateness of the job its curve.
 fn charge_by_curve(alloc: Global, job: &mut Job)
-    requires { LiesWithin (2 ^ 62) job.old.due }
+    requires { LiesWithin greatest_row_date job.old.due }
     ensures { job.new ≡ by_curve job.old }
 {
     job.curve = Curve {
@@ -27,7 +28,7 @@ fn charge_by_curve(alloc: Global, job: &mut Job)
 }
 
 fn charge_all_by_curves(alloc: Global, jobs: &mut [Job])
-    requires { All (λ j. LiesWithin (2 ^ 62) j.due) jobs.old }
+    requires { All (λ j. LiesWithin greatest_row_date j.due) jobs.old }
     ensures { jobs.new ≡ map by_curve jobs.old }
 {
     for job in jobs.iter_mut() {

@@ -1,5 +1,5 @@
 // The row from equal times to unit times, where no release dates and no due dates tie jobs to moments.
-ghost use Rattle.std.specs.Prelude.{◌≡◌, ℕ, pos, ◌+ℤ◌, ◌-ℤ◌, ◌*ℤ◌, ◌≤ℤ◌, ◌<ℤ◌, length, map, All, AllPairs, IsPermutation};
+ghost use Rattle.std.specs.Prelude.{◌≡◌, pos, ◌+ℤ◌, ◌-ℤ◌, ◌*ℤ◌, ◌≤ℤ◌, ◌<ℤ◌, map, All, AllPairs};
 ghost use Rattle.std.specs.Int.{int_max};
 ghost use Rattle.msp_instance.specs.Instance.{common_time};
 ghost use Rattle.msp_route.specs.Bounds.{EndsBy};

@@ -1,5 +1,5 @@
 // Whether the greatest lateness can be kept within a bound, as a question on sums.
-ghost use Rattle.std.specs.Prelude.{◌≡◌, ◌↔◌, ◌*◌, ◌^◌, ◌<◌, length, IfOk, IsTrue, All, map, ◌+ℤ◌};
+ghost use Rattle.std.specs.Prelude.{◌≡◌, ◌↔◌, ◌<◌, length, IfOk, IsTrue, All, map, ◌+ℤ◌};
 ghost use Rattle.msp_class.specs.declared.class.Crit.TheVariants.{Lmax};
 ghost use Rattle.msp_class.specs.Env.{kind_of};
 ghost use Rattle.msp_instance.specs.Conditions.{Inner, LiesWithin, inner_limits};
@@ -7,7 +7,8 @@ ghost use Rattle.msp_schedule.specs.Feasible.{Feasible};
 ghost use Rattle.msp_schedule.specs.Within.{Within, IsUnit};
 ghost use Rattle.msp_plain.specs.Changes.{raised, shift_of};
 ghost use Rattle.msp_plain.specs.Raised.{IsInTime};
-ghost use Rattle.msp_plain.specs.Threshold.{IsThresholdSum, Meets, ThresholdLaw};
+ghost use Rattle.msp_plain.specs.Threshold.{IsThresholdSum, Meets, ThresholdLaw, greatest_threshold};
+ghost use Rattle.msp_route.specs.Sizes.{greatest_row_date};
 
 use msp_class::{Class, Crit, List, NoMemory};
 use msp_instance::{Instance, Job};
@@ -16,14 +17,14 @@ use msp_schedule::{Piece, Schedule};
 use std::alloc::Global;
 
 fn raise(job: &mut Job, bound: i64)
-    requires { LiesWithin (2 ^ 62) (job.old.due +ℤ bound) }
+    requires { LiesWithin greatest_row_date (job.old.due +ℤ bound) }
     ensures { job.new ≡ raised bound job.old }
 {
     job.due += bound;
 }
 
 fn raise_all(jobs: &mut [Job], bound: i64)
-    requires { All (λ j. LiesWithin (2 ^ 62) (j.due +ℤ bound)) jobs.old }
+    requires { All (λ j. LiesWithin greatest_row_date (j.due +ℤ bound)) jobs.old }
     ensures { jobs.new ≡ map (raised bound) jobs.old }
 {
     for job in jobs.iter_mut() {
@@ -58,8 +59,8 @@ fn raised_due(due: i64, bound: i64) -> i128
 fn is_in_time(jobs: &[Job], unit: i128, bound: i64, piece: &Piece) -> bool
     requires unit { IsUnit unit }
     requires job { piece.now.job < length jobs.now }
-    requires due { All (λ j. LiesWithin (2 ^ 62) j.due) jobs.now }
-    requires bound { LiesWithin (2 * 10 ^ 18) bound }
+    requires due { All (λ j. LiesWithin greatest_row_date j.due) jobs.now }
+    requires bound { LiesWithin greatest_threshold bound }
     ensures { IsTrue result ↔ IsInTime jobs.now unit bound piece.now }
 {
     let due = jobs[piece.job as usize].due;
@@ -69,8 +70,8 @@ fn is_in_time(jobs: &[Job], unit: i128, bound: i64, piece: &Piece) -> bool
 fn all_in_time(jobs: &[Job], s: &Schedule, bound: i64) -> bool
     requires unit { IsUnit s.now.unit }
     requires jobs { All (λ p. p.job < length jobs.now) s.now.pieces }
-    requires due { All (λ j. LiesWithin (2 ^ 62) j.due) jobs.now }
-    requires bound { LiesWithin (2 * 10 ^ 18) bound }
+    requires due { All (λ j. LiesWithin greatest_row_date j.due) jobs.now }
+    requires bound { LiesWithin greatest_threshold bound }
     ensures { IsTrue result ↔ All (IsInTime jobs.now s.now.unit bound) s.now.pieces }
 {
     for piece in s.pieces.as_slice() {
@@ -87,7 +88,7 @@ pub fn meets(inst: &Instance, s: &Schedule, bound: i64) -> bool
     requires within { Within inst.now s.now }
     requires feasible { Feasible inst.now s.now }
     requires lateness { inst.now.class.crit ≡ Lmax }
-    requires bound { LiesWithin (2 * 10 ^ 18) bound }
+    requires bound { LiesWithin greatest_threshold bound }
     ensures { IsTrue result ↔ Meets inst.now s.now bound }
 {
     all_in_time(inst.jobs.as_slice(), s, bound)

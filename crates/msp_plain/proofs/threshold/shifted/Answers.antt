@@ -1,5 +1,5 @@
 -- The raised due dates fit their type, and the instance is an inner one.
-use Rattle.std.proofs.Common.{arith, ◌^◌, All, ◌+ℤ◌, get_or, sym, ap, subst, ◌∙◌}
+use Rattle.std.proofs.Common.{arith, All, ◌+ℤ◌, get_or, sym, ap, subst, ◌∙◌}
 use Rattle.std.proofs.lemmas.Grind.{common_steps}
 use Rattle.std.specs.Int.{w64}
 use Rattle.std.proofs.lemmas.Int.{to_z-of_z}
@@ -8,11 +8,12 @@ use Rattle.msp_instance.specs.Conditions.{LiesWithin, Inner}
 use Rattle.msp_plain.specs.Curves.{date_fits}
 use Rattle.msp_plain.specs.Raised.{Inner-shifted}
 use Rattle.msp_plain.proofs.threshold.shifted.Goals as goal
+use Rattle.msp_route.specs.Sizes.{greatest_row_date}
 
 pub raise_all-requires : goal.raise_all-requires
 raise_all-requires c =
-    subst (λ b. All (λ j. LiesWithin (2 ^ 62) (j.due +ℤ b)) c.deref_mut.result.now) (sym (to_z-of_z w64 c.args.bound c.ranges.bound))
-    (subst (All (λ j. LiesWithin (2 ^ 62) (j.due +ℤ c.args.bound))) (sym (c.deref_mut.ensures.value ∙ c.take_all-jobs.ensures.all ∙ ap (λ j. j.jobs) c.in_ok-shifted.ensures))
+    subst (λ b. All (λ j. LiesWithin greatest_row_date (j.due +ℤ b)) c.deref_mut.result.now) (sym (to_z-of_z w64 c.args.bound c.ranges.bound))
+    (subst (All (λ j. LiesWithin greatest_row_date (j.due +ℤ c.args.bound))) (sym (c.deref_mut.ensures.value ∙ c.take_all-jobs.ensures.all ∙ ap (λ j. j.jobs) c.in_ok-shifted.ensures))
     (λ k d l. date_fits (kind_of c.args.inst.now.class.env) ((get_or c.args.inst.now.jobs k d).due +ℤ c.args.bound) (c.requires.dates k d l)))
 
 pub returns-clause-inner : goal.returns-clause-inner
