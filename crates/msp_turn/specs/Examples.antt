@@ -1,10 +1,9 @@
 -- The instances and schedules of the tests: two jobs on one machine, one before the other. No public contract cites this file.
-use Rattle.std.proofs.Common.{◌≡◌, ◌≢◌, ℕ, zero, suc, ◌*◌, ◌<◌, ◌≤◌, Bool, true, false, [], ◌∷◌, All, AllPairs, Contains, inl, inr, ℤ, pos, ◌+ℤ◌, ◌-ℤ◌, ◌*ℤ◌, ◌≤ℤ◌, if◌then◌else◌, refl, sym, subst, arith}
+use Rattle.std.proofs.Common.{◌≡◌, ◌≢◌, ℕ, zero, suc, ◌*◌, ◌<◌, ◌≤◌, Bool, true, false, [], ◌∷◌, All, inl, inr, ℤ, pos, ◌+ℤ◌, ◌-ℤ◌, ◌*ℤ◌, ◌≤ℤ◌, if◌then◌else◌, refl, sym, subst, arith}
 use Rattle.std.specs.Prelude.{◌==◌}
 use Rattle.std.specs.Int.{int_max}
 use Rattle.std.proofs.lemmas.Int.{ints}
-use Rattle.std.proofs.lemmas.List.Elements.{All-nil, All-cons}
-use Rattle.std.proofs.lemmas.List.Kept.{AllPairs-cons}
+use Rattle.std.proofs.lemmas.List.Elements.{All-nil}
 use Rattle.std.proofs.lemmas.List.Sums.{count_by-le-length}
 use Rattle.msp_class.specs.declared.class.Class.{Class}
 use Rattle.msp_class.specs.declared.class.Env.TheVariants.{One}
@@ -20,7 +19,7 @@ use Rattle.msp_instance.specs.declared.Arc.{Arc}
 use Rattle.msp_instance.specs.declared.Job.{Job}
 use Rattle.msp_instance.specs.declared.Instance.{Instance}
 use Rattle.msp_instance.specs.Instance.{no_curve, job_at}
-use Rattle.msp_instance.specs.Conditions.{inner_limits, HasArcs, HasDegree, HasRelease, IsJobOf, Inner, HasNearDues, GoesForward}
+use Rattle.msp_instance.specs.Conditions.{inner_limits, HasArcs, HasDegree, HasRelease, IsJobOf, Inner, GoesForward}
 use Rattle.msp_schedule.specs.declared.Piece.{Piece}
 use Rattle.msp_schedule.specs.declared.Schedule.{Schedule}
 use Rattle.msp_schedule.specs.Piece.{IsApart, IsBefore}
@@ -32,6 +31,7 @@ use Rattle.msp_route.specs.Law.{Applies}
 use Rattle.msp_turn.specs.Reversal.{led_turned, led_to_due_dates, led_to_release_dates}
 use Rattle.msp_route.specs.Bounds.{IsBounded, KeepsBounds}
 use Rattle.msp_route.specs.declared.bounds.TheConstants.{GREATEST_BACK_MOMENT, GREATEST_RAISE, GREATEST_LINED_UP}
+use Rattle.msp_route.proofs.Samples.{one_each, two_each, one_pair, both_listed, near_two}
 
 abbrev pub job_of : ℕ → ℕ → Job
 job_of release time = record { release = release; due = pos 0; weight = 1; needs = record { machine = 0; time = time } ∷ []; curve = no_curve }
@@ -61,15 +61,6 @@ second_piece from = record { job = 1; op = 0; machine = 0; from = from; to = fro
 -- each from a moment on
 abbrev pub in_turn : ℤ → ℤ → Schedule
 in_turn first second = record { unit = pos 1; pieces = first_piece first ∷ second_piece second ∷ [] }
-
-one_each : {X : Type 0} (P : X → Type 0) (x : X) → P x → All P (x ∷ [])
-one_each P x h = All-cons P x [] h (All-nil P)
-
-two_each : {X : Type 0} (P : X → Type 0) (x y : X) → P x → P y → All P (x ∷ y ∷ [])
-two_each P x y h k = All-cons P x (y ∷ []) h (one_each P y k)
-
-one_pair : {X : Type 0} (R : X → X → Type 0) (x y : X) → R x y → AllPairs R (x ∷ y ∷ [])
-one_pair R x y h = AllPairs-cons R x (y ∷ []) (one_each (R x) y h) (λ i j d a b. absurd (omega arith))
 
 -- the second job begins when the first one has ended
 abbrev InOrder : Piece → Piece → Type 0
@@ -106,20 +97,6 @@ module _ (order : Order) (heads : Bool) (ordered : order ≢ Free) (first second
       need : Need
       need = record { machine = 0; time = time }
 
-  both : (j : ℕ) → j < 2 → Contains (0 ∷ 1 ∷ []) j
-  both zero l = (0, omega arith, refl)
-  both (suc zero) l = (1, omega arith, refl)
-  both (suc (suc j)) l = absurd (omega arith)
-
-  near : HasNearDues (2 * GREATEST * 1) inst
-  near zero zero a b = omega (arith, ints)
-  near zero (suc zero) a b = omega (arith, ints)
-  near (suc zero) zero a b = omega (arith, ints)
-  near (suc zero) (suc zero) a b = omega (arith, ints)
-  near (suc (suc j)) k a b = absurd (omega arith)
-  near zero (suc (suc k)) a b = absurd (omega arith)
-  near (suc zero) (suc (suc k)) a b = absurd (omega arith)
-
   pub Inner-pair : Inner inst
   Inner-pair = record {
     conditions = record {
@@ -134,8 +111,8 @@ module _ (order : Order) (heads : Bool) (ordered : order ≢ Free) (first second
       once = λ i j d a b. absurd (omega arith);
       degree = λ j l. one_arc order j;
     };
-    dues = near;
-    acyclic = (0 ∷ 1 ∷ [], record { whole = refl; each = both }, one_each (GoesForward (0 ∷ 1 ∷ [])) the_arc (0, 1, omega arith, refl, refl));
+    dues = near_two (2 * GREATEST * 1) inst (job_of first 2) (job_of second 1) (omega (arith, ints)) (omega (arith, ints));
+    acyclic = (0 ∷ 1 ∷ [], record { whole = refl; each = both_listed }, one_each (GoesForward (0 ∷ 1 ∷ [])) the_arc (0, 1, omega arith, refl, refl));
   }
 
   module _ (a b : ℤ) (from : pos first ≤ℤ a) (next : pos second ≤ℤ b) (after : (a +ℤ pos 2) ≤ℤ b) where

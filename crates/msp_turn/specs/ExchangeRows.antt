@@ -1,6 +1,6 @@
 -- The rows between intrees and outtrees by exchange: the instances at both ends are each other's exchange. No public contract cites this file.
-use Rattle.std.proofs.Common.{◌≡◌, ℕ, ◌*◌, ◌<◌, ◌≤◌, Bool, true, false, List, [], ◌∷◌, reverse, length, get_or, map, All, AllPairs, Contains, pos, nat_abs, ◌-ℤ◌, ◌≤ℤ◌, Some, None, IsSome, unwrap_or, if◌then◌else◌, refl, sym, ap, subst, subst₂, ◌∙◌, arith}
-use Rattle.std.specs.Prelude.{◌&&◌, slice_index_or}
+use Rattle.std.proofs.Common.{◌≡◌, ℕ, ◌*◌, ◌<◌, ◌≤◌, false, List, [], ◌∷◌, reverse, length, get_or, map, All, AllPairs, Contains, pos, nat_abs, ◌-ℤ◌, ◌≤ℤ◌, Some, unwrap_or, refl, sym, ap, subst, subst₂, ◌∙◌, arith}
+use Rattle.std.specs.Prelude.{slice_index_or}
 use Rattle.std.specs.List.{range_with_len}
 use Rattle.std.proofs.lemmas.Bool.{eqb-true, and_parts}
 use Rattle.std.proofs.lemmas.Int.{ints}
@@ -38,6 +38,7 @@ use Rattle.msp_schedule.proofs.Exchange.{Exchanges, Feasible-exchanged, cost-exc
 use Rattle.msp_table.specs.Rows.{goes_of, table}
 use Rattle.msp_route.specs.Law.{Applies, IsLower, IsForth, IsBack}
 use Rattle.msp_route.specs.Changes.{same_costs}
+use Rattle.msp_route.proofs.Applied.{parts_and_condition}
 use Rattle.msp_turn.specs.Turned.{turned_arc, turned_arcs}
 use Rattle.msp_turn.specs.TurnedArcs.{turned_with, Inner-turned}
 use Rattle.msp_turn.specs.LinedUp.{from_last}
@@ -193,16 +194,10 @@ module _ (row : ℕ) (i j : Instance) (x : IsExchange row i j) (inner : Inner i)
   pub from_last-below : (t : Schedule) → from_last i t ≡ lined_up i (nat_abs t.unit) (reverse (order_of_ends j t))
   from_last-below t = ap (λ n. lined_up i (nat_abs t.unit) (reverse (sorted_by (end_of t) (range_with_len 0 n)))) x.exchange.0.count
 
--- what it takes that a row applies
-some_if : (a b : Bool) (c : Class) → IsSome (if a && b then Some c else None) → (a ≡ true) × (b ≡ true) × ((if a && b then Some c else None) ≡ Some c)
-some_if true true c h = (refl, refl, refl)
-some_if true false c h = absurd (cc)
-some_if false b c h = absurd (cc)
-
 pub exchange_51 : (i : Instance) → Inner i → Applies 51 i → IsExchange 51 i (exchanged 51 i)
 unfolding goes_of table
 exchange_51 i inner h =
-    let (left, given, g) = some_if _ _ _ h in
+    let (left, given, g) = parts_and_condition _ _ _ h in
     let (env, more) = and_parts _ _ given in
     let (cut, rest) = and_parts _ _ more in
     let (heads, last) = and_parts _ _ rest in
@@ -218,7 +213,7 @@ exchange_51 i inner h =
 pub exchange_52 : (i : Instance) → Inner i → Applies 52 i → IsExchange 52 i (exchanged 52 i)
 unfolding goes_of table
 exchange_52 i inner h =
-    let (left, given, g) = some_if _ _ _ h in
+    let (left, given, g) = parts_and_condition _ _ _ h in
     let (env, more) = and_parts _ _ given in
     let (cut, rest) = and_parts _ _ more in
     let (heads, last) = and_parts _ _ rest in

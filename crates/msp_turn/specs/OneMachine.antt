@@ -1,10 +1,8 @@
 -- The rows between cut and uncut jobs on one machine without release dates: the laws. No public contract cites this file.
-use Rattle.std.proofs.Common.{◌≡◌, ◌≢◌, ℕ, ◌<◌, Bool, true, false, not, List, length, All, AllPairs, pos, nat_abs, ◌≤ℤ◌, inl, Some, None, IsSome, unwrap_or, if◌then◌else◌, refl, sym, ap, subst, ◌∙◌, arith}
-use Rattle.std.specs.Prelude.{◌&&◌}
-use Rattle.std.proofs.lemmas.Bool.{eqb-true}
+use Rattle.std.proofs.Common.{◌≡◌, ◌≢◌, ℕ, ◌<◌, Bool, true, false, not, List, length, All, AllPairs, pos, nat_abs, ◌≤ℤ◌, inl, Some, unwrap_or, refl, sym, ap, subst, ◌∙◌, arith}
+use Rattle.std.proofs.lemmas.Bool.{eqb-true, and_parts}
 use Rattle.std.proofs.lemmas.Int.{ints}
 use Rattle.std.proofs.lemmas.List.Elements.{All-contains_itself}
-use Rattle.msp_class.specs.declared.class.Class.{Class}
 use Rattle.msp_class.specs.declared.class.Env.TheVariants.{One}
 use Rattle.msp_class.specs.declared.environments.EnvKind.TheVariants.{Identical}
 use Rattle.msp_class.specs.Env.{kind_of}
@@ -26,6 +24,7 @@ use Rattle.msp_schedule.proofs.LineUp.{IsLine, IsLine-from_conditions, SameLine,
 use Rattle.msp_table.specs.Rows.{goes_of, table}
 use Rattle.msp_route.specs.Law.{Applies, IsLower, IsForth, IsBack}
 use Rattle.msp_route.specs.Changes.{led, same_costs}
+use Rattle.msp_route.proofs.Applied.{part_and_condition}
 use Rattle.msp_turn.specs.LinedUp.{by_ends}
 use Rattle.msp_turn.specs.SameRate.{costs_down, costs_back}
 
@@ -40,19 +39,29 @@ pub record Recuts (row : ℕ) (cut : Bool) (i : Instance) : Type 0 where
   pub was : i.class.cut ≡ not cut
   pub goes : goes_of row i.class ≡ Some (record i.class { cut = cut })
 
-some_if : (a b d : Bool) (c : Class) → IsSome (if (a && true) && (b && (d && true)) then Some c else None) → (a ≡ true) × (b ≡ true) × (d ≡ true) × ((if (a && true) && (b && (d && true)) then Some c else None) ≡ Some c)
-some_if true true true c h = (refl, refl, refl, refl)
-some_if true true false c h = absurd (cc)
-some_if true false d c h = absurd (cc)
-some_if false b d c h = absurd (cc)
-
 pub Recuts-49 : (i : Instance) → Applies 49 i → Recuts 49 false i
 unfolding goes_of table
-Recuts-49 i h = let (a, b, d, g) = some_if _ _ _ _ h in record { env = env_number-injective _ One (eqb-true _ _ b); heads = flag_number-injective _ false (eqb-true _ _ d); was = flag_number-injective _ true (eqb-true _ _ a); goes = g }
+Recuts-49 i h =
+    let (cut, given, goes) = part_and_condition _ _ _ h in
+    let (env, more) = and_parts _ _ given in
+    record {
+      env = env_number-injective _ One (eqb-true _ _ env);
+      heads = flag_number-injective _ false (eqb-true _ _ (and_parts _ _ more).0);
+      was = flag_number-injective _ true (eqb-true _ _ cut);
+      goes = goes;
+    }
 
 pub Recuts-50 : (i : Instance) → Applies 50 i → Recuts 50 true i
 unfolding goes_of table
-Recuts-50 i h = let (a, b, d, g) = some_if _ _ _ _ h in record { env = env_number-injective _ One (eqb-true _ _ b); heads = flag_number-injective _ false (eqb-true _ _ d); was = flag_number-injective _ false (eqb-true _ _ a); goes = g }
+Recuts-50 i h =
+    let (cut, given, goes) = part_and_condition _ _ _ h in
+    let (env, more) = and_parts _ _ given in
+    record {
+      env = env_number-injective _ One (eqb-true _ _ env);
+      heads = flag_number-injective _ false (eqb-true _ _ (and_parts _ _ more).0);
+      was = flag_number-injective _ false (eqb-true _ _ cut);
+      goes = goes;
+    }
 
 pub led-recut : (row : ℕ) (cut : Bool) (i : Instance) → Recuts row cut i → led row i ≡ recut cut i
 led-recut row cut i r = ap (λ o. record i { class = unwrap_or o i.class }) r.goes

@@ -1,5 +1,5 @@
 -- The rows that read schedules from their end, and in which release dates and due dates take each other's places. No public contract cites this file.
-use Rattle.std.proofs.Common.{◌≡◌, ℕ, suc, ◌*◌, ◌^◌, ◌<◌, ◌≤◌, Bool, true, false, List, [], ◌∷◌, length, get_or, map, fold, All, Contains, inl, inr, ℤ, pos, negsuc, neg_ℤ, ◌+ℤ◌, ◌-ℤ◌, ◌*ℤ◌, ◌≤ℤ◌, Some, unwrap_or, refl, sym, ap, subst, subst₂, ◌∙◌, arith}
+use Rattle.std.proofs.Common.{◌≡◌, ℕ, suc, ◌*◌, ◌<◌, ◌≤◌, Bool, true, false, List, [], ◌∷◌, length, get_or, map, fold, All, Contains, inl, inr, ℤ, pos, negsuc, neg_ℤ, ◌+ℤ◌, ◌-ℤ◌, ◌*ℤ◌, ◌≤ℤ◌, Some, unwrap_or, refl, sym, ap, subst, subst₂, ◌∙◌, arith}
 use Rattle.std.specs.Prelude.{unsigned_abs}
 use Rattle.std.specs.Int.{int_max}
 use Rattle.std.proofs.lemmas.Bool.{eqb-true, and_parts}
@@ -27,11 +27,13 @@ use Rattle.msp_schedule.proofs.Mirror.{turned_arcs as arcs_turned, turned_back}
 use Rattle.msp_table.specs.Rows.{goes_of, table}
 use Rattle.msp_route.specs.Law.{Applies}
 use Rattle.msp_route.proofs.InnerChanges.{common_time-map}
+use Rattle.msp_route.specs.Sizes.{greatest_row_date}
+use Rattle.msp_route.proofs.Applied.{parts_and_condition}
 use Rattle.msp_turn.specs.Turned.{turned_arcs}
 use Rattle.msp_turn.specs.TurnedArcs.{turned_with, Inner-turned}
 use Rattle.msp_turn.specs.Reversal.{due_by_release, led_to_due_dates, greatest_due, release_by_due, led_to_release_dates}
 use Rattle.msp_turn.specs.ReversalLaw.{IsReverse}
-use Rattle.msp_turn.specs.ReversalRows.{IsReversal, some_if, cmax_charge}
+use Rattle.msp_turn.specs.ReversalRows.{IsReversal, cmax_charge}
 
 -- ---- jobs that are changed one by one, in a class with other dates
 -- the limit of dates
@@ -126,12 +128,12 @@ reversal_of_releases i heads crit mirror g inner =
 pub reversal_47 : (i : Instance) → Inner i → Applies 47 i → IsReversal 47 (pos 0) i (led_to_due_dates i)
 unfolding goes_of table
 reversal_47 i inner h =
-    let (left, mirror, g) = some_if _ _ _ h in
+    let (left, mirror, g) = parts_and_condition _ _ _ h in
     let (heads, crit) = and_parts _ _ left in
     reversal_of_releases i (flag_number-injective _ true (eqb-true _ _ heads)) (crit_number-injective _ Cmax (eqb-true _ _ (and_parts _ _ crit).0)) mirror g inner
 
 -- release dates fit the type of due dates
-release_fits : (k : EnvKind) (h : Bool) (r : ℕ) → HasRelease (inner_limits k) h r → r < 2 ^ 62
+release_fits : (k : EnvKind) (h : Bool) (r : ℕ) → HasRelease (inner_limits k) h r → r ≤ greatest_row_date
 release_fits k false r h = omega (arith, h)
 release_fits Identical true r h = omega (arith, h)
 release_fits Uniform true r h = omega (arith, h)
@@ -140,7 +142,7 @@ release_fits OpenShop true r h = omega (arith, h)
 release_fits FlowShop true r h = omega (arith, h)
 release_fits JobShop true r h = omega (arith, h)
 
-pub releases_fit : (i : Instance) → Inner i → All (λ j. j.release < 2 ^ 62) i.jobs
+pub releases_fit : (i : Instance) → Inner i → All (λ j. j.release ≤ greatest_row_date) i.jobs
 releases_fit i inner k d l = release_fits (kind_of i.class.env) i.class.heads (get_or i.jobs k d).release (inner.conditions.jobs k d l).release
 
 -- ---- due dates become release dates
@@ -207,6 +209,6 @@ reversal_of_dates i heads crit mirror g inner =
 pub reversal_48 : (i : Instance) → Inner i → Applies 48 i → IsReversal 48 (greatest_due i) i (led_to_release_dates i)
 unfolding goes_of table
 reversal_48 i inner h =
-    let (left, mirror, g) = some_if _ _ _ h in
+    let (left, mirror, g) = parts_and_condition _ _ _ h in
     let (heads, crit) = and_parts _ _ left in
     reversal_of_dates i (flag_number-injective _ false (eqb-true _ _ heads)) (crit_number-injective _ Lmax (eqb-true _ _ (and_parts _ _ crit).0)) mirror g inner

@@ -1,6 +1,5 @@
 -- The rows that read schedules from their end: the instances at both ends are each other's reverse. No public contract cites this file.
-use Rattle.std.proofs.Common.{◌≡◌, ℕ, ◌<◌, Bool, true, false, length, get_or, ℤ, pos, ◌+ℤ◌, ◌*ℤ◌, Some, None, IsSome, unwrap_or, if◌then◌else◌, refl, sym, ap, subst, ◌∙◌}
-use Rattle.std.specs.Prelude.{◌&&◌}
+use Rattle.std.proofs.Common.{◌≡◌, ℕ, ◌<◌, true, false, length, get_or, ℤ, pos, ◌+ℤ◌, ◌*ℤ◌, Some, unwrap_or, refl, sym, ap, subst, ◌∙◌}
 use Rattle.std.proofs.lemmas.Bool.{eqb-true, and_parts}
 use Rattle.msp_class.specs.declared.class.Class.{Class}
 use Rattle.msp_class.specs.declared.class.Order.{Order}
@@ -21,6 +20,7 @@ use Rattle.msp_schedule.proofs.Frames.{no_heads}
 use Rattle.msp_schedule.proofs.Mirror.{turned_arcs as arcs_turned, turned_back}
 use Rattle.msp_table.specs.Rows.{goes_of, table, turns_dates}
 use Rattle.msp_route.specs.Law.{Applies, IsLower}
+use Rattle.msp_route.proofs.Applied.{parts_and_condition}
 use Rattle.msp_turn.specs.Turned.{turned_arcs}
 use Rattle.msp_turn.specs.TurnedArcs.{turned_with, Inner-turned}
 use Rattle.msp_turn.specs.Reversal.{led_turned}
@@ -31,12 +31,6 @@ pub record IsReversal (row : ℕ) (addend : ℤ) (i j : Instance) : Type 0 where
   pub none : turns_dates row ≡ false → (k : ℕ) → k < length i.jobs → (job_at i k).release ≡ 0
   pub lower : IsLower row i j
   pub reverse : IsReverse addend (pos 0) i j
-
--- what it takes that a row applies
-pub some_if : (x y : Bool) (c : Class) → IsSome (if x && y then Some c else None) → (x ≡ true) × (y ≡ true) × ((if x && y then Some c else None) ≡ Some c)
-some_if true true c h = (refl, refl, refl)
-some_if true false c h = absurd (cc)
-some_if false y c h = absurd (cc)
 
 -- ---- charges
 -- the greatest end charges the end
@@ -87,7 +81,7 @@ reversal_of_trees row from to i e t g inner =
 pub reversal_45 : (i : Instance) → Inner i → Applies 45 i → IsReversal 45 (pos 0) i (led_turned 45 i)
 unfolding goes_of table
 reversal_45 i inner h =
-    let (left, given, g) = some_if _ _ _ h in
+    let (left, given, g) = parts_and_condition _ _ _ h in
     let (mirror, more) = and_parts _ _ given in
     let (heads, crit) = and_parts _ _ more in
     reversal_of_trees 45 Intree Outtree i refl (record {
@@ -100,7 +94,7 @@ reversal_45 i inner h =
 pub reversal_46 : (i : Instance) → Inner i → Applies 46 i → IsReversal 46 (pos 0) i (led_turned 46 i)
 unfolding goes_of table
 reversal_46 i inner h =
-    let (left, given, g) = some_if _ _ _ h in
+    let (left, given, g) = parts_and_condition _ _ _ h in
     let (mirror, more) = and_parts _ _ given in
     let (heads, crit) = and_parts _ _ more in
     reversal_of_trees 46 Outtree Intree i refl (record {

@@ -1,7 +1,8 @@
 // The rows by reversal in which release dates and due dates take each other's places.
-ghost use Rattle.std.specs.Prelude.{◌≡◌, ◌^◌, ◌<◌, pos, All, map};
+ghost use Rattle.std.specs.Prelude.{◌≡◌, ◌≤◌, pos, All, map};
 ghost use Rattle.msp_schedule.specs.Cost.{greatest};
 ghost use Rattle.msp_route.specs.Changes.{same_costs};
+ghost use Rattle.msp_route.specs.Sizes.{greatest_row_date};
 ghost use Rattle.msp_turn.specs.Reversal.{due_by_release, led_to_due_dates, greatest_due, release_by_due, led_to_release_dates, raised_costs, reversed_for};
 ghost use Rattle.msp_turn.specs.ReversalLaw.{IsPositive-raised, IsForth-reversed, IsBack-reversed};
 ghost use Rattle.msp_turn.specs.ReversalDates.{reversal_47, reversal_48};
@@ -17,7 +18,7 @@ use std::alloc::Global;
 
 /// Makes the release date of the job its due date, before the end of all.
 fn date(job: &mut Job)
-    requires { job.old.release < 2 ^ 62 }
+    requires { job.old.release ≤ greatest_row_date }
     ensures { job.new ≡ due_by_release job.old }
 {
     job.due = -(job.release as i64);
@@ -25,7 +26,7 @@ fn date(job: &mut Job)
 }
 
 fn date_all(jobs: &mut [Job])
-    requires { All (λ j. j.release < 2 ^ 62) jobs.old }
+    requires { All (λ j. j.release ≤ greatest_row_date) jobs.old }
     ensures { jobs.new ≡ map due_by_release jobs.old }
 {
     for job in jobs.iter_mut() {

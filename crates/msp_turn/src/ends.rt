@@ -1,5 +1,5 @@
 // The jobs in the order in which a schedule ends them.
-ghost use Rattle.std.specs.Prelude.{◌≡◌, ◌+◌, ◌<◌, ◌≤◌, ◌⊎◌, length, map, slice_index_or, slice_set, ℤ, pos, ◌<ℤ◌, ◌≤ℤ◌, All, AllPairs, IfOk, IsPermutation};
+ghost use Rattle.std.specs.Prelude.{◌≡◌, ◌<◌, ◌≤◌, length, map, slice_index_or, slice_set, ℤ, pos, ◌≤ℤ◌, All, AllPairs, IfOk, IsPermutation};
 ghost use Rattle.std.specs.Int.{int_max};
 ghost use Rattle.std.specs.List.{range_with_len};
 ghost use Rattle.std.specs.Ordering.{int_cmp, nat_cmp, ordering_then};
