@@ -1,7 +1,6 @@
 mod Moments
 mod ReversalBounds
 pub mod EndOrder
-pub mod RowSteps
 pub mod LineLimits
 pub mod BroughtBack
 pub mod ExchangeSteps

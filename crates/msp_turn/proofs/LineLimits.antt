@@ -20,7 +20,7 @@ use Rattle.msp_schedule.proofs.Rows.{row, row-to, length-row}
 use Rattle.msp_schedule.proofs.OneMachine.{finish, IsTimed, timed_pieces}
 use Rattle.msp_schedule.proofs.OneRow.{piece, piece_makes, time_at}
 use Rattle.msp_schedule.proofs.LineUp.{lined_up}
-use Rattle.msp_turn.proofs.RowSteps.{short_length, greatest_length}
+use Rattle.msp_route.proofs.RowSteps.{short_length, greatest_length}
 
 module _ (i : Instance) (one : i.class.env ≡ One) (inner : Inner i) where
   in_time : (t : Times) → greatest_time (inner_limits Identical) t ≤ 1000000000
