@@ -1,5 +1,5 @@
 -- What holds of jobs that pass over a first and then over a second machine. No public contract cites this file.
-use Rattle.std.specs.Prelude.{◌≡◌, ℕ, ◌+◌, ◌*◌, ◌<◌, ◌≤◌, ◌⊎◌, ◌++◌, ◌==◌, List, [], ◌∷◌, if◌then◌else◌, pos, All, AllPairs, Contains, length, sum_by}
+use Rattle.std.specs.Prelude.{◌≡◌, ℕ, ◌+◌, ◌*◌, ◌^◌, ◌<◌, ◌≤◌, ◌⊎◌, ◌++◌, ◌==◌, List, [], ◌∷◌, if◌then◌else◌, pos, All, AllPairs, Contains, length, sum_by}
 use Rattle.msp_instance.specs.declared.ranges.TheConstants.{GREATEST}
 use Rattle.msp_schedule.specs.declared.Piece.{Piece}
 use Rattle.msp_schedule.proofs.Intervals.{IsApartOn}
@@ -7,6 +7,10 @@ use Rattle.msp_schedule.proofs.OneMachine.{start, finish, IsTimed}
 use Rattle.msp_shops.specs.declared.pass.JobTimes.{JobTimes}
 use Rattle.msp_shops.specs.declared.pass.Moments.{Moments}
 use Rattle.msp_shops.specs.declared.pass.Stage.{Stage}
+
+-- The most of a moment at which an operation begins, and of its time: their sum fits a number of 64 bits.
+abbrev pub greatest_begin : ℕ
+greatest_begin = 10 ^ 13
 
 -- A job's operation in one piece that begins at the moment. One that takes no time has no piece.
 abbrev pub whole_piece : ℕ → Stage → ℕ → ℕ → Piece

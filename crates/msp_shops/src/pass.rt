@@ -1,8 +1,8 @@
 // Jobs that pass one after another over a first and then over a second machine.
-ghost use Rattle.std.specs.Prelude.{◌≡◌, ◌≢◌, ◌*◌, ◌^◌, ◌<◌, ◌≤◌, ◌++◌, List as Items, length, All, AllPairs, IfOk, OnOk};
+ghost use Rattle.std.specs.Prelude.{◌≡◌, ◌≢◌, ◌*◌, ◌≤◌, ◌++◌, List as Items, length, All, AllPairs, IfOk, OnOk};
 ghost use Rattle.msp_instance.specs.declared.ranges.TheConstants.{GREATEST, MOST_JOBS};
 ghost use Rattle.msp_schedule.specs.declared.Piece.{Piece as PieceValue};
-ghost use Rattle.msp_shops.specs.Pass.{IsPass, part};
+ghost use Rattle.msp_shops.specs.Pass.{IsPass, greatest_begin, part};
 
 use msp_class::{List, NoMemory};
 use msp_schedule::Piece;
@@ -37,7 +37,7 @@ pub fn put(
     begin: u64,
     time: u64,
 ) -> Result<(), NoMemory>
-    requires { (begin < 10 ^ 13) × (time < 10 ^ 13) }
+    requires { (begin ≤ greatest_begin) × (time ≤ greatest_begin) }
     ensures { OnOk result (pieces.new ≡ pieces.old ++ part job stage begin time) }
 {
     if time == 0 {
