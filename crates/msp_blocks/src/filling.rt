@@ -1,7 +1,7 @@
 // The schedule by blocks, job by job: the one that ends last in the first block takes what the others of the block leave.
-ghost use Rattle.std.specs.Prelude.{◌≡◌, ℕ, ◌+◌, ◌*◌, ◌<◌, ◌≤◌, ◌++◌, [], ◌∷◌, true, false, length, slice_index_or, All, IfOk, OnOk};
+ghost use Rattle.std.specs.Prelude.{◌≡◌, ◌+◌, ◌<◌, ◌≤◌, ◌++◌, [], true, false, length, slice_index_or, All, IfOk, OnOk};
 ghost use Rattle.msp_class.specs.declared.class.Env.TheVariants.{One};
-ghost use Rattle.msp_instance.specs.declared.ranges.TheConstants.{GREATEST, MOST_JOBS};
+ghost use Rattle.msp_instance.specs.declared.ranges.TheConstants.{MOST_JOBS};
 ghost use Rattle.msp_instance.specs.Conditions.{Inner};
 ghost use Rattle.msp_schedule.proofs.OneRow.{time_at};
 ghost use Rattle.msp_blocks.specs.Heads.{AreHeads};

@@ -1,5 +1,5 @@
 // Heads: the moments before which jobs cannot begin, raised along the arcs.
-ghost use Rattle.std.specs.Prelude.{◌≡◌, ℕ, ◌+◌, ◌*◌, ◌<◌, ◌≤◌, length, slice_index_or, All, IfOk};
+ghost use Rattle.std.specs.Prelude.{◌≡◌, ◌+◌, ◌*◌, ◌<◌, ◌≤◌, length, slice_index_or, All, IfOk};
 ghost use Rattle.msp_class.specs.declared.class.Env.TheVariants.{One};
 ghost use Rattle.msp_instance.specs.declared.ranges.TheConstants.{GREATEST, MOST_JOBS};
 ghost use Rattle.msp_instance.specs.Instance.{job_at};

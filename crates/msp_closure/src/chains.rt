@@ -1,5 +1,5 @@
 // The chains that show what known results say.
-ghost use Rattle.std.specs.Prelude.{◌≡◌, ◌↔◌, ◌≤◌, ◌∷◌, [], length, IfOk, IfSome, IsNone};
+ghost use Rattle.std.specs.Prelude.{◌↔◌, ◌≤◌, ◌∷◌, [], length, IfOk, IfSome, IsNone};
 ghost use Rattle.msp_class.specs.declared.ranks.TheConstants.{CLASSES};
 ghost use Rattle.msp_table.specs.Rows.{carries, keeps_size};
 ghost use Rattle.msp_table.specs.Chains.{every_row, Reaches};

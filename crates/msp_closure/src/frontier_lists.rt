@@ -1,7 +1,6 @@
 // The frontier: the easy, hard and open classes that chains of rows lead to or from last.
-ghost use Rattle.std.specs.Prelude.{◌≡◌, ◌↔◌, ◌≤◌, ◌<◌, ℕ, List, true, false, IfOk, IfSome, IfNone, IsTrue, length};
+ghost use Rattle.std.specs.Prelude.{◌≡◌, ◌↔◌, ◌<◌, List, true, false, IfOk, IsTrue};
 ghost use Rattle.msp_class.specs.declared.class.Class.{Class};
-ghost use Rattle.msp_class.specs.Rank.{rank_of};
 ghost use Rattle.msp_table.specs.Chains.{every_row, Reaches};
 ghost use Rattle.msp_closure.specs.Tables.{is_marked};
 ghost use Rattle.msp_closure.specs.Frontier.{IsMaximal, IsMinimal, ListsInOrder, mark_at, says_easy, says_hard, says_open, HasMark, IsFrontier};

@@ -1,5 +1,5 @@
 // The steps of a search, worked out once for all classes.
-ghost use Rattle.std.specs.Prelude.{◌≡◌, ◌+◌, IfOk, OnOk};
+ghost use Rattle.std.specs.Prelude.{◌+◌, IfOk, OnOk};
 ghost use Rattle.msp_closure.specs.Tables.{allows};
 ghost use Rattle.msp_closure.specs.Links.{AreLinks, AddsLinks, AddsLink};
 

@@ -1,5 +1,5 @@
 // The relation between classes that chains of rows make.
-ghost use Rattle.std.specs.Prelude.{◌≡◌, ◌↔◌, ◌≤◌, ◌<◌, ℕ, true, false, IfOk, IfSome, IfNone, IsTrue, Some, slice_set, length};
+ghost use Rattle.std.specs.Prelude.{◌≡◌, ◌↔◌, ◌≤◌, ◌<◌, ℕ, true, false, IfOk, IfSome, IfNone, IsTrue, Some};
 ghost use Rattle.msp_class.specs.declared.class.Class.{Class};
 ghost use Rattle.msp_class.specs.Rank.{rank_of};
 ghost use Rattle.msp_table.specs.Chains.{every_row, Reaches};

@@ -1,5 +1,5 @@
 // The classes related to one of a list, and those that one of a list is related to.
-ghost use Rattle.std.specs.Prelude.{◌≡◌, IfOk, length};
+ghost use Rattle.std.specs.Prelude.{◌≡◌, IfOk};
 ghost use Rattle.std.specs.List.{list_any};
 ghost use Rattle.msp_class.specs.declared.class.Class.{Class};
 ghost use Rattle.msp_closure.specs.Tables.{is_marked};

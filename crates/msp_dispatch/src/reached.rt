@@ -1,10 +1,10 @@
 // The classes to which carrying rows lead from one class.
-ghost use Rattle.std.specs.Prelude.{◌≡◌, ℕ, ◌+◌, ◌<◌, ◌≤◌, ◌⊎◌, length, Bool, true, false, Some, None, IsTrue, IfOk, OnOk, slice_index_or, if◌then◌else◌};
+ghost use Rattle.std.specs.Prelude.{◌≡◌, ℕ, ◌+◌, ◌<◌, ◌≤◌, length, Bool, true, false, Some, None, IsTrue, IfOk, OnOk, slice_index_or, if◌then◌else◌};
 ghost use Rattle.msp_class.specs.declared.class.Class.{Class as ClassValue};
 ghost use Rattle.msp_class.specs.declared.ranks.TheConstants.{CLASSES};
 ghost use Rattle.msp_table.specs.declared.row.TheConstants.{ROWS};
 ghost use Rattle.msp_table.specs.Rows.{carries, goes_of};
-ghost use Rattle.msp_dispatch.specs.Reached.{is_marked, Steps, Grows, IsFollowed, IsSearch, AreReached};
+ghost use Rattle.msp_dispatch.specs.Reached.{is_marked, Steps, Grows, IsFollowed, AreReached};
 
 use msp_class::{CLASSES, Class, NoMemory, rank};
 use msp_table::{ROWS, Row, carries, goes};

@@ -1,5 +1,5 @@
 // Small instances, solved along chains.
-ghost use Rattle.std.specs.Prelude.{◌≡◌, IfSome};
+ghost use Rattle.std.specs.Prelude.{IfSome};
 ghost use Rattle.msp_instance.specs.Conditions.{InClass};
 
 use crate::{Cannot, solve_any};

@@ -1,8 +1,8 @@
 // The conditions of a class on one job.
-ghost use Rattle.std.specs.Prelude.{◌≡◌, ◌≢◌, ℕ, ◌+◌, ◌<◌, ◌≤◌, ◌^◌, ◌↔◌, length, IsTrue, All, Any, EachIndex, slice_index_or};
+ghost use Rattle.std.specs.Prelude.{◌≡◌, ◌≢◌, ◌<◌, ◌≤◌, ◌↔◌, length, IsTrue, All, Any};
 ghost use Rattle.std.specs.List.{AllAdjacentBelow};
 ghost use Rattle.msp_class.specs.Env.{kind_of};
-ghost use Rattle.msp_instance.specs.Instance.{no_need, no_curve};
+ghost use Rattle.msp_instance.specs.Instance.{no_curve};
 ghost use Rattle.msp_class.specs.Env.{most_operations};
 ghost use Rattle.msp_class.specs.Crit.{uses_due, uses_weight, uses_curve};
 ghost use Rattle.msp_instance.specs.Conditions.{text_limits, LiesWithin, IsSingleNeed, IsNeedPerMachine, IsRoute, HasShape, least_time, greatest_time, HasTimes, HasNeeds, HasSameTimes, HasRelease, HasDue, HasWeight, IsCurve, HasCurve};

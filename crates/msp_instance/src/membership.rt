@@ -1,5 +1,5 @@
 // The test whether an instance belongs to its class.
-ghost use Rattle.std.specs.Prelude.{◌≡◌, ◌≢◌, ℕ, ◌<◌, ◌≤◌, ◌^◌, ◌↔◌, length, IsTrue, IsOk, OnOk, IfErr, All, AllPairs, take, slice_index_or};
+ghost use Rattle.std.specs.Prelude.{◌≡◌, ◌≢◌, ℕ, ◌<◌, ◌↔◌, length, IsTrue, IsOk, OnOk, IfErr, All, slice_index_or};
 ghost use Rattle.msp_instance.specs.Instance.{job_at, no_need, common_time};
 ghost use Rattle.msp_instance.specs.Conditions.{text_limits, HasMachines, HasArcs, leaving, entering, HasDegree, IsJobOf, MeetsConditions};
 ghost use Rattle.msp_instance.specs.Faults.{HasJobs, HasArc, HasFrame, HasJobsBefore, HasAllJobs, IsFirstFault};

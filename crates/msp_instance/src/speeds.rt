@@ -1,5 +1,5 @@
 // The conditions of a class on speeds.
-ghost use Rattle.std.specs.Prelude.{◌≡◌, ℕ, ◌*◌, ◌<◌, ◌≤◌, ◌↔◌, IsTrue, All};
+ghost use Rattle.std.specs.Prelude.{◌*◌, ◌<◌, ◌≤◌, ◌↔◌, IsTrue, All};
 ghost use Rattle.msp_class.specs.Env.{kind_of};
 ghost use Rattle.msp_instance.specs.declared.ranges.TheConstants.{GREATEST_MULTIPLE, GREATEST_SPEED};
 ghost use Rattle.msp_instance.specs.Conditions.{HasSpeeds, HasSmallMultiple};

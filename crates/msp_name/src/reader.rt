@@ -1,5 +1,5 @@
 // How a name is read: part by part, from the left, up to the first fault.
-ghost use Rattle.std.specs.Prelude.{◌≡◌, ℕ, ◌+◌, ◌<◌, ◌∷◌, [], length, MatchOption, Ok, ◌↔◌, position, ◌==◌};
+ghost use Rattle.std.specs.Prelude.{◌≡◌, ◌+◌, ◌<◌, ◌∷◌, [], length, MatchOption, Ok, ◌↔◌, position, ◌==◌};
 ghost use Rattle.msp_class.specs.declared.list.TheConstants.{PLACES};
 ghost use Rattle.msp_class.specs.declared.class.Class.{Class};
 ghost use Rattle.msp_name.specs.Items.{bare, has_item, with_item, with_order, with_short, with_times};

@@ -1,5 +1,5 @@
 // The canonical name of a class.
-ghost use Rattle.std.specs.Prelude.{◌≡◌, ◌+◌, ◌≤◌, ◌++◌, [], length, ◌||◌, not};
+ghost use Rattle.std.specs.Prelude.{◌≡◌, ◌+◌, ◌≤◌, ◌++◌, length, ◌||◌, not};
 ghost use Rattle.std.specs.List.{join_with_byte};
 ghost use Rattle.msp_name.specs.Names.{comma, env_text, order_text, times_text, crit_text, text_if, item_texts_of, name_of, NameOf};
 ghost use Rattle.msp_name.specs.Items.{order_eq, times_eq};

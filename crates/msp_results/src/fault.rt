@@ -1,5 +1,5 @@
 // The faults of a file of results, and their texts.
-ghost use Rattle.std.specs.Prelude.{◌≡◌, ◌+◌, ◌≤◌, ◌++◌, length, codes, decimal};
+ghost use Rattle.std.specs.Prelude.{◌≡◌, ◌+◌, ◌≤◌, ◌++◌, length, codes};
 ghost use Rattle.msp_name.specs.Faults.{fault_text};
 ghost use Rattle.msp_name.specs.declared.short_text.TheConstants.{ROOM};
 ghost use Rattle.msp_results.specs.Faults.{record_text, results_text};

@@ -1,4 +1,4 @@
-use Rattle.std.proofs.Common.{◌≡◌, ◌+◌, ◌<◌, ◌^◌, length}
+use Rattle.std.proofs.Common.{◌≡◌, ◌+◌, ◌<◌, length}
 use Rattle.msp_class.specs.declared.list.TheConstants.{PLACES}
 use Rattle.msp_name.specs.Names.{comma}
 use Rattle.msp_name.specs.Reading.{items_read, parts}
