@@ -1,89 +1,40 @@
 // Each row to a shop carries a job down and its piece back.
-ghost use Rattle.std.specs.Prelude.{◌≡◌, false, [], ◌∷◌, IfOk};
-ghost use Rattle.msp_machines.specs.ShopExamples.{job_of, sample, one_need, two_needs, piece_of, alone, IsSample};
+ghost use Rattle.std.specs.Prelude.{◌≡◌, IfOk};
+ghost use Rattle.msp_machines.specs.ShopExamples.{sample, one_need, two_needs, piece_of, IsSample};
 
 use crate::*;
-use msp_class::{Class, Crit, Env, List, NoMemory, Order, Times};
-use msp_instance::{Curve, Instance, Job, Need};
+use msp_class::{Crit, Env, List, NoMemory, Order};
+use msp_instance::{Instance, Need};
 use msp_route::Reduction;
-use msp_schedule::{Piece, Schedule, Solution, cost};
+use msp_samples::{class, list_of, need, one_job, one_piece, operation_piece};
+use msp_schedule::{Piece, Solution, cost};
 use msp_table::goes;
 use std::alloc::Global;
 use std::test::Fail;
-
-fn list_of<T: Drop>(alloc: Global, item: T) -> Result<List<T>, NoMemory>
-    ensures { IfOk result (λ l. l ≡ item ∷ []) }
-{
-    let mut list = List::new(alloc);
-    match list.push(item) {
-        Ok(()) => Ok(list),
-        Err(_) => Err(NoMemory),
-    }
-}
 
 /// One operation, of time 2.
 fn one_need(alloc: Global) -> Result<List<Need>, NoMemory>
     ensures { IfOk result (λ l. l ≡ one_need) }
 {
-    list_of(
-        alloc,
-        Need {
-            machine: 0,
-            time: 2,
-        },
-    )
+    list_of(alloc, &[need(0, 2)])
 }
 
 /// An operation of time 0 on the first machine, and one of time 2 on the second.
 fn two_needs(alloc: Global) -> Result<List<Need>, NoMemory>
     ensures { IfOk result (λ l. l ≡ two_needs) }
 {
-    let mut needs = list_of(
-        alloc,
-        Need {
-            machine: 0,
-            time: 0,
-        },
-    )?;
-    if needs
-        .push(Need {
-            machine: 1,
-            time: 2,
-        })
-        .is_err()
-    {
-        return Err(NoMemory);
-    }
-    Ok(needs)
+    list_of(alloc, &[need(0, 0), need(1, 2)])
 }
 
 /// One job.
 fn sample(alloc: Global, env: Env, machines: u32, needs: List<Need>) -> Result<Instance, NoMemory>
     ensures { IfOk result (λ i. i ≡ sample env machines needs) }
 {
-    let job = Job {
-        release: 0,
-        due: 0,
-        weight: 1,
-        needs,
-        curve: Curve {
-            slope: 0,
-            base: 0,
-            steps: List::new(alloc),
-        },
-    };
     Ok(Instance {
-        class: Class {
-            env,
-            cut: false,
-            order: Order::Free,
-            heads: false,
-            times: Times::General,
-            crit: Crit::Cmax,
-        },
+        class: class(env, Order::Free, Crit::Cmax),
         machines,
         speeds: List::new(alloc),
-        jobs: list_of(alloc, job)?,
+        jobs: one_job(alloc, needs)?,
         arcs: List::new(alloc),
     })
 }
@@ -92,22 +43,7 @@ fn sample(alloc: Global, env: Env, machines: u32, needs: List<Need>) -> Result<I
 fn piece_of(op: u32, machine: u32) -> Piece
     ensures { result ≡ piece_of op machine }
 {
-    Piece {
-        job: 0,
-        op,
-        machine,
-        from: 0,
-        to: 2,
-    }
-}
-
-fn alone(alloc: Global, piece: Piece) -> Result<Schedule, NoMemory>
-    ensures { IfOk result (λ s. s ≡ alone piece) }
-{
-    Ok(Schedule {
-        unit: 1,
-        pieces: list_of(alloc, piece)?,
-    })
+    operation_piece(0, op, machine, 0, 2)
 }
 
 fn has_operations(inst: &Instance, count: usize) -> bool {
@@ -132,7 +68,7 @@ fn costs_two<R: Reduction>(
         return Ok(false);
     }
     let lower = row.down(alloc, inst)?;
-    let schedule = alone(alloc, below)?;
+    let schedule = one_piece(alloc, below)?;
     let cost = cost(&lower, &schedule);
     let upper = row.back(alloc, inst, Solution { schedule, cost })?;
     Ok(

@@ -1,30 +1,19 @@
 // Each row carries an instance of one job down, and its schedule back.
-ghost use Rattle.std.specs.Prelude.{◌≡◌, [], ◌∷◌, IfOk};
+ghost use Rattle.std.specs.Prelude.{◌≡◌, IfOk};
 ghost use Rattle.msp_instance.specs.declared.Instance.{Instance as Inst};
 ghost use Rattle.msp_machines.specs.Unrelated.{needs_by};
-ghost use Rattle.msp_machines.specs.Examples.{time_on, needs_in, speeds_in, sample_job, sample, from_zero};
+ghost use Rattle.msp_machines.specs.Examples.{time_on, needs_in, speeds_in, sample, from_zero};
 
 use crate::same_jobs::equal_speeds;
 use crate::*;
-use msp_class::{
-    Class, Crit, Env, EnvKind, List, NoMemory, Order, Times, env_kind, fixed_machines,
-};
-use msp_instance::{Curve, Instance, Job, Need, check};
+use msp_class::{Crit, Env, EnvKind, List, NoMemory, Order, env_kind, fixed_machines};
+use msp_instance::{Instance, Need, check};
 use msp_route::Reduction;
-use msp_schedule::{Piece, Schedule, Solution, cost};
+use msp_samples::{class, one_job, one_piece, piece};
+use msp_schedule::{Schedule, Solution, cost};
 use msp_table::goes;
 use std::alloc::Global;
 use std::test::Fail;
-
-fn list_of<T: Drop>(alloc: Global, item: T) -> Result<List<T>, NoMemory>
-    ensures { IfOk result (λ l. l ≡ item ∷ []) }
-{
-    let mut list = List::new(alloc);
-    match list.push(item) {
-        Ok(()) => Ok(list),
-        Err(_) => Err(NoMemory),
-    }
-}
 
 /// A need of time 1 on machine 0, and one of another time on each further machine.
 fn needs_on(alloc: Global, machines: u32, elsewhere: u64) -> Result<List<Need>, NoMemory>
@@ -59,22 +48,6 @@ fn speeds_in(alloc: Global, kind: EnvKind, machines: u32) -> Result<List<u64>, N
     }
 }
 
-fn sample_job(alloc: Global, needs: List<Need>) -> Job
-    ensures { result ≡ sample_job needs }
-{
-    Job {
-        release: 0,
-        due: 0,
-        weight: 1,
-        needs,
-        curve: Curve {
-            slope: 0,
-            base: 0,
-            steps: List::new(alloc),
-        },
-    }
-}
-
 /// One job that takes time 1 on machine 0. On unrelated machines it takes as long on each, and in open and flow shops no time elsewhere.
 fn sample(alloc: Global, env: Env, machines: u32) -> Result<Instance, NoMemory>
     ensures { IfOk result (λ i. i ≡ sample env machines) }
@@ -82,17 +55,10 @@ fn sample(alloc: Global, env: Env, machines: u32) -> Result<Instance, NoMemory>
     let speeds = speeds_in(alloc, env_kind(env), machines)?;
     let needs = needs_in(alloc, env_kind(env), machines)?;
     Ok(Instance {
-        class: Class {
-            env,
-            cut: false,
-            order: Order::Free,
-            heads: false,
-            times: Times::General,
-            crit: Crit::Cmax,
-        },
+        class: class(env, Order::Free, Crit::Cmax),
         machines,
         speeds,
-        jobs: list_of(alloc, sample_job(alloc, needs))?,
+        jobs: one_job(alloc, needs)?,
         arcs: List::new(alloc),
     })
 }
@@ -101,17 +67,7 @@ fn sample(alloc: Global, env: Env, machines: u32) -> Result<Instance, NoMemory>
 fn from_zero(alloc: Global) -> Result<Schedule, NoMemory>
     ensures { IfOk result (λ s. s ≡ from_zero) }
 {
-    let piece = Piece {
-        job: 0,
-        op: 0,
-        machine: 0,
-        from: 0,
-        to: 1,
-    };
-    Ok(Schedule {
-        unit: 1,
-        pieces: list_of(alloc, piece)?,
-    })
+    one_piece(alloc, piece(0, 0, 1))
 }
 
 /// Whether the row applies to the job, which ends at 1, and it costs 1 below and above.

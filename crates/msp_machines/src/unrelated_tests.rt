@@ -1,48 +1,19 @@
 // The rows to unrelated machines carry two jobs down and their pieces back.
-ghost use Rattle.std.specs.Prelude.{◌≡◌, [], ◌∷◌, IfSome};
+ghost use Rattle.std.specs.Prelude.{◌≡◌, IfSome};
 ghost use Rattle.msp_instance.specs.Conditions.{InClass, Inner};
 ghost use Rattle.msp_schedule.specs.Feasible.{Feasible};
 ghost use Rattle.msp_route.specs.Law.{Applies};
-ghost use Rattle.msp_machines.specs.UnrelatedExamples.{timed, pair, side_by_side, AreEnds};
+ghost use Rattle.msp_machines.specs.UnrelatedExamples.{pair, side_by_side, AreEnds};
 
 use crate::*;
-use msp_class::{Class, Crit, Env, List, Order, Times};
-use msp_instance::{Curve, Instance, Job, Need, check, forward};
+use msp_class::{Crit, Env, List, Order};
+use msp_instance::Instance;
 use msp_route::Reduction;
-use msp_schedule::{Frac, Piece, Schedule, Solution, cost};
+use msp_samples::{class, in_class, jobs, list_of, piece_on, timed};
+use msp_schedule::{Frac, Schedule, Solution, cost};
 use msp_table::goes;
 use std::alloc::Global;
 use std::test::Fail;
-
-fn two_of<T: Drop>(alloc: Global, first: T, second: T) -> Option<List<T>>
-    ensures { IfSome result (λ l. l ≡ first ∷ second ∷ []) }
-{
-    let mut list = List::new(alloc);
-    if list.push(first).is_err() || list.push(second).is_err() {
-        return None;
-    }
-    Some(list)
-}
-
-fn timed(alloc: Global, time: u64) -> Option<Job>
-    ensures { IfSome result (λ j. j ≡ timed time) }
-{
-    let mut needs = List::new(alloc);
-    if needs.push(Need { machine: 0, time }).is_err() {
-        return None;
-    }
-    Some(Job {
-        release: 0,
-        due: 0,
-        weight: 1,
-        needs,
-        curve: Curve {
-            slope: 0,
-            base: 0,
-            steps: List::new(alloc),
-        },
-    })
-}
 
 /// Jobs of times 6 and 4 on two machines, with the sum of their ends as the cost.
 fn pair(alloc: Global, env: Env, speeds: List<u64>) -> Option<Instance>
@@ -50,49 +21,24 @@ fn pair(alloc: Global, env: Env, speeds: List<u64>) -> Option<Instance>
     ensures in_class { IfSome result InClass }
 {
     let inst = Instance {
-        class: Class {
-            env,
-            cut: false,
-            order: Order::Free,
-            heads: false,
-            times: Times::General,
-            crit: Crit::SumC,
-        },
+        class: class(env, Order::Free, Crit::SumC),
         machines: 2,
         speeds,
-        jobs: two_of(alloc, timed(alloc, 6)?, timed(alloc, 4)?)?,
+        jobs: jobs(alloc, &[timed(6), timed(4)]).ok()?,
         arcs: List::new(alloc),
     };
-    if check(&inst).is_err() {
-        return None;
-    }
-    match forward(alloc, &inst) {
-        Ok(_) => Some(inst),
-        Err(_) => None,
-    }
+    in_class(alloc, inst)
 }
 
 /// Each job on a machine of its own from moment 0 on.
 fn side_by_side(alloc: Global, first: u64, second: u64) -> Option<Schedule>
     ensures { IfSome result (λ s. s ≡ side_by_side first second) }
 {
-    let long = Piece {
-        job: 0,
-        op: 0,
-        machine: 0,
-        from: 0,
-        to: first as i128,
-    };
-    let short = Piece {
-        job: 1,
-        op: 0,
-        machine: 1,
-        from: 0,
-        to: second as i128,
-    };
+    let long = piece_on(0, 0, 0, first as i128);
+    let short = piece_on(1, 1, 0, second as i128);
     Some(Schedule {
         unit: 1,
-        pieces: two_of(alloc, long, short)?,
+        pieces: list_of(alloc, &[long, short]).ok()?,
     })
 }
 
@@ -130,8 +76,20 @@ fn identical_cost_the_same(alloc: Global) -> Option<bool> {
 
 /// At speeds 3 and 2 both jobs end at 2, and in times that are 6 times as long at 12.
 fn uniform_cost_in_proportion(alloc: Global) -> Option<bool> {
-    let any = costs(alloc, &Row26, Env::Q, two_of(alloc, 3, 2)?, (12, 12))?;
-    let two = costs(alloc, &Row27, Env::Q2, two_of(alloc, 3, 2)?, (12, 12))?;
+    let any = costs(
+        alloc,
+        &Row26,
+        Env::Q,
+        list_of(alloc, &[3, 2]).ok()?,
+        (12, 12),
+    )?;
+    let two = costs(
+        alloc,
+        &Row27,
+        Env::Q2,
+        list_of(alloc, &[3, 2]).ok()?,
+        (12, 12),
+    )?;
     Some(any == (whole(24), whole(4)) && two == any)
 }
 

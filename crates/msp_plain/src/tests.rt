@@ -1,52 +1,28 @@
 // Each row carries an instance down and a schedule back, and the bound on the greatest lateness is tried from both sides.
-ghost use Rattle.std.specs.Prelude.{◌≡◌, true, false, [], ◌∷◌, IfOk};
+ghost use Rattle.std.specs.Prelude.{◌≡◌, true, false, IfOk};
 ghost use Rattle.msp_class.specs.declared.class.Env.TheVariants.{One};
-ghost use Rattle.msp_plain.specs.Examples.{single, from_zero, dated, pair};
-ghost use Rattle.msp_plain.specs.EqualExamples.{equal_pair, unit_piece, with_idle};
+ghost use Rattle.msp_plain.specs.Examples.{single, from_zero, pair};
+ghost use Rattle.msp_plain.specs.EqualExamples.{equal_pair, with_idle};
 
 use crate::*;
 use msp_class::{Class, Crit, Env, List, NoMemory, Order, Times};
-use msp_instance::{Curve, Instance, Job, Need};
+use msp_instance::Instance;
 use msp_route::Reduction;
-use msp_schedule::{Piece, Schedule, Solution, cost};
+use msp_samples::{JobData, UNIT_JOB, jobs, list_of, one_piece, piece, timed};
+use msp_schedule::{Schedule, Solution, cost};
 use msp_table::goes;
 use std::alloc::Global;
 use std::test::Fail;
-
-fn list_of<T: Drop>(alloc: Global, item: T) -> Result<List<T>, NoMemory>
-    ensures { IfOk result (λ l. l ≡ item ∷ []) }
-{
-    let mut list = List::new(alloc);
-    match list.push(item) {
-        Ok(()) => Ok(list),
-        Err(_) => Err(NoMemory),
-    }
-}
 
 /// One job of time 1 on one machine.
 fn single(alloc: Global, class: Class) -> Result<Instance, NoMemory>
     ensures { IfOk result (λ i. i ≡ single class) }
 {
-    let need = Need {
-        machine: 0,
-        time: 1,
-    };
-    let job = Job {
-        release: 0,
-        due: 0,
-        weight: 1,
-        needs: list_of(alloc, need)?,
-        curve: Curve {
-            slope: 0,
-            base: 0,
-            steps: List::new(alloc),
-        },
-    };
     Ok(Instance {
         class,
         machines: 1,
         speeds: List::new(alloc),
-        jobs: list_of(alloc, job)?,
+        jobs: jobs(alloc, &[UNIT_JOB])?,
         arcs: List::new(alloc),
     })
 }
@@ -55,17 +31,7 @@ fn single(alloc: Global, class: Class) -> Result<Instance, NoMemory>
 fn from_zero(alloc: Global) -> Result<Schedule, NoMemory>
     ensures { IfOk result (λ s. s ≡ from_zero) }
 {
-    let piece = Piece {
-        job: 0,
-        op: 0,
-        machine: 0,
-        from: 0,
-        to: 1,
-    };
-    Ok(Schedule {
-        unit: 1,
-        pieces: list_of(alloc, piece)?,
-    })
+    one_piece(alloc, piece(0, 0, 1))
 }
 
 /// Whether the job, which ends at 1, costs 1 below and above.
@@ -147,30 +113,15 @@ fn is_late_by_one(alloc: Global) -> Result<bool, NoMemory> {
     Ok(meets(&inst, &s, 1) && !meets(&inst, &s, 0))
 }
 
-fn dated(alloc: Global, time: u64, due: i64) -> Result<Job, NoMemory>
-    ensures { IfOk result (λ j. j ≡ dated time due) }
-{
-    Ok(Job {
-        release: 0,
-        due,
-        weight: 1,
-        needs: list_of(alloc, Need { machine: 0, time })?,
-        curve: Curve {
-            slope: 0,
-            base: 0,
-            steps: List::new(alloc),
-        },
-    })
-}
-
 /// Jobs of times 2 and 3 with due dates 4 and -2.
 fn pair(alloc: Global) -> Result<Instance, NoMemory>
     ensures { IfOk result (λ i. i ≡ pair) }
 {
-    let mut jobs = list_of(alloc, dated(alloc, 2, 4)?)?;
-    if jobs.push(dated(alloc, 3, -2)?).is_err() {
-        return Err(NoMemory);
-    }
+    let first = JobData { due: 4, ..timed(2) };
+    let second = JobData {
+        due: -2,
+        ..timed(3)
+    };
     Ok(Instance {
         class: Class {
             times: Times::General,
@@ -179,7 +130,7 @@ fn pair(alloc: Global) -> Result<Instance, NoMemory>
         },
         machines: 1,
         speeds: List::new(alloc),
-        jobs,
+        jobs: jobs(alloc, &[first, second])?,
         arcs: List::new(alloc),
     })
 }
@@ -188,10 +139,6 @@ fn pair(alloc: Global) -> Result<Instance, NoMemory>
 fn equal_pair(alloc: Global) -> Result<Instance, NoMemory>
     ensures { IfOk result (λ i. i ≡ equal_pair) }
 {
-    let mut jobs = list_of(alloc, dated(alloc, 3, 0)?)?;
-    if jobs.push(dated(alloc, 3, 0)?).is_err() {
-        return Err(NoMemory);
-    }
     Ok(Instance {
         class: Class {
             times: Times::Equal,
@@ -199,32 +146,19 @@ fn equal_pair(alloc: Global) -> Result<Instance, NoMemory>
         },
         machines: 1,
         speeds: List::new(alloc),
-        jobs,
+        jobs: jobs(alloc, &[timed(3), timed(3)])?,
         arcs: List::new(alloc),
     })
-}
-
-fn unit_piece(job: u32, from: u8, to: u8) -> Piece
-    ensures { result ≡ unit_piece job from to }
-{
-    Piece {
-        job,
-        op: 0,
-        machine: 0,
-        from: i128::from(from),
-        to: i128::from(to),
-    }
 }
 
 /// One job from moment 4 to 5, the other from 1 to 2.
 fn with_idle(alloc: Global) -> Result<Schedule, NoMemory>
     ensures { IfOk result (λ s. s ≡ with_idle) }
 {
-    let mut pieces = list_of(alloc, unit_piece(0, 4, 5))?;
-    if pieces.push(unit_piece(1, 1, 2)).is_err() {
-        return Err(NoMemory);
-    }
-    Ok(Schedule { unit: 1, pieces })
+    Ok(Schedule {
+        unit: 1,
+        pieces: list_of(alloc, &[piece(0, 4, 5), piece(1, 1, 2)])?,
+    })
 }
 
 /// Whether the jobs follow each other from 0 on once they are of time 3 again.

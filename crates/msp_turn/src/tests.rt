@@ -1,61 +1,34 @@
 // Each row carries an instance down and a schedule back, and the costs are those found by hand.
-ghost use Rattle.std.specs.Prelude.{◌≡◌, ◌∷◌, [], false, IfOk};
+ghost use Rattle.std.specs.Prelude.{◌≡◌, false, IfOk};
 ghost use Rattle.msp_instance.specs.Conditions.{Inner};
 ghost use Rattle.msp_schedule.specs.Feasible.{Feasible};
 ghost use Rattle.msp_schedule.specs.Within.{Within};
 ghost use Rattle.msp_table.specs.Rows.{turns_dates};
 ghost use Rattle.msp_route.specs.Law.{Applies};
 ghost use Rattle.msp_route.specs.Bounds.{IsBounded};
-ghost use Rattle.msp_turn.specs.Examples.{job_of, pair, in_turn};
+ghost use Rattle.msp_turn.specs.Examples.{pair, in_turn};
 
 use crate::*;
 use msp_class::{Class, Crit, Env, List, NoMemory, Order, Times};
-use msp_instance::{Arc, Curve, Instance, Job, Need};
+use msp_instance::{Arc, Instance};
 use msp_route::Reduction;
-use msp_schedule::{Frac, Piece, Schedule, Solution, cost};
+use msp_samples::{JobData, jobs, list_of, piece, timed};
+use msp_schedule::{Frac, Schedule, Solution, cost};
 use std::alloc::Global;
 use std::test::Fail;
-
-fn list_of<T: Drop>(alloc: Global, item: T) -> Result<List<T>, NoMemory>
-    ensures { IfOk result (λ l. l ≡ item ∷ []) }
-{
-    let mut list = List::new(alloc);
-    match list.push(item) {
-        Ok(()) => Ok(list),
-        Err(_) => Err(NoMemory),
-    }
-}
-
-fn two<T: Drop>(alloc: Global, first: T, second: T) -> Result<List<T>, NoMemory>
-    ensures { IfOk result (λ l. l ≡ first ∷ second ∷ []) }
-{
-    let mut list = list_of(alloc, first)?;
-    match list.push(second) {
-        Ok(()) => Ok(list),
-        Err(_) => Err(NoMemory),
-    }
-}
-
-fn job_of(alloc: Global, release: u64, time: u64) -> Result<Job, NoMemory>
-    ensures { IfOk result (λ j. j ≡ job_of release time) }
-{
-    Ok(Job {
-        release,
-        due: 0,
-        weight: 1,
-        needs: list_of(alloc, Need { machine: 0, time })?,
-        curve: Curve {
-            slope: 0,
-            base: 0,
-            steps: List::new(alloc),
-        },
-    })
-}
 
 /// Jobs of times 2 and 1 on one machine, the first before the second.
 fn pair(alloc: Global, class: Class, first: u64, second: u64) -> Result<Instance, NoMemory>
     ensures { IfOk result (λ i. i ≡ pair class first second) }
 {
+    let early = JobData {
+        release: first,
+        ..timed(2)
+    };
+    let late = JobData {
+        release: second,
+        ..timed(1)
+    };
     let arc = Arc {
         before: 0,
         after: 1,
@@ -64,8 +37,8 @@ fn pair(alloc: Global, class: Class, first: u64, second: u64) -> Result<Instance
         class,
         machines: 1,
         speeds: List::new(alloc),
-        jobs: two(alloc, job_of(alloc, first, 2)?, job_of(alloc, second, 1)?)?,
-        arcs: list_of(alloc, arc)?,
+        jobs: jobs(alloc, &[early, late])?,
+        arcs: list_of(alloc, &[arc])?,
     })
 }
 
@@ -73,23 +46,11 @@ fn pair(alloc: Global, class: Class, first: u64, second: u64) -> Result<Instance
 fn in_turn(alloc: Global, first: i8, second: i8) -> Result<Schedule, NoMemory>
     ensures { IfOk result (λ s. s ≡ in_turn first second) }
 {
-    let early = Piece {
-        job: 0,
-        op: 0,
-        machine: 0,
-        from: first as i128,
-        to: first as i128 + 2,
-    };
-    let late = Piece {
-        job: 1,
-        op: 0,
-        machine: 0,
-        from: second as i128,
-        to: second as i128 + 1,
-    };
+    let early = piece(0, first as i128, first as i128 + 2);
+    let late = piece(1, second as i128, second as i128 + 1);
     Ok(Schedule {
         unit: 1,
-        pieces: two(alloc, early, late)?,
+        pieces: list_of(alloc, &[early, late])?,
     })
 }
 
