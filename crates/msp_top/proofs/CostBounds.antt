@@ -1,20 +1,22 @@
 -- How large the cost of a schedule within the bounds can be.
-use Rattle.std.proofs.Common.{ℕ, ◌+◌, ◌*◌, ◌^◌, ◌≤◌, ◌<◌, Bool, true, false, cond, List, [], ◌∷◌, length, get_or, fold, All, inl, inr, ℤ, pos, ◌+ℤ◌, ◌-ℤ◌, ◌*ℤ◌, int_lt, refl, sym, subst, arith, lit≤}
+use Rattle.std.proofs.Common.{ℕ, ◌+◌, ◌*◌, ◌≤◌, ◌<◌, Bool, true, false, cond, List, [], ◌∷◌, length, get_or, fold, All, inl, inr, ℤ, pos, ◌+ℤ◌, ◌-ℤ◌, ◌*ℤ◌, int_lt, unsigned_abs, refl, sym, subst, arith, lit≤}
 use Rattle.std.specs.Int.{int_max}
 use Rattle.std.proofs.lemmas.Int.{ints, clamps, fold-int_max_reached}
 use Rattle.std.proofs.lemmas.List.Elements.{All-head, All-tail, All-contains}
 use Rattle.msp_class.specs.declared.class.Crit.{Crit}
 use Rattle.msp_class.specs.declared.class.Crit.TheVariants.{Cmax, Lmax, Fmax, SumC, SumWC, SumU, SumWU, SumT, SumWT}
 use Rattle.msp_class.specs.Crit.{is_greatest}
+use Rattle.msp_instance.specs.declared.ranges.TheConstants.{GREATEST, MOST_JOBS}
 use Rattle.msp_instance.specs.declared.Instance.{Instance}
 use Rattle.msp_instance.specs.declared.Job.{Job}
 use Rattle.msp_instance.specs.Instance.{no_job}
 use Rattle.msp_instance.specs.Conditions.{LiesWithin, Inner}
+use Rattle.msp_schedule.specs.declared.limits.TheConstants.{GREATEST_MOMENT}
 use Rattle.msp_schedule.specs.declared.Piece.{Piece}
 use Rattle.msp_schedule.specs.declared.Schedule.{Schedule}
 use Rattle.msp_schedule.specs.Cost.{last_end, end_of, jumps, job_cost, job_costs, greatest, cost_of}
 use Rattle.msp_schedule.specs.Feasible.{total}
-use Rattle.msp_schedule.specs.Within.{IsMoment, IsUnit, HasSmallCost, Within, greatest_cost}
+use Rattle.msp_schedule.specs.Within.{IsMoment, IsUnit, HasSmallCost, Within, greatest_scaled, greatest_level, greatest_lateness, greatest_cost, greatest_total}
 use Rattle.msp_schedule.proofs.Costs.{length-job_costs, get_or-job_costs}
 use Rattle.msp_schedule.proofs.Jumps.{jumps_le}
 use Rattle.msp_schedule.proofs.LastEnds.{last_end-natural, last_end-least}
@@ -24,26 +26,26 @@ use Rattle.msp_schedule.proofs.Small.{small_costs, product_within}
 moment_within : (x : ℤ) → IsMoment x → LiesWithin greatest_cost x
 moment_within x m = (omega (arith, ints, m), omega (arith, ints, m))
 
-late_by : (x y : ℤ) → IsMoment x → LiesWithin (2 * 10 ^ 22) y → LiesWithin (20002 * 10 ^ 22) (x -ℤ y)
+late_by : (x y : ℤ) → IsMoment x → LiesWithin greatest_scaled y → LiesWithin greatest_lateness (x -ℤ y)
 late_by x y m h = (omega (arith, ints, m, h), omega (arith, ints, m, h))
 
-wider : (x : ℤ) → LiesWithin (20002 * 10 ^ 22) x → LiesWithin greatest_cost x
+wider : (x : ℤ) → LiesWithin greatest_lateness x → LiesWithin greatest_cost x
 wider x h = (omega (arith, ints, h), omega (arith, ints, h))
 
-above_zero : (x : ℤ) → LiesWithin (20002 * 10 ^ 22) x → LiesWithin (20002 * 10 ^ 22) (int_max (pos 0) x)
+above_zero : (x : ℤ) → LiesWithin greatest_lateness x → LiesWithin greatest_lateness (int_max (pos 0) x)
 above_zero x h = (omega (arith, ints, clamps, h), omega (arith, ints, clamps, h))
 
-unit_or_none : (b : Bool) (unit : ℤ) → IsUnit unit → LiesWithin (20002 * 10 ^ 22) (cond b unit (pos 0))
+unit_or_none : (b : Bool) (unit : ℤ) → IsUnit unit → LiesWithin greatest_lateness (cond b unit (pos 0))
 unit_or_none true unit h = (omega (arith, ints, h), omega (arith, ints, h))
 unit_or_none false unit h = (omega (arith, ints), omega (arith, ints))
 
-weighted : (w : ℕ) (x : ℤ) → w ≤ 10 ^ 9 → LiesWithin (20002 * 10 ^ 22) x → LiesWithin greatest_cost (pos w *ℤ x)
-weighted w x small h = product_within w x (10 ^ 9) (20002 * 10 ^ 22) greatest_cost small h (lit≤ tt)
+weighted : (w : ℕ) (x : ℤ) → w ≤ GREATEST → LiesWithin greatest_lateness x → LiesWithin greatest_cost (pos w *ℤ x)
+weighted w x small h = product_within w x GREATEST greatest_lateness greatest_cost small h (lit≤ tt)
 
-sloped : (w : ℕ) (x y : ℤ) → w ≤ 10 ^ 9 → IsMoment x → LiesWithin (4 * 10 ^ 23) y → LiesWithin greatest_cost ((pos w *ℤ x) +ℤ y)
-sloped w x y small m h = along (pos w *ℤ x) y (product_within w x (10 ^ 9) (2 * 10 ^ 26) (2 * 10 ^ 35) small (omega (arith, ints, m), omega (arith, ints, m)) (lit≤ tt)) h
+sloped : (w : ℕ) (x y : ℤ) → w ≤ GREATEST → IsMoment x → LiesWithin greatest_level y → LiesWithin greatest_cost ((pos w *ℤ x) +ℤ y)
+sloped w x y small m h = along (pos w *ℤ x) y (product_within w x GREATEST (unsigned_abs GREATEST_MOMENT) (GREATEST * unsigned_abs GREATEST_MOMENT) small (omega (arith, ints, m), omega (arith, ints, m)) (lit≤ tt)) h
   where
-    along : (x y : ℤ) → LiesWithin (2 * 10 ^ 35) x → LiesWithin (4 * 10 ^ 23) y → LiesWithin greatest_cost (x +ℤ y)
+    along : (x y : ℤ) → LiesWithin (GREATEST * unsigned_abs GREATEST_MOMENT) x → LiesWithin greatest_level y → LiesWithin greatest_cost (x +ℤ y)
     along x y h k = (omega (arith, ints, h, k), omega (arith, ints, h, k))
 
 job_cost_small : (crit : Crit) (unit x : ℤ) (j : Job) → IsUnit unit → IsMoment x → HasSmallCost unit j → LiesWithin greatest_cost (job_cost crit unit j x)
@@ -82,17 +84,14 @@ greatest_small (x ∷ xs) all = elim (fold-int_max_reached x xs (fold int_max x 
   | inr c ↦ All-contains IsSmall xs _ (All-tail IsSmall x xs all) c
 ]
 
-abbrev pub greatest_total : ℕ
-greatest_total = 84 * 10 ^ 36
-
-combined_small : (b : Bool) (xs : List ℤ) → length xs ≤ 400 → All IsSmall xs → LiesWithin greatest_total (cond b (greatest xs) (total xs))
+combined_small : (b : Bool) (xs : List ℤ) → length xs ≤ MOST_JOBS → All IsSmall xs → LiesWithin greatest_total (cond b (greatest xs) (total xs))
 combined_small true xs few all = wide _ (greatest_small xs all)
   where
     wide : (x : ℤ) → IsSmall x → LiesWithin greatest_total x
     wide x h = (omega (arith, ints, h), omega (arith, ints, h))
 combined_small false xs few all = wide _ (length xs) few (sums_small xs 0 (pos 0) (omega (arith, ints), omega (arith, ints)) all)
   where
-    wide : (x : ℤ) (n : ℕ) → n ≤ 400 → LiesWithin (greatest_cost * (0 + n)) x → LiesWithin greatest_total x
+    wide : (x : ℤ) (n : ℕ) → n ≤ MOST_JOBS → LiesWithin (greatest_cost * (0 + n)) x → LiesWithin greatest_total x
     wide x n few h = (omega (arith, ints, h, few), omega (arith, ints, h, few))
 
 ends_are_moments : (ps : List Piece) → All (λ p. IsMoment p.from × IsMoment p.to) ps → (j : ℕ) → IsMoment (last_end ps j)
@@ -100,5 +99,5 @@ ends_are_moments ps h j = (last_end-natural ps j, last_end-least ps j _ (omega (
 
 pub cost_of_small : (i : Instance) (s : Schedule) → Inner i → Within i s → LiesWithin greatest_total (cost_of i s)
 cost_of_small i s inner w =
-    combined_small (is_greatest i.class.crit) (job_costs i.class.crit s.unit (end_of s) 0 i.jobs) (subst (λ n. n ≤ 400) (sym (length-job_costs i.class.crit s.unit (end_of s) 0 i.jobs)) inner.conditions.few)
+    combined_small (is_greatest i.class.crit) (job_costs i.class.crit s.unit (end_of s) 0 i.jobs) (subst (λ n. n ≤ MOST_JOBS) (sym (length-job_costs i.class.crit s.unit (end_of s) 0 i.jobs)) inner.conditions.few)
     (job_costs_small i.class.crit s.unit (end_of s) i.jobs w.unit (ends_are_moments s.pieces w.moments) (small_costs i s inner w))

@@ -18,11 +18,11 @@ use Rattle.msp_schedule.specs.declared.Solution.{Solution}
 use Rattle.msp_schedule.specs.Cost.{cost_of}
 use Rattle.msp_schedule.specs.Feasible.{HasOperation, MayRun, HasPlace}
 use Rattle.msp_schedule.specs.Fraction.{IsOver, IsLowest}
-use Rattle.msp_schedule.specs.Within.{IsUnit}
+use Rattle.msp_schedule.specs.Within.{IsUnit, greatest_total}
 use Rattle.msp_grammar.specs.ScheduleText.{IsStatedCost, IsStated}
 use Rattle.msp_dispatch.specs.Dispatch.{IsReported}
 use Rattle.msp_report.proofs.Divided.{IsPrimeTo-from_gcd, lowest_is_least}
-use Rattle.msp_top.proofs.CostBounds.{greatest_total, cost_of_small}
+use Rattle.msp_top.proofs.CostBounds.{cost_of_small}
 
 -- ---- the cost
 abs_within : (x : ℤ) (n : ℕ) → LiesWithin n x → unsigned_abs x ≤ n
