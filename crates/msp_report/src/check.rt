@@ -1,10 +1,9 @@
 // The report of `check`.
-ghost use Rattle.std.specs.Prelude.{◌≡◌, ◌+◌, ◌≤◌, ◌^◌, ◌<ℤ◌, ◌++◌, ◌↔◌, IsTrue, OnOk, IfOk, IsNone, codes, decimal, pos, neg_ℤ};
-ghost use Rattle.std.specs.Fmt.{signed_decimal};
+ghost use Rattle.std.specs.Prelude.{◌≡◌, ◌+◌, ◌++◌, ◌↔◌, IsTrue, OnOk, IfOk, IsNone, decimal};
 ghost use Rattle.msp_instance.specs.Conditions.{InClass};
 ghost use Rattle.msp_schedule.specs.Feasible.{Feasible};
 ghost use Rattle.msp_schedule.specs.Fraction.{IsSameFraction, IsLowest};
-ghost use Rattle.msp_grammar.specs.ScheduleText.{name_at, fraction_text, IsStated};
+ghost use Rattle.msp_grammar.specs.ScheduleText.{name_at, IsStated};
 ghost use Rattle.msp_report.specs.CheckText.{count_lines, numbers_text, operation_text, break_text, broken_lines, yes_or_no, cost_lines, StatesItsCost, AreCostLines, AreCheckLines, IsCheckText};
 
 use crate::lines::{put_class_line, put_fraction, put_number_line};

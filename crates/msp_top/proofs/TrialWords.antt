@@ -1,8 +1,7 @@
 -- The words after `trial`.
-use Rattle.std.proofs.Common.{◌≡◌, ℕ, ◌+◌, ◌^◌, ◌<◌, ◌≤◌, Bool, true, false, ◌&&◌, nat_le, List, [], ◌∷◌, length, get_or, map, Option, Some, None, Result, Ok, Err, ℤ, pos, negsuc, if◌then◌else◌, refl, sym, ap, ◌∙◌, subst, arith, inl}
+use Rattle.std.proofs.Common.{◌≡◌, ℕ, ◌<◌, ◌≤◌, Bool, true, false, ◌&&◌, nat_le, List, [], ◌∷◌, length, get_or, map, Option, Some, None, Result, Err, ℤ, pos, negsuc, if◌then◌else◌, refl, sym, ap, ◌∙◌, subst, arith, inl}
 use Rattle.std.proofs.lemmas.Bool.{lt-ltb, le-leb, leb-true}
 use Rattle.msp_class.specs.declared.list.TheConstants.{PLACES}
-use Rattle.msp_class.specs.declared.class.Class.{Class}
 use Rattle.msp_text.specs.Numbers.{number_of}
 use Rattle.msp_instance.specs.declared.ranges.TheConstants.{MOST_JOBS}
 use Rattle.msp_top.specs.declared.command.TheConstants.{GREATEST_SEED}
@@ -14,8 +13,7 @@ use Rattle.msp_top.specs.declared.refusal.Refusal.{Refusal}
 use Rattle.msp_top.specs.declared.words.Misfit.{Misfit}
 use Rattle.msp_top.specs.declared.words.Misfit.TheVariants.{Form}
 use Rattle.msp_top.specs.Commands.{IsNameWord, IsNumberWord, Asks, AsksForTrial, Misfits}
-use Rattle.msp_top.specs.Usage.{name_then, number_within, number_then, text_of_number, misnumbered_text, misfit_text, trial_text}
-use Rattle.msp_top.specs.Note.{usage_note}
+use Rattle.msp_top.specs.Usage.{name_then, number_within, number_then, text_of_number, misfit_text}
 use Rattle.msp_top.specs.Refusals.{of_misfit}
 use Rattle.msp_top.specs.Words.{ReadsWords, ReadsName, ReadsNumber, ReadsTrial}
 use Rattle.msp_top.proofs.WordLemmas.{trial_word, rows_word, first_word, asks_first, cons_heads, cons_tails, not_word}

@@ -1,5 +1,5 @@
 // The answer to `check`.
-ghost use Rattle.std.specs.Prelude.{◌≡◌, ◌≤◌, ◌↔◌, true, IsTrue, length, IsNone, IfOk};
+ghost use Rattle.std.specs.Prelude.{◌≤◌, ◌↔◌, IsTrue, length, IsNone, IfOk};
 ghost use Rattle.msp_instance.specs.Conditions.{InClass};
 ghost use Rattle.msp_schedule.specs.Feasible.{Feasible};
 ghost use Rattle.msp_grammar.specs.ScheduleText.{IsStated};

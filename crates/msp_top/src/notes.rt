@@ -1,5 +1,5 @@
 // The notes, and how they are told without memory.
-ghost use Rattle.std.specs.Prelude.{◌≡◌, ◌++◌, codes, decimal};
+ghost use Rattle.std.specs.Prelude.{◌++◌, codes, decimal};
 ghost use Rattle.msp_name.specs.Names.{name_of};
 ghost use Rattle.msp_io.specs.Whole.{Puts};
 ghost use Rattle.msp_top.specs.Usage.{misspelled_text, misnumbered_text};

@@ -1,5 +1,5 @@
 // The answers to questions about a file of results.
-ghost use Rattle.std.specs.Prelude.{◌≡◌, ◌≤◌, List as Items, length, IfOk};
+ghost use Rattle.std.specs.Prelude.{◌≤◌, List as Items, length, IfOk};
 ghost use Rattle.msp_class.specs.declared.class.Class.{Class as ClassValue};
 ghost use Rattle.msp_closure.specs.declared.entry.Entry.{Entry as EntryValue};
 ghost use Rattle.msp_top.specs.Results.{AreAllClasses};

@@ -1,6 +1,6 @@
 -- The goals of `read_trial` that are proved by lemmas.
 use Rattle.std.proofs.Common.{string_bytes, rules}
-use Rattle.msp_top.proofs.TrialWords.{reads_three, reads_not_three}
+use Rattle.msp_top.proofs.TrialWords.{reads_three}
 use Rattle.msp_top.proofs.trial_words.read_trial.Goals as goal
 
 pub returns-then-words-eq3 : goal.returns-then-words-eq3
