@@ -10,3 +10,4 @@ pub mod QuestionAnswers
 pub mod SolveAnswers
 pub mod TrialAnswers
 pub mod CheckAnswers
+pub mod RowJourneys

@@ -13,6 +13,8 @@ mod hostile_tests;
 mod notes;
 mod questions;
 mod refusal;
+#[cfg(test)]
+mod row_tests;
 mod serve;
 #[cfg(test)]
 mod solver_tests;
