@@ -1,5 +1,5 @@
 // The rows to unrelated machines carry two jobs down and their pieces back.
-ghost use Rattle.std.specs.Prelude.{◌≡◌, IfSome};
+ghost use Rattle.std.specs.Prelude.{◌≡◌, ◌∷◌, [], IfSome};
 ghost use Rattle.msp_instance.specs.Conditions.{InClass, Inner};
 ghost use Rattle.msp_schedule.specs.Feasible.{Feasible};
 ghost use Rattle.msp_route.specs.Law.{Applies};
@@ -74,22 +74,17 @@ fn identical_cost_the_same(alloc: Global) -> Option<bool> {
     Some(two == (whole(10), whole(10)) && any == two)
 }
 
+/// The speeds of two machines.
+fn two_speeds(alloc: Global, first: u64, second: u64) -> Option<List<u64>>
+    ensures { IfSome result (λ l. l ≡ first ∷ second ∷ []) }
+{
+    list_of(alloc, &[first, second]).ok()
+}
+
 /// At speeds 3 and 2 both jobs end at 2, and in times that are 6 times as long at 12.
 fn uniform_cost_in_proportion(alloc: Global) -> Option<bool> {
-    let any = costs(
-        alloc,
-        &Row26,
-        Env::Q,
-        list_of(alloc, &[3, 2]).ok()?,
-        (12, 12),
-    )?;
-    let two = costs(
-        alloc,
-        &Row27,
-        Env::Q2,
-        list_of(alloc, &[3, 2]).ok()?,
-        (12, 12),
-    )?;
+    let any = costs(alloc, &Row26, Env::Q, two_speeds(alloc, 3, 2)?, (12, 12))?;
+    let two = costs(alloc, &Row27, Env::Q2, two_speeds(alloc, 3, 2)?, (12, 12))?;
     Some(any == (whole(24), whole(4)) && two == any)
 }
 

@@ -9,7 +9,7 @@ use Rattle.msp_machines.specs.UnrelatedExamples.{pair, side_by_side, feasible_26
 use Rattle.msp_machines.proofs.unrelated_tests.uniform_cost_in_proportion.Goals as goal
 
 pub costs-requires-clause-feasible : goal.costs-requires-clause-feasible
-costs-requires-clause-feasible c = subst (λ l. Inner (pair Q l) → Applies 26 (pair Q l) → Feasible (led_by_speeds 26 (pair Q l)) (side_by_side 12 12)) (sym c.in_ok-two_of.ensures) feasible_26
+costs-requires-clause-feasible c = subst (λ l. Inner (pair Q l) → Applies 26 (pair Q l) → Feasible (led_by_speeds 26 (pair Q l)) (side_by_side 12 12)) (sym c.in_ok-two_speeds.ensures) feasible_26
 
 pub costs-requires-2-clause-feasible : goal.costs-requires-2-clause-feasible
-costs-requires-2-clause-feasible c = subst (λ l. Inner (pair Q2 l) → Applies 27 (pair Q2 l) → Feasible (led_by_speeds 27 (pair Q2 l)) (side_by_side 12 12)) (sym c.in_ok-two_of-2.ensures) feasible_27
+costs-requires-2-clause-feasible c = subst (λ l. Inner (pair Q2 l) → Applies 27 (pair Q2 l) → Feasible (led_by_speeds 27 (pair Q2 l)) (side_by_side 12 12)) (sym c.in_ok-two_speeds-2.ensures) feasible_27
