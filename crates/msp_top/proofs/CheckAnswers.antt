@@ -3,6 +3,7 @@ use Rattle.std.proofs.Common.{◌≡◌, ◌↔◌, inl, inr, ℕ, ◌+◌, ◌-
 use Rattle.std.proofs.Math.Seq.{drop-append_seam}
 use Rattle.std.proofs.lemmas.List.{length-append, length-drop, take_all}
 use Rattle.std.proofs.lemmas.List.Sums.{count_by-le-length}
+use Rattle.msp_text.specs.Bytes.{line_feed_byte}
 use Rattle.msp_instance.specs.declared.Instance.{Instance}
 use Rattle.msp_instance.proofs.Limits.{Inner-from_class}
 use Rattle.msp_schedule.specs.declared.Schedule.{Schedule}
@@ -30,7 +31,7 @@ front_inside input f h = omega (arith, h.long, ap length h.whole, length-append 
 
 pub front_line : (input : List ℕ) (f : Front) (limit : ℕ) → IsFrontText input f.filed.instance f.filed.names f.used f.line → length input ≤ limit → (1 ≤ f.line) × (f.line ≤ limit + 1)
 front_line input f limit h within =
-    let count = count_by-le-length (λ byte. byte == 10) h.text in
+    let count = count_by-le-length (λ byte. byte == line_feed_byte) h.text in
     let inside = front_inside input f h in (
       omega (arith, h.counted),
       omega (arith, h.counted, count, inside, h.long, within),

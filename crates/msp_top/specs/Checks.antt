@@ -4,6 +4,7 @@ use Rattle.msp_class.specs.declared.class.Class.{Class}
 use Rattle.msp_class.specs.declared.environments.EnvKind.TheVariants.{Unrelated}
 use Rattle.msp_class.specs.Env.{kind_of}
 use Rattle.msp_name.specs.Names.{name_of}
+use Rattle.msp_text.specs.Bytes.{line_feed_byte}
 use Rattle.msp_instance.specs.declared.Instance.{Instance}
 use Rattle.msp_schedule.specs.declared.breaks.Break.{Break}
 use Rattle.msp_schedule.specs.Feasible.{Feasible}
@@ -33,7 +34,7 @@ pub record BeginsWith (input : List ℕ) (filed : Filed) (line : ℕ) (rest : Li
   pub front : List ℕ
   pub whole : input ≡ front ++ rest
   pub is : IsInstanceText front filed.instance filed.names
-  pub counted : line ≡ count_by (λ byte. byte == 10) front + 1
+  pub counted : line ≡ count_by (λ byte. byte == line_feed_byte) front + 1
 
 -- The status is 0 exactly where the schedule is feasible and its cost is the stated one.
 pub data HasCheckStatus (i : Instance) (s : Stated) : ℕ → Type 0 where
