@@ -9,7 +9,7 @@ loop-speed-init c = record { least = IsLeastOfAll-none; small = omega arith }
 
 pub loop-speed-preserved : goal.loop-speed-preserved
 loop-speed-preserved c =
-    let more = IsLeastOfAll-more c.args.speeds.now c.loop-speed.speed-index _ _ (omega arith) c.loop-speed.invariant.least c.multiple_of_two-multiple.ensures.some c.multiple_of_two-multiple.ensures.least in
+    let more = IsLeastOfAll-more c.args.speeds.now c.loop-speed.speed-index _ _ (omega arith) c.loop-speed.invariant.least c.common_multiple-multiple.ensures.some c.common_multiple-multiple.ensures.least in
     record { least = more; small = multiple_small c.args.speeds.now (c.loop-speed.speed-index + 1) _ c.requires.small more }
 
 pub returns-clause-common : goal.returns-clause-common
@@ -17,6 +17,11 @@ returns-clause-common c =
     let whole = take_all c.loop-speed.speed-index c.args.speeds.now (omega arith) in
     let least = subst (λ l. IsLeastOfAll l c.loop-speed.multiple) whole c.loop-speed.invariant.least in
     record { some = least.some; common = least.common }
+
+pub returns-clause-least : goal.returns-clause-least
+returns-clause-least c =
+    let whole = take_all c.loop-speed.speed-index c.args.speeds.now (omega arith) in
+    (subst (λ l. IsLeastOfAll l c.loop-speed.multiple) whole c.loop-speed.invariant.least).least
 
 pub returns-clause-small : goal.returns-clause-small
 returns-clause-small c = c.loop-speed.invariant.small
