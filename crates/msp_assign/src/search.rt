@@ -2,7 +2,7 @@
 ghost use Rattle.std.specs.Prelude.{◌≡◌, ◌+◌, ◌<◌, ◌≤◌, ℕ, All, Contains, IfOk, OnOk, false, length};
 ghost use Rattle.msp_class.specs.declared.list.TheConstants.{PLACES};
 ghost use Rattle.msp_assign.specs.Prices.{greatest_cost, HasCosts};
-ghost use Rattle.msp_assign.specs.Search.{greatest_payment, at, is_in, sizes, paid, unsettled, IsPlaced, IsOwners, IsTree, IsSearch, IsNearest, IsRelaxed, IsRelaxedOnce, IsShortened, HasEdges};
+ghost use Rattle.msp_assign.specs.Search.{greatest_payment, at, is_in, sizes, paid, unsettled, IsPlaced, IsOwners, IsSearch, IsNearest, IsRelaxed, IsRelaxedOnce, IsShortened, HasEdges};
 
 use crate::Costs;
 use std::alloc::{AllocError, Global};

@@ -6,7 +6,7 @@ ghost use Rattle.msp_schedule.specs.Fraction.{IsLowest};
 ghost use Rattle.msp_schedule.specs.Settled.{IsSettled};
 ghost use Rattle.msp_route.specs.Bounds.{IsAnswer};
 ghost use Rattle.msp_levels.specs.Levels.{levels_class, IsLevelCost};
-ghost use Rattle.msp_levels.specs.Steps.{IsByLevel, IsUnderWay, IsHuSchedule};
+ghost use Rattle.msp_levels.specs.Steps.{IsByLevel, IsHuSchedule};
 
 use crate::level::{jobs_by_level, levels_of};
 use crate::slot::{Slot, next_slot, put_pieces};

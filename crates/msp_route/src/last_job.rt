@@ -1,5 +1,5 @@
 // The job that ends last: of those that no job left must follow the one that costs least at the end.
-ghost use Rattle.std.specs.Prelude.{◌≡◌, ◌*◌, ◌<◌, ◌⊎◌, ◌==◌, ◌&&◌, ℕ, false, length, slice_index_or, All, IfSome};
+ghost use Rattle.std.specs.Prelude.{◌≡◌, ◌<◌, ◌⊎◌, ◌==◌, ◌&&◌, ℕ, false, length, slice_index_or, All, IfSome};
 ghost use Rattle.std.specs.List.{list_any};
 ghost use Rattle.msp_instance.specs.declared.ranges.TheConstants.{MOST_JOBS};
 ghost use Rattle.msp_instance.specs.Conditions.{Inner};

@@ -1,5 +1,5 @@
 // Reductions: rows of the table that carry instances and schedules.
-ghost use Rattle.std.specs.Prelude.{◌≡◌, ℕ, ℤ, IfOk, IsTrue, true};
+ghost use Rattle.std.specs.Prelude.{◌≡◌, ℕ, IfOk, IsTrue};
 ghost use Rattle.msp_instance.specs.declared.Instance.{Instance as Inst};
 ghost use Rattle.msp_instance.specs.Conditions.{Inner};
 ghost use Rattle.msp_schedule.specs.declared.Schedule.{Schedule};

@@ -1,8 +1,7 @@
 // Jobs joined behind their predecessors, a block of greatest ratio of weight to time after another.
-ghost use Rattle.std.specs.Prelude.{◌≡◌, ◌*◌, ◌+◌, ◌<◌, ◌≤◌, ◌⊎◌, ◌++◌, ◌∷◌, [], length, map, slice_index_or, sum_by, All, Contains, IfOk, OnOk};
-ghost use Rattle.std.specs.List.{concat, range_with_len};
+ghost use Rattle.std.specs.Prelude.{◌≡◌, ◌*◌, ◌+◌, ◌<◌, ◌≤◌, ◌⊎◌, ◌++◌, ◌∷◌, [], length, slice_index_or, Contains, IfOk, OnOk};
+ghost use Rattle.std.specs.List.{concat};
 ghost use Rattle.msp_instance.specs.declared.ranges.TheConstants.{GREATEST, MOST_JOBS};
-ghost use Rattle.msp_instance.specs.Instance.{job_at};
 ghost use Rattle.msp_instance.specs.Conditions.{Inner};
 ghost use Rattle.msp_schedule.proofs.OneRow.{time_at};
 ghost use Rattle.msp_trees.specs.Horn.{horn_class};
