@@ -5,9 +5,9 @@ use Rattle.std.proofs.lemmas.List.Sums.{sum_by-cons, sum_by-append}
 use Rattle.std.proofs.lemmas.List.Elements.{All-nil, All-cons, All-head, All-tail, All-append, All-weaker}
 use Rattle.msp_class.proofs.Sums.{AllPairs-head, AllPairs-tail}
 use Rattle.msp_schedule.specs.declared.Piece.{Piece}
-use Rattle.msp_schedule.proofs.Intervals.{IsApart, size_of}
-use Rattle.msp_schedule.proofs.OneMachine.{start, finish}
-use Rattle.msp_schedule.proofs.OneRow.{piece}
+use Rattle.msp_schedule.specs.Intervals.{IsApart, size_of}
+use Rattle.msp_schedule.specs.Piece.{start, finish}
+use Rattle.msp_schedule.specs.Rows.{piece}
 use Rattle.msp_schedule.proofs.Series.{AllPairs-append}
 use Rattle.msp_blocks.specs.Filling.{done_by, busy_until, Follow, gap, gaps}
 

@@ -18,15 +18,16 @@ use Rattle.msp_instance.specs.Instance.{job_at, need_at, no_job, no_need}
 use Rattle.msp_instance.specs.Conditions.{HasSameTimes, Inner}
 use Rattle.msp_schedule.specs.declared.Piece.{Piece}
 use Rattle.msp_schedule.specs.declared.Schedule.{Schedule}
-use Rattle.msp_schedule.specs.Piece.{length_of, pieces_of, IsBefore}
+use Rattle.msp_schedule.specs.Piece.{length_of, pieces_of, IsBefore, start, finish, IsTimed}
 use Rattle.msp_schedule.specs.Feasible.{Feasible, HasPlace, HasOperation, MayRun, FollowsRoute, GetsWork, IsWholeWork, total, whole_work, work_of as part_of}
 use Rattle.msp_schedule.specs.Cost.{Best, end_of}
 use Rattle.msp_schedule.specs.Within.{IsMoment, Within}
-use Rattle.msp_schedule.proofs.Intervals.{size_of}
-use Rattle.msp_schedule.proofs.OneMachine.{start, finish, IsTimed, apart_in_int, pieces_of-job, total_lengths}
-use Rattle.msp_schedule.proofs.OneRow.{time_at}
+use Rattle.msp_schedule.specs.Intervals.{size_of}
+use Rattle.msp_schedule.proofs.OneMachine.{apart_in_int, pieces_of-job, total_lengths}
+use Rattle.msp_schedule.specs.Rows.{time_at}
 use Rattle.msp_schedule.proofs.LastEnds.{last_end-least}
-use Rattle.msp_schedule.proofs.Certified.{IsCertified, best_by_certificates}
+use Rattle.msp_schedule.specs.Blocks.{IsCertified}
+use Rattle.msp_schedule.proofs.Certified.{best_by_certificates}
 use Rattle.msp_route.specs.Bounds.{IsAnswer, answer_unit}
 use Rattle.msp_blocks.specs.Heads.{AreHeads}
 use Rattle.msp_blocks.specs.Filling.{IsPut, IsFilling, greatest_end}

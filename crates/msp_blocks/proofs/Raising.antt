@@ -10,7 +10,7 @@ use Rattle.msp_instance.specs.declared.Instance.{Instance}
 use Rattle.msp_instance.specs.Instance.{job_at}
 use Rattle.msp_instance.specs.Conditions.{IsSequence, GoesForward}
 use Rattle.msp_instance.proofs.CycleLemmas.{OnceBelow-from_sequence}
-use Rattle.msp_schedule.proofs.OneRow.{time_at}
+use Rattle.msp_schedule.specs.Rows.{time_at}
 use Rattle.msp_blocks.specs.Heads.{IsRaised, AreHeads}
 use Rattle.msp_blocks.proofs.Facts.{IsOneInstance, is_short, is_early}
 

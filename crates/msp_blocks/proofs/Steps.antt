@@ -7,7 +7,7 @@ use Rattle.std.proofs.lemmas.List.Edits.{remove-append_left}
 use Rattle.std.proofs.lemmas.List.Sums.{sum_by-cons, sum_by-append, sum_by_more}
 use Rattle.msp_instance.specs.declared.Instance.{Instance}
 use Rattle.msp_schedule.specs.declared.Piece.{Piece}
-use Rattle.msp_schedule.proofs.OneRow.{time_at}
+use Rattle.msp_schedule.specs.Rows.{time_at}
 use Rattle.msp_blocks.specs.Heads.{AreHeads}
 use Rattle.msp_blocks.specs.Filling.{done_by, gap, gaps, Follow, IsFirstBlock, IsFilling, greatest_end}
 use Rattle.msp_route.specs.LastJob.{EndsAt}

@@ -3,10 +3,10 @@ use Rattle.std.specs.Prelude.{◌≡◌, ◌≢◌, ℕ, ◌+◌, ◌*◌, ◌<�
 use Rattle.msp_instance.specs.declared.Instance.{Instance}
 use Rattle.msp_instance.specs.declared.ranges.TheConstants.{GREATEST, MOST_JOBS}
 use Rattle.msp_schedule.specs.declared.Piece.{Piece}
-use Rattle.msp_schedule.proofs.Certified.{IsCertified}
-use Rattle.msp_schedule.proofs.Intervals.{IsApart, work_of}
-use Rattle.msp_schedule.proofs.OneMachine.{job_of, start, finish, IsTimed}
-use Rattle.msp_schedule.proofs.OneRow.{piece, time_at}
+use Rattle.msp_schedule.specs.Blocks.{IsCertified}
+use Rattle.msp_schedule.specs.Intervals.{IsApart, work_of}
+use Rattle.msp_schedule.specs.Piece.{job_of, start, finish, IsTimed}
+use Rattle.msp_schedule.specs.Rows.{piece, time_at}
 
 -- When jobs that begin at their heads at the earliest are done one after another on a machine that is free from a moment on.
 abbrev pub done_by : (ℕ → ℕ) → (ℕ → ℕ) → ℕ → List ℕ → ℕ

@@ -3,7 +3,7 @@ ghost use Rattle.std.specs.Prelude.{◌≡◌, ◌+◌, ◌<◌, ◌≤◌, ◌+
 ghost use Rattle.msp_class.specs.declared.class.Env.TheVariants.{One};
 ghost use Rattle.msp_instance.specs.declared.ranges.TheConstants.{MOST_JOBS};
 ghost use Rattle.msp_instance.specs.Conditions.{Inner};
-ghost use Rattle.msp_schedule.proofs.OneRow.{time_at};
+ghost use Rattle.msp_schedule.specs.Rows.{time_at};
 ghost use Rattle.msp_blocks.specs.Heads.{AreHeads};
 ghost use Rattle.msp_blocks.specs.Filling.{done_by, gap, gaps, IsFirstBlock, IsFilling, greatest_end};
 

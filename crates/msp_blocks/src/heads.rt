@@ -4,7 +4,7 @@ ghost use Rattle.msp_class.specs.declared.class.Env.TheVariants.{One};
 ghost use Rattle.msp_instance.specs.declared.ranges.TheConstants.{GREATEST, MOST_JOBS};
 ghost use Rattle.msp_instance.specs.Instance.{job_at};
 ghost use Rattle.msp_instance.specs.Conditions.{Inner, IsSequence, GoesForward};
-ghost use Rattle.msp_schedule.proofs.OneRow.{time_at};
+ghost use Rattle.msp_schedule.specs.Rows.{time_at};
 ghost use Rattle.msp_blocks.specs.Heads.{IsRaised, AreHeads};
 
 use msp_class::NoMemory;

@@ -6,7 +6,7 @@ use Rattle.msp_instance.specs.declared.Instance.{Instance}
 use Rattle.msp_instance.specs.Instance.{common_time}
 use Rattle.msp_schedule.specs.declared.Piece.{Piece}
 use Rattle.msp_schedule.specs.declared.Schedule.{Schedule}
-use Rattle.msp_schedule.proofs.Busy.{busy_moment}
+use Rattle.msp_schedule.specs.Busy.{busy_moment}
 use Rattle.msp_route.specs.Law.{Rate}
 use Rattle.msp_route.specs.Changes.{led}
 

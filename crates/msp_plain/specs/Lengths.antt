@@ -20,10 +20,10 @@ use Rattle.msp_instance.specs.Conditions.{Limits, MeetsConditions, HasShape, Has
 use Rattle.msp_instance.specs.declared.ranges.TheConstants.{MOST_JOBS}
 use Rattle.msp_schedule.specs.declared.Piece.{Piece}
 use Rattle.msp_schedule.specs.declared.Schedule.{Schedule}
-use Rattle.msp_schedule.specs.Piece.{length_of}
+use Rattle.msp_schedule.specs.Piece.{length_of, start, finish, IsTimed}
 use Rattle.msp_schedule.specs.Feasible.{Feasible, HasOperation, MayRun, product_of_times, total, whole_work}
-use Rattle.msp_schedule.proofs.Intervals.{size_of}
-use Rattle.msp_schedule.proofs.OneMachine.{start, finish, IsTimed, IsTimed-from_span, total_lengths}
+use Rattle.msp_schedule.specs.Intervals.{size_of}
+use Rattle.msp_schedule.proofs.OneMachine.{IsTimed-from_span, total_lengths}
 use Rattle.msp_schedule.proofs.Frames.{Frame, frame_by, rate_on, Lasts, Stands, Fits, IsShaped-from_conditions, HasTimePerMachine, rate_positive, product_of_times-cons, of_operation, of_operation-named, part, Fits-from_feasible}
 use Rattle.msp_schedule.proofs.Moves.{total-cons}
 

@@ -9,7 +9,7 @@ use Rattle.msp_instance.specs.Instance.{no_need, no_job, job_at}
 use Rattle.msp_instance.specs.Conditions.{Inner}
 use Rattle.msp_schedule.specs.declared.Schedule.{Schedule}
 use Rattle.msp_schedule.specs.Within.{Within, HasSmallCost}
-use Rattle.msp_schedule.proofs.OneRow.{time_at}
+use Rattle.msp_schedule.specs.Rows.{time_at}
 use Rattle.msp_schedule.proofs.Small.{small_costs}
 
 -- a job of the list, read by its number

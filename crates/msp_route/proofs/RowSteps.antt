@@ -3,13 +3,13 @@ use Rattle.std.proofs.Common.{◌≡◌, ℕ, ◌+◌, ◌*◌, ◌<◌, ◌≤�
 use Rattle.std.proofs.lemmas.Int.{ints}
 use Rattle.std.proofs.lemmas.List.{take_more}
 use Rattle.std.proofs.lemmas.Nat.{mul-le}
-use Rattle.msp_schedule.proofs.Rows.{row, row-append}
+use Rattle.msp_schedule.specs.Rows.{row, piece, time_at, row_schedule}
+use Rattle.msp_schedule.proofs.Rows.{row-append}
 use Rattle.msp_instance.specs.declared.Job.{Job}
 use Rattle.msp_instance.specs.declared.Instance.{Instance}
 use Rattle.msp_instance.specs.Instance.{no_need, no_job}
 use Rattle.msp_schedule.specs.declared.Piece.{Piece}
 use Rattle.msp_schedule.specs.declared.limits.TheConstants.{GREATEST_UNIT}
-use Rattle.msp_schedule.proofs.OneRow.{piece, time_at, row_schedule}
 use Rattle.msp_route.proofs.JobReads.{read_job}
 
 -- the row so far, and the moment at which it ends

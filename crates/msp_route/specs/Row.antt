@@ -4,7 +4,7 @@ use Rattle.msp_instance.specs.declared.Instance.{Instance}
 use Rattle.msp_schedule.specs.declared.Solution.{Solution}
 use Rattle.msp_schedule.specs.Cost.{cost_of}
 use Rattle.msp_schedule.specs.Fraction.{IsOver, IsLowest}
-use Rattle.msp_schedule.proofs.OneRow.{row_schedule}
+use Rattle.msp_schedule.specs.Rows.{row_schedule}
 
 pub record IsRowSolution (i : Instance) (order : List ℕ) (s : Solution) : Type 0 where
   pub schedule : s.schedule ≡ row_schedule i order

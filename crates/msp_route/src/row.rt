@@ -6,8 +6,7 @@ ghost use Rattle.msp_instance.specs.Conditions.{Inner};
 ghost use Rattle.msp_schedule.specs.declared.limits.TheConstants.{GREATEST_UNIT};
 ghost use Rattle.msp_schedule.specs.Within.{Within};
 ghost use Rattle.msp_schedule.specs.Feasible.{Feasible};
-ghost use Rattle.msp_schedule.proofs.OneRow.{piece, time_at, row_schedule};
-ghost use Rattle.msp_schedule.proofs.Rows.{row};
+ghost use Rattle.msp_schedule.specs.Rows.{piece, time_at, row_schedule, row};
 ghost use Rattle.msp_route.specs.Row.{IsRowSolution};
 
 use crate::times::first_time;

@@ -2,7 +2,7 @@
 ghost use Rattle.std.specs.Prelude.{◌≡◌, ◌*◌, ◌<◌, ◌≤◌, length, slice_index_or, sum_by, All};
 ghost use Rattle.msp_instance.specs.declared.ranges.TheConstants.{GREATEST, MOST_JOBS};
 ghost use Rattle.msp_instance.specs.Instance.{no_need};
-ghost use Rattle.msp_schedule.proofs.OneRow.{time_at};
+ghost use Rattle.msp_schedule.specs.Rows.{time_at};
 
 use msp_instance::{Instance, Job};
 

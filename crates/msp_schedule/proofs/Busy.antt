@@ -1,6 +1,5 @@
 -- Moments at which some piece runs, and schedules from which all idle stretches are taken out.
 use Rattle.std.proofs.Common.{◌≡◌, ℕ, zero, suc, ◌+◌, ◌*◌, ◌-◌, ◌≤◌, ◌<◌, ◌⊎◌, inl, inr, min, max, Bool, true, false, cond, leb, ltb, ◌&&◌, ◌||◌, List, [], ◌∷◌, length, get_or, All, AllPairs, Contains, sum_by, ℤ, pos, nat_abs, ◌-ℤ◌, ◌*ℤ◌, ◌≤ℤ◌, refl, sym, ap, ap₂, subst, ◌∙◌, arith}
-use Rattle.std.specs.List.{list_any}
 use Rattle.std.proofs.lemmas.List.{get_or_default}
 use Rattle.std.proofs.lemmas.Bool.{cases_lt, leb-true, leb-false, ltb-true, ltb-false}
 use Rattle.std.proofs.lemmas.Int.{ints}
@@ -11,26 +10,17 @@ use native.Mathlib.Nat.{mul-le-mul_left}
 use Rattle.msp_class.proofs.Sums.{cond-le, sum_by-mono, sum_by-total_below, total_below, total_below-mono, total_below-same, total_below-none, total_below-split, total_below-constant, total_below-bound}
 use Rattle.msp_class.proofs.IntegerRing.{natural, pos-le, one-*ℤ, *ℤ-sub, *ℤ-zero, *ℤ_exchange}
 use Rattle.msp_schedule.specs.declared.Piece.{Piece}
-use Rattle.msp_schedule.proofs.Intervals.{size_of}
-use Rattle.msp_schedule.proofs.OneMachine.{start, finish, IsTimed-from_span}
+use Rattle.msp_schedule.specs.Intervals.{size_of}
+use Rattle.msp_schedule.specs.Piece.{start, finish}
+use Rattle.msp_schedule.proofs.OneMachine.{IsTimed-from_span}
 use Rattle.msp_schedule.proofs.Frames.{Frame, Lasts, Fits}
 use Rattle.msp_schedule.proofs.Moves.{Suits}
 use Rattle.msp_schedule.proofs.Transport.{Stretches, Carries, carried_all, Fits-carried}
+use Rattle.msp_schedule.specs.Busy.{runs, some_runs, busy, busy_moment}
 
 -- ---- in ℕ, for elements of any type with the moments at which they begin and end
 module _ {X : Type 0} (from to : X → ℕ) where
-  -- the element runs from the moment u to the next
-  abbrev pub runs : ℕ → X → Bool
-  runs u q = leb (from q) u && ltb u (to q)
-
-  abbrev pub some_runs : List X → ℕ → Bool
-  some_runs xs u = list_any (runs u) xs
-
-  -- how many moments before t are not idle
-  abbrev pub busy : List X → ℕ → ℕ
-  busy xs t = total_below t (λ u. cond (some_runs xs u) 1 0)
-
-  runs-yes : (u : ℕ) (q : X) → from q ≤ u → u < to q → runs u q ≡ true
+  runs-yes : (u : ℕ) (q : X) → from q ≤ u → u < to q → runs from to u q ≡ true
   runs-yes u q h k = by (leb (from q) u) refl (ltb u (to q)) refl
     where
       by : (b : Bool) → leb (from q) u ≡ b → (c : Bool) → ltb u (to q) ≡ c → (b && c) ≡ true
@@ -38,7 +28,7 @@ module _ {X : Type 0} (from to : X → ℕ) where
       by true e false f = absurd (omega (arith, ltb-false _ _ f))
       by false e c f = absurd (omega (arith, leb-false _ _ e))
 
-  runs-no : (u : ℕ) (q : X) → (u < from q) ⊎ (to q ≤ u) → runs u q ≡ false
+  runs-no : (u : ℕ) (q : X) → (u < from q) ⊎ (to q ≤ u) → runs from to u q ≡ false
   runs-no u q h = by (leb (from q) u) refl (ltb u (to q)) refl
     where
       by : (b : Bool) → leb (from q) u ≡ b → (c : Bool) → ltb u (to q) ≡ c → (b && c) ≡ false
@@ -46,45 +36,45 @@ module _ {X : Type 0} (from to : X → ℕ) where
       by true e false f = refl
       by false e c f = refl
 
-  some_runs-yes : (xs : List X) (u : ℕ) (q : X) → Contains xs q → from q ≤ u → u < to q → some_runs xs u ≡ true
+  some_runs-yes : (xs : List X) (u : ℕ) (q : X) → Contains xs q → from q ≤ u → u < to q → some_runs from to xs u ≡ true
   some_runs-yes [] u q c h k = absurd (omega (arith, c.1))
-  some_runs-yes (x ∷ xs) u q (zero, l, e) h k = ap (λ b. b || some_runs xs u) (ap (runs u) e ∙ runs-yes u q h k)
-  some_runs-yes (x ∷ xs) u q (suc n, l, e) h k = ap (λ b. runs u x || b) (some_runs-yes xs u q (n, omega arith, e) h k) ∙ or_true (runs u x)
+  some_runs-yes (x ∷ xs) u q (zero, l, e) h k = ap (λ b. b || some_runs from to xs u) (ap (runs from to u) e ∙ runs-yes u q h k)
+  some_runs-yes (x ∷ xs) u q (suc n, l, e) h k = ap (λ b. runs from to u x || b) (some_runs-yes xs u q (n, omega arith, e) h k) ∙ or_true (runs from to u x)
     where
       or_true : (b : Bool) → (b || true) ≡ true
       or_true true = refl
       or_true false = refl
 
-  some_runs-no : (xs : List X) (u : ℕ) → All (λ q. (u < from q) ⊎ (to q ≤ u)) xs → some_runs xs u ≡ false
-  some_runs-no xs u h = list_any_none (runs u) xs (λ k d l. runs-no u (get_or xs k d) (h k d l))
+  some_runs-no : (xs : List X) (u : ℕ) → All (λ q. (u < from q) ⊎ (to q ≤ u)) xs → some_runs from to xs u ≡ false
+  some_runs-no xs u h = list_any_none (runs from to u) xs (λ k d l. runs-no u (get_or xs k d) (h k d l))
 
-  pub busy-zero : (xs : List X) → busy xs 0 ≡ 0
+  pub busy-zero : (xs : List X) → busy from to xs 0 ≡ 0
   busy-zero xs = refl
 
-  busy-add : (xs : List X) (a b : ℕ) → a ≤ b → busy xs b ≡ busy xs a + total_below (b - a) (λ i. cond (some_runs xs (a + i)) 1 0)
-  busy-add xs a b h = ap (busy xs) (split a b h) ∙ total_below-split a (b - a) (λ u. cond (some_runs xs u) 1 0)
+  busy-add : (xs : List X) (a b : ℕ) → a ≤ b → busy from to xs b ≡ busy from to xs a + total_below (b - a) (λ i. cond (some_runs from to xs (a + i)) 1 0)
+  busy-add xs a b h = ap (busy from to xs) (split a b h) ∙ total_below-split a (b - a) (λ u. cond (some_runs from to xs u) 1 0)
     where
       split : (a b : ℕ) → a ≤ b → b ≡ a + (b - a)
       split a b h = omega arith
 
-  pub busy-mono : (xs : List X) (a b : ℕ) → a ≤ b → busy xs a ≤ busy xs b
+  pub busy-mono : (xs : List X) (a b : ℕ) → a ≤ b → busy from to xs a ≤ busy from to xs b
   busy-mono xs a b h = omega (arith, busy-add xs a b h)
 
-  pub busy-le : (xs : List X) (t : ℕ) → busy xs t ≤ t
-  busy-le xs t = omega (arith, total_below-bound t 1 (λ u. cond (some_runs xs u) 1 0) (λ u l. cond-le (some_runs xs u) 1))
+  pub busy-le : (xs : List X) (t : ℕ) → busy from to xs t ≤ t
+  busy-le xs t = omega (arith, total_below-bound t 1 (λ u. cond (some_runs from to xs u) 1 0) (λ u l. cond-le (some_runs from to xs u) 1))
 
   -- over a stretch that an element fills it grows as time does
-  pub busy-runs : (xs : List X) (q : X) → Contains xs q → (a b : ℕ) → from q ≤ a → a ≤ b → b ≤ to q → busy xs b ≡ busy xs a + (b - a)
+  pub busy-runs : (xs : List X) (q : X) → Contains xs q → (a b : ℕ) → from q ≤ a → a ≤ b → b ≤ to q → busy from to xs b ≡ busy from to xs a + (b - a)
   busy-runs xs q c a b h k l =
-      busy-add xs a b k ∙ ap (λ n. busy xs a + n) (total_below-same (b - a) _ (λ _. 1) (λ i m. ap (λ t. cond t 1 0) (some_runs-yes xs (a + i) q c (omega arith) (omega arith))) ∙ total_below-constant (b - a) 1 ∙ once (b - a))
+      busy-add xs a b k ∙ ap (λ n. busy from to xs a + n) (total_below-same (b - a) _ (λ _. 1) (λ i m. ap (λ t. cond t 1 0) (some_runs-yes xs (a + i) q c (omega arith) (omega arith))) ∙ total_below-constant (b - a) 1 ∙ once (b - a))
     where
       once : (n : ℕ) → n * 1 ≡ n
       once n = omega arith
 
   -- over a stretch at which none runs it stays
-  pub busy-idle : (xs : List X) (a b : ℕ) → a ≤ b → All (λ q. (to q ≤ a) ⊎ (b ≤ from q)) xs → busy xs b ≡ busy xs a
+  pub busy-idle : (xs : List X) (a b : ℕ) → a ≤ b → All (λ q. (to q ≤ a) ⊎ (b ≤ from q)) xs → busy from to xs b ≡ busy from to xs a
   busy-idle xs a b k h =
-      busy-add xs a b k ∙ ap (λ n. busy xs a + n) (total_below-none (b - a) _ (λ i m. ap (λ t. cond t 1 0) (some_runs-no xs (a + i) (λ j d l. outside a b i (from (get_or xs j d)) (to (get_or xs j d)) m (h j d l))))) ∙ add-zero (busy xs a)
+      busy-add xs a b k ∙ ap (λ n. busy from to xs a + n) (total_below-none (b - a) _ (λ i m. ap (λ t. cond t 1 0) (some_runs-no xs (a + i) (λ j d l. outside a b i (from (get_or xs j d)) (to (get_or xs j d)) m (h j d l))))) ∙ add-zero (busy from to xs a)
     where
       outside : (a b i u v : ℕ) → i < b - a → (v ≤ a) ⊎ (b ≤ u) → (a + i < u) ⊎ (v ≤ a + i)
       outside a b i u v m (inl h) = inr (omega arith)
@@ -94,31 +84,31 @@ module _ {X : Type 0} (from to : X → ℕ) where
       add-zero n = omega arith
 
   -- one element runs as long as it lasts
-  runs-length : (q : X) (t : ℕ) → total_below t (λ u. cond (runs u q) 1 0) ≤ min t (to q) - from q
+  runs-length : (q : X) (t : ℕ) → total_below t (λ u. cond (runs from to u q) 1 0) ≤ min t (to q) - from q
   runs-length q zero = omega arith
   runs-length q (suc t) = by (leb (from q) t) refl (ltb t (to q)) refl (runs-length q t)
     where
-      by : (b : Bool) → leb (from q) t ≡ b → (c : Bool) → ltb t (to q) ≡ c → total_below t (λ u. cond (runs u q) 1 0) ≤ min t (to q) - from q → total_below t (λ u. cond (runs u q) 1 0) + cond (b && c) 1 0 ≤ min (suc t) (to q) - from q
+      by : (b : Bool) → leb (from q) t ≡ b → (c : Bool) → ltb t (to q) ≡ c → total_below t (λ u. cond (runs from to u q) 1 0) ≤ min t (to q) - from q → total_below t (λ u. cond (runs from to u q) 1 0) + cond (b && c) 1 0 ≤ min (suc t) (to q) - from q
       by true e true f h = omega (arith, leb-true _ _ e, ltb-true _ _ f)
       by true e false f h = omega (arith, ltb-false _ _ f)
       by false e c f h = omega (arith, leb-false _ _ e)
 
-  some_runs-sum : (xs : List X) (u : ℕ) → cond (some_runs xs u) 1 0 ≤ sum_by (λ q. cond (runs u q) 1 0) xs
+  some_runs-sum : (xs : List X) (u : ℕ) → cond (some_runs from to xs u) 1 0 ≤ sum_by (λ q. cond (runs from to u q) 1 0) xs
   some_runs-sum [] u = omega arith
-  some_runs-sum (x ∷ xs) u = by (runs u x) (some_runs xs u) (some_runs-sum xs u) (sum_by-cons (λ q. cond (runs u q) 1 0) x xs)
+  some_runs-sum (x ∷ xs) u = by (runs from to u x) (some_runs from to xs u) (some_runs-sum xs u) (sum_by-cons (λ q. cond (runs from to u q) 1 0) x xs)
     where
       by : (b c : Bool) {m n : ℕ} → cond c 1 0 ≤ m → n ≡ cond b 1 0 + m → cond (b || c) 1 0 ≤ n
       by true c h e = omega arith
       by false c h e = omega arith
 
   -- the elements last at least as long together as some of them runs
-  pub busy-lengths : (xs : List X) (t : ℕ) → busy xs t ≤ sum_by (size_of from to) xs
+  pub busy-lengths : (xs : List X) (t : ℕ) → busy from to xs t ≤ sum_by (size_of from to) xs
   busy-lengths xs t =
       omega (
         arith,
-        total_below-mono t (λ u. cond (some_runs xs u) 1 0) (λ u. sum_by (λ q. cond (runs u q) 1 0) xs) (λ u l. some_runs-sum xs u),
-        sum_by-total_below (λ q u. cond (runs u q) 1 0) t xs,
-        sum_by-mono (λ q. total_below t (λ u. cond (runs u q) 1 0)) (size_of from to) xs (λ k d l. let q = get_or xs k d in omega (arith, runs-length q t)),
+        total_below-mono t (λ u. cond (some_runs from to xs u) 1 0) (λ u. sum_by (λ q. cond (runs from to u q) 1 0) xs) (λ u l. some_runs-sum xs u),
+        sum_by-total_below (λ q u. cond (runs from to u q) 1 0) t xs,
+        sum_by-mono (λ q. total_below t (λ u. cond (runs from to u q) 1 0)) (size_of from to) xs (λ k d l. let q = get_or xs k d in omega (arith, runs-length q t)),
       )
 
   -- ---- a sweep over the elements in the order in which they begin
@@ -129,7 +119,7 @@ module _ {X : Type 0} (from to : X → ℕ) where
   -- k of them are done: they end by `reach`, before which `idle` moments are idle
   pub record IsSwept (xs : List X) (k reach idle : ℕ) : Type 0 where
     pub ends : (i : ℕ) (d : X) → i < k → i < length xs → to (get_or xs i d) ≤ reach
-    pub idle_is : busy xs reach + idle ≡ reach
+    pub idle_is : busy from to xs reach + idle ≡ reach
     pub attained : Attains xs k reach
 
   pub IsSwept-none : (xs : List X) → IsSwept xs 0 0 0
@@ -137,8 +127,8 @@ module _ {X : Type 0} (from to : X → ℕ) where
 
   -- what the next one adds to the idle moments, and what is busy before it and by its end
   pub record IsSweepStep (xs : List X) (k reach idle : ℕ) (p : X) (new : ℕ) : Type 0 where
-    pub begins : busy xs (from p) + new ≡ from p
-    pub finishes : busy xs (to p) + new ≡ to p
+    pub begins : busy from to xs (from p) + new ≡ from p
+    pub finishes : busy from to xs (to p) + new ≡ to p
     pub next : IsSwept xs (k + 1) (max reach (to p)) new
 
   module _ (xs : List X) (rises : AllPairs (λ x y. from x ≤ from y) xs) (lasts : All (λ q. from q < to q) xs) (k reach idle : ℕ) (d : X) (inside : k < length xs) (so_far : IsSwept xs k reach idle) where
@@ -154,11 +144,11 @@ module _ {X : Type 0} (from to : X → ℕ) where
     abbrev new : ℕ
     new = idle + (from p - reach)
 
-    begins : busy xs (from p) + new ≡ from p
+    begins : busy from to xs (from p) + new ≡ from p
     begins = elim (cases_lt reach (from p)) [
       | inl after ↦ omega (arith, busy-idle xs reach (from p) (omega arith) (λ i c m. elim (cases_lt i k) [ inl done ↦ inl (so_far.ends i c done m) | inr past ↦ inr (later i c (omega arith) m) ]), so_far.idle_is, after)
       | inr before ↦ elim so_far.attained [
-        | inl none ↦ omega (arith, so_far.idle_is, ap (busy xs) none, ap (busy xs) (zero_from none before))
+        | inl none ↦ omega (arith, so_far.idle_is, ap (busy from to xs) none, ap (busy from to xs) (zero_from none before))
         | inr found ↦ let (q, c, e, h) = found in omega (arith, so_far.idle_is, busy-runs xs q c (from p) reach (h k d (omega arith) inside) (omega arith) (omega (arith, e)), before)
       ]
     ]
@@ -169,13 +159,13 @@ module _ {X : Type 0} (from to : X → ℕ) where
     lasts_here : from p < to p
     lasts_here = lasts k d inside
 
-    finishes : busy xs (to p) + new ≡ to p
+    finishes : busy from to xs (to p) + new ≡ to p
     finishes = omega (arith, begins, lasts_here, busy-runs xs p (Contains-get_or xs k d inside) (from p) (to p) (omega arith) (omega (arith, lasts_here)) (omega arith))
 
-    next_reach : (busy xs (max reach (to p)) + new ≡ max reach (to p)) × Attains xs (k + 1) (max reach (to p))
+    next_reach : (busy from to xs (max reach (to p)) + new ≡ max reach (to p)) × Attains xs (k + 1) (max reach (to p))
     next_reach = elim (cases_lt reach (to p)) [
-      | inl after ↦ let e : to p ≡ max reach (to p) = omega arith in (subst (λ r. busy xs r + new ≡ r) e finishes, subst (Attains xs (k + 1)) e (inr (p, Contains-get_or xs k d inside, refl, λ i c l m. later i c (omega arith) m)))
-      | inr before ↦ let e : reach ≡ max reach (to p) = omega arith in (subst (λ r. busy xs r + new ≡ r) e (omega (arith, so_far.idle_is, before, lasts_here)), subst (Attains xs (k + 1)) e (kept so_far.attained))
+      | inl after ↦ let e : to p ≡ max reach (to p) = omega arith in (subst (λ r. busy from to xs r + new ≡ r) e finishes, subst (Attains xs (k + 1)) e (inr (p, Contains-get_or xs k d inside, refl, λ i c l m. later i c (omega arith) m)))
+      | inr before ↦ let e : reach ≡ max reach (to p) = omega arith in (subst (λ r. busy from to xs r + new ≡ r) e (omega (arith, so_far.idle_is, before, lasts_here)), subst (Attains xs (k + 1)) e (kept so_far.attained))
     ]
       where
         kept : Attains xs k reach → Attains xs (k + 1) reach
@@ -197,9 +187,6 @@ module _ {X : Type 0} (from to : X → ℕ) where
     }
 
 -- ---- pieces, with moments e times as long
-abbrev pub busy_moment : ℕ → List Piece → ℤ → ℤ
-busy_moment e ps x = pos e *ℤ pos (busy start finish ps (nat_abs x))
-
 module _ (e : ℕ) (ps : List Piece) where
   pub Stretches-busy : 1 ≤ e → All Lasts ps → Stretches ps (pos e) (busy_moment e ps)
   Stretches-busy some lasts = record {

@@ -24,14 +24,15 @@ use Rattle.msp_instance.proofs.ListingLemmas.{list_any-from_Contains, Contains-f
 use Rattle.msp_instance.proofs.CycleLemmas.{OnceBelow-from_sequence}
 use Rattle.msp_schedule.specs.declared.Piece.{Piece}
 use Rattle.msp_schedule.specs.declared.Schedule.{Schedule}
-use Rattle.msp_schedule.specs.Piece.{IsBefore}
+use Rattle.msp_schedule.specs.Piece.{IsBefore, job_of, start, finish, IsTimed}
 use Rattle.msp_schedule.specs.Feasible.{Feasible}
 use Rattle.msp_schedule.specs.Cost.{job_cost, end_of, cost_of, Best}
-use Rattle.msp_schedule.proofs.Intervals.{work_of, last_of, last_of-bound, last_of-reached, piece_of, last_job}
-use Rattle.msp_schedule.proofs.OneMachine.{job_of, start, finish, IsTimed, IsOneMachine, IsOneMachine-from_env, IsPlan, IsPlan-from_feasible, last_end-is}
-use Rattle.msp_schedule.proofs.OneRow.{time_at}
+use Rattle.msp_schedule.specs.Intervals.{work_of}
+use Rattle.msp_schedule.proofs.Intervals.{last_of, last_of-bound, last_of-reached, piece_of, last_job}
+use Rattle.msp_schedule.proofs.OneMachine.{IsOneMachine, IsOneMachine-from_env, IsPlan, IsPlan-from_feasible, last_end-is}
+use Rattle.msp_schedule.specs.Rows.{time_at}
 use Rattle.msp_schedule.proofs.Charges.{job_cost-mono, job_cost-scale, charge_of, cost_of-bound, cost_of-reached}
-use Rattle.msp_schedule.specs.Blocks.{total_time, cost_at, HasNoSuccessor, LeadsToNone, IsSound, LawOfBlocks}
+use Rattle.msp_schedule.specs.Blocks.{total_time, cost_at, HasNoSuccessor, LeadsToNone, IsSound, LawOfBlocks, IsCertified}
 
 -- ---- ranks that rise along the arcs
 abbrev pub Rises : Instance → (ℕ → ℕ) → Type 0
@@ -61,18 +62,6 @@ ranked i (order, sequence, forward) = (place_in order, λ k d l. rise (get_or i.
 
     rise : (a : Arc) → GoesForward order a → place_in order a.before < place_in order a.after
     rise a (p, q, less, hp, hq) = omega (arith, at a.before p hp, at a.after q hq, less)
-
--- ---- what certifies that the job's cost at the moment is owed: all jobs of a list, none of which can begin before a moment, are done at
--- the earliest then, and each of them that no other one follows costs as much
-pub record IsCertified (i : Instance) (heads : ℕ → ℕ) (j moment : ℕ) : Type 0 where
-  pub jobs : List ℕ
-  pub from : ℕ
-  pub some : 0 < length jobs
-  pub inside : All (λ k. k < length i.jobs) jobs
-  pub apart : AllPairs (λ k l. k ≢ l) jobs
-  pub begin : All (λ k. from ≤ heads k) jobs
-  pub whole : moment ≡ from + total_time i jobs
-  pub least : All (λ k. HasNoSuccessor i jobs k → cost_at i j moment ≤ℤ cost_at i k moment) jobs
 
 -- ---- a list without repeats sums to the total of its members
 pub list_total : (f : ℕ → ℕ) (n : ℕ) (xs : List ℕ) → All (λ x. x < n) xs → AllPairs (λ x y. x ≢ y) xs → total_below n (λ k. cond (list_any (λ x. eqb x k) xs) (f k) 0) ≡ sum_by f xs

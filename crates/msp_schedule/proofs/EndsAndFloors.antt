@@ -15,12 +15,13 @@ use Rattle.msp_instance.specs.declared.Instance.{Instance}
 use Rattle.msp_instance.specs.Instance.{need_at}
 use Rattle.msp_schedule.specs.declared.Piece.{Piece}
 use Rattle.msp_schedule.specs.declared.Schedule.{Schedule}
-use Rattle.msp_schedule.specs.Piece.{length_of}
+use Rattle.msp_schedule.specs.Piece.{length_of, job_of, start, finish}
 use Rattle.msp_schedule.specs.Feasible.{Feasible, total}
 use Rattle.msp_schedule.specs.Cost.{end_of}
 use Rattle.msp_schedule.specs.Laws.{time_together, HasRoom, BeginsFrom, EndsLast, LawOfEnds, floor, floored, floored_piece, LawOfFloors}
-use Rattle.msp_schedule.proofs.Intervals.{work_of, last_of, last_of-bound, room, law_of_ends as last_of_all}
-use Rattle.msp_schedule.proofs.OneMachine.{job_of, start, finish, timed_pieces, machines_below, apart_on_machines, full_work, last_end-is}
+use Rattle.msp_schedule.specs.Intervals.{work_of}
+use Rattle.msp_schedule.proofs.Intervals.{last_of, last_of-bound, room, law_of_ends as last_of_all}
+use Rattle.msp_schedule.proofs.OneMachine.{timed_pieces, machines_below, apart_on_machines, full_work, last_end-is}
 use Rattle.msp_schedule.proofs.LastEnds.{last_end-bound, last_end-natural}
 use Rattle.msp_schedule.proofs.Frames.{Frame, frame_by, Stands, Fits, IsShaped, IsShaped-from_identical, of_operation, part, Fits-from_feasible}
 use Rattle.msp_schedule.proofs.Transport.{Carries, carried, carried_schedule, Feasible-carried, end_of-carried}

@@ -12,14 +12,16 @@ use Rattle.msp_instance.specs.Instance.{job_at}
 use Rattle.msp_schedule.specs.declared.Schedule.{Schedule}
 use Rattle.msp_schedule.specs.Feasible.{Feasible}
 use Rattle.msp_schedule.specs.Cost.{cost_of, end_of}
-use Rattle.msp_schedule.proofs.Sequences.{seq, seq-later, seq-append}
+use Rattle.msp_schedule.specs.Rows.{seq, piece, time_at}
+use Rattle.msp_schedule.proofs.Sequences.{seq-later, seq-append}
 use Rattle.msp_schedule.proofs.Rows.{last-seq_below}
 use Rattle.msp_schedule.proofs.OneMachine.{weighted_cost}
-use Rattle.msp_schedule.proofs.OneRow.{piece, piece_makes, time_at, row-timed}
+use Rattle.msp_schedule.proofs.OneRow.{piece_makes, row-timed}
 use Rattle.msp_schedule.proofs.Mirror.{turned}
 use Rattle.msp_schedule.proofs.Charges.{SameCharges-from_jobs}
 use Rattle.msp_schedule.proofs.Series.{AllPairs-append, MayPrecede}
-use Rattle.msp_schedule.proofs.LineUp.{IsLine, lined_up, Feasible-lined_up, positive, SameLine-refl, cost-lined_up, forward_by_ends, loose_by_ends}
+use Rattle.msp_schedule.specs.LineUp.{lined_up}
+use Rattle.msp_schedule.proofs.LineUp.{IsLine, Feasible-lined_up, positive, SameLine-refl, cost-lined_up, forward_by_ends, loose_by_ends}
 
 -- ---- orders read from their ends
 reverse-cons : {X : Type 0} (x : X) (xs : List X) → reverse (x ∷ xs) ≡ reverse xs ++ x ∷ []

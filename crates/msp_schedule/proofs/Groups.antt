@@ -11,9 +11,11 @@ use Rattle.msp_schedule.specs.declared.Schedule.{Schedule}
 use Rattle.msp_schedule.specs.Feasible.{Feasible}
 use Rattle.msp_schedule.specs.Cost.{end_of}
 use Rattle.msp_schedule.specs.Laws.{time_together, HasRoom, EndsLast, jobs_together, HasTimeFor, LawOfGroups}
-use Rattle.msp_schedule.proofs.Intervals.{IsApartOn, apart_on_each, packed, last_of, greatest_by-bound, greatest_below, greatest_below-bound, greatest_below-reached}
-use Rattle.msp_schedule.proofs.OneMachine.{job_of, start, finish, apart_in_nat, timed_pieces, full_work, last_end-is}
-use Rattle.msp_schedule.proofs.OneRow.{time_at}
+use Rattle.msp_schedule.specs.Intervals.{IsApartOn}
+use Rattle.msp_schedule.proofs.Intervals.{apart_on_each, packed, last_of, greatest_by-bound, greatest_below, greatest_below-bound, greatest_below-reached}
+use Rattle.msp_schedule.specs.Piece.{job_of, start, finish}
+use Rattle.msp_schedule.proofs.OneMachine.{apart_in_nat, timed_pieces, full_work, last_end-is}
+use Rattle.msp_schedule.specs.Rows.{time_at}
 use Rattle.msp_schedule.proofs.EndsAndFloors.{law_of_ends}
 
 module _ (i : Instance) (kind : kind_of i.class.env ≡ Identical) (s : Schedule) (f : Feasible i s) where

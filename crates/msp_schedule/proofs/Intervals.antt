@@ -5,6 +5,7 @@ use Rattle.std.proofs.lemmas.List.Elements.{All-filter, filter_passes, All-nil, 
 use Rattle.std.proofs.lemmas.List.Kept.{AllPairs-filter}
 use Rattle.std.proofs.lemmas.Bool.{eqb-true, leb-true, leb-false, eqb-false, eq-eqb}
 use Rattle.msp_class.proofs.Sums.{sum_by-mono, sum_by-same, sum_by-add, sum_by-filter, sum_by-by_key_filter, sum_by-by_key_test, total_below, total_below-some, cond-yes, total_below-bound, AllPairs-head, AllPairs-tail, Contains-filter, Contains-from_filter, sum_by-some}
+use Rattle.msp_schedule.specs.Intervals.{size_of, IsApart, IsApartOn, work_of}
 
 -- ---- two intervals
 -- how long [u, v) and [a, b) overlap
@@ -47,17 +48,9 @@ empty : (x y a b s : ℕ) → y < x → s ≤ b - a → overlap x y a b + s ≤ 
 empty x y a b s h k = omega arith
 
 -- ---- pieces: elements of any type with the moments at which they begin and end
--- of two pieces one ends no later than the other begins
-abbrev pub IsApart : {X : Type 0} → (X → ℕ) → (X → ℕ) → X → X → Type 0
-IsApart from to p q = (to p ≤ from q) ⊎ (to q ≤ from p)
-
 -- how much of [a, b) a piece fills
 abbrev pub overlap_of : {X : Type 0} → (X → ℕ) → (X → ℕ) → ℕ → ℕ → X → ℕ
 overlap_of from to a b q = overlap (from q) (to q) a b
-
--- how long a piece is
-abbrev pub size_of : {X : Type 0} → (X → ℕ) → (X → ℕ) → X → ℕ
-size_of from to q = to q - from q
 
 -- pieces that are apart fill no more of [a, b) than it holds
 pub packing : {X : Type 0} (from to : X → ℕ) (a b : ℕ) (xs : List X) → AllPairs (IsApart from to) xs → sum_by (overlap_of from to a b) xs ≤ b - a
@@ -89,10 +82,6 @@ pub packed : {X : Type 0} (from to : X → ℕ) (a b : ℕ) (xs : List X) → Al
 packed from to a b xs h inside = subst (λ n. n ≤ b - a) (sum_by-same (overlap_of from to a b) (size_of from to) xs (λ k d l. let i = inside k d l in overlap-inside i.0 i.1)) (packing from to a b xs h)
 
 -- ---- pieces by machine and job
--- pieces of one machine are apart
-abbrev pub IsApartOn : {X : Type 0} → (X → ℕ) → (X → ℕ) → (X → ℕ) → X → X → Type 0
-IsApartOn machine from to p q = machine p ≡ machine q → IsApart from to p q
-
 -- on one machine, and on each of several
 pub apart_from_one : {X : Type 0} (machine from to : X → ℕ) (μ : ℕ) (xs : List X) → All (λ q. machine q ≡ μ) xs → AllPairs (IsApartOn machine from to) xs → AllPairs (IsApart from to) xs
 apart_from_one machine from to μ xs on h i j d a b = h i j d a b (on i d (omega arith) ∙ sym (on j d b))
@@ -101,10 +90,6 @@ pub apart_on_each : {X : Type 0} (machine from to : X → ℕ) (μ : ℕ) (xs : 
 apart_on_each machine from to μ xs h =
     let on = λ (q : _). eqb (machine q) μ in
     apart_from_one machine from to μ (filter on xs) (λ k d l. eqb-true _ _ (filter_passes on xs k d l)) (AllPairs-filter (IsApartOn machine from to) on xs h)
-
--- how long the pieces of job j last together
-abbrev pub work_of : {X : Type 0} → (X → ℕ) → (X → ℕ) → (X → ℕ) → List X → ℕ → ℕ
-work_of job from to xs j = sum_by (size_of from to) (filter (λ q. eqb (job q) j) xs)
 
 -- the work on the jobs that pass a test, by job
 pub work_by_job : {X : Type 0} (job from to : X → ℕ) (test : ℕ → Bool) (n : ℕ) (xs : List X) → All (λ q. job q < n) xs → sum_by (size_of from to) (filter (λ q. test (job q)) xs) ≡ total_below n (λ j. cond (test j) (work_of job from to xs j) 0)

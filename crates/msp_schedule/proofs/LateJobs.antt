@@ -21,7 +21,7 @@ use Rattle.msp_schedule.specs.Laws.{time_together, HasRoom}
 use Rattle.msp_schedule.proofs.Charges.{charge_of, cost_of-sum}
 use Rattle.msp_schedule.proofs.LastEnds.{last_end-natural}
 use Rattle.msp_schedule.proofs.OneMachine.{IsOneMachine}
-use Rattle.msp_schedule.proofs.OneRow.{time_at}
+use Rattle.msp_schedule.specs.Rows.{time_at}
 use Rattle.msp_schedule.proofs.Rows.{end_in}
 use Rattle.msp_schedule.proofs.EndsAndFloors.{law_of_ends}
 use Rattle.msp_schedule.proofs.Parts.{All-front, All-back, AllPairs-front, AllPairs-last}

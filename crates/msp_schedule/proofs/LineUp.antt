@@ -18,22 +18,21 @@ use Rattle.msp_instance.specs.declared.Instance.{Instance}
 use Rattle.msp_instance.specs.Instance.{no_job, no_need, job_at, need_at}
 use Rattle.msp_instance.specs.Conditions.{Limits, MeetsConditions, HasShape, HasTimes, least_time, greatest_time}
 use Rattle.msp_schedule.specs.declared.Schedule.{Schedule}
-use Rattle.msp_schedule.specs.Piece.{IsBefore}
+use Rattle.msp_schedule.specs.Piece.{IsBefore, job_of, start, finish, IsTimed}
 use Rattle.msp_schedule.specs.Feasible.{Feasible}
 use Rattle.msp_schedule.specs.Cost.{cost_of, last_end, end_of}
-use Rattle.msp_schedule.proofs.Intervals.{IsApart, last_of, last_of-bound}
+use Rattle.msp_schedule.specs.Intervals.{IsApart}
+use Rattle.msp_schedule.proofs.Intervals.{last_of, last_of-bound}
 use Rattle.msp_schedule.proofs.Sequences.{done_by, ends_cover_work}
-use Rattle.msp_schedule.proofs.Rows.{row, end_in, row-last}
-use Rattle.msp_schedule.proofs.OneMachine.{job_of, start, finish, IsTimed, IsOneMachine, IsOneMachine-from_env, IsPlan, IsPlan-from_feasible, last_end-is}
-use Rattle.msp_schedule.proofs.OneRow.{piece, piece_makes, time_at, row-timed}
+use Rattle.msp_schedule.specs.Rows.{row, piece, time_at}
+use Rattle.msp_schedule.proofs.Rows.{end_in, row-last}
+use Rattle.msp_schedule.proofs.OneMachine.{IsOneMachine, IsOneMachine-from_env, IsPlan, IsPlan-from_feasible, last_end-is}
+use Rattle.msp_schedule.proofs.OneRow.{piece_makes, row-timed}
 use Rattle.msp_schedule.proofs.Frames.{frame_by, Lasts, Fits, HasWork, IsShaped-from_identical, piece_of, Fits-from_feasible, Feasible-from_fits}
 use Rattle.msp_schedule.proofs.LastEnds.{last_end-contains, last_end-reached}
 use Rattle.msp_schedule.proofs.Charges.{SameCharges, cost-by_ends, cost-same_charges}
 use Rattle.msp_schedule.proofs.Series.{IsSerial, MayPrecede, tasks, piece_on, Fits-series}
-
--- the jobs of a list over the unit D, on machine 0 from moment 0 without gaps
-abbrev pub lined_up : Instance → ℕ → List ℕ → Schedule
-lined_up i D order = record { unit = pos D; pieces = row piece (λ j. D * time_at i j) 0 order }
+use Rattle.msp_schedule.specs.LineUp.{lined_up, insert_by, sorted_by, order_of_ends}
 
 -- one machine, jobs that take time, and arcs between them
 pub record IsLine (i : Instance) : Type 0 where
@@ -233,18 +232,6 @@ module _ (i j : Instance) (line : IsLine i) (other : IsLine j) (same : SameLine 
       ≤ℤ_trans (cost-by_ends j lined s (sym unit_is) (pos-le (omega arith)) (λ k l. end_of-by_ends k (omega (arith, same.count, l)))) (≤ℤ_of_same (sym (cost-same_charges i j s h f.unit)))
 
 -- ---- an order of the jobs by the ends
--- the number put before the first one that ends later or together
-abbrev pub insert_by : (ℕ → ℤ) → ℕ → List ℕ → List ℕ
-insert_by f x [] = x ∷ []
-insert_by f x (y ∷ ys) = if int_lt (f y) (f x) then y ∷ insert_by f x ys else x ∷ y ∷ ys
-
-abbrev pub sorted_by : (ℕ → ℤ) → List ℕ → List ℕ
-sorted_by f [] = []
-sorted_by f (x ∷ xs) = insert_by f x (sorted_by f xs)
-
-abbrev pub order_of_ends : Instance → Schedule → List ℕ
-order_of_ends i s = sorted_by (end_of s) (range_with_len 0 (length i.jobs))
-
 module _ (f : ℕ → ℤ) where
   abbrev Rises : ℕ → ℕ → Type 0
   Rises a b = f a ≤ℤ f b

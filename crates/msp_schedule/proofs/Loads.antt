@@ -14,13 +14,14 @@ use Rattle.msp_instance.specs.declared.Instance.{Instance}
 use Rattle.msp_instance.specs.Instance.{no_need, no_job, job_at, need_at}
 use Rattle.msp_schedule.specs.declared.Piece.{Piece}
 use Rattle.msp_schedule.specs.declared.Schedule.{Schedule}
-use Rattle.msp_schedule.specs.Piece.{length_of}
+use Rattle.msp_schedule.specs.Piece.{length_of, job_of, start, finish, IsTimed}
 use Rattle.msp_schedule.specs.Feasible.{Feasible, HasOperation, MayRun, total, whole_work}
 use Rattle.msp_schedule.specs.Cost.{end_of}
 use Rattle.msp_schedule.specs.Loads.{machine_load, job_length, LawOfMachines, LawOfLines}
 use Rattle.msp_schedule.proofs.Places.{sum_by-places, filter-both}
-use Rattle.msp_schedule.proofs.Intervals.{IsApartOn, apart_on_each, packed, size_of, last_of, greatest_by-bound}
-use Rattle.msp_schedule.proofs.OneMachine.{job_of, start, finish, IsTimed, IsTimed-from_span, apart_in_nat, total_lengths, last_end-is}
+use Rattle.msp_schedule.specs.Intervals.{IsApartOn, size_of}
+use Rattle.msp_schedule.proofs.Intervals.{apart_on_each, packed, last_of, greatest_by-bound}
+use Rattle.msp_schedule.proofs.OneMachine.{IsTimed-from_span, apart_in_nat, total_lengths, last_end-is}
 use Rattle.msp_schedule.proofs.LastEnds.{last_end-bound}
 use Rattle.msp_schedule.proofs.Frames.{Fits, Fits-from_feasible, frame_of, rate_on, part, of_operation, map-same}
 

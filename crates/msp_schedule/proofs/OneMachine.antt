@@ -14,34 +14,20 @@ use Rattle.msp_class.specs.declared.class.Crit.{Crit}
 use Rattle.msp_class.specs.declared.class.Crit.TheVariants.{SumWC}
 use Rattle.msp_class.specs.Env.{fixed_machines, kind_of}
 use Rattle.msp_class.proofs.IntegerRing.{natural, pos-same}
-use Rattle.msp_schedule.proofs.Intervals.{IsApart, IsApartOn, apart_from_one, size_of, work_of, last_of, greatest_by}
+use Rattle.msp_schedule.specs.Intervals.{IsApart, IsApartOn, size_of, work_of}
+use Rattle.msp_schedule.proofs.Intervals.{apart_from_one, last_of, greatest_by}
 use Rattle.msp_class.proofs.Sums.{total_below, int_total_below, int_total_below-same, int_total_below-natural}
 use Rattle.msp_instance.specs.declared.Instance.{Instance}
 use Rattle.msp_instance.specs.Instance.{no_job, job_at, need_at}
 use Rattle.msp_instance.specs.Conditions.{Limits, MeetsConditions}
 use Rattle.msp_schedule.specs.declared.Piece.{Piece}
 use Rattle.msp_schedule.specs.declared.Schedule.{Schedule}
-use Rattle.msp_schedule.specs.Piece.{length_of, pieces_of, IsApart as AreApart}
+use Rattle.msp_schedule.specs.Piece.{length_of, pieces_of, IsApart as AreApart, job_of, start, finish, IsTimed}
 use Rattle.msp_schedule.specs.Feasible.{Feasible, HasOperation, MayRun, IsWholeWork, total, whole_work, work_of as part_of}
 use Rattle.msp_schedule.specs.Cost.{last_end, end_of, job_cost, job_costs, combined, cost_of}
 use Rattle.msp_schedule.proofs.Costs.{length-job_costs, get_or-job_costs}
 
 -- ---- pieces in ℕ
-abbrev pub job_of : Piece → ℕ
-job_of p = p.job
-
-abbrev pub start : Piece → ℕ
-start p = nat_abs p.from
-
-abbrev pub finish : Piece → ℕ
-finish p = nat_abs p.to
-
--- the piece begins and ends at natural numbers, and lasts
-pub record IsTimed (p : Piece) : Type 0 where
-  pub from : p.from ≡ pos (start p)
-  pub to : p.to ≡ pos (finish p)
-  pub lasts : start p < finish p
-
 pub IsTimed-from_span : (p : Piece) → (pos 0 ≤ℤ p.from) × (p.from <ℤ p.to) → IsTimed p
 IsTimed-from_span p h = record { from = natural p.from h.0; to = natural p.to (omega (arith, ints)); lasts = omega (arith, ints) }
 

@@ -10,29 +10,21 @@ use Rattle.msp_class.specs.declared.environments.EnvKind.{EnvKind}
 use Rattle.msp_class.specs.declared.environments.EnvKind.TheVariants.{Identical, Unrelated}
 use Rattle.msp_class.specs.Env.{kind_of}
 use Rattle.msp_class.proofs.Sums.{sum_by-mono, sum_by-constant, OnceBelow, OnceBelow-distinct, OnceBelow-contains, length-OnceBelow}
-use Rattle.msp_schedule.proofs.Rows.{row, Makes, begin_in, end_in, end_in-begin, length-row, row-All, row-to, row-in_order, row-made, row-positive, row-filter}
+use Rattle.msp_schedule.specs.Rows.{row, piece, time_at, row_schedule}
+use Rattle.msp_schedule.proofs.Rows.{Makes, begin_in, end_in, end_in-begin, length-row, row-All, row-to, row-in_order, row-made, row-positive, row-filter}
 use Rattle.msp_instance.specs.declared.Instance.{Instance}
-use Rattle.msp_instance.specs.Instance.{job_at, need_at}
+use Rattle.msp_instance.specs.Instance.{job_at}
 use Rattle.msp_schedule.specs.declared.Piece.{Piece}
-use Rattle.msp_schedule.specs.declared.Schedule.{Schedule}
 use Rattle.msp_schedule.specs.declared.Frac.{Frac}
 use Rattle.msp_schedule.specs.Fraction.{IsOver, IsLowest}
-use Rattle.msp_schedule.specs.Piece.{length_of, pieces_of, IsBefore, IsApart as AreApart}
+use Rattle.msp_schedule.specs.Piece.{length_of, pieces_of, IsBefore, IsApart as AreApart, job_of, start, finish, IsTimed}
 use Rattle.msp_schedule.specs.Feasible.{Feasible, HasPlace, HasOperation, MayRun, FollowsRoute, IsWholeWork, GetsWork, total, whole_work, work_of as part_of}
 use Rattle.msp_schedule.specs.Settled.{IsSettled}
 use Rattle.msp_schedule.specs.Within.{IsMoment, Within}
-use Rattle.msp_schedule.proofs.OneMachine.{job_of, start, finish, IsTimed, pieces_of-job, IsOneMachine}
-
--- job j on machine 0 from a to b
-abbrev pub piece : ℕ → ℕ → ℕ → Piece
-piece j a b = record { job = j; op = 0; machine = 0; from = pos a; to = pos b }
+use Rattle.msp_schedule.proofs.OneMachine.{pieces_of-job, IsOneMachine}
 
 pub piece_makes : Makes piece job_of start finish
 piece_makes = record { job_is = λ j a b. refl; from_is = λ j a b. refl; to_is = λ j a b. refl }
-
--- the times of the jobs' one operation
-abbrev pub time_at : Instance → ℕ → ℕ
-time_at i j = (need_at i j 0).time
 
 pub row-timed : (p : ℕ → ℕ) (t : ℕ) (js : List ℕ) → All (λ j. 0 < p j) js → All IsTimed (row piece p t js)
 row-timed p t js h k d l =
@@ -44,10 +36,6 @@ row-machine p t js k d l = ap (λ q. q.machine) (row-made piece p piece_makes t 
 
 pub row-op : (p : ℕ → ℕ) (t : ℕ) (js : List ℕ) → All (λ q. q.op ≡ 0) (row piece p t js)
 row-op p t js k d l = ap (λ q. q.op) (row-made piece p piece_makes t js k d l)
-
--- a row has the unit 1
-abbrev pub row_schedule : Instance → List ℕ → Schedule
-row_schedule i order = record { unit = pos 1; pieces = row piece (time_at i) 0 order }
 
 module _ (i : Instance) (order : List ℕ) (o : OnceBelow (length i.jobs) order) (some : (j : ℕ) → j < length i.jobs → 0 < time_at i j) where
   abbrev pieces : List Piece

@@ -15,7 +15,8 @@ use Rattle.msp_schedule.specs.declared.Schedule.{Schedule}
 use Rattle.msp_schedule.specs.Feasible.{Feasible, HasOperation, MayRun, IsWholeWork, total}
 use Rattle.msp_schedule.specs.Cost.{cost_of}
 use Rattle.msp_schedule.specs.Prices.{ArePrices, prices_on_machine, all_prices, LawOfPrices}
-use Rattle.msp_schedule.proofs.OneMachine.{start, finish, total-below}
+use Rattle.msp_schedule.specs.Piece.{start, finish}
+use Rattle.msp_schedule.proofs.OneMachine.{total-below}
 use Rattle.msp_schedule.proofs.SolePieces.{only_piece, length_in_nat, is_only, only_timed, only_placed, only_apart, sum_of_only_ends}
 use Rattle.msp_schedule.proofs.Positions.{distinct_pairs, position_of, position_of-some, position_of-few, position_of-once, sum_of_ends}
 

@@ -5,13 +5,9 @@ use Rattle.std.proofs.lemmas.List.Elements.{All-nil, All-cons, All-head, All-tai
 use Rattle.std.proofs.lemmas.List.Kept.{AllPairs-cons}
 use Rattle.std.proofs.lemmas.Bool.{eqb-true, eqb-false, eq-eqb, ne_eqb}
 use Rattle.msp_class.proofs.Sums.{sum_by-same, sum_by-scale, sum_by-OnceBelow, sum_by-filter, sum_by-map, total_below, total_below-same, OnceBelow, OnceBelow-distinct, OnceBelow-contains, AllPairs-head, AllPairs-tail, AllPairs-contains, Contains-tail}
-use Rattle.msp_schedule.proofs.Intervals.{IsApart, size_of, work_of, last_of, greatest_by}
-use Rattle.msp_schedule.proofs.Sequences.{seq}
-
--- the row of pieces of the jobs js from the moment t on; in place of jobs there may be anything that takes time
-abbrev pub row : {X P : Type 0} → (X → ℕ → ℕ → P) → (X → ℕ) → ℕ → List X → List P
-row make p t [] = []
-row make p t (j ∷ js) = make j t (t + p j) ∷ row make p (t + p j) js
+use Rattle.msp_schedule.specs.Intervals.{IsApart, size_of, work_of}
+use Rattle.msp_schedule.proofs.Intervals.{last_of, greatest_by}
+use Rattle.msp_schedule.specs.Rows.{seq, row}
 
 -- when job j ends in that row: 0 where it is not in it
 abbrev pub end_in : (ℕ → ℕ) → ℕ → List ℕ → ℕ → ℕ

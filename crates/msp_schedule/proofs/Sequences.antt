@@ -6,12 +6,9 @@ use Rattle.std.proofs.lemmas.Bool.{leb-false, le-leb, false≢true}
 use native.Mathlib.Nat.{le_of_mul-le-mul_left, mul-le-mul_left}
 use Rattle.msp_class.proofs.Sums.{sum_by-mono, sum_by-agree, sum_by-add, sum_by-scale, sum_by-scale_right, sum_by-OnceBelow, total_below, total_below-same, total_below-scale, cond-scale, cond-yes, OnceBelow, OnceBelow-from_permutation, int_total_below, int_total_below-natural, AllPairs-head, AllPairs-tail, AllPairs-from_adjacent}
 use Rattle.msp_class.proofs.IntegerRing.{pos-le}
-use Rattle.msp_schedule.proofs.Intervals.{IsApart, work_of, earlier_ends, last_of, last_of-bound}
-
--- the weighted sum of the ends of the jobs xs in a row from t, where job j takes p j and weighs w j
-abbrev pub seq : {X : Type 0} → (X → ℕ) → (X → ℕ) → ℕ → List X → ℕ
-seq p w t [] = 0
-seq p w t (j ∷ xs) = w j * (t + p j) + seq p w (t + p j) xs
+use Rattle.msp_schedule.specs.Intervals.{IsApart, work_of}
+use Rattle.msp_schedule.proofs.Intervals.{earlier_ends, last_of, last_of-bound}
+use Rattle.msp_schedule.specs.Rows.{seq}
 
 -- how long the jobs of xs take that end no later than j, where job i ends at c i
 abbrev pub done_by : {X : Type 0} → (X → ℕ) → (X → ℕ) → List X → X → ℕ

@@ -10,12 +10,13 @@ use Rattle.msp_class.proofs.Sums.{AllPairs-head, AllPairs-tail, Contains-tail, O
 use Rattle.msp_class.proofs.IntegerRing.{+ℤ_idl, *ℤ-zero}
 use Rattle.msp_instance.specs.declared.Arc.{Arc}
 use Rattle.msp_schedule.specs.declared.Piece.{Piece}
-use Rattle.msp_schedule.specs.Piece.{IsBefore}
+use Rattle.msp_schedule.specs.Piece.{IsBefore, start, finish, IsTimed}
 use Rattle.msp_schedule.specs.Feasible.{total}
-use Rattle.msp_schedule.proofs.OneMachine.{start, finish, IsTimed, both_true}
+use Rattle.msp_schedule.proofs.OneMachine.{both_true}
 use Rattle.msp_schedule.proofs.Moves.{AllPairs-map, Contains-map, filter-map}
 use Rattle.msp_schedule.proofs.Frames.{Frame, Lasts, Stands, Gets, Fits, of_operation, of_one, named_one, part}
-use Rattle.msp_schedule.proofs.Rows.{row, Makes, row-jobs, row-All, row-made, row-sizes, row-to, row-positive, row-in_order, row-arcs}
+use Rattle.msp_schedule.specs.Rows.{row}
+use Rattle.msp_schedule.proofs.Rows.{Makes, row-jobs, row-All, row-made, row-sizes, row-to, row-positive, row-in_order, row-arcs}
 
 -- ---- lists
 pub AllPairs-append : {X : Type 0} (R : X → X → Type 0) (xs ys : List X) → AllPairs R xs → AllPairs R ys → All (λ x. All (R x) ys) xs → AllPairs R (xs ++ ys)

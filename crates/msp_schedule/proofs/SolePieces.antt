@@ -13,12 +13,12 @@ use Rattle.msp_instance.specs.declared.Instance.{Instance}
 use Rattle.msp_instance.specs.Instance.{job_at}
 use Rattle.msp_schedule.specs.declared.Piece.{Piece}
 use Rattle.msp_schedule.specs.declared.Schedule.{Schedule}
-use Rattle.msp_schedule.specs.Piece.{pieces_of, IsApart as AreApart}
+use Rattle.msp_schedule.specs.Piece.{pieces_of, IsApart as AreApart, start, finish, IsTimed}
 use Rattle.msp_schedule.specs.Feasible.{Feasible, HasPlace, HasOperation, IsWholeWork, total, work_of, whole_work}
 use Rattle.msp_schedule.specs.Breaks.{no_piece}
 use Rattle.msp_schedule.specs.Cost.{end_of, job_cost, cost_of}
-use Rattle.msp_schedule.proofs.Intervals.{IsApart}
-use Rattle.msp_schedule.proofs.OneMachine.{start, finish, IsTimed, IsTimed-from_span, apart_in_nat, both_true}
+use Rattle.msp_schedule.specs.Intervals.{IsApart}
+use Rattle.msp_schedule.proofs.OneMachine.{IsTimed-from_span, apart_in_nat, both_true}
 use Rattle.msp_schedule.proofs.LastEnds.{last_end-contains}
 use Rattle.msp_schedule.proofs.Charges.{cost_of-sum, charge_of}
 

@@ -24,7 +24,8 @@ use Rattle.msp_schedule.proofs.Moves.{Suits}
 use Rattle.msp_schedule.proofs.Transport.{Carries, Stretches-identity, carried_all, Fits-carried, last_end-carried}
 use Rattle.msp_schedule.proofs.LastEnds.{last_end-natural}
 use Rattle.msp_schedule.proofs.Charges.{charge_of, cost-pointwise}
-use Rattle.msp_schedule.proofs.Busy.{busy_moment, busy_moment-le, Carries-closed}
+use Rattle.msp_schedule.specs.Busy.{busy_moment}
+use Rattle.msp_schedule.proofs.Busy.{busy_moment-le, Carries-closed}
 
 abbrev pub unit_need : Need → Need
 unit_need n = record n { time = 1 }

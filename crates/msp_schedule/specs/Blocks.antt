@@ -49,6 +49,18 @@ pub record IsBlockValue (i : Instance) (heads jobs : List ℕ) (value : ℤ) : T
   pub reached : Any (λ j. LeadsToNone i jobs j × (value ≡ cost_at i j (begin + total_time i jobs))) jobs
   pub least : All (λ j. LeadsToNone i jobs j → value ≤ℤ cost_at i j (begin + total_time i jobs)) jobs
 
+-- What certifies that the job's cost at the moment is owed: jobs, each once, none of which can begin before a moment, are all done at the
+-- earliest then, and each of them without an arc to another one costs at least as much then.
+pub record IsCertified (i : Instance) (heads : ℕ → ℕ) (j moment : ℕ) : Type 0 where
+  pub jobs : List ℕ
+  pub from : ℕ
+  pub some : 0 < length jobs
+  pub inside : All (λ k. k < length i.jobs) jobs
+  pub apart : AllPairs (λ k l. k ≢ l) jobs
+  pub begin : All (λ k. from ≤ heads k) jobs
+  pub whole : moment ≡ from + total_time i jobs
+  pub least : All (λ k. HasNoSuccessor i jobs k → cost_at i j moment ≤ℤ cost_at i k moment) jobs
+
 -- The law of blocks: on one machine, where the cost is the greatest cost of a job, no feasible schedule costs less than the value of a block.
 abbrev pub LawOfBlocks : Type 0
 LawOfBlocks = (l : Limits) (i : Instance) (s : Schedule) (heads jobs : List ℕ) (value : ℤ) → i.class.env ≡ One → is_greatest i.class.crit ≡ true → MeetsConditions l i → Feasible i s

@@ -1,5 +1,5 @@
 -- How the pieces of a schedule are read.
-use Rattle.std.specs.Prelude.{ℕ, ◌⊎◌, ℤ, ◌-ℤ◌, ◌≤ℤ◌, List, filter, ◌==◌, ◌&&◌}
+use Rattle.std.specs.Prelude.{◌≡◌, ℕ, ◌<◌, ◌⊎◌, ℤ, pos, nat_abs, ◌-ℤ◌, ◌≤ℤ◌, List, filter, ◌==◌, ◌&&◌}
 use Rattle.msp_schedule.specs.declared.Piece.{Piece}
 use Rattle.msp_schedule.specs.declared.Schedule.{Schedule}
 
@@ -18,3 +18,19 @@ IsApart p q = IsBefore p q ⊎ IsBefore q p
 -- The pieces of an operation of a job.
 abbrev pub pieces_of : Schedule → ℕ → ℕ → List Piece
 pieces_of s j o = filter (λ p. (p.job == j) && (p.op == o)) s.pieces
+
+-- The job of a piece, and the moments at which it begins and ends as natural numbers.
+abbrev pub job_of : Piece → ℕ
+job_of p = p.job
+
+abbrev pub start : Piece → ℕ
+start p = nat_abs p.from
+
+abbrev pub finish : Piece → ℕ
+finish p = nat_abs p.to
+
+-- The piece begins and ends at natural numbers, and lasts.
+pub record IsTimed (p : Piece) : Type 0 where
+  pub from : p.from ≡ pos (start p)
+  pub to : p.to ≡ pos (finish p)
+  pub lasts : start p < finish p

@@ -2,7 +2,8 @@
 use Rattle.std.proofs.Common.{◌≡◌, ℕ, ◌+◌, ◌*◌, ◌-◌, ◌≤◌, Bool, true, false, cond, leb, List, get_or, All, AllPairs, sum_by, refl, arith}
 use Rattle.std.proofs.lemmas.Bool.{leb-true}
 use Rattle.msp_class.proofs.Sums.{sum_by-mono, sum_by-add, sum_by-scale}
-use Rattle.msp_schedule.proofs.Intervals.{IsApart, overlap, overlap_of, packing}
+use Rattle.msp_schedule.specs.Intervals.{IsApart}
+use Rattle.msp_schedule.proofs.Intervals.{overlap, overlap_of, packing}
 
 -- Items with a time on a first machine and one on a second, and the moments at which they begin there. An item begins on the second machine
 -- when its first time is over, or later, and is over by the end. On each machine the items are apart, in any order.

@@ -5,7 +5,7 @@ use Rattle.msp_instance.specs.declared.Instance.{Instance}
 use Rattle.msp_schedule.specs.declared.Piece.{Piece}
 use Rattle.msp_schedule.specs.declared.Schedule.{Schedule}
 use Rattle.msp_schedule.specs.Feasible.{Feasible}
-use Rattle.msp_schedule.proofs.OneMachine.{finish}
+use Rattle.msp_schedule.specs.Piece.{finish}
 use Rattle.msp_shops.specs.declared.pass.JobTimes.{JobTimes}
 use Rattle.msp_shops.specs.Order.{GoesBefore}
 use Rattle.msp_shops.specs.Pass.{IsCritical}

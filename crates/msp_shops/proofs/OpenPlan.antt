@@ -10,8 +10,8 @@ use Rattle.msp_instance.specs.declared.Instance.{Instance}
 use Rattle.msp_instance.specs.Instance.{need_at}
 use Rattle.msp_schedule.specs.declared.Piece.{Piece}
 use Rattle.msp_schedule.specs.Loads.{machine_load}
-use Rattle.msp_schedule.proofs.Intervals.{IsApartOn}
-use Rattle.msp_schedule.proofs.OneMachine.{start, finish, IsTimed}
+use Rattle.msp_schedule.specs.Intervals.{IsApartOn}
+use Rattle.msp_schedule.specs.Piece.{start, finish, IsTimed}
 use Rattle.msp_schedule.proofs.Series.{AllPairs-append}
 use Rattle.msp_schedule.proofs.Moves.{Contains-map}
 use Rattle.msp_shops.specs.declared.pass.JobTimes.{JobTimes}

@@ -14,10 +14,10 @@ use Rattle.msp_instance.specs.declared.Instance.{Instance}
 use Rattle.msp_instance.specs.Instance.{job_at, need_at, no_need}
 use Rattle.msp_schedule.specs.declared.Piece.{Piece}
 use Rattle.msp_schedule.specs.declared.Schedule.{Schedule}
-use Rattle.msp_schedule.specs.Piece.{length_of, pieces_of, IsBefore}
+use Rattle.msp_schedule.specs.Piece.{length_of, pieces_of, IsBefore, start, finish, IsTimed}
 use Rattle.msp_schedule.specs.Feasible.{Feasible, HasPlace, HasOperation, MayRun, FollowsRoute, GetsWork, IsWholeWork, total, whole_work, work_of as part_of}
-use Rattle.msp_schedule.proofs.Intervals.{IsApartOn}
-use Rattle.msp_schedule.proofs.OneMachine.{start, finish, IsTimed, IsTimed-from_span, apart_in_nat, both_true}
+use Rattle.msp_schedule.specs.Intervals.{IsApartOn}
+use Rattle.msp_schedule.proofs.OneMachine.{IsTimed-from_span, apart_in_nat, both_true}
 use Rattle.msp_shops.specs.Pass.{machine_of}
 use Rattle.msp_shops.specs.Groups.{IsTwoMachineShop}
 

@@ -16,12 +16,12 @@ use Rattle.msp_instance.specs.declared.Instance.{Instance}
 use Rattle.msp_instance.specs.Instance.{no_job, job_at, need_at}
 use Rattle.msp_schedule.specs.declared.Piece.{Piece}
 use Rattle.msp_schedule.specs.declared.Schedule.{Schedule}
-use Rattle.msp_schedule.specs.Piece.{length_of, pieces_of, IsBefore}
+use Rattle.msp_schedule.specs.Piece.{length_of, pieces_of, IsBefore, start, finish, IsTimed}
 use Rattle.msp_schedule.specs.Feasible.{Feasible, HasPlace, HasOperation, MayRun, FollowsRoute, GetsWork, IsWholeWork, total, whole_work, work_of}
 use Rattle.msp_schedule.specs.Cost.{cost_of, end_of, Best}
 use Rattle.msp_schedule.specs.Within.{IsMoment, Within}
-use Rattle.msp_schedule.proofs.Intervals.{IsApartOn}
-use Rattle.msp_schedule.proofs.OneMachine.{start, finish, IsTimed, IsTimed-from_span, apart_in_int}
+use Rattle.msp_schedule.specs.Intervals.{IsApartOn}
+use Rattle.msp_schedule.proofs.OneMachine.{IsTimed-from_span, apart_in_int}
 use Rattle.msp_schedule.proofs.Frames.{of_operation-named, of_one}
 use Rattle.msp_schedule.proofs.LastEnds.{last_end-bound}
 use Rattle.msp_schedule.proofs.Makespan.{cost_natural, ends_by_cost, cost_by_ends}

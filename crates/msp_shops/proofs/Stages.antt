@@ -8,8 +8,9 @@ use Rattle.msp_instance.specs.Instance.{need_at}
 use Rattle.msp_schedule.specs.declared.Piece.{Piece}
 use Rattle.msp_schedule.specs.declared.Schedule.{Schedule}
 use Rattle.msp_schedule.specs.Feasible.{Feasible}
-use Rattle.msp_schedule.proofs.Intervals.{IsApart, packed, size_of}
-use Rattle.msp_schedule.proofs.OneMachine.{start, finish}
+use Rattle.msp_schedule.specs.Intervals.{IsApart, size_of}
+use Rattle.msp_schedule.proofs.Intervals.{packed}
+use Rattle.msp_schedule.specs.Piece.{start, finish}
 use Rattle.msp_schedule.proofs.Moves.{AllPairs-map}
 use Rattle.msp_schedule.proofs.Series.{AllPairs-append}
 use Rattle.msp_shops.specs.declared.pass.JobTimes.{JobTimes}

@@ -2,8 +2,8 @@
 use Rattle.std.specs.Prelude.{◌≡◌, ℕ, ◌+◌, ◌*◌, ◌^◌, ◌<◌, ◌≤◌, ◌⊎◌, ◌++◌, ◌==◌, List, [], ◌∷◌, if◌then◌else◌, pos, All, AllPairs, Contains, length, sum_by}
 use Rattle.msp_instance.specs.declared.ranges.TheConstants.{GREATEST}
 use Rattle.msp_schedule.specs.declared.Piece.{Piece}
-use Rattle.msp_schedule.proofs.Intervals.{IsApartOn}
-use Rattle.msp_schedule.proofs.OneMachine.{start, finish, IsTimed}
+use Rattle.msp_schedule.specs.Intervals.{IsApartOn}
+use Rattle.msp_schedule.specs.Piece.{start, finish, IsTimed}
 use Rattle.msp_shops.specs.declared.pass.JobTimes.{JobTimes}
 use Rattle.msp_shops.specs.declared.pass.Moments.{Moments}
 use Rattle.msp_shops.specs.declared.pass.Stage.{Stage}

@@ -13,14 +13,15 @@ use Rattle.msp_instance.specs.declared.Instance.{Instance}
 use Rattle.msp_instance.specs.Conditions.{Inner}
 use Rattle.msp_schedule.specs.declared.Piece.{Piece}
 use Rattle.msp_schedule.specs.declared.Schedule.{Schedule}
-use Rattle.msp_schedule.specs.Piece.{IsBefore}
+use Rattle.msp_schedule.specs.Piece.{IsBefore, job_of}
 use Rattle.msp_schedule.specs.Feasible.{Feasible}
 use Rattle.msp_schedule.specs.Cost.{end_of, cost_of, Best}
 use Rattle.msp_schedule.specs.Settled.{IsSettled}
 use Rattle.msp_schedule.specs.Within.{Within}
-use Rattle.msp_schedule.proofs.Rows.{row, row-jobs, row-last, end_in}
-use Rattle.msp_schedule.proofs.OneMachine.{job_of, IsPlan-from_feasible, last_end-is}
-use Rattle.msp_schedule.proofs.OneRow.{piece, piece_makes, time_at, row_schedule, row_is_feasible, row_is_settled, row_is_within}
+use Rattle.msp_schedule.specs.Rows.{row, piece, time_at, row_schedule}
+use Rattle.msp_schedule.proofs.Rows.{row-jobs, row-last, end_in}
+use Rattle.msp_schedule.proofs.OneMachine.{IsPlan-from_feasible, last_end-is}
+use Rattle.msp_schedule.proofs.OneRow.{piece_makes, row_is_feasible, row_is_settled, row_is_within}
 use Rattle.msp_route.specs.Bounds.{IsAnswer}
 use Rattle.msp_single.specs.Moore.{moore_class, IsDueBefore, IsMooreOrder}
 use Rattle.msp_route.proofs.PlainJobs.{takes_time, is_short}

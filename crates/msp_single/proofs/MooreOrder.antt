@@ -8,7 +8,7 @@ use Rattle.msp_class.proofs.Sums.{OnceBelow, OnceBelow-range, OnceBelow-from_per
 use Rattle.msp_instance.specs.declared.Instance.{Instance}
 use Rattle.msp_instance.specs.Instance.{no_need, no_job, job_at}
 use Rattle.msp_schedule.proofs.Moves.{AllPairs-map}
-use Rattle.msp_schedule.proofs.OneRow.{time_at}
+use Rattle.msp_schedule.specs.Rows.{time_at}
 use Rattle.msp_schedule.proofs.Shrunk.{All-from_map}
 use Rattle.msp_single.specs.declared.moore.Task.{Task}
 use Rattle.msp_single.specs.Moore.{IsLongest, IsChoice, none, kept, overrun, IsDueBefore, IsMooreOrder}

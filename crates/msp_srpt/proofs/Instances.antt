@@ -10,7 +10,7 @@ use Rattle.msp_instance.specs.declared.Instance.{Instance}
 use Rattle.msp_instance.specs.Instance.{no_need, no_job, job_at}
 use Rattle.msp_instance.specs.Conditions.{HasShape, HasTimes, HasRelease, HasArcs, MeetsConditions, Inner, inner_limits, least_time, greatest_time}
 use Rattle.msp_schedule.proofs.OneMachine.{IsOneMachine, IsOneMachine-from_env}
-use Rattle.msp_schedule.proofs.OneRow.{time_at}
+use Rattle.msp_schedule.specs.Rows.{time_at}
 use Rattle.msp_srpt.specs.Shortest.{shortest_class}
 
 pub record IsShortestInstance (i : Instance) : Type 0 where

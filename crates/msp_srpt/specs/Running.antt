@@ -7,8 +7,8 @@ use Rattle.msp_class.proofs.Sums.{OnceBelow}
 use Rattle.msp_instance.specs.declared.Instance.{Instance}
 use Rattle.msp_instance.specs.Instance.{job_at}
 use Rattle.msp_schedule.specs.declared.Piece.{Piece}
-use Rattle.msp_schedule.proofs.OneMachine.{start, finish, IsTimed}
-use Rattle.msp_schedule.proofs.OneRow.{time_at}
+use Rattle.msp_schedule.specs.Piece.{start, finish, IsTimed}
+use Rattle.msp_schedule.specs.Rows.{time_at}
 use Rattle.msp_srpt.specs.declared.shortest.Task.{Task}
 use Rattle.msp_srpt.specs.declared.shortest.Arrival.{Arrival}
 use Rattle.msp_srpt.specs.Shortest.{run_before, KeepsRule}

@@ -8,9 +8,9 @@ use Rattle.std.proofs.lemmas.List.Sums.{sum_by-cons}
 use Rattle.msp_class.proofs.Sums.{cond-yes, cond-le, sum_by-mono, sum_by-constant, sum_by-map, sum_by-OnceBelow, total_below, total_below-same, total_below-add, total_below-none, total_below-only, OnceBelow, OnceBelow-distinct}
 use Rattle.std.proofs.lemmas.Int.{ints}
 use Rattle.msp_schedule.specs.declared.Piece.{Piece}
-use Rattle.msp_schedule.specs.Piece.{length_of}
-use Rattle.msp_schedule.proofs.Intervals.{IsApart, last_of, last_of-least}
-use Rattle.msp_schedule.proofs.OneMachine.{job_of, start, finish, IsTimed}
+use Rattle.msp_schedule.specs.Piece.{length_of, job_of, start, finish, IsTimed}
+use Rattle.msp_schedule.specs.Intervals.{IsApart}
+use Rattle.msp_schedule.proofs.Intervals.{last_of, last_of-least}
 use Rattle.msp_total.specs.declared.lay.Place.{Place}
 use Rattle.msp_total.specs.Places.{no_place, time_on, piece_until, laid}
 use Rattle.msp_total.specs.Turns.{seats, machine_at}

@@ -14,11 +14,11 @@ use Rattle.msp_instance.specs.declared.Instance.{Instance}
 use Rattle.msp_instance.specs.Instance.{job_at}
 use Rattle.msp_schedule.specs.declared.Piece.{Piece}
 use Rattle.msp_schedule.specs.declared.Schedule.{Schedule}
-use Rattle.msp_schedule.specs.Piece.{pieces_of, IsBefore}
+use Rattle.msp_schedule.specs.Piece.{pieces_of, IsBefore, job_of, finish, IsTimed}
 use Rattle.msp_schedule.specs.Feasible.{Feasible, HasPlace, HasOperation, MayRun, FollowsRoute, IsWholeWork, total, whole_work, work_of}
 use Rattle.msp_schedule.specs.Cost.{cost_of, end_of, job_cost}
 use Rattle.msp_schedule.specs.Within.{IsMoment, Within}
-use Rattle.msp_schedule.proofs.OneMachine.{job_of, finish, IsTimed, apart_in_int, pieces_of-job, last_end-is}
+use Rattle.msp_schedule.proofs.OneMachine.{apart_in_int, pieces_of-job, last_end-is}
 use Rattle.msp_schedule.proofs.Intervals.{last_of}
 use Rattle.msp_schedule.proofs.OnceEach.{OnceBelow-one}
 use Rattle.msp_schedule.proofs.Moves.{Contains-map}

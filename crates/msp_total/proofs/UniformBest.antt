@@ -15,12 +15,11 @@ use Rattle.msp_instance.specs.declared.Instance.{Instance}
 use Rattle.msp_instance.specs.Instance.{need_at}
 use Rattle.msp_schedule.specs.declared.Piece.{Piece}
 use Rattle.msp_schedule.specs.declared.Schedule.{Schedule}
-use Rattle.msp_schedule.specs.Piece.{length_of}
+use Rattle.msp_schedule.specs.Piece.{length_of, start, finish, IsTimed}
 use Rattle.msp_schedule.specs.Feasible.{Feasible, HasOperation, MayRun, FollowsRoute, IsWholeWork}
 use Rattle.msp_schedule.specs.Cost.{cost_of, Best}
 use Rattle.msp_schedule.specs.Within.{Within}
-use Rattle.msp_schedule.proofs.Intervals.{IsApart}
-use Rattle.msp_schedule.proofs.OneMachine.{start, finish, IsTimed}
+use Rattle.msp_schedule.specs.Intervals.{IsApart}
 use Rattle.msp_schedule.proofs.Positions.{position_of, position_of-some, position_of-few, position_of-once, sum_of_ends}
 use Rattle.msp_schedule.proofs.SolePieces.{only_piece, IsOnly, is_only, only_timed, only_placed, only_apart, sum_of_only_ends}
 use Rattle.msp_route.specs.Bounds.{IsAnswer, answer_unit}

@@ -15,17 +15,18 @@ use Rattle.msp_instance.specs.Paths.{HasStep}
 use Rattle.msp_instance.proofs.CycleLemmas.{OnceBelow-from_sequence}
 use Rattle.msp_schedule.specs.declared.Piece.{Piece}
 use Rattle.msp_schedule.specs.declared.Schedule.{Schedule}
-use Rattle.msp_schedule.specs.Piece.{IsBefore}
+use Rattle.msp_schedule.specs.Piece.{IsBefore, start, finish, IsTimed}
 use Rattle.msp_schedule.specs.Feasible.{Feasible}
 use Rattle.msp_schedule.specs.Cost.{cost_of, Best}
 use Rattle.msp_schedule.specs.Settled.{IsSettled}
 use Rattle.msp_schedule.specs.Within.{Within}
-use Rattle.msp_schedule.proofs.Rows.{row, row-arcs, last-seq_below}
-use Rattle.msp_schedule.proofs.Sequences.{seq}
+use Rattle.msp_schedule.specs.Rows.{row, seq, piece, time_at, row_schedule}
+use Rattle.msp_schedule.proofs.Rows.{row-arcs, last-seq_below}
 use Rattle.msp_schedule.proofs.Charges.{SameCharges-from_jobs}
-use Rattle.msp_schedule.proofs.OneMachine.{start, finish, IsTimed, weighted_cost}
-use Rattle.msp_schedule.proofs.OneRow.{piece, piece_makes, time_at, row_schedule, row_is_feasible, row_is_settled, row_is_within}
-use Rattle.msp_schedule.proofs.LineUp.{IsLine as IsOneLine, IsLine-from_conditions, SameLine-refl, cost-lined_up, forward_by_ends, order_of_ends, order_of_ends-once, order_of_ends-rises}
+use Rattle.msp_schedule.proofs.OneMachine.{weighted_cost}
+use Rattle.msp_schedule.proofs.OneRow.{piece_makes, row_is_feasible, row_is_settled, row_is_within}
+use Rattle.msp_schedule.specs.LineUp.{order_of_ends}
+use Rattle.msp_schedule.proofs.LineUp.{IsLine as IsOneLine, IsLine-from_conditions, SameLine-refl, cost-lined_up, forward_by_ends, order_of_ends-once, order_of_ends-rises}
 use Rattle.msp_schedule.proofs.Exchange.{cost_of-lined_up}
 use Rattle.msp_route.specs.Bounds.{IsAnswer}
 use Rattle.msp_trees.specs.Horn.{horn_class}

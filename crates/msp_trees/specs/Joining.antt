@@ -3,9 +3,8 @@ use Rattle.std.specs.Prelude.{◌≢◌, ℕ, ◌+◌, ◌≤◌, List, [], ◌�
 use Rattle.std.specs.List.{concat}
 use Rattle.msp_class.proofs.Sums.{OnceBelow}
 use Rattle.msp_instance.specs.declared.Instance.{Instance}
-use Rattle.msp_schedule.proofs.OneRow.{time_at}
+use Rattle.msp_schedule.specs.Rows.{time_at, seq}
 use Rattle.msp_trees.specs.Horn.{before, weight_at}
-use Rattle.msp_schedule.proofs.Sequences.{seq}
 
 -- No job stands earlier than the one before it.
 abbrev pub IsForward : (ℕ → ℕ) → List ℕ → Type 0

@@ -3,7 +3,7 @@ ghost use Rattle.std.specs.Prelude.{◌≡◌, ◌*◌, ◌+◌, ◌<◌, ◌≤
 ghost use Rattle.std.specs.List.{concat};
 ghost use Rattle.msp_instance.specs.declared.ranges.TheConstants.{GREATEST, MOST_JOBS};
 ghost use Rattle.msp_instance.specs.Conditions.{Inner};
-ghost use Rattle.msp_schedule.proofs.OneRow.{time_at};
+ghost use Rattle.msp_schedule.specs.Rows.{time_at};
 ghost use Rattle.msp_trees.specs.Horn.{horn_class};
 ghost use Rattle.msp_trees.specs.Horn.{before, weight_at, time_of, weight_of, GoesNext, Joins, JoinTo, single_blocks};
 ghost use Rattle.msp_trees.specs.Joining.{AreJoined};

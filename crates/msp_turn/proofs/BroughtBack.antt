@@ -16,7 +16,8 @@ use Rattle.msp_schedule.specs.declared.Solution.{Solution}
 use Rattle.msp_schedule.specs.Feasible.{Feasible}
 use Rattle.msp_schedule.specs.Cost.{end_of, cost_of, IsSolution}
 use Rattle.msp_schedule.specs.declared.limits.TheConstants.{GREATEST_UNIT}
-use Rattle.msp_schedule.proofs.LineUp.{lined_up, order_of_ends, order_of_ends-only}
+use Rattle.msp_schedule.specs.LineUp.{lined_up, order_of_ends}
+use Rattle.msp_schedule.proofs.LineUp.{order_of_ends-only}
 use Rattle.msp_table.specs.Rows.{turns_dates}
 use Rattle.msp_route.specs.Law.{IsBack, IsReordered}
 use Rattle.msp_route.specs.Bounds.{IsBounded, KeepsBounds, greatest_unit, moment_after}

@@ -10,7 +10,7 @@ use Rattle.msp_schedule.specs.declared.Schedule.{Schedule}
 use Rattle.msp_schedule.specs.declared.Solution.{Solution}
 use Rattle.msp_schedule.specs.Feasible.{Feasible}
 use Rattle.msp_schedule.specs.Cost.{end_of}
-use Rattle.msp_schedule.proofs.LineUp.{lined_up}
+use Rattle.msp_schedule.specs.LineUp.{lined_up}
 use Rattle.msp_schedule.proofs.Exchange.{AllPairs-reverse}
 use Rattle.msp_table.specs.Rows.{turns_dates}
 use Rattle.msp_route.specs.Bounds.{IsBounded}

@@ -16,10 +16,12 @@ use Rattle.msp_schedule.specs.declared.Piece.{Piece}
 use Rattle.msp_schedule.specs.declared.limits.TheConstants.{GREATEST_UNIT}
 use Rattle.msp_schedule.specs.Feasible.{Feasible}
 use Rattle.msp_schedule.specs.Within.{IsMoment, Within}
-use Rattle.msp_schedule.proofs.Rows.{row, row-to, length-row}
-use Rattle.msp_schedule.proofs.OneMachine.{finish, IsTimed, timed_pieces}
-use Rattle.msp_schedule.proofs.OneRow.{piece, piece_makes, time_at}
-use Rattle.msp_schedule.proofs.LineUp.{lined_up}
+use Rattle.msp_schedule.specs.Rows.{row, piece, time_at}
+use Rattle.msp_schedule.proofs.Rows.{row-to, length-row}
+use Rattle.msp_schedule.specs.Piece.{finish, IsTimed}
+use Rattle.msp_schedule.proofs.OneMachine.{timed_pieces}
+use Rattle.msp_schedule.proofs.OneRow.{piece_makes}
+use Rattle.msp_schedule.specs.LineUp.{lined_up}
 use Rattle.msp_route.proofs.RowSteps.{short_length, greatest_length}
 
 module _ (i : Instance) (one : i.class.env ≡ One) (inner : Inner i) where

@@ -32,8 +32,9 @@ use Rattle.msp_schedule.specs.Feasible.{Feasible}
 use Rattle.msp_schedule.specs.Cost.{end_of}
 use Rattle.msp_schedule.proofs.Frames.{job_at-map, no_heads}
 use Rattle.msp_schedule.proofs.Mirror.{turned_arcs as arcs_turned, turned_back}
-use Rattle.msp_schedule.proofs.OneRow.{time_at}
-use Rattle.msp_schedule.proofs.LineUp.{IsLine, lined_up, sorted_by, order_of_ends, order_of_ends-once, order_of_ends-rises}
+use Rattle.msp_schedule.specs.Rows.{time_at}
+use Rattle.msp_schedule.specs.LineUp.{lined_up, sorted_by, order_of_ends}
+use Rattle.msp_schedule.proofs.LineUp.{IsLine, order_of_ends-once, order_of_ends-rises}
 use Rattle.msp_schedule.proofs.Exchange.{Exchanges, Feasible-exchanged, cost-exchanged}
 use Rattle.msp_table.specs.Rows.{goes_of, table}
 use Rattle.msp_route.specs.Law.{Applies, IsLower, IsForth, IsBack}

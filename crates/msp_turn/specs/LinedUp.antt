@@ -5,7 +5,7 @@ use Rattle.msp_schedule.specs.declared.Schedule.{Schedule}
 use Rattle.msp_schedule.specs.declared.Solution.{Solution}
 use Rattle.msp_schedule.specs.Cost.{cost_of}
 use Rattle.msp_schedule.specs.Fraction.{IsOver}
-use Rattle.msp_schedule.proofs.LineUp.{lined_up, order_of_ends}
+use Rattle.msp_schedule.specs.LineUp.{lined_up, order_of_ends}
 
 -- The jobs in the order of their ends, ties by number, from moment 0 without gaps.
 abbrev pub by_ends : Instance → Schedule → Schedule

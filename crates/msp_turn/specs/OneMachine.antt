@@ -20,7 +20,8 @@ use Rattle.msp_schedule.proofs.Frames.{frame_by, no_heads, IsShaped, IsShaped-fr
 use Rattle.msp_schedule.proofs.Serves.{Serves, IsMultiple-same, Feasible-served_by}
 use Rattle.msp_schedule.proofs.Charges.{SameCharges, SameCharges-from_class, cost-same_charges}
 use Rattle.msp_schedule.proofs.Series.{MayPrecede}
-use Rattle.msp_schedule.proofs.LineUp.{IsLine, IsLine-from_conditions, SameLine, lined_up, Feasible-lined_up, cost-lined_up, forward_by_ends, loose_by_ends, order_of_ends, order_of_ends-once, order_of_ends-rises}
+use Rattle.msp_schedule.specs.LineUp.{lined_up, order_of_ends}
+use Rattle.msp_schedule.proofs.LineUp.{IsLine, IsLine-from_conditions, SameLine, Feasible-lined_up, cost-lined_up, forward_by_ends, loose_by_ends, order_of_ends-once, order_of_ends-rises}
 use Rattle.msp_table.specs.Rows.{goes_of, table}
 use Rattle.msp_route.specs.Law.{Applies, IsLower, IsForth, IsBack}
 use Rattle.msp_route.specs.Changes.{led, same_costs}

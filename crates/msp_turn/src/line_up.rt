@@ -5,7 +5,7 @@ ghost use Rattle.msp_class.specs.declared.class.Env.TheVariants.{One};
 ghost use Rattle.msp_instance.specs.Conditions.{Inner};
 ghost use Rattle.msp_schedule.specs.declared.limits.TheConstants.{GREATEST_UNIT};
 ghost use Rattle.msp_schedule.specs.Feasible.{Feasible};
-ghost use Rattle.msp_schedule.proofs.LineUp.{lined_up};
+ghost use Rattle.msp_schedule.specs.LineUp.{lined_up};
 ghost use Rattle.msp_turn.specs.LinedUp.{IsLinedUp};
 
 use msp_class::NoMemory;

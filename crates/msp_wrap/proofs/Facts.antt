@@ -12,7 +12,7 @@ use Rattle.msp_instance.specs.declared.Instance.{Instance}
 use Rattle.msp_instance.specs.Instance.{no_need, no_job}
 use Rattle.msp_instance.specs.Conditions.{Inner}
 use Rattle.msp_schedule.proofs.OfClass.{inner_of}
-use Rattle.msp_schedule.proofs.OneRow.{time_at}
+use Rattle.msp_schedule.specs.Rows.{time_at}
 use Rattle.msp_schedule.proofs.Places.{sum_by-places, total_below-within}
 use Rattle.msp_wrap.specs.Wrap.{wrap_class, time_of, longest_time, total_time, least_end}
 

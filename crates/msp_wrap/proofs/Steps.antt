@@ -10,9 +10,9 @@ use Rattle.msp_instance.specs.declared.Instance.{Instance}
 use Rattle.msp_instance.specs.declared.Job.{Job}
 use Rattle.msp_instance.specs.Instance.{no_job}
 use Rattle.msp_schedule.specs.declared.Piece.{Piece}
-use Rattle.msp_schedule.proofs.Intervals.{IsApartOn, size_of, work_of}
-use Rattle.msp_schedule.proofs.OneMachine.{job_of, start, finish, IsTimed}
-use Rattle.msp_schedule.proofs.OneRow.{time_at}
+use Rattle.msp_schedule.specs.Intervals.{IsApartOn, size_of, work_of}
+use Rattle.msp_schedule.specs.Piece.{job_of, start, finish, IsTimed}
+use Rattle.msp_schedule.specs.Rows.{time_at}
 use Rattle.msp_schedule.proofs.Series.{AllPairs-append}
 use Rattle.msp_wrap.specs.Wrap.{time_of, least_end}
 use Rattle.msp_wrap.specs.Laying.{part, machine_of, IsLaid, IsWrapped, HasOpened}

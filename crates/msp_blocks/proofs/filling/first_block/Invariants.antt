@@ -1,5 +1,5 @@
 use Rattle.std.proofs.Common.{◌-◌, ◌+◌, ◌*◌, ◌≤◌, length, slice_index_or}
-use Rattle.msp_schedule.proofs.OneRow.{time_at}
+use Rattle.msp_schedule.specs.Rows.{time_at}
 use Rattle.msp_blocks.specs.Filling.{IsFirstBlock}
 use Rattle.msp_blocks.proofs.filling.first_block.Given as goal
 

@@ -2,7 +2,7 @@
 use Rattle.std.proofs.Common.{ℕ, ◌≡◌, ◌*◌, ◌+◌, refl, rules, get_or, arith}
 use Rattle.std.proofs.lemmas.Int.{ints, to_z-of_z}
 use Rattle.std.specs.Int.{w128}
-use Rattle.msp_schedule.proofs.OneRow.{time_at}
+use Rattle.msp_schedule.specs.Rows.{time_at}
 use Rattle.msp_route.proofs.Pushes.{on_ok}
 use Rattle.msp_route.proofs.JobReads.{ends-next}
 use Rattle.msp_route.proofs.RowSteps.{laid-next, length_read, moment-next}

@@ -1,7 +1,6 @@
 -- The row of the jobs so far, and the moment at which it ends.
 use Rattle.std.proofs.Common.{◌≡◌, ◌*◌, ◌≤◌, take, sum_by}
-use Rattle.msp_schedule.proofs.Rows.{row}
-use Rattle.msp_schedule.proofs.OneRow.{piece, time_at}
+use Rattle.msp_schedule.specs.Rows.{row, piece, time_at}
 use Rattle.msp_route.proofs.RowSteps.{greatest_length}
 use Rattle.msp_route.proofs.row.in_a_row.Given as goal
 

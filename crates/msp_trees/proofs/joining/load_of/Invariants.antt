@@ -1,6 +1,6 @@
 -- The load of the jobs so far.
 use Rattle.std.proofs.Common.{◌≡◌, ◌*◌, ◌≤◌, take, sum_by, slice_index_or}
-use Rattle.msp_schedule.proofs.OneRow.{time_at}
+use Rattle.msp_schedule.specs.Rows.{time_at}
 use Rattle.msp_trees.specs.Horn.{weight_at}
 use Rattle.msp_trees.proofs.joining.load_of.Given as goal
 

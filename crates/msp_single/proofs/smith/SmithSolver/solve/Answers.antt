@@ -5,7 +5,7 @@ use Rattle.msp_instance.specs.declared.Instance.{Instance}
 use Rattle.msp_schedule.specs.Cost.{Best, IsBest}
 use Rattle.msp_schedule.specs.Fraction.{IsLowest}
 use Rattle.msp_schedule.specs.Settled.{IsSettled}
-use Rattle.msp_schedule.proofs.OneMachine.{job_of}
+use Rattle.msp_schedule.specs.Piece.{job_of}
 use Rattle.msp_route.specs.Bounds.{IsAnswer}
 use Rattle.msp_single.specs.Smith.{IsSmithOrder}
 use Rattle.msp_route.specs.Row.{IsRowSolution}

@@ -7,7 +7,7 @@ use Rattle.msp_schedule.specs.Fraction.{IsLowest}
 use Rattle.msp_schedule.specs.Settled.{IsSettled}
 use Rattle.msp_route.specs.Bounds.{IsAnswer}
 use Rattle.msp_trees.specs.Horn.{IsHornOrder}
-use Rattle.msp_schedule.proofs.OneMachine.{job_of}
+use Rattle.msp_schedule.specs.Piece.{job_of}
 use Rattle.msp_route.specs.Row.{IsRowSolution}
 use Rattle.msp_route.proofs.PlainJobs.{short_needs}
 use Rattle.msp_trees.proofs.HornBest.{IsHornInstance-from_class}
