@@ -1,7 +1,8 @@
 -- Prices show that an assignment is least.
 use Rattle.std.proofs.Common.{◌≡◌, ℕ, zero, suc, ◌+◌, ◌*◌, ◌<◌, ◌≤◌, ℤ, pos, neg_ℤ, ◌+ℤ◌, ◌≤ℤ◌, nat_abs, List, [], ◌∷◌, true, eqb, length, Contains, count_by, sum_by, sym, ap, ◌∙◌, arith, refl}
 use Rattle.std.proofs.lemmas.Int.{ints}
-use Rattle.msp_class.proofs.Sums.{total_below, total_below-mono, total_below-same, total_below-split, int_total_below, int_total_below-same, int_total_below-mono, int_total_below-add, sum_by_counts, sum_by-distinct_test, sum_by-cons}
+use Rattle.msp_class.specs.Sums.{total_below, int_total_below}
+use Rattle.msp_class.proofs.Sums.{total_below-mono, total_below-same, total_below-split, int_total_below-same, int_total_below-mono, int_total_below-add, sum_by_counts, sum_by-distinct_test, sum_by-cons}
 use Rattle.msp_class.proofs.IntegerRing.{≤ℤ_trans, ≤ℤ_of_same}
 use Rattle.msp_assign.specs.declared.assignment.Assignment.{Assignment}
 use Rattle.msp_assign.specs.Prices.{HasCosts, IsAssigned, IsPriced, IsLeast, column_of, price_at, cost_of, price_of}

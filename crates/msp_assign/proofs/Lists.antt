@@ -5,7 +5,8 @@ use Rattle.std.proofs.Math.Seq.{take-append_seam}
 use Rattle.std.proofs.lemmas.List.{get_or_default}
 use Rattle.std.proofs.lemmas.List.Elements.{Contains-get_or}
 use Rattle.std.proofs.lemmas.Bool.{eq-eqb}
-use Rattle.msp_class.proofs.Sums.{total_below, total_below-add, total_below-mono, total_below-constant, total_below-some, sum_by_counts, sum_by-constant, sum_by-contains, cond-yes}
+use Rattle.msp_class.specs.Sums.{total_below}
+use Rattle.msp_class.proofs.Sums.{total_below-add, total_below-mono, total_below-constant, total_below-some, sum_by_counts, sum_by-constant, sum_by-contains, cond-yes}
 use Rattle.msp_assign.specs.Search.{at}
 
 pub Contains-at : (xs : List ℕ) (k c : ℕ) → k < length xs → at xs k ≡ c → Contains xs c

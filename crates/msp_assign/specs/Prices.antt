@@ -1,6 +1,6 @@
 -- Assignments of rows to columns, and the prices that show one to be least.
 use Rattle.std.specs.Prelude.{◌≡◌, ◌≢◌, ℕ, ◌<◌, ◌^◌, ℤ, pos, ◌+ℤ◌, ◌≤ℤ◌, List, length, slice_index_or, All, AllPairs, Contains}
-use Rattle.msp_class.proofs.Sums.{int_total_below}
+use Rattle.msp_class.specs.Sums.{int_total_below}
 use Rattle.msp_assign.specs.declared.assignment.Assignment.{Assignment}
 
 -- The most that a row costs at a column.

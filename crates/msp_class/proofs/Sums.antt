@@ -8,6 +8,7 @@ use Rattle.std.proofs.lemmas.List.Elements.{All-nil, All-cons, All-head, All-tai
 use Rattle.std.proofs.lemmas.List.{get_or_default}
 use Rattle.std.proofs.lemmas.List.Kept.{AllPairs-cons}
 use Rattle.std.proofs.lemmas.Int.{ints}
+use Rattle.msp_class.specs.Sums.{total_below, int_total_below}
 use Rattle.msp_class.proofs.IntegerRing.{≤ℤ_refl, +ℤ_mono, *ℤ-zero, *ℤ-add}
 use Rattle.std.proofs.lemmas.List.FromFn.{length-range_with_len, get_or-range_with_len}
 use Rattle.std.proofs.lemmas.Bool.{eqb-true, eqb-false, eq-eqb, ne_eqb, ltb-true, ltb-false}
@@ -131,10 +132,6 @@ module _ {X Y : Type 0} where
   sum_by-exchange h (x ∷ xs) ys = sum_by-cons (λ z. sum_by (λ y. h z y) ys) x xs ∙ ap (λ n. sum_by (λ y. h x y) ys + n) (sum_by-exchange h xs ys) ∙ sym (sum_by-agree (λ y. sum_by (λ z. h z y) (x ∷ xs)) (λ y. h x y + sum_by (λ z. h z y) xs) ys (λ y. sum_by-cons (λ z. h z y) x xs) ∙ sum_by-add (λ y. h x y) (λ y. sum_by (λ z. h z y) xs) ys)
 
 -- ---- over the numbers below n
-abbrev pub total_below : ℕ → (ℕ → ℕ) → ℕ
-total_below zero f = 0
-total_below (suc n) f = total_below n f + f n
-
 -- whatever has these two clauses is this total
 pub total_below_unique : (t : ℕ → ℕ) (f : ℕ → ℕ) → t 0 ≡ 0 → ((n : ℕ) → t (suc n) ≡ t n + f n) → (n : ℕ) → t n ≡ total_below n f
 total_below_unique t f z s zero = z
@@ -389,10 +386,6 @@ OnceBelow-distinct {n} {xs} o = distinct_from_counts xs (λ i. by i (ltb i n) re
     by i false e = omega (arith, sum_by-none (λ x. cond (eqb x i) 1 0) xs (λ k d l. cond-no 1 (ne_eqb (get_or xs k d) i (λ q. omega (arith, o.within k d l, ltb-false i n e)))))
 
 -- ---- totals of integers below n
-abbrev pub int_total_below : ℕ → (ℕ → ℤ) → ℤ
-int_total_below zero f = pos 0
-int_total_below (suc n) f = int_total_below n f +ℤ f n
-
 pub int_total_below_unique : (t : ℕ → ℤ) (f : ℕ → ℤ) → t 0 ≡ pos 0 → ((n : ℕ) → t (suc n) ≡ t n +ℤ f n) → (n : ℕ) → t n ≡ int_total_below n f
 int_total_below_unique t f z s zero = z
 int_total_below_unique t f z s (suc n) = s n ∙ ap (λ m. m +ℤ f n) (int_total_below_unique t f z s n)

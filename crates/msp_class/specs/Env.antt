@@ -1,5 +1,6 @@
 -- What the machine environment says of machines and routes.
-use Rattle.std.specs.Prelude.{ℕ, Bool, true, false, Option, Some, None}
+use Rattle.std.specs.Prelude.{◌≡◌, ℕ, Bool, true, false, Option, Some, None}
+use Rattle.msp_class.specs.declared.class.Class.{Class}
 use Rattle.msp_class.specs.declared.class.Env.{Env}
 use Rattle.msp_class.specs.declared.class.Env.TheVariants.{One, P2, P3, P, Q2, Q, R2, R, O2, O3, O, F2, F3, F, J2Short, JShort, J2, J}
 use Rattle.msp_class.specs.declared.environments.EnvKind.{EnvKind}
@@ -71,6 +72,10 @@ is_mirror_kind JobShop = false
 
 abbrev pub is_mirror : Env → Bool
 is_mirror e = is_mirror_kind (kind_of e)
+
+-- the class is cut and on unrelated machines
+abbrev pub IsCutOnUnrelated : Class → Type 0
+IsCutOnUnrelated c = (c.cut ≡ true) × (kind_of c.env ≡ Unrelated)
 
 -- the most operations of a route
 abbrev pub most_operations : Env → ℕ

@@ -1,4 +1,6 @@
 pub mod Crit
 pub mod Env
+pub mod Limits
 pub mod Order
 pub mod Rank
+pub mod Sums

@@ -8,6 +8,7 @@
 mod class;
 mod criteria;
 mod environments;
+mod limits;
 mod list;
 mod orders;
 mod ranks;
@@ -18,10 +19,24 @@ pub use environments::{
     EnvKind, MOST_OPERATIONS, MOST_SHORT_OPERATIONS, env_kind, fixed_machines, is_mirror, is_shop,
     most_operations,
 };
+pub use limits::law_of_limits;
 pub use list::{List, PLACES};
 pub use orders::turned;
 pub use ranks::{CLASSES, rank, unrank};
+use std::alloc::{AllocError, AllocFailed};
 
 /// Want of memory, of a call that can refuse for nothing else.
 #[derive(Clone, Copy, Debug, PartialEq, Eq)]
 pub struct NoMemory;
+
+impl From<AllocError> for NoMemory {
+    fn from(_refusal: AllocError) -> NoMemory {
+        NoMemory
+    }
+}
+
+impl<T: Drop> From<AllocFailed<T>> for NoMemory {
+    fn from(_refusal: AllocFailed<T>) -> NoMemory {
+        NoMemory
+    }
+}

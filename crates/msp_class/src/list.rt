@@ -1,7 +1,8 @@
 // The list that the structs of all crates hold.
-ghost use Rattle.std.specs.Prelude.{◌≡◌, [], ◌∷◌, ◌++◌, length, slice_get, OnOk, IfErr};
+ghost use Rattle.std.specs.Prelude.{◌≡◌, [], ◌∷◌, ◌++◌, length, slice_get, OnOk, OnErr, IfErr};
 ghost use Rattle.std.specs.Option.{option_copied};
 
+use crate::NoMemory;
 use std::alloc::Global;
 use std::marker::Model;
 use std::mem;
@@ -81,6 +82,17 @@ impl<T> List<T> {
     }
 }
 
+impl<T: Drop> List<T> {
+    /// Puts an item at the end. For want of memory it lets the item go.
+    pub fn put(&mut self, item: T) -> Result<(), NoMemory>
+        ensures put { OnOk result (self.new ≡ self.old ++ item ∷ []) }
+        ensures refused { OnErr result (self.new ≡ self.old) }
+    {
+        self.items.push(item)?;
+        Ok(())
+    }
+}
+
 #[cfg(test)]
 mod tests {
     use super::*;
@@ -89,7 +101,7 @@ mod tests {
     fn keeps_order(rt: HostRuntime) {
         let mut list = List::new(rt.alloc());
         assert_eq!(rt; list.push(3u8), Ok(()));
-        assert_eq!(rt; list.push(5), Ok(()));
+        assert_eq!(rt; list.put(5), Ok(()));
         assert_eq!(rt; list.len(), 2);
         assert_eq!(rt; list.get(1).copied(), Some(5));
         assert_eq!(rt; list.get(2).copied(), None);

@@ -10,7 +10,8 @@ use Rattle.msp_class.specs.declared.class.Crit.TheVariants.{Lmax}
 use Rattle.msp_class.specs.Env.{kind_of}
 use Rattle.msp_class.specs.Crit.{is_greatest, uses_due, uses_weight, uses_curve}
 use Rattle.msp_class.proofs.IntegerRing.{*ℤ-add, *ℤ_comm, ≤ℤ_trans, natural, pos-same, int_max-left, ≤ℤ-int_max_left, ≤ℤ-int_max_right}
-use Rattle.msp_class.proofs.Sums.{total_below, total_below-term, total_below-none, int_total_below, int_total_below-same, int_total_below-natural}
+use Rattle.msp_class.specs.Sums.{total_below, int_total_below}
+use Rattle.msp_class.proofs.Sums.{total_below-term, total_below-none, int_total_below-same, int_total_below-natural}
 use Rattle.msp_instance.specs.declared.ranges.TheConstants.{GREATEST}
 use Rattle.msp_instance.specs.declared.Job.{Job}
 use Rattle.msp_instance.specs.declared.Instance.{Instance}

@@ -7,7 +7,8 @@ use Rattle.std.proofs.lemmas.List.Sums.{sum_by-cons}
 use Rattle.std.proofs.lemmas.List.Folds.{list_any_none}
 use Rattle.std.proofs.lemmas.List.Elements.{All-contains_itself, Contains-get_or}
 use native.Mathlib.Nat.{mul-le-mul_left}
-use Rattle.msp_class.proofs.Sums.{cond-le, sum_by-mono, sum_by-total_below, total_below, total_below-mono, total_below-same, total_below-none, total_below-split, total_below-constant, total_below-bound}
+use Rattle.msp_class.specs.Sums.{total_below}
+use Rattle.msp_class.proofs.Sums.{cond-le, sum_by-mono, sum_by-total_below, total_below-mono, total_below-same, total_below-none, total_below-split, total_below-constant, total_below-bound}
 use Rattle.msp_class.proofs.IntegerRing.{natural, pos-le, one-*ℤ, *ℤ-sub, *ℤ-zero, *ℤ_exchange}
 use Rattle.msp_schedule.specs.declared.Piece.{Piece}
 use Rattle.msp_schedule.specs.Intervals.{size_of}

@@ -14,7 +14,8 @@ use Rattle.msp_class.specs.declared.environments.EnvKind.TheVariants.{Identical}
 use Rattle.msp_class.specs.Env.{kind_of}
 use Rattle.msp_class.specs.Crit.{is_greatest}
 use Rattle.msp_class.proofs.IntegerRing.{≤ℤ_trans, ≤ℤ_of_same, pos-le, le-pos, *ℤ-one, *ℤ_comm, *ℤ-mono}
-use Rattle.msp_class.proofs.Sums.{sum_by-contains, sum_by_counts, count_by-distinct, total_below, total_below-same, total_below-scale, total_below-only, cond-scale, AllPairs-head, AllPairs-tail, OnceBelow-distinct}
+use Rattle.msp_class.specs.Sums.{total_below}
+use Rattle.msp_class.proofs.Sums.{sum_by-contains, sum_by_counts, count_by-distinct, total_below-same, total_below-scale, total_below-only, cond-scale, AllPairs-head, AllPairs-tail, OnceBelow-distinct}
 use Rattle.msp_instance.specs.declared.Arc.{Arc}
 use Rattle.msp_instance.specs.declared.Instance.{Instance}
 use Rattle.msp_instance.specs.Instance.{no_job, no_need, job_at}

@@ -11,7 +11,8 @@ use Rattle.msp_class.specs.declared.class.Crit.{Crit}
 use Rattle.msp_class.specs.declared.class.Crit.TheVariants.{Cmax, Lmax, Fmax, SumC, SumWC, SumU, SumWU, SumT, SumWT}
 use Rattle.msp_class.specs.Crit.{is_greatest}
 use Rattle.msp_class.proofs.IntegerRing.{≤ℤ_refl, ≤ℤ_trans, ≤ℤ_of_same, ≤ℤ_antisym, +ℤ_mono, one-*ℤ, *ℤ-zero, *ℤ_assoc, *ℤ_exchange, *ℤ-add, *ℤ-sub, *ℤ-mono, *ℤ-mono_nonneg, *ℤ-strict, *ℤ-cancel_lt, *ℤ-int_max, int_max_mono, pos-le}
-use Rattle.msp_class.proofs.Sums.{sum_by-mono, sum_by-agree, int_total_below, int_total_below-mono, int_total_below-scale}
+use Rattle.msp_class.specs.Sums.{int_total_below}
+use Rattle.msp_class.proofs.Sums.{sum_by-mono, sum_by-agree, int_total_below-mono, int_total_below-scale}
 use Rattle.msp_instance.specs.declared.Step.{Step}
 use Rattle.msp_instance.specs.declared.Curve.{Curve}
 use Rattle.msp_instance.specs.declared.Job.{Job}

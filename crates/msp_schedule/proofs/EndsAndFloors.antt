@@ -9,7 +9,8 @@ use Rattle.std.proofs.lemmas.List.Elements.{All-head, All-tail, All-contains_its
 use native.Mathlib.Nat.{mul-le-mul_left}
 use Rattle.msp_class.specs.declared.environments.EnvKind.TheVariants.{Identical}
 use Rattle.msp_class.specs.Env.{kind_of}
-use Rattle.msp_class.proofs.Sums.{Contains-filter, cond-scale, cond-yes, total_below, total_below-same, total_below-scale, total_below-range, total_below-term}
+use Rattle.msp_class.specs.Sums.{total_below}
+use Rattle.msp_class.proofs.Sums.{Contains-filter, cond-scale, cond-yes, total_below-same, total_below-scale, total_below-range, total_below-term}
 use Rattle.msp_class.proofs.IntegerRing.{natural, pos-le, le-pos, pos-sub, ≤ℤ_refl, ≤ℤ_trans, +ℤ_idl, one-*ℤ, *ℤ-one, *ℤ-zero}
 use Rattle.msp_instance.specs.declared.Instance.{Instance}
 use Rattle.msp_instance.specs.Instance.{need_at}

@@ -4,7 +4,8 @@ use Rattle.std.proofs.lemmas.List.Sums.{sum_by-cons}
 use Rattle.std.proofs.lemmas.List.Elements.{All-filter, filter_passes, All-nil, All-cons, All-head, All-tail, All-contains, Contains-get_or}
 use Rattle.std.proofs.lemmas.List.Kept.{AllPairs-filter}
 use Rattle.std.proofs.lemmas.Bool.{eqb-true, leb-true, leb-false, eqb-false, eq-eqb}
-use Rattle.msp_class.proofs.Sums.{sum_by-mono, sum_by-same, sum_by-add, sum_by-filter, sum_by-by_key_filter, sum_by-by_key_test, total_below, total_below-some, cond-yes, total_below-bound, AllPairs-head, AllPairs-tail, Contains-filter, Contains-from_filter, sum_by-some}
+use Rattle.msp_class.specs.Sums.{total_below}
+use Rattle.msp_class.proofs.Sums.{sum_by-mono, sum_by-same, sum_by-add, sum_by-filter, sum_by-by_key_filter, sum_by-by_key_test, total_below-some, cond-yes, total_below-bound, AllPairs-head, AllPairs-tail, Contains-filter, Contains-from_filter, sum_by-some}
 use Rattle.msp_schedule.specs.Intervals.{size_of, IsApart, IsApartOn, work_of}
 
 -- ---- two intervals

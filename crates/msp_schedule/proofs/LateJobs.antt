@@ -11,7 +11,8 @@ use Rattle.std.proofs.lemmas.List.Sums.{sum_by-cons, sum_by-append, length-filte
 use Rattle.msp_class.specs.declared.class.Crit.TheVariants.{SumU}
 use Rattle.msp_class.specs.Crit.{is_greatest}
 use Rattle.msp_class.proofs.IntegerRing.{pos-le, ≤ℤ_trans, ≤ℤ_of_same, *ℤ-mono_nonneg, *ℤ-cancel_pos, one-*ℤ}
-use Rattle.msp_class.proofs.Sums.{total_below, total_below-scale, total_below-range, int_total_below-natural, sum_by-distinct_test, AllPairs-head, AllPairs-tail}
+use Rattle.msp_class.specs.Sums.{total_below}
+use Rattle.msp_class.proofs.Sums.{total_below-scale, total_below-range, int_total_below-natural, sum_by-distinct_test, AllPairs-head, AllPairs-tail}
 use Rattle.msp_instance.specs.declared.Instance.{Instance}
 use Rattle.msp_instance.specs.Instance.{job_at}
 use Rattle.msp_schedule.specs.declared.Schedule.{Schedule}

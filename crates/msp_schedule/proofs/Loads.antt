@@ -7,7 +7,8 @@ use Rattle.std.proofs.lemmas.List.Elements.{All-filter, filter_passes}
 use Rattle.msp_class.specs.declared.environments.EnvKind.{EnvKind}
 use Rattle.msp_class.specs.declared.environments.EnvKind.TheVariants.{Identical, Uniform, Unrelated, OpenShop, FlowShop, JobShop}
 use Rattle.msp_class.specs.Env.{kind_of, is_shop_kind, is_shop}
-use Rattle.msp_class.proofs.Sums.{cond-mono, cond-scale, sum_by-same, sum_by-filter, sum_by-by_key_test, sum_by-by_key_filter, total_below, total_below-mono, total_below-same, total_below-scale}
+use Rattle.msp_class.specs.Sums.{total_below}
+use Rattle.msp_class.proofs.Sums.{cond-mono, cond-scale, sum_by-same, sum_by-filter, sum_by-by_key_test, sum_by-by_key_filter, total_below-mono, total_below-same, total_below-scale}
 use Rattle.msp_class.proofs.IntegerRing.{natural, pos-le, pos-same, *ℤ-one}
 use Rattle.msp_instance.specs.declared.Need.{Need}
 use Rattle.msp_instance.specs.declared.Instance.{Instance}

@@ -16,7 +16,8 @@ use Rattle.msp_class.specs.Env.{fixed_machines, kind_of}
 use Rattle.msp_class.proofs.IntegerRing.{natural, pos-same}
 use Rattle.msp_schedule.specs.Intervals.{IsApart, IsApartOn, size_of, work_of}
 use Rattle.msp_schedule.proofs.Intervals.{apart_from_one, last_of, greatest_by}
-use Rattle.msp_class.proofs.Sums.{total_below, int_total_below, int_total_below-same, int_total_below-natural}
+use Rattle.msp_class.specs.Sums.{total_below, int_total_below}
+use Rattle.msp_class.proofs.Sums.{int_total_below-same, int_total_below-natural}
 use Rattle.msp_instance.specs.declared.Instance.{Instance}
 use Rattle.msp_instance.specs.Instance.{no_job, job_at, need_at}
 use Rattle.msp_instance.specs.Conditions.{Limits, MeetsConditions}

@@ -2,7 +2,8 @@
 use Rattle.std.proofs.Common.{◌≡◌, ℕ, zero, suc, ◌+◌, ◌-◌, ◌≤◌, Bool, true, false, cond, List, [], ◌∷◌, length, get_or, take, filter, sum_by, sym, refl, ap, ◌∙◌, arith}
 use Rattle.std.specs.Prelude.{◌&&◌}
 use Rattle.std.proofs.lemmas.List.{take_all, take_more}
-use Rattle.msp_class.proofs.Sums.{sum_by-cons, sum_by-append, total_below, total_below-split}
+use Rattle.msp_class.specs.Sums.{total_below}
+use Rattle.msp_class.proofs.Sums.{sum_by-cons, sum_by-append, total_below-split}
 
 sum_by-take : {X : Type 0} (f : X → ℕ) (xs : List X) (d : X) (k : ℕ) → k ≤ length xs → sum_by f (take k xs) ≡ total_below k (λ j. f (get_or xs j d))
 sum_by-take f xs d zero l = refl

@@ -6,7 +6,8 @@ use Rattle.std.proofs.lemmas.Bool.{eqb-true, eqb-false, eq-eqb, leb-true, leb-fa
 use Rattle.std.proofs.lemmas.List.Elements.{filter_passes}
 use Rattle.std.proofs.lemmas.List.Kept.{AllPairs-filter}
 use Rattle.std.proofs.lemmas.List.FromFn.{length-range_with_len, get_or-range_with_len}
-use Rattle.msp_class.proofs.Sums.{cond-yes, cond-no, cond-le, cond-count, sum_by-filter, total_below, total_below-mono, total_below-same, total_below-scale, total_below-none, total_below-bound, total_below-term, total_below-tight, total_below-only, total_below-exchange, total_below-range}
+use Rattle.msp_class.specs.Sums.{total_below}
+use Rattle.msp_class.proofs.Sums.{cond-yes, cond-no, cond-le, cond-count, sum_by-filter, total_below-mono, total_below-same, total_below-scale, total_below-none, total_below-bound, total_below-term, total_below-tight, total_below-only, total_below-exchange, total_below-range}
 use Rattle.msp_schedule.specs.Intervals.{IsApart, IsApartOn, size_of}
 use Rattle.msp_schedule.proofs.Intervals.{apart_from_one, packed}
 use Rattle.msp_schedule.proofs.OneMachine.{both_true}

@@ -8,7 +8,8 @@ use Rattle.msp_class.specs.declared.environments.EnvKind.TheVariants.{Unrelated}
 use Rattle.msp_class.specs.declared.class.Crit.TheVariants.{SumC}
 use Rattle.msp_class.specs.Env.{kind_of}
 use Rattle.msp_class.proofs.IntegerRing.{natural, pos-le, +ℤ_mono, ≤ℤ_refl, ≤ℤ_trans, *ℤ-mono_nonneg}
-use Rattle.msp_class.proofs.Sums.{total_below, total_below-same, total_below-scale, int_total_below, int_total_below-same, int_total_below-mono, int_total_below-add, int_total_below-pos}
+use Rattle.msp_class.specs.Sums.{total_below, int_total_below}
+use Rattle.msp_class.proofs.Sums.{total_below-same, total_below-scale, int_total_below-same, int_total_below-mono, int_total_below-add, int_total_below-pos}
 use Rattle.msp_instance.specs.declared.Instance.{Instance}
 use Rattle.msp_instance.specs.Instance.{need_at}
 use Rattle.msp_schedule.specs.declared.Schedule.{Schedule}

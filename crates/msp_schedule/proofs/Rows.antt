@@ -4,7 +4,8 @@ use Rattle.std.proofs.lemmas.List.Sums.{sum_by-cons}
 use Rattle.std.proofs.lemmas.List.Elements.{All-nil, All-cons, All-head, All-tail, Contains-append_right}
 use Rattle.std.proofs.lemmas.List.Kept.{AllPairs-cons}
 use Rattle.std.proofs.lemmas.Bool.{eqb-true, eqb-false, eq-eqb, ne_eqb}
-use Rattle.msp_class.proofs.Sums.{sum_by-same, sum_by-scale, sum_by-OnceBelow, sum_by-filter, sum_by-map, total_below, total_below-same, OnceBelow, OnceBelow-distinct, OnceBelow-contains, AllPairs-head, AllPairs-tail, AllPairs-contains, Contains-tail}
+use Rattle.msp_class.specs.Sums.{total_below}
+use Rattle.msp_class.proofs.Sums.{sum_by-same, sum_by-scale, sum_by-OnceBelow, sum_by-filter, sum_by-map, total_below-same, OnceBelow, OnceBelow-distinct, OnceBelow-contains, AllPairs-head, AllPairs-tail, AllPairs-contains, Contains-tail}
 use Rattle.msp_schedule.specs.Intervals.{IsApart, size_of, work_of}
 use Rattle.msp_schedule.proofs.Intervals.{last_of, greatest_by}
 use Rattle.msp_schedule.specs.Rows.{seq, row}

@@ -4,7 +4,8 @@ use Rattle.std.specs.List.{range_with_len, AllAdjacentBelow}
 use Rattle.std.proofs.lemmas.List.Sums.{sum_by-cons}
 use Rattle.std.proofs.lemmas.Bool.{leb-false, le-leb, false≢true}
 use native.Mathlib.Nat.{le_of_mul-le-mul_left, mul-le-mul_left}
-use Rattle.msp_class.proofs.Sums.{sum_by-mono, sum_by-agree, sum_by-add, sum_by-scale, sum_by-scale_right, sum_by-OnceBelow, total_below, total_below-same, total_below-scale, cond-scale, cond-yes, OnceBelow, OnceBelow-from_permutation, int_total_below, int_total_below-natural, AllPairs-head, AllPairs-tail, AllPairs-from_adjacent}
+use Rattle.msp_class.specs.Sums.{total_below, int_total_below}
+use Rattle.msp_class.proofs.Sums.{sum_by-mono, sum_by-agree, sum_by-add, sum_by-scale, sum_by-scale_right, sum_by-OnceBelow, total_below-same, total_below-scale, cond-scale, cond-yes, OnceBelow, OnceBelow-from_permutation, int_total_below-natural, AllPairs-head, AllPairs-tail, AllPairs-from_adjacent}
 use Rattle.msp_class.proofs.IntegerRing.{pos-le}
 use Rattle.msp_schedule.specs.Intervals.{IsApart, work_of}
 use Rattle.msp_schedule.proofs.Intervals.{earlier_ends, last_of, last_of-bound}

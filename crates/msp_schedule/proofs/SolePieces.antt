@@ -8,7 +8,8 @@ use Rattle.msp_class.specs.declared.class.Crit.TheVariants.{SumC}
 use Rattle.msp_class.specs.Env.{kind_of}
 use Rattle.msp_class.specs.Crit.{is_greatest}
 use Rattle.msp_class.proofs.IntegerRing.{natural, pos-same}
-use Rattle.msp_class.proofs.Sums.{AllPairs-contains, Contains-from_filter, total_below, int_total_below-pos, int_total_below-mono}
+use Rattle.msp_class.specs.Sums.{total_below}
+use Rattle.msp_class.proofs.Sums.{AllPairs-contains, Contains-from_filter, int_total_below-pos, int_total_below-mono}
 use Rattle.msp_instance.specs.declared.Instance.{Instance}
 use Rattle.msp_instance.specs.Instance.{job_at}
 use Rattle.msp_schedule.specs.declared.Piece.{Piece}

@@ -1,7 +1,7 @@
 -- Moments at which some piece runs.
 use Rattle.std.specs.Prelude.{ℕ, Bool, cond, leb, ltb, ◌&&◌, List, ℤ, pos, nat_abs, ◌*ℤ◌}
 use Rattle.std.specs.List.{list_any}
-use Rattle.msp_class.proofs.Sums.{total_below}
+use Rattle.msp_class.specs.Sums.{total_below}
 use Rattle.msp_schedule.specs.declared.Piece.{Piece}
 use Rattle.msp_schedule.specs.Piece.{start, finish}
 

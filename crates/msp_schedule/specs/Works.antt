@@ -1,8 +1,8 @@
 -- The work of an operation among some pieces. No public contract cites this file.
-use Rattle.std.specs.Prelude.{true, ◌≡◌, ℕ, ◌*◌, ◌^◌, ◌<◌, ◌≤◌, All, List, [], ◌∷◌, length, ℤ, pos, ◌*ℤ◌, map, slice_index_or, MatchBool}
+use Rattle.std.specs.Prelude.{◌≡◌, ℕ, ◌*◌, ◌^◌, ◌<◌, ◌≤◌, All, List, [], ◌∷◌, length, ℤ, pos, ◌*ℤ◌, map, slice_index_or, MatchBool}
 use Rattle.msp_class.specs.declared.environments.EnvKind.{EnvKind}
 use Rattle.msp_class.specs.declared.environments.EnvKind.TheVariants.{Identical, Uniform, Unrelated, OpenShop, FlowShop, JobShop}
-use Rattle.msp_class.specs.Env.{kind_of}
+use Rattle.msp_class.specs.Env.{IsCutOnUnrelated, kind_of}
 use Rattle.msp_instance.specs.declared.Instance.{Instance}
 use Rattle.msp_instance.specs.Instance.{job_at, need_at}
 use Rattle.msp_instance.specs.Conditions.{LiesWithin, Inner}
@@ -46,7 +46,7 @@ AreSmallTimes i unit = (j o : ℕ) → j < length i.jobs → o < length (job_at 
 -- bounded moments, and on unrelated machines no operation may be cut.
 pub record AreMeasurable (i : Instance) (pieces : List Piece) : Type 0 where
   pub inner : Inner i
-  pub checked : ¬ ((i.class.cut ≡ true) × (kind_of i.class.env ≡ Unrelated))
+  pub checked : ¬ IsCutOnUnrelated i.class
   pub few : length pieces ≤ MOST_PIECES
   pub place : All (HasPlace i) pieces
   pub moments : All (λ p. IsMoment p.from × IsMoment p.to) pieces

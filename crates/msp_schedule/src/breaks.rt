@@ -1,12 +1,11 @@
 // The first condition of a feasible schedule that a schedule breaks.
-ghost use Rattle.std.specs.Prelude.{true, ◌≡◌, ◌≢◌, ℕ, ◌<◌, ◌≤◌, ◌↔◌, slice_index_or, pos, ◌*ℤ◌, ◌≤ℤ◌, ◌<ℤ◌, length, All, IsTrue, IsNone, IfSome};
+ghost use Rattle.std.specs.Prelude.{◌≡◌, ◌≢◌, ℕ, ◌<◌, ◌≤◌, ◌↔◌, slice_index_or, pos, ◌*ℤ◌, ◌≤ℤ◌, ◌<ℤ◌, length, All, IsTrue, IsNone, IfSome};
 ghost use Rattle.msp_schedule.specs.declared.limits.TheConstants.{MOST_PIECES};
-ghost use Rattle.msp_class.specs.Env.{kind_of};
+ghost use Rattle.msp_class.specs.Env.{IsCutOnUnrelated, kind_of};
 ghost use Rattle.msp_instance.specs.declared.Instance.{Instance as InstanceValue};
 ghost use Rattle.msp_instance.specs.declared.ranges.TheConstants.{MOST_ARCS};
 ghost use Rattle.msp_instance.specs.Instance.{job_at, no_need};
 ghost use Rattle.msp_schedule.specs.Feasible.{Feasible, HasOperation, HasPlace, MayRun};
-ghost use Rattle.msp_class.specs.declared.environments.EnvKind.TheVariants.{Unrelated};
 ghost use Rattle.msp_instance.specs.Conditions.{LiesWithin, Inner};
 ghost use Rattle.msp_schedule.specs.Within.{IsMoment, Within, greatest_scaled};
 ghost use Rattle.msp_schedule.specs.Begins.{IsEarlierEnd};
@@ -214,7 +213,7 @@ pub(crate) fn keeps_route(pieces: &[Piece], job: u32, op: u32) -> bool
 fn found(inst: &Instance, s: &Schedule) -> Option<Break>
     requires inner { Inner inst.now }
     requires within { Within inst.now s.now }
-    requires decided { ¬ ((inst.now.class.cut ≡ true) × (kind_of inst.now.class.env ≡ Unrelated)) }
+    requires decided { ¬ IsCutOnUnrelated inst.now.class }
     ensures { IsDecision inst.now s.now result }
 {
     let pieces = s.pieces.as_slice();
@@ -250,7 +249,7 @@ fn found(inst: &Instance, s: &Schedule) -> Option<Break>
 pub fn first_break(inst: &Instance, s: &Schedule) -> Option<Break>
     requires inner { Inner inst.now }
     requires within { Within inst.now s.now }
-    requires decided { ¬ ((inst.now.class.cut ≡ true) × (kind_of inst.now.class.env ≡ Unrelated)) }
+    requires decided { ¬ IsCutOnUnrelated inst.now.class }
     ensures none { IsNone result ↔ Feasible inst.now s.now }
     ensures first { IfSome result (IsFirstBreak inst.now s.now) }
 {

@@ -1,7 +1,6 @@
 // The first condition of a feasible schedule that a schedule breaks, found by sorting.
-ghost use Rattle.std.specs.Prelude.{true, ◌≡◌, ◌↔◌, IsNone, IfOk, IfSome};
-ghost use Rattle.msp_class.specs.Env.{kind_of};
-ghost use Rattle.msp_class.specs.declared.environments.EnvKind.TheVariants.{Unrelated};
+ghost use Rattle.std.specs.Prelude.{◌↔◌, IsNone, IfOk, IfSome};
+ghost use Rattle.msp_class.specs.Env.{IsCutOnUnrelated};
 ghost use Rattle.msp_instance.specs.Conditions.{Inner};
 ghost use Rattle.msp_schedule.specs.Breaks.{IsDecision, IsFirstBreak};
 ghost use Rattle.msp_schedule.specs.Feasible.{Feasible};
@@ -20,7 +19,7 @@ use std::alloc::Global;
 fn decided(alloc: Global, inst: &Instance, s: &Schedule) -> Result<Option<Break>, NoMemory>
     requires inner { Inner inst.now }
     requires within { Within inst.now s.now }
-    requires decided { ¬ ((inst.now.class.cut ≡ true) × (kind_of inst.now.class.env ≡ Unrelated)) }
+    requires decided { ¬ IsCutOnUnrelated inst.now.class }
     ensures { IfOk result (IsDecision inst.now s.now) }
 {
     let pieces = s.pieces.as_slice();
@@ -57,7 +56,7 @@ fn decided(alloc: Global, inst: &Instance, s: &Schedule) -> Result<Option<Break>
 pub fn swept(alloc: Global, inst: &Instance, s: &Schedule) -> Result<Option<Break>, NoMemory>
     requires inner { Inner inst.now }
     requires within { Within inst.now s.now }
-    requires decided { ¬ ((inst.now.class.cut ≡ true) × (kind_of inst.now.class.env ≡ Unrelated)) }
+    requires decided { ¬ IsCutOnUnrelated inst.now.class }
     ensures none { IfOk result (λ r. IsNone r ↔ Feasible inst.now s.now) }
     ensures first { IfOk result (λ r. IfSome r (IsFirstBreak inst.now s.now)) }
 {

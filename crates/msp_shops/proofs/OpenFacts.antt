@@ -11,7 +11,8 @@ use Rattle.msp_class.specs.declared.class.Times.{Times}
 use Rattle.msp_class.specs.declared.environments.EnvKind.TheVariants.{OpenShop}
 use Rattle.msp_class.specs.Env.{kind_of, fixed_machines, is_shop}
 use Rattle.msp_class.proofs.IntegerRing.{≤ℤ_trans}
-use Rattle.msp_class.proofs.Sums.{total_below, total_below-same, total_below-bound, sum_by-mono, OnceBelow-range, OnceBelow-contains, length-OnceBelow}
+use Rattle.msp_class.specs.Sums.{total_below}
+use Rattle.msp_class.proofs.Sums.{total_below-same, total_below-bound, sum_by-mono, OnceBelow-range, OnceBelow-contains, length-OnceBelow}
 use Rattle.msp_instance.specs.declared.Need.{Need}
 use Rattle.msp_instance.specs.declared.Instance.{Instance}
 use Rattle.msp_instance.specs.Instance.{no_need, no_job, job_at, need_at}

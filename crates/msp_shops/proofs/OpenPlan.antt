@@ -5,7 +5,8 @@ use Rattle.std.proofs.lemmas.List.{length-map, get_or-map}
 use Rattle.std.proofs.lemmas.List.Elements.{All-append, All-contains, All-map, All-head, All-tail, Contains-append_left, Contains-append_right}
 use Rattle.std.proofs.lemmas.List.Sums.{sum_by-cons}
 use Rattle.std.proofs.lemmas.List.Sorted.{IsPermutation-map, All-permutation, Contains-permutation, sum_by-IsPermutation}
-use Rattle.msp_class.proofs.Sums.{total_below, total_below-range, sum_by-map, OnceBelow, OnceBelow-range, OnceBelow-permutation, OnceBelow-distinct, OnceBelow-contains, length-OnceBelow, AllPairs-tail, AllPairs-head}
+use Rattle.msp_class.specs.Sums.{total_below}
+use Rattle.msp_class.proofs.Sums.{total_below-range, sum_by-map, OnceBelow, OnceBelow-range, OnceBelow-permutation, OnceBelow-distinct, OnceBelow-contains, length-OnceBelow, AllPairs-tail, AllPairs-head}
 use Rattle.msp_instance.specs.declared.Instance.{Instance}
 use Rattle.msp_instance.specs.Instance.{need_at}
 use Rattle.msp_schedule.specs.declared.Piece.{Piece}

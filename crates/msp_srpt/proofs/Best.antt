@@ -12,7 +12,8 @@ use Rattle.msp_class.specs.declared.class.Crit.TheVariants.{SumC}
 use Rattle.msp_class.specs.Env.{kind_of}
 use Rattle.msp_class.specs.Crit.{is_greatest}
 use Rattle.msp_class.proofs.IntegerRing.{pos-le, ≤ℤ_trans, ≤ℤ_of_same, *ℤ-one}
-use Rattle.msp_class.proofs.Sums.{total_below, int_total_below-natural, sum_by-cons, sum_by-mono, sum_by-same, sum_by-filter}
+use Rattle.msp_class.specs.Sums.{total_below}
+use Rattle.msp_class.proofs.Sums.{int_total_below-natural, sum_by-cons, sum_by-mono, sum_by-same, sum_by-filter}
 use Rattle.msp_instance.specs.declared.Arc.{Arc}
 use Rattle.msp_instance.specs.declared.Instance.{Instance}
 use Rattle.msp_instance.specs.Instance.{job_at}

@@ -1,7 +1,8 @@
 -- Sums of numbers by how many of them are at most each moment, and sums that grow term by term.
 use Rattle.std.proofs.Common.{◌≡◌, ℕ, zero, suc, ◌+◌, ◌*◌, ◌<◌, ◌≤◌, Bool, true, false, cond, leb, refl, sym, ap, ◌∙◌, arith}
 use Rattle.std.proofs.lemmas.Bool.{leb-true, leb-false}
-use Rattle.msp_class.proofs.Sums.{total_below, total_below-mono, total_below-same, total_below-add, total_below-constant, total_below-term, total_below-exchange}
+use Rattle.msp_class.specs.Sums.{total_below}
+use Rattle.msp_class.proofs.Sums.{total_below-mono, total_below-same, total_below-add, total_below-constant, total_below-term, total_below-exchange}
 
 -- how many of the values of f below n are at most c
 abbrev pub at_most : ℕ → (ℕ → ℕ) → ℕ → ℕ

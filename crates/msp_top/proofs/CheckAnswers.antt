@@ -3,6 +3,7 @@ use Rattle.std.proofs.Common.{◌≡◌, ◌↔◌, inl, inr, ℕ, ◌+◌, ◌-
 use Rattle.std.proofs.Math.Seq.{drop-append_seam}
 use Rattle.std.proofs.lemmas.List.{length-append, length-drop, take_all}
 use Rattle.std.proofs.lemmas.List.Sums.{count_by-le-length}
+use Rattle.msp_class.specs.Env.{IsCutOnUnrelated}
 use Rattle.msp_text.specs.Bytes.{line_feed_byte}
 use Rattle.msp_instance.specs.declared.Instance.{Instance}
 use Rattle.msp_instance.proofs.Limits.{Inner-from_class}
@@ -20,7 +21,7 @@ use Rattle.msp_file.specs.ScheduleAnswers.{IsScheduleFaultOf}
 use Rattle.msp_report.proofs.CheckLemmas.{stated_within}
 use Rattle.msp_top.specs.declared.answers.Report.{Report}
 use Rattle.msp_top.specs.declared.refusal.Refusal.{Refusal}
-use Rattle.msp_top.specs.Checks.{IsUnchecked, BeginsWith, HasCheckStatus, fails, CheckIsRight, misread_front, unchecked, misread_rest}
+use Rattle.msp_top.specs.Checks.{BeginsWith, HasCheckStatus, fails, CheckIsRight, misread_front, unchecked, misread_rest}
 use Rattle.msp_top.specs.Refusals.{of_file_fault, of_unchecked}
 use Rattle.msp_top.specs.Answers.{Answers, ChecksRest}
 use Rattle.msp_top.proofs.SolveAnswers.{answers-along}
@@ -57,16 +58,16 @@ pub front_misread : (input : List ℕ) (fault : FileFault) (why : Refusal) → I
 front_misread input fault why first e = let Q : Refusal → Type 0 = λ w. Answers (CheckIsRight input) (Err w) in subst Q (sym e) (front_first input fault first)
 
 -- ---- the rest
-pub rest_unchecked : (filed : Filed) (line : ℕ) (rest : List ℕ) (why : Refusal) → IsUnchecked filed.instance.class → why ≡ of_unchecked filed.instance.class → Answers (ChecksRest filed line rest) (Err why)
+pub rest_unchecked : (filed : Filed) (line : ℕ) (rest : List ℕ) (why : Refusal) → IsCutOnUnrelated filed.instance.class → why ≡ of_unchecked filed.instance.class → Answers (ChecksRest filed line rest) (Err why)
 rest_unchecked filed line rest why cut e =
     let Q : Refusal → Type 0 = λ w. Answers (ChecksRest filed line rest) (Err w) in
     subst Q (sym e) (inr (λ input begins. unchecked filed line rest begins cut))
 
-rest_first : (filed : Filed) (line : ℕ) (rest : List ℕ) (fault : FileFault) → ¬ IsUnchecked filed.instance.class → IsScheduleFaultOf filed.names line rest fault → Answers (ChecksRest filed line rest) (Err (of_file_fault fault))
+rest_first : (filed : Filed) (line : ℕ) (rest : List ℕ) (fault : FileFault) → ¬ IsCutOnUnrelated filed.instance.class → IsScheduleFaultOf filed.names line rest fault → Answers (ChecksRest filed line rest) (Err (of_file_fault fault))
 rest_first filed line rest Memory may h = inl (refl, refl)
 rest_first filed line rest fault may h = inr (λ input begins. misread_rest filed line rest fault begins may (λ e. cc) h)
 
-pub rest_misread : (filed : Filed) (line : ℕ) (rest : List ℕ) (fault : FileFault) (why : Refusal) → ¬ IsUnchecked filed.instance.class → IsScheduleFaultOf filed.names line rest fault → why ≡ of_file_fault fault → Answers (ChecksRest filed line rest) (Err why)
+pub rest_misread : (filed : Filed) (line : ℕ) (rest : List ℕ) (fault : FileFault) (why : Refusal) → ¬ IsCutOnUnrelated filed.instance.class → IsScheduleFaultOf filed.names line rest fault → why ≡ of_file_fault fault → Answers (ChecksRest filed line rest) (Err why)
 rest_misread filed line rest fault why may first e =
     let Q : Refusal → Type 0 = λ w. Answers (ChecksRest filed line rest) (Err w) in
     subst Q (sym e) (rest_first filed line rest fault may first)

@@ -1,8 +1,7 @@
 -- What is right to say of the text of an instance with that of a schedule after it.
-use Rattle.std.specs.Prelude.{◌≡◌, ◌≢◌, ℕ, ◌+◌, ◌==◌, true, List, ◌++◌, count_by, Option, codes}
+use Rattle.std.specs.Prelude.{◌≡◌, ◌≢◌, ℕ, ◌+◌, ◌==◌, List, ◌++◌, count_by, Option, codes}
 use Rattle.msp_class.specs.declared.class.Class.{Class}
-use Rattle.msp_class.specs.declared.environments.EnvKind.TheVariants.{Unrelated}
-use Rattle.msp_class.specs.Env.{kind_of}
+use Rattle.msp_class.specs.Env.{IsCutOnUnrelated}
 use Rattle.msp_name.specs.Names.{name_of}
 use Rattle.msp_text.specs.Bytes.{line_feed_byte}
 use Rattle.msp_instance.specs.declared.Instance.{Instance}
@@ -21,10 +20,6 @@ use Rattle.msp_file.specs.Faults.{file_text}
 use Rattle.msp_report.specs.CheckText.{StatesItsCost, IsCheckText}
 use Rattle.msp_top.specs.Files.{file_status}
 use Rattle.msp_top.specs.Outcome.{Outcome, report, refusal}
-
--- The class is cut and on unrelated machines: no schedules of such a class are checked.
-abbrev pub IsUnchecked : Class → Type 0
-IsUnchecked c = (c.cut ≡ true) × (kind_of c.env ≡ Unrelated)
 
 abbrev pub unchecked_text : Class → List ℕ
 unchecked_text class = codes "no check for " ++ name_of class
@@ -50,7 +45,7 @@ pub record IsCheckReport (filed : Filed) (s : Stated) (text : List ℕ) : Type 0
 -- The outcome is right: a report on the schedule; the first fault of the text of the instance at the front; that no schedules of its
 -- class are checked; or the first fault of the rest as a text of a schedule.
 pub data CheckIsRight (input : List ℕ) : Outcome → Type 0 where
-  checked : (filed : Filed) (s : Stated) (line : ℕ) (rest : List ℕ) (status : ℕ) (text : List ℕ) → BeginsWith input filed line rest → ¬ IsUnchecked filed.instance.class → IsScheduleText rest filed.names s.schedule s.cost → HasCheckStatus filed.instance s status → IsCheckReport filed s text → CheckIsRight input (report status text)
+  checked : (filed : Filed) (s : Stated) (line : ℕ) (rest : List ℕ) (status : ℕ) (text : List ℕ) → BeginsWith input filed line rest → ¬ IsCutOnUnrelated filed.instance.class → IsScheduleText rest filed.names s.schedule s.cost → HasCheckStatus filed.instance s status → IsCheckReport filed s text → CheckIsRight input (report status text)
   misread_front : (fault : FileFault) → fault ≢ Memory → IsFrontFaultOf input fault → CheckIsRight input (refusal (file_status fault) (file_text fault))
-  unchecked : (filed : Filed) (line : ℕ) (rest : List ℕ) → BeginsWith input filed line rest → IsUnchecked filed.instance.class → CheckIsRight input (refusal 5 (unchecked_text filed.instance.class))
-  misread_rest : (filed : Filed) (line : ℕ) (rest : List ℕ) (fault : FileFault) → BeginsWith input filed line rest → ¬ IsUnchecked filed.instance.class → fault ≢ Memory → IsScheduleFaultOf filed.names line rest fault → CheckIsRight input (refusal (file_status fault) (file_text fault))
+  unchecked : (filed : Filed) (line : ℕ) (rest : List ℕ) → BeginsWith input filed line rest → IsCutOnUnrelated filed.instance.class → CheckIsRight input (refusal 5 (unchecked_text filed.instance.class))
+  misread_rest : (filed : Filed) (line : ℕ) (rest : List ℕ) (fault : FileFault) → BeginsWith input filed line rest → ¬ IsCutOnUnrelated filed.instance.class → fault ≢ Memory → IsScheduleFaultOf filed.names line rest fault → CheckIsRight input (refusal (file_status fault) (file_text fault))

@@ -1,10 +1,11 @@
 // The answer to `check`.
 ghost use Rattle.std.specs.Prelude.{◌≤◌, ◌↔◌, IsTrue, length, IsNone, IfOk};
+ghost use Rattle.msp_class.specs.Env.{IsCutOnUnrelated};
 ghost use Rattle.msp_instance.specs.Conditions.{InClass};
 ghost use Rattle.msp_schedule.specs.Feasible.{Feasible};
 ghost use Rattle.msp_grammar.specs.ScheduleText.{IsStated};
 ghost use Rattle.msp_file.specs.declared.schedule.TheConstants.{LAST_LINE};
-ghost use Rattle.msp_top.specs.Checks.{IsUnchecked, HasCheckStatus, IsCheckReport, CheckIsRight};
+ghost use Rattle.msp_top.specs.Checks.{HasCheckStatus, IsCheckReport, CheckIsRight};
 ghost use Rattle.msp_top.specs.Answers.{Answers, ChecksRest};
 
 use crate::answers::{CHECK_LIMIT, Report};
@@ -28,7 +29,7 @@ pub fn check_answer(alloc: Global, input: &[u8]) -> Result<Report, Refusal>
 
 /// Whether the class is cut and on unrelated machines.
 fn is_unchecked(class: Class) -> bool
-    ensures { IsTrue result ↔ IsUnchecked class }
+    ensures { IsTrue result ↔ IsCutOnUnrelated class }
 {
     class.cut && env_kind(class.env) == EnvKind::Unrelated
 }
@@ -68,7 +69,7 @@ fn status_of(filed: &Filed, stated: &Stated, broken: Option<Break>) -> u8
 fn report_on(alloc: Global, filed: &Filed, stated: &Stated) -> Result<Report, NoMemory>
     requires class { InClass filed.now.instance }
     requires stated { IsStated filed.now.names stated.now.schedule stated.now.cost }
-    requires decided { ¬ IsUnchecked filed.now.instance.class }
+    requires decided { ¬ IsCutOnUnrelated filed.now.instance.class }
     ensures status { IfOk result (λ made. HasCheckStatus filed.now.instance stated.now made.status) }
     ensures text { IfOk result (λ made. IsCheckReport filed.now stated.now made.text.items) }
 {

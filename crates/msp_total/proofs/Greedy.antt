@@ -1,7 +1,8 @@
 -- Positions taken one after another, each of least multiplier: the longest times at the least multipliers sum to the least.
 use Rattle.std.proofs.Common.{◌≡◌, ℕ, zero, suc, ◌+◌, ◌*◌, ◌-◌, ◌≤◌, ◌<◌, Bool, true, false, cond, eqb, arith, refl, sym, ap, subst, ◌∙◌, le_trans}
 use Rattle.std.proofs.Math.Nat.{mul-le-mul_right}
-use Rattle.msp_class.proofs.Sums.{total_below, total_below-mono, total_below-same, total_below-add, total_below-constant, total_below-none, total_below-only, total_below-split, total_below-bound, cond-le}
+use Rattle.msp_class.specs.Sums.{total_below}
+use Rattle.msp_class.proofs.Sums.{total_below-mono, total_below-same, total_below-add, total_below-constant, total_below-none, total_below-only, total_below-split, total_below-bound, cond-le}
 use Rattle.msp_schedule.proofs.Positions.{distinct_pairs}
 use Rattle.msp_total.specs.Turns.{seats, multiplier}
 

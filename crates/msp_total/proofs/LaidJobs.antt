@@ -5,7 +5,8 @@ use Rattle.std.proofs.lemmas.List.{length-map, get_or-map, get_or_default}
 use Rattle.std.proofs.lemmas.List.Elements.{All-nil, All-cons, All-head, All-tail}
 use Rattle.std.proofs.lemmas.List.Kept.{AllPairs-cons}
 use Rattle.std.proofs.lemmas.List.Sums.{sum_by-cons}
-use Rattle.msp_class.proofs.Sums.{cond-yes, cond-le, sum_by-mono, sum_by-constant, sum_by-map, sum_by-OnceBelow, total_below, total_below-same, total_below-add, total_below-none, total_below-only, OnceBelow, OnceBelow-distinct}
+use Rattle.msp_class.specs.Sums.{total_below}
+use Rattle.msp_class.proofs.Sums.{cond-yes, cond-le, sum_by-mono, sum_by-constant, sum_by-map, sum_by-OnceBelow, total_below-same, total_below-add, total_below-none, total_below-only, OnceBelow, OnceBelow-distinct}
 use Rattle.std.proofs.lemmas.Int.{ints}
 use Rattle.msp_schedule.specs.declared.Piece.{Piece}
 use Rattle.msp_schedule.specs.Piece.{length_of, job_of, start, finish, IsTimed}

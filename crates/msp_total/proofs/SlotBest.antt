@@ -10,7 +10,8 @@ use Rattle.std.proofs.lemmas.List.FromFn.{length-map-range_with_len, get_or-map-
 use Rattle.std.proofs.lemmas.List.Elements.{All-nil, All-map, All-contains}
 use Rattle.msp_class.specs.Env.{kind_of}
 use Rattle.msp_class.proofs.IntegerRing.{natural, pos-le, le-pos, pos-lt, int_max-right, zero-le-pos, ≤ℤ_refl, ≤ℤ_trans, *ℤ-one, *ℤ_comm, *ℤ-mono_nonneg}
-use Rattle.msp_class.proofs.Sums.{OnceBelow, OnceBelow-from_distinct, Contains-from_filter, int_total_below, int_total_below-same, int_total_below-mono, int_total_below-scale}
+use Rattle.msp_class.specs.Sums.{int_total_below}
+use Rattle.msp_class.proofs.Sums.{OnceBelow, OnceBelow-from_distinct, Contains-from_filter, int_total_below-same, int_total_below-mono, int_total_below-scale}
 use Rattle.msp_instance.specs.declared.Instance.{Instance}
 use Rattle.msp_instance.specs.Instance.{no_job, job_at, need_at}
 use Rattle.msp_instance.specs.Conditions.{Inner}

@@ -9,7 +9,8 @@ use native.Mathlib.Nat.{le_of_mul-le-mul_left}
 use Rattle.std.proofs.lemmas.List.Elements.{All-contains, Contains-get_or}
 use Rattle.msp_class.specs.declared.environments.EnvKind.TheVariants.{Identical}
 use Rattle.msp_class.specs.Env.{kind_of}
-use Rattle.msp_class.proofs.Sums.{total_below, total_below-same, total_below-range, Contains-filter}
+use Rattle.msp_class.specs.Sums.{total_below}
+use Rattle.msp_class.proofs.Sums.{total_below-same, total_below-range, Contains-filter}
 use Rattle.msp_class.proofs.IntegerRing.{natural, pos-le, le-pos, zero-le-pos, ≤ℤ_refl, ≤ℤ_trans}
 use Rattle.msp_instance.specs.declared.Instance.{Instance}
 use Rattle.msp_instance.specs.Instance.{job_at, need_at}

@@ -11,7 +11,8 @@ use Rattle.msp_class.specs.declared.environments.EnvKind.TheVariants.{Identical}
 use Rattle.msp_class.specs.Crit.{is_greatest, uses_due, uses_weight}
 use Rattle.msp_class.specs.Env.{kind_of}
 use Rattle.msp_class.proofs.IntegerRing.{one-*ℤ, *ℤ-mono, *ℤ-zero, ≤ℤ_trans}
-use Rattle.msp_class.proofs.Sums.{total_below, sum_by-map, sum_by-IsPermutation}
+use Rattle.msp_class.specs.Sums.{total_below}
+use Rattle.msp_class.proofs.Sums.{sum_by-map, sum_by-IsPermutation}
 use Rattle.msp_instance.specs.declared.Job.{Job}
 use Rattle.msp_instance.specs.declared.Instance.{Instance}
 use Rattle.msp_instance.specs.Instance.{no_need, no_job, job_at, need_at}

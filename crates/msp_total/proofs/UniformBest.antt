@@ -10,7 +10,8 @@ use Rattle.msp_schedule.proofs.Moves.{Contains-map}
 use Rattle.msp_class.specs.declared.environments.EnvKind.TheVariants.{Uniform, Unrelated}
 use Rattle.msp_class.specs.Env.{kind_of}
 use Rattle.msp_class.proofs.IntegerRing.{natural, pos-le, pos-same, ≤ℤ_trans, *ℤ_comm, *ℤ-mono_nonneg}
-use Rattle.msp_class.proofs.Sums.{sum_by-map, sum_by-OnceBelow, total_below, total_below-same, total_below-scale, OnceBelow, OnceBelow-from_permutation, OnceBelow-distinct, length-OnceBelow}
+use Rattle.msp_class.specs.Sums.{total_below}
+use Rattle.msp_class.proofs.Sums.{sum_by-map, sum_by-OnceBelow, total_below-same, total_below-scale, OnceBelow, OnceBelow-from_permutation, OnceBelow-distinct, length-OnceBelow}
 use Rattle.msp_instance.specs.declared.Instance.{Instance}
 use Rattle.msp_instance.specs.Instance.{need_at}
 use Rattle.msp_schedule.specs.declared.Piece.{Piece}

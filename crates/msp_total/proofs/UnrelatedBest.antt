@@ -7,7 +7,8 @@ use Rattle.std.proofs.lemmas.List.{length-map, get_or-map, get_or_default, same_
 use Rattle.std.proofs.lemmas.List.Elements.{All-contains}
 use lib.Arith.{digits_div, digits_mod}
 use Rattle.msp_class.proofs.IntegerRing.{pos-le, ≤ℤ_refl, ≤ℤ_trans, one-*ℤ, *ℤ_comm, *ℤ-mono_nonneg, *ℤ-one}
-use Rattle.msp_class.proofs.Sums.{cond-yes, cond-no, sum_by-map, sum_by-OnceBelow, total_below, total_below-mono, total_below-constant, int_total_below, int_total_below-same, int_total_below-natural, OnceBelow, OnceBelow-from_permutation, OnceBelow-distinct, length-OnceBelow}
+use Rattle.msp_class.specs.Sums.{total_below, int_total_below}
+use Rattle.msp_class.proofs.Sums.{cond-yes, cond-no, sum_by-map, sum_by-OnceBelow, total_below-mono, total_below-constant, int_total_below-same, int_total_below-natural, OnceBelow, OnceBelow-from_permutation, OnceBelow-distinct, length-OnceBelow}
 use Rattle.msp_instance.specs.declared.Instance.{Instance}
 use Rattle.msp_instance.specs.Instance.{need_at}
 use Rattle.msp_schedule.specs.declared.Piece.{Piece}

@@ -1,7 +1,7 @@
 -- Jobs by when they are released and when they begin, in whole numbers: job j is released at `release j` and begins at `begin j`. No public
 -- contract cites this file.
 use Rattle.std.specs.Prelude.{ℕ, ◌<◌, ◌≤◌, Bool, cond, eqb}
-use Rattle.msp_class.proofs.Sums.{total_below}
+use Rattle.msp_class.specs.Sums.{total_below}
 
 abbrev pub one_if : Bool → ℕ
 one_if b = cond b 1 0

@@ -1,7 +1,7 @@
 -- Jobs that take positions in turn, each the one of least multiplier that is left. No public contract cites this file.
 use Rattle.std.specs.Prelude.{◌≡◌, ℕ, ◌+◌, ◌*◌, ◌<◌, ◌≤◌, List, length, map, slice_index_or, All, AllPairs, IsPermutation, ◌==◌, if◌then◌else◌}
 use Rattle.std.specs.List.{range_with_len}
-use Rattle.msp_class.proofs.Sums.{total_below}
+use Rattle.msp_class.specs.Sums.{total_below}
 use Rattle.msp_instance.specs.declared.Instance.{Instance}
 use Rattle.msp_instance.specs.Instance.{need_at}
 use Rattle.msp_total.specs.declared.lay.Place.{Place}

@@ -1,6 +1,6 @@
 -- The pieces of the first jobs as the rule lays them, machine after machine. No public contract cites this file.
 use Rattle.std.specs.Prelude.{◌≡◌, ◌≢◌, ℕ, ◌+◌, ◌*◌, ◌<◌, ◌≤◌, ◌⊎◌, List, length, pos, All, AllPairs}
-use Rattle.msp_class.proofs.Sums.{total_below}
+use Rattle.msp_class.specs.Sums.{total_below}
 use Rattle.msp_instance.specs.declared.Instance.{Instance}
 use Rattle.msp_schedule.specs.declared.Piece.{Piece}
 use Rattle.msp_schedule.specs.Intervals.{IsApartOn, work_of}
