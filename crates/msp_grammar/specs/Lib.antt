@@ -2,3 +2,4 @@ pub mod Layout
 pub mod ScheduleText
 pub mod InstanceText
 pub mod Printing
+pub mod Limits

@@ -8,6 +8,7 @@
 
 mod filed;
 mod instance_printer;
+mod laws;
 mod layout;
 mod limits;
 mod schedule_printer;
@@ -16,6 +17,7 @@ mod tests;
 
 pub use filed::Filed;
 pub use instance_printer::print_instance;
+pub use laws::law_of_limits;
 pub use layout::{
     has_one_time, has_order, has_route, has_speeds, has_time_key, has_time_line, has_times,
     has_times_line,

@@ -1,1 +1,2 @@
 pub mod JobName
+pub mod Limits

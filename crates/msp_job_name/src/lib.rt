@@ -5,9 +5,11 @@
 #![tactic(auto)]
 
 mod job_name;
+mod laws;
 mod names;
 #[cfg(test)]
 mod tests;
 
 pub use job_name::{JobName, LONGEST_NAME, are_name_bytes};
+pub use laws::law_of_limits;
 pub use names::Names;

@@ -6,9 +6,11 @@
 
 mod apply;
 mod kinds;
+mod laws;
 mod row;
 mod steps;
 
 pub use apply::goes;
 pub use kinds::{carries, keeps_size, kind, text};
+pub use laws::law_of_limits;
 pub use row::{Chain, ROWS, Row, RowKind};
