@@ -24,7 +24,7 @@ use Rattle.msp_route.specs.Bounds.{IsBounded, KeepsBounds, greatest_unit, moment
 use Rattle.msp_route.specs.declared.bounds.TheConstants.{GREATEST_LINED_UP, GREATEST_RAISE}
 use Rattle.msp_route.specs.Changes.{same_costs}
 use Rattle.msp_turn.specs.LinedUp.{IsLinedUp}
-use Rattle.msp_turn.specs.OneMachine.{line_of}
+use Rattle.msp_turn.specs.laws.OneMachine.{line_of}
 use Rattle.msp_turn.proofs.LineLimits.{few_pieces, line_ends}
 
 -- what a reduction owes of a solution that it brings back

@@ -1,8 +1,7 @@
 -- Jobs that are exchanged where they stand: the next one is as it was.
 use Rattle.std.proofs.Common.{◌≡◌, ℕ, zero, suc, ◌<◌, List, [], ◌∷◌, ◌++◌, length, get_or, map, take, drop, All, refl, sym, ap, subst, ◌∙◌, arith}
 use Rattle.msp_instance.specs.declared.Job.{Job}
-use Rattle.msp_turn.specs.Exchanged.{exchanged_job}
-use Rattle.msp_turn.specs.ExchangeRows.{IsExchangeable}
+use Rattle.msp_turn.specs.Exchanged.{IsExchangeable, exchanged_job}
 
 same_item : {X : Type 0} (f : X → X) (xs : List X) (k : ℕ) (d : X) → k < length xs → get_or (map f (take k xs) ++ drop k xs) k d ≡ get_or xs k d
 same_item f [] k d h = absurd (omega arith)

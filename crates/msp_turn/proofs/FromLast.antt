@@ -15,7 +15,7 @@ use Rattle.msp_schedule.proofs.Exchange.{AllPairs-reverse}
 use Rattle.msp_table.specs.Rows.{turns_dates}
 use Rattle.msp_route.specs.Bounds.{IsBounded}
 use Rattle.msp_turn.specs.LinedUp.{from_last, IsLinedUp}
-use Rattle.msp_turn.specs.ExchangeRows.{IsExchange, IsBack-exchanged, from_last-below}
+use Rattle.msp_turn.specs.laws.ExchangeRows.{IsExchange, IsBack-exchanged, from_last-below}
 use Rattle.msp_turn.proofs.BroughtBack.{IsBrought, found_all, found_feasible, found_brought}
 
 module _ (row : ℕ) (i j : Instance) (x : IsExchange row i j) (stays : turns_dates row ≡ false) (inner : Inner i) (t : Schedule) (f : Feasible j t) (b : IsBounded j t) (D count : ℕ) (order found : List ℕ)

@@ -24,8 +24,8 @@ use Rattle.msp_table.specs.Rows.{turns_dates}
 use Rattle.msp_route.specs.Law.{IsBack, IsReordered}
 use Rattle.msp_route.specs.Bounds.{EndsBy, IsBounded, KeepsBounds, greatest_unit, moment_after}
 use Rattle.msp_route.specs.declared.bounds.TheConstants.{GREATEST_BACK_MOMENT, GREATEST_RAISE, GREATEST_LINED_UP}
-use Rattle.msp_turn.specs.Reversal.{raised_costs, reversed_piece, turning_moment, reversed_for}
-use Rattle.msp_turn.specs.ReversalLaw.{IsReverse, IsReverse-sym, IsReversible, turning-least, turning-charged, Feasible-reversed, IsBack-reversed}
+use Rattle.msp_turn.specs.Reversal.{IsReversible, raised_costs, reversed_piece, turning_moment, reversed_for}
+use Rattle.msp_turn.specs.laws.ReversalLaw.{IsReverse, IsReverse-sym, turning-least, turning-charged, Feasible-reversed, IsBack-reversed}
 
 -- ---- a release date over the unit
 release_by : (k : EnvKind) (h : Bool) (x : ℕ) → HasRelease (inner_limits k) h x → x ≤ 2 * GREATEST * inner_factor k

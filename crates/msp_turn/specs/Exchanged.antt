@@ -1,9 +1,17 @@
 -- Instances in which times and weights are exchanged.
-use Rattle.std.specs.Prelude.{ℕ, [], ◌∷◌, map, slice_index_or}
+use Rattle.std.specs.Prelude.{◌≡◌, ℕ, ◌≤◌, [], ◌∷◌, length, map, slice_index_or}
+use Rattle.msp_instance.specs.declared.ranges.TheConstants.{GREATEST}
 use Rattle.msp_instance.specs.declared.Job.{Job}
 use Rattle.msp_instance.specs.declared.Instance.{Instance}
 use Rattle.msp_instance.specs.Instance.{no_need}
 use Rattle.msp_turn.specs.Reversal.{led_turned}
+
+-- One need, on machine 0, with a time that may be a weight, and a weight that may be a time.
+pub record IsExchangeable (a : Job) : Type 0 where
+  pub single : length a.needs ≡ 1
+  pub machine : (slice_index_or a.needs 0 no_need).machine ≡ 0
+  pub time : (1 ≤ (slice_index_or a.needs 0 no_need).time) × ((slice_index_or a.needs 0 no_need).time ≤ GREATEST)
+  pub weight : (1 ≤ a.weight) × (a.weight ≤ GREATEST)
 
 -- The job of one operation, with its time and its weight exchanged.
 abbrev pub exchanged_job : Job → Job

@@ -1,13 +1,5 @@
 pub mod Turned
-pub mod TurnedArcs
 pub mod Reversal
-pub mod Examples
-pub mod ReversalLaw
-pub mod ReversalRows
-pub mod ReversalDates
 pub mod LinedUp
-pub mod SameRate
-pub mod OneMachine
 pub mod Exchanged
-pub mod ExchangeRows
-pub mod LineExamples
+pub mod laws

@@ -1,12 +1,14 @@
 -- Instances and schedules that are read from their end.
-use Rattle.std.specs.Prelude.{ℕ, ℤ, pos, neg_ℤ, unsigned_abs, ◌+ℤ◌, ◌-ℤ◌, ◌*ℤ◌, fold, map}
+use Rattle.std.specs.Prelude.{ℕ, ◌<◌, ℤ, pos, neg_ℤ, unsigned_abs, ◌+ℤ◌, ◌-ℤ◌, ◌*ℤ◌, length, fold, map, All}
 use Rattle.std.specs.Int.{int_max}
 use Rattle.msp_instance.specs.declared.Job.{Job}
 use Rattle.msp_instance.specs.declared.Instance.{Instance}
 use Rattle.msp_instance.specs.Instance.{job_at}
 use Rattle.msp_schedule.specs.declared.Piece.{Piece}
 use Rattle.msp_schedule.specs.declared.Schedule.{Schedule}
+use Rattle.msp_schedule.specs.Feasible.{Feasible}
 use Rattle.msp_schedule.specs.Cost.{greatest}
+use Rattle.msp_schedule.specs.Within.{Within, IsUnit, IsMoment}
 use Rattle.msp_route.specs.Law.{Rate}
 use Rattle.msp_route.specs.Changes.{led}
 use Rattle.msp_turn.specs.Turned.{turned_arcs}
@@ -51,3 +53,11 @@ turning_moment i s = fold int_max (pos 0) (map (λ p. p.to +ℤ (s.unit *ℤ pos
 -- The schedule as it is read from that moment back, so that no job of the instance begins before its release date.
 abbrev pub reversed_for : Instance → Schedule → Schedule
 reversed_for i s = record { unit = s.unit; pieces = map (reversed_piece (turning_moment i s)) s.pieces }
+
+-- The schedule can be read from its end for the instance, within the bounds of schedules.
+pub record IsReversible (i : Instance) (s : Schedule) : Type 0 where
+  pub feasible : Feasible i (reversed_for i s)
+  pub within : Within i (reversed_for i s)
+  pub unit : IsUnit s.unit
+  pub jobs : All (λ p. p.job < length i.jobs) s.pieces
+  pub moments : All (λ p. IsMoment p.from × IsMoment p.to) s.pieces

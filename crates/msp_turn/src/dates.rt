@@ -4,8 +4,8 @@ ghost use Rattle.msp_schedule.specs.Cost.{greatest};
 ghost use Rattle.msp_route.specs.Changes.{same_costs};
 ghost use Rattle.msp_route.specs.Sizes.{greatest_row_date};
 ghost use Rattle.msp_turn.specs.Reversal.{due_by_release, led_to_due_dates, greatest_due, release_by_due, led_to_release_dates, raised_costs, reversed_for};
-ghost use Rattle.msp_turn.specs.ReversalLaw.{IsPositive-raised, IsForth-reversed, IsBack-reversed};
-ghost use Rattle.msp_turn.specs.ReversalDates.{reversal_47, reversal_48};
+ghost use Rattle.msp_turn.specs.laws.ReversalLaw.{IsPositive-raised, IsForth-reversed, IsBack-reversed};
+ghost use Rattle.msp_turn.specs.laws.ReversalDates.{reversal_47, reversal_48};
 
 use crate::arcs::led_turned;
 use crate::reversal::reversed;

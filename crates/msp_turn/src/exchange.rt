@@ -6,8 +6,8 @@ ghost use Rattle.msp_table.specs.Rows.{goes_of};
 ghost use Rattle.msp_route.specs.Changes.{same_costs};
 ghost use Rattle.msp_route.proofs.Alike.{IsPositive-same};
 ghost use Rattle.msp_turn.specs.LinedUp.{from_last};
-ghost use Rattle.msp_turn.specs.Exchanged.{exchanged_job, exchanged};
-ghost use Rattle.msp_turn.specs.ExchangeRows.{IsExchangeable, IsForth-exchanged, IsBack-exchanged, exchange_51, exchange_52};
+ghost use Rattle.msp_turn.specs.Exchanged.{IsExchangeable, exchanged_job, exchanged};
+ghost use Rattle.msp_turn.specs.laws.ExchangeRows.{IsForth-exchanged, IsBack-exchanged, exchange_51, exchange_52};
 
 use crate::arcs::led_turned;
 use crate::ends::order_of_ends;

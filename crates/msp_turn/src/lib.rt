@@ -11,8 +11,6 @@ mod exchange;
 mod line_up;
 mod one_machine;
 mod reversal;
-#[cfg(test)]
-mod tests;
 mod trees;
 
 pub use dates::{Row47, Row48};

@@ -2,7 +2,7 @@
 ghost use Rattle.msp_route.specs.Changes.{led, same_costs};
 ghost use Rattle.msp_route.proofs.Alike.{IsPositive-same};
 ghost use Rattle.msp_turn.specs.LinedUp.{by_ends};
-ghost use Rattle.msp_turn.specs.OneMachine.{lower_49, forth_49, back_49, lower_50, forth_50, back_50};
+ghost use Rattle.msp_turn.specs.laws.OneMachine.{lower_49, forth_49, back_49, lower_50, forth_50, back_50};
 
 use crate::ends::order_of_ends;
 use crate::line_up::line_up;

@@ -3,8 +3,7 @@ ghost use Rattle.std.specs.Prelude.{◌≡◌, ◌<◌, ℤ, pos, ◌+ℤ◌, �
 ghost use Rattle.msp_instance.specs.Conditions.{Inner};
 ghost use Rattle.msp_schedule.specs.Within.{IsUnit, IsMoment};
 ghost use Rattle.msp_schedule.specs.Cost.{IsSolution};
-ghost use Rattle.msp_turn.specs.Reversal.{reversed_piece, turning_moment, reversed_for};
-ghost use Rattle.msp_turn.specs.ReversalLaw.{IsReversible};
+ghost use Rattle.msp_turn.specs.Reversal.{IsReversible, reversed_piece, turning_moment, reversed_for};
 
 use msp_class::List;
 use msp_instance::{Instance, Job};

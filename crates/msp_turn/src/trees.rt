@@ -2,8 +2,8 @@
 ghost use Rattle.std.specs.Prelude.{pos};
 ghost use Rattle.msp_route.specs.Changes.{same_costs};
 ghost use Rattle.msp_turn.specs.Reversal.{led_turned, reversed_for};
-ghost use Rattle.msp_turn.specs.ReversalLaw.{IsPositive-raised, IsForth-reversed, IsBack-reversed};
-ghost use Rattle.msp_turn.specs.ReversalRows.{reversal_45, reversal_46};
+ghost use Rattle.msp_turn.specs.laws.ReversalLaw.{IsPositive-raised, IsForth-reversed, IsBack-reversed};
+ghost use Rattle.msp_turn.specs.laws.ReversalRows.{reversal_45, reversal_46};
 
 use crate::arcs::led_turned;
 use crate::reversal::reversed;

@@ -3,7 +3,7 @@ use Rattle.std.proofs.Common.{pos, ◌≤ℤ◌, arith, sym, subst}
 use Rattle.std.proofs.lemmas.Grind.{common_steps}
 use Rattle.msp_schedule.specs.Feasible.{Feasible}
 use Rattle.msp_schedule.specs.Within.{Within}
-use Rattle.msp_turn.specs.ReversalLaw.{turning-natural}
+use Rattle.msp_turn.specs.laws.ReversalLaw.{turning-natural}
 use Rattle.msp_turn.proofs.reversal.reversed.Goals as goal
 
 pub reverse_all-requires-clause-last : goal.reverse_all-requires-clause-last

@@ -1,7 +1,7 @@
 -- The moment is the one of the pieces before the place.
 use Rattle.std.proofs.Common.{◌≡◌, map, take, fold, pos}
 use Rattle.std.specs.Int.{int_max}
-use Rattle.msp_turn.specs.ReversalLaw.{reach}
+use Rattle.msp_turn.specs.laws.ReversalLaw.{reach}
 use Rattle.msp_turn.proofs.reversal.turning_moment.Given as goal
 
 abbrev pub invariant-loop-piece : goal.invariant-loop-piece

@@ -1,5 +1,5 @@
 -- The lower schedule is read from its end.
-use Rattle.msp_turn.specs.ReversalDates.{reversal_47}
+use Rattle.msp_turn.specs.laws.ReversalDates.{reversal_47}
 use Rattle.msp_turn.proofs.ReversalBounds.{IsReversible-back, brought_back}
 use Rattle.msp_turn.proofs.dates.Row47Reduction.back.Goals as goal
 

@@ -1,6 +1,6 @@
 -- Release dates fit the type of due dates.
 use Rattle.std.proofs.Common.{◌≤◌, All, sym, ap, subst, ◌∙◌}
-use Rattle.msp_turn.specs.ReversalDates.{releases_fit}
+use Rattle.msp_turn.specs.laws.ReversalDates.{releases_fit}
 use Rattle.msp_turn.proofs.dates.Row47Reduction.down.Goals as goal
 use Rattle.msp_route.specs.Sizes.{greatest_row_date}
 

@@ -1,5 +1,5 @@
 -- Times and weights are in each other's range.
-use Rattle.msp_turn.specs.ExchangeRows.{exchange_51}
+use Rattle.msp_turn.specs.laws.ExchangeRows.{exchange_51}
 use Rattle.msp_turn.proofs.exchange.Row51Reduction.down.Goals as goal
 
 pub exchanged-requires-clause-jobs : goal.exchanged-requires-clause-jobs

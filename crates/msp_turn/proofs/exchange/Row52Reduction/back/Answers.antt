@@ -3,7 +3,7 @@ use Rattle.std.proofs.Common.{refl}
 use Rattle.std.proofs.lemmas.Result.{IfOk-weaker}
 use Rattle.msp_turn.specs.LinedUp.{from_last, IsLinedUp}
 use Rattle.msp_turn.specs.Exchanged.{exchanged}
-use Rattle.msp_turn.specs.ExchangeRows.{exchange_52}
+use Rattle.msp_turn.specs.laws.ExchangeRows.{exchange_52}
 use Rattle.msp_turn.proofs.BroughtBack.{IsBrought, each_of}
 use Rattle.msp_turn.proofs.FromLast.{last_all, last_feasible, last_brought}
 use Rattle.msp_turn.proofs.exchange.Row52Reduction.back.Goals as goal

@@ -1,7 +1,7 @@
 -- The lower schedule serves.
 use Rattle.std.proofs.Common.{refl}
 use Rattle.msp_route.specs.Changes.{led}
-use Rattle.msp_turn.specs.OneMachine.{Recuts-49, led-env, led-cost, back_49}
+use Rattle.msp_turn.specs.laws.OneMachine.{Recuts-49, led-env, led-cost, back_49}
 use Rattle.msp_turn.proofs.BroughtBack.{brought_same}
 use Rattle.msp_turn.proofs.one_machine.Row49Reduction.back.Goals as goal
 

@@ -4,7 +4,7 @@ use Rattle.std.proofs.lemmas.List.Sorted.{IsPermutation-refl}
 use Rattle.std.proofs.lemmas.Result.{IfOk-weaker}
 use Rattle.msp_route.specs.Changes.{led}
 use Rattle.msp_turn.specs.LinedUp.{by_ends, IsLinedUp}
-use Rattle.msp_turn.specs.OneMachine.{Recuts-50, led-env, lower_50, back_50}
+use Rattle.msp_turn.specs.laws.OneMachine.{Recuts-50, led-env, lower_50, back_50}
 use Rattle.msp_turn.proofs.BroughtBack.{IsBrought, found_feasible, found_brought, each_of}
 use Rattle.msp_turn.proofs.one_machine.Row50Reduction.back.Goals as goal
 

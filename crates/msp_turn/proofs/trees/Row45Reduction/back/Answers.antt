@@ -1,5 +1,5 @@
 -- The lower schedule is read from its end.
-use Rattle.msp_turn.specs.ReversalRows.{reversal_45}
+use Rattle.msp_turn.specs.laws.ReversalRows.{reversal_45}
 use Rattle.msp_turn.proofs.ReversalBounds.{IsReversible-back, brought_back}
 use Rattle.msp_turn.proofs.trees.Row45Reduction.back.Goals as goal
 

@@ -1,4 +1,4 @@
--- Costs that stay: a half of a law where the units are one and the cost does not grow. No public contract cites this file.
+-- Costs that stay: a half of a law where the units are one and the cost does not grow.
 use Rattle.std.proofs.Common.{◌≡◌, pos, ◌+ℤ◌, ◌*ℤ◌, ◌≤ℤ◌, ℤ, sym, ap, ◌∙◌, subst₂, arith}
 use Rattle.std.proofs.lemmas.Int.{ints}
 use Rattle.msp_class.proofs.IntegerRing.{one-*ℤ, zero-*ℤ, +ℤ_idr, *ℤ_comm, *ℤ-mono_nonneg}

@@ -1,4 +1,4 @@
--- The rows between cut and uncut jobs on one machine without release dates: the laws. No public contract cites this file.
+-- The rows between cut and uncut jobs on one machine without release dates: the laws.
 use Rattle.std.proofs.Common.{◌≡◌, ◌≢◌, ℕ, ◌<◌, Bool, true, false, not, List, length, All, AllPairs, pos, nat_abs, ◌≤ℤ◌, inl, Some, unwrap_or, refl, sym, ap, subst, ◌∙◌, arith}
 use Rattle.std.proofs.lemmas.Bool.{eqb-true, and_parts}
 use Rattle.std.proofs.lemmas.Int.{ints}
@@ -27,7 +27,7 @@ use Rattle.msp_route.specs.Law.{Applies, IsLower, IsForth, IsBack}
 use Rattle.msp_route.specs.Changes.{led, same_costs}
 use Rattle.msp_route.proofs.Applied.{part_and_condition}
 use Rattle.msp_turn.specs.LinedUp.{by_ends}
-use Rattle.msp_turn.specs.SameRate.{costs_down, costs_back}
+use Rattle.msp_turn.specs.laws.SameRate.{costs_down, costs_back}
 
 -- ---- the instance in the class with or without cut jobs
 abbrev pub recut : Bool → Instance → Instance

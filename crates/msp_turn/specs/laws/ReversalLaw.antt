@@ -1,4 +1,4 @@
--- The law of two instances each of which is the other read from its end. No public contract cites this file.
+-- The law of two instances each of which is the other read from its end.
 use Rattle.std.proofs.Common.{◌≡◌, ℕ, ◌<◌, true, length, get_or, map, All, Contains, inl, inr, ℤ, pos, ◌+ℤ◌, ◌-ℤ◌, ◌*ℤ◌, ◌≤ℤ◌, ◌<ℤ◌, refl, sym, ap, subst, subst₂, ◌∙◌, arith}
 use Rattle.std.proofs.lemmas.Int.{ints, fold-int_max_bounds, fold-int_max_reached}
 use Rattle.std.proofs.lemmas.List.Elements.{All-map, All-contains, Contains-get_or}
@@ -12,7 +12,6 @@ use Rattle.msp_schedule.specs.declared.Piece.{Piece}
 use Rattle.msp_schedule.specs.declared.Schedule.{Schedule}
 use Rattle.msp_schedule.specs.Feasible.{Feasible}
 use Rattle.msp_schedule.specs.Cost.{end_of, job_cost, cost_of}
-use Rattle.msp_schedule.specs.Within.{Within, IsUnit, IsMoment}
 use Rattle.msp_schedule.proofs.Frames.{frame_of, Lasts, HasWork, IsShaped, IsShaped-from_conditions, HasWork-from_conditions, Fits-from_feasible, piece_of}
 use Rattle.msp_schedule.proofs.Moves.{Contains-map}
 use Rattle.msp_schedule.proofs.LastEnds.{last_end-contains}
@@ -144,12 +143,3 @@ IsBack-reversed {a} {i} {j} r inner s f =
   where
     least : (y x z o : ℤ) → o ≡ pos 0 → (y +ℤ z) ≤ℤ (x +ℤ o) → ((pos 1 *ℤ y) +ℤ z) ≤ℤ (pos 1 *ℤ x)
     least y x z o e h = subst₂ (λ p q. (p +ℤ z) ≤ℤ q) (sym (one-*ℤ y)) (sym (one-*ℤ x)) (omega (arith, ints))
-
--- ---- what the calls need
--- the schedule can be read from its end for the instance, within the bounds of schedules
-pub record IsReversible (i : Instance) (s : Schedule) : Type 0 where
-  pub feasible : Feasible i (reversed_for i s)
-  pub within : Within i (reversed_for i s)
-  pub unit : IsUnit s.unit
-  pub jobs : All (λ p. p.job < length i.jobs) s.pieces
-  pub moments : All (λ p. IsMoment p.from × IsMoment p.to) s.pieces

@@ -1,4 +1,4 @@
--- Turned arcs keep what inner instances ask of arcs: degrees are exchanged, and a list that puts every arc forward does so reversed. No public contract cites this file.
+-- Turned arcs keep what inner instances ask of arcs: degrees are exchanged, and a list that puts every arc forward does so reversed.
 use Rattle.std.proofs.Common.{◌≡◌, ◌≢◌, ℕ, ◌-◌, ◌*◌, ◌<◌, Bool, List, length, get_or, reverse, All, Contains, Some, cond, sym, ap, ◌∙◌, arith}
 use Rattle.std.specs.Prelude.{◌==◌, slice_get}
 use Rattle.std.proofs.lemmas.List.{length-map, length-reverse, get_or-reverse}

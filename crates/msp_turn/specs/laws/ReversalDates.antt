@@ -1,4 +1,4 @@
--- The rows that read schedules from their end, and in which release dates and due dates take each other's places. No public contract cites this file.
+-- The rows that read schedules from their end, and in which release dates and due dates take each other's places.
 use Rattle.std.proofs.Common.{◌≡◌, ℕ, suc, ◌*◌, ◌<◌, ◌≤◌, Bool, true, false, List, [], ◌∷◌, length, get_or, map, fold, All, Contains, inl, inr, ℤ, pos, negsuc, neg_ℤ, ◌+ℤ◌, ◌-ℤ◌, ◌*ℤ◌, ◌≤ℤ◌, Some, unwrap_or, refl, sym, ap, subst, subst₂, ◌∙◌, arith}
 use Rattle.std.specs.Prelude.{unsigned_abs}
 use Rattle.std.specs.Int.{int_max}
@@ -30,10 +30,10 @@ use Rattle.msp_route.proofs.InnerChanges.{common_time-map}
 use Rattle.msp_route.specs.Sizes.{greatest_row_date}
 use Rattle.msp_route.proofs.Applied.{parts_and_condition}
 use Rattle.msp_turn.specs.Turned.{turned_arcs}
-use Rattle.msp_turn.specs.TurnedArcs.{turned_with, Inner-turned}
+use Rattle.msp_turn.specs.laws.TurnedArcs.{turned_with, Inner-turned}
 use Rattle.msp_turn.specs.Reversal.{due_by_release, led_to_due_dates, greatest_due, release_by_due, led_to_release_dates}
-use Rattle.msp_turn.specs.ReversalLaw.{IsReverse}
-use Rattle.msp_turn.specs.ReversalRows.{IsReversal, cmax_charge}
+use Rattle.msp_turn.specs.laws.ReversalLaw.{IsReverse}
+use Rattle.msp_turn.specs.laws.ReversalRows.{IsReversal, cmax_charge}
 
 -- ---- jobs that are changed one by one, in a class with other dates
 -- the limit of dates

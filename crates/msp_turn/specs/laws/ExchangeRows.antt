@@ -1,4 +1,4 @@
--- The rows between intrees and outtrees by exchange: the instances at both ends are each other's exchange. No public contract cites this file.
+-- The rows between intrees and outtrees by exchange: the instances at both ends are each other's exchange.
 use Rattle.std.proofs.Common.{◌≡◌, ℕ, ◌*◌, ◌<◌, ◌≤◌, false, List, [], ◌∷◌, reverse, length, get_or, map, All, AllPairs, Contains, pos, nat_abs, ◌-ℤ◌, ◌≤ℤ◌, Some, unwrap_or, refl, sym, ap, subst, subst₂, ◌∙◌, arith}
 use Rattle.std.specs.Prelude.{slice_index_or}
 use Rattle.std.specs.List.{range_with_len}
@@ -41,19 +41,12 @@ use Rattle.msp_route.specs.Law.{Applies, IsLower, IsForth, IsBack}
 use Rattle.msp_route.specs.Changes.{same_costs}
 use Rattle.msp_route.proofs.Applied.{parts_and_condition}
 use Rattle.msp_turn.specs.Turned.{turned_arc, turned_arcs}
-use Rattle.msp_turn.specs.TurnedArcs.{turned_with, Inner-turned}
+use Rattle.msp_turn.specs.laws.TurnedArcs.{turned_with, Inner-turned}
 use Rattle.msp_turn.specs.LinedUp.{from_last}
-use Rattle.msp_turn.specs.OneMachine.{IsNoDearer, line_of, forth_from, back_from}
-use Rattle.msp_turn.specs.Exchanged.{exchanged_job, exchanged}
+use Rattle.msp_turn.specs.laws.OneMachine.{IsNoDearer, line_of, forth_from, back_from}
+use Rattle.msp_turn.specs.Exchanged.{IsExchangeable, exchanged_job, exchanged}
 
 -- ---- jobs
--- one need, on machine 0, with a time that may be a weight, and a weight that may be a time
-pub record IsExchangeable (a : Job) : Type 0 where
-  pub single : length a.needs ≡ 1
-  pub machine : (slice_index_or a.needs 0 no_need).machine ≡ 0
-  pub time : (1 ≤ (slice_index_or a.needs 0 no_need).time) × ((slice_index_or a.needs 0 no_need).time ≤ GREATEST)
-  pub weight : (1 ≤ a.weight) × (a.weight ≤ GREATEST)
-
 -- the class from which the rows lead
 pub record IsExchangeClass (from : Order) (c : Class) : Type 0 where
   pub order : c.order ≡ from

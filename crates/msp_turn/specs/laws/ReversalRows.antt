@@ -1,4 +1,4 @@
--- The rows that read schedules from their end: the instances at both ends are each other's reverse. No public contract cites this file.
+-- The rows that read schedules from their end: the instances at both ends are each other's reverse.
 use Rattle.std.proofs.Common.{◌≡◌, ℕ, ◌<◌, true, false, length, get_or, ℤ, pos, ◌+ℤ◌, ◌*ℤ◌, Some, unwrap_or, refl, sym, ap, subst, ◌∙◌}
 use Rattle.std.proofs.lemmas.Bool.{eqb-true, and_parts}
 use Rattle.msp_class.specs.declared.class.Class.{Class}
@@ -22,9 +22,9 @@ use Rattle.msp_table.specs.Rows.{goes_of, table, turns_dates}
 use Rattle.msp_route.specs.Law.{Applies, IsLower}
 use Rattle.msp_route.proofs.Applied.{parts_and_condition}
 use Rattle.msp_turn.specs.Turned.{turned_arcs}
-use Rattle.msp_turn.specs.TurnedArcs.{turned_with, Inner-turned}
+use Rattle.msp_turn.specs.laws.TurnedArcs.{turned_with, Inner-turned}
 use Rattle.msp_turn.specs.Reversal.{led_turned}
-use Rattle.msp_turn.specs.ReversalLaw.{IsReverse}
+use Rattle.msp_turn.specs.laws.ReversalLaw.{IsReverse}
 
 -- the row leads to the reverse of the instance, at costs that are greater by the addend; only row 47 has release dates above
 pub record IsReversal (row : ℕ) (addend : ℤ) (i j : Instance) : Type 0 where
