@@ -21,7 +21,7 @@ use Rattle.msp_route.specs.declared.bounds.TheConstants.{GREATEST_BACK_MOMENT, G
 use Rattle.msp_route.specs.Law.{IsBack, IsReordered}
 use Rattle.msp_route.specs.Bounds.{IsBounded, KeepsBounds, greatest_unit}
 use Rattle.msp_machines.specs.Unrelated.{least_common_multiple, speed_rate, shrunk_schedule}
-use Rattle.msp_machines.specs.Stretched.{IsLedBySpeeds}
+use Rattle.msp_machines.specs.laws.Stretched.{IsLedBySpeeds}
 
 unit_fits : (u : ℤ) (n : ℕ) → pos 1 ≤ℤ u → u ≤ℤ GREATEST_CARRIED_UNIT → 1 ≤ n → n ≤ GREATEST_MULTIPLE → IsUnit (u *ℤ pos n)
 unit_fits (negsuc u) n h k some small = absurd (omega (arith, ints))

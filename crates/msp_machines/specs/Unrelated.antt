@@ -1,14 +1,16 @@
 -- The changes that the rows to unrelated machines make.
-use Rattle.std.specs.Prelude.{ℕ, ◌*◌, ◌/◌, ◌%◌, ◌==◌, List, [], length, pos, ◌*ℤ◌, slice_index_or, map, fold, find, unwrap_or}
+use Rattle.std.specs.Prelude.{ℕ, ◌*◌, ◌/◌, ◌%◌, ◌≤◌, ◌==◌, List, [], length, pos, ◌*ℤ◌, slice_index_or, map, fold, find, unwrap_or, All}
 use Rattle.std.specs.List.{list_all, range_with_len}
 use Rattle.msp_class.specs.declared.class.Crit.{Crit}
 use Rattle.msp_class.specs.declared.class.Crit.TheVariants.{Cmax, Lmax, Fmax, SumC, SumWC, SumU, SumWU, SumT, SumWT}
+use Rattle.msp_instance.specs.declared.ranges.TheConstants.{GREATEST}
 use Rattle.msp_instance.specs.declared.Need.{Need}
 use Rattle.msp_instance.specs.declared.Step.{Step}
 use Rattle.msp_instance.specs.declared.Curve.{Curve}
 use Rattle.msp_instance.specs.declared.Job.{Job}
 use Rattle.msp_instance.specs.declared.Instance.{Instance}
 use Rattle.msp_instance.specs.Instance.{no_need}
+use Rattle.msp_instance.specs.Conditions.{LiesWithin}
 use Rattle.msp_schedule.specs.declared.Piece.{Piece}
 use Rattle.msp_schedule.specs.declared.Schedule.{Schedule}
 use Rattle.msp_route.specs.Law.{Rate}
@@ -49,6 +51,14 @@ stretched_curve factor c = record {
   base = pos factor *ℤ c.base;
   steps = map (stretched_step factor) c.steps;
 }
+
+-- Numbers that may be multiplied.
+pub record IsStretchable (a : Job) : Type 0 where
+  pub time : only_time a ≤ GREATEST
+  pub release : a.release ≤ 2 * GREATEST
+  pub due : LiesWithin (2 * GREATEST) a.due
+  pub base : LiesWithin (2 * GREATEST) a.curve.base
+  pub steps : All (λ s. (s.above ≤ GREATEST) × (s.add ≤ GREATEST)) a.curve.steps
 
 -- The job with its times multiplied by the factor, a multiple of all speeds. On each machine its time is divided by the speed there.
 abbrev pub stretched : ℕ → List ℕ → Job → Job

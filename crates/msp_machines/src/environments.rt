@@ -1,7 +1,7 @@
 // The rows that lead to an environment of which theirs is a case. The machines and the jobs stay as they are.
 ghost use Rattle.msp_route.specs.Changes.{led, same_costs};
 ghost use Rattle.msp_route.proofs.Alike.{IsPositive-same, IsForth-alike, IsBack-alike};
-ghost use Rattle.msp_machines.specs.Environments.{alike_17, alike_18, alike_19, alike_22, alike_25, alike_35, alike_36, alike_37, alike_38, alike_41, alike_42, alike_43, alike_44};
+ghost use Rattle.msp_machines.specs.laws.Environments.{alike_17, alike_18, alike_19, alike_22, alike_25, alike_35, alike_36, alike_37, alike_38, alike_41, alike_42, alike_43, alike_44};
 
 use msp_class::NoMemory;
 use msp_instance::Instance;

@@ -5,14 +5,8 @@
 
 mod environments;
 mod same_jobs;
-#[cfg(test)]
-mod shop_tests;
 mod shops;
-#[cfg(test)]
-mod tests;
 mod unrelated;
-#[cfg(test)]
-mod unrelated_tests;
 
 pub use environments::{
     Row17, Row18, Row19, Row22, Row25, Row35, Row36, Row37, Row38, Row41, Row42, Row43, Row44,

@@ -4,8 +4,8 @@ ghost use Rattle.msp_route.specs.Law.{Applies};
 ghost use Rattle.msp_route.specs.Changes.{led, same_costs};
 ghost use Rattle.msp_route.proofs.Alike.{IsPositive-same};
 ghost use Rattle.msp_machines.specs.Machines.{equal_speeds, led_at_equal_speeds, led_to_two_machines};
-ghost use Rattle.msp_machines.specs.Served.{IsForth-served, IsBack-served};
-ghost use Rattle.msp_machines.specs.SameJobs.{serves_20, serves_21, serves_32, serves_33, serves_34};
+ghost use Rattle.msp_machines.specs.laws.Served.{IsForth-served, IsBack-served};
+ghost use Rattle.msp_machines.specs.laws.SameJobs.{serves_20, serves_21, serves_32, serves_33, serves_34};
 
 use msp_class::{List, NoMemory};
 use msp_instance::Instance;
@@ -15,7 +15,7 @@ use msp_table::Row;
 use std::alloc::Global;
 
 /// A speed of 1 for each machine.
-pub(crate) fn equal_speeds(alloc: Global, machines: u32) -> Result<List<u64>, NoMemory>
+fn equal_speeds(alloc: Global, machines: u32) -> Result<List<u64>, NoMemory>
     ensures { IfOk result (λ speeds. speeds ≡ equal_speeds machines) }
 {
     let mut speeds = List::new(alloc);

@@ -5,10 +5,10 @@ ghost use Rattle.msp_route.specs.Law.{Applies};
 ghost use Rattle.msp_route.specs.Changes.{same_costs};
 ghost use Rattle.msp_route.proofs.Alike.{IsPositive-same};
 ghost use Rattle.msp_machines.specs.Shops.{with_idle_operation, with_idle_machine, without_empty, without_empty_operations, with_number, machine_number, numbered_by_route, numbered_by_machine};
-ghost use Rattle.msp_machines.specs.Served.{IsForth-served, IsBack-served};
-ghost use Rattle.msp_machines.specs.IdleMachines.{serves_28, serves_29, serves_30, serves_31};
-ghost use Rattle.msp_machines.specs.Renumbered.{IsForth-renumbered, IsBack-renumbered};
-ghost use Rattle.msp_machines.specs.Routes.{renumbered_39, renumbered_40};
+ghost use Rattle.msp_machines.specs.laws.Served.{IsForth-served, IsBack-served};
+ghost use Rattle.msp_machines.specs.laws.IdleMachines.{serves_28, serves_29, serves_30, serves_31};
+ghost use Rattle.msp_machines.specs.laws.Renumbered.{IsForth-renumbered, IsBack-renumbered};
+ghost use Rattle.msp_machines.specs.laws.Routes.{renumbered_39, renumbered_40};
 
 use msp_class::{List, NoMemory};
 use msp_instance::{Instance, Job, Need};

@@ -11,11 +11,10 @@ ghost use Rattle.msp_schedule.specs.Cost.{IsSolution};
 ghost use Rattle.msp_route.specs.Law.{Applies};
 ghost use Rattle.msp_route.specs.Changes.{same_costs};
 ghost use Rattle.msp_route.proofs.Alike.{IsPositive-same};
-ghost use Rattle.msp_machines.specs.Unrelated.{needs_by, only_time, on_each_machine, led_to_each, least_common_multiple, stretched_step, stretched_curve, stretched, led_by_speeds, speed_rate, stretched_schedule, shrunk_schedule};
-ghost use Rattle.msp_machines.specs.StretchedInner.{IsStretchable};
-ghost use Rattle.msp_machines.specs.Stretched.{led_26, led_27};
-ghost use Rattle.msp_machines.specs.OnEach.{serves_23, serves_24};
-ghost use Rattle.msp_machines.specs.Served.{IsForth-served, IsBack-served};
+ghost use Rattle.msp_machines.specs.Unrelated.{IsStretchable, needs_by, only_time, on_each_machine, led_to_each, least_common_multiple, stretched_step, stretched_curve, stretched, led_by_speeds, speed_rate, stretched_schedule, shrunk_schedule};
+ghost use Rattle.msp_machines.specs.laws.Stretched.{led_26, led_27};
+ghost use Rattle.msp_machines.specs.laws.OnEach.{serves_23, serves_24};
+ghost use Rattle.msp_machines.specs.laws.Served.{IsForth-served, IsBack-served};
 
 use msp_class::{List, NoMemory};
 use msp_instance::{Curve, Instance, Job, Need, Step, common_multiple};

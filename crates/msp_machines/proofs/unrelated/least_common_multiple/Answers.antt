@@ -2,7 +2,7 @@
 use Rattle.std.proofs.Common.{◌+◌, subst, arith}
 use Rattle.std.proofs.lemmas.List.{take_all}
 use Rattle.msp_instance.proofs.MultipleLemmas.{IsLeastOfAll, IsLeastOfAll-none, IsLeastOfAll-more}
-use Rattle.msp_machines.specs.LeastMultiple.{least_multiple-only, some_small}
+use Rattle.msp_machines.specs.laws.LeastMultiple.{least_multiple-only, some_small}
 use Rattle.msp_machines.proofs.unrelated.least_common_multiple.Goals as goal
 
 pub loop-speed-init : goal.loop-speed-init

@@ -1,6 +1,6 @@
 -- One more need.
 use Rattle.std.proofs.Common.{◌*◌, ◌/◌, slice_index_or, rules}
-use Rattle.msp_machines.specs.NeedsBy.{next_needs}
+use Rattle.msp_machines.specs.laws.NeedsBy.{next_needs}
 use Rattle.msp_machines.proofs.unrelated.needs_by_speeds.Goals as goal
 
 pub loop-machine-preserved : goal.loop-machine-preserved

@@ -1,6 +1,6 @@
 -- One more need.
 use Rattle.std.proofs.Common.{rules}
-use Rattle.msp_machines.specs.NeedsBy.{next_needs}
+use Rattle.msp_machines.specs.laws.NeedsBy.{next_needs}
 use Rattle.msp_machines.proofs.unrelated.needs_on_each.Goals as goal
 
 pub loop-machine-preserved : goal.loop-machine-preserved

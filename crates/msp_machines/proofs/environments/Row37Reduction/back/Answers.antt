@@ -1,7 +1,7 @@
 -- The lower schedule serves.
 use Rattle.std.proofs.Common.{refl}
 use Rattle.msp_route.proofs.Alike.{brought}
-use Rattle.msp_machines.specs.Environments.{alike_37}
+use Rattle.msp_machines.specs.laws.Environments.{alike_37}
 use Rattle.msp_machines.proofs.environments.Row37Reduction.back.Goals as goal
 
 pub returns : goal.returns

@@ -1,7 +1,7 @@
 -- The lower schedule serves.
 use Rattle.std.proofs.Common.{refl}
-use Rattle.msp_machines.specs.Served.{brought_served}
-use Rattle.msp_machines.specs.SameJobs.{serves_21}
+use Rattle.msp_machines.specs.laws.Served.{brought_served}
+use Rattle.msp_machines.specs.laws.SameJobs.{serves_21}
 use Rattle.msp_machines.proofs.same_jobs.Row21Reduction.back.Goals as goal
 
 pub returns : goal.returns

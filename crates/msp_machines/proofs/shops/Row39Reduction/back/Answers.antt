@@ -1,7 +1,7 @@
 -- The lower schedule with the numbers of its machines is the upper one.
 use Rattle.std.proofs.Common.{refl}
-use Rattle.msp_machines.specs.Renumbered.{brought_renumbered}
-use Rattle.msp_machines.specs.Routes.{renumbered_39}
+use Rattle.msp_machines.specs.laws.Renumbered.{brought_renumbered}
+use Rattle.msp_machines.specs.laws.Routes.{renumbered_39}
 use Rattle.msp_machines.proofs.shops.Row39Reduction.back.Goals as goal
 
 pub returns : goal.returns

@@ -1,7 +1,7 @@
 -- The lower schedule serves.
 use Rattle.std.proofs.Common.{refl}
-use Rattle.msp_machines.specs.OnEach.{serves_24}
-use Rattle.msp_machines.specs.Served.{brought_served}
+use Rattle.msp_machines.specs.laws.OnEach.{serves_24}
+use Rattle.msp_machines.specs.laws.Served.{brought_served}
 use Rattle.msp_machines.proofs.unrelated.Row24Reduction.back.Goals as goal
 
 pub returns : goal.returns

@@ -1,6 +1,6 @@
 -- The lower schedule over the greater unit.
 use Rattle.std.proofs.Common.{refl}
-use Rattle.msp_machines.specs.Stretched.{led_26}
+use Rattle.msp_machines.specs.laws.Stretched.{led_26}
 use Rattle.msp_machines.proofs.BroughtBySpeeds.{unit_small, Within-after, feasible_after, brought_back}
 use Rattle.msp_machines.proofs.unrelated.Row26Reduction.back.Goals as goal
 

@@ -1,5 +1,5 @@
 -- The machines are uniform.
-use Rattle.msp_machines.specs.Stretched.{led_26}
+use Rattle.msp_machines.specs.laws.Stretched.{led_26}
 use Rattle.msp_machines.proofs.unrelated.Row26Reduction.down.Goals as goal
 
 pub led_by_speeds-requires-clause-uniform : goal.led_by_speeds-requires-clause-uniform

@@ -1,4 +1,4 @@
--- The rows that lead to an environment of which theirs is a case: both have the same schedules at the same costs. No public contract cites this file.
+-- The rows that lead to an environment of which theirs is a case: both have the same schedules at the same costs.
 use Rattle.std.proofs.Common.{◌≡◌, ℕ, List, MatchOption, Some, refl, ap, subst, ◌∙◌, arith}
 use Rattle.std.specs.Bool.{⊤}
 use Rattle.std.proofs.lemmas.Bool.{eqb-true}
@@ -17,7 +17,7 @@ use Rattle.msp_route.specs.Law.{Applies}
 use Rattle.msp_route.specs.Changes.{led}
 use Rattle.msp_route.proofs.Alike.{Alike, Alike-led}
 use Rattle.msp_route.proofs.Applied.{part_alone}
-use Rattle.msp_machines.specs.InnerMachines.{AreMachines, AreWithin-self, Inner-same_jobs}
+use Rattle.msp_machines.specs.laws.InnerMachines.{AreMachines, AreWithin-self, Inner-same_jobs}
 
 -- each instance of the one environment is one of the other
 record EnvGrows (from to : Env) : Type 0 where

@@ -1,4 +1,4 @@
--- The rows from identical machines that leave the jobs as they are: to machines of equal speeds, and from one machine to shops. No public contract cites this file.
+-- The rows from identical machines that leave the jobs as they are: to machines of equal speeds, and from one machine to shops.
 use Rattle.std.proofs.Common.{◌≡◌, ◌≢◌, ℕ, ◌*◌, ◌<◌, ◌≤◌, true, List, [], length, MatchOption, inr, Some, unwrap_or, refl, sym, ap, subst, subst₂, ◌∙◌, arith}
 use Rattle.std.specs.Bool.{⊤}
 use Rattle.std.proofs.lemmas.Bool.{eqb-true}
@@ -28,8 +28,8 @@ use Rattle.msp_route.specs.Law.{Applies}
 use Rattle.msp_route.specs.Bounds.{greatest_unit}
 use Rattle.msp_route.specs.Changes.{led}
 use Rattle.msp_route.proofs.Applied.{part_alone}
-use Rattle.msp_machines.specs.InnerMachines.{in_environment, AreMachines, AreWithin-any, Inner-same_jobs}
-use Rattle.msp_machines.specs.Served.{ServesBoth}
+use Rattle.msp_machines.specs.laws.InnerMachines.{in_environment, AreMachines, AreWithin-any, Inner-same_jobs}
+use Rattle.msp_machines.specs.laws.Served.{ServesBoth}
 use Rattle.msp_machines.specs.Machines.{equal_speeds, led_at_equal_speeds, led_to_two_machines}
 
 -- ---- the lower instance is an inner one

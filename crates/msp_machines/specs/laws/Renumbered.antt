@@ -1,4 +1,4 @@
--- Rows that give the operations other numbers: feasible schedules go both ways, at the same costs. No public contract cites this file.
+-- Rows that give the operations other numbers: feasible schedules go both ways, at the same costs.
 use Rattle.std.proofs.Common.{◌≡◌, ℕ, false, map, filter, fold, ℤ, pos, ◌+ℤ◌, ◌*ℤ◌, ◌≤ℤ◌, if◌then◌else◌, refl, sym, ap, subst, ◌∙◌, arith}
 use Rattle.std.specs.Prelude.{◌==◌}
 use Rattle.std.specs.Int.{int_max}

@@ -1,4 +1,4 @@
--- The rows from identical to unrelated machines: schedules and costs stay. No public contract cites this file.
+-- The rows from identical to unrelated machines: schedules and costs stay.
 use Rattle.std.proofs.Common.{◌≡◌, ℕ, ◌*◌, ◌/◌, ◌<◌, ◌≤◌, List, [], length, map, All, Some, unwrap_or, inl, ◌≤ℤ◌, slice_index_or, refl, sym, ap, subst, subst₂, ◌∙◌, arith}
 use Rattle.std.proofs.lemmas.Bool.{eqb-true}
 use Rattle.std.proofs.lemmas.Int.{ints}
@@ -26,9 +26,9 @@ use Rattle.msp_route.specs.Law.{Applies}
 use Rattle.msp_route.specs.Bounds.{greatest_unit}
 use Rattle.msp_route.proofs.Applied.{part_alone}
 use Rattle.msp_machines.specs.Unrelated.{needs_by, on_each_machine, led_to_each}
-use Rattle.msp_machines.specs.NeedsBy.{get_or-needs_by, All-needs_by, HasNeeds-needs_by}
-use Rattle.msp_machines.specs.InnerMachines.{in_environment, AreMachines, AreWithin-any, Inner-with_needs}
-use Rattle.msp_machines.specs.Served.{ServesBoth}
+use Rattle.msp_machines.specs.laws.NeedsBy.{get_or-needs_by, All-needs_by, HasNeeds-needs_by}
+use Rattle.msp_machines.specs.laws.InnerMachines.{in_environment, AreMachines, AreWithin-any, Inner-with_needs}
+use Rattle.msp_machines.specs.laws.Served.{ServesBoth}
 
 -- ---- the lower instance is an inner one
 same_times : (t : Times) (shared : ℕ) (needs : List Need) (n : ℕ) → 0 < length needs → HasSameTimes t shared needs → HasSameTimes t shared (needs_by n (λ m. (slice_index_or needs 0 no_need).time))

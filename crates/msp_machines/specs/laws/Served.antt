@@ -1,4 +1,4 @@
--- Instances of different environments whose feasible schedules are the same, at the same costs. No public contract cites this file.
+-- Instances of different environments whose feasible schedules are the same, at the same costs.
 use Rattle.std.proofs.Common.{◌≡◌, ℕ, false, pos, ◌+ℤ◌, ◌*ℤ◌, ◌≤ℤ◌, if◌then◌else◌, refl, sym, ap, subst, ◌∙◌}
 use Rattle.std.specs.Int.{int_max}
 use Rattle.std.proofs.lemmas.List.Sorted.{IsPermutation-refl}

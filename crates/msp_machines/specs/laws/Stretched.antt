@@ -1,4 +1,4 @@
--- The rows from uniform to unrelated machines: times are multiplied by a common multiple of the speeds. No public contract cites this file.
+-- The rows from uniform to unrelated machines: times are multiplied by a common multiple of the speeds.
 use Rattle.std.proofs.Common.{◌≡◌, ℕ, suc, zero, ◌*◌, ◌/◌, ◌<◌, ◌≤◌, List, [], length, get_or, map, All, Some, unwrap_or, inl, ℤ, pos, negsuc, ◌+ℤ◌, ◌-ℤ◌, ◌*ℤ◌, ◌≤ℤ◌, slice_index_or, refl, sym, ap, ap₂, subst, subst₂, ◌∙◌, arith}
 use Rattle.std.specs.Prelude.{MatchOption, ⊤}
 use Rattle.std.specs.Int.{◌∣◌}
@@ -36,11 +36,11 @@ use Rattle.msp_table.specs.Rows.{goes_of, table}
 use Rattle.msp_route.specs.Law.{Rate, Applies, IsLower, IsPositive, IsForth, IsBack}
 use Rattle.msp_route.proofs.Applied.{part_and_condition}
 use Rattle.msp_machines.specs.Unrelated.{only_time, least_common_multiple, stretched, cost_factor, led_by_speeds, speed_rate, stretched_schedule, shrunk_schedule}
-use Rattle.msp_machines.specs.NeedsBy.{get_or-needs_by, HasNeeds-needs_by}
-use Rattle.msp_machines.specs.InnerMachines.{in_environment, AreMachines, Inner-in_environment}
-use Rattle.msp_machines.specs.LeastMultiple.{least_multiple, least-small}
-use Rattle.msp_machines.specs.StretchedCharges.{job_cost-stretched}
-use Rattle.msp_machines.specs.StretchedInner.{HasRelease-product, HasDue-product, HasCurve-product, near-product}
+use Rattle.msp_machines.specs.laws.NeedsBy.{get_or-needs_by, HasNeeds-needs_by}
+use Rattle.msp_machines.specs.laws.InnerMachines.{in_environment, AreMachines, Inner-in_environment}
+use Rattle.msp_machines.specs.laws.LeastMultiple.{least_multiple, least-small}
+use Rattle.msp_machines.specs.laws.StretchedCharges.{job_cost-stretched}
+use Rattle.msp_machines.specs.laws.StretchedInner.{HasRelease-product, HasDue-product, HasCurve-product, near-product}
 
 -- ---- speeds
 speeds_some : (m : ℕ) (speeds : List ℕ) → HasSpeeds Uniform m speeds → All (λ s. 1 ≤ s) speeds

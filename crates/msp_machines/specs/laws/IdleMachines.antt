@@ -1,4 +1,4 @@
--- The rows that lead to a shop with one more machine, on which no job takes time: the same schedules are feasible. No public contract cites this file.
+-- The rows that lead to a shop with one more machine, on which no job takes time: the same schedules are feasible.
 use Rattle.std.proofs.Common.{◌≡◌, ◌≢◌, ℕ, ◌+◌, ◌*◌, ◌<◌, ◌≤◌, Bool, true, false, not, ltb, List, [], ◌∷◌, ◌++◌, length, All, Any, Contains, ◌⊎◌, inl, inr, Some, None, MatchOption, slice_index_or, refl, sym, ap, ap₂, subst, ◌∙◌, arith}
 use Rattle.std.specs.Prelude.{◌↔◌, unwrap_or, map, Option, ⊤}
 use Rattle.std.proofs.lemmas.Bool.{eqb-true, ltb-true, ltb-false}
@@ -28,8 +28,8 @@ use Rattle.msp_route.specs.Law.{Applies}
 use Rattle.msp_route.specs.Bounds.{greatest_unit}
 use Rattle.msp_route.proofs.Applied.{part_and_condition}
 use Rattle.msp_machines.specs.Shops.{with_idle_operation, with_idle_machine}
-use Rattle.msp_machines.specs.InnerMachines.{in_environment, with_needs, Inner-with_needs, AreWithin-any}
-use Rattle.msp_machines.specs.Served.{ServesBoth}
+use Rattle.msp_machines.specs.laws.InnerMachines.{in_environment, with_needs, Inner-with_needs, AreWithin-any}
+use Rattle.msp_machines.specs.laws.Served.{ServesBoth}
 
 -- ---- needs with one more, of time 0
 abbrev idle : ℕ → Need

@@ -1,4 +1,4 @@
--- Numbers that are multiplied by a common multiple of the speeds keep the limits of unrelated machines. No public contract cites this file.
+-- Numbers that are multiplied by a common multiple of the speeds keep the limits of unrelated machines.
 use Rattle.std.proofs.Common.{◌≡◌, ℕ, ◌*◌, ◌≤◌, Bool, true, false, get_or, All, ℤ, pos, ◌-ℤ◌, ◌*ℤ◌, ◌≤ℤ◌, ap, subst, ◌∙◌, arith}
 use Rattle.std.proofs.lemmas.Nat.{mul-le}
 use Rattle.std.proofs.lemmas.List.{length-map}
@@ -7,11 +7,10 @@ use Rattle.msp_class.specs.declared.environments.EnvKind.TheVariants.{Uniform, U
 use Rattle.msp_class.proofs.IntegerRing.{≤ℤ_trans, *ℤ-zero, *ℤ-sub, *ℤ-mono, pos-le}
 use Rattle.msp_instance.specs.declared.ranges.TheConstants.{GREATEST, GREATEST_MULTIPLE}
 use Rattle.msp_instance.specs.declared.Curve.{Curve}
-use Rattle.msp_instance.specs.declared.Job.{Job}
 use Rattle.msp_instance.specs.Instance.{no_curve}
 use Rattle.msp_instance.specs.Conditions.{LiesWithin, HasRelease, HasDue, HasCurve, inner_limits}
 use Rattle.msp_schedule.proofs.Small.{product_within}
-use Rattle.msp_machines.specs.Unrelated.{only_time, stretched_curve, stretched_step}
+use Rattle.msp_machines.specs.Unrelated.{stretched_curve, stretched_step}
 
 -- the factor is that of the limits at most
 module _ (n : ℕ) (small : n ≤ GREATEST_MULTIPLE) where
@@ -49,11 +48,3 @@ module _ (n : ℕ) (small : n ≤ GREATEST_MULTIPLE) where
 
   pub near-product : (x y : ℤ) (top : ℕ) → (x -ℤ y) ≤ℤ pos top → ((pos n *ℤ x) -ℤ (pos n *ℤ y)) ≤ℤ pos (top * GREATEST_MULTIPLE)
   near-product x y top h = subst (λ z. z ≤ℤ pos (top * GREATEST_MULTIPLE)) (*ℤ-sub (pos n) x y) (≤ℤ_trans (*ℤ-mono n h) (pos-le (times_within top top (omega arith))))
-
--- ---- numbers that may be multiplied
-pub record IsStretchable (a : Job) : Type 0 where
-  pub time : only_time a ≤ GREATEST
-  pub release : a.release ≤ 2 * GREATEST
-  pub due : LiesWithin (2 * GREATEST) a.due
-  pub base : LiesWithin (2 * GREATEST) a.curve.base
-  pub steps : All (λ s. (s.above ≤ GREATEST) × (s.add ≤ GREATEST)) a.curve.steps

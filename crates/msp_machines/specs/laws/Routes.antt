@@ -1,4 +1,4 @@
--- The rows from flow shops to job shops: the operations that take time are a job's route. No public contract cites this file.
+-- The rows from flow shops to job shops: the operations that take time are a job's route.
 use Rattle.std.proofs.Common.{◌≡◌, ◌≢◌, ℕ, zero, suc, ◌+◌, ◌<◌, ◌≤◌, Bool, true, false, not, cond, List, [], ◌∷◌, length, get_or, map, filter, take, All, AllPairs, Any, inl, Some, MatchOption, slice_index_or, ℤ, pos, ◌*ℤ◌, ◌≤ℤ◌, refl, sym, ap, ap₂, subst, subst₂, ◌∙◌, arith}
 use Rattle.std.specs.Prelude.{◌==◌, unwrap_or, ⊤}
 use Rattle.std.proofs.lemmas.Bool.{eqb-true, eq-eqb, ne_eqb}
@@ -29,8 +29,8 @@ use Rattle.msp_route.specs.Law.{Applies}
 use Rattle.msp_route.specs.Bounds.{greatest_unit}
 use Rattle.msp_route.proofs.Applied.{part_alone}
 use Rattle.msp_machines.specs.Shops.{takes_time, place_in_route, without_empty, without_empty_operations, with_number, numbered, route_number, machine_number}
-use Rattle.msp_machines.specs.Renumbered.{Renumbered}
-use Rattle.msp_machines.specs.InnerMachines.{in_environment, with_needs, Inner-with_needs, AreWithin-any}
+use Rattle.msp_machines.specs.laws.Renumbered.{Renumbered}
+use Rattle.msp_machines.specs.laws.InnerMachines.{in_environment, with_needs, Inner-with_needs, AreWithin-any}
 
 -- ---- places among the items that pass a test
 module _ {X : Type 0} (p : X → Bool) where

@@ -1,0 +1,13 @@
+pub mod InnerMachines
+pub mod Served
+pub mod Environments
+pub mod IdleMachines
+pub mod Renumbered
+pub mod NeedsBy
+pub mod OnEach
+pub mod Routes
+pub mod SameJobs
+pub mod LeastMultiple
+pub mod StretchedCharges
+pub mod StretchedInner
+pub mod Stretched
