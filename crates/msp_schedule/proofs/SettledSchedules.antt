@@ -17,7 +17,7 @@ use Rattle.msp_schedule.specs.declared.Schedule.{Schedule}
 use Rattle.msp_schedule.specs.Cost.{cost_of}
 use Rattle.msp_schedule.specs.Divisor.{IsCommonDivisor, part_of, divided}
 use Rattle.msp_schedule.specs.Feasible.{Feasible}
-use Rattle.msp_schedule.specs.Settled.{IsReportedFirst, IsSettled}
+use Rattle.msp_schedule.specs.Settled.{IsReportedFirst, IsSettled, IsSettledFrom}
 use Rattle.msp_schedule.specs.Within.{IsMoment, Within}
 use Rattle.msp_schedule.proofs.DateOrder.{date_less, date_less-order, date_sorted}
 use Rattle.msp_schedule.proofs.Charges.{SameCharges-from_jobs, cost-same_ends}
@@ -202,3 +202,6 @@ module _ (s t : Schedule) (g : ℕ) (h : IsSettling s t g) where
 
   pub settled : IsSettled t
   settled = record { lowest = settled_lowest; order = h.sorted }
+
+  pub settled_from : IsSettledFrom s t
+  settled_from = record { divisor = g; greatest = h.common; unit = h.unit_is; pieces = h.moved }

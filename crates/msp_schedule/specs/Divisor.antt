@@ -1,4 +1,4 @@
--- Common divisors of the numbers of a schedule. No public contract cites this file.
+-- Common divisors of the numbers of a schedule.
 use Rattle.std.specs.Prelude.{ℕ, ◌/◌, List, ℤ, pos, All, unsigned_abs}
 use Prim.Native.Nat.{◌∣◌}
 use Rattle.msp_schedule.specs.declared.Piece.{Piece}
@@ -7,7 +7,7 @@ use Rattle.msp_schedule.specs.declared.Piece.{Piece}
 abbrev pub DividesAll : ℕ → ℤ → List Piece → Type 0
 DividesAll d unit pieces = (d ∣ unsigned_abs unit) × All (λ p. (d ∣ unsigned_abs p.from) × (d ∣ unsigned_abs p.to)) pieces
 
--- It does, and each number that does divides it.
+-- The greatest common divisor of the unit and all moments: it divides them, and each number that does divides it.
 pub record IsCommonDivisor (unit : ℤ) (pieces : List Piece) (g : ℕ) : Type 0 where
   pub all : DividesAll g unit pieces
   pub greatest : (d : ℕ) → DividesAll d unit pieces → d ∣ g

@@ -20,3 +20,4 @@ pub mod Intervals
 pub mod Rows
 pub mod LineUp
 pub mod Busy
+pub mod Limits

@@ -2,6 +2,7 @@
 ghost use Rattle.msp_schedule.specs.Blocks.{LawOfBlocks};
 ghost use Rattle.msp_schedule.specs.Laws.{LawOfEnds, LawOfFloors, LawOfGroups};
 ghost use Rattle.msp_schedule.specs.Levels.{LawOfLevels};
+ghost use Rattle.msp_schedule.specs.Limits.{AreLimits};
 ghost use Rattle.msp_schedule.specs.Loads.{LawOfLines, LawOfMachines};
 ghost use Rattle.msp_schedule.specs.Prices.{LawOfPrices};
 
@@ -44,4 +45,9 @@ pub fn law_of_lines()
 /// and one that leads to none of them ends last.
 pub fn law_of_blocks()
     ensures { LawOfBlocks }
+{}
+
+/// The limits of schedules are these numbers.
+pub fn law_of_limits()
+    ensures { AreLimits }
 {}

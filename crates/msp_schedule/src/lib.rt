@@ -33,8 +33,8 @@ pub use breaks::{Break, first_break};
 pub use fraction::{compare, lowest};
 pub use job_cost::job_cost_at;
 pub use laws::{
-    law_of_blocks, law_of_ends, law_of_floors, law_of_groups, law_of_levels, law_of_lines,
-    law_of_machines, law_of_prices,
+    law_of_blocks, law_of_ends, law_of_floors, law_of_groups, law_of_levels, law_of_limits,
+    law_of_lines, law_of_machines, law_of_prices,
 };
 pub use limits::{
     GREATEST_CARRIED_UNIT, GREATEST_COMPARED_DENOMINATOR, GREATEST_COMPARED_NUMERATOR,

@@ -6,7 +6,7 @@ ghost use Rattle.msp_instance.specs.declared.Instance.{Instance};
 ghost use Rattle.msp_schedule.specs.Cost.{cost_of};
 ghost use Rattle.msp_schedule.specs.Divisor.{IsCommonDivisor, part_of, divided};
 ghost use Rattle.msp_schedule.specs.Feasible.{Feasible};
-ghost use Rattle.msp_schedule.specs.Settled.{IsReportedFirst, IsSettled};
+ghost use Rattle.msp_schedule.specs.Settled.{IsReportedFirst, IsSettled, IsSettledFrom};
 ghost use Rattle.msp_schedule.specs.Within.{Within};
 
 use crate::fraction::{gcd, quotient};
@@ -90,6 +90,7 @@ pub fn settle(s: &mut Schedule)
     requires unit { pos 1 ≤ℤ s.old.unit }
     requires span { All (λ p. (pos 0 ≤ℤ p.from) × (p.from <ℤ p.to)) s.old.pieces }
     ensures settled { IsSettled s.new }
+    ensures kept { IsSettledFrom s.old s.new }
     ensures feasible { (i : Instance) → Feasible i s.old → Feasible i s.new }
     ensures cost { (i : Instance) → Feasible i s.old → cost_of i s.new *ℤ s.old.unit ≡ cost_of i s.old *ℤ s.new.unit }
     ensures within { (i : Instance) → Within i s.old → Within i s.new }

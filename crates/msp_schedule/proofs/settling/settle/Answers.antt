@@ -3,7 +3,7 @@ use Rattle.std.specs.Int.{w128}
 use Rattle.std.proofs.lemmas.Int.{to_z-of_z}
 use Rattle.msp_schedule.specs.Divisor.{part_of, divided}
 use Rattle.msp_schedule.specs.Settled.{IsReportedFirst}
-use Rattle.msp_schedule.proofs.SettledSchedules.{divisor_positive, IsSettling, settled, settled_feasible, settled_cost, settled_within}
+use Rattle.msp_schedule.proofs.SettledSchedules.{divisor_positive, IsSettling, settled, settled_from, settled_feasible, settled_cost, settled_within}
 use Rattle.msp_schedule.proofs.settling.settle.Goals as goal
 
 pub divide_all-requires-clause-some : goal.divide_all-requires-clause-some
@@ -29,6 +29,9 @@ settling c =
 
 pub returns-clause-settled : goal.returns-clause-settled
 returns-clause-settled c = settled _ _ _ (settling c)
+
+pub returns-clause-kept : goal.returns-clause-kept
+returns-clause-kept c = settled_from _ _ _ (settling c)
 
 pub returns-clause-feasible : goal.returns-clause-feasible
 returns-clause-feasible c = settled_feasible _ _ _ (settling c)
