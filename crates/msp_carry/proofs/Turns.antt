@@ -1,6 +1,6 @@
 -- How often a chain turns release dates into due dates, and the moments of what comes back over it.
 use Rattle.std.proofs.Common.{if◌then◌else◌, ◌≡◌, ℕ, suc, ◌+◌, ◌*◌, ◌≤◌, Bool, true, false, ◌&&◌, eqb, List, [], ◌∷◌, length, Some, None, ℤ, pos, ◌+ℤ◌, ◌≤ℤ◌, refl, sym, ap, subst, ◌∙◌, arith}
-use Rattle.std.specs.Int.{int_max}
+use Rattle.std.specs.Prelude.{◌==◌, ◌||◌}
 use Rattle.std.proofs.lemmas.Int.{ints}
 use Rattle.std.proofs.lemmas.Bool.{eqb-true}
 use Rattle.msp_class.specs.declared.class.Class.{Class}
@@ -9,11 +9,11 @@ use Rattle.msp_class.specs.Rank.{flag_number, crit_number}
 use Rattle.msp_class.specs.declared.ranks.TheConstants.{CLASSES}
 use Rattle.msp_class.specs.Env.{is_mirror}
 use Rattle.msp_class.specs.Order.{turned}
-use Rattle.msp_class.proofs.IntegerRing.{≤ℤ_trans, int_max-least}
+use Rattle.msp_class.proofs.IntegerRing.{≤ℤ_trans}
 use Rattle.msp_table.specs.Rows.{table, goes_of, turns_dates}
 use Rattle.msp_table.specs.Chains.{Leads}
 use Rattle.msp_table.proofs.ChainLemmas.{Leads-first}
-use Rattle.msp_route.specs.declared.bounds.TheConstants.{GREATEST_ANSWER_MOMENT, GREATEST_BACK_MOMENT, GREATEST_RAISE, GREATEST_LINED_UP}
+use Rattle.msp_route.specs.declared.bounds.TheConstants.{GREATEST_ANSWER_MOMENT, GREATEST_BACK_MOMENT, GREATEST_RAISE, GREATEST_LINED_UP, GREATEST_CLOSED_UP}
 use Rattle.msp_carry.specs.Moments.{moment_over}
 
 one_if : Bool → ℕ
@@ -83,9 +83,13 @@ kept : (m : ℤ) (n : ℕ) → m ≤ℤ (GREATEST_ANSWER_MOMENT +ℤ pos (n * ra
 unfolding raise
 kept m n h = omega (arith, ints)
 
-above : (n : ℕ) → GREATEST_LINED_UP ≤ℤ (GREATEST_ANSWER_MOMENT +ℤ pos (n * raise))
+lined_up : (n : ℕ) → GREATEST_LINED_UP ≤ℤ (GREATEST_ANSWER_MOMENT +ℤ pos (n * raise))
 unfolding raise
-above n = omega (arith, ints)
+lined_up n = omega (arith, ints)
+
+closed_up : (n : ℕ) → GREATEST_CLOSED_UP ≤ℤ (GREATEST_ANSWER_MOMENT +ℤ pos (n * raise))
+unfolding raise
+closed_up n = omega (arith, ints)
 
 moment_over-most : (ks : List ℕ) → moment_over ks ≤ℤ (GREATEST_ANSWER_MOMENT +ℤ pos (turns_in ks * raise))
 unfolding one_if
@@ -93,11 +97,14 @@ moment_over-most [] = start (turns_in [])
   where
     start : (n : ℕ) → GREATEST_ANSWER_MOMENT ≤ℤ (GREATEST_ANSWER_MOMENT +ℤ pos (n * raise))
     start n = omega (arith, ints)
-moment_over-most (k ∷ ks) = subst (λ n. moment_over (k ∷ ks) ≤ℤ (GREATEST_ANSWER_MOMENT +ℤ pos (n * raise))) (sym (turns_in-more k ks)) (by (turns_dates k) (moment_over-most ks))
+moment_over-most (k ∷ ks) = subst (λ n. moment_over (k ∷ ks) ≤ℤ (GREATEST_ANSWER_MOMENT +ℤ pos (n * raise))) (sym (turns_in-more k ks)) (by (turns_dates k) (k == 51 || k == 52) (k == 54) (moment_over-most ks))
   where
-    by : (t : Bool) → moment_over ks ≤ℤ (GREATEST_ANSWER_MOMENT +ℤ pos (turns_in ks * raise)) → (if t then moment_over ks +ℤ GREATEST_RAISE else int_max (moment_over ks) GREATEST_LINED_UP) ≤ℤ (GREATEST_ANSWER_MOMENT +ℤ pos ((turns_in ks + one_if t) * raise))
-    by true h = raised (moment_over ks) (turns_in ks) h
-    by false h = int_max-least (kept (moment_over ks) (turns_in ks) h) (above (turns_in ks + 0))
+    by : (t l c : Bool) → moment_over ks ≤ℤ (GREATEST_ANSWER_MOMENT +ℤ pos (turns_in ks * raise))
+        → (if t then moment_over ks +ℤ GREATEST_RAISE else if l then GREATEST_LINED_UP else if c then GREATEST_CLOSED_UP else moment_over ks) ≤ℤ (GREATEST_ANSWER_MOMENT +ℤ pos ((turns_in ks + one_if t) * raise))
+    by true l c h = raised (moment_over ks) (turns_in ks) h
+    by false true c h = lined_up (turns_in ks + 0)
+    by false false true h = closed_up (turns_in ks + 0)
+    by false false false h = kept (moment_over ks) (turns_in ks) h
 
 low : (n : ℕ) → 2 * n ≤ CLASSES + 1 → (GREATEST_ANSWER_MOMENT +ℤ pos (n * raise)) ≤ℤ GREATEST_BACK_MOMENT
 unfolding raise

@@ -3,7 +3,8 @@ ghost use Rattle.std.specs.Prelude.{◌≡◌, IfOk, IsTrue};
 ghost use Rattle.msp_instance.specs.Conditions.{Inner};
 ghost use Rattle.msp_schedule.specs.Cost.{IsSolution, IsBest};
 ghost use Rattle.msp_table.specs.Rows.{carries};
-ghost use Rattle.msp_route.specs.Law.{Applies, IsLower};
+ghost use Rattle.msp_route.specs.Law.{Applies, IsLower, IsBack};
+ghost use Rattle.msp_route.specs.Rates.{rate_of};
 ghost use Rattle.msp_route.specs.Bounds.{IsBounded, KeepsBounds};
 ghost use Rattle.msp_carry.specs.Carried.{lower_of};
 
@@ -111,6 +112,7 @@ pub(crate) fn back(
     requires bounded { IsBounded (lower_of row inst.now) solution.schedule }
     ensures solution { IfOk result (λ s. IsSolution inst.now s) }
     ensures best { IsBest (lower_of row inst.now) solution → IfOk result (λ s. IsBest inst.now s) }
+    ensures law { IfOk result (λ s. IsBack (rate_of row inst.now) inst.now (lower_of row inst.now) solution.schedule s.schedule) }
     ensures bounds { IfOk result (λ s. KeepsBounds row inst.now (lower_of row inst.now) solution.schedule s.schedule) }
 {
     at_row!(row, step_back, alloc, inst, solution)

@@ -2,7 +2,8 @@
 ghost use Rattle.std.specs.Prelude.{◌≡◌, IfOk};
 ghost use Rattle.msp_instance.specs.Conditions.{Inner};
 ghost use Rattle.msp_schedule.specs.Cost.{IsSolution, IsBest};
-ghost use Rattle.msp_route.specs.Law.{Applies, IsLower};
+ghost use Rattle.msp_route.specs.Law.{Applies, IsLower, IsBack};
+ghost use Rattle.msp_route.specs.Rates.{rate_of};
 ghost use Rattle.msp_route.specs.Bounds.{IsBounded, KeepsBounds};
 
 use msp_class::NoMemory;
@@ -38,6 +39,7 @@ pub(crate) fn step_back<R: Reduction>(
     requires bounded { IsBounded (R.lower reduction.now inst.now) solution.schedule }
     ensures solution { IfOk result (λ s. IsSolution inst.now s) }
     ensures best { IsBest (R.lower reduction.now inst.now) solution → IfOk result (λ s. IsBest inst.now s) }
+    ensures law { IfOk result (λ s. IsBack (rate_of (R.number reduction.now) inst.now) inst.now (R.lower reduction.now inst.now) solution.schedule s.schedule) }
     ensures bounds { IfOk result (λ s. KeepsBounds (R.number reduction.now) inst.now (R.lower reduction.now inst.now) solution.schedule s.schedule) }
 {
     reduction.back(alloc, inst, solution)

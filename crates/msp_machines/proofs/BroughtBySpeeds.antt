@@ -20,7 +20,8 @@ use Rattle.msp_table.specs.Rows.{turns_dates}
 use Rattle.msp_route.specs.declared.bounds.TheConstants.{GREATEST_BACK_MOMENT, GREATEST_LINED_UP, GREATEST_RAISE}
 use Rattle.msp_route.specs.Law.{IsBack, IsReordered}
 use Rattle.msp_route.specs.Bounds.{IsBounded, KeepsBounds, greatest_unit}
-use Rattle.msp_machines.specs.Unrelated.{least_common_multiple, speed_rate, shrunk_schedule}
+use Rattle.msp_machines.specs.Unrelated.{shrunk_schedule}
+use Rattle.msp_route.specs.Rates.{least_common_multiple, speed_rate}
 use Rattle.msp_machines.specs.laws.Stretched.{IsLedBySpeeds}
 
 unit_fits : (u : ℤ) (n : ℕ) → pos 1 ≤ℤ u → u ≤ℤ GREATEST_CARRIED_UNIT → 1 ≤ n → n ≤ GREATEST_MULTIPLE → IsUnit (u *ℤ pos n)

@@ -1,8 +1,6 @@
 -- The changes that the rows to unrelated machines make.
-use Rattle.std.specs.Prelude.{ℕ, ◌*◌, ◌/◌, ◌%◌, ◌≤◌, ◌==◌, List, [], length, pos, ◌*ℤ◌, slice_index_or, map, fold, find, unwrap_or, All}
-use Rattle.std.specs.List.{list_all, range_with_len}
-use Rattle.msp_class.specs.declared.class.Crit.{Crit}
-use Rattle.msp_class.specs.declared.class.Crit.TheVariants.{Cmax, Lmax, Fmax, SumC, SumWC, SumU, SumWU, SumT, SumWT}
+use Rattle.std.specs.Prelude.{ℕ, ◌*◌, ◌/◌, ◌≤◌, List, [], length, pos, ◌*ℤ◌, slice_index_or, map, All}
+use Rattle.std.specs.List.{range_with_len}
 use Rattle.msp_instance.specs.declared.ranges.TheConstants.{GREATEST}
 use Rattle.msp_instance.specs.declared.Need.{Need}
 use Rattle.msp_instance.specs.declared.Step.{Step}
@@ -13,8 +11,8 @@ use Rattle.msp_instance.specs.Instance.{no_need}
 use Rattle.msp_instance.specs.Conditions.{LiesWithin}
 use Rattle.msp_schedule.specs.declared.Piece.{Piece}
 use Rattle.msp_schedule.specs.declared.Schedule.{Schedule}
-use Rattle.msp_route.specs.Law.{Rate}
 use Rattle.msp_route.specs.Changes.{led}
+use Rattle.msp_route.specs.Rates.{least_common_multiple}
 
 -- One need on each of some machines, in order, with the time there.
 abbrev pub need_on : (ℕ → ℕ) → ℕ → Need
@@ -37,10 +35,6 @@ abbrev pub led_to_each : ℕ → Instance → Instance
 led_to_each row i = record (led row i) { jobs = map (on_each_machine i.machines) i.jobs }
 
 -- ---- from uniform machines
--- The least common multiple of numbers from 1 on: the first of 1, 2 and so on, up to their product, that each of them divides.
-unfoldable pub least_common_multiple : List ℕ → ℕ
-least_common_multiple xs = unwrap_or (find (λ n. list_all (λ x. n % x == 0) xs) (range_with_len 1 (fold ◌*◌ 1 xs))) 1
-
 -- A step and a curve with times and costs multiplied by the factor. The slope stays, since the time that it multiplies grows.
 abbrev pub stretched_step : ℕ → Step → Step
 stretched_step factor s = record { above = factor * s.above; add = factor * s.add }
@@ -73,22 +67,6 @@ stretched factor speeds j = record {
 -- The instance to which the rows from uniform machines lead: all times are multiplied by the least common multiple of the speeds.
 abbrev pub led_by_speeds : ℕ → Instance → Instance
 led_by_speeds row i = record (led row i) { speeds = []; jobs = map (stretched (least_common_multiple i.speeds) i.speeds) i.jobs }
-
--- By how much costs grow where all times are multiplied by the factor: a number of late jobs stays.
-abbrev pub cost_factor : Crit → ℕ → ℕ
-cost_factor Cmax factor = factor
-cost_factor Lmax factor = factor
-cost_factor Fmax factor = factor
-cost_factor SumC factor = factor
-cost_factor SumWC factor = factor
-cost_factor SumU factor = 1
-cost_factor SumWU factor = 1
-cost_factor SumT factor = factor
-cost_factor SumWT factor = factor
-
--- How the rows from uniform machines translate costs.
-abbrev pub speed_rate : Instance → Rate
-speed_rate i = record { factor = cost_factor i.class.crit (least_common_multiple i.speeds); addend = pos 0; scale = 1 }
 
 -- The schedule with all moments multiplied by the factor; and with the unit multiplied, so that each moment stands for a time as much
 -- earlier.

@@ -1,4 +1,5 @@
 // The rows that lead to an environment of which theirs is a case. The machines and the jobs stay as they are.
+ghost use Rattle.std.specs.Prelude.{refl};
 ghost use Rattle.msp_route.specs.Changes.{led, same_costs};
 ghost use Rattle.msp_route.proofs.Alike.{IsPositive-same, IsForth-alike, IsBack-alike};
 ghost use Rattle.msp_machines.specs.laws.Environments.{alike_17, alike_18, alike_19, alike_22, alike_25, alike_35, alike_36, alike_37, alike_38, alike_41, alike_42, alike_43, alike_44};
@@ -44,6 +45,8 @@ impl Reduction for Row17 {
 
     ghost lower_is = { λ self i inner applies. (alike_17 i inner applies).lower };
 
+    ghost rate_of_row = { λ self i. refl };
+
     ghost rate_is = { λ self i inner applies. IsPositive-same };
 
     ghost forth_is = { λ self i s inner applies. IsForth-alike (alike_17 i inner applies) inner s };
@@ -84,6 +87,8 @@ impl Reduction for Row18 {
     }
 
     ghost lower_is = { λ self i inner applies. (alike_18 i inner applies).lower };
+
+    ghost rate_of_row = { λ self i. refl };
 
     ghost rate_is = { λ self i inner applies. IsPositive-same };
 
@@ -126,6 +131,8 @@ impl Reduction for Row19 {
 
     ghost lower_is = { λ self i inner applies. (alike_19 i inner applies).lower };
 
+    ghost rate_of_row = { λ self i. refl };
+
     ghost rate_is = { λ self i inner applies. IsPositive-same };
 
     ghost forth_is = { λ self i s inner applies. IsForth-alike (alike_19 i inner applies) inner s };
@@ -166,6 +173,8 @@ impl Reduction for Row22 {
     }
 
     ghost lower_is = { λ self i inner applies. (alike_22 i inner applies).lower };
+
+    ghost rate_of_row = { λ self i. refl };
 
     ghost rate_is = { λ self i inner applies. IsPositive-same };
 
@@ -208,6 +217,8 @@ impl Reduction for Row25 {
 
     ghost lower_is = { λ self i inner applies. (alike_25 i inner applies).lower };
 
+    ghost rate_of_row = { λ self i. refl };
+
     ghost rate_is = { λ self i inner applies. IsPositive-same };
 
     ghost forth_is = { λ self i s inner applies. IsForth-alike (alike_25 i inner applies) inner s };
@@ -248,6 +259,8 @@ impl Reduction for Row35 {
     }
 
     ghost lower_is = { λ self i inner applies. (alike_35 i inner applies).lower };
+
+    ghost rate_of_row = { λ self i. refl };
 
     ghost rate_is = { λ self i inner applies. IsPositive-same };
 
@@ -290,6 +303,8 @@ impl Reduction for Row36 {
 
     ghost lower_is = { λ self i inner applies. (alike_36 i inner applies).lower };
 
+    ghost rate_of_row = { λ self i. refl };
+
     ghost rate_is = { λ self i inner applies. IsPositive-same };
 
     ghost forth_is = { λ self i s inner applies. IsForth-alike (alike_36 i inner applies) inner s };
@@ -330,6 +345,8 @@ impl Reduction for Row37 {
     }
 
     ghost lower_is = { λ self i inner applies. (alike_37 i inner applies).lower };
+
+    ghost rate_of_row = { λ self i. refl };
 
     ghost rate_is = { λ self i inner applies. IsPositive-same };
 
@@ -372,6 +389,8 @@ impl Reduction for Row38 {
 
     ghost lower_is = { λ self i inner applies. (alike_38 i inner applies).lower };
 
+    ghost rate_of_row = { λ self i. refl };
+
     ghost rate_is = { λ self i inner applies. IsPositive-same };
 
     ghost forth_is = { λ self i s inner applies. IsForth-alike (alike_38 i inner applies) inner s };
@@ -412,6 +431,8 @@ impl Reduction for Row41 {
     }
 
     ghost lower_is = { λ self i inner applies. (alike_41 i inner applies).lower };
+
+    ghost rate_of_row = { λ self i. refl };
 
     ghost rate_is = { λ self i inner applies. IsPositive-same };
 
@@ -454,6 +475,8 @@ impl Reduction for Row42 {
 
     ghost lower_is = { λ self i inner applies. (alike_42 i inner applies).lower };
 
+    ghost rate_of_row = { λ self i. refl };
+
     ghost rate_is = { λ self i inner applies. IsPositive-same };
 
     ghost forth_is = { λ self i s inner applies. IsForth-alike (alike_42 i inner applies) inner s };
@@ -495,6 +518,8 @@ impl Reduction for Row43 {
 
     ghost lower_is = { λ self i inner applies. (alike_43 i inner applies).lower };
 
+    ghost rate_of_row = { λ self i. refl };
+
     ghost rate_is = { λ self i inner applies. IsPositive-same };
 
     ghost forth_is = { λ self i s inner applies. IsForth-alike (alike_43 i inner applies) inner s };
@@ -535,6 +560,8 @@ impl Reduction for Row44 {
     }
 
     ghost lower_is = { λ self i inner applies. (alike_44 i inner applies).lower };
+
+    ghost rate_of_row = { λ self i. refl };
 
     ghost rate_is = { λ self i inner applies. IsPositive-same };
 

@@ -1,5 +1,5 @@
 // The rows from identical machines that leave the jobs as they are: to machines of equal speeds, and from one machine to shops.
-ghost use Rattle.std.specs.Prelude.{◌≡◌, IfOk};
+ghost use Rattle.std.specs.Prelude.{◌≡◌, IfOk, refl};
 ghost use Rattle.msp_route.specs.Law.{Applies};
 ghost use Rattle.msp_route.specs.Changes.{led, same_costs};
 ghost use Rattle.msp_route.proofs.Alike.{IsPositive-same};
@@ -81,6 +81,8 @@ impl Reduction for Row20 {
 
     ghost lower_is = { λ self i inner applies. (serves_20 i inner applies).lower };
 
+    ghost rate_of_row = { λ self i. refl };
+
     ghost rate_is = { λ self i inner applies. IsPositive-same };
 
     ghost forth_is = { λ self i s inner applies. IsForth-served (serves_20 i inner applies) inner s };
@@ -121,6 +123,8 @@ impl Reduction for Row21 {
     }
 
     ghost lower_is = { λ self i inner applies. (serves_21 i inner applies).lower };
+
+    ghost rate_of_row = { λ self i. refl };
 
     ghost rate_is = { λ self i inner applies. IsPositive-same };
 
@@ -163,6 +167,8 @@ impl Reduction for Row32 {
 
     ghost lower_is = { λ self i inner applies. (serves_32 i inner applies).lower };
 
+    ghost rate_of_row = { λ self i. refl };
+
     ghost rate_is = { λ self i inner applies. IsPositive-same };
 
     ghost forth_is = { λ self i s inner applies. IsForth-served (serves_32 i inner applies) inner s };
@@ -204,6 +210,8 @@ impl Reduction for Row33 {
 
     ghost lower_is = { λ self i inner applies. (serves_33 i inner applies).lower };
 
+    ghost rate_of_row = { λ self i. refl };
+
     ghost rate_is = { λ self i inner applies. IsPositive-same };
 
     ghost forth_is = { λ self i s inner applies. IsForth-served (serves_33 i inner applies) inner s };
@@ -244,6 +252,8 @@ impl Reduction for Row34 {
     }
 
     ghost lower_is = { λ self i inner applies. (serves_34 i inner applies).lower };
+
+    ghost rate_of_row = { λ self i. refl };
 
     ghost rate_is = { λ self i inner applies. IsPositive-same };
 

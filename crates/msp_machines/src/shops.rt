@@ -1,5 +1,5 @@
 // The rows that lead to shops with one more machine, and from flow shops to job shops.
-ghost use Rattle.std.specs.Prelude.{◌≡◌, map, OnOk, IfOk};
+ghost use Rattle.std.specs.Prelude.{◌≡◌, map, OnOk, IfOk, refl};
 ghost use Rattle.msp_instance.specs.Conditions.{Inner};
 ghost use Rattle.msp_route.specs.Law.{Applies};
 ghost use Rattle.msp_route.specs.Changes.{same_costs};
@@ -86,6 +86,8 @@ impl Reduction for Row28 {
 
     ghost lower_is = { λ self i inner applies. (serves_28 i inner applies).lower };
 
+    ghost rate_of_row = { λ self i. refl };
+
     ghost rate_is = { λ self i inner applies. IsPositive-same };
 
     ghost forth_is = { λ self i s inner applies. IsForth-served (serves_28 i inner applies) inner s };
@@ -126,6 +128,8 @@ impl Reduction for Row29 {
     }
 
     ghost lower_is = { λ self i inner applies. (serves_29 i inner applies).lower };
+
+    ghost rate_of_row = { λ self i. refl };
 
     ghost rate_is = { λ self i inner applies. IsPositive-same };
 
@@ -168,6 +172,8 @@ impl Reduction for Row30 {
 
     ghost lower_is = { λ self i inner applies. (serves_30 i inner applies).lower };
 
+    ghost rate_of_row = { λ self i. refl };
+
     ghost rate_is = { λ self i inner applies. IsPositive-same };
 
     ghost forth_is = { λ self i s inner applies. IsForth-served (serves_30 i inner applies) inner s };
@@ -208,6 +214,8 @@ impl Reduction for Row31 {
     }
 
     ghost lower_is = { λ self i inner applies. (serves_31 i inner applies).lower };
+
+    ghost rate_of_row = { λ self i. refl };
 
     ghost rate_is = { λ self i inner applies. IsPositive-same };
 
@@ -297,6 +305,8 @@ impl Reduction for Row39 {
 
     ghost lower_is = { λ self i inner applies. (renumbered_39 i inner applies).lower };
 
+    ghost rate_of_row = { λ self i. refl };
+
     ghost rate_is = { λ self i inner applies. IsPositive-same };
 
     ghost forth_is = { λ self i s inner applies. IsForth-renumbered (renumbered_39 i inner applies) s };
@@ -337,6 +347,8 @@ impl Reduction for Row40 {
     }
 
     ghost lower_is = { λ self i inner applies. (renumbered_40 i inner applies).lower };
+
+    ghost rate_of_row = { λ self i. refl };
 
     ghost rate_is = { λ self i inner applies. IsPositive-same };
 

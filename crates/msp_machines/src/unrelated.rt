@@ -1,5 +1,5 @@
 // The rows to unrelated machines.
-ghost use Rattle.std.specs.Prelude.{◌≡◌, ◌*◌, ◌/◌, ◌≤◌, IfOk, map, length, slice_index_or, All, pos, ◌*ℤ◌, ◌≤ℤ◌};
+ghost use Rattle.std.specs.Prelude.{◌≡◌, ◌*◌, ◌/◌, ◌≤◌, IfOk, map, length, slice_index_or, All, pos, ◌*ℤ◌, ◌≤ℤ◌, refl};
 ghost use Rattle.msp_instance.specs.declared.ranges.TheConstants.{GREATEST, GREATEST_MULTIPLE, GREATEST_SPEED, MOST_MACHINES};
 ghost use Rattle.msp_instance.specs.Conditions.{HasSmallMultiple, LiesWithin, Inner};
 ghost use Rattle.msp_class.specs.declared.environments.EnvKind.TheVariants.{Uniform};
@@ -11,7 +11,8 @@ ghost use Rattle.msp_schedule.specs.Cost.{IsSolution};
 ghost use Rattle.msp_route.specs.Law.{Applies};
 ghost use Rattle.msp_route.specs.Changes.{same_costs};
 ghost use Rattle.msp_route.proofs.Alike.{IsPositive-same};
-ghost use Rattle.msp_machines.specs.Unrelated.{IsStretchable, needs_by, only_time, on_each_machine, led_to_each, least_common_multiple, stretched_step, stretched_curve, stretched, led_by_speeds, speed_rate, stretched_schedule, shrunk_schedule};
+ghost use Rattle.msp_machines.specs.Unrelated.{IsStretchable, needs_by, only_time, on_each_machine, led_to_each, stretched_step, stretched_curve, stretched, led_by_speeds, stretched_schedule, shrunk_schedule};
+ghost use Rattle.msp_route.specs.Rates.{least_common_multiple, speed_rate};
 ghost use Rattle.msp_machines.specs.laws.Stretched.{led_26, led_27};
 ghost use Rattle.msp_machines.specs.laws.OnEach.{serves_23, serves_24};
 ghost use Rattle.msp_machines.specs.laws.Served.{IsForth-served, IsBack-served};
@@ -105,6 +106,8 @@ impl Reduction for Row23 {
 
     ghost lower_is = { λ self i inner applies. (serves_23 i inner applies).lower };
 
+    ghost rate_of_row = { λ self i. refl };
+
     ghost rate_is = { λ self i inner applies. IsPositive-same };
 
     ghost forth_is = { λ self i s inner applies. IsForth-served (serves_23 i inner applies) inner s };
@@ -145,6 +148,8 @@ impl Reduction for Row24 {
     }
 
     ghost lower_is = { λ self i inner applies. (serves_24 i inner applies).lower };
+
+    ghost rate_of_row = { λ self i. refl };
 
     ghost rate_is = { λ self i inner applies. IsPositive-same };
 
@@ -347,6 +352,8 @@ impl Reduction for Row26 {
 
     ghost lower_is = { λ self i inner applies. (led_26 i inner applies).lower };
 
+    ghost rate_of_row = { λ self i. refl };
+
     ghost rate_is = { λ self i inner applies. (led_26 i inner applies).rate };
 
     ghost forth_is = { λ self i s inner applies. (led_26 i inner applies).forth s };
@@ -387,6 +394,8 @@ impl Reduction for Row27 {
     }
 
     ghost lower_is = { λ self i inner applies. (led_27 i inner applies).lower };
+
+    ghost rate_of_row = { λ self i. refl };
 
     ghost rate_is = { λ self i inner applies. (led_27 i inner applies).rate };
 

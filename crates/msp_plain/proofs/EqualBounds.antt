@@ -6,7 +6,7 @@ use Rattle.std.proofs.lemmas.List.Sorted.{All-permutation, length_permutation}
 use Rattle.msp_class.specs.declared.environments.EnvKind.{EnvKind}
 use Rattle.msp_class.specs.declared.environments.EnvKind.TheVariants.{Identical, Uniform, Unrelated, OpenShop, FlowShop, JobShop}
 use Rattle.msp_class.specs.Env.{kind_of}
-use Rattle.msp_class.proofs.IntegerRing.{≤ℤ_refl, ≤ℤ_trans, ≤ℤ-int_max_right}
+use Rattle.msp_class.proofs.IntegerRing.{≤ℤ_refl, ≤ℤ_trans}
 use Rattle.msp_instance.specs.declared.Instance.{Instance}
 use Rattle.msp_instance.specs.Instance.{common_time}
 use Rattle.msp_instance.specs.Conditions.{Inner}
@@ -20,8 +20,9 @@ use Rattle.msp_schedule.specs.Cost.{cost_of, IsSolution}
 use Rattle.msp_schedule.specs.Within.{IsMoment, Within}
 use Rattle.msp_route.specs.Law.{Applies, IsBack, IsReordered}
 use Rattle.msp_route.specs.Bounds.{EndsBy, IsBounded, KeepsBounds, greatest_unit}
-use Rattle.msp_route.specs.declared.bounds.TheConstants.{GREATEST_LINED_UP}
-use Rattle.msp_plain.specs.Equal.{moved, led_to_unit, by_common_time, closed, closed_up}
+use Rattle.msp_route.specs.declared.bounds.TheConstants.{GREATEST_CLOSED_UP}
+use Rattle.msp_plain.specs.Equal.{moved, led_to_unit, closed, closed_up}
+use Rattle.msp_route.specs.Rates.{by_common_time}
 use Rattle.msp_plain.specs.EqualLaws.{led_is, leads_54, reordered_54, early_54}
 use Rattle.msp_schedule.specs.Busy.{busy_moment}
 
@@ -38,7 +39,7 @@ module _ (i : Instance) (inner : Inner i) (applies : Applies 54 i) (t : Schedule
   small : t.unit ≤ℤ greatest_unit (kind_of i.class.env)
   small = subst (λ j. t.unit ≤ℤ greatest_unit (kind_of j.class.env)) (led_is i (leads_54 i applies)) b.sized.unit
 
-  pub early : EndsBy GREATEST_LINED_UP (closed_up (common_time i) t)
+  pub early : EndsBy GREATEST_CLOSED_UP (closed_up (common_time i) t)
   early = early_54 i t inner applies f (≤ℤ_trans small (most_unit (kind_of i.class.env)))
 
   module _ (s : Schedule) (h : IsReordered (closed_up (common_time i) t) s) where
@@ -48,11 +49,14 @@ module _ (i : Instance) (inner : Inner i) (applies : Applies 54 i) (t : Schedule
     pub feasible_back : Feasible i s
     feasible_back = (law f).0
 
-    ends : EndsBy GREATEST_LINED_UP s
-    ends = All-permutation (λ p. p.to ≤ℤ GREATEST_LINED_UP) (closed (common_time i) t.pieces) s.pieces h.pieces early
+    ends : EndsBy GREATEST_CLOSED_UP s
+    ends = All-permutation (λ p. p.to ≤ℤ GREATEST_CLOSED_UP) (closed (common_time i) t.pieces) s.pieces h.pieces early
+
+    no_more : length s.pieces ≤ length t.pieces
+    no_more = omega (arith, length_permutation (closed (common_time i) t.pieces) s.pieces h.pieces, length-map t.pieces (moved (busy_moment (common_time i) t.pieces)))
 
     few : length s.pieces ≤ MOST_PIECES
-    few = omega (arith, length_permutation (closed (common_time i) t.pieces) s.pieces h.pieces, length-map t.pieces (moved (busy_moment (common_time i) t.pieces)), b.sized.few)
+    few = omega (arith, no_more, b.sized.few)
 
     unit_back : s.unit ≤ℤ greatest_unit (kind_of i.class.env)
     unit_back = subst (λ u. u ≤ℤ greatest_unit (kind_of i.class.env)) (sym h.unit) small
@@ -65,15 +69,17 @@ module _ (i : Instance) (inner : Inner i) (applies : Applies 54 i) (t : Schedule
       scaled = λ e. inr (subst (λ k. s.unit ≤ℤ greatest_unit k) e unit_back);
     }
       where
-        moments_of : (p : Piece) → (pos 0 ≤ℤ p.from) × (p.from <ℤ p.to) → p.to ≤ℤ GREATEST_LINED_UP → IsMoment p.from × IsMoment p.to
+        moments_of : (p : Piece) → (pos 0 ≤ℤ p.from) × (p.from <ℤ p.to) → p.to ≤ℤ GREATEST_CLOSED_UP → IsMoment p.from × IsMoment p.to
         moments_of p h k = ((h.0, omega (arith, ints, h.1, k)), (omega (arith, ints, h.0, h.1), omega (arith, ints, k)))
 
     keeps : KeepsBounds 54 i (led_to_unit i) t s
     keeps = record {
+      same = λ kept. absurd (cc);
+      few = no_more;
+      unit = λ stays. h.unit;
       sized = record { few = few; unit = unit_back };
-      unit = λ w. h.unit;
-      ends = λ moment e k d l. ≤ℤ_trans (ends k d l) (≤ℤ-int_max_right moment GREATEST_LINED_UP);
-      cost = λ yes. absurd (cc);
+      ends = λ moment e. ends;
+      dates = λ traded. absurd (cc);
     }
 
     -- what the row owes for what it brings back

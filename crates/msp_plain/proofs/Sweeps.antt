@@ -13,7 +13,7 @@ use Rattle.msp_schedule.proofs.OneMachine.{IsTimed-from_span}
 use Rattle.msp_schedule.proofs.SettledSchedules.{Halfway, Halfway-start, Halfway-step, Halfway-all}
 use Rattle.msp_schedule.specs.Busy.{busy_moment}
 use Rattle.msp_schedule.proofs.Busy.{busy-mono, IsSwept, IsSwept-none, IsSwept-next, IsSweepStep}
-use Rattle.msp_route.specs.declared.bounds.TheConstants.{GREATEST_LINED_UP}
+use Rattle.msp_route.specs.declared.bounds.TheConstants.{GREATEST_CLOSED_UP}
 use Rattle.msp_plain.specs.Equal.{moved, closed}
 
 -- the first k pieces are closed and the others as they were, and the sweep is past the first k
@@ -93,7 +93,7 @@ module _ (time : ℕ) (xs zs : List Piece) (span : All Lasts xs) (sorted : AllPa
           }
 
   -- the sweep as the loop makes its step, where the piece is read from the list in part closed
-  module _ (small : All (λ q. q.to ≤ℤ GREATEST_LINED_UP) (closed time xs)) (sweeping : IsSweeping time xs zs k reach idle) (long : length zs ≡ length xs)
+  module _ (small : All (λ q. q.to ≤ℤ GREATEST_CLOSED_UP) (closed time xs)) (sweeping : IsSweeping time xs zs k reach idle) (long : length zs ≡ length xs)
       (after_is : after ≡ int_max reach (get_or zs k d).to) (later_is : later ≡ idle +ℤ int_max (pos 0) ((get_or zs k d).from -ℤ reach)) where
     same : get_or zs k d ≡ get_or xs k d
     same = sweeping.halfway.left k d (omega arith)
@@ -102,14 +102,14 @@ module _ (time : ℕ) (xs zs : List Piece) (span : All Lasts xs) (sorted : AllPa
     IsPast-read = subst (λ q. IsPast time xs k q after later) (sym same)
         (IsPast-next sweeping.swept sweeping.idle_from sweeping.idle_to (after_is ∙ ap (λ q. int_max reach q.to) same) (later_is ∙ ap (λ q. idle +ℤ int_max (pos 0) (q.from -ℤ reach)) same))
 
-    small_here : busy_moment time xs (get_or zs k d).to ≤ℤ GREATEST_LINED_UP
-    small_here = subst (λ q. q.to ≤ℤ GREATEST_LINED_UP) (get_or-map (moved (busy_moment time xs)) xs k d d inside ∙ ap (moved (busy_moment time xs)) (sym same)) (small k d (omega (arith, length-map xs (moved (busy_moment time xs)))))
+    small_here : busy_moment time xs (get_or zs k d).to ≤ℤ GREATEST_CLOSED_UP
+    small_here = subst (λ q. q.to ≤ℤ GREATEST_CLOSED_UP) (get_or-map (moved (busy_moment time xs)) xs k d d inside ∙ ap (moved (busy_moment time xs)) (sym same)) (small k d (omega (arith, length-map xs (moved (busy_moment time xs)))))
 
-    pub small_from : (pos time *ℤ ((get_or zs k d).from -ℤ later)) ≤ℤ GREATEST_LINED_UP
-    small_from = subst (λ z. z ≤ℤ GREATEST_LINED_UP) (sym IsPast-read.from_is) (≤ℤ_trans IsPast-read.increases small_here)
+    pub small_from : (pos time *ℤ ((get_or zs k d).from -ℤ later)) ≤ℤ GREATEST_CLOSED_UP
+    small_from = subst (λ z. z ≤ℤ GREATEST_CLOSED_UP) (sym IsPast-read.from_is) (≤ℤ_trans IsPast-read.increases small_here)
 
-    pub small_to : (pos time *ℤ ((get_or zs k d).to -ℤ later)) ≤ℤ GREATEST_LINED_UP
-    small_to = subst (λ z. z ≤ℤ GREATEST_LINED_UP) (sym IsPast-read.to_is) small_here
+    pub small_to : (pos time *ℤ ((get_or zs k d).to -ℤ later)) ≤ℤ GREATEST_CLOSED_UP
+    small_to = subst (λ z. z ≤ℤ GREATEST_CLOSED_UP) (sym IsPast-read.to_is) small_here
 
     pub IsSweeping-next : (new : Piece) → new ≡ moved (λ x. pos time *ℤ (x -ℤ later)) (get_or zs k d) → IsSweeping time xs (slice_set zs k new) (k + 1) after later
     IsSweeping-next new e = record {

@@ -3,11 +3,9 @@ use Rattle.std.specs.Prelude.{ℕ, List, ℤ, pos, ◌*ℤ◌, map}
 use Rattle.msp_instance.specs.declared.Need.{Need}
 use Rattle.msp_instance.specs.declared.Job.{Job}
 use Rattle.msp_instance.specs.declared.Instance.{Instance}
-use Rattle.msp_instance.specs.Instance.{common_time}
 use Rattle.msp_schedule.specs.declared.Piece.{Piece}
 use Rattle.msp_schedule.specs.declared.Schedule.{Schedule}
 use Rattle.msp_schedule.specs.Busy.{busy_moment}
-use Rattle.msp_route.specs.Law.{Rate}
 use Rattle.msp_route.specs.Changes.{led}
 
 -- The need with the time 1, and the job whose needs all have it.
@@ -20,10 +18,6 @@ unit_job j = record j { needs = map unit_need j.needs }
 -- The instance to which row 54 leads: all times are 1.
 abbrev pub led_to_unit : Instance → Instance
 led_to_unit i = record (led 54 i) { jobs = map unit_job i.jobs }
-
--- A cost below, multiplied by the common time, stands for the cost above.
-abbrev pub by_common_time : Instance → Rate
-by_common_time i = record { factor = 1; addend = pos 0; scale = common_time i }
 
 -- The schedule with its moments over a unit that is as many times as large as the time.
 abbrev pub over_time : ℕ → Schedule → Schedule

@@ -34,10 +34,11 @@ use Rattle.msp_schedule.proofs.UnitTimes.{IsUnitOf, IsUnitOf-from_conditions, Is
 use Rattle.msp_table.specs.Rows.{goes_of, table}
 use Rattle.msp_route.specs.Law.{Applies, IsLower, IsPositive, IsForth, IsBack, IsReordered}
 use Rattle.msp_route.specs.Bounds.{EndsBy}
-use Rattle.msp_route.specs.declared.bounds.TheConstants.{GREATEST_LINED_UP}
+use Rattle.msp_route.specs.declared.bounds.TheConstants.{GREATEST_CLOSED_UP}
 use Rattle.msp_route.proofs.InnerChanges.{changed, Inner-changed}
 use Rattle.msp_route.proofs.Applied.{part_and_condition}
-use Rattle.msp_plain.specs.Equal.{unit_need, unit_job, led_to_unit, by_common_time, over_time, closed, closed_up}
+use Rattle.msp_plain.specs.Equal.{unit_need, unit_job, led_to_unit, over_time, closed, closed_up}
+use Rattle.msp_route.specs.Rates.{by_common_time}
 use Rattle.msp_plain.specs.Lengths.{lengths_of_units}
 
 -- ---- where the row applies
@@ -220,11 +221,11 @@ module _ (i : Instance) (inner : Inner i) (leads : LeadsToUnit i) where
       (subst (λ t. HasTimes (least_time (kind_of i.class.env) t) (greatest_time limits t) (job_at i 0).needs) leads.times first.needs.times 0 no_need (omega (arith, l))).1
 
   -- what is closed ends early
-  closed_early : (t : Schedule) → Feasible j t → t.unit ≤ℤ GREATEST_UNIT → EndsBy GREATEST_LINED_UP (closed_up e t)
-  closed_early t f small = All-map (λ p. p.to ≤ℤ GREATEST_LINED_UP) _ t.pieces (λ k d l.
+  closed_early : (t : Schedule) → Feasible j t → t.unit ≤ℤ GREATEST_UNIT → EndsBy GREATEST_CLOSED_UP (closed_up e t)
+  closed_early t f small = All-map (λ p. p.to ≤ℤ GREATEST_CLOSED_UP) _ t.pieces (λ k d l.
       ≤ℤ_trans (busy_moment-lengths e t.pieces (get_or t.pieces k d).to) (bounded e t.unit _ small_time f.unit small (lengths_of_units limits j t (unit_inner i inner).conditions refl f)))
     where
-      bounded : (e : ℕ) (unit : ℤ) (m : ℕ) → e ≤ GREATEST_EQUAL_TIME → pos 1 ≤ℤ unit → unit ≤ℤ GREATEST_UNIT → m ≤ MOST_JOBS * MOST_OPERATIONS * nat_abs unit → pos (e * m) ≤ℤ GREATEST_LINED_UP
+      bounded : (e : ℕ) (unit : ℤ) (m : ℕ) → e ≤ GREATEST_EQUAL_TIME → pos 1 ≤ℤ unit → unit ≤ℤ GREATEST_UNIT → m ≤ MOST_JOBS * MOST_OPERATIONS * nat_abs unit → pos (e * m) ≤ℤ GREATEST_CLOSED_UP
       bounded e unit m h one k l =
           let low : nat_abs unit ≤ 10 ^ 13 = omega (arith, ints) in
           let most = mul-le e m GREATEST_EQUAL_TIME (MOST_JOBS * MOST_OPERATIONS * 10 ^ 13) h (omega arith) in
@@ -253,5 +254,5 @@ reordered_54 i t s inner applies h = let leads = leads_54 i applies in subst (λ
 pub back_54 : (i : Instance) (t : Schedule) → Inner i → Applies 54 i → IsBack (by_common_time i) i (led_to_unit i) t (closed_up (common_time i) t)
 back_54 i t inner applies = reordered_54 i t (closed_up (common_time i) t) inner applies (record { unit = refl; pieces = IsPermutation-refl (closed (common_time i) t.pieces) })
 
-pub early_54 : (i : Instance) (t : Schedule) → Inner i → Applies 54 i → Feasible (led_to_unit i) t → t.unit ≤ℤ GREATEST_UNIT → EndsBy GREATEST_LINED_UP (closed_up (common_time i) t)
+pub early_54 : (i : Instance) (t : Schedule) → Inner i → Applies 54 i → Feasible (led_to_unit i) t → t.unit ≤ℤ GREATEST_UNIT → EndsBy GREATEST_CLOSED_UP (closed_up (common_time i) t)
 early_54 i t inner applies f small = let leads = leads_54 i applies in closed_early i inner leads t (subst (λ j. Feasible j t) (led_is i leads) f) small

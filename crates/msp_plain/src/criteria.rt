@@ -1,5 +1,7 @@
 // The rows whose criterion is another one at neutral data, which the instance holds. The class alone changes.
-ghost use Rattle.msp_route.specs.Changes.{led, same_costs};
+ghost use Rattle.std.specs.Prelude.{refl};
+ghost use Rattle.msp_route.specs.Changes.{led};
+ghost use Rattle.msp_route.specs.Rates.{rate_of};
 ghost use Rattle.msp_route.proofs.Alike.{IsPositive-same, IsForth-alike, IsBack-alike};
 ghost use Rattle.msp_plain.specs.Names.{alike_8, alike_10, alike_11, alike_12, alike_13, alike_14};
 
@@ -19,7 +21,7 @@ impl Reduction for Row8 {
 
     ghost lower = { λ self. led 8 };
 
-    ghost rate = { λ self i. same_costs };
+    ghost rate = { λ self. rate_of 8 };
 
     ghost forth = { λ self i s. s };
 
@@ -44,6 +46,8 @@ impl Reduction for Row8 {
 
     ghost lower_is = { λ self i inner applies. (alike_8 i inner applies).lower };
 
+    ghost rate_of_row = { λ self i. refl };
+
     ghost rate_is = { λ self i inner applies. IsPositive-same };
 
     ghost forth_is = { λ self i s inner applies. IsForth-alike (alike_8 i inner applies) inner s };
@@ -60,7 +64,7 @@ impl Reduction for Row10 {
 
     ghost lower = { λ self. led 10 };
 
-    ghost rate = { λ self i. same_costs };
+    ghost rate = { λ self. rate_of 10 };
 
     ghost forth = { λ self i s. s };
 
@@ -85,6 +89,8 @@ impl Reduction for Row10 {
 
     ghost lower_is = { λ self i inner applies. (alike_10 i inner applies).lower };
 
+    ghost rate_of_row = { λ self i. refl };
+
     ghost rate_is = { λ self i inner applies. IsPositive-same };
 
     ghost forth_is = { λ self i s inner applies. IsForth-alike (alike_10 i inner applies) inner s };
@@ -101,7 +107,7 @@ impl Reduction for Row11 {
 
     ghost lower = { λ self. led 11 };
 
-    ghost rate = { λ self i. same_costs };
+    ghost rate = { λ self. rate_of 11 };
 
     ghost forth = { λ self i s. s };
 
@@ -126,6 +132,8 @@ impl Reduction for Row11 {
 
     ghost lower_is = { λ self i inner applies. (alike_11 i inner applies).lower };
 
+    ghost rate_of_row = { λ self i. refl };
+
     ghost rate_is = { λ self i inner applies. IsPositive-same };
 
     ghost forth_is = { λ self i s inner applies. IsForth-alike (alike_11 i inner applies) inner s };
@@ -142,7 +150,7 @@ impl Reduction for Row12 {
 
     ghost lower = { λ self. led 12 };
 
-    ghost rate = { λ self i. same_costs };
+    ghost rate = { λ self. rate_of 12 };
 
     ghost forth = { λ self i s. s };
 
@@ -167,6 +175,8 @@ impl Reduction for Row12 {
 
     ghost lower_is = { λ self i inner applies. (alike_12 i inner applies).lower };
 
+    ghost rate_of_row = { λ self i. refl };
+
     ghost rate_is = { λ self i inner applies. IsPositive-same };
 
     ghost forth_is = { λ self i s inner applies. IsForth-alike (alike_12 i inner applies) inner s };
@@ -183,7 +193,7 @@ impl Reduction for Row13 {
 
     ghost lower = { λ self. led 13 };
 
-    ghost rate = { λ self i. same_costs };
+    ghost rate = { λ self. rate_of 13 };
 
     ghost forth = { λ self i s. s };
 
@@ -208,6 +218,8 @@ impl Reduction for Row13 {
 
     ghost lower_is = { λ self i inner applies. (alike_13 i inner applies).lower };
 
+    ghost rate_of_row = { λ self i. refl };
+
     ghost rate_is = { λ self i inner applies. IsPositive-same };
 
     ghost forth_is = { λ self i s inner applies. IsForth-alike (alike_13 i inner applies) inner s };
@@ -224,7 +236,7 @@ impl Reduction for Row14 {
 
     ghost lower = { λ self. led 14 };
 
-    ghost rate = { λ self i. same_costs };
+    ghost rate = { λ self. rate_of 14 };
 
     ghost forth = { λ self i s. s };
 
@@ -248,6 +260,8 @@ impl Reduction for Row14 {
     }
 
     ghost lower_is = { λ self i inner applies. (alike_14 i inner applies).lower };
+
+    ghost rate_of_row = { λ self i. refl };
 
     ghost rate_is = { λ self i inner applies. IsPositive-same };
 

@@ -1,7 +1,7 @@
 // The row from the greatest lateness to the greatest cost by curves.
-ghost use Rattle.std.specs.Prelude.{◌≡◌, All, map};
+ghost use Rattle.std.specs.Prelude.{◌≡◌, All, map, refl};
 ghost use Rattle.msp_instance.specs.Conditions.{LiesWithin};
-ghost use Rattle.msp_route.specs.Changes.{same_costs};
+ghost use Rattle.msp_route.specs.Rates.{rate_of};
 ghost use Rattle.msp_plain.specs.Changes.{by_curve, led_by_curves};
 ghost use Rattle.msp_route.proofs.Alike.{IsPositive-same, IsForth-alike, IsBack-alike};
 ghost use Rattle.msp_route.specs.Sizes.{greatest_row_date};
@@ -45,7 +45,7 @@ impl Reduction for Row9 {
 
     ghost lower = { λ self. led_by_curves };
 
-    ghost rate = { λ self i. same_costs };
+    ghost rate = { λ self. rate_of 9 };
 
     ghost forth = { λ self i s. s };
 
@@ -73,6 +73,8 @@ impl Reduction for Row9 {
     }
 
     ghost lower_is = { λ self i inner applies. (alike_9 i inner applies).lower };
+
+    ghost rate_of_row = { λ self i. refl };
 
     ghost rate_is = { λ self i inner applies. IsPositive-same };
 

@@ -1,12 +1,13 @@
 // The row from equal times to unit times, where no release dates and no due dates tie jobs to moments.
-ghost use Rattle.std.specs.Prelude.{◌≡◌, pos, ◌+ℤ◌, ◌-ℤ◌, ◌*ℤ◌, ◌≤ℤ◌, ◌<ℤ◌, map, All, AllPairs};
+ghost use Rattle.std.specs.Prelude.{◌≡◌, pos, ◌+ℤ◌, ◌-ℤ◌, ◌*ℤ◌, ◌≤ℤ◌, ◌<ℤ◌, map, All, AllPairs, refl};
 ghost use Rattle.std.specs.Int.{int_max};
 ghost use Rattle.msp_instance.specs.Instance.{common_time};
 ghost use Rattle.msp_route.specs.Bounds.{EndsBy};
 ghost use Rattle.msp_route.specs.Law.{IsReordered};
-ghost use Rattle.msp_route.specs.declared.bounds.TheConstants.{GREATEST_LINED_UP};
+ghost use Rattle.msp_route.specs.declared.bounds.TheConstants.{GREATEST_CLOSED_UP};
 ghost use Rattle.msp_schedule.specs.Settled.{IsReportedFirst};
-ghost use Rattle.msp_plain.specs.Equal.{unit_need, unit_job, led_to_unit, by_common_time, over_time, moved, closed, closed_up};
+ghost use Rattle.msp_plain.specs.Equal.{unit_need, unit_job, led_to_unit, over_time, moved, closed, closed_up};
+ghost use Rattle.msp_route.specs.Rates.{rate_of};
 ghost use Rattle.msp_plain.specs.EqualLaws.{lower_54, positive_54, forth_54, back_54};
 
 use msp_class::{List, NoMemory};
@@ -78,7 +79,7 @@ fn past(sweep: &Sweep, piece: &Piece) -> Sweep
 fn stretched(time: u64, sweep: &Sweep, moment: i128) -> i128
     requires idle { pos 0 ≤ℤ sweep.now.idle }
     requires after { sweep.now.idle ≤ℤ moment }
-    requires small { (pos time *ℤ (moment -ℤ sweep.now.idle)) ≤ℤ GREATEST_LINED_UP }
+    requires small { (pos time *ℤ (moment -ℤ sweep.now.idle)) ≤ℤ GREATEST_CLOSED_UP }
     ensures { result ≡ pos time *ℤ (moment -ℤ sweep.now.idle) }
 {
     time as i128 * (moment - sweep.idle)
@@ -89,8 +90,8 @@ fn closed_piece(time: u64, sweep: &Sweep, piece: &Piece) -> Piece
     requires idle { pos 0 ≤ℤ sweep.now.idle }
     requires begins { sweep.now.idle ≤ℤ piece.now.from }
     requires ends { sweep.now.idle ≤ℤ piece.now.to }
-    requires small_from { (pos time *ℤ (piece.now.from -ℤ sweep.now.idle)) ≤ℤ GREATEST_LINED_UP }
-    requires small_to { (pos time *ℤ (piece.now.to -ℤ sweep.now.idle)) ≤ℤ GREATEST_LINED_UP }
+    requires small_from { (pos time *ℤ (piece.now.from -ℤ sweep.now.idle)) ≤ℤ GREATEST_CLOSED_UP }
+    requires small_to { (pos time *ℤ (piece.now.to -ℤ sweep.now.idle)) ≤ℤ GREATEST_CLOSED_UP }
     ensures { result ≡ moved (λ x. pos time *ℤ (x -ℤ sweep.now.idle)) piece.now }
 {
     Piece {
@@ -104,7 +105,7 @@ fn closed_piece(time: u64, sweep: &Sweep, piece: &Piece) -> Piece
 fn close(pieces: &mut [Piece], time: u64)
     requires span { All (λ p. (pos 0 ≤ℤ p.from) × (p.from <ℤ p.to)) pieces.old }
     requires sorted { AllPairs IsReportedFirst pieces.old }
-    requires small { All (λ p. p.to ≤ℤ GREATEST_LINED_UP) (closed time pieces.old) }
+    requires small { All (λ p. p.to ≤ℤ GREATEST_CLOSED_UP) (closed time pieces.old) }
     ensures { pieces.new ≡ closed time pieces.old }
 {
     let mut sweep = Sweep { reach: 0, idle: 0 };
@@ -117,7 +118,7 @@ fn close(pieces: &mut [Piece], time: u64)
 /// Takes out the stretches of time in which no machine works, and multiplies all lengths by the time.
 fn close_up(s: &mut Schedule, time: u64)
     requires span { All (λ p. (pos 0 ≤ℤ p.from) × (p.from <ℤ p.to)) s.old.pieces }
-    requires small { EndsBy GREATEST_LINED_UP (closed_up time s.old) }
+    requires small { EndsBy GREATEST_CLOSED_UP (closed_up time s.old) }
     ensures { IsReordered (closed_up time s.old) s.new }
 {
     let mut pieces = s.pieces.take_all();
@@ -136,7 +137,7 @@ impl Reduction for Row54 {
 
     ghost lower = { λ self. led_to_unit };
 
-    ghost rate = { λ self. by_common_time };
+    ghost rate = { λ self. rate_of 54 };
 
     ghost forth = { λ self i. over_time (common_time i) };
 
@@ -167,6 +168,8 @@ impl Reduction for Row54 {
     }
 
     ghost lower_is = { λ self. lower_54 };
+
+    ghost rate_of_row = { λ self i. refl };
 
     ghost rate_is = { λ self. positive_54 };
 

@@ -1,5 +1,7 @@
 // The rows that widen the precedence constraints, the release dates or the processing times. The class alone changes.
-ghost use Rattle.msp_route.specs.Changes.{led, same_costs};
+ghost use Rattle.std.specs.Prelude.{refl};
+ghost use Rattle.msp_route.specs.Changes.{led};
+ghost use Rattle.msp_route.specs.Rates.{rate_of};
 ghost use Rattle.msp_route.proofs.Alike.{IsPositive-same, IsForth-alike, IsBack-alike};
 ghost use Rattle.msp_plain.specs.Names.{alike_1, alike_2, alike_3, alike_4, alike_5, alike_6, alike_7, alike_53};
 
@@ -19,7 +21,7 @@ impl Reduction for Row1 {
 
     ghost lower = { λ self. led 1 };
 
-    ghost rate = { λ self i. same_costs };
+    ghost rate = { λ self. rate_of 1 };
 
     ghost forth = { λ self i s. s };
 
@@ -44,6 +46,8 @@ impl Reduction for Row1 {
 
     ghost lower_is = { λ self i inner applies. (alike_1 i inner applies).lower };
 
+    ghost rate_of_row = { λ self i. refl };
+
     ghost rate_is = { λ self i inner applies. IsPositive-same };
 
     ghost forth_is = { λ self i s inner applies. IsForth-alike (alike_1 i inner applies) inner s };
@@ -60,7 +64,7 @@ impl Reduction for Row2 {
 
     ghost lower = { λ self. led 2 };
 
-    ghost rate = { λ self i. same_costs };
+    ghost rate = { λ self. rate_of 2 };
 
     ghost forth = { λ self i s. s };
 
@@ -85,6 +89,8 @@ impl Reduction for Row2 {
 
     ghost lower_is = { λ self i inner applies. (alike_2 i inner applies).lower };
 
+    ghost rate_of_row = { λ self i. refl };
+
     ghost rate_is = { λ self i inner applies. IsPositive-same };
 
     ghost forth_is = { λ self i s inner applies. IsForth-alike (alike_2 i inner applies) inner s };
@@ -101,7 +107,7 @@ impl Reduction for Row3 {
 
     ghost lower = { λ self. led 3 };
 
-    ghost rate = { λ self i. same_costs };
+    ghost rate = { λ self. rate_of 3 };
 
     ghost forth = { λ self i s. s };
 
@@ -126,6 +132,8 @@ impl Reduction for Row3 {
 
     ghost lower_is = { λ self i inner applies. (alike_3 i inner applies).lower };
 
+    ghost rate_of_row = { λ self i. refl };
+
     ghost rate_is = { λ self i inner applies. IsPositive-same };
 
     ghost forth_is = { λ self i s inner applies. IsForth-alike (alike_3 i inner applies) inner s };
@@ -142,7 +150,7 @@ impl Reduction for Row4 {
 
     ghost lower = { λ self. led 4 };
 
-    ghost rate = { λ self i. same_costs };
+    ghost rate = { λ self. rate_of 4 };
 
     ghost forth = { λ self i s. s };
 
@@ -167,6 +175,8 @@ impl Reduction for Row4 {
 
     ghost lower_is = { λ self i inner applies. (alike_4 i inner applies).lower };
 
+    ghost rate_of_row = { λ self i. refl };
+
     ghost rate_is = { λ self i inner applies. IsPositive-same };
 
     ghost forth_is = { λ self i s inner applies. IsForth-alike (alike_4 i inner applies) inner s };
@@ -183,7 +193,7 @@ impl Reduction for Row5 {
 
     ghost lower = { λ self. led 5 };
 
-    ghost rate = { λ self i. same_costs };
+    ghost rate = { λ self. rate_of 5 };
 
     ghost forth = { λ self i s. s };
 
@@ -208,6 +218,8 @@ impl Reduction for Row5 {
 
     ghost lower_is = { λ self i inner applies. (alike_5 i inner applies).lower };
 
+    ghost rate_of_row = { λ self i. refl };
+
     ghost rate_is = { λ self i inner applies. IsPositive-same };
 
     ghost forth_is = { λ self i s inner applies. IsForth-alike (alike_5 i inner applies) inner s };
@@ -224,7 +236,7 @@ impl Reduction for Row6 {
 
     ghost lower = { λ self. led 6 };
 
-    ghost rate = { λ self i. same_costs };
+    ghost rate = { λ self. rate_of 6 };
 
     ghost forth = { λ self i s. s };
 
@@ -249,6 +261,8 @@ impl Reduction for Row6 {
 
     ghost lower_is = { λ self i inner applies. (alike_6 i inner applies).lower };
 
+    ghost rate_of_row = { λ self i. refl };
+
     ghost rate_is = { λ self i inner applies. IsPositive-same };
 
     ghost forth_is = { λ self i s inner applies. IsForth-alike (alike_6 i inner applies) inner s };
@@ -265,7 +279,7 @@ impl Reduction for Row7 {
 
     ghost lower = { λ self. led 7 };
 
-    ghost rate = { λ self i. same_costs };
+    ghost rate = { λ self. rate_of 7 };
 
     ghost forth = { λ self i s. s };
 
@@ -290,6 +304,8 @@ impl Reduction for Row7 {
 
     ghost lower_is = { λ self i inner applies. (alike_7 i inner applies).lower };
 
+    ghost rate_of_row = { λ self i. refl };
+
     ghost rate_is = { λ self i inner applies. IsPositive-same };
 
     ghost forth_is = { λ self i s inner applies. IsForth-alike (alike_7 i inner applies) inner s };
@@ -306,7 +322,7 @@ impl Reduction for Row53 {
 
     ghost lower = { λ self. led 53 };
 
-    ghost rate = { λ self i. same_costs };
+    ghost rate = { λ self. rate_of 53 };
 
     ghost forth = { λ self i s. s };
 
@@ -330,6 +346,8 @@ impl Reduction for Row53 {
     }
 
     ghost lower_is = { λ self i inner applies. (alike_53 i inner applies).lower };
+
+    ghost rate_of_row = { λ self i. refl };
 
     ghost rate_is = { λ self i inner applies. IsPositive-same };
 

@@ -1,10 +1,9 @@
 -- Instances whose feasible schedules are the same, at the same costs.
-use Rattle.std.proofs.Common.{◌≡◌, ℕ, false, List, pos, ◌+ℤ◌, ◌*ℤ◌, ◌≤ℤ◌, Some, unwrap_or, if◌then◌else◌, refl, sym, ap, subst, ◌∙◌, arith}
-use Rattle.std.specs.Int.{int_max}
+use Rattle.std.proofs.Common.{◌≡◌, ℕ, true, List, pos, ◌+ℤ◌, ◌*ℤ◌, ◌≤ℤ◌, Some, unwrap_or, refl, sym, ap, subst, ◌∙◌, arith}
 use Rattle.std.proofs.lemmas.List.Sorted.{IsPermutation-refl}
 use Rattle.msp_class.specs.declared.class.Class.{Class}
 use Rattle.msp_class.specs.Env.{kind_of}
-use Rattle.msp_class.proofs.IntegerRing.{≤ℤ_trans, ≤ℤ_of_same, ≤ℤ-int_max_left, zero-*ℤ, +ℤ_idr}
+use Rattle.msp_class.proofs.IntegerRing.{≤ℤ_of_same, zero-*ℤ, +ℤ_idr}
 use Rattle.msp_instance.specs.declared.Job.{Job}
 use Rattle.msp_instance.specs.declared.Instance.{Instance}
 use Rattle.msp_instance.specs.Conditions.{Inner, inner_limits}
@@ -15,11 +14,11 @@ use Rattle.msp_schedule.specs.Cost.{cost_of, IsSolution}
 use Rattle.msp_schedule.proofs.Frames.{IsShaped-from_conditions}
 use Rattle.msp_schedule.proofs.Serves.{SameWork, SameWork-sym, Feasible-same}
 use Rattle.msp_schedule.proofs.Charges.{SameCharges, cost-same_charges}
-use Rattle.msp_table.specs.Rows.{goes_of, turns_dates}
+use Rattle.msp_table.specs.Rows.{goes_of}
 use Rattle.msp_route.specs.Law.{IsLower, IsPositive, IsForth, IsBack, IsReordered, cost_above, cost_below}
-use Rattle.msp_route.specs.Bounds.{IsBounded, KeepsBounds, greatest_unit}
-use Rattle.msp_route.specs.declared.bounds.TheConstants.{GREATEST_LINED_UP, GREATEST_RAISE}
+use Rattle.msp_route.specs.Bounds.{IsBounded, KeepsBounds, greatest_unit, keeps_schedule}
 use Rattle.msp_route.specs.Changes.{led, same_costs}
+use Rattle.msp_route.proofs.Kept.{KeepsBounds-kept}
 
 -- the row leads to the instance, which has the same schedules at the same costs
 pub record Alike (row : ℕ) (i j : Instance) : Type 0 where
@@ -55,13 +54,8 @@ module _ {row : ℕ} {i j : Instance} (h : Alike row i j) (inner : Inner i) wher
   pub IsSolution-alike : (s : Solution) → IsSolution j s → IsSolution i s
   IsSolution-alike s f = record { feasible = up-alike s.schedule f.feasible; cost = f.cost ∙ ap (λ z. z *ℤ s.cost.den) (sym (cost-alike s.schedule f.feasible.unit)) }
 
-  pub KeepsBounds-alike : (s : Schedule) → turns_dates row ≡ false → IsBounded j s → KeepsBounds row i j s s
-  KeepsBounds-alike s stays b = record {
-    sized = record { few = b.sized.few; unit = subst (λ k. s.unit ≤ℤ greatest_unit k) (sym h.work.needs.kind) b.sized.unit };
-    unit = λ w. refl;
-    ends = λ moment e k d l. ≤ℤ_trans (e k d l) (subst (λ t. moment ≤ℤ (if t then moment +ℤ GREATEST_RAISE else int_max moment GREATEST_LINED_UP)) (sym stays) (≤ℤ-int_max_left moment GREATEST_LINED_UP));
-    cost = λ yes. absurd (cc);
-  }
+  pub KeepsBounds-alike : (s : Schedule) → keeps_schedule row ≡ true → IsBounded j s → KeepsBounds row i j s s
+  KeepsBounds-alike s kept b = KeepsBounds-kept row i j s kept (record { few = b.sized.few; unit = subst (λ k. s.unit ≤ℤ greatest_unit k) (sym h.work.needs.kind) b.sized.unit })
 
 -- what is brought back is the lower solution itself
 abbrev pub IsBrought : ℕ → Instance → Instance → Solution → Type 0
@@ -72,10 +66,10 @@ IsBrought row i j s = record {
   bounds : KeepsBounds row i j s.schedule s.schedule;
 }
 
-pub brought : {row : ℕ} {i j : Instance} → Alike row i j → Inner i → turns_dates row ≡ false → (s : Solution) → IsSolution j s → IsBounded j s.schedule → IsBrought row i j s
-brought h inner stays s f b = record {
+pub brought : {row : ℕ} {i j : Instance} → Alike row i j → Inner i → keeps_schedule row ≡ true → (s : Solution) → IsSolution j s → IsBounded j s.schedule → IsBrought row i j s
+brought h inner kept s f b = record {
   solution = IsSolution-alike h inner s f;
   law = IsBack-alike h inner s.schedule;
   same = record { unit = refl; pieces = IsPermutation-refl s.schedule.pieces };
-  bounds = KeepsBounds-alike h inner s.schedule stays b;
+  bounds = KeepsBounds-alike h inner s.schedule kept b;
 }

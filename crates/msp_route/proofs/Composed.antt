@@ -1,9 +1,8 @@
 -- A reduction and a solver behind it keep what a solver owes.
-use Rattle.std.proofs.Common.{if◌then◌else◌, ◌≡◌, ◌≢◌, ℕ, Bool, true, false, ◌⊎◌, inr, ℤ, ◌+ℤ◌, ◌≤ℤ◌, Result, Ok, Err, refl, sym, ◌∙◌, subst, arith}
-use Rattle.std.specs.Int.{int_max}
-use Rattle.std.specs.Prelude.{IfOk}
+use Rattle.std.proofs.Common.{if◌then◌else◌, ◌≡◌, ℕ, Bool, true, false, ℤ, ◌+ℤ◌, ◌≤ℤ◌, Result, Ok, Err, refl, sym, ap, ◌∙◌, subst, arith}
+use Rattle.std.specs.Prelude.{IfOk, ◌==◌, ◌||◌}
 use Rattle.std.proofs.lemmas.Int.{ints}
-use Rattle.msp_class.proofs.IntegerRing.{≤ℤ_refl, ≤ℤ_trans, int_max-least}
+use Rattle.msp_class.proofs.IntegerRing.{≤ℤ_refl, ≤ℤ_trans}
 use Rattle.msp_class.specs.declared.NoMemory.{NoMemory}
 use Rattle.msp_class.specs.declared.environments.EnvKind.{EnvKind}
 use Rattle.msp_class.specs.declared.environments.EnvKind.TheVariants.{Identical, Uniform, Unrelated, OpenShop, FlowShop, JobShop}
@@ -12,11 +11,12 @@ use Rattle.msp_instance.specs.declared.Instance.{Instance}
 use Rattle.msp_schedule.specs.declared.Schedule.{Schedule}
 use Rattle.msp_schedule.specs.declared.Solution.{Solution}
 use Rattle.msp_schedule.specs.Cost.{cost_of, Best, IsSolution, IsBest}
-use Rattle.msp_table.specs.Rows.{turns_dates}
+use Rattle.msp_table.specs.Rows.{turns_dates, keeps_size}
 use Rattle.msp_table.proofs.KindLemmas.{open_shops-stay}
 use Rattle.msp_route.specs.Law.{Rate, IsPositive, IsLower, IsForth, IsBack}
 use Rattle.msp_route.specs.Bounds.{EndsBy, IsBounded, KeepsBounds, IsAnswer, greatest_unit, answer_unit, moment_after}
-use Rattle.msp_route.specs.declared.bounds.TheConstants.{GREATEST_ANSWER_MOMENT, GREATEST_RAISE, GREATEST_LINED_UP, GREATEST_OPEN_UNIT}
+use Rattle.msp_route.specs.declared.bounds.TheConstants.{GREATEST_ANSWER_MOMENT, GREATEST_RAISE, GREATEST_LINED_UP, GREATEST_CLOSED_UP, GREATEST_OPEN_UNIT}
+use Rattle.msp_route.proofs.Kept.{from_uniform}
 use Rattle.msp_route.proofs.BestBack.{Best-from_back}
 
 -- the unit of an answer is one that a way back takes
@@ -38,36 +38,47 @@ IsBounded-from_answer i s h = record {
   ends = EndsBy-later _ _ s (omega (arith, ints)) h.ends;
 }
 
--- the greatest moment of an answer is one after the row too, where that turns no dates
-later-row : (b : Bool) (row : ℕ) → turns_dates row ≡ b → b ≡ false → moment_after row GREATEST_ANSWER_MOMENT ≤ℤ GREATEST_ANSWER_MOMENT
-later-row b row e f = subst (λ x. (if x then GREATEST_ANSWER_MOMENT +ℤ GREATEST_RAISE else int_max GREATEST_ANSWER_MOMENT GREATEST_LINED_UP) ≤ℤ GREATEST_ANSWER_MOMENT) (sym (e ∙ f)) (int_max-least {b = GREATEST_LINED_UP} (≤ℤ_refl GREATEST_ANSWER_MOMENT) (omega (arith, ints)))
+-- the greatest moment of an answer is one after the row too, where that makes no due dates of release dates
+later-row : (row : ℕ) → (row == 47) ≡ false → moment_after row GREATEST_ANSWER_MOMENT ≤ℤ GREATEST_ANSWER_MOMENT
+later-row row e = by (row == 47) (row == 51 || row == 52) (row == 54) e
+  where
+    by : (a b c : Bool) → a ≡ false → (if a then GREATEST_ANSWER_MOMENT +ℤ GREATEST_RAISE else if b then GREATEST_LINED_UP else if c then GREATEST_CLOSED_UP else GREATEST_ANSWER_MOMENT) ≤ℤ GREATEST_ANSWER_MOMENT
+    by true b c e = absurd (cc)
+    by false true c e = omega (arith, ints)
+    by false false true e = omega (arith, ints)
+    by false false false e = ≤ℤ_refl GREATEST_ANSWER_MOMENT
 
 ends-composed : (row : ℕ) (upper lower : Instance) (t s : Schedule) → KeepsBounds row upper lower t s → EndsBy GREATEST_ANSWER_MOMENT t → (turns_dates row ≡ true → cost_of lower t ≤ℤ GREATEST_ANSWER_MOMENT) → EndsBy GREATEST_ANSWER_MOMENT s
-ends-composed row upper lower t s keeps ends low = by (turns_dates row) refl
+ends-composed row upper lower t s keeps ends low = by (row == 47) refl
   where
-    by : (b : Bool) → turns_dates row ≡ b → EndsBy GREATEST_ANSWER_MOMENT s
-    by true e = EndsBy-later _ _ s (low e) (keeps.cost e)
-    by false e = EndsBy-later _ _ s (later-row false row e refl) (keeps.ends GREATEST_ANSWER_MOMENT ends)
+    by : (b : Bool) → (row == 47) ≡ b → EndsBy GREATEST_ANSWER_MOMENT s
+    by true e = EndsBy-later _ _ s (low e) (λ k d l. (keeps.dates (ap (λ x. x || (row == 48)) e) k d l).1)
+    by false e = EndsBy-later _ _ s (later-row row e) (keeps.ends GREATEST_ANSWER_MOMENT ends)
 
-unit-composed : (k l : EnvKind) (before after : ℤ) → (k ≡ OpenShop → l ≡ OpenShop) → ((k ≡ Unrelated) ⊎ (l ≢ Unrelated) → after ≡ before) → after ≤ℤ greatest_unit k → before ≤ℤ answer_unit l → after ≤ℤ answer_unit k
+-- in open shops the unit stays
+unit-composed : (k l : EnvKind) (before after : ℤ) → (k ≡ OpenShop → l ≡ OpenShop) → (k ≡ OpenShop → after ≡ before) → after ≤ℤ greatest_unit k → before ≤ℤ answer_unit l → after ≤ℤ answer_unit k
 unit-composed Identical l before after stays same h a = h
 unit-composed Uniform l before after stays same h a = h
 unit-composed Unrelated l before after stays same h a = h
 unit-composed FlowShop l before after stays same h a = h
 unit-composed JobShop l before after stays same h a = h
 unit-composed OpenShop l before after stays same h a =
-    subst (λ x. x ≤ℤ GREATEST_OPEN_UNIT) (sym (same (inr other))) (subst (λ x. before ≤ℤ answer_unit x) (stays refl) a)
+    subst (λ x. x ≤ℤ GREATEST_OPEN_UNIT) (sym (same refl)) (subst (λ x. before ≤ℤ answer_unit x) (stays refl) a)
+
+open_unit : (row : ℕ) (upper lower : Instance) (t s : Schedule) → IsLower row upper lower → KeepsBounds row upper lower t s → kind_of upper.class.env ≡ OpenShop → s.unit ≡ t.unit
+open_unit row upper lower t s led keeps open_shop = by (keeps_size row) refl
   where
-    other : l ≢ Unrelated
-    other e = absurd (apart (sym (stays refl) ∙ e))
+    by : (b : Bool) → keeps_size row ≡ b → s.unit ≡ t.unit
+    by true e = keeps.unit e
+    by false e = absurd (apart (sym open_shop ∙ from_uniform row upper.class lower.class led.class e))
       where
-        apart : OpenShop ≡ Unrelated → ⊥
+        apart : OpenShop ≡ Uniform → ⊥
         apart f = cc
 
 IsAnswer-composed : (row : ℕ) (upper lower : Instance) (t s : Schedule) → IsLower row upper lower → IsAnswer lower t → KeepsBounds row upper lower t s → (turns_dates row ≡ true → cost_of lower t ≤ℤ GREATEST_ANSWER_MOMENT) → IsAnswer upper s
 IsAnswer-composed row upper lower t s led answer keeps low = record {
   few = keeps.sized.few;
-  unit = unit-composed (kind_of upper.class.env) (kind_of lower.class.env) t.unit s.unit (open_shops-stay row upper.class lower.class led.class) keeps.unit keeps.sized.unit answer.unit;
+  unit = unit-composed (kind_of upper.class.env) (kind_of lower.class.env) t.unit s.unit (open_shops-stay row upper.class lower.class led.class) (open_unit row upper lower t s led keeps) keeps.sized.unit answer.unit;
   ends = ends-composed row upper lower t s keeps answer.ends low;
 }
 

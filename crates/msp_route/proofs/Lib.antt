@@ -1,6 +1,7 @@
 pub mod BestBack
 pub mod EarlyAnswers
 pub mod Composed
+pub mod Kept
 pub mod Alike
 pub mod InnerChanges
 pub mod InPlace

@@ -1,6 +1,8 @@
 pub mod Law
 pub mod Bounds
 pub mod Changes
+pub mod Rates
+pub mod Limits
 pub mod LastJob
 pub mod Candidates
 pub mod Row

@@ -11,6 +11,7 @@ mod answer;
 mod bounds;
 mod copies;
 mod last_job;
+mod laws;
 mod marks;
 mod reduction;
 mod row;
@@ -20,11 +21,12 @@ mod via;
 
 pub use answer::{Answer, SolverName};
 pub use bounds::{
-    GREATEST_ANSWER_MOMENT, GREATEST_BACK_MOMENT, GREATEST_LINED_UP, GREATEST_OPEN_UNIT,
-    GREATEST_RAISE,
+    GREATEST_ANSWER_MOMENT, GREATEST_BACK_MOMENT, GREATEST_CLOSED_UP, GREATEST_LINED_UP,
+    GREATEST_OPEN_UNIT, GREATEST_RAISE,
 };
 pub use copies::{led, recast};
 pub use last_job::last_place;
+pub use laws::law_of_limits;
 pub use marks::{mark, marks_of, no_marks};
 pub use reduction::Reduction;
 pub use row::{in_a_row, solution_in_order};

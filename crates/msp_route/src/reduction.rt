@@ -7,6 +7,7 @@ ghost use Rattle.msp_schedule.specs.Cost.{IsSolution};
 ghost use Rattle.msp_table.specs.Rows.{carries};
 ghost use Rattle.msp_route.specs.Law.{Rate, Applies, IsLower, IsPositive, IsForth, IsBack, IsReordered};
 ghost use Rattle.msp_route.specs.Bounds.{IsBounded, KeepsBounds};
+ghost use Rattle.msp_route.specs.Rates.{rate_of};
 
 use msp_class::NoMemory;
 use msp_instance::Instance;
@@ -55,7 +56,9 @@ pub trait Reduction {
     /// The lower instance is an inner one of the class to which the row leads.
     ghost lower_is: { (self : Self) (i : Inst) → Inner i → Applies (number self) i → IsLower (number self) i (lower self i) };
 
-    /// Costs are translated by positive numbers.
+    /// Costs are translated as the table says for the row, by positive numbers.
+    ghost rate_of_row: { (self : Self) (i : Inst) → rate self i ≡ rate_of (number self) i };
+
     ghost rate_is: { (self : Self) (i : Inst) → Inner i → Applies (number self) i → IsPositive (rate self i) };
 
     /// Each half of the law: a feasible schedule of either instance gives one of the other, and what it costs.

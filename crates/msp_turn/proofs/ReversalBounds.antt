@@ -24,7 +24,8 @@ use Rattle.msp_table.specs.Rows.{turns_dates}
 use Rattle.msp_route.specs.Law.{IsBack, IsReordered}
 use Rattle.msp_route.specs.Bounds.{EndsBy, IsBounded, KeepsBounds, greatest_unit, moment_after}
 use Rattle.msp_route.specs.declared.bounds.TheConstants.{GREATEST_BACK_MOMENT, GREATEST_RAISE, GREATEST_LINED_UP}
-use Rattle.msp_turn.specs.Reversal.{IsReversible, raised_costs, reversed_piece, turning_moment, reversed_for}
+use Rattle.msp_turn.specs.Reversal.{IsReversible, reversed_piece, turning_moment, reversed_for}
+use Rattle.msp_route.specs.Rates.{raised_costs}
 use Rattle.msp_turn.specs.laws.ReversalLaw.{IsReverse, IsReverse-sym, turning-least, turning-charged, Feasible-reversed, IsBack-reversed}
 
 -- ---- a release date over the unit

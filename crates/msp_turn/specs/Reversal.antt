@@ -7,10 +7,9 @@ use Rattle.msp_instance.specs.Instance.{job_at}
 use Rattle.msp_schedule.specs.declared.Piece.{Piece}
 use Rattle.msp_schedule.specs.declared.Schedule.{Schedule}
 use Rattle.msp_schedule.specs.Feasible.{Feasible}
-use Rattle.msp_schedule.specs.Cost.{greatest}
 use Rattle.msp_schedule.specs.Within.{Within, IsUnit, IsMoment}
-use Rattle.msp_route.specs.Law.{Rate}
 use Rattle.msp_route.specs.Changes.{led}
+use Rattle.msp_route.specs.Rates.{greatest_due}
 use Rattle.msp_turn.specs.Turned.{turned_arcs}
 
 -- The instance under the class to which the row leads, with every arc turned.
@@ -26,10 +25,6 @@ due_by_release j = record j { release = 0; due = neg_ℤ (pos j.release) }
 abbrev pub led_to_due_dates : Instance → Instance
 led_to_due_dates i = record (led_turned 47 i) { jobs = map due_by_release i.jobs }
 
--- The greatest due date.
-abbrev pub greatest_due : Instance → ℤ
-greatest_due i = greatest (map (λ j. j.due) i.jobs)
-
 -- The job without its due date, and with the time from its due date to the last one as its release date.
 abbrev pub release_by_due : ℤ → Job → Job
 release_by_due last j = record j { release = unsigned_abs (last -ℤ j.due); due = pos 0 }
@@ -37,10 +32,6 @@ release_by_due last j = record j { release = unsigned_abs (last -ℤ j.due); due
 -- The instance to which row 48 leads.
 abbrev pub led_to_release_dates : Instance → Instance
 led_to_release_dates i = record (led_turned 48 i) { jobs = map (release_by_due (greatest_due i)) i.jobs }
-
--- Costs below are greater by the addend.
-abbrev pub raised_costs : ℤ → Rate
-raised_costs addend = record { factor = 1; addend = addend; scale = 1 }
 
 -- The piece as it is read from the moment `last` back.
 abbrev pub reversed_piece : ℤ → Piece → Piece

@@ -1,9 +1,10 @@
 // The rows by reversal in which release dates and due dates take each other's places.
-ghost use Rattle.std.specs.Prelude.{◌≡◌, ◌≤◌, pos, All, map};
+ghost use Rattle.std.specs.Prelude.{◌≡◌, ◌≤◌, pos, All, map, refl};
 ghost use Rattle.msp_schedule.specs.Cost.{greatest};
 ghost use Rattle.msp_route.specs.Changes.{same_costs};
 ghost use Rattle.msp_route.specs.Sizes.{greatest_row_date};
-ghost use Rattle.msp_turn.specs.Reversal.{due_by_release, led_to_due_dates, greatest_due, release_by_due, led_to_release_dates, raised_costs, reversed_for};
+ghost use Rattle.msp_turn.specs.Reversal.{due_by_release, led_to_due_dates, release_by_due, led_to_release_dates, reversed_for};
+ghost use Rattle.msp_route.specs.Rates.{greatest_due, raised_costs};
 ghost use Rattle.msp_turn.specs.laws.ReversalLaw.{IsPositive-raised, IsForth-reversed, IsBack-reversed};
 ghost use Rattle.msp_turn.specs.laws.ReversalDates.{reversal_47, reversal_48};
 
@@ -95,6 +96,8 @@ impl Reduction for Row47 {
 
     ghost lower_is = { λ self i inner applies. (reversal_47 i inner applies).lower };
 
+    ghost rate_of_row = { λ self i. refl };
+
     ghost rate_is = { λ self i inner applies. IsPositive-raised (pos 0) };
 
     ghost forth_is = { λ self i s inner applies. IsForth-reversed (reversal_47 i inner applies).reverse inner s };
@@ -140,6 +143,8 @@ impl Reduction for Row48 {
     }
 
     ghost lower_is = { λ self i inner applies. (reversal_48 i inner applies).lower };
+
+    ghost rate_of_row = { λ self i. refl };
 
     ghost rate_is = { λ self i inner applies. IsPositive-raised (greatest_due i) };
 

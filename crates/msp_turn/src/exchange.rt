@@ -1,5 +1,5 @@
 // The rows between intrees and outtrees by exchange of times and weights.
-ghost use Rattle.std.specs.Prelude.{◌≡◌, ◌<◌, map, ◌≤ℤ◌, All, AllPairs, IfOk, IsPermutation, IsSome};
+ghost use Rattle.std.specs.Prelude.{◌≡◌, ◌<◌, map, ◌≤ℤ◌, All, AllPairs, IfOk, IsPermutation, IsSome, refl};
 ghost use Rattle.std.specs.List.{range_with_len};
 ghost use Rattle.msp_schedule.specs.Cost.{end_of};
 ghost use Rattle.msp_table.specs.Rows.{goes_of};
@@ -101,6 +101,8 @@ impl Reduction for Row51 {
 
     ghost lower_is = { λ self i inner applies. (exchange_51 i inner applies).lower };
 
+    ghost rate_of_row = { λ self i. refl };
+
     ghost rate_is = { λ self i inner applies. IsPositive-same };
 
     ghost forth_is = { λ self i s inner applies. IsForth-exchanged 51 i (exchanged 51 i) (exchange_51 i inner applies) inner s };
@@ -143,6 +145,8 @@ impl Reduction for Row52 {
     }
 
     ghost lower_is = { λ self i inner applies. (exchange_52 i inner applies).lower };
+
+    ghost rate_of_row = { λ self i. refl };
 
     ghost rate_is = { λ self i inner applies. IsPositive-same };
 

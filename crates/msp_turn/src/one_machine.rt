@@ -1,4 +1,5 @@
 // The rows between cut and uncut jobs on one machine without release dates. The class alone changes.
+ghost use Rattle.std.specs.Prelude.{refl};
 ghost use Rattle.msp_route.specs.Changes.{led, same_costs};
 ghost use Rattle.msp_route.proofs.Alike.{IsPositive-same};
 ghost use Rattle.msp_turn.specs.LinedUp.{by_ends};
@@ -48,6 +49,8 @@ impl Reduction for Row49 {
 
     ghost lower_is = { λ self. lower_49 };
 
+    ghost rate_of_row = { λ self i. refl };
+
     ghost rate_is = { λ self i inner applies. IsPositive-same };
 
     ghost forth_is = { λ self. forth_49 };
@@ -90,6 +93,8 @@ impl Reduction for Row50 {
     }
 
     ghost lower_is = { λ self. lower_50 };
+
+    ghost rate_of_row = { λ self i. refl };
 
     ghost rate_is = { λ self i inner applies. IsPositive-same };
 

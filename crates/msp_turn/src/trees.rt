@@ -1,5 +1,5 @@
 // The rows between intrees and outtrees by reversal.
-ghost use Rattle.std.specs.Prelude.{pos};
+ghost use Rattle.std.specs.Prelude.{pos, refl};
 ghost use Rattle.msp_route.specs.Changes.{same_costs};
 ghost use Rattle.msp_turn.specs.Reversal.{led_turned, reversed_for};
 ghost use Rattle.msp_turn.specs.laws.ReversalLaw.{IsPositive-raised, IsForth-reversed, IsBack-reversed};
@@ -48,6 +48,8 @@ impl Reduction for Row45 {
 
     ghost lower_is = { λ self i inner applies. (reversal_45 i inner applies).lower };
 
+    ghost rate_of_row = { λ self i. refl };
+
     ghost rate_is = { λ self i inner applies. IsPositive-raised (pos 0) };
 
     ghost forth_is = { λ self i s inner applies. IsForth-reversed (reversal_45 i inner applies).reverse inner s };
@@ -88,6 +90,8 @@ impl Reduction for Row46 {
     }
 
     ghost lower_is = { λ self i inner applies. (reversal_46 i inner applies).lower };
+
+    ghost rate_of_row = { λ self i. refl };
 
     ghost rate_is = { λ self i inner applies. IsPositive-raised (pos 0) };
 

@@ -12,7 +12,7 @@ use Rattle.msp_instance.specs.Conditions.{HasSmallMultiple}
 use Rattle.msp_instance.proofs.MultipleLemmas.{IsLeastOfAll}
 use Rattle.msp_instance.specs.declared.ranges.TheConstants.{GREATEST_MULTIPLE}
 use Rattle.msp_schedule.proofs.OneMachine.{both_true}
-use Rattle.msp_machines.specs.Unrelated.{least_common_multiple}
+use Rattle.msp_route.specs.Rates.{least_common_multiple}
 
 -- ---- the test of a common multiple
 all_divide : (xs : List ℕ) (n : ℕ) → list_all (λ x. n % x == 0) xs ≡ true → All (λ x. x ∣ n) xs

@@ -10,7 +10,8 @@ use Rattle.msp_instance.specs.declared.Step.{Step}
 use Rattle.msp_instance.specs.declared.Curve.{Curve}
 use Rattle.msp_instance.specs.declared.Job.{Job}
 use Rattle.msp_schedule.specs.Cost.{jump, jumps, late, lateness, job_cost}
-use Rattle.msp_machines.specs.Unrelated.{stretched, stretched_curve, stretched_step, cost_factor}
+use Rattle.msp_machines.specs.Unrelated.{stretched, stretched_curve, stretched_step}
+use Rattle.msp_route.specs.Rates.{cost_factor}
 
 -- over a unit, the charge of the stretched job is `n` times that of the job over `n` times the unit; but of lateness by number it is the same
 module _ (n : ℕ) (speeds : List ℕ) (unit x : ℤ) where

@@ -20,7 +20,8 @@ use Rattle.msp_schedule.proofs.Serves.{SameNeeds, SameNeeds-sym}
 use Rattle.msp_schedule.proofs.Mirror.{Feasible-mirrored, end_of-mirrored}
 use Rattle.msp_route.specs.Law.{IsPositive, IsForth, IsBack, cost_above, cost_below}
 use Rattle.msp_turn.specs.Turned.{turned_arc}
-use Rattle.msp_turn.specs.Reversal.{raised_costs, turning_moment, reversed_for}
+use Rattle.msp_turn.specs.Reversal.{turning_moment, reversed_for}
+use Rattle.msp_route.specs.Rates.{raised_costs}
 
 -- the moment up to which a piece reaches with the release date of its job after it
 abbrev pub reach : Instance → ℤ → Piece → ℤ

@@ -2,13 +2,13 @@
 use Rattle.std.proofs.Common.{sym, subst}
 use Rattle.msp_route.specs.Law.{IsReordered}
 use Rattle.msp_route.specs.Bounds.{EndsBy}
-use Rattle.msp_route.specs.declared.bounds.TheConstants.{GREATEST_LINED_UP}
+use Rattle.msp_route.specs.declared.bounds.TheConstants.{GREATEST_CLOSED_UP}
 use Rattle.msp_plain.specs.Equal.{closed_up}
 use Rattle.msp_plain.proofs.EqualBounds.{early, feasible_back, within_back, brought_back}
 use Rattle.msp_plain.proofs.equal.Row54Reduction.back.Goals as goal
 
 pub close_up-requires-clause-small : goal.close_up-requires-clause-small
-close_up-requires-clause-small c = subst (λ n. EndsBy GREATEST_LINED_UP (closed_up n c.args.solution.schedule)) (sym c.common_time.ensures) (early c.args.inst.now c.requires.inner c.requires.applies c.args.solution.schedule c.requires.solution.feasible c.requires.bounded)
+close_up-requires-clause-small c = subst (λ n. EndsBy GREATEST_CLOSED_UP (closed_up n c.args.solution.schedule)) (sym c.common_time.ensures) (early c.args.inst.now c.requires.inner c.requires.applies c.args.solution.schedule c.requires.solution.feasible c.requires.bounded)
 
 pub cost-cost-requires-clause-within : goal.cost-cost-requires-clause-within
 cost-cost-requires-clause-within c = within_back c.args.inst.now c.requires.inner c.requires.applies c.args.solution.schedule c.requires.solution.feasible c.requires.bounded c.close_up.new.s
