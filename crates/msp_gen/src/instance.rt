@@ -43,10 +43,7 @@ fn speeds(
         return Ok(speeds);
     }
     for _turn in 0..machines {
-        match speeds.push(draws.draw_from_one(4)) {
-            Ok(()) => {}
-            Err(_) => return Err(NoMemory),
-        }
+        speeds.put(draws.draw_from_one(4))?;
     }
     Ok(speeds)
 }

@@ -37,10 +37,7 @@ fn steps(alloc: Global, draws: &mut Draws, count: u64) -> Result<List<Step>, NoM
     for _turn in 0..count {
         let above = draws.draw(2000);
         let add = draws.draw(100);
-        match steps.push(Step { above, add }) {
-            Ok(()) => {}
-            Err(_) => return Err(NoMemory),
-        }
+        steps.put(Step { above, add })?;
     }
     Ok(steps)
 }
@@ -110,10 +107,7 @@ pub fn jobs(
     let mut jobs = List::new(alloc);
     for _turn in 0..count {
         let next = job(alloc, draws, class, machines, shared)?;
-        match jobs.push(next) {
-            Ok(()) => {}
-            Err(_) => return Err(NoMemory),
-        }
+        jobs.put(next)?;
     }
     Ok(jobs)
 }

@@ -113,10 +113,7 @@ pub fn arcs(
     let mut arcs = List::new(alloc);
     for turn in 0..turns(order, jobs) {
         if let Some(arc) = arc_of_turn(draws, order, jobs, turn, arcs.as_slice()) {
-            match arcs.push(arc) {
-                Ok(()) => {}
-                Err(_) => return Err(NoMemory),
-            }
+            arcs.put(arc)?;
         }
     }
     Ok(arcs)

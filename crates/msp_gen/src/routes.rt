@@ -46,10 +46,7 @@ fn single_need(
 {
     let mut needs = List::new(alloc);
     let time = some_time(draws, times, shared);
-    match needs.push(Need { machine: 0, time }) {
-        Ok(()) => {}
-        Err(_) => return Err(NoMemory),
-    }
+    needs.put(Need { machine: 0, time })?;
     Ok(needs)
 }
 
@@ -66,10 +63,7 @@ fn need_per_machine(
     let mut needs = List::new(alloc);
     for machine in 0..machines {
         let time = some_time(draws, times, shared);
-        match needs.push(Need { machine, time }) {
-            Ok(()) => {}
-            Err(_) => return Err(NoMemory),
-        }
+        needs.put(Need { machine, time })?;
     }
     Ok(needs)
 }
@@ -87,10 +81,7 @@ fn operation_per_machine(
     let mut needs = List::new(alloc);
     for machine in 0..machines {
         let time = shop_time(draws, times, shared, machine);
-        match needs.push(Need { machine, time }) {
-            Ok(()) => {}
-            Err(_) => return Err(NoMemory),
-        }
+        needs.put(Need { machine, time })?;
     }
     Ok(needs)
 }
@@ -128,10 +119,7 @@ fn route(
     for _turn in 0..count {
         let machine = next_machine(draws, machines, &needs);
         let time = some_time(draws, times, shared);
-        match needs.push(Need { machine, time }) {
-            Ok(()) => {}
-            Err(_) => return Err(NoMemory),
-        }
+        needs.put(Need { machine, time })?;
     }
     Ok(needs)
 }

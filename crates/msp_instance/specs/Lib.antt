@@ -4,3 +4,5 @@ pub mod Faults
 pub mod Multiples
 pub mod Paths
 pub mod Listing
+pub mod Laws
+pub mod Limits

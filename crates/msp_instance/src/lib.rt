@@ -2,10 +2,12 @@
 //!
 //! It stands on `msp_class`. The layers above use the definitions `InClass` and `Inner`: an instance meets the conditions of its
 //! class within the limits of texts, or within the wider limits that carried instances keep. `check` tests the conditions but for
-//! cycles, and `forward` is the rest: it puts the jobs into an order in which every arc goes forward.
+//! cycles, and `forward` is the rest: it puts the jobs into an order in which every arc goes forward. `law_of_inner` says that an
+//! instance within the limits of texts keeps the wider ones, and `law_of_limits` says the limits of texts by their numbers.
 #![tactic(auto)]
 
 mod jobs;
+mod laws;
 mod membership;
 mod ranges;
 mod sequence;
@@ -14,7 +16,8 @@ mod speeds;
 mod tests;
 
 pub use jobs::least_time;
-pub use membership::{ClassFault, check, common_time, first_time};
+pub use laws::{law_of_inner, law_of_limits};
+pub use membership::{ClassFault, check, check_distinct_arcs, common_time, first_time};
 use msp_class::{Class, List};
 pub use ranges::{
     GREATEST, GREATEST_EQUAL_TIME, GREATEST_MULTIPLE, GREATEST_SPEED, MOST_ARCS, MOST_JOBS,

@@ -1,5 +1,5 @@
 // The test whether an instance belongs to its class.
-ghost use Rattle.std.specs.Prelude.{◌≡◌, ◌≢◌, ℕ, ◌<◌, ◌↔◌, length, IsTrue, IsOk, OnOk, IfErr, All, slice_index_or};
+ghost use Rattle.std.specs.Prelude.{◌≡◌, ◌≢◌, ℕ, ◌<◌, ◌↔◌, true, length, IsTrue, IsOk, OnOk, IfErr, All, AllPairs, slice_index_or};
 ghost use Rattle.msp_instance.specs.Instance.{job_at, no_need, common_time};
 ghost use Rattle.msp_instance.specs.Conditions.{text_limits, HasMachines, HasArcs, leaving, entering, HasDegree, IsJobOf, MeetsConditions};
 ghost use Rattle.msp_instance.specs.Faults.{HasJobs, HasArc, HasFrame, HasJobsBefore, HasAllJobs, IsFirstFault};
@@ -139,15 +139,18 @@ fn check_jobs(inst: &Instance) -> Result<(), ClassFault>
     Ok(())
 }
 
-/// Whether the arc's ends are jobs, and no earlier arc is the same.
-fn has_arc(inst: &Instance, at: u32) -> bool
-    requires { at < length inst.now.arcs }
+/// Whether the arc's ends are jobs, and no earlier arc is the same: there is none where all arcs are distinct.
+fn has_arc(inst: &Instance, distinct: bool, at: u32) -> bool
+    requires inside { at < length inst.now.arcs }
+    requires distinct { distinct ≡ true → AllPairs (λ a b. a ≢ b) inst.now.arcs }
     ensures { IsTrue result ↔ HasArc inst.now at }
 {
     let arcs = inst.arcs.as_slice();
     let jobs = inst.jobs.len();
     let arc = arcs[at as usize];
-    (arc.before as usize) < jobs && (arc.after as usize) < jobs && is_new(&arcs[..at as usize], arc)
+    (arc.before as usize) < jobs
+        && (arc.after as usize) < jobs
+        && (distinct || is_new(&arcs[..at as usize], arc))
 }
 
 fn is_new(earlier: &[Arc], arc: Arc) -> bool
@@ -165,8 +168,9 @@ fn has_arcs(order: Order, arcs: &[Arc]) -> bool
     }
 }
 
-fn check_arcs(inst: &Instance) -> Result<(), ClassFault>
-    requires { HasAllJobs inst.now }
+fn check_arcs(inst: &Instance, distinct: bool) -> Result<(), ClassFault>
+    requires jobs { HasAllJobs inst.now }
+    requires distinct { distinct ≡ true → AllPairs (λ a b. a ≢ b) inst.now.arcs }
     ensures few { OnOk result (HasArcs inst.now.class.order inst.now.arcs) }
     ensures each { OnOk result ((at : ℕ) → at < length inst.now.arcs → HasArc inst.now at) }
     ensures fault { IfErr result (IsFirstFault inst.now) }
@@ -176,7 +180,7 @@ fn check_arcs(inst: &Instance) -> Result<(), ClassFault>
         return Err(ClassFault::Arcs);
     }
     for at in 0..arcs.len() as u32 {
-        if !has_arc(inst, at) {
+        if !has_arc(inst, distinct, at) {
             return Err(ClassFault::Arc { at });
         }
     }
@@ -221,6 +225,18 @@ fn check_degrees(inst: &Instance) -> Result<(), ClassFault>
     Ok(())
 }
 
+/// Tests all conditions. The flag says that the arcs are known to be distinct.
+fn checked(inst: &Instance, distinct: bool) -> Result<(), ClassFault>
+    requires { distinct ≡ true → AllPairs (λ a b. a ≢ b) inst.now.arcs }
+    ensures ok { IsOk result ↔ MeetsConditions text_limits inst.now }
+    ensures fault { IfErr result (IsFirstFault inst.now) }
+{
+    check_frame(inst)?;
+    check_jobs(inst)?;
+    check_arcs(inst, distinct)?;
+    check_degrees(inst)
+}
+
 /// Tests the conditions of the instance's class, within the limits of texts, but for cycles, which `forward` finds.
 ///
 /// The fault is the first condition that is broken, in the order in which `ClassFault` lists them: job by job all of a job's, then
@@ -229,8 +245,14 @@ pub fn check(inst: &Instance) -> Result<(), ClassFault>
     ensures ok { IsOk result ↔ MeetsConditions text_limits inst.now }
     ensures fault { IfErr result (IsFirstFault inst.now) }
 {
-    check_frame(inst)?;
-    check_jobs(inst)?;
-    check_arcs(inst)?;
-    check_degrees(inst)
+    checked(inst, false)
+}
+
+/// Answers as `check` does, where no arc stands twice, and compares no arcs with each other.
+pub fn check_distinct_arcs(inst: &Instance) -> Result<(), ClassFault>
+    requires distinct { AllPairs (λ a b. a ≢ b) inst.now.arcs }
+    ensures ok { IsOk result ↔ MeetsConditions text_limits inst.now }
+    ensures fault { IfErr result (IsFirstFault inst.now) }
+{
+    checked(inst, true)
 }

@@ -1,7 +1,8 @@
 // Instances that belong to their classes.
-ghost use Rattle.std.specs.Prelude.{◌≡◌, false, IfSome};
+ghost use Rattle.std.specs.Prelude.{◌≡◌, false, map, IfSome};
 ghost use Rattle.msp_class.specs.declared.class.Times.TheVariants.{General};
 ghost use Rattle.msp_instance.specs.Conditions.{InClass, Inner};
+ghost use Rattle.msp_samples.specs.Samples.{instance_of, plain_instance};
 
 use crate::job_data::jobs_by_needs;
 use crate::lists::arcs;
@@ -47,6 +48,7 @@ pub fn instance(
     all: &[JobData],
     before: &[(u32, u32)],
 ) -> Option<Instance>
+    ensures whole { IfSome result (λ i. i ≡ instance_of class machines all.now before.now) }
     ensures inner { IfSome result Inner }
     ensures class { IfSome result (λ i. i.class ≡ class) }
 {
@@ -68,6 +70,7 @@ pub fn instance_by_needs(
     speeds: &[u64],
     all: &[&[Need]],
 ) -> Option<Instance>
+    ensures whole { IfSome result (λ i. i ≡ plain_instance class machines speeds.now (map (λ needs. needs.now) all.now)) }
     ensures inner { IfSome result Inner }
     ensures class { IfSome result (λ i. i.class ≡ class) }
 {

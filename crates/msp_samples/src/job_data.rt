@@ -39,7 +39,9 @@ pub const fn timed(time: u64) -> JobData
 }
 
 /// A job with a time and a weight alone.
-pub const fn load(time: u64, weight: u64) -> JobData {
+pub const fn load(time: u64, weight: u64) -> JobData
+    ensures { result ≡ record UNIT_JOB { time = time; weight = weight } }
+{
     JobData {
         weight,
         ..timed(time)
@@ -85,9 +87,7 @@ pub fn jobs(alloc: Global, all: &[JobData]) -> Result<List<Job>, NoMemory>
 {
     let mut jobs = List::new(alloc);
     for data in all {
-        if jobs.push(job(alloc, data)?).is_err() {
-            return Err(NoMemory);
-        }
+        jobs.put(job(alloc, data)?)?;
     }
     Ok(jobs)
 }
@@ -114,20 +114,17 @@ pub fn one_job(alloc: Global, needs: List<Need>) -> Result<List<Job>, NoMemory>
     ensures { IfOk result (λ jobs. jobs ≡ plain_job needs ∷ []) }
 {
     let mut jobs = List::new(alloc);
-    match jobs.push(plain_job(alloc, needs)) {
-        Ok(()) => Ok(jobs),
-        Err(_) => Err(NoMemory),
-    }
+    jobs.put(plain_job(alloc, needs))?;
+    Ok(jobs)
 }
 
 /// Jobs with needs alone.
-pub(crate) fn jobs_by_needs(alloc: Global, all: &[&[Need]]) -> Result<List<Job>, NoMemory> {
+pub(crate) fn jobs_by_needs(alloc: Global, all: &[&[Need]]) -> Result<List<Job>, NoMemory>
+    ensures { IfOk result (λ jobs. jobs ≡ map plain_job (map (λ needs. needs.now) all.now)) }
+{
     let mut jobs = List::new(alloc);
     for needs in all {
-        let job = plain_job(alloc, list_of(alloc, needs)?);
-        if jobs.push(job).is_err() {
-            return Err(NoMemory);
-        }
+        jobs.put(plain_job(alloc, list_of(alloc, needs)?))?;
     }
     Ok(jobs)
 }

@@ -1,5 +1,5 @@
 // Pieces of work.
-ghost use Rattle.std.specs.Prelude.{◌≡◌, [], ◌∷◌, pos, IfOk};
+ghost use Rattle.std.specs.Prelude.{◌≡◌, [], ◌∷◌, pos, ◌+ℤ◌, IfOk};
 
 use crate::list_of;
 use msp_class::NoMemory;
@@ -33,8 +33,10 @@ pub const fn piece(job: u32, from: i128, to: i128) -> Piece
     piece_on(job, 0, from, to)
 }
 
-/// A job of one operation that takes one unit of time.
-pub fn unit_piece(job: u32, machine: u32, from: u8) -> Piece {
+/// The piece of a job of one operation that takes one unit of time.
+pub fn unit_piece(job: u32, machine: u32, from: u8) -> Piece
+    ensures { result ≡ record { job = job; op = 0; machine = machine; from = pos from; to = pos from +ℤ pos 1 } }
+{
     piece_on(job, machine, i128::from(from), i128::from(from) + 1)
 }
 

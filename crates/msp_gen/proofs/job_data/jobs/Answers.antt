@@ -9,5 +9,5 @@ loop-turn-init c = no_turn (λ _ _. draw_one (draw_job c.args.class c.args.machi
 
 pub loop-turn-preserved : goal.loop-turn-preserved
 loop-turn-preserved c =
-    next_one (λ _ _. draw_job c.args.class c.args.machines c.args.shared) _ _ _ _ _ _ _ c.in-Ok.ensures.pushed c.loop-turn.invariant
+    next_one (λ _ _. draw_job c.args.class c.args.machines c.args.shared) _ _ _ _ _ _ _ c.in_ok-put.ensures.put c.loop-turn.invariant
     (ap (λ d. d.value) (sym c.in_ok-next.ensures)) (ap (λ d. d.seed) (sym c.in_ok-next.ensures))

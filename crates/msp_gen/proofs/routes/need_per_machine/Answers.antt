@@ -9,5 +9,5 @@ loop-machine-init c = no_turn (λ machine _. draw_one (draw_need machine (draw_s
 
 pub loop-machine-preserved : goal.loop-machine-preserved
 loop-machine-preserved c =
-    next_one (λ machine _. draw_need machine (draw_some_time c.args.times c.args.shared)) _ _ _ _ _ _ _ c.in-Ok.ensures.pushed c.loop-machine.invariant
+    next_one (λ machine _. draw_need machine (draw_some_time c.args.times c.args.shared)) _ _ _ _ _ _ _ c.in_ok-put.ensures.put c.loop-machine.invariant
     (ap (λ t. record { machine = c.loop-machine.machine; time = t }) c.some_time-time.ensures.value) c.some_time-time.ensures.seed

@@ -9,6 +9,6 @@ loop-turn-init c = no_turn (λ _ before. draw_one (draw_operation c.args.times c
 
 pub loop-turn-preserved : goal.loop-turn-preserved
 loop-turn-preserved c =
-    next_one (λ _ before. draw_operation c.args.times c.args.shared c.args.machines before) _ _ _ _ _ _ _ c.in-Ok.ensures.pushed c.loop-turn.invariant
+    next_one (λ _ before. draw_operation c.args.times c.args.shared c.args.machines before) _ _ _ _ _ _ _ c.in_ok-put.ensures.put c.loop-turn.invariant
     (operation_value c.args.times c.args.shared c.args.machines c.loop-turn.needs _ _ _ _ c.next_machine-machine.ensures.value c.next_machine-machine.ensures.seed c.some_time-time.ensures.value)
     (operation_seed c.args.times c.args.shared c.args.machines c.loop-turn.needs _ _ _ c.next_machine-machine.ensures.seed c.some_time-time.ensures.seed)
