@@ -6,7 +6,7 @@ use Rattle.std.proofs.lemmas.List.Elements.{All-append, All-cons, All-nil, Conta
 use Rattle.std.proofs.lemmas.List.Quantifiers.{all_pairs_push}
 use Rattle.std.proofs.lemmas.List.Sorted.{All-permutation, Contains-permutation, length_permutation}
 use Rattle.msp_class.proofs.Sums.{sum_by-IsPermutation, count_by-distinct, distinct_from_counts}
-use Rattle.msp_assign.specs.Search.{at, is_in, IsCheapest, IsPlaced, IsLevel, IsSearch, IsNearest, IsLowered, IsStep, IsPassedOn}
+use Rattle.msp_assign.specs.Search.{at, is_in, HasUnfallen, IsCheapest, IsPlaced, IsLevel, IsSearch, IsNearest, IsLowered, IsStep, IsPassedOn}
 use Rattle.msp_assign.proofs.Lists.{same_or_not, true_or_not, Contains-at}
 
 -- without repeats, equal numbers stand at one place
@@ -129,3 +129,12 @@ IsPlaced-row cost columns fall column column2 distance distance2 from_ from2 set
     (subst (λ x. IsLowered x (at distance free) distance fall next) p.size (subst (λ x. IsLowered (length fall) x distance fall next) ex (subst (λ x. IsLowered (length fall) far x fall next) ed moved)))
     after
     (subst (λ x. IsPassedOn column x tree free after) ef (subst (λ x. IsPassedOn column from2 x free after) et passed))
+
+-- the free column does not fall
+pub HasUnfallen-moved : (cost : ℕ → ℕ → ℕ) (columns d : ℕ) (fall column column2 distance distance2 next : List ℕ) (free : ℕ) → column2 ≡ column → distance2 ≡ distance → d ≡ at distance free
+    → IsPlaced cost columns fall column → free < columns → ¬ Contains column2 free → IsLowered (length fall) d distance2 fall next → HasUnfallen columns next
+HasUnfallen-moved cost columns d fall column column2 distance distance2 next free ec ed e p l unused moved = (
+  free,
+  l,
+  omega (arith, moved.each free (omega (arith, p.size, l)), p.unused free l (subst (λ x. ¬ Contains x free) ec unused), e, ap (λ x. at x free) ed),
+)

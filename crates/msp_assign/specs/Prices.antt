@@ -33,6 +33,10 @@ pub record IsPriced (rows columns : ℕ) (cost : ℕ → ℕ → ℤ) (a : Assig
   pub low : (c : ℕ) → c < columns → price_at a.column_price c ≤ℤ pos 0
   pub unused : (c : ℕ) → c < columns → ¬ Contains a.column c → price_at a.column_price c ≡ pos 0
 
+-- Some column price is 0.
+abbrev pub HasFreeColumn : ℕ → Assignment → Type 0
+HasFreeColumn columns a = (c : ℕ) × (c < columns) × (price_at a.column_price c ≡ pos 0)
+
 -- What the rows cost together, each at its column.
 abbrev pub cost_of : ℕ → (ℕ → ℕ → ℤ) → List ℕ → ℤ
 cost_of rows cost column = int_total_below rows (λ r. cost r (column_of column r))

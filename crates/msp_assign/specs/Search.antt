@@ -30,6 +30,10 @@ pub record IsPlaced (cost : ℕ → ℕ → ℕ) (columns : ℕ) (fall column : 
   pub cheapest : (r : ℕ) → r < length column → IsCheapest cost columns fall r (at column r)
   pub unused : (c : ℕ) → c < columns → ¬ Contains column c → at fall c ≡ 0
 
+-- Some column has not fallen.
+abbrev pub HasUnfallen : ℕ → List ℕ → Type 0
+HasUnfallen columns fall = (c : ℕ) × (c < columns) × (at fall c ≡ 0)
+
 -- The row that has each column.
 pub record IsOwners (columns : ℕ) (column : List ℕ) (owner : List (Option ℕ)) : Type 0 where
   pub size : length owner ≡ columns

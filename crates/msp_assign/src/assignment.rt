@@ -1,6 +1,7 @@
 // The assignment of rows to columns of least cost.
 ghost use Rattle.std.specs.Prelude.{◌≡◌, ◌≤◌, IfOk};
-ghost use Rattle.msp_assign.specs.Prices.{HasCosts, IsAssigned, IsPriced, IsLeast, cost_of, price_of};
+ghost use Rattle.msp_assign.specs.Prices.{HasCosts, IsAssigned, IsPriced, IsLeast, HasFreeColumn, cost_of, price_of};
+ghost use Rattle.msp_assign.specs.Limits.{AreLimits};
 
 use crate::Costs;
 use crate::placing::placed;
@@ -21,13 +22,20 @@ pub const MOST_ROWS: u32 = 400;
 /// The most columns.
 pub const MOST_COLUMNS: u32 = 1 << 20;
 
+/// The limits of `assign`, by their numbers.
+pub fn law_of_limits()
+    ensures { AreLimits }
+{}
+
 /// The columns of the rows, and the prices.
 fn priced<C: Costs>(alloc: Global, costs: &C) -> Result<Assignment, AllocError>
+    requires some { 1 ≤ C.row_count costs.now }
     requires few { C.row_count costs.now ≤ MOST_ROWS }
     requires enough { C.row_count costs.now ≤ C.column_count costs.now }
     requires costs { HasCosts (C.row_count costs.now) (C.column_count costs.now) (C.cost costs.now) }
     ensures assigned { IfOk result (λ a. IsAssigned (C.row_count costs.now) (C.column_count costs.now) a.column) }
     ensures priced { IfOk result (λ a. IsPriced (C.row_count costs.now) (C.column_count costs.now) (C.cost costs.now) a) }
+    ensures zero { IfOk result (HasFreeColumn (C.column_count costs.now)) }
 {
     let placement = placed(alloc, costs)?;
     let row_price = row_prices(
@@ -54,6 +62,7 @@ pub fn assign<C: Costs>(alloc: Global, costs: &C) -> Result<Assignment, NoMemory
     requires costs { HasCosts (C.row_count costs.now) (C.column_count costs.now) (C.cost costs.now) }
     ensures assigned { IfOk result (λ a. IsAssigned (C.row_count costs.now) (C.column_count costs.now) a.column) }
     ensures priced { IfOk result (λ a. IsPriced (C.row_count costs.now) (C.column_count costs.now) (C.cost costs.now) a) }
+    ensures zero { IfOk result (HasFreeColumn (C.column_count costs.now)) }
     ensures least { IfOk result (λ a. IsLeast (C.row_count costs.now) (C.column_count costs.now) (C.cost costs.now) a.column) }
     ensures total { IfOk result (λ a. cost_of (C.row_count costs.now) (C.cost costs.now) a.column ≡ price_of (C.row_count costs.now) (C.column_count costs.now) a) }
 {

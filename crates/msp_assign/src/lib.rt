@@ -1,7 +1,7 @@
 //! Assignment with prices: each row gets a column of its own at least cost, and prices show that no other assignment costs less.
 //!
 //! It stands on `msp_class`. The layer above uses the clauses of `assign`: the prices of a row and a column add up to at most the cost,
-//! and to the cost where the row has the column; and no assignment costs less.
+//! and to the cost where the row has the column; some column price is 0; and no assignment costs less.
 #![tactic(auto)]
 
 mod assignment;
@@ -13,6 +13,6 @@ mod stored;
 #[cfg(test)]
 mod tests;
 
-pub use assignment::{Assignment, MOST_COLUMNS, MOST_ROWS, assign};
+pub use assignment::{Assignment, MOST_COLUMNS, MOST_ROWS, assign, law_of_limits};
 pub use costs::Costs;
 pub use stored::Stored;

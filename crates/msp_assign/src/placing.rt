@@ -2,7 +2,7 @@
 ghost use Rattle.std.specs.Prelude.{◌≡◌, ◌+◌, ◌<◌, ◌≤◌, ℕ, All, IfOk, OnOk, length};
 ghost use Rattle.msp_class.specs.declared.list.TheConstants.{PLACES};
 ghost use Rattle.msp_assign.specs.Prices.{greatest_cost, HasCosts};
-ghost use Rattle.msp_assign.specs.Search.{greatest_payment, at, sizes, IsPlaced, IsTree, IsLowered, IsPassedOn};
+ghost use Rattle.msp_assign.specs.Search.{greatest_payment, at, sizes, HasUnfallen, IsPlaced, IsTree, IsLowered, IsPassedOn};
 
 use crate::Costs;
 use crate::search::{find_free, owners};
@@ -59,6 +59,7 @@ fn place_row<C: Costs>(
     requires few { length column_of.old.items < PLACES }
     ensures placed { OnOk result (IsPlaced (sizes (C.cost costs.now)) (C.column_count costs.now) falls.new column_of.new.items) }
     ensures longer { OnOk result (length column_of.new.items ≡ length column_of.old.items + 1) }
+    ensures zero { OnOk result (HasUnfallen (C.column_count costs.now) falls.new) }
 {
     let owner = owners(alloc, costs.columns(), column_of.as_slice())?;
     let found = find_free(alloc, costs, falls, column_of.as_slice(), owner.as_slice())?;
@@ -81,10 +82,12 @@ pub struct Placement {
 
 /// Gives each row a column, row after row.
 pub fn placed<C: Costs>(alloc: Global, costs: &C) -> Result<Placement, AllocError>
+    requires some { 1 ≤ C.row_count costs.now }
     requires enough { C.row_count costs.now ≤ C.column_count costs.now }
     requires costs { HasCosts (C.row_count costs.now) (C.column_count costs.now) (C.cost costs.now) }
     ensures placed { IfOk result (λ p. IsPlaced (sizes (C.cost costs.now)) (C.column_count costs.now) p.falls.items p.column_of.items) }
     ensures all { IfOk result (λ p. length p.column_of.items ≡ C.row_count costs.now) }
+    ensures zero { IfOk result (λ p. HasUnfallen (C.column_count costs.now) p.falls.items) }
 {
     let mut falls = vec![in alloc; 0; costs.columns() as usize]?;
     let mut column_of = Vec::new(alloc);

@@ -2,7 +2,7 @@ use Rattle.std.proofs.Common.{◌≡◌, ◌<◌, ◌≤◌, ◌^◌, ℕ, arith
 use Rattle.std.proofs.lemmas.List.{get_or_default}
 use Rattle.msp_assign.specs.Search.{at, sizes, IsPassedOn}
 use Rattle.msp_assign.proofs.Bounds.{sizes-at_most}
-use Rattle.msp_assign.proofs.Moves.{on_ok, IsPlaced-row}
+use Rattle.msp_assign.proofs.Moves.{on_ok, HasUnfallen-moved, IsPlaced-row}
 use Rattle.msp_assign.proofs.placing.place_row.Goals as goal
 
 pub returns : goal.returns
@@ -21,4 +21,8 @@ returns g c =
     bound
     c.lower.ensures passed
     in
-    record { placed = on_ok c.pass_on.result _ _ (λ passed. (placed passed).0) c.pass_on.ensures; longer = on_ok c.pass_on.result _ _ (λ passed. (placed passed).1) c.pass_on.ensures }
+    record {
+      placed = on_ok c.pass_on.result _ _ (λ passed. (placed passed).0) c.pass_on.ensures;
+      longer = on_ok c.pass_on.result _ _ (λ passed. (placed passed).1) c.pass_on.ensures;
+      zero = on_ok c.pass_on.result _ _ (λ _. HasUnfallen-moved _ _ _ _ _ _ _ _ _ _ c.as_slice-2.ensures.value c.as_slice-4.ensures.value far c.requires.placed near.inside c.in_ok-found.ensures.free c.lower.ensures) c.pass_on.ensures;
+    }
