@@ -1,5 +1,5 @@
 // The solvers by blocks.
-ghost use Rattle.std.specs.Prelude.{◌≡◌, ◌⊎◌, true, IfOk, ⊤};
+ghost use Rattle.std.specs.Prelude.{◌≡◌, ◌⊎◌, true, pos, IfOk, ⊤};
 ghost use Rattle.msp_class.specs.declared.class.Env.TheVariants.{One};
 ghost use Rattle.msp_class.specs.declared.class.Times.TheVariants.{Unit};
 ghost use Rattle.msp_class.specs.declared.class.Crit.TheVariants.{Fmax};
@@ -47,6 +47,7 @@ fn schedule_by_blocks(alloc: Global, inst: &Instance) -> Result<Solution, NoMemo
     requires whole { (inst.now.class.cut ≡ true) ⊎ (inst.now.class.times ≡ Unit) }
     ensures best { IfOk result (λ s. IsBest inst.now s) }
     ensures bounds { IfOk result (λ s. IsAnswer inst.now s.schedule) }
+    ensures unit { IfOk result (λ s. s.schedule.unit ≡ pos 1) }
 {
     let heads = heads_of(alloc, inst)?;
     let jobs = jobs_by_head(alloc, heads.as_slice())?;
@@ -81,7 +82,7 @@ impl Solver for Blocks {
     }
 }
 
-/// Finds a schedule of least greatest cost on one machine with precedence, release dates and unit times, by blocks: no job is cut.
+/// Finds a schedule of least greatest cost on one machine with precedence, release dates and unit times, by blocks, over the unit 1: no job is cut.
 #[derive(Clone, Copy, Debug)]
 pub struct UnitBlocks;
 
@@ -100,7 +101,13 @@ impl Solver for UnitBlocks {
         true
     }
 
-    fn solve(&self, alloc: Global, inst: &Instance) -> Result<Solution, NoMemory> {
+    fn solve(&self, alloc: Global, inst: &Instance) -> Result<Solution, NoMemory>
+        requires inner { Inner inst.now }
+        requires class { inst.now.class ≡ unit_blocks_class }
+        ensures best { IfOk result (λ s. IsBest inst.now s) }
+        ensures bounds { IfOk result (λ s. IsAnswer inst.now s.schedule) }
+        ensures unit { IfOk result (λ s. s.schedule.unit ≡ pos 1) }
+    {
         schedule_by_blocks(alloc, inst)
     }
 }

@@ -86,7 +86,13 @@ impl Solver for Levels {
         true
     }
 
-    fn solve(&self, alloc: Global, inst: &Instance) -> Result<Solution, NoMemory> {
+    fn solve(&self, alloc: Global, inst: &Instance) -> Result<Solution, NoMemory>
+        requires inner { Inner inst.now }
+        requires class { inst.now.class ≡ levels_class }
+        ensures best { IfOk result (λ s. IsBest inst.now s) }
+        ensures bounds { IfOk result (λ s. IsAnswer inst.now s.schedule) }
+        ensures cost { IfOk result (λ s. IsLevelCost inst.now s.cost) }
+    {
         schedule_by_levels(alloc, inst)
     }
 }

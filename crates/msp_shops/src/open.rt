@@ -166,7 +166,13 @@ impl Solver for Open2 {
         true
     }
 
-    fn solve(&self, alloc: Global, inst: &Instance) -> Result<Solution, NoMemory> {
+    fn solve(&self, alloc: Global, inst: &Instance) -> Result<Solution, NoMemory>
+        requires inner { Inner inst.now }
+        requires class { inst.now.class ≡ open_class }
+        ensures best { IfOk result (λ s. IsBest inst.now s) }
+        ensures bounds { IfOk result (λ s. IsAnswer inst.now s.schedule) }
+        ensures cost { IfOk result (λ s. IsOpenCost inst.now s.cost) }
+    {
         open_shop(alloc, inst)
     }
 }

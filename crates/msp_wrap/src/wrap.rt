@@ -207,7 +207,13 @@ impl Solver for Wrap {
         true
     }
 
-    fn solve(&self, alloc: Global, inst: &Instance) -> Result<Solution, NoMemory> {
+    fn solve(&self, alloc: Global, inst: &Instance) -> Result<Solution, NoMemory>
+        requires inner { Inner inst.now }
+        requires class { inst.now.class ≡ wrap_class }
+        ensures best { IfOk result (λ s. IsBest inst.now s) }
+        ensures bounds { IfOk result (λ s. IsAnswer inst.now s.schedule) }
+        ensures cost { IfOk result (λ s. IsWrapCost inst.now s.cost) }
+    {
         wrapped(alloc, inst)
     }
 }
