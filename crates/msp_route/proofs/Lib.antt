@@ -14,3 +14,4 @@ pub mod RowAnswer
 pub mod Ratios
 pub mod Applied
 pub mod Samples
+pub mod KeyOrder

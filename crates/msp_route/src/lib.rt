@@ -3,13 +3,14 @@
 //! It stands on `msp_schedule` and `msp_table`. The layers above use the traits `Reduction` and `Solver` alone: what a lawful
 //! reduction does to costs, so that a best schedule brought back is best, and that a solver's answer is best within its bounds. What more
 //! than one solver needs stands here too, since no solver's crate stands on another's: the job that ends last (`last_place`), how long
-//! jobs take one after another (`total_time`), their pieces and the solution where they run so (`in_a_row`, `solution_in_order`), and marks
-//! of jobs.
+//! jobs take one after another (`total_time`), their pieces and the solution where they run so (`in_a_row`, `solution_in_order`), marks of
+//! jobs, and jobs that are sorted by a number (`Keyed`).
 #![tactic(auto)]
 
 mod answer;
 mod bounds;
 mod copies;
+mod keyed;
 mod last_job;
 mod laws;
 mod marks;
@@ -25,6 +26,7 @@ pub use bounds::{
     GREATEST_OPEN_UNIT, GREATEST_RAISE,
 };
 pub use copies::{led, recast};
+pub use keyed::{Keyed, job_numbers, sort_by_falling_key, sort_by_key};
 pub use last_job::last_place;
 pub use laws::law_of_limits;
 pub use marks::{mark, marks_of, no_marks};
