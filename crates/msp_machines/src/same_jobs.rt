@@ -20,9 +20,7 @@ fn equal_speeds(alloc: Global, machines: u32) -> Result<List<u64>, NoMemory>
 {
     let mut speeds = List::new(alloc);
     for _ in 0..machines {
-        if speeds.push(1).is_err() {
-            return Err(NoMemory);
-        }
+        speeds.put(1)?;
     }
     Ok(speeds)
 }

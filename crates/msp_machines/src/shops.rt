@@ -22,10 +22,7 @@ fn add_idle_operation(job: &mut Job, machine: u32) -> Result<(), NoMemory>
     ensures { OnOk result (job.new ≡ with_idle_operation machine job.old) }
 {
     let need = Need { machine, time: 0 };
-    match job.needs.push(need) {
-        Ok(()) => Ok(()),
-        Err(_) => Err(NoMemory),
-    }
+    job.needs.put(need)
 }
 
 fn add_idle_operations(jobs: &mut [Job], machine: u32) -> Result<(), NoMemory>

@@ -30,9 +30,7 @@ fn needs_on_each(alloc: Global, machines: u32, time: u64) -> Result<List<Need>, 
 {
     let mut needs = List::new(alloc);
     for machine in 0..machines {
-        if needs.push(Need { machine, time }).is_err() {
-            return Err(NoMemory);
-        }
+        needs.put(Need { machine, time })?;
     }
     Ok(needs)
 }
@@ -207,9 +205,7 @@ fn needs_by_speeds(
             machine: machine as u32,
             time: product(time, factor / *speed),
         };
-        if needs.push(need).is_err() {
-            return Err(NoMemory);
-        }
+        needs.put(need)?;
     }
     Ok(needs)
 }

@@ -22,10 +22,7 @@ struct End {
 fn no_ends(alloc: Global, count: u32) -> Result<Vec<End>, NoMemory>
     ensures { IfOk result (λ ends. ends.items ≡ map (λ j. record { moment = pos 0; job = j }) (range_with_len 0 count)) }
 {
-    match (0..count).map(|job| End { moment: 0, job }).collect(alloc) {
-        Ok(ends) => Ok(ends),
-        Err(_) => Err(NoMemory),
-    }
+    Ok((0..count).map(|job| End { moment: 0, job }).collect(alloc)?)
 }
 
 fn raise(ends: &mut [End], piece: &Piece)
@@ -66,10 +63,7 @@ fn sort(ends: &mut Vec<End>)
 fn numbers_of(alloc: Global, ends: &[End]) -> Result<Vec<u32>, NoMemory>
     ensures { IfOk result (λ numbers. numbers.items ≡ map (λ e. e.job) ends.now) }
 {
-    match ends.iter().map(|end| end.job).collect(alloc) {
-        Ok(numbers) => Ok(numbers),
-        Err(_) => Err(NoMemory),
-    }
+    Ok(ends.iter().map(|end| end.job).collect(alloc)?)
 }
 
 /// The numbers of the jobs in the order of their ends, ties by number.
