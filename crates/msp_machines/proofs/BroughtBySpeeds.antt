@@ -1,13 +1,12 @@
 -- What is brought back from unrelated machines to uniform ones.
-use Rattle.std.proofs.Common.{◌≡◌, ℕ, ◌≤◌, inl, inr, false, ℤ, pos, negsuc, ◌+ℤ◌, ◌*ℤ◌, ◌≤ℤ◌, ◌<ℤ◌, if◌then◌else◌, sym, ap, subst, ◌∙◌, arith}
-use Rattle.std.specs.Int.{int_max}
+use Rattle.std.proofs.Common.{◌≡◌, ℕ, ◌≤◌, Bool, true, false, ℤ, pos, negsuc, ◌+ℤ◌, ◌*ℤ◌, ◌≤ℤ◌, ◌<ℤ◌, sym, ap, subst, ◌∙◌, arith}
 use Rattle.std.proofs.lemmas.Int.{ints}
 use Rattle.std.proofs.lemmas.Nat.{mul-le}
 use Rattle.std.proofs.lemmas.List.Sorted.{IsPermutation-refl}
 use Rattle.std.specs.List.Sorted.{IsPermutation}
 use Rattle.msp_class.specs.declared.environments.EnvKind.TheVariants.{Uniform, Unrelated}
 use Rattle.msp_class.specs.Env.{kind_of}
-use Rattle.msp_class.proofs.IntegerRing.{≤ℤ_trans, ≤ℤ-int_max_left, pos-le, le-pos}
+use Rattle.msp_class.proofs.IntegerRing.{pos-le, le-pos}
 use Rattle.msp_instance.specs.declared.ranges.TheConstants.{GREATEST_MULTIPLE}
 use Rattle.msp_instance.specs.declared.Instance.{Instance}
 use Rattle.msp_schedule.specs.declared.limits.TheConstants.{GREATEST_CARRIED_UNIT}
@@ -16,12 +15,13 @@ use Rattle.msp_schedule.specs.declared.Solution.{Solution}
 use Rattle.msp_schedule.specs.Feasible.{Feasible}
 use Rattle.msp_schedule.specs.Cost.{IsSolution}
 use Rattle.msp_schedule.specs.Within.{Within, IsUnit, IsMoment}
-use Rattle.msp_table.specs.Rows.{turns_dates}
-use Rattle.msp_route.specs.declared.bounds.TheConstants.{GREATEST_BACK_MOMENT, GREATEST_LINED_UP, GREATEST_RAISE}
+use Rattle.msp_table.specs.Rows.{keeps_size}
+use Rattle.msp_route.specs.declared.bounds.TheConstants.{GREATEST_BACK_MOMENT}
 use Rattle.msp_route.specs.Law.{IsBack, IsReordered}
-use Rattle.msp_route.specs.Bounds.{IsBounded, KeepsBounds, greatest_unit}
-use Rattle.msp_machines.specs.Unrelated.{shrunk_schedule}
+use Rattle.msp_route.specs.Bounds.{IsBounded, KeepsBounds, greatest_unit, keeps_schedule, trades_dates}
+use Rattle.msp_route.proofs.Kept.{raises, KeepsBounds-unraised}
 use Rattle.msp_route.specs.Rates.{least_common_multiple, speed_rate}
+use Rattle.msp_machines.specs.Unrelated.{shrunk_schedule}
 use Rattle.msp_machines.specs.laws.Stretched.{IsLedBySpeeds}
 
 unit_fits : (u : ℤ) (n : ℕ) → pos 1 ≤ℤ u → u ≤ℤ GREATEST_CARRIED_UNIT → 1 ≤ n → n ≤ GREATEST_MULTIPLE → IsUnit (u *ℤ pos n)
@@ -30,6 +30,13 @@ unit_fits (pos u) n h k some small = (pos-le (mul-le 1 1 u n (le-pos h) some), p
 
 moment : (x y : ℤ) → pos 0 ≤ℤ x → x <ℤ y → y ≤ℤ GREATEST_BACK_MOMENT → IsMoment x × IsMoment y
 moment x y p q r = ((p, omega (arith, ints)), (omega (arith, ints), omega (arith, ints)))
+
+-- the row multiplies the unit, and changes neither moments nor dates
+pub record MultipliesUnit (row : ℕ) : Type 0 where
+  pub changes : keeps_schedule row ≡ false
+  pub grows : keeps_size row ≡ false
+  pub moments : raises row ≡ false
+  pub dates : trades_dates row ≡ false
 
 module _ {row : ℕ} {i j : Instance} (h : IsLedBySpeeds row i j) (t : Schedule) (f : Feasible j t) (b : IsBounded j t) where
   abbrev after : Schedule
@@ -58,13 +65,13 @@ module _ {row : ℕ} {i j : Instance} (h : IsLedBySpeeds row i j) (t : Schedule)
   pub feasible_after : Feasible i after
   feasible_after = (h.back t f).0
 
-  KeepsBounds-after : turns_dates row ≡ false → KeepsBounds row i j t after
-  KeepsBounds-after stays = record {
-    sized = record { few = b.sized.few; unit = subst (λ k. (t.unit *ℤ pos (least_common_multiple i.speeds)) ≤ℤ greatest_unit k) (sym h.from) unit_is.1 };
-    unit = λ w. elim w [ inl e ↦ absurd (other_kind e) | inr e ↦ absurd (e h.to) ];
-    ends = λ m e k d l. ≤ℤ_trans (e k d l) (subst (λ t. m ≤ℤ (if t then m +ℤ GREATEST_RAISE else int_max m GREATEST_LINED_UP)) (sym stays) (≤ℤ-int_max_left m GREATEST_LINED_UP));
-    cost = λ yes. absurd (cc);
-  }
+  KeepsBounds-after : MultipliesUnit row → KeepsBounds row i j t after
+  KeepsBounds-after m = KeepsBounds-unraised row i j t after m.moments m.dates (λ kept. absurd (differs (keeps_schedule row) m.changes kept)) (λ kept. absurd (differs (keeps_size row) m.grows kept)) (omega arith)
+      (record { few = b.sized.few; unit = subst (λ k. (t.unit *ℤ pos (least_common_multiple i.speeds)) ≤ℤ greatest_unit k) (sym h.from) unit_is.1 })
+      (λ moment e. e)
+    where
+      differs : (c : Bool) → c ≡ false → c ≡ true → ⊥
+      differs c e g = cc
 
   -- what is brought back
   abbrev IsBroughtBack : Solution → Type 0
@@ -75,10 +82,10 @@ module _ {row : ℕ} {i j : Instance} (h : IsLedBySpeeds row i j) (t : Schedule)
     bounds : KeepsBounds row i j t s.schedule;
   }
 
-  pub brought_back : turns_dates row ≡ false → (s : Solution) → s.schedule ≡ after → IsSolution i s → IsBroughtBack s
-  brought_back stays s e solution = record {
+  pub brought_back : MultipliesUnit row → (s : Solution) → s.schedule ≡ after → IsSolution i s → IsBroughtBack s
+  brought_back m s e solution = record {
     solution = solution;
     law = subst (IsBack (speed_rate i) i j t) (sym e) (h.back t);
     same = record { unit = ap (λ x. x.unit) e; pieces = subst (λ x. IsPermutation t.pieces x.pieces) (sym e) (IsPermutation-refl t.pieces) };
-    bounds = subst (KeepsBounds row i j t) (sym e) (KeepsBounds-after stays);
+    bounds = subst (KeepsBounds row i j t) (sym e) (KeepsBounds-after m);
   }

@@ -1,13 +1,13 @@
 -- What is brought back: the lower schedule as it is, or its jobs lined up.
-use Rattle.std.proofs.Common.{◌≡◌, ℕ, false, List, length, get_or, AllPairs, IsPermutation, ℤ, pos, nat_abs, to_z, of_z, FitsSigned, Result, Ok, Err, IfOk, ◌+ℤ◌, ◌*ℤ◌, ◌≤ℤ◌, if◌then◌else◌, refl, sym, ap, ap₂, subst, ◌∙◌, arith}
-use Rattle.std.specs.Int.{int_max, w128}
+use Rattle.std.proofs.Common.{◌≡◌, ℕ, Bool, true, false, List, length, AllPairs, IsPermutation, ℤ, pos, nat_abs, to_z, of_z, FitsSigned, Result, Ok, Err, IfOk, ◌+ℤ◌, ◌*ℤ◌, ◌≤ℤ◌, refl, sym, ap, ap₂, subst, ◌∙◌, arith}
+use Rattle.std.specs.Int.{w128}
 use Rattle.std.specs.List.{range_with_len}
 use Rattle.std.proofs.lemmas.Int.{ints, to_z-of_z}
 use Rattle.std.proofs.lemmas.List.Sorted.{IsPermutation-refl, IsPermutation-trans}
 use Rattle.msp_class.specs.declared.class.Env.TheVariants.{One}
 use Rattle.msp_class.specs.declared.NoMemory.{NoMemory}
 use Rattle.msp_class.specs.Env.{kind_of}
-use Rattle.msp_class.proofs.IntegerRing.{natural, ≤ℤ_trans, ≤ℤ-int_max_left, ≤ℤ-int_max_right}
+use Rattle.msp_class.proofs.IntegerRing.{natural}
 use Rattle.msp_class.proofs.Sums.{OnceBelow-from_permutation}
 use Rattle.msp_instance.specs.declared.Instance.{Instance}
 use Rattle.msp_instance.specs.Conditions.{Inner}
@@ -18,14 +18,15 @@ use Rattle.msp_schedule.specs.Cost.{end_of, cost_of, IsSolution}
 use Rattle.msp_schedule.specs.declared.limits.TheConstants.{GREATEST_UNIT}
 use Rattle.msp_schedule.specs.LineUp.{lined_up, order_of_ends}
 use Rattle.msp_schedule.proofs.LineUp.{order_of_ends-only}
-use Rattle.msp_table.specs.Rows.{turns_dates}
 use Rattle.msp_route.specs.Law.{IsBack, IsReordered}
-use Rattle.msp_route.specs.Bounds.{IsBounded, KeepsBounds, greatest_unit, moment_after}
-use Rattle.msp_route.specs.declared.bounds.TheConstants.{GREATEST_LINED_UP, GREATEST_RAISE}
+use Rattle.msp_route.specs.Bounds.{EndsBy, IsBounded, KeepsBounds, greatest_unit, keeps_schedule, trades_dates, moment_after}
+use Rattle.msp_route.specs.declared.bounds.TheConstants.{GREATEST_LINED_UP}
 use Rattle.msp_route.specs.Changes.{same_costs}
+use Rattle.msp_route.proofs.Kept.{KeepsBounds-kept}
 use Rattle.msp_turn.specs.LinedUp.{IsLinedUp}
 use Rattle.msp_turn.specs.laws.OneMachine.{line_of}
-use Rattle.msp_turn.proofs.LineLimits.{few_pieces, line_ends}
+use Rattle.msp_turn.proofs.JobPieces.{jobs_in_pieces}
+use Rattle.msp_turn.proofs.LineLimits.{few_pieces, line_length, line_ends}
 
 -- what a reduction owes of a solution that it brings back
 pub record IsBrought (row : ℕ) (i j : Instance) (upper before : Schedule) (s : Solution) : Type 0 where
@@ -34,25 +35,23 @@ pub record IsBrought (row : ℕ) (i j : Instance) (upper before : Schedule) (s :
   pub same : IsReordered upper s.schedule
   pub bounds : KeepsBounds row i j before s.schedule
 
-unturned : (row : ℕ) (moment x : ℤ) → turns_dates row ≡ false → x ≤ℤ int_max moment GREATEST_LINED_UP → x ≤ℤ moment_after row moment
-unturned row moment x stays h = subst (λ t. x ≤ℤ (if t then moment +ℤ GREATEST_RAISE else int_max moment GREATEST_LINED_UP)) (sym stays) h
-
 -- the same schedule
-pub brought_same : (row : ℕ) (i j : Instance) (s : Solution) → turns_dates row ≡ false → i.class.env ≡ One → j.class.env ≡ One → cost_of i s.schedule ≡ cost_of j s.schedule → IsBack same_costs i j s.schedule s.schedule → IsSolution j s → IsBounded j s.schedule → IsBrought row i j s.schedule s.schedule s
-brought_same row i j s stays one other costs law f b = record {
+pub brought_same : (row : ℕ) (i j : Instance) (s : Solution) → keeps_schedule row ≡ true → i.class.env ≡ One → j.class.env ≡ One → cost_of i s.schedule ≡ cost_of j s.schedule → IsBack same_costs i j s.schedule s.schedule → IsSolution j s → IsBounded j s.schedule → IsBrought row i j s.schedule s.schedule s
+brought_same row i j s kept one other costs law f b = record {
   solution = record { feasible = (law f.feasible).0; cost = f.cost ∙ ap (λ z. z *ℤ s.cost.den) (sym costs) };
   law = law;
   same = record { unit = refl; pieces = IsPermutation-refl s.schedule.pieces };
-  bounds = record {
-    sized = record { few = b.sized.few; unit = subst (λ e. s.schedule.unit ≤ℤ greatest_unit (kind_of e)) (other ∙ sym one) b.sized.unit };
-    unit = λ w. refl;
-    ends = λ moment e k d l. unturned row moment (get_or s.schedule.pieces k d).to stays (≤ℤ_trans (e k d l) (≤ℤ-int_max_left moment GREATEST_LINED_UP));
-    cost = λ yes. absurd (cc);
-  };
+  bounds = KeepsBounds-kept row i j s.schedule kept (record { few = b.sized.few; unit = subst (λ e. s.schedule.unit ≤ℤ greatest_unit (kind_of e)) (other ∙ sym one) b.sized.unit });
 }
 
+-- a row that lines the jobs up: how late they end then
+pub record LinesUp (row : ℕ) (before upper : Schedule) : Type 0 where
+  pub changes : keeps_schedule row ≡ false
+  pub plain : trades_dates row ≡ false
+  pub ends : (moment : ℤ) → EndsBy moment before → EndsBy GREATEST_LINED_UP upper → EndsBy (moment_after row moment) upper
+
 -- the jobs lined up
-module _ (row : ℕ) (i j : Instance) (t upper : Schedule) (D : ℕ) (order : List ℕ) (stays : turns_dates row ≡ false) (one : i.class.env ≡ One) (other : j.class.env ≡ One) (inner : Inner i) (f : Feasible j t) (b : IsBounded j t)
+module _ (row : ℕ) (i j : Instance) (t upper : Schedule) (D : ℕ) (order : List ℕ) (lines : LinesUp row t upper) (one : i.class.env ≡ One) (other : j.class.env ≡ One) (count : length i.jobs ≡ length j.jobs) (inner : Inner i) (lower : Inner j) (f : Feasible j t) (b : IsBounded j t)
     (unit : D ≡ nat_abs t.unit) (all : IsPermutation (range_with_len 0 (length i.jobs)) order) (is : upper ≡ lined_up i D order) (law : IsBack same_costs i j t upper) where
   same_unit : pos D ≡ t.unit
   same_unit = ap pos unit ∙ sym (natural t.unit (omega (arith, ints, f.unit)))
@@ -63,15 +62,20 @@ module _ (row : ℕ) (i j : Instance) (t upper : Schedule) (D : ℕ) (order : Li
   pub feasible_line : Feasible i (lined_up i D order)
   feasible_line = subst (Feasible i) is (law f).0
 
+  differs : (c : Bool) → c ≡ false → c ≡ true → ⊥
+  differs c e g = cc
+
   line_bounds : KeepsBounds row i j t (lined_up i D order)
   line_bounds = record {
+    same = λ kept. absurd (differs (keeps_schedule row) lines.changes kept);
+    few = omega (arith, line_length i one inner D small_unit order all, jobs_in_pieces j lower t f, count);
+    unit = λ w. same_unit;
     sized = record {
       few = omega (arith, few_pieces i one inner D small_unit order all);
       unit = subst (λ e. pos D ≤ℤ greatest_unit (kind_of e)) (sym one) small_unit;
     };
-    unit = λ w. same_unit;
-    ends = λ moment e k d l. unturned row moment _ stays (≤ℤ_trans (line_ends i one inner D small_unit order all feasible_line k d l) (≤ℤ-int_max_right moment GREATEST_LINED_UP));
-    cost = λ yes. absurd (cc);
+    ends = λ moment e. subst (EndsBy (moment_after row moment)) is (lines.ends moment e (subst (EndsBy GREATEST_LINED_UP) (sym is) (line_ends i one inner D small_unit order all feasible_line)));
+    dates = λ trades. absurd (differs (trades_dates row) lines.plain trades);
   }
 
   pub brought_line : (s : Solution) → IsLinedUp i D order s → IsBrought row i j upper t s
@@ -93,7 +97,7 @@ unit_read j t D one f b e = e ∙ ap nat_abs (to_z-of_z w128 t.unit (fits t.unit
 
 -- the same for what the code finds: `change` is what becomes of the order of the ends
 module _ (row : ℕ) (i j : Instance) (t upper : Schedule) (change : List ℕ → List ℕ) (keeps : (l : List ℕ) → IsPermutation l (change l)) (upper_is : upper ≡ lined_up i (nat_abs t.unit) (change (order_of_ends j t)))
-    (stays : turns_dates row ≡ false) (one : i.class.env ≡ One) (other : j.class.env ≡ One) (same : length i.jobs ≡ length j.jobs) (inner : Inner i) (lower : Inner j) (law : IsBack same_costs i j t upper) (f : Feasible j t) (b : IsBounded j t)
+    (lines : LinesUp row t upper) (one : i.class.env ≡ One) (other : j.class.env ≡ One) (same : length i.jobs ≡ length j.jobs) (inner : Inner i) (lower : Inner j) (law : IsBack same_costs i j t upper) (f : Feasible j t) (b : IsBounded j t)
     (D count : ℕ) (order found : List ℕ) (unit : D ≡ nat_abs (to_z w128 (of_z w128 t.unit))) (c : count ≡ length i.jobs) (e : order ≡ change found) (all : IsPermutation (range_with_len 0 count) found) (rises : AllPairs (λ a b. end_of t a ≤ℤ end_of t b) found) where
   unit_is : D ≡ nat_abs t.unit
   unit_is = unit_read j t D other f b unit
@@ -111,7 +115,7 @@ module _ (row : ℕ) (i j : Instance) (t upper : Schedule) (change : List ℕ �
   found_feasible = subst (Feasible i) line_is (law f).0
 
   pub found_brought : (s : Solution) → IsLinedUp i D order s → IsBrought row i j upper t s
-  found_brought = brought_line row i j t upper D order stays one other inner f b unit_is found_all line_is law
+  found_brought = brought_line row i j t upper D order lines one other same inner lower f b unit_is found_all line_is law
 
 -- clause by clause
 pub each_of : (row : ℕ) (i j : Instance) (upper t : Schedule) (r : Result Solution NoMemory) → IfOk r (IsBrought row i j upper t)

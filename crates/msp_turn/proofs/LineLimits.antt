@@ -54,6 +54,9 @@ module _ (i : Instance) (one : i.class.env ≡ One) (inner : Inner i) where
     pub within_jobs : All (λ j. j < length i.jobs) order
     within_jobs = once.within
 
+    pub line_length : length pieces ≡ length i.jobs
+    line_length = length-row piece (λ j. D * time_at i j) 0 order ∙ length-OnceBelow once
+
     pub few_pieces : length pieces ≤ 400
     few_pieces = omega (arith, length-row piece (λ j. D * time_at i j) 0 order, few_jobs)
 

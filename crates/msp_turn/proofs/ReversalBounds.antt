@@ -1,6 +1,7 @@
 -- What is read from its end stays within bounds.
-use Rattle.std.proofs.Common.{◌≡◌, ℕ, ◌*◌, ◌<◌, ◌≤◌, Bool, true, false, length, get_or, inr, ℤ, pos, ◌+ℤ◌, ◌-ℤ◌, ◌*ℤ◌, ◌≤ℤ◌, ◌<ℤ◌, if◌then◌else◌, refl, sym, ap, subst, ◌∙◌, arith}
-use Rattle.std.specs.Int.{int_max}
+use Rattle.std.proofs.Common.{◌≡◌, ℕ, ◌*◌, ◌<◌, ◌≤◌, Bool, true, false, length, get_or, inr, ℤ, pos, ◌+ℤ◌, ◌-ℤ◌, ◌*ℤ◌, ◌≤ℤ◌, ◌<ℤ◌, refl, sym, ap, subst, ◌∙◌, arith}
+use Rattle.std.specs.Prelude.{◌==◌}
+use Rattle.std.proofs.lemmas.Bool.{eqb-true}
 use Rattle.std.proofs.lemmas.Int.{ints}
 use Rattle.std.proofs.lemmas.Nat.{mul-le}
 use Rattle.std.proofs.lemmas.List.{length-map}
@@ -9,7 +10,7 @@ use Rattle.std.proofs.lemmas.List.Sorted.{IsPermutation-refl}
 use Rattle.msp_class.specs.declared.environments.EnvKind.{EnvKind}
 use Rattle.msp_class.specs.declared.environments.EnvKind.TheVariants.{Identical, Uniform, Unrelated, OpenShop, FlowShop, JobShop}
 use Rattle.msp_class.specs.Env.{kind_of}
-use Rattle.msp_class.proofs.IntegerRing.{≤ℤ_refl, ≤ℤ_trans, ≤ℤ_of_same, ≤ℤ-int_max_left, natural_some, zero-*ℤ, *ℤ-zero}
+use Rattle.msp_class.proofs.IntegerRing.{≤ℤ_refl, ≤ℤ_trans, ≤ℤ_of_same, natural_some, zero-*ℤ, *ℤ-zero}
 use Rattle.msp_instance.specs.declared.ranges.TheConstants.{GREATEST}
 use Rattle.msp_instance.specs.declared.Instance.{Instance}
 use Rattle.msp_instance.specs.Instance.{no_job, job_at}
@@ -20,12 +21,12 @@ use Rattle.msp_schedule.specs.declared.Solution.{Solution}
 use Rattle.msp_schedule.specs.Feasible.{Feasible}
 use Rattle.msp_schedule.specs.Cost.{cost_of, IsSolution}
 use Rattle.msp_schedule.specs.Within.{IsMoment, IsUnit}
-use Rattle.msp_table.specs.Rows.{turns_dates}
 use Rattle.msp_route.specs.Law.{IsBack, IsReordered}
-use Rattle.msp_route.specs.Bounds.{EndsBy, IsBounded, KeepsBounds, greatest_unit, moment_after}
-use Rattle.msp_route.specs.declared.bounds.TheConstants.{GREATEST_BACK_MOMENT, GREATEST_RAISE, GREATEST_LINED_UP}
-use Rattle.msp_turn.specs.Reversal.{IsReversible, reversed_piece, turning_moment, reversed_for}
+use Rattle.msp_route.specs.Bounds.{EndsBy, IsBounded, KeepsBounds, greatest_unit, keeps_schedule, moment_after}
+use Rattle.msp_route.specs.declared.bounds.TheConstants.{GREATEST_BACK_MOMENT, GREATEST_RAISE}
+use Rattle.msp_route.proofs.Kept.{raises, unraised}
 use Rattle.msp_route.specs.Rates.{raised_costs}
+use Rattle.msp_turn.specs.Reversal.{IsReversible, reversed_piece, turning_moment, reversed_for}
 use Rattle.msp_turn.specs.laws.ReversalLaw.{IsReverse, IsReverse-sym, turning-least, turning-charged, Feasible-reversed, IsBack-reversed}
 
 -- ---- a release date over the unit
@@ -52,6 +53,12 @@ small_tail OpenShop n x u h = over_unit n x 10000000000000 2000000000 (omega (ar
 small_tail FlowShop n x u h = over_unit n x 10000000000000 2000000000 (omega (arith, ints)) (omega arith) (omega arith)
 small_tail JobShop n x u h = over_unit n x 10000000000000 2000000000 (omega (arith, ints)) (omega arith) (omega arith)
 
+-- a row that reads schedules from their end: row 47 alone has release dates above, and raises moments by them
+pub record IsReversed (i : Instance) (row : ℕ) : Type 0 where
+  pub changes : keeps_schedule row ≡ false
+  pub moments : raises row ≡ (row == 47)
+  pub none : (row == 47) ≡ false → (k : ℕ) → k < length i.jobs → (job_at i k).release ≡ 0
+
 module _ {a : ℤ} {i j : Instance} (r : IsReverse a (pos 0) i j) (inner : Inner i) (low : Inner j) (t : Schedule) (f : Feasible j t) (b : IsBounded j t) where
   back : IsReverse (pos 0) a j i
   back = IsReverse-sym a (pos 0) i j r
@@ -62,8 +69,8 @@ module _ {a : ℤ} {i j : Instance} (r : IsReverse a (pos 0) i j) (inner : Inner
   is_unit : IsUnit t.unit
   is_unit = (f.unit, ≤ℤ_trans unit_small (unit_by (kind_of i.class.env)))
 
-  raises : (k : ℕ) → k < length i.jobs → (t.unit *ℤ pos (job_at i k).release) ≤ℤ GREATEST_RAISE
-  raises k l =
+  small_release : (k : ℕ) → k < length i.jobs → (t.unit *ℤ pos (job_at i k).release) ≤ℤ GREATEST_RAISE
+  small_release k l =
       let (n, e) = natural_some t.unit (omega (arith, ints, f.unit)) in
       subst (λ u. (u *ℤ pos (job_at i k).release) ≤ℤ GREATEST_RAISE) (sym e)
       (small_tail (kind_of i.class.env) n (job_at i k).release (subst (λ u. u ≤ℤ greatest_unit (kind_of i.class.env)) e unit_small) (release_by (kind_of i.class.env) i.class.heads (job_at i k).release (inner.conditions.jobs k no_job l).release))
@@ -87,24 +94,21 @@ module _ {a : ℤ} {i j : Instance} (r : IsReverse a (pos 0) i j) (inner : Inner
       summed x y m c h k = omega (arith, ints)
 
   ends_raised : (moment : ℤ) → EndsBy moment t → EndsBy (moment +ℤ GREATEST_RAISE) (reversed_for i t)
-  ends_raised moment e = ends_by moment GREATEST_RAISE (omega (arith, ints)) raises e
-
-  abbrev Kept : Bool → ℤ → Type 0
-  Kept dated moment = EndsBy (if dated then moment +ℤ GREATEST_RAISE else int_max moment GREATEST_LINED_UP) (reversed_for i t)
+  ends_raised moment e = ends_by moment GREATEST_RAISE (omega (arith, ints)) small_release e
 
   -- without release dates they stay
-  ends_stay : ((k : ℕ) → k < length i.jobs → (job_at i k).release ≡ 0) → (moment : ℤ) → EndsBy moment t → EndsBy (int_max moment GREATEST_LINED_UP) (reversed_for i t)
+  ends_stay : ((k : ℕ) → k < length i.jobs → (job_at i k).release ≡ 0) → (moment : ℤ) → EndsBy moment t → EndsBy moment (reversed_for i t)
   ends_stay none moment e k d l = same _ moment (ends_by moment (pos 0) (≤ℤ_refl _) (λ m n. ≤ℤ_of_same (ap (λ x. t.unit *ℤ pos x) (none m n) ∙ *ℤ-zero t.unit)) e k d l)
     where
-      same : (x m : ℤ) → x ≤ℤ (m +ℤ pos 0) → x ≤ℤ int_max m GREATEST_LINED_UP
-      same x m h = ≤ℤ_trans (omega (arith, ints)) (≤ℤ-int_max_left m GREATEST_LINED_UP)
+      same : (x m : ℤ) → x ≤ℤ (m +ℤ pos 0) → x ≤ℤ m
+      same x m h = omega (arith, ints)
 
-  ends_kept : (row : ℕ) → (turns_dates row ≡ false → (k : ℕ) → k < length i.jobs → (job_at i k).release ≡ 0) → (moment : ℤ) → EndsBy moment t → EndsBy (moment_after row moment) (reversed_for i t)
-  ends_kept row none moment e = by (turns_dates row) refl
+  ends_kept : (row : ℕ) → IsReversed i row → (moment : ℤ) → EndsBy moment t → EndsBy (moment_after row moment) (reversed_for i t)
+  ends_kept row h moment e = by (row == 47) refl
     where
-      by : (dated : Bool) → turns_dates row ≡ dated → Kept (turns_dates row) moment
-      by true q = subst (λ x. Kept x moment) (sym q) (ends_raised moment e)
-      by false q = subst (λ x. Kept x moment) (sym q) (ends_stay (none q) moment e)
+      by : (dated : Bool) → (row == 47) ≡ dated → EndsBy (moment_after row moment) (reversed_for i t)
+      by true q = subst (λ n. EndsBy (moment_after n moment) (reversed_for i t)) (sym (eqb-true row 47 q)) (ends_raised moment e)
+      by false q = subst (λ m. EndsBy m (reversed_for i t)) (sym (unraised row moment (h.moments ∙ q))) (ends_stay (h.none q) moment e)
 
   -- no piece ends after the lower cost
   ends_charged : EndsBy (cost_of j t) (reversed_for i t)
@@ -113,13 +117,18 @@ module _ {a : ℤ} {i j : Instance} (r : IsReverse a (pos 0) i j) (inner : Inner
       earlier : (x k z o : ℤ) → o ≡ pos 0 → pos 0 ≤ℤ x → k ≤ℤ (z +ℤ o) → (k -ℤ x) ≤ℤ z
       earlier x k z o e h l = omega (arith, ints)
 
-  pub KeepsBounds-reversed : (row : ℕ) → (turns_dates row ≡ false → (k : ℕ) → k < length i.jobs → (job_at i k).release ≡ 0) → KeepsBounds row i j t (reversed_for i t)
-  KeepsBounds-reversed row none = record {
-    sized = record { few = omega (arith, b.sized.few, length-map t.pieces (reversed_piece (turning_moment i t))); unit = unit_small };
+  pub KeepsBounds-reversed : (row : ℕ) → IsReversed i row → KeepsBounds row i j t (reversed_for i t)
+  KeepsBounds-reversed row h = record {
+    same = λ kept. absurd (differs (keeps_schedule row) h.changes kept);
+    few = omega (arith, length-map t.pieces (reversed_piece (turning_moment i t)));
     unit = λ w. refl;
-    ends = ends_kept row none;
-    cost = λ dated. ends_charged;
+    sized = record { few = omega (arith, b.sized.few, length-map t.pieces (reversed_piece (turning_moment i t))); unit = unit_small };
+    ends = ends_kept row h;
+    dates = λ trades k d l. (((Feasible-reversed back low t f).span k d l).0, ends_charged k d l);
   }
+    where
+      differs : (c : Bool) → c ≡ false → c ≡ true → ⊥
+      differs c e g = cc
 
   pub IsReversible-back : IsReversible i t
   IsReversible-back = record {
@@ -153,11 +162,11 @@ IsBroughtBack row a i j t s = record {
   bounds : KeepsBounds row i j t s.schedule;
 }
 
-pub brought_back : {a : ℤ} {i j : Instance} (row : ℕ) → IsReverse a (pos 0) i j → (turns_dates row ≡ false → (k : ℕ) → k < length i.jobs → (job_at i k).release ≡ 0) → Inner i → Inner j → (t : Schedule) → Feasible j t → IsBounded j t →
+pub brought_back : {a : ℤ} {i j : Instance} (row : ℕ) → IsReverse a (pos 0) i j → IsReversed i row → Inner i → Inner j → (t : Schedule) → Feasible j t → IsBounded j t →
     (s : Solution) → s.schedule ≡ reversed_for i t → IsSolution i s → IsBroughtBack row a i j t s
-brought_back {a} {i} {j} row r none inner low t f b s e solution = record {
+brought_back {a} {i} {j} row r h inner low t f b s e solution = record {
   solution = solution;
   law = subst (IsBack (raised_costs a) i j t) (sym e) (IsBack-reversed r low t);
   same = subst (IsReordered (reversed_for i t)) (sym e) (record { unit = refl; pieces = IsPermutation-refl (reversed_for i t).pieces });
-  bounds = subst (KeepsBounds row i j t) (sym e) (KeepsBounds-reversed r inner low t f b row none);
+  bounds = subst (KeepsBounds row i j t) (sym e) (KeepsBounds-reversed r inner low t f b row h);
 }

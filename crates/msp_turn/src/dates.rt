@@ -3,8 +3,8 @@ ghost use Rattle.std.specs.Prelude.{◌≡◌, ◌≤◌, pos, All, map, refl};
 ghost use Rattle.msp_schedule.specs.Cost.{greatest};
 ghost use Rattle.msp_route.specs.Changes.{same_costs};
 ghost use Rattle.msp_route.specs.Sizes.{greatest_row_date};
-ghost use Rattle.msp_turn.specs.Reversal.{due_by_release, led_to_due_dates, release_by_due, led_to_release_dates, reversed_for};
 ghost use Rattle.msp_route.specs.Rates.{greatest_due, raised_costs};
+ghost use Rattle.msp_turn.specs.Reversal.{due_by_release, led_to_due_dates, release_by_due, led_to_release_dates, reversed_for};
 ghost use Rattle.msp_turn.specs.laws.ReversalLaw.{IsPositive-raised, IsForth-reversed, IsBack-reversed};
 ghost use Rattle.msp_turn.specs.laws.ReversalDates.{reversal_47, reversal_48};
 

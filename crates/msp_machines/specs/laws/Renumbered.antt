@@ -1,5 +1,5 @@
 -- Rows that give the operations other numbers: feasible schedules go both ways, at the same costs.
-use Rattle.std.proofs.Common.{◌≡◌, ℕ, false, map, filter, fold, ℤ, pos, ◌+ℤ◌, ◌*ℤ◌, ◌≤ℤ◌, if◌then◌else◌, refl, sym, ap, subst, ◌∙◌, arith}
+use Rattle.std.proofs.Common.{◌≡◌, ℕ, Bool, true, false, map, filter, fold, ℤ, pos, ◌+ℤ◌, ◌*ℤ◌, ◌≤ℤ◌, refl, sym, ap, subst, ◌∙◌, arith}
 use Rattle.std.specs.Prelude.{◌==◌}
 use Rattle.std.specs.Int.{int_max}
 use Rattle.std.proofs.lemmas.List.{length-map}
@@ -7,7 +7,7 @@ use Rattle.std.proofs.lemmas.List.Elements.{All-map}
 use Rattle.std.proofs.lemmas.List.Sorted.{IsPermutation-refl}
 use Rattle.std.proofs.lemmas.Simd.{map-map}
 use Rattle.msp_class.specs.Env.{kind_of}
-use Rattle.msp_class.proofs.IntegerRing.{≤ℤ_trans, ≤ℤ_of_same, ≤ℤ-int_max_left, zero-*ℤ, +ℤ_idr}
+use Rattle.msp_class.proofs.IntegerRing.{≤ℤ_trans, ≤ℤ_of_same, zero-*ℤ, +ℤ_idr}
 use Rattle.msp_instance.specs.declared.Instance.{Instance}
 use Rattle.msp_schedule.specs.declared.Piece.{Piece}
 use Rattle.msp_schedule.specs.declared.Schedule.{Schedule}
@@ -16,11 +16,10 @@ use Rattle.msp_schedule.specs.Feasible.{Feasible}
 use Rattle.msp_schedule.specs.Cost.{cost_of, end_of, IsSolution}
 use Rattle.msp_schedule.proofs.Charges.{SameCharges, cost-same_ends}
 use Rattle.msp_schedule.proofs.Moves.{filter-map}
-use Rattle.msp_table.specs.Rows.{turns_dates}
 use Rattle.msp_route.specs.Law.{IsLower, IsForth, IsBack, IsReordered, cost_above, cost_below}
-use Rattle.msp_route.specs.Bounds.{EndsBy, IsBounded, KeepsBounds, greatest_unit}
-use Rattle.msp_route.specs.declared.bounds.TheConstants.{GREATEST_LINED_UP, GREATEST_RAISE}
+use Rattle.msp_route.specs.Bounds.{EndsBy, IsBounded, KeepsBounds, greatest_unit, keeps_schedule, trades_dates}
 use Rattle.msp_route.specs.Changes.{same_costs}
+use Rattle.msp_route.proofs.Kept.{raises, KeepsBounds-unraised}
 use Rattle.msp_machines.specs.Shops.{with_number, numbered}
 
 -- ends, the number of pieces and bounds on moments stay
@@ -31,6 +30,12 @@ end_of-numbered number s k =
 
 EndsBy-numbered : (number : Piece → ℕ) (s : Schedule) (moment : ℤ) → EndsBy moment s → EndsBy moment (numbered number s)
 EndsBy-numbered number s moment h = All-map (λ p. p.to ≤ℤ moment) (with_number number) s.pieces h
+
+-- the row changes the schedule, and neither its moments nor dates
+pub record IsPlain (row : ℕ) : Type 0 where
+  pub changes : keeps_schedule row ≡ false
+  pub moments : raises row ≡ false
+  pub dates : trades_dates row ≡ false
 
 -- the row leads to the instance, and with the one numbers and the other feasible schedules go both ways
 pub record Renumbered (row : ℕ) (i j : Instance) (forth back : Piece → ℕ) : Type 0 where
@@ -63,21 +68,22 @@ module _ {row : ℕ} {i j : Instance} {forth back : Piece → ℕ} (h : Renumber
   IsSolution-renumbered : (s : Solution) → IsSolution j s → IsSolution i (brought s)
   IsSolution-renumbered s f = record { feasible = h.up s.schedule f.feasible; cost = f.cost ∙ ap (λ z. z *ℤ s.cost.den) (sym (cost_up s.schedule f.feasible)) }
 
-  KeepsBounds-renumbered : (s : Schedule) → turns_dates row ≡ false → IsBounded j s → KeepsBounds row i j s (numbered back s)
-  KeepsBounds-renumbered s stays b = record {
-    sized = record { few = omega (arith, b.sized.few, length-map s.pieces (with_number back)); unit = ≤ℤ_trans b.sized.unit h.units };
-    unit = λ w. refl;
-    ends = λ moment e k d l. ≤ℤ_trans (EndsBy-numbered back s moment e k d l) (subst (λ t. moment ≤ℤ (if t then moment +ℤ GREATEST_RAISE else int_max moment GREATEST_LINED_UP)) (sym stays) (≤ℤ-int_max_left moment GREATEST_LINED_UP));
-    cost = λ yes. absurd (cc);
-  }
+  KeepsBounds-renumbered : (s : Schedule) → IsPlain row → IsBounded j s → KeepsBounds row i j s (numbered back s)
+  KeepsBounds-renumbered s plain b = KeepsBounds-unraised row i j s (numbered back s) plain.moments plain.dates (λ kept. absurd (differs (keeps_schedule row) plain.changes kept)) (λ w. refl)
+      (omega (arith, length-map s.pieces (with_number back)))
+      (record { few = omega (arith, b.sized.few, length-map s.pieces (with_number back)); unit = ≤ℤ_trans b.sized.unit h.units })
+      (EndsBy-numbered back s)
+    where
+      differs : (c : Bool) → c ≡ false → c ≡ true → ⊥
+      differs c e g = cc
 
-  pub brought_renumbered : turns_dates row ≡ false → (s r : Solution) → r ≡ brought s → IsSolution j s → IsBounded j s.schedule → record {
+  pub brought_renumbered : IsPlain row → (s r : Solution) → r ≡ brought s → IsSolution j s → IsBounded j s.schedule → record {
     solution : IsSolution i r;
     law : IsBack same_costs i j s.schedule r.schedule;
     same : IsReordered (numbered back s.schedule) r.schedule;
     bounds : KeepsBounds row i j s.schedule r.schedule;
   }
-  brought_renumbered stays s r e f b = subst (λ r. record {
+  brought_renumbered plain s r e f b = subst (λ r. record {
     solution : IsSolution i r;
     law : IsBack same_costs i j s.schedule r.schedule;
     same : IsReordered (numbered back s.schedule) r.schedule;
@@ -86,5 +92,5 @@ module _ {row : ℕ} {i j : Instance} {forth back : Piece → ℕ} (h : Renumber
     solution = IsSolution-renumbered s f;
     law = IsBack-renumbered s.schedule;
     same = record { unit = refl; pieces = IsPermutation-refl (numbered back s.schedule).pieces };
-    bounds = KeepsBounds-renumbered s.schedule stays b;
+    bounds = KeepsBounds-renumbered s.schedule plain b;
   })

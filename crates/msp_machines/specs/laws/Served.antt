@@ -1,9 +1,8 @@
 -- Instances of different environments whose feasible schedules are the same, at the same costs.
-use Rattle.std.proofs.Common.{◌≡◌, ℕ, false, pos, ◌+ℤ◌, ◌*ℤ◌, ◌≤ℤ◌, if◌then◌else◌, refl, sym, ap, subst, ◌∙◌}
-use Rattle.std.specs.Int.{int_max}
+use Rattle.std.proofs.Common.{◌≡◌, ℕ, true, pos, ◌+ℤ◌, ◌*ℤ◌, ◌≤ℤ◌, refl, sym, ap, subst, ◌∙◌}
 use Rattle.std.proofs.lemmas.List.Sorted.{IsPermutation-refl}
 use Rattle.msp_class.specs.Env.{kind_of}
-use Rattle.msp_class.proofs.IntegerRing.{≤ℤ_trans, ≤ℤ_of_same, ≤ℤ-int_max_left, zero-*ℤ, +ℤ_idr}
+use Rattle.msp_class.proofs.IntegerRing.{≤ℤ_trans, ≤ℤ_of_same, zero-*ℤ, +ℤ_idr}
 use Rattle.msp_instance.specs.declared.Instance.{Instance}
 use Rattle.msp_instance.specs.Conditions.{Inner, inner_limits}
 use Rattle.msp_schedule.specs.declared.Schedule.{Schedule}
@@ -13,11 +12,10 @@ use Rattle.msp_schedule.specs.Cost.{cost_of, IsSolution}
 use Rattle.msp_schedule.proofs.Frames.{IsShaped, IsShaped-from_conditions, frame_of}
 use Rattle.msp_schedule.proofs.Serves.{Serves, Feasible-served}
 use Rattle.msp_schedule.proofs.Charges.{SameCharges, cost-same_charges}
-use Rattle.msp_table.specs.Rows.{turns_dates}
 use Rattle.msp_route.specs.Law.{IsLower, IsForth, IsBack, cost_above, cost_below}
-use Rattle.msp_route.specs.Bounds.{IsBounded, KeepsBounds, greatest_unit}
-use Rattle.msp_route.specs.declared.bounds.TheConstants.{GREATEST_LINED_UP, GREATEST_RAISE}
+use Rattle.msp_route.specs.Bounds.{IsBounded, KeepsBounds, greatest_unit, keeps_schedule}
 use Rattle.msp_route.specs.Changes.{same_costs}
+use Rattle.msp_route.proofs.Kept.{KeepsBounds-kept}
 use Rattle.msp_route.proofs.Alike.{IsBrought}
 
 -- the row leads to the instance, and each schedule of the one serves the other as it is, at the same cost
@@ -56,19 +54,14 @@ module _ {row : ℕ} {i j : Instance} (h : ServesBoth row i j) (inner : Inner i)
   pub IsSolution-served : (s : Solution) → IsSolution j s → IsSolution i s
   IsSolution-served s f = record { feasible = up-served s.schedule f.feasible; cost = f.cost ∙ ap (λ z. z *ℤ s.cost.den) (sym (cost-served s.schedule f.feasible.unit)) }
 
-  pub KeepsBounds-served : (s : Schedule) → turns_dates row ≡ false → IsBounded j s → KeepsBounds row i j s s
-  KeepsBounds-served s stays b = record {
-    sized = record { few = b.sized.few; unit = ≤ℤ_trans b.sized.unit h.units };
-    unit = λ w. refl;
-    ends = λ moment e k d l. ≤ℤ_trans (e k d l) (subst (λ t. moment ≤ℤ (if t then moment +ℤ GREATEST_RAISE else int_max moment GREATEST_LINED_UP)) (sym stays) (≤ℤ-int_max_left moment GREATEST_LINED_UP));
-    cost = λ yes. absurd (cc);
-  }
+  pub KeepsBounds-served : (s : Schedule) → keeps_schedule row ≡ true → IsBounded j s → KeepsBounds row i j s s
+  KeepsBounds-served s kept b = KeepsBounds-kept row i j s kept (record { few = b.sized.few; unit = ≤ℤ_trans b.sized.unit h.units })
 
 -- what is brought back is the lower solution itself
-pub brought_served : {row : ℕ} {i j : Instance} → ServesBoth row i j → Inner i → turns_dates row ≡ false → (s : Solution) → IsSolution j s → IsBounded j s.schedule → IsBrought row i j s
-brought_served h inner stays s f b = record {
+pub brought_served : {row : ℕ} {i j : Instance} → ServesBoth row i j → Inner i → keeps_schedule row ≡ true → (s : Solution) → IsSolution j s → IsBounded j s.schedule → IsBrought row i j s
+brought_served h inner kept s f b = record {
   solution = IsSolution-served h inner s f;
   law = IsBack-served h inner s.schedule;
   same = record { unit = refl; pieces = IsPermutation-refl s.schedule.pieces };
-  bounds = KeepsBounds-served h inner s.schedule stays b;
+  bounds = KeepsBounds-served h inner s.schedule kept b;
 }

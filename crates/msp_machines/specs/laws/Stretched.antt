@@ -35,8 +35,8 @@ use Rattle.msp_schedule.proofs.Charges.{charge_of, cost-multiple, job_cost-scale
 use Rattle.msp_table.specs.Rows.{goes_of, table}
 use Rattle.msp_route.specs.Law.{Rate, Applies, IsLower, IsPositive, IsForth, IsBack}
 use Rattle.msp_route.proofs.Applied.{part_and_condition}
-use Rattle.msp_machines.specs.Unrelated.{only_time, stretched, led_by_speeds, stretched_schedule, shrunk_schedule}
 use Rattle.msp_route.specs.Rates.{least_common_multiple, cost_factor, speed_rate}
+use Rattle.msp_machines.specs.Unrelated.{only_time, stretched, led_by_speeds, stretched_schedule, shrunk_schedule}
 use Rattle.msp_machines.specs.laws.NeedsBy.{get_or-needs_by, HasNeeds-needs_by}
 use Rattle.msp_machines.specs.laws.InnerMachines.{in_environment, AreMachines, Inner-in_environment}
 use Rattle.msp_machines.specs.laws.LeastMultiple.{least_multiple, least-small}

@@ -31,8 +31,8 @@ use Rattle.msp_route.specs.Sizes.{greatest_row_date}
 use Rattle.msp_route.proofs.Applied.{parts_and_condition}
 use Rattle.msp_turn.specs.Turned.{turned_arcs}
 use Rattle.msp_turn.specs.laws.TurnedArcs.{turned_with, Inner-turned}
-use Rattle.msp_turn.specs.Reversal.{due_by_release, led_to_due_dates, release_by_due, led_to_release_dates}
 use Rattle.msp_route.specs.Rates.{greatest_due}
+use Rattle.msp_turn.specs.Reversal.{due_by_release, led_to_due_dates, release_by_due, led_to_release_dates}
 use Rattle.msp_turn.specs.laws.ReversalLaw.{IsReverse}
 use Rattle.msp_turn.specs.laws.ReversalRows.{IsReversal, cmax_charge}
 

@@ -1,4 +1,5 @@
 -- The lower schedule is read from its end.
+use Rattle.std.proofs.Common.{refl}
 use Rattle.msp_turn.specs.laws.ReversalDates.{reversal_47}
 use Rattle.msp_turn.proofs.ReversalBounds.{IsReversible-back, brought_back}
 use Rattle.msp_turn.proofs.dates.Row47Reduction.back.Goals as goal
@@ -11,4 +12,4 @@ reversed-requires-clause-reversible c =
 pub returns : goal.returns
 returns c =
     let h = reversal_47 c.args.inst.now c.requires.inner c.requires.applies in
-    brought_back 47 h.reverse h.none c.requires.inner h.lower.inner c.args.solution.schedule c.requires.solution.feasible c.requires.bounded c.reversed.result c.reversed.ensures.schedule c.reversed.ensures.solution
+    brought_back 47 h.reverse (record { changes = refl; moments = refl; none = h.none }) c.requires.inner h.lower.inner c.args.solution.schedule c.requires.solution.feasible c.requires.bounded c.reversed.result c.reversed.ensures.schedule c.reversed.ensures.solution
