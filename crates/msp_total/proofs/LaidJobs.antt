@@ -14,7 +14,8 @@ use Rattle.msp_schedule.specs.Intervals.{IsApart}
 use Rattle.msp_schedule.proofs.Intervals.{last_of, last_of-least}
 use Rattle.msp_total.specs.declared.lay.Place.{Place}
 use Rattle.msp_total.specs.Places.{no_place, time_on, piece_until, laid}
-use Rattle.msp_total.specs.Turns.{seats, machine_at}
+use Rattle.msp_total.specs.Turns.{machine_at}
+use Rattle.msp_total.specs.Multipliers.{seats}
 
 -- ---- totals from the first number on
 pub total_below-first : (n : ℕ) (f : ℕ → ℕ) → total_below (suc n) f ≡ f 0 + total_below n (λ r. f (suc r))

@@ -27,7 +27,8 @@ use Rattle.msp_schedule.proofs.Charges.{cost_of-sum, charge_of}
 use Rattle.msp_route.specs.Bounds.{IsAnswer, answer_unit}
 use Rattle.msp_total.specs.declared.lay.Place.{Place}
 use Rattle.msp_total.specs.Places.{laid}
-use Rattle.msp_total.specs.Turns.{seats, machine_at}
+use Rattle.msp_total.specs.Turns.{machine_at}
+use Rattle.msp_total.specs.Multipliers.{seats}
 use Rattle.msp_total.proofs.LaidJobs.{piece_before, laid-length, laid-jobs, laid-All, piece_made, laid-apart, laid-distinct, ends_of_jobs, sum_of_laid_ends, ends_soon, length_at}
 
 -- the instance has machines that may run any job, whole and at any time

@@ -6,6 +6,8 @@ mod UniformFacts
 mod TurnSteps
 mod LaidSchedule
 mod UniformBest
+mod UniformOrder
+mod UniformAnswer
 mod Seats
 mod SlotBound
 mod Filling

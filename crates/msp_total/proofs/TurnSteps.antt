@@ -1,8 +1,7 @@
 -- Steps of the loops over jobs that take their turns.
-use Rattle.std.proofs.Common.{◌≡◌, ℕ, suc, ◌+◌, ◌*◌, ◌-◌, ◌<◌, ◌≤◌, ◌^◌, Bool, true, false, cond, eqb, List, [], ◌∷◌, ◌++◌, length, get_or, take, map, set, All, IsPermutation, refl, sym, ap, subst, subst₂, ◌∙◌, arith}
+use Rattle.std.proofs.Common.{◌≡◌, ℕ, suc, ◌+◌, ◌*◌, ◌-◌, ◌<◌, ◌≤◌, ◌⊎◌, ◌^◌, Bool, true, false, cond, eqb, List, [], ◌∷◌, ◌++◌, length, get_or, take, map, set, All, AllPairs, IsPermutation, refl, sym, ap, subst, subst₂, ◌∙◌, arith}
 use Rattle.std.specs.Prelude.{slice_index_or}
 use Rattle.std.specs.List.{range_with_len}
-use Rattle.std.specs.List.Sorted.{IsNonDecreasingBy}
 use Rattle.std.proofs.lemmas.Bool.{eqb-true, eqb-false}
 use Rattle.std.proofs.lemmas.Grind.{get_or-set_at}
 use Rattle.std.proofs.lemmas.List.{get_or-set_other, get_or_default, get_or-append_right, get_or_append_left, length-append, length-take, length-set, get_or-take}
@@ -14,37 +13,29 @@ use Rattle.msp_instance.specs.declared.Instance.{Instance}
 use Rattle.msp_instance.specs.declared.Job.{Job}
 use Rattle.msp_instance.specs.declared.Need.{Need}
 use Rattle.msp_instance.specs.Instance.{no_need, no_job, need_at}
+use Rattle.msp_route.specs.declared.keyed.Keyed.{Keyed}
 use Rattle.msp_total.specs.declared.lay.Place.{Place}
-use Rattle.msp_total.specs.declared.uniform.Timed.{Timed}
 use Rattle.msp_total.specs.Places.{no_place, place_at}
-use Rattle.msp_total.specs.Turns.{no_timed, timed_at, IsByTime, seats, multiplier, number_at, machine_at, IsFirstLeast, IsTurn, AreTurns, AreNext}
+use Rattle.msp_total.specs.Turns.{no_timed, timed_at, IsByTime, multiplier, number_at, machine_at, IsFirstLeast, IsTurn, AreTurns, AreNext}
+use Rattle.msp_total.specs.Multipliers.{seats}
 
 -- ---- the jobs with their times
 -- a time, as the code reads it
 pub time_read : (i : Instance) (jobs : List Job) (k : ℕ) (j : Job) (needs : List Need) (t : ℕ) → jobs ≡ i.jobs → k < length jobs → needs ≡ (get_or jobs k j).needs → t ≡ (slice_index_or needs 0 no_need).time → t ≡ (need_at i k 0).time
 time_read i jobs k j needs t e l n v = v ∙ ap (λ x. (slice_index_or x 0 no_need).time) (n ∙ ap (λ (x : Job). x.needs) (get_or_default jobs k j no_job l ∙ ap (λ xs. get_or xs k no_job) e))
 
-abbrev pub HasTime : Instance → Timed → Type 0
-HasTime i t = t.time ≡ (need_at i t.job 0).time
+abbrev pub HasTime : Instance → Keyed → Type 0
+HasTime i t = t.key ≡ (need_at i t.job 0).time
 
-pub times-next : (i : Instance) (new old : List Timed) (x : Timed) → new ≡ old ++ x ∷ [] → HasTime i x → All (HasTime i) old → All (HasTime i) new
+pub times-next : (i : Instance) (new old : List Keyed) (x : Keyed) → new ≡ old ++ x ∷ [] → HasTime i x → All (HasTime i) old → All (HasTime i) new
 times-next i new old x e is so_far = subst (All (HasTime i)) (sym e) (All-push (HasTime i) old x so_far is)
 
-pub by_time : (i : Instance) (all sorted : List Timed) → map (λ t. t.job) all ≡ range_with_len 0 (length i.jobs) → All (HasTime i) all → IsPermutation all sorted → IsNonDecreasingBy (λ t. 18446744073709551615 - t.time) sorted → ((j : ℕ) → (need_at i j 0).time ≤ 18446744073709551615) → IsByTime i sorted
-by_time i all sorted e times p up small = record {
+pub by_time : (i : Instance) (all sorted : List Keyed) → map (λ t. t.job) all ≡ range_with_len 0 (length i.jobs) → All (HasTime i) all → IsPermutation all sorted → AllPairs (λ a b. (b.key < a.key) ⊎ ((b.key ≡ a.key) × (a.job ≤ b.job))) sorted → IsByTime i sorted
+by_time i all sorted e times p down = record {
   all = subst (λ l. IsPermutation l (map (λ t. t.job) sorted)) e (IsPermutation-map (λ t. t.job) all sorted p);
-  times = have;
-  falling = λ a b d l k. less (get_or sorted a d).time (get_or sorted b d).time (small_at a d (omega (arith, k, l))) (small_at b d k) (up a b d (omega (arith, l)) k);
+  times = All-permutation (HasTime i) all sorted p times;
+  falling = down;
 }
-  where
-    have : All (HasTime i) sorted
-    have = All-permutation (HasTime i) all sorted p times
-
-    small_at : All (λ t. t.time ≤ 18446744073709551615) sorted
-    small_at k d l = omega (arith, have k d l, small (get_or sorted k d).job)
-
-    less : (a b : ℕ) → a ≤ 18446744073709551615 → b ≤ 18446744073709551615 → 18446744073709551615 - a ≤ 18446744073709551615 - b → b ≤ a
-    less a b s t h = omega (arith, s, t, h)
 
 -- ---- the least of the numbers below a bound
 pub record IsLeastBelow (xs : List ℕ) (bound k : ℕ) : Type 0 where
@@ -57,7 +48,7 @@ abbrev one_if : Bool → ℕ
 one_if b = cond b 1 0
 
 -- ---- one turn more
-module _ (steps : List ℕ) (jobs : List Timed) (places : List Place) (p : Place) where
+module _ (steps : List ℕ) (jobs : List Keyed) (places : List Place) (p : Place) where
   abbrev k : ℕ
   k = length places
 
@@ -79,7 +70,7 @@ module _ (steps : List ℕ) (jobs : List Timed) (places : List Place) (p : Place
   seats-before : (r m : ℕ) → r ≤ k → seats (machine_at more) r m ≡ seats (machine_at places) r m
   seats-before r m l = total_below-same r _ _ (λ a h. ap (λ (q : Place). cond (eqb q.machine m) 1 0) (before a (omega arith)))
 
-  turn-before : (r : ℕ) (t : Timed) (q : Place) → r ≤ k → IsTurn steps (machine_at places) r t q → IsTurn steps (machine_at more) r t q
+  turn-before : (r : ℕ) (t : Keyed) (q : Place) → r ≤ k → IsTurn steps (machine_at places) r t q → IsTurn steps (machine_at more) r t q
   turn-before r t q l h = record {
     job = h.job;
     length_is = h.length_is;
@@ -91,7 +82,7 @@ module _ (steps : List ℕ) (jobs : List Timed) (places : List Place) (p : Place
       same : (m : ℕ) → multiplier (number_at steps) m (seats (machine_at more) r m) ≡ multiplier (number_at steps) m (seats (machine_at places) r m)
       same m = ap (multiplier (number_at steps) m) (seats-before r m l)
 
-  pub turns-next : (next : List ℕ) (t : Timed) → k < length jobs → t ≡ get_or jobs k no_timed → IsFirstLeast next p.machine → p.job ≡ t.job → p.length ≡ t.time * number_at steps p.machine → AreNext steps places next → AreTurns steps (take k jobs) places → AreTurns steps (take (k + 1) jobs) more
+  pub turns-next : (next : List ℕ) (t : Keyed) → k < length jobs → t ≡ get_or jobs k no_timed → IsFirstLeast next p.machine → p.job ≡ t.job → p.length ≡ t.key * number_at steps p.machine → AreNext steps places next → AreTurns steps (take k jobs) places → AreTurns steps (take (k + 1) jobs) more
   turns-next next t l is least job long (size, values) so_far = record {
     count = omega (arith, count_more, length-take (k + 1) jobs);
     each = λ r h. by r (omega (arith, count_more)) (eqb r k) refl;
@@ -144,7 +135,7 @@ module _ (steps : List ℕ) (jobs : List Timed) (places : List Place) (p : Place
           ∙ sym (ap (multiplier (number_at steps) m) (parts m ∙ ap (λ x. seats (machine_at places) k m + x) (cond-no 1 e) ∙ omega arith))
 
 -- at the start
-pub turns-none : (steps : List ℕ) (jobs : List Timed) → AreTurns steps (take 0 jobs) []
+pub turns-none : (steps : List ℕ) (jobs : List Keyed) → AreTurns steps (take 0 jobs) []
 turns-none steps jobs = record { count = refl; each = λ r l. absurd (omega arith) }
 
 pub next-none : (steps next : List ℕ) → next ≡ steps → AreNext steps [] next
@@ -160,13 +151,13 @@ next-small steps places next small few (size, values) k d l =
     most s x h k = omega (arith, mul-le-mul_right x h, k)
 
 -- as the code has it
-pub record HasTurned (steps : List ℕ) (jobs : List Timed) (k : ℕ) (places : List Place) (numbers : List ℕ) : Type 0 where
+pub record HasTurned (steps : List ℕ) (jobs : List Keyed) (k : ℕ) (places : List Place) (numbers : List ℕ) : Type 0 where
   pub count : length places ≡ k
   pub turns : AreTurns steps (take k jobs) places
   pub next : AreNext steps places numbers
 
-pub turn_taken : (steps : List ℕ) (jobs : List Timed) (places : List Place) (p : Place) (k : ℕ) (next : List ℕ) (new : List Place) (after : List ℕ) (t : Timed) → new ≡ places ++ p ∷ [] → length places ≡ k → k < length jobs → t ≡ get_or jobs k no_timed
-    → IsFirstLeast next p.machine → p.job ≡ t.job → p.length ≡ t.time * number_at steps p.machine → after ≡ set next p.machine (number_at next p.machine + number_at steps p.machine) → AreNext steps places next → AreTurns steps (take k jobs) places → HasTurned steps jobs (k + 1) new after
+pub turn_taken : (steps : List ℕ) (jobs : List Keyed) (places : List Place) (p : Place) (k : ℕ) (next : List ℕ) (new : List Place) (after : List ℕ) (t : Keyed) → new ≡ places ++ p ∷ [] → length places ≡ k → k < length jobs → t ≡ get_or jobs k no_timed
+    → IsFirstLeast next p.machine → p.job ≡ t.job → p.length ≡ t.key * number_at steps p.machine → after ≡ set next p.machine (number_at next p.machine + number_at steps p.machine) → AreNext steps places next → AreTurns steps (take k jobs) places → HasTurned steps jobs (k + 1) new after
 turn_taken steps jobs places p k next new after t e count l is least job long set_is values so_far =
     let at : t ≡ get_or jobs (length places) no_timed = is ∙ ap (λ n. get_or jobs n no_timed) (sym count) in
     let inside : p.machine < length steps = omega (arith, least.inside, values.0) in

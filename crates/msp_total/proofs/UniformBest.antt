@@ -25,11 +25,12 @@ use Rattle.msp_schedule.proofs.Positions.{position_of, position_of-some, positio
 use Rattle.msp_schedule.proofs.SolePieces.{only_piece, IsOnly, is_only, only_timed, only_placed, only_apart, sum_of_only_ends}
 use Rattle.msp_route.specs.Bounds.{IsAnswer, answer_unit}
 use Rattle.msp_schedule.proofs.Places.{sum_by-places}
+use Rattle.msp_route.specs.declared.keyed.Keyed.{Keyed}
 use Rattle.msp_total.specs.declared.lay.Place.{Place}
-use Rattle.msp_total.specs.declared.uniform.Timed.{Timed}
 use Rattle.msp_total.specs.Multiple.{IsCommon}
 use Rattle.msp_total.specs.Places.{no_place, ArePlaces, laid}
-use Rattle.msp_total.specs.Turns.{no_timed, timed_at, IsByTime, seats, multiplier, number_at, machine_at, AreTurns}
+use Rattle.msp_total.specs.Turns.{no_timed, timed_at, IsByTime, multiplier, number_at, machine_at, AreTurns}
+use Rattle.msp_total.specs.Multipliers.{seats}
 use Rattle.msp_total.proofs.Greedy.{taken, least_in_all}
 use Rattle.msp_total.proofs.LaidJobs.{piece_before, piece_long, length_at}
 use Rattle.msp_total.proofs.LaidSchedule.{IsPlain, AreFitting, schedule_of, laid_is_feasible, laid_costs, laid_is_within, laid_is_answer}
@@ -62,7 +63,7 @@ module _ (i : Instance) (h : IsUniformInstance i) (unit : ℕ) (common : IsCommo
   pub steps-length : length (steps_by i unit) ≡ i.machines
   steps-length = length-map i.speeds (λ s. unit / s) ∙ h.count
 
-  step-speed : (m : ℕ) → m < i.machines → step m * speed m ≡ unit
+  pub step-speed : (m : ℕ) → m < i.machines → step m * speed m ≡ unit
   step-speed m l =
       let inside : m < length i.speeds = omega (arith, l, h.count) in
       ap (λ x. x * speed m) (get_or-map (λ s. unit / s) i.speeds m 0 0 inside) ∙ div-mul_cancel (speed m) (common.common m 0 inside)
@@ -80,7 +81,7 @@ module _ (i : Instance) (h : IsUniformInstance i) (unit : ℕ) (common : IsCommo
       by a b u e k = grind arith
 
   -- ---- the jobs in turn
-  module _ (few : unit ≤ 2 ^ 30) (jobs : List Timed) (sorted : IsByTime i jobs) (places : List Place) (turns : AreTurns (steps_by i unit) jobs places) where
+  module _ (few : unit ≤ 2 ^ 30) (jobs : List Keyed) (sorted : IsByTime i jobs) (places : List Place) (turns : AreTurns (steps_by i unit) jobs places) where
     abbrev n : ℕ
     n = length i.jobs
 
@@ -88,7 +89,7 @@ module _ (i : Instance) (h : IsUniformInstance i) (unit : ℕ) (common : IsCommo
     time_of j = (need_at i j 0).time
 
     abbrev time : ℕ → ℕ
-    time r = (timed_at jobs r).time
+    time r = (timed_at jobs r).key
 
     abbrev job : ℕ → ℕ
     job r = (timed_at jobs r).job
@@ -96,17 +97,17 @@ module _ (i : Instance) (h : IsUniformInstance i) (unit : ℕ) (common : IsCommo
     abbrev machine : ℕ → ℕ
     machine r = machine_at places r
 
-    once : OnceBelow n (map (λ t. t.job) jobs)
+    pub once : OnceBelow n (map (λ t. t.job) jobs)
     once = OnceBelow-from_permutation sorted.all
 
-    jobs-count : length jobs ≡ n
+    pub jobs-count : length jobs ≡ n
     jobs-count = sym (length-map jobs (λ t. t.job)) ∙ length-OnceBelow once
 
     count : length places ≡ n
     count = turns.count ∙ jobs-count
 
     job-inside : (r : ℕ) → r < n → job r < n
-    job-inside r l = subst (λ x. x < n) (get_or-map (λ (t : Timed). t.job) jobs r no_timed 0 inside) (once.within r 0 (omega (arith, inside, length-map jobs (λ t. t.job))))
+    job-inside r l = subst (λ x. x < n) (get_or-map (λ (t : Keyed). t.job) jobs r no_timed 0 inside) (once.within r 0 (omega (arith, inside, length-map jobs (λ t. t.job))))
       where
         inside : r < length jobs
         inside = omega (arith, l, jobs-count)
@@ -115,7 +116,7 @@ module _ (i : Instance) (h : IsUniformInstance i) (unit : ℕ) (common : IsCommo
     job-once a b l m e = by (eqb a b) refl
       where
         at : (r : ℕ) → r < n → get_or (map (λ t. t.job) jobs) r 0 ≡ job r
-        at r k = get_or-map (λ (t : Timed). t.job) jobs r no_timed 0 (omega (arith, k, jobs-count))
+        at r k = get_or-map (λ (t : Keyed). t.job) jobs r no_timed 0 (omega (arith, k, jobs-count))
 
         apart : (a b : ℕ) → a < b → b < n → job a ≡ job b → ⊥
         apart a b k m e = OnceBelow-distinct once a b 0 k (omega (arith, m, jobs-count, length-map jobs (λ t. t.job))) (at a (omega arith) ∙ e ∙ sym (at b m))
@@ -135,12 +136,12 @@ module _ (i : Instance) (h : IsUniformInstance i) (unit : ℕ) (common : IsCommo
       where
         by : (t : Bool) → eqb a b ≡ t → time b ≤ time a
         by true e = omega (arith, ap time (eqb-true a b e))
-        by false e = sorted.falling a b no_timed (less a b l (eqb-false a b e)) (omega (arith, m, jobs-count))
+        by false e = elim (sorted.falling a b no_timed (less a b l (eqb-false a b e)) (omega (arith, m, jobs-count))) [ inl k ↦ omega (arith, k) | inr k ↦ omega (arith, k.0) ]
           where
             less : (a b : ℕ) → a ≤ b → (a ≡ b → ⊥) → a < b
             less a b l n = omega arith
 
-    machine-inside : (r : ℕ) → r < n → machine r < i.machines
+    pub machine-inside : (r : ℕ) → r < n → machine r < i.machines
     machine-inside r l = omega (arith, (turns.each r (omega (arith, l, count))).inside, steps-length)
 
     greedy : (r m : ℕ) → r < n → m < i.machines → taken n i.machines step machine r ≤ multiplier step m (seats machine r m)
@@ -154,10 +155,10 @@ module _ (i : Instance) (h : IsUniformInstance i) (unit : ℕ) (common : IsCommo
     value = total_below n (λ r. time r * taken n i.machines step machine r)
 
     -- ---- feasible
-    same-jobs : map (λ p. p.job) places ≡ map (λ t. t.job) jobs
+    pub same-jobs : map (λ p. p.job) places ≡ map (λ t. t.job) jobs
     same-jobs = same_lists _ _ (length-map places (λ p. p.job) ∙ turns.count ∙ sym (length-map jobs (λ t. t.job)))
         (λ r d l. let inside : r < length places = omega (arith, l, length-map places (λ p. p.job)) in
-        get_or-map (λ (p : Place). p.job) places r no_place d inside ∙ (turns.each r inside).job ∙ sym (get_or-map (λ (t : Timed). t.job) jobs r no_timed d (omega (arith, inside, turns.count))))
+        get_or-map (λ (p : Place). p.job) places r no_place d inside ∙ (turns.each r inside).job ∙ sym (get_or-map (λ (t : Keyed). t.job) jobs r no_timed d (omega (arith, inside, turns.count))))
 
     record IsMeant (p : Place) : Type 0 where
       machine_inside : p.machine < i.machines
@@ -299,7 +300,7 @@ module _ (i : Instance) (h : IsUniformInstance i) (unit : ℕ) (common : IsCommo
 
       reordered : total_below n weighed ≡ total_below n (λ r. time r * multiplier step (on (job r)) (place (job r) - 1))
       reordered =
-          sym (sum_by-OnceBelow weighed once) ∙ sum_by-map weighed (λ (t : Timed). t.job) jobs ∙ sum_by-places (λ (t : Timed). weighed t.job) jobs no_timed
+          sym (sum_by-OnceBelow weighed once) ∙ sum_by-map weighed (λ (t : Keyed). t.job) jobs ∙ sum_by-places (λ (t : Keyed). weighed t.job) jobs no_timed
           ∙ ap (λ k. total_below k (λ r. weighed (job r))) jobs-count ∙ total_below-same n _ _ (λ r l. ap (λ x. x * multiplier step (on (job r)) (place (job r) - 1)) (sym (time-is r l)))
 
       least : value ≤ total_below n weighed
@@ -332,59 +333,3 @@ module _ (i : Instance) (h : IsUniformInstance i) (unit : ℕ) (common : IsCommo
           where
             positive : (u : ℤ) → pos 1 ≤ℤ u → pos 0 ≤ℤ u
             positive u k = omega (arith, ints)
-
--- ---- as the code has it
-pub record IsUniformAnswer (i : Instance) (s : Schedule) : Type 0 where
-  pub best : Best i s
-  pub within : Within i s
-  pub answer : IsAnswer i s
-
-pub IsUniformAnswer-from : (i : Instance) → IsUniformInstance i → (unit : ℕ) (u : ℤ) (steps : List ℕ) (jobs : List Timed) (places : List Place) (pieces : List Piece) → IsCommon i.speeds unit → unit ≤ 2 ^ 30 → u ≡ pos unit → steps ≡ steps_by i unit → IsByTime i jobs → AreTurns steps jobs places → pieces ≡ laid places
-    → IsUniformAnswer i (record { unit = u; pieces = pieces })
-IsUniformAnswer-from i h unit u steps jobs places pieces common few e is sorted turns all =
-    let fits = subst (λ x. AreTurns x jobs places) is turns in
-    let fit = fitting i h unit common few jobs sorted places fits in
-    subst₂ (λ x y. IsUniformAnswer i (record { unit = x; pieces = y })) (sym e) (sym all) (record {
-      best = best i h unit common few jobs sorted places fits;
-      within = laid_is_within i (IsPlain-from_uniform i h) unit places fit;
-      answer = laid_is_answer i (IsPlain-from_uniform i h) unit places fit;
-    })
-
--- the steps of the code, over slices that are the same lists
-module _ (i : Instance) (h : IsUniformInstance i) (speeds : List ℕ) (unit : ℕ) (same_speeds : speeds ≡ i.speeds) (common : IsCommon speeds unit) (few : unit ≤ 2 ^ 30) where
-  common_of : IsCommon i.speeds unit
-  common_of = subst (λ l. IsCommon l unit) same_speeds common
-
-  steps_are : (steps taken : List ℕ) → steps ≡ map (λ s. unit / s) speeds → taken ≡ steps → taken ≡ steps_by i unit
-  steps_are steps taken e f = f ∙ e ∙ ap (map (λ s. unit / s)) same_speeds
-
-  pub steps_small : (steps taken : List ℕ) → steps ≡ map (λ s. unit / s) speeds → taken ≡ steps → All (λ s. s ≤ 2 ^ 30) taken
-  steps_small steps taken e f = subst (All (λ s. s ≤ 2 ^ 30)) (sym (steps_are steps taken e f)) small
-    where
-      small : All (λ s. s ≤ 2 ^ 30) (steps_by i unit)
-      small k d l = omega (arith, get_or_default (steps_by i unit) k d 0 l, step-most i h unit common_of k (omega (arith, l, steps-length i h unit common_of)), few)
-
-  pub steps_count : (steps taken : List ℕ) → steps ≡ map (λ s. unit / s) speeds → taken ≡ steps → length taken ≡ i.machines
-  steps_count steps taken e f = ap length (steps_are steps taken e f) ∙ steps-length i h unit common_of
-
-  module _ (jobs taken : List Timed) (sorted : IsByTime i jobs) (same_jobs : taken ≡ jobs) where
-    pub jobs_few : length taken ≤ 400
-    jobs_few = omega (arith, ap length same_jobs, length-map jobs (λ t. t.job), length-OnceBelow (OnceBelow-from_permutation sorted.all), h.few)
-
-    pub jobs_short : All (λ t. t.time ≤ 1000000000) taken
-    jobs_short = subst (All (λ t. t.time ≤ 1000000000)) (sym same_jobs) (λ k d l. omega (arith, sorted.times k d l, (h.times (get_or jobs k d).job (inside k d l)).1))
-      where
-        inside : All (λ t. t.job < length i.jobs) jobs
-        inside k d l = All-contains (λ j. j < length i.jobs) (map (λ t. t.job) jobs) (get_or jobs k d).job (OnceBelow-from_permutation sorted.all).within (Contains-map (λ t. t.job) jobs (get_or jobs k d) (Contains-get_or jobs k d l))
-
-    module _ (steps slice : List ℕ) (are_steps : steps ≡ map (λ s. unit / s) speeds) (same_steps : slice ≡ steps) (places listed : List Place) (turns : AreTurns slice taken places) (same_places : listed ≡ places) where
-      turns_of : AreTurns (steps_by i unit) jobs places
-      turns_of = subst₂ (λ x y. AreTurns x y places) (steps_are steps slice are_steps same_steps) same_jobs turns
-
-      pub places_small : ArePlaces listed
-      places_small =
-          let f = fitting i h unit common_of few jobs sorted places turns_of in
-          subst ArePlaces (sym same_places) (omega (arith, turns_of.count, ap length same_jobs, jobs_few), λ k d l. (omega (arith, f.inside k d l, h.machines), f.short k d l))
-
-      pub answer_read : (u : ℤ) (pieces : List Piece) → u ≡ pos unit → pieces ≡ laid listed → IsUniformAnswer i (record { unit = u; pieces = pieces })
-      answer_read u pieces e all = IsUniformAnswer-from i h unit u (steps_by i unit) jobs places pieces common_of few e refl sorted turns_of (all ∙ ap laid same_places)

@@ -1,11 +1,8 @@
 -- What an instance of uniform machines has.
-use Rattle.std.proofs.Common.{◌≡◌, ℕ, ◌<◌, ◌≤◌, Bool, true, false, leb, slice_index_or, [], length, All, refl, ap, arith}
+use Rattle.std.proofs.Common.{◌≡◌, ℕ, ◌<◌, ◌≤◌, false, [], length, All, refl, ap, arith}
 use Rattle.msp_class.specs.declared.class.Crit.TheVariants.{SumC}
 use Rattle.msp_class.specs.declared.environments.EnvKind.TheVariants.{Uniform}
 use Rattle.msp_class.specs.Env.{kind_of}
-use lib.ListN.{get_or-eq_default}
-use Rattle.std.proofs.lemmas.Bool.{leb-true, leb-false}
-use Rattle.msp_instance.specs.declared.Job.{Job}
 use Rattle.msp_instance.specs.declared.Instance.{Instance}
 use Rattle.msp_instance.specs.Instance.{no_need, no_job, job_at, need_at}
 use Rattle.msp_instance.specs.Conditions.{HasSmallMultiple, Inner}
@@ -49,11 +46,3 @@ IsUniformInstance-from_class i e h =
 -- each speed is at least 1
 pub speeds_some : (i : Instance) → IsUniformInstance i → All (λ s. 1 ≤ s) i.speeds
 speeds_some i h k d l = (h.speeds k d l).0
-
--- no job, and none that is not there, takes longer than a number of 64 bits
-pub times_small : (i : Instance) → IsUniformInstance i → (j : ℕ) → (need_at i j 0).time ≤ 18446744073709551615
-times_small i h j = by (leb (length i.jobs) j) refl
-  where
-    by : (b : Bool) → leb (length i.jobs) j ≡ b → (need_at i j 0).time ≤ 18446744073709551615
-    by true e = omega (arith, ap (λ (x : Job). (slice_index_or x.needs 0 no_need).time) (get_or-eq_default i.jobs no_job (leb-true _ _ e)))
-    by false e = omega (arith, (h.times j (leb-false _ _ e)).1)

@@ -27,7 +27,8 @@ use Rattle.msp_total.specs.declared.positions.Positions.{Positions}
 use Rattle.msp_total.specs.declared.unrelated.Chosen.{Chosen}
 use Rattle.msp_total.specs.Places.{no_place, ArePlaces, laid}
 use Rattle.msp_total.specs.Positions.{time_in, position_cost}
-use Rattle.msp_total.specs.Turns.{seats, machine_at}
+use Rattle.msp_total.specs.Turns.{machine_at}
+use Rattle.msp_total.specs.Multipliers.{seats}
 use Rattle.msp_total.specs.Columns.{IsTableOf, HasShortTimes, IsPlacing, no_chosen, chosen_at, IsByColumn, ArePlacesOf}
 use Rattle.msp_total.proofs.ColumnSteps.{machine_inside}
 use Rattle.msp_total.proofs.LaidJobs.{piece_before, piece_long, length_at}

@@ -28,6 +28,19 @@ fn two_jobs_on_two_uniform_machines(rt: HostRuntime) {
 }
 
 #[test]
+fn of_equal_jobs_the_lesser_takes_the_lesser_multiplier(rt: HostRuntime) {
+    let needs: [&[Need]; 3] = [&[need(0, 2)], &[need(0, 3)], &[need(0, 2)]];
+    let best = on_uniform(rt.alloc(), &[2, 1], &needs).expect(&rt, "there is memory");
+    let pieces = [
+        piece_on(1, 0, 2, 5),
+        piece_on(0, 0, 0, 2),
+        piece_on(2, 1, 0, 4),
+    ];
+    assert_eq!(rt; best.schedule.unit, 2);
+    assert_eq!(rt; best.schedule.pieces.as_slice(), pieces.as_slice());
+}
+
+#[test]
 fn three_jobs_on_two_unrelated_machines(rt: HostRuntime) {
     let needs: [&[Need]; 3] = [
         &[need(0, 1), need(1, 9)],

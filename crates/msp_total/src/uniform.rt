@@ -7,13 +7,14 @@ ghost use Rattle.msp_instance.specs.Conditions.{Inner};
 ghost use Rattle.msp_schedule.specs.Cost.{IsBest};
 ghost use Rattle.msp_route.specs.Bounds.{IsAnswer};
 ghost use Rattle.msp_total.specs.Classes.{uniform_class};
+ghost use Rattle.msp_total.specs.Multipliers.{IsByMultipliers};
 ghost use Rattle.msp_total.specs.Turns.{IsByTime, IsFirstLeast, AreTurns, number_at};
 
 use crate::lay::{Place, lay};
 use crate::multiple::multiple_of_all;
 use msp_class::{Class, Crit, Env, NoMemory, Order, Times};
 use msp_instance::{Instance, first_time};
-use msp_route::Solver;
+use msp_route::{Keyed, Solver, sort_by_falling_key};
 use msp_schedule::{Schedule, Solution};
 use std::alloc::Global;
 
@@ -27,26 +28,19 @@ const UNIFORM_CLASS: Class = Class {
     crit: Crit::SumC,
 };
 
-/// A job and its time.
-#[derive(Clone, Copy)]
-pub struct Timed {
-    pub job: u32,
-    pub time: u64,
-}
-
 /// The jobs with their times.
-fn timed_jobs(alloc: Global, inst: &Instance) -> Result<Vec<Timed>, NoMemory>
+fn timed_jobs(alloc: Global, inst: &Instance) -> Result<Vec<Keyed>, NoMemory>
     requires { length inst.now.jobs ≤ MOST_JOBS }
     ensures jobs { IfOk result (λ all. map (λ t. t.job) all.items ≡ range_with_len 0 (length inst.now.jobs)) }
-    ensures times { IfOk result (λ all. All (λ t. t.time ≡ (need_at inst.now t.job 0).time) all.items) }
+    ensures times { IfOk result (λ all. All (λ t. t.key ≡ (need_at inst.now t.job 0).time) all.items) }
 {
     let jobs = inst.jobs.as_slice();
     let mut all = Vec::new(alloc);
     for k in 0..jobs.len() {
         let time = first_time(jobs[k].needs.as_slice());
-        let timed = Timed {
+        let timed = Keyed {
             job: k as u32,
-            time,
+            key: time,
         };
         if all.push(timed).is_err() {
             return Err(NoMemory);
@@ -56,15 +50,13 @@ fn timed_jobs(alloc: Global, inst: &Instance) -> Result<Vec<Timed>, NoMemory>
 }
 
 /// All jobs by falling time, ties by number.
-fn jobs_by_time(alloc: Global, inst: &Instance) -> Result<Vec<Timed>, NoMemory>
+fn jobs_by_time(alloc: Global, inst: &Instance) -> Result<Vec<Keyed>, NoMemory>
     requires inner { Inner inst.now }
     requires class { inst.now.class ≡ uniform_class }
     ensures { IfOk result (λ jobs. IsByTime inst.now jobs.items) }
 {
     let mut jobs = timed_jobs(alloc, inst)?;
-    if jobs.sort_by_key(|timed| u64::MAX - timed.time).is_err() {
-        return Err(NoMemory);
-    }
+    sort_by_falling_key(&mut jobs);
     Ok(jobs)
 }
 
@@ -97,16 +89,16 @@ fn least_of(numbers: &[u64]) -> usize
 }
 
 /// The place of the next job: the machine where it counts least. `next` has what it counts on each.
-fn take_turn(next: &mut Vec<u64>, steps: &[u64], timed: Timed) -> Place
+fn take_turn(next: &mut Vec<u64>, steps: &[u64], timed: Keyed) -> Place
     requires some { 0 < length steps.now }
     requires few { length steps.now ≤ MOST_MACHINES }
     requires same { length next.old.items ≡ length steps.now }
     requires steps { All (λ s. s ≤ GREATEST_MULTIPLE) steps.now }
     requires next { All (λ s. s ≤ MOST_JOBS * GREATEST_MULTIPLE) next.old.items }
-    requires time { timed.time ≤ GREATEST }
+    requires time { timed.key ≤ GREATEST }
     ensures least { IsFirstLeast next.old.items result.machine }
     ensures job { result.job ≡ timed.job }
-    ensures length_is { result.length ≡ timed.time * number_at steps.now result.machine }
+    ensures length_is { result.length ≡ timed.key * number_at steps.now result.machine }
     ensures next { next.new.items ≡ slice_set next.old.items result.machine (number_at next.old.items result.machine + number_at steps.now result.machine) }
 {
     let machine = least_of(next);
@@ -115,17 +107,17 @@ fn take_turn(next: &mut Vec<u64>, steps: &[u64], timed: Timed) -> Place
     Place {
         job: timed.job,
         machine: machine as u32,
-        length: timed.time * step,
+        length: timed.key * step,
     }
 }
 
 /// The places of the jobs, in turn.
-fn places_of(alloc: Global, jobs: &[Timed], steps: &[u64]) -> Result<Vec<Place>, NoMemory>
+fn places_of(alloc: Global, jobs: &[Keyed], steps: &[u64]) -> Result<Vec<Place>, NoMemory>
     requires some { 0 < length steps.now }
     requires few { length steps.now ≤ MOST_MACHINES }
     requires jobs { length jobs.now ≤ MOST_JOBS }
     requires steps { All (λ s. s ≤ GREATEST_MULTIPLE) steps.now }
-    requires times { All (λ t. t.time ≤ GREATEST) jobs.now }
+    requires times { All (λ t. t.key ≤ GREATEST) jobs.now }
     ensures { IfOk result (λ places. AreTurns steps.now jobs.now places.items) }
 {
     let mut places = Vec::new(alloc);
@@ -150,6 +142,7 @@ fn schedule_by_multipliers(alloc: Global, inst: &Instance) -> Result<Solution, N
     requires class { inst.now.class ≡ uniform_class }
     ensures best { IfOk result (λ s. IsBest inst.now s) }
     ensures bounds { IfOk result (λ s. IsAnswer inst.now s.schedule) }
+    ensures order { IfOk result (λ s. IsByMultipliers inst.now s.schedule) }
 {
     let speeds = inst.speeds.as_slice();
     let unit = multiple_of_all(speeds);
@@ -166,7 +159,7 @@ fn schedule_by_multipliers(alloc: Global, inst: &Instance) -> Result<Solution, N
 }
 
 /// Finds a schedule of least total completion time on uniform machines: the longest jobs take the least multipliers, ties to the lesser
-/// machine (Horowitz and Sahni 1976).
+/// job and the lesser machine (Horowitz and Sahni 1976).
 #[derive(Clone, Copy, Debug)]
 pub struct Uniform;
 
@@ -185,7 +178,13 @@ impl Solver for Uniform {
         true
     }
 
-    fn solve(&self, alloc: Global, inst: &Instance) -> Result<Solution, NoMemory> {
+    fn solve(&self, alloc: Global, inst: &Instance) -> Result<Solution, NoMemory>
+        requires inner { Inner inst.now }
+        requires class { inst.now.class ≡ uniform_class }
+        ensures best { IfOk result (λ s. IsBest inst.now s) }
+        ensures bounds { IfOk result (λ s. IsAnswer inst.now s.schedule) }
+        ensures order { IfOk result (λ s. IsByMultipliers inst.now s.schedule) }
+    {
         schedule_by_multipliers(alloc, inst)
     }
 }

@@ -2,7 +2,7 @@ use Rattle.std.proofs.Common.{◌∙◌, rules}
 use Rattle.std.proofs.lemmas.Int.{to_z-of_z}
 use Rattle.std.specs.Int.{w128}
 use Rattle.msp_total.proofs.UniformFacts.{IsUniformInstance-from_class}
-use Rattle.msp_total.proofs.UniformBest.{steps_small, jobs_few, jobs_short, places_small, answer_read}
+use Rattle.msp_total.proofs.UniformAnswer.{steps_small, jobs_few, jobs_short, places_small, answer_read}
 use Rattle.msp_total.proofs.uniform.schedule_by_multipliers.Goals as goal
 
 pub places_of-requires-clause-jobs : goal.places_of-requires-clause-jobs
@@ -36,3 +36,6 @@ returns-clause-best c = record { best = (answer_read c.args.inst.now (IsUniformI
 
 pub returns-clause-bounds : goal.returns-clause-bounds
 returns-clause-bounds c = (answer_read c.args.inst.now (IsUniformInstance-from_class c.args.inst.now c.requires.class c.requires.inner) _ _ c.as_slice-speeds.ensures c.multiple_of_all-unit.ensures.common c.multiple_of_all-unit.ensures.small c.in_ok-jobs.jobs.items _ c.in_ok-jobs.ensures c.as_slice.ensures.value c.in_ok-steps.steps.items _ c.in_ok-steps.ensures c.as_slice-2.ensures.value c.in_ok-places.places.items _ c.in_ok-places.ensures c.as_slice-3.ensures.value _ _ (to_z-of_z w128 _ (search rules) ∙ c.from.ensures) c.in_ok-pieces.ensures).answer
+
+pub returns-clause-order : goal.returns-clause-order
+returns-clause-order c = (answer_read c.args.inst.now (IsUniformInstance-from_class c.args.inst.now c.requires.class c.requires.inner) _ _ c.as_slice-speeds.ensures c.multiple_of_all-unit.ensures.common c.multiple_of_all-unit.ensures.small c.in_ok-jobs.jobs.items _ c.in_ok-jobs.ensures c.as_slice.ensures.value c.in_ok-steps.steps.items _ c.in_ok-steps.ensures c.as_slice-2.ensures.value c.in_ok-places.places.items _ c.in_ok-places.ensures c.as_slice-3.ensures.value _ _ (to_z-of_z w128 _ (search rules) ∙ c.from.ensures) c.in_ok-pieces.ensures).order
