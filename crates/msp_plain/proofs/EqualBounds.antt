@@ -23,7 +23,7 @@ use Rattle.msp_route.specs.Bounds.{EndsBy, IsBounded, KeepsBounds, greatest_unit
 use Rattle.msp_route.specs.declared.bounds.TheConstants.{GREATEST_CLOSED_UP}
 use Rattle.msp_plain.specs.Equal.{moved, led_to_unit, closed, closed_up}
 use Rattle.msp_route.specs.Rates.{by_common_time}
-use Rattle.msp_plain.specs.EqualLaws.{led_is, leads_54, reordered_54, early_54}
+use Rattle.msp_plain.specs.laws.EqualTimes.{led_is, leads_54, reordered_54, early_54}
 use Rattle.msp_schedule.specs.Busy.{busy_moment}
 
 -- no kind has a greater unit than the greatest

@@ -9,7 +9,7 @@ use Rattle.msp_class.proofs.IntegerRing.{natural_some}
 use Rattle.msp_instance.specs.Conditions.{LiesWithin}
 use Rattle.msp_instance.specs.declared.Job.{Job}
 use Rattle.msp_schedule.specs.declared.Piece.{Piece}
-use Rattle.msp_plain.specs.Raised.{IsInTime}
+use Rattle.msp_plain.specs.Threshold.{IsInTime}
 use Rattle.msp_plain.specs.Threshold.{greatest_threshold}
 use Rattle.msp_schedule.specs.Within.{IsUnit}
 use Rattle.msp_schedule.proofs.Small.{product_within}

@@ -2,3 +2,4 @@ mod InTime
 mod Sweeps
 mod Closed
 mod EqualBounds
+pub mod Small

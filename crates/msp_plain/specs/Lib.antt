@@ -1,10 +1,4 @@
 pub mod Changes
-pub mod Threshold
-pub mod Names
-pub mod Curves
 pub mod Equal
-pub mod EqualLaws
-pub mod Lengths
-pub mod Raised
-pub mod Examples
-pub mod EqualExamples
+pub mod Threshold
+pub mod laws

@@ -3,7 +3,7 @@ ghost use Rattle.std.specs.Prelude.{refl};
 ghost use Rattle.msp_route.specs.Changes.{led};
 ghost use Rattle.msp_route.specs.Rates.{rate_of};
 ghost use Rattle.msp_route.proofs.Alike.{IsPositive-same, IsForth-alike, IsBack-alike};
-ghost use Rattle.msp_plain.specs.Names.{alike_8, alike_10, alike_11, alike_12, alike_13, alike_14};
+ghost use Rattle.msp_plain.specs.laws.Names.{alike_8, alike_10, alike_11, alike_12, alike_13, alike_14};
 
 use msp_class::NoMemory;
 use msp_instance::Instance;

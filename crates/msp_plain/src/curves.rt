@@ -5,7 +5,7 @@ ghost use Rattle.msp_route.specs.Rates.{rate_of};
 ghost use Rattle.msp_plain.specs.Changes.{by_curve, led_by_curves};
 ghost use Rattle.msp_route.proofs.Alike.{IsPositive-same, IsForth-alike, IsBack-alike};
 ghost use Rattle.msp_route.specs.Sizes.{greatest_row_date};
-ghost use Rattle.msp_plain.specs.Curves.{alike_9};
+ghost use Rattle.msp_plain.specs.laws.Curves.{alike_9};
 
 use msp_class::{List, NoMemory};
 use msp_instance::{Curve, Instance, Job};

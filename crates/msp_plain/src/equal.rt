@@ -8,7 +8,7 @@ ghost use Rattle.msp_route.specs.declared.bounds.TheConstants.{GREATEST_CLOSED_U
 ghost use Rattle.msp_schedule.specs.Settled.{IsReportedFirst};
 ghost use Rattle.msp_plain.specs.Equal.{unit_need, unit_job, led_to_unit, over_time, moved, closed, closed_up};
 ghost use Rattle.msp_route.specs.Rates.{rate_of};
-ghost use Rattle.msp_plain.specs.EqualLaws.{lower_54, positive_54, forth_54, back_54};
+ghost use Rattle.msp_plain.specs.laws.EqualTimes.{lower_54, positive_54, forth_54, back_54};
 
 use msp_class::{List, NoMemory};
 use msp_instance::{Instance, Job, Need, common_time};

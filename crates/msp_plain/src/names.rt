@@ -3,7 +3,7 @@ ghost use Rattle.std.specs.Prelude.{refl};
 ghost use Rattle.msp_route.specs.Changes.{led};
 ghost use Rattle.msp_route.specs.Rates.{rate_of};
 ghost use Rattle.msp_route.proofs.Alike.{IsPositive-same, IsForth-alike, IsBack-alike};
-ghost use Rattle.msp_plain.specs.Names.{alike_1, alike_2, alike_3, alike_4, alike_5, alike_6, alike_7, alike_53};
+ghost use Rattle.msp_plain.specs.laws.Names.{alike_1, alike_2, alike_3, alike_4, alike_5, alike_6, alike_7, alike_53};
 
 use msp_class::NoMemory;
 use msp_instance::Instance;

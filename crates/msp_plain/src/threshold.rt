@@ -6,8 +6,7 @@ ghost use Rattle.msp_instance.specs.Conditions.{Inner, LiesWithin, inner_limits}
 ghost use Rattle.msp_schedule.specs.Feasible.{Feasible};
 ghost use Rattle.msp_schedule.specs.Within.{Within, IsUnit};
 ghost use Rattle.msp_plain.specs.Changes.{raised, shift_of};
-ghost use Rattle.msp_plain.specs.Raised.{IsInTime};
-ghost use Rattle.msp_plain.specs.Threshold.{IsThresholdSum, Meets, ThresholdLaw, greatest_threshold};
+ghost use Rattle.msp_plain.specs.Threshold.{IsThresholdSum, IsInTime, Meets, ThresholdLaw, greatest_threshold};
 ghost use Rattle.msp_route.specs.Sizes.{greatest_row_date};
 
 use msp_class::{Class, Crit, List, NoMemory};

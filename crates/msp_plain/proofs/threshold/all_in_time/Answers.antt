@@ -2,7 +2,7 @@
 use Rattle.std.proofs.Common.{rules, ◌<◌, ◌≤◌, length, All, subst, refl}
 use Rattle.std.specs.Int.{w64, w128}
 use Rattle.std.proofs.lemmas.Int.{to_z-of_z}
-use Rattle.msp_plain.specs.Raised.{IsInTime}
+use Rattle.msp_plain.specs.Threshold.{IsInTime}
 use Rattle.msp_plain.proofs.InTime.{one_more, all_of, in_time_again}
 use Rattle.msp_plain.proofs.threshold.all_in_time.Goals as goal
 

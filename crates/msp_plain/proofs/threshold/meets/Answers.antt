@@ -4,8 +4,9 @@ use Rattle.std.specs.Int.{w64}
 use Rattle.std.proofs.lemmas.Int.{to_z-of_z}
 use Rattle.std.specs.Prelude.{◌↔◌}
 use Rattle.msp_instance.specs.Conditions.{LiesWithin}
-use Rattle.msp_plain.specs.Curves.{dates_within}
-use Rattle.msp_plain.specs.Raised.{IsInTime, meets_pieces}
+use Rattle.msp_plain.specs.laws.Curves.{dates_within}
+use Rattle.msp_plain.specs.laws.Raised.{meets_pieces}
+use Rattle.msp_plain.specs.Threshold.{IsInTime}
 use Rattle.msp_plain.specs.Threshold.{Meets}
 use Rattle.msp_plain.proofs.threshold.meets.Goals as goal
 use Rattle.msp_route.specs.Sizes.{greatest_row_date}

@@ -5,8 +5,8 @@ use Rattle.std.specs.Int.{w64}
 use Rattle.std.proofs.lemmas.Int.{to_z-of_z}
 use Rattle.msp_class.specs.Env.{kind_of}
 use Rattle.msp_instance.specs.Conditions.{LiesWithin, Inner}
-use Rattle.msp_plain.specs.Curves.{date_fits}
-use Rattle.msp_plain.specs.Raised.{Inner-shifted}
+use Rattle.msp_plain.specs.laws.Curves.{date_fits}
+use Rattle.msp_plain.specs.laws.Raised.{Inner-shifted}
 use Rattle.msp_plain.proofs.threshold.shifted.Goals as goal
 use Rattle.msp_route.specs.Sizes.{greatest_row_date}
 

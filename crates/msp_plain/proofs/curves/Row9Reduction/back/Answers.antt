@@ -1,7 +1,7 @@
 -- The lower schedule serves.
 use Rattle.std.proofs.Common.{refl}
 use Rattle.msp_route.proofs.Alike.{brought}
-use Rattle.msp_plain.specs.Curves.{alike_9}
+use Rattle.msp_plain.specs.laws.Curves.{alike_9}
 use Rattle.msp_plain.proofs.curves.Row9Reduction.back.Goals as goal
 
 pub returns : goal.returns

@@ -1,7 +1,7 @@
 -- The due dates fit their type with either sign.
 use Rattle.std.proofs.Common.{All, sym, ap, subst, ◌∙◌}
 use Rattle.msp_instance.specs.Conditions.{LiesWithin}
-use Rattle.msp_plain.specs.Curves.{dates_fit}
+use Rattle.msp_plain.specs.laws.Curves.{dates_fit}
 use Rattle.msp_plain.proofs.curves.Row9Reduction.down.Goals as goal
 use Rattle.msp_route.specs.Sizes.{greatest_row_date}
 

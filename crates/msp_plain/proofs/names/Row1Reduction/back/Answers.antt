@@ -1,7 +1,7 @@
 -- The lower schedule serves.
 use Rattle.std.proofs.Common.{refl}
 use Rattle.msp_route.proofs.Alike.{brought}
-use Rattle.msp_plain.specs.Names.{alike_1}
+use Rattle.msp_plain.specs.laws.Names.{alike_1}
 use Rattle.msp_plain.proofs.names.Row1Reduction.back.Goals as goal
 
 pub returns : goal.returns

@@ -1,4 +1,4 @@
--- The rows that change the class alone: the instances at both ends have the same schedules at the same costs. No public contract cites this file.
+-- The rows that change the class alone: the instances at both ends have the same schedules at the same costs.
 use Rattle.std.proofs.Common.{◌≡◌, ℕ, ◌<◌, ◌≤◌, true, false, List, length, All, Any, ℤ, pos, ◌-ℤ◌, ◌*ℤ◌, ◌≤ℤ◌, Some, refl, sym, ap, subst, ◌∙◌, arith}
 use Rattle.std.specs.Int.{int_max}
 use Rattle.std.proofs.lemmas.Bool.{eqb-true}

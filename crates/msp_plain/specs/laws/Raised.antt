@@ -1,6 +1,6 @@
--- Raised due dates: the instance is an inner one, and the law of the threshold rows. No public contract cites this file.
-use Rattle.std.proofs.Common.{◌≡◌, ℕ, ◌*◌, ◌<◌, ◌≤◌, Bool, true, false, List, length, get_or, map, All, inl, inr, ℤ, pos, ◌+ℤ◌, ◌-ℤ◌, ◌*ℤ◌, ◌≤ℤ◌, if◌then◌else◌, refl, sym, ap, subst, subst₂, ◌∙◌, arith}
-use Rattle.std.specs.Prelude.{int_lt, ◌↔◌, slice_index_or, nat_abs}
+-- Raised due dates: the instance is an inner one, and the law of the threshold rows.
+use Rattle.std.proofs.Common.{◌≡◌, ℕ, ◌*◌, ◌<◌, ◌≤◌, Bool, true, false, length, get_or, map, All, inl, inr, ℤ, pos, ◌+ℤ◌, ◌-ℤ◌, ◌*ℤ◌, ◌≤ℤ◌, if◌then◌else◌, refl, sym, ap, subst, subst₂, ◌∙◌, arith}
+use Rattle.std.specs.Prelude.{int_lt, ◌↔◌, nat_abs}
 use Rattle.std.specs.Int.{int_max}
 use Rattle.std.proofs.lemmas.Int.{ints}
 use Rattle.std.proofs.lemmas.List.{length-map}
@@ -15,9 +15,8 @@ use Rattle.msp_class.proofs.Sums.{total_below-term, total_below-none, int_total_
 use Rattle.msp_instance.specs.declared.ranges.TheConstants.{GREATEST}
 use Rattle.msp_instance.specs.declared.Job.{Job}
 use Rattle.msp_instance.specs.declared.Instance.{Instance}
-use Rattle.msp_instance.specs.Instance.{no_job, job_at}
+use Rattle.msp_instance.specs.Instance.{job_at}
 use Rattle.msp_instance.specs.Conditions.{IsJobOf, HasSameTimes, HasDue, HasWeight, HasCurve, LiesWithin, Inner, inner_limits, inner_factor}
-use Rattle.msp_schedule.specs.declared.Piece.{Piece}
 use Rattle.msp_schedule.specs.declared.Schedule.{Schedule}
 use Rattle.msp_schedule.specs.Feasible.{Feasible}
 use Rattle.msp_schedule.specs.Cost.{end_of, job_cost, cost_of}
@@ -26,7 +25,7 @@ use Rattle.msp_schedule.proofs.LastEnds.{last_end-bound, last_end-reached}
 use Rattle.msp_schedule.proofs.Charges.{charge_of, cost_of-sum, cost_of-bound, cost_of-least}
 use Rattle.msp_schedule.proofs.Serves.{SameWork, SameWork-sym, SameNeeds-from_map, SameWork-from_map, IsShaped-same, Feasible-same}
 use Rattle.msp_plain.specs.Changes.{raised, shift_of}
-use Rattle.msp_plain.specs.Threshold.{IsThresholdSum, IsThreshold, Meets}
+use Rattle.msp_plain.specs.Threshold.{IsThresholdSum, IsThreshold, Meets, IsInTime}
 use Rattle.msp_route.proofs.InnerChanges.{common_time-map, Inner-changed}
 
 -- what both sums have in common with the greatest lateness
@@ -63,10 +62,6 @@ shift_work : (i : Instance) (bound : ℤ) (crit : Crit) → SameWork i (shift_of
 shift_work i bound crit = let j = shift_of bound crit i in SameWork-from_map i j (raised bound) (SameNeeds-from_map i j (raised bound) refl refl refl refl refl (λ a. refl)) refl (λ a. refl) refl
 
 -- ---- the bound, job by job
--- the piece ends no later than its job's due date and the bound together
-abbrev pub IsInTime : List Job → ℤ → ℤ → Piece → Type 0
-IsInTime jobs unit bound p = p.to ≤ℤ (unit *ℤ ((slice_index_or jobs p.job no_job).due +ℤ bound))
-
 abbrev in_time : Instance → ℤ → Schedule → ℕ → Type 0
 in_time i bound s k = end_of s k ≤ℤ (s.unit *ℤ ((job_at i k).due +ℤ bound))
 

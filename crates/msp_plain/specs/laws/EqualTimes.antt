@@ -1,4 +1,4 @@
--- The row from equal times to unit times: both instances have the same schedules on another scale. No public contract cites this file.
+-- The row from equal times to unit times: both instances have the same schedules on another scale.
 use Rattle.std.proofs.Common.{◌≡◌, ℕ, ◌+◌, ◌*◌, ◌<◌, ◌≤◌, ◌⊎◌, Bool, true, false, List, length, get_or, map, inl, inr, ℤ, pos, nat_abs, ◌+ℤ◌, ◌-ℤ◌, ◌*ℤ◌, ◌≤ℤ◌, Some, unwrap_or, refl, sym, ap, subst, ◌∙◌, arith, ◌^◌}
 use Rattle.std.specs.Prelude.{◌||◌}
 use Rattle.std.proofs.lemmas.Bool.{eqb-true}
@@ -39,7 +39,7 @@ use Rattle.msp_route.proofs.InnerChanges.{changed, Inner-changed}
 use Rattle.msp_route.proofs.Applied.{part_and_condition}
 use Rattle.msp_plain.specs.Equal.{unit_need, unit_job, led_to_unit, over_time, closed, closed_up}
 use Rattle.msp_route.specs.Rates.{by_common_time}
-use Rattle.msp_plain.specs.Lengths.{lengths_of_units}
+use Rattle.msp_plain.specs.laws.Lengths.{lengths_of_units}
 
 -- ---- where the row applies
 one_true : (a b c : Bool) → (a || b || c) ≡ true → (a ≡ true) ⊎ ((b ≡ true) ⊎ (c ≡ true))

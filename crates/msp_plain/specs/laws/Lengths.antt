@@ -1,4 +1,4 @@
--- How long all pieces are together where all times are 1, and how late a schedule of them ends without its idle stretches. No public contract cites this file.
+-- How long all pieces are together where all times are 1, and how late a schedule of them ends without its idle stretches.
 use Rattle.std.proofs.Common.{◌≡◌, ℕ, ◌*◌, ◌<◌, ◌≤◌, Bool, true, false, cond, eqb, List, [], ◌∷◌, length, get_or, map, filter, All, ℤ, pos, negsuc, nat_abs, ◌+ℤ◌, ◌*ℤ◌, ◌≤ℤ◌, sum_by, refl, sym, ap, ap₂, subst, ◌∙◌, arith}
 use Rattle.std.specs.Prelude.{◌==◌, ◌&&◌}
 use Rattle.std.proofs.lemmas.Int.{ints}
