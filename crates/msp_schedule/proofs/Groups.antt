@@ -1,5 +1,5 @@
 -- The law of groups, and what it says of one job and of all jobs: a job runs on one machine at a time, so few jobs do not use more machines than they are.
-use Rattle.std.proofs.Common.{◌≡◌, ℕ, ◌+◌, ◌*◌, ◌<◌, ◌≤◌, ◌⊎◌, inl, inr, min, Bool, true, false, cond, eqb, leb, length, filter, pos, nat_abs, ◌*ℤ◌, ◌-ℤ◌, ◌≤ℤ◌, AllPairs, refl, sym, ap, subst, ◌∙◌, arith}
+use Rattle.std.proofs.Common.{◌≡◌, ℕ, ◌+◌, ◌*◌, ◌<◌, ◌≤◌, ◌⊎◌, inl, inr, min, Bool, true, false, cond, eqb, leb, length, filter, pos, nat_abs, ◌*ℤ◌, ◌-ℤ◌, ◌≤ℤ◌, All, AllPairs, refl, sym, ap, subst, subst₂, ◌∙◌, arith}
 use Rattle.std.proofs.lemmas.Int.{ints}
 use Rattle.std.proofs.Math.Nat.{mul-le-mul_left}
 use Rattle.msp_class.specs.declared.environments.EnvKind.TheVariants.{Identical}
@@ -14,10 +14,30 @@ use Rattle.msp_schedule.specs.Cost.{end_of}
 use Rattle.msp_schedule.specs.Laws.{time_together, HasRoom, EndsLast, jobs_together, HasTimeFor, LawOfGroups}
 use Rattle.msp_schedule.specs.Intervals.{IsApartOn}
 use Rattle.msp_schedule.proofs.Intervals.{apart_on_each, packed, last_of, greatest_by-bound, greatest_below, greatest_below-bound, greatest_below-reached}
-use Rattle.msp_schedule.specs.Piece.{job_of, start, finish}
+use Rattle.msp_schedule.specs.Piece.{job_of, start, finish, IsTimed}
 use Rattle.msp_schedule.proofs.OneMachine.{apart_in_nat, timed_pieces, full_work, last_end-is}
 use Rattle.msp_schedule.specs.Rows.{time_at}
 use Rattle.msp_schedule.proofs.EndsAndFloors.{law_of_ends}
+
+-- where a job passes a test, one that does ends last
+pub ends_last : (i : Instance) (s : Schedule) → All IsTimed s.pieces → (test : ℕ → Bool) (j : ℕ) → j < length i.jobs → test j ≡ true → (k : ℕ) × EndsLast i s test k
+ends_last i s timed test j l p =
+    let (k, m, e) = greatest_below-reached (length i.jobs) after (omega (arith, l)) in
+    let (t, z) = passed (test k) (ended k) (greatest_below (length i.jobs) after) e some in
+    (k, record { inside = m; passes = t; latest = λ x b q. subst₂ (λ y w. y ≤ℤ w) (sym (last_end-is s.pieces x timed)) (sym (last_end-is s.pieces k timed)) (pos-le (omega (arith, z, greatest_below-bound (length i.jobs) after x b, cond-yes (ended x + 1) q))) })
+  where
+    ended : ℕ → ℕ
+    ended x = last_of job_of finish s.pieces x
+
+    after : ℕ → ℕ
+    after x = cond (test x) (ended x + 1) 0
+
+    some : 1 ≤ greatest_below (length i.jobs) after
+    some = omega (arith, greatest_below-bound (length i.jobs) after j l, cond-yes (ended j + 1) p)
+
+    passed : (b : Bool) (z g : ℕ) → cond b (z + 1) 0 ≡ g → 1 ≤ g → (b ≡ true) × (z + 1 ≡ g)
+    passed true z g e h = (refl, e)
+    passed false z g e h = absurd (omega (arith, e, h))
 
 module _ (i : Instance) (kind : kind_of i.class.env ≡ Identical) (s : Schedule) (f : Feasible i s) where
   abbrev unit : ℕ
@@ -89,23 +109,10 @@ module _ (i : Instance) (kind : kind_of i.class.env ≡ Identical) (s : Schedule
   has_time : (test : ℕ → Bool) (c : ℕ) → ((j : ℕ) → j < length i.jobs → test j ≡ true → end_of s j ≤ℤ pos c) → HasTimeFor i s test (pos c)
   has_time test c ends = subst (λ x. (x *ℤ pos (time_together i test)) ≤ℤ (pos (min (jobs_together i test) i.machines) *ℤ pos c)) (sym unit_is) (pos-le (group_is_over test c ends))
 
-  -- where a job passes the test, one that does ends last
   has_last : (test : ℕ → Bool) (j : ℕ) → j < length i.jobs → test j ≡ true → (k : ℕ) × EndsLast i s test k × HasTimeFor i s test (end_of s k)
   has_last test j l p =
-      let (k, m, e) = greatest_below-reached (length i.jobs) after (omega (arith, l)) in
-      let (t, z) = passed (test k) (ended k) (greatest_below (length i.jobs) after) e some in
-      let latest : (x : ℕ) → x < length i.jobs → test x ≡ true → end_of s x ≤ℤ pos (ended k) = λ x b q. subst (λ y. y ≤ℤ pos (ended k)) (sym (end_is x)) (pos-le (omega (arith, z, greatest_below-bound (length i.jobs) after x b, cond-yes (ended x + 1) q))) in
-      (k, record { inside = m; passes = t; latest = λ x b q. subst (λ y. end_of s x ≤ℤ y) (sym (end_is k)) (latest x b q) }, subst (HasTimeFor i s test) (sym (end_is k)) (has_time test (ended k) latest))
-    where
-      after : ℕ → ℕ
-      after x = cond (test x) (ended x + 1) 0
-
-      some : 1 ≤ greatest_below (length i.jobs) after
-      some = omega (arith, greatest_below-bound (length i.jobs) after j l, cond-yes (ended j + 1) p)
-
-      passed : (b : Bool) (z g : ℕ) → cond b (z + 1) 0 ≡ g → 1 ≤ g → (b ≡ true) × (z + 1 ≡ g)
-      passed true z g e h = (refl, e)
-      passed false z g e h = absurd (omega (arith, e, h))
+      let (k, last) = ends_last i s (timed_pieces i kind s f) test j l p in
+      (k, last, subst (HasTimeFor i s test) (sym (end_is k)) (has_time test (ended k) (λ x b q. subst (λ y. end_of s x ≤ℤ y) (end_is k) (last.latest x b q))))
 
   -- ---- one job, and all jobs
   module _ (c : ℕ) (ends : (j : ℕ) → j < length i.jobs → end_of s j ≤ℤ pos c) where

@@ -34,6 +34,7 @@ pub mod Places
 pub mod OnceEach
 pub mod Loads
 pub mod Groups
+pub mod SpeedBound
 pub mod Makespan
 pub mod Parts
 pub mod LateJobs

@@ -16,6 +16,7 @@ pub mod Prices
 pub mod Levels
 pub mod Loads
 pub mod Blocks
+pub mod Speeds
 pub mod Intervals
 pub mod Rows
 pub mod LineUp

@@ -5,6 +5,7 @@ ghost use Rattle.msp_schedule.specs.Levels.{LawOfLevels};
 ghost use Rattle.msp_schedule.specs.Limits.{AreLimits};
 ghost use Rattle.msp_schedule.specs.Loads.{LawOfLines, LawOfMachines};
 ghost use Rattle.msp_schedule.specs.Prices.{LawOfPrices};
+ghost use Rattle.msp_schedule.specs.Speeds.{LawOfSpeeds};
 
 /// Jobs that do not begin before a moment end only when all machines together have had the time for them.
 pub fn law_of_ends()
@@ -14,6 +15,12 @@ pub fn law_of_ends()
 /// Jobs end only when as many machines as they can use have had the time for them.
 pub fn law_of_groups()
     ensures { LawOfGroups }
+{}
+
+/// Jobs on machines with speeds end only when the machines have had the time for them: below a threshold of speed each job is on one
+/// machine at a time, and above it each machine is on one job.
+pub fn law_of_speeds()
+    ensures { LawOfSpeeds }
 {}
 
 /// Jobs of one unit of time may begin at multiples of the unit, and no job ends later.
