@@ -51,3 +51,4 @@ pub mod Positions
 pub mod SolePieces
 pub mod PriceBounds
 pub mod Certified
+pub mod OneBreak

@@ -116,3 +116,8 @@ pub record IsFirstBreak (i : Instance) (s : Schedule) (b : Break) : Type 0 where
 abbrev pub IsDecision : Instance → Schedule → Option Break → Type 0
 IsDecision i s None = Feasible i s
 IsDecision i s (Some b) = IsFirstBreak i s b
+
+-- The law of the first break: a schedule has at most one, and no feasible schedule has one.
+pub record LawOfFirstBreak : Type 0 where
+  pub one : (i : Instance) (s : Schedule) (b c : Break) → IsFirstBreak i s b → IsFirstBreak i s c → b ≡ c
+  pub none : (i : Instance) (s : Schedule) (b : Break) → Feasible i s → ¬ IsFirstBreak i s b

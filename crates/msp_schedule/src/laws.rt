@@ -1,5 +1,6 @@
 // Laws of feasible schedules, on which solvers stand.
 ghost use Rattle.msp_schedule.specs.Blocks.{LawOfBlocks};
+ghost use Rattle.msp_schedule.specs.Breaks.{LawOfFirstBreak};
 ghost use Rattle.msp_schedule.specs.Laws.{LawOfEnds, LawOfFloors, LawOfGroups};
 ghost use Rattle.msp_schedule.specs.Levels.{LawOfLevels};
 ghost use Rattle.msp_schedule.specs.Limits.{AreLimits};
@@ -57,4 +58,9 @@ pub fn law_of_blocks()
 /// The limits of schedules are these numbers.
 pub fn law_of_limits()
     ensures { AreLimits }
+{}
+
+/// The first break of a schedule is determined.
+pub fn law_of_first_break()
+    ensures { LawOfFirstBreak }
 {}
