@@ -85,10 +85,10 @@ module _ (i : Instance) (s : Schedule) where
   routed_by FlowShop e place h = λ k d l m b n same less. h (inl e) (get_or s.pieces m b).job (get_or s.pieces m b).op (place m b n).job k d l m b n same refl less refl
   routed_by JobShop e place h = λ k d l m b n same less. h (inr e) (get_or s.pieces m b).job (get_or s.pieces m b).op (place m b n).job k d l m b n same refl less refl
 
-  pub feasible_if_kept : Within i s → KeepsUpTo 8 i s → Feasible i s
-  feasible_if_kept w h = record {
-    unit = w.unit.0;
-    span = λ k d l. ((w.moments k d l).0.0, h.span (omega arith) k d l);
+  pub feasible_when_kept : pos 1 ≤ℤ s.unit → All (λ p. pos 0 ≤ℤ p.from) s.pieces → KeepsUpTo 8 i s → Feasible i s
+  feasible_when_kept unit natural h = record {
+    unit = unit;
+    span = λ k d l. (natural k d l, h.span (omega arith) k d l);
     place = h.place (omega arith);
     machine = h.machine (omega arith);
     job = h.job (omega arith);
@@ -97,6 +97,9 @@ module _ (i : Instance) (s : Schedule) where
     route = routed_by (kind_of i.class.env) refl (h.place (omega arith)) (h.route (omega arith));
     work = h.work (omega arith);
   }
+
+  pub feasible_if_kept : Within i s → KeepsUpTo 8 i s → Feasible i s
+  feasible_if_kept w h = feasible_when_kept w.unit.0 (λ k d l. (w.moments k d l).0.0) h
 
   -- a feasible schedule keeps them all
   routes_by : (k : EnvKind) → FollowsRoute k s.pieces → (k ≡ FlowShop) ⊎ (k ≡ JobShop) → (j o : ℕ) → KeepsRoute s.pieces j o
@@ -123,9 +126,12 @@ module _ (i : Instance) (s : Schedule) where
     work = λ t. f.work;
   }
 
+  pub not_feasible : ((b : Break) × IsFirstBreak i s b) → ¬ Feasible i s
+  not_feasible (b, h) f = not_broken (suc (turn_of b)) (kept_if_feasible (suc (turn_of b)) f) b (omega arith) h.broken
+
   pub decided : (result : Option Break) → IsDecision i s result → IsNone result ↔ Feasible i s
   decided None h = (λ e. h, λ f. refl)
-  decided (Some b) h = (λ e. absurd (cc), λ f. absurd (not_broken (suc (turn_of b)) (kept_if_feasible (suc (turn_of b)) f) b (omega arith) h.broken))
+  decided (Some b) h = (λ e. absurd (cc), λ f. absurd (not_feasible (b, h) f))
 
   pub named : (result : Option Break) → IsDecision i s result → IfSome result (IsFirstBreak i s)
   named None h = tt

@@ -52,3 +52,4 @@ pub mod SolePieces
 pub mod PriceBounds
 pub mod Certified
 pub mod OneBreak
+pub mod SomeBreak

@@ -1,5 +1,5 @@
 -- The first condition of a feasible schedule that a schedule breaks, and where.
-use Rattle.std.specs.Prelude.{◌≡◌, ℕ, ◌<◌, ◌≤◌, ◌⊎◌, List, length, ℤ, pos, ◌*ℤ◌, ◌≤ℤ◌, ◌<ℤ◌, slice_index_or, filter, ◌==◌, ◌&&◌, Option, Some, None, All}
+use Rattle.std.specs.Prelude.{◌≡◌, ℕ, ◌<◌, ◌≤◌, ◌⊎◌, ◌↔◌, List, length, ℤ, pos, ◌*ℤ◌, ◌≤ℤ◌, ◌<ℤ◌, slice_index_or, filter, ◌==◌, ◌&&◌, Option, Some, None, All}
 use Rattle.msp_class.specs.declared.environments.EnvKind.TheVariants.{FlowShop, JobShop}
 use Rattle.msp_class.specs.Env.{kind_of}
 use Rattle.msp_instance.specs.declared.Arc.{Arc as ArcValue}
@@ -117,7 +117,9 @@ abbrev pub IsDecision : Instance → Schedule → Option Break → Type 0
 IsDecision i s None = Feasible i s
 IsDecision i s (Some b) = IsFirstBreak i s b
 
--- The law of the first break: a schedule has at most one, and no feasible schedule has one.
+-- The law of the first break.
 pub record LawOfFirstBreak : Type 0 where
+  -- a schedule has at most one
   pub one : (i : Instance) (s : Schedule) (b c : Break) → IsFirstBreak i s b → IsFirstBreak i s c → b ≡ c
-  pub none : (i : Instance) (s : Schedule) (b : Break) → Feasible i s → ¬ IsFirstBreak i s b
+  -- where its unit is at least 1 and no moment is below 0, it has one exactly where it is not feasible
+  pub some : (i : Instance) (s : Schedule) → pos 1 ≤ℤ s.unit → All (λ p. pos 0 ≤ℤ p.from) s.pieces → ((b : Break) × IsFirstBreak i s b) ↔ (¬ Feasible i s)
