@@ -1,5 +1,5 @@
 -- A schedule over a unit of at least 1, without moments below 0, is feasible or has a first break.
-use Rattle.std.proofs.Common.{◌≡◌, ◌≢◌, ℕ, zero, suc, ◌+◌, ◌<◌, ◌≤◌, ◌⊎◌, inl, inr, Bool, true, false, List, [], ◌∷◌, length, get_or, map, All, AllPairs, ℤ, pos, ◌*ℤ◌, ◌≤ℤ◌, ◌<ℤ◌, MatchBool, Option, Some, None, refl, sym, ap, subst, arith}
+use Rattle.std.proofs.Common.{◌≡◌, ℕ, zero, suc, ◌+◌, ◌<◌, ◌≤◌, ◌⊎◌, inl, inr, Bool, true, false, List, [], ◌∷◌, length, get_or, map, All, AllPairs, ℤ, pos, ◌*ℤ◌, ◌≤ℤ◌, ◌<ℤ◌, MatchBool, Option, Some, None, refl, sym, ap, subst, arith}
 use Rattle.std.specs.Prelude.{slice_index_or}
 use Rattle.std.proofs.lemmas.Int.{ints}
 use Rattle.std.proofs.lemmas.Bool.{cases_lt}
@@ -16,7 +16,7 @@ use Rattle.msp_schedule.specs.declared.Piece.{Piece}
 use Rattle.msp_schedule.specs.declared.Schedule.{Schedule}
 use Rattle.msp_schedule.specs.declared.breaks.Break.{Break}
 use Rattle.msp_schedule.specs.declared.breaks.Break.TheVariants.{Span, Place, Machine, Job, Release, Arc, Route, Work}
-use Rattle.msp_schedule.specs.Piece.{length_of, pieces_of, IsBefore, IsApart}
+use Rattle.msp_schedule.specs.Piece.{length_of, pieces_of, IsApart}
 use Rattle.msp_schedule.specs.Feasible.{Feasible, HasOperation, MayRun, HasPlace, GetsWork, IsWholeWork, total, work_of, whole_work}
 use Rattle.msp_schedule.specs.Breaks.{no_piece, piece_at, no_arc, arc_at, IsLeast, IsLeastOperation, IsEmpty, IsEarly, StandsAhead, Overlaps, IsFirstOverlap, KeepsArc, KeepsRoute, HasRoutes, LacksWork, IsBroken, turn_of, IsFirstBreak, IsDecision}
 use Rattle.msp_schedule.specs.Lanes.{Precedes, IsFirstOverlapBelow}
