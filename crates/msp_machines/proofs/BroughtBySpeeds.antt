@@ -1,5 +1,6 @@
 -- What is brought back from unrelated machines to uniform ones.
-use Rattle.std.proofs.Common.{◌≡◌, ℕ, ◌≤◌, Bool, true, false, ℤ, pos, negsuc, ◌+ℤ◌, ◌*ℤ◌, ◌≤ℤ◌, ◌<ℤ◌, sym, ap, subst, ◌∙◌, arith}
+use Rattle.std.proofs.Common.{◌≡◌, ℕ, ◌≤◌, false, ℤ, pos, negsuc, ◌*ℤ◌, ◌≤ℤ◌, ◌<ℤ◌, sym, ap, subst, ◌∙◌, arith}
+use Rattle.std.proofs.lemmas.Bool.{false≢true}
 use Rattle.std.proofs.lemmas.Int.{ints}
 use Rattle.std.proofs.lemmas.Nat.{mul-le}
 use Rattle.std.proofs.lemmas.List.Sorted.{IsPermutation-refl}
@@ -66,12 +67,9 @@ module _ {row : ℕ} {i j : Instance} (h : IsLedBySpeeds row i j) (t : Schedule)
   feasible_after = (h.back t f).0
 
   KeepsBounds-after : MultipliesUnit row → KeepsBounds row i j t after
-  KeepsBounds-after m = KeepsBounds-unraised row i j t after m.moments m.dates (λ kept. absurd (differs (keeps_schedule row) m.changes kept)) (λ kept. absurd (differs (keeps_size row) m.grows kept)) (omega arith)
+  KeepsBounds-after m = KeepsBounds-unraised row i j t after m.moments m.dates (λ kept. absurd (false≢true (sym m.changes ∙ kept))) (λ kept. absurd (false≢true (sym m.grows ∙ kept))) (omega arith)
       (record { few = b.sized.few; unit = subst (λ k. (t.unit *ℤ pos (least_common_multiple i.speeds)) ≤ℤ greatest_unit k) (sym h.from) unit_is.1 })
       (λ moment e. e)
-    where
-      differs : (c : Bool) → c ≡ false → c ≡ true → ⊥
-      differs c e g = cc
 
   -- what is brought back
   abbrev IsBroughtBack : Solution → Type 0

@@ -1,7 +1,8 @@
 -- What is brought back: the lower schedule as it is, or its jobs lined up.
-use Rattle.std.proofs.Common.{◌≡◌, ℕ, Bool, true, false, List, length, AllPairs, IsPermutation, ℤ, pos, nat_abs, to_z, of_z, FitsSigned, Result, Ok, Err, IfOk, ◌+ℤ◌, ◌*ℤ◌, ◌≤ℤ◌, refl, sym, ap, ap₂, subst, ◌∙◌, arith}
+use Rattle.std.proofs.Common.{◌≡◌, ℕ, true, false, List, length, AllPairs, IsPermutation, ℤ, pos, nat_abs, to_z, of_z, FitsSigned, Result, Ok, Err, IfOk, ◌*ℤ◌, ◌≤ℤ◌, refl, sym, ap, ap₂, subst, ◌∙◌, arith}
 use Rattle.std.specs.Int.{w128}
 use Rattle.std.specs.List.{range_with_len}
+use Rattle.std.proofs.lemmas.Bool.{false≢true}
 use Rattle.std.proofs.lemmas.Int.{ints, to_z-of_z}
 use Rattle.std.proofs.lemmas.List.Sorted.{IsPermutation-refl, IsPermutation-trans}
 use Rattle.msp_class.specs.declared.class.Env.TheVariants.{One}
@@ -62,12 +63,9 @@ module _ (row : ℕ) (i j : Instance) (t upper : Schedule) (D : ℕ) (order : Li
   pub feasible_line : Feasible i (lined_up i D order)
   feasible_line = subst (Feasible i) is (law f).0
 
-  differs : (c : Bool) → c ≡ false → c ≡ true → ⊥
-  differs c e g = cc
-
   line_bounds : KeepsBounds row i j t (lined_up i D order)
   line_bounds = record {
-    same = λ kept. absurd (differs (keeps_schedule row) lines.changes kept);
+    same = λ kept. absurd (false≢true (sym lines.changes ∙ kept));
     few = omega (arith, line_length i one inner D small_unit order all, jobs_in_pieces j lower t f, count);
     unit = λ w. same_unit;
     sized = record {
@@ -75,7 +73,7 @@ module _ (row : ℕ) (i j : Instance) (t upper : Schedule) (D : ℕ) (order : Li
       unit = subst (λ e. pos D ≤ℤ greatest_unit (kind_of e)) (sym one) small_unit;
     };
     ends = λ moment e. subst (EndsBy (moment_after row moment)) is (lines.ends moment e (subst (EndsBy GREATEST_LINED_UP) (sym is) (line_ends i one inner D small_unit order all feasible_line)));
-    dates = λ trades. absurd (differs (trades_dates row) lines.plain trades);
+    dates = λ trades. absurd (false≢true (sym lines.plain ∙ trades));
   }
 
   pub brought_line : (s : Solution) → IsLinedUp i D order s → IsBrought row i j upper t s

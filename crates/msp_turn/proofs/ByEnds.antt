@@ -1,5 +1,5 @@
 -- What is brought back from uncut to cut jobs: lined up in the order of their ends, no job ends later.
-use Rattle.std.proofs.Common.{◌≡◌, ◌<◌, length, get_or, ℤ, nat_abs, refl, arith}
+use Rattle.std.proofs.Common.{◌<◌, length, get_or, ℤ, nat_abs, refl, arith}
 use Rattle.msp_class.proofs.IntegerRing.{≤ℤ_trans}
 use Rattle.msp_instance.specs.declared.Instance.{Instance}
 use Rattle.msp_instance.specs.Conditions.{Inner}

@@ -1,7 +1,7 @@
 -- What is read from its end stays within bounds.
 use Rattle.std.proofs.Common.{◌≡◌, ℕ, ◌*◌, ◌<◌, ◌≤◌, Bool, true, false, length, get_or, inr, ℤ, pos, ◌+ℤ◌, ◌-ℤ◌, ◌*ℤ◌, ◌≤ℤ◌, ◌<ℤ◌, refl, sym, ap, subst, ◌∙◌, arith}
 use Rattle.std.specs.Prelude.{◌==◌}
-use Rattle.std.proofs.lemmas.Bool.{eqb-true}
+use Rattle.std.proofs.lemmas.Bool.{false≢true, eqb-true}
 use Rattle.std.proofs.lemmas.Int.{ints}
 use Rattle.std.proofs.lemmas.Nat.{mul-le}
 use Rattle.std.proofs.lemmas.List.{length-map}
@@ -119,16 +119,13 @@ module _ {a : ℤ} {i j : Instance} (r : IsReverse a (pos 0) i j) (inner : Inner
 
   pub KeepsBounds-reversed : (row : ℕ) → IsReversed i row → KeepsBounds row i j t (reversed_for i t)
   KeepsBounds-reversed row h = record {
-    same = λ kept. absurd (differs (keeps_schedule row) h.changes kept);
+    same = λ kept. absurd (false≢true (sym h.changes ∙ kept));
     few = omega (arith, length-map t.pieces (reversed_piece (turning_moment i t)));
     unit = λ w. refl;
     sized = record { few = omega (arith, b.sized.few, length-map t.pieces (reversed_piece (turning_moment i t))); unit = unit_small };
     ends = ends_kept row h;
     dates = λ trades k d l. (((Feasible-reversed back low t f).span k d l).0, ends_charged k d l);
   }
-    where
-      differs : (c : Bool) → c ≡ false → c ≡ true → ⊥
-      differs c e g = cc
 
   pub IsReversible-back : IsReversible i t
   IsReversible-back = record {

@@ -1,7 +1,8 @@
 -- Rows that give the operations other numbers: feasible schedules go both ways, at the same costs.
-use Rattle.std.proofs.Common.{◌≡◌, ℕ, Bool, true, false, map, filter, fold, ℤ, pos, ◌+ℤ◌, ◌*ℤ◌, ◌≤ℤ◌, refl, sym, ap, subst, ◌∙◌, arith}
+use Rattle.std.proofs.Common.{◌≡◌, ℕ, false, map, filter, fold, ℤ, pos, ◌+ℤ◌, ◌*ℤ◌, ◌≤ℤ◌, refl, sym, ap, subst, ◌∙◌, arith}
 use Rattle.std.specs.Prelude.{◌==◌}
 use Rattle.std.specs.Int.{int_max}
+use Rattle.std.proofs.lemmas.Bool.{false≢true}
 use Rattle.std.proofs.lemmas.List.{length-map}
 use Rattle.std.proofs.lemmas.List.Elements.{All-map}
 use Rattle.std.proofs.lemmas.List.Sorted.{IsPermutation-refl}
@@ -69,13 +70,10 @@ module _ {row : ℕ} {i j : Instance} {forth back : Piece → ℕ} (h : Renumber
   IsSolution-renumbered s f = record { feasible = h.up s.schedule f.feasible; cost = f.cost ∙ ap (λ z. z *ℤ s.cost.den) (sym (cost_up s.schedule f.feasible)) }
 
   KeepsBounds-renumbered : (s : Schedule) → IsPlain row → IsBounded j s → KeepsBounds row i j s (numbered back s)
-  KeepsBounds-renumbered s plain b = KeepsBounds-unraised row i j s (numbered back s) plain.moments plain.dates (λ kept. absurd (differs (keeps_schedule row) plain.changes kept)) (λ w. refl)
+  KeepsBounds-renumbered s plain b = KeepsBounds-unraised row i j s (numbered back s) plain.moments plain.dates (λ kept. absurd (false≢true (sym plain.changes ∙ kept))) (λ w. refl)
       (omega (arith, length-map s.pieces (with_number back)))
       (record { few = omega (arith, b.sized.few, length-map s.pieces (with_number back)); unit = ≤ℤ_trans b.sized.unit h.units })
       (EndsBy-numbered back s)
-    where
-      differs : (c : Bool) → c ≡ false → c ≡ true → ⊥
-      differs c e g = cc
 
   pub brought_renumbered : IsPlain row → (s r : Solution) → r ≡ brought s → IsSolution j s → IsBounded j s.schedule → record {
     solution : IsSolution i r;
