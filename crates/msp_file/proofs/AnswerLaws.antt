@@ -1,5 +1,5 @@
 -- From the answer to the text: what is read is its instance, and a fault is one that a text can have.
-use Rattle.std.proofs.Common.{◌≡◌, ℕ, zero, suc, inl, inr, refl, ◌<◌, List, [], length, get_or, slice_get, Option, Some, Result, Ok, sym, subst, ◌∙◌, arith, Err}
+use Rattle.std.proofs.Common.{◌≡◌, ◌≢◌, AllPairs, ℕ, zero, suc, inl, inr, refl, ◌<◌, List, [], length, get_or, slice_get, Option, Some, Result, Ok, sym, subst, ◌∙◌, arith, Err}
 use Rattle.std.proofs.lemmas.Option.{slice_get-get_or}
 use Rattle.msp_instance.specs.declared.Instance.{Instance}
 use Rattle.msp_instance.specs.declared.membership.ClassFault.{ClassFault}
@@ -120,4 +120,8 @@ pub fault_of_front_text : (b : List ℕ) (e : FileFault) → IsFrontFaultOf b e 
 fault_of_front_text b (After at) k = front b (After at) k
 fault_of_front_text b e k = fault_by (ReadsFront b) e (front_takes b) k
 
-pub ruleset text_rules = (text_of_read, fault_of_filed)
+-- no arc stands twice in what is read
+pub once_of_read : (b : List ℕ) (f : Filed) → Reads b (Ok f) → AllPairs (λ x y. x ≢ y) f.instance.arcs
+once_of_read b f h = (whole_takes b f h).once
+
+pub ruleset text_rules = (text_of_read, fault_of_filed, once_of_read)

@@ -191,7 +191,7 @@ arc_or_end_takes may at d fields p q next t = by (may && bytes_eq (first_of fiel
         subst (TakesArc may d p) (ok_is (more_read l.0 q) next l.2) (others_of fields, line, arc_takes at d (others_of fields) l.0 l.1, parts.0)
     by false is e = let l = end_takes at d fields p q next t e in subst (TakesArc may d p) (sym l.0) (refl, l.1)
 
-arc_step_takes : (d : Draft) (p : Place) (next : LineRead Draft) → arc_step d p ≡ Ok next → TakesArc true d p next
+pub arc_step_takes : (d : Draft) (p : Place) (next : LineRead Draft) → arc_step d p ≡ Ok next → TakesArc true d p next
 unfolding arc_step
 arc_step_takes d p next e =
     let l = bind_ok (line_at p) _ next e in

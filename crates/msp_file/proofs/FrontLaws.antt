@@ -1,5 +1,5 @@
 -- What is read at the front of a text is the text of its instance, and is read again.
-use Rattle.std.proofs.Common.{◌≡◌, ℕ, ◌-◌, ◌≤◌, List, length, Ok, refl, ap, arith, length-append}
+use Rattle.std.proofs.Common.{◌≡◌, ◌≢◌, AllPairs, ℕ, ◌-◌, ◌≤◌, List, length, Ok, refl, ap, arith, length-append}
 use Rattle.msp_instance.specs.declared.Instance.{Instance}
 use Rattle.msp_instance.specs.Conditions.{InClass}
 use Rattle.msp_file.specs.declared.fault.FileFault.{FileFault}
@@ -75,4 +75,8 @@ again_front b e k i names used line h = fails_front e (filed i names) used line 
 pub front_fault_of_filed : (b : List ℕ) (f : Filed) (q : Place) (e : FileFault) → ReadsLines (start_of b) (Ok (f, q)) → IsFaultOfFiled f e → IsFrontFaultOf b e
 front_fault_of_filed b f q e h k = fault_of_filed_front b f e (front_done b f q h) k
 
-pub ruleset front_text_rules = (left_within, front_text, front_fault, front_fault_of_filed)
+-- no arc stands twice in what is read
+pub once_of_lines : (b : List ℕ) (f : Filed) (q : Place) → ReadsLines (start_of b) (Ok (f, q)) → AllPairs (λ x y. x ≢ y) f.instance.arcs
+once_of_lines b f q h = (lines_take (start_of b) (f, q) h).2.once
+
+pub ruleset front_text_rules = (left_within, front_text, front_fault, front_fault_of_filed, once_of_lines)

@@ -114,7 +114,7 @@ job_next c machines shared at d fields q =
     else arc_or_end (has_order c.order) at d fields q
 
 -- What a line after the head or after a job says.
-abbrev TakesLine : Class → ℕ → Draft → Place → LineRead Draft → Type 0
+abbrev pub TakesLine : Class → ℕ → Draft → Place → LineRead Draft → Type 0
 TakesLine c shared d p (job_read e r) = (fields : List (List ℕ)) × (q : Place) × Takes p (line_text (codes "job" ∷ fields)) q × AddsJob c shared d fields q e r
 TakesLine c shared d p (more_read e q) = TakesArc (has_order c.order) d p (more_read e q)
 TakesLine c shared d p (end_read e q) = TakesArc (has_order c.order) d p (end_read e q)
@@ -124,7 +124,7 @@ no_job_line c shared d p (job_read e q) h = absurd h
 no_job_line c shared d p (more_read e q) h = h
 no_job_line c shared d p (end_read e q) h = h
 
-job_step_takes : (c : Class) (machines shared : ℕ) (d : Draft) (p : Place) (next : LineRead Draft) → machines ≤ MOST_MACHINES → job_step c machines shared d p ≡ Ok next → TakesLine c shared d p next
+pub job_step_takes : (c : Class) (machines shared : ℕ) (d : Draft) (p : Place) (next : LineRead Draft) → machines ≤ MOST_MACHINES → job_step c machines shared d p ≡ Ok next → TakesLine c shared d p next
 unfolding job_step
 job_step_takes c machines shared d p next bound e =
     let l = bind_ok (line_at p) _ next e in

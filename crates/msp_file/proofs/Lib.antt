@@ -19,3 +19,8 @@ mod LineCounts
 mod FrontLaws
 mod CostReading
 mod ScheduleLaws
+mod OneWay
+mod Endings
+mod Deciding
+mod Orders
+mod FirstFaults

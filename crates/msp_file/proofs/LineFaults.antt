@@ -479,3 +479,15 @@ schedule_faults names line b e h = by h.lines (stated names (record { at = line;
         last : (b : Bool) → Err e ≡ provided b (After x.1.at) (Ok x.0) → IsScheduleFault e
         last true same = absurd cc
         last false same = let is : After x.1.at ≡ e = cc in subst IsScheduleFault is tt
+
+-- reading gives no want of memory
+pub schedule_remembers : (names : List (List ℕ)) (line : ℕ) (b : List ℕ) → ¬ ReadsSchedule names line b (Err Memory)
+schedule_remembers names line b h = by h.lines (stated names (record { at = line; rest = b }) h.lines h.reads) h.is
+  where
+    by : (lines : Result (Stated × Place) FileFault) → IsPlain lines → Err Memory ≡ (lines >>= all_of) → ⊥
+    by (Err d) k is = let same : d ≡ Memory = cc in k.fault Memory (ap Err same)
+    by (Ok x) k is = last (length x.1.rest == 0) is
+      where
+        last : (b : Bool) → Err Memory ≡ provided b (After x.1.at) (Ok x.0) → ⊥
+        last true same = absurd cc
+        last false same = absurd cc

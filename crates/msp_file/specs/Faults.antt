@@ -30,6 +30,10 @@ quantity_text what.Unit = codes "unit"
 quantity_text what.Moment = codes "moment"
 quantity_text what.Cost = codes "cost"
 quantity_text what.Pieces = codes "pieces"
+quantity_text what.Level = codes "level"
+quantity_text what.Head = codes "head"
+quantity_text what.Price = codes "price"
+quantity_text what.Lines = codes "lines"
 
 -- The most bytes of the word for a quantity.
 abbrev pub longest_quantity : ℕ

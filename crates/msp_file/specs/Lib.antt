@@ -4,3 +4,5 @@ pub mod Answers
 pub mod ScheduleReading
 pub mod ScheduleAnswers
 pub mod Faults
+pub mod Limits
+pub mod Laws

@@ -1,12 +1,12 @@
 // The faults of texts, and what is said of them.
 ghost use Rattle.std.specs.Prelude.{◌≡◌, ◌+◌, ◌≤◌, ◌++◌, length, codes};
-ghost use Rattle.msp_name.specs.declared.short_text.TheConstants.{ROOM};
+ghost use Rattle.msp_name.specs.declared.fault.TheConstants.{FAULT_ROOM};
 ghost use Rattle.msp_job_name.specs.declared.job_name.TheConstants.{LONGEST_NAME};
 ghost use Rattle.msp_file.specs.Faults.{quantity_text, longest_quantity, longest_line_head, at_line, broken_text, file_text};
 
 use msp_instance::ClassFault;
 use msp_job_name::JobName;
-use msp_name::ShortText;
+use msp_name::{FAULT_ROOM, ShortText};
 
 /// A quantity that texts keep within limits.
 #[derive(Clone, Copy, Debug, PartialEq, Eq)]
@@ -32,6 +32,10 @@ pub enum What {
     Moment,
     Cost,
     Pieces,
+    Level,
+    Head,
+    Price,
+    Lines,
 }
 
 /// The first fault of a text. `at` is the number of its line, from 1.
@@ -132,12 +136,16 @@ impl What {
             What::Moment => b"moment",
             What::Cost => b"cost",
             What::Pieces => b"pieces",
+            What::Level => b"level",
+            What::Head => b"head",
+            What::Price => b"price",
+            What::Lines => b"lines",
         }
     }
 }
 
-fn plain(bytes: &[u8]) -> ShortText
-    requires { length bytes.now ≤ ROOM }
+fn plain(bytes: &[u8]) -> ShortText<FAULT_ROOM>
+    requires { length bytes.now ≤ FAULT_ROOM }
     ensures { result ≡ bytes.now }
 {
     let mut text = ShortText::new();
@@ -146,8 +154,8 @@ fn plain(bytes: &[u8]) -> ShortText
 }
 
 /// The number of a line, which has at most 10 digits, and what is said of it.
-fn at_line(at: u32, what: &[u8]) -> ShortText
-    requires { length what.now + longest_line_head ≤ ROOM }
+fn at_line(at: u32, what: &[u8]) -> ShortText<FAULT_ROOM>
+    requires { length what.now + longest_line_head ≤ FAULT_ROOM }
     ensures text { result ≡ at_line at what.now }
     ensures short { length result ≤ length what.now + longest_line_head }
 {
@@ -159,7 +167,7 @@ fn at_line(at: u32, what: &[u8]) -> ShortText
     text
 }
 
-fn limit(at: u32, what: What) -> ShortText
+fn limit(at: u32, what: What) -> ShortText<FAULT_ROOM>
     ensures { result ≡ at_line at (codes "limit of " ++ quantity_text what) }
 {
     let mut text = at_line(at, b"limit of ");
@@ -168,8 +176,8 @@ fn limit(at: u32, what: What) -> ShortText
 }
 
 /// The name of a job behind some bytes.
-fn headed(head: &[u8], name: &JobName) -> ShortText
-    requires { length head.now + LONGEST_NAME ≤ ROOM }
+fn headed(head: &[u8], name: &JobName) -> ShortText<FAULT_ROOM>
+    requires { length head.now + LONGEST_NAME ≤ FAULT_ROOM }
     ensures text { result ≡ head.now ++ name.now }
     ensures short { length result ≤ length head.now + LONGEST_NAME }
 {
@@ -178,8 +186,8 @@ fn headed(head: &[u8], name: &JobName) -> ShortText
     text
 }
 
-fn of_job(name: &JobName, what: &[u8]) -> ShortText
-    requires { length what.now + LONGEST_NAME + length (codes "job ") ≤ ROOM }
+fn of_job(name: &JobName, what: &[u8]) -> ShortText<FAULT_ROOM>
+    requires { length what.now + LONGEST_NAME + length (codes "job ") ≤ FAULT_ROOM }
     ensures { result ≡ codes "job " ++ name.now ++ what.now }
 {
     let mut text = headed(b"job ", name);
@@ -188,7 +196,7 @@ fn of_job(name: &JobName, what: &[u8]) -> ShortText
 }
 
 /// The condition of the class that is broken.
-fn broken(fault: ClassFault, name: &Option<JobName>) -> ShortText
+fn broken(fault: ClassFault, name: &Option<JobName>) -> ShortText<FAULT_ROOM>
     ensures { result ≡ broken_text fault name.now }
 {
     match (fault, name) {
@@ -201,7 +209,7 @@ fn broken(fault: ClassFault, name: &Option<JobName>) -> ShortText
 
 impl FileFault {
     /// The text of the fault. It takes no memory.
-    pub fn text(&self) -> ShortText
+    pub fn text(&self) -> ShortText<FAULT_ROOM>
         ensures { result ≡ file_text self.now }
     {
         match self {

@@ -13,6 +13,7 @@ mod draft;
 mod fault;
 mod head;
 mod job;
+mod laws;
 mod lines;
 mod number;
 mod operations;
@@ -25,6 +26,7 @@ mod schedule_tests;
 mod tests;
 
 pub use fault::{FileFault, What};
+pub use laws::{law_of_front_texts, law_of_instance_texts, law_of_limits, law_of_schedule_texts};
 pub use msp_grammar::{Filed, print_instance, print_schedule};
 pub use msp_job_name::{JobName, Names};
 pub use read::{Front, MOST_BYTES, read_front, read_instance, texts_are_read_one_way};

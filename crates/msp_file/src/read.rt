@@ -1,5 +1,5 @@
 // The reader of instance texts.
-ghost use Rattle.std.specs.Prelude.{◌≡◌, ℕ, ◌≤◌, List as Items, length, IfOk, IfErr, MatchResult, Ok};
+ghost use Rattle.std.specs.Prelude.{◌≡◌, ◌≢◌, ℕ, ◌≤◌, List as Items, length, AllPairs, IfOk, IfErr, MatchResult, Ok};
 ghost use Rattle.msp_instance.specs.declared.Instance.{Instance as InstanceValue};
 ghost use Rattle.msp_instance.specs.Conditions.{MeetsConditions, text_limits, IsAcyclic, InClass};
 ghost use Rattle.msp_file.specs.declared.read.TheConstants.{MOST_BYTES};
@@ -15,7 +15,9 @@ use crate::head::{class_at, machines_at, speeds_at, time_at, version_at};
 use crate::place::Lines;
 use msp_class::{Class, List};
 use msp_grammar::Filed;
-use msp_instance::{ClassFault, Instance, OrderFault, check, forward, has_small_multiple};
+use msp_instance::{
+    ClassFault, Instance, OrderFault, check_distinct_arcs, forward, has_small_multiple,
+};
 use msp_job_name::{JobName, Names};
 use std::alloc::Global;
 
@@ -161,9 +163,10 @@ fn faulty_name(names: &Names, fault: ClassFault) -> Option<JobName>
 
 /// The first condition that the instance breaks, as a fault of its text.
 fn check_class(filed: &Filed) -> Result<(), FileFault>
+    requires { AllPairs (λ a b. a ≢ b) filed.now.instance.arcs }
     ensures { MatchResult result (λ _. MeetsConditions text_limits filed.now.instance) (λ e. IsFaultOfFiled filed.now e) }
 {
-    match check(&filed.instance) {
+    match check_distinct_arcs(&filed.instance) {
         Ok(()) => Ok(()),
         Err(fault) => Err(FileFault::Class {
             fault,
@@ -190,7 +193,8 @@ fn check_order(alloc: Global, filed: &Filed) -> Result<(), FileFault>
 
 /// Whether the instance is in its class: the first condition that it breaks, and else a cycle, as a fault of the text.
 fn check_filed(alloc: Global, filed: &Filed) -> Result<(), FileFault>
-    requires { length filed.now.names ≡ length filed.now.instance.jobs }
+    requires even { length filed.now.names ≡ length filed.now.instance.jobs }
+    requires once { AllPairs (λ a b. a ≢ b) filed.now.instance.arcs }
     ensures { MatchResult result (λ _. InClass filed.now.instance) (λ e. IsFaultOfFiled filed.now e) }
 {
     match check_class(filed) {

@@ -4,3 +4,5 @@ pub mod Names
 pub mod Reading
 pub mod Printing
 pub mod Faults
+pub mod Limits
+pub mod OneWay

@@ -1,13 +1,15 @@
 // The faults of a name, and their texts.
 ghost use Rattle.std.specs.Prelude.{◌≡◌, ◌+◌, ◌≤◌, ◌++◌, length, decimal};
 ghost use Rattle.msp_name.specs.Faults.{fault_text};
-ghost use Rattle.msp_name.specs.declared.short_text.TheConstants.{ROOM};
+ghost use Rattle.msp_name.specs.declared.fault.TheConstants.{FAULT_ROOM};
 
 use crate::short_text::ShortText;
 use std::marker::Model;
 
 /// The greatest length of a fault's text.
 pub const LONGEST_FAULT: usize = 31;
+/// How many bytes the text of a fault keeps.
+pub const FAULT_ROOM: usize = 64;
 
 /// The first fault of a text that is no name of a class. A place `at` counts bytes from 0.
 #[derive(Clone, Copy, Debug, PartialEq, Eq)]
@@ -29,7 +31,7 @@ pub enum NameFault {
 /// The text of a fault.
 #[derive(Drop)]
 pub struct FaultText {
-    text: ShortText,
+    text: ShortText<FAULT_ROOM>,
 }
 
 impl Model for FaultText {
@@ -67,7 +69,7 @@ impl NameFault {
 }
 
 fn plain(bytes: &[u8]) -> FaultText
-    requires { length bytes.now ≤ ROOM }
+    requires { length bytes.now ≤ FAULT_ROOM }
     ensures { result ≡ bytes.now }
 {
     let mut text = ShortText::new();
@@ -77,7 +79,7 @@ fn plain(bytes: &[u8]) -> FaultText
 
 /// The text with the digits of a place behind it, which are at most 10.
 fn placed(bytes: &[u8], at: u32) -> FaultText
-    requires { length bytes.now + 10 ≤ ROOM }
+    requires { length bytes.now + 10 ≤ FAULT_ROOM }
     ensures text { result ≡ bytes.now ++ decimal at }
     ensures short { length result ≤ length bytes.now + 10 }
 {

@@ -5,6 +5,7 @@
 #![tactic(auto)]
 
 mod fault;
+mod laws;
 mod reader;
 mod short_text;
 #[cfg(test)]
@@ -12,7 +13,8 @@ mod tests;
 mod text;
 mod words;
 
-pub use fault::{FaultText, LONGEST_FAULT, NameFault};
+pub use fault::{FAULT_ROOM, FaultText, LONGEST_FAULT, NameFault};
+pub use laws::law_of_limits;
 pub use reader::parse;
 pub use short_text::ShortText;
-pub use text::{NameText, print};
+pub use text::{NAME_ROOM, NameText, print};

@@ -1,22 +1,17 @@
 // A text of few bytes, kept without memory.
 ghost use Rattle.std.specs.Prelude.{◌≡◌, ◌+◌, ◌≤◌, ◌++◌, [], length};
-ghost use Rattle.msp_name.specs.declared.short_text.TheConstants.{ROOM};
 
 use std::marker::Model;
 
-/// The most bytes of a short text.
-pub const ROOM: usize = 64;
-
 /// A text of at most `ROOM` bytes.
 #[derive(Drop)]
-pub struct ShortText {
+pub struct ShortText<const ROOM: usize> {
     buffer: [u8; ROOM],
     len: usize,
 }
 
-impl Model for ShortText {
+impl<const ROOM: usize> Model for ShortText<ROOM> {
     ghost use Rattle.std.specs.Prelude.{ℕ, List, ◌≤◌, take};
-    ghost use Rattle.msp_name.specs.declared.short_text.TheConstants.{ROOM};
 
     ghost Value = { List ℕ };
 
@@ -25,8 +20,8 @@ impl Model for ShortText {
     ghost invariant = { λ t. t.len ≤ ROOM };
 }
 
-impl ShortText {
-    pub fn new() -> ShortText
+impl<const ROOM: usize> ShortText<ROOM> {
+    pub fn new() -> ShortText<ROOM>
         ensures { result ≡ [] }
     {
         ShortText {
@@ -41,13 +36,16 @@ impl ShortText {
         ensures { self.new ≡ self.old ++ text.now }
     {
         let end = self.len + text.len();
-        self.buffer[self.len..end].copy_from_slice(text);
+        let buffer = &mut self.buffer[..];
+        buffer[self.len..end].copy_from_slice(text);
         self.len = end;
     }
 
     pub fn bytes(&self) -> &[u8]
-        ensures { result.now ≡ self.now }
+        ensures value { result.now ≡ self.now }
+        ensures short { length self.now ≤ ROOM }
     {
-        &self.buffer[..self.len]
+        let buffer = &self.buffer[..];
+        &buffer[..self.len]
     }
 }

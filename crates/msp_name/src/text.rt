@@ -4,7 +4,7 @@ ghost use Rattle.std.specs.List.{join_with_byte};
 ghost use Rattle.msp_name.specs.Names.{comma, env_text, order_text, times_text, crit_text, text_if, item_texts_of, name_of, NameOf};
 ghost use Rattle.msp_name.specs.Items.{order_eq, times_eq};
 ghost use Rattle.msp_name.specs.Printing.{following};
-ghost use Rattle.msp_name.specs.declared.short_text.TheConstants.{ROOM};
+ghost use Rattle.msp_name.specs.declared.text.TheConstants.{NAME_ROOM};
 
 use crate::reader::has_item;
 use crate::short_text::ShortText;
@@ -12,10 +12,13 @@ use crate::words::Item;
 use msp_class::{Class, Crit, Env, Order, Times};
 use std::marker::Model;
 
+/// How many bytes the text of a name keeps.
+pub const NAME_ROOM: usize = 40;
+
 /// The text of a class's name.
 #[derive(Drop)]
 pub struct NameText {
-    text: ShortText,
+    text: ShortText<NAME_ROOM>,
 }
 
 impl Model for NameText {
@@ -27,9 +30,10 @@ impl Model for NameText {
 }
 
 impl NameText {
-    /// The bytes of the name.
+    /// The bytes of the name, of which there are at most 40.
     pub fn bytes(&self) -> &[u8]
-        ensures { result.now ≡ self.now }
+        ensures value { result.now ≡ self.now }
+        ensures kept { length self.now ≤ NAME_ROOM }
     {
         self.text.bytes()
     }
@@ -113,8 +117,8 @@ fn crit_word(crit: Crit) -> &'static [u8]
 }
 
 /// Puts the text of an item that is wanted, with a comma before it where an item goes before. Whether an item goes before the next.
-fn put_item(text: &mut ShortText, again: bool, wanted: bool, item: &[u8]) -> bool
-    requires { length text.old + length item.now + 1 ≤ ROOM }
+fn put_item(text: &mut ShortText<NAME_ROOM>, again: bool, wanted: bool, item: &[u8]) -> bool
+    requires { length text.old + length item.now + 1 ≤ NAME_ROOM }
     ensures text { text.new ≡ text.old ++ following again (text_if wanted item.now) }
     ensures again { result ≡ (again || wanted) }
 {
@@ -129,7 +133,7 @@ fn put_item(text: &mut ShortText, again: bool, wanted: bool, item: &[u8]) -> boo
 }
 
 /// Puts the canonical items of a class, in the order cut, order, release dates, times, short routes.
-fn put_items(text: &mut ShortText, class: Class)
+fn put_items(text: &mut ShortText<NAME_ROOM>, class: Class)
     requires { length text.old ≤ 3 }
     ensures items { text.new ≡ text.old ++ join_with_byte comma (item_texts_of class) }
     ensures short { length text.new ≤ length text.old + 23 }
@@ -147,7 +151,7 @@ fn put_items(text: &mut ShortText, class: Class)
 }
 
 #[tactic(auto, unfolding(crate::specs::Names::name_of), using(crate::proofs::PrintLemmas::print_rules))]
-fn spell(class: Class) -> ShortText
+fn spell(class: Class) -> ShortText<NAME_ROOM>
     ensures { result ≡ name_of class }
 {
     let mut text = ShortText::new();

@@ -21,6 +21,7 @@ use Rattle.msp_results.specs.declared.fault.ResultFault.TheVariants as fault
 use Rattle.msp_results.specs.declared.version.Version.{Version}
 use Rattle.msp_results.specs.declared.version.Version.TheVariants.{First, Second}
 use Rattle.msp_results.specs.Results.{IsEntry, IsPlainText, ResultsOf, column_text, has_verdict, header, records_of, verdict_text}
+use Rattle.msp_results.specs.Laws.{IsFirstFault, LawOfResults}
 use Rattle.msp_results.specs.Reading.{then_after, column_read, columns_read, entries_read, fields_read, headed_read, is_plain, is_printable, judged, known, named, results_of, row_read, rows_read, sourced, three_of, verdict_read, version_read, word_read}
 
 if_ok : {A : Type 0} (b : Bool) (e : ResultFault) (r : Result A ResultFault) (x : A) → cond b (Err e) r ≡ Ok x → (b ≡ false) × (r ≡ Ok x)
@@ -277,3 +278,16 @@ pub IfOk-reading : (b : List ℕ) (r : Result (List Entry) ResultFault) → (r �
 IfOk-reading b (Err f) h = tt
 IfOk-reading b (Ok es) (inl h) = cc
 IfOk-reading b (Ok es) (inr h) = ResultsOf-from_reading b es (sym h)
+
+either : (b : List ℕ) (r : Result (List Entry) ResultFault) → results_of b ≡ r → ((es : List Entry) × ResultsOf b es) ⊎ ((f : ResultFault) × IsFirstFault b f)
+either b (Ok es) h = inl (es, ResultsOf-from_reading b es h)
+either b (Err f) h = inr (f, h)
+
+-- the bytes have entries or a first fault
+pub law_of_results : LawOfResults
+law_of_results = record {
+  some = λ b. either b (results_of b) refl;
+  not_both = λ b es f r h. let k = results_of-ResultsOf b es r in cc;
+  one_value = ResultsOf-determined;
+  one_fault = λ b e f h k. let same : ◌≡◌ {A = Result (List Entry) ResultFault} (Err e) (Err f) = sym h ∙ k in cc;
+}

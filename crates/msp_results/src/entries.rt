@@ -101,14 +101,12 @@ fn read_fields(
     if source.len() > LONGEST_SOURCE {
         return Err(ResultFault::Long { at });
     }
-    match source.to_vec(alloc) {
-        Ok(bytes) => Ok(Entry {
-            class,
-            verdict,
-            source: List::from_vec(bytes),
-        }),
-        Err(_) => Err(ResultFault::Memory),
-    }
+    let bytes = source.to_vec(alloc)?;
+    Ok(Entry {
+        class,
+        verdict,
+        source: List::from_vec(bytes),
+    })
 }
 
 /// The three fields of a record that has no other.

@@ -1,10 +1,13 @@
 // The faults of a file of results, and their texts.
 ghost use Rattle.std.specs.Prelude.{◌≡◌, ◌+◌, ◌≤◌, ◌++◌, length, codes};
 ghost use Rattle.msp_name.specs.Faults.{fault_text};
-ghost use Rattle.msp_name.specs.declared.short_text.TheConstants.{ROOM};
+ghost use Rattle.msp_name.specs.declared.fault.TheConstants.{FAULT_ROOM};
+ghost use Rattle.msp_results.specs.declared.fault.ResultFault.TheVariants.{Memory};
 ghost use Rattle.msp_results.specs.Faults.{record_text, results_text};
 
-use msp_name::{NameFault, ShortText};
+use msp_class::NoMemory;
+use msp_name::{FAULT_ROOM, NameFault, ShortText};
+use std::alloc::AllocError;
 
 /// The first fault of a file of results. The header is record 0, and `at` is the number of an entry's record, from 1.
 #[derive(Clone, Copy, Debug, PartialEq, Eq)]
@@ -27,9 +30,25 @@ pub enum ResultFault {
     Memory,
 }
 
+impl From<NoMemory> for ResultFault {
+    ghost from_gives = { λ _ e. e ≡ Memory };
+
+    fn from(_refusal: NoMemory) -> ResultFault {
+        ResultFault::Memory
+    }
+}
+
+impl From<AllocError> for ResultFault {
+    ghost from_gives = { λ _ e. e ≡ Memory };
+
+    fn from(_refusal: AllocError) -> ResultFault {
+        ResultFault::Memory
+    }
+}
+
 impl ResultFault {
     /// The text of the fault. It takes no memory.
-    pub fn text(self) -> ShortText
+    pub fn text(self) -> ShortText<FAULT_ROOM>
         ensures { result ≡ results_text self }
     {
         match self {
@@ -45,8 +64,8 @@ impl ResultFault {
     }
 }
 
-fn plain(bytes: &[u8]) -> ShortText
-    requires { length bytes.now ≤ ROOM }
+fn plain(bytes: &[u8]) -> ShortText<FAULT_ROOM>
+    requires { length bytes.now ≤ FAULT_ROOM }
     ensures { result ≡ bytes.now }
 {
     let mut text = ShortText::new();
@@ -55,8 +74,8 @@ fn plain(bytes: &[u8]) -> ShortText
 }
 
 /// The number of a record, which has at most 10 digits, and what is said of it.
-fn recorded(at: u32, what: &[u8]) -> ShortText
-    requires { length what.now + 17 ≤ ROOM }
+fn recorded(at: u32, what: &[u8]) -> ShortText<FAULT_ROOM>
+    requires { length what.now + 17 ≤ FAULT_ROOM }
     ensures text { result ≡ record_text at what.now }
     ensures short { length result ≤ length what.now + 17 }
 {
@@ -68,7 +87,7 @@ fn recorded(at: u32, what: &[u8]) -> ShortText
     text
 }
 
-fn misnamed(at: u32, fault: NameFault) -> ShortText
+fn misnamed(at: u32, fault: NameFault) -> ShortText<FAULT_ROOM>
     ensures { result ≡ record_text at (codes ": name: " ++ fault_text fault) }
 {
     let mut text = recorded(at, b": name: ");

@@ -6,6 +6,7 @@
 
 mod entries;
 mod fault;
+mod laws;
 mod limits;
 mod read;
 mod records;
@@ -14,5 +15,6 @@ mod tests;
 mod version;
 
 pub use fault::ResultFault;
+pub use laws::{law_of_limits, law_of_results};
 pub use limits::{LONGEST_FILE, LONGEST_SOURCE, MOST_ENTRIES};
 pub use read::read_results;

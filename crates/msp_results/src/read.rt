@@ -41,10 +41,8 @@ fn read_entries(
             Ok(entry) => entry,
             Err(fault) => return Err(fault),
         };
-        match entries.push(entry) {
-            Ok(()) => at += 1,
-            Err(_) => return Err(ResultFault::Memory),
-        }
+        entries.put(entry)?;
+        at += 1;
     }
 }
 

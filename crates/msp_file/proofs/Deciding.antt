@@ -1,0 +1,163 @@
+-- Whether a condition holds can be told, for the conditions of a class that a text can break.
+use Rattle.std.proofs.Common.{◌≡◌, ◌≢◌, ℕ, zero, suc, ◌+◌, ◌-◌, ◌*◌, ◌<◌, ◌≤◌, ◌⊎◌, inl, inr, ◌==◌, true, false, Bool, List, [], ◌∷◌, length, get_or, All, Any, refl, sym, ◌∙◌, subst, arith}
+use Rattle.std.specs.List.{AllAdjacentBelow}
+use Rattle.std.proofs.lemmas.Bool.{cases_Bool, cases_lt, eqb-true, eqb-false}
+use Rattle.std.proofs.lemmas.List.{get_or_default}
+use Rattle.std.proofs.lemmas.List.Elements.{All-nil, All-cons, All-head, All-tail}
+use Rattle.msp_class.specs.Env.{kind_of, most_operations}
+use Rattle.msp_class.specs.declared.class.Env.{Env}
+use Rattle.msp_class.specs.declared.class.Order.{Order}
+use Rattle.msp_class.specs.declared.class.Order.TheVariants.{Free, Chains, Intree, Outtree, Prec}
+use Rattle.msp_class.specs.declared.environments.EnvKind.{EnvKind}
+use Rattle.msp_class.specs.declared.environments.EnvKind.TheVariants.{Identical, Uniform, Unrelated, OpenShop, FlowShop, JobShop}
+use Rattle.msp_instance.specs.declared.Arc.{Arc}
+use Rattle.msp_instance.specs.declared.Need.{Need}
+use Rattle.msp_instance.specs.declared.Instance.{Instance}
+use Rattle.msp_instance.specs.declared.ranges.TheConstants.{GREATEST_MULTIPLE}
+use Rattle.msp_instance.specs.Instance.{no_need}
+use Rattle.msp_instance.specs.Conditions.{Limits, HasSmallMultiple, IsSingleNeed, IsNeedPerMachine, IsRoute, HasShape, HasTimes, least_time, greatest_time, HasNeeds, leaving, entering, HasDegree}
+
+-- The condition holds, or it does not.
+abbrev pub Told : Type 0 → Type 0
+Told P = P ⊎ (¬ P)
+
+pub both : {P Q : Type 0} → Told P → Told Q → Told (P × Q)
+both (inl p) (inl q) = inl (p, q)
+both (inl p) (inr n) = inr (λ h. n h.1)
+both (inr n) q = inr (λ h. n h.0)
+
+pub unless : {P : Type 0} → Told P → Told (¬ P)
+unless (inl p) = inr (λ n. n p)
+unless (inr n) = inl n
+
+pub le_told : (m n : ℕ) → Told (m ≤ n)
+le_told m n = elim (cases_lt n m) [ inl h ↦ inr (λ k. absurd (omega arith)) | inr h ↦ inl h ]
+
+pub lt_told : (m n : ℕ) → Told (m < n)
+lt_told m n = elim (cases_lt m n) [ inl h ↦ inl h | inr h ↦ inr (λ k. absurd (omega arith)) ]
+
+pub equal_told : (m n : ℕ) → Told (m ≡ n)
+equal_told m n = elim (cases_Bool (m == n)) [ inl e ↦ inl (eqb-true m n e) | inr e ↦ inr (eqb-false m n e) ]
+
+pub test_told : (b : Bool) → Told (b ≡ true)
+test_told true = inl refl
+test_told false = inr (λ e. absurd cc)
+
+module _ (P : ℕ → Type 0) (told : (k : ℕ) → Told (P k)) where
+  -- the first number below n for which the condition fails, or it holds for all
+  pub first_broken : (n : ℕ) → ((j : ℕ) × (j < n) × (¬ P j) × ((k : ℕ) → k < j → P k)) ⊎ ((k : ℕ) → k < n → P k)
+  first_broken zero = inr (λ k h. absurd (omega arith))
+  first_broken (suc n) = elim (first_broken n) [
+    | inl f ↦ let less = f.1 in inl (f.0, omega arith, f.2, f.3)
+    | inr all ↦ elim (told n) [
+      | inl p ↦ inr (λ k h. elim (cases_lt k n) [ inl below ↦ all k below | inr past ↦ subst P (omega arith) p ])
+      | inr absent ↦ inl (n, omega arith, absent, all)
+    ]
+  ]
+
+  pub each_told : (n : ℕ) → Told ((k : ℕ) → k < n → P k)
+  each_told n = elim (first_broken n) [ inl f ↦ inr (λ h. f.2 (h f.0 f.1)) | inr all ↦ inl all ]
+
+module _ (P : ℕ → Type 0) (told : (k : ℕ) → Told (P k)) where
+  -- some number below n for which the condition holds
+  pub some_below : (n : ℕ) → ((k : ℕ) × (k < n) × P k) ⊎ ((k : ℕ) → k < n → ¬ P k)
+  some_below n = elim (first_broken (λ k. ¬ P k) (λ k. unless (told k)) n) [
+    | inl f ↦ elim (told f.0) [ inl p ↦ inl (f.0, f.1, p) | inr absent ↦ absurd (f.2 absent) ]
+    | inr none ↦ inr none
+  ]
+
+pub all_told : {X : Type 0} (P : X → Type 0) → ((x : X) → Told (P x)) → (xs : List X) → Told (All P xs)
+all_told P told [] = inl (All-nil P)
+all_told P told (x ∷ xs) = elim (told x) [
+  | inl p ↦ elim (all_told P told xs) [ inl h ↦ inl (All-cons P x xs p h) | inr absent ↦ inr (λ h. absent (All-tail P x xs h)) ]
+  | inr absent ↦ inr (λ h. absent (All-head P x xs h))
+]
+
+-- ---- speeds
+
+product_within : (multiple times s : ℕ) → multiple ≡ times * suc s → times < multiple + 1
+product_within multiple times s h = omega arith
+
+multiple_told : (multiple s : ℕ) → Told ((times : ℕ) × (multiple ≡ times * s))
+multiple_told multiple zero = elim (equal_told multiple 0) [
+  | inl e ↦ inl (0, omega arith)
+  | inr absent ↦ inr (λ h. let e = h.1 in absent (omega arith))
+]
+multiple_told multiple (suc s) = elim (some_below (λ times. multiple ≡ times * suc s) (λ times. equal_told multiple (times * suc s)) (multiple + 1)) [
+  | inl f ↦ inl (f.0, f.2)
+  | inr none ↦ inr (λ h. none h.0 (product_within multiple h.0 s h.1) h.1)
+]
+
+IsMultipleOf : List ℕ → ℕ → Type 0
+IsMultipleOf speeds multiple = (1 ≤ multiple) × All (λ s. (times : ℕ) × (multiple ≡ times * s)) speeds
+
+multiple_of_told : (speeds : List ℕ) (multiple : ℕ) → Told (IsMultipleOf speeds multiple)
+unfolding IsMultipleOf
+multiple_of_told speeds multiple = both (le_told 1 multiple) (all_told (λ s. (times : ℕ) × (multiple ≡ times * s)) (multiple_told multiple) speeds)
+
+small_told : (greatest : ℕ) (speeds : List ℕ) → Told ((multiple : ℕ) × (1 ≤ multiple) × (multiple ≤ greatest) × All (λ s. (times : ℕ) × (multiple ≡ times * s)) speeds)
+unfolding IsMultipleOf
+small_told greatest speeds = elim (some_below (IsMultipleOf speeds) (multiple_of_told speeds) (greatest + 1)) [
+  | inl f ↦ let less = f.1 in inl (f.0, f.2.0, omega arith, f.2.1)
+  | inr none ↦ inr (λ h. let few = h.2 in none h.0 (omega arith) (h.1, h.3))
+]
+
+pub small_multiple_told : (speeds : List ℕ) → Told (HasSmallMultiple speeds)
+small_multiple_told speeds = small_told GREATEST_MULTIPLE speeds
+
+-- ---- the needs of a job
+
+abbrev need_at : List Need → ℕ → Need
+need_at needs k = get_or needs k no_need
+
+moves_told : (needs : List Need) → Told (AllAdjacentBelow (λ a b. a.machine ≢ b.machine) needs (length needs))
+moves_told needs = elim (each_told (λ k. (need_at needs k).machine ≢ (need_at needs (k + 1)).machine) (λ k. unless (equal_told _ _)) (length needs - 1)) [
+  | inl h ↦ inl (λ k d less.
+      subst (λ (a : Need). a.machine ≢ (get_or needs (k + 1) d).machine) (get_or_default needs k no_need d (omega arith))
+      (subst (λ (b : Need). (need_at needs k).machine ≢ b.machine) (get_or_default needs (k + 1) no_need d less) (h k (omega arith))))
+  | inr absent ↦ inr (λ h. absent (λ k less. h k no_need (omega arith)))
+]
+
+route_told : (most m : ℕ) (needs : List Need) → Told (IsRoute most m needs)
+route_told most m needs = elim (both (le_told 1 (length needs)) (both (le_told (length needs) most) (both (all_told (λ n. n.machine < m) (λ n. lt_told n.machine m) needs) (moves_told needs)))) [
+  | inl h ↦ inl (record { some = h.0; few = h.1.0; machines = h.1.1.0; moves = h.1.1.1 })
+  | inr absent ↦ inr (λ h. absent (h.some, (h.few, (h.machines, h.moves))))
+]
+
+single_told : (needs : List Need) → Told (IsSingleNeed needs)
+single_told needs = both (equal_told (length needs) 1) (all_told (λ n. n.machine ≡ 0) (λ n. equal_told n.machine 0) needs)
+
+per_machine_told : (m : ℕ) (needs : List Need) → Told (IsNeedPerMachine m needs)
+per_machine_told m needs = both (equal_told (length needs) m) (each_told (λ k. (need_at needs k).machine ≡ k) (λ k. equal_told _ k) (length needs))
+
+shape_told : (k : EnvKind) (e : Env) (m : ℕ) (needs : List Need) → Told (HasShape k e m needs)
+shape_told Identical e m needs = single_told needs
+shape_told Uniform e m needs = single_told needs
+shape_told Unrelated e m needs = per_machine_told m needs
+shape_told OpenShop e m needs = per_machine_told m needs
+shape_told FlowShop e m needs = per_machine_told m needs
+shape_told JobShop e m needs = route_told (most_operations e) m needs
+
+times_told : (least greatest : ℕ) (needs : List Need) → Told (HasTimes least greatest needs)
+times_told least greatest needs = all_told (λ n. (least ≤ n.time) × (n.time ≤ greatest)) (λ n. both (le_told least n.time) (le_told n.time greatest)) needs
+
+some_told : (needs : List Need) → Told (Any (λ n. 1 ≤ n.time) needs)
+some_told needs = elim (some_below (λ k. 1 ≤ (need_at needs k).time) (λ k. le_told 1 _) (length needs)) [
+  | inl f ↦ inl (f.0, need_at needs f.0, f.1, get_or_default needs f.0 (need_at needs f.0) no_need f.1, f.2)
+  | inr none ↦ inr (λ h. none h.0 h.2 (subst (λ (n : Need). 1 ≤ n.time) (sym (get_or_default needs h.0 no_need h.1 h.2 ∙ h.3)) h.4))
+]
+
+pub needs_told : (l : Limits) (i : Instance) (needs : List Need) → Told (HasNeeds l i needs)
+needs_told l i needs = elim (both (shape_told (kind_of i.class.env) i.class.env i.machines needs) (both (times_told (least_time (kind_of i.class.env) i.class.times) (greatest_time l i.class.times) needs) (some_told needs))) [
+  | inl h ↦ inl (record { shape = h.0; times = h.1.0; some = h.1.1 })
+  | inr absent ↦ inr (λ h. absent (h.shape, (h.times, h.some)))
+]
+
+-- ---- the arcs at a job
+
+pub degree_told : (o : Order) (arcs : List Arc) (j : ℕ) → Told (HasDegree o arcs j)
+degree_told Free arcs j = inl tt
+degree_told Chains arcs j = both (le_told (leaving arcs j) 1) (le_told (entering arcs j) 1)
+degree_told Intree arcs j = le_told (leaving arcs j) 1
+degree_told Outtree arcs j = le_told (entering arcs j) 1
+degree_told Prec arcs j = inl tt

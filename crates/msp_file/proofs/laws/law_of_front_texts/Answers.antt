@@ -1,0 +1,6 @@
+-- The goal of `law_of_front_texts` that is proved by a lemma.
+use Rattle.msp_file.proofs.OneWay.{law_of_front_texts}
+use Rattle.msp_file.proofs.laws.law_of_front_texts.Goals as goal
+
+pub returns : goal.returns
+returns c = law_of_front_texts
