@@ -78,10 +78,7 @@ pub(crate) fn filled<T: Copy>(alloc: Global, count: usize, value: T) -> Result<V
 {
     let mut values = Vec::new(alloc);
     for _k in 0..count {
-        match values.push(value) {
-            Ok(()) => (),
-            Err(_) => return Err(NoMemory),
-        }
+        values.push(value)?;
     }
     Ok(values)
 }

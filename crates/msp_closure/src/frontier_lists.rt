@@ -184,10 +184,7 @@ fn in_order(alloc: Global, table: &ClassTable<bool>) -> Result<List<Class>, NoMe
     for n in 0..CLASSES {
         let c = class_at(n);
         if table.at(c) {
-            match classes.push(c) {
-                Ok(()) => (),
-                Err(_) => return Err(NoMemory),
-            }
+            classes.put(c)?;
         }
     }
     Ok(classes)

@@ -48,8 +48,6 @@ fn put_link(rows: RowSet, row: Row, c: Class, links: &mut Vec<Link>) -> Result<(
         from: rank(c),
         to: rank(next),
     };
-    match links.push(link) {
-        Ok(()) => Ok(()),
-        Err(_) => Err(NoMemory),
-    }
+    links.push(link)?;
+    Ok(())
 }

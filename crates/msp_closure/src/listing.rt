@@ -19,11 +19,8 @@ pub(crate) fn listed(
         .iter()
         .filter(|entry| entry.verdict.makes(claim))
         .map(|entry| entry.class)
-        .collect(alloc);
-    match classes {
-        Ok(classes) => Ok(classes),
-        Err(_) => Err(NoMemory),
-    }
+        .collect(alloc)?;
+    Ok(classes)
 }
 
 impl Verdict {

@@ -26,10 +26,7 @@ pub(crate) fn walk(
     let mut chain = List::new(alloc);
     let mut here = from;
     'walk: while let Some(step) = nearer(rows, table, here) {
-        match chain.push(step.row) {
-            Ok(()) => (),
-            Err(_) => return Err(NoMemory),
-        }
+        chain.put(step.row)?;
         here = step.next;
     }
     Ok(chain)
