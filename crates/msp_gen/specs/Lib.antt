@@ -1,3 +1,4 @@
+pub mod Limits
 pub mod Draws
 pub mod Generated
 pub mod Faults

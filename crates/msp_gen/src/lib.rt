@@ -7,6 +7,7 @@
 mod draws;
 mod instance;
 mod job_data;
+mod laws;
 mod limits;
 mod precedence;
 mod routes;
@@ -14,4 +15,5 @@ mod routes;
 mod tests;
 
 pub use instance::{GenFault, generate};
+pub use laws::law_of_limits;
 pub use limits::SEEDS;
