@@ -33,10 +33,11 @@ rounded_up n (suc m) d some h = let b : (n + (suc m - 1)) / suc m < d + 1 = div_
 cancelled : (u m n d : ℕ) → 1 ≤ u → u * n ≤ m * (u * d) → n ≤ m * d
 cancelled u m n d some h = le_of_mul-le-mul_left {k = u} (omega (arith, h)) some
 
-module _ (i : Instance) (level : ℕ → ℕ) (kind : kind_of i.class.env ≡ Identical) (ones : (k : ℕ) → k < length i.jobs → (need_at i k 0).time ≡ 1) (steps : StepsDown i level) where
-  works : HasWork (frame_of i)
-  works = record { some = λ j b. (0, subst (λ k. HasOperation k i j 0) (sym kind) refl, subst (λ k. 1 ≤ whole_work k i j 0) (sym kind) (omega (arith, ones j b))) }
+-- where jobs on identical machines take one unit of time, each has work
+pub unit_work : (i : Instance) → kind_of i.class.env ≡ Identical → ((k : ℕ) → k < length i.jobs → (need_at i k 0).time ≡ 1) → HasWork (frame_of i)
+unit_work i kind ones = record { some = λ j b. (0, subst (λ k. HasOperation k i j 0) (sym kind) refl, subst (λ k. 1 ≤ whole_work k i j 0) (sym kind) (omega (arith, ones j b))) }
 
+module _ (i : Instance) (level : ℕ → ℕ) (kind : kind_of i.class.env ≡ Identical) (ones : (k : ℕ) → k < length i.jobs → (need_at i k 0).time ≡ 1) (steps : StepsDown i level) where
   -- jobs of at least the level, by their times
   together : (t : ℕ) → time_together i (λ j. leb t (level j)) ≡ jobs_from i level t
   together t =
@@ -61,7 +62,7 @@ module _ (i : Instance) (level : ℕ → ℕ) (kind : kind_of i.class.env ≡ Id
 
     run : (j : ℕ) → j < length i.jobs → (q : ℕ) × IsRun j q
     run j b =
-        let (p, c, e, r) = last_end-reached (frame_of i) s.unit s.pieces (Fits-from_feasible i s (IsShaped-from_identical i kind) f) works j b in
+        let (p, c, e, r) = last_end-reached (frame_of i) s.unit s.pieces (Fits-from_feasible i s (IsShaped-from_identical i kind) f) (unit_work i kind ones) j b in
         let (q, from, to) = All-contains (FillsUnit unit) s.pieces p pieces c in
         (q, record { piece = p; here = c; of = e; from = from; to = to; end = sym r ∙ to })
 

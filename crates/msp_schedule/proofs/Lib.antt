@@ -29,6 +29,7 @@ pub mod Mirror
 pub mod EndsAndFloors
 pub mod Floored
 pub mod LevelBound
+pub mod SegmentBound
 pub mod OfClass
 pub mod Places
 pub mod OnceEach

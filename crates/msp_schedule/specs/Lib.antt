@@ -17,6 +17,7 @@ pub mod Levels
 pub mod Loads
 pub mod Blocks
 pub mod Speeds
+pub mod Segments
 pub mod Intervals
 pub mod Rows
 pub mod LineUp

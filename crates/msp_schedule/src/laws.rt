@@ -6,6 +6,7 @@ ghost use Rattle.msp_schedule.specs.Levels.{LawOfLevels};
 ghost use Rattle.msp_schedule.specs.Limits.{AreLimits};
 ghost use Rattle.msp_schedule.specs.Loads.{LawOfLines, LawOfMachines};
 ghost use Rattle.msp_schedule.specs.Prices.{LawOfPrices};
+ghost use Rattle.msp_schedule.specs.Segments.{LawOfSegments};
 ghost use Rattle.msp_schedule.specs.Speeds.{LawOfSpeeds};
 
 /// Jobs that do not begin before a moment end only when all machines together have had the time for them.
@@ -37,6 +38,12 @@ pub fn law_of_prices()
 /// Jobs of at least a level end only when the machines have had the time for them, and as many units earlier as the level says.
 pub fn law_of_levels()
     ensures { LawOfLevels }
+{}
+
+/// Lists of jobs of one unit of time, of which each is done only after the one before it, take the machines as long as each list alone
+/// does, one after another.
+pub fn law_of_segments()
+    ensures { LawOfSegments }
 {}
 
 /// In shops all jobs end only when each machine has had the time for its operations.
