@@ -14,7 +14,7 @@ use Rattle.msp_machines.specs.Unrelated.{led_to_each, led_by_speeds}
 use Rattle.msp_turn.specs.Reversal.{led_turned, led_to_due_dates, led_to_release_dates}
 use Rattle.msp_turn.specs.Exchanged.{exchanged}
 
--- The instance to which a carrying row leads.
+-- The instance to which a carrying row leads. How costs are translated is `rate_of`, in the specs of msp_route.
 unfoldable pub lower_of : ℕ → Instance → Instance
 lower_of row i =
     if row == 9 then led_by_curves i
