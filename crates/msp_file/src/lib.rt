@@ -20,10 +20,6 @@ mod operations;
 mod place;
 mod read;
 mod schedule;
-#[cfg(test)]
-mod schedule_tests;
-#[cfg(test)]
-mod tests;
 
 pub use fault::{FileFault, What};
 pub use laws::{law_of_front_texts, law_of_instance_texts, law_of_limits, law_of_schedule_texts};

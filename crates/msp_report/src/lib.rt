@@ -14,6 +14,8 @@ mod rows;
 mod solve;
 #[cfg(test)]
 mod tests;
+#[cfg(test)]
+mod text_tests;
 mod trial;
 mod why;
 
