@@ -1,6 +1,4 @@
-pub mod Facts
 pub mod Raising
-pub mod Waiting
 pub mod Lists
 pub mod Idle
 pub mod Fill

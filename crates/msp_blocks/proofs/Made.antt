@@ -31,7 +31,7 @@ use Rattle.msp_schedule.proofs.Certified.{best_by_certificates}
 use Rattle.msp_route.specs.Bounds.{IsAnswer, answer_unit}
 use Rattle.msp_blocks.specs.Heads.{AreHeads}
 use Rattle.msp_blocks.specs.Filling.{IsPut, IsFilling, greatest_end}
-use Rattle.msp_blocks.proofs.Facts.{IsOneInstance, IsOneInstance-from, takes_time}
+use Rattle.msp_route.proofs.OneInstances.{IsOneInstance, IsOneInstance-from, takes_time}
 
 -- ---- before the first job is placed
 pub IsFilling-none : (i : Instance) → IsOneInstance i → (head : ℕ → ℕ) (jobs : List ℕ) → IsPermutation (range_with_len 0 (length i.jobs)) jobs → AllPairs (λ a b. head a ≤ head b) jobs → IsFilling i head greatest_end jobs []

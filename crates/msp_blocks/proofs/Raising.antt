@@ -12,7 +12,7 @@ use Rattle.msp_instance.specs.Conditions.{IsSequence, GoesForward}
 use Rattle.msp_instance.proofs.CycleLemmas.{OnceBelow-from_sequence}
 use Rattle.msp_schedule.specs.Rows.{time_at}
 use Rattle.msp_blocks.specs.Heads.{IsRaised, AreHeads}
-use Rattle.msp_blocks.proofs.Facts.{IsOneInstance, is_short, is_early}
+use Rattle.msp_route.proofs.OneInstances.{IsOneInstance, is_short, is_early}
 
 -- ---- the arcs of one job
 pub IsRaised-none : (i : Instance) (heads : ℕ → ℕ) (job head : ℕ) → head ≡ (job_at i job).release → IsRaised i [] heads job head

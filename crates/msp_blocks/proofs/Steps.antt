@@ -11,7 +11,7 @@ use Rattle.msp_schedule.specs.Rows.{time_at}
 use Rattle.msp_blocks.specs.Heads.{AreHeads}
 use Rattle.msp_blocks.specs.Filling.{done_by, gap, gaps, Follow, IsFirstBlock, IsFilling, greatest_end}
 use Rattle.msp_route.specs.LastJob.{EndsAt}
-use Rattle.msp_blocks.proofs.Facts.{IsOneInstance, takes_time}
+use Rattle.msp_route.proofs.OneInstances.{IsOneInstance, takes_time}
 use Rattle.msp_blocks.proofs.Idle.{done-after, done-mono, done-tight, Follow-append, Follow-from_near}
 use Rattle.msp_blocks.proofs.Fill.{IsFilling-next}
 

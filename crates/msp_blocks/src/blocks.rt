@@ -10,10 +10,9 @@ ghost use Rattle.msp_blocks.specs.Blocks.{blocks_class, unit_blocks_class};
 
 use crate::filling::filled;
 use crate::heads::heads_of;
-use crate::order::jobs_by_head;
 use msp_class::{Class, Crit, Env, NoMemory, Order, Times};
 use msp_instance::Instance;
-use msp_route::Solver;
+use msp_route::{Solver, jobs_by_key};
 use msp_schedule::{Schedule, Solution};
 use std::alloc::Global;
 
@@ -50,7 +49,7 @@ fn schedule_by_blocks(alloc: Global, inst: &Instance) -> Result<Solution, NoMemo
     ensures unit { IfOk result (λ s. s.schedule.unit ≡ pos 1) }
 {
     let heads = heads_of(alloc, inst)?;
-    let jobs = jobs_by_head(alloc, heads.as_slice())?;
+    let jobs = jobs_by_key(alloc, heads.as_slice())?;
     let pieces = filled(alloc, inst, heads.as_slice(), jobs)?;
     let schedule = Schedule { unit: 1, pieces };
     let cost = msp_schedule::cost(inst, &schedule);

@@ -63,9 +63,7 @@ fn put_gap(pieces: &mut List<Piece>, job: u32, from: u64, to: u64) -> Result<(),
             from: i128::from(from),
             to: i128::from(to),
         };
-        if pieces.push(piece).is_err() {
-            return Err(NoMemory);
-        }
+        pieces.put(piece)?;
     }
     Ok(())
 }

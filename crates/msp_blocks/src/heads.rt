@@ -85,10 +85,7 @@ fn no_heads(alloc: Global, count: usize) -> Result<Vec<u64>, NoMemory>
     ensures each { IfOk result (λ heads. length heads.items ≡ count) }
     ensures none { IfOk result (λ heads. All (λ h. h ≡ 0) heads.items) }
 {
-    match vec![in alloc; 0; count] {
-        Ok(heads) => Ok(heads),
-        Err(_) => Err(NoMemory),
-    }
+    Ok(vec![in alloc; 0; count]?)
 }
 
 /// The head of each job.

@@ -8,7 +8,6 @@
 mod blocks;
 mod filling;
 mod heads;
-mod order;
 #[cfg(test)]
 mod tests;
 

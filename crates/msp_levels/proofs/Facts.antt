@@ -8,44 +8,23 @@ use Rattle.msp_instance.specs.declared.Instance.{Instance}
 use Rattle.msp_instance.specs.Instance.{no_need, no_job, job_at, need_at}
 use Rattle.msp_instance.specs.Conditions.{Inner, leaving}
 use Rattle.msp_schedule.specs.declared.Piece.{Piece}
-use Rattle.msp_schedule.proofs.OfClass.{inner_of}
+use Rattle.msp_schedule.proofs.OfClass.{IsOfClass, IsOfClass-from}
 use Rattle.msp_schedule.specs.Levels.{AreLevels}
 use Rattle.msp_levels.specs.Levels.{levels_class}
 use Rattle.msp_levels.specs.Steps.{is_blocked, IsSlot, seats, IsByLevel, IsUnderWay}
 use Rattle.msp_levels.proofs.Progress.{IsForest, fewer, left_inside, IsUnderWay-start, IsUnderWay-next}
 
-pub record IsUnitForest (i : Instance) : Type 0 where
-  pub kind : kind_of i.class.env ≡ Identical
-  pub cut : i.class.cut ≡ false
-  pub crit : i.class.crit ≡ Cmax
-  pub some : 1 ≤ length i.jobs
-  pub few : length i.jobs ≤ 400
-  pub machines : 1 ≤ i.machines
-  pub most : i.machines ≤ 32
-  pub ones : (j : ℕ) → j < length i.jobs → (need_at i j 0).time ≡ 1
-  pub release : (j : ℕ) → j < length i.jobs → (job_at i j).release ≡ 0
-  pub ends : All (λ a. (a.before < length i.jobs) × (a.after < length i.jobs)) i.arcs
-  pub degree : (j : ℕ) → j < length i.jobs → leaving i.arcs j ≤ 1
+abbrev pub IsUnitForest : Instance → Type 0
+IsUnitForest i = IsOfClass i levels_class
 
 pub IsUnitForest-from : (i : Instance) → i.class ≡ levels_class → Inner i → IsUnitForest i
-IsUnitForest-from i e h =
-    let m = (inner_of i levels_class e h).conditions in
-    record {
-      kind = ap (λ c. kind_of c.env) e;
-      cut = ap (λ c. c.cut) e;
-      crit = ap (λ c. c.crit) e;
-      some = m.some;
-      few = m.few;
-      machines = m.machines.0;
-      most = m.machines.1;
-      ones = λ j b. let job = m.jobs j no_job b in job.times 0 no_need (omega (arith, job.needs.shape.0));
-      release = λ j b. (m.jobs j no_job b).release;
-      ends = m.ends;
-      degree = m.degree;
-    }
+IsUnitForest-from i e h = IsOfClass-from i levels_class e h
+
+pub ones : (i : Instance) → IsUnitForest i → (j : ℕ) → j < length i.jobs → (need_at i j 0).time ≡ 1
+ones i t j b = let job = t.jobs j no_job b in job.times 0 no_need (omega (arith, job.needs.shape.0))
 
 pub IsForest-from : (i : Instance) (level : ℕ → ℕ) → IsUnitForest i → AreLevels i level → IsForest i level
-IsForest-from i level t levels = record { few = t.degree; ends = t.ends; levels = levels; some = t.machines }
+IsForest-from i level t levels = record { few = t.degree; ends = t.ends; levels = levels; some = t.machine }
 
 -- ---- one slot, at the numbers as the code passes them
 module _ (i : Instance) (t : IsUnitForest i) (moment : ℕ) (pieces new : List Piece) (left shown taken passed rest : List ℕ) (arcs : List Arc) (e : arcs ≡ i.arcs) (f : shown ≡ left) (g : passed ≡ taken)

@@ -14,7 +14,7 @@ use Rattle.msp_class.specs.Env.{kind_of}
 use Rattle.msp_class.proofs.IntegerRing.{zero-le-pos, ≤ℤ_refl, ≤ℤ_trans, ≤ℤ_antisym, one-*ℤ, *ℤ-one, *ℤ_comm}
 use Rattle.msp_class.proofs.Sums.{OnceBelow, OnceBelow-from_permutation, OnceBelow-distinct, OnceBelow-range, length-OnceBelow}
 use Rattle.msp_instance.specs.declared.Instance.{Instance}
-use Rattle.msp_instance.specs.Instance.{job_at, need_at}
+use Rattle.msp_instance.specs.Instance.{no_job, job_at, need_at}
 use Rattle.msp_instance.specs.Paths.{HasStep}
 use Rattle.msp_instance.specs.Conditions.{Inner}
 use Rattle.msp_schedule.specs.declared.Piece.{Piece}
@@ -37,7 +37,7 @@ use Rattle.msp_route.specs.Bounds.{IsAnswer, answer_unit}
 use Rattle.msp_schedule.specs.Levels.{LeadsOut, jobs_from, level_bound, StepsDown}
 use Rattle.msp_levels.specs.Levels.{levels_class, IsGreatestBound, IsLevelCost}
 use Rattle.msp_levels.specs.Steps.{level_from, Fits, begin_of, IsMade, StandsFirst, IsUnderWay, IsHuSchedule}
-use Rattle.msp_levels.proofs.Facts.{IsUnitForest, IsUnitForest-from}
+use Rattle.msp_levels.proofs.Facts.{IsUnitForest, IsUnitForest-from, ones}
 use Rattle.msp_schedule.proofs.LevelBound.{law_of_levels}
 
 -- the quotient rounded up is enough
@@ -93,7 +93,7 @@ module _ (i : Instance) (t : IsUnitForest i) (moment : ℕ) (pieces : List Piece
       whole p e =
           let (of, o) = named_one pieces j 0 p e in
           let m = of_one (IsMade i moment) pieces j 0 p e u.made in
-          by p.from p.to (begin_of p) (need_at i p.job p.op).time m.from m.to (ap₂ (λ x y. (need_at i x y).time) of o ∙ t.ones j b)
+          by p.from p.to (begin_of p) (need_at i p.job p.op).time m.from m.to (ap₂ (λ x y. (need_at i x y).time) of o ∙ ones i t j b)
         where
           by : (x y : ℤ) (b time : ℕ) → x ≡ pos b → y ≡ pos (b + 1) → time ≡ 1 → (y -ℤ x) ≡ pos 1 *ℤ pos time
           by x y b time e f g = omega (arith, ints, e, f, g)
@@ -109,7 +109,7 @@ module _ (i : Instance) (t : IsUnitForest i) (moment : ℕ) (pieces : List Piece
     };
     machine = machines_apart;
     job = λ a b d l k e. absurd (apart_jobs a b d l k e);
-    release = λ k d l. released (get_or pieces k d).from (job_at i (get_or pieces k d).job).release (begin_of (get_or pieces k d)) (u.made k d l).from (t.release (get_or pieces k d).job (job_inside k d l));
+    release = λ k d l. released (get_or pieces k d).from (job_at i (get_or pieces k d).job).release (begin_of (get_or pieces k d)) (u.made k d l).from (t.jobs (get_or pieces k d).job no_job (job_inside k d l)).release;
     arc = u.forward;
     route = subst (λ k. FollowsRoute k pieces) (sym t.kind) tt;
     work = works;
@@ -132,7 +132,7 @@ module _ (i : Instance) (t : IsUnitForest i) (moment : ℕ) (pieces : List Piece
       inside = (OnceBelow-range n).within
 
       by : (x : ℕ) → level_bound i u.level x ≤ levels_bound → level_from u.level x (range_with_len 0 n) + i.machines * x ≤ i.machines * levels_bound
-      by x h = omega (arith, enough (jobs_from i u.level x) i.machines t.machines, mul-le-mul_left i.machines h)
+      by x h = omega (arith, enough (jobs_from i u.level x) i.machines t.machine, mul-le-mul_left i.machines h)
 
   soon_enough : moment ≤ levels_bound
   soon_enough = let (slots, e, f) = u.bound levels_bound fits in omega (arith, e)
@@ -161,7 +161,7 @@ module _ (i : Instance) (t : IsUnitForest i) (moment : ℕ) (pieces : List Piece
   lower : (s : Schedule) → Feasible i s → (s.unit *ℤ pos levels_bound) ≤ℤ cost_of i s
   lower s f =
       let (j, b, e) = is_greatest_bound.reached in
-      let (k, inside, bound) = law_of_levels i s u.level (u.level j) j t.kind t.cut t.ones steps_down f b (omega arith) in
+      let (k, inside, bound) = law_of_levels i s u.level (u.level j) j t.kind t.cut (ones i t) steps_down f b (omega arith) in
       ≤ℤ_trans (subst (λ v. (s.unit *ℤ pos v) ≤ℤ end_of s k) e bound) (subst (λ x. x ≤ℤ cost_of i s) (charge s k) (cost_of-bound i s greatest_crit k inside))
 
   cost_is : cost_of i (schedule_of pieces) ≡ pos levels_bound

@@ -1,5 +1,4 @@
 mod JobLevels
-mod Ranks
 mod Counts
 mod SlotSteps
 mod Progress

@@ -8,14 +8,8 @@ ghost use Rattle.msp_levels.specs.Steps.{IsOver};
 
 use msp_class::NoMemory;
 use msp_instance::{Arc, Instance, MOST_JOBS, OrderFault, forward};
+use msp_route::{Keyed, job_numbers, sort_by_falling_key};
 use std::alloc::Global;
-
-/// A job and its level.
-#[derive(Clone, Copy)]
-struct Ranked {
-    job: u32,
-    level: u32,
-}
 
 fn no_levels() -> [u32; MOST_JOBS]
     ensures { (k : ℕ) → slice_index result k ≡ 0 }
@@ -77,28 +71,19 @@ fn ranked_jobs(
     alloc: Global,
     count: usize,
     levels: &[u32; MOST_JOBS],
-) -> Result<Vec<Ranked>, NoMemory>
+) -> Result<Vec<Keyed>, NoMemory>
     requires { count ≤ MOST_JOBS }
     ensures jobs { IfOk result (λ all. map (λ r. r.job) all.items ≡ range_with_len 0 count) }
-    ensures levels { IfOk result (λ all. All (λ r. r.level ≡ slice_index levels.now r.job) all.items) }
+    ensures levels { IfOk result (λ all. All (λ r. r.key ≡ slice_index levels.now r.job) all.items) }
 {
     let mut all = Vec::new(alloc);
     for job in 0..count as u32 {
-        let level = levels[job as usize];
-        if all.push(Ranked { job, level }).is_err() {
+        let key = u64::from(levels[job as usize]);
+        if all.push(Keyed { job, key }).is_err() {
             return Err(NoMemory);
         }
     }
     Ok(all)
-}
-
-fn numbers_of(alloc: Global, all: &[Ranked]) -> Result<Vec<u32>, NoMemory>
-    ensures { IfOk result (λ numbers. numbers.items ≡ map (λ r. r.job) all.now) }
-{
-    match all.iter().map(|ranked| ranked.job).collect(alloc) {
-        Ok(numbers) => Ok(numbers),
-        Err(_) => Err(NoMemory),
-    }
 }
 
 /// All jobs by falling level, ties by number.
@@ -107,14 +92,11 @@ pub fn jobs_by_level(
     count: usize,
     levels: &[u32; MOST_JOBS],
 ) -> Result<Vec<u32>, NoMemory>
-    requires few { count ≤ MOST_JOBS }
-    requires small { (k : ℕ) → slice_index levels.now k ≤ MOST_JOBS }
+    requires { count ≤ MOST_JOBS }
     ensures all { IfOk result (λ jobs. IsPermutation (range_with_len 0 count) jobs.items) }
     ensures falling { IfOk result (λ jobs. AllPairs (λ a b. slice_index levels.now b ≤ slice_index levels.now a) jobs.items) }
 {
     let mut all = ranked_jobs(alloc, count, levels)?;
-    if all.sort_by_key(|ranked| u32::MAX - ranked.level).is_err() {
-        return Err(NoMemory);
-    }
-    numbers_of(alloc, all.as_slice())
+    sort_by_falling_key(&mut all);
+    job_numbers(alloc, all.as_slice())
 }

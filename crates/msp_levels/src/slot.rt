@@ -39,9 +39,7 @@ fn put(slot: &mut Slot, job: u32, goes: bool) -> Result<(), NoMemory>
     } else {
         slot.rest.push(job)
     };
-    if pushed.is_err() {
-        return Err(NoMemory);
-    }
+    pushed?;
     Ok(())
 }
 

@@ -10,8 +10,10 @@ pub mod Search
 pub mod Pushes
 pub mod RowSteps
 pub mod PlainJobs
+pub mod OneInstances
 pub mod RowAnswer
 pub mod Ratios
 pub mod Applied
 pub mod Samples
 pub mod KeyOrder
+pub mod KeyedJobs

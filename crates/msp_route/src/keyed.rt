@@ -1,6 +1,8 @@
 // Jobs that are sorted by a number.
-ghost use Rattle.std.specs.Prelude.{◌≡◌, ◌<◌, ◌≤◌, ◌⊎◌, map, AllPairs, IfOk, IsPermutation};
+ghost use Rattle.std.specs.Prelude.{◌≡◌, ◌<◌, ◌≤◌, ◌⊎◌, length, map, slice_index_or, All, AllPairs, IfOk, IsPermutation};
+ghost use Rattle.std.specs.List.{range_with_len};
 ghost use Rattle.std.specs.Ordering.{nat_cmp, ordering_then};
+ghost use Rattle.msp_instance.specs.declared.ranges.TheConstants.{MOST_JOBS};
 
 use msp_class::NoMemory;
 use std::alloc::Global;
@@ -45,8 +47,33 @@ pub fn sort_by_falling_key(jobs: &mut Vec<Keyed>)
 pub fn job_numbers(alloc: Global, jobs: &[Keyed]) -> Result<Vec<u32>, NoMemory>
     ensures { IfOk result (λ numbers. numbers.items ≡ map (λ k. k.job) jobs.now) }
 {
-    match jobs.iter().map(|keyed| keyed.job).collect(alloc) {
-        Ok(numbers) => Ok(numbers),
-        Err(_) => Err(NoMemory),
+    Ok(jobs.iter().map(|keyed| keyed.job).collect(alloc)?)
+}
+
+/// The jobs with their keys, in order of number.
+fn keyed_jobs(alloc: Global, keys: &[u64]) -> Result<Vec<Keyed>, NoMemory>
+    requires { length keys.now ≤ MOST_JOBS }
+    ensures jobs { IfOk result (λ all. map (λ k. k.job) all.items ≡ range_with_len 0 (length keys.now)) }
+    ensures keys { IfOk result (λ all. All (λ k. k.key ≡ slice_index_or keys.now k.job 0) all.items) }
+{
+    let mut all = Vec::new(alloc);
+    for place in 0..keys.len() {
+        let job = place as u32;
+        let key = keys[place];
+        if all.push(Keyed { job, key }).is_err() {
+            return Err(NoMemory);
+        }
     }
+    Ok(all)
+}
+
+/// All jobs by rising key, ties by number. The keys stand in order of the jobs.
+pub fn jobs_by_key(alloc: Global, keys: &[u64]) -> Result<Vec<u32>, NoMemory>
+    requires { length keys.now ≤ MOST_JOBS }
+    ensures all { IfOk result (λ jobs. IsPermutation (range_with_len 0 (length keys.now)) jobs.items) }
+    ensures rising { IfOk result (λ jobs. AllPairs (λ a b. (slice_index_or keys.now a 0 < slice_index_or keys.now b 0) ⊎ ((slice_index_or keys.now a 0 ≡ slice_index_or keys.now b 0) × (a ≤ b))) jobs.items) }
+{
+    let mut all = keyed_jobs(alloc, keys)?;
+    sort_by_key(&mut all);
+    job_numbers(alloc, all.as_slice())
 }

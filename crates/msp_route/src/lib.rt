@@ -26,7 +26,7 @@ pub use bounds::{
     GREATEST_OPEN_UNIT, GREATEST_RAISE,
 };
 pub use copies::{led, recast};
-pub use keyed::{Keyed, job_numbers, sort_by_falling_key, sort_by_key};
+pub use keyed::{Keyed, job_numbers, jobs_by_key, sort_by_falling_key, sort_by_key};
 pub use last_job::last_place;
 pub use laws::law_of_limits;
 pub use marks::{mark, marks_of, no_marks};

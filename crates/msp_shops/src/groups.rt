@@ -54,9 +54,7 @@ fn put_job(
     if first_machine(inst, job) != machine {
         return Ok(());
     }
-    if times.push(times_of(inst, job)).is_err() {
-        return Err(NoMemory);
-    }
+    times.push(times_of(inst, job))?;
     Ok(())
 }
 

@@ -76,10 +76,7 @@ fn turn(job: &JobTimes) -> JobTimes
 fn turn_all(alloc: Global, jobs: &[JobTimes]) -> Result<Vec<JobTimes>, NoMemory>
     ensures { IfOk result (λ times. times.items ≡ map turned jobs.now) }
 {
-    match jobs.iter().map(|job| turn(job)).collect(alloc) {
-        Ok(times) => Ok(times),
-        Err(_) => Err(NoMemory),
-    }
+    Ok(jobs.iter().map(|job| turn(job)).collect(alloc)?)
 }
 
 /// The special job first on the second machine and last on the first one, and the others between.
@@ -99,18 +96,14 @@ fn lay(
     ensures { IfOk result (λ pieces. IsLaid first second special others.now pieces) }
 {
     let mut pieces = List::new(alloc);
-    if put(&mut pieces, special.job, second, 0, special.second).is_err() {
-        return Err(NoMemory);
-    }
+    put(&mut pieces, special.job, second, 0, special.second)?;
     let from = Moments {
         first: 0,
         second: special.second,
     };
     let to = pass(&mut pieces, others, first, second, from)?;
     let begin = to.first.max(special.second);
-    if put(&mut pieces, special.job, first, begin, special.first).is_err() {
-        return Err(NoMemory);
-    }
+    put(&mut pieces, special.job, first, begin, special.first)?;
     Ok(pieces)
 }
 

@@ -50,10 +50,7 @@ pub fn put(
         from: i128::from(begin),
         to: i128::from(begin + time),
     };
-    if pieces.push(piece).is_err() {
-        return Err(NoMemory);
-    }
-    Ok(())
+    pieces.put(piece)
 }
 
 /// Lays the jobs in their order, each as early as it can: on the first machine one after another, and on the second one as soon as the

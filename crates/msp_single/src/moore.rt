@@ -130,9 +130,7 @@ fn drop_longest(choice: &mut Choice) -> Result<(), NoMemory>
     let place = longest(choice.accepted.as_slice());
     let longest = choice.accepted.remove(place);
     choice.total -= longest.time;
-    if choice.dropped.push(longest).is_err() {
-        return Err(NoMemory);
-    }
+    choice.dropped.push(longest)?;
     Ok(())
 }
 
@@ -176,10 +174,7 @@ fn choose(alloc: Global, tasks: &[Task]) -> Result<Choice, NoMemory>
 fn numbers_of(alloc: Global, tasks: &[Task]) -> Result<Vec<u32>, NoMemory>
     ensures { IfOk result (λ numbers. numbers.items ≡ map (λ t. t.job) tasks.now) }
 {
-    match tasks.iter().map(|task| task.job).collect(alloc) {
-        Ok(numbers) => Ok(numbers),
-        Err(_) => Err(NoMemory),
-    }
+    Ok(tasks.iter().map(|task| task.job).collect(alloc)?)
 }
 
 /// The numbers of the tasks that are accepted, in their order, and of those that are dropped, sorted.
@@ -192,9 +187,7 @@ fn in_order(alloc: Global, choice: Choice) -> Result<Vec<u32>, NoMemory>
         ..
     } = choice;
     sort_by_number(&mut dropped);
-    if accepted.append(&mut dropped).is_err() {
-        return Err(NoMemory);
-    }
+    accepted.append(&mut dropped)?;
     numbers_of(alloc, &accepted)
 }
 

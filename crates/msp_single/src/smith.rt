@@ -82,10 +82,7 @@ fn loads_of(alloc: Global, inst: &Instance) -> Result<Vec<Load>, NoMemory>
 fn numbers_of(alloc: Global, loads: &[Load]) -> Result<Vec<u32>, NoMemory>
     ensures { IfOk result (λ numbers. numbers.items ≡ map (λ l. l.job) loads.now) }
 {
-    match loads.iter().map(|load| load.job).collect(alloc) {
-        Ok(numbers) => Ok(numbers),
-        Err(_) => Err(NoMemory),
-    }
+    Ok(loads.iter().map(|load| load.job).collect(alloc)?)
 }
 
 /// The numbers of the jobs by greater weight for their time, ties by number.

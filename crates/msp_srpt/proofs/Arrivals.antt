@@ -14,7 +14,8 @@ use Rattle.msp_srpt.specs.declared.shortest.Task.{Task}
 use Rattle.msp_srpt.specs.declared.shortest.Arrival.{Arrival}
 use Rattle.msp_srpt.specs.Running.{HaveCome, IsUnderWay, GoesOn, IsCarriedOut, brought}
 use Rattle.msp_srpt.proofs.Facts.{IsArrivalOf}
-use Rattle.msp_srpt.proofs.Instances.{IsShortestInstance, takes_time, is_short, is_early}
+use Rattle.msp_srpt.proofs.Instances.{IsShortestInstance}
+use Rattle.msp_route.proofs.OneInstances.{takes_time, is_short, is_early}
 use Rattle.msp_srpt.proofs.Steps.{IsUnderWay-permuted, IsUnderWay-comes}
 
 -- all jobs have come
@@ -98,15 +99,15 @@ module _ (i : Instance) (h : IsShortestInstance i) (all : List Arrival) (s : Are
       subst (λ js. IsUnderWay i js a.release new zs) (sym (one_more k a l))
       (subst Q at
       (IsUnderWay-permuted i (jobs_of (take k all) ++ a.task.job ∷ []) a.release new (a.task ∷ ys) zs p
-      (IsUnderWay-comes i (jobs_of (take k all)) a.release new ys a.task small (omega (arith, mine.0)) mine.1 (omega (arith, mine.1, takes_time i h a.task.job small))
-      (subst (λ b. count_by (λ y. y == b.task.job) (jobs_of (take k all)) ≡ 0) (sym at) (not_yet k a l)) (omega (arith, mine.0, is_early i h a.task.job small))
+      (IsUnderWay-comes i (jobs_of (take k all)) a.release new ys a.task small (omega (arith, mine.0)) mine.1 (omega (arith, mine.1, takes_time i h.one a.task.job small))
+      (subst (λ b. count_by (λ y. y == b.task.job) (jobs_of (take k all)) ≡ 0) (sym at) (not_yet k a l)) (omega (arith, mine.0, is_early i h.one a.task.job small))
       (on i (jobs_of (take k all)) (subst (λ b. HaveCome i (jobs_of (take k all)) b.release) (sym at) (come k a l)) u))))
 
   pub early : (k : ℕ) (a : Arrival) → k < length all → a ≡ get_or all k a → (a.release ≤ 2000000000) × (0 < a.task.left)
   early k a l at =
       let mine : IsArrivalOf i a = subst (IsArrivalOf i) (sym at) (s.each k a l) in
       let small : a.task.job < length i.jobs = subst (λ b. b.task.job < length i.jobs) (sym at) (inside k a l) in
-      (omega (arith, mine.0, is_early i h a.task.job small), omega (arith, mine.1, takes_time i h a.task.job small))
+      (omega (arith, mine.0, is_early i h.one a.task.job small), omega (arith, mine.1, takes_time i h.one a.task.job small))
 
   pub in_order : (k : ℕ) (a : Arrival) → a ≡ get_or all k a → (m : ℕ) (d : Arrival) → k + 1 ≤ m → m < length all → a.release ≤ (get_or all m d).release
   in_order k a at m d l q =
@@ -135,10 +136,10 @@ module _ (i : Instance) (h : IsShortestInstance i) (all : List Arrival) (s : Are
       whole =
           omega (
             arith,
-            sum_by-mono (time_at i) (λ _. 1000000000) (jobs_of all) (λ m d q. is_short i h (get_or (jobs_of all) m d) (s.once.within m d q)),
+            sum_by-mono (time_at i) (λ _. 1000000000) (jobs_of all) (λ m d q. is_short i h.one (get_or (jobs_of all) m d) (s.once.within m d q)),
             sum_by-constant 1000000000 (jobs_of all),
             length-OnceBelow s.once,
-            h.few,
+            h.one.few,
           )
 
       none : (ys : List Task) → IsUnderWay i (jobs_of all) 403000000000 new ys → ys ≡ []

@@ -34,7 +34,8 @@ use Rattle.msp_srpt.specs.Running.{IsCarriedOut, IsLaid}
 use Rattle.msp_srpt.proofs.Laying.{run_of, run-settled, run-unborn}
 use Rattle.msp_srpt.proofs.Lower.{IsDue, Keeps, rests, serves, ends_below}
 use Rattle.msp_srpt.proofs.Arrivals.{brought-all}
-use Rattle.msp_srpt.proofs.Instances.{IsShortestInstance, IsShortestInstance-from_class, takes_time}
+use Rattle.msp_srpt.proofs.Instances.{IsShortestInstance, IsShortestInstance-from_class}
+use Rattle.msp_route.proofs.OneInstances.{takes_time}
 
 -- the sum of the ends, in ℕ
 pub ends_cost : (i : Instance) (s : Schedule) → i.class.crit ≡ SumC → All IsTimed s.pieces → cost_of i s ≡ pos (total_below (length i.jobs) (last_of job_of finish s.pieces))
@@ -95,11 +96,11 @@ module _ (i : Instance) (h : IsShortestInstance i) (t : ℕ) (ps : List Piece) (
   places : All (HasPlace i) ps
   places k d l =
       let p = laid.place k d l in
-      let one = h.machine.one in
+      let one = h.one.machine.one in
       record {
         job = p.0;
-        operation = subst (λ x. HasOperation x i (get_or ps k d).job (get_or ps k d).op) (sym h.machine.kind) p.1;
-        machine = subst (λ x. MayRun x i (get_or ps k d).job (get_or ps k d).op (get_or ps k d).machine) (sym h.machine.kind) (omega (arith, p.2, one));
+        operation = subst (λ x. HasOperation x i (get_or ps k d).job (get_or ps k d).op) (sym h.one.machine.kind) p.1;
+        machine = subst (λ x. MayRun x i (get_or ps k d).job (get_or ps k d).op (get_or ps k d).machine) (sym h.one.machine.kind) (omega (arith, p.2, one));
       }
 
   no_arcs : All (λ a. All (λ p. All (λ r. p.job ≡ a.before → r.job ≡ a.after → IsBefore p r) ps) ps) i.arcs
@@ -125,8 +126,8 @@ module _ (i : Instance) (h : IsShortestInstance i) (t : ℕ) (ps : List Piece) (
 
     works : (m : ℕ) → HasOperation (kind_of i.class.env) i j m → GetsWork i s j m
     works m op =
-        let zero_op : m ≡ 0 = subst (λ x. HasOperation x i j m) h.machine.kind op in
-        subst (λ x. Gets x m i.class.cut) (sym h.machine.kind) (subst (λ z. Gets Identical z i.class.cut) (sym zero_op) (subst (Gets Identical 0) (sym h.cut) adds_up))
+        let zero_op : m ≡ 0 = subst (λ x. HasOperation x i j m) h.one.machine.kind op in
+        subst (λ x. Gets x m i.class.cut) (sym h.one.machine.kind) (subst (λ z. Gets Identical z i.class.cut) (sym zero_op) (subst (Gets Identical 0) (sym h.cut) adds_up))
 
   is_feasible : Feasible i s
   is_feasible = record {
@@ -137,7 +138,7 @@ module _ (i : Instance) (h : IsShortestInstance i) (t : ℕ) (ps : List Piece) (
     job = λ a b d l m _. inl (in_order a b d l m);
     release = λ k d l. let q = laid.timed k d l in omega (arith, ints, q.from, laid.released k d l);
     arc = no_arcs;
-    route = subst (λ x. FollowsRoute x ps) (sym h.machine.kind) tt;
+    route = subst (λ x. FollowsRoute x ps) (sym h.one.machine.kind) tt;
     work = λ j m l op. works j l m op;
   }
 
@@ -184,10 +185,10 @@ module _ (i : Instance) (h : IsShortestInstance i) (t : ℕ) (ps : List Piece) (
 
   beats : (c : Schedule) → Feasible i c → (cost_of i s *ℤ c.unit) ≤ℤ (cost_of i c *ℤ pos 1)
   beats c f =
-      let plan = IsPlan-from_feasible i h.machine c f in
+      let plan = IsPlan-from_feasible i h.one.machine c f in
       let d = nat_abs c.unit in
       in_int _ _ c.unit (total_below n ends) (total_below n (last_of job_of finish c.pieces)) d (ends_cost i s h.crit laid.timed) (ends_cost i c h.crit plan.timed) plan.unit
-      (ends_below n (λ j. (job_at i j).release) (time_at i) (run_before ps) (takes_time i h) (λ v j l m. run-unborn i v j ps laid.released m) in_numbers job_of start finish c.pieces d plan.some plan.jobs plan.apart
+      (ends_below n (λ j. (job_at i j).release) (time_at i) (run_before ps) (takes_time i h.one) (λ v j l m. run-unborn i v j ps laid.released m) in_numbers job_of start finish c.pieces d plan.some plan.jobs plan.apart
       (λ k e l. begins (get_or c.pieces k e) (plan.timed k e l) plan.unit (f.release k e l)) plan.work ends complete)
     where
       begins : (p : Piece) → IsTimed p → c.unit ≡ pos (nat_abs c.unit) → (c.unit *ℤ pos (job_at i p.job).release) ≤ℤ p.from → nat_abs c.unit * (job_at i p.job).release ≤ start p

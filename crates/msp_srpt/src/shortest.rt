@@ -97,9 +97,7 @@ fn begin_of(pieces: &mut Vec<Piece>, job: u32, from: u64) -> Result<i128, NoMemo
             if goes_on(&last, job, moment) {
                 return Ok(last.from);
             }
-            if pieces.push(last).is_err() {
-                return Err(NoMemory);
-            }
+            pieces.push(last)?;
             Ok(moment)
         }
     }

@@ -31,7 +31,7 @@ use Rattle.msp_total.specs.Seating.{one_if, begin_at, IsSeated}
 use Rattle.msp_total.specs.SlotSteps.{slot_class, start_in, machine_in, head_in, piece_in, AreFilled, AreLeastLaid}
 use Rattle.msp_total.proofs.Seats.{HasSeats, law_of_seats, at_more}
 use Rattle.msp_total.proofs.SlotBound.{head_at, begins_of}
-use Rattle.msp_total.proofs.SlotFacts.{IsUnitShop, IsUnitShop-from, sums, ended, ended_small, cost_early, cost_in_time, cost_natural, heads_many, released-sorted, slots_soon}
+use Rattle.msp_total.proofs.SlotFacts.{IsUnitShop, IsUnitShop-from, ones, sums, ended, ended_small, cost_early, cost_in_time, cost_natural, heads_many, released-sorted, slots_soon}
 
 -- ---- totals of integers
 int_total_below-zero : (n : ℕ) (f : ℕ → ℤ) → ((j : ℕ) → j < n → pos 0 ≤ℤ f j) → pos 0 ≤ℤ int_total_below n f
@@ -137,7 +137,7 @@ module _ (i : Instance) (late : Bool) (h : IsUnitShop i late) (pieces : List Pie
 
   lower : (s : Schedule) → Feasible i s → (s.unit *ℤ value) ≤ℤ cost_of i s
   lower s f =
-      let (begin, b) = begins_of i s h.kind h.cut h.ones f in
+      let (begin, b) = begins_of i s h.kind h.cut (ones i late h) f in
       let (seat, e) = seats begin b.seated in
       let natural_unit : pos 0 ≤ℤ s.unit = omega (arith, ints, f.unit) in
       ≤ℤ_trans (*ℤ-mono_nonneg s.unit natural_unit (least_here begin seat e))
@@ -154,8 +154,8 @@ module _ (i : Instance) (late : Bool) (h : IsUnitShop i late) (pieces : List Pie
 
   one_by_one : IsSeated n i.machines (head_at i) (λ j. 2000000000 + j)
   one_by_one = record {
-    released = λ j b. let r = h.heads j no_job b in omega (arith, r);
-    few = λ x. omega (arith, one_at_a_time 2000000000 n x, one_most (ltb x (2000000000 + n)), h.machines);
+    released = λ j b. let r = (h.jobs j no_job b).release in omega (arith, r);
+    few = λ x. omega (arith, one_at_a_time 2000000000 n x, one_most (ltb x (2000000000 + n)), h.machine);
   }
 
   value_small : value ≤ℤ pos (400 * 10000000000000000000)
@@ -248,7 +248,7 @@ module _ (i : Instance) (late : Bool) (h : IsUnitShop i late) (pieces : List Pie
   one_piece j b = pieces_of-job (schedule_of pieces) j ops ∙ mine j b
 
   works : (j o : ℕ) → j < n → HasOperation (kind_of i.class.env) i j o → GetsWork i (schedule_of pieces) j o
-  works j o b w = subst (λ o. GetsWork i (schedule_of pieces) j o) (sym first) (subst (λ c. MatchBool c (total (map (work_of (kind_of i.class.env) i) (pieces_of (schedule_of pieces) j 0)) ≡ pos 1 *ℤ pos (whole_work (kind_of i.class.env) i j 0)) ((p : Piece) × (pieces_of (schedule_of pieces) j 0 ≡ p ∷ []) × IsWholeWork (kind_of i.class.env) i (pos 1) p)) (sym h.cut) (piece_in l.slots j (col j), one_piece j b, subst (λ k. IsWholeWork k i (pos 1) (piece_in l.slots j (col j))) (sym h.kind) (by (start (col j)) (need_at i j 0).time (h.ones j b))))
+  works j o b w = subst (λ o. GetsWork i (schedule_of pieces) j o) (sym first) (subst (λ c. MatchBool c (total (map (work_of (kind_of i.class.env) i) (pieces_of (schedule_of pieces) j 0)) ≡ pos 1 *ℤ pos (whole_work (kind_of i.class.env) i j 0)) ((p : Piece) × (pieces_of (schedule_of pieces) j 0 ≡ p ∷ []) × IsWholeWork (kind_of i.class.env) i (pos 1) p)) (sym h.cut) (piece_in l.slots j (col j), one_piece j b, subst (λ k. IsWholeWork k i (pos 1) (piece_in l.slots j (col j))) (sym h.kind) (by (start (col j)) (need_at i j 0).time (ones i late h j b))))
     where
       first : o ≡ 0
       first = subst (λ k. HasOperation k i j o) h.kind w

@@ -22,7 +22,7 @@ use Rattle.msp_schedule.specs.Cost.{job_cost}
 use Rattle.msp_assign.specs.Prices.{HasCosts, IsAssigned, IsLeast}
 use Rattle.msp_total.specs.declared.earliest.Slot.{Slot}
 use Rattle.msp_total.specs.declared.slot_table.Slots.{Slots}
-use Rattle.msp_schedule.proofs.OfClass.{inner_of}
+use Rattle.msp_schedule.proofs.OfClass.{IsOfClass, IsOfClass-from}
 use Rattle.msp_schedule.proofs.Places.{sum_by-places}
 use Rattle.msp_total.specs.Slots.{forbidden, past_due, slot_cost}
 use Rattle.msp_total.specs.Seating.{one_if}
@@ -30,19 +30,11 @@ use Rattle.msp_total.specs.SlotSteps.{slot_crit, slot_class, no_slot, start_in, 
 use Rattle.msp_total.proofs.Seats.{released_by}
 use Rattle.msp_total.proofs.SlotBound.{head_at}
 
-pub record IsUnitShop (i : Instance) (late : Bool) : Type 0 where
-  pub kind : kind_of i.class.env ≡ Identical
-  pub cut : i.class.cut ≡ false
-  pub crit : i.class.crit ≡ slot_crit late
-  pub some : 1 ≤ length i.jobs
-  pub few : length i.jobs ≤ 400
-  pub machines : 1 ≤ i.machines
-  pub most : i.machines ≤ 32
-  pub arcs : i.arcs ≡ []
-  pub ones : (j : ℕ) → j < length i.jobs → (need_at i j 0).time ≡ 1
-  pub heads : All (λ j. j.release ≤ 2000000000) i.jobs
-  pub dues : All (λ j. LiesWithin 2000000000 j.due) i.jobs
-  pub weights : All (λ j. j.weight ≤ 1000000000) i.jobs
+abbrev pub IsUnitShop : Instance → Bool → Type 0
+IsUnitShop i late = IsOfClass i (slot_class late)
+
+pub IsUnitShop-from : (i : Instance) (late : Bool) → i.class ≡ slot_class late → Inner i → IsUnitShop i late
+IsUnitShop-from i late e h = IsOfClass-from i (slot_class late) e h
 
 due_of : (late : Bool) (l : Limits) (d : ℤ) → HasDue l (uses_due (slot_crit late)) d → LiesWithin l.greatest_date d
 due_of true l d h = h
@@ -52,23 +44,17 @@ weight_of : (late : Bool) (w : ℕ) → HasWeight (uses_weight (slot_crit late))
 weight_of true w h = h.1
 weight_of false w h = h.1
 
-pub IsUnitShop-from : (i : Instance) (late : Bool) → i.class ≡ slot_class late → Inner i → IsUnitShop i late
-IsUnitShop-from i late e h =
-    let m = (inner_of i (slot_class late) e h).conditions in
-    record {
-      kind = ap (λ c. kind_of c.env) e;
-      cut = ap (λ c. c.cut) e;
-      crit = ap (λ c. c.crit) e;
-      some = m.some;
-      few = m.few;
-      machines = m.machines.0;
-      most = m.machines.1;
-      arcs = m.arcs;
-      ones = λ j b. let job = m.jobs j no_job b in job.times 0 no_need (omega (arith, job.needs.shape.0));
-      heads = λ j d b. (m.jobs j d b).release;
-      dues = λ j d b. due_of late (inner_limits Identical) (get_or i.jobs j d).due (m.jobs j d b).due;
-      weights = λ j d b. weight_of late (get_or i.jobs j d).weight (m.jobs j d b).weight;
-    }
+pub ones : (i : Instance) (late : Bool) → IsUnitShop i late → (j : ℕ) → j < length i.jobs → (need_at i j 0).time ≡ 1
+ones i late h j b = let job = h.jobs j no_job b in job.times 0 no_need (omega (arith, job.needs.shape.0))
+
+pub releases : (i : Instance) (late : Bool) → IsUnitShop i late → All (λ j. j.release ≤ 2000000000) i.jobs
+releases i late h j d b = (h.jobs j d b).release
+
+dues : (i : Instance) (late : Bool) → IsUnitShop i late → All (λ j. LiesWithin 2000000000 j.due) i.jobs
+dues i late h j d b = due_of late (inner_limits Identical) (get_or i.jobs j d).due (h.jobs j d b).due
+
+pub weights : (i : Instance) (late : Bool) → IsUnitShop i late → All (λ j. j.weight ≤ 1000000000) i.jobs
+weights i late h j d b = weight_of late (get_or i.jobs j d).weight (h.jobs j d b).weight
 
 pub sums : (i : Instance) (late : Bool) → IsUnitShop i late → is_greatest i.class.crit ≡ false
 sums i late h = ap is_greatest h.crit ∙ by late
@@ -136,7 +122,7 @@ module _ (i : Instance) (late : Bool) (h : IsUnitShop i late) (slots : List Slot
 
   pub ended_small : (j x : ℕ) → j < length i.jobs → x ≤ 4000000000 → ended i j x ≤ℤ pos 10000000000000000000
   ended_small j x a l = subst (λ z. z ≤ℤ pos 10000000000000000000) (sym (ap (λ c. job_cost c (pos 1) (job_at i j) (pos (x + 1))) h.crit ∙ cost_at late (job_at i j) (x + 1)))
-      (weighed_small (job_at i j).weight (past_due late (pos (x + 1)) (job_at i j).due) (h.weights j no_job a) (past_small late (x + 1) (job_at i j).due (omega (arith, l)) (h.dues j no_job a)))
+      (weighed_small (job_at i j).weight (past_due late (pos (x + 1)) (job_at i j).due) (weights i late h j no_job a) (past_small late (x + 1) (job_at i j).due (omega (arith, l)) (dues i late h j no_job a)))
 
   -- in a slot that begins early, and in another
   pub cost_early : (j k : ℕ) → j < length i.jobs → k < length slots → start_in slots k < head_at i j → slot_cost table j k ≡ forbidden
@@ -171,7 +157,7 @@ module _ (i : Instance) (late : Bool) (h : IsUnitShop i late) (heads : List ℕ)
   heads_few = omega (arith, heads_many i heads p, h.few)
 
   pub heads_low : All (λ r. r ≤ 2000000000) heads
-  heads_low = All-permutation (λ r. r ≤ 2000000000) (map (λ j. j.release) i.jobs) heads p (All-map (λ r. r ≤ 2000000000) (λ j. j.release) i.jobs h.heads)
+  heads_low = All-permutation (λ r. r ≤ 2000000000) (map (λ j. j.release) i.jobs) heads p (All-map (λ r. r ≤ 2000000000) (λ j. j.release) i.jobs (releases i late h))
 
   module _ (slots : List Slot) (filled : AreSlots i.machines heads slots) where
     pub slots_many : length slots ≡ length i.jobs

@@ -17,7 +17,7 @@ use Rattle.msp_total.specs.Multipliers.{IsByMultipliers}
 use Rattle.msp_total.specs.Places.{ArePlaces, laid}
 use Rattle.msp_total.specs.Turns.{IsByTime, AreTurns}
 use Rattle.msp_total.proofs.LaidSchedule.{laid_is_within, laid_is_answer}
-use Rattle.msp_total.proofs.UniformFacts.{IsUniformInstance}
+use Rattle.msp_total.proofs.UniformFacts.{IsUniformInstance, times}
 use Rattle.msp_total.proofs.UniformBest.{IsPlain-from_uniform, steps_by, steps-length, step-most, fitting, best}
 use Rattle.msp_total.proofs.UniformOrder.{is_by_multipliers}
 
@@ -61,7 +61,7 @@ module _ (i : Instance) (h : IsUniformInstance i) (speeds : List ℕ) (unit : �
     jobs_few = omega (arith, ap length same_jobs, length-map jobs (λ t. t.job), length-OnceBelow (OnceBelow-from_permutation sorted.all), h.few)
 
     pub jobs_short : All (λ t. t.key ≤ 1000000000) taken
-    jobs_short = subst (All (λ t. t.key ≤ 1000000000)) (sym same_jobs) (λ k d l. omega (arith, sorted.times k d l, (h.times (get_or jobs k d).job (inside k d l)).1))
+    jobs_short = subst (All (λ t. t.key ≤ 1000000000)) (sym same_jobs) (λ k d l. omega (arith, sorted.times k d l, (times i h (get_or jobs k d).job (inside k d l)).1))
       where
         inside : All (λ t. t.job < length i.jobs) jobs
         inside k d l = All-contains (λ j. j < length i.jobs) (map (λ t. t.job) jobs) (get_or jobs k d).job (OnceBelow-from_permutation sorted.all).within (Contains-map (λ t. t.job) jobs (get_or jobs k d) (Contains-get_or jobs k d l))

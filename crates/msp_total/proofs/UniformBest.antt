@@ -13,7 +13,7 @@ use Rattle.msp_class.proofs.IntegerRing.{natural, pos-le, pos-same, ≤ℤ_trans
 use Rattle.msp_class.specs.Sums.{total_below}
 use Rattle.msp_class.proofs.Sums.{sum_by-map, sum_by-OnceBelow, total_below-same, total_below-scale, OnceBelow, OnceBelow-from_permutation, OnceBelow-distinct, length-OnceBelow}
 use Rattle.msp_instance.specs.declared.Instance.{Instance}
-use Rattle.msp_instance.specs.Instance.{need_at}
+use Rattle.msp_instance.specs.Instance.{no_job, need_at}
 use Rattle.msp_schedule.specs.declared.Piece.{Piece}
 use Rattle.msp_schedule.specs.declared.Schedule.{Schedule}
 use Rattle.msp_schedule.specs.Piece.{length_of, start, finish, IsTimed}
@@ -34,7 +34,7 @@ use Rattle.msp_total.specs.Multipliers.{seats}
 use Rattle.msp_total.proofs.Greedy.{taken, least_in_all}
 use Rattle.msp_total.proofs.LaidJobs.{piece_before, piece_long, length_at}
 use Rattle.msp_total.proofs.LaidSchedule.{IsPlain, AreFitting, schedule_of, laid_is_feasible, laid_costs, laid_is_within, laid_is_answer}
-use Rattle.msp_total.proofs.UniformFacts.{IsUniformInstance}
+use Rattle.msp_total.proofs.UniformFacts.{IsUniformInstance, times}
 
 pub IsPlain-from_uniform : (i : Instance) → IsUniformInstance i → IsPlain i
 IsPlain-from_uniform i h = record {
@@ -42,7 +42,7 @@ IsPlain-from_uniform i h = record {
   crit = h.crit;
   arcs = h.arcs;
   few = h.few;
-  release = h.release;
+  release = λ j l. (h.jobs j no_job l).release;
   first = λ j o op. subst (λ k. HasOperation k i j o) h.kind op;
   operation = λ j. subst (λ k. HasOperation k i j 0) (sym h.kind) refl;
   may_run = λ j m l. subst (λ k. MayRun k i j 0 m) (sym h.kind) l;
@@ -61,11 +61,11 @@ module _ (i : Instance) (h : IsUniformInstance i) (unit : ℕ) (common : IsCommo
   speed m = slice_index_or i.speeds m 0
 
   pub steps-length : length (steps_by i unit) ≡ i.machines
-  steps-length = length-map i.speeds (λ s. unit / s) ∙ h.count
+  steps-length = length-map i.speeds (λ s. unit / s) ∙ h.speeds.0
 
   pub step-speed : (m : ℕ) → m < i.machines → step m * speed m ≡ unit
   step-speed m l =
-      let inside : m < length i.speeds = omega (arith, l, h.count) in
+      let inside : m < length i.speeds = omega (arith, l, h.speeds.0) in
       ap (λ x. x * speed m) (get_or-map (λ s. unit / s) i.speeds m 0 0 inside) ∙ div-mul_cancel (speed m) (common.common m 0 inside)
 
   step-some : (m : ℕ) → m < i.machines → 1 ≤ step m
@@ -75,7 +75,7 @@ module _ (i : Instance) (h : IsUniformInstance i) (unit : ℕ) (common : IsCommo
       by a b u e k = grind arith
 
   pub step-most : (m : ℕ) → m < i.machines → step m ≤ unit
-  step-most m l = by (step m) (speed m) unit (step-speed m l) (h.speeds m 0 (omega (arith, l, h.count))).0
+  step-most m l = by (step m) (speed m) unit (step-speed m l) (h.speeds.1 m 0 (omega (arith, l, h.speeds.0))).0
     where
       by : (a b u : ℕ) → a * b ≡ u → 1 ≤ b → a ≤ u
       by a b u e k = grind arith
@@ -169,8 +169,8 @@ module _ (i : Instance) (h : IsUniformInstance i) (unit : ℕ) (common : IsCommo
     meant : All IsMeant places
     meant r d l = subst IsMeant (get_or_default places r no_place d l) (record {
       machine_inside = machine-inside r (omega (arith, l, count));
-      lasts = omega (arith, long, mul-le 1 1 (time r) (step (machine r)) (omega (arith, at, (h.times (job r) inside).0)) (step-some (machine r) on));
-      short = omega (arith, long, mul-le (time r) (step (machine r)) 1000000000 (2 ^ 30) (omega (arith, at, (h.times (job r) inside).1)) (omega (arith, step-most (machine r) on, few)));
+      lasts = omega (arith, long, mul-le 1 1 (time r) (step (machine r)) (omega (arith, at, (times i h (job r) inside).0)) (step-some (machine r) on));
+      short = omega (arith, long, mul-le (time r) (step (machine r)) 1000000000 (2 ^ 30) (omega (arith, at, (times i h (job r) inside).1)) (omega (arith, step-most (machine r) on, few)));
       work = ap (λ x. x * speed (machine r)) long ∙ grouped (time r) (step (machine r)) (speed (machine r)) ∙ ap (λ x. x * time r) (step-speed (machine r) on) ∙ ap (λ x. unit * x) (at ∙ ap time_of (sym (turns.each r l).job));
     })
       where

@@ -19,7 +19,7 @@ use Rattle.msp_total.specs.Places.{no_place, place_at, time_on, laid}
 use Rattle.msp_total.specs.Turns.{no_timed, timed_at, number_at, machine_at, IsByTime, IsTurn, AreTurns}
 use Rattle.msp_total.proofs.LaidJobs.{time_on-cons, time_on-own, piece_before, laid-length, laid-jobs}
 use Rattle.msp_total.proofs.LaidSchedule.{schedule_of}
-use Rattle.msp_total.proofs.UniformFacts.{IsUniformInstance}
+use Rattle.msp_total.proofs.UniformFacts.{IsUniformInstance, speeds_some}
 use Rattle.msp_total.proofs.UniformBest.{steps_by, steps-length, step-speed, jobs-count, once, same-jobs, machine-inside}
 
 -- ---- the pieces of laid jobs
@@ -111,13 +111,13 @@ module _ (i : Instance) (h : IsUniformInstance i) (unit : ℕ) (common : IsCommo
   abbrev machine : ℕ → ℕ
   machine r = machine_at places r
 
-  speeds_some : (m : ℕ) → m < i.machines → 1 ≤ speed_of i m
-  speeds_some m l = (h.speeds m 0 (omega (arith, l, h.count))).0
+  speed_some : (m : ℕ) → m < i.machines → 1 ≤ speed_of i m
+  speed_some m l = speeds_some i h m 0 (omega (arith, l, h.speeds.0))
 
   takes_least : (r : ℕ) → r < length places → TakesLeast i machine r
   takes_least r l = record {
     least = λ m k. crossed _ _ (number_at (steps_by i unit) m) (number_at (steps_by i unit) (machine r)) _ _ unit (turn.least m (omega (arith, k, steps))) (step-speed i h unit common m k) (step-speed i h unit common (machine r) inside) common.some;
-    first = λ m k. let on : m < i.machines = omega (arith, k, inside) in crossed_less _ _ (number_at (steps_by i unit) m) (number_at (steps_by i unit) (machine r)) _ _ unit (turn.first m k) (step-speed i h unit common m on) (step-speed i h unit common (machine r) inside) (speeds_some m on) (speeds_some (machine r) inside);
+    first = λ m k. let on : m < i.machines = omega (arith, k, inside) in crossed_less _ _ (number_at (steps_by i unit) m) (number_at (steps_by i unit) (machine r)) _ _ unit (turn.first m k) (step-speed i h unit common m on) (step-speed i h unit common (machine r) inside) (speed_some m on) (speed_some (machine r) inside);
   }
     where
       steps : length (steps_by i unit) ≡ i.machines

@@ -10,7 +10,7 @@ use Rattle.msp_class.proofs.IntegerRing.{pos-le, ≤ℤ_refl, ≤ℤ_trans, one-
 use Rattle.msp_class.specs.Sums.{total_below, int_total_below}
 use Rattle.msp_class.proofs.Sums.{cond-yes, cond-no, sum_by-map, sum_by-OnceBelow, total_below-mono, total_below-constant, int_total_below-same, int_total_below-natural, OnceBelow, OnceBelow-from_permutation, OnceBelow-distinct, length-OnceBelow}
 use Rattle.msp_instance.specs.declared.Instance.{Instance}
-use Rattle.msp_instance.specs.Instance.{need_at}
+use Rattle.msp_instance.specs.Instance.{no_job, need_at}
 use Rattle.msp_schedule.specs.declared.Piece.{Piece}
 use Rattle.msp_schedule.specs.declared.Schedule.{Schedule}
 use Rattle.msp_schedule.specs.Feasible.{Feasible, HasOperation, MayRun, FollowsRoute, IsWholeWork}
@@ -33,7 +33,7 @@ use Rattle.msp_total.specs.Columns.{IsTableOf, HasShortTimes, IsPlacing, no_chos
 use Rattle.msp_total.proofs.ColumnSteps.{machine_inside}
 use Rattle.msp_total.proofs.LaidJobs.{piece_before, piece_long, length_at}
 use Rattle.msp_total.proofs.LaidSchedule.{IsPlain, AreFitting, schedule_of, laid_is_feasible, laid_costs, laid_is_within, laid_is_answer}
-use Rattle.msp_total.proofs.UnrelatedFacts.{IsUnrelatedInstance}
+use Rattle.msp_total.proofs.UnrelatedFacts.{IsUnrelatedInstance, times}
 
 -- ---- totals of integers
 int_total_below-split : (a b : ℕ) (f : ℕ → ℤ) → int_total_below (a + b) f ≡ int_total_below a f +ℤ int_total_below b (λ k. f (a + k))
@@ -113,7 +113,7 @@ IsPlain-from_unrelated i h = record {
   crit = h.crit;
   arcs = h.arcs;
   few = h.few;
-  release = h.release;
+  release = λ j l. (h.jobs j no_job l).release;
   first = λ j o op. subst (λ k. HasOperation k i j o) h.kind op;
   operation = λ j. subst (λ k. HasOperation k i j 0) (sym h.kind) refl;
   may_run = λ j m l. subst (λ k. MayRun k i j 0 m) (sym h.kind) l;
@@ -140,7 +140,7 @@ module _ (i : Instance) (h : IsUnrelatedInstance i) (p : Positions) (table : IsT
   short_times j m l k =
       let a : j < n = omega (arith, l, table.jobs) in
       let b : m < i.machines = omega (arith, k, table.machines) in
-      omega (arith, read j m a b, (h.times j m a b).1)
+      omega (arith, read j m a b, (times i h j m a b).1)
 
   module _ (each : ℕ) (a : Assignment) (placing : IsPlacing p each a) where
     abbrev row : ℕ → ℤ
@@ -319,8 +319,8 @@ module _ (i : Instance) (h : IsUnrelatedInstance i) (p : Positions) (table : IsT
         meant : All IsMeant places
         meant r d l = subst IsMeant (get_or_default places r no_place d l) (record {
           machine_is = machine-below r below;
-          lasts = omega (arith, length-is r below, (h.times (job r) (column_at r / each) (job-inside r below) on).0);
-          short = omega (arith, length-is r below, (h.times (job r) (column_at r / each) (job-inside r below) on).1);
+          lasts = omega (arith, length-is r below, (times i h (job r) (column_at r / each) (job-inside r below) on).0);
+          short = omega (arith, length-is r below, (times i h (job r) (column_at r / each) (job-inside r below) on).1);
           work = length-is r below ∙ ap₂ time (sym ((turns.placed r l).0 ∙ ap (λ xs. (chosen_at xs r).job) same_chosen)) (sym (machine-is r below));
         })
           where

@@ -19,10 +19,7 @@ pub struct Slot {
 pub fn releases_of(alloc: Global, jobs: &[Job]) -> Result<Vec<u64>, NoMemory>
     ensures { IfOk result (λ all. all.items ≡ map (λ j. j.release) jobs.now) }
 {
-    match jobs.iter().map(|job| job.release).collect(alloc) {
-        Ok(all) => Ok(all),
-        Err(_) => Err(NoMemory),
-    }
+    Ok(jobs.iter().map(|job| job.release).collect(alloc)?)
 }
 
 /// The release dates of the jobs in order.

@@ -49,10 +49,7 @@ fn put(pieces: &mut List<Piece>, place: Place, begin: u128, end: u128) -> Result
         from: begin as i128,
         to: end as i128,
     };
-    if pieces.push(piece).is_err() {
-        return Err(NoMemory);
-    }
-    Ok(())
+    pieces.put(piece)
 }
 
 /// The pieces of the jobs, each run as soon as those that stand after it on its machine are done.

@@ -5,7 +5,7 @@ use msp_samples::{JobData, UNIT_JOB, instance, unit_piece};
 use msp_schedule::Solution;
 use std::alloc::Global;
 
-fn least_lateness(alloc: Global, machines: u32, jobs: &[JobData]) -> Option<Solution> {
+fn least_tardiness(alloc: Global, machines: u32, jobs: &[JobData]) -> Option<Solution> {
     let inst = instance(alloc, SlotsLate.target(), machines, jobs, &[])?;
     SlotsLate.solve(alloc, &inst).ok()
 }
@@ -30,7 +30,7 @@ const SAME_DATES: [JobData; 2] = [
 
 #[test]
 fn the_heavier_job_goes_first(rt: HostRuntime) {
-    let best = least_lateness(rt.alloc(), 1, SAME_DATES.as_slice()).expect(&rt, "there is memory");
+    let best = least_tardiness(rt.alloc(), 1, SAME_DATES.as_slice()).expect(&rt, "there is memory");
     let pieces = [unit_piece(0, 0, 1), unit_piece(1, 0, 0)];
     assert_eq!(rt; best.cost.num, 1);
     assert_eq!(rt; best.cost.den, 1);

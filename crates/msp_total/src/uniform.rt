@@ -67,9 +67,7 @@ fn steps_of(alloc: Global, speeds: &[u64], unit: u64) -> Result<Vec<u64>, NoMemo
 {
     let mut steps = Vec::new(alloc);
     for speed in speeds {
-        if steps.push(unit / *speed).is_err() {
-            return Err(NoMemory);
-        }
+        steps.push(unit / *speed)?;
     }
     Ok(steps)
 }

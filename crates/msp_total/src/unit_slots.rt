@@ -34,28 +34,19 @@ fn class_of(late: bool) -> Class
 fn starts_of(alloc: Global, slots: &[Slot]) -> Result<Vec<u64>, NoMemory>
     ensures { IfOk result (λ all. all.items ≡ map (λ s. s.start) slots.now) }
 {
-    match slots.iter().map(|slot| slot.start).collect(alloc) {
-        Ok(all) => Ok(all),
-        Err(_) => Err(NoMemory),
-    }
+    Ok(slots.iter().map(|slot| slot.start).collect(alloc)?)
 }
 
 fn dues_of(alloc: Global, jobs: &[Job]) -> Result<Vec<i64>, NoMemory>
     ensures { IfOk result (λ all. all.items ≡ map (λ j. j.due) jobs.now) }
 {
-    match jobs.iter().map(|job| job.due).collect(alloc) {
-        Ok(all) => Ok(all),
-        Err(_) => Err(NoMemory),
-    }
+    Ok(jobs.iter().map(|job| job.due).collect(alloc)?)
 }
 
 fn weights_of(alloc: Global, jobs: &[Job]) -> Result<Vec<u64>, NoMemory>
     ensures { IfOk result (λ all. all.items ≡ map (λ j. j.weight) jobs.now) }
 {
-    match jobs.iter().map(|job| job.weight).collect(alloc) {
-        Ok(all) => Ok(all),
-        Err(_) => Err(NoMemory),
-    }
+    Ok(jobs.iter().map(|job| job.weight).collect(alloc)?)
 }
 
 /// What the jobs cost in the slots.
@@ -100,9 +91,7 @@ fn laid_out(alloc: Global, slots: &[Slot], column: &[u32]) -> Result<List<Piece>
     let mut pieces = List::new(alloc);
     for job in 0..column.len() {
         let next = piece_of(job as u32, &slots[column[job] as usize]);
-        if pieces.push(next).is_err() {
-            return Err(NoMemory);
-        }
+        pieces.put(next)?;
     }
     Ok(pieces)
 }

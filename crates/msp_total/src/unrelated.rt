@@ -33,9 +33,7 @@ fn put_times(times: &mut List<u64>, needs: &[Need]) -> Result<(), NoMemory>
     ensures { OnOk result (times.new ≡ times.old ++ map (λ n. n.time) needs.now) }
 {
     for need in needs {
-        if times.push(need.time).is_err() {
-            return Err(NoMemory);
-        }
+        times.put(need.time)?;
     }
     Ok(())
 }
@@ -199,9 +197,7 @@ fn places_of(
 {
     let mut places = Vec::new(alloc);
     for c in chosen {
-        if places.push(place_of(table, each, *c)).is_err() {
-            return Err(NoMemory);
-        }
+        places.push(place_of(table, each, *c))?;
     }
     Ok(places)
 }

@@ -183,10 +183,8 @@ fn single(alloc: Global, job: u32) -> Result<List<u32>, NoMemory>
     ensures { IfOk result (λ block. block ≡ job ∷ []) }
 {
     let mut block = List::new(alloc);
-    match block.push(job) {
-        Ok(()) => Ok(block),
-        Err(_) => Err(NoMemory),
-    }
+    block.put(job)?;
+    Ok(block)
 }
 
 /// A block for the start, and one for each job.

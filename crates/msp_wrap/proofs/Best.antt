@@ -81,7 +81,7 @@ module _ (i : Instance) (h : IsWrapInstance i) (end q o : ℕ) (ps : List Piece)
   }
 
   released : All (λ p. (pos i.machines *ℤ pos (job_at i p.job).release) ≤ℤ p.from) ps
-  released k d l = by (get_or ps k d).from _ i.machines (job_at i (get_or ps k d).job).release (w.laid.timed k d l).from (h.release (get_or ps k d).job no_job (w.jobs_before k d l))
+  released k d l = by (get_or ps k d).from _ i.machines (job_at i (get_or ps k d).job).release (w.laid.timed k d l).from (h.jobs (get_or ps k d).job no_job (w.jobs_before k d l)).release
     where
       by : (x : ℤ) (n m r : ℕ) → x ≡ pos n → r ≡ 0 → (pos m *ℤ pos r) ≤ℤ x
       by x n m r e z = subst (λ y. (pos m *ℤ pos y) ≤ℤ x) (sym z) (omega (arith, ints, e))

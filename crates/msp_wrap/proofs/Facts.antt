@@ -12,42 +12,23 @@ use Rattle.msp_class.proofs.Sums.{sum_by-mono, sum_by-constant}
 use Rattle.msp_instance.specs.declared.Instance.{Instance}
 use Rattle.msp_instance.specs.Instance.{no_need, no_job}
 use Rattle.msp_instance.specs.Conditions.{Inner}
-use Rattle.msp_schedule.proofs.OfClass.{inner_of}
+use Rattle.msp_schedule.proofs.OfClass.{IsOfClass, IsOfClass-from}
 use Rattle.msp_schedule.specs.Rows.{time_at}
 use Rattle.msp_schedule.proofs.Places.{sum_by-places, total_below-within}
 use Rattle.msp_wrap.specs.Wrap.{wrap_class, time_of, longest_time, total_time, least_end}
 
-pub record IsWrapInstance (i : Instance) : Type 0 where
-  pub kind : kind_of i.class.env ≡ Identical
-  pub cut : i.class.cut ≡ true
-  pub crit : i.class.crit ≡ Cmax
-  pub arcs : i.arcs ≡ []
-  pub some : 1 ≤ length i.jobs
-  pub few : length i.jobs ≤ 400
-  pub machine : 1 ≤ i.machines
-  pub machines : i.machines ≤ 32
-  pub needs : All (λ j. (length j.needs ≡ 1) × (1 ≤ time_of j) × (time_of j ≤ 1000000000)) i.jobs
-  pub release : All (λ j. j.release ≡ 0) i.jobs
+abbrev pub IsWrapInstance : Instance → Type 0
+IsWrapInstance i = IsOfClass i wrap_class
 
 pub IsWrapInstance-from_class : (i : Instance) → i.class ≡ wrap_class → Inner i → IsWrapInstance i
-IsWrapInstance-from_class i e h =
-    let m = (inner_of i wrap_class e h).conditions in
-    record {
-      kind = ap (λ c. kind_of c.env) e;
-      cut = ap (λ c. c.cut) e;
-      crit = ap (λ c. c.crit) e;
-      arcs = m.arcs;
-      some = m.some;
-      few = m.few;
-      machine = m.machines.0;
-      machines = m.machines.1;
-      needs = λ k d l. let n = (m.jobs k d l).needs in let t = n.times 0 no_need (omega (arith, n.shape.0)) in (n.shape.0, t.0, t.1);
-      release = λ k d l. (m.jobs k d l).release;
-    }
+IsWrapInstance-from_class i e h = IsOfClass-from i wrap_class e h
+
+needs : (i : Instance) → IsWrapInstance i → All (λ j. (length j.needs ≡ 1) × (1 ≤ time_of j) × (time_of j ≤ 1000000000)) i.jobs
+needs i h k d l = let n = (h.jobs k d l).needs in let t = n.times 0 no_need (omega (arith, n.shape.0)) in (n.shape.0, t.0, t.1)
 
 -- as the code asks for it
 pub short_needs : (i : Instance) → IsWrapInstance i → All (λ j. (0 < length j.needs) × (time_of j ≤ 1000000000)) i.jobs
-short_needs i h k d l = (omega (arith, (h.needs k d l).0), (h.needs k d l).2)
+short_needs i h k d l = (omega (arith, (needs i h k d l).0), (needs i h k d l).2)
 
 -- ---- the greatest of numbers
 pub fold_max-bound : (a : ℕ) (xs : List ℕ) → (a ≤ fold max a xs) × All (λ x. x ≤ fold max a xs) xs
@@ -86,17 +67,17 @@ module _ (i : Instance) (h : IsWrapInstance i) where
   -- it is the time of a job
   pub longest_time-reached : (j : ℕ) × (j < length i.jobs) × (time_at i j ≡ longest_time i)
   longest_time-reached = elim (fold_max-reached 0 (map time_of i.jobs)) [
-    | inl e ↦ absurd (omega (arith, e, h.some, time_at-longest 0 (omega (arith, h.some)), (h.needs 0 no_job (omega (arith, h.some))).1))
+    | inl e ↦ absurd (omega (arith, e, h.some, time_at-longest 0 (omega (arith, h.some)), (needs i h 0 no_job (omega (arith, h.some))).1))
     | inr r ↦
         let inside : r.0 < length i.jobs = omega (arith, r.1, length-map i.jobs time_of) in
         (r.0, inside, sym (get_or-map time_of i.jobs r.0 no_job 0 inside) ∙ r.2)
   ]
 
   pub longest_time-short : longest_time i ≤ 1000000000
-  longest_time-short = fold_max-least 0 1000000000 (map time_of i.jobs) (omega arith) (All-map (λ x. x ≤ 1000000000) time_of i.jobs (λ k d l. (h.needs k d l).2))
+  longest_time-short = fold_max-least 0 1000000000 (map time_of i.jobs) (omega arith) (All-map (λ x. x ≤ 1000000000) time_of i.jobs (λ k d l. (needs i h k d l).2))
 
   pub total_time-short : total_time i ≤ 400000000000
-  total_time-short = omega (arith, sum_by-mono time_of (λ _. 1000000000) i.jobs (λ k d l. (h.needs k d l).2), sum_by-constant 1000000000 i.jobs, h.few)
+  total_time-short = omega (arith, sum_by-mono time_of (λ _. 1000000000) i.jobs (λ k d l. (needs i h k d l).2), sum_by-constant 1000000000 i.jobs, h.few)
 
   pub job_fits : (j : ℕ) → j < length i.jobs → i.machines * time_at i j ≤ least_end i
   job_fits j l = let p = mul-le-mul_left i.machines (time_at-longest j l) in omega (arith, p)
@@ -109,7 +90,7 @@ module _ (i : Instance) (h : IsWrapInstance i) where
 
   -- a job takes time on the machines together
   pub work_positive : (j : ℕ) → j < length i.jobs → 0 < i.machines * time_at i j
-  work_positive j l = more i.machines (time_at i j) h.machine (h.needs j no_job l).1
+  work_positive j l = more i.machines (time_at i j) h.machine (needs i h j no_job l).1
     where
       more : (m t : ℕ) → 1 ≤ m → 1 ≤ t → 0 < m * t
       more m t p q = grind arith

@@ -103,10 +103,7 @@ fn put(pieces: &mut List<Piece>, job: u32, machine: u32, from: u64, to: u64) -> 
         from: i128::from(from),
         to: i128::from(to),
     };
-    if pieces.push(piece).is_err() {
-        return Err(NoMemory);
-    }
-    Ok(())
+    pieces.put(piece)
 }
 
 /// Puts the job at the place, what is left over on the next machine from moment 0 on, and says where the next job begins.
@@ -162,10 +159,7 @@ fn wrapped_pieces(alloc: Global, inst: &Instance, end: u64) -> Result<List<Piece
         moment: 0,
     };
     for k in 0..inst.jobs.len() {
-        match put_job(&mut pieces, inst, end, k as u32, place) {
-            Ok(next) => place = next,
-            Err(_) => return Err(NoMemory),
-        }
+        place = put_job(&mut pieces, inst, end, k as u32, place)?;
     }
     Ok(pieces)
 }

@@ -1,6 +1,6 @@
 use Rattle.std.proofs.Common.{◌+◌, refl, take}
 use Rattle.std.proofs.lemmas.List.{take_rest}
-use Rattle.msp_blocks.proofs.Facts.{IsOneInstance-from}
+use Rattle.msp_route.proofs.OneInstances.{IsOneInstance-from}
 use Rattle.msp_route.proofs.Pushes.{on_ok}
 use Rattle.msp_blocks.proofs.Steps.{passed_room, passed_filling}
 use Rattle.msp_blocks.proofs.filling.place_next.Goals as goal

@@ -1,5 +1,5 @@
 use Rattle.std.proofs.Common.{refl, arith}
-use Rattle.msp_blocks.proofs.Facts.{IsOneInstance-from}
+use Rattle.msp_route.proofs.OneInstances.{IsOneInstance-from}
 use Rattle.msp_blocks.proofs.Raising.{raised_next, AreHeads-end, job_inside}
 use Rattle.msp_blocks.proofs.heads.put_heads.Goals as goal
 

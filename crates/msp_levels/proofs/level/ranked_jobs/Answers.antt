@@ -1,6 +1,6 @@
-use Rattle.std.proofs.Common.{refl}
+use Rattle.std.proofs.Common.{refl, slice_index}
 use Rattle.msp_route.proofs.Pushes.{pushed, numbers-next}
-use Rattle.msp_levels.proofs.Ranks.{levels-next}
+use Rattle.msp_route.proofs.KeyedJobs.{keys-next}
 use Rattle.msp_levels.proofs.level.ranked_jobs.Goals as goal
 
 pub loop-job-preserved : goal.loop-job-preserved
@@ -8,5 +8,5 @@ loop-job-preserved c =
     let more = pushed _ _ _ _ _ c.push.ensures.items c.is_err.ensures.negation c.if-is_err.false in
     record {
       jobs = numbers-next (λ r. r.job) _ _ _ c.loop-job.job more refl c.loop-job.invariant.jobs;
-      levels = levels-next c.args.levels.now _ _ _ more refl c.loop-job.invariant.levels;
+      levels = keys-next (slice_index c.args.levels.now) _ _ _ more c.from-key.ensures c.loop-job.invariant.levels;
     }

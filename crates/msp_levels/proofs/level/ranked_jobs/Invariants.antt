@@ -6,5 +6,5 @@ use Rattle.msp_levels.proofs.level.ranked_jobs.Given as goal
 abbrev pub invariant-loop-job : goal.invariant-loop-job
 invariant-loop-job l = record {
   jobs : map (λ r. r.job) l.all.items ≡ range_with_len 0 l.job;
-  levels : All (λ r. r.level ≡ slice_index l.levels r.job) l.all.items;
+  levels : All (λ r. r.key ≡ slice_index l.levels r.job) l.all.items;
 }

@@ -1,7 +1,7 @@
 use Rattle.std.proofs.Common.{◌<◌, ◌≤◌, length, map, All, IsPermutation, sym, subst, arith}
 use Rattle.std.proofs.lemmas.List.Elements.{All-map}
 use Rattle.msp_total.specs.SlotSteps.{IsTable, AreSlots, AreLaid, AreLeastLaid}
-use Rattle.msp_total.proofs.SlotFacts.{IsUnitShop-from, heads_few, heads_low, slots_many, rows_many, columns_many, has_costs, columns_inside, least_laid, if_ok}
+use Rattle.msp_total.proofs.SlotFacts.{IsUnitShop-from, weights, heads_few, heads_low, slots_many, rows_many, columns_many, has_costs, columns_inside, least_laid, if_ok}
 use Rattle.msp_total.proofs.unit_slots.least_pieces.Goals as goal
 
 pub earliest_slots-requires-clause-jobs : goal.earliest_slots-requires-clause-jobs
@@ -27,7 +27,7 @@ table_of-requires-clause-slots c =
     subst (λ l. length l ≤ 400) (sym c.as_slice-3.ensures.value) (omega (arith, slots_many i c.args.late h _ p _ filled, h.few))
 
 pub table_of-requires-clause-light : goal.table_of-requires-clause-light
-table_of-requires-clause-light c = All-map (λ w. w ≤ 1000000000) (λ j. j.weight) c.args.inst.now.jobs (IsUnitShop-from c.args.inst.now c.args.late c.requires.class c.requires.inner).weights
+table_of-requires-clause-light c = All-map (λ w. w ≤ 1000000000) (λ j. j.weight) c.args.inst.now.jobs (weights c.args.inst.now c.args.late (IsUnitShop-from c.args.inst.now c.args.late c.requires.class c.requires.inner))
 
 pub assign-requires-clause-enough : goal.assign-requires-clause-enough
 assign-requires-clause-enough c =
