@@ -43,11 +43,18 @@ pub record IsLeastOperation (i : Instance) (P : ℕ → ℕ → Type 0) (j o : �
   pub job : (k q : ℕ) → k < j → ¬ P k q
   pub operation : (q : ℕ) → q < o → ¬ P j q
 
+-- The number is that of the first piece with a property.
+abbrev pub IsFirstPiece : (PieceValue → Type 0) → List PieceValue → ℕ → Type 0
+IsFirstPiece P pieces k = IsLeast (length pieces) (λ l. P (piece_at pieces l)) k
+
 -- The piece does not last.
 abbrev pub IsEmpty : PieceValue → Type 0
 IsEmpty p = p.to ≤ℤ p.from
 
--- The piece begins before its job's release date.
+-- The piece begins at its job's release date or later; and it begins earlier.
+abbrev pub IsReleased : Instance → ℤ → PieceValue → Type 0
+IsReleased i unit p = (unit *ℤ pos (job_at i p.job).release) ≤ℤ p.from
+
 abbrev pub IsEarly : Instance → ℤ → PieceValue → Type 0
 IsEarly i unit p = p.from <ℤ (unit *ℤ pos (job_at i p.job).release)
 
@@ -77,6 +84,17 @@ KeepsArc pieces a = All (λ p. All (λ q. p.job ≡ a.before → q.job ≡ a.aft
 abbrev pub KeepsRoute : List PieceValue → ℕ → ℕ → Type 0
 KeepsRoute pieces j o = All (λ p. All (λ q. p.job ≡ j → q.job ≡ j → p.op < o → q.op ≡ o → IsBefore p q) pieces) pieces
 
+-- The number is that of the first arc that is not kept.
+abbrev pub IsFirstLostArc : List PieceValue → List ArcValue → ℕ → Type 0
+IsFirstLostArc pieces arcs k = IsLeast (length arcs) (λ l. ¬ KeepsArc pieces (slice_index_or arcs l no_arc)) k
+
+-- All operations keep their routes, and the first one that does not.
+abbrev pub KeepsRoutes : Instance → List PieceValue → Type 0
+KeepsRoutes i pieces = (j o : ℕ) → j < length i.jobs → KeepsRoute pieces j o
+
+abbrev pub IsFirstOutOfRoute : Instance → List PieceValue → ℕ → ℕ → Type 0
+IsFirstOutOfRoute i pieces j o = IsLeastOperation i (λ k q. ¬ KeepsRoute pieces k q) j o
+
 -- In flow and job shops the operations of a job follow each other.
 abbrev pub HasRoutes : Instance → Type 0
 HasRoutes i = (kind_of i.class.env ≡ FlowShop) ⊎ (kind_of i.class.env ≡ JobShop)
@@ -87,13 +105,13 @@ LacksWork i s j o = HasOperation (kind_of i.class.env) i j o × (¬ GetsWork i s
 
 -- What a break says, without regard to the conditions before it.
 abbrev pub IsBroken : Instance → Schedule → Break → Type 0
-IsBroken i s (Span k) = IsLeast (length s.pieces) (λ l. IsEmpty (piece_at s.pieces l)) k
-IsBroken i s (Place k) = IsLeast (length s.pieces) (λ l. ¬ HasPlace i (piece_at s.pieces l)) k
+IsBroken i s (Span k) = IsFirstPiece IsEmpty s.pieces k
+IsBroken i s (Place k) = IsFirstPiece (λ p. ¬ HasPlace i p) s.pieces k
 IsBroken i s (Machine k l) = IsFirstOverlap (λ p. p.machine) s.pieces k l
 IsBroken i s (Job k l) = IsFirstOverlap (λ p. p.job) s.pieces k l
-IsBroken i s (Release k) = IsLeast (length s.pieces) (λ l. IsEarly i s.unit (piece_at s.pieces l)) k
-IsBroken i s (Arc k) = IsLeast (length i.arcs) (λ l. ¬ KeepsArc s.pieces (arc_at i l)) k
-IsBroken i s (Route j o) = HasRoutes i × IsLeastOperation i (λ k q. ¬ KeepsRoute s.pieces k q) j o
+IsBroken i s (Release k) = IsFirstPiece (IsEarly i s.unit) s.pieces k
+IsBroken i s (Arc k) = IsFirstLostArc s.pieces i.arcs k
+IsBroken i s (Route j o) = HasRoutes i × IsFirstOutOfRoute i s.pieces j o
 IsBroken i s (Work j o) = IsLeastOperation i (LacksWork i s) j o
 
 -- The order in which breaks are looked for.
@@ -122,4 +140,5 @@ pub record LawOfFirstBreak : Type 0 where
   -- a schedule has at most one
   pub one : (i : Instance) (s : Schedule) (b c : Break) → IsFirstBreak i s b → IsFirstBreak i s c → b ≡ c
   -- where its unit is at least 1 and no moment is below 0, it has one exactly where it is not feasible
-  pub some : (i : Instance) (s : Schedule) → pos 1 ≤ℤ s.unit → All (λ p. pos 0 ≤ℤ p.from) s.pieces → ((b : Break) × IsFirstBreak i s b) ↔ (¬ Feasible i s)
+  pub some : (i : Instance) (s : Schedule) → pos 1 ≤ℤ s.unit → All (λ p. pos 0 ≤ℤ p.from) s.pieces
+      → ((b : Break) × IsFirstBreak i s b) ↔ (¬ Feasible i s)

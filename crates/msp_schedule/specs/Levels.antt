@@ -5,11 +5,11 @@ use Rattle.msp_class.specs.declared.environments.EnvKind.TheVariants.{Identical}
 use Rattle.msp_class.specs.Env.{kind_of}
 use Rattle.msp_instance.specs.declared.Arc.{Arc}
 use Rattle.msp_instance.specs.declared.Instance.{Instance}
-use Rattle.msp_instance.specs.Instance.{need_at}
 use Rattle.msp_instance.specs.Paths.{HasStep}
 use Rattle.msp_schedule.specs.declared.Schedule.{Schedule}
 use Rattle.msp_schedule.specs.Feasible.{Feasible}
 use Rattle.msp_schedule.specs.Cost.{end_of}
+use Rattle.msp_schedule.specs.Laws.{TakeOneUnit}
 
 -- A path of so many arcs leaves the job.
 abbrev pub LeadsOut : List Arc → ℕ → ℕ → Type 0
@@ -40,5 +40,7 @@ StepsDown i level = (j : ℕ) → j < length i.jobs → 0 < level j → (k : ℕ
 -- The law of levels: on identical machines, where jobs take one unit of time and may not be cut, some job ends no earlier than the bound
 -- of a level, where a job has at least that level, and levels step down along arcs.
 abbrev pub LawOfLevels : Type 0
-LawOfLevels = (i : Instance) (s : Schedule) (level : ℕ → ℕ) (t j : ℕ) → kind_of i.class.env ≡ Identical → i.class.cut ≡ false → ((k : ℕ) → k < length i.jobs → (need_at i k 0).time ≡ 1) → StepsDown i level → Feasible i s
-    → j < length i.jobs → t ≤ level j → (k : ℕ) × (k < length i.jobs) × ((s.unit *ℤ pos (level_bound i level t)) ≤ℤ end_of s k)
+LawOfLevels = (i : Instance) (s : Schedule) (level : ℕ → ℕ) (t j : ℕ)
+    → kind_of i.class.env ≡ Identical → i.class.cut ≡ false → TakeOneUnit i → StepsDown i level → Feasible i s
+    → j < length i.jobs → t ≤ level j
+    → (k : ℕ) × (k < length i.jobs) × ((s.unit *ℤ pos (level_bound i level t)) ≤ℤ end_of s k)

@@ -10,7 +10,7 @@ use Rattle.msp_schedule.specs.declared.Piece.{Piece}
 use Rattle.msp_schedule.specs.declared.limits.TheConstants.{MOST_PIECES}
 use Rattle.msp_schedule.specs.Piece.{length_of}
 use Rattle.msp_schedule.specs.Feasible.{HasOperation, HasPlace, total, work_of, whole_work, IsWholeWork}
-use Rattle.msp_schedule.specs.Breaks.{pieces_among}
+use Rattle.msp_schedule.specs.Breaks.{pieces_among, IsLeastOperation}
 use Rattle.msp_schedule.specs.Within.{IsMoment, greatest_scaled}
 
 -- The number of the need that says how long the piece's operation takes: on unrelated machines that of its machine.
@@ -42,6 +42,10 @@ greatest_work = 2 * 10 ^ 32
 abbrev pub AreSmallTimes : Instance → ℤ → Type 0
 AreSmallTimes i unit = (j o : ℕ) → j < length i.jobs → o < length (job_at i j).needs → LiesWithin greatest_scaled (unit *ℤ pos (need_at i j o).time)
 
+-- The same of release dates.
+abbrev pub AreSmallReleases : Instance → ℤ → Type 0
+AreSmallReleases i unit = (j : ℕ) → j < length i.jobs → LiesWithin greatest_scaled (unit *ℤ pos (job_at i j).release)
+
 -- Whether operations get their work from these pieces can be decided: the instance is inner, the pieces are few, have their places and
 -- bounded moments, and on unrelated machines no operation may be cut.
 pub record AreMeasurable (i : Instance) (pieces : List Piece) : Type 0 where
@@ -64,3 +68,10 @@ IsWorked i unit pieces j o = HasOperation (kind_of i.class.env) i j o → GetsWo
 -- The operation has work to do and does not get it from these pieces.
 abbrev pub LacksWorkAmong : Instance → ℤ → List Piece → ℕ → ℕ → Type 0
 LacksWorkAmong i unit pieces j o = HasOperation (kind_of i.class.env) i j o × (¬ GetsWorkAmong i unit pieces j o)
+
+-- All operations that have work to do get it from these pieces, and the first one that does not.
+abbrev pub AreWorked : Instance → ℤ → List Piece → Type 0
+AreWorked i unit pieces = (j o : ℕ) → j < length i.jobs → IsWorked i unit pieces j o
+
+abbrev pub IsFirstUnworked : Instance → ℤ → List Piece → ℕ → ℕ → Type 0
+IsFirstUnworked i unit pieces j o = IsLeastOperation i (LacksWorkAmong i unit pieces) j o

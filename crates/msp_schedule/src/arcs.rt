@@ -4,7 +4,7 @@ ghost use Rattle.std.specs.Int.{int_min};
 ghost use Rattle.msp_instance.specs.declared.ranges.TheConstants.{MOST_ARCS, MOST_JOBS};
 ghost use Rattle.msp_schedule.specs.declared.limits.TheConstants.{GREATEST_MOMENT};
 ghost use Rattle.msp_schedule.specs.Within.{IsMoment};
-ghost use Rattle.msp_schedule.specs.Breaks.{IsLeast, no_arc, KeepsArc};
+ghost use Rattle.msp_schedule.specs.Breaks.{KeepsArc, IsFirstLostArc};
 ghost use Rattle.msp_schedule.specs.Begins.{AreBegins};
 
 use crate::total_cost::ends_of;
@@ -55,7 +55,7 @@ pub(crate) fn swept_arc(pieces: &[Piece], arcs: &[Arc]) -> Option<u32>
     requires jobs { All (λ p. p.job < MOST_JOBS) pieces.now }
     requires moments { All (λ p. IsMoment p.from × IsMoment p.to) pieces.now }
     ensures none { IsNone result → All (KeepsArc pieces.now) arcs.now }
-    ensures some { IfSome result (λ k. IsLeast (length arcs.now) (λ l. ¬ KeepsArc pieces.now (slice_index_or arcs.now l no_arc)) k) }
+    ensures some { IfSome result (λ k. IsFirstLostArc pieces.now arcs.now k) }
 {
     let ends = ends_of(pieces);
     let begins = begins_of(pieces);

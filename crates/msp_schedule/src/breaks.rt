@@ -9,7 +9,8 @@ ghost use Rattle.msp_schedule.specs.Feasible.{Feasible, HasOperation, HasPlace, 
 ghost use Rattle.msp_instance.specs.Conditions.{LiesWithin, Inner};
 ghost use Rattle.msp_schedule.specs.Within.{IsMoment, Within, greatest_scaled};
 ghost use Rattle.msp_schedule.specs.Begins.{IsEarlierEnd};
-ghost use Rattle.msp_schedule.specs.Breaks.{piece_at, IsLeast, IsEmpty, IsEarly, no_arc, KeepsArc, KeepsRoute, IsDecision, IsFirstBreak};
+ghost use Rattle.msp_schedule.specs.Works.{AreSmallReleases};
+ghost use Rattle.msp_schedule.specs.Breaks.{IsEmpty, IsEarly, KeepsArc, KeepsRoute, IsDecision, IsFirstBreak, IsFirstPiece, IsReleased, IsFirstLostArc};
 
 use crate::job_cost::product;
 use crate::overlaps::{Lane, first_overlap};
@@ -42,7 +43,7 @@ pub enum Break {
 pub(crate) fn first_empty(pieces: &[Piece]) -> Option<u32>
     requires few { length pieces.now ≤ MOST_PIECES }
     ensures none { IsNone result → All (λ p. p.from <ℤ p.to) pieces.now }
-    ensures some { IfSome result (λ k. IsLeast (length pieces.now) (λ l. IsEmpty (piece_at pieces.now l)) k) }
+    ensures some { IfSome result (λ k. IsFirstPiece IsEmpty pieces.now k) }
 {
     for at in 0..pieces.len() {
         if pieces[at].from >= pieces[at].to {
@@ -108,7 +109,7 @@ fn has_place(inst: &Instance, piece: &Piece) -> bool
 pub(crate) fn first_misplaced(inst: &Instance, pieces: &[Piece]) -> Option<u32>
     requires few { length pieces.now ≤ MOST_PIECES }
     ensures none { IsNone result → All (HasPlace inst.now) pieces.now }
-    ensures some { IfSome result (λ k. IsLeast (length pieces.now) (λ l. ¬ HasPlace inst.now (piece_at pieces.now l)) k) }
+    ensures some { IfSome result (λ k. IsFirstPiece (λ p. ¬ HasPlace inst.now p) pieces.now k) }
 {
     for at in 0..pieces.len() {
         if !has_place(inst, &pieces[at]) {
@@ -136,9 +137,9 @@ fn is_early(inst: &Instance, unit: i128, piece: &Piece) -> bool
 pub(crate) fn first_early(inst: &Instance, unit: i128, pieces: &[Piece]) -> Option<u32>
     requires few { length pieces.now ≤ MOST_PIECES }
     requires jobs { All (λ p. p.job < length inst.now.jobs) pieces.now }
-    requires small { (j : ℕ) → j < length inst.now.jobs → LiesWithin greatest_scaled (unit *ℤ pos (job_at inst.now j).release) }
-    ensures none { IsNone result → All (λ p. (unit *ℤ pos (job_at inst.now p.job).release) ≤ℤ p.from) pieces.now }
-    ensures some { IfSome result (λ k. IsLeast (length pieces.now) (λ l. IsEarly inst.now unit (piece_at pieces.now l)) k) }
+    requires small { AreSmallReleases inst.now unit }
+    ensures none { IsNone result → All (IsReleased inst.now unit) pieces.now }
+    ensures some { IfSome result (λ k. IsFirstPiece (IsEarly inst.now unit) pieces.now k) }
 {
     for at in 0..pieces.len() {
         if is_early(inst, unit, &pieces[at]) {
@@ -164,7 +165,7 @@ fn keeps_arc(pieces: &[Piece], arc: Arc) -> bool
 fn first_arc(pieces: &[Piece], arcs: &[Arc]) -> Option<u32>
     requires few { length arcs.now ≤ MOST_ARCS }
     ensures none { IsNone result → All (KeepsArc pieces.now) arcs.now }
-    ensures some { IfSome result (λ k. IsLeast (length arcs.now) (λ l. ¬ KeepsArc pieces.now (slice_index_or arcs.now l no_arc)) k) }
+    ensures some { IfSome result (λ k. IsFirstLostArc pieces.now arcs.now k) }
 {
     for at in 0..arcs.len() {
         if !keeps_arc(pieces, arcs[at]) {

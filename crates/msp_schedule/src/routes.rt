@@ -5,8 +5,8 @@ ghost use Rattle.msp_instance.specs.Instance.{job_at};
 ghost use Rattle.msp_instance.specs.Conditions.{Inner};
 ghost use Rattle.msp_schedule.specs.Feasible.{HasPlace};
 ghost use Rattle.msp_schedule.specs.Within.{IsMoment};
-ghost use Rattle.msp_schedule.specs.Breaks.{IsLeast, IsLeastOperation, KeepsRoute, HasRoutes};
-ghost use Rattle.msp_schedule.specs.Works.{AreMeasurable, AreSmallTimes, LacksWorkAmong, IsWorked};
+ghost use Rattle.msp_schedule.specs.Breaks.{IsLeast, KeepsRoute, HasRoutes, KeepsRoutes, IsFirstOutOfRoute};
+ghost use Rattle.msp_schedule.specs.Works.{AreMeasurable, AreSmallTimes, LacksWorkAmong, IsWorked, AreWorked, IsFirstUnworked};
 
 use crate::Piece;
 use crate::breaks::{has_operation, keeps_route};
@@ -43,8 +43,8 @@ pub(crate) fn first_route(inst: &Instance, pieces: &[Piece]) -> Option<(u32, u32
     requires needs { (j : ℕ) → j < length inst.now.jobs → length (job_at inst.now j).needs < PLACES }
     requires places { All (λ p. p.op < length (job_at inst.now p.job).needs) pieces.now }
     requires moments { All (λ p. IsMoment p.from × IsMoment p.to) pieces.now }
-    ensures none { IsNone result → (j o : ℕ) → j < length inst.now.jobs → KeepsRoute pieces.now j o }
-    ensures some { IfSome result (λ at. IsLeastOperation inst.now (λ j o. ¬ KeepsRoute pieces.now j o) at.0 at.1) }
+    ensures none { IsNone result → KeepsRoutes inst.now pieces.now }
+    ensures some { IfSome result (λ at. IsFirstOutOfRoute inst.now pieces.now at.0 at.1) }
 {
     for job in 0..inst.jobs.len() as u32 {
         if let Some(op) = first_unrouted(pieces, job, needs_of(inst, job)) {
@@ -92,8 +92,8 @@ pub(crate) fn first_unworked(
 pub(crate) fn first_work(inst: &Instance, unit: i128, pieces: &[Piece]) -> Option<(u32, u32)>
     requires measured { AreMeasurable inst.now pieces.now }
     requires small { AreSmallTimes inst.now unit }
-    ensures none { IsNone result → (j o : ℕ) → j < length inst.now.jobs → IsWorked inst.now unit pieces.now j o }
-    ensures some { IfSome result (λ at. IsLeastOperation inst.now (LacksWorkAmong inst.now unit pieces.now) at.0 at.1) }
+    ensures none { IsNone result → AreWorked inst.now unit pieces.now }
+    ensures some { IfSome result (λ at. IsFirstUnworked inst.now unit pieces.now at.0 at.1) }
 {
     for job in 0..inst.jobs.len() as u32 {
         if let Some(op) = first_unworked(inst, unit, pieces, job, needs_of(inst, job)) {
@@ -108,8 +108,8 @@ pub(crate) fn first_out_of_route(inst: &Instance, pieces: &[Piece]) -> Option<(u
     requires inner { Inner inst.now }
     requires places { All (HasPlace inst.now) pieces.now }
     requires moments { All (λ p. IsMoment p.from × IsMoment p.to) pieces.now }
-    ensures none { IsNone result → HasRoutes inst.now → (j o : ℕ) → j < length inst.now.jobs → KeepsRoute pieces.now j o }
-    ensures some { IfSome result (λ at. HasRoutes inst.now × IsLeastOperation inst.now (λ j o. ¬ KeepsRoute pieces.now j o) at.0 at.1) }
+    ensures none { IsNone result → HasRoutes inst.now → KeepsRoutes inst.now pieces.now }
+    ensures some { IfSome result (λ at. HasRoutes inst.now × IsFirstOutOfRoute inst.now pieces.now at.0 at.1) }
 {
     match env_kind(inst.class.env) {
         EnvKind::FlowShop | EnvKind::JobShop => first_route(inst, pieces),

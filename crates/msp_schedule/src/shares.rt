@@ -7,8 +7,8 @@ ghost use Rattle.msp_instance.specs.Instance.{job_at};
 ghost use Rattle.msp_instance.specs.Conditions.{Inner};
 ghost use Rattle.msp_schedule.specs.Feasible.{HasPlace};
 ghost use Rattle.msp_schedule.specs.Within.{IsMoment};
-ghost use Rattle.msp_schedule.specs.Breaks.{IsLeast, IsLeastOperation, KeepsRoute, HasRoutes};
-ghost use Rattle.msp_schedule.specs.Works.{AreMeasurable, AreSmallTimes, LacksWorkAmong, IsWorked};
+ghost use Rattle.msp_schedule.specs.Breaks.{IsLeast, KeepsRoute, HasRoutes, KeepsRoutes, IsFirstOutOfRoute};
+ghost use Rattle.msp_schedule.specs.Works.{AreMeasurable, AreSmallTimes, LacksWorkAmong, IsWorked, AreWorked, IsFirstUnworked};
 
 use crate::Piece;
 use crate::routes::{first_unrouted, first_unworked, needs_of};
@@ -80,8 +80,8 @@ fn route_in(inst: &Instance, pieces: &[Piece]) -> Option<(u32, u32)>
     requires needs { (j : ℕ) → j < length inst.now.jobs → length (job_at inst.now j).needs < PLACES }
     requires places { All (λ p. p.op < length (job_at inst.now p.job).needs) pieces.now }
     requires moments { All (λ p. IsMoment p.from × IsMoment p.to) pieces.now }
-    ensures none { IsNone result → (j o : ℕ) → j < length inst.now.jobs → KeepsRoute pieces.now j o }
-    ensures some { IfSome result (λ at. IsLeastOperation inst.now (λ j o. ¬ KeepsRoute pieces.now j o) at.0 at.1) }
+    ensures none { IsNone result → KeepsRoutes inst.now pieces.now }
+    ensures some { IfSome result (λ at. IsFirstOutOfRoute inst.now pieces.now at.0 at.1) }
 {
     for job in 0..inst.jobs.len() as u32 {
         if let Some(op) = unrouted_in(pieces, job, needs_of(inst, job)) {
@@ -108,8 +108,8 @@ fn work_in(inst: &Instance, unit: i128, pieces: &[Piece]) -> Option<(u32, u32)>
     requires sorted { IsNonDecreasingBy (λ p. p.job) pieces.now }
     requires measured { AreMeasurable inst.now pieces.now }
     requires small { AreSmallTimes inst.now unit }
-    ensures none { IsNone result → (j o : ℕ) → j < length inst.now.jobs → IsWorked inst.now unit pieces.now j o }
-    ensures some { IfSome result (λ at. IsLeastOperation inst.now (LacksWorkAmong inst.now unit pieces.now) at.0 at.1) }
+    ensures none { IsNone result → AreWorked inst.now unit pieces.now }
+    ensures some { IfSome result (λ at. IsFirstUnworked inst.now unit pieces.now at.0 at.1) }
 {
     for job in 0..inst.jobs.len() as u32 {
         if let Some(op) = unworked_in(inst, unit, pieces, job, needs_of(inst, job)) {
@@ -129,8 +129,8 @@ fn sorted_route(
     requires routes { HasRoutes inst.now }
     requires places { All (HasPlace inst.now) pieces.now }
     requires moments { All (λ p. IsMoment p.from × IsMoment p.to) pieces.now }
-    ensures none { IfOk result (λ r. IsNone r → (j o : ℕ) → j < length inst.now.jobs → KeepsRoute pieces.now j o) }
-    ensures some { IfOk result (λ r. IfSome r (λ at. IsLeastOperation inst.now (λ j o. ¬ KeepsRoute pieces.now j o) at.0 at.1)) }
+    ensures none { IfOk result (λ r. IsNone r → KeepsRoutes inst.now pieces.now) }
+    ensures some { IfOk result (λ r. IfSome r (λ at. IsFirstOutOfRoute inst.now pieces.now at.0 at.1)) }
 {
     let sorted = by_job(alloc, pieces)?;
     Ok(route_in(inst, &sorted))
@@ -145,8 +145,8 @@ pub(crate) fn swept_route(
     requires inner { Inner inst.now }
     requires places { All (HasPlace inst.now) pieces.now }
     requires moments { All (λ p. IsMoment p.from × IsMoment p.to) pieces.now }
-    ensures none { IfOk result (λ r. IsNone r → HasRoutes inst.now → (j o : ℕ) → j < length inst.now.jobs → KeepsRoute pieces.now j o) }
-    ensures some { IfOk result (λ r. IfSome r (λ at. HasRoutes inst.now × IsLeastOperation inst.now (λ j o. ¬ KeepsRoute pieces.now j o) at.0 at.1)) }
+    ensures none { IfOk result (λ r. IsNone r → HasRoutes inst.now → KeepsRoutes inst.now pieces.now) }
+    ensures some { IfOk result (λ r. IfSome r (λ at. HasRoutes inst.now × IsFirstOutOfRoute inst.now pieces.now at.0 at.1)) }
 {
     match env_kind(inst.class.env) {
         EnvKind::FlowShop | EnvKind::JobShop => sorted_route(alloc, inst, pieces),
@@ -163,8 +163,8 @@ pub(crate) fn swept_work(
 ) -> Result<Option<(u32, u32)>, NoMemory>
     requires measured { AreMeasurable inst.now pieces.now }
     requires small { AreSmallTimes inst.now unit }
-    ensures none { IfOk result (λ r. IsNone r → (j o : ℕ) → j < length inst.now.jobs → IsWorked inst.now unit pieces.now j o) }
-    ensures some { IfOk result (λ r. IfSome r (λ at. IsLeastOperation inst.now (LacksWorkAmong inst.now unit pieces.now) at.0 at.1)) }
+    ensures none { IfOk result (λ r. IsNone r → AreWorked inst.now unit pieces.now) }
+    ensures some { IfOk result (λ r. IfSome r (λ at. IsFirstUnworked inst.now unit pieces.now at.0 at.1)) }
 {
     let sorted = by_job(alloc, pieces)?;
     Ok(work_in(inst, unit, &sorted))
