@@ -34,6 +34,7 @@ use Rattle.msp_schedule.proofs.Moves.{Contains-map}
 use Rattle.msp_schedule.proofs.Frames.{of_one, named_one}
 use Rattle.msp_schedule.proofs.Charges.{charge_of, cost_of-bound, cost_of-least}
 use Rattle.msp_route.specs.Bounds.{IsAnswer, answer_unit}
+use Rattle.msp_route.proofs.OneEach.{IsUncut, IsUncut-identical, AreOneEach, one_each_is_feasible, one_each_is_within, one_each_is_answer}
 use Rattle.msp_schedule.specs.Levels.{LeadsOut, jobs_from, level_bound, StepsDown}
 use Rattle.msp_levels.specs.Levels.{levels_class, IsGreatestBound, IsLevelCost}
 use Rattle.msp_levels.specs.Steps.{level_from, Fits, begin_of, IsMade, StandsFirst, IsUnderWay, IsHuSchedule}
@@ -57,25 +58,8 @@ module _ (i : Instance) (t : IsUnitForest i) (moment : ℕ) (pieces : List Piece
   jobs : OnceBelow n (map (λ p. p.job) pieces)
   jobs = subst (OnceBelow n) (append-nil (map (λ p. p.job) pieces)) (OnceBelow-from_permutation u.all)
 
-  count : length pieces ≡ n
-  count = sym (length-map pieces (λ p. p.job)) ∙ length-OnceBelow jobs
-
   job_inside : All (λ p. p.job < n) pieces
   job_inside k d l = All-contains (λ j. j < n) (map (λ p. p.job) pieces) (get_or pieces k d).job jobs.within (Contains-map (λ p. p.job) pieces (get_or pieces k d) (Contains-get_or pieces k d l))
-
-  ops : All (λ p. p.op ≡ 0) pieces
-  ops k d l = (u.made k d l).op
-
-  apart_jobs : AllPairs (λ p q. p.job ≢ q.job) pieces
-  apart_jobs a b d l k e =
-      let kb : b < length (map (λ p. p.job) pieces) = omega (arith, k, length-map pieces (λ p. p.job)) in
-      OnceBelow-distinct jobs a b 0 l kb (get_or-map (λ p. p.job) pieces a d 0 (omega (arith, k, l)) ∙ e ∙ sym (get_or-map (λ p. p.job) pieces b d 0 k))
-
-  piece_of_job : (j : ℕ) → j < n → (p : Piece) × (pieces_of (schedule_of pieces) j 0 ≡ p ∷ [])
-  piece_of_job j b =
-      let is = pieces_of-job (schedule_of pieces) j ops in
-      let (p, e) = OnceBelow-one (λ p. p.job) pieces jobs j b in
-      (p, is ∙ e)
 
   machines_apart : AllPairs (λ p q. p.machine ≡ q.machine → IsApart p q) pieces
   machines_apart a b d l k e = by (get_or pieces a d) (get_or pieces b d) (u.made a d (omega (arith, k, l))) (u.made b d k) (u.apart a b d l k) e
@@ -83,40 +67,43 @@ module _ (i : Instance) (t : IsUnitForest i) (moment : ℕ) (pieces : List Piece
       by : (p q : Piece) → IsMade i moment p → IsMade i moment q → StandsFirst p q → p.machine ≡ q.machine → IsApart p q
       by p q f g h e = elim h [ inl less ↦ inl (omega (arith, ints, f.to, g.from, less)) | inr same ↦ absurd (omega (arith, same.1, e)) ]
 
-  works : (j o : ℕ) → j < n → HasOperation (kind_of i.class.env) i j o → GetsWork i (schedule_of pieces) j o
-  works j o b h = subst (λ o. GetsWork i (schedule_of pieces) j o) (sym first) (subst (λ c. MatchBool c (total (map (work_of (kind_of i.class.env) i) (pieces_of (schedule_of pieces) j 0)) ≡ pos 1 *ℤ pos (whole_work (kind_of i.class.env) i j 0)) ((p : Piece) × (pieces_of (schedule_of pieces) j 0 ≡ p ∷ []) × IsWholeWork (kind_of i.class.env) i (pos 1) p)) (sym t.cut) (let (p, e) = piece_of_job j b in (p, e, subst (λ k. IsWholeWork k i (pos 1) p) (sym t.kind) (whole p e))))
+  whole : All (IsWholeWork (kind_of i.class.env) i (pos 1)) pieces
+  whole k d l = subst (λ x. IsWholeWork x i (pos 1) (get_or pieces k d)) (sym t.kind) (by (get_or pieces k d) (u.made k d l) (job_inside k d l))
     where
-      first : o ≡ 0
-      first = subst (λ k. HasOperation k i j o) t.kind h
+      one : (x y : ℤ) (b time : ℕ) → x ≡ pos b → y ≡ pos (b + 1) → time ≡ 1 → (y -ℤ x) ≡ pos 1 *ℤ pos time
+      one x y b time e f g = omega (arith, ints, e, f, g)
 
-      whole : (p : Piece) → pieces_of (schedule_of pieces) j 0 ≡ p ∷ [] → length_of p ≡ pos 1 *ℤ pos (need_at i p.job p.op).time
-      whole p e =
-          let (of, o) = named_one pieces j 0 p e in
-          let m = of_one (IsMade i moment) pieces j 0 p e u.made in
-          by p.from p.to (begin_of p) (need_at i p.job p.op).time m.from m.to (ap₂ (λ x y. (need_at i x y).time) of o ∙ ones i t j b)
-        where
-          by : (x y : ℤ) (b time : ℕ) → x ≡ pos b → y ≡ pos (b + 1) → time ≡ 1 → (y -ℤ x) ≡ pos 1 *ℤ pos time
-          by x y b time e f g = omega (arith, ints, e, f, g)
+      by : (p : Piece) → IsMade i moment p → p.job < n → length_of p ≡ pos 1 *ℤ pos (need_at i p.job p.op).time
+      by p m j = one p.from p.to (begin_of p) (need_at i p.job p.op).time m.from m.to (ap (λ o. (need_at i p.job o).time) m.op ∙ ones i t p.job j)
 
-  feasible : Feasible i (schedule_of pieces)
-  feasible = record {
-    unit = ≤ℤ_refl (pos 1);
+  ends_soon : All (λ p. p.to ≤ℤ pos 10000000000000000000000000) pieces
+  ends_soon k d l = by (get_or pieces k d) (u.made k d l)
+    where
+      by : (p : Piece) → IsMade i moment p → p.to ≤ℤ pos 10000000000000000000000000
+      by p h = omega (arith, ints, h.to, h.early, u.soon, t.few)
+
+  uncut : IsUncut i
+  uncut = IsUncut-identical i t.kind t.cut t.few
+
+  one_each : AreOneEach i 1 pieces
+  one_each = record {
+    some = omega arith;
+    jobs = jobs;
+    ops = λ k d l. (u.made k d l).op;
+    inside = λ k d l. (u.made k d l).machine;
     span = λ k d l. let m = u.made k d l in (omega (arith, ints, m.from), omega (arith, ints, m.from, m.to));
-    place = λ k d l. let m = u.made k d l in let p = get_or pieces k d in record {
-      job = job_inside k d l;
-      operation = subst (λ x. HasOperation x i p.job p.op) (sym t.kind) m.op;
-      machine = subst (λ x. MayRun x i p.job p.op p.machine) (sym t.kind) m.machine;
-    };
-    machine = machines_apart;
-    job = λ a b d l k e. absurd (apart_jobs a b d l k e);
-    release = λ k d l. released (get_or pieces k d).from (job_at i (get_or pieces k d).job).release (begin_of (get_or pieces k d)) (u.made k d l).from (t.jobs (get_or pieces k d).job no_job (job_inside k d l)).release;
-    arc = u.forward;
-    route = subst (λ k. FollowsRoute k pieces) (sym t.kind) tt;
-    work = works;
+    apart = machines_apart;
+    released = λ k d l. released (get_or pieces k d).from (job_at i (get_or pieces k d).job).release (begin_of (get_or pieces k d)) (u.made k d l).from (t.jobs (get_or pieces k d).job no_job (job_inside k d l)).release;
+    forward = u.forward;
+    whole = whole;
+    ends = ends_soon;
   }
     where
       released : (x : ℤ) (r b : ℕ) → x ≡ pos b → r ≡ 0 → (pos 1 *ℤ pos r) ≤ℤ x
       released x r b e z = omega (arith, ints, e, z)
+
+  feasible : Feasible i (schedule_of pieces)
+  feasible = one_each_is_feasible i uncut 1 pieces one_each
 
   -- ---- the cost
   abbrev levels_bound : ℕ
@@ -174,32 +161,11 @@ module _ (i : Instance) (t : IsUnitForest i) (moment : ℕ) (pieces : List Piece
       least s f = subst₂ (λ x y. x ≤ℤ y) (*ℤ_comm s.unit (pos levels_bound) ∙ ap (λ x. x *ℤ s.unit) (sym cost_is)) (sym (*ℤ-one (cost_of i s))) (lower s f)
 
   -- ---- bounds, and the form of a report
-  ends_soon : All (λ p. p.to ≤ℤ pos 400) pieces
-  ends_soon k d l = by (get_or pieces k d) (u.made k d l)
-    where
-      by : (p : Piece) → IsMade i moment p → p.to ≤ℤ pos 400
-      by p h = omega (arith, ints, h.to, h.early, u.soon, t.few)
-
   within : Within i (schedule_of pieces)
-  within = record {
-    unit = (omega (arith, ints), omega (arith, ints));
-    few = omega (arith, count, t.few);
-    moments = λ k d l. by (get_or pieces k d) (u.made k d l) (ends_soon k d l);
-    scaled = λ _. inr (omega (arith, ints));
-  }
-    where
-      by : (p : Piece) → IsMade i moment p → p.to ≤ℤ pos 400 → IsMoment p.from × IsMoment p.to
-      by p h e = ((omega (arith, ints, h.from), omega (arith, ints, h.from, h.to, e)), (omega (arith, ints, h.to), omega (arith, ints, e)))
+  within = one_each_is_within i uncut 1 pieces one_each (omega arith) (λ _. omega (arith, ints))
 
   answer : IsAnswer i (schedule_of pieces)
-  answer = record {
-    few = omega (arith, count, t.few);
-    unit = subst (λ k. pos 1 ≤ℤ answer_unit k) (sym t.kind) (omega (arith, ints));
-    ends = λ k d l. by (get_or pieces k d) (ends_soon k d l);
-  }
-    where
-      by : (p : Piece) → p.to ≤ℤ pos 400 → p.to ≤ℤ pos 10000000000000000000000000
-      by p e = omega (arith, ints, e)
+  answer = one_each_is_answer i uncut 1 pieces one_each (subst (λ k. pos 1 ≤ℤ answer_unit k) (sym t.kind) (omega (arith, ints)))
 
   settled : IsSettled (schedule_of pieces)
   settled = record { lowest = λ d divides _. dvd_antisymm divides (one-dvd d); order = λ a b d l k. by (get_or pieces a d) (get_or pieces b d) (u.made a d (omega (arith, l, k))) (u.made b d k) (u.apart a b d l k) }

@@ -11,6 +11,7 @@ pub mod Pushes
 pub mod RowSteps
 pub mod PlainJobs
 pub mod OneInstances
+pub mod OneEach
 pub mod RowAnswer
 pub mod Ratios
 pub mod Applied

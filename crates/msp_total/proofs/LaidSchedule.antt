@@ -25,6 +25,7 @@ use Rattle.msp_schedule.proofs.OnceEach.{OnceBelow-one}
 use Rattle.msp_schedule.proofs.Moves.{Contains-map}
 use Rattle.msp_schedule.proofs.Charges.{cost_of-sum, charge_of}
 use Rattle.msp_route.specs.Bounds.{IsAnswer, answer_unit}
+use Rattle.msp_route.proofs.OneEach.{IsUncut, AreOneEach, one_each_is_feasible, one_each_is_within, one_each_is_answer}
 use Rattle.msp_total.specs.declared.lay.Place.{Place}
 use Rattle.msp_total.specs.Places.{laid}
 use Rattle.msp_total.specs.Turns.{machine_at}
@@ -33,15 +34,10 @@ use Rattle.msp_total.proofs.LaidJobs.{piece_before, laid-length, laid-jobs, laid
 
 -- the instance has machines that may run any job, whole and at any time
 pub record IsPlain (i : Instance) : Type 0 where
-  pub cut : i.class.cut ≡ false
+  pub uncut : IsUncut i
   pub crit : i.class.crit ≡ SumC
   pub arcs : i.arcs ≡ []
-  pub few : length i.jobs ≤ 400
   pub release : (j : ℕ) → j < length i.jobs → (job_at i j).release ≡ 0
-  pub first : (j o : ℕ) → HasOperation (kind_of i.class.env) i j o → o ≡ 0
-  pub operation : (j : ℕ) → HasOperation (kind_of i.class.env) i j 0
-  pub may_run : (j m : ℕ) → m < i.machines → MayRun (kind_of i.class.env) i j 0 m
-  pub route : (ps : List Piece) → FollowsRoute (kind_of i.class.env) ps
 
 -- the places are those of all jobs, each for its time
 pub record AreFitting (i : Instance) (unit : ℕ) (places : List Place) : Type 0 where
@@ -74,52 +70,43 @@ module _ (i : Instance) (plain : IsPlain i) (unit : ℕ) (places : List Place) (
   timed : All IsTimed (laid places)
   timed = laid-All IsTimed places (λ p rest c l. (piece_made p rest (lasting p c)).timed)
 
-  placed : All (HasPlace i) (laid places)
-  placed = laid-All (HasPlace i) places (λ p rest c l. record {
-    job = All-contains (λ j. j < n) (map (λ q. q.job) places) p.job fits.jobs.within (Contains-map (λ q. q.job) places p c);
-    operation = plain.operation p.job;
-    machine = plain.may_run p.job p.machine (All-contains (λ q. q.machine < i.machines) places p fits.inside c);
-  })
-
   ops : All (λ q. q.op ≡ 0) (laid places)
   ops = laid-All (λ q. q.op ≡ 0) places (λ p rest c l. refl)
 
-  whole : All (IsWholeWork (kind_of i.class.env) i (pos unit)) (laid places)
-  whole = laid-All (IsWholeWork (kind_of i.class.env) i (pos unit)) places (λ p rest c l. fits.work p rest c)
+  job_inside : All (λ q. q.job < n) (laid places)
+  job_inside = laid-All (λ q. q.job < n) places (λ p rest c l. All-contains (λ j. j < n) (map (λ q. q.job) places) p.job fits.jobs.within (Contains-map (λ q. q.job) places p c))
 
   jobs : OnceBelow n (map (λ q. q.job) (laid places))
   jobs = subst (OnceBelow n) (sym (laid-jobs places)) fits.jobs
 
-  piece_of_job : (j : ℕ) → j < n → (p : Piece) × (pieces_of s j 0 ≡ p ∷ [])
-  piece_of_job j l =
-      let (p, e) = OnceBelow-one (λ q. q.job) (laid places) jobs j l in
-      (p, pieces_of-job s j ops ∙ e)
-
-  abbrev Gets : ℕ → Type 0
-  Gets o = (j : ℕ) → j < n → MatchBool i.class.cut (total (map (work_of (kind_of i.class.env) i) (pieces_of s j o)) ≡ pos unit *ℤ pos (whole_work (kind_of i.class.env) i j o)) ((p : Piece) × (pieces_of s j o ≡ p ∷ []) × IsWholeWork (kind_of i.class.env) i (pos unit) p)
-
-  gets : Gets 0
-  gets j l = subst (λ b. MatchBool b (total (map (work_of (kind_of i.class.env) i) (pieces_of s j 0)) ≡ pos unit *ℤ pos (whole_work (kind_of i.class.env) i j 0)) ((p : Piece) × (pieces_of s j 0 ≡ p ∷ []) × IsWholeWork (kind_of i.class.env) i (pos unit) p)) (sym plain.cut)
-      (let (p, e) = piece_of_job j l in (p, e, All-contains (IsWholeWork (kind_of i.class.env) i (pos unit)) (laid places) p whole (Contains-from_filter _ (laid places) p (subst (λ xs. Contains xs p) (sym e) (0, omega arith, refl))).0))
-
   no_arcs : All (λ a. All (λ p. All (λ r. p.job ≡ a.before → r.job ≡ a.after → IsBefore p r) (laid places)) (laid places)) i.arcs
   no_arcs = subst (λ arcs. All (λ a. All (λ p. All (λ r. p.job ≡ a.before → r.job ≡ a.after → IsBefore p r) (laid places)) (laid places)) arcs) (sym plain.arcs) (All-nil (λ (a : Arc). All (λ p. All (λ r. p.job ≡ a.before → r.job ≡ a.after → IsBefore p r) (laid places)) (laid places)))
 
-  pub laid_is_feasible : Feasible i s
-  laid_is_feasible = record {
-    unit = omega (arith, ints, fits.some);
+  ends : All (λ q. finish q ≤ 400 * (1000000000 * 2 ^ 30)) (laid places)
+  ends k d l = omega (arith, ends_soon ((1000000000 * 2 ^ 30)) places fits.short k d l, count, plain.uncut.few)
+
+  one_each : AreOneEach i unit (laid places)
+  one_each = record {
+    some = fits.some;
+    jobs = jobs;
+    ops = ops;
+    inside = laid-All (λ q. q.machine < i.machines) places (λ p rest c l. All-contains (λ q. q.machine < i.machines) places p fits.inside c);
     span = λ k d l. let t = timed k d l in (omega (arith, ints, t.from), omega (arith, ints, t.from, t.to, t.lasts));
-    place = placed;
-    machine = λ a b d l k e. apart_in_int _ _ (timed a d (omega arith)) (timed b d k) (laid-apart places fits.lasts a b d l k e);
-    job = λ a b d l k e. absurd (laid-distinct n places fits.jobs a b d l k e);
-    release = λ k d l. released (get_or (laid places) k d).from unit (job_at i (get_or (laid places) k d).job).release _ (timed k d l).from (plain.release (get_or (laid places) k d).job (placed k d l).job);
-    arc = no_arcs;
-    route = plain.route (laid places);
-    work = λ j o l h. subst Gets (sym (plain.first j o h)) gets j l;
+    apart = λ a b d l k e. apart_in_int _ _ (timed a d (omega arith)) (timed b d k) (laid-apart places fits.lasts a b d l k e);
+    released = λ k d l. released (get_or (laid places) k d).from unit (job_at i (get_or (laid places) k d).job).release _ (timed k d l).from (plain.release (get_or (laid places) k d).job (job_inside k d l));
+    forward = no_arcs;
+    whole = laid-All (IsWholeWork (kind_of i.class.env) i (pos unit)) places (λ p rest c l. fits.work p rest c);
+    ends = λ k d l. early (get_or (laid places) k d) (timed k d l) (ends k d l);
   }
     where
       released : (x : ℤ) (u r b : ℕ) → x ≡ pos b → r ≡ 0 → (pos u *ℤ pos r) ≤ℤ x
       released x u r b e z = subst (λ y. (pos u *ℤ pos y) ≤ℤ x) (sym z) (omega (arith, ints, e))
+
+      early : (p : Piece) → IsTimed p → finish p ≤ 400 * (1000000000 * 2 ^ 30) → p.to ≤ℤ pos 10000000000000000000000000
+      early p t m = omega (arith, ints, t.to, m)
+
+  pub laid_is_feasible : Feasible i s
+  laid_is_feasible = one_each_is_feasible i plain.uncut unit (laid places) one_each
 
   -- ---- the cost
   pub laid_costs : cost_of i s ≤ℤ pos (total_below (length places) (λ r. length_at places r * (seats (machine_at places) r (machine_at places r) + 1)))
@@ -128,29 +115,8 @@ module _ (i : Instance) (plain : IsPlain i) (unit : ℕ) (places : List Place) (
       (subst (λ x. pos (total_below n (last_of job_of finish (laid places))) ≤ℤ pos x) (sum_of_laid_ends i.machines places fits.inside) (pos-le (ends_of_jobs n places fits.jobs)))
 
   -- ---- bounds
-  ends : All (λ q. finish q ≤ 400 * (1000000000 * 2 ^ 30)) (laid places)
-  ends k d l = omega (arith, ends_soon ((1000000000 * 2 ^ 30)) places fits.short k d l, count, plain.few)
-
-  moments : All (λ q. IsMoment q.from × IsMoment q.to) (laid places)
-  moments k d l = by (get_or (laid places) k d) (timed k d l) (ends k d l)
-    where
-      by : (p : Piece) → IsTimed p → finish p ≤ 400 * (1000000000 * 2 ^ 30) → IsMoment p.from × IsMoment p.to
-      by p t m = ((omega (arith, ints, t.from), omega (arith, ints, t.from, t.lasts, m)), (omega (arith, ints, t.to), omega (arith, ints, t.to, m)))
-
   pub laid_is_within : Within i s
-  laid_is_within = record {
-    unit = (omega (arith, ints, fits.some), omega (arith, ints, fits.few));
-    few = omega (arith, laid-length places, count, plain.few);
-    moments = moments;
-    scaled = λ u. inr (fits.scaled u);
-  }
+  laid_is_within = one_each_is_within i plain.uncut unit (laid places) one_each fits.few fits.scaled
 
   pub laid_is_answer : IsAnswer i s
-  laid_is_answer = record {
-    few = omega (arith, laid-length places, count, plain.few);
-    unit = fits.bounded;
-    ends = λ k d l. by (get_or (laid places) k d) (timed k d l) (ends k d l);
-  }
-    where
-      by : (p : Piece) → IsTimed p → finish p ≤ 400 * (1000000000 * 2 ^ 30) → p.to ≤ℤ pos 10000000000000000000000000
-      by p t m = omega (arith, ints, t.to, m)
+  laid_is_answer = one_each_is_answer i plain.uncut unit (laid places) one_each fits.bounded

@@ -25,6 +25,7 @@ use Rattle.msp_schedule.proofs.OneMachine.{pieces_of-job}
 use Rattle.msp_schedule.proofs.Charges.{charge_of, cost_of-sum, job_cost-mono, job_cost-scale}
 use Rattle.msp_schedule.proofs.OnceEach.{OnceBelow-one}
 use Rattle.msp_route.specs.Bounds.{IsAnswer, answer_unit}
+use Rattle.msp_route.proofs.OneEach.{IsUncut, IsUncut-identical, AreOneEach, one_each_is_feasible, one_each_is_within, one_each_is_answer}
 use Rattle.msp_assign.specs.Prices.{IsAssigned, column_of}
 use Rattle.msp_total.specs.Slots.{forbidden, slot_cost}
 use Rattle.msp_total.specs.Seating.{one_if, begin_at, IsSeated}
@@ -244,33 +245,21 @@ module _ (i : Instance) (late : Bool) (h : IsUnitShop i late) (pieces : List Pie
       let is = All-contains (λ p. p ≡ piece_in l.slots p.job (col p.job)) pieces p (all_pieces (λ p. p ≡ piece_in l.slots p.job (col p.job)) (λ j b. refl)) inside in
       e ∙ ap (λ q. q ∷ []) (is ∙ ap (λ j. piece_in l.slots j (col j)) (eqb-true p.job j passes))
 
-  one_piece : (j : ℕ) → j < n → pieces_of (schedule_of pieces) j 0 ≡ piece_in l.slots j (col j) ∷ []
-  one_piece j b = pieces_of-job (schedule_of pieces) j ops ∙ mine j b
+  uncut : IsUncut i
+  uncut = IsUncut-identical i h.kind h.cut h.few
 
-  works : (j o : ℕ) → j < n → HasOperation (kind_of i.class.env) i j o → GetsWork i (schedule_of pieces) j o
-  works j o b w = subst (λ o. GetsWork i (schedule_of pieces) j o) (sym first) (subst (λ c. MatchBool c (total (map (work_of (kind_of i.class.env) i) (pieces_of (schedule_of pieces) j 0)) ≡ pos 1 *ℤ pos (whole_work (kind_of i.class.env) i j 0)) ((p : Piece) × (pieces_of (schedule_of pieces) j 0 ≡ p ∷ []) × IsWholeWork (kind_of i.class.env) i (pos 1) p)) (sym h.cut) (piece_in l.slots j (col j), one_piece j b, subst (λ k. IsWholeWork k i (pos 1) (piece_in l.slots j (col j))) (sym h.kind) (by (start (col j)) (need_at i j 0).time (ones i late h j b))))
-    where
-      first : o ≡ 0
-      first = subst (λ k. HasOperation k i j o) h.kind w
-
-      by : (x time : ℕ) → time ≡ 1 → (pos (x + 1) -ℤ pos x) ≡ pos 1 *ℤ pos time
-      by x time e = omega (arith, ints, e)
-
-  feasible : Feasible i (schedule_of pieces)
-  feasible = record {
-    unit = ≤ℤ_refl (pos 1);
+  one_each : AreOneEach i 1 pieces
+  one_each = record {
+    some = omega arith;
+    jobs = jobs;
+    ops = ops;
+    inside = all_pieces (λ p. p.machine < i.machines) (λ j b. machine_inside (col j) (col_inside j b));
     span = all_pieces (λ p. (pos 0 ≤ℤ p.from) × (p.from <ℤ p.to)) (λ j b. lasts (start (col j)));
-    place = all_pieces (HasPlace i) (λ j b. record {
-      job = b;
-      operation = subst (λ x. HasOperation x i j 0) (sym h.kind) refl;
-      machine = subst (λ x. MayRun x i j 0 (machine_in l.slots (col j))) (sym h.kind) (machine_inside (col j) (col_inside j b));
-    });
-    machine = machines_apart;
-    job = λ a b d less w e. absurd (apart_jobs a b d less w e);
-    release = all_pieces (λ p. (pos 1 *ℤ pos (job_at i p.job).release) ≤ℤ p.from) (λ j b. released (job_at i j).release (start (col j)) (in_time j b));
-    arc = subst (λ arcs. All (λ a. All (λ p. All (λ q. p.job ≡ a.before → q.job ≡ a.after → IsBefore p q) pieces) pieces) arcs) (sym h.arcs) (All-nil (λ a. All (λ p. All (λ q. p.job ≡ a.before → q.job ≡ a.after → IsBefore p q) pieces) pieces));
-    route = subst (λ k. FollowsRoute k pieces) (sym h.kind) tt;
-    work = works;
+    apart = machines_apart;
+    released = all_pieces (λ p. (pos 1 *ℤ pos (job_at i p.job).release) ≤ℤ p.from) (λ j b. released (job_at i j).release (start (col j)) (in_time j b));
+    forward = subst (λ arcs. All (λ a. All (λ p. All (λ q. p.job ≡ a.before → q.job ≡ a.after → IsBefore p q) pieces) pieces) arcs) (sym h.arcs) (All-nil (λ a. All (λ p. All (λ q. p.job ≡ a.before → q.job ≡ a.after → IsBefore p q) pieces) pieces));
+    whole = all_pieces (IsWholeWork (kind_of i.class.env) i (pos 1)) (λ j b. subst (λ k. IsWholeWork k i (pos 1) (piece_in l.slots j (col j))) (sym h.kind) (unit_work (start (col j)) (need_at i j 0).time (ones i late h j b)));
+    ends = all_pieces (λ p. p.to ≤ℤ pos 10000000000000000000000000) (λ j b. early (start (col j)) (soon (col j) (col_inside j b)));
   }
     where
       lasts : (x : ℕ) → (pos 0 ≤ℤ pos x) × (pos x <ℤ pos (x + 1))
@@ -278,6 +267,15 @@ module _ (i : Instance) (late : Bool) (h : IsUnitShop i late) (pieces : List Pie
 
       released : (r x : ℕ) → r ≤ x → (pos 1 *ℤ pos r) ≤ℤ pos x
       released r x e = omega (arith, ints, e)
+
+      unit_work : (x time : ℕ) → time ≡ 1 → (pos (x + 1) -ℤ pos x) ≡ pos 1 *ℤ pos time
+      unit_work x time e = omega (arith, ints, e)
+
+      early : (x : ℕ) → x ≤ 2000000400 → pos (x + 1) ≤ℤ pos 10000000000000000000000000
+      early x e = omega (arith, ints, e)
+
+  feasible : Feasible i (schedule_of pieces)
+  feasible = one_each_is_feasible i uncut 1 pieces one_each
 
   -- ---- the cost
   end_is : (j : ℕ) → j < n → end_of (schedule_of pieces) j ≡ pos (start (col j) + 1)
@@ -295,25 +293,10 @@ module _ (i : Instance) (late : Bool) (h : IsUnitShop i late) (pieces : List Pie
 
   -- ---- bounds
   within : Within i (schedule_of pieces)
-  within = record {
-    unit = (omega (arith, ints), omega (arith, ints));
-    few = omega (arith, count, h.few);
-    moments = all_pieces (λ p. IsMoment p.from × IsMoment p.to) (λ j b. by (start (col j)) (soon (col j) (col_inside j b)));
-    scaled = λ _. inr (omega (arith, ints));
-  }
-    where
-      by : (x : ℕ) → x ≤ 2000000400 → IsMoment (pos x) × IsMoment (pos (x + 1))
-      by x e = ((omega (arith, ints), omega (arith, ints, e)), (omega (arith, ints), omega (arith, ints, e)))
+  within = one_each_is_within i uncut 1 pieces one_each (omega arith) (λ _. omega (arith, ints))
 
   answer : IsAnswer i (schedule_of pieces)
-  answer = record {
-    few = omega (arith, count, h.few);
-    unit = subst (λ k. pos 1 ≤ℤ answer_unit k) (sym h.kind) (omega (arith, ints));
-    ends = all_pieces (λ p. p.to ≤ℤ pos 10000000000000000000000000) (λ j b. by (start (col j)) (soon (col j) (col_inside j b)));
-  }
-    where
-      by : (x : ℕ) → x ≤ 2000000400 → pos (x + 1) ≤ℤ pos 10000000000000000000000000
-      by x e = omega (arith, ints, e)
+  answer = one_each_is_answer i uncut 1 pieces one_each (subst (λ k. pos 1 ≤ℤ answer_unit k) (sym h.kind) (omega (arith, ints)))
 
 -- what a schedule in the slots has
 pub record IsSlotAnswer (i : Instance) (s : Schedule) : Type 0 where

@@ -38,15 +38,17 @@ use Rattle.msp_total.proofs.UniformFacts.{IsUniformInstance, times}
 
 pub IsPlain-from_uniform : (i : Instance) → IsUniformInstance i → IsPlain i
 IsPlain-from_uniform i h = record {
-  cut = h.cut;
+  uncut = record {
+    cut = h.cut;
+    few = h.few;
+    first = λ j o op. subst (λ k. HasOperation k i j o) h.kind op;
+    operation = λ j. subst (λ k. HasOperation k i j 0) (sym h.kind) refl;
+    may_run = λ j m l. subst (λ k. MayRun k i j 0 m) (sym h.kind) l;
+    route = λ ps. subst (λ k. FollowsRoute k ps) (sym h.kind) tt;
+  };
   crit = h.crit;
   arcs = h.arcs;
-  few = h.few;
   release = λ j l. (h.jobs j no_job l).release;
-  first = λ j o op. subst (λ k. HasOperation k i j o) h.kind op;
-  operation = λ j. subst (λ k. HasOperation k i j 0) (sym h.kind) refl;
-  may_run = λ j m l. subst (λ k. MayRun k i j 0 m) (sym h.kind) l;
-  route = λ ps. subst (λ k. FollowsRoute k ps) (sym h.kind) tt;
 }
 
 -- ---- the steps of the machines
