@@ -1,5 +1,7 @@
 // Instances of the classes, and the conditions that they break.
-use crate::{Arc, ClassFault, Curve, Instance, Job, Need, OrderFault, check, forward};
+use crate::{
+    Arc, ClassFault, Curve, Instance, Job, Need, OrderFault, check, check_distinct_arcs, forward,
+};
 use msp_class::{Class, Crit, Env, List, Order, Times};
 use std::alloc::{AllocError, Global};
 use std::test::Fail;
@@ -207,6 +209,25 @@ fn first_faults(rt: HostRuntime) -> Result<(), Fail> {
         let inst = instance(alloc, class, speeds, jobs, arcs)?;
         assert_eq!(rt; check(&inst).err(), fault);
     }
+    Ok(())
+}
+
+#[test]
+fn faults_of_distinct_arcs(rt: HostRuntime) -> Result<(), Fail> {
+    let alloc = rt.alloc();
+    let mut inst = instance(alloc, PREC, &[], &[JOB, JOB], &[])?;
+    inst.arcs = List::new(alloc);
+    assert_eq!(rt; check_distinct_arcs(&inst), Ok(()));
+    inst.arcs = List::from_vec(vec![in alloc;
+        Arc {
+            before: 1,
+            after: 2
+        },
+    ]?);
+    assert_eq!(rt;
+        check_distinct_arcs(&inst).err(),
+        Some(ClassFault::Arc { at: 0 })
+    );
     Ok(())
 }
 

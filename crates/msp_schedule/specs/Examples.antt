@@ -2,7 +2,7 @@
 use Rattle.std.specs.Prelude.{◌≡◌, ℕ, Bool, true, false, List, [], ◌∷◌, pos, negsuc}
 use Rattle.msp_class.specs.declared.class.Class.{Class}
 use Rattle.msp_class.specs.declared.class.Env.{Env}
-use Rattle.msp_class.specs.declared.class.Env.TheVariants.{One, P as Parallel, F2, J2}
+use Rattle.msp_class.specs.declared.class.Env.TheVariants.{One, P as Parallel, Q, F2, J2}
 use Rattle.msp_class.specs.declared.class.Order.{Order}
 use Rattle.msp_class.specs.declared.class.Order.TheVariants.{Free, Prec}
 use Rattle.msp_class.specs.declared.class.Times.TheVariants.{General}
@@ -59,6 +59,10 @@ parallel = record { class = class_of Parallel true Free false Cmax; machines = 2
 
 abbrev pub on_both : Schedule
 on_both = schedule (piece 0 0 0 2 ∷ piece 0 1 1 2 ∷ [])
+
+-- Three machines of different speeds.
+abbrev pub three_speeds : Instance
+three_speeds = record { class = class_of Q true Free false Cmax; machines = 3; speeds = 5 ∷ 3 ∷ 1 ∷ []; jobs = job 3 1 ∷ []; arcs = [] }
 
 -- A job with a release date, before which it begins.
 abbrev pub released : Instance
