@@ -13,6 +13,7 @@ pub mod PlainJobs
 pub mod OneInstances
 pub mod OneEach
 pub mod RowAnswer
+pub mod RowArcs
 pub mod Ratios
 pub mod Applied
 pub mod Samples

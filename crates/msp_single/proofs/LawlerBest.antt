@@ -29,6 +29,7 @@ use Rattle.msp_schedule.proofs.Certified.{ranked, Rises, best_by_certificates}
 use Rattle.msp_route.proofs.PlainJobs.{takes_time, is_short}
 use Rattle.msp_single.proofs.LawlerFacts.{IsLawlerInstance, IsLawlerInstance-from_class}
 use Rattle.msp_route.proofs.RowAnswer.{timed, released, row_is_answer}
+use Rattle.msp_route.proofs.RowArcs.{forward_row_is_feasible}
 
 -- what is said of the answer's schedule
 pub record IsLawlerSchedule (i : Instance) (s : Schedule) : Type 0 where
@@ -65,21 +66,8 @@ module _ (i : Instance) (h : IsLawlerInstance i) (order : List ℕ) (o : IsLawle
       let not_there = All-contains (λ v. v.before ≡ get_or order b 0 → ¬ Contains (take (b + 1) order) v.after) i.arcs (record { before = get_or order b d; after = get_or order a d }) free c here in
       not_there (a, omega (arith, length-take (b + 1) order, less, inside), get_or-take (b + 1) order a (get_or order a d) (omega (arith, less)) ∙ get_or_default order a (get_or order a d) d (omega (arith, less, inside)))
 
-  in_order : All (λ a. All (λ p. All (λ q. p.job ≡ a.before → q.job ≡ a.after → IsBefore p q) pieces) pieces) i.arcs
-  in_order k d l x u lx y v ly e e' =
-      let p = get_or pieces x u in
-      let q = get_or pieces y v in
-      let step : HasStep i.arcs p.job q.job = subst (Contains i.arcs) (same (get_or i.arcs k d) p.job q.job e e') (Contains-get_or i.arcs k d l) in
-      in_int p q (timed i h.plain order once x u lx) (timed i h.plain order once y v ly) (row-arcs piece (time_at i) piece_makes (HasStep i.arcs) 0 order loose forward p q (Contains-get_or pieces x u lx) (Contains-get_or pieces y v ly) step)
-    where
-      same : (a : Arc) (m n : ℕ) → m ≡ a.before → n ≡ a.after → a ≡ record { before = m; after = n }
-      same a m n f g = sym (ap₂ (λ b c. record { before = b; after = c }) f g)
-
-      in_int : (p q : Piece) → IsTimed p → IsTimed q → finish p ≤ start q → IsBefore p q
-      in_int p q tp tq l = omega (arith, ints, tp.to, tq.from, l)
-
   lawler_is_feasible : Feasible i (row_schedule i order)
-  lawler_is_feasible = row_is_feasible i order once (takes_time i h.plain) h.plain.machine (released i h.plain order once) in_order
+  lawler_is_feasible = forward_row_is_feasible i h.plain order once loose forward
 
   -- ---- each job is certified when it ends
   module _ (k : ℕ) (inside : k < length order) where

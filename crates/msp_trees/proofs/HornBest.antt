@@ -34,6 +34,7 @@ use Rattle.msp_trees.specs.Horn.{before, weight_at}
 use Rattle.msp_trees.specs.Joining.{IsCheapest}
 use Rattle.msp_route.proofs.PlainJobs.{IsPlain, IsPlain-from, takes_time, is_short}
 use Rattle.msp_route.proofs.RowAnswer.{timed, released, row_is_answer}
+use Rattle.msp_route.proofs.RowArcs.{forward_row_is_feasible}
 use Rattle.msp_trees.proofs.Joins.{IsTree}
 use Rattle.msp_trees.proofs.Before.{before_within, before_start, forward_from_arcs, steps_forward, may_precede, no_loop, before_loose}
 
@@ -84,21 +85,8 @@ module _ (i : Instance) (h : IsHornInstance i) (order : List ℕ) (o : IsCheapes
   loose : (j : ℕ) → ¬ HasStep i.arcs j j
   loose = let (all, q, forward) = h.inner.acyclic in no_loop i h.inner.conditions.ends all q forward
 
-  in_order : All (λ a. All (λ p. All (λ q. p.job ≡ a.before → q.job ≡ a.after → IsBefore p q) pieces) pieces) i.arcs
-  in_order k d l x u lx y v ly e e' =
-      let p = get_or pieces x u in
-      let q = get_or pieces y v in
-      let step : HasStep i.arcs p.job q.job = subst (Contains i.arcs) (same (get_or i.arcs k d) p.job q.job e e') (Contains-get_or i.arcs k d l) in
-      in_int p q (timed i h.plain order o.once x u lx) (timed i h.plain order o.once y v ly) (row-arcs piece (time_at i) piece_makes (HasStep i.arcs) 0 order loose (steps_forward i h.inner.conditions.ends h.few order o.forward) p q (Contains-get_or pieces x u lx) (Contains-get_or pieces y v ly) step)
-    where
-      same : (a : Arc) (m n : ℕ) → m ≡ a.before → n ≡ a.after → a ≡ record { before = m; after = n }
-      same a m n f g = sym (ap₂ (λ b c. record { before = b; after = c }) f g)
-
-      in_int : (p q : Piece) → IsTimed p → IsTimed q → finish p ≤ start q → IsBefore p q
-      in_int p q tp tq l = omega (arith, ints, tp.to, tq.from, l)
-
   horn_is_feasible : Feasible i (row_schedule i order)
-  horn_is_feasible = row_is_feasible i order o.once (takes_time i h.plain) h.plain.machine (released i h.plain order o.once) in_order
+  horn_is_feasible = forward_row_is_feasible i h.plain order o.once loose (steps_forward i h.inner.conditions.ends h.few order o.forward)
 
   -- ---- no schedule costs less
   abbrev least_cost : ℕ

@@ -9,7 +9,7 @@ ghost use Rattle.msp_wrap.specs.Laying.{part, HasOpened, IsWrapped, IsWhollyWrap
 
 use msp_class::{Class, Crit, Env, List, NoMemory, Order, Times};
 use msp_instance::{Instance, Job};
-use msp_route::Solver;
+use msp_route::{Solver, first_time};
 use msp_schedule::{Piece, Schedule, Solution};
 use std::alloc::Global;
 
@@ -28,14 +28,6 @@ const WRAP_CLASS: Class = Class {
 struct Place {
     machine: u32,
     moment: u64,
-}
-
-/// The time of a job's one operation.
-fn first_time(job: &Job) -> u64
-    requires { 0 < length job.now.needs }
-    ensures { result ≡ time_of job.now }
-{
-    job.needs.as_slice()[0].time
 }
 
 /// The longest time of a job.
