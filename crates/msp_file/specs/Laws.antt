@@ -12,14 +12,15 @@ use Rattle.msp_file.specs.declared.schedule.Stated.{Stated}
 use Rattle.msp_file.specs.Answers.{IsFaultOf, IsFrontFaultOf, IsFrontText}
 use Rattle.msp_file.specs.ScheduleAnswers.{IsScheduleFaultOf}
 
--- The bytes are a text of the instance and of the names of its jobs, and the fault is the first one of the bytes. Want of memory is none.
+-- The bytes are a text of the instance and of the names of its jobs.
 abbrev pub IsTextOf : List ℕ → Filed → Type 0
 IsTextOf bytes f = IsInstanceText bytes f.instance f.names
 
+-- The fault is the first one of the bytes. Want of memory is none.
 abbrev pub IsFirstFaultOf : List ℕ → FileFault → Type 0
 IsFirstFaultOf bytes e = IsFaultOf bytes e × (e ≢ Memory)
 
--- The bytes are an instance text if they have no first fault.
+-- Bytes are an instance text exactly where they have no first fault, and each instance and each first fault is the only one.
 abbrev pub LawOfInstanceTexts : Type 0
 LawOfInstanceTexts = AreReadOneWay IsTextOf IsFirstFaultOf
 

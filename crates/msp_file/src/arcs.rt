@@ -53,9 +53,7 @@ impl Arcs {
     pub(crate) fn listed(&self, alloc: Global) -> Result<List<Arc>, NoMemory>
         ensures { IfOk result (λ list. list ≡ self.now) }
     {
-        match self.set.as_slice().to_vec(alloc) {
-            Ok(arcs) => Ok(List::from_vec(arcs)),
-            Err(_) => Err(NoMemory),
-        }
+        let arcs = self.set.as_slice().to_vec(alloc)?;
+        Ok(List::from_vec(arcs))
     }
 }

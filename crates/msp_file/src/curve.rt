@@ -16,10 +16,8 @@ use std::alloc::Global;
 fn push_step(steps: &mut List<Step>, above: u64, add: u64) -> Result<(), FileFault>
     ensures { MatchResult result (λ _. steps.new ≡ with_step steps.old above add) (λ e. e ≡ FileFault.Memory) }
 {
-    match steps.push(Step { above, add }) {
-        Ok(()) => Ok(()),
-        Err(_) => Err(FileFault::Memory),
-    }
+    steps.put(Step { above, add })?;
+    Ok(())
 }
 
 /// The threshold and the add in the next two fields, put at the end of the steps.

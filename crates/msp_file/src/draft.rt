@@ -50,13 +50,9 @@ fn push_job(draft: &mut Draft, name: JobName, job: Job) -> Result<(), FileFault>
     requires { list_any (bytes_eq name) draft.old.names ≡ false }
     ensures { MatchResult result (λ _. draft.new ≡ record draft.old { names = draft.old.names ++ name ∷ []; jobs = draft.old.jobs ++ job ∷ [] }) (λ e. e ≡ FileFault.Memory) }
 {
-    if draft.names.add(name).is_err() {
-        return Err(FileFault::Memory);
-    }
-    match draft.jobs.push(job) {
-        Ok(()) => Ok(()),
-        Err(_) => Err(FileFault::Memory),
-    }
+    draft.names.add(name)?;
+    draft.jobs.put(job)?;
+    Ok(())
 }
 
 /// The time of a job's operations that no line writes.
@@ -111,10 +107,10 @@ fn add_arc(at: u32, draft: &mut Draft, before: u32, after: u32) -> Result<(), Fi
     ensures names { OnOk result (draft.new.names ≡ draft.old.names) }
     ensures jobs { OnOk result (draft.new.jobs ≡ draft.old.jobs) }
 {
-    match draft.arcs.add(Arc { before, after }) {
-        Ok(true) => Ok(()),
-        Ok(false) => Err(FileFault::ArcAgain { at }),
-        Err(_) => Err(FileFault::Memory),
+    if draft.arcs.add(Arc { before, after })? {
+        Ok(())
+    } else {
+        Err(FileFault::ArcAgain { at })
     }
 }
 

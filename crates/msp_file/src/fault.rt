@@ -2,8 +2,10 @@
 ghost use Rattle.std.specs.Prelude.{◌≡◌, ◌+◌, ◌≤◌, ◌++◌, length, codes};
 ghost use Rattle.msp_name.specs.declared.fault.TheConstants.{FAULT_ROOM};
 ghost use Rattle.msp_job_name.specs.declared.job_name.TheConstants.{LONGEST_NAME};
+ghost use Rattle.msp_file.specs.declared.fault.FileFault.TheVariants.{Memory};
 ghost use Rattle.msp_file.specs.Faults.{quantity_text, longest_quantity, longest_line_head, at_line, broken_text, file_text};
 
+use msp_class::NoMemory;
 use msp_instance::ClassFault;
 use msp_job_name::JobName;
 use msp_name::{FAULT_ROOM, ShortText};
@@ -106,6 +108,14 @@ pub enum FileFault {
     },
     /// There was not memory enough.
     Memory,
+}
+
+impl From<NoMemory> for FileFault {
+    ghost from_gives = { λ _ e. e ≡ Memory };
+
+    fn from(_refusal: NoMemory) -> FileFault {
+        FileFault::Memory
+    }
 }
 
 impl What {

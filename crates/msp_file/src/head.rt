@@ -110,10 +110,10 @@ fn take_speed<'a>(at: u32, speeds: &mut List<u64>, rest: &'a [u8]) -> Result<&'a
 {
     let (field, more) = next_field(rest);
     match natural_at(at, What::Speed, 1, GREATEST_SPEED, field) {
-        Ok(speed) => match speeds.push(speed) {
-            Ok(()) => Ok(more),
-            Err(_) => Err(FileFault::Memory),
-        },
+        Ok(speed) => {
+            speeds.put(speed)?;
+            Ok(more)
+        }
         Err(fault) => Err(fault),
     }
 }

@@ -3,8 +3,9 @@
 //! It stands on `msp_text`, `msp_name`, `msp_job_name`, `msp_grammar`, `msp_instance` and `msp_schedule`. The layers above use that
 //! `read_instance` reads exactly the instance texts of the grammar, `IsInstanceText`, each as its instance, and answers to another text
 //! its first fault, `IsFaultOf`; that `read_front` reads such a text at the front of other bytes, `IsFrontText`; that `read_schedule`
-//! reads exactly the schedule texts, `IsScheduleText`; and that a fault has its text, `file_text`. The printers and names of the layers
-//! below are re-exported here.
+//! reads exactly the schedule texts, `IsScheduleText`; that bytes are a text exactly where they have no first fault, and have one value or
+//! one first fault alone (`law_of_instance_texts`, `law_of_front_texts`, `law_of_schedule_texts`); and that a fault has its text,
+//! `file_text`. The printers and names of the layers below are re-exported here.
 #![tactic(auto)]
 
 mod arcs;

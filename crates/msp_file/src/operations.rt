@@ -20,10 +20,8 @@ use std::alloc::Global;
 fn push_need(needs: &mut List<Need>, machine: u32, time: u64) -> Result<(), FileFault>
     ensures { MatchResult result (λ _. needs.new ≡ with_need needs.old machine time) (λ e. e ≡ FileFault.Memory) }
 {
-    match needs.push(Need { machine, time }) {
-        Ok(()) => Ok(()),
-        Err(_) => Err(FileFault::Memory),
-    }
+    needs.put(Need { machine, time })?;
+    Ok(())
 }
 
 /// The time in the next field, put at the end of the needs. What is left are the other fields.

@@ -44,9 +44,7 @@ fn filed_of(
     ensures { MatchResult result (λ f. f ≡ filed_of class machines speeds draft) (λ e. e ≡ FileFault.Memory) }
 {
     let Draft { names, jobs, arcs } = draft;
-    let Ok(arcs) = arcs.listed(alloc) else {
-        return Err(FileFault::Memory);
-    };
+    let arcs = arcs.listed(alloc)?;
     Ok(Filed {
         instance: Instance {
             class,

@@ -238,10 +238,10 @@ fn piece_line_at(
         return Err(FileFault::Count { at });
     }
     match piece_at(at, names, fields) {
-        Ok(piece) => match pieces.push(piece) {
-            Ok(()) => Ok(()),
-            Err(_) => Err(FileFault::Memory),
-        },
+        Ok(piece) => {
+            pieces.put(piece)?;
+            Ok(())
+        }
         Err(fault) => Err(fault),
     }
 }
