@@ -1,5 +1,5 @@
 -- Laid jobs as a schedule on machines of any kind: it is feasible, what it costs, and its bounds.
-use Rattle.std.proofs.Common.{◌≡◌, ℕ, ◌+◌, ◌*◌, ◌<◌, ◌≤◌, ◌^◌, false, List, [], ◌∷◌, length, get_or, map, ℤ, pos, ◌*ℤ◌, ◌≤ℤ◌, All, Contains, MatchBool, inr, refl, sym, ap, subst, ◌∙◌, arith}
+use Rattle.std.proofs.Common.{◌≡◌, ℕ, ◌+◌, ◌*◌, ◌<◌, ◌≤◌, ◌^◌, List, [], length, get_or, map, ℤ, pos, ◌*ℤ◌, ◌≤ℤ◌, All, Contains, refl, sym, ap, subst, ◌∙◌, arith}
 use Rattle.std.proofs.lemmas.Int.{ints}
 use Rattle.std.proofs.lemmas.List.{length-map}
 use Rattle.std.proofs.lemmas.List.Elements.{All-nil, All-contains}
@@ -9,19 +9,18 @@ use Rattle.msp_class.specs.Crit.{is_greatest}
 use Rattle.msp_class.specs.Env.{kind_of}
 use Rattle.msp_class.proofs.IntegerRing.{≤ℤ_trans, ≤ℤ_of_same, pos-le}
 use Rattle.msp_class.specs.Sums.{total_below}
-use Rattle.msp_class.proofs.Sums.{Contains-from_filter, int_total_below-natural, OnceBelow, length-OnceBelow}
+use Rattle.msp_class.proofs.Sums.{int_total_below-natural, OnceBelow, length-OnceBelow}
 use Rattle.msp_instance.specs.declared.Arc.{Arc}
 use Rattle.msp_instance.specs.declared.Instance.{Instance}
 use Rattle.msp_instance.specs.Instance.{job_at}
 use Rattle.msp_schedule.specs.declared.Piece.{Piece}
 use Rattle.msp_schedule.specs.declared.Schedule.{Schedule}
-use Rattle.msp_schedule.specs.Piece.{pieces_of, IsBefore, job_of, finish, IsTimed}
-use Rattle.msp_schedule.specs.Feasible.{Feasible, HasPlace, HasOperation, MayRun, FollowsRoute, IsWholeWork, total, whole_work, work_of}
+use Rattle.msp_schedule.specs.Piece.{IsBefore, job_of, finish, IsTimed}
+use Rattle.msp_schedule.specs.Feasible.{Feasible, IsWholeWork}
 use Rattle.msp_schedule.specs.Cost.{cost_of, end_of, job_cost}
-use Rattle.msp_schedule.specs.Within.{IsMoment, Within}
-use Rattle.msp_schedule.proofs.OneMachine.{apart_in_int, pieces_of-job, last_end-is}
+use Rattle.msp_schedule.specs.Within.{Within}
+use Rattle.msp_schedule.proofs.OneMachine.{apart_in_int, last_end-is}
 use Rattle.msp_schedule.proofs.Intervals.{last_of}
-use Rattle.msp_schedule.proofs.OnceEach.{OnceBelow-one}
 use Rattle.msp_schedule.proofs.Moves.{Contains-map}
 use Rattle.msp_schedule.proofs.Charges.{cost_of-sum, charge_of}
 use Rattle.msp_route.specs.Bounds.{IsAnswer, answer_unit}
@@ -30,7 +29,7 @@ use Rattle.msp_total.specs.declared.lay.Place.{Place}
 use Rattle.msp_total.specs.Places.{laid}
 use Rattle.msp_total.specs.Turns.{machine_at}
 use Rattle.msp_total.specs.Multipliers.{seats}
-use Rattle.msp_total.proofs.LaidJobs.{piece_before, laid-length, laid-jobs, laid-All, piece_made, laid-apart, laid-distinct, ends_of_jobs, sum_of_laid_ends, ends_soon, length_at}
+use Rattle.msp_total.proofs.LaidJobs.{piece_before, laid-jobs, laid-All, piece_made, laid-apart, ends_of_jobs, sum_of_laid_ends, ends_soon, length_at}
 
 -- the instance has machines that may run any job, whole and at any time
 pub record IsPlain (i : Instance) : Type 0 where

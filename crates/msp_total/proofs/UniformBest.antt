@@ -5,8 +5,7 @@ use Rattle.std.proofs.lemmas.Int.{ints}
 use Rattle.std.proofs.lemmas.Nat.{mul-le}
 use Rattle.std.proofs.Math.Nat.{div-mul_cancel, mul-le-mul_left}
 use Rattle.std.proofs.lemmas.List.{length-map, get_or-map, get_or_default, same_lists}
-use Rattle.std.proofs.lemmas.List.Elements.{All-contains, Contains-get_or}
-use Rattle.msp_schedule.proofs.Moves.{Contains-map}
+use Rattle.std.proofs.lemmas.List.Elements.{All-contains}
 use Rattle.msp_class.specs.declared.environments.EnvKind.TheVariants.{Uniform, Unrelated}
 use Rattle.msp_class.specs.Env.{kind_of}
 use Rattle.msp_class.proofs.IntegerRing.{natural, pos-le, pos-same, ≤ℤ_trans, *ℤ_comm, *ℤ-mono_nonneg}
@@ -14,26 +13,24 @@ use Rattle.msp_class.specs.Sums.{total_below}
 use Rattle.msp_class.proofs.Sums.{sum_by-map, sum_by-OnceBelow, total_below-same, total_below-scale, OnceBelow, OnceBelow-from_permutation, OnceBelow-distinct, length-OnceBelow}
 use Rattle.msp_instance.specs.declared.Instance.{Instance}
 use Rattle.msp_instance.specs.Instance.{no_job, need_at}
-use Rattle.msp_schedule.specs.declared.Piece.{Piece}
 use Rattle.msp_schedule.specs.declared.Schedule.{Schedule}
 use Rattle.msp_schedule.specs.Piece.{length_of, start, finish, IsTimed}
 use Rattle.msp_schedule.specs.Feasible.{Feasible, HasOperation, MayRun, FollowsRoute, IsWholeWork}
 use Rattle.msp_schedule.specs.Cost.{cost_of, Best}
-use Rattle.msp_schedule.specs.Within.{Within}
 use Rattle.msp_schedule.specs.Intervals.{IsApart}
 use Rattle.msp_schedule.proofs.Positions.{position_of, position_of-some, position_of-few, position_of-once, sum_of_ends}
 use Rattle.msp_schedule.proofs.SolePieces.{only_piece, IsOnly, is_only, only_timed, only_placed, only_apart, sum_of_only_ends}
-use Rattle.msp_route.specs.Bounds.{IsAnswer, answer_unit}
+use Rattle.msp_route.specs.Bounds.{answer_unit}
 use Rattle.msp_schedule.proofs.Places.{sum_by-places}
 use Rattle.msp_route.specs.declared.keyed.Keyed.{Keyed}
 use Rattle.msp_total.specs.declared.lay.Place.{Place}
 use Rattle.msp_total.specs.Multiple.{IsCommon}
-use Rattle.msp_total.specs.Places.{no_place, ArePlaces, laid}
+use Rattle.msp_total.specs.Places.{no_place}
 use Rattle.msp_total.specs.Turns.{no_timed, timed_at, IsByTime, multiplier, number_at, machine_at, AreTurns}
 use Rattle.msp_total.specs.Multipliers.{seats}
 use Rattle.msp_total.proofs.Greedy.{taken, least_in_all}
 use Rattle.msp_total.proofs.LaidJobs.{piece_before, piece_long, length_at}
-use Rattle.msp_total.proofs.LaidSchedule.{IsPlain, AreFitting, schedule_of, laid_is_feasible, laid_costs, laid_is_within, laid_is_answer}
+use Rattle.msp_total.proofs.LaidSchedule.{IsPlain, AreFitting, schedule_of, laid_is_feasible, laid_costs}
 use Rattle.msp_total.proofs.UniformFacts.{IsUniformInstance, times}
 
 pub IsPlain-from_uniform : (i : Instance) → IsUniformInstance i → IsPlain i

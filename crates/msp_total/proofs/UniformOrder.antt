@@ -1,12 +1,12 @@
 -- The jobs that took their turns take multipliers in the order of their times, ties by number.
-use Rattle.std.proofs.Common.{◌≡◌, ◌≢◌, ℕ, suc, ◌+◌, ◌*◌, ◌-◌, ◌<◌, ◌≤◌, ◌^◌, Bool, true, false, cond, eqb, leb, ◌⊎◌, inl, inr, List, [], ◌∷◌, length, get_or, map, pos, ◌≤ℤ◌, All, AllPairs, refl, sym, ap, subst, subst₂, ◌∙◌, arith}
+use Rattle.std.proofs.Common.{◌≡◌, ◌≢◌, ℕ, ◌+◌, ◌*◌, ◌<◌, ◌≤◌, ◌^◌, Bool, true, false, cond, eqb, leb, ◌⊎◌, inl, inr, List, [], ◌∷◌, length, get_or, map, pos, ◌≤ℤ◌, All, AllPairs, refl, sym, ap, subst, subst₂, ◌∙◌, arith}
 use Rattle.std.proofs.lemmas.Bool.{leb-true, leb-false}
 use Rattle.std.proofs.lemmas.List.{length-map, get_or-map}
 use Rattle.std.proofs.lemmas.List.Elements.{All-nil, All-cons}
 use Rattle.std.proofs.lemmas.List.Kept.{AllPairs-cons}
 use Rattle.std.proofs.Math.Nat.{mul-le-mul_right, one-le-mul}
 use Rattle.msp_class.proofs.IntegerRing.{pos-le, ≤ℤ_trans}
-use Rattle.msp_class.proofs.Sums.{total_below-same, OnceBelow, OnceBelow-distinct}
+use Rattle.msp_class.proofs.Sums.{total_below-same, OnceBelow-distinct}
 use Rattle.msp_instance.specs.declared.Instance.{Instance}
 use Rattle.msp_instance.specs.Instance.{need_at}
 use Rattle.msp_schedule.specs.declared.Piece.{Piece}
@@ -20,7 +20,7 @@ use Rattle.msp_total.specs.Turns.{no_timed, timed_at, number_at, machine_at, IsB
 use Rattle.msp_total.proofs.LaidJobs.{time_on-cons, time_on-own, piece_before, laid-length, laid-jobs}
 use Rattle.msp_total.proofs.LaidSchedule.{schedule_of}
 use Rattle.msp_total.proofs.UniformFacts.{IsUniformInstance, speeds_some}
-use Rattle.msp_total.proofs.UniformBest.{steps_by, steps-length, step-speed, jobs-count, once, same-jobs, machine-inside}
+use Rattle.msp_total.proofs.UniformBest.{steps_by, steps-length, step-speed, once, same-jobs}
 
 -- ---- the pieces of laid jobs
 laid-machines : (ps : List Place) → map (λ q. q.machine) (laid ps) ≡ map (λ p. p.machine) ps

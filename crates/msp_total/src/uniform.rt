@@ -42,9 +42,7 @@ fn timed_jobs(alloc: Global, inst: &Instance) -> Result<Vec<Keyed>, NoMemory>
             job: k as u32,
             key: time,
         };
-        if all.push(timed).is_err() {
-            return Err(NoMemory);
-        }
+        all.push(timed)?;
     }
     Ok(all)
 }
