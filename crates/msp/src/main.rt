@@ -3,7 +3,7 @@
 #![tactic(auto)]
 
 use msp_io::{StdSink, StdSource, write_all};
-use msp_top::run;
+use msp_top::{NO_MEMORY, USAGE, run};
 use std::env;
 use std::io::{self, ErrorKind};
 use std::process::ExitCode;
@@ -20,11 +20,11 @@ fn main(rt: HostRuntime) -> ExitCode {
         Ok(words) => ExitCode::from(run(rt.alloc(), &words, &mut source, &mut out, &mut notes)),
         Err(error) if error.kind() == ErrorKind::OutOfMemory => {
             let _ = write_all(&mut notes, b"msp: out of memory\n");
-            ExitCode::from(9)
+            ExitCode::from(NO_MEMORY)
         }
         Err(_) => {
             let _ = write_all(&mut notes, b"msp: usage: words fit no command\n");
-            ExitCode::from(2)
+            ExitCode::from(USAGE)
         }
     }
 }

@@ -1,5 +1,5 @@
 -- Known bytes that are taken and appended by several calls.
-use Rattle.std.proofs.Common.{◌≡◌, ℕ, ◌+◌, ◌≤◌, ◌<◌, List, [], ◌++◌, length, take, drop, refl, sym, ◌∙◌, ap, ◌-◌, arith, append_assoc, Option, Some, None, IfSome}
+use Rattle.std.proofs.Common.{◌≡◌, ℕ, ◌+◌, ◌≤◌, ◌<◌, List, [], ◌∷◌, ◌++◌, length, take, drop, refl, sym, subst, ◌∙◌, ap, ◌-◌, arith, append_assoc, Option, Some, None, IfSome}
 use Rattle.std.proofs.lemmas.List.{append-nil, length-append, take_rest}
 use Rattle.std.proofs.Math.Seq.{take-add}
 use Rattle.std.specs.Io.KnownBytes.{Appends, Consumes, Keeps, IsAtEnd}
@@ -8,6 +8,11 @@ use Rattle.std.specs.Io.KnownBytes.{Appends, Consumes, Keeps, IsAtEnd}
 pub Appends-nil : (known : Option (List ℕ)) → Appends known known []
 Appends-nil None = tt
 Appends-nil (Some xs) = sym (append-nil xs)
+
+-- none of the first bytes
+pub take_none : (n : ℕ) (bytes : List ℕ) → n ≡ 0 → take n bytes ≡ []
+take_none n [] none = let P : ℕ → Type 0 = λ k. take {A = ℕ} k [] ≡ [] in subst P (sym none) refl
+take_none n (b ∷ bytes) none = let P : ℕ → Type 0 = λ k. take {A = ℕ} k (b ∷ bytes) ≡ [] in subst P (sym none) refl
 
 -- nothing was taken
 pub Consumes-nil : (known : Option (List ℕ)) → Consumes known known []

@@ -1,4 +1,5 @@
 pub mod Faults
+pub mod Limits
 pub mod Memory
 pub mod Sources
 pub mod StdAdapters

@@ -9,6 +9,7 @@
 //! those that were given, and a fault comes only where a count rose.
 #![tactic(auto)]
 
+mod laws;
 mod memory_sink;
 mod memory_source;
 mod sink;
@@ -16,6 +17,7 @@ mod source;
 mod std_io;
 mod whole;
 
+pub use laws::law_of_limits;
 pub use memory_sink::{MemorySink, NoMemory, SureSink};
 pub use memory_source::{MemorySource, SureSource};
 pub use sink::Sink;

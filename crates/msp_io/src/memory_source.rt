@@ -1,4 +1,5 @@
 // Sources over bytes in memory.
+ghost use Rattle.std.proofs.KnownBytes.{Consumes-nil, Consumes-trans};
 ghost use Rattle.std.specs.Prelude.{◌≡◌, ◌↔◌, ◌<◌, ◌≤◌, ◌++◌, [], Some, Ok, length, take, drop, min, vec_len, IsErr, IfOk, OnErr};
 ghost use Rattle.msp_io.specs.Faults.{one_more, in_64_bits, in_64_bits-fits};
 ghost use Rattle.msp_io.specs.Memory.{SourceState, SureState, FailsNext};
@@ -46,7 +47,19 @@ impl SureSource {
 impl Source for SureSource {
     ghost seen = { λ s. record { left = Some s.bytes; faults = 0 } };
 
+    ghost gave = { λ s t bytes. s.bytes ≡ bytes ++ t.bytes };
+
+    ghost ended = { λ s. s.bytes ≡ [] };
+
     ghost fits = { λ _. in_64_bits-fits 0 };
+
+    ghost none = { λ a. Consumes-nil (Some a.bytes) };
+
+    ghost joined = { λ a b c xs ys first more. Consumes-trans (Some a.bytes) (Some b.bytes) (Some c.bytes) xs ys first more };
+
+    ghost told = { λ a b xs given. given };
+
+    ghost told_end = { λ s end. end };
 
     fn read(&mut self, into: &mut [u8]) -> Result<usize, Failed>
         ensures exact { result ≡ Ok (min (min self.old.step (length into.old)) (length self.old.bytes)) }
@@ -103,7 +116,19 @@ impl MemorySource {
 impl Source for MemorySource {
     ghost seen = { λ s. record { left = Some s.bytes; faults = in_64_bits s.faults } };
 
+    ghost gave = { λ s t bytes. s.bytes ≡ bytes ++ t.bytes };
+
+    ghost ended = { λ s. s.bytes ≡ [] };
+
     ghost fits = { λ s. in_64_bits-fits s.faults };
+
+    ghost none = { λ a. Consumes-nil (Some a.bytes) };
+
+    ghost joined = { λ a b c xs ys first more. Consumes-trans (Some a.bytes) (Some b.bytes) (Some c.bytes) xs ys first more };
+
+    ghost told = { λ a b xs given. given };
+
+    ghost told_end = { λ s end. end };
 
     fn read(&mut self, into: &mut [u8]) -> Result<usize, Failed>
         // Exactly the calls in `fails` fail, and change nothing but the numbers.

@@ -1,6 +1,5 @@
 // Whole reads and whole writes.
 ghost use Rattle.std.specs.Prelude.{◌<◌, ◌≤◌, ℕ, List, length, IfOk, IfErr, OnOk, IsErrOf};
-ghost use Rattle.std.specs.Io.KnownBytes.{Consumes, IsAtEnd};
 ghost use Rattle.msp_io.specs.Faults.{Rose};
 ghost use Rattle.msp_io.specs.Whole.{IsStop, Puts};
 ghost use Rattle.msp_io.specs.declared.whole.TheConstants.{GREATEST_LIMIT};
@@ -38,14 +37,13 @@ pub struct WriteFault;
 pub fn read_all<S: Source>(alloc: Global, source: &mut S, limit: u64) -> Result<Vec<u8>, Taken>
     requires { limit ≤ GREATEST_LIMIT }
 
-    // All that was left, to the end.
-    ensures all { IfOk result (λ all. Consumes (S.seen source.old).left (S.seen source.new).left all.items) }
-    ensures end { OnOk result (IsAtEnd (S.seen source.new).left) }
+    // All that the source gave in this call, to its end.
+    ensures all { IfOk result (λ all. S.gave source.old source.new all.items) }
+    ensures end { OnOk result (S.ended source.new) }
     ensures within { IfOk result (λ all. length all.items ≤ limit) }
 
-    // What was taken is the front of what was left.
-    ensures stopped { IfErr result (λ why. (taken : List ℕ)
-        × Consumes (S.seen source.old).left (S.seen source.new).left taken × IsStop why limit (length taken)) }
+    // What was taken before it stopped.
+    ensures stopped { IfErr result (λ why. (taken : List ℕ) × S.gave source.old source.new taken × IsStop why limit (length taken)) }
     ensures fault { IsErrOf result Taken.ReadFault → Rose (S.seen source.old).faults (S.seen source.new).faults }
     ensures faults { (S.seen source.old).faults ≤ (S.seen source.new).faults }
 {
@@ -62,11 +60,10 @@ fn read_by<S: Source>(
 ) -> Result<Vec<u8>, Taken>
     requires limit { limit ≤ GREATEST_LIMIT }
     requires room { 0 < length chunk.old }
-    ensures all { IfOk result (λ all. Consumes (S.seen source.old).left (S.seen source.new).left all.items) }
-    ensures end { OnOk result (IsAtEnd (S.seen source.new).left) }
+    ensures all { IfOk result (λ all. S.gave source.old source.new all.items) }
+    ensures end { OnOk result (S.ended source.new) }
     ensures within { IfOk result (λ all. length all.items ≤ limit) }
-    ensures stopped { IfErr result (λ why. (taken : List ℕ)
-        × Consumes (S.seen source.old).left (S.seen source.new).left taken × IsStop why limit (length taken)) }
+    ensures stopped { IfErr result (λ why. (taken : List ℕ) × S.gave source.old source.new taken × IsStop why limit (length taken)) }
     ensures fault { IsErrOf result Taken.ReadFault → Rose (S.seen source.old).faults (S.seen source.new).faults }
     ensures faults { (S.seen source.old).faults ≤ (S.seen source.new).faults }
 {

@@ -9,7 +9,7 @@ use Rattle.msp_top.specs.declared.command.Command.{Command}
 use Rattle.msp_top.specs.declared.command.Trial.{Trial}
 use Rattle.msp_top.specs.Commands.{Asks, AsksForTrial, Misfits}
 use Rattle.msp_top.specs.Usage.{usage_text}
-use Rattle.msp_top.specs.Run.{Reports, BreaksOff, Refuses}
+use Rattle.msp_top.specs.Run.{limit_of, Reports, BreaksOff, Refuses, TakesAtMost}
 use Rattle.msp_top.specs.Note.{note_text}
 use Rattle.msp_top.specs.Answers.{IsNoMemory}
 
@@ -20,16 +20,20 @@ abbrev pub status_of : Result ℕ Refusal → ℕ
 status_of (Ok status) = status
 status_of (Err why) = why.status
 
--- what the words ask for takes memory
-pub data TakesMemory (words : List (List ℕ)) : Type 0 where
-  to_answer : (command : Command) → Asks words command → TakesMemory words
-  to_try : (trial : Trial) → AsksForTrial words trial → TakesMemory words
+-- no bytes are given, as where nothing is read
+abbrev pub nothing_given : List ℕ → Type 0
+nothing_given bytes = ⊥
+
+-- what the words ask for takes memory, and no more of the input was taken than it may have
+pub data TakesMemory (words : List (List ℕ)) (gave : List ℕ → Type 0) : Type 0 where
+  to_answer : (command : Command) → Asks words command → TakesAtMost gave (limit_of command) → TakesMemory words gave
+  to_try : (trial : Trial) → AsksForTrial words trial → TakesMemory words gave
 
 -- the ways in which serving ends
-pub data Serves (words : List (List ℕ)) (source source_after : SourceView) (out out_after : SinkView) : Result ℕ Refusal → Type 0 where
-  misfit : (note : Note) → Misfits words → note_text note ≡ usage_text words → Serves words source source_after out out_after (Err (refused 2 note))
-  cannot_read : (command : Command) → Asks words command → Rose source.faults source_after.faults → Serves words source source_after out out_after (Err (refused 7 CannotRead))
-  no_memory : (why : Refusal) → TakesMemory words → IsNoMemory why → Serves words source source_after out out_after (Err why)
-  refuses : (status : ℕ) (note : Note) → 3 ≤ status → status ≤ 6 → Refuses words source status (note_text note) → Serves words source source_after out out_after (Err (refused status note))
-  cannot_write : BreaksOff words source source_after out out_after → Serves words source source_after out out_after (Err (refused 8 CannotWrite))
-  writes : (status : ℕ) → status ≤ 1 → Reports words source source_after out out_after status → Serves words source source_after out out_after (Ok status)
+pub data Serves (words : List (List ℕ)) (gave : List ℕ → Type 0) (ended : Type 0) (source source_after : SourceView) (out out_after : SinkView) : Result ℕ Refusal → Type 0 where
+  misfit : (note : Note) → Misfits words → note_text note ≡ usage_text words → Serves words gave ended source source_after out out_after (Err (refused 2 note))
+  cannot_read : (command : Command) → Asks words command → TakesAtMost gave (limit_of command) → Rose source.faults source_after.faults → Serves words gave ended source source_after out out_after (Err (refused 7 CannotRead))
+  no_memory : (why : Refusal) → TakesMemory words gave → IsNoMemory why → Serves words gave ended source source_after out out_after (Err why)
+  refuses : (status : ℕ) (note : Note) → 3 ≤ status → status ≤ 6 → Refuses words gave ended status (note_text note) → Serves words gave ended source source_after out out_after (Err (refused status note))
+  cannot_write : BreaksOff words gave ended out out_after → Serves words gave ended source source_after out out_after (Err (refused 8 CannotWrite))
+  writes : (status : ℕ) → status ≤ 1 → Reports words gave ended out out_after status → Serves words gave ended source source_after out out_after (Ok status)

@@ -1,8 +1,9 @@
--- What a call of `run` leaves. What a source has left and what a sink holds are spoken of as far as they tell it.
-use Rattle.std.specs.Prelude.{ℕ, ◌<◌, ◌≤◌, ◌⊎◌, List, [], ◌∷◌, ◌++◌, IfSome, length, take, codes, decimal}
-use Rattle.std.specs.Io.KnownBytes.{Appends, IsAtEnd}
+-- What a call of `run` leaves. What a sink holds is spoken of as far as it tells it. `gave` says of bytes that the source gave them in this
+-- call, and no others, and `ended` that it was at its end then; where the source tells its bytes, these were all that was left.
+use Rattle.std.specs.Prelude.{◌≡◌, ℕ, ◌+◌, ◌<◌, ◌≤◌, ◌⊎◌, List, [], ◌∷◌, ◌++◌, length, take, codes, decimal}
+use Rattle.std.specs.Io.KnownBytes.{Appends}
 use Rattle.msp_io.specs.Faults.{Rose}
-use Rattle.msp_io.specs.Views.{SourceView, SinkView}
+use Rattle.msp_io.specs.Views.{SinkView}
 use Rattle.msp_report.specs.RowsText.{rows_report}
 use Rattle.msp_top.specs.declared.answers.TheConstants.{INPUT_LIMIT, CHECK_LIMIT}
 use Rattle.msp_top.specs.declared.command.Command.{Command}
@@ -38,36 +39,42 @@ pub data IsRight (command : Command) (input : List ℕ) : Outcome → Type 0 whe
 
 -- The report is right for the words: of the whole input, by a command that reads it to its end, or that of a trial or the table of rows,
 -- for which nothing is read.
-pub data IsRightReport (words : List (List ℕ)) (source source_after : SourceView) : ℕ → List ℕ → Type 0 where
-  of_input : (command : Command) (status : ℕ) (text : List ℕ) → Asks words command → IsAtEnd source_after.left → IfSome source.left (λ input. IsRight command input (report status text)) → IsRightReport words source source_after status text
-  of_trial : (trial : Trial) (status : ℕ) (text : List ℕ) → AsksForTrial words trial → TrialIsRight trial (report status text) → IsRightReport words source source_after status text
-  of_rows : AsksForRows words → IsRightReport words source source_after 0 rows_report
+pub data IsRightReport (words : List (List ℕ)) (gave : List ℕ → Type 0) (ended : Type 0) : ℕ → List ℕ → Type 0 where
+  of_input : (command : Command) (input : List ℕ) (status : ℕ) (text : List ℕ) → Asks words command → gave input → ended → IsRight command input (report status text) → IsRightReport words gave ended status text
+  of_trial : (trial : Trial) (status : ℕ) (text : List ℕ) → AsksForTrial words trial → TrialIsRight trial (report status text) → IsRightReport words gave ended status text
+  of_rows : AsksForRows words → IsRightReport words gave ended 0 rows_report
 
 -- A right report was appended whole.
-abbrev pub Reports : List (List ℕ) → SourceView → SourceView → SinkView → SinkView → ℕ → Type 0
-Reports words source source_after out out_after status = (text : List ℕ) × IsRightReport words source source_after status text × Appends out.held out_after.held text
+abbrev pub Reports : List (List ℕ) → (List ℕ → Type 0) → Type 0 → SinkView → SinkView → ℕ → Type 0
+Reports words gave ended out out_after status = (text : List ℕ) × IsRightReport words gave ended status text × Appends out.held out_after.held text
 
 -- Only the front of a right report was appended, and the sink failed.
-pub record BreaksOff (words : List (List ℕ)) (source source_after : SourceView) (out out_after : SinkView) : Type 0 where
+pub record BreaksOff (words : List (List ℕ)) (gave : List ℕ → Type 0) (ended : Type 0) (out out_after : SinkView) : Type 0 where
   pub status : ℕ
   pub text : List ℕ
   pub count : ℕ
-  pub right : IsRightReport words source source_after status text
+  pub right : IsRightReport words gave ended status text
   pub part : Appends out.held out_after.held (take count text)
   pub failed : Rose out.faults out_after.faults
 
--- The status and the note are the right refusal of the input, by a command that the words ask for, or that of a trial.
-pub data Refuses (words : List (List ℕ)) (source : SourceView) (status : ℕ) (note : List ℕ) : Type 0 where
-  input_refused : (command : Command) → Asks words command → IfSome source.left (λ input. IsRight command input (refusal status note)) → Refuses words source status note
-  trial_refused : (trial : Trial) → AsksForTrial words trial → TrialIsRight trial (refusal status note) → Refuses words source status note
+-- The status and the note are the right refusal of the whole input, by a command that the words ask for, or that of a trial. An input is too
+-- long exactly where one byte more than the limit was taken, and then no more is.
+pub data Refuses (words : List (List ℕ)) (gave : List ℕ → Type 0) (ended : Type 0) : ℕ → List ℕ → Type 0 where
+  input_refused : (command : Command) (input : List ℕ) (status : ℕ) (note : List ℕ) → Asks words command → gave input → ended → length input ≤ limit_of command → IsRightWithin command input (refusal status note) → Refuses words gave ended status note
+  past_the_limit : (command : Command) (taken : List ℕ) → Asks words command → gave taken → length taken ≡ limit_of command + 1 → Refuses words gave ended 4 (too_long_text (limit_of command))
+  trial_refused : (trial : Trial) (status : ℕ) (note : List ℕ) → AsksForTrial words trial → TrialIsRight trial (refusal status note) → Refuses words gave ended status note
+
+-- At most so many bytes were taken.
+abbrev pub TakesAtMost : (List ℕ → Type 0) → ℕ → Type 0
+TakesAtMost gave limit = (taken : List ℕ) × gave taken × (length taken ≤ limit)
 
 -- The text of the note for each status from 2 on.
-pub data IsNote (words : List (List ℕ)) (source : SourceView) : ℕ → List ℕ → Type 0 where
-  misfit : IsNote words source 2 (usage_text words)
-  refused : (status : ℕ) (note : List ℕ) → Refuses words source status note → IsNote words source status note
-  read_fault : IsNote words source 7 (codes "cannot read")
-  write_fault : IsNote words source 8 (codes "cannot write")
-  memory : IsNote words source 9 (codes "out of memory")
+pub data IsNote (words : List (List ℕ)) (gave : List ℕ → Type 0) (ended : Type 0) : ℕ → List ℕ → Type 0 where
+  misfit : IsNote words gave ended 2 (usage_text words)
+  refused : (status : ℕ) (note : List ℕ) → 3 ≤ status → status ≤ 6 → Refuses words gave ended status note → IsNote words gave ended status note
+  read_fault : IsNote words gave ended 7 (codes "cannot read")
+  write_fault : IsNote words gave ended 8 (codes "cannot write")
+  memory : IsNote words gave ended 9 (codes "out of memory")
 
 -- A note is one line.
 abbrev pub note_line : List ℕ → List ℕ

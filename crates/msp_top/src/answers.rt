@@ -10,6 +10,7 @@ use crate::checks::check_answer;
 use crate::command::Command;
 use crate::questions::answer_question;
 use crate::refusal::Refusal;
+use crate::statuses::WRITTEN;
 use msp_class::Class;
 use msp_dispatch::solve_any;
 use msp_file::read_instance;
@@ -68,5 +69,8 @@ fn answer_filed(alloc: Global, at: Option<Class>, filed: &Filed) -> Result<Repor
 {
     let answer = solve_any(alloc, &filed.instance, at)?;
     let text = solve_text(alloc, &filed.names, &answer)?;
-    Ok(Report { status: 0, text })
+    Ok(Report {
+        status: WRITTEN,
+        text,
+    })
 }

@@ -10,6 +10,7 @@ ghost use Rattle.msp_top.specs.Answers.{Answers, ChecksRest};
 
 use crate::answers::{CHECK_LIMIT, Report};
 use crate::refusal::{Refusal, unchecked};
+use crate::statuses::{NO, WRITTEN};
 use msp_class::{Class, EnvKind, NoMemory, env_kind};
 use msp_file::{Filed, Stated, read_front, read_schedule};
 use msp_report::{check_text, states_its_cost};
@@ -59,8 +60,14 @@ fn status_of(filed: &Filed, stated: &Stated, broken: Option<Break>) -> u8
     ensures { HasCheckStatus filed.now.instance stated.now result }
 {
     match broken {
-        Some(_) => 1,
-        None => { if states_its_cost(filed, stated) { 0 } else { 1 } }
+        Some(_) => NO,
+        None => {
+            if states_its_cost(filed, stated) {
+                WRITTEN
+            } else {
+                NO
+            }
+        }
     }
 }
 

@@ -10,6 +10,7 @@ mod checks;
 mod command;
 #[cfg(test)]
 mod hostile_tests;
+mod laws;
 mod notes;
 mod questions;
 mod refusal;
@@ -18,6 +19,7 @@ mod row_tests;
 mod serve;
 #[cfg(test)]
 mod solver_tests;
+mod statuses;
 #[cfg(test)]
 mod tests;
 #[cfg(test)]
@@ -26,4 +28,8 @@ mod trial_words;
 mod trials;
 mod words;
 
+pub use laws::law_of_limits;
 pub use serve::run;
+pub use statuses::{
+    BAD_INPUT, LIMIT, NO, NO_MEMORY, NO_ROUTE, NO_SOLVER, READ_FAULT, USAGE, WRITE_FAULT, WRITTEN,
+};

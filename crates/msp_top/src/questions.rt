@@ -9,6 +9,7 @@ ghost use Rattle.msp_top.specs.Answers.{Answers};
 use crate::answers::{INPUT_LIMIT, Report};
 use crate::command::Question;
 use crate::refusal::Refusal;
+use crate::statuses::{NO, WRITTEN};
 use msp_class::{CLASSES, Class, List, NoMemory, unrank};
 use msp_closure::{
     Entry, clash, close, frontier, strong_clash, why_easy, why_hard, why_pseudo, why_strong,
@@ -53,9 +54,9 @@ fn status_of(clashes: &Clashes) -> u8
     ensures { (entries : Items EntryValue) → AreClashes entries clashes.now.clash clashes.now.strong_clash → HasClashStatus entries result }
 {
     if clashes.clash.is_some() || clashes.strong_clash.is_some() {
-        1
+        NO
     } else {
-        0
+        WRITTEN
     }
 }
 

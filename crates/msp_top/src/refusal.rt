@@ -6,6 +6,9 @@ ghost use Rattle.msp_top.specs.Cannots.{cannot_status};
 ghost use Rattle.msp_top.specs.Results.{results_status};
 
 use crate::notes::Note;
+use crate::statuses::{
+    BAD_INPUT, LIMIT, NO_MEMORY, NO_ROUTE, NO_SOLVER, READ_FAULT, USAGE, WRITE_FAULT,
+};
 use crate::words::Misfit;
 use msp_class::{Class, NoMemory};
 use msp_dispatch::Cannot;
@@ -27,7 +30,7 @@ impl From<Misfit> for Refusal {
 
     fn from(misfit: Misfit) -> Refusal {
         Refusal {
-            status: 2,
+            status: USAGE,
             note: Note::Usage(misfit),
         }
     }
@@ -40,7 +43,7 @@ impl From<NoMemory> for Refusal {
 
     fn from(_: NoMemory) -> Refusal {
         Refusal {
-            status: 9,
+            status: NO_MEMORY,
             note: Note::OutOfMemory,
         }
     }
@@ -53,7 +56,7 @@ impl From<WriteFault> for Refusal {
 
     fn from(_: WriteFault) -> Refusal {
         Refusal {
-            status: 8,
+            status: WRITE_FAULT,
             note: Note::CannotWrite,
         }
     }
@@ -104,11 +107,11 @@ pub fn not_taken(why: Taken, limit: u64) -> Refusal
 {
     match why {
         Taken::ReadFault => Refusal {
-            status: 7,
+            status: READ_FAULT,
             note: Note::CannotRead,
         },
         Taken::TooLong => Refusal {
-            status: 4,
+            status: LIMIT,
             note: Note::TooLong { limit },
         },
         Taken::Memory => Refusal::from(NoMemory),
@@ -120,7 +123,7 @@ pub fn unchecked(class: Class) -> Refusal
     ensures { result ≡ of_unchecked class }
 {
     Refusal {
-        status: 5,
+        status: NO_SOLVER,
         note: Note::Unchecked { class },
     }
 }
@@ -130,8 +133,8 @@ fn file_status(fault: &FileFault) -> u8
     ensures { result ≡ file_status fault.now }
 {
     match fault {
-        FileFault::Limit { .. } => 4,
-        FileFault::Memory => 9,
+        FileFault::Limit { .. } => LIMIT,
+        FileFault::Memory => NO_MEMORY,
         FileFault::Head { .. }
         | FileFault::Missing { .. }
         | FileFault::Cut { .. }
@@ -145,7 +148,7 @@ fn file_status(fault: &FileFault) -> u8
         | FileFault::Unknown { .. }
         | FileFault::After { .. }
         | FileFault::Class { .. }
-        | FileFault::Cycle { .. } => 3,
+        | FileFault::Cycle { .. } => BAD_INPUT,
     }
 }
 
@@ -154,9 +157,9 @@ fn cannot_status(cannot: Cannot) -> u8
     ensures { result ≡ cannot_status cannot }
 {
     match cannot {
-        Cannot::NoSolver { .. } => 5,
-        Cannot::NotSolved { .. } | Cannot::NoRoute { .. } => 6,
-        Cannot::Memory => 9,
+        Cannot::NoSolver { .. } => NO_SOLVER,
+        Cannot::NotSolved { .. } | Cannot::NoRoute { .. } => NO_ROUTE,
+        Cannot::Memory => NO_MEMORY,
     }
 }
 
@@ -165,12 +168,12 @@ fn results_status(fault: ResultFault) -> u8
     ensures { result ≡ results_status fault }
 {
     match fault {
-        ResultFault::Long { .. } | ResultFault::Many => 4,
-        ResultFault::Memory => 9,
+        ResultFault::Long { .. } | ResultFault::Many => LIMIT,
+        ResultFault::Memory => NO_MEMORY,
         ResultFault::Header
         | ResultFault::Width { .. }
         | ResultFault::Name { .. }
         | ResultFault::Verdict { .. }
-        | ResultFault::Source { .. } => 3,
+        | ResultFault::Source { .. } => BAD_INPUT,
     }
 }

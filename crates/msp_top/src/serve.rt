@@ -5,14 +5,15 @@ ghost use Rattle.msp_io.specs.Views.{SourceView};
 ghost use Rattle.msp_top.specs.declared.command.Command.{Command as CommandValue};
 ghost use Rattle.msp_top.specs.declared.command.Trial.{Trial as TrialValue};
 ghost use Rattle.msp_top.specs.Commands.{Asks, AsksForRows, AsksForTrial, Misfits};
-ghost use Rattle.msp_top.specs.Run.{IsTold, IsNote, IsDue, IsTrialDue, Reports, BreaksOff, Refuses};
+ghost use Rattle.msp_top.specs.Run.{limit_of, IsTold, IsNote, IsDue, IsTrialDue, Reports, BreaksOff, Refuses, TakesAtMost};
 ghost use Rattle.msp_top.specs.Answers.{IsInRange};
-ghost use Rattle.msp_top.specs.Ending.{Serves};
+ghost use Rattle.msp_top.specs.Ending.{nothing_given, Serves};
 
 use crate::answers::{answer_to, limit_of};
 use crate::command::{Command, Request, Trial};
 use crate::notes::tell;
 use crate::refusal::{Refusal, not_taken};
+use crate::statuses::WRITTEN;
 use crate::trials::trial_answer;
 use crate::words::read_words;
 use msp_io::{Sink, Source, read_all, write_all};
@@ -26,7 +27,7 @@ fn serve<S: Source, K: Sink>(
     source: &mut S,
     out: &mut K,
 ) -> Result<u8, Refusal>
-    ensures served { Serves (map string_bytes words.now.items) (S.seen source.old) (S.seen source.new) (K.seen out.old) (K.seen out.new) result }
+    ensures served { Serves (map string_bytes words.now.items) (S.gave source.old source.new) (S.ended source.new) (S.seen source.old) (S.seen source.new) (K.seen out.old) (K.seen out.new) result }
     ensures unread { IfErr result (λ why. why.status ≡ 2 → source.new ≡ source.old) }
     ensures unwritten { IfErr result (λ why. why.status ≢ 8 → out.new ≡ out.old) }
     ensures rows { AsksForRows (map string_bytes words.now.items) → source.new ≡ source.old }
@@ -35,7 +36,7 @@ fn serve<S: Source, K: Sink>(
     match read_words(alloc, words)? {
         Request::Rows => {
             write_all(out, rows_text())?;
-            Ok(0)
+            Ok(WRITTEN)
         }
         Request::Trial(trial) => try_out(alloc, &trial, out),
         Request::Command(command) => perform(alloc, &command, source, out),
@@ -45,7 +46,7 @@ fn serve<S: Source, K: Sink>(
 /// Solves the instance of a trial, and writes the report.
 fn try_out<K: Sink>(alloc: Global, trial: &Trial, out: &mut K) -> Result<u8, Refusal>
     requires { IsInRange trial.now }
-    ensures served { (words : List (List ℕ)) (source : SourceView) → AsksForTrial words trial.now → Serves words source source (K.seen out.old) (K.seen out.new) result }
+    ensures served { (words : List (List ℕ)) (source : SourceView) → AsksForTrial words trial.now → Serves words nothing_given ⊥ source source (K.seen out.old) (K.seen out.new) result }
     ensures unwritten { IfErr result (λ why. why.status ≢ 8 → out.new ≡ out.old) }
 {
     let made = trial_answer(alloc, trial)?;
@@ -60,7 +61,7 @@ fn perform<S: Source, K: Sink>(
     source: &mut S,
     out: &mut K,
 ) -> Result<u8, Refusal>
-    ensures served { (words : List (List ℕ)) → Asks words command.now → Serves words (S.seen source.old) (S.seen source.new) (K.seen out.old) (K.seen out.new) result }
+    ensures served { (words : List (List ℕ)) → Asks words command.now → Serves words (S.gave source.old source.new) (S.ended source.new) (S.seen source.old) (S.seen source.new) (K.seen out.old) (K.seen out.new) result }
     ensures not_usage { IfErr result (λ why. why.status ≢ 2) }
     ensures unwritten { IfErr result (λ why. why.status ≢ 8 → out.new ≡ out.old) }
 {
@@ -94,14 +95,18 @@ pub fn run<S: Source, K: Sink, E: Sink>(
     ensures usage { (result ≡ 2) ↔ Misfits (map string_bytes words.now.items) }
     ensures unread { result ≡ 2 → (source.new ≡ source.old) × (out.new ≡ out.old) }
 
-    // A status below 2 comes with a right report of the whole input, and without a note.
-    ensures right_report { result ≤ 1 → Reports (map string_bytes words.now.items) (S.seen source.old) (S.seen source.new) (K.seen out.old) (K.seen out.new) result }
+    // A status below 2 comes with a right report of the whole input that was given, and without a note.
+    ensures right_report { result ≤ 1 → Reports (map string_bytes words.now.items) (S.gave source.old source.new) (S.ended source.new) (K.seen out.old) (K.seen out.new) result }
     ensures silent { result ≤ 1 → notes.new ≡ notes.old }
 
     // A refusal of the input is the right one, and nothing is written.
-    ensures refusal { 3 ≤ result → result ≤ 6 → (note : List ℕ) × Refuses (map string_bytes words.now.items) (S.seen source.old) result note }
+    ensures refusal { 3 ≤ result → result ≤ 6 → (note : List ℕ) × Refuses (map string_bytes words.now.items) (S.gave source.old source.new) (S.ended source.new) result note }
     ensures read_fault { result ≡ 7 → Rose (S.seen source.old).faults (S.seen source.new).faults }
-    ensures write_fault { result ≡ 8 → BreaksOff (map string_bytes words.now.items) (S.seen source.old) (S.seen source.new) (K.seen out.old) (K.seen out.new) }
+    ensures write_fault { result ≡ 8 → BreaksOff (map string_bytes words.now.items) (S.gave source.old source.new) (S.ended source.new) (K.seen out.old) (K.seen out.new) }
+
+    // At 7 and 9 no more was taken than an input may have.
+    ensures few { (result ≡ 7) ⊎ (result ≡ 9) → (command : CommandValue) → Asks (map string_bytes words.now.items) command
+        → TakesAtMost (S.gave source.old source.new) (limit_of command) }
 
     // Statuses other than 0, 1 and 8 leave `out` as it was.
     ensures unwritten { 2 ≤ result → result ≢ 8 → out.new ≡ out.old }
@@ -113,13 +118,14 @@ pub fn run<S: Source, K: Sink, E: Sink>(
     ensures trial { (trial : TrialValue) → AsksForTrial (map string_bytes words.now.items) trial
         → (source.new ≡ source.old) × (result ≢ 7) × (¬ Rose (K.seen out.old).faults (K.seen out.new).faults → (result ≡ 9) ⊎ IsTrialDue trial result) }
 
-    // Words that fit and no new fault give the status that the whole input is due, or want of memory.
+    // Words that fit and no new fault give the status that the whole input is due, or want of memory. Where the source tells its bytes, that
+    // input is all that was left.
     ensures completeness { (command : CommandValue) → Asks (map string_bytes words.now.items) command
         → ¬ Rose (S.seen source.old).faults (S.seen source.new).faults → ¬ Rose (K.seen out.old).faults (K.seen out.new).faults
         → (result ≡ 9) ⊎ IfSome (S.seen source.old).left (λ input. IsDue command input result) }
 
     // Each status from 2 on has its note.
-    ensures note { 2 ≤ result → (note : List ℕ) × IsNote (map string_bytes words.now.items) (S.seen source.old) result note
+    ensures note { 2 ≤ result → (note : List ℕ) × IsNote (map string_bytes words.now.items) (S.gave source.old source.new) (S.ended source.new) result note
         × IsTold (E.seen notes.old) (E.seen notes.new) note }
 {
     match serve(alloc, words, source, out) {

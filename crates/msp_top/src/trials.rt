@@ -7,6 +7,7 @@ ghost use Rattle.msp_top.specs.Answers.{Answers, IsInRange};
 use crate::answers::Report;
 use crate::command::Trial;
 use crate::refusal::Refusal;
+use crate::statuses::WRITTEN;
 use msp_class::NoMemory;
 use msp_dispatch::solve_any;
 use msp_gen::{GenFault, generate};
@@ -35,5 +36,8 @@ pub fn trial_answer(alloc: Global, trial: &Trial) -> Result<Report, Refusal>
     let inst = instance(alloc, trial)?;
     let answer = solve_any(alloc, &inst, None)?;
     let text = trial_text(alloc, &inst, trial.seed, &answer)?;
-    Ok(Report { status: 0, text })
+    Ok(Report {
+        status: WRITTEN,
+        text,
+    })
 }

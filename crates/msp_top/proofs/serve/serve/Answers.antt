@@ -2,28 +2,28 @@
 use Rattle.std.proofs.Common.{map, string_bytes}
 use Rattle.msp_top.specs.Ending.{Serves}
 use Rattle.msp_top.proofs.Exits.{exits}
-use Rattle.msp_top.proofs.Endings.{serves_words, serves_rows, serves_rows_broken, asks_for_rows, asks_for_trial, asks_for, never_usage, trial_in_range}
+use Rattle.msp_top.proofs.Endings.{serves_words, serves_any, serves_rows, serves_rows_broken, asks_for_rows, asks_for_trial, asks_for, never_usage, trial_in_range}
 use Rattle.msp_top.proofs.OneCommand.{rows_are_no_command, trial_is_no_command}
 use Rattle.msp_top.proofs.serve.serve.Goals as goal
 
 pub returns-in_err-read_words-clause-served : goal.returns-in_err-read_words-clause-served
 returns-in_err-read_words-clause-served g c =
-    exits _ (Serves (map string_bytes c.args.words.now.items) (g.S.Source.seen c.args.source.now) (g.S.Source.seen c.args.source.now) (g.K.Sink.seen c.args.out.now) (g.K.Sink.seen c.args.out.now)) c.from_residual.result c.from_residual.ensures.1
-    (λ why e. serves_words _ _ _ c.in_err-read_words.field-0.0 why c.in_err-read_words.ensures e)
+    exits _ (Serves (map string_bytes c.args.words.now.items) (g.S.Source.gave c.args.source.now c.args.source.now) (g.S.Source.ended c.args.source.now) (g.S.Source.seen c.args.source.now) (g.S.Source.seen c.args.source.now) (g.K.Sink.seen c.args.out.now) (g.K.Sink.seen c.args.out.now)) c.from_residual.result c.from_residual.ensures.1
+    (λ why e. serves_words _ _ _ _ _ c.in_err-read_words.field-0.0 why (g.met.S.Source.none c.args.source.now) c.in_err-read_words.ensures e)
 
 pub returns-in_err-write_all-in-Rows-clause-served : goal.returns-in_err-write_all-in-Rows-clause-served
 returns-in_err-write_all-in-Rows-clause-served g c =
-    exits _ (Serves (map string_bytes c.args.words.now.items) (g.S.Source.seen c.args.source.now) (g.S.Source.seen c.args.source.now) (g.K.Sink.seen c.args.out.now) (g.K.Sink.seen c.write_all.new.sink)) c.from_residual-in_err-write_all-in-Rows.result c.from_residual-in_err-write_all-in-Rows.ensures.1
-    (λ why e. serves_rows_broken _ _ _ _ _ c.in_err-write_all-in-Rows.field-0.0 why (asks_for_rows _ c.in_ok-read_words.field-0 c.in_ok-read_words.ensures c.in-Rows.is) c.rows_text.ensures c.in_err-write_all-in-Rows.ensures e)
+    exits _ (Serves (map string_bytes c.args.words.now.items) (g.S.Source.gave c.args.source.now c.args.source.now) (g.S.Source.ended c.args.source.now) (g.S.Source.seen c.args.source.now) (g.S.Source.seen c.args.source.now) (g.K.Sink.seen c.args.out.now) (g.K.Sink.seen c.write_all.new.sink)) c.from_residual-in_err-write_all-in-Rows.result c.from_residual-in_err-write_all-in-Rows.ensures.1
+    (λ why e. serves_rows_broken _ _ _ _ _ _ _ c.in_err-write_all-in-Rows.field-0.0 why (asks_for_rows _ c.in_ok-read_words.field-0 c.in_ok-read_words.ensures c.in-Rows.is) c.rows_text.ensures c.in_err-write_all-in-Rows.ensures e)
 
 pub returns-in_ok-write_all-in-Rows-clause-served : goal.returns-in_ok-write_all-in-Rows-clause-served
-returns-in_ok-write_all-in-Rows-clause-served g c = serves_rows _ _ _ _ _ (asks_for_rows _ c.in_ok-read_words.field-0 c.in_ok-read_words.ensures c.in-Rows.is) c.rows_text.ensures c.in_ok-write_all-in-Rows.ensures.all
+returns-in_ok-write_all-in-Rows-clause-served g c = serves_rows _ _ _ _ _ _ _ (asks_for_rows _ c.in_ok-read_words.field-0 c.in_ok-read_words.ensures c.in-Rows.is) c.rows_text.ensures c.in_ok-write_all-in-Rows.ensures.all
 
 pub try_out-requires : goal.try_out-requires
 try_out-requires g c = trial_in_range _ c.in-Trial.trial (asks_for_trial _ c.in_ok-read_words.field-0 c.in-Trial.trial c.in_ok-read_words.ensures c.in-Trial.is)
 
 pub returns-in-Trial-clause-served : goal.returns-in-Trial-clause-served
-returns-in-Trial-clause-served g c = c.try_out.ensures.served _ _ (asks_for_trial _ c.in_ok-read_words.field-0 c.in-Trial.trial c.in_ok-read_words.ensures c.in-Trial.is)
+returns-in-Trial-clause-served g c = serves_any _ _ _ _ _ _ c.try_out.result (c.try_out.ensures.served _ _ (asks_for_trial _ c.in_ok-read_words.field-0 c.in-Trial.trial c.in_ok-read_words.ensures c.in-Trial.is))
 
 pub returns-in-Command-clause-served : goal.returns-in-Command-clause-served
 returns-in-Command-clause-served g c = c.perform.ensures.served _ (asks_for _ c.in_ok-read_words.field-0 c.in-Command.command c.in_ok-read_words.ensures c.in-Command.is)
