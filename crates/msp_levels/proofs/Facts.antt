@@ -1,12 +1,9 @@
 -- What an instance of the rule's class has.
-use Rattle.std.proofs.Common.{◌≡◌, ℕ, ◌+◌, ◌<◌, ◌≤◌, false, List, [], ◌++◌, length, All, sym, ap, subst, subst₂, ◌∙◌, arith}
-use Rattle.msp_class.specs.declared.class.Crit.TheVariants.{Cmax}
-use Rattle.msp_class.specs.declared.environments.EnvKind.TheVariants.{Identical}
-use Rattle.msp_class.specs.Env.{kind_of}
+use Rattle.std.proofs.Common.{◌≡◌, ℕ, ◌+◌, ◌<◌, List, [], ◌++◌, length, All, sym, ap, subst, subst₂, ◌∙◌, arith}
 use Rattle.msp_instance.specs.declared.Arc.{Arc}
 use Rattle.msp_instance.specs.declared.Instance.{Instance}
-use Rattle.msp_instance.specs.Instance.{no_need, no_job, job_at, need_at}
-use Rattle.msp_instance.specs.Conditions.{Inner, leaving}
+use Rattle.msp_instance.specs.Instance.{no_need, no_job, need_at}
+use Rattle.msp_instance.specs.Conditions.{Inner}
 use Rattle.msp_schedule.specs.declared.Piece.{Piece}
 use Rattle.msp_schedule.proofs.OfClass.{IsOfClass, IsOfClass-from}
 use Rattle.msp_schedule.specs.Levels.{AreLevels}
