@@ -39,9 +39,13 @@ lt_told m n = elim (cases_lt m n) [ inl h ↦ inl h | inr h ↦ inr (λ k. absur
 pub equal_told : (m n : ℕ) → Told (m ≡ n)
 equal_told m n = elim (cases_Bool (m == n)) [ inl e ↦ inl (eqb-true m n e) | inr e ↦ inr (eqb-false m n e) ]
 
-pub test_told : (b : Bool) → Told (b ≡ true)
-test_told true = inl refl
-test_told false = inr (λ e. absurd cc)
+pub true_told : (b : Bool) → Told (b ≡ true)
+true_told true = inl refl
+true_told false = inr (λ e. absurd cc)
+
+pub false_told : (b : Bool) → Told (b ≡ false)
+false_told true = inr (λ e. absurd cc)
+false_told false = inl refl
 
 module _ (P : ℕ → Type 0) (told : (k : ℕ) → Told (P k)) where
   -- the first number below n for which the condition fails, or it holds for all

@@ -202,13 +202,9 @@ module _ (names : List (List ℕ)) (line : ℕ) (spelled : All IsJobName names) 
   pub one_schedule_fault : (b : List ℕ) (e f : FileFault) → IsFirstScheduleFaultOf names line b e → IsFirstScheduleFaultOf names line b f → e ≡ f
   one_schedule_fault b e f h k = err_is e f (schedule_same names line b (Err e) (Err f) (reads_fault b e h.0 h.1) (reads_fault b f k.0 k.1))
 
-  -- reading gives no want of memory
-  not_memory : (b : List ℕ) → ReadsSchedule names line b (Err Memory) → ⊥
-  not_memory b h = schedule_remembers names line b h
-
   some_schedule : (b : List ℕ) (r : Result Stated FileFault) → ReadsSchedule names line b r → ((s : Stated) × IsStatedTextOf names b s) ⊎ ((e : FileFault) × IsFirstScheduleFaultOf names line b e)
   some_schedule b (Ok s) h = inl (s, schedule_taken names line b s h)
-  some_schedule b (Err Memory) h = absurd (not_memory b h)
+  some_schedule b (Err Memory) h = absurd (schedule_remembers names line b h)
   some_schedule b (Err e) h = inr (e, (h, λ m. absurd cc))
 
   pub schedules_one_way : AreReadOneWay (IsStatedTextOf names) (IsFirstScheduleFaultOf names line)

@@ -17,18 +17,10 @@ use Rattle.msp_instance.proofs.OrderLemmas.{Contains-from_waiting, waiting-some}
 use Rattle.msp_instance.proofs.SearchLemmas.{HasPath-push, HasPath-closed}
 use Rattle.msp_instance.proofs.CycleLemmas.{IsSequence-from_longest, GoesForward-from_longest, cycle_from_short}
 use Rattle.msp_file.proofs.Apart.{apart_push}
-use Rattle.msp_file.proofs.Deciding.{Told, both, unless, equal_told, first_broken, some_below}
+use Rattle.msp_file.proofs.Deciding.{Told, both, unless, equal_told, true_told, false_told, first_broken, some_below}
 
 not_in : (xs : List ℕ) (k : ℕ) → list_any (λ x. x == k) xs ≡ false → ¬ Contains xs k
 not_in xs k e c = false≢true (sym e ∙ list_any-from_Contains xs k c)
-
-false_told : (b : Bool) → Told (b ≡ false)
-false_told true = inr (λ e. absurd cc)
-false_told false = inl refl
-
-true_told : (b : Bool) → Told (b ≡ true)
-true_told true = inl refl
-true_told false = inr (λ e. absurd cc)
 
 out_of : (xs : List ℕ) (k : ℕ) → ¬ Contains xs k → list_any (λ x. x == k) xs ≡ false
 out_of xs k absent = elim (cases_Bool (list_any (λ x. x == k) xs)) [ inl e ↦ absurd (absent (Contains-from_list_any xs k e)) | inr e ↦ e ]
