@@ -27,7 +27,7 @@ fn no_ends(alloc: Global, count: u32) -> Result<Vec<End>, NoMemory>
 
 fn raise(ends: &mut [End], piece: &Piece)
     requires { piece.now.job < length ends.old }
-    ensures { (d : EndOf) → ends.new ≡ slice_set ends.old piece.now.job (record (slice_index_or ends.old piece.now.job d) { moment = int_max (slice_index_or ends.old piece.now.job d).moment piece.now.to }) }
+    ensures { (d : EndOf) → let end = slice_index_or ends.old piece.now.job d in ends.new ≡ slice_set ends.old piece.now.job (record end { moment = int_max end.moment piece.now.to }) }
 {
     let end = &mut ends[piece.job as usize];
     end.moment = end.moment.max(piece.to);

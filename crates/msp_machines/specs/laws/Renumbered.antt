@@ -75,18 +75,17 @@ module _ {row : ℕ} {i j : Instance} {forth back : Piece → ℕ} (h : Renumber
       (record { few = omega (arith, b.sized.few, length-map s.pieces (with_number back)); unit = ≤ℤ_trans b.sized.unit h.units })
       (EndsBy-numbered back s)
 
-  pub brought_renumbered : IsPlain row → (s r : Solution) → r ≡ brought s → IsSolution j s → IsBounded j s.schedule → record {
+  -- what is brought back
+  abbrev pub IsRenumbered : Solution → Solution → Type 0
+  IsRenumbered s r = record {
     solution : IsSolution i r;
     law : IsBack same_costs i j s.schedule r.schedule;
     same : IsReordered (numbered back s.schedule) r.schedule;
     bounds : KeepsBounds row i j s.schedule r.schedule;
   }
-  brought_renumbered plain s r e f b = subst (λ r. record {
-    solution : IsSolution i r;
-    law : IsBack same_costs i j s.schedule r.schedule;
-    same : IsReordered (numbered back s.schedule) r.schedule;
-    bounds : KeepsBounds row i j s.schedule r.schedule;
-  }) (sym e) (record {
+
+  pub brought_renumbered : IsPlain row → (s r : Solution) → r ≡ brought s → IsSolution j s → IsBounded j s.schedule → IsRenumbered s r
+  brought_renumbered plain s r e f b = subst (IsRenumbered s) (sym e) (record {
     solution = IsSolution-renumbered s f;
     law = IsBack-renumbered s.schedule;
     same = record { unit = refl; pieces = IsPermutation-refl (numbered back s.schedule).pieces };
