@@ -10,6 +10,8 @@ mod solve;
 mod solved_list;
 #[cfg(test)]
 mod tests;
+#[cfg(test)]
+mod via_tests;
 
 use msp_class::Class;
 pub use solve::solve_any;
