@@ -1,26 +1,24 @@
 -- The row of the jobs in Lawler's order is best, and in the form of an answer.
-use Rattle.std.proofs.Common.{◌≡◌, ◌≢◌, ℕ, ◌+◌, ◌<◌, ◌≤◌, inl, inr, List, ◌∷◌, ◌++◌, length, get_or, take, drop, map, pos, ◌≤ℤ◌, All, AllPairs, Contains, refl, sym, ap, ap₂, subst, ◌∙◌, arith}
-use Rattle.std.proofs.lemmas.Int.{ints}
+use Rattle.std.proofs.Common.{◌≡◌, ◌≢◌, ℕ, ◌+◌, ◌<◌, inl, inr, List, ◌∷◌, ◌++◌, length, get_or, take, drop, map, pos, ◌≤ℤ◌, All, AllPairs, Contains, refl, sym, ap, subst, ◌∙◌, arith}
 use Rattle.std.proofs.lemmas.List.{take-append-drop, drop_more, get_or-take, length-take, get_or_default}
 use Rattle.std.proofs.lemmas.List.Sums.{sum_by_more}
 use Rattle.std.proofs.lemmas.List.Elements.{All-take, All-contains, Contains-get_or}
 use Rattle.msp_class.proofs.IntegerRing.{≤ℤ_of_same, <ℤ_weak}
 use Rattle.msp_class.proofs.Sums.{OnceBelow, OnceBelow-from_permutation, OnceBelow-distinct, OnceBelow-contains}
-use Rattle.msp_instance.specs.declared.Arc.{Arc}
 use Rattle.msp_instance.specs.declared.Instance.{Instance}
 use Rattle.msp_instance.specs.Conditions.{Inner}
 use Rattle.msp_instance.specs.Paths.{HasStep}
 use Rattle.msp_schedule.specs.declared.Piece.{Piece}
 use Rattle.msp_schedule.specs.declared.Schedule.{Schedule}
-use Rattle.msp_schedule.specs.Piece.{IsBefore, job_of, start, finish, IsTimed}
+use Rattle.msp_schedule.specs.Piece.{job_of}
 use Rattle.msp_schedule.specs.Feasible.{Feasible}
 use Rattle.msp_schedule.specs.Cost.{end_of, Best}
 use Rattle.msp_schedule.specs.Settled.{IsSettled}
 use Rattle.msp_schedule.specs.Within.{Within}
 use Rattle.msp_schedule.specs.Rows.{row, piece, time_at, row_schedule}
-use Rattle.msp_schedule.proofs.Rows.{row-jobs, row-last, row-arcs, end_in, end_in-at}
+use Rattle.msp_schedule.proofs.Rows.{row-jobs, row-last, end_in, end_in-at}
 use Rattle.msp_schedule.proofs.OneMachine.{last_end-is}
-use Rattle.msp_schedule.proofs.OneRow.{piece_makes, row_is_feasible, row_is_settled, row_is_within}
+use Rattle.msp_schedule.proofs.OneRow.{piece_makes, row_is_settled, row_is_within}
 use Rattle.msp_route.specs.Bounds.{IsAnswer}
 use Rattle.msp_route.specs.LastJob.{CostsLess}
 use Rattle.msp_single.specs.Lawler.{lawler_class, IsLawlerOrder}
@@ -28,7 +26,7 @@ use Rattle.msp_schedule.specs.Blocks.{total_time, cost_at, IsCertified}
 use Rattle.msp_schedule.proofs.Certified.{ranked, Rises, best_by_certificates}
 use Rattle.msp_route.proofs.PlainJobs.{takes_time, is_short}
 use Rattle.msp_single.proofs.LawlerFacts.{IsLawlerInstance, IsLawlerInstance-from_class}
-use Rattle.msp_route.proofs.RowAnswer.{timed, released, row_is_answer}
+use Rattle.msp_route.proofs.RowAnswer.{timed, row_is_answer}
 use Rattle.msp_route.proofs.RowArcs.{forward_row_is_feasible}
 
 -- what is said of the answer's schedule

@@ -1,13 +1,11 @@
 -- The row of the jobs in a cheapest order is best, and in the form of an answer.
-use Rattle.std.proofs.Common.{◌≡◌, ℕ, ◌*◌, ◌<◌, ◌≤◌, List, length, get_or, ℤ, pos, nat_abs, ◌*ℤ◌, ◌≤ℤ◌, All, Contains, refl, sym, ap, ap₂, subst, ◌∙◌, arith, slice_index_or}
+use Rattle.std.proofs.Common.{◌≡◌, ℕ, ◌*◌, ◌<◌, ◌≤◌, List, length, ℤ, pos, nat_abs, ◌*ℤ◌, ◌≤ℤ◌, refl, sym, ap, subst, ◌∙◌, arith, slice_index_or}
 use Rattle.std.proofs.lemmas.Int.{ints}
 use native.Mathlib.Nat.{mul-le-mul_left}
 use Rattle.std.proofs.lemmas.List.{get_or_past}
-use Rattle.std.proofs.lemmas.List.Elements.{Contains-get_or}
 use Rattle.msp_class.proofs.IntegerRing.{natural, ≤ℤ_of_same, ≤ℤ_trans, pos-le, *ℤ-one}
 use Rattle.msp_class.proofs.Sums.{OnceBelow}
 use Rattle.msp_class.specs.declared.class.Crit.TheVariants.{SumWC}
-use Rattle.msp_instance.specs.declared.Arc.{Arc}
 use Rattle.msp_instance.specs.declared.Instance.{Instance}
 use Rattle.msp_instance.specs.Instance.{no_job, no_need}
 use Rattle.msp_instance.specs.Conditions.{Inner, HasDegree, entering}
@@ -15,16 +13,15 @@ use Rattle.msp_instance.specs.Paths.{HasStep}
 use Rattle.msp_instance.proofs.CycleLemmas.{OnceBelow-from_sequence}
 use Rattle.msp_schedule.specs.declared.Piece.{Piece}
 use Rattle.msp_schedule.specs.declared.Schedule.{Schedule}
-use Rattle.msp_schedule.specs.Piece.{IsBefore, start, finish, IsTimed}
 use Rattle.msp_schedule.specs.Feasible.{Feasible}
 use Rattle.msp_schedule.specs.Cost.{cost_of, Best}
 use Rattle.msp_schedule.specs.Settled.{IsSettled}
 use Rattle.msp_schedule.specs.Within.{Within}
 use Rattle.msp_schedule.specs.Rows.{row, seq, piece, time_at, row_schedule}
-use Rattle.msp_schedule.proofs.Rows.{row-arcs, last-seq_below}
+use Rattle.msp_schedule.proofs.Rows.{last-seq_below}
 use Rattle.msp_schedule.proofs.Charges.{SameCharges-from_jobs}
 use Rattle.msp_schedule.proofs.OneMachine.{weighted_cost}
-use Rattle.msp_schedule.proofs.OneRow.{piece_makes, row_is_feasible, row_is_settled, row_is_within}
+use Rattle.msp_schedule.proofs.OneRow.{piece_makes, row_is_settled, row_is_within}
 use Rattle.msp_schedule.specs.LineUp.{order_of_ends}
 use Rattle.msp_schedule.proofs.LineUp.{IsLine as IsOneLine, IsLine-from_conditions, SameLine-refl, cost-lined_up, forward_by_ends, order_of_ends-once, order_of_ends-rises}
 use Rattle.msp_schedule.proofs.Exchange.{cost_of-lined_up}
@@ -33,7 +30,7 @@ use Rattle.msp_trees.specs.Horn.{horn_class}
 use Rattle.msp_trees.specs.Horn.{before, weight_at}
 use Rattle.msp_trees.specs.Joining.{IsCheapest}
 use Rattle.msp_route.proofs.PlainJobs.{IsPlain, IsPlain-from, takes_time, is_short}
-use Rattle.msp_route.proofs.RowAnswer.{timed, released, row_is_answer}
+use Rattle.msp_route.proofs.RowAnswer.{timed, row_is_answer}
 use Rattle.msp_route.proofs.RowArcs.{forward_row_is_feasible}
 use Rattle.msp_trees.proofs.Joins.{IsTree}
 use Rattle.msp_trees.proofs.Before.{before_within, before_start, forward_from_arcs, steps_forward, may_precede, no_loop, before_loose}
