@@ -1,9 +1,10 @@
 -- What is picked from the list, and a best schedule that is settled.
-use Rattle.std.proofs.Common.{◌≡◌, ◌≢◌, ℕ, zero, suc, ◌+◌, ◌<◌, ◌≤◌, ◌⊎◌, inl, inr, ◌↔◌, Bool, true, false, IsTrue, List, [], ◌∷◌, length, map, ℤ, pos, ◌*ℤ◌, ◌≤ℤ◌, ◌<ℤ◌, sym, ap, ap₂, subst, subst₂, ◌∙◌, arith}
-use Rattle.std.specs.Prelude.{slice_get, Contains, IfSome, IfOk, Option, Some, None, Result, Ok, Err}
+use Rattle.std.proofs.Common.{◌≡◌, refl, ◌≢◌, ℕ, zero, suc, ◌+◌, ◌<◌, ◌≤◌, ◌⊎◌, inl, inr, ◌↔◌, Bool, true, false, IsTrue, List, [], ◌∷◌, length, map, ℤ, pos, ◌*ℤ◌, ◌≤ℤ◌, ◌<ℤ◌, sym, ap, ap₂, subst, subst₂, ◌∙◌, arith}
+use Rattle.std.specs.Option.{option_map}
+use Rattle.std.specs.Prelude.{⊤, slice_get, Contains, IfSome, IfOk, Option, Some, None, Result, Ok, Err}
 use Rattle.std.proofs.lemmas.Bool.{cases_lt}
 use Rattle.std.proofs.lemmas.Int.{ints}
-use Rattle.std.proofs.lemmas.Option.{slice_get_within, get_or_from_slice_get}
+use Rattle.std.proofs.lemmas.Option.{slice_get-map, slice_get_within, get_or_from_slice_get}
 use Rattle.msp_class.specs.declared.class.Class.{Class}
 use Rattle.msp_class.specs.declared.ranks.TheConstants.{CLASSES}
 use Rattle.msp_class.proofs.IntegerRing.{*ℤ_assoc, *ℤ_comm, *ℤ_exchange, *ℤ-mono_nonneg, *ℤ-cancel_pos}
@@ -23,7 +24,7 @@ use Rattle.msp_dispatch.specs.Solved.{solves, solved_list, solved_classes}
 use Rattle.msp_dispatch.specs.Dispatch.{IsTarget, IsReported, IsAnswered}
 use Rattle.msp_dispatch.specs.declared.Cannot.{Cannot}
 use Rattle.msp_route.specs.declared.answer.Answer.{Answer}
-use Rattle.msp_dispatch.specs.Pick.{IsRoute, IsPick}
+use Rattle.msp_dispatch.specs.Pick.{class_of, StandsAt, IsRoute, IsPick}
 
 -- ---- a schedule that is feasible and costs as much as a best one is best
 module _ (i : Instance) (s t : Schedule) (best : Best i s) (same : cost_of i t *ℤ s.unit ≡ cost_of i s *ℤ t.unit) where
@@ -46,13 +47,29 @@ module _ (i : Instance) (s t : Schedule) (best : Best i s) (same : cost_of i t *
   Best-settled f = record { feasible = f; least = settled_least f.unit }
 
 -- ---- routes
+-- each entry has the class that its solver solves
+abbrev AreSolved : List SolvedClass → Type 0
+AreSolved [] = ⊤
+AreSolved (e ∷ es) = (class_of e.solver ≡ Some e.class) × AreSolved es
+
+all_solved : AreSolved solved_list
+all_solved = (refl, (refl, (refl, (refl, (refl, (refl, (refl, (refl, (refl, (refl, (refl, (refl, (refl, (refl, (refl, (refl, tt))))))))))))))))
+
+solved_at : (xs : List SolvedClass) (n : ℕ) (e : SolvedClass) → AreSolved xs → slice_get xs n ≡ Some e → class_of e.solver ≡ Some e.class
+solved_at [] n e h g = absurd (cc)
+solved_at (x ∷ xs) zero e h g = let same : x ≡ e = cc in subst (λ y. class_of y.solver ≡ Some y.class) same h.0
+solved_at (x ∷ xs) (suc n) e h g = solved_at xs n e h.1 g
+
+listed_at : (n : ℕ) (e : SolvedClass) → slice_get solved_list n ≡ Some e → Contains solved_list e
+listed_at n e at = (n, slice_get_within solved_list n e at, get_or_from_slice_get solved_list n e e at)
+
 pub IsRoute-from_way : (from : Class) (n : ℕ) (e : SolvedClass) (found : Option Chain) (c : Chain) → found ≡ Some c → slice_get solved_list n ≡ Some e → IsWay carries (e.class ∷ []) (from ∷ []) found
-    → IfSome found (λ x. length x.rows ≤ CLASSES) → IsRoute from (record { place = n; entry = e; chain = c })
+    → IfSome found (λ x. length x.rows ≤ CLASSES) → IsRoute from (record { entry = e; chain = c })
 IsRoute-from_way from n e found c is at led short =
     let way : IsWay carries (e.class ∷ []) (from ∷ []) (Some c) = subst (IsWay carries (e.class ∷ []) (from ∷ [])) is led in
     let few : length c.rows ≤ CLASSES = subst (λ o. IfSome o (λ x. length x.rows ≤ CLASSES)) is short in
     let start : from ≡ c.from = one_is (IsFirst-among way.0) in
-    record { listed = at; start = sym start; nearest = subst (λ x. IsNearest carries (e.class ∷ []) x c.rows) (sym start) way.1; few = few }
+    record { listed = listed_at n e at; solver = solved_at solved_list n e all_solved at; start = sym start; nearest = subst (λ x. IsNearest carries (e.class ∷ []) x c.rows) (sym start) way.1; few = few }
 
 pub IsRoute-reaches : (from : Class) (p : Pick) → IsRoute from p → Reaches carries from p.entry.class
 IsRoute-reaches from p h =
@@ -80,8 +97,8 @@ pub unreached : (from : Class) (marks : List Bool) (place : ℕ) (e : SolvedClas
 unreached from marks place e h g n = subst (λ o. IfSome o (λ x. ¬ Reaches carries from x.class)) (sym g) (λ r. absurd (let yes = (h e.class).1 r in cc))
 
 -- the first of the list to which a chain leads
-pub first_led : (from : Class) (p : Pick) → IsRoute from p → ((k : ℕ) → k < p.place → IfSome (slice_get solved_list k) (λ e. ¬ Reaches carries from e.class)) → IsFirst (Reaches carries from) solved_classes p.entry.class
-first_led from p h none = first_in (Reaches carries from) solved_list p.place p.entry h.listed (IsRoute-reaches from p h) none
+pub first_led : (from : Class) (n : ℕ) (p : Pick) → StandsAt n p.entry → IsRoute from p → ((k : ℕ) → k < n → IfSome (slice_get solved_list k) (λ e. ¬ Reaches carries from e.class)) → IsFirst (Reaches carries from) solved_classes p.entry.class
+first_led from n p at h none = first_in (Reaches carries from) solved_list n p.entry at (IsRoute-reaches from p h) none
 
 -- no chain leads to a class of the list, where none leads to that of an entry
 none_in : (P : Class → Type 0) (xs : List SolvedClass) → ((k : ℕ) → k < length xs → IfSome (slice_get xs k) (λ x. ¬ P x.class)) → (t : Class) → Contains (map (λ x. x.class) xs) t → ¬ P t
@@ -107,15 +124,27 @@ pub answered : (i : Instance) (at : Option Class) (p : Pick) (r : Result Answer 
 answered i at p (Err e) h chain target solver solution = tt
 answered i at p (Ok a) h chain target solver solution = record {
   target = subst (IsTarget i.class at) (sym target) h.target;
-  solver = subst (Contains solved_list) (sym (ap₂ solves target solver)) (p.place, slice_get_within solved_list p.place p.entry h.route.listed, get_or_from_slice_get solved_list p.place p.entry p.entry h.route.listed);
+  solver = subst (Contains solved_list) (sym (ap₂ solves target solver)) h.route.listed;
   from = ap (λ c. c.from) chain ∙ h.route.start;
   nearest = subst₂ (λ t c. IsNearest carries (t ∷ []) i.class c.rows) (sym target) (sym chain) h.route.nearest;
   solution = solution;
 }
 
 -- the pick that is found first
-pub IsPick-first : (from : Class) (n : ℕ) (found : Option Pick) (p : Pick) → found ≡ Some p → IfSome found (λ q. (q.place ≡ n) × IsRoute from q)
+pub IsPick-first : (from : Class) (n : ℕ) (found : Option Pick) (p : Pick) → found ≡ Some p → IfSome found (λ q. StandsAt n q.entry × IsRoute from q)
     → ((k : ℕ) → k < n → IfSome (slice_get solved_list k) (λ e. ¬ Reaches carries from e.class)) → IsPick from None p
 IsPick-first from n found p is picked none =
-    let h : (p.place ≡ n) × IsRoute from p = subst (λ o. IfSome o (λ q. (q.place ≡ n) × IsRoute from q)) is picked in
-    record { target = first_led from p h.1 (λ k l. none k (omega (arith, l, h.0))); route = h.1 }
+    let h : StandsAt n p.entry × IsRoute from p = subst (λ o. IfSome o (λ q. StandsAt n q.entry × IsRoute from q)) is picked in
+    record { target = first_led from n p h.0 h.1 none; route = h.1 }
+
+-- the pick of the class that is asked for
+some_once : (o : Option Class) (a b : Class) → o ≡ Some a → o ≡ Some b → a ≡ b
+some_once o a b e f = cc
+
+pub IsPick-given : (from at : Class) (n : ℕ) (found : Option Pick) (p : Pick) → found ≡ Some p → IfSome found (λ q. StandsAt n q.entry × IsRoute from q) → slice_get solved_classes n ≡ Some at → IsPick from (Some at) p
+IsPick-given from at n found p is picked given =
+    let h : StandsAt n p.entry × IsRoute from p = subst (λ o. IfSome o (λ q. StandsAt n q.entry × IsRoute from q)) is picked in
+    let there : slice_get solved_classes n ≡ Some p.entry.class = slice_get-map (λ s. s.class) solved_list n ∙ ap (option_map (λ s. s.class)) h.0 in
+    let same : p.entry.class ≡ at = some_once (slice_get solved_classes n) p.entry.class at there given in
+    let listed : Contains solved_classes at = (n, slice_get_within solved_classes n at given, get_or_from_slice_get solved_classes n at at given) in
+    record { target = (same, listed, subst (Reaches carries from) same (IsRoute-reaches from p h.1)); route = h.1 }

@@ -1,18 +1,58 @@
 -- What is picked before an instance is solved. No public contract cites this file.
-use Rattle.std.specs.Prelude.{◌≡◌, ℕ, ◌≤◌, List, [], ◌∷◌, length, slice_get, IsSomeAnd, Option, Some}
+use Rattle.std.specs.Prelude.{◌≡◌, ℕ, ◌≤◌, List, [], ◌∷◌, length, slice_get, IsSomeAnd, Contains, Option, Some, None}
 use Rattle.msp_class.specs.declared.class.Class.{Class}
 use Rattle.msp_class.specs.declared.ranks.TheConstants.{CLASSES}
 use Rattle.msp_instance.specs.declared.Instance.{Instance}
 use Rattle.msp_table.specs.Rows.{carries}
 use Rattle.msp_table.specs.Chains.{IsNearest}
 use Rattle.msp_carry.specs.Carried.{IsChainTo}
+use Rattle.msp_route.specs.declared.answer.SolverName.{SolverName}
+use Rattle.msp_route.specs.declared.answer.SolverName.TheVariants as solver
+use Rattle.msp_single.specs.Smith.{smith_class}
+use Rattle.msp_single.specs.Lawler.{lawler_class}
+use Rattle.msp_single.specs.Moore.{moore_class}
+use Rattle.msp_trees.specs.Horn.{horn_class}
+use Rattle.msp_blocks.specs.Blocks.{blocks_class, unit_blocks_class}
+use Rattle.msp_srpt.specs.Shortest.{shortest_class}
+use Rattle.msp_wrap.specs.Wrap.{wrap_class}
+use Rattle.msp_levels.specs.Levels.{levels_class}
+use Rattle.msp_total.specs.Classes.{uniform_class, unrelated_class}
+use Rattle.msp_total.specs.Slots.{tardiness_class, late_jobs_class}
+use Rattle.msp_shops.specs.Classes.{johnson_class, jackson_class}
+use Rattle.msp_shops.specs.Open.{open_class}
 use Rattle.msp_dispatch.specs.declared.pick.Pick.{Pick}
+use Rattle.msp_dispatch.specs.declared.solved_list.SolvedClass.{SolvedClass}
 use Rattle.msp_dispatch.specs.Solved.{solved_list}
 use Rattle.msp_dispatch.specs.Dispatch.{IsTarget}
 
--- The pick is an entry of the list at its place, with the nearest chain to its class.
+-- The class that the solver of a name solves, where there is such a solver.
+abbrev pub class_of : SolverName → Option Class
+class_of solver.Smith = Some smith_class
+class_of solver.Lawler = Some lawler_class
+class_of solver.Moore = Some moore_class
+class_of solver.Horn = Some horn_class
+class_of solver.Blocks = Some blocks_class
+class_of solver.UnitBlocks = Some unit_blocks_class
+class_of solver.Shortest = Some shortest_class
+class_of solver.Wrap = Some wrap_class
+class_of solver.Levels = Some levels_class
+class_of solver.Uniform = Some uniform_class
+class_of solver.Unrelated = Some unrelated_class
+class_of solver.SlotsLate = Some tardiness_class
+class_of solver.SlotsCount = Some late_jobs_class
+class_of solver.Johnson = Some johnson_class
+class_of solver.Jackson = Some jackson_class
+class_of solver.Open2 = Some open_class
+class_of _ = None
+
+-- An entry of the list stands at the place.
+abbrev pub StandsAt : ℕ → SolvedClass → Type 0
+StandsAt place entry = slice_get solved_list place ≡ Some entry
+
+-- The pick is an entry of the list, with the nearest chain to its class.
 pub record IsRoute (from : Class) (p : Pick) : Type 0 where
-  pub listed : slice_get solved_list p.place ≡ Some p.entry
+  pub listed : Contains solved_list p.entry
+  pub solver : class_of p.entry.solver ≡ Some p.entry.class
   pub start : p.chain.from ≡ from
   pub nearest : IsNearest carries (p.entry.class ∷ []) from p.chain.rows
   pub few : length p.chain.rows ≤ CLASSES
@@ -22,6 +62,6 @@ pub record IsPick (from : Class) (at : Option Class) (p : Pick) : Type 0 where
   pub target : IsTarget from at p.entry.class
   pub route : IsRoute from p
 
--- The rows lead to the class at the place of the list.
-abbrev pub IsLedTo : Instance → List ℕ → ℕ → Type 0
-IsLedTo i rows place = IsSomeAnd (slice_get solved_list place) (λ e. IsChainTo i rows e.class)
+-- The rows lead to the class that the solver of the name solves.
+abbrev pub IsLedTo : Instance → List ℕ → SolverName → Type 0
+IsLedTo i rows name = IsSomeAnd (class_of name) (λ c. IsChainTo i rows c)

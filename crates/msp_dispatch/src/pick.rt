@@ -5,7 +5,7 @@ ghost use Rattle.msp_table.specs.Rows.{carries};
 ghost use Rattle.msp_table.specs.Chains.{Reaches};
 ghost use Rattle.msp_dispatch.specs.Solved.{solved_list, solved_classes};
 ghost use Rattle.msp_dispatch.specs.Dispatch.{IsFault};
-ghost use Rattle.msp_dispatch.specs.Pick.{IsRoute, IsPick};
+ghost use Rattle.msp_dispatch.specs.Pick.{StandsAt, IsRoute, IsPick};
 ghost use Rattle.msp_dispatch.specs.Reached.{AreReached};
 
 use crate::Cannot;
@@ -16,10 +16,9 @@ use msp_closure::route_to;
 use msp_table::Chain;
 use std::alloc::Global;
 
-/// An entry of the list, its place, and the nearest chain to its class.
+/// An entry of the list, and the nearest chain to its class.
 #[derive(Drop)]
 pub(crate) struct Pick {
-    pub place: u32,
     pub entry: SolvedClass,
     pub chain: Chain,
 }
@@ -27,18 +26,14 @@ pub(crate) struct Pick {
 /// The pick of a place. None comes exactly where no chain leads to its class, or nothing stands there.
 fn pick_at(alloc: Global, from: Class, place: u32) -> Result<Option<Pick>, NoMemory>
     ensures none { IfOk result (λ found. IfNone found (IfSome (slice_get solved_list place) (λ e. ¬ Reaches carries from e.class))) }
-    ensures pick { IfOk result (λ found. IfSome found (λ p. (p.place ≡ place) × IsRoute from p)) }
+    ensures pick { IfOk result (λ found. IfSome found (λ p. StandsAt place p.entry × IsRoute from p)) }
 {
     match entry_at(place) {
         None => Ok(None),
         Some(entry) => match route_to(alloc, from, entry.class) {
             Err(_) => Err(NoMemory),
             Ok(None) => Ok(None),
-            Ok(Some(chain)) => Ok(Some(Pick {
-                place,
-                entry,
-                chain,
-            })),
+            Ok(Some(chain)) => Ok(Some(Pick { entry, chain })),
         },
     }
 }
@@ -54,7 +49,7 @@ fn pick_marked(
     requires size { length marks.now ≡ CLASSES }
     requires marks { AreReached from marks.now }
     ensures none { IfOk result (λ found. IfNone found (IfSome (slice_get solved_list place) (λ e. ¬ Reaches carries from e.class))) }
-    ensures pick { IfOk result (λ found. IfSome found (λ p. (p.place ≡ place) × IsRoute from p)) }
+    ensures pick { IfOk result (λ found. IfSome found (λ p. StandsAt place p.entry × IsRoute from p)) }
 {
     match entry_at(place) {
         None => Ok(None),

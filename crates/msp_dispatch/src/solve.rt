@@ -15,7 +15,7 @@ use msp_carry::solve_along;
 use msp_class::{Class, List, NoMemory};
 use msp_instance::Instance;
 use msp_levels::Levels;
-use msp_route::Answer;
+use msp_route::{Answer, SolverName};
 use msp_schedule::{Solution, cost, settle};
 use msp_shops::{Jackson, Johnson, Open2};
 use msp_single::{Lawler, Moore, Smith};
@@ -26,43 +26,48 @@ use msp_trees::Horn;
 use msp_wrap::Wrap;
 use std::alloc::Global;
 
-/// Calls with the solver of a place of the list.
+/// Calls with the solver of a name.
 macro_rules! at_solver {
-    ($place:expr, $call:ident, $($argument:expr),*) => {
-        match $place {
-            0 => $call($($argument),*, &Smith),
-            1 => $call($($argument),*, &Lawler),
-            2 => $call($($argument),*, &Moore),
-            3 => $call($($argument),*, &Horn),
-            4 => $call($($argument),*, &Blocks),
-            5 => $call($($argument),*, &UnitBlocks),
-            6 => $call($($argument),*, &Shortest),
-            7 => $call($($argument),*, &Wrap),
-            8 => $call($($argument),*, &Levels),
-            9 => $call($($argument),*, &Uniform),
-            10 => $call($($argument),*, &Unrelated),
-            11 => $call($($argument),*, &SlotsLate),
-            12 => $call($($argument),*, &SlotsCount),
-            13 => $call($($argument),*, &Johnson),
-            14 => $call($($argument),*, &Jackson),
-            _ => $call($($argument),*, &Open2),
+    ($name:expr, $call:ident, $($argument:expr),*) => {
+        match $name {
+            SolverName::Smith => $call($($argument),*, &Smith),
+            SolverName::Lawler => $call($($argument),*, &Lawler),
+            SolverName::Moore => $call($($argument),*, &Moore),
+            SolverName::Horn => $call($($argument),*, &Horn),
+            SolverName::Blocks => $call($($argument),*, &Blocks),
+            SolverName::UnitBlocks => $call($($argument),*, &UnitBlocks),
+            SolverName::Shortest => $call($($argument),*, &Shortest),
+            SolverName::Wrap => $call($($argument),*, &Wrap),
+            SolverName::Levels => $call($($argument),*, &Levels),
+            SolverName::Uniform => $call($($argument),*, &Uniform),
+            SolverName::Unrelated => $call($($argument),*, &Unrelated),
+            SolverName::SlotsLate => $call($($argument),*, &SlotsLate),
+            SolverName::SlotsCount => $call($($argument),*, &SlotsCount),
+            SolverName::Johnson => $call($($argument),*, &Johnson),
+            SolverName::Jackson => $call($($argument),*, &Jackson),
+            SolverName::Open2 => $call($($argument),*, &Open2),
+            SolverName::OpenCut
+            | SolverName::UniformCut
+            | SolverName::Lexical
+            | SolverName::LateTable
+            | SolverName::Search => unreachable!(),
         }
     };
 }
 
-/// A best solution of the instance by the solver of the place, at the end of the chain.
+/// A best solution of the instance by the solver of the name, at the end of the chain.
 fn solve_at(
     alloc: Global,
     inst: &Instance,
     rows: &List<Row>,
-    place: u32,
+    name: SolverName,
 ) -> Result<Solution, NoMemory>
     requires inner { Inner inst.now }
-    requires chain { IsLedTo inst.now rows.now place }
+    requires chain { IsLedTo inst.now rows.now name }
     ensures best { IfOk result (λ s. IsBest inst.now s) }
     ensures within { IfOk result (λ s. Within inst.now s.schedule) }
 {
-    at_solver!(place, solve_along, alloc, inst, rows)
+    at_solver!(name, solve_along, alloc, inst, rows)
 }
 
 /// The solution in the form in which it is reported.
@@ -93,7 +98,7 @@ fn answer(alloc: Global, inst: &Instance, pick: Pick) -> Result<Answer, Cannot>
     ensures solution { IfOk result (λ a. IsReported inst.now a.solution) }
     ensures fault { IfErr result (λ e. e ≡ Cannot.Memory) }
 {
-    match solve_at(alloc, inst, &pick.chain.rows, pick.place) {
+    match solve_at(alloc, inst, &pick.chain.rows, pick.entry.solver) {
         Err(_) => Err(Cannot::Memory),
         Ok(solution) => Ok(Answer {
             chain: pick.chain,

@@ -23,6 +23,11 @@ solver_word solver.SlotsCount = codes "slots-count"
 solver_word solver.Johnson = codes "johnson"
 solver_word solver.Jackson = codes "jackson"
 solver_word solver.Open2 = codes "open2"
+solver_word solver.OpenCut = codes "open-cut"
+solver_word solver.UniformCut = codes "uniform-cut"
+solver_word solver.Lexical = codes "lexical"
+solver_word solver.LateTable = codes "late-table"
+solver_word solver.Search = codes "search"
 
 -- the line of the solver
 unfoldable pub solver_line : SolverName → List ℕ

@@ -33,6 +33,11 @@ fn word(solver: SolverName) -> &'static [u8]
         SolverName::Johnson => b"johnson",
         SolverName::Jackson => b"jackson",
         SolverName::Open2 => b"open2",
+        SolverName::OpenCut => b"open-cut",
+        SolverName::UniformCut => b"uniform-cut",
+        SolverName::Lexical => b"lexical",
+        SolverName::LateTable => b"late-table",
+        SolverName::Search => b"search",
     }
 }
 

@@ -3,7 +3,7 @@ use msp_class::Class;
 use msp_schedule::Solution;
 use msp_table::Chain;
 
-/// A solver, by the name under which it is known.
+/// A solver, by the name under which it is known. Some have a name and are yet to come.
 #[derive(Clone, Copy, Debug, PartialEq, Eq)]
 pub enum SolverName {
     Smith,
@@ -22,6 +22,11 @@ pub enum SolverName {
     Johnson,
     Jackson,
     Open2,
+    OpenCut,
+    UniformCut,
+    Lexical,
+    LateTable,
+    Search,
 }
 
 /// A solution of an instance, with the chain of rows that led it to the class of a solver.
