@@ -1,12 +1,9 @@
 -- What an instance of the class of McNaughton's rule has, and the size of its least end.
-use Rattle.std.proofs.Common.{◌≡◌, ℕ, suc, ◌*◌, ◌<◌, ◌≤◌, ◌⊎◌, inl, inr, max, true, false, Bool, leb, List, [], ◌∷◌, length, get_or, fold, map, All, refl, sym, ap, ◌∙◌, subst, arith}
+use Rattle.std.proofs.Common.{◌≡◌, ℕ, suc, ◌*◌, ◌<◌, ◌≤◌, ◌⊎◌, inl, inr, max, true, false, Bool, leb, List, [], ◌∷◌, length, get_or, fold, map, All, refl, sym, ◌∙◌, subst, arith}
 use Rattle.std.proofs.lemmas.Bool.{leb-true, leb-false}
 use Rattle.std.proofs.lemmas.List.{length-map, get_or-map}
 use Rattle.std.proofs.lemmas.List.Elements.{All-nil, All-cons, All-head, All-tail, All-map}
 use Rattle.std.proofs.Math.Nat.{mul-le-mul_left}
-use Rattle.msp_class.specs.declared.class.Crit.TheVariants.{Cmax}
-use Rattle.msp_class.specs.declared.environments.EnvKind.TheVariants.{Identical}
-use Rattle.msp_class.specs.Env.{kind_of}
 use Rattle.msp_class.specs.Sums.{total_below}
 use Rattle.msp_class.proofs.Sums.{sum_by-mono, sum_by-constant}
 use Rattle.msp_instance.specs.declared.Instance.{Instance}
