@@ -1,0 +1,11 @@
+pub mod Lists
+pub mod Growth
+pub mod Owners
+pub mod Places
+pub mod Cuts
+pub mod Slices
+pub mod Tables
+pub mod Fills
+pub mod Greatest
+pub mod Passes
+pub mod Ways

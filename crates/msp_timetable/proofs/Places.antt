@@ -1,0 +1,80 @@
+-- The cells of a square that stands in a list: their places differ, and what a write does to them, to the lines and to the count.
+use Rattle.std.proofs.Common.{◌≡◌, ◌≢◌, ℕ, ◌+◌, ◌*◌, ◌<◌, ◌≤◌, ◌⊎◌, inl, inr, refl, List, Bool, true, false, ltb, length, set, cond, ap, arith}
+use Rattle.std.proofs.Math.Nat.{mul-le-mul_left}
+use Rattle.std.proofs.lemmas.Bool.{ltb-true, ltb-false}
+use Rattle.std.proofs.lemmas.List.{get_or-set_same, get_or-set_other}
+use Rattle.std.proofs.lemmas.List.Sums.{sum_by-set}
+use Rattle.msp_timetable.specs.Square.{cell_at, stocks}
+use Rattle.msp_timetable.proofs.Lists.{same_or_not}
+
+-- the rows of a square do not overlap
+rows_apart : (n r i c j : ℕ) → r < i → c < n → r * n + c < i * n + j
+rows_apart n r i c j l lc = let more : r + 1 ≤ i = omega arith in let h = mul-le-mul_left n more in omega (arith, h)
+
+pub place_inside : (m n r c : ℕ) → r < m → c < n → r * n + c < m * n
+place_inside m n r c lr lc = omega (arith, rows_apart n r m c 0 lr lc)
+
+pub places_apart : (n r c i j : ℕ) → c < n → j < n → (r ≢ i) ⊎ (c ≢ j) → r * n + c ≢ i * n + j
+places_apart n r c i j lc lj h e = elim (same_or_not r i) [
+  | inl s ↦ elim h [
+    | inl a ↦ a s
+    | inr a ↦ a (omega (arith, e, ap (λ x. x * n) s))
+  ]
+  | inr d ↦ elim (less r i d) [
+    | inl l ↦ let q = rows_apart n r i c j l lc in omega (arith, q, e)
+    | inr l ↦ let q = rows_apart n i r j c l lj in omega (arith, q, e)
+  ]
+]
+  where
+    less : (a b : ℕ) → a ≢ b → (a < b) ⊎ (b < a)
+    less a b m = grind arith
+
+module _ (n : ℕ) (xs : List ℕ) (i j v : ℕ) (size : length xs ≡ n * n) (li : i < n) (lj : j < n) where
+  written : List ℕ
+  written = set xs (i * n + j) v
+
+  inside : i * n + j < length xs
+  inside = omega (arith, place_inside n n i j li lj, size)
+
+  pub cell-same : cell_at n (set xs (i * n + j) v) i j ≡ v
+  cell-same = get_or-set_same xs (i * n + j) v 0 inside
+
+  pub cell-other : (r c : ℕ) → c < n → (r ≢ i) ⊎ (c ≢ j) → cell_at n (set xs (i * n + j) v) r c ≡ cell_at n xs r c
+  cell-other r c lc h = get_or-set_other xs (i * n + j) (r * n + c) v 0 (places_apart n r c i j lc lj h)
+
+  -- a stock that is replaced
+  pub stocks-set : stocks (set xs (i * n + j) v) + cond (ltb 0 (cell_at n xs i j)) 1 0 ≡ stocks xs + cond (ltb 0 v) 1 0
+  stocks-set = sum_by-set (λ x. cond (ltb 0 x) 1 0) xs (i * n + j) v 0 inside
+
+pub positive-one : (x : ℕ) → 0 < x → 1 ≤ cond (ltb 0 x) 1 0
+positive-one x l = by (ltb 0 x) refl
+  where
+    by : (b : Bool) → ltb 0 x ≡ b → 1 ≤ cond b 1 0
+    by true e = omega arith
+    by false e = absurd (omega (arith, ltb-false 0 x e))
+
+pub cond-one : (b : Bool) → cond b 1 0 ≤ 1
+cond-one true = omega arith
+cond-one false = omega arith
+
+pub ltb-yes : (a b : ℕ) → a < b → ltb a b ≡ true
+ltb-yes a b l = by (ltb a b) refl
+  where
+    by : (v : Bool) → ltb a b ≡ v → v ≡ true
+    by true q = refl
+    by false q = absurd (omega (arith, ltb-false a b q))
+
+pub ltb-no : (a b : ℕ) → b ≤ a → ltb a b ≡ false
+ltb-no a b l = by (ltb a b) refl
+  where
+    by : (v : Bool) → ltb a b ≡ v → v ≡ false
+    by false q = refl
+    by true q = absurd (omega (arith, ltb-true a b q))
+
+-- below the next number or below this one is the same for another
+pub ltb-next : (a k : ℕ) → a ≢ k → ltb a (k + 1) ≡ ltb a k
+ltb-next a k h = by (ltb a k) refl
+  where
+    by : (v : Bool) → ltb a k ≡ v → ltb a (k + 1) ≡ v
+    by true q = ltb-yes a (k + 1) (omega (arith, ltb-true a k q))
+    by false q = ltb-no a (k + 1) (omega (arith, ltb-false a k q))

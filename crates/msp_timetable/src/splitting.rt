@@ -1,0 +1,95 @@
+// A matrix is split into slices.
+ghost use Rattle.std.specs.Prelude.{◌≡◌, ◌<◌, ◌≤◌, ◌+◌, ◌-◌, IfOk};
+ghost use Rattle.msp_timetable.specs.Split.{IsMatrix, IsSplit};
+ghost use Rattle.msp_timetable.specs.Square.{IsSplitting, IsPermuted, IsOwners};
+
+use crate::cutting::{cut, entries, longest};
+use crate::filling::fill;
+use crate::matching::match_rows;
+use crate::matrix::{Matrix, Slice};
+use crate::search::Seats;
+use crate::square::Square;
+use msp_class::{List, NoMemory};
+use std::alloc::{AllocError, Global};
+
+/// The most rows.
+pub const MOST_ROWS: u32 = 32;
+/// The most columns.
+pub const MOST_COLUMNS: u32 = 400;
+
+/// Each row at the column of its number.
+fn first_seats(alloc: Global, size: usize) -> Result<Seats, AllocError>
+    ensures permuted { IfOk result (λ seats. IsPermuted size seats.columns.items) }
+    ensures owners { IfOk result (λ seats. IsOwners size seats.columns.items seats.owner.items) }
+{
+    let mut columns = Vec::new(alloc);
+    let mut owner = Vec::new(alloc);
+    for line in 0..size {
+        columns.push(line)?;
+        owner.push(line)?;
+    }
+    Ok(Seats { columns, owner })
+}
+
+/// Cuts off one more slice, and says what is left.
+fn next_slice(
+    alloc: Global,
+    matrix: &Matrix,
+    square: &mut Square,
+    seats: &mut Seats,
+    slices: &mut Vec<Slice>,
+    left: u128,
+) -> Result<u128, AllocError>
+    requires some { 1 ≤ matrix.now.rows }
+    requires splitting { IsSplitting matrix.now square.old seats.old.columns.items seats.old.owner.items slices.old.items left }
+    requires left { 0 < left }
+    ensures splitting { IfOk result (λ after. IsSplitting matrix.now square.new seats.new.columns.items seats.new.owner.items slices.new.items after) }
+    ensures less { IfOk result (λ after. after < left) }
+{
+    match_rows(alloc, square, seats)?;
+    let columns = seats.columns.as_slice();
+    let length = longest(square, columns);
+    let column = entries(alloc, square, columns, matrix.rows, matrix.columns)?;
+    cut(square, columns, length);
+    slices.push(Slice {
+        length: length as i128,
+        column,
+    })?;
+    Ok(left - length)
+}
+
+/// The slices of a matrix.
+fn cut_all(alloc: Global, matrix: &Matrix) -> Result<Vec<Slice>, AllocError>
+    requires matrix { IsMatrix matrix.now }
+    requires some_rows { 1 ≤ matrix.now.rows }
+    requires few_rows { matrix.now.rows ≤ 32 }
+    requires some_columns { 1 ≤ matrix.now.columns }
+    requires few_columns { matrix.now.columns ≤ 400 }
+    ensures { IfOk result (λ slices. IsSplit matrix.now slices.items) }
+{
+    let filled = fill(alloc, matrix)?;
+    let mut left = filled.greatest;
+    let mut square = filled.square;
+    let mut seats = first_seats(alloc, square.size)?;
+    let mut slices = Vec::new(alloc);
+    'slices: while left > 0 {
+        left = next_slice(alloc, matrix, &mut square, &mut seats, &mut slices, left)?;
+    }
+    Ok(slices)
+}
+
+/// Splits a matrix into slices: in a square that is filled up with padding, each slice gives every row a column in which it holds
+/// something, and lasts until a cell is used up (Gonzalez and Sahni 1976).
+pub fn split(alloc: Global, matrix: &Matrix) -> Result<List<Slice>, NoMemory>
+    requires matrix { IsMatrix matrix.now }
+    requires some_rows { 1 ≤ matrix.now.rows }
+    requires few_rows { matrix.now.rows ≤ MOST_ROWS }
+    requires some_columns { 1 ≤ matrix.now.columns }
+    requires few_columns { matrix.now.columns ≤ MOST_COLUMNS }
+    ensures { IfOk result (IsSplit matrix.now) }
+{
+    match cut_all(alloc, matrix) {
+        Ok(slices) => Ok(List::from_vec(slices)),
+        Err(_) => Err(NoMemory),
+    }
+}
