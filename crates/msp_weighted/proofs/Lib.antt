@@ -1,0 +1,10 @@
+pub mod ValueFacts
+pub mod SplitFacts
+pub mod BitFacts
+pub mod RowFacts
+pub mod FilledFacts
+pub mod WalkFacts
+pub mod LateCost
+pub mod LateBest
+pub mod DateKeys
+pub mod TableOrder

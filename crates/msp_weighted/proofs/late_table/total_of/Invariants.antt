@@ -1,0 +1,10 @@
+use Rattle.std.proofs.Common.{◌≡◌, ◌*◌, ◌≤◌, take, sum_by}
+use Rattle.msp_weighted.specs.Late.{time_of}
+use Rattle.msp_weighted.proofs.late_table.total_of.Given as goal
+
+-- how long the jobs so far take
+abbrev pub invariant-loop-k : goal.invariant-loop-k
+invariant-loop-k l = record {
+  value : l.total ≡ sum_by time_of (take l.k l.jobs);
+  size : l.total ≤ 1000000000 * l.k;
+}

@@ -1,0 +1,174 @@
+// The solver: the jobs that the table chooses by due date, and then the others by number.
+ghost use Rattle.std.specs.Prelude.{◌≡◌, ℕ, ◌+◌, ◌*◌, ◌<◌, ◌≤◌, ◌⊎◌, ◌++◌, List, length, map, pos, ◌^◌, ◌+ℤ◌, slice_index, slice_index_or, sum_by, All, AllPairs, IfOk, IsPermutation, ⊤};
+ghost use Rattle.std.specs.List.{range_with_len};
+ghost use Rattle.std.specs.Ordering.{nat_cmp};
+ghost use Rattle.msp_instance.specs.declared.ranges.TheConstants.{GREATEST, MOST_JOBS};
+ghost use Rattle.msp_instance.specs.Instance.{no_need, job_at};
+ghost use Rattle.msp_instance.specs.Conditions.{Inner};
+ghost use Rattle.msp_schedule.specs.Cost.{IsBest};
+ghost use Rattle.msp_schedule.specs.Fraction.{IsLowest};
+ghost use Rattle.msp_schedule.specs.Settled.{IsSettled};
+ghost use Rattle.msp_route.specs.Bounds.{IsAnswer};
+ghost use Rattle.msp_weighted.specs.Late.{late_class, time_of, total_time, IsDueBefore, IsLateOrder};
+ghost use Rattle.msp_weighted.specs.Limits.{AreLimits};
+ghost use Rattle.msp_weighted.specs.Values.{IsTableOrder};
+
+use crate::table::{best_moment, table_of};
+use crate::walk::{Choice, chosen};
+use msp_class::{Class, Crit, Env, NoMemory, Order, Times};
+use msp_instance::{Instance, Job};
+use msp_route::{Solver, first_time, jobs_by_key, solution_in_order};
+use msp_schedule::Solution;
+use std::alloc::Global;
+use std::cmp::Ordering;
+
+/// How long all jobs may take together.
+pub const GREATEST_TOTAL: u64 = 1_000_000;
+
+/// The limit by its number.
+pub fn law_of_limits()
+    ensures { AreLimits }
+{}
+
+/// The class that the table solves: `1||sumwU`.
+const LATE_CLASS: Class = Class {
+    env: Env::One,
+    cut: false,
+    order: Order::Free,
+    heads: false,
+    times: Times::General,
+    crit: Crit::SumWU,
+};
+
+/// How long the jobs take together.
+fn total_of(jobs: &[Job]) -> u64
+    requires few { length jobs.now ≤ MOST_JOBS }
+    requires needs { All (λ j. (0 < length j.needs) × (time_of j ≤ GREATEST)) jobs.now }
+    ensures { result ≡ sum_by time_of jobs.now }
+{
+    let mut total: u64 = 0;
+    for k in 0..jobs.len() {
+        total += first_time(&jobs[k]);
+    }
+    total
+}
+
+/// A number that rises with the due date.
+fn key_of(due: i64) -> u64
+    ensures { pos result ≡ due +ℤ pos (2 ^ 63) }
+{
+    (i128::from(due) + (1 << 63)) as u64
+}
+
+/// The keys of all jobs, in order of number.
+fn keys_of(alloc: Global, inst: &Instance) -> Result<Vec<u64>, NoMemory>
+    ensures count { IfOk result (λ keys. length keys.items ≡ length inst.now.jobs) }
+    ensures each { IfOk result (λ keys. (k : ℕ) → k < length inst.now.jobs → pos (slice_index keys.items k) ≡ (job_at inst.now k).due +ℤ pos (2 ^ 63)) }
+{
+    let jobs = inst.jobs.as_slice();
+    let mut keys = Vec::new(alloc);
+    for k in 0..jobs.len() {
+        let key = key_of(jobs[k].due);
+        if keys.push(key).is_err() {
+            return Err(NoMemory);
+        }
+    }
+    Ok(keys)
+}
+
+/// All jobs by due date, ties by number.
+fn jobs_by_date(alloc: Global, inst: &Instance) -> Result<Vec<u32>, NoMemory>
+    requires { length inst.now.jobs ≤ MOST_JOBS }
+    ensures all { IfOk result (λ order. IsPermutation (range_with_len 0 (length inst.now.jobs)) order.items) }
+    ensures sorted { IfOk result (λ order. AllPairs (IsDueBefore inst.now) order.items) }
+{
+    let keys = keys_of(alloc, inst)?;
+    jobs_by_key(alloc, &keys)
+}
+
+fn compare_numbers(a: &u32, b: &u32) -> Ordering
+    ensures { result ≡ nat_cmp a.now b.now }
+{
+    a.cmp(b)
+}
+
+fn sort_by_number(jobs: &mut Vec<u32>)
+    ensures permutation { IsPermutation jobs.old.items jobs.new.items }
+    ensures sorted { AllPairs (λ a b. a ≤ b) jobs.new.items }
+{
+    jobs.sort_unstable_by(|a, b| compare_numbers(a, b));
+}
+
+/// The jobs that are on time, and then the others, sorted.
+fn in_order(choice: Choice) -> Result<Vec<u32>, NoMemory>
+    ensures { IfOk result (λ o. (late : List ℕ) × IsPermutation choice.left.items late × AllPairs (λ a b. a ≤ b) late × (o.items ≡ choice.on_time.items ++ late)) }
+{
+    let Choice {
+        mut on_time,
+        mut left,
+        ..
+    } = choice;
+    sort_by_number(&mut left);
+    on_time.append(&mut left)?;
+    Ok(on_time)
+}
+
+/// The numbers of the jobs in the order of the answer.
+fn late_order(alloc: Global, inst: &Instance) -> Result<Vec<u32>, NoMemory>
+    requires few { length inst.now.jobs ≤ MOST_JOBS }
+    requires needs { All (λ j. (0 < length j.needs) × (0 < (slice_index_or j.needs 0 no_need).time)) inst.now.jobs }
+    requires short { All (λ j. (0 < length j.needs) × (time_of j ≤ GREATEST)) inst.now.jobs }
+    requires light { All (λ j. j.weight ≤ GREATEST) inst.now.jobs }
+    requires total { total_time inst.now ≤ GREATEST_TOTAL }
+    ensures { IfOk result (λ o. IsTableOrder inst.now o.items) }
+{
+    let total = total_of(inst.jobs.as_slice());
+    let order = jobs_by_date(alloc, inst)?;
+    let table = table_of(alloc, inst, &order, total)?;
+    let moment = best_moment(&table.values);
+    let width = total as usize + 1;
+    let choice = chosen(alloc, inst, &order, &table.marks, width, moment)?;
+    in_order(choice)
+}
+
+/// Finds a schedule of least weight of late jobs, where all jobs take at most a million together: of the jobs by due date, ties by number,
+/// it works out for each total time the greatest weight that is on time. The jobs of the best total run by due date, and then the late ones
+/// by number (Lawler and Moore 1969). It takes at most 60 MB.
+#[derive(Clone, Copy, Debug)]
+pub struct LateTable;
+
+impl Solver for LateTable {
+    ghost use Rattle.msp_weighted.specs.declared.late_table.TheConstants.{GREATEST_TOTAL};
+
+    ghost solved = { λ _. late_class };
+
+    ghost can_solve = { λ _ i. total_time i ≤ GREATEST_TOTAL };
+
+    ghost may_ask = { λ _ _. ⊤ };
+
+    fn target(&self) -> Class {
+        LATE_CLASS
+    }
+
+    fn fits(&self, inst: &Instance) -> bool {
+        total_of(inst.jobs.as_slice()) <= GREATEST_TOTAL
+    }
+
+    fn solve(&self, alloc: Global, inst: &Instance) -> Result<Solution, NoMemory>
+        requires inner { Inner inst.now }
+        requires class { inst.now.class ≡ late_class }
+        requires fits { total_time inst.now ≤ GREATEST_TOTAL }
+
+        // What every solver ensures.
+        ensures best { IfOk result (λ s. IsBest inst.now s) }
+        ensures bounds { IfOk result (λ s. IsAnswer inst.now s.schedule) }
+
+        // The form of the answer.
+        ensures order { IfOk result (λ s. IsLateOrder inst.now (map (λ p. p.job) s.schedule.pieces)) }
+        ensures settled { IfOk result (λ s. IsSettled s.schedule) }
+        ensures lowest { IfOk result (λ s. IsLowest s.cost) }
+    {
+        let order = late_order(alloc, inst)?;
+        solution_in_order(alloc, inst, &order)
+    }
+}

@@ -1,0 +1,176 @@
+// The table: for each total time the greatest weight that is on time, and which jobs gave it.
+ghost use Rattle.std.specs.Prelude.{◌≡◌, ◌≢◌, ◌↔◌, ℕ, ◌+◌, ◌-◌, ◌*◌, ◌/◌, ◌<◌, ◌≤◌, false, length, pos, ◌≤ℤ◌, ◌<ℤ◌, slice_index, slice_index_or, All, IfOk, if◌then◌else◌};
+ghost use Rattle.msp_instance.specs.declared.ranges.TheConstants.{GREATEST, MOST_JOBS};
+ghost use Rattle.msp_instance.specs.Instance.{no_need};
+ghost use Rattle.msp_weighted.specs.Values.{weight_at, is_better, is_marked, first_value, values_of, is_taken, IsPut, IsFilled};
+
+use crate::bits::set_bit;
+use msp_class::NoMemory;
+use msp_instance::{Instance, Job};
+use msp_route::first_time;
+use std::alloc::Global;
+
+/// For each total time the value of the jobs, and for each job and each total time a bit that says whether the job gave the value.
+#[derive(Drop)]
+pub(crate) struct Table {
+    pub(crate) values: Vec<u64>,
+    pub(crate) marks: Vec<u64>,
+}
+
+/// Raises the value at a moment where a job that ends there gives a greater one; whether it does.
+fn improve(values: &mut [u64], time: usize, weight: u64, moment: usize) -> bool
+    requires begins { time ≤ moment }
+    requires inside { moment < length values.old }
+    requires small { slice_index values.old (moment - time) ≤ GREATEST * MOST_JOBS }
+    requires light { weight ≤ GREATEST }
+    ensures better { result ≡ is_better weight (slice_index values.old (moment - time)) (slice_index values.old moment) }
+    ensures value { slice_index values.new moment ≡ (if result then slice_index values.old (moment - time) + weight else slice_index values.old moment) }
+    ensures others { (t : ℕ) → t ≢ moment → slice_index values.new t ≡ slice_index values.old t }
+{
+    let before = values[moment - time];
+    if before > 0 && before + weight > values[moment] {
+        values[moment] = before + weight;
+        return true;
+    }
+    false
+}
+
+/// The same, and a mark where it does.
+fn put_at(
+    values: &mut [u64],
+    marks: &mut [u64],
+    row: usize,
+    time: usize,
+    weight: u64,
+    moment: usize,
+)
+    requires begins { time ≤ moment }
+    requires inside { moment < length values.old }
+    requires small { slice_index values.old (moment - time) ≤ GREATEST * MOST_JOBS }
+    requires light { weight ≤ GREATEST }
+    requires row { row ≤ GREATEST * MOST_JOBS }
+    requires room { (row + moment) / 64 < length marks.old }
+    requires clear { is_marked marks.old (row + moment) ≡ false }
+    ensures value { slice_index values.new moment ≡ (if is_better weight (slice_index values.old (moment - time)) (slice_index values.old moment) then slice_index values.old (moment - time) + weight else slice_index values.old moment) }
+    ensures others { (t : ℕ) → t ≢ moment → slice_index values.new t ≡ slice_index values.old t }
+    ensures mark { is_marked marks.new (row + moment) ≡ is_better weight (slice_index values.old (moment - time)) (slice_index values.old moment) }
+    ensures kept { (m : ℕ) → m ≢ row + moment → is_marked marks.new m ≡ is_marked marks.old m }
+{
+    if improve(values, time, weight, moment) {
+        set_bit(marks, row + moment);
+    }
+}
+
+/// How many moments from 0 on are no later than a due date, of so many.
+fn moments_by(due: i64, width: usize) -> usize
+    ensures inside { result ≤ width }
+    ensures early { (t : ℕ) → t < result → pos t ≤ℤ due }
+    ensures late { (t : ℕ) → result ≤ t → t < width → due <ℤ pos t }
+{
+    if due < 0 {
+        return 0;
+    }
+    width.min(due as usize + 1)
+}
+
+/// Puts a job into the values, from its latest end to its earliest, so that it counts once; and marks its row of bits.
+fn put_job(
+    values: &mut [u64],
+    marks: &mut [u64],
+    row: usize,
+    time: usize,
+    weight: u64,
+    due: i64,
+)
+    requires time { 0 < time }
+    requires small { (t : ℕ) → t < length values.old → slice_index values.old t ≤ GREATEST * MOST_JOBS }
+    requires light { weight ≤ GREATEST }
+    requires row { row ≤ GREATEST * MOST_JOBS }
+    requires room { row + length values.old ≤ 64 * length marks.old }
+    requires clear { (m : ℕ) → row ≤ m → is_marked marks.old m ≡ false }
+    ensures { IsPut time weight due row (length values.old) values.old marks.old values.new marks.new }
+{
+    let mut end = moments_by(due, values.len());
+    while end > time {
+        end -= 1;
+        put_at(values, marks, row, time, weight, end);
+    }
+}
+
+/// Puts the jobs into the values, one after another.
+fn put_jobs(inst: &Instance, order: &[u32], values: &mut [u64], marks: &mut [u64])
+    requires few { length order.now ≤ MOST_JOBS }
+    requires jobs { All (λ j. j < length inst.now.jobs) order.now }
+    requires needs { All (λ j. (0 < length j.needs) × (0 < (slice_index_or j.needs 0 no_need).time)) inst.now.jobs }
+    requires light { All (λ j. j.weight ≤ GREATEST) inst.now.jobs }
+    requires width { length values.old ≤ GREATEST }
+    requires room { length order.now * length values.old ≤ 64 * length marks.old }
+    requires start { (t : ℕ) → t < length values.old → slice_index values.old t ≡ first_value t }
+    requires clear { (m : ℕ) → is_marked marks.old m ≡ false }
+    ensures { IsFilled inst.now order.now (length values.old) (length order.now) values.new marks.new }
+{
+    let jobs = inst.jobs.as_slice();
+    let width = values.len();
+    for k in 0..order.len() {
+        let job = &jobs[order[k] as usize];
+        let time = first_time(job) as usize;
+        put_job(values, marks, k * width, time, job.weight, job.due);
+    }
+}
+
+/// So many zeros.
+fn zeros(alloc: Global, count: usize) -> Result<Vec<u64>, NoMemory>
+    ensures count { IfOk result (λ words. length words.items ≡ count) }
+    ensures zero { IfOk result (λ words. (k : ℕ) → slice_index words.items k ≡ 0) }
+{
+    Ok(vec![in alloc; 0; count]?)
+}
+
+/// The values where there are no jobs: 1 for the time 0, and 0 for the others.
+fn first_values(alloc: Global, width: usize) -> Result<Vec<u64>, NoMemory>
+    requires { 0 < width }
+    ensures width { IfOk result (λ values. length values.items ≡ width) }
+    ensures first { IfOk result (λ values. (t : ℕ) → slice_index values.items t ≡ first_value t) }
+{
+    let mut values = zeros(alloc, width)?;
+    values[0] = 1;
+    Ok(values)
+}
+
+/// The table of the jobs in an order, for total times up to that of all jobs.
+pub(crate) fn table_of(
+    alloc: Global,
+    inst: &Instance,
+    order: &[u32],
+    total: u64,
+) -> Result<Table, NoMemory>
+    requires few { length order.now ≤ MOST_JOBS }
+    requires jobs { All (λ j. j < length inst.now.jobs) order.now }
+    requires needs { All (λ j. (0 < length j.needs) × (0 < (slice_index_or j.needs 0 no_need).time)) inst.now.jobs }
+    requires light { All (λ j. j.weight ≤ GREATEST) inst.now.jobs }
+    requires short { total < GREATEST }
+    ensures width { IfOk result (λ t. length t.values.items ≡ total + 1) }
+    ensures room { IfOk result (λ t. length order.now * (total + 1) ≤ 64 * length t.marks.items) }
+    ensures filled { IfOk result (λ t. IsFilled inst.now order.now (total + 1) (length order.now) t.values.items t.marks.items) }
+{
+    let width = total as usize + 1;
+    let mut values = first_values(alloc, width)?;
+    let mut marks = zeros(alloc, order.len() * width / 64 + 1)?;
+    put_jobs(inst, order, &mut values, &mut marks);
+    Ok(Table { values, marks })
+}
+
+/// The moment of the greatest value.
+pub(crate) fn best_moment(values: &[u64]) -> usize
+    requires { 0 < length values.now }
+    ensures inside { result < length values.now }
+    ensures best { (t : ℕ) → t < length values.now → slice_index values.now t ≤ slice_index values.now result }
+{
+    let mut best = 0;
+    for moment in 0..values.len() {
+        if values[moment] > values[best] {
+            best = moment;
+        }
+    }
+    best
+}
