@@ -1,5 +1,5 @@
 -- One job after another is put into the table.
-use Rattle.std.proofs.Common.{◌≡◌, ℕ, ◌+◌, ◌-◌, ◌*◌, ◌<◌, ◌≤◌, false, inl, inr, List, length, get_or, take, ℤ, All, refl, sym, ap, subst, ◌∙◌, arith}
+use Rattle.std.proofs.Common.{◌≡◌, ℕ, ◌+◌, ◌-◌, ◌*◌, ◌<◌, ◌≤◌, false, inl, inr, List, length, get_or, take, ℤ, All, sym, subst, ◌∙◌, arith}
 use Rattle.std.specs.Prelude.{slice_index}
 use Rattle.std.proofs.Math.Nat.{mul-le-mul_right}
 use Rattle.std.proofs.lemmas.Bool.{cases_lt}
@@ -10,7 +10,7 @@ use Rattle.msp_instance.specs.declared.Instance.{Instance}
 use Rattle.msp_instance.specs.Instance.{no_job}
 use Rattle.msp_schedule.specs.Rows.{time_at}
 use Rattle.msp_schedule.proofs.LateJobs.{due_at}
-use Rattle.msp_weighted.specs.Values.{weight_at, gains, value_with, first_value, values_of, is_taken, is_marked, IsPut, IsFilled}
+use Rattle.msp_weighted.specs.Values.{weight_at, first_value, values_of, is_taken, is_marked, IsPut, IsFilled}
 use Rattle.msp_weighted.proofs.ValueFacts.{gains-same, value_with-same, values-more, values_small}
 
 -- a row ends within those of all

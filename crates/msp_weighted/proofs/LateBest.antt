@@ -4,7 +4,7 @@ use Rattle.std.specs.List.{range_with_len}
 use native.Mathlib.Nat.{mul-le-mul_left}
 use Rattle.std.proofs.lemmas.List.Elements.{All-nil}
 use Rattle.std.proofs.lemmas.List.Sums.{sum_by-append}
-use Rattle.std.proofs.lemmas.List.Sorted.{IsPermutation-sym, IsPermutation-trans, IsPermutation-append_right}
+use Rattle.std.proofs.lemmas.List.Sorted.{IsPermutation-trans, IsPermutation-append_right}
 use Rattle.msp_class.proofs.IntegerRing.{≤ℤ_of_same, ≤ℤ_trans, <ℤ_weak, pos-le, *ℤ-one, one-*ℤ}
 use Rattle.msp_class.proofs.Sums.{OnceBelow, OnceBelow-from_permutation, OnceBelow-distinct, OnceBelow-contains, AllPairs-tail, sum_by-OnceBelow, sum_by-none, sum_by-mono, cond-no, cond-le}
 use Rattle.msp_instance.specs.declared.Arc.{Arc}

@@ -1,6 +1,5 @@
 -- The weight of late jobs as a cost, and what an instance of the table's class has.
-use Rattle.std.proofs.Common.{◌≡◌, ℕ, ◌+◌, ◌*◌, ◌≤◌, Bool, true, false, cond, not, List, [], ◌∷◌, get_or, filter, ℤ, pos, ◌*ℤ◌, All, sum_by, if◌then◌else◌, refl, sym, ap, subst, subst₂, ◌∙◌, arith, length}
-use Rattle.std.specs.Prelude.{int_lt}
+use Rattle.std.proofs.Common.{◌≡◌, ℕ, ◌+◌, ◌*◌, ◌≤◌, Bool, true, false, cond, not, List, [], ◌∷◌, get_or, filter, pos, ◌*ℤ◌, All, sum_by, if◌then◌else◌, refl, sym, ap, subst, ◌∙◌, arith, length}
 use Rattle.std.proofs.lemmas.List.Sums.{sum_by-cons}
 use Rattle.msp_class.specs.declared.class.Crit.TheVariants.{SumWU}
 use Rattle.msp_class.specs.Crit.{is_greatest, uses_weight}

@@ -1,9 +1,9 @@
 -- One job is put into the table, from its latest end to its earliest.
-use Rattle.std.proofs.Common.{◌≡◌, ◌≢◌, ℕ, ◌+◌, ◌-◌, ◌*◌, ◌<◌, ◌≤◌, Bool, true, false, cond, inl, inr, List, length, get_or, ℤ, pos, ◌≤ℤ◌, ◌<ℤ◌, refl, sym, ap, subst, ◌∙◌, arith}
+use Rattle.std.proofs.Common.{◌≡◌, ◌≢◌, ℕ, ◌+◌, ◌-◌, ◌<◌, ◌≤◌, false, cond, inl, inr, List, get_or, ℤ, pos, ◌≤ℤ◌, ◌<ℤ◌, refl, sym, ap, subst, ◌∙◌, arith}
 use Rattle.std.specs.Prelude.{slice_index}
 use Rattle.std.proofs.lemmas.Bool.{cases_lt, cases_eq}
 use Rattle.msp_weighted.specs.Values.{is_better, gains, value_with, is_marked, IsPut}
-use Rattle.msp_weighted.proofs.ValueFacts.{gains-yes, gains-no, gains_early, gains_late, gains_inside, gains-same, value_with-same, value_with-is}
+use Rattle.msp_weighted.proofs.ValueFacts.{gains-no, gains_early, gains_late, gains_inside, value_with-is}
 
 -- the moments from `end` on are done
 pub record IsRow (time weight : ℕ) (due : ℤ) (row width end : ℕ) (values marks values' marks' : List ℕ) : Type 0 where

@@ -1,5 +1,5 @@
 -- A list that is split in two that keep its order.
-use Rattle.std.proofs.Common.{List, ◌∷◌, ◌++◌, ℕ, All, AllPairs, IsPermutation}
+use Rattle.std.proofs.Common.{List, ◌++◌, ℕ, AllPairs, IsPermutation}
 use Rattle.std.proofs.lemmas.List.Sorted.{IsPermutation-refl, IsPermutation-sym, IsPermutation-trans, IsPermutation-cons, IsPermutation-middle, All-permutation}
 use Rattle.std.proofs.lemmas.List.Kept.{AllPairs-cons}
 use Rattle.msp_class.proofs.Sums.{AllPairs-head, AllPairs-tail}

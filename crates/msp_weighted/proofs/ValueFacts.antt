@@ -1,17 +1,16 @@
 -- The values of the table: how one job changes them, that no choice of jobs which is on time in a row weighs more, and their size.
-use Rattle.std.proofs.Common.{◌≡◌, ℕ, zero, suc, ◌+◌, ◌-◌, ◌*◌, ◌<◌, ◌≤◌, Bool, true, false, cond, eqb, not, List, [], ◌∷◌, ◌++◌, length, get_or, take, filter, ℤ, pos, ◌≤ℤ◌, ◌<ℤ◌, All, sum_by, refl, sym, ap, ap₂, subst, ◌∙◌, arith}
+use Rattle.std.proofs.Common.{◌≡◌, ℕ, ◌+◌, ◌-◌, ◌*◌, ◌<◌, ◌≤◌, Bool, true, false, cond, eqb, not, List, [], ◌∷◌, ◌++◌, length, get_or, take, filter, ℤ, pos, ◌≤ℤ◌, ◌<ℤ◌, All, sum_by, refl, sym, ap, ap₂, subst, ◌∙◌, arith}
 use Rattle.std.specs.Prelude.{int_lt, ◌&&◌, nat_lt, nat_le}
 use Rattle.std.proofs.lemmas.Int.{ints}
-use Rattle.std.proofs.lemmas.Bool.{and_parts, and_cases, and_left, eqb-true, ltb-true, ltb-false, leb-true, leb-false, le-leb, lt-leb, lt-ltb}
+use Rattle.std.proofs.lemmas.Bool.{and_parts, and_left, eqb-true, ltb-true, ltb-false, leb-true, le-leb, lt-leb, lt-ltb}
 use Rattle.std.proofs.lemmas.List.{take_more}
 use Rattle.std.proofs.lemmas.List.Elements.{All-head, All-tail}
 use Rattle.std.proofs.lemmas.List.Sums.{sum_by-cons}
 use Rattle.msp_instance.specs.declared.Instance.{Instance}
-use Rattle.msp_instance.specs.Instance.{job_at}
 use Rattle.msp_schedule.specs.Rows.{time_at}
 use Rattle.msp_schedule.proofs.LateJobs.{not_late, due_at}
 use Rattle.msp_weighted.specs.Late.{EndInTime}
-use Rattle.msp_weighted.specs.Values.{weight_at, is_better, gains, value_with, values_after, first_value, values_of, is_taken}
+use Rattle.msp_weighted.specs.Values.{weight_at, is_better, gains, value_with, values_after, first_value, values_of}
 
 in_time : (d : ℤ) (t : ℕ) → not (int_lt d (pos t)) ≡ true → pos t ≤ℤ d
 in_time d t h = by (int_lt d (pos t)) refl h

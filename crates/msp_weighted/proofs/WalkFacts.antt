@@ -1,12 +1,12 @@
 -- The way back through the marks, from the last job to the first.
-use Rattle.std.proofs.Common.{◌≡◌, ℕ, zero, suc, ◌+◌, ◌-◌, ◌*◌, ◌<◌, ◌≤◌, Bool, true, false, List, [], ◌∷◌, ◌++◌, length, get_or, take, drop, reverse, pos, ◌≤ℤ◌, sum_by, refl, sym, ap, subst, subst₂, ◌∙◌, arith, drop-cons}
+use Rattle.std.proofs.Common.{◌≡◌, ℕ, suc, ◌+◌, ◌-◌, ◌<◌, ◌≤◌, Bool, true, false, List, [], ◌∷◌, ◌++◌, length, get_or, take, drop, reverse, pos, ◌≤ℤ◌, sum_by, refl, sym, ap, subst, subst₂, ◌∙◌, arith, drop-cons}
 use Rattle.std.proofs.lemmas.List.{take_all, reverse-append}
 use Rattle.std.proofs.lemmas.List.Sums.{sum_by-cons}
 use Rattle.msp_instance.specs.declared.Instance.{Instance}
 use Rattle.msp_schedule.specs.Rows.{time_at}
 use Rattle.msp_schedule.proofs.LateJobs.{due_at}
 use Rattle.msp_weighted.specs.Late.{EndInTime}
-use Rattle.msp_weighted.specs.Values.{weight_at, gains, value_with, first_value, values_of, is_taken, IsSplit, empty, first, second, IsChosen}
+use Rattle.msp_weighted.specs.Values.{weight_at, value_with, values_of, is_taken, IsSplit, empty, first, second, IsChosen}
 use Rattle.msp_weighted.proofs.ValueFacts.{gains-yes, gains-no, values-more, first_is}
 
 -- of the jobs from the place on those are chosen that take the time from the moment t on, and the others are left

@@ -1,7 +1,7 @@
 -- The table of the weight that is on time, for each total time, and the choice of jobs that it gives. No public contract cites this file.
 --
 -- A value is one more than a weight, and 0 where no choice of jobs takes the time.
-use Rattle.std.specs.Prelude.{◌≡◌, ℕ, ◌+◌, ◌-◌, ◌*◌, ◌/◌, ◌%◌, ◌<◌, ◌≤◌, Bool, false, not, ◌&&◌, ◌==◌, List, [], ◌∷◌, ◌++◌, length, take, filter, reverse, slice_index, slice_index_or, ℤ, pos, int_lt, nat_lt, nat_le, AllPairs, IsPermutation, sum_by, if◌then◌else◌}
+use Rattle.std.specs.Prelude.{◌≡◌, ℕ, ◌+◌, ◌-◌, ◌*◌, ◌/◌, ◌%◌, ◌<◌, ◌≤◌, Bool, false, not, ◌&&◌, ◌==◌, List, [], ◌∷◌, ◌++◌, length, take, filter, reverse, slice_index, ℤ, pos, int_lt, nat_lt, nat_le, AllPairs, IsPermutation, sum_by, if◌then◌else◌}
 use Rattle.std.specs.Int.{bit_at}
 use Rattle.std.specs.List.{range_with_len}
 use Rattle.msp_instance.specs.declared.Instance.{Instance}

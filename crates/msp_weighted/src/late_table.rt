@@ -131,9 +131,10 @@ fn late_order(alloc: Global, inst: &Instance) -> Result<Vec<u32>, NoMemory>
     in_order(choice)
 }
 
-/// Finds a schedule of least weight of late jobs, where all jobs take at most a million together: of the jobs by due date, ties by number,
-/// it works out for each total time the greatest weight that is on time. The jobs of the best total run by due date, and then the late ones
-/// by number (Lawler and Moore 1969). It takes at most 60 MB.
+/// Finds a schedule with the least weight of late jobs, where all jobs together take at most a million: of the jobs by due date, ties by
+/// number, one after another, it keeps for each total time the greatest weight that is on time (Lawler and Moore 1969). The jobs that gave
+/// the greatest weight run by due date, and then the others by number. The table takes 8 bytes for each total time, and a bit for each job
+/// and each total time.
 #[derive(Clone, Copy, Debug)]
 pub struct LateTable;
 

@@ -74,14 +74,7 @@ fn moments_by(due: i64, width: usize) -> usize
 }
 
 /// Puts a job into the values, from its latest end to its earliest, so that it counts once; and marks its row of bits.
-fn put_job(
-    values: &mut [u64],
-    marks: &mut [u64],
-    row: usize,
-    time: usize,
-    weight: u64,
-    due: i64,
-)
+fn put_job(values: &mut [u64], marks: &mut [u64], row: usize, time: usize, weight: u64, due: i64)
     requires time { 0 < time }
     requires small { (t : ℕ) → t < length values.old → slice_index values.old t ≤ GREATEST * MOST_JOBS }
     requires light { weight ≤ GREATEST }

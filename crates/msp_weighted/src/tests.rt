@@ -1,6 +1,5 @@
 // The least weight of late jobs, of small instances.
 use crate::LateTable;
-use msp_instance::Instance;
 use msp_route::Solver;
 use msp_samples::{JobData, instance, piece, timed};
 use msp_schedule::Solution;
@@ -15,12 +14,14 @@ fn job(time: u64, due: i64, weight: u64) -> JobData {
     }
 }
 
-fn one_machine(alloc: Global, jobs: &[JobData]) -> Option<Instance> {
-    instance(alloc, LateTable.target(), 1, jobs, &[])
+/// Whether the jobs may be solved.
+fn fits(alloc: Global, jobs: &[JobData]) -> Option<bool> {
+    let inst = instance(alloc, LateTable.target(), 1, jobs, &[])?;
+    Some(LateTable.fits(&inst))
 }
 
 fn best(alloc: Global, jobs: &[JobData]) -> Option<Solution> {
-    let inst = one_machine(alloc, jobs)?;
+    let inst = instance(alloc, LateTable.target(), 1, jobs, &[])?;
     if !LateTable.fits(&inst) {
         return None;
     }
@@ -53,8 +54,8 @@ fn late_jobs_run_last_by_number(rt: HostRuntime) {
 
 #[test]
 fn a_million_is_the_greatest_total(rt: HostRuntime) {
-    let fits = one_machine(rt.alloc(), &[job(500_000, 1, 1), job(500_000, 1, 1)]);
-    let above = one_machine(rt.alloc(), &[job(500_001, 1, 1), job(500_000, 1, 1)]);
-    assert!(rt; LateTable.fits(&fits.expect(&rt, "there is memory")));
-    assert!(rt; !LateTable.fits(&above.expect(&rt, "there is memory")));
+    let within = [job(500_000, 1, 1), job(500_000, 1, 1)];
+    let above = [job(500_001, 1, 1), job(500_000, 1, 1)];
+    assert_eq!(rt; fits(rt.alloc(), &within), Some(true));
+    assert_eq!(rt; fits(rt.alloc(), &above), Some(false));
 }

@@ -19,12 +19,7 @@ pub(crate) struct Choice {
 }
 
 /// Puts a job before those that are on time, or to those that are left.
-fn take_or_leave(
-    choice: &mut Choice,
-    job: u32,
-    time: usize,
-    taken: bool,
-) -> Result<(), NoMemory>
+fn take_or_leave(choice: &mut Choice, job: u32, time: usize, taken: bool) -> Result<(), NoMemory>
     requires { taken ≡ true → time ≤ choice.old.moment }
     ensures taken { taken ≡ true → IfOk result (λ _. (choice.new.on_time.items ≡ choice.old.on_time.items ++ job ∷ []) × (choice.new.left.items ≡ choice.old.left.items) × (choice.new.moment ≡ choice.old.moment - time)) }
     ensures left { taken ≡ false → IfOk result (λ _. (choice.new.on_time.items ≡ choice.old.on_time.items) × (choice.new.left.items ≡ choice.old.left.items ++ job ∷ []) × (choice.new.moment ≡ choice.old.moment)) }

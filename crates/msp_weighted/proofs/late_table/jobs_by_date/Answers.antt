@@ -1,4 +1,4 @@
-use Rattle.std.proofs.Common.{ℕ, ◌≡◌, length, Ok, Err, Result, IsPermutation, ap, ◌∙◌}
+use Rattle.std.proofs.Common.{◌≡◌, length, Ok, Err, Result, IsPermutation, ap, ◌∙◌}
 use Rattle.std.specs.Prelude.{IfOk}
 use Rattle.std.specs.List.{range_with_len}
 use Rattle.msp_weighted.proofs.DateKeys.{by_date, each_at}

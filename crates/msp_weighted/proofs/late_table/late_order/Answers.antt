@@ -1,8 +1,7 @@
-use Rattle.std.proofs.Common.{ℕ, ◌≡◌, ◌+◌, ◌<◌, ◌≤◌, List, length, All, AllPairs, sym, ap, ◌∙◌, subst, arith, sum_by}
+use Rattle.std.proofs.Common.{ℕ, ◌+◌, ◌<◌, List, length, All, sym, ap, ◌∙◌, subst, arith, sum_by}
 use Rattle.std.proofs.lemmas.Result.{IfOk-weaker}
-use Rattle.msp_instance.specs.declared.Instance.{Instance}
-use Rattle.msp_weighted.specs.Late.{time_of, total_time}
-use Rattle.msp_weighted.specs.Values.{values_of, IsFilled, IsChosen, IsTableOrder}
+use Rattle.msp_weighted.specs.Late.{time_of}
+use Rattle.msp_weighted.specs.Values.{values_of, IsChosen, IsTableOrder}
 use Rattle.msp_weighted.proofs.TableOrder.{order_count, order_within, some_value, table_order, filled_at, best_at}
 use Rattle.msp_weighted.proofs.late_table.late_order.Goals as goal
 

@@ -1,4 +1,4 @@
-use Rattle.std.proofs.Common.{ℕ, ℤ, ◌≡◌, ◌+◌, ◌-◌, length, rules, subst, arith}
+use Rattle.std.proofs.Common.{ℤ, ◌-◌, length, rules, subst, arith}
 use Rattle.std.proofs.lemmas.Int.{to_z-of_z}
 use Rattle.std.specs.Int.{w64}
 use Rattle.msp_weighted.specs.Values.{IsPut}

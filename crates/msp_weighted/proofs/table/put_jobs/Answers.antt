@@ -1,8 +1,7 @@
-use Rattle.std.proofs.Common.{ℕ, ◌≡◌, ◌+◌, ◌*◌, ◌<◌, length, get_or, refl, rules, sym, ap, ◌∙◌, subst, arith}
+use Rattle.std.proofs.Common.{◌*◌, ◌<◌, length, get_or, rules, ap, ◌∙◌, arith}
 use Rattle.std.proofs.lemmas.Int.{to_z-of_z}
 use Rattle.std.specs.Int.{w64}
 use Rattle.msp_route.proofs.JobReads.{read_job, time_read}
-use Rattle.msp_weighted.specs.Values.{IsFilled}
 use Rattle.msp_weighted.proofs.FilledFacts.{filled-start, filled_small, filled_read, weights_light, row_room, put_width}
 use Rattle.msp_weighted.proofs.table.put_jobs.Goals as goal
 

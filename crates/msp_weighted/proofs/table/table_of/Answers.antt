@@ -1,4 +1,4 @@
-use Rattle.std.proofs.Common.{ℕ, ap, sym, ◌∙◌, get_or, ◌/◌}
+use Rattle.std.proofs.Common.{ap, ◌∙◌, get_or, ◌/◌}
 use Rattle.msp_weighted.proofs.BitFacts.{none_marked}
 use Rattle.msp_weighted.proofs.table.table_of.Goals as goal
 

@@ -1,7 +1,6 @@
-use Rattle.std.proofs.Common.{ℕ, ◌≡◌, ◌+◌, ◌-◌, ◌*◌, ◌<◌, length, get_or, refl, sym, ap, ◌∙◌, arith}
+use Rattle.std.proofs.Common.{◌-◌, ◌<◌, length, get_or, refl, ◌∙◌, arith}
 use Rattle.msp_route.proofs.JobReads.{time_read}
-use Rattle.msp_weighted.specs.Values.{is_taken}
-use Rattle.msp_weighted.proofs.WalkFacts.{walk-start, walk-next, walk_time, walk-end}
+use Rattle.msp_weighted.proofs.WalkFacts.{walk-start, walk-next, walk_time}
 use Rattle.msp_weighted.proofs.walk.chosen.Goals as goal
 
 pub loop-place-init : goal.loop-place-init
@@ -31,6 +30,3 @@ loop-place-preserved c =
     (c.is_set-taken.ensures ∙ c.requires.marks (c.loop-place.place - 1) c.loop-place.choice.moment k c.loop-place.invariant.early)
     c.in_ok-take_or_leave.ensures.taken c.in_ok-take_or_leave.ensures.left in
     record { walk = next.0; early = omega (arith, next.1, c.loop-place.invariant.early) }
-
-
-
