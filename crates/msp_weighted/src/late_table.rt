@@ -1,5 +1,5 @@
 // The solver: the jobs that the table chooses by due date, and then the others by number.
-ghost use Rattle.std.specs.Prelude.{◌≡◌, ℕ, ◌+◌, ◌*◌, ◌<◌, ◌≤◌, ◌⊎◌, ◌++◌, List, length, map, pos, ◌^◌, ◌+ℤ◌, slice_index, slice_index_or, sum_by, All, AllPairs, IfOk, IsPermutation, ⊤};
+ghost use Rattle.std.specs.Prelude.{◌≡◌, ℕ, ◌+◌, ◌<◌, ◌≤◌, ◌++◌, List, length, map, pos, ◌^◌, ◌+ℤ◌, slice_index, slice_index_or, sum_by, All, AllPairs, IfOk, IsPermutation, ⊤};
 ghost use Rattle.std.specs.List.{range_with_len};
 ghost use Rattle.std.specs.Ordering.{nat_cmp};
 ghost use Rattle.msp_instance.specs.declared.ranges.TheConstants.{GREATEST, MOST_JOBS};

@@ -1,8 +1,8 @@
 // The table: for each total time the greatest weight that is on time, and which jobs gave it.
-ghost use Rattle.std.specs.Prelude.{◌≡◌, ◌≢◌, ◌↔◌, ℕ, ◌+◌, ◌-◌, ◌*◌, ◌/◌, ◌<◌, ◌≤◌, false, length, pos, ◌≤ℤ◌, ◌<ℤ◌, slice_index, slice_index_or, All, IfOk, if◌then◌else◌};
+ghost use Rattle.std.specs.Prelude.{◌≡◌, ◌≢◌, ℕ, ◌+◌, ◌-◌, ◌*◌, ◌/◌, ◌<◌, ◌≤◌, false, length, pos, ◌≤ℤ◌, ◌<ℤ◌, slice_index, slice_index_or, All, IfOk, if◌then◌else◌};
 ghost use Rattle.msp_instance.specs.declared.ranges.TheConstants.{GREATEST, MOST_JOBS};
 ghost use Rattle.msp_instance.specs.Instance.{no_need};
-ghost use Rattle.msp_weighted.specs.Values.{weight_at, is_better, is_marked, first_value, values_of, is_taken, IsPut, IsFilled};
+ghost use Rattle.msp_weighted.specs.Values.{is_better, is_marked, first_value, IsPut, IsFilled};
 
 use crate::bits::set_bit;
 use msp_class::NoMemory;
