@@ -1,0 +1,5 @@
+pub mod Fastest
+pub mod Soundness
+pub mod Facts
+pub mod Decided
+pub mod Apart

@@ -1,0 +1,25 @@
+-- The limits within which certificates are judged.
+use Rattle.std.specs.Prelude.{◌≡◌, ℕ, ◌+◌, ◌≤◌, length, All, if◌then◌else◌, ◌==◌}
+use Rattle.msp_class.specs.declared.environments.TheConstants.{MOST_OPERATIONS}
+use Rattle.msp_instance.specs.declared.ranges.TheConstants.{GREATEST}
+use Rattle.msp_instance.specs.declared.Need.{Need}
+use Rattle.msp_instance.specs.declared.Job.{Job}
+use Rattle.msp_instance.specs.declared.Arc.{Arc}
+
+-- A job has at least one need and at most 32, and each takes at most 1,000,000,000.
+pub record HasSmallNeeds (j : Job) : Type 0 where
+  pub some : 1 ≤ length j.needs
+  pub few : length j.needs ≤ MOST_OPERATIONS
+  pub short : All (λ n. n.time ≤ GREATEST) j.needs
+
+-- How long an operation takes on a machine: its time there, and no time on another one.
+abbrev pub time_there : ℕ → Need → ℕ
+time_there machine n = if n.machine == machine then n.time else 0
+
+-- So many jobs, lists, levels, heads and prices a proof has at most.
+abbrev pub MOST_ENTRIES : ℕ
+MOST_ENTRIES = 20000
+
+-- The arc leads from the job to one that is at most one level lower.
+abbrev pub Supports : (ℕ → ℕ) → ℕ → Arc → Type 0
+Supports level j a = (a.before ≡ j) × (level j ≤ level a.after + 1)

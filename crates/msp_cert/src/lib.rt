@@ -1,0 +1,51 @@
+//! Certificates of lower bounds: what shows that no feasible schedule costs less, without a solver.
+//!
+//! It stands on `msp_schedule` alone. The layers above use the definitions `HoldsFor`, `IsValue` and `IsAccepted`, which say when the
+//! evidence of a proof holds for an instance, what its value is, and when a certificate is accepted, and `law_of_certificates`: where a
+//! certificate is accepted, no feasible schedule over any unit costs less than its bound. `group_shows`, `machine_shows`, `line_shows` and
+//! `levels_show` decide exactly whether a proof of their kind shows a bound.
+#![tactic(auto)]
+
+use msp_class::List;
+use msp_schedule::Frac;
+
+mod bound;
+mod group;
+mod laws;
+mod levels;
+mod loads;
+mod shops;
+#[cfg(test)]
+mod tests;
+
+pub use group::group_shows;
+pub use laws::law_of_certificates;
+pub use levels::levels_show;
+pub use shops::{line_shows, machine_shows};
+
+/// What shows a lower bound on the cost of every feasible schedule. Jobs and machines are numbered from 0.
+#[derive(Drop)]
+pub enum Proof {
+    /// Some jobs: the fastest machines that they can use need the time for them.
+    Group { jobs: List<u32> },
+    /// A machine of a shop: it needs the time for its operations.
+    Machine { machine: u32 },
+    /// A job of a shop: it needs the time for its operations.
+    Line { job: u32 },
+    /// A level for each job, no more than the length of a path that leaves it: jobs of at least the level `tail` end so many units before
+    /// the last job ends.
+    Levels { level: List<u32>, tail: u32 },
+    /// Lists of jobs, each of which is done only after the one before it.
+    Segments { lists: List<List<u32>> },
+    /// A moment for each job before which it cannot begin, and some jobs: on one machine one of them ends when all can be done.
+    Block { head: List<u64>, jobs: List<u32> },
+    /// A price for each job, and for each position on each machine: a job costs at least both prices of the position that it takes.
+    Prices { row: List<i128>, column: List<i128> },
+}
+
+/// A bound on the cost of every feasible schedule, and what shows it.
+#[derive(Drop)]
+pub struct Certificate {
+    pub bound: Frac,
+    pub proof: Proof,
+}
