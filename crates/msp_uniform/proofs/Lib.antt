@@ -1,0 +1,2 @@
+pub mod PrefixFacts
+pub mod LeastEnd

@@ -1,0 +1,87 @@
+-- Works fit into places, turn after turn.
+use Rattle.std.proofs.Common.{◌≡◌, ℕ, zero, suc, ◌+◌, ◌*◌, ◌<◌, ◌≤◌, ◌⊎◌, inl, inr, Bool, true, false, leb, refl, sym, ap, subst, ◌∙◌, arith}
+use Rattle.std.proofs.lemmas.Bool.{leb-true, leb-false}
+use Rattle.msp_class.specs.Sums.{total_below}
+use Rattle.msp_class.proofs.Sums.{total_below-mono, total_below-same, total_below-scale}
+use Rattle.std.proofs.Math.Nat.{mul-le-mul_left}
+use Rattle.msp_uniform.specs.Prefixes.{DoFit, Falls, IsMerged}
+
+-- the works after the first
+abbrev pub rest : (ℕ → ℕ) → ℕ → ℕ
+rest works i = works (suc i)
+
+pub total_below-first : (k : ℕ) (f : ℕ → ℕ) → total_below (suc k) f ≡ f 0 + total_below k (rest f)
+total_below-first zero f = omega arith
+total_below-first (suc k) f = omega (arith, total_below-first k f)
+
+split_at : (k r : ℕ) → (k ≤ r) ⊎ (r < k)
+split_at k r = by (leb k r) refl
+  where
+    by : (v : Bool) → leb k r ≡ v → (k ≤ r) ⊎ (r < k)
+    by true e = inl (leb-true k r e)
+    by false e = inr (leb-false k r e)
+
+module _ (h r : ℕ) (holds works holds' : ℕ → ℕ) (m : IsMerged h r holds (works 0) holds') where
+  below : (k : ℕ) → k ≤ r → total_below k holds' ≡ total_below k holds
+  below k l = total_below-same k holds' holds (λ i b. m.before i (omega arith))
+
+  at_place : total_below (suc r) holds' + works 0 ≡ total_below (suc (suc r)) holds
+  at_place = by (total_below r holds') (total_below r holds) (holds' r) (below r (omega arith)) m.merged
+    where
+      by : (a b c : ℕ) → a ≡ b → c + works 0 ≡ holds r + holds (suc r) → a + c + works 0 ≡ b + holds r + holds (suc r)
+      by a b c e g = omega (arith, e, g)
+
+  step : (n : ℕ) → r ≤ n → suc (suc n) < h → total_below (suc n) holds' + works 0 ≡ total_below (suc (suc n)) holds → total_below (suc (suc n)) holds' + works 0 ≡ total_below (suc (suc (suc n))) holds
+  step n l b e = omega (arith, e, m.behind (suc n) (omega arith) b)
+
+  same_or_less : (n : ℕ) → r ≤ n → (r ≡ n) ⊎ (suc r ≤ n)
+  same_or_less n l = grind arith
+
+  above : (n : ℕ) → r ≤ n → suc n < h → total_below (suc n) holds' + works 0 ≡ total_below (suc (suc n)) holds
+  above zero l b = let is : r ≡ 0 = omega arith in subst (λ x. total_below (suc x) holds' + works 0 ≡ total_below (suc (suc x)) holds) is at_place
+  above (suc n) l b = elim (same_or_less (suc n) l) [
+    | inl e ↦ subst (λ x. total_below (suc x) holds' + works 0 ≡ total_below (suc (suc x)) holds) e at_place
+    | inr c ↦ step n (omega arith) b (above n (omega arith) (omega arith))
+  ]
+
+-- a work takes two places as far as it can
+module _ (h r n : ℕ) (holds works holds' : ℕ → ℕ) (inside : suc r < h) (fit : DoFit h holds (suc n) works) (long : Falls works (suc n)) (m : IsMerged h r holds (works 0) holds') where
+  -- each of the works left is at most each place up to r
+  short_firsts : (k : ℕ) → k ≤ r → ((i : ℕ) → i < k → rest works i ≤ holds i) → total_below k (rest works) ≤ total_below k holds'
+  short_firsts k l s = omega (arith, total_below-mono k (rest works) holds s, below h r holds works holds' m k l)
+
+  later_firsts : (k : ℕ) → r ≤ k → suc k < h → total_below (suc k) (rest works) ≤ total_below (suc k) holds'
+  later_firsts k b l = omega (arith, above h r holds works holds' m k b l, total_below-first (suc k) works, fit.firsts (suc (suc k)) (omega arith))
+
+  pub DoFit-merged : ((k i : ℕ) → k ≤ r → i < k → rest works i ≤ holds i) → (g : ℕ) → h ≡ suc (suc g) → DoFit (suc g) holds' n (rest works)
+  DoFit-merged s g e = record {
+    firsts = λ k l. by k (split_at k r) l;
+    all = omega (arith, subst (λ x. total_below (suc g) holds' + works 0 ≡ total_below x holds) (sym e) (above h r holds works holds' m g (omega (arith, e, inside)) (omega (arith, e))), fit.all, total_below-first n works);
+  }
+    where
+      by : (k : ℕ) → (k ≤ r) ⊎ (r < k) → k ≤ suc g → total_below k (rest works) ≤ total_below k holds'
+      by k (inl b) l = short_firsts k b (λ i c. s k i b c)
+      by (suc k) (inr b) l = later_firsts k (omega arith) (omega (arith, e))
+      by zero (inr b) l = absurd (omega arith)
+
+-- a work takes the last place whole
+pub DoFit-last : (h n : ℕ) (holds works : ℕ → ℕ) → DoFit (suc h) holds (suc n) works → works 0 ≡ holds h → ((i : ℕ) → i < h → rest works i ≤ holds i) → DoFit h holds n (rest works)
+DoFit-last h n holds works fit e s = record {
+  firsts = λ k l. total_below-mono k (rest works) holds (λ i c. s i (omega arith));
+  all = omega (arith, fit.all, total_below-first n works, e);
+}
+
+-- without places there is no work
+pub DoFit-none : (n : ℕ) (holds works : ℕ → ℕ) → DoFit 0 holds (suc n) works → 1 ≤ works 0 → ⊥
+DoFit-none n holds works fit l = absurd (omega (arith, fit.all, total_below-first n works))
+
+-- the longest work is at most the first place
+pub DoFit-longest : (h n : ℕ) (holds works : ℕ → ℕ) → DoFit (suc h) holds n works → works 0 ≤ holds 0
+DoFit-longest h n holds works fit = omega (arith, fit.firsts 1 (omega arith))
+
+-- over a finer unit
+pub DoFit-scaled : (d h n : ℕ) (holds works : ℕ → ℕ) → DoFit h holds n works → DoFit h (λ i. d * holds i) n (λ i. d * works i)
+DoFit-scaled d h n holds works fit = record {
+  firsts = λ k l. omega (arith, total_below-scale k d holds, total_below-scale k d works, mul-le-mul_left d (fit.firsts k l));
+  all = omega (arith, total_below-scale h d holds, total_below-scale n d works, mul-le-mul_left d fit.all);
+}

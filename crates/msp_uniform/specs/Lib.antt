@@ -1,0 +1,2 @@
+pub mod Uniform
+pub mod Prefixes

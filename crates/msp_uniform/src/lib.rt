@@ -1,0 +1,6 @@
+//! Preemptive jobs on uniform machines: no schedule ends before the greatest of the works over the speeds.
+#![tactic(auto)]
+
+mod laws;
+
+pub use laws::law_of_least_end;
