@@ -1,2 +1,4 @@
 pub mod PrefixFacts
 pub mod LeastEnd
+pub mod SegmentFacts
+pub mod LaidFacts

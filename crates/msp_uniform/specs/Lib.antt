@@ -1,2 +1,3 @@
 pub mod Uniform
 pub mod Prefixes
+pub mod Segments

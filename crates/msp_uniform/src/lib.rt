@@ -2,5 +2,7 @@
 #![tactic(auto)]
 
 mod laws;
+mod laying;
+mod segments;
 
 pub use laws::law_of_least_end;

@@ -1,0 +1,54 @@
+-- What segments hold that are laid in two parts.
+use Rattle.std.proofs.Common.{◌≡◌, ℕ, zero, suc, ◌+◌, ◌*◌, ◌-◌, ◌<◌, ◌≤◌, ◌⊎◌, inl, inr, Bool, true, false, cond, eqb, List, [], ◌∷◌, ◌++◌, length, take, drop, get_or, All, refl, sym, ap, ap₂, subst, subst₂, ◌∙◌, arith}
+use Rattle.std.specs.Int.{◌∣◌}
+use Rattle.std.proofs.lemmas.List.Elements.{All-nil, All-cons, All-head, All-tail}
+use Rattle.msp_class.proofs.Sums.{sum_by-cons}
+use Rattle.msp_uniform.specs.declared.segments.Segment.{Segment}
+use Rattle.msp_uniform.specs.Segments.{amount, IsLaid, gained, CanGain, IsFirst, IsSecond, gain}
+
+module _ {First Second : Segment → Segment → Type 0} where
+  pub IsLaid-append : {zs ws : List ℕ} {xs ys us vs cs ds : List Segment} → IsLaid First Second zs xs us vs → IsLaid First Second ws ys cs ds → IsLaid First Second (zs ++ ws) (xs ++ ys) (us ++ cs) (vs ++ ds)
+  IsLaid-append IsLaid.none k = k
+  IsLaid-append (IsLaid.first f e h) k = IsLaid.first f e (IsLaid-append h k)
+  IsLaid-append (IsLaid.second f e h) k = IsLaid.second f e (IsLaid-append h k)
+  IsLaid-append (IsLaid.both f g p q e h) k = IsLaid.both f g p q e (IsLaid-append h k)
+
+  pub gained-append : (rate : Segment → ℕ) {zs : List ℕ} {xs us vs : List Segment} → IsLaid First Second zs xs us vs → (ws : List ℕ) (ys : List Segment) → gained rate (zs ++ ws) (xs ++ ys) ≡ gained rate zs xs + gained rate ws ys
+  gained-append rate IsLaid.none ws ys = omega arith
+  gained-append rate (IsLaid.first f e h) ws ys = omega (arith, gained-append rate h ws ys)
+  gained-append rate (IsLaid.second f e h) ws ys = omega (arith, gained-append rate h ws ys)
+  gained-append rate (IsLaid.both f g p q e h) ws ys = omega (arith, gained-append rate h ws ys)
+
+  -- what holds of both parts holds of all
+  module _ (P Q : Segment → Type 0) (one : (x y : Segment) → P x → First x y → 1 ≤ y.length → Q y) (two : (x y : Segment) → P x → Second x y → 1 ≤ y.length → Q y) (lasts : (x : Segment) → P x → 1 ≤ x.length) where
+    pub All-firsts : {zs : List ℕ} {xs us vs : List Segment} → IsLaid First Second zs xs us vs → All P xs → All Q us
+    All-firsts IsLaid.none p = All-nil Q
+    All-firsts (IsLaid.first {zs} {x} {a} {xs} {us} {vs} f e h) p = All-cons Q a us (one x a (All-head P x xs p) f (omega (arith, e, lasts x (All-head P x xs p)))) (All-firsts h (All-tail P x xs p))
+    All-firsts (IsLaid.second {zs} {x} {b} {xs} {us} {vs} f e h) p = All-firsts h (All-tail P x xs p)
+    All-firsts (IsLaid.both {zs} {x} {a} {b} {xs} {us} {vs} f g m n e h) p = All-cons Q a us (one x a (All-head P x xs p) f m) (All-firsts h (All-tail P x xs p))
+
+    pub All-seconds : {zs : List ℕ} {xs us vs : List Segment} → IsLaid First Second zs xs us vs → All P xs → All Q vs
+    All-seconds IsLaid.none p = All-nil Q
+    All-seconds (IsLaid.first {zs} {x} {a} {xs} {us} {vs} f e h) p = All-seconds h (All-tail P x xs p)
+    All-seconds (IsLaid.second {zs} {x} {b} {xs} {us} {vs} f e h) p = All-cons Q b vs (two x b (All-head P x xs p) f (omega (arith, e, lasts x (All-head P x xs p)))) (All-seconds h (All-tail P x xs p))
+    All-seconds (IsLaid.both {zs} {x} {a} {b} {xs} {us} {vs} f g m n e h) p = All-cons Q b vs (two x b (All-head P x xs p) g n) (All-seconds h (All-tail P x xs p))
+
+  -- amounts of the parts
+  module _ (P : Segment → Type 0) (rate one two : Segment → ℕ) (of_first : (x y : Segment) → P x → First x y → rate y ≡ one x) (of_second : (x y : Segment) → P x → Second x y → rate y ≡ two x) where
+    pub amount-firsts : {zs : List ℕ} {xs us vs : List Segment} → IsLaid First Second zs xs us vs → All P xs → amount rate us ≡ gained one zs xs
+    amount-firsts IsLaid.none p = refl
+    amount-firsts (IsLaid.first {zs} {x} {a} {xs} {us} {vs} f e h) p = omega (arith, sum_by-cons (λ y. y.length * rate y) a us, ap (λ v. a.length * v) (of_first x a (All-head P x xs p) f), amount-firsts h (All-tail P x xs p))
+    amount-firsts (IsLaid.second {zs} {x} {b} {xs} {us} {vs} f e h) p = omega (arith, amount-firsts h (All-tail P x xs p))
+    amount-firsts (IsLaid.both {zs} {x} {a} {b} {xs} {us} {vs} f g m n e h) p = omega (arith, sum_by-cons (λ y. y.length * rate y) a us, ap (λ v. a.length * v) (of_first x a (All-head P x xs p) f), amount-firsts h (All-tail P x xs p))
+
+    pub amount-seconds : {zs : List ℕ} {xs us vs : List Segment} → IsLaid First Second zs xs us vs → All P xs → amount rate vs + gained two zs xs ≡ amount two xs
+    amount-seconds IsLaid.none p = refl
+    amount-seconds (IsLaid.first {zs} {x} {a} {xs} {us} {vs} f e h) p = omega (arith, sum_by-cons (λ y. y.length * two y) x xs, ap (λ v. v * two x) e, amount-seconds h (All-tail P x xs p))
+    amount-seconds (IsLaid.second {zs} {x} {b} {xs} {us} {vs} f e h) p = omega (arith, sum_by-cons (λ y. y.length * two y) x xs, sum_by-cons (λ y. y.length * rate y) b vs, ap (λ v. b.length * v) (of_second x b (All-head P x xs p) f), ap (λ v. v * two x) e, amount-seconds h (All-tail P x xs p))
+    amount-seconds (IsLaid.both {zs} {x} {a} {b} {xs} {us} {vs} f g m n e h) p = omega (arith, sum_by-cons (λ y. y.length * two y) x xs, sum_by-cons (λ y. y.length * rate y) b vs, ap (λ v. b.length * v) (of_second x b (All-head P x xs p) g), ap (λ v. v * two x) e, amount-seconds h (All-tail P x xs p))
+
+-- rates that add up
+pub gained-add : (f g k : Segment → ℕ) (zs : List ℕ) (xs : List Segment) → All (λ x. f x ≡ g x + k x) xs → gained f zs xs ≡ gained g zs xs + gained k zs xs
+gained-add f g k [] xs h = refl
+gained-add f g k (z ∷ zs) [] h = refl
+gained-add f g k (z ∷ zs) (x ∷ xs) h = omega (arith, ap (λ v. z * v) (All-head (λ x. f x ≡ g x + k x) x xs h), gained-add f g k zs xs (All-tail (λ x. f x ≡ g x + k x) x xs h))

@@ -1,0 +1,183 @@
+-- What a segment is once a job has taken a machine in it.
+use Rattle.std.proofs.Common.{◌≡◌, ◌≢◌, ℕ, zero, suc, ◌+◌, ◌*◌, ◌-◌, ◌<◌, ◌≤◌, ◌⊎◌, inl, inr, Bool, true, false, cond, eqb, leb, List, length, get_or, set, refl, sym, ap, subst, subst₂, ◌∙◌, arith}
+use Rattle.std.specs.Prelude.{remove}
+use Rattle.std.proofs.lemmas.Bool.{eqb-true, eqb-false, leb-true, leb-false, ne_eqb, eq-eqb}
+use Rattle.std.proofs.lemmas.List.{length-set, get_or-set_same, get_or-set_other}
+use Rattle.std.proofs.lemmas.List.Edits.{length-remove, get_or-remove_below, get_or-remove_above}
+use Rattle.msp_class.specs.Sums.{total_below}
+use Rattle.msp_class.proofs.Sums.{total_below-same}
+use Rattle.msp_uniform.specs.declared.segments.Segment.{Segment}
+use Rattle.msp_uniform.specs.Segments.{at, job_on, place_at, IsSegment, IsAbsent, IsPartOf, IsTaken, rate_at, job_rate}
+
+pub same_or_not : (a b : ℕ) → (a ≡ b) ⊎ (a ≢ b)
+same_or_not a b = by (eqb a b) refl
+  where
+    by : (v : Bool) → eqb a b ≡ v → (a ≡ b) ⊎ (a ≢ b)
+    by true e = inl (eqb-true a b e)
+    by false e = inr (eqb-false a b e)
+
+pub below_or_not : (a b : ℕ) → (a < b) ⊎ (b ≤ a)
+below_or_not a b = by (leb b a) refl
+  where
+    by : (v : Bool) → leb b a ≡ v → (a < b) ⊎ (b ≤ a)
+    by true e = inr (leb-true b a e)
+    by false e = inl (leb-false b a e)
+
+-- a total in which one term differs
+pub total_below-other : (m : ℕ) (f g : ℕ → ℕ) (k : ℕ) → k < m → ((i : ℕ) → i < m → i ≢ k → f i ≡ g i) → total_below m f + g k ≡ total_below m g + f k
+total_below-other zero f g k l h = absurd (omega arith)
+total_below-other (suc m) f g k l h = by (same_or_not k m) (λ b. total_below-other m f g k b (λ i c. h i (omega arith)))
+  where
+    less : k ≢ m → k < m
+    less n = grind arith
+
+    by : (k ≡ m) ⊎ (k ≢ m) → (k < m → total_below m f + g k ≡ total_below m g + f k) → total_below m f + f m + g k ≡ total_below m g + g m + f k
+    by (inl e) r = omega (arith, total_below-same m f g (λ i b. h i (omega arith) (λ q. absurd (omega (arith, q, e)))), ap f e, ap g e)
+    by (inr n) r = omega (arith, r (less n), h m (omega arith) (λ q. n (sym q)))
+
+-- where the elements of a list stand after one is taken away
+abbrev pub after : ℕ → ℕ → ℕ
+after r k = cond (leb r k) (suc k) k
+
+at-remove : (xs : List ℕ) (r k : ℕ) → r < length xs → at (remove xs r) k ≡ at xs (after r k)
+at-remove xs r k l = by (leb r k) refl
+  where
+    by : (v : Bool) → leb r k ≡ v → at (remove xs r) k ≡ at xs (cond v (suc k) k)
+    by true e = get_or-remove_above xs r 0 k (leb-true r k e) l ∙ ap (at xs) (one k)
+      where
+        one : (k : ℕ) → k + 1 ≡ suc k
+        one k = omega arith
+    by false e = get_or-remove_below xs r 0 k (leb-false r k e) l
+
+module _ (m n : ℕ) (speed : ℕ → ℕ) (h r job length' : ℕ) (x y : Segment) (s : IsSegment m n speed (suc h) x) (t : IsTaken job r length' x y) (inside : r < suc h) (some : 1 ≤ length') (new : job < n) (absent : IsAbsent m job x) where
+  abbrev machine : ℕ
+  machine = place_at x r
+
+  machine_in : machine < length x.jobs.items
+  machine_in = subst (λ n. machine < n) (sym s.all) (s.machines r inside)
+
+  job_there : job_on y machine ≡ job
+  job_there = ap (λ l. at l machine) t.jobs ∙ get_or-set_same x.jobs.items machine job 0 machine_in
+
+  job_other : (i : ℕ) → i ≢ machine → job_on y i ≡ job_on x i
+  job_other i d = ap (λ l. at l i) t.jobs ∙ get_or-set_other x.jobs.items machine i job 0 d
+
+  place_is : (k : ℕ) → place_at y k ≡ place_at x (after r k)
+  place_is k = ap (λ l. at l k) t.free ∙ at-remove x.free.items r k (omega (arith, s.places, inside))
+
+  after_in : (k : ℕ) → k < h → after r k < suc h
+  after_in k l = by (leb r k)
+    where
+      by : (v : Bool) → cond v (suc k) k < suc h
+      by true = omega arith
+      by false = omega arith
+
+  after_not : (k : ℕ) → after r k ≢ r
+  after_not k = by (leb r k) refl
+    where
+      by : (v : Bool) → leb r k ≡ v → cond v (suc k) k ≢ r
+      by true e q = absurd (omega (arith, leb-true r k e, q))
+      by false e q = absurd (omega (arith, leb-false r k e, q))
+
+  after_less : (j k : ℕ) → j < k → after r j < after r k
+  after_less j k l = by (leb r j) (leb r k) refl refl
+    where
+      by : (v w : Bool) → leb r j ≡ v → leb r k ≡ w → cond v (suc j) j < cond w (suc k) k
+      by true true e f = omega arith
+      by true false e f = absurd (omega (arith, leb-true r j e, leb-false r k f))
+      by false true e f = omega arith
+      by false false e f = omega arith
+
+  distinct : (q k : ℕ) → q < suc h → k < suc h → q ≢ k → place_at x q ≢ place_at x k
+  distinct q k a b d = by (below_or_not q k)
+    where
+      by : (q < k) ⊎ (k ≤ q) → place_at x q ≢ place_at x k
+      by (inl l) = s.apart q k l b
+      by (inr l) = λ e. s.apart k q (less l d) a (sym e)
+        where
+          less : k ≤ q → q ≢ k → k < q
+          less l d = grind arith
+
+  job_once : (i : ℕ) → i < m → job_on y i ≡ job → i ≡ machine
+  job_once i l e = by (same_or_not i machine)
+    where
+      by : (i ≡ machine) ⊎ (i ≢ machine) → i ≡ machine
+      by (inl q) = q
+      by (inr d) = absurd (absent i l (sym (job_other i d) ∙ e))
+
+  pub IsSegment-taken : IsSegment m n speed h y
+  IsSegment-taken = record {
+    lasts = omega (arith, t.long, some);
+    all = ap length t.jobs ∙ length-set x.jobs.items machine job ∙ s.all;
+    jobs = λ i l. elim (same_or_not i machine) [
+      | inl e ↦ omega (arith, ap (job_on y) e, job_there, new)
+      | inr d ↦ omega (arith, job_other i d, s.jobs i l)
+    ];
+    once = λ i j l b e. elim (same_or_not i machine) [
+      | inl q ↦ absurd (omega (arith, l, q, job_once j b (sym e ∙ ap (job_on y) q ∙ job_there)))
+      | inr d ↦ elim (same_or_not j machine) [
+        | inl q ↦ absurd (d (job_once i (omega (arith, l, b)) (e ∙ ap (job_on y) q ∙ job_there)))
+        | inr c ↦ job_other i d ∙ s.once i j l b (sym (job_other i d) ∙ e ∙ job_other j c)
+      ]
+    ];
+    places = omega (arith, ap length t.free, length-remove x.free.items r (omega (arith, s.places, inside)), s.places);
+    machines = λ k l. subst (λ p. p < m) (sym (place_is k)) (s.machines (after r k) (after_in k l));
+    idle = λ k l. job_other (place_at y k) (subst (λ p. p ≢ machine) (sym (place_is k)) (distinct (after r k) r (after_in k l) inside (after_not k))) ∙ ap (job_on x) (place_is k) ∙ s.idle (after r k) (after_in k l);
+    apart = λ q k l b. subst₂ (λ a c. a ≢ c) (sym (place_is q)) (sym (place_is k)) (s.apart (after r q) (after r k) (after_less q k l) (after_in k b));
+    falls = λ q k l b. subst₂ (λ a c. speed a ≤ speed c) (sym (place_is k)) (sym (place_is q)) (s.falls (after r q) (after r k) (after_most q k l) (after_in k b));
+  }
+    where
+      after_most : (q k : ℕ) → q ≤ k → after r q ≤ after r k
+      after_most q k l = by (same_or_not q k)
+        where
+          by : (q ≡ k) ⊎ (q ≢ k) → after r q ≤ after r k
+          by (inl e) = subst (λ z. after r q ≤ after r z) e (omega arith)
+          by (inr d) = omega (arith, after_less q k (less l d))
+            where
+              less : q ≤ k → q ≢ k → q < k
+              less l d = grind arith
+
+  -- the rates
+  pub rate_below : (k : ℕ) → k < r → rate_at speed k y ≡ rate_at speed k x
+  rate_below k l = ap speed (place_is k ∙ by (leb r k) refl)
+    where
+      by : (v : Bool) → leb r k ≡ v → at x.free.items (cond v (suc k) k) ≡ at x.free.items k
+      by true e = absurd (omega (arith, leb-true r k e))
+      by false e = refl
+
+  pub rate_above : (k : ℕ) → r ≤ k → rate_at speed k y ≡ rate_at speed (suc k) x
+  rate_above k l = ap speed (place_is k ∙ by (leb r k) refl)
+    where
+      by : (v : Bool) → leb r k ≡ v → at x.free.items (cond v (suc k) k) ≡ at x.free.items (suc k)
+      by true e = refl
+      by false e = absurd (omega (arith, leb-false r k e))
+
+  abbrev part_on : ℕ → Segment → ℕ → ℕ
+  part_on j z i = cond (eqb (job_on z i) j) (speed i) 0
+
+  pub own_rate : job_rate m speed job y ≡ rate_at speed r x
+  own_rate = omega (
+    arith,
+    total_below-other m (part_on job y) (λ _. 0) machine (s.machines r inside) (λ i l d. ap (λ v. cond v (speed i) 0) (ne_eqb (job_on y i) job (λ q. d (job_once i l q)))),
+    total_below-same m (λ _. 0) (λ _. 0) (λ i l. refl),
+    none m,
+    ap (λ v. cond v (speed machine) 0) (eq-eqb (job_on y machine) job job_there),
+  )
+    where
+      none : (m : ℕ) → total_below m (λ _. 0) ≡ 0
+      none zero = refl
+      none (suc m) = omega (arith, none m)
+
+  pub other_rate : (j : ℕ) → j < n → j ≢ job → job_rate m speed j y ≡ job_rate m speed j x
+  other_rate j l d = total_below-same m (part_on j y) (part_on j x) (λ i b. by i b (same_or_not i machine))
+    where
+      by : (i : ℕ) → i < m → (i ≡ machine) ⊎ (i ≢ machine) → part_on j y i ≡ part_on j x i
+      by i b (inl e) = ap (λ v. cond v (speed i) 0) (ne_eqb (job_on y i) j (λ q. d (sym q ∙ ap (job_on y) e ∙ job_there)) ∙ sym (ne_eqb (job_on x i) j (λ q. absurd (omega (arith, l, sym q ∙ ap (job_on x) e ∙ s.idle r inside)))))
+      by i b (inr c) = ap (λ v. cond (eqb v j) (speed i) 0) (job_other i c)
+
+  pub still_absent : (j : ℕ) → j ≢ job → IsAbsent m j x → IsAbsent m j y
+  still_absent j d a i l e = by (same_or_not i machine)
+    where
+      by : (i ≡ machine) ⊎ (i ≢ machine) → ⊥
+      by (inl q) = d (sym e ∙ ap (job_on y) q ∙ job_there)
+      by (inr c) = a i l (sym (job_other i c) ∙ e)

@@ -1,0 +1,111 @@
+-- Parts of the time, in each of which every machine has one job or is free. No public contract cites this file.
+use Rattle.std.specs.Prelude.{◌≡◌, ◌≢◌, ℕ, suc, ◌+◌, ◌-◌, ◌*◌, ◌<◌, ◌≤◌, ◌⊎◌, ◌==◌, Bool, true, false, List, [], ◌∷◌, ◌++◌, length, take, drop, slice_index_or, slice_set, remove, sum_by, if◌then◌else◌}
+use Rattle.std.specs.Int.{◌∣◌}
+use Rattle.msp_class.specs.Sums.{total_below}
+use Rattle.msp_uniform.specs.declared.segments.Segment.{Segment}
+
+abbrev pub at : List ℕ → ℕ → ℕ
+at xs k = slice_index_or xs k 0
+
+abbrev pub job_on : Segment → ℕ → ℕ
+job_on x m = at x.jobs.items m
+
+abbrev pub place_at : Segment → ℕ → ℕ
+place_at x r = at x.free.items r
+
+-- Of m machines h are free, the fastest first; the others have jobs below n, each a different one.
+pub record IsSegment (m n : ℕ) (speed : ℕ → ℕ) (h : ℕ) (x : Segment) : Type 0 where
+  pub lasts : 1 ≤ x.length
+  pub all : length x.jobs.items ≡ m
+  pub jobs : (i : ℕ) → i < m → job_on x i ≤ n
+  pub once : (i j : ℕ) → i < j → j < m → job_on x i ≡ job_on x j → job_on x i ≡ n
+  pub places : length x.free.items ≡ h
+  pub machines : (r : ℕ) → r < h → place_at x r < m
+  pub idle : (r : ℕ) → r < h → job_on x (place_at x r) ≡ n
+  pub apart : (q r : ℕ) → q < r → r < h → place_at x q ≢ place_at x r
+  pub falls : (q r : ℕ) → q ≤ r → r < h → speed (place_at x r) ≤ speed (place_at x q)
+
+-- The job has no machine.
+abbrev pub IsAbsent : ℕ → ℕ → Segment → Type 0
+IsAbsent m job x = (i : ℕ) → i < m → job_on x i ≢ job
+
+pub record IsPartOf (length : ℕ) (x y : Segment) : Type 0 where
+  pub long : y.length ≡ length
+  pub jobs : y.jobs.items ≡ x.jobs.items
+  pub free : y.free.items ≡ x.free.items
+
+-- The job has taken the machine at a place.
+pub record IsTaken (job r length : ℕ) (x y : Segment) : Type 0 where
+  pub long : y.length ≡ length
+  pub jobs : y.jobs.items ≡ slice_set x.jobs.items (place_at x r) job
+  pub free : y.free.items ≡ remove x.free.items r
+
+-- The speed of the machine at a place, and the speed at which the job is done.
+abbrev pub rate_at : (ℕ → ℕ) → ℕ → Segment → ℕ
+rate_at speed r x = speed (place_at x r)
+
+abbrev pub job_rate : ℕ → (ℕ → ℕ) → ℕ → Segment → ℕ
+job_rate m speed job x = total_below m (λ i. if job_on x i == job then speed i else 0)
+
+-- What segments hold at a rate, all together.
+abbrev pub amount : (Segment → ℕ) → List Segment → ℕ
+amount rate xs = sum_by (λ x. x.length * rate x) xs
+
+-- Segments that are cut in two parts, the first of which has become one thing, and the second another. Either part may be missing. The
+-- numbers are the lengths of the first parts.
+pub data IsLaid (First Second : Segment → Segment → Type 0) : List ℕ → List Segment → List Segment → List Segment → Type 0 where
+  none : IsLaid First Second [] [] [] []
+  first : {zs : List ℕ} {x a : Segment} {xs firsts seconds : List Segment} → First x a → a.length ≡ x.length → IsLaid First Second zs xs firsts seconds → IsLaid First Second (a.length ∷ zs) (x ∷ xs) (a ∷ firsts) seconds
+  second : {zs : List ℕ} {x b : Segment} {xs firsts seconds : List Segment} → Second x b → b.length ≡ x.length → IsLaid First Second zs xs firsts seconds → IsLaid First Second (0 ∷ zs) (x ∷ xs) firsts (b ∷ seconds)
+  both : {zs : List ℕ} {x a b : Segment} {xs firsts seconds : List Segment} → First x a → Second x b → 1 ≤ a.length → 1 ≤ b.length → a.length + b.length ≡ x.length → IsLaid First Second zs xs firsts seconds → IsLaid First Second (a.length ∷ zs) (x ∷ xs) (a ∷ firsts) (b ∷ seconds)
+
+-- The sum of what the first parts gain at a rate.
+abbrev pub gained : (Segment → ℕ) → List ℕ → List Segment → ℕ
+gained rate [] xs = 0
+gained rate (z ∷ zs) [] = 0
+gained rate (z ∷ zs) (x ∷ xs) = z * rate x + gained rate zs xs
+
+-- So much can be gained from the first segments on, and the last one of which only a part is needed is cut at a whole moment.
+abbrev pub CanGain : (Segment → ℕ) → ℕ → List Segment → Type 0
+CanGain rate left [] = left ≡ 0
+CanGain rate left (x ∷ xs) = ((x.length * rate x ≤ left) × CanGain rate (left - x.length * rate x) xs) ⊎ ((left < x.length * rate x) × (rate x ∣ left))
+
+-- The first part of a segment runs the job at a place. The second part runs it at the next place, or stays free.
+abbrev pub IsFirst : ℕ → ℕ → Segment → Segment → Type 0
+IsFirst job r x y = IsTaken job r y.length x y
+
+abbrev pub IsSecond : Bool → ℕ → ℕ → Segment → Segment → Type 0
+IsSecond true job r x y = IsTaken job (suc r) y.length x y
+IsSecond false job r x y = IsPartOf y.length x y
+
+-- How much more of the job is done in the first part.
+abbrev pub gain : Bool → (ℕ → ℕ) → ℕ → Segment → ℕ
+gain true speed r x = rate_at speed r x - rate_at speed (suc r) x
+gain false speed r x = rate_at speed r x
+
+-- No segment is cut but one, the last of which something is needed.
+abbrev pub AreFew : ℕ → ℕ → ℕ → Type 0
+AreFew parts segments left = (parts ≤ segments) ⊎ ((left ≡ 0) × (parts ≤ segments + 1))
+
+-- The segments are laid so far that so much is left to gain.
+pub record AreLaid (swap : Bool) (speed : ℕ → ℕ) (job r whole left : ℕ) (xs firsts seconds : List Segment) : Type 0 where
+  pub parts : List ℕ
+  pub laid : IsLaid (IsFirst job r) (IsSecond swap job r) parts xs firsts seconds
+  pub gains : gained (gain swap speed r) parts xs + left ≡ whole
+  pub few : AreFew (length firsts + length seconds) (length xs) left
+
+-- One segment is laid after others.
+pub record IsOneLaid (swap : Bool) (speed : ℕ → ℕ) (job r whole left : ℕ) (x : Segment) (firsts seconds firsts' seconds' : List Segment) : Type 0 where
+  pub firsts_new : List Segment
+  pub seconds_new : List Segment
+  pub firsts_are : firsts' ≡ firsts ++ firsts_new
+  pub seconds_are : seconds' ≡ seconds ++ seconds_new
+  pub part : ℕ
+  pub laid : IsLaid (IsFirst job r) (IsSecond swap job r) (part ∷ []) (x ∷ []) firsts_new seconds_new
+  pub gains : part * gain swap speed r x + left ≡ whole
+  pub few : (length firsts_new + length seconds_new ≤ 1) ⊎ ((1 ≤ whole) × (left ≡ 0) × (length firsts_new + length seconds_new ≤ 2))
+
+-- The places at which a job is laid are there, and their machines are among the first m.
+abbrev pub HasPlaces : ℕ → Bool → ℕ → Segment → Type 0
+HasPlaces m true r x = (suc r < length x.free.items) × (place_at x r < m) × (place_at x (suc r) < m)
+HasPlaces m false r x = (r < length x.free.items) × (place_at x r < m)
