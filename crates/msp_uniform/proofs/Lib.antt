@@ -2,3 +2,4 @@ pub mod PrefixFacts
 pub mod LeastEnd
 pub mod SegmentFacts
 pub mod LaidFacts
+pub mod LayingFacts

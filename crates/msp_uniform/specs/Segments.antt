@@ -103,6 +103,8 @@ pub record IsOneLaid (swap : Bool) (speed : ℕ → ℕ) (job r whole left : ℕ
   pub part : ℕ
   pub laid : IsLaid (IsFirst job r) (IsSecond swap job r) (part ∷ []) (x ∷ []) firsts_new seconds_new
   pub gains : part * gain swap speed r x + left ≡ whole
+  pub enough : x.length * gain swap speed r x ≤ whole → left ≡ whole - x.length * gain swap speed r x
+  pub short : whole < x.length * gain swap speed r x → left ≡ 0
   pub few : (length firsts_new + length seconds_new ≤ 1) ⊎ ((1 ≤ whole) × (left ≡ 0) × (length firsts_new + length seconds_new ≤ 2))
 
 -- The places at which a job is laid are there, and their machines are among the first m.
