@@ -4,7 +4,7 @@ use Rattle.std.specs.Int.{◌∣◌}
 use Rattle.std.proofs.lemmas.List.Elements.{All-nil, All-cons, All-head, All-tail}
 use Rattle.msp_class.proofs.Sums.{sum_by-cons}
 use Rattle.msp_uniform.specs.declared.segments.Segment.{Segment}
-use Rattle.msp_uniform.specs.Segments.{amount, IsLaid, gained, CanGain, IsFirst, IsSecond, gain}
+use Rattle.msp_uniform.specs.Segments.{amount, IsLaid, gained, CanGain, IsFirst, IsSecond, gain_at}
 
 module _ {First Second : Segment → Segment → Type 0} where
   pub IsLaid-append : {zs ws : List ℕ} {xs ys us vs cs ds : List Segment} → IsLaid First Second zs xs us vs → IsLaid First Second ws ys cs ds → IsLaid First Second (zs ++ ws) (xs ++ ys) (us ++ cs) (vs ++ ds)

@@ -3,3 +3,4 @@ pub mod LeastEnd
 pub mod SegmentFacts
 pub mod LaidFacts
 pub mod LayingFacts
+pub mod TurnFacts

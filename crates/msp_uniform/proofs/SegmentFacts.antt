@@ -49,7 +49,7 @@ at-remove xs r k l = by (leb r k) refl
         one k = omega arith
     by false e = get_or-remove_below xs r 0 k (leb-false r k e) l
 
-module _ (m n : ℕ) (speed : ℕ → ℕ) (h r job length' : ℕ) (x y : Segment) (s : IsSegment m n speed (suc h) x) (t : IsTaken job r length' x y) (inside : r < suc h) (some : 1 ≤ length') (new : job < n) (absent : IsAbsent m job x) where
+module _ (m n : ℕ) (speed : ℕ → ℕ) (h r job length' : ℕ) (x y : Segment) (s : IsSegment m n speed (suc h) x) (t : IsTaken job r length' x y) (inside : r < suc h) (new : job < n) (absent : IsAbsent m job x) where
   abbrev machine : ℕ
   machine = place_at x r
 
@@ -105,8 +105,8 @@ module _ (m n : ℕ) (speed : ℕ → ℕ) (h r job length' : ℕ) (x y : Segmen
       by (inl q) = q
       by (inr d) = absurd (absent i l (sym (job_other i d) ∙ e))
 
-  pub IsSegment-taken : IsSegment m n speed h y
-  IsSegment-taken = record {
+  pub IsSegment-taken : 1 ≤ length' → IsSegment m n speed h y
+  IsSegment-taken some = record {
     lasts = omega (arith, t.long, some);
     all = ap length t.jobs ∙ length-set x.jobs.items machine job ∙ s.all;
     jobs = λ i l. elim (same_or_not i machine) [

@@ -1,5 +1,5 @@
 -- Parts of the time, in each of which every machine has one job or is free. No public contract cites this file.
-use Rattle.std.specs.Prelude.{◌≡◌, ◌≢◌, ℕ, suc, ◌+◌, ◌-◌, ◌*◌, ◌<◌, ◌≤◌, ◌⊎◌, ◌==◌, Bool, true, false, List, [], ◌∷◌, ◌++◌, length, take, drop, slice_index_or, slice_set, remove, sum_by, if◌then◌else◌}
+use Rattle.std.specs.Prelude.{◌≡◌, ◌≢◌, ℕ, suc, ◌+◌, ◌-◌, ◌*◌, ◌<◌, ◌≤◌, ◌⊎◌, ◌==◌, Bool, true, false, List, [], ◌∷◌, ◌++◌, length, take, drop, slice_index_or, slice_set, remove, AllZip, sum_by, if◌then◌else◌}
 use Rattle.std.specs.Int.{◌∣◌}
 use Rattle.msp_class.specs.Sums.{total_below}
 use Rattle.msp_uniform.specs.declared.segments.Segment.{Segment}
@@ -79,9 +79,9 @@ IsSecond true job r x y = IsTaken job (suc r) y.length x y
 IsSecond false job r x y = IsPartOf y.length x y
 
 -- How much more of the job is done in the first part.
-abbrev pub gain : Bool → (ℕ → ℕ) → ℕ → Segment → ℕ
-gain true speed r x = rate_at speed r x - rate_at speed (suc r) x
-gain false speed r x = rate_at speed r x
+abbrev pub gain_at : Bool → (ℕ → ℕ) → ℕ → Segment → ℕ
+gain_at true speed r x = rate_at speed r x - rate_at speed (suc r) x
+gain_at false speed r x = rate_at speed r x
 
 -- No segment is cut but one, the last of which something is needed.
 abbrev pub AreFew : ℕ → ℕ → ℕ → Type 0
@@ -91,7 +91,7 @@ AreFew parts segments left = (parts ≤ segments) ⊎ ((left ≡ 0) × (parts �
 pub record AreLaid (swap : Bool) (speed : ℕ → ℕ) (job r whole left : ℕ) (xs firsts seconds : List Segment) : Type 0 where
   pub parts : List ℕ
   pub laid : IsLaid (IsFirst job r) (IsSecond swap job r) parts xs firsts seconds
-  pub gains : gained (gain swap speed r) parts xs + left ≡ whole
+  pub gains : gained (gain_at swap speed r) parts xs + left ≡ whole
   pub few : AreFew (length firsts + length seconds) (length xs) left
 
 -- One segment is laid after others.
@@ -102,12 +102,35 @@ pub record IsOneLaid (swap : Bool) (speed : ℕ → ℕ) (job r whole left : ℕ
   pub seconds_are : seconds' ≡ seconds ++ seconds_new
   pub part : ℕ
   pub laid : IsLaid (IsFirst job r) (IsSecond swap job r) (part ∷ []) (x ∷ []) firsts_new seconds_new
-  pub gains : part * gain swap speed r x + left ≡ whole
-  pub enough : x.length * gain swap speed r x ≤ whole → left ≡ whole - x.length * gain swap speed r x
-  pub short : whole < x.length * gain swap speed r x → left ≡ 0
+  pub gains : part * gain_at swap speed r x + left ≡ whole
+  pub enough : x.length * gain_at swap speed r x ≤ whole → left ≡ whole - x.length * gain_at swap speed r x
+  pub short : whole < x.length * gain_at swap speed r x → left ≡ 0
   pub few : (length firsts_new + length seconds_new ≤ 1) ⊎ ((1 ≤ whole) × (left ≡ 0) × (length firsts_new + length seconds_new ≤ 2))
 
 -- The places at which a job is laid are there, and their machines are among the first m.
 abbrev pub HasPlaces : ℕ → Bool → ℕ → Segment → Type 0
 HasPlaces m true r x = (suc r < length x.free.items) × (place_at x r < m) × (place_at x (suc r) < m)
 HasPlaces m false r x = (r < length x.free.items) × (place_at x r < m)
+
+-- The first k segments are laid, and the others hold what is left to gain.
+pub record IsLaying (swap : Bool) (speed : ℕ → ℕ) (job r whole left k : ℕ) (xs firsts seconds : List Segment) : Type 0 where
+  pub laid : AreLaid swap speed job r whole left (take k xs) firsts seconds
+  pub more : CanGain (gain_at swap speed r) left (drop k xs)
+
+-- The rate of the first segment at which enough is gained, and any where nothing is left to gain.
+abbrev pub StopsAt : (Segment → ℕ) → ℕ → List Segment → ℕ → Type 0
+StopsAt rate left [] d = left ≡ 0
+StopsAt rate left (x ∷ xs) d = ((x.length * rate x ≤ left) × StopsAt rate (left - x.length * rate x) xs d) ⊎ ((left < x.length * rate x) × (d ≡ rate x))
+
+-- The factor is 1, or a difference of two speeds that is at least 1.
+abbrev pub IsDifference : List ℕ → ℕ → Type 0
+IsDifference speeds d = (d ≡ 1) ⊎ ((1 ≤ d) × (a : ℕ) × (b : ℕ) × (a < length speeds) × (b < length speeds) × (d ≡ at speeds a - at speeds b))
+
+-- The first k segments gain all but what is left, and the others stop there.
+pub record IsSeeking (rate : Segment → ℕ) (whole left k : ℕ) (xs : List Segment) : Type 0 where
+  pub stops : (d : ℕ) → StopsAt rate left (drop k xs) d → StopsAt rate whole xs d
+  pub gains : whole ≤ left + amount rate (take k xs)
+
+-- The segments are the others over a finer unit.
+abbrev pub AreScaled : ℕ → List Segment → List Segment → Type 0
+AreScaled d xs ys = AllZip (λ x y. IsPartOf (x.length * d) x y) xs ys

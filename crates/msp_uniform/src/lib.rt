@@ -4,5 +4,6 @@
 mod laws;
 mod laying;
 mod segments;
+mod turning;
 
 pub use laws::law_of_least_end;

@@ -1,0 +1,61 @@
+// What the free machines of segments can do, and finer units.
+ghost use Rattle.std.specs.Prelude.{◌≡◌, ℕ, ◌+◌, ◌*◌, ◌<◌, ◌≤◌, ◌^◌, length as len, All, IfOk};
+ghost use Rattle.msp_instance.specs.declared.ranges.TheConstants.{GREATEST_SPEED};
+ghost use Rattle.msp_uniform.specs.Segments.{at, rate_at, gain_at, amount, HasPlaces, StopsAt, IsDifference, AreScaled};
+
+use crate::laying::gain_of;
+use crate::segments::{Segment, part_of};
+use msp_class::NoMemory;
+use std::alloc::Global;
+
+/// The work that the machines at a place can do.
+pub(crate) fn work_of(segments: &[Segment], speeds: &[u64], place: usize) -> u128
+    requires places { All (HasPlaces (len speeds.now) false place) segments.now }
+    requires speeds { All (λ s. s ≤ GREATEST_SPEED) speeds.now }
+    requires short { amount (λ _. 1) segments.now ≤ 10 ^ 25 }
+    ensures { result ≡ amount (rate_at (at speeds.now) place) segments.now }
+{
+    let mut work: u128 = 0;
+    for segment in segments {
+        work += segment.length * gain_of(speeds, segment, place, false);
+    }
+    work
+}
+
+/// The segments over a finer unit.
+pub(crate) fn scaled(
+    alloc: Global,
+    segments: &[Segment],
+    factor: u128,
+) -> Result<Vec<Segment>, NoMemory>
+    requires { All (λ x. x.length * factor ≤ 10 ^ 25) segments.now }
+    ensures { IfOk result (λ all. AreScaled factor segments.now all.items) }
+{
+    let mut all = Vec::new(alloc);
+    for segment in segments {
+        let part = part_of(alloc, segment, segment.length * factor)?;
+        all.push(part)?;
+    }
+    Ok(all)
+}
+
+/// How much more is gained in each unit of the segment in which enough is gained at last.
+pub(crate) fn last_gain(segments: &[Segment], speeds: &[u64], place: usize, gain: u128) -> u128
+    requires places { All (HasPlaces (len speeds.now) true place) segments.now }
+    requires speeds { All (λ s. s ≤ GREATEST_SPEED) speeds.now }
+    requires short { amount (λ _. 1) segments.now ≤ 10 ^ 25 }
+    requires enough { gain ≤ amount (gain_at true (at speeds.now) place) segments.now }
+    ensures stops { StopsAt (gain_at true (at speeds.now) place) gain segments.now result }
+    ensures difference { IsDifference speeds.now result }
+{
+    let mut left = gain;
+    for segment in segments {
+        let more = gain_of(speeds, segment, place, true);
+        let whole = segment.length * more;
+        if left < whole {
+            return more;
+        }
+        left -= whole;
+    }
+    1
+}
