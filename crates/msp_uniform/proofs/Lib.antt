@@ -4,3 +4,4 @@ pub mod SegmentFacts
 pub mod LaidFacts
 pub mod LayingFacts
 pub mod TurnFacts
+pub mod ScaledFacts

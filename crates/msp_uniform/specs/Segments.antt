@@ -1,6 +1,7 @@
 -- Parts of the time, in each of which every machine has one job or is free. No public contract cites this file.
-use Rattle.std.specs.Prelude.{◌≡◌, ◌≢◌, ℕ, suc, ◌+◌, ◌-◌, ◌*◌, ◌<◌, ◌≤◌, ◌⊎◌, ◌==◌, Bool, true, false, List, [], ◌∷◌, ◌++◌, length, take, drop, slice_index_or, slice_set, remove, AllZip, sum_by, if◌then◌else◌}
+use Rattle.std.specs.Prelude.{◌≡◌, ◌≢◌, ℕ, suc, ◌+◌, ◌-◌, ◌*◌, ◌<◌, ◌≤◌, ◌⊎◌, ◌==◌, Bool, true, false, List, [], ◌∷◌, ◌++◌, length, take, drop, slice_index_or, slice_set, remove, sum_by, if◌then◌else◌}
 use Rattle.std.specs.Int.{◌∣◌}
+use Rattle.std.specs.List.{AllZip}
 use Rattle.msp_class.specs.Sums.{total_below}
 use Rattle.msp_uniform.specs.declared.segments.Segment.{Segment}
 
@@ -129,7 +130,7 @@ IsDifference speeds d = (d ≡ 1) ⊎ ((1 ≤ d) × (a : ℕ) × (b : ℕ) × (a
 -- The first k segments gain all but what is left, and the others stop there.
 pub record IsSeeking (rate : Segment → ℕ) (whole left k : ℕ) (xs : List Segment) : Type 0 where
   pub stops : (d : ℕ) → StopsAt rate left (drop k xs) d → StopsAt rate whole xs d
-  pub gains : whole ≤ left + amount rate (take k xs)
+  pub gains : whole ≡ left + amount rate (take k xs)
 
 -- The segments are the others over a finer unit.
 abbrev pub AreScaled : ℕ → List Segment → List Segment → Type 0

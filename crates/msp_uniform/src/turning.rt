@@ -1,5 +1,5 @@
 // What the free machines of segments can do, and finer units.
-ghost use Rattle.std.specs.Prelude.{◌≡◌, ℕ, ◌+◌, ◌*◌, ◌<◌, ◌≤◌, ◌^◌, length as len, All, IfOk};
+ghost use Rattle.std.specs.Prelude.{◌≡◌, ℕ, ◌+◌, ◌*◌, ◌<◌, ◌≤◌, ◌^◌, true, false, length as len, All, IfOk};
 ghost use Rattle.msp_instance.specs.declared.ranges.TheConstants.{GREATEST_SPEED};
 ghost use Rattle.msp_uniform.specs.Segments.{at, rate_at, gain_at, amount, HasPlaces, StopsAt, IsDifference, AreScaled};
 

@@ -1,0 +1,84 @@
+-- Finer units, and where a job has gained enough.
+use Rattle.std.proofs.Common.{◌≡◌, ◌≢◌, ℕ, zero, suc, ◌+◌, ◌*◌, ◌-◌, ◌/◌, ◌<◌, ◌≤◌, ◌⊎◌, inl, inr, Bool, true, false, List, [], ◌∷◌, ◌++◌, length, take, drop, get_or, drop-cons, All, refl, sym, ap, subst, subst₂, ◌∙◌, arith}
+use Rattle.std.specs.Int.{◌∣◌}
+use Rattle.std.specs.List.{AllZip}
+use Rattle.std.proofs.Math.Nat.{mul-le-mul_left, mul-dvd-mul_right, dvd-mul_left, dvd-mul_right}
+use Rattle.std.proofs.lemmas.List.{take_more, drop_all, take_all}
+use Rattle.std.proofs.lemmas.List.Elements.{all_zip_more, All-nil, All-cons, All-head, All-tail}
+use Rattle.msp_class.proofs.Sums.{sum_by-cons, sum_by-append}
+use Rattle.msp_uniform.specs.declared.segments.Segment.{Segment}
+use Rattle.msp_uniform.specs.Segments.{at, job_on, place_at, IsSegment, IsAbsent, IsPartOf, rate_at, job_rate, amount, CanGain, StopsAt, IsSeeking, AreScaled, HasPlaces}
+
+-- an amount with one more segment
+pub amount-more : (rate : Segment → ℕ) (xs : List Segment) (k : ℕ) (x : Segment) → k < length xs → x ≡ get_or xs k x → amount rate (take (k + 1) xs) ≡ amount rate (take k xs) + x.length * rate x
+amount-more rate xs k x l is = ap (amount rate) (take_more xs k x l) ∙ sum_by-append (λ y. y.length * rate y) (take k xs) (get_or xs k x ∷ []) ∙ one (get_or xs k x) (sym is)
+  where
+    one : (y : Segment) → y ≡ x → amount rate (take k xs) + amount rate (y ∷ []) ≡ amount rate (take k xs) + x.length * rate x
+    one y e = subst (λ z. amount rate (take k xs) + amount rate (z ∷ []) ≡ amount rate (take k xs) + x.length * rate x) (sym e) (omega (arith, sum_by-cons (λ z. z.length * rate z) x []))
+
+pub amount-all : (rate : Segment → ℕ) (xs : List Segment) (k : ℕ) → length xs ≤ k → amount rate (take k xs) ≡ amount rate xs
+amount-all rate xs k l = ap (amount rate) (take_all k xs l)
+
+-- the first segments hold no more than all, and all no more than their time at the greatest rate
+pub amount-take : (rate : Segment → ℕ) (xs : List Segment) (k : ℕ) → amount rate (take k xs) ≤ amount rate xs
+amount-take rate xs zero = omega arith
+amount-take rate [] (suc k) = omega arith
+amount-take rate (x ∷ xs) (suc k) = omega (arith, sum_by-cons (λ y. y.length * rate y) x xs, sum_by-cons (λ y. y.length * rate y) x (take k xs), amount-take rate xs k)
+
+pub amount-least : (rate : Segment → ℕ) (b : ℕ) (xs : List Segment) → All (λ x. rate x ≤ b) xs → amount rate xs ≤ amount (λ _. 1) xs * b
+amount-least rate b [] h = omega arith
+amount-least rate b (x ∷ xs) h = omega (arith, sum_by-cons (λ y. y.length * rate y) x xs, ap (λ n. n * b) (sum_by-cons (λ y. y.length * 1) x xs), mul-le-mul_left x.length (All-head (λ y. rate y ≤ b) x xs h), amount-least rate b xs (All-tail (λ y. rate y ≤ b) x xs h))
+
+pub length-short : (xs : List Segment) → All (λ x. x.length ≤ amount (λ _. 1) xs) xs
+length-short [] = All-nil (λ x. x.length ≤ 0)
+length-short (x ∷ xs) = All-cons (λ y. y.length ≤ amount (λ _. 1) (x ∷ xs)) x xs (omega (arith, sum_by-cons (λ y. y.length * 1) x xs)) (λ k d l. omega (arith, sum_by-cons (λ y. y.length * 1) x xs, length-short xs k d l))
+
+-- ---- where enough is gained
+module _ (rate : Segment → ℕ) where
+  pub IsSeeking-start : (whole : ℕ) (xs : List Segment) → IsSeeking rate whole whole 0 xs
+  IsSeeking-start whole xs = record { stops = λ d s. s; gains = omega arith }
+
+  pub StopsAt-end : (whole left k : ℕ) (xs : List Segment) → length xs ≤ k → whole ≤ amount rate xs → IsSeeking rate whole left k xs → StopsAt rate whole xs 1
+  StopsAt-end whole left k xs l e h = h.stops 1 (subst (λ ys. StopsAt rate left ys 1) (sym (drop_all k xs l)) none)
+    where
+      none : left ≡ 0
+      none = omega (arith, h.gains, amount-all rate xs k l, e)
+
+  pub IsSeeking-next : (whole left k : ℕ) (xs : List Segment) (x : Segment) → k < length xs → x ≡ get_or xs k x → x.length * rate x ≤ left → IsSeeking rate whole left k xs → IsSeeking rate whole (left - x.length * rate x) (k + 1) xs
+  IsSeeking-next whole left k xs x l is m h = record {
+    stops = λ d s. h.stops d (subst (λ ys. StopsAt rate left ys d) (sym (drop-cons xs k x l)) (subst (λ y. StopsAt rate left (y ∷ drop (suc k) xs) d) is (inl (m, subst (λ n. StopsAt rate (left - x.length * rate x) (drop n xs) d) (one k) s))));
+    gains = omega (arith, h.gains, amount-more rate xs k x l is, m);
+  }
+    where
+      one : (k : ℕ) → k + 1 ≡ suc k
+      one k = omega arith
+
+  pub StopsAt-here : (whole left k : ℕ) (xs : List Segment) (x : Segment) (d : ℕ) → k < length xs → x ≡ get_or xs k x → left < x.length * rate x → d ≡ rate x → IsSeeking rate whole left k xs → StopsAt rate whole xs d
+  StopsAt-here whole left k xs x d l is m e h = h.stops d (subst (λ ys. StopsAt rate left ys d) (sym (drop-cons xs k x l)) (subst (λ y. StopsAt rate left (y ∷ drop (suc k) xs) d) is (inr (m, e))))
+
+-- ---- over a finer unit
+-- a rate that is read from jobs and free machines
+abbrev pub IsRead : (Segment → ℕ) → Type 0
+IsRead rate = (n : ℕ) (x y : Segment) → IsPartOf n x y → rate y ≡ rate x
+
+pub IsRead-place : (speed : ℕ → ℕ) (r : ℕ) → IsRead (rate_at speed r)
+IsRead-place speed r n x y p = ap (λ l. speed (at l r)) p.free
+
+pub amount-scaled : (rate : Segment → ℕ) → IsRead rate → (d : ℕ) (xs ys : List Segment) → AreScaled d xs ys → amount rate ys ≡ d * amount rate xs
+amount-scaled rate read d [] [] h = omega arith
+amount-scaled rate read d (x ∷ xs) (y ∷ ys) h = omega (arith, ap (λ n. d * n) (sum_by-cons (λ z. z.length * rate z) x xs), sum_by-cons (λ z. z.length * rate z) y ys, ap (λ n. n * rate y) h.0.long, ap (λ n. x.length * d * n) (read _ x y h.0), amount-scaled rate read d xs ys h.1)
+amount-scaled rate read d [] (y ∷ ys) h = absurd h
+amount-scaled rate read d (x ∷ xs) [] h = absurd h
+
+-- lists that go on
+pub AreScaled-push : (d : ℕ) (xs ys : List Segment) (k : ℕ) (x y : Segment) (zs : List Segment) → k < length xs → x ≡ get_or xs k x → IsPartOf (x.length * d) x y → zs ≡ ys ++ y ∷ [] → AreScaled d (take k xs) ys → AreScaled d (take (k + 1) xs) zs
+AreScaled-push d xs ys k x y zs l is p e h = subst (AreScaled d (take (k + 1) xs)) (sym e) (all_zip_more (λ x y. IsPartOf (x.length * d) x y) xs ys k x y l is h p)
+
+-- the machines at a place are not faster than any
+pub rates_short : (speeds : List ℕ) (b r : ℕ) (xs : List Segment) → All (λ s. s ≤ b) speeds → All (HasPlaces (length speeds) false r) xs → All (λ x. rate_at (at speeds) r x ≤ b) xs
+rates_short speeds b r xs h p k d l = h (place_at (get_or xs k d) r) 0 (p k d l).1
+
+pub work_short : (speeds : List ℕ) (r k : ℕ) (xs : List Segment) (x : Segment) (work rate : ℕ) → All (λ s. s ≤ 1000000) speeds → All (HasPlaces (length speeds) false r) xs → amount (λ _. 1) xs ≤ 10000000000000000000000000 → k < length xs → x ≡ get_or xs k x → work ≡ amount (rate_at (at speeds) r) (take k xs) → rate ≡ rate_at (at speeds) r x → work + x.length * rate ≤ 10000000000000000000000000000000
+work_short speeds r k xs x work rate h p t l is e f =
+    let most : amount (rate_at (at speeds) r) xs ≤ amount (λ _. 1) xs * 1000000 = amount-least (rate_at (at speeds) r) 1000000 xs (rates_short speeds 1000000 r xs h p) in
+    omega (arith, e, ap (λ n. x.length * n) f, amount-more (rate_at (at speeds) r) xs k x l is, amount-take (rate_at (at speeds) r) xs (k + 1), most, t)
