@@ -5,3 +5,4 @@ pub mod LaidFacts
 pub mod LayingFacts
 pub mod TurnFacts
 pub mod ScaledFacts
+pub mod RowFacts

@@ -1,3 +1,4 @@
 pub mod Uniform
 pub mod Prefixes
 pub mod Segments
+pub mod Rows
