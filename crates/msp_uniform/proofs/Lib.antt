@@ -6,3 +6,5 @@ pub mod LayingFacts
 pub mod TurnFacts
 pub mod ScaledFacts
 pub mod RowFacts
+pub mod PlanFacts
+pub mod TurnNeeds

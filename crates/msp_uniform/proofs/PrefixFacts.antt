@@ -45,7 +45,7 @@ module _ (h r : ℕ) (holds works holds' : ℕ → ℕ) (m : IsMerged h r holds 
   ]
 
 -- a work takes two places as far as it can
-module _ (h r n : ℕ) (holds works holds' : ℕ → ℕ) (inside : suc r < h) (fit : DoFit h holds (suc n) works) (long : Falls works (suc n)) (m : IsMerged h r holds (works 0) holds') where
+module _ (h r n : ℕ) (holds works holds' : ℕ → ℕ) (inside : suc r < h) (fit : DoFit h holds (suc n) works) (m : IsMerged h r holds (works 0) holds') where
   -- each of the works left is at most each place up to r
   short_firsts : (k : ℕ) → k ≤ r → ((i : ℕ) → i < k → rest works i ≤ holds i) → total_below k (rest works) ≤ total_below k holds'
   short_firsts k l s = omega (arith, total_below-mono k (rest works) holds s, below h r holds works holds' m k l)

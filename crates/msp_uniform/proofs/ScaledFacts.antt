@@ -1,11 +1,11 @@
 -- Finer units, and where a job has gained enough.
-use Rattle.std.proofs.Common.{◌≡◌, ◌≢◌, ℕ, zero, suc, ◌+◌, ◌*◌, ◌-◌, ◌/◌, ◌<◌, ◌≤◌, ◌⊎◌, inl, inr, Bool, true, false, List, [], ◌∷◌, ◌++◌, length, take, drop, get_or, drop-cons, All, refl, sym, ap, subst, subst₂, ◌∙◌, arith}
+use Rattle.std.proofs.Common.{◌≡◌, ◌≢◌, ℕ, zero, suc, ◌+◌, ◌*◌, ◌-◌, ◌/◌, ◌<◌, ◌≤◌, ◌⊎◌, inl, inr, Bool, true, false, cond, eqb, List, [], ◌∷◌, ◌++◌, length, take, drop, get_or, drop-cons, All, refl, sym, ap, subst, subst₂, ◌∙◌, arith}
 use Rattle.std.specs.Int.{◌∣◌}
 use Rattle.std.specs.List.{AllZip}
 use Rattle.std.proofs.Math.Nat.{mul-le-mul_left, mul-dvd-mul_right, dvd-mul_left, dvd-mul_right}
 use Rattle.std.proofs.lemmas.List.{take_more, drop_all, take_all}
 use Rattle.std.proofs.lemmas.List.Elements.{all_zip_more, All-nil, All-cons, All-head, All-tail}
-use Rattle.msp_class.proofs.Sums.{sum_by-cons, sum_by-append}
+use Rattle.msp_class.proofs.Sums.{sum_by-cons, sum_by-append, total_below-same}
 use Rattle.msp_uniform.specs.declared.segments.Segment.{Segment}
 use Rattle.msp_uniform.specs.Segments.{at, job_on, place_at, IsSegment, IsAbsent, IsPartOf, rate_at, job_rate, amount, CanGain, StopsAt, IsSeeking, AreScaled, HasPlaces}
 
@@ -82,3 +82,75 @@ pub work_short : (speeds : List ℕ) (r k : ℕ) (xs : List Segment) (x : Segmen
 work_short speeds r k xs x work rate h p t l is e f =
     let most : amount (rate_at (at speeds) r) xs ≤ amount (λ _. 1) xs * 1000000 = amount-least (rate_at (at speeds) r) 1000000 xs (rates_short speeds 1000000 r xs h p) in
     omega (arith, e, ap (λ n. x.length * n) f, amount-more (rate_at (at speeds) r) xs k x l is, amount-take (rate_at (at speeds) r) xs (k + 1), most, t)
+
+-- the gain comes out whole over a unit that is finer by the last rate
+pub CanGain-scaled : (rate : Segment → ℕ) → IsRead rate → (d left : ℕ) (xs ys : List Segment) → 1 ≤ d → StopsAt rate left xs d → AreScaled d xs ys → CanGain rate (left * d) ys
+CanGain-scaled rate read d left [] [] p s h = omega (arith, ap (λ n. n * d) s)
+CanGain-scaled rate read d left (x ∷ xs) (y ∷ ys) p s h = by s (λ l t. subst (λ n. CanGain rate n ys) (later l) (CanGain-scaled rate read d (left - x.length * rate x) xs ys p t h.1))
+  where
+    same : y.length * rate y ≡ x.length * rate x * d
+    same = omega (arith, ap (λ n. n * rate y) h.0.long, ap (λ n. x.length * d * n) (read _ x y h.0))
+
+    later : x.length * rate x ≤ left → (left - x.length * rate x) * d ≡ left * d - y.length * rate y
+    later l = both (x.length * rate x) left (y.length * rate y) l same
+      where
+        both : (a b c : ℕ) → a ≤ b → c ≡ a * d → (b - a) * d ≡ b * d - c
+        both a b c l e = apart a b c (b - a) (split a b l) e
+          where
+            split : (a b : ℕ) → a ≤ b → b ≡ a + (b - a)
+            split a b l = omega arith
+
+            apart : (a b c k : ℕ) → b ≡ a + k → c ≡ a * d → k * d ≡ b * d - c
+            apart a b c k e f = omega (arith, ap (λ n. n * d) e, f)
+
+    by : ((x.length * rate x ≤ left) × StopsAt rate (left - x.length * rate x) xs d) ⊎ ((left < x.length * rate x) × (d ≡ rate x)) → (x.length * rate x ≤ left → StopsAt rate (left - x.length * rate x) xs d → CanGain rate (left * d - y.length * rate y) ys) → CanGain rate (left * d) (y ∷ ys)
+    by (inl (l, t)) k = inl (omega (arith, same, scaled_le (x.length * rate x) left l), k l t)
+      where
+        scaled_le : (a b : ℕ) → a ≤ b → a * d ≤ b * d
+        scaled_le a b l = omega (arith, mul-le-mul_left d l)
+    by (inr (l, e)) k = inr (omega (arith, same, scaled_lt (x.length * rate x) left l p), subst (λ r. r ∣ left * d) (e ∙ sym (read _ x y h.0)) (dvd-mul_left d left))
+      where
+        scaled_lt : (a b : ℕ) → b < a → 1 ≤ d → b * d < a * d
+        scaled_lt a b l p = grind arith
+CanGain-scaled rate read d left [] (y ∷ ys) p s h = absurd h
+CanGain-scaled rate read d left (x ∷ xs) [] p s h = absurd h
+
+module _ (m n : ℕ) (speed : ℕ → ℕ) (h k : ℕ) (x y : Segment) (p : IsPartOf k x y) where
+  pub job_kept : (i : ℕ) → job_on y i ≡ job_on x i
+  job_kept i = ap (λ l. at l i) p.jobs
+
+  place_kept : (r : ℕ) → place_at y r ≡ place_at x r
+  place_kept r = ap (λ l. at l r) p.free
+
+  pub IsSegment-part : 1 ≤ k → IsSegment m n speed h x → IsSegment m n speed h y
+  IsSegment-part some s = record {
+    lasts = omega (arith, p.long, some);
+    all = ap length p.jobs ∙ s.all;
+    jobs = λ i l. omega (arith, job_kept i, s.jobs i l);
+    once = λ i j l b e. job_kept i ∙ s.once i j l b (sym (job_kept i) ∙ e ∙ job_kept j);
+    places = ap length p.free ∙ s.places;
+    machines = λ r l. omega (arith, place_kept r, s.machines r l);
+    idle = λ r l. job_kept (place_at y r) ∙ ap (job_on x) (place_kept r) ∙ s.idle r l;
+    apart = λ q r l b e. s.apart q r l b (sym (place_kept q) ∙ e ∙ place_kept r);
+    falls = λ q r l b. omega (arith, ap speed (place_kept q), ap speed (place_kept r), s.falls q r l b);
+  }
+
+pub IsRead-job : (m : ℕ) (speed : ℕ → ℕ) (j : ℕ) → IsRead (job_rate m speed j)
+IsRead-job m speed j n x y p = total_below-same m _ _ (λ i l. ap (λ v. cond (eqb v j) (speed i) 0) (job_kept m n speed 0 n x y p i))
+
+pub All-scaled : (P Q : Segment → Type 0) (d : ℕ) (xs ys : List Segment) → ((x y : Segment) → P x → IsPartOf (x.length * d) x y → Q y) → AreScaled d xs ys → All P xs → All Q ys
+All-scaled P Q d [] [] f h a = All-nil Q
+All-scaled P Q d (x ∷ xs) (y ∷ ys) f h a = All-cons Q y ys (f x y (All-head P x xs a) h.0) (All-scaled P Q d xs ys f h.1 (All-tail P x xs a))
+All-scaled P Q d [] (y ∷ ys) f h a = absurd h
+All-scaled P Q d (x ∷ xs) [] f h a = absurd h
+
+-- a place whose machines can do less than those of the first is not the first
+pub not_first : (f : ℕ → ℕ) (p work : ℕ) → f p < work → work ≤ f 0 → 1 ≤ p
+not_first f zero work l m = absurd (omega (arith, l, m))
+not_first f (suc p) work l m = omega arith
+
+pub before_it : (f : ℕ → ℕ) (p work : ℕ) → 1 ≤ p → f p < work → f (p - 1 + 1) < work
+before_it f p work s l = subst (λ k. f k < work) (same p s) l
+  where
+    same : (p : ℕ) → 1 ≤ p → p ≡ p - 1 + 1
+    same p s = omega arith

@@ -1,6 +1,7 @@
 //! Preemptive jobs on uniform machines: no schedule ends before the greatest of the works over the speeds.
 #![tactic(auto)]
 
+mod filling;
 mod laws;
 mod laying;
 mod segments;

@@ -1,5 +1,5 @@
 // What the free machines of segments can do, and finer units.
-ghost use Rattle.std.specs.Prelude.{◌≡◌, ℕ, ◌+◌, ◌*◌, ◌<◌, ◌≤◌, ◌^◌, true, false, length as len, All, IfOk};
+ghost use Rattle.std.specs.Prelude.{◌≡◌, ℕ, ◌+◌, ◌-◌, ◌*◌, ◌<◌, ◌≤◌, ◌^◌, true, false, length as len, All, IfOk};
 ghost use Rattle.msp_instance.specs.declared.ranges.TheConstants.{GREATEST_SPEED};
 ghost use Rattle.msp_uniform.specs.Segments.{at, rate_at, gain_at, amount, HasPlaces, StopsAt, IsDifference, AreScaled};
 
@@ -58,4 +58,25 @@ pub(crate) fn last_gain(segments: &[Segment], speeds: &[u64], place: usize, gain
         left -= whole;
     }
     1
+}
+
+/// The last place at which the machines can do so much work.
+pub(crate) fn place_for(segments: &[Segment], speeds: &[u64], places: usize, work: u128) -> usize
+    requires some { 2 ≤ places }
+    requires each { (p : ℕ) → p < places → All (HasPlaces (len speeds.now) false p) segments.now }
+    requires speeds { All (λ s. s ≤ GREATEST_SPEED) speeds.now }
+    requires short { amount (λ _. 1) segments.now ≤ 10 ^ 25 }
+    requires first { work ≤ amount (rate_at (at speeds.now) 0) segments.now }
+    requires last { amount (rate_at (at speeds.now) (places - 1)) segments.now < work }
+    ensures inside { result + 1 < places }
+    ensures enough { work ≤ amount (rate_at (at speeds.now) result) segments.now }
+    ensures less { amount (rate_at (at speeds.now) (result + 1)) segments.now < work }
+{
+    let mut place = places - 1;
+    'places: loop {
+        place -= 1;
+        if work_of(segments, speeds, place) >= work {
+            return place;
+        }
+    }
 }

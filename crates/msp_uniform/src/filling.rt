@@ -1,0 +1,51 @@
+// The longest job takes the two places that can do its work, and leaves one place of the two.
+ghost use Rattle.std.specs.Prelude.{◌≡◌, ℕ, ◌-◌, ◌*◌, ◌<◌, ◌≤◌, ◌^◌, length as len, All, IfOk};
+ghost use Rattle.msp_instance.specs.declared.ranges.TheConstants.{GREATEST_SPEED};
+ghost use Rattle.msp_uniform.specs.Segments.{at, rate_at, amount, IsSegment, IsDifference};
+ghost use Rattle.msp_uniform.specs.Plans.{IsTurned};
+
+use crate::laying::{Parts, lay};
+use crate::segments::Segment;
+use crate::turning::{last_gain, place_for, scaled, work_of};
+use msp_class::NoMemory;
+use std::alloc::Global;
+
+/// Segments over a unit that is finer by a factor.
+#[derive(Drop)]
+pub(crate) struct Turned {
+    pub(crate) factor: u128,
+    pub(crate) segments: Vec<Segment>,
+}
+
+/// The segments with a job whose work is more than the last place can do, and no more than the first.
+pub(crate) fn turn(
+    alloc: Global,
+    segments: &[Segment],
+    speeds: &[u64],
+    places: usize,
+    job: u32,
+    work: u128,
+) -> Result<Turned, NoMemory>
+    requires some { 2 ≤ places }
+    requires each { (n : ℕ) × All (IsSegment (len speeds.now) n (at speeds.now) places) segments.now }
+    requires speeds { All (λ s. s ≤ GREATEST_SPEED) speeds.now }
+    requires short { (d : ℕ) → IsDifference speeds.now d → amount (λ _. 1) segments.now * d ≤ 10 ^ 25 }
+    requires first { work ≤ amount (rate_at (at speeds.now) 0) segments.now }
+    requires last { amount (rate_at (at speeds.now) (places - 1)) segments.now < work }
+    ensures { IfOk result (λ t. IsTurned speeds.now places job work segments.now t.factor t.segments.items) }
+{
+    let place = place_for(segments, speeds, places, work);
+    let gain = work - work_of(segments, speeds, place + 1);
+    let factor = last_gain(segments, speeds, place, gain);
+    let fine = scaled(alloc, segments, factor)?;
+    let parts = lay(alloc, &fine, speeds, job, place, true, gain * factor)?;
+    let Parts {
+        mut first,
+        mut second,
+    } = parts;
+    first.append(&mut second)?;
+    Ok(Turned {
+        factor,
+        segments: first,
+    })
+}
