@@ -1,5 +1,6 @@
 -- What is planned when some jobs are left. No public contract cites this file.
-use Rattle.std.specs.Prelude.{◌≡◌, ◌≢◌, ℕ, ◌+◌, ◌*◌, ◌-◌, ◌^◌, ◌<◌, ◌≤◌, ◌⊎◌, List, ◌++◌, true, length, map, All, AllPairs, Contains}
+use Rattle.std.specs.Prelude.{◌≡◌, ◌≢◌, ℕ, ◌+◌, ◌*◌, ◌-◌, ◌^◌, ◌<◌, ◌≤◌, ◌⊎◌, List, ◌++◌, true, length, map, All, AllPairs, Contains, sum_by}
+use Rattle.msp_class.specs.Sums.{total_below}
 use Rattle.msp_uniform.specs.declared.segments.Segment.{Segment}
 use Rattle.msp_uniform.specs.Uniform.{gap}
 use Rattle.msp_uniform.specs.Prefixes.{DoFit}
@@ -40,3 +41,17 @@ pub record IsTurned (speeds : List ℕ) (h job work : ℕ) (xs : List Segment) (
   pub scaled : AreScaled d xs fine
   pub laid : AreLaid true (at speeds) job place (gain * d) 0 fine firsts seconds
   pub whole : zs ≡ firsts ++ seconds
+
+-- Two lists of segments, in the second of which one more machine is free. What the jobs that are left need is free in all, and each needs
+-- no more than the last free machines can do.
+pub record IsTape (speeds : List ℕ) (n : ℕ) (time : ℕ → ℕ) (left : List ℕ) (unit end h : ℕ) (early late : List Segment) : Type 0 where
+  pub each_early : All (IsSegment (length speeds) n (at speeds) h) early
+  pub each_late : All (IsSegment (length speeds) n (at speeds) (h + 1)) late
+  pub whole : amount (λ _. 1) early + amount (λ _. 1) late ≡ end
+  pub absent_early : All (λ j. All (IsAbsent (length speeds) j) early) left
+  pub absent_late : All (λ j. All (IsAbsent (length speeds) j) late) left
+  pub done : (j : ℕ) → j < n → Contains left j ⊎ (amount (job_rate (length speeds) (at speeds) j) early + amount (job_rate (length speeds) (at speeds) j) late ≡ unit * time j)
+  pub room : sum_by (λ j. unit * time j) left ≤ total_below h (λ k. amount (rate_at (at speeds) k) early) + total_below (h + 1) (λ k. amount (rate_at (at speeds) k) late)
+  pub short : (g : ℕ) → h ≡ g + 1 → All (λ j. unit * time j ≤ amount (rate_at (at speeds) g) early + amount (rate_at (at speeds) h) late) left
+  pub apart : AllPairs (λ a b. a ≢ b) left
+  pub inside : All (λ j. j < n) left
