@@ -19,33 +19,33 @@ module _ {First Second : Segment → Segment → Type 0} where
   gained-append rate (IsLaid.second f e h) ws ys = omega (arith, gained-append rate h ws ys)
   gained-append rate (IsLaid.both f g p q e h) ws ys = omega (arith, gained-append rate h ws ys)
 
-  -- what holds of both parts holds of all
-  module _ (P Q : Segment → Type 0) (one : (x y : Segment) → P x → First x y → 1 ≤ y.length → Q y) (two : (x y : Segment) → P x → Second x y → 1 ≤ y.length → Q y) (lasts : (x : Segment) → P x → 1 ≤ x.length) where
-    pub All-firsts : {zs : List ℕ} {xs us vs : List Segment} → IsLaid First Second zs xs us vs → All P xs → All Q us
-    All-firsts IsLaid.none p = All-nil Q
-    All-firsts (IsLaid.first {zs} {x} {a} {xs} {firsts} {seconds} f e h) p = All-cons Q a firsts (one x a (All-head P x xs p) f (omega (arith, e, lasts x (All-head P x xs p)))) (All-firsts h (All-tail P x xs p))
-    All-firsts (IsLaid.second {zs} {x} {b} {xs} {firsts} {seconds} f e h) p = All-firsts h (All-tail P x xs p)
-    All-firsts (IsLaid.both {zs} {x} {a} {b} {xs} {firsts} {seconds} f g m n e h) p = All-cons Q a firsts (one x a (All-head P x xs p) f m) (All-firsts h (All-tail P x xs p))
+  -- what holds of the first parts, and of the second
+  module _ (P Q : Segment → Type 0) (lasts : (x : Segment) → P x → 1 ≤ x.length) where
+    pub All-firsts : ((x y : Segment) → P x → First x y → 1 ≤ y.length → Q y) → {zs : List ℕ} {xs us vs : List Segment} → IsLaid First Second zs xs us vs → All P xs → All Q us
+    All-firsts one IsLaid.none p = All-nil Q
+    All-firsts one (IsLaid.first {zs} {x} {a} {xs} {firsts} {seconds} f e h) p = All-cons Q a firsts (one x a (All-head P x xs p) f (omega (arith, e, lasts x (All-head P x xs p)))) (All-firsts one h (All-tail P x xs p))
+    All-firsts one (IsLaid.second {zs} {x} {b} {xs} {firsts} {seconds} f e h) p = All-firsts one h (All-tail P x xs p)
+    All-firsts one (IsLaid.both {zs} {x} {a} {b} {xs} {firsts} {seconds} f g m n e h) p = All-cons Q a firsts (one x a (All-head P x xs p) f m) (All-firsts one h (All-tail P x xs p))
 
-    pub All-seconds : {zs : List ℕ} {xs us vs : List Segment} → IsLaid First Second zs xs us vs → All P xs → All Q vs
-    All-seconds IsLaid.none p = All-nil Q
-    All-seconds (IsLaid.first {zs} {x} {a} {xs} {firsts} {seconds} f e h) p = All-seconds h (All-tail P x xs p)
-    All-seconds (IsLaid.second {zs} {x} {b} {xs} {firsts} {seconds} f e h) p = All-cons Q b seconds (two x b (All-head P x xs p) f (omega (arith, e, lasts x (All-head P x xs p)))) (All-seconds h (All-tail P x xs p))
-    All-seconds (IsLaid.both {zs} {x} {a} {b} {xs} {firsts} {seconds} f g m n e h) p = All-cons Q b seconds (two x b (All-head P x xs p) g n) (All-seconds h (All-tail P x xs p))
+    pub All-seconds : ((x y : Segment) → P x → Second x y → 1 ≤ y.length → Q y) → {zs : List ℕ} {xs us vs : List Segment} → IsLaid First Second zs xs us vs → All P xs → All Q vs
+    All-seconds two IsLaid.none p = All-nil Q
+    All-seconds two (IsLaid.first {zs} {x} {a} {xs} {firsts} {seconds} f e h) p = All-seconds two h (All-tail P x xs p)
+    All-seconds two (IsLaid.second {zs} {x} {b} {xs} {firsts} {seconds} f e h) p = All-cons Q b seconds (two x b (All-head P x xs p) f (omega (arith, e, lasts x (All-head P x xs p)))) (All-seconds two h (All-tail P x xs p))
+    All-seconds two (IsLaid.both {zs} {x} {a} {b} {xs} {firsts} {seconds} f g m n e h) p = All-cons Q b seconds (two x b (All-head P x xs p) g n) (All-seconds two h (All-tail P x xs p))
 
   -- amounts of the parts
-  module _ (P : Segment → Type 0) (rate one two : Segment → ℕ) (of_first : (x y : Segment) → P x → First x y → rate y ≡ one x) (of_second : (x y : Segment) → P x → Second x y → rate y ≡ two x) where
-    pub amount-firsts : {zs : List ℕ} {xs us vs : List Segment} → IsLaid First Second zs xs us vs → All P xs → amount rate us ≡ gained one zs xs
-    amount-firsts IsLaid.none p = refl
-    amount-firsts (IsLaid.first {zs} {x} {a} {xs} {firsts} {seconds} f e h) p = omega (arith, sum_by-cons (λ y. y.length * rate y) a firsts, ap (λ v. a.length * v) (of_first x a (All-head P x xs p) f), amount-firsts h (All-tail P x xs p))
-    amount-firsts (IsLaid.second {zs} {x} {b} {xs} {firsts} {seconds} f e h) p = omega (arith, amount-firsts h (All-tail P x xs p))
-    amount-firsts (IsLaid.both {zs} {x} {a} {b} {xs} {firsts} {seconds} f g m n e h) p = omega (arith, sum_by-cons (λ y. y.length * rate y) a firsts, ap (λ v. a.length * v) (of_first x a (All-head P x xs p) f), amount-firsts h (All-tail P x xs p))
+  module _ (P : Segment → Type 0) (rate : Segment → ℕ) where
+    pub amount-firsts : (one : Segment → ℕ) → ((x y : Segment) → P x → First x y → rate y ≡ one x) → {zs : List ℕ} {xs us vs : List Segment} → IsLaid First Second zs xs us vs → All P xs → amount rate us ≡ gained one zs xs
+    amount-firsts one of_first IsLaid.none p = refl
+    amount-firsts one of_first (IsLaid.first {zs} {x} {a} {xs} {firsts} {seconds} f e h) p = omega (arith, sum_by-cons (λ y. y.length * rate y) a firsts, ap (λ v. a.length * v) (of_first x a (All-head P x xs p) f), amount-firsts one of_first h (All-tail P x xs p))
+    amount-firsts one of_first (IsLaid.second {zs} {x} {b} {xs} {firsts} {seconds} f e h) p = omega (arith, amount-firsts one of_first h (All-tail P x xs p))
+    amount-firsts one of_first (IsLaid.both {zs} {x} {a} {b} {xs} {firsts} {seconds} f g m n e h) p = omega (arith, sum_by-cons (λ y. y.length * rate y) a firsts, ap (λ v. a.length * v) (of_first x a (All-head P x xs p) f), amount-firsts one of_first h (All-tail P x xs p))
 
-    pub amount-seconds : {zs : List ℕ} {xs us vs : List Segment} → IsLaid First Second zs xs us vs → All P xs → amount rate vs + gained two zs xs ≡ amount two xs
-    amount-seconds IsLaid.none p = refl
-    amount-seconds (IsLaid.first {zs} {x} {a} {xs} {firsts} {seconds} f e h) p = omega (arith, sum_by-cons (λ y. y.length * two y) x xs, ap (λ v. v * two x) e, amount-seconds h (All-tail P x xs p))
-    amount-seconds (IsLaid.second {zs} {x} {b} {xs} {firsts} {seconds} f e h) p = omega (arith, sum_by-cons (λ y. y.length * two y) x xs, sum_by-cons (λ y. y.length * rate y) b seconds, ap (λ v. b.length * v) (of_second x b (All-head P x xs p) f), ap (λ v. v * two x) e, amount-seconds h (All-tail P x xs p))
-    amount-seconds (IsLaid.both {zs} {x} {a} {b} {xs} {firsts} {seconds} f g m n e h) p = omega (arith, sum_by-cons (λ y. y.length * two y) x xs, sum_by-cons (λ y. y.length * rate y) b seconds, ap (λ v. b.length * v) (of_second x b (All-head P x xs p) g), ap (λ v. v * two x) e, amount-seconds h (All-tail P x xs p))
+    pub amount-seconds : (two : Segment → ℕ) → ((x y : Segment) → P x → Second x y → rate y ≡ two x) → {zs : List ℕ} {xs us vs : List Segment} → IsLaid First Second zs xs us vs → All P xs → amount rate vs + gained two zs xs ≡ amount two xs
+    amount-seconds two of_second IsLaid.none p = refl
+    amount-seconds two of_second (IsLaid.first {zs} {x} {a} {xs} {firsts} {seconds} f e h) p = omega (arith, sum_by-cons (λ y. y.length * two y) x xs, ap (λ v. v * two x) e, amount-seconds two of_second h (All-tail P x xs p))
+    amount-seconds two of_second (IsLaid.second {zs} {x} {b} {xs} {firsts} {seconds} f e h) p = omega (arith, sum_by-cons (λ y. y.length * two y) x xs, sum_by-cons (λ y. y.length * rate y) b seconds, ap (λ v. b.length * v) (of_second x b (All-head P x xs p) f), ap (λ v. v * two x) e, amount-seconds two of_second h (All-tail P x xs p))
+    amount-seconds two of_second (IsLaid.both {zs} {x} {a} {b} {xs} {firsts} {seconds} f g m n e h) p = omega (arith, sum_by-cons (λ y. y.length * two y) x xs, sum_by-cons (λ y. y.length * rate y) b seconds, ap (λ v. b.length * v) (of_second x b (All-head P x xs p) g), ap (λ v. v * two x) e, amount-seconds two of_second h (All-tail P x xs p))
 
 -- rates that add up
 pub gained-add : (f g k : Segment → ℕ) (zs : List ℕ) (xs : List Segment) → All (λ x. f x ≡ g x + k x) xs → gained f zs xs ≡ gained g zs xs + gained k zs xs

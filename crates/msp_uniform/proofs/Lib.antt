@@ -8,3 +8,4 @@ pub mod ScaledFacts
 pub mod RowFacts
 pub mod PlanFacts
 pub mod TurnNeeds
+pub mod TapeFacts

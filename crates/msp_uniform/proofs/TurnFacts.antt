@@ -20,7 +20,7 @@ module _ (m n : ℕ) (speed : ℕ → ℕ) (g r job gap : ℕ) (xs fs ss : List 
 
   -- what is said of the segments
   pub segments_are : All (IsSegment m n speed (suc g)) (fs ++ ss)
-  segments_are = All-append (IsSegment m n speed (suc g)) fs ss (All-firsts Before (IsSegment m n speed (suc g)) first second lasts laid.laid before) (All-seconds Before (IsSegment m n speed (suc g)) first second lasts laid.laid before)
+  segments_are = All-append (IsSegment m n speed (suc g)) fs ss (All-firsts Before (IsSegment m n speed (suc g)) lasts first laid.laid before) (All-seconds Before (IsSegment m n speed (suc g)) lasts second laid.laid before)
     where
       first : (x y : Segment) → Before x → IsFirst job r x y → 1 ≤ y.length → IsSegment m n speed (suc g) y
       first x y b t l = IsSegment-taken m n speed (suc g) r job y.length x y b.0 t in_first new b.1 l
@@ -35,7 +35,7 @@ module _ (m n : ℕ) (speed : ℕ → ℕ) (g r job gap : ℕ) (xs fs ss : List 
   Both j x = Before x × IsAbsent m j x
 
   pub absent_still : (j : ℕ) → j ≢ job → All (IsAbsent m j) xs → All (IsAbsent m j) (fs ++ ss)
-  absent_still j d a = All-append (IsAbsent m j) fs ss (All-firsts (Both j) (IsAbsent m j) first second lasts laid.laid both) (All-seconds (Both j) (IsAbsent m j) first second lasts laid.laid both)
+  absent_still j d a = All-append (IsAbsent m j) fs ss (All-firsts (Both j) (IsAbsent m j) lasts first laid.laid both) (All-seconds (Both j) (IsAbsent m j) lasts second laid.laid both)
     where
       both : All (Both j) xs
       both k e l = (before k e l, a k e l)
@@ -51,7 +51,7 @@ module _ (m n : ℕ) (speed : ℕ → ℕ) (g r job gap : ℕ) (xs fs ss : List 
 
   -- amounts
   amounts : (f one two : Segment → ℕ) → ((x y : Segment) → Before x → IsFirst job r x y → f y ≡ one x) → ((x y : Segment) → Before x → IsSecond true job r x y → f y ≡ two x) → amount f (fs ++ ss) + gained two laid.parts xs ≡ gained one laid.parts xs + amount two xs
-  amounts f one two p q = omega (arith, sum_by-append (λ y. y.length * f y) fs ss, amount-firsts Before f one two p q laid.laid before, amount-seconds Before f one two p q laid.laid before)
+  amounts f one two p q = omega (arith, sum_by-append (λ y. y.length * f y) fs ss, amount-firsts Before f one p laid.laid before, amount-seconds Before f two q laid.laid before)
 
   same_amount : (f one : Segment → ℕ) → ((x y : Segment) → Before x → IsFirst job r x y → f y ≡ one x) → ((x y : Segment) → Before x → IsSecond true job r x y → f y ≡ one x) → amount f (fs ++ ss) ≡ amount one xs
   same_amount f one p q = omega (arith, amounts f one one p q)
