@@ -9,3 +9,4 @@ pub mod RowFacts
 pub mod PlanFacts
 pub mod TurnNeeds
 pub mod TapeFacts
+pub mod UniformBest

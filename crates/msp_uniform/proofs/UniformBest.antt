@@ -1,0 +1,148 @@
+-- Segments in a row as a schedule on uniform machines: it is feasible, and best where its end is a least end.
+use Rattle.std.proofs.Common.{◌≡◌, ◌≢◌, ℕ, zero, suc, ◌+◌, ◌*◌, ◌-◌, ◌<◌, ◌≤◌, Bool, true, false, cond, eqb, List, [], ◌∷◌, length, get_or, filter, map, fold, ℤ, pos, nat_abs, ◌+ℤ◌, ◌-ℤ◌, ◌*ℤ◌, ◌≤ℤ◌, All, AllPairs, sum_by, MatchBool, refl, sym, ap, subst, subst₂, ◌∙◌, arith, zero-add}
+use Rattle.std.proofs.lemmas.Bool.{ne_eqb}
+use Rattle.std.proofs.lemmas.Int.{ints}
+use Rattle.std.proofs.Math.Nat.{mul-le-mul_left}
+use Rattle.std.proofs.lemmas.List.Elements.{All-nil, All-head, All-tail, All-filter}
+use native.Mathlib.Nat.{le_of_mul-le-mul_left}
+use Rattle.msp_class.specs.declared.environments.EnvKind.{EnvKind}
+use Rattle.msp_class.specs.declared.environments.EnvKind.TheVariants.{Uniform}
+use Rattle.msp_class.specs.Env.{kind_of}
+use Rattle.msp_class.specs.Sums.{total_below}
+use Rattle.msp_class.proofs.Sums.{cond-scale, sum_by-cons, sum_by-filter, sum_by-agree}
+use Rattle.msp_class.proofs.IntegerRing.{natural, pos-le, le-pos, pos-+ℤ-pos, pos-*ℤ-pos, ≤ℤ_antisym, ≤ℤ_trans}
+use Rattle.msp_instance.specs.declared.Arc.{Arc}
+use Rattle.msp_instance.specs.declared.Instance.{Instance}
+use Rattle.msp_instance.specs.Instance.{job_at, no_job}
+use Rattle.msp_schedule.specs.declared.Piece.{Piece}
+use Rattle.msp_schedule.specs.declared.Schedule.{Schedule}
+use Rattle.msp_schedule.specs.Piece.{length_of, pieces_of, IsBefore, start, finish, IsTimed}
+use Rattle.msp_schedule.specs.Intervals.{size_of}
+use Rattle.msp_schedule.specs.Feasible.{Feasible, HasPlace, HasOperation, MayRun, FollowsRoute, GetsWork, IsWholeWork, total, whole_work, work_of as part_of}
+use Rattle.msp_schedule.specs.Cost.{cost_of, Best}
+use Rattle.msp_schedule.specs.Rows.{time_at}
+use Rattle.msp_schedule.proofs.OfClass.{IsOfClass}
+use Rattle.msp_schedule.proofs.OneMachine.{apart_in_int, pieces_of-job}
+use Rattle.msp_schedule.proofs.Makespan.{cost_by_ends, cost_natural}
+use Rattle.msp_uniform.specs.declared.segments.Segment.{Segment}
+use Rattle.msp_uniform.specs.Uniform.{cut_class}
+use Rattle.msp_uniform.specs.Segments.{at, job_rate, amount}
+use Rattle.msp_uniform.specs.Rows.{pieces_in_row, IsSliceOf}
+use Rattle.msp_uniform.proofs.RowFacts.{IsRowOf, slices_in_row, work_in_row}
+
+-- lengths times speeds, added up
+module _ (rate : Piece → ℕ) where
+  abbrev share : Piece → ℤ
+  share p = length_of p *ℤ pos (rate p)
+
+  abbrev size_share : Piece → ℕ
+  size_share p = size_of start finish p * rate p
+
+  share-is : (p : Piece) → IsTimed p → share p ≡ pos (size_share p)
+  share-is p t = ap (λ x. x *ℤ pos (rate p)) (lasts (finish p) (start p) p.to p.from t.to t.from t.lasts) ∙ pos-*ℤ-pos (finish p - start p) (rate p)
+    where
+      lasts : (m n : ℕ) (x y : ℤ) → x ≡ pos m → y ≡ pos n → n < m → x -ℤ y ≡ pos (m - n)
+      lasts m n x y e f h = omega (arith, ints)
+
+  fold-shares : (a : ℕ) (xs : List Piece) → All IsTimed xs → fold ◌+ℤ◌ (pos a) (map share xs) ≡ pos (a + sum_by size_share xs)
+  fold-shares a [] h = ap pos (omega arith)
+  fold-shares a (p ∷ ps) h =
+      ap (λ x. fold ◌+ℤ◌ x (map share ps)) (ap (λ x. pos a +ℤ x) (share-is p (All-head IsTimed p ps h)) ∙ pos-+ℤ-pos a (size_share p))
+      ∙ fold-shares (a + size_share p) ps (All-tail IsTimed p ps h)
+      ∙ ap pos (omega (arith, sum_by-cons size_share p ps))
+
+  total_shares : (xs : List Piece) → All IsTimed xs → total (map share xs) ≡ pos (sum_by size_share xs)
+  total_shares xs h = fold-shares 0 xs h ∙ ap pos (zero-add (sum_by size_share xs))
+
+module _ (i : Instance) (h : IsOfClass i cut_class) (unit end : ℕ) (xs : List Segment) (some : 1 ≤ unit) (slices : All (λ x. IsSliceOf i.machines (length i.jobs) x.length x.jobs.items) xs) (whole : sum_by (λ x. x.length) xs ≡ end) (done : (j : ℕ) → j < length i.jobs → amount (job_rate i.machines (at i.speeds) j) xs ≡ unit * time_at i j) where
+  abbrev ps : List Piece
+  ps = pieces_in_row (λ (x : Segment). x.length) (λ x. x.jobs.items) (λ _. 0) (length i.jobs) 0 xs
+
+  abbrev pub row_schedule : Schedule
+  row_schedule = record { unit = pos unit; pieces = ps }
+
+  row : IsRowOf i.machines (length i.jobs) (λ _. 0) 0 (0 + sum_by (λ x. x.length) xs) ps
+  row = slices_in_row (λ x. x.length) (λ x. x.jobs.items) i.machines (length i.jobs) (λ _. 0) 0 xs slices
+
+  places : All (HasPlace i) ps
+  places k d l = record {
+    job = (row.places k d l).0;
+    operation = subst (λ x. HasOperation x i (get_or ps k d).job (get_or ps k d).op) (sym h.kind) (row.places k d l).2;
+    machine = subst (λ x. MayRun x i (get_or ps k d).job (get_or ps k d).op (get_or ps k d).machine) (sym h.kind) (row.places k d l).1;
+  }
+
+  released : All (λ p. (pos unit *ℤ pos (job_at i p.job).release) ≤ℤ p.from) ps
+  released k d l = by (get_or ps k d).from _ unit (job_at i (get_or ps k d).job).release (row.timed k d l).from (h.jobs (get_or ps k d).job no_job (row.places k d l).0).release
+    where
+      by : (x : ℤ) (n m r : ℕ) → x ≡ pos n → r ≡ 0 → (pos m *ℤ pos r) ≤ℤ x
+      by x n m r e z = subst (λ y. (pos m *ℤ pos y) ≤ℤ x) (sym z) (omega (arith, ints, e))
+
+  no_arcs : All (λ a. All (λ p. All (λ r. p.job ≡ a.before → r.job ≡ a.after → IsBefore p r) ps) ps) i.arcs
+  no_arcs = subst (λ arcs. All (λ a. All (λ p. All (λ r. p.job ≡ a.before → r.job ≡ a.after → IsBefore p r) ps) ps) arcs) (sym h.arcs) (All-nil (λ (a : Arc). All (λ p. All (λ r. p.job ≡ a.before → r.job ≡ a.after → IsBefore p r) ps) ps))
+
+  module _ (j : ℕ) (small : j < length i.jobs) where
+    abbrev value : ℕ → ℕ → ℕ
+    value job machine = cond (eqb job j) (at i.speeds machine) 0
+
+    abbrev rate : Piece → ℕ
+    rate p = at i.speeds p.machine
+
+    work_is : sum_by (size_share rate) (filter (λ p. eqb p.job j) ps) ≡ unit * time_at i j
+    work_is =
+        sum_by-filter (size_share rate) (λ p. eqb p.job j) ps
+        ∙ sum_by-agree _ _ ps (λ p. cond-scale (eqb p.job j) (size_of start finish p) (rate p))
+        ∙ work_in_row (λ x. x.length) (λ x. x.jobs.items) i.machines (length i.jobs) (λ _. 0) value (λ k. ap (λ b. cond b (at i.speeds k) 0) (ne_eqb (length i.jobs) j (λ e. absurd (omega (arith, e, small))))) 0 xs slices
+        ∙ done j small
+
+    adds_up : total (map (part_of Uniform i) (pieces_of row_schedule j 0)) ≡ pos unit *ℤ pos (time_at i j)
+    adds_up =
+        ap (λ l. total (map (part_of Uniform i) l)) (pieces_of-job row_schedule j (λ k d l. (row.places k d l).2))
+        ∙ total_shares rate _ (All-filter (λ p. eqb p.job j) IsTimed ps row.timed)
+        ∙ ap pos work_is ∙ sym (pos-*ℤ-pos unit (time_at i j))
+
+    abbrev Gets : EnvKind → ℕ → Bool → Type 0
+    Gets x n b = MatchBool b (total (map (part_of x i) (pieces_of row_schedule j n)) ≡ pos unit *ℤ pos (whole_work x i j n)) ((p : Piece) × (pieces_of row_schedule j n ≡ p ∷ []) × IsWholeWork x i (pos unit) p)
+
+    gets_work : (n : ℕ) → HasOperation (kind_of i.class.env) i j n → GetsWork i row_schedule j n
+    gets_work n op =
+        let zero_op : n ≡ 0 = subst (λ x. HasOperation x i j n) h.kind op in
+        subst (λ x. Gets x n i.class.cut) (sym h.kind) (subst (λ z. Gets Uniform z i.class.cut) (sym zero_op) (subst (Gets Uniform 0) (sym h.cut) adds_up))
+
+  pub row_is_feasible : Feasible i row_schedule
+  row_is_feasible = record {
+    unit = omega (arith, ints, some);
+    span = λ k d l. let t = row.timed k d l in (omega (arith, ints, t.from), omega (arith, ints, t.from, t.to, t.lasts));
+    place = places;
+    machine = λ a b d m k e. apart_in_int _ _ (row.timed a d (omega arith)) (row.timed b d k) (row.on_machines a b d m k e);
+    job = λ a b d m k e. apart_in_int _ _ (row.timed a d (omega arith)) (row.timed b d k) (row.on_jobs a b d m k e);
+    release = released;
+    arc = no_arcs;
+    route = subst (λ x. FollowsRoute x ps) (sym h.kind) tt;
+    work = λ j n l op. gets_work j l n op;
+  }
+
+  upper : cost_of i row_schedule ≤ℤ pos end
+  upper = cost_by_ends i h.crit row_schedule h.some (pos end) (omega (arith, ints)) (λ k d l. omega (arith, ints, (row.timed k d l).to, (row.lies k d l).1, whole))
+
+  -- where the end is the work of some jobs over the speed of some machines, and no schedule ends before that
+  module _ (w v : ℕ) (fast : 1 ≤ v) (reached : end * v ≡ w * unit) (law : (t : Schedule) → Feasible i t → (pos w *ℤ t.unit) ≤ℤ (cost_of i t *ℤ pos v)) where
+    lower : (t : Schedule) → Feasible i t → (pos end *ℤ t.unit) ≤ℤ (cost_of i t *ℤ pos unit)
+    lower t f = by (cost_of i t) t.unit (nat_abs (cost_of i t)) (nat_abs t.unit) (cost_natural i h.crit t h.some) (natural t.unit (omega (arith, ints, f.unit))) (law t f)
+      where
+        by : (x u : ℤ) (c n : ℕ) → x ≡ pos c → u ≡ pos n → (pos w *ℤ u) ≤ℤ (x *ℤ pos v) → (pos end *ℤ u) ≤ℤ (x *ℤ pos unit)
+        by x u c n e g l =
+            subst (λ y. (pos end *ℤ y) ≤ℤ (x *ℤ pos unit)) (sym g)
+            (subst (λ y. (pos end *ℤ pos n) ≤ℤ (y *ℤ pos unit)) (sym e)
+            (pos-le (cancelled c n (le-pos (subst₂ (λ y z. (pos w *ℤ y) ≤ℤ (z *ℤ pos v)) g e l)))))
+          where
+            cancelled : (c n : ℕ) → w * n ≤ c * v → end * n ≤ c * unit
+            cancelled c n l = le_of_mul-le-mul_left {k = v} (omega (arith, ap (λ k. k * n) reached, mul-le-mul_left unit l)) (omega (arith, fast))
+
+    pub row_costs : cost_of i row_schedule ≡ pos end
+    row_costs = ≤ℤ_antisym upper (by (cost_of i row_schedule) (nat_abs (cost_of i row_schedule)) (cost_natural i h.crit row_schedule h.some) (lower row_schedule row_is_feasible))
+      where
+        by : (x : ℤ) (c : ℕ) → x ≡ pos c → (pos end *ℤ pos unit) ≤ℤ (x *ℤ pos unit) → pos end ≤ℤ x
+        by x c e l = subst (λ y. pos end ≤ℤ y) (sym e) (pos-le (le_of_mul-le-mul_left {k = unit} (omega (arith, le-pos (subst (λ y. (pos end *ℤ pos unit) ≤ℤ (y *ℤ pos unit)) e l))) (omega (arith, some))))
+
+    pub row_is_best : Best i row_schedule
+    row_is_best = record { feasible = row_is_feasible; least = λ t f. subst (λ x. (x *ℤ t.unit) ≤ℤ (cost_of i t *ℤ pos unit)) (sym row_costs) (lower t f) }
