@@ -1,10 +1,9 @@
 -- What segments hold that are laid in two parts.
-use Rattle.std.proofs.Common.{◌≡◌, ℕ, zero, suc, ◌+◌, ◌*◌, ◌-◌, ◌<◌, ◌≤◌, ◌⊎◌, inl, inr, Bool, true, false, cond, eqb, List, [], ◌∷◌, ◌++◌, length, take, drop, get_or, All, refl, sym, ap, ap₂, subst, subst₂, ◌∙◌, arith}
-use Rattle.std.specs.Int.{◌∣◌}
+use Rattle.std.proofs.Common.{◌≡◌, ℕ, ◌+◌, ◌*◌, ◌≤◌, List, [], ◌∷◌, ◌++◌, All, refl, ap, arith}
 use Rattle.std.proofs.lemmas.List.Elements.{All-nil, All-cons, All-head, All-tail}
 use Rattle.msp_class.proofs.Sums.{sum_by-cons}
 use Rattle.msp_uniform.specs.declared.segments.Segment.{Segment}
-use Rattle.msp_uniform.specs.Segments.{amount, IsLaid, gained, CanGain, IsFirst, IsSecond, gain_at}
+use Rattle.msp_uniform.specs.Segments.{amount, IsLaid, gained}
 
 module _ {First Second : Segment → Segment → Type 0} where
   pub IsLaid-append : {zs ws : List ℕ} {xs ys us vs cs ds : List Segment} → IsLaid First Second zs xs us vs → IsLaid First Second ws ys cs ds → IsLaid First Second (zs ++ ws) (xs ++ ys) (us ++ cs) (vs ++ ds)

@@ -1,11 +1,11 @@
 -- A job is laid over one segment after another.
-use Rattle.std.proofs.Common.{◌≡◌, ◌≢◌, ℕ, zero, suc, ◌+◌, ◌*◌, ◌-◌, ◌/◌, ◌<◌, ◌≤◌, ◌⊎◌, inl, inr, Bool, true, false, List, [], ◌∷◌, ◌++◌, length, take, drop, get_or, All, refl, sym, ap, append-nil, drop-cons, subst, subst₂, ◌∙◌, arith}
+use Rattle.std.proofs.Common.{◌≡◌, ℕ, zero, suc, ◌+◌, ◌*◌, ◌-◌, ◌/◌, ◌<◌, ◌≤◌, ◌⊎◌, inl, inr, Bool, List, [], ◌∷◌, ◌++◌, length, take, drop, get_or, refl, sym, ap, append-nil, drop-cons, subst, subst₂, arith}
 use Rattle.std.specs.Int.{◌∣◌}
-use Rattle.std.proofs.Math.Nat.{div-mul_cancel, mul-le-mul_left}
+use Rattle.std.proofs.Math.Nat.{div-mul_cancel}
 use Rattle.std.proofs.lemmas.List.{length-append, take_more, take_all, drop_all}
 use Rattle.std.proofs.lemmas.Nat.Gcd.{dvd-zero}
 use Rattle.msp_uniform.specs.declared.segments.Segment.{Segment}
-use Rattle.msp_uniform.specs.Segments.{IsLaid, IsTaken, gained, CanGain, IsFirst, IsSecond, gain_at, AreFew, AreLaid, IsOneLaid, IsLaying}
+use Rattle.msp_uniform.specs.Segments.{IsLaid, IsTaken, CanGain, IsFirst, IsSecond, gain_at, AreFew, AreLaid, IsOneLaid, IsLaying}
 use Rattle.msp_uniform.proofs.LaidFacts.{IsLaid-append, gained-append}
 
 module _ (swap : Bool) (speed : ℕ → ℕ) (job r left : ℕ) (x : Segment) (fs ss : List Segment) (g : ℕ) (is : g ≡ gain_at swap speed r x) where

@@ -1,16 +1,14 @@
 -- The law of the least end, from the law of speeds: the threshold is the speed of the slowest of the k fastest machines.
-use Rattle.std.proofs.Common.{◌≡◌, ◌≢◌, ℕ, zero, suc, ◌+◌, ◌-◌, ◌*◌, ◌<◌, ◌≤◌, Bool, true, false, cond, eqb, ltb, List, [], ◌∷◌, ◌++◌, length, take, drop, get_or, count_by, sum_by, ℤ, pos, ◌*ℤ◌, ◌≤ℤ◌, All, AllPairs, IsPermutation, ◌⊎◌, inl, inr, refl, sym, ap, subst, subst₂, ◌∙◌, arith}
+use Rattle.std.proofs.Common.{◌≡◌, ◌≢◌, ℕ, zero, suc, ◌+◌, ◌-◌, ◌*◌, ◌<◌, ◌≤◌, Bool, true, cond, eqb, ltb, List, length, take, drop, get_or, count_by, sum_by, ℤ, pos, ◌*ℤ◌, ◌≤ℤ◌, All, AllPairs, ◌⊎◌, inl, inr, refl, sym, ap, subst, subst₂, ◌∙◌, arith}
 use Rattle.std.specs.List.{range_with_len}
 use Rattle.std.proofs.lemmas.Int.{ints}
 use Rattle.std.proofs.lemmas.List.{take-append-drop, length-take, length-drop, get_or-take, get_or-drop, get_or_default}
 use Rattle.std.proofs.lemmas.List.Elements.{All-take}
-use Rattle.msp_class.specs.declared.environments.EnvKind.TheVariants.{Uniform}
 use Rattle.msp_class.specs.Env.{kind_of}
-use Rattle.msp_class.specs.Sums.{total_below}
-use Rattle.msp_class.proofs.Sums.{sum_by-append, sum_by-same, sum_by-add, sum_by-constant, sum_by-none, sum_by-mono, sum_by-IsPermutation, sum_by_counts, count_by-distinct, total_below-same, total_below-range, OnceBelow-from_permutation, OnceBelow-distinct, length-OnceBelow, OnceBelow-range}
+use Rattle.msp_class.proofs.Sums.{sum_by-append, sum_by-same, sum_by-add, sum_by-constant, sum_by-none, sum_by-IsPermutation, sum_by_counts, count_by-distinct, total_below-same, total_below-range, OnceBelow-from_permutation, OnceBelow-distinct, length-OnceBelow}
 use Rattle.msp_instance.specs.declared.Instance.{Instance}
 use Rattle.msp_schedule.specs.declared.Schedule.{Schedule}
-use Rattle.msp_schedule.specs.Cost.{cost_of, end_of}
+use Rattle.msp_schedule.specs.Cost.{cost_of}
 use Rattle.msp_schedule.specs.Feasible.{Feasible}
 use Rattle.msp_schedule.specs.Laws.{time_together, jobs_together}
 use Rattle.msp_schedule.specs.Rows.{time_at}

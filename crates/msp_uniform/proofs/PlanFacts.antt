@@ -1,12 +1,11 @@
 -- A plan over a finer unit, and with one job less.
-use Rattle.std.proofs.Common.{◌≡◌, ◌≢◌, ℕ, zero, suc, ◌+◌, ◌*◌, ◌-◌, ◌<◌, ◌≤◌, ◌⊎◌, inl, inr, Bool, true, false, List, [], ◌∷◌, ◌++◌, length, map, All, AllPairs, Contains, refl, sym, ap, subst, ◌∙◌, arith}
+use Rattle.std.proofs.Common.{◌≡◌, ◌≢◌, ℕ, zero, suc, ◌+◌, ◌*◌, ◌<◌, ◌≤◌, inl, inr, true, List, [], ◌∷◌, ◌++◌, length, map, All, refl, sym, ap, subst, ◌∙◌, arith}
 use Rattle.std.proofs.Math.Nat.{mul-le-mul_left}
 use Rattle.std.proofs.lemmas.List.Elements.{All-head, All-tail}
 use Rattle.msp_class.specs.Sums.{total_below}
 use Rattle.msp_class.proofs.Sums.{sum_by-cons, AllPairs-head, AllPairs-tail, Contains-tail, total_below-same, total_below-scale}
 use Rattle.msp_uniform.specs.declared.segments.Segment.{Segment}
-use Rattle.msp_uniform.specs.Prefixes.{DoFit, Falls}
-use Rattle.msp_uniform.specs.Segments.{at, IsSegment, IsAbsent, IsPartOf, rate_at, job_rate, amount, AreLaid, AreScaled, IsDifference}
+use Rattle.msp_uniform.specs.Segments.{at, IsSegment, IsAbsent, rate_at, job_rate, amount, AreLaid, AreScaled}
 use Rattle.msp_uniform.specs.Plans.{works, IsPlan, IsTurned}
 use Rattle.msp_uniform.proofs.PrefixFacts.{rest, DoFit-merged, DoFit-longest}
 use Rattle.msp_uniform.proofs.TurnNeeds.{difference_some}

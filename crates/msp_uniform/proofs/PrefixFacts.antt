@@ -1,10 +1,10 @@
 -- Works fit into places, turn after turn.
-use Rattle.std.proofs.Common.{◌≡◌, ℕ, zero, suc, ◌+◌, ◌*◌, ◌<◌, ◌≤◌, ◌⊎◌, inl, inr, Bool, true, false, leb, refl, sym, ap, subst, ◌∙◌, arith}
+use Rattle.std.proofs.Common.{◌≡◌, ℕ, zero, suc, ◌+◌, ◌*◌, ◌<◌, ◌≤◌, ◌⊎◌, inl, inr, Bool, true, false, leb, refl, sym, subst, arith}
 use Rattle.std.proofs.lemmas.Bool.{leb-true, leb-false}
 use Rattle.msp_class.specs.Sums.{total_below}
 use Rattle.msp_class.proofs.Sums.{total_below-mono, total_below-same, total_below-scale}
 use Rattle.std.proofs.Math.Nat.{mul-le-mul_left}
-use Rattle.msp_uniform.specs.Prefixes.{DoFit, Falls, IsMerged}
+use Rattle.msp_uniform.specs.Prefixes.{DoFit, IsMerged}
 
 -- the works after the first
 abbrev pub rest : (ℕ → ℕ) → ℕ → ℕ

@@ -1,5 +1,5 @@
 -- Slices one after another as pieces of a schedule: they do not overlap, and what they do adds up.
-use Rattle.std.proofs.Common.{◌≡◌, ◌≢◌, ℕ, zero, suc, ◌+◌, ◌*◌, ◌-◌, ◌<◌, ◌≤◌, ◌⊎◌, inl, inr, Bool, true, false, cond, eqb, List, [], ◌∷◌, ◌++◌, length, get_or, All, AllPairs, sum_by, ℤ, pos, refl, sym, ap, subst, subst₂, ◌∙◌, arith}
+use Rattle.std.proofs.Common.{◌≡◌, ◌≢◌, ℕ, suc, ◌+◌, ◌*◌, ◌-◌, ◌<◌, ◌≤◌, inl, Bool, true, false, cond, eqb, List, [], ◌∷◌, length, All, AllPairs, sum_by, refl, sym, ap, subst, subst₂, ◌∙◌, arith}
 use Rattle.std.proofs.lemmas.Bool.{eqb-true, eqb-false}
 use Rattle.std.proofs.lemmas.List.{length-append}
 use Rattle.std.proofs.lemmas.List.Elements.{All-nil, All-cons, All-append, All-head, All-tail}
@@ -54,9 +54,6 @@ module _ (op : ℕ → ℕ) (none a b : ℕ) where
   sum_in value z i [] = omega arith
   sum_in value z i (j ∷ js) = by (eqb j none) refl (sum_in value z (suc i) js)
     where
-      abbrev_total : ℕ
-      abbrev_total = total_below (length js) (λ k. value (at js k) (suc i + k))
-
       here : (i : ℕ) → i + 0 ≡ i
       here i = omega arith
 

@@ -1,18 +1,18 @@
 -- The jobs that no place is too short for, laid one after another from the last place to the first.
-use Rattle.std.proofs.Common.{◌≡◌, ◌≢◌, ℕ, zero, suc, ◌+◌, ◌*◌, ◌-◌, ◌<◌, ◌≤◌, ◌⊎◌, inl, inr, Bool, true, false, leb, List, [], ◌∷◌, ◌++◌, length, get_or, All, sum_by, refl, sym, ap, subst, ◌∙◌, arith}
+use Rattle.std.proofs.Common.{◌≡◌, ◌≢◌, ℕ, zero, suc, ◌+◌, ◌*◌, ◌-◌, ◌<◌, ◌≤◌, inl, inr, Bool, true, false, leb, List, [], ◌∷◌, ◌++◌, length, get_or, All, sum_by, refl, subst, arith}
 use Rattle.std.specs.Int.{◌∣◌}
 use Rattle.std.specs.Prelude.{⊤}
 use Rattle.std.proofs.lemmas.Bool.{leb-true, leb-false}
-use Rattle.std.proofs.Math.Nat.{mul-le-mul_left, dvd-add_iff_right}
-use Rattle.std.proofs.lemmas.List.Elements.{All-append, All-head, All-tail}
+use Rattle.std.proofs.Math.Nat.{dvd-add_iff_right}
+use Rattle.std.proofs.lemmas.List.Elements.{All-head, All-tail}
 use Rattle.msp_class.proofs.Sums.{sum_by-cons, sum_by-append}
 use Rattle.msp_uniform.specs.declared.segments.Segment.{Segment}
-use Rattle.msp_uniform.specs.Segments.{at, IsSegment, IsAbsent, IsPartOf, rate_at, job_rate, amount, gained, CanGain, AreLaid}
+use Rattle.msp_uniform.specs.Segments.{at, IsSegment, IsAbsent, rate_at, job_rate, amount, CanGain, AreLaid}
 use Rattle.msp_uniform.specs.Plans.{IsTape}
 use Rattle.msp_class.specs.Sums.{total_below}
-use Rattle.msp_uniform.proofs.SegmentFacts.{IsSegment-taken, rate_below, own_rate, other_rate, still_absent}
+use Rattle.msp_uniform.proofs.SegmentFacts.{IsSegment-taken, rate_below, own_rate, other_rate}
 use Rattle.msp_uniform.proofs.LaidFacts.{All-firsts, All-seconds, amount-firsts, amount-seconds}
-use Rattle.msp_uniform.proofs.ScaledFacts.{IsRead-place, IsRead-job, IsSegment-part, job_kept}
+use Rattle.msp_uniform.proofs.ScaledFacts.{IsRead-place, IsRead-job, IsSegment-part}
 
 -- What is done before a segment is a multiple of the rate in it.
 abbrev pub AreWhole : (Segment → ℕ) → ℕ → List Segment → Type 0

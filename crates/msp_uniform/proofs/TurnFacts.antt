@@ -1,5 +1,5 @@
 -- A job takes two places as far as it can: what the segments hold then.
-use Rattle.std.proofs.Common.{◌≡◌, ◌≢◌, ℕ, zero, suc, ◌+◌, ◌*◌, ◌-◌, ◌<◌, ◌≤◌, Bool, true, false, List, [], ◌∷◌, ◌++◌, length, All, refl, sym, ap, subst, ◌∙◌, arith}
+use Rattle.std.proofs.Common.{◌≡◌, ◌≢◌, ℕ, suc, ◌+◌, ◌*◌, ◌-◌, ◌<◌, ◌≤◌, true, List, ◌++◌, All, refl, arith}
 use Rattle.std.proofs.lemmas.List.Elements.{All-append}
 use Rattle.msp_class.proofs.Sums.{sum_by-append}
 use Rattle.msp_uniform.specs.declared.segments.Segment.{Segment}
@@ -75,24 +75,24 @@ module _ (m n : ℕ) (speed : ℕ → ℕ) (g r job gap : ℕ) (xs fs ss : List 
     arith,
     gains,
     amounts (job_rate m speed job) (rate_at speed r) (rate_at speed (suc r))
-    (λ x y b t. own_rate m n speed (suc g) r job y.length x y b.0 t in_first new b.1)
-    (λ x y b t. own_rate m n speed (suc g) (suc r) job y.length x y b.0 t inside new b.1),
+        (λ x y b t. own_rate m n speed (suc g) r job y.length x y b.0 t in_first new b.1)
+        (λ x y b t. own_rate m n speed (suc g) (suc r) job y.length x y b.0 t inside new b.1),
   )
 
   pub places_merged : (work : ℕ) → work ≡ amount (rate_at speed (suc r)) xs + gap → IsMerged (suc (suc g)) r (λ k. amount (rate_at speed k) xs) work (λ k. amount (rate_at speed k) (fs ++ ss))
   places_merged work e = record {
     before = λ k l. same_amount (rate_at speed k) (rate_at speed k)
-      (λ x y b t. rate_below m n speed (suc g) r job y.length x y b.0 t in_first new b.1 k l)
-      (λ x y b t. rate_below m n speed (suc g) (suc r) job y.length x y b.0 t inside new b.1 k (omega arith));
+        (λ x y b t. rate_below m n speed (suc g) r job y.length x y b.0 t in_first new b.1 k l)
+        (λ x y b t. rate_below m n speed (suc g) (suc r) job y.length x y b.0 t inside new b.1 k (omega arith));
     merged = omega (
       arith,
       e,
       gains,
       amounts (rate_at speed r) (rate_at speed (suc r)) (rate_at speed r)
-      (λ x y b t. rate_above m n speed (suc g) r job y.length x y b.0 t in_first new b.1 r (omega arith))
-      (λ x y b t. rate_below m n speed (suc g) (suc r) job y.length x y b.0 t inside new b.1 r (omega arith)),
+          (λ x y b t. rate_above m n speed (suc g) r job y.length x y b.0 t in_first new b.1 r (omega arith))
+          (λ x y b t. rate_below m n speed (suc g) (suc r) job y.length x y b.0 t inside new b.1 r (omega arith)),
     );
     behind = λ k l b. same_amount (rate_at speed k) (rate_at speed (suc k))
-      (λ x y c t. rate_above m n speed (suc g) r job y.length x y c.0 t in_first new c.1 k (omega arith))
-      (λ x y c t. rate_above m n speed (suc g) (suc r) job y.length x y c.0 t inside new c.1 k l);
+        (λ x y c t. rate_above m n speed (suc g) r job y.length x y c.0 t in_first new c.1 k (omega arith))
+        (λ x y c t. rate_above m n speed (suc g) (suc r) job y.length x y c.0 t inside new c.1 k l);
   }

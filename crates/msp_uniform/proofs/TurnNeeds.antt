@@ -1,11 +1,11 @@
 -- What the steps of a turn ask for.
-use Rattle.std.proofs.Common.{◌≡◌, ◌≢◌, ℕ, zero, suc, ◌+◌, ◌*◌, ◌-◌, ◌<◌, ◌≤◌, ◌⊎◌, inl, inr, Bool, true, false, List, [], ◌∷◌, length, All, refl, sym, ap, subst, ◌∙◌, arith}
+use Rattle.std.proofs.Common.{◌≡◌, ℕ, zero, suc, ◌+◌, ◌*◌, ◌-◌, ◌<◌, ◌≤◌, inl, inr, true, false, List, [], ◌∷◌, length, All, refl, ap, subst, ◌∙◌, arith}
 use Rattle.std.proofs.Math.Nat.{mul-le-mul_left}
-use Rattle.std.proofs.lemmas.List.Elements.{All-head, All-tail, All-weaker}
+use Rattle.std.proofs.lemmas.List.Elements.{All-head, All-tail}
 use Rattle.msp_class.proofs.Sums.{sum_by-cons}
 use Rattle.msp_uniform.specs.declared.segments.Segment.{Segment}
-use Rattle.msp_uniform.specs.Segments.{at, place_at, IsSegment, IsPartOf, rate_at, gain_at, amount, CanGain, StopsAt, IsDifference, AreScaled, HasPlaces}
-use Rattle.msp_uniform.proofs.ScaledFacts.{IsRead, amount-least, length-short, rates_short, CanGain-scaled, All-scaled, IsSegment-part, job_kept}
+use Rattle.msp_uniform.specs.Segments.{at, IsSegment, rate_at, gain_at, amount, CanGain, StopsAt, IsDifference, AreScaled, HasPlaces}
+use Rattle.msp_uniform.proofs.ScaledFacts.{IsRead, amount-least, length-short, rates_short, CanGain-scaled, All-scaled, IsSegment-part}
 
 amount-add : (f g k : Segment → ℕ) (xs : List Segment) → All (λ x. f x ≡ g x + k x) xs → amount f xs ≡ amount g xs + amount k xs
 amount-add f g k [] h = refl

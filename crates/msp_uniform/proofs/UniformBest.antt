@@ -1,5 +1,5 @@
 -- Segments in a row as a schedule on uniform machines: it is feasible, and best where its end is a least end.
-use Rattle.std.proofs.Common.{◌≡◌, ◌≢◌, ℕ, zero, suc, ◌+◌, ◌*◌, ◌-◌, ◌<◌, ◌≤◌, Bool, true, false, cond, eqb, List, [], ◌∷◌, length, get_or, filter, map, fold, ℤ, pos, nat_abs, ◌+ℤ◌, ◌-ℤ◌, ◌*ℤ◌, ◌≤ℤ◌, All, AllPairs, sum_by, MatchBool, refl, sym, ap, subst, subst₂, ◌∙◌, arith, zero-add}
+use Rattle.std.proofs.Common.{◌≡◌, ℕ, ◌+◌, ◌*◌, ◌-◌, ◌<◌, ◌≤◌, Bool, cond, eqb, List, [], ◌∷◌, length, get_or, filter, map, fold, ℤ, pos, nat_abs, ◌+ℤ◌, ◌-ℤ◌, ◌*ℤ◌, ◌≤ℤ◌, All, sum_by, MatchBool, sym, ap, subst, subst₂, ◌∙◌, arith, zero-add}
 use Rattle.std.proofs.lemmas.Bool.{ne_eqb}
 use Rattle.std.proofs.lemmas.Int.{ints}
 use Rattle.std.proofs.Math.Nat.{mul-le-mul_left}
@@ -8,9 +8,8 @@ use native.Mathlib.Nat.{le_of_mul-le-mul_left}
 use Rattle.msp_class.specs.declared.environments.EnvKind.{EnvKind}
 use Rattle.msp_class.specs.declared.environments.EnvKind.TheVariants.{Uniform}
 use Rattle.msp_class.specs.Env.{kind_of}
-use Rattle.msp_class.specs.Sums.{total_below}
 use Rattle.msp_class.proofs.Sums.{cond-scale, sum_by-cons, sum_by-filter, sum_by-agree}
-use Rattle.msp_class.proofs.IntegerRing.{natural, pos-le, le-pos, pos-+ℤ-pos, pos-*ℤ-pos, ≤ℤ_antisym, ≤ℤ_trans}
+use Rattle.msp_class.proofs.IntegerRing.{natural, pos-le, le-pos, pos-+ℤ-pos, pos-*ℤ-pos, ≤ℤ_antisym}
 use Rattle.msp_instance.specs.declared.Arc.{Arc}
 use Rattle.msp_instance.specs.declared.Instance.{Instance}
 use Rattle.msp_instance.specs.Instance.{job_at, no_job}

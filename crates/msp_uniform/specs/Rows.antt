@@ -1,5 +1,5 @@
 -- Slices of time, in each of which a machine has one job or none, one after another. No public contract cites this file.
-use Rattle.std.specs.Prelude.{◌≡◌, ℕ, suc, ◌+◌, ◌<◌, ◌≤◌, ◌==◌, List, [], ◌∷◌, ◌++◌, length, pos, slice_index_or, sum_by, if◌then◌else◌}
+use Rattle.std.specs.Prelude.{◌≡◌, ℕ, suc, ◌+◌, ◌<◌, ◌≤◌, ◌==◌, List, [], ◌∷◌, ◌++◌, length, pos, slice_index_or, if◌then◌else◌}
 use Rattle.msp_schedule.specs.declared.Piece.{Piece}
 
 -- The job on a machine from a to b, where `op` says which operation runs on each machine.

@@ -1,5 +1,5 @@
 -- The class of preemptive jobs on uniform machines, when it can be solved, and what a best schedule costs.
-use Rattle.std.specs.Prelude.{◌≡◌, ℕ, ◌+◌, ◌*◌, ◌-◌, ◌^◌, ◌<◌, ◌≤◌, ◌⊎◌, max, min, true, false, List, length, take, fold, ℤ, pos, ◌*ℤ◌, ◌≤ℤ◌, All, AllPairs, IsPermutation, sum_by}
+use Rattle.std.specs.Prelude.{◌≡◌, ℕ, ◌*◌, ◌-◌, ◌^◌, ◌<◌, ◌≤◌, ◌⊎◌, max, min, true, false, List, length, take, fold, ℤ, pos, ◌*ℤ◌, ◌≤ℤ◌, All, AllPairs, IsPermutation, sum_by}
 use Rattle.std.specs.List.{range_with_len}
 use Rattle.msp_class.specs.declared.class.Class.{Class}
 use Rattle.msp_class.specs.declared.class.Env.TheVariants.{Q}

@@ -1,5 +1,5 @@
-use Rattle.std.proofs.Common.{◌≤◌, ◌*◌, inl, refl, sym, subst, All, length, true, ◌≡◌, arith}
-use Rattle.msp_uniform.specs.Segments.{at, amount, gain_at, CanGain, HasPlaces}
+use Rattle.std.proofs.Common.{◌≤◌, inl, refl, sym, subst, All, length, true, ◌≡◌, arith}
+use Rattle.msp_uniform.specs.Segments.{at, gain_at, CanGain, HasPlaces}
 use Rattle.msp_uniform.proofs.TurnNeeds.{difference_some, difference_small, gain_enough, lengths_short, fine_machines, fine_places, fine_short, fine_gains, gain_short}
 use Rattle.msp_uniform.proofs.filling.turn.Goals as goal
 

@@ -1,5 +1,4 @@
-use Rattle.msp_uniform.proofs.LayingFacts.{IsLaying-start, can_gain-here, IsLaying-item, AreLaid-end}
-use Rattle.std.proofs.Common.{arith}
+use Rattle.msp_uniform.proofs.LayingFacts.{IsLaying-start, can_gain-here, IsLaying-item}
 use Rattle.msp_uniform.proofs.laying.lay.Goals as goal
 
 pub loop-segment-init : goal.loop-segment-init

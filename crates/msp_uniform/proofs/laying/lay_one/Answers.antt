@@ -1,4 +1,4 @@
-use Rattle.std.proofs.Common.{◌≡◌, ◌++◌, [], ◌∷◌, ◌/◌, ◌<◌, ◌≤◌, ◌*◌, sym, ap, ◌∙◌, slice_index_or, subst, arith}
+use Rattle.std.proofs.Common.{◌++◌, [], ◌∷◌, ◌<◌, ◌*◌, sym, ap, ◌∙◌, slice_index_or, subst, arith}
 use Rattle.msp_uniform.specs.Segments.{IsOneLaid}
 use Rattle.msp_uniform.proofs.LayingFacts.{IsOneLaid-whole, IsOneLaid-rest, IsOneLaid-both, must_divide}
 use Rattle.msp_uniform.proofs.laying.lay_one.Goals.{then-length-gt0+in_ok-part-2+in_ok-push-2, else-length-gt0}

@@ -1,4 +1,4 @@
-use Rattle.std.proofs.Common.{◌≤◌, arith}
+use Rattle.std.proofs.Common.{arith}
 use Rattle.msp_uniform.proofs.ScaledFacts.{StopsAt-end}
 use Rattle.msp_uniform.proofs.turning.last_gain.Goals as goal
 

@@ -1,4 +1,4 @@
-use Rattle.std.proofs.Common.{◌<◌, ◌≤◌, arith}
+use Rattle.std.proofs.Common.{arith}
 use Rattle.msp_uniform.specs.Segments.{at, rate_at, amount}
 use Rattle.msp_uniform.proofs.ScaledFacts.{not_first, before_it}
 use Rattle.msp_uniform.proofs.turning.place_for.Goals as goal

@@ -1,4 +1,4 @@
-use Rattle.std.proofs.Common.{◌<◌, ◌≤◌}
+use Rattle.std.proofs.Common.{◌<◌}
 use Rattle.msp_uniform.specs.Segments.{at, rate_at, amount}
 use Rattle.msp_uniform.proofs.turning.place_for.Given as goal
 

@@ -1,4 +1,4 @@
-use Rattle.std.proofs.Common.{◌≤◌, ◌*◌, ◌+◌, arith}
+use Rattle.std.proofs.Common.{arith}
 use Rattle.msp_uniform.proofs.ScaledFacts.{work_short}
 use Rattle.msp_uniform.proofs.turning.work_of.Goals as goal
 
