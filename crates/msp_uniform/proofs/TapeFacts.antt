@@ -1,18 +1,18 @@
 -- The jobs that no place is too short for, laid one after another from the last place to the first.
-use Rattle.std.proofs.Common.{◌≡◌, ◌≢◌, ℕ, zero, suc, ◌+◌, ◌*◌, ◌-◌, ◌<◌, ◌≤◌, inl, inr, Bool, true, false, leb, List, [], ◌∷◌, ◌++◌, length, get_or, All, sum_by, refl, subst, arith}
+use Rattle.std.proofs.Common.{◌≡◌, ◌≢◌, ℕ, zero, suc, ◌+◌, ◌*◌, ◌-◌, ◌<◌, ◌≤◌, inl, inr, Bool, true, false, leb, List, [], ◌∷◌, ◌++◌, length, get_or, All, Contains, cond, sum_by, ap, sym, ◌∙◌, ◌⊎◌, refl, subst, arith}
 use Rattle.std.specs.Int.{◌∣◌}
 use Rattle.std.specs.Prelude.{⊤}
-use Rattle.std.proofs.lemmas.Bool.{leb-true, leb-false}
+use Rattle.std.proofs.lemmas.Bool.{leb-true, leb-false, ne_eqb}
 use Rattle.std.proofs.Math.Nat.{dvd-add_iff_right}
-use Rattle.std.proofs.lemmas.List.Elements.{All-head, All-tail}
-use Rattle.msp_class.proofs.Sums.{sum_by-cons, sum_by-append}
+use Rattle.std.proofs.lemmas.List.Elements.{All-append, All-head, All-tail}
+use Rattle.msp_class.proofs.Sums.{sum_by-cons, sum_by-append, sum_by-none, total_below-none, Contains-tail, AllPairs-head, AllPairs-tail}
 use Rattle.msp_uniform.specs.declared.segments.Segment.{Segment}
-use Rattle.msp_uniform.specs.Segments.{at, IsSegment, IsAbsent, rate_at, job_rate, amount, CanGain, AreLaid}
+use Rattle.msp_uniform.specs.Segments.{at, job_on, IsSegment, IsAbsent, rate_at, job_rate, amount, gained, CanGain, AreLaid}
 use Rattle.msp_uniform.specs.Plans.{IsTape}
 use Rattle.msp_class.specs.Sums.{total_below}
-use Rattle.msp_uniform.proofs.SegmentFacts.{IsSegment-taken, rate_below, own_rate, other_rate}
-use Rattle.msp_uniform.proofs.LaidFacts.{All-firsts, All-seconds, amount-firsts, amount-seconds}
-use Rattle.msp_uniform.proofs.ScaledFacts.{IsRead-place, IsRead-job, IsSegment-part}
+use Rattle.msp_uniform.proofs.SegmentFacts.{same_or_not, IsSegment-taken, rate_below, own_rate, other_rate, still_absent}
+use Rattle.msp_uniform.proofs.LaidFacts.{gained-mono, All-firsts, All-seconds, amount-firsts, amount-seconds}
+use Rattle.msp_uniform.proofs.ScaledFacts.{IsRead-place, IsRead-job, IsSegment-part, job_kept}
 
 -- What is done before a segment is a multiple of the rate in it.
 abbrev pub AreWhole : (Segment → ℕ) → ℕ → List Segment → Type 0
@@ -114,4 +114,76 @@ module _ (speeds : List ℕ) (n : ℕ) (time : ℕ → ℕ) (j : ℕ) (left : Li
   )
     where
       one : (k : ℕ) → k + 1 ≡ suc k
+      one k = omega arith
+
+  firsts_are : All (IsSegment m n (at speeds) h) fs
+  firsts_are = tape_firsts m n (at speeds) h j (unit * time j) late fs ss new each absent laid
+
+  seconds_are : All (IsSegment m n (at speeds) (suc h)) ss
+  seconds_are = tape_seconds m n (at speeds) h j (unit * time j) late fs ss new each absent laid
+
+  -- a job without a machine gets no work
+  idle_rate : (k : ℕ) → (x : Segment) → IsAbsent m k x → job_rate m (at speeds) k x ≡ 0
+  idle_rate k x a = total_below-none m _ (λ i l. ap (λ v. cond v (at speeds i) 0) (ne_eqb (job_on x i) k (a i l)))
+
+  idle_amount : (k : ℕ) (xs : List Segment) → All (IsAbsent m k) xs → amount (job_rate m (at speeds) k) xs ≡ 0
+  idle_amount k xs a = sum_by-none (λ x. x.length * job_rate m (at speeds) k x) xs (λ q d l. omega (arith, ap (λ v. (get_or xs q d).length * v) (idle_rate k (get_or xs q d) (a q d l))))
+
+  -- the job is done, and the others as they were
+  pub done_left : (k : ℕ) → k < n → Contains left k ⊎ (amount (job_rate m (at speeds) k) (early ++ fs) + amount (job_rate m (at speeds) k) ss ≡ unit * time k)
+  done_left k l = elim (same_or_not k j) [
+    | inl q ↦ inr (subst (λ a. amount (job_rate m (at speeds) a) (early ++ fs) + amount (job_rate m (at speeds) a) ss ≡ unit * time a) (sym q) (omega (
+      arith,
+      joined (job_rate m (at speeds) j),
+      idle_amount j early (All-head (λ i. All (IsAbsent m i) early) j left p.absent_early),
+      idle_amount j ss (All-seconds (λ x. IsSegment m n (at speeds) (suc h) x × IsAbsent m j x) (IsAbsent m j) (λ x b. b.0.lasts) (λ x y b t s i c e. b.1 i c (sym (job_kept m n (at speeds) h _ x y t i) ∙ e)) laid.laid (λ q d b. (each q d b, absent q d b))),
+      tape_works m n (at speeds) h j (unit * time j) late fs ss new each absent laid,
+    )))
+    | inr d ↦ elim (p.done k l) [
+      | inl c ↦ inl (Contains-tail j left k c (λ q. d (sym q)))
+      | inr w ↦ inr (omega (arith, w, joined (job_rate m (at speeds) k), tape_others m n (at speeds) h j (unit * time j) late fs ss new each absent laid k l d))
+    ]
+  ]
+
+  abbrev Both : ℕ → Segment → Type 0
+  Both k x = (IsSegment m n (at speeds) (suc h) x × IsAbsent m j x) × IsAbsent m k x
+
+  absent_firsts : (k : ℕ) → k ≢ j → All (IsAbsent m k) late → All (IsAbsent m k) fs
+  absent_firsts k d a = All-firsts (Both k) (IsAbsent m k) (λ x b. b.0.0.lasts) (λ x y b t l. still_absent m n (at speeds) h h j y.length x y b.0.0 t (omega arith) new b.0.1 k d b.1) laid.laid (λ q e b. ((each q e b, absent q e b), a q e b))
+
+  absent_seconds : (k : ℕ) → All (IsAbsent m k) late → All (IsAbsent m k) ss
+  absent_seconds k a = All-seconds (λ x. IsSegment m n (at speeds) (suc h) x × IsAbsent m k x) (IsAbsent m k) (λ x b. b.0.lasts) (λ x y b t s i c e. b.1 i c (sym (job_kept m n (at speeds) h _ x y t i) ∙ e)) laid.laid (λ q d b. (each q d b, a q d b))
+
+  other : (k d : ℕ) → k < length left → get_or left k d ≢ j
+  other k d l e = AllPairs-head (λ a b. a ≢ b) j left p.apart k d l (sym e)
+
+  -- the last free machines can do no less for the others than before
+  module _ (g : ℕ) (is : h ≡ g + 1) where
+    faster : amount (rate_at (at speeds) h) ss + unit * time j ≤ amount (rate_at (at speeds) h) late
+    faster = omega (arith, tape_rest m n (at speeds) h j (unit * time j) late fs ss new each absent laid)
+
+    slower : gained (rate_at (at speeds) h) laid.parts late ≤ gained (rate_at (at speeds) g) laid.parts late
+    slower = gained-mono (rate_at (at speeds) h) (rate_at (at speeds) g) laid.parts late (λ k d l. (each k d l).falls g h (omega (arith, is)) (omega arith))
+
+    firsts_do : amount (rate_at (at speeds) g) fs ≡ gained (rate_at (at speeds) g) laid.parts late
+    firsts_do = amount-firsts (λ x. IsSegment m n (at speeds) (suc h) x × IsAbsent m j x) (rate_at (at speeds) g) (rate_at (at speeds) g) (λ x y b t. rate_below m n (at speeds) h h j y.length x y b.0 t (omega arith) new b.1 g (omega (arith, is))) laid.laid (λ q d b. (each q d b, absent q d b))
+
+    pub short_left : All (λ i. unit * time i ≤ amount (rate_at (at speeds) g) (early ++ fs) + amount (rate_at (at speeds) h) ss) left
+    short_left k d l = omega (arith, All-tail (λ i. unit * time i ≤ amount (rate_at (at speeds) g) early + amount (rate_at (at speeds) h) late) j left (p.short g is) k d l, joined (rate_at (at speeds) g), firsts_do, slower, laid.gains, tape_rest m n (at speeds) h j (unit * time j) late fs ss new each absent laid)
+
+  pub IsTape-next : IsTape speeds n time left unit end h (early ++ fs) ss
+  IsTape-next = record {
+    each_early = All-append (IsSegment m n (at speeds) h) early fs p.each_early firsts_are;
+    each_late = subst (λ k. All (IsSegment m n (at speeds) k) ss) (one h) seconds_are;
+    whole = omega (arith, joined (λ _. 1), tape_time m n (at speeds) h j (unit * time j) late fs ss new each absent laid, p.whole);
+    absent_early = λ k d l. All-append (IsAbsent m _) early fs (All-tail (λ i. All (IsAbsent m i) early) j left p.absent_early k d l) (absent_firsts _ (other k d l) (All-tail (λ i. All (IsAbsent m i) late) j left p.absent_late k d l));
+    absent_late = λ k d l. absent_seconds _ (All-tail (λ i. All (IsAbsent m i) late) j left p.absent_late k d l);
+    done = done_left;
+    room = subst (λ k. sum_by (λ i. unit * time i) left ≤ total_below h (λ k. amount (rate_at (at speeds) k) (early ++ fs)) + total_below k (λ k. amount (rate_at (at speeds) k) ss)) (one h) room_left;
+    short = short_left;
+    apart = AllPairs-tail (λ a b. a ≢ b) j left p.apart;
+    inside = All-tail (λ i. i < n) j left p.inside;
+  }
+    where
+      one : (k : ℕ) → suc k ≡ k + 1
       one k = omega arith
