@@ -14,3 +14,5 @@ pub mod InSeries
 pub mod Grouped
 pub mod ShopClasses
 pub mod Answered
+pub mod SlicedPieces
+pub mod OpenCutFacts

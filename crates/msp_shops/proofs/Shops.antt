@@ -221,45 +221,48 @@ pub record IsBestPlan (i : Instance) (end : ℕ) (s : Schedule) : Type 0 where
   pub answer : IsAnswer i s
   pub cost : cost_of i s ≡ pos end
 
-module _ (i : Instance) (h : IsPlainShop i) (end : ℕ) (least : IsLeastEnd i end) where
+module _ (i : Instance) (kind : is_shop i.class.env ≡ true) (crit : i.class.crit ≡ Cmax) (some : 1 ≤ length i.jobs) (end : ℕ) (least : IsLeastEnd i end) where
   bound : (t : Schedule) → Feasible i t → (pos end *ℤ t.unit) ≤ℤ cost_of i t
-  bound t f = subst (λ x. x ≤ℤ cost_of i t) (*ℤ_comm t.unit (pos end)) (least t f (cost_of i t) (omega (arith, ints, cost_natural i h.crit t h.some)) (ends_by_cost i h.crit t))
+  bound t f = subst (λ x. x ≤ℤ cost_of i t) (*ℤ_comm t.unit (pos end)) (least t f (cost_of i t) (omega (arith, ints, cost_natural i crit t some)) (ends_by_cost i crit t))
 
-  module _ (ps : List Piece) (w : IsShopPlan i ps) (few : length ps ≤ 500000) (ends : All (λ p. finish p ≤ end) ps) (short : end ≤ 10 ^ 25) where
+  module _ (ps : List Piece) (feasible : Feasible i (over_one ps)) (few : length ps ≤ 500000) (ends : All (λ p. finish p ≤ end) ps) (short : end ≤ 10 ^ 25) where
     abbrev made : Schedule
     made = over_one ps
 
-    feasible : Feasible i made
-    feasible = Feasible-from_plan i h ps w
+    timed : All IsTimed ps
+    timed k d l = IsTimed-from_span _ (feasible.span k d l)
 
     ended : All (λ p. p.to ≤ℤ pos end) ps
-    ended k d l = omega (arith, ints, (w.timed k d l).to, ends k d l)
+    ended k d l = omega (arith, ints, (timed k d l).to, ends k d l)
 
     upper : cost_of i made ≤ℤ pos end
-    upper = cost_by_ends i h.crit made h.some (pos end) (omega (arith, ints)) ended
+    upper = cost_by_ends i crit made some (pos end) (omega (arith, ints)) ended
 
     cost_is : cost_of i made ≡ pos end
     cost_is = ≤ℤ_antisym upper (subst (λ x. x ≤ℤ cost_of i made) (*ℤ-one (pos end)) (bound made feasible))
 
     moments : All (λ p. IsMoment p.from × IsMoment p.to) ps
-    moments k d l = by (get_or ps k d) (w.timed k d l) (omega (arith, ends k d l, short))
+    moments k d l = by (get_or ps k d) (timed k d l) (omega (arith, ends k d l, short))
       where
         by : (p : Piece) → IsTimed p → finish p ≤ 10 ^ 25 → IsMoment p.from × IsMoment p.to
         by p t m = ((omega (arith, ints, t.from), omega (arith, ints, t.from, t.lasts, m)), (omega (arith, ints, t.to), omega (arith, ints, t.to, m)))
 
-    pub IsBestPlan-from_plan : IsBestPlan i end made
-    IsBestPlan-from_plan = record {
+    pub IsBestPlan-from_feasible : IsBestPlan i end made
+    IsBestPlan-from_feasible = record {
       best = record { feasible = feasible; least = λ t f. subst (λ x. (x *ℤ t.unit) ≤ℤ (cost_of i t *ℤ pos 1)) (sym cost_is) (subst (λ x. (pos end *ℤ t.unit) ≤ℤ x) (sym (*ℤ-one (cost_of i t))) (bound t f)) };
       within = record {
         unit = (omega (arith, ints), omega (arith, ints));
         few = few;
         moments = moments;
-        scaled = λ u. absurd (not_unrelated (kind_of i.class.env) h.kind u);
+        scaled = λ u. absurd (not_unrelated (kind_of i.class.env) kind u);
       };
       answer = record {
         few = few;
-        unit = unit_by (kind_of i.class.env) h.kind;
+        unit = unit_by (kind_of i.class.env) kind;
         ends = λ k d l. omega (arith, ints, ended k d l, short);
       };
       cost = cost_is;
     }
+
+pub IsBestPlan-from_plan : (i : Instance) → IsPlainShop i → (end : ℕ) → IsLeastEnd i end → (ps : List Piece) → IsShopPlan i ps → length ps ≤ 500000 → All (λ p. finish p ≤ end) ps → end ≤ 10 ^ 25 → IsBestPlan i end (over_one ps)
+IsBestPlan-from_plan i h end least ps w = IsBestPlan-from_feasible i h.kind h.crit h.some end least ps (Feasible-from_plan i h ps w)

@@ -6,3 +6,5 @@ pub mod OpenOrder
 pub mod Order
 pub mod Groups
 pub mod Laid
+pub mod OpenCut
+pub mod Sliced

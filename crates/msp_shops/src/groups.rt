@@ -21,7 +21,7 @@ fn first_machine(inst: &Instance, job: u32) -> u32
 }
 
 /// The time of an operation; one that the job has not takes none.
-fn time_of(needs: &[Need], op: usize) -> u64
+pub fn time_of(needs: &[Need], op: usize) -> u64
     ensures { result ≡ (slice_index_or needs.now op no_need).time }
 {
     if op < needs.len() { needs[op].time } else { 0 }

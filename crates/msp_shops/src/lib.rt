@@ -1,15 +1,17 @@
-//! The solvers of two-machine shops.
+//! The solvers of two-machine shops, and of open shops with preemption.
 //!
-//! It stands on `msp_schedule` and `msp_route`. The layers above use the clauses of `Solver`: the answers are best; and that of
-//! `open_shop`: the cost is the greatest of the loads of both machines and of the lengths of the jobs.
+//! It stands on `msp_schedule`, `msp_route` and `msp_timetable`. The layers above use the clauses of `Solver`: the answers are best; and
+//! those of `open_shop` and `OpenCut`: the cost is the greatest of the loads of the machines and of the lengths of the jobs.
 #![tactic(auto)]
 
 mod groups;
 mod jackson;
 mod johnson;
 mod open;
+mod open_cut;
 mod order;
 mod pass;
+mod slices;
 #[cfg(test)]
 mod tests;
 mod two_machines;
@@ -17,3 +19,4 @@ mod two_machines;
 pub use jackson::Jackson;
 pub use johnson::Johnson;
 pub use open::{Open2, open_shop};
+pub use open_cut::OpenCut;

@@ -1,5 +1,5 @@
-// Best schedules of small shops of two machines.
-use crate::{Jackson, Johnson, Open2};
+// Best schedules of small shops.
+use crate::{Jackson, Johnson, Open2, OpenCut};
 use msp_instance::Need;
 use msp_route::Solver;
 use msp_samples::{instance_by_needs, need, operation_piece};
@@ -19,6 +19,11 @@ fn jackson(alloc: Global, routes: &[&[Need]]) -> Option<Solution> {
 fn open2(alloc: Global, routes: &[&[Need]]) -> Option<Solution> {
     let inst = instance_by_needs(alloc, Open2.target(), 2, &[], routes)?;
     Open2.solve(alloc, &inst).ok()
+}
+
+fn open_cut(alloc: Global, machines: u32, routes: &[&[Need]]) -> Option<Solution> {
+    let inst = instance_by_needs(alloc, OpenCut.target(), machines, &[], routes)?;
+    OpenCut.solve(alloc, &inst).ok()
 }
 
 #[test]
@@ -110,4 +115,15 @@ fn a_job_of_one_operation_in_an_open_shop(rt: HostRuntime) {
     ];
     assert_eq!(rt; best.cost.num, 9);
     assert_eq!(rt; best.schedule.pieces.as_slice(), pieces.as_slice());
+}
+
+#[test]
+fn two_jobs_that_are_cut_over_three_machines(rt: HostRuntime) {
+    let routes: [&[Need]; 2] = [
+        &[need(0, 2), need(1, 2), need(2, 2)],
+        &[need(0, 2), need(1, 2), need(2, 2)],
+    ];
+    let best = open_cut(rt.alloc(), 3, &routes).expect(&rt, "there is memory");
+    assert_eq!(rt; best.cost.num, 6);
+    assert_eq!(rt; best.schedule.unit, 1);
 }

@@ -1,0 +1,280 @@
+-- Open shops with preemption: what an instance has, the lines of its matrix of times, and why laid slices are best.
+use Rattle.std.proofs.Common.{◌≡◌, ◌≢◌, ℕ, suc, ◌+◌, ◌*◌, ◌<◌, ◌≤◌, ◌⊎◌, inl, inr, true, cond, eqb, List, [], ◌∷◌, ◌++◌, length, get_or, map, All, AllPairs, MatchBool, ℤ, pos, ◌+ℤ◌, ◌*ℤ◌, ◌≤ℤ◌, sum_by, append_assoc, refl, sym, ap, ap₂, subst, subst₂, ◌∙◌, arith}
+use Rattle.std.specs.List.{range_with_len}
+use Rattle.std.proofs.lemmas.Int.{ints}
+use Rattle.std.proofs.lemmas.Nat.{mul-le}
+use Rattle.std.proofs.lemmas.Bool.{cases_lt}
+use Rattle.std.proofs.lemmas.List.{get_or_append_left, get_or-append-add, length-append}
+use Rattle.std.proofs.lemmas.List.FromFn.{get_or-map-range_with_len, length-map-range_with_len, map-range_with_len_more}
+use Rattle.std.proofs.lemmas.List.Elements.{All-nil}
+use Rattle.msp_class.specs.declared.class.Env.{Env}
+use Rattle.msp_class.specs.declared.class.Times.{Times}
+use Rattle.msp_class.specs.declared.class.Crit.TheVariants.{Cmax}
+use Rattle.msp_class.specs.declared.environments.EnvKind.TheVariants.{OpenShop}
+use Rattle.msp_class.specs.Env.{kind_of, is_shop}
+use Rattle.msp_class.specs.Sums.{total_below}
+use Rattle.msp_class.proofs.IntegerRing.{≤ℤ_trans, one-*ℤ}
+use Rattle.msp_class.proofs.Sums.{total_below-same, total_below-bound, total_below-only, eqb_comm, int_total_below-natural}
+use Rattle.msp_instance.specs.declared.Arc.{Arc}
+use Rattle.msp_instance.specs.declared.Need.{Need}
+use Rattle.msp_instance.specs.declared.Instance.{Instance}
+use Rattle.msp_instance.specs.Instance.{no_need, no_job, job_at, need_at}
+use Rattle.msp_instance.specs.Conditions.{HasShape, HasTimes, HasRelease, HasArcs, MeetsConditions, Inner, inner_limits, least_time, greatest_time}
+use Rattle.msp_schedule.specs.declared.Piece.{Piece}
+use Rattle.msp_schedule.specs.declared.Schedule.{Schedule}
+use Rattle.msp_schedule.specs.declared.Frac.{Frac}
+use Rattle.msp_schedule.specs.Fraction.{IsOver}
+use Rattle.msp_schedule.specs.Piece.{pieces_of, IsBefore, IsApart, finish}
+use Rattle.msp_schedule.specs.Feasible.{Feasible, HasPlace, HasOperation, MayRun, FollowsRoute, GetsWork, IsWholeWork, total as sum, whole_work, work_of}
+use Rattle.msp_schedule.specs.Cost.{cost_of}
+use Rattle.msp_schedule.specs.Loads.{machine_load, job_length}
+use Rattle.msp_schedule.proofs.Places.{sum_by-places}
+use Rattle.msp_schedule.proofs.Loads.{law_of_machines, law_of_lines}
+use Rattle.msp_timetable.specs.declared.matrix.Matrix.{Matrix}
+use Rattle.msp_timetable.specs.declared.matrix.Slice.{Slice}
+use Rattle.msp_timetable.specs.Split.{cell, row_sum, column_sum, total, IsMatrix, IsGreatestSum, IsSplit}
+use Rattle.msp_shops.specs.OpenCut.{open_cut_class, IsGreatestLine, IsOpenCutCost}
+use Rattle.msp_shops.specs.Sliced.{laid, AreTimes, IsTimeMatrix, IsCutPlan}
+use Rattle.msp_shops.proofs.Shops.{IsLeastEnd, IsBestPlan, IsBestPlan-from_feasible, over_one}
+use Rattle.msp_shops.proofs.SlicedPieces.{Differ, IsLaidPiece, laid_pieces, laid_apart, laid_work, laid_few}
+
+-- ---- what an instance of the class has
+pub record IsCutInstance (i : Instance) : Type 0 where
+  pub kind : kind_of i.class.env ≡ OpenShop
+  pub shop : is_shop i.class.env ≡ true
+  pub cut : i.class.cut ≡ true
+  pub crit : i.class.crit ≡ Cmax
+  pub arcs : i.arcs ≡ []
+  pub release : All (λ j. j.release ≡ 0) i.jobs
+  pub some : 1 ≤ length i.jobs
+  pub few : length i.jobs ≤ 400
+  pub some_machines : 1 ≤ i.machines
+  pub few_machines : i.machines ≤ 32
+  pub needs : (j : ℕ) → j < length i.jobs → length (job_at i j).needs ≡ i.machines
+  pub machines : (j o : ℕ) → j < length i.jobs → o < i.machines → (need_at i j o).machine ≡ o
+  pub times : (j o : ℕ) → j < length i.jobs → o < i.machines → (need_at i j o).time ≤ 1000000000
+
+pub IsCutInstance-from_class : (i : Instance) → i.class ≡ open_cut_class → Inner i → IsCutInstance i
+IsCutInstance-from_class i e h =
+    let env : i.class.env ≡ Env.O = ap (λ c. c.env) e in
+    let m : MeetsConditions (inner_limits (kind_of i.class.env)) i = h.conditions in
+    record {
+      kind = ap kind_of env;
+      shop = ap is_shop env;
+      cut = ap (λ c. c.cut) e;
+      crit = ap (λ c. c.crit) e;
+      arcs = subst (λ o. HasArcs o i.arcs) (ap (λ c. c.order) e) m.arcs;
+      release = λ k d l. subst (λ b. HasRelease (inner_limits (kind_of i.class.env)) b (get_or i.jobs k d).release) (ap (λ c. c.heads) e) (m.jobs k d l).release;
+      some = m.some;
+      few = m.few;
+      some_machines = m.machines.0;
+      few_machines = m.machines.1;
+      needs = λ j l. (shape env m j l).0;
+      machines = λ j o l b. let s = shape env m j l in s.1 o (omega (arith, s.0, b));
+      times = λ j o l b. let s = shape env m j l in
+          let S : Env → Times → Type 0 = λ v t. HasTimes (least_time (kind_of v) t) (greatest_time (inner_limits (kind_of v)) t) (job_at i j).needs in
+          (subst₂ S env (ap (λ c. c.times) e) (m.jobs j no_job l).needs.times o no_need (omega (arith, s.0, b))).1;
+    }
+  where
+    shape : i.class.env ≡ Env.O → MeetsConditions (inner_limits (kind_of i.class.env)) i → (j : ℕ) → j < length i.jobs → HasShape OpenShop Env.O i.machines (job_at i j).needs
+    shape env m j l = subst (λ v. HasShape (kind_of v) v i.machines (job_at i j).needs) env (m.jobs j no_job l).needs.shape
+
+-- ---- loads and lengths
+on_machine : (needs : List Need) (n o : ℕ) → length needs ≡ n → ((k : ℕ) → k < n → (get_or needs k no_need).machine ≡ k) → o < n → sum_by (λ n. cond (eqb n.machine o) n.time 0) needs ≡ (get_or needs o no_need).time
+on_machine needs n o size is l =
+    sum_by-places (λ (n : Need). cond (eqb n.machine o) n.time 0) needs no_need
+    ∙ ap (λ k. total_below k (λ k. cond (eqb (get_or needs k no_need).machine o) (get_or needs k no_need).time 0)) size
+    ∙ total_below-same n (λ k. cond (eqb (get_or needs k no_need).machine o) (get_or needs k no_need).time 0) (λ k. cond (eqb o k) (get_or needs k no_need).time 0) (λ k m. ap (λ b. cond b (get_or needs k no_need).time 0) (ap (λ x. eqb x o) (is k m) ∙ eqb_comm k o))
+    ∙ total_below-only n (λ k. (get_or needs k no_need).time) o l
+
+module _ (i : Instance) (h : IsCutInstance i) where
+  load_is : (o : ℕ) → o < i.machines → machine_load i o ≡ total_below (length i.jobs) (λ j. (need_at i j o).time)
+  load_is o l =
+      sum_by-places (λ j. sum_by (λ n. cond (eqb n.machine o) n.time 0) j.needs) i.jobs no_job
+      ∙ total_below-same (length i.jobs) _ (λ j. (need_at i j o).time) (λ j b. on_machine (job_at i j).needs i.machines o (h.needs j b) (λ k m. h.machines j k b m) l)
+
+  length_is : (j : ℕ) → j < length i.jobs → job_length i j ≡ total_below i.machines (λ o. (need_at i j o).time)
+  length_is j l = sum_by-places (λ (n : Need). n.time) (job_at i j).needs no_need ∙ ap (λ n. total_below n (λ o. (need_at i j o).time)) (h.needs j l)
+
+  load_short : (o : ℕ) → o < i.machines → machine_load i o ≤ 400000000000
+  load_short o l = omega (arith, load_is o l, total_below-bound (length i.jobs) 1000000000 (λ j. (need_at i j o).time) (λ j b. h.times j o b l), h.few)
+
+  length_short : (j : ℕ) → j < length i.jobs → job_length i j ≤ 32000000000
+  length_short j l = omega (arith, length_is j l, total_below-bound i.machines 1000000000 (λ o. (need_at i j o).time) (λ o b. h.times j o l b), h.few_machines)
+
+  end_short : (end : ℕ) → IsGreatestLine i end → end ≤ 400000000000
+  end_short end e = by e.reached
+    where
+      by : ((m : ℕ) × (m < i.machines) × (end ≡ machine_load i m)) ⊎ ((j : ℕ) × (j < length i.jobs) × (end ≡ job_length i j)) → end ≤ 400000000000
+      by (inl (m, l, f)) = omega (arith, f, load_short m l)
+      by (inr (j, l, f)) = omega (arith, f, length_short j l)
+
+  least_end : (end : ℕ) → IsGreatestLine i end → IsLeastEnd i end
+  least_end end e t f c b ends = by e.reached
+    where
+      by : ((m : ℕ) × (m < i.machines) × (end ≡ machine_load i m)) ⊎ ((j : ℕ) × (j < length i.jobs) × (end ≡ job_length i j)) → (t.unit *ℤ pos end) ≤ℤ c
+      by (inl (m, l, g)) = subst (λ n. (t.unit *ℤ pos n) ≤ℤ c) (sym g) (law_of_machines i t m c h.shop f b ends)
+      by (inr (j, l, g)) = subst (λ n. (t.unit *ℤ pos n) ≤ℤ c) (sym g) (≤ℤ_trans (law_of_lines i t j h.shop f l) (ends j l))
+
+  -- ---- the matrix of times
+  module _ (m : Matrix) (rows : m.rows ≡ i.machines) (columns : m.columns ≡ length i.jobs) (cells : (r c : ℕ) → r < m.rows → c < m.columns → cell m r c ≡ pos (need_at i c r).time) where
+    row_is : (r : ℕ) → r < m.rows → row_sum m r ≡ pos (machine_load i r)
+    row_is r l =
+        int_total_below-natural m.columns (λ c. cell m r c) (λ c. (need_at i c r).time) (λ c b. cells r c l b)
+        ∙ ap pos (ap (λ n. total_below n (λ c. (need_at i c r).time)) columns ∙ sym (load_is r (omega (arith, l, rows))))
+
+    column_is : (c : ℕ) → c < m.columns → column_sum m c ≡ pos (job_length i c)
+    column_is c l =
+        int_total_below-natural m.rows (λ r. cell m r c) (λ r. (need_at i c r).time) (λ r b. cells r c b l)
+        ∙ ap pos (ap (λ n. total_below n (λ r. (need_at i c r).time)) rows ∙ sym (length_is c (omega (arith, l, columns))))
+
+    is_matrix : length m.cells ≡ m.rows * m.columns → IsMatrix m
+    is_matrix whole = record {
+      whole = whole;
+      cells = λ r c l b. omega (arith, ints, cells r c l b);
+      row_sums = λ r l. omega (arith, ints, row_is r l, load_short r (omega (arith, l, rows)));
+      column_sums = λ c l. omega (arith, ints, column_is c l, length_short c (omega (arith, l, columns)));
+    }
+
+    greatest : (g : ℤ) → IsGreatestSum m g → (end : ℕ) × (g ≡ pos end) × IsGreatestLine i end
+    greatest g w = by w.line
+      where
+        lines : (end : ℕ) → g ≡ pos end → ((k : ℕ) × (k < i.machines) × (end ≡ machine_load i k)) ⊎ ((j : ℕ) × (j < length i.jobs) × (end ≡ job_length i j)) → IsGreatestLine i end
+        lines end e reached = record {
+          loads = λ k l. let b : k < m.rows = omega (arith, l, rows) in omega (arith, ints, w.rows k b, row_is k b, e);
+          lengths = λ j l. let b : j < m.columns = omega (arith, l, columns) in omega (arith, ints, w.columns j b, column_is j b, e);
+          reached = reached;
+        }
+
+        by : ((r : ℕ) × (r < m.rows) × (row_sum m r ≡ g)) ⊎ ((c : ℕ) × (c < m.columns) × (column_sum m c ≡ g)) → (end : ℕ) × (g ≡ pos end) × IsGreatestLine i end
+        by (inl (r, l, e)) = let is : g ≡ pos (machine_load i r) = sym e ∙ row_is r l in (machine_load i r, is, lines (machine_load i r) is (inl (r, omega (arith, l, rows), refl)))
+        by (inr (c, l, e)) = let is : g ≡ pos (job_length i c) = sym e ∙ column_is c l in (job_length i c, is, lines (job_length i c) is (inr (c, omega (arith, l, columns), refl)))
+
+    -- ---- the schedule
+    module _ (slices : List Slice) (split : IsSplit m slices) where
+      abbrev ps : List Piece
+      ps = laid m.columns (pos 0) slices
+
+      abbrev g : ℤ
+      g = total (λ s. s.length) slices
+
+      each : All (IsLaidPiece m.rows m.columns slices (pos 0) (pos 0 +ℤ g)) ps
+      each = laid_pieces m.rows m.columns (pos 0) slices split.each
+
+      pairs : AllPairs (λ p q. IsApart p q ⊎ Differ p q) ps
+      pairs = laid_apart m.rows m.columns (pos 0) slices split.each
+
+      job_inside : (p : Piece) → IsLaidPiece m.rows m.columns slices (pos 0) (pos 0 +ℤ g) p → p.job < length i.jobs
+      job_inside p a = omega (arith, a.job, columns)
+
+      timely : (p : Piece) → IsLaidPiece m.rows m.columns slices (pos 0) (pos 0 +ℤ g) p → (p.op < length (job_at i p.job).needs) × ((need_at i p.job p.op).time ≢ 0)
+      timely p a = (omega (arith, a.row, rows, h.needs p.job (job_inside p a)), λ z. absurd (some (need_at i p.job p.op).time z (subst (λ x. pos 1 ≤ℤ x) (split.cells p.op p.job a.row a.job ∙ cells p.op p.job a.row a.job) a.uses)))
+        where
+          some : (t : ℕ) → t ≡ 0 → pos 1 ≤ℤ pos t → ⊥
+          some t z l = absurd (omega (arith, ints, z, l))
+
+      place : (p : Piece) → IsLaidPiece m.rows m.columns slices (pos 0) (pos 0 +ℤ g) p → HasPlace i p
+      place p a = record {
+        job = job_inside p a;
+        operation = subst (λ k. HasOperation k i p.job p.op) (sym h.kind) (timely p a);
+        machine = subst (λ k. MayRun k i p.job p.op p.machine) (sym h.kind) (a.machine ∙ sym (h.machines p.job p.op (job_inside p a) (omega (arith, a.row, rows))));
+      }
+
+      released : (p : Piece) → IsLaidPiece m.rows m.columns slices (pos 0) (pos 0 +ℤ g) p → (pos 1 *ℤ pos (job_at i p.job).release) ≤ℤ p.from
+      released p a = by (job_at i p.job).release (h.release p.job no_job (job_inside p a))
+        where
+          by : (r : ℕ) → r ≡ 0 → (pos 1 *ℤ pos r) ≤ℤ p.from
+          by r z = subst (λ x. x ≤ℤ p.from) (sym (one-*ℤ (pos r))) (omega (arith, ints, z, a.from))
+
+      works : (j o : ℕ) → j < length i.jobs → HasOperation (kind_of i.class.env) i j o → GetsWork i (over_one ps) j o
+      works j o l op =
+          let there : o < length (job_at i j).needs = (subst (λ k. HasOperation k i j o) h.kind op).0 in
+          let row : o < m.rows = omega (arith, there, rows, h.needs j l) in
+          let column : j < m.columns = omega (arith, l, columns) in
+          subst₂ (λ b k. MatchBool b (sum (map (work_of k i) (pieces_of (over_one ps) j o)) ≡ pos 1 *ℤ pos (whole_work k i j o)) ((p : Piece) × (pieces_of (over_one ps) j o ≡ p ∷ []) × IsWholeWork k i (pos 1) p)) (sym h.cut) (sym h.kind)
+          (laid_work m.rows m.columns j o column row (pos 0) slices split.each ∙ split.cells o j row column ∙ cells o j row column ∙ sym (one-*ℤ (pos (need_at i j o).time)))
+
+      feasible : Feasible i (over_one ps)
+      feasible = record {
+        unit = omega (arith, ints);
+        span = λ k d l. ((each k d l).from, (each k d l).lasts);
+        place = λ k d l. place _ (each k d l);
+        machine = λ a b d l k e. on_one (get_or ps a d) (get_or ps b d) (pairs a b d l k) e;
+        job = λ a b d l k e. of_one (get_or ps a d) (get_or ps b d) (pairs a b d l k) e;
+        release = λ k d l. released _ (each k d l);
+        arc = subst (λ arcs. All (λ a. All (λ p. All (λ r. p.job ≡ a.before → r.job ≡ a.after → IsBefore p r) ps) ps) arcs) (sym h.arcs) (All-nil (λ (a : Arc). All (λ p. All (λ r. p.job ≡ a.before → r.job ≡ a.after → IsBefore p r) ps) ps));
+        route = subst (λ k. FollowsRoute k ps) (sym h.kind) tt;
+        work = works;
+      }
+        where
+          on_one : (p q : Piece) → IsApart p q ⊎ Differ p q → p.machine ≡ q.machine → IsApart p q
+          on_one p q (inl a) e = a
+          on_one p q (inr a) e = absurd (a.0 e)
+
+          of_one : (p q : Piece) → IsApart p q ⊎ Differ p q → p.job ≡ q.job → IsApart p q
+          of_one p q (inl a) e = a
+          of_one p q (inr a) e = absurd (a.1 e)
+
+      few : length ps ≤ 500000
+      few = by (length slices) m.rows m.columns (laid_few m.rows m.columns (pos 0) slices split.each) split.few (omega (arith, rows, h.few_machines)) (omega (arith, columns, h.few))
+        where
+          by : (n r c : ℕ) → length ps ≤ n * r → n ≤ r * c + 2 * (r + c) → r ≤ 32 → c ≤ 400 → length ps ≤ 500000
+          by n r c l s a b =
+              let cells : r * c ≤ 32 * 400 = mul-le r c 32 400 a b in
+              let most : n ≤ 13664 = omega (arith, s, cells, a, b) in
+              omega (arith, l, mul-le n r 13664 32 most a)
+
+      pub best_laid : (end : ℕ) × IsGreatestLine i end × IsBestPlan i end (over_one ps)
+      best_laid =
+          let (end, e, line) = greatest g split.lengths in (
+            end,
+            line,
+            IsBestPlan-from_feasible i h.shop h.crit h.some end (least_end end line) ps feasible few
+                (λ k d l. ended (get_or ps k d) end e (each k d l)) (omega (arith, end_short end line)),
+          )
+        where
+          ended : (p : Piece) (end : ℕ) → g ≡ pos end → IsLaidPiece m.rows m.columns slices (pos 0) (pos 0 +ℤ g) p → finish p ≤ end
+          ended p end e a = omega (arith, ints, a.to, a.from, a.lasts, e)
+
+-- ---- as the code has it
+pub row_next : (i : Instance) (k j : ℕ) (base old new : List ℤ) (x : ℤ) (t : ℕ) → new ≡ old ++ x ∷ [] → x ≡ pos t → t ≡ (need_at i j k).time → old ≡ base ++ map (λ j. pos (need_at i j k).time) (range_with_len 0 j) → new ≡ base ++ map (λ j. pos (need_at i j k).time) (range_with_len 0 (j + 1))
+row_next i k j base old new x t e is time so_far =
+    e ∙ ap₂ (λ l y. l ++ y ∷ []) so_far (is ∙ ap pos time) ∙ append_assoc base (map (λ j. pos (need_at i j k).time) (range_with_len 0 j)) (pos (need_at i j k).time ∷ [])
+    ∙ ap (λ l. base ++ l) (sym (map-range_with_len_more (λ j. pos (need_at i j k).time) 0 j j (omega arith)))
+
+pub AreTimes-next : (i : Instance) (k : ℕ) (old new : List ℤ) → new ≡ old ++ map (λ j. pos (need_at i j k).time) (range_with_len 0 (length i.jobs)) → AreTimes i k old → AreTimes i (k + 1) new
+AreTimes-next i k old new e h = record {
+  all = omega (arith, ap length e, length-append old row, length-map-range_with_len (λ j. pos (need_at i j k).time) 0 (length i.jobs), h.all);
+  each = λ r c l b. ap (λ xs. get_or xs (r * length i.jobs + c) (pos 0)) e ∙ by r c b (cases_lt r k) l;
+}
+  where
+    row : List ℤ
+    row = map (λ j. pos (need_at i j k).time) (range_with_len 0 (length i.jobs))
+
+    by : (r c : ℕ) → c < length i.jobs → (r < k) ⊎ (k ≤ r) → r < k + 1 → get_or (old ++ row) (r * length i.jobs + c) (pos 0) ≡ pos (need_at i c r).time
+    by r c b (inl l) m =
+        let most : suc r * length i.jobs ≤ k * length i.jobs = mul-le (suc r) (length i.jobs) k (length i.jobs) (omega (arith, l)) (omega arith) in
+        get_or_append_left old row (pos 0) (r * length i.jobs + c) (omega (arith, most, b, h.all)) ∙ h.each r c l b
+    by r c b (inr l) m =
+        let z : r ≡ k = omega (arith, l, m) in
+        let place : r * length i.jobs + c ≡ length old + c = omega (arith, ap (λ x. x * length i.jobs) z, h.all) in
+        ap (λ x. get_or (old ++ row) x (pos 0)) place ∙ get_or-append-add old row c (pos 0)
+        ∙ get_or-map-range_with_len (λ j. pos (need_at i j k).time) 0 (length i.jobs) c c (pos 0) b (omega arith)
+        ∙ ap (λ x. pos (need_at i c x).time) (sym z)
+
+pub IsTimeMatrix-made : (i : Instance) → i.class ≡ open_cut_class → Inner i → (m : Matrix) → m.rows ≡ i.machines → m.columns ≡ length i.jobs → AreTimes i i.machines m.cells → IsTimeMatrix i m
+IsTimeMatrix-made i class inner m rows columns t =
+    let cells : (r c : ℕ) → r < m.rows → c < m.columns → cell m r c ≡ pos (need_at i c r).time = λ r c l b. ap (λ n. get_or m.cells (r * n + c) (pos 0)) columns ∙ t.each r c (omega (arith, l, rows)) (omega (arith, b, columns)) in
+    record {
+      rows = rows;
+      columns = columns;
+      matrix = is_matrix i (IsCutInstance-from_class i class inner) m rows columns cells (t.all ∙ ap₂ ◌*◌ (sym rows) (sym columns));
+      cells = cells;
+    }
+
+pub IsBestPlan-from_cut : (i : Instance) → i.class ≡ open_cut_class → Inner i → (pieces : List Piece) → IsCutPlan i pieces → (end : ℕ) × IsGreatestLine i end × IsBestPlan i end (over_one pieces)
+IsBestPlan-from_cut i class inner pieces (m, slices, t, split, e) =
+    subst (λ l. (end : ℕ) × IsGreatestLine i end × IsBestPlan i end (over_one l)) (sym e) (best_laid i (IsCutInstance-from_class i class inner) m t.rows t.columns t.cells slices split)
+
+pub IsOpenCutCost-read : (i : Instance) (cost : Frac) (s : Schedule) → (end : ℕ) × IsGreatestLine i end × IsBestPlan i end s → IsOver cost (cost_of i s) (pos 1) → IsOpenCutCost i cost
+IsOpenCutCost-read i cost s (end, line, w) over = (end, line, subst (λ x. IsOver cost x (pos 1)) w.cost over)
