@@ -20,6 +20,7 @@ use Rattle.msp_total.specs.Classes.{uniform_class, unrelated_class}
 use Rattle.msp_total.specs.Slots.{tardiness_class, late_jobs_class}
 use Rattle.msp_shops.specs.Classes.{johnson_class, jackson_class}
 use Rattle.msp_shops.specs.Open.{open_class}
+use Rattle.msp_shops.specs.OpenCut.{open_cut_class}
 use Rattle.msp_dispatch.specs.declared.pick.Pick.{Pick}
 use Rattle.msp_dispatch.specs.declared.solved_list.SolvedClass.{SolvedClass}
 use Rattle.msp_dispatch.specs.Solved.{solved_list}
@@ -43,6 +44,7 @@ class_of solver.SlotsCount = Some late_jobs_class
 class_of solver.Johnson = Some johnson_class
 class_of solver.Jackson = Some jackson_class
 class_of solver.Open2 = Some open_class
+class_of solver.OpenCut = Some open_cut_class
 class_of _ = None
 
 -- An entry of the list stands at the place.

@@ -15,6 +15,7 @@ use Rattle.msp_total.specs.Classes.{uniform_class, unrelated_class}
 use Rattle.msp_total.specs.Slots.{tardiness_class, late_jobs_class}
 use Rattle.msp_shops.specs.Classes.{johnson_class, jackson_class}
 use Rattle.msp_shops.specs.Open.{open_class}
+use Rattle.msp_shops.specs.OpenCut.{open_cut_class}
 use Rattle.msp_dispatch.specs.declared.solved_list.SolvedClass.{SolvedClass}
 
 abbrev pub solves : Class → SolverName → SolvedClass
@@ -38,6 +39,7 @@ solved_list =
     solves johnson_class solver.Johnson ∷
     solves jackson_class solver.Jackson ∷
     solves open_class solver.Open2 ∷
+    solves open_cut_class solver.OpenCut ∷
     []
 
 abbrev pub solved_classes : List Class

@@ -17,7 +17,7 @@ use msp_instance::Instance;
 use msp_levels::Levels;
 use msp_route::{Answer, SolverName};
 use msp_schedule::{Solution, cost, settle};
-use msp_shops::{Jackson, Johnson, Open2};
+use msp_shops::{Jackson, Johnson, Open2, OpenCut};
 use msp_single::{Lawler, Moore, Smith};
 use msp_srpt::Shortest;
 use msp_table::Row;
@@ -46,8 +46,8 @@ macro_rules! at_solver {
             SolverName::Johnson => $call($($argument),*, &Johnson),
             SolverName::Jackson => $call($($argument),*, &Jackson),
             SolverName::Open2 => $call($($argument),*, &Open2),
-            SolverName::OpenCut
-            | SolverName::UniformCut
+            SolverName::OpenCut => $call($($argument),*, &OpenCut),
+            SolverName::UniformCut
             | SolverName::Lexical
             | SolverName::LateTable
             | SolverName::Search => unreachable!(),

@@ -6,7 +6,7 @@ use msp_blocks::{Blocks, UnitBlocks};
 use msp_class::Class;
 use msp_levels::Levels;
 use msp_route::{Solver, SolverName};
-use msp_shops::{Jackson, Johnson, Open2};
+use msp_shops::{Jackson, Johnson, Open2, OpenCut};
 use msp_single::{Lawler, Moore, Smith};
 use msp_srpt::Shortest;
 use msp_total::{SlotsCount, SlotsLate, Uniform, Unrelated};
@@ -14,7 +14,7 @@ use msp_trees::Horn;
 use msp_wrap::Wrap;
 
 /// How many classes are solved.
-pub const SOLVED: u32 = 16;
+pub const SOLVED: u32 = 17;
 
 /// A class that is solved, and its solver.
 #[derive(Clone, Copy, Debug, PartialEq, Eq)]
@@ -53,6 +53,7 @@ pub(crate) fn entry_at(n: u32) -> Option<SolvedClass>
         13 => Some(entry(&Johnson, SolverName::Johnson)),
         14 => Some(entry(&Jackson, SolverName::Jackson)),
         15 => Some(entry(&Open2, SolverName::Open2)),
+        16 => Some(entry(&OpenCut, SolverName::OpenCut)),
         _ => None,
     }
 }

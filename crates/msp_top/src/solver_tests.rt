@@ -129,6 +129,13 @@ const FREE: &[Case] = &[
         out: b"start O2||Cmax\nsolver open2\nschedule\ncost 8\nunit 1\n",
         notes: b"",
     },
+    Case {
+        words: &["solve"],
+        text: b"msp 1\nclass O|pmtn|Cmax\nmachines 3\njob a\ntimes 2 2 2\njob b\ntimes 2 2 2\nend\n",
+        status: 0,
+        out: b"start O|pmtn|Cmax\nsolver open-cut\nschedule\ncost 6\nunit 1\n",
+        notes: b"",
+    },
 ];
 
 /// Two hundred drawn jobs of each class that has a solver: how the answer begins.
@@ -196,6 +203,10 @@ const DRAWN: &[(&str, &[u8])] = &[
     (
         "O2||Cmax",
         b"class O2||Cmax\njobs 200\nseed 1\nsolver open2\nrows 0\n",
+    ),
+    (
+        "O|pmtn|Cmax",
+        b"class O|pmtn|Cmax\njobs 200\nseed 1\nsolver open-cut\nrows 0\n",
     ),
 ];
 
