@@ -10,10 +10,10 @@ use Rattle.msp_instance.specs.declared.Instance.{Instance}
 use Rattle.msp_schedule.specs.declared.Piece.{Piece}
 use Rattle.msp_schedule.specs.Blocks.{cost_at, IsCertified}
 use Rattle.msp_schedule.specs.Intervals.{IsApart, size_of, work_of}
-use Rattle.msp_schedule.proofs.JobShares.{filter_none, filter_whole}
+use Rattle.msp_schedule.proofs.judging.JobShares.{filter_none, filter_whole}
 use Rattle.msp_schedule.specs.Piece.{job_of, start, finish}
 use Rattle.msp_schedule.specs.Rows.{piece, time_at}
-use Rattle.msp_schedule.proofs.Series.{AllPairs-append}
+use Rattle.msp_schedule.proofs.feasible.Series.{AllPairs-append}
 use Rattle.msp_route.specs.LastJob.{EndsAt, CostsLess}
 use Rattle.msp_blocks.specs.Filling.{done_by, busy_until, Follow, gaps, IsPut, IsFilling}
 use Rattle.msp_blocks.proofs.Lists.{All-without, All-at, All-before, AllPairs-without, AllPairs-before, AllPairs-after, Contains-with, Contains-at, Contains-without, Contains-once}

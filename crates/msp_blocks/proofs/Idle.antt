@@ -8,7 +8,7 @@ use Rattle.msp_schedule.specs.declared.Piece.{Piece}
 use Rattle.msp_schedule.specs.Intervals.{IsApart, size_of}
 use Rattle.msp_schedule.specs.Piece.{start, finish}
 use Rattle.msp_schedule.specs.Rows.{piece}
-use Rattle.msp_schedule.proofs.Series.{AllPairs-append}
+use Rattle.msp_schedule.proofs.feasible.Series.{AllPairs-append}
 use Rattle.msp_blocks.specs.Filling.{done_by, busy_until, Follow, gap, gaps}
 
 ltb-yes : {a b : ℕ} → a < b → ltb a b ≡ true

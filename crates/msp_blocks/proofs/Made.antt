@@ -23,11 +23,11 @@ use Rattle.msp_schedule.specs.Feasible.{Feasible, HasPlace, HasOperation, MayRun
 use Rattle.msp_schedule.specs.Cost.{Best, end_of}
 use Rattle.msp_schedule.specs.Within.{IsMoment, Within}
 use Rattle.msp_schedule.specs.Intervals.{size_of}
-use Rattle.msp_schedule.proofs.OneMachine.{apart_in_int, pieces_of-job, total_lengths}
+use Rattle.msp_schedule.proofs.feasible.OneMachine.{apart_in_int, pieces_of-job, total_lengths}
 use Rattle.msp_schedule.specs.Rows.{time_at}
-use Rattle.msp_schedule.proofs.LastEnds.{last_end-least}
+use Rattle.msp_schedule.proofs.feasible.LastEnds.{last_end-least}
 use Rattle.msp_schedule.specs.Blocks.{IsCertified}
-use Rattle.msp_schedule.proofs.Certified.{best_by_certificates}
+use Rattle.msp_schedule.proofs.bounds.Certified.{best_by_certificates}
 use Rattle.msp_route.specs.Bounds.{IsAnswer, answer_unit}
 use Rattle.msp_blocks.specs.Heads.{AreHeads}
 use Rattle.msp_blocks.specs.Filling.{IsPut, IsFilling, greatest_end}

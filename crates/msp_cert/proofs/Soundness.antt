@@ -23,13 +23,13 @@ use Rattle.msp_schedule.specs.Cost.{end_of, cost_of}
 use Rattle.msp_schedule.specs.Laws.{time_together, jobs_together}
 use Rattle.msp_schedule.specs.Speeds.{HaveSpeeds, speed_by, speed_of, speed_above}
 use Rattle.msp_schedule.specs.Blocks.{total_time}
-use Rattle.msp_schedule.proofs.Makespan.{ends_by_cost, cost_natural}
-use Rattle.msp_schedule.proofs.SpeedBound.{law_of_speeds}
-use Rattle.msp_schedule.proofs.Loads.{law_of_machines, law_of_lines}
-use Rattle.msp_schedule.proofs.LevelBound.{law_of_levels}
-use Rattle.msp_schedule.proofs.SegmentBound.{law_of_segments}
-use Rattle.msp_schedule.proofs.Certified.{law_of_blocks, list_total}
-use Rattle.msp_schedule.proofs.PriceBounds.{law_of_prices}
+use Rattle.msp_schedule.proofs.costs.Makespan.{ends_by_cost, cost_natural}
+use Rattle.msp_schedule.proofs.bounds.SpeedBound.{law_of_speeds}
+use Rattle.msp_schedule.proofs.bounds.Loads.{law_of_machines, law_of_lines}
+use Rattle.msp_schedule.proofs.bounds.LevelBound.{law_of_levels}
+use Rattle.msp_schedule.proofs.bounds.SegmentBound.{law_of_segments}
+use Rattle.msp_schedule.proofs.bounds.Certified.{law_of_blocks, list_total}
+use Rattle.msp_schedule.proofs.bounds.PriceBounds.{law_of_prices}
 use Rattle.msp_cert.specs.declared.Proof.{Proof}
 use Rattle.msp_cert.specs.declared.Proof.TheVariants.{Group, Machine, Line, Levels, Segments, Block, Prices}
 use Rattle.msp_cert.specs.Certificates.{speeds_of, IsSpeedOfFastest, IsGroup, of_job, row_price, column_price, HoldsFor, IsValue, LawOfCertificates}

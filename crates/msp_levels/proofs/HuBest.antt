@@ -26,17 +26,17 @@ use Rattle.msp_schedule.specs.Feasible.{Feasible, IsWholeWork}
 use Rattle.msp_schedule.specs.Cost.{cost_of, end_of, job_cost, Best}
 use Rattle.msp_schedule.specs.Settled.{IsSettled}
 use Rattle.msp_schedule.specs.Within.{Within}
-use Rattle.msp_schedule.proofs.Intervals.{greatest_below, greatest_below-bound, greatest_below-reached}
-use Rattle.msp_schedule.proofs.LastEnds.{last_end-least}
-use Rattle.msp_schedule.proofs.Moves.{Contains-map}
-use Rattle.msp_schedule.proofs.Charges.{charge_of, cost_of-bound, cost_of-least}
+use Rattle.msp_schedule.proofs.lists.Intervals.{greatest_below, greatest_below-bound, greatest_below-reached}
+use Rattle.msp_schedule.proofs.feasible.LastEnds.{last_end-least}
+use Rattle.msp_schedule.proofs.changes.Moves.{Contains-map}
+use Rattle.msp_schedule.proofs.costs.Charges.{charge_of, cost_of-bound, cost_of-least}
 use Rattle.msp_route.specs.Bounds.{IsAnswer, answer_unit}
 use Rattle.msp_route.proofs.OneEach.{IsUncut, IsUncut-identical, AreOneEach, one_each_is_feasible, one_each_is_within, one_each_is_answer}
 use Rattle.msp_schedule.specs.Levels.{LeadsOut, jobs_from, level_bound, StepsDown}
 use Rattle.msp_levels.specs.Levels.{levels_class, IsGreatestBound, IsLevelCost}
 use Rattle.msp_levels.specs.Steps.{level_from, Fits, begin_of, IsMade, StandsFirst, IsUnderWay, IsHuSchedule}
 use Rattle.msp_levels.proofs.Facts.{IsUnitForest, IsUnitForest-from, ones}
-use Rattle.msp_schedule.proofs.LevelBound.{law_of_levels}
+use Rattle.msp_schedule.proofs.bounds.LevelBound.{law_of_levels}
 
 -- the quotient rounded up is enough
 enough : (n m : ℕ) → 1 ≤ m → n ≤ m * ((n + (m - 1)) / m)

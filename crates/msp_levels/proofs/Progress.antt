@@ -17,9 +17,9 @@ use Rattle.msp_instance.specs.Conditions.{leaving}
 use Rattle.msp_instance.proofs.ListingLemmas.{list_any-from_Contains, Contains-from_list_any, count-from_contains}
 use Rattle.msp_schedule.specs.declared.Piece.{Piece}
 use Rattle.msp_schedule.specs.Piece.{IsBefore}
-use Rattle.msp_schedule.proofs.Intervals.{greatest_by-contains, greatest_by-reached}
-use Rattle.msp_schedule.proofs.OneMachine.{both_true}
-use Rattle.msp_schedule.proofs.Moves.{Contains-map}
+use Rattle.msp_schedule.proofs.lists.Intervals.{greatest_by-contains, greatest_by-reached}
+use Rattle.msp_schedule.proofs.feasible.OneMachine.{both_true}
+use Rattle.msp_schedule.proofs.changes.Moves.{Contains-map}
 use Rattle.msp_schedule.specs.Levels.{LeadsOut, IsLevel, AreLevels}
 use Rattle.msp_levels.specs.Steps.{is_blocked, IsSlot, piece_at, seats, IsMade, StandsFirst, IsByLevel, IsUnderWay, Fits}
 use Rattle.msp_levels.proofs.Counts.{HasOnce, Fits-low, Fits-permutation, Fits-next}

@@ -12,7 +12,7 @@ use Rattle.msp_schedule.specs.declared.Piece.{Piece}
 use Rattle.msp_plain.specs.Threshold.{IsInTime}
 use Rattle.msp_plain.specs.Threshold.{greatest_threshold}
 use Rattle.msp_schedule.specs.Within.{IsUnit}
-use Rattle.msp_schedule.proofs.Small.{product_within}
+use Rattle.msp_schedule.proofs.costs.Small.{product_within}
 use Rattle.msp_route.specs.Sizes.{greatest_row_date}
 
 both_within : (d b : ℤ) → LiesWithin greatest_row_date d → LiesWithin greatest_threshold b → LiesWithin (10 ^ 19) (d +ℤ b)

@@ -11,9 +11,9 @@ use Rattle.msp_schedule.specs.declared.Schedule.{Schedule}
 use Rattle.msp_schedule.specs.declared.Solution.{Solution}
 use Rattle.msp_schedule.specs.Feasible.{Feasible}
 use Rattle.msp_schedule.specs.Cost.{cost_of, IsSolution}
-use Rattle.msp_schedule.proofs.Frames.{IsShaped-from_conditions}
-use Rattle.msp_schedule.proofs.Serves.{SameWork, SameWork-sym, Feasible-same}
-use Rattle.msp_schedule.proofs.Charges.{SameCharges, cost-same_charges}
+use Rattle.msp_schedule.proofs.feasible.Frames.{IsShaped-from_conditions}
+use Rattle.msp_schedule.proofs.changes.Serves.{SameWork, SameWork-sym, Feasible-same}
+use Rattle.msp_schedule.proofs.costs.Charges.{SameCharges, cost-same_charges}
 use Rattle.msp_table.specs.Rows.{goes_of}
 use Rattle.msp_route.specs.Law.{IsLower, IsPositive, IsForth, IsBack, IsReordered, cost_above, cost_below}
 use Rattle.msp_route.specs.Bounds.{IsBounded, KeepsBounds, greatest_unit, keeps_schedule}

@@ -13,9 +13,9 @@ use Rattle.msp_schedule.specs.declared.Schedule.{Schedule}
 use Rattle.msp_schedule.specs.Piece.{pieces_of, IsApart, IsBefore}
 use Rattle.msp_schedule.specs.Feasible.{Feasible, HasPlace, HasOperation, MayRun, FollowsRoute, GetsWork, IsWholeWork, total, whole_work, work_of}
 use Rattle.msp_schedule.specs.Within.{IsMoment, Within}
-use Rattle.msp_schedule.proofs.OneMachine.{pieces_of-job}
-use Rattle.msp_schedule.proofs.OnceEach.{OnceBelow-one}
-use Rattle.msp_schedule.proofs.Moves.{Contains-map}
+use Rattle.msp_schedule.proofs.feasible.OneMachine.{pieces_of-job}
+use Rattle.msp_schedule.proofs.lists.OnceEach.{OnceBelow-one}
+use Rattle.msp_schedule.proofs.changes.Moves.{Contains-map}
 use Rattle.msp_route.specs.Bounds.{IsAnswer, answer_unit}
 
 -- the instance has machines that may run any job, whole

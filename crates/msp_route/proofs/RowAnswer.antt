@@ -6,9 +6,9 @@ use Rattle.msp_instance.specs.declared.Instance.{Instance}
 use Rattle.msp_instance.specs.Instance.{job_at, no_job}
 use Rattle.msp_schedule.specs.declared.Piece.{Piece}
 use Rattle.msp_schedule.specs.Rows.{row, piece, time_at, row_schedule}
-use Rattle.msp_schedule.proofs.Rows.{row-All, row-to, length-row}
+use Rattle.msp_schedule.proofs.lists.Rows.{row-All, row-to, length-row}
 use Rattle.msp_schedule.specs.Piece.{finish, IsTimed}
-use Rattle.msp_schedule.proofs.OneRow.{piece_makes, row-timed, row_ends}
+use Rattle.msp_schedule.proofs.feasible.OneRow.{piece_makes, row-timed, row_ends}
 use Rattle.msp_route.specs.Bounds.{IsAnswer, answer_unit}
 use Rattle.msp_route.proofs.PlainJobs.{IsPlain, takes_time, is_short}
 

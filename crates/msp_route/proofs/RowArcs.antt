@@ -10,8 +10,8 @@ use Rattle.msp_schedule.specs.declared.Piece.{Piece}
 use Rattle.msp_schedule.specs.Piece.{IsBefore, start, finish, IsTimed}
 use Rattle.msp_schedule.specs.Feasible.{Feasible}
 use Rattle.msp_schedule.specs.Rows.{row, piece, time_at, row_schedule}
-use Rattle.msp_schedule.proofs.Rows.{row-arcs}
-use Rattle.msp_schedule.proofs.OneRow.{piece_makes, row_is_feasible}
+use Rattle.msp_schedule.proofs.lists.Rows.{row-arcs}
+use Rattle.msp_schedule.proofs.feasible.OneRow.{piece_makes, row_is_feasible}
 use Rattle.msp_route.proofs.PlainJobs.{IsPlain, takes_time}
 use Rattle.msp_route.proofs.RowAnswer.{timed, released}
 

@@ -3,7 +3,7 @@ use Rattle.std.proofs.Common.{◌≡◌, ℕ, ◌+◌, ◌*◌, ◌-◌, ◌≤�
 use Rattle.std.proofs.lemmas.Bool.{leb-true}
 use Rattle.msp_class.proofs.Sums.{sum_by-mono, sum_by-add, sum_by-scale}
 use Rattle.msp_schedule.specs.Intervals.{IsApart}
-use Rattle.msp_schedule.proofs.Intervals.{overlap, overlap_of, packing}
+use Rattle.msp_schedule.proofs.lists.Intervals.{overlap, overlap_of, packing}
 
 -- Items with a time on a first machine and one on a second, and the moments at which they begin there. An item begins on the second machine
 -- when its first time is over, or later, and is over by the end. On each machine the items are apart, in any order.

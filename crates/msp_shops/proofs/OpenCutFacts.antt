@@ -28,8 +28,8 @@ use Rattle.msp_schedule.specs.Piece.{pieces_of, IsBefore, IsApart, finish}
 use Rattle.msp_schedule.specs.Feasible.{Feasible, HasPlace, HasOperation, MayRun, FollowsRoute, GetsWork, IsWholeWork, total as sum, whole_work, work_of}
 use Rattle.msp_schedule.specs.Cost.{cost_of}
 use Rattle.msp_schedule.specs.Loads.{machine_load, job_length}
-use Rattle.msp_schedule.proofs.Places.{sum_by-places}
-use Rattle.msp_schedule.proofs.Loads.{law_of_machines, law_of_lines}
+use Rattle.msp_schedule.proofs.lists.Places.{sum_by-places}
+use Rattle.msp_schedule.proofs.bounds.Loads.{law_of_machines, law_of_lines}
 use Rattle.msp_timetable.specs.declared.matrix.Matrix.{Matrix}
 use Rattle.msp_timetable.specs.declared.matrix.Slice.{Slice}
 use Rattle.msp_timetable.specs.Split.{cell, row_sum, column_sum, total, IsMatrix, IsGreatestSum, IsSplit}

@@ -17,7 +17,7 @@ use Rattle.msp_schedule.specs.declared.Schedule.{Schedule}
 use Rattle.msp_schedule.specs.Piece.{length_of, pieces_of, IsBefore, start, finish, IsTimed}
 use Rattle.msp_schedule.specs.Feasible.{Feasible, HasPlace, HasOperation, MayRun, FollowsRoute, GetsWork, IsWholeWork, total, whole_work, work_of as part_of}
 use Rattle.msp_schedule.specs.Intervals.{IsApartOn}
-use Rattle.msp_schedule.proofs.OneMachine.{IsTimed-from_span, apart_in_nat, both_true}
+use Rattle.msp_schedule.proofs.feasible.OneMachine.{IsTimed-from_span, apart_in_nat, both_true}
 use Rattle.msp_shops.specs.Pass.{machine_of}
 use Rattle.msp_shops.specs.Groups.{IsTwoMachineShop}
 

@@ -21,10 +21,10 @@ use Rattle.msp_schedule.specs.Feasible.{Feasible, HasPlace, HasOperation, MayRun
 use Rattle.msp_schedule.specs.Cost.{cost_of, end_of, Best}
 use Rattle.msp_schedule.specs.Within.{IsMoment, Within}
 use Rattle.msp_schedule.specs.Intervals.{IsApartOn}
-use Rattle.msp_schedule.proofs.OneMachine.{IsTimed-from_span, apart_in_int}
-use Rattle.msp_schedule.proofs.Frames.{of_operation-named, of_one}
-use Rattle.msp_schedule.proofs.LastEnds.{last_end-bound}
-use Rattle.msp_schedule.proofs.Makespan.{cost_natural, ends_by_cost, cost_by_ends}
+use Rattle.msp_schedule.proofs.feasible.OneMachine.{IsTimed-from_span, apart_in_int}
+use Rattle.msp_schedule.proofs.feasible.Frames.{of_operation-named, of_one}
+use Rattle.msp_schedule.proofs.feasible.LastEnds.{last_end-bound}
+use Rattle.msp_schedule.proofs.costs.Makespan.{cost_natural, ends_by_cost, cost_by_ends}
 use Rattle.msp_route.specs.Bounds.{IsAnswer, answer_unit}
 use Rattle.msp_shops.specs.Pass.{machine_of}
 

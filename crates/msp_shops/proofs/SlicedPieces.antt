@@ -9,8 +9,8 @@ use Rattle.msp_class.proofs.IntegerRing.{+ℤ_idl}
 use Rattle.msp_schedule.specs.declared.Piece.{Piece}
 use Rattle.msp_schedule.specs.Piece.{length_of, IsApart}
 use Rattle.msp_schedule.specs.Feasible.{total as sum}
-use Rattle.msp_schedule.proofs.Moves.{total-cons}
-use Rattle.msp_schedule.proofs.Series.{AllPairs-append}
+use Rattle.msp_schedule.proofs.changes.Moves.{total-cons}
+use Rattle.msp_schedule.proofs.feasible.Series.{AllPairs-append}
 use Rattle.msp_timetable.specs.declared.matrix.Slice.{Slice}
 use Rattle.msp_timetable.specs.Split.{column_of, total, time_at, greatest_sum, IsSlice}
 use Rattle.msp_shops.specs.Sliced.{row_piece, row_part, slice_parts, laid}

@@ -9,10 +9,10 @@ use Rattle.msp_schedule.specs.declared.Piece.{Piece}
 use Rattle.msp_schedule.specs.declared.Schedule.{Schedule}
 use Rattle.msp_schedule.specs.Feasible.{Feasible}
 use Rattle.msp_schedule.specs.Intervals.{IsApart, size_of}
-use Rattle.msp_schedule.proofs.Intervals.{packed}
+use Rattle.msp_schedule.proofs.lists.Intervals.{packed}
 use Rattle.msp_schedule.specs.Piece.{start, finish}
-use Rattle.msp_schedule.proofs.Moves.{AllPairs-map}
-use Rattle.msp_schedule.proofs.Series.{AllPairs-append}
+use Rattle.msp_schedule.proofs.changes.Moves.{AllPairs-map}
+use Rattle.msp_schedule.proofs.feasible.Series.{AllPairs-append}
 use Rattle.msp_shops.specs.declared.pass.JobTimes.{JobTimes}
 use Rattle.msp_shops.specs.Groups.{route_times, IsTwoMachineShop, IsGroup}
 use Rattle.msp_shops.proofs.Cut.{HaveTwoStages}

@@ -16,14 +16,14 @@ use Rattle.msp_schedule.specs.Cost.{end_of, Best}
 use Rattle.msp_schedule.specs.Settled.{IsSettled}
 use Rattle.msp_schedule.specs.Within.{Within}
 use Rattle.msp_schedule.specs.Rows.{row, piece, time_at, row_schedule}
-use Rattle.msp_schedule.proofs.Rows.{row-jobs, row-last, end_in, end_in-at}
-use Rattle.msp_schedule.proofs.OneMachine.{last_end-is}
-use Rattle.msp_schedule.proofs.OneRow.{piece_makes, row_is_settled, row_is_within}
+use Rattle.msp_schedule.proofs.lists.Rows.{row-jobs, row-last, end_in, end_in-at}
+use Rattle.msp_schedule.proofs.feasible.OneMachine.{last_end-is}
+use Rattle.msp_schedule.proofs.feasible.OneRow.{piece_makes, row_is_settled, row_is_within}
 use Rattle.msp_route.specs.Bounds.{IsAnswer}
 use Rattle.msp_route.specs.LastJob.{CostsLess}
 use Rattle.msp_single.specs.Lawler.{lawler_class, IsLawlerOrder}
 use Rattle.msp_schedule.specs.Blocks.{total_time, cost_at, IsCertified}
-use Rattle.msp_schedule.proofs.Certified.{ranked, Rises, best_by_certificates}
+use Rattle.msp_schedule.proofs.bounds.Certified.{ranked, Rises, best_by_certificates}
 use Rattle.msp_route.proofs.PlainJobs.{takes_time, is_short}
 use Rattle.msp_single.proofs.LawlerFacts.{IsLawlerInstance, IsLawlerInstance-from_class}
 use Rattle.msp_route.proofs.RowAnswer.{timed, row_is_answer}

@@ -19,17 +19,17 @@ use Rattle.msp_schedule.specs.Cost.{end_of, cost_of, Best}
 use Rattle.msp_schedule.specs.Settled.{IsSettled}
 use Rattle.msp_schedule.specs.Within.{Within}
 use Rattle.msp_schedule.specs.Rows.{row, piece, time_at, row_schedule}
-use Rattle.msp_schedule.proofs.Rows.{row-jobs, row-last, end_in}
-use Rattle.msp_schedule.proofs.OneMachine.{IsPlan-from_feasible, last_end-is}
-use Rattle.msp_schedule.proofs.OneRow.{piece_makes, row_is_feasible, row_is_settled, row_is_within}
+use Rattle.msp_schedule.proofs.lists.Rows.{row-jobs, row-last, end_in}
+use Rattle.msp_schedule.proofs.feasible.OneMachine.{IsPlan-from_feasible, last_end-is}
+use Rattle.msp_schedule.proofs.feasible.OneRow.{piece_makes, row_is_feasible, row_is_settled, row_is_within}
 use Rattle.msp_route.specs.Bounds.{IsAnswer}
 use Rattle.msp_single.specs.Moore.{moore_class, IsDueBefore, IsMooreOrder}
 use Rattle.msp_route.proofs.PlainJobs.{takes_time, is_short}
 use Rattle.msp_route.proofs.RowAnswer.{timed, released, row_is_answer}
 use Rattle.msp_single.proofs.MooreFacts.{IsMooreInstance, IsMooreInstance-from_class}
 use Rattle.msp_single.proofs.MooreChoice.{choice-permutation, choice-on_time, choice-most}
-use Rattle.msp_schedule.proofs.Parts.{All-front}
-use Rattle.msp_schedule.proofs.LateJobs.{due_at, is_late, late_jobs, late_cost, not_late, late_and_on_time, ends_on_time, on_time_in_a_row}
+use Rattle.msp_schedule.proofs.lists.Parts.{All-front}
+use Rattle.msp_schedule.proofs.costs.LateJobs.{due_at, is_late, late_jobs, late_cost, not_late, late_and_on_time, ends_on_time, on_time_in_a_row}
 
 pub all_in_order : (i : Instance) (order : List ℕ) → IsMooreOrder i order → IsPermutation (range_with_len 0 (length i.jobs)) order
 all_in_order i order o =

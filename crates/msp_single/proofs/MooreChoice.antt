@@ -11,8 +11,8 @@ use Rattle.std.proofs.lemmas.List.Elements.{All-head, All-tail, filter-append}
 use Rattle.std.proofs.lemmas.List.Sums.{sum_by-cons, sum_by-append, sum_by-remove}
 use Rattle.std.proofs.lemmas.List.Sorted.{IsPermutation-refl, IsPermutation-sym, IsPermutation-trans, IsPermutation-cons, IsPermutation-middle, IsPermutation-to_front, IsPermutation-append_left, IsPermutation-remove, All-permutation}
 use Rattle.msp_class.proofs.IntegerRing.{≤ℤ_trans, pos-le}
-use Rattle.msp_schedule.proofs.LateJobs.{OnTime}
-use Rattle.msp_schedule.proofs.Parts.{All-front, All-back, AllPairs-front, AllPairs-last}
+use Rattle.msp_schedule.proofs.costs.LateJobs.{OnTime}
+use Rattle.msp_schedule.proofs.lists.Parts.{All-front, All-back, AllPairs-front, AllPairs-last}
 use Rattle.msp_single.specs.Moore.{IsLongest, IsChoice, none, kept, overrun}
 
 -- the room that the elements leave below a length

@@ -7,12 +7,12 @@ use Rattle.std.proofs.lemmas.List.Sorted.{IsPermutation-map, IsPermutation-trans
 use Rattle.msp_class.proofs.Sums.{OnceBelow, OnceBelow-range, OnceBelow-from_permutation, OnceBelow-distinct, length-OnceBelow, AllPairs-tail, sum_by-map, sum_by-same}
 use Rattle.msp_instance.specs.declared.Instance.{Instance}
 use Rattle.msp_instance.specs.Instance.{no_need, no_job, job_at}
-use Rattle.msp_schedule.proofs.Moves.{AllPairs-map}
+use Rattle.msp_schedule.proofs.changes.Moves.{AllPairs-map}
 use Rattle.msp_schedule.specs.Rows.{time_at}
-use Rattle.msp_schedule.proofs.Shrunk.{All-from_map}
+use Rattle.msp_schedule.proofs.changes.Shrunk.{All-from_map}
 use Rattle.msp_single.specs.declared.moore.Task.{Task}
 use Rattle.msp_single.specs.Moore.{IsLongest, IsChoice, none, kept, overrun, IsDueBefore, IsMooreOrder}
-use Rattle.msp_schedule.proofs.Parts.{All-front, All-back}
+use Rattle.msp_schedule.proofs.lists.Parts.{All-front, All-back}
 use Rattle.msp_single.proofs.MooreChoice.{accepted_of, keeps, drops, choice-permutation}
 use Rattle.msp_single.proofs.MooreSteps.{IsTaskOf, Chooses}
 

@@ -15,10 +15,10 @@ use Rattle.msp_schedule.specs.Cost.{cost_of, Best}
 use Rattle.msp_schedule.specs.Settled.{IsSettled}
 use Rattle.msp_schedule.specs.Within.{Within}
 use Rattle.msp_schedule.specs.Rows.{row, seq, piece, time_at, row_schedule}
-use Rattle.msp_schedule.proofs.Rows.{row-jobs, last-seq_below}
-use Rattle.msp_schedule.proofs.Sequences.{SmithBefore, smith_beats_last}
-use Rattle.msp_schedule.proofs.OneMachine.{IsPlan-from_feasible, weighted_cost}
-use Rattle.msp_schedule.proofs.OneRow.{piece_makes, row_is_feasible, row_is_settled, row_is_within}
+use Rattle.msp_schedule.proofs.lists.Rows.{row-jobs, last-seq_below}
+use Rattle.msp_schedule.proofs.lists.Sequences.{SmithBefore, smith_beats_last}
+use Rattle.msp_schedule.proofs.feasible.OneMachine.{IsPlan-from_feasible, weighted_cost}
+use Rattle.msp_schedule.proofs.feasible.OneRow.{piece_makes, row_is_feasible, row_is_settled, row_is_within}
 use Rattle.msp_route.specs.Bounds.{IsAnswer}
 use Rattle.msp_single.specs.Smith.{smith_class, GoesBefore, IsSmithOrder}
 use Rattle.msp_route.proofs.PlainJobs.{takes_time, is_short}

@@ -24,10 +24,10 @@ use Rattle.msp_schedule.specs.Piece.{length_of, pieces_of, IsBefore, job_of, sta
 use Rattle.msp_schedule.specs.Feasible.{Feasible, HasPlace, HasOperation, MayRun, FollowsRoute, GetsWork, IsWholeWork, total, whole_work, work_of as part_of}
 use Rattle.msp_schedule.specs.Cost.{cost_of, end_of, job_cost, Best}
 use Rattle.msp_schedule.specs.Settled.{IsSettled}
-use Rattle.msp_schedule.proofs.Charges.{charge_of, cost_of-sum}
+use Rattle.msp_schedule.proofs.costs.Charges.{charge_of, cost_of-sum}
 use Rattle.msp_schedule.specs.Intervals.{size_of, work_of}
-use Rattle.msp_schedule.proofs.Intervals.{last_of, last_of-least}
-use Rattle.msp_schedule.proofs.OneMachine.{IsPlan-from_feasible, last_end-is, pieces_of-job, total_lengths}
+use Rattle.msp_schedule.proofs.lists.Intervals.{last_of, last_of-least}
+use Rattle.msp_schedule.proofs.feasible.OneMachine.{IsPlan-from_feasible, last_end-is, pieces_of-job, total_lengths}
 use Rattle.msp_schedule.specs.Rows.{time_at}
 use Rattle.msp_srpt.specs.Shortest.{shortest_class, run_before, IsWaiting, KeepsRule, idle, runs, IsShortestFirst}
 use Rattle.msp_srpt.specs.Running.{IsCarriedOut, IsLaid}

@@ -17,10 +17,10 @@ use Rattle.msp_schedule.specs.declared.Schedule.{Schedule}
 use Rattle.msp_schedule.specs.Cost.{last_end, end_of, jumps, job_cost, job_costs, greatest, cost_of}
 use Rattle.msp_schedule.specs.Feasible.{total}
 use Rattle.msp_schedule.specs.Within.{IsMoment, IsUnit, HasSmallCost, Within, greatest_scaled, greatest_level, greatest_lateness, greatest_cost, greatest_total}
-use Rattle.msp_schedule.proofs.Costs.{length-job_costs, get_or-job_costs}
-use Rattle.msp_schedule.proofs.Jumps.{jumps_le}
-use Rattle.msp_schedule.proofs.LastEnds.{last_end-natural, last_end-least}
-use Rattle.msp_schedule.proofs.Small.{small_costs, product_within}
+use Rattle.msp_schedule.proofs.costs.Costs.{length-job_costs, get_or-job_costs}
+use Rattle.msp_schedule.proofs.costs.Jumps.{jumps_le}
+use Rattle.msp_schedule.proofs.feasible.LastEnds.{last_end-natural, last_end-least}
+use Rattle.msp_schedule.proofs.costs.Small.{small_costs, product_within}
 
 -- ---- one job
 moment_within : (x : ℤ) → IsMoment x → LiesWithin greatest_cost x

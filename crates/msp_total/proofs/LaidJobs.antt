@@ -11,7 +11,7 @@ use Rattle.std.proofs.lemmas.Int.{ints}
 use Rattle.msp_schedule.specs.declared.Piece.{Piece}
 use Rattle.msp_schedule.specs.Piece.{length_of, job_of, start, finish, IsTimed}
 use Rattle.msp_schedule.specs.Intervals.{IsApart}
-use Rattle.msp_schedule.proofs.Intervals.{last_of, last_of-least}
+use Rattle.msp_schedule.proofs.lists.Intervals.{last_of, last_of-least}
 use Rattle.msp_total.specs.declared.lay.Place.{Place}
 use Rattle.msp_total.specs.Places.{no_place, time_on, piece_until, laid}
 use Rattle.msp_total.specs.Turns.{machine_at}

@@ -19,10 +19,10 @@ use Rattle.msp_schedule.specs.Piece.{IsBefore, job_of, finish, IsTimed}
 use Rattle.msp_schedule.specs.Feasible.{Feasible, IsWholeWork}
 use Rattle.msp_schedule.specs.Cost.{cost_of, end_of, job_cost}
 use Rattle.msp_schedule.specs.Within.{Within}
-use Rattle.msp_schedule.proofs.OneMachine.{apart_in_int, last_end-is}
-use Rattle.msp_schedule.proofs.Intervals.{last_of}
-use Rattle.msp_schedule.proofs.Moves.{Contains-map}
-use Rattle.msp_schedule.proofs.Charges.{cost_of-sum, charge_of}
+use Rattle.msp_schedule.proofs.feasible.OneMachine.{apart_in_int, last_end-is}
+use Rattle.msp_schedule.proofs.lists.Intervals.{last_of}
+use Rattle.msp_schedule.proofs.changes.Moves.{Contains-map}
+use Rattle.msp_schedule.proofs.costs.Charges.{cost_of-sum, charge_of}
 use Rattle.msp_route.specs.Bounds.{IsAnswer, answer_unit}
 use Rattle.msp_route.proofs.OneEach.{IsUncut, AreOneEach, one_each_is_feasible, one_each_is_within, one_each_is_answer}
 use Rattle.msp_total.specs.declared.lay.Place.{Place}

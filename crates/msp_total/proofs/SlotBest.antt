@@ -21,8 +21,8 @@ use Rattle.msp_schedule.specs.Piece.{IsApart, IsBefore}
 use Rattle.msp_schedule.specs.Feasible.{Feasible, IsWholeWork}
 use Rattle.msp_schedule.specs.Cost.{cost_of, end_of, job_cost, Best}
 use Rattle.msp_schedule.specs.Within.{Within}
-use Rattle.msp_schedule.proofs.Charges.{charge_of, cost_of-sum, job_cost-mono, job_cost-scale}
-use Rattle.msp_schedule.proofs.OnceEach.{OnceBelow-one}
+use Rattle.msp_schedule.proofs.costs.Charges.{charge_of, cost_of-sum, job_cost-mono, job_cost-scale}
+use Rattle.msp_schedule.proofs.lists.OnceEach.{OnceBelow-one}
 use Rattle.msp_route.specs.Bounds.{IsAnswer, answer_unit}
 use Rattle.msp_route.proofs.OneEach.{IsUncut, IsUncut-identical, AreOneEach, one_each_is_feasible, one_each_is_within, one_each_is_answer}
 use Rattle.msp_assign.specs.Prices.{IsAssigned, column_of}

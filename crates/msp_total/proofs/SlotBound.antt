@@ -19,10 +19,10 @@ use Rattle.msp_schedule.specs.declared.Schedule.{Schedule}
 use Rattle.msp_schedule.specs.Feasible.{Feasible, HasPlace, HasOperation, whole_work}
 use Rattle.msp_schedule.specs.Cost.{end_of}
 use Rattle.msp_schedule.specs.Laws.{time_together, HasRoom, BeginsFrom, floored}
-use Rattle.msp_schedule.proofs.EndsAndFloors.{law_of_ends, law_of_floors}
-use Rattle.msp_schedule.proofs.Floored.{FillsUnit, floored-fills}
-use Rattle.msp_schedule.proofs.LastEnds.{last_end-reached}
-use Rattle.msp_schedule.proofs.Frames.{frame_of, of_operation, HasWork, IsShaped-from_identical, Fits-from_feasible}
+use Rattle.msp_schedule.proofs.bounds.EndsAndFloors.{law_of_ends, law_of_floors}
+use Rattle.msp_schedule.proofs.bounds.Floored.{FillsUnit, floored-fills}
+use Rattle.msp_schedule.proofs.feasible.LastEnds.{last_end-reached}
+use Rattle.msp_schedule.proofs.feasible.Frames.{frame_of, of_operation, HasWork, IsShaped-from_identical, Fits-from_feasible}
 use Rattle.msp_total.specs.Seating.{one_if, begin_at, IsSeated}
 
 -- the job's release date

@@ -21,8 +21,8 @@ use Rattle.msp_schedule.specs.Cost.{job_cost}
 use Rattle.msp_assign.specs.Prices.{HasCosts, IsAssigned, IsLeast}
 use Rattle.msp_total.specs.declared.earliest.Slot.{Slot}
 use Rattle.msp_total.specs.declared.slot_table.Slots.{Slots}
-use Rattle.msp_schedule.proofs.OfClass.{IsOfClass, IsOfClass-from}
-use Rattle.msp_schedule.proofs.Places.{sum_by-places}
+use Rattle.msp_schedule.proofs.feasible.OfClass.{IsOfClass, IsOfClass-from}
+use Rattle.msp_schedule.proofs.lists.Places.{sum_by-places}
 use Rattle.msp_total.specs.Slots.{forbidden, past_due, slot_cost}
 use Rattle.msp_total.specs.Seating.{one_if}
 use Rattle.msp_total.specs.SlotSteps.{slot_crit, slot_class, no_slot, start_in, head_in, IsTable, AreSlots, AreLaid, AreLeastLaid}

@@ -18,10 +18,10 @@ use Rattle.msp_schedule.specs.Piece.{length_of, start, finish, IsTimed}
 use Rattle.msp_schedule.specs.Feasible.{Feasible, HasOperation, MayRun, FollowsRoute, IsWholeWork}
 use Rattle.msp_schedule.specs.Cost.{cost_of, Best}
 use Rattle.msp_schedule.specs.Intervals.{IsApart}
-use Rattle.msp_schedule.proofs.Positions.{position_of, position_of-some, position_of-few, position_of-once, sum_of_ends}
-use Rattle.msp_schedule.proofs.SolePieces.{only_piece, IsOnly, is_only, only_timed, only_placed, only_apart, sum_of_only_ends}
+use Rattle.msp_schedule.proofs.lists.Positions.{position_of, position_of-some, position_of-few, position_of-once, sum_of_ends}
+use Rattle.msp_schedule.proofs.feasible.SolePieces.{only_piece, IsOnly, is_only, only_timed, only_placed, only_apart, sum_of_only_ends}
 use Rattle.msp_route.specs.Bounds.{answer_unit}
-use Rattle.msp_schedule.proofs.Places.{sum_by-places}
+use Rattle.msp_schedule.proofs.lists.Places.{sum_by-places}
 use Rattle.msp_route.specs.declared.keyed.Keyed.{Keyed}
 use Rattle.msp_total.specs.declared.lay.Place.{Place}
 use Rattle.msp_total.specs.Multiple.{IsCommon}

@@ -3,7 +3,7 @@ use Rattle.std.proofs.Common.{◌≡◌, ℕ, ◌<◌, ◌≤◌, length, All, a
 use Rattle.msp_instance.specs.declared.Instance.{Instance}
 use Rattle.msp_instance.specs.Instance.{no_need, no_job, need_at}
 use Rattle.msp_instance.specs.Conditions.{Inner}
-use Rattle.msp_schedule.proofs.OfClass.{IsOfClass, IsOfClass-from}
+use Rattle.msp_schedule.proofs.feasible.OfClass.{IsOfClass, IsOfClass-from}
 use Rattle.msp_total.specs.Classes.{uniform_class}
 
 abbrev pub IsUniformInstance : Instance → Type 0

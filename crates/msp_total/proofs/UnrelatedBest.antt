@@ -17,11 +17,11 @@ use Rattle.msp_schedule.specs.Feasible.{Feasible, HasOperation, MayRun, FollowsR
 use Rattle.msp_schedule.specs.Cost.{cost_of, Best}
 use Rattle.msp_schedule.specs.Within.{Within}
 use Rattle.msp_schedule.specs.Prices.{ArePrices, all_prices, prices_on_machine}
-use Rattle.msp_schedule.proofs.PriceBounds.{law_of_prices, total_over_range}
+use Rattle.msp_schedule.proofs.bounds.PriceBounds.{law_of_prices, total_over_range}
 use Rattle.msp_route.specs.Bounds.{IsAnswer, answer_unit}
 use Rattle.msp_assign.specs.declared.assignment.Assignment.{Assignment}
 use Rattle.msp_assign.specs.Prices.{column_of, price_at}
-use Rattle.msp_schedule.proofs.Places.{sum_by-places}
+use Rattle.msp_schedule.proofs.lists.Places.{sum_by-places}
 use Rattle.msp_total.specs.declared.lay.Place.{Place}
 use Rattle.msp_total.specs.declared.positions.Positions.{Positions}
 use Rattle.msp_total.specs.declared.unrelated.Chosen.{Chosen}

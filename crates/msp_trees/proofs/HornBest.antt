@@ -18,13 +18,13 @@ use Rattle.msp_schedule.specs.Cost.{cost_of, Best}
 use Rattle.msp_schedule.specs.Settled.{IsSettled}
 use Rattle.msp_schedule.specs.Within.{Within}
 use Rattle.msp_schedule.specs.Rows.{row, seq, piece, time_at, row_schedule}
-use Rattle.msp_schedule.proofs.Rows.{last-seq_below}
-use Rattle.msp_schedule.proofs.Charges.{SameCharges-from_jobs}
-use Rattle.msp_schedule.proofs.OneMachine.{weighted_cost}
-use Rattle.msp_schedule.proofs.OneRow.{piece_makes, row_is_settled, row_is_within}
+use Rattle.msp_schedule.proofs.lists.Rows.{last-seq_below}
+use Rattle.msp_schedule.proofs.costs.Charges.{SameCharges-from_jobs}
+use Rattle.msp_schedule.proofs.feasible.OneMachine.{weighted_cost}
+use Rattle.msp_schedule.proofs.feasible.OneRow.{piece_makes, row_is_settled, row_is_within}
 use Rattle.msp_schedule.specs.LineUp.{order_of_ends}
-use Rattle.msp_schedule.proofs.LineUp.{IsLine as IsOneLine, IsLine-from_conditions, SameLine-refl, cost-lined_up, forward_by_ends, order_of_ends-once, order_of_ends-rises}
-use Rattle.msp_schedule.proofs.Exchange.{cost_of-lined_up}
+use Rattle.msp_schedule.proofs.changes.LineUp.{IsLine as IsOneLine, IsLine-from_conditions, SameLine-refl, cost-lined_up, forward_by_ends, order_of_ends-once, order_of_ends-rises}
+use Rattle.msp_schedule.proofs.changes.Exchange.{cost_of-lined_up}
 use Rattle.msp_route.specs.Bounds.{IsAnswer}
 use Rattle.msp_trees.specs.Horn.{horn_class}
 use Rattle.msp_trees.specs.Horn.{before, weight_at}

@@ -17,9 +17,9 @@ use Rattle.msp_instance.specs.Instance.{no_job, no_need}
 use Rattle.msp_instance.specs.Conditions.{Inner}
 use Rattle.msp_instance.proofs.ListingLemmas.{list_any-from_Contains}
 use Rattle.msp_schedule.specs.Rows.{time_at, row_schedule, piece, row}
-use Rattle.msp_schedule.proofs.OneRow.{piece_makes}
+use Rattle.msp_schedule.proofs.feasible.OneRow.{piece_makes}
 use Rattle.msp_schedule.specs.Piece.{job_of}
-use Rattle.msp_schedule.proofs.Rows.{row-jobs}
+use Rattle.msp_schedule.proofs.lists.Rows.{row-jobs}
 use Rattle.msp_trees.specs.declared.joining.Load.{Load}
 use Rattle.msp_trees.specs.Horn.{horn_class}
 use Rattle.msp_trees.specs.Horn.{first_before, before, weight_at, time_of, weight_of, GoesNext, Joins, JoinTo, nothing_joined, one_more, single_blocks, IsHornOrder}

@@ -18,7 +18,7 @@ use Rattle.msp_schedule.specs.Feasible.{Feasible}
 use Rattle.msp_schedule.specs.Cost.{end_of, cost_of, IsSolution}
 use Rattle.msp_schedule.specs.declared.limits.TheConstants.{GREATEST_UNIT}
 use Rattle.msp_schedule.specs.LineUp.{lined_up, order_of_ends}
-use Rattle.msp_schedule.proofs.LineUp.{order_of_ends-only}
+use Rattle.msp_schedule.proofs.changes.LineUp.{order_of_ends-only}
 use Rattle.msp_route.specs.Law.{IsBack, IsReordered}
 use Rattle.msp_route.specs.Bounds.{EndsBy, IsBounded, KeepsBounds, greatest_unit, keeps_schedule, trades_dates, moment_after}
 use Rattle.msp_route.specs.declared.bounds.TheConstants.{GREATEST_LINED_UP}

@@ -11,7 +11,7 @@ use Rattle.msp_schedule.specs.declared.Solution.{Solution}
 use Rattle.msp_schedule.specs.Feasible.{Feasible}
 use Rattle.msp_schedule.specs.Cost.{end_of}
 use Rattle.msp_schedule.specs.LineUp.{lined_up}
-use Rattle.msp_schedule.proofs.Exchange.{AllPairs-reverse}
+use Rattle.msp_schedule.proofs.changes.Exchange.{AllPairs-reverse}
 use Rattle.msp_route.specs.Bounds.{IsBounded}
 use Rattle.msp_turn.specs.LinedUp.{from_last, IsLinedUp}
 use Rattle.msp_turn.specs.laws.ExchangeRows.{IsExchange, IsBack-exchanged, from_last-below}

@@ -10,8 +10,8 @@ use Rattle.msp_schedule.specs.declared.Piece.{Piece}
 use Rattle.msp_schedule.specs.declared.Schedule.{Schedule}
 use Rattle.msp_schedule.specs.Feasible.{Feasible}
 use Rattle.msp_schedule.specs.Cost.{end_of}
-use Rattle.msp_schedule.proofs.Frames.{frame_of, Fits, HasWork, IsShaped-from_conditions, HasWork-from_conditions, Fits-from_feasible, piece_of}
-use Rattle.msp_schedule.proofs.LastEnds.{last_end-reached}
+use Rattle.msp_schedule.proofs.feasible.Frames.{frame_of, Fits, HasWork, IsShaped-from_conditions, HasWork-from_conditions, Fits-from_feasible, piece_of}
+use Rattle.msp_schedule.proofs.feasible.LastEnds.{last_end-reached}
 use Rattle.msp_route.specs.Bounds.{EndsBy}
 
 -- numbers below n, each of which is that of some item

@@ -17,10 +17,10 @@ use Rattle.msp_schedule.specs.declared.limits.TheConstants.{GREATEST_UNIT}
 use Rattle.msp_schedule.specs.Feasible.{Feasible}
 use Rattle.msp_schedule.specs.Within.{IsMoment, Within}
 use Rattle.msp_schedule.specs.Rows.{row, piece, time_at}
-use Rattle.msp_schedule.proofs.Rows.{row-to, length-row}
+use Rattle.msp_schedule.proofs.lists.Rows.{row-to, length-row}
 use Rattle.msp_schedule.specs.Piece.{finish, IsTimed}
-use Rattle.msp_schedule.proofs.OneMachine.{timed_pieces}
-use Rattle.msp_schedule.proofs.OneRow.{piece_makes}
+use Rattle.msp_schedule.proofs.feasible.OneMachine.{timed_pieces}
+use Rattle.msp_schedule.proofs.feasible.OneRow.{piece_makes}
 use Rattle.msp_schedule.specs.LineUp.{lined_up}
 use Rattle.msp_route.proofs.RowSteps.{short_length, greatest_length}
 

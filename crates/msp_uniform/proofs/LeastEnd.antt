@@ -13,8 +13,8 @@ use Rattle.msp_schedule.specs.Feasible.{Feasible}
 use Rattle.msp_schedule.specs.Laws.{time_together, jobs_together}
 use Rattle.msp_schedule.specs.Rows.{time_at}
 use Rattle.msp_schedule.specs.Speeds.{HaveSpeeds, HasSpeedFor, speed_of, speed_above}
-use Rattle.msp_schedule.proofs.Makespan.{ends_by_cost, cost_natural}
-use Rattle.msp_schedule.proofs.SpeedBound.{law_of_speeds}
+use Rattle.msp_schedule.proofs.costs.Makespan.{ends_by_cost, cost_natural}
+use Rattle.msp_schedule.proofs.bounds.SpeedBound.{law_of_speeds}
 use Rattle.msp_class.proofs.IntegerRing.{zero-le-pos, *ℤ_comm}
 use Rattle.msp_uniform.specs.Uniform.{cut_class, IsByFalling, work, speed, IsAfter, LawOfLeastEnd}
 

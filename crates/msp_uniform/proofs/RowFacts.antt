@@ -9,7 +9,7 @@ use Rattle.msp_class.proofs.Sums.{sum_by-cons, sum_by-append, total_below-same}
 use Rattle.msp_schedule.specs.declared.Piece.{Piece}
 use Rattle.msp_schedule.specs.Piece.{start, finish, job_of, IsTimed}
 use Rattle.msp_schedule.specs.Intervals.{IsApartOn, size_of}
-use Rattle.msp_schedule.proofs.Series.{AllPairs-append}
+use Rattle.msp_schedule.proofs.feasible.Series.{AllPairs-append}
 use Rattle.msp_uniform.specs.Rows.{piece_on, pieces_in, pieces_in_row, IsSliceOf}
 use Rattle.msp_uniform.specs.Segments.{at}
 use Rattle.msp_uniform.proofs.PrefixFacts.{rest, total_below-first}

@@ -20,9 +20,9 @@ use Rattle.msp_schedule.specs.Intervals.{size_of}
 use Rattle.msp_schedule.specs.Feasible.{Feasible, HasPlace, HasOperation, MayRun, FollowsRoute, GetsWork, IsWholeWork, total, whole_work, work_of as part_of}
 use Rattle.msp_schedule.specs.Cost.{cost_of, Best}
 use Rattle.msp_schedule.specs.Rows.{time_at}
-use Rattle.msp_schedule.proofs.OfClass.{IsOfClass}
-use Rattle.msp_schedule.proofs.OneMachine.{apart_in_int, pieces_of-job}
-use Rattle.msp_schedule.proofs.Makespan.{cost_by_ends, cost_natural}
+use Rattle.msp_schedule.proofs.feasible.OfClass.{IsOfClass}
+use Rattle.msp_schedule.proofs.feasible.OneMachine.{apart_in_int, pieces_of-job}
+use Rattle.msp_schedule.proofs.costs.Makespan.{cost_by_ends, cost_natural}
 use Rattle.msp_uniform.specs.declared.segments.Segment.{Segment}
 use Rattle.msp_uniform.specs.Uniform.{cut_class}
 use Rattle.msp_uniform.specs.Segments.{at, job_rate, amount}

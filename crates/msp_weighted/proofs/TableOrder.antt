@@ -8,7 +8,7 @@ use Rattle.msp_class.proofs.Sums.{OnceBelow, OnceBelow-from_permutation, length-
 use Rattle.msp_instance.specs.declared.Instance.{Instance}
 use Rattle.msp_instance.specs.Instance.{no_job}
 use Rattle.msp_schedule.specs.Rows.{time_at}
-use Rattle.msp_schedule.proofs.Places.{sum_by-places}
+use Rattle.msp_schedule.proofs.lists.Places.{sum_by-places}
 use Rattle.msp_weighted.specs.Late.{time_of, total_time, IsDueBefore, EndInTime}
 use Rattle.msp_weighted.specs.Values.{weight_at, first_value, values_of, IsFilled, IsChosen, IsTableOrder}
 use Rattle.msp_weighted.proofs.ValueFacts.{values-least, values_start}

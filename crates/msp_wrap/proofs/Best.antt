@@ -20,10 +20,10 @@ use Rattle.msp_schedule.specs.Feasible.{Feasible, HasPlace, HasOperation, MayRun
 use Rattle.msp_schedule.specs.Cost.{cost_of, Best}
 use Rattle.msp_schedule.specs.Fraction.{IsOver}
 use Rattle.msp_schedule.specs.Within.{IsMoment, Within}
-use Rattle.msp_schedule.proofs.OneMachine.{apart_in_int, pieces_of-job, total_lengths}
+use Rattle.msp_schedule.proofs.feasible.OneMachine.{apart_in_int, pieces_of-job, total_lengths}
 use Rattle.msp_schedule.specs.Rows.{time_at}
-use Rattle.msp_schedule.proofs.Groups.{job_is_over, jobs_are_over}
-use Rattle.msp_schedule.proofs.Makespan.{ends_by_whole_cost, cost_by_ends, cost_above}
+use Rattle.msp_schedule.proofs.bounds.Groups.{job_is_over, jobs_are_over}
+use Rattle.msp_schedule.proofs.costs.Makespan.{ends_by_whole_cost, cost_by_ends, cost_above}
 use Rattle.std.proofs.lemmas.List.Elements.{All-filter}
 use Rattle.msp_route.specs.Bounds.{IsAnswer, answer_unit}
 use Rattle.msp_wrap.specs.Wrap.{wrap_class, longest_time, total_time, least_end, IsWrapCost}

@@ -14,7 +14,7 @@ use Rattle.msp_schedule.specs.declared.Piece.{Piece}
 use Rattle.msp_schedule.specs.Intervals.{IsApartOn, size_of, work_of}
 use Rattle.msp_schedule.specs.Piece.{job_of, start, finish, IsTimed}
 use Rattle.msp_schedule.specs.Rows.{time_at}
-use Rattle.msp_schedule.proofs.Series.{AllPairs-append}
+use Rattle.msp_schedule.proofs.feasible.Series.{AllPairs-append}
 use Rattle.msp_wrap.specs.Wrap.{time_of, least_end}
 use Rattle.msp_wrap.specs.Laying.{part, machine_of, IsLaid, IsWrapped, HasOpened}
 use Rattle.msp_wrap.proofs.Facts.{IsWrapInstance, job_fits, jobs_fit, least_end-short, work_positive}

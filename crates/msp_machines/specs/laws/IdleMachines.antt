@@ -20,9 +20,9 @@ use Rattle.msp_instance.specs.Instance.{no_need, no_job, job_at, need_at, common
 use Rattle.msp_instance.specs.Conditions.{Limits, HasSpeeds, HasShape, HasTimes, HasNeeds, HasSameTimes, IsSingleNeed, IsNeedPerMachine, Inner, inner_limits, inner_factor, least_time, greatest_time}
 use Rattle.msp_schedule.specs.declared.limits.TheConstants.{GREATEST_UNIT}
 use Rattle.msp_schedule.specs.Feasible.{HasOperation, MayRun, whole_work}
-use Rattle.msp_schedule.proofs.Frames.{frame_by, frame_of, rate_on, job_at-map}
-use Rattle.msp_schedule.proofs.Serves.{IsMultiple-same, Serves}
-use Rattle.msp_schedule.proofs.Charges.{SameCharges-from_map, job_cost-reads}
+use Rattle.msp_schedule.proofs.feasible.Frames.{frame_by, frame_of, rate_on, job_at-map}
+use Rattle.msp_schedule.proofs.changes.Serves.{IsMultiple-same, Serves}
+use Rattle.msp_schedule.proofs.costs.Charges.{SameCharges-from_map, job_cost-reads}
 use Rattle.msp_table.specs.Rows.{goes_of, table}
 use Rattle.msp_route.specs.Law.{Applies}
 use Rattle.msp_route.specs.Bounds.{greatest_unit}

@@ -11,7 +11,7 @@ use Rattle.std.proofs.lemmas.List.Elements.{All-take, All-weaker, All-nil, All-c
 use Rattle.msp_instance.specs.Conditions.{HasSmallMultiple}
 use Rattle.msp_instance.proofs.MultipleLemmas.{IsLeastOfAll}
 use Rattle.msp_instance.specs.declared.ranges.TheConstants.{GREATEST_MULTIPLE}
-use Rattle.msp_schedule.proofs.OneMachine.{both_true}
+use Rattle.msp_schedule.proofs.feasible.OneMachine.{both_true}
 use Rattle.msp_route.specs.Rates.{least_common_multiple}
 
 -- ---- the test of a common multiple

@@ -15,8 +15,8 @@ use Rattle.msp_schedule.specs.declared.Schedule.{Schedule}
 use Rattle.msp_schedule.specs.declared.Solution.{Solution}
 use Rattle.msp_schedule.specs.Feasible.{Feasible}
 use Rattle.msp_schedule.specs.Cost.{cost_of, end_of, IsSolution}
-use Rattle.msp_schedule.proofs.Charges.{SameCharges, cost-same_ends}
-use Rattle.msp_schedule.proofs.Moves.{filter-map}
+use Rattle.msp_schedule.proofs.costs.Charges.{SameCharges, cost-same_ends}
+use Rattle.msp_schedule.proofs.changes.Moves.{filter-map}
 use Rattle.msp_route.specs.Law.{IsLower, IsForth, IsBack, IsReordered, cost_above, cost_below}
 use Rattle.msp_route.specs.Bounds.{EndsBy, IsBounded, KeepsBounds, greatest_unit, keeps_schedule, trades_dates}
 use Rattle.msp_route.specs.Changes.{same_costs}

@@ -20,10 +20,10 @@ use Rattle.msp_instance.specs.Conditions.{Limits, HasSpeeds, HasShape, HasTimes,
 use Rattle.msp_schedule.specs.declared.Piece.{Piece}
 use Rattle.msp_schedule.specs.declared.Schedule.{Schedule}
 use Rattle.msp_schedule.specs.Feasible.{Feasible, MayRun}
-use Rattle.msp_schedule.proofs.Charges.{SameCharges-from_map, job_cost-reads}
-use Rattle.msp_schedule.proofs.Frames.{IsShaped, IsShaped-from_conditions, frame_by, job_at-map}
-use Rattle.msp_schedule.proofs.Moves.{Suits}
-use Rattle.msp_schedule.proofs.Transport.{Stretches-identity, carried, carried_schedule, Feasible-carried}
+use Rattle.msp_schedule.proofs.costs.Charges.{SameCharges-from_map, job_cost-reads}
+use Rattle.msp_schedule.proofs.feasible.Frames.{IsShaped, IsShaped-from_conditions, frame_by, job_at-map}
+use Rattle.msp_schedule.proofs.changes.Moves.{Suits}
+use Rattle.msp_schedule.proofs.changes.Transport.{Stretches-identity, carried, carried_schedule, Feasible-carried}
 use Rattle.msp_table.specs.Rows.{goes_of, table}
 use Rattle.msp_route.specs.Law.{Applies}
 use Rattle.msp_route.specs.Bounds.{greatest_unit}

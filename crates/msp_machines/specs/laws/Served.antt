@@ -9,9 +9,9 @@ use Rattle.msp_schedule.specs.declared.Schedule.{Schedule}
 use Rattle.msp_schedule.specs.declared.Solution.{Solution}
 use Rattle.msp_schedule.specs.Feasible.{Feasible}
 use Rattle.msp_schedule.specs.Cost.{cost_of, IsSolution}
-use Rattle.msp_schedule.proofs.Frames.{IsShaped, IsShaped-from_conditions, frame_of}
-use Rattle.msp_schedule.proofs.Serves.{Serves, Feasible-served}
-use Rattle.msp_schedule.proofs.Charges.{SameCharges, cost-same_charges}
+use Rattle.msp_schedule.proofs.feasible.Frames.{IsShaped, IsShaped-from_conditions, frame_of}
+use Rattle.msp_schedule.proofs.changes.Serves.{Serves, Feasible-served}
+use Rattle.msp_schedule.proofs.costs.Charges.{SameCharges, cost-same_charges}
 use Rattle.msp_route.specs.Law.{IsLower, IsForth, IsBack, cost_above, cost_below}
 use Rattle.msp_route.specs.Bounds.{IsBounded, KeepsBounds, greatest_unit, keeps_schedule}
 use Rattle.msp_route.specs.Changes.{same_costs}

@@ -26,11 +26,11 @@ use Rattle.msp_schedule.specs.declared.Schedule.{Schedule}
 use Rattle.msp_schedule.specs.declared.limits.TheConstants.{GREATEST_UNIT}
 use Rattle.msp_schedule.specs.Feasible.{Feasible}
 use Rattle.msp_schedule.specs.Cost.{cost_of, end_of}
-use Rattle.msp_schedule.proofs.OneMachine.{both_true}
-use Rattle.msp_schedule.proofs.Frames.{IsShaped, IsShaped-from_conditions, job_at-map}
-use Rattle.msp_schedule.proofs.Busy.{busy_moment-lengths}
-use Rattle.msp_schedule.proofs.Permuted.{Feasible-permutation, last_end-permutation}
-use Rattle.msp_schedule.proofs.UnitTimes.{IsUnitOf, IsUnitOf-from_conditions, IsUnheaded, IsPlain, Feasible-to_unit, Feasible-from_unit, end_of-closed_le, cost-plain}
+use Rattle.msp_schedule.proofs.feasible.OneMachine.{both_true}
+use Rattle.msp_schedule.proofs.feasible.Frames.{IsShaped, IsShaped-from_conditions, job_at-map}
+use Rattle.msp_schedule.proofs.changes.Busy.{busy_moment-lengths}
+use Rattle.msp_schedule.proofs.lists.Permuted.{Feasible-permutation, last_end-permutation}
+use Rattle.msp_schedule.proofs.changes.UnitTimes.{IsUnitOf, IsUnitOf-from_conditions, IsUnheaded, IsPlain, Feasible-to_unit, Feasible-from_unit, end_of-closed_le, cost-plain}
 use Rattle.msp_table.specs.Rows.{goes_of, table}
 use Rattle.msp_route.specs.Law.{Applies, IsLower, IsPositive, IsForth, IsBack, IsReordered}
 use Rattle.msp_route.specs.Bounds.{EndsBy}

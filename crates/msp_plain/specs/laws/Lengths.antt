@@ -23,9 +23,9 @@ use Rattle.msp_schedule.specs.declared.Schedule.{Schedule}
 use Rattle.msp_schedule.specs.Piece.{length_of, start, finish, IsTimed}
 use Rattle.msp_schedule.specs.Feasible.{Feasible, HasOperation, MayRun, product_of_times, total, whole_work}
 use Rattle.msp_schedule.specs.Intervals.{size_of}
-use Rattle.msp_schedule.proofs.OneMachine.{IsTimed-from_span, total_lengths}
-use Rattle.msp_schedule.proofs.Frames.{Frame, frame_by, rate_on, Lasts, Stands, Fits, IsShaped-from_conditions, HasTimePerMachine, rate_positive, product_of_times-cons, of_operation, of_operation-named, part, Fits-from_feasible}
-use Rattle.msp_schedule.proofs.Moves.{total-cons}
+use Rattle.msp_schedule.proofs.feasible.OneMachine.{IsTimed-from_span, total_lengths}
+use Rattle.msp_schedule.proofs.feasible.Frames.{Frame, frame_by, rate_on, Lasts, Stands, Fits, IsShaped-from_conditions, HasTimePerMachine, rate_positive, product_of_times-cons, of_operation, of_operation-named, part, Fits-from_feasible}
+use Rattle.msp_schedule.proofs.changes.Moves.{total-cons}
 
 -- ---- a sum by two keys
 module _ {X : Type 0} (p q : X → Bool) where

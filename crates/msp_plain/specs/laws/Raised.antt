@@ -20,10 +20,10 @@ use Rattle.msp_instance.specs.Conditions.{IsJobOf, HasSameTimes, HasDue, HasWeig
 use Rattle.msp_schedule.specs.declared.Schedule.{Schedule}
 use Rattle.msp_schedule.specs.Feasible.{Feasible}
 use Rattle.msp_schedule.specs.Cost.{end_of, job_cost, cost_of}
-use Rattle.msp_schedule.proofs.Frames.{frame_of, Fits, job_at-map, IsShaped, IsShaped-from_conditions, Fits-from_feasible, HasWork-from_conditions}
-use Rattle.msp_schedule.proofs.LastEnds.{last_end-bound, last_end-reached}
-use Rattle.msp_schedule.proofs.Charges.{charge_of, cost_of-sum, cost_of-bound, cost_of-least}
-use Rattle.msp_schedule.proofs.Serves.{SameWork, SameWork-sym, SameNeeds-from_map, SameWork-from_map, IsShaped-same, Feasible-same}
+use Rattle.msp_schedule.proofs.feasible.Frames.{frame_of, Fits, job_at-map, IsShaped, IsShaped-from_conditions, Fits-from_feasible, HasWork-from_conditions}
+use Rattle.msp_schedule.proofs.feasible.LastEnds.{last_end-bound, last_end-reached}
+use Rattle.msp_schedule.proofs.costs.Charges.{charge_of, cost_of-sum, cost_of-bound, cost_of-least}
+use Rattle.msp_schedule.proofs.changes.Serves.{SameWork, SameWork-sym, SameNeeds-from_map, SameWork-from_map, IsShaped-same, Feasible-same}
 use Rattle.msp_plain.specs.Changes.{raised, shift_of}
 use Rattle.msp_plain.specs.Threshold.{IsThresholdSum, IsThreshold, Meets, IsInTime}
 use Rattle.msp_route.proofs.InnerChanges.{common_time-map, Inner-changed}

@@ -30,12 +30,12 @@ use Rattle.msp_instance.specs.Conditions.{IsJobOf, HasShape, HasTimes, HasSameTi
 use Rattle.msp_schedule.specs.declared.Schedule.{Schedule}
 use Rattle.msp_schedule.specs.Feasible.{Feasible}
 use Rattle.msp_schedule.specs.Cost.{end_of}
-use Rattle.msp_schedule.proofs.Frames.{job_at-map, no_heads}
-use Rattle.msp_schedule.proofs.Mirror.{turned_arcs as arcs_turned, turned_back}
+use Rattle.msp_schedule.proofs.feasible.Frames.{job_at-map, no_heads}
+use Rattle.msp_schedule.proofs.changes.Mirror.{turned_arcs as arcs_turned, turned_back}
 use Rattle.msp_schedule.specs.Rows.{time_at}
 use Rattle.msp_schedule.specs.LineUp.{lined_up, sorted_by, order_of_ends}
-use Rattle.msp_schedule.proofs.LineUp.{IsLine, order_of_ends-once, order_of_ends-rises}
-use Rattle.msp_schedule.proofs.Exchange.{Exchanges, Feasible-exchanged, cost-exchanged}
+use Rattle.msp_schedule.proofs.changes.LineUp.{IsLine, order_of_ends-once, order_of_ends-rises}
+use Rattle.msp_schedule.proofs.changes.Exchange.{Exchanges, Feasible-exchanged, cost-exchanged}
 use Rattle.msp_table.specs.Rows.{goes_of, table}
 use Rattle.msp_route.specs.Law.{Applies, IsLower, IsForth, IsBack}
 use Rattle.msp_route.specs.Changes.{same_costs}

@@ -16,12 +16,12 @@ use Rattle.msp_instance.specs.Conditions.{Inner, MeetsConditions, inner_limits}
 use Rattle.msp_schedule.specs.declared.Schedule.{Schedule}
 use Rattle.msp_schedule.specs.Feasible.{Feasible}
 use Rattle.msp_schedule.specs.Cost.{cost_of, end_of}
-use Rattle.msp_schedule.proofs.Frames.{frame_by, no_heads, IsShaped, IsShaped-from_conditions}
-use Rattle.msp_schedule.proofs.Serves.{Serves, IsMultiple-same, Feasible-served_by}
-use Rattle.msp_schedule.proofs.Charges.{SameCharges, SameCharges-from_class, cost-same_charges}
-use Rattle.msp_schedule.proofs.Series.{MayPrecede}
+use Rattle.msp_schedule.proofs.feasible.Frames.{frame_by, no_heads, IsShaped, IsShaped-from_conditions}
+use Rattle.msp_schedule.proofs.changes.Serves.{Serves, IsMultiple-same, Feasible-served_by}
+use Rattle.msp_schedule.proofs.costs.Charges.{SameCharges, SameCharges-from_class, cost-same_charges}
+use Rattle.msp_schedule.proofs.feasible.Series.{MayPrecede}
 use Rattle.msp_schedule.specs.LineUp.{lined_up, order_of_ends}
-use Rattle.msp_schedule.proofs.LineUp.{IsLine, IsLine-from_conditions, SameLine, Feasible-lined_up, cost-lined_up, forward_by_ends, loose_by_ends, order_of_ends-once, order_of_ends-rises}
+use Rattle.msp_schedule.proofs.changes.LineUp.{IsLine, IsLine-from_conditions, SameLine, Feasible-lined_up, cost-lined_up, forward_by_ends, loose_by_ends, order_of_ends-once, order_of_ends-rises}
 use Rattle.msp_table.specs.Rows.{goes_of, table}
 use Rattle.msp_route.specs.Law.{Applies, IsLower, IsForth, IsBack}
 use Rattle.msp_route.specs.Changes.{led, same_costs}

@@ -1,7 +1,7 @@
 use Rattle.std.proofs.Common.{refl, rules, subst}
 use Rattle.std.proofs.lemmas.List.{take_all}
 use Rattle.msp_schedule.specs.Begins.{AreBegins}
-use Rattle.msp_schedule.proofs.ArcTimes.{AreBegins-none, AreBegins-next}
+use Rattle.msp_schedule.proofs.judging.ArcTimes.{AreBegins-none, AreBegins-next}
 use Rattle.msp_schedule.proofs.arcs.begins_of.Goals as goal
 
 pub loop-piece-init : goal.loop-piece-init

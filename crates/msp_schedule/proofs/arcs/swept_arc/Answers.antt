@@ -1,6 +1,6 @@
 use Rattle.std.specs.Prelude.{slice_index_or}
 use Rattle.msp_schedule.specs.Breaks.{no_arc}
-use Rattle.msp_schedule.proofs.ArcTimes.{arc_decided, arcs_more}
+use Rattle.msp_schedule.proofs.judging.ArcTimes.{arc_decided, arcs_more}
 use Rattle.msp_schedule.proofs.arcs.swept_arc.Goals as goal
 
 pub returns-then-not-is_kept-clause-some : goal.returns-then-not-is_kept-clause-some

@@ -1,4 +1,4 @@
-use Rattle.msp_schedule.proofs.FirstBreaks.{decided, named}
+use Rattle.msp_schedule.proofs.judging.FirstBreaks.{decided, named}
 use Rattle.msp_schedule.proofs.breaks.first_break.Goals as goal
 
 pub returns-clause-none : goal.returns-clause-none

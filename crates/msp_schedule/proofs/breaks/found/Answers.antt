@@ -9,8 +9,8 @@ use Rattle.msp_schedule.specs.Within.{Within, greatest_scaled}
 use Rattle.msp_schedule.specs.Feasible.{Feasible}
 use Rattle.msp_schedule.specs.Breaks.{IsFirstBreak, IsLeast, KeepsArc, no_arc}
 use Rattle.std.specs.Prelude.{All, slice_index_or}
-use Rattle.msp_schedule.proofs.Small.{small_releases, small_times}
-use Rattle.msp_schedule.proofs.FirstBreaks.{first_of, first_release_at, first_work_at, feasible_if_kept, up_to_none, up_to_span, up_to_place, up_to_machine, up_to_job, up_to_release_at, up_to_arc, up_to_route, up_to_work_at, with_pieces, same_schedule}
+use Rattle.msp_schedule.proofs.costs.Small.{small_releases, small_times}
+use Rattle.msp_schedule.proofs.judging.FirstBreaks.{first_of, first_release_at, first_work_at, feasible_if_kept, up_to_none, up_to_span, up_to_place, up_to_machine, up_to_job, up_to_release_at, up_to_arc, up_to_route, up_to_work_at, with_pieces, same_schedule}
 use Rattle.msp_schedule.proofs.breaks.found.Goals as goal
 
 pub returns-in-Some-first_overlap-2 : goal.returns-in-Some-first_overlap-2

@@ -1,7 +1,7 @@
 use Rattle.std.proofs.Common.{rules}
 use Rattle.std.proofs.lemmas.Int.{to_z-of_z}
 use Rattle.std.specs.Int.{w128}
-use Rattle.msp_schedule.proofs.JobShares.{route_from_end}
+use Rattle.msp_schedule.proofs.judging.JobShares.{route_from_end}
 use Rattle.msp_schedule.proofs.breaks.keeps_route.Goals as goal
 
 pub returns : goal.returns

@@ -1,7 +1,7 @@
 use Rattle.std.proofs.Common.{◌≡◌, ℕ, ◌/◌, ap, ◌∙◌, sym, arith, rules, pos, neg_ℤ, ℤ, ◌≤ℤ◌, ◌<ℤ◌, ◌*ℤ◌, unsigned_abs, subst, to_z, of_z, FitsSigned}
 use Rattle.std.specs.Int.{IsGcd, w128}
 use Rattle.std.proofs.lemmas.Int.{ints, to_z-of_z}
-use Rattle.msp_schedule.proofs.Reduced.{Divides, Divides-same, Divides-lowest, Divides-positive}
+use Rattle.msp_schedule.proofs.costs.Reduced.{Divides, Divides-same, Divides-lowest, Divides-positive}
 use Rattle.msp_schedule.proofs.fraction.lowest.Goals as goal
 
 divided_from : (num den s q u v : ℤ) (n w g : ℕ) → u ≡ num → v ≡ den → pos 1 ≤ℤ den → n ≡ unsigned_abs u → w ≡ unsigned_abs v → IsGcd n w g → q ≡ pos (w / g) → (pos 0 ≤ℤ u → s ≡ pos (n / g)) → (u <ℤ pos 0 → s ≡ neg_ℤ (pos (n / g))) → Divides num den s q g

@@ -5,7 +5,7 @@ use Rattle.msp_instance.specs.declared.Curve.{Curve}
 use Rattle.msp_instance.specs.Conditions.{LiesWithin}
 use Rattle.msp_schedule.specs.Cost.{jumps}
 use Rattle.msp_schedule.specs.Within.{greatest_level}
-use Rattle.msp_schedule.proofs.Jumps.{jumps_le}
+use Rattle.msp_schedule.proofs.costs.Jumps.{jumps_le}
 use Rattle.msp_schedule.proofs.job_cost.curve_cost.Goals as goal
 
 -- the level of a curve is small, at the numbers as they are passed

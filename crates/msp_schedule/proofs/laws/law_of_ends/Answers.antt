@@ -1,4 +1,4 @@
-use Rattle.msp_schedule.proofs.EndsAndFloors.{law_of_ends}
+use Rattle.msp_schedule.proofs.bounds.EndsAndFloors.{law_of_ends}
 use Rattle.msp_schedule.proofs.laws.law_of_ends.Goals as goal
 
 pub returns : goal.returns

@@ -1,6 +1,6 @@
-use Rattle.msp_schedule.proofs.FirstBreaks.{not_feasible}
-use Rattle.msp_schedule.proofs.OneBreak.{one_break}
-use Rattle.msp_schedule.proofs.SomeBreak.{some_break}
+use Rattle.msp_schedule.proofs.judging.FirstBreaks.{not_feasible}
+use Rattle.msp_schedule.proofs.judging.OneBreak.{one_break}
+use Rattle.msp_schedule.proofs.judging.SomeBreak.{some_break}
 use Rattle.msp_schedule.proofs.laws.law_of_first_break.Goals as goal
 
 pub returns : goal.returns

@@ -1,4 +1,4 @@
-use Rattle.msp_schedule.proofs.Groups.{law_of_groups}
+use Rattle.msp_schedule.proofs.bounds.Groups.{law_of_groups}
 use Rattle.msp_schedule.proofs.laws.law_of_groups.Goals as goal
 
 pub returns : goal.returns

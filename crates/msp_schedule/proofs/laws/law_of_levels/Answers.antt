@@ -1,4 +1,4 @@
-use Rattle.msp_schedule.proofs.LevelBound.{law_of_levels}
+use Rattle.msp_schedule.proofs.bounds.LevelBound.{law_of_levels}
 use Rattle.msp_schedule.proofs.laws.law_of_levels.Goals as goal
 
 pub returns : goal.returns

@@ -1,4 +1,4 @@
-use Rattle.msp_schedule.proofs.Loads.{law_of_lines}
+use Rattle.msp_schedule.proofs.bounds.Loads.{law_of_lines}
 use Rattle.msp_schedule.proofs.laws.law_of_lines.Goals as goal
 
 pub returns : goal.returns

@@ -1,4 +1,4 @@
-use Rattle.msp_schedule.proofs.Loads.{law_of_machines}
+use Rattle.msp_schedule.proofs.bounds.Loads.{law_of_machines}
 use Rattle.msp_schedule.proofs.laws.law_of_machines.Goals as goal
 
 pub returns : goal.returns

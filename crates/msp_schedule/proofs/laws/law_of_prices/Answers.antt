@@ -1,4 +1,4 @@
-use Rattle.msp_schedule.proofs.PriceBounds.{law_of_prices}
+use Rattle.msp_schedule.proofs.bounds.PriceBounds.{law_of_prices}
 use Rattle.msp_schedule.proofs.laws.law_of_prices.Goals as goal
 
 pub returns : goal.returns

@@ -1,4 +1,4 @@
-use Rattle.msp_schedule.proofs.SegmentBound.{law_of_segments}
+use Rattle.msp_schedule.proofs.bounds.SegmentBound.{law_of_segments}
 use Rattle.msp_schedule.proofs.laws.law_of_segments.Goals as goal
 
 pub returns : goal.returns

@@ -1,4 +1,4 @@
-use Rattle.msp_schedule.proofs.SpeedBound.{law_of_speeds}
+use Rattle.msp_schedule.proofs.bounds.SpeedBound.{law_of_speeds}
 use Rattle.msp_schedule.proofs.laws.law_of_speeds.Goals as goal
 
 pub returns : goal.returns

@@ -1,6 +1,6 @@
 use Rattle.std.proofs.Common.{rules}
 use Rattle.std.proofs.lemmas.List.Sorted.{answers_always}
-use Rattle.msp_schedule.proofs.MarkFacts.{mark_less, mark_less-order, marks_sorted}
+use Rattle.msp_schedule.proofs.judging.MarkFacts.{mark_less, mark_less-order, marks_sorted}
 use Rattle.msp_schedule.proofs.marks.sort.Goals as goal
 
 pub returns-clause-sorted : goal.returns-clause-sorted

@@ -1,4 +1,4 @@
-use Rattle.msp_schedule.proofs.MarkFacts.{swept_none, swept_some}
+use Rattle.msp_schedule.proofs.judging.MarkFacts.{swept_none, swept_some}
 use Rattle.msp_schedule.proofs.marks.swept_overlap.Goals as goal
 
 pub returns-clause-none : goal.returns-clause-none

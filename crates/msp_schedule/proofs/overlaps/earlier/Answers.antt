@@ -1,5 +1,5 @@
 use Rattle.msp_schedule.specs.Lanes.{lane_of}
-use Rattle.msp_schedule.proofs.OverlapFacts.{known_stays, new_is_better, new_is_first}
+use Rattle.msp_schedule.proofs.judging.OverlapFacts.{known_stays, new_is_better, new_is_first}
 use Rattle.msp_schedule.proofs.overlaps.earlier.Goals as goal
 
 pub returns-in-Some : goal.returns-in-Some

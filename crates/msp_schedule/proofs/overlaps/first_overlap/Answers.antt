@@ -1,6 +1,6 @@
 use Rattle.std.proofs.Common.{◌+◌, sym, subst}
 use Rattle.msp_schedule.specs.Lanes.{lane_of, IsFirstOverlapBelow}
-use Rattle.msp_schedule.proofs.OverlapFacts.{nothing_new, none_overlap}
+use Rattle.msp_schedule.proofs.judging.OverlapFacts.{nothing_new, none_overlap}
 use Rattle.msp_schedule.proofs.overlaps.first_overlap.Goals as goal
 use Rattle.msp_schedule.proofs.overlaps.first_overlap.Goals.{in-Some, in_default}
 

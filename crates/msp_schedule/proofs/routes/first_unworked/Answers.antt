@@ -1,6 +1,6 @@
 use Rattle.std.proofs.lemmas.Int.{to_z-of_z}
 use Rattle.std.specs.Int.{w128}
-use Rattle.msp_schedule.proofs.WholeWork.{lacks_first}
+use Rattle.msp_schedule.proofs.judging.WholeWork.{lacks_first}
 use Rattle.msp_schedule.proofs.routes.first_unworked.Goals as goal
 
 pub returns-then-lacks_work-clause-some : goal.returns-then-lacks_work-clause-some

@@ -1,7 +1,7 @@
 use Rattle.std.proofs.Common.{subst, ◌∙◌, pos}
 use Rattle.std.proofs.lemmas.List.{take_all}
 use Rattle.msp_schedule.specs.Divisor.{IsCommonDivisor}
-use Rattle.msp_schedule.proofs.SettledSchedules.{IsCommonDivisor-none, IsCommonDivisor-step}
+use Rattle.msp_schedule.proofs.changes.SettledSchedules.{IsCommonDivisor-none, IsCommonDivisor-step}
 use Rattle.msp_schedule.proofs.settling.common_divisor.Goals as goal
 
 pub loop-piece-init : goal.loop-piece-init

@@ -2,7 +2,7 @@ use Rattle.std.proofs.Common.{◌≡◌, ◌<◌, ◌≤ℤ◌, length, map, sub
 use Rattle.std.proofs.lemmas.List.{length-map, take_all, take-append-le}
 use Rattle.msp_schedule.specs.declared.Piece.{Piece}
 use Rattle.msp_schedule.specs.Divisor.{divided}
-use Rattle.msp_schedule.proofs.SettledSchedules.{Halfway, Halfway-start, Halfway-step, Halfway-all}
+use Rattle.msp_schedule.proofs.changes.SettledSchedules.{Halfway, Halfway-start, Halfway-step, Halfway-all}
 use Rattle.msp_schedule.proofs.settling.divide_all.Goals as goal
 
 abbrev none : Piece

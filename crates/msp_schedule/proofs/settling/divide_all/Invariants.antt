@@ -1,6 +1,6 @@
 use Rattle.std.proofs.Common.{map}
 use Rattle.msp_schedule.specs.Divisor.{divided}
-use Rattle.msp_schedule.proofs.SettledSchedules.{Halfway}
+use Rattle.msp_schedule.proofs.changes.SettledSchedules.{Halfway}
 use Rattle.msp_schedule.proofs.settling.divide_all.Given as goal
 
 abbrev pub invariant-loop-piece : goal.invariant-loop-piece

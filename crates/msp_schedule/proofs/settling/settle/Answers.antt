@@ -3,7 +3,7 @@ use Rattle.std.specs.Int.{w128}
 use Rattle.std.proofs.lemmas.Int.{to_z-of_z}
 use Rattle.msp_schedule.specs.Divisor.{part_of, divided}
 use Rattle.msp_schedule.specs.Settled.{IsReportedFirst}
-use Rattle.msp_schedule.proofs.SettledSchedules.{divisor_positive, IsSettling, settled, settled_from, settled_feasible, settled_cost, settled_within}
+use Rattle.msp_schedule.proofs.changes.SettledSchedules.{divisor_positive, IsSettling, settled, settled_from, settled_feasible, settled_cost, settled_within}
 use Rattle.msp_schedule.proofs.settling.settle.Goals as goal
 
 pub divide_all-requires-clause-some : goal.divide_all-requires-clause-some

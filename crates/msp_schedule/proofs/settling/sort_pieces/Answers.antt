@@ -1,6 +1,6 @@
 use Rattle.std.proofs.Common.{rules}
 use Rattle.std.proofs.lemmas.List.Sorted.{answers_always}
-use Rattle.msp_schedule.proofs.SettledSchedules.{piece_less, piece_less-order, pieces_sorted}
+use Rattle.msp_schedule.proofs.changes.SettledSchedules.{piece_less, piece_less-order, pieces_sorted}
 use Rattle.msp_schedule.proofs.settling.sort_pieces.Goals as goal
 
 pub returns-clause-sorted : goal.returns-clause-sorted

@@ -1,6 +1,6 @@
 use Rattle.std.proofs.Common.{ltb, ltb-true, ltb-false, ◌<◌, ◌≤◌, rules}
 use Rattle.std.proofs.lemmas.List.Sorted.{IsPartitionPoint-from_clause, IsPartitionedBy-ltb}
-use Rattle.msp_schedule.proofs.JobShares.{All-before, All-after}
+use Rattle.msp_schedule.proofs.judging.JobShares.{All-before, All-after}
 use Rattle.msp_schedule.proofs.shares.count_before.Goals as goal
 
 pub returns-clause-before : goal.returns-clause-before

@@ -1,5 +1,5 @@
 use Rattle.std.proofs.lemmas.List.{take_rest}
-use Rattle.msp_schedule.proofs.JobShares.{share_at}
+use Rattle.msp_schedule.proofs.judging.JobShares.{share_at}
 use Rattle.msp_schedule.proofs.shares.share.Goals as goal
 
 pub returns : goal.returns

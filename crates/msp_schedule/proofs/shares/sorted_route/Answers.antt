@@ -1,6 +1,6 @@
 use Rattle.std.proofs.Common.{length}
 use Rattle.msp_schedule.specs.Within.{IsMoment}
-use Rattle.msp_schedule.proofs.SortedPieces.{of_sorted, inside_sorted, routes_sorted, route_sorted}
+use Rattle.msp_schedule.proofs.judging.SortedPieces.{of_sorted, inside_sorted, routes_sorted, route_sorted}
 use Rattle.msp_schedule.proofs.shares.sorted_route.Goals as goal
 
 pub route_in-requires-clause-places : goal.route_in-requires-clause-places

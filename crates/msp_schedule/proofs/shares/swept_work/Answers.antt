@@ -1,6 +1,6 @@
 use Rattle.std.proofs.lemmas.Int.{to_z-of_z}
 use Rattle.std.specs.Int.{w128}
-use Rattle.msp_schedule.proofs.SortedPieces.{measured_sorted, works_sorted, work_sorted}
+use Rattle.msp_schedule.proofs.judging.SortedPieces.{measured_sorted, works_sorted, work_sorted}
 use Rattle.msp_schedule.proofs.shares.swept_work.Goals as goal
 
 pub work_in-requires-clause-measured : goal.work_in-requires-clause-measured

@@ -1,5 +1,5 @@
 use Rattle.msp_schedule.specs.Within.{IsMoment}
-use Rattle.msp_schedule.proofs.JobShares.{shared, unrouted_none, unrouted_some}
+use Rattle.msp_schedule.proofs.judging.JobShares.{shared, unrouted_none, unrouted_some}
 use Rattle.msp_schedule.proofs.shares.unrouted_in.Goals as goal
 
 pub first_unrouted-requires : goal.first_unrouted-requires

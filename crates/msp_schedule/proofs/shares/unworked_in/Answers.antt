@@ -1,6 +1,6 @@
 use Rattle.std.proofs.lemmas.Int.{to_z-of_z}
 use Rattle.std.specs.Int.{w128}
-use Rattle.msp_schedule.proofs.JobShares.{measured_share, unworked_none, unworked_some}
+use Rattle.msp_schedule.proofs.judging.JobShares.{measured_share, unworked_none, unworked_some}
 use Rattle.msp_schedule.proofs.shares.unworked_in.Goals as goal
 
 pub first_unworked-requires-clause-measured : goal.first_unworked-requires-clause-measured

@@ -1,7 +1,7 @@
 use Rattle.std.proofs.Common.{refl, rules}
 use Rattle.std.proofs.lemmas.Int.{to_z-of_z}
 use Rattle.std.specs.Int.{w128}
-use Rattle.msp_schedule.proofs.WholeWork.{lacks_least, worked_next}
+use Rattle.msp_schedule.proofs.judging.WholeWork.{lacks_least, worked_next}
 use Rattle.msp_schedule.proofs.shares.work_in.Goals as goal
 
 pub returns-in-Some-clause-some : goal.returns-in-Some-clause-some

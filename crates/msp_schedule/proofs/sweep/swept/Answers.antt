@@ -1,4 +1,4 @@
-use Rattle.msp_schedule.proofs.SweepFacts.{swept_none, swept_first}
+use Rattle.msp_schedule.proofs.judging.SweepFacts.{swept_none, swept_first}
 use Rattle.msp_schedule.proofs.sweep.swept.Goals as goal
 
 pub returns-clause-none : goal.returns-clause-none

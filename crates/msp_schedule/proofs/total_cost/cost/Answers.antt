@@ -1,8 +1,8 @@
 use Rattle.std.proofs.Common.{rules}
 use Rattle.std.proofs.lemmas.Int.{to_z-of_z}
 use Rattle.std.specs.Int.{w128}
-use Rattle.msp_schedule.proofs.Small.{small_costs}
-use Rattle.msp_schedule.proofs.Whole.{passed_small, cost_is, over_unit}
+use Rattle.msp_schedule.proofs.costs.Small.{small_costs}
+use Rattle.msp_schedule.proofs.costs.Whole.{passed_small, cost_is, over_unit}
 use Rattle.msp_schedule.proofs.total_cost.cost.Goals as goal
 
 pub combined_cost-num-requires-clause-small : goal.combined_cost-num-requires-clause-small

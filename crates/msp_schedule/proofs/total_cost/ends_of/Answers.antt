@@ -1,5 +1,5 @@
 use Rattle.std.proofs.Common.{refl, rules}
-use Rattle.msp_schedule.proofs.Ends.{EndsOver-none, EndsOver-next}
+use Rattle.msp_schedule.proofs.costs.Ends.{EndsOver-none, EndsOver-next}
 use Rattle.msp_schedule.proofs.total_cost.ends_of.Goals as goal
 
 pub loop-piece-init : goal.loop-piece-init

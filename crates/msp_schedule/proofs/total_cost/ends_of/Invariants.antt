@@ -1,5 +1,5 @@
 use Rattle.std.proofs.Common.{take}
-use Rattle.msp_schedule.proofs.Ends.{EndsOver}
+use Rattle.msp_schedule.proofs.costs.Ends.{EndsOver}
 use Rattle.msp_schedule.proofs.total_cost.ends_of.Given as goal
 
 -- each job's end over the pieces so far

@@ -1,7 +1,7 @@
 use Rattle.std.proofs.Common.{arith, rules}
 use Rattle.std.proofs.lemmas.Int.{to_z-of_z}
 use Rattle.std.specs.Int.{w128}
-use Rattle.msp_schedule.proofs.Costs.{ReachesTo-first, ReachesTo-step, ReachesTo-all, passed_moment, passed_max}
+use Rattle.msp_schedule.proofs.costs.Costs.{ReachesTo-first, ReachesTo-step, ReachesTo-all, passed_moment, passed_max}
 use Rattle.msp_schedule.proofs.total_cost.greatest_of_costs.Goals as goal
 
 pub loop-k-init : goal.loop-k-init

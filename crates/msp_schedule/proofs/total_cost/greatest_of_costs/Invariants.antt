@@ -1,5 +1,5 @@
 use Rattle.std.proofs.Common.{◌<◌}
-use Rattle.msp_schedule.proofs.Costs.{ReachesTo}
+use Rattle.msp_schedule.proofs.costs.Costs.{ReachesTo}
 use Rattle.msp_schedule.proofs.total_cost.greatest_of_costs.Given as goal
 
 abbrev pub invariant-loop-k : goal.invariant-loop-k

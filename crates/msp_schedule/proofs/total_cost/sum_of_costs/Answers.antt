@@ -1,7 +1,7 @@
 use Rattle.std.proofs.Common.{arith, rules}
 use Rattle.std.proofs.lemmas.Int.{ints, to_z-of_z}
 use Rattle.std.specs.Int.{w128}
-use Rattle.msp_schedule.proofs.Costs.{SumsTo-step, SumsTo-all}
+use Rattle.msp_schedule.proofs.costs.Costs.{SumsTo-step, SumsTo-all}
 use Rattle.msp_schedule.proofs.total_cost.sum_of_costs.Goals as goal
 
 pub loop-k-preserved : goal.loop-k-preserved

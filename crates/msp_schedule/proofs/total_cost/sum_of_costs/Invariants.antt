@@ -1,4 +1,4 @@
-use Rattle.msp_schedule.proofs.Costs.{SumsTo}
+use Rattle.msp_schedule.proofs.costs.Costs.{SumsTo}
 use Rattle.msp_schedule.proofs.total_cost.sum_of_costs.Given as goal
 
 abbrev pub invariant-loop-k : goal.invariant-loop-k

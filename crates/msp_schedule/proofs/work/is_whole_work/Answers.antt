@@ -3,7 +3,7 @@ use Rattle.std.proofs.lemmas.Int.{to_z-of_z}
 use Rattle.std.specs.Int.{w128}
 use Rattle.msp_class.specs.Env.{kind_of}
 use Rattle.msp_schedule.specs.Works.{need_of}
-use Rattle.msp_schedule.proofs.WholeWork.{need_inside, small_time, whole_if-passed}
+use Rattle.msp_schedule.proofs.judging.WholeWork.{need_inside, small_time, whole_if-passed}
 use Rattle.msp_schedule.proofs.work.is_whole_work.Goals as goal
 
 pub takes-requires : goal.takes-requires

@@ -1,5 +1,5 @@
 use Rattle.std.proofs.Common.{refl, sym}
-use Rattle.msp_schedule.proofs.Among.{never_one-some}
+use Rattle.msp_schedule.proofs.judging.Among.{never_one-some}
 use Rattle.msp_schedule.proofs.work.sole_piece.Goals as goal
 
 pub returns-then-is_some-clause-none : goal.returns-then-is_some-clause-none

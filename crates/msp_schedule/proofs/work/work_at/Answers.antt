@@ -1,7 +1,7 @@
 use Rattle.std.proofs.Common.{◌∙◌, rules}
 use Rattle.std.proofs.lemmas.Int.{to_z-of_z}
 use Rattle.std.specs.Int.{w128}
-use Rattle.msp_schedule.proofs.WholeWork.{work_is}
+use Rattle.msp_schedule.proofs.judging.WholeWork.{work_is}
 use Rattle.msp_schedule.proofs.work.work_at.Goals as goal
 
 pub returns-clause-value : goal.returns-clause-value

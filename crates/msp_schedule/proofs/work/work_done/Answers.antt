@@ -2,7 +2,7 @@ use Rattle.std.proofs.Common.{refl, arith}
 use Rattle.std.proofs.lemmas.Int.{ints}
 use Rattle.msp_class.specs.Env.{kind_of}
 use Rattle.msp_schedule.specs.Feasible.{work_of}
-use Rattle.msp_schedule.proofs.Among.{SumsTo-next}
+use Rattle.msp_schedule.proofs.judging.Among.{SumsTo-next}
 use Rattle.msp_schedule.proofs.work.work_done.Goals as goal
 use Rattle.msp_schedule.specs.Works.{greatest_work}
 

@@ -3,7 +3,7 @@ use Rattle.std.proofs.Common.{reverse, AllPairs, IsPermutation, ◌≤ℤ◌, sy
 use Rattle.std.specs.List.{range_with_len}
 use Rattle.std.proofs.lemmas.List.Sorted.{IsPermutation-reverse, IsPermutation-trans}
 use Rattle.msp_schedule.specs.Cost.{end_of}
-use Rattle.msp_schedule.proofs.Exchange.{AllPairs-reverse}
+use Rattle.msp_schedule.proofs.changes.Exchange.{AllPairs-reverse}
 use Rattle.msp_turn.proofs.exchange.order_from_last.Goals as goal
 
 pub returns-clause-all : goal.returns-clause-all

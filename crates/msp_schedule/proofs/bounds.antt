@@ -1,0 +1,9 @@
+pub mod EndsAndFloors
+pub mod Floored
+pub mod LevelBound
+pub mod SegmentBound
+pub mod Loads
+pub mod Groups
+pub mod SpeedBound
+pub mod PriceBounds
+pub mod Certified

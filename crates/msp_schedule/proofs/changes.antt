@@ -1,0 +1,10 @@
+pub mod Moves
+pub mod Transport
+pub mod Shrunk
+pub mod SettledSchedules
+pub mod Serves
+pub mod Mirror
+pub mod LineUp
+pub mod Exchange
+pub mod UnitTimes
+pub mod Busy

@@ -1,0 +1,9 @@
+pub mod Reduced
+pub mod Jumps
+pub mod Ends
+pub mod Costs
+pub mod Small
+pub mod Whole
+pub mod Charges
+pub mod Makespan
+pub mod LateJobs

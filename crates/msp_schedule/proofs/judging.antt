@@ -1,0 +1,11 @@
+pub mod Among
+pub mod ArcTimes
+pub mod FirstBreaks
+pub mod JobShares
+pub mod MarkFacts
+pub mod OneBreak
+pub mod OverlapFacts
+pub mod SomeBreak
+pub mod SortedPieces
+pub mod SweepFacts
+pub mod WholeWork

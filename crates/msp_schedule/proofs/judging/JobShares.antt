@@ -1,0 +1,183 @@
+-- The pieces of one job among all pieces: what a search in sorted pieces finds, and what routes and work need of the others.
+use Rattle.std.proofs.Common.{◌≡◌, ℕ, not, ◌+◌, ◌<◌, ◌≤◌, Bool, true, false, cond, List, [], ◌∷◌, ◌++◌, length, get_or, take, drop, filter, map, All, Contains, Option, Some, None, ℤ, pos, ◌*ℤ◌, ◌≤ℤ◌, refl, sym, ap, subst, ◌∙◌, arith, inl, inr}
+use Rattle.std.specs.Prelude.{◌==◌, ◌&&◌, MatchBool, IfSome, IsTrue, ◌↔◌}
+use Rattle.std.specs.List.{AllWithin}
+use Rattle.std.proofs.lemmas.Bool.{cases_Bool, eqb-true, eq-eqb}
+use Rattle.std.proofs.lemmas.Int.{ints, clamps}
+use Rattle.std.specs.Int.{int_max}
+use Rattle.std.proofs.lemmas.List.{take-append-drop, append-nil, length-take, length-drop, get_or-take, get_or-drop}
+use Rattle.std.proofs.lemmas.List.Elements.{All-nil, All-more, All-head, All-tail, All-filter, All-contains, filter-append, Contains-get_or}
+use Rattle.std.proofs.lemmas.List.Filters.{length-filter_both}
+use Rattle.msp_class.proofs.Sums.{Contains-filter}
+use Rattle.msp_class.specs.Env.{kind_of}
+use Rattle.msp_instance.specs.declared.Instance.{Instance}
+use Rattle.msp_schedule.specs.declared.Piece.{Piece}
+use Rattle.msp_schedule.specs.Feasible.{HasPlace, IsWholeWork, total, whole_work, work_of}
+use Rattle.msp_schedule.specs.Begins.{IsEarlierEnd}
+use Rattle.msp_schedule.specs.Breaks.{KeepsRoute, pieces_among, IsLeast}
+use Rattle.msp_schedule.specs.Works.{AreMeasurable, GetsWorkAmong, LacksWorkAmong, IsWorked}
+use Rattle.msp_schedule.specs.Within.{IsMoment}
+use Rattle.msp_schedule.proofs.judging.ArcTimes.{fewer}
+
+-- ---- what a filter keeps where all or none pass
+module _ {X : Type 0} (p : X → Bool) where
+  pub filter_none : (xs : List X) → All (λ x. p x ≡ false) xs → filter p xs ≡ []
+  filter_none [] h = refl
+  filter_none (x ∷ xs) h = ap (λ b. cond b (x ∷ filter p xs) (filter p xs)) (All-head (λ y. p y ≡ false) x xs h) ∙ filter_none xs (All-tail (λ y. p y ≡ false) x xs h)
+
+  pub filter_whole : (xs : List X) → All (λ x. p x ≡ true) xs → filter p xs ≡ xs
+  filter_whole [] h = refl
+  filter_whole (x ∷ xs) h = ap (λ b. cond b (x ∷ filter p xs) (filter p xs)) (All-head (λ y. p y ≡ true) x xs h) ∙ ap (λ l. x ∷ l) (filter_whole xs (All-tail (λ y. p y ≡ true) x xs h))
+
+  -- none before a, all of the next b, and none after
+  pub filter_middle : (xs : List X) (a b : ℕ) → All (λ x. p x ≡ false) (take a xs) → All (λ x. p x ≡ true) (take b (drop a xs)) → All (λ x. p x ≡ false) (drop b (drop a xs)) → take b (drop a xs) ≡ filter p xs
+  filter_middle xs a b before inside after = sym (
+      ap (filter p) (sym (take-append-drop a xs))
+      ∙ filter-append p (take a xs) (drop a xs)
+      ∙ ap (λ l. l ++ filter p (drop a xs)) (filter_none (take a xs) before)
+      ∙ ap (filter p) (sym (take-append-drop b (drop a xs)))
+      ∙ filter-append p (take b (drop a xs)) (drop b (drop a xs))
+      ∙ ap (λ l. filter p (take b (drop a xs)) ++ l) (filter_none (drop b (drop a xs)) after)
+      ∙ append-nil _
+      ∙ filter_whole (take b (drop a xs)) inside)
+
+module _ {X : Type 0} where
+  pub All-before : (P : X → Type 0) (xs : List X) (i : ℕ) → i ≤ length xs → AllWithin P xs 0 i → All P (take i xs)
+  All-before P xs i h all k d l = let inside : k < i = omega (arith, length-take i xs) in subst P (sym (get_or-take i xs k d inside)) (all k d (omega arith) inside)
+
+  pub All-after : (P : X → Type 0) (xs : List X) (i : ℕ) → i ≤ length xs → AllWithin P xs i (length xs) → All P (drop i xs)
+  All-after P xs i h all k d l = subst P (sym (get_or-drop i xs k d)) (all (i + k) d (omega arith) (omega (arith, length-drop i xs, l, h)))
+
+decide : (j k : ℕ) → (j ≡ k → ⊥) → (j == k) ≡ false
+decide j k n = elim (cases_Bool (j == k)) [ inl h ↦ absurd (n (eqb-true _ _ h)) | inr h ↦ h ]
+
+pub share_is : (xs : List Piece) (j a b : ℕ) → All (λ p. p.job < j) (take a xs) → All (λ p. j ≤ p.job) (drop a xs) → All (λ p. p.job < j + 1) (take b (drop a xs)) → All (λ p. j + 1 ≤ p.job) (drop b (drop a xs)) →
+    take b (drop a xs) ≡ filter (λ p. p.job == j) xs
+share_is xs j a b before from inside after = filter_middle (λ p. p.job == j) xs a b
+    (λ k d l. let t = before k d l in decide (get_or (take a xs) k d).job j (λ e. omega (arith, t, e)))
+    (λ k d l. eq-eqb _ _ (let low = All-take_of (λ p. j ≤ p.job) (drop a xs) b from k d l in let high = inside k d l in omega (arith, low, high)))
+    (λ k d l. let t = after k d l in decide (get_or (drop b (drop a xs)) k d).job j (λ e. omega (arith, t, e)))
+  where
+    All-take_of : (P : Piece → Type 0) (ys : List Piece) (n : ℕ) → All P ys → All P (take n ys)
+    All-take_of P ys n h k d l = let small : k < n = omega (arith, length-take n ys) in subst P (sym (get_or-take n ys k d small)) (h k d (omega (arith, length-take n ys)))
+
+pub share_at : (xs rest : List Piece) (j a b : ℕ) → rest ≡ drop a xs → All (λ p. p.job < j) (take a xs) → All (λ p. j ≤ p.job) (drop a xs) → All (λ p. p.job < j + 1) (take b rest) → All (λ p. j + 1 ≤ p.job) (drop b rest) → take b rest ≡ filter (λ p. p.job == j) xs
+share_at xs rest j a b e before from inside after =
+    ap (take b) e ∙ share_is xs j a b before from (subst (λ l. All (λ p. p.job < j + 1) (take b l)) e inside) (subst (λ l. All (λ p. j + 1 ≤ p.job) (drop b l)) e after)
+
+-- ---- routes
+module _ (xs : List Piece) (j : ℕ) where
+  abbrev Share : List Piece
+  Share = filter (λ p. p.job == j) xs
+
+  pub route_of_share : (o : ℕ) → KeepsRoute xs j o → KeepsRoute Share j o
+  route_of_share o h k d l = All-filter (λ p. p.job == j) (λ q. (get_or Share k d).job ≡ j → q.job ≡ j → (get_or Share k d).op < o → q.op ≡ o → (get_or Share k d).to ≤ℤ q.from) xs
+      (All-filter (λ p. p.job == j) (λ p. All (λ q. p.job ≡ j → q.job ≡ j → p.op < o → q.op ≡ o → p.to ≤ℤ q.from) xs) xs h k d l)
+
+  mine : (k : ℕ) (d : Piece) → k < length xs → (get_or xs k d).job ≡ j → Contains Share (get_or xs k d)
+  mine k d l e = Contains-filter (λ p. p.job == j) xs (get_or xs k d) (Contains-get_or xs k d l) (eq-eqb _ _ e)
+
+  pub route_by_share : (o : ℕ) → KeepsRoute Share j o → KeepsRoute xs j o
+  route_by_share o h k d l m e n before after = All-contains (λ q. (get_or xs k d).job ≡ j → q.job ≡ j → (get_or xs k d).op < o → q.op ≡ o → (get_or xs k d).to ≤ℤ q.from) Share (get_or xs m e)
+      (All-contains (λ p. All (λ q. p.job ≡ j → q.job ≡ j → p.op < o → q.op ≡ o → p.to ≤ℤ q.from) Share) Share (get_or xs k d) h (mine k d l before)) (mine m e n after) before after
+
+  pub unrouted_by_share : (ops o : ℕ) → IsLeast ops (λ q. ¬ KeepsRoute Share j q) o → IsLeast ops (λ q. ¬ KeepsRoute xs j q) o
+  unrouted_by_share ops o h = record { inside = h.inside; holds = λ r. h.holds (route_of_share o r); least = λ q l n. h.least q l (λ r. n (route_by_share q r)) }
+
+  pub unrouted_none : (ys : List Piece) (ops : ℕ) → ys ≡ Share → ((o : ℕ) → o < ops → KeepsRoute ys j o) → (o : ℕ) → o < ops → KeepsRoute xs j o
+  unrouted_none ys ops e h o l = route_by_share o (subst (λ zs. KeepsRoute zs j o) e (h o l))
+
+  pub unrouted_some : (ys : List Piece) (ops : ℕ) (r : Option ℕ) → ys ≡ Share → IfSome r (λ o. IsLeast ops (λ q. ¬ KeepsRoute ys j q) o) → IfSome r (λ o. IsLeast ops (λ q. ¬ KeepsRoute xs j q) o)
+  unrouted_some ys ops None e h = tt
+  unrouted_some ys ops (Some o) e h = unrouted_by_share ops o (subst (λ zs. IsLeast ops (λ q. ¬ KeepsRoute zs j q) o) e h)
+
+  -- ---- work
+  among_share : (ys : List Piece) (o : ℕ) → pieces_among (filter (λ p. p.job == j) ys) j o ≡ pieces_among ys j o
+  among_share [] o = refl
+  among_share (p ∷ ps) o = by (p.job == j) refl (among_share ps o)
+    where
+      by : (b : Bool) → (p.job == j) ≡ b → pieces_among (filter (λ p. p.job == j) ps) j o ≡ pieces_among ps j o → pieces_among (cond (p.job == j) (p ∷ filter (λ p. p.job == j) ps) (filter (λ p. p.job == j) ps)) j o ≡ cond ((p.job == j) && (p.op == o)) (p ∷ pieces_among ps j o) (pieces_among ps j o)
+      by true e rest = ap (λ b. pieces_among (cond b (p ∷ filter (λ p. p.job == j) ps) (filter (λ p. p.job == j) ps)) j o) e ∙ ap (λ l. cond ((p.job == j) && (p.op == o)) (p ∷ l) l) rest
+      by false e rest = ap (λ b. pieces_among (cond b (p ∷ filter (λ p. p.job == j) ps) (filter (λ p. p.job == j) ps)) j o) e ∙ rest ∙ ap (λ b. cond (b && (p.op == o)) (p ∷ pieces_among ps j o) (pieces_among ps j o)) (sym e)
+
+  pub work_by_share : (i : Instance) (u : ℤ) (o : ℕ) → IsWorked i u Share j o → IsWorked i u xs j o
+  work_by_share i u o h op = subst (λ l. MatchBool i.class.cut (total (map (work_of (kind_of i.class.env) i) l) ≡ u *ℤ pos (whole_work (kind_of i.class.env) i j o)) ((p : Piece) × (l ≡ p ∷ []) × IsWholeWork (kind_of i.class.env) i u p)) (among_share xs o) (h op)
+
+  pub work_of_share : (i : Instance) (u : ℤ) (o : ℕ) → GetsWorkAmong i u xs j o → GetsWorkAmong i u Share j o
+  work_of_share i u o h = subst (λ l. MatchBool i.class.cut (total (map (work_of (kind_of i.class.env) i) l) ≡ u *ℤ pos (whole_work (kind_of i.class.env) i j o)) ((p : Piece) × (l ≡ p ∷ []) × IsWholeWork (kind_of i.class.env) i u p)) (sym (among_share xs o)) h
+
+  pub unworked_by_share : (i : Instance) (u v : ℤ) (ops o : ℕ) → v ≡ u → IsLeast ops (λ q. LacksWorkAmong i v Share j q) o → IsLeast ops (λ q. LacksWorkAmong i u xs j q) o
+  unworked_by_share i u v ops o e h = subst (λ x. IsLeast ops (λ q. LacksWorkAmong i x xs j q) o) e (record {
+    inside = h.inside;
+    holds = (h.holds.0, λ g. h.holds.1 (work_of_share i v o g));
+    least = λ q l n. h.least q l (n.0, λ g. n.1 (work_by_share i v q (λ op. g) n.0));
+  })
+
+  pub unworked_none : (ys : List Piece) (i : Instance) (u v : ℤ) (ops : ℕ) → v ≡ u → ys ≡ Share → ((o : ℕ) → o < ops → IsWorked i v ys j o) → (o : ℕ) → o < ops → IsWorked i u xs j o
+  unworked_none ys i u v ops ev e h o l = work_by_share i u o (subst (λ z. IsWorked i z Share j o) ev (subst (λ zs. IsWorked i v zs j o) e (h o l)))
+
+  pub unworked_some : (ys : List Piece) (i : Instance) (u v : ℤ) (ops : ℕ) (r : Option ℕ) → v ≡ u → ys ≡ Share → IfSome r (λ o. IsLeast ops (λ q. LacksWorkAmong i v ys j q) o) → IfSome r (λ o. IsLeast ops (λ q. LacksWorkAmong i u xs j q) o)
+  unworked_some ys i u v ops None ev e h = tt
+  unworked_some ys i u v ops (Some o) ev e h = unworked_by_share i u v ops o ev (subst (λ zs. IsLeast ops (λ q. LacksWorkAmong i v zs j q) o) e h)
+
+  pub shared : (P : Piece → Type 0) (ys : List Piece) → ys ≡ Share → All P xs → All P ys
+  shared P ys e h = subst (All P) (sym e) (All-filter (λ p. p.job == j) P xs h)
+
+  few_shared : (ys : List Piece) (n : ℕ) → ys ≡ Share → length xs ≤ n → length ys ≤ n
+  few_shared ys n e h = omega (arith, ap length e, length-filter_both (λ p. p.job == j) (λ p. not (p.job == j)) (λ _. refl) xs, h)
+
+  pub measured_share : (ys : List Piece) (i : Instance) → ys ≡ Share → AreMeasurable i xs → AreMeasurable i ys
+  measured_share ys i e h = record {
+    inner = h.inner;
+    checked = h.checked;
+    few = few_shared ys _ e h.few;
+    place = shared (HasPlace i) ys e h.place;
+    moments = shared (λ p. IsMoment p.from × IsMoment p.to) ys e h.moments;
+  }
+
+-- ---- the last end of earlier operations
+abbrev EndsBy : List Piece → ℕ → ℕ → ℤ → Type 0
+EndsBy xs j o x = All (λ p. p.job ≡ j → p.op < o → p.to ≤ℤ x) xs
+
+pub greater_of : (a b x new : ℤ) → new ≡ int_max a b → a ≡ x → new ≡ int_max x b
+greater_of a b x new e f = subst (λ y. new ≡ int_max y b) f e
+
+pub earlier_none : (j o : ℕ) → IsEarlierEnd [] j o (pos 0)
+earlier_none j o = record { natural = omega (arith, ints); bound = All-nil _; least = λ b h all. h }
+
+-- a piece that counts, and one that does not
+pub earlier_more : (xs : List Piece) (k j o : ℕ) (d p : Piece) (x : ℤ) → k < length xs → p ≡ get_or xs k d → (p.job ≡ j) × (p.op < o) → IsEarlierEnd (take k xs) j o x → IsEarlierEnd (take (k + 1) xs) j o (int_max p.to x)
+earlier_more xs k j o d p x h is counts so_far = subst (λ q. (q.job ≡ j) × (q.op < o) → IsEarlierEnd (take (k + 1) xs) j o (int_max q.to x)) (sym is) next counts
+  where
+    left : (a x b : ℤ) → b ≤ℤ x → b ≤ℤ int_max a x
+    left a x b h = omega (arith, ints, clamps)
+
+    right : (a x : ℤ) → a ≤ℤ int_max a x
+    right a x = omega (arith, ints, clamps)
+
+    both : (a x b : ℤ) → a ≤ℤ b → x ≤ℤ b → int_max a x ≤ℤ b
+    both a x b h k = omega (arith, ints, clamps)
+
+    next : ((get_or xs k d).job ≡ j) × ((get_or xs k d).op < o) → IsEarlierEnd (take (k + 1) xs) j o (int_max (get_or xs k d).to x)
+    next c = record {
+      natural = left (get_or xs k d).to x (pos 0) so_far.natural;
+      bound = All-more (λ q. q.job ≡ j → q.op < o → q.to ≤ℤ int_max (get_or xs k d).to x) xs k d h (λ i f l s t. left (get_or xs k d).to x (get_or (take k xs) i f).to (so_far.bound i f l s t)) (λ s t. right (get_or xs k d).to x);
+      least = λ b n all. let f = fewer (λ q. q.job ≡ j → q.op < o → q.to ≤ℤ b) xs k d h all in both (get_or xs k d).to x b (f.1 c.0 c.1) (so_far.least b n f.0);
+    }
+
+pub earlier_same : (xs : List Piece) (k j o : ℕ) (d p : Piece) (x : ℤ) → k < length xs → p ≡ get_or xs k d → ¬ ((p.job ≡ j) × (p.op < o)) → IsEarlierEnd (take k xs) j o x → IsEarlierEnd (take (k + 1) xs) j o x
+earlier_same xs k j o d p x h is not_later so_far = record {
+  natural = so_far.natural;
+  bound = All-more (λ q. q.job ≡ j → q.op < o → q.to ≤ℤ x) xs k d h so_far.bound (λ s t. absurd (not_later (ap (λ q. q.job) is ∙ s, subst (λ q. q.op < o) (sym is) t)));
+  least = λ b n all. so_far.least b n (fewer (λ q. q.job ≡ j → q.op < o → q.to ≤ℤ b) xs k d h all).0;
+}
+
+-- a route is kept where the operation begins from there
+pub route_from_end : (xs : List Piece) (j o : ℕ) (x y : ℤ) (result : Bool) → y ≡ x → All (λ p. IsMoment p.from × IsMoment p.to) xs → IsEarlierEnd xs j o x → IsTrue result ↔ All (λ q. q.job ≡ j → q.op ≡ o → y ≤ℤ q.from) xs → IsTrue result ↔ KeepsRoute xs j o
+route_from_end xs j o x y result e moments end (to, from) = (
+  λ h k d l m f n mine other less same. joined (get_or xs k d).to x y (get_or xs m f).from e (end.bound k d l mine less) (to h m f n other same),
+  λ kept. from (λ m f n mine same. subst (λ z. z ≤ℤ (get_or xs m f).from) (sym e) (end.least (get_or xs m f).from (moments m f n).0.0 (λ k d l own less. kept k d l m f n own mine less same))),
+)
+  where
+    joined : (a x y b : ℤ) → y ≡ x → a ≤ℤ x → y ≤ℤ b → a ≤ℤ b
+    joined a x y b e h k = omega (arith, ints, e)

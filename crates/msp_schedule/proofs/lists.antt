@@ -1,0 +1,9 @@
+pub mod Intervals
+pub mod Rows
+pub mod Sequences
+pub mod Places
+pub mod Parts
+pub mod Positions
+pub mod OnceEach
+pub mod Permuted
+pub mod DateOrder
