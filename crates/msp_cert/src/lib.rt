@@ -6,8 +6,8 @@
 //! `levels_show` decide exactly whether a proof of their kind shows a bound.
 #![tactic(auto)]
 
-use msp_class::List;
-use msp_schedule::Frac;
+use msp_class::{Class, List};
+use msp_schedule::{Frac, Solution};
 
 mod bound;
 mod group;
@@ -48,4 +48,12 @@ pub enum Proof {
 pub struct Certificate {
     pub bound: Frac,
     pub proof: Proof,
+}
+
+/// A solution of an instance of the class, and a certificate of its cost.
+#[derive(Drop)]
+pub struct Certified {
+    pub class: Class,
+    pub solution: Solution,
+    pub certificate: Certificate,
 }
