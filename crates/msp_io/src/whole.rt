@@ -5,7 +5,7 @@ ghost use Rattle.msp_io.specs.Whole.{IsStop, Puts};
 ghost use Rattle.msp_io.specs.declared.whole.TheConstants.{GREATEST_LIMIT};
 
 use crate::{Failed, Sink, Source};
-use std::alloc::Global;
+use std::alloc::{AllocError, Global};
 
 /// The greatest limit of a whole read, in bytes.
 pub const GREATEST_LIMIT: u64 = 4_294_967_295;
@@ -21,6 +21,17 @@ pub enum Taken {
     TooLong,
     /// There was no memory left.
     Memory,
+}
+
+impl From<AllocError> for Taken {
+    ghost use Rattle.std.specs.Prelude.{◌≡◌};
+    ghost use Rattle.msp_io.specs.declared.whole.Taken.TheVariants.{Memory};
+
+    ghost from_gives = { λ _ why. why ≡ Memory };
+
+    fn from(_refusal: AllocError) -> Taken {
+        Taken::Memory
+    }
 }
 
 /// The sink failed.
@@ -78,9 +89,7 @@ fn read_by<S: Source>(
                 if count > free {
                     return Err(Taken::TooLong);
                 }
-                if bytes.extend_from_slice(&chunk[..count]).is_err() {
-                    return Err(Taken::Memory);
-                }
+                bytes.extend_from_slice(&chunk[..count])?;
             }
         }
     }

@@ -1,6 +1,7 @@
 -- The goals of `read_by` that are proved by lemmas.
 use Rattle.std.proofs.Common.{ℕ, arith, ◌≡◌, [], ◌++◌, take, subst}
 use Rattle.std.proofs.lemmas.List.{append-nil, length-take, length-append}
+use Rattle.std.proofs.lemmas.Result.{err_from_is_err_and}
 use Rattle.msp_io.proofs.Moved.{take_none}
 use Rattle.msp_io.proofs.whole.read_by.Goals as goal
 
@@ -9,10 +10,11 @@ returns-then-count-free-clause-stopped g c =
     let piece = take c.in-Ok.count c.read.new.into in
     (c.pieces.bytes.items ++ piece, g.met.S.Source.joined c.args.source.now c.pieces.source c.read.new.self c.pieces.bytes.items piece c.pieces.invariant.taken c.in-Ok.ensures.taken, omega (arith, c.in-Ok.ensures.count, length-append {A = ℕ}, length-take {A = ℕ}))
 
-pub returns-then-is_err-clause-stopped : goal.returns-then-is_err-clause-stopped
-returns-then-is_err-clause-stopped g c =
+pub returns-in_err-extend_from_slice-in-Ok-clause-stopped : goal.returns-in_err-extend_from_slice-in-Ok-clause-stopped
+returns-in_err-extend_from_slice-in-Ok-clause-stopped g c =
     let piece = take c.in-Ok.count c.read.new.into in
-    (c.pieces.bytes.items ++ piece, g.met.S.Source.joined c.args.source.now c.pieces.source c.read.new.self c.pieces.bytes.items piece c.pieces.invariant.taken c.in-Ok.ensures.taken, omega (arith, c.in-Ok.ensures.count, length-append {A = ℕ}, length-take {A = ℕ}))
+    let p = err_from_is_err_and c.from_residual.result c.from_residual.ensures.1 in
+    rw (p.1, p.2) (c.pieces.bytes.items ++ piece, g.met.S.Source.joined c.args.source.now c.pieces.source c.read.new.self c.pieces.bytes.items piece c.pieces.invariant.taken c.in-Ok.ensures.taken, omega (arith, c.in-Ok.ensures.count, length-append {A = ℕ}, length-take {A = ℕ}))
 
 pub returns-in-Err-clause-stopped : goal.returns-in-Err-clause-stopped
 returns-in-Err-clause-stopped g c =
