@@ -7,3 +7,4 @@ pub mod Positions
 pub mod OnceEach
 pub mod Permuted
 pub mod DateOrder
+pub mod ForwardOrders

@@ -1,9 +1,8 @@
 -- The law of segments: floors, and the law of ends list by list.
-use Rattle.std.proofs.Common.{◌≡◌, ◌≢◌, ℕ, suc, ◌+◌, ◌*◌, ◌/◌, ◌-◌, ◌<◌, ◌≤◌, Bool, true, cond, List, [], ◌∷◌, ◌++◌, length, get_or, pos, nat_abs, ◌-ℤ◌, ◌*ℤ◌, ◌≤ℤ◌, All, AllPairs, Contains, refl, sym, ap, subst, subst₂, ◌∙◌, arith}
+use Rattle.std.proofs.Common.{◌≡◌, ◌≢◌, ℕ, suc, ◌+◌, ◌*◌, ◌/◌, ◌-◌, ◌<◌, ◌≤◌, Bool, true, cond, List, [], ◌∷◌, length, get_or, pos, nat_abs, ◌-ℤ◌, ◌*ℤ◌, ◌≤ℤ◌, All, AllPairs, Contains, refl, sym, ap, subst, subst₂, ◌∙◌, arith}
 use Rattle.std.specs.Prelude.{◌==◌, ⊤}
 use Rattle.std.specs.List.{AllAdjacentBelow, flat_map, list_any}
 use Rattle.std.proofs.lemmas.Int.{ints}
-use Rattle.std.proofs.lemmas.List.{get_or_append_left, get_or-append-add, length-append}
 use Rattle.std.proofs.lemmas.List.Elements.{All-head, All-tail, All-contains, Contains-get_or}
 use Rattle.std.proofs.lemmas.List.Sums.{sum_by-cons}
 use native.Mathlib.Nat.{mul-le-mul_left, le_of_mul-le-mul_left}
@@ -22,6 +21,7 @@ use Rattle.msp_schedule.specs.Feasible.{Feasible}
 use Rattle.msp_schedule.specs.Cost.{end_of}
 use Rattle.msp_schedule.specs.Laws.{time_together, BeginsFrom, floored}
 use Rattle.msp_schedule.specs.Segments.{LeadTo, AreSegments, segments_bound, LawOfSegments}
+use Rattle.msp_schedule.proofs.lists.Parts.{AllPairs-front, AllPairs-back}
 use Rattle.msp_schedule.proofs.feasible.OneMachine.{IsTimed-from_span}
 use Rattle.msp_schedule.proofs.bounds.EndsAndFloors.{law_of_ends, law_of_floors}
 use Rattle.msp_schedule.proofs.bounds.Floored.{FillsUnit, floored-fills}
@@ -32,12 +32,6 @@ use Rattle.msp_schedule.proofs.bounds.LevelBound.{rounded_up, unit_work}
 
 -- ---- lists
 module _ {X : Type 0} (R : X → X → Type 0) where
-  AllPairs-left : (xs ys : List X) → AllPairs R (xs ++ ys) → AllPairs R xs
-  AllPairs-left xs ys h i j d a b = subst₂ R (get_or_append_left xs ys d i (omega arith)) (get_or_append_left xs ys d j b) (h i j d a (omega (arith, length-append xs ys)))
-
-  AllPairs-right : (xs ys : List X) → AllPairs R (xs ++ ys) → AllPairs R ys
-  AllPairs-right xs ys h i j d a b = subst₂ R (get_or-append-add xs ys i d) (get_or-append-add xs ys j d) (h (length xs + i) (length xs + j) d (omega arith) (omega (arith, length-append xs ys)))
-
   AllAdjacent-rest : (x : X) (xs : List X) → AllAdjacentBelow R (x ∷ xs) (length (x ∷ xs)) → AllAdjacentBelow R xs (length xs)
   AllAdjacent-rest x xs h k d l = let next : suc k + 1 ≡ suc (k + 1) = omega arith in subst (λ n. R (get_or xs k d) (get_or (x ∷ xs) n d)) next (h (suc k) d (omega arith))
 
@@ -45,7 +39,7 @@ AreSegments-rest : (i : Instance) (jobs : List ℕ) (rest : List (List ℕ)) →
 AreSegments-rest i jobs rest a = record {
   some = All-tail (λ js. 0 < length js) jobs rest a.some;
   inside = All-tail (λ js. All (λ j. j < length i.jobs) js) jobs rest a.inside;
-  apart = AllPairs-right (λ j k. j ≢ k) jobs (flat_map (λ js. js) rest) a.apart;
+  apart = AllPairs-back (λ j k. j ≢ k) jobs (flat_map (λ js. js) rest) a.apart;
   lead = AllAdjacent-rest (LeadTo i) jobs rest a.lead;
 }
 
@@ -146,7 +140,7 @@ module _ (i : Instance) (kind : kind_of i.class.env ≡ Identical) (ones : (k : 
     climbs : (segments : List (List ℕ)) (h r : ℕ) → AreSegments i segments → BeginFrom h segments → h ≤ r → ((k : ℕ) → k < length i.jobs → end_of s k ≤ℤ pos (unit * r)) → h + segments_bound i segments ≤ r
     climbs [] h r a begins less all = omega arith
     climbs (jobs ∷ rest) h r a begins less all =
-        let (k, d, here, inside, is, from, long) = list_takes jobs h (All-head (λ js. 0 < length js) jobs rest a.some) (All-head (λ js. All (λ j. j < length i.jobs) js) jobs rest a.inside) (AllPairs-left (λ j k. j ≢ k) jobs (flat_map (λ js. js) rest) a.apart) begins in
+        let (k, d, here, inside, is, from, long) = list_takes jobs h (All-head (λ js. 0 < length js) jobs rest a.some) (All-head (λ js. All (λ j. j < length i.jobs) js) jobs rest a.inside) (AllPairs-front (λ j k. j ≢ k) jobs (flat_map (λ js. js) rest) a.apart) begins in
         let within : d ≤ r = le_of_mul-le-mul_left {k = unit} (le-pos (subst (λ x. x ≤ℤ pos (unit * r)) is (all k inside))) some_unit in
         let later = climbs rest d r (AreSegments-rest i jobs rest a) (next rest k d here is a.lead) within all in
         omega (arith, sum_by-cons (λ js. (length js + (i.machines - 1)) / i.machines) jobs rest, later, long, from)

@@ -2,6 +2,7 @@
 use Rattle.std.proofs.Common.{◌≡◌, ℕ, ◌+◌, ◌*◌, ◌<◌, ◌≤◌, Bool, true, false, List, [], ◌∷◌, length, get_or, map, ℤ, pos, nat_abs, unsigned_abs, ◌-ℤ◌, ◌*ℤ◌, ◌≤ℤ◌, ◌<ℤ◌, inl, All, AllPairs, sum_by, MatchBool, refl, sym, ap, ◌∙◌, subst, arith}
 use Prim.Native.Nat.{◌∣◌}
 use Rattle.std.proofs.lemmas.Int.{ints}
+use Rattle.std.proofs.lemmas.List.Elements.{All-nil}
 use Rattle.std.specs.Int.{IsGcd}
 use Rattle.std.proofs.lemmas.Nat.Gcd.{dvd_antisymm, dvd_refl}
 use Rattle.std.proofs.Math.Nat.{one-dvd, dvd-mul_left, eq-one_of_dvd-one}
@@ -12,6 +13,7 @@ use Rattle.msp_class.specs.Env.{kind_of}
 use Rattle.msp_class.proofs.Sums.{sum_by-mono, sum_by-constant, OnceBelow, OnceBelow-distinct, OnceBelow-contains, length-OnceBelow}
 use Rattle.msp_schedule.specs.Rows.{row, piece, time_at, row_schedule}
 use Rattle.msp_schedule.proofs.lists.Rows.{Makes, begin_in, end_in, end_in-begin, length-row, row-All, row-to, row-in_order, row-made, row-positive, row-filter}
+use Rattle.msp_instance.specs.declared.Arc.{Arc}
 use Rattle.msp_instance.specs.declared.Instance.{Instance}
 use Rattle.msp_instance.specs.Instance.{job_at}
 use Rattle.msp_schedule.specs.declared.Piece.{Piece}
@@ -25,6 +27,10 @@ use Rattle.msp_schedule.proofs.feasible.OneMachine.{pieces_of-job, IsOneMachine}
 
 pub piece_makes : Makes piece job_of start finish
 piece_makes = record { job_is = λ j a b. refl; from_is = λ j a b. refl; to_is = λ j a b. refl }
+
+-- where there are no arcs, none asks for an order of pieces
+pub ordered_without_arcs : (arcs : List Arc) (ps : List Piece) → arcs ≡ [] → All (λ a. All (λ p. All (λ q. p.job ≡ a.before → q.job ≡ a.after → IsBefore p q) ps) ps) arcs
+ordered_without_arcs arcs ps none = subst (All (λ a. All (λ p. All (λ q. p.job ≡ a.before → q.job ≡ a.after → IsBefore p q) ps) ps)) (sym none) (All-nil _)
 
 pub row-timed : (p : ℕ → ℕ) (t : ℕ) (js : List ℕ) → All (λ j. 0 < p j) js → All IsTimed (row piece p t js)
 row-timed p t js h k d l =

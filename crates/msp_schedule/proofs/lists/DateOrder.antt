@@ -1,5 +1,5 @@
 -- Comparing dates and then numbers is a strict weak order, so a sort by it puts the earlier date first, and ties by number.
-use Rattle.std.proofs.Common.{◌≡◌, ℕ, ◌<◌, ◌≤◌, Bool, true, false, cond, ◌⊎◌, inl, inr, List, get_or, AllPairs, ℤ, ◌<ℤ◌, refl, sym, ◌∙◌, subst, arith}
+use Rattle.std.proofs.Common.{◌≡◌, ℕ, ◌<◌, ◌≤◌, Bool, true, false, cond, ◌⊎◌, inl, inr, List, get_or, AllPairs, ℤ, ◌<ℤ◌, ◌≤ℤ◌, refl, sym, ◌∙◌, subst, arith}
 use Rattle.std.specs.Prelude.{int_lt}
 use Rattle.std.specs.Ordering.{is_lt, int_cmp, nat_cmp, ordering_then}
 use Rattle.std.specs.declared.cmp.Ordering.TheVariants.{Less, Equal, Greater}
@@ -8,6 +8,7 @@ use Rattle.std.specs.List.Sorted.{IsSortedBy}
 use Rattle.std.proofs.lemmas.Bool.Decides.{nat_tests}
 use Rattle.std.proofs.lemmas.Int.{ints}
 use Rattle.std.proofs.lemmas.List.Sorted.{sorted_far}
+use Rattle.msp_class.proofs.IntegerRing.{≤ℤ_of_same, <ℤ_weak}
 
 abbrev pub less : ℤ → ℤ → ℕ → ℕ → Bool
 less x y a b = is_lt (ordering_then (int_cmp x y) (nat_cmp a b))
@@ -81,3 +82,10 @@ module _ {X : Type 0} (date : X → ℤ) (number : X → ℕ) where
 
   pub number_sorted : (xs : List X) → IsSortedBy number_less xs → AllPairs (λ a b. number a ≤ number b) xs
   number_sorted xs h i j d l k = number-no (number (get_or xs j d)) (number (get_or xs i d)) (sorted_far number_less number_less-order xs h i j d (omega arith) k)
+
+-- jobs by date do not fall in it, however ties are broken
+pub dates_rise : (Tie : ℕ → ℕ → Type 0) (due : ℕ → ℤ) (jobs : List ℕ) → AllPairs (λ a b. (due a <ℤ due b) ⊎ ((due a ≡ due b) × Tie a b)) jobs → AllPairs (λ a b. due a ≤ℤ due b) jobs
+dates_rise Tie due jobs h a b d l k = at_most (get_or jobs a d) (get_or jobs b d) (h a b d l k)
+  where
+    at_most : (x y : ℕ) → (due x <ℤ due y) ⊎ ((due x ≡ due y) × Tie x y) → due x ≤ℤ due y
+    at_most x y g = elim g [ inl l ↦ <ℤ_weak l | inr e ↦ ≤ℤ_of_same e.0 ]

@@ -16,6 +16,10 @@ pub AllPairs-front : {X : Type 0} (R : X → X → Type 0) (xs ys : List X) → 
 AllPairs-front R [] ys h = λ i j d a b. absurd (omega (arith, b))
 AllPairs-front R (x ∷ xs) ys h = AllPairs-cons R x xs (All-front (R x) xs ys (AllPairs-head R x (xs ++ ys) h)) (AllPairs-front R xs ys (AllPairs-tail R x (xs ++ ys) h))
 
+pub AllPairs-back : {X : Type 0} (R : X → X → Type 0) (xs ys : List X) → AllPairs R (xs ++ ys) → AllPairs R ys
+AllPairs-back R [] ys h = h
+AllPairs-back R (x ∷ xs) ys h = AllPairs-back R xs ys (AllPairs-tail R x (xs ++ ys) h)
+
 -- each is related to the last one
 pub AllPairs-last : {X : Type 0} (R : X → X → Type 0) (xs : List X) (x : X) → AllPairs R (xs ++ x ∷ []) → All (λ y. R y x) xs
 AllPairs-last R [] x h = All-nil (λ y. R y x)
