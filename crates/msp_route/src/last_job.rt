@@ -7,9 +7,8 @@ ghost use Rattle.msp_schedule.specs.Blocks.{cost_at};
 ghost use Rattle.msp_route.specs.LastJob.{EndsAt};
 ghost use Rattle.msp_route.specs.Candidates.{Precedes, IsFound};
 
-use crate::marks::{mark, marks_of, no_marks};
 use msp_instance::{Arc, Instance, MOST_JOBS};
-use msp_schedule::job_cost_at;
+use msp_schedule::{job_cost_at, mark, marks_of, no_marks};
 
 /// A job that may go last: its place in the list of jobs left, and what it costs there.
 #[derive(Clone, Copy)]

@@ -6,3 +6,4 @@ pub mod Series
 pub mod InSeries
 pub mod OfClass
 pub mod SolePieces
+pub mod OneEach

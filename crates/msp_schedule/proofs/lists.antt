@@ -8,3 +8,4 @@ pub mod OnceEach
 pub mod Permuted
 pub mod DateOrder
 pub mod ForwardOrders
+pub mod Pushes

@@ -40,11 +40,11 @@ abbrev pub Rises : Instance → (ℕ → ℕ) → Type 0
 Rises i rank = All (λ a. rank a.before < rank a.after) i.arcs
 
 -- the first place of a number in a list
-place_in : List ℕ → ℕ → ℕ
+pub place_in : List ℕ → ℕ → ℕ
 place_in [] j = 0
 place_in (x ∷ xs) j = cond (eqb x j) 0 (suc (place_in xs j))
 
-place_in-is : (xs : List ℕ) (p : ℕ) → AllPairs (λ x y. x ≢ y) xs → p < length xs → place_in xs (get_or xs p 0) ≡ p
+pub place_in-is : (xs : List ℕ) (p : ℕ) → AllPairs (λ x y. x ≢ y) xs → p < length xs → place_in xs (get_or xs p 0) ≡ p
 unfolding place_in
 place_in-is [] p u l = absurd (omega (arith, l))
 place_in-is (x ∷ xs) zero u l = ap (λ b. cond b 0 (suc (place_in xs x))) (eq-eqb x x refl)

@@ -1,6 +1,6 @@
 use Rattle.std.proofs.Common.{◌≡◌, ℕ, ◌<◌, ◌==◌, false, take, slice_index_or}
 use Rattle.std.specs.List.{list_any}
-use Rattle.msp_route.proofs.marks.marks_of.Given as goal
+use Rattle.msp_schedule.proofs.job_marks.marks_of.Given as goal
 
 -- the jobs so far are marked
 abbrev pub invariant-loop-job : goal.invariant-loop-job

@@ -1,0 +1,6 @@
+pub mod Pieces
+pub mod Seating
+pub mod Earliest
+pub mod Filling
+pub mod ListSchedule
+pub mod Steps

@@ -1,0 +1,101 @@
+// One slot: of the jobs left the first that are free, on machines in order.
+ghost use Rattle.std.specs.Prelude.{◌≡◌, ◌==◌, ◌&&◌, ◌++◌, ◌∷◌, [], ℕ, ◌<◌, ◌≤◌, false, length, slice_index_or, All, IfOk, OnOk, if◌then◌else◌};
+ghost use Rattle.std.specs.List.{list_any};
+ghost use Rattle.msp_instance.specs.declared.ranges.TheConstants.{MOST_JOBS, MOST_MACHINES};
+ghost use Rattle.msp_slots.specs.Steps.{is_blocked, IsSlot, seats};
+
+use msp_class::{List, NoMemory};
+use msp_instance::{Arc, MOST_JOBS};
+use msp_schedule::{Piece, mark, marks_of, no_marks};
+use std::alloc::Global;
+
+/// The jobs of a slot, and those that are left after it.
+#[derive(Drop)]
+pub struct Split {
+    pub taken: Vec<u32>,
+    pub rest: Vec<u32>,
+}
+
+/// A mark for each job to which an arc leads from a job that is left.
+fn blocked_jobs(arcs: &[Arc], is_left: &[bool; MOST_JOBS]) -> [bool; MOST_JOBS]
+    requires { All (λ a. (a.before < MOST_JOBS) × (a.after < MOST_JOBS)) arcs.now }
+    ensures { (j : ℕ) → j < MOST_JOBS → slice_index_or result j false ≡ list_any (λ a. a.after == j && slice_index_or is_left.now a.before false) arcs.now }
+{
+    let mut blocked = no_marks();
+    for arc in arcs {
+        mark(&mut blocked, arc.after, is_left[arc.before as usize]);
+    }
+    blocked
+}
+
+/// Puts a job into the slot, or among the rest.
+fn put(split: &mut Split, job: u32, goes: bool) -> Result<(), NoMemory>
+    ensures taken { OnOk result (split.new.taken.items ≡ (if goes then split.old.taken.items ++ job ∷ [] else split.old.taken.items)) }
+    ensures rest { OnOk result (split.new.rest.items ≡ (if goes then split.old.rest.items else split.old.rest.items ++ job ∷ [])) }
+{
+    let pushed = if goes {
+        split.taken.push(job)
+    } else {
+        split.rest.push(job)
+    };
+    pushed?;
+    Ok(())
+}
+
+/// Takes the jobs in order, as long as there are machines and where they are not blocked.
+fn take_free(
+    alloc: Global,
+    left: &[u32],
+    blocked: &[bool; MOST_JOBS],
+    machines: usize,
+) -> Result<Split, NoMemory>
+    requires { All (λ j. j < MOST_JOBS) left.now }
+    ensures { IfOk result (λ s. IsSlot left.now (λ j. slice_index_or blocked.now j false) machines s.taken.items s.rest.items) }
+{
+    let mut split = Split {
+        taken: Vec::new(alloc),
+        rest: Vec::new(alloc),
+    };
+    for job in left {
+        let goes = split.taken.len() < machines && !blocked[*job as usize];
+        put(&mut split, *job, goes)?;
+    }
+    Ok(split)
+}
+
+/// The next slot of the jobs that are left: of those that no arc enters from another, the first in order.
+pub fn next_slot(
+    alloc: Global,
+    arcs: &[Arc],
+    left: &[u32],
+    machines: usize,
+) -> Result<Split, NoMemory>
+    requires ends { All (λ a. (a.before < MOST_JOBS) × (a.after < MOST_JOBS)) arcs.now }
+    requires inside { All (λ j. j < MOST_JOBS) left.now }
+    ensures { IfOk result (λ s. IsSlot left.now (is_blocked arcs.now left.now) machines s.taken.items s.rest.items) }
+{
+    let is_left = marks_of(left);
+    let blocked = blocked_jobs(arcs, &is_left);
+    take_free(alloc, left, &blocked, machines)
+}
+
+/// Adds the pieces of a slot: its jobs for one unit of time from the moment on, on machines in order.
+pub fn put_pieces(pieces: &mut List<Piece>, taken: &[u32], moment: u32) -> Result<(), NoMemory>
+    requires few { length taken.now ≤ MOST_MACHINES }
+    requires early { moment ≤ MOST_JOBS }
+    ensures { OnOk result (pieces.new ≡ pieces.old ++ seats moment 0 taken.now) }
+{
+    for machine in 0..taken.len() {
+        let next = Piece {
+            job: taken[machine],
+            op: 0,
+            machine: machine as u32,
+            from: i128::from(moment),
+            to: i128::from(moment + 1),
+        };
+        if pieces.push(next).is_err() {
+            return Err(NoMemory);
+        }
+    }
+    Ok(())
+}
