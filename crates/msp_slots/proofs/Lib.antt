@@ -3,3 +3,5 @@ pub mod Progress
 pub mod Seats
 mod Filling
 pub mod Begins
+pub mod UnitPieces
+pub mod ListSchedules

@@ -413,6 +413,7 @@ module _ (i : Instance) (order : List ℕ) (moment : ℕ) (pieces : List Piece) 
     all = jobs;
     each = u.each;
     sorted = u.sorted;
+    soon = λ k d l. omega (arith, u.early k d l, u.soon);
   }
 
 -- ---- at the numbers as the code passes them

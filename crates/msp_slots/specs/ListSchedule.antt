@@ -37,3 +37,5 @@ pub record IsListSchedule (i : Instance) (order : List ℕ) (pieces : List Piece
   pub all : IsPermutation (range_with_len 0 (length i.jobs)) (map (λ p. p.job) pieces)
   pub each : All (λ p. p ≡ piece_at (begin p.job) (machine p.job) p.job) pieces
   pub sorted : AllPairs (λ p q. (begin p.job < begin q.job) ⊎ ((begin p.job ≡ begin q.job) × (machine p.job < machine q.job))) pieces
+  -- no moment is idle before the last job begins
+  pub soon : All (λ p. begin p.job < length i.jobs) pieces

@@ -3,8 +3,9 @@ use Rattle.std.proofs.Common.{◌≡◌, ℕ, ◌+◌, ◌-◌, inl, inr, List, 
 use Rattle.std.proofs.lemmas.Bool.{cases_lt}
 use Rattle.std.proofs.lemmas.List.{length-append, get_or_append_left, get_or-append_right}
 use Rattle.msp_schedule.specs.declared.Piece.{Piece}
-use Rattle.msp_total.specs.declared.earliest.Slot.{Slot}
-use Rattle.msp_total.specs.SlotSteps.{piece_in, AreLaid}
+use Rattle.msp_slots.specs.declared.earliest.Slot.{Slot}
+use Rattle.msp_slots.specs.Earliest.{piece_in}
+use Rattle.msp_total.specs.SlotSteps.{AreLaid}
 
 pub AreLaid-none : (slots : List Slot) (column : List ℕ) → AreLaid slots column 0 []
 AreLaid-none slots column = record { all = refl; each = λ j d l. absurd (omega (arith, l)) }

@@ -8,9 +8,6 @@ mod LaidSchedule
 mod UniformBest
 mod UniformOrder
 mod UniformAnswer
-mod Seats
-mod SlotBound
-mod Filling
 mod Laid
 mod SlotFacts
 mod SlotBest

@@ -8,10 +8,10 @@ use Rattle.std.proofs.lemmas.Int.{ints}
 use Rattle.std.proofs.lemmas.List.{length-map, get_or-map}
 use Rattle.std.proofs.lemmas.List.FromFn.{length-map-range_with_len, get_or-map-range_with_len}
 use Rattle.std.proofs.lemmas.List.Elements.{All-nil, All-map, All-contains}
-use Rattle.msp_class.specs.Env.{kind_of}
 use Rattle.msp_class.proofs.IntegerRing.{natural, pos-le, le-pos, pos-lt, int_max-right, zero-le-pos, ≤ℤ_refl, ≤ℤ_trans, *ℤ-one, *ℤ_comm, *ℤ-mono_nonneg}
 use Rattle.msp_class.specs.Sums.{int_total_below}
-use Rattle.msp_class.proofs.Sums.{OnceBelow, OnceBelow-from_distinct, Contains-from_filter, int_total_below-same, int_total_below-mono, int_total_below-scale}
+use Rattle.msp_class.proofs.Sums.{OnceBelow, OnceBelow-range, int_total_below-same, int_total_below-mono, int_total_below-scale}
+use Rattle.msp_instance.specs.declared.Arc.{Arc}
 use Rattle.msp_instance.specs.declared.Instance.{Instance}
 use Rattle.msp_instance.specs.Instance.{no_job, job_at, need_at}
 use Rattle.msp_instance.specs.Conditions.{Inner}
@@ -22,15 +22,16 @@ use Rattle.msp_schedule.specs.Feasible.{Feasible, IsWholeWork}
 use Rattle.msp_schedule.specs.Cost.{cost_of, end_of, job_cost, Best}
 use Rattle.msp_schedule.specs.Within.{Within}
 use Rattle.msp_schedule.proofs.costs.Charges.{charge_of, cost_of-sum, job_cost-mono, job_cost-scale}
-use Rattle.msp_schedule.proofs.lists.OnceEach.{OnceBelow-one}
 use Rattle.msp_route.specs.Bounds.{IsAnswer, answer_unit}
-use Rattle.msp_route.proofs.OneEach.{IsUncut, IsUncut-identical, AreOneEach, one_each_is_feasible, one_each_is_within, one_each_is_answer}
+use Rattle.msp_route.proofs.OneEach.{one_each_is_answer}
 use Rattle.msp_assign.specs.Prices.{IsAssigned, column_of}
 use Rattle.msp_total.specs.Slots.{forbidden, slot_cost}
-use Rattle.msp_total.specs.Seating.{one_if, begin_at, IsSeated}
-use Rattle.msp_total.specs.SlotSteps.{slot_class, start_in, machine_in, head_in, piece_in, AreFilled, AreLeastLaid}
-use Rattle.msp_total.proofs.Seats.{HasSeats, law_of_seats, at_more}
-use Rattle.msp_total.proofs.SlotBound.{head_at, begins_of}
+use Rattle.msp_slots.specs.Seating.{one_if, begin_at, IsSeated, IsTight, Rises}
+use Rattle.msp_slots.specs.Earliest.{start_in, machine_in, head_in, piece_in}
+use Rattle.msp_slots.proofs.Seats.{HasSeats, law_of_seats, at_more}
+use Rattle.msp_slots.proofs.Begins.{head_at, begins_of}
+use Rattle.msp_slots.proofs.UnitPieces.{HasUnitJobs, AreUnitPieces, one_each, uncut, unit_pieces_are_feasible, unit_pieces_are_within, unit_piece_ends}
+use Rattle.msp_total.specs.SlotSteps.{slot_class, AreLeastLaid}
 use Rattle.msp_total.proofs.SlotFacts.{IsUnitShop, IsUnitShop-from, ones, sums, ended, ended_small, cost_early, cost_in_time, cost_natural, heads_many, released-sorted, slots_soon}
 
 -- ---- totals of integers
@@ -95,11 +96,20 @@ module _ (i : Instance) (late : Bool) (h : IsUnitShop i late) (pieces : List Pie
   abbrev value : ℤ
   value = int_total_below n (λ r. cost r (col r))
 
-  filled : AreFilled i.machines l.heads n l.filled.0 l.filled.1 l.slots
-  filled = subst (λ k. AreFilled i.machines l.heads k l.filled.0 l.filled.1 l.slots) (heads_many i l.heads l.all) l.filled.2
+  many : length l.heads ≡ n
+  many = heads_many i l.heads l.all
+
+  seated : IsSeated n i.machines (head_in l.heads) start
+  seated = subst (λ k. IsSeated k i.machines (head_in l.heads) start) many l.filled.seated
+
+  tight : IsTight n i.machines (head_in l.heads) start
+  tight = subst (λ k. IsTight k i.machines (head_in l.heads) start) many l.filled.tight
+
+  rises : Rises n start
+  rises = subst (λ k. Rises k start) many l.filled.rises
 
   in_slots : (k : ℕ) → k < n → k < length l.slots
-  in_slots k b = omega (arith, b, filled.count)
+  in_slots k b = omega (arith, b, l.filled.count, many)
 
   soon : (k : ℕ) → k < n → start k ≤ 2000000400
   soon k b = slots_soon i late h l.heads l.all l.slots l.filled k (in_slots k b)
@@ -109,7 +119,7 @@ module _ (i : Instance) (late : Bool) (h : IsUnitShop i late) (pieces : List Pie
 
   -- ---- what any assignment costs, and any schedule
   seats : (begin : ℕ → ℕ) → IsSeated n i.machines (head_at i) begin → (seat : ℕ → ℕ) × HasSeats n (head_at i) begin start seat
-  seats begin s = law_of_seats n i.machines (head_at i) begin (head_in l.heads) start s filled.seated filled.tight filled.rises (released-sorted i l.heads l.all)
+  seats begin s = law_of_seats n i.machines (head_at i) begin (head_in l.heads) start s seated tight rises (released-sorted i l.heads l.all)
 
   module _ (begin seat : ℕ → ℕ) (s : HasSeats n (head_at i) begin start seat) where
     abbrev other : List ℕ
@@ -181,108 +191,57 @@ module _ (i : Instance) (late : Bool) (h : IsUnitShop i late) (pieces : List Pie
   all_pieces P f k d b = let w : k < n = omega (arith, b, count) in subst P (sym (l.laid.each k d w)) (f k w)
 
   machine_is : (k : ℕ) → k < n → machine_in l.slots k ≡ begin_at k start (start k)
-  machine_is k b = filled.machine k b
+  machine_is k b = l.filled.machine k (omega (arith, b, many))
 
   machine_inside : (k : ℕ) → k < n → machine_in l.slots k < i.machines
-  machine_inside k b = omega (arith, machine_is k b, at_more start k n (start k) b refl, filled.seated.few (start k))
+  machine_inside k b = omega (arith, machine_is k b, at_more start k n (start k) b refl, seated.few (start k))
 
   -- slots on one machine begin at different times
-  slots_apart : (a b : ℕ) → a < n → b < n → a ≢ b → machine_in l.slots a ≡ machine_in l.slots b → start a ≢ start b
-  slots_apart a b u v ne e s = elim (cases_lt a b) [
+  same_slot : (a b : ℕ) → a < n → b < n → start a ≡ start b → machine_in l.slots a ≡ machine_in l.slots b → a ≡ b
+  same_slot a b u v s e = elim (cases_lt a b) [
     | inl less ↦ absurd (omega (arith, at_more start a b (start b) less s, machine_is a u, machine_is b v, e, ap (begin_at a start) s))
     | inr more ↦ elim (cases_lt b a) [
       | inl less ↦ absurd (omega (arith, at_more start b a (start a) less (sym s), machine_is a u, machine_is b v, e, ap (begin_at b start) s))
-      | inr last ↦ absurd (ne (omega (arith, more, last)))
+      | inr last ↦ omega (arith, more, last)
     ]
   ]
 
-  col_apart : (a b : ℕ) → a < b → b < n → col a ≢ col b
-  col_apart a b less w = l.assigned.apart a b 0 less (omega (arith, w, l.assigned.all))
-
-  machines_apart : AllPairs (λ p q. p.machine ≡ q.machine → IsApart p q) pieces
-  machines_apart a b d less w e =
-      let v : b < n = omega (arith, w, count) in
-      let u : a < n = omega (arith, less, v) in
-      subst₂ IsApart (sym (l.laid.each a d u)) (sym (l.laid.each b d v)) (by (start (col a)) (start (col b)) (slots_apart (col a) (col b) (col_inside a u) (col_inside b v) (col_apart a b less v) (sym (ap (λ p. p.machine) (l.laid.each a d u)) ∙ e ∙ ap (λ p. p.machine) (l.laid.each b d v))))
-    where
-      by : (x y : ℕ) → x ≢ y → (pos (x + 1) ≤ℤ pos y) ⊎ (pos (y + 1) ≤ℤ pos x)
-      by x y ne = elim (cases_lt x y) [
-        | inl less ↦ inl (pos-le (omega (arith, less)))
-        | inr more ↦ elim (cases_lt y x) [ inl less ↦ inr (pos-le (omega (arith, less))) | inr last ↦ absurd (ne (omega (arith, more, last))) ]
-      ]
-
-  apart_jobs : AllPairs (λ p q. p.job ≢ q.job) pieces
-  apart_jobs a b d less w e =
-      let v : b < n = omega (arith, w, count) in
-      let u : a < n = omega (arith, less, v) in
-      absurd (omega (arith, less, ap (λ p. p.job) (l.laid.each a d u), ap (λ p. p.job) (l.laid.each b d v), e))
+  same_col : (a b : ℕ) → a < n → b < n → col a ≡ col b → a ≡ b
+  same_col a b u v e = elim (cases_lt a b) [
+    | inl less ↦ absurd (l.assigned.apart a b 0 less (omega (arith, v, l.assigned.all)) e)
+    | inr more ↦ elim (cases_lt b a) [
+      | inl less ↦ absurd (l.assigned.apart b a 0 less (omega (arith, u, l.assigned.all)) (sym e))
+      | inr last ↦ omega (arith, more, last)
+    ]
+  ]
 
   jobs : OnceBelow n (map (λ p. p.job) pieces)
-  jobs = OnceBelow-from_distinct n (map (λ p. p.job) pieces) many within distinct
+  jobs = subst (OnceBelow n) (sym numbers) (OnceBelow-range n)
     where
-      many : length (map (λ p. p.job) pieces) ≡ n
-      many = length-map pieces (λ p. p.job) ∙ count
+      numbers : map (λ p. p.job) pieces ≡ range_with_len 0 n
+      numbers = same_from_places (map (λ p. p.job) pieces) n (length-map pieces (λ p. p.job) ∙ count) (λ j b. get_or-map (λ p. p.job) pieces j (piece_in l.slots 0 0) 0 (omega (arith, b, count)) ∙ ap (λ p. p.job) (l.laid.each j (piece_in l.slots 0 0) b))
 
-      within : All (λ j. j < n) (map (λ p. p.job) pieces)
-      within = All-map (λ j. j < n) (λ p. p.job) pieces (all_pieces (λ p. p.job < n) (λ j b. b))
-
-      distinct : AllPairs (λ x y. x ≢ y) (map (λ p. p.job) pieces)
-      distinct a b d less w e =
-          let v : b < length pieces = omega (arith, w, many, count) in
-          let p : Piece = piece_in l.slots 0 0 in
-          apart_jobs a b p less v (sym (get_or-map (λ p. p.job) pieces a p d (omega (arith, less, v))) ∙ e ∙ get_or-map (λ p. p.job) pieces b p d v)
-
-  ops : All (λ p. p.op ≡ 0) pieces
-  ops = all_pieces (λ p. p.op ≡ 0) (λ j b. refl)
-
-  -- the one piece of a job
-  mine : (j : ℕ) → j < n → filter (λ p. eqb p.job j) pieces ≡ piece_in l.slots j (col j) ∷ []
-  mine j b =
-      let (p, e) = OnceBelow-one (λ p. p.job) pieces jobs j b in
-      let c : Contains (filter (λ p. eqb p.job j) pieces) p = subst (λ ps. Contains ps p) (sym e) (0, omega arith, refl) in
-      let (inside, passes) = Contains-from_filter (λ p. eqb p.job j) pieces p c in
-      let is = All-contains (λ p. p ≡ piece_in l.slots p.job (col p.job)) pieces p (all_pieces (λ p. p ≡ piece_in l.slots p.job (col p.job)) (λ j b. refl)) inside in
-      e ∙ ap (λ q. q ∷ []) (is ∙ ap (λ j. piece_in l.slots j (col j)) (eqb-true p.job j passes))
-
-  uncut : IsUncut i
-  uncut = IsUncut-identical i h.kind h.cut h.few
-
-  one_each : AreOneEach i 1 pieces
-  one_each = record {
-    some = omega arith;
+  unit_pieces : AreUnitPieces i (λ j. start (col j)) (λ j. machine_in l.slots (col j)) pieces
+  unit_pieces = record {
     jobs = jobs;
-    ops = ops;
-    inside = all_pieces (λ p. p.machine < i.machines) (λ j b. machine_inside (col j) (col_inside j b));
-    span = all_pieces (λ p. (pos 0 ≤ℤ p.from) × (p.from <ℤ p.to)) (λ j b. lasts (start (col j)));
-    apart = machines_apart;
-    released = all_pieces (λ p. (pos 1 *ℤ pos (job_at i p.job).release) ≤ℤ p.from) (λ j b. released (job_at i j).release (start (col j)) (in_time j b));
-    forward = subst (λ arcs. All (λ a. All (λ p. All (λ q. p.job ≡ a.before → q.job ≡ a.after → IsBefore p q) pieces) pieces) arcs) (sym h.arcs) (All-nil (λ a. All (λ p. All (λ q. p.job ≡ a.before → q.job ≡ a.after → IsBefore p q) pieces) pieces));
-    whole = all_pieces (IsWholeWork (kind_of i.class.env) i (pos 1)) (λ j b. subst (λ k. IsWholeWork k i (pos 1) (piece_in l.slots j (col j))) (sym h.kind) (unit_work (start (col j)) (need_at i j 0).time (ones i late h j b)));
-    ends = all_pieces (λ p. p.to ≤ℤ pos 10000000000000000000000000) (λ j b. early (start (col j)) (soon (col j) (col_inside j b)));
+    each = all_pieces (λ p. p ≡ piece_in l.slots p.job (col p.job)) (λ j b. refl);
+    inside = λ j b. machine_inside (col j) (col_inside j b);
+    apart = λ a b u v e f. same_col a b u v (same_slot (col a) (col b) (col_inside a u) (col_inside b v) e f);
+    released = in_time;
+    forward = subst (All (λ a. start (col a.before) < start (col a.after))) (sym h.arcs) (All-nil (λ (a : Arc). start (col a.before) < start (col a.after)));
+    early = λ j b. omega (arith, soon (col j) (col_inside j b));
   }
-    where
-      lasts : (x : ℕ) → (pos 0 ≤ℤ pos x) × (pos x <ℤ pos (x + 1))
-      lasts x = (zero-le-pos x, pos-lt (omega arith))
 
-      released : (r x : ℕ) → r ≤ x → (pos 1 *ℤ pos r) ≤ℤ pos x
-      released r x e = omega (arith, ints, e)
-
-      unit_work : (x time : ℕ) → time ≡ 1 → (pos (x + 1) -ℤ pos x) ≡ pos 1 *ℤ pos time
-      unit_work x time e = omega (arith, ints, e)
-
-      early : (x : ℕ) → x ≤ 2000000400 → pos (x + 1) ≤ℤ pos 10000000000000000000000000
-      early x e = omega (arith, ints, e)
+  unit_jobs : HasUnitJobs i
+  unit_jobs = record { kind = h.kind; cut = h.cut; few = h.few; ones = ones i late h }
 
   feasible : Feasible i (schedule_of pieces)
-  feasible = one_each_is_feasible i uncut 1 pieces one_each
+  feasible = unit_pieces_are_feasible i unit_jobs _ _ pieces unit_pieces
 
   -- ---- the cost
-  end_is : (j : ℕ) → j < n → end_of (schedule_of pieces) j ≡ pos (start (col j) + 1)
-  end_is j b = ap (λ ps. fold int_max (pos 0) (map (λ p. p.to) ps)) (mine j b) ∙ int_max-right (pos 0) (pos (start (col j) + 1)) (zero-le-pos (start (col j) + 1))
-
   cost_is : cost_of i (schedule_of pieces) ≡ value
   cost_is = cost_of-sum i (schedule_of pieces) (sums i late h) ∙ int_total_below-same n (charge_of i (schedule_of pieces)) (λ r. cost r (col r)) (λ r b.
-      ap (job_cost i.class.crit (pos 1) (job_at i r)) (end_is r b) ∙ sym (cost_in_time i late h l.slots l.table l.is_table r (col r) b (in_slots (col r) (col_inside r b)) (in_time r b)))
+      ap (job_cost i.class.crit (pos 1) (job_at i r)) (unit_piece_ends i unit_jobs _ _ pieces unit_pieces r b) ∙ sym (cost_in_time i late h l.slots l.table l.is_table r (col r) b (in_slots (col r) (col_inside r b)) (in_time r b)))
 
   best : Best i (schedule_of pieces)
   best = record { feasible = feasible; least = least }
@@ -292,10 +251,10 @@ module _ (i : Instance) (late : Bool) (h : IsUnitShop i late) (pieces : List Pie
 
   -- ---- bounds
   within : Within i (schedule_of pieces)
-  within = one_each_is_within i uncut 1 pieces one_each (omega arith) (λ _. omega (arith, ints))
+  within = unit_pieces_are_within i unit_jobs _ _ pieces unit_pieces
 
   answer : IsAnswer i (schedule_of pieces)
-  answer = one_each_is_answer i uncut 1 pieces one_each (subst (λ k. pos 1 ≤ℤ answer_unit k) (sym h.kind) (omega (arith, ints)))
+  answer = one_each_is_answer i (uncut i unit_jobs _ _ pieces unit_pieces) 1 pieces (one_each i unit_jobs _ _ pieces unit_pieces) (subst (λ k. pos 1 ≤ℤ answer_unit k) (sym h.kind) (omega (arith, ints)))
 
 -- what a schedule in the slots has
 pub record IsSlotAnswer (i : Instance) (s : Schedule) : Type 0 where

@@ -19,15 +19,16 @@ use Rattle.msp_instance.specs.Conditions.{Limits, LiesWithin, HasDue, HasWeight,
 use Rattle.msp_schedule.specs.declared.Piece.{Piece}
 use Rattle.msp_schedule.specs.Cost.{job_cost}
 use Rattle.msp_assign.specs.Prices.{HasCosts, IsAssigned, IsLeast}
-use Rattle.msp_total.specs.declared.earliest.Slot.{Slot}
+use Rattle.msp_slots.specs.declared.earliest.Slot.{Slot}
 use Rattle.msp_total.specs.declared.slot_table.Slots.{Slots}
 use Rattle.msp_schedule.proofs.feasible.OfClass.{IsOfClass, IsOfClass-from}
 use Rattle.msp_schedule.proofs.lists.Places.{sum_by-places}
 use Rattle.msp_total.specs.Slots.{forbidden, past_due, slot_cost}
-use Rattle.msp_total.specs.Seating.{one_if}
-use Rattle.msp_total.specs.SlotSteps.{slot_crit, slot_class, no_slot, start_in, head_in, IsTable, AreSlots, AreLaid, AreLeastLaid}
-use Rattle.msp_total.proofs.Seats.{released_by}
-use Rattle.msp_total.proofs.SlotBound.{head_at}
+use Rattle.msp_slots.specs.Seating.{one_if}
+use Rattle.msp_slots.specs.Earliest.{no_slot, start_in, head_in, AreSlots}
+use Rattle.msp_slots.proofs.Seats.{released_by}
+use Rattle.msp_slots.proofs.Begins.{head_at}
+use Rattle.msp_total.specs.SlotSteps.{slot_crit, slot_class, IsTable, AreLaid, AreLeastLaid}
 
 abbrev pub IsUnitShop : Instance → Bool → Type 0
 IsUnitShop i late = IsOfClass i (slot_class late)
@@ -160,10 +161,10 @@ module _ (i : Instance) (late : Bool) (h : IsUnitShop i late) (heads : List ℕ)
 
   module _ (slots : List Slot) (filled : AreSlots i.machines heads slots) where
     pub slots_many : length slots ≡ length i.jobs
-    slots_many = let (moment, taken, a) = filled in a.count ∙ heads_many i heads p
+    slots_many = filled.count ∙ heads_many i heads p
 
     pub slots_soon : (k : ℕ) → k < length slots → start_in slots k ≤ 2000000400
-    slots_soon k l = let (moment, taken, a) = filled in omega (arith, a.early k (omega (arith, l, a.count)), a.soon, heads_few)
+    slots_soon k l = omega (arith, filled.soon k (omega (arith, l, filled.count)), heads_few)
 
     module _ (table : Slots) (t : IsTable i late slots table) where
       pub rows_many : length table.release ≡ length i.jobs

@@ -3,7 +3,6 @@ pub mod Places
 pub mod Multiple
 pub mod Multipliers
 pub mod Turns
-pub mod Seating
 pub mod SlotSteps
 pub mod Slots
 pub mod Positions

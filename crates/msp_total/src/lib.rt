@@ -1,10 +1,9 @@
 //! The solvers of total completion time on uniform and unrelated machines, and of unit jobs with release dates by slots.
 //!
-//! It stands on `msp_route`, and on `msp_assign` for least assignments. The layers above use the clauses of `Solver`: the answers are
-//! best.
+//! It stands on `msp_route`, on `msp_assign` for least assignments, and on `msp_slots` for the slots of unit jobs. The layers above use
+//! the clauses of `Solver`: the answers are best.
 #![tactic(auto)]
 
-mod earliest;
 mod lay;
 mod multiple;
 mod positions;

@@ -5,15 +5,16 @@ ghost use Rattle.msp_instance.specs.Conditions.{Inner};
 ghost use Rattle.msp_schedule.specs.Cost.{IsBest};
 ghost use Rattle.msp_route.specs.Bounds.{IsAnswer};
 ghost use Rattle.msp_total.specs.Slots.{tardiness_class, late_jobs_class};
-ghost use Rattle.msp_total.specs.SlotSteps.{slot_class, slot_piece, IsTable, AreLaid, AreLeastLaid};
+ghost use Rattle.msp_slots.specs.Earliest.{slot_piece};
+ghost use Rattle.msp_total.specs.SlotSteps.{slot_class, IsTable, AreLaid, AreLeastLaid};
 
-use crate::earliest::{Slot, earliest_slots, releases_of, sorted_releases};
 use crate::slot_table::Slots;
 use msp_assign::{Assignment, assign};
 use msp_class::{Class, Crit, Env, List, NoMemory, Order, Times};
 use msp_instance::{Instance, Job};
 use msp_route::Solver;
 use msp_schedule::{Piece, Schedule, Solution};
+use msp_slots::{Slot, earliest_slots, releases_of, sorted_releases};
 use std::alloc::Global;
 
 /// The class of unit jobs with release dates on identical machines, by weighted tardiness or by the weight of late jobs.

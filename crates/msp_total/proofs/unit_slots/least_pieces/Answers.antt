@@ -1,6 +1,7 @@
 use Rattle.std.proofs.Common.{◌<◌, ◌≤◌, length, map, All, IsPermutation, sym, subst, arith}
 use Rattle.std.proofs.lemmas.List.Elements.{All-map}
-use Rattle.msp_total.specs.SlotSteps.{IsTable, AreSlots, AreLaid, AreLeastLaid}
+use Rattle.msp_slots.specs.Earliest.{AreSlots}
+use Rattle.msp_total.specs.SlotSteps.{IsTable, AreLaid, AreLeastLaid}
 use Rattle.msp_total.proofs.SlotFacts.{IsUnitShop-from, weights, heads_few, heads_low, slots_many, rows_many, columns_many, has_costs, columns_inside, least_laid, if_ok}
 use Rattle.msp_total.proofs.unit_slots.least_pieces.Goals as goal
 

@@ -1,6 +1,0 @@
-use Rattle.msp_total.specs.SlotSteps.{AreFilled}
-use Rattle.msp_total.proofs.earliest.earliest_slots.Given as goal
-
--- the slots for the first release dates are filled, up to the moment
-abbrev pub invariant-loop-k : goal.invariant-loop-k
-invariant-loop-k l = AreFilled l.machines l.releases l.k l.moment l.taken l.slots.items
