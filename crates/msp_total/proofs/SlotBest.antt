@@ -6,7 +6,8 @@ use Rattle.std.proofs.lemmas.Bool.{cases_lt, eqb-true}
 use Rattle.std.proofs.lemmas.Bool.Decides.{nat_tests}
 use Rattle.std.proofs.lemmas.Int.{ints}
 use Rattle.std.proofs.lemmas.List.{length-map, get_or-map}
-use Rattle.std.proofs.lemmas.List.FromFn.{length-map-range_with_len, get_or-map-range_with_len}
+use Rattle.std.proofs.lemmas.List.FromFn.{length-range_with_len, get_or-range_with_len, length-map-range_with_len, get_or-map-range_with_len}
+use Rattle.std.proofs.lemmas.Grind.{same_number_lists}
 use Rattle.std.proofs.lemmas.List.Elements.{All-nil, All-map, All-contains}
 use Rattle.msp_class.proofs.IntegerRing.{natural, pos-le, le-pos, pos-lt, int_max-right, zero-le-pos, ≤ℤ_refl, ≤ℤ_trans, *ℤ-one, *ℤ_comm, *ℤ-mono_nonneg}
 use Rattle.msp_class.specs.Sums.{int_total_below}
@@ -219,7 +220,10 @@ module _ (i : Instance) (late : Bool) (h : IsUnitShop i late) (pieces : List Pie
   jobs = subst (OnceBelow n) (sym numbers) (OnceBelow-range n)
     where
       numbers : map (λ p. p.job) pieces ≡ range_with_len 0 n
-      numbers = same_from_places (map (λ p. p.job) pieces) n (length-map pieces (λ p. p.job) ∙ count) (λ j b. get_or-map (λ p. p.job) pieces j (piece_in l.slots 0 0) 0 (omega (arith, b, count)) ∙ ap (λ p. p.job) (l.laid.each j (piece_in l.slots 0 0) b))
+      numbers = same_number_lists (map (λ p. p.job) pieces) (range_with_len 0 n) (length-map pieces (λ p. p.job) ∙ count ∙ sym (length-range_with_len 0 n)) (λ j b. place j (omega (arith, b, length-map pieces (λ p. p.job), count)))
+        where
+          place : (j : ℕ) → j < n → get_or (map (λ p. p.job) pieces) j 0 ≡ get_or (range_with_len 0 n) j 0
+          place j b = let z = piece_in l.slots 0 0 in omega (arith, get_or-map (λ p. p.job) pieces j z 0 (omega (arith, b, count)), ap (λ p. p.job) (l.laid.each j z b), get_or-range_with_len 0 n j 0 b)
 
   unit_pieces : AreUnitPieces i (λ j. start (col j)) (λ j. machine_in l.slots (col j)) pieces
   unit_pieces = record {
