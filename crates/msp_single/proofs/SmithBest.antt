@@ -1,15 +1,13 @@
 -- The row of the jobs in Smith's order is best, and in the form of an answer.
-use Rattle.std.proofs.Common.{◌≡◌, ℕ, ◌*◌, ◌≤◌, inl, inr, List, length, get_or, map, ℤ, pos, nat_abs, ◌*ℤ◌, ◌≤ℤ◌, All, AllPairs, sym, ap, ◌∙◌, subst, arith}
-use Rattle.std.proofs.lemmas.List.Elements.{All-nil}
+use Rattle.std.proofs.Common.{◌≡◌, ℕ, ◌*◌, ◌≤◌, inl, inr, List, length, get_or, map, ℤ, pos, nat_abs, ◌*ℤ◌, ◌≤ℤ◌, AllPairs, sym, ap, ◌∙◌, subst, arith}
 use Rattle.msp_class.proofs.IntegerRing.{≤ℤ_of_same, ≤ℤ_trans, pos-le, *ℤ-one}
 use Rattle.msp_class.proofs.Sums.{OnceBelow, OnceBelow-from_permutation}
-use Rattle.msp_instance.specs.declared.Arc.{Arc}
 use Rattle.msp_instance.specs.declared.Instance.{Instance}
 use Rattle.msp_instance.specs.Instance.{job_at}
 use Rattle.msp_instance.specs.Conditions.{Inner}
 use Rattle.msp_schedule.specs.declared.Piece.{Piece}
 use Rattle.msp_schedule.specs.declared.Schedule.{Schedule}
-use Rattle.msp_schedule.specs.Piece.{IsBefore, job_of, start, finish}
+use Rattle.msp_schedule.specs.Piece.{job_of, start, finish}
 use Rattle.msp_schedule.specs.Feasible.{Feasible}
 use Rattle.msp_schedule.specs.Cost.{cost_of, Best}
 use Rattle.msp_schedule.specs.Settled.{IsSettled}
@@ -18,7 +16,7 @@ use Rattle.msp_schedule.specs.Rows.{row, seq, piece, time_at, row_schedule}
 use Rattle.msp_schedule.proofs.lists.Rows.{row-jobs, last-seq_below}
 use Rattle.msp_schedule.proofs.lists.Sequences.{SmithBefore, smith_beats_last}
 use Rattle.msp_schedule.proofs.feasible.OneMachine.{IsPlan-from_feasible, weighted_cost}
-use Rattle.msp_schedule.proofs.feasible.OneRow.{piece_makes, row_is_feasible, row_is_settled, row_is_within}
+use Rattle.msp_schedule.proofs.feasible.OneRow.{piece_makes, ordered_without_arcs, row_is_feasible, row_is_settled, row_is_within}
 use Rattle.msp_route.specs.Bounds.{IsAnswer}
 use Rattle.msp_single.specs.Smith.{smith_class, GoesBefore, IsSmithOrder}
 use Rattle.msp_route.proofs.PlainJobs.{takes_time, is_short}
@@ -43,11 +41,8 @@ module _ (i : Instance) (h : IsSmithInstance i) (order : List ℕ) (o : IsSmithO
   abbrev pieces : List Piece
   pieces = row piece (time_at i) 0 order
 
-  no_arcs : All (λ a. All (λ p. All (λ q. p.job ≡ a.before → q.job ≡ a.after → IsBefore p q) pieces) pieces) i.arcs
-  no_arcs = subst (λ arcs. All (λ a. All (λ p. All (λ q. p.job ≡ a.before → q.job ≡ a.after → IsBefore p q) pieces) pieces) arcs) (sym h.arcs) (All-nil (λ (a : Arc). All (λ p. All (λ q. p.job ≡ a.before → q.job ≡ a.after → IsBefore p q) pieces) pieces))
-
   pub smith_is_feasible : Feasible i (row_schedule i order)
-  smith_is_feasible = row_is_feasible i order once (takes_time i h.plain) h.plain.machine (released i h.plain order once) no_arcs
+  smith_is_feasible = row_is_feasible i order once (takes_time i h.plain) h.plain.machine (released i h.plain order once) (ordered_without_arcs i.arcs pieces h.arcs)
 
   smith_pairs : AllPairs (SmithBefore (time_at i) (weight_at i)) order
   smith_pairs a b d l k = at_most (get_or order a d) (get_or order b d) (o.sorted a b d l k)

@@ -48,9 +48,7 @@ fn all_jobs(alloc: Global, count: usize) -> Result<Vec<u32>, NoMemory>
 {
     let mut all = Vec::new(alloc);
     for job in 0..count as u32 {
-        if all.push(job).is_err() {
-            return Err(NoMemory);
-        }
+        all.push(job)?;
     }
     Ok(all)
 }

@@ -61,9 +61,7 @@ fn tasks_of(alloc: Global, inst: &Instance) -> Result<Vec<Task>, NoMemory>
             time,
             due,
         };
-        if tasks.push(task).is_err() {
-            return Err(NoMemory);
-        }
+        tasks.push(task)?;
     }
     Ok(tasks)
 }
@@ -145,9 +143,7 @@ fn accept(choice: &mut Choice, task: Task) -> Result<(), NoMemory>
         → IsChoice (λ t. t.time) (λ t. t.job) (λ t. t.due) (seen ++ task ∷ []) choice.new.accepted.items choice.new.dropped.items) }
 {
     choice.total += task.time;
-    if choice.accepted.push(task).is_err() {
-        return Err(NoMemory);
-    }
+    choice.accepted.push(task)?;
     if i128::from(choice.total) > i128::from(task.due) {
         return drop_longest(choice);
     }

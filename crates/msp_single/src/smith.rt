@@ -72,9 +72,7 @@ fn loads_of(alloc: Global, inst: &Instance) -> Result<Vec<Load>, NoMemory>
             time,
             weight,
         };
-        if loads.push(load).is_err() {
-            return Err(NoMemory);
-        }
+        loads.push(load)?;
     }
     Ok(loads)
 }
