@@ -63,9 +63,7 @@ fn arrivals_of(alloc: Global, inst: &Instance) -> Result<Vec<Arrival>, NoMemory>
             left,
             job: k as u32,
         };
-        if arrivals.push(Arrival { release, task }).is_err() {
-            return Err(NoMemory);
-        }
+        arrivals.push(Arrival { release, task })?;
     }
     Ok(arrivals)
 }
@@ -117,9 +115,7 @@ fn lay(pieces: &mut Vec<Piece>, job: u32, from: u64, to: u64) -> Result<(), NoMe
         from: begin,
         to: i128::from(to),
     };
-    if pieces.push(piece).is_err() {
-        return Err(NoMemory);
-    }
+    pieces.push(piece)?;
     Ok(())
 }
 
@@ -130,9 +126,7 @@ fn put(ready: &mut BinaryHeap<Reverse<Task>>, task: Task) -> Result<(), NoMemory
     ensures tasks { IfOk result (λ _. IsPermutation (task ∷ tasks_in (heap_items ready.old)) (tasks_in (heap_items ready.new))) }
     ensures len { IfOk result (λ _. heap_len ready.new ≡ heap_len ready.old + 1) }
 {
-    if ready.push(Reverse(task)).is_err() {
-        return Err(NoMemory);
-    }
+    ready.push(Reverse(task))?;
     Ok(())
 }
 
@@ -204,10 +198,7 @@ fn run_until(
     while moment < until {
         match take_first(ready) {
             None => return Ok(()),
-            Some(task) => match serve(pieces, ready, task, moment, until) {
-                Ok(end) => moment = end,
-                Err(_) => return Err(NoMemory),
-            },
+            Some(task) => moment = serve(pieces, ready, task, moment, until)?,
         }
     }
     Ok(())
@@ -226,17 +217,11 @@ fn shortest_pieces(alloc: Global, inst: &Instance) -> Result<List<Piece>, NoMemo
     let mut moment = 0;
     for k in 0..arrivals.len() {
         let arrival = arrivals[k];
-        if run_until(&mut pieces, &mut ready, moment, arrival.release).is_err() {
-            return Err(NoMemory);
-        }
-        if put(&mut ready, arrival.task).is_err() {
-            return Err(NoMemory);
-        }
+        run_until(&mut pieces, &mut ready, moment, arrival.release)?;
+        put(&mut ready, arrival.task)?;
         moment = arrival.release;
     }
-    if run_until(&mut pieces, &mut ready, moment, LATEST).is_err() {
-        return Err(NoMemory);
-    }
+    run_until(&mut pieces, &mut ready, moment, LATEST)?;
     Ok(List::from_vec(pieces))
 }
 

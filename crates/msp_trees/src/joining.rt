@@ -136,9 +136,7 @@ fn append(block: &mut List<u32>, jobs: &[u32]) -> Result<(), NoMemory>
     ensures { OnOk result (block.new ≡ block.old ++ jobs.now) }
 {
     for k in 0..jobs.len() {
-        if block.push(jobs[k]).is_err() {
-            return Err(NoMemory);
-        }
+        block.put(jobs[k])?;
     }
     Ok(())
 }
@@ -171,9 +169,7 @@ fn join_all(inst: &Instance, blocks: &mut Vec<List<u32>>) -> Result<(), NoMemory
     ensures one { OnOk result (length blocks.new.items ≡ 1) }
 {
     while blocks.len() > 1 {
-        if join_next(inst, blocks).is_err() {
-            return Err(NoMemory);
-        }
+        join_next(inst, blocks)?;
     }
     Ok(())
 }
@@ -193,13 +189,9 @@ fn singles(alloc: Global, count: usize) -> Result<Vec<List<u32>>, NoMemory>
     ensures { IfOk result (λ blocks. blocks.items ≡ single_blocks count) }
 {
     let mut blocks = Vec::new(alloc);
-    if blocks.push(single(alloc, count as u32)?).is_err() {
-        return Err(NoMemory);
-    }
+    blocks.push(single(alloc, count as u32)?)?;
     for job in 0..count as u32 {
-        if blocks.push(single(alloc, job)?).is_err() {
-            return Err(NoMemory);
-        }
+        blocks.push(single(alloc, job)?)?;
     }
     Ok(blocks)
 }

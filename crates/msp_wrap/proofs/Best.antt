@@ -2,25 +2,24 @@
 use Rattle.std.proofs.Common.{◌≡◌, ℕ, ◌*◌, ◌<◌, ◌≤◌, ◌⊎◌, inl, inr, max, Bool, leb, List, [], ◌∷◌, length, get_or, map, ℤ, pos, nat_abs, ◌*ℤ◌, ◌≤ℤ◌, All, MatchBool, refl, sym, ap, ◌∙◌, subst, arith}
 use Rattle.std.specs.Prelude.{◌==◌}
 use Rattle.std.proofs.lemmas.Int.{ints}
-use Rattle.std.proofs.lemmas.List.Elements.{All-nil}
 use Rattle.std.proofs.Math.Nat.{mul-le-mul_left}
 use Rattle.msp_class.specs.declared.environments.EnvKind.{EnvKind}
 use Rattle.msp_class.specs.declared.environments.EnvKind.TheVariants.{Identical, Unrelated}
 use Rattle.msp_class.specs.Env.{kind_of}
 use Rattle.msp_class.proofs.IntegerRing.{≤ℤ_antisym, *ℤ_comm, *ℤ-cancel}
-use Rattle.msp_instance.specs.declared.Arc.{Arc}
 use Rattle.msp_instance.specs.declared.Instance.{Instance}
 use Rattle.msp_instance.specs.Instance.{job_at, no_job}
 use Rattle.msp_instance.specs.Conditions.{Inner}
 use Rattle.msp_schedule.specs.declared.Piece.{Piece}
 use Rattle.msp_schedule.specs.declared.Schedule.{Schedule}
 use Rattle.msp_schedule.specs.declared.Frac.{Frac}
-use Rattle.msp_schedule.specs.Piece.{length_of, pieces_of, IsBefore, finish, IsTimed}
+use Rattle.msp_schedule.specs.Piece.{length_of, pieces_of, finish, IsTimed}
 use Rattle.msp_schedule.specs.Feasible.{Feasible, HasPlace, HasOperation, MayRun, FollowsRoute, GetsWork, IsWholeWork, total, whole_work, work_of as part_of}
 use Rattle.msp_schedule.specs.Cost.{cost_of, Best}
 use Rattle.msp_schedule.specs.Fraction.{IsOver}
 use Rattle.msp_schedule.specs.Within.{IsMoment, Within}
 use Rattle.msp_schedule.proofs.feasible.OneMachine.{apart_in_int, pieces_of-job, total_lengths}
+use Rattle.msp_schedule.proofs.feasible.OneRow.{ordered_without_arcs}
 use Rattle.msp_schedule.specs.Rows.{time_at}
 use Rattle.msp_schedule.proofs.bounds.Groups.{job_is_over, jobs_are_over}
 use Rattle.msp_schedule.proofs.costs.Makespan.{ends_by_whole_cost, cost_by_ends, cost_above}
@@ -86,9 +85,6 @@ module _ (i : Instance) (h : IsWrapInstance i) (end q o : ℕ) (ps : List Piece)
       by : (x : ℤ) (n m r : ℕ) → x ≡ pos n → r ≡ 0 → (pos m *ℤ pos r) ≤ℤ x
       by x n m r e z = subst (λ y. (pos m *ℤ pos y) ≤ℤ x) (sym z) (omega (arith, ints, e))
 
-  no_arcs : All (λ a. All (λ p. All (λ r. p.job ≡ a.before → r.job ≡ a.after → IsBefore p r) ps) ps) i.arcs
-  no_arcs = subst (λ arcs. All (λ a. All (λ p. All (λ r. p.job ≡ a.before → r.job ≡ a.after → IsBefore p r) ps) ps) arcs) (sym h.arcs) (All-nil (λ (a : Arc). All (λ p. All (λ r. p.job ≡ a.before → r.job ≡ a.after → IsBefore p r) ps) ps))
-
   module _ (j : ℕ) (small : j < length i.jobs) where
     adds_up : total (map length_of (pieces_of s j 0)) ≡ pos i.machines *ℤ pos (time_at i j)
     adds_up =
@@ -112,7 +108,7 @@ module _ (i : Instance) (h : IsWrapInstance i) (end q o : ℕ) (ps : List Piece)
     machine = λ a b d m k e. apart_in_int _ _ (w.laid.timed a d (omega arith)) (w.laid.timed b d k) (w.laid.apart a b d m k e);
     job = λ a b d m k e. apart_in_int _ _ (w.laid.timed a d (omega arith)) (w.laid.timed b d k) (w.apart a b d m k e);
     release = released;
-    arc = no_arcs;
+    arc = ordered_without_arcs i.arcs ps h.arcs;
     route = subst (λ x. FollowsRoute x ps) (sym h.kind) tt;
     work = λ j n l op. works j l n op;
   }

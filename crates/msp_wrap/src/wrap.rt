@@ -117,9 +117,7 @@ fn put_job(
     let at = opened(place, end);
     let done = at.moment + work;
     if done <= end {
-        if put(pieces, job, at.machine, at.moment, done).is_err() {
-            return Err(NoMemory);
-        }
+        put(pieces, job, at.machine, at.moment, done)?;
         return Ok(Place {
             machine: at.machine,
             moment: done,
@@ -129,12 +127,8 @@ fn put_job(
         machine: at.machine + 1,
         moment: done - end,
     };
-    if put(pieces, job, at.machine, at.moment, end).is_err() {
-        return Err(NoMemory);
-    }
-    if put(pieces, job, next.machine, 0, next.moment).is_err() {
-        return Err(NoMemory);
-    }
+    put(pieces, job, at.machine, at.moment, end)?;
+    put(pieces, job, next.machine, 0, next.moment)?;
     Ok(next)
 }
 

@@ -18,7 +18,7 @@ serve-requires-clause-left c = (still_taken _ _ _ c.in-Some.ensures.tasks c.loop
 pub loop-moment-preserved : goal.loop-moment-preserved
 loop-moment-preserved c =
     let i = c.loop-moment.invariant in
-    let h = c.in-Ok.ensures in
+    let h = c.in_ok-moment-in-Some.ensures in
     record {
       early = h.later.1;
       left = h.left;

@@ -1,6 +1,5 @@
 -- One more block is joined.
 use Rattle.std.proofs.Common.{rules}
-use Rattle.msp_route.proofs.Pushes.{on_ok}
 use Rattle.msp_trees.proofs.Picks.{join-start, join-next}
 use Rattle.msp_trees.proofs.joining.join_all.Goals as goal
 
@@ -10,6 +9,6 @@ loop-blocks-init c = record { some = c.requires.some; join = join-start c.args.i
 pub loop-blocks-preserved : goal.loop-blocks-preserved
 loop-blocks-preserved c = record {
   some = search rules;
-  join = join-next c.args.inst.now c.args.blocks.now.items c.loop-blocks.blocks.items c.join_next.new.blocks.items c.loop-blocks.invariant.join (on_ok _ _ _ c.join_next.ensures.joins c.is_err.ensures.value c.if-is_err.false);
-  joined = on_ok _ _ _ c.join_next.ensures.joined c.is_err.ensures.value c.if-is_err.false;
+  join = join-next c.args.inst.now c.args.blocks.now.items c.loop-blocks.blocks.items c.join_next.new.blocks.items c.loop-blocks.invariant.join c.in_ok-join_next.ensures.joins;
+  joined = c.in_ok-join_next.ensures.joined;
 }

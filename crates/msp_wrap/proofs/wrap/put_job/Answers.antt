@@ -1,5 +1,4 @@
 use Rattle.std.proofs.Common.{arith}
-use Rattle.msp_route.proofs.Pushes.{on_ok}
 use Rattle.msp_wrap.proofs.Facts.{IsWrapInstance-from_class}
 use Rattle.msp_wrap.proofs.Steps.{work_read, place_small, done_small, next_small, one_made, two_made}
 use Rattle.msp_wrap.proofs.wrap.put_job.Goals as goal
@@ -19,7 +18,7 @@ returns-then-done-end c =
     let i = c.args.inst.now in
     let h = IsWrapInstance-from_class i c.requires.class c.requires.inner in
     let read = work_read i c.as_slice.result.now c.args.job c.first_time.result c.from.result c.index-as_slice-job.result c.as_slice.ensures c.requires.inside c.index-as_slice-job.is c.first_time.ensures c.from.ensures in
-    one_made i h c.args.end c.args.job _ _ _ _ _ _ c.requires.end c.requires.inside c.opened-at.ensures c.requires.wrapped read _ c.if-done-end.true (on_ok _ _ _ c.put.ensures c.is_err.ensures.value c.if-is_err.false)
+    one_made i h c.args.end c.args.job _ _ _ _ _ _ c.requires.end c.requires.inside c.opened-at.ensures c.requires.wrapped read _ c.if-done-end.true c.in_ok-put.ensures
 
 pub overflow_add-next : goal.overflow_add-next
 overflow_add-next c =
@@ -34,4 +33,4 @@ returns c =
     let h = IsWrapInstance-from_class i c.requires.class c.requires.inner in
     let read = work_read i c.as_slice.result.now c.args.job c.first_time.result c.from.result c.index-as_slice-job.result c.as_slice.ensures c.requires.inside c.index-as_slice-job.is c.first_time.ensures c.from.ensures in
     two_made i h c.args.end c.args.job _ _ _ _ _ _ c.requires.end c.requires.inside c.opened-at.ensures c.requires.wrapped read _ _ c.if-done-end.false
-    (on_ok _ _ _ c.put-2.ensures c.is_err-2.ensures.value c.if-is_err-2.false) (on_ok _ _ _ c.put-3.ensures c.is_err-3.ensures.value c.if-is_err-3.false)
+    c.in_ok-put-2.ensures c.in_ok-put-3.ensures
