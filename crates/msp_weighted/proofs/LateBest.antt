@@ -1,18 +1,16 @@
 -- The row of the jobs in the table's order is best, and in the form of an answer.
-use Rattle.std.proofs.Common.{◌≡◌, ◌≢◌, ℕ, ◌+◌, ◌*◌, ◌<◌, ◌≤◌, Bool, cond, not, inl, inr, List, [], ◌∷◌, ◌++◌, length, get_or, filter, map, ℤ, pos, nat_abs, ◌*ℤ◌, ◌≤ℤ◌, All, AllPairs, IsPermutation, sum_by, refl, sym, ap, ◌∙◌, subst, arith}
+use Rattle.std.proofs.Common.{◌≡◌, ◌≢◌, ℕ, ◌+◌, ◌*◌, ◌<◌, ◌≤◌, Bool, cond, not, List, [], ◌∷◌, ◌++◌, length, get_or, filter, map, ℤ, pos, nat_abs, ◌*ℤ◌, ◌≤ℤ◌, All, AllPairs, IsPermutation, sum_by, refl, sym, ap, ◌∙◌, subst, arith}
 use Rattle.std.specs.List.{range_with_len}
 use native.Mathlib.Nat.{mul-le-mul_left}
-use Rattle.std.proofs.lemmas.List.Elements.{All-nil}
 use Rattle.std.proofs.lemmas.List.Sums.{sum_by-append}
 use Rattle.std.proofs.lemmas.List.Sorted.{IsPermutation-trans, IsPermutation-append_right}
-use Rattle.msp_class.proofs.IntegerRing.{≤ℤ_of_same, ≤ℤ_trans, <ℤ_weak, pos-le, *ℤ-one, one-*ℤ}
+use Rattle.msp_class.proofs.IntegerRing.{≤ℤ_of_same, ≤ℤ_trans, pos-le, *ℤ-one, one-*ℤ}
 use Rattle.msp_class.proofs.Sums.{OnceBelow, OnceBelow-from_permutation, OnceBelow-distinct, OnceBelow-contains, AllPairs-tail, sum_by-OnceBelow, sum_by-none, sum_by-mono, cond-no, cond-le}
-use Rattle.msp_instance.specs.declared.Arc.{Arc}
 use Rattle.msp_instance.specs.declared.Instance.{Instance}
 use Rattle.msp_instance.specs.Conditions.{Inner}
 use Rattle.msp_schedule.specs.declared.Piece.{Piece}
 use Rattle.msp_schedule.specs.declared.Schedule.{Schedule}
-use Rattle.msp_schedule.specs.Piece.{IsBefore, job_of}
+use Rattle.msp_schedule.specs.Piece.{job_of}
 use Rattle.msp_schedule.specs.Feasible.{Feasible}
 use Rattle.msp_schedule.specs.Cost.{end_of, cost_of, Best}
 use Rattle.msp_schedule.specs.Settled.{IsSettled}
@@ -20,8 +18,9 @@ use Rattle.msp_schedule.specs.Within.{Within}
 use Rattle.msp_schedule.specs.Rows.{row, piece, time_at, row_schedule}
 use Rattle.msp_schedule.proofs.lists.Rows.{row-jobs, row-last, end_in}
 use Rattle.msp_schedule.proofs.feasible.OneMachine.{IsPlan-from_feasible, last_end-is}
-use Rattle.msp_schedule.proofs.feasible.OneRow.{piece_makes, row_is_feasible, row_is_settled, row_is_within}
+use Rattle.msp_schedule.proofs.feasible.OneRow.{piece_makes, ordered_without_arcs, row_is_feasible, row_is_settled, row_is_within}
 use Rattle.msp_schedule.proofs.costs.LateJobs.{due_at, is_late, not_late, OnTime, ends_on_time, on_time_in_a_row}
+use Rattle.msp_schedule.proofs.lists.DateOrder.{dates_rise}
 use Rattle.msp_schedule.proofs.lists.Parts.{All-front}
 use Rattle.msp_route.specs.Bounds.{IsAnswer}
 use Rattle.msp_route.proofs.PlainJobs.{takes_time, is_short}
@@ -63,17 +62,11 @@ module _ (i : Instance) (h : IsLateInstance i) (order : List ℕ) (o : IsTableOr
   abbrev pieces : List Piece
   pieces = row piece (time_at i) 0 order
 
-  no_arcs : All (λ a. All (λ p. All (λ q. p.job ≡ a.before → q.job ≡ a.after → IsBefore p q) pieces) pieces) i.arcs
-  no_arcs = subst (λ arcs. All (λ a. All (λ p. All (λ q. p.job ≡ a.before → q.job ≡ a.after → IsBefore p q) pieces) pieces) arcs) (sym h.arcs) (All-nil (λ (a : Arc). All (λ p. All (λ q. p.job ≡ a.before → q.job ≡ a.after → IsBefore p q) pieces) pieces))
-
   row_feasible : Feasible i (row_schedule i order)
-  row_feasible = row_is_feasible i order once (takes_time i h.plain) h.plain.machine (released i h.plain order once) no_arcs
+  row_feasible = row_is_feasible i order once (takes_time i h.plain) h.plain.machine (released i h.plain order once) (ordered_without_arcs i.arcs pieces h.arcs)
 
   sorted : AllPairs (λ a b. due_at i a ≤ℤ due_at i b) o.by_date
-  sorted a b d l k = at_most (get_or o.by_date a d) (get_or o.by_date b d) (o.sorted a b d l k)
-    where
-      at_most : (x y : ℕ) → IsDueBefore i x y → due_at i x ≤ℤ due_at i y
-      at_most x y g = elim g [ inl l ↦ <ℤ_weak l | inr e ↦ ≤ℤ_of_same e.0 ]
+  sorted = dates_rise (λ a b. a < b) (due_at i) o.by_date o.sorted
 
   distinct : AllPairs (λ x y. x ≢ y) (o.on_time ++ o.late)
   distinct = subst (AllPairs (λ x y. x ≢ y)) o.whole (OnceBelow-distinct once)

@@ -69,9 +69,7 @@ fn keys_of(alloc: Global, inst: &Instance) -> Result<Vec<u64>, NoMemory>
     let mut keys = Vec::new(alloc);
     for k in 0..jobs.len() {
         let key = key_of(jobs[k].due);
-        if keys.push(key).is_err() {
-            return Err(NoMemory);
-        }
+        keys.push(key)?;
     }
     Ok(keys)
 }
