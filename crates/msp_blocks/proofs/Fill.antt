@@ -1,23 +1,29 @@
 -- One job more is placed: the one that ends last in the first block takes what the others of the block leave of its time.
-use Rattle.std.proofs.Common.{◌≡◌, ◌≢◌, ℕ, ◌+◌, ◌<◌, ◌≤◌, false, eqb, ◌⊎◌, inl, inr, List, [], ◌∷◌, ◌++◌, length, get_or, filter, All, AllPairs, Contains, sum_by, ◌≤ℤ◌, sym, ap, subst, ◌∙◌, arith, le_trans, length-append, append_assoc}
-use Rattle.std.proofs.lemmas.Bool.{cases_Bool, eqb-true, eqb-false, eq-eqb}
+use Rattle.std.proofs.Common.{◌≡◌, ◌≢◌, ℕ, ◌+◌, ◌<◌, ◌≤◌, false, eqb, ◌⊎◌, inl, inr, List, [], ◌∷◌, ◌++◌, length, get_or, filter, All, AllPairs, Contains, sum_by, ℤ, ◌≤ℤ◌, refl, sym, ap, subst, ◌∙◌, arith, le_trans, length-append, append_assoc}
+use Rattle.std.proofs.lemmas.Bool.{cases_Bool, eqb-true, eqb-false, eq-eqb, false≢true}
+use Rattle.std.proofs.lemmas.List.{get_or_default}
 use Rattle.std.proofs.lemmas.List.Sums.{sum_by-cons, sum_by-append}
-use Rattle.std.proofs.lemmas.List.Elements.{All-cons, All-append, All-contains, Contains-append_left, Contains-append_cases, filter-append}
+use Rattle.std.proofs.lemmas.List.Elements.{All-cons, All-append, All-contains, Contains-get_or, Contains-append_left, Contains-append_cases, filter-append}
 use Rattle.msp_class.proofs.IntegerRing.{≤ℤ_of_same, <ℤ_weak}
 use Rattle.msp_class.proofs.Sums.{AllPairs-head, AllPairs-tail}
+use Rattle.std.specs.List.{list_any}
 use Rattle.msp_instance.specs.declared.Arc.{Arc}
+use Rattle.msp_instance.specs.Paths.{HasStep, HasPath, one, more}
+use Rattle.msp_instance.proofs.ListingLemmas.{list_any-from_Contains, Contains-from_list_any}
 use Rattle.msp_instance.specs.declared.Instance.{Instance}
 use Rattle.msp_schedule.specs.declared.Piece.{Piece}
-use Rattle.msp_schedule.specs.Blocks.{cost_at, IsCertified}
+use Rattle.msp_schedule.specs.Blocks.{cost_at, total_time, HasNoSuccessor, LeadsToNone, IsSound}
 use Rattle.msp_schedule.specs.Intervals.{IsApart, size_of, work_of}
 use Rattle.msp_schedule.proofs.judging.JobShares.{filter_none, filter_whole}
 use Rattle.msp_schedule.specs.Piece.{job_of, start, finish}
 use Rattle.msp_schedule.specs.Rows.{piece, time_at}
 use Rattle.msp_schedule.proofs.feasible.Series.{AllPairs-append}
 use Rattle.msp_route.specs.LastJob.{EndsAt, CostsLess}
-use Rattle.msp_blocks.specs.Filling.{done_by, busy_until, Follow, gaps, IsPut, IsFilling}
-use Rattle.msp_blocks.proofs.Lists.{All-without, All-at, All-before, AllPairs-without, AllPairs-before, AllPairs-after, Contains-with, Contains-at, Contains-without, Contains-once}
-use Rattle.msp_blocks.proofs.Idle.{done-mono, done-tight, busy-mono, busy-append, busy-done, busy-without, Follow-append, around, gaps-inside, gaps-made, gaps-apart, gaps-size, gaps-few, gaps-idle}
+use Rattle.msp_schedule.proofs.lists.Intervals.{piece_of}
+use Rattle.msp_schedule.proofs.lists.Parts.{All-front, AllPairs-front, AllPairs-back}
+use Rattle.msp_blocks.specs.Filling.{done_by, busy_until, Follow, gaps, IsPut, IsFilling, IsBound, CostAtMost}
+use Rattle.msp_blocks.proofs.Lists.{All-without, All-at, AllPairs-without, Contains-with, Contains-at, Contains-without, Contains-once}
+use Rattle.msp_blocks.proofs.Idle.{done-mono, done-tight, busy-mono, busy-append, busy-done, busy-without, Follow-append, Follow-heads, around, gaps-inside, gaps-made, gaps-apart, gaps-size, gaps-few, gaps-idle}
 
 -- what holds of the pieces of a job: the rest is by whose they are
 work_of-append : (ps new : List Piece) (j : ℕ) → work_of job_of start finish (ps ++ new) j ≡ work_of job_of start finish ps j + work_of job_of start finish new j
@@ -31,6 +37,12 @@ work_of-none ps j h = ap (sum_by (size_of start finish)) (filter_none (λ q. eqb
 
 work_of-own : (ps : List Piece) (j : ℕ) → All (λ p. p.job ≡ j) ps → work_of job_of start finish ps j ≡ sum_by (size_of start finish) ps
 work_of-own ps j h = ap (sum_by (size_of start finish)) (filter_whole (λ q. eqb (job_of q) j) ps (λ k d l. eq-eqb _ _ (h k d l)))
+
+-- one more job is placed: jobs that are left before and now, pieces before and now, and the block with what the job costs at its end
+pub record IsOneMore (i : Instance) (head : ℕ → ℕ) (greatest : ℕ) (heads left now : List ℕ) (ps new : List Piece) (jobs : List ℕ) (cost : ℤ) : Type 0 where
+  pub filling : IsFilling i head greatest now new
+  pub bound : IsBound i heads jobs cost
+  pub costs : (most : ℤ) → cost ≤ℤ most → CostAtMost i most left ps → CostAtMost i most now new
 
 module _ (i : Instance) (head : ℕ → ℕ) (greatest : ℕ) (takes : (j : ℕ) → j < length i.jobs → 0 < time_at i j)
     (rises : All (λ a. head a.before + time_at i a.before ≤ head a.after) i.arcs)
@@ -112,11 +124,11 @@ module _ (i : Instance) (head : ℕ → ℕ) (greatest : ℕ) (takes : (j : ℕ)
   l_new k d b same = f.placed k d b (subst (Contains (block ++ C)) (sym same) l_left)
 
   distinct_block : AllPairs (λ j k. j ≢ k) block
-  distinct_block = AllPairs-before (λ j k. j ≢ k) block C f.distinct
+  distinct_block = AllPairs-front (λ j k. j ≢ k) block C f.distinct
 
   -- the first head is the least
   from_first : All (λ k. h ≤ head k) block
-  from_first = subst (λ n. All (λ k. n ≤ head k) block) (sym first) (by block in_block (AllPairs-before (λ j k. head j ≤ head k) block C f.sorted))
+  from_first = subst (λ n. All (λ k. n ≤ head k) block) (sym first) (by block in_block (AllPairs-front (λ j k. head j ≤ head k) block C f.sorted))
     where
       by : (xs : List ℕ) → 0 < length xs → AllPairs (λ j k. head j ≤ head k) xs → All (λ k. head (get_or xs 0 0) ≤ head k) xs
       by [] some s = absurd (omega (arith, some))
@@ -153,7 +165,7 @@ module _ (i : Instance) (head : ℕ → ℕ) (greatest : ℕ) (takes : (j : ℕ)
   still_idle k d b = le_trans (busy-without head time 0 X l (Y ++ C) (finish (get_or ps k d))) (subst (λ xs. busy_until head time 0 xs (finish (get_or ps k d)) ≤ start (get_or ps k d)) whole_is (f.idle k d b))
 
   sorted_after : AllPairs (λ j k. head j ≤ head k) (Y ++ C)
-  sorted_after = AllPairs-tail (λ j k. head j ≤ head k) l (Y ++ C) (AllPairs-after (λ j k. head j ≤ head k) X (l ∷ (Y ++ C)) sorted_before)
+  sorted_after = AllPairs-tail (λ j k. head j ≤ head k) l (Y ++ C) (AllPairs-back (λ j k. head j ≤ head k) X (l ∷ (Y ++ C)) sorted_before)
 
   begun : (y : ℕ) → busy_until head time 0 X y ≤ m
   begun y = le_trans (busy-done head time 0 X y) (subst (λ n. done_by head time 0 X ≤ n) (done-tight head time h X (Follow-append head time h X (l ∷ Y) tight).0) (done-mono head time 0 h X (omega arith)))
@@ -215,39 +227,13 @@ module _ (i : Instance) (head : ℕ → ℕ) (greatest : ℕ) (takes : (j : ℕ)
       (λ k x y. All-append (λ q. (get_or ps k x).job ≡ (get_or i.arcs n d).before → q.job ≡ (get_or i.arcs n d).after → finish (get_or ps k x) ≤ start q) ps new (f.ordered n d b k x y) (λ k' x' y' same is. old_new n d b k x y k' x' y' same is))
       (λ k x y. All-append (λ q. (get_or new k x).job ≡ (get_or i.arcs n d).before → q.job ≡ (get_or i.arcs n d).after → finish (get_or new k x) ≤ start q) ps new (λ k' x' y' same is. new_old n d b k x y k' x' y' same is) (λ k' x' y' same is. absurd (new_new n d b k x y k' x' y' same is)))
 
-  abbrev Done : ℕ → Type 0
-  Done j = (end : ℕ) × All (λ p. p.job ≡ j → finish p ≤ end) (ps ++ new) × IsCertified i head j end
-
-  certified_last : IsCertified i head l e
-  certified_last = record {
-    jobs = block;
-    from = h;
-    some = in_block;
-    inside = All-before (λ j. j < length i.jobs) block C f.inside;
-    apart = distinct_block;
-    begin = from_first;
-    whole = end;
-    least = λ k d b free. at_most (get_or block k d) (last.least k d b free);
-  }
-    where
-      at_most : (x : ℕ) → CostsLess i e l x → cost_at i l e ≤ℤ cost_at i x e
-      at_most x c = elim c [ inl g ↦ <ℤ_weak g | inr g ↦ ≤ℤ_of_same g.0 ]
-
-  done_last : Done l
-  done_last = (e, All-append (λ p. p.job ≡ l → finish p ≤ e) ps new (λ k d b same. absurd (l_new k d b same)) (λ k d b same. (inside k d b).1), certified_last)
-
-  done_older : (j : ℕ) → j < length i.jobs → ¬ Contains (block ++ C) j → Done j
-  done_older j b gone =
-      let (end, ended, c) = f.certified j b gone in
-      (end, All-append (λ p. p.job ≡ j → finish p ≤ end) ps new ended (λ k d n same. absurd (gone (subst (Contains (block ++ C)) (sym (own k d n) ∙ same) l_left))), c)
-
   work_last : work_of job_of start finish (ps ++ new) l ≡ time l
   work_last = omega (arith, work_of-append ps new l, work_of-none ps l l_new, work_of-own new l own, gaps-size head time l m e Y room, parts)
 
   work_older : (j : ℕ) → j ≢ l → work_of job_of start finish ps j ≡ time j → work_of job_of start finish (ps ++ new) j ≡ time j
   work_older j other is = omega (arith, work_of-append ps new j, is, work_of-none new j (λ k d b same. other (sym same ∙ own k d b)))
 
-  pub IsFilling-next : IsFilling i head greatest rest (ps ++ new)
+  IsFilling-next : IsFilling i head greatest rest (ps ++ new)
   IsFilling-next = record {
     inside = subst (All (λ j. j < length i.jobs)) (sym rest_is) (All-without (λ j. j < length i.jobs) X l (Y ++ C) all_before);
     distinct = subst (AllPairs (λ j k. j ≢ k)) (sym rest_is) (AllPairs-without (λ j k. j ≢ k) X l (Y ++ C) distinct_before);
@@ -263,10 +249,114 @@ module _ (i : Instance) (head : ℕ → ℕ) (greatest : ℕ) (takes : (j : ℕ)
       | inl same ↦ subst (λ x. work_of job_of start finish (ps ++ new) x ≡ time x) (sym (eqb-true j l same)) work_last
       | inr other ↦ work_older j (eqb-false j l other) (f.work j b (λ c. gone (to_rest j (eqb-false j l other) c)))
     ];
-    certified = λ j b gone. elim (cases_Bool (eqb j l)) [
-      | inl same ↦ subst Done (sym (eqb-true j l same)) done_last
-      | inr other ↦ done_older j b (λ c. gone (to_rest j (eqb-false j l other) c))
-    ];
     few = omega (arith, f.few, length-append ps new, gaps-few head time l m e Y, length-append block C, length-append X (l ∷ Y), length-append (X ++ Y) C, length-append X Y);
     ends = All-append (λ p. finish p ≤ greatest) ps new f.ends (λ k d b. omega (arith, (inside k d b).1, small));
   }
+
+  -- ---- none of the placed jobs costs more than the last one, or than those before
+  module _ (most : ℤ) (last_costs : cost_at i l e ≤ℤ most) (others_cost : CostAtMost i most (block ++ C) ps) where
+    abbrev Costs : ℕ → Type 0
+    Costs j = (end : ℕ) × All (λ p. p.job ≡ j → finish p ≤ end) (ps ++ new) × (cost_at i j end ≤ℤ most)
+
+    last_one : Costs l
+    last_one = (e, All-append (λ p. p.job ≡ l → finish p ≤ e) ps new (λ k d b same. absurd (l_new k d b same)) (λ k d b same. (inside k d b).1), last_costs)
+
+    older_one : (j : ℕ) → j < length i.jobs → ¬ Contains (block ++ C) j → Costs j
+    older_one j b gone =
+        let (end, ended, costs) = others_cost j b gone in
+        (end, All-append (λ p. p.job ≡ j → finish p ≤ end) ps new ended (λ k d n same. absurd (gone (subst (Contains (block ++ C)) (sym (own k d n) ∙ same) l_left))), costs)
+
+    CostAtMost-next : CostAtMost i most rest (ps ++ new)
+    CostAtMost-next j b gone = elim (cases_Bool (eqb j l)) [
+      | inl same ↦ subst Costs (sym (eqb-true j l same)) last_one
+      | inr other ↦ older_one j b (λ c. gone (to_rest j (eqb-false j l other) c))
+    ]
+
+  -- ---- no path leads from the last job to one of the block
+  not_past : All (λ k. head k ≤ e) block
+  not_past = subst (λ n. All (λ k. head k ≤ n) block) (sym end) (Follow-heads head time h block tight)
+
+  module _ (ends : All (λ a. (a.before < length i.jobs) × (a.after < length i.jobs)) i.arcs) where
+    begins : (j k : ℕ) → HasStep i.arcs j k → j < length i.jobs
+    begins j k c = (All-contains (λ a. (a.before < length i.jobs) × (a.after < length i.jobs)) i.arcs (record { before = j; after = k }) ends c).0
+
+    lifts : (j k : ℕ) → HasStep i.arcs j k → head j + time j ≤ head k
+    lifts j k c = All-contains (λ a. head a.before + time a.before ≤ head a.after) i.arcs (record { before = j; after = k }) rises c
+
+    climbs : (j k : ℕ) → HasStep i.arcs j k → head j < head k
+    climbs j k c = omega (arith, lifts j k c, takes j (begins j k c))
+
+    -- a job that is placed, with a later head than the last one's, lies before or after the block
+    misses : (j k : ℕ) → HasStep i.arcs j k → ¬ Contains (block ++ C) j → head l < head j → ¬ Contains block k
+    misses j k c gone late there =
+        let inside = begins j k c in
+        let (p, cp, is, lasts) = piece_of job_of start finish ps j (subst (λ w. 0 < w) (sym (f.work j inside gone)) (takes j inside)) in
+        let begun = All-contains (λ p. head p.job ≤ start p) ps p f.after cp in
+        let all = All-contains (λ a. All (λ p. p.job ≡ a.before → Contains (block ++ C) a.after → finish p ≤ head a.after) ps) i.arcs (record { before = j; after = k }) f.early c in
+        let early = All-contains (λ p. p.job ≡ j → Contains (block ++ C) k → finish p ≤ head k) ps p all cp is (Contains-append_left block C k there) in
+        let up = All-contains (λ k. head k ≤ e) block k not_past there in
+        let least = All-contains (λ k. h ≤ head k) block l from_first (Contains-at X l Y) in
+        elim (All-contains (λ p. (finish p ≤ h) ⊎ (e ≤ start p)) ps p apart_from_block cp) [
+          | inl g ↦ omega (arith, g, lasts, begun, ap head is, late, least)
+          | inr g ↦ omega (arith, g, lasts, early, up)
+        ]
+
+    -- no arc leads into the block from a job outside of it with a later head than the last one's
+    enters : (j k : ℕ) → HasStep i.arcs j k → ¬ Contains block j → head l < head j → ¬ Contains block k
+    enters j k c out late there = elim (cases_Bool (list_any (λ x. eqb x j) (block ++ C))) [
+      | inl left ↦ elim (Contains-append_cases block C j (Contains-from_list_any (block ++ C) j left)) [
+        | inl here ↦ out here
+        | inr after ↦ omega (arith, All-contains (λ c. e < head c) C j later after, lifts j k c, All-contains (λ k. head k ≤ e) block k not_past there)
+      ]
+      | inr gone ↦ misses j k c (λ x. false≢true (sym gone ∙ list_any-from_Contains (block ++ C) j x)) late there
+    ]
+
+    -- nor a path
+    along : (j m k : ℕ) → HasStep i.arcs j m → (¬ Contains block m → head l < head m → ¬ Contains block k) → ¬ Contains block j → head l < head j → ¬ Contains block k
+    along j m k c next out late there = elim (cases_Bool (list_any (λ x. eqb x m) block)) [
+      | inl here ↦ enters j m c out late (Contains-from_list_any block m here)
+      | inr gone ↦ next (λ x. false≢true (sym gone ∙ list_any-from_Contains block m x)) (omega (arith, late, climbs j m c)) there
+    ]
+
+    path_enters : {j k : ℕ} → HasPath i.arcs j k → ¬ Contains block j → head l < head j → ¬ Contains block k
+    path_enters (one c) = enters _ _ c
+    path_enters (more c p) = along _ _ _ c (path_enters p)
+
+    free : (j k : ℕ) → j ≡ l → HasStep i.arcs j k → ¬ Contains block k
+    free j k same c = All-contains (λ a. a.before ≡ l → ¬ Contains block a.after) i.arcs (record { before = j; after = k }) last.free c same
+
+    from_last : {j k : ℕ} → j ≡ l → HasPath i.arcs j k → ¬ Contains block k
+    from_last same (one c) = free _ _ same c
+    from_last same (more c p) = path_enters p (free _ _ same c) (past _ _ same c)
+      where
+        past : (j m : ℕ) → j ≡ l → HasStep i.arcs j m → head l < head m
+        past j m same c = omega (arith, ap head same, climbs j m c)
+
+    leads_to_none : LeadsToNone i block l
+    leads_to_none k d b p = from_last refl p (Contains-get_or block k d b)
+
+    no_successor : (j : ℕ) → LeadsToNone i block j → HasNoSuccessor i block j
+    no_successor j none n d b same there = All-contains (λ x. ¬ HasPath i.arcs j x) block (get_or i.arcs n d).after none there (one (subst (λ x. HasStep i.arcs x (get_or i.arcs n d).after) same (Contains-get_or i.arcs n d b)))
+
+    -- ---- so the block's value is what the last job costs at its end
+    module _ (heads : List ℕ) (each : length heads ≡ length i.jobs) (are : (j : ℕ) → get_or heads j 0 ≡ head j) (sound : IsSound i (λ j. get_or heads j 0)) where
+      owed : All (λ j. LeadsToNone i block j → cost_at i l e ≤ℤ cost_at i j (h + total_time i block)) block
+      owed k d b none = subst (λ m. cost_at i l e ≤ℤ cost_at i (get_or block k d) m) end (at_most (get_or block k d) (last.least k d b (no_successor (get_or block k d) none)))
+        where
+          at_most : (x : ℕ) → CostsLess i e l x → cost_at i l e ≤ℤ cost_at i x e
+          at_most x c = elim c [ inl g ↦ <ℤ_weak g | inr g ↦ ≤ℤ_of_same g.0 ]
+
+      IsBound-made : IsBound i heads block (cost_at i l e)
+      IsBound-made = record {
+        block = record { each = each; sound = sound; some = in_block; inside = All-front (λ j. j < length i.jobs) block C f.inside; apart = distinct_block };
+        value = record {
+          begin = h;
+          first = (0, get_or block 0 0, in_block, get_or_default block 0 (get_or block 0 0) 0 in_block, are (get_or block 0 0) ∙ sym first);
+          after = λ k d b. omega (arith, are (get_or block k d), from_first k d b);
+          reached = let (n, b, is) = Contains-at X l Y in (n, l, b, is, (leads_to_none, ap (cost_at i l) end));
+          least = owed;
+        };
+      }
+
+      pub IsOneMore-made : IsOneMore i head greatest heads (block ++ C) rest ps (ps ++ new) block (cost_at i l e)
+      IsOneMore-made = record { filling = IsFilling-next; bound = IsBound-made; costs = CostAtMost-next }

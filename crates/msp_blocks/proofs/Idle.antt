@@ -130,6 +130,12 @@ module _ (q p : ℕ → ℕ) where
   Follow-from_near t [] h = tt
   Follow-from_near t (j ∷ js) h = (omega (arith, h 0 (omega arith)), Follow-from_near (t + p j) js (λ k l. omega (arith, h (suc k) (omega (arith, l)), sum_by-cons p j (take k js))))
 
+  pub Follow-heads : (t : ℕ) (js : List ℕ) → Follow q p t js → All (λ j. q j ≤ t + sum_by p js) js
+  Follow-heads t [] f = All-nil _
+  Follow-heads t (j ∷ js) f =
+      let same : t + p j + sum_by p js ≡ t + sum_by p (j ∷ js) = omega (arith, sum_by-cons p j js) in
+      All-cons (λ k. q k ≤ t + sum_by p (j ∷ js)) j js (omega (arith, f.0)) (subst (λ n. All (λ k. q k ≤ n) js) same (Follow-heads (t + p j) js f.1))
+
   -- an interval in which the earliest schedule is idle does not lie before the end of jobs that follow each other and begin before it
   past : (t s x y : ℕ) (js cs : List ℕ) → Follow q p t js → t ≤ s → x < y → busy s (js ++ cs) y ≤ x → t + sum_by p js ≤ x
   past t s x y [] cs f h l i = omega (arith, h, busy-after s cs y, i)

@@ -1,6 +1,6 @@
 -- Lists with and without one element.
-use Rattle.std.proofs.Common.{◌≡◌, ◌≢◌, inl, inr, ◌⊎◌, List, [], ◌∷◌, ◌++◌, All, AllPairs, Contains, refl, sym, arith}
-use Rattle.std.proofs.lemmas.List.Elements.{All-nil, All-cons, All-head, All-tail, All-contains, All-contains_itself}
+use Rattle.std.proofs.Common.{◌≡◌, ◌≢◌, inl, inr, ◌⊎◌, List, [], ◌∷◌, ◌++◌, All, AllPairs, Contains, refl, sym}
+use Rattle.std.proofs.lemmas.List.Elements.{All-cons, All-head, All-tail, All-contains, All-contains_itself}
 use Rattle.std.proofs.lemmas.List.Kept.{AllPairs-cons}
 use Rattle.msp_class.proofs.Sums.{AllPairs-head, AllPairs-tail}
 
@@ -17,21 +17,9 @@ module _ {X : Type 0} where
   All-at P [] x ys h = All-head P x ys h
   All-at P (z ∷ xs) x ys h = All-at P xs x ys (All-tail P z (xs ++ x ∷ ys) h)
 
-  pub All-before : (P : X → Type 0) (xs ys : List X) → All P (xs ++ ys) → All P xs
-  All-before P [] ys h = All-nil P
-  All-before P (z ∷ xs) ys h = All-cons P z xs (All-head P z (xs ++ ys) h) (All-before P xs ys (All-tail P z (xs ++ ys) h))
-
-  pub AllPairs-before : (R : X → X → Type 0) (xs ys : List X) → AllPairs R (xs ++ ys) → AllPairs R xs
-  AllPairs-before R [] ys h = λ i j d l m. absurd (omega (arith, l, m))
-  AllPairs-before R (z ∷ xs) ys h = AllPairs-cons R z xs (All-before (R z) xs ys (AllPairs-head R z (xs ++ ys) h)) (AllPairs-before R xs ys (AllPairs-tail R z (xs ++ ys) h))
-
   pub AllPairs-without : (R : X → X → Type 0) (xs : List X) (x : X) (ys : List X) → AllPairs R (xs ++ x ∷ ys) → AllPairs R (xs ++ ys)
   AllPairs-without R [] x ys h = AllPairs-tail R x ys h
   AllPairs-without R (z ∷ xs) x ys h = AllPairs-cons R z (xs ++ ys) (All-without (R z) xs x ys (AllPairs-head R z (xs ++ x ∷ ys) h)) (AllPairs-without R xs x ys (AllPairs-tail R z (xs ++ x ∷ ys) h))
-
-  pub AllPairs-after : (R : X → X → Type 0) (xs ys : List X) → AllPairs R (xs ++ ys) → AllPairs R ys
-  AllPairs-after R [] ys h = h
-  AllPairs-after R (z ∷ xs) ys h = AllPairs-after R xs ys (AllPairs-tail R z (xs ++ ys) h)
 
   pub Contains-with : (xs : List X) (x : X) (ys : List X) (y : X) → Contains (xs ++ ys) y → Contains (xs ++ x ∷ ys) y
   Contains-with xs x ys y c = All-contains (Contains (xs ++ x ∷ ys)) (xs ++ ys) y (All-without (Contains (xs ++ x ∷ ys)) xs x ys (All-contains_itself (xs ++ x ∷ ys))) c

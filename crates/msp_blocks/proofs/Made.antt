@@ -12,6 +12,7 @@ use Rattle.msp_class.specs.declared.class.Crit.TheVariants.{Fmax}
 use Rattle.msp_class.specs.declared.class.Env.TheVariants.{One}
 use Rattle.msp_class.specs.Env.{kind_of}
 use Rattle.msp_class.specs.Crit.{is_greatest}
+use Rattle.msp_class.proofs.IntegerRing.{≤ℤ_trans}
 use Rattle.msp_class.proofs.Sums.{OnceBelow-from_permutation, OnceBelow-distinct, OnceBelow-contains, length-OnceBelow}
 use Rattle.msp_instance.specs.declared.Instance.{Instance}
 use Rattle.msp_instance.specs.Instance.{job_at, need_at, no_job, no_need}
@@ -26,11 +27,12 @@ use Rattle.msp_schedule.specs.Intervals.{size_of}
 use Rattle.msp_schedule.proofs.feasible.OneMachine.{apart_in_int, pieces_of-job, total_lengths}
 use Rattle.msp_schedule.specs.Rows.{time_at}
 use Rattle.msp_schedule.proofs.feasible.LastEnds.{last_end-least}
-use Rattle.msp_schedule.specs.Blocks.{IsCertified}
-use Rattle.msp_schedule.proofs.bounds.Certified.{best_by_certificates}
+use Rattle.msp_schedule.specs.Blocks.{cost_at}
 use Rattle.msp_route.specs.Bounds.{IsAnswer, answer_unit}
+use Rattle.msp_blocks.specs.Blocks.{IsBestCost}
 use Rattle.msp_blocks.specs.Heads.{AreHeads}
-use Rattle.msp_blocks.specs.Filling.{IsPut, IsFilling, greatest_end}
+use Rattle.msp_blocks.specs.Filling.{IsPut, IsFilling, IsBound, CostAtMost, greatest_end}
+use Rattle.msp_blocks.proofs.Bound.{best_by_block, value_is_best}
 use Rattle.msp_route.proofs.OneInstances.{IsOneInstance, IsOneInstance-from, takes_time}
 
 -- ---- before the first job is placed
@@ -49,7 +51,6 @@ IsFilling-none i one head jobs all rising =
       early = λ k d l. All-nil _;
       ordered = λ k d l. All-nil _;
       work = λ j l gone. absurd (gone (OnceBelow-contains once j l));
-      certified = λ j l gone. absurd (gone (OnceBelow-contains once j l));
       few = omega (arith, length-OnceBelow once, one.few);
       ends = All-nil _;
     }
@@ -155,16 +156,14 @@ module _ (i : Instance) (one : IsOneInstance i) (heads : List ℕ) (are : AreHea
       work = λ j n l h. works j l n h;
     }
 
-    each : (k : ℕ) → k < length i.jobs → (moment : ℕ) × (end_of s k ≤ℤ pos moment) × IsCertified i (λ j. get_or heads j 0) k moment
-    each k l =
-        let (end, ended, certified) = f.certified k l (nothing k) in
-        (end, last_end-least ps k (pos end) (omega (arith, ints)) (λ n d m same. by (get_or ps n d) (timed n d m) end (ended n d m same)), certified)
-      where
-        by : (p : Piece) → IsTimed p → (e : ℕ) → finish p ≤ e → p.to ≤ℤ pos e
-        by p t e l = omega (arith, ints, t.to, l)
-
-    is_best : is_greatest i.class.crit ≡ true → Best i s
-    is_best greatest = best_by_certificates i one.machine (takes_time i one) one.inner.conditions.ends (omega (arith, one.some)) greatest (λ j. get_or heads j 0) are.sound s refl is_feasible each
+    module _ (jobs : List ℕ) (cost : ℤ) (costs : CostAtMost i cost [] ps) where
+      pub each : (k : ℕ) → k < length i.jobs → (moment : ℕ) × (end_of s k ≤ℤ pos moment) × (cost_at i k moment ≤ℤ cost)
+      each k l =
+          let (end, ended, most) = costs k l (nothing k) in
+          (end, last_end-least ps k (pos end) (omega (arith, ints)) (λ n d m same. by (get_or ps n d) (timed n d m) end (ended n d m same)), most)
+        where
+          by : (p : Piece) → IsTimed p → (e : ℕ) → finish p ≤ e → p.to ≤ℤ pos e
+          by p t e l = omega (arith, ints, t.to, l)
 
   is_within : Within i s
   is_within = record {
@@ -190,17 +189,35 @@ module _ (i : Instance) (one : IsOneInstance i) (heads : List ℕ) (are : AreHea
       by : (p : Piece) → IsTimed p → finish p ≤ 802000000000 → p.to ≤ℤ pos 10000000000000000000000000
       by p t l = omega (arith, ints, t.to, l)
 
--- what is said of the answer's schedule
-pub record IsBlockSchedule (i : Instance) (s : Schedule) : Type 0 where
+-- no job costs more than so much before the first one is placed
+pub CostAtMost-none : (i : Instance) → IsOneInstance i → (head : ℕ → ℕ) (greatest : ℕ) (jobs : List ℕ) (most : ℤ) → IsFilling i head greatest jobs [] → CostAtMost i most jobs []
+CostAtMost-none i one head greatest jobs most f j l gone =
+    let none : 0 ≡ time_at i j = f.work j l gone in
+    absurd (omega (arith, none, takes_time i one j l))
+
+pub CostAtMost-more : (i : Instance) (less more : ℤ) (left : List ℕ) (ps : List Piece) → less ≤ℤ more → CostAtMost i less left ps → CostAtMost i more left ps
+CostAtMost-more i less more left ps h c j l gone = let (end, ended, most) = c j l gone in (end, ended, ≤ℤ_trans most h)
+
+-- what is said of the answer's schedule, and of the value of its greatest block
+pub record IsBlockSchedule (i : Instance) (s : Schedule) (cost : ℤ) : Type 0 where
   pub best : Best i s
   pub within : Within i s
   pub answer : IsAnswer i s
+  pub value : IsBestCost i cost
 
 pub IsBlockSchedule-made : (i : Instance) → i.class.env ≡ One → i.class.crit ≡ Fmax → Inner i → (i.class.cut ≡ true) ⊎ (i.class.times ≡ UnitTimes) → (heads : List ℕ) → AreHeads i heads → (ps : List Piece) → IsFilling i (λ j. get_or heads j 0) greatest_end [] ps
-    → IsBlockSchedule i (record { unit = pos 1; pieces = ps })
-IsBlockSchedule-made i env crit inner whole heads are ps f =
+    → (jobs : List ℕ) (cost : ℤ) → IsBound i heads jobs cost → CostAtMost i cost [] ps → IsBlockSchedule i (record { unit = pos 1; pieces = ps }) cost
+IsBlockSchedule-made i env crit inner whole heads are ps f jobs cost bound costs =
     let one = IsOneInstance-from i env inner in
-    record { best = is_best i one heads are ps f whole (ap is_greatest crit); within = is_within i one heads are ps f; answer = is_answer i one heads are ps f }
+    let s : Schedule = record { unit = pos 1; pieces = ps } in
+    let feasible = is_feasible i one heads are ps f whole in
+    let some : 0 < length i.jobs = omega (arith, one.some) in
+    record {
+      best = best_by_block i env (ap is_greatest crit) inner heads jobs cost bound s refl feasible some (each i one heads are ps f whole jobs cost costs);
+      within = is_within i one heads are ps f;
+      answer = is_answer i one heads are ps f;
+      value = value_is_best i env (ap is_greatest crit) inner heads jobs cost bound s refl feasible some (each i one heads are ps f whole jobs cost costs);
+    }
 
 -- ---- as the code passes them
 pub filling_passed : (i : Instance) → i.class.env ≡ One → Inner i → (heads first second jobs : List ℕ) → AreHeads i heads → first ≡ heads → second ≡ heads → IsPermutation (range_with_len 0 (length first)) jobs
@@ -209,10 +226,7 @@ filling_passed i env inner heads first second jobs are same again all rising =
     let one = IsOneInstance-from i env inner in
     IsFilling-none i one (λ j. get_or second j 0) jobs (subst (λ n. IsPermutation (range_with_len 0 n) jobs) (ap length same ∙ are.each) all) (subst (λ hs. AllPairs (λ a b. get_or hs a 0 ≤ get_or hs b 0) jobs) (same ∙ sym again) rising)
 
-pub filling_end : (i : Instance) (head : ℕ → ℕ) (greatest : ℕ) (left : List ℕ) (ps : List Piece) → length left ≤ 0 → IsFilling i head greatest left ps → IsFilling i head greatest [] ps
-filling_end i head greatest [] ps l f = f
-filling_end i head greatest (j ∷ js) ps l f = absurd (omega (arith, l))
-
-pub schedule_passed : (i : Instance) → i.class.env ≡ One → i.class.crit ≡ Fmax → Inner i → (i.class.cut ≡ true) ⊎ (i.class.times ≡ UnitTimes) → (heads second : List ℕ) → AreHeads i heads → second ≡ heads → (ps : List Piece) → IsFilling i (λ j. get_or second j 0) greatest_end [] ps
-    → IsBlockSchedule i (record { unit = pos 1; pieces = ps })
-schedule_passed i env crit inner whole heads second are same ps f = IsBlockSchedule-made i env crit inner whole second (subst (AreHeads i) (sym same) are) ps f
+pub some_passed : (i : Instance) → i.class.env ≡ One → Inner i → (heads first jobs : List ℕ) → AreHeads i heads → first ≡ heads → IsPermutation (range_with_len 0 (length first)) jobs → 0 < length jobs
+some_passed i env inner heads first jobs are same all =
+    let one = IsOneInstance-from i env inner in
+    omega (arith, one.some, length-OnceBelow (OnceBelow-from_permutation (subst (λ n. IsPermutation (range_with_len 0 n) jobs) (ap length same ∙ are.each) all)))

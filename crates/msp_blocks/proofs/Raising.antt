@@ -1,16 +1,17 @@
 -- The heads of the jobs, from the first of a forward order to the last.
-use Rattle.std.proofs.Common.{◌≡◌, ◌≢◌, ℕ, ◌+◌, ◌*◌, ◌<◌, ◌≤◌, inl, inr, max, List, [], ◌∷◌, ◌++◌, length, get_or, set, take, All, AllPairs, Contains, refl, sym, ap, subst, ◌∙◌, arith}
-use Rattle.std.proofs.lemmas.Bool.{cases_lt}
-use Rattle.std.proofs.lemmas.List.{get_or_default, get_or_past, get_or-set_same, get_or-set_other, take_more, length-set}
-use Rattle.std.proofs.lemmas.List.Elements.{All-push, All-set, All-contains, All-weaker, Contains-append_left, Contains-push}
-use Rattle.std.proofs.lemmas.Option.{get_or_from_slice_get, slice_get_within}
-use Rattle.msp_class.proofs.Sums.{OnceBelow-distinct}
+use Rattle.std.proofs.Common.{◌≡◌, ◌≢◌, ℕ, ◌+◌, ◌*◌, ◌<◌, ◌≤◌, inl, inr, max, List, [], ◌∷◌, ◌++◌, length, get_or, set, take, filter, All, Contains, IsPermutation, refl, sym, ap, subst, ◌∙◌, arith}
+use Rattle.std.specs.Prelude.{◌==◌}
+use Rattle.std.proofs.lemmas.Bool.{cases_lt, eqb-true, eq-eqb}
+use Rattle.std.proofs.lemmas.List.{get_or_past, get_or-set_same, take_more, length-set}
+use Rattle.std.proofs.lemmas.List.Elements.{All-push, All-set, All-contains, All-contains_itself, All-filter, All-weaker, Contains-get_or, filter_passes, Contains-append_left, Contains-push}
+use Rattle.std.proofs.lemmas.List.Sorted.{All-permutation, Contains-permutation}
+use Rattle.msp_class.proofs.Sums.{Contains-filter}
 use Rattle.msp_instance.specs.declared.Arc.{Arc}
 use Rattle.msp_instance.specs.declared.Instance.{Instance}
 use Rattle.msp_instance.specs.Instance.{job_at}
 use Rattle.msp_instance.specs.Conditions.{IsSequence, GoesForward}
-use Rattle.msp_instance.proofs.CycleLemmas.{OnceBelow-from_sequence}
 use Rattle.msp_schedule.specs.Rows.{time_at}
+use Rattle.msp_schedule.proofs.lists.ForwardOrders.{at_inside, each_at, set_elsewhere, comes_from}
 use Rattle.msp_blocks.specs.Heads.{IsRaised, AreHeads}
 use Rattle.msp_route.proofs.OneInstances.{IsOneInstance, is_short, is_early}
 
@@ -21,13 +22,6 @@ IsRaised-none i heads job head e = record { release = omega (arith, e); above = 
 module _ (i : Instance) (arcs : List Arc) (heads : ℕ → ℕ) (job : ℕ) (k : ℕ) (a : Arc) (inside : k < length arcs) (at : a ≡ get_or arcs k a) where
   same : take (k + 1) arcs ≡ take k arcs ++ a ∷ []
   same = take_more arcs k a inside ∙ ap (λ x. take k arcs ++ x ∷ []) (sym at)
-
-  pub IsRaised-skip : (now : ℕ) → a.after ≢ job → IsRaised i (take k arcs) heads job now → IsRaised i (take (k + 1) arcs) heads job now
-  IsRaised-skip now other h = subst (λ l. IsRaised i l heads job now) (sym same) (record {
-    release = h.release;
-    above = All-push (λ b. b.after ≡ job → heads b.before + time_at i b.before ≤ now) (take k arcs) a h.above (λ e. absurd (other e));
-    reached = elim h.reached [ inl z ↦ inl z | inr (b, c, e, r) ↦ inr (b, Contains-append_left (take k arcs) (a ∷ []) b c, e, r) ];
-  })
 
   pub IsRaised-take : (old end now : ℕ) → a.after ≡ job → end ≡ heads a.before + time_at i a.before → now ≡ max old end → IsRaised i (take k arcs) heads job old → IsRaised i (take (k + 1) arcs) heads job now
   IsRaised-take old end now here is e h = subst (λ l. IsRaised i l heads job now) (sym same) (record {
@@ -40,6 +34,26 @@ module _ (i : Instance) (arcs : List Arc) (heads : ℕ → ℕ) (job : ℕ) (k :
       | inr less ↦ elim h.reached [ inl z ↦ inl (omega (arith, e, z, less)) | inr (b, c, f, r) ↦ inr (b, Contains-append_left (take k arcs) (a ∷ []) b c, f, omega (arith, e, r, less)) ]
     ];
   })
+
+-- the arcs that enter the job are all that count
+pub IsRaised-whole : (i : Instance) (sorted : List Arc) → IsPermutation i.arcs sorted → (heads : ℕ → ℕ) (job head : ℕ) → IsRaised i (filter (λ a. a.after == job) sorted) heads job head → IsRaised i i.arcs heads job head
+IsRaised-whole i sorted same heads job head h = record {
+  release = h.release;
+  above = λ k d l e. All-contains (λ a. a.after ≡ job → heads a.before + time_at i a.before ≤ head) (filter (λ a. a.after == job) sorted) (get_or i.arcs k d) h.above
+      (Contains-filter (λ a. a.after == job) sorted (get_or i.arcs k d) (Contains-permutation i.arcs sorted (get_or i.arcs k d) same (Contains-get_or i.arcs k d l)) (eq-eqb _ _ e)) e;
+  reached = elim h.reached [
+    | inl z ↦ inl z
+    | inr (a, c, e, r) ↦ inr (a, All-contains (Contains i.arcs) (filter (λ a. a.after == job) sorted) a (All-filter (λ a. a.after == job) (Contains i.arcs) sorted (All-permutation (Contains i.arcs) i.arcs sorted same (All-contains_itself i.arcs))) c, e, r)
+  ];
+}
+
+-- they begin at jobs of the instance
+pub entering_ends : (i : Instance) (sorted : List Arc) → IsPermutation i.arcs sorted → All (λ a. (a.before < length i.jobs) × (a.after < length i.jobs)) i.arcs → (job : ℕ) (entering : List Arc) → entering ≡ filter (λ a. a.after == job) sorted
+    → All (λ a. (a.after ≡ job) × (a.before < length i.jobs)) entering
+entering_ends i sorted same ends job entering e = subst (All (λ a. (a.after ≡ job) × (a.before < length i.jobs))) (sym e) (λ k d l. (
+  eqb-true _ _ (filter_passes (λ a. a.after == job) sorted k d l),
+  (All-filter (λ a. a.after == job) (λ a. (a.before < length i.jobs) × (a.after < length i.jobs)) sorted (All-permutation (λ a. (a.before < length i.jobs) × (a.after < length i.jobs)) i.arcs sorted same ends) k d l).0,
+))
 
 -- it reads the heads of the jobs alone from which arcs lead to it
 pub IsRaised-same : (i : Instance) (arcs : List Arc) (old new : ℕ → ℕ) (job head : ℕ) → All (λ a. a.after ≡ job → new a.before ≡ old a.before) arcs → IsRaised i arcs old job head → IsRaised i arcs new job head
@@ -69,30 +83,24 @@ AreHeads-end i one order heads place all ends s h = record {
 }
   where
     at : (j : ℕ) → j < length i.jobs → IsRaised i i.arcs (λ j. get_or heads j 0) j (get_or heads j 0)
-    at j b = let (k, l, is) = s.each j b in subst (λ x. IsRaised i i.arcs (λ j. get_or heads j 0) x (get_or heads x 0)) (get_or_default order k 0 j l ∙ is) (h.done k (omega (arith, l, all)))
+    at = each_at i order s (λ x. IsRaised i i.arcs (λ j. get_or heads j 0) x (get_or heads x 0)) (λ k l. h.done k (omega (arith, l, all)))
 
 module _ (i : Instance) (one : IsOneInstance i) (order : List ℕ) (s : IsSequence i order) (forward : All (GoesForward order) i.arcs) (heads : List ℕ) (place job value : ℕ) (some : place < length order) (at : job ≡ get_or order place 0)
     (h : IsHeaded i order place heads) (raised : IsRaised i i.arcs (λ k. get_or heads k 0) job value) where
-  apart : AllPairs (λ x y. x ≢ y) order
-  apart = OnceBelow-distinct (OnceBelow-from_sequence i order s)
-
   wide : job < length i.jobs
-  wide = subst (λ x. x < length i.jobs) (sym at) ((OnceBelow-from_sequence i order s).within place 0 some)
+  wide = subst (λ x. x < length i.jobs) (sym at) (at_inside i order s place some)
 
   abbrev new : List ℕ
   new = set heads job value
 
+  elsewhere : (k : ℕ) → k < length order → k ≢ place → get_or new (get_or order k 0) 0 ≡ get_or heads (get_or order k 0) 0
+  elsewhere k l other = subst (λ x. get_or (set heads x value) (get_or order k 0) 0 ≡ get_or heads (get_or order k 0) 0) (sym at) (set_elsewhere i order s heads place k value some l other)
+
   -- no arc leads from the job to one of those up to its place
   agree : (k : ℕ) → k ≤ place → All (λ a. a.after ≡ get_or order k 0 → get_or new a.before 0 ≡ get_or heads a.before 0) i.arcs
   agree k up n d l e =
-      let a = get_or i.arcs n d in
-      let (p, q, less, x, y) = forward n d l in
-      let before : get_or order p 0 ≡ a.before = get_or_from_slice_get order p a.before 0 x in
-      let after : get_or order q 0 ≡ a.after = get_or_from_slice_get order q a.after 0 y in
-      let near : q < length order = slice_get_within order q a.after y in
-      let not_past : q ≤ k = elim (cases_lt k q) [ inl past ↦ absurd (apart k q 0 past near (sym e ∙ sym after)) | inr up ↦ omega (arith, up) ] in
-      let other : a.before ≢ job = λ g. apart p place 0 (omega (arith, less, not_past, up)) some (before ∙ g ∙ at) in
-      get_or-set_other heads job a.before value 0 other
+      let (p, less, before) = comes_from i order s forward k (omega (arith, up, some)) n d l e in
+      subst (λ x. get_or new x 0 ≡ get_or heads x 0) before (elsewhere p (omega (arith, less, up, some)) (λ is. omega (arith, is, less, up)))
 
   here : get_or new job 0 ≡ value
   here = get_or-set_same heads job value 0 (omega (arith, wide, h.each))
@@ -118,8 +126,7 @@ module _ (i : Instance) (one : IsOneInstance i) (order : List ℕ) (s : IsSequen
       done : (k : ℕ) → k < place + 1 → IsRaised i i.arcs (λ j. get_or new j 0) (get_or order k 0) (get_or new (get_or order k 0) 0)
       done k l = elim (cases_lt k place) [
         | inl before ↦
-            let other : get_or order k 0 ≢ job = λ e. apart k place 0 before some (e ∙ at) in
-            subst (IsRaised i i.arcs (λ j. get_or new j 0) (get_or order k 0)) (sym (get_or-set_other heads job (get_or order k 0) value 0 other))
+            subst (IsRaised i i.arcs (λ j. get_or new j 0) (get_or order k 0)) (sym (elsewhere k (omega (arith, before, some)) (λ is. omega (arith, is, before))))
             (IsRaised-same i i.arcs (λ j. get_or heads j 0) (λ j. get_or new j 0) (get_or order k 0) (get_or heads (get_or order k 0) 0) (agree k (omega (arith, before))) (h.done k before))
         | inr now ↦
             let is : k ≡ place = omega (arith, l, now) in
@@ -130,9 +137,10 @@ module _ (i : Instance) (one : IsOneInstance i) (order : List ℕ) (s : IsSequen
       small = All-set (λ h. h ≤ 1000000000 * (2 + (place + 1))) heads job value (omega (arith, value_small)) (λ k d l. omega (arith, h.small k d l))
 
 -- at the numbers as the code passes them
-pub raised_next : (i : Instance) → IsOneInstance i → (order : List ℕ) → IsSequence i order → All (GoesForward order) i.arcs → (heads : List ℕ) (place job value : ℕ) → place < length order → job ≡ get_or order place 0 → IsRaised i i.arcs (λ k. get_or heads k 0) job value
-    → IsHeaded i order place heads → IsHeaded i order (place + 1) (set heads job value)
-raised_next i one order s forward heads place job value some at raised h = IsHeaded-next i one order s forward heads place job value some at h raised
+pub raised_next : (i : Instance) → IsOneInstance i → (order : List ℕ) → IsSequence i order → All (GoesForward order) i.arcs → (heads : List ℕ) (place job value : ℕ) → place < length order → job ≡ get_or order place 0 → (sorted : List Arc) → IsPermutation i.arcs sorted → (entering : List Arc)
+    → entering ≡ filter (λ a. a.after == job) sorted → IsRaised i entering (λ k. get_or heads k 0) job value → IsHeaded i order place heads → IsHeaded i order (place + 1) (set heads job value)
+raised_next i one order s forward heads place job value some at sorted same entering e raised h =
+    IsHeaded-next i one order s forward heads place job value some at h (IsRaised-whole i sorted same (λ k. get_or heads k 0) job value (subst (λ l. IsRaised i l (λ k. get_or heads k 0) job value) e raised))
 
 pub job_inside : (i : Instance) (order : List ℕ) → IsSequence i order → (p job : ℕ) → p < length order → job ≡ get_or order p 0 → job < length i.jobs
-job_inside i order s p job l e = subst (λ x. x < length i.jobs) (sym e) ((OnceBelow-from_sequence i order s).within p 0 l)
+job_inside i order s p job l e = subst (λ x. x < length i.jobs) (sym e) (at_inside i order s p l)

@@ -1,5 +1,5 @@
 -- The steps of the loops, at the numbers as the code passes them.
-use Rattle.std.proofs.Common.{◌≡◌, ℕ, suc, ◌+◌, ◌<◌, ◌≤◌, max, List, ◌∷◌, ◌++◌, length, get_or, take, drop, All, AllPairs, sum_by, refl, sym, ap, ap₂, subst, ◌∙◌, arith, le_trans, append_assoc, inl, inr, OnOk, Ok, Err, Result}
+use Rattle.std.proofs.Common.{◌≡◌, ℕ, suc, ◌+◌, ◌<◌, ◌≤◌, max, List, ◌∷◌, ◌++◌, length, get_or, take, drop, All, AllPairs, sum_by, ℤ, refl, sym, ap, ap₂, subst, subst₂, ◌∙◌, arith, le_trans, append_assoc, inl, inr, OnOk, Ok, Err, Result}
 use Rattle.std.specs.List.{remove}
 use Rattle.std.proofs.lemmas.Bool.{cases_lt}
 use Rattle.std.proofs.lemmas.List.{take-take, drop_all, length-drop, get_or-drop, drop_more, take-append-drop, length-take, get_or-take, get_or_default}
@@ -7,13 +7,14 @@ use Rattle.std.proofs.lemmas.List.Edits.{remove-append_left}
 use Rattle.std.proofs.lemmas.List.Sums.{sum_by-cons, sum_by-append, sum_by_more}
 use Rattle.msp_instance.specs.declared.Instance.{Instance}
 use Rattle.msp_schedule.specs.declared.Piece.{Piece}
+use Rattle.msp_schedule.specs.Blocks.{cost_at}
 use Rattle.msp_schedule.specs.Rows.{time_at}
 use Rattle.msp_blocks.specs.Heads.{AreHeads}
-use Rattle.msp_blocks.specs.Filling.{done_by, gap, gaps, Follow, IsFirstBlock, IsFilling, greatest_end}
+use Rattle.msp_blocks.specs.Filling.{done_by, gap, gaps, Follow, IsFirstBlock, IsFilling, IsBound, CostAtMost, greatest_end}
 use Rattle.msp_route.specs.LastJob.{EndsAt}
 use Rattle.msp_route.proofs.OneInstances.{IsOneInstance, takes_time}
 use Rattle.msp_blocks.proofs.Idle.{done-after, done-mono, done-tight, Follow-append, Follow-from_near}
-use Rattle.msp_blocks.proofs.Fill.{IsFilling-next}
+use Rattle.msp_blocks.proofs.Fill.{IsOneMore, IsOneMore-made}
 
 -- ---- the first block
 module _ (head time : ℕ → ℕ) (jobs : List ℕ) where
@@ -150,10 +151,17 @@ module _ (i : Instance) (one : IsOneInstance i) (heads : List ℕ) (are : AreHea
               omega (arith, done-mono head time m (m + time job) Y (omega arith), done-tight head time (m + time job) Y f.1, end_is, ap (sum_by time) parts, sum_by-append time X (job ∷ Y), sum_by-cons time job Y)
 
       pub placed_next : (ps new : List Piece) (left_now : List ℕ) (moment : ℕ) → moment ≡ head (get_or first 0 0) + sum_by time X → EndsAt i end first job → left_now ≡ remove left place → new ≡ ps ++ gaps head time job moment Y end
-          → IsFilling i head greatest_end left ps → IsFilling i head greatest_end left_now new
+          → IsFilling i head greatest_end left ps → IsOneMore i head greatest_end heads left left_now ps new first (cost_at i job end)
       placed_next ps new left_now moment e last now put f =
-          subst (λ l. IsFilling i head greatest_end l new) (sym (now ∙ without)) (subst (IsFilling i head greatest_end (X ++ Y ++ C)) (sym (put ∙ ap (λ t. ps ++ gaps head time job t Y end) e))
-          (IsFilling-next i head greatest_end (takes_time i one) are.arcs X job Y C ps (subst (λ l. IsFilling i head greatest_end l ps) whole f) (head (get_or first 0 0)) end (ap (λ l. head (get_or l 0 0)) parts) tight (end_is ∙ ap (λ l. head (get_or first 0 0) + sum_by time l) parts) small after (subst (λ l. EndsAt i end l job) parts last)))
+          let left_is = now ∙ without in
+          let put_is = put ∙ ap (λ t. ps ++ gaps head time job t Y end) e in
+          let m = IsOneMore-made i head greatest_end (takes_time i one) are.arcs X job Y C ps (subst (λ l. IsFilling i head greatest_end l ps) whole f) (head (get_or first 0 0)) end (ap (λ l. head (get_or l 0 0)) parts) tight (end_is ∙ ap (λ l. head (get_or first 0 0) + sum_by time l) parts) small after
+          (subst (λ l. EndsAt i end l job) parts last) one.inner.conditions.ends heads are.each (λ j. refl) are.sound in
+          record {
+            filling = subst (λ l. IsFilling i head greatest_end l new) (sym left_is) (subst (IsFilling i head greatest_end (X ++ Y ++ C)) (sym put_is) m.filling);
+            bound = subst (λ l. IsBound i heads l (cost_at i job end)) (sym parts) m.bound;
+            costs = λ most h c. subst (λ l. CostAtMost i most l new) (sym left_is) (subst (CostAtMost i most (X ++ Y ++ C)) (sym put_is) (m.costs most h (subst (λ l. CostAtMost i most l ps) whole c)));
+          }
 
 -- at the numbers as the code passes them
 module _ (i : Instance) (one : IsOneInstance i) (heads : List ℕ) (are : AreHeads i heads) (left slice again : List ℕ) (count end : ℕ) (is : slice ≡ left) (is_again : again ≡ left)
@@ -187,8 +195,10 @@ module _ (i : Instance) (one : IsOneInstance i) (heads : List ℕ) (are : AreHea
   pub passed_room : done_by q (time_at i) (q (get_or (take count again) 0 0) + total) others ≤ end
   passed_room = subst (λ l. done_by q (time_at i) (q (get_or (take count again) 0 0) + total) l ≤ end) (sym rest_now) (has_room i one heads are left count end block_now later_now small f.sorted place inside_now (q (get_or (take count again) 0 0) + total) begin_is)
 
-  pub passed_filling : (job : ℕ) → job ≡ get_or (take count again) place 0 → EndsAt i end (take count again) (get_or (take count again) place 0) → (now : List ℕ) → now ≡ remove left place → (new : List Piece) → new ≡ ps ++ gaps q (time_at i) job (q (get_or (take count again) 0 0) + total) others end
-      → IsFilling i q greatest_end now new
-  passed_filling chosen at last now gone new put =
-      placed_next i one heads are left count end block_now later_now small f.sorted place inside_now ps new now (q (get_or (take count again) 0 0) + total) begin_is (subst (λ l. EndsAt i end l (get_or l place 0)) same last) gone
-      (put ∙ ap₂ (λ j l. ps ++ gaps q (time_at i) j (q (get_or (take count again) 0 0) + total) l end) (at ∙ ap (λ l. get_or l place 0) same) rest_now) f
+  pub passed_next : (job : ℕ) → job ≡ get_or (take count again) place 0 → EndsAt i end (take count again) (get_or (take count again) place 0) → (now : List ℕ) → now ≡ remove left place → (new : List Piece) → new ≡ ps ++ gaps q (time_at i) job (q (get_or (take count again) 0 0) + total) others end
+      → (bound : List ℕ) → bound ≡ take count again → (cost : ℤ) → cost ≡ cost_at i job end → IsOneMore i q greatest_end heads left now ps new bound cost
+  passed_next chosen at last now gone new put bound bound_is cost cost_is =
+      let job_is : chosen ≡ get_or jobs place 0 = at ∙ ap (λ l. get_or l place 0) same in
+      subst₂ (λ b x. IsOneMore i q greatest_end heads left now ps new b x) (sym (bound_is ∙ same)) (sym (cost_is ∙ ap (λ j. cost_at i j end) job_is))
+      (placed_next i one heads are left count end block_now later_now small f.sorted place inside_now ps new now (q (get_or (take count again) 0 0) + total) begin_is (subst (λ l. EndsAt i end l (get_or l place 0)) same last) gone
+      (put ∙ ap₂ (λ j l. ps ++ gaps q (time_at i) j (q (get_or (take count again) 0 0) + total) l end) job_is rest_now) f)

@@ -1,9 +1,9 @@
 -- The earliest schedule of jobs that wait, and what is placed of the others. No public contract cites this file.
-use Rattle.std.specs.Prelude.{◌≡◌, ◌≢◌, ℕ, ◌+◌, ◌*◌, ◌<◌, ◌≤◌, max, cond, ltb, List, [], ◌∷◌, ◌++◌, length, take, slice_index_or, All, AllPairs, Contains, sum_by, ⊤}
+use Rattle.std.specs.Prelude.{◌≡◌, ◌≢◌, ℕ, ◌+◌, ◌*◌, ◌<◌, ◌≤◌, max, cond, ltb, List, [], ◌∷◌, ◌++◌, length, take, slice_index_or, ℤ, ◌≤ℤ◌, All, AllPairs, Contains, sum_by, ⊤}
 use Rattle.msp_instance.specs.declared.Instance.{Instance}
 use Rattle.msp_instance.specs.declared.ranges.TheConstants.{GREATEST, MOST_JOBS}
 use Rattle.msp_schedule.specs.declared.Piece.{Piece}
-use Rattle.msp_schedule.specs.Blocks.{IsCertified}
+use Rattle.msp_schedule.specs.Blocks.{IsBlock, IsBlockValue, cost_at}
 use Rattle.msp_schedule.specs.Intervals.{IsApart, work_of}
 use Rattle.msp_schedule.specs.Piece.{job_of, start, finish, IsTimed}
 use Rattle.msp_schedule.specs.Rows.{piece, time_at}
@@ -64,9 +64,17 @@ pub record IsFilling (i : Instance) (head : ℕ → ℕ) (greatest : ℕ) (left 
   -- along arcs
   pub early : All (λ a. All (λ p. p.job ≡ a.before → Contains left a.after → finish p ≤ head a.after) pieces) i.arcs
   pub ordered : All (λ a. All (λ p. All (λ q. p.job ≡ a.before → q.job ≡ a.after → finish p ≤ start q) pieces) pieces) i.arcs
-  -- the jobs that are placed
+  -- the jobs that are placed have their time
   pub work : (j : ℕ) → j < length i.jobs → ¬ Contains left j → work_of job_of start finish pieces j ≡ time_at i j
-  pub certified : (j : ℕ) → j < length i.jobs → ¬ Contains left j → (end : ℕ) × All (λ p. p.job ≡ j → finish p ≤ end) pieces × IsCertified i head j end
   -- how many they are, and how late
   pub few : length pieces + 400 * length left ≤ 160000
   pub ends : All (λ p. finish p ≤ greatest) pieces
+
+-- The jobs are a block of that value.
+pub record IsBound (i : Instance) (heads jobs : List ℕ) (cost : ℤ) : Type 0 where
+  pub block : IsBlock i heads jobs
+  pub value : IsBlockValue i heads jobs cost
+
+-- None of the jobs that are placed costs more.
+abbrev pub CostAtMost : Instance → ℤ → List ℕ → List Piece → Type 0
+CostAtMost i most left pieces = (j : ℕ) → j < length i.jobs → ¬ Contains left j → (end : ℕ) × All (λ p. p.job ≡ j → finish p ≤ end) pieces × (cost_at i j end ≤ℤ most)

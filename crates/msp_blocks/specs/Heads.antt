@@ -1,10 +1,10 @@
 -- Heads raised along the arcs. No public contract cites this file.
-use Rattle.std.specs.Prelude.{◌≡◌, ℕ, ◌+◌, ◌*◌, ◌≤◌, ◌<◌, ◌⊎◌, List, length, All, Contains, slice_index_or}
+use Rattle.std.specs.Prelude.{◌≡◌, ℕ, ◌+◌, ◌≤◌, ◌<◌, ◌⊎◌, List, length, All, Contains, slice_index_or}
 use Rattle.msp_instance.specs.declared.Arc.{Arc}
 use Rattle.msp_instance.specs.declared.Instance.{Instance}
-use Rattle.msp_instance.specs.declared.ranges.TheConstants.{GREATEST, MOST_JOBS}
 use Rattle.msp_instance.specs.Instance.{job_at, need_at}
 use Rattle.msp_schedule.specs.Blocks.{IsSound}
+use Rattle.msp_blocks.specs.Blocks.{greatest_head}
 
 -- The head of a job, by the heads of the jobs from which one of the arcs leads to it: the greatest of its release date and of what these
 -- take from their heads on.
@@ -12,10 +12,6 @@ pub record IsRaised (i : Instance) (arcs : List Arc) (heads : ℕ → ℕ) (job 
   pub release : (job_at i job).release ≤ head
   pub above : All (λ a. a.after ≡ job → heads a.before + (need_at i a.before 0).time ≤ head) arcs
   pub reached : (head ≡ (job_at i job).release) ⊎ ((a : Arc) × Contains arcs a × (a.after ≡ job) × (head ≡ heads a.before + (need_at i a.before 0).time))
-
--- No head is later than this.
-abbrev pub greatest_head : ℕ
-greatest_head = GREATEST * (2 + MOST_JOBS)
 
 -- A head for each job: not before its release date, nor before a job from which an arc leads to it has had its time from its own head on,
 -- and no later than one of these.

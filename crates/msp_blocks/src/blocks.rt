@@ -1,19 +1,22 @@
 // The solvers by blocks.
-ghost use Rattle.std.specs.Prelude.{◌≡◌, ◌⊎◌, true, pos, IfOk, ⊤};
+ghost use Rattle.std.specs.Prelude.{◌≡◌, ◌⊎◌, ◌≤◌, true, [], slice_index_or, ℤ, pos, All, IfOk, ⊤};
 ghost use Rattle.msp_class.specs.declared.class.Env.TheVariants.{One};
 ghost use Rattle.msp_class.specs.declared.class.Times.TheVariants.{Unit};
 ghost use Rattle.msp_class.specs.declared.class.Crit.TheVariants.{Fmax};
 ghost use Rattle.msp_instance.specs.Conditions.{Inner};
+ghost use Rattle.msp_schedule.specs.Blocks.{IsBlock, IsBlockValue};
 ghost use Rattle.msp_schedule.specs.Cost.{IsBest};
 ghost use Rattle.msp_route.specs.Bounds.{IsAnswer};
-ghost use Rattle.msp_blocks.specs.Blocks.{blocks_class, unit_blocks_class};
+ghost use Rattle.msp_blocks.specs.Blocks.{blocks_class, unit_blocks_class, greatest_head, IsBestCost};
+ghost use Rattle.msp_blocks.specs.Heads.{AreHeads};
+ghost use Rattle.msp_blocks.specs.Filling.{IsFilling, IsBound, CostAtMost, greatest_end};
 
-use crate::filling::filled;
+use crate::filling::{Bound, Filled, place_all};
 use crate::heads::heads_of;
-use msp_class::{Class, Crit, Env, NoMemory, Order, Times};
+use msp_class::{Class, Crit, Env, List, NoMemory, Order, Times};
 use msp_instance::Instance;
 use msp_route::{Solver, jobs_by_key};
-use msp_schedule::{Schedule, Solution};
+use msp_schedule::{Piece, Schedule, Solution};
 use std::alloc::Global;
 
 /// The class that is solved with preemption: `1|pmtn,prec,r|fmax`.
@@ -36,6 +39,40 @@ const UNIT_BLOCKS_CLASS: Class = Class {
     crit: Crit::Fmax,
 };
 
+/// The evidence that no schedule costs less than the best one: a head for each job, before which it cannot begin, and the jobs of a block.
+#[derive(Drop)]
+pub struct BindingBlock {
+    pub head: List<u64>,
+    pub jobs: List<u32>,
+}
+
+/// The heads of the jobs, the pieces, and the block whose last job costs most.
+#[derive(Drop)]
+struct Placed {
+    heads: Vec<u64>,
+    pieces: List<Piece>,
+    bound: Bound,
+}
+
+/// Places all jobs by rising head.
+fn by_blocks(alloc: Global, inst: &Instance) -> Result<Placed, NoMemory>
+    requires inner { Inner inst.now }
+    requires machine { inst.now.class.env ≡ One }
+    ensures heads { IfOk result (λ p. AreHeads inst.now p.heads.items) }
+    ensures filling { IfOk result (λ p. IsFilling inst.now (λ j. slice_index_or p.heads.items j 0) greatest_end [] p.pieces) }
+    ensures bound { IfOk result (λ p. IsBound inst.now p.heads.items p.bound.jobs p.bound.cost) }
+    ensures costs { IfOk result (λ p. CostAtMost inst.now p.bound.cost [] p.pieces) }
+{
+    let heads = heads_of(alloc, inst)?;
+    let jobs = jobs_by_key(alloc, heads.as_slice())?;
+    let Filled { pieces, bound } = place_all(alloc, inst, heads.as_slice(), jobs)?;
+    Ok(Placed {
+        heads,
+        pieces,
+        bound,
+    })
+}
+
 /// A best schedule of the instance by blocks (Baker, Lawler, Lenstra and Rinnooy Kan 1983). Release dates are raised along the arcs, and
 /// the earliest schedule is cut into blocks, in which the machine is never idle. In a block the job that costs least at its end, of those
 /// that no other one of it must follow, takes what the others leave when they are run without it. Where all times are 1, no job is cut.
@@ -48,12 +85,25 @@ fn schedule_by_blocks(alloc: Global, inst: &Instance) -> Result<Solution, NoMemo
     ensures bounds { IfOk result (λ s. IsAnswer inst.now s.schedule) }
     ensures unit { IfOk result (λ s. s.schedule.unit ≡ pos 1) }
 {
-    let heads = heads_of(alloc, inst)?;
-    let jobs = jobs_by_key(alloc, heads.as_slice())?;
-    let pieces = filled(alloc, inst, heads.as_slice(), jobs)?;
+    let Placed { pieces, .. } = by_blocks(alloc, inst)?;
     let schedule = Schedule { unit: 1, pieces };
     let cost = msp_schedule::cost(inst, &schedule);
     Ok(Solution { schedule, cost })
+}
+
+/// A block whose value is the best cost: of those whose last job is placed the one of greatest value.
+pub fn binding(alloc: Global, inst: &Instance) -> Result<BindingBlock, NoMemory>
+    requires inner { Inner inst.now }
+    requires class { inst.now.class ≡ blocks_class }
+    ensures block { IfOk result (λ b. IsBlock inst.now b.head b.jobs) }
+    ensures value { IfOk result (λ b. (value : ℤ) × IsBlockValue inst.now b.head b.jobs value × IsBestCost inst.now value) }
+    ensures small { IfOk result (λ b. All (λ h. h ≤ greatest_head) b.head) }
+{
+    let Placed { heads, bound, .. } = by_blocks(alloc, inst)?;
+    Ok(BindingBlock {
+        head: List::from_vec(heads),
+        jobs: bound.jobs,
+    })
 }
 
 /// Finds a schedule of least greatest cost on one machine with precedence, release dates and preemption, by blocks (Baker, Lawler,

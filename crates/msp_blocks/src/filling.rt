@@ -1,17 +1,18 @@
 // The schedule by blocks, job by job: the one that ends last in the first block takes what the others of the block leave.
-ghost use Rattle.std.specs.Prelude.{◌≡◌, ◌+◌, ◌<◌, ◌≤◌, ◌++◌, [], true, false, length, slice_index_or, All, IfOk, OnOk};
+ghost use Rattle.std.specs.Prelude.{◌≡◌, ◌⊎◌, ◌+◌, ◌<◌, ◌≤◌, ◌++◌, [], ℤ, ◌≤ℤ◌, true, false, length, slice_index_or, All, IfOk, OnOk};
 ghost use Rattle.msp_class.specs.declared.class.Env.TheVariants.{One};
 ghost use Rattle.msp_instance.specs.declared.ranges.TheConstants.{MOST_JOBS};
 ghost use Rattle.msp_instance.specs.Conditions.{Inner};
+ghost use Rattle.msp_schedule.specs.Blocks.{cost_at};
 ghost use Rattle.msp_schedule.specs.Rows.{time_at};
 ghost use Rattle.msp_blocks.specs.Heads.{AreHeads};
-ghost use Rattle.msp_blocks.specs.Filling.{done_by, gap, gaps, IsFirstBlock, IsFilling, greatest_end};
+ghost use Rattle.msp_blocks.specs.Filling.{done_by, gap, gaps, IsFirstBlock, IsFilling, IsBound, CostAtMost, greatest_end};
 
 use crate::heads::time_of;
 use msp_class::{List, NoMemory};
 use msp_instance::Instance;
 use msp_route::{last_place, total_time};
-use msp_schedule::Piece;
+use msp_schedule::{Piece, job_cost_at};
 use std::alloc::Global;
 
 /// The first jobs, which run without idle time up to an end.
@@ -51,6 +52,48 @@ fn first_block(inst: &Instance, heads: &[u64], left: &[u32]) -> Block
     Block { count, end }
 }
 
+/// A block whose last job costs so much at its end, as it does in any schedule at least.
+#[derive(Drop)]
+pub struct Bound {
+    pub jobs: List<u32>,
+    pub cost: i128,
+}
+
+/// The pieces of all jobs, and the block whose last job costs most.
+#[derive(Drop)]
+pub struct Filled {
+    pub pieces: List<Piece>,
+    pub bound: Bound,
+}
+
+/// The block with what its last job costs at its end.
+fn bound_of(
+    alloc: Global,
+    inst: &Instance,
+    jobs: &[u32],
+    last: u32,
+    end: u64,
+) -> Result<Bound, NoMemory>
+    requires inner { Inner inst.now }
+    requires inside { last < length inst.now.jobs }
+    ensures jobs { IfOk result (λ b. b.jobs ≡ jobs.now) }
+    ensures cost { IfOk result (λ b. b.cost ≡ cost_at inst.now last end) }
+{
+    let job = &inst.jobs.as_slice()[last as usize];
+    let cost = job_cost_at(inst.class.crit, 1, job, i128::from(end));
+    let jobs = List::from_vec(jobs.iter().copied().collect(alloc)?);
+    Ok(Bound { jobs, cost })
+}
+
+/// The one of two blocks whose last job costs more.
+fn greater(a: Bound, b: Bound) -> Bound
+    ensures either { (result ≡ a) ⊎ (result ≡ b) }
+    ensures first { a.cost ≤ℤ result.cost }
+    ensures second { b.cost ≤ℤ result.cost }
+{
+    if a.cost < b.cost { b } else { a }
+}
+
 /// Puts a piece of the job between two moments, where there is time.
 fn put_gap(pieces: &mut List<Piece>, job: u32, from: u64, to: u64) -> Result<(), NoMemory>
     ensures { OnOk result (pieces.new ≡ pieces.old ++ gap job from to) }
@@ -88,9 +131,7 @@ fn fill(
     let mut moment = begin;
     for place in 0..others.len() {
         let head = heads[others[place] as usize];
-        if put_gap(pieces, job, moment, head).is_err() {
-            return Err(NoMemory);
-        }
+        put_gap(pieces, job, moment, head)?;
         moment = moment.max(head) + time_of(inst, others[place]);
     }
     put_gap(pieces, job, moment, end)
@@ -98,11 +139,12 @@ fn fill(
 
 /// Places one job more: of the first block the one that ends last. The others of the block go before it where they can.
 fn place_next(
+    alloc: Global,
     inst: &Instance,
     heads: &[u64],
     left: &mut Vec<u32>,
     pieces: &mut List<Piece>,
-) -> Result<(), NoMemory>
+) -> Result<Bound, NoMemory>
     requires inner { Inner inst.now }
     requires machine { inst.now.class.env ≡ One }
     requires heads { AreHeads inst.now heads.now }
@@ -110,6 +152,8 @@ fn place_next(
     requires filling { IsFilling inst.now (λ j. slice_index_or heads.now j 0) greatest_end left.old.items pieces.old }
     ensures shorter { OnOk result (length left.new.items + 1 ≡ length left.old.items) }
     ensures filling { OnOk result (IsFilling inst.now (λ j. slice_index_or heads.now j 0) greatest_end left.new.items pieces.new) }
+    ensures bound { IfOk result (λ b. IsBound inst.now heads.now b.jobs b.cost) }
+    ensures costs { IfOk result (λ b. (most : ℤ) → b.cost ≤ℤ most → CostAtMost inst.now most left.old.items pieces.old → CostAtMost inst.now most left.new.items pieces.new) }
 {
     let block = first_block(inst, heads, left.as_slice());
     let jobs = &left.as_slice()[..block.count];
@@ -117,32 +161,34 @@ fn place_next(
     let job = jobs[place];
     let begin = heads[jobs[0] as usize] + total_time(inst, &jobs[..place]);
     let others = &jobs[place + 1..];
-    if fill(pieces, inst, heads, job, begin, others, block.end).is_err() {
-        return Err(NoMemory);
-    }
+    fill(pieces, inst, heads, job, begin, others, block.end)?;
+    let bound = bound_of(alloc, inst, jobs, job, block.end)?;
     left.remove(place);
-    Ok(())
+    Ok(bound)
 }
 
-/// The pieces of all jobs, which are given by rising head.
-pub fn filled(
+/// The pieces of all jobs, which are given by rising head, and the block whose last job costs most.
+pub fn place_all(
     alloc: Global,
     inst: &Instance,
     heads: &[u64],
     jobs: Vec<u32>,
-) -> Result<List<Piece>, NoMemory>
+) -> Result<Filled, NoMemory>
     requires inner { Inner inst.now }
     requires machine { inst.now.class.env ≡ One }
     requires heads { AreHeads inst.now heads.now }
+    requires some { 0 < length jobs.items }
     requires filling { IsFilling inst.now (λ j. slice_index_or heads.now j 0) greatest_end jobs.items [] }
-    ensures { IfOk result (IsFilling inst.now (λ j. slice_index_or heads.now j 0) greatest_end []) }
+    ensures filling { IfOk result (λ f. IsFilling inst.now (λ j. slice_index_or heads.now j 0) greatest_end [] f.pieces) }
+    ensures bound { IfOk result (λ f. IsBound inst.now heads.now f.bound.jobs f.bound.cost) }
+    ensures costs { IfOk result (λ f. CostAtMost inst.now f.bound.cost [] f.pieces) }
 {
     let mut left = jobs;
     let mut pieces = List::new(alloc);
-    while left.len() > 0 {
-        if place_next(inst, heads, &mut left, &mut pieces).is_err() {
-            return Err(NoMemory);
-        }
+    let mut bound = place_next(alloc, inst, heads, &mut left, &mut pieces)?;
+    'places: while left.len() > 0 {
+        let next = place_next(alloc, inst, heads, &mut left, &mut pieces)?;
+        bound = greater(bound, next);
     }
-    Ok(pieces)
+    Ok(Filled { pieces, bound })
 }

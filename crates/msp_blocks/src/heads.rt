@@ -1,5 +1,6 @@
 // Heads: the moments before which jobs cannot begin, raised along the arcs.
-ghost use Rattle.std.specs.Prelude.{◌≡◌, ◌+◌, ◌*◌, ◌<◌, ◌≤◌, length, slice_index_or, All, IfOk};
+ghost use Rattle.std.specs.Prelude.{◌≡◌, ◌==◌, ◌+◌, ◌*◌, ◌<◌, ◌≤◌, length, filter, slice_index_or, All, IfOk};
+ghost use Rattle.std.specs.List.Sorted.{IsPermutation, IsNonDecreasingBy};
 ghost use Rattle.msp_class.specs.declared.class.Env.TheVariants.{One};
 ghost use Rattle.msp_instance.specs.declared.ranges.TheConstants.{GREATEST, MOST_JOBS};
 ghost use Rattle.msp_instance.specs.Instance.{job_at};
@@ -8,7 +9,7 @@ ghost use Rattle.msp_schedule.specs.Rows.{time_at};
 ghost use Rattle.msp_blocks.specs.Heads.{IsRaised, AreHeads};
 
 use msp_class::NoMemory;
-use msp_instance::{Instance, OrderFault, forward};
+use msp_instance::{Arc, Instance, OrderFault, forward};
 use std::alloc::Global;
 
 /// The time of a job's one operation.
@@ -45,29 +46,50 @@ fn end_from_head(inst: &Instance, heads: &[u64], job: u32) -> u64
     heads[job as usize] + time_of(inst, job)
 }
 
-/// The head of a job, by those of the jobs from which arcs lead to it.
-fn raised(inst: &Instance, heads: &[u64], job: u32) -> u64
+/// The arcs by their jobs after.
+fn sorted_arcs(alloc: Global, arcs: &[Arc]) -> Result<Vec<Arc>, NoMemory>
+    ensures same { IfOk result (λ sorted. IsPermutation arcs.now sorted.items) }
+    ensures sorted { IfOk result (λ sorted. IsNonDecreasingBy (λ a. a.after) sorted.items) }
+{
+    let mut sorted = Vec::from_slice(alloc, arcs)?;
+    sorted.sort_unstable_by_key(|a| a.after);
+    Ok(sorted)
+}
+
+/// The arcs that enter a job.
+fn entering_of(sorted: &[Arc], job: u32) -> &[Arc]
+    requires { IsNonDecreasingBy (λ a. a.after) sorted.now }
+    ensures { result.now ≡ filter (λ a. a.after == job) sorted.now }
+{
+    let first = sorted.partition_point(|a| a.after < job);
+    let rest = &sorted[first..];
+    let end = rest.partition_point(|a| a.after <= job);
+    &rest[..end]
+}
+
+/// The head of a job, by those of the jobs from which arcs enter it.
+fn raised(inst: &Instance, entering: &[Arc], heads: &[u64], job: u32) -> u64
     requires inner { Inner inst.now }
     requires machine { inst.now.class.env ≡ One }
     requires inside { job < length inst.now.jobs }
+    requires entering { All (λ a. (a.after ≡ job) × (a.before < length inst.now.jobs)) entering.now }
     requires each { length heads.now ≡ length inst.now.jobs }
     requires small { All (λ h. h ≤ GREATEST * (1 + MOST_JOBS)) heads.now }
-    ensures { IsRaised inst.now inst.now.arcs (λ j. slice_index_or heads.now j 0) job result }
+    ensures { IsRaised inst.now entering.now (λ j. slice_index_or heads.now j 0) job result }
 {
-    let arcs = inst.arcs.as_slice();
     let mut head = release_of(inst, job);
-    for arc in arcs {
-        if arc.after == job {
-            head = head.max(end_from_head(inst, heads, arc.before));
-        }
+    for arc in entering {
+        head = head.max(end_from_head(inst, heads, arc.before));
     }
     head
 }
 
 /// Puts the heads of the jobs, from the first of a forward order to the last.
-fn put_heads(inst: &Instance, order: &[u32], heads: &mut [u64])
+fn put_heads(inst: &Instance, sorted: &[Arc], order: &[u32], heads: &mut [u64])
     requires inner { Inner inst.now }
     requires machine { inst.now.class.env ≡ One }
+    requires same { IsPermutation inst.now.arcs sorted.now }
+    requires sorted { IsNonDecreasingBy (λ a. a.after) sorted.now }
     requires sequence { IsSequence inst.now order.now }
     requires forward { All (GoesForward order.now) inst.now.arcs }
     requires each { length heads.old ≡ length inst.now.jobs }
@@ -76,7 +98,8 @@ fn put_heads(inst: &Instance, order: &[u32], heads: &mut [u64])
 {
     for place in 0..order.len() {
         let job = order[place];
-        heads[job as usize] = raised(inst, heads, job);
+        let entering = entering_of(sorted, job);
+        heads[job as usize] = raised(inst, entering, heads, job);
     }
 }
 
@@ -99,7 +122,8 @@ pub fn heads_of(alloc: Global, inst: &Instance) -> Result<Vec<u64>, NoMemory>
         Err(OrderFault::Cycle { .. }) => unreachable!(),
         Err(OrderFault::Memory) => return Err(NoMemory),
     };
+    let sorted = sorted_arcs(alloc, inst.arcs.as_slice())?;
     let mut heads = no_heads(alloc, inst.jobs.len())?;
-    put_heads(inst, order.as_slice(), heads.as_mut_slice());
+    put_heads(inst, &sorted, order.as_slice(), heads.as_mut_slice());
     Ok(heads)
 }

@@ -2,7 +2,7 @@
 //! unit times.
 //!
 //! It stands on `msp_schedule` and `msp_route`, whose `last_place` chooses the last job of a block as Lawler's rule does. The layers above
-//! use the clauses of `Solver`: the answers are best.
+//! use the clauses of `Solver`: the answers are best; and those of `binding`: a block whose value is the best cost, as evidence of it.
 #![tactic(auto)]
 
 mod blocks;
@@ -11,4 +11,4 @@ mod heads;
 #[cfg(test)]
 mod tests;
 
-pub use blocks::{Blocks, UnitBlocks};
+pub use blocks::{BindingBlock, Blocks, UnitBlocks, binding};

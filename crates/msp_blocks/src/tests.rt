@@ -1,5 +1,5 @@
 // Best schedules of small instances.
-use crate::{Blocks, UnitBlocks};
+use crate::{Blocks, UnitBlocks, binding};
 use msp_route::Solver;
 use msp_samples::{JobData, instance, piece, timed};
 use msp_schedule::Solution;
@@ -52,4 +52,18 @@ fn unit_jobs_are_not_cut(rt: HostRuntime) {
     assert_eq!(rt; best.cost.num, 2);
     assert_eq!(rt; best.cost.den, 1);
     assert_eq!(rt; best.schedule.pieces.as_slice(), pieces.as_slice());
+}
+
+#[test]
+fn the_block_of_greatest_value_binds(rt: HostRuntime) {
+    let all = [priced(0, 4, 1), priced(1, 1, 3)];
+    let inst = instance(rt.alloc(), Blocks.target(), 1, &all, &[]).expect(
+        &rt,
+        "it is of the class",
+    );
+    let found = binding(rt.alloc(), &inst)
+        .ok()
+        .expect(&rt, "there is memory");
+    assert_eq!(rt; found.head.as_slice(), [0, 1].as_slice());
+    assert_eq!(rt; found.jobs.as_slice(), [1].as_slice());
 }

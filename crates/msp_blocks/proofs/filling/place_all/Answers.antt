@@ -1,10 +1,36 @@
-use Rattle.std.proofs.Common.{sym, subst, arith, slice_index_or}
-use Rattle.msp_blocks.specs.Filling.{IsFilling, greatest_end}
-use Rattle.msp_blocks.proofs.Made.{filling_end}
-use Rattle.msp_blocks.proofs.filling.filled.Goals as goal
+use Rattle.std.proofs.Common.{inl, inr, sym, subst, slice_index_or}
+use Rattle.msp_class.proofs.IntegerRing.{≤ℤ_refl}
+use Rattle.msp_route.proofs.OneInstances.{IsOneInstance-from}
+use Rattle.msp_blocks.specs.Filling.{IsFilling, IsBound, CostAtMost, greatest_end}
+use Rattle.msp_blocks.proofs.Made.{CostAtMost-none, CostAtMost-more}
+use Rattle.msp_blocks.proofs.filling.place_all.Goals as goal
 
-pub loop-left-init : goal.loop-left-init
-loop-left-init c = subst (λ ps. IsFilling c.args.inst.now (λ j. slice_index_or c.args.heads.now j 0) greatest_end c.args.jobs.items ps) (sym c.new-pieces.ensures) c.requires.filling
+pub place_next-requires-clause-filling : goal.place_next-requires-clause-filling
+place_next-requires-clause-filling c = subst (λ ps. IsFilling c.args.inst.now (λ j. slice_index_or c.args.heads.now j 0) greatest_end c.args.jobs.items ps) (sym c.new-pieces.ensures) c.requires.filling
 
-pub returns : goal.returns
-returns c = filling_end c.args.inst.now (λ j. slice_index_or c.args.heads.now j 0) greatest_end c.loop-left.left.items c.loop-left.pieces (omega (arith, c.loop-left-test.false, c.len.ensures)) c.loop-left.invariant
+pub places-init : goal.places-init
+places-init c =
+    let i = c.args.inst.now in
+    let h = c.in_ok-bound.ensures in
+    let cost = c.in_ok-bound.bound.cost in
+    let none = CostAtMost-none i (IsOneInstance-from i c.requires.machine c.requires.inner) (λ j. slice_index_or c.args.heads.now j 0) greatest_end c.args.jobs.items cost c.requires.filling in
+    record {
+      filling = h.filling;
+      bound = h.bound;
+      costs = h.costs cost (≤ℤ_refl cost) (subst (CostAtMost i cost c.args.jobs.items) (sym c.new-pieces.ensures) none);
+    }
+
+pub places-preserved : goal.places-preserved
+places-preserved c =
+    let i = c.args.inst.now in
+    let l = c.places.invariant in
+    let h = c.in_ok-next.ensures in
+    let g = c.greater-bound in
+    record {
+      filling = h.filling;
+      bound = elim g.ensures.either [
+        | inl e ↦ subst (λ b. IsBound i c.args.heads.now b.jobs b.cost) (sym e) l.bound
+        | inr e ↦ subst (λ b. IsBound i c.args.heads.now b.jobs b.cost) (sym e) h.bound
+      ];
+      costs = h.costs g.result.cost g.ensures.second (CostAtMost-more i c.places.bound.cost g.result.cost _ _ g.ensures.first l.costs);
+    }

@@ -1,8 +1,7 @@
 use Rattle.std.proofs.Common.{◌+◌, refl, take}
 use Rattle.std.proofs.lemmas.List.{take_rest}
 use Rattle.msp_route.proofs.OneInstances.{IsOneInstance-from}
-use Rattle.msp_route.proofs.Pushes.{on_ok}
-use Rattle.msp_blocks.proofs.Steps.{passed_room, passed_filling}
+use Rattle.msp_blocks.proofs.Steps.{passed_room, passed_next}
 use Rattle.msp_blocks.proofs.filling.place_next.Goals as goal
 
 pub fill-requires-clause-room : goal.fill-requires-clause-room
@@ -13,6 +12,18 @@ fill-requires-clause-room c =
 
 pub returns-clause-filling : goal.returns-clause-filling
 returns-clause-filling c =
-    passed_filling c.args.inst.now (IsOneInstance-from c.args.inst.now c.requires.machine c.requires.inner) c.args.heads.now c.requires.heads c.args.left.now.items c.as_slice.result.now c.as_slice-2.result.now c.first_block-block.result.count c.first_block-block.result.end
+    (passed_next c.args.inst.now (IsOneInstance-from c.args.inst.now c.requires.machine c.requires.inner) c.args.heads.now c.requires.heads c.args.left.now.items c.as_slice.result.now c.as_slice-2.result.now c.first_block-block.result.count c.first_block-block.result.end
     c.as_slice.ensures.value c.as_slice-2.ensures.value c.first_block-block.ensures.block c.first_block-block.ensures.later c.first_block-block.ensures.small _ c.requires.filling c.last_place-place.result c.total_time.result c.last_place-place.ensures.place c.total_time.ensures.value
-    _ (take_rest (take c.first_block-block.result.count c.as_slice-2.result.now) (c.last_place-place.result + 1)) _ refl c.last_place-place.ensures.last _ c.remove.ensures.items _ (on_ok _ _ _ c.fill.ensures c.is_err.ensures.value c.if-is_err.false)
+    _ (take_rest (take c.first_block-block.result.count c.as_slice-2.result.now) (c.last_place-place.result + 1)) _ refl c.last_place-place.ensures.last _ c.remove.ensures.items _ c.in_ok-fill.ensures _ c.in_ok-bound.ensures.jobs _ c.in_ok-bound.ensures.cost).filling
+
+pub returns-clause-bound : goal.returns-clause-bound
+returns-clause-bound c =
+    (passed_next c.args.inst.now (IsOneInstance-from c.args.inst.now c.requires.machine c.requires.inner) c.args.heads.now c.requires.heads c.args.left.now.items c.as_slice.result.now c.as_slice-2.result.now c.first_block-block.result.count c.first_block-block.result.end
+    c.as_slice.ensures.value c.as_slice-2.ensures.value c.first_block-block.ensures.block c.first_block-block.ensures.later c.first_block-block.ensures.small _ c.requires.filling c.last_place-place.result c.total_time.result c.last_place-place.ensures.place c.total_time.ensures.value
+    _ (take_rest (take c.first_block-block.result.count c.as_slice-2.result.now) (c.last_place-place.result + 1)) _ refl c.last_place-place.ensures.last _ c.remove.ensures.items _ c.in_ok-fill.ensures _ c.in_ok-bound.ensures.jobs _ c.in_ok-bound.ensures.cost).bound
+
+pub returns-clause-costs : goal.returns-clause-costs
+returns-clause-costs c =
+    (passed_next c.args.inst.now (IsOneInstance-from c.args.inst.now c.requires.machine c.requires.inner) c.args.heads.now c.requires.heads c.args.left.now.items c.as_slice.result.now c.as_slice-2.result.now c.first_block-block.result.count c.first_block-block.result.end
+    c.as_slice.ensures.value c.as_slice-2.ensures.value c.first_block-block.ensures.block c.first_block-block.ensures.later c.first_block-block.ensures.small _ c.requires.filling c.last_place-place.result c.total_time.result c.last_place-place.ensures.place c.total_time.ensures.value
+    _ (take_rest (take c.first_block-block.result.count c.as_slice-2.result.now) (c.last_place-place.result + 1)) _ refl c.last_place-place.ensures.last _ c.remove.ensures.items _ c.in_ok-fill.ensures _ c.in_ok-bound.ensures.jobs _ c.in_ok-bound.ensures.cost).costs

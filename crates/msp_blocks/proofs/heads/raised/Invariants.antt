@@ -4,4 +4,4 @@ use Rattle.msp_blocks.proofs.heads.raised.Given as goal
 
 -- the head by the arcs so far
 abbrev pub invariant-loop-arc : goal.invariant-loop-arc
-invariant-loop-arc l = IsRaised l.inst (take l.arc-index l.arcs) (λ j. slice_index_or l.heads j 0) l.job l.head
+invariant-loop-arc l = IsRaised l.inst (take l.arc-index l.entering) (λ j. slice_index_or l.heads j 0) l.job l.head
