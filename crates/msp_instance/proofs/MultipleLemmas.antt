@@ -1,14 +1,14 @@
 -- Lemmas on greatest common divisors and least common multiples.
-use Rattle.std.proofs.Common.{◌≡◌, ℕ, zero, suc, ◌+◌, ◌*◌, ◌/◌, ◌%◌, ◌<◌, ◌≤◌, ◌^◌, List, [], ◌∷◌, ◌++◌, length, get_or, take, All, Contains, IsTrue, true, false, ◌↔◌, refl, sym, ap, ◌∙◌, subst, arith}
+use Rattle.std.proofs.Common.{◌≡◌, ℕ, zero, suc, ◌+◌, ◌*◌, ◌/◌, ◌%◌, ◌<◌, ◌≤◌, ◌^◌, Bool, leb, List, [], ◌∷◌, ◌++◌, length, get_or, take, All, Contains, IsTrue, true, false, ◌↔◌, refl, sym, ap, ◌∙◌, subst, arith}
 use Rattle.std.specs.Int.{◌∣◌}
 use Rattle.std.proofs.lemmas.Nat.Gcd.{dvd_refl, dvd-zero, dvd_trans, le_of_dvd}
 use Rattle.std.proofs.Math.Nat.{dvd-add_iff_right, dvd-mul_right_of_dvd, dvd-mod_iff, div-mul_cancel, mul-dvd-mul_left, mul-dvd-mul_right, dvd_of_mul-dvd-mul_right, pos_of_dvd_of_pos, dvd-mul_right, dvd-mul_left, div-add-mod, one-dvd}
-use Rattle.std.proofs.lemmas.Bool.{false≢true}
+use Rattle.std.proofs.lemmas.Bool.{false≢true, leb-true, leb-false}
 use Rattle.std.proofs.lemmas.Nat.{mul-le}
 use Rattle.std.proofs.lemmas.List.Elements.{All-more, All-take, All-weaker, All-contains, All-nil, All-cons, All-head, All-tail, Contains-push}
 use Rattle.std.proofs.lemmas.List.{take_more}
 use Rattle.msp_instance.specs.Conditions.{HasSmallMultiple}
-use Rattle.msp_instance.specs.Multiples.{IsGreatestDivisor, IsLeastMultiple}
+use Rattle.msp_instance.specs.Multiples.{IsGreatestDivisor, IsLeastMultiple, IsLeastOfAll}
 
 -- what a and b have in common with a factor, x and y have too, and their common divisors are those of a and b
 pub record SharesDivisors (a b x y : ℕ) : Type 0 where
@@ -64,16 +64,10 @@ IsLeastMultiple-from_divisor a b g some_a some_b h = (record { left = left; righ
     least : (m : ℕ) → a ∣ m → b ∣ m → a / g * b ∣ m
     least m p q = dvd_of_mul-dvd-mul_right (a / g * b) some_g (subst (λ n. n ∣ m * g) whole (h.greatest (a * b) m (subst (λ n. a * b ∣ n) (omega arith) (mul-dvd-mul_left b a q)) (mul-dvd-mul_right a p b)))
 
--- the number is the least common multiple of the list
-pub record IsLeastOfAll (xs : List ℕ) (multiple : ℕ) : Type 0 where
-  pub some : 1 ≤ multiple
-  pub common : All (λ s. s ∣ multiple) xs
-  pub least : (m : ℕ) → All (λ s. s ∣ m) xs → multiple ∣ m
-
 pub IsLeastOfAll-none : IsLeastOfAll [] 1
 IsLeastOfAll-none = record { some = omega arith; common = λ k d t. absurd (omega arith); least = λ m h. one-dvd m }
 
-All-append_left : {X : Type 0} (P : X → Type 0) (xs ys : List X) → All P (xs ++ ys) → All P xs
+pub All-append_left : {X : Type 0} (P : X → Type 0) (xs ys : List X) → All P (xs ++ ys) → All P xs
 All-append_left P [] ys h = All-nil P
 All-append_left P (x ∷ xs) ys h = All-cons P x xs (All-head P x (xs ++ ys) h) (All-append_left P xs ys (All-tail P x (xs ++ ys) h))
 
@@ -110,3 +104,11 @@ small_multiple_found xs multiple h small = (λ _. HasSmallMultiple-from_least xs
 
 pub small_multiple_missing : (xs : List ℕ) (k multiple : ℕ) → IsLeastOfAll (take k xs) multiple → 2 ^ 30 < multiple → IsTrue false ↔ HasSmallMultiple xs
 small_multiple_missing xs k multiple h great = (λ e. absurd (false≢true e), λ w. absurd (no_small_multiple xs k multiple h great w))
+
+-- where some common multiple is small, so is the least one of some first numbers
+pub multiple_small : (xs : List ℕ) (k multiple : ℕ) → HasSmallMultiple xs → IsLeastOfAll (take k xs) multiple → multiple ≤ 2 ^ 30
+multiple_small xs k multiple small h = by (leb multiple (2 ^ 30)) refl
+  where
+    by : (b : Bool) → leb multiple (2 ^ 30) ≡ b → multiple ≤ 2 ^ 30
+    by true e = leb-true _ _ e
+    by false e = absurd (no_small_multiple xs k multiple h (leb-false _ _ e) small)

@@ -2,7 +2,9 @@ pub mod Instance
 pub mod Conditions
 pub mod Faults
 pub mod Multiples
+pub mod Bits
 pub mod Paths
+pub mod PathRows
 pub mod Listing
 pub mod Laws
 pub mod Limits

@@ -9,6 +9,7 @@
 mod jobs;
 mod laws;
 mod membership;
+mod path_rows;
 mod ranges;
 mod sequence;
 mod speeds;
@@ -19,12 +20,13 @@ pub use jobs::least_time;
 pub use laws::{law_of_inner, law_of_limits};
 pub use membership::{ClassFault, check, check_distinct_arcs, common_time, first_time};
 use msp_class::{Class, List};
+pub use path_rows::Paths;
 pub use ranges::{
     GREATEST, GREATEST_EQUAL_TIME, GREATEST_MULTIPLE, GREATEST_SPEED, MOST_ARCS, MOST_JOBS,
     MOST_MACHINES, MOST_STEPS,
 };
 pub use sequence::{OrderFault, forward};
-pub use speeds::{common_multiple, has_small_multiple};
+pub use speeds::{common_multiple, has_small_multiple, multiple_of_all};
 
 /// An operation that a job needs: its machine, from 0, and its processing time.
 ///

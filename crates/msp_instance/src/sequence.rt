@@ -31,7 +31,7 @@ impl From<AllocError> for OrderFault {
 }
 
 /// The arcs by their jobs before.
-fn sorted_arcs(alloc: Global, arcs: &[Arc]) -> Result<Vec<Arc>, AllocError>
+pub(crate) fn sorted_arcs(alloc: Global, arcs: &[Arc]) -> Result<Vec<Arc>, AllocError>
     ensures same { IfOk result (λ sorted. IsPermutation arcs.now sorted.items) }
     ensures sorted { IfOk result (λ sorted. IsNonDecreasingBy (λ a. a.before) sorted.items) }
 {
@@ -41,7 +41,7 @@ fn sorted_arcs(alloc: Global, arcs: &[Arc]) -> Result<Vec<Arc>, AllocError>
 }
 
 /// The arcs that leave a job.
-fn leaving_of(sorted: &[Arc], job: u32) -> &[Arc]
+pub(crate) fn leaving_of(sorted: &[Arc], job: u32) -> &[Arc]
     requires { IsNonDecreasingBy (λ a. a.before) sorted.now }
     ensures { result.now ≡ filter (λ a. a.before == job) sorted.now }
 {

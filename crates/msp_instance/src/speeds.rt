@@ -3,7 +3,7 @@ ghost use Rattle.std.specs.Prelude.{◌*◌, ◌<◌, ◌≤◌, ◌↔◌, IsTr
 ghost use Rattle.msp_class.specs.Env.{kind_of};
 ghost use Rattle.msp_instance.specs.declared.ranges.TheConstants.{GREATEST_MULTIPLE, GREATEST_SPEED};
 ghost use Rattle.msp_instance.specs.Conditions.{HasSpeeds, HasSmallMultiple};
-ghost use Rattle.msp_instance.specs.Multiples.{IsGreatestDivisor, IsLeastMultiple};
+ghost use Rattle.msp_instance.specs.Multiples.{IsGreatestDivisor, IsLeastMultiple, IsLeastOfAll};
 
 use crate::ranges::{GREATEST_MULTIPLE, GREATEST_SPEED};
 use msp_class::{Env, EnvKind, env_kind};
@@ -30,6 +30,20 @@ pub fn common_multiple(a: u64, b: u64) -> u64
     ensures some { 1 ≤ result }
 {
     a / gcd(a, b) * b
+}
+
+/// The least common multiple of all speeds.
+pub fn multiple_of_all(speeds: &[u64]) -> u64
+    requires speeds { All (λ s. (1 ≤ s) × (s ≤ GREATEST_SPEED)) speeds.now }
+    requires small { HasSmallMultiple speeds.now }
+    ensures least { IsLeastOfAll speeds.now result }
+    ensures small { result ≤ GREATEST_MULTIPLE }
+{
+    let mut multiple = 1;
+    for speed in speeds {
+        multiple = common_multiple(multiple, *speed);
+    }
+    multiple
 }
 
 /// Whether the machines have the speeds of their kind.

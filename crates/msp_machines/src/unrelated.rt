@@ -18,7 +18,7 @@ ghost use Rattle.msp_machines.specs.laws.OnEach.{serves_23, serves_24};
 ghost use Rattle.msp_machines.specs.laws.Served.{IsForth-served, IsBack-served};
 
 use msp_class::{List, NoMemory};
-use msp_instance::{Curve, Instance, Job, Need, Step, common_multiple};
+use msp_instance::{Curve, Instance, Job, Need, Step, multiple_of_all};
 use msp_route::{Reduction, led};
 use msp_schedule::{Schedule, Solution, cost};
 use msp_table::Row;
@@ -163,11 +163,7 @@ fn least_common_multiple(speeds: &[u64]) -> u64
     ensures value { result ≡ least_common_multiple speeds.now }
     ensures small { result ≤ GREATEST_MULTIPLE }
 {
-    let mut multiple = 1;
-    for speed in speeds {
-        multiple = common_multiple(multiple, *speed);
-    }
-    multiple
+    multiple_of_all(speeds)
 }
 
 fn product(a: u64, b: u64) -> u64

@@ -1,6 +1,5 @@
 mod Greedy
 mod LaidJobs
-mod LowestMultiple
 mod LaySteps
 mod UniformFacts
 mod TurnSteps

@@ -12,7 +12,7 @@ use Rattle.msp_schedule.specs.Within.{Within}
 use Rattle.msp_route.specs.Bounds.{IsAnswer}
 use Rattle.msp_route.specs.declared.keyed.Keyed.{Keyed}
 use Rattle.msp_total.specs.declared.lay.Place.{Place}
-use Rattle.msp_total.specs.Multiple.{IsCommon}
+use Rattle.msp_instance.specs.Multiples.{IsLeastOfAll}
 use Rattle.msp_total.specs.Multipliers.{IsByMultipliers}
 use Rattle.msp_total.specs.Places.{ArePlaces, laid}
 use Rattle.msp_total.specs.Turns.{IsByTime, AreTurns}
@@ -27,7 +27,7 @@ pub record IsUniformAnswer (i : Instance) (s : Schedule) : Type 0 where
   pub answer : IsAnswer i s
   pub order : IsByMultipliers i s
 
-pub IsUniformAnswer-from : (i : Instance) → IsUniformInstance i → (unit : ℕ) (u : ℤ) (steps : List ℕ) (jobs : List Keyed) (places : List Place) (pieces : List Piece) → IsCommon i.speeds unit → unit ≤ 2 ^ 30 → u ≡ pos unit → steps ≡ steps_by i unit → IsByTime i jobs → AreTurns steps jobs places → pieces ≡ laid places
+pub IsUniformAnswer-from : (i : Instance) → IsUniformInstance i → (unit : ℕ) (u : ℤ) (steps : List ℕ) (jobs : List Keyed) (places : List Place) (pieces : List Piece) → IsLeastOfAll i.speeds unit → unit ≤ 2 ^ 30 → u ≡ pos unit → steps ≡ steps_by i unit → IsByTime i jobs → AreTurns steps jobs places → pieces ≡ laid places
     → IsUniformAnswer i (record { unit = u; pieces = pieces })
 IsUniformAnswer-from i h unit u steps jobs places pieces common few e is sorted turns all =
     let fits = subst (λ x. AreTurns x jobs places) is turns in
@@ -40,9 +40,9 @@ IsUniformAnswer-from i h unit u steps jobs places pieces common few e is sorted 
     })
 
 -- the steps of the code, over slices that are the same lists
-module _ (i : Instance) (h : IsUniformInstance i) (speeds : List ℕ) (unit : ℕ) (same_speeds : speeds ≡ i.speeds) (common : IsCommon speeds unit) (few : unit ≤ 2 ^ 30) where
-  common_of : IsCommon i.speeds unit
-  common_of = subst (λ l. IsCommon l unit) same_speeds common
+module _ (i : Instance) (h : IsUniformInstance i) (speeds : List ℕ) (unit : ℕ) (same_speeds : speeds ≡ i.speeds) (common : IsLeastOfAll speeds unit) (few : unit ≤ 2 ^ 30) where
+  common_of : IsLeastOfAll i.speeds unit
+  common_of = subst (λ l. IsLeastOfAll l unit) same_speeds common
 
   steps_are : (steps taken : List ℕ) → steps ≡ map (λ s. unit / s) speeds → taken ≡ steps → taken ≡ steps_by i unit
   steps_are steps taken e f = f ∙ e ∙ ap (map (λ s. unit / s)) same_speeds

@@ -24,7 +24,7 @@ use Rattle.msp_route.specs.Bounds.{answer_unit}
 use Rattle.msp_schedule.proofs.lists.Places.{sum_by-places}
 use Rattle.msp_route.specs.declared.keyed.Keyed.{Keyed}
 use Rattle.msp_total.specs.declared.lay.Place.{Place}
-use Rattle.msp_total.specs.Multiple.{IsCommon}
+use Rattle.msp_instance.specs.Multiples.{IsLeastOfAll}
 use Rattle.msp_total.specs.Places.{no_place}
 use Rattle.msp_total.specs.Turns.{no_timed, timed_at, IsByTime, multiplier, number_at, machine_at, AreTurns}
 use Rattle.msp_total.specs.Multipliers.{seats}
@@ -52,7 +52,7 @@ IsPlain-from_uniform i h = record {
 abbrev pub steps_by : Instance → ℕ → List ℕ
 steps_by i unit = map (λ s. unit / s) i.speeds
 
-module _ (i : Instance) (h : IsUniformInstance i) (unit : ℕ) (common : IsCommon i.speeds unit) where
+module _ (i : Instance) (h : IsUniformInstance i) (unit : ℕ) (common : IsLeastOfAll i.speeds unit) where
   abbrev step : ℕ → ℕ
   step m = number_at (steps_by i unit) m
 

@@ -13,7 +13,7 @@ use Rattle.msp_schedule.specs.declared.Piece.{Piece}
 use Rattle.msp_schedule.specs.Breaks.{no_piece}
 use Rattle.msp_route.specs.declared.keyed.Keyed.{Keyed}
 use Rattle.msp_total.specs.declared.lay.Place.{Place}
-use Rattle.msp_total.specs.Multiple.{IsCommon}
+use Rattle.msp_instance.specs.Multiples.{IsLeastOfAll}
 use Rattle.msp_total.specs.Multipliers.{ComesFirst, machine_of, speed_of, seats, TakesLeast, IsByMultipliers}
 use Rattle.msp_total.specs.Places.{no_place, place_at, time_on, laid}
 use Rattle.msp_total.specs.Turns.{no_timed, timed_at, number_at, machine_at, IsByTime, IsTurn, AreTurns}
@@ -76,7 +76,7 @@ crossed_less x y s t v w u h e f sv sw = by (leb (y * w) (x * v)) refl
     by true k = absurd (omega (arith, grown, mul-le-mul_right u (leb-true (y * w) (x * v) k), one-le-mul sv sw))
     by false k = leb-false (y * w) (x * v) k
 
-module _ (i : Instance) (h : IsUniformInstance i) (unit : ℕ) (common : IsCommon i.speeds unit) (few : unit ≤ 2 ^ 30)
+module _ (i : Instance) (h : IsUniformInstance i) (unit : ℕ) (common : IsLeastOfAll i.speeds unit) (few : unit ≤ 2 ^ 30)
     (jobs : List Keyed) (sorted : IsByTime i jobs) (places : List Place) (turns : AreTurns (steps_by i unit) jobs places) where
   abbrev time_of_job : ℕ → ℕ
   time_of_job j = (need_at i j 0).time

@@ -1,6 +1,5 @@
 pub mod Classes
 pub mod Places
-pub mod Multiple
 pub mod Multipliers
 pub mod Turns
 pub mod SlotSteps

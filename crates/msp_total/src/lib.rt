@@ -5,7 +5,6 @@
 #![tactic(auto)]
 
 mod lay;
-mod multiple;
 mod positions;
 mod slot_costs;
 mod slot_table;

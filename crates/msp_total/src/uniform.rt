@@ -11,9 +11,8 @@ ghost use Rattle.msp_total.specs.Multipliers.{IsByMultipliers};
 ghost use Rattle.msp_total.specs.Turns.{IsByTime, IsFirstLeast, AreTurns, number_at};
 
 use crate::lay::{Place, lay};
-use crate::multiple::multiple_of_all;
 use msp_class::{Class, Crit, Env, NoMemory, Order, Times};
-use msp_instance::{Instance, first_time};
+use msp_instance::{Instance, first_time, multiple_of_all};
 use msp_route::{Keyed, Solver, sort_by_falling_key};
 use msp_schedule::{Schedule, Solution};
 use std::alloc::Global;

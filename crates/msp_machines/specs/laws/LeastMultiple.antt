@@ -1,5 +1,5 @@
 -- The least common multiple divides every common multiple.
-use Rattle.std.proofs.Common.{◌≡◌, ℕ, zero, suc, ◌+◌, ◌*◌, ◌%◌, ◌<◌, ◌≤◌, Bool, true, false, eqb, List, [], ◌∷◌, get_or, take, fold, find, All, Some, cond, unwrap_or, refl, sym, ap, ap₂, subst, ◌∙◌, arith}
+use Rattle.std.proofs.Common.{◌≡◌, ℕ, zero, suc, ◌+◌, ◌*◌, ◌%◌, ◌<◌, ◌≤◌, Bool, true, false, eqb, List, [], ◌∷◌, get_or, fold, find, All, Some, cond, unwrap_or, refl, sym, ap, ap₂, subst, ◌∙◌, arith}
 use Rattle.std.specs.Prelude.{◌==◌, ◌&&◌}
 use Rattle.std.specs.Int.{◌∣◌}
 use Rattle.std.specs.List.{list_all, range_with_len}
@@ -7,9 +7,9 @@ use Rattle.std.proofs.lemmas.Bool.{eqb-true, eqb-false, eq-eqb}
 use Rattle.std.proofs.lemmas.Nat.{mul-le}
 use Rattle.std.proofs.lemmas.Nat.Gcd.{dvd_trans, dvd_antisymm, le_of_dvd, dvd_of_mod-eq-zero, mod-eq-zero_of_dvd}
 use Rattle.std.proofs.Math.Nat.{dvd-mod_iff, dvd-mul_left, dvd-mul_right, mod-lt}
-use Rattle.std.proofs.lemmas.List.Elements.{All-take, All-weaker, All-nil, All-cons, All-head, All-tail}
+use Rattle.std.proofs.lemmas.List.Elements.{All-weaker, All-nil, All-cons, All-head, All-tail}
 use Rattle.msp_instance.specs.Conditions.{HasSmallMultiple}
-use Rattle.msp_instance.proofs.MultipleLemmas.{IsLeastOfAll}
+use Rattle.msp_instance.specs.Multiples.{IsLeastOfAll}
 use Rattle.msp_instance.specs.declared.ranges.TheConstants.{GREATEST_MULTIPLE}
 use Rattle.msp_schedule.proofs.feasible.OneMachine.{both_true}
 use Rattle.msp_route.specs.Rates.{least_common_multiple}
@@ -115,9 +115,6 @@ least_multiple xs some =
 pub least_multiple-only : (xs : List ℕ) (multiple : ℕ) → All (λ x. 1 ≤ x) xs → IsLeastOfAll xs multiple → multiple ≡ least_common_multiple xs
 least_multiple-only xs multiple some h = let l = least_multiple xs some in dvd_antisymm (h.least (least_common_multiple xs) l.common) (l.least multiple h.common)
 
--- where some common multiple is small, so is the least, of all and of some first ones
+-- where some common multiple is small, so is the least one
 pub least-small : (xs : List ℕ) (multiple : ℕ) → HasSmallMultiple xs → IsLeastOfAll xs multiple → multiple ≤ GREATEST_MULTIPLE
 least-small xs multiple h l = omega (arith, h.1, h.2, le_of_dvd (omega (arith, h.1)) (l.least h.0 (λ k d t. let p = h.3 k d t in subst (λ n. get_or xs k d ∣ n) (sym p.1) (dvd-mul_left (get_or xs k d) p.0))))
-
-pub some_small : (xs : List ℕ) (k multiple : ℕ) → HasSmallMultiple xs → IsLeastOfAll (take k xs) multiple → multiple ≤ GREATEST_MULTIPLE
-some_small xs k multiple h = least-small (take k xs) multiple (h.0, h.1, h.2, All-take (λ s. (times : ℕ) × (h.0 ≡ times * s)) k xs h.3)

@@ -24,7 +24,7 @@ use Rattle.msp_instance.specs.declared.Job.{Job}
 use Rattle.msp_instance.specs.declared.Instance.{Instance}
 use Rattle.msp_instance.specs.Instance.{no_need, no_job, job_at, need_at, common_time}
 use Rattle.msp_instance.specs.Conditions.{IsJobOf, HasNeeds, HasShape, HasSpeeds, HasSameTimes, HasRelease, HasDue, HasCurve, HasNearDues, Inner, inner_limits, inner_factor, least_time, greatest_time}
-use Rattle.msp_instance.proofs.MultipleLemmas.{IsLeastOfAll}
+use Rattle.msp_instance.specs.Multiples.{IsLeastOfAll}
 use Rattle.msp_schedule.specs.declared.Schedule.{Schedule}
 use Rattle.msp_schedule.specs.Feasible.{Feasible, product_of_times}
 use Rattle.msp_schedule.specs.Cost.{cost_of, end_of, job_cost}

@@ -1,6 +1,7 @@
 use Rattle.std.proofs.Common.{◌<◌, ◌+◌, length, subst, arith}
 use Rattle.std.proofs.lemmas.List.{take_all}
-use Rattle.msp_instance.proofs.MultipleLemmas.{IsLeastOfAll, IsLeastOfAll-none, IsLeastOfAll-more, small_multiple_found, small_multiple_missing}
+use Rattle.msp_instance.specs.Multiples.{IsLeastOfAll}
+use Rattle.msp_instance.proofs.MultipleLemmas.{IsLeastOfAll-none, IsLeastOfAll-more, small_multiple_found, small_multiple_missing}
 use Rattle.msp_instance.proofs.speeds.has_small_multiple.Goals as goal
 
 pub loop-s-init : goal.loop-s-init

@@ -1,5 +1,5 @@
 use Rattle.std.proofs.Common.{◌≤◌, ◌^◌, take}
-use Rattle.msp_instance.proofs.MultipleLemmas.{IsLeastOfAll}
+use Rattle.msp_instance.specs.Multiples.{IsLeastOfAll}
 use Rattle.msp_instance.proofs.speeds.has_small_multiple.Given as goal
 
 abbrev pub invariant-loop-s : goal.invariant-loop-s

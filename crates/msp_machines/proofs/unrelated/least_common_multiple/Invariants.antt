@@ -1,8 +1,0 @@
--- The least common multiple of the speeds so far.
-use Rattle.std.proofs.Common.{◌≤◌, take}
-use Rattle.msp_instance.proofs.MultipleLemmas.{IsLeastOfAll}
-use Rattle.msp_instance.specs.declared.ranges.TheConstants.{GREATEST_MULTIPLE}
-use Rattle.msp_machines.proofs.unrelated.least_common_multiple.Given as goal
-
-abbrev pub invariant-loop-speed : goal.invariant-loop-speed
-invariant-loop-speed l = record { least : IsLeastOfAll (take l.speed-index l.speeds) l.multiple; small : l.multiple ≤ GREATEST_MULTIPLE }
