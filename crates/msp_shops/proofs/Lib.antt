@@ -15,4 +15,5 @@ pub mod Grouped
 pub mod ShopClasses
 pub mod Answered
 pub mod SlicedPieces
+pub mod Joining
 pub mod OpenCutFacts

@@ -34,9 +34,11 @@ use Rattle.msp_timetable.specs.declared.matrix.Matrix.{Matrix}
 use Rattle.msp_timetable.specs.declared.matrix.Slice.{Slice}
 use Rattle.msp_timetable.specs.Split.{cell, row_sum, column_sum, total, IsMatrix, IsGreatestSum, IsSplit}
 use Rattle.msp_shops.specs.OpenCut.{open_cut_class, IsGreatestLine, IsOpenCutCost}
-use Rattle.msp_shops.specs.Sliced.{laid, AreTimes, IsTimeMatrix, IsCutPlan}
+use Rattle.msp_shops.specs.Joined.{AreJoined}
+use Rattle.msp_shops.specs.Sliced.{AreTimes, IsTimeMatrix, IsCutPlan}
 use Rattle.msp_shops.proofs.Shops.{IsLeastEnd, IsBestPlan, IsBestPlan-from_feasible, over_one}
-use Rattle.msp_shops.proofs.SlicedPieces.{Differ, IsLaidPiece, laid_pieces, laid_apart, laid_work, laid_few}
+use Rattle.msp_shops.proofs.SlicedPieces.{Differ, IsLaidPiece, AreLaid, AreLaid-parts}
+use Rattle.msp_shops.proofs.Joining.{AreLaid-joined}
 
 -- ---- what an instance of the class has
 pub record IsCutInstance (i : Instance) : Type 0 where
@@ -151,18 +153,15 @@ module _ (i : Instance) (h : IsCutInstance i) where
         by (inr (c, l, e)) = let is : g ≡ pos (job_length i c) = sym e ∙ column_is c l in (job_length i c, is, lines (job_length i c) is (inr (c, omega (arith, l, columns), refl)))
 
     -- ---- the schedule
-    module _ (slices : List Slice) (split : IsSplit m slices) where
-      abbrev ps : List Piece
-      ps = laid m.columns (pos 0) slices
-
+    module _ (slices : List Slice) (split : IsSplit m slices) (ps : List Piece) (laid : AreLaid m.rows m.columns slices ps) where
       abbrev g : ℤ
       g = total (λ s. s.length) slices
 
       each : All (IsLaidPiece m.rows m.columns slices (pos 0) (pos 0 +ℤ g)) ps
-      each = laid_pieces m.rows m.columns (pos 0) slices split.each
+      each = laid.each
 
       pairs : AllPairs (λ p q. IsApart p q ⊎ Differ p q) ps
-      pairs = laid_apart m.rows m.columns (pos 0) slices split.each
+      pairs = laid.apart
 
       job_inside : (p : Piece) → IsLaidPiece m.rows m.columns slices (pos 0) (pos 0 +ℤ g) p → p.job < length i.jobs
       job_inside p a = omega (arith, a.job, columns)
@@ -192,7 +191,7 @@ module _ (i : Instance) (h : IsCutInstance i) where
           let row : o < m.rows = omega (arith, there, rows, h.needs j l) in
           let column : j < m.columns = omega (arith, l, columns) in
           subst₂ (λ b k. MatchBool b (sum (map (work_of k i) (pieces_of (over_one ps) j o)) ≡ pos 1 *ℤ pos (whole_work k i j o)) ((p : Piece) × (pieces_of (over_one ps) j o ≡ p ∷ []) × IsWholeWork k i (pos 1) p)) (sym h.cut) (sym h.kind)
-          (laid_work m.rows m.columns j o column row (pos 0) slices split.each ∙ split.cells o j row column ∙ cells o j row column ∙ sym (one-*ℤ (pos (need_at i j o).time)))
+          (laid.work j o column row ∙ split.cells o j row column ∙ cells o j row column ∙ sym (one-*ℤ (pos (need_at i j o).time)))
 
       feasible : Feasible i (over_one ps)
       feasible = record {
@@ -216,7 +215,7 @@ module _ (i : Instance) (h : IsCutInstance i) where
           of_one p q (inr a) e = absurd (a.1 e)
 
       few : length ps ≤ 500000
-      few = by (length slices) m.rows m.columns (laid_few m.rows m.columns (pos 0) slices split.each) split.few (omega (arith, rows, h.few_machines)) (omega (arith, columns, h.few))
+      few = by (length slices) m.rows m.columns laid.few split.few (omega (arith, rows, h.few_machines)) (omega (arith, columns, h.few))
         where
           by : (n r c : ℕ) → length ps ≤ n * r → n ≤ r * c + 2 * (r + c) → r ≤ 32 → c ≤ 400 → length ps ≤ 500000
           by n r c l s a b =
@@ -273,8 +272,11 @@ IsTimeMatrix-made i class inner m rows columns t =
     }
 
 pub IsBestPlan-from_cut : (i : Instance) → i.class ≡ open_cut_class → Inner i → (pieces : List Piece) → IsCutPlan i pieces → (end : ℕ) × IsGreatestLine i end × IsBestPlan i end (over_one pieces)
-IsBestPlan-from_cut i class inner pieces (m, slices, t, split, e) =
-    subst (λ l. (end : ℕ) × IsGreatestLine i end × IsBestPlan i end (over_one l)) (sym e) (best_laid i (IsCutInstance-from_class i class inner) m t.rows t.columns t.cells slices split)
+IsBestPlan-from_cut i class inner pieces (m, slices, t, split, joins, apart) =
+    best_laid i (IsCutInstance-from_class i class inner) m t.rows t.columns t.cells slices split pieces (AreLaid-joined m.rows m.columns slices joins (AreLaid-parts m.rows m.columns slices split.each))
+
+pub AreJoined-from_cut : (i : Instance) (pieces : List Piece) → IsCutPlan i pieces → AreJoined pieces
+AreJoined-from_cut i pieces (m, slices, t, split, joins, apart) = apart
 
 pub IsOpenCutCost-read : (i : Instance) (cost : Frac) (s : Schedule) → (end : ℕ) × IsGreatestLine i end × IsBestPlan i end s → IsOver cost (cost_of i s) (pos 1) → IsOpenCutCost i cost
 IsOpenCutCost-read i cost s (end, line, w) over = (end, line, subst (λ x. IsOver cost x (pos 1)) w.cost over)

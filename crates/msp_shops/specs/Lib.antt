@@ -7,4 +7,5 @@ pub mod Order
 pub mod Groups
 pub mod Laid
 pub mod OpenCut
+pub mod Joined
 pub mod Sliced

@@ -6,6 +6,7 @@ ghost use Rattle.msp_instance.specs.Instance.{need_at};
 ghost use Rattle.msp_schedule.specs.Cost.{IsBest};
 ghost use Rattle.msp_route.specs.Bounds.{IsAnswer};
 ghost use Rattle.msp_timetable.specs.Split.{IsSplit};
+ghost use Rattle.msp_shops.specs.Joined.{AreJoined};
 ghost use Rattle.msp_shops.specs.OpenCut.{open_cut_class, IsOpenCutCost};
 ghost use Rattle.msp_shops.specs.Sliced.{AreTimes, IsTimeMatrix, IsCutPlan};
 
@@ -78,7 +79,7 @@ fn time_matrix(alloc: Global, inst: &Instance) -> Result<Matrix, NoMemory>
     })
 }
 
-/// The pieces of all slices.
+/// The pieces of all slices, joined where they touch.
 fn cut_pieces(alloc: Global, inst: &Instance) -> Result<List<Piece>, NoMemory>
     requires inner { Inner inst.now }
     requires class { inst.now.class ≡ open_cut_class }
@@ -86,11 +87,11 @@ fn cut_pieces(alloc: Global, inst: &Instance) -> Result<List<Piece>, NoMemory>
 {
     let matrix = time_matrix(alloc, inst)?;
     let slices = split(alloc, &matrix)?;
-    lay_slices(alloc, slices.as_slice(), matrix.columns)
+    lay_slices(alloc, slices.as_slice(), matrix.rows, matrix.columns)
 }
 
 /// Finds a schedule of least length in an open shop with preemption: the slices into which the matrix of times is split run one after
-/// another (Gonzalez and Sahni 1976).
+/// another (Gonzalez and Sahni 1976), and pieces of one operation that touch are joined.
 #[derive(Clone, Copy, Debug)]
 pub struct OpenCut;
 
@@ -115,6 +116,7 @@ impl Solver for OpenCut {
         ensures best { IfOk result (λ s. IsBest inst.now s) }
         ensures bounds { IfOk result (λ s. IsAnswer inst.now s.schedule) }
         ensures cost { IfOk result (λ s. IsOpenCutCost inst.now s.cost) }
+        ensures joined { IfOk result (λ s. AreJoined s.schedule.pieces) }
     {
         let pieces = cut_pieces(alloc, inst)?;
         let schedule = Schedule { unit: 1, pieces };

@@ -1,6 +1,16 @@
-use Rattle.std.proofs.Common.{arith}
-use Rattle.msp_shops.proofs.SlicedPieces.{slice_fits}
+use Rattle.std.proofs.Common.{pos, sym, subst}
+use Rattle.msp_shops.specs.Joined.{AreJoined}
+use Rattle.msp_shops.proofs.Joining.{Joins-empty, Joins-row, AreInRows-empty, AreJoined-from_rows}
 use Rattle.msp_shops.proofs.slices.lay_slices.Goals as goal
 
-pub put_slice-requires-clause-short : goal.put_slice-requires-clause-short
-put_slice-requires-clause-short c = slice_fits c.args.slices.now c.loop-k.k _ _ c.loop-k.row.end (omega (arith, c.loop-k-test.true)) c.index-slices-k.is c.requires.lasts c.loop-k.invariant.short
+pub loop-machine-init : goal.loop-machine-init
+loop-machine-init c = record { joins = Joins-empty _ c.new.ensures.items; rows = AreInRows-empty 0 (pos 0) _ c.new.ensures.items }
+
+pub loop-machine-preserved : goal.loop-machine-preserved
+loop-machine-preserved c = record {
+  joins = Joins-row c.args.columns c.loop-machine.machine c.args.slices.now _ _ c.loop-machine.invariant.joins c.in_ok-put_machine.ensures.joins;
+  rows = c.in_ok-put_machine.ensures.rows;
+}
+
+pub returns-clause-joined : goal.returns-clause-joined
+returns-clause-joined c = subst AreJoined (sym c.from_vec.ensures) (AreJoined-from_rows c.loop-machine.machine (pos 0) c.loop-machine.row.pieces.items c.loop-machine.invariant.rows)

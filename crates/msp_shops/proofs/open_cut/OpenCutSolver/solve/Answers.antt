@@ -1,4 +1,4 @@
-use Rattle.msp_shops.proofs.OpenCutFacts.{IsBestPlan-from_cut, IsOpenCutCost-read}
+use Rattle.msp_shops.proofs.OpenCutFacts.{IsBestPlan-from_cut, IsOpenCutCost-read, AreJoined-from_cut}
 use Rattle.msp_shops.proofs.open_cut.OpenCutSolver.solve.Goals as goal
 
 pub cost-cost-requires-clause-within : goal.cost-cost-requires-clause-within
@@ -15,3 +15,6 @@ returns-clause-bounds c = (IsBestPlan-from_cut c.args.inst.now c.requires.class 
 
 pub returns-clause-cost : goal.returns-clause-cost
 returns-clause-cost c = IsOpenCutCost-read c.args.inst.now c.cost-cost.result _ (IsBestPlan-from_cut c.args.inst.now c.requires.class c.requires.inner _ c.in_ok-pieces.ensures) c.cost-cost.ensures.value
+
+pub returns-clause-joined : goal.returns-clause-joined
+returns-clause-joined c = AreJoined-from_cut c.args.inst.now _ c.in_ok-pieces.ensures
