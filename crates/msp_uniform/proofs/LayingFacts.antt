@@ -4,9 +4,11 @@ use Rattle.std.specs.Int.{◌∣◌}
 use Rattle.std.proofs.Math.Nat.{div-mul_cancel}
 use Rattle.std.proofs.lemmas.List.{length-append, take_more, take_all, drop_all}
 use Rattle.std.proofs.lemmas.Nat.Gcd.{dvd-zero}
+use Rattle.msp_instance.proofs.MultipleLemmas.{All-append_left}
 use Rattle.msp_uniform.specs.declared.segments.Segment.{Segment}
 use Rattle.msp_uniform.specs.Segments.{IsLaid, IsTaken, CanGain, IsFirst, IsSecond, gain_at, AreFew, AreLaid, IsOneLaid, IsLaying}
 use Rattle.msp_uniform.proofs.LaidFacts.{IsLaid-append, gained-append}
+use Rattle.msp_uniform.proofs.OrderFacts.{All-last, IsLaid-lengths, AreOrdered-next}
 
 module _ (swap : Bool) (speed : ℕ → ℕ) (job r left : ℕ) (x : Segment) (fs ss : List Segment) (g : ℕ) (is : g ≡ gain_at swap speed r x) where
   pub IsOneLaid-whole : (a : Segment) (fs' : List Segment) → x.length * g ≤ left → IsTaken job r x.length x a → fs' ≡ fs ++ a ∷ [] → IsOneLaid swap speed job r left (left - x.length * g) x fs ss fs' ss
@@ -71,13 +73,14 @@ module _ (swap : Bool) (speed : ℕ → ℕ) (job r left : ℕ) (x : Segment) (f
 
 module _ (swap : Bool) (speed : ℕ → ℕ) (job r whole : ℕ) where
   pub AreLaid-first : (xs : List Segment) → AreLaid swap speed job r whole whole [] [] []
-  AreLaid-first xs = record { parts = []; laid = IsLaid.none; gains = omega arith; few = inl (omega arith) }
+  AreLaid-first xs = record { parts = []; laid = IsLaid.none; gains = omega arith; order = λ _. record { order = tt; whole = λ _. refl }; few = inl (omega arith) }
 
   pub AreLaid-next : (left after : ℕ) (xs : List Segment) (x : Segment) (fs ss fs' ss' : List Segment) → AreLaid swap speed job r whole left xs fs ss → IsOneLaid swap speed job r left after x fs ss fs' ss' → AreLaid swap speed job r whole after (xs ++ x ∷ []) fs' ss'
   AreLaid-next left after xs x fs ss fs' ss' h o = record {
     parts = h.parts ++ o.part ∷ [];
     laid = subst₂ (λ f s. IsLaid (IsFirst job r) (IsSecond swap job r) (h.parts ++ o.part ∷ []) (xs ++ x ∷ []) f s) (sym o.firsts_are) (sym o.seconds_are) (IsLaid-append h.laid o.laid);
     gains = omega (arith, gained-append (gain_at swap speed r) h.laid (o.part ∷ []) (x ∷ []), h.gains, o.gains);
+    order = λ p. AreOrdered-next left after h.parts xs x o.part (gain_at swap speed r x) (IsLaid-lengths h.laid) (All-last (λ y. 1 ≤ gain_at swap speed r y) xs x p) (h.order (All-append_left (λ y. 1 ≤ gain_at swap speed r y) xs (x ∷ []) p)) o.gains o.enough o.short;
     few = by h.few o.few;
   }
     where

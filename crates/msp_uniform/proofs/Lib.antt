@@ -2,6 +2,7 @@ pub mod PrefixFacts
 pub mod LeastEnd
 pub mod SegmentFacts
 pub mod LaidFacts
+pub mod OrderFacts
 pub mod LayingFacts
 pub mod TurnFacts
 pub mod ScaledFacts
@@ -9,4 +10,16 @@ pub mod RowFacts
 pub mod PlanFacts
 pub mod TurnNeeds
 pub mod TapeFacts
+pub mod TapeTurn
+pub mod TapeWhole
+pub mod TapeStart
+pub mod Affordable
+pub mod ReachedFacts
+pub mod TapedFacts
+pub mod FirstFacts
+pub mod OrderRead
+pub mod UnitFacts
+pub mod QuotientFacts
+pub mod DataFacts
+pub mod UniformAnswer
 pub mod UniformBest

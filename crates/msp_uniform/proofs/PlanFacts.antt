@@ -3,14 +3,14 @@ use Rattle.std.proofs.Common.{◌≡◌, ◌≢◌, ℕ, zero, suc, ◌+◌, ◌
 use Rattle.std.proofs.Math.Nat.{mul-le-mul_left}
 use Rattle.std.proofs.lemmas.List.Elements.{All-head, All-tail}
 use Rattle.msp_class.specs.Sums.{total_below}
-use Rattle.msp_class.proofs.Sums.{sum_by-cons, AllPairs-head, AllPairs-tail, Contains-tail, total_below-same, total_below-scale}
+use Rattle.msp_class.proofs.Sums.{AllPairs-head, AllPairs-tail, Contains-tail, total_below-same, total_below-scale}
 use Rattle.msp_uniform.specs.declared.segments.Segment.{Segment}
 use Rattle.msp_uniform.specs.Segments.{at, IsSegment, IsAbsent, rate_at, job_rate, amount, AreLaid, AreScaled}
 use Rattle.msp_uniform.specs.Plans.{works, IsPlan, IsTurned}
 use Rattle.msp_uniform.proofs.PrefixFacts.{rest, DoFit-merged, DoFit-longest}
 use Rattle.msp_uniform.proofs.TurnNeeds.{difference_some}
 use Rattle.msp_uniform.proofs.SegmentFacts.{same_or_not}
-use Rattle.msp_uniform.proofs.ScaledFacts.{IsRead-place, IsRead-job, amount-scaled, All-scaled, IsSegment-part, job_kept}
+use Rattle.msp_uniform.proofs.ScaledFacts.{IsRead-place, IsRead-job, amount-scaled, amount-mono, All-scaled, IsSegment-part, job_kept}
 use Rattle.msp_uniform.proofs.TurnFacts.{segments_are, absent_still, whole_time, others_work, own_work, places_merged}
 
 positive : (a b : ℕ) → 1 ≤ a → 1 ≤ b → 1 ≤ a * b
@@ -83,10 +83,6 @@ module _ (speeds : List ℕ) (n : ℕ) (time : ℕ → ℕ) where
       small k i l b = omega (arith, works-falls unit left (time j) (AllPairs-head (λ a b. time b ≤ time a) j left p.falls) i, high i (omega arith))
 
   -- ---- a turn
-  pub amount-mono : (f g : Segment → ℕ) (xs : List Segment) → All (λ x. f x ≤ g x) xs → amount f xs ≤ amount g xs
-  amount-mono f g [] h = omega arith
-  amount-mono f g (x ∷ xs) h = omega (arith, sum_by-cons (λ y. y.length * f y) x xs, sum_by-cons (λ y. y.length * g y) x xs, mul-le-mul_left x.length (All-head (λ y. f y ≤ g y) x xs h), amount-mono f g xs (All-tail (λ y. f y ≤ g y) x xs h))
-
   pub IsPlan-turned : (j : ℕ) (left : List ℕ) (unit end g d : ℕ) (xs zs : List Segment) → IsPlan speeds n time (j ∷ left) unit end (suc (suc g)) xs → IsTurned speeds (suc (suc g)) j (unit * time j) xs d zs → IsPlan speeds n time left (unit * d) (end * d) (suc g) zs
   IsPlan-turned j left unit end g d xs zs p t = subst (IsPlan speeds n time left (unit * d) (end * d) (suc g)) (sym t.whole) (IsPlan-turn j left (unit * d) (end * d) g t.place (t.gain * d) t.fine t.firsts t.seconds inside (IsPlan-scaled (j ∷ left) unit end (suc (suc g)) d xs t.fine (difference_some speeds d t.factor) t.scaled p) t.laid work high)
     where

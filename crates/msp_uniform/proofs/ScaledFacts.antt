@@ -28,6 +28,10 @@ pub amount-least : (rate : Segment → ℕ) (b : ℕ) (xs : List Segment) → Al
 amount-least rate b [] h = omega arith
 amount-least rate b (x ∷ xs) h = omega (arith, sum_by-cons (λ y. y.length * rate y) x xs, ap (λ n. n * b) (sum_by-cons (λ y. y.length * 1) x xs), mul-le-mul_left x.length (All-head (λ y. rate y ≤ b) x xs h), amount-least rate b xs (All-tail (λ y. rate y ≤ b) x xs h))
 
+pub amount-mono : (f g : Segment → ℕ) (xs : List Segment) → All (λ x. f x ≤ g x) xs → amount f xs ≤ amount g xs
+amount-mono f g [] h = omega arith
+amount-mono f g (x ∷ xs) h = omega (arith, sum_by-cons (λ y. y.length * f y) x xs, sum_by-cons (λ y. y.length * g y) x xs, mul-le-mul_left x.length (All-head (λ y. f y ≤ g y) x xs h), amount-mono f g xs (All-tail (λ y. f y ≤ g y) x xs h))
+
 pub length-short : (xs : List Segment) → All (λ x. x.length ≤ amount (λ _. 1) xs) xs
 length-short [] = All-nil (λ x. x.length ≤ 0)
 length-short (x ∷ xs) = All-cons (λ y. y.length ≤ amount (λ _. 1) (x ∷ xs)) x xs (omega (arith, sum_by-cons (λ y. y.length * 1) x xs)) (λ k d l. omega (arith, sum_by-cons (λ y. y.length * 1) x xs, length-short xs k d l))

@@ -1,25 +1,19 @@
 -- The jobs that no place is too short for, laid one after another from the last place to the first.
 use Rattle.std.proofs.Common.{◌≡◌, ◌≢◌, ℕ, zero, suc, ◌+◌, ◌*◌, ◌-◌, ◌<◌, ◌≤◌, inl, inr, Bool, true, false, leb, List, [], ◌∷◌, ◌++◌, length, get_or, All, Contains, cond, sum_by, ap, sym, ◌∙◌, ◌⊎◌, refl, subst, arith}
 use Rattle.std.specs.Int.{◌∣◌}
-use Rattle.std.specs.Prelude.{⊤}
 use Rattle.std.proofs.lemmas.Bool.{leb-true, leb-false, ne_eqb}
 use Rattle.std.proofs.Math.Nat.{dvd-add_iff_right}
 use Rattle.std.proofs.lemmas.List.Elements.{All-append, All-head, All-tail}
 use Rattle.msp_class.proofs.Sums.{sum_by-cons, sum_by-append, sum_by-none, total_below-none, Contains-tail, AllPairs-head, AllPairs-tail}
 use Rattle.msp_uniform.specs.declared.segments.Segment.{Segment}
-use Rattle.msp_uniform.specs.Segments.{at, job_on, IsSegment, IsAbsent, rate_at, job_rate, amount, gained, CanGain, AreLaid}
+use Rattle.msp_uniform.specs.Segments.{at, job_on, IsSegment, IsAbsent, rate_at, job_rate, amount, gained, CanGain, AreWhole, AreLaid}
 use Rattle.msp_uniform.specs.Plans.{IsTape}
 use Rattle.msp_class.specs.Sums.{total_below}
 use Rattle.msp_uniform.proofs.SegmentFacts.{same_or_not, IsSegment-taken, rate_below, own_rate, other_rate, still_absent}
 use Rattle.msp_uniform.proofs.LaidFacts.{gained-mono, All-firsts, All-seconds, amount-firsts, amount-seconds}
 use Rattle.msp_uniform.proofs.ScaledFacts.{IsRead-place, IsRead-job, IsSegment-part, job_kept}
 
--- What is done before a segment is a multiple of the rate in it.
-abbrev pub AreWhole : (Segment → ℕ) → ℕ → List Segment → Type 0
-AreWhole rate done [] = ⊤
-AreWhole rate done (x ∷ xs) = (rate x ∣ done) × AreWhole rate (done + x.length * rate x) xs
-
--- then a work that is a multiple of all rates ends at a whole moment
+-- where what is done before each segment is a multiple of its rate, a work that is a multiple of all rates ends at a whole moment
 pub CanGain-whole : (rate : Segment → ℕ) (done left : ℕ) (xs : List Segment) → AreWhole rate done xs → All (λ x. rate x ∣ done + left) xs → left ≤ amount rate xs → CanGain rate left xs
 CanGain-whole rate done left [] w d l = omega (arith, l)
 CanGain-whole rate done left (x ∷ xs) w d l = by (leb (x.length * rate x) left) refl (λ m. CanGain-whole rate (done + x.length * rate x) (left - x.length * rate x) xs w.1 (λ k e b. subst (λ n. rate (get_or xs k e) ∣ n) (together done left (x.length * rate x) m) (All-tail (λ y. rate y ∣ done + left) x xs d k e b)) (omega (arith, l, sum_by-cons (λ y. y.length * rate y) x xs)))
@@ -80,6 +74,14 @@ module _ (m n : ℕ) (speed : ℕ → ℕ) (h job work : ℕ) (xs fs ss : List S
     amount-seconds Before (λ _. 1) (λ _. 1) (λ x y b t. refl) laid.laid before,
   )
 
+-- a job without a machine gets no work
+module _ (speeds : List ℕ) (k : ℕ) where
+  idle_rate : (x : Segment) → IsAbsent (length speeds) k x → job_rate (length speeds) (at speeds) k x ≡ 0
+  idle_rate x a = total_below-none (length speeds) _ (λ i l. ap (λ v. cond v (at speeds i) 0) (ne_eqb (job_on x i) k (a i l)))
+
+  pub idle_amount : (xs : List Segment) → All (IsAbsent (length speeds) k) xs → amount (job_rate (length speeds) (at speeds) k) xs ≡ 0
+  idle_amount xs a = sum_by-none (λ x. x.length * job_rate (length speeds) (at speeds) k x) xs (λ q d l. omega (arith, ap (λ v. (get_or xs q d).length * v) (idle_rate (get_or xs q d) (a q d l))))
+
 -- what is left for the jobs after one that the rest of the last place can do
 module _ (speeds : List ℕ) (n : ℕ) (time : ℕ → ℕ) (j : ℕ) (left : List ℕ) (unit end h : ℕ) (early late fs ss : List Segment) (p : IsTape speeds n time (j ∷ left) unit end h early late) (laid : AreLaid false (at speeds) j h (unit * time j) 0 late fs ss) where
   abbrev m : ℕ
@@ -122,21 +124,14 @@ module _ (speeds : List ℕ) (n : ℕ) (time : ℕ → ℕ) (j : ℕ) (left : Li
   seconds_are : All (IsSegment m n (at speeds) (suc h)) ss
   seconds_are = tape_seconds m n (at speeds) h j (unit * time j) late fs ss new each absent laid
 
-  -- a job without a machine gets no work
-  idle_rate : (k : ℕ) → (x : Segment) → IsAbsent m k x → job_rate m (at speeds) k x ≡ 0
-  idle_rate k x a = total_below-none m _ (λ i l. ap (λ v. cond v (at speeds i) 0) (ne_eqb (job_on x i) k (a i l)))
-
-  idle_amount : (k : ℕ) (xs : List Segment) → All (IsAbsent m k) xs → amount (job_rate m (at speeds) k) xs ≡ 0
-  idle_amount k xs a = sum_by-none (λ x. x.length * job_rate m (at speeds) k x) xs (λ q d l. omega (arith, ap (λ v. (get_or xs q d).length * v) (idle_rate k (get_or xs q d) (a q d l))))
-
   -- the job is done, and the others as they were
   pub done_left : (k : ℕ) → k < n → Contains left k ⊎ (amount (job_rate m (at speeds) k) (early ++ fs) + amount (job_rate m (at speeds) k) ss ≡ unit * time k)
   done_left k l = elim (same_or_not k j) [
     | inl q ↦ inr (subst (λ a. amount (job_rate m (at speeds) a) (early ++ fs) + amount (job_rate m (at speeds) a) ss ≡ unit * time a) (sym q) (omega (
       arith,
       joined (job_rate m (at speeds) j),
-      idle_amount j early (All-head (λ i. All (IsAbsent m i) early) j left p.absent_early),
-      idle_amount j ss (All-seconds (λ x. IsSegment m n (at speeds) (suc h) x × IsAbsent m j x) (IsAbsent m j) (λ x b. b.0.lasts) (λ x y b t s i c e. b.1 i c (sym (job_kept m n (at speeds) h _ x y t i) ∙ e)) laid.laid (λ q d b. (each q d b, absent q d b))),
+      idle_amount speeds j early (All-head (λ i. All (IsAbsent m i) early) j left p.absent_early),
+      idle_amount speeds j ss (All-seconds (λ x. IsSegment m n (at speeds) (suc h) x × IsAbsent m j x) (IsAbsent m j) (λ x b. b.0.lasts) (λ x y b t s i c e. b.1 i c (sym (job_kept m n (at speeds) h _ x y t i) ∙ e)) laid.laid (λ q d b. (each q d b, absent q d b))),
       tape_works m n (at speeds) h j (unit * time j) late fs ss new each absent laid,
     )))
     | inr d ↦ elim (p.done k l) [

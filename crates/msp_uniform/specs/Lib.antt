@@ -1,5 +1,7 @@
 pub mod Uniform
+pub mod Quotients
 pub mod Prefixes
 pub mod Segments
 pub mod Rows
 pub mod Plans
+pub mod Answers

@@ -6,6 +6,9 @@ use Rattle.msp_schedule.specs.declared.Piece.{Piece}
 abbrev pub piece_on : (ℕ → ℕ) → ℕ → ℕ → ℕ → ℕ → Piece
 piece_on op job machine a b = record { job = job; op = op machine; machine = machine; from = pos a; to = pos b }
 
+abbrev pub part_on : (ℕ → ℕ) → ℕ → ℕ → ℕ → ℕ → ℕ → List Piece
+part_on op none a b machine j = if j == none then [] else piece_on op j machine a b ∷ []
+
 -- The pieces from a to b, where the machines from i on have these jobs, and `none` stands for no job.
 abbrev pub pieces_in : (ℕ → ℕ) → ℕ → ℕ → ℕ → ℕ → List ℕ → List Piece
 pieces_in op none a b i [] = []

@@ -1,5 +1,5 @@
 -- Parts of the time, in each of which every machine has one job or is free. No public contract cites this file.
-use Rattle.std.specs.Prelude.{◌≡◌, ◌≢◌, ℕ, suc, ◌+◌, ◌-◌, ◌*◌, ◌<◌, ◌≤◌, ◌⊎◌, ◌==◌, Bool, true, false, List, [], ◌∷◌, ◌++◌, length, take, drop, slice_index_or, slice_set, remove, sum_by, if◌then◌else◌}
+use Rattle.std.specs.Prelude.{◌≡◌, ◌≢◌, ℕ, suc, ◌+◌, ◌-◌, ◌*◌, ◌<◌, ◌≤◌, ◌⊎◌, ◌==◌, ⊤, Bool, true, false, List, [], ◌∷◌, ◌++◌, length, map, take, drop, slice_index_or, slice_set, remove, All, sum_by, if◌then◌else◌}
 use Rattle.std.specs.Int.{◌∣◌}
 use Rattle.std.specs.List.{AllZip}
 use Rattle.msp_class.specs.Sums.{total_below}
@@ -88,11 +88,29 @@ gain_at false speed r x = rate_at speed r x
 abbrev pub AreFew : ℕ → ℕ → ℕ → Type 0
 AreFew parts segments left = (parts ≤ segments) ⊎ ((left ≡ 0) × (parts ≤ segments + 1))
 
+-- The parts are whole up to one, after which there are none.
+abbrev pub InOrder : List ℕ → List Segment → Type 0
+InOrder [] xs = ⊤
+InOrder (z ∷ zs) [] = ⊤
+InOrder (z ∷ zs) (x ∷ xs) = ((z ≡ x.length) × InOrder zs xs) ⊎ All (λ y. y ≡ 0) zs
+
+-- The first parts are in order, and whole while something is left to gain.
+pub record AreOrdered (left : ℕ) (parts : List ℕ) (xs : List Segment) : Type 0 where
+  pub order : InOrder parts xs
+  pub whole : 1 ≤ left → parts ≡ map (λ x. x.length) xs
+
+-- What is done before a segment is a multiple of the rate in it.
+abbrev pub AreWhole : (Segment → ℕ) → ℕ → List Segment → Type 0
+AreWhole rate before [] = ⊤
+AreWhole rate before (x ∷ xs) = (rate x ∣ before) × AreWhole rate (before + x.length * rate x) xs
+
 -- The segments are laid so far that so much is left to gain.
 pub record AreLaid (swap : Bool) (speed : ℕ → ℕ) (job r whole left : ℕ) (xs firsts seconds : List Segment) : Type 0 where
   pub parts : List ℕ
   pub laid : IsLaid (IsFirst job r) (IsSecond swap job r) parts xs firsts seconds
   pub gains : gained (gain_at swap speed r) parts xs + left ≡ whole
+  -- where each segment gains something
+  pub order : All (λ x. 1 ≤ gain_at swap speed r x) xs → AreOrdered left parts xs
   pub few : AreFew (length firsts + length seconds) (length xs) left
 
 -- One segment is laid after others.

@@ -27,8 +27,11 @@ abbrev pub sum : List ℕ → ℕ
 sum xs = sum_by (λ x. x) xs
 
 -- The sum of the speeds, times the gap for each machine but one, times some common multiple of the speeds, is at most 10^13.
+abbrev pub HaveSmallUnit : List ℕ → ℕ → Type 0
+HaveSmallUnit speeds machines = (multiple : ℕ) × (1 ≤ multiple) × All (λ s. (times : ℕ) × (multiple ≡ times * s)) speeds × (sum speeds * gap speeds ^ (machines - 1) * multiple ≤ 10 ^ 13)
+
 abbrev pub HasSmallUnit : Instance → Type 0
-HasSmallUnit i = (multiple : ℕ) × (1 ≤ multiple) × All (λ s. (times : ℕ) × (multiple ≡ times * s)) i.speeds × (sum i.speeds * gap i.speeds ^ (i.machines - 1) * multiple ≤ 10 ^ 13)
+HasSmallUnit i = HaveSmallUnit i.speeds i.machines
 
 -- All numbers below n, each once, by falling key.
 pub record IsByFalling (n : ℕ) (key : ℕ → ℕ) (order : List ℕ) : Type 0 where

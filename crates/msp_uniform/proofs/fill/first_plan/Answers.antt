@@ -1,0 +1,14 @@
+use Rattle.std.proofs.Common.{◌≡◌, ◌∙◌, vec_len, arith, replicate, length, refl, ap}
+use Rattle.msp_uniform.proofs.FirstFacts.{only_one}
+use Rattle.msp_uniform.proofs.fill.first_plan.Goals as goal
+
+pub returns : goal.returns
+returns c = let many : vec_len c.args.task.now.times ≡ length c.args.task.now.times.items = omega (arith, c.args.task.now.times.ok) in record {
+  x = _;
+  only = only_one _ _ _ c.in_ok-push.ensures.items c.new-segments.ensures.items;
+  unit_is = c.from-2.ensures;
+  places = refl;
+  long = c.from.ensures;
+  jobs = c.in_ok-jobs.ensures ∙ ap (replicate (length c.args.machines.now)) (c.len.ensures ∙ many);
+  free = c.in_ok-free.ensures.items;
+}
