@@ -1,16 +1,14 @@
 -- The levels of jobs, from the last of a forward order to the first.
-use Rattle.std.proofs.Common.{◌≡◌, ◌≢◌, ℕ, zero, suc, ◌+◌, ◌-◌, ◌<◌, ◌≤◌, inl, inr, max, List, [], ◌∷◌, ◌++◌, length, get_or, set, take, replicate, All, AllPairs, refl, sym, ap, subst, ◌∙◌, arith}
+use Rattle.std.proofs.Common.{◌≡◌, ◌≢◌, ℕ, zero, suc, ◌+◌, ◌-◌, ◌<◌, ◌≤◌, inl, inr, max, List, [], ◌∷◌, ◌++◌, length, get_or, set, take, replicate, All, refl, sym, ap, subst, ◌∙◌, arith}
 use Rattle.std.proofs.lemmas.Bool.{cases_lt}
-use Rattle.std.proofs.lemmas.List.{get_or-replicate, get_or_past, get_or_default, get_or-set_same, get_or-set_other, take_more, length-replicate, length-set}
+use Rattle.std.proofs.lemmas.List.{get_or-replicate, get_or_past, get_or-set_same, get_or-set_other, take_more, length-replicate, length-set}
 use Rattle.std.proofs.lemmas.List.Elements.{All-push, All-contains, All-weaker, Contains-append_left, Contains-push}
-use Rattle.std.proofs.lemmas.Option.{get_or_from_slice_get, slice_get_within}
-use Rattle.msp_class.proofs.Sums.{OnceBelow-distinct}
 use Rattle.msp_instance.specs.declared.Arc.{Arc}
 use Rattle.msp_instance.specs.declared.Instance.{Instance}
 use Rattle.msp_instance.specs.Conditions.{IsSequence, GoesForward}
 use Rattle.msp_instance.specs.Paths.{HasStep}
-use Rattle.msp_instance.proofs.CycleLemmas.{OnceBelow-from_sequence}
 use Rattle.msp_schedule.specs.Levels.{LeadsOut, IsLevel, AreLevels}
+use Rattle.msp_schedule.proofs.lists.ForwardOrders.{at_inside, each_at, set_elsewhere, leads_to}
 use Rattle.msp_levels.specs.Steps.{IsOver}
 
 abbrev none : List ℕ
@@ -76,27 +74,14 @@ IsLeveled-start i order levels place e wide none = record { wide = wide; inside 
 
 pub IsLeveled-end : (i : Instance) (order levels : List ℕ) (place : ℕ) → place ≡ 0 → IsSequence i order → IsLeveled i order place levels → AreLevels i (λ k. get_or levels k 0)
 IsLeveled-end i order levels place e s h j b =
-    let (k, l, is) = s.each j b in
-    subst (λ x. IsLevel i.arcs x (get_or levels x 0)) (get_or_default order k 0 j l ∙ is) (h.done k (omega (arith, e)) l)
+    each_at i order s (λ x. IsLevel i.arcs x (get_or levels x 0)) (λ k l. h.done k (omega (arith, e)) l) j b
 
 module _ (i : Instance) (order : List ℕ) (s : IsSequence i order) (forward : All (GoesForward order) i.arcs) (levels : List ℕ) (place job value : ℕ) (some : place < length order) (at : job ≡ get_or order place 0)
     (wide : job < 400) (h : IsLeveled i order (place + 1) levels) (over : IsOver i.arcs (λ k. get_or levels k 0) job value) where
-  apart : AllPairs (λ x y. x ≢ y) order
-  apart = OnceBelow-distinct (OnceBelow-from_sequence i order s)
-
   known : All (λ a. a.before ≡ job → IsLevel i.arcs a.after (get_or levels a.after 0)) i.arcs
   known n d l e =
-      let a = get_or i.arcs n d in
-      let (p, q, less, x, y) = forward n d l in
-      let before : get_or order p 0 ≡ a.before = get_or_from_slice_get order p a.before 0 x in
-      let after : get_or order q 0 ≡ a.after = get_or_from_slice_get order q a.after 0 y in
-      let near : q < length order = slice_get_within order q a.after y in
-      let same : get_or order p 0 ≡ get_or order place 0 = before ∙ e ∙ at in
-      let far : place + 1 ≤ q = elim (cases_lt p place) [
-        | inl early ↦ absurd (apart p place 0 early some same)
-        | inr late ↦ omega (arith, late, less)
-      ] in
-      subst (λ x. IsLevel i.arcs x (get_or levels x 0)) after (h.done q far near)
+      let (q, later, near, after) = leads_to i order s forward place some n d l (e ∙ at) in
+      subst (λ x. IsLevel i.arcs x (get_or levels x 0)) after (h.done q (omega (arith, later)) near)
 
   here : get_or (set levels job value) job 0 ≡ value
   here = get_or-set_same levels job value 0 (omega (arith, wide, h.wide))
@@ -110,8 +95,8 @@ module _ (i : Instance) (order : List ℕ) (s : IsSequence i order) (forward : A
       done : (k : ℕ) → place ≤ k → k < length order → IsLevel i.arcs (get_or order k 0) (get_or (set levels job value) (get_or order k 0) 0)
       done k from l = elim (cases_lt place k) [
         | inl past ↦
-            let other : get_or order k 0 ≢ job = λ e. apart place k 0 past l (sym at ∙ sym e) in
-            subst (IsLevel i.arcs (get_or order k 0)) (sym (get_or-set_other levels job (get_or order k 0) value 0 other)) (h.done k (omega (arith, past)) l)
+            let same = subst (λ x. get_or (set levels x value) (get_or order k 0) 0 ≡ get_or levels (get_or order k 0) 0) (sym at) (set_elsewhere i order s levels place k value some l (λ e. omega (arith, e, past))) in
+            subst (IsLevel i.arcs (get_or order k 0)) (sym same) (h.done k (omega (arith, past)) l)
         | inr now ↦
             let is : k ≡ place = omega (arith, from, now) in
             subst (λ x. IsLevel i.arcs x (get_or (set levels job value) x 0)) (at ∙ ap (λ n. get_or order n 0) (sym is)) first
@@ -131,7 +116,7 @@ module _ (i : Instance) (order : List ℕ) (s : IsSequence i order) (forward : A
 
 -- at the numbers as the code passes them
 pub job_below : (i : Instance) (order : List ℕ) → IsSequence i order → (p : ℕ) → length i.jobs ≤ 400 → p < length order → get_or order p 0 < 400
-job_below i order s p few l = let b = (OnceBelow-from_sequence i order s).within p 0 l in omega (arith, b, few)
+job_below i order s p few l = omega (arith, at_inside i order s p l, few)
 
 pub placed : (i : Instance) (order : List ℕ) → IsSequence i order → All (GoesForward order) i.arcs → (levels : List ℕ) (place job value : ℕ) (arcs : List Arc) → arcs ≡ i.arcs → length i.jobs ≤ 400 → 0 < place → job ≡ get_or order (place - 1) 0
     → IsOver arcs (λ k. get_or levels k 0) job value → IsLeveled i order place levels → IsLeveled i order (place - 1) (set levels job value)
