@@ -2,7 +2,6 @@ pub mod Counts
 pub mod Lower
 pub mod Lists
 pub mod Laying
-pub mod Facts
 pub mod Steps
 pub mod Queue
 pub mod Instances

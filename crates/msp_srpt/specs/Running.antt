@@ -10,7 +10,6 @@ use Rattle.msp_schedule.specs.declared.Piece.{Piece}
 use Rattle.msp_schedule.specs.Piece.{start, finish, IsTimed}
 use Rattle.msp_schedule.specs.Rows.{time_at}
 use Rattle.msp_srpt.specs.declared.shortest.Task.{Task}
-use Rattle.msp_srpt.specs.declared.shortest.Arrival.{Arrival}
 use Rattle.msp_srpt.specs.Shortest.{run_before, KeepsRule}
 
 -- The task runs before the other.
@@ -23,11 +22,6 @@ IsQueue items = IsHeap (λ x y. ordering_then (nat_cmp y.0.left x.0.left) (nat_c
 
 abbrev pub tasks_in : List (Reverse Task) → List Task
 tasks_in items = map (λ x. x.0) items
-
--- The arrivals are those of all jobs, each once.
-pub record AreArrivals (i : Instance) (arrivals : List Arrival) : Type 0 where
-  pub once : OnceBelow (length i.jobs) (map (λ a. a.task.job) arrivals)
-  pub each : All (λ a. (a.release ≡ (job_at i a.task.job).release) × (a.task.left ≡ time_at i a.task.job)) arrivals
 
 -- The pieces stand one after another on machine 0, end by the moment t, and begin where their jobs are released. A job that goes on is
 -- not cut.

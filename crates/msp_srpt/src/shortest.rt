@@ -3,10 +3,11 @@ ghost use Rattle.std.specs.Prelude.{◌≡◌, ℕ, ◌+◌, ◌-◌, ◌*◌, �
 ghost use Rattle.std.specs.BinaryHeap.{heap_items, heap_len};
 ghost use Rattle.std.specs.List.{range_with_len};
 ghost use Rattle.msp_instance.specs.declared.ranges.TheConstants.{MOST_JOBS};
-ghost use Rattle.msp_instance.specs.Instance.{job_at, need_at};
+ghost use Rattle.msp_instance.specs.Instance.{job_at};
 ghost use Rattle.msp_instance.specs.Conditions.{Inner};
 ghost use Rattle.msp_schedule.specs.Cost.{IsBest};
 ghost use Rattle.msp_schedule.specs.Fraction.{IsLowest};
+ghost use Rattle.msp_schedule.specs.Rows.{time_at};
 ghost use Rattle.msp_schedule.specs.Settled.{IsSettled};
 ghost use Rattle.msp_route.specs.Bounds.{IsAnswer};
 ghost use Rattle.msp_srpt.specs.Shortest.{shortest_class, IsShortestFirst};
@@ -14,7 +15,7 @@ ghost use Rattle.msp_srpt.specs.Running.{Precedes, IsQueue, tasks_in, HasBegun, 
 
 use msp_class::{Class, Crit, Env, List, NoMemory, Order, Times};
 use msp_instance::{GREATEST, Instance};
-use msp_route::{Solver, first_time};
+use msp_route::{Solver, first_time, jobs_by_key};
 use msp_schedule::{Piece, Schedule, Solution};
 use std::alloc::Global;
 use std::cmp::Reverse;
@@ -47,32 +48,43 @@ struct Arrival {
     task: Task,
 }
 
-/// The arrivals of all jobs, in order of number.
-fn arrivals_of(alloc: Global, inst: &Instance) -> Result<Vec<Arrival>, NoMemory>
-    requires few { length inst.now.jobs ≤ MOST_JOBS }
-    requires needs { All (λ j. 0 < length j.needs) inst.now.jobs }
-    ensures numbers { IfOk result (λ all. map (λ a. a.task.job) all.items ≡ range_with_len 0 (length inst.now.jobs)) }
-    ensures each { IfOk result (λ all. All (λ a. (a.release ≡ (job_at inst.now a.task.job).release) × (a.task.left ≡ (need_at inst.now a.task.job 0).time)) all.items) }
+/// The release dates of all jobs, in order of number.
+fn releases_of(alloc: Global, inst: &Instance) -> Result<Vec<u64>, NoMemory>
+    ensures { IfOk result (λ dates. dates.items ≡ map (λ j. j.release) inst.now.jobs) }
 {
-    let jobs = inst.jobs.as_slice();
-    let mut arrivals = Vec::new(alloc);
-    for k in 0..jobs.len() {
-        let left = first_time(&jobs[k]);
-        let release = jobs[k].release;
-        let task = Task {
-            left,
-            job: k as u32,
-        };
-        arrivals.push(Arrival { release, task })?;
-    }
-    Ok(arrivals)
+    Ok(
+        inst.jobs
+            .as_slice()
+            .iter()
+            .map(|job| job.release)
+            .collect(alloc)?,
+    )
 }
 
-fn sort_by_release(arrivals: &mut Vec<Arrival>)
-    ensures permutation { IsPermutation arrivals.old.items arrivals.new.items }
-    ensures sorted { AllPairs (λ a b. a.release ≤ b.release) arrivals.new.items }
+/// All jobs by release date.
+fn jobs_by_release(alloc: Global, inst: &Instance) -> Result<Vec<u32>, NoMemory>
+    requires few { length inst.now.jobs ≤ MOST_JOBS }
+    ensures all { IfOk result (λ order. IsPermutation (range_with_len 0 (length inst.now.jobs)) order.items) }
+    ensures sorted { IfOk result (λ order. AllPairs (λ a b. (job_at inst.now a).release ≤ (job_at inst.now b).release) order.items) }
 {
-    arrivals.sort_unstable_by_key(|a| a.release);
+    let releases = releases_of(alloc, inst)?;
+    jobs_by_key(alloc, releases.as_slice())
+}
+
+/// The arrival of a job.
+fn arrival_of(inst: &Instance, job: u32) -> Arrival
+    requires inside { job < length inst.now.jobs }
+    requires needs { All (λ j. 0 < length j.needs) inst.now.jobs }
+    ensures release { result.release ≡ (job_at inst.now job).release }
+    ensures job { result.task.job ≡ job }
+    ensures left { result.task.left ≡ time_at inst.now job }
+{
+    let found = &inst.jobs.as_slice()[job as usize];
+    let left = first_time(found);
+    Arrival {
+        release: found.release,
+        task: Task { left, job },
+    }
 }
 
 /// Whether the piece is one of the job and ends at the moment.
@@ -204,25 +216,36 @@ fn run_until(
     Ok(())
 }
 
-/// The pieces of all jobs by the rule: whenever a job is released, and whenever one is complete, the one that needs least goes on.
-fn shortest_pieces(alloc: Global, inst: &Instance) -> Result<List<Piece>, NoMemory>
+/// The pieces of all jobs, which are given by release date: whenever a job is released, and whenever one is complete, the one that needs
+/// least goes on.
+fn pieces_by_release(alloc: Global, inst: &Instance, order: &[u32]) -> Result<List<Piece>, NoMemory>
     requires inner { Inner inst.now }
     requires class { inst.now.class ≡ shortest_class }
+    requires all { IsPermutation (range_with_len 0 (length inst.now.jobs)) order.now }
+    requires sorted { AllPairs (λ a b. (job_at inst.now a).release ≤ (job_at inst.now b).release) order.now }
     ensures { IfOk result (λ pieces. (t : ℕ) × IsCarriedOut inst.now t pieces) }
 {
-    let mut arrivals = arrivals_of(alloc, inst)?;
-    sort_by_release(&mut arrivals);
     let mut pieces = Vec::new(alloc);
     let mut ready = BinaryHeap::new(alloc);
     let mut moment = 0;
-    for k in 0..arrivals.len() {
-        let arrival = arrivals[k];
+    for k in 0..order.len() {
+        let arrival = arrival_of(inst, order[k]);
         run_until(&mut pieces, &mut ready, moment, arrival.release)?;
         put(&mut ready, arrival.task)?;
         moment = arrival.release;
     }
     run_until(&mut pieces, &mut ready, moment, LATEST)?;
     Ok(List::from_vec(pieces))
+}
+
+/// The pieces of all jobs by the rule.
+fn shortest_pieces(alloc: Global, inst: &Instance) -> Result<List<Piece>, NoMemory>
+    requires inner { Inner inst.now }
+    requires class { inst.now.class ≡ shortest_class }
+    ensures { IfOk result (λ pieces. (t : ℕ) × IsCarriedOut inst.now t pieces) }
+{
+    let order = jobs_by_release(alloc, inst)?;
+    pieces_by_release(alloc, inst, &order)
 }
 
 /// Finds a schedule with the least sum of completion times on one machine with release dates, where jobs may be cut: at each moment the
