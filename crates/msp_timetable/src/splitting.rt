@@ -88,8 +88,5 @@ pub fn split(alloc: Global, matrix: &Matrix) -> Result<List<Slice>, NoMemory>
     requires few_columns { matrix.now.columns ≤ MOST_COLUMNS }
     ensures { IfOk result (IsSplit matrix.now) }
 {
-    match cut_all(alloc, matrix) {
-        Ok(slices) => Ok(List::from_vec(slices)),
-        Err(_) => Err(NoMemory),
-    }
+    Ok(List::from_vec(cut_all(alloc, matrix)?))
 }
