@@ -79,9 +79,7 @@ fn ranked_jobs(
     let mut all = Vec::new(alloc);
     for job in 0..count as u32 {
         let key = u64::from(levels[job as usize]);
-        if all.push(Keyed { job, key }).is_err() {
-            return Err(NoMemory);
-        }
+        all.push(Keyed { job, key })?;
     }
     Ok(all)
 }
