@@ -91,7 +91,8 @@ fn schedule_by_blocks(alloc: Global, inst: &Instance) -> Result<Solution, NoMemo
     Ok(Solution { schedule, cost })
 }
 
-/// A block whose value is the best cost: of those whose last job is placed the one of greatest value.
+/// A block whose value is the best cost. Each job, when it is placed, ends last in a block; of these blocks the one whose last job costs
+/// most is taken.
 pub fn binding(alloc: Global, inst: &Instance) -> Result<BindingBlock, NoMemory>
     requires inner { Inner inst.now }
     requires class { inst.now.class ≡ blocks_class }
