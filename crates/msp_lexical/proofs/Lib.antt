@@ -1,0 +1,10 @@
+mod TwoRows
+mod Labelling
+mod Cuts
+mod Free
+mod Seats
+mod LexicalBest
+mod TopSteps
+mod Seating
+mod Ranks
+mod SlotsMade

@@ -1,0 +1,3 @@
+pub mod Lexical
+pub mod Steps
+pub mod Slots

@@ -1,0 +1,15 @@
+//! Coffman and Graham's rule: unit jobs with any precedence on two machines, by lexical labels.
+//!
+//! It stands on `msp_schedule`, whose law of segments bounds every feasible schedule from below, on `msp_slots`, by which jobs run in the
+//! order of a list, and on `msp_route`. The layers above use the clauses of `Solver`, and `segments`: lists of jobs that show that no
+//! schedule is shorter.
+#![tactic(auto)]
+
+mod label;
+mod rule;
+mod segment;
+#[cfg(test)]
+mod tests;
+
+pub use rule::{Lexical, schedule_by_labels};
+pub use segment::segments;
