@@ -1,25 +1,52 @@
 -- The search begins with the new row, and grows by the row of the nearest column.
-use Rattle.std.proofs.Common.{◌≡◌, ◌≢◌, ℕ, ◌+◌, ◌<◌, ◌≤◌, ◌^◌, ◌⊎◌, inl, inr, List, [], ◌∷◌, ◌++◌, Bool, true, false, length, get_or, set, replicate, Contains, sym, ap, subst, ◌∙◌, arith, refl}
+use Rattle.std.proofs.Common.{◌≡◌, ◌≢◌, ℕ, ◌+◌, ◌<◌, ◌≤◌, ◌^◌, ◌⊎◌, inl, inr, List, [], ◌∷◌, ◌++◌, length, get_or, replicate, All, AllPairs, Contains, sym, ap, subst, ◌∙◌, arith, refl}
 use Rattle.std.proofs.Math.Seq.{get_or-append_seam}
-use Rattle.std.proofs.lemmas.List.{get_or-replicate, length-replicate, get_or-set_same, get_or-set_other, length-set, length-append, get_or_append_left}
-use Rattle.msp_assign.specs.Search.{at, is_in, paid, IsPlaced, IsTree, IsLevel, IsSearch, IsNearest, IsRelaxed}
-use Rattle.msp_assign.proofs.Lists.{same_or_not, true_or_not, Contains-at}
+use Rattle.std.proofs.lemmas.List.{get_or-replicate, length-replicate, length-append, get_or_append_left, get_or_default}
+use Rattle.std.proofs.lemmas.List.Elements.{All-contains, All-from_get_or}
+use Rattle.msp_assign.specs.Search.{at, paid, AreAll, IsPlaced, IsTree, IsLevel, IsSearch, IsNearest, IsRelaxed}
+use Rattle.msp_assign.proofs.Lists.{same_or_not, contained_or_not, Contains-at, at-Contains, All-from_contained, IsWithout}
+
+-- the nearest column of those that are left
+pub record IsClosest (distance left : List ℕ) (e : ℕ) : Type 0 where
+  pub among : Contains left e
+  pub least : (d : ℕ) → Contains left d → at distance e ≤ at distance d
+
+pub IsClosest-at : (distance left : List ℕ) (k e : ℕ) → IsNearest distance left k → e ≡ at left k → IsClosest distance left e
+IsClosest-at distance left k e h is = record {
+  among = Contains-at left k e h.inside (sym is);
+  least = λ d m. let w = at-Contains left d m in omega (arith, ap (at distance) is, h.least w.0 w.1, ap (at distance) w.2);
+}
+
+-- all columns are left at first
+module _ (columns : ℕ) (left : List ℕ) (h : AreAll columns left) where
+  pub all-inside : All (λ c. c < columns) left
+  all-inside = All-from_get_or (λ c. c < columns) left 0 (λ k l. omega (arith, h.each k (omega (arith, l, h.size)), l, h.size))
+
+  pub all-apart : AllPairs (λ c d. c ≢ d) left
+  all-apart j k d a b e =
+      let lj : j < length left = omega (arith, a, b) in
+      omega (arith, a, get_or_default left j 0 d lj, get_or_default left k 0 d b, e, h.each j (omega (arith, lj, h.size)), h.each k (omega (arith, b, h.size)))
+
+  pub all-contained : (c : ℕ) → c < columns → Contains left c
+  all-contained c l = Contains-at left c c (omega (arith, l, h.size)) (h.each c l)
 
 module _ (cost : ℕ → ℕ → ℕ) (columns : ℕ) (fall column : List ℕ) where
-  module _ (settled : List Bool) (distance «from» next next_from : List ℕ)
-      (fresh : (c : ℕ) → c < columns → is_in settled c ≡ false)
+  module _ (left distance «from» next next_from : List ℕ)
+      (inside : All (λ c. c < columns) left)
+      (apart : AllPairs (λ c d. c ≢ d) left)
+      (all : (c : ℕ) → c < columns → Contains left c)
       (bound : (c : ℕ) → c < columns → paid cost fall (length column) c ≤ 2 ^ 101)
       (far : (c : ℕ) → c < columns → 2 ^ 101 < at distance c)
-      (h : IsRelaxed cost columns fall (length column) 0 0 0 settled distance «from» next next_from) where
+      (h : IsRelaxed cost fall (length column) 0 0 0 left distance «from» next next_from) where
     -- each column is reached from the new row
     begun_at : (c : ℕ) → c < columns → (at next_from c ≡ 0) × (at next c ≡ paid cost fall (length column) c)
-    begun_at c l = elim (h.each c l).change [
-      | inl a ↦ absurd (omega (arith, a.0, (h.each c l).close (fresh c l), bound c l, far c l))
-      | inr a ↦ (a.1, omega (arith, a.2))
+    begun_at c l = elim (h.each c (all c l)).change [
+      | inl a ↦ absurd (omega (arith, a.0, (h.each c (all c l)).close, bound c l, far c l))
+      | inr a ↦ (a.0, omega (arith, a.1))
     ]
 
-    pub IsSearch-begin : length next ≡ columns → length next_from ≡ columns → length settled ≡ columns → IsSearch cost columns fall column next next_from settled ([] ++ length column ∷ [])
-    IsSearch-begin sd sf ss = record {
+    pub IsSearch-begin : length next ≡ columns → length next_from ≡ columns → IsSearch cost columns fall column next next_from left ([] ++ length column ∷ [])
+    IsSearch-begin sd sf = record {
       grown = record {
         size = sf;
         some = omega arith;
@@ -30,69 +57,40 @@ module _ (cost : ℕ → ℕ → ℕ) (columns : ℕ) (fall column : List ℕ) w
         within = λ c l. omega (arith, (begun_at c l).0);
       };
       distances = sd;
-      flags = ss;
+      inside = inside;
+      apart = apart;
       own = λ k a b. absurd (omega (arith, a, b));
-      owned = λ c l q. absurd (true_and_false (is_in settled c) q (fresh c l));
+      owned = λ c l. inl (all c l);
       level_own = λ k a b. absurd (omega (arith, a, b));
       level = λ c l. record {
         level = λ d ld. subst (λ k. at next d + paid cost fall (at (length column ∷ []) k) c ≤ at next c + paid cost fall (at (length column ∷ []) k) d) (sym (begun_at c l).0) (omega (arith, (begun_at c l).1, (begun_at d ld).1));
       };
-      nearer = λ c d l ld q. absurd (true_and_false (is_in settled c) q (fresh c l));
+      nearer = λ c d l n m. absurd (n (all c l));
       low = λ c l. omega (arith, (begun_at c l).1, bound c l);
     }
-      where
-        true_and_false : (b : Bool) → b ≡ true → b ≡ false → ⊥
-        true_and_false b p q = cc
 
-  pub IsSearch-same : (distance «from» next next_from : List ℕ) (settled settled2 : List Bool) (tree tree2 : List ℕ) → next ≡ distance → next_from ≡ «from» → settled2 ≡ settled → tree2 ≡ tree
-      → IsSearch cost columns fall column distance «from» settled tree → IsSearch cost columns fall column next next_from settled2 tree2
-  IsSearch-same distance from_ next next_from settled settled2 tree tree2 a b s t h =
-      subst (λ x. IsSearch cost columns fall column x next_from settled2 tree2) (sym a)
-      (subst (λ x. IsSearch cost columns fall column distance x settled2 tree2) (sym b)
+  pub IsSearch-same : (distance «from» next next_from left left2 tree tree2 : List ℕ) → next ≡ distance → next_from ≡ «from» → left2 ≡ left → tree2 ≡ tree
+      → IsSearch cost columns fall column distance «from» left tree → IsSearch cost columns fall column next next_from left2 tree2
+  IsSearch-same distance from_ next next_from left left2 tree tree2 a b s t h =
+      subst (λ x. IsSearch cost columns fall column x next_from left2 tree2) (sym a)
+      (subst (λ x. IsSearch cost columns fall column distance x left2 tree2) (sym b)
       (subst (λ x. IsSearch cost columns fall column distance from_ x tree2) (sym s)
-      (subst (λ x. IsSearch cost columns fall column distance from_ settled x) (sym t) h)))
+      (subst (λ x. IsSearch cost columns fall column distance from_ left x) (sym t) h)))
 
-  -- the lists as they are made
-  pub IsSearch-made : (k most : ℕ) (settled : List Bool) (distance «from» next next_from tree : List ℕ) → k ≡ columns → 2 ^ 101 < most → settled ≡ replicate k false → distance ≡ replicate k most → length «from» ≡ k
-      → ((c : ℕ) → c < columns → paid cost fall (length column) c ≤ 2 ^ 101) → length next ≡ length distance → length next_from ≡ length «from»
-      → IsRelaxed cost columns fall (length column) 0 0 0 settled distance «from» next next_from → tree ≡ [] ++ length column ∷ [] → IsSearch cost columns fall column next next_from settled tree
-  IsSearch-made k most settled distance from_ next next_from tree ek lm es ed lf bound ln lnf q et =
-      IsSearch-same next next_from next next_from settled settled ([] ++ length column ∷ []) tree refl refl refl et
-      (IsSearch-begin settled distance from_ next next_from
-      (λ c l. ap (λ x. get_or x c false) es ∙ get_or-replicate k c false false (omega (arith, ek)))
-      bound
-      (λ c l. let e : at distance c ≡ most = ap (λ x. get_or x c 0) ed ∙ get_or-replicate k c most 0 (omega (arith, ek)) in omega (arith, e))
-      q
-      (omega (arith, ln, ap length ed, length-replicate k most, ek))
-      (omega (arith, lnf, lf, ek))
-      (ap length es ∙ length-replicate k false ∙ ek))
+  module _ (p : IsPlaced cost columns fall column) (distance «from» left tree : List ℕ) (h : IsSearch cost columns fall column distance «from» left tree)
+      (e r : ℕ) (near : IsClosest distance left e) (lr : r < length column) (has : at column r ≡ e) (rest : List ℕ) (w : IsWithout left e rest) where
+    in_view : e < columns
+    in_view = All-contains (λ c. c < columns) left e h.inside near.among
 
-  module _ (p : IsPlaced cost columns fall column) (distance «from» : List ℕ) (settled : List Bool) (tree : List ℕ) (h : IsSearch cost columns fall column distance «from» settled tree)
-      (e r : ℕ) (near : IsNearest columns distance settled e) (lr : r < length column) (has : at column r ≡ e) where
-    other_flag : (c : ℕ) → c ≢ e → is_in (set settled e true) c ≡ is_in settled c
-    other_flag c n = get_or-set_other settled e c true false n
-
-    new_flag : is_in (set settled e true) e ≡ true
-    new_flag = get_or-set_same settled e true false (omega (arith, h.flags, near.inside))
-
-    kept_flag : (c : ℕ) → is_in settled c ≡ true → is_in (set settled e true) c ≡ true
-    kept_flag c q = elim (same_or_not c e) [
-      | inl x ↦ ap (is_in (set settled e true)) x ∙ new_flag
-      | inr n ↦ other_flag c n ∙ q
-    ]
-
-    both : (b : Bool) → b ≡ true → b ≡ false → ⊥
-    both b x y = cc
-
-    -- a free column stays so
-    pub still_open : (c : ℕ) → c < columns → ¬ Contains column c → is_in (set settled e true) c ≡ false
-    still_open c l n = other_flag c (λ x. n (Contains-at column r c lr (has ∙ sym x))) ∙ elim (true_or_not (is_in settled c)) [
-      | inl t ↦ let w = h.owned c l t in absurd (n (Contains-at column (at tree w.0) c (h.grown.rows w.0 w.1 w.2) w.3))
-      | inr f ↦ f
+    -- a free column stays
+    pub still_left : (c : ℕ) → c < columns → ¬ Contains column c → Contains rest c
+    still_left c l n = elim (h.owned c l) [
+      | inl m ↦ w.after c m (λ x. n (Contains-at column r c lr (has ∙ sym x)))
+      | inr t ↦ absurd (n (Contains-at column (at tree t.0) c (h.grown.rows t.0 t.1 t.2) t.3))
     ]
 
     module _ (next next_from : List ℕ) (depth own : ℕ) (is_depth : depth ≡ at distance e) (is_own : own ≡ paid cost fall r e)
-        (q : IsRelaxed cost columns fall r (length tree) depth own (set settled e true) distance «from» next next_from) where
+        (q : IsRelaxed cost fall r (length tree) depth own rest distance «from» next next_from) where
       old_at : (k : ℕ) → k < length tree → at (tree ++ r ∷ []) k ≡ at tree k
       old_at k l = get_or_append_left tree (r ∷ []) 0 k l
 
@@ -109,11 +107,11 @@ module _ (cost : ℕ → ℕ → ℕ) (columns : ℕ) (fall column : List ℕ) w
       ]
 
       -- final distances stay
-      frozen : (c : ℕ) → c < columns → is_in (set settled e true) c ≡ true → (at next c ≡ at distance c) × (at next_from c ≡ at «from» c)
-      frozen c l t = elim (q.each c l).change [
-        | inl a ↦ a
-        | inr a ↦ absurd (both (is_in (set settled e true) c) t a.0)
-      ]
+      frozen : (c : ℕ) → ¬ Contains left c → (at next c ≡ at distance c) × (at next_from c ≡ at «from» c)
+      frozen c n = q.others c (λ m. n (w.before c m))
+
+      frozen_here : (at next e ≡ at distance e) × (at next_from e ≡ at «from» e)
+      frozen_here = q.others e w.gone
 
       cheapest : (d : ℕ) → d < columns → paid cost fall r e ≤ paid cost fall r d
       cheapest d l = subst (λ x. paid cost fall r x ≤ paid cost fall r d) has ((p.cheapest r lr).cheapest d l)
@@ -121,22 +119,40 @@ module _ (cost : ℕ → ℕ → ℕ) (columns : ℕ) (fall column : List ℕ) w
       inside : (k : ℕ) → 1 ≤ k → k < length tree → at column (at tree k) < columns
       inside k a b = p.inside (at tree k) 0 (h.grown.rows k a b)
 
+      -- no distance grows
+      fewer : (d : ℕ) → d < columns → at next d ≤ at distance d
+      fewer d l = elim (contained_or_not rest d) [
+        | inl m ↦ (q.each d m).fewer
+        | inr n ↦ omega (arith, (q.others d n).0)
+      ]
+
+      -- one that is not left is no farther than the new one
+      settled_near : (d : ℕ) → d < columns → ¬ Contains rest d → at distance d ≤ at distance e
+      settled_near d l n = elim (same_or_not d e) [
+        | inl x ↦ omega (arith, ap (at distance) x)
+        | inr m ↦ h.nearer d e l (λ k. n (w.after d k m)) near.among
+      ]
+
       level_new : IsLevel cost columns fall next r e
       level_new = record {
-        level = λ d l. elim (true_or_not (is_in (set settled e true) d)) [
-          | inr f ↦ omega (arith, (q.each d l).close f, is_depth, is_own, (frozen e near.inside new_flag).0)
-          | inl t ↦ elim (same_or_not d e) [
+        level = λ d l. elim (contained_or_not rest d) [
+          | inl m ↦ omega (arith, (q.each d m).close, is_depth, is_own, frozen_here.0)
+          | inr n ↦ elim (same_or_not d e) [
             | inl x ↦ subst (λ y. at next y + paid cost fall r e ≤ at next e + paid cost fall r y) (sym x) (omega arith)
-            | inr n ↦ omega (arith, (q.each d l).fewer, h.nearer d e l near.inside (sym (other_flag d n) ∙ t) near.unsettled, (frozen e near.inside new_flag).0, cheapest d l)
+            | inr m ↦ omega (arith, fewer d l, settled_near d l n, frozen_here.0, cheapest d l)
           ]
         ];
       }
 
-      level_kept : (s c : ℕ) → c < columns → at next c ≡ at distance c → IsLevel cost columns fall distance s c → IsLevel cost columns fall next s c
-      level_kept s c l x y = record { level = λ d ld. omega (arith, y.level d ld, (q.each d ld).fewer, x) }
+      level_kept : (s c : ℕ) → at next c ≡ at distance c → IsLevel cost columns fall distance s c → IsLevel cost columns fall next s c
+      level_kept s c x y = record { level = λ d ld. omega (arith, y.level d ld, fewer d ld, x) }
 
-      level_relaxed : (c : ℕ) → c < columns → at next c + own ≡ depth + paid cost fall r c → IsLevel cost columns fall next r c
-      level_relaxed c l x = record { level = λ d ld. omega (arith, level_new.level d ld, x, is_own, is_depth, (frozen e near.inside new_flag).0) }
+      level_relaxed : (c : ℕ) → at next c + own ≡ depth + paid cost fall r c → IsLevel cost columns fall next r c
+      level_relaxed c x = record { level = λ d ld. omega (arith, level_new.level d ld, x, is_own, is_depth, frozen_here.0) }
+
+      -- how a column is reached
+      reached : (c : ℕ) → ((at next c ≡ at distance c) × (at next_from c ≡ at «from» c)) ⊎ ((at next_from c ≡ length tree) × (at next c + own ≡ depth + paid cost fall r c))
+      reached c = elim (contained_or_not rest c) [ inl m ↦ (q.each c m).change | inr n ↦ inl (q.others c n) ]
 
       tree_next : length next_from ≡ columns → IsTree columns column next_from (tree ++ r ∷ [])
       tree_next sf = record {
@@ -154,53 +170,67 @@ module _ (cost : ℕ → ℕ → ℕ) (columns : ℕ) (fall column : List ℕ) w
               let same : at tree j ≡ r = sym (old_at j lj) ∙ s ∙ x.1 in
               elim (same_or_not j 0) [
                 | inl z ↦ omega (arith, same, ap (at tree) z, h.grown.first)
-                | inr z ↦ both (is_in settled e) (sym (ap (is_in settled) (ap (at column) same ∙ has)) ∙ h.own j (omega arith) lj) near.unsettled
+                | inr z ↦ h.own j (omega arith) lj (subst (Contains left) (sym (ap (at column) same ∙ has)) near.among)
               ]
         ];
         before = λ k a b. elim (node k b) [
           | inl x ↦ subst (λ y. at next_from (at column y) < k) (sym x.1)
-              (subst (λ y. y < k) (sym (frozen (at column (at tree k)) (inside k a x.0) (kept_flag _ (h.own k a x.0))).1) (h.grown.before k a x.0))
-          | inr x ↦ subst (λ y. at next_from y < k) (sym (ap (at column) x.1 ∙ has)) (omega (arith, (frozen e near.inside new_flag).1, h.grown.within e near.inside, x.0))
+              (subst (λ y. y < k) (sym (frozen (at column (at tree k)) (h.own k a x.0)).1) (h.grown.before k a x.0))
+          | inr x ↦ subst (λ y. at next_from y < k) (sym (ap (at column) x.1 ∙ has)) (omega (arith, frozen_here.1, h.grown.within e in_view, x.0))
         ];
-        within = λ c l. elim (q.each c l).change [
+        within = λ c l. elim (reached c) [
           | inl a ↦ omega (arith, a.1, h.grown.within c l, longer)
-          | inr a ↦ omega (arith, a.1, longer)
+          | inr a ↦ omega (arith, a.0, longer)
         ];
       }
 
-      pub IsSearch-grow : length next ≡ columns → length next_from ≡ columns → IsSearch cost columns fall column next next_from (set settled e true) (tree ++ r ∷ [])
+      pub IsSearch-grow : length next ≡ columns → length next_from ≡ columns → IsSearch cost columns fall column next next_from rest (tree ++ r ∷ [])
       IsSearch-grow sd sf = record {
         grown = tree_next sf;
         distances = sd;
-        flags = length-set settled e true ∙ h.flags;
+        inside = All-from_contained (λ c. c < columns) rest (λ c m. All-contains (λ d. d < columns) left c h.inside (w.before c m));
+        apart = w.apart;
         own = λ k a b. elim (node k b) [
-          | inl x ↦ ap (λ y. is_in (set settled e true) (at column y)) x.1 ∙ kept_flag _ (h.own k a x.0)
-          | inr x ↦ ap (is_in (set settled e true)) (ap (at column) x.1 ∙ has) ∙ new_flag
+          | inl x ↦ λ m. h.own k a x.0 (subst (Contains left) (ap (at column) x.1) (w.before _ m))
+          | inr x ↦ λ m. w.gone (subst (Contains rest) (ap (at column) x.1 ∙ has) m)
         ];
-        owned = λ c l t. elim (same_or_not c e) [
-          | inl x ↦ (length tree, h.grown.some, omega (arith, longer), ap (at column) new_at ∙ has ∙ sym x)
-          | inr n ↦ let w = h.owned c l (sym (other_flag c n) ∙ t) in (w.0, w.1, omega (arith, w.2, longer), ap (at column) (old_at w.0 w.2) ∙ w.3)
+        owned = λ c l. elim (same_or_not c e) [
+          | inl x ↦ inr (length tree, h.grown.some, omega (arith, longer), ap (at column) new_at ∙ has ∙ sym x)
+          | inr n ↦ elim (h.owned c l) [
+            | inl m ↦ inl (w.after c m n)
+            | inr t ↦ inr (t.0, t.1, omega (arith, t.2, longer), ap (at column) (old_at t.0 t.2) ∙ t.3)
+          ]
         ];
         level_own = λ k a b. elim (node k b) [
-          | inl x ↦ subst (λ y. IsLevel cost columns fall next y (at column y)) (sym x.1)
-              (level_kept _ _ (inside k a x.0) (frozen (at column (at tree k)) (inside k a x.0) (kept_flag _ (h.own k a x.0))).0 (h.level_own k a x.0))
+          | inl x ↦ subst (λ y. IsLevel cost columns fall next y (at column y)) (sym x.1) (level_kept _ _ (frozen (at column (at tree k)) (h.own k a x.0)).0 (h.level_own k a x.0))
           | inr x ↦ subst (λ y. IsLevel cost columns fall next y (at column y)) (sym x.1) (subst (IsLevel cost columns fall next r) (sym has) level_new)
         ];
-        level = λ c l. elim (q.each c l).change [
-          | inl a ↦ subst (λ y. IsLevel cost columns fall next y c) (sym (ap (at (tree ++ r ∷ [])) a.1 ∙ old_at (at «from» c) (h.grown.within c l))) (level_kept _ c l a.0 (h.level c l))
-          | inr a ↦ subst (λ y. IsLevel cost columns fall next y c) (sym (ap (at (tree ++ r ∷ [])) a.1 ∙ new_at)) (level_relaxed c l a.2)
+        level = λ c l. elim (reached c) [
+          | inl a ↦ subst (λ y. IsLevel cost columns fall next y c) (sym (ap (at (tree ++ r ∷ [])) a.1 ∙ old_at (at «from» c) (h.grown.within c l))) (level_kept _ c a.0 (h.level c l))
+          | inr a ↦ subst (λ y. IsLevel cost columns fall next y c) (sym (ap (at (tree ++ r ∷ [])) a.0 ∙ new_at)) (level_relaxed c a.1)
         ];
-        nearer = λ c d lc ld t f.
-            let nd : d ≢ e = λ x. both (is_in (set settled e true) e) new_flag (ap (is_in (set settled e true)) (sym x) ∙ f) in
-            let far : at distance e ≤ at distance d = near.least d ld (sym (other_flag d nd) ∙ f) in
-            let close : at distance c ≤ at distance e = elim (same_or_not c e) [
-              | inl x ↦ omega (arith, ap (at distance) x)
-              | inr n ↦ h.nearer c e lc near.inside (sym (other_flag c n) ∙ t) near.unsettled
-            ]
-            in
-            elim (q.each d ld).change [
-              | inl a ↦ omega (arith, (frozen c lc t).0, a.0, far, close)
-              | inr a ↦ omega (arith, (frozen c lc t).0, a.2, close, is_depth, is_own, cheapest d ld)
+        nearer = λ c d lc n m.
+            let ld : d < columns = All-contains (λ x. x < columns) left d h.inside (w.before d m) in
+            let far : at distance e ≤ at distance d = near.least d (w.before d m) in
+            let close : at distance c ≤ at distance e = settled_near c lc n in
+            elim (q.each d m).change [
+              | inl a ↦ omega (arith, (q.others c n).0, a.0, far, close)
+              | inr a ↦ omega (arith, (q.others c n).0, a.1, close, is_depth, is_own, cheapest d ld)
             ];
-        low = λ c l. omega (arith, (q.each c l).fewer, h.low c l);
+        low = λ c l. omega (arith, fewer c l, h.low c l);
       }
+
+-- the lists as they are made
+pub IsSearch-made : (cost : ℕ → ℕ → ℕ) (columns : ℕ) (fall column : List ℕ) (k most : ℕ) (left left2 distance «from» next next_from tree : List ℕ) → k ≡ columns → 2 ^ 101 < most
+    → AreAll k left → left2 ≡ left → distance ≡ replicate k most → length «from» ≡ k
+    → ((c : ℕ) → c < columns → paid cost fall (length column) c ≤ 2 ^ 101) → length next ≡ length distance → length next_from ≡ length «from»
+    → IsRelaxed cost fall (length column) 0 0 0 left2 distance «from» next next_from → tree ≡ [] ++ length column ∷ [] → IsSearch cost columns fall column next next_from left tree
+IsSearch-made cost columns fall column k most left left2 distance from_ next next_from tree ek lm all es ed lf bound ln lnf q et =
+    let every : AreAll columns left = subst (λ x. AreAll x left) ek all in
+    IsSearch-same cost columns fall column next next_from next next_from left left ([] ++ length column ∷ []) tree refl refl refl et
+    (IsSearch-begin cost columns fall column left distance from_ next next_from (all-inside columns left every) (all-apart columns left every) (all-contained columns left every)
+    bound
+    (λ c l. let e : at distance c ≡ most = ap (λ x. get_or x c 0) ed ∙ get_or-replicate k c most 0 (omega (arith, ek)) in omega (arith, e))
+    (subst (λ x. IsRelaxed cost fall (length column) 0 0 0 x distance from_ next next_from) es q)
+    (omega (arith, ln, ap length ed, length-replicate k most, ek))
+    (omega (arith, lnf, lf, ek)))

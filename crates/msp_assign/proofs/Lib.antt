@@ -4,5 +4,8 @@ pub mod Bounds
 pub mod Relaxed
 pub mod Growth
 pub mod Passing
+pub mod Lowering
 pub mod Moves
+pub mod Views
+pub mod Placements
 pub mod Least

@@ -1,12 +1,12 @@
--- Reads of lists of numbers and flags after a write or a push.
-use Rattle.std.proofs.Common.{◌≡◌, ◌≢◌, ℕ, ◌+◌, ◌<◌, ◌≤◌, ◌⊎◌, inl, inr, refl, List, ◌++◌, Bool, true, false, eqb, length, take, drop, Contains, All, cond, count_by, ◌*◌, ◌-◌, subst, ◌∙◌, arith}
-use Rattle.std.proofs.lemmas.Bool.{eqb-true, eqb-false}
+-- Reads of lists of numbers after a write or a push, and lists of distinct numbers.
+use Rattle.std.proofs.Common.{◌≡◌, ◌≢◌, ℕ, suc, ◌+◌, ◌<◌, ◌≤◌, ◌⊎◌, inl, inr, refl, List, [], ◌∷◌, ◌++◌, Bool, true, false, eqb, leb, length, take, drop, swap_remove, Contains, All, AllPairs, IsPermutation, cond, count_by, ◌*◌, ◌-◌, sym, subst, ◌∙◌, arith}
+use Rattle.std.proofs.lemmas.Bool.{eqb-true, eqb-false, eq-eqb, leb-true, leb-false}
 use Rattle.std.proofs.Math.Seq.{take-append_seam}
 use Rattle.std.proofs.lemmas.List.{get_or_default}
-use Rattle.std.proofs.lemmas.List.Elements.{Contains-get_or}
-use Rattle.std.proofs.lemmas.Bool.{eq-eqb}
+use Rattle.std.proofs.lemmas.List.Elements.{All-from_get_or, Contains-get_or, Contains-append_right, Contains-append_cases, Contains-push_cases}
+use Rattle.std.proofs.lemmas.List.Sorted.{Contains-permutation, IsPermutation-sym, IsPermutation-swap_remove}
 use Rattle.msp_class.specs.Sums.{total_below}
-use Rattle.msp_class.proofs.Sums.{total_below-add, total_below-mono, total_below-constant, total_below-some, sum_by_counts, sum_by-constant, sum_by-contains, cond-yes}
+use Rattle.msp_class.proofs.Sums.{total_below-add, total_below-mono, total_below-constant, total_below-some, sum_by_counts, sum_by-constant, sum_by-contains, sum_by-IsPermutation, count_by-distinct, distinct_from_counts, cond-yes}
 use Rattle.msp_assign.specs.Search.{at}
 
 pub Contains-at : (xs : List ℕ) (k c : ℕ) → k < length xs → at xs k ≡ c → Contains xs c
@@ -23,14 +23,78 @@ same_or_not a b = by (eqb a b) refl
     by true e = inl (eqb-true a b e)
     by false e = inr (eqb-false a b e)
 
+pub less_or_not : (a b : ℕ) → (a < b) ⊎ (b ≤ a)
+less_or_not a b = by (leb b a) refl
+  where
+    by : (v : Bool) → leb b a ≡ v → (a < b) ⊎ (b ≤ a)
+    by true e = inr (leb-true b a e)
+    by false e = inl (leb-false b a e)
+
 -- what a vector holds after its slice was written
 pub whole_slice : {X : Type 0} (n k : ℕ) (xs ys : List X) → length xs ≡ n → take n (xs ++ drop k ys) ≡ xs
 whole_slice n k xs ys e = subst (λ m. take m (xs ++ drop k ys) ≡ xs) e (take-append_seam xs (drop k ys))
 
--- flags are up or not
-pub true_or_not : (b : Bool) → (b ≡ true) ⊎ (b ≡ false)
-true_or_not true = inl refl
-true_or_not false = inr refl
+Contains-head : (x : ℕ) (xs : List ℕ) (c : ℕ) → Contains (x ∷ xs) c → (x ≡ c) ⊎ Contains xs c
+Contains-head x xs c h = elim (Contains-append_cases (x ∷ []) xs c h) [
+  | inr m ↦ inr m
+  | inl m ↦ elim (Contains-push_cases [] x c m) [
+    | inl z ↦ let w = at-Contains [] c z in absurd (omega (arith, w.1))
+    | inr e ↦ inl e
+  ]
+]
+
+-- numbers are in a list or not
+pub contained_or_not : (xs : List ℕ) (c : ℕ) → Contains xs c ⊎ ¬ Contains xs c
+contained_or_not [] c = inr (λ m. let w = at-Contains [] c m in omega (arith, w.1))
+contained_or_not (x ∷ xs) c = elim (same_or_not x c) [
+  | inl e ↦ inl (Contains-at (x ∷ xs) 0 c (omega arith) e)
+  | inr n ↦ elim (contained_or_not xs c) [
+    | inl m ↦ inl (Contains-append_right (x ∷ []) xs c m)
+    | inr m ↦ inr (λ h. elim (Contains-head x xs c h) [ inl e ↦ n e | inr k ↦ m k ])
+  ]
+]
+
+-- without repeats, equal numbers stand at one place
+pub same_place : (xs : List ℕ) → AllPairs (λ x y. x ≢ y) xs → (i j : ℕ) → i < length xs → j < length xs → at xs i ≡ at xs j → i ≡ j
+same_place xs h i j li lj e = elim (same_or_not i j) [
+  | inl s ↦ s
+  | inr n ↦ elim (less_or_not i j) [
+    | inl l ↦ absurd (h i j 0 l lj e)
+    | inr l ↦ absurd (h j i 0 (omega (arith, l, n)) li (sym e))
+  ]
+]
+
+-- a rearrangement has no repeats either
+pub distinct-permutation : (xs ys : List ℕ) → IsPermutation xs ys → AllPairs (λ x y. x ≢ y) xs → AllPairs (λ x y. x ≢ y) ys
+distinct-permutation xs ys p h = distinct_from_counts ys (λ i. omega (arith, sum_by-IsPermutation (λ x. cond (eqb x i) 1 0) xs ys p, count_by-distinct xs i h))
+
+-- one of distinct numbers is taken away
+pub record IsWithout (xs : List ℕ) (e : ℕ) (ys : List ℕ) : Type 0 where
+  pub apart : AllPairs (λ x y. x ≢ y) ys
+  pub gone : ¬ Contains ys e
+  pub before : (c : ℕ) → Contains ys c → Contains xs c
+  pub after : (c : ℕ) → Contains xs c → c ≢ e → Contains ys c
+
+pub IsWithout-swap_remove : (xs ys : List ℕ) (k e : ℕ) → AllPairs (λ x y. x ≢ y) xs → k < length xs → e ≡ at xs k → ys ≡ swap_remove xs k e → IsWithout xs e ys
+IsWithout-swap_remove xs ys k e h l is s = record {
+  apart = λ i j d a b. all (suc i) (suc j) d (omega arith) (omega arith);
+  gone = λ m. let w = at-Contains ys e m in all 0 (suc w.0) 0 (omega arith) (omega (arith, w.1)) (sym w.2);
+  before = λ c m. Contains-permutation (e ∷ ys) xs c (IsPermutation-sym xs (e ∷ ys) moved) (Contains-append_right (e ∷ []) ys c m);
+  after = λ c m n. elim (Contains-head e ys c (Contains-permutation xs (e ∷ ys) c moved m)) [
+    | inl q ↦ absurd (n (sym q))
+    | inr q ↦ q
+  ];
+}
+  where
+    moved : IsPermutation xs (e ∷ ys)
+    moved = subst (λ x. IsPermutation xs (e ∷ x)) (sym s) (IsPermutation-swap_remove xs k e l (is ∙ get_or_default xs k 0 e l))
+
+    all : AllPairs (λ x y. x ≢ y) (e ∷ ys)
+    all = distinct-permutation xs (e ∷ ys) moved h
+
+-- a property of numbers that holds of all that are contained
+pub All-from_contained : (P : ℕ → Type 0) (xs : List ℕ) → ((c : ℕ) → Contains xs c → P c) → All P xs
+All-from_contained P xs h = All-from_get_or P xs 0 (λ i l. h (at xs i) (Contains-at xs i (at xs i) l refl))
 
 -- a number that is contained is counted
 pub counted : (xs : List ℕ) (i : ℕ) → Contains xs i → 1 ≤ count_by (λ x. eqb x i) xs

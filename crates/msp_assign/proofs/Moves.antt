@@ -1,72 +1,60 @@
 -- After a search the prices move, and the columns are passed on: one row more has a column where it pays least.
-use Rattle.std.proofs.Common.{◌≡◌, ◌≢◌, ℕ, ◌+◌, ◌<◌, ◌≤◌, ◌^◌, ◌⊎◌, inl, inr, List, [], ◌∷◌, ◌++◌, Bool, true, false, eqb, leb, cond, length, get_or, AllPairs, Contains, IsPermutation, Result, Ok, Err, OnOk, sym, ap, subst, ◌∙◌, arith, refl}
-use Rattle.std.proofs.lemmas.Bool.{leb-true, leb-false}
-use Rattle.std.proofs.lemmas.List.{length-append}
-use Rattle.std.proofs.lemmas.List.Elements.{All-append, All-cons, All-nil, Contains-append_left, Contains-get_or}
+use Rattle.std.proofs.Common.{◌≡◌, ◌≢◌, ℕ, ◌+◌, ◌-◌, ◌<◌, ◌≤◌, ◌^◌, inl, inr, ℤ, List, [], ◌∷◌, ◌++◌, length, get_or, Contains, sym, ap, subst, ◌∙◌, arith}
+use Rattle.std.proofs.lemmas.List.{length-append, get_or_default}
+use Rattle.std.proofs.lemmas.List.Elements.{All-append, All-cons, All-nil, All-contains, Contains-append_left, Contains-get_or}
 use Rattle.std.proofs.lemmas.List.Quantifiers.{all_pairs_push}
 use Rattle.std.proofs.lemmas.List.Sorted.{All-permutation, Contains-permutation, length_permutation}
-use Rattle.msp_class.proofs.Sums.{sum_by-IsPermutation, count_by-distinct, distinct_from_counts}
-use Rattle.msp_assign.specs.Search.{at, is_in, HasUnfallen, IsCheapest, IsPlaced, IsLevel, IsSearch, IsNearest, IsLowered, IsStep, IsPassedOn}
-use Rattle.msp_assign.proofs.Lists.{same_or_not, true_or_not, Contains-at}
-
--- without repeats, equal numbers stand at one place
-pub same_place : (xs : List ℕ) → AllPairs (λ x y. x ≢ y) xs → (i j : ℕ) → i < length xs → j < length xs → at xs i ≡ at xs j → i ≡ j
-same_place xs h i j li lj e = elim (same_or_not i j) [
-  | inl s ↦ s
-  | inr n ↦ elim (lower i j n) [
-    | inl l ↦ absurd (h i j 0 l lj e)
-    | inr l ↦ absurd (h j i 0 l li (sym e))
-  ]
-]
-  where
-    lower : (a b : ℕ) → a ≢ b → (a < b) ⊎ (b < a)
-    lower a b n = by (leb a b) refl
-      where
-        by : (v : Bool) → leb a b ≡ v → (a < b) ⊎ (b < a)
-        by true q = inl (omega (arith, leb-true a b q, n))
-        by false q = inr (leb-false a b q)
-
--- a rearrangement has no repeats either
-pub distinct-permutation : (xs ys : List ℕ) → IsPermutation xs ys → AllPairs (λ x y. x ≢ y) xs → AllPairs (λ x y. x ≢ y) ys
-distinct-permutation xs ys p h = distinct_from_counts ys (λ i. omega (arith, sum_by-IsPermutation (λ x. cond (eqb x i) 1 0) xs ys p, count_by-distinct xs i h))
-
-pub on_ok : {T E : Type 0} (r : Result T E) (P Q : Type 0) → (P → Q) → OnOk r P → OnOk r Q
-on_ok (Ok x) P Q f h = f h
-on_ok (Err e) P Q f h = h
+use Rattle.msp_assign.specs.Prices.{HasCosts}
+use Rattle.msp_assign.specs.Search.{at, sizes, IsCheapest, IsPlaced, IsLevel, IsSearch, IsNearest, IsLowered, IsStep, IsPassedOn, IsOneMore}
+use Rattle.msp_assign.proofs.Lists.{same_place, distinct-permutation, contained_or_not, Contains-at}
+use Rattle.msp_assign.proofs.Growth.{IsClosest, IsClosest-at}
+use Rattle.msp_assign.proofs.Bounds.{sizes-at_most}
 
 module _ (cost : ℕ → ℕ → ℕ) (columns : ℕ) (fall column : List ℕ) (p : IsPlaced cost columns fall column)
-    (distance «from» : List ℕ) (settled : List Bool) (tree : List ℕ) (h : IsSearch cost columns fall column distance «from» settled tree)
-    (free : ℕ) (near : IsNearest columns distance settled free) (unused : ¬ Contains column free)
+    (distance «from» left tree : List ℕ) (h : IsSearch cost columns fall column distance «from» left tree)
+    (free : ℕ) (near : IsClosest distance left free) (unused : ¬ Contains column free)
     (bound : (r : ℕ) → r < length column → cost r free ≤ 2 ^ 100)
-    (next : List ℕ) (moved : IsLowered columns (at distance free) distance fall next) where
+    (next : List ℕ) (lowered : IsLowered (at distance free) distance column tree fall next) where
+  in_view : free < columns
+  in_view = All-contains (λ c. c < columns) left free h.inside near.among
+
+  -- each column that is nearer than the free one falls by as much as it is nearer
+  moved : (c : ℕ) → c < columns → at next c ≡ at fall c + (at distance free - at distance c)
+  moved c l = elim (contained_or_not left c) [
+    | inl m ↦ omega (arith, near.least c m, lowered.others c (λ k a b e. h.own k a b (subst (Contains left) (sym e) m)))
+    | inr n ↦ elim (h.owned c l) [
+      | inl m ↦ absurd (n m)
+      | inr w ↦ subst (λ x. at next x ≡ at fall x + (at distance free - at distance x)) w.3 (lowered.reached w.0 w.1 w.2)
+    ]
+  ]
+
   -- a column that is level for the row and no farther than the free one is the cheapest after the move
   cheapest_near : (r c : ℕ) → c < columns → at distance c ≤ at distance free → IsLevel cost columns fall distance r c → IsCheapest cost columns next r c
-  cheapest_near r c l a v = record { cheapest = λ d ld. omega (arith, v.level d ld, moved.each c l, moved.each d ld, a) }
+  cheapest_near r c l a v = record { cheapest = λ d ld. omega (arith, v.level d ld, moved c l, moved d ld, a) }
 
   -- and one that was the cheapest and is no nearer
   cheapest_far : (r c : ℕ) → c < columns → at distance free ≤ at distance c → IsCheapest cost columns fall r c → IsCheapest cost columns next r c
-  cheapest_far r c l a v = record { cheapest = λ d ld. omega (arith, v.cheapest d ld, moved.each c l, moved.each d ld, a) }
+  cheapest_far r c l a v = record { cheapest = λ d ld. omega (arith, v.cheapest d ld, moved c l, moved d ld, a) }
 
   inside : (r : ℕ) → r < length column → at column r < columns
   inside r l = p.inside r 0 l
 
-  settled_near : (c : ℕ) → c < columns → is_in settled c ≡ true → at distance c ≤ at distance free
-  settled_near c l t = h.nearer c free l near.inside t near.unsettled
+  settled_near : (c : ℕ) → c < columns → ¬ Contains left c → at distance c ≤ at distance free
+  settled_near c l n = h.nearer c free l n near.among
 
   -- each row before keeps its column as the cheapest
   kept : (r : ℕ) → r < length column → IsCheapest cost columns next r (at column r)
-  kept r l = elim (true_or_not (is_in settled (at column r))) [
-    | inl t ↦
-        let w = h.owned (at column r) (inside r l) t in
+  kept r l = elim (h.owned (at column r) (inside r l)) [
+    | inl m ↦ cheapest_far r (at column r) (inside r l) (near.least (at column r) m) (p.cheapest r l)
+    | inr w ↦
         let same : at tree w.0 ≡ r = same_place column p.apart (at tree w.0) r (h.grown.rows w.0 w.1 w.2) l w.3 in
-        cheapest_near r (at column r) (inside r l) (settled_near (at column r) (inside r l) t)
+        cheapest_near r (at column r) (inside r l) (settled_near (at column r) (inside r l) (subst (λ x. ¬ Contains left x) w.3 (h.own w.0 w.1 w.2)))
         (subst (λ s. IsLevel cost columns fall distance s (at column s)) same (h.level_own w.0 w.1 w.2))
-    | inr f ↦ cheapest_far r (at column r) (inside r l) (near.least (at column r) (inside r l) f) (p.cheapest r l)
   ]
 
   -- a column on the way back is the cheapest for the row from which it is reached
   step_inside : (c : ℕ) → IsStep column tree free c → (c < columns) × (at distance c ≤ at distance free)
-  step_inside c (inl e) = (subst (λ x. x < columns) (sym e) near.inside, omega (arith, ap (at distance) e))
+  step_inside c (inl e) = (subst (λ x. x < columns) (sym e) in_view, omega (arith, ap (at distance) e))
   step_inside c (inr w) =
       let l = inside (at tree w.0) (h.grown.rows w.0 w.1 w.2) in
       (subst (λ x. x < columns) w.3 l, subst (λ x. at distance x ≤ at distance free) w.3 (settled_near (at column (at tree w.0)) l (h.own w.0 w.1 w.2)))
@@ -76,65 +64,66 @@ module _ (cost : ℕ → ℕ → ℕ) (columns : ℕ) (fall column : List ℕ) (
 
   -- only the price of an owned column moves
   still : (c : ℕ) → c < columns → ¬ Contains column c → (at distance free ≤ at distance c) × (at next c ≡ 0)
-  still c l n = elim (true_or_not (is_in settled c)) [
-    | inl t ↦ let w = h.owned c l t in absurd (n (Contains-at column (at tree w.0) c (h.grown.rows w.0 w.1 w.2) w.3))
-    | inr f ↦ let a = near.least c l f in (a, omega (arith, a, moved.each c l, p.unused c l n))
+  still c l n = elim (h.owned c l) [
+    | inl m ↦ let a = near.least c m in (a, omega (arith, a, moved c l, p.unused c l n))
+    | inr w ↦ absurd (n (Contains-at column (at tree w.0) c (h.grown.rows w.0 w.1 w.2) w.3))
   ]
 
   low : (c : ℕ) → c < columns → at next c ≤ 2 ^ 100
-  low c l = elim (true_or_not (is_in settled c)) [
-    | inl t ↦
-        let w = h.owned c l t in
+  low c l = elim (h.owned c l) [
+    | inl m ↦ omega (arith, near.least c m, moved c l, p.low c l)
+    | inr w ↦
         let s = h.grown.rows w.0 w.1 w.2 in
-        let k = (kept (at tree w.0) s).cheapest free near.inside in
-        omega (arith, k, (still free near.inside unused).1, bound (at tree w.0) s, ap (at next) w.3)
-    | inr f ↦ omega (arith, near.least c l f, moved.each c l, p.low c l)
+        let k = (kept (at tree w.0) s).cheapest free in_view in
+        omega (arith, k, (still free in_view unused).1, bound (at tree w.0) s, ap (at next) w.3)
   ]
 
   module _ (after : List ℕ) (q : IsPassedOn column «from» tree free after) where
     longer : length after ≡ length column + 1
     longer = length_permutation (column ++ free ∷ []) after q.same ∙ length-append column (free ∷ [])
 
-    pub IsPlaced-moved : IsPlaced cost columns next after × (length after ≡ length column + 1)
-    IsPlaced-moved = (
-      record {
-        size = moved.size;
-        low = low;
-        inside = All-permutation (λ c. c < columns) (column ++ free ∷ []) after q.same (All-append (λ c. c < columns) column (free ∷ []) p.inside (All-cons (λ c. c < columns) free [] near.inside (All-nil (λ c. c < columns))));
-        apart = distinct-permutation (column ++ free ∷ []) after q.same (all_pairs_push (λ c d. c ≢ d) column free p.apart (λ k d l e. unused (subst (Contains column) e (get k d l))));
-        cheapest = λ r l. elim (q.each r (omega (arith, longer))) [
-          | inl a ↦ subst (IsCheapest cost columns next r) (sym a.1) (kept r a.0)
-          | inr a ↦ reached r (at after r) a.0 a.1
-        ];
-        unused = λ c l n. (still c l (λ m. n (Contains-permutation (column ++ free ∷ []) after c q.same (Contains-append_left column (free ∷ []) c m)))).1;
-      },
-      longer,
-    )
+    pub IsPlaced-moved : IsPlaced cost columns next after
+    IsPlaced-moved = record {
+      size = lowered.size ∙ p.size;
+      low = low;
+      inside = All-permutation (λ c. c < columns) (column ++ free ∷ []) after q.same (All-append (λ c. c < columns) column (free ∷ []) p.inside (All-cons (λ c. c < columns) free [] in_view (All-nil (λ c. c < columns))));
+      apart = distinct-permutation (column ++ free ∷ []) after q.same (all_pairs_push (λ c d. c ≢ d) column free p.apart (λ k d l e. unused (subst (Contains column) e (get k d l))));
+      cheapest = λ r l. elim (q.each r (omega (arith, longer))) [
+        | inl a ↦ subst (IsCheapest cost columns next r) (sym a.1) (kept r a.0)
+        | inr a ↦ reached r (at after r) a.0 a.1
+      ];
+      unused = λ c l n. (still c l (λ m. n (Contains-permutation (column ++ free ∷ []) after c q.same (Contains-append_left column (free ∷ []) c m)))).1;
+    }
       where
         get : (k d : ℕ) → k < length column → Contains column (get_or column k d)
         get k d l = Contains-get_or column k d l
 
--- the same, as the lists are read
-pub IsPlaced-row : (cost : ℕ → ℕ → ℕ) (columns : ℕ) (fall column column2 distance distance2 «from» from2 : List ℕ) (settled : List Bool) (tree tree2 : List ℕ) (free far : ℕ) (next after : List ℕ)
-    → column2 ≡ column → distance2 ≡ distance → from2 ≡ «from» → tree2 ≡ tree → far ≡ at distance free
-    → IsPlaced cost columns fall column → IsSearch cost columns fall column2 distance «from» settled tree → IsNearest columns distance settled free → ¬ Contains column2 free
-    → ((r : ℕ) → r < length column → cost r free ≤ 2 ^ 100) → IsLowered (length fall) far distance2 fall next → IsPassedOn column from2 tree2 free after
-    → IsPlaced cost columns next after × (length after ≡ length column + 1)
-IsPlaced-row cost columns fall column column2 distance distance2 from_ from2 settled tree tree2 free far next after ec ed ef et ex p h near unused bound moved passed =
-    IsPlaced-moved cost columns fall column p distance from_ settled tree
-    (subst (λ x. IsSearch cost columns fall x distance from_ settled tree) ec h)
-    free near
-    (subst (λ x. ¬ Contains x free) ec unused)
-    bound next
-    (subst (λ x. IsLowered x (at distance free) distance fall next) p.size (subst (λ x. IsLowered (length fall) x distance fall next) ex (subst (λ x. IsLowered (length fall) far x fall next) ed moved)))
-    after
-    (subst (λ x. IsPassedOn column x tree free after) ef (subst (λ x. IsPassedOn column from2 x free after) et passed))
+    pub IsOneMore-moved : IsOneMore columns column next after free
+    IsOneMore-moved = record { same = q.same; inside = in_view; free_before = unused; unfallen = (still free in_view unused).1 }
 
--- the free column does not fall
-pub HasUnfallen-moved : (cost : ℕ → ℕ → ℕ) (columns d : ℕ) (fall column column2 distance distance2 next : List ℕ) (free : ℕ) → column2 ≡ column → distance2 ≡ distance → d ≡ at distance free
-    → IsPlaced cost columns fall column → free < columns → ¬ Contains column2 free → IsLowered (length fall) d distance2 fall next → HasUnfallen columns next
-HasUnfallen-moved cost columns d fall column column2 distance distance2 next free ec ed e p l unused moved = (
-  free,
-  l,
-  omega (arith, moved.each free (omega (arith, p.size, l)), p.unused free l (subst (λ x. ¬ Contains x free) ec unused), e, ap (λ x. at x free) ed),
-)
+-- what the row's step gives
+pub record IsStepped (cost : ℕ → ℕ → ℕ) (columns : ℕ) (next column after : List ℕ) (free : ℕ) : Type 0 where
+  pub placed : IsPlaced cost columns next after
+  pub longer : length after ≡ length column + 1
+  pub taken : IsOneMore columns column next after free
+
+-- the same, as the lists are read
+pub IsStepped-row : (rows : ℕ) (cost : ℕ → ℕ → ℤ) (columns : ℕ) (fall column column2 column3 distance distance2 «from» from2 left tree tree2 tree3 : List ℕ) (k free far : ℕ) (next after : List ℕ)
+    → column2 ≡ column → column3 ≡ column → distance2 ≡ distance → from2 ≡ «from» → tree2 ≡ tree → tree3 ≡ tree → free ≡ get_or left k free → far ≡ get_or distance free far
+    → HasCosts rows columns cost → length column < rows → IsPlaced (sizes cost) columns fall column → IsSearch (sizes cost) columns fall column2 distance «from» left tree → IsNearest distance left k → ¬ Contains column2 (at left k)
+    → IsLowered far distance2 column3 tree2 fall next → IsPassedOn column from2 tree3 free after → IsStepped (sizes cost) columns next column after free
+IsStepped-row rows cost columns fall column column2 column3 distance distance2 from_ from2 left tree tree2 tree3 k free far next after ec ec3 ed ef et et3 es ex costs more p h near unused moved passed =
+    let is : free ≡ at left k = es ∙ get_or_default left k free 0 near.inside in
+    let close = IsClosest-at distance left k free near is in
+    let inside : free < columns = omega (arith, is, h.inside k 0 near.inside) in
+    let is_far : far ≡ at distance free = ex ∙ get_or_default distance free far 0 (omega (arith, h.distances, inside)) in
+    let g = subst (λ x. IsSearch (sizes cost) columns fall x distance from_ left tree) ec h in
+    let u : ¬ Contains column free = subst (λ x. ¬ Contains x free) ec (subst (λ x. ¬ Contains column2 x) (sym is) unused) in
+    let l = subst (λ x. IsLowered (at distance free) distance x tree fall next) ec3 (subst (λ x. IsLowered (at distance free) distance column3 x fall next) et (subst (λ x. IsLowered (at distance free) x column3 tree2 fall next) ed (subst (λ x. IsLowered x distance2 column3 tree2 fall next) is_far moved))) in
+    let q = subst (λ x. IsPassedOn column x tree free after) ef (subst (λ x. IsPassedOn column from2 x free after) et3 passed) in
+    let bound : (r : ℕ) → r < length column → sizes cost r free ≤ 2 ^ 100 = λ r lr. sizes-at_most rows columns cost costs r free (omega (arith, lr, more)) inside in
+    record {
+      placed = IsPlaced-moved (sizes cost) columns fall column p distance from_ left tree g free close u bound next l after q;
+      longer = longer (sizes cost) columns fall column p distance from_ left tree g free close u bound next l after q;
+      taken = IsOneMore-moved (sizes cost) columns fall column p distance from_ left tree g free close u bound next l after q;
+    }

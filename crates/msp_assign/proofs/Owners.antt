@@ -1,5 +1,5 @@
 -- The rows that have the columns, row after row.
-use Rattle.std.proofs.Common.{◌≡◌, ◌≢◌, ℕ, ◌+◌, ◌<◌, inl, inr, List, length, get_or, set, Option, None, Some, MatchOption, Contains, sym, ap, subst, ◌∙◌, arith}
+use Rattle.std.proofs.Common.{◌≡◌, ◌≢◌, ℕ, ◌+◌, ◌<◌, inl, inr, List, length, get_or, set, Option, None, Some, MatchOption, Contains, sym, ap, subst, ◌∙◌, arith, refl}
 use Rattle.std.proofs.lemmas.List.{get_or-set_same, get_or-set_other, length-set}
 use Rattle.msp_assign.specs.Search.{at, IsOwners}
 use Rattle.msp_assign.proofs.Lists.{at-Contains, same_or_not}
@@ -32,3 +32,11 @@ none_contained column c (Some r) h = h
 
 pub IsOwners-from_below : (columns : ℕ) (column : List ℕ) (owner : List (Option ℕ)) → IsOwnersBelow columns (length column) column owner → IsOwners columns column owner
 IsOwners-from_below columns column owner h = record { size = h.size; each = λ c l. none_contained column c (get_or owner c None) (h.each c l) }
+
+-- a column without owner is free
+pub free_from_owners : (columns : ℕ) (column : List ℕ) (owner : List (Option ℕ)) → IsOwners columns column owner → (c e : ℕ) → c ≡ e → e < columns → ((r : ℕ) → get_or owner c None ≡ Some r → ⊥) → ¬ Contains column e
+free_from_owners columns column owner h c e same l none = by (get_or owner e None) refl (h.each e l)
+  where
+    by : (o : Option ℕ) → get_or owner e None ≡ o → MatchOption o (¬ Contains column e) (λ r. (r < length column) × (at column r ≡ e)) → ¬ Contains column e
+    by None q m = m
+    by (Some r) q m = absurd (none r (ap (λ x. get_or owner x None) same ∙ q))

@@ -3,9 +3,11 @@ ghost use Rattle.std.specs.Prelude.{◌≡◌, ◌≤◌, IfOk};
 ghost use Rattle.msp_assign.specs.Prices.{HasCosts, IsAssigned, IsPriced, IsLeast, HasFreeColumn, cost_of, price_of};
 ghost use Rattle.msp_assign.specs.Limits.{AreLimits};
 
-use crate::Costs;
-use crate::placing::placed;
-use crate::prices::{column_prices, row_prices};
+use crate::placement::placed;
+use crate::prices::{column_prices, numbers, row_prices};
+use crate::single::Single;
+use crate::view::View;
+use crate::{Costs, Lines};
 use msp_class::{List, NoMemory};
 use std::alloc::{AllocError, Global};
 
@@ -28,32 +30,54 @@ pub fn law_of_limits()
 {}
 
 /// The columns of the rows, and the prices.
-fn priced<C: Costs>(alloc: Global, costs: &C) -> Result<Assignment, AllocError>
-    requires some { 1 ≤ C.row_count costs.now }
-    requires few { C.row_count costs.now ≤ MOST_ROWS }
-    requires enough { C.row_count costs.now ≤ C.column_count costs.now }
-    requires costs { HasCosts (C.row_count costs.now) (C.column_count costs.now) (C.cost costs.now) }
-    ensures assigned { IfOk result (λ a. IsAssigned (C.row_count costs.now) (C.column_count costs.now) a.column) }
-    ensures priced { IfOk result (λ a. IsPriced (C.row_count costs.now) (C.column_count costs.now) (C.cost costs.now) a) }
-    ensures zero { IfOk result (HasFreeColumn (C.column_count costs.now)) }
+fn priced<L: Lines>(alloc: Global, costs: &L) -> Result<Assignment, AllocError>
+    requires some { 1 ≤ L.row_count costs.now }
+    requires few { L.row_count costs.now ≤ MOST_ROWS }
+    requires enough { L.row_count costs.now ≤ L.column_count costs.now }
+    requires columns { L.column_count costs.now ≤ MOST_COLUMNS }
+    requires costs { HasCosts (L.row_count costs.now) (L.column_count costs.now) (L.cost costs.now) }
+    ensures assigned { IfOk result (λ a. IsAssigned (L.row_count costs.now) (L.column_count costs.now) a.column) }
+    ensures priced { IfOk result (λ a. IsPriced (L.row_count costs.now) (L.column_count costs.now) (L.cost costs.now) a) }
+    ensures zero { IfOk result (HasFreeColumn (L.column_count costs.now)) }
 {
     let placement = placed(alloc, costs)?;
-    let row_price = row_prices(
-        alloc,
-        costs,
-        placement.falls.as_slice(),
-        placement.column_of.as_slice(),
-    )?;
-    let column_price = column_prices(alloc, placement.falls.as_slice())?;
+    let columns = placement.columns.as_slice();
+    let column_of = placement.column_of.as_slice();
+    let falls = placement.falls.as_slice();
+    let (lines, length) = (costs.lines(), costs.length());
+    let column = numbers(alloc, columns, column_of, lines, length)?;
+    let column_price = column_prices(alloc, columns, falls, lines, length)?;
+    let view = View { costs, columns };
+    let row_price = row_prices(alloc, &view, falls, column_of)?;
     Ok(Assignment {
-        column: List::from_vec(placement.column_of),
+        column,
         row_price,
         column_price,
     })
 }
 
-/// Gives each row a column of its own, at least cost, with prices that show it. Row after row takes the shortest path to a free
-/// column, and the prices move with the paths (Kuhn 1955, Tomizawa 1971).
+/// Gives each row a column of its own, at least cost, with prices that show it, where costs rise along lines of columns. Row after row
+/// takes the shortest path to a free column, and the prices move with the paths (Kuhn 1955, Tomizawa 1971). Of each line only the columns
+/// that rows have are looked at, and the first one that no row has: a later one costs no less and has price 0.
+pub fn assign_on_lines<L: Lines>(alloc: Global, costs: &L) -> Result<Assignment, NoMemory>
+    requires some { 1 ≤ L.row_count costs.now }
+    requires few { L.row_count costs.now ≤ MOST_ROWS }
+    requires enough { L.row_count costs.now ≤ L.column_count costs.now }
+    requires columns { L.column_count costs.now ≤ MOST_COLUMNS }
+    requires costs { HasCosts (L.row_count costs.now) (L.column_count costs.now) (L.cost costs.now) }
+    ensures assigned { IfOk result (λ a. IsAssigned (L.row_count costs.now) (L.column_count costs.now) a.column) }
+    ensures priced { IfOk result (λ a. IsPriced (L.row_count costs.now) (L.column_count costs.now) (L.cost costs.now) a) }
+    ensures zero { IfOk result (HasFreeColumn (L.column_count costs.now)) }
+    ensures least { IfOk result (λ a. IsLeast (L.row_count costs.now) (L.column_count costs.now) (L.cost costs.now) a.column) }
+    ensures total { IfOk result (λ a. cost_of (L.row_count costs.now) (L.cost costs.now) a.column ≡ price_of (L.row_count costs.now) (L.column_count costs.now) a) }
+{
+    match priced(alloc, costs) {
+        Ok(assignment) => Ok(assignment),
+        Err(_) => Err(NoMemory),
+    }
+}
+
+/// The same for any costs: each column is a line of its own.
 pub fn assign<C: Costs>(alloc: Global, costs: &C) -> Result<Assignment, NoMemory>
     requires some { 1 ≤ C.row_count costs.now }
     requires few { C.row_count costs.now ≤ MOST_ROWS }
@@ -66,8 +90,5 @@ pub fn assign<C: Costs>(alloc: Global, costs: &C) -> Result<Assignment, NoMemory
     ensures least { IfOk result (λ a. IsLeast (C.row_count costs.now) (C.column_count costs.now) (C.cost costs.now) a.column) }
     ensures total { IfOk result (λ a. cost_of (C.row_count costs.now) (C.cost costs.now) a.column ≡ price_of (C.row_count costs.now) (C.column_count costs.now) a) }
 {
-    match priced(alloc, costs) {
-        Ok(assignment) => Ok(assignment),
-        Err(_) => Err(NoMemory),
-    }
+    assign_on_lines(alloc, &Single { costs })
 }

@@ -5,14 +5,20 @@
 #![tactic(auto)]
 
 mod assignment;
+mod column;
 mod costs;
+mod lines;
+mod placement;
 mod placing;
 mod prices;
 mod search;
+mod single;
 mod stored;
 #[cfg(test)]
 mod tests;
+mod view;
 
-pub use assignment::{Assignment, MOST_COLUMNS, MOST_ROWS, assign, law_of_limits};
+pub use assignment::{Assignment, MOST_COLUMNS, MOST_ROWS, assign, assign_on_lines, law_of_limits};
 pub use costs::Costs;
+pub use lines::Lines;
 pub use stored::Stored;

@@ -1,21 +1,27 @@
 // One more row: the prices move, and the columns are passed on along the way to the free one.
-ghost use Rattle.std.specs.Prelude.{◌≡◌, ◌+◌, ◌<◌, ◌≤◌, ℕ, All, IfOk, OnOk, length};
+ghost use Rattle.std.specs.Prelude.{◌≡◌, ◌≢◌, ◌+◌, ◌<◌, ◌≤◌, ℕ, All, AllPairs, Contains, IfOk, OnOk, length};
 ghost use Rattle.msp_class.specs.declared.list.TheConstants.{PLACES};
 ghost use Rattle.msp_assign.specs.Prices.{greatest_cost, HasCosts};
-ghost use Rattle.msp_assign.specs.Search.{greatest_payment, at, sizes, HasUnfallen, IsPlaced, IsTree, IsLowered, IsPassedOn};
+ghost use Rattle.msp_assign.specs.Search.{greatest_payment, at, sizes, IsPlaced, IsTree, IsLowered, IsPassedOn, IsOneMore};
 
 use crate::Costs;
 use crate::search::{find_free, owners};
 use std::alloc::{AllocError, Global};
 
-/// Lowers the price of each column that is nearer than the free one, by as much as it is nearer.
-fn lower(falls: &mut [u128], distance: &[u128], far: u128)
+/// Lowers the prices of the columns of the rows of the tree, which are nearer than the free one, by as much as they are nearer.
+fn lower(falls: &mut [u128], distance: &[u128], far: u128, column_of: &[u32], tree: &[u32])
+    requires some { 1 ≤ length tree.now }
+    requires rows { (k : ℕ) → 1 ≤ k → k < length tree.now → at tree.now k < length column_of.now }
+    requires once { (j k : ℕ) → j < k → k < length tree.now → at tree.now j ≢ at tree.now k }
+    requires apart { AllPairs (λ c d. c ≢ d) column_of.now }
+    requires inside { All (λ c. c < length falls.old) column_of.now }
     requires sizes { length distance.now ≡ length falls.old }
     requires low { (c : ℕ) → c < length falls.old → at falls.old c ≤ greatest_cost }
     requires near { far ≤ greatest_payment }
-    ensures { IsLowered (length falls.old) far distance.now falls.old falls.new }
+    ensures { IsLowered far distance.now column_of.now tree.now falls.old falls.new }
 {
-    for column in 0..falls.len() {
+    for place in 1..tree.len() {
+        let column = column_of[tree[place] as usize] as usize;
         falls[column] += far.saturating_sub(distance[column]);
     }
 }
@@ -45,55 +51,39 @@ fn pass_on(
     Ok(())
 }
 
-/// Gives one more row a column of its own: over the shortest way to a free column, with the prices that follow.
-fn place_row<C: Costs>(
+/// Gives one more row a column of its own: over the shortest way to a free column, with the prices that follow. It says which column was
+/// free.
+pub fn place_row<C: Costs>(
     alloc: Global,
     costs: &C,
     falls: &mut [u128],
     column_of: &mut Vec<u32>,
-) -> Result<(), AllocError>
+) -> Result<u32, AllocError>
     requires costs { HasCosts (C.row_count costs.now) (C.column_count costs.now) (C.cost costs.now) }
     requires placed { IsPlaced (sizes (C.cost costs.now)) (C.column_count costs.now) falls.old column_of.old.items }
     requires more { length column_of.old.items < C.row_count costs.now }
-    requires enough { C.row_count costs.now ≤ C.column_count costs.now }
+    requires free { (c : ℕ) × (c < C.column_count costs.now) × ¬ Contains column_of.old.items c }
     requires few { length column_of.old.items < PLACES }
-    ensures placed { OnOk result (IsPlaced (sizes (C.cost costs.now)) (C.column_count costs.now) falls.new column_of.new.items) }
-    ensures longer { OnOk result (length column_of.new.items ≡ length column_of.old.items + 1) }
-    ensures zero { OnOk result (HasUnfallen (C.column_count costs.now) falls.new) }
+    ensures placed { IfOk result (λ _. IsPlaced (sizes (C.cost costs.now)) (C.column_count costs.now) falls.new column_of.new.items) }
+    ensures longer { IfOk result (λ _. length column_of.new.items ≡ length column_of.old.items + 1) }
+    ensures taken { IfOk result (IsOneMore (C.column_count costs.now) column_of.old.items falls.new column_of.new.items) }
 {
     let owner = owners(alloc, costs.columns(), column_of.as_slice())?;
     let found = find_free(alloc, costs, falls, column_of.as_slice(), owner.as_slice())?;
-    let far = found.distance[found.nearest as usize];
-    lower(falls, found.distance.as_slice(), far);
+    let free = found.left[found.nearest];
+    let far = found.distance[free as usize];
+    lower(
+        falls,
+        found.distance.as_slice(),
+        far,
+        column_of.as_slice(),
+        found.tree.as_slice(),
+    );
     pass_on(
         column_of,
         found.from.as_slice(),
         found.tree.as_slice(),
-        found.nearest,
-    )
-}
-
-/// The columns of the rows, and how far the columns' prices are below 0.
-#[derive(Drop)]
-pub struct Placement {
-    pub falls: Vec<u128>,
-    pub column_of: Vec<u32>,
-}
-
-/// Gives each row a column, row after row.
-pub fn placed<C: Costs>(alloc: Global, costs: &C) -> Result<Placement, AllocError>
-    requires some { 1 ≤ C.row_count costs.now }
-    requires enough { C.row_count costs.now ≤ C.column_count costs.now }
-    requires costs { HasCosts (C.row_count costs.now) (C.column_count costs.now) (C.cost costs.now) }
-    ensures placed { IfOk result (λ p. IsPlaced (sizes (C.cost costs.now)) (C.column_count costs.now) p.falls.items p.column_of.items) }
-    ensures all { IfOk result (λ p. length p.column_of.items ≡ C.row_count costs.now) }
-    ensures zero { IfOk result (λ p. HasUnfallen (C.column_count costs.now) p.falls.items) }
-{
-    let mut falls = vec![in alloc; 0; costs.columns() as usize]?;
-    let mut column_of = Vec::new(alloc);
-    let rows = costs.rows() as usize;
-    'rows: while column_of.len() < rows {
-        place_row(alloc, costs, falls.as_mut_slice(), &mut column_of)?;
-    }
-    Ok(Placement { falls, column_of })
+        free,
+    )?;
+    Ok(free)
 }

@@ -1,8 +1,8 @@
 // The search for a free column for one more row.
-ghost use Rattle.std.specs.Prelude.{◌≡◌, ◌+◌, ◌<◌, ◌≤◌, ℕ, All, Contains, IfOk, OnOk, false, length};
+ghost use Rattle.std.specs.Prelude.{◌≡◌, ◌≢◌, ◌+◌, ◌<◌, ◌≤◌, ℕ, All, AllPairs, Contains, IfOk, OnOk, true, false, length};
 ghost use Rattle.msp_class.specs.declared.list.TheConstants.{PLACES};
 ghost use Rattle.msp_assign.specs.Prices.{greatest_cost, HasCosts};
-ghost use Rattle.msp_assign.specs.Search.{greatest_payment, at, is_in, sizes, paid, unsettled, IsPlaced, IsOwners, IsSearch, IsNearest, IsRelaxed, IsRelaxedOnce, IsShortened, HasEdges};
+ghost use Rattle.msp_assign.specs.Search.{greatest_payment, at, sizes, paid, IsPlaced, IsOwners, AreAll, IsSearch, IsNearest, IsRelaxed, IsShortened, IsNearer, IsWay, HasEdges};
 
 use crate::Costs;
 use std::alloc::{AllocError, Global};
@@ -50,41 +50,20 @@ pub struct Reached {
     pub own: u128,
 }
 
-/// The nearest column so far.
+/// The nearest so far of the columns that are left: its place in their list, and its distance.
 #[derive(Clone, Copy)]
 pub struct Nearest {
-    pub column: u32,
+    pub place: usize,
     pub distance: u128,
 }
 
-/// Shortens the way to a column that is not settled, where it is shorter over the row, and says which column is the nearest so far.
-fn relax_column<C: Costs>(
-    costs: &C,
-    falls: &[u128],
-    reached: Reached,
-    column: u32,
-    settled: &[bool],
-    distance: &mut [u128],
-    from: &mut [usize],
-    nearest: Nearest,
-) -> Nearest
-    requires edges { HasEdges (C.row_count costs.now) (C.column_count costs.now) (C.cost costs.now) falls.now reached.row reached.depth reached.own settled.now distance.old from.old }
+/// How far the column is over the row: as far as the row's own column, and what the row pays more.
+fn way_over<C: Costs>(costs: &C, falls: &[u128], reached: Reached, column: u32) -> u128
+    requires edges { HasEdges (C.row_count costs.now) (C.column_count costs.now) (C.cost costs.now) falls.now reached.row reached.depth reached.own }
     requires column { column < C.column_count costs.now }
-    ensures { IsRelaxedOnce (sizes (C.cost costs.now)) falls.now reached.row reached.place reached.depth reached.own settled.now distance.old from.old distance.new from.new column nearest.column nearest.distance result.column result.distance }
+    ensures { IsWay (sizes (C.cost costs.now)) falls.now reached.row reached.depth reached.own column result }
 {
-    let place = column as usize;
-    if settled[place] {
-        return nearest;
-    }
-    let far = reached.depth + (payment(costs, falls, reached.row, column) - reached.own);
-    let shortest = shorten(distance, from, place, far, reached.place);
-    if shortest < nearest.distance {
-        return Nearest {
-            column,
-            distance: shortest,
-        };
-    }
-    nearest
+    reached.depth + (payment(costs, falls, reached.row, column) - reached.own)
 }
 
 /// The lesser of the column's distance and that over the row at the place of the tree, which the column keeps.
@@ -107,30 +86,57 @@ fn shorten(
     distance[column]
 }
 
-/// Shortens the ways to all columns that are not settled, where they are shorter over the row, and says which one is the nearest.
+/// The nearest column so far, after the one at the place, which is so far. Of columns that are as near a free one comes first.
+fn nearer(
+    nearest: Nearest,
+    place: usize,
+    distance: u128,
+    column: u32,
+    owner: &[Option<u32>],
+) -> Nearest
+    requires { column < length owner.now }
+    ensures { IsNearer place distance nearest.place nearest.distance result.place result.distance }
+{
+    if distance < nearest.distance
+        || (distance == nearest.distance && owner[column as usize].is_none())
+    {
+        return Nearest { place, distance };
+    }
+    nearest
+}
+
+/// Shortens the ways to the columns that are left, where they are shorter over the row, and says where the nearest one stands in the
+/// list.
 fn relax<C: Costs>(
     costs: &C,
     falls: &[u128],
-    settled: &[bool],
+    owner: &[Option<u32>],
+    left: &[u32],
     reached: Reached,
     distance: &mut [u128],
     from: &mut [usize],
-) -> u32
-    requires edges { HasEdges (C.row_count costs.now) (C.column_count costs.now) (C.cost costs.now) falls.now reached.row reached.depth reached.own settled.now distance.old from.old }
-    requires some { (c : ℕ) × (c < C.column_count costs.now) × (is_in settled.now c ≡ false) }
-    ensures relaxed { IsRelaxed (sizes (C.cost costs.now)) (C.column_count costs.now) falls.now reached.row reached.place reached.depth reached.own settled.now distance.old from.old distance.new from.new }
-    ensures nearest { IsNearest (C.column_count costs.now) distance.new settled.now result }
+) -> usize
+    requires edges { HasEdges (C.row_count costs.now) (C.column_count costs.now) (C.cost costs.now) falls.now reached.row reached.depth reached.own }
+    requires owners { length owner.now ≡ C.column_count costs.now }
+    requires inside { All (λ c. c < C.column_count costs.now) left.now }
+    requires apart { AllPairs (λ c d. c ≢ d) left.now }
+    requires some { 0 < length left.now }
+    requires distances { length distance.old ≡ C.column_count costs.now }
+    requires places { length from.old ≡ C.column_count costs.now }
+    ensures relaxed { IsRelaxed (sizes (C.cost costs.now)) falls.now reached.row reached.place reached.depth reached.own left.now distance.old from.old distance.new from.new }
+    ensures nearest { IsNearest distance.new left.now result }
 {
     let mut nearest = Nearest {
-        column: 0,
+        place: 0,
         distance: u128::MAX,
     };
-    for column in 0..costs.columns() {
-        nearest = relax_column(
-            costs, falls, reached, column, settled, distance, from, nearest,
-        );
+    for k in 0..left.len() {
+        let column = left[k];
+        let far = way_over(costs, falls, reached, column);
+        let shortest = shorten(distance, from, column as usize, far, reached.place);
+        nearest = nearer(nearest, k, shortest, column, owner);
     }
-    nearest.column
+    nearest.place
 }
 
 /// What the search for a free column has found.
@@ -140,12 +146,23 @@ pub struct Search {
     pub distance: Vec<u128>,
     /// The place in the tree of the row from which each column is reached.
     pub from: Vec<usize>,
-    /// Whether the distance of each column is final.
-    pub settled: Vec<bool>,
+    /// The columns whose distance is not final.
+    pub left: Vec<u32>,
     /// The rows that were reached, the new one first.
     pub tree: Vec<u32>,
-    /// The nearest column that is not settled.
-    pub nearest: u32,
+    /// Where the nearest of these stands.
+    pub nearest: usize,
+}
+
+/// The numbers of all columns.
+fn all_columns(alloc: Global, columns: u32) -> Result<Vec<u32>, AllocError>
+    ensures { IfOk result (λ all. AreAll columns all.items) }
+{
+    let mut all = Vec::new(alloc);
+    for column in 0..columns {
+        all.push(column)?;
+    }
+    Ok(all)
 }
 
 /// The search as it begins: each column is reached from the new row.
@@ -154,20 +171,22 @@ fn begun<C: Costs>(
     costs: &C,
     falls: &[u128],
     column_of: &[u32],
+    owner: &[Option<u32>],
 ) -> Result<Search, AllocError>
     requires costs { HasCosts (C.row_count costs.now) (C.column_count costs.now) (C.cost costs.now) }
     requires placed { IsPlaced (sizes (C.cost costs.now)) (C.column_count costs.now) falls.now column_of.now }
     requires more { length column_of.now < C.row_count costs.now }
     requires few { length column_of.now < PLACES }
     requires some { 1 ≤ C.column_count costs.now }
-    ensures search { IfOk result (λ s. IsSearch (sizes (C.cost costs.now)) (C.column_count costs.now) falls.now column_of.now s.distance.items s.from.items s.settled.items s.tree.items) }
-    ensures nearest { IfOk result (λ s. IsNearest (C.column_count costs.now) s.distance.items s.settled.items s.nearest) }
+    requires owners { length owner.now ≡ C.column_count costs.now }
+    ensures search { IfOk result (λ s. IsSearch (sizes (C.cost costs.now)) (C.column_count costs.now) falls.now column_of.now s.distance.items s.from.items s.left.items s.tree.items) }
+    ensures nearest { IfOk result (λ s. IsNearest s.distance.items s.left.items s.nearest) }
 {
-    let columns = costs.columns() as usize;
+    let columns = costs.columns();
     let row = column_of.len() as u32;
-    let mut distance = vec![in alloc; u128::MAX; columns]?;
-    let mut from = vec![in alloc; 0; columns]?;
-    let settled = vec![in alloc; false; columns]?;
+    let mut distance = vec![in alloc; u128::MAX; columns as usize]?;
+    let mut from = vec![in alloc; 0; columns as usize]?;
+    let left = all_columns(alloc, columns)?;
     let mut tree = Vec::new(alloc);
     tree.push(row)?;
     let root = Reached {
@@ -179,7 +198,8 @@ fn begun<C: Costs>(
     let nearest = relax(
         costs,
         falls,
-        settled.as_slice(),
+        owner,
+        left.as_slice(),
         root,
         distance.as_mut_slice(),
         from.as_mut_slice(),
@@ -187,7 +207,7 @@ fn begun<C: Costs>(
     Ok(Search {
         distance,
         from,
-        settled,
+        left,
         tree,
         nearest,
     })
@@ -198,6 +218,7 @@ fn settle<C: Costs>(
     costs: &C,
     falls: &[u128],
     column_of: &[u32],
+    owner: &[Option<u32>],
     search: &mut Search,
     row: u32,
 ) -> Result<(), AllocError>
@@ -205,27 +226,28 @@ fn settle<C: Costs>(
     requires placed { IsPlaced (sizes (C.cost costs.now)) (C.column_count costs.now) falls.now column_of.now }
     requires more { length column_of.now < C.row_count costs.now }
     requires free { (c : ℕ) × (c < C.column_count costs.now) × ¬ Contains column_of.now c }
-    requires search { IsSearch (sizes (C.cost costs.now)) (C.column_count costs.now) falls.now column_of.now search.old.distance.items search.old.from.items search.old.settled.items search.old.tree.items }
-    requires nearest { IsNearest (C.column_count costs.now) search.old.distance.items search.old.settled.items search.old.nearest }
+    requires owners { length owner.now ≡ C.column_count costs.now }
+    requires search { IsSearch (sizes (C.cost costs.now)) (C.column_count costs.now) falls.now column_of.now search.old.distance.items search.old.from.items search.old.left.items search.old.tree.items }
+    requires nearest { IsNearest search.old.distance.items search.old.left.items search.old.nearest }
     requires row { row < length column_of.now }
-    requires has { at column_of.now row ≡ search.old.nearest }
-    ensures search { OnOk result (IsSearch (sizes (C.cost costs.now)) (C.column_count costs.now) falls.now column_of.now search.new.distance.items search.new.from.items search.new.settled.items search.new.tree.items) }
-    ensures nearest { OnOk result (IsNearest (C.column_count costs.now) search.new.distance.items search.new.settled.items search.new.nearest) }
-    ensures fewer { OnOk result (unsettled search.new.settled.items + 1 ≡ unsettled search.old.settled.items) }
+    requires has { at column_of.now row ≡ at search.old.left.items search.old.nearest }
+    ensures search { OnOk result (IsSearch (sizes (C.cost costs.now)) (C.column_count costs.now) falls.now column_of.now search.new.distance.items search.new.from.items search.new.left.items search.new.tree.items) }
+    ensures nearest { OnOk result (IsNearest search.new.distance.items search.new.left.items search.new.nearest) }
+    ensures fewer { OnOk result (length search.new.left.items + 1 ≡ length search.old.left.items) }
 {
-    let column = search.nearest;
+    let column = search.left.swap_remove(search.nearest);
     let reached = Reached {
         row,
         place: search.tree.len(),
         depth: search.distance[column as usize],
         own: payment(costs, falls, row, column),
     };
-    search.settled[column as usize] = true;
     search.tree.push(row)?;
     search.nearest = relax(
         costs,
         falls,
-        search.settled.as_slice(),
+        owner,
+        search.left.as_slice(),
         reached,
         search.distance.as_mut_slice(),
         search.from.as_mut_slice(),
@@ -244,16 +266,16 @@ pub fn find_free<C: Costs>(
     requires costs { HasCosts (C.row_count costs.now) (C.column_count costs.now) (C.cost costs.now) }
     requires placed { IsPlaced (sizes (C.cost costs.now)) (C.column_count costs.now) falls.now column_of.now }
     requires more { length column_of.now < C.row_count costs.now }
-    requires enough { C.row_count costs.now ≤ C.column_count costs.now }
+    requires free { (c : ℕ) × (c < C.column_count costs.now) × ¬ Contains column_of.now c }
     requires few { length column_of.now < PLACES }
     requires owner { IsOwners (C.column_count costs.now) column_of.now owner.now }
-    ensures search { IfOk result (λ s. IsSearch (sizes (C.cost costs.now)) (C.column_count costs.now) falls.now column_of.now s.distance.items s.from.items s.settled.items s.tree.items) }
-    ensures nearest { IfOk result (λ s. IsNearest (C.column_count costs.now) s.distance.items s.settled.items s.nearest) }
-    ensures free { IfOk result (λ s. ¬ Contains column_of.now s.nearest) }
+    ensures search { IfOk result (λ s. IsSearch (sizes (C.cost costs.now)) (C.column_count costs.now) falls.now column_of.now s.distance.items s.from.items s.left.items s.tree.items) }
+    ensures nearest { IfOk result (λ s. IsNearest s.distance.items s.left.items s.nearest) }
+    ensures free { IfOk result (λ s. ¬ Contains column_of.now (at s.left.items s.nearest)) }
 {
-    let mut search = begun(alloc, costs, falls, column_of)?;
-    'reached: while let Some(row) = owner[search.nearest as usize] {
-        settle(costs, falls, column_of, &mut search, row)?;
+    let mut search = begun(alloc, costs, falls, column_of, owner)?;
+    'reached: while let Some(row) = owner[search.left[search.nearest] as usize] {
+        settle(costs, falls, column_of, owner, &mut search, row)?;
     }
     Ok(search)
 }

@@ -1,6 +1,10 @@
-use Rattle.std.proofs.Common.{arith}
-use Rattle.msp_assign.proofs.Lists.{missing}
+use Rattle.std.proofs.Common.{◌∙◌}
+use Rattle.std.proofs.lemmas.List.{get_or_default}
+use Rattle.msp_assign.proofs.Owners.{free_from_owners}
 use Rattle.msp_assign.proofs.search.find_free.Goals as goal
 
-pub settle-requires-clause-free : goal.settle-requires-clause-free
-settle-requires-clause-free g c = missing _ _ c.requires.placed.inside (omega (arith, c.requires.more, c.requires.enough))
+pub returns-clause-free : goal.returns-clause-free
+returns-clause-free g c =
+    let reached = c.reached.invariant in
+    free_from_owners _ _ _ c.requires.owner _ _ (c.index.ensures ∙ get_or_default c.reached.search.left.items c.reached.search.nearest c.index.result.now 0 reached.nearest.inside)
+    (reached.search.inside c.reached.search.nearest 0 reached.nearest.inside) c.in_default.not-Some
