@@ -70,14 +70,14 @@ machine_inside each machines c l = by (leb machines (c / each)) refl
     by false e = leb-false machines (c / each) e
 
 -- ---- costs of a table
-pub costs_small : (p : Positions) (each : ℕ) → p.jobs ≤ 400 → (1 ≤ each) × (each ≤ p.jobs) → HasShortTimes p → HasCosts p.jobs (each * p.machines) (position_cost each p.machines p.times)
-costs_small p each few h short r c l k = (pos-le none, pos-le (bound _ (mul-le (c % each + 1) (time_in p.machines p.times r (c / each)) 400 (1000000000 * 2 ^ 30) (rest (c % each) (mod-lt c h.0)) (short r (c / each) l (machine_inside each p.machines c k)))))
+pub costs_small : (p : Positions) → (1 ≤ p.jobs) × (p.jobs ≤ 400) → HasShortTimes p → HasCosts p.jobs (p.jobs * p.machines) (position_cost p.jobs p.machines p.times)
+costs_small p h short r c l k = (pos-le none, pos-le (bound _ (mul-le (c % p.jobs + 1) (time_in p.machines p.times r (c / p.jobs)) 400 (1000000000 * 2 ^ 30) (rest (c % p.jobs) (mod-lt c h.0)) (short r (c / p.jobs) l (machine_inside p.jobs p.machines c k)))))
   where
-    none : 0 ≤ (c % each + 1) * time_in p.machines p.times r (c / each)
+    none : 0 ≤ (c % p.jobs + 1) * time_in p.machines p.times r (c / p.jobs)
     none = omega arith
 
-    rest : (x : ℕ) → x < each → x + 1 ≤ 400
-    rest x g = omega (arith, h.1, few)
+    rest : (x : ℕ) → x < p.jobs → x + 1 ≤ 400
+    rest x g = omega (arith, h.1)
 
     bound : (x : ℕ) → x ≤ 400 * (1000000000 * 2 ^ 30) → x ≤ 2 ^ 100
     bound x g = omega (arith, g)

@@ -13,3 +13,5 @@ mod SlotBest
 mod UnrelatedFacts
 mod ColumnSteps
 mod UnrelatedBest
+mod SortedLists
+mod PositionPrices

@@ -29,7 +29,7 @@ use Rattle.msp_total.specs.Places.{no_place, ArePlaces, laid}
 use Rattle.msp_total.specs.Positions.{time_in, position_cost}
 use Rattle.msp_total.specs.Turns.{machine_at}
 use Rattle.msp_total.specs.Multipliers.{seats}
-use Rattle.msp_total.specs.Columns.{IsTableOf, HasShortTimes, IsPlacing, no_chosen, chosen_at, IsByColumn, ArePlacesOf}
+use Rattle.msp_total.specs.Columns.{IsTableOf, HasShortTimes, IsPositioned, no_chosen, chosen_at, IsByColumn, ArePlacesOf}
 use Rattle.msp_total.proofs.ColumnSteps.{machine_inside}
 use Rattle.msp_total.proofs.LaidJobs.{piece_before, piece_long, length_at}
 use Rattle.msp_total.proofs.LaidSchedule.{IsPlain, AreFitting, schedule_of, laid_is_feasible, laid_costs, laid_is_within, laid_is_answer}
@@ -49,9 +49,6 @@ int_total_below-split a (suc b) f = ap (λ k. int_total_below k f) next ∙ by (
     by : (w x y z : ℤ) → w ≡ x +ℤ y → w +ℤ z ≡ x +ℤ (y +ℤ z)
     by w x y z e = omega (arith, ints)
 
-int_total_below-zeros : (n : ℕ) (f : ℕ → ℤ) → ((k : ℕ) → k < n → f k ≡ pos 0) → int_total_below n f ≡ pos 0
-int_total_below-zeros n f h = int_total_below-natural n f (λ _. 0) h ∙ ap pos (total_below-constant n 0 ∙ omega arith)
-
 -- by machine
 by_machine : (each machines : ℕ) (v : ℕ → ℤ) → int_total_below (each * machines) v ≡ int_total_below machines (λ m. int_total_below each (λ k. v (m * each + k)))
 by_machine each zero v = ap (λ k. int_total_below k v) none
@@ -67,32 +64,6 @@ by_machine each (suc m) v =
 
     turned : m * each ≡ each * m
     turned = omega arith
-
--- the price where it is there, and else 0
-abbrev pub kept : Bool → ℤ → ℤ
-kept true x = x
-kept false x = pos 0
-
--- the prices of all positions: those that are left out have price 0
-abbrev pub position_price : ℕ → (ℕ → ℤ) → ℕ → ℕ → ℤ
-position_price each v m k = kept (ltb k each) (v (m * each + k))
-
-cut_off : (each n : ℕ) (v : ℕ → ℤ) (m : ℕ) → each ≤ n → int_total_below n (position_price each v m) ≡ int_total_below each (λ k. v (m * each + k))
-cut_off each n v m l =
-    ap (λ k. int_total_below k (position_price each v m)) whole ∙ int_total_below-split each (n - each) (position_price each v m)
-    ∙ ap₂ (λ x y. x +ℤ y) (int_total_below-same each (position_price each v m) (λ k. v (m * each + k)) (λ k h. there k (ltb k each) refl h)) (int_total_below-zeros (n - each) (λ k. position_price each v m (each + k)) (λ k h. gone k (ltb (each + k) each) refl))
-    ∙ omega (arith, ints)
-  where
-    whole : n ≡ each + (n - each)
-    whole = omega arith
-
-    there : (k : ℕ) (b : Bool) → ltb k each ≡ b → k < each → kept (ltb k each) (v (m * each + k)) ≡ v (m * each + k)
-    there k true e h = ap (λ b. kept b (v (m * each + k))) e
-    there k false e h = absurd (omega (arith, h, ltb-false k each e))
-
-    gone : (k : ℕ) (b : Bool) → ltb (each + k) each ≡ b → kept (ltb (each + k) each) (v (m * each + (each + k))) ≡ pos 0
-    gone k true e = absurd (omega (arith, ltb-true (each + k) each e))
-    gone k false e = ap (λ b. kept b (v (m * each + (each + k)))) e
 
 -- ---- positions by rising column
 -- of the columns of a machine that come before a moment in the order, no more are taken than lie below
@@ -135,7 +106,7 @@ module _ (i : Instance) (h : IsUnrelatedInstance i) (p : Positions) (table : IsT
   abbrev time : ℕ → ℕ → ℕ
   time j m = (need_at i j m).time
 
-  read : (j m : ℕ) → j < n → m < i.machines → time_in p.machines p.times j m ≡ time j m
+  pub read : (j m : ℕ) → j < n → m < i.machines → time_in p.machines p.times j m ≡ time j m
   read j m l k = ap (λ w. time_in w p.times j m) table.machines ∙ table.times.each j m (omega (arith, l, table.jobs)) k
 
   pub short_times : HasShortTimes p
@@ -144,7 +115,10 @@ module _ (i : Instance) (h : IsUnrelatedInstance i) (p : Positions) (table : IsT
       let b : m < i.machines = omega (arith, k, table.machines) in
       omega (arith, read j m a b, (times i h j m a b).1)
 
-  module _ (each : ℕ) (a : Assignment) (placing : IsPlacing p each a) where
+  module _ (a : Assignment) (placing : IsPositioned p a) where
+    abbrev each : ℕ
+    each = p.jobs
+
     abbrev row : ℕ → ℤ
     row j = price_at a.row_price j
 
@@ -154,14 +128,11 @@ module _ (i : Instance) (h : IsUnrelatedInstance i) (p : Positions) (table : IsT
     abbrev at : ℕ → ℕ
     at j = column_of a.column j
 
-    few : each ≤ n
-    few = omega (arith, placing.few, table.jobs)
-
     columns_is : each * p.machines ≡ each * i.machines
     columns_is = ap (λ w. each * w) table.machines
 
     at-inside : (j : ℕ) → j < n → at j < each * i.machines
-    at-inside j l = omega (arith, placing.first.assigned.inside j 0 (omega (arith, l, placing.first.assigned.all, table.jobs)), columns_is)
+    at-inside j l = omega (arith, placing.assigned.inside j 0 (omega (arith, l, placing.assigned.all, table.jobs)), columns_is)
 
     -- what a job costs at a column
     abbrev cost_at : ℕ → ℕ → ℕ
@@ -170,52 +141,40 @@ module _ (i : Instance) (h : IsUnrelatedInstance i) (p : Positions) (table : IsT
     cost_is : (j c : ℕ) → j < n → c < each * i.machines → position_cost each p.machines p.times j c ≡ pos (cost_at j c)
     cost_is j c l k = ap (λ x. pos ((c % each + 1) * x)) (read j (c / each) l (machine_inside each i.machines c k))
 
-    abbrev value : ℕ
+    abbrev pub value : ℕ
     value = total_below n (λ j. cost_at j (at j))
 
     -- all prices together are the cost of the assignment
     total_is : int_total_below n row +ℤ int_total_below (each * i.machines) position ≡ pos value
     total_is =
-        sym (ap₂ (λ x y. int_total_below x row +ℤ int_total_below y position) table.jobs columns_is) ∙ sym placing.first.total
+        sym (ap₂ (λ x y. int_total_below x row +ℤ int_total_below y position) table.jobs columns_is) ∙ sym placing.total
         ∙ ap (λ x. int_total_below x (λ j. position_cost each p.machines p.times j (at j))) table.jobs
         ∙ int_total_below-natural n (λ j. position_cost each p.machines p.times j (at j)) (λ j. cost_at j (at j)) (λ j l. cost_is j (at j) l (at-inside j l))
 
-    prices_are : all_prices i row (position_price each position) ≡ pos value
+    -- the price of the position on machine m that k jobs follow
+    abbrev position_price : ℕ → ℕ → ℤ
+    position_price m k = position (m * each + k)
+
+    pub prices_are : all_prices i row position_price ≡ pos value
     prices_are =
         ap₂ (λ x y. x +ℤ y) (total_over_range n row)
-        (total_over_range i.machines (prices_on_machine i (position_price each position)) ∙ int_total_below-same i.machines _ (λ m. int_total_below each (λ k. position (m * each + k))) (λ m l. total_over_range n (position_price each position m) ∙ cut_off each n position m few) ∙ sym (by_machine each i.machines position))
+        (total_over_range i.machines (prices_on_machine i position_price) ∙ int_total_below-same i.machines _ (λ m. int_total_below each (λ k. position (m * each + k))) (λ m l. total_over_range n (position_price m) ∙ ap (λ x. int_total_below x (position_price m)) (sym table.jobs)) ∙ sym (by_machine each i.machines position))
         ∙ total_is
 
-    prices_fit : ArePrices i row (position_price each position)
-    prices_fit = record { low = λ m k l b. low m k l (ltb k each) refl; fair = λ j m k l b c. fair j m k l b (ltb k each) refl c }
+    pub prices_fit : ArePrices i row position_price
+    prices_fit = record {
+      low = λ m k l b. placing.priced.low (m * each + k) (omega (arith, inside m k l (omega (arith, b, table.jobs)), columns_is));
+      fair = λ j m k l b c.
+          let less : k < each = omega (arith, c, table.jobs) in
+          subst (λ x. (row j +ℤ position (m * each + k)) ≤ℤ x) (cost_is j (m * each + k) l (inside m k b less) ∙ ap₂ (λ x y. pos ((x + 1) * time j y)) (digits_mod m less) (digits_div m less))
+          (placing.priced.at_most j (m * each + k) (omega (arith, l, table.jobs)) (omega (arith, inside m k b less, columns_is)));
+    }
       where
         inside : (m k : ℕ) → m < i.machines → k < each → m * each + k < each * i.machines
         inside m k l b = let s = mul-le-mul_right each (next m i.machines l) in omega (arith, s)
           where
             next : (x y : ℕ) → x < y → x + 1 ≤ y
             next x y g = omega arith
-
-        low : (m k : ℕ) → m < i.machines → (b : Bool) → ltb k each ≡ b → kept (ltb k each) (position (m * each + k)) ≤ℤ pos 0
-        low m k l true e = subst (λ b. kept b (position (m * each + k)) ≤ℤ pos 0) (sym e) (placing.first.priced.low (m * each + k) (omega (arith, inside m k l (ltb-true k each e), columns_is)))
-        low m k l false e = subst (λ b. kept b (position (m * each + k)) ≤ℤ pos 0) (sym e) (≤ℤ_refl (pos 0))
-
-        fair : (j m k : ℕ) → j < n → m < i.machines → (b : Bool) → ltb k each ≡ b → k < n → (row j +ℤ kept (ltb k each) (position (m * each + k))) ≤ℤ pos ((k + 1) * time j m)
-        fair j m k l b true e c =
-            let less = ltb-true k each e in
-            subst (λ t. (row j +ℤ kept t (position (m * each + k))) ≤ℤ pos ((k + 1) * time j m)) (sym e)
-            (subst (λ x. (row j +ℤ position (m * each + k)) ≤ℤ x) (cost_is j (m * each + k) l (inside m k b less) ∙ ap₂ (λ x y. pos ((x + 1) * time j y)) (digits_mod m less) (digits_div m less))
-            (placing.first.priced.at_most j (m * each + k) (omega (arith, l, table.jobs)) (omega (arith, inside m k b less, columns_is))))
-        fair j m k l b false e c =
-            let more = ltb-false k each e in
-            subst (λ t. (row j +ℤ kept t (position (m * each + k))) ≤ℤ pos ((k + 1) * time j m)) (sym e)
-            (later (row j) _ (subst (λ x. row j ≤ℤ pos ((each + 1) * x)) (read j m l b) (placing.left_out (omega (arith, more, c, table.jobs)) j m (omega (arith, l, table.jobs)) (omega (arith, b, table.machines))))
-            (mul-le-mul_right (time j m) (one_more each k more)))
-          where
-            one_more : (x y : ℕ) → x ≤ y → x + 1 ≤ y + 1
-            one_more x y g = omega arith
-
-            later : (u : ℤ) (x : ℕ) {y : ℕ} → u ≤ℤ pos x → x ≤ y → (u +ℤ pos 0) ≤ℤ pos y
-            later u x {y} g k = omega (arith, ints, g, k)
 
     -- ---- the jobs by rising column
     module _ (column : List ℕ) (same_column : column ≡ a.column) (chosen listed : List Chosen) (sorted : IsByColumn (length column) column chosen) (same_chosen : listed ≡ chosen) where
@@ -226,7 +185,7 @@ module _ (i : Instance) (h : IsUnrelatedInstance i) (p : Positions) (table : IsT
       column_at r = (chosen_at chosen r).column
 
       column-count : length column ≡ n
-      column-count = ap length same_column ∙ placing.first.assigned.all ∙ table.jobs
+      column-count = ap length same_column ∙ placing.assigned.all ∙ table.jobs
 
       once : OnceBelow n (map (λ c. c.job) chosen)
       once = subst (λ k. OnceBelow k (map (λ c. c.job) chosen)) column-count (OnceBelow-from_permutation sorted.all)
@@ -256,7 +215,7 @@ module _ (i : Instance) (h : IsUnrelatedInstance i) (p : Positions) (table : IsT
       at-once j k l m ne e = elim (order j k ne) [ inl less ↦ apart j k less m e | inr more ↦ apart k j more l (sym e) ]
         where
           apart : (j k : ℕ) → j < k → k < n → at j ≡ at k → ⊥
-          apart j k l m e = placing.first.assigned.apart j k 0 l (omega (arith, m, placing.first.assigned.all, table.jobs)) e
+          apart j k l m e = placing.assigned.apart j k 0 l (omega (arith, m, placing.assigned.all, table.jobs)) e
 
           order : (j k : ℕ) → (j ≡ k → ⊥) → (j < k) ⊎ (k < j)
           order j k ne = grind arith
@@ -276,7 +235,7 @@ module _ (i : Instance) (h : IsUnrelatedInstance i) (p : Positions) (table : IsT
               let below : r < n = omega (arith, l, chosen-count) in
               subst (λ (c : Chosen). (c.job < p.jobs) × (c.column < each * p.machines)) (get_or_default chosen r no_chosen d l) (omega (arith, job-inside r below, table.jobs), omega (arith, column-inside r below, columns_is))
 
-      module _ (places : List Place) (turns : ArePlacesOf p each listed places) where
+      module _ (places : List Place) (turns : ArePlacesOf p listed places) where
         abbrev machine : ℕ → ℕ
         machine r = machine_at places r
 
@@ -348,7 +307,7 @@ module _ (i : Instance) (h : IsUnrelatedInstance i) (p : Positions) (table : IsT
         abbrev s : Schedule
         s = schedule_of 1 places
 
-        upper : cost_of i s ≤ℤ pos value
+        pub upper : cost_of i s ≤ℤ pos value
         upper = ≤ℤ_trans (laid_costs i (IsPlain-from_unrelated i h) 1 places fitting) (pos-le (subst (λ x. x ≤ value) (ap (λ k. total_below k (λ r. length_at places r * (seats machine r (machine r) + 1))) (sym count))
             (subst (λ x. total_below n (λ r. length_at places r * (seats machine r (machine r) + 1)) ≤ x) (sym reordered) (total_below-mono n _ _ term))))
           where
@@ -370,7 +329,7 @@ module _ (i : Instance) (h : IsUnrelatedInstance i) (p : Positions) (table : IsT
             least : (t : Schedule) → Feasible i t → (cost_of i s *ℤ t.unit) ≤ℤ (cost_of i t *ℤ pos 1)
             least t f =
                 subst₂ (λ x y. x ≤ℤ y) (*ℤ_comm t.unit (cost_of i s)) (sym (*ℤ-one (cost_of i t)))
-                (≤ℤ_trans (*ℤ-mono_nonneg t.unit (positive t.unit f.unit) upper) (subst (λ x. (t.unit *ℤ x) ≤ℤ cost_of i t) prices_are (law_of_prices i t row (position_price each position) h.kind h.cut h.crit f prices_fit)))
+                (≤ℤ_trans (*ℤ-mono_nonneg t.unit (positive t.unit f.unit) upper) (subst (λ x. (t.unit *ℤ x) ≤ℤ cost_of i t) prices_are (law_of_prices i t row position_price h.kind h.cut h.crit f prices_fit)))
               where
                 positive : (u : ℤ) → pos 1 ≤ℤ u → pos 0 ≤ℤ u
                 positive u k = omega (arith, ints)

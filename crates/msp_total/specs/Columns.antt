@@ -1,11 +1,11 @@
 -- Jobs by the columns that an assignment gives them. No public contract cites this file.
-use Rattle.std.specs.Prelude.{◌≡◌, ℕ, ◌+◌, ◌*◌, ◌/◌, ◌<◌, ◌≤◌, List, length, map, pos, ◌≤ℤ◌, slice_index_or, All, AllPairs, IsPermutation}
+use Rattle.std.specs.Prelude.{◌≡◌, ℕ, ◌*◌, ◌/◌, ◌<◌, ◌≤◌, List, length, map, slice_index_or, All, AllPairs, IsPermutation}
 use Rattle.std.specs.List.{range_with_len}
 use Rattle.msp_instance.specs.declared.ranges.TheConstants.{GREATEST, GREATEST_MULTIPLE}
 use Rattle.msp_instance.specs.declared.Instance.{Instance}
 use Rattle.msp_instance.specs.Instance.{need_at}
 use Rattle.msp_assign.specs.declared.assignment.Assignment.{Assignment}
-use Rattle.msp_assign.specs.Prices.{IsAssigned, IsPriced, column_of, price_at, cost_of, price_of}
+use Rattle.msp_assign.specs.Prices.{IsAssigned, IsPriced, HasFreeColumn, column_of, cost_of, price_of}
 use Rattle.msp_total.specs.declared.lay.Place.{Place}
 use Rattle.msp_total.specs.declared.positions.Positions.{Positions}
 use Rattle.msp_total.specs.declared.unrelated.Chosen.{Chosen}
@@ -27,22 +27,12 @@ pub record IsTableOf (i : Instance) (p : Positions) : Type 0 where
 abbrev pub HasShortTimes : Positions → Type 0
 HasShortTimes p = (j m : ℕ) → j < p.jobs → m < p.machines → time_in p.machines p.times j m ≤ GREATEST * GREATEST_MULTIPLE
 
--- What a job adds at a position of the table, where each machine has so many.
-abbrev pub cost_in : ℕ → Positions → ℕ → ℕ → ℕ
-cost_in each p j m = (each + 1) * time_in p.machines p.times j m
-
--- A least assignment to the first positions of each machine, so many, with its prices.
-pub record IsFirstPlacing (p : Positions) (each : ℕ) (a : Assignment) : Type 0 where
-  pub assigned : IsAssigned p.jobs (each * p.machines) a.column
-  pub priced : IsPriced p.jobs (each * p.machines) (position_cost each p.machines p.times) a
-  pub total : cost_of p.jobs (position_cost each p.machines p.times) a.column ≡ price_of p.jobs (each * p.machines) a
-
--- The same, and where positions are left out, no job's price is above what it adds at the next position of any machine.
-pub record IsPlacing (p : Positions) (each : ℕ) (a : Assignment) : Type 0 where
-  pub some : 1 ≤ each
-  pub few : each ≤ p.jobs
-  pub first : IsFirstPlacing p each a
-  pub left_out : each < p.jobs → (j m : ℕ) → j < p.jobs → m < p.machines → price_at a.row_price j ≤ℤ pos (cost_in each p j m)
+-- A least assignment of the jobs to the positions, with its prices.
+pub record IsPositioned (p : Positions) (a : Assignment) : Type 0 where
+  pub assigned : IsAssigned p.jobs (p.jobs * p.machines) a.column
+  pub priced : IsPriced p.jobs (p.jobs * p.machines) (position_cost p.jobs p.machines p.times) a
+  pub zero : HasFreeColumn (p.jobs * p.machines) a
+  pub total : cost_of p.jobs (position_cost p.jobs p.machines p.times) a.column ≡ price_of p.jobs (p.jobs * p.machines) a
 
 -- A job and its column; what is read where there is none.
 abbrev pub no_chosen : Chosen
@@ -58,9 +48,9 @@ pub record IsByColumn (jobs : ℕ) (column : List ℕ) (chosen : List Chosen) : 
   pub rising : AllPairs (λ a b. a.column ≤ b.column) chosen
 
 -- The places of the jobs, in the same order.
-abbrev pub IsPlaceOf : Positions → ℕ → Chosen → Place → Type 0
-IsPlaceOf p each c q = (q.job ≡ c.job) × (q.machine ≡ c.column / each) × (q.length ≡ time_in p.machines p.times c.job (c.column / each))
+abbrev pub IsPlaceOf : Positions → Chosen → Place → Type 0
+IsPlaceOf p c q = (q.job ≡ c.job) × (q.machine ≡ c.column / p.jobs) × (q.length ≡ time_in p.machines p.times c.job (c.column / p.jobs))
 
-pub record ArePlacesOf (p : Positions) (each : ℕ) (chosen : List Chosen) (places : List Place) : Type 0 where
+pub record ArePlacesOf (p : Positions) (chosen : List Chosen) (places : List Place) : Type 0 where
   pub count : length places ≡ length chosen
-  pub placed : (r : ℕ) → r < length places → IsPlaceOf p each (chosen_at chosen r) (place_at places r)
+  pub placed : (r : ℕ) → r < length places → IsPlaceOf p (chosen_at chosen r) (place_at places r)

@@ -6,3 +6,5 @@ pub mod SlotSteps
 pub mod Slots
 pub mod Positions
 pub mod Columns
+pub mod Priced
+pub mod laws

@@ -20,4 +20,4 @@ pub use positions::Positions;
 pub use slot_table::Slots;
 pub use uniform::Uniform;
 pub use unit_slots::{SlotsCount, SlotsLate};
-pub use unrelated::Unrelated;
+pub use unrelated::{Unrelated, prices};

@@ -2,8 +2,9 @@
 ghost use Rattle.std.specs.Prelude.{◌≡◌, ◌*◌, ◌+◌, ◌<◌, ◌≤◌, pos, length};
 ghost use Rattle.msp_class.specs.declared.list.TheConstants.{PLACES};
 ghost use Rattle.msp_total.specs.Positions.{time_in, position_cost};
+ghost use Rattle.msp_total.specs.laws.Lines.{positions-whole, positions-rise};
 
-use msp_assign::Costs;
+use msp_assign::{Costs, Lines};
 use msp_class::List;
 
 /// Jobs as rows and positions as columns: column `i * jobs + k` is the position on machine `i` that `k` jobs follow, and a job costs
@@ -56,31 +57,24 @@ impl Costs for Positions {
     }
 }
 
-/// The first positions of each machine alone: the last `each` of its jobs.
-#[derive(Drop)]
-pub struct FirstPositions<'a> {
-    pub table: &'a Positions,
-    pub each: u32,
-    ghost some: { 1 ≤ each },
-    ghost few: { each ≤ table.now.jobs },
-}
+impl Lines for Positions {
+    ghost line_count = { λ p. p.machines };
 
-impl<'a> Costs for FirstPositions<'a> {
-    ghost row_count = { λ f. f.table.now.jobs };
+    ghost line_length = { λ p. p.jobs };
 
-    ghost column_count = { λ f. f.each * f.table.now.machines };
-
-    ghost cost = { λ f. position_cost f.each f.table.now.machines f.table.now.times };
-
-    fn rows(&self) -> u32 {
-        self.table.jobs
+    fn lines(&self) -> u32 {
+        self.machines
     }
 
-    fn columns(&self) -> u32 {
-        self.each * self.table.machines
+    fn length(&self) -> u32 {
+        self.jobs
     }
 
-    fn at(&self, row: u32, column: u32) -> i128 {
-        added(self.table, row, column / self.each, column % self.each)
+    fn on_line(&self, row: u32, line: u32, place: u32) -> i128 {
+        added(self, row, line, place)
     }
+
+    ghost whole = { λ p. positions-whole p.jobs p.machines };
+
+    ghost rise = { λ p. positions-rise p.jobs p.machines p.times };
 }

@@ -1,17 +1,18 @@
 // Unrelated machines: a least assignment of jobs to positions.
-ghost use Rattle.std.specs.Prelude.{◌≡◌, ◌++◌, ◌+◌, ◌*◌, ◌/◌, ◌<◌, ◌≤◌, ◌≤ℤ◌, ℕ, true, pos, length, map, All, IfOk, OnOk, ⊤};
+ghost use Rattle.std.specs.Prelude.{◌≡◌, ◌++◌, ◌*◌, ◌/◌, ◌<◌, ◌≤◌, length, map, All, IfOk, OnOk, ⊤};
 ghost use Rattle.std.specs.List.{range_with_len};
 ghost use Rattle.msp_instance.specs.declared.ranges.TheConstants.{MOST_JOBS, MOST_MACHINES};
 ghost use Rattle.msp_instance.specs.Conditions.{Inner};
 ghost use Rattle.msp_schedule.specs.Cost.{IsBest};
 ghost use Rattle.msp_route.specs.Bounds.{IsAnswer};
-ghost use Rattle.msp_assign.specs.Prices.{column_of, price_at};
+ghost use Rattle.msp_assign.specs.Prices.{column_of};
 ghost use Rattle.msp_total.specs.Classes.{unrelated_class};
-ghost use Rattle.msp_total.specs.Columns.{IsTableOf, HasShortTimes, IsFirstPlacing, IsPlacing, IsByColumn, IsPlaceOf, ArePlacesOf, cost_in};
+ghost use Rattle.msp_total.specs.Priced.{ArePricesOfBest, KeepsPricesSmall};
+ghost use Rattle.msp_total.specs.Columns.{IsTableOf, HasShortTimes, IsPositioned, IsByColumn, IsPlaceOf, ArePlacesOf};
 
 use crate::lay::{Place, lay};
-use crate::positions::{FirstPositions, Positions, added, time_at};
-use msp_assign::{Assignment, assign};
+use crate::positions::{Positions, time_at};
+use msp_assign::{Assignment, assign_on_lines};
 use msp_class::{Class, Crit, Env, List, NoMemory, Order, Times};
 use msp_instance::{Instance, Need};
 use msp_route::Solver;
@@ -56,81 +57,15 @@ fn positions_of(alloc: Global, inst: &Instance) -> Result<Positions, NoMemory>
     })
 }
 
-/// Whether the price is not above what the job adds where `each` jobs follow it, on each machine.
-fn covers(table: &Positions, each: u32, job: u32, price: &i128) -> bool
-    requires { job < table.now.jobs }
-    ensures { result ≡ true → (m : ℕ) → m < table.now.machines → price.now ≤ℤ pos (cost_in each table.now job m) }
-{
-    for machine in 0..table.machines {
-        if *price > added(table, job, machine, each) {
-            return false;
-        }
-    }
-    true
-}
-
-/// The same for all jobs: price 0 serves the positions that more jobs follow.
-fn covers_all(table: &Positions, each: u32, prices: &[i128]) -> bool
-    requires { length prices.now ≡ table.now.jobs }
-    ensures { result ≡ true → (j m : ℕ) → j < table.now.jobs → m < table.now.machines → price_at prices.now j ≤ℤ pos (cost_in each table.now j m) }
-{
-    for job in 0..table.jobs {
-        if !covers(table, each, job, &prices[job as usize]) {
-            return false;
-        }
-    }
-    true
-}
-
-/// A least assignment to the first positions of each machine.
-fn assigned(alloc: Global, table: &Positions, each: u32) -> Result<Assignment, NoMemory>
-    requires jobs { (1 ≤ table.now.jobs) × (table.now.jobs ≤ MOST_JOBS) }
-    requires machines { table.now.machines ≤ MOST_MACHINES }
-    requires each { (1 ≤ each) × (each ≤ table.now.jobs) }
-    requires enough { table.now.jobs ≤ each * table.now.machines }
-    requires times { HasShortTimes table.now }
-    ensures { IfOk result (IsFirstPlacing table.now each) }
-{
-    let first = FirstPositions { table, each };
-    assign(alloc, &first)
-}
-
-/// How many positions of each machine are tried first: about twice as many as there are jobs for each machine.
-fn first_each(jobs: u32, machines: u32) -> u32
-    requires some { 1 ≤ jobs }
-    requires few { jobs ≤ MOST_JOBS }
-    requires machines { 1 ≤ machines }
-    ensures some { 1 ≤ result }
-    ensures few { result ≤ jobs }
-    ensures enough { jobs ≤ result * machines }
-{
-    jobs.min(2 * jobs / machines + 1)
-}
-
-/// A least assignment of all jobs to the first positions of each machine, so many.
-#[derive(Drop)]
-pub struct Placing {
-    pub each: u32,
-    pub assignment: Assignment,
-}
-
-/// A least assignment to all positions. It looks at the first positions of each machine, and at twice as many where these might not do.
-fn placed(alloc: Global, table: &Positions) -> Result<Placing, NoMemory>
+/// A least assignment of the jobs to the positions: on each machine jobs take the last positions, since an earlier one costs each job
+/// more.
+fn assigned(alloc: Global, table: &Positions) -> Result<Assignment, NoMemory>
     requires jobs { (1 ≤ table.now.jobs) × (table.now.jobs ≤ MOST_JOBS) }
     requires machines { (1 ≤ table.now.machines) × (table.now.machines ≤ MOST_MACHINES) }
     requires times { HasShortTimes table.now }
-    ensures { IfOk result (λ p. IsPlacing table.now p.each p.assignment) }
+    ensures { IfOk result (IsPositioned table.now) }
 {
-    let mut each = first_each(table.jobs, table.machines);
-    while each < table.jobs {
-        let assignment = assigned(alloc, table, each)?;
-        if covers_all(table, each, assignment.row_price.as_slice()) {
-            return Ok(Placing { each, assignment });
-        }
-        each = table.jobs.min(2 * each);
-    }
-    let assignment = assigned(alloc, table, each)?;
-    Ok(Placing { each, assignment })
+    assign_on_lines(alloc, table)
 }
 
 /// A job and its column.
@@ -172,12 +107,12 @@ fn by_column(alloc: Global, column: &[u32]) -> Result<Vec<Chosen>, NoMemory>
 }
 
 /// The place of a job at its column.
-fn place_of(table: &Positions, each: u32, chosen: Chosen) -> Place
+fn place_of(table: &Positions, chosen: Chosen) -> Place
     requires job { chosen.job < table.now.jobs }
-    requires column { chosen.column < each * table.now.machines }
-    ensures { IsPlaceOf table.now each chosen result }
+    requires column { chosen.column < table.now.jobs * table.now.machines }
+    ensures { IsPlaceOf table.now chosen result }
 {
-    let machine = chosen.column / each;
+    let machine = chosen.column / table.jobs;
     Place {
         job: chosen.job,
         machine,
@@ -189,15 +124,14 @@ fn place_of(table: &Positions, each: u32, chosen: Chosen) -> Place
 fn places_of(
     alloc: Global,
     table: &Positions,
-    each: u32,
     chosen: &[Chosen],
 ) -> Result<Vec<Place>, NoMemory>
-    requires { All (λ c. (c.job < table.now.jobs) × (c.column < each * table.now.machines)) chosen.now }
-    ensures { IfOk result (λ places. ArePlacesOf table.now each chosen.now places.items) }
+    requires { All (λ c. (c.job < table.now.jobs) × (c.column < table.now.jobs * table.now.machines)) chosen.now }
+    ensures { IfOk result (λ places. ArePlacesOf table.now chosen.now places.items) }
 {
     let mut places = Vec::new(alloc);
     for c in chosen {
-        places.push(place_of(table, each, *c))?;
+        places.push(place_of(table, *c))?;
     }
     Ok(places)
 }
@@ -211,13 +145,24 @@ fn schedule_by_positions(alloc: Global, inst: &Instance) -> Result<Solution, NoM
     ensures bounds { IfOk result (λ s. IsAnswer inst.now s.schedule) }
 {
     let table = positions_of(alloc, inst)?;
-    let placing = placed(alloc, &table)?;
-    let chosen = by_column(alloc, placing.assignment.column.as_slice())?;
-    let places = places_of(alloc, &table, placing.each, chosen.as_slice())?;
+    let assignment = assigned(alloc, &table)?;
+    let chosen = by_column(alloc, assignment.column.as_slice())?;
+    let places = places_of(alloc, &table, chosen.as_slice())?;
     let pieces = lay(alloc, places.as_slice())?;
     let schedule = Schedule { unit: 1, pieces };
     let cost = msp_schedule::cost(inst, &schedule);
     Ok(Solution { schedule, cost })
+}
+
+/// Prices of the jobs and of the positions of `Positions` that show what a best schedule costs. The greatest of the positions' is 0.
+pub fn prices(alloc: Global, inst: &Instance) -> Result<Assignment, NoMemory>
+    requires inner { Inner inst.now }
+    requires class { inst.now.class ≡ unrelated_class }
+    ensures best { IfOk result (ArePricesOfBest inst.now) }
+    ensures small { IfOk result (KeepsPricesSmall inst.now) }
+{
+    let table = positions_of(alloc, inst)?;
+    assigned(alloc, &table)
 }
 
 /// Finds a schedule of least total completion time on unrelated machines by a least assignment of jobs to positions (Horn 1973, Bruno,

@@ -7,5 +7,5 @@ use Rattle.msp_total.proofs.unrelated.places_of.Given as goal
 abbrev pub invariant-loop-c : goal.invariant-loop-c
 invariant-loop-c l = record {
   count : length l.places.items ≡ l.c-index;
-  places : (r : ℕ) → r < l.c-index → IsPlaceOf l.table l.fn.each (chosen_at l.chosen r) (place_at l.places.items r);
+  places : (r : ℕ) → r < l.c-index → IsPlaceOf l.table (chosen_at l.chosen r) (place_at l.places.items r);
 }

@@ -1,0 +1,165 @@
+-- The prices of a least assignment of jobs to positions are together what a best schedule costs.
+use Rattle.std.proofs.Common.{◌≡◌, ℕ, zero, suc, ◌+◌, ◌*◌, ◌/◌, ◌%◌, ◌<◌, ◌≤◌, inl, inr, List, [], ◌∷◌, length, map, ℤ, pos, nat_abs, ◌+ℤ◌, ◌*ℤ◌, ◌≤ℤ◌, IsPermutation, refl, sym, ap, ap₂, subst, subst₂, ◌∙◌, arith}
+use Rattle.std.specs.List.{range_with_len}
+use Rattle.std.specs.List.Sorted.{IsNonDecreasingBy}
+use Rattle.std.proofs.lemmas.Int.{ints}
+use Rattle.std.proofs.Math.Nat.{mod-lt}
+use Rattle.std.proofs.lemmas.Nat.{mul-le}
+use Rattle.std.proofs.lemmas.List.{length-map, get_or-map}
+use Rattle.std.proofs.lemmas.List.Elements.{All-map}
+use Rattle.msp_class.proofs.IntegerRing.{pos-le, ≤ℤ_trans, *ℤ_comm, *ℤ-mono_nonneg, *ℤ-one}
+use Rattle.msp_instance.specs.declared.Instance.{Instance}
+use Rattle.msp_instance.specs.Instance.{need_at}
+use Rattle.msp_schedule.specs.declared.Schedule.{Schedule}
+use Rattle.msp_schedule.specs.Cost.{cost_of, Best}
+use Rattle.msp_schedule.specs.Prices.{ArePrices, all_prices}
+use Rattle.msp_schedule.proofs.bounds.PriceBounds.{law_of_prices}
+use Rattle.msp_assign.specs.declared.assignment.Assignment.{Assignment}
+use Rattle.msp_assign.specs.Prices.{column_of, price_at, HasFreeColumn}
+use Rattle.msp_assign.proofs.Lists.{contained_or_not, at-Contains}
+use Rattle.msp_total.specs.declared.lay.Place.{Place}
+use Rattle.msp_total.specs.declared.positions.Positions.{Positions}
+use Rattle.msp_total.specs.declared.unrelated.Chosen.{Chosen}
+use Rattle.msp_total.specs.Places.{no_place}
+use Rattle.msp_total.specs.Positions.{time_in, position_cost}
+use Rattle.msp_total.specs.Columns.{IsTableOf, IsPositioned, no_chosen, chosen_at, IsByColumn, IsPlaceOf, ArePlacesOf}
+use Rattle.msp_total.specs.Priced.{position_price, ArePricesOfBest, AreSmallPrices, KeepsPricesSmall}
+use Rattle.msp_total.proofs.ColumnSteps.{HasColumn, by_column, machine_inside}
+use Rattle.msp_total.proofs.SortedLists.{sorted}
+use Rattle.msp_total.proofs.UnrelatedFacts.{IsUnrelatedInstance}
+use Rattle.msp_total.proofs.UnrelatedBest.{read as read_time, best as best_laid, upper as upper_laid, prices_are, prices_fit}
+use Rattle.msp_total.proofs.LaidSchedule.{schedule_of}
+
+module _ (i : Instance) (h : IsUnrelatedInstance i) (p : Positions) (table : IsTableOf i p) (a : Assignment) (placing : IsPositioned p a) where
+  abbrev row : ℕ → ℤ
+  row j = price_at a.row_price j
+
+  abbrev position : ℕ → ℤ
+  position c = price_at a.column_price c
+
+  -- ---- a schedule that costs no more than all prices
+  abbrev choice : ℕ → Chosen
+  choice j = record { job = j; column = column_of a.column j }
+
+  abbrev all : List Chosen
+  all = map choice (range_with_len 0 (length a.column))
+
+  jobs_of : (xs : List ℕ) → map (λ (c : Chosen). c.job) (map choice xs) ≡ xs
+  jobs_of [] = refl
+  jobs_of (x ∷ xs) = ap (λ l. x ∷ l) (jobs_of xs)
+
+  in_order : (ys : List Chosen) × IsPermutation all ys × IsNonDecreasingBy (λ c. c.column) ys
+  in_order = sorted (λ (c : Chosen). c.column) all
+
+  abbrev chosen : List Chosen
+  chosen = in_order.0
+
+  chosen_sorted : IsByColumn (length a.column) a.column chosen
+  chosen_sorted = by_column a.column all chosen (jobs_of (range_with_len 0 (length a.column))) (All-map (HasColumn a.column) choice (range_with_len 0 (length a.column)) (λ k d l. refl)) in_order.1 in_order.2
+
+  abbrev place : Chosen → Place
+  place c = record { job = c.job; machine = c.column / p.jobs; length = time_in p.machines p.times c.job (c.column / p.jobs) }
+
+  abbrev places : List Place
+  places = map place chosen
+
+  placed : ArePlacesOf p chosen places
+  placed = record {
+    count = length-map chosen place;
+    placed = λ r l. subst (IsPlaceOf p (chosen_at chosen r)) (sym (get_or-map place chosen r no_chosen no_place (omega (arith, l, length-map chosen place)))) (refl, refl, refl);
+  }
+
+  abbrev s : Schedule
+  s = schedule_of 1 places
+
+  laid_best : Best i s
+  laid_best = best_laid i h p table a placing a.column refl chosen chosen chosen_sorted refl places placed
+
+  abbrev position_of : ℕ → ℕ → ℤ
+  position_of m k = position (m * p.jobs + k)
+
+  cheap : cost_of i s ≤ℤ all_prices i row position_of
+  cheap = subst (λ x. cost_of i s ≤ℤ x) (sym (prices_are i h p table a placing)) (upper_laid i h p table a placing a.column refl chosen chosen chosen_sorted refl places placed)
+
+  -- a best schedule costs as much
+  best_is : (t : Schedule) → Best i t → cost_of i t ≡ t.unit *ℤ all_prices i row position_of
+  best_is t b = both (cost_of i t) (t.unit *ℤ all_prices i row position_of) above (law_of_prices i t row position_of h.kind h.cut h.crit b.feasible (prices_fit i h p table a placing))
+    where
+      both : (x y : ℤ) → x ≤ℤ y → y ≤ℤ x → x ≡ y
+      both x y l g = omega (arith, ints)
+
+      positive : (u : ℤ) → pos 1 ≤ℤ u → pos 0 ≤ℤ u
+      positive u k = omega (arith, ints)
+
+      above : cost_of i t ≤ℤ (t.unit *ℤ all_prices i row position_of)
+      above = ≤ℤ_trans (subst₂ (λ x y. x ≤ℤ y) (*ℤ-one (cost_of i t)) (*ℤ_comm (cost_of i s) t.unit) (b.least s laid_best.feasible)) (*ℤ-mono_nonneg t.unit (positive t.unit b.feasible.unit) cheap)
+
+  pub ArePricesOfBest-positioned : ArePricesOfBest i a
+  ArePricesOfBest-positioned = record {
+    rows = placing.priced.row_prices ∙ table.jobs;
+    columns = placing.priced.column_prices ∙ ap₂ (λ x y. x * y) table.jobs table.machines;
+    fit = subst (λ x. ArePrices i row (λ m k. position (m * x + k))) table.jobs (prices_fit i h p table a placing);
+    free = subst₂ (λ x y. HasFreeColumn (x * y) a) table.jobs table.machines placing.zero;
+    best = λ t b. subst (λ x. cost_of i t ≡ t.unit *ℤ all_prices i row (λ m k. position (m * x + k))) table.jobs (best_is t b);
+  }
+
+  -- ---- how large they are
+  module _ (most : ℕ) (short : (j m : ℕ) → j < length i.jobs → m < i.machines → (need_at i j m).time ≤ most) where
+    some : 1 ≤ p.jobs
+    some = by (p.jobs) (placing.zero.0) placing.zero.1
+      where
+        by : (n c : ℕ) → c < n * p.machines → 1 ≤ n
+        by zero c l = omega (arith, l)
+        by (suc n) c l = omega arith
+
+    cost_low : (j c : ℕ) → pos 0 ≤ℤ position_cost p.jobs p.machines p.times j c
+    cost_low j c = omega (arith, ints)
+
+    cost_small : (j c : ℕ) → j < p.jobs → c < p.jobs * p.machines → position_cost p.jobs p.machines p.times j c ≤ℤ pos (p.jobs * most)
+    cost_small j c l k = pos-le (mul-le (c % p.jobs + 1) (time_in p.machines p.times j (c / p.jobs)) p.jobs most (omega (arith, mod-lt c some)) time)
+      where
+        on : c / p.jobs < p.machines
+        on = machine_inside p.jobs p.machines c k
+
+        time : time_in p.machines p.times j (c / p.jobs) ≤ most
+        time = omega (arith, read_time i h p table j (c / p.jobs) (omega (arith, l, table.jobs)) (omega (arith, on, table.machines)), short j (c / p.jobs) (omega (arith, l, table.jobs)) (omega (arith, on, table.machines)))
+
+    own_inside : (j : ℕ) → j < p.jobs → column_of a.column j < p.jobs * p.machines
+    own_inside j l = placing.assigned.inside j 0 (omega (arith, l, placing.assigned.all))
+
+    row_within : (j : ℕ) → j < p.jobs → (pos 0 ≤ℤ row j) × (row j ≤ℤ pos (p.jobs * most))
+    row_within j l = by (row j) (position (column_of a.column j)) (position_cost p.jobs p.machines p.times j (column_of a.column j)) (position placing.zero.0) (position_cost p.jobs p.machines p.times j placing.zero.0) (pos (p.jobs * most))
+        (placing.priced.exact j l) (placing.priced.low (column_of a.column j) (own_inside j l)) (cost_low j (column_of a.column j)) (placing.priced.at_most j placing.zero.0 l placing.zero.1) placing.zero.2 (cost_small j placing.zero.0 l placing.zero.1)
+      where
+        by : (u v x w y z : ℤ) → u +ℤ v ≡ x → v ≤ℤ pos 0 → pos 0 ≤ℤ x → (u +ℤ w) ≤ℤ y → w ≡ pos 0 → y ≤ℤ z → (pos 0 ≤ℤ u) × (u ≤ℤ z)
+        by u v x w y z e n q f g k = (omega (arith, ints), omega (arith, ints))
+
+    row_small : (j : ℕ) → j < p.jobs → nat_abs (row j) ≤ p.jobs * most
+    row_small j l = by (row j) (p.jobs * most) (row_within j l).0 (row_within j l).1
+      where
+        by : (u : ℤ) (n : ℕ) → pos 0 ≤ℤ u → u ≤ℤ pos n → nat_abs u ≤ n
+        by u n b c = omega (arith, ints)
+
+    column_small : (c : ℕ) → c < p.jobs * p.machines → nat_abs (position c) ≤ p.jobs * most
+    column_small c l = elim (contained_or_not a.column c) [
+      | inr n ↦ none (position c) (placing.priced.unused c l n)
+      | inl m ↦
+          let w = at-Contains a.column c m in
+          let j : w.0 < p.jobs = omega (arith, w.1, placing.assigned.all) in
+          by (row w.0) (position c) (position_cost p.jobs p.machines p.times w.0 c) (p.jobs * most) (subst (λ x. row w.0 +ℤ position x ≡ position_cost p.jobs p.machines p.times w.0 x) w.2 (placing.priced.exact w.0 j)) (cost_low w.0 c) (placing.priced.low c l) (row_within w.0 j).1
+    ]
+      where
+        none : (v : ℤ) → v ≡ pos 0 → nat_abs v ≤ p.jobs * most
+        none v e = omega (arith, ap nat_abs e)
+
+        by : (u v x : ℤ) (n : ℕ) → u +ℤ v ≡ x → pos 0 ≤ℤ x → v ≤ℤ pos 0 → u ≤ℤ pos n → nat_abs v ≤ n
+        by u v x n e q k b = omega (arith, ints)
+
+    AreSmallPrices-positioned : AreSmallPrices i a most
+    AreSmallPrices-positioned = record {
+      rows = λ j l. subst (λ x. nat_abs (row j) ≤ x * most) table.jobs (row_small j (omega (arith, l, table.jobs)));
+      columns = λ c l. subst (λ x. nat_abs (position c) ≤ x * most) table.jobs (column_small c (subst₂ (λ x y. c < x * y) (sym table.jobs) (sym table.machines) l));
+    }
+
+  pub KeepsPricesSmall-positioned : KeepsPricesSmall i a
+  KeepsPricesSmall-positioned most short = AreSmallPrices-positioned most short
