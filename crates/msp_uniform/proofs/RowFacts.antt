@@ -1,18 +1,19 @@
--- Slices one after another as pieces of a schedule: they do not overlap, and what they do adds up.
-use Rattle.std.proofs.Common.{◌≡◌, ◌≢◌, ℕ, suc, ◌+◌, ◌*◌, ◌-◌, ◌<◌, ◌≤◌, inl, Bool, true, false, cond, eqb, List, [], ◌∷◌, length, All, AllPairs, sum_by, refl, sym, ap, subst, subst₂, ◌∙◌, arith}
-use Rattle.std.proofs.lemmas.Bool.{eqb-true, eqb-false}
+-- The pieces of segments one after another: they do not overlap, and what they do adds up.
+use Rattle.std.proofs.Common.{◌≡◌, ◌≢◌, ℕ, zero, suc, ◌+◌, ◌*◌, ◌-◌, ◌<◌, ◌≤◌, ◌⊎◌, inl, inr, Bool, true, false, cond, eqb, ltb, List, [], ◌∷◌, ◌++◌, length, get_or, All, AllPairs, sum_by, refl, sym, ap, ◌∙◌, arith}
+use Rattle.std.proofs.lemmas.Bool.{eqb-true, eqb-false, ltb-true, ltb-false}
 use Rattle.std.proofs.lemmas.List.{length-append}
-use Rattle.std.proofs.lemmas.List.Elements.{All-nil, All-cons, All-append, All-head, All-tail}
+use Rattle.std.proofs.lemmas.List.Elements.{All-nil, All-cons, All-append, All-head, All-tail, All-weaker}
 use Rattle.std.proofs.lemmas.List.Kept.{AllPairs-cons}
 use Rattle.msp_class.specs.Sums.{total_below}
-use Rattle.msp_class.proofs.Sums.{sum_by-cons, sum_by-append, total_below-same}
+use Rattle.msp_class.proofs.Sums.{sum_by-cons, sum_by-append, sum_by-same, sum_by-agree, sum_by-total_below, total_below-scale}
 use Rattle.msp_schedule.specs.declared.Piece.{Piece}
 use Rattle.msp_schedule.specs.Piece.{start, finish, job_of, IsTimed}
 use Rattle.msp_schedule.specs.Intervals.{IsApartOn, size_of}
 use Rattle.msp_schedule.proofs.feasible.Series.{AllPairs-append}
-use Rattle.msp_uniform.specs.Rows.{piece_on, pieces_in, pieces_in_row, IsSliceOf}
-use Rattle.msp_uniform.specs.Segments.{at}
-use Rattle.msp_uniform.proofs.PrefixFacts.{rest, total_below-first}
+use Rattle.msp_uniform.specs.declared.segments.Segment.{Segment}
+use Rattle.msp_uniform.specs.Rows.{piece_on, part_on, runs_from, runs, IsSliceOf}
+use Rattle.msp_uniform.specs.Segments.{job_on}
+use Rattle.msp_uniform.proofs.SegmentFacts.{below_or_not}
 
 abbrev machine_of : Piece → ℕ
 machine_of p = p.machine
@@ -20,130 +21,259 @@ machine_of p = p.machine
 abbrev pub size : Piece → ℕ
 size p = size_of start finish p
 
--- ---- one slice
-module _ (op : ℕ → ℕ) (none a b : ℕ) where
-  one_more : (i k : ℕ) → suc i + k ≡ i + suc k
-  one_more i k = omega arith
+abbrev pub long : Segment → ℕ
+long x = x.length
 
-  pub All-pieces_in : (P : Piece → Type 0) (i : ℕ) (js : List ℕ) → ((k : ℕ) → k < length js → at js k ≢ none → P (piece_on op (at js k) (i + k) a b)) → All P (pieces_in op none a b i js)
-  All-pieces_in P i [] h = All-nil P
-  All-pieces_in P i (j ∷ js) h = by (eqb j none) refl (All-pieces_in P (suc i) js (λ k l d. subst (λ m. P (piece_on op (at js k) m a b)) (sym (one_more i k)) (h (suc k) (omega arith) d)))
+AllPairs-empty : (R : Piece → Piece → Type 0) → AllPairs R []
+AllPairs-empty R i j d a b = absurd (omega (arith, b))
+
+-- which job a machine has at a moment
+abbrev job_at : ℕ → ℕ → ℕ → List Segment → ℕ → ℕ
+job_at n i t [] moment = n
+job_at n i t (x ∷ xs) moment = cond (ltb moment (t + long x)) (job_on x i) (job_at n i (t + long x) xs moment)
+
+module _ (m n : ℕ) where
+  abbrev Slice : Segment → Type 0
+  Slice x = IsSliceOf m n x.length x.jobs.items
+
+  -- two machines have different jobs
+  job_at-once : (i k t moment : ℕ) (xs : List Segment) → i < k → k < m → All Slice xs → job_at n i t xs moment ≡ job_at n k t xs moment → job_at n i t xs moment ≡ n
+  job_at-once i k t moment [] l b h = λ e. refl
+  job_at-once i k t moment (x ∷ xs) l b h = by (ltb moment (t + long x)) (job_at-once i k (t + long x) moment xs l b (All-tail Slice x xs h))
     where
-      here : (i : ℕ) → i + 0 ≡ i
-      here i = omega arith
+      by : (v : Bool) → (job_at n i (t + long x) xs moment ≡ job_at n k (t + long x) xs moment → job_at n i (t + long x) xs moment ≡ n) → cond v (job_on x i) (job_at n i (t + long x) xs moment) ≡ cond v (job_on x k) (job_at n k (t + long x) xs moment) → cond v (job_on x i) (job_at n i (t + long x) xs moment) ≡ n
+      by true later e = (All-head Slice x xs h).once i k l b e
+      by false later e = later e
 
-      by : (v : Bool) → eqb j none ≡ v → All P (pieces_in op none a b (suc i) js) → All P (cond v (pieces_in op none a b (suc i) js) (piece_on op j i a b ∷ pieces_in op none a b (suc i) js))
-      by true e later = later
-      by false e later = All-cons P (piece_on op j i a b) (pieces_in op none a b (suc i) js) (subst (λ m. P (piece_on op j m a b)) (here i) (h 0 (omega arith) (eqb-false j none e))) later
+  -- ---- one machine
+  -- a piece of a machine that begins at a or later and ends by the end
+  pub record IsRun (i a end : ℕ) (p : Piece) : Type 0 where
+    pub timed : IsTimed p
+    pub from : a ≤ start p
+    pub to : finish p ≤ end
+    pub job : p.job < n
+    pub machine : p.machine ≡ i
+    pub op : p.op ≡ 0
 
-  pub AllPairs-pieces_in : (R : Piece → Piece → Type 0) (i : ℕ) (js : List ℕ) → ((k l : ℕ) → k < l → l < length js → at js k ≢ none → at js l ≢ none → R (piece_on op (at js k) (i + k) a b) (piece_on op (at js l) (i + l) a b)) → AllPairs R (pieces_in op none a b i js)
-  AllPairs-pieces_in R i [] h = λ x y d u v. absurd (omega arith)
-  AllPairs-pieces_in R i (j ∷ js) h = by (eqb j none) refl (AllPairs-pieces_in R (suc i) js (λ k l u v d e. subst₂ (λ m n. R (piece_on op (at js k) m a b) (piece_on op (at js l) n a b)) (sym (one_more i k)) (sym (one_more i l)) (h (suc k) (suc l) (omega arith) (omega arith) d e)))
-    where
-      here : (i : ℕ) → i + 0 ≡ i
-      here i = omega arith
+  module _ (i : ℕ) (inside : i < m) where
+    abbrev Started : ℕ → ℕ → ℕ → Type 0
+    Started j a t = (j ≡ n) ⊎ ((a < t) × (j < n))
 
-      by : (v : Bool) → eqb j none ≡ v → AllPairs R (pieces_in op none a b (suc i) js) → AllPairs R (cond v (pieces_in op none a b (suc i) js) (piece_on op j i a b ∷ pieces_in op none a b (suc i) js))
-      by true e later = later
-      by false e later = AllPairs-cons R (piece_on op j i a b) (pieces_in op none a b (suc i) js)
-          (All-pieces_in (R (piece_on op j i a b)) (suc i) js (λ k l d. subst₂ (λ m n. R (piece_on op j m a b) (piece_on op (at js k) n a b)) (here i) (sym (one_more i k)) (h 0 (suc k) (omega arith) (omega arith) (eqb-false j none e) d)))
-          later
+    begun : (x : Segment) (t : ℕ) → Slice x → Started (job_on x i) t (t + long x)
+    begun x t s = by (below_or_not (job_on x i) n)
+      where
+        by : (job_on x i < n) ⊎ (n ≤ job_on x i) → Started (job_on x i) t (t + long x)
+        by (inl l) = inr (omega (arith, s.lasts), l)
+        by (inr l) = inl (omega (arith, l, s.inside i inside))
 
-  -- what the pieces do, where a job counts on a machine
-  pub sum_in : (value : ℕ → ℕ → ℕ) → ((i : ℕ) → value none i ≡ 0) → (i : ℕ) (js : List ℕ) → sum_by (λ p. size p * value p.job p.machine) (pieces_in op none a b i js) ≡ (b - a) * total_below (length js) (λ k. value (at js k) (i + k))
-  sum_in value z i [] = omega arith
-  sum_in value z i (j ∷ js) = by (eqb j none) refl (sum_in value z (suc i) js)
-    where
-      here : (i : ℕ) → i + 0 ≡ i
-      here i = omega arith
+    longer : (j a t l : ℕ) → Started j a t → Started j a (t + l)
+    longer j a t l (inl e) = inl e
+    longer j a t l (inr s) = inr (omega (arith, s.0), s.1)
 
-      whole : total_below (suc (length js)) (λ k. value (at (j ∷ js) k) (i + k)) ≡ value j i + total_below (length js) (λ k. value (at js k) (suc i + k))
-      whole = omega (
-        arith,
-        total_below-first (length js) (λ k. value (at (j ∷ js) k) (i + k)),
-        ap (value j) (here i),
-        total_below-same (length js) (rest (λ k. value (at (j ∷ js) k) (i + k))) (λ k. value (at js k) (suc i + k)) (λ k l. ap (value (at js k)) (sym (one_more i k))),
-      )
+    on_part : (P : Piece → Type 0) (j a t : ℕ) → (j ≢ n → P (piece_on i j a t)) → All P (part_on n i j a t)
+    on_part P j a t h = by (eqb j n) refl
+      where
+        by : (v : Bool) → eqb j n ≡ v → All P (cond v [] (piece_on i j a t ∷ []))
+        by true e = All-nil P
+        by false e = All-cons P (piece_on i j a t) [] (h (eqb-false j n e)) (All-nil P)
 
-      by : (v : Bool) → eqb j none ≡ v → sum_by (λ p. size p * value p.job p.machine) (pieces_in op none a b (suc i) js) ≡ (b - a) * total_below (length js) (λ k. value (at js k) (suc i + k))
-          → sum_by (λ p. size p * value p.job p.machine) (cond v (pieces_in op none a b (suc i) js) (piece_on op j i a b ∷ pieces_in op none a b (suc i) js)) ≡ (b - a) * total_below (suc (length js)) (λ k. value (at (j ∷ js) k) (i + k))
-      by true e later = omega (arith, later, ap (λ n. (b - a) * n) whole, ap (λ n. (b - a) * n) (ap (λ x. value x i) (eqb-true j none e) ∙ z i))
-      by false e later = omega (arith, later, ap (λ n. (b - a) * n) whole, sum_by-cons (λ p. size p * value p.job p.machine) (piece_on op j i a b) (pieces_in op none a b (suc i) js))
+    part_is : (j a t end : ℕ) → Started j a t → t ≤ end → All (IsRun i a end) (part_on n i j a t)
+    part_is j a t end s l = on_part (IsRun i a end) j a t (λ d. by d s)
+      where
+        by : j ≢ n → Started j a t → IsRun i a end (piece_on i j a t)
+        by d (inl e) = absurd (d e)
+        by d (inr q) = record { timed = record { from = refl; to = refl; lasts = q.0 }; from = omega arith; to = l; job = q.1; machine = refl; op = refl }
 
-  pub length-pieces_in : (i : ℕ) (js : List ℕ) → length (pieces_in op none a b i js) ≤ length js
-  length-pieces_in i [] = omega arith
-  length-pieces_in i (j ∷ js) = by (eqb j none) (length-pieces_in (suc i) js)
-    where
-      by : (v : Bool) → length (pieces_in op none a b (suc i) js) ≤ length js → length (cond v (pieces_in op none a b (suc i) js) (piece_on op j i a b ∷ pieces_in op none a b (suc i) js)) ≤ suc (length js)
-      by true l = omega arith
-      by false l = omega arith
+    later : (a b end : ℕ) (ps : List Piece) → a ≤ b → All (IsRun i b end) ps → All (IsRun i a end) ps
+    later a b end ps l = All-weaker (IsRun i b end) (IsRun i a end) (λ p r. record { timed = r.timed; from = omega (arith, l, r.from); to = r.to; job = r.job; machine = r.machine; op = r.op }) ps
 
--- ---- slices
--- what is said of the pieces from t to the end
-pub record IsRowOf (m n : ℕ) (op : ℕ → ℕ) (t end : ℕ) (ps : List Piece) : Type 0 where
-  pub timed : All IsTimed ps
-  pub lies : All (λ p. (t ≤ start p) × (finish p ≤ end)) ps
-  pub places : All (λ p. (p.job < n) × (p.machine < m) × (p.op ≡ op p.machine)) ps
-  pub on_machines : AllPairs (IsApartOn machine_of start finish) ps
-  pub on_jobs : AllPairs (IsApartOn job_of start finish) ps
+    runs_are : (j a t end : ℕ) (xs : List Segment) → a ≤ t → Started j a t → t + sum_by long xs ≡ end → All Slice xs → All (IsRun i a end) (runs_from n i j a t xs)
+    runs_are j a t end [] l s e h = part_is j a t end s (omega (arith, e))
+    runs_are j a t end (x ∷ xs) l s e h =
+        let rest : t + long x + sum_by long xs ≡ end = omega (arith, e, sum_by-cons long x xs) in
+        by (eqb (job_on x i) j) (omega (arith, rest)) (runs_are j a (t + long x) end xs (omega (arith, l)) (longer j a t (long x) s) rest (All-tail Slice x xs h)) (runs_are (job_on x i) t (t + long x) end xs (omega arith) (begun x t (All-head Slice x xs h)) rest (All-tail Slice x xs h))
+      where
+        by : (v : Bool) → t ≤ end → All (IsRun i a end) (runs_from n i j a (t + long x) xs) → All (IsRun i t end) (runs_from n i (job_on x i) t (t + long x) xs) → All (IsRun i a end) (cond v (runs_from n i j a (t + long x) xs) (part_on n i j a t ++ runs_from n i (job_on x i) t (t + long x) xs))
+        by true b same other = same
+        by false b same other = All-append (IsRun i a end) (part_on n i j a t) (runs_from n i (job_on x i) t (t + long x) xs) (part_is j a t end s b) (later a t end _ l other)
 
-module _ {X : Type 0} (long : X → ℕ) (jobs : X → List ℕ) (m n : ℕ) (op : ℕ → ℕ) where
-  abbrev pub row : ℕ → List X → List Piece
-  row t xs = pieces_in_row long jobs op n t xs
+    -- a piece that begins before t is of the job that the machine has had
+    early : (j a t : ℕ) (xs : List Segment) → a ≤ t → Started j a t → All Slice xs → All (λ p. start p < t → p.job ≡ j) (runs_from n i j a t xs)
+    early j a t [] l s h = on_part (λ p. start p < t → p.job ≡ j) j a t (λ d b. refl)
+    early j a t (x ∷ xs) l s h = by (eqb (job_on x i) j) (early j a (t + long x) xs (omega (arith, l)) (longer j a t (long x) s) (All-tail Slice x xs h))
+      where
+        by : (v : Bool) → All (λ p. start p < t + long x → p.job ≡ j) (runs_from n i j a (t + long x) xs) → All (λ p. start p < t → p.job ≡ j) (cond v (runs_from n i j a (t + long x) xs) (part_on n i j a t ++ runs_from n i (job_on x i) t (t + long x) xs))
+        by true same = All-weaker (λ p. start p < t + long x → p.job ≡ j) (λ p. start p < t → p.job ≡ j) (λ p f b. f (omega (arith, b))) (runs_from n i j a (t + long x) xs) same
+        by false same = All-append (λ p. start p < t → p.job ≡ j) (part_on n i j a t) _ (on_part (λ p. start p < t → p.job ≡ j) j a t (λ d b. refl)) (All-weaker (IsRun i t (t + long x + sum_by long xs)) (λ p. start p < t → p.job ≡ j) (λ p r b. absurd (omega (arith, b, r.from))) (runs_from n i (job_on x i) t (t + long x) xs) (runs_are (job_on x i) t (t + long x) (t + long x + sum_by long xs) xs (omega arith) (begun x t (All-head Slice x xs h)) refl (All-tail Slice x xs h)))
 
-  less : (a b : ℕ) → a ≤ b → a ≢ b → a < b
-  less a b l d = grind arith
+    -- a piece runs while the machine has its job
+    abbrev Covers : ℕ → List Segment → Piece → Type 0
+    Covers t xs p = (moment : ℕ) → t ≤ moment → start p ≤ moment → moment < finish p → job_at n i t xs moment ≡ p.job
 
-  one_slice : (t : ℕ) (x : X) → IsSliceOf m n (long x) (jobs x) → IsRowOf m n op t (t + long x) (pieces_in op n t (t + long x) 0 (jobs x))
-  one_slice t x s = record {
-    timed = All-pieces_in op n t (t + long x) IsTimed 0 (jobs x) (λ k l d. record { from = refl; to = refl; lasts = omega (arith, s.lasts) });
-    lies = All-pieces_in op n t (t + long x) (λ p. (t ≤ start p) × (finish p ≤ t + long x)) 0 (jobs x) (λ k l d. (omega arith, omega arith));
-    places = All-pieces_in op n t (t + long x) (λ p. (p.job < n) × (p.machine < m) × (p.op ≡ op p.machine)) 0 (jobs x) (λ k l d. (less _ _ (s.inside k (omega (arith, l, s.all))) d, omega (arith, l, s.all), refl));
-    on_machines = AllPairs-pieces_in op n t (t + long x) (IsApartOn machine_of start finish) 0 (jobs x) (λ k l u v d e q. absurd (omega (arith, u, q)));
-    on_jobs = AllPairs-pieces_in op n t (t + long x) (IsApartOn job_of start finish) 0 (jobs x) (λ k l u v d e q. absurd (d (s.once k l u (omega (arith, v, s.all)) q)));
-  }
+    abbrev CoversLater : ℕ → Segment → List Segment → Type 0
+    CoversLater t x xs = (k b : ℕ) → b ≤ t → Started k b (t + long x) → All (Covers (t + long x) xs) (runs_from n i k b (t + long x) xs)
 
-  pub slices_in_row : (t : ℕ) (xs : List X) → All (λ x. IsSliceOf m n (long x) (jobs x)) xs → IsRowOf m n op t (t + sum_by long xs) (row t xs)
-  slices_in_row t [] h = record {
-    timed = All-nil IsTimed;
-    lies = All-nil (λ p. (t ≤ start p) × (finish p ≤ t + 0));
-    places = All-nil (λ p. (p.job < n) × (p.machine < m) × (p.op ≡ op p.machine));
-    on_machines = λ i j d u v. absurd (omega arith);
-    on_jobs = λ i j d u v. absurd (omega arith);
-  }
-  slices_in_row t (x ∷ xs) h = joined (one_slice t x (All-head (λ y. IsSliceOf m n (long y) (jobs y)) x xs h)) (slices_in_row (t + long x) xs (All-tail (λ y. IsSliceOf m n (long y) (jobs y)) x xs h))
-    where
-      joined : IsRowOf m n op t (t + long x) (pieces_in op n t (t + long x) 0 (jobs x)) → IsRowOf m n op (t + long x) (t + long x + sum_by long xs) (row (t + long x) xs) → IsRowOf m n op t (t + sum_by long (x ∷ xs)) (row t (x ∷ xs))
-      joined a b = record {
-        timed = All-append IsTimed _ _ a.timed b.timed;
-        lies = All-append (λ p. (t ≤ start p) × (finish p ≤ t + sum_by long (x ∷ xs))) _ _ (λ k d l. let w = a.lies k d l in (w.0, omega (arith, w.1, sum_by-cons long x xs))) (λ k d l. let w = b.lies k d l in (omega (arith, w.0), omega (arith, w.1, sum_by-cons long x xs)));
-        places = All-append (λ p. (p.job < n) × (p.machine < m) × (p.op ≡ op p.machine)) _ _ a.places b.places;
-        on_machines = AllPairs-append (IsApartOn machine_of start finish) _ _ a.on_machines b.on_machines (λ k d l j e u q. inl (omega (arith, (a.lies k d l).1, (b.lies j e u).0)));
-        on_jobs = AllPairs-append (IsApartOn job_of start finish) _ _ a.on_jobs b.on_jobs (λ k d l j e u q. inl (omega (arith, (a.lies k d l).1, (b.lies j e u).0)));
-      }
+    covers : (j a t : ℕ) (xs : List Segment) → a ≤ t → Started j a t → All Slice xs → All (Covers t xs) (runs_from n i j a t xs)
+    covers j a t [] l s h = on_part (Covers t []) j a t (λ d moment b c e. absurd (omega (arith, b, e)))
+    covers j a t (x ∷ xs) l s h = by (eqb (job_on x i) j) refl (λ k b c s. covers k b (t + long x) xs (omega (arith, c)) s (All-tail Slice x xs h))
+      where
+        inner : CoversLater t x xs → (k b : ℕ) → job_on x i ≡ k → b ≤ t → Started k b (t + long x) → All (Covers t (x ∷ xs)) (runs_from n i k b (t + long x) xs)
+        inner f k b e c s q d r = one (get_or (runs_from n i k b (t + long x) xs) q d) (early k b (t + long x) xs (omega (arith, c)) s (All-tail Slice x xs h) q d r) (f k b c s q d r)
+          where
+            one : (p : Piece) → (start p < t + long x → p.job ≡ k) → Covers (t + long x) xs p → Covers t (x ∷ xs) p
+            one p f g moment u v w = at (ltb moment (t + long x)) refl
+              where
+                at : (y : Bool) → ltb moment (t + long x) ≡ y → cond y (job_on x i) (job_at n i (t + long x) xs moment) ≡ p.job
+                at true z = e ∙ sym (f (omega (arith, v, ltb-true moment (t + long x) z)))
+                at false z = g moment (ltb-false moment (t + long x) z) v w
 
-  -- what the pieces do adds up, slice by slice
-  pub work_in_row : (value : ℕ → ℕ → ℕ) → ((i : ℕ) → value n i ≡ 0) → (t : ℕ) (xs : List X) → All (λ x. IsSliceOf m n (long x) (jobs x)) xs → sum_by (λ p. size p * value p.job p.machine) (row t xs) ≡ sum_by (λ x. long x * total_below m (λ i. value (at (jobs x) i) i)) xs
-  work_in_row value z t [] h = refl
-  work_in_row value z t (x ∷ xs) h = omega (
-    arith,
-    sum_by-append (λ p. size p * value p.job p.machine) (pieces_in op n t (t + long x) 0 (jobs x)) (row (t + long x) xs),
-    sum_in op n t (t + long x) value z 0 (jobs x),
-    lasts t (long x) (total_below (length (jobs x)) (λ k. value (at (jobs x) k) (0 + k))),
-    ap (λ k. long x * k) (ap (λ k. total_below k (λ i. value (at (jobs x) i) (0 + i))) (All-head (λ y. IsSliceOf m n (long y) (jobs y)) x xs h).all ∙ total_below-same m (λ i. value (at (jobs x) i) (0 + i)) (λ i. value (at (jobs x) i) i) (λ i l. ap (value (at (jobs x) i)) (here i))),
-    sum_by-cons (λ y. long y * total_below m (λ i. value (at (jobs y) i) i)) x xs,
-    work_in_row value z (t + long x) xs (All-tail (λ y. IsSliceOf m n (long y) (jobs y)) x xs h),
-  )
-    where
-      here : (i : ℕ) → 0 + i ≡ i
-      here i = omega arith
+        by : (v : Bool) → eqb (job_on x i) j ≡ v → CoversLater t x xs → All (Covers t (x ∷ xs)) (cond v (runs_from n i j a (t + long x) xs) (part_on n i j a t ++ runs_from n i (job_on x i) t (t + long x) xs))
+        by true e f = inner f j a (eqb-true (job_on x i) j e) l (longer j a t (long x) s)
+        by false e g = All-append (Covers t (x ∷ xs)) (part_on n i j a t) _ (on_part (Covers t (x ∷ xs)) j a t (λ d moment b c f. absurd (omega (arith, b, f)))) (inner g (job_on x i) t refl (omega arith) (begun x t (All-head Slice x xs h)))
 
-      lasts : (t l k : ℕ) → (t + l - t) * k ≡ l * k
-      lasts t l k = ap (λ d. d * k) (by t l)
+    -- the pieces follow one another
+    abbrev Follows : Piece → Piece → Type 0
+    Follows p q = finish p ≤ start q
+
+    follow : (j a t : ℕ) (xs : List Segment) → a ≤ t → Started j a t → All Slice xs → AllPairs Follows (runs_from n i j a t xs)
+    follow j a t [] l s h = by (eqb j n)
+      where
+        by : (v : Bool) → AllPairs Follows (cond v [] (piece_on i j a t ∷ []))
+        by true = AllPairs-empty Follows
+        by false = AllPairs-cons Follows (piece_on i j a t) [] (All-nil (Follows (piece_on i j a t))) (AllPairs-empty Follows)
+    follow j a t (x ∷ xs) l s h = by (eqb (job_on x i) j) (eqb j n) (follow j a (t + long x) xs (omega (arith, l)) (longer j a t (long x) s) (All-tail Slice x xs h)) (follow (job_on x i) t (t + long x) xs (omega arith) (begun x t (All-head Slice x xs h)) (All-tail Slice x xs h))
+      where
+        after : All (IsRun i t (t + long x + sum_by long xs)) (runs_from n i (job_on x i) t (t + long x) xs)
+        after = runs_are (job_on x i) t (t + long x) _ xs (omega arith) (begun x t (All-head Slice x xs h)) refl (All-tail Slice x xs h)
+
+        by : (v w : Bool) → AllPairs Follows (runs_from n i j a (t + long x) xs) → AllPairs Follows (runs_from n i (job_on x i) t (t + long x) xs) → AllPairs Follows (cond v (runs_from n i j a (t + long x) xs) (cond w [] (piece_on i j a t ∷ []) ++ runs_from n i (job_on x i) t (t + long x) xs))
+        by true w same next = same
+        by false true same next = next
+        by false false same next = AllPairs-cons Follows (piece_on i j a t) _ (All-weaker (IsRun i t (t + long x + sum_by long xs)) (Follows (piece_on i j a t)) (λ p r. r.from) _ after) next
+
+    -- what the pieces do, where a job counts
+    module _ (value : ℕ → ℕ) (zero_value : value n ≡ 0) where
+      abbrev counted : Piece → ℕ
+      counted p = size p * value p.job
+
+      part_work : (j a t : ℕ) → sum_by counted (part_on n i j a t) ≡ (t - a) * value j
+      part_work j a t = by (eqb j n) refl
         where
-          by : (t l : ℕ) → t + l - t ≡ l
-          by t l = omega arith
+          by : (v : Bool) → eqb j n ≡ v → sum_by counted (cond v [] (piece_on i j a t ∷ [])) ≡ (t - a) * value j
+          by true e = omega (arith, ap (λ k. (t - a) * k) (ap value (eqb-true j n e) ∙ zero_value))
+          by false e = omega (arith, sum_by-cons counted (piece_on i j a t) [])
 
-  pub row_few : (t : ℕ) (xs : List X) → All (λ x. IsSliceOf m n (long x) (jobs x)) xs → length (row t xs) ≤ length xs * m
-  row_few t [] h = omega arith
-  row_few t (x ∷ xs) h = omega (arith, length-append (pieces_in op n t (t + long x) 0 (jobs x)) (row (t + long x) xs), length-pieces_in op n t (t + long x) 0 (jobs x), (All-head (λ y. IsSliceOf m n (long y) (jobs y)) x xs h).all, row_few (t + long x) xs (All-tail (λ y. IsSliceOf m n (long y) (jobs y)) x xs h))
+      runs_work : (j a t : ℕ) (xs : List Segment) → a ≤ t → sum_by counted (runs_from n i j a t xs) ≡ (t - a) * value j + sum_by (λ x. long x * value (job_on x i)) xs
+      runs_work j a t [] l = omega (arith, part_work j a t)
+      runs_work j a t (x ∷ xs) l = by (eqb (job_on x i) j) refl (runs_work j a (t + long x) xs (omega (arith, l))) (runs_work (job_on x i) t (t + long x) xs (omega arith))
+        where
+          lasts : (d : ℕ) → t + d - t ≡ d
+          lasts d = omega arith
+
+          both : (v d : ℕ) → (t + d - a) * v ≡ (t - a) * v + d * v
+          both v d = ap (λ k. k * v) (parts d) ∙ omega arith
+            where
+              parts : (d : ℕ) → t + d - a ≡ t - a + d
+              parts d = omega (arith, l)
+
+          by : (v : Bool) → eqb (job_on x i) j ≡ v → sum_by counted (runs_from n i j a (t + long x) xs) ≡ (t + long x - a) * value j + sum_by (λ x. long x * value (job_on x i)) xs → sum_by counted (runs_from n i (job_on x i) t (t + long x) xs) ≡ (t + long x - t) * value (job_on x i) + sum_by (λ x. long x * value (job_on x i)) xs → sum_by counted (cond v (runs_from n i j a (t + long x) xs) (part_on n i j a t ++ runs_from n i (job_on x i) t (t + long x) xs)) ≡ (t - a) * value j + sum_by (λ y. long y * value (job_on y i)) (x ∷ xs)
+          by true e same other = omega (arith, same, both (value j) (long x), ap (λ k. long x * value k) (eqb-true (job_on x i) j e), sum_by-cons (λ y. long y * value (job_on y i)) x xs)
+          by false e same other = omega (arith, sum_by-append counted (part_on n i j a t) (runs_from n i (job_on x i) t (t + long x) xs), part_work j a t, other, ap (λ k. k * value (job_on x i)) (lasts (long x)), sum_by-cons (λ y. long y * value (job_on y i)) x xs)
+
+    runs_few : (j a t : ℕ) (xs : List Segment) → length (runs_from n i j a t xs) ≤ suc (length xs)
+    runs_few j a t [] = by (eqb j n)
+      where
+        by : (v : Bool) → length (cond v [] (piece_on i j a t ∷ [])) ≤ 1
+        by true = omega arith
+        by false = omega arith
+    runs_few j a t (x ∷ xs) = by (eqb (job_on x i) j) (eqb j n) (runs_few j a (t + long x) xs) (runs_few (job_on x i) t (t + long x) xs)
+      where
+        by : (v w : Bool) → length (runs_from n i j a (t + long x) xs) ≤ suc (length xs) → length (runs_from n i (job_on x i) t (t + long x) xs) ≤ suc (length xs) → length (cond v (runs_from n i j a (t + long x) xs) (cond w [] (piece_on i j a t ∷ []) ++ runs_from n i (job_on x i) t (t + long x) xs)) ≤ suc (suc (length xs))
+        by true w l k = omega (arith, l)
+        by false true l k = omega (arith, k)
+        by false false l k = omega (arith, k)
+
+  -- ---- all machines
+  -- what is said of the pieces up to the end
+  pub record IsRowOf (k end : ℕ) (ps : List Piece) : Type 0 where
+    pub timed : All IsTimed ps
+    pub lies : All (λ p. finish p ≤ end) ps
+    pub places : All (λ p. (p.job < n) × (p.machine < k) × (p.op ≡ 0)) ps
+    pub on_machines : AllPairs (IsApartOn machine_of start finish) ps
+    pub on_jobs : AllPairs (IsApartOn job_of start finish) ps
+
+  module _ (xs : List Segment) (h : All Slice xs) where
+    abbrev end : ℕ
+    end = sum_by long xs
+
+    abbrev row_of : ℕ → List Piece
+    row_of i = runs_from n i n 0 0 xs
+
+    row_is : (i : ℕ) → i < m → All (IsRun i 0 end) (row_of i)
+    row_is i l = runs_are i l n 0 0 end xs (omega arith) (inl refl) (omega arith) h
+
+    -- no job is on two machines at once
+    abbrev Runs : ℕ → Piece → Type 0
+    Runs k p = (i : ℕ) × (i < k) × IsRun i 0 end p × ((moment : ℕ) → start p ≤ moment → moment < finish p → job_at n i 0 xs moment ≡ p.job)
+
+    row_runs : (i : ℕ) → i < m → All (Runs (suc i)) (row_of i)
+    row_runs i l q d b = (i, omega arith, row_is i l q d b, λ moment u v. covers i l n 0 0 xs (omega arith) (inl refl) h q d b moment (omega arith) u v)
+
+    all_run : (k : ℕ) → k ≤ m → All (Runs k) (runs n xs k)
+    all_run zero l = All-nil (Runs zero)
+    all_run (suc k) l = All-append (Runs (suc k)) (runs n xs k) (row_of k) (All-weaker (Runs k) (Runs (suc k)) (λ p r. (r.0, omega (arith, r.1), r.2, r.3)) (runs n xs k) (all_run k (omega (arith, l)))) (row_runs k (omega (arith, l)))
+
+    apart_jobs : (k : ℕ) (p q : Piece) → k < m → Runs k p → IsRun k 0 end q → ((moment : ℕ) → start q ≤ moment → moment < finish q → job_at n k 0 xs moment ≡ q.job) → IsApartOn job_of start finish p q
+    apart_jobs k p q l (i, b, r, c) s d e = by (below_or_not (start q) (finish p)) (below_or_not (start p) (finish q))
+      where
+        both : (moment : ℕ) → start p ≤ moment → moment < finish p → start q ≤ moment → moment < finish q → ⊥
+        both moment t u v w = absurd (omega (arith, r.job, sym (c moment t u) ∙ job_at-once i k 0 moment xs b l h (c moment t u ∙ e ∙ sym (d moment v w))))
+
+        by : (start q < finish p) ⊎ (finish p ≤ start q) → (start p < finish q) ⊎ (finish q ≤ start p) → (finish p ≤ start q) ⊎ (finish q ≤ start p)
+        by (inr a) z = inl a
+        by (inl a) (inr z) = inr z
+        by (inl a) (inl z) = least (below_or_not (start p) (start q))
+          where
+            least : (start p < start q) ⊎ (start q ≤ start p) → (finish p ≤ start q) ⊎ (finish q ≤ start p)
+            least (inl y) = absurd (both (start q) (omega (arith, y)) a (omega arith) s.timed.lasts)
+            least (inr y) = absurd (both (start p) (omega arith) r.timed.lasts y z)
+
+    rows_of : (k : ℕ) → k ≤ m → IsRowOf k end (runs n xs k)
+    rows_of zero l = record {
+      timed = All-nil IsTimed;
+      lies = All-nil (λ p. finish p ≤ end);
+      places = All-nil (λ p. (p.job < n) × (p.machine < 0) × (p.op ≡ 0));
+      on_machines = AllPairs-empty (IsApartOn machine_of start finish);
+      on_jobs = AllPairs-empty (IsApartOn job_of start finish);
+    }
+    rows_of (suc k) l = joined (rows_of k (omega (arith, l))) (row_is k (omega (arith, l))) (follow k (omega (arith, l)) n 0 0 xs (omega arith) (inl refl) h)
+      where
+        joined : IsRowOf k end (runs n xs k) → All (IsRun k 0 end) (row_of k) → AllPairs (Follows k (omega (arith, l))) (row_of k) → IsRowOf (suc k) end (runs n xs k ++ row_of k)
+        joined a b f = record {
+          timed = All-append IsTimed _ _ a.timed (All-weaker (IsRun k 0 end) IsTimed (λ p r. r.timed) (row_of k) b);
+          lies = All-append (λ p. finish p ≤ end) _ _ a.lies (All-weaker (IsRun k 0 end) (λ p. finish p ≤ end) (λ p r. r.to) (row_of k) b);
+          places = All-append (λ p. (p.job < n) × (p.machine < suc k) × (p.op ≡ 0)) _ _ (All-weaker (λ p. (p.job < n) × (p.machine < k) × (p.op ≡ 0)) (λ p. (p.job < n) × (p.machine < suc k) × (p.op ≡ 0)) (λ p r. (r.0, omega (arith, r.1), r.2)) (runs n xs k) a.places) (All-weaker (IsRun k 0 end) (λ p. (p.job < n) × (p.machine < suc k) × (p.op ≡ 0)) (λ p r. (r.job, omega (arith, r.machine), r.op)) (row_of k) b);
+          on_machines = AllPairs-append (IsApartOn machine_of start finish) _ _ a.on_machines (λ q d u v w e. inl (f q d u v w)) (λ q d u v w z e. absurd (omega (arith, (a.places q d u).1, (b v w z).machine, e)));
+          on_jobs = AllPairs-append (IsApartOn job_of start finish) _ _ a.on_jobs (λ q d u v w e. inl (f q d u v w)) (λ q d u v w z. apart_jobs k (get_or (runs n xs k) q d) (get_or (row_of k) v w) (omega (arith, l)) (all_run k (omega (arith, l)) q d u) (b v w z) (λ moment x y. covers k (omega (arith, l)) n 0 0 xs (omega arith) (inl refl) h v w z moment (omega arith) x y));
+        }
+
+    pub slices_in_row : IsRowOf m end (runs n xs m)
+    slices_in_row = rows_of m (omega arith)
+
+    -- what the pieces do adds up
+    pub work_in_row : (value : ℕ → ℕ → ℕ) → ((i : ℕ) → value n i ≡ 0) → sum_by (λ p. size p * value p.job p.machine) (runs n xs m) ≡ sum_by (λ x. long x * total_below m (λ i. value (job_on x i) i)) xs
+    work_in_row value z = all m (omega arith) ∙ sym (sum_by-total_below (λ x i. long x * value (job_on x i) i) m xs) ∙ sum_by-agree _ _ xs (λ x. total_below-scale m (long x) (λ i. value (job_on x i) i))
+      where
+        all : (k : ℕ) → k ≤ m → sum_by (λ p. size p * value p.job p.machine) (runs n xs k) ≡ total_below k (λ i. sum_by (λ x. long x * value (job_on x i) i) xs)
+        all zero l = refl
+        all (suc k) l = omega (
+          arith,
+          sum_by-append (λ p. size p * value p.job p.machine) (runs n xs k) (row_of k),
+          all k (omega (arith, l)),
+          sum_by-same (λ p. size p * value p.job p.machine) (λ p. size p * value p.job k) (row_of k) (λ q d u. ap (λ i. size (get_or (row_of k) q d) * value (get_or (row_of k) q d).job i) (row_is k (omega (arith, l)) q d u).machine),
+          runs_work k (omega (arith, l)) (λ j. value j k) (z k) n 0 0 xs (omega arith),
+        )
+
+    pub row_few : (k : ℕ) → k ≤ m → length (runs n xs k) ≤ k * suc (length xs)
+    row_few zero l = omega arith
+    row_few (suc k) l = omega (arith, length-append (runs n xs k) (row_of k), row_few k (omega (arith, l)), runs_few k (omega (arith, l)) n 0 0 xs)

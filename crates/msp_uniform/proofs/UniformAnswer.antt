@@ -1,7 +1,7 @@
 -- The schedule of filled segments is best, within the bounds, and costs the greatest quotient.
-use Rattle.std.proofs.Common.{◌≡◌, ℕ, zero, suc, ◌+◌, ◌*◌, ◌<◌, ◌≤◌, ◌⊎◌, inl, inr, List, length, take, get_or, ℤ, pos, ◌*ℤ◌, ◌≤ℤ◌, All, sum_by, sym, ap, subst, subst₂, ◌∙◌, arith}
+use Rattle.std.proofs.Common.{◌≡◌, ℕ, zero, suc, ◌*◌, ◌<◌, ◌≤◌, ◌⊎◌, inl, inr, List, length, take, get_or, ℤ, pos, ◌*ℤ◌, ◌≤ℤ◌, All, sum_by, sym, ap, subst, subst₂, ◌∙◌, arith}
 use Rattle.std.proofs.lemmas.Int.{ints}
-use Rattle.std.proofs.Math.Nat.{mul-le-mul_left, mul-le-mul_right, eq_of_mul-eq-mul_right}
+use Rattle.std.proofs.Math.Nat.{mul-le-mul_left, eq_of_mul-eq-mul_right}
 use Rattle.std.proofs.lemmas.List.{get_or-map, length-map}
 use Rattle.std.proofs.lemmas.List.Elements.{All-take}
 use native.Mathlib.Nat.{le_of_mul-le-mul_left}
@@ -32,7 +32,7 @@ use Rattle.msp_uniform.specs.Segments.{at, job_rate, amount}
 use Rattle.msp_uniform.specs.Rows.{IsSliceOf}
 use Rattle.msp_uniform.specs.Plans.{IsFilled}
 use Rattle.msp_uniform.specs.Answers.{IsTaskOf, IsCutPlan}
-use Rattle.msp_uniform.proofs.RowFacts.{IsRowOf, slices_in_row, row_few}
+use Rattle.msp_uniform.proofs.RowFacts.{long, IsRowOf, slices_in_row, row_few}
 use Rattle.msp_uniform.proofs.LeastEnd.{law_of_least_end, order_within, order_length}
 use Rattle.msp_uniform.proofs.UniformBest.{row_schedule, row_is_best, row_costs}
 
@@ -124,17 +124,20 @@ module _ (i : Instance) (class : i.class ≡ cut_class) (inner : Inner i) (t : T
   short : f.end ≤ 4000000000000000000000000
   short = omega (arith, f.within.short, f.within.small)
 
-  row : IsRowOf i.machines (length i.jobs) (λ _. 0) 0 (0 + sum_by (λ x. x.length) xs) made.pieces
-  row = slices_in_row (λ x. x.length) (λ x. x.jobs.items) i.machines (length i.jobs) (λ _. 0) 0 xs slices
+  row : IsRowOf i.machines (length i.jobs) i.machines (sum_by long xs) made.pieces
+  row = slices_in_row i.machines (length i.jobs) xs slices
 
   few : length made.pieces ≤ 500000
-  few = by (length xs) i.machines (row_few (λ x. x.length) (λ x. x.jobs.items) i.machines (length i.jobs) (λ _. 0) 0 xs slices) f.few h.machines
+  few = by (length xs) i.machines (row_few i.machines (length i.jobs) xs slices i.machines (omega arith)) f.few h.machines
     where
-      by : (a b : ℕ) → length made.pieces ≤ a * b → a ≤ 832 → b ≤ 32 → length made.pieces ≤ 500000
-      by a b l p q = omega (arith, l, mul-le-mul_right b p, q)
+      by : (a b : ℕ) → length made.pieces ≤ b * suc a → a ≤ 832 → b ≤ 32 → length made.pieces ≤ 500000
+      by a b l p q = omega (arith, l, mul-le-mul_left b (more a p), q)
+        where
+          more : (a : ℕ) → a ≤ 832 → suc a ≤ 833
+          more a p = omega (arith, p)
 
   ends : All (λ p. finish p ≤ f.end) made.pieces
-  ends a d l = omega (arith, (row.lies a d l).1, whole)
+  ends a d l = omega (arith, row.lies a d l, whole)
 
   moments : All (λ p. IsMoment p.from × IsMoment p.to) made.pieces
   moments a d l = by (get_or made.pieces a d) (row.timed a d l) (ends a d l)

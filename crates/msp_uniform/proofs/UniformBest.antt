@@ -26,8 +26,8 @@ use Rattle.msp_schedule.proofs.costs.Makespan.{cost_by_ends, cost_natural}
 use Rattle.msp_uniform.specs.declared.segments.Segment.{Segment}
 use Rattle.msp_uniform.specs.Uniform.{cut_class}
 use Rattle.msp_uniform.specs.Segments.{at, job_rate, amount}
-use Rattle.msp_uniform.specs.Rows.{pieces_in_row, IsSliceOf}
-use Rattle.msp_uniform.proofs.RowFacts.{IsRowOf, slices_in_row, work_in_row}
+use Rattle.msp_uniform.specs.Rows.{runs, IsSliceOf}
+use Rattle.msp_uniform.proofs.RowFacts.{long, IsRowOf, slices_in_row, work_in_row}
 
 -- lengths times speeds, added up
 module _ (rate : Piece → ℕ) where
@@ -55,13 +55,13 @@ module _ (rate : Piece → ℕ) where
 
 module _ (i : Instance) (h : IsOfClass i cut_class) (unit end : ℕ) (xs : List Segment) (some : 1 ≤ unit) (slices : All (λ x. IsSliceOf i.machines (length i.jobs) x.length x.jobs.items) xs) (whole : sum_by (λ x. x.length) xs ≡ end) (done : (j : ℕ) → j < length i.jobs → amount (job_rate i.machines (at i.speeds) j) xs ≡ unit * time_at i j) where
   abbrev ps : List Piece
-  ps = pieces_in_row (λ (x : Segment). x.length) (λ x. x.jobs.items) (λ _. 0) (length i.jobs) 0 xs
+  ps = runs (length i.jobs) xs i.machines
 
   abbrev pub row_schedule : Schedule
   row_schedule = record { unit = pos unit; pieces = ps }
 
-  row : IsRowOf i.machines (length i.jobs) (λ _. 0) 0 (0 + sum_by (λ x. x.length) xs) ps
-  row = slices_in_row (λ x. x.length) (λ x. x.jobs.items) i.machines (length i.jobs) (λ _. 0) 0 xs slices
+  row : IsRowOf i.machines (length i.jobs) i.machines (sum_by long xs) ps
+  row = slices_in_row i.machines (length i.jobs) xs slices
 
   places : All (HasPlace i) ps
   places k d l = record {
@@ -90,7 +90,7 @@ module _ (i : Instance) (h : IsOfClass i cut_class) (unit end : ℕ) (xs : List 
     work_is =
         sum_by-filter (size_share rate) (λ p. eqb p.job j) ps
         ∙ sum_by-agree _ _ ps (λ p. cond-scale (eqb p.job j) (size_of start finish p) (rate p))
-        ∙ work_in_row (λ x. x.length) (λ x. x.jobs.items) i.machines (length i.jobs) (λ _. 0) value (λ k. ap (λ b. cond b (at i.speeds k) 0) (ne_eqb (length i.jobs) j (λ e. absurd (omega (arith, e, small))))) 0 xs slices
+        ∙ work_in_row i.machines (length i.jobs) xs slices value (λ k. ap (λ b. cond b (at i.speeds k) 0) (ne_eqb (length i.jobs) j (λ e. absurd (omega (arith, e, small)))))
         ∙ done j small
 
     adds_up : total (map (part_of Uniform i) (pieces_of row_schedule j 0)) ≡ pos unit *ℤ pos (time_at i j)
@@ -121,7 +121,7 @@ module _ (i : Instance) (h : IsOfClass i cut_class) (unit end : ℕ) (xs : List 
   }
 
   upper : cost_of i row_schedule ≤ℤ pos end
-  upper = cost_by_ends i h.crit row_schedule h.some (pos end) (omega (arith, ints)) (λ k d l. omega (arith, ints, (row.timed k d l).to, (row.lies k d l).1, whole))
+  upper = cost_by_ends i h.crit row_schedule h.some (pos end) (omega (arith, ints)) (λ k d l. omega (arith, ints, (row.timed k d l).to, row.lies k d l, whole))
 
   -- where the end is the work of some jobs over the speed of some machines, and no schedule ends before that
   module _ (w v : ℕ) (fast : 1 ≤ v) (reached : end * v ≡ w * unit) (law : (t : Schedule) → Feasible i t → (pos w *ℤ t.unit) ≤ℤ (cost_of i t *ℤ pos v)) where

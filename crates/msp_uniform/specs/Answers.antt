@@ -5,7 +5,7 @@ use Rattle.msp_instance.specs.Instance.{no_need}
 use Rattle.msp_schedule.specs.declared.Schedule.{Schedule}
 use Rattle.msp_uniform.specs.declared.segments.Segment.{Segment}
 use Rattle.msp_uniform.specs.declared.task.Task.{Task}
-use Rattle.msp_uniform.specs.Rows.{pieces_in_row}
+use Rattle.msp_uniform.specs.Rows.{runs}
 use Rattle.msp_uniform.specs.Plans.{IsTask, IsAsked, IsFilled}
 
 abbrev pub AreTimes : Instance → List ℕ → Type 0
@@ -22,4 +22,4 @@ abbrev pub IsLaidOut : Instance → ℕ → List Segment → Type 0
 IsLaidOut i unit xs = (t : Task) × (jobs : List ℕ) × (machines : List ℕ) × IsTaskOf i t jobs machines × IsFilled t unit xs
 
 abbrev pub IsCutPlan : Instance → Schedule → Type 0
-IsCutPlan i s = (unit : ℕ) × (xs : List Segment) × IsLaidOut i unit xs × (s ≡ record { unit = pos unit; pieces = pieces_in_row (λ (x : Segment). x.length) (λ x. x.jobs.items) (λ _. 0) (length i.jobs) 0 xs })
+IsCutPlan i s = (unit : ℕ) × (xs : List Segment) × IsLaidOut i unit xs × (s ≡ record { unit = pos unit; pieces = runs (length i.jobs) xs i.machines })

@@ -79,7 +79,7 @@ fn schedule_of(alloc: Global, inst: &Instance) -> Result<Schedule, NoMemory>
 {
     let filled = filled(alloc, inst)?;
     let none = inst.jobs.len() as u32;
-    let pieces = pieces_of(alloc, filled.segments.as_slice(), none)?;
+    let pieces = pieces_of(alloc, filled.segments.as_slice(), none, inst.machines)?;
     Ok(Schedule {
         unit: filled.unit as i128,
         pieces,

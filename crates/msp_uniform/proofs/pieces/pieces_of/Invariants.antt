@@ -1,10 +1,7 @@
-use Rattle.std.proofs.Common.{◌≡◌, ◌+◌, ◌++◌, ◌<◌, ◌^◌, drop, sum_by}
-use Rattle.msp_uniform.specs.Rows.{pieces_in_row}
+use Rattle.std.proofs.Common.{◌≡◌}
+use Rattle.msp_uniform.specs.Rows.{runs}
 use Rattle.msp_uniform.proofs.pieces.pieces_of.Given as goal
 
--- with those to come, the pieces are those of all segments
-abbrev pub invariant-loop-segment : goal.invariant-loop-segment
-invariant-loop-segment l = record {
-  pieces : l.pieces ++ pieces_in_row (λ x. x.length) (λ x. x.jobs.items) (λ _. 0) l.none l.begin (drop l.segment-index l.segments) ≡ pieces_in_row (λ x. x.length) (λ x. x.jobs.items) (λ _. 0) l.none 0 l.segments;
-  short : l.begin + sum_by (λ x. x.length) (drop l.segment-index l.segments) < 2 ^ 127;
-}
+-- the pieces of the machines so far
+abbrev pub invariant-loop-machine : goal.invariant-loop-machine
+invariant-loop-machine l = l.pieces ≡ runs l.none l.segments l.machine
