@@ -5,3 +5,4 @@ mod Filling
 pub mod Begins
 pub mod UnitPieces
 pub mod ListSchedules
+pub mod SlotPlaces

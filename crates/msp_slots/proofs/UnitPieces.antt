@@ -1,14 +1,16 @@
 -- Jobs of one unit of time, each with one piece: what makes the schedule feasible and keeps it in bounds, and when its jobs end.
 use Rattle.std.proofs.Common.{◌≡◌, ◌≢◌, ℕ, ◌+◌, ◌<◌, ◌≤◌, ◌⊎◌, inl, inr, eqb, false, List, [], ◌∷◌, length, get_or, map, filter, fold, ℤ, pos, ◌-ℤ◌, ◌*ℤ◌, ◌≤ℤ◌, ◌<ℤ◌, All, AllPairs, Contains, refl, sym, ap, ap₂, subst, subst₂, ◌∙◌, arith}
 use Rattle.std.specs.Int.{int_max}
+use Rattle.std.specs.List.{range_with_len}
 use Rattle.std.proofs.lemmas.Bool.{cases_lt, eqb-true}
 use Rattle.std.proofs.lemmas.Int.{ints}
 use Rattle.std.proofs.lemmas.List.{length-map, get_or-map}
-use Rattle.std.proofs.lemmas.List.Elements.{All-contains, Contains-get_or}
+use Rattle.std.proofs.lemmas.List.Elements.{All-nil, All-map, All-contains, Contains-get_or}
 use Rattle.msp_class.specs.declared.environments.EnvKind.TheVariants.{Identical, Unrelated}
 use Rattle.msp_class.specs.Env.{kind_of}
 use Rattle.msp_class.proofs.IntegerRing.{pos-le, pos-lt, int_max-right, zero-le-pos}
-use Rattle.msp_class.proofs.Sums.{OnceBelow, OnceBelow-distinct, Contains-from_filter}
+use Rattle.msp_class.proofs.Sums.{OnceBelow, OnceBelow-range, OnceBelow-distinct, Contains-from_filter}
+use Rattle.msp_instance.specs.declared.Arc.{Arc}
 use Rattle.msp_instance.specs.declared.Instance.{Instance}
 use Rattle.msp_instance.specs.Instance.{job_at, need_at}
 use Rattle.msp_schedule.specs.declared.Piece.{Piece}
@@ -119,3 +121,25 @@ module _ (i : Instance) (u : HasUnitJobs i) (begin machine : ℕ → ℕ) (piece
 
   pub unit_piece_ends : (j : ℕ) → j < n → end_of s j ≡ pos (begin j + 1)
   unit_piece_ends j b = ap (λ ps. fold int_max (pos 0) (map (λ p. p.to) ps)) (mine j b) ∙ int_max-right (pos 0) (pos (begin j + 1)) (zero-le-pos (begin j + 1))
+
+-- ---- pieces by when and where the jobs begin
+abbrev pub pieces_at : (ℕ → ℕ) → (ℕ → ℕ) → List ℕ → List Piece
+pieces_at begin machine js = map (λ j. piece_at (begin j) (machine j) j) js
+
+jobs_at : (begin machine : ℕ → ℕ) (js : List ℕ) → map (λ p. p.job) (pieces_at begin machine js) ≡ js
+jobs_at begin machine [] = refl
+jobs_at begin machine (j ∷ js) = ap (λ l. j ∷ l) (jobs_at begin machine js)
+
+pub AreUnitPieces-from : (i : Instance) (begin machine : ℕ → ℕ) → i.arcs ≡ [] → ((j : ℕ) → j < length i.jobs → machine j < i.machines)
+    → ((j k : ℕ) → j < length i.jobs → k < length i.jobs → begin j ≡ begin k → machine j ≡ machine k → j ≡ k)
+    → ((j : ℕ) → j < length i.jobs → (job_at i j).release ≤ begin j) → ((j : ℕ) → j < length i.jobs → begin j < 10000000000000000000000000)
+    → AreUnitPieces i begin machine (pieces_at begin machine (range_with_len 0 (length i.jobs)))
+AreUnitPieces-from i begin machine none inside apart released early = record {
+  jobs = subst (OnceBelow (length i.jobs)) (sym (jobs_at begin machine (range_with_len 0 (length i.jobs)))) (OnceBelow-range (length i.jobs));
+  each = All-map (λ p. p ≡ piece_at (begin p.job) (machine p.job) p.job) (λ j. piece_at (begin j) (machine j) j) (range_with_len 0 (length i.jobs)) (λ k d l. refl);
+  inside = inside;
+  apart = apart;
+  released = released;
+  forward = subst (All (λ a. begin a.before < begin a.after)) (sym none) (All-nil (λ (a : Arc). begin a.before < begin a.after));
+  early = early;
+}

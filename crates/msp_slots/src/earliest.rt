@@ -56,6 +56,13 @@ fn next_slot(moment: u64, taken: u32, machines: u32, release: u64) -> Slot
     }
 }
 
+/// The moments at which the slots begin.
+pub fn starts_of(alloc: Global, slots: &[Slot]) -> Result<Vec<u64>, NoMemory>
+    ensures { IfOk result (λ all. all.items ≡ map (λ s. s.start) slots.now) }
+{
+    Ok(slots.iter().map(|slot| slot.start).collect(alloc)?)
+}
+
 /// The slots of the earliest schedule, one for each release date, in order of their begins.
 pub fn earliest_slots(alloc: Global, releases: &[u64], machines: u32) -> Result<Vec<Slot>, NoMemory>
     requires some { 1 ≤ machines }

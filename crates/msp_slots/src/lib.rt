@@ -9,5 +9,5 @@ mod earliest;
 mod in_order;
 mod slot;
 
-pub use earliest::{Slot, earliest_slots, releases_of, sorted_releases};
+pub use earliest::{Slot, earliest_slots, releases_of, sorted_releases, starts_of};
 pub use in_order::pieces_in_order;

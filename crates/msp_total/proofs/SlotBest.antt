@@ -27,13 +27,14 @@ use Rattle.msp_route.specs.Bounds.{IsAnswer, answer_unit}
 use Rattle.msp_route.proofs.OneEach.{one_each_is_answer}
 use Rattle.msp_assign.specs.Prices.{IsAssigned, column_of}
 use Rattle.msp_total.specs.Slots.{forbidden, slot_cost}
-use Rattle.msp_slots.specs.Seating.{one_if, begin_at, IsSeated, IsTight, Rises}
-use Rattle.msp_slots.specs.Earliest.{start_in, machine_in, head_in, piece_in}
-use Rattle.msp_slots.proofs.Seats.{HasSeats, law_of_seats, at_more}
+use Rattle.msp_slots.specs.Seating.{one_if, begin_at, IsSeated}
+use Rattle.msp_slots.specs.Earliest.{start_in, machine_in, piece_in}
+use Rattle.msp_slots.proofs.Seats.{HasSeats}
+use Rattle.msp_slots.proofs.SlotPlaces.{heads_many, slot_inside, same_slot, seats_in}
 use Rattle.msp_slots.proofs.Begins.{head_at, begins_of}
 use Rattle.msp_slots.proofs.UnitPieces.{HasUnitJobs, AreUnitPieces, one_each, uncut, unit_pieces_are_feasible, unit_pieces_are_within, unit_piece_ends}
 use Rattle.msp_total.specs.SlotSteps.{slot_class, AreLeastLaid}
-use Rattle.msp_total.proofs.SlotFacts.{IsUnitShop, IsUnitShop-from, ones, sums, ended, ended_small, cost_early, cost_in_time, cost_natural, heads_many, released-sorted, slots_soon}
+use Rattle.msp_total.proofs.SlotFacts.{IsUnitShop, IsUnitShop-from, ones, sums, ended, ended_small, cost_early, cost_in_time, cost_natural, slots_soon}
 
 -- ---- totals of integers
 int_total_below-zero : (n : ℕ) (f : ℕ → ℤ) → ((j : ℕ) → j < n → pos 0 ≤ℤ f j) → pos 0 ≤ℤ int_total_below n f
@@ -100,15 +101,6 @@ module _ (i : Instance) (late : Bool) (h : IsUnitShop i late) (pieces : List Pie
   many : length l.heads ≡ n
   many = heads_many i l.heads l.all
 
-  seated : IsSeated n i.machines (head_in l.heads) start
-  seated = subst (λ k. IsSeated k i.machines (head_in l.heads) start) many l.filled.seated
-
-  tight : IsTight n i.machines (head_in l.heads) start
-  tight = subst (λ k. IsTight k i.machines (head_in l.heads) start) many l.filled.tight
-
-  rises : Rises n start
-  rises = subst (λ k. Rises k start) many l.filled.rises
-
   in_slots : (k : ℕ) → k < n → k < length l.slots
   in_slots k b = omega (arith, b, l.filled.count, many)
 
@@ -120,7 +112,7 @@ module _ (i : Instance) (late : Bool) (h : IsUnitShop i late) (pieces : List Pie
 
   -- ---- what any assignment costs, and any schedule
   seats : (begin : ℕ → ℕ) → IsSeated n i.machines (head_at i) begin → (seat : ℕ → ℕ) × HasSeats n (head_at i) begin start seat
-  seats begin s = law_of_seats n i.machines (head_at i) begin (head_in l.heads) start s seated tight rises (released-sorted i l.heads l.all)
+  seats begin s = seats_in i l.heads l.slots l.all l.filled begin s
 
   module _ (begin seat : ℕ → ℕ) (s : HasSeats n (head_at i) begin start seat) where
     abbrev other : List ℕ
@@ -191,22 +183,6 @@ module _ (i : Instance) (late : Bool) (h : IsUnitShop i late) (pieces : List Pie
   all_pieces : (P : Piece → Type 0) → ((j : ℕ) → j < n → P (piece_in l.slots j (col j))) → All P pieces
   all_pieces P f k d b = let w : k < n = omega (arith, b, count) in subst P (sym (l.laid.each k d w)) (f k w)
 
-  machine_is : (k : ℕ) → k < n → machine_in l.slots k ≡ begin_at k start (start k)
-  machine_is k b = l.filled.machine k (omega (arith, b, many))
-
-  machine_inside : (k : ℕ) → k < n → machine_in l.slots k < i.machines
-  machine_inside k b = omega (arith, machine_is k b, at_more start k n (start k) b refl, seated.few (start k))
-
-  -- slots on one machine begin at different times
-  same_slot : (a b : ℕ) → a < n → b < n → start a ≡ start b → machine_in l.slots a ≡ machine_in l.slots b → a ≡ b
-  same_slot a b u v s e = elim (cases_lt a b) [
-    | inl less ↦ absurd (omega (arith, at_more start a b (start b) less s, machine_is a u, machine_is b v, e, ap (begin_at a start) s))
-    | inr more ↦ elim (cases_lt b a) [
-      | inl less ↦ absurd (omega (arith, at_more start b a (start a) less (sym s), machine_is a u, machine_is b v, e, ap (begin_at b start) s))
-      | inr last ↦ omega (arith, more, last)
-    ]
-  ]
-
   same_col : (a b : ℕ) → a < n → b < n → col a ≡ col b → a ≡ b
   same_col a b u v e = elim (cases_lt a b) [
     | inl less ↦ absurd (l.assigned.apart a b 0 less (omega (arith, v, l.assigned.all)) e)
@@ -229,8 +205,8 @@ module _ (i : Instance) (late : Bool) (h : IsUnitShop i late) (pieces : List Pie
   unit_pieces = record {
     jobs = jobs;
     each = all_pieces (λ p. p ≡ piece_in l.slots p.job (col p.job)) (λ j b. refl);
-    inside = λ j b. machine_inside (col j) (col_inside j b);
-    apart = λ a b u v e f. same_col a b u v (same_slot (col a) (col b) (col_inside a u) (col_inside b v) e f);
+    inside = λ j b. slot_inside i.machines l.heads l.slots l.filled (col j) (omega (arith, col_inside j b, many));
+    apart = λ a b u v e f. same_col a b u v (same_slot i.machines l.heads l.slots l.filled (col a) (col b) (omega (arith, col_inside a u, many)) (omega (arith, col_inside b v, many)) e f);
     released = in_time;
     forward = subst (All (λ a. start (col a.before) < start (col a.after))) (sym h.arcs) (All-nil (λ (a : Arc). start (col a.before) < start (col a.after)));
     early = λ j b. omega (arith, soon (col j) (col_inside j b));

@@ -24,10 +24,9 @@ use Rattle.msp_total.specs.declared.slot_table.Slots.{Slots}
 use Rattle.msp_schedule.proofs.feasible.OfClass.{IsOfClass, IsOfClass-from}
 use Rattle.msp_schedule.proofs.lists.Places.{sum_by-places}
 use Rattle.msp_total.specs.Slots.{forbidden, past_due, slot_cost}
-use Rattle.msp_slots.specs.Seating.{one_if}
 use Rattle.msp_slots.specs.Earliest.{no_slot, start_in, head_in, AreSlots}
-use Rattle.msp_slots.proofs.Seats.{released_by}
 use Rattle.msp_slots.proofs.Begins.{head_at}
+use Rattle.msp_slots.proofs.SlotPlaces.{heads_many}
 use Rattle.msp_total.specs.SlotSteps.{slot_crit, slot_class, IsTable, AreLaid, AreLeastLaid}
 
 abbrev pub IsUnitShop : Instance → Bool → Type 0
@@ -142,14 +141,6 @@ module _ (i : Instance) (late : Bool) (h : IsUnitShop i late) (slots : List Slot
     | inl less ↦ subst (λ z. z ≤ℤ pos (2 ^ 100)) (sym (cost_early j k a b less)) (omega (arith, ints))
     | inr more ↦ subst (λ z. z ≤ℤ pos (2 ^ 100)) (sym (cost_in_time j k a b more)) (≤ℤ_trans (ended_small j (start_in slots k) a l) (omega (arith, ints)))
   ]
-
--- ---- the release dates in order
-pub heads_many : (i : Instance) (heads : List ℕ) → IsPermutation (map (λ j. j.release) i.jobs) heads → length heads ≡ length i.jobs
-heads_many i heads p = length_permutation (map (λ j. j.release) i.jobs) heads p ∙ length-map i.jobs (λ j. j.release)
-
-pub released-sorted : (i : Instance) (heads : List ℕ) → IsPermutation (map (λ j. j.release) i.jobs) heads → (x : ℕ) → released_by (length i.jobs) (head_at i) x ≡ released_by (length i.jobs) (head_in heads) x
-released-sorted i heads p x =
-    sym (sum_by-places (λ j. one_if (leb j.release x)) i.jobs no_job) ∙ sym (sum_by-map (λ r. one_if (leb r x)) (λ j. j.release) i.jobs) ∙ sym (sum_by-IsPermutation (λ r. one_if (leb r x)) (map (λ j. j.release) i.jobs) heads p) ∙ sum_by-places (λ r. one_if (leb r x)) heads 0 ∙ ap (λ n. total_below n (λ k. one_if (leb (head_in heads k) x))) (heads_many i heads p)
 
 -- ---- the slots
 module _ (i : Instance) (late : Bool) (h : IsUnitShop i late) (heads : List ℕ) (p : IsPermutation (map (λ j. j.release) i.jobs) heads) where

@@ -14,7 +14,7 @@ use msp_class::{Class, Crit, Env, List, NoMemory, Order, Times};
 use msp_instance::{Instance, Job};
 use msp_route::Solver;
 use msp_schedule::{Piece, Schedule, Solution};
-use msp_slots::{Slot, earliest_slots, releases_of, sorted_releases};
+use msp_slots::{Slot, earliest_slots, releases_of, sorted_releases, starts_of};
 use std::alloc::Global;
 
 /// The class of unit jobs with release dates on identical machines, by weighted tardiness or by the weight of late jobs.
@@ -30,12 +30,6 @@ fn class_of(late: bool) -> Class
         times: Times::Unit,
         crit,
     }
-}
-
-fn starts_of(alloc: Global, slots: &[Slot]) -> Result<Vec<u64>, NoMemory>
-    ensures { IfOk result (λ all. all.items ≡ map (λ s. s.start) slots.now) }
-{
-    Ok(slots.iter().map(|slot| slot.start).collect(alloc)?)
 }
 
 fn dues_of(alloc: Global, jobs: &[Job]) -> Result<Vec<i64>, NoMemory>

@@ -1,0 +1,250 @@
+-- The range of bounds in which the least one lies, and the least bound as a cost.
+use Rattle.std.proofs.Common.{◌≡◌, ℕ, ◌+◌, ◌*◌, ◌<◌, ◌≤◌, Bool, true, false, inl, inr, List, [], ◌∷◌, ◌++◌, Option, Some, length, get_or, take, All, ℤ, pos, nat_abs, ◌+ℤ◌, ◌-ℤ◌, ◌*ℤ◌, ◌≤ℤ◌, ◌<ℤ◌, FitsSigned, to_z, of_z, refl, sym, ap, ap₂, subst, subst₂, ◌∙◌, arith}
+use Rattle.std.specs.Prelude.{◌↔◌, IsTrue, MatchOption, if◌then◌else◌, nat_eq}
+use Rattle.std.specs.Int.{int_max, w64, w128}
+use Rattle.std.specs.List.{range_with_len}
+use Rattle.std.proofs.lemmas.Bool.{eqb-true}
+use Rattle.std.proofs.lemmas.Int.{ints, to_z-of_z}
+use Rattle.std.proofs.lemmas.List.{take_all, take_more}
+use Rattle.std.proofs.lemmas.List.Elements.{All-push}
+use Rattle.msp_class.specs.declared.class.Crit.TheVariants.{SumU}
+use Rattle.msp_class.proofs.IntegerRing.{natural, pos-le, lt-pos, <ℤ_weak, zero-le-pos, *ℤ-one, *ℤ_comm, *ℤ-zero, zero-*ℤ, *ℤ-cancel_pos, *ℤ-cancel_same, ≤ℤ-int_max_left, ≤ℤ-int_max_right, int_max-least, ≤ℤ_antisym, ≤ℤ_total, ≤ℤ_trans}
+use Rattle.msp_instance.specs.declared.Job.{Job}
+use Rattle.msp_instance.specs.declared.Instance.{Instance}
+use Rattle.msp_instance.specs.Instance.{no_job, job_at}
+use Rattle.msp_instance.specs.Conditions.{LiesWithin}
+use Rattle.msp_schedule.specs.declared.Piece.{Piece}
+use Rattle.msp_schedule.specs.declared.Schedule.{Schedule}
+use Rattle.msp_schedule.specs.declared.Frac.{Frac}
+use Rattle.msp_schedule.specs.Fraction.{IsOver}
+use Rattle.msp_schedule.specs.Feasible.{Feasible}
+use Rattle.msp_schedule.specs.Cost.{cost_of, Best}
+use Rattle.msp_schedule.proofs.costs.LateJobs.{late_jobs, late_cost}
+use Rattle.msp_schedule.proofs.feasible.OneEach.{IsUncut-identical}
+use Rattle.msp_route.specs.Bounds.{IsAnswer, answer_unit}
+use Rattle.msp_route.proofs.OneEach.{one_each_is_answer}
+use Rattle.msp_slots.proofs.UnitPieces.{pieces_at, AreUnitPieces-from}
+use Rattle.msp_threshold.specs.declared.search.Range.{Range}
+use Rattle.msp_threshold.specs.Squeezed.{AreKept, HasTime, squeezed_by, CanMeet, CanBeFree}
+use Rattle.msp_threshold.specs.Search.{IsLeastBound, IsLowest, IsRange, number_of, pieces_back}
+use Rattle.msp_threshold.proofs.Facts.{IsLatenessShop}
+use Rattle.msp_threshold.proofs.Meeting.{loosened, own_cost, meets_pieces, meets_moments, moments_below}
+use Rattle.msp_threshold.proofs.Law.{free_if_met}
+use Rattle.msp_threshold.proofs.BackMeets.{back_each, back_feasible, back_meets, back_inside, time_if_met}
+
+-- ---- the least bound for which each job has time
+has_time-least : (bound : ℤ) (j : Job) → HasTime bound j ↔ ((pos (j.release + 1) -ℤ j.due) ≤ℤ bound)
+has_time-least bound j = ((λ h. omega (arith, ints, h)), (λ h. omega (arith, ints, h)))
+
+pub has_time-more : (a b : ℤ) (jobs : List Job) → a ≤ℤ b → All (HasTime a) jobs → All (HasTime b) jobs
+has_time-more a b jobs h t k d l = more (pos ((get_or jobs k d).release + 1)) (get_or jobs k d).due (t k d l)
+  where
+    more : (x d : ℤ) → x ≤ℤ (d +ℤ a) → x ≤ℤ (d +ℤ b)
+    more x d g = omega (arith, ints, g, h)
+
+pub has_time-here : (bound x : ℤ) (j : Job) → x ≡ pos (j.release + 1) -ℤ j.due → x ≤ℤ bound → HasTime bound j
+has_time-here bound x j e h = (has_time-least bound j).1 (subst (λ y. y ≤ℤ bound) e h)
+
+pub has_time-there : (bound x : ℤ) (j : Job) → x ≡ pos (j.release + 1) -ℤ j.due → HasTime bound j → x ≤ℤ bound
+has_time-there bound x j e h = subst (λ y. y ≤ℤ bound) (sym e) ((has_time-least bound j).0 h)
+
+pub record IsLowestSoFar (jobs : List Job) (k : ℕ) (lowest : ℤ) : Type 0 where
+  pub time : All (HasTime lowest) (take k jobs)
+  pub least : (bound : ℤ) → All (HasTime bound) jobs → lowest ≤ℤ bound
+  pub size : LiesWithin 4000000001 lowest
+
+lateness_small : (x d : ℤ) (r : ℕ) → x ≡ pos (r + 1) -ℤ d → r ≤ 2000000000 → LiesWithin 2000000000 d → LiesWithin 4000000001 x
+lateness_small x d r e h w = (omega (arith, ints, e, h, w.1), omega (arith, ints, e, h, w.0))
+
+small_fits : (x : ℤ) → LiesWithin 4000000001 x → FitsSigned w64 x
+small_fits x h = omega (arith, ints, h.0, h.1)
+
+module _ (jobs : List Job) (released : All (λ j. j.release ≤ 2000000000) jobs) (dues : All (λ j. LiesWithin 2000000000 j.due) jobs) (k : ℕ) (j : Job) (x : ℤ) (inside : k < length jobs) (at : j ≡ get_or jobs k j) (e : x ≡ pos (j.release + 1) -ℤ j.due) where
+  here : (P : Job → Type 0) → All P jobs → P j
+  here P h = subst P (sym at) (h k j inside)
+
+  small : LiesWithin 4000000001 x
+  small = lateness_small x j.due j.release e (here (λ j. j.release ≤ 2000000000) released) (here (λ j. LiesWithin 2000000000 j.due) dues)
+
+  is : to_z w64 (of_z w64 x) ≡ x
+  is = to_z-of_z w64 x (small_fits x small)
+
+  pub lowest-start : IsLowestSoFar jobs 0 (to_z w64 (of_z w64 x))
+  lowest-start = subst (IsLowestSoFar jobs 0) (sym is) (record {
+    time = λ m d l. absurd (omega (arith, l));
+    least = λ bound all. has_time-there bound x j e (here (HasTime bound) all);
+    size = small;
+  })
+
+  pub lowest-next : (old a b new : ℤ) → a ≡ old → b ≡ to_z w64 (of_z w64 x) → new ≡ int_max a b → IsLowestSoFar jobs k old → IsLowestSoFar jobs (k + 1) (to_z w64 (of_z w64 new))
+  lowest-next old a b new f g m h = subst (IsLowestSoFar jobs (k + 1)) (sym (to_z-of_z w64 new (small_fits new size))) (record {
+    time = subst (All (HasTime new)) (sym (take_more jobs k j inside ∙ ap (λ y. take k jobs ++ y ∷ []) (sym at))) (All-push (HasTime new) (take k jobs) j (has_time-more old new (take k jobs) (subst (λ z. old ≤ℤ z) (sym is_max) (≤ℤ-int_max_left old x)) h.time) (has_time-here new x j e (subst (λ z. x ≤ℤ z) (sym is_max) (≤ℤ-int_max_right old x))));
+    least = λ bound all. subst (λ z. z ≤ℤ bound) (sym is_max) (int_max-least (h.least bound all) (has_time-there bound x j e (here (HasTime bound) all)));
+    size = size;
+  })
+    where
+      is_max : new ≡ int_max old x
+      is_max = m ∙ ap₂ int_max f (g ∙ is)
+
+      size : LiesWithin 4000000001 new
+      size = (≤ℤ_trans h.size.0 (subst (λ z. old ≤ℤ z) (sym is_max) (≤ℤ-int_max_left old x)), subst (λ z. z ≤ℤ pos 4000000001) (sym is_max) (int_max-least h.size.1 small.1))
+
+pub lowest-end : (jobs : List Job) (k : ℕ) (a lowest : ℤ) → length jobs ≤ k → a ≡ lowest → IsLowestSoFar jobs k lowest → IsLowest jobs a
+lowest-end jobs k a lowest l e h = subst (IsLowest jobs) (sym e) (record { time = subst (All (HasTime lowest)) (take_all k jobs l) h.time; least = h.least })
+
+module _ (i : Instance) (t : IsLatenessShop i) where
+  abbrev n : ℕ
+  n = length i.jobs
+
+  -- ---- the first range: all jobs one after another from the latest release date on
+  pub first_range : (low high : ℤ) (latest : ℕ) → IsLowest i.jobs low → LiesWithin 4000000001 low → All (λ j. j.release ≤ latest) i.jobs → latest ≤ 2000000000 → high ≡ (low +ℤ pos latest) +ℤ pos n → IsRange i (record { low = low; high = high })
+  first_range low high latest lowest size released small e = record {
+    met = meets_pieces i t high (λ j. latest + j) (λ _. 0) (pieces_at (λ j. latest + j) (λ _. 0) (range_with_len 0 n))
+        (AreUnitPieces-from i (λ j. latest + j) (λ _. 0) t.arcs (λ j l. t.machine) (λ j k l m e f. omega (arith, e)) (λ j l. omega (arith, released j no_job l)) (λ j l. omega (arith, l, t.few, small)))
+        (λ j l. in_time j (job_at i j).release (job_at i j).due l (lowest.time j no_job l));
+    least = λ bound met. lowest.least bound (time_if_met i t bound met);
+    low = (omega (arith, ints, size.0), omega (arith, ints, size.1));
+    high = (omega (arith, ints, size.0, e, small, t.few), omega (arith, ints, size.1, e, small, t.few));
+  }
+    where
+      in_time : (j r : ℕ) (d : ℤ) → j < n → pos (r + 1) ≤ℤ (d +ℤ low) → pos (latest + j + 1) ≤ℤ (d +ℤ high)
+      in_time j r d l h = omega (arith, ints, h, e, l)
+
+  -- ---- a half of it
+  pub halved : (range new : Range) (middle : ℤ) (met : Bool) → IsRange i range → range.low ≤ℤ middle → middle <ℤ range.high → IsTrue met ↔ CanMeet i middle
+      → new.low ≡ (if met then range.low else middle +ℤ pos 1) → new.high ≡ (if met then middle else range.high) → IsRange i new
+  halved range new middle true h a b m e f = record {
+    met = subst (CanMeet i) (sym f) (m.0 refl);
+    least = λ bound c. subst (λ x. x ≤ℤ bound) (sym e) (h.least bound c);
+    low = subst (LiesWithin 10000000000) (sym e) h.low;
+    high = subst (LiesWithin 10000000000) (sym f) (omega (arith, ints, a, h.low.0), omega (arith, ints, b, h.high.1));
+  }
+  halved range new middle false h a b m e f = record {
+    met = subst (CanMeet i) (sym f) h.met;
+    least = λ bound c. subst (λ x. x ≤ℤ bound) (sym e) (above bound c);
+    low = subst (LiesWithin 10000000000) (sym e) (omega (arith, ints, a, h.low.0), omega (arith, ints, b, h.high.1));
+    high = subst (LiesWithin 10000000000) (sym f) h.high;
+  }
+    where
+      above : (bound : ℤ) → CanMeet i bound → (middle +ℤ pos 1) ≤ℤ bound
+      above bound c = elim (≤ℤ_total bound middle) [
+        | inl less ↦ absurd (never (m.1 (loosened i bound middle less c)))
+        | inr more ↦ omega (arith, ints, more)
+      ]
+        where
+          never : IsTrue false → ⊥
+          never p = absurd (cc)
+
+  pub least_of : (range : Range) → IsRange i range → range.high ≤ℤ range.low → IsLeastBound i range.high
+  least_of range h e = record { met = h.met; least = λ other c. ≤ℤ_trans e (h.least other c) }
+
+  -- ---- a schedule that meets the least bound costs it, and is best
+  module _ (kept : List ℕ) (k : AreKept i kept) (bound : ℤ) (least : IsLeastBound i bound) (pieces : List Piece) (f : Feasible i (record { unit = pos 1; pieces = pieces })) (m : cost_of i (record { unit = pos 1; pieces = pieces }) ≤ℤ (bound *ℤ pos 1)) where
+    abbrev s : Schedule
+    s = record { unit = pos 1; pieces = pieces }
+
+    pub least_cost : cost_of i (record { unit = pos 1; pieces = pieces }) ≡ bound
+    least_cost = ≤ℤ_antisym (subst (λ x. cost_of i s ≤ℤ x) (*ℤ-one bound) m) (least.least (cost_of i s) (own_cost i pieces f))
+
+    pub least_best : Best i (record { unit = pos 1; pieces = pieces })
+    least_best = record { feasible = f; least = λ u g. subst₂ (λ x y. x ≤ℤ y) (sym (ap (λ c. c *ℤ u.unit) least_cost)) (sym (*ℤ-one (cost_of i u))) (no_less u g) }
+      where
+        no_less : (u : Schedule) → Feasible i u → (bound *ℤ u.unit) ≤ℤ cost_of i u
+        no_less u g = elim (≤ℤ_total (bound *ℤ u.unit) (cost_of i u)) [
+          | inl more ↦ more
+          | inr less ↦ absurd (never bound (least.least (bound -ℤ pos 1) (meets_moments i t k.heads k.slots k.all k.filled (bound -ℤ pos 1) (moments_below i t bound u g less))))
+        ]
+          where
+            never : (b : ℤ) → b ≤ℤ (b -ℤ pos 1) → ⊥
+            never b h = omega (arith, ints, h)
+
+-- ---- late jobs
+module _ (j : Instance) (crit : j.class.crit ≡ SumU) (s : Schedule) (best : Best j s) where
+  unit_is : s.unit ≡ pos (nat_abs s.unit)
+  unit_is = natural s.unit (omega (arith, ints, best.feasible.unit))
+
+  no_less : pos 0 ≤ℤ cost_of j s
+  no_less = subst (λ x. pos 0 ≤ℤ x) (sym (late_cost j s (nat_abs s.unit) crit unit_is)) (zero-le-pos (nat_abs s.unit * late_jobs j s))
+
+  pub best_is_free : CanBeFree j → cost_of j s ≡ pos 0
+  best_is_free (u, f, e) = ≤ℤ_antisym (*ℤ-cancel_pos u.unit (positive u.unit f.unit) (subst₂ (λ x y. x ≤ℤ y) (*ℤ_comm (cost_of j s) u.unit) (ap (λ c. c *ℤ s.unit) e ∙ zero-*ℤ s.unit ∙ sym (*ℤ-zero u.unit)) (best.least u f))) no_less
+    where
+      positive : (x : ℤ) → pos 1 ≤ℤ x → pos 0 <ℤ x
+      positive x h = omega (arith, ints, h)
+
+  pub free_by_cost : (cost : Frac) → IsOver cost (cost_of j s) s.unit → (cost.num ≡ pos 0) ↔ CanBeFree j
+  free_by_cost cost over = (
+    (λ e. (s, best.feasible, zero (nat_abs cost.den) (cost_of j s) cost.den (natural cost.den (omega (arith, ints, cost.positive))) cost.positive (sym over ∙ ap (λ x. x *ℤ s.unit) e ∙ zero-*ℤ s.unit))),
+    (λ h. zero (nat_abs s.unit) cost.num s.unit unit_is best.feasible.unit (over ∙ ap (λ x. x *ℤ cost.den) (best_is_free h) ∙ zero-*ℤ cost.den)),
+  )
+    where
+      zero : (d : ℕ) (x y : ℤ) → y ≡ pos d → pos 1 ≤ℤ y → x *ℤ y ≡ pos 0 → x ≡ pos 0
+      zero d x y e one h = *ℤ-cancel_same d (omega (arith, ints, e, one)) (sym (*ℤ_comm x (pos d)) ∙ ap (λ z. x *ℤ z) (sym e) ∙ h ∙ sym (*ℤ-zero (pos d)))
+
+-- ---- a best schedule of the squeezed instance at the least bound, brought back
+module _ (i : Instance) (t : IsLatenessShop i) (kept : List ℕ) (k : AreKept i kept) (bound : ℤ) (small : LiesWithin 10000000000 bound) (least : IsLeastBound i bound) (lower : Instance) (lower_is : lower ≡ squeezed_by kept bound i) (s : Schedule) (best : Best lower s) where
+  possible : All (HasTime bound) i.jobs
+  possible = time_if_met i t bound least.met
+
+  in_lower : Best (squeezed_by kept bound i) s
+  in_lower = subst (λ l. Best l s) lower_is best
+
+  free : cost_of (squeezed_by kept bound i) s ≡ pos 0
+  free = best_is_free (squeezed_by kept bound i) refl s in_lower (free_if_met i t kept k bound least.met)
+
+  pub answer_inside : All (λ p. number_of s.unit p < length kept) s.pieces
+  answer_inside = back_inside i t kept k bound small possible s in_lower.feasible free
+
+  feasible : Feasible i (record { unit = pos 1; pieces = pieces_back kept s })
+  feasible = back_feasible i t kept k bound small possible s in_lower.feasible free
+
+  meets : cost_of i (record { unit = pos 1; pieces = pieces_back kept s }) ≤ℤ (bound *ℤ pos 1)
+  meets = back_meets i t kept k bound small possible s in_lower.feasible free
+
+  pub answer_cost : cost_of i (record { unit = pos 1; pieces = pieces_back kept s }) ≡ bound
+  answer_cost = least_cost i t kept k bound least (pieces_back kept s) feasible meets
+
+  pub answer_best : Best i (record { unit = pos 1; pieces = pieces_back kept s })
+  answer_best = least_best i t kept k bound least (pieces_back kept s) feasible meets
+
+  pub answer_bounds : IsAnswer i (record { unit = pos 1; pieces = pieces_back kept s })
+  answer_bounds = one_each_is_answer i (IsUncut-identical i t.kind t.cut t.few) 1 (pieces_back kept s) (back_each i t kept k bound small possible s in_lower.feasible free) (subst (λ e. pos 1 ≤ℤ answer_unit e) (sym t.kind) (omega (arith, ints)))
+
+-- ---- tests, as the code makes them
+pub zero_test : (x : ℤ) → FitsSigned w128 x → IsTrue (nat_eq (of_z w128 x) 0) ↔ (x ≡ pos 0)
+zero_test x h = ((λ e. sym (to_z-of_z w128 x h) ∙ ap (to_z w128) (eqb-true (of_z w128 x) 0 e)), (λ e. subst (λ z. IsTrue (nat_eq (of_z w128 z) 0)) (sym e) refl))
+
+pub some_value : {A : Type 0} (P : Type 0) (Q : A → Type 0) (o : Option A) (a : A) → o ≡ Some a → MatchOption o P Q → Q a
+some_value P Q o a e h = subst (λ o. MatchOption o P Q) e h
+
+bound_fits : (x : ℤ) → LiesWithin 10000000000 x → FitsSigned w64 x
+bound_fits x h = omega (arith, ints, h.0, h.1)
+
+pub range_at : (i : Instance) → IsLatenessShop i → (jobs : List Job) (low high : ℤ) (latest : ℕ) → jobs ≡ i.jobs → IsLowest jobs low → LiesWithin 4000000001 low → All (λ j. j.release ≤ latest) jobs → latest ≤ 2000000000
+    → high ≡ (to_z w64 (of_z w64 low) +ℤ pos latest) +ℤ pos (length jobs) → IsRange i (record { low = to_z w64 (of_z w64 low); high = to_z w64 (of_z w64 high) })
+range_at i t jobs low high latest e lowest size released small is = subst₂ (λ x y. IsRange i (record { low = x; high = y })) (sym low_is) (sym (to_z-of_z w64 high (bound_fits high range.high))) range
+  where
+    low_is : to_z w64 (of_z w64 low) ≡ low
+    low_is = to_z-of_z w64 low (small_fits low size)
+
+    range : IsRange i (record { low = low; high = high })
+    range = first_range i t low high latest (subst (λ js. IsLowest js low) e lowest) size (subst (All (λ j. j.release ≤ latest)) e released) small (is ∙ ap₂ (λ x n. (x +ℤ pos latest) +ℤ pos n) low_is (ap length e))
+
+pub middle_within : (low high m : ℤ) → low ≤ℤ m → m <ℤ high → LiesWithin 10000000000 low → LiesWithin 10000000000 high → LiesWithin 10000000000 m
+middle_within low high m a b p q = (omega (arith, ints, a, p.0), omega (arith, ints, b, q.1))
+
+pub middle_is : (low high m : ℤ) → low ≤ℤ m → m <ℤ high → LiesWithin 10000000000 low → LiesWithin 10000000000 high → to_z w64 (of_z w64 m) ≡ m
+middle_is low high m a b p q = to_z-of_z w64 m (bound_fits m (middle_within low high m a b p q))
+
+pub smaller : (range new : Range) (m x : ℤ) (met : Bool) → x ≡ m → range.low ≤ℤ m → m <ℤ range.high → new.low ≡ (if met then range.low else x +ℤ pos 1) → new.high ≡ (if met then x else range.high) → nat_abs (new.high -ℤ new.low) < nat_abs (range.high -ℤ range.low)
+smaller range new m x true e a b f g = less new.high new.low (range.high) (range.low) (omega (arith, ints, e, f, g, a)) (omega (arith, ints, e, f, g, b))
+  where
+    less : (a b c d : ℤ) → pos 0 ≤ℤ (a -ℤ b) → (a -ℤ b) <ℤ (c -ℤ d) → nat_abs (a -ℤ b) < nat_abs (c -ℤ d)
+    less a b c d h k = lt-pos (subst₂ (λ x y. x <ℤ y) (natural (a -ℤ b) h) (natural (c -ℤ d) (≤ℤ_trans h (<ℤ_weak k))) k)
+smaller range new m x false e a b f g = less new.high new.low (range.high) (range.low) (omega (arith, ints, e, f, g, b)) (omega (arith, ints, e, f, g, a))
+  where
+    less : (a b c d : ℤ) → pos 0 ≤ℤ (a -ℤ b) → (a -ℤ b) <ℤ (c -ℤ d) → nat_abs (a -ℤ b) < nat_abs (c -ℤ d)
+    less a b c d h k = lt-pos (subst₂ (λ x y. x <ℤ y) (natural (a -ℤ b) h) (natural (c -ℤ d) (≤ℤ_trans h (<ℤ_weak k))) k)
+
+pub least_at : (i : Instance) → IsLatenessShop i → (range : Range) → IsRange i range → range.high ≤ℤ range.low → IsLeastBound i (to_z w64 (of_z w64 range.high)) × LiesWithin 10000000000 (to_z w64 (of_z w64 range.high))
+least_at i t range h e = subst (λ x. IsLeastBound i x × LiesWithin 10000000000 x) (sym (to_z-of_z w64 range.high (bound_fits range.high h.high))) (least_of i t range h e, h.high)

@@ -1,0 +1,118 @@
+-- What an instance of unit jobs by lateness has, and the instance squeezed to some moments.
+use Rattle.std.proofs.Common.{◌≡◌, ℕ, ◌+◌, ◌<◌, ◌≤◌, ltb, List, [], length, get_or, map, All, ℤ, pos, ◌+ℤ◌, ◌≤ℤ◌, FitsSigned, to_z, of_z, refl, sym, ap, ap₂, ◌∙◌, arith}
+use Rattle.std.specs.Prelude.{int_le}
+use Rattle.std.specs.Int.{w64}
+use Rattle.std.proofs.lemmas.Int.{ints, to_z-of_z}
+use Rattle.msp_class.specs.declared.environments.EnvKind.TheVariants.{Identical}
+use Rattle.std.proofs.lemmas.List.{length-map}
+use Rattle.std.proofs.lemmas.List.Elements.{All-map}
+use Rattle.msp_class.proofs.IntegerRing.{pos-le, zero-le-pos}
+use Rattle.msp_instance.specs.declared.Job.{Job}
+use Rattle.msp_instance.specs.declared.Instance.{Instance}
+use Rattle.msp_instance.specs.Instance.{no_need, no_job, job_at, need_at, common_time}
+use Rattle.msp_instance.specs.Conditions.{LiesWithin, IsJobOf, Inner, InClass, text_limits, inner_limits}
+use Rattle.msp_schedule.proofs.feasible.OfClass.{IsOfClass, IsOfClass-from}
+use Rattle.msp_schedule.proofs.feasible.Frames.{job_at-map}
+use Rattle.msp_slots.proofs.UnitPieces.{HasUnitJobs}
+use Rattle.msp_threshold.specs.Squeezed.{lateness_class, late_count_class, squeezed_release, squeezed_due, squeezed_job, squeezed_by}
+use Rattle.msp_threshold.proofs.Rising.{count_by-most}
+
+abbrev pub IsLatenessShop : Instance → Type 0
+IsLatenessShop i = IsOfClass i lateness_class
+
+pub IsLatenessShop-from : (i : Instance) → i.class ≡ lateness_class → Inner i → IsLatenessShop i
+IsLatenessShop-from i e h = IsOfClass-from i lateness_class e h
+
+module _ (i : Instance) (t : IsLatenessShop i) where
+  ones : (j : ℕ) → j < length i.jobs → (need_at i j 0).time ≡ 1
+  ones j b = let job = t.jobs j no_job b in job.times 0 no_need (omega (arith, job.needs.shape.0))
+
+  pub unit_jobs : HasUnitJobs i
+  unit_jobs = record { kind = t.kind; cut = t.cut; few = t.few; ones = ones }
+
+  pub release_small : All (λ j. j.release ≤ 2000000000) i.jobs
+  release_small k d l = (t.jobs k d l).release
+
+  pub due_small : All (λ j. LiesWithin 2000000000 j.due) i.jobs
+  due_small k d l = (t.jobs k d l).due
+
+  -- ---- squeezed
+  module _ (kept : List ℕ) (bound : ℤ) where
+    abbrev lower : Instance
+    lower = squeezed_by kept bound i
+
+    pub many : length lower.jobs ≡ length i.jobs
+    many = length-map i.jobs (squeezed_job kept bound)
+
+    pub lower_job : (k : ℕ) → k < length i.jobs → job_at lower k ≡ squeezed_job kept bound (job_at i k)
+    lower_job k l = job_at-map i lower (squeezed_job kept bound) refl k l
+
+    pub lower_release : (k : ℕ) → k < length i.jobs → (job_at lower k).release ≡ squeezed_release kept (job_at i k).release
+    lower_release k l = ap (λ j. j.release) (lower_job k l)
+
+    pub lower_due : (k : ℕ) → k < length i.jobs → (job_at lower k).due ≡ pos (squeezed_due kept ((job_at i k).due +ℤ bound))
+    lower_due k l = ap (λ j. j.due) (lower_job k l)
+
+    pub lower_units : HasUnitJobs lower
+    lower_units = record {
+      kind = refl;
+      cut = refl;
+      few = omega (arith, many, t.few);
+      ones = λ j b. let l : j < length i.jobs = omega (arith, b, many) in ap (λ a. (get_or a.needs 0 no_need).time) (lower_job j l) ∙ ones j l;
+    }
+
+    own : length kept ≤ 400 → (a : Job) → IsJobOf (inner_limits Identical) (record i { class = lateness_class }) a → IsJobOf text_limits lower (squeezed_job kept bound a)
+    own few a h = record {
+      needs = record { shape = h.needs.shape; times = h.needs.times; some = h.needs.some };
+      times = h.times;
+      release = omega (arith, count_by-most (λ x. ltb x a.release) kept, few);
+      due = small (squeezed_due kept (a.due +ℤ bound)) (omega (arith, count_by-most (λ x. int_le (pos (x + 1)) (a.due +ℤ bound)) kept, few));
+      weight = h.weight;
+      curve = h.curve;
+    }
+      where
+        small : (d : ℕ) → d ≤ 400 → LiesWithin 1000000000 (pos d)
+        small d l = (omega (arith, ints), pos-le (omega (arith, l)))
+
+    pub lower_in_class : length kept ≤ 400 → Inner i → InClass lower
+    lower_in_class few inner = record {
+      conditions = record {
+        some = omega (arith, many, t.some);
+        few = omega (arith, many, t.few);
+        machines = (t.machine, t.machines, tt);
+        speeds = t.speeds;
+        multiple = t.multiple;
+        jobs = All-map (IsJobOf text_limits lower) (squeezed_job kept bound) i.jobs (λ k d l. own few (get_or i.jobs k d) (t.jobs k d l));
+        arcs = t.arcs;
+        ends = λ k d l. let e = t.ends k d l in (omega (arith, many, e.0), omega (arith, many, e.1));
+        once = inner.conditions.once;
+        degree = λ j l. tt;
+      };
+      acyclic = let (order, listed, forward) = inner.acyclic in (order, record { whole = listed.whole ∙ sym many; each = λ j l. listed.each j (omega (arith, many, l)) }, forward);
+    }
+
+    -- the dates lie between 0 and the number of moments
+    pub lower_small : length kept ≤ 400 → All (λ j. (j.release ≤ 400) × (pos 0 ≤ℤ j.due) × (j.due ≤ℤ pos 400)) lower.jobs
+    lower_small few = All-map (λ j. (j.release ≤ 400) × (pos 0 ≤ℤ j.due) × (j.due ≤ℤ pos 400)) (squeezed_job kept bound) i.jobs (λ k d l.
+        let a = get_or i.jobs k d in
+        (omega (arith, count_by-most (λ x. ltb x a.release) kept, few), zero-le-pos (squeezed_due kept (a.due +ℤ bound)), pos-le (omega (arith, count_by-most (λ x. int_le (pos (x + 1)) (a.due +ℤ bound)) kept, few))))
+
+-- ---- one job, as the code changes it
+pub squeeze_is : (kept : List ℕ) (bound d : ℤ) (j : Job) (r : ℕ) (x : ℤ) → length kept ≤ 400 → LiesWithin 2000000000 j.due → LiesWithin 10000000000 bound → r ≡ squeezed_release kept j.release
+    → d ≡ pos (squeezed_due kept x) → x ≡ to_z w64 (of_z w64 (to_z w64 (of_z w64 j.due) +ℤ to_z w64 (of_z w64 bound))) → record j { release = r; due = to_z w64 (of_z w64 d) } ≡ squeezed_job kept bound j
+squeeze_is kept bound d j r x few w b e f g = ap₂ (λ y z. record j { release = y; due = z }) e (to_z-of_z w64 d (fits d (squeezed_due kept x) f (omega (arith, few, count_by-most (λ y. int_le (pos (y + 1)) x) kept))) ∙ f ∙ ap (λ y. pos (squeezed_due kept y)) (g ∙ sum))
+  where
+    fits : (d : ℤ) (n : ℕ) → d ≡ pos n → n ≤ 400 → FitsSigned w64 d
+    fits d n e l = omega (arith, ints, e, l)
+
+    due_fits : (x : ℤ) → LiesWithin 2000000000 x → FitsSigned w64 x
+    due_fits x h = omega (arith, ints, h.0, h.1)
+
+    bound_fits : (x : ℤ) → LiesWithin 10000000000 x → FitsSigned w64 x
+    bound_fits x h = omega (arith, ints, h.0, h.1)
+
+    both_fit : (x y : ℤ) → LiesWithin 2000000000 x → LiesWithin 10000000000 y → FitsSigned w64 (x +ℤ y)
+    both_fit x y h k = omega (arith, ints, h.0, h.1, k.0, k.1)
+
+    sum : to_z w64 (of_z w64 (to_z w64 (of_z w64 j.due) +ℤ to_z w64 (of_z w64 bound))) ≡ j.due +ℤ bound
+    sum = ap (λ z. to_z w64 (of_z w64 z)) (ap₂ (λ y z. y +ℤ z) (to_z-of_z w64 j.due (due_fits j.due w)) (to_z-of_z w64 bound (bound_fits bound b))) ∙ to_z-of_z w64 (j.due +ℤ bound) (both_fit j.due bound w b)

@@ -1,0 +1,7 @@
+mod Rising
+mod Starts
+mod Facts
+mod Meeting
+mod Law
+mod BackMeets
+mod Bounds

@@ -1,0 +1,41 @@
+-- The search for the least bound on the greatest lateness, and schedules brought back to the kept moments.
+use Rattle.std.specs.Prelude.{ℕ, ◌/◌, List, ℤ, ◌≤ℤ◌, nat_abs, map, slice_index_or, All}
+use Rattle.msp_instance.specs.declared.Job.{Job}
+use Rattle.msp_instance.specs.declared.Instance.{Instance}
+use Rattle.msp_instance.specs.Conditions.{LiesWithin}
+use Rattle.msp_schedule.specs.declared.Piece.{Piece}
+use Rattle.msp_schedule.specs.declared.Schedule.{Schedule}
+use Rattle.msp_slots.specs.Pieces.{piece_at}
+use Rattle.msp_threshold.specs.declared.search.Range.{Range}
+use Rattle.msp_threshold.specs.Squeezed.{greatest_bound, HasTime, IsSqueezed, CanMeet}
+
+-- The condition holds for each instance squeezed by a bound.
+abbrev pub HoldsSqueezed : (Instance → Type 0) → Instance → Type 0
+HoldsSqueezed P i = (bound : ℤ) (lower : Instance) → LiesWithin greatest_bound bound → IsSqueezed i bound lower → P lower
+
+-- The bound is the least that a feasible schedule meets.
+pub record IsLeastBound (i : Instance) (bound : ℤ) : Type 0 where
+  pub met : CanMeet i bound
+  pub least : (other : ℤ) → CanMeet i other → bound ≤ℤ other
+
+-- The number of the whole unit of time in which the piece begins; and the piece at the kept moment of that number.
+abbrev pub number_of : ℤ → Piece → ℕ
+number_of unit p = nat_abs p.from / nat_abs unit
+
+abbrev pub piece_back : List ℕ → ℤ → Piece → Piece
+piece_back kept unit p = piece_at (slice_index_or kept (number_of unit p) 0) p.machine p.job
+
+abbrev pub pieces_back : List ℕ → Schedule → List Piece
+pieces_back kept s = map (piece_back kept s.unit) s.pieces
+
+-- The number is the least bound for which each job has time.
+pub record IsLowest (jobs : List Job) (lowest : ℤ) : Type 0 where
+  pub time : All (HasTime lowest) jobs
+  pub least : (bound : ℤ) → All (HasTime bound) jobs → lowest ≤ℤ bound
+
+-- The greater bound can be met, and none below the lesser; both are small.
+pub record IsRange (i : Instance) (range : Range) : Type 0 where
+  pub met : CanMeet i range.high
+  pub least : (bound : ℤ) → CanMeet i bound → range.low ≤ℤ bound
+  pub low : LiesWithin greatest_bound range.low
+  pub high : LiesWithin greatest_bound range.high
