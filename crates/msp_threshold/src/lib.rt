@@ -9,6 +9,8 @@ mod back;
 mod kept;
 mod search;
 mod squeezing;
+#[cfg(test)]
+mod tests;
 
 pub use search::Search;
 pub use squeezing::squeezed;
