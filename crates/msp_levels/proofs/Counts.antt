@@ -14,7 +14,7 @@ use Rattle.msp_levels.specs.Steps.{level_from, Fits}
 abbrev pub HasOnce : List ℕ → Type 0
 HasOnce xs = (k : ℕ) → count_by (λ x. eqb x k) xs ≤ 1
 
-HasOnce-filter : (p : ℕ → Bool) (xs : List ℕ) → HasOnce xs → HasOnce (filter p xs)
+pub HasOnce-filter : (p : ℕ → Bool) (xs : List ℕ) → HasOnce xs → HasOnce (filter p xs)
 HasOnce-filter p xs h k = omega (arith, h k, sum_by-filter_both p (λ x. not (p x)) (λ x. refl) (λ x. cond (eqb x k) 1 0) xs)
 
 Contains-rest : (x y : ℕ) (xs : List ℕ) → Contains (x ∷ xs) y → x ≢ y → Contains xs y

@@ -1,6 +1,5 @@
 mod JobLevels
 mod Counts
-mod SlotSteps
 mod Progress
 mod Facts
 mod HuBest

@@ -6,14 +6,13 @@ ghost use Rattle.msp_schedule.specs.Fraction.{IsLowest};
 ghost use Rattle.msp_schedule.specs.Settled.{IsSettled};
 ghost use Rattle.msp_route.specs.Bounds.{IsAnswer};
 ghost use Rattle.msp_levels.specs.Levels.{levels_class, IsLevelCost};
-ghost use Rattle.msp_levels.specs.Steps.{IsByLevel, IsHuSchedule};
 
 use crate::level::{jobs_by_level, levels_of};
-use crate::slot::{Slot, next_slot, put_pieces};
-use msp_class::{Class, Crit, Env, List, NoMemory, Order, Times};
+use msp_class::{Class, Crit, Env, NoMemory, Order, Times};
 use msp_instance::Instance;
 use msp_route::Solver;
-use msp_schedule::{Piece, Schedule, Solution};
+use msp_schedule::{Schedule, Solution};
+use msp_slots::pieces_in_order;
 use std::alloc::Global;
 
 /// The class that the rule solves: `P|intree,p=1|Cmax`.
@@ -25,26 +24,6 @@ const LEVELS_CLASS: Class = Class {
     times: Times::Unit,
     crit: Crit::Cmax,
 };
-
-/// The pieces of all jobs, slot by slot.
-fn pieces_by_level(alloc: Global, inst: &Instance, order: Vec<u32>) -> Result<List<Piece>, NoMemory>
-    requires inner { Inner inst.now }
-    requires class { inst.now.class ≡ levels_class }
-    requires order { IsByLevel inst.now order.items }
-    ensures { IfOk result (IsHuSchedule inst.now) }
-{
-    let mut pieces = List::new(alloc);
-    let mut left = order;
-    let mut moment: u32 = 0;
-    while !left.is_empty() {
-        let arcs = inst.arcs.as_slice();
-        let Slot { taken, rest } = next_slot(alloc, arcs, left.as_slice(), inst.machines as usize)?;
-        put_pieces(&mut pieces, taken.as_slice(), moment)?;
-        left = rest;
-        moment += 1;
-    }
-    Ok(pieces)
-}
 
 /// A schedule of least makespan, with its cost: the greatest bound of a level.
 pub fn schedule_by_levels(alloc: Global, inst: &Instance) -> Result<Solution, NoMemory>
@@ -60,7 +39,7 @@ pub fn schedule_by_levels(alloc: Global, inst: &Instance) -> Result<Solution, No
 {
     let levels = levels_of(alloc, inst)?;
     let order = jobs_by_level(alloc, inst.jobs.len(), &levels)?;
-    let pieces = pieces_by_level(alloc, inst, order)?;
+    let pieces = pieces_in_order(alloc, inst, order)?;
     let schedule = Schedule { unit: 1, pieces };
     let cost = msp_schedule::cost(inst, &schedule);
     Ok(Solution { schedule, cost })
