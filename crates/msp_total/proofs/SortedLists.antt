@@ -30,7 +30,8 @@ module _ {X : Type 0} (n : X → ℕ) where
   sorted [] = ([], IsPermutation-refl [], IsNonDecreasingBy-short n [] (omega arith))
   sorted (x ∷ xs) =
       let w = sorted xs in
-      let r = room x w.0 w.2 (length w.0) 0 (omega arith) (λ k d a. absurd (omega (arith, a))) in
-      (insert w.0 r.0 x,
-      IsPermutation-trans (x ∷ xs) (x ∷ w.0) (insert w.0 r.0 x) (IsPermutation-cons x xs w.0 w.1) (IsPermutation-insert w.0 r.0 x),
-      IsNonDecreasingBy-insert n w.0 r.0 x w.2 r.1.inside r.1.before r.1.after)
+      let r = room x w.0 w.2 (length w.0) 0 (omega arith) (λ k d a. absurd (omega (arith, a))) in (
+        insert w.0 r.0 x,
+        IsPermutation-trans (x ∷ xs) (x ∷ w.0) (insert w.0 r.0 x) (IsPermutation-cons x xs w.0 w.1) (IsPermutation-insert w.0 r.0 x),
+        IsNonDecreasingBy-insert n w.0 r.0 x w.2 r.1.inside r.1.before r.1.after,
+      )

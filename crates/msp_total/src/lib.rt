@@ -1,7 +1,7 @@
 //! The solvers of total completion time on uniform and unrelated machines, and of unit jobs with release dates by slots.
 //!
 //! It stands on `msp_route`, on `msp_assign` for least assignments, and on `msp_slots` for the slots of unit jobs. The layers above use
-//! the clauses of `Solver`: the answers are best.
+//! the clauses of `Solver`: the answers are best; and that of `prices`: they are together what a best schedule costs.
 #![tactic(auto)]
 
 mod lay;

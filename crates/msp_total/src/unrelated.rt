@@ -121,11 +121,7 @@ fn place_of(table: &Positions, chosen: Chosen) -> Place
 }
 
 /// The places of the jobs at their columns.
-fn places_of(
-    alloc: Global,
-    table: &Positions,
-    chosen: &[Chosen],
-) -> Result<Vec<Place>, NoMemory>
+fn places_of(alloc: Global, table: &Positions, chosen: &[Chosen]) -> Result<Vec<Place>, NoMemory>
     requires { All (λ c. (c.job < table.now.jobs) × (c.column < table.now.jobs * table.now.machines)) chosen.now }
     ensures { IfOk result (λ places. ArePlacesOf table.now chosen.now places.items) }
 {
