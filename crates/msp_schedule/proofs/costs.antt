@@ -7,4 +7,3 @@ pub mod Whole
 pub mod Charges
 pub mod Makespan
 pub mod LateJobs
-pub mod InTime

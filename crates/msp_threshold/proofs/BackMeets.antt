@@ -22,7 +22,7 @@ use Rattle.msp_schedule.specs.Feasible.{Feasible, HasPlace, HasOperation, IsWhol
 use Rattle.msp_schedule.specs.Cost.{cost_of, end_of}
 use Rattle.msp_schedule.specs.Laws.{floored, floored_piece}
 use Rattle.msp_schedule.proofs.bounds.EndsAndFloors.{law_of_floors}
-use Rattle.msp_schedule.proofs.costs.InTime.{EndsInTime, meets_jobs, free_jobs}
+use Rattle.msp_threshold.proofs.InTime.{EndsInTime, meets_jobs, free_jobs}
 use Rattle.msp_schedule.proofs.changes.Moves.{AllPairs-map}
 use Rattle.msp_schedule.proofs.feasible.LastEnds.{last_end-bound, last_end-least}
 use Rattle.msp_schedule.proofs.feasible.OneMachine.{pieces_of-job}

@@ -9,7 +9,7 @@ use Rattle.msp_instance.specs.Instance.{job_at}
 use Rattle.msp_schedule.specs.declared.Schedule.{Schedule}
 use Rattle.msp_schedule.specs.Feasible.{Feasible}
 use Rattle.msp_schedule.specs.Cost.{end_of}
-use Rattle.msp_schedule.proofs.costs.InTime.{EndsInTime, free_jobs}
+use Rattle.msp_threshold.proofs.InTime.{EndsInTime, free_jobs}
 use Rattle.msp_schedule.proofs.bounds.Certified.{place_in, place_in-is}
 use Rattle.msp_slots.specs.Earliest.{no_slot, start_in, machine_in}
 use Rattle.msp_slots.proofs.Seats.{HasSeats}

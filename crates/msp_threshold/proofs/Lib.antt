@@ -1,3 +1,4 @@
+mod InTime
 mod Rising
 mod Starts
 mod Facts

@@ -12,7 +12,7 @@ use Rattle.msp_schedule.specs.declared.Schedule.{Schedule}
 use Rattle.msp_schedule.specs.Feasible.{Feasible}
 use Rattle.msp_schedule.specs.Cost.{cost_of, end_of, job_cost}
 use Rattle.msp_schedule.proofs.costs.Charges.{charge_of, cost_of-bound}
-use Rattle.msp_schedule.proofs.costs.InTime.{EndsInTime, meets_jobs}
+use Rattle.msp_threshold.proofs.InTime.{EndsInTime, meets_jobs}
 use Rattle.msp_slots.specs.declared.earliest.Slot.{Slot}
 use Rattle.msp_slots.specs.Seating.{IsSeated}
 use Rattle.msp_slots.specs.Earliest.{start_in, machine_in, AreSlots}
