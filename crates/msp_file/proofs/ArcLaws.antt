@@ -28,7 +28,7 @@ line_then f at w ws rest h =
     let g = fields_line_again at w ws rest h in
     (g.0, ap (λ r. r >>= λ l. f (fields_of l.0) l.1) g.1 ∙ ap (λ fields. f fields (record { at = g.0; rest = rest })) (fields_again w ws h))
 
-two_fields : (fields : List (List ℕ)) → (length fields == 2) ≡ true → fields ≡ first_of fields ∷ first_of (others_of fields) ∷ []
+pub two_fields : (fields : List (List ℕ)) → (length fields == 2) ≡ true → fields ≡ first_of fields ∷ first_of (others_of fields) ∷ []
 two_fields [] h = absurd cc
 two_fields (w ∷ []) h = absurd cc
 two_fields (w ∷ v ∷ []) h = refl

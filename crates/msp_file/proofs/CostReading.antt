@@ -31,10 +31,10 @@ spelled_ok : (r : Result ℤ FileFault) (n : Spelled) → Ok n ≡ spelled_as r 
 spelled_ok (Ok x) n e = (x, refl, cc)
 spelled_ok (Err d) n e = absurd cc
 
-pub cost_done : (at : ℕ) (field top rest : List ℕ) (n d : Spelled) (result : Result Frac FileFault) → slice_split (λ x. x == 47) field ≡ top ∷ parts_after 47 rest → Ok n ≡ spelled_as (number_at at top) → Ok d ≡ spelled_as (denominator_at at (parts_after 47 rest))
-    → ((x y : ℤ) → n ≡ capped x → d ≡ capped y → Gives parts_of result (cost_of at x y)) → Gives parts_of result (cost_in at field)
+pub cost_done : (greatest at : ℕ) (field top rest : List ℕ) (n d : Spelled) (result : Result Frac FileFault) → slice_split (λ x. x == 47) field ≡ top ∷ parts_after 47 rest → Ok n ≡ spelled_as (number_at at top) → Ok d ≡ spelled_as (denominator_at at (parts_after 47 rest))
+    → ((x y : ℤ) → n ≡ capped x → d ≡ capped y → Gives parts_of result (cost_of greatest at x y)) → Gives parts_of result (cost_in greatest at field)
 unfolding cost_in
-cost_done at field top rest n d result cut e f h =
+cost_done greatest at field top rest n d result cut e f h =
     let a = spelled_ok (number_at at top) n e in
     let b = spelled_ok (denominator_at at (parts_after 47 rest)) d f in
     rw (cut, a.1, b.1) (h a.0 b.0 a.2 b.2)

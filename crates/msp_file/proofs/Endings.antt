@@ -19,8 +19,8 @@ use Rattle.msp_file.specs.declared.fault.What.{What}
 use Rattle.msp_file.specs.declared.fault.What.TheVariants as what
 use Rattle.msp_file.specs.declared.draft.Draft.{Draft}
 use Rattle.msp_file.specs.declared.schedule.Stated.{Stated}
-use Rattle.msp_file.specs.Reading.{◌>>=◌, Place, line_at, worded_at, natural_in, all_of, fields_of, first_of, others_of, LineRead, job_read, more_read, end_read, end_at, arc_step, job_step, ReadsMore, more_then, more_end, more_fault, ReadsJobs, job_then, arc_after, jobs_end, jobs_fault, Then, OnlyWhere, ReadsRest, ReadsSpeeds, ReadsLines, ReadsBy, no_draft, filed_of, start_of, Reads, version_at, class_at, machines_at, speeds_at, time_at}
-use Rattle.msp_file.specs.ScheduleReading.{title_at, number_at, denominator_at, cost_of, cost_in, cost_at, unit_at, piece_line_at, piece_step, IsStatedAs, ReadsPieces, ReadsStated, ReadsSchedule}
+use Rattle.msp_file.specs.Reading.{◌>>=◌, Place, line_at, field_line_at, natural_in, all_of, fields_of, first_of, others_of, LineRead, job_read, more_read, end_read, end_at, arc_step, job_step, ReadsMore, more_then, more_end, more_fault, ReadsJobs, job_then, arc_after, jobs_end, jobs_fault, Then, OnlyWhere, ReadsRest, ReadsSpeeds, ReadsLines, ReadsBy, no_draft, filed_of, start_of, Reads, version_at, class_at, machines_at, speeds_at, time_at}
+use Rattle.msp_file.specs.ScheduleReading.{title_at, number_at, denominator_at, cost_of, cost_in, cost_line_at, cost_at, unit_at, piece_line_at, piece_step, IsStatedAs, ReadsPieces, ReadsStated, ReadsSchedule}
 use Rattle.msp_file.proofs.LineLaws.{bind_ok, provided_ok, ok_is, Takes, line_takes}
 use Rattle.msp_file.proofs.Deciding.{small_multiple_told}
 use Rattle.msp_file.proofs.HeadLaws.{machines_takes}
@@ -33,16 +33,16 @@ use Rattle.msp_file.proofs.JobsLaws.{TakesLine, job_step_takes}
 line_less : (ws : List (List ℕ)) (p q : Place) → Takes p (line_text ws) q → length q.rest < length p.rest
 line_less ws p q t = let k = ap length t in omega (arith, length-append (line_text ws) q.rest, length-append (join_with_byte 32 ws) line_feed)
 
-line_shorter : (p : Place) (x : List ℕ × Place) → line_at p ≡ Ok x → length x.1.rest < length p.rest
+pub line_shorter : (p : Place) (x : List ℕ × Place) → line_at p ≡ Ok x → length x.1.rest < length p.rest
 line_shorter p x e = let k = ap length (line_takes p x e) in omega (arith, length-append (x.0 ++ line_feed) x.1.rest, length-append x.0 line_feed)
 
 -- what a step leaves is shorter
-abbrev Shortens : {A : Type 0} → Place → LineRead A → Type 0
+abbrev pub Shortens : {A : Type 0} → Place → LineRead A → Type 0
 Shortens p (job_read e q) = length q.rest < length p.rest
 Shortens p (more_read e q) = length q.rest < length p.rest
 Shortens p (end_read e q) = Unit {0}
 
-abbrev IsNoJob : {A : Type 0} → LineRead A → Type 0
+abbrev pub IsNoJob : {A : Type 0} → LineRead A → Type 0
 IsNoJob (job_read e q) = ⊥
 IsNoJob (more_read e q) = Unit {0}
 IsNoJob (end_read e q) = Unit {0}
@@ -119,7 +119,7 @@ module _ (c : Class) (machines shared : ℕ) (bound : machines ≤ MOST_MACHINES
 
 -- ---- what comes first, and what comes next
 
-then_ends : {A B : Type 0} (first : Result A FileFault) (next : A → Result B FileFault → Type 0) → ((x : A) → first ≡ Ok x → (r : Result B FileFault) × next x r) → (r : Result B FileFault) × Then first next r
+pub then_ends : {A B : Type 0} (first : Result A FileFault) (next : A → Result B FileFault → Type 0) → ((x : A) → first ≡ Ok x → (r : Result B FileFault) × next x r) → (r : Result B FileFault) × Then first next r
 then_ends (Ok x) next k = k x refl
 then_ends (Err e) next k = (Err e, refl)
 
@@ -127,7 +127,7 @@ only_ends : {B : Type 0} (condition : Type 0) (fault : FileFault) (next : Result
 only_ends condition fault next (inl h) k = let r = k h in (r.0, inl (h, r.1))
 only_ends condition fault next (inr h) k = (Err fault, inr (h, refl))
 
-by_ends : {A B : Type 0} (last : A → Result B FileFault) (Lines : Result A FileFault → Type 0) → (r : Result A FileFault) × Lines r → (r : Result B FileFault) × ReadsBy last Lines r
+pub by_ends : {A B : Type 0} (last : A → Result B FileFault) (Lines : Result A FileFault → Type 0) → (r : Result A FileFault) × Lines r → (r : Result B FileFault) × ReadsBy last Lines r
 by_ends last Lines x = (x.0 >>= last, record { lines = x.0; reads = x.1; is = refl })
 
 -- ---- instances
@@ -174,33 +174,32 @@ placed c q = (c, q)
 fraction_of : (n : ℤ) (size : ℕ) → 1 ≤ size → Frac
 fraction_of n size h = record { num = n; den = pos size; positive = omega (arith, ints) }
 
-IsOfFraction : ℤ × ℤ → Type 0
+unfoldable pub IsOfFraction : ℤ × ℤ → Type 0
 IsOfFraction c = (f : Frac) × (two f.num f.den ≡ c)
 
-cost_of_is : (at : ℕ) (n d : ℤ) (c : ℤ × ℤ) → cost_of at n d ≡ Ok c → IsOfFraction c
+cost_of_is : (greatest at : ℕ) (n d : ℤ) (c : ℤ × ℤ) → cost_of greatest at n d ≡ Ok c → IsOfFraction c
 unfolding IsOfFraction fraction_of
-cost_of_is at n d c e =
-    let g = provided_ok (nat_le (unsigned_abs n) GREATEST_COST) (Limit at what.Cost) _ c e in
+cost_of_is greatest at n d c e =
+    let g = provided_ok (nat_le (unsigned_abs n) greatest) (Limit at what.Cost) _ c e in
     let k = bind_ok (natural_in at what.Cost 1 GREATEST_DENOMINATOR d) (λ size. Ok (two n (pos size))) c g.1 in
     (fraction_of n k.0 (in_range at what.Cost 1 GREATEST_DENOMINATOR d k.0 k.1), ok_is (two n (pos k.0)) c k.2)
 
 abbrev cut_at_slash : List ℕ → List (List ℕ)
 cut_at_slash field = slice_split (λ byte. byte == slash_byte) field
 
-cost_in_is : (at : ℕ) (field : List ℕ) (c : ℤ × ℤ) → cost_in at field ≡ Ok c → IsOfFraction c
+cost_in_is : (greatest at : ℕ) (field : List ℕ) (c : ℤ × ℤ) → cost_in greatest at field ≡ Ok c → IsOfFraction c
 unfolding cost_in
-cost_in_is at field c e =
-    let n = bind_ok (number_at at (first_of (cut_at_slash field))) (λ x. denominator_at at (others_of (cut_at_slash field)) >>= cost_of at x) c e in
-    let d = bind_ok (denominator_at at (others_of (cut_at_slash field))) (cost_of at n.0) c n.2 in
-    cost_of_is at n.0 d.0 c d.2
+cost_in_is greatest at field c e =
+    let n = bind_ok (number_at at (first_of (cut_at_slash field))) (λ x. denominator_at at (others_of (cut_at_slash field)) >>= cost_of greatest at x) c e in
+    let d = bind_ok (denominator_at at (others_of (cut_at_slash field))) (cost_of greatest at n.0) c n.2 in
+    cost_of_is greatest at n.0 d.0 c d.2
 
-cost_is : (p : Place) (x : (ℤ × ℤ) × Place) → cost_at p ≡ Ok x → IsOfFraction x.0
-unfolding cost_at
-cost_is p x e =
-    let l = bind_ok (worded_at (codes "cost") p) _ x e in
-    let t = provided_ok (length l.0.0 == 1) (Count p.at) _ x l.2 in
-    let m = bind_ok (cost_in p.at (first_of l.0.0)) _ x t.1 in
-    subst IsOfFraction (ap (λ (y : (ℤ × ℤ) × Place). y.0) (ok_is (placed m.0 l.0.1) x m.2)) (cost_in_is p.at (first_of l.0.0) m.0 m.1)
+pub cost_is : (word : List ℕ) (greatest : ℕ) (p : Place) (x : (ℤ × ℤ) × Place) → cost_line_at word greatest p ≡ Ok x → IsOfFraction x.0
+unfolding cost_line_at
+cost_is word greatest p x e =
+    let l = bind_ok (field_line_at word p) _ x e in
+    let m = bind_ok (cost_in greatest p.at l.0.0) _ x l.2 in
+    subst IsOfFraction (ap (λ (y : (ℤ × ℤ) × Place). y.0) (ok_is (placed m.0 l.0.1) x m.2)) (cost_in_is greatest p.at l.0.0 m.0 m.1)
 
 module _ (names : List (List ℕ)) where
   stated_lines : (x : Frac) (unit : ℤ) (r : Result (List Piece × Place) FileFault) → (s : Result (Stated × Place) FileFault) × IsStatedAs (x.num, x.den) unit r s
@@ -219,7 +218,7 @@ module _ (names : List (List ℕ)) where
       then_ends (title_at p) _ (λ (q : Place) _.
       then_ends (cost_at q) _ (λ (x : (ℤ × ℤ) × Place) is.
       then_ends (unit_at x.1) _ (λ (u : ℤ × Place) _.
-      let f = cost_is q x is in
+      let f = cost_is (codes "cost") GREATEST_COST q x is in
       subst (λ (y : ℤ × ℤ). (s : Result (Stated × Place) FileFault) × ReadsPieces names y u.0 u.1 s) f.1 (pieces_end f.0 u.0 u.1))))
 
   pub schedule_ends : (line : ℕ) (b : List ℕ) → (s : Result Stated FileFault) × ReadsSchedule names line b s

@@ -92,9 +92,9 @@ pub size_within : (greatest : ℕ) (x : ℤ) → LiesWithin greatest x → unsig
 size_within greatest (pos n) h = omega (arith, ints, h.0, h.1)
 size_within greatest (negsuc n) h = omega (arith, ints, h.0, h.1)
 
-pub integer_takes : (at : ℕ) (quantity : What) (greatest : ℕ) (w : List ℕ) (x : ℤ) → greatest ≤ GREATEST → integer_at at quantity greatest w ≡ Ok x → (w ≡ signed_decimal x) × LiesWithin greatest x
+pub signed_takes : (at : ℕ) (quantity : What) (greatest : ℕ) (w : List ℕ) (x : ℤ) → greatest < 10 ^ 64 → integer_at at quantity greatest w ≡ Ok x → (w ≡ signed_decimal x) × LiesWithin greatest x
 unfolding integer_at
-integer_takes at quantity greatest w x h e =
+signed_takes at quantity greatest w x h e =
     let b = bind_ok (ok_or (number_of w) (Number at)) (λ y. provided (nat_le (unsigned_abs y) greatest) (Limit at quantity) (Ok y)) x e in
     let t = provided_ok (nat_le (unsigned_abs b.0) greatest) (Limit at quantity) (Ok b.0) x b.2 in
     let same : b.0 ≡ x = ok_is b.0 x t.1 in
@@ -102,16 +102,27 @@ integer_takes at quantity greatest w x h e =
     let size : unsigned_abs x ≤ greatest = subst (λ y. unsigned_abs y ≤ greatest) same (leb-true (unsigned_abs b.0) greatest t.0) in
     (number_spells w x is (omega arith), within_size greatest x size)
 
-pub integer_again : (at : ℕ) (quantity : What) (greatest : ℕ) (x : ℤ) → greatest ≤ GREATEST → LiesWithin greatest x → integer_at at quantity greatest (signed_decimal x) ≡ Ok x
+pub signed_again : (at : ℕ) (quantity : What) (greatest : ℕ) (x : ℤ) → greatest < 10 ^ 64 → LiesWithin greatest x → integer_at at quantity greatest (signed_decimal x) ≡ Ok x
 unfolding integer_at
-integer_again at quantity greatest x h within =
+signed_again at quantity greatest x h within =
     let size : unsigned_abs x ≤ greatest = size_within greatest x within in
     let is : number_of (signed_decimal x) ≡ Some x = number_again x (omega arith) in
     rw (is, le-leb (unsigned_abs x) greatest size) refl
 
+pub signed_field : {greatest : ℕ} (x : ℤ) → greatest < 10 ^ 64 → LiesWithin greatest x → IsField (signed_decimal x)
+signed_field {greatest} (pos n) few h = wide_field n (let size = size_within greatest (pos n) h in omega arith)
+signed_field {greatest} (negsuc n) few h =
+    let small : suc n < 10 ^ 64 = let size = size_within greatest (negsuc n) h in omega arith in
+    let f = wide_field (suc n) small in record { no_space = f.no_space; no_line_feed = f.no_line_feed }
+
+pub integer_takes : (at : ℕ) (quantity : What) (greatest : ℕ) (w : List ℕ) (x : ℤ) → greatest ≤ GREATEST → integer_at at quantity greatest w ≡ Ok x → (w ≡ signed_decimal x) × LiesWithin greatest x
+integer_takes at quantity greatest w x h e = signed_takes at quantity greatest w x (omega arith) e
+
+pub integer_again : (at : ℕ) (quantity : What) (greatest : ℕ) (x : ℤ) → greatest ≤ GREATEST → LiesWithin greatest x → integer_at at quantity greatest (signed_decimal x) ≡ Ok x
+integer_again at quantity greatest x h within = signed_again at quantity greatest x (omega arith) within
+
 pub integer_field : (x : ℤ) → LiesWithin GREATEST x → IsField (signed_decimal x)
-integer_field (pos n) h = natural_field n (size_within GREATEST (pos n) h)
-integer_field (negsuc n) h = let f = natural_field (suc n) (size_within GREATEST (negsuc n) h) in record { no_space = f.no_space; no_line_feed = f.no_line_feed }
+integer_field x h = signed_field x (omega arith) h
 
 -- ---- names
 

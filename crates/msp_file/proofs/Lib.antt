@@ -18,6 +18,20 @@ mod AnswerLaws
 mod LineCounts
 mod FrontLaws
 mod CostReading
+pub mod CostLaws
+mod EvidenceReading
+mod ListedLaws
+mod SegmentLaws
+mod CertificatePrinting
+mod KindLaws
+mod NumberedLaws
+mod JobLists
+mod ColumnLaws
+mod KindTexts
+mod CertificateReadings
+mod CertificateFaults
+mod CertificateLaws
+mod CertificateOneWay
 mod ScheduleLaws
 mod OneWay
 mod Endings

@@ -14,7 +14,7 @@ use Rattle.msp_schedule.specs.declared.limits.TheConstants.{MOST_PIECES}
 use Rattle.msp_schedule.specs.declared.Piece.{Piece}
 use Rattle.msp_grammar.specs.declared.limits.TheConstants.{GREATEST_COST, GREATEST_DENOMINATOR}
 use Rattle.msp_file.specs.declared.schedule.Stated.{Stated}
-use Rattle.msp_file.specs.ScheduleReading.{title_at, denominator_at, cost_in, cost_at, unit_at, moment_at, span_at, place_at, piece_at, piece_line_at, piece_step, IsStatedAs, ReadsPieces, ReadsStated, ReadsSchedule}
+use Rattle.msp_file.specs.ScheduleReading.{title_at, denominator_at, cost_in, cost_line_at, cost_at, unit_at, moment_at, span_at, place_at, piece_at, piece_line_at, piece_step, IsStatedAs, ReadsPieces, ReadsStated, ReadsSchedule}
 use Rattle.msp_file.specs.ScheduleAnswers.{IsScheduleFault}
 use Rattle.msp_file.specs.declared.fault.What.{What}
 use Rattle.msp_file.specs.declared.fault.FileFault.{FileFault}
@@ -26,7 +26,7 @@ use Rattle.msp_grammar.specs.declared.filed.Filed.{Filed}
 use Rattle.msp_job_name.specs.declared.job_name.TheConstants.{LONGEST_NAME}
 use Rattle.msp_text.specs.Numbers.{number_of}
 use Rattle.msp_grammar.specs.Layout.{has_order}
-use Rattle.msp_file.specs.Reading.{first_of, others_of, ◌>>=◌, provided, Place, line_at, fields_of, worded_at, natural_in, natural_at, ordinal_at, number_line_at, integer_at, is_name_text, job_name_at, known_at, keyed_at, natural_key_at, integer_key_at, keys_at, job_line_at, with_need, times_at, times_line_at, machine_at, timed_route_at, machine_route_at, operations_at, route_line_at, needs_at, with_step, steps_at, curve_fields_at, curve_line_at, curve_at, job_at_line, arc_line_at, end_at, arc_or_end, arc_step, job_step, LineRead, end_read, ReadsMore, ReadsArcs, more_then, more_end, more_fault, ReadsJobs, job_then, arc_after, jobs_end, jobs_fault, Then, OnlyWhere, ReadsRest, ReadsLines, ReadsFront, start_of, all_of, front_of, Reads, no_draft, version_at, class_in, spelled_class, class_at, machines_line_at, machines_at, speeds_in, speeds_line_at, speeds_at, time_line_at, time_at}
+use Rattle.msp_file.specs.Reading.{first_of, others_of, ◌>>=◌, provided, Place, line_at, fields_of, worded_at, word_line_at, field_line_at, natural_in, natural_at, ordinal_at, number_line_at, integer_at, is_name_text, job_name_at, known_at, keyed_at, natural_key_at, integer_key_at, keys_at, job_line_at, with_need, times_at, times_line_at, machine_at, timed_route_at, machine_route_at, operations_at, route_line_at, needs_at, with_step, steps_at, curve_fields_at, curve_line_at, curve_at, job_at_line, arc_line_at, end_at, arc_or_end, arc_step, job_step, LineRead, end_read, ReadsMore, ReadsArcs, more_then, more_end, more_fault, ReadsJobs, job_then, arc_after, jobs_end, jobs_fault, Then, OnlyWhere, ReadsRest, ReadsLines, ReadsFront, start_of, all_of, front_of, Reads, no_draft, version_at, class_in, spelled_class, class_at, machines_line_at, machines_at, speeds_in, speeds_line_at, speeds_at, time_line_at, time_at}
 
 -- The fault is one of a line.
 abbrev pub IsLineFault : FileFault → Type 0
@@ -59,25 +59,25 @@ abbrev pub IsPlain : {A : Type 0} → Result A FileFault → Type 0
 IsPlain r = InBy IsPlainFault r
 
 module _ {P : FileFault → Type 0} where
-  fine : {A : Type 0} (x : A) → InBy P (Ok x)
+  pub fine : {A : Type 0} (x : A) → InBy P (Ok x)
   fine x = record { fault = λ e h. absurd cc }
 
-  bad : {A : Type 0} (e : FileFault) → P e → InBy P {A = A} (Err e)
+  pub bad : {A : Type 0} (e : FileFault) → P e → InBy P {A = A} (Err e)
   bad {A} e h = record { fault = λ d k. let same : e ≡ d = cc in subst P same h }
 
-  chain : {A B : Type 0} (r : Result A FileFault) (f : A → Result B FileFault) → InBy P r → ((x : A) → InBy P (f x)) → InBy P (r >>= f)
+  pub chain : {A B : Type 0} (r : Result A FileFault) (f : A → Result B FileFault) → InBy P r → ((x : A) → InBy P (f x)) → InBy P (r >>= f)
   chain (Ok x) f h k = k x
   chain (Err e) f h k = bad e (h.fault e refl)
 
-  given : {A : Type 0} (b : Bool) (e : FileFault) (r : Result A FileFault) → P e → InBy P r → InBy P (provided b e r)
+  pub given : {A : Type 0} (b : Bool) (e : FileFault) (r : Result A FileFault) → P e → InBy P r → InBy P (provided b e r)
   given true e r h k = k
   given false e r h k = bad e h
 
-  or_fault : {A : Type 0} (o : Option A) (e : FileFault) → P e → InBy P (ok_or o e)
+  pub or_fault : {A : Type 0} (o : Option A) (e : FileFault) → P e → InBy P (ok_or o e)
   or_fault None e h = bad e h
   or_fault (Some x) e h = fine x
 
-  either : {A : Type 0} (b : Bool) (r s : Result A FileFault) → InBy P r → InBy P s → InBy P (if b then r else s)
+  pub either : {A : Type 0} (b : Bool) (r s : Result A FileFault) → InBy P r → InBy P s → InBy P (if b then r else s)
   either true r s h k = h
   either false r s h k = k
 
@@ -102,7 +102,7 @@ plain_is (Unknown at) h = tt
 widen : {A : Type 0} (r : Result A FileFault) → IsPlain r → InLines r
 widen r h = record { fault = λ e k. plain_is e (h.fault e k) }
 
-line_plain : (p : Place) → IsPlain (line_at p)
+pub line_plain : (p : Place) → IsPlain (line_at p)
 unfolding line_at
 line_plain p = by (position (λ x. x == 10) p.rest) p.rest
   where
@@ -111,19 +111,27 @@ line_plain p = by (position (λ x. x == 10) p.rest) p.rest
     by None [] = bad _ tt
     by None (x ∷ xs) = bad _ tt
 
-worded_plain : (word : List ℕ) (p : Place) → IsPlain (worded_at word p)
+pub worded_plain : (word : List ℕ) (p : Place) → IsPlain (worded_at word p)
 unfolding worded_at
 worded_plain word p = chain (line_at p) _ (line_plain p) (λ l. given _ _ _ tt (fine _))
+
+pub word_plain : (word : List ℕ) (p : Place) → IsPlain (word_line_at word p)
+unfolding word_line_at
+word_plain word p = chain _ _ (worded_plain word p) (λ l. given _ _ _ tt (fine _))
+
+pub field_plain : (word : List ℕ) (p : Place) → IsPlain (field_line_at word p)
+unfolding field_line_at
+field_plain word p = chain _ _ (worded_plain word p) (λ l. given _ _ _ tt (fine _))
 
 natural_range : (at : ℕ) (q : What) (least greatest : ℕ) (x : ℤ) → IsPlain (natural_in at q least greatest x)
 natural_range at q least greatest (pos n) = given _ _ _ tt (fine n)
 natural_range at q least greatest (negsuc n) = bad _ tt
 
-natural_plain : (at : ℕ) (q : What) (least greatest : ℕ) (w : List ℕ) → IsPlain (natural_at at q least greatest w)
+pub natural_plain : (at : ℕ) (q : What) (least greatest : ℕ) (w : List ℕ) → IsPlain (natural_at at q least greatest w)
 unfolding natural_at
 natural_plain at q least greatest w = chain _ _ (or_fault (number_of w) _ tt) (natural_range at q least greatest)
 
-ordinal_plain : (at : ℕ) (q : What) (most : ℕ) (w : List ℕ) → IsPlain (ordinal_at at q most w)
+pub ordinal_plain : (at : ℕ) (q : What) (most : ℕ) (w : List ℕ) → IsPlain (ordinal_at at q most w)
 unfolding ordinal_at
 ordinal_plain at q most w = chain _ _ (natural_plain at q 1 most w) (λ n. fine _)
 
@@ -131,15 +139,19 @@ number_line_plain : (word : List ℕ) (q : What) (greatest : ℕ) (p : Place) �
 unfolding number_line_at
 number_line_plain word q greatest p = chain _ _ (worded_plain word p) (λ l. given _ _ _ tt (chain _ _ (natural_plain p.at q 1 greatest _) (λ n. fine _)))
 
-named_plain : (at : ℕ) (w : List ℕ) → IsPlain (job_name_at at w)
+pub integer_plain : (at : ℕ) (q : What) (greatest : ℕ) (w : List ℕ) → IsPlain (integer_at at q greatest w)
+unfolding integer_at
+integer_plain at q greatest w = chain _ _ (or_fault (number_of w) _ tt) (λ x. given _ _ _ tt (fine x))
+
+pub named_plain : (at : ℕ) (w : List ℕ) → IsPlain (job_name_at at w)
 unfolding job_name_at
 named_plain at w = given (is_name_text w) (Name at) _ tt (given (nat_le (length w) LONGEST_NAME) (Limit at what.Name) _ tt (fine w))
 
-known_plain : (at : ℕ) (names : List (List ℕ)) (w : List ℕ) → IsPlain (known_at at names w)
+pub known_plain : (at : ℕ) (names : List (List ℕ)) (w : List ℕ) → IsPlain (known_at at names w)
 unfolding known_at
 known_plain at names w = chain _ _ (named_plain at w) (λ name. or_fault (position (bytes_eq name) names) _ tt)
 
-end_plain : {A : Type 0} (at : ℕ) (d : A) (fields : List (List ℕ)) (p : Place) → IsPlain (end_at at d fields p)
+pub end_plain : {A : Type 0} (at : ℕ) (d : A) (fields : List (List ℕ)) (p : Place) → IsPlain (end_at at d fields p)
 end_plain at d fields p = given (bytes_eq (first_of fields) (codes "end")) (Line at) _ tt (given (length fields == 1) (Count at) _ tt (fine (end_read d p)))
 
 line : (p : Place) → InLines (line_at p)
@@ -152,8 +164,7 @@ natural : (at : ℕ) (q : What) (least greatest : ℕ) (w : List ℕ) → InLine
 natural at q least greatest w = widen _ (natural_plain at q least greatest w)
 
 integer : (at : ℕ) (q : What) (greatest : ℕ) (w : List ℕ) → InLines (integer_at at q greatest w)
-unfolding integer_at
-integer at q greatest w = chain _ _ (or_fault (number_of w) _ tt) (λ x. given _ _ _ tt (fine x))
+integer at q greatest w = widen _ (integer_plain at q greatest w)
 
 named : (at : ℕ) (w : List ℕ) → InLines (job_name_at at w)
 named at w = widen _ (named_plain at w)
@@ -267,13 +278,13 @@ after_job c machines shared d p =
     either (bytes_eq (first_of fields) (codes "job")) _ _ (chain (job_at_line c machines shared d p.at (others_of fields) l.1) _ (job c machines shared d p.at (others_of fields) l.1) (λ e. fine _)) (arc_or_last (has_order c.order) p.at d fields l.1))
 
 -- what was read is a value, or a fault of a line
-is_fine : {P : FileFault → Type 0} {A : Type 0} (r : Result A FileFault) (x : A) → r ≡ Ok x → InBy P r
+pub is_fine : {P : FileFault → Type 0} {A : Type 0} (r : Result A FileFault) (x : A) → r ≡ Ok x → InBy P r
 is_fine {P} r x e = subst (InBy P) (sym e) (fine x)
 
-is_bad : {P : FileFault → Type 0} {A B : Type 0} (r : Result A FileFault) (step : Result B FileFault) (e : FileFault) → InBy P step → step ≡ Err e → r ≡ Err e → InBy P r
+pub is_bad : {P : FileFault → Type 0} {A B : Type 0} (r : Result A FileFault) (step : Result B FileFault) (e : FileFault) → InBy P step → step ≡ Err e → r ≡ Err e → InBy P r
 is_bad {P} r step e h k is = subst (InBy P) (sym is) (bad e (h.fault e k))
 
-more : {P : FileFault → Type 0} {A : Type 0} (step : A → Place → Result (LineRead A) FileFault) → ((d : A) (p : Place) → InBy P (step d p)) → (d : A) (p : Place) (r : Result (A × Place) FileFault) → ReadsMore step d p r → InBy P r
+pub more : {P : FileFault → Type 0} {A : Type 0} (step : A → Place → Result (LineRead A) FileFault) → ((d : A) (p : Place) → InBy P (step d p)) → (d : A) (p : Place) (r : Result (A × Place) FileFault) → ReadsMore step d p r → InBy P r
 more step h d p r (more_then _ e _ q _ one rest) = more step h e q r rest
 more step h d p r (more_end _ e _ q _ one is) = is_fine r (e, q) is
 more step h d p r (more_fault _ _ _ fault one is) = is_bad r (step d p) fault (h d p) one is
@@ -336,7 +347,7 @@ time_read : (t : Times) (p : Place) → InLines (time_at t p)
 unfolding time_at
 time_read t p = either _ _ _ (time_line p) (fine _)
 
-then_in : {P : FileFault → Type 0} {A B : Type 0} (first : Result A FileFault) (next : A → Result B FileFault → Type 0) (r : Result B FileFault) → InBy P first → ((x : A) → next x r → InBy P r) → Then first next r → InBy P r
+pub then_in : {P : FileFault → Type 0} {A B : Type 0} (first : Result A FileFault) (next : A → Result B FileFault → Type 0) (r : Result B FileFault) → InBy P first → ((x : A) → next x r → InBy P r) → Then first next r → InBy P r
 then_in (Ok x) next r h k t = k x t
 then_in (Err e) next r h k t = is_bad r (Err e) e h refl t
 
@@ -380,25 +391,21 @@ front b e h = by h.lines (lines_in (start_of b) h.lines h.reads) h.is
 
 -- ---- schedules
 
-title : (p : Place) → IsPlain (title_at p)
-unfolding title_at
-title p = chain _ _ (worded_plain _ p) (λ l. given _ _ _ tt (fine _))
-
 denominator : (at : ℕ) (ws : List (List ℕ)) → IsPlain (denominator_at at ws)
 denominator at [] = fine _
 denominator at (w ∷ []) = or_fault (number_of w) _ tt
 denominator at (w ∷ v ∷ ws) = bad _ tt
 
-cost_fields : (at : ℕ) (w : List ℕ) → IsPlain (cost_in at w)
+cost_fields : (greatest at : ℕ) (w : List ℕ) → IsPlain (cost_in greatest at w)
 unfolding cost_in
-cost_fields at w =
+cost_fields greatest at w =
     chain _ _ (or_fault (number_of _) _ tt) (λ x.
     chain _ _ (denominator at _) (λ y.
-    given (nat_le (unsigned_abs x) GREATEST_COST) (Limit at what.Cost) _ tt (chain _ _ (natural_range at what.Cost 1 GREATEST_DENOMINATOR y) (λ d. fine _))))
+    given (nat_le (unsigned_abs x) greatest) (Limit at what.Cost) _ tt (chain _ _ (natural_range at what.Cost 1 GREATEST_DENOMINATOR y) (λ d. fine _))))
 
-cost : (p : Place) → IsPlain (cost_at p)
-unfolding cost_at
-cost p = chain _ _ (worded_plain _ p) (λ l. given _ _ _ tt (chain _ _ (cost_fields p.at _) (λ x. fine _)))
+pub cost_plain : (word : List ℕ) (greatest : ℕ) (p : Place) → IsPlain (cost_line_at word greatest p)
+unfolding cost_line_at
+cost_plain word greatest p = chain _ _ (field_plain word p) (λ l. chain _ _ (cost_fields greatest p.at _) (λ x. fine _))
 
 unit : (p : Place) → IsPlain (unit_at p)
 unfolding unit_at
@@ -445,8 +452,8 @@ pieces_in names x unit p r h = stated_in x unit h.lines r (more (piece_step name
 stated : (names : List (List ℕ)) (p : Place) (r : Result (Stated × Place) FileFault) → ReadsStated names p r → IsPlain r
 unfolding ReadsStated
 stated names p r h =
-    then_in (title_at p) _ r (title p) (λ (p : Place).
-    then_in (cost_at p) _ r (cost p) (λ (x : (ℤ × ℤ) × Place).
+    then_in (title_at p) _ r (word_plain _ p) (λ (p : Place).
+    then_in (cost_at p) _ r (cost_plain _ _ p) (λ (x : (ℤ × ℤ) × Place).
     then_in (unit_at x.1) _ r (unit x.1) (λ (u : ℤ × Place).
     pieces_in names x.0 u.0 u.1 r))) h
 

@@ -3,15 +3,16 @@ use Rattle.std.proofs.Common.{◌≡◌, ℕ, suc, ◌+◌, ◌≤◌, Bool, tru
 use Rattle.std.specs.List.{AllByRecursion, join_with_byte, list_any, position_or_len}
 use Rattle.std.proofs.lemmas.Bool.{eqb-true, lt-ltb}
 use Rattle.std.proofs.lemmas.Slice.Eq.{bytes_eq-Decides}
+use Rattle.std.proofs.lemmas.List.{nil_from_length}
 use Rattle.std.proofs.lemmas.List.Folds.{list_any-append}
 use Rattle.std.proofs.lemmas.List.Quantifiers.{position-Some}
 use Rattle.std.proofs.lemmas.List.Splits.{join_with_byte-slice_split, length-slice_split}
 use Rattle.msp_name.proofs.Marks.{Lacks, parts-whole, parts-first}
 use Rattle.msp_file.specs.declared.fault.FileFault.{FileFault}
-use Rattle.msp_file.specs.declared.fault.FileFault.TheVariants.{Missing, Cut, Line}
+use Rattle.msp_file.specs.declared.fault.FileFault.TheVariants.{Missing, Cut, Line, Count}
 use Rattle.msp_grammar.specs.ScheduleText.{line_feed}
 use Rattle.msp_grammar.specs.InstanceText.{line_text}
-use Rattle.msp_file.specs.Reading.{◌>>=◌, provided, Place, line_at, fields_of, first_of, others_of, worded_at}
+use Rattle.msp_file.specs.Reading.{◌>>=◌, provided, Place, line_at, fields_of, first_of, others_of, worded_at, word_line_at, field_line_at}
 use Rattle.msp_job_name.proofs.NameLists.{same_bytes}
 
 -- ---- steps that did not fail
@@ -153,3 +154,28 @@ pub one_field : (fields : List (List ℕ)) → (length fields == 1) ≡ true →
 one_field [] h = absurd cc
 one_field (w ∷ []) h = refl
 one_field (w ∷ v ∷ ws) h = absurd (omega (arith, eqb-true _ _ h))
+
+-- a line of one word, and one with one field behind its word
+pub word_line_takes : (word : List ℕ) (p q : Place) → word_line_at word p ≡ Ok q → Takes p (line_text (word ∷ [])) q
+unfolding word_line_at
+word_line_takes word p q e =
+    let l = bind_ok (worded_at word p) _ q e in
+    let t = provided_ok (length l.0.0 == 0) (Count p.at) (Ok l.0.1) q l.2 in
+    let none : l.0.0 ≡ [] = nil_from_length l.0.0 (eqb-true _ _ t.0) in
+    subst (Takes p (line_text (word ∷ []))) (ok_is l.0.1 q t.1) (subst (λ (ws : List (List ℕ)). Takes p (line_text (word ∷ ws)) l.0.1) none (worded_takes word p l.0 l.1))
+
+pub word_line_again : (word : List ℕ) (at : ℕ) (rest : List ℕ) → IsField word → (next : ℕ) × (word_line_at word (record { at = at; rest = line_text (word ∷ []) ++ rest }) ≡ Ok (record { at = next; rest = rest }))
+unfolding word_line_at
+word_line_again word at rest worded = let line = worded_again word [] at rest (worded, tt) in (line.0, rw line.1 refl)
+
+pub field_line_takes : (word : List ℕ) (p : Place) (x : List ℕ × Place) → field_line_at word p ≡ Ok x → Takes p (line_text (word ∷ x.0 ∷ [])) x.1
+unfolding field_line_at
+field_line_takes word p x e =
+    let l = bind_ok (worded_at word p) _ x e in
+    let t = provided_ok (length l.0.0 == 1) (Count p.at) (Ok (first_of l.0.0, l.0.1)) x l.2 in
+    subst (λ y. Takes p (line_text (word ∷ y.0 ∷ [])) y.1) (ok_is (first_of l.0.0, l.0.1) x t.1)
+    (subst (λ (ws : List (List ℕ)). Takes p (line_text (word ∷ ws)) l.0.1) (one_field l.0.0 t.0) (worded_takes word p l.0 l.1))
+
+pub field_line_again : (word w : List ℕ) (at : ℕ) (rest : List ℕ) → IsField word → IsField w → Gets (field_line_at word (record { at = at; rest = line_text (word ∷ w ∷ []) ++ rest })) w rest
+unfolding field_line_at
+field_line_again word w at rest worded field = let line = worded_again word (w ∷ []) at rest (worded, (field, tt)) in (line.0, rw line.1 refl)

@@ -1,5 +1,5 @@
 -- The operations of a job: what is read is what was written, and what was written is read again.
-use Rattle.std.proofs.Common.{◌≡◌, ℕ, suc, ◌+◌, ◌-◌, ◌<◌, ◌≤◌, true, false, ◌&&◌, ◌==◌, List, [], ◌∷◌, ◌++◌, length, map, get_or, Result, Ok, All, refl, sym, ap, ap₂, subst, ◌∙◌, codes, decimal, arith}
+use Rattle.std.proofs.Common.{◌≡◌, ℕ, suc, ◌+◌, ◌-◌, ◌^◌, ◌<◌, ◌≤◌, true, false, ◌&&◌, ◌==◌, List, [], ◌∷◌, ◌++◌, length, map, get_or, Result, Ok, All, refl, sym, ap, ap₂, subst, ◌∙◌, codes, decimal, arith}
 use Rattle.std.specs.Prelude.{⊤, Bool, if◌then◌else◌, slice_index_or, nat_le, EachIndex}
 use Rattle.std.specs.List.{AllByRecursion, list_any, flat_map, range_with_len}
 use Rattle.std.proofs.lemmas.Bool.{eq-eqb, le-leb}
@@ -26,7 +26,7 @@ use Rattle.msp_grammar.specs.Layout.{has_times, has_time_key, has_one_time, has_
 use Rattle.msp_grammar.specs.InstanceText.{line_text, where_wanted, times_fields, operation_fields, route_fields}
 use Rattle.msp_file.specs.Reading.{Place, worded_at, natural_at, with_need, times_at, times_line_at, ordinal_at, machine_at, timed_route_at, machine_route_at, operations_in, fields_in, operations_at, is_route_count, route_line_at, unwritten_needs, needs_at}
 use Rattle.msp_file.proofs.LineLaws.{bind_ok, provided_ok, ok_is, Takes, Gets, IsField, worded_takes, worded_again, reads, bind_again, provided_again}
-use Rattle.msp_file.proofs.FieldLaws.{natural_takes, natural_again, natural_field}
+use Rattle.msp_file.proofs.FieldLaws.{natural_takes, natural_again, natural_field, wide_takes, wide_again}
 use Rattle.msp_file.proofs.KeyLaws.{limit}
 
 -- What is said of one operation: its machine is one of so many, its time is in range, its time is this one.
@@ -112,19 +112,19 @@ times_line_again least machines at needs rest each h =
 
 -- ---- routes
 
-pub ordinal_takes : (at : ℕ) (quantity : What) (most : ℕ) (w : List ℕ) (k : ℕ) → most ≤ GREATEST → ordinal_at at quantity most w ≡ Ok k → (w ≡ decimal (k + 1)) × (k < most)
+pub ordinal_takes : (at : ℕ) (quantity : What) (most : ℕ) (w : List ℕ) (k : ℕ) → most < 10 ^ 64 → ordinal_at at quantity most w ≡ Ok k → (w ≡ decimal (k + 1)) × (k < most)
 unfolding ordinal_at
 ordinal_takes at quantity most w k few e =
     let a = bind_ok (natural_at at quantity 1 most w) _ k e in
-    let t = natural_takes at quantity 1 most w a.0 few a.1 in
+    let t = wide_takes at quantity 1 most w a.0 few a.1 in
     let is : a.0 ≡ k + 1 = omega (arith, ok_is (a.0 - 1) k a.2, t.1) in
     (t.0 ∙ ap decimal is, omega (arith, is, t.2))
 
-pub ordinal_again : (at : ℕ) (quantity : What) (most k : ℕ) → most ≤ GREATEST → k < most → ordinal_at at quantity most (decimal (k + 1)) ≡ Ok k
+pub ordinal_again : (at : ℕ) (quantity : What) (most k : ℕ) → most < 10 ^ 64 → k < most → ordinal_at at quantity most (decimal (k + 1)) ≡ Ok k
 unfolding ordinal_at
 ordinal_again at quantity most k few h =
     let is : k + 1 - 1 ≡ k = omega arith in
-    bind_again _ _ _ _ (natural_again at quantity 1 most (k + 1) few (omega arith) (omega arith)) (ap Ok is)
+    bind_again _ _ _ _ (wide_again at quantity 1 most (k + 1) few (omega arith) (omega arith)) (ap Ok is)
 
 machine_takes : (at machines : ℕ) (w : List ℕ) (m : ℕ) → machines ≤ MOST_MACHINES → machine_at at machines w ≡ Ok m → w ≡ decimal (m + 1)
 machine_takes at machines w m few e = (ordinal_takes at what.Machines machines w m (omega arith) e).0

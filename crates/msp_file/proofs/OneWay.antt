@@ -30,10 +30,10 @@ use Rattle.msp_file.proofs.FirstFaults.{class_or_fault}
 use Rattle.msp_file.proofs.Endings.{lines_end, reading_ends, schedule_ends}
 use Rattle.msp_file.proofs.ScheduleLaws.{schedule_again, schedule_taken, no_schedule_fault}
 
-err_is : {A : Type 0} (e f : FileFault) → ◌≡◌ {A = Result A FileFault} (Err e) (Err f) → e ≡ f
+pub err_is : {A : Type 0} (e f : FileFault) → ◌≡◌ {A = Result A FileFault} (Err e) (Err f) → e ≡ f
 err_is e f h = cc
 
-not_fails : {A : Type 0} (e : FileFault) (x : A) → e ≢ Memory → Fails e (reads x) → ⊥
+pub not_fails : {A : Type 0} (e : FileFault) (x : A) → e ≢ Memory → Fails e (reads x) → ⊥
 not_fails Memory x m h = m refl
 not_fails e x m h = absurd cc
 

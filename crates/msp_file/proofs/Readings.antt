@@ -88,7 +88,7 @@ module _ (c : Class) (machines shared : ℕ) where
   jobs_same d p r s (jobs_fault _ _ _ fault other also) (jobs_end _ e _ q _ step is) = absurd (clash (job_step c machines shared d p) (end_read e q) fault step other)
   jobs_same d p r s (jobs_fault _ _ _ fault step is) (jobs_fault _ _ _ other-fault other also) = is ∙ ap Err (same_fault (job_step c machines shared d p) fault other-fault step other) ∙ sym also
 
-then_same : {A B : Type 0} (first : Result A FileFault) (next : A → Result B FileFault → Type 0) (r s : Result B FileFault) → ((x : A) → next x r → next x s → r ≡ s) → Then first next r → Then first next s → r ≡ s
+pub then_same : {A B : Type 0} (first : Result A FileFault) (next : A → Result B FileFault → Type 0) (r s : Result B FileFault) → ((x : A) → next x r → next x s → r ≡ s) → Then first next r → Then first next s → r ≡ s
 then_same (Ok x) next r s f h k = f x h k
 then_same (Err e) next r s f h k = h ∙ sym k
 

@@ -31,185 +31,35 @@ use Rattle.msp_file.specs.declared.fault.FileFault.TheVariants.{Count, Number, L
 use Rattle.msp_file.specs.declared.fault.What.TheVariants as what
 use Rattle.msp_file.specs.declared.schedule.Stated.{Stated}
 use Rattle.msp_file.specs.Reading.{◌>>=◌, Place, line_at, fields_of, first_of, others_of, worded_at, natural_in, natural_at, ordinal_at, known_at, number_line_at, LineRead, job_read, more_read, end_read, end_at, ReadsMore, more_then, more_end, more_fault, all_of}
-use Rattle.msp_file.specs.ScheduleReading.{title_at, number_at, denominator_at, cost_of, cost_in, cost_at, unit_at, moment_at, span_at, place_at, piece_at, piece_line_at, piece_step, IsStatedAs, ReadsPieces, ReadsStated, ReadsSchedule}
+use Rattle.msp_file.specs.ScheduleReading.{title_at, cost_at, unit_at, moment_at, span_at, place_at, piece_at, piece_line_at, piece_step, IsStatedAs, ReadsPieces, ReadsStated, ReadsSchedule}
 use Rattle.msp_grammar.proofs.PrintLemmas.{printed}
 use Rattle.msp_file.specs.ScheduleAnswers.{IsScheduleFaultOf, IsScheduleFault}
 use Rattle.msp_file.specs.Steps.{FailsBy, parts_of}
 use Rattle.msp_file.proofs.LineFaults.{schedule_faults}
 use Rattle.msp_file.proofs.Readings.{schedule_same}
-use Rattle.msp_file.proofs.LineLaws.{bind_ok, provided_ok, reads, ok_is, bind_again, provided_again, Takes, Gets, Takes-then, IsField, fields_takes, worded_takes, worded_again, begun, one_field}
+use Rattle.msp_file.proofs.LineLaws.{bind_ok, provided_ok, reads, ok_is, bind_again, provided_again, Takes, Gets, Takes-then, IsField, fields_takes, word_line_takes, word_line_again}
+use Rattle.msp_file.proofs.CostLaws.{plain_word, pair, IsCostWithin, with_place, cost_line_takes, cost_line_again}
 use Rattle.msp_file.proofs.FieldLaws.{ok_some, natural_in_takes, wide_takes, wide_again, digits_lack, wide_field, within_size, size_within, known_takes, known_again, name_field}
 use Rattle.msp_file.proofs.HeadLaws.{number_line_takes, number_line_again}
 use Rattle.msp_file.proofs.NeedLaws.{ordinal_takes, ordinal_again}
 use Rattle.msp_file.proofs.ArcLaws.{line_then, end_text, end_field, end_takes, last_is, no_answer, GetsBy}
 use Rattle.msp_file.proofs.TextLaws.{then_ok, then_again, spread}
 
-abbrev slashed : List ℕ → List (List ℕ)
-slashed w = slice_split (λ byte. byte == 47) w
-
-plain_word : (w : List ℕ) → Lacks 32 w → Lacks 10 w → IsField w
-plain_word w a b = record { no_space = a; no_line_feed = b }
-
--- ---- the title
-
-title_takes : (p q : Place) → title_at p ≡ Ok q → Takes p (codes "schedule\n") q
-unfolding title_at
-title_takes p q e =
-    let l = bind_ok (worded_at (codes "schedule") p) _ q e in
-    let t = provided_ok (length l.0.0 == 0) (Count p.at) (Ok l.0.1) q l.2 in
-    let none : l.0.0 ≡ [] = nil_from_length l.0.0 (eqb-true _ _ t.0) in
-    subst (Takes p (codes "schedule\n")) (ok_is l.0.1 q t.1) (subst (λ (ws : List (List ℕ)). Takes p (line_text (codes "schedule" ∷ ws)) l.0.1) none (worded_takes (codes "schedule") p l.0 l.1))
-
-title_again : (at : ℕ) (rest : List ℕ) → (next : ℕ) × (title_at (record { at = at; rest = codes "schedule\n" ++ rest }) ≡ Ok (record { at = next; rest = rest }))
-unfolding title_at
-title_again at rest =
-    let line = worded_again (codes "schedule") [] at rest (plain_word (codes "schedule") refl refl, tt) in
-    (line.0, rw line.1 refl)
-
 -- ---- the cost
 
--- the size of a number that is not too great
-numbered : (at : ℕ) (w : List ℕ) (x : ℤ) → unsigned_abs x < 10 ^ 64 → number_at at w ≡ Ok x → w ≡ signed_decimal x
-numbered at w x small e = number_spells w x (ok_some (number_of w) (Number at) x e) small
+within : (x : Frac) → IsStatedCost x → IsCostWithin GREATEST_COST x
+within x h = record { num = h.num; den = h.den }
 
-numbered_again : (at : ℕ) (x : ℤ) → unsigned_abs x < 10 ^ 64 → number_at at (signed_decimal x) ≡ Ok x
-numbered_again at x small = rw (number_again x small) refl
-
-fraction_taken : (x : Frac) (w first : List ℕ) (others : List (List ℕ)) (at : ℕ) → slashed w ≡ first ∷ others → first ≡ signed_decimal x.num → denominator_at at others ≡ Ok x.den → unsigned_abs x.den < 10 ^ 64 → IsFractionText x w
-fraction_taken x w first [] at cut is e small = alone (sym (ok_is (pos 1) x.den e)) (sym (join_with_byte-slice_split 47 w) ∙ ap (join_with_byte 47) cut ∙ is)
-fraction_taken x w first (part ∷ []) at cut is e small =
-    over (
-    sym (join_with_byte-slice_split 47 w) ∙ ap (join_with_byte 47) cut
-    ∙ ap (λ v. v ++ (47 ∷ part)) is ∙ ap (λ v. signed_decimal x.num ++ (47 ∷ v)) (numbered at part x.den small e)
-    ∙ sym (append_assoc (signed_decimal x.num) (47 ∷ []) (signed_decimal x.den)))
-fraction_taken x w first (part ∷ other ∷ parts) at cut is e small = absurd cc
-
--- A numerator and a denominator.
-abbrev pair : ℤ → ℤ → ℤ × ℤ
-pair a b = (a, b)
-
-first_is : (a b c d : ℤ) → pair a b ≡ pair c d → a ≡ c
-first_is a b c d e = ap (λ (x : ℤ × ℤ). x.0) e
-
-second_is : (a b c d : ℤ) → pair a b ≡ pair c d → b ≡ d
-second_is a b c d e = ap (λ (x : ℤ × ℤ). x.1) e
-
-small_den : (n : ℕ) (d : ℤ) → pos n ≡ d → n ≤ GREATEST_DENOMINATOR → unsigned_abs d < 10 ^ 64
-small_den n d e h = let is : n ≡ unsigned_abs d = ap unsigned_abs e in omega arith
-
-range_den : (n : ℕ) (d : ℤ) → pos n ≡ d → 1 ≤ n → n ≤ GREATEST_DENOMINATOR → (pos 1 ≤ℤ d) × (d ≤ℤ pos GREATEST_DENOMINATOR)
-range_den n d e low high = subst (λ (y : ℤ). (pos 1 ≤ℤ y) × (y ≤ℤ pos GREATEST_DENOMINATOR)) e (omega (arith, ints), omega (arith, ints))
-
-first_part : (w : List ℕ) → slashed w ≡ first_of (slashed w) ∷ others_of (slashed w)
-first_part w = sym (begun (slashed w) (omega (arith, length-slice_split (λ x. x == 47) w)))
-
-cost_taken : (at : ℕ) (w : List ℕ) (x : Frac) → cost_in at w ≡ Ok (parts_of x) → IsFractionText x w × IsStatedCost x
-unfolding cost_in
-cost_taken at w x e =
-    let n = bind_ok (number_at at (first_of (slashed w))) _ (parts_of x) e in
-    let d = bind_ok (denominator_at at (others_of (slashed w))) _ (parts_of x) n.2 in
-    let c = provided_ok (nat_le (unsigned_abs n.0) GREATEST_COST) (Limit at what.Cost) _ (parts_of x) d.2 in
-    let s = bind_ok (natural_in at what.Cost 1 GREATEST_DENOMINATOR d.0) _ (parts_of x) c.1 in
-    let range = natural_in_takes at what.Cost 1 GREATEST_DENOMINATOR d.0 s.0 s.1 in
-    let both : pair n.0 (pos s.0) ≡ parts_of x = ok_is (pair n.0 (pos s.0)) (parts_of x) s.2 in
-    let num : n.0 ≡ x.num = first_is n.0 (pos s.0) x.num x.den both in
-    let den : pos s.0 ≡ x.den = second_is n.0 (pos s.0) x.num x.den both in
-    let size : unsigned_abs x.num ≤ GREATEST_COST = subst (λ (y : ℤ). unsigned_abs y ≤ GREATEST_COST) num (leb-true (unsigned_abs n.0) GREATEST_COST c.0) in
-    let top : number_at at (first_of (slashed w)) ≡ Ok x.num = n.1 ∙ ap reads num in
-    let bottom : denominator_at at (others_of (slashed w)) ≡ Ok x.den = d.1 ∙ ap reads (range.0 ∙ den) in (
-      fraction_taken x w (first_of (slashed w)) (others_of (slashed w)) at (first_part w) (numbered at (first_of (slashed w)) x.num (omega (arith, size)) top) bottom (small_den s.0 x.den den range.2),
-      record { num = within_size GREATEST_COST x.num size; den = range_den s.0 x.den den range.1 range.2 },
-    )
-
--- the digits of a number of either sign are no other byte
-signed_lacks : (m : ℕ) (x : ℤ) → is_ascii_digit m ≡ false → (45 == m) ≡ false → unsigned_abs x < 10 ^ 64 → Lacks m (signed_decimal x)
-signed_lacks m (pos n) other minus h = digits_lack m n other h
-signed_lacks m (negsuc n) other minus h = let digits : Lacks m (decimal (suc n)) = digits_lack m (suc n) other h in rw (minus, digits) refl
-
--- A denominator in range, as a number.
-record IsSize (d : ℤ) : Type 0 where
-  size : ℕ
-  is : d ≡ pos size
-  low : 1 ≤ size
-  high : size ≤ GREATEST_DENOMINATOR
-
-size_is : (d : ℤ) → (pos 1 ≤ℤ d) × (d ≤ℤ pos GREATEST_DENOMINATOR) → IsSize d
-size_is (pos n) h = record { size = n; is = refl; low = omega (arith, ints, h.0); high = omega (arith, ints, h.1) }
-size_is (negsuc n) h = absurd (omega (arith, ints, h.0))
-
-cost_made : (at : ℕ) (x : Frac) → IsStatedCost x → cost_of at x.num x.den ≡ Ok (parts_of x)
-cost_made at x h =
-    let d = size_is x.den h.den in
-    let range : natural_in at what.Cost 1 GREATEST_DENOMINATOR x.den ≡ Ok d.size = ap (natural_in at what.Cost 1 GREATEST_DENOMINATOR) d.is ∙ rw (le-leb 1 d.size d.low, le-leb d.size GREATEST_DENOMINATOR d.high) refl in
-    provided_again (nat_le (unsigned_abs x.num) GREATEST_COST) (Limit at what.Cost) _ _ (le-leb (unsigned_abs x.num) GREATEST_COST (size_within GREATEST_COST x.num h.num))
-    (bind_again _ _ _ _ range (ap (λ (y : ℤ). reads (pair x.num y)) (sym d.is)))
-
-small_num : (x : Frac) → IsStatedCost x → unsigned_abs x.num < 10 ^ 64
-small_num x h = let size = size_within GREATEST_COST x.num h.num in omega (arith, size)
-
-small_den_of : (x : Frac) → IsStatedCost x → unsigned_abs x.den < 10 ^ 64
-small_den_of x h = let d = size_is x.den h.den in let is : unsigned_abs x.den ≡ d.size = ap unsigned_abs d.is in omega (arith, is, d.high)
-
-cost_in_again : (at : ℕ) (w : List ℕ) (x : Frac) → IsFractionText x w → IsStatedCost x → cost_in at w ≡ Ok (parts_of x)
-unfolding cost_in
-cost_in_again at w x (alone one is) h =
-    let cut : slashed w ≡ signed_decimal x.num ∷ [] = ap slashed is ∙ parts-whole 47 (signed_decimal x.num) (signed_lacks 47 x.num refl refl (small_num x h)) in
-    rw cut (
-    bind_again _ _ _ _ (numbered_again at x.num (small_num x h)) (
-    bind_again _ (cost_of at x.num) _ _ (ap reads (sym one)) (cost_made at x h)))
-cost_in_again at w x (over is) h =
-    let num = signed_decimal x.num in
-    let den = signed_decimal x.den in
-    let cut : slashed w ≡ num ∷ den ∷ [] =
-    ap slashed (is ∙ append_assoc num (47 ∷ []) den) ∙ parts-first 47 num den (signed_lacks 47 x.num refl refl (small_num x h))
-    ∙ ap (λ (ws : List (List ℕ)). num ∷ ws) (parts-whole 47 den (signed_lacks 47 x.den refl refl (small_den_of x h))) in
-    rw cut (
-    bind_again _ _ _ _ (numbered_again at x.num (small_num x h)) (
-    bind_again _ _ _ _ (numbered_again at x.den (small_den_of x h)) (cost_made at x h)))
-
-fraction_lacks : (m : ℕ) (w : List ℕ) (x : Frac) → is_ascii_digit m ≡ false → (45 == m) ≡ false → (47 == m) ≡ false → IsFractionText x w → IsStatedCost x → Lacks m w
-fraction_lacks m w x other minus slash (alone one is) h = subst (Lacks m) (sym is) (signed_lacks m x.num other minus (small_num x h))
-fraction_lacks m w x other minus slash (over is) h =
-    let num = signed_decimal x.num in
-    let den = signed_decimal x.den in
-    let top = signed_lacks m x.num other minus (small_num x h) in
-    let bottom = signed_lacks m x.den other minus (small_den_of x h) in
-    subst (Lacks m) (sym (is ∙ append_assoc num (47 ∷ []) den)) (list_any-append (λ y. y == m) num (47 ∷ den) ∙ rw (top, slash, bottom) refl)
-
--- What the line of a cost says.
-record SaysCost (p : Place) (x : Frac) (q : Place) : Type 0 where
-  spelling : List ℕ
-  spells : IsFractionText x spelling
-  text : Takes p (cost_line spelling) q
-  range : IsStatedCost x
-
-abbrev with_place : ℤ × ℤ → Place → (ℤ × ℤ) × Place
-with_place c q = (c, q)
-
-cost_takes : (p : Place) (x : Frac) (q : Place) → cost_at p ≡ Ok (parts_of x, q) → SaysCost p x q
-unfolding cost_at cost_line
-cost_takes p x q e =
-    let last : (ℤ × ℤ) × Place = with_place (parts_of x) q in
-    let l = bind_ok (worded_at (codes "cost") p) _ last e in
-    let t = provided_ok (length l.0.0 == 1) (Count p.at) _ last l.2 in
-    let m = bind_ok (cost_in p.at (first_of l.0.0)) _ last t.1 in
-    let both : with_place m.0 l.0.1 ≡ last = ok_is (with_place m.0 l.0.1) last m.2 in
-    let is : m.0 ≡ parts_of x = ap (λ (y : (ℤ × ℤ) × Place). y.0) both in
-    let place : l.0.1 ≡ q = ap (λ (y : (ℤ × ℤ) × Place). y.1) both in
-    let taken = cost_taken p.at (first_of l.0.0) x (m.1 ∙ ap reads is) in
-    record {
-      spelling = first_of l.0.0;
-      spells = taken.0;
-      text = subst (Takes p (cost_line (first_of l.0.0))) place (subst (λ (ws : List (List ℕ)). Takes p (line_text (codes "cost" ∷ ws)) l.0.1) (one_field l.0.0 t.0) (worded_takes (codes "cost") p l.0 l.1));
-      range = taken.1;
-    }
+stated_cost : (x : Frac) → IsCostWithin GREATEST_COST x → IsStatedCost x
+stated_cost x h = record { num = h.num; den = h.den }
 
 cost_again : (at : ℕ) (w : List ℕ) (x : Frac) (rest : List ℕ) → IsFractionText x w → IsStatedCost x → Gets (cost_at (record { at = at; rest = cost_line w ++ rest })) (parts_of x) rest
-unfolding cost_at cost_line
-cost_again at w x rest is h =
-    let field : IsField w = plain_word w (fraction_lacks 32 w x refl refl refl is h) (fraction_lacks 10 w x refl refl refl is h) in
-    let line = worded_again (codes "cost") (w ∷ []) at rest (plain_word (codes "cost") refl refl, (field, tt)) in
-    (line.0, rw (line.1, cost_in_again at w x is h) refl)
+unfolding cost_line
+cost_again at w x rest is h = cost_line_again GREATEST_COST (omega arith) (codes "cost") at w x rest (plain_word (codes "cost") refl refl) is (within x h)
+
+cost_text : (p q : Place) (w : List ℕ) → Takes p (line_text (codes "cost" ∷ w ∷ [])) q → Takes p (cost_line w) q
+unfolding cost_line
+cost_text p q w t = t
 
 -- ---- the unit
 
@@ -496,9 +346,9 @@ stated_takes names start x h =
     let r : ReadsPieces names c.0.0 u.0.0 u.0.1 (Ok x) = u.2 in
     let says = pieces_said c.0.0 u.0.0 r.lines x r.stated in
     let a = pieces_take names [] u.0.1 r.lines says.line (no_pieces names) r.reads says.read in
-    let cost = cost_takes t.0 x.0.cost c.0.1 (c.1 ∙ ap (λ (y : ℤ × ℤ). reads (with_place y c.0.1)) (sym says.parts)) in
+    let cost = cost_line_takes GREATEST_COST (omega arith) (codes "cost") t.0 x.0.cost c.0.1 (c.1 ∙ ap (λ (y : ℤ × ℤ). reads (with_place y c.0.1)) (sym says.parts)) in
     let unit = unit_takes c.0.1 u.0.0 u.0.1 u.1 in
-    let two = Takes-then start t.0 c.0.1 (codes "schedule\n") (cost_line cost.spelling) (title_takes start t.0 t.1) cost.text in
+    let two = Takes-then start t.0 c.0.1 (codes "schedule\n") (cost_line cost.spelling) (word_line_takes (codes "schedule") start t.0 t.1) (cost_text t.0 c.0.1 cost.spelling cost.text) in
     let three = Takes-then start c.0.1 u.0.1 (codes "schedule\n" ++ cost_line cost.spelling) (unit_line u.0.0) two unit.0 in
     let four = Takes-then start u.0.1 says.line.1 (codes "schedule\n" ++ cost_line cost.spelling ++ unit_line u.0.0) (piece_lines names a.more ++ end_text) three a.text in
     let whole : Takes start (stated_text cost.spelling names (schedule_by u.0.0 a.more)) says.line.1 =
@@ -509,7 +359,7 @@ stated_takes names start x h =
       spelling = cost.spelling;
       spells = cost.spells;
       text = subst (λ (q : Place). Takes start (stated_text cost.spelling names x.0.schedule) q) (sym says.place) (subst (λ (s : Schedule). Takes start (stated_text cost.spelling names s) says.line.1) is whole);
-      stated = subst (λ (s : Schedule). IsStated names s x.0.cost) is (record { cost = cost.range; unit = unit.1; few = fit.few; pieces = fit.stated });
+      stated = subst (λ (s : Schedule). IsStated names s x.0.cost) is (record { cost = stated_cost x.0.cost cost.range; unit = unit.1; few = fit.few; pieces = fit.stated });
     }
 
 pub schedule_taken : (names : List (List ℕ)) (line : ℕ) (b : List ℕ) (s : Stated) → ReadsSchedule names line b (Ok s) → IsScheduleText b names s.schedule s.cost
@@ -533,7 +383,7 @@ stated_again names at spelling s x rest spelled apart spells h =
     let cost = cost_line spelling in
     let unit = unit_line s.unit in
     let text : stated_text spelling names s ++ rest ≡ title ++ (cost ++ (unit ++ lines)) = spread title cost unit pieces end_text rest ∙ ap (λ (b : List ℕ). title ++ (cost ++ (unit ++ b))) (sym (append_assoc pieces end_text rest)) in
-    let t = title_again at (cost ++ (unit ++ lines)) in
+    let t = word_line_again (codes "schedule") at (cost ++ (unit ++ lines)) (plain_word (codes "schedule") refl refl) in
     let c = cost_again t.0 spelling x (unit ++ lines) spells h.cost in
     let u = unit_again c.0 s.unit lines h.unit in
     let p = pieces_again s.pieces names [] u.0 rest apart spelled (record { few = h.few; stated = h.pieces }) in (

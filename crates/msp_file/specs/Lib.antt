@@ -3,6 +3,10 @@ pub mod Steps
 pub mod Answers
 pub mod ScheduleReading
 pub mod ScheduleAnswers
+pub mod CertificateText
+pub mod CertificateReading
+pub mod CertificateSteps
+pub mod CertificateAnswers
 pub mod Faults
 pub mod Limits
 pub mod Laws

@@ -76,6 +76,18 @@ worded_at word place = do
   line ← line_at place
   provided (bytes_eq (first_of (fields_of line.0)) word) (Line place.at) (Ok (others_of (fields_of line.0), line.1))
 
+-- A line of one word.
+unfoldable pub word_line_at : List ℕ → Place → Result Place FileFault
+word_line_at word place = do
+  line ← worded_at word place
+  provided (length line.0 == 0) (Count place.at) (Ok line.1)
+
+-- The field of a line with one field behind its word.
+unfoldable pub field_line_at : List ℕ → Place → Result (List ℕ × Place) FileFault
+field_line_at word place = do
+  line ← worded_at word place
+  provided (length line.0 == 1) (Count place.at) (Ok (first_of line.0, line.1))
+
 -- ---- fields by their kinds
 
 -- A number in range, with the quantity that it is of.

@@ -12,13 +12,11 @@ use Rattle.msp_file.specs.declared.fault.What.TheVariants as what
 use Rattle.msp_file.specs.declared.fault.FileFault.{FileFault}
 use Rattle.msp_file.specs.declared.fault.FileFault.TheVariants.{Count, Number, Limit}
 use Rattle.msp_file.specs.declared.schedule.Stated.{Stated}
-use Rattle.msp_file.specs.Reading.{◌>>=◌, provided, Place, line_at, fields_of, first_of, others_of, worded_at, natural_in, natural_at, ordinal_at, known_at, number_line_at, LineRead, more_read, end_at, ReadsMore, Then, ReadsBy, all_of}
+use Rattle.msp_file.specs.Reading.{◌>>=◌, provided, Place, line_at, fields_of, first_of, others_of, word_line_at, field_line_at, natural_in, natural_at, ordinal_at, known_at, number_line_at, LineRead, more_read, end_at, ReadsMore, Then, ReadsBy, all_of}
 
 -- The first line.
-unfoldable pub title_at : Place → Result Place FileFault
-title_at place = do
-  line ← worded_at (codes "schedule") place
-  provided (length line.0 == 0) (Count place.at) (Ok line.1)
+abbrev pub title_at : Place → Result Place FileFault
+title_at place = word_line_at (codes "schedule") place
 
 -- ---- the cost
 
@@ -31,25 +29,28 @@ denominator_at at [] = Ok (pos 1)
 denominator_at at (part ∷ []) = number_at at part
 denominator_at at (part ∷ other ∷ parts) = Err (Number at)
 
--- A numerator and a denominator that are in range.
-abbrev pub cost_of : ℕ → ℤ → ℤ → Result (ℤ × ℤ) FileFault
-cost_of at numerator denominator =
-    provided (nat_le (unsigned_abs numerator) GREATEST_COST) (Limit at what.Cost)
+-- A numerator of at most this size and a denominator that are in range.
+abbrev pub cost_of : ℕ → ℕ → ℤ → ℤ → Result (ℤ × ℤ) FileFault
+cost_of greatest at numerator denominator =
+    provided (nat_le (unsigned_abs numerator) greatest) (Limit at what.Cost)
     (natural_in at what.Cost 1 GREATEST_DENOMINATOR denominator >>= λ size. Ok (numerator, pos size))
 
 -- A cost, by its numerator and its denominator: a number, or two with `/` between them.
-unfoldable pub cost_in : ℕ → List ℕ → Result (ℤ × ℤ) FileFault
-cost_in at field = do
+unfoldable pub cost_in : ℕ → ℕ → List ℕ → Result (ℤ × ℤ) FileFault
+cost_in greatest at field = do
   numerator ← number_at at (first_of (slice_split (λ byte. byte == slash_byte) field))
   denominator ← denominator_at at (others_of (slice_split (λ byte. byte == slash_byte) field))
-  cost_of at numerator denominator
+  cost_of greatest at numerator denominator
 
-unfoldable pub cost_at : Place → Result ((ℤ × ℤ) × Place) FileFault
-cost_at place = do
-  line ← worded_at (codes "cost") place
-  provided (length line.0 == 1) (Count place.at) (do
-    cost ← cost_in place.at (first_of line.0)
-    Ok (cost, line.1))
+-- A cost in the line of this word, with a numerator of at most this size.
+unfoldable pub cost_line_at : List ℕ → ℕ → Place → Result ((ℤ × ℤ) × Place) FileFault
+cost_line_at word greatest place = do
+  line ← field_line_at word place
+  cost ← cost_in greatest place.at line.0
+  Ok (cost, line.1)
+
+abbrev pub cost_at : Place → Result ((ℤ × ℤ) × Place) FileFault
+cost_at place = cost_line_at (codes "cost") GREATEST_COST place
 
 -- ---- the unit and the pieces
 

@@ -1,5 +1,5 @@
 // The lines of jobs and arcs.
-ghost use Rattle.std.specs.Prelude.{◌≡◌, ◌++◌, ◌∷◌, [], ◌≤◌, ◌<◌, ℕ, List as Items, false, not, length, bytes_eq, MatchResult, Ok, OnOk};
+ghost use Rattle.std.specs.Prelude.{◌≡◌, ◌++◌, ◌∷◌, [], ◌≤◌, ◌<◌, ℕ, ℤ, List as Items, false, not, length, bytes_eq, MatchResult, Ok, OnOk};
 ghost use Rattle.std.specs.List.{list_any};
 ghost use Rattle.msp_instance.specs.declared.ranges.TheConstants.{MOST_JOBS};
 ghost use Rattle.msp_file.specs.Answers.{Gives};
@@ -142,6 +142,9 @@ fn arc_line_at(at: u32, draft: &mut Draft, fields: &[u8]) -> Result<(), FileFaul
 pub(crate) fn end_line(at: u32, word: &[u8], fields: &[u8]) -> Result<(), FileFault>
     ensures arcs { (d : DraftValue) (p : Place) (ws : Items (Items ℕ)) → ws ≡ word.now ∷ fields_after fields.now → Gives (λ _. end_read d p) result (end_at at d ws p) }
     ensures pieces { (d : Items PieceValue) (p : Place) (ws : Items (Items ℕ)) → ws ≡ word.now ∷ fields_after fields.now → Gives (λ _. end_read d p) result (end_at at d ws p) }
+    ensures jobs { (d : Items ℕ) (p : Place) (ws : Items (Items ℕ)) → ws ≡ word.now ∷ fields_after fields.now → Gives (λ _. end_read d p) result (end_at at d ws p) }
+    ensures lists { (d : Items (Items ℕ)) (p : Place) (ws : Items (Items ℕ)) → ws ≡ word.now ∷ fields_after fields.now → Gives (λ _. end_read d p) result (end_at at d ws p) }
+    ensures prices { (d : Items ℤ) (p : Place) (ws : Items (Items ℕ)) → ws ≡ word.now ∷ fields_after fields.now → Gives (λ _. end_read d p) result (end_at at d ws p) }
 {
     if *word != *b"end".as_slice() {
         return Err(FileFault::Line { at });

@@ -1,9 +1,10 @@
 // Lines and fields.
-ghost use Rattle.std.specs.Prelude.{◌≡◌, ◌∷◌, ◌<◌, ◌≤◌, length, position, count_by, ◌==◌, IfOk, OnOk};
+ghost use Rattle.std.specs.Prelude.{◌≡◌, ◌∷◌, ◌<◌, ◌≤◌, length, position, count_by, ◌==◌, IfOk, OnOk, MatchResult, Ok};
 ghost use Rattle.std.specs.List.{slice_split};
 ghost use Rattle.msp_class.specs.declared.list.TheConstants.{PLACES};
 ghost use Rattle.msp_text.specs.Bytes.{space_byte};
-ghost use Rattle.msp_file.specs.Reading.{line_at, worded_at, fields_of, first_of, others_of};
+ghost use Rattle.msp_file.specs.Reading.{line_at, worded_at, word_line_at, field_line_at, fields_of, first_of, others_of};
+ghost use Rattle.msp_file.specs.Answers.{Fails};
 ghost use Rattle.msp_file.specs.Steps.{Moves, place_of, parts_after, fields_after};
 
 use crate::fault::FileFault;
@@ -106,4 +107,42 @@ pub(crate) fn worded_at<'a>(lines: &mut Lines<'a>, word: &[u8]) -> Result<&'a [u
         return Err(FileFault::Line { at });
     }
     Ok(rest)
+}
+
+/// A line of one word.
+#[tactic(auto, unfolding(crate::specs::Reading::word_line_at))]
+pub(crate) fn word_line_at(lines: &mut Lines<'_>, word: &[u8]) -> Result<(), FileFault>
+    ensures { MatchResult result (λ _. word_line_at word.now (place_of lines.old) ≡ Ok (place_of lines.new)) (λ e. Fails e (word_line_at word.now (place_of lines.old))) }
+{
+    let at = lines.at;
+    match worded_at(lines, word) {
+        Ok(fields) => {
+            if count_fields(fields) != 0 {
+                return Err(FileFault::Count { at });
+            }
+            Ok(())
+        }
+        Err(fault) => Err(fault),
+    }
+}
+
+/// The field of a line with one field behind its word.
+#[tactic(auto, unfolding(crate::specs::Reading::field_line_at))]
+pub(crate) fn field_line_at<'a>(
+    lines: &mut Lines<'a>,
+    word: &[u8],
+) -> Result<&'a [u8], FileFault>
+    ensures { Moves (λ field. field.now) result (place_of lines.new) (field_line_at word.now (place_of lines.old)) }
+{
+    let at = lines.at;
+    match worded_at(lines, word) {
+        Ok(fields) => {
+            if count_fields(fields) != 1 {
+                return Err(FileFault::Count { at });
+            }
+            let (field, _) = next_field(fields);
+            Ok(field)
+        }
+        Err(fault) => Err(fault),
+    }
 }

@@ -1,5 +1,6 @@
 // The numbers of fields.
 ghost use Rattle.std.specs.Prelude.{◌≡◌, ◌<◌, ◌≤◌, IfOk, pos, neg_ℤ, if◌then◌else◌};
+ghost use Rattle.msp_instance.specs.Conditions.{LiesWithin};
 ghost use Rattle.msp_schedule.specs.Within.{i128_limit};
 ghost use Rattle.msp_file.specs.Reading.{natural_at, ordinal_at, integer_at};
 
@@ -65,10 +66,16 @@ pub(crate) fn with_sign(number: Spelled) -> i128
     if number.negative { -size } else { size }
 }
 
-/// The number of a field, of either sign, where it is in range.
+/// The number of a field, of either sign, where its size is in range.
 #[tactic(auto, unfolding(crate::specs::Reading::integer_at))]
-pub(crate) fn integer_at(at: u32, what: What, greatest: u32, bytes: &[u8]) -> Result<i64, FileFault>
-    ensures { result ≡ integer_at at what greatest bytes.now }
+pub(crate) fn signed_at(
+    at: u32,
+    what: What,
+    greatest: u64,
+    bytes: &[u8],
+) -> Result<i128, FileFault>
+    ensures value { result ≡ integer_at at what greatest bytes.now }
+    ensures range { IfOk result (λ x. LiesWithin greatest x) }
 {
     let Some(number) = read_number(bytes) else {
         return Err(FileFault::Number { at });
@@ -76,5 +83,15 @@ pub(crate) fn integer_at(at: u32, what: What, greatest: u32, bytes: &[u8]) -> Re
     if number.size > greatest as u128 {
         return Err(FileFault::Limit { at, what });
     }
-    Ok(with_sign(number) as i64)
+    Ok(with_sign(number))
+}
+
+/// The same of a number of 64 bits.
+pub(crate) fn integer_at(at: u32, what: What, greatest: u32, bytes: &[u8]) -> Result<i64, FileFault>
+    ensures { result ≡ integer_at at what greatest bytes.now }
+{
+    match signed_at(at, what, greatest as u64, bytes) {
+        Ok(number) => Ok(number as i64),
+        Err(fault) => Err(fault),
+    }
 }

@@ -1,33 +1,31 @@
 // The reader of schedule texts.
-ghost use Rattle.std.specs.Prelude.{◌≡◌, ◌<◌, ◌≤◌, [], length, OnOk, IfOk, IfErr, MatchResult, Ok, ℤ};
+ghost use Rattle.std.specs.Prelude.{◌≡◌, ◌<◌, ◌≤◌, [], length, OnOk, IfOk, IfErr, Ok};
 ghost use Rattle.msp_class.specs.declared.list.TheConstants.{PLACES};
-ghost use Rattle.msp_text.specs.Bytes.{slash_byte};
-ghost use Rattle.msp_text.specs.Numbers.{capped};
 ghost use Rattle.msp_schedule.specs.declared.Schedule.{Schedule as ScheduleValue};
 ghost use Rattle.msp_schedule.specs.declared.Frac.{Frac as FracValue};
 ghost use Rattle.msp_grammar.specs.ScheduleText.{IsScheduleText};
 ghost use Rattle.msp_file.specs.declared.read.TheConstants.{MOST_BYTES};
 ghost use Rattle.msp_file.specs.declared.schedule.TheConstants.{LAST_LINE};
 ghost use Rattle.msp_file.specs.Reading.{ReadsMore};
-ghost use Rattle.msp_file.specs.ScheduleReading.{title_at, number_at, denominator_at, cost_of, cost_in, cost_at, unit_at, moment_at, span_at, place_at, piece_at, piece_line_at, piece_step, ReadsStated, ReadsSchedule};
-ghost use Rattle.msp_file.specs.Answers.{Fails, Gives};
+ghost use Rattle.msp_file.specs.ScheduleReading.{unit_at, moment_at, span_at, place_at, piece_at, piece_line_at, piece_step, ReadsStated, ReadsSchedule};
+ghost use Rattle.msp_file.specs.Answers.{Gives};
 ghost use Rattle.msp_file.specs.ScheduleAnswers.{IsScheduleFaultOf, IsScheduleFault, SchedulesReadOneWay, PrintedReadAgain};
-ghost use Rattle.msp_file.specs.Steps.{GivesBy, Moves, MovesBy, AfterLine, spelled_as, parts_of, place_of, parts_after, fields_after};
+ghost use Rattle.msp_file.specs.Steps.{GivesBy, Moves, MovesBy, AfterLine, place_of, fields_after};
 
+use crate::cost::cost_line_at;
 use crate::draft::end_line;
 use crate::fault::{FileFault, What};
 use crate::head::number_line_at;
 use crate::job::known_at;
-use crate::lines::{count_fields, line_at, next_field, split_first, split_word, worded_at};
-use crate::number::{ordinal_at, wide_at, with_sign};
+use crate::lines::{count_fields, line_at, next_field, split_word, word_line_at};
+use crate::number::{ordinal_at, wide_at};
 use crate::place::Lines;
 use crate::read::MOST_BYTES;
 use msp_class::{List, MOST_OPERATIONS};
-use msp_grammar::{GREATEST_COST, GREATEST_DENOMINATOR};
+use msp_grammar::GREATEST_COST;
 use msp_instance::MOST_MACHINES;
 use msp_job_name::Names;
 use msp_schedule::{Frac, GREATEST_MOMENT, GREATEST_UNIT, MOST_PIECES, Piece, Schedule};
-use msp_text::{Spelled, read_number};
 use std::alloc::Global;
 
 /// The greatest number of a schedule text's first line.
@@ -38,106 +36,6 @@ pub const LAST_LINE: u32 = 1 << 27;
 pub struct Stated {
     pub schedule: Schedule,
     pub cost: Frac,
-}
-
-/// The first line.
-#[tactic(auto, unfolding(crate::specs::ScheduleReading::title_at))]
-fn title_at(lines: &mut Lines<'_>) -> Result<(), FileFault>
-    ensures { MatchResult result (λ _. title_at (place_of lines.old) ≡ Ok (place_of lines.new)) (λ e. Fails e (title_at (place_of lines.old))) }
-{
-    let at = lines.at;
-    match worded_at(lines, b"schedule") {
-        Ok(fields) => {
-            if count_fields(fields) != 0 {
-                return Err(FileFault::Count { at });
-            }
-            Ok(())
-        }
-        Err(fault) => Err(fault),
-    }
-}
-
-fn number_at(at: u32, field: &[u8]) -> Result<Spelled, FileFault>
-    ensures { result ≡ spelled_as (number_at at field.now) }
-{
-    match read_number(field) {
-        Some(number) => Ok(number),
-        None => Err(FileFault::Number { at }),
-    }
-}
-
-/// The denominator behind the first `/`. It is 1 where there is none.
-fn denominator_at(at: u32, rest: &[u8]) -> Result<Spelled, FileFault>
-    ensures { result ≡ spelled_as (denominator_at at (parts_after slash_byte rest.now)) }
-{
-    match rest {
-        [] => Ok(Spelled {
-            negative: false,
-            size: 1,
-        }),
-        [_, more @ ..] => {
-            let (part, others) = split_first(more, b'/');
-            if !others.is_empty() {
-                return Err(FileFault::Number { at });
-            }
-            number_at(at, part)
-        }
-    }
-}
-
-/// A cost whose numbers are in range.
-fn cost_of(at: u32, numerator: Spelled, denominator: Spelled) -> Result<Frac, FileFault>
-    ensures { (x y : ℤ) → numerator ≡ capped x → denominator ≡ capped y → Gives parts_of result (cost_of at x y) }
-{
-    let limit = Err(FileFault::Limit {
-        at,
-        what: What::Cost,
-    });
-    if numerator.size > GREATEST_COST {
-        return limit;
-    }
-    if denominator.negative
-        || denominator.size < 1
-        || denominator.size > GREATEST_DENOMINATOR as u128
-    {
-        return limit;
-    }
-    Ok(Frac {
-        num: with_sign(numerator),
-        den: denominator.size as i128,
-    })
-}
-
-/// A cost: a number, or two with `/` between them.
-#[tactic(auto, unfolding(crate::specs::ScheduleReading::cost_in), using(crate::proofs::CostReading::cost_rules))]
-fn cost_in(at: u32, field: &[u8]) -> Result<Frac, FileFault>
-    ensures { Gives parts_of result (cost_in at field.now) }
-{
-    let (top, rest) = split_first(field, b'/');
-    match number_at(at, top) {
-        Ok(numerator) => match denominator_at(at, rest) {
-            Ok(denominator) => cost_of(at, numerator, denominator),
-            Err(fault) => Err(fault),
-        },
-        Err(fault) => Err(fault),
-    }
-}
-
-#[tactic(auto, unfolding(crate::specs::ScheduleReading::cost_at))]
-fn cost_at(lines: &mut Lines<'_>) -> Result<Frac, FileFault>
-    ensures { Moves parts_of result (place_of lines.new) (cost_at (place_of lines.old)) }
-{
-    let at = lines.at;
-    match worded_at(lines, b"cost") {
-        Ok(fields) => {
-            if count_fields(fields) != 1 {
-                return Err(FileFault::Count { at });
-            }
-            let (field, _) = next_field(fields);
-            cost_in(at, field)
-        }
-        Err(fault) => Err(fault),
-    }
 }
 
 #[tactic(auto, unfolding(crate::specs::ScheduleReading::unit_at))]
@@ -289,8 +187,8 @@ fn stated_at(alloc: Global, names: &Names, lines: &mut Lines<'_>) -> Result<Stat
     requires { length names.now < PLACES }
     ensures { MovesBy (λ s. s) result (place_of lines.new) (ReadsStated names.now (place_of lines.old)) }
 {
-    title_at(lines)?;
-    let cost = cost_at(lines)?;
+    word_line_at(lines, b"schedule")?;
+    let cost = cost_line_at(lines, b"cost", GREATEST_COST)?;
     let unit = unit_at(lines)?;
     match pieces_at(alloc, names, lines) {
         Ok(pieces) => Ok(Stated {

@@ -57,7 +57,7 @@ jobs_step c names jobs at job o p total h k e f g =
     let rest = jobs_text c (drop (at + 1) names) (drop (at + 1) jobs) in
     ap (λ x. x ++ rest) f ∙ append_assoc o (job_text c (get_or names at []) job) rest ∙ ap (λ x. o ++ x) (sym (jobs_next c names jobs at job h k e)) ∙ g
 
-fraction_spelled : (x : Frac) → IsFractionText x (fraction_text x)
+pub fraction_spelled : (x : Frac) → IsFractionText x (fraction_text x)
 fraction_spelled x = by (int_eq x.den (pos 1)) refl
   where
     by : (b : Bool) → int_eq x.den (pos 1) ≡ b → IsFractionText x (signed_decimal x.num ++ (if b then [] else codes "/" ++ signed_decimal x.den))

@@ -2,8 +2,9 @@
 //!
 //! It stands on `msp_text`, `msp_name`, `msp_job_name`, `msp_instance` and `msp_schedule`. The layers above use the definitions: that
 //! bytes are a text of an instance (`IsInstanceText`), and the text of a schedule (`schedule_text`); that `print_instance` and
-//! `print_schedule` give exactly `instance_text` and `schedule_text`, the first of which is then an instance text; and, for the
-//! readers, which lines and keys the texts of a class have.
+//! `print_schedule` give exactly `instance_text` and `schedule_text`, the first of which is then an instance text; that `put_schedule`,
+//! `put_fraction` and `put_name` put their text at the end of another one; and, for the readers, which lines and keys the texts of a class
+//! have.
 #![tactic(auto)]
 
 mod filed;
@@ -23,4 +24,4 @@ pub use layout::{
     has_times_line,
 };
 pub use limits::{GREATEST_COST, GREATEST_DENOMINATOR};
-pub use schedule_printer::print_schedule;
+pub use schedule_printer::{print_schedule, put_fraction, put_name, put_schedule};

@@ -11,7 +11,7 @@ use msp_text::{put, put_integer, put_number};
 use std::alloc::Global;
 
 /// Puts the name of the job of a number, from 0.
-pub(crate) fn put_name(out: &mut Vec<u8>, names: &Names, job: u32) -> Result<(), NoMemory>
+pub fn put_name(out: &mut Vec<u8>, names: &Names, job: u32) -> Result<(), NoMemory>
     ensures { OnOk result (out.new.items ≡ out.old.items ++ name_at names.now job) }
 {
     match names.get(job as usize) {
@@ -20,7 +20,8 @@ pub(crate) fn put_name(out: &mut Vec<u8>, names: &Names, job: u32) -> Result<(),
     }
 }
 
-fn put_fraction(out: &mut Vec<u8>, fraction: Frac) -> Result<(), NoMemory>
+/// Puts a fraction: its numerator and, where it is not 1, its denominator.
+pub fn put_fraction(out: &mut Vec<u8>, fraction: Frac) -> Result<(), NoMemory>
     ensures { OnOk result (out.new.items ≡ out.old.items ++ fraction_text fraction) }
 {
     put_integer(out, fraction.num)?;
@@ -87,8 +88,9 @@ fn put_unit(out: &mut Vec<u8>, unit: i128) -> Result<(), NoMemory>
     put(out, b"\n")
 }
 
+/// Puts the text of a schedule and its cost.
 #[tactic(auto, unfolding(crate::specs::ScheduleText::schedule_text))]
-fn put_schedule(
+pub fn put_schedule(
     out: &mut Vec<u8>,
     names: &Names,
     schedule: &Schedule,

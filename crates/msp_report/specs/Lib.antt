@@ -7,3 +7,4 @@ pub mod RowsText
 pub mod SolveText
 pub mod TrialText
 pub mod CheckText
+pub mod CertifyText

@@ -1,21 +1,15 @@
 -- The report of `trial`.
 use Rattle.std.specs.Prelude.{ℕ, List, ◌++◌, length, codes}
 use Rattle.msp_instance.specs.declared.Instance.{Instance}
-use Rattle.msp_schedule.specs.declared.Frac.{Frac}
 use Rattle.msp_route.specs.declared.answer.Answer.{Answer}
-use Rattle.msp_grammar.specs.ScheduleText.{fraction_text}
 use Rattle.msp_report.specs.ChainText.{end_line}
-use Rattle.msp_report.specs.Lines.{class_line, number_line}
+use Rattle.msp_report.specs.Lines.{class_line, number_line, cost_line}
 use Rattle.msp_report.specs.SolveText.{solver_line}
 
 -- what was made: an instance of a class, with so many jobs, from a seed
 unfoldable pub made_lines : Instance → ℕ → List ℕ
 made_lines i seed =
     class_line i.class ++ number_line (codes "jobs ") (length i.jobs) ++ number_line (codes "seed ") seed
-
--- the line of a cost
-unfoldable pub cost_line : Frac → List ℕ
-cost_line cost = codes "cost " ++ fraction_text cost ++ codes "\n"
 
 -- how it was solved: the solver, the length of the chain to the class that it solves, and how many pieces the schedule has
 unfoldable pub solved_lines : Answer → List ℕ

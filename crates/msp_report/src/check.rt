@@ -3,12 +3,13 @@ ghost use Rattle.std.specs.Prelude.{◌≡◌, ◌+◌, ◌++◌, ◌↔◌, IsT
 ghost use Rattle.msp_instance.specs.Conditions.{InClass};
 ghost use Rattle.msp_schedule.specs.Feasible.{Feasible};
 ghost use Rattle.msp_schedule.specs.Fraction.{IsSameFraction, IsLowest};
-ghost use Rattle.msp_grammar.specs.ScheduleText.{name_at, IsStated};
+ghost use Rattle.msp_grammar.specs.ScheduleText.{IsStated};
 ghost use Rattle.msp_report.specs.CheckText.{count_lines, numbers_text, operation_text, break_text, broken_lines, yes_or_no, cost_lines, StatesItsCost, AreCostLines, AreCheckLines, IsCheckText};
 
-use crate::lines::{put_class_line, put_fraction, put_number_line};
+use crate::lines::{put_class_line, put_number_line};
 use msp_class::NoMemory;
 use msp_file::{Filed, Stated};
+use msp_grammar::{put_fraction, put_name};
 use msp_instance::Instance;
 use msp_job_name::Names;
 use msp_schedule::{Break, Frac, Schedule, cost, lowest};
@@ -37,16 +38,6 @@ fn put_two(out: &mut Vec<u8>, word: &[u8], first: u32, second: u32) -> Result<()
 {
     put_numbered(out, word, first)?;
     put_numbered(out, b" ", second)
-}
-
-/// Puts the name of the job of a number, from 0.
-fn put_name(out: &mut Vec<u8>, names: &Names, job: u32) -> Result<(), NoMemory>
-    ensures { OnOk result (out.new.items ≡ out.old.items ++ name_at names.now job) }
-{
-    match names.get(job as usize) {
-        Some(name) => put(out, name.bytes()),
-        None => Ok(()),
-    }
 }
 
 fn put_operation(
@@ -88,7 +79,7 @@ fn put_broken(out: &mut Vec<u8>, names: &Names, broken: Break) -> Result<(), NoM
     put(out, b"\n")
 }
 
-fn put_yes_or_no(out: &mut Vec<u8>, agrees: bool) -> Result<(), NoMemory>
+pub(crate) fn put_yes_or_no(out: &mut Vec<u8>, agrees: bool) -> Result<(), NoMemory>
     ensures { OnOk result (out.new.items ≡ out.old.items ++ yes_or_no agrees) }
 {
     if agrees {

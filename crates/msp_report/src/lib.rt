@@ -1,10 +1,11 @@
 //! The texts of reports: labels of classes, the frontier, why a class has its label, the table of rows, the answer to an instance,
-//! whole or in a few lines, and the check of a schedule.
+//! whole or in a few lines, the check of a schedule, a certified cost, and whether a certificate is accepted.
 //!
-//! It stands on `msp_class`, `msp_name`, `msp_table`, `msp_closure`, `msp_route`, `msp_grammar`, `msp_file` and `msp_text`. The layer
-//! above uses that each text is exactly the one that `specs/` defines.
+//! It stands on `msp_class`, `msp_name`, `msp_table`, `msp_closure`, `msp_route`, `msp_cert`, `msp_grammar`, `msp_file` and `msp_text`.
+//! The layer above uses that each text is exactly the one that `specs/` defines.
 #![tactic(auto)]
 
+mod certify;
 mod chain_text;
 mod check;
 mod frontier;
@@ -19,6 +20,7 @@ mod text_tests;
 mod trial;
 mod why;
 
+pub use certify::{accept_text, certify_text};
 pub use check::{check_text, states_its_cost};
 pub use frontier::frontier_text;
 pub use labels::labels_text;

@@ -1,12 +1,12 @@
 // Lines that several reports have.
 ghost use Rattle.std.specs.Prelude.{◌≡◌, ◌++◌, OnOk};
-ghost use Rattle.msp_grammar.specs.ScheduleText.{fraction_text};
-ghost use Rattle.msp_report.specs.Lines.{class_line, number_line};
+ghost use Rattle.msp_report.specs.Lines.{class_line, number_line, cost_line};
 
 use crate::chain_text::put_name;
 use msp_class::{Class, NoMemory};
+use msp_grammar::put_fraction;
 use msp_schedule::Frac;
-use msp_text::{put, put_integer, put_number};
+use msp_text::{put, put_number};
 
 #[tactic(auto, unfolding(crate::specs::Lines::class_line))]
 pub(crate) fn put_class_line(out: &mut Vec<u8>, class: Class) -> Result<(), NoMemory>
@@ -27,13 +27,11 @@ pub(crate) fn put_number_line(out: &mut Vec<u8>, word: &[u8], number: u64) -> Re
     put(out, b"\n")
 }
 
-pub(crate) fn put_fraction(out: &mut Vec<u8>, fraction: Frac) -> Result<(), NoMemory>
-    ensures { OnOk result (out.new.items ≡ out.old.items ++ fraction_text fraction) }
+#[tactic(auto, unfolding(crate::specs::Lines::cost_line))]
+pub(crate) fn put_cost_line(out: &mut Vec<u8>, cost: Frac) -> Result<(), NoMemory>
+    ensures { OnOk result (out.new.items ≡ out.old.items ++ cost_line cost) }
 {
-    put_integer(out, fraction.num)?;
-    if fraction.den == 1 {
-        return Ok(());
-    }
-    put(out, b"/")?;
-    put_integer(out, fraction.den)
+    put(out, b"cost ")?;
+    put_fraction(out, cost)?;
+    put(out, b"\n")
 }

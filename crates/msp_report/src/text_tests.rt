@@ -1,7 +1,13 @@
-// The readers of texts: instances and schedules that are read, their first faults by their notes, and
-// instances that are printed again. They stand here and not beside the readers, since a crate with tests is proved twice.
-use msp_file::{Filed, print_instance, read_front, read_instance, read_schedule};
-use msp_schedule::Piece;
+// The readers of texts: instances, schedules and certificates that are read, their first faults by their notes, and
+// instances and certificates that are printed again. They stand here and not beside the readers, since a crate with tests is proved twice.
+use crate::{accept_text, certify_text};
+use msp_cert::{Certificate, Certified, Proof};
+use msp_class::List;
+use msp_file::{
+    Filed, print_instance, put_certificate, read_certificate, read_front, read_instance,
+    read_schedule,
+};
+use msp_schedule::{Frac, Piece, Schedule, Solution, lowest};
 use std::test::Fail;
 
 /// Texts of instances, and the notes on their first faults.
@@ -267,6 +273,172 @@ fn a_schedule_behind_its_instance(rt: HostRuntime) -> Result<(), Fail> {
             piece(1, 0, 6, 9)
         ]
         .as_slice()
+    );
+    Ok(())
+}
+
+const IN_A_TREE: &[u8] =
+    b"msp 1\nclass P|intree,p=1|Cmax\nmachines 2\njob a\njob b\njob c\njob d\narc a d\narc b d\narc c d\nend\n";
+
+/// Texts of instances, and of certificates that are read for them and printed as they were.
+const CERTIFICATES: [(&[u8], &[u8]); 7] = [
+    (
+        INSTANCE,
+        b"certificate\nbound 9/2\nkind group\njob a\njob b\njob c\nend\n",
+    ),
+    (
+        IN_A_TREE,
+        b"certificate\nbound 3\nkind levels\ntail 1\nlevel a 1\nlevel b 1\nlevel c 1\nlevel d 0\nend\n",
+    ),
+    (
+        b"msp 1\nclass 1|pmtn,prec,r|fmax\njob a p=4 r=0\ncurve 1 0\njob b p=1 r=1\ncurve 3 0\nend\n",
+        b"certificate\nbound 6\nkind block\nhead a 0\nhead b 1\njob b\nend\n",
+    ),
+    (
+        IN_A_TREE,
+        b"certificate\nbound 3\nkind segments\nsegment\njob a\njob b\njob c\nsegment\nsegment\njob d\nend\n",
+    ),
+    (
+        b"msp 1\nclass R||sumC\nmachines 2\njob a\ntimes 1 2\njob b\ntimes 3 1\nend\n",
+        b"certificate\nbound -2/3\nkind prices\nrow a 5\nrow b -7\ncolumn 1 2 -3\ncolumn 2 1 -1\nend\n",
+    ),
+    (
+        INSTANCE,
+        b"certificate\nbound 0\nkind machine\nmachine 2\nend\n",
+    ),
+    (INSTANCE, b"certificate\nbound 0\nkind line\njob c\nend\n"),
+];
+
+#[test]
+fn certificates_printed_again(rt: HostRuntime) -> Result<(), Fail> {
+    let alloc = rt.alloc();
+    for (instance, text) in CERTIFICATES {
+        assert!(rt; instance.len() < 200 && text.len() < 200);
+        let Filed { instance, names } = read_instance(alloc, instance)?;
+        let certificate = read_certificate(alloc, &names, &instance, text, 1)?;
+        let mut out = Vec::new(alloc);
+        put_certificate(&mut out, &names, &instance, &certificate)?;
+        assert_eq!(rt; out.as_slice(), text);
+    }
+    Ok(())
+}
+
+/// Texts of certificates behind an instance, and the notes on their first faults.
+const CERTIFICATE_FAULTS: [(&[u8], &[u8]); 19] = [
+    (b"", b"line 8: missing"),
+    (b"certificate", b"line 8: cut"),
+    (
+        b"certificate\nbound 1000000000000000000000001\n",
+        b"line 9: limit of cost",
+    ),
+    (
+        b"certificate\nbound 1\nkind x\n",
+        b"line 10: key",
+    ),
+    (
+        b"certificate\nbound 1\nkind\n",
+        b"line 10: count of fields",
+    ),
+    (
+        b"certificate\nbound 1\nkind group\njob d\n",
+        b"line 11: unknown name",
+    ),
+    (
+        b"certificate\nbound 1\nkind group\njob a/\n",
+        b"line 11: name",
+    ),
+    (
+        b"certificate\nbound 1\nkind group\nend\nx",
+        b"line 12: after the end",
+    ),
+    (
+        b"certificate\nbound 1\nkind segments\njob a\n",
+        b"line 11: not expected here",
+    ),
+    (
+        b"certificate\nbound 1\nkind line\njob a\njob b\n",
+        b"line 12: not expected here",
+    ),
+    (
+        b"certificate\nbound 1\nkind machine\nmachine 3\n",
+        b"line 11: limit of machines",
+    ),
+    (
+        b"certificate\nbound 1\nkind levels\ntail 401\n",
+        b"line 11: limit of level",
+    ),
+    (
+        b"certificate\nbound 1\nkind levels\ntail 1\nlevel b 1\n",
+        b"line 12: unknown name",
+    ),
+    (
+        b"certificate\nbound 1\nkind block\nhead a 1000000000001\n",
+        b"line 11: limit of head",
+    ),
+    (
+        b"certificate\nbound 1\nkind prices\nrow a 1000000000000001\n",
+        b"line 11: limit of price",
+    ),
+    (
+        b"certificate\nbound 1\nkind prices\nrow a 0\nrow b 0\nrow c 0\ncolumn 1 1 0\n",
+        b"line 14: limit of price",
+    ),
+    (
+        b"certificate\nbound 1\nkind prices\nrow a 0\nrow b 0\nrow c 0\ncolumn 1 4 -1\n",
+        b"line 14: limit of place",
+    ),
+    (
+        b"certificate\nbound 1\nkind prices\nrow a 0\nrow b 0\nrow c 0\ncolumn 1 1 x\n",
+        b"line 14: number",
+    ),
+    (
+        b"certificate\nbound 1\nkind prices\nrow a 0\nrow b 0\nrow c 0\ncolumn 2 1 -1\ncolumn 1 3 -1\n",
+        b"line 15: name again",
+    ),
+];
+
+#[test]
+fn first_faults_of_certificates(rt: HostRuntime) -> Result<(), Fail> {
+    let Filed { instance, names } = read_instance(rt.alloc(), INSTANCE)?;
+    for (text, note) in CERTIFICATE_FAULTS {
+        assert!(rt; text.len() < 200);
+        let fault = read_certificate(rt.alloc(), &names, &instance, text, 8)
+            .err()
+            .ok_or("no fault")?;
+        assert_eq!(rt; fault.text().bytes(), note);
+    }
+    Ok(())
+}
+
+#[test]
+fn a_certified_cost(rt: HostRuntime) -> Result<(), Fail> {
+    let alloc = rt.alloc();
+    let Filed { instance, names } = read_instance(alloc, INSTANCE)?;
+    let cost = lowest(Frac { num: 18, den: 4 });
+    assert!(rt; cost.num == 9 && cost.den == 2 && names.len() == 3);
+    let certified = Certified {
+        class: instance.class,
+        solution: Solution {
+            schedule: Schedule {
+                unit: 1,
+                pieces: List::new(alloc),
+            },
+            cost,
+        },
+        certificate: Certificate {
+            bound: cost,
+            proof: Proof::Group {
+                jobs: List::from_vec(vec![in alloc; 0, 1, 2]?),
+            },
+        },
+    };
+    assert_eq!(rt;
+        certify_text(alloc, &names, &instance, &certified)?.as_slice(),
+        b"class P|pmtn|Cmax\ncost 9/2\ncertificate\nbound 9/2\nkind group\njob a\njob b\njob c\nend\n".as_slice()
+    );
+    assert_eq!(rt;
+        accept_text(alloc, &instance, &certified.certificate, true)?.as_slice(),
+        b"class P|pmtn|Cmax\nkind group\nbound 9/2\naccepted yes\nend\n".as_slice()
     );
     Ok(())
 }

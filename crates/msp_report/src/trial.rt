@@ -1,13 +1,12 @@
 // The report of `trial`.
 ghost use Rattle.std.specs.Prelude.{◌≡◌, ◌++◌, OnOk, IfOk};
-ghost use Rattle.msp_report.specs.TrialText.{made_lines, solved_lines, cost_line, trial_report};
+ghost use Rattle.msp_report.specs.TrialText.{made_lines, solved_lines, trial_report};
 
-use crate::lines::{put_class_line, put_fraction, put_number_line};
+use crate::lines::{put_class_line, put_cost_line, put_number_line};
 use crate::solve::put_solver;
 use msp_class::NoMemory;
 use msp_instance::Instance;
 use msp_route::Answer;
-use msp_schedule::Frac;
 use msp_text::put;
 use std::alloc::Global;
 
@@ -30,15 +29,6 @@ fn put_solved(out: &mut Vec<u8>, answer: &Answer) -> Result<(), NoMemory>
     put_number_line(out, b"rows ", answer.chain.rows.len() as u64)?;
     let pieces = answer.solution.schedule.pieces.len() as u64;
     put_number_line(out, b"pieces ", pieces)
-}
-
-#[tactic(auto, unfolding(crate::specs::TrialText::cost_line))]
-fn put_cost_line(out: &mut Vec<u8>, cost: Frac) -> Result<(), NoMemory>
-    ensures { OnOk result (out.new.items ≡ out.old.items ++ cost_line cost) }
-{
-    put(out, b"cost ")?;
-    put_fraction(out, cost)?;
-    put(out, b"\n")
 }
 
 /// The report of `trial`: how an instance that was made from a seed was solved, and its cost.

@@ -2,7 +2,7 @@
 use Rattle.std.proofs.Common.{◌≤◌, length, rules}
 use Rattle.std.proofs.lemmas.List.{take_rest}
 use Rattle.msp_file.proofs.CostReading.{no_denominator}
-use Rattle.msp_file.proofs.schedule.denominator_at.Goals as goal
+use Rattle.msp_file.proofs.cost.denominator_at.Goals as goal
 
 pub returns-then-not-is_empty : goal.returns-then-not-is_empty
 returns-then-not-is_empty c =
