@@ -17,20 +17,20 @@ certify_report names c = class_line c.class ++ cost_line c.solution.cost ++ prin
 
 -- the report of `accept`, by the kind of the proof, the bound, and whether the certificate is accepted
 unfoldable pub accept_lines : Instance → List ℕ → Frac → Bool → List ℕ
-accept_lines i word bound yes =
+accept_lines i word bound accepted =
     class_line i.class
     ++ codes "kind "
     ++ word
     ++ codes "\nbound "
     ++ fraction_text bound
     ++ codes "\naccepted "
-    ++ yes_or_no yes
+    ++ yes_or_no accepted
     ++ line_feed
     ++ end_line
 
 -- The text is the report of `accept`. The bound is in lowest terms.
-pub record IsAcceptText (i : Instance) (c : Certificate) (yes : Bool) (text : List ℕ) : Type 0 where
+pub record IsAcceptText (i : Instance) (c : Certificate) (accepted : Bool) (text : List ℕ) : Type 0 where
   pub bound : Frac
   pub same : IsSameFraction c.bound bound
   pub lowest : IsLowest bound
-  pub printed : text ≡ accept_lines i (kind_word (kind_of c.proof)) bound yes
+  pub printed : text ≡ accept_lines i (kind_word (kind_of c.proof)) bound accepted
