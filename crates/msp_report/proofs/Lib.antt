@@ -1,3 +1,4 @@
+mod CertifyLemmas
 pub mod RowsLemmas
 pub mod WhyLemmas
 pub mod Divided
