@@ -1,6 +1,5 @@
 -- The faults of certificate texts, and that their reading comes to an end.
-use Rattle.std.proofs.Common.{◌≡◌, ◌⊎◌, ℕ, ◌+◌, ◌*◌, ◌<◌, ◌==◌, nat_le, Bool, true, false, List, [], ◌∷◌, length, Option, Result, Ok, Err, ok_or, ℤ, pos, bytes_eq, codes, refl, ap, subst, sym, inl, inr}
-use Rattle.std.specs.Prelude.{int_lt}
+use Rattle.std.proofs.Common.{◌≡◌, ℕ, ◌+◌, ◌==◌, Bool, true, false, List, [], ◌∷◌, length, Result, Ok, Err, ℤ, bytes_eq, codes, refl, ap, subst, sym}
 use Rattle.msp_schedule.specs.declared.Frac.{Frac}
 use Rattle.msp_cert.specs.declared.Proof.{Proof}
 use Rattle.msp_cert.specs.declared.Certificate.{Certificate}
@@ -10,13 +9,13 @@ use Rattle.msp_file.specs.declared.fault.What.TheVariants as what
 use Rattle.msp_file.specs.declared.kinds.Kind.{Kind}
 use Rattle.msp_file.specs.declared.kinds.Kind.TheVariants as kind
 use Rattle.msp_file.specs.declared.kinds.TheConstants.{GREATEST_BOUND, GREATEST_LEVEL, GREATEST_HEAD, GREATEST_PRICE}
-use Rattle.msp_file.specs.CertificateReading.{kind_in, kind_at, machine_line_at, job_line_of, tail_at, named_field_at, named_line_at, numbers_at, level_at, head_at, price_at, job_in, job_added, jobs_step, segment_added, is_segment_word, segments_step, position_at, column_price_at, column_added, columns_step, filled, ReadsProof, IsCertifiedAs, ReadsEvidence, ReadsCertified, ReadsCertificate}
+use Rattle.msp_file.specs.CertificateReading.{kind_in, kind_at, machine_line_at, job_line_of, tail_at, named_field_at, named_line_at, numbers_at, level_at, head_at, price_at, job_in, job_added, jobs_step, segment_added, is_segment_word, segments_step, position_at, column_price_at, column_added, columns_step, ReadsProof, IsCertifiedAs, ReadsEvidence, ReadsCertified, ReadsCertificate}
 use Rattle.msp_file.specs.CertificateText.{segment_lines, column_lines}
 use Rattle.msp_file.specs.CertificateAnswers.{IsCertificateFault}
-use Rattle.msp_file.specs.Reading.{◌>>=◌, provided, Place, line_at, fields_of, first_of, others_of, worded_at, word_line_at, field_line_at, LineRead, ReadsMore, ReadsBy, Then, all_of}
+use Rattle.msp_file.specs.Reading.{◌>>=◌, provided, Place, line_at, fields_of, first_of, word_line_at, LineRead, ReadsMore, ReadsBy, Then, all_of}
 use Rattle.msp_file.specs.ScheduleReading.{cost_line_at}
 use Rattle.msp_file.proofs.LineLaws.{bind_ok}
-use Rattle.msp_file.proofs.LineFaults.{IsPlainFault, InBy, IsPlain, fine, bad, chain, given, or_fault, either, is_bad, line_plain, worded_plain, word_plain, field_plain, natural_plain, integer_plain, ordinal_plain, named_plain, known_plain, end_plain, cost_plain, more, then_in}
+use Rattle.msp_file.proofs.LineFaults.{IsPlainFault, InBy, IsPlain, fine, bad, chain, given, or_fault, either, line_plain, worded_plain, word_plain, field_plain, natural_plain, integer_plain, ordinal_plain, named_plain, known_plain, end_plain, cost_plain, more, then_in}
 use Rattle.msp_file.proofs.KindLaws.{kind_in_by, kind_shortens}
 use Rattle.msp_file.proofs.Endings.{Shortens, IsNoJob, line_shorter, more_ends, then_ends, by_ends, IsOfFraction, cost_is}
 

@@ -1,5 +1,5 @@
 -- Certificate texts: what is read is a text of its certificate, and a text of a certificate is read as it.
-use Rattle.std.proofs.Common.{◌≡◌, ◌≢◌, ℕ, ◌==◌, ◌<◌, ◌≤◌, ◌^◌, Bool, true, false, if◌then◌else◌, List, [], ◌∷◌, ◌++◌, length, Option, Some, None, ok_or, Result, Ok, Err, ℤ, All, bytes_eq, codes, refl, sym, ap, subst, ◌∙◌, append_assoc, append-nil, arith, eqb-true}
+use Rattle.std.proofs.Common.{◌≡◌, ℕ, ◌<◌, ◌≤◌, Bool, true, false, if◌then◌else◌, List, [], ◌∷◌, ◌++◌, length, Option, Some, None, ok_or, Result, Ok, Err, ℤ, All, bytes_eq, codes, refl, sym, ap, subst, ◌∙◌, append_assoc, append-nil, arith, eqb-true}
 use Rattle.std.proofs.lemmas.List.{nil_from_length}
 use Rattle.msp_job_name.specs.JobName.{IsJobName, AreDistinct}
 use Rattle.msp_job_name.proofs.NameLists.{same_bytes}
@@ -18,16 +18,16 @@ use Rattle.msp_file.specs.CertificateText.{kind_of, kind_word, kind_lines, lines
 use Rattle.msp_file.specs.CertificateReading.{kind_in, kind_at, ReadsProof, IsCertifiedAs, ReadsEvidence, ReadsCertified, ReadsCertificate}
 use Rattle.msp_file.specs.CertificateAnswers.{IsCertificateFaultOf, IsCertificateFault}
 use Rattle.msp_file.specs.Answers.{Fails}
-use Rattle.msp_file.specs.Reading.{◌>>=◌, Place, word_line_at, field_line_at, Then, all_of}
+use Rattle.msp_file.specs.Reading.{Place, word_line_at, field_line_at, all_of}
 use Rattle.msp_file.specs.ScheduleReading.{cost_line_at}
 use Rattle.msp_file.specs.Steps.{FailsBy, parts_of}
 use Rattle.msp_file.proofs.LineLaws.{bind_ok, provided_ok, reads, ok_is, bind_again, Takes, Gets, Takes-then, IsField, word_line_takes, word_line_again, field_line_takes, field_line_again}
 use Rattle.msp_file.proofs.FieldLaws.{ok_some}
 use Rattle.msp_file.proofs.ArcLaws.{end_text, GetsBy}
 use Rattle.msp_file.proofs.TextLaws.{then_ok, then_again, spread}
-use Rattle.msp_file.proofs.CostLaws.{IsCostWithin, SaysCost, with_place, cost_line_takes, cost_line_again, pair}
+use Rattle.msp_file.proofs.CostLaws.{IsCostWithin, with_place, cost_line_takes, cost_line_again, pair}
 use Rattle.msp_file.proofs.CertificatePrinting.{printed}
-use Rattle.msp_file.proofs.KindTexts.{SaysProof, proof_says, proof_again}
+use Rattle.msp_file.proofs.KindTexts.{proof_says, proof_again}
 use Rattle.msp_file.proofs.CertificateFaults.{certificate_faults}
 use Rattle.msp_file.proofs.CertificateReadings.{certificate_same}
 

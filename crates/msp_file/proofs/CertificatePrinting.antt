@@ -1,9 +1,9 @@
 -- Printed lines of certificates.
-use Rattle.std.proofs.Common.{◌≡◌, ℕ, suc, ◌+◌, ◌<◌, List, [], ◌∷◌, ◌++◌, not, length, drop, get_or, ℤ, pos, refl, sym, ap, ◌∙◌, append_assoc, add-one, drop-cons, arith, codes, decimal}
+use Rattle.std.proofs.Common.{◌≡◌, ℕ, suc, ◌+◌, ◌<◌, List, [], ◌∷◌, ◌++◌, not, length, drop, get_or, ℤ, pos, refl, sym, ap, ◌∙◌, append_assoc, add-one, drop-cons}
 use Rattle.std.specs.Ordering.{int_eq}
 use Rattle.std.proofs.lemmas.List.Concat.{flat_map-append}
 use Rattle.msp_cert.specs.declared.Certificate.{Certificate}
-use Rattle.msp_grammar.specs.ScheduleText.{space, fraction_text}
+use Rattle.msp_grammar.specs.ScheduleText.{fraction_text}
 use Rattle.msp_grammar.specs.InstanceText.{where_wanted, line_text}
 use Rattle.msp_grammar.proofs.PrintLemmas.{fraction_spelled}
 use Rattle.msp_file.specs.CertificateText.{numbered_lines, column_line, column_lines, lines_text, printed_certificate, IsStatedCertificate, IsCertificateText}

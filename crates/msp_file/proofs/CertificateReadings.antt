@@ -1,5 +1,5 @@
 -- Each certificate text is read in one way.
-use Rattle.std.proofs.Common.{◌≡◌, ℕ, List, [], length, Result, Ok, Err, ℤ, refl, sym, ap, subst, ◌∙◌, codes}
+use Rattle.std.proofs.Common.{◌≡◌, ℕ, List, [], length, Result, Ok, Err, ℤ, sym, ap, subst, ◌∙◌, codes}
 use Rattle.msp_schedule.specs.declared.Frac.{Frac}
 use Rattle.msp_cert.specs.declared.Proof.{Proof}
 use Rattle.msp_cert.specs.declared.Certificate.{Certificate}
@@ -8,7 +8,7 @@ use Rattle.msp_file.specs.declared.kinds.Kind.{Kind}
 use Rattle.msp_file.specs.declared.kinds.Kind.TheVariants as kind
 use Rattle.msp_file.specs.declared.kinds.TheConstants.{GREATEST_BOUND}
 use Rattle.msp_file.specs.CertificateReading.{machine_line_at, job_line_of, tail_at, numbers_at, level_at, head_at, price_at, jobs_step, segments_step, columns_step, kind_at, ReadsProof, IsCertifiedAs, ReadsEvidence, ReadsCertified, ReadsCertificate}
-use Rattle.msp_file.specs.Reading.{◌>>=◌, Place, word_line_at, LineRead, ReadsMore, ReadsBy, Then, all_of}
+use Rattle.msp_file.specs.Reading.{Place, word_line_at, LineRead, ReadsMore, ReadsBy, all_of}
 use Rattle.msp_file.specs.ScheduleReading.{cost_line_at}
 use Rattle.msp_file.proofs.Readings.{more_same, then_same, by_same, fraction_is}
 

@@ -1,5 +1,5 @@
 -- The prices of positions: their lines, and the prices that lines say.
-use Rattle.std.proofs.Common.{◌≡◌, ℕ, zero, suc, ◌+◌, ◌-◌, ◌*◌, ◌/◌, ◌%◌, ◌^◌, ◌<◌, ◌≤◌, Bool, true, false, not, ◌==◌, nat_le, nat_lt, List, [], ◌∷◌, ◌++◌, length, replicate, Result, Ok, Err, ℤ, pos, negsuc, unsigned_abs, All, bytes_eq, codes, refl, sym, ap, subst, ◌∙◌, append_assoc, append-nil, length-append, add-one, arith, eqb-true, ltb-true, leb-true, le-leb, decimal}
+use Rattle.std.proofs.Common.{◌≡◌, ℕ, zero, suc, ◌+◌, ◌-◌, ◌*◌, ◌/◌, ◌%◌, ◌^◌, ◌<◌, ◌≤◌, true, not, ◌==◌, nat_le, List, [], ◌∷◌, ◌++◌, length, replicate, Ok, ℤ, pos, negsuc, All, bytes_eq, codes, refl, sym, ap, subst, ◌∙◌, append_assoc, append-nil, length-append, add-one, arith, eqb-true, ltb-true, leb-true, le-leb, decimal}
 use Rattle.std.specs.Int.Signed.{◌≤ℤ◌}
 use Rattle.std.specs.Prelude.{int_lt}
 use Rattle.std.specs.Ordering.{int_eq}
@@ -7,22 +7,20 @@ use Rattle.std.specs.List.{AllByRecursion}
 use Rattle.std.specs.Fmt.{signed_decimal}
 use Rattle.std.proofs.lemmas.Int.{ints}
 use Rattle.std.proofs.lemmas.List.{length-replicate}
-use Rattle.std.proofs.lemmas.List.Elements.{All-nil, All-head, All-tail, All-push, All-append, All-replicate}
+use Rattle.std.proofs.lemmas.List.Elements.{All-head, All-tail, All-push, All-append, All-replicate}
 use Rattle.std.proofs.Math.Nat.{mul-add-div_right, div-eq_of_lt, mul-add-mod_self_right, mod-eq_of_lt, mod-lt, div-lt_iff_lt-mul, div-add-mod, mul-le-mul_right, mul_comm}
-use Rattle.msp_instance.specs.Conditions.{LiesWithin}
-use Rattle.msp_file.specs.declared.fault.FileFault.{FileFault}
 use Rattle.msp_file.specs.declared.fault.FileFault.TheVariants.{Count, Limit, Again}
 use Rattle.msp_file.specs.declared.fault.What.TheVariants as what
 use Rattle.msp_file.specs.declared.kinds.TheConstants.{GREATEST_PRICE, MOST_LINES}
 use Rattle.msp_grammar.specs.InstanceText.{where_wanted}
 use Rattle.msp_file.specs.CertificateText.{column_line, column_lines, IsColumnPrice, lines_text}
 use Rattle.msp_file.specs.CertificateReading.{filled, position_at, column_price_at, price_at, column_added, columns_by, columns_step}
-use Rattle.msp_file.specs.Reading.{◌>>=◌, provided, Place, line_at, fields_of, first_of, others_of, machine_at, ordinal_at, LineRead, job_read, more_read, end_read, ReadsMore}
+use Rattle.msp_file.specs.Reading.{◌>>=◌, Place, line_at, fields_of, first_of, others_of, machine_at, ordinal_at, LineRead, more_read, ReadsMore}
 use Rattle.msp_file.proofs.LineLaws.{bind_ok, provided_ok, reads, ok_is, bind_again, provided_again, IsField, fields_takes}
-use Rattle.msp_file.proofs.FieldLaws.{wide_field, within_size, size_within, signed_takes, signed_again, signed_field}
+use Rattle.msp_file.proofs.FieldLaws.{wide_field, signed_takes, signed_again, signed_field}
 use Rattle.msp_file.proofs.NeedLaws.{ordinal_takes, ordinal_again}
 use Rattle.msp_file.proofs.ArcLaws.{end_text, GetsBy}
-use Rattle.msp_file.proofs.KindLaws.{Adds, TakesOne, OneMore, kind_takes, kind_more, may_again, end_on, line_on}
+use Rattle.msp_file.proofs.KindLaws.{Adds, TakesOne, kind_takes, kind_more, may_again, end_on, line_on}
 use Rattle.msp_job_name.proofs.NameLists.{same_bytes}
 
 -- ---- so many prices
@@ -316,8 +314,8 @@ module _ (n machines : ℕ) (narrow : n < 10 ^ 64) (small : machines < 10 ^ 64) 
         prices = g.prices;
         filled_up = g.filled_up ∙ all;
         gets = λ at. line_on (columns_step n machines before) (columns_by n machines before) (columns_is before) xs after g.prices (codes "column") (others_of (column_line n k x)) (column_lines n (suc k) more) at rest (column_fields k x inside price (m, refl))
-        (λ q. may_again (before + length (column_lines n 0 xs)) (bytes_eq (codes "column") (codes "column")) (column_added n machines) xs after at (column_line n k x) q refl (omega (arith, room)) (column_again at k xs x inside later price (m, refl)))
-        (λ next. subst (λ (ls : List (List (List ℕ))). GetsBy (ReadsMore (columns_step n machines before) after (record { at = next; rest = (lines_text ls ++ end_text) ++ rest })) g.prices rest) (sym some) (g.gets next));
+            (λ q. may_again (before + length (column_lines n 0 xs)) (bytes_eq (codes "column") (codes "column")) (column_added n machines) xs after at (column_line n k x) q refl (omega (arith, room)) (column_again at k xs x inside later price (m, refl)))
+            (λ next. subst (λ (ls : List (List (List ℕ))). GetsBy (ReadsMore (columns_step n machines before) after (record { at = next; rest = (lines_text ls ++ end_text) ++ rest })) g.prices rest) (sym some) (g.gets next));
       }
 
   pub columns_again : (before : ℕ) (column : List ℤ) (at : ℕ) (rest : List ℕ) → length column ≡ machines * n → All IsColumnPrice column → before + length (column_lines n 0 column) ≤ MOST_LINES

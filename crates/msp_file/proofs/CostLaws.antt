@@ -1,6 +1,6 @@
 -- The costs of schedules and the bounds of certificates: a cost that is read is the fraction that was written, and what was written is read
 -- again.
-use Rattle.std.proofs.Common.{◌≡◌, ℕ, suc, ◌+◌, ◌<◌, ◌≤◌, ◌^◌, true, false, ◌==◌, nat_le, List, [], ◌∷◌, ◌++◌, Ok, ℤ, pos, negsuc, unsigned_abs, refl, sym, ap, subst, ◌∙◌, append_assoc, arith, decimal}
+use Rattle.std.proofs.Common.{◌≡◌, ℕ, suc, ◌<◌, ◌≤◌, ◌^◌, false, ◌==◌, nat_le, List, [], ◌∷◌, ◌++◌, Ok, ℤ, pos, negsuc, unsigned_abs, refl, sym, ap, subst, ◌∙◌, append_assoc, arith, decimal}
 use Rattle.std.specs.Int.Signed.{◌≤ℤ◌}
 use Rattle.std.specs.Char.{is_ascii_digit}
 use Rattle.std.specs.Fmt.{signed_decimal}
@@ -19,7 +19,7 @@ use Rattle.msp_grammar.specs.ScheduleText.{IsFractionText, alone, over}
 use Rattle.msp_grammar.specs.InstanceText.{line_text}
 use Rattle.msp_file.specs.declared.fault.FileFault.TheVariants.{Number, Limit}
 use Rattle.msp_file.specs.declared.fault.What.TheVariants as what
-use Rattle.msp_file.specs.Reading.{◌>>=◌, Place, first_of, others_of, field_line_at, natural_in}
+use Rattle.msp_file.specs.Reading.{Place, first_of, others_of, field_line_at, natural_in}
 use Rattle.msp_file.specs.ScheduleReading.{number_at, denominator_at, cost_of, cost_in, cost_line_at}
 use Rattle.msp_file.specs.Steps.{parts_of}
 use Rattle.msp_file.proofs.LineLaws.{bind_ok, provided_ok, reads, ok_is, bind_again, provided_again, Takes, Gets, IsField, begun, field_line_takes, field_line_again}

@@ -1,20 +1,19 @@
 -- The lines of jobs and of lists of jobs: what is read is what was written, and what was written is read again.
-use Rattle.std.proofs.Common.{◌≡◌, ℕ, suc, ◌+◌, ◌<◌, ◌≤◌, Bool, true, false, not, ◌&&◌, ◌||◌, ◌==◌, if◌then◌else◌, List, [], ◌∷◌, ◌++◌, length, Result, Ok, Err, Option, Some, None, All, bytes_eq, codes, refl, sym, ap, subst, ◌∙◌, append_assoc, append-nil, length-append, arith, inl, inr}
+use Rattle.std.proofs.Common.{◌≡◌, ℕ, suc, ◌+◌, ◌<◌, ◌≤◌, Bool, true, false, not, ◌&&◌, ◌||◌, ◌==◌, if◌then◌else◌, List, [], ◌∷◌, ◌++◌, length, Ok, Some, All, bytes_eq, codes, refl, sym, ap, subst, ◌∙◌, append_assoc, append-nil, length-append, arith}
 use Rattle.std.specs.List.{AllByRecursion}
 use Rattle.std.proofs.lemmas.Bool.{and_parts}
-use Rattle.std.proofs.lemmas.List.{nil_from_length, length-map}
+use Rattle.std.proofs.lemmas.List.{nil_from_length}
 use Rattle.std.proofs.lemmas.Bool.{eqb-true}
 use Rattle.std.proofs.lemmas.List.Elements.{All-nil, All-head, All-tail, All-push, All-pop}
 use Rattle.msp_job_name.specs.JobName.{IsJobName, AreDistinct}
 use Rattle.msp_job_name.proofs.NameLists.{same_bytes}
 use Rattle.msp_grammar.specs.ScheduleText.{name_at}
-use Rattle.msp_file.specs.declared.fault.FileFault.{FileFault}
 use Rattle.msp_file.specs.declared.fault.FileFault.TheVariants.{Count}
 use Rattle.msp_file.specs.declared.kinds.TheConstants.{MOST_LINES}
 use Rattle.msp_file.specs.CertificateText.{job_line, job_lines, segment_lines, lines_text, AreJobs}
 use Rattle.msp_file.specs.CertificateReading.{job_in, job_added, jobs_by, jobs_step, with_job, segment_added, is_segment_word, segments_by, segments_step}
-use Rattle.msp_file.specs.Reading.{◌>>=◌, provided, Place, line_at, fields_of, first_of, others_of, known_at, LineRead, more_read, end_read, ReadsMore}
-use Rattle.msp_file.proofs.LineLaws.{bind_ok, provided_ok, reads, ok_is, bind_again, IsField, fields_takes, one_field}
+use Rattle.msp_file.specs.Reading.{◌>>=◌, provided, Place, line_at, fields_of, first_of, others_of, known_at, LineRead, end_read, ReadsMore}
+use Rattle.msp_file.proofs.LineLaws.{bind_ok, provided_ok, ok_is, bind_again, IsField, fields_takes, one_field}
 use Rattle.msp_file.proofs.FieldLaws.{known_takes, known_again, name_field}
 use Rattle.msp_file.proofs.ArcLaws.{end_text, GetsBy}
 use Rattle.msp_file.proofs.KindLaws.{Adds, TakesOne, kind_takes, may_again, end_on, line_on}

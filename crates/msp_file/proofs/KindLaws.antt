@@ -1,5 +1,5 @@
 -- The lines of a kind up to the last one: what each of them adds, and how they are read again.
-use Rattle.std.proofs.Common.{◌≡◌, ℕ, ◌+◌, ◌<◌, ◌≤◌, Bool, true, false, nat_lt, if◌then◌else◌, List, [], ◌∷◌, ◌++◌, length, Result, Ok, Err, bytes_eq, codes, refl, sym, ap, subst, ◌∙◌, append_assoc, append-nil, length-append, arith, ltb-true, lt-ltb}
+use Rattle.std.proofs.Common.{◌≡◌, ℕ, ◌<◌, Bool, true, false, nat_lt, List, [], ◌∷◌, ◌++◌, length, Result, Ok, bytes_eq, codes, refl, sym, ap, subst, ◌∙◌, append_assoc, append-nil, ltb-true, lt-ltb}
 use Rattle.std.specs.List.{AllByRecursion}
 use Rattle.msp_grammar.specs.InstanceText.{line_text}
 use Rattle.msp_file.specs.declared.fault.FileFault.{FileFault}
@@ -9,9 +9,9 @@ use Rattle.msp_file.specs.declared.kinds.TheConstants.{MOST_LINES}
 use Rattle.msp_file.specs.CertificateText.{lines_text}
 use Rattle.msp_file.specs.CertificateReading.{kind_step}
 use Rattle.msp_file.specs.Reading.{◌>>=◌, provided, Place, line_at, fields_of, first_of, others_of, LineRead, job_read, more_read, end_read, end_at, ReadsMore, more_then, more_end, more_fault}
-use Rattle.msp_file.proofs.LineLaws.{bind_ok, provided_ok, ok_is, Takes, Takes-then, IsField, fields_takes}
+use Rattle.msp_file.proofs.LineLaws.{bind_ok, provided_ok, ok_is, Takes, Takes-then, IsField}
 use Rattle.msp_file.proofs.ArcLaws.{line_then, end_text, end_field, end_takes, last_is, no_answer, GetsBy}
-use Rattle.msp_file.proofs.LineFaults.{InBy, fine, chain, given, either, end_plain}
+use Rattle.msp_file.proofs.LineFaults.{InBy, fine, chain, given, either}
 use Rattle.msp_file.proofs.Endings.{Shortens, IsNoJob}
 
 -- ---- what is read is what was written

@@ -1,5 +1,5 @@
 -- The lines after the kind: what is read is the text of the proof, and the text of a proof is read as it.
-use Rattle.std.proofs.Common.{◌≡◌, ℕ, suc, ◌+◌, ◌*◌, ◌<◌, ◌≤◌, ◌^◌, List, [], ◌∷◌, ◌++◌, length, Result, Ok, Err, ℤ, All, codes, refl, sym, ap, subst, ◌∙◌, append_assoc, append-nil, length-append, arith, decimal}
+use Rattle.std.proofs.Common.{◌≡◌, ℕ, suc, ◌+◌, ◌*◌, ◌<◌, ◌≤◌, ◌^◌, List, [], ◌∷◌, ◌++◌, length, Result, Ok, ℤ, All, codes, refl, sym, ap, subst, ◌∙◌, append_assoc, append-nil, length-append, arith, decimal}
 use Rattle.std.specs.Fmt.{signed_decimal}
 use Rattle.std.proofs.lemmas.List.{length-map}
 use Rattle.std.proofs.lemmas.List.Elements.{All-nil}
@@ -16,8 +16,8 @@ use Rattle.msp_file.specs.declared.kinds.Kind.TheVariants as kind
 use Rattle.msp_file.specs.declared.kinds.TheConstants.{GREATEST_LEVEL, GREATEST_HEAD, GREATEST_PRICE, MOST_LINES}
 use Rattle.msp_file.specs.CertificateText.{kind_of, job_lines, numbered_lines, segment_lines, column_lines, kind_lines, lines_text, IsStatedProof}
 use Rattle.msp_file.specs.CertificateReading.{machine_line_at, job_line_of, tail_at, numbers_at, level_at, head_at, price_at, jobs_step, segments_step, columns_step, filled, ReadsProof}
-use Rattle.msp_file.specs.Reading.{◌>>=◌, Place, word_line_at, field_line_at, natural_at, known_at, machine_at, ReadsMore, ReadsBy, Then}
-use Rattle.msp_file.proofs.LineLaws.{bind_ok, reads, ok_is, bind_again, Takes, Gets, Takes-then, IsField, word_line_takes, word_line_again, field_line_takes, field_line_again}
+use Rattle.msp_file.specs.Reading.{Place, word_line_at, field_line_at, natural_at, known_at, machine_at, ReadsMore, Then}
+use Rattle.msp_file.proofs.LineLaws.{bind_ok, ok_is, bind_again, Takes, Gets, Takes-then, word_line_takes, word_line_again, field_line_takes, field_line_again}
 use Rattle.msp_file.proofs.FieldLaws.{wide_takes, wide_again, wide_field, known_takes, known_again, name_field, signed_takes, signed_again, signed_field}
 use Rattle.msp_file.proofs.NeedLaws.{ordinal_takes, ordinal_again}
 use Rattle.msp_file.proofs.ArcLaws.{end_text, GetsBy}

@@ -12,7 +12,7 @@ use Rattle.msp_instance.specs.declared.ranges.TheConstants.{GREATEST, GREATEST_S
 use Rattle.msp_class.specs.declared.environments.TheConstants.{MOST_OPERATIONS}
 use Rattle.msp_schedule.specs.declared.limits.TheConstants.{MOST_PIECES}
 use Rattle.msp_schedule.specs.declared.Piece.{Piece}
-use Rattle.msp_grammar.specs.declared.limits.TheConstants.{GREATEST_COST, GREATEST_DENOMINATOR}
+use Rattle.msp_grammar.specs.declared.limits.TheConstants.{GREATEST_DENOMINATOR}
 use Rattle.msp_file.specs.declared.schedule.Stated.{Stated}
 use Rattle.msp_file.specs.ScheduleReading.{title_at, denominator_at, cost_in, cost_line_at, cost_at, unit_at, moment_at, span_at, place_at, piece_at, piece_line_at, piece_step, IsStatedAs, ReadsPieces, ReadsStated, ReadsSchedule}
 use Rattle.msp_file.specs.ScheduleAnswers.{IsScheduleFault}

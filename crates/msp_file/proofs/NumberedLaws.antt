@@ -1,6 +1,5 @@
 -- The lines that each job has: what is read is what was written, and what was written is read again.
-use Rattle.std.proofs.Common.{◌≡◌, ℕ, suc, ◌+◌, ◌<◌, ◌≤◌, true, nat_lt, ◌==◌, List, [], ◌∷◌, ◌++◌, length, Result, Ok, Err, All, bytes_eq, refl, sym, ap, subst, ◌∙◌, append_assoc, append-nil, length-append, arith, eqb-true, ltb-true, lt-ltb}
-use Rattle.std.specs.List.{AllByRecursion}
+use Rattle.std.proofs.Common.{◌≡◌, ℕ, suc, ◌+◌, ◌<◌, ◌≤◌, nat_lt, ◌==◌, List, [], ◌∷◌, ◌++◌, length, Result, Ok, All, bytes_eq, refl, sym, ap, subst, ◌∙◌, append_assoc, append-nil, length-append, arith, ltb-true, lt-ltb}
 use Rattle.std.proofs.lemmas.Slice.Eq.{bytes_eq-Decides}
 use Rattle.std.proofs.lemmas.List.Elements.{All-head, All-tail, All-push}
 use Rattle.msp_job_name.specs.JobName.{IsJobName}
@@ -12,8 +11,8 @@ use Rattle.msp_file.specs.declared.fault.What.TheVariants as what
 use Rattle.msp_file.specs.declared.kinds.TheConstants.{MOST_LINES}
 use Rattle.msp_file.specs.CertificateText.{numbered_lines, lines_text}
 use Rattle.msp_file.specs.CertificateReading.{named_field_at, named_line_at, numbers_at}
-use Rattle.msp_file.specs.Reading.{◌>>=◌, provided, Place, first_of, others_of, worded_at, job_name_at}
-use Rattle.msp_file.proofs.LineLaws.{bind_ok, provided_ok, reads, ok_is, bind_again, provided_again, Takes, Gets, Takes-then, IsField, worded_takes, worded_again}
+use Rattle.msp_file.specs.Reading.{Place, first_of, others_of, worded_at, job_name_at}
+use Rattle.msp_file.proofs.LineLaws.{bind_ok, provided_ok, ok_is, bind_again, Takes, Gets, Takes-then, IsField, worded_takes, worded_again}
 use Rattle.msp_file.proofs.FieldLaws.{name_takes, name_again, name_field}
 use Rattle.msp_file.proofs.ArcLaws.{two_fields}
 

@@ -1,16 +1,11 @@
 -- Schedule texts: what is read is a text of its schedule, and a text of a schedule is read as it.
-use Rattle.std.proofs.Common.{◌≡◌, ℕ, suc, ◌+◌, ◌<◌, ◌≤◌, ◌^◌, Bool, true, false, ◌==◌, nat_le, nat_lt, if◌then◌else◌, List, [], ◌∷◌, ◌++◌, length, Result, Ok, Err, ℤ, pos, negsuc, unsigned_abs, All, bytes_eq, refl, sym, ap, subst, ◌∙◌, append_assoc, append-nil, length-append, arith, eqb-true, codes, decimal}
-use Rattle.std.specs.Int.Signed.{◌≤ℤ◌}
-use Rattle.std.specs.Char.{is_ascii_digit}
+use Rattle.std.proofs.Common.{◌≡◌, ℕ, ◌+◌, ◌<◌, ◌≤◌, Bool, true, false, ◌==◌, nat_lt, if◌then◌else◌, List, [], ◌∷◌, ◌++◌, length, Result, Ok, Err, ℤ, pos, negsuc, unsigned_abs, All, bytes_eq, refl, sym, ap, subst, ◌∙◌, append_assoc, append-nil, length-append, arith, eqb-true, codes, decimal}
 use Rattle.std.specs.Fmt.{signed_decimal}
-use Rattle.std.specs.List.{AllByRecursion, slice_split, join_with_byte}
-use Rattle.std.proofs.lemmas.Bool.{leb-true, le-leb, ltb-true, lt-ltb}
+use Rattle.std.specs.List.{AllByRecursion}
+use Rattle.std.proofs.lemmas.Bool.{ltb-true, lt-ltb}
 use Rattle.std.proofs.lemmas.Int.{ints}
 use Rattle.std.proofs.lemmas.List.{nil_from_length, get_or_at}
 use Rattle.std.proofs.lemmas.List.Elements.{All-nil, All-push}
-use Rattle.std.proofs.lemmas.List.Folds.{list_any-append}
-use Rattle.std.proofs.lemmas.List.Splits.{join_with_byte-slice_split, length-slice_split}
-use Rattle.msp_name.proofs.Marks.{Lacks, parts-whole, parts-first}
 use Rattle.msp_class.specs.declared.environments.TheConstants.{MOST_OPERATIONS}
 use Rattle.msp_instance.specs.declared.ranges.TheConstants.{MOST_MACHINES, GREATEST}
 use Rattle.msp_schedule.specs.declared.limits.TheConstants.{MOST_PIECES, GREATEST_UNIT, GREATEST_MOMENT}
@@ -18,19 +13,17 @@ use Rattle.msp_schedule.specs.declared.Piece.{Piece}
 use Rattle.msp_schedule.specs.declared.Frac.{Frac}
 use Rattle.msp_schedule.specs.declared.Schedule.{Schedule}
 use Rattle.msp_schedule.specs.Within.{IsMoment, IsUnit}
-use Rattle.msp_text.specs.Numbers.{number_of}
-use Rattle.msp_text.proofs.NumberTexts.{number_spells, number_again}
 use Rattle.msp_job_name.specs.JobName.{IsJobName, AreDistinct}
 use Rattle.msp_job_name.proofs.NameLists.{same_bytes}
-use Rattle.msp_grammar.specs.declared.limits.TheConstants.{GREATEST_COST, GREATEST_DENOMINATOR}
-use Rattle.msp_grammar.specs.ScheduleText.{line_feed, name_at, IsFractionText, alone, over, piece_line, piece_lines, cost_line, unit_line, stated_text, schedule_text, IsStatedCost, IsStatedPiece, IsStated, IsScheduleText}
+use Rattle.msp_grammar.specs.declared.limits.TheConstants.{GREATEST_COST}
+use Rattle.msp_grammar.specs.ScheduleText.{line_feed, name_at, IsFractionText, piece_line, piece_lines, cost_line, unit_line, stated_text, schedule_text, IsStatedCost, IsStatedPiece, IsStated, IsScheduleText}
 use Rattle.msp_grammar.specs.InstanceText.{line_text}
 use Rattle.msp_file.specs.Answers.{Fails}
 use Rattle.msp_file.specs.declared.fault.FileFault.{FileFault}
-use Rattle.msp_file.specs.declared.fault.FileFault.TheVariants.{Count, Number, Limit, Memory}
+use Rattle.msp_file.specs.declared.fault.FileFault.TheVariants.{Count, Limit, Memory}
 use Rattle.msp_file.specs.declared.fault.What.TheVariants as what
 use Rattle.msp_file.specs.declared.schedule.Stated.{Stated}
-use Rattle.msp_file.specs.Reading.{◌>>=◌, Place, line_at, fields_of, first_of, others_of, worded_at, natural_in, natural_at, ordinal_at, known_at, number_line_at, LineRead, job_read, more_read, end_read, end_at, ReadsMore, more_then, more_end, more_fault, all_of}
+use Rattle.msp_file.specs.Reading.{◌>>=◌, Place, line_at, fields_of, first_of, others_of, natural_at, ordinal_at, known_at, number_line_at, LineRead, job_read, more_read, end_read, end_at, ReadsMore, more_then, more_end, more_fault, all_of}
 use Rattle.msp_file.specs.ScheduleReading.{title_at, cost_at, unit_at, moment_at, span_at, place_at, piece_at, piece_line_at, piece_step, IsStatedAs, ReadsPieces, ReadsStated, ReadsSchedule}
 use Rattle.msp_grammar.proofs.PrintLemmas.{printed}
 use Rattle.msp_file.specs.ScheduleAnswers.{IsScheduleFaultOf, IsScheduleFault}
@@ -39,7 +32,7 @@ use Rattle.msp_file.proofs.LineFaults.{schedule_faults}
 use Rattle.msp_file.proofs.Readings.{schedule_same}
 use Rattle.msp_file.proofs.LineLaws.{bind_ok, provided_ok, reads, ok_is, bind_again, provided_again, Takes, Gets, Takes-then, IsField, fields_takes, word_line_takes, word_line_again}
 use Rattle.msp_file.proofs.CostLaws.{plain_word, pair, IsCostWithin, with_place, cost_line_takes, cost_line_again}
-use Rattle.msp_file.proofs.FieldLaws.{ok_some, natural_in_takes, wide_takes, wide_again, digits_lack, wide_field, within_size, size_within, known_takes, known_again, name_field}
+use Rattle.msp_file.proofs.FieldLaws.{wide_takes, wide_again, wide_field, known_takes, known_again, name_field}
 use Rattle.msp_file.proofs.HeadLaws.{number_line_takes, number_line_again}
 use Rattle.msp_file.proofs.NeedLaws.{ordinal_takes, ordinal_again}
 use Rattle.msp_file.proofs.ArcLaws.{line_then, end_text, end_field, end_takes, last_is, no_answer, GetsBy}

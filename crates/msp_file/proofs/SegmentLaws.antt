@@ -1,5 +1,5 @@
 -- Lists of jobs: a list that begins, and a job that comes to the last one.
-use Rattle.std.proofs.Common.{◌≡◌, ℕ, suc, ◌+◌, ◌<◌, List, [], ◌∷◌, ◌++◌, length, Result, Ok, Err, refl, sym, ap, ◌∙◌, append_assoc, append-nil, length-append, map, arith, codes}
+use Rattle.std.proofs.Common.{◌≡◌, ℕ, ◌+◌, List, [], ◌∷◌, ◌++◌, length, Ok, refl, sym, ap, ◌∙◌, append_assoc, append-nil, length-append, codes}
 use Rattle.std.proofs.lemmas.List.Concat.{flat_map-append}
 use Rattle.msp_file.specs.declared.fault.FileFault.{FileFault}
 use Rattle.msp_file.specs.Answers.{Fails}

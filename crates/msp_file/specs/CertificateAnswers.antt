@@ -1,5 +1,5 @@
 -- What the reader of certificate texts answers.
-use Rattle.std.specs.Prelude.{◌≡◌, ◌≢◌, ℕ, ◌<◌, List, length, All, Result, Ok, Err}
+use Rattle.std.specs.Prelude.{◌≢◌, ℕ, ◌<◌, List, length, All, Ok, Err}
 use Rattle.msp_class.specs.declared.list.TheConstants.{PLACES}
 use Rattle.msp_name.specs.OneWay.{AreReadOneWay}
 use Rattle.msp_job_name.specs.JobName.{IsJobName, AreDistinct}

@@ -31,12 +31,7 @@ fn put_two(out: &mut Vec<u8>, word: &[u8], field: &[u8]) -> Result<(), NoMemory>
 
 /// Puts the line of a job's name and its number.
 #[tactic(auto, using(crate::proofs::CertificatePrinting::three_line))]
-fn put_three(
-    out: &mut Vec<u8>,
-    word: &[u8],
-    name: &[u8],
-    field: &[u8],
-) -> Result<(), NoMemory>
+fn put_three(out: &mut Vec<u8>, word: &[u8], name: &[u8], field: &[u8]) -> Result<(), NoMemory>
     ensures { OnOk result (out.new.items ≡ out.old.items ++ line_text (word.now ∷ name.now ∷ field.now ∷ [])) }
 {
     put(out, word)?;
@@ -126,12 +121,7 @@ fn put_heads(out: &mut Vec<u8>, names: &Names, heads: &[u64]) -> Result<(), NoMe
     Ok(())
 }
 
-fn put_price(
-    out: &mut Vec<u8>,
-    names: &Names,
-    at: usize,
-    price: &i128,
-) -> Result<(), NoMemory>
+fn put_price(out: &mut Vec<u8>, names: &Names, at: usize, price: &i128) -> Result<(), NoMemory>
     requires { at < length names.now }
     ensures { OnOk result (out.new.items ≡ out.old.items ++ line_text (codes "row" ∷ name_at names.now at ∷ signed_decimal price.now ∷ [])) }
 {
@@ -215,12 +205,7 @@ fn put_columns(out: &mut Vec<u8>, jobs: u64, column: &[i128]) -> Result<(), NoMe
     Ok(())
 }
 
-fn put_steps(
-    out: &mut Vec<u8>,
-    names: &Names,
-    levels: &[u32],
-    tail: u32,
-) -> Result<(), NoMemory>
+fn put_steps(out: &mut Vec<u8>, names: &Names, levels: &[u32], tail: u32) -> Result<(), NoMemory>
     requires { length levels.now ≡ length names.now }
     ensures { OnOk result (out.new.items ≡ out.old.items ++ lines_text ((codes "tail" ∷ decimal tail ∷ []) ∷ numbered_lines (codes "level") decimal names.now levels.now)) }
 {
@@ -229,12 +214,7 @@ fn put_steps(
 }
 
 #[tactic(auto, using(crate::proofs::CertificatePrinting::append_rules))]
-fn put_block(
-    out: &mut Vec<u8>,
-    names: &Names,
-    heads: &[u64],
-    jobs: &[u32],
-) -> Result<(), NoMemory>
+fn put_block(out: &mut Vec<u8>, names: &Names, heads: &[u64], jobs: &[u32]) -> Result<(), NoMemory>
     requires { length heads.now ≡ length names.now }
     ensures { OnOk result (out.new.items ≡ out.old.items ++ lines_text (numbered_lines (codes "head") decimal names.now heads.now ++ job_lines names.now jobs.now)) }
 {

@@ -128,10 +128,7 @@ pub(crate) fn word_line_at(lines: &mut Lines<'_>, word: &[u8]) -> Result<(), Fil
 
 /// The field of a line with one field behind its word.
 #[tactic(auto, unfolding(crate::specs::Reading::field_line_at))]
-pub(crate) fn field_line_at<'a>(
-    lines: &mut Lines<'a>,
-    word: &[u8],
-) -> Result<&'a [u8], FileFault>
+pub(crate) fn field_line_at<'a>(lines: &mut Lines<'a>, word: &[u8]) -> Result<&'a [u8], FileFault>
     ensures { Moves (λ field. field.now) result (place_of lines.new) (field_line_at word.now (place_of lines.old)) }
 {
     let at = lines.at;

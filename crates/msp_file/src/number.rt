@@ -68,12 +68,7 @@ pub(crate) fn with_sign(number: Spelled) -> i128
 
 /// The number of a field, of either sign, where its size is in range.
 #[tactic(auto, unfolding(crate::specs::Reading::integer_at))]
-pub(crate) fn signed_at(
-    at: u32,
-    what: What,
-    greatest: u64,
-    bytes: &[u8],
-) -> Result<i128, FileFault>
+pub(crate) fn signed_at(at: u32, what: What, greatest: u64, bytes: &[u8]) -> Result<i128, FileFault>
     ensures value { result ≡ integer_at at what greatest bytes.now }
     ensures range { IfOk result (λ x. LiesWithin greatest x) }
 {

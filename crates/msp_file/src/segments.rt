@@ -41,12 +41,7 @@ fn job_in(at: u32, names: &Names, fields: &[u8]) -> Result<u32, FileFault>
 
 /// The job in the line with these fields, put at the end of the jobs.
 #[tactic(auto, unfolding(crate::specs::CertificateReading::job_added))]
-fn job_added(
-    at: u32,
-    names: &Names,
-    jobs: &mut List<u32>,
-    fields: &[u8],
-) -> Result<(), FileFault>
+fn job_added(at: u32, names: &Names, jobs: &mut List<u32>, fields: &[u8]) -> Result<(), FileFault>
     requires { length names.now < PLACES }
     ensures { Gives (λ _. jobs.new) result (job_added names.now at jobs.old (fields_after fields.now)) }
 {
@@ -198,11 +193,7 @@ fn segments_step(
 }
 
 /// Reads the lines after the first list began, up to the last one.
-fn lists_at(
-    alloc: Global,
-    names: &Names,
-    lines: &mut Lines<'_>,
-) -> Result<Segments, FileFault>
+fn lists_at(alloc: Global, names: &Names, lines: &mut Lines<'_>) -> Result<Segments, FileFault>
     requires { length names.now < PLACES }
     ensures { MovesBy lists_of result (place_of lines.new) (ReadsMore (segments_step names.now) ([] ∷ []) (place_of lines.old)) }
 {

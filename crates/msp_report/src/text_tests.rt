@@ -331,14 +331,8 @@ const CERTIFICATE_FAULTS: [(&[u8], &[u8]); 19] = [
         b"certificate\nbound 1000000000000000000000001\n",
         b"line 9: limit of cost",
     ),
-    (
-        b"certificate\nbound 1\nkind x\n",
-        b"line 10: key",
-    ),
-    (
-        b"certificate\nbound 1\nkind\n",
-        b"line 10: count of fields",
-    ),
+    (b"certificate\nbound 1\nkind x\n", b"line 10: key"),
+    (b"certificate\nbound 1\nkind\n", b"line 10: count of fields"),
     (
         b"certificate\nbound 1\nkind group\njob d\n",
         b"line 11: unknown name",

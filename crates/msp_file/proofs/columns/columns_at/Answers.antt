@@ -1,5 +1,5 @@
 -- The goals of `columns_at` that are proved by lemmas.
-use Rattle.std.proofs.Common.{refl, sym, ap, ◌+◌, ◌∙◌, arith}
+use Rattle.std.proofs.Common.{refl, sym, ap, ◌+◌, ◌∙◌}
 use Rattle.msp_file.specs.Reading.{more_then, more_end}
 use Rattle.msp_file.specs.CertificateReading.{columns_step}
 use Rattle.msp_file.specs.Steps.{place_of}

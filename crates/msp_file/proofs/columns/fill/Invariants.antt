@@ -1,5 +1,5 @@
 -- What holds in the loop of `fill`.
-use Rattle.std.proofs.Common.{◌≡◌, ◌-◌, ◌≤◌, length}
+use Rattle.std.proofs.Common.{◌≡◌, ◌-◌, length}
 use Rattle.msp_file.specs.CertificateReading.{filled}
 use Rattle.msp_file.proofs.columns.fill.Given as goal
 

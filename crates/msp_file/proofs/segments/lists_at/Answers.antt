@@ -1,5 +1,5 @@
 -- The goals of `lists_at` that are proved by lemmas.
-use Rattle.std.proofs.Common.{refl, sym, arith}
+use Rattle.std.proofs.Common.{refl, sym}
 use Rattle.msp_file.specs.Reading.{more_then, more_end}
 use Rattle.msp_file.specs.CertificateReading.{segments_step}
 use Rattle.msp_file.specs.CertificateSteps.{lists_of}
