@@ -1,6 +1,6 @@
 -- The value of a proof is determined, so that one comparison decides whether the proof shows a bound.
 use Rattle.std.proofs.Common.{◌≡◌, ℕ, zero, suc, ◌+◌, ◌*◌, ◌-◌, ◌≤◌, Bool, false, List, [], ◌∷◌, length, sum_by, All, AllPairs, IsPermutation, ℤ, pos, ◌*ℤ◌, ◌≤ℤ◌, refl, sym, ap, subst, subst₂, ◌∙◌, arith}
-use Rattle.std.specs.Prelude.{take, sum, Any, IsTrue, ◌↔◌, slice_index_or}
+use Rattle.std.specs.Prelude.{take, sum, Any, Some, None, IsTrue, ◌↔◌, slice_index_or}
 use Rattle.std.proofs.lemmas.Bool.{false≢true}
 use Rattle.std.proofs.lemmas.List.Sums.{sum_by-cons}
 use Rattle.msp_class.proofs.Sums.{sum_by-IsPermutation}
@@ -16,6 +16,8 @@ use Rattle.msp_cert.specs.declared.Proof.{Proof}
 use Rattle.msp_cert.specs.declared.Proof.TheVariants.{Group, Machine, Line, Levels, Segments, Block, Prices}
 use Rattle.msp_cert.specs.Certificates.{speeds_of, IsSpeedOfFastest, IsGroup, AreSteps, of_job, HoldsFor, IsValue, IsShown}
 use Rattle.msp_cert.specs.Small.{time_there}
+use Rattle.msp_cert.specs.Search.{HasValue}
+use Rattle.msp_cert.specs.Worth.{IsWorth}
 use Rattle.msp_cert.proofs.Fastest.{some_threshold}
 
 -- the first numbers are at most what any threshold says
@@ -61,30 +63,47 @@ value_same i b (Segments lists) num m den d holds h g = (h.0 ∙ sym g.0, h.1 �
 value_same i b (Block head jobs) num m den d holds h g = (≤ℤ_antisym (block_at_most i head jobs num m h.0 g.0) (block_at_most i head jobs m num g.0 h.0), h.1 ∙ sym g.1)
 value_same i b (Prices row column) num m den d holds h g = (h.0 ∙ sym g.0, h.1 ∙ sym g.1)
 
--- one comparison with the value decides
-pub decides : (i : Instance) (b : Frac) (p : Proof) (num : ℤ) (den : ℕ) (x : Bool) → HoldsFor i p → IsValue i p num den → (IsTrue x ↔ ((b.num *ℤ pos den) ≤ℤ (num *ℤ b.den))) → (IsTrue x ↔ IsShown i b p)
-decides i b p num den x holds value h = (
-  λ yes. record { holds = holds; num = num; den = den; value = value; below = h.0 yes },
-  λ shown. let (e, f) = value_same i b p shown.num num shown.den den holds shown.value value in
-      h.1 (subst₂ (λ m d. (b.num *ℤ pos d) ≤ℤ (m *ℤ b.den)) e f shown.below),
-)
+-- one comparison with the value decides whether a bound is shown, or just the cost is
+module _ (i : Instance) (b v : Frac) (p : Proof) (x : Bool) (w : HoldsFor i p × ((den : ℕ) × (v.den ≡ pos den) × IsValue i p v.num den)) where
+  abbrev den : ℕ
+  den = w.1.0
 
-pub refused : (i : Instance) (b : Frac) (p : Proof) → ¬ HoldsFor i p → IsTrue false ↔ IsShown i b p
-refused i b p never = (λ yes. absurd (false≢true yes), λ shown. absurd (never shown.holds))
+  pub shows_some : (IsTrue x ↔ ((b.num *ℤ v.den) ≤ℤ (v.num *ℤ b.den))) → (IsTrue x ↔ IsShown i b p)
+  shows_some h = (
+    λ yes. record { holds = w.0; num = v.num; den = den; value = w.1.2; below = subst (λ d. (b.num *ℤ d) ≤ℤ (v.num *ℤ b.den)) w.1.1 (h.0 yes) },
+    λ shown. let (e, f) = value_same i b p shown.num v.num shown.den den w.0 shown.value w.1.2 in
+        h.1 (subst (λ d. (b.num *ℤ d) ≤ℤ (v.num *ℤ b.den)) (sym w.1.1) (subst₂ (λ m d. (b.num *ℤ pos d) ≤ℤ (m *ℤ b.den)) e f shown.below)),
+  )
 
-pub machine_decides : (i : Instance) (b : Frac) (machine load : ℕ) (jobs : List Job) (x : Bool) → HoldsFor i (Machine machine) → jobs ≡ i.jobs → load ≡ sum_by (λ j. sum_by (time_there machine) j.needs) jobs
-    → (IsTrue x ↔ ((b.num *ℤ pos 1) ≤ℤ (pos load *ℤ b.den))) → (IsTrue x ↔ IsShown i b (Machine machine))
-machine_decides i b machine load jobs x holds same e h =
-    decides i b (Machine machine) (pos load) 1 x holds (ap pos (e ∙ ap (λ l. sum_by (λ j. sum_by (time_there machine) j.needs) l) same), refl) h
+  pub equals_some : (IsTrue x ↔ ((b.num *ℤ v.den) ≡ (v.num *ℤ b.den))) → (IsTrue x ↔ HasValue i b p)
+  equals_some h = (
+    λ yes. record { holds = w.0; num = v.num; den = den; value = w.1.2; same = subst (λ d. (b.num *ℤ d) ≡ (v.num *ℤ b.den)) w.1.1 (h.0 yes) },
+    λ shown. let (e, f) = value_same i b p shown.num v.num shown.den den w.0 shown.value w.1.2 in
+        h.1 (subst (λ d. (b.num *ℤ d) ≡ (v.num *ℤ b.den)) (sym w.1.1) (subst₂ (λ m d. (b.num *ℤ pos d) ≡ (m *ℤ b.den)) e f shown.same)),
+  )
 
-pub line_decides : (i : Instance) (b : Frac) (job length : ℕ) (needs : List Need) (x : Bool) → HoldsFor i (Line job) → needs ≡ (job_at i job).needs → length ≡ sum_by (λ n. n.time) needs
-    → (IsTrue x ↔ ((b.num *ℤ pos 1) ≤ℤ (pos length *ℤ b.den))) → (IsTrue x ↔ IsShown i b (Line job))
-line_decides i b job length needs x holds same e h = decides i b (Line job) (pos length) 1 x holds (ap pos (e ∙ ap (λ l. sum_by (λ n. n.time) l) same), refl) h
+pub shows_none : (i : Instance) (b : Frac) (p : Proof) → IsWorth i p None → IsTrue false ↔ IsShown i b p
+shows_none i b p never = (λ yes. absurd (false≢true yes), λ shown. absurd (never shown.num shown.den shown.holds shown.value))
 
-pub group_decides : (i : Instance) (b : Frac) (jobs order : List ℕ) (time speed : ℕ) (x : Bool) → IsGroup i jobs → time ≡ total_time i jobs → IsPermutation (speeds_of i) order → AllPairs (λ x y. y ≤ x) order → speed ≡ sum (take (length jobs) order)
-    → (IsTrue x ↔ ((b.num *ℤ pos speed) ≤ℤ (pos time *ℤ b.den))) → (IsTrue x ↔ IsShown i b (Group jobs))
-group_decides i b jobs order time speed x holds e all falls first h = decides i b (Group jobs) (pos time) speed x holds (ap pos e, record { order = order; all = all; falls = falls; first = first }) h
+pub equals_none : (i : Instance) (b : Frac) (p : Proof) → IsWorth i p None → IsTrue false ↔ HasValue i b p
+equals_none i b p never = (λ yes. absurd (false≢true yes), λ shown. absurd (never shown.num shown.den shown.holds shown.value))
 
-pub levels_decide : (i : Instance) (b : Frac) (level : List ℕ) (tail value : ℕ) (x : Bool) → AreSteps i level tail → value ≡ level_bound i (of_job level) tail
-    → (IsTrue x ↔ ((b.num *ℤ pos 1) ≤ℤ (pos value *ℤ b.den))) → (IsTrue x ↔ IsShown i b (Levels level tail))
-levels_decide i b level tail value x holds e h = decides i b (Levels level tail) (pos value) 1 x holds (ap pos e, refl) h
+-- what each kind is worth, by what the code reads
+pub worth_nothing : (i : Instance) (p : Proof) → ¬ HoldsFor i p → IsWorth i p None
+worth_nothing i p never = λ num den holds value. absurd (never holds)
+
+pub machine_is_worth : (i : Instance) (machine load : ℕ) (jobs : List Job) (v : Frac) → HoldsFor i (Machine machine) → jobs ≡ i.jobs → load ≡ sum_by (λ j. sum_by (time_there machine) j.needs) jobs
+    → v.num ≡ pos load → v.den ≡ pos 1 → IsWorth i (Machine machine) (Some v)
+machine_is_worth i machine load jobs v holds same e num den = (holds, (1, den, (num ∙ ap pos (e ∙ ap (λ l. sum_by (λ j. sum_by (time_there machine) j.needs) l) same), refl)))
+
+pub line_is_worth : (i : Instance) (job length : ℕ) (needs : List Need) (v : Frac) → HoldsFor i (Line job) → needs ≡ (job_at i job).needs → length ≡ sum_by (λ n. n.time) needs
+    → v.num ≡ pos length → v.den ≡ pos 1 → IsWorth i (Line job) (Some v)
+line_is_worth i job length needs v holds same e num den = (holds, (1, den, (num ∙ ap pos (e ∙ ap (λ l. sum_by (λ n. n.time) l) same), refl)))
+
+pub group_is_worth : (i : Instance) (jobs order : List ℕ) (time speed : ℕ) (v : Frac) → IsGroup i jobs → time ≡ total_time i jobs → IsPermutation (speeds_of i) order → AllPairs (λ x y. y ≤ x) order → speed ≡ sum (take (length jobs) order)
+    → v.num ≡ pos time → v.den ≡ pos speed → IsWorth i (Group jobs) (Some v)
+group_is_worth i jobs order time speed v holds e all falls first num den = (holds, (speed, den, (num ∙ ap pos e, record { order = order; all = all; falls = falls; first = first })))
+
+pub levels_are_worth : (i : Instance) (level : List ℕ) (tail value : ℕ) (v : Frac) → AreSteps i level tail → value ≡ level_bound i (of_job level) tail
+    → v.num ≡ pos value → v.den ≡ pos 1 → IsWorth i (Levels level tail) (Some v)
+levels_are_worth i level tail value v holds e num den = (holds, (1, den, (num ∙ ap pos e, refl)))

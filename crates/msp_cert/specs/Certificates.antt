@@ -1,5 +1,5 @@
 -- Certificates: the evidence of a proof, the bound that it shows, and when a certificate is accepted.
-use Rattle.std.specs.Prelude.{◌≡◌, ◌≢◌, ℕ, ◌+◌, ◌*◌, ◌<◌, ◌≤◌, false, true, List, length, map, take, sum, slice_index_or, ℤ, pos, ◌*ℤ◌, ◌≤ℤ◌, All, AllPairs, Any, IsPermutation}
+use Rattle.std.specs.Prelude.{◌≡◌, ◌≢◌, ℕ, ◌+◌, ◌*◌, ◌^◌, ◌<◌, ◌≤◌, ⊤, false, true, List, length, map, take, sum, sum_by, slice_index_or, ℤ, pos, ◌*ℤ◌, ◌≤ℤ◌, All, AllPairs, Any, IsPermutation}
 use Rattle.std.specs.List.{range_with_len}
 use Rattle.msp_class.specs.declared.class.Env.TheVariants.{One}
 use Rattle.msp_class.specs.declared.class.Times.TheVariants.{Unit as UnitTimes}
@@ -7,7 +7,7 @@ use Rattle.msp_class.specs.declared.class.Crit.TheVariants.{Cmax, Fmax, SumC}
 use Rattle.msp_class.specs.declared.environments.EnvKind.TheVariants.{Identical, Unrelated}
 use Rattle.msp_class.specs.Env.{kind_of, is_shop}
 use Rattle.msp_instance.specs.declared.Instance.{Instance}
-use Rattle.msp_instance.specs.Conditions.{InClass}
+use Rattle.msp_instance.specs.Conditions.{InClass, LiesWithin}
 use Rattle.msp_schedule.specs.declared.Frac.{Frac}
 use Rattle.msp_schedule.specs.declared.Schedule.{Schedule}
 use Rattle.msp_schedule.specs.Feasible.{Feasible}
@@ -124,6 +124,31 @@ pub record IsShown (i : Instance) (bound : Frac) (proof : Proof) : Type 0 where
 -- A certificate is accepted for the instance: its proof shows its bound.
 abbrev pub IsAccepted : Instance → Certificate → Type 0
 IsAccepted i c = IsShown i c.bound c.proof
+
+-- So many entries a proof has: jobs, lists, levels with the tail, heads and prices.
+abbrev pub entries : Proof → ℕ
+entries (Group jobs) = length jobs
+entries (Machine machine) = 1
+entries (Line job) = 1
+entries (Levels level tail) = length level + 1
+entries (Segments lists) = length lists + sum_by length lists
+entries (Block head jobs) = length head + length jobs
+entries (Prices row column) = length row + length column
+
+-- Heads are at most 10^12, and prices at most 10^15 in size.
+abbrev pub HasSmallNumbers : Proof → Type 0
+HasSmallNumbers (Group jobs) = ⊤
+HasSmallNumbers (Machine machine) = ⊤
+HasSmallNumbers (Line job) = ⊤
+HasSmallNumbers (Levels level tail) = ⊤
+HasSmallNumbers (Segments lists) = ⊤
+HasSmallNumbers (Block head jobs) = All (λ h. h ≤ 10 ^ 12) head
+HasSmallNumbers (Prices row column) = All (LiesWithin (10 ^ 15)) row × All (LiesWithin (10 ^ 15)) column
+
+-- The limits within which a proof is judged: at most 20,000 entries, and small numbers.
+pub record KeepsLimits (p : Proof) : Type 0 where
+  pub few : entries p ≤ 20000
+  pub small : HasSmallNumbers p
 
 -- The law of certificates, for an instance of its class.
 pub record LawOfCertificates : Type 0 where

@@ -1,2 +1,6 @@
 pub mod Certificates
 pub mod Small
+pub mod Search
+pub mod Worth
+pub mod Least
+pub mod Fair

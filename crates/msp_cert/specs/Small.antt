@@ -1,10 +1,12 @@
--- The limits within which certificates are judged.
-use Rattle.std.specs.Prelude.{◌≡◌, ℕ, ◌+◌, ◌≤◌, length, All, if◌then◌else◌, ◌==◌}
+-- What the parts of the evidence are judged by. No public contract cites this file.
+use Rattle.std.specs.Prelude.{◌≡◌, ℕ, ◌+◌, ◌≤◌, List, length, All, IsTrue, if◌then◌else◌, ◌==◌}
 use Rattle.msp_class.specs.declared.environments.TheConstants.{MOST_OPERATIONS}
 use Rattle.msp_instance.specs.declared.ranges.TheConstants.{GREATEST}
 use Rattle.msp_instance.specs.declared.Need.{Need}
 use Rattle.msp_instance.specs.declared.Job.{Job}
 use Rattle.msp_instance.specs.declared.Arc.{Arc}
+use Rattle.msp_instance.specs.declared.path_rows.Paths.{Paths}
+use Rattle.msp_instance.specs.Paths.{leads}
 
 -- A job has at least one need and at most 32, and each takes at most 1,000,000,000.
 pub record HasSmallNeeds (j : Job) : Type 0 where
@@ -16,10 +18,10 @@ pub record HasSmallNeeds (j : Job) : Type 0 where
 abbrev pub time_there : ℕ → Need → ℕ
 time_there machine n = if n.machine == machine then n.time else 0
 
--- So many jobs, lists, levels, heads and prices a proof has at most.
-abbrev pub MOST_ENTRIES : ℕ
-MOST_ENTRIES = 20000
-
 -- The arc leads from the job to one that is at most one level lower.
 abbrev pub Supports : (ℕ → ℕ) → ℕ → Arc → Type 0
 Supports level j a = (a.before ≡ j) × (level j ≤ level a.after + 1)
+
+-- From each of the jobs a path is found to each of the next.
+abbrev pub ShowLeads : Paths → List ℕ → List ℕ → Type 0
+ShowLeads p jobs next = All (λ j. All (λ k. IsTrue (leads p j k)) next) jobs

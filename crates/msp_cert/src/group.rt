@@ -1,5 +1,5 @@
 // Groups of jobs.
-ghost use Rattle.std.specs.Prelude.{◌≡◌, ◌≢◌, ◌↔◌, ◌*◌, ◌<◌, ◌≤◌, ℕ, false, map, length, sum, take, All, AllPairs, IsTrue, IfOk, IsPermutation, slice_index_or};
+ghost use Rattle.std.specs.Prelude.{◌≡◌, ◌≢◌, ◌↔◌, ◌*◌, ◌<◌, ◌≤◌, ℕ, false, map, length, sum, take, All, AllPairs, IsTrue, IfOk, IfSome, IsPermutation, slice_index_or};
 ghost use Rattle.std.specs.List.Sorted.{IsNonDecreasing};
 ghost use Rattle.msp_class.specs.Env.{kind_of};
 ghost use Rattle.msp_instance.specs.declared.ranges.TheConstants.{GREATEST, GREATEST_SPEED, MOST_JOBS, MOST_MACHINES};
@@ -7,18 +7,20 @@ ghost use Rattle.msp_instance.specs.Conditions.{InClass};
 ghost use Rattle.msp_schedule.specs.Fraction.{IsComparable};
 ghost use Rattle.msp_schedule.specs.Speeds.{HaveSpeeds, speed_of};
 ghost use Rattle.msp_schedule.specs.Blocks.{total_time};
-ghost use Rattle.msp_cert.specs.Small.{HasSmallNeeds, MOST_ENTRIES};
-ghost use Rattle.msp_cert.specs.Certificates.{IsGroup, IsShown, speeds_of};
+ghost use Rattle.msp_cert.specs.declared.limits.TheConstants.{MOST_ENTRIES};
+ghost use Rattle.msp_cert.specs.Small.{HasSmallNeeds};
+ghost use Rattle.msp_cert.specs.Certificates.{IsGroup, speeds_of};
+ghost use Rattle.msp_cert.specs.Worth.{IsWorth};
 ghost use Rattle.msp_cert.specs.declared.Proof.TheVariants.{Group};
 
-use crate::bound::is_at_most;
+use crate::worth::over;
 use msp_class::{Crit, EnvKind, NoMemory, env_kind};
 use msp_instance::{Instance, Job, MOST_JOBS};
 use msp_schedule::Frac;
 use std::alloc::Global;
 
 /// Whether each is a job.
-fn are_jobs(count: usize, jobs: &[u32]) -> bool
+pub(crate) fn are_jobs(count: usize, jobs: &[u32]) -> bool
     ensures { IsTrue result ↔ All (λ j. j < count) jobs.now }
 {
     jobs.iter().all(|job| (*job as usize) < count)
@@ -31,7 +33,7 @@ fn none_seen() -> [bool; MOST_JOBS]
 }
 
 /// Whether no job stands twice.
-fn are_apart(jobs: &[u32]) -> bool
+pub(crate) fn are_apart(jobs: &[u32]) -> bool
     requires { All (λ j. j < MOST_JOBS) jobs.now }
     ensures { IsTrue result ↔ AllPairs (λ j k. j ≢ k) jobs.now }
 {
@@ -47,7 +49,7 @@ fn are_apart(jobs: &[u32]) -> bool
 }
 
 /// How long the jobs take together.
-fn total_time(inst: &Instance, jobs: &[u32]) -> u64
+pub(crate) fn total_time(inst: &Instance, jobs: &[u32]) -> u64
     requires few { length jobs.now ≤ MOST_ENTRIES }
     requires inside { All (λ j. j < length inst.now.jobs) jobs.now }
     requires small { All HasSmallNeeds inst.now.jobs }
@@ -155,20 +157,20 @@ fn is_group(inst: &Instance, jobs: &[u32]) -> bool
         && are_apart(jobs)
 }
 
-/// Whether the group shows the bound.
-pub fn group_shows(
+/// What the group is worth.
+#[tactic(auto, using(crate::proofs::Decided::worth_nothing))]
+pub(crate) fn group_worth(
     alloc: Global,
     inst: &Instance,
-    bound: &Frac,
     jobs: &[u32],
-) -> Result<bool, NoMemory>
+) -> Result<Option<Frac>, NoMemory>
     requires class { InClass inst.now }
-    requires bound { IsComparable bound.now }
     requires few { length jobs.now ≤ MOST_ENTRIES }
-    ensures { IfOk result (λ yes. IsTrue yes ↔ IsShown inst.now bound.now (Group jobs.now)) }
+    ensures worth { IfOk result (IsWorth inst.now (Group jobs.now)) }
+    ensures small { IfOk result (λ w. IfSome w IsComparable) }
 {
     if !is_group(inst, jobs) {
-        return Ok(false);
+        return Ok(None);
     }
     let speeds = match falling_speeds(alloc, inst) {
         Ok(speeds) => speeds,
@@ -176,5 +178,5 @@ pub fn group_shows(
     };
     let time = total_time(inst, jobs);
     let speed = first_together(speeds.as_slice(), jobs.len());
-    Ok(is_at_most(bound, time, speed))
+    Ok(Some(over(time, speed)))
 }

@@ -1,5 +1,5 @@
 // Levels of jobs.
-ghost use Rattle.std.specs.Prelude.{◌≡◌, ◌↔◌, ◌+◌, ◌*◌, ◌<◌, ◌≤◌, ℕ, nat_le, length, count_by, All, Any, IsTrue, if◌then◌else◌};
+ghost use Rattle.std.specs.Prelude.{◌≡◌, ◌↔◌, ◌+◌, ◌*◌, ◌<◌, ◌≤◌, ℕ, nat_le, length, count_by, All, Any, IsTrue, IfSome, if◌then◌else◌};
 ghost use Rattle.std.specs.List.{range_with_len};
 ghost use Rattle.msp_instance.specs.declared.ranges.TheConstants.{MOST_JOBS};
 ghost use Rattle.msp_instance.specs.Conditions.{InClass};
@@ -7,15 +7,16 @@ ghost use Rattle.msp_schedule.specs.Fraction.{IsComparable};
 ghost use Rattle.msp_schedule.specs.Levels.{StepsDown, level_bound};
 ghost use Rattle.msp_cert.specs.declared.Proof.TheVariants.{Levels};
 ghost use Rattle.msp_cert.specs.Small.{Supports};
-ghost use Rattle.msp_cert.specs.Certificates.{HasUnitJobs, AreSteps, of_job, IsShown};
+ghost use Rattle.msp_cert.specs.Certificates.{HasUnitJobs, AreSteps, of_job};
+ghost use Rattle.msp_cert.specs.Worth.{IsWorth};
 
-use crate::bound::is_at_most;
+use crate::worth::over;
 use msp_class::{Crit, EnvKind, Times, env_kind};
 use msp_instance::{Arc, Instance};
 use msp_schedule::Frac;
 
 /// Whether the makespan of jobs of one unit of time is asked for, which run on identical machines and may not be cut.
-fn has_unit_jobs(inst: &Instance) -> bool
+pub(crate) fn has_unit_jobs(inst: &Instance) -> bool
     ensures { IsTrue result ↔ HasUnitJobs inst.now }
 {
     inst.class.crit == Crit::Cmax
@@ -25,7 +26,7 @@ fn has_unit_jobs(inst: &Instance) -> bool
 }
 
 /// The level of a job.
-fn level_of(level: &[u32], job: u32) -> u32
+pub(crate) fn level_of(level: &[u32], job: u32) -> u32
     ensures { result ≡ of_job level.now job }
 {
     let at = job as usize;
@@ -82,7 +83,7 @@ fn jobs_from(level: &[u32], tail: u32, jobs: u32) -> u32
     high
 }
 
-fn is_reached(level: &[u32], tail: u32) -> bool
+pub(crate) fn is_reached(level: &[u32], tail: u32) -> bool
     ensures { IsTrue result ↔ Any (λ l. tail ≤ l) level.now }
 {
     level.iter().any(|l| tail <= *l)
@@ -100,7 +101,7 @@ fn are_steps(inst: &Instance, level: &[u32], tail: u32) -> bool
 }
 
 /// The level and the number of jobs of at least that level over the number of machines, rounded up.
-fn level_bound(inst: &Instance, level: &[u32], tail: u32) -> u64
+pub(crate) fn level_bound(inst: &Instance, level: &[u32], tail: u32) -> u64
     requires { InClass inst.now }
     ensures { result ≡ level_bound inst.now (of_job level.now) tail }
 {
@@ -108,14 +109,15 @@ fn level_bound(inst: &Instance, level: &[u32], tail: u32) -> u64
     u64::from(tail) + u64::from((high + (inst.machines - 1)) / inst.machines)
 }
 
-/// Whether the levels show the bound.
-pub fn levels_show(inst: &Instance, bound: &Frac, level: &[u32], tail: u32) -> bool
-    requires class { InClass inst.now }
-    requires bound { IsComparable bound.now }
-    ensures { IsTrue result ↔ IsShown inst.now bound.now (Levels level.now tail) }
+/// What the levels are worth.
+#[tactic(auto, using(crate::proofs::Decided::worth_nothing, crate::proofs::Decided::levels_are_worth))]
+pub(crate) fn levels_worth(inst: &Instance, level: &[u32], tail: u32) -> Option<Frac>
+    requires { InClass inst.now }
+    ensures worth { IsWorth inst.now (Levels level.now tail) result }
+    ensures small { IfSome result IsComparable }
 {
     if !are_steps(inst, level, tail) {
-        return false;
+        return None;
     }
-    is_at_most(bound, level_bound(inst, level, tail), 1)
+    Some(over(level_bound(inst, level, tail), 1))
 }

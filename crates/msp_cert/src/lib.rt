@@ -1,27 +1,27 @@
 //! Certificates of lower bounds: what shows that no feasible schedule costs less, without a solver.
 //!
 //! It stands on `msp_schedule` alone. The layers above use the definitions `HoldsFor`, `IsValue` and `IsAccepted`, which say when the
-//! evidence of a proof holds for an instance, what its value is, and when a certificate is accepted, and `law_of_certificates`: where a
-//! certificate is accepted, no feasible schedule over any unit costs less than its bound. `group_shows`, `machine_shows`, `line_shows` and
-//! `levels_show` decide exactly whether a proof of their kind shows a bound.
+//! evidence of a proof holds for an instance, what its value is, and when a certificate is accepted; `accept`, which decides this exactly;
+//! and `law_of_certificates`: where a certificate is accepted, no feasible schedule over any unit costs less than its bound.
 #![tactic(auto)]
 
 use msp_class::{Class, List};
 use msp_schedule::{Frac, Solution};
 
-mod bound;
+mod block;
 mod group;
+mod judge;
 mod laws;
 mod levels;
+mod limits;
 mod loads;
+mod prices;
+mod segments;
 mod shops;
-#[cfg(test)]
-mod tests;
+mod worth;
 
-pub use group::group_shows;
+pub use judge::accept;
 pub use laws::law_of_certificates;
-pub use levels::levels_show;
-pub use shops::{line_shows, machine_shows};
 
 /// What shows a lower bound on the cost of every feasible schedule. Jobs and machines are numbered from 0.
 #[derive(Drop)]

@@ -1,12 +1,13 @@
 // Machines and jobs of shops.
-ghost use Rattle.std.specs.Prelude.{◌≡◌, ◌↔◌, ◌<◌, length, IsTrue};
+ghost use Rattle.std.specs.Prelude.{◌≡◌, ◌↔◌, ◌<◌, length, IsTrue, IfSome};
 ghost use Rattle.msp_instance.specs.Conditions.{InClass};
 ghost use Rattle.msp_schedule.specs.Fraction.{IsComparable};
 ghost use Rattle.msp_cert.specs.declared.Proof.TheVariants.{Machine, Line};
-ghost use Rattle.msp_cert.specs.Certificates.{IsShop, HoldsFor, IsShown};
+ghost use Rattle.msp_cert.specs.Certificates.{IsShop, HoldsFor};
+ghost use Rattle.msp_cert.specs.Worth.{IsWorth};
 
-use crate::bound::is_at_most;
 use crate::loads::{load_on, time_of_all};
+use crate::worth::over;
 use msp_class::{Crit, is_shop};
 use msp_instance::Instance;
 use msp_schedule::Frac;
@@ -30,30 +31,30 @@ fn is_job_of_shop(inst: &Instance, job: u32) -> bool
     is_shop_asked(inst) && (job as usize) < inst.jobs.len()
 }
 
-/// Whether the machine shows the bound.
-#[tactic(auto, using(crate::proofs::Facts::small_needs, crate::proofs::Decided::machine_decides, crate::proofs::Decided::refused))]
-pub fn machine_shows(inst: &Instance, bound: &Frac, machine: u32) -> bool
-    requires class { InClass inst.now }
-    requires bound { IsComparable bound.now }
-    ensures { IsTrue result ↔ IsShown inst.now bound.now (Machine machine) }
+/// What the machine is worth.
+#[tactic(auto, using(crate::proofs::Facts::small_needs, crate::proofs::Decided::worth_nothing, crate::proofs::Decided::machine_is_worth))]
+pub(crate) fn machine_worth(inst: &Instance, machine: u32) -> Option<Frac>
+    requires { InClass inst.now }
+    ensures worth { IsWorth inst.now (Machine machine) result }
+    ensures small { IfSome result IsComparable }
 {
     if !is_machine_of_shop(inst, machine) {
-        return false;
+        return None;
     }
     let load = load_on(inst.jobs.as_slice(), machine);
-    is_at_most(bound, load, 1)
+    Some(over(load, 1))
 }
 
-/// Whether the job shows the bound.
-#[tactic(auto, using(crate::proofs::Facts::small_needs, crate::proofs::Decided::line_decides, crate::proofs::Decided::refused))]
-pub fn line_shows(inst: &Instance, bound: &Frac, job: u32) -> bool
-    requires class { InClass inst.now }
-    requires bound { IsComparable bound.now }
-    ensures { IsTrue result ↔ IsShown inst.now bound.now (Line job) }
+/// What the job is worth.
+#[tactic(auto, using(crate::proofs::Facts::small_needs, crate::proofs::Decided::worth_nothing, crate::proofs::Decided::line_is_worth))]
+pub(crate) fn line_worth(inst: &Instance, job: u32) -> Option<Frac>
+    requires { InClass inst.now }
+    ensures worth { IsWorth inst.now (Line job) result }
+    ensures small { IfSome result IsComparable }
 {
     if !is_job_of_shop(inst, job) {
-        return false;
+        return None;
     }
     let length = time_of_all(inst.jobs.as_slice()[job as usize].needs.as_slice());
-    is_at_most(bound, length, 1)
+    Some(over(length, 1))
 }

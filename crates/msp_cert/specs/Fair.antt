@@ -1,0 +1,32 @@
+-- What prices are judged by. No public contract cites this file but by the greatest price.
+use Rattle.std.specs.Prelude.{◌≡◌, ℕ, ◌+◌, ◌*◌, ◌^◌, ◌<◌, false, List, length, slice_index_or, ℤ, pos, ◌+ℤ◌, ◌≤ℤ◌}
+use Rattle.msp_class.specs.declared.class.Crit.TheVariants.{SumC}
+use Rattle.msp_class.specs.declared.environments.EnvKind.TheVariants.{Unrelated}
+use Rattle.msp_class.specs.Env.{kind_of}
+use Rattle.msp_instance.specs.declared.Need.{Need}
+use Rattle.msp_instance.specs.declared.Instance.{Instance}
+use Rattle.msp_instance.specs.Instance.{no_need, job_at}
+
+-- The greatest size of a price.
+abbrev pub greatest_price : ℕ
+greatest_price = 10 ^ 15
+
+-- The price of a job and of each position on a machine are together at most what the job costs there.
+abbrev pub IsFairOn : ℤ → List ℤ → ℕ → Type 0
+IsFairOn price positions time = (k : ℕ) → k < length positions → (price +ℤ slice_index_or positions k (pos 0)) ≤ℤ pos ((k + 1) * time)
+
+-- The same for each machine on which the job has a time. So many positions stand for each.
+abbrev pub IsFair : ℤ → List ℤ → ℕ → List Need → Type 0
+IsFair price column count needs = (m k : ℕ) → m < length needs → k < count → (price +ℤ slice_index_or column (m * count + k) (pos 0)) ≤ℤ pos ((k + 1) * (slice_index_or needs m no_need).time)
+
+-- The same for each job.
+abbrev pub AreFair : Instance → List ℤ → List ℤ → Type 0
+AreFair i row column = (j : ℕ) → j < length i.jobs → IsFair (slice_index_or row j (pos 0)) column (length i.jobs) (job_at i j).needs
+
+-- The sum of completion times on unrelated machines is asked for, no job may be cut, and there is a price for each job and each position.
+pub record HasPricedShape (i : Instance) (row column : List ℤ) : Type 0 where
+  pub sum : i.class.crit ≡ SumC
+  pub unrelated : kind_of i.class.env ≡ Unrelated
+  pub uncut : i.class.cut ≡ false
+  pub rows : length row ≡ length i.jobs
+  pub columns : length column ≡ length i.jobs * i.machines

@@ -1,0 +1,15 @@
+-- What a proof is worth. No public contract cites this file.
+use Rattle.std.specs.Prelude.{◌≡◌, ℕ, Option, Some, None, ℤ, pos, ◌^◌}
+use Rattle.msp_instance.specs.declared.Instance.{Instance}
+use Rattle.msp_schedule.specs.declared.Frac.{Frac}
+use Rattle.msp_cert.specs.declared.Proof.{Proof}
+use Rattle.msp_cert.specs.Certificates.{HoldsFor, IsValue}
+
+-- The proof is worth its value where its evidence holds, and else nothing.
+abbrev pub IsWorth : Instance → Proof → Option Frac → Type 0
+IsWorth i p None = (num : ℤ) (den : ℕ) → HoldsFor i p → ¬ IsValue i p num den
+IsWorth i p (Some v) = HoldsFor i p × ((den : ℕ) × (v.den ≡ pos den) × IsValue i p v.num den)
+
+-- The greatest size of a value that is a whole number.
+abbrev pub greatest_value : ℕ
+greatest_value = 10 ^ 23
