@@ -1,7 +1,7 @@
 -- What is picked from the list, and a best schedule that is settled.
 use Rattle.std.proofs.Common.{◌≡◌, refl, ◌≢◌, ℕ, zero, suc, ◌+◌, ◌<◌, ◌≤◌, ◌⊎◌, inl, inr, ◌↔◌, Bool, true, false, IsTrue, List, [], ◌∷◌, length, map, ℤ, pos, ◌*ℤ◌, ◌≤ℤ◌, ◌<ℤ◌, sym, ap, ap₂, subst, subst₂, ◌∙◌, arith}
 use Rattle.std.specs.Option.{option_map}
-use Rattle.std.specs.Prelude.{⊤, slice_get, Contains, IfSome, IfOk, Option, Some, None, Result, Ok, Err}
+use Rattle.std.specs.Prelude.{⊤, slice_get, Contains, IfSome, IfOk, IfErr, Option, Some, None, Result, Ok, Err}
 use Rattle.std.proofs.lemmas.Bool.{cases_lt}
 use Rattle.std.proofs.lemmas.Int.{ints}
 use Rattle.std.proofs.lemmas.Option.{slice_get-map, slice_get_within, get_or_from_slice_get}
@@ -20,11 +20,13 @@ use Rattle.msp_closure.proofs.WayLemmas.{IsFirst-among, one_is}
 use Rattle.msp_dispatch.specs.declared.solved_list.SolvedClass.{SolvedClass}
 use Rattle.msp_dispatch.specs.declared.pick.Pick.{Pick}
 use Rattle.msp_dispatch.specs.Reached.{is_marked, AreReached}
-use Rattle.msp_dispatch.specs.Solved.{solves, solved_list, solved_classes}
-use Rattle.msp_dispatch.specs.Dispatch.{IsTarget, IsReported, IsAnswered}
+use Rattle.msp_dispatch.specs.Solved.{solves, solved_list, solved_classes, Fits}
+use Rattle.msp_dispatch.specs.Dispatch.{IsTarget, IsReported, IsAnswered, HasNoTarget, IsUnfit, IsFault}
 use Rattle.msp_dispatch.specs.declared.Cannot.{Cannot}
+use Rattle.msp_dispatch.specs.declared.Cannot.TheVariants.{NoSolver, NotSolved, NoRoute, Unfit, Memory}
+use Rattle.msp_carry.specs.Carried.{carried}
 use Rattle.msp_route.specs.declared.answer.Answer.{Answer}
-use Rattle.msp_dispatch.specs.Pick.{class_of, StandsAt, IsRoute, IsPick}
+use Rattle.msp_dispatch.specs.Pick.{class_of, StandsAt, IsRoute, IsPick, IsStopped}
 
 -- ---- a schedule that is feasible and costs as much as a best one is best
 module _ (i : Instance) (s t : Schedule) (best : Best i s) (same : cost_of i t *ℤ s.unit ≡ cost_of i s *ℤ t.unit) where
@@ -53,7 +55,7 @@ AreSolved [] = ⊤
 AreSolved (e ∷ es) = (class_of e.solver ≡ Some e.class) × AreSolved es
 
 all_solved : AreSolved solved_list
-all_solved = (refl, (refl, (refl, (refl, (refl, (refl, (refl, (refl, (refl, (refl, (refl, (refl, (refl, (refl, (refl, (refl, (refl, tt)))))))))))))))))
+all_solved = (refl, (refl, (refl, (refl, (refl, (refl, (refl, (refl, (refl, (refl, (refl, (refl, (refl, (refl, (refl, (refl, (refl, (refl, tt))))))))))))))))))
 
 solved_at : (xs : List SolvedClass) (n : ℕ) (e : SolvedClass) → AreSolved xs → slice_get xs n ≡ Some e → class_of e.solver ≡ Some e.class
 solved_at [] n e h g = absurd (cc)
@@ -120,15 +122,40 @@ not_listed c n whole h = absent solved_classes c (λ k l. h k (omega (arith, l, 
 
 -- what a pick says of the answer that is made from it
 pub answered : (i : Instance) (at : Option Class) (p : Pick) (r : Result Answer Cannot) → IsPick i.class at p → IfOk r (λ a. a.chain ≡ p.chain) → IfOk r (λ a. a.target ≡ p.entry.class)
-    → IfOk r (λ a. a.solver ≡ p.entry.solver) → IfOk r (λ a. IsReported i a.solution) → IfOk r (IsAnswered i at)
-answered i at p (Err e) h chain target solver solution = tt
-answered i at p (Ok a) h chain target solver solution = record {
+    → IfOk r (λ a. a.solver ≡ p.entry.solver) → IfOk r (λ a. Fits p.entry.solver (carried p.chain.rows i)) → IfOk r (λ a. IsReported i a.solution) → IfOk r (IsAnswered i at)
+answered i at p (Err e) h chain target solver fits solution = tt
+answered i at p (Ok a) h chain target solver fits solution = record {
   target = subst (IsTarget i.class at) (sym target) h.target;
   solver = subst (Contains solved_list) (sym (ap₂ solves target solver)) h.route.listed;
   from = ap (λ c. c.from) chain ∙ h.route.start;
   nearest = subst₂ (λ t c. IsNearest carries (t ∷ []) i.class c.rows) (sym target) (sym chain) h.route.nearest;
+  fits = subst₂ (λ s c. Fits s (carried c.rows i)) (sym solver) (sym chain) fits;
   solution = solution;
 }
+
+-- what a pick says of the fault in which it ends
+stopped_by : (i : Instance) (at : Option Class) (p : Pick) (e : Cannot) → IsPick i.class at p → IsStopped i p e → IsFault i at e
+stopped_by i at p (NoSolver c) h stop = absurd stop
+stopped_by i at p (NotSolved c) h stop = absurd stop
+stopped_by i at p (NoRoute a b) h stop = absurd stop
+stopped_by i at p (Unfit c) h stop =
+    let here : IsUnfit i at p.entry.class = record { solver = p.entry.solver; rows = p.chain.rows; target = h.target; listed = h.route.listed; nearest = h.route.nearest; unfit = stop.1 } in
+    subst (IsUnfit i at) (sym stop.0) here
+stopped_by i None p Memory h stop = tt
+stopped_by i (Some c) p Memory h stop = tt
+
+pub stopped : (i : Instance) (at : Option Class) (p : Pick) (r : Result Answer Cannot) → IsPick i.class at p → IfErr r (IsStopped i p) → IfErr r (IsFault i at)
+stopped i at p (Err e) h stop = stopped_by i at p e h stop
+stopped i at p (Ok a) h stop = tt
+
+-- an instance of a class without a target is not solved
+pub untargeted : (i : Instance) (at : Option Class) (e : Cannot) → HasNoTarget i.class at e → IsFault i at e
+untargeted i at (NoSolver c) h = h
+untargeted i at (NotSolved c) h = h
+untargeted i at (NoRoute a b) h = h
+untargeted i None (Unfit c) h = absurd h
+untargeted i (Some at) (Unfit c) h = absurd h
+untargeted i at Memory h = h
 
 -- the pick that is found first
 pub IsPick-first : (from : Class) (n : ℕ) (found : Option Pick) (p : Pick) → found ≡ Some p → IfSome found (λ q. StandsAt n q.entry × IsRoute from q)

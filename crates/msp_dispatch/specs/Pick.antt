@@ -1,11 +1,11 @@
 -- What is picked before an instance is solved. No public contract cites this file.
-use Rattle.std.specs.Prelude.{◌≡◌, ℕ, ◌≤◌, List, [], ◌∷◌, length, slice_get, IsSomeAnd, Contains, Option, Some, None}
+use Rattle.std.specs.Prelude.{◌≡◌, ⊤, ℕ, ◌≤◌, List, [], ◌∷◌, length, slice_get, IsSomeAnd, Contains, Option, Some, None}
 use Rattle.msp_class.specs.declared.class.Class.{Class}
 use Rattle.msp_class.specs.declared.ranks.TheConstants.{CLASSES}
 use Rattle.msp_instance.specs.declared.Instance.{Instance}
 use Rattle.msp_table.specs.Rows.{carries}
 use Rattle.msp_table.specs.Chains.{IsNearest}
-use Rattle.msp_carry.specs.Carried.{IsChainTo}
+use Rattle.msp_carry.specs.Carried.{carried, IsChainTo}
 use Rattle.msp_route.specs.declared.answer.SolverName.{SolverName}
 use Rattle.msp_route.specs.declared.answer.SolverName.TheVariants as solver
 use Rattle.msp_single.specs.Smith.{smith_class}
@@ -21,9 +21,12 @@ use Rattle.msp_total.specs.Slots.{tardiness_class, late_jobs_class}
 use Rattle.msp_shops.specs.Classes.{johnson_class, jackson_class}
 use Rattle.msp_shops.specs.Open.{open_class}
 use Rattle.msp_shops.specs.OpenCut.{open_cut_class}
+use Rattle.msp_weighted.specs.Late.{late_class}
+use Rattle.msp_dispatch.specs.declared.Cannot.{Cannot}
+use Rattle.msp_dispatch.specs.declared.Cannot.TheVariants.{Unfit, Memory}
 use Rattle.msp_dispatch.specs.declared.pick.Pick.{Pick}
 use Rattle.msp_dispatch.specs.declared.solved_list.SolvedClass.{SolvedClass}
-use Rattle.msp_dispatch.specs.Solved.{solved_list}
+use Rattle.msp_dispatch.specs.Solved.{solved_list, Fits}
 use Rattle.msp_dispatch.specs.Dispatch.{IsTarget}
 
 -- The class that the solver of a name solves, where there is such a solver.
@@ -45,6 +48,7 @@ class_of solver.Johnson = Some johnson_class
 class_of solver.Jackson = Some jackson_class
 class_of solver.Open2 = Some open_class
 class_of solver.OpenCut = Some open_cut_class
+class_of solver.LateTable = Some late_class
 class_of _ = None
 
 -- An entry of the list stands at the place.
@@ -67,3 +71,9 @@ pub record IsPick (from : Class) (at : Option Class) (p : Pick) : Type 0 where
 -- The rows lead to the class that the solver of the name solves.
 abbrev pub IsLedTo : Instance → List ℕ → SolverName → Type 0
 IsLedTo i rows name = IsSomeAnd (class_of name) (λ c. IsChainTo i rows c)
+
+-- Why an instance with a pick is not solved: carried along the chain it does not fit the solver, or the memory is used up.
+abbrev pub IsStopped : Instance → Pick → Cannot → Type 0
+IsStopped i p (Unfit c) = (c ≡ p.entry.class) × (¬ Fits p.entry.solver (carried p.chain.rows i))
+IsStopped i p Memory = ⊤
+IsStopped i p _ = ⊥

@@ -1,6 +1,7 @@
--- The classes that are solved, each with its solver, in the order in which they are tried.
-use Rattle.std.specs.Prelude.{List, [], ◌∷◌, map}
+-- The classes that are solved, each with its solver, in the order in which they are tried, and which instances fit a solver.
+use Rattle.std.specs.Prelude.{⊤, ◌≤◌, List, [], ◌∷◌, map}
 use Rattle.msp_class.specs.declared.class.Class.{Class}
+use Rattle.msp_instance.specs.declared.Instance.{Instance}
 use Rattle.msp_route.specs.declared.answer.SolverName.{SolverName}
 use Rattle.msp_route.specs.declared.answer.SolverName.TheVariants as solver
 use Rattle.msp_single.specs.Smith.{smith_class}
@@ -16,6 +17,8 @@ use Rattle.msp_total.specs.Slots.{tardiness_class, late_jobs_class}
 use Rattle.msp_shops.specs.Classes.{johnson_class, jackson_class}
 use Rattle.msp_shops.specs.Open.{open_class}
 use Rattle.msp_shops.specs.OpenCut.{open_cut_class}
+use Rattle.msp_weighted.specs.Late.{late_class, total_time}
+use Rattle.msp_weighted.specs.declared.late_table.TheConstants.{GREATEST_TOTAL}
 use Rattle.msp_dispatch.specs.declared.solved_list.SolvedClass.{SolvedClass}
 
 abbrev pub solves : Class → SolverName → SolvedClass
@@ -40,7 +43,13 @@ solved_list =
     solves jackson_class solver.Jackson ∷
     solves open_class solver.Open2 ∷
     solves open_cut_class solver.OpenCut ∷
+    solves late_class solver.LateTable ∷
     []
 
 abbrev pub solved_classes : List Class
 solved_classes = map (λ s. s.class) solved_list
+
+-- The solver of the name can solve the instance. Only some tables have a limit of their own.
+abbrev pub Fits : SolverName → Instance → Type 0
+Fits solver.LateTable i = total_time i ≤ GREATEST_TOTAL
+Fits _ i = ⊤

@@ -4,6 +4,7 @@
 //! that an answer is best, and that each fault says exactly what is missing.
 #![tactic(auto)]
 
+mod fit;
 mod pick;
 mod reached;
 mod solve;
@@ -26,6 +27,8 @@ pub enum Cannot {
     NotSolved { class: Class },
     /// No chain of carrying rows leads from the one class to the other.
     NoRoute { from: Class, to: Class },
+    /// The instance that is carried to the class does not fit the solver of that class.
+    Unfit { class: Class },
     /// The memory is used up.
     Memory,
 }

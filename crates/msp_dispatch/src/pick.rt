@@ -4,7 +4,7 @@ ghost use Rattle.msp_class.specs.declared.ranks.TheConstants.{CLASSES};
 ghost use Rattle.msp_table.specs.Rows.{carries};
 ghost use Rattle.msp_table.specs.Chains.{Reaches};
 ghost use Rattle.msp_dispatch.specs.Solved.{solved_list, solved_classes};
-ghost use Rattle.msp_dispatch.specs.Dispatch.{IsFault};
+ghost use Rattle.msp_dispatch.specs.Dispatch.{HasNoTarget};
 ghost use Rattle.msp_dispatch.specs.Pick.{StandsAt, IsRoute, IsPick};
 ghost use Rattle.msp_dispatch.specs.Reached.{AreReached};
 
@@ -95,7 +95,7 @@ fn place_of(class: Class) -> Option<u32>
 /// The pick of the first class of the list to which a chain leads.
 fn first_pick(alloc: Global, from: Class) -> Result<Pick, Cannot>
     ensures pick { IfOk result (IsPick from None) }
-    ensures fault { IfErr result (IsFault from None) }
+    ensures fault { IfErr result (HasNoTarget from None) }
 {
     let marks = match reached(alloc, from) {
         Ok(marks) => marks,
@@ -114,7 +114,7 @@ fn first_pick(alloc: Global, from: Class) -> Result<Pick, Cannot>
 /// The pick of the class that is asked for.
 fn given_pick(alloc: Global, from: Class, at: Class) -> Result<Pick, Cannot>
     ensures pick { IfOk result (IsPick from (Some at)) }
-    ensures fault { IfErr result (IsFault from (Some at)) }
+    ensures fault { IfErr result (HasNoTarget from (Some at)) }
 {
     match place_of(at) {
         None => Err(Cannot::NotSolved { class: at }),
@@ -129,7 +129,7 @@ fn given_pick(alloc: Global, from: Class, at: Class) -> Result<Pick, Cannot>
 /// The pick of the class that is asked for, or else of the first to which a chain leads.
 pub(crate) fn choose(alloc: Global, from: Class, at: Option<Class>) -> Result<Pick, Cannot>
     ensures pick { IfOk result (IsPick from at) }
-    ensures fault { IfErr result (IsFault from at) }
+    ensures fault { IfErr result (HasNoTarget from at) }
 {
     match at {
         None => first_pick(alloc, from),

@@ -5,10 +5,13 @@ ghost use Rattle.msp_schedule.specs.Cost.{IsBest};
 ghost use Rattle.msp_schedule.specs.Fraction.{IsLowest};
 ghost use Rattle.msp_schedule.specs.Settled.{IsSettled};
 ghost use Rattle.msp_schedule.specs.Within.{Within};
+ghost use Rattle.msp_carry.specs.Carried.{carried};
 ghost use Rattle.msp_dispatch.specs.Dispatch.{IsReported, IsAnswered, IsFault};
-ghost use Rattle.msp_dispatch.specs.Pick.{IsRoute, IsLedTo};
+ghost use Rattle.msp_dispatch.specs.Pick.{IsRoute, IsLedTo, IsStopped};
+ghost use Rattle.msp_dispatch.specs.Solved.{Fits};
 
 use crate::Cannot;
+use crate::fit::fits_at;
 use crate::pick::{Pick, choose};
 use msp_blocks::{Blocks, UnitBlocks};
 use msp_carry::solve_along;
@@ -23,6 +26,7 @@ use msp_srpt::Shortest;
 use msp_table::Row;
 use msp_total::{SlotsCount, SlotsLate, Uniform, Unrelated};
 use msp_trees::Horn;
+use msp_weighted::LateTable;
 use msp_wrap::Wrap;
 use std::alloc::Global;
 
@@ -47,10 +51,8 @@ macro_rules! at_solver {
             SolverName::Jackson => $call($($argument),*, &Jackson),
             SolverName::Open2 => $call($($argument),*, &Open2),
             SolverName::OpenCut => $call($($argument),*, &OpenCut),
-            SolverName::UniformCut
-            | SolverName::Lexical
-            | SolverName::LateTable
-            | SolverName::Search => unreachable!(),
+            SolverName::LateTable => $call($($argument),*, &LateTable),
+            SolverName::UniformCut | SolverName::Lexical | SolverName::Search => unreachable!(),
         }
     };
 }
@@ -64,6 +66,7 @@ fn solve_at(
 ) -> Result<Solution, NoMemory>
     requires inner { Inner inst.now }
     requires chain { IsLedTo inst.now rows.now name }
+    requires fits { Fits name (carried rows.now inst.now) }
     ensures best { IfOk result (λ s. IsBest inst.now s) }
     ensures within { IfOk result (λ s. Within inst.now s.schedule) }
 {
@@ -89,15 +92,26 @@ fn settled(inst: &Instance, solution: Solution) -> Solution
     }
 }
 
+/// The answer to an instance for which a solver is picked, where the instance fits it.
 fn answer(alloc: Global, inst: &Instance, pick: Pick) -> Result<Answer, Cannot>
     requires inner { Inner inst.now }
     requires route { IsRoute inst.now.class pick }
     ensures chain { IfOk result (λ a. a.chain ≡ pick.chain) }
     ensures target { IfOk result (λ a. a.target ≡ pick.entry.class) }
     ensures solver { IfOk result (λ a. a.solver ≡ pick.entry.solver) }
+    ensures fits { IfOk result (λ a. Fits pick.entry.solver (carried pick.chain.rows inst.now)) }
     ensures solution { IfOk result (λ a. IsReported inst.now a.solution) }
-    ensures fault { IfErr result (λ e. e ≡ Cannot.Memory) }
+    ensures fault { IfErr result (IsStopped inst.now pick) }
 {
+    match fits_at(alloc, inst, &pick.chain.rows, pick.entry.solver) {
+        Err(_) => return Err(Cannot::Memory),
+        Ok(false) => {
+            return Err(Cannot::Unfit {
+                class: pick.entry.class,
+            });
+        }
+        Ok(true) => (),
+    }
     match solve_at(alloc, inst, &pick.chain.rows, pick.entry.solver) {
         Err(_) => Err(Cannot::Memory),
         Ok(solution) => Ok(Answer {
@@ -113,7 +127,7 @@ fn answer(alloc: Global, inst: &Instance, pick: Pick) -> Result<Answer, Cannot>
 pub fn solve_any(alloc: Global, inst: &Instance, at: Option<Class>) -> Result<Answer, Cannot>
     requires { InClass inst.now }
     ensures answer { IfOk result (IsAnswered inst.now at) }
-    ensures fault { IfErr result (IsFault inst.now.class at) }
+    ensures fault { IfErr result (IsFault inst.now at) }
 {
     match choose(alloc, inst.class, at) {
         Err(fault) => Err(fault),

@@ -11,10 +11,11 @@ use msp_single::{Lawler, Moore, Smith};
 use msp_srpt::Shortest;
 use msp_total::{SlotsCount, SlotsLate, Uniform, Unrelated};
 use msp_trees::Horn;
+use msp_weighted::LateTable;
 use msp_wrap::Wrap;
 
 /// How many classes are solved.
-pub const SOLVED: u32 = 17;
+pub const SOLVED: u32 = 18;
 
 /// A class that is solved, and its solver.
 #[derive(Clone, Copy, Debug, PartialEq, Eq)]
@@ -54,6 +55,7 @@ pub(crate) fn entry_at(n: u32) -> Option<SolvedClass>
         14 => Some(entry(&Jackson, SolverName::Jackson)),
         15 => Some(entry(&Open2, SolverName::Open2)),
         16 => Some(entry(&OpenCut, SolverName::OpenCut)),
+        17 => Some(entry(&LateTable, SolverName::LateTable)),
         _ => None,
     }
 }

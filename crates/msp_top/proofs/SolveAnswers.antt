@@ -37,9 +37,9 @@ misread_first input at fault h = inr (misread fault (λ e. cc) h)
 pub misread_right : (input : List ℕ) (at : Option Class) (fault : FileFault) (why : Refusal) → IsFaultOf input fault → why ≡ of_file_fault fault → Answers (SolveIsRight input at) (Err why)
 misread_right input at fault why first e = let Q : Refusal → Type 0 = λ w. Answers (SolveIsRight input at) (Err w) in subst Q (sym e) (misread_first input at fault first)
 
-cannot_first : (at : Option Class) (filed : Filed) (cannot : Cannot) → IsFault filed.instance.class at cannot → Answers (SolvesFiled at filed) (Err (of_cannot cannot))
+cannot_first : (at : Option Class) (filed : Filed) (cannot : Cannot) → IsFault filed.instance at cannot → Answers (SolvesFiled at filed) (Err (of_cannot cannot))
 cannot_first at filed NoMemory h = inl (refl, refl)
 cannot_first at filed cannot h = inr (λ input read. unsolved filed.names filed.instance cannot read (λ e. cc) h)
 
-pub cannot_right : (at : Option Class) (filed : Filed) (cannot : Cannot) (why : Refusal) → IsFault filed.instance.class at cannot → why ≡ of_cannot cannot → Answers (SolvesFiled at filed) (Err why)
+pub cannot_right : (at : Option Class) (filed : Filed) (cannot : Cannot) (why : Refusal) → IsFault filed.instance at cannot → why ≡ of_cannot cannot → Answers (SolvesFiled at filed) (Err why)
 cannot_right at filed cannot why fault e = let Q : Refusal → Type 0 = λ w. Answers (SolvesFiled at filed) (Err w) in subst Q (sym e) (cannot_first at filed cannot fault)

@@ -13,14 +13,14 @@ use Rattle.msp_top.specs.Trials.{instance_of, TrialIsRight, solved, unsolved}
 use Rattle.msp_top.specs.Refusals.{of_cannot}
 use Rattle.msp_top.specs.Answers.{Answers}
 
-cannot_first : (trial : Trial) (cannot : Cannot) → IsFault trial.class None cannot → Answers (TrialIsRight trial) (Err (of_cannot cannot))
+cannot_first : (trial : Trial) (cannot : Cannot) → IsFault (instance_of trial) None cannot → Answers (TrialIsRight trial) (Err (of_cannot cannot))
 cannot_first trial Memory h = inl (refl, refl)
 cannot_first trial cannot h = inr (unsolved cannot (λ e. cc) h)
 
-pub trial_unsolved : (trial : Trial) (i : Instance) (cannot : Cannot) (why : Refusal) → i ≡ instance_of trial → IsFault i.class None cannot → why ≡ of_cannot cannot → Answers (TrialIsRight trial) (Err why)
+pub trial_unsolved : (trial : Trial) (i : Instance) (cannot : Cannot) (why : Refusal) → i ≡ instance_of trial → IsFault i None cannot → why ≡ of_cannot cannot → Answers (TrialIsRight trial) (Err why)
 trial_unsolved trial i cannot why made fault e =
     let Q : Refusal → Type 0 = λ w. Answers (TrialIsRight trial) (Err w) in
-    subst Q (sym e) (cannot_first trial cannot (subst (λ j. IsFault j.class None cannot) made fault))
+    subst Q (sym e) (cannot_first trial cannot (subst (λ j. IsFault j None cannot) made fault))
 
 pub trial_solved : (trial : Trial) (i : Instance) (answer : Answer) (text : List ℕ) → i ≡ instance_of trial → IsAnswered i None answer → text ≡ trial_report i trial.seed answer → TrialIsRight trial (report 0 text)
 trial_solved trial i answer text made answered e =

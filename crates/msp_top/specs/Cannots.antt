@@ -2,17 +2,20 @@
 use Rattle.std.specs.Prelude.{ℕ, List, ◌++◌, codes}
 use Rattle.msp_name.specs.Names.{name_of}
 use Rattle.msp_dispatch.specs.declared.Cannot.{Cannot}
-use Rattle.msp_dispatch.specs.declared.Cannot.TheVariants.{NoSolver, NotSolved, NoRoute, Memory}
+use Rattle.msp_dispatch.specs.declared.Cannot.TheVariants.{NoSolver, NotSolved, NoRoute, Unfit, Memory}
 
--- The status where no solver is found for the class of an instance, and where the class that is named cannot be taken.
+-- The status where no solver is found for the class of an instance, where the class that is named cannot be taken, and where the instance
+-- breaks the limit of the solver.
 abbrev pub cannot_status : Cannot → ℕ
 cannot_status (NoSolver class) = 5
 cannot_status (NotSolved class) = 6
 cannot_status (NoRoute from to) = 6
+cannot_status (Unfit class) = 4
 cannot_status Memory = 9
 
 abbrev pub cannot_text : Cannot → List ℕ
 cannot_text (NoSolver class) = codes "no solver for " ++ name_of class
 cannot_text (NotSolved class) = name_of class ++ codes " is not solved"
 cannot_text (NoRoute from to) = codes "no chain to " ++ name_of to
+cannot_text (Unfit class) = codes "limit of the solver for " ++ name_of class
 cannot_text Memory = codes "out of memory"

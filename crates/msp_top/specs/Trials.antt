@@ -15,7 +15,8 @@ use Rattle.msp_top.specs.declared.command.Trial.{Trial}
 abbrev pub instance_of : Trial → Instance
 instance_of trial = generated trial.class trial.jobs trial.seed
 
--- The outcome is right: a report of a best answer to the instance, or that no chain leads from its class to one that is solved.
+-- The outcome is right: a report of a best answer to the instance, or that no chain leads from its class to one that is solved, or that
+-- what it is carried to breaks the limit of the solver.
 pub data TrialIsRight (trial : Trial) : Outcome → Type 0 where
   solved : (answer : Answer) (text : List ℕ) → IsAnswered (instance_of trial) None answer → text ≡ trial_report (instance_of trial) trial.seed answer → TrialIsRight trial (report 0 text)
-  unsolved : (cannot : Cannot) → cannot ≢ Memory → IsFault trial.class None cannot → TrialIsRight trial (refusal (cannot_status cannot) (cannot_text cannot))
+  unsolved : (cannot : Cannot) → cannot ≢ Memory → IsFault (instance_of trial) None cannot → TrialIsRight trial (refusal (cannot_status cannot) (cannot_text cannot))

@@ -108,6 +108,7 @@ fn put_cannot<E: Sink>(notes: &mut E, why: Cannot) -> Result<(), WriteFault>
         Cannot::NoSolver { class } => put_to_class(notes, b"no solver for ", class),
         Cannot::NotSolved { class } => put_not_solved(notes, class),
         Cannot::NoRoute { to, .. } => put_to_class(notes, b"no chain to ", to),
+        Cannot::Unfit { class } => put_to_class(notes, b"limit of the solver for ", class),
         Cannot::Memory => write_all(notes, b"out of memory"),
     }
 }

@@ -159,6 +159,7 @@ fn cannot_status(cannot: Cannot) -> u8
     match cannot {
         Cannot::NoSolver { .. } => NO_SOLVER,
         Cannot::NotSolved { .. } | Cannot::NoRoute { .. } => NO_ROUTE,
+        Cannot::Unfit { .. } => LIMIT,
         Cannot::Memory => NO_MEMORY,
     }
 }

@@ -79,7 +79,7 @@ fn perform<S: Source, K: Sink>(
 /// `out` and, for the statuses from 2 on, one line to `notes`.
 ///
 /// The status is 0 where the report was written, 1 where it was and the known results clash, or the checked schedule is not feasible or
-/// has another cost, 2 where the words fit no command, 3 where the input has a fault, 4 where it breaks a limit, 5 where there is no solver
+/// has another cost, 2 where the words fit no command, 3 where the input has a fault, 4 where it breaks a limit or that of the solver, 5 where there is no solver
 /// for the class of the instance or its schedules are not checked, 6 where the named class has no solver or no chain leads to it, 7 and 8
 /// where the source or `out` failed, and 9 for want of memory.
 pub fn run<S: Source, K: Sink, E: Sink>(

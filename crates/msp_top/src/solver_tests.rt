@@ -104,6 +104,34 @@ const WORKED: &[Case] = &[
         out: b"start 1|pmtn,prec,r|fmax\nsolver blocks\nschedule\ncost 43\nunit 1\npiece a 1 1 0 1\npiece b 1 1 1 2\npiece c 1 1 2 3\npiece b 1 1 3 6\npiece a 1 1 6 13\nend\n",
         notes: b"",
     },
+    Case {
+        words: &["solve"],
+        text: b"msp 1\nclass 1||sumwU\njob a p=3 d=3 w=2\njob b p=4 d=6 w=3\njob c p=2 d=7 w=5\njob d p=5 d=8 w=4\nend\n",
+        status: 0,
+        out: b"start 1||sumwU\nsolver late-table\nschedule\ncost 5\nunit 1\npiece c 1 1 0 2\npiece d 1 1 2 7\npiece a 1 1 7 10\npiece b 1 1 10 14\nend\n",
+        notes: b"",
+    },
+    Case {
+        words: &["solve"],
+        text: b"msp 1\nclass 1|pmtn,p=p|sumwU\ntime 3\njob a d=3 w=2\njob b d=3 w=5\njob c d=8 w=1\nend\n",
+        status: 0,
+        out: b"start 1|pmtn,p=p|sumwU\nrow 49 1|p=p|sumwU\nrow 53 1||sumwU\nsolver late-table\nschedule\ncost 2\nunit 1\npiece b 1 1 0 3\npiece c 1 1 3 6\npiece a 1 1 6 9\nend\n",
+        notes: b"",
+    },
+    Case {
+        words: &["solve", "--at", "1||sumwU"],
+        text: b"msp 1\nclass 1|p=1|sumU\njob a d=1\njob b d=1\njob c d=2\nend\n",
+        status: 0,
+        out: b"start 1|p=1|sumU\nrow 7 1|p=p|sumU\nrow 14 1|p=p|sumwU\nrow 53 1||sumwU\nsolver late-table\nschedule\ncost 1\nunit 1\npiece a 1 1 0 1\npiece c 1 1 1 2\npiece b 1 1 2 3\nend\n",
+        notes: b"",
+    },
+    Case {
+        words: &["solve"],
+        text: b"msp 1\nclass 1|pmtn,p=p|sumwU\ntime 500000\njob a d=1000000 w=2\njob b d=500000 w=5\nend\n",
+        status: 0,
+        out: b"start 1|pmtn,p=p|sumwU\nrow 49 1|p=p|sumwU\nrow 53 1||sumwU\nsolver late-table\nschedule\ncost 0\nunit 1\npiece b 1 1 0 500000\npiece a 1 1 500000 1000000\nend\n",
+        notes: b"",
+    },
 ];
 
 /// Examples that have many best schedules: how the answer begins.
@@ -135,6 +163,45 @@ const FREE: &[Case] = &[
         status: 0,
         out: b"start O|pmtn|Cmax\nsolver open-cut\nschedule\ncost 6\nunit 1\n",
         notes: b"",
+    },
+    Case {
+        words: &["solve"],
+        text: b"msp 1\nclass 1||sumwU\njob a p=2 d=3 w=1\njob b p=3 d=5 w=9\njob c p=2 d=6 w=1\njob d p=4 d=8 w=1\nend\n",
+        status: 0,
+        out: b"start 1||sumwU\nsolver late-table\nschedule\ncost 2\nunit 1\n",
+        notes: b"",
+    },
+];
+
+/// Instances that break the limit of the solver, by themselves or where they are carried to, and one that no chain carries.
+const BEYOND: &[Case] = &[
+    Case {
+        words: &["solve"],
+        text: b"msp 1\nclass 1||sumwU\njob a p=500001 d=3 w=1\njob b p=500000 d=5 w=9\nend\n",
+        status: 4,
+        out: b"",
+        notes: b"msp: limit of the solver for 1||sumwU\n",
+    },
+    Case {
+        words: &["solve"],
+        text: b"msp 1\nclass 1|pmtn,p=p|sumwU\ntime 500001\njob a d=3 w=2\njob b d=3 w=5\nend\n",
+        status: 4,
+        out: b"",
+        notes: b"msp: limit of the solver for 1||sumwU\n",
+    },
+    Case {
+        words: &["solve", "--at", "1||sumwU"],
+        text: b"msp 1\nclass 1||sumU\njob a p=1000000 d=3\njob b p=1 d=6\nend\n",
+        status: 4,
+        out: b"",
+        notes: b"msp: limit of the solver for 1||sumwU\n",
+    },
+    Case {
+        words: &["solve", "--at", "1||sumwU"],
+        text: b"msp 1\nclass 1||sumwC\njob a p=1000001 w=1\nend\n",
+        status: 6,
+        out: b"",
+        notes: b"msp: no chain to 1||sumwU\n",
     },
 ];
 
@@ -208,6 +275,10 @@ const DRAWN: &[(&str, &[u8])] = &[
         "O|pmtn|Cmax",
         b"class O|pmtn|Cmax\njobs 200\nseed 1\nsolver open-cut\nrows 0\n",
     ),
+    (
+        "1||sumwU",
+        b"class 1||sumwU\njobs 200\nseed 1\nsolver late-table\nrows 0\n",
+    ),
 ];
 
 /// Whether the call answers status 0 and a report that begins so.
@@ -219,6 +290,15 @@ fn begins(alloc: Global, words: &[&str], text: &[u8], front: &[u8]) -> Result<bo
 #[test]
 fn each_solver_answers(rt: HostRuntime) -> Result<(), Fail> {
     for case in WORKED {
+        let call = calling(case.words, case.text);
+        assert!(rt; gives(rt.alloc(), &call, case.status, case.out, case.notes)?);
+    }
+    Ok(())
+}
+
+#[test]
+fn what_breaks_the_limit_of_a_solver(rt: HostRuntime) -> Result<(), Fail> {
+    for case in BEYOND {
         let call = calling(case.words, case.text);
         assert!(rt; gives(rt.alloc(), &call, case.status, case.out, case.notes)?);
     }
