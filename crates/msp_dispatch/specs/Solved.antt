@@ -17,6 +17,7 @@ use Rattle.msp_total.specs.Slots.{tardiness_class, late_jobs_class}
 use Rattle.msp_shops.specs.Classes.{johnson_class, jackson_class}
 use Rattle.msp_shops.specs.Open.{open_class}
 use Rattle.msp_shops.specs.OpenCut.{open_cut_class}
+use Rattle.msp_uniform.specs.Uniform.{cut_class, HasSmallUnit}
 use Rattle.msp_weighted.specs.Late.{late_class, total_time}
 use Rattle.msp_weighted.specs.declared.late_table.TheConstants.{GREATEST_TOTAL}
 use Rattle.msp_dispatch.specs.declared.solved_list.SolvedClass.{SolvedClass}
@@ -43,13 +44,16 @@ solved_list =
     solves jackson_class solver.Jackson ∷
     solves open_class solver.Open2 ∷
     solves open_cut_class solver.OpenCut ∷
+    solves cut_class solver.UniformCut ∷
     solves late_class solver.LateTable ∷
     []
 
 abbrev pub solved_classes : List Class
 solved_classes = map (λ s. s.class) solved_list
 
--- The solver of the name can solve the instance. Only some tables have a limit of their own.
+-- The solver of the name can solve the instance. Only two have a limit of their own: one on the unit of time that it may need, the other on
+-- the size of its table.
 abbrev pub Fits : SolverName → Instance → Type 0
+Fits solver.UniformCut i = HasSmallUnit i
 Fits solver.LateTable i = total_time i ≤ GREATEST_TOTAL
 Fits _ i = ⊤

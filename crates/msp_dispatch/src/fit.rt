@@ -10,6 +10,7 @@ use msp_class::{List, NoMemory};
 use msp_instance::Instance;
 use msp_route::{Solver, SolverName};
 use msp_table::Row;
+use msp_uniform::UniformCut;
 use msp_weighted::LateTable;
 use std::alloc::Global;
 
@@ -41,6 +42,7 @@ pub(crate) fn fits_at(
     ensures { IfOk result (λ fits. IsTrue fits ↔ Fits name (carried rows.now inst.now)) }
 {
     match name {
+        SolverName::UniformCut => fits_along(alloc, inst, rows, &UniformCut),
         SolverName::LateTable => fits_along(alloc, inst, rows, &LateTable),
         SolverName::Smith
         | SolverName::Lawler
@@ -59,7 +61,6 @@ pub(crate) fn fits_at(
         | SolverName::Jackson
         | SolverName::Open2
         | SolverName::OpenCut
-        | SolverName::UniformCut
         | SolverName::Lexical
         | SolverName::Search => Ok(true),
     }

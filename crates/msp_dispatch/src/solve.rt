@@ -26,6 +26,7 @@ use msp_srpt::Shortest;
 use msp_table::Row;
 use msp_total::{SlotsCount, SlotsLate, Uniform, Unrelated};
 use msp_trees::Horn;
+use msp_uniform::UniformCut;
 use msp_weighted::LateTable;
 use msp_wrap::Wrap;
 use std::alloc::Global;
@@ -51,8 +52,9 @@ macro_rules! at_solver {
             SolverName::Jackson => $call($($argument),*, &Jackson),
             SolverName::Open2 => $call($($argument),*, &Open2),
             SolverName::OpenCut => $call($($argument),*, &OpenCut),
+            SolverName::UniformCut => $call($($argument),*, &UniformCut),
             SolverName::LateTable => $call($($argument),*, &LateTable),
-            SolverName::UniformCut | SolverName::Lexical | SolverName::Search => unreachable!(),
+            SolverName::Lexical | SolverName::Search => unreachable!(),
         }
     };
 }

@@ -11,11 +11,12 @@ use msp_single::{Lawler, Moore, Smith};
 use msp_srpt::Shortest;
 use msp_total::{SlotsCount, SlotsLate, Uniform, Unrelated};
 use msp_trees::Horn;
+use msp_uniform::UniformCut;
 use msp_weighted::LateTable;
 use msp_wrap::Wrap;
 
 /// How many classes are solved.
-pub const SOLVED: u32 = 18;
+pub const SOLVED: u32 = 19;
 
 /// A class that is solved, and its solver.
 #[derive(Clone, Copy, Debug, PartialEq, Eq)]
@@ -55,7 +56,8 @@ pub(crate) fn entry_at(n: u32) -> Option<SolvedClass>
         14 => Some(entry(&Jackson, SolverName::Jackson)),
         15 => Some(entry(&Open2, SolverName::Open2)),
         16 => Some(entry(&OpenCut, SolverName::OpenCut)),
-        17 => Some(entry(&LateTable, SolverName::LateTable)),
+        17 => Some(entry(&UniformCut, SolverName::UniformCut)),
+        18 => Some(entry(&LateTable, SolverName::LateTable)),
         _ => None,
     }
 }

@@ -171,10 +171,45 @@ const FREE: &[Case] = &[
         out: b"start 1||sumwU\nsolver late-table\nschedule\ncost 2\nunit 1\n",
         notes: b"",
     },
+    Case {
+        words: &["solve"],
+        text: b"msp 1\nclass Q|pmtn|Cmax\nmachines 2\nspeeds 3 1\njob a p=6\njob b p=4\nend\n",
+        status: 0,
+        out: b"start Q|pmtn|Cmax\nsolver uniform-cut\nschedule\ncost 5/2\n",
+        notes: b"",
+    },
+    Case {
+        words: &["solve"],
+        text: b"msp 1\nclass Q|pmtn|Cmax\nmachines 2\nspeeds 3 1\njob a p=9\njob b p=1\nend\n",
+        status: 0,
+        out: b"start Q|pmtn|Cmax\nsolver uniform-cut\nschedule\ncost 3\n",
+        notes: b"",
+    },
+    Case {
+        words: &["solve", "--at", "Q|pmtn|Cmax"],
+        text: b"msp 1\nclass P2|pmtn|Cmax\njob a p=3\njob b p=3\njob c p=3\nend\n",
+        status: 0,
+        out: b"start P2|pmtn|Cmax\nrow 18 P|pmtn|Cmax\nrow 21 Q|pmtn|Cmax\nsolver uniform-cut\nschedule\ncost 9/2\n",
+        notes: b"",
+    },
+    Case {
+        words: &["solve"],
+        text: b"msp 1\nclass O3|pmtn|Cmax\njob a\ntimes 2 2 2\njob b\ntimes 2 2 2\nend\n",
+        status: 0,
+        out: b"start O3|pmtn|Cmax\nrow 38 O|pmtn|Cmax\nsolver open-cut\nschedule\ncost 6\n",
+        notes: b"",
+    },
 ];
 
 /// Instances that break the limit of the solver, by themselves or where they are carried to, and one that no chain carries.
 const BEYOND: &[Case] = &[
+    Case {
+        words: &["solve"],
+        text: b"msp 1\nclass Q|pmtn|Cmax\nmachines 4\nspeeds 1 1 1 1001\njob a p=1\nend\n",
+        status: 4,
+        out: b"",
+        notes: b"msp: limit of the solver for Q|pmtn|Cmax\n",
+    },
     Case {
         words: &["solve"],
         text: b"msp 1\nclass 1||sumwU\njob a p=500001 d=3 w=1\njob b p=500000 d=5 w=9\nend\n",
@@ -274,6 +309,10 @@ const DRAWN: &[(&str, &[u8])] = &[
     (
         "O|pmtn|Cmax",
         b"class O|pmtn|Cmax\njobs 200\nseed 1\nsolver open-cut\nrows 0\n",
+    ),
+    (
+        "Q|pmtn|Cmax",
+        b"class Q|pmtn|Cmax\njobs 200\nseed 1\nsolver uniform-cut\nrows 0\n",
     ),
     (
         "1||sumwU",
