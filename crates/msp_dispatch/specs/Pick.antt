@@ -22,6 +22,7 @@ use Rattle.msp_shops.specs.Classes.{johnson_class, jackson_class}
 use Rattle.msp_shops.specs.Open.{open_class}
 use Rattle.msp_shops.specs.OpenCut.{open_cut_class}
 use Rattle.msp_uniform.specs.Uniform.{cut_class}
+use Rattle.msp_lexical.specs.Lexical.{lexical_class}
 use Rattle.msp_weighted.specs.Late.{late_class}
 use Rattle.msp_dispatch.specs.declared.Cannot.{Cannot}
 use Rattle.msp_dispatch.specs.declared.Cannot.TheVariants.{Unfit, Memory}
@@ -50,6 +51,7 @@ class_of solver.Jackson = Some jackson_class
 class_of solver.Open2 = Some open_class
 class_of solver.OpenCut = Some open_cut_class
 class_of solver.UniformCut = Some cut_class
+class_of solver.Lexical = Some lexical_class
 class_of solver.LateTable = Some late_class
 class_of _ = None
 

@@ -18,6 +18,7 @@ use Rattle.msp_shops.specs.Classes.{johnson_class, jackson_class}
 use Rattle.msp_shops.specs.Open.{open_class}
 use Rattle.msp_shops.specs.OpenCut.{open_cut_class}
 use Rattle.msp_uniform.specs.Uniform.{cut_class, HasSmallUnit}
+use Rattle.msp_lexical.specs.Lexical.{lexical_class}
 use Rattle.msp_weighted.specs.Late.{late_class, total_time}
 use Rattle.msp_weighted.specs.declared.late_table.TheConstants.{GREATEST_TOTAL}
 use Rattle.msp_dispatch.specs.declared.solved_list.SolvedClass.{SolvedClass}
@@ -45,6 +46,7 @@ solved_list =
     solves open_class solver.Open2 ∷
     solves open_cut_class solver.OpenCut ∷
     solves cut_class solver.UniformCut ∷
+    solves lexical_class solver.Lexical ∷
     solves late_class solver.LateTable ∷
     []
 

@@ -18,6 +18,7 @@ use msp_carry::solve_along;
 use msp_class::{Class, List, NoMemory};
 use msp_instance::Instance;
 use msp_levels::Levels;
+use msp_lexical::Lexical;
 use msp_route::{Answer, SolverName};
 use msp_schedule::{Solution, cost, settle};
 use msp_shops::{Jackson, Johnson, Open2, OpenCut};
@@ -53,8 +54,9 @@ macro_rules! at_solver {
             SolverName::Open2 => $call($($argument),*, &Open2),
             SolverName::OpenCut => $call($($argument),*, &OpenCut),
             SolverName::UniformCut => $call($($argument),*, &UniformCut),
+            SolverName::Lexical => $call($($argument),*, &Lexical),
             SolverName::LateTable => $call($($argument),*, &LateTable),
-            SolverName::Lexical | SolverName::Search => unreachable!(),
+            SolverName::Search => unreachable!(),
         }
     };
 }

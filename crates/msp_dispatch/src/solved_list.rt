@@ -5,6 +5,7 @@ ghost use Rattle.msp_dispatch.specs.Solved.{solved_list, solved_classes};
 use msp_blocks::{Blocks, UnitBlocks};
 use msp_class::Class;
 use msp_levels::Levels;
+use msp_lexical::Lexical;
 use msp_route::{Solver, SolverName};
 use msp_shops::{Jackson, Johnson, Open2, OpenCut};
 use msp_single::{Lawler, Moore, Smith};
@@ -16,7 +17,7 @@ use msp_weighted::LateTable;
 use msp_wrap::Wrap;
 
 /// How many classes are solved.
-pub const SOLVED: u32 = 19;
+pub const SOLVED: u32 = 20;
 
 /// A class that is solved, and its solver.
 #[derive(Clone, Copy, Debug, PartialEq, Eq)]
@@ -57,7 +58,8 @@ pub(crate) fn entry_at(n: u32) -> Option<SolvedClass>
         15 => Some(entry(&Open2, SolverName::Open2)),
         16 => Some(entry(&OpenCut, SolverName::OpenCut)),
         17 => Some(entry(&UniformCut, SolverName::UniformCut)),
-        18 => Some(entry(&LateTable, SolverName::LateTable)),
+        18 => Some(entry(&Lexical, SolverName::Lexical)),
+        19 => Some(entry(&LateTable, SolverName::LateTable)),
         _ => None,
     }
 }

@@ -132,6 +132,20 @@ const WORKED: &[Case] = &[
         out: b"start 1|pmtn,p=p|sumwU\nrow 49 1|p=p|sumwU\nrow 53 1||sumwU\nsolver late-table\nschedule\ncost 0\nunit 1\npiece b 1 1 0 500000\npiece a 1 1 500000 1000000\nend\n",
         notes: b"",
     },
+    Case {
+        words: &["solve"],
+        text: b"msp 1\nclass P2|prec,p=1|Cmax\njob a\njob b\njob c\njob d\narc a b\narc a c\narc b d\narc c d\nend\n",
+        status: 0,
+        out: b"start P2|prec,p=1|Cmax\nsolver lexical\nschedule\ncost 3\nunit 1\npiece a 1 1 0 1\npiece c 1 1 1 2\npiece b 1 2 1 2\npiece d 1 1 2 3\nend\n",
+        notes: b"",
+    },
+    Case {
+        words: &["solve"],
+        text: b"msp 1\nclass P2|prec,p=p|Cmax\ntime 3\njob a\njob b\njob c\njob d\narc a b\narc a c\narc b d\narc c d\nend\n",
+        status: 0,
+        out: b"start P2|prec,p=p|Cmax\nrow 54 P2|prec,p=1|Cmax\nsolver lexical\nschedule\ncost 9\nunit 1\npiece a 1 1 0 3\npiece c 1 1 3 6\npiece b 1 2 3 6\npiece d 1 1 6 9\nend\n",
+        notes: b"",
+    },
 ];
 
 /// Examples that have many best schedules: how the answer begins.
@@ -313,6 +327,10 @@ const DRAWN: &[(&str, &[u8])] = &[
     (
         "Q|pmtn|Cmax",
         b"class Q|pmtn|Cmax\njobs 200\nseed 1\nsolver uniform-cut\nrows 0\n",
+    ),
+    (
+        "P2|prec,p=1|Cmax",
+        b"class P2|prec,p=1|Cmax\njobs 200\nseed 1\nsolver lexical\nrows 0\n",
     ),
     (
         "1||sumwU",
