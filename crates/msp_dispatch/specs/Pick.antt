@@ -23,6 +23,7 @@ use Rattle.msp_shops.specs.Open.{open_class}
 use Rattle.msp_shops.specs.OpenCut.{open_cut_class}
 use Rattle.msp_uniform.specs.Uniform.{cut_class}
 use Rattle.msp_lexical.specs.Lexical.{lexical_class}
+use Rattle.msp_threshold.specs.Squeezed.{lateness_class}
 use Rattle.msp_weighted.specs.Late.{late_class}
 use Rattle.msp_dispatch.specs.declared.Cannot.{Cannot}
 use Rattle.msp_dispatch.specs.declared.Cannot.TheVariants.{Unfit, Memory}
@@ -31,7 +32,7 @@ use Rattle.msp_dispatch.specs.declared.solved_list.SolvedClass.{SolvedClass}
 use Rattle.msp_dispatch.specs.Solved.{solved_list, Fits}
 use Rattle.msp_dispatch.specs.Dispatch.{IsTarget}
 
--- The class that the solver of a name solves, where there is such a solver.
+-- The class that the solver of a name solves.
 abbrev pub class_of : SolverName → Option Class
 class_of solver.Smith = Some smith_class
 class_of solver.Lawler = Some lawler_class
@@ -53,7 +54,7 @@ class_of solver.OpenCut = Some open_cut_class
 class_of solver.UniformCut = Some cut_class
 class_of solver.Lexical = Some lexical_class
 class_of solver.LateTable = Some late_class
-class_of _ = None
+class_of solver.Search = Some lateness_class
 
 -- An entry of the list stands at the place.
 abbrev pub StandsAt : ℕ → SolvedClass → Type 0

@@ -19,6 +19,7 @@ use Rattle.msp_shops.specs.Open.{open_class}
 use Rattle.msp_shops.specs.OpenCut.{open_cut_class}
 use Rattle.msp_uniform.specs.Uniform.{cut_class, HasSmallUnit}
 use Rattle.msp_lexical.specs.Lexical.{lexical_class}
+use Rattle.msp_threshold.specs.Squeezed.{lateness_class}
 use Rattle.msp_weighted.specs.Late.{late_class, total_time}
 use Rattle.msp_weighted.specs.declared.late_table.TheConstants.{GREATEST_TOTAL}
 use Rattle.msp_dispatch.specs.declared.solved_list.SolvedClass.{SolvedClass}
@@ -48,6 +49,7 @@ solved_list =
     solves cut_class solver.UniformCut ∷
     solves lexical_class solver.Lexical ∷
     solves late_class solver.LateTable ∷
+    solves lateness_class solver.Search ∷
     []
 
 abbrev pub solved_classes : List Class

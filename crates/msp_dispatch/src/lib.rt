@@ -9,6 +9,7 @@ mod pick;
 mod reached;
 mod solve;
 mod solved_list;
+mod threshold;
 #[cfg(test)]
 mod tests;
 #[cfg(test)]

@@ -13,6 +13,7 @@ ghost use Rattle.msp_dispatch.specs.Solved.{Fits};
 use crate::Cannot;
 use crate::fit::fits_at;
 use crate::pick::{Pick, choose};
+use crate::threshold::threshold_search;
 use msp_blocks::{Blocks, UnitBlocks};
 use msp_carry::solve_along;
 use msp_class::{Class, List, NoMemory};
@@ -56,7 +57,7 @@ macro_rules! at_solver {
             SolverName::UniformCut => $call($($argument),*, &UniformCut),
             SolverName::Lexical => $call($($argument),*, &Lexical),
             SolverName::LateTable => $call($($argument),*, &LateTable),
-            SolverName::Search => unreachable!(),
+            SolverName::Search => $call($($argument),*, &threshold_search()),
         }
     };
 }

@@ -2,6 +2,7 @@
 ghost use Rattle.std.specs.Prelude.{◌≡◌, slice_get};
 ghost use Rattle.msp_dispatch.specs.Solved.{solved_list, solved_classes};
 
+use crate::threshold::threshold_search;
 use msp_blocks::{Blocks, UnitBlocks};
 use msp_class::Class;
 use msp_levels::Levels;
@@ -17,7 +18,7 @@ use msp_weighted::LateTable;
 use msp_wrap::Wrap;
 
 /// How many classes are solved.
-pub const SOLVED: u32 = 20;
+pub const SOLVED: u32 = 21;
 
 /// A class that is solved, and its solver.
 #[derive(Clone, Copy, Debug, PartialEq, Eq)]
@@ -60,6 +61,7 @@ pub(crate) fn entry_at(n: u32) -> Option<SolvedClass>
         17 => Some(entry(&UniformCut, SolverName::UniformCut)),
         18 => Some(entry(&Lexical, SolverName::Lexical)),
         19 => Some(entry(&LateTable, SolverName::LateTable)),
+        20 => Some(entry(&threshold_search(), SolverName::Search)),
         _ => None,
     }
 }

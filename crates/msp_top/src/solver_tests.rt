@@ -146,6 +146,13 @@ const WORKED: &[Case] = &[
         out: b"start P2|prec,p=p|Cmax\nrow 54 P2|prec,p=1|Cmax\nsolver lexical\nschedule\ncost 9\nunit 1\npiece a 1 1 0 3\npiece c 1 1 3 6\npiece b 1 2 3 6\npiece d 1 1 6 9\nend\n",
         notes: b"",
     },
+    Case {
+        words: &["solve"],
+        text: b"msp 1\nclass P|r,p=1|Lmax\nmachines 1\njob a r=1000000000 d=-1000000000\nend\n",
+        status: 0,
+        out: b"start P|r,p=1|Lmax\nsolver search\nschedule\ncost 2000000001\nunit 1\npiece a 1 1 1000000000 1000000001\nend\n",
+        notes: b"",
+    },
 ];
 
 /// Examples that have many best schedules: how the answer begins.
@@ -211,6 +218,13 @@ const FREE: &[Case] = &[
         text: b"msp 1\nclass O3|pmtn|Cmax\njob a\ntimes 2 2 2\njob b\ntimes 2 2 2\nend\n",
         status: 0,
         out: b"start O3|pmtn|Cmax\nrow 38 O|pmtn|Cmax\nsolver open-cut\nschedule\ncost 6\n",
+        notes: b"",
+    },
+    Case {
+        words: &["solve"],
+        text: b"msp 1\nclass P|r,p=1|Lmax\nmachines 2\njob a r=0 d=0\njob b r=0 d=1\njob c r=0 d=5\njob d r=3 d=3\nend\n",
+        status: 0,
+        out: b"start P|r,p=1|Lmax\nsolver search\nschedule\ncost 1\nunit 1\n",
         notes: b"",
     },
 ];
@@ -335,6 +349,10 @@ const DRAWN: &[(&str, &[u8])] = &[
     (
         "1||sumwU",
         b"class 1||sumwU\njobs 200\nseed 1\nsolver late-table\nrows 0\n",
+    ),
+    (
+        "P|r,p=1|Lmax",
+        b"class P|r,p=1|Lmax\njobs 200\nseed 1\nsolver search\nrows 0\n",
     ),
 ];
 
