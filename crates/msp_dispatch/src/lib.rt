@@ -9,9 +9,9 @@ mod pick;
 mod reached;
 mod solve;
 mod solved_list;
-mod threshold;
 #[cfg(test)]
 mod tests;
+mod threshold;
 #[cfg(test)]
 mod via_tests;
 

@@ -10,4 +10,4 @@ unfolding goes_of table
 leads_there = refl
 
 pub invariant_of-result : goal.invariant_of-result
-invariant_of-result c = ?
+invariant_of-result c = record { leads = leads_there }
