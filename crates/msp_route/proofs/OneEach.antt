@@ -1,5 +1,5 @@
 -- Schedules in which each job has one piece, within the bounds of an answer.
-use Rattle.std.proofs.Common.{ℕ, ◌≤◌, List, pos, ◌≤ℤ◌, arith}
+use Rattle.std.proofs.Common.{ℕ, List, pos, ◌≤ℤ◌, arith}
 use Rattle.msp_class.specs.Env.{kind_of}
 use Rattle.msp_instance.specs.declared.Instance.{Instance}
 use Rattle.msp_schedule.specs.declared.Piece.{Piece}

@@ -11,10 +11,7 @@ use std::alloc::Global;
 fn copied<T: Copy>(alloc: Global, list: &List<T>) -> Result<List<T>, NoMemory>
     ensures { IfOk result (λ copy. copy ≡ list.now) }
 {
-    match list.as_slice().iter().copied().collect(alloc) {
-        Ok(items) => Ok(List::from_vec(items)),
-        Err(_) => Err(NoMemory),
-    }
+    Ok(List::from_vec(list.as_slice().iter().copied().collect(alloc)?))
 }
 
 fn copied_job(alloc: Global, job: &Job) -> Result<Job, NoMemory>
@@ -39,9 +36,7 @@ fn copied_jobs(alloc: Global, jobs: &[Job]) -> Result<List<Job>, NoMemory>
     let mut copies = List::new(alloc);
     for job in jobs {
         let copy = copied_job(alloc, job)?;
-        if copies.push(copy).is_err() {
-            return Err(NoMemory);
-        }
+        copies.put(copy)?;
     }
     Ok(copies)
 }

@@ -60,9 +60,7 @@ fn keyed_jobs(alloc: Global, keys: &[u64]) -> Result<Vec<Keyed>, NoMemory>
     for place in 0..keys.len() {
         let job = place as u32;
         let key = keys[place];
-        if all.push(Keyed { job, key }).is_err() {
-            return Err(NoMemory);
-        }
+        all.push(Keyed { job, key })?;
     }
     Ok(all)
 }

@@ -1,14 +1,13 @@
 // The job that ends last: of those that no job left must follow the one that costs least at the end.
-ghost use Rattle.std.specs.Prelude.{◌≡◌, ◌<◌, ◌⊎◌, ◌==◌, ◌&&◌, ℕ, false, length, slice_index_or, All, IfSome};
-ghost use Rattle.std.specs.List.{list_any};
+ghost use Rattle.std.specs.Prelude.{◌≡◌, ◌<◌, ◌⊎◌, false, length, slice_index_or, All, IfSome};
 ghost use Rattle.msp_instance.specs.declared.ranges.TheConstants.{MOST_JOBS};
 ghost use Rattle.msp_instance.specs.Conditions.{Inner};
 ghost use Rattle.msp_schedule.specs.Blocks.{cost_at};
 ghost use Rattle.msp_route.specs.LastJob.{EndsAt};
 ghost use Rattle.msp_route.specs.Candidates.{Precedes, IsFound};
 
-use msp_instance::{Arc, Instance, MOST_JOBS};
-use msp_schedule::{job_cost_at, mark, marks_of, no_marks};
+use msp_instance::{Instance, MOST_JOBS};
+use msp_schedule::{job_cost_at, marks_before, marks_of};
 
 /// A job that may go last: its place in the list of jobs left, and what it costs there.
 #[derive(Clone, Copy)]
@@ -16,18 +15,6 @@ struct Candidate {
     place: usize,
     job: u32,
     cost: i128,
-}
-
-/// A mark for each job from which an arc leads to a job that is left.
-fn blocked_jobs(arcs: &[Arc], is_left: &[bool; MOST_JOBS]) -> [bool; MOST_JOBS]
-    requires { All (λ a. (a.before < MOST_JOBS) × (a.after < MOST_JOBS)) arcs.now }
-    ensures { (j : ℕ) → j < MOST_JOBS → slice_index_or result j false ≡ list_any (λ a. a.before == j && slice_index_or is_left.now a.after false) arcs.now }
-{
-    let mut blocked = no_marks();
-    for arc in arcs {
-        mark(&mut blocked, arc.before, is_left[arc.after as usize]);
-    }
-    blocked
 }
 
 /// What a job costs that ends at the moment.
@@ -88,7 +75,7 @@ pub fn last_place(inst: &Instance, left: &[u32], moment: u64) -> usize
     ensures last { EndsAt inst.now moment left.now (slice_index_or left.now result 0) }
 {
     let is_left = marks_of(left);
-    let blocked = blocked_jobs(inst.arcs.as_slice(), &is_left);
+    let blocked = marks_before(inst.arcs.as_slice(), &is_left);
     match least_of(inst, left, &blocked, moment) {
         Some(last) => last.place,
         None => unreachable!(),

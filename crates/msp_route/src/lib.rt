@@ -3,8 +3,8 @@
 //! It stands on `msp_schedule` and `msp_table`. The layers above use the traits `Reduction` and `Solver` alone: what a lawful
 //! reduction does to costs, so that a best schedule brought back is best, and that a solver's answer is best within its bounds. What more
 //! than one solver needs stands here too, since no solver's crate stands on another's: the job that ends last (`last_place`), how long
-//! jobs take one after another (`total_time`), their pieces and the solution where they run so (`in_a_row`, `solution_in_order`), marks of
-//! jobs, and jobs that are sorted by a number (`Keyed`).
+//! jobs take one after another (`total_time`), their pieces and the solution where they run so (`in_a_row`, `solution_in_order`), and jobs
+//! that are sorted by a number (`Keyed`).
 #![tactic(auto)]
 
 mod answer;
@@ -28,7 +28,6 @@ pub use copies::{led, recast};
 pub use keyed::{Keyed, job_numbers, jobs_by_key, sort_by_falling_key, sort_by_key};
 pub use last_job::last_place;
 pub use laws::law_of_limits;
-pub use msp_schedule::{mark, marks_of, no_marks};
 pub use reduction::Reduction;
 pub use row::{in_a_row, solution_in_order};
 pub use solver::Solver;

@@ -50,9 +50,7 @@ pub fn in_a_row(
             from: moment as i128,
             to: end as i128,
         };
-        if pieces.push(next).is_err() {
-            return Err(NoMemory);
-        }
+        pieces.put(next)?;
         moment = end;
     }
     Ok(pieces)

@@ -7,3 +7,4 @@ pub mod Whole
 pub mod Charges
 pub mod Makespan
 pub mod LateJobs
+pub mod InTime

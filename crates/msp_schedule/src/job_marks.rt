@@ -1,9 +1,9 @@
 // Marks of jobs.
-ghost use Rattle.std.specs.Prelude.{◌≡◌, ◌<◌, ◌==◌, ◌||◌, ℕ, false, length, slice_index_or, slice_set, All};
+ghost use Rattle.std.specs.Prelude.{◌≡◌, ◌<◌, ◌==◌, ◌&&◌, ◌||◌, ℕ, false, length, slice_index_or, slice_set, All};
 ghost use Rattle.std.specs.List.{list_any};
 ghost use Rattle.msp_instance.specs.declared.ranges.TheConstants.{MOST_JOBS};
 
-use msp_instance::MOST_JOBS;
+use msp_instance::{Arc, MOST_JOBS};
 
 /// A mark for each job, none set.
 pub fn no_marks() -> [bool; MOST_JOBS]
@@ -31,4 +31,28 @@ pub fn marks_of(jobs: &[u32]) -> [bool; MOST_JOBS]
         mark(&mut marks, *job, true);
     }
     marks
+}
+
+/// A mark for each job from which an arc leads to a marked job.
+pub fn marks_before(arcs: &[Arc], marks: &[bool; MOST_JOBS]) -> [bool; MOST_JOBS]
+    requires { All (λ a. (a.before < MOST_JOBS) × (a.after < MOST_JOBS)) arcs.now }
+    ensures { (j : ℕ) → j < MOST_JOBS → slice_index_or result j false ≡ list_any (λ a. a.before == j && slice_index_or marks.now a.after false) arcs.now }
+{
+    let mut before = no_marks();
+    for arc in arcs {
+        mark(&mut before, arc.before, marks[arc.after as usize]);
+    }
+    before
+}
+
+/// A mark for each job to which an arc leads from a marked job.
+pub fn marks_after(arcs: &[Arc], marks: &[bool; MOST_JOBS]) -> [bool; MOST_JOBS]
+    requires { All (λ a. (a.before < MOST_JOBS) × (a.after < MOST_JOBS)) arcs.now }
+    ensures { (j : ℕ) → j < MOST_JOBS → slice_index_or result j false ≡ list_any (λ a. a.after == j && slice_index_or marks.now a.before false) arcs.now }
+{
+    let mut after = no_marks();
+    for arc in arcs {
+        mark(&mut after, arc.after, marks[arc.before as usize]);
+    }
+    after
 }

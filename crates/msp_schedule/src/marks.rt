@@ -41,9 +41,7 @@ fn marks_of(alloc: Global, lane: Lane, pieces: &[Piece]) -> Result<Vec<Mark>, No
     let mut marks = Vec::new(alloc);
     for at in 0..pieces.len() {
         let mark = mark_of(lane, &pieces[at], at as u32);
-        if marks.push(mark).is_err() {
-            return Err(NoMemory);
-        }
+        marks.push(mark)?;
     }
     Ok(marks)
 }

@@ -23,21 +23,12 @@ fn sort_by_job(pieces: &mut Vec<Piece>)
     pieces.sort_unstable_by_key(|p| p.job);
 }
 
-fn copied(alloc: Global, pieces: &[Piece]) -> Result<Vec<Piece>, NoMemory>
-    ensures { IfOk result (λ copy. copy.items ≡ pieces.now) }
-{
-    match pieces.to_vec(alloc) {
-        Ok(copy) => Ok(copy),
-        Err(_) => Err(NoMemory),
-    }
-}
-
 /// The pieces, sorted by job.
 fn by_job(alloc: Global, pieces: &[Piece]) -> Result<Vec<Piece>, NoMemory>
     ensures permutation { IfOk result (λ sorted. IsPermutation pieces.now sorted.items) }
     ensures sorted { IfOk result (λ sorted. IsNonDecreasingBy (λ p. p.job) sorted.items) }
 {
-    let mut sorted = copied(alloc, pieces)?;
+    let mut sorted = pieces.to_vec(alloc)?;
     sort_by_job(&mut sorted);
     Ok(sorted)
 }

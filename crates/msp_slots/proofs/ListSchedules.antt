@@ -1,19 +1,18 @@
 -- What schedules in the order of a list have: no moment before the last begin is idle, they are feasible, and their pieces are settled.
-use Rattle.std.proofs.Common.{◌≡◌, ℕ, zero, suc, ◌+◌, ◌<◌, ◌≤◌, ◌⊎◌, inl, inr, List, length, get_or, map, pos, ◌<ℤ◌, All, AllPairs, Contains, refl, sym, ap, subst, subst₂, ◌∙◌, arith}
+use Rattle.std.proofs.Common.{◌≡◌, ℕ, zero, suc, ◌+◌, ◌<◌, ◌≤◌, ◌⊎◌, inl, inr, List, length, get_or, map, pos, ◌<ℤ◌, All, refl, sym, ap, subst, subst₂, ◌∙◌, arith}
 use Rattle.std.proofs.lemmas.Bool.{cases_lt}
 use Rattle.std.proofs.lemmas.List.Elements.{All-map, All-contains}
 use Rattle.std.proofs.lemmas.Nat.Gcd.{dvd_antisymm}
 use Rattle.std.proofs.Math.Nat.{one-dvd}
 use Rattle.msp_class.proofs.IntegerRing.{pos-lt}
 use Rattle.msp_class.proofs.Sums.{OnceBelow-from_permutation, OnceBelow-contains}
-use Rattle.msp_instance.specs.declared.Arc.{Arc}
 use Rattle.msp_instance.specs.declared.Instance.{Instance}
 use Rattle.msp_instance.specs.Instance.{job_at}
 use Rattle.msp_schedule.specs.declared.Piece.{Piece}
 use Rattle.msp_schedule.specs.Settled.{IsSettled}
 use Rattle.msp_schedule.proofs.bounds.Certified.{ranked}
 use Rattle.msp_slots.specs.Pieces.{piece_at}
-use Rattle.msp_slots.specs.ListSchedule.{StandsBefore, RunsAhead, WaitsForJob, RunsInOrder, IsListSchedule}
+use Rattle.msp_slots.specs.ListSchedule.{RunsInOrder, IsListSchedule}
 use Rattle.msp_slots.proofs.Progress.{IsOrdered}
 use Rattle.msp_slots.proofs.UnitPieces.{AreUnitPieces}
 

@@ -1,5 +1,5 @@
 -- One slot more: what the pieces and the jobs that are left keep.
-use Rattle.std.proofs.Common.{◌≡◌, ◌≢◌, ℕ, zero, suc, ◌+◌, ◌<◌, ◌≤◌, ◌⊎◌, inl, inr, Bool, true, false, cond, eqb, List, [], ◌∷◌, ◌++◌, length, get_or, map, pos, All, AllPairs, Contains, IsPermutation, refl, sym, ap, ap₂, subst, subst₂, ◌∙◌, arith, append_assoc}
+use Rattle.std.proofs.Common.{◌≡◌, ◌≢◌, ℕ, zero, suc, ◌+◌, ◌<◌, ◌≤◌, ◌⊎◌, inl, inr, Bool, true, false, cond, List, [], ◌∷◌, ◌++◌, length, get_or, map, All, AllPairs, Contains, IsPermutation, refl, sym, ap, ap₂, subst, subst₂, ◌∙◌, arith, append_assoc}
 use Rattle.std.specs.Prelude.{◌==◌, ◌&&◌}
 use Rattle.std.specs.List.{list_any, range_with_len}
 use Rattle.std.proofs.lemmas.Bool.{cases_Bool, cases_lt, eqb-true, eq-eqb, false≢true}
@@ -18,7 +18,7 @@ use Rattle.msp_schedule.proofs.lists.Parts.{All-back, AllPairs-front, AllPairs-b
 use Rattle.msp_schedule.proofs.feasible.OneMachine.{both_true}
 use Rattle.msp_schedule.proofs.bounds.Certified.{place_in, place_in-is, ranked}
 use Rattle.msp_slots.specs.Pieces.{piece_at}
-use Rattle.msp_slots.specs.ListSchedule.{StandsBefore, RunsAhead, WaitsForJob, RunsInOrder, IsListSchedule}
+use Rattle.msp_slots.specs.ListSchedule.{StandsBefore, RunsAhead, WaitsForJob, IsListSchedule}
 use Rattle.msp_slots.specs.Steps.{is_blocked, IsSlot, seats, IsUnderWay}
 
 -- ---- what stands before what

@@ -1,12 +1,12 @@
 -- Jobs of one unit of time, each with one piece: what makes the schedule feasible and keeps it in bounds, and when its jobs end.
-use Rattle.std.proofs.Common.{◌≡◌, ◌≢◌, ℕ, ◌+◌, ◌<◌, ◌≤◌, ◌⊎◌, inl, inr, eqb, false, List, [], ◌∷◌, length, get_or, map, filter, fold, ℤ, pos, ◌-ℤ◌, ◌*ℤ◌, ◌≤ℤ◌, ◌<ℤ◌, All, AllPairs, Contains, refl, sym, ap, ap₂, subst, subst₂, ◌∙◌, arith}
+use Rattle.std.proofs.Common.{◌≡◌, ◌≢◌, ℕ, ◌+◌, ◌<◌, ◌≤◌, ◌⊎◌, inl, inr, eqb, false, List, [], ◌∷◌, length, get_or, map, filter, fold, pos, ◌-ℤ◌, ◌*ℤ◌, ◌≤ℤ◌, ◌<ℤ◌, All, AllPairs, Contains, refl, sym, ap, subst, subst₂, ◌∙◌, arith}
 use Rattle.std.specs.Int.{int_max}
 use Rattle.std.specs.List.{range_with_len}
 use Rattle.std.proofs.lemmas.Bool.{cases_lt, eqb-true}
 use Rattle.std.proofs.lemmas.Int.{ints}
 use Rattle.std.proofs.lemmas.List.{length-map, get_or-map}
 use Rattle.std.proofs.lemmas.List.Elements.{All-nil, All-map, All-contains, Contains-get_or}
-use Rattle.msp_class.specs.declared.environments.EnvKind.TheVariants.{Identical, Unrelated}
+use Rattle.msp_class.specs.declared.environments.EnvKind.TheVariants.{Identical}
 use Rattle.msp_class.specs.Env.{kind_of}
 use Rattle.msp_class.proofs.IntegerRing.{pos-le, pos-lt, int_max-right, zero-le-pos}
 use Rattle.msp_class.proofs.Sums.{OnceBelow, OnceBelow-range, OnceBelow-distinct, Contains-from_filter}

@@ -77,9 +77,7 @@ pub fn earliest_slots(alloc: Global, releases: &[u64], machines: u32) -> Result<
     let mut taken: u32 = 0;
     for k in 0..releases.len() {
         let slot = next_slot(moment, taken, machines, releases[k]);
-        if slots.push(slot).is_err() {
-            return Err(NoMemory);
-        }
+        slots.push(slot)?;
         moment = slot.start;
         taken = slot.machine + 1;
     }

@@ -1,12 +1,11 @@
 // One slot: of the jobs left the first that are free, on machines in order.
-ghost use Rattle.std.specs.Prelude.{◌≡◌, ◌==◌, ◌&&◌, ◌++◌, ◌∷◌, [], ℕ, ◌<◌, ◌≤◌, false, length, slice_index_or, All, IfOk, OnOk, if◌then◌else◌};
-ghost use Rattle.std.specs.List.{list_any};
+ghost use Rattle.std.specs.Prelude.{◌≡◌, ◌++◌, ◌∷◌, [], ◌<◌, ◌≤◌, false, length, slice_index_or, All, IfOk, OnOk, if◌then◌else◌};
 ghost use Rattle.msp_instance.specs.declared.ranges.TheConstants.{MOST_JOBS, MOST_MACHINES};
 ghost use Rattle.msp_slots.specs.Steps.{is_blocked, IsSlot, seats};
 
 use msp_class::{List, NoMemory};
 use msp_instance::{Arc, MOST_JOBS};
-use msp_schedule::{Piece, mark, marks_of, no_marks};
+use msp_schedule::{Piece, marks_after, marks_of};
 use std::alloc::Global;
 
 /// The jobs of a slot, and those that are left after it.
@@ -14,18 +13,6 @@ use std::alloc::Global;
 pub struct Split {
     pub taken: Vec<u32>,
     pub rest: Vec<u32>,
-}
-
-/// A mark for each job to which an arc leads from a job that is left.
-fn blocked_jobs(arcs: &[Arc], is_left: &[bool; MOST_JOBS]) -> [bool; MOST_JOBS]
-    requires { All (λ a. (a.before < MOST_JOBS) × (a.after < MOST_JOBS)) arcs.now }
-    ensures { (j : ℕ) → j < MOST_JOBS → slice_index_or result j false ≡ list_any (λ a. a.after == j && slice_index_or is_left.now a.before false) arcs.now }
-{
-    let mut blocked = no_marks();
-    for arc in arcs {
-        mark(&mut blocked, arc.after, is_left[arc.before as usize]);
-    }
-    blocked
 }
 
 /// Puts a job into the slot, or among the rest.
@@ -75,7 +62,7 @@ pub fn next_slot(
     ensures { IfOk result (λ s. IsSlot left.now (is_blocked arcs.now left.now) machines s.taken.items s.rest.items) }
 {
     let is_left = marks_of(left);
-    let blocked = blocked_jobs(arcs, &is_left);
+    let blocked = marks_after(arcs, &is_left);
     take_free(alloc, left, &blocked, machines)
 }
 
@@ -93,9 +80,7 @@ pub fn put_pieces(pieces: &mut List<Piece>, taken: &[u32], moment: u32) -> Resul
             from: i128::from(moment),
             to: i128::from(moment + 1),
         };
-        if pieces.push(next).is_err() {
-            return Err(NoMemory);
-        }
+        pieces.put(next)?;
     }
     Ok(())
 }

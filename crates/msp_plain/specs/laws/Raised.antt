@@ -1,6 +1,6 @@
 -- Raised due dates: the instance is an inner one, and the law of the threshold rows.
-use Rattle.std.proofs.Common.{◌≡◌, ℕ, ◌*◌, ◌<◌, ◌≤◌, Bool, true, false, length, get_or, map, All, inl, inr, ℤ, pos, ◌+ℤ◌, ◌-ℤ◌, ◌*ℤ◌, ◌≤ℤ◌, if◌then◌else◌, refl, sym, ap, subst, subst₂, ◌∙◌, arith}
-use Rattle.std.specs.Prelude.{int_lt, ◌↔◌, nat_abs}
+use Rattle.std.proofs.Common.{◌≡◌, ℕ, ◌*◌, ◌<◌, true, false, length, get_or, map, All, inl, inr, ℤ, pos, ◌+ℤ◌, ◌-ℤ◌, ◌*ℤ◌, ◌≤ℤ◌, refl, sym, ap, subst, subst₂, ◌∙◌, arith}
+use Rattle.std.specs.Prelude.{int_lt, ◌↔◌}
 use Rattle.std.specs.Int.{int_max}
 use Rattle.std.proofs.lemmas.Int.{ints}
 use Rattle.std.proofs.lemmas.List.{length-map}
@@ -9,9 +9,9 @@ use Rattle.msp_class.specs.declared.class.Crit.{Crit}
 use Rattle.msp_class.specs.declared.class.Crit.TheVariants.{Lmax}
 use Rattle.msp_class.specs.Env.{kind_of}
 use Rattle.msp_class.specs.Crit.{is_greatest, uses_due, uses_weight, uses_curve}
-use Rattle.msp_class.proofs.IntegerRing.{*ℤ-add, *ℤ_comm, ≤ℤ_trans, natural, pos-same, int_max-left, ≤ℤ-int_max_left, ≤ℤ-int_max_right}
-use Rattle.msp_class.specs.Sums.{total_below, int_total_below}
-use Rattle.msp_class.proofs.Sums.{total_below-term, total_below-none, int_total_below-same, int_total_below-natural}
+use Rattle.msp_class.proofs.IntegerRing.{≤ℤ_trans, int_max-left, ≤ℤ-int_max_left, ≤ℤ-int_max_right}
+use Rattle.msp_class.specs.Sums.{int_total_below}
+use Rattle.msp_class.proofs.Sums.{int_total_below-same}
 use Rattle.msp_instance.specs.declared.ranges.TheConstants.{GREATEST}
 use Rattle.msp_instance.specs.declared.Job.{Job}
 use Rattle.msp_instance.specs.declared.Instance.{Instance}
@@ -22,7 +22,8 @@ use Rattle.msp_schedule.specs.Feasible.{Feasible}
 use Rattle.msp_schedule.specs.Cost.{end_of, job_cost, cost_of}
 use Rattle.msp_schedule.proofs.feasible.Frames.{frame_of, Fits, job_at-map, IsShaped, IsShaped-from_conditions, Fits-from_feasible, HasWork-from_conditions}
 use Rattle.msp_schedule.proofs.feasible.LastEnds.{last_end-bound, last_end-reached}
-use Rattle.msp_schedule.proofs.costs.Charges.{charge_of, cost_of-sum, cost_of-bound, cost_of-least}
+use Rattle.msp_schedule.proofs.costs.Charges.{charge_of, cost_of-sum}
+use Rattle.msp_schedule.proofs.costs.InTime.{meets_jobs, sum_zero, late_zero, late_nonneg}
 use Rattle.msp_schedule.proofs.changes.Serves.{SameWork, SameWork-sym, SameNeeds-from_map, SameWork-from_map, IsShaped-same, Feasible-same}
 use Rattle.msp_plain.specs.Changes.{raised, shift_of}
 use Rattle.msp_plain.specs.Threshold.{IsThresholdSum, IsThreshold, Meets, IsInTime}
@@ -62,22 +63,6 @@ shift_work : (i : Instance) (bound : ℤ) (crit : Crit) → SameWork i (shift_of
 shift_work i bound crit = let j = shift_of bound crit i in SameWork-from_map i j (raised bound) (SameNeeds-from_map i j (raised bound) refl refl refl refl refl (λ a. refl)) refl (λ a. refl) refl
 
 -- ---- the bound, job by job
-abbrev in_time : Instance → ℤ → Schedule → ℕ → Type 0
-in_time i bound s k = end_of s k ≤ℤ (s.unit *ℤ ((job_at i k).due +ℤ bound))
-
-shares : (x p q r t : ℤ) → t ≡ p +ℤ q → r ≡ q → (x ≤ℤ t) ↔ ((x -ℤ p) ≤ℤ r)
-shares x p q r t e f = ((λ h. omega (arith, ints)), (λ h. omega (arith, ints)))
-
-lateness_in_time : (i : Instance) (bound : ℤ) (s : Schedule) (k : ℕ) → i.class.crit ≡ Lmax → in_time i bound s k ↔ (charge_of i s k ≤ℤ (bound *ℤ s.unit))
-lateness_in_time i bound s k e = subst (λ c. in_time i bound s k ↔ (job_cost c s.unit (job_at i k) (end_of s k) ≤ℤ (bound *ℤ s.unit))) (sym e)
-    (shares (end_of s k) (s.unit *ℤ (job_at i k).due) (s.unit *ℤ bound) (bound *ℤ s.unit) (s.unit *ℤ ((job_at i k).due +ℤ bound)) (*ℤ-add s.unit (job_at i k).due bound) (*ℤ_comm bound s.unit))
-
-meets_jobs : (i : Instance) (bound : ℤ) (s : Schedule) → i.class.crit ≡ Lmax → 0 < length i.jobs → Meets i s bound ↔ ((k : ℕ) → k < length i.jobs → in_time i bound s k)
-meets_jobs i bound s e some = (
-  (λ h k l. (lateness_in_time i bound s k e).1 (≤ℤ_trans (cost_of-bound i s (ap is_greatest e) k l) h)),
-  (λ h. cost_of-least i s (bound *ℤ s.unit) (ap is_greatest e) some (λ k l. (lateness_in_time i bound s k e).0 (h k l))),
-)
-
 pub meets_pieces : (i : Instance) (bound : ℤ) (s : Schedule) → Inner i → Feasible i s → i.class.crit ≡ Lmax → All (IsInTime i.jobs s.unit bound) s.pieces ↔ Meets i s bound
 meets_pieces i bound s inner f e = (up, down)
   where
@@ -95,40 +80,11 @@ meets_pieces i bound s inner f e = (up, down)
         ≤ℤ_trans (last_end-bound s.pieces k d l) ((meets_jobs i bound s e inner.conditions.some).0 h (get_or s.pieces k d).job place.job)
 
 -- ---- sums that are 0
-sum_zero : (n : ℕ) (g : ℕ → ℤ) → ((k : ℕ) → k < n → pos 0 ≤ℤ g k) → (int_total_below n g ≡ pos 0) ↔ ((k : ℕ) → k < n → g k ≡ pos 0)
-sum_zero n g nonneg = (each, all)
-  where
-    f : ℕ → ℕ
-    f k = nat_abs (g k)
-
-    whole : int_total_below n g ≡ pos (total_below n f)
-    whole = int_total_below-natural n g f (λ k l. natural (g k) (nonneg k l))
-
-    each : int_total_below n g ≡ pos 0 → (k : ℕ) → k < n → g k ≡ pos 0
-    each e k l = natural (g k) (nonneg k l) ∙ ap pos (none (f k) (total_below n f) (total_below-term n f k l) (pos-same (sym whole ∙ e)))
-      where
-        none : (a b : ℕ) → a ≤ b → b ≡ 0 → a ≡ 0
-        none a b h e = omega arith
-
-    all : ((k : ℕ) → k < n → g k ≡ pos 0) → int_total_below n g ≡ pos 0
-    all h = whole ∙ ap pos (total_below-none n f (λ k l. ap nat_abs (h k l)))
-
-late_zero : (unit t x : ℤ) → pos 1 ≤ℤ unit → (x ≤ℤ t) ↔ ((if int_lt t x then unit else pos 0) ≡ pos 0)
-late_zero unit t x u = by (int_lt t x) refl
-  where
-    by : (b : Bool) → int_lt t x ≡ b → (x ≤ℤ t) ↔ ((if b then unit else pos 0) ≡ pos 0)
-    by true e = ((λ h. absurd (omega (arith, ints))), (λ h. absurd (omega (arith, ints))))
-    by false e = ((λ h. refl), (λ h. omega (arith, ints)))
-
 tardy_zero : (t x : ℤ) → (x ≤ℤ t) ↔ (int_max (pos 0) (x -ℤ t) ≡ pos 0)
 tardy_zero t x = ((λ h. int_max-left (pos 0) (x -ℤ t) (omega (arith, ints))), (λ h. below (x -ℤ t) refl (subst (λ z. (x -ℤ t) ≤ℤ z) h (≤ℤ-int_max_right (pos 0) (x -ℤ t)))))
   where
     below : (y : ℤ) → y ≡ x -ℤ t → y ≤ℤ pos 0 → x ≤ℤ t
     below y e h = omega (arith, ints)
-
-late_nonneg : (b : Bool) (unit : ℤ) → pos 1 ≤ℤ unit → pos 0 ≤ℤ (if b then unit else pos 0)
-late_nonneg true unit u = omega (arith, ints)
-late_nonneg false unit u = omega (arith, ints)
 
 -- what a job costs by either sum at its raised due date
 record IsZeroInTime (crit : Crit) (unit : ℤ) (bound : ℤ) (a : Job) (x : ℤ) : Type 0 where

@@ -121,10 +121,10 @@ kind_reads JobShop h i = absurd (elim h [ inl e ↦ cc | inr e ↦ cc ])
 
 -- lengths times rates, added up
 module _ (rate : Piece → ℕ) where
-  abbrev share : Piece → ℤ
+  abbrev pub share : Piece → ℤ
   share p = length_of p *ℤ pos (rate p)
 
-  abbrev size_share : Piece → ℕ
+  abbrev pub size_share : Piece → ℕ
   size_share p = size_of start finish p * rate p
 
   share-is : (p : Piece) → IsTimed p → share p ≡ pos (size_share p)
@@ -140,7 +140,7 @@ module _ (rate : Piece → ℕ) where
       ∙ fold-shares (a + size_share p) ps (All-tail IsTimed p ps h)
       ∙ ap pos (omega (arith, sum_by-cons size_share p ps))
 
-  total_shares : (xs : List Piece) → All IsTimed xs → total (map share xs) ≡ pos (sum_by size_share xs)
+  pub total_shares : (xs : List Piece) → All IsTimed xs → total (map share xs) ≡ pos (sum_by size_share xs)
   total_shares xs h = fold-shares 0 xs h ∙ ap pos (zero-add (sum_by size_share xs))
 
 module _ (i : Instance) (s : Schedule) (speeds : HaveSpeeds (kind_of i.class.env)) (f : Feasible i s) where

@@ -3,7 +3,8 @@ use Rattle.std.proofs.Common.{◌≡◌, ◌≢◌, ℕ, ◌<◌, ◌≤◌, ◌
 use Rattle.std.proofs.lemmas.Int.{ints}
 use Rattle.std.proofs.lemmas.List.{length-map, get_or-map}
 use Rattle.std.proofs.lemmas.List.Elements.{All-contains, Contains-get_or}
-use Rattle.msp_class.specs.declared.environments.EnvKind.TheVariants.{Identical, Unrelated}
+use Rattle.msp_class.specs.declared.environments.EnvKind.{EnvKind}
+use Rattle.msp_class.specs.declared.environments.EnvKind.TheVariants.{Identical, Uniform, Unrelated}
 use Rattle.msp_class.specs.Env.{kind_of}
 use Rattle.msp_class.proofs.Sums.{Contains-from_filter, OnceBelow, OnceBelow-distinct, length-OnceBelow}
 use Rattle.msp_instance.specs.declared.Instance.{Instance}
@@ -26,15 +27,25 @@ pub record IsUncut (i : Instance) : Type 0 where
   pub may_run : (j m : ℕ) → m < i.machines → MayRun (kind_of i.class.env) i j 0 m
   pub route : (ps : List Piece) → FollowsRoute (kind_of i.class.env) ps
 
-pub IsUncut-identical : (i : Instance) → kind_of i.class.env ≡ Identical → i.class.cut ≡ false → length i.jobs ≤ 400 → IsUncut i
-IsUncut-identical i kind cut few = record {
+IsUncut-from_kind : (i : Instance) (k : EnvKind) → kind_of i.class.env ≡ k → ((j o : ℕ) → HasOperation k i j o → o ≡ 0) → ((j : ℕ) → HasOperation k i j 0) →
+    ((j m : ℕ) → m < i.machines → MayRun k i j 0 m) → ((ps : List Piece) → FollowsRoute k ps) → i.class.cut ≡ false → length i.jobs ≤ 400 → IsUncut i
+IsUncut-from_kind i k kind first operation may_run route cut few = record {
   cut = cut;
   few = few;
-  first = λ j o op. subst (λ k. HasOperation k i j o) kind op;
-  operation = λ j. subst (λ k. HasOperation k i j 0) (sym kind) refl;
-  may_run = λ j m l. subst (λ k. MayRun k i j 0 m) (sym kind) l;
-  route = λ ps. subst (λ k. FollowsRoute k ps) (sym kind) tt;
+  first = λ j o op. first j o (subst (λ x. HasOperation x i j o) kind op);
+  operation = λ j. subst (λ x. HasOperation x i j 0) (sym kind) (operation j);
+  may_run = λ j m l. subst (λ x. MayRun x i j 0 m) (sym kind) (may_run j m l);
+  route = λ ps. subst (λ x. FollowsRoute x ps) (sym kind) (route ps);
 }
+
+pub IsUncut-identical : (i : Instance) → kind_of i.class.env ≡ Identical → i.class.cut ≡ false → length i.jobs ≤ 400 → IsUncut i
+IsUncut-identical i kind = IsUncut-from_kind i Identical kind (λ j o e. e) (λ j. refl) (λ j m l. l) (λ ps. tt)
+
+pub IsUncut-uniform : (i : Instance) → kind_of i.class.env ≡ Uniform → i.class.cut ≡ false → length i.jobs ≤ 400 → IsUncut i
+IsUncut-uniform i kind = IsUncut-from_kind i Uniform kind (λ j o e. e) (λ j. refl) (λ j m l. l) (λ ps. tt)
+
+pub IsUncut-unrelated : (i : Instance) → kind_of i.class.env ≡ Unrelated → i.class.cut ≡ false → length i.jobs ≤ 400 → IsUncut i
+IsUncut-unrelated i kind = IsUncut-from_kind i Unrelated kind (λ j o e. e) (λ j. refl) (λ j m l. l) (λ ps. tt)
 
 -- each job has one piece, on a machine of the instance and apart from the others of that machine, from its release date on and whole
 pub record AreOneEach (i : Instance) (unit : ℕ) (pieces : List Piece) : Type 0 where

@@ -3,7 +3,6 @@ use Rattle.std.proofs.Common.{ℕ, ◌≡◌, ◌*◌, ◌+◌, refl, rules, get
 use Rattle.std.proofs.lemmas.Int.{ints, to_z-of_z}
 use Rattle.std.specs.Int.{w128}
 use Rattle.msp_schedule.specs.Rows.{time_at}
-use Rattle.msp_route.proofs.Pushes.{on_ok}
 use Rattle.msp_route.proofs.JobReads.{ends-next}
 use Rattle.msp_route.proofs.RowSteps.{laid-next, length_read, moment-next}
 use Rattle.msp_route.proofs.row.in_a_row.Goals as goal
@@ -28,7 +27,7 @@ loop-k-preserved c =
     let within = c.requires.jobs c.loop-k.k 0 c.loop-k-test.true in
     let is = length_read c.args.inst.now c.args.unit c.as_slice-jobs.result.now _ _ c.index-jobs-order.result c.as_slice-jobs.ensures within c.index-jobs-order.is c.length_over.ensures in
     let longer : c.loop-k.moment + c.length_over.result ≡ c.loop-k.moment + c.args.unit * time_at c.args.inst.now (get_or c.args.order.now c.loop-k.k 0) = omega (arith, is) in
-    let more = on_ok _ _ _ c.push.ensures.pushed c.is_err.ensures.value c.if-is_err.false in
+    let more = c.in_ok-put.ensures.put in
     let small = moment-next c.args.inst.now c.args.unit c.loop-k.k _ c.loop-k.moment c.length_over.result _ c.requires.unit c.requires.needs within is c.loop-k.invariant.early c.loop-k-test.true c.requires.few in
     record {
       laid = laid-next p _ _ c.args.order.now c.loop-k.k _ c.loop-k.moment _ _ _ more (to_z-of_z w128 _ (search rules)) (to_z-of_z w128 _ (search rules)) longer c.loop-k-test.true refl c.loop-k.invariant.ends c.loop-k.invariant.laid;

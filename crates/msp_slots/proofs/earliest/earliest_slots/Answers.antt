@@ -1,8 +1,7 @@
-use Rattle.msp_schedule.proofs.lists.Pushes.{pushed}
 use Rattle.msp_slots.proofs.Filling.{filled_next}
 use Rattle.msp_slots.proofs.earliest.earliest_slots.Goals as goal
 
 pub loop-k-preserved : goal.loop-k-preserved
 loop-k-preserved c =
     filled_next c.args.machines c.args.releases.now c.loop-k.k c.loop-k.moment c.loop-k.taken c.loop-k.slots.items c.push.new.self.items c.next_slot-slot.result c.requires.some c.loop-k-test.true c.requires.early c.requires.rising
-    c.loop-k.invariant c.next_slot-slot.ensures (pushed _ _ _ _ _ c.push.ensures.items c.is_err.ensures.negation c.if-is_err.false)
+    c.loop-k.invariant c.next_slot-slot.ensures c.in_ok-push.ensures.items
