@@ -1,10 +1,11 @@
 -- The search begins with the new row, and grows by the row of the nearest column.
-use Rattle.std.proofs.Common.{◌≡◌, ◌≢◌, ℕ, ◌+◌, ◌<◌, ◌≤◌, ◌^◌, ◌⊎◌, inl, inr, List, [], ◌∷◌, ◌++◌, length, get_or, replicate, All, AllPairs, Contains, sym, ap, subst, ◌∙◌, arith, refl}
+use Rattle.std.proofs.Common.{◌≡◌, ◌≢◌, ℕ, ◌+◌, ◌<◌, ◌≤◌, ◌^◌, ◌⊎◌, inl, inr, List, [], ◌∷◌, ◌++◌, length, get_or, replicate, All, AllPairs, Contains, IsPermutation, sym, ap, subst, ◌∙◌, arith, refl}
 use Rattle.std.proofs.Math.Seq.{get_or-append_seam}
 use Rattle.std.proofs.lemmas.List.{get_or-replicate, length-replicate, length-append, get_or_append_left, get_or_default}
 use Rattle.std.proofs.lemmas.List.Elements.{All-contains, All-from_get_or}
-use Rattle.msp_assign.specs.Search.{at, paid, AreAll, IsPlaced, IsTree, IsLevel, IsSearch, IsNearest, IsRelaxed}
-use Rattle.msp_assign.proofs.Lists.{same_or_not, contained_or_not, Contains-at, at-Contains, All-from_contained, IsWithout}
+use Rattle.msp_assign.specs.Search.{at, paid, AreAll, IsPlaced, IsTree, IsLevel, IsSearch, IsNearest, AreNearest, IsRelaxed}
+use Rattle.std.proofs.lemmas.List.Sorted.{All-permutation, Contains-permutation, IsPermutation-sym}
+use Rattle.msp_assign.proofs.Lists.{same_or_not, contained_or_not, Contains-at, at-Contains, All-from_contained, IsWithout, distinct-permutation}
 
 -- the nearest column of those that are left
 pub record IsClosest (distance left : List ℕ) (e : ℕ) : Type 0 where
@@ -13,9 +14,22 @@ pub record IsClosest (distance left : List ℕ) (e : ℕ) : Type 0 where
 
 pub IsClosest-at : (distance left : List ℕ) (k e : ℕ) → IsNearest distance left k → e ≡ at left k → IsClosest distance left e
 IsClosest-at distance left k e h is = record {
-  among = Contains-at left k e h.inside (sym is);
+  among = Contains-at left k e (omega (arith, h.inside)) (sym is);
   least = λ d m. let w = at-Contains left d m in omega (arith, ap (at distance) is, h.least w.0 w.1, ap (at distance) w.2);
 }
+
+-- without the one at place k those before it are as near as it was
+pub AreNearest-rest : (distance left rest : List ℕ) (k e depth : ℕ) → IsNearest distance left k → IsWithout left e rest → e ≡ at left k → depth ≡ at distance e → length rest + 1 ≡ length left
+    → ((j d : ℕ) → j ≢ k → j + 1 < length left → get_or rest j d ≡ get_or left j d) → AreNearest distance rest k depth
+AreNearest-rest distance left rest k e depth h w is far size still = record {
+  inside = omega (arith, h.inside, size);
+  same = λ j l. omega (arith, ap (at distance) (still j 0 (omega (arith, l)) (omega (arith, l, h.inside))), h.same j (omega (arith, l)), far, ap (at distance) is);
+  least = λ j l. let m = at-Contains left (at rest j) (w.before (at rest j) (Contains-at rest j (at rest j) l refl)) in omega (arith, h.least m.0 m.1, ap (at distance) m.2, far, ap (at distance) is);
+}
+
+-- none is near before the search begins
+pub AreNearest-none : (distance left : List ℕ) → AreNearest distance left 0 0
+AreNearest-none distance left = record { inside = omega arith; same = λ j l. absurd (omega (arith, l)); least = λ j l. omega arith }
 
 -- all columns are left at first
 module _ (columns : ℕ) (left : List ℕ) (h : AreAll columns left) where
@@ -69,13 +83,23 @@ module _ (cost : ℕ → ℕ → ℕ) (columns : ℕ) (fall column : List ℕ) w
       low = λ c l. omega (arith, (begun_at c l).1, bound c l);
     }
 
-  pub IsSearch-same : (distance «from» next next_from left left2 tree tree2 : List ℕ) → next ≡ distance → next_from ≡ «from» → left2 ≡ left → tree2 ≡ tree
-      → IsSearch cost columns fall column distance «from» left tree → IsSearch cost columns fall column next next_from left2 tree2
-  IsSearch-same distance from_ next next_from left left2 tree tree2 a b s t h =
-      subst (λ x. IsSearch cost columns fall column x next_from left2 tree2) (sym a)
-      (subst (λ x. IsSearch cost columns fall column distance x left2 tree2) (sym b)
-      (subst (λ x. IsSearch cost columns fall column distance from_ x tree2) (sym s)
-      (subst (λ x. IsSearch cost columns fall column distance from_ left x) (sym t) h)))
+  -- the order of the columns that are left does not matter
+  pub IsSearch-reordered : (distance «from» left left2 tree : List ℕ) → IsPermutation left left2 → IsSearch cost columns fall column distance «from» left tree → IsSearch cost columns fall column distance «from» left2 tree
+  IsSearch-reordered distance from_ left left2 tree p h =
+      let there : (c : ℕ) → Contains left c → Contains left2 c = λ c m. Contains-permutation left left2 c p m in
+      let back : (c : ℕ) → Contains left2 c → Contains left c = λ c m. Contains-permutation left2 left c (IsPermutation-sym left left2 p) m in
+      record {
+        grown = h.grown;
+        distances = h.distances;
+        inside = All-permutation (λ c. c < columns) left left2 p h.inside;
+        apart = distinct-permutation left left2 p h.apart;
+        own = λ k a b m. h.own k a b (back (at column (at tree k)) m);
+        owned = λ c l. elim (h.owned c l) [ inl m ↦ inl (there c m) | inr t ↦ inr t ];
+        level_own = h.level_own;
+        level = h.level;
+        nearer = λ c d l n m. h.nearer c d l (λ x. n (there c x)) (back d m);
+        low = h.low;
+      }
 
   module _ (p : IsPlaced cost columns fall column) (distance «from» left tree : List ℕ) (h : IsSearch cost columns fall column distance «from» left tree)
       (e r : ℕ) (near : IsClosest distance left e) (lr : r < length column) (has : at column r ≡ e) (rest : List ℕ) (w : IsWithout left e rest) where
@@ -221,16 +245,16 @@ module _ (cost : ℕ → ℕ → ℕ) (columns : ℕ) (fall column : List ℕ) w
       }
 
 -- the lists as they are made
-pub IsSearch-made : (cost : ℕ → ℕ → ℕ) (columns : ℕ) (fall column : List ℕ) (k most : ℕ) (left left2 distance «from» next next_from tree : List ℕ) → k ≡ columns → 2 ^ 101 < most
-    → AreAll k left → left2 ≡ left → distance ≡ replicate k most → length «from» ≡ k
+pub IsSearch-made : (cost : ℕ → ℕ → ℕ) (columns : ℕ) (fall column : List ℕ) (most : ℕ) (left left2 distance «from» next next_from tree : List ℕ) → 2 ^ 101 < most
+    → AreAll columns left → distance ≡ replicate columns most → length «from» ≡ columns
     → ((c : ℕ) → c < columns → paid cost fall (length column) c ≤ 2 ^ 101) → length next ≡ length distance → length next_from ≡ length «from»
-    → IsRelaxed cost fall (length column) 0 0 0 left2 distance «from» next next_from → tree ≡ [] ++ length column ∷ [] → IsSearch cost columns fall column next next_from left tree
-IsSearch-made cost columns fall column k most left left2 distance from_ next next_from tree ek lm all es ed lf bound ln lnf q et =
-    let every : AreAll columns left = subst (λ x. AreAll x left) ek all in
-    IsSearch-same cost columns fall column next next_from next next_from left left ([] ++ length column ∷ []) tree refl refl refl et
-    (IsSearch-begin cost columns fall column left distance from_ next next_from (all-inside columns left every) (all-apart columns left every) (all-contained columns left every)
+    → IsRelaxed cost fall (length column) 0 0 0 left distance «from» next next_from → tree ≡ [] ++ length column ∷ [] → IsPermutation left left2 → IsSearch cost columns fall column next next_from left2 tree
+IsSearch-made cost columns fall column most left left2 distance from_ next next_from tree lm all ed lf bound ln lnf q et p =
+    IsSearch-reordered cost columns fall column next next_from left left2 tree p
+    (subst (IsSearch cost columns fall column next next_from left) (sym et)
+    (IsSearch-begin cost columns fall column left distance from_ next next_from (all-inside columns left all) (all-apart columns left all) (all-contained columns left all)
     bound
-    (λ c l. let e : at distance c ≡ most = ap (λ x. get_or x c 0) ed ∙ get_or-replicate k c most 0 (omega (arith, ek)) in omega (arith, e))
-    (subst (λ x. IsRelaxed cost fall (length column) 0 0 0 x distance from_ next next_from) es q)
-    (omega (arith, ln, ap length ed, length-replicate k most, ek))
-    (omega (arith, lnf, lf, ek)))
+    (λ c l. let e : at distance c ≡ most = ap (λ x. get_or x c 0) ed ∙ get_or-replicate columns c most 0 l in omega (arith, e))
+    q
+    (omega (arith, ln, ap length ed, length-replicate columns most))
+    (omega (arith, lnf, lf))))

@@ -3,6 +3,7 @@ pub mod Owners
 pub mod Bounds
 pub mod Relaxed
 pub mod Growth
+pub mod Gathering
 pub mod Passing
 pub mod Lowering
 pub mod Moves

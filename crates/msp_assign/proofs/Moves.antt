@@ -113,9 +113,10 @@ pub IsStepped-row : (rows : ℕ) (cost : ℕ → ℕ → ℤ) (columns : ℕ) (f
     → HasCosts rows columns cost → length column < rows → IsPlaced (sizes cost) columns fall column → IsSearch (sizes cost) columns fall column2 distance «from» left tree → IsNearest distance left k → ¬ Contains column2 (at left k)
     → IsLowered far distance2 column3 tree2 fall next → IsPassedOn column from2 tree3 free after → IsStepped (sizes cost) columns next column after free
 IsStepped-row rows cost columns fall column column2 column3 distance distance2 from_ from2 left tree tree2 tree3 k free far next after ec ec3 ed ef et et3 es ex costs more p h near unused moved passed =
-    let is : free ≡ at left k = es ∙ get_or_default left k free 0 near.inside in
+    let inside_left : k < length left = omega (arith, near.inside) in
+    let is : free ≡ at left k = es ∙ get_or_default left k free 0 inside_left in
     let close = IsClosest-at distance left k free near is in
-    let inside : free < columns = omega (arith, is, h.inside k 0 near.inside) in
+    let inside : free < columns = omega (arith, is, h.inside k 0 inside_left) in
     let is_far : far ≡ at distance free = ex ∙ get_or_default distance free far 0 (omega (arith, h.distances, inside)) in
     let g = subst (λ x. IsSearch (sizes cost) columns fall x distance from_ left tree) ec h in
     let u : ¬ Contains column free = subst (λ x. ¬ Contains x free) ec (subst (λ x. ¬ Contains column2 x) (sym is) unused) in

@@ -2,6 +2,8 @@
 -- contract cites this file.
 use Rattle.std.specs.Prelude.{pos, ◌≡◌, ◌≢◌, ℕ, ◌+◌, ◌-◌, ◌<◌, ◌≤◌, ◌^◌, ◌⊎◌, ℤ, List, [], ◌∷◌, ◌++◌, Option, None, length, slice_index_or, unsigned_abs, MatchOption, All, AllPairs, Contains}
 use Rattle.std.specs.List.Sorted.{IsPermutation}
+use Rattle.msp_class.specs.declared.list.TheConstants.{PLACES}
+use Rattle.msp_assign.specs.declared.search.Search.{Search}
 use Rattle.msp_assign.specs.Prices.{greatest_cost, HasCosts, price_at}
 
 abbrev pub at : List ℕ → ℕ → ℕ
@@ -35,6 +37,14 @@ pub record IsPlaced (cost : ℕ → ℕ → ℕ) (columns : ℕ) (fall column : 
 abbrev pub HasUnfallen : ℕ → List ℕ → Type 0
 HasUnfallen columns fall = (c : ℕ) × (c < columns) × (at fall c ≡ 0)
 
+-- One row more is to have a column: those before it have theirs, and some column is free.
+pub record IsOpenRow (rows columns : ℕ) (cost : ℕ → ℕ → ℤ) (fall column : List ℕ) : Type 0 where
+  pub costs : HasCosts rows columns cost
+  pub placed : IsPlaced (sizes cost) columns fall column
+  pub next : length column < rows
+  pub free : (c : ℕ) × (c < columns) × ¬ Contains column c
+  pub few : length column < PLACES
+
 -- The row that has each column.
 pub record IsOwners (columns : ℕ) (column : List ℕ) (owner : List (Option ℕ)) : Type 0 where
   pub size : length owner ≡ columns
@@ -60,10 +70,15 @@ pub record AreAll (columns : ℕ) (left : List ℕ) : Type 0 where
   pub size : length left ≡ columns
   pub each : (c : ℕ) → c < columns → at left c ≡ c
 
--- Of the columns that are left, the one at place k of the list is the nearest.
-pub record IsNearest (distance left : List ℕ) (k : ℕ) : Type 0 where
-  pub inside : k < length left
-  pub least : (j : ℕ) → j < length left → at distance (at left k) ≤ at distance (at left j)
+-- Of the columns that are left, the first `near` are so far, and none is nearer.
+pub record AreNearest (distance left : List ℕ) (near far : ℕ) : Type 0 where
+  pub inside : near ≤ length left
+  pub same : (j : ℕ) → j < near → at distance (at left j) ≡ far
+  pub least : (j : ℕ) → j < length left → far ≤ at distance (at left j)
+
+-- Of the columns that are left, those up to place k of the list are the nearest.
+abbrev pub IsNearest : List ℕ → List ℕ → ℕ → Type 0
+IsNearest distance left k = AreNearest distance left (k + 1) (at distance (at left k))
 
 -- The columns of the rows of the tree are settled: their distances are final. The others are left.
 pub record IsSearch (cost : ℕ → ℕ → ℕ) (columns : ℕ) (fall column distance «from» left tree : List ℕ) : Type 0 where
@@ -77,6 +92,11 @@ pub record IsSearch (cost : ℕ → ℕ → ℕ) (columns : ℕ) (fall column di
   pub level : (c : ℕ) → c < columns → IsLevel cost columns fall distance (at tree (at «from» c)) c
   pub nearer : (c d : ℕ) → c < columns → ¬ Contains left c → Contains left d → at distance c ≤ at distance d
   pub low : (c : ℕ) → c < columns → at distance c ≤ greatest_payment
+
+-- The search goes on at the nearest columns.
+pub record IsUnderWay (cost : ℕ → ℕ → ℕ) (columns : ℕ) (fall column : List ℕ) (s : Search) : Type 0 where
+  pub search : IsSearch cost columns fall column s.distance.items s.from.items s.left.items s.tree.items
+  pub nearest : IsNearest s.distance.items s.left.items s.nearest
 
 -- A row that was reached pays at its own column no more than at any.
 pub record HasEdges (rows columns : ℕ) (cost : ℕ → ℕ → ℤ) (fall : List ℕ) (r depth own : ℕ) : Type 0 where
@@ -110,11 +130,9 @@ pub record IsShortened (far place : ℕ) (distance «from» next next_from : Lis
   pub change : ((at next c ≡ at distance c) × (at next_from c ≡ at «from» c)) ⊎ ((at next_from c ≡ place) × (at next c ≡ far))
   pub others : (e : ℕ) → e ≢ c → (at next e ≡ at distance e) × (at next_from e ≡ at «from» e)
 
--- The nearest so far, after one more column: the place in the list, and the distance.
-pub record IsNearer (k distance near far next_near next_far : ℕ) : Type 0 where
-  pub falls : next_far ≤ far
-  pub least : next_far ≤ distance
-  pub change : ((next_near ≡ near) × (next_far ≡ far)) ⊎ ((next_near ≡ k) × (next_far ≡ distance))
+-- As far as the columns that are as near as the row, where there are some of them; else farther than any.
+abbrev pub IsLeastSoFar : ℕ → ℕ → ℕ → Type 0
+IsLeastSoFar near depth least = ((near ≡ 0) × (least ≡ 2 ^ 128 - 1)) ⊎ ((1 ≤ near) × (least ≡ depth))
 
 -- The prices after the search: the columns of the rows of the tree fall by as much as they are nearer than d.
 pub record IsLowered (d : ℕ) (distance column tree fall next : List ℕ) : Type 0 where

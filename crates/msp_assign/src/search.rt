@@ -1,8 +1,9 @@
 // The search for a free column for one more row.
-ghost use Rattle.std.specs.Prelude.{◌≡◌, ◌≢◌, ◌+◌, ◌<◌, ◌≤◌, ℕ, All, AllPairs, Contains, IfOk, OnOk, true, false, length};
+ghost use Rattle.std.specs.Prelude.{◌≡◌, ◌≢◌, ◌+◌, ◌<◌, ◌≤◌, ℕ, All, AllPairs, Contains, IfOk, OnOk, length};
+ghost use Rattle.std.specs.List.Sorted.{IsPermutation};
 ghost use Rattle.msp_class.specs.declared.list.TheConstants.{PLACES};
 ghost use Rattle.msp_assign.specs.Prices.{greatest_cost, HasCosts};
-ghost use Rattle.msp_assign.specs.Search.{greatest_payment, at, sizes, paid, IsPlaced, IsOwners, AreAll, IsSearch, IsNearest, IsRelaxed, IsShortened, IsNearer, IsWay, HasEdges};
+ghost use Rattle.msp_assign.specs.Search.{greatest_payment, at, sizes, paid, IsOwners, AreAll, IsOpenRow, IsUnderWay, IsNearest, AreNearest, IsLeastSoFar, IsRelaxed, IsShortened, IsWay, HasEdges};
 
 use crate::Costs;
 use std::alloc::{AllocError, Global};
@@ -50,13 +51,6 @@ pub struct Reached {
     pub own: u128,
 }
 
-/// The nearest so far of the columns that are left: its place in their list, and its distance.
-#[derive(Clone, Copy)]
-pub struct Nearest {
-    pub place: usize,
-    pub distance: u128,
-}
-
 /// How far the column is over the row: as far as the row's own column, and what the row pays more.
 fn way_over<C: Costs>(costs: &C, falls: &[u128], reached: Reached, column: u32) -> u128
     requires edges { HasEdges (C.row_count costs.now) (C.column_count costs.now) (C.cost costs.now) falls.now reached.row reached.depth reached.own }
@@ -86,72 +80,131 @@ fn shorten(
     distance[column]
 }
 
-/// The nearest column so far, after the one at the place, which is so far. Of columns that are as near a free one comes first.
-fn nearer(
-    nearest: Nearest,
-    place: usize,
-    distance: u128,
-    column: u32,
-    owner: &[Option<u32>],
-) -> Nearest
-    requires { column < length owner.now }
-    ensures { IsNearer place distance nearest.place nearest.distance result.place result.distance }
+/// How far the nearest is of the columns that are as near as the row, where there are some of them.
+fn least_so_far(near: usize, depth: u128) -> u128
+    ensures { IsLeastSoFar near depth result }
 {
-    if distance < nearest.distance
-        || (distance == nearest.distance && owner[column as usize].is_none())
-    {
-        return Nearest { place, distance };
-    }
-    nearest
+    if near > 0 { depth } else { u128::MAX }
 }
 
-/// Shortens the ways to the columns that are left, where they are shorter over the row, and says where the nearest one stands in the
-/// list.
+/// Shortens the ways to the columns that are left, where they are shorter over the row, and says how far the nearest of them is. The first
+/// `near` of them are as near as the row, so no way to them is shorter.
 fn relax<C: Costs>(
     costs: &C,
     falls: &[u128],
-    owner: &[Option<u32>],
     left: &[u32],
+    near: usize,
     reached: Reached,
     distance: &mut [u128],
     from: &mut [usize],
-) -> usize
+) -> u128
     requires edges { HasEdges (C.row_count costs.now) (C.column_count costs.now) (C.cost costs.now) falls.now reached.row reached.depth reached.own }
-    requires owners { length owner.now ≡ C.column_count costs.now }
     requires inside { All (λ c. c < C.column_count costs.now) left.now }
     requires apart { AllPairs (λ c d. c ≢ d) left.now }
     requires some { 0 < length left.now }
     requires distances { length distance.old ≡ C.column_count costs.now }
     requires places { length from.old ≡ C.column_count costs.now }
+    requires near { AreNearest distance.old left.now near reached.depth }
     ensures relaxed { IsRelaxed (sizes (C.cost costs.now)) falls.now reached.row reached.place reached.depth reached.own left.now distance.old from.old distance.new from.new }
-    ensures nearest { IsNearest distance.new left.now result }
+    ensures near { AreNearest distance.new left.now near result }
+    ensures reached { (k : ℕ) × (k < length left.now) × (at distance.new (at left.now k) ≡ result) }
 {
-    let mut nearest = Nearest {
-        place: 0,
-        distance: u128::MAX,
-    };
-    for k in 0..left.len() {
+    let mut least = least_so_far(near, reached.depth);
+    for k in near..left.len() {
         let column = left[k];
         let far = way_over(costs, falls, reached, column);
         let shortest = shorten(distance, from, column as usize, far, reached.place);
-        nearest = nearer(nearest, k, shortest, column, owner);
+        least = least.min(shortest);
     }
-    nearest.place
+    least
 }
 
-/// What the search for a free column has found.
+/// Puts the columns that are so far first, of those that are left, up to a free one, and says where the last of them stands. So far are
+/// the nearest, and the first `before` of the columns already.
+fn gather(
+    left: &mut [u32],
+    before: usize,
+    far: u128,
+    distance: &[u128],
+    owner: &[Option<u32>],
+) -> usize
+    requires inside { All (λ c. c < length distance.now) left.old }
+    requires owners { length owner.now ≡ length distance.now }
+    requires near { AreNearest distance.now left.old before far }
+    requires reached { (k : ℕ) × (k < length left.old) × (at distance.now (at left.old k) ≡ far) }
+    ensures same { IsPermutation left.old left.new }
+    ensures nearest { IsNearest distance.now left.new result }
+{
+    let mut near = before;
+    for k in before..left.len() {
+        let column = left[k] as usize;
+        if distance[column] != far {
+            continue;
+        }
+        left.swap(k, near);
+        if owner[column].is_none() {
+            return near;
+        }
+        near += 1;
+    }
+    near - 1
+}
+
+/// The search for a free column.
 #[derive(Drop)]
 pub struct Search {
     /// How far each column is from the new row.
     pub distance: Vec<u128>,
     /// The place in the tree of the row from which each column is reached.
     pub from: Vec<usize>,
-    /// The columns whose distance is not final.
+    /// The columns whose distance is not final, the nearest ones first.
     pub left: Vec<u32>,
     /// The rows that were reached, the new one first.
     pub tree: Vec<u32>,
-    /// Where the nearest of these stands.
+    /// Where the last of the nearest columns stands.
     pub nearest: usize,
+}
+
+/// Goes from the row to the columns that are left, of which the first `near` are as near as the row.
+fn spread<C: Costs>(
+    costs: &C,
+    falls: &[u128],
+    owner: &[Option<u32>],
+    reached: Reached,
+    near: usize,
+    search: &mut Search,
+)
+    requires edges { HasEdges (C.row_count costs.now) (C.column_count costs.now) (C.cost costs.now) falls.now reached.row reached.depth reached.own }
+    requires owners { length owner.now ≡ C.column_count costs.now }
+    requires inside { All (λ c. c < C.column_count costs.now) search.old.left.items }
+    requires apart { AllPairs (λ c d. c ≢ d) search.old.left.items }
+    requires some { 0 < length search.old.left.items }
+    requires distances { length search.old.distance.items ≡ C.column_count costs.now }
+    requires places { length search.old.from.items ≡ C.column_count costs.now }
+    requires near { AreNearest search.old.distance.items search.old.left.items near reached.depth }
+    ensures relaxed { IsRelaxed (sizes (C.cost costs.now)) falls.now reached.row reached.place reached.depth reached.own search.old.left.items search.old.distance.items search.old.from.items search.new.distance.items search.new.from.items }
+    ensures same { IsPermutation search.old.left.items search.new.left.items }
+    ensures nearest { IsNearest search.new.distance.items search.new.left.items search.new.nearest }
+    ensures tree { search.new.tree.items ≡ search.old.tree.items }
+    ensures distances { length search.new.distance.items ≡ length search.old.distance.items }
+    ensures places { length search.new.from.items ≡ length search.old.from.items }
+{
+    let far = relax(
+        costs,
+        falls,
+        search.left.as_slice(),
+        near,
+        reached,
+        search.distance.as_mut_slice(),
+        search.from.as_mut_slice(),
+    );
+    search.nearest = gather(
+        search.left.as_mut_slice(),
+        near,
+        far,
+        search.distance.as_slice(),
+        owner,
+    );
 }
 
 /// The numbers of all columns.
@@ -173,47 +226,32 @@ fn begun<C: Costs>(
     column_of: &[u32],
     owner: &[Option<u32>],
 ) -> Result<Search, AllocError>
-    requires costs { HasCosts (C.row_count costs.now) (C.column_count costs.now) (C.cost costs.now) }
-    requires placed { IsPlaced (sizes (C.cost costs.now)) (C.column_count costs.now) falls.now column_of.now }
-    requires more { length column_of.now < C.row_count costs.now }
-    requires few { length column_of.now < PLACES }
-    requires some { 1 ≤ C.column_count costs.now }
+    requires row { IsOpenRow (C.row_count costs.now) (C.column_count costs.now) (C.cost costs.now) falls.now column_of.now }
     requires owners { length owner.now ≡ C.column_count costs.now }
-    ensures search { IfOk result (λ s. IsSearch (sizes (C.cost costs.now)) (C.column_count costs.now) falls.now column_of.now s.distance.items s.from.items s.left.items s.tree.items) }
-    ensures nearest { IfOk result (λ s. IsNearest s.distance.items s.left.items s.nearest) }
+    ensures { IfOk result (IsUnderWay (sizes (C.cost costs.now)) (C.column_count costs.now) falls.now column_of.now) }
 {
     let columns = costs.columns();
     let row = column_of.len() as u32;
-    let mut distance = vec![in alloc; u128::MAX; columns as usize]?;
-    let mut from = vec![in alloc; 0; columns as usize]?;
-    let left = all_columns(alloc, columns)?;
     let mut tree = Vec::new(alloc);
     tree.push(row)?;
+    let mut search = Search {
+        distance: vec![in alloc; u128::MAX; columns as usize]?,
+        from: vec![in alloc; 0; columns as usize]?,
+        left: all_columns(alloc, columns)?,
+        tree,
+        nearest: 0,
+    };
     let root = Reached {
         row,
         place: 0,
         depth: 0,
         own: 0,
     };
-    let nearest = relax(
-        costs,
-        falls,
-        owner,
-        left.as_slice(),
-        root,
-        distance.as_mut_slice(),
-        from.as_mut_slice(),
-    );
-    Ok(Search {
-        distance,
-        from,
-        left,
-        tree,
-        nearest,
-    })
+    spread(costs, falls, owner, root, 0, &mut search);
+    Ok(search)
 }
 
-/// Settles the nearest column, and goes on from the row that has it.
+/// Settles a nearest column, and goes on from the row that has it.
 fn settle<C: Costs>(
     costs: &C,
     falls: &[u128],
@@ -222,20 +260,16 @@ fn settle<C: Costs>(
     search: &mut Search,
     row: u32,
 ) -> Result<(), AllocError>
-    requires costs { HasCosts (C.row_count costs.now) (C.column_count costs.now) (C.cost costs.now) }
-    requires placed { IsPlaced (sizes (C.cost costs.now)) (C.column_count costs.now) falls.now column_of.now }
-    requires more { length column_of.now < C.row_count costs.now }
-    requires free { (c : ℕ) × (c < C.column_count costs.now) × ¬ Contains column_of.now c }
+    requires row { IsOpenRow (C.row_count costs.now) (C.column_count costs.now) (C.cost costs.now) falls.now column_of.now }
     requires owners { length owner.now ≡ C.column_count costs.now }
-    requires search { IsSearch (sizes (C.cost costs.now)) (C.column_count costs.now) falls.now column_of.now search.old.distance.items search.old.from.items search.old.left.items search.old.tree.items }
-    requires nearest { IsNearest search.old.distance.items search.old.left.items search.old.nearest }
-    requires row { row < length column_of.now }
+    requires search { IsUnderWay (sizes (C.cost costs.now)) (C.column_count costs.now) falls.now column_of.now search.old }
+    requires inside { row < length column_of.now }
     requires has { at column_of.now row ≡ at search.old.left.items search.old.nearest }
-    ensures search { OnOk result (IsSearch (sizes (C.cost costs.now)) (C.column_count costs.now) falls.now column_of.now search.new.distance.items search.new.from.items search.new.left.items search.new.tree.items) }
-    ensures nearest { OnOk result (IsNearest search.new.distance.items search.new.left.items search.new.nearest) }
+    ensures search { OnOk result (IsUnderWay (sizes (C.cost costs.now)) (C.column_count costs.now) falls.now column_of.now search.new) }
     ensures fewer { OnOk result (length search.new.left.items + 1 ≡ length search.old.left.items) }
 {
-    let column = search.left.swap_remove(search.nearest);
+    let near = search.nearest;
+    let column = search.left.swap_remove(near);
     let reached = Reached {
         row,
         place: search.tree.len(),
@@ -243,19 +277,11 @@ fn settle<C: Costs>(
         own: payment(costs, falls, row, column),
     };
     search.tree.push(row)?;
-    search.nearest = relax(
-        costs,
-        falls,
-        owner,
-        search.left.as_slice(),
-        reached,
-        search.distance.as_mut_slice(),
-        search.from.as_mut_slice(),
-    );
+    spread(costs, falls, owner, reached, near, search);
     Ok(())
 }
 
-/// Goes from the nearest column to the row that has it, until the nearest column is free.
+/// Goes from a nearest column to the row that has it, until a nearest column is free.
 pub fn find_free<C: Costs>(
     alloc: Global,
     costs: &C,
@@ -263,14 +289,9 @@ pub fn find_free<C: Costs>(
     column_of: &[u32],
     owner: &[Option<u32>],
 ) -> Result<Search, AllocError>
-    requires costs { HasCosts (C.row_count costs.now) (C.column_count costs.now) (C.cost costs.now) }
-    requires placed { IsPlaced (sizes (C.cost costs.now)) (C.column_count costs.now) falls.now column_of.now }
-    requires more { length column_of.now < C.row_count costs.now }
-    requires free { (c : ℕ) × (c < C.column_count costs.now) × ¬ Contains column_of.now c }
-    requires few { length column_of.now < PLACES }
+    requires row { IsOpenRow (C.row_count costs.now) (C.column_count costs.now) (C.cost costs.now) falls.now column_of.now }
     requires owner { IsOwners (C.column_count costs.now) column_of.now owner.now }
-    ensures search { IfOk result (λ s. IsSearch (sizes (C.cost costs.now)) (C.column_count costs.now) falls.now column_of.now s.distance.items s.from.items s.left.items s.tree.items) }
-    ensures nearest { IfOk result (λ s. IsNearest s.distance.items s.left.items s.nearest) }
+    ensures search { IfOk result (IsUnderWay (sizes (C.cost costs.now)) (C.column_count costs.now) falls.now column_of.now) }
     ensures free { IfOk result (λ s. ¬ Contains column_of.now (at s.left.items s.nearest)) }
 {
     let mut search = begun(alloc, costs, falls, column_of, owner)?;

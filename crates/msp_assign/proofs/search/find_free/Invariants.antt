@@ -1,13 +1,10 @@
 use Rattle.std.proofs.Common.{length}
-use Rattle.msp_assign.specs.Search.{sizes, IsSearch, IsNearest}
+use Rattle.msp_assign.specs.Search.{sizes, IsUnderWay}
 use Rattle.msp_assign.proofs.search.find_free.Given as goal
 
 -- what is reached so far
 abbrev pub invariant-reached : goal.invariant-reached
-invariant-reached g l = record {
-  search : IsSearch (sizes (g.C.Costs.cost l.costs)) (g.C.Costs.column_count l.costs) l.falls l.column_of l.search.distance.items l.search.from.items l.search.left.items l.search.tree.items;
-  nearest : IsNearest l.search.distance.items l.search.left.items l.search.nearest;
-}
+invariant-reached g l = IsUnderWay (sizes (g.C.Costs.cost l.costs)) (g.C.Costs.column_count l.costs) l.falls l.column_of l.search
 
 -- a column fewer is left each time
 abbrev pub decreases-reached : goal.decreases-reached

@@ -6,4 +6,4 @@ use Rattle.msp_assign.proofs.search.relax.Given as goal
 abbrev pub invariant-loop-k : goal.invariant-loop-k
 invariant-loop-k g l =
     IsRelaxing (sizes (g.C.Costs.cost l.costs)) l.falls l.reached.row l.reached.place l.reached.depth l.reached.own l.left l.initial.distance l.initial.from
-    340282366920938463463374607431768211455 l.distance l.from l.k l.nearest.place l.nearest.distance
+    340282366920938463463374607431768211455 l.distance l.from l.k l.least

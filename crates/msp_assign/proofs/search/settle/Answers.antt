@@ -1,36 +1,42 @@
-use Rattle.std.proofs.Common.{rules, arith, ◌≡◌, ◌∙◌, ap, sym, length, get_or, refl}
+use Rattle.std.proofs.Common.{rules, arith, ◌≡◌, ◌+◌, ◌∙◌, ap, sym, length, get_or, subst}
 use Rattle.std.proofs.lemmas.List.{get_or_default}
-use Rattle.msp_assign.specs.Search.{at}
-use Rattle.msp_assign.proofs.Relaxed.{IsRelaxed-same}
-use Rattle.msp_assign.proofs.Lists.{whole_slice, at-Contains, IsWithout-swap_remove}
-use Rattle.msp_assign.proofs.Growth.{IsClosest-at, IsSearch-grow, IsSearch-same, still_left}
+use Rattle.std.proofs.lemmas.List.Sorted.{length_permutation}
+use Rattle.msp_assign.specs.Search.{at, sizes, IsSearch, IsRelaxed}
+use Rattle.msp_assign.proofs.Lists.{at-Contains, IsWithout-swap_remove}
+use Rattle.msp_assign.proofs.Growth.{IsClosest-at, IsSearch-grow, IsSearch-reordered, still_left}
 use Rattle.msp_assign.proofs.search.settle.Goals as goal
 
-pub relax-search-requires-clause-some : goal.relax-search-requires-clause-some
-relax-search-requires-clause-some g c =
+pub spread-requires-clause-some : goal.spread-requires-clause-some
+spread-requires-clause-some g c =
+    let before = c.requires.search in
     let is : c.swap_remove-column.result ≡ at c.args.search.now.left.items c.args.search.now.nearest =
-    c.swap_remove-column.ensures.value ∙ get_or_default c.args.search.now.left.items c.args.search.now.nearest c.swap_remove-column.result 0 c.requires.nearest.inside
+    c.swap_remove-column.ensures.value ∙ get_or_default c.args.search.now.left.items c.args.search.now.nearest c.swap_remove-column.result 0 (omega (arith, before.nearest.inside))
     in
-    let rest = IsWithout-swap_remove c.args.search.now.left.items c.swap_remove-column.new.self.items c.args.search.now.nearest c.swap_remove-column.result c.requires.search.apart c.requires.nearest.inside is c.swap_remove-column.ensures.items in
-    let free = still_left _ _ _ _ c.requires.placed _ _ _ _ c.requires.search _ _ (IsClosest-at _ _ _ _ c.requires.nearest is) c.requires.row (c.requires.has ∙ sym is) _ rest c.requires.free.0 c.requires.free.1 c.requires.free.2 in
-    let some = at-Contains c.swap_remove-column.new.self.items c.requires.free.0 free in
-    omega (arith, some.1, c.as_slice.ensures.len, ap length c.as_slice.ensures.value)
+    let rest = IsWithout-swap_remove c.args.search.now.left.items c.swap_remove-column.new.self.items c.args.search.now.nearest c.swap_remove-column.result before.search.apart (omega (arith, before.nearest.inside)) is c.swap_remove-column.ensures.items in
+    let free = still_left _ _ _ _ c.requires.row.placed _ _ _ _ before.search _ _ (IsClosest-at _ _ _ _ before.nearest is) c.requires.inside (c.requires.has ∙ sym is) _ rest c.requires.row.free.0 c.requires.row.free.1 c.requires.row.free.2 in
+    let some = at-Contains c.swap_remove-column.new.self.items c.requires.row.free.0 free in
+    omega (arith, some.1)
 
 pub returns-clause-search : goal.returns-clause-search
 returns-clause-search g c =
+    let before = c.requires.search in
     let is : c.swap_remove-column.result ≡ at c.args.search.now.left.items c.args.search.now.nearest =
-    c.swap_remove-column.ensures.value ∙ get_or_default c.args.search.now.left.items c.args.search.now.nearest c.swap_remove-column.result 0 c.requires.nearest.inside
+    c.swap_remove-column.ensures.value ∙ get_or_default c.args.search.now.left.items c.args.search.now.nearest c.swap_remove-column.result 0 (omega (arith, before.nearest.inside))
     in
-    let rest = IsWithout-swap_remove c.args.search.now.left.items c.swap_remove-column.new.self.items c.args.search.now.nearest c.swap_remove-column.result c.requires.search.apart c.requires.nearest.inside is c.swap_remove-column.ensures.items in
-    let place : c.len.result ≡ length c.args.search.now.tree.items = search rules in
+    let rest = IsWithout-swap_remove c.args.search.now.left.items c.swap_remove-column.new.self.items c.args.search.now.nearest c.swap_remove-column.result before.search.apart (omega (arith, before.nearest.inside)) is c.swap_remove-column.ensures.items in
     let depth : c.index.result.now ≡ get_or c.args.search.now.distance.items c.swap_remove-column.result 0 =
-    c.index.ensures ∙ get_or_default c.args.search.now.distance.items c.swap_remove-column.result c.index.result.now 0 (omega (arith, c.requires.search.distances, c.requires.search.inside c.args.search.now.nearest 0 c.requires.nearest.inside, is))
+    c.index.ensures ∙ get_or_default c.args.search.now.distance.items c.swap_remove-column.result c.index.result.now 0 (omega (arith, before.search.distances, before.search.inside c.args.search.now.nearest 0 (omega (arith, before.nearest.inside)), is))
     in
-    let next = c.relax-search.auto.distance ∙ c.as_mut_slice.ensures.len in
-    let next_from = c.relax-search.auto.from ∙ c.as_mut_slice-2.ensures.len in
-    IsSearch-same _ _ _ _ _ _ _ _ _ _ _ _ (whole_slice c.args.search.now.distance.len (length c.relax-search.new.distance) c.relax-search.new.distance c.args.search.now.distance.items next)
-    (whole_slice c.args.search.now.from.len (length c.relax-search.new.from) c.relax-search.new.from c.args.search.now.from.items next_from) refl c.in_ok-push.ensures.items
-    (IsSearch-grow _ _ _ _ c.requires.placed _ _ _ _ c.requires.search _ _ (IsClosest-at _ _ _ _ c.requires.nearest is) c.requires.row (c.requires.has ∙ sym is) _ rest _ _ _ _ depth c.payment.ensures.value
-    (IsRelaxed-same _ _ _ _ _ _ _ _ _ _ _ _ _ _ _ place c.as_slice.ensures.value c.as_mut_slice.ensures.value c.as_mut_slice-2.ensures.value c.relax-search.ensures.relaxed)
-    (c.relax-search.auto.distance ∙ ap length c.as_mut_slice.ensures.value ∙ c.requires.search.distances)
-    (c.relax-search.auto.from ∙ ap length c.as_mut_slice-2.ensures.value ∙ c.requires.search.grown.size))
+    let place : c.len.result ≡ length c.args.search.now.tree.items = search rules in
+    record {
+      search = IsSearch-reordered _ _ _ _ _ _ _ _ _ c.spread.ensures.same
+          (subst (IsSearch _ _ _ _ _ _ _) (sym (c.spread.ensures.tree ∙ c.in_ok-push.ensures.items))
+          (IsSearch-grow _ _ _ _ c.requires.row.placed _ _ _ _ before.search _ _ (IsClosest-at _ _ _ _ before.nearest is) c.requires.inside (c.requires.has ∙ sym is) _ rest _ _ _ _ depth c.payment.ensures.value
+          (subst (λ p. IsRelaxed (sizes (g.C.Costs.cost c.args.costs.now)) c.args.falls.now c.args.row p c.index.result.now c.payment.result c.swap_remove-column.new.self.items c.args.search.now.distance.items c.args.search.now.from.items c.spread.new.search.distance.items c.spread.new.search.from.items) place c.spread.ensures.relaxed)
+          (c.spread.ensures.distances ∙ before.search.distances)
+          (c.spread.ensures.places ∙ before.search.grown.size)));
+      nearest = c.spread.ensures.nearest;
+    }
+
+pub returns-clause-fewer : goal.returns-clause-fewer
+returns-clause-fewer g c = ap (λ n. n + 1) (length_permutation _ _ c.spread.ensures.same) ∙ (search rules)
