@@ -1,16 +1,11 @@
 -- The two passes of Jackson's rule, and the schedule that they make, at the values as the code passes them.
-use Rattle.std.proofs.Common.{◌≡◌, Bool, false, List, [], ◌++◌, IfOk, Ok, Err, Result, ap, ◌∙◌, subst, subst₂}
-use Rattle.std.specs.Result.{is_err}
+use Rattle.std.proofs.Common.{◌≡◌, List, [], ◌++◌, ap, ◌∙◌, subst, subst₂}
 use Rattle.msp_schedule.specs.declared.Piece.{Piece}
 use Rattle.msp_shops.specs.declared.pass.JobTimes.{JobTimes}
 use Rattle.msp_shops.specs.declared.pass.Moments.{Moments}
 use Rattle.msp_shops.specs.declared.pass.Stage.{Stage}
 use Rattle.msp_shops.specs.Pass.{IsPass}
 use Rattle.msp_shops.specs.Laid.{after, AreLaid}
-
-pub if_ok : {A E : Type 0} (r : Result A E) (P : A → Type 0) (b : Bool) → IfOk r P → b ≡ is_err r → b ≡ false → (a : A) × P a
-if_ok (Ok a) P b h e f = (a, h)
-if_ok (Err x) P b h e f = absurd (cc)
 
 -- what a pass adds to the pieces
 abbrev pub Adds : Stage → Stage → List JobTimes → Moments → List Piece → List Piece → Moments → Type 0

@@ -1,5 +1,5 @@
 -- The jobs of an open shop as the code takes and lays them.
-use Rattle.std.proofs.Common.{◌≡◌, ℕ, suc, ◌+◌, ◌<◌, ◌≤◌, cond, List, [], ◌∷◌, ◌++◌, length, get_or, map, All, sym, ap, ◌∙◌, ap₂, subst, subst₂, zero-add, Bool, false, not, Option, Some, arith, length-append, ◌≢◌, inl, inr, AllPairs, pos, refl}
+use Rattle.std.proofs.Common.{◌≡◌, ℕ, suc, ◌+◌, ◌<◌, ◌≤◌, List, [], ◌∷◌, ◌++◌, length, get_or, map, All, sym, ap, ◌∙◌, ap₂, subst, subst₂, zero-add, Option, Some, arith, length-append, ◌≢◌, inl, inr, AllPairs, pos, refl}
 use Rattle.std.specs.Prelude.{IsPermutation}
 use Rattle.std.specs.List.{range_with_len}
 use Rattle.std.specs.List.Sorted.{IsNonDecreasingBy}
@@ -59,10 +59,6 @@ times_next i old new k x e one so_far =
   where
     place : suc k ≡ k + 1
     place = omega arith
-
--- ---- a push that was not refused
-pub pushed : {X : Type 0} (new old more : List X) (ok err : Bool) → new ≡ cond ok more old → ok ≡ not err → err ≡ false → new ≡ more
-pushed new old more ok err e is f = e ∙ ap (λ b. cond b more old) (is ∙ ap not f)
 
 -- ---- as the code has it
 first_stages : AreStages on_first on_second

@@ -1,7 +1,6 @@
 -- What one job more adds to a pass over two machines.
-use Rattle.std.proofs.Common.{◌≡◌, ◌≢◌, ℕ, ◌+◌, ◌<◌, ◌≤◌, inl, inr, max, Bool, true, false, cond, leb, List, [], ◌∷◌, ◌++◌, length, get_or, take, All, AllPairs, Contains, sum_by, OnOk, Ok, Err, Result, refl, sym, ap, ◌∙◌, subst, subst₂, arith, length-append}
+use Rattle.std.proofs.Common.{◌≡◌, ◌≢◌, ℕ, ◌+◌, ◌<◌, ◌≤◌, inl, inr, max, Bool, true, false, cond, leb, List, [], ◌∷◌, ◌++◌, length, get_or, take, All, AllPairs, Contains, sum_by, refl, sym, ap, ◌∙◌, subst, subst₂, arith, length-append}
 use Rattle.std.specs.Prelude.{◌==◌}
-use Rattle.std.specs.Result.{is_err}
 use Rattle.std.proofs.lemmas.Bool.{eqb-true, eqb-false, leb-true, leb-false}
 use Rattle.std.proofs.lemmas.List.{take_more, append_assoc, append-nil, length-take-le, get_or-take, get_or_default}
 use Rattle.std.proofs.lemmas.List.Sums.{sum_by_push}
@@ -237,7 +236,3 @@ HasPassed-next first second machines jobs from at to k j old now put new begin i
 
     times : (j.first ≤ 1000000000) × (j.second ≤ 1000000000)
     times = subst (λ x. (x.first ≤ 1000000000) × (x.second ≤ 1000000000)) (sym is) (short k j inside)
-
-pub on_ok : {A E : Type 0} (r : Result A E) (P : Type 0) (b : Bool) → OnOk r P → b ≡ is_err r → b ≡ false → P
-on_ok (Ok a) P b h e f = h
-on_ok (Err x) P b h e f = absurd (cc)

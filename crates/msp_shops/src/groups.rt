@@ -65,9 +65,7 @@ fn jobs_from(alloc: Global, inst: &Instance, machine: u32) -> Result<Vec<JobTime
 {
     let mut times = Vec::new(alloc);
     for k in 0..inst.jobs.len() {
-        if put_job(&mut times, inst, machine, k as u32).is_err() {
-            return Err(NoMemory);
-        }
+        put_job(&mut times, inst, machine, k as u32)?;
     }
     Ok(times)
 }

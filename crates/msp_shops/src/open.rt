@@ -38,9 +38,7 @@ fn times_of_jobs(alloc: Global, inst: &Instance) -> Result<Vec<JobTimes>, NoMemo
 {
     let mut times = Vec::new(alloc);
     for k in 0..inst.jobs.len() {
-        if times.push(times_of(inst, k as u32)).is_err() {
-            return Err(NoMemory);
-        }
+        times.push(times_of(inst, k as u32))?;
     }
     Ok(times)
 }

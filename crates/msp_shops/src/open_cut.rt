@@ -43,9 +43,7 @@ fn put_row(cells: &mut Vec<i128>, inst: &Instance, machine: usize) -> Result<(),
     ensures { OnOk result (cells.new.items ≡ cells.old.items ++ map (λ j. pos (need_at inst.now j machine).time) (range_with_len 0 (length inst.now.jobs))) }
 {
     for job in 0..inst.jobs.len() {
-        if cells.push(i128::from(time_on(inst, job, machine))).is_err() {
-            return Err(NoMemory);
-        }
+        cells.push(i128::from(time_on(inst, job, machine)))?;
     }
     Ok(())
 }
@@ -58,9 +56,7 @@ fn times_by_machine(alloc: Global, inst: &Instance) -> Result<Vec<i128>, NoMemor
 {
     let mut cells = Vec::new(alloc);
     for machine in 0..inst.machines as usize {
-        if put_row(&mut cells, inst, machine).is_err() {
-            return Err(NoMemory);
-        }
+        put_row(&mut cells, inst, machine)?;
     }
     Ok(cells)
 }

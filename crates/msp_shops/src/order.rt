@@ -29,8 +29,6 @@ pub fn put_in_order(jobs: &mut Vec<JobTimes>) -> Result<(), NoMemory>
     ensures permutation { OnOk result (IsPermutation jobs.old.items jobs.new.items) }
     ensures sorted { OnOk result (AllPairs (GoesBefore (λ t. t.first) (λ t. t.second)) jobs.new.items) }
 {
-    match jobs.sort_by(|a, b| compare(a, b)) {
-        Ok(()) => Ok(()),
-        Err(_) => Err(NoMemory),
-    }
+    jobs.sort_by(|a, b| compare(a, b))?;
+    Ok(())
 }

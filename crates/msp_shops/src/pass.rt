@@ -75,12 +75,8 @@ pub fn pass(
     for job in jobs {
         let end = at.first + job.first;
         let begin = end.max(at.second);
-        if put(pieces, job.job, first, at.first, job.first).is_err() {
-            return Err(NoMemory);
-        }
-        if put(pieces, job.job, second, begin, job.second).is_err() {
-            return Err(NoMemory);
-        }
+        put(pieces, job.job, first, at.first, job.first)?;
+        put(pieces, job.job, second, begin, job.second)?;
         at = Moments {
             first: end,
             second: begin + job.second,

@@ -75,9 +75,7 @@ fn put_piece(row: &mut Row, slice: &Slice, machine: usize, columns: u32) -> Resu
         from,
         to: end_of(row, slice),
     };
-    if row.pieces.push(piece).is_err() {
-        return Err(NoMemory);
-    }
+    row.pieces.push(piece)?;
     Ok(())
 }
 

@@ -43,12 +43,8 @@ fn pieces_of(
         first: 0,
         second: first_total(here),
     };
-    if pass(&mut pieces, here, stage(0, 0), stage(1, 1), from_here).is_err() {
-        return Err(NoMemory);
-    }
-    if pass(&mut pieces, there, stage(0, 1), stage(1, 0), from_there).is_err() {
-        return Err(NoMemory);
-    }
+    pass(&mut pieces, here, stage(0, 0), stage(1, 1), from_here)?;
+    pass(&mut pieces, there, stage(0, 1), stage(1, 0), from_there)?;
     Ok(pieces)
 }
 

@@ -23,7 +23,7 @@ use Rattle.msp_total.specs.declared.unrelated.Chosen.{Chosen}
 use Rattle.msp_total.specs.Places.{no_place}
 use Rattle.msp_total.specs.Positions.{time_in, position_cost}
 use Rattle.msp_total.specs.Columns.{IsTableOf, IsPositioned, no_chosen, chosen_at, IsByColumn, IsPlaceOf, ArePlacesOf}
-use Rattle.msp_total.specs.Priced.{position_price, ArePricesOfBest, AreSmallPrices, KeepsPricesSmall}
+use Rattle.msp_total.specs.Priced.{ArePricesOfBest, AreSmallPrices, KeepsPricesSmall}
 use Rattle.msp_total.proofs.ColumnSteps.{HasColumn, by_column, machine_inside}
 use Rattle.msp_total.proofs.SortedLists.{sorted}
 use Rattle.msp_total.proofs.UnrelatedFacts.{IsUnrelatedInstance}

@@ -1,17 +1,15 @@
 -- What an instance of unit jobs with release dates has, and what its jobs cost in slots.
-use Rattle.std.proofs.Common.{◌≡◌, ℕ, ◌+◌, ◌^◌, ◌<◌, ◌≤◌, Bool, true, false, leb, ltb, List, length, map, get_or, All, IsPermutation, inl, inr, ℤ, pos, ◌-ℤ◌, ◌*ℤ◌, ◌≤ℤ◌, refl, sym, ap, ap₂, subst, subst₂, Result, Ok, Err, IfOk, ◌∙◌, arith}
+use Rattle.std.proofs.Common.{◌≡◌, ℕ, ◌+◌, ◌^◌, ◌<◌, ◌≤◌, Bool, true, false, ltb, List, length, map, get_or, All, IsPermutation, inl, inr, ℤ, pos, ◌-ℤ◌, ◌*ℤ◌, ◌≤ℤ◌, refl, sym, ap, ap₂, subst, subst₂, ◌∙◌, arith}
 use Rattle.std.specs.Prelude.{int_lt, if◌then◌else◌}
 use Rattle.std.specs.Int.{int_max}
 use Rattle.std.proofs.lemmas.Bool.{lt-ltb, le-ltb, cases_lt}
 use Rattle.std.proofs.lemmas.Int.{ints, clamps}
 use Rattle.std.proofs.lemmas.List.{length-map, get_or-map}
 use Rattle.std.proofs.lemmas.List.Elements.{All-map}
-use Rattle.std.proofs.lemmas.List.Sorted.{All-permutation, length_permutation}
+use Rattle.std.proofs.lemmas.List.Sorted.{All-permutation}
 use Rattle.msp_class.specs.declared.environments.EnvKind.TheVariants.{Identical}
 use Rattle.msp_class.specs.Crit.{is_greatest, uses_due, uses_weight}
 use Rattle.msp_class.proofs.IntegerRing.{one-*ℤ, *ℤ-mono, *ℤ-zero, ≤ℤ_trans}
-use Rattle.msp_class.specs.Sums.{total_below}
-use Rattle.msp_class.proofs.Sums.{sum_by-map, sum_by-IsPermutation}
 use Rattle.msp_instance.specs.declared.Job.{Job}
 use Rattle.msp_instance.specs.declared.Instance.{Instance}
 use Rattle.msp_instance.specs.Instance.{no_need, no_job, job_at, need_at}
@@ -22,9 +20,8 @@ use Rattle.msp_assign.specs.Prices.{HasCosts, IsAssigned, IsLeast}
 use Rattle.msp_slots.specs.declared.earliest.Slot.{Slot}
 use Rattle.msp_total.specs.declared.slot_table.Slots.{Slots}
 use Rattle.msp_schedule.proofs.feasible.OfClass.{IsOfClass, IsOfClass-from}
-use Rattle.msp_schedule.proofs.lists.Places.{sum_by-places}
 use Rattle.msp_total.specs.Slots.{forbidden, past_due, slot_cost}
-use Rattle.msp_slots.specs.Earliest.{no_slot, start_in, head_in, AreSlots}
+use Rattle.msp_slots.specs.Earliest.{no_slot, start_in, AreSlots}
 use Rattle.msp_slots.proofs.Begins.{head_at}
 use Rattle.msp_slots.proofs.SlotPlaces.{heads_many}
 use Rattle.msp_total.specs.SlotSteps.{slot_crit, slot_class, IsTable, AreLaid, AreLeastLaid}
@@ -186,8 +183,3 @@ module _ (i : Instance) (late : Bool) (h : IsUnitShop i late) (heads : List ℕ)
         least = subst₂ (λ r c. IsLeast r c (slot_cost table) column) rows_many columns_many b;
         laid = subst (λ k. AreLaid slots column k pieces) (a.all ∙ rows_many) laid;
       }
-
--- ---- at the numbers as the code passes them
-pub if_ok : {A E : Type 0} (P Q : A → Type 0) (r : Result A E) → ((x : A) → P x → Q x) → IfOk r P → IfOk r Q
-if_ok P Q (Ok a) f h = f a h
-if_ok P Q (Err e) f h = tt

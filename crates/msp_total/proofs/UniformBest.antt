@@ -15,13 +15,14 @@ use Rattle.msp_instance.specs.declared.Instance.{Instance}
 use Rattle.msp_instance.specs.Instance.{no_job, need_at}
 use Rattle.msp_schedule.specs.declared.Schedule.{Schedule}
 use Rattle.msp_schedule.specs.Piece.{length_of, start, finish, IsTimed}
-use Rattle.msp_schedule.specs.Feasible.{Feasible, HasOperation, MayRun, FollowsRoute, IsWholeWork}
+use Rattle.msp_schedule.specs.Feasible.{Feasible, HasOperation, MayRun, IsWholeWork}
 use Rattle.msp_schedule.specs.Cost.{cost_of, Best}
 use Rattle.msp_schedule.specs.Intervals.{IsApart}
 use Rattle.msp_schedule.proofs.lists.Positions.{position_of, position_of-some, position_of-few, position_of-once, sum_of_ends}
 use Rattle.msp_schedule.proofs.feasible.SolePieces.{only_piece, IsOnly, is_only, only_timed, only_placed, only_apart, sum_of_only_ends}
 use Rattle.msp_route.specs.Bounds.{answer_unit}
 use Rattle.msp_schedule.proofs.lists.Places.{sum_by-places}
+use Rattle.msp_schedule.proofs.feasible.OneEach.{IsUncut-uniform}
 use Rattle.msp_route.specs.declared.keyed.Keyed.{Keyed}
 use Rattle.msp_total.specs.declared.lay.Place.{Place}
 use Rattle.msp_instance.specs.Multiples.{IsLeastOfAll}
@@ -35,14 +36,7 @@ use Rattle.msp_total.proofs.UniformFacts.{IsUniformInstance, times}
 
 pub IsPlain-from_uniform : (i : Instance) → IsUniformInstance i → IsPlain i
 IsPlain-from_uniform i h = record {
-  uncut = record {
-    cut = h.cut;
-    few = h.few;
-    first = λ j o op. subst (λ k. HasOperation k i j o) h.kind op;
-    operation = λ j. subst (λ k. HasOperation k i j 0) (sym h.kind) refl;
-    may_run = λ j m l. subst (λ k. MayRun k i j 0 m) (sym h.kind) l;
-    route = λ ps. subst (λ k. FollowsRoute k ps) (sym h.kind) tt;
-  };
+  uncut = IsUncut-uniform i h.kind h.cut h.few;
   crit = h.crit;
   arcs = h.arcs;
   release = λ j l. (h.jobs j no_job l).release;

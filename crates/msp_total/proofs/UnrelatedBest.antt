@@ -1,19 +1,19 @@
 -- Jobs at the positions of a least assignment, as a schedule on unrelated machines: it is feasible and best, and lies within the bounds.
-use Rattle.std.proofs.Common.{◌≡◌, ℕ, zero, suc, ◌+◌, ◌*◌, ◌-◌, ◌/◌, ◌%◌, ◌<◌, ◌≤◌, ◌^◌, Bool, true, false, cond, eqb, ltb, ◌⊎◌, inl, inr, List, length, get_or, map, ℤ, pos, ◌+ℤ◌, ◌*ℤ◌, ◌≤ℤ◌, All, refl, sym, ap, ap₂, subst, subst₂, ◌∙◌, arith}
-use Rattle.std.proofs.lemmas.Bool.{eqb-true, ltb-true, ltb-false}
+use Rattle.std.proofs.Common.{◌≡◌, ℕ, zero, suc, ◌+◌, ◌*◌, ◌/◌, ◌%◌, ◌<◌, ◌≤◌, ◌^◌, Bool, true, false, cond, eqb, ◌⊎◌, inl, inr, List, length, get_or, map, ℤ, pos, ◌+ℤ◌, ◌*ℤ◌, ◌≤ℤ◌, All, refl, sym, ap, ap₂, subst, subst₂, ◌∙◌, arith}
+use Rattle.std.proofs.lemmas.Bool.{eqb-true}
 use Rattle.std.proofs.lemmas.Int.{ints}
 use Rattle.std.proofs.Math.Nat.{mul-le-mul_left, mul-le-mul_right, div-mul-le_self, div-add-mod}
 use Rattle.std.proofs.lemmas.List.{length-map, get_or-map, get_or_default, same_lists}
 use Rattle.std.proofs.lemmas.List.Elements.{All-contains}
 use lib.Arith.{digits_div, digits_mod}
-use Rattle.msp_class.proofs.IntegerRing.{pos-le, ≤ℤ_refl, ≤ℤ_trans, one-*ℤ, *ℤ_comm, *ℤ-mono_nonneg, *ℤ-one}
+use Rattle.msp_class.proofs.IntegerRing.{pos-le, ≤ℤ_trans, one-*ℤ, *ℤ_comm, *ℤ-mono_nonneg, *ℤ-one}
 use Rattle.msp_class.specs.Sums.{total_below, int_total_below}
-use Rattle.msp_class.proofs.Sums.{cond-yes, cond-no, sum_by-map, sum_by-OnceBelow, total_below-mono, total_below-constant, int_total_below-same, int_total_below-natural, OnceBelow, OnceBelow-from_permutation, OnceBelow-distinct, length-OnceBelow}
+use Rattle.msp_class.proofs.Sums.{cond-yes, cond-no, sum_by-map, sum_by-OnceBelow, total_below-mono, int_total_below-same, int_total_below-natural, OnceBelow, OnceBelow-from_permutation, OnceBelow-distinct, length-OnceBelow}
 use Rattle.msp_instance.specs.declared.Instance.{Instance}
 use Rattle.msp_instance.specs.Instance.{no_job, need_at}
 use Rattle.msp_schedule.specs.declared.Piece.{Piece}
 use Rattle.msp_schedule.specs.declared.Schedule.{Schedule}
-use Rattle.msp_schedule.specs.Feasible.{Feasible, HasOperation, MayRun, FollowsRoute, IsWholeWork}
+use Rattle.msp_schedule.specs.Feasible.{Feasible, IsWholeWork}
 use Rattle.msp_schedule.specs.Cost.{cost_of, Best}
 use Rattle.msp_schedule.specs.Within.{Within}
 use Rattle.msp_schedule.specs.Prices.{ArePrices, all_prices, prices_on_machine}
@@ -22,6 +22,7 @@ use Rattle.msp_route.specs.Bounds.{IsAnswer, answer_unit}
 use Rattle.msp_assign.specs.declared.assignment.Assignment.{Assignment}
 use Rattle.msp_assign.specs.Prices.{column_of, price_at}
 use Rattle.msp_schedule.proofs.lists.Places.{sum_by-places}
+use Rattle.msp_schedule.proofs.feasible.OneEach.{IsUncut-unrelated}
 use Rattle.msp_total.specs.declared.lay.Place.{Place}
 use Rattle.msp_total.specs.declared.positions.Positions.{Positions}
 use Rattle.msp_total.specs.declared.unrelated.Chosen.{Chosen}
@@ -80,14 +81,7 @@ below_column each column machine (suc r) m x starts rises under low =
 
 pub IsPlain-from_unrelated : (i : Instance) → IsUnrelatedInstance i → IsPlain i
 IsPlain-from_unrelated i h = record {
-  uncut = record {
-    cut = h.cut;
-    few = h.few;
-    first = λ j o op. subst (λ k. HasOperation k i j o) h.kind op;
-    operation = λ j. subst (λ k. HasOperation k i j 0) (sym h.kind) refl;
-    may_run = λ j m l. subst (λ k. MayRun k i j 0 m) (sym h.kind) l;
-    route = λ ps. subst (λ k. FollowsRoute k ps) (sym h.kind) tt;
-  };
+  uncut = IsUncut-unrelated i h.kind h.cut h.few;
   crit = h.crit;
   arcs = h.arcs;
   release = λ j l. (h.jobs j no_job l).release;

@@ -116,15 +116,10 @@ fn places_of(alloc: Global, jobs: &[Keyed], steps: &[u64]) -> Result<Vec<Place>,
     ensures { IfOk result (λ places. AreTurns steps.now jobs.now places.items) }
 {
     let mut places = Vec::new(alloc);
-    let mut next = match Vec::from_slice(alloc, steps) {
-        Ok(next) => next,
-        Err(_) => return Err(NoMemory),
-    };
+    let mut next = Vec::from_slice(alloc, steps)?;
     for timed in jobs {
         let place = take_turn(&mut next, steps, *timed);
-        if places.push(place).is_err() {
-            return Err(NoMemory);
-        }
+        places.push(place)?;
     }
     Ok(places)
 }

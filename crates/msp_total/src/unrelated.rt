@@ -87,9 +87,7 @@ fn chosen_of(alloc: Global, column: &[u32]) -> Result<Vec<Chosen>, NoMemory>
             job: k as u32,
             column: column[k],
         };
-        if all.push(chosen).is_err() {
-            return Err(NoMemory);
-        }
+        all.push(chosen)?;
     }
     Ok(all)
 }
@@ -100,9 +98,7 @@ fn by_column(alloc: Global, column: &[u32]) -> Result<Vec<Chosen>, NoMemory>
     ensures { IfOk result (λ chosen. IsByColumn (length column.now) column.now chosen.items) }
 {
     let mut chosen = chosen_of(alloc, column)?;
-    if chosen.sort_by_key(|c| c.column).is_err() {
-        return Err(NoMemory);
-    }
+    chosen.sort_by_key(|c| c.column)?;
     Ok(chosen)
 }
 

@@ -1,5 +1,5 @@
 -- The positions of a machine as a line: an earlier one costs each job no less.
-use Rattle.std.proofs.Common.{◌≡◌, ℕ, ◌+◌, ◌*◌, ◌/◌, ◌%◌, ◌<◌, ◌≤◌, List, pos, ◌≤ℤ◌, sym, ap₂, subst₂, arith}
+use Rattle.std.proofs.Common.{◌≡◌, ℕ, ◌+◌, ◌*◌, ◌<◌, ◌≤◌, List, pos, ◌≤ℤ◌, sym, ap₂, subst₂, arith}
 use Rattle.std.proofs.Math.Nat.{mul-le-mul_right}
 use lib.Arith.{digits_div, digits_mod}
 use Rattle.msp_class.proofs.IntegerRing.{pos-le}

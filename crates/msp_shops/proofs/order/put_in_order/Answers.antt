@@ -4,7 +4,7 @@ use Rattle.msp_shops.specs.declared.pass.JobTimes.{JobTimes}
 use Rattle.msp_shops.proofs.Sorted.{johnson_less, johnson_less-order, johnson_sorted}
 use Rattle.msp_shops.proofs.order.put_in_order.Goals as goal
 
-pub returns-in-Ok-clause-sorted : goal.returns-in-Ok-clause-sorted
-returns-in-Ok-clause-sorted c =
+pub returns-clause-sorted : goal.returns-clause-sorted
+returns-clause-sorted c =
     johnson_sorted (λ (t : JobTimes). t.first) (λ t. t.second) _
-    (c.in-Ok.ensures.sorted (johnson_less (λ (t : JobTimes). t.first) (λ t. t.second)) (johnson_less-order (λ (t : JobTimes). t.first) (λ t. t.second)) (answers_always _ _ _ (λ f a r g h. search rules)))
+    (c.in_ok-sort_by.ensures.sorted (johnson_less (λ (t : JobTimes). t.first) (λ t. t.second)) (johnson_less-order (λ (t : JobTimes). t.first) (λ t. t.second)) (answers_always _ _ _ (λ f a r g h. search rules)))

@@ -1,8 +1,9 @@
 use Rattle.std.proofs.Common.{◌<◌, ◌≤◌, length, map, All, IsPermutation, sym, subst, arith}
 use Rattle.std.proofs.lemmas.List.Elements.{All-map}
+use Rattle.std.proofs.lemmas.Result.{IfOk-weaker}
 use Rattle.msp_slots.specs.Earliest.{AreSlots}
 use Rattle.msp_total.specs.SlotSteps.{IsTable, AreLaid, AreLeastLaid}
-use Rattle.msp_total.proofs.SlotFacts.{IsUnitShop-from, weights, heads_few, heads_low, slots_many, rows_many, columns_many, has_costs, columns_inside, least_laid, if_ok}
+use Rattle.msp_total.proofs.SlotFacts.{IsUnitShop-from, weights, heads_few, heads_low, slots_many, rows_many, columns_many, has_costs, columns_inside, least_laid}
 use Rattle.msp_total.proofs.unit_slots.least_pieces.Goals as goal
 
 pub earliest_slots-requires-clause-jobs : goal.earliest_slots-requires-clause-jobs
@@ -73,4 +74,4 @@ returns c =
     let p = subst (λ l. IsPermutation (map (λ j. j.release) l) c.in_ok-heads.heads.items) c.as_slice.ensures c.in_ok-heads.ensures.all in
     let filled = subst (λ l. AreSlots i.machines l c.in_ok-slots.slots.items) c.as_slice-2.ensures.value c.in_ok-slots.ensures in
     let t = subst (λ l. IsTable i c.args.late l c.in_ok-table.table) c.as_slice-3.ensures.value c.in_ok-table.ensures in
-    if_ok (AreLaid c.as_slice-4.result.now c.as_slice-5.result.now (length c.as_slice-5.result.now)) (AreLeastLaid i c.args.late) c.laid_out.result (λ pieces laid. least_laid i c.args.late h _ p _ filled _ t _ pieces c.in_ok-column.ensures.assigned c.in_ok-column.ensures.least (subst (λ l. AreLaid l c.in_ok-column.field-0.column (length c.in_ok-column.field-0.column) pieces) c.as_slice-4.ensures.value (subst (λ l. AreLaid c.as_slice-4.result.now l (length l) pieces) c.as_slice-5.ensures laid))) c.laid_out.ensures
+    IfOk-weaker c.laid_out.result (AreLaid c.as_slice-4.result.now c.as_slice-5.result.now (length c.as_slice-5.result.now)) (AreLeastLaid i c.args.late) (λ pieces laid. least_laid i c.args.late h _ p _ filled _ t _ pieces c.in_ok-column.ensures.assigned c.in_ok-column.ensures.least (subst (λ l. AreLaid l c.in_ok-column.field-0.column (length c.in_ok-column.field-0.column) pieces) c.as_slice-4.ensures.value (subst (λ l. AreLaid c.as_slice-4.result.now l (length l) pieces) c.as_slice-5.ensures laid))) c.laid_out.ensures
