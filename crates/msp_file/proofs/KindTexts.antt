@@ -52,7 +52,7 @@ price_read = record {
   field = λ x h. signed_field x (omega arith) h;
 }
 
-numbered_length : {A : Type 0} (word : List ℕ) (spell : A → List ℕ) (names : List (List ℕ)) (xs : List A) → length xs ≡ length names → length (numbered_lines word spell names xs) ≡ length xs
+pub numbered_length : {A : Type 0} (word : List ℕ) (spell : A → List ℕ) (names : List (List ℕ)) (xs : List A) → length xs ≡ length names → length (numbered_lines word spell names xs) ≡ length xs
 numbered_length word spell [] [] h = refl
 numbered_length word spell [] (x ∷ xs) h = absurd (omega arith)
 numbered_length word spell (name ∷ names) [] h = absurd (omega arith)

@@ -31,6 +31,7 @@ mod KindTexts
 mod CertificateReadings
 mod CertificateFaults
 mod CertificateLaws
+pub mod CertificateLimits
 mod CertificateOneWay
 mod ScheduleLaws
 mod OneWay
