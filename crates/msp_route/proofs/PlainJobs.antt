@@ -1,15 +1,14 @@
 -- What an instance of a class on one machine has, where release dates are 0 and times are arbitrary.
-use Rattle.std.proofs.Common.{◌≡◌, ℕ, ◌<◌, ◌≤◌, false, length, get_or, All, subst, subst₂, arith, slice_index_or}
-use Rattle.msp_class.specs.declared.class.Env.{Env}
+use Rattle.std.proofs.Common.{◌≡◌, ℕ, ◌<◌, ◌≤◌, false, length, get_or, All, subst, arith, slice_index_or}
 use Rattle.msp_class.specs.declared.class.Env.TheVariants.{One}
-use Rattle.msp_class.specs.declared.class.Times.{Times}
 use Rattle.msp_class.specs.declared.class.Times.TheVariants.{General}
 use Rattle.msp_class.specs.Env.{kind_of}
 use Rattle.msp_instance.specs.declared.Instance.{Instance}
 use Rattle.msp_instance.specs.Instance.{no_need, no_job}
-use Rattle.msp_instance.specs.Conditions.{HasShape, HasTimes, HasRelease, MeetsConditions, Inner, inner_limits, least_time, greatest_time}
-use Rattle.msp_schedule.proofs.feasible.OneMachine.{IsOneMachine, IsOneMachine-from_env}
+use Rattle.msp_instance.specs.Conditions.{HasRelease, Inner, inner_limits}
+use Rattle.msp_schedule.proofs.feasible.OneMachine.{IsOneMachine}
 use Rattle.msp_schedule.specs.Rows.{time_at}
+use Rattle.msp_route.proofs.OneInstances.{IsOneInstance-from}
 
 pub record IsPlain (i : Instance) : Type 0 where
   pub machine : IsOneMachine i
@@ -20,18 +19,13 @@ pub record IsPlain (i : Instance) : Type 0 where
 
 pub IsPlain-from : (i : Instance) → i.class.env ≡ One → i.class.times ≡ General → i.class.heads ≡ false → Inner i → IsPlain i
 IsPlain-from i env times heads h =
-    let m : MeetsConditions (inner_limits (kind_of i.class.env)) i = h.conditions in
+    let o = IsOneInstance-from i env h in
     record {
-      machine = IsOneMachine-from_env _ i env m;
-      some = m.some;
-      few = m.few;
-      needs = λ k d l.
-          let n = (m.jobs k d l).needs in
-          let shape = subst (λ v. HasShape (kind_of v) v i.machines (get_or i.jobs k d).needs) env n.shape in
-          let S : Env → Times → Type 0 = λ v t. HasTimes (least_time (kind_of v) t) (greatest_time (inner_limits (kind_of v)) t) (get_or i.jobs k d).needs in
-          let in_range = subst₂ S env times n.times in
-          (shape.0, (in_range 0 no_need (omega (arith, shape.0))).0, (in_range 0 no_need (omega (arith, shape.0))).1);
-      release = λ k d l. subst (λ b. HasRelease (inner_limits (kind_of i.class.env)) b (get_or i.jobs k d).release) heads (m.jobs k d l).release;
+      machine = o.machine;
+      some = o.some;
+      few = o.few;
+      needs = o.needs;
+      release = λ k d l. subst (λ b. HasRelease (inner_limits (kind_of i.class.env)) b (get_or i.jobs k d).release) heads (h.conditions.jobs k d l).release;
     }
 
 -- the time of each job's one operation
