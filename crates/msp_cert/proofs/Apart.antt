@@ -29,7 +29,7 @@ seen_before jobs k seen h s l e apart =
     let (p, b, is) = s.back (get_or jobs k 0) (h k 0 l) e in
     apart p k 0 b l is
 
-same_or_not : (a b : ℕ) → (a ≡ b) ⊎ (a ≢ b)
+pub same_or_not : (a b : ℕ) → (a ≡ b) ⊎ (a ≢ b)
 same_or_not a b = elim (cases_Bool (eqb a b)) [ inl e ↦ inl (eqb-true a b e) | inr e ↦ inr (λ q. false≢true (sym e ∙ eq-eqb a b q)) ]
 
 pub mark_next : (jobs : List ℕ) (k : ℕ) (seen : List Bool) → All (λ j. j < 400) jobs → AreSeen jobs k seen → k < length jobs → get_or seen (get_or jobs k 0) false ≡ false → AreSeen jobs (k + 1) (set seen (get_or jobs k 0) true)

@@ -6,3 +6,7 @@ pub mod Apart
 pub mod SegmentFacts
 pub mod BlockFacts
 pub mod PriceFacts
+pub mod LengthOrder
+pub mod TrueLevels
+pub mod Tried
+pub mod Tails

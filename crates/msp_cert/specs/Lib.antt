@@ -4,3 +4,5 @@ pub mod Search
 pub mod Worth
 pub mod Least
 pub mod Fair
+pub mod Heights
+pub mod Places

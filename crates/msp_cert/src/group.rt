@@ -10,6 +10,7 @@ ghost use Rattle.msp_schedule.specs.Blocks.{total_time};
 ghost use Rattle.msp_cert.specs.declared.limits.TheConstants.{MOST_ENTRIES};
 ghost use Rattle.msp_cert.specs.Small.{HasSmallNeeds};
 ghost use Rattle.msp_cert.specs.Certificates.{IsGroup, speeds_of};
+ghost use Rattle.msp_cert.specs.Places.{HasSpeedyMachines};
 ghost use Rattle.msp_cert.specs.Worth.{IsWorth};
 ghost use Rattle.msp_cert.specs.declared.Proof.TheVariants.{Group};
 
@@ -70,7 +71,8 @@ fn have_speeds(kind: EnvKind) -> bool
     kind == EnvKind::Identical || kind == EnvKind::Uniform
 }
 
-fn own_speed(speeds: &[u64], machine: u32) -> u64
+/// The speed that stands at a place, and 0 past the end.
+pub(crate) fn own_speed(speeds: &[u64], machine: u32) -> u64
     ensures { result ≡ slice_index_or speeds.now machine 0 }
 {
     let at = machine as usize;
@@ -121,7 +123,7 @@ fn turn(speeds: &mut Vec<u64>)
 }
 
 /// The speeds of all machines, by falling speed.
-fn falling_speeds(alloc: Global, inst: &Instance) -> Result<Vec<u64>, NoMemory>
+pub(crate) fn falling_speeds(alloc: Global, inst: &Instance) -> Result<Vec<u64>, NoMemory>
     ensures all { IfOk result (λ all. IsPermutation (speeds_of inst.now) all.items) }
     ensures falls { IfOk result (λ all. AllPairs (λ x y. y ≤ x) all.items) }
 {
@@ -145,13 +147,19 @@ fn first_together(speeds: &[u64], count: usize) -> u64
     total
 }
 
+/// Whether the makespan of jobs on one machine, identical or uniform machines is asked for.
+pub(crate) fn has_speedy_machines(inst: &Instance) -> bool
+    ensures { IsTrue result ↔ HasSpeedyMachines inst.now }
+{
+    inst.class.crit == Crit::Cmax && have_speeds(env_kind(inst.class.env))
+}
+
 /// Whether the jobs are a group.
 fn is_group(inst: &Instance, jobs: &[u32]) -> bool
     requires { length inst.now.jobs ≤ MOST_JOBS }
     ensures { IsTrue result ↔ IsGroup inst.now jobs.now }
 {
-    inst.class.crit == Crit::Cmax
-        && have_speeds(env_kind(inst.class.env))
+    has_speedy_machines(inst)
         && !jobs.is_empty()
         && are_jobs(inst.jobs.len(), jobs)
         && are_apart(jobs)

@@ -1,5 +1,5 @@
 // Levels of jobs.
-ghost use Rattle.std.specs.Prelude.{◌≡◌, ◌↔◌, ◌+◌, ◌*◌, ◌<◌, ◌≤◌, ℕ, nat_le, length, count_by, All, Any, IsTrue, IfSome, if◌then◌else◌};
+ghost use Rattle.std.specs.Prelude.{◌≡◌, ◌↔◌, ◌+◌, ◌-◌, ◌*◌, ◌/◌, ◌<◌, ◌≤◌, ℕ, nat_le, length, count_by, All, Any, IsTrue, IfSome, if◌then◌else◌};
 ghost use Rattle.std.specs.List.{range_with_len};
 ghost use Rattle.msp_instance.specs.declared.ranges.TheConstants.{MOST_JOBS};
 ghost use Rattle.msp_instance.specs.Conditions.{InClass};
@@ -100,13 +100,22 @@ fn are_steps(inst: &Instance, level: &[u32], tail: u32) -> bool
         && is_reached(level, tail)
 }
 
+/// The tail and so many jobs over the number of machines, rounded up.
+pub(crate) fn bound_of(inst: &Instance, tail: u32, high: u32) -> u64
+    requires class { InClass inst.now }
+    requires few { high ≤ MOST_JOBS }
+    ensures { result ≡ tail + (high + (inst.now.machines - 1)) / inst.now.machines }
+{
+    u64::from(tail) + u64::from((high + (inst.machines - 1)) / inst.machines)
+}
+
 /// The level and the number of jobs of at least that level over the number of machines, rounded up.
-pub(crate) fn level_bound(inst: &Instance, level: &[u32], tail: u32) -> u64
+fn level_bound(inst: &Instance, level: &[u32], tail: u32) -> u64
     requires { InClass inst.now }
     ensures { result ≡ level_bound inst.now (of_job level.now) tail }
 {
     let high = jobs_from(level, tail, inst.jobs.len() as u32);
-    u64::from(tail) + u64::from((high + (inst.machines - 1)) / inst.machines)
+    bound_of(inst, tail, high)
 }
 
 /// What the levels are worth.

@@ -2,7 +2,8 @@
 //!
 //! It stands on `msp_schedule` alone. The layers above use the definitions `HoldsFor`, `IsValue` and `IsAccepted`, which say when the
 //! evidence of a proof holds for an instance, what its value is, and when a certificate is accepted; `accept`, which decides this exactly;
-//! and `law_of_certificates`: where a certificate is accepted, no feasible schedule over any unit costs less than its bound.
+//! `find`, which gives the first of some groups, machines, jobs and levels whose value is just a cost (`IsFound`); and
+//! `law_of_certificates`: where a certificate is accepted, no feasible schedule over any unit costs less than its bound.
 #![tactic(auto)]
 
 use msp_class::{Class, List};
@@ -15,13 +16,17 @@ mod laws;
 mod levels;
 mod limits;
 mod loads;
+mod order;
 mod prices;
+mod search;
 mod segments;
 mod shops;
+mod true_levels;
 mod worth;
 
 pub use judge::accept;
 pub use laws::law_of_certificates;
+pub use search::find;
 
 /// What shows a lower bound on the cost of every feasible schedule. Jobs and machines are numbered from 0.
 #[derive(Drop)]

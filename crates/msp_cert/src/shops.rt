@@ -13,7 +13,7 @@ use msp_instance::Instance;
 use msp_schedule::Frac;
 
 /// Whether the makespan of a shop is asked for.
-fn is_shop_asked(inst: &Instance) -> bool
+pub(crate) fn is_shop_asked(inst: &Instance) -> bool
     ensures { IsTrue result ↔ IsShop inst.now }
 {
     inst.class.crit == Crit::Cmax && is_shop(inst.class.env)

@@ -1,0 +1,6 @@
+use Rattle.std.proofs.lemmas.List.{get_or-replicate}
+use Rattle.msp_instance.specs.declared.ranges.TheConstants.{MOST_JOBS}
+use Rattle.msp_cert.proofs.search.none_at.Goals as goal
+
+pub returns : goal.returns
+returns c t h = get_or-replicate MOST_JOBS t 0 0 h

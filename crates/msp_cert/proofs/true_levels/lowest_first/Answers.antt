@@ -1,0 +1,7 @@
+use Rattle.std.proofs.Common.{rules}
+use Rattle.std.proofs.lemmas.List.Sorted.{IsNonDecreasingBy-from_sort_by_key}
+use Rattle.msp_cert.specs.Certificates.{of_job}
+use Rattle.msp_cert.proofs.true_levels.lowest_first.Goals as goal
+
+pub returns-clause-sorted : goal.returns-clause-sorted
+returns-clause-sorted c = IsNonDecreasingBy-from_sort_by_key (λ a. of_job c.args.heights.now a.before) _ c.sort_unstable_by_key.ensures.sorted (λ a r q k. search rules)
