@@ -10,3 +10,4 @@ pub mod LengthOrder
 pub mod TrueLevels
 pub mod Tried
 pub mod Tails
+pub mod SomeLevels

@@ -188,10 +188,10 @@ fn levels_with(alloc: Global, inst: &Instance, cost: &Frac) -> Result<Option<Pro
     requires cost { IsComparable cost.now }
     ensures { IfOk result (λ found. (level : List ℕ) × AreAllLevels inst.now level × IsFirst (HasValue inst.now cost.now) (tails inst.now level) found) }
 {
-    let level = levels_of_all(alloc, inst)?;
     if !has_unit_jobs(inst) {
         return Ok(None);
     }
+    let level = levels_of_all(alloc, inst)?;
     match first_tail(inst, cost, level.as_slice()) {
         Some(tail) => Ok(Some(Proof::Levels {
             level: List::from_vec(level),

@@ -4,10 +4,13 @@ use Rattle.msp_cert.specs.declared.Proof.TheVariants.{Levels}
 use Rattle.msp_cert.specs.Places.{IsFirstBelow}
 use Rattle.msp_cert.specs.Search.{AreAllLevels, HasValue}
 use Rattle.msp_cert.proofs.Tried.{none_placed, first_placed, no_tails}
+use Rattle.msp_cert.proofs.SomeLevels.{some_levels}
 use Rattle.msp_cert.proofs.search.levels_with.Goals as goal
 
 pub returns-then-not-has_unit_jobs : goal.returns-then-not-has_unit_jobs
-returns-then-not-has_unit_jobs c = (c.in_ok-level.level.items, c.in_ok-level.ensures, no_tails c.args.inst.now c.args.cost.now c.in_ok-level.level.items (λ h. false≢true (c.if-not-has_unit_jobs.ensures.1 h)))
+returns-then-not-has_unit_jobs c =
+    let (level, levels) = some_levels c.args.inst.now c.requires.class in
+    (level, levels, no_tails c.args.inst.now c.args.cost.now level (λ h. false≢true (c.if-not-has_unit_jobs.ensures.1 h)))
 
 pub returns-in-Some : goal.returns-in-Some
 returns-in-Some c = (
