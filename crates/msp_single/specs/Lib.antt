@@ -1,3 +1,4 @@
 pub mod Smith
 pub mod Lawler
 pub mod Moore
+pub mod Tasks

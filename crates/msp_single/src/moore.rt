@@ -1,15 +1,16 @@
 // Moore's rule: jobs by due date, and the longest one accepted is dropped at an overrun.
-ghost use Rattle.std.specs.Prelude.{◌≡◌, ℕ, ◌+◌, ◌*◌, ◌<◌, ◌≤◌, ◌⊎◌, ◌<ℤ◌, ◌++◌, List, [], ◌∷◌, true, false, length, map, slice_index_or, sum_by, All, AllPairs, IfOk, IsPermutation, ⊤};
-ghost use Rattle.std.specs.List.{range_with_len, remove};
+ghost use Rattle.std.specs.Prelude.{◌≡◌, ◌+◌, ◌*◌, ◌<◌, ◌≤◌, ◌++◌, List, [], ◌∷◌, true, false, length, map, slice_index_or, sum_by, All, AllPairs, IfOk, IsPermutation, ⊤};
+ghost use Rattle.std.specs.List.{range_with_len};
 ghost use Rattle.std.specs.Ordering.{int_cmp, nat_cmp, ordering_then};
 ghost use Rattle.msp_instance.specs.declared.ranges.TheConstants.{GREATEST, MOST_JOBS};
-ghost use Rattle.msp_instance.specs.Instance.{job_at, need_at, no_need};
+ghost use Rattle.msp_instance.specs.Instance.{no_need};
 ghost use Rattle.msp_instance.specs.Conditions.{Inner};
 ghost use Rattle.msp_schedule.specs.Cost.{IsBest};
 ghost use Rattle.msp_schedule.specs.Fraction.{IsLowest};
 ghost use Rattle.msp_schedule.specs.Settled.{IsSettled};
 ghost use Rattle.msp_route.specs.Bounds.{IsAnswer};
-ghost use Rattle.msp_single.specs.Moore.{moore_class, IsLongest, IsChoice, IsMooreOrder};
+ghost use Rattle.msp_single.specs.Moore.{moore_class, IsMooreOrder};
+ghost use Rattle.msp_single.specs.Tasks.{IsTask, IsDueFirst, Outlasts, AreChosen, DropsLongest, IsRowOf};
 
 use msp_class::{Class, Crit, Env, NoMemory, Order, Times};
 use msp_instance::Instance;
@@ -49,7 +50,7 @@ fn tasks_of(alloc: Global, inst: &Instance) -> Result<Vec<Task>, NoMemory>
     requires few { length inst.now.jobs ≤ MOST_JOBS }
     requires needs { All (λ j. (0 < length j.needs) × (0 < (slice_index_or j.needs 0 no_need).time)) inst.now.jobs }
     ensures numbers { IfOk result (λ ts. map (λ t. t.job) ts.items ≡ range_with_len 0 (length inst.now.jobs)) }
-    ensures each { IfOk result (λ ts. All (λ t. (t.time ≡ (need_at inst.now t.job 0).time) × (t.due ≡ (job_at inst.now t.job).due)) ts.items) }
+    ensures each { IfOk result (λ ts. All (IsTask inst.now) ts.items) }
 {
     let jobs = inst.jobs.as_slice();
     let mut tasks = Vec::new(alloc);
@@ -75,7 +76,7 @@ fn compare(a: &Task, b: &Task) -> Ordering
 
 fn sort_by_date(tasks: &mut Vec<Task>)
     ensures permutation { IsPermutation tasks.old.items tasks.new.items }
-    ensures sorted { AllPairs (λ a b. (a.due <ℤ b.due) ⊎ ((a.due ≡ b.due) × (a.job ≤ b.job))) tasks.new.items }
+    ensures sorted { AllPairs IsDueFirst tasks.new.items }
 {
     tasks.sort_unstable_by(|a, b| compare(a, b));
 }
@@ -95,8 +96,8 @@ fn sort_by_number(tasks: &mut Vec<Task>)
 
 /// Whether `a` is dropped rather than `b`: it takes longer, or as long and has the lesser number.
 fn outlasts(a: &Task, b: &Task) -> bool
-    ensures yes { result ≡ true → (b.now.time < a.now.time) ⊎ ((b.now.time ≡ a.now.time) × (a.now.job ≤ b.now.job)) }
-    ensures no { result ≡ false → (a.now.time < b.now.time) ⊎ ((a.now.time ≡ b.now.time) × (b.now.job ≤ a.now.job)) }
+    ensures yes { result ≡ true → Outlasts a.now b.now }
+    ensures no { result ≡ false → Outlasts b.now a.now }
 {
     a.time > b.time || (a.time == b.time && a.job < b.job)
 }
@@ -105,7 +106,7 @@ fn outlasts(a: &Task, b: &Task) -> bool
 fn longest(tasks: &[Task]) -> usize
     requires { 0 < length tasks.now }
     ensures place { result < length tasks.now }
-    ensures longest { (d : Task) → All (λ t. (t.time < (slice_index_or tasks.now result d).time) ⊎ ((t.time ≡ (slice_index_or tasks.now result d).time) × ((slice_index_or tasks.now result d).job ≤ t.job))) tasks.now }
+    ensures longest { (d : Task) → All (Outlasts (slice_index_or tasks.now result d)) tasks.now }
 {
     let mut best = 0;
     for place in 0..tasks.len() {
@@ -122,8 +123,7 @@ fn drop_longest(choice: &mut Choice) -> Result<(), NoMemory>
     requires total { choice.old.total ≡ sum_by (λ t. t.time) choice.old.accepted.items }
     ensures total { choice.new.total ≡ sum_by (λ t. t.time) choice.new.accepted.items }
     ensures early { choice.new.total ≤ choice.old.total }
-    ensures dropped { IfOk result (λ _. (place : ℕ) × (longest : Task) × IsLongest (λ t. t.time) (λ t. t.job) choice.old.accepted.items place longest
-        × (choice.new.accepted.items ≡ remove choice.old.accepted.items place) × (choice.new.dropped.items ≡ choice.old.dropped.items ++ longest ∷ [])) }
+    ensures dropped { IfOk result (λ _. DropsLongest choice.old.accepted.items choice.old.dropped.items choice.new.accepted.items choice.new.dropped.items) }
 {
     let place = longest(choice.accepted.as_slice());
     let longest = choice.accepted.remove(place);
@@ -139,8 +139,8 @@ fn accept(choice: &mut Choice, task: Task) -> Result<(), NoMemory>
     requires short { task.time ≤ GREATEST }
     ensures total { IfOk result (λ _. choice.new.total ≡ sum_by (λ t. t.time) choice.new.accepted.items) }
     ensures early { choice.new.total ≤ choice.old.total + task.time }
-    ensures next { IfOk result (λ _. (seen : List Task) → IsChoice (λ t. t.time) (λ t. t.job) (λ t. t.due) seen choice.old.accepted.items choice.old.dropped.items
-        → IsChoice (λ t. t.time) (λ t. t.job) (λ t. t.due) (seen ++ task ∷ []) choice.new.accepted.items choice.new.dropped.items) }
+    ensures next { IfOk result (λ _. (seen : List Task) → AreChosen seen choice.old.accepted.items choice.old.dropped.items
+        → AreChosen (seen ++ task ∷ []) choice.new.accepted.items choice.new.dropped.items) }
 {
     choice.total += task.time;
     choice.accepted.push(task)?;
@@ -154,7 +154,7 @@ fn accept(choice: &mut Choice, task: Task) -> Result<(), NoMemory>
 fn choose(alloc: Global, tasks: &[Task]) -> Result<Choice, NoMemory>
     requires few { length tasks.now ≤ MOST_JOBS }
     requires short { All (λ t. t.time ≤ GREATEST) tasks.now }
-    ensures { IfOk result (λ c. IsChoice (λ t. t.time) (λ t. t.job) (λ t. t.due) tasks.now c.accepted.items c.dropped.items) }
+    ensures { IfOk result (λ c. AreChosen tasks.now c.accepted.items c.dropped.items) }
 {
     let mut choice = Choice {
         accepted: Vec::new(alloc),
@@ -175,7 +175,7 @@ fn numbers_of(alloc: Global, tasks: &[Task]) -> Result<Vec<u32>, NoMemory>
 
 /// The numbers of the tasks that are accepted, in their order, and of those that are dropped, sorted.
 fn in_order(alloc: Global, choice: Choice) -> Result<Vec<u32>, NoMemory>
-    ensures { IfOk result (λ o. (late : List Task) × IsPermutation choice.dropped.items late × AllPairs (λ a b. a.job ≤ b.job) late × (o.items ≡ map (λ t. t.job) (choice.accepted.items ++ late))) }
+    ensures { IfOk result (λ o. IsRowOf choice.accepted.items choice.dropped.items o.items) }
 {
     let Choice {
         mut accepted,
