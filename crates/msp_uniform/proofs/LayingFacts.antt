@@ -1,14 +1,16 @@
 -- A job is laid over one segment after another.
-use Rattle.std.proofs.Common.{◌≡◌, ℕ, zero, suc, ◌+◌, ◌*◌, ◌-◌, ◌/◌, ◌<◌, ◌≤◌, ◌⊎◌, inl, inr, Bool, List, [], ◌∷◌, ◌++◌, length, take, drop, get_or, refl, sym, ap, append-nil, drop-cons, subst, subst₂, arith}
+use Rattle.std.proofs.Common.{◌≡◌, ℕ, zero, suc, ◌+◌, ◌*◌, ◌-◌, ◌/◌, ◌<◌, ◌≤◌, ◌⊎◌, min, inl, inr, Bool, false, true, List, [], ◌∷◌, ◌++◌, ◌∙◌, length, All, refl, sym, ap, append-nil, append_assoc, subst, subst₂, arith}
 use Rattle.std.specs.Int.{◌∣◌}
 use Rattle.std.proofs.Math.Nat.{div-mul_cancel}
-use Rattle.std.proofs.lemmas.List.{length-append, take_more, take_all, drop_all}
+use Rattle.std.proofs.lemmas.List.{length-append, nil_from_length}
+use Rattle.std.proofs.lemmas.List.Elements.{All-head}
 use Rattle.std.proofs.lemmas.Nat.Gcd.{dvd-zero}
 use Rattle.msp_instance.proofs.MultipleLemmas.{All-append_left}
 use Rattle.msp_uniform.specs.declared.segments.Segment.{Segment}
-use Rattle.msp_uniform.specs.Segments.{IsLaid, IsTaken, CanGain, IsFirst, IsSecond, gain_at, AreFew, AreLaid, IsOneLaid, IsLaying}
+use Rattle.msp_uniform.specs.Segments.{IsLaid, IsTaken, CanGain, IsFirst, IsSecond, rate_at, gain_at, AreFew, AreLaid, IsOneLaid, IsFirstLaid, IsLaying, AreLaidUpTo}
+use Rattle.msp_uniform.specs.Plans.{IsLaidHere}
 use Rattle.msp_uniform.proofs.LaidFacts.{IsLaid-append, gained-append}
-use Rattle.msp_uniform.proofs.OrderFacts.{All-last, IsLaid-lengths, AreOrdered-next}
+use Rattle.msp_uniform.proofs.OrderFacts.{All-last, All-append_right, IsLaid-lengths, AreOrdered-next}
 
 module _ (swap : Bool) (speed : ℕ → ℕ) (job r left : ℕ) (x : Segment) (fs ss : List Segment) (g : ℕ) (is : g ≡ gain_at swap speed r x) where
   pub IsOneLaid-whole : (a : Segment) (fs' : List Segment) → x.length * g ≤ left → IsTaken job r x.length x a → fs' ≡ fs ++ a ∷ [] → IsOneLaid swap speed job r left (left - x.length * g) x fs ss fs' ss
@@ -110,30 +112,125 @@ module _ (swap : Bool) (speed : ℕ → ℕ) (job r whole : ℕ) where
   CanGain-next left after x xs fs ss fs' ss' (inl (l, c)) o = subst (λ k. CanGain (gain_at swap speed r) k xs) (sym (o.enough l)) c
   CanGain-next left after x xs fs ss fs' ss' (inr (l, d)) o = subst (λ k. CanGain (gain_at swap speed r) k xs) (sym (o.short l)) (CanGain-nothing xs)
 
-  pub IsLaying-start : (xs fs ss : List Segment) → fs ≡ [] → ss ≡ [] → CanGain (gain_at swap speed r) whole xs → IsLaying swap speed job r whole whole 0 xs fs ss
-  IsLaying-start xs fs ss e f c = subst₂ (IsLaying swap speed job r whole whole 0 xs) (sym e) (sym f) (record { laid = AreLaid-first xs; more = c })
-
-  pub IsLaying-next : (left after k : ℕ) (xs : List Segment) (d : Segment) (fs ss fs' ss' : List Segment) → k < length xs → IsLaying swap speed job r whole left k xs fs ss → IsOneLaid swap speed job r left after (get_or xs k d) fs ss fs' ss' → IsLaying swap speed job r whole after (k + 1) xs fs' ss'
-  IsLaying-next left after k xs d fs ss fs' ss' l h o = record {
-    laid = subst (λ ys. AreLaid swap speed job r whole after ys fs' ss') (sym (take_more xs k d l)) (AreLaid-next left after (take k xs) (get_or xs k d) fs ss fs' ss' h.laid o);
-    more = subst (λ n. CanGain (gain_at swap speed r) after (drop n xs)) (one k) (CanGain-next left after (get_or xs k d) (drop (suc k) xs) fs ss fs' ss' (subst (CanGain (gain_at swap speed r) left) (drop-cons xs k d l) h.more) o);
+-- ---- the same parts after others
+module _ (swap : Bool) (speed : ℕ → ℕ) (job r left after : ℕ) (x : Segment) (fs fs' seconds : List Segment) (o : IsOneLaid swap speed job r left after x fs [] fs' seconds) where
+  pub IsOneLaid-after : (gs : List Segment) → IsOneLaid swap speed job r left after x gs [] (gs ++ o.firsts_new) seconds
+  IsOneLaid-after gs = record {
+    firsts_new = o.firsts_new;
+    seconds_new = o.seconds_new;
+    firsts_are = refl;
+    seconds_are = o.seconds_are;
+    part = o.part;
+    laid = o.laid;
+    gains = o.gains;
+    enough = o.enough;
+    short = o.short;
+    few = o.few;
   }
-    where
-      one : (k : ℕ) → suc k ≡ k + 1
-      one k = omega arith
 
-  pub AreLaid-end : (left k : ℕ) (xs fs ss : List Segment) → length xs ≤ k → IsLaying swap speed job r whole left k xs fs ss → AreLaid swap speed job r whole 0 xs fs ss
-  AreLaid-end left k xs fs ss l h = subst₂ (λ n ys. AreLaid swap speed job r whole n ys fs ss) none (take_all k xs l) h.laid
-    where
-      none : left ≡ 0
-      none = subst (CanGain (gain_at swap speed r) left) (drop_all k xs l) h.more
+-- ---- the first of late segments, and those after it
+module _ (speed : ℕ → ℕ) (job r : ℕ) where
+  pub IsFirstLaid-made : (left after : ℕ) (x : Segment) (early late early' late' seconds : List Segment) → IsOneLaid false speed job r left after x early [] early' seconds → length seconds + min 1 after ≤ 1 → CanGain (rate_at speed r) left (x ∷ late) → late' ≡ seconds ++ late → IsFirstLaid speed job r left after x early late early' late'
+  IsFirstLaid-made left after x early late early' late' seconds o few c e = record {
+    seconds = seconds;
+    laid = o;
+    late_is = e;
+    few = few;
+    more = CanGain-next false speed job r left left after x late early [] early' seconds c o;
+  }
 
-  pub can_gain-here : (left k : ℕ) (xs : List Segment) (x : Segment) (fs ss : List Segment) → k < length xs → x ≡ get_or xs k x → IsLaying swap speed job r whole left k xs fs ss → (x.length * gain_at swap speed r x ≤ left) ⊎ ((left < x.length * gain_at swap speed r x) × (gain_at swap speed r x ∣ left))
-  can_gain-here left k xs x fs ss l is h = by (subst (λ y. CanGain (gain_at swap speed r) left (y ∷ drop (suc k) xs)) (sym is) (subst (CanGain (gain_at swap speed r) left) (drop-cons xs k x l) h.more))
-    where
-      by : CanGain (gain_at swap speed r) left (x ∷ drop (suc k) xs) → (x.length * gain_at swap speed r x ≤ left) ⊎ ((left < x.length * gain_at swap speed r x) × (gain_at swap speed r x ∣ left))
-      by (inl a) = inl a.0
-      by (inr a) = inr a
+  -- nothing is needed of a segment
+  IsOneLaid-kept : (x : Segment) (fs ss : List Segment) → IsOneLaid false speed job r 0 0 x fs ss fs (ss ++ x ∷ [])
+  IsOneLaid-kept x fs ss = record {
+    firsts_new = [];
+    seconds_new = x ∷ [];
+    firsts_are = sym (append-nil fs);
+    seconds_are = refl;
+    part = 0;
+    laid = IsLaid.second (record { long = refl; jobs = refl; free = refl }) refl IsLaid.none;
+    gains = omega arith;
+    enough = λ l. omega arith;
+    short = λ l. refl;
+    few = inl (omega arith);
+  }
 
-  pub IsLaying-item : (left after k : ℕ) (xs : List Segment) (x : Segment) (fs ss fs' ss' : List Segment) → k < length xs → x ≡ get_or xs k x → IsLaying swap speed job r whole left k xs fs ss → IsOneLaid swap speed job r left after x fs ss fs' ss' → IsLaying swap speed job r whole after (k + 1) xs fs' ss'
-  IsLaying-item left after k xs x fs ss fs' ss' l is h o = IsLaying-next left after k xs x fs ss fs' ss' l h (subst (λ y. IsOneLaid swap speed job r left after y fs ss fs' ss') is o)
+  module _ (whole : ℕ) where
+    AreLaid-extend : (ys done fs ss : List Segment) → AreLaid false speed job r whole 0 done fs ss → AreLaid false speed job r whole 0 (done ++ ys) fs (ss ++ ys)
+    AreLaid-extend [] done fs ss h = subst₂ (λ d s. AreLaid false speed job r whole 0 d fs s) (sym (append-nil done)) (sym (append-nil ss)) h
+    AreLaid-extend (y ∷ ys) done fs ss h = subst₂ (λ d s. AreLaid false speed job r whole 0 d fs s) (append_assoc done (y ∷ []) ys) (append_assoc ss (y ∷ []) ys) (AreLaid-extend ys (done ++ y ∷ []) fs (ss ++ y ∷ []) (AreLaid-next false speed job r whole 0 0 done y fs ss fs (ss ++ y ∷ []) h (IsOneLaid-kept y fs ss)))
+
+    pub IsLaying-start : (xs early : List Segment) → CanGain (rate_at speed r) whole xs → IsLaying speed job r whole whole xs early early xs
+    IsLaying-start xs early c = record {
+      done = [];
+      others = xs;
+      firsts = [];
+      seconds = [];
+      all = refl;
+      laid = AreLaid-first false speed job r whole xs;
+      early_is = sym (append-nil early);
+      late_is = refl;
+      few = omega arith;
+      more = c;
+    }
+
+    module _ (left : ℕ) (xs early0 early : List Segment) where
+      -- the segment that is next
+      module _ (x : Segment) (late late0 : List Segment) (next : late0 ≡ x ∷ late) (some : 1 ≤ left) (h : IsLaying speed job r whole left xs early0 early late0) where
+        none_late : h.seconds ≡ []
+        none_late = nil_from_length h.seconds (omega (arith, some, h.few))
+
+        others_are : h.others ≡ x ∷ late
+        others_are = sym (h.late_is ∙ ap (λ l. l ++ h.others) none_late) ∙ next
+
+        pub laying_next : (P : Segment → Type 0) → All P xs → P x
+        laying_next P a = All-head P x late (All-append_right P h.done (x ∷ late) (subst (λ ys. All P (h.done ++ ys)) others_are (subst (All P) h.all a)))
+
+        pub IsLaying-next : (after : ℕ) (early' late' : List Segment) → IsFirstLaid speed job r left after x early late early' late' → IsLaying speed job r whole after xs early0 early' late'
+        IsLaying-next after early' late' f = record {
+          done = h.done ++ x ∷ [];
+          others = late;
+          firsts = h.firsts ++ f.laid.firsts_new;
+          seconds = f.seconds;
+          all = h.all ∙ ap (λ l. h.done ++ l) others_are ∙ sym (append_assoc h.done (x ∷ []) late);
+          laid = AreLaid-next false speed job r whole left after h.done x h.firsts [] (h.firsts ++ f.laid.firsts_new) f.seconds (subst (AreLaid false speed job r whole left h.done h.firsts) none_late h.laid) (IsOneLaid-after false speed job r left after x early early' f.seconds f.laid h.firsts);
+          early_is = f.laid.firsts_are ∙ ap (λ l. l ++ f.laid.firsts_new) h.early_is ∙ append_assoc early0 h.firsts f.laid.firsts_new;
+          late_is = f.late_is;
+          few = f.few;
+          more = f.more;
+        }
+
+      pub IsLaying-end : (late : List Segment) → left ≡ 0 → IsLaying speed job r whole left xs early0 early late → IsLaidHere speed job r whole early0 xs early late
+      IsLaying-end late e h = record {
+        firsts = h.firsts;
+        laid = subst₂ (λ ys l. AreLaid false speed job r whole 0 ys h.firsts l) (sym h.all) (sym h.late_is) (AreLaid-extend h.others h.done h.firsts h.seconds (subst (λ n. AreLaid false speed job r whole n h.done h.firsts h.seconds) e h.laid));
+        early_is = h.early_is;
+      }
+
+-- ---- a job over all segments
+module _ (speed : ℕ → ℕ) (job r whole : ℕ) where
+  pub AreLaidUpTo-start : (xs fs ss : List Segment) → fs ≡ [] → ss ≡ [] → CanGain (gain_at true speed r) whole xs → AreLaidUpTo speed job r whole whole xs xs fs ss
+  AreLaidUpTo-start xs fs ss e f c = record {
+    done = [];
+    all = refl;
+    laid = subst₂ (AreLaid true speed job r whole whole []) (sym e) (sym f) (AreLaid-first true speed job r whole xs);
+    more = c;
+  }
+
+  module _ (left : ℕ) (xs fs ss : List Segment) where
+    module _ (x : Segment) (ahead ahead0 : List Segment) (next : ahead0 ≡ x ∷ ahead) (h : AreLaidUpTo speed job r whole left xs ahead0 fs ss) where
+      are_next : xs ≡ h.done ++ (x ∷ ahead)
+      are_next = h.all ∙ ap (λ l. h.done ++ l) next
+
+      gains_next : CanGain (gain_at true speed r) left (x ∷ ahead)
+      gains_next = subst (CanGain (gain_at true speed r) left) next h.more
+
+      pub laid_next : (P : Segment → Type 0) → All P xs → P x
+      laid_next P a = All-head P x ahead (All-append_right P h.done (x ∷ ahead) (subst (All P) are_next a))
+
+      pub AreLaidUpTo-next : (after : ℕ) (fs' ss' : List Segment) → IsOneLaid true speed job r left after x fs ss fs' ss' → AreLaidUpTo speed job r whole after xs ahead fs' ss'
+      AreLaidUpTo-next after fs' ss' o = record {
+        done = h.done ++ x ∷ [];
+        all = are_next ∙ sym (append_assoc h.done (x ∷ []) ahead);
+        laid = AreLaid-next true speed job r whole left after h.done x fs ss fs' ss' h.laid o;
+        more = CanGain-next true speed job r whole left after x ahead fs ss fs' ss' gains_next o;
+      }

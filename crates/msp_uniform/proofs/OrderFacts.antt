@@ -13,6 +13,10 @@ pub All-last : {X : Type 0} (P : X → Type 0) (xs : List X) (x : X) → All P (
 All-last P [] x h = All-head P x [] h
 All-last P (y ∷ ys) x h = All-last P ys x (All-tail P y (ys ++ x ∷ []) h)
 
+pub All-append_right : {X : Type 0} (P : X → Type 0) (xs ys : List X) → All P (xs ++ ys) → All P ys
+All-append_right P [] ys h = h
+All-append_right P (x ∷ xs) ys h = All-append_right P xs ys (All-tail P x (xs ++ ys) h)
+
 pub IsLaid-lengths : {First Second : Segment → Segment → Type 0} {zs : List ℕ} {xs us vs : List Segment} → IsLaid First Second zs xs us vs → length zs ≡ length xs
 IsLaid-lengths IsLaid.none = refl
 IsLaid-lengths (IsLaid.first f e h) = ap suc (IsLaid-lengths h)

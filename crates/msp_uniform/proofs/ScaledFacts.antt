@@ -1,12 +1,14 @@
 -- Finer units, and where a job has gained enough.
-use Rattle.std.proofs.Common.{◌≡◌, ℕ, zero, suc, ◌+◌, ◌*◌, ◌-◌, ◌<◌, ◌≤◌, ◌⊎◌, inl, inr, false, cond, eqb, List, [], ◌∷◌, ◌++◌, length, take, drop, get_or, drop-cons, All, sym, ap, subst, ◌∙◌, arith}
+use Rattle.std.proofs.Common.{◌≡◌, ℕ, zero, suc, ◌+◌, ◌*◌, ◌-◌, ◌<◌, ◌≤◌, ◌⊎◌, inl, inr, false, cond, eqb, List, [], ◌∷◌, ◌++◌, length, take, drop, get_or, drop-cons, append-nil, append_assoc, All, sym, ap, subst, ◌∙◌, arith}
 use Rattle.std.specs.Int.{◌∣◌}
 use Rattle.std.proofs.Math.Nat.{mul-le-mul_left, dvd-mul_left}
 use Rattle.std.proofs.lemmas.List.{take_more, drop_all, take_all}
-use Rattle.std.proofs.lemmas.List.Elements.{all_zip_more, All-nil, All-cons, All-head, All-tail}
+use Rattle.std.proofs.lemmas.List.Elements.{AllZip-push, All-nil, All-cons, All-head, All-tail}
 use Rattle.msp_class.proofs.Sums.{sum_by-cons, sum_by-append, total_below-same}
+use Rattle.msp_instance.proofs.MultipleLemmas.{All-append_left}
 use Rattle.msp_uniform.specs.declared.segments.Segment.{Segment}
-use Rattle.msp_uniform.specs.Segments.{at, job_on, place_at, IsSegment, IsPartOf, rate_at, job_rate, amount, CanGain, StopsAt, IsSeeking, AreScaled, HasPlaces}
+use Rattle.msp_uniform.specs.Segments.{at, job_on, place_at, IsSegment, IsPartOf, rate_at, job_rate, amount, CanGain, StopsAt, IsSeeking, AreScaled, AreScaledUpTo, HasPlaces}
+use Rattle.msp_uniform.proofs.OrderFacts.{All-append_right}
 
 -- an amount with one more segment
 pub amount-more : (rate : Segment → ℕ) (xs : List Segment) (k : ℕ) (x : Segment) → k < length xs → x ≡ get_or xs k x → amount rate (take (k + 1) xs) ≡ amount rate (take k xs) + x.length * rate x
@@ -74,8 +76,32 @@ amount-scaled rate read d [] (y ∷ ys) h = absurd h
 amount-scaled rate read d (x ∷ xs) [] h = absurd h
 
 -- lists that go on
-pub AreScaled-push : (d : ℕ) (xs ys : List Segment) (k : ℕ) (x y : Segment) (zs : List Segment) → k < length xs → x ≡ get_or xs k x → IsPartOf (x.length * d) x y → zs ≡ ys ++ y ∷ [] → AreScaled d (take k xs) ys → AreScaled d (take (k + 1) xs) zs
-AreScaled-push d xs ys k x y zs l is p e h = subst (AreScaled d (take (k + 1) xs)) (sym e) (all_zip_more (λ x y. IsPartOf (x.length * d) x y) xs ys k x y l is h p)
+pub AreScaledUpTo-start : (d : ℕ) (xs ahead ys : List Segment) → ahead ≡ xs → ys ≡ [] → AreScaledUpTo d xs ahead ys
+AreScaledUpTo-start d xs ahead ys e f = record { done = []; all = sym e; scaled = subst (AreScaled d []) (sym f) tt }
+
+module _ (d : ℕ) (xs ahead0 ahead ys : List Segment) (x : Segment) (next : ahead0 ≡ x ∷ ahead) (h : AreScaledUpTo d xs ahead0 ys) where
+  are_next : xs ≡ h.done ++ (x ∷ ahead)
+  are_next = h.all ∙ ap (λ l. h.done ++ l) next
+
+  pub scaled_next : (P : Segment → Type 0) → All P xs → P x
+  scaled_next P a = All-head P x ahead (All-append_right P h.done (x ∷ ahead) (subst (All P) are_next a))
+
+  pub AreScaledUpTo-next : (y : Segment) (zs : List Segment) → IsPartOf (x.length * d) x y → zs ≡ ys ++ y ∷ [] → AreScaledUpTo d xs ahead zs
+  AreScaledUpTo-next y zs p e = record {
+    done = h.done ++ x ∷ [];
+    all = are_next ∙ sym (append_assoc h.done (x ∷ []) ahead);
+    scaled = subst (AreScaled d (h.done ++ x ∷ [])) (sym e) (AllZip-push (λ x y. IsPartOf (x.length * d) x y) h.done ys x y h.scaled p);
+  }
+
+pub AreScaledUpTo-end : (d : ℕ) (xs ahead ys : List Segment) → ahead ≡ [] → AreScaledUpTo d xs ahead ys → AreScaled d xs ys
+AreScaledUpTo-end d xs ahead ys e h = subst (λ l. AreScaled d l ys) (sym (h.all ∙ ap (λ l. h.done ++ l) e ∙ append-nil h.done)) h.scaled
+
+-- the segments in two parts
+pub two_rows : (P : Segment → Type 0) (xs front back : List Segment) → front ++ back ≡ xs → All P xs → All P front × All P back
+two_rows P xs front back e h = (All-append_left P front back (subst (All P) (sym e) h), All-append_right P front back (subst (All P) (sym e) h))
+
+pub amount-rows : (rate : Segment → ℕ) (xs front back : List Segment) → front ++ back ≡ xs → amount rate xs ≡ amount rate front + amount rate back
+amount-rows rate xs front back e = ap (amount rate) (sym e) ∙ sum_by-append (λ y. y.length * rate y) front back
 
 -- the machines at a place are not faster than any
 pub rates_short : (speeds : List ℕ) (b r : ℕ) (xs : List Segment) → All (λ s. s ≤ b) speeds → All (HasPlaces (length speeds) false r) xs → All (λ x. rate_at (at speeds) r x ≤ b) xs
@@ -85,6 +111,9 @@ pub work_short : (speeds : List ℕ) (r k : ℕ) (xs : List Segment) (x : Segmen
 work_short speeds r k xs x work rate h p t l is e f =
     let most : amount (rate_at (at speeds) r) xs ≤ amount (λ _. 1) xs * 1000000 = amount-least (rate_at (at speeds) r) 1000000 xs (rates_short speeds 1000000 r xs h p) in
     omega (arith, e, ap (λ n. x.length * n) f, amount-more (rate_at (at speeds) r) xs k x l is, amount-take (rate_at (at speeds) r) xs (k + 1), most, t)
+
+pub place_short : (speeds : List ℕ) (r : ℕ) (xs : List Segment) → All (λ s. s ≤ 1000000) speeds → All (HasPlaces (length speeds) false r) xs → amount (λ _. 1) xs ≤ 10000000000000000000000000 → amount (rate_at (at speeds) r) xs ≤ 10000000000000000000000000000000
+place_short speeds r xs h p t = omega (arith, amount-least (rate_at (at speeds) r) 1000000 xs (rates_short speeds 1000000 r xs h p), t)
 
 -- the gain comes out whole over a unit that is finer by the last rate
 pub CanGain-scaled : (rate : Segment → ℕ) → IsRead rate → (d left : ℕ) (xs ys : List Segment) → 1 ≤ d → StopsAt rate left xs d → AreScaled d xs ys → CanGain rate (left * d) ys

@@ -91,15 +91,9 @@ module _ (t : Task) (k : IsTask t) where
               positive zero b l k = absurd (omega (arith, l))
               positive (suc a) b l k = omega (arith, k)
 
-  -- ---- a step
-  module _ (j : ℕ) (left : List ℕ) (unit h : ℕ) (early late : List Segment) (r : IsTaped t (j ∷ left) unit h early late) where
-    abbrev work : ℕ
-    work = unit * at t.times.items j
-
-    pub tape_inside : j < n
-    tape_inside = All-head (λ i. i < n) j left r.tape.inside
-
-    pub end_short : r.end ≤ 4000000000000000000000000
+  -- ---- the last place
+  module _ (left : List ℕ) (unit h : ℕ) (early late : List Segment) (r : IsTaped t left unit h early late) where
+    end_short : r.end ≤ 4000000000000000000000000
     end_short = omega (arith, r.within.short, r.within.small)
 
     pub late_short : amount (λ _. 1) late ≤ 10000000000000000000000000
@@ -111,6 +105,20 @@ module _ (t : Task) (k : IsTask t) where
     pub late_places : All (HasPlaces m false h) late
     late_places = has_places speeds (suc h) n late each_late h (omega arith)
 
+  -- ---- a step
+  module _ (j : ℕ) (left : List ℕ) (unit h : ℕ) (early late : List Segment) (r : IsTaped t (j ∷ left) unit h early late) where
+    abbrev work : ℕ
+    work = unit * at t.times.items j
+
+    pub tape_inside : j < n
+    tape_inside = All-head (λ i. i < n) j left r.tape.inside
+
+    end_of : r.end ≤ 4000000000000000000000000
+    end_of = end_short (j ∷ left) unit h early late r
+
+    each_of : All (IsSegment m n (at speeds) (suc h)) late
+    each_of = each_late (j ∷ left) unit h early late r
+
     fine : t.multiple ∣ work
     fine = dvd-mul_right_of_dvd t.multiple r.fine (at t.times.items j)
 
@@ -118,7 +126,7 @@ module _ (t : Task) (k : IsTask t) where
     be_laid place gain xs each l g = record {
       machines = λ i d b. (each i d b).all;
       places = has_places speeds (suc place) n xs each place (omega arith);
-      short = λ i d b. le_trans (length-short xs i d b) (le_trans l (le_trans end_short (omega arith)));
+      short = λ i d b. le_trans (length-short xs i d b) (le_trans l (le_trans end_of (omega arith)));
       gains = g;
     }
 
@@ -130,13 +138,13 @@ module _ (t : Task) (k : IsTask t) where
 
     -- the last place can do it
     pub can_here : work ≤ amount (rate_at (at speeds) h) late → CanBeLaid speeds h work late
-    can_here l = be_laid h work late each_late (omega (arith, r.tape.whole)) (last_can_gain speeds n t.multiple divides h late each_late r.whole.before work r.whole.marks fine r.whole.here l)
+    can_here l = be_laid h work late each_of (omega (arith, r.tape.whole)) (last_can_gain speeds n t.multiple divides h late each_of r.whole.before work r.whole.marks fine r.whole.here l)
 
     pub IsTaped-here : (early' late' : List Segment) → IsLaidHere (at speeds) j h work early late early' late' → IsTaped t left unit h early' late'
     IsTaped-here early' late' w = subst (λ e. IsTaped t left unit h e late') (sym w.early_is) (record {
       end = r.end;
       tape = IsTape-next speeds n (at t.times.items) j left unit r.end h early late w.firsts late' r.tape w.laid;
-      whole = IsWholeTape-next speeds n t.multiple divides h j work early late w.firsts late' tape_inside each_late absent_late w.laid r.whole fine;
+      whole = IsWholeTape-next speeds n t.multiple divides h j work early late w.firsts late' tape_inside each_of absent_late w.laid r.whole fine;
       fine = r.fine;
       within = r.within;
       few = omega (arith, length-append early w.firsts, r.few, by w.laid.few);
@@ -145,6 +153,10 @@ module _ (t : Task) (k : IsTask t) where
         by : AreFew (length w.firsts + length late') (length late) 0 → length w.firsts + length late' ≤ length late + 1
         by (inl l) = omega (arith, l)
         by (inr l) = l.1
+
+    -- and what it can still do then
+    pub rest_here : (rest rest' : ℕ) (early' late' : List Segment) → IsLaidHere (at speeds) j h work early late early' late' → rest ≡ amount (rate_at (at speeds) h) late → rest' + work ≡ rest → rest' ≡ amount (rate_at (at speeds) h) late'
+    rest_here rest rest' early' late' w e f = omega (arith, tape_rest m n (at speeds) h j work late w.firsts late' tape_inside each_of absent_late w.laid, e, f)
 
   -- the last place can't do it
   module _ (j : ℕ) (left : List ℕ) (unit g : ℕ) (early late : List Segment) (r : IsTaped t (j ∷ left) unit (suc g) early late) (long : amount (rate_at (at speeds) (suc g)) late < unit * at t.times.items j) where
@@ -155,7 +167,7 @@ module _ (t : Task) (k : IsTask t) where
     more = unit * at t.times.items j - rest
 
     late_each : All (IsSegment m n (at speeds) (suc (suc g))) late
-    late_each = each_late j left unit (suc g) early late r
+    late_each = each_late (j ∷ left) unit (suc g) early late r
 
     more_fine : t.multiple ∣ more
     more_fine = dvd-sub t.multiple (fine j left unit (suc g) early late r) r.whole.more
@@ -272,12 +284,15 @@ module _ (t : Task) (k : IsTask t) (j unit h : ℕ) (early late : List Segment) 
       by (Ok u) e f w q = λ left r. subst (λ a. IsTaped t left unit a early' late') (sym q) (IsTaped-here t k j left unit h early late r early' late' (subst₂ (λ s a. IsLaidHere (at s) j h a early late early' late') e f w))
       by (Err e) p f w q = tt
 
-  pub read_over : amount (rate_at (at t.speeds.items) h) late < unit * at t.times.items j → (sp : List ℕ) (first then h' : ℕ) (early' late' : List Segment) → sp ≡ t.speeds.items → first ≡ amount (rate_at (at t.speeds.items) h) late → then ≡ unit * at t.times.items j - amount (rate_at (at t.speeds.items) h) late → OnOk result (IsLaidOver (at sp) j h first then early late h' early' late') → OnOk result ((left : List ℕ) → IsTaped t (j ∷ left) unit h early late → IsTaped t left unit h' early' late')
-  read_over long sp first then h' early' late' e f g = by result e f g
+  pub read_rest : (left : List ℕ) → IsTaped t (j ∷ left) unit h early late → (sp : List ℕ) (need h' rest rest' : ℕ) (early' late' : List Segment) → sp ≡ t.speeds.items → need ≡ unit * at t.times.items j → rest ≡ amount (rate_at (at t.speeds.items) h) late → OnOk result (IsLaidHere (at sp) j h need early late early' late') → OnOk result (h' ≡ h) → OnOk result (rest' + need ≡ rest) → OnOk result (rest' ≡ amount (rate_at (at t.speeds.items) h') late')
+  read_rest left r sp need h' rest rest' early' late' e f g = by result e f
     where
-      by : (r : Result A E) → sp ≡ t.speeds.items → first ≡ amount (rate_at (at t.speeds.items) h) late → then ≡ unit * at t.times.items j - amount (rate_at (at t.speeds.items) h) late → OnOk r (IsLaidOver (at sp) j h first then early late h' early' late') → OnOk r ((left : List ℕ) → IsTaped t (j ∷ left) unit h early late → IsTaped t left unit h' early' late')
-      by (Ok u) e f g w = λ left r. IsTaped-over t k j left unit h early late r long h' early' late' (subst₂ (λ s a. IsLaidOver (at s) j h a (unit * at t.times.items j - amount (rate_at (at t.speeds.items) h) late) early late h' early' late') e f (subst (λ a. IsLaidOver (at sp) j h first a early late h' early' late') g w))
-      by (Err e) p f g w = tt
+      by : (o : Result A E) → sp ≡ t.speeds.items → need ≡ unit * at t.times.items j → OnOk o (IsLaidHere (at sp) j h need early late early' late') → OnOk o (h' ≡ h) → OnOk o (rest' + need ≡ rest) → OnOk o (rest' ≡ amount (rate_at (at t.speeds.items) h') late')
+      by (Ok u) e f w q d = subst (λ a. rest' ≡ amount (rate_at (at t.speeds.items) a) late') (sym q) (rest_here t k j left unit h early late r rest rest' early' late' (subst₂ (λ s a. IsLaidHere (at s) j h a early late early' late') e f w) g (subst (λ a. rest' + a ≡ rest) f d))
+      by (Err e) p f w q d = tt
+
+pub read_over : (t : Task) (k : IsTask t) (j unit h : ℕ) (early late : List Segment) → amount (rate_at (at t.speeds.items) h) late < unit * at t.times.items j → (sp : List ℕ) (first then h' : ℕ) (early' late' : List Segment) → sp ≡ t.speeds.items → first ≡ amount (rate_at (at t.speeds.items) h) late → then ≡ unit * at t.times.items j - amount (rate_at (at t.speeds.items) h) late → IsLaidOver (at sp) j h first then early late h' early' late' → (left : List ℕ) → IsTaped t (j ∷ left) unit h early late → IsTaped t left unit h' early' late'
+read_over t k j unit h early late long sp first then h' early' late' e f g w left r = IsTaped-over t k j left unit h early late r long h' early' late' (subst₂ (λ s a. IsLaidOver (at s) j h a (unit * at t.times.items j - amount (rate_at (at t.speeds.items) h) late) early late h' early' late') e f (subst (λ a. IsLaidOver (at sp) j h first a early late h' early' late') g w))
 
 -- ---- loops over jobs
 one_more : (k : ℕ) → suc k ≡ k + 1

@@ -1,5 +1,5 @@
 -- Parts of the time, in each of which every machine has one job or is free. No public contract cites this file.
-use Rattle.std.specs.Prelude.{◌≡◌, ◌≢◌, ℕ, suc, ◌+◌, ◌-◌, ◌*◌, ◌<◌, ◌≤◌, ◌⊎◌, ◌==◌, ⊤, Bool, true, false, List, [], ◌∷◌, ◌++◌, length, map, take, drop, slice_index_or, slice_set, remove, All, sum_by, if◌then◌else◌}
+use Rattle.std.specs.Prelude.{◌≡◌, ◌≢◌, ℕ, suc, ◌+◌, ◌-◌, ◌*◌, ◌<◌, ◌≤◌, ◌⊎◌, min, ◌==◌, ⊤, Bool, true, false, List, [], ◌∷◌, ◌++◌, length, map, take, drop, slice_index_or, slice_set, remove, All, sum_by, if◌then◌else◌}
 use Rattle.std.specs.Int.{◌∣◌}
 use Rattle.std.specs.List.{AllZip}
 use Rattle.msp_class.specs.Sums.{total_below}
@@ -131,10 +131,34 @@ abbrev pub HasPlaces : ℕ → Bool → ℕ → Segment → Type 0
 HasPlaces m true r x = (suc r < length x.free.items) × (place_at x r < m) × (place_at x (suc r) < m)
 HasPlaces m false r x = (r < length x.free.items) × (place_at x r < m)
 
--- The first k segments are laid, and the others hold what is left to gain.
-pub record IsLaying (swap : Bool) (speed : ℕ → ℕ) (job r whole left k : ℕ) (xs firsts seconds : List Segment) : Type 0 where
-  pub laid : AreLaid swap speed job r whole left (take k xs) firsts seconds
-  pub more : CanGain (gain_at swap speed r) left (drop k xs)
+-- The first of late segments is laid: what is early grows by its first part, and its second part is late.
+pub record IsFirstLaid (speed : ℕ → ℕ) (job r whole left : ℕ) (x : Segment) (early late early' late' : List Segment) : Type 0 where
+  pub seconds : List Segment
+  pub laid : IsOneLaid false speed job r whole left x early [] early' seconds
+  pub late_is : late' ≡ seconds ++ late
+  -- nothing is left to gain where there is a second part
+  pub few : length seconds + min 1 left ≤ 1
+  pub more : CanGain (rate_at speed r) left late
+
+-- Some segments are laid, and the others hold what is left to gain.
+pub record IsLaying (speed : ℕ → ℕ) (job r whole left : ℕ) (xs early early' late' : List Segment) : Type 0 where
+  pub done : List Segment
+  pub others : List Segment
+  pub firsts : List Segment
+  pub seconds : List Segment
+  pub all : xs ≡ done ++ others
+  pub laid : AreLaid false speed job r whole left done firsts seconds
+  pub early_is : early' ≡ early ++ firsts
+  pub late_is : late' ≡ seconds ++ others
+  pub few : length seconds + min 1 left ≤ 1
+  pub more : CanGain (rate_at speed r) left others
+
+-- The segments before those ahead are laid, each part at its place, and those ahead hold what is left to gain.
+pub record AreLaidUpTo (speed : ℕ → ℕ) (job r whole left : ℕ) (xs ahead firsts seconds : List Segment) : Type 0 where
+  pub done : List Segment
+  pub all : xs ≡ done ++ ahead
+  pub laid : AreLaid true speed job r whole left done firsts seconds
+  pub more : CanGain (gain_at true speed r) left ahead
 
 -- The rate of the first segment at which enough is gained, and any where nothing is left to gain.
 abbrev pub StopsAt : (Segment → ℕ) → ℕ → List Segment → ℕ → Type 0
@@ -153,3 +177,9 @@ pub record IsSeeking (rate : Segment → ℕ) (whole left k : ℕ) (xs : List Se
 -- The segments are the others over a finer unit.
 abbrev pub AreScaled : ℕ → List Segment → List Segment → Type 0
 AreScaled d xs ys = AllZip (λ x y. IsPartOf (x.length * d) x y) xs ys
+
+-- Those before the ones ahead are.
+pub record AreScaledUpTo (d : ℕ) (xs ahead ys : List Segment) : Type 0 where
+  pub done : List Segment
+  pub all : xs ≡ done ++ ahead
+  pub scaled : AreScaled d done ys

@@ -4,7 +4,7 @@ ghost use Rattle.msp_instance.specs.declared.ranges.TheConstants.{GREATEST_SPEED
 ghost use Rattle.msp_uniform.specs.Segments.{at, rate_at, amount, IsSegment, IsDifference};
 ghost use Rattle.msp_uniform.specs.Plans.{IsTurned};
 
-use crate::laying::{Parts, lay};
+use crate::laying::{Parts, lay_over_all};
 use crate::segments::Segment;
 use crate::turning::{last_gain, place_for, scaled, work_of};
 use msp_class::NoMemory;
@@ -20,25 +20,26 @@ pub(crate) struct Turned {
 /// The segments with a job whose work is more than the last place can do, and no more than the first.
 pub(crate) fn turn(
     alloc: Global,
-    segments: &[Segment],
+    segments: Vec<Segment>,
     speeds: &[u64],
     places: usize,
     job: u32,
     work: u128,
 ) -> Result<Turned, NoMemory>
     requires some { 2 ≤ places }
-    requires each { (n : ℕ) × All (IsSegment (len speeds.now) n (at speeds.now) places) segments.now }
+    requires each { (n : ℕ) × All (IsSegment (len speeds.now) n (at speeds.now) places) segments.items }
     requires speeds { All (λ s. s ≤ GREATEST_SPEED) speeds.now }
-    requires short { (d : ℕ) → IsDifference speeds.now d → amount (λ _. 1) segments.now * d ≤ 10 ^ 25 }
-    requires first { work ≤ amount (rate_at (at speeds.now) 0) segments.now }
-    requires last { amount (rate_at (at speeds.now) (places - 1)) segments.now < work }
-    ensures { IfOk result (λ t. IsTurned speeds.now places job work segments.now t.factor t.segments.items) }
+    requires short { (d : ℕ) → IsDifference speeds.now d → amount (λ _. 1) segments.items * d ≤ 10 ^ 25 }
+    requires first { work ≤ amount (rate_at (at speeds.now) 0) segments.items }
+    requires last { amount (rate_at (at speeds.now) (places - 1)) segments.items < work }
+    ensures { IfOk result (λ t. IsTurned speeds.now places job work segments.items t.factor t.segments.items) }
 {
-    let place = place_for(segments, speeds, places, work);
-    let gain = work - work_of(segments, speeds, place + 1);
-    let factor = last_gain(segments, speeds, place, gain);
+    let coarse = segments.as_slice();
+    let place = place_for(coarse, speeds, places, work);
+    let gain = work - work_of(coarse, speeds, place + 1);
+    let factor = last_gain(coarse, speeds, place, gain);
     let fine = scaled(alloc, segments, factor)?;
-    let parts = lay(alloc, &fine, speeds, job, place, true, gain * factor)?;
+    let parts = lay_over_all(alloc, fine, speeds, job, place, gain * factor)?;
     let Parts {
         mut first,
         mut second,
@@ -46,6 +47,6 @@ pub(crate) fn turn(
     first.append(&mut second)?;
     Ok(Turned {
         factor,
-        segments: first,
+        segments: first.into_vec(),
     })
 }

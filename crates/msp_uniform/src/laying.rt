@@ -1,18 +1,28 @@
-// A job is laid over segments.
-ghost use Rattle.std.specs.Prelude.{◌≡◌, ℕ, suc, ◌+◌, ◌*◌, ◌<◌, ◌≤◌, ◌⊎◌, [], ◌∷◌, ◌++◌, ◌^◌, length as len, slice_index_or, All, IfOk};
+// A job is laid over segments, one after another.
+ghost use Rattle.std.specs.Prelude.{◌≡◌, ℕ, suc, ◌+◌, ◌*◌, ◌<◌, ◌≤◌, ◌⊎◌, [], ◌∷◌, ◌++◌, ◌^◌, true, false, min, length as len, All, IfOk, OnOk};
 ghost use Rattle.msp_instance.specs.declared.ranges.TheConstants.{GREATEST_SPEED};
 ghost use Rattle.std.specs.Int.{◌∣◌};
-ghost use Rattle.msp_uniform.specs.Segments.{at, gain_at, CanGain, IsFirst, IsSecond, IsLaid, IsOneLaid, AreLaid, HasPlaces};
+ghost use Rattle.std.specs.Option.{option_to_list};
+ghost use Rattle.msp_uniform.specs.Segments.{at, rate_at, gain_at, CanGain, IsSecond, IsOneLaid, IsFirstLaid, AreLaid, HasPlaces};
+ghost use Rattle.msp_uniform.specs.Plans.{CanBeLaid, IsLaidHere};
 
-use crate::segments::{Segment, part_of, taken_of};
+use crate::segments::{Segment, lasting, taken, taken_of};
 use msp_class::NoMemory;
 use std::alloc::Global;
+use std::collections::VecDeque;
+
+/// What is left of the job after a segment, and the part of the segment that comes second, if there is one.
+#[derive(Drop)]
+struct Laid {
+    left: u128,
+    rest: Option<Segment>,
+}
 
 /// The parts that come first and those that come second.
 #[derive(Drop)]
 pub(crate) struct Parts {
-    pub(crate) first: Vec<Segment>,
-    pub(crate) second: Vec<Segment>,
+    pub(crate) first: VecDeque<Segment>,
+    pub(crate) second: VecDeque<Segment>,
 }
 
 /// How much more of the job is done in each unit of the first part.
@@ -30,83 +40,171 @@ pub(crate) fn gain_of(speeds: &[u64], segment: &Segment, place: usize, swap: boo
 }
 
 /// The second part: the job goes on at the next place, or the segment stays as it is.
-fn second_of(
-    alloc: Global,
-    segment: &Segment,
-    length: u128,
-    job: u32,
-    place: usize,
-    swap: bool,
-) -> Result<Segment, NoMemory>
-    requires { HasPlaces (len segment.now.jobs.items) swap place segment.now }
-    ensures long { IfOk result (λ part. part.length ≡ length) }
-    ensures part { IfOk result (IsSecond swap job place segment.now) }
+fn second_of(segment: Segment, length: u128, job: u32, place: usize, swap: bool) -> Segment
+    requires { HasPlaces (len segment.jobs.items) swap place segment }
+    ensures long { result.length ≡ length }
+    ensures part { IsSecond swap job place segment result }
 {
     if swap {
-        taken_of(alloc, segment, length, job, place + 1)
+        taken(segment, length, job, place + 1)
     } else {
-        part_of(alloc, segment, length)
+        lasting(segment, length)
     }
 }
 
 /// Lays the job over a segment, and says how much is left to gain: the first part takes the place, where it is needed.
 fn lay_one(
     alloc: Global,
-    parts: &mut Parts,
+    first: &mut VecDeque<Segment>,
     speeds: &[u64],
-    segment: &Segment,
+    segment: Segment,
     job: u32,
     place: usize,
     swap: bool,
     left: u128,
-) -> Result<u128, NoMemory>
-    requires machines { len segment.now.jobs.items ≡ len speeds.now }
-    requires places { HasPlaces (len speeds.now) swap place segment.now }
+) -> Result<Laid, NoMemory>
+    requires machines { len segment.jobs.items ≡ len speeds.now }
+    requires places { HasPlaces (len speeds.now) swap place segment }
     requires speeds { All (λ s. s ≤ GREATEST_SPEED) speeds.now }
-    requires short { segment.now.length ≤ 10 ^ 25 }
-    requires gains { (segment.now.length * gain_at swap (at speeds.now) place segment.now ≤ left) ⊎ ((left < segment.now.length * gain_at swap (at speeds.now) place segment.now) × (gain_at swap (at speeds.now) place segment.now ∣ left)) }
-    ensures { IfOk result (λ after. IsOneLaid swap (at speeds.now) job place left after segment.now parts.old.first.items parts.old.second.items parts.new.first.items parts.new.second.items) }
+    requires short { segment.length ≤ 10 ^ 25 }
+    requires gains { (segment.length * gain_at swap (at speeds.now) place segment ≤ left) ⊎ ((left < segment.length * gain_at swap (at speeds.now) place segment) × (gain_at swap (at speeds.now) place segment ∣ left)) }
+    ensures laid { IfOk result (λ laid. IsOneLaid swap (at speeds.now) job place left laid.left segment first.old.items [] first.new.items (option_to_list laid.rest)) }
+    ensures few { IfOk result (λ laid. len (option_to_list laid.rest) + min 1 laid.left ≤ 1) }
 {
-    let gain = gain_of(speeds, segment, place, swap);
-    let whole = segment.length * gain;
-    if whole <= left {
-        let part = taken_of(alloc, segment, segment.length, job, place)?;
-        parts.first.push(part)?;
-        return Ok(left - whole);
+    let gain = gain_of(speeds, &segment, place, swap);
+    let long = segment.length;
+    if long * gain <= left {
+        first.push_back(taken(segment, long, job, place))?;
+        return Ok(Laid {
+            left: left - long * gain,
+            rest: None,
+        });
     }
     let length = left / gain;
     if length > 0 {
-        let part = taken_of(alloc, segment, length, job, place)?;
-        parts.first.push(part)?;
+        first.push_back(taken_of(alloc, &segment, length, job, place)?)?;
     }
-    let rest = second_of(alloc, segment, segment.length - length, job, place, swap)?;
-    parts.second.push(rest)?;
-    Ok(0)
+    let rest = second_of(segment, long - length, job, place, swap);
+    Ok(Laid {
+        left: 0,
+        rest: Some(rest),
+    })
 }
 
-/// Lays the job over the segments so that it gains so much: in the first parts it takes the place.
+/// Lays the job over the first of late segments, of which the second part stays late.
+fn lay_first(
+    alloc: Global,
+    early: &mut VecDeque<Segment>,
+    late: &mut VecDeque<Segment>,
+    speeds: &[u64],
+    segment: Segment,
+    job: u32,
+    place: usize,
+    left: u128,
+) -> Result<u128, NoMemory>
+    requires machines { len segment.jobs.items ≡ len speeds.now }
+    requires places { HasPlaces (len speeds.now) false place segment }
+    requires speeds { All (λ s. s ≤ GREATEST_SPEED) speeds.now }
+    requires short { segment.length ≤ 10 ^ 25 }
+    requires gains { CanGain (rate_at (at speeds.now) place) left (segment ∷ late.old.items) }
+    ensures { IfOk result (λ after. IsFirstLaid (at speeds.now) job place left after segment early.old.items late.old.items early.new.items late.new.items) }
+{
+    let laid = lay_one(alloc, early, speeds, segment, job, place, false, left)?;
+    let Laid { left: after, rest } = laid;
+    match rest {
+        None => Ok(after),
+        Some(rest) => {
+            late.push_front(rest)?;
+            Ok(after)
+        }
+    }
+}
+
+/// Lays the job over late segments until it has gained so much: the first parts, in which it has the place, become early.
 pub(crate) fn lay(
     alloc: Global,
-    segments: &[Segment],
+    early: &mut VecDeque<Segment>,
+    late: &mut VecDeque<Segment>,
     speeds: &[u64],
     job: u32,
     place: usize,
-    swap: bool,
+    gain: u128,
+) -> Result<(), NoMemory>
+    requires late { CanBeLaid speeds.now place gain late.old.items }
+    requires speeds { All (λ s. s ≤ GREATEST_SPEED) speeds.now }
+    ensures { OnOk result (IsLaidHere (at speeds.now) job place gain early.old.items late.old.items early.new.items late.new.items) }
+{
+    let mut left = gain;
+    'late: while left > 0 {
+        match late.pop_front() {
+            None => return Ok(()),
+            Some(segment) => {
+                left = lay_first(alloc, early, late, speeds, segment, job, place, left)?;
+            }
+        }
+    }
+    Ok(())
+}
+
+/// Lays the job over a segment: the second part takes the next place.
+fn lay_both(
+    alloc: Global,
+    parts: &mut Parts,
+    speeds: &[u64],
+    segment: Segment,
+    job: u32,
+    place: usize,
+    left: u128,
+) -> Result<u128, NoMemory>
+    requires machines { len segment.jobs.items ≡ len speeds.now }
+    requires places { HasPlaces (len speeds.now) true place segment }
+    requires speeds { All (λ s. s ≤ GREATEST_SPEED) speeds.now }
+    requires short { segment.length ≤ 10 ^ 25 }
+    requires gains { (segment.length * gain_at true (at speeds.now) place segment ≤ left) ⊎ ((left < segment.length * gain_at true (at speeds.now) place segment) × (gain_at true (at speeds.now) place segment ∣ left)) }
+    ensures { IfOk result (λ after. IsOneLaid true (at speeds.now) job place left after segment parts.old.first.items parts.old.second.items parts.new.first.items parts.new.second.items) }
+{
+    let laid = lay_one(
+        alloc,
+        &mut parts.first,
+        speeds,
+        segment,
+        job,
+        place,
+        true,
+        left,
+    )?;
+    let Laid { left: after, rest } = laid;
+    match rest {
+        None => Ok(after),
+        Some(rest) => {
+            parts.second.push_back(rest)?;
+            Ok(after)
+        }
+    }
+}
+
+/// Lays the job over all segments so that it gains so much: in the first parts it takes the place, in the second the next one.
+pub(crate) fn lay_over_all(
+    alloc: Global,
+    mut segments: VecDeque<Segment>,
+    speeds: &[u64],
+    job: u32,
+    place: usize,
     gain: u128,
 ) -> Result<Parts, NoMemory>
-    requires machines { All (λ x. len x.jobs.items ≡ len speeds.now) segments.now }
-    requires places { All (HasPlaces (len speeds.now) swap place) segments.now }
+    requires machines { All (λ x. len x.jobs.items ≡ len speeds.now) segments.items }
+    requires places { All (HasPlaces (len speeds.now) true place) segments.items }
     requires speeds { All (λ s. s ≤ GREATEST_SPEED) speeds.now }
-    requires short { All (λ x. x.length ≤ 10 ^ 25) segments.now }
-    requires gains { CanGain (gain_at swap (at speeds.now) place) gain segments.now }
-    ensures { IfOk result (λ p. AreLaid swap (at speeds.now) job place gain 0 segments.now p.first.items p.second.items) }
+    requires short { All (λ x. x.length ≤ 10 ^ 25) segments.items }
+    requires gains { CanGain (gain_at true (at speeds.now) place) gain segments.items }
+    ensures { IfOk result (λ p. AreLaid true (at speeds.now) job place gain 0 segments.items p.first.items p.second.items) }
 {
-    let first = Vec::new(alloc);
-    let second = Vec::new(alloc);
+    let first = VecDeque::new(alloc);
+    let second = VecDeque::new(alloc);
     let mut parts = Parts { first, second };
     let mut left = gain;
-    for segment in segments {
-        left = lay_one(alloc, &mut parts, speeds, segment, job, place, swap, left)?;
+    'segments: while let Some(segment) = segments.pop_front() {
+        left = lay_both(alloc, &mut parts, speeds, segment, job, place, left)?;
     }
     Ok(parts)
 }

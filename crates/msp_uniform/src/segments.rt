@@ -30,6 +30,26 @@ pub(crate) fn part_of(alloc: Global, segment: &Segment, length: u128) -> Result<
     Ok(Segment { length, jobs, free })
 }
 
+/// It lasts as long as this.
+pub(crate) fn lasting(mut segment: Segment, length: u128) -> Segment
+    ensures { IsPartOf length segment result }
+{
+    segment.length = length;
+    segment
+}
+
+/// It lasts as long as this, and a free machine has the job.
+pub(crate) fn taken(mut segment: Segment, length: u128, job: u32, place: usize) -> Segment
+    requires place { place < len segment.free.items }
+    requires machine { at segment.free.items place < len segment.jobs.items }
+    ensures { IsTaken job place length segment result }
+{
+    let machine = segment.free.remove(place);
+    segment.jobs[machine as usize] = job;
+    segment.length = length;
+    segment
+}
+
 /// The same for another length, where a free machine has the job.
 pub(crate) fn taken_of(
     alloc: Global,

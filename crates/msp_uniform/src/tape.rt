@@ -1,23 +1,27 @@
 // The jobs that no place is too short for, one after another from the last place to the first.
-ghost use Rattle.std.specs.Prelude.{◌≡◌, ◌-◌, ◌<◌, ◌≤◌, ◌*◌, ◌∷◌, List, ℕ, length as len, All, IfOk, OnOk};
+ghost use Rattle.std.specs.Prelude.{◌≡◌, ◌+◌, ◌-◌, ◌<◌, ◌≤◌, ◌*◌, ◌∷◌, List, ℕ, length as len, All, IfOk, OnOk};
 ghost use Rattle.msp_instance.specs.declared.ranges.TheConstants.{GREATEST_SPEED};
-ghost use Rattle.msp_uniform.specs.Segments.{at};
+ghost use Rattle.msp_uniform.specs.Segments.{at, rate_at, amount};
 ghost use Rattle.msp_uniform.specs.Plans.{IsTask, IsReached, AreShort, IsTaped, IsFilled, CanBeLaid, IsLaidHere, IsLaidOver};
 
-use crate::laying::{Parts, lay};
+use crate::laying::lay;
 use crate::segments::Segment;
 use crate::task::{Filled, Plan, Task};
-use crate::turning::{scaled, work_of};
+use crate::turning::{scaled, work_in};
 use crate::turns::need_of;
 use msp_class::NoMemory;
 use std::alloc::Global;
+use std::collections::VecDeque;
+use std::mem;
 
 /// What the last place has done, and what it has still to do. In early segments it has a job already.
 #[derive(Drop)]
 pub(crate) struct Tape {
     pub(crate) place: usize,
-    pub(crate) early: Vec<Segment>,
-    pub(crate) late: Vec<Segment>,
+    /// The work that it can still do.
+    pub(crate) rest: u128,
+    pub(crate) early: VecDeque<Segment>,
+    pub(crate) late: VecDeque<Segment>,
 }
 
 /// The last place does the job.
@@ -30,21 +34,21 @@ fn lay_here(
 ) -> Result<(), NoMemory>
     requires late { CanBeLaid speeds.now tape.old.place work tape.old.late.items }
     requires speeds { All (λ s. s ≤ GREATEST_SPEED) speeds.now }
+    requires rest { work ≤ tape.old.rest }
     ensures laid { OnOk result (IsLaidHere (at speeds.now) job tape.old.place work tape.old.early.items tape.old.late.items tape.new.early.items tape.new.late.items) }
     ensures place { OnOk result (tape.new.place ≡ tape.old.place) }
+    ensures rest { OnOk result (tape.new.rest + work ≡ tape.old.rest) }
 {
-    let parts = lay(
+    lay(
         alloc,
-        tape.late.as_slice(),
+        &mut tape.early,
+        &mut tape.late,
         speeds,
         job,
         tape.place,
-        false,
         work,
     )?;
-    let Parts { mut first, second } = parts;
-    tape.early.append(&mut first)?;
-    tape.late = second;
+    tape.rest -= work;
     Ok(())
 }
 
@@ -54,42 +58,37 @@ fn lay_over(
     tape: &mut Tape,
     speeds: &[u64],
     job: u32,
-    rest: u128,
     more: u128,
 ) -> Result<(), NoMemory>
     requires place { 1 ≤ tape.old.place }
-    requires late { CanBeLaid speeds.now tape.old.place rest tape.old.late.items }
+    requires late { CanBeLaid speeds.now tape.old.place tape.old.rest tape.old.late.items }
     requires early { CanBeLaid speeds.now (tape.old.place - 1) more tape.old.early.items }
     requires speeds { All (λ s. s ≤ GREATEST_SPEED) speeds.now }
-    ensures { OnOk result (IsLaidOver (at speeds.now) job tape.old.place rest more tape.old.early.items tape.old.late.items tape.new.place tape.new.early.items tape.new.late.items) }
+    ensures { OnOk result (IsLaidOver (at speeds.now) job tape.old.place tape.old.rest more tape.old.early.items tape.old.late.items tape.new.place tape.new.early.items tape.new.late.items) }
 {
-    let last = lay(
+    let mut taken = VecDeque::with_capacity(alloc, tape.late.len())?;
+    lay(
         alloc,
-        tape.late.as_slice(),
+        &mut taken,
+        &mut tape.late,
         speeds,
         job,
         tape.place,
-        false,
-        rest,
+        tape.rest,
     )?;
-    let Parts {
-        first: mut taken,
-        ..
-    } = last;
-    let next = lay(
+    let mut early = VecDeque::with_capacity(alloc, tape.early.len())?;
+    tape.place -= 1;
+    lay(
         alloc,
-        tape.early.as_slice(),
+        &mut early,
+        &mut tape.early,
         speeds,
         job,
-        tape.place - 1,
-        false,
+        tape.place,
         more,
     )?;
-    let Parts { first, mut second } = next;
-    second.append(&mut taken)?;
-    tape.place -= 1;
-    tape.early = first;
-    tape.late = second;
+    tape.early.append(&mut taken)?;
+    tape.late = mem::replace(&mut tape.early, early);
     Ok(())
 }
 
@@ -103,16 +102,19 @@ fn lay_next(
 ) -> Result<(), NoMemory>
     requires task { IsTask task.now }
     requires taped { (left : List ℕ) × IsTaped task.now (job ∷ left) unit tape.old.place tape.old.early.items tape.old.late.items }
-    ensures { OnOk result ((left : List ℕ) → IsTaped task.now (job ∷ left) unit tape.old.place tape.old.early.items tape.old.late.items → IsTaped task.now left unit tape.new.place tape.new.early.items tape.new.late.items) }
+    requires rest { tape.old.rest ≡ amount (rate_at (at task.now.speeds.items) tape.old.place) tape.old.late.items }
+    ensures rest { OnOk result (tape.new.rest ≡ amount (rate_at (at task.now.speeds.items) tape.new.place) tape.new.late.items) }
+    ensures taped { OnOk result ((left : List ℕ) → IsTaped task.now (job ∷ left) unit tape.old.place tape.old.early.items tape.old.late.items → IsTaped task.now left unit tape.new.place tape.new.early.items tape.new.late.items) }
 {
     let speeds = task.speeds.as_slice();
     let work = need_of(task.times.as_slice(), unit, job);
-    let rest = work_of(tape.late.as_slice(), speeds, tape.place);
-    if work <= rest {
-        lay_here(alloc, tape, speeds, job, work)
-    } else {
-        lay_over(alloc, tape, speeds, job, rest, work - rest)
+    if work <= tape.rest {
+        return lay_here(alloc, tape, speeds, job, work);
     }
+    let more = work - tape.rest;
+    lay_over(alloc, tape, speeds, job, more)?;
+    tape.rest = work_in(&tape.late, speeds, tape.place);
+    Ok(())
 }
 
 /// Lays all jobs that are left.
@@ -129,10 +131,14 @@ pub(crate) fn lay_all(
 {
     let multiple = u128::from(task.multiple);
     let unit = plan.unit * multiple;
-    let late = scaled(alloc, plan.segments.as_slice(), multiple)?;
+    let late = scaled(alloc, plan.segments, multiple)?;
+    let place = plan.places - 1;
+    let rest = work_in(&late, task.speeds.as_slice(), place);
+    let early = VecDeque::new(alloc);
     let mut tape = Tape {
-        place: plan.places - 1,
-        early: Vec::new(alloc),
+        place,
+        rest,
+        early,
         late,
     };
     for job in jobs {
@@ -146,6 +152,6 @@ pub(crate) fn lay_all(
     early.append(&mut late)?;
     Ok(Filled {
         unit,
-        segments: early,
+        segments: early.into_vec(),
     })
 }

@@ -4,9 +4,10 @@ ghost use Rattle.msp_instance.specs.declared.ranges.TheConstants.{GREATEST_SPEED
 ghost use Rattle.msp_uniform.specs.Segments.{at, rate_at, gain_at, amount, HasPlaces, StopsAt, IsDifference, AreScaled};
 
 use crate::laying::gain_of;
-use crate::segments::{Segment, part_of};
+use crate::segments::{Segment, lasting};
 use msp_class::NoMemory;
 use std::alloc::Global;
+use std::collections::VecDeque;
 
 /// The work that the machines at a place can do.
 pub(crate) fn work_of(segments: &[Segment], speeds: &[u64], place: usize) -> u128
@@ -22,19 +23,31 @@ pub(crate) fn work_of(segments: &[Segment], speeds: &[u64], place: usize) -> u12
     work
 }
 
+/// The same for segments in a queue.
+pub(crate) fn work_in(segments: &VecDeque<Segment>, speeds: &[u64], place: usize) -> u128
+    requires places { All (HasPlaces (len speeds.now) false place) segments.now.items }
+    requires speeds { All (λ s. s ≤ GREATEST_SPEED) speeds.now }
+    requires short { amount (λ _. 1) segments.now.items ≤ 10 ^ 25 }
+    ensures { result ≡ amount (rate_at (at speeds.now) place) segments.now.items }
+{
+    let (front, back) = segments.as_slices();
+    work_of(front, speeds, place) + work_of(back, speeds, place)
+}
+
 /// The segments over a finer unit.
 pub(crate) fn scaled(
     alloc: Global,
-    segments: &[Segment],
+    segments: Vec<Segment>,
     factor: u128,
-) -> Result<Vec<Segment>, NoMemory>
-    requires { All (λ x. x.length * factor ≤ 10 ^ 25) segments.now }
-    ensures { IfOk result (λ all. AreScaled factor segments.now all.items) }
+) -> Result<VecDeque<Segment>, NoMemory>
+    requires { All (λ x. x.length * factor ≤ 10 ^ 25) segments.items }
+    ensures { IfOk result (λ all. AreScaled factor segments.items all.items) }
 {
-    let mut all = Vec::new(alloc);
-    for segment in segments {
-        let part = part_of(alloc, segment, segment.length * factor)?;
-        all.push(part)?;
+    let mut ahead = VecDeque::from_vec(segments);
+    let mut all = VecDeque::with_capacity(alloc, ahead.len())?;
+    'ahead: while let Some(segment) = ahead.pop_front() {
+        let length = segment.length * factor;
+        all.push_back(lasting(segment, length))?;
     }
     Ok(all)
 }

@@ -9,6 +9,7 @@ use crate::task::{Plan, Task};
 use crate::turning::work_of;
 use msp_class::NoMemory;
 use std::alloc::Global;
+use std::mem;
 
 /// What the job needs over the unit.
 pub(crate) fn need_of(times: &[u64], unit: u128, job: u32) -> u128
@@ -36,9 +37,10 @@ fn turn_next(alloc: Global, plan: &mut Plan, task: &Task, job: u32) -> Result<bo
     {
         return Ok(false);
     }
+    let segments = mem::replace(&mut plan.segments, Vec::new(alloc));
     let turned = turn(
         alloc,
-        plan.segments.as_slice(),
+        segments,
         task.speeds.as_slice(),
         plan.places,
         job,

@@ -1,11 +1,22 @@
-use Rattle.msp_uniform.proofs.LayingFacts.{IsLaying-start, can_gain-here, IsLaying-item}
+use Rattle.std.proofs.Common.{◌≡◌, ◌≤◌, false, length, arith}
+use Rattle.msp_uniform.specs.Segments.{HasPlaces}
+use Rattle.msp_uniform.proofs.LayingFacts.{IsLaying-start, laying_next, IsLaying-next, IsLaying-end}
 use Rattle.msp_uniform.proofs.laying.lay.Goals as goal
 
-pub loop-segment-init : goal.loop-segment-init
-loop-segment-init c = IsLaying-start _ _ _ _ _ _ _ _ c.new-first.ensures.items c.new-second.ensures.items c.requires.gains
+pub late-init : goal.late-init
+late-init c = IsLaying-start _ _ _ _ _ _ c.requires.late.gains
 
-pub lay_one-requires-clause-gains : goal.lay_one-requires-clause-gains
-lay_one-requires-clause-gains c = can_gain-here _ _ _ _ _ _ _ _ _ _ _ c.loop-segment-test.true c.segment-item.is c.loop-segment.invariant
+pub lay_first-requires-clause-machines : goal.lay_first-requires-clause-machines
+lay_first-requires-clause-machines c = laying_next _ _ _ _ _ _ _ _ _ _ _ c.in-Some.ensures.items (omega (arith, c.late-test.true)) c.late.invariant (λ x. length x.jobs.items ≡ length c.args.speeds.now) c.requires.late.machines
 
-pub loop-segment-preserved : goal.loop-segment-preserved
-loop-segment-preserved c = IsLaying-item _ _ _ _ _ _ _ _ _ _ _ _ _ _ c.loop-segment-test.true c.segment-item.is c.loop-segment.invariant c.in_ok-left.ensures
+pub lay_first-requires-clause-places : goal.lay_first-requires-clause-places
+lay_first-requires-clause-places c = laying_next _ _ _ _ _ _ _ _ _ _ _ c.in-Some.ensures.items (omega (arith, c.late-test.true)) c.late.invariant (HasPlaces (length c.args.speeds.now) false c.args.place) c.requires.late.places
+
+pub lay_first-requires-clause-short : goal.lay_first-requires-clause-short
+lay_first-requires-clause-short c = laying_next _ _ _ _ _ _ _ _ _ _ _ c.in-Some.ensures.items (omega (arith, c.late-test.true)) c.late.invariant (λ x. x.length ≤ 10000000000000000000000000) c.requires.late.short
+
+pub late-preserved : goal.late-preserved
+late-preserved c = IsLaying-next _ _ _ _ _ _ _ _ _ _ _ c.in-Some.ensures.items (omega (arith, c.late-test.true)) c.late.invariant _ _ _ c.in_ok-left-in-Some.ensures
+
+pub returns : goal.returns
+returns c = IsLaying-end _ _ _ _ _ _ _ _ _ (omega (arith, c.late-test.false)) c.late.invariant

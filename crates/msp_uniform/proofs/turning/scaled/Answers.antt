@@ -1,5 +1,11 @@
-use Rattle.msp_uniform.proofs.ScaledFacts.{AreScaled-push}
+use Rattle.std.proofs.Common.{◌*◌, ◌≤◌, arith}
+use Rattle.msp_uniform.proofs.ScaledFacts.{scaled_next, AreScaledUpTo-next}
 use Rattle.msp_uniform.proofs.turning.scaled.Goals as goal
 
-pub loop-segment-preserved : goal.loop-segment-preserved
-loop-segment-preserved c = AreScaled-push _ _ _ _ _ _ _ c.loop-segment-test.true c.segment-item.is c.in_ok-part.ensures c.in_ok-push.ensures.items c.loop-segment.invariant
+pub overflow_mul-length : goal.overflow_mul-length
+overflow_mul-length c =
+    let short = scaled_next _ _ _ _ _ _ c.in-Some.ensures.items c.ahead.invariant (λ x. x.length * c.args.factor ≤ 10000000000000000000000000) c.requires in
+    omega (arith, short)
+
+pub ahead-preserved : goal.ahead-preserved
+ahead-preserved c = AreScaledUpTo-next _ _ _ _ _ _ c.in-Some.ensures.items c.ahead.invariant _ _ c.lasting.ensures c.in_ok-push_back.ensures.items

@@ -1,6 +1,10 @@
-use Rattle.std.proofs.Common.{take}
-use Rattle.msp_uniform.specs.Segments.{AreScaled}
+use Rattle.std.proofs.Common.{length}
+use Rattle.msp_uniform.specs.Segments.{AreScaledUpTo}
 use Rattle.msp_uniform.proofs.turning.scaled.Given as goal
 
-abbrev pub invariant-loop-segment : goal.invariant-loop-segment
-invariant-loop-segment l = AreScaled l.factor (take l.segment-index l.segments) l.all.items
+-- the segments so far are over the finer unit
+abbrev pub invariant-ahead : goal.invariant-ahead
+invariant-ahead l = AreScaledUpTo l.factor l.fn.segments.items l.ahead.items l.all.items
+
+abbrev pub decreases-ahead : goal.decreases-ahead
+decreases-ahead l = length l.ahead.items

@@ -1,0 +1,10 @@
+use Rattle.std.proofs.Common.{◌++◌, ◌∙◌, ap, sym}
+use Rattle.std.specs.Option.{option_to_list}
+use Rattle.msp_uniform.proofs.LayingFacts.{IsFirstLaid-made}
+use Rattle.msp_uniform.proofs.laying.lay_first.Goals as goal
+
+pub returns-in-None : goal.returns-in-None
+returns-in-None c = IsFirstLaid-made _ _ _ _ _ _ _ _ _ _ _ c.in_ok-laid.ensures.laid c.in_ok-laid.ensures.few c.requires.gains (sym (ap (λ o. option_to_list o ++ c.args.late.now.items) c.in-None.is))
+
+pub returns-in_ok-push_front-in-Some : goal.returns-in_ok-push_front-in-Some
+returns-in_ok-push_front-in-Some c = IsFirstLaid-made _ _ _ _ _ _ _ _ _ _ _ c.in_ok-laid.ensures.laid c.in_ok-laid.ensures.few c.requires.gains (c.in_ok-push_front-in-Some.ensures.items ∙ sym (ap (λ o. option_to_list o ++ c.args.late.now.items) c.in-Some.is))
