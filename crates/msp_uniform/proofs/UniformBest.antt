@@ -1,57 +1,34 @@
 -- Segments in a row as a schedule on uniform machines: it is feasible, and best where its end is a least end.
-use Rattle.std.proofs.Common.{◌≡◌, ℕ, ◌+◌, ◌*◌, ◌-◌, ◌<◌, ◌≤◌, Bool, cond, eqb, List, [], ◌∷◌, length, get_or, filter, map, fold, ℤ, pos, nat_abs, ◌+ℤ◌, ◌-ℤ◌, ◌*ℤ◌, ◌≤ℤ◌, All, sum_by, MatchBool, sym, ap, subst, subst₂, ◌∙◌, arith, zero-add}
+use Rattle.std.proofs.Common.{◌≡◌, ℕ, ◌*◌, ◌<◌, ◌≤◌, Bool, cond, eqb, List, [], ◌∷◌, length, get_or, filter, map, ℤ, pos, nat_abs, ◌*ℤ◌, ◌≤ℤ◌, All, sum_by, MatchBool, sym, ap, subst, subst₂, ◌∙◌, arith}
 use Rattle.std.proofs.lemmas.Bool.{ne_eqb}
 use Rattle.std.proofs.lemmas.Int.{ints}
 use Rattle.std.proofs.Math.Nat.{mul-le-mul_left}
-use Rattle.std.proofs.lemmas.List.Elements.{All-nil, All-head, All-tail, All-filter}
+use Rattle.std.proofs.lemmas.List.Elements.{All-nil, All-filter}
 use native.Mathlib.Nat.{le_of_mul-le-mul_left}
 use Rattle.msp_class.specs.declared.environments.EnvKind.{EnvKind}
 use Rattle.msp_class.specs.declared.environments.EnvKind.TheVariants.{Uniform}
 use Rattle.msp_class.specs.Env.{kind_of}
-use Rattle.msp_class.proofs.Sums.{cond-scale, sum_by-cons, sum_by-filter, sum_by-agree}
-use Rattle.msp_class.proofs.IntegerRing.{natural, pos-le, le-pos, pos-+ℤ-pos, pos-*ℤ-pos, ≤ℤ_antisym}
+use Rattle.msp_class.proofs.Sums.{cond-scale, sum_by-filter, sum_by-agree}
+use Rattle.msp_class.proofs.IntegerRing.{natural, pos-le, le-pos, pos-*ℤ-pos, ≤ℤ_antisym}
 use Rattle.msp_instance.specs.declared.Arc.{Arc}
 use Rattle.msp_instance.specs.declared.Instance.{Instance}
 use Rattle.msp_instance.specs.Instance.{job_at, no_job}
 use Rattle.msp_schedule.specs.declared.Piece.{Piece}
 use Rattle.msp_schedule.specs.declared.Schedule.{Schedule}
-use Rattle.msp_schedule.specs.Piece.{length_of, pieces_of, IsBefore, start, finish, IsTimed}
+use Rattle.msp_schedule.specs.Piece.{pieces_of, IsBefore, start, finish, IsTimed}
 use Rattle.msp_schedule.specs.Intervals.{size_of}
 use Rattle.msp_schedule.specs.Feasible.{Feasible, HasPlace, HasOperation, MayRun, FollowsRoute, GetsWork, IsWholeWork, total, whole_work, work_of as part_of}
 use Rattle.msp_schedule.specs.Cost.{cost_of, Best}
 use Rattle.msp_schedule.specs.Rows.{time_at}
 use Rattle.msp_schedule.proofs.feasible.OfClass.{IsOfClass}
 use Rattle.msp_schedule.proofs.feasible.OneMachine.{apart_in_int, pieces_of-job}
+use Rattle.msp_schedule.proofs.bounds.SpeedBound.{size_share, total_shares}
 use Rattle.msp_schedule.proofs.costs.Makespan.{cost_by_ends, cost_natural}
 use Rattle.msp_uniform.specs.declared.segments.Segment.{Segment}
 use Rattle.msp_uniform.specs.Uniform.{cut_class}
 use Rattle.msp_uniform.specs.Segments.{at, job_rate, amount}
 use Rattle.msp_uniform.specs.Rows.{runs, IsSliceOf}
 use Rattle.msp_uniform.proofs.RowFacts.{long, IsRowOf, slices_in_row, work_in_row}
-
--- lengths times speeds, added up
-module _ (rate : Piece → ℕ) where
-  abbrev share : Piece → ℤ
-  share p = length_of p *ℤ pos (rate p)
-
-  abbrev size_share : Piece → ℕ
-  size_share p = size_of start finish p * rate p
-
-  share-is : (p : Piece) → IsTimed p → share p ≡ pos (size_share p)
-  share-is p t = ap (λ x. x *ℤ pos (rate p)) (lasts (finish p) (start p) p.to p.from t.to t.from t.lasts) ∙ pos-*ℤ-pos (finish p - start p) (rate p)
-    where
-      lasts : (m n : ℕ) (x y : ℤ) → x ≡ pos m → y ≡ pos n → n < m → x -ℤ y ≡ pos (m - n)
-      lasts m n x y e f h = omega (arith, ints)
-
-  fold-shares : (a : ℕ) (xs : List Piece) → All IsTimed xs → fold ◌+ℤ◌ (pos a) (map share xs) ≡ pos (a + sum_by size_share xs)
-  fold-shares a [] h = ap pos (omega arith)
-  fold-shares a (p ∷ ps) h =
-      ap (λ x. fold ◌+ℤ◌ x (map share ps)) (ap (λ x. pos a +ℤ x) (share-is p (All-head IsTimed p ps h)) ∙ pos-+ℤ-pos a (size_share p))
-      ∙ fold-shares (a + size_share p) ps (All-tail IsTimed p ps h)
-      ∙ ap pos (omega (arith, sum_by-cons size_share p ps))
-
-  total_shares : (xs : List Piece) → All IsTimed xs → total (map share xs) ≡ pos (sum_by size_share xs)
-  total_shares xs h = fold-shares 0 xs h ∙ ap pos (zero-add (sum_by size_share xs))
 
 module _ (i : Instance) (h : IsOfClass i cut_class) (unit end : ℕ) (xs : List Segment) (some : 1 ≤ unit) (slices : All (λ x. IsSliceOf i.machines (length i.jobs) x.length x.jobs.items) xs) (whole : sum_by (λ x. x.length) xs ≡ end) (done : (j : ℕ) → j < length i.jobs → amount (job_rate i.machines (at i.speeds) j) xs ≡ unit * time_at i j) where
   abbrev ps : List Piece
