@@ -1,8 +1,8 @@
 -- Heads that arcs back, and the least cost of the last jobs of a block.
-use Rattle.std.proofs.Common.{◌≡◌, ◌≢◌, ◌⊎◌, inl, inr, ℕ, ◌+◌, ◌*◌, ◌^◌, ◌<◌, ◌≤◌, Bool, true, false, cond, List, [], ◌∷◌, ◌++◌, length, get_or, take, All, Any, Some, None, ℤ, pos, ◌+ℤ◌, ◌*ℤ◌, ◌≤ℤ◌, sum_by, IsTrue, ◌↔◌, refl, sym, ap, subst, ◌∙◌, arith, unwrap_or}
+use Rattle.std.proofs.Common.{◌≡◌, ◌≢◌, ◌⊎◌, inl, inr, ℕ, ◌+◌, ◌*◌, ◌^◌, ◌<◌, ◌≤◌, Bool, true, false, cond, List, [], ◌∷◌, ◌++◌, length, get_or, take, All, Any, Some, None, ℤ, pos, ◌+ℤ◌, ◌*ℤ◌, ◌≤ℤ◌, sum_by, refl, sym, ap, subst, ◌∙◌, arith, unwrap_or}
 use Rattle.std.specs.Prelude.{slice_get, Option, int_lt}
 use Rattle.std.specs.Option.{IfSome}
-use Rattle.std.proofs.lemmas.Bool.{false≢true, cases_lt, cases_Bool}
+use Rattle.std.proofs.lemmas.Bool.{false≢true, cases_lt}
 use Rattle.std.proofs.lemmas.Int.{ints}
 use Rattle.std.proofs.lemmas.Nat.{mul-le}
 use Rattle.std.proofs.lemmas.Option.{unwrap_or-slice_get}
@@ -12,8 +12,6 @@ use Rattle.msp_class.proofs.Sums.{sum_by-mono, sum_by-constant}
 use Rattle.msp_class.proofs.IntegerRing.{≤ℤ_refl, ≤ℤ_trans}
 use Rattle.msp_class.specs.Crit.{uses_curve}
 use Rattle.msp_class.specs.declared.class.Crit.TheVariants.{Fmax}
-use Rattle.msp_instance.specs.declared.Arc.{Arc}
-use Rattle.msp_instance.specs.declared.Curve.{Curve}
 use Rattle.msp_instance.specs.declared.Job.{Job}
 use Rattle.msp_instance.specs.declared.Step.{Step}
 use Rattle.msp_instance.specs.declared.Instance.{Instance}
@@ -30,7 +28,7 @@ use Rattle.msp_schedule.proofs.costs.Small.{FitTogether, HasSmallCost-from, prod
 use Rattle.msp_cert.specs.declared.Proof.TheVariants.{Block}
 use Rattle.msp_cert.specs.Certificates.{IsBlockOf, of_job}
 use Rattle.msp_cert.specs.Worth.{IsWorth}
-use Rattle.msp_cert.specs.Least.{Backs, IsBacked, IsLast, IsOwnCost, IsLeast, lesser}
+use Rattle.msp_cert.specs.Least.{IsBacked, IsLast, IsOwnCost, IsLeast, lesser}
 
 -- ---- what is read past the last job
 missing : (i : Instance) (j : ℕ) → None ≡ slice_get i.jobs j → job_at i j ≡ no_job

@@ -1,5 +1,5 @@
 -- Falling time and then rising number is a strict weak order of jobs, so a sort by it puts the longest job first, and ties by number.
-use Rattle.std.proofs.Common.{◌≡◌, ◌≢◌, ℕ, ◌<◌, ◌≤◌, Bool, false, ◌⊎◌, inl, inr, List, get_or, length, AllPairs, IsPermutation, refl, sym, arith}
+use Rattle.std.proofs.Common.{◌≡◌, ◌≢◌, ℕ, ◌<◌, Bool, false, ◌⊎◌, inl, inr, List, get_or, AllPairs, IsPermutation, refl, sym, arith}
 use Rattle.std.specs.List.{range_with_len}
 use Rattle.std.specs.Ordering.{is_lt, nat_cmp, ordering_then, MatchOrdering, then_cmp, on, flip_args}
 use Rattle.std.specs.declared.cmp.Ordering.{Ordering}

@@ -1,5 +1,5 @@
 -- Lists of jobs that lead from one to the next.
-use Rattle.std.proofs.Common.{◌≡◌, ◌≢◌, ℕ, ◌+◌, ◌-◌, ◌<◌, ◌≤◌, Bool, false, List, [], ◌∷◌, ◌++◌, length, get_or, take, sum_by, All, AllPairs, IsTrue, ◌↔◌, refl, sym, ap, subst, subst₂, ◌∙◌, arith}
+use Rattle.std.proofs.Common.{◌≡◌, ◌≢◌, ℕ, ◌+◌, ◌-◌, ◌<◌, ◌≤◌, Bool, false, List, [], ◌∷◌, ◌++◌, length, get_or, take, sum_by, All, AllPairs, IsTrue, ◌↔◌, sym, ap, subst, subst₂, ◌∙◌, arith}
 use Rattle.std.specs.List.{AllAdjacentBelow, flat_map}
 use Rattle.std.proofs.lemmas.Grind.{flat_map-append}
 use Rattle.std.proofs.lemmas.List.{append-nil, get_or_default, take_more}

@@ -1,21 +1,20 @@
 -- How many jobs have at least a level, level by level, and what the levels of all jobs are worth with each tail.
-use Rattle.std.proofs.Common.{◌≡◌, ◌≢◌, ℕ, zero, suc, ◌+◌, ◌-◌, ◌/◌, ◌<◌, ◌≤◌, ◌⊎◌, inl, inr, Bool, cond, List, length, get_or, set, take, sum_by, count_by, Some, None, All, pos, refl, sym, ap, ap₂, subst, ◌∙◌, arith}
+use Rattle.std.proofs.Common.{◌≡◌, ◌≢◌, ℕ, zero, suc, ◌+◌, ◌-◌, ◌/◌, ◌<◌, ◌≤◌, ◌⊎◌, inl, inr, Bool, cond, List, length, get_or, set, take, count_by, Some, None, All, pos, refl, sym, ap, subst, ◌∙◌, arith}
 use Rattle.std.specs.Prelude.{Any, nat_le, ◌==◌}
 use Rattle.std.proofs.lemmas.Bool.Decides.{nat_tests}
 use Rattle.std.proofs.lemmas.List.{get_or_default, get_or-set_same, get_or-set_other, length-set, length-take-le, take_more}
 use Rattle.std.proofs.lemmas.List.Elements.{All-contains}
 use Rattle.msp_class.specs.Sums.{total_below}
 use Rattle.msp_class.proofs.Sums.{sum_by-agree, sum_by-add, sum_by-constant, sum_by-contains, sum_by-some, sum_by-mono, sum_by_push, cond-le, total_below-range}
-use Rattle.msp_instance.specs.declared.Arc.{Arc}
 use Rattle.msp_instance.specs.declared.Instance.{Instance}
 use Rattle.msp_instance.specs.Conditions.{InClass, IsSequence, GoesForward}
 use Rattle.msp_instance.specs.Paths.{HasStep}
 use Rattle.msp_schedule.specs.declared.Frac.{Frac}
-use Rattle.msp_schedule.specs.Levels.{LeadsOut, StepsDown, jobs_from, level_bound}
+use Rattle.msp_schedule.specs.Levels.{LeadsOut, StepsDown, jobs_from}
 use Rattle.msp_schedule.proofs.lists.ForwardOrders.{each_at, leads_to}
 use Rattle.msp_schedule.proofs.lists.Places.{sum_by-places}
 use Rattle.msp_cert.specs.declared.Proof.TheVariants.{Levels}
-use Rattle.msp_cert.specs.Certificates.{HasUnitJobs, AreSteps, of_job}
+use Rattle.msp_cert.specs.Certificates.{HasUnitJobs, of_job}
 use Rattle.msp_cert.specs.Search.{AreAllLevels}
 use Rattle.msp_cert.specs.Worth.{IsWorth}
 use Rattle.msp_cert.proofs.Apart.{same_or_not}

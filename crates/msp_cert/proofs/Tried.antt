@@ -1,6 +1,6 @@
 -- The proofs that are tried: the first of a list, by places and by parts, and what the groups of the longest jobs are worth.
-use Rattle.std.proofs.Common.{◌≡◌, ◌≢◌, ℕ, zero, suc, ◌+◌, ◌*◌, ◌<◌, ◌≤◌, inl, inr, List, [], ◌∷◌, ◌++◌, length, get_or, map, take, sum_by, Option, Some, None, All, AllPairs, IsPermutation, pos, refl, sym, ap, subst, subst₂, ◌∙◌, arith}
-use Rattle.std.specs.Prelude.{sum, slice_get}
+use Rattle.std.proofs.Common.{◌≡◌, ℕ, zero, suc, ◌+◌, ◌*◌, ◌<◌, ◌≤◌, inl, inr, List, [], ◌∷◌, ◌++◌, length, get_or, map, take, Option, Some, None, All, AllPairs, IsPermutation, pos, sym, ap, subst, ◌∙◌, arith}
+use Rattle.std.specs.Prelude.{sum}
 use Rattle.std.specs.List.{range_with_len}
 use Rattle.std.proofs.lemmas.Bool.{cases_lt}
 use Rattle.std.proofs.lemmas.Option.{slice_get_read}
@@ -20,7 +20,7 @@ use Rattle.msp_cert.specs.Certificates.{HasUnitJobs, IsGroup, speeds_of}
 use Rattle.msp_cert.specs.Places.{IsFirstBelow, HasSpeedyMachines}
 use Rattle.msp_cert.specs.Search.{AreLongestFirst, HasValue, IsFirst, groups, tails}
 use Rattle.msp_cert.specs.Worth.{IsWorth}
-use Rattle.msp_cert.proofs.Facts.{AreSmallSpeeds, small_needs, small_speeds}
+use Rattle.msp_cert.proofs.Facts.{small_needs, small_speeds}
 use Rattle.msp_cert.proofs.Fastest.{first_some}
 use Rattle.msp_cert.proofs.Decided.{group_is_worth}
 

@@ -1,5 +1,5 @@
 -- What is kept while the value of a block is worked out. No public contract cites this file.
-use Rattle.std.specs.Prelude.{◌≡◌, ℕ, ◌+◌, ◌≤◌, ◌⊎◌, Bool, false, List, Option, Some, None, ℤ, ◌≤ℤ◌, int_lt, if◌then◌else◌, All, Any}
+use Rattle.std.specs.Prelude.{◌≡◌, ℕ, ◌+◌, ◌≤◌, ◌⊎◌, false, List, Option, Some, None, ℤ, ◌≤ℤ◌, int_lt, if◌then◌else◌, All, Any}
 use Rattle.msp_instance.specs.declared.Arc.{Arc}
 use Rattle.msp_instance.specs.declared.Instance.{Instance}
 use Rattle.msp_instance.specs.declared.path_rows.Paths.{Paths}

@@ -1,5 +1,5 @@
 // When a certificate is accepted.
-ghost use Rattle.std.specs.Prelude.{◌≡◌, ◌↔◌, IsTrue, IfOk, IfSome};
+ghost use Rattle.std.specs.Prelude.{◌↔◌, IsTrue, IfOk, IfSome};
 ghost use Rattle.msp_instance.specs.Conditions.{InClass};
 ghost use Rattle.msp_schedule.specs.Fraction.{IsComparable};
 ghost use Rattle.msp_cert.specs.Certificates.{IsAccepted, KeepsLimits};

@@ -1,14 +1,13 @@
 // Prices of jobs and positions on unrelated machines.
-ghost use Rattle.std.specs.Prelude.{◌≡◌, ◌↔◌, ◌+◌, ◌*◌, ◌<◌, ◌≤◌, ℕ, pos, ◌+ℤ◌, ◌≤ℤ◌, length, slice_index_or, All, IsTrue, IfSome};
+ghost use Rattle.std.specs.Prelude.{◌≡◌, ◌↔◌, ◌+◌, ◌*◌, ◌<◌, ◌≤◌, pos, ◌≤ℤ◌, length, All, IsTrue, IfSome};
 ghost use Rattle.msp_class.specs.declared.environments.TheConstants.{MOST_OPERATIONS};
 ghost use Rattle.msp_instance.specs.declared.ranges.TheConstants.{GREATEST, MOST_JOBS};
 ghost use Rattle.msp_instance.specs.Conditions.{InClass, LiesWithin};
-ghost use Rattle.msp_instance.specs.Instance.{no_need, need_at};
 ghost use Rattle.msp_schedule.specs.Feasible.{total};
 ghost use Rattle.msp_schedule.specs.Fraction.{IsComparable};
 ghost use Rattle.msp_cert.specs.declared.Proof.TheVariants.{Prices};
-ghost use Rattle.msp_cert.specs.declared.limits.TheConstants.{GREATEST_PRICE, MOST_ENTRIES};
-ghost use Rattle.msp_cert.specs.Certificates.{IsPriced, row_price};
+ghost use Rattle.msp_cert.specs.declared.limits.TheConstants.{MOST_ENTRIES};
+ghost use Rattle.msp_cert.specs.Certificates.{IsPriced};
 ghost use Rattle.msp_cert.specs.Fair.{greatest_price, IsFairOn, IsFair, AreFair, HasPricedShape};
 ghost use Rattle.msp_cert.specs.Worth.{IsWorth};
 

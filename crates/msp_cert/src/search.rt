@@ -1,5 +1,5 @@
 // The first of the proofs tried that has just a cost as its value.
-ghost use Rattle.std.specs.Prelude.{◌≡◌, ◌↔◌, ℕ, ◌+◌, ◌<◌, ◌≤◌, ◌++◌, nat_le, slice_index, List, length, take, count_by, All, AllPairs, IsTrue, IfOk, IfSome, IsPermutation, ◌==◌};
+ghost use Rattle.std.specs.Prelude.{◌≡◌, ℕ, ◌+◌, ◌<◌, ◌≤◌, ◌++◌, nat_le, slice_index, List, length, take, count_by, All, AllPairs, IfOk, IfSome, IsPermutation, ◌==◌};
 ghost use Rattle.msp_instance.specs.declared.ranges.TheConstants.{MOST_JOBS};
 ghost use Rattle.msp_instance.specs.declared.Instance.{Instance};
 ghost use Rattle.msp_instance.specs.Conditions.{InClass};
@@ -25,7 +25,7 @@ use msp_instance::{Instance, MOST_JOBS};
 use msp_schedule::Frac;
 use std::alloc::Global;
 
-/// How many of the longest jobs less one are the first group that has the value.
+/// The place of the first group of the longest jobs that has the value, from 0 for the longest job alone.
 fn first_group(inst: &Instance, cost: &Frac, longest: &[u32], speeds: &[u64]) -> Option<usize>
     requires class { InClass inst.now }
     requires asked { HasSpeedyMachines inst.now }

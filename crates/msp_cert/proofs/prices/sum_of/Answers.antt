@@ -1,4 +1,4 @@
-use Rattle.std.proofs.Common.{◌≡◌, ℤ, pos, get_or, arith, rules}
+use Rattle.std.proofs.Common.{pos, get_or, arith, rules}
 use Rattle.std.proofs.lemmas.Int.{ints, to_z-of_z}
 use Rattle.std.specs.Int.{w128}
 use Rattle.msp_cert.proofs.PriceFacts.{IsSum-next, sum_is_total}

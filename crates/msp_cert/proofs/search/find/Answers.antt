@@ -1,5 +1,5 @@
 use Rattle.std.proofs.Common.{List, ℕ, ◌++◌, subst}
-use Rattle.msp_cert.specs.Search.{AreLongestFirst, HasValue, IsFirst, groups, machines, lines, tails}
+use Rattle.msp_cert.specs.Search.{HasValue, IsFirst, groups, machines, lines, tails}
 use Rattle.msp_cert.proofs.search.find.Goals as goal
 
 pub returns : goal.returns

@@ -1,4 +1,4 @@
-use Rattle.std.proofs.Common.{ℕ, ◌+◌, take, refl, arith, below_more}
+use Rattle.std.proofs.Common.{◌+◌, take, refl, arith, below_more}
 use Rattle.std.proofs.lemmas.Bool.{false≢true}
 use Rattle.msp_cert.specs.declared.Proof.TheVariants.{Group}
 use Rattle.msp_cert.specs.Search.{HasValue}

@@ -1,4 +1,4 @@
-use Rattle.std.proofs.Common.{ℕ, ◌∙◌, refl, sym, arith, below_more}
+use Rattle.std.proofs.Common.{◌∙◌, sym, arith, below_more}
 use Rattle.std.proofs.lemmas.Bool.{false≢true}
 use Rattle.msp_cert.specs.declared.Proof.TheVariants.{Levels}
 use Rattle.msp_cert.specs.Search.{HasValue}

@@ -1,4 +1,3 @@
-use Rattle.std.proofs.Common.{arith}
 use Rattle.msp_cert.proofs.SegmentFacts.{not_leading}
 use Rattle.msp_cert.proofs.segments.lead_on.Goals as goal
 

@@ -1,4 +1,4 @@
-use Rattle.std.proofs.Common.{◌≡◌, ◌∙◌, ◌<◌, List, ℕ, length, All, IsPermutation, sym, subst, arith}
+use Rattle.std.proofs.Common.{◌∙◌, ◌<◌, List, ℕ, length, All, IsPermutation, sym, subst}
 use Rattle.msp_instance.specs.declared.Arc.{Arc}
 use Rattle.msp_cert.specs.Certificates.{of_job}
 use Rattle.msp_cert.proofs.TrueLevels.{all_levels, arcs_inside, arcs_fall}

@@ -1,4 +1,4 @@
-use Rattle.std.proofs.Common.{◌≤◌, refl, arith, ap, length, length-set, ◌∙◌}
+use Rattle.std.proofs.Common.{refl, arith, ap, length, length-set, ◌∙◌}
 use Rattle.msp_cert.specs.Certificates.{of_job}
 use Rattle.msp_cert.proofs.TrueLevels.{none_raised, all_raised, raise_next, small_at, no_arc}
 use Rattle.msp_cert.proofs.true_levels.put_levels.Goals as goal

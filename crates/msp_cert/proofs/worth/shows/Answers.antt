@@ -1,4 +1,4 @@
-use Rattle.std.proofs.Common.{sym, subst}
+use Rattle.std.proofs.Common.{subst}
 use Rattle.msp_cert.specs.Worth.{IsWorth}
 use Rattle.msp_cert.proofs.Decided.{shows_some, shows_none}
 use Rattle.msp_cert.proofs.worth.shows.Goals as goal
