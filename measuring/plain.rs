@@ -1,7 +1,7 @@
-// The rules as plain programs: `plain CLASS ROUNDS`, an instance as numbers on standard input. It goes by the rule ROUNDS times and
-// writes the cost as a fraction.
+// The rules as plain programs: `plain CLASS ROUNDS`, an instance as numbers or as a text of the program on standard input. It goes by the
+// rule ROUNDS times and writes the cost as a fraction.
 use std::cmp::Reverse;
-use std::collections::BinaryHeap;
+use std::collections::{BinaryHeap, HashMap};
 use std::fmt::Write;
 use std::io::Read;
 
@@ -19,6 +19,34 @@ fn read(numbers: &mut impl Iterator<Item = i64>) -> Instance {
     }).collect();
     let arcs = (0..next()).map(|_| (next() as usize, next() as usize)).collect();
     Instance { speeds, jobs, arcs }
+}
+
+// An instance from its text, which is taken to be right.
+fn read_text(class: &str, text: &str) -> Instance {
+    let mut found = Instance { speeds: vec![1; if class.starts_with("P2") { 2 } else { 1 }], jobs: Vec::new(), arcs: Vec::new() };
+    let (mut numbers, mut unit) = (HashMap::new(), 1);
+    for line in text.lines() {
+        let mut words = line.split(' ');
+        let key = words.next().unwrap();
+        match key {
+            "machines" => found.speeds = vec![1; words.next().unwrap().parse().unwrap()],
+            "speeds" => found.speeds = words.map(|w| w.parse().unwrap()).collect(),
+            "time" => unit = words.next().unwrap().parse().unwrap(),
+            "job" => {
+                numbers.insert(words.next().unwrap(), found.jobs.len());
+                let mut job = Job { weight: 1, times: vec![(0, unit)], ..Job::default() };
+                for (name, number) in words.filter_map(|w| w.split_once('=')) {
+                    let number = number.parse().unwrap();
+                    match name { "p" => job.times[0].1 = number, "r" => job.release = number, "d" => job.due = number, _ => job.weight = number }
+                }
+                found.jobs.push(job);
+            }
+            "times" => found.jobs.last_mut().unwrap().times = words.map(|w| w.parse().unwrap()).enumerate().collect(),
+            "arc" => found.arcs.push((numbers[words.next().unwrap()], numbers[words.next().unwrap()])),
+            _ => {}
+        }
+    }
+    found
 }
 
 impl Job {
@@ -469,14 +497,16 @@ fn lexical(x: &Instance) -> (i64, i64) {
     }
     for &(_, b) in &x.arcs { blocked[b] += 1; }
     let mut free: BinaryHeap<_> = (0..n).filter(|&j| blocked[j] == 0).map(|j| (label[j], j)).collect();
-    let mut now = 0;
+    let (mut now, mut pieces) = (0, Vec::new());
     while !free.is_empty() {
         let run: Vec<_> = (0..2).filter_map(|_| free.pop()).collect();
-        for (_, job) in run {
+        for (machine, (_, job)) in run.into_iter().enumerate() {
+            pieces.push(Piece { job, machine, from: now as i128, to: now as i128 + 1 });
             for &b in &after[job] { blocked[b] -= 1; if blocked[b] == 0 { free.push((label[b], b)); } }
         }
         now += 1;
     }
+    printed(pieces);
     (now, 1)
 }
 
@@ -560,7 +590,11 @@ fn main() {
     let rounds: u32 = words[2].parse().unwrap();
     let mut text = String::new();
     std::io::stdin().read_to_string(&mut text).unwrap();
-    let instance = read(&mut text.split_whitespace().map(|word| word.parse().unwrap()));
+    let instance = if text.starts_with("msp 1") {
+        read_text(&words[1], &text)
+    } else {
+        read(&mut text.split_whitespace().map(|word| word.parse().unwrap()))
+    };
     let mut cost = rule(&words[1], &instance);
     for _ in 1..rounds { cost = std::hint::black_box(rule(&words[1], std::hint::black_box(&instance))); }
     println!("{}/{}", cost.0, cost.1);

@@ -1,5 +1,5 @@
 // Heads: the moments before which jobs cannot begin, raised along the arcs.
-ghost use Rattle.std.specs.Prelude.{◌≡◌, ◌==◌, ◌+◌, ◌*◌, ◌<◌, ◌≤◌, length, filter, slice_index_or, All, IfOk};
+ghost use Rattle.std.specs.Prelude.{◌≡◌, ◌+◌, ◌*◌, ◌<◌, ◌≤◌, length, slice_index_or, All, IfOk};
 ghost use Rattle.std.specs.List.Sorted.{IsPermutation, IsNonDecreasingBy};
 ghost use Rattle.msp_class.specs.declared.class.Env.TheVariants.{One};
 ghost use Rattle.msp_instance.specs.declared.ranges.TheConstants.{GREATEST, MOST_JOBS};
@@ -9,7 +9,7 @@ ghost use Rattle.msp_schedule.specs.Rows.{time_at};
 ghost use Rattle.msp_blocks.specs.Heads.{IsRaised, AreHeads};
 
 use msp_class::NoMemory;
-use msp_instance::{Arc, Instance, OrderFault, forward};
+use msp_instance::{Arc, Instance, OrderFault, arcs_by_after, entering_of, forward};
 use std::alloc::Global;
 
 /// The time of a job's one operation.
@@ -44,27 +44,6 @@ fn end_from_head(inst: &Instance, heads: &[u64], job: u32) -> u64
     ensures { result ≡ slice_index_or heads.now job 0 + time_at inst.now job }
 {
     heads[job as usize] + time_of(inst, job)
-}
-
-/// The arcs by their jobs after.
-fn sorted_arcs(alloc: Global, arcs: &[Arc]) -> Result<Vec<Arc>, NoMemory>
-    ensures same { IfOk result (λ sorted. IsPermutation arcs.now sorted.items) }
-    ensures sorted { IfOk result (λ sorted. IsNonDecreasingBy (λ a. a.after) sorted.items) }
-{
-    let mut sorted = Vec::from_slice(alloc, arcs)?;
-    sorted.sort_unstable_by_key(|a| a.after);
-    Ok(sorted)
-}
-
-/// The arcs that enter a job.
-fn entering_of(sorted: &[Arc], job: u32) -> &[Arc]
-    requires { IsNonDecreasingBy (λ a. a.after) sorted.now }
-    ensures { result.now ≡ filter (λ a. a.after == job) sorted.now }
-{
-    let first = sorted.partition_point(|a| a.after < job);
-    let rest = &sorted[first..];
-    let end = rest.partition_point(|a| a.after <= job);
-    &rest[..end]
 }
 
 /// The head of a job, by those of the jobs from which arcs enter it.
@@ -122,7 +101,7 @@ pub fn heads_of(alloc: Global, inst: &Instance) -> Result<Vec<u64>, NoMemory>
         Err(OrderFault::Cycle { .. }) => unreachable!(),
         Err(OrderFault::Memory) => return Err(NoMemory),
     };
-    let sorted = sorted_arcs(alloc, inst.arcs.as_slice())?;
+    let sorted = arcs_by_after(alloc, inst.arcs.as_slice())?;
     let mut heads = no_heads(alloc, inst.jobs.len())?;
     put_heads(inst, &sorted, order.as_slice(), heads.as_mut_slice());
     Ok(heads)

@@ -1,8 +1,8 @@
 -- Lemmas on sorted arcs, and on how many arcs enter a job.
-use Rattle.std.proofs.Common.{◌≡◌, ℕ, ◌+◌, ◌-◌, ◌<◌, ◌≤◌, Bool, true, false, cond, eqb, ltb, leb, List, [], ◌∷◌, ◌++◌, length, get_or, take, drop, set, filter, replicate, ◌==◌, inl, inr, add-one, All, refl, sym, ap, ◌∙◌, subst, arith}
+use Rattle.std.proofs.Common.{◌≡◌, ℕ, ◌+◌, ◌-◌, ◌<◌, ◌≤◌, Bool, true, false, cond, eqb, ltb, leb, List, [], ◌∷◌, ◌++◌, length, get_or, take, drop, set, filter, replicate, ◌==◌, ◌&&◌, ◌||◌, inl, inr, add-one, All, refl, sym, ap, ◌∙◌, subst, arith}
 use Rattle.std.proofs.Math.ListN.{length-set, length-replicate}
 use Rattle.std.proofs.lemmas.Grind.{get_or-set_at}
-use Rattle.std.specs.List.{range_with_len}
+use Rattle.std.specs.List.{list_any, range_with_len}
 use Rattle.std.specs.List.Sorted.{IsPartitionPoint}
 use Rattle.std.proofs.lemmas.List.{append-nil, get_or-replicate, get_or-take, get_or-drop, length-take, length-drop, take_all, take-append-drop, get_or_default, get_or-set_other}
 use Rattle.std.proofs.lemmas.List.Elements.{All-head, All-tail, filter-append}
@@ -24,6 +24,15 @@ module _ {X : Type 0} (p : X → Bool) where
   filter_all (x ∷ xs) h =
       let all : p x ≡ true = All-head (λ y. p y ≡ true) x xs h in
       ap (λ b. cond b (x ∷ filter p xs) (filter p xs)) all ∙ ap (λ l. x ∷ l) (filter_all xs (All-tail (λ y. p y ≡ true) x xs h))
+
+-- a test of what another test keeps
+pub list_any-filter : {X : Type 0} (p q : X → Bool) (xs : List X) → list_any q (filter p xs) ≡ list_any (λ x. p x && q x) xs
+list_any-filter p q [] = refl
+list_any-filter {X} p q (x ∷ xs) = by (list_any-filter p q xs) (p x)
+  where
+    by : list_any q (filter p xs) ≡ list_any (λ y. p y && q y) xs → (b : Bool) → list_any q (cond b (x ∷ filter p xs) (filter p xs)) ≡ ((b && q x) || list_any (λ y. p y && q y) xs)
+    by e true = ap (λ r. q x || r) e
+    by e false = e
 
 -- of a list sorted by a key, what stands between the lesser keys and the greater ones has the key
 pub filter_between : {X : Type 0} (key : X → ℕ) (j : ℕ) (xs : List X) (a b : ℕ)

@@ -2,10 +2,12 @@
 //!
 //! It stands on `msp_class`. The layers above use the definitions `InClass` and `Inner`: an instance meets the conditions of its
 //! class within the limits of texts, or within the wider limits that carried instances keep. `check` tests the conditions but for
-//! cycles, and `forward` is the rest: it puts the jobs into an order in which every arc goes forward. `law_of_inner` says that an
+//! cycles, and `forward` is the rest: it puts the jobs into an order in which every arc goes forward. `leaving_of` and `entering_of` give the
+//! arcs of a job. `law_of_inner` says that an
 //! instance within the limits of texts keeps the wider ones, and `law_of_limits` says the limits of texts by their numbers.
 #![tactic(auto)]
 
+mod arcs;
 mod jobs;
 mod laws;
 mod membership;
@@ -16,6 +18,7 @@ mod speeds;
 #[cfg(test)]
 mod tests;
 
+pub use arcs::{arcs_by_after, arcs_by_before, entering_of, leaving_of};
 pub use jobs::least_time;
 pub use laws::{law_of_inner, law_of_limits};
 pub use membership::{ClassFault, check, check_distinct_arcs, common_time, first_time};

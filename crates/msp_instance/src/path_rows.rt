@@ -7,7 +7,8 @@ ghost use Rattle.msp_instance.specs.Bits.{has_bit};
 ghost use Rattle.msp_instance.specs.Paths.{ShowsPaths, leads};
 ghost use Rattle.msp_instance.specs.PathRows.{JoinsWords, Marks, Follows, FollowsAll, IsOrder, HasRows};
 
-use crate::sequence::{forward, leaving_of, sorted_arcs};
+use crate::arcs::{arcs_by_before, leaving_of};
+use crate::sequence::forward;
 use crate::{Arc, Instance};
 use msp_class::{List, NoMemory};
 use std::alloc::{AllocError, Global};
@@ -30,7 +31,7 @@ impl Paths {
         let Ok(order) = forward(alloc, inst) else {
             return Err(NoMemory);
         };
-        let sorted = sorted_arcs(alloc, inst.arcs.as_slice())?;
+        let sorted = arcs_by_before(alloc, inst.arcs.as_slice())?;
         let width = inst.jobs.len() as u32 / 64 + 1;
         let words = List::from_vec(rows(alloc, width, order.as_slice(), sorted.as_slice())?);
         Ok(Paths { width, words })

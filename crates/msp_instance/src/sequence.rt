@@ -7,6 +7,7 @@ ghost use Rattle.msp_instance.specs.Conditions.{entering, IsSequence, GoesForwar
 ghost use Rattle.msp_instance.specs.Paths.{HasPath, IsLeastOnCycle, IsOrderFault};
 ghost use Rattle.msp_instance.specs.Listing.{IsListing, IsLongestOrder, IsMet};
 
+use crate::arcs::{arcs_by_before, leaving_of};
 use crate::{Arc, Instance};
 use msp_class::List;
 use std::alloc::{AllocError, Global};
@@ -28,27 +29,6 @@ impl From<AllocError> for OrderFault {
     fn from(_e: AllocError) -> OrderFault {
         OrderFault::Memory
     }
-}
-
-/// The arcs by their jobs before.
-pub(crate) fn sorted_arcs(alloc: Global, arcs: &[Arc]) -> Result<Vec<Arc>, AllocError>
-    ensures same { IfOk result (λ sorted. IsPermutation arcs.now sorted.items) }
-    ensures sorted { IfOk result (λ sorted. IsNonDecreasingBy (λ a. a.before) sorted.items) }
-{
-    let mut sorted = Vec::from_slice(alloc, arcs)?;
-    sorted.sort_unstable_by_key(|a| a.before);
-    Ok(sorted)
-}
-
-/// The arcs that leave a job.
-pub(crate) fn leaving_of(sorted: &[Arc], job: u32) -> &[Arc]
-    requires { IsNonDecreasingBy (λ a. a.before) sorted.now }
-    ensures { result.now ≡ filter (λ a. a.before == job) sorted.now }
-{
-    let first = sorted.partition_point(|a| a.before < job);
-    let rest = &sorted[first..];
-    let end = rest.partition_point(|a| a.before <= job);
-    &rest[..end]
 }
 
 /// How many arcs enter each job.
@@ -210,7 +190,7 @@ pub fn forward(alloc: Global, inst: &Instance) -> Result<List<u32>, OrderFault>
     ensures fault { IfErr result (IsOrderFault inst.now) }
 {
     let jobs = inst.jobs.len();
-    let sorted = sorted_arcs(alloc, inst.arcs.as_slice())?;
+    let sorted = arcs_by_before(alloc, inst.arcs.as_slice())?;
     let arcs = sorted.as_slice();
     let order = longest_order(alloc, jobs, arcs)?;
     if order.len() == jobs {

@@ -1,9 +1,10 @@
 // Marks of jobs.
 ghost use Rattle.std.specs.Prelude.{◌≡◌, ◌<◌, ◌==◌, ◌&&◌, ◌||◌, ℕ, false, length, slice_index_or, slice_set, All};
 ghost use Rattle.std.specs.List.{list_any};
+ghost use Rattle.std.specs.List.Sorted.{IsNonDecreasingBy};
 ghost use Rattle.msp_instance.specs.declared.ranges.TheConstants.{MOST_JOBS};
 
-use msp_instance::{Arc, MOST_JOBS};
+use msp_instance::{Arc, MOST_JOBS, entering_of, leaving_of};
 
 /// A mark for each job, none set.
 pub fn no_marks() -> [bool; MOST_JOBS]
@@ -45,14 +46,32 @@ pub fn marks_before(arcs: &[Arc], marks: &[bool; MOST_JOBS]) -> [bool; MOST_JOBS
     before
 }
 
-/// A mark for each job to which an arc leads from a marked job.
-pub fn marks_after(arcs: &[Arc], marks: &[bool; MOST_JOBS]) -> [bool; MOST_JOBS]
-    requires { All (λ a. (a.before < MOST_JOBS) × (a.after < MOST_JOBS)) arcs.now }
-    ensures { (j : ℕ) → j < MOST_JOBS → slice_index_or result j false ≡ list_any (λ a. a.after == j && slice_index_or marks.now a.before false) arcs.now }
+/// Whether an arc leads from the job to a marked one, of arcs by their jobs before.
+pub fn leads_to_marked(sorted: &[Arc], marks: &[bool; MOST_JOBS], job: u32) -> bool
+    requires ends { All (λ a. (a.before < MOST_JOBS) × (a.after < MOST_JOBS)) sorted.now }
+    requires sorted { IsNonDecreasingBy (λ a. a.before) sorted.now }
+    ensures { result ≡ list_any (λ a. a.before == job && slice_index_or marks.now a.after false) sorted.now }
 {
-    let mut after = no_marks();
-    for arc in arcs {
-        mark(&mut after, arc.after, marks[arc.before as usize]);
+    let leaving = leaving_of(sorted, job);
+    for arc in leaving {
+        if marks[arc.after as usize] {
+            return true;
+        }
     }
-    after
+    false
+}
+
+/// Whether an arc leads to the job from a marked one, of arcs by their jobs after.
+pub fn follows_marked(sorted: &[Arc], marks: &[bool; MOST_JOBS], job: u32) -> bool
+    requires ends { All (λ a. (a.before < MOST_JOBS) × (a.after < MOST_JOBS)) sorted.now }
+    requires sorted { IsNonDecreasingBy (λ a. a.after) sorted.now }
+    ensures { result ≡ list_any (λ a. a.after == job && slice_index_or marks.now a.before false) sorted.now }
+{
+    let entering = entering_of(sorted, job);
+    for arc in entering {
+        if marks[arc.before as usize] {
+            return true;
+        }
+    }
+    false
 }

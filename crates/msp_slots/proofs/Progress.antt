@@ -7,7 +7,7 @@ use Rattle.std.proofs.lemmas.List.{append-nil, length-append, length-map, map-ap
 use Rattle.std.proofs.lemmas.List.Elements.{All-head, All-tail, All-append, All-map, All-contains, Contains-get_or, Contains-append_left, Contains-append_right, Contains-append_cases}
 use Rattle.std.proofs.lemmas.List.Folds.{Any-from_list_any, list_any_at}
 use Rattle.std.proofs.lemmas.List.Kept.{AllPairs-cons}
-use Rattle.std.proofs.lemmas.List.Sorted.{Contains-permutation, length_permutation, IsPermutation-sym, IsPermutation-trans, IsPermutation-append_right}
+use Rattle.std.proofs.lemmas.List.Sorted.{All-permutation, Contains-permutation, length_permutation, IsPermutation-sym, IsPermutation-trans, IsPermutation-append_right}
 use Rattle.msp_class.proofs.Sums.{AllPairs-head, AllPairs-tail, OnceBelow-from_permutation, OnceBelow-distinct, OnceBelow-contains, length-OnceBelow}
 use Rattle.msp_instance.specs.declared.Arc.{Arc}
 use Rattle.msp_instance.specs.declared.Instance.{Instance}
@@ -20,6 +20,7 @@ use Rattle.msp_schedule.proofs.bounds.Certified.{place_in, place_in-is, ranked}
 use Rattle.msp_slots.specs.Pieces.{piece_at}
 use Rattle.msp_slots.specs.ListSchedule.{StandsBefore, RunsAhead, WaitsForJob, IsListSchedule}
 use Rattle.msp_slots.specs.Steps.{is_blocked, IsSlot, seats, IsUnderWay}
+use Rattle.msp_slots.proofs.SlotSteps.{IsSlot-arcs}
 
 -- ---- what stands before what
 -- in a list whose members are in the order of another, what stands before stands before there
@@ -420,10 +421,10 @@ module _ (i : Instance) (order : List ℕ) (moment : ℕ) (pieces : List Piece) 
 pub IsOrdered-from : (i : Instance) → Inner i → IsOrdered i
 IsOrdered-from i h = record { ends = h.conditions.ends; acyclic = h.acyclic; some = h.conditions.machines.0 }
 
-module _ (i : Instance) (order : List ℕ) (t : IsOrdered i) (moment : ℕ) (pieces new : List Piece) (left shown taken passed rest : List ℕ) (arcs : List Arc) (e : arcs ≡ i.arcs) (f : shown ≡ left) (g : passed ≡ taken)
-    (s : IsSlot shown (is_blocked arcs shown) i.machines taken rest) (some_left : 0 < length left) (u : IsUnderWay i order moment pieces left) where
+module _ (i : Instance) (order : List ℕ) (t : IsOrdered i) (moment : ℕ) (pieces new : List Piece) (left shown taken passed rest : List ℕ) (sorted : List Arc) (e : IsPermutation i.arcs sorted) (f : shown ≡ left) (g : passed ≡ taken)
+    (s : IsSlot shown (is_blocked sorted shown) i.machines taken rest) (some_left : 0 < length left) (u : IsUnderWay i order moment pieces left) where
   here : IsSlot left (is_blocked i.arcs left) i.machines taken rest
-  here = subst₂ (λ a l. IsSlot l (is_blocked a l) i.machines taken rest) e f s
+  here = IsSlot-arcs i.arcs sorted left i.machines taken rest e (subst (λ l. IsSlot l (is_blocked sorted l) i.machines taken rest) f s)
 
   pub slot_smaller : length rest < length left
   slot_smaller = fewer i order t moment pieces left taken rest u here some_left
@@ -433,6 +434,9 @@ module _ (i : Instance) (order : List ℕ) (t : IsOrdered i) (moment : ℕ) (pie
 
 pub inside_shown : (i : Instance) (order : List ℕ) (moment : ℕ) (pieces : List Piece) (left shown : List ℕ) → length i.jobs ≤ 400 → shown ≡ left → IsUnderWay i order moment pieces left → All (λ j. j < 400) shown
 inside_shown i order moment pieces left shown few e u = subst (All (λ j. j < 400)) (sym e) (λ k d l. omega (arith, left_inside i order moment pieces left u k d l, few))
+
+pub ends_sorted : (i : Instance) (sorted : List Arc) → Inner i → IsPermutation i.arcs sorted → All (λ a. (a.before < 400) × (a.after < 400)) sorted
+ends_sorted i sorted h e = All-permutation (λ a. (a.before < 400) × (a.after < 400)) i.arcs sorted e (λ k d l. (omega (arith, (h.conditions.ends k d l).0, h.conditions.few), omega (arith, (h.conditions.ends k d l).1, h.conditions.few)))
 
 pub start_at : (i : Instance) (order : List ℕ) (pieces : List Piece) → IsOrdered i → pieces ≡ [] → IsPermutation (range_with_len 0 (length i.jobs)) order → IsUnderWay i order 0 pieces order
 start_at i order pieces t e h = subst (λ ps. IsUnderWay i order 0 ps order) (sym e) (IsUnderWay-start i order t h)

@@ -1,11 +1,12 @@
 -- The jobs of a slot, one by one.
-use Rattle.std.proofs.Common.{◌≡◌, ℕ, ◌+◌, ◌-◌, ◌<◌, ◌≤◌, ◌⊎◌, inl, inr, Bool, true, false, cond, ◌&&◌, List, [], ◌∷◌, ◌++◌, length, get_or, take, ℤ, pos, All, AllPairs, Contains, IsPermutation, refl, sym, ap, ap₂, subst, subst₂, ◌∙◌, arith, append_assoc}
+use Rattle.std.proofs.Common.{◌≡◌, ℕ, ◌+◌, ◌-◌, ◌<◌, ◌≤◌, ◌⊎◌, inl, inr, Bool, true, false, cond, ltb, ◌&&◌, not, List, [], ◌∷◌, ◌++◌, length, get_or, take, ℤ, pos, All, AllPairs, Contains, IsPermutation, refl, sym, ap, ap₂, subst, subst₂, ◌∙◌, arith, append_assoc}
 use Rattle.std.specs.Prelude.{◌==◌, ◌||◌}
 use Rattle.std.specs.List.{list_any}
+use Rattle.std.proofs.lemmas.Bool.{false≢true, ltb-true}
 use Rattle.std.proofs.lemmas.List.{take_more, take_all, length-append, length-take, get_or_append_left, get_or-append_right, get_or_default}
 use Rattle.std.proofs.lemmas.List.Elements.{All-head, All-tail, All-push, All-contains, Contains-get_or, Contains-append_left, Contains-append_right}
 use Rattle.std.proofs.lemmas.List.Quantifiers.{all_pairs_push}
-use Rattle.std.proofs.lemmas.List.Sorted.{All-permutation, Contains-permutation, IsPermutation-refl, IsPermutation-sym, IsPermutation-trans, IsPermutation-append_left, IsPermutation-append_right, IsPermutation-append_comm}
+use Rattle.std.proofs.lemmas.List.Sorted.{list_any-IsPermutation, All-permutation, Contains-permutation, IsPermutation-refl, IsPermutation-sym, IsPermutation-trans, IsPermutation-append_left, IsPermutation-append_right, IsPermutation-append_comm}
 use Rattle.msp_instance.specs.declared.Arc.{Arc}
 use Rattle.msp_schedule.specs.declared.Piece.{Piece}
 use Rattle.msp_slots.specs.Pieces.{piece_at}
@@ -83,7 +84,7 @@ module _ (jobs : List ℕ) (blocked : ℕ → Bool) (machines : ℕ) (taken rest
       old k d l = elim (h.kept k d l) [ inl shut ↦ inl shut | inr full ↦ inr (full.0, λ n x b. stands-more jobs (j ∷ []) (get_or taken n x) (get_or rest k d) (full.1 n x b)) ]
 
 -- at the numbers as the code passes them
-pub IsSlot-next : (jobs : List ℕ) (blocked : ℕ → Bool) (machines : ℕ) (taken rest new_taken new_rest : List ℕ) (k j : ℕ) (goes : Bool) → k < length jobs → j ≡ get_or jobs k 0 → (goes ≡ true → (length taken < machines) × (blocked j ≡ false)) → (goes ≡ false → (machines ≤ length taken) ⊎ (blocked j ≡ true))
+IsSlot-next : (jobs : List ℕ) (blocked : ℕ → Bool) (machines : ℕ) (taken rest new_taken new_rest : List ℕ) (k j : ℕ) (goes : Bool) → k < length jobs → j ≡ get_or jobs k 0 → (goes ≡ true → (length taken < machines) × (blocked j ≡ false)) → (goes ≡ false → (machines ≤ length taken) ⊎ (blocked j ≡ true))
     → new_taken ≡ cond goes (taken ++ j ∷ []) taken → new_rest ≡ cond goes rest (rest ++ j ∷ []) → IsSlot (take k jobs) blocked machines taken rest → IsSlot (take (k + 1) jobs) blocked machines new_taken new_rest
 IsSlot-next jobs blocked machines taken rest new_taken new_rest k j goes l at ready waits e f h = subst (λ js. IsSlot js blocked machines new_taken new_rest) (sym one) (by goes ready waits e f)
   where
@@ -94,6 +95,17 @@ IsSlot-next jobs blocked machines taken rest new_taken new_rest k j goes l at re
         → IsSlot (take k jobs ++ j ∷ []) blocked machines new_taken new_rest
     by true ready waits e f = let (room, open_) = ready refl in subst₂ (IsSlot (take k jobs ++ j ∷ []) blocked machines) (sym e) (sym f) (IsSlot-take (take k jobs) blocked machines taken rest j h room open_)
     by false ready waits e f = subst₂ (IsSlot (take k jobs ++ j ∷ []) blocked machines) (sym e) (sym f) (IsSlot-keep (take k jobs) blocked machines taken rest j h (waits refl))
+
+-- the next job, where there is room: it goes where it is not blocked
+pub IsSlot-room : (jobs : List ℕ) (blocked : ℕ → Bool) (machines : ℕ) (taken rest new_taken new_rest : List ℕ) (k j : ℕ) (goes shut : Bool) → k < length jobs → j ≡ get_or jobs k 0 → length taken < machines → goes ≡ not shut → shut ≡ blocked j
+    → new_taken ≡ cond goes (taken ++ j ∷ []) taken → new_rest ≡ cond goes rest (rest ++ j ∷ []) → IsSlot (take k jobs) blocked machines taken rest → IsSlot (take (k + 1) jobs) blocked machines new_taken new_rest
+IsSlot-room jobs blocked machines taken rest new_taken new_rest k j goes true l at room e same f g h = IsSlot-next jobs blocked machines taken rest new_taken new_rest k j goes l at (λ t. absurd (false≢true (sym e ∙ t))) (λ u. inr (sym same)) f g h
+IsSlot-room jobs blocked machines taken rest new_taken new_rest k j goes false l at room e same f g h = IsSlot-next jobs blocked machines taken rest new_taken new_rest k j goes l at (λ t. (room, sym same)) (λ u. absurd (false≢true (sym u ∙ e))) f g h
+
+-- and where there is none
+pub IsSlot-full : (jobs : List ℕ) (blocked : ℕ → Bool) (machines : ℕ) (taken rest new_taken new_rest : List ℕ) (k j n : ℕ) (goes : Bool) → k < length jobs → j ≡ get_or jobs k 0 → machines ≤ length taken → machines ≤ n → goes ≡ ltb n machines
+    → new_taken ≡ cond goes (taken ++ j ∷ []) taken → new_rest ≡ cond goes rest (rest ++ j ∷ []) → IsSlot (take k jobs) blocked machines taken rest → IsSlot (take (k + 1) jobs) blocked machines new_taken new_rest
+IsSlot-full jobs blocked machines taken rest new_taken new_rest k j n goes l at full so e f g h = IsSlot-next jobs blocked machines taken rest new_taken new_rest k j goes l at (λ t. absurd (omega (arith, ltb-true n machines (sym e ∙ t), so))) (λ u. inl full) f g h
 
 pub IsSlot-all : (jobs : List ℕ) (blocked : ℕ → Bool) (machines : ℕ) (taken rest : List ℕ) (k : ℕ) → length jobs ≤ k → IsSlot (take k jobs) blocked machines taken rest → IsSlot jobs blocked machines taken rest
 IsSlot-all jobs blocked machines taken rest k l h = subst (λ js. IsSlot js blocked machines taken rest) (take_all k jobs l) h
@@ -120,13 +132,15 @@ list_any-same f g [] h = refl
 list_any-same f g (x ∷ xs) h = ap₂ (λ a b. a || b) (All-head (λ x. f x ≡ g x) x xs h) (list_any-same f g xs (All-tail (λ x. f x ≡ g x) x xs h))
 
 -- marks as the code makes them
-pub IsSlot-marked : (arcs : List Arc) (left : List ℕ) (marks blocked : List Bool) (machines : ℕ) (taken rest : List ℕ) → All (λ a. (a.before < 400) × (a.after < 400)) arcs → All (λ j. j < 400) left
-    → ((j : ℕ) → j < 400 → get_or marks j false ≡ list_any (λ k. k == j) left) → ((j : ℕ) → j < 400 → get_or blocked j false ≡ list_any (λ a. a.after == j && get_or marks a.before false) arcs)
-    → IsSlot left (λ j. get_or blocked j false) machines taken rest → IsSlot left (is_blocked arcs left) machines taken rest
-IsSlot-marked arcs left marks blocked machines taken rest ends inside marked shut h = IsSlot-same left (λ j. get_or blocked j false) (is_blocked arcs left) machines taken rest same h
-  where
-    same : All (λ j. get_or blocked j false ≡ is_blocked arcs left j) left
-    same k d l = let j = get_or left k d in shut j (inside k d l) ∙ list_any-same (λ a. a.after == j && get_or marks a.before false) (λ a. a.after == j && list_any (λ k. k == a.before) left) arcs (λ n x b. ap (λ m. (get_or arcs n x).after == j && m) (marked (get_or arcs n x).before (ends n x b).0))
+pub blocked-marked : (arcs : List Arc) (left : List ℕ) (marks : List Bool) (j : ℕ) → All (λ a. (a.before < 400) × (a.after < 400)) arcs → ((k : ℕ) → k < 400 → get_or marks k false ≡ list_any (λ x. x == k) left)
+    → list_any (λ a. a.after == j && get_or marks a.before false) arcs ≡ is_blocked arcs left j
+blocked-marked arcs left marks j ends marked =
+    list_any-same (λ a. a.after == j && get_or marks a.before false) (λ a. a.after == j && list_any (λ k. k == a.before) left) arcs (λ n x b. ap (λ m. (get_or arcs n x).after == j && m) (marked (get_or arcs n x).before (ends n x b).0))
+
+-- the same arcs in another order
+pub IsSlot-arcs : (arcs sorted : List Arc) (left : List ℕ) (machines : ℕ) (taken rest : List ℕ) → IsPermutation arcs sorted → IsSlot left (is_blocked sorted left) machines taken rest → IsSlot left (is_blocked arcs left) machines taken rest
+IsSlot-arcs arcs sorted left machines taken rest h =
+    IsSlot-same left (is_blocked sorted left) (is_blocked arcs left) machines taken rest (λ k d l. sym (list_any-IsPermutation (λ a. a.after == get_or left k d && list_any (λ x. x == a.before) left) arcs sorted h))
 
 -- ---- the pieces of a slot
 seats-append : (moment machine : ℕ) (js : List ℕ) (j : ℕ) → seats moment machine (js ++ j ∷ []) ≡ seats moment machine js ++ piece_at moment (machine + length js) j ∷ []

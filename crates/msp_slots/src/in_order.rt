@@ -6,7 +6,7 @@ ghost use Rattle.msp_slots.specs.ListSchedule.{IsListSchedule};
 
 use crate::slot::{Split, next_slot, put_pieces};
 use msp_class::{List, NoMemory};
-use msp_instance::Instance;
+use msp_instance::{Instance, arcs_by_after};
 use msp_schedule::Piece;
 use std::alloc::Global;
 
@@ -21,14 +21,14 @@ pub fn pieces_in_order(
     requires all { IsPermutation (range_with_len 0 (length inst.now.jobs)) order.items }
     ensures { IfOk result (IsListSchedule inst.now order.items) }
 {
+    let sorted = arcs_by_after(alloc, inst.arcs.as_slice())?;
     let mut pieces = List::new(alloc);
     let mut left = order;
     let mut moment: u32 = 0;
     while !left.is_empty() {
-        let arcs = inst.arcs.as_slice();
         let Split { taken, rest } = next_slot(
             alloc,
-            arcs,
+            sorted.as_slice(),
             left.as_slice(),
             inst.machines as usize,
         )?;

@@ -2,7 +2,7 @@
 //!
 //! It stands on `msp_schedule`. The solvers above use `pieces_in_order`, by which jobs run in the order of a list as their predecessors
 //! allow (`IsListSchedule`), and `earliest_slots`, the slots of the earliest schedule over release dates (`AreSlots`). By the law of seats
-//! these slots suffice for any schedule: each job has one of its own that begins no later. Marks of jobs are those of `msp_schedule`.
+//! these slots suffice for any schedule: each job has one of its own that begins no later.
 #![tactic(auto)]
 
 mod earliest;

@@ -1,11 +1,12 @@
 // One slot: of the jobs left the first that are free, on machines in order.
-ghost use Rattle.std.specs.Prelude.{◌≡◌, ◌++◌, ◌∷◌, [], ◌<◌, ◌≤◌, false, length, slice_index_or, All, IfOk, OnOk, if◌then◌else◌};
+ghost use Rattle.std.specs.Prelude.{◌≡◌, ◌++◌, ◌∷◌, [], ◌<◌, ◌≤◌, length, All, IfOk, OnOk, if◌then◌else◌};
+ghost use Rattle.std.specs.List.Sorted.{IsNonDecreasingBy};
 ghost use Rattle.msp_instance.specs.declared.ranges.TheConstants.{MOST_JOBS, MOST_MACHINES};
 ghost use Rattle.msp_slots.specs.Steps.{is_blocked, IsSlot, seats};
 
 use msp_class::{List, NoMemory};
-use msp_instance::{Arc, MOST_JOBS};
-use msp_schedule::{Piece, marks_after, marks_of};
+use msp_instance::Arc;
+use msp_schedule::{Piece, follows_marked, marks_of};
 use std::alloc::Global;
 
 /// The jobs of a slot, and those that are left after it.
@@ -29,41 +30,28 @@ fn put(split: &mut Split, job: u32, goes: bool) -> Result<(), NoMemory>
     Ok(())
 }
 
-/// Takes the jobs in order, as long as there are machines and where they are not blocked.
-fn take_free(
+/// The next slot of the jobs that are left, with the arcs by their jobs after: of those that no arc enters from another, the first in order.
+pub fn next_slot(
     alloc: Global,
+    sorted: &[Arc],
     left: &[u32],
-    blocked: &[bool; MOST_JOBS],
     machines: usize,
 ) -> Result<Split, NoMemory>
-    requires { All (λ j. j < MOST_JOBS) left.now }
-    ensures { IfOk result (λ s. IsSlot left.now (λ j. slice_index_or blocked.now j false) machines s.taken.items s.rest.items) }
+    requires ends { All (λ a. (a.before < MOST_JOBS) × (a.after < MOST_JOBS)) sorted.now }
+    requires sorted { IsNonDecreasingBy (λ a. a.after) sorted.now }
+    requires inside { All (λ j. j < MOST_JOBS) left.now }
+    ensures { IfOk result (λ s. IsSlot left.now (is_blocked sorted.now left.now) machines s.taken.items s.rest.items) }
 {
+    let is_left = marks_of(left);
     let mut split = Split {
         taken: Vec::new(alloc),
         rest: Vec::new(alloc),
     };
     for job in left {
-        let goes = split.taken.len() < machines && !blocked[*job as usize];
+        let goes = split.taken.len() < machines && !follows_marked(sorted, &is_left, *job);
         put(&mut split, *job, goes)?;
     }
     Ok(split)
-}
-
-/// The next slot of the jobs that are left: of those that no arc enters from another, the first in order.
-pub fn next_slot(
-    alloc: Global,
-    arcs: &[Arc],
-    left: &[u32],
-    machines: usize,
-) -> Result<Split, NoMemory>
-    requires ends { All (λ a. (a.before < MOST_JOBS) × (a.after < MOST_JOBS)) arcs.now }
-    requires inside { All (λ j. j < MOST_JOBS) left.now }
-    ensures { IfOk result (λ s. IsSlot left.now (is_blocked arcs.now left.now) machines s.taken.items s.rest.items) }
-{
-    let is_left = marks_of(left);
-    let blocked = marks_after(arcs, &is_left);
-    take_free(alloc, left, &blocked, machines)
 }
 
 /// Adds the pieces of a slot: its jobs for one unit of time from the moment on, on machines in order.

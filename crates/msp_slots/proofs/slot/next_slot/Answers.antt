@@ -1,11 +1,19 @@
-use Rattle.std.proofs.Common.{false, slice_index_or}
-use Rattle.std.proofs.lemmas.Result.{IfOk-weaker}
-use Rattle.msp_slots.specs.Steps.{is_blocked, IsSlot}
-use Rattle.msp_slots.proofs.SlotSteps.{IsSlot-marked}
+use Rattle.std.proofs.Common.{◌∙◌, refl, rules}
+use Rattle.msp_slots.specs.Steps.{is_blocked}
+use Rattle.msp_slots.proofs.SlotSteps.{blocked-marked, IsSlot-room, IsSlot-full, IsSlot-all}
 use Rattle.msp_slots.proofs.slot.next_slot.Goals as goal
+use Rattle.msp_slots.proofs.slot.next_slot.Goals.{then-len-machines, else-len-machines}
+
+pub loop-job-preserved : goal.loop-job-preserved
+loop-job-preserved c =
+    let shut = is_blocked c.args.sorted.now c.args.left.now in
+    elim c.if-len-machines.branch [
+      | then-len-machines w ↦
+          IsSlot-room c.args.left.now shut c.args.machines _ _ _ _ c.loop-job.job-index _ c.if-len-machines.goes _ c.loop-job-test.true refl (search rules) w.goes-is
+          (w.follows_marked.ensures ∙ blocked-marked c.args.sorted.now c.args.left.now c.marks_of-is_left.result _ c.requires.ends c.marks_of-is_left.ensures) c.in_ok-put.ensures.taken c.in_ok-put.ensures.rest c.loop-job.invariant
+      | else-len-machines w ↦
+          IsSlot-full c.args.left.now shut c.args.machines _ _ _ _ c.loop-job.job-index _ c.len.result c.if-len-machines.goes c.loop-job-test.true refl (search rules) (search rules) w.goes-is c.in_ok-put.ensures.taken c.in_ok-put.ensures.rest c.loop-job.invariant
+    ]
 
 pub returns : goal.returns
-returns c =
-    IfOk-weaker c.take_free.result (λ s. IsSlot c.args.left.now (λ j. slice_index_or c.marks_after-blocked.result j false) c.args.machines s.taken.items s.rest.items) (λ s. IsSlot c.args.left.now (is_blocked c.args.arcs.now c.args.left.now) c.args.machines s.taken.items s.rest.items)
-    (λ s h. IsSlot-marked c.args.arcs.now c.args.left.now c.marks_of-is_left.result c.marks_after-blocked.result c.args.machines s.taken.items s.rest.items c.requires.ends c.requires.inside c.marks_of-is_left.ensures c.marks_after-blocked.ensures h)
-    c.take_free.ensures
+returns c = IsSlot-all c.args.left.now (is_blocked c.args.sorted.now c.args.left.now) c.args.machines _ _ c.loop-job.job-index (search rules) c.loop-job.invariant

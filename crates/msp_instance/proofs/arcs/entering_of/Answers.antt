@@ -1,7 +1,7 @@
 use Rattle.std.proofs.Common.{◌-◌, ltb, leb, length, take, drop, rules}
 use Rattle.std.proofs.lemmas.List.Sorted.{IsPartitionPoint-from_clause, IsPartitionedBy-ltb, IsPartitionedBy-leb, IsNonDecreasingBy-take, IsNonDecreasingBy-drop}
 use Rattle.msp_instance.proofs.ArcLemmas.{filter_between_cut}
-use Rattle.msp_blocks.proofs.heads.entering_of.Goals as goal
+use Rattle.msp_instance.proofs.arcs.entering_of.Goals as goal
 
 pub returns : goal.returns
 returns c =

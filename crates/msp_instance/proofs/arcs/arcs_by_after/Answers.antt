@@ -1,6 +1,6 @@
 use Rattle.std.proofs.Common.{rules}
 use Rattle.std.proofs.lemmas.List.Sorted.{IsNonDecreasingBy-from_sort_by_key}
-use Rattle.msp_blocks.proofs.heads.sorted_arcs.Goals as goal
+use Rattle.msp_instance.proofs.arcs.arcs_by_after.Goals as goal
 
 pub returns-clause-sorted : goal.returns-clause-sorted
 returns-clause-sorted c = IsNonDecreasingBy-from_sort_by_key (λ a. a.after) _ c.sort_unstable_by_key.ensures.sorted (λ a r q k. search rules)
