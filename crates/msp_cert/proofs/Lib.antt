@@ -11,3 +11,4 @@ pub mod TrueLevels
 pub mod Tried
 pub mod Tails
 pub mod SomeLevels
+pub mod Found

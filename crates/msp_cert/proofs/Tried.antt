@@ -17,7 +17,7 @@ use Rattle.msp_schedule.specs.Blocks.{total_time}
 use Rattle.msp_cert.specs.declared.Proof.{Proof}
 use Rattle.msp_cert.specs.declared.Proof.TheVariants.{Group, Levels}
 use Rattle.msp_cert.specs.Certificates.{HasUnitJobs, IsGroup, speeds_of}
-use Rattle.msp_cert.specs.Places.{IsFirstBelow, HasSpeedyMachines}
+use Rattle.msp_cert.specs.Places.{IsFirstBelow, HasRelatedMachines}
 use Rattle.msp_cert.specs.Search.{AreLongestFirst, HasValue, IsFirst, groups, tails}
 use Rattle.msp_cert.specs.Worth.{IsWorth}
 use Rattle.msp_cert.proofs.Facts.{small_needs, small_speeds}
@@ -57,7 +57,7 @@ module _ (P : Proof → Type 0) where
     )
 
 -- none of a kind holds where it is not for the instance
-pub no_groups : (i : Instance) (cost : Frac) (longest : List ℕ) → ¬ HasSpeedyMachines i → IsFirst (HasValue i cost) (groups i longest) None
+pub no_groups : (i : Instance) (cost : Frac) (longest : List ℕ) → ¬ HasRelatedMachines i → IsFirst (HasValue i cost) (groups i longest) None
 no_groups i cost longest never = none_placed (HasValue i cost) (λ k. Group (take (k + 1) longest)) (length i.jobs) (λ k b h. never (record { makespan = h.holds.makespan; speeds = h.holds.speeds }))
 
 pub no_tails : (i : Instance) (cost : Frac) (level : List ℕ) → ¬ HasUnitJobs i → IsFirst (HasValue i cost) (tails i level) None
@@ -86,7 +86,7 @@ pub record AreTogether (i : Instance) (longest speeds : List ℕ) (k time speed 
   pub short : time ≤ 1000000000 * k
   pub slow : speed ≤ 1000000 * k
 
-pub one_more : (i : Instance) (longest speeds : List ℕ) (k time speed t s job : ℕ) → InClass i → HasSpeedyMachines i → IsPermutation (speeds_of i) speeds → k < length longest → job ≡ get_or longest k 0 → t ≡ (need_at i job 0).time → s ≡ get_or speeds k 0
+pub one_more : (i : Instance) (longest speeds : List ℕ) (k time speed t s job : ℕ) → InClass i → HasRelatedMachines i → IsPermutation (speeds_of i) speeds → k < length longest → job ≡ get_or longest k 0 → t ≡ (need_at i job 0).time → s ≡ get_or speeds k 0
     → AreTogether i longest speeds k time speed → AreTogether i longest speeds (k + 1) (time + t) (speed + s)
 one_more i longest speeds k time speed t s job c asked all l is t_is s_is h = record {
   time_is = omega (arith, h.time_is, t_is, ap (λ j. (need_at i j 0).time) is, ap (total_time i) (take_more longest k 0 l), sum_by_push (λ j. (need_at i j 0).time) (take k longest) (get_or longest k 0));
@@ -98,7 +98,7 @@ one_more i longest speeds k time speed t s job c asked all l is t_is s_is h = re
     next : suc k ≡ k + 1
     next = omega arith
 
-pub group_of_longest : (i : Instance) (longest : List ℕ) (k : ℕ) → AreLongestFirst i longest → HasSpeedyMachines i → k < length longest → IsGroup i (take (k + 1) longest)
+pub group_of_longest : (i : Instance) (longest : List ℕ) (k : ℕ) → AreLongestFirst i longest → HasRelatedMachines i → k < length longest → IsGroup i (take (k + 1) longest)
 group_of_longest i longest k h asked l = record {
   makespan = asked.makespan;
   speeds = asked.speeds;
@@ -116,12 +116,12 @@ group_of_longest i longest k h asked l = record {
 pub all_longest : (i : Instance) (longest : List ℕ) → AreLongestFirst i longest → length longest ≡ length i.jobs
 all_longest i longest h = length-OnceBelow (OnceBelow-from_permutation h.all)
 
-pub some_speed : (i : Instance) (longest speeds : List ℕ) (k time speed : ℕ) → InClass i → HasSpeedyMachines i → IsPermutation (speeds_of i) speeds → AreTogether i longest speeds (k + 1) time speed → 0 < speed
+pub some_speed : (i : Instance) (longest speeds : List ℕ) (k time speed : ℕ) → InClass i → HasRelatedMachines i → IsPermutation (speeds_of i) speeds → AreTogether i longest speeds (k + 1) time speed → 0 < speed
 some_speed i longest speeds k time speed c asked all h =
     let s = small_speeds i speeds c asked.speeds all in
     subst (λ x. 1 ≤ x) (sym h.speed_is) (first_some speeds (k + 1) (omega arith) s.some s.fast)
 
-pub longest_worth : (i : Instance) (longest speeds : List ℕ) (k time speed : ℕ) (v : Frac) → AreLongestFirst i longest → HasSpeedyMachines i → IsPermutation (speeds_of i) speeds → AllPairs (λ x y. y ≤ x) speeds → k < length longest
+pub longest_worth : (i : Instance) (longest speeds : List ℕ) (k time speed : ℕ) (v : Frac) → AreLongestFirst i longest → HasRelatedMachines i → IsPermutation (speeds_of i) speeds → AllPairs (λ x y. y ≤ x) speeds → k < length longest
     → AreTogether i longest speeds (k + 1) time speed → v.num ≡ pos time → v.den ≡ pos speed → IsWorth i (Group (take (k + 1) longest)) (Some v)
 longest_worth i longest speeds k time speed v h asked all falls l sums num den =
     group_is_worth i (take (k + 1) longest) speeds time speed v (group_of_longest i longest k h asked l) sums.time_is all falls

@@ -10,7 +10,7 @@ abbrev pub IsFirstBelow : (ℕ → Type 0) → ℕ → Option ℕ → Type 0
 IsFirstBelow P count None = (k : ℕ) → k < count → ¬ P k
 IsFirstBelow P count (Some n) = (n < count) × P n × ((k : ℕ) → k < n → ¬ P k)
 
--- The makespan of jobs on one machine, identical or uniform machines is asked for.
-pub record HasSpeedyMachines (i : Instance) : Type 0 where
+-- The makespan on related machines is asked for: one machine, identical or uniform ones.
+pub record HasRelatedMachines (i : Instance) : Type 0 where
   pub makespan : i.class.crit ≡ Cmax
   pub speeds : HaveSpeeds (kind_of i.class.env)

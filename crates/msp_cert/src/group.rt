@@ -9,7 +9,7 @@ ghost use Rattle.msp_schedule.specs.Blocks.{total_time};
 ghost use Rattle.msp_cert.specs.declared.limits.TheConstants.{MOST_ENTRIES};
 ghost use Rattle.msp_cert.specs.Small.{HasSmallNeeds};
 ghost use Rattle.msp_cert.specs.Certificates.{IsGroup, speeds_of};
-ghost use Rattle.msp_cert.specs.Places.{HasSpeedyMachines};
+ghost use Rattle.msp_cert.specs.Places.{HasRelatedMachines};
 ghost use Rattle.msp_cert.specs.Worth.{IsWorth};
 ghost use Rattle.msp_cert.specs.declared.Proof.TheVariants.{Group};
 
@@ -146,9 +146,9 @@ fn first_together(speeds: &[u64], count: usize) -> u64
     total
 }
 
-/// Whether the makespan of jobs on one machine, identical or uniform machines is asked for.
-pub(crate) fn has_speedy_machines(inst: &Instance) -> bool
-    ensures { IsTrue result ↔ HasSpeedyMachines inst.now }
+/// Whether the makespan on related machines is asked for: one machine, identical or uniform ones.
+pub(crate) fn has_related_machines(inst: &Instance) -> bool
+    ensures { IsTrue result ↔ HasRelatedMachines inst.now }
 {
     inst.class.crit == Crit::Cmax && have_speeds(env_kind(inst.class.env))
 }
@@ -158,7 +158,7 @@ fn is_group(inst: &Instance, jobs: &[u32]) -> bool
     requires { length inst.now.jobs ≤ MOST_JOBS }
     ensures { IsTrue result ↔ IsGroup inst.now jobs.now }
 {
-    has_speedy_machines(inst)
+    has_related_machines(inst)
         && !jobs.is_empty()
         && are_jobs(inst.jobs.len(), jobs)
         && are_apart(jobs)

@@ -8,13 +8,13 @@ ghost use Rattle.msp_schedule.specs.Fraction.{IsComparable};
 ghost use Rattle.msp_cert.specs.declared.Proof.{Proof};
 ghost use Rattle.msp_cert.specs.declared.Proof.TheVariants.{Group, Machine, Line, Levels};
 ghost use Rattle.msp_cert.specs.Certificates.{HasUnitJobs, speeds_of};
-ghost use Rattle.msp_cert.specs.Places.{HasSpeedyMachines, IsFirstBelow};
+ghost use Rattle.msp_cert.specs.Places.{HasRelatedMachines, IsFirstBelow};
 ghost use Rattle.msp_cert.specs.Search.{AreAllLevels, AreLongestFirst, HasValue, IsFirst, IsFound, groups, machines, lines, tails};
 ghost use Rattle.msp_cert.specs.Worth.{IsWorth};
 
 use crate::Proof;
 use crate::block::time_of;
-use crate::group::{falling_speeds, has_speedy_machines, own_speed};
+use crate::group::{falling_speeds, has_related_machines, own_speed};
 use crate::levels::{bound_of, has_unit_jobs};
 use crate::order::longest_first;
 use crate::shops::{is_shop_asked, line_worth, machine_worth};
@@ -28,7 +28,7 @@ use std::alloc::Global;
 /// The place of the first group of the longest jobs that has the value, from 0 for the longest job alone.
 fn first_group(inst: &Instance, cost: &Frac, longest: &[u32], speeds: &[u64]) -> Option<usize>
     requires class { InClass inst.now }
-    requires asked { HasSpeedyMachines inst.now }
+    requires asked { HasRelatedMachines inst.now }
     requires cost { IsComparable cost.now }
     requires longest { AreLongestFirst inst.now longest.now }
     requires all { IsPermutation (speeds_of inst.now) speeds.now }
@@ -59,7 +59,7 @@ fn group_with(
     requires longest { AreLongestFirst inst.now longest.now }
     ensures { IfOk result (λ found. IsFirst (HasValue inst.now cost.now) (groups inst.now longest.now) found) }
 {
-    if !has_speedy_machines(inst) {
+    if !has_related_machines(inst) {
         return Ok(None);
     }
     let speeds = falling_speeds(alloc, inst)?;
@@ -74,7 +74,7 @@ fn group_with(
     }
 }
 
-/// The first machine that has the value.
+/// The first machine of a shop that has the value.
 fn first_machine(inst: &Instance, cost: &Frac) -> Option<u32>
     requires class { InClass inst.now }
     requires cost { IsComparable cost.now }

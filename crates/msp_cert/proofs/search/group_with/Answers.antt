@@ -6,8 +6,8 @@ use Rattle.msp_cert.specs.Search.{HasValue, IsFirst, groups}
 use Rattle.msp_cert.proofs.Tried.{all_longest, none_placed, first_placed, no_groups}
 use Rattle.msp_cert.proofs.search.group_with.Goals as goal
 
-pub returns-then-not-has_speedy_machines : goal.returns-then-not-has_speedy_machines
-returns-then-not-has_speedy_machines c = no_groups c.args.inst.now c.args.cost.now c.args.longest.now (λ h. false≢true (c.if-not-has_speedy_machines.ensures.1 h))
+pub returns-then-not-has_related_machines : goal.returns-then-not-has_related_machines
+returns-then-not-has_related_machines c = no_groups c.args.inst.now c.args.cost.now c.args.longest.now (λ h. false≢true (c.if-not-has_related_machines.ensures.1 h))
 
 pub slice_bounds-from_slice-end : goal.slice_bounds-from_slice-end
 slice_bounds-from_slice-end c =
