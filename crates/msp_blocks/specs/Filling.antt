@@ -7,6 +7,7 @@ use Rattle.msp_schedule.specs.Blocks.{IsBlock, IsBlockValue, cost_at}
 use Rattle.msp_schedule.specs.Intervals.{IsApart, work_of}
 use Rattle.msp_schedule.specs.Piece.{job_of, start, finish, IsTimed}
 use Rattle.msp_schedule.specs.Rows.{piece, time_at}
+use Rattle.msp_blocks.specs.Heads.{head_in}
 
 -- When jobs that begin at their heads at the earliest are done one after another on a machine that is free from a moment on.
 abbrev pub done_by : (ℕ → ℕ) → (ℕ → ℕ) → ℕ → List ℕ → ℕ
@@ -78,3 +79,13 @@ pub record IsBound (i : Instance) (heads jobs : List ℕ) (cost : ℤ) : Type 0 
 -- None of the jobs that are placed costs more.
 abbrev pub CostAtMost : Instance → ℤ → List ℕ → List Piece → Type 0
 CostAtMost i most left pieces = (j : ℕ) → j < length i.jobs → ¬ Contains left j → (end : ℕ) × All (λ p. p.job ≡ j → finish p ≤ end) pieces × (cost_at i j end ≤ℤ most)
+
+-- The same, in the words of the code: the head of the next job that waits, what is placed, and that no job placed since costs more.
+abbrev pub next_head : List ℕ → List ℕ → ℕ → ℕ
+next_head heads left count = head_in heads (slice_index_or left count 0)
+
+abbrev pub ArePlaced : Instance → List ℕ → List ℕ → List Piece → Type 0
+ArePlaced i heads left pieces = IsFilling i (head_in heads) greatest_end left pieces
+
+abbrev pub KeepsCosts : Instance → ℤ → List ℕ → List Piece → List ℕ → List Piece → Type 0
+KeepsCosts i cost left pieces left' pieces' = (most : ℤ) → cost ≤ℤ most → CostAtMost i most left pieces → CostAtMost i most left' pieces'

@@ -13,11 +13,15 @@ pub record IsRaised (i : Instance) (arcs : List Arc) (heads : ℕ → ℕ) (job 
   pub above : All (λ a. a.after ≡ job → heads a.before + (need_at i a.before 0).time ≤ head) arcs
   pub reached : (head ≡ (job_at i job).release) ⊎ ((a : Arc) × Contains arcs a × (a.after ≡ job) × (head ≡ heads a.before + (need_at i a.before 0).time))
 
+-- The head of a job, of those of all jobs.
+abbrev pub head_in : List ℕ → ℕ → ℕ
+head_in heads j = slice_index_or heads j 0
+
 -- A head for each job: not before its release date, nor before a job from which an arc leads to it has had its time from its own head on,
 -- and no later than one of these.
 pub record AreHeads (i : Instance) (heads : List ℕ) : Type 0 where
   pub each : length heads ≡ length i.jobs
-  pub release : (j : ℕ) → j < length i.jobs → (job_at i j).release ≤ slice_index_or heads j 0
-  pub arcs : All (λ a. slice_index_or heads a.before 0 + (need_at i a.before 0).time ≤ slice_index_or heads a.after 0) i.arcs
-  pub sound : IsSound i (λ j. slice_index_or heads j 0)
+  pub release : (j : ℕ) → j < length i.jobs → (job_at i j).release ≤ head_in heads j
+  pub arcs : All (λ a. head_in heads a.before + (need_at i a.before 0).time ≤ head_in heads a.after) i.arcs
+  pub sound : IsSound i (head_in heads)
   pub small : All (λ h. h ≤ greatest_head) heads

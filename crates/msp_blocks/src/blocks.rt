@@ -1,5 +1,5 @@
 // The solvers by blocks.
-ghost use Rattle.std.specs.Prelude.{◌≡◌, ◌⊎◌, ◌≤◌, true, [], slice_index_or, ℤ, pos, All, IfOk, ⊤};
+ghost use Rattle.std.specs.Prelude.{◌≡◌, ◌⊎◌, ◌≤◌, true, [], ℤ, pos, All, IfOk, ⊤};
 ghost use Rattle.msp_class.specs.declared.class.Env.TheVariants.{One};
 ghost use Rattle.msp_class.specs.declared.class.Times.TheVariants.{Unit};
 ghost use Rattle.msp_class.specs.declared.class.Crit.TheVariants.{Fmax};
@@ -9,7 +9,7 @@ ghost use Rattle.msp_schedule.specs.Cost.{IsBest};
 ghost use Rattle.msp_route.specs.Bounds.{IsAnswer};
 ghost use Rattle.msp_blocks.specs.Blocks.{blocks_class, unit_blocks_class, greatest_head, IsBestCost};
 ghost use Rattle.msp_blocks.specs.Heads.{AreHeads};
-ghost use Rattle.msp_blocks.specs.Filling.{IsFilling, IsBound, CostAtMost, greatest_end};
+ghost use Rattle.msp_blocks.specs.Filling.{ArePlaced, IsBound, CostAtMost};
 
 use crate::filling::{Bound, Filled, place_all};
 use crate::heads::heads_of;
@@ -59,7 +59,7 @@ fn by_blocks(alloc: Global, inst: &Instance) -> Result<Placed, NoMemory>
     requires inner { Inner inst.now }
     requires machine { inst.now.class.env ≡ One }
     ensures heads { IfOk result (λ p. AreHeads inst.now p.heads.items) }
-    ensures filling { IfOk result (λ p. IsFilling inst.now (λ j. slice_index_or p.heads.items j 0) greatest_end [] p.pieces) }
+    ensures filling { IfOk result (λ p. ArePlaced inst.now p.heads.items [] p.pieces) }
     ensures bound { IfOk result (λ p. IsBound inst.now p.heads.items p.bound.jobs p.bound.cost) }
     ensures costs { IfOk result (λ p. CostAtMost inst.now p.bound.cost [] p.pieces) }
 {

@@ -1,12 +1,12 @@
 // The schedule by blocks, job by job: the one that ends last in the first block takes what the others of the block leave.
-ghost use Rattle.std.specs.Prelude.{◌≡◌, ◌⊎◌, ◌+◌, ◌<◌, ◌≤◌, ◌++◌, [], ℤ, ◌≤ℤ◌, true, false, length, slice_index_or, All, IfOk, OnOk};
+ghost use Rattle.std.specs.Prelude.{◌≡◌, ◌⊎◌, ◌+◌, ◌<◌, ◌≤◌, ◌++◌, [], ℤ, ◌≤ℤ◌, true, false, length, All, IfOk, OnOk};
 ghost use Rattle.msp_class.specs.declared.class.Env.TheVariants.{One};
 ghost use Rattle.msp_instance.specs.declared.ranges.TheConstants.{MOST_JOBS};
 ghost use Rattle.msp_instance.specs.Conditions.{Inner};
 ghost use Rattle.msp_schedule.specs.Blocks.{cost_at};
 ghost use Rattle.msp_schedule.specs.Rows.{time_at};
-ghost use Rattle.msp_blocks.specs.Heads.{AreHeads};
-ghost use Rattle.msp_blocks.specs.Filling.{done_by, gap, gaps, IsFirstBlock, IsFilling, IsBound, CostAtMost, greatest_end};
+ghost use Rattle.msp_blocks.specs.Heads.{head_in, AreHeads};
+ghost use Rattle.msp_blocks.specs.Filling.{done_by, gap, gaps, next_head, IsFirstBlock, ArePlaced, IsBound, CostAtMost, KeepsCosts, greatest_end};
 
 use crate::heads::time_of;
 use msp_class::{List, NoMemory};
@@ -25,8 +25,8 @@ struct Block {
 /// Whether a block that ends at the moment goes on with the next job.
 fn goes_on(heads: &[u64], left: &[u32], count: usize, end: u64) -> bool
     requires inside { All (λ j. j < length heads.now) left.now }
-    ensures yes { result ≡ true → (count < length left.now) × (slice_index_or heads.now (slice_index_or left.now count 0) 0 ≤ end) }
-    ensures no { result ≡ false → count < length left.now → end < slice_index_or heads.now (slice_index_or left.now count 0) 0 }
+    ensures yes { result ≡ true → (count < length left.now) × (next_head heads.now left.now count ≤ end) }
+    ensures no { result ≡ false → count < length left.now → end < next_head heads.now left.now count }
 {
     count < left.len() && heads[left[count] as usize] <= end
 }
@@ -39,9 +39,9 @@ fn first_block(inst: &Instance, heads: &[u64], left: &[u32]) -> Block
     requires some { 0 < length left.now }
     requires few { length left.now ≤ MOST_JOBS }
     requires inside { All (λ j. j < length inst.now.jobs) left.now }
-    ensures block { IsFirstBlock (λ j. slice_index_or heads.now j 0) (time_at inst.now) left.now result.count result.end }
+    ensures block { IsFirstBlock (head_in heads.now) (time_at inst.now) left.now result.count result.end }
     ensures small { result.end ≤ greatest_end }
-    ensures later { result.count < length left.now → result.end < slice_index_or heads.now (slice_index_or left.now result.count 0) 0 }
+    ensures later { result.count < length left.now → result.end < next_head heads.now left.now result.count }
 {
     let mut count = 1;
     let mut end = heads[left[0] as usize] + time_of(inst, left[0]);
@@ -125,8 +125,8 @@ fn fill(
     requires machine { inst.now.class.env ≡ One }
     requires each { length heads.now ≡ length inst.now.jobs }
     requires inside { All (λ j. j < length inst.now.jobs) others.now }
-    requires room { done_by (λ j. slice_index_or heads.now j 0) (time_at inst.now) begin others.now ≤ end }
-    ensures { OnOk result (pieces.new ≡ pieces.old ++ gaps (λ j. slice_index_or heads.now j 0) (time_at inst.now) job begin others.now end) }
+    requires room { done_by (head_in heads.now) (time_at inst.now) begin others.now ≤ end }
+    ensures { OnOk result (pieces.new ≡ pieces.old ++ gaps (head_in heads.now) (time_at inst.now) job begin others.now end) }
 {
     let mut moment = begin;
     for place in 0..others.len() {
@@ -149,11 +149,11 @@ fn place_next(
     requires machine { inst.now.class.env ≡ One }
     requires heads { AreHeads inst.now heads.now }
     requires some { 0 < length left.old.items }
-    requires filling { IsFilling inst.now (λ j. slice_index_or heads.now j 0) greatest_end left.old.items pieces.old }
+    requires filling { ArePlaced inst.now heads.now left.old.items pieces.old }
     ensures shorter { OnOk result (length left.new.items + 1 ≡ length left.old.items) }
-    ensures filling { OnOk result (IsFilling inst.now (λ j. slice_index_or heads.now j 0) greatest_end left.new.items pieces.new) }
+    ensures filling { OnOk result (ArePlaced inst.now heads.now left.new.items pieces.new) }
     ensures bound { IfOk result (λ b. IsBound inst.now heads.now b.jobs b.cost) }
-    ensures costs { IfOk result (λ b. (most : ℤ) → b.cost ≤ℤ most → CostAtMost inst.now most left.old.items pieces.old → CostAtMost inst.now most left.new.items pieces.new) }
+    ensures costs { IfOk result (λ b. KeepsCosts inst.now b.cost left.old.items pieces.old left.new.items pieces.new) }
 {
     let block = first_block(inst, heads, left.as_slice());
     let jobs = &left.as_slice()[..block.count];
@@ -178,8 +178,8 @@ pub fn place_all(
     requires machine { inst.now.class.env ≡ One }
     requires heads { AreHeads inst.now heads.now }
     requires some { 0 < length jobs.items }
-    requires filling { IsFilling inst.now (λ j. slice_index_or heads.now j 0) greatest_end jobs.items [] }
-    ensures filling { IfOk result (λ f. IsFilling inst.now (λ j. slice_index_or heads.now j 0) greatest_end [] f.pieces) }
+    requires filling { ArePlaced inst.now heads.now jobs.items [] }
+    ensures filling { IfOk result (λ f. ArePlaced inst.now heads.now [] f.pieces) }
     ensures bound { IfOk result (λ f. IsBound inst.now heads.now f.bound.jobs f.bound.cost) }
     ensures costs { IfOk result (λ f. CostAtMost inst.now f.bound.cost [] f.pieces) }
 {

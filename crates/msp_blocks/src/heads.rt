@@ -1,12 +1,12 @@
 // Heads: the moments before which jobs cannot begin, raised along the arcs.
-ghost use Rattle.std.specs.Prelude.{◌≡◌, ◌+◌, ◌*◌, ◌<◌, ◌≤◌, length, slice_index_or, All, IfOk};
+ghost use Rattle.std.specs.Prelude.{◌≡◌, ◌+◌, ◌*◌, ◌<◌, ◌≤◌, length, All, IfOk};
 ghost use Rattle.std.specs.List.Sorted.{IsPermutation, IsNonDecreasingBy};
 ghost use Rattle.msp_class.specs.declared.class.Env.TheVariants.{One};
 ghost use Rattle.msp_instance.specs.declared.ranges.TheConstants.{GREATEST, MOST_JOBS};
 ghost use Rattle.msp_instance.specs.Instance.{job_at};
 ghost use Rattle.msp_instance.specs.Conditions.{Inner, IsSequence, GoesForward};
 ghost use Rattle.msp_schedule.specs.Rows.{time_at};
-ghost use Rattle.msp_blocks.specs.Heads.{IsRaised, AreHeads};
+ghost use Rattle.msp_blocks.specs.Heads.{head_in, IsRaised, AreHeads};
 
 use msp_class::NoMemory;
 use msp_instance::{Arc, Instance, OrderFault, arcs_by_after, entering_of, forward};
@@ -41,7 +41,7 @@ fn end_from_head(inst: &Instance, heads: &[u64], job: u32) -> u64
     requires inside { job < length inst.now.jobs }
     requires each { length heads.now ≡ length inst.now.jobs }
     requires small { All (λ h. h ≤ GREATEST * (1 + MOST_JOBS)) heads.now }
-    ensures { result ≡ slice_index_or heads.now job 0 + time_at inst.now job }
+    ensures { result ≡ head_in heads.now job + time_at inst.now job }
 {
     heads[job as usize] + time_of(inst, job)
 }
@@ -54,7 +54,7 @@ fn raised(inst: &Instance, entering: &[Arc], heads: &[u64], job: u32) -> u64
     requires entering { All (λ a. (a.after ≡ job) × (a.before < length inst.now.jobs)) entering.now }
     requires each { length heads.now ≡ length inst.now.jobs }
     requires small { All (λ h. h ≤ GREATEST * (1 + MOST_JOBS)) heads.now }
-    ensures { IsRaised inst.now entering.now (λ j. slice_index_or heads.now j 0) job result }
+    ensures { IsRaised inst.now entering.now (head_in heads.now) job result }
 {
     let mut head = release_of(inst, job);
     for arc in entering {

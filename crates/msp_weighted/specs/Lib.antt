@@ -1,3 +1,4 @@
 pub mod Late
 pub mod Limits
 pub mod Values
+pub mod Steps

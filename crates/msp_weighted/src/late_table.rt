@@ -1,9 +1,9 @@
 // The solver: the jobs that the table chooses by due date, and then the others by number.
-ghost use Rattle.std.specs.Prelude.{◌≡◌, ℕ, ◌+◌, ◌<◌, ◌≤◌, ◌++◌, List, length, map, pos, ◌^◌, ◌+ℤ◌, slice_index, slice_index_or, sum_by, All, AllPairs, IfOk, IsPermutation, ⊤};
+ghost use Rattle.std.specs.Prelude.{◌≡◌, ◌+◌, ◌<◌, ◌≤◌, length, map, pos, ◌^◌, ◌+ℤ◌, slice_index_or, sum_by, All, AllPairs, IfOk, IsPermutation, ⊤};
 ghost use Rattle.std.specs.List.{range_with_len};
 ghost use Rattle.std.specs.Ordering.{nat_cmp};
 ghost use Rattle.msp_instance.specs.declared.ranges.TheConstants.{GREATEST, MOST_JOBS};
-ghost use Rattle.msp_instance.specs.Instance.{no_need, job_at};
+ghost use Rattle.msp_instance.specs.Instance.{no_need};
 ghost use Rattle.msp_instance.specs.Conditions.{Inner};
 ghost use Rattle.msp_schedule.specs.Cost.{IsBest};
 ghost use Rattle.msp_schedule.specs.Fraction.{IsLowest};
@@ -11,6 +11,7 @@ ghost use Rattle.msp_schedule.specs.Settled.{IsSettled};
 ghost use Rattle.msp_route.specs.Bounds.{IsAnswer};
 ghost use Rattle.msp_weighted.specs.Late.{late_class, time_of, total_time, IsDueBefore, IsLateOrder};
 ghost use Rattle.msp_weighted.specs.Limits.{AreLimits};
+ghost use Rattle.msp_weighted.specs.Steps.{AreKeys, IsRowOf};
 ghost use Rattle.msp_weighted.specs.Values.{IsTableOrder};
 
 use crate::table::{best_moment, table_of};
@@ -63,7 +64,7 @@ fn key_of(due: i64) -> u64
 /// The keys of all jobs, in order of number.
 fn keys_of(alloc: Global, inst: &Instance) -> Result<Vec<u64>, NoMemory>
     ensures count { IfOk result (λ keys. length keys.items ≡ length inst.now.jobs) }
-    ensures each { IfOk result (λ keys. (k : ℕ) → k < length inst.now.jobs → pos (slice_index keys.items k) ≡ (job_at inst.now k).due +ℤ pos (2 ^ 63)) }
+    ensures each { IfOk result (λ keys. AreKeys inst.now keys.items) }
 {
     let jobs = inst.jobs.as_slice();
     let mut keys = Vec::new(alloc);
@@ -99,7 +100,7 @@ fn sort_by_number(jobs: &mut Vec<u32>)
 
 /// The jobs that are on time, and then the others, sorted.
 fn in_order(choice: Choice) -> Result<Vec<u32>, NoMemory>
-    ensures { IfOk result (λ o. (late : List ℕ) × IsPermutation choice.left.items late × AllPairs (λ a b. a ≤ b) late × (o.items ≡ choice.on_time.items ++ late)) }
+    ensures { IfOk result (λ o. IsRowOf choice.on_time.items choice.left.items o.items) }
 {
     let Choice {
         mut on_time,

@@ -1,8 +1,9 @@
 // The table: for each total time the greatest weight that is on time, and which jobs gave it.
-ghost use Rattle.std.specs.Prelude.{◌≡◌, ◌≢◌, ℕ, ◌+◌, ◌-◌, ◌*◌, ◌/◌, ◌<◌, ◌≤◌, false, length, pos, ◌≤ℤ◌, ◌<ℤ◌, slice_index, slice_index_or, All, IfOk, if◌then◌else◌};
+ghost use Rattle.std.specs.Prelude.{◌≡◌, ◌≢◌, ℕ, ◌+◌, ◌-◌, ◌*◌, ◌/◌, ◌<◌, ◌≤◌, false, length, pos, ◌≤ℤ◌, ◌<ℤ◌, slice_index, slice_index_or, All, IfOk};
 ghost use Rattle.msp_instance.specs.declared.ranges.TheConstants.{GREATEST, MOST_JOBS};
 ghost use Rattle.msp_instance.specs.Instance.{no_need};
-ghost use Rattle.msp_weighted.specs.Values.{is_better, is_marked, first_value, IsPut, IsFilled};
+ghost use Rattle.msp_weighted.specs.Values.{is_marked, first_value, IsPut, IsFilled};
+ghost use Rattle.msp_weighted.specs.Steps.{is_gain, value_at, IsTableOf};
 
 use crate::bits::set_bit;
 use msp_class::NoMemory;
@@ -23,8 +24,8 @@ fn improve(values: &mut [u64], time: usize, weight: u64, moment: usize) -> bool
     requires inside { moment < length values.old }
     requires small { slice_index values.old (moment - time) ≤ GREATEST * MOST_JOBS }
     requires light { weight ≤ GREATEST }
-    ensures better { result ≡ is_better weight (slice_index values.old (moment - time)) (slice_index values.old moment) }
-    ensures value { slice_index values.new moment ≡ (if result then slice_index values.old (moment - time) + weight else slice_index values.old moment) }
+    ensures better { result ≡ is_gain values.old time weight moment }
+    ensures value { slice_index values.new moment ≡ value_at values.old time weight moment result }
     ensures others { (t : ℕ) → t ≢ moment → slice_index values.new t ≡ slice_index values.old t }
 {
     let before = values[moment - time];
@@ -51,9 +52,9 @@ fn put_at(
     requires row { row ≤ GREATEST * MOST_JOBS }
     requires room { (row + moment) / 64 < length marks.old }
     requires clear { is_marked marks.old (row + moment) ≡ false }
-    ensures value { slice_index values.new moment ≡ (if is_better weight (slice_index values.old (moment - time)) (slice_index values.old moment) then slice_index values.old (moment - time) + weight else slice_index values.old moment) }
+    ensures value { slice_index values.new moment ≡ value_at values.old time weight moment (is_gain values.old time weight moment) }
     ensures others { (t : ℕ) → t ≢ moment → slice_index values.new t ≡ slice_index values.old t }
-    ensures mark { is_marked marks.new (row + moment) ≡ is_better weight (slice_index values.old (moment - time)) (slice_index values.old moment) }
+    ensures mark { is_marked marks.new (row + moment) ≡ is_gain values.old time weight moment }
     ensures kept { (m : ℕ) → m ≢ row + moment → is_marked marks.new m ≡ is_marked marks.old m }
 {
     if improve(values, time, weight, moment) {
@@ -144,7 +145,7 @@ pub(crate) fn table_of(
     requires short { total < GREATEST }
     ensures width { IfOk result (λ t. length t.values.items ≡ total + 1) }
     ensures room { IfOk result (λ t. length order.now * (total + 1) ≤ 64 * length t.marks.items) }
-    ensures filled { IfOk result (λ t. IsFilled inst.now order.now (total + 1) (length order.now) t.values.items t.marks.items) }
+    ensures filled { IfOk result (IsTableOf inst.now order.now (total + 1)) }
 {
     let width = total as usize + 1;
     let mut values = first_values(alloc, width)?;

@@ -1,8 +1,9 @@
 // The way back through the marks of the table, which chooses the jobs.
-ghost use Rattle.std.specs.Prelude.{◌≡◌, ℕ, ◌+◌, ◌-◌, ◌*◌, ◌<◌, ◌≤◌, true, false, [], ◌∷◌, ◌++◌, length, slice_index_or, All, IfOk};
+ghost use Rattle.std.specs.Prelude.{◌≡◌, ◌*◌, ◌<◌, ◌≤◌, true, false, length, slice_index_or, All, IfOk};
 ghost use Rattle.msp_instance.specs.declared.ranges.TheConstants.{GREATEST, MOST_JOBS};
 ghost use Rattle.msp_instance.specs.Instance.{no_need};
-ghost use Rattle.msp_weighted.specs.Values.{is_marked, is_taken, values_of, IsChosen};
+ghost use Rattle.msp_weighted.specs.Values.{values_of};
+ghost use Rattle.msp_weighted.specs.Steps.{AreMarks, Takes, Leaves, IsChoiceAt};
 
 use crate::bits::is_set;
 use msp_class::NoMemory;
@@ -21,8 +22,8 @@ pub(crate) struct Choice {
 /// Puts a job before those that are on time, or to those that are left.
 fn take_or_leave(choice: &mut Choice, job: u32, time: usize, taken: bool) -> Result<(), NoMemory>
     requires { taken ≡ true → time ≤ choice.old.moment }
-    ensures taken { taken ≡ true → IfOk result (λ _. (choice.new.on_time.items ≡ choice.old.on_time.items ++ job ∷ []) × (choice.new.left.items ≡ choice.old.left.items) × (choice.new.moment ≡ choice.old.moment - time)) }
-    ensures left { taken ≡ false → IfOk result (λ _. (choice.new.on_time.items ≡ choice.old.on_time.items) × (choice.new.left.items ≡ choice.old.left.items ++ job ∷ []) × (choice.new.moment ≡ choice.old.moment)) }
+    ensures taken { taken ≡ true → IfOk result (λ _. Takes job time choice.old choice.new) }
+    ensures left { taken ≡ false → IfOk result (λ _. Leaves job choice.old choice.new) }
 {
     if taken {
         choice.moment -= time;
@@ -48,9 +49,9 @@ pub(crate) fn chosen(
     requires width { width ≤ GREATEST }
     requires room { length order.now * width ≤ 64 * length marks.now }
     requires inside { moment < width }
-    requires marks { (j t : ℕ) → j < length order.now → t < width → is_marked marks.now (j * width + t) ≡ is_taken inst.now order.now j t }
+    requires marks { AreMarks inst.now order.now width marks.now }
     requires some { 0 < values_of inst.now order.now moment }
-    ensures { IfOk result (λ c. IsChosen inst.now order.now (values_of inst.now order.now moment) c.on_time.items c.left.items) }
+    ensures { IfOk result (IsChoiceAt inst.now order.now moment) }
 {
     let jobs = inst.jobs.as_slice();
     let mut choice = Choice {
