@@ -1,6 +1,6 @@
 -- The law of squeezing, the other way: a schedule of the squeezed instance in which no job is late, brought back to the kept moments, is
 -- feasible and meets the bound.
-use Rattle.std.proofs.Common.{◌≡◌, ℕ, suc, ◌+◌, ◌*◌, ◌/◌, ◌<◌, ◌≤◌, ◌⊎◌, inl, inr, cond, eqb, List, [], ◌∷◌, length, get_or, map, filter, count_by, All, AllPairs, ℤ, pos, nat_abs, ◌+ℤ◌, ◌-ℤ◌, ◌*ℤ◌, ◌≤ℤ◌, ◌<ℤ◌, refl, sym, ap, ap₂, subst, subst₂, ◌∙◌, arith}
+use Rattle.std.proofs.Common.{◌≡◌, ℕ, ◌+◌, ◌*◌, ◌<◌, ◌≤◌, inl, inr, cond, eqb, List, [], ◌∷◌, length, get_or, map, count_by, All, AllPairs, ℤ, pos, nat_abs, ◌+ℤ◌, ◌-ℤ◌, ◌*ℤ◌, ◌≤ℤ◌, ◌<ℤ◌, refl, sym, ap, ap₂, subst, subst₂, ◌∙◌, arith}
 use Rattle.std.specs.Prelude.{int_le}
 use Rattle.std.proofs.lemmas.Int.{ints}
 use Rattle.std.proofs.lemmas.Simd.{map-map}
@@ -8,7 +8,6 @@ use Rattle.std.proofs.lemmas.List.{length-map, get_or-map, get_or_default}
 use Rattle.std.proofs.lemmas.List.Elements.{All-map}
 use Rattle.std.proofs.lemmas.List.Sums.{length-filter}
 use native.Mathlib.Nat.{le_of_mul-le-mul_left, lt_of_mul-lt-mul_left}
-use Rattle.msp_class.specs.declared.environments.EnvKind.TheVariants.{Identical}
 use Rattle.msp_class.specs.Env.{kind_of}
 use Rattle.msp_class.proofs.IntegerRing.{natural, pos-le, le-pos, pos-lt, zero-le-pos, one-*ℤ, +ℤ_idr, ≤ℤ_trans}
 use Rattle.msp_class.proofs.Sums.{OnceBelow, sum_by-map}
@@ -18,19 +17,18 @@ use Rattle.msp_instance.specs.Conditions.{LiesWithin}
 use Rattle.msp_schedule.specs.declared.Piece.{Piece}
 use Rattle.msp_schedule.specs.declared.Schedule.{Schedule}
 use Rattle.msp_schedule.specs.Piece.{pieces_of, IsApart}
-use Rattle.msp_schedule.specs.Feasible.{Feasible, HasPlace, HasOperation, IsWholeWork, MayRun}
+use Rattle.msp_schedule.specs.Feasible.{Feasible, HasPlace, IsWholeWork}
 use Rattle.msp_schedule.specs.Cost.{cost_of, end_of}
 use Rattle.msp_schedule.specs.Laws.{floored, floored_piece}
 use Rattle.msp_schedule.proofs.bounds.EndsAndFloors.{law_of_floors}
-use Rattle.msp_threshold.proofs.InTime.{EndsInTime, meets_jobs, free_jobs}
+use Rattle.msp_schedule.proofs.costs.InTime.{EndsInTime, meets_jobs, free_jobs}
 use Rattle.msp_schedule.proofs.changes.Moves.{AllPairs-map}
 use Rattle.msp_schedule.proofs.feasible.LastEnds.{last_end-bound, last_end-least}
 use Rattle.msp_schedule.proofs.feasible.OneMachine.{pieces_of-job}
 use Rattle.msp_schedule.proofs.feasible.OneRow.{ordered_without_arcs}
-use Rattle.msp_schedule.proofs.feasible.OneEach.{IsUncut, IsUncut-identical, AreOneEach, one_each_is_feasible, one_each_is_within}
-use Rattle.msp_slots.specs.Pieces.{piece_at}
+use Rattle.msp_schedule.proofs.feasible.OneEach.{IsUncut, IsUncut-identical, AreOneEach, one_each_is_feasible}
 use Rattle.msp_slots.proofs.UnitPieces.{HasUnitJobs}
-use Rattle.msp_threshold.specs.Squeezed.{AreKept, HasTime, squeezed_release, squeezed_due, squeezed_by, CanMeet, CanBeFree}
+use Rattle.msp_threshold.specs.Squeezed.{AreKept, HasTime, squeezed_due, squeezed_by, CanMeet, CanBeFree}
 use Rattle.msp_threshold.specs.Search.{number_of, piece_back, pieces_back}
 use Rattle.msp_threshold.proofs.Rising.{count_by-most, released_there, in_time_there}
 use Rattle.msp_threshold.proofs.Meeting.{moments_of}

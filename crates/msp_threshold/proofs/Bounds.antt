@@ -2,16 +2,14 @@
 use Rattle.std.proofs.Common.{◌≡◌, ℕ, ◌+◌, ◌*◌, ◌<◌, ◌≤◌, Bool, true, false, inl, inr, List, [], ◌∷◌, ◌++◌, Option, Some, length, get_or, take, All, ℤ, pos, nat_abs, ◌+ℤ◌, ◌-ℤ◌, ◌*ℤ◌, ◌≤ℤ◌, ◌<ℤ◌, FitsSigned, to_z, of_z, refl, sym, ap, ap₂, subst, subst₂, ◌∙◌, arith}
 use Rattle.std.specs.Prelude.{◌↔◌, IsTrue, MatchOption, if◌then◌else◌, nat_eq}
 use Rattle.std.specs.Int.{int_max, w64, w128}
-use Rattle.std.specs.List.{range_with_len}
 use Rattle.std.proofs.lemmas.Bool.{eqb-true}
 use Rattle.std.proofs.lemmas.Int.{ints, to_z-of_z}
 use Rattle.std.proofs.lemmas.List.{take_all, take_more}
 use Rattle.std.proofs.lemmas.List.Elements.{All-push}
 use Rattle.msp_class.specs.declared.class.Crit.TheVariants.{SumU}
-use Rattle.msp_class.proofs.IntegerRing.{natural, pos-le, lt-pos, <ℤ_weak, zero-le-pos, *ℤ-one, *ℤ_comm, *ℤ-zero, zero-*ℤ, *ℤ-cancel_pos, *ℤ-cancel_same, ≤ℤ-int_max_left, ≤ℤ-int_max_right, int_max-least, ≤ℤ_antisym, ≤ℤ_total, ≤ℤ_trans}
+use Rattle.msp_class.proofs.IntegerRing.{natural, lt-pos, <ℤ_weak, zero-le-pos, *ℤ-one, *ℤ_comm, *ℤ-zero, zero-*ℤ, *ℤ-cancel_pos, *ℤ-cancel_same, ≤ℤ-int_max_left, ≤ℤ-int_max_right, int_max-least, ≤ℤ_antisym, ≤ℤ_total, ≤ℤ_trans}
 use Rattle.msp_instance.specs.declared.Job.{Job}
 use Rattle.msp_instance.specs.declared.Instance.{Instance}
-use Rattle.msp_instance.specs.Instance.{no_job, job_at}
 use Rattle.msp_instance.specs.Conditions.{LiesWithin}
 use Rattle.msp_schedule.specs.declared.Piece.{Piece}
 use Rattle.msp_schedule.specs.declared.Schedule.{Schedule}
@@ -23,12 +21,11 @@ use Rattle.msp_schedule.proofs.costs.LateJobs.{late_jobs, late_cost}
 use Rattle.msp_schedule.proofs.feasible.OneEach.{IsUncut-identical}
 use Rattle.msp_route.specs.Bounds.{IsAnswer, answer_unit}
 use Rattle.msp_route.proofs.OneEach.{one_each_is_answer}
-use Rattle.msp_slots.proofs.UnitPieces.{pieces_at, AreUnitPieces-from}
 use Rattle.msp_threshold.specs.declared.search.Range.{Range}
 use Rattle.msp_threshold.specs.Squeezed.{AreKept, HasTime, squeezed_by, CanMeet, CanBeFree}
 use Rattle.msp_threshold.specs.Search.{IsLeastBound, IsLowest, IsRange, number_of, pieces_back}
 use Rattle.msp_threshold.proofs.Facts.{IsLatenessShop}
-use Rattle.msp_threshold.proofs.Meeting.{loosened, own_cost, meets_pieces, meets_moments, moments_below}
+use Rattle.msp_threshold.proofs.Meeting.{loosened, own_cost, meets_moments, moments_below}
 use Rattle.msp_threshold.proofs.Law.{free_if_met}
 use Rattle.msp_threshold.proofs.BackMeets.{back_each, back_feasible, back_meets, back_inside, time_if_met}
 
@@ -96,19 +93,14 @@ module _ (i : Instance) (t : IsLatenessShop i) where
   abbrev n : ℕ
   n = length i.jobs
 
-  -- ---- the first range: all jobs one after another from the latest release date on
-  pub first_range : (low high : ℤ) (latest : ℕ) → IsLowest i.jobs low → LiesWithin 4000000001 low → All (λ j. j.release ≤ latest) i.jobs → latest ≤ 2000000000 → high ≡ (low +ℤ pos latest) +ℤ pos n → IsRange i (record { low = low; high = high })
-  first_range low high latest lowest size released small e = record {
-    met = meets_pieces i t high (λ j. latest + j) (λ _. 0) (pieces_at (λ j. latest + j) (λ _. 0) (range_with_len 0 n))
-        (AreUnitPieces-from i (λ j. latest + j) (λ _. 0) t.arcs (λ j l. t.machine) (λ j k l m e f. omega (arith, e)) (λ j l. omega (arith, released j no_job l)) (λ j l. omega (arith, l, t.few, small)))
-        (λ j l. in_time j (job_at i j).release (job_at i j).due l (lowest.time j no_job l));
+  -- ---- the first range
+  pub first_range : (low high : ℤ) → IsLowest i.jobs low → LiesWithin 4000000001 low → CanMeet i high → LiesWithin 5000000000 high → IsRange i (record { low = low; high = high })
+  first_range low high lowest size met small = record {
+    met = met;
     least = λ bound met. lowest.least bound (time_if_met i t bound met);
     low = (omega (arith, ints, size.0), omega (arith, ints, size.1));
-    high = (omega (arith, ints, size.0, e, small, t.few), omega (arith, ints, size.1, e, small, t.few));
+    high = (omega (arith, ints, small.0), omega (arith, ints, small.1));
   }
-    where
-      in_time : (j r : ℕ) (d : ℤ) → j < n → pos (r + 1) ≤ℤ (d +ℤ low) → pos (latest + j + 1) ≤ℤ (d +ℤ high)
-      in_time j r d l h = omega (arith, ints, h, e, l)
 
   -- ---- a half of it
   pub halved : (range new : Range) (middle : ℤ) (met : Bool) → IsRange i range → range.low ≤ℤ middle → middle <ℤ range.high → IsTrue met ↔ CanMeet i middle
@@ -220,15 +212,13 @@ some_value P Q o a e h = subst (λ o. MatchOption o P Q) e h
 bound_fits : (x : ℤ) → LiesWithin 10000000000 x → FitsSigned w64 x
 bound_fits x h = omega (arith, ints, h.0, h.1)
 
-pub range_at : (i : Instance) → IsLatenessShop i → (jobs : List Job) (low high : ℤ) (latest : ℕ) → jobs ≡ i.jobs → IsLowest jobs low → LiesWithin 4000000001 low → All (λ j. j.release ≤ latest) jobs → latest ≤ 2000000000
-    → high ≡ (to_z w64 (of_z w64 low) +ℤ pos latest) +ℤ pos (length jobs) → IsRange i (record { low = to_z w64 (of_z w64 low); high = to_z w64 (of_z w64 high) })
-range_at i t jobs low high latest e lowest size released small is = subst₂ (λ x y. IsRange i (record { low = x; high = y })) (sym low_is) (sym (to_z-of_z w64 high (bound_fits high range.high))) range
+pub range_at : (i : Instance) → IsLatenessShop i → (jobs : List Job) (low high : ℤ) → jobs ≡ i.jobs → IsLowest jobs low → LiesWithin 4000000001 low → CanMeet i high → LiesWithin 5000000000 high
+    → IsRange i (record { low = to_z w64 (of_z w64 low); high = to_z w64 (of_z w64 high) })
+range_at i t jobs low high e lowest size met small = subst₂ (λ x y. IsRange i (record { low = x; high = y })) (sym (to_z-of_z w64 low (small_fits low size))) (sym (to_z-of_z w64 high (met_fits high small)))
+    (first_range i t low high (subst (λ js. IsLowest js low) e lowest) size met small)
   where
-    low_is : to_z w64 (of_z w64 low) ≡ low
-    low_is = to_z-of_z w64 low (small_fits low size)
-
-    range : IsRange i (record { low = low; high = high })
-    range = first_range i t low high latest (subst (λ js. IsLowest js low) e lowest) size (subst (All (λ j. j.release ≤ latest)) e released) small (is ∙ ap₂ (λ x n. (x +ℤ pos latest) +ℤ pos n) low_is (ap length e))
+    met_fits : (x : ℤ) → LiesWithin 5000000000 x → FitsSigned w64 x
+    met_fits x h = omega (arith, ints, h.0, h.1)
 
 pub middle_within : (low high m : ℤ) → low ≤ℤ m → m <ℤ high → LiesWithin 10000000000 low → LiesWithin 10000000000 high → LiesWithin 10000000000 m
 middle_within low high m a b p q = (omega (arith, ints, a, p.0), omega (arith, ints, b, q.1))

@@ -1,5 +1,5 @@
 -- What an instance of unit jobs by lateness has, and the instance squeezed to some moments.
-use Rattle.std.proofs.Common.{◌≡◌, ℕ, ◌+◌, ◌<◌, ◌≤◌, ltb, List, [], length, get_or, map, All, ℤ, pos, ◌+ℤ◌, ◌≤ℤ◌, FitsSigned, to_z, of_z, refl, sym, ap, ap₂, ◌∙◌, arith}
+use Rattle.std.proofs.Common.{◌≡◌, ℕ, ◌+◌, ◌<◌, ◌≤◌, ltb, List, length, get_or, All, ℤ, pos, ◌+ℤ◌, ◌≤ℤ◌, FitsSigned, to_z, of_z, refl, sym, ap, ap₂, ◌∙◌, arith}
 use Rattle.std.specs.Prelude.{int_le}
 use Rattle.std.specs.Int.{w64}
 use Rattle.std.proofs.lemmas.Int.{ints, to_z-of_z}
@@ -9,12 +9,12 @@ use Rattle.std.proofs.lemmas.List.Elements.{All-map}
 use Rattle.msp_class.proofs.IntegerRing.{pos-le, zero-le-pos}
 use Rattle.msp_instance.specs.declared.Job.{Job}
 use Rattle.msp_instance.specs.declared.Instance.{Instance}
-use Rattle.msp_instance.specs.Instance.{no_need, no_job, job_at, need_at, common_time}
+use Rattle.msp_instance.specs.Instance.{no_need, no_job, job_at, need_at}
 use Rattle.msp_instance.specs.Conditions.{LiesWithin, IsJobOf, Inner, InClass, text_limits, inner_limits}
 use Rattle.msp_schedule.proofs.feasible.OfClass.{IsOfClass, IsOfClass-from}
 use Rattle.msp_schedule.proofs.feasible.Frames.{job_at-map}
 use Rattle.msp_slots.proofs.UnitPieces.{HasUnitJobs}
-use Rattle.msp_threshold.specs.Squeezed.{lateness_class, late_count_class, squeezed_release, squeezed_due, squeezed_job, squeezed_by}
+use Rattle.msp_threshold.specs.Squeezed.{lateness_class, squeezed_release, squeezed_due, squeezed_job, squeezed_by}
 use Rattle.msp_threshold.proofs.Rising.{count_by-most}
 
 abbrev pub IsLatenessShop : Instance → Type 0

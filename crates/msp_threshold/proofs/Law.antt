@@ -1,22 +1,20 @@
 -- The law of squeezing, one way: where the bound can be met, the squeezed instance can be free of late jobs.
-use Rattle.std.proofs.Common.{◌≡◌, ℕ, ◌+◌, ◌<◌, ◌≤◌, ◌≢◌, List, length, get_or, map, AllPairs, Contains, IsPermutation, ℤ, pos, ◌+ℤ◌, ◌*ℤ◌, ◌≤ℤ◌, refl, sym, ap, ap₂, subst, subst₂, ◌∙◌, arith}
+use Rattle.std.proofs.Common.{◌≡◌, ℕ, ◌+◌, ◌<◌, ◌≤◌, ◌≢◌, List, length, get_or, map, AllPairs, Contains, ℤ, pos, ◌+ℤ◌, ◌≤ℤ◌, refl, sym, ap, subst₂, ◌∙◌, arith}
 use Rattle.std.specs.List.{range_with_len}
 use Rattle.std.proofs.lemmas.List.{length-map, get_or-map, get_or_default}
-use Rattle.std.proofs.lemmas.List.Elements.{Contains-get_or}
 use Rattle.msp_class.proofs.IntegerRing.{pos-le, one-*ℤ, +ℤ_idr, ≤ℤ_trans}
 use Rattle.msp_instance.specs.declared.Instance.{Instance}
 use Rattle.msp_instance.specs.Instance.{job_at}
 use Rattle.msp_schedule.specs.declared.Schedule.{Schedule}
 use Rattle.msp_schedule.specs.Feasible.{Feasible}
-use Rattle.msp_schedule.specs.Cost.{end_of}
-use Rattle.msp_threshold.proofs.InTime.{EndsInTime, free_jobs}
+use Rattle.msp_schedule.proofs.costs.InTime.{EndsInTime, free_jobs}
 use Rattle.msp_schedule.proofs.bounds.Certified.{place_in, place_in-is}
 use Rattle.msp_slots.specs.Earliest.{no_slot, start_in, machine_in}
 use Rattle.msp_slots.proofs.Seats.{HasSeats}
 use Rattle.msp_slots.proofs.Begins.{head_at}
 use Rattle.msp_slots.proofs.UnitPieces.{AreUnitPieces, pieces_at, AreUnitPieces-from, unit_pieces_are_feasible, unit_piece_ends}
 use Rattle.msp_slots.proofs.SlotPlaces.{heads_many, slot_inside, same_slot, seats_in}
-use Rattle.msp_threshold.specs.Squeezed.{AreKept, squeezed_release, squeezed_due, squeezed_by, CanMeet, CanBeFree}
+use Rattle.msp_threshold.specs.Squeezed.{AreKept, squeezed_by, CanMeet, CanBeFree}
 use Rattle.msp_threshold.proofs.Rising.{no_less, released_here, in_time_here}
 use Rattle.msp_threshold.proofs.Facts.{IsLatenessShop, many, lower_release, lower_due, lower_units}
 use Rattle.msp_threshold.proofs.Meeting.{HasMoments, moments_of}

@@ -1,6 +1,6 @@
 -- When a bound on the greatest lateness can be met: exactly where jobs can begin at whole moments, no more at a time than there are machines,
 -- so that each ends in time.
-use Rattle.std.proofs.Common.{◌≡◌, ℕ, suc, ◌+◌, ◌<◌, ◌≤◌, inl, inr, List, length, get_or, map, IsPermutation, ℤ, pos, nat_abs, ◌+ℤ◌, ◌-ℤ◌, ◌*ℤ◌, ◌≤ℤ◌, ◌<ℤ◌, refl, sym, ap, subst, subst₂, ◌∙◌, arith}
+use Rattle.std.proofs.Common.{◌≡◌, ℕ, ◌+◌, ◌<◌, ◌≤◌, List, length, map, IsPermutation, ℤ, pos, nat_abs, ◌+ℤ◌, ◌-ℤ◌, ◌*ℤ◌, ◌≤ℤ◌, ◌<ℤ◌, sym, ap, subst, subst₂, arith}
 use Rattle.std.specs.List.{range_with_len}
 use Rattle.std.proofs.lemmas.Int.{ints}
 use Rattle.msp_class.specs.Crit.{is_greatest}
@@ -11,14 +11,13 @@ use Rattle.msp_schedule.specs.declared.Piece.{Piece}
 use Rattle.msp_schedule.specs.declared.Schedule.{Schedule}
 use Rattle.msp_schedule.specs.Feasible.{Feasible}
 use Rattle.msp_schedule.specs.Cost.{cost_of, end_of, job_cost}
-use Rattle.msp_schedule.proofs.costs.Charges.{charge_of, cost_of-bound}
-use Rattle.msp_threshold.proofs.InTime.{EndsInTime, meets_jobs}
+use Rattle.msp_schedule.proofs.costs.Charges.{cost_of-bound}
+use Rattle.msp_schedule.proofs.costs.InTime.{meets_jobs}
 use Rattle.msp_slots.specs.declared.earliest.Slot.{Slot}
 use Rattle.msp_slots.specs.Seating.{IsSeated}
 use Rattle.msp_slots.specs.Earliest.{start_in, machine_in, AreSlots}
-use Rattle.msp_slots.proofs.Seats.{HasSeats}
 use Rattle.msp_slots.proofs.Begins.{head_at, HasBegins, begins_of}
-use Rattle.msp_slots.proofs.UnitPieces.{HasUnitJobs, AreUnitPieces, pieces_at, AreUnitPieces-from, unit_pieces_are_feasible, unit_piece_ends}
+use Rattle.msp_slots.proofs.UnitPieces.{AreUnitPieces, pieces_at, AreUnitPieces-from, unit_pieces_are_feasible, unit_piece_ends}
 use Rattle.msp_slots.proofs.SlotPlaces.{heads_many, slot_inside, same_slot, seats_in}
 use Rattle.msp_threshold.specs.Squeezed.{CanMeet}
 use Rattle.msp_threshold.proofs.Facts.{IsLatenessShop, unit_jobs}
@@ -88,22 +87,23 @@ module _ (i : Instance) (t : IsLatenessShop i) where
         subst₂ (λ x y. x ≤ℤ y) (sym (unit_piece_ends i (unit_jobs i t) begin machine pieces h j l)) (sym (one-*ℤ (due j +ℤ bound))) (ends j l)),
   )
 
-  module _ (heads : List ℕ) (slots : List Slot) (all : IsPermutation (map (λ j. j.release) i.jobs) heads) (filled : AreSlots i.machines heads slots) where
+  module _ (heads : List ℕ) (slots : List Slot) (filled : AreSlots i.machines heads slots) (many : length heads ≡ n) where
     abbrev start : ℕ → ℕ
     start = start_in slots
 
-    many : length heads ≡ n
-    many = heads_many i heads all
-
-    pub meets_moments : (bound : ℤ) → HasMoments bound → CanMeet i bound
-    meets_moments bound m =
-        let (seat, h) = seats_in i heads slots all filled m.begin m.seated in
-        let here : InTime bound (λ j. start (seat j)) = λ j l. ≤ℤ_trans (pos-le (later (start (seat j)) (m.begin j) (h.early j l))) (m.in_time j l) in
+    -- each job in a slot of its own
+    pub meets_seats : (bound : ℤ) (seat : ℕ → ℕ) → ((j : ℕ) → j < n → seat j < n) → ((j k : ℕ) → j < n → k < n → seat j ≡ seat k → j ≡ k) → ((j : ℕ) → j < n → (job_at i j).release ≤ start (seat j)) → InTime bound (λ j. start (seat j)) → CanMeet i bound
+    meets_seats bound seat inside once released here =
         meets_pieces bound (λ j. start (seat j)) (λ j. machine_in slots (seat j)) (pieces_at (λ j. start (seat j)) (λ j. machine_in slots (seat j)) (range_with_len 0 n))
-        (AreUnitPieces-from i (λ j. start (seat j)) (λ j. machine_in slots (seat j)) t.arcs (λ j l. slot_inside i.machines heads slots filled (seat j) (omega (arith, h.inside j l, many)))
-        (λ j k l b e f. h.once j k l b (same_slot i.machines heads slots filled (seat j) (seat k) (omega (arith, h.inside j l, many)) (omega (arith, h.inside k b, many)) e f)) h.released
-        (λ j l. omega (arith, filled.soon (seat j) (omega (arith, h.inside j l, many)), many, t.few)))
+        (AreUnitPieces-from i (λ j. start (seat j)) (λ j. machine_in slots (seat j)) t.arcs (λ j l. slot_inside i.machines heads slots filled (seat j) (omega (arith, inside j l, many)))
+        (λ j k l b e f. once j k l b (same_slot i.machines heads slots filled (seat j) (seat k) (omega (arith, inside j l, many)) (omega (arith, inside k b, many)) e f)) released
+        (λ j l. omega (arith, filled.soon (seat j) (omega (arith, inside j l, many)), many, t.few)))
         here
-      where
-        later : (a b : ℕ) → a ≤ b → a + 1 ≤ b + 1
-        later a b h = omega (arith, h)
+
+  pub meets_moments : (heads : List ℕ) (slots : List Slot) → IsPermutation (map (λ j. j.release) i.jobs) heads → AreSlots i.machines heads slots → (bound : ℤ) → HasMoments bound → CanMeet i bound
+  meets_moments heads slots all filled bound m =
+      let (seat, h) = seats_in i heads slots all filled m.begin m.seated in
+      meets_seats heads slots filled (heads_many i heads all) bound seat h.inside h.once h.released (λ j l. ≤ℤ_trans (pos-le (later (start_in slots (seat j)) (m.begin j) (h.early j l))) (m.in_time j l))
+    where
+      later : (a b : ℕ) → a ≤ b → a + 1 ≤ b + 1
+      later a b h = omega (arith, h)

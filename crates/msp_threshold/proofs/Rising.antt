@@ -7,7 +7,7 @@ use Rattle.std.proofs.lemmas.Int.{ints}
 use Rattle.std.proofs.lemmas.List.Elements.{All-head, All-tail}
 use Rattle.std.proofs.lemmas.List.Sums.{sum_by-cons}
 use Rattle.msp_class.proofs.Sums.{cond-le, AllPairs-head, AllPairs-tail}
-use Rattle.msp_class.proofs.IntegerRing.{≤ℤ_total, ≤ℤ_trans, pos-le}
+use Rattle.msp_class.proofs.IntegerRing.{≤ℤ_trans, pos-le}
 use Rattle.msp_threshold.specs.Squeezed.{squeezed_release, squeezed_due}
 
 abbrev Rising : List ℕ → Type 0

@@ -6,6 +6,7 @@
 #![tactic(auto)]
 
 mod back;
+mod by_due_date;
 mod kept;
 mod search;
 mod squeezing;
@@ -13,4 +14,4 @@ mod squeezing;
 mod tests;
 
 pub use search::Search;
-pub use squeezing::squeezed;
+pub use squeezing::{LATE_COUNT_CLASS, squeezed};

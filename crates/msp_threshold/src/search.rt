@@ -1,13 +1,14 @@
 // The search for the least bound on the greatest lateness that some schedule meets.
 ghost use Rattle.std.specs.Prelude.{◌≡◌, ◌↔◌, ◌*◌, ◌+◌, ◌<◌, ◌≤◌, length, pos, ◌+ℤ◌, ◌-ℤ◌, ◌≤ℤ◌, ◌<ℤ◌, All, IfOk, IsTrue, if◌then◌else◌};
-ghost use Rattle.msp_instance.specs.declared.ranges.TheConstants.{GREATEST, MOST_JOBS};
+ghost use Rattle.msp_instance.specs.declared.ranges.TheConstants.{GREATEST};
 ghost use Rattle.msp_instance.specs.Conditions.{Inner, LiesWithin};
 ghost use Rattle.msp_schedule.specs.Cost.{IsBest, Best, cost_of};
 ghost use Rattle.msp_route.specs.Bounds.{IsAnswer};
-ghost use Rattle.msp_threshold.specs.Squeezed.{lateness_class, late_count_class, greatest_bound, HasTime, CanMeet};
-ghost use Rattle.msp_threshold.specs.Search.{HoldsSqueezed, IsLeastBound, IsLowest, IsRange};
+ghost use Rattle.msp_threshold.specs.Squeezed.{lateness_class, late_count_class, greatest_bound, CanMeet};
+ghost use Rattle.msp_threshold.specs.Search.{HoldsSqueezed, IsLeastBound, IsLowest, IsRange, IsShorter};
 
 use crate::back::pieces_back;
+use crate::by_due_date::met_bound;
 use crate::kept::kept_moments;
 use crate::squeezing::{squeezed, squeezed_at};
 use msp_class::{Class, Crit, Env, NoMemory, Order, Times};
@@ -57,39 +58,15 @@ fn lowest_bound(jobs: &[Job]) -> i64
     lowest
 }
 
-/// The latest release date.
-fn latest_release(jobs: &[Job]) -> u64
-    requires { All (λ j. j.release ≤ 2 * GREATEST) jobs.now }
-    ensures latest { All (λ j. j.release ≤ result) jobs.now }
-    ensures size { result ≤ 2 * GREATEST }
-{
-    let mut latest: u64 = 0;
-    for job in jobs {
-        latest = job.release.max(latest);
-    }
-    latest
-}
-
-/// The low bound raised so far that all jobs have time one after another.
-fn raised(low: i64, latest: u64, count: usize) -> i64
-    requires low { LiesWithin (4 * GREATEST + 1) low }
-    requires latest { latest ≤ 2 * GREATEST }
-    requires count { count ≤ MOST_JOBS }
-    ensures { result ≡ (low +ℤ pos latest) +ℤ pos count }
-{
-    low + latest as i64 + count as i64
-}
-
-/// The bounds between which the least one lies: all jobs can run one after another from the latest release date on.
-fn first_range(inst: &Instance) -> Range
+/// The bounds between which the least one lies: a schedule by due dates meets the greater one.
+fn first_range(alloc: Global, inst: &Instance) -> Result<Range, NoMemory>
     requires inner { Inner inst.now }
     requires class { inst.now.class ≡ lateness_class }
-    ensures { IsRange inst.now result }
+    ensures { IfOk result (IsRange inst.now) }
 {
-    let jobs = inst.jobs.as_slice();
-    let low = lowest_bound(jobs);
-    let high = raised(low, latest_release(jobs), jobs.len());
-    Range { low, high }
+    let low = lowest_bound(inst.jobs.as_slice());
+    let high = met_bound(alloc, inst, low)?;
+    Ok(Range { low, high })
 }
 
 /// Whether some schedule meets the bound, by the solver of the number of late jobs.
@@ -145,6 +122,43 @@ fn halved(range: Range, middle: i64, met: bool) -> Range
     }
 }
 
+/// The part of the range in which the least bound lies, by whether `middle` can be met.
+fn asked<S: Solver>(
+    inner: &S,
+    alloc: Global,
+    inst: &Instance,
+    range: Range,
+    middle: i64,
+) -> Result<Range, NoMemory>
+    requires solves { S.solved inner.now ≡ late_count_class }
+    requires inner { Inner inst.now }
+    requires class { inst.now.class ≡ lateness_class }
+    requires fits { HoldsSqueezed (S.can_solve inner.now) inst.now }
+    requires range { IsRange inst.now range }
+    requires low { range.low ≤ℤ middle }
+    requires high { middle <ℤ range.high }
+    ensures range { IfOk result (IsRange inst.now) }
+    ensures fewer { IfOk result (IsShorter range) }
+{
+    let met = can_meet(inner, alloc, inst, middle)?;
+    Ok(halved(range, middle, met))
+}
+
+/// The range after the first bound is asked for. A schedule by due dates is mostly best, so it is the one below its lateness.
+fn range_asked<S: Solver>(inner: &S, alloc: Global, inst: &Instance) -> Result<Range, NoMemory>
+    requires solves { S.solved inner.now ≡ late_count_class }
+    requires inner { Inner inst.now }
+    requires class { inst.now.class ≡ lateness_class }
+    requires fits { HoldsSqueezed (S.can_solve inner.now) inst.now }
+    ensures { IfOk result (IsRange inst.now) }
+{
+    let range = first_range(alloc, inst)?;
+    if range.low < range.high {
+        return asked(inner, alloc, inst, range, range.high - 1);
+    }
+    Ok(range)
+}
+
 /// The least bound that some schedule meets.
 fn least_bound<S: Solver>(inner: &S, alloc: Global, inst: &Instance) -> Result<i64, NoMemory>
     requires solves { S.solved inner.now ≡ late_count_class }
@@ -153,11 +167,9 @@ fn least_bound<S: Solver>(inner: &S, alloc: Global, inst: &Instance) -> Result<i
     requires fits { HoldsSqueezed (S.can_solve inner.now) inst.now }
     ensures { IfOk result (λ bound. IsLeastBound inst.now bound × LiesWithin greatest_bound bound) }
 {
-    let mut range = first_range(inst);
+    let mut range = range_asked(inner, alloc, inst)?;
     while range.low < range.high {
-        let middle = middle_of(range);
-        let met = can_meet(inner, alloc, inst, middle)?;
-        range = halved(range, middle, met);
+        range = asked(inner, alloc, inst, range, middle_of(range))?;
     }
     Ok(range.high)
 }

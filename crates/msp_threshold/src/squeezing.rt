@@ -11,7 +11,7 @@ use msp_route::recast;
 use std::alloc::Global;
 
 /// The class of squeezed instances: `P|r,p=1|sumU`.
-const LATE_COUNT_CLASS: Class = Class {
+pub const LATE_COUNT_CLASS: Class = Class {
     env: Env::P,
     cut: false,
     order: Order::Free,

@@ -1,4 +1,4 @@
-use Rattle.std.proofs.Common.{◌≡◌, rules, All, to_z, of_z, ap, sym, subst}
+use Rattle.std.proofs.Common.{rules, All, to_z, of_z, ap, sym, subst}
 use Rattle.std.specs.Prelude.{IfSome, ◌↔◌}
 use Rattle.std.specs.Int.{w64}
 use Rattle.std.proofs.lemmas.Int.{to_z-of_z}
