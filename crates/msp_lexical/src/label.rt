@@ -1,6 +1,7 @@
 // The labels of the jobs.
-ghost use Rattle.std.specs.Prelude.{◌≡◌, ◌==◌, ◌&&◌, ◌++◌, ℕ, ◌<◌, ◌≤◌, false, not, length, filter, slice_index, slice_index_or, All, IfOk, OnOk, ◌∷◌, [], if◌then◌else◌};
-ghost use Rattle.std.specs.List.{list_any, range_with_len};
+ghost use Rattle.std.specs.Prelude.{◌≡◌, ◌++◌, ℕ, ◌<◌, ◌≤◌, not, length, filter, slice_index, All, IfOk, IsPermutation, OnOk, ◌∷◌, [], if◌then◌else◌};
+ghost use Rattle.std.specs.List.{range_with_len};
+ghost use Rattle.std.specs.List.Sorted.{IsNonDecreasingBy};
 ghost use Rattle.msp_instance.specs.declared.ranges.TheConstants.{MOST_JOBS};
 ghost use Rattle.msp_instance.specs.Conditions.{Inner};
 ghost use Rattle.msp_schedule.specs.Blocks.{HasNoSuccessor};
@@ -8,25 +9,15 @@ ghost use Rattle.msp_instance.specs.Paths.{leads, ShowsPaths};
 ghost use Rattle.msp_lexical.specs.Steps.{HasSuccessor, AreLabels, HasLabels};
 
 use msp_class::NoMemory;
-use msp_instance::{Arc, Instance, MOST_JOBS, Paths};
-use msp_schedule::{mark, marks_of, no_marks};
+use msp_instance::{Arc, Instance, MOST_JOBS, Paths, arcs_by_before};
+use msp_schedule::{leads_to_marked, marks_of};
 use std::alloc::Global;
 
-/// A mark for each job from which an arc leads to a job that is left.
-fn waiting_jobs(arcs: &[Arc], is_left: &[bool; MOST_JOBS]) -> [bool; MOST_JOBS]
-    requires { All (λ a. (a.before < MOST_JOBS) × (a.after < MOST_JOBS)) arcs.now }
-    ensures { (j : ℕ) → j < MOST_JOBS → slice_index_or result j false ≡ list_any (λ a. a.before == j && slice_index_or is_left.now a.after false) arcs.now }
-{
-    let mut waiting = no_marks();
-    for arc in arcs {
-        mark(&mut waiting, arc.before, is_left[arc.after as usize]);
-    }
-    waiting
-}
-
-/// The place of the first job left from which no arc leads to another.
-fn first_free(inst: &Instance, left: &[u32]) -> usize
+/// The place of the first job left from which no arc leads to another, with the arcs by their jobs before.
+fn first_free(inst: &Instance, sorted: &[Arc], left: &[u32]) -> usize
     requires inner { Inner inst.now }
+    requires same { IsPermutation inst.now.arcs sorted.now }
+    requires sorted { IsNonDecreasingBy (λ a. a.before) sorted.now }
     requires some { 0 < length left.now }
     requires inside { All (λ j. j < length inst.now.jobs) left.now }
     ensures place { result < length left.now }
@@ -34,9 +25,8 @@ fn first_free(inst: &Instance, left: &[u32]) -> usize
     ensures waits { (q : ℕ) → q < result → HasSuccessor inst.now left.now (slice_index left.now q) }
 {
     let is_left = marks_of(left);
-    let waiting = waiting_jobs(inst.arcs.as_slice(), &is_left);
     for place in 0..left.len() {
-        if !waiting[left[place] as usize] {
+        if !leads_to_marked(sorted, &is_left, left[place]) {
             return place;
         }
     }
@@ -88,9 +78,7 @@ fn all_jobs(alloc: Global, count: usize) -> Result<Vec<u32>, NoMemory>
 {
     let mut all = Vec::new(alloc);
     for job in 0..count as u32 {
-        if all.push(job).is_err() {
-            return Err(NoMemory);
-        }
+        all.push(job)?;
     }
     Ok(all)
 }
@@ -113,11 +101,12 @@ fn labels_by_paths(
     requires paths { ShowsPaths inst.now paths.now }
     ensures { IfOk result (λ labels. AreLabels inst.now (leads paths.now) (slice_index labels)) }
 {
+    let sorted = arcs_by_before(alloc, inst.arcs.as_slice())?;
     let mut labels = no_labels();
     let mut left = all_jobs(alloc, inst.jobs.len())?;
     let mut label: u32 = 0;
     while !left.is_empty() {
-        let place = first_free(inst, left.as_slice());
+        let place = first_free(inst, sorted.as_slice(), left.as_slice());
         let job = left.remove(place);
         left = parted(alloc, left.as_slice(), paths, job)?;
         labels[job as usize] = label;

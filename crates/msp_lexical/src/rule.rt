@@ -36,12 +36,7 @@ fn ranks_of(alloc: Global, count: u32, labels: &[u32; MOST_JOBS]) -> Result<Vec<
 {
     let mut ranks = Vec::new(alloc);
     for job in 0..count {
-        if ranks
-            .push(u64::from(count - 1 - labels[job as usize]))
-            .is_err()
-        {
-            return Err(NoMemory);
-        }
+        ranks.push(u64::from(count - 1 - labels[job as usize]))?;
     }
     Ok(ranks)
 }

@@ -1,10 +1,11 @@
 -- The search for the job that ends last: one more job, and what was found among all.
-use Rattle.std.proofs.Common.{◌≡◌, ℕ, ◌+◌, ◌<◌, ◌≤◌, ◌⊎◌, inl, inr, Bool, true, false, ◌==◌, ◌&&◌, List, length, get_or, take, Option, Some, None, IfSome, ℤ, ◌<ℤ◌, All, sym, ap, ◌∙◌, subst, arith, slice_index_or}
+use Rattle.std.proofs.Common.{◌≡◌, ℕ, ◌+◌, ◌<◌, ◌≤◌, ◌⊎◌, inl, inr, Bool, true, false, ◌==◌, ◌&&◌, List, length, get_or, take, Option, Some, None, IfSome, ℤ, ◌<ℤ◌, All, IsPermutation, sym, ap, ◌∙◌, subst, arith, slice_index_or}
 use Rattle.std.specs.List.{list_any}
 use Rattle.std.proofs.lemmas.Bool.{cases_Bool, eqb-true, eq-eqb, false≢true}
 use Rattle.std.proofs.lemmas.Int.{ints}
 use Rattle.std.proofs.lemmas.List.{take_all, take_more}
 use Rattle.std.proofs.lemmas.List.Folds.{list_any_none, list_any_at}
+use Rattle.std.proofs.lemmas.List.Sorted.{list_any-IsPermutation}
 use Rattle.std.proofs.lemmas.List.Elements.{All-push, All-contains}
 use Rattle.msp_instance.specs.declared.Arc.{Arc}
 use Rattle.msp_instance.specs.declared.Instance.{Instance}
@@ -73,25 +74,25 @@ module _ (jobs : List ℕ) (blocked : ℕ → Bool) (cost : ℕ → ℤ) (k : �
       chosen = elim either [ inl e ↦ subst Chosen (sym e) newest | inr e ↦ kept best e h ]
 
 -- ---- marks and successors
-module _ (i : Instance) (left : List ℕ) (marks blocked : List Bool) (arcs : List Arc) (same : arcs ≡ i.arcs) (few : length i.jobs ≤ 400) (ends : All (λ a. (a.before < length i.jobs) × (a.after < length i.jobs)) i.arcs)
+module _ (i : Instance) (left : List ℕ) (marks : List Bool) (blocked : ℕ → Bool) (arcs : List Arc) (same : IsPermutation i.arcs arcs) (few : length i.jobs ≤ 400) (ends : All (λ a. (a.before < length i.jobs) × (a.after < length i.jobs)) i.arcs)
     (marked : (j : ℕ) → j < 400 → slice_index_or marks j false ≡ list_any (λ k. k == j) left)
-    (blocked_is : (j : ℕ) → j < 400 → slice_index_or blocked j false ≡ list_any (λ a. a.before == j && slice_index_or marks a.after false) arcs) where
+    (blocked_is : (j : ℕ) → j < 400 → blocked j ≡ list_any (λ a. a.before == j && slice_index_or marks a.after false) arcs) where
   abbrev leads : ℕ → Arc → Bool
   leads j a = a.before == j && slice_index_or marks a.after false
 
-  in_arcs : (j : ℕ) → j < length i.jobs → slice_index_or blocked j false ≡ list_any (leads j) i.arcs
-  in_arcs j l = blocked_is j (omega (arith, l, few)) ∙ ap (list_any (leads j)) same
+  in_arcs : (j : ℕ) → j < length i.jobs → blocked j ≡ list_any (leads j) i.arcs
+  in_arcs j l = blocked_is j (omega (arith, l, few)) ∙ sym (list_any-IsPermutation (leads j) i.arcs arcs same)
 
   mark_is : All (λ a. slice_index_or marks a.after false ≡ list_any (λ k. k == a.after) left) i.arcs
   mark_is k d l = marked (get_or i.arcs k d).after (omega (arith, (ends k d l).1, few))
 
-  pub free_from_open : (j : ℕ) → j < length i.jobs → slice_index_or blocked j false ≡ false → HasNoSuccessor i left j
+  pub free_from_open : (j : ℕ) → j < length i.jobs → blocked j ≡ false → HasNoSuccessor i left j
   free_from_open j inside unmarked k d l e c =
       let a = get_or i.arcs k d in
       let yes : leads j a ≡ true = ap (λ b. b && slice_index_or marks a.after false) (eq-eqb a.before j e) ∙ mark_is k d l ∙ list_any-from_Contains left a.after c in
       false≢true (sym unmarked ∙ in_arcs j inside ∙ list_any_at (leads j) i.arcs k d l yes)
 
-  pub open_from_free : (j : ℕ) → j < length i.jobs → HasNoSuccessor i left j → slice_index_or blocked j false ≡ false
+  pub open_from_free : (j : ℕ) → j < length i.jobs → HasNoSuccessor i left j → blocked j ≡ false
   open_from_free j inside free = in_arcs j inside ∙ list_any_none (leads j) i.arcs (λ k d l. one k d l (cases_Bool (a_before k d)) (cases_Bool (slice_index_or marks (get_or i.arcs k d).after false)))
     where
       a_before : ℕ → Arc → Bool
@@ -104,18 +105,18 @@ module _ (i : Instance) (left : List ℕ) (marks blocked : List Bool) (arcs : Li
 
   module _ (inside : All (λ j. j < length i.jobs) left) where
     -- of the jobs left the one latest in a forward list has no arc to a job left
-    pub some_open : IsAcyclic i → 0 < length left → All (λ j. slice_index_or blocked j false ≡ true) (take (length left) left) → ⊥
+    pub some_open : IsAcyclic i → 0 < length left → All (λ j. blocked j ≡ true) (take (length left) left) → ⊥
     some_open acyclic some h =
         let (rank, rises) = ranked i acyclic in
         let (j, c, top) = greatest_by-reached rank left some in
         let free : HasNoSuccessor i left j = λ k d l e c'. last rank (get_or i.arcs k d) j (rises k d l) e top (greatest_by-contains rank left (get_or i.arcs k d).after c') in
-        let shut : All (λ j. slice_index_or blocked j false ≡ true) left = subst (All (λ j. slice_index_or blocked j false ≡ true)) (take_all (length left) left (omega arith)) h in
-        false≢true (sym (open_from_free j (All-contains (λ j. j < length i.jobs) left j inside c) free) ∙ All-contains (λ j. slice_index_or blocked j false ≡ true) left j shut c)
+        let shut : All (λ j. blocked j ≡ true) left = subst (All (λ j. blocked j ≡ true)) (take_all (length left) left (omega arith)) h in
+        false≢true (sym (open_from_free j (All-contains (λ j. j < length i.jobs) left j inside c) free) ∙ All-contains (λ j. blocked j ≡ true) left j shut c)
       where
         last : (rank : ℕ → ℕ) (a : Arc) (j : ℕ) → rank a.before < rank a.after → a.before ≡ j → rank j ≡ greatest_by rank left → rank a.after ≤ greatest_by rank left → ⊥
         last rank a j r e t g = omega (arith, r, ap rank e, t, g)
 
-    pub ends_last : (c : Candidate) (moment : ℕ) → IsFirstCandidate left (λ j. slice_index_or blocked j false) (λ j. cost_at i j moment) (length left) c → EndsAt i moment left (get_or left c.place 0)
+    pub ends_last : (c : Candidate) (moment : ℕ) → IsFirstCandidate left blocked (λ j. cost_at i j moment) (length left) c → EndsAt i moment left (get_or left c.place 0)
     ends_last c moment h = subst (EndsAt i moment left) h.is (record {
       free = free_from_open c.job here h.free;
       least = λ k d l free. in_costs (get_or left k d) (all k d l (open_from_free (get_or left k d) (inside k d l) free));
@@ -124,8 +125,8 @@ module _ (i : Instance) (left : List ℕ) (marks blocked : List Bool) (arcs : Li
         here : c.job < length i.jobs
         here = subst (λ x. x < length i.jobs) (sym h.is) (inside c.place 0 h.early)
 
-        all : All (λ x. slice_index_or blocked x false ≡ false → Precedes c (cost_at i x moment) x) left
-        all = subst (All (λ x. slice_index_or blocked x false ≡ false → Precedes c (cost_at i x moment) x)) (take_all (length left) left (omega arith)) h.first
+        all : All (λ x. blocked x ≡ false → Precedes c (cost_at i x moment) x) left
+        all = subst (All (λ x. blocked x ≡ false → Precedes c (cost_at i x moment) x)) (take_all (length left) left (omega arith)) h.first
 
         in_costs : (x : ℕ) → Precedes c (cost_at i x moment) x → CostsLess i moment c.job x
         in_costs x p = elim p [ inl l ↦ inl (subst (λ z. z <ℤ cost_at i x moment) h.price l) | inr q ↦ inr (sym h.price ∙ q.0, q.1) ]

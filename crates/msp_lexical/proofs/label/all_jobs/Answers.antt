@@ -1,5 +1,5 @@
-use Rattle.msp_schedule.proofs.lists.Pushes.{pushed, range-next}
+use Rattle.msp_schedule.proofs.lists.Pushes.{range-next}
 use Rattle.msp_lexical.proofs.label.all_jobs.Goals as goal
 
 pub loop-job-preserved : goal.loop-job-preserved
-loop-job-preserved c = range-next _ _ _ (pushed _ _ _ _ _ c.push.ensures.items c.is_err.ensures.negation c.if-is_err.false) c.loop-job.invariant
+loop-job-preserved c = range-next _ _ _ c.in_ok-push.ensures.items c.loop-job.invariant

@@ -15,16 +15,16 @@ pub loop-alloc-smaller : goal.loop-alloc-smaller
 loop-alloc-smaller c =
     let i = c.args.inst.now in
     let inner = c.requires.inner in
-    (labelled i (leads c.args.paths.now) c.requires.paths inner.conditions.ends inner.acyclic inner.conditions.few c.loop-alloc.label c.loop-alloc.labels c.loop-alloc.left.items c.as_slice.result.now c.remove-job.new.self.items c.as_slice-in-loop-alloc.result.now c.in_ok-left-2.left.items c.first_free-place.result c.remove-job.result
-    c.loop-alloc.invariant.steps c.loop-alloc.invariant.whole c.as_slice.ensures.value c.first_free-place.ensures.place c.first_free-place.ensures.free c.first_free-place.ensures.waits c.remove-job.ensures.value c.remove-job.ensures.items c.as_slice-in-loop-alloc.ensures.value c.in_ok-left-2.ensures).fewer
+    (labelled i (leads c.args.paths.now) c.requires.paths inner.conditions.ends inner.acyclic inner.conditions.few c.loop-alloc.label c.loop-alloc.labels c.loop-alloc.left.items c.as_slice-in-loop-alloc-2.result.now c.remove-job.new.self.items c.as_slice-in-loop-alloc-3.result.now c.in_ok-left-2.left.items c.first_free-place.result c.remove-job.result
+    c.loop-alloc.invariant.steps c.loop-alloc.invariant.whole c.as_slice-in-loop-alloc-2.ensures.value c.first_free-place.ensures.place c.first_free-place.ensures.free c.first_free-place.ensures.waits c.remove-job.ensures.value c.remove-job.ensures.items c.as_slice-in-loop-alloc-3.ensures.value c.in_ok-left-2.ensures).fewer
 
 pub loop-alloc-preserved : goal.loop-alloc-preserved
 loop-alloc-preserved c =
     let i = c.args.inst.now in
     let inner = c.requires.inner in
     record {
-      steps = (labelled i (leads c.args.paths.now) c.requires.paths inner.conditions.ends inner.acyclic inner.conditions.few c.loop-alloc.label c.loop-alloc.labels c.loop-alloc.left.items c.as_slice.result.now c.remove-job.new.self.items c.as_slice-in-loop-alloc.result.now c.in_ok-left-2.left.items c.first_free-place.result c.remove-job.result
-          c.loop-alloc.invariant.steps c.loop-alloc.invariant.whole c.as_slice.ensures.value c.first_free-place.ensures.place c.first_free-place.ensures.free c.first_free-place.ensures.waits c.remove-job.ensures.value c.remove-job.ensures.items c.as_slice-in-loop-alloc.ensures.value c.in_ok-left-2.ensures).next;
+      steps = (labelled i (leads c.args.paths.now) c.requires.paths inner.conditions.ends inner.acyclic inner.conditions.few c.loop-alloc.label c.loop-alloc.labels c.loop-alloc.left.items c.as_slice-in-loop-alloc-2.result.now c.remove-job.new.self.items c.as_slice-in-loop-alloc-3.result.now c.in_ok-left-2.left.items c.first_free-place.result c.remove-job.result
+          c.loop-alloc.invariant.steps c.loop-alloc.invariant.whole c.as_slice-in-loop-alloc-2.ensures.value c.first_free-place.ensures.place c.first_free-place.ensures.free c.first_free-place.ensures.waits c.remove-job.ensures.value c.remove-job.ensures.items c.as_slice-in-loop-alloc-3.ensures.value c.in_ok-left-2.ensures).next;
       whole = length-set c.loop-alloc.labels c.remove-job.result c.loop-alloc.label ∙ c.loop-alloc.invariant.whole;
     }
 
