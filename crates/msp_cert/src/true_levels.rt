@@ -12,7 +12,8 @@ use msp_class::NoMemory;
 use msp_instance::{Arc, Instance, OrderFault, forward};
 use std::alloc::Global;
 
-fn no_heights(alloc: Global, count: usize) -> Result<Vec<u32>, NoMemory>
+/// A 0 for each of so many jobs.
+fn all_zero(alloc: Global, count: usize) -> Result<Vec<u32>, NoMemory>
     ensures len { IfOk result (λ all. length all.items ≡ count) }
     ensures none { IfOk result (λ all. (j : ℕ) → of_job all.items j ≡ 0) }
 {
@@ -42,7 +43,7 @@ fn heights_of(alloc: Global, inst: &Instance) -> Result<Vec<u32>, NoMemory>
         Err(OrderFault::Cycle { .. }) => unreachable!(),
         Err(OrderFault::Memory) => return Err(NoMemory),
     };
-    let mut heights = no_heights(alloc, inst.jobs.len())?;
+    let mut heights = all_zero(alloc, inst.jobs.len())?;
     put_heights(order.as_slice(), &mut heights);
     Ok(heights)
 }
@@ -78,8 +79,8 @@ fn put_levels(sorted: &[Arc], heights: &[u32], level: &mut Vec<u32>)
     ensures len { length level.new.items ≡ length level.old.items }
     ensures levels { AreBalanced sorted.now (of_job level.new.items) }
 {
-    for k in 0..sorted.len() {
-        raise(level, sorted[k]);
+    for arc in sorted {
+        raise(level, *arc);
     }
 }
 
@@ -90,7 +91,7 @@ pub(crate) fn levels_of_all(alloc: Global, inst: &Instance) -> Result<Vec<u32>, 
 {
     let heights = heights_of(alloc, inst)?;
     let sorted = lowest_first(alloc, inst.arcs.as_slice(), heights.as_slice())?;
-    let mut level = no_heights(alloc, inst.jobs.len())?;
+    let mut level = all_zero(alloc, inst.jobs.len())?;
     put_levels(sorted.as_slice(), heights.as_slice(), &mut level);
     Ok(level)
 }

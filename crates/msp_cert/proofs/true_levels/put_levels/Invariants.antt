@@ -4,8 +4,8 @@ use Rattle.msp_cert.proofs.TrueLevels.{AreRaised}
 use Rattle.msp_cert.proofs.true_levels.put_levels.Given as goal
 
 -- the levels by the arcs so far
-abbrev pub invariant-loop-k : goal.invariant-loop-k
-invariant-loop-k l = record {
+abbrev pub invariant-loop-arc : goal.invariant-loop-arc
+invariant-loop-arc l = record {
   wide : length l.level.items ≡ length l.fn.level.items;
-  raised : AreRaised (of_job l.heights) l.sorted l.k l.level.items;
+  raised : AreRaised (of_job l.heights) l.sorted l.arc-index l.level.items;
 }
