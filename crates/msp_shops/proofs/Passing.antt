@@ -12,7 +12,7 @@ use Rattle.msp_schedule.proofs.feasible.Series.{AllPairs-append}
 use Rattle.msp_shops.specs.declared.pass.JobTimes.{JobTimes}
 use Rattle.msp_shops.specs.declared.pass.Moments.{Moments}
 use Rattle.msp_shops.specs.declared.pass.Stage.{Stage}
-use Rattle.msp_shops.specs.Pass.{whole_piece, part, IsOf, HasPiece, machine_of, IsTidy, IsCritical, IsPass}
+use Rattle.msp_shops.specs.Pass.{whole_piece, part, IsOf, HasPiece, machine_of, IsTidy, IsCritical, IsPass, HasPassed}
 
 -- ---- the piece of an operation, where it takes time
 pub All-part : (P : Piece → Type 0) (job : ℕ) (stage : Stage) (begin time : ℕ) → (0 < time → P (whole_piece job stage begin time)) → All P (part job stage begin time)
@@ -208,10 +208,6 @@ module _ (first second : Stage) (machines : first.machine ≢ second.machine) (f
       }
 
 -- ---- as the code has it
--- some pieces have been put behind those that were there, for the first jobs of the list
-abbrev pub HasPassed : Stage → Stage → List JobTimes → Moments → Moments → List Piece → List Piece → Type 0
-HasPassed first second jobs from to old new = (laid : List Piece) × (new ≡ old ++ laid) × IsPass first second jobs from to laid
-
 pub HasPassed-none : (first second : Stage) → first.machine ≢ second.machine → (jobs : List JobTimes) (from : Moments) (ps : List Piece) → HasPassed first second (take 0 jobs) from from ps ps
 HasPassed-none first second machines jobs from ps = ([], sym (append-nil ps), IsPass-none first second machines from)
 

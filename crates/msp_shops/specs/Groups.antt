@@ -1,5 +1,6 @@
 -- Instances with two machines in series, and their jobs by the machine on which they begin. No public contract cites this file.
-use Rattle.std.specs.Prelude.{◌≡◌, ◌≢◌, ℕ, ◌-◌, ◌<◌, ◌≤◌, ◌⊎◌, ◌==◌, Bool, false, List, [], length, All, AllPairs, Contains}
+use Rattle.std.specs.Prelude.{◌≡◌, ◌≢◌, ℕ, ◌-◌, ◌<◌, ◌≤◌, ◌⊎◌, ◌==◌, Bool, false, List, [], length, map, filter, All, AllPairs, Contains}
+use Rattle.std.specs.List.{range_with_len}
 use Rattle.msp_class.specs.declared.class.Crit.TheVariants.{Cmax}
 use Rattle.msp_class.specs.declared.environments.EnvKind.TheVariants.{FlowShop, JobShop}
 use Rattle.msp_class.specs.Env.{kind_of}
@@ -16,6 +17,10 @@ route_times i j = times_at i 0 1 j
 
 abbrev pub begins_on : Instance → ℕ → ℕ → Bool
 begins_on i machine j = (need_at i j 0).machine == machine
+
+-- The times of the jobs that begin on the machine, in order of number.
+abbrev pub times_from : Instance → ℕ → List JobTimes
+times_from i machine = map (route_times i) (filter (begins_on i machine) (range_with_len 0 (length i.jobs)))
 
 -- A job has one operation, or two on the two machines in turn.
 pub record HasTwoMachines (i : Instance) (j : ℕ) : Type 0 where

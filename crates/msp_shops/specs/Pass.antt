@@ -66,3 +66,7 @@ pub record IsPass (first second : Stage) (jobs : List JobTimes) (from to : Momen
   pub later : from.second ≤ to.second
   pub few : length pieces ≤ 2 * length jobs
   pub small : (to.first ≤ from.first + length jobs * GREATEST) × (to.second ≤ from.first + from.second + 2 * (length jobs * GREATEST))
+
+-- The jobs have passed, and their pieces stand behind those that were there.
+abbrev pub HasPassed : Stage → Stage → List JobTimes → Moments → Moments → List Piece → List Piece → Type 0
+HasPassed first second jobs from to old new = (laid : List Piece) × (new ≡ old ++ laid) × IsPass first second jobs from to laid

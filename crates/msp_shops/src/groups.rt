@@ -1,9 +1,8 @@
 // The jobs by the machine on which they begin, and their times.
-ghost use Rattle.std.specs.Prelude.{◌≡◌, ◌≤◌, ◌<◌, ◌*◌, ◌++◌, [], ◌∷◌, if◌then◌else◌, length, map, filter, slice_index_or, All, IfOk, OnOk, sum_by};
-ghost use Rattle.std.specs.List.{range_with_len};
+ghost use Rattle.std.specs.Prelude.{◌≡◌, ◌≤◌, ◌<◌, ◌*◌, ◌++◌, [], ◌∷◌, if◌then◌else◌, length, slice_index_or, All, IfOk, OnOk, sum_by};
 ghost use Rattle.msp_instance.specs.declared.ranges.TheConstants.{GREATEST, MOST_JOBS};
 ghost use Rattle.msp_instance.specs.Instance.{no_need, need_at};
-ghost use Rattle.msp_shops.specs.Groups.{route_times, begins_on, IsTwoMachineShop, IsJohnsonGroup};
+ghost use Rattle.msp_shops.specs.Groups.{route_times, begins_on, times_from, IsTwoMachineShop, IsJohnsonGroup};
 
 use crate::order::put_in_order;
 use crate::pass::JobTimes;
@@ -61,7 +60,7 @@ fn put_job(
 /// The jobs that begin on the machine, in order of number.
 fn jobs_from(alloc: Global, inst: &Instance, machine: u32) -> Result<Vec<JobTimes>, NoMemory>
     requires shop { IsTwoMachineShop inst.now }
-    ensures { IfOk result (λ ts. ts.items ≡ map (route_times inst.now) (filter (begins_on inst.now machine) (range_with_len 0 (length inst.now.jobs)))) }
+    ensures { IfOk result (λ ts. ts.items ≡ times_from inst.now machine) }
 {
     let mut times = Vec::new(alloc);
     for k in 0..inst.jobs.len() {

@@ -1,8 +1,7 @@
 // Jobs that pass one after another over a first and then over a second machine.
-ghost use Rattle.std.specs.Prelude.{◌≡◌, ◌≢◌, ◌*◌, ◌≤◌, ◌++◌, List as Items, length, All, AllPairs, IfOk, OnOk};
+ghost use Rattle.std.specs.Prelude.{◌≡◌, ◌≢◌, ◌*◌, ◌≤◌, ◌++◌, length, All, AllPairs, IfOk, OnOk};
 ghost use Rattle.msp_instance.specs.declared.ranges.TheConstants.{GREATEST, MOST_JOBS};
-ghost use Rattle.msp_schedule.specs.declared.Piece.{Piece as PieceValue};
-ghost use Rattle.msp_shops.specs.Pass.{IsPass, greatest_begin, part};
+ghost use Rattle.msp_shops.specs.Pass.{HasPassed, greatest_begin, part};
 
 use msp_class::{List, NoMemory};
 use msp_schedule::Piece;
@@ -69,7 +68,7 @@ pub fn pass(
     requires once { AllPairs (λ a b. a.job ≢ b.job) jobs.now }
     requires times { All (λ j. (j.first ≤ GREATEST) × (j.second ≤ GREATEST)) jobs.now }
     requires early { (from.first ≤ GREATEST * MOST_JOBS) × (from.second ≤ GREATEST * MOST_JOBS) }
-    ensures { IfOk result (λ to. (laid : Items PieceValue) × (pieces.new ≡ pieces.old ++ laid) × IsPass first second jobs.now from to laid) }
+    ensures { IfOk result (λ to. HasPassed first second jobs.now from to pieces.old pieces.new) }
 {
     let mut at = from;
     for job in jobs {

@@ -1,9 +1,10 @@
 -- Jobs that are joined into blocks, and the blocks that Horn's rule leaves. No public contract cites this file.
-use Rattle.std.specs.Prelude.{◌≢◌, ℕ, ◌+◌, ◌≤◌, List, [], ◌∷◌, length, slice_index_or, All, AllPairs, Contains, IsPermutation}
+use Rattle.std.specs.Prelude.{◌≡◌, ◌≢◌, ℕ, ◌+◌, ◌*◌, ◌<◌, ◌≤◌, ◌⊎◌, List, [], ◌∷◌, length, slice_index_or, All, AllPairs, Contains, IsPermutation}
 use Rattle.std.specs.List.{concat}
 use Rattle.msp_class.proofs.Sums.{OnceBelow}
 use Rattle.msp_instance.specs.declared.Instance.{Instance}
 use Rattle.msp_schedule.specs.Rows.{time_at, seq}
+use Rattle.msp_trees.specs.declared.joining.Load.{Load}
 use Rattle.msp_trees.specs.Horn.{before, weight_at}
 
 -- No job stands earlier than the one before it.
@@ -38,3 +39,7 @@ pub record IsCheapest (n : ℕ) (before p w : ℕ → ℕ) (order : List ℕ) : 
   pub once : OnceBelow n order
   pub forward : IsForward before order
   pub least : (other : List ℕ) → OnceBelow n other → IsForward before other → seq p w 0 order ≤ seq p w 0 other
+
+-- The block is of greater weight for its time, or of as great a one and its first job has no greater number.
+abbrev pub GoesNoLater : Load → Load → Type 0
+GoesNoLater x y = (y.weight * x.time < x.weight * y.time) ⊎ ((y.weight * x.time ≡ x.weight * y.time) × (x.first ≤ y.first))

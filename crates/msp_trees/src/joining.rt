@@ -4,9 +4,8 @@ ghost use Rattle.std.specs.List.{concat};
 ghost use Rattle.msp_instance.specs.declared.ranges.TheConstants.{GREATEST, MOST_JOBS};
 ghost use Rattle.msp_instance.specs.Conditions.{Inner};
 ghost use Rattle.msp_schedule.specs.Rows.{time_at};
-ghost use Rattle.msp_trees.specs.Horn.{horn_class};
-ghost use Rattle.msp_trees.specs.Horn.{before, weight_at, time_of, weight_of, GoesNext, Joins, JoinTo, single_blocks};
-ghost use Rattle.msp_trees.specs.Joining.{AreJoined};
+ghost use Rattle.msp_trees.specs.Horn.{horn_class, before, weight_at, time_of, weight_of, GoesNext, Joins, JoinTo, single_blocks};
+ghost use Rattle.msp_trees.specs.Joining.{AreJoined, GoesNoLater};
 
 use msp_class::{List, NoMemory};
 use msp_instance::Instance;
@@ -87,8 +86,8 @@ fn load_of(inst: &Instance, jobs: &[u32], place: usize) -> Load
 /// The one of two blocks that is joined first: the one of greater weight for its time, ties to the lesser number of the first job.
 fn better(a: Load, b: Load) -> Load
     ensures either { (result ≡ a) ⊎ (result ≡ b) }
-    ensures a { (a.weight * result.time < result.weight * a.time) ⊎ ((a.weight * result.time ≡ result.weight * a.time) × (result.first ≤ a.first)) }
-    ensures b { (b.weight * result.time < result.weight * b.time) ⊎ ((b.weight * result.time ≡ result.weight * b.time) × (result.first ≤ b.first)) }
+    ensures a { GoesNoLater result a }
+    ensures b { GoesNoLater result b }
 {
     let for_a = u128::from(a.weight) * u128::from(b.time);
     let for_b = u128::from(b.weight) * u128::from(a.time);

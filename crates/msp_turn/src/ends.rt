@@ -1,10 +1,10 @@
 // The jobs in the order in which a schedule ends them.
-ghost use Rattle.std.specs.Prelude.{◌≡◌, ◌<◌, ◌≤◌, length, map, slice_index_or, slice_set, ℤ, pos, ◌≤ℤ◌, All, AllPairs, IfOk, IsPermutation};
-ghost use Rattle.std.specs.Int.{int_max};
+ghost use Rattle.std.specs.Prelude.{◌≡◌, ◌<◌, ◌≤◌, length, map, pos, ◌≤ℤ◌, All, AllPairs, IfOk, IsPermutation};
 ghost use Rattle.std.specs.List.{range_with_len};
 ghost use Rattle.std.specs.Ordering.{int_cmp, nat_cmp, ordering_then};
-ghost use Rattle.msp_schedule.specs.Cost.{last_end, end_of};
+ghost use Rattle.msp_schedule.specs.Cost.{last_end};
 ghost use Rattle.msp_turn.specs.declared.ends.End.{End as EndOf};
+ghost use Rattle.msp_turn.specs.Ends.{ends_at, raised_to, EndsRise};
 
 use msp_class::NoMemory;
 use msp_schedule::{Piece, Schedule};
@@ -20,14 +20,14 @@ struct End {
 
 /// The ends of the jobs of no pieces.
 fn no_ends(alloc: Global, count: u32) -> Result<Vec<End>, NoMemory>
-    ensures { IfOk result (λ ends. ends.items ≡ map (λ j. record { moment = pos 0; job = j }) (range_with_len 0 count)) }
+    ensures { IfOk result (λ ends. ends.items ≡ ends_at (λ _. pos 0) count) }
 {
     Ok((0..count).map(|job| End { moment: 0, job }).collect(alloc)?)
 }
 
 fn raise(ends: &mut [End], piece: &Piece)
     requires { piece.now.job < length ends.old }
-    ensures { (d : EndOf) → let end = slice_index_or ends.old piece.now.job d in ends.new ≡ slice_set ends.old piece.now.job (record end { moment = int_max end.moment piece.now.to }) }
+    ensures { (d : EndOf) → ends.new ≡ raised_to piece.now.to piece.now.job ends.old d }
 {
     let end = &mut ends[piece.job as usize];
     end.moment = end.moment.max(piece.to);
@@ -36,7 +36,7 @@ fn raise(ends: &mut [End], piece: &Piece)
 /// The end of each job, by number, and 0 where a job has no piece.
 fn ends_of(alloc: Global, count: u32, pieces: &[Piece]) -> Result<Vec<End>, NoMemory>
     requires { All (λ p. p.job < count) pieces.now }
-    ensures { IfOk result (λ ends. ends.items ≡ map (λ j. record { moment = last_end pieces.now j; job = j }) (range_with_len 0 count)) }
+    ensures { IfOk result (λ ends. ends.items ≡ ends_at (last_end pieces.now) count) }
 {
     let mut ends = no_ends(alloc, count)?;
     let slice = ends.as_mut_slice();
@@ -74,7 +74,7 @@ pub(crate) fn order_of_ends(
 ) -> Result<Vec<u32>, NoMemory>
     requires { All (λ p. p.job < count) schedule.now.pieces }
     ensures all { IfOk result (λ order. IsPermutation (range_with_len 0 count) order.items) }
-    ensures sorted { IfOk result (λ order. AllPairs (λ a b. end_of schedule.now a ≤ℤ end_of schedule.now b) order.items) }
+    ensures sorted { IfOk result (λ order. EndsRise schedule.now order.items) }
 {
     let mut ends = ends_of(alloc, count, schedule.pieces.as_slice())?;
     sort(&mut ends);

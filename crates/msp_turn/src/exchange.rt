@@ -1,10 +1,10 @@
 // The rows between intrees and outtrees by exchange of times and weights.
-ghost use Rattle.std.specs.Prelude.{◌≡◌, ◌<◌, map, ◌≤ℤ◌, All, AllPairs, IfOk, IsPermutation, IsSome, refl};
+ghost use Rattle.std.specs.Prelude.{◌≡◌, ◌<◌, map, All, IfOk, IsPermutation, IsSome, refl};
 ghost use Rattle.std.specs.List.{range_with_len};
-ghost use Rattle.msp_schedule.specs.Cost.{end_of};
 ghost use Rattle.msp_table.specs.Rows.{goes_of};
 ghost use Rattle.msp_route.specs.Changes.{same_costs};
 ghost use Rattle.msp_route.proofs.Alike.{IsPositive-same};
+ghost use Rattle.msp_turn.specs.Ends.{EndsFall};
 ghost use Rattle.msp_turn.specs.LinedUp.{from_last};
 ghost use Rattle.msp_turn.specs.Exchanged.{IsExchangeable, exchanged_job, exchanged};
 ghost use Rattle.msp_turn.specs.laws.ExchangeRows.{IsForth-exchanged, IsBack-exchanged, exchange_51, exchange_52};
@@ -58,7 +58,7 @@ fn exchanged(alloc: Global, inst: &Instance, row: Row) -> Result<Instance, NoMem
 fn order_from_last(alloc: Global, count: u32, schedule: &Schedule) -> Result<Vec<u32>, NoMemory>
     requires { All (λ p. p.job < count) schedule.now.pieces }
     ensures all { IfOk result (λ order. IsPermutation (range_with_len 0 count) order.items) }
-    ensures sorted { IfOk result (λ order. AllPairs (λ a b. end_of schedule.now b ≤ℤ end_of schedule.now a) order.items) }
+    ensures sorted { IfOk result (λ order. EndsFall schedule.now order.items) }
 {
     let mut order = order_of_ends(alloc, count, schedule)?;
     order.reverse();

@@ -1,5 +1,5 @@
 use Rattle.std.proofs.Common.{take}
-use Rattle.msp_shops.proofs.Passing.{HasPassed}
+use Rattle.msp_shops.specs.Pass.{HasPassed}
 use Rattle.msp_shops.proofs.pass.pass.Given as goal
 
 -- the jobs so far have passed
