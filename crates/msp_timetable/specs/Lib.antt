@@ -1,3 +1,4 @@
 pub mod Passing
 pub mod Split
 pub mod Square
+pub mod Steps

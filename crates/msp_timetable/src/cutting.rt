@@ -1,7 +1,7 @@
 // One slice is cut off the square.
-ghost use Rattle.std.specs.Prelude.{◌≡◌, ◌+◌, ◌-◌, ◌*◌, ◌<◌, ◌≤◌, ◌⊎◌, ℕ, IfOk, true, false, length, slice_set};
-ghost use Rattle.msp_timetable.specs.Passing.{at};
-ghost use Rattle.msp_timetable.specs.Square.{cell_at, stock, stocks, used, used_at, IsSquare, IsPermuted, IsLeastUsed, IsEntries, IsTaken, IsCut};
+ghost use Rattle.std.specs.Prelude.{◌≡◌, ◌<◌, ◌≤◌, IfOk};
+ghost use Rattle.msp_timetable.specs.Square.{IsSquare, IsPermuted, IsLeastUsed, IsEntries, IsTaken, IsCut};
+ghost use Rattle.msp_timetable.specs.Steps.{used_in};
 
 use crate::square::{Square, place};
 use msp_class::List;
@@ -12,7 +12,7 @@ fn in_use(square: &Square, row: usize, column: usize) -> u128
     requires square { IsSquare square.now }
     requires row { row < square.now.size }
     requires column { column < square.now.size }
-    ensures { result ≡ used (cell_at square.now.size square.now.given.items row column) (cell_at square.now.size square.now.padding.items row column) }
+    ensures { result ≡ used_in square.now row column }
 {
     let at = place(square.size, square.size, row, column);
     if square.given[at] > 0 {
@@ -65,7 +65,7 @@ fn take(square: &mut Square, row: usize, column: usize, length: u128)
     requires square { IsSquare square.old }
     requires row { row < square.old.size }
     requires column { column < square.old.size }
-    requires enough { length ≤ used (cell_at square.old.size square.old.given.items row column) (cell_at square.old.size square.old.padding.items row column) }
+    requires enough { length ≤ used_in square.old row column }
     ensures { IsTaken square.old square.new row column length }
 {
     let at = place(square.size, square.size, row, column);

@@ -1,9 +1,10 @@
 // The square is filled: the matrix, and padding that brings each line to the greatest sum of a line.
-ghost use Rattle.std.specs.Prelude.{◌≡◌, ◌+◌, ◌-◌, ◌*◌, ◌<◌, ◌≤◌, ℕ, IfOk, OnOk, length};
+ghost use Rattle.std.specs.Prelude.{◌≡◌, ◌+◌, ◌-◌, ◌*◌, ◌<◌, ◌≤◌, ℕ, IfOk, length};
 ghost use Rattle.msp_class.specs.Sums.{total_below};
 ghost use Rattle.msp_timetable.specs.Passing.{at};
 ghost use Rattle.msp_timetable.specs.Split.{greatest_sum, IsMatrix};
-ghost use Rattle.msp_timetable.specs.Square.{cell_at, stocks, row_total, column_total, IsSpread, IsSpreadRow, HasSmallLines, IsGreatest, IsLacking, IsCornerFilled, IsPadding, IsFilled};
+ghost use Rattle.msp_timetable.specs.Square.{cell_at, stocks, row_total, column_total, IsSpread, IsSpreadRow, HasSmallLines, IsGreatest, IsLacking, IsPadding, IsFilled};
+ghost use Rattle.msp_timetable.specs.Steps.{FillsCorner, HasRoomFor};
 
 use crate::matrix::Matrix;
 use crate::square::{Square, place};
@@ -141,7 +142,7 @@ fn fill_corner(
     requires row { row < size }
     requires column { column < size }
     requires few { cell_at size padding.old.items row column + at lacks.old.rows.items row ≤ greatest_sum }
-    ensures { IsCornerFilled size row column padding.old.items lacks.old.rows.items lacks.old.columns.items padding.new.items lacks.new.rows.items lacks.new.columns.items result }
+    ensures { FillsCorner size row column padding.old.items lacks.old padding.new.items lacks.new result }
 {
     let both = lacks.rows[row].min(lacks.columns[column]);
     padding[place(size, size, row, column)] += both;
@@ -155,7 +156,7 @@ fn pad(alloc: Global, size: usize, lacks: &mut Lacks) -> Result<Vec<u128>, Alloc
     requires small { size ≤ 400 }
     requires rows { length lacks.old.rows.items ≡ size }
     requires columns { length lacks.old.columns.items ≡ size }
-    requires same { total_below size (λ r. at lacks.old.rows.items r) ≡ total_below size (λ c. at lacks.old.columns.items c) }
+    requires same { total_below size (at lacks.old.rows.items) ≡ total_below size (at lacks.old.columns.items) }
     requires few { (r : ℕ) → r < size → at lacks.old.rows.items r ≤ greatest_sum }
     ensures { IfOk result (λ padding. IsPadding size lacks.old.rows.items lacks.old.columns.items padding.items) }
 {
@@ -186,7 +187,7 @@ pub fn fill(alloc: Global, matrix: &Matrix) -> Result<Filled, AllocError>
     requires few_rows { matrix.now.rows ≤ 32 }
     requires few_columns { matrix.now.columns ≤ 400 }
     ensures filled { IfOk result (λ f. IsFilled matrix.now f.square f.greatest) }
-    ensures size { IfOk result (λ f. (matrix.now.rows ≤ f.square.size) × (matrix.now.columns ≤ f.square.size) × (f.square.size ≤ matrix.now.rows + matrix.now.columns)) }
+    ensures size { IfOk result (λ f. HasRoomFor matrix.now f.square) }
 {
     let size = matrix.rows.max(matrix.columns) as usize;
     let given = spread(alloc, matrix, size)?;

@@ -1,7 +1,8 @@
 // Each row gets a column in which it holds stock.
-ghost use Rattle.std.specs.Prelude.{◌≡◌, ◌+◌, ◌<◌, ◌≤◌, ℕ, IfOk, OnOk, length};
+ghost use Rattle.std.specs.Prelude.{◌≡◌, ◌<◌, ℕ, OnOk, length};
 ghost use Rattle.msp_timetable.specs.Passing.{at};
-ghost use Rattle.msp_timetable.specs.Square.{stock, IsSquare, IsBalanced, IsPermuted, IsOwners, IsBetter};
+ghost use Rattle.msp_timetable.specs.Square.{stock, IsSquare, IsBalanced, IsPermuted, IsOwners};
+ghost use Rattle.msp_timetable.specs.Steps.{Betters, HoldStock};
 
 use crate::passing::pass_on;
 use crate::search::{Seats, find};
@@ -28,7 +29,7 @@ fn give(alloc: Global, square: &Square, seats: &mut Seats, row: usize) -> Result
     requires row { row < square.now.size }
     requires bare { stock square.now row (at seats.old.columns.items row) ≡ 0 }
     requires balanced { (left : ℕ) × (0 < left) × IsBalanced square.now.size (stock square.now) left }
-    ensures better { OnOk result (IsBetter square.now.size (stock square.now) row seats.old.columns.items seats.new.columns.items) }
+    ensures better { OnOk result (Betters square.now row seats.old seats.new) }
     ensures owners { OnOk result (IsOwners square.now.size seats.new.columns.items seats.new.owner.items) }
 {
     let search = find(alloc, square, seats, row)?;
@@ -48,7 +49,7 @@ pub fn match_rows(alloc: Global, square: &Square, seats: &mut Seats) -> Result<(
     requires balanced { (left : ℕ) × (0 < left) × IsBalanced square.now.size (stock square.now) left }
     ensures permuted { OnOk result (IsPermuted square.now.size seats.new.columns.items) }
     ensures owners { OnOk result (IsOwners square.now.size seats.new.columns.items seats.new.owner.items) }
-    ensures stocks { OnOk result ((r : ℕ) → r < square.now.size → 0 < stock square.now r (at seats.new.columns.items r)) }
+    ensures stocks { OnOk result (HoldStock square.now seats.new) }
 {
     for row in 0..square.size {
         if !has_stock(square, row, seats.columns[row]) {

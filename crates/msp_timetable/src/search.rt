@@ -1,7 +1,8 @@
 // The search for a way from a row to a column whose row holds nothing there.
 ghost use Rattle.std.specs.Prelude.{◌≡◌, ◌+◌, ◌<◌, ◌≤◌, ℕ, IfOk, true, false, length};
 ghost use Rattle.msp_timetable.specs.Passing.{at};
-ghost use Rattle.msp_timetable.specs.Square.{stock, IsSquare, IsBalanced, IsPermuted, IsOwners, IsSearch, IsFound};
+ghost use Rattle.msp_timetable.specs.Square.{stock, IsSquare, IsBalanced, IsPermuted, IsOwners};
+ghost use Rattle.msp_timetable.specs.Steps.{start_of, Reaches, Finds};
 
 use crate::square::{Square, has_stock};
 use std::alloc::{AllocError, Global};
@@ -38,10 +39,10 @@ fn reach(
     requires owners { IsOwners square.now.size seats.now.columns.items seats.now.owner.items }
     requires column { column < square.now.size }
     requires here { place < length search.old.tree.items }
-    requires search { IsSearch square.now.size (stock square.now) seats.now.columns.items (at search.old.tree.items 0) place column search.old.from.items search.old.tree.items }
-    ensures search { IfOk result (λ found. found ≡ false → IsSearch square.now.size (stock square.now) seats.now.columns.items (at search.old.tree.items 0) place (column + 1) search.new.from.items search.new.tree.items) }
+    requires search { Reaches square.now seats.now (start_of search.old) place column search.old }
+    ensures search { IfOk result (λ found. found ≡ false → Reaches square.now seats.now (start_of search.old) place (column + 1) search.new) }
     ensures longer { IfOk result (λ _. length search.old.tree.items ≤ length search.new.tree.items) }
-    ensures found { IfOk result (λ found. found ≡ true → IsFound square.now.size (stock square.now) seats.now.columns.items (at search.old.tree.items 0) search.new.from.items search.new.tree.items search.new.free) }
+    ensures found { IfOk result (λ found. found ≡ true → Finds square.now seats.now (start_of search.old) search.new) }
 {
     if search.from[column] < square.size || !has_stock(square, search.tree[place], column) {
         return Ok(false);
@@ -67,10 +68,10 @@ fn grow(
     requires permuted { IsPermuted square.now.size seats.now.columns.items }
     requires owners { IsOwners square.now.size seats.now.columns.items seats.now.owner.items }
     requires here { place < length search.old.tree.items }
-    requires search { IsSearch square.now.size (stock square.now) seats.now.columns.items (at search.old.tree.items 0) place 0 search.old.from.items search.old.tree.items }
-    ensures search { IfOk result (λ found. found ≡ false → IsSearch square.now.size (stock square.now) seats.now.columns.items (at search.old.tree.items 0) place square.now.size search.new.from.items search.new.tree.items) }
+    requires search { Reaches square.now seats.now (start_of search.old) place 0 search.old }
+    ensures search { IfOk result (λ found. found ≡ false → Reaches square.now seats.now (start_of search.old) place square.now.size search.new) }
     ensures longer { IfOk result (λ found. found ≡ false → length search.old.tree.items ≤ length search.new.tree.items) }
-    ensures found { IfOk result (λ found. found ≡ true → IsFound square.now.size (stock square.now) seats.now.columns.items (at search.old.tree.items 0) search.new.from.items search.new.tree.items search.new.free) }
+    ensures found { IfOk result (λ found. found ≡ true → Finds square.now seats.now (start_of search.old) search.new) }
 {
     for column in 0..square.size {
         if reach(square, seats, search, place, column)? {
@@ -88,7 +89,7 @@ pub fn find(alloc: Global, square: &Square, seats: &Seats, row: usize) -> Result
     requires row { row < square.now.size }
     requires bare { stock square.now row (at seats.now.columns.items row) ≡ 0 }
     requires balanced { (left : ℕ) × (0 < left) × IsBalanced square.now.size (stock square.now) left }
-    ensures { IfOk result (λ s. IsFound square.now.size (stock square.now) seats.now.columns.items row s.from.items s.tree.items s.free) }
+    ensures { IfOk result (λ s. Finds square.now seats.now row s) }
 {
     let mut tree = Vec::new(alloc);
     tree.push(row)?;

@@ -1,7 +1,8 @@
 // A matrix is split into slices.
-ghost use Rattle.std.specs.Prelude.{◌≡◌, ◌<◌, ◌≤◌, ◌+◌, ◌-◌, IfOk};
+ghost use Rattle.std.specs.Prelude.{◌<◌, ◌≤◌, IfOk};
 ghost use Rattle.msp_timetable.specs.Split.{IsMatrix, IsSplit};
-ghost use Rattle.msp_timetable.specs.Square.{IsSplitting, IsPermuted, IsOwners};
+ghost use Rattle.msp_timetable.specs.Square.{IsPermuted, IsOwners};
+ghost use Rattle.msp_timetable.specs.Steps.{SplitsSoFar};
 
 use crate::cutting::{cut, entries, longest};
 use crate::filling::fill;
@@ -41,9 +42,9 @@ fn next_slice(
     left: u128,
 ) -> Result<u128, AllocError>
     requires some { 1 ≤ matrix.now.rows }
-    requires splitting { IsSplitting matrix.now square.old seats.old.columns.items seats.old.owner.items slices.old.items left }
+    requires splitting { SplitsSoFar matrix.now square.old seats.old slices.old.items left }
     requires left { 0 < left }
-    ensures splitting { IfOk result (λ after. IsSplitting matrix.now square.new seats.new.columns.items seats.new.owner.items slices.new.items after) }
+    ensures splitting { IfOk result (λ after. SplitsSoFar matrix.now square.new seats.new slices.new.items after) }
     ensures less { IfOk result (λ after. after < left) }
 {
     match_rows(alloc, square, seats)?;
