@@ -540,12 +540,17 @@ fn search(x: &Instance) -> (i64, i64) {
     let kept = starts_of(x);
     let mut moments = kept.clone();
     moments.dedup();
-    let mut by_release: Vec<&Job> = x.jobs.iter().collect();
-    by_release.sort_by_key(|job| job.release);
+    let mut seated: Vec<&Job> = x.jobs.iter().collect();
+    seated.sort_by_key(|job| job.release);
+    for place in 0..seated.len() {
+        let released = (place..seated.len()).filter(|&later| seated[later].release <= kept[place]);
+        let first = released.min_by_key(|&later| seated[later].due).unwrap();
+        seated.swap(place, first);
+    }
     let mut low = x.jobs.iter().map(|j| j.release + 1 - j.due).max().unwrap();
-    let mut high = by_release.iter().zip(&kept).map(|(job, start)| start + 1 - job.due).max().unwrap();
+    let mut high = seated.iter().zip(&kept).map(|(job, start)| start + 1 - job.due).max().unwrap();
+    let mut bound = high - 1;
     while low < high {
-        let bound = low + (high - low).div_euclid(2);
         let squeezed = Instance {
             speeds: x.speeds.clone(),
             jobs: x.jobs.iter().map(|job| Job {
@@ -556,6 +561,7 @@ fn search(x: &Instance) -> (i64, i64) {
             arcs: Vec::new(),
         };
         if slots(&squeezed, |job, end| (end > job.due) as i64).0 == 0 { high = bound; } else { low = bound + 1; }
+        bound = low + (high - low).div_euclid(2);
     }
     (high, 1)
 }
