@@ -1,12 +1,22 @@
 //! The solver that is asked for any instance: by the nearest chain of carrying rows to a class that a solver solves, and back.
 //!
 //! It stands on `msp_closure` for the chains, on `msp_carry` for the way along them, and on the solvers. The layers above use
-//! that an answer is best, and that each fault says exactly what is missing.
+//! that an answer is best, and that each fault says exactly what is missing (`solve_any`).
+//!
+//! With `msp_cert` it certifies costs: `certify_any` gives an instance of one of eight classes a best solution and a certificate whose
+//! bound is its cost, with evidence that has just that value (`IsCertified`), and else says whether the class has no certificate or the
+//! instance does not fit the solver of its class (`IsUncertified`).
 #![tactic(auto)]
 
+ghost use Rattle.std.specs.Prelude.{◌≡◌};
+
+mod certify;
+#[cfg(test)]
+mod certify_tests;
 mod fit;
 mod pick;
 mod reached;
+mod shown;
 mod solve;
 mod solved_list;
 #[cfg(test)]
@@ -15,7 +25,8 @@ mod threshold;
 #[cfg(test)]
 mod via_tests;
 
-use msp_class::Class;
+pub use certify::certify_any;
+use msp_class::{Class, NoMemory};
 pub use solve::solve_any;
 pub use solved_list::{SOLVED, SolvedClass, solved};
 
@@ -32,4 +43,35 @@ pub enum Cannot {
     Unfit { class: Class },
     /// The memory is used up.
     Memory,
+}
+
+impl From<NoMemory> for Cannot {
+    ghost use Rattle.msp_dispatch.specs.declared.Cannot.TheVariants.{Memory};
+
+    ghost from_gives = { λ _ e. e ≡ Memory };
+
+    fn from(_refusal: NoMemory) -> Cannot {
+        Cannot::Memory
+    }
+}
+
+/// Why an instance gets no certificate.
+#[derive(Clone, Copy, Debug, PartialEq, Eq)]
+pub enum Uncertified {
+    /// The class is none of those whose best costs are certified.
+    NoCertificate { class: Class },
+    /// The instance does not fit the solver of its class.
+    Unfit { class: Class },
+    /// The memory is used up.
+    Memory,
+}
+
+impl From<NoMemory> for Uncertified {
+    ghost use Rattle.msp_dispatch.specs.declared.Uncertified.TheVariants.{Memory};
+
+    ghost from_gives = { λ _ e. e ≡ Memory };
+
+    fn from(_refusal: NoMemory) -> Uncertified {
+        Uncertified::Memory
+    }
 }

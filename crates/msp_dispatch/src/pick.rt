@@ -63,7 +63,7 @@ fn pick_marked(
     }
 }
 
-fn is_same(a: Class, b: Class) -> bool
+pub(crate) fn is_same(a: Class, b: Class) -> bool
     ensures { IsTrue result ↔ (a ≡ b) }
 {
     rank(a) == rank(b)

@@ -17,10 +17,7 @@ fn no_marks(alloc: Global) -> Result<Vec<bool>, NoMemory>
 {
     let mut marks = Vec::new(alloc);
     for _k in 0..CLASSES {
-        match marks.push(false) {
-            Ok(()) => {}
-            Err(_) => return Err(NoMemory),
-        }
+        marks.push(false)?;
     }
     Ok(marks)
 }

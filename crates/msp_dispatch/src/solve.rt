@@ -79,7 +79,7 @@ fn solve_at(
 }
 
 /// The solution in the form in which it is reported.
-fn settled(inst: &Instance, solution: Solution) -> Solution
+pub(crate) fn settled(inst: &Instance, solution: Solution) -> Solution
     requires inner { Inner inst.now }
     requires best { IsBest inst.now solution }
     requires within { Within inst.now solution.schedule }
@@ -108,24 +108,18 @@ fn answer(alloc: Global, inst: &Instance, pick: Pick) -> Result<Answer, Cannot>
     ensures solution { IfOk result (λ a. IsReported inst.now a.solution) }
     ensures fault { IfErr result (IsStopped inst.now pick) }
 {
-    match fits_at(alloc, inst, &pick.chain.rows, pick.entry.solver) {
-        Err(_) => return Err(Cannot::Memory),
-        Ok(false) => {
-            return Err(Cannot::Unfit {
-                class: pick.entry.class,
-            });
-        }
-        Ok(true) => (),
+    if !fits_at(alloc, inst, &pick.chain.rows, pick.entry.solver)? {
+        return Err(Cannot::Unfit {
+            class: pick.entry.class,
+        });
     }
-    match solve_at(alloc, inst, &pick.chain.rows, pick.entry.solver) {
-        Err(_) => Err(Cannot::Memory),
-        Ok(solution) => Ok(Answer {
-            chain: pick.chain,
-            target: pick.entry.class,
-            solver: pick.entry.solver,
-            solution: settled(inst, solution),
-        }),
-    }
+    let solution = solve_at(alloc, inst, &pick.chain.rows, pick.entry.solver)?;
+    Ok(Answer {
+        chain: pick.chain,
+        target: pick.entry.class,
+        solver: pick.entry.solver,
+        solution: settled(inst, solution),
+    })
 }
 
 /// A best solution of the instance: at the class that is asked for, or else at the first of the list to which carrying rows lead.

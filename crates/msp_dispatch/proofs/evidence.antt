@@ -1,0 +1,10 @@
+pub mod Fractions
+pub mod Groups
+pub mod Tried
+pub mod Sizes
+pub mod ShopLines
+pub mod JobLevels
+pub mod GroupCosts
+pub mod Found
+pub mod Others
+pub mod Certified

@@ -1,0 +1,61 @@
+-- In open shops the load of a machine or the length of a job shows the best cost.
+use Rattle.std.proofs.Common.{◌≡◌, ℕ, ◌<◌, inl, inr, length, pos, refl, ap, subst, arith}
+use Rattle.std.specs.Prelude.{⊤, MatchOption}
+use Rattle.msp_class.specs.Env.{is_shop, fixed_machines}
+use Rattle.msp_instance.specs.declared.Instance.{Instance}
+use Rattle.msp_instance.specs.Conditions.{InClass}
+use Rattle.msp_schedule.specs.declared.Frac.{Frac}
+use Rattle.msp_schedule.specs.Fraction.{IsOver}
+use Rattle.msp_schedule.specs.Loads.{machine_load, job_length}
+use Rattle.msp_cert.specs.declared.Proof.TheVariants.{Machine, Line}
+use Rattle.msp_cert.specs.Certificates.{IsShop}
+use Rattle.msp_shops.specs.Open.{open_class, IsOpenCost}
+use Rattle.msp_shops.specs.OpenCut.{open_cut_class, IsOpenCutCost}
+use Rattle.msp_dispatch.specs.Shown.{IsTriedValue}
+use Rattle.msp_dispatch.proofs.evidence.Sizes.{load_short, length_short}
+use Rattle.msp_dispatch.proofs.evidence.Tried.{tried-machine, tried-line}
+
+module _ (i : Instance) (c : InClass i) (shop : IsShop i) (cost : Frac) (end : ℕ) (over : IsOver cost (pos end) (pos 1)) where
+  IsTriedValue-machine : (m : ℕ) → m < i.machines → end ≡ machine_load i m → IsTriedValue i cost
+  IsTriedValue-machine m l e = record {
+    value = end;
+    unit = 1;
+    over = over;
+    some = omega arith;
+    value_small = omega (arith, e, load_short i c m);
+    unit_small = omega arith;
+    proof = λ longest level _ _. (Machine m, tried-machine i longest level m l, (shop, l), (ap pos e, refl));
+  }
+
+  IsTriedValue-line : (j : ℕ) → j < length i.jobs → end ≡ job_length i j → IsTriedValue i cost
+  IsTriedValue-line j l e = record {
+    value = end;
+    unit = 1;
+    over = over;
+    some = omega arith;
+    value_small = omega (arith, e, length_short i c j l);
+    unit_small = omega arith;
+    proof = λ longest level _ _. (Line j, tried-line i longest level j l, (shop, l), (ap pos e, refl));
+  }
+
+pub IsTriedValue-open_cut : (i : Instance) (cost : Frac) → InClass i → i.class ≡ open_cut_class → IsOpenCutCost i cost → IsTriedValue i cost
+IsTriedValue-open_cut i cost c class (end, greatest, over) = elim greatest.reached [
+  | inl (m, l, e) ↦ IsTriedValue-machine i c shop cost end over m l e
+  | inr (j, l, e) ↦ IsTriedValue-line i c shop cost end over j l e
+]
+  where
+    shop : IsShop i
+    shop = record { makespan = ap (λ x. x.crit) class; shop = ap (λ x. is_shop x.env) class }
+
+pub IsTriedValue-open : (i : Instance) (cost : Frac) → InClass i → i.class ≡ open_class → IsOpenCost i cost → IsTriedValue i cost
+IsTriedValue-open i cost c class (end, greatest, over) = elim greatest.reached [
+  | inl e ↦ IsTriedValue-machine i c shop cost end over 0 (omega (arith, two)) e
+  | inr (inl e) ↦ IsTriedValue-machine i c shop cost end over 1 (omega (arith, two)) e
+  | inr (inr (j, l, e)) ↦ IsTriedValue-line i c shop cost end over j l e
+]
+  where
+    shop : IsShop i
+    shop = record { makespan = ap (λ x. x.crit) class; shop = ap (λ x. is_shop x.env) class }
+
+    two : i.machines ≡ 2
+    two = subst (λ e. MatchOption (fixed_machines e) ⊤ (λ m. i.machines ≡ m)) (ap (λ x. x.env) class) c.conditions.machines.2
