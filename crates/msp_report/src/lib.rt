@@ -5,6 +5,8 @@
 //! The layer above uses that each text is exactly the one that `specs/` defines.
 #![tactic(auto)]
 
+#[cfg(test)]
+mod certificate_tests;
 mod certify;
 mod chain_text;
 mod check;
