@@ -1,19 +1,8 @@
 // The search over thresholds that stands in the list: bounds on the greatest lateness are asked of the solver of weighted late unit jobs.
-use msp_class::{Class, Crit, Env, Order, Times};
 use msp_plain::Row14;
 use msp_route::Via;
-use msp_threshold::Search;
+use msp_threshold::{LATE_COUNT_CLASS, Search};
 use msp_total::SlotsCount;
-
-/// The class of which a bound is asked: `P|r,p=1|sumU`.
-const LATE_COUNT_CLASS: Class = Class {
-    env: Env::P,
-    cut: false,
-    order: Order::Free,
-    heads: true,
-    times: Times::Unit,
-    crit: Crit::SumU,
-};
 
 /// The search, over the solver of weighted late jobs behind the row that gives all jobs the weight 1. No instance is too large for it.
 pub(crate) fn threshold_search() -> Search<Via<Row14, SlotsCount>> {
