@@ -20,13 +20,14 @@ use Rattle.msp_uniform.specs.Uniform.{cut_class}
 use Rattle.msp_cert.specs.declared.Proof.{Proof}
 use Rattle.msp_cert.specs.declared.Certificate.{Certificate}
 use Rattle.msp_cert.specs.Search.{IsFound}
+use Rattle.msp_cert.proofs.Found.{found_within, found_holds}
 use Rattle.msp_dispatch.specs.declared.certify.Maker.{Maker}
 use Rattle.msp_dispatch.specs.declared.certify.Maker.TheVariants as maker
 use Rattle.msp_dispatch.specs.Dispatch.{IsReported}
 use Rattle.msp_dispatch.specs.Certify.{HasCertificate, FitsWhereWanted, KeepsTextLimits}
 use Rattle.msp_dispatch.specs.Shown.{class_of, FitsMaker, IsCertifiable, Certifies, IsTriedValue}
 use Rattle.msp_dispatch.proofs.evidence.Fractions.{IsNatural-lowest, whole_lowest, same_over}
-use Rattle.msp_dispatch.proofs.evidence.Found.{found_short, found_value}
+use Rattle.msp_dispatch.proofs.evidence.Found.{IsShort-within}
 use Rattle.msp_dispatch.proofs.evidence.Others.{IsWholeValue}
 
 -- ---- a solver's answer is within the bounds of the calls
@@ -102,9 +103,9 @@ IsComparable-tried i cost low t =
 pub Certifies-found : (i : Instance) (cost : Frac) (p : Proof) → InClass i → IsLowest cost → IsTriedValue i cost → IsFound i cost (Some p) → Certifies i cost p
 Certifies-found i cost p c low t h =
     let n = IsNatural-lowest cost t.value t.unit t.some t.over low in
-    let short = found_short i cost p c h in
+    let short = IsShort-within i p c (found_within i cost p c h) in
     record {
-      value = found_value i cost p h;
+      value = found_holds i cost p h;
       limits = record {
         num = (omega (arith, ints, n.num, n.num_small, t.value_small), omega (arith, ints, n.num, n.num_small, t.value_small));
         den = (cost.positive, omega (arith, ints, n.den, n.den_small, t.unit_small));
