@@ -27,7 +27,7 @@ mod KindLaws
 mod NumberedLaws
 mod JobLists
 mod ColumnLaws
-mod KindTexts
+pub mod KindTexts
 mod CertificateReadings
 mod CertificateFaults
 mod CertificateLaws

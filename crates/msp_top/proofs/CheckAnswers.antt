@@ -1,5 +1,5 @@
--- The answer to `check`.
-use Rattle.std.proofs.Common.{◌≡◌, ◌↔◌, inl, inr, ℕ, ◌+◌, ◌-◌, ◌≤◌, ◌==◌, List, ◌++◌, length, drop, take, Option, Some, None, IsNone, IfSome, Result, Err, refl, sym, ap, ◌∙◌, subst, arith}
+-- The answer to `check`, and the front of an input.
+use Rattle.std.proofs.Common.{◌≡◌, ◌↔◌, inr, ℕ, ◌+◌, ◌-◌, ◌≤◌, ◌==◌, List, ◌++◌, length, drop, take, Option, Some, None, IsNone, IfSome, Result, Err, refl, sym, ap, ◌∙◌, subst, arith}
 use Rattle.std.proofs.Math.Seq.{drop-append_seam}
 use Rattle.std.proofs.lemmas.List.{length-append, length-drop, take_all}
 use Rattle.std.proofs.lemmas.List.Sums.{count_by-le-length}
@@ -12,18 +12,16 @@ use Rattle.msp_schedule.specs.declared.breaks.Break.{Break}
 use Rattle.msp_schedule.specs.Feasible.{Feasible}
 use Rattle.msp_schedule.specs.Breaks.{IsFirstBreak, IsDecision}
 use Rattle.msp_grammar.specs.declared.filed.Filed.{Filed}
-use Rattle.msp_file.specs.declared.fault.FileFault.{FileFault}
-use Rattle.msp_file.specs.declared.fault.FileFault.TheVariants.{Memory}
 use Rattle.msp_file.specs.declared.read.Front.{Front}
 use Rattle.msp_file.specs.declared.schedule.Stated.{Stated}
-use Rattle.msp_file.specs.Answers.{IsFrontFaultOf, IsFrontText}
-use Rattle.msp_file.specs.ScheduleAnswers.{IsScheduleFaultOf}
+use Rattle.msp_file.specs.Answers.{IsFrontText}
 use Rattle.msp_report.proofs.CheckLemmas.{stated_within}
 use Rattle.msp_top.specs.declared.answers.Report.{Report}
 use Rattle.msp_top.specs.declared.refusal.Refusal.{Refusal}
-use Rattle.msp_top.specs.Checks.{BeginsWith, HasCheckStatus, fails, CheckIsRight, misread_front, unchecked, misread_rest}
-use Rattle.msp_top.specs.Refusals.{of_file_fault, of_unchecked}
-use Rattle.msp_top.specs.Answers.{Answers, ChecksRest}
+use Rattle.msp_top.specs.Checks.{BeginsWith, HasCheckStatus, fails, CheckIsRight, unchecked}
+use Rattle.msp_top.specs.Outcome.{Outcome}
+use Rattle.msp_top.specs.Refusals.{of_unchecked}
+use Rattle.msp_top.specs.Answers.{Answers, OfRest}
 use Rattle.msp_top.proofs.SolveAnswers.{answers-along}
 
 -- ---- the front
@@ -47,30 +45,14 @@ begins input rest f h e =
 pub rest_part : (used : ℕ) (input : List ℕ) → take (length input - used) (drop used input) ≡ drop used input
 rest_part used input = take_all (length input - used) (drop used input) (omega (arith, length-drop used input))
 
-pub front_right : (input rest : List ℕ) (f : Front) (r : Result Report Refusal) → IsFrontText input f.filed.instance f.filed.names f.used f.line → rest ≡ drop f.used input → Answers (ChecksRest f.filed f.line rest) r → Answers (CheckIsRight input) r
-front_right input rest f r h e right = answers-along (ChecksRest f.filed f.line rest) (CheckIsRight input) r (λ outcome g. g input (begins input rest f h e)) right
-
-front_first : (input : List ℕ) (fault : FileFault) → IsFrontFaultOf input fault → Answers (CheckIsRight input) (Err (of_file_fault fault))
-front_first input Memory h = inl (refl, refl)
-front_first input fault h = inr (misread_front fault (λ e. cc) h)
-
-pub front_misread : (input : List ℕ) (fault : FileFault) (why : Refusal) → IsFrontFaultOf input fault → why ≡ of_file_fault fault → Answers (CheckIsRight input) (Err why)
-front_misread input fault why first e = let Q : Refusal → Type 0 = λ w. Answers (CheckIsRight input) (Err w) in subst Q (sym e) (front_first input fault first)
+pub front_right : (IsRightOf : List ℕ → Outcome → Type 0) (input rest : List ℕ) (f : Front) (r : Result Report Refusal) → IsFrontText input f.filed.instance f.filed.names f.used f.line → rest ≡ drop f.used input → Answers (OfRest IsRightOf f.filed f.line rest) r → Answers (IsRightOf input) r
+front_right IsRightOf input rest f r h e right = answers-along (OfRest IsRightOf f.filed f.line rest) (IsRightOf input) r (λ outcome g. g input (begins input rest f h e)) right
 
 -- ---- the rest
-pub rest_unchecked : (filed : Filed) (line : ℕ) (rest : List ℕ) (why : Refusal) → IsCutOnUnrelated filed.instance.class → why ≡ of_unchecked filed.instance.class → Answers (ChecksRest filed line rest) (Err why)
+pub rest_unchecked : (filed : Filed) (line : ℕ) (rest : List ℕ) (why : Refusal) → IsCutOnUnrelated filed.instance.class → why ≡ of_unchecked filed.instance.class → Answers (OfRest CheckIsRight filed line rest) (Err why)
 rest_unchecked filed line rest why cut e =
-    let Q : Refusal → Type 0 = λ w. Answers (ChecksRest filed line rest) (Err w) in
+    let Q : Refusal → Type 0 = λ w. Answers (OfRest CheckIsRight filed line rest) (Err w) in
     subst Q (sym e) (inr (λ input begins. unchecked filed line rest begins cut))
-
-rest_first : (filed : Filed) (line : ℕ) (rest : List ℕ) (fault : FileFault) → ¬ IsCutOnUnrelated filed.instance.class → IsScheduleFaultOf filed.names line rest fault → Answers (ChecksRest filed line rest) (Err (of_file_fault fault))
-rest_first filed line rest Memory may h = inl (refl, refl)
-rest_first filed line rest fault may h = inr (λ input begins. misread_rest filed line rest fault begins may (λ e. cc) h)
-
-pub rest_misread : (filed : Filed) (line : ℕ) (rest : List ℕ) (fault : FileFault) (why : Refusal) → ¬ IsCutOnUnrelated filed.instance.class → IsScheduleFaultOf filed.names line rest fault → why ≡ of_file_fault fault → Answers (ChecksRest filed line rest) (Err why)
-rest_misread filed line rest fault why may first e =
-    let Q : Refusal → Type 0 = λ w. Answers (ChecksRest filed line rest) (Err w) in
-    subst Q (sym e) (rest_first filed line rest fault may first)
 
 -- ---- the status
 pub status_broken : (i : Instance) (s : Stated) (broken : Option Break) (b : Break) → broken ≡ Some b → (IsNone broken ↔ Feasible i s.schedule) → HasCheckStatus i s 1

@@ -1,5 +1,5 @@
 -- The ways in which serving ends, from what reading, answering and writing ensure.
-use Rattle.std.proofs.Common.{◌≡◌, ◌≢◌, ◌↔◌, ℕ, ◌+◌, ◌<◌, ◌≤◌, ◌⊎◌, inl, inr, List, [], length, Option, Some, None, IfSome, Result, Ok, Err, IfErr, refl, sym, ap, ◌∙◌, subst, codes, arith}
+use Rattle.std.proofs.Common.{◌≡◌, ◌≢◌, ◌↔◌, ℕ, ◌≤◌, ◌⊎◌, inl, inr, List, [], length, Option, Some, None, IfSome, Result, Ok, Err, IfErr, refl, sym, ap, ◌∙◌, subst, codes, arith}
 use Rattle.std.specs.Io.KnownBytes.{Appends, Consumes, IsAtEnd}
 use Rattle.msp_io.specs.Faults.{Rose}
 use Rattle.msp_io.specs.Views.{SourceView, SinkView}
@@ -16,6 +16,8 @@ use Rattle.msp_file.specs.declared.schedule.Stated.{Stated}
 use Rattle.msp_closure.specs.declared.entry.Entry.{Entry}
 use Rattle.msp_dispatch.specs.declared.Cannot.{Cannot}
 use Rattle.msp_dispatch.specs.declared.Cannot.TheVariants.{Memory as CannotMemory}
+use Rattle.msp_dispatch.specs.declared.Uncertified.{Uncertified}
+use Rattle.msp_dispatch.specs.declared.Uncertified.TheVariants.{Memory as CertifyMemory}
 use Rattle.msp_report.specs.RowsText.{rows_report}
 use Rattle.msp_results.specs.declared.fault.ResultFault.{ResultFault}
 use Rattle.msp_results.specs.declared.fault.ResultFault.TheVariants.{Memory}
@@ -23,18 +25,21 @@ use Rattle.msp_top.specs.declared.answers.Report.{Report}
 use Rattle.msp_top.specs.declared.refusal.Refusal.{Refusal}
 use Rattle.msp_top.specs.declared.notes.Note.TheVariants.{TooLong}
 use Rattle.msp_top.specs.declared.command.Command.{Command}
-use Rattle.msp_top.specs.declared.command.Command.TheVariants.{Solve, Check, Answer}
+use Rattle.msp_top.specs.declared.command.Command.TheVariants.{Solve, Certify, Check, Accept, Answer}
 use Rattle.msp_top.specs.declared.command.Request.{Request}
 use Rattle.msp_top.specs.declared.command.Request.TheVariants.{Rows, Trial as IsTrial, Command as IsCommand}
 use Rattle.msp_top.specs.declared.command.Trial.{Trial}
 use Rattle.msp_top.specs.declared.command.Question.{Question}
 use Rattle.msp_top.specs.Commands.{Asks, AsksForRows, AsksForTrial, Misfits}
 use Rattle.msp_top.specs.Files.{file_status}
-use Rattle.msp_top.specs.Cannots.{cannot_status}
+use Rattle.msp_top.specs.Cannots.{cannot_status, uncertified_status}
 use Rattle.msp_top.specs.Results.{results_status}
 use Rattle.msp_top.specs.Outcome.{Outcome, report, refusal}
 use Rattle.msp_top.specs.Solves.{SolveIsRight, solved, misread, unsolved}
+use Rattle.msp_top.specs.Certifies.{CertifyIsRight, certified, misread as misread_instance, uncertified}
 use Rattle.msp_top.specs.Checks.{HasCheckStatus, holds, fails, CheckIsRight, checked, misread_front, unchecked, misread_rest}
+use Rattle.msp_cert.specs.declared.Certificate.{Certificate}
+use Rattle.msp_top.specs.Accepts.{IsAcceptReport, accepted, rejected, AcceptIsRight, judged, misread_front as misread_first, misread_rest as misread_later}
 use Rattle.msp_top.specs.Reports.{HasClashStatus, contradicts, agrees, ReadsResults, reported, misread as misread_results}
 use Rattle.msp_top.specs.Trials.{TrialIsRight, solved as trial_solved, unsolved as trial_unsolved}
 use Rattle.msp_top.specs.Run.{limit_of, too_long_text, IsRight, IsRightWithin, too_long, short, IsRightReport, of_input, of_trial, of_rows, Reports, BreaksOff, Refuses, input_refused, past_the_limit, trial_refused, TakesAtMost, IsDue, IsTrialDue, IsNote, misfit as note_misfit, refused as note_refused, read_fault, write_fault, memory as note_memory}
@@ -64,6 +69,15 @@ cannot_range : (cannot : Cannot) → cannot ≢ CannotMemory → (3 ≤ cannot_s
 cannot_range CannotMemory other = absurd (other refl)
 cannot_range _ other = (omega arith, omega arith)
 
+uncertified_range : (why : Uncertified) → why ≢ CertifyMemory → (3 ≤ uncertified_status why) × (uncertified_status why ≤ 6)
+uncertified_range CertifyMemory other = absurd (other refl)
+uncertified_range _ other = (omega arith, omega arith)
+
+certify_status : (input : List ℕ) (outcome : Outcome) → CertifyIsRight input outcome → HasStatus outcome
+certify_status input (report status text) (certified t is) = omega arith
+certify_status input (refusal status note) (misread_instance fault other first) = file_range fault other
+certify_status input (refusal status note) (uncertified names i why read other h) = uncertified_range why other
+
 solve_status : (input : List ℕ) (at : Option Class) (outcome : Outcome) → SolveIsRight input at outcome → HasStatus outcome
 solve_status input at (report status text) (solved t is) = omega arith
 solve_status input at (refusal status note) (misread fault other first) = file_range fault other
@@ -73,11 +87,20 @@ feasible_status : (i : Instance) (s : Stated) (status : ℕ) → HasCheckStatus 
 feasible_status i s status (holds h e) = omega arith
 feasible_status i s status (fails h) = omega arith
 
+judged_status : (i : Instance) (c : Certificate) (status : ℕ) (text : List ℕ) → IsAcceptReport i c status text → status ≤ 1
+judged_status i c status text (accepted t h r) = omega arith
+judged_status i c status text (rejected t h r) = omega arith
+
 check_status : (input : List ℕ) (outcome : Outcome) → CheckIsRight input outcome → HasStatus outcome
 check_status input (report status text) (checked filed s line rest n t begins may read is r) = feasible_status filed.instance s status is
 check_status input (refusal status note) (misread_front fault other first) = file_range fault other
 check_status input (refusal status note) (unchecked filed line rest begins cut) = (omega arith, omega arith)
 check_status input (refusal status note) (misread_rest filed line rest fault begins may other first) = file_range fault other
+
+accept_status : (input : List ℕ) (outcome : Outcome) → AcceptIsRight input outcome → HasStatus outcome
+accept_status input (report status text) (judged filed c line rest n t begins read is) = judged_status filed.instance c status text is
+accept_status input (refusal status note) (misread_first fault other first) = file_range fault other
+accept_status input (refusal status note) (misread_later filed line rest fault begins other first) = file_range fault other
 
 clash_status : (entries : List Entry) (status : ℕ) → HasClashStatus entries status → status ≤ 1
 clash_status entries status (contradicts h) = omega arith
@@ -89,7 +112,9 @@ question_status question input (refusal status note) (misread_results fault othe
 
 within_status : (command : Command) (input : List ℕ) (outcome : Outcome) → IsRightWithin command input outcome → HasStatus outcome
 within_status (Solve at) input outcome h = solve_status input at outcome h
+within_status Certify input outcome h = certify_status input outcome h
 within_status Check input outcome h = check_status input outcome h
+within_status Accept input outcome h = accept_status input outcome h
 within_status (Answer question) input outcome h = question_status question input outcome h
 
 trial_status : (trial : Trial) (outcome : Outcome) → TrialIsRight trial outcome → HasStatus outcome

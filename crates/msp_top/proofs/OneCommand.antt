@@ -6,12 +6,11 @@ use Rattle.msp_name.specs.Names.{NameOf}
 use Rattle.msp_name.proofs.NameLemmas.{NameOf-determined}
 use Rattle.msp_text.specs.Numbers.{number_of}
 use Rattle.msp_top.specs.declared.command.Command.{Command}
-use Rattle.msp_top.specs.declared.command.Command.TheVariants.{Solve, Check, Answer}
-use Rattle.msp_top.specs.declared.command.Question.{Question}
+use Rattle.msp_top.specs.declared.command.Command.TheVariants.{Solve, Certify, Check, Accept, Answer}
 use Rattle.msp_top.specs.declared.command.Question.TheVariants.{Label, Frontier, Why}
 use Rattle.msp_top.specs.declared.command.Trial.{Trial}
 use Rattle.msp_top.specs.Commands.{Asks, AsksForRows, AsksForTrial, IsNameWord}
-use Rattle.msp_top.proofs.WordLemmas.{first_word, asks_first, cons_heads, cons_tails, not_word, solve_word, label_word, frontier_word, why_word, check_word, rows_word, trial_word}
+use Rattle.msp_top.proofs.WordLemmas.{first_word, asks_first, cons_heads, cons_tails, not_word, solve_word, frontier_word, certify_word, accept_word, check_word, rows_word, trial_word}
 use Rattle.msp_top.proofs.TrialWords.{same_words, trial_first}
 
 classes_once : (names : List (List ℕ)) (a b : List Class) → AllZip IsNameWord names a → AllZip IsNameWord names b → a ≡ b
@@ -38,42 +37,28 @@ why_once words c d (m, p, mc) (n, q, nd) =
 same_first : (words : List (List ℕ)) (a b : Command) → Asks words a → Asks words b → first_word a ≡ first_word b
 same_first words a b p q = cons_heads (sym (asks_first words a p).1 ∙ (asks_first words b q).1)
 
-asks_solve : (words : List (List ℕ)) (at : Option Class) (question : Question) → Asks words (Solve at) → Asks words (Answer question) → Solve at ≡ Answer question
-asks_solve words at (Label classes) p q = not_word solve_word (first_word (Answer (Label classes))) refl (same_first words (Solve at) (Answer (Label classes)) p q)
-asks_solve words at Frontier p q = not_word solve_word (first_word (Answer Frontier)) refl (same_first words (Solve at) (Answer Frontier) p q)
-asks_solve words at (Why class) p q = not_word solve_word (first_word (Answer (Why class))) refl (same_first words (Solve at) (Answer (Why class)) p q)
-
-asks_check : {X : Type 0} (words : List (List ℕ)) (question : Question) → Asks words Check → Asks words (Answer question) → X
-asks_check words (Label classes) p q = not_word check_word label_word refl (same_first words Check (Answer (Label classes)) p q)
-asks_check words Frontier p q = not_word check_word frontier_word refl (same_first words Check (Answer Frontier) p q)
-asks_check words (Why class) p q = not_word check_word why_word refl (same_first words Check (Answer (Why class)) p q)
-
 pub asks_once : (words : List (List ℕ)) (a b : Command) → Asks words a → Asks words b → a ≡ b
 asks_once words (Solve a) (Solve b) p q = ap Solve (at_once words a b p q)
 asks_once words (Answer (Label a)) (Answer (Label b)) p q = ap (λ classes. Answer (Label classes)) (classes_once q.0 a b (subst (λ names. AllZip IsNameWord names a) (cons_tails (sym p.1 ∙ q.1)) p.2) q.2)
 asks_once words (Answer Frontier) (Answer Frontier) p q = refl
 asks_once words (Answer (Why a)) (Answer (Why b)) p q = ap (λ class. Answer (Why class)) (why_once words a b p q)
+asks_once words Certify Certify p q = refl
 asks_once words Check Check p q = refl
-asks_once words Check (Solve b) p q = not_word check_word solve_word refl (same_first words Check (Solve b) p q)
-asks_once words (Solve a) Check p q = not_word solve_word check_word refl (same_first words (Solve a) Check p q)
-asks_once words Check (Answer b) p q = asks_check words b p q
-asks_once words (Answer a) Check p q = asks_check words a q p
-asks_once words (Solve a) (Answer b) p q = asks_solve words a b p q
-asks_once words (Answer a) (Solve b) p q = sym (asks_solve words b a q p)
-asks_once words (Answer (Label a)) (Answer b) p q = not_word (first_word (Answer (Label a))) (first_word (Answer b)) refl (same_first words (Answer (Label a)) (Answer b) p q)
-asks_once words (Answer Frontier) (Answer b) p q = not_word (first_word (Answer Frontier)) (first_word (Answer b)) refl (same_first words (Answer Frontier) (Answer b) p q)
-asks_once words (Answer (Why a)) (Answer b) p q = not_word (first_word (Answer (Why a))) (first_word (Answer b)) refl (same_first words (Answer (Why a)) (Answer b) p q)
+asks_once words Accept Accept p q = refl
+asks_once words (Solve a) (Answer Frontier) p q = not_word solve_word frontier_word refl (same_first words (Solve a) (Answer Frontier) p q)
+asks_once words Certify (Answer Frontier) p q = not_word certify_word frontier_word refl (same_first words Certify (Answer Frontier) p q)
+asks_once words Check (Answer Frontier) p q = not_word check_word frontier_word refl (same_first words Check (Answer Frontier) p q)
+asks_once words Accept (Answer Frontier) p q = not_word accept_word frontier_word refl (same_first words Accept (Answer Frontier) p q)
+asks_once words a b p q = not_word (first_word a) (first_word b) refl (same_first words a b p q)
 
 -- words that ask for the table of rows ask for no command
 pub rows_are_no_command : {X : Type 0} (words : List (List ℕ)) (command : Command) → AsksForRows words → Asks words command → X
 rows_are_no_command words command h asked = by_command command (cons_heads (sym h ∙ (asks_first words command asked).1))
   where
     by_command : {X : Type 0} (command : Command) → rows_word ≡ first_word command → X
-    by_command (Solve at) e = not_word rows_word (first_word (Solve at)) refl e
     by_command Check e = not_word rows_word check_word refl e
-    by_command (Answer (Label classes)) e = not_word rows_word (first_word (Answer (Label classes))) refl e
-    by_command (Answer Frontier) e = not_word rows_word (first_word (Answer Frontier)) refl e
-    by_command (Answer (Why class)) e = not_word rows_word (first_word (Answer (Why class))) refl e
+    by_command (Answer Frontier) e = not_word rows_word frontier_word refl e
+    by_command command e = not_word rows_word (first_word command) refl e
 
 -- words that ask for a trial ask for nothing else
 pub trial_is_no_command : {X : Type 0} (words : List (List ℕ)) (trial : Trial) (command : Command) → AsksForTrial words trial → Asks words command → X

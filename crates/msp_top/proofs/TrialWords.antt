@@ -6,8 +6,8 @@ use Rattle.msp_text.specs.Numbers.{number_of}
 use Rattle.msp_instance.specs.declared.ranges.TheConstants.{MOST_JOBS}
 use Rattle.msp_top.specs.declared.command.TheConstants.{GREATEST_SEED}
 use Rattle.msp_top.specs.declared.command.Command.{Command}
-use Rattle.msp_top.specs.declared.command.Command.TheVariants.{Solve, Check, Answer}
-use Rattle.msp_top.specs.declared.command.Question.TheVariants.{Label, Frontier, Why}
+use Rattle.msp_top.specs.declared.command.Command.TheVariants.{Check, Answer}
+use Rattle.msp_top.specs.declared.command.Question.TheVariants.{Frontier}
 use Rattle.msp_top.specs.declared.command.Trial.{Trial}
 use Rattle.msp_top.specs.declared.refusal.Refusal.{Refusal}
 use Rattle.msp_top.specs.declared.words.Misfit.{Misfit}
@@ -116,11 +116,9 @@ reads_not_three f (a ∷ b ∷ c ∷ d ∷ xs) l = (λ trial h. more_are_not_fou
 -- ---- what the words after `trial` are decides what all words are
 -- no command begins with the word `trial`
 pub trial_first : {X : Type 0} (command : Command) → trial_word ≡ first_word command → X
-trial_first (Solve at) e = not_word trial_word (first_word (Solve at)) refl e
 trial_first Check e = not_word trial_word (first_word Check) refl e
-trial_first (Answer (Label classes)) e = not_word trial_word (first_word (Answer (Label classes))) refl e
 trial_first (Answer Frontier) e = not_word trial_word (first_word (Answer Frontier)) refl e
-trial_first (Answer (Why class)) e = not_word trial_word (first_word (Answer (Why class))) refl e
+trial_first command e = not_word trial_word (first_word command) refl e
 
 reads_trial_misfit : (words : List (List ℕ)) → ((trial : Trial) → ¬ AsksForTrial (trial_word ∷ words) trial) → Misfits (trial_word ∷ words)
 reads_trial_misfit words none = record { no_command = no_command; no_rows = λ h. not_word trial_word rows_word refl (cons_heads h); no_trial = none }

@@ -1,5 +1,5 @@
 -- The texts for words that are no names.
-use Rattle.std.proofs.Common.{◌≡◌, ℕ, zero, suc, ◌+◌, ◌<◌, ◌-◌, true, false, List, [], ◌∷◌, ◌++◌, length, get_or, take, drop, map, Option, Some, None, Result, Ok, Err, IfErr, if◌then◌else◌, ◌↔◌, inl, inr, refl, sym, ap, ◌∙◌, subst, codes, bytes_eq, arith}
+use Rattle.std.proofs.Common.{◌≡◌, ℕ, zero, suc, ◌+◌, ◌<◌, ◌-◌, true, false, List, [], ◌∷◌, ◌++◌, length, get_or, take, drop, map, Option, Some, None, Result, Ok, Err, IfOk, IfErr, if◌then◌else◌, ◌↔◌, inl, inr, refl, sym, ap, ◌∙◌, subst, codes, bytes_eq, arith}
 use Rattle.std.specs.List.{AllZip}
 use Rattle.std.specs.Result.{IsErrAnd}
 use Rattle.std.proofs.Math.Seq.{drop-cons}
@@ -8,11 +8,12 @@ use Rattle.std.proofs.lemmas.Slice.Eq.{bytes_eq-Decides}
 use Rattle.std.proofs.lemmas.Bool.{lt-ltb}
 use Rattle.msp_class.specs.declared.list.TheConstants.{PLACES}
 use Rattle.msp_class.specs.declared.class.Class.{Class}
+use Rattle.msp_class.specs.declared.NoMemory.{NoMemory}
 use Rattle.msp_name.specs.declared.fault.NameFault.{NameFault}
 use Rattle.msp_name.specs.Names.{NameOf}
 use Rattle.msp_name.specs.Reading.{reading_of}
 use Rattle.msp_top.specs.declared.command.Command.{Command}
-use Rattle.msp_top.specs.declared.command.Command.TheVariants.{Solve, Check, Answer}
+use Rattle.msp_top.specs.declared.command.Command.TheVariants.{Solve, Certify, Check, Accept, Answer}
 use Rattle.msp_top.specs.declared.command.Question.TheVariants.{Label, Frontier, Why}
 use Rattle.msp_top.specs.declared.command.Request.{Request}
 use Rattle.msp_top.specs.declared.refusal.Refusal.{Refusal}
@@ -21,8 +22,8 @@ use Rattle.msp_top.specs.declared.words.Misfit.TheVariants.{Form}
 use Rattle.msp_top.specs.Commands.{IsNameWord, Asks, Misfits}
 use Rattle.msp_top.specs.Usage.{names_text, name_text, name_then, text_of_reading, misspelled_text, misfit_text, option_text, trial_text, later_text}
 use Rattle.msp_top.specs.Note.{usage_note}
-use Rattle.msp_top.specs.Refusals.{of_misfit}
-use Rattle.msp_top.specs.Words.{ReadsWords, ReadsName, ReadsNames, ReadsOneName, ReadsOption}
+use Rattle.msp_top.specs.Refusals.{of_misfit, out_of_memory}
+use Rattle.msp_top.specs.Words.{ReadsWords, ReadsName, ReadsNames, ReadsOneName, ReadsOption, AreNoneAlone, ReadsAlone}
 
 -- the text of a word that is to be a name, where it is short
 pub name_then-short : (place : ℕ) (word later : List ℕ) → length word < PLACES → name_then place word later ≡ text_of_reading place (reading_of word) later
@@ -80,12 +81,6 @@ pub HasNames-fault : {X : Type 0} (f : X → List ℕ) (xs : List X) (k : ℕ) (
 HasNames-fault f xs k x word text l is e fault h =
     fault (names_text ((k + 2) + 1) (drop (k + 1) (map f xs))) ∙ ap (λ w. names_text (k + 2) (w ∷ drop (k + 1) (map f xs))) e ∙ sym (ap (names_text (k + 2)) (rest_at f xs k x l is)) ∙ sym h.text
 
--- the fault of all words is the misfit of the first that is no name
-pub first_misfit : (words : List (List ℕ)) (r : Result (Unit {0}) Misfit) (first : Misfit) → IsErrAnd r (λ misfit. misfit ≡ first) → usage_note first ≡ names_text 2 words → ((classes : List Class) → ¬ AllZip IsNameWord words classes) →
-    IfErr r (λ misfit. (usage_note misfit ≡ names_text 2 words) × ((classes : List Class) → ¬ AllZip IsNameWord words classes))
-first_misfit words (Ok u) first is text none = tt
-first_misfit words (Err misfit) first is text none = (ap usage_note is ∙ text, none)
-
 -- where a word is no name, not all are names
 pub not_all_names : {X : Type 0} (f : X → List ℕ) (xs : List X) (k : ℕ) (x : X) (word : List ℕ) → k < length xs → x ≡ get_or xs k x → word ≡ f x → ((c : Class) → ¬ IsNameWord word c) →
     (classes : List Class) → ¬ AllZip IsNameWord (map f xs) classes
@@ -94,16 +89,43 @@ not_all_names f xs k x word l is e no_name classes h =
     no_name at.0 (subst (λ w. IsNameWord w at.0) (word_at f xs k x l is ∙ sym e) at.1)
 
 -- ---- the classes of names
-pub name_at : {X : Type 0} (f : X → List ℕ) (xs : List X) (k : ℕ) (x : X) (word : List ℕ) → k < length xs → x ≡ get_or xs k x → word ≡ f x → (classes : List Class) × AllZip IsNameWord (map f xs) classes → (c : Class) × IsNameWord word c
-name_at f xs k x word l is e (classes, h) =
-    let at = AllZip-at IsNameWord (map f xs) classes k (f x) h (omega (arith, length-map xs f)) in
-    (at.0, subst (λ w. IsNameWord w at.0) (word_at f xs k x l is ∙ sym e) at.1)
-
-pub classes_more : {X : Type 0} (f : X → List ℕ) (xs : List X) (k : ℕ) (x : X) (word : List ℕ) (c : Class) (before after : List Class) → k < length xs → x ≡ get_or xs k x → word ≡ f x → IsNameWord word c → after ≡ before ++ c ∷ [] →
+classes_more : {X : Type 0} (f : X → List ℕ) (xs : List X) (k : ℕ) (x : X) (word : List ℕ) (c : Class) (before after : List Class) → k < length xs → x ≡ get_or xs k x → word ≡ f x → IsNameWord word c → after ≡ before ++ c ∷ [] →
     AllZip IsNameWord (take k (map f xs)) before → AllZip IsNameWord (take (k + 1) (map f xs)) after
 classes_more f xs k x word c before after l is e named grown h =
     subst (λ cs. AllZip IsNameWord (take (k + 1) (map f xs)) cs) (sym grown)
     (subst (λ ws. AllZip IsNameWord ws (before ++ c ∷ [])) (sym (front_at f xs k x l is)) (AllZip-more IsNameWord (take k (map f xs)) before (f x) c h (subst (λ w. IsNameWord w c) e named)))
+
+-- the first k words are names, of these classes unless memory was wanting
+pub record AreRead (words : List (List ℕ)) (k : ℕ) (classes : Result (List Class) NoMemory) : Type 0 where
+  pub names : HasNames words k
+  pub listed : IfOk classes (λ some. AllZip IsNameWord (take k words) some)
+
+pub AreRead-next : {X : Type 0} (f : X → List ℕ) (xs : List X) (k : ℕ) (x : X) (word : List ℕ) (c : Class) (before after : Result (List Class) NoMemory) → k < length xs → x ≡ get_or xs k x → word ≡ f x → IsNameWord word c → ((later : List ℕ) → name_then (k + 2) word later ≡ later) →
+    IfOk after (λ all. (some : List Class) × (before ≡ Ok some) × (all ≡ some ++ c ∷ [])) → AreRead (map f xs) k before → AreRead (map f xs) (k + 1) after
+AreRead-next f xs k x word c before after l is e named step grown h = record { names = HasNames-next f xs k x word c l is e named step h.names; listed = listed after grown }
+  where
+    listed : (after : Result (List Class) NoMemory) → IfOk after (λ all. (some : List Class) × (before ≡ Ok some) × (all ≡ some ++ c ∷ [])) → IfOk after (λ all. AllZip IsNameWord (take (k + 1) (map f xs)) all)
+    listed (Ok all) (some, was, more) =
+        let P : Result (List Class) NoMemory → Type 0 = λ r. IfOk r (λ some. AllZip IsNameWord (take k (map f xs)) some) in
+        classes_more f xs k x word c some all l is e named more (subst P was h.listed)
+    listed (Err why) gone = tt
+
+-- all words are names
+pub reads_names : (words : List (List ℕ)) (k : ℕ) (classes : Result (List Class) NoMemory) (some : List Class) → k ≡ length words → classes ≡ Ok some → AreRead words k classes → ReadsNames words (Ok some)
+reads_names words k classes some all is h =
+    let P : Result (List Class) NoMemory → Type 0 = λ r. IfOk r (λ cs. AllZip IsNameWord (take k words) cs) in
+    subst (λ ws. AllZip IsNameWord ws some) (take_all k words (omega (arith, all))) (subst P is h.listed)
+
+pub no_memory_for_names : (words : List (List ℕ)) (k : ℕ) (classes : Result (List Class) NoMemory) (why : Refusal) → k ≡ length words → AreRead words k classes → why ≡ out_of_memory → ReadsNames words (Err why)
+no_memory_for_names words k classes why all h is =
+    let Q : Refusal → Type 0 = λ r. ReadsNames words (Err r) in
+    subst Q (sym is) (inr ((refl, refl), (h.names.classes, subst (λ ws. AllZip IsNameWord ws h.names.classes) (take_all k words (omega (arith, all))) h.names.front)))
+
+-- a word that is no name
+pub refuses_names : (words : List (List ℕ)) (first : Misfit) (why : Refusal) → usage_note first ≡ names_text 2 words → ((classes : List Class) → ¬ AllZip IsNameWord words classes) → why ≡ of_misfit first → ReadsNames words (Err why)
+refuses_names words first why text none is =
+    let Q : Refusal → Type 0 = λ r. ReadsNames words (Err r) in
+    subst Q (sym is) (inl (refl, none, text))
 
 -- a word that is refused is no name
 pub no_name_word : (word bytes : List ℕ) (r : Result Class NameFault) (fault : NameFault) → bytes ≡ word → r ≡ Err fault → ((c : Class) → (r ≡ Ok c) ↔ NameOf bytes c) → (c : Class) → ¬ IsNameWord word c
@@ -128,8 +150,14 @@ at_word = codes "--at"
 abbrev pub frontier_word : List ℕ
 frontier_word = codes "frontier"
 
+abbrev pub certify_word : List ℕ
+certify_word = codes "certify"
+
 abbrev pub check_word : List ℕ
 check_word = codes "check"
+
+abbrev pub accept_word : List ℕ
+accept_word = codes "accept"
 
 abbrev pub trial_word : List ℕ
 trial_word = codes "trial"
@@ -152,7 +180,9 @@ not_word word other e q = differ (sym e ∙ (bytes_eq-Decides word other).1 q)
 -- the word with which a command begins
 abbrev pub first_word : Command → List ℕ
 first_word (Solve at) = solve_word
+first_word Certify = certify_word
 first_word Check = check_word
+first_word Accept = accept_word
 first_word (Answer (Label classes)) = label_word
 first_word (Answer Frontier) = frontier_word
 first_word (Answer (Why class)) = why_word
@@ -160,7 +190,9 @@ first_word (Answer (Why class)) = why_word
 pub asks_first : (words : List (List ℕ)) (command : Command) → Asks words command → (later : List (List ℕ)) × (words ≡ first_word command ∷ later)
 asks_first words (Solve None) h = ([], h)
 asks_first words (Solve (Some class)) (name, h, named) = (codes "--at" ∷ name ∷ [], h)
+asks_first words Certify h = ([], h)
 asks_first words Check h = ([], h)
+asks_first words Accept h = ([], h)
 asks_first words (Answer (Label classes)) (names, h, zip) = (names, h)
 asks_first words (Answer Frontier) h = ([], h)
 asks_first words (Answer (Why class)) (name, h, named) = (name ∷ [], h)
@@ -185,31 +217,23 @@ reads_label_misfit : (names : List (List ℕ)) → ((classes : List Class) → �
 reads_label_misfit names none = record { no_command = no_command; no_rows = λ h. not_word label_word rows_word refl (cons_heads h); no_trial = λ trial h. not_word label_word trial_word refl (cons_heads h.form) }
   where
     no_command : (command : Command) → ¬ Asks (label_word ∷ names) command
-    no_command (Solve at) h = not_word label_word solve_word refl (begins _ _ (Solve at) h)
-    no_command Check h = not_word label_word check_word refl (cons_heads h)
     no_command (Answer (Label classes)) (others, h, zip) = none classes (subst (λ ws. AllZip IsNameWord ws classes) (sym (cons_tails h)) zip)
-    no_command (Answer Frontier) h = not_word label_word frontier_word refl (cons_heads h)
-    no_command (Answer (Why class)) (name, h, named) = not_word label_word why_word refl (cons_heads h)
+    no_command command h = not_word label_word (first_word command) refl (begins _ _ command h)
 
 reads_why_misfit : (words : List (List ℕ)) → ((name : List ℕ) (class : Class) → words ≡ name ∷ [] → ¬ IsNameWord name class) → Misfits (why_word ∷ words)
 reads_why_misfit words none = record { no_command = no_command; no_rows = λ h. not_word why_word rows_word refl (cons_heads h); no_trial = λ trial h. not_word why_word trial_word refl (cons_heads h.form) }
   where
     no_command : (command : Command) → ¬ Asks (why_word ∷ words) command
-    no_command (Solve at) h = not_word why_word solve_word refl (begins _ _ (Solve at) h)
-    no_command Check h = not_word why_word check_word refl (cons_heads h)
-    no_command (Answer (Label classes)) (names, h, zip) = not_word why_word label_word refl (cons_heads h)
-    no_command (Answer Frontier) h = not_word why_word frontier_word refl (cons_heads h)
     no_command (Answer (Why class)) (name, h, named) = none name class (cons_tails h) named
+    no_command command h = not_word why_word (first_word command) refl (begins _ _ command h)
 
 reads_solve_misfit : (options : List (List ℕ)) → ((at : Option Class) → ¬ Asks (solve_word ∷ options) (Solve at)) → Misfits (solve_word ∷ options)
 reads_solve_misfit options none = record { no_command = no_command; no_rows = λ h. not_word solve_word rows_word refl (cons_heads h); no_trial = λ trial h. not_word solve_word trial_word refl (cons_heads h.form) }
   where
     no_command : (command : Command) → ¬ Asks (solve_word ∷ options) command
     no_command (Solve at) h = none at h
-    no_command Check h = not_word solve_word check_word refl (cons_heads h)
-    no_command (Answer (Label classes)) (names, h, zip) = not_word solve_word label_word refl (cons_heads h)
     no_command (Answer Frontier) h = not_word solve_word frontier_word refl (cons_heads h)
-    no_command (Answer (Why class)) (name, h, named) = not_word solve_word why_word refl (cons_heads h)
+    no_command command h = not_word solve_word (first_word command) refl (begins _ _ command h)
 
 pub reads_label : (word : List ℕ) (names : List (List ℕ)) (classes : List Class) → word ≡ label_word → AllZip IsNameWord names classes → Asks (word ∷ names) (Answer (Label classes))
 reads_label word names classes e h = (names, ap (λ w. w ∷ names) e, h)
@@ -254,39 +278,51 @@ map_none : {X Y : Type 0} (f : X → Y) (xs : List X) → map f xs ≡ [] → xs
 map_none f [] e = refl
 map_none f (x ∷ xs) e = cc
 
--- a first word that is none of those with which a command begins, or that has words behind it where none may follow
-pub refuses_all : {X : Type 0} (f : X → List ℕ) (word : List ℕ) (xs : List X) (why : Refusal) → bytes_eq word label_word ≡ false → bytes_eq word why_word ≡ false → bytes_eq word solve_word ≡ false → bytes_eq word trial_word ≡ false →
-    ¬ ((word ≡ frontier_word) × (xs ≡ [])) → ¬ ((word ≡ check_word) × (xs ≡ [])) → ¬ ((word ≡ rows_word) × (xs ≡ [])) → why ≡ of_misfit Form → ReadsWords (word ∷ map f xs) (Err why)
-refuses_all f word xs why label why_not solve trial_not frontier check rows is =
-    let Q : Refusal → Type 0 = λ r. ReadsWords (word ∷ map f xs) (Err r) in
+-- a first word that is none of those that stand alone, or that has words behind it
+pub none_alone : {X : Type 0} (f : X → List ℕ) (word : List ℕ) (xs : List X) → ¬ ((word ≡ frontier_word) × (xs ≡ [])) → ¬ ((word ≡ certify_word) × (xs ≡ [])) → ¬ ((word ≡ check_word) × (xs ≡ [])) → ¬ ((word ≡ accept_word) × (xs ≡ [])) → ¬ ((word ≡ rows_word) × (xs ≡ [])) → AreNoneAlone (word ∷ map f xs)
+none_alone f word xs frontier certify check accept rows = record {
+  no_frontier = λ h. frontier (cons_heads h, map_none f xs (cons_tails h));
+  no_certify = λ h. certify (cons_heads h, map_none f xs (cons_tails h));
+  no_check = λ h. check (cons_heads h, map_none f xs (cons_tails h));
+  no_accept = λ h. accept (cons_heads h, map_none f xs (cons_tails h));
+  no_rows = λ h. rows (cons_heads h, map_none f xs (cons_tails h));
+}
+
+-- words that do not stand alone, and of which the first is none of those that other words follow
+pub refuses_all : (word : List ℕ) (words : List (List ℕ)) (misfit : Misfit) (why : Refusal) → bytes_eq word label_word ≡ false → bytes_eq word why_word ≡ false → bytes_eq word solve_word ≡ false → bytes_eq word trial_word ≡ false →
+    ReadsAlone (word ∷ words) (Err misfit) → why ≡ of_misfit misfit → ReadsWords (word ∷ words) (Err why)
+refuses_all word words misfit why label why_not solve trial_not (none, form) is =
+    let Q : Refusal → Type 0 = λ r. ReadsWords (word ∷ words) (Err r) in
     subst Q (sym is) (inl (
       refl,
       record {
         no_command = no_command;
-        no_rows = λ h. rows (cons_heads h, map_none f xs (cons_tails h));
+        no_rows = none.no_rows;
         no_trial = λ trial h. not_word word trial_word trial_not (cons_heads h.form);
       },
-      sym text,
+      form ∙ sym text,
     ))
   where
-    no_command : (command : Command) → ¬ Asks (word ∷ map f xs) command
+    no_command : (command : Command) → ¬ Asks (word ∷ words) command
     no_command (Solve at) h = not_word word solve_word solve (begins _ _ (Solve at) h)
-    no_command Check h = check (cons_heads h, map_none f xs (cons_tails h))
+    no_command Certify h = none.no_certify h
+    no_command Check h = none.no_check h
+    no_command Accept h = none.no_accept h
     no_command (Answer (Label classes)) (names, h, zip) = not_word word label_word label (cons_heads h)
-    no_command (Answer Frontier) h = frontier (cons_heads h, map_none f xs (cons_tails h))
+    no_command (Answer Frontier) h = none.no_frontier h
     no_command (Answer (Why class)) (name, h, named) = not_word word why_word why_not (cons_heads h)
 
     after_solve : List ℕ
-    after_solve = if bytes_eq word trial_word then trial_text (map f xs) else misfit_text
+    after_solve = if bytes_eq word trial_word then trial_text words else misfit_text
 
     after_why : List ℕ
-    after_why = if bytes_eq word solve_word then option_text (map f xs) else after_solve
+    after_why = if bytes_eq word solve_word then option_text words else after_solve
 
     after_label : List ℕ
-    after_label = if bytes_eq word why_word then name_text (map f xs) else after_why
+    after_label = if bytes_eq word why_word then name_text words else after_why
 
-    text : later_text word (map f xs) ≡ misfit_text
-    text = ap (λ b. if b then names_text 2 (map f xs) else after_label) label ∙ ap (λ b. if b then name_text (map f xs) else after_why) why_not ∙ ap (λ b. if b then option_text (map f xs) else after_solve) solve ∙ ap (λ b. if b then trial_text (map f xs) else misfit_text) trial_not
+    text : later_text word words ≡ misfit_text
+    text = ap (λ b. if b then names_text 2 words else after_label) label ∙ ap (λ b. if b then name_text words else after_why) why_not ∙ ap (λ b. if b then option_text words else after_solve) solve ∙ ap (λ b. if b then trial_text words else misfit_text) trial_not
 
 tail_of : {X : Type 0} (f : X → List ℕ) (xs : List X) (x : X) → 0 < length xs → x ≡ get_or xs 0 x → map f xs ≡ f x ∷ map f (drop 1 xs)
 tail_of f [] x l is = absurd (omega (arith, l))

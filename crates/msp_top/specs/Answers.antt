@@ -1,16 +1,14 @@
 -- What the code's answers mean. No public contract cites this file.
-use Rattle.std.specs.Prelude.{◌≡◌, ◌⊎◌, ℕ, ◌≤◌, List, Option, Result, Ok, Err, codes}
+use Rattle.std.specs.Prelude.{◌≡◌, ◌⊎◌, ℕ, ◌≤◌, List, Result, Ok, Err, codes}
 use Rattle.msp_top.specs.declared.answers.Report.{Report}
 use Rattle.msp_top.specs.declared.refusal.Refusal.{Refusal}
-use Rattle.msp_class.specs.declared.class.Class.{Class}
 use Rattle.msp_gen.specs.Faults.{IsCount}
 use Rattle.msp_grammar.specs.declared.filed.Filed.{Filed}
 use Rattle.msp_grammar.specs.InstanceText.{IsInstanceText}
 use Rattle.msp_top.specs.declared.command.TheConstants.{GREATEST_SEED}
 use Rattle.msp_top.specs.declared.command.Trial.{Trial}
 use Rattle.msp_top.specs.Outcome.{Outcome, report, refusal}
-use Rattle.msp_top.specs.Solves.{SolveIsRight}
-use Rattle.msp_top.specs.Checks.{CheckIsRight, BeginsWith}
+use Rattle.msp_top.specs.Checks.{BeginsWith}
 use Rattle.msp_top.specs.Note.{note_text}
 
 abbrev pub IsNoMemory : Refusal → Type 0
@@ -21,13 +19,13 @@ abbrev pub Answers : (Outcome → Type 0) → Result Report Refusal → Type 0
 Answers IsRight (Ok made) = IsRight (report made.status made.text.items)
 Answers IsRight (Err why) = IsNoMemory why ⊎ IsRight (refusal why.status (note_text why.note))
 
--- The outcome is right, at the class that is named, for each input that is the text of the instance and of its names.
-abbrev pub SolvesFiled : Option Class → Filed → Outcome → Type 0
-SolvesFiled at filed outcome = (input : List ℕ) → IsInstanceText input filed.instance filed.names → SolveIsRight input at outcome
+-- The outcome is right for each input that is the text of the instance and of its names.
+abbrev pub OfFiled : (List ℕ → Outcome → Type 0) → Filed → Outcome → Type 0
+OfFiled IsRightOf filed outcome = (input : List ℕ) → IsInstanceText input filed.instance filed.names → IsRightOf input outcome
 
 -- The outcome is right for each input that begins with the instance's text, which this rest follows.
-abbrev pub ChecksRest : Filed → ℕ → List ℕ → Outcome → Type 0
-ChecksRest filed line rest outcome = (input : List ℕ) → BeginsWith input filed line rest → CheckIsRight input outcome
+abbrev pub OfRest : (List ℕ → Outcome → Type 0) → Filed → ℕ → List ℕ → Outcome → Type 0
+OfRest IsRightOf filed line rest outcome = (input : List ℕ) → BeginsWith input filed line rest → IsRightOf input outcome
 
 -- The numbers of the trial lie in their ranges.
 pub record IsInRange (trial : Trial) : Type 0 where

@@ -8,7 +8,7 @@ use Rattle.msp_text.specs.Numbers.{number_of}
 use Rattle.msp_instance.specs.declared.ranges.TheConstants.{MOST_JOBS}
 use Rattle.msp_top.specs.declared.command.TheConstants.{GREATEST_SEED}
 use Rattle.msp_top.specs.declared.command.Command.{Command}
-use Rattle.msp_top.specs.declared.command.Command.TheVariants.{Solve, Check, Answer}
+use Rattle.msp_top.specs.declared.command.Command.TheVariants.{Solve, Certify, Check, Accept, Answer}
 use Rattle.msp_top.specs.declared.command.Question.TheVariants.{Label, Frontier, Why}
 use Rattle.msp_top.specs.declared.command.Trial.{Trial}
 
@@ -24,12 +24,14 @@ pub record IsNumberWord (least greatest : ℕ) (word : List ℕ) (number : ℕ) 
   pub low : least ≤ number
   pub high : number ≤ greatest
 
--- The words ask for the command: `solve`, alone or with `--at` and a name of a class; `check`; `label` and any number of names;
--- `frontier`; `why` and a name.
+-- The words ask for the command: `solve`, alone or with `--at` and a name of a class; `certify`; `check`; `accept`; `label` and
+-- any number of names; `frontier`; `why` and a name.
 abbrev pub Asks : List (List ℕ) → Command → Type 0
 Asks words (Solve None) = words ≡ codes "solve" ∷ []
 Asks words (Solve (Some class)) = (name : List ℕ) × (words ≡ codes "solve" ∷ codes "--at" ∷ name ∷ []) × IsNameWord name class
+Asks words Certify = words ≡ codes "certify" ∷ []
 Asks words Check = words ≡ codes "check" ∷ []
+Asks words Accept = words ≡ codes "accept" ∷ []
 Asks words (Answer (Label classes)) = (names : List (List ℕ)) × (words ≡ codes "label" ∷ names) × AllZip IsNameWord names classes
 Asks words (Answer Frontier) = words ≡ codes "frontier" ∷ []
 Asks words (Answer (Why class)) = (name : List ℕ) × (words ≡ codes "why" ∷ name ∷ []) × IsNameWord name class

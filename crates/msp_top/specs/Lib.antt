@@ -7,7 +7,9 @@ pub mod Usage
 pub mod Outcome
 pub mod Solves
 pub mod Trials
+pub mod Certifies
 pub mod Checks
+pub mod Accepts
 pub mod Reports
 pub mod Run
 pub mod Note

@@ -1,4 +1,4 @@
--- The most bytes of an input, that of `check` apart, and the greatest seed of a trial, by their numbers.
+-- The most bytes of an input, those of an instance text with another text after it, and the greatest seed of a trial, by their numbers.
 use Rattle.std.specs.Prelude.{◌≡◌}
 use Rattle.msp_top.specs.declared.answers.TheConstants.{INPUT_LIMIT, CHECK_LIMIT}
 use Rattle.msp_top.specs.declared.command.TheConstants.{GREATEST_SEED}

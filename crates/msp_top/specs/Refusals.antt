@@ -6,11 +6,12 @@ use Rattle.msp_io.specs.declared.whole.Taken.TheVariants as taken
 use Rattle.msp_file.specs.declared.fault.FileFault.{FileFault}
 use Rattle.msp_results.specs.declared.fault.ResultFault.{ResultFault}
 use Rattle.msp_dispatch.specs.declared.Cannot.{Cannot}
+use Rattle.msp_dispatch.specs.declared.Uncertified.{Uncertified as WhyUncertified}
 use Rattle.msp_top.specs.declared.refusal.Refusal.{Refusal}
-use Rattle.msp_top.specs.declared.notes.Note.TheVariants.{Usage, CannotRead, CannotWrite, OutOfMemory, TooLong, File, Unsolved, Unchecked, Results}
+use Rattle.msp_top.specs.declared.notes.Note.TheVariants.{Usage, CannotRead, CannotWrite, OutOfMemory, TooLong, File, Unsolved, Uncertified, Unchecked, Results}
 use Rattle.msp_top.specs.declared.words.Misfit.{Misfit}
 use Rattle.msp_top.specs.Files.{file_status}
-use Rattle.msp_top.specs.Cannots.{cannot_status}
+use Rattle.msp_top.specs.Cannots.{cannot_status, uncertified_status}
 use Rattle.msp_top.specs.Results.{results_status}
 
 abbrev pub out_of_memory : Refusal
@@ -30,6 +31,9 @@ of_file_fault fault = record { status = file_status fault; note = File fault }
 
 abbrev pub of_cannot : Cannot → Refusal
 of_cannot cannot = record { status = cannot_status cannot; note = Unsolved cannot }
+
+abbrev pub of_uncertified : WhyUncertified → Refusal
+of_uncertified why = record { status = uncertified_status why; note = Uncertified why }
 
 abbrev pub of_unchecked : Class → Refusal
 of_unchecked class = record { status = 5; note = Unchecked class }

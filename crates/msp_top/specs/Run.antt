@@ -7,26 +7,32 @@ use Rattle.msp_io.specs.Views.{SinkView}
 use Rattle.msp_report.specs.RowsText.{rows_report}
 use Rattle.msp_top.specs.declared.answers.TheConstants.{INPUT_LIMIT, CHECK_LIMIT}
 use Rattle.msp_top.specs.declared.command.Command.{Command}
-use Rattle.msp_top.specs.declared.command.Command.TheVariants.{Solve, Check, Answer}
+use Rattle.msp_top.specs.declared.command.Command.TheVariants.{Solve, Certify, Check, Accept, Answer}
 use Rattle.msp_top.specs.declared.command.Trial.{Trial}
 use Rattle.msp_top.specs.Commands.{Asks, AsksForRows, AsksForTrial}
 use Rattle.msp_top.specs.Usage.{usage_text}
 use Rattle.msp_top.specs.Outcome.{Outcome, report, refusal}
 use Rattle.msp_top.specs.Solves.{SolveIsRight}
+use Rattle.msp_top.specs.Certifies.{CertifyIsRight}
 use Rattle.msp_top.specs.Checks.{CheckIsRight}
+use Rattle.msp_top.specs.Accepts.{AcceptIsRight}
 use Rattle.msp_top.specs.Reports.{ReadsResults}
 use Rattle.msp_top.specs.Trials.{TrialIsRight}
 
 -- The outcome is right for a command and an input within the limit.
 abbrev pub IsRightWithin : Command → List ℕ → Outcome → Type 0
 IsRightWithin (Solve at) input outcome = SolveIsRight input at outcome
+IsRightWithin Certify input outcome = CertifyIsRight input outcome
 IsRightWithin Check input outcome = CheckIsRight input outcome
+IsRightWithin Accept input outcome = AcceptIsRight input outcome
 IsRightWithin (Answer question) input outcome = ReadsResults question input outcome
 
 -- The most bytes of an input.
 abbrev pub limit_of : Command → ℕ
 limit_of (Solve at) = INPUT_LIMIT
+limit_of Certify = INPUT_LIMIT
 limit_of Check = CHECK_LIMIT
+limit_of Accept = CHECK_LIMIT
 limit_of (Answer question) = INPUT_LIMIT
 
 abbrev pub too_long_text : ℕ → List ℕ

@@ -1,5 +1,5 @@
 -- What reading the words of a command line gives. No public contract cites this file.
-use Rattle.std.specs.Prelude.{◌≡◌, ◌⊎◌, ℕ, List, [], ◌∷◌, Option, Result, Ok, Err, codes}
+use Rattle.std.specs.Prelude.{◌≡◌, ◌≢◌, ◌⊎◌, ℕ, List, [], ◌∷◌, Option, Result, Ok, Err, codes}
 use Rattle.std.specs.List.{AllZip}
 use Rattle.msp_class.specs.declared.class.Class.{Class}
 use Rattle.msp_top.specs.declared.command.Command.{Command}
@@ -10,7 +10,7 @@ use Rattle.msp_top.specs.declared.command.Trial.{Trial}
 use Rattle.msp_top.specs.declared.words.Misfit.{Misfit}
 use Rattle.msp_top.specs.declared.refusal.Refusal.{Refusal}
 use Rattle.msp_top.specs.Commands.{Asks, AsksForRows, AsksForTrial, Misfits, IsNameWord, IsNumberWord}
-use Rattle.msp_top.specs.Usage.{names_text, name_text, name_then, number_then, option_text, trial_text, usage_text}
+use Rattle.msp_top.specs.Usage.{misfit_text, names_text, name_text, name_then, number_then, option_text, trial_text, usage_text}
 use Rattle.msp_top.specs.Note.{usage_note, note_text}
 use Rattle.msp_top.specs.Answers.{IsNoMemory}
 
@@ -52,6 +52,19 @@ ReadsOneName words (Err misfit) = ((name : List ℕ) (class : Class) → words �
 abbrev pub ReadsOption : List (List ℕ) → Result (Option Class) Misfit → Type 0
 ReadsOption options (Ok at) = Asks (codes "solve" ∷ options) (Solve at)
 ReadsOption options (Err misfit) = ((at : Option Class) → ¬ Asks (codes "solve" ∷ options) (Solve at)) × (usage_note misfit ≡ option_text options)
+
+-- The words are none of those that ask for something by one word.
+pub record AreNoneAlone (words : List (List ℕ)) : Type 0 where
+  pub no_frontier : words ≢ codes "frontier" ∷ []
+  pub no_certify : words ≢ codes "certify" ∷ []
+  pub no_check : words ≢ codes "check" ∷ []
+  pub no_accept : words ≢ codes "accept" ∷ []
+  pub no_rows : words ≢ codes "rows" ∷ []
+
+-- A word without words behind it asks for the request.
+abbrev pub ReadsAlone : List (List ℕ) → Result Request Misfit → Type 0
+ReadsAlone words (Ok request) = ReadsWords words (Ok request)
+ReadsAlone words (Err misfit) = AreNoneAlone words × (usage_note misfit ≡ misfit_text)
 
 -- The words after `trial` ask for the trial.
 abbrev pub ReadsTrial : List (List ℕ) → Result Trial Misfit → Type 0

@@ -4,8 +4,10 @@ ghost use Rattle.msp_io.specs.declared.whole.TheConstants.{GREATEST_LIMIT};
 ghost use Rattle.msp_instance.specs.Conditions.{InClass};
 ghost use Rattle.msp_top.specs.Solves.{SolveIsRight};
 ghost use Rattle.msp_top.specs.Run.{IsRightWithin, limit_of};
-ghost use Rattle.msp_top.specs.Answers.{Answers, SolvesFiled};
+ghost use Rattle.msp_top.specs.Answers.{Answers, OfFiled};
 
+use crate::accepts::accept_answer;
+use crate::certifies::certify_answer;
 use crate::checks::check_answer;
 use crate::command::Command;
 use crate::questions::answer_question;
@@ -18,9 +20,9 @@ use msp_grammar::Filed;
 use msp_report::solve_text;
 use std::alloc::Global;
 
-/// The most bytes of an input, but for that of `check`.
+/// The most bytes of an input, but for that of `check` and `accept`.
 pub const INPUT_LIMIT: u64 = 4_194_304;
-/// The most bytes of an instance text with a schedule text after it.
+/// The most bytes of an instance text with a schedule text or a certificate text after it.
 pub const CHECK_LIMIT: u64 = 67_108_864;
 
 /// The most bytes of the input of a command.
@@ -29,8 +31,8 @@ pub fn limit_of(command: &Command) -> u64
     ensures small { result ≤ GREATEST_LIMIT }
 {
     match command {
-        Command::Check => CHECK_LIMIT,
-        Command::Solve { .. } | Command::Answer { .. } => INPUT_LIMIT,
+        Command::Check | Command::Accept => CHECK_LIMIT,
+        Command::Solve { .. } | Command::Certify | Command::Answer { .. } => INPUT_LIMIT,
     }
 }
 
@@ -48,7 +50,9 @@ pub fn answer_to(alloc: Global, command: &Command, input: &[u8]) -> Result<Repor
 {
     match command {
         Command::Solve { at } => solve_answer(alloc, *at, input),
+        Command::Certify => certify_answer(alloc, input),
         Command::Check => check_answer(alloc, input),
+        Command::Accept => accept_answer(alloc, input),
         Command::Answer { question } => answer_question(alloc, question, input),
     }
 }
@@ -65,7 +69,7 @@ fn solve_answer(alloc: Global, at: Option<Class>, input: &[u8]) -> Result<Report
 fn answer_filed(alloc: Global, at: Option<Class>, filed: &Filed) -> Result<Report, Refusal>
     requires class { InClass filed.now.instance }
     requires named { length filed.now.names ≡ length filed.now.instance.jobs }
-    ensures { Answers (SolvesFiled at filed.now) result }
+    ensures { Answers (OfFiled (λ input. SolveIsRight input at) filed.now) result }
 {
     let answer = solve_any(alloc, &filed.instance, at)?;
     let text = solve_text(alloc, &filed.names, &answer)?;

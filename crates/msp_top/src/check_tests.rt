@@ -82,11 +82,11 @@ fn checks_schedules(rt: HostRuntime) -> Result<(), Fail> {
     Ok(())
 }
 
-/// The text of an instance with the schedule of a report behind it.
-pub fn behind(alloc: Global, text: &[u8], report: &[u8]) -> Result<Vec<u8>, Fail> {
+/// The text of an instance with what stands in a report behind it, from the line on that begins so.
+pub fn behind(alloc: Global, text: &[u8], report: &[u8], begin: &[u8]) -> Result<Vec<u8>, Fail> {
     let mut whole = text.to_vec(alloc)?;
     for at in 0..report.len() {
-        if report[at..].starts_with(b"schedule\n") {
+        if report[at..].starts_with(begin) {
             whole.extend_from_slice(&report[at..])?;
             return Ok(whole);
         }
@@ -97,7 +97,7 @@ pub fn behind(alloc: Global, text: &[u8], report: &[u8]) -> Result<Vec<u8>, Fail
 #[test]
 fn what_is_solved_is_feasible(rt: HostRuntime) -> Result<(), Fail> {
     for case in SOLVED {
-        let text = behind(rt.alloc(), case.text, case.out)?;
+        let text = behind(rt.alloc(), case.text, case.out, b"schedule\n")?;
         let seen = outcome(rt.alloc(), &calling(&["check"], &text))?;
         assert_eq!(rt; seen.status, 0);
     }

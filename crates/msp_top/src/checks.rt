@@ -6,7 +6,7 @@ ghost use Rattle.msp_schedule.specs.Feasible.{Feasible};
 ghost use Rattle.msp_grammar.specs.ScheduleText.{IsStated};
 ghost use Rattle.msp_file.specs.declared.schedule.TheConstants.{LAST_LINE};
 ghost use Rattle.msp_top.specs.Checks.{HasCheckStatus, IsCheckReport, CheckIsRight};
-ghost use Rattle.msp_top.specs.Answers.{Answers, ChecksRest};
+ghost use Rattle.msp_top.specs.Answers.{Answers, OfRest};
 
 use crate::answers::{CHECK_LIMIT, Report};
 use crate::refusal::{Refusal, unchecked};
@@ -22,10 +22,8 @@ pub fn check_answer(alloc: Global, input: &[u8]) -> Result<Report, Refusal>
     requires { length input.now ≤ CHECK_LIMIT }
     ensures { Answers (CheckIsRight input.now) result }
 {
-    match read_front(alloc, input) {
-        Ok(front) => check_rest(alloc, &front.filed, front.line, &input[front.used..]),
-        Err(fault) => Err(Refusal::from(fault)),
-    }
+    let front = read_front(alloc, input)?;
+    check_rest(alloc, &front.filed, front.line, &input[front.used..])
 }
 
 /// Whether the class is cut and on unrelated machines.
@@ -40,15 +38,13 @@ fn check_rest(alloc: Global, filed: &Filed, line: u32, rest: &[u8]) -> Result<Re
     requires class { InClass filed.now.instance }
     requires rest { length rest.now ≤ CHECK_LIMIT }
     requires line { (1 ≤ line) × (line ≤ LAST_LINE) }
-    ensures { Answers (ChecksRest filed.now line rest.now) result }
+    ensures { Answers (OfRest CheckIsRight filed.now line rest.now) result }
 {
     if is_unchecked(filed.instance.class) {
         return Err(unchecked(filed.instance.class));
     }
-    match read_schedule(alloc, &filed.names, rest, line) {
-        Ok(stated) => Ok(report_on(alloc, filed, &stated)?),
-        Err(fault) => Err(Refusal::from(fault)),
-    }
+    let stated = read_schedule(alloc, &filed.names, rest, line)?;
+    Ok(report_on(alloc, filed, &stated)?)
 }
 
 /// The status where the schedule breaks a condition first, or none.

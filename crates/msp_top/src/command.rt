@@ -17,8 +17,12 @@ pub enum Question {
 pub enum Command {
     /// To solve an instance, at a class of solvers where one is named.
     Solve { at: Option<Class> },
+    /// To solve an instance, and to show that no schedule costs less.
+    Certify,
     /// To check a schedule that stands after its instance.
     Check,
+    /// To judge a certificate that stands after its instance.
+    Accept,
     /// To answer a question from a file of results.
     Answer { question: Question },
 }

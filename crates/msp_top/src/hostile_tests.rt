@@ -1,6 +1,8 @@
 // Devices that fail at one of their calls, texts that are cut at each byte, and damaged texts.
 ghost use Rattle.std.specs.Prelude.{◌≢◌};
 
+use crate::accept_tests::ACCEPTED;
+use crate::certify_tests::CERTIFIED;
 use crate::check_tests::CHECKED;
 use crate::run;
 use crate::tests::{Call, Case, Seen, TEXT, calling, gives, outcome};
@@ -8,10 +10,12 @@ use msp_io::{SureSink, SureSource};
 use std::alloc::Global;
 use std::test::Fail;
 
-/// A call of each command that makes and solves, checks or only writes: its words, its input, and whether it reads.
+/// A call of each command that makes and solves, checks, judges or only writes: its words, its input, and whether it reads.
 const CALLS: &[(&[&str], &[u8], bool)] = &[
     (&["solve"], TEXT, true),
+    (&["certify"], CERTIFIED, true),
     (&["check"], CHECKED, true),
+    (&["accept"], ACCEPTED, true),
     (&["trial", "1||sumwC", "3", "1"], b"", false),
     (&["rows"], b"", false),
 ];
@@ -158,7 +162,9 @@ const WHOLE: &[(&[&str], &[u8])] = &[
         &["solve"],
         b"msp 1\nclass 1||Lmax\njob a p=2 d=4\njob b p=3 d=-2\nend\n",
     ),
+    (&["certify"], CERTIFIED),
     (&["check"], CHECKED),
+    (&["accept"], ACCEPTED),
     (
         &["solve"],
         b"msp 1\nclass Q||sumC\nmachines 2\nspeeds 3 2\njob a p=5\njob b p=4\nend\n",

@@ -3,7 +3,13 @@
 //! It stands on all that it calls. The program uses the clauses of `run`.
 #![tactic(auto)]
 
+#[cfg(test)]
+mod accept_tests;
+mod accepts;
 mod answers;
+mod certifies;
+#[cfg(test)]
+mod certify_tests;
 #[cfg(test)]
 mod check_tests;
 mod checks;

@@ -5,11 +5,11 @@ ghost use Rattle.msp_io.specs.Whole.{Puts};
 ghost use Rattle.msp_top.specs.Usage.{misspelled_text, misnumbered_text};
 ghost use Rattle.msp_top.specs.Run.{IsTold, note_line, too_long_text};
 ghost use Rattle.msp_top.specs.Note.{usage_note, note_text};
-ghost use Rattle.msp_top.specs.Cannots.{cannot_text};
+ghost use Rattle.msp_top.specs.Cannots.{cannot_text, uncertified_text};
 
 use crate::words::Misfit;
 use msp_class::Class;
-use msp_dispatch::Cannot;
+use msp_dispatch::{Cannot, Uncertified};
 use msp_file::FileFault;
 use msp_io::{Sink, WriteFault, write_all};
 use msp_name::{NameFault, print};
@@ -23,6 +23,7 @@ pub enum Note {
     TooLong { limit: u64 },
     File(FileFault),
     Unsolved(Cannot),
+    Uncertified(Uncertified),
     /// No schedules of the class are checked.
     Unchecked { class: Class },
     Results(ResultFault),
@@ -113,6 +114,16 @@ fn put_cannot<E: Sink>(notes: &mut E, why: Cannot) -> Result<(), WriteFault>
     }
 }
 
+fn put_uncertified<E: Sink>(notes: &mut E, why: Uncertified) -> Result<(), WriteFault>
+    ensures { Puts (E.seen notes.old) (E.seen notes.new) (uncertified_text why) result }
+{
+    match why {
+        Uncertified::NoCertificate { class } => put_to_class(notes, b"no certificate for ", class),
+        Uncertified::Unfit { class } => put_cannot(notes, Cannot::Unfit { class }),
+        Uncertified::Memory => write_all(notes, b"out of memory"),
+    }
+}
+
 fn put_note<E: Sink>(notes: &mut E, note: &Note) -> Result<(), WriteFault>
     ensures { Puts (E.seen notes.old) (E.seen notes.new) (note_text note.now) result }
 {
@@ -121,6 +132,7 @@ fn put_note<E: Sink>(notes: &mut E, note: &Note) -> Result<(), WriteFault>
         Note::TooLong { limit } => put_too_long(notes, *limit),
         Note::File(fault) => write_all(notes, fault.text().bytes()),
         Note::Unsolved(why) => put_cannot(notes, *why),
+        Note::Uncertified(why) => put_uncertified(notes, *why),
         Note::Unchecked { class } => put_to_class(notes, b"no check for ", *class),
         Note::Results(fault) => write_all(notes, fault.text().bytes()),
         Note::CannotRead => write_all(notes, b"cannot read"),

@@ -2,7 +2,7 @@
 ghost use Rattle.std.specs.Prelude.{◌≡◌};
 ghost use Rattle.msp_top.specs.Refusals.{of_taken, of_unchecked};
 ghost use Rattle.msp_top.specs.Files.{file_status};
-ghost use Rattle.msp_top.specs.Cannots.{cannot_status};
+ghost use Rattle.msp_top.specs.Cannots.{cannot_status, uncertified_status};
 ghost use Rattle.msp_top.specs.Results.{results_status};
 
 use crate::notes::Note;
@@ -11,7 +11,7 @@ use crate::statuses::{
 };
 use crate::words::Misfit;
 use msp_class::{Class, NoMemory};
-use msp_dispatch::Cannot;
+use msp_dispatch::{Cannot, Uncertified};
 use msp_file::FileFault;
 use msp_io::{Taken, WriteFault};
 use msp_results::ResultFault;
@@ -84,6 +84,19 @@ impl From<Cannot> for Refusal {
         Refusal {
             status: cannot_status(cannot),
             note: Note::Unsolved(cannot),
+        }
+    }
+}
+
+impl From<Uncertified> for Refusal {
+    ghost use Rattle.msp_top.specs.Refusals.{of_uncertified};
+
+    ghost from_gives = { λ why refusal. refusal ≡ of_uncertified why };
+
+    fn from(why: Uncertified) -> Refusal {
+        Refusal {
+            status: uncertified_status(why),
+            note: Note::Uncertified(why),
         }
     }
 }
@@ -161,6 +174,17 @@ fn cannot_status(cannot: Cannot) -> u8
         Cannot::NotSolved { .. } | Cannot::NoRoute { .. } => NO_ROUTE,
         Cannot::Unfit { .. } => LIMIT,
         Cannot::Memory => NO_MEMORY,
+    }
+}
+
+/// The status where an instance gets no certificate.
+fn uncertified_status(why: Uncertified) -> u8
+    ensures { result ≡ uncertified_status why }
+{
+    match why {
+        Uncertified::NoCertificate { .. } => NO_SOLVER,
+        Uncertified::Unfit { .. } => LIMIT,
+        Uncertified::Memory => NO_MEMORY,
     }
 }
 

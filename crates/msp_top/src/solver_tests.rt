@@ -392,12 +392,12 @@ fn free_choices_cost_the_least(rt: HostRuntime) -> Result<(), Fail> {
 fn what_each_solver_answers_is_feasible(rt: HostRuntime) -> Result<(), Fail> {
     for case in FREE {
         let solved = outcome(rt.alloc(), &calling(case.words, case.text))?;
-        let text = behind(rt.alloc(), case.text, &solved.out)?;
+        let text = behind(rt.alloc(), case.text, &solved.out, b"schedule\n")?;
         let seen = outcome(rt.alloc(), &calling(&["check"], &text))?;
         assert_eq!(rt; seen.status, 0);
     }
     for case in WORKED {
-        let text = behind(rt.alloc(), case.text, case.out)?;
+        let text = behind(rt.alloc(), case.text, case.out, b"schedule\n")?;
         let seen = outcome(rt.alloc(), &calling(&["check"], &text))?;
         assert_eq!(rt; seen.status, 0);
     }

@@ -1,11 +1,11 @@
 // The words of a command line.
-ghost use Rattle.std.specs.Prelude.{◌≡◌, ◌↔◌, ℕ, ◌∷◌, [], List as Items, map, string_bytes, IsTrue, IfOk, OnOk, IfErr};
+ghost use Rattle.std.specs.Prelude.{◌≡◌, ◌↔◌, ℕ, ◌∷◌, ◌++◌, [], List as Items, map, string_bytes, IsTrue, IfOk, Ok};
 ghost use Rattle.std.specs.List.{AllZip};
 ghost use Rattle.msp_class.specs.declared.class.Class.{Class as ClassValue};
 ghost use Rattle.msp_top.specs.Commands.{IsNameWord};
 ghost use Rattle.msp_top.specs.Usage.{name_then, names_text};
 ghost use Rattle.msp_top.specs.Note.{usage_note};
-ghost use Rattle.msp_top.specs.Words.{ReadsWords, ReadsName, ReadsNames, ReadsOneName, ReadsOption};
+ghost use Rattle.msp_top.specs.Words.{ReadsWords, ReadsName, ReadsNames, ReadsOneName, ReadsOption, ReadsAlone};
 
 use crate::command::{Command, Question, Request};
 use crate::refusal::Refusal;
@@ -46,49 +46,27 @@ pub fn read_name(word: &str, place: u64) -> Result<Class, Misfit>
     }
 }
 
-/// Finds the first word that is no name.
-fn check_names(names: &[String]) -> Result<(), Misfit>
-    ensures names { OnOk result ((classes : Items ClassValue) × AllZip IsNameWord (map string_bytes names.now) classes) }
-    ensures fault { let words = map string_bytes names.now in IfErr result (λ misfit.
-        (usage_note misfit ≡ names_text 2 words) × ((classes : Items ClassValue) → ¬ AllZip IsNameWord words classes)) }
+/// The classes with one more behind them. Where memory was wanting before, it is wanting still.
+fn grown(classes: Result<List<Class>, NoMemory>, class: Class) -> Result<List<Class>, NoMemory>
+    ensures { IfOk result (λ all. (some : Items ClassValue) × (classes ≡ Ok some) × (all ≡ some ++ class ∷ [])) }
 {
-    for k in 0..names.len() {
-        read_name(names[k].as_str(), k as u64 + 2)?;
-    }
-    Ok(())
-}
-
-/// The class of a name.
-fn class_of(word: &str) -> Class
-    requires { (c : ClassValue) × IsNameWord word.now c }
-    ensures { IsNameWord word.now result }
-{
-    match parse(word.as_bytes()) {
-        Ok(class) => class,
-        Err(_) => unreachable!(),
-    }
-}
-
-fn classes_of(alloc: Global, names: &[String]) -> Result<List<Class>, NoMemory>
-    requires { (classes : Items ClassValue) × AllZip IsNameWord (map string_bytes names.now) classes }
-    ensures { IfOk result (λ classes. AllZip IsNameWord (map string_bytes names.now) classes) }
-{
-    let mut classes = List::new(alloc);
-    for k in 0..names.len() {
-        let class = class_of(names[k].as_str());
-        if classes.push(class).is_err() {
-            return Err(NoMemory);
-        }
+    let mut classes = classes?;
+    if classes.push(class).is_err() {
+        return Err(NoMemory);
     }
     Ok(classes)
 }
 
-/// The classes of the words after `label`. No memory is taken for words that are no names.
+/// The classes of the words after `label`. Want of memory is told only where all words are names.
 fn read_names(alloc: Global, names: &[String]) -> Result<List<Class>, Refusal>
     ensures { ReadsNames (map string_bytes names.now) result }
 {
-    check_names(names)?;
-    Ok(classes_of(alloc, names)?)
+    let mut classes = Ok(List::new(alloc));
+    for k in 0..names.len() {
+        let class = read_name(names[k].as_str(), k as u64 + 2)?;
+        classes = grown(classes, class);
+    }
+    Ok(classes?)
 }
 
 /// The class of the word after `why`.
@@ -122,6 +100,30 @@ fn is_alone(name: &str, word: &str, words: &[String]) -> bool
     word == name && words.is_empty()
 }
 
+/// What a word asks for that no word follows.
+fn read_alone(word: &str, words: &[String]) -> Result<Request, Misfit>
+    ensures { ReadsAlone (word.now ∷ map string_bytes words.now) result }
+{
+    if is_alone("frontier", word, words) {
+        return Ok(Request::Command(Command::Answer {
+            question: Question::Frontier,
+        }));
+    }
+    if is_alone("certify", word, words) {
+        return Ok(Request::Command(Command::Certify));
+    }
+    if is_alone("check", word, words) {
+        return Ok(Request::Command(Command::Check));
+    }
+    if is_alone("accept", word, words) {
+        return Ok(Request::Command(Command::Accept));
+    }
+    if is_alone("rows", word, words) {
+        return Ok(Request::Rows);
+    }
+    Err(Misfit::Form)
+}
+
 /// What a first word and the words after it ask for.
 fn read_after(alloc: Global, word: &str, words: &[String]) -> Result<Request, Refusal>
     ensures { ReadsWords (word.now ∷ map string_bytes words.now) result }
@@ -146,18 +148,7 @@ fn read_after(alloc: Global, word: &str, words: &[String]) -> Result<Request, Re
         let trial = read_trial(words)?;
         return Ok(Request::Trial(trial));
     }
-    if is_alone("frontier", word, words) {
-        return Ok(Request::Command(Command::Answer {
-            question: Question::Frontier,
-        }));
-    }
-    if is_alone("check", word, words) {
-        return Ok(Request::Command(Command::Check));
-    }
-    if is_alone("rows", word, words) {
-        return Ok(Request::Rows);
-    }
-    Err(Refusal::from(Misfit::Form))
+    Ok(read_alone(word, words)?)
 }
 
 /// What the words of a command line ask for.

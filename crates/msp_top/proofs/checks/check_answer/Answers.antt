@@ -1,9 +1,14 @@
 -- The goals of `check_answer` that are proved by lemmas.
-use Rattle.msp_top.proofs.CheckAnswers.{front_right, front_misread, rest_part}
+use Rattle.msp_top.specs.Answers.{Answers}
+use Rattle.msp_top.specs.Checks.{CheckIsRight, misread_front}
+use Rattle.msp_top.proofs.Exits.{exits}
+use Rattle.msp_top.proofs.CheckAnswers.{front_right, rest_part}
+use Rattle.msp_top.proofs.SolveAnswers.{fault_right}
 use Rattle.msp_top.proofs.checks.check_answer.Goals as goal
 
-pub returns-in-Ok : goal.returns-in-Ok
-returns-in-Ok c = front_right c.args.input.now _ c.in-Ok.front c.check_rest.result c.in-Ok.ensures.text (rest_part c.in-Ok.front.used c.args.input.now) c.check_rest.ensures
+pub returns-in_err-front : goal.returns-in_err-front
+returns-in_err-front c = exits _ (Answers (CheckIsRight c.args.input.now)) c.from_residual.result c.from_residual.ensures.1
+    (λ why e. fault_right (CheckIsRight c.args.input.now) c.in_err-front.field-0.0 why (λ other. misread_front c.in_err-front.field-0.0 other c.in_err-front.ensures.fault) e)
 
-pub returns-in-Err : goal.returns-in-Err
-returns-in-Err c = front_misread c.args.input.now c.in-Err.fault c.from.result c.in-Err.ensures.fault c.from.ensures
+pub returns : goal.returns
+returns c = front_right CheckIsRight c.args.input.now _ c.in_ok-front.front c.check_rest.result c.in_ok-front.ensures.text (rest_part c.in_ok-front.front.used c.args.input.now) c.check_rest.ensures

@@ -1,16 +1,21 @@
 -- The goals of `check_rest` that are proved by lemmas.
 use Rattle.std.proofs.Common.{sym, ◌∙◌}
-use Rattle.msp_top.specs.Checks.{checked}
+use Rattle.msp_top.specs.Answers.{Answers, OfRest}
+use Rattle.msp_top.specs.Checks.{CheckIsRight, checked, misread_rest}
+use Rattle.msp_top.proofs.Exits.{exits}
 use Rattle.msp_top.proofs.WordLemmas.{differ}
-use Rattle.msp_top.proofs.CheckAnswers.{rest_unchecked, rest_misread}
+use Rattle.msp_top.proofs.CheckAnswers.{rest_unchecked}
+use Rattle.msp_top.proofs.SolveAnswers.{fault_right}
 use Rattle.msp_top.proofs.checks.check_rest.Goals as goal
 
 pub returns-then-is_unchecked : goal.returns-then-is_unchecked
 returns-then-is_unchecked c = rest_unchecked c.args.filed.now c.args.line c.args.rest.now c.unchecked.result (c.is_unchecked.ensures.0 c.if-is_unchecked.true) c.unchecked.ensures
 
-pub returns-in_ok-report_on-in-Ok : goal.returns-in_ok-report_on-in-Ok
-returns-in_ok-report_on-in-Ok c = λ input begins.
-    checked c.args.filed.now c.in-Ok.stated c.args.line c.args.rest.now _ _ begins (λ cut. differ (sym c.if-is_unchecked.false ∙ c.is_unchecked.ensures.1 cut)) c.in-Ok.ensures.text c.in_ok-report_on-in-Ok.ensures.status c.in_ok-report_on-in-Ok.ensures.text
+pub returns-in_err-stated : goal.returns-in_err-stated
+returns-in_err-stated c = exits _ (Answers (OfRest CheckIsRight c.args.filed.now c.args.line c.args.rest.now)) c.from_residual.result c.from_residual.ensures.1
+    (λ why e. fault_right (OfRest CheckIsRight c.args.filed.now c.args.line c.args.rest.now) c.in_err-stated.field-0.0 why
+    (λ other input begins. misread_rest c.args.filed.now c.args.line c.args.rest.now c.in_err-stated.field-0.0 begins (λ cut. differ (sym c.if-is_unchecked.false ∙ c.is_unchecked.ensures.1 cut)) other c.in_err-stated.ensures.fault) e)
 
-pub returns-in-Err : goal.returns-in-Err
-returns-in-Err c = rest_misread c.args.filed.now c.args.line c.args.rest.now c.in-Err.fault c.from.result (λ cut. differ (sym c.if-is_unchecked.false ∙ c.is_unchecked.ensures.1 cut)) c.in-Err.ensures.fault c.from.ensures
+pub returns : goal.returns
+returns c = λ input begins.
+    checked c.args.filed.now c.in_ok-stated.stated c.args.line c.args.rest.now _ _ begins (λ cut. differ (sym c.if-is_unchecked.false ∙ c.is_unchecked.ensures.1 cut)) c.in_ok-stated.ensures.text c.in_ok-report_on.ensures.status c.in_ok-report_on.ensures.text

@@ -1,9 +1,9 @@
 -- The goals of `read_after` that are proved by lemmas.
-use Rattle.std.proofs.Common.{◌∙◌, ◌∷◌, ◌≡◌, true, false, refl, sym, string_bytes, map}
+use Rattle.std.proofs.Common.{◌∙◌, ◌∷◌, sym, string_bytes, map}
 use Rattle.std.proofs.lemmas.Slice.Eq.{bytes_eq-Decides}
 use Rattle.msp_top.specs.Words.{ReadsWords}
 use Rattle.msp_top.proofs.Exits.{exits}
-use Rattle.msp_top.proofs.WordLemmas.{frontier_word, check_word, rows_word, alone, reads_label, refuses_label, reads_why, refuses_why, reads_solve, refuses_solve, refuses_all}
+use Rattle.msp_top.proofs.WordLemmas.{reads_label, refuses_label, reads_why, refuses_why, reads_solve, refuses_solve, refuses_all}
 use Rattle.msp_top.proofs.TrialWords.{reads_trial, refuses_trial}
 use Rattle.msp_top.proofs.words.read_after.Goals as goal
 
@@ -35,15 +35,6 @@ pub returns-in_err-trial : goal.returns-in_err-trial
 returns-in_err-trial c = exits _ (ReadsWords (c.args.word.now ∷ map string_bytes c.args.words.now)) c.from_residual-in_err-trial.result c.from_residual-in_err-trial.ensures.1
     (λ why e. refuses_trial c.args.word.now (map string_bytes c.args.words.now) c.in_err-trial.field-0.0 why ((bytes_eq-Decides _ _).0 (sym c.eq-4.ensures ∙ c.if-eq-4.true)) c.in_err-trial.ensures e)
 
-pub returns-then-is_alone : goal.returns-then-is_alone
-returns-then-is_alone c = alone string_bytes c.args.words.now c.args.word.now frontier_word (c.if-is_alone.ensures.0 refl)
-
-pub returns-then-is_alone-2 : goal.returns-then-is_alone-2
-returns-then-is_alone-2 c = alone string_bytes c.args.words.now c.args.word.now check_word (c.if-is_alone-2.ensures.0 refl)
-
-pub returns-then-is_alone-3 : goal.returns-then-is_alone-3
-returns-then-is_alone-3 c = alone string_bytes c.args.words.now c.args.word.now rows_word (c.if-is_alone-3.ensures.0 refl)
-
-pub returns : goal.returns
-returns c = refuses_all string_bytes c.args.word.now c.args.words.now c.from.result (sym c.eq.ensures ∙ c.if-eq.false) (sym c.eq-2.ensures ∙ c.if-eq-2.false) (sym c.eq-3.ensures ∙ c.if-eq-3.false) (sym c.eq-4.ensures ∙ c.if-eq-4.false)
-    (λ h. let e : false ≡ true = c.if-is_alone.ensures.1 h in cc) (λ h. let e : false ≡ true = c.if-is_alone-2.ensures.1 h in cc) (λ h. let e : false ≡ true = c.if-is_alone-3.ensures.1 h in cc) c.from.ensures
+pub returns-in_err-read_alone : goal.returns-in_err-read_alone
+returns-in_err-read_alone c = exits _ (ReadsWords (c.args.word.now ∷ map string_bytes c.args.words.now)) c.from_residual-in_err-read_alone.result c.from_residual-in_err-read_alone.ensures.1
+    (λ why e. refuses_all c.args.word.now (map string_bytes c.args.words.now) c.in_err-read_alone.field-0.0 why (sym c.eq.ensures ∙ c.if-eq.false) (sym c.eq-2.ensures ∙ c.if-eq-2.false) (sym c.eq-3.ensures ∙ c.if-eq-3.false) (sym c.eq-4.ensures ∙ c.if-eq-4.false) c.in_err-read_alone.ensures e)
