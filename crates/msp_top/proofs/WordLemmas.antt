@@ -1,7 +1,6 @@
 -- The texts for words that are no names.
-use Rattle.std.proofs.Common.{◌≡◌, ℕ, zero, suc, ◌+◌, ◌<◌, ◌-◌, true, false, List, [], ◌∷◌, ◌++◌, length, get_or, take, drop, map, Option, Some, None, Result, Ok, Err, IfOk, IfErr, if◌then◌else◌, ◌↔◌, inl, inr, refl, sym, ap, ◌∙◌, subst, codes, bytes_eq, arith}
+use Rattle.std.proofs.Common.{◌≡◌, ℕ, zero, suc, ◌+◌, ◌<◌, ◌-◌, true, false, List, [], ◌∷◌, ◌++◌, length, get_or, take, drop, map, Option, Some, None, Result, Ok, Err, IfOk, if◌then◌else◌, ◌↔◌, inl, inr, refl, sym, ap, ◌∙◌, subst, codes, bytes_eq, arith}
 use Rattle.std.specs.List.{AllZip}
-use Rattle.std.specs.Result.{IsErrAnd}
 use Rattle.std.proofs.Math.Seq.{drop-cons}
 use Rattle.std.proofs.lemmas.List.{get_or-map, take_more, take_all, length-map, length-drop}
 use Rattle.std.proofs.lemmas.Slice.Eq.{bytes_eq-Decides}

@@ -19,5 +19,8 @@ pub returns-then-is_alone-5 : goal.returns-then-is_alone-5
 returns-then-is_alone-5 c = alone string_bytes c.args.words.now c.args.word.now rows_word (c.if-is_alone-5.ensures.0 refl)
 
 pub returns : goal.returns
-returns c = (none_alone string_bytes c.args.word.now c.args.words.now (λ h. let e : false ≡ true = c.if-is_alone.ensures.1 h in cc) (λ h. let e : false ≡ true = c.if-is_alone-2.ensures.1 h in cc) (λ h. let e : false ≡ true = c.if-is_alone-3.ensures.1 h in cc)
-    (λ h. let e : false ≡ true = c.if-is_alone-4.ensures.1 h in cc) (λ h. let e : false ≡ true = c.if-is_alone-5.ensures.1 h in cc), refl)
+returns c = (
+  none_alone string_bytes c.args.word.now c.args.words.now (λ h. let e : false ≡ true = c.if-is_alone.ensures.1 h in cc) (λ h. let e : false ≡ true = c.if-is_alone-2.ensures.1 h in cc) (λ h. let e : false ≡ true = c.if-is_alone-3.ensures.1 h in cc)
+      (λ h. let e : false ≡ true = c.if-is_alone-4.ensures.1 h in cc) (λ h. let e : false ≡ true = c.if-is_alone-5.ensures.1 h in cc),
+  refl,
+)

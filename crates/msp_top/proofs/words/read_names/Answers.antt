@@ -2,7 +2,7 @@
 use Rattle.std.proofs.Common.{string_bytes, map}
 use Rattle.msp_top.specs.Words.{ReadsNames}
 use Rattle.msp_top.proofs.Exits.{exits}
-use Rattle.msp_top.proofs.WordLemmas.{AreRead-next, HasNames-fault, not_all_names, reads_names, no_memory_for_names, refuses_names}
+use Rattle.msp_top.proofs.WordLemmas.{AreRead-next, HasNames-fault, not_all_names, refuses_names}
 use Rattle.msp_top.proofs.words.read_names.Goals as goal
 
 pub returns-in_err-class : goal.returns-in_err-class
