@@ -7,7 +7,7 @@ use std::test::Fail;
 pub const CERTIFIED: &[u8] =
     b"msp 1\nclass P|pmtn|Cmax\nmachines 2\njob a p=3\njob b p=3\njob c p=3\nend\n";
 
-/// Each kind of certificate.
+/// Each kind of certificate, for instances that leave no choice.
 const CERTIFIES: &[Case] = &[
     Case {
         words: &["certify"],
@@ -39,9 +39,9 @@ const CERTIFIES: &[Case] = &[
     },
     Case {
         words: &["certify"],
-        text: b"msp 1\nclass P2|prec,p=1|Cmax\njob a\njob b\njob c\njob d\narc a b\narc a c\narc b d\narc c d\nend\n",
+        text: b"msp 1\nclass P2|prec,p=1|Cmax\njob a\njob b\narc a b\nend\n",
         status: 0,
-        out: b"class P2|prec,p=1|Cmax\ncost 3\ncertificate\nbound 3\nkind segments\nsegment\njob a\nsegment\njob b\njob c\njob d\nend\n",
+        out: b"class P2|prec,p=1|Cmax\ncost 2\ncertificate\nbound 2\nkind segments\nsegment\njob a\nsegment\njob b\nend\n",
         notes: b"",
     },
     Case {
