@@ -1,6 +1,5 @@
 // The jobs by falling time.
 ghost use Rattle.std.specs.Prelude.{◌≡◌, ◌≢◌, ◌<◌, ◌≤◌, ◌⊎◌, length, AllPairs, IfOk, IsPermutation};
-ghost use Rattle.std.specs.List.{range_with_len};
 ghost use Rattle.std.specs.Ordering.{nat_cmp, ordering_then};
 ghost use Rattle.msp_instance.specs.declared.ranges.TheConstants.{MOST_JOBS};
 ghost use Rattle.msp_instance.specs.Instance.{need_at};
@@ -9,6 +8,7 @@ ghost use Rattle.msp_cert.specs.Search.{AreLongestFirst};
 use crate::block::time_of;
 use msp_class::NoMemory;
 use msp_instance::Instance;
+use msp_schedule::all_jobs;
 use std::alloc::Global;
 use std::cmp::Ordering;
 
@@ -17,17 +17,6 @@ fn longer_first(inst: &Instance, a: u32, b: u32) -> Ordering
     ensures { result ≡ ordering_then (nat_cmp (need_at inst.now b 0).time (need_at inst.now a 0).time) (nat_cmp a b) }
 {
     time_of(inst, b).cmp(&time_of(inst, a)).then(a.cmp(&b))
-}
-
-/// All jobs, in order of number.
-fn all_jobs(alloc: Global, count: u32) -> Result<Vec<u32>, NoMemory>
-    ensures { IfOk result (λ jobs. jobs.items ≡ range_with_len 0 count) }
-{
-    let mut jobs = Vec::new(alloc);
-    for job in 0..count {
-        jobs.push(job)?;
-    }
-    Ok(jobs)
 }
 
 /// Puts the longest job first, ties to the lesser one.
@@ -44,7 +33,7 @@ pub(crate) fn longest_first(alloc: Global, inst: &Instance) -> Result<Vec<u32>, 
     requires { length inst.now.jobs ≤ MOST_JOBS }
     ensures { IfOk result (λ jobs. AreLongestFirst inst.now jobs.items) }
 {
-    let mut jobs = all_jobs(alloc, inst.jobs.len() as u32)?;
+    let mut jobs = all_jobs(alloc, inst.jobs.len())?;
     sort_by_time(inst, &mut jobs);
     Ok(jobs)
 }

@@ -224,9 +224,7 @@ mod tests {
             verdict: Verdict::Easy,
             source: List::new(rt.alloc()),
         };
-        if entries.push(known).is_err() {
-            return Err(Fail::from("no memory"));
-        }
+        entries.put(known)?;
         let labels = close(rt.alloc(), &entries)?;
         let lists = frontier(rt.alloc(), &labels)?;
         let with_preemption = Class {

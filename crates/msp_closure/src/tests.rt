@@ -33,9 +33,7 @@ fn known(alloc: Global, results: &[(Class, Verdict)]) -> Result<List<Entry>, Fai
             verdict: *verdict,
             source: List::new(alloc),
         };
-        if entries.push(entry).is_err() {
-            return Err(Fail::from("no memory"));
-        }
+        entries.put(entry)?;
     }
     Ok(entries)
 }

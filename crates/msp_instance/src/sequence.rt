@@ -1,7 +1,7 @@
 // An order of the jobs in which every arc goes forward, or the least job on a cycle.
 ghost use Rattle.std.specs.Prelude.{◌≡◌, ℕ, ◌+◌, ◌-◌, ◌<◌, ◌≤◌, ◌==◌, ◌++◌, length, IfOk, IfErr, OnOk, IsTrue, ◌↔◌, All, Contains, true, false, slice_index, slice_index_or, slice_set, take, filter, [], ◌∷◌, if◌then◌else◌};
 ghost use Rattle.std.specs.List.{range_with_len};
-ghost use Rattle.std.specs.List.Sorted.{IsPermutation, IsNonDecreasingBy};
+ghost use Rattle.std.specs.List.Sorted.{IsNonDecreasingBy};
 ghost use Rattle.msp_class.specs.declared.list.TheConstants.{PLACES};
 ghost use Rattle.msp_instance.specs.Conditions.{entering, IsSequence, GoesForward};
 ghost use Rattle.msp_instance.specs.Paths.{HasPath, IsLeastOnCycle, IsOrderFault};

@@ -2,10 +2,8 @@
 ghost use Rattle.std.specs.Prelude.{◌≡◌, pos, ◌+ℤ◌, IfSome, IsTrue, All};
 ghost use Rattle.msp_class.specs.declared.class.Env.TheVariants.{One};
 ghost use Rattle.msp_class.specs.declared.class.Crit.TheVariants.{Lmax};
-ghost use Rattle.msp_class.specs.Env.{kind_of};
-ghost use Rattle.msp_instance.specs.Conditions.{Inner, LiesWithin, inner_limits};
+ghost use Rattle.msp_instance.specs.Conditions.{Inner, LiesWithin};
 ghost use Rattle.msp_schedule.specs.Within.{Within};
-ghost use Rattle.msp_schedule.specs.Feasible.{Feasible};
 
 use crate::{meets, shifted};
 use msp_class::{Crit, Env, Order};

@@ -7,14 +7,14 @@ ghost use Rattle.msp_instance.specs.declared.ranges.TheConstants.{MOST_JOBS};
 use msp_instance::{Arc, MOST_JOBS, entering_of, leaving_of};
 
 /// A mark for each job, none set.
-pub fn no_marks() -> [bool; MOST_JOBS]
+fn no_marks() -> [bool; MOST_JOBS]
     ensures { (j : ℕ) → j < MOST_JOBS → slice_index_or result j false ≡ false }
 {
     [false; MOST_JOBS]
 }
 
 /// Marks a job where there is a reason.
-pub fn mark(marks: &mut [bool], job: u32, reason: bool)
+fn mark(marks: &mut [bool], job: u32, reason: bool)
     requires { job < length marks.old }
     ensures { marks.new ≡ slice_set marks.old job (slice_index_or marks.old job false || reason) }
 {

@@ -22,6 +22,7 @@ mod job_marks;
 mod laws;
 mod limits;
 mod marks;
+mod numbers;
 mod overlaps;
 mod routes;
 mod settling;
@@ -35,7 +36,7 @@ mod work;
 pub use breaks::{Break, first_break};
 pub use fraction::{compare, lowest};
 pub use job_cost::job_cost_at;
-pub use job_marks::{follows_marked, leads_to_marked, mark, marks_before, marks_of, no_marks};
+pub use job_marks::{follows_marked, leads_to_marked, marks_before, marks_of};
 pub use laws::{
     law_of_blocks, law_of_ends, law_of_first_break, law_of_floors, law_of_groups, law_of_levels,
     law_of_limits, law_of_lines, law_of_machines, law_of_prices, law_of_segments, law_of_speeds,
@@ -44,6 +45,7 @@ pub use limits::{
     GREATEST_CARRIED_UNIT, GREATEST_COMPARED_DENOMINATOR, GREATEST_COMPARED_NUMERATOR,
     GREATEST_MOMENT, GREATEST_UNIT, MOST_PIECES,
 };
+pub use numbers::all_jobs;
 pub use settling::{settle, sort_pieces};
 pub use sweep::swept;
 pub use total_cost::cost;

@@ -45,19 +45,10 @@ fn need(machine: u32, time: u64) -> Need {
 fn jobs(alloc: Global, flow: bool) -> Option<List<Job>> {
     let mut jobs = List::new(alloc);
     if flow {
-        if jobs
-            .push(job(alloc, 0, &[need(0, 1), need(1, 1)])?)
-            .is_err()
-        {
-            return None;
-        }
+        jobs.put(job(alloc, 0, &[need(0, 1), need(1, 1)])?).ok()?;
     } else {
-        if jobs.push(job(alloc, 0, &[need(0, 2)])?).is_err() {
-            return None;
-        }
-        if jobs.push(job(alloc, 1, &[need(0, 1)])?).is_err() {
-            return None;
-        }
+        jobs.put(job(alloc, 0, &[need(0, 2)])?).ok()?;
+        jobs.put(job(alloc, 1, &[need(0, 1)])?).ok()?;
     }
     Some(jobs)
 }
@@ -69,9 +60,7 @@ fn arcs(alloc: Global, flow: bool) -> Option<List<Arc>> {
             before: 0,
             after: 1,
         };
-        if arcs.push(arc).is_err() {
-            return None;
-        }
+        arcs.put(arc).ok()?;
     }
     Some(arcs)
 }

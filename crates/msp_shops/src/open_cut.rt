@@ -1,11 +1,10 @@
 // Open shops with preemption: the matrix of times is split into slices.
-ghost use Rattle.std.specs.Prelude.{◌≡◌, ◌≢◌, ◌<◌, ◌≤◌, ◌++◌, pos, length, map, IfOk, OnOk, ⊤};
+ghost use Rattle.std.specs.Prelude.{◌≡◌, ◌<◌, ◌≤◌, ◌++◌, pos, length, map, IfOk, OnOk, ⊤};
 ghost use Rattle.std.specs.List.{range_with_len};
 ghost use Rattle.msp_instance.specs.Conditions.{Inner};
 ghost use Rattle.msp_instance.specs.Instance.{need_at};
 ghost use Rattle.msp_schedule.specs.Cost.{IsBest};
 ghost use Rattle.msp_route.specs.Bounds.{IsAnswer};
-ghost use Rattle.msp_timetable.specs.Split.{IsSplit};
 ghost use Rattle.msp_shops.specs.Joined.{AreJoined};
 ghost use Rattle.msp_shops.specs.OpenCut.{open_cut_class, IsOpenCutCost};
 ghost use Rattle.msp_shops.specs.Sliced.{AreTimes, IsTimeMatrix, IsCutPlan};

@@ -1,7 +1,6 @@
 // Lawler's rule: from the last job to the first, the one of least cost that no job left must follow.
-ghost use Rattle.std.specs.Prelude.{◌≡◌, ◌≤◌, length, map, IfOk, IsPermutation, ⊤};
+ghost use Rattle.std.specs.Prelude.{◌≡◌, length, map, IfOk, IsPermutation, ⊤};
 ghost use Rattle.std.specs.List.{range_with_len};
-ghost use Rattle.msp_instance.specs.declared.ranges.TheConstants.{MOST_JOBS};
 ghost use Rattle.msp_instance.specs.Conditions.{Inner};
 ghost use Rattle.msp_schedule.specs.Cost.{IsBest};
 ghost use Rattle.msp_schedule.specs.Fraction.{IsLowest};
@@ -12,7 +11,7 @@ ghost use Rattle.msp_single.specs.Lawler.{lawler_class, IsLawlerOrder};
 use msp_class::{Class, Crit, Env, NoMemory, Order, Times};
 use msp_instance::Instance;
 use msp_route::{Solver, last_place, solution_in_order, total_time};
-use msp_schedule::Solution;
+use msp_schedule::{Solution, all_jobs};
 use std::alloc::Global;
 
 /// The class that the rule solves: `1|prec|fmax`.
@@ -39,18 +38,6 @@ fn put_in_order(inst: &Instance, order: &mut [u32])
         left -= 1;
         order.swap(place, left);
     }
-}
-
-/// The numbers of all jobs.
-fn all_jobs(alloc: Global, count: usize) -> Result<Vec<u32>, NoMemory>
-    requires { count ≤ MOST_JOBS }
-    ensures { IfOk result (λ all. all.items ≡ range_with_len 0 count) }
-{
-    let mut all = Vec::new(alloc);
-    for job in 0..count as u32 {
-        all.push(job)?;
-    }
-    Ok(all)
 }
 
 /// The numbers of the jobs in the order of the rule.

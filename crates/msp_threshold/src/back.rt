@@ -1,7 +1,5 @@
 // Schedules of squeezed instances, brought back to the kept moments.
 ghost use Rattle.std.specs.Prelude.{◌≡◌, ◌<◌, length, All, pos, ◌≤ℤ◌, IfOk};
-ghost use Rattle.msp_instance.specs.declared.ranges.TheConstants.{GREATEST};
-ghost use Rattle.msp_schedule.specs.Within.{IsUnit};
 ghost use Rattle.msp_threshold.specs.Search.{number_of, piece_back, pieces_back};
 
 use msp_class::{List, NoMemory};

@@ -1,5 +1,5 @@
 // Positions on unrelated machines, as columns of an assignment of jobs.
-ghost use Rattle.std.specs.Prelude.{◌≡◌, ◌*◌, ◌+◌, ◌<◌, ◌≤◌, pos, length};
+ghost use Rattle.std.specs.Prelude.{◌≡◌, ◌*◌, ◌+◌, ◌<◌, pos, length};
 ghost use Rattle.msp_class.specs.declared.list.TheConstants.{PLACES};
 ghost use Rattle.msp_total.specs.Positions.{time_in, position_cost};
 ghost use Rattle.msp_total.specs.laws.Lines.{positions-whole, positions-rise};

@@ -1,5 +1,5 @@
-use Rattle.msp_route.proofs.Pushes.{range-next}
-use Rattle.msp_single.proofs.lawler.all_jobs.Goals as goal
+use Rattle.msp_schedule.proofs.lists.Pushes.{range-next}
+use Rattle.msp_schedule.proofs.numbers.all_jobs.Goals as goal
 
 pub loop-job-preserved : goal.loop-job-preserved
 loop-job-preserved c = range-next _ _ _ c.in_ok-push.ensures.items c.loop-job.invariant

@@ -1,6 +1,6 @@
 use Rattle.std.proofs.Common.{◌≡◌}
 use Rattle.std.specs.List.{range_with_len}
-use Rattle.msp_single.proofs.lawler.all_jobs.Given as goal
+use Rattle.msp_schedule.proofs.numbers.all_jobs.Given as goal
 
 -- the numbers so far
 abbrev pub invariant-loop-job : goal.invariant-loop-job
