@@ -20,6 +20,7 @@ use Rattle.msp_schedule.specs.Feasible.{total}
 use Rattle.msp_schedule.specs.Prices.{prices_on_machine, all_prices}
 use Rattle.msp_schedule.proofs.feasible.OneMachine.{total-below}
 use Rattle.msp_schedule.proofs.bounds.PriceBounds.{total_over_range}
+use Rattle.msp_cert.specs.declared.limits.TheConstants.{GREATEST_PRICE}
 use Rattle.msp_cert.specs.declared.Proof.TheVariants.{Prices}
 use Rattle.msp_cert.specs.Worth.{IsWorth}
 use Rattle.msp_cert.specs.Certificates.{IsPriced, row_price, column_price}
@@ -28,9 +29,9 @@ use Rattle.msp_cert.specs.Fair.{IsFair, AreFair, HasPricedShape}
 -- ---- added up
 pub record IsSum (prices : List ℤ) (k : ℕ) (sum : ℤ) : Type 0 where
   pub value : sum ≡ int_total_below k (λ j. get_or prices j (pos 0))
-  pub size : LiesWithin (1000000000000000 * k) sum
+  pub size : LiesWithin (GREATEST_PRICE * k) sum
 
-pub IsSum-next : (prices : List ℤ) (k : ℕ) (sum x new : ℤ) → x ≡ get_or prices k (pos 0) → LiesWithin 1000000000000000 (get_or prices k (pos 0)) → new ≡ sum +ℤ x → IsSum prices k sum → IsSum prices (k + 1) new
+pub IsSum-next : (prices : List ℤ) (k : ℕ) (sum x new : ℤ) → x ≡ get_or prices k (pos 0) → LiesWithin GREATEST_PRICE (get_or prices k (pos 0)) → new ≡ sum +ℤ x → IsSum prices k sum → IsSum prices (k + 1) new
 IsSum-next prices k sum x new is w e h = record {
   value = e ∙ ap₂ ◌+ℤ◌ h.value is ∙ ap (λ n. int_total_below n (λ j. get_or prices j (pos 0))) place;
   size = (let l = h.size.0 in let m = w.0 in omega (arith, ints, e, is), let l = h.size.1 in let m = w.1 in omega (arith, ints, e, is));

@@ -10,6 +10,7 @@ use Rattle.msp_instance.specs.declared.Instance.{Instance}
 use Rattle.msp_instance.specs.declared.path_rows.Paths.{Paths}
 use Rattle.msp_instance.specs.Paths.{ShowsPaths}
 use Rattle.msp_schedule.specs.Segments.{LeadTo, AreSegments}
+use Rattle.msp_cert.specs.declared.limits.TheConstants.{MOST_ENTRIES}
 use Rattle.msp_cert.specs.Small.{ShowLeads}
 
 pub flat_next : (lists : List (List ℕ)) (k : ℕ) (d old new : List ℕ) → k < length lists → new ≡ old ++ get_or lists k d → old ≡ flat_map (λ js. js) (take k lists) → new ≡ flat_map (λ js. js) (take (k + 1) lists)
@@ -55,5 +56,5 @@ not_leading p lists k a b first second some t at_a at_b is_a is_b never = (
     later : get_or lists (k - 1 + 1) a ≡ get_or lists k b
     later = ap (λ n. get_or lists n a) (let e : k - 1 + 1 ≡ k = omega (arith, some) in e) ∙ get_or_default lists k a b t
 
-pub short_lists : (lists : List (List ℕ)) → length lists + sum_by length lists ≤ 20000 → All (λ js. length js ≤ 20000) lists
+pub short_lists : (lists : List (List ℕ)) → length lists + sum_by length lists ≤ MOST_ENTRIES → All (λ js. length js ≤ MOST_ENTRIES) lists
 short_lists lists h k d t = omega (arith, h, sum_by-contains length lists (get_or lists k d) (Contains-get_or lists k d t))

@@ -1,5 +1,5 @@
 -- Certificates: the evidence of a proof, the bound that it shows, and when a certificate is accepted.
-use Rattle.std.specs.Prelude.{◌≡◌, ◌≢◌, ℕ, ◌+◌, ◌*◌, ◌^◌, ◌<◌, ◌≤◌, ⊤, false, true, List, length, map, take, sum, sum_by, slice_index_or, ℤ, pos, ◌*ℤ◌, ◌≤ℤ◌, All, AllPairs, Any, IsPermutation}
+use Rattle.std.specs.Prelude.{◌≡◌, ◌≢◌, ℕ, ◌+◌, ◌*◌, ◌<◌, ◌≤◌, ⊤, false, true, List, length, map, take, sum, sum_by, slice_index_or, ℤ, pos, ◌*ℤ◌, ◌≤ℤ◌, All, AllPairs, Any, IsPermutation}
 use Rattle.std.specs.List.{range_with_len}
 use Rattle.msp_class.specs.declared.class.Env.TheVariants.{One}
 use Rattle.msp_class.specs.declared.class.Times.TheVariants.{Unit as UnitTimes}
@@ -18,6 +18,7 @@ use Rattle.msp_schedule.specs.Loads.{machine_load, job_length}
 use Rattle.msp_schedule.specs.Segments.{AreSegments, segments_bound}
 use Rattle.msp_schedule.specs.Blocks.{IsBlock, IsBlockValue, total_time}
 use Rattle.msp_schedule.specs.Prices.{ArePrices, all_prices}
+use Rattle.msp_cert.specs.declared.limits.TheConstants.{MOST_ENTRIES, GREATEST_HEAD, GREATEST_PRICE}
 use Rattle.msp_cert.specs.declared.Proof.{Proof}
 use Rattle.msp_cert.specs.declared.Proof.TheVariants.{Group, Machine, Line, Levels, Segments, Block, Prices}
 use Rattle.msp_cert.specs.declared.Certificate.{Certificate}
@@ -142,12 +143,12 @@ HasSmallNumbers (Machine machine) = ⊤
 HasSmallNumbers (Line job) = ⊤
 HasSmallNumbers (Levels level tail) = ⊤
 HasSmallNumbers (Segments lists) = ⊤
-HasSmallNumbers (Block head jobs) = All (λ h. h ≤ 10 ^ 12) head
-HasSmallNumbers (Prices row column) = All (LiesWithin (10 ^ 15)) row × All (LiesWithin (10 ^ 15)) column
+HasSmallNumbers (Block head jobs) = All (λ h. h ≤ GREATEST_HEAD) head
+HasSmallNumbers (Prices row column) = All (LiesWithin GREATEST_PRICE) row × All (LiesWithin GREATEST_PRICE) column
 
 -- The limits within which a proof is judged: at most 20,000 entries, and small numbers.
 pub record KeepsLimits (p : Proof) : Type 0 where
-  pub few : entries p ≤ 20000
+  pub few : entries p ≤ MOST_ENTRIES
   pub small : HasSmallNumbers p
 
 -- The law of certificates, for an instance of its class.

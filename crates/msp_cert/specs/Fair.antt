@@ -1,15 +1,11 @@
--- What prices are judged by. No public contract cites this file but by the greatest price.
-use Rattle.std.specs.Prelude.{◌≡◌, ℕ, ◌+◌, ◌*◌, ◌^◌, ◌<◌, false, List, length, slice_index_or, ℤ, pos, ◌+ℤ◌, ◌≤ℤ◌}
+-- What prices are judged by. No public contract cites this file.
+use Rattle.std.specs.Prelude.{◌≡◌, ℕ, ◌+◌, ◌*◌, ◌<◌, false, List, length, slice_index_or, ℤ, pos, ◌+ℤ◌, ◌≤ℤ◌}
 use Rattle.msp_class.specs.declared.class.Crit.TheVariants.{SumC}
 use Rattle.msp_class.specs.declared.environments.EnvKind.TheVariants.{Unrelated}
 use Rattle.msp_class.specs.Env.{kind_of}
 use Rattle.msp_instance.specs.declared.Need.{Need}
 use Rattle.msp_instance.specs.declared.Instance.{Instance}
 use Rattle.msp_instance.specs.Instance.{no_need, job_at}
-
--- The greatest size of a price.
-abbrev pub greatest_price : ℕ
-greatest_price = 10 ^ 15
 
 -- The price of a job and of each position on a machine are together at most what the job costs there.
 abbrev pub IsFairOn : ℤ → List ℤ → ℕ → Type 0

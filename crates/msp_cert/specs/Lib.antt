@@ -1,4 +1,5 @@
 pub mod Certificates
+pub mod Limits
 pub mod Small
 pub mod Search
 pub mod Worth

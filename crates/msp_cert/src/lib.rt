@@ -27,7 +27,8 @@ mod true_levels;
 mod worth;
 
 pub use judge::accept;
-pub use laws::law_of_certificates;
+pub use laws::{law_of_certificates, law_of_limits};
+pub use limits::{GREATEST_HEAD, GREATEST_PRICE, MOST_ENTRIES};
 pub use search::find;
 
 /// What shows a lower bound on the cost of every feasible schedule. Jobs and machines are numbered from 0.

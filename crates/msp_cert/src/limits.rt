@@ -5,4 +5,4 @@ pub const MOST_ENTRIES: usize = 20_000;
 /// The greatest head.
 pub const GREATEST_HEAD: u64 = 1_000_000_000_000;
 /// The greatest size of a price.
-pub const GREATEST_PRICE: i128 = 1_000_000_000_000_000;
+pub const GREATEST_PRICE: u64 = 1_000_000_000_000_000;

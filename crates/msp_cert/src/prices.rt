@@ -6,9 +6,9 @@ ghost use Rattle.msp_instance.specs.Conditions.{InClass, LiesWithin};
 ghost use Rattle.msp_schedule.specs.Feasible.{total};
 ghost use Rattle.msp_schedule.specs.Fraction.{IsComparable};
 ghost use Rattle.msp_cert.specs.declared.Proof.TheVariants.{Prices};
-ghost use Rattle.msp_cert.specs.declared.limits.TheConstants.{MOST_ENTRIES};
+ghost use Rattle.msp_cert.specs.declared.limits.TheConstants.{GREATEST_PRICE, MOST_ENTRIES};
 ghost use Rattle.msp_cert.specs.Certificates.{IsPriced};
-ghost use Rattle.msp_cert.specs.Fair.{greatest_price, IsFairOn, IsFair, AreFair, HasPricedShape};
+ghost use Rattle.msp_cert.specs.Fair.{IsFairOn, IsFair, AreFair, HasPricedShape};
 ghost use Rattle.msp_cert.specs.Worth.{IsWorth};
 
 use crate::worth::whole;
@@ -25,8 +25,8 @@ fn are_low(prices: &[i128]) -> bool
 
 /// Whether the price of the job and of each position on a machine are together at most what the job costs there.
 fn is_fair_on(price: i128, positions: &[i128], time: u64) -> bool
-    requires price { LiesWithin greatest_price price }
-    requires positions { All (LiesWithin greatest_price) positions.now }
+    requires price { LiesWithin GREATEST_PRICE price }
+    requires positions { All (LiesWithin GREATEST_PRICE) positions.now }
     requires few { length positions.now ≤ MOST_JOBS }
     requires time { time ≤ GREATEST }
     ensures { IsTrue result ↔ IsFairOn price positions.now time }
@@ -42,8 +42,8 @@ fn is_fair_on(price: i128, positions: &[i128], time: u64) -> bool
 
 /// The same for each machine. So many positions stand for each.
 fn is_fair(price: i128, column: &[i128], count: usize, needs: &[Need]) -> bool
-    requires price { LiesWithin greatest_price price }
-    requires column { All (LiesWithin greatest_price) column.now }
+    requires price { LiesWithin GREATEST_PRICE price }
+    requires column { All (LiesWithin GREATEST_PRICE) column.now }
     requires few { count ≤ MOST_JOBS }
     requires machines { length needs.now ≤ MOST_OPERATIONS }
     requires long { length column.now ≡ count * length needs.now }
@@ -63,8 +63,8 @@ fn is_fair(price: i128, column: &[i128], count: usize, needs: &[Need]) -> bool
 fn are_fair(inst: &Instance, row: &[i128], column: &[i128]) -> bool
     requires class { InClass inst.now }
     requires shape { HasPricedShape inst.now row.now column.now }
-    requires row { All (LiesWithin greatest_price) row.now }
-    requires column { All (LiesWithin greatest_price) column.now }
+    requires row { All (LiesWithin GREATEST_PRICE) row.now }
+    requires column { All (LiesWithin GREATEST_PRICE) column.now }
     ensures { IsTrue result ↔ AreFair inst.now row.now column.now }
 {
     let jobs = inst.jobs.as_slice();
@@ -91,8 +91,8 @@ fn has_priced_shape(inst: &Instance, row: &[i128], column: &[i128]) -> bool
 /// Whether the prices are evidence.
 fn are_prices(inst: &Instance, row: &[i128], column: &[i128]) -> bool
     requires class { InClass inst.now }
-    requires row { All (LiesWithin greatest_price) row.now }
-    requires column { All (LiesWithin greatest_price) column.now }
+    requires row { All (LiesWithin GREATEST_PRICE) row.now }
+    requires column { All (LiesWithin GREATEST_PRICE) column.now }
     ensures { IsTrue result ↔ IsPriced inst.now row.now column.now }
 {
     if !has_priced_shape(inst, row, column) {
@@ -107,9 +107,9 @@ fn are_prices(inst: &Instance, row: &[i128], column: &[i128]) -> bool
 /// All prices together.
 fn sum_of(prices: &[i128]) -> i128
     requires few { length prices.now ≤ MOST_ENTRIES }
-    requires small { All (LiesWithin greatest_price) prices.now }
+    requires small { All (LiesWithin GREATEST_PRICE) prices.now }
     ensures value { result ≡ total prices.now }
-    ensures size { LiesWithin (greatest_price * MOST_ENTRIES) result }
+    ensures size { LiesWithin (GREATEST_PRICE * MOST_ENTRIES) result }
 {
     let mut sum: i128 = 0;
     for k in 0..prices.len() {
@@ -123,8 +123,8 @@ pub(crate) fn prices_worth(inst: &Instance, row: &[i128], column: &[i128]) -> Op
     requires class { InClass inst.now }
     requires rows { length row.now ≤ MOST_ENTRIES }
     requires columns { length column.now ≤ MOST_ENTRIES }
-    requires row { All (LiesWithin greatest_price) row.now }
-    requires column { All (LiesWithin greatest_price) column.now }
+    requires row { All (LiesWithin GREATEST_PRICE) row.now }
+    requires column { All (LiesWithin GREATEST_PRICE) column.now }
     ensures worth { IsWorth inst.now (Prices row.now column.now) result }
     ensures small { IfSome result IsComparable }
 {
