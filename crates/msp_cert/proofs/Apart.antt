@@ -1,5 +1,5 @@
 -- Numbers that stand once in a list, by marks.
-use Rattle.std.proofs.Common.{◌≡◌, ◌≢◌, ℕ, suc, ◌+◌, ◌-◌, ◌<◌, ◌≤◌, ◌⊎◌, inl, inr, Bool, true, false, cond, not, eqb, List, [], ◌∷◌, ◌++◌, reverse, length, map, get_or, count_by, All, AllPairs, sym, ap, ap₂, subst, subst₂, ◌∙◌, arith, zero-add}
+use Rattle.std.proofs.Common.{◌≡◌, ◌≢◌, ℕ, suc, ◌+◌, ◌-◌, ◌<◌, ◌≤◌, ◌⊎◌, inl, inr, Bool, true, false, cond, eqb, List, [], ◌∷◌, ◌++◌, reverse, length, map, get_or, count_by, All, AllPairs, sym, ap, ap₂, subst, subst₂, ◌∙◌, arith, zero-add}
 use Rattle.std.specs.Prelude.{slice_set as set}
 use Rattle.std.specs.List.{range_with_len}
 use Rattle.std.specs.List.Sorted.{IsNonDecreasing}
@@ -69,9 +69,6 @@ range_next f old new k x e one so_far =
   where
     place : suc k ≡ k + 1
     place = omega arith
-
-pub pushed : {X : Type 0} (new old more : List X) (ok err : Bool) → new ≡ cond ok more old → ok ≡ not err → err ≡ false → new ≡ more
-pushed new old more ok err e is f = e ∙ ap (λ b. cond b more old) (is ∙ ap not f)
 
 pub turned : (xs ys : List ℕ) → ys ≡ reverse xs → IsNonDecreasing xs → AllPairs (λ x y. y ≤ x) ys
 turned xs ys e h = subst (AllPairs (λ x y. y ≤ x)) (sym e) (λ p q d l b.

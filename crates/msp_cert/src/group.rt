@@ -95,9 +95,7 @@ fn all_speeds(alloc: Global, inst: &Instance) -> Result<Vec<u64>, NoMemory>
 {
     let mut all = Vec::new(alloc);
     for machine in 0..inst.machines {
-        if all.push(speed_of(inst, machine)).is_err() {
-            return Err(NoMemory);
-        }
+        all.push(speed_of(inst, machine))?;
     }
     Ok(all)
 }
@@ -179,10 +177,7 @@ pub(crate) fn group_worth(
     if !is_group(inst, jobs) {
         return Ok(None);
     }
-    let speeds = match falling_speeds(alloc, inst) {
-        Ok(speeds) => speeds,
-        Err(NoMemory) => return Err(NoMemory),
-    };
+    let speeds = falling_speeds(alloc, inst)?;
     let time = total_time(inst, jobs);
     let speed = first_together(speeds.as_slice(), jobs.len());
     Ok(Some(over(time, speed)))

@@ -39,9 +39,7 @@ fn jobs_of_all(alloc: Global, lists: &[List<u32>]) -> Result<Vec<u32>, NoMemory>
 {
     let mut all = Vec::new(alloc);
     for jobs in lists {
-        if all.extend_from_slice(jobs.as_slice()).is_err() {
-            return Err(NoMemory);
-        }
+        all.extend_from_slice(jobs.as_slice())?;
     }
     Ok(all)
 }
