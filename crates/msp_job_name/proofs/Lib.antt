@@ -1,1 +1,2 @@
 pub mod NameLists
+mod Padding

@@ -1,5 +1,5 @@
 -- Lists of distinct names.
-use Rattle.std.proofs.Common.{◌≡◌, ◌≢◌, ℕ, ◌+◌, ◌<◌, ◌≤◌, List, [], ◌∷◌, ◌++◌, length, take, get_or, Bool, true, false, not, Option, None, Some, Contains, MatchOption, MatchBool, bytes_eq, position, slice_get, refl, sym, ap, subst, ◌∙◌, arith, length-take}
+use Rattle.std.proofs.Common.{◌≡◌, ◌≢◌, ℕ, ◌+◌, ◌<◌, ◌≤◌, List, [], ◌∷◌, ◌++◌, length, take, get_or, Bool, true, false, not, Option, None, Some, Contains, MatchOption, MatchBool, IfSome, All, bytes_eq, position, slice_get, refl, sym, ap, subst, ◌∙◌, arith, length-take}
 use Rattle.std.specs.Option.{is_some}
 use Rattle.std.specs.Cmp.Lexicographic.{nat_list_eq_equiv}
 use Rattle.std.proofs.lemmas.Slice.Eq.{bytes_eq-Decides}
@@ -9,10 +9,11 @@ use Rattle.std.proofs.lemmas.List.Quantifiers.{position-Some, all_pairs_push}
 use Rattle.std.proofs.lemmas.List.{get_or-take, get_or_default, take_all}
 use Rattle.std.proofs.Math.Seq.{take-suc}
 use Rattle.std.proofs.Common.{add-one}
-use Rattle.std.proofs.lemmas.Option.{slice_get-get_or}
+use Rattle.std.proofs.lemmas.Option.{slice_get-get_or, slice_get_within, get_or_from_slice_get}
 use Rattle.std.specs.List.{IsDistinct, list_any}
 use Rattle.indexmap.specs.IndexSet.{insert_key}
-use Rattle.msp_job_name.specs.JobName.{AreDistinct}
+use Rattle.msp_job_name.specs.declared.job_name.TheConstants.{LONGEST_NAME}
+use Rattle.msp_job_name.specs.JobName.{AreDistinct, IsJobName}
 
 pub same_bytes : (x y : List ℕ) → bytes_eq x y ≡ true → x ≡ y
 same_bytes x y h = grind (arith, bytes_eq-Decides)
@@ -41,6 +42,27 @@ placed names w None e f = not_among names w (sym f)
 placed names w (Some at) e f =
     let h = position-Some (bytes_eq w) names at [] (sym e) in
     slice_get-get_or names at [] h.0 ∙ ap Some (sym (same_bytes w (get_or names at []) h.1))
+
+-- what stands at a place of job names is one of them
+pub name_there : (names : List (List ℕ)) (at : ℕ) (w : List ℕ) → All IsJobName names → slice_get names at ≡ Some w → IsJobName w
+name_there names at w h e = subst IsJobName (get_or_from_slice_get names at w [] e) (h at [] (slice_get_within names at w e))
+
+-- bytes that are found among job names are one of them
+pub name_found : (names : List (List ℕ)) (w : List ℕ) (r : Option ℕ) → All IsJobName names → r ≡ position (bytes_eq w) names → IfSome r (λ at. IsJobName w)
+name_found names w None h e = tt
+name_found names w (Some at) h e =
+    let found = position-Some (bytes_eq w) names at [] (sym e) in
+    subst IsJobName (sym (same_bytes w (get_or names at []) found.1)) (h at [] found.0)
+
+-- no job name is so long
+pub none_long : (names : List (List ℕ)) (w : List ℕ) → All IsJobName names → LONGEST_NAME < length w → None ≡ position (bytes_eq w) names
+none_long names w h long = by (position (bytes_eq w) names) refl
+  where
+    by : (r : Option ℕ) → position (bytes_eq w) names ≡ r → None ≡ r
+    by None e = refl
+    by (Some at) e = let short = (name_found names w (Some at) h (sym e)).short in absurd (omega arith)
+
+pub ruleset place_rules = (name_found, none_long)
 
 pub distinct : (names : List (List ℕ)) → IsDistinct bytes_eq names → AreDistinct names
 distinct names h = AllPairs-from_IsDistinct bytes_eq-Decides names h

@@ -1,13 +1,12 @@
 // The names of jobs.
-ghost use Rattle.std.specs.Prelude.{◌≡◌, ◌-◌, ◌≤◌, ◌++◌, IsTrue, ◌↔◌, All, SomeIff, bytes_eq, length, replicate};
-ghost use Rattle.std.proofs.Common.{rules};
-ghost use Rattle.std.specs.Hash as fed;
+ghost use Rattle.std.specs.Prelude.{◌≡◌, ◌∷◌, [], IsTrue, ◌↔◌, All, SomeIff, bytes_eq};
+ghost use Rattle.std.proofs.Common.{ap};
 ghost use Rattle.std.specs.List.{list_all};
 ghost use Rattle.std.specs.Cmp.{partial_equiv_from_equiv};
-ghost use Rattle.std.specs.Cmp.Lexicographic.{nat_list_eq_equiv};
-ghost use Rattle.std.specs.Cmp.Rules.{hashing};
+ghost use Rattle.std.specs.Cmp.Lexicographic.{bytes_decides, nat_list_eq_equiv};
 ghost use Rattle.msp_job_name.specs.JobName.{is_name_byte, IsJobName};
 
+use crate::padded::Padded;
 use std::hash::{Hash, Hasher};
 use std::marker::Model;
 
@@ -17,23 +16,21 @@ pub const LONGEST_NAME: usize = 32;
 /// The name of a job: 1 to 32 bytes, each a letter or a digit of ASCII or one of `_`, `-`, `.`. Contracts see it as its bytes.
 #[derive(Clone, Copy, Debug)]
 pub struct JobName {
-    buffer: [u8; LONGEST_NAME],
-    len: usize,
+    pub(crate) text: Padded,
 }
 
 impl Model for JobName {
-    ghost use Rattle.std.specs.Prelude.{◌≡◌, ℕ, ◌-◌, ◌≤◌, List, ◌++◌, length, take, replicate};
-    ghost use Rattle.msp_job_name.specs.declared.job_name.TheConstants.{LONGEST_NAME};
+    ghost use Rattle.std.specs.Prelude.{ℕ, List};
 
     ghost Value = { List ℕ };
 
     ghost use Rattle.msp_job_name.specs.JobName.{IsJobName};
 
-    ghost view = { λ n. take n.len n.buffer };
+    ghost view = { λ n. n.text };
 
-    ghost invariant = { λ n. IsJobName (take n.len n.buffer) × (length (take n.len n.buffer) ≡ n.len) × (n.buffer ≡ take n.len n.buffer ++ replicate (LONGEST_NAME - n.len) 0) };
+    ghost invariant = { λ n. IsJobName n.text };
 
-    ghost inverse = { λ w. record { buffer = w ++ replicate (LONGEST_NAME - length w) 0; len = length w } };
+    ghost inverse = { λ w. record { text = w } };
 }
 
 /// Whether a byte may stand in a name.
@@ -57,16 +54,6 @@ fn is_job_name(bytes: &[u8]) -> bool
     !bytes.is_empty() && bytes.len() <= LONGEST_NAME && are_name_bytes(bytes)
 }
 
-/// The bytes, with zeros after them.
-fn padded(bytes: &[u8]) -> [u8; LONGEST_NAME]
-    requires { length bytes.now ≤ LONGEST_NAME }
-    ensures { result ≡ bytes.now ++ replicate (LONGEST_NAME - length bytes.now) 0 }
-{
-    let mut buffer = [0; LONGEST_NAME];
-    buffer[..bytes.len()].copy_from_slice(bytes);
-    buffer
-}
-
 impl JobName {
     /// The name of these bytes. None comes exactly where they are no job name.
     pub fn new(bytes: &[u8]) -> Option<JobName>
@@ -76,8 +63,7 @@ impl JobName {
             return None;
         }
         Some(JobName {
-            buffer: padded(bytes),
-            len: bytes.len(),
+            text: Padded::new(bytes),
         })
     }
 
@@ -86,7 +72,7 @@ impl JobName {
         ensures value { result.now ≡ self.now }
         ensures name { IsJobName self.now }
     {
-        &self.buffer[..self.len]
+        self.text.bytes()
     }
 }
 
@@ -96,7 +82,7 @@ impl PartialEq for JobName {
     ghost laws = { partial_equiv_from_equiv nat_list_eq_equiv };
 
     fn eq(&self, other: &JobName) -> bool {
-        self.bytes() == other.bytes()
+        self.text == other.text
     }
 }
 
@@ -105,11 +91,11 @@ impl Eq for JobName {
 }
 
 impl Hash for JobName {
-    ghost hash_input = { λ name. fed.slice fed.u8 name };
+    ghost hash_input = { λ name. name ∷ [] };
 
-    ghost respects_eq = { Prim.search (hashing, rules) };
+    ghost respects_eq = { λ a b h. ap (λ bytes. bytes ∷ []) ((bytes_decides a b).0 h) };
 
     fn hash<H: Hasher>(&self, state: &mut H) {
-        self.bytes().hash(state);
+        self.text.hash(state);
     }
 }

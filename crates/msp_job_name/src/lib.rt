@@ -7,6 +7,7 @@
 mod job_name;
 mod laws;
 mod names;
+mod padded;
 #[cfg(test)]
 mod tests;
 

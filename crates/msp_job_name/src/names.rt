@@ -1,10 +1,11 @@
 // The names of the jobs of an instance.
-ghost use Rattle.std.specs.Prelude.{◌≡◌, ◌<◌, ◌++◌, ◌∷◌, [], length, slice_get, All, Contains, MatchBool, MatchOption, IfOk, OnOk, OnErr, Some, bytes_eq, position};
+ghost use Rattle.std.specs.Prelude.{◌≡◌, ◌<◌, ◌++◌, ◌∷◌, [], length, slice_get, All, Contains, MatchBool, MatchOption, IfOk, OnOk, OnErr, IfSome, Some, bytes_eq, position};
 ghost use Rattle.std.specs.List.{list_any};
 ghost use Rattle.indexmap.specs.IndexSet.{insert_key};
 ghost use Rattle.msp_job_name.specs.JobName.{AreDistinct, IsJobName};
 
-use crate::job_name::JobName;
+use crate::job_name::{JobName, LONGEST_NAME};
+use crate::padded::Padded;
 use indexmap::IndexSet;
 use msp_class::{List, NoMemory};
 use std::alloc::Global;
@@ -13,7 +14,7 @@ use std::marker::Model;
 /// The names of the jobs of an instance, in order. Contracts see it as a list of distinct job names.
 #[derive(Drop)]
 pub struct Names {
-    set: IndexSet<JobName>,
+    set: IndexSet<Padded>,
 }
 
 impl Model for Names {
@@ -45,7 +46,7 @@ impl Names {
         ensures keys { OnOk result (self.new ≡ insert_key bytes_eq self.old name) }
         ensures refused { OnErr result (self.new ≡ self.old) }
     {
-        let Ok(added) = self.set.insert(name) else {
+        let Ok(added) = self.set.insert(name.text) else {
             return Err(NoMemory);
         };
         Ok(added)
@@ -80,14 +81,17 @@ impl Names {
     pub fn get(&self, at: usize) -> Option<JobName>
         ensures { result ≡ slice_get self.now at }
     {
-        self.set.get_index(at).copied()
+        match self.set.get_index(at) {
+            Some(text) => Some(JobName { text: *text }),
+            None => None,
+        }
     }
 
     /// Whether the name is there.
     pub fn contains(&self, name: &JobName) -> bool
         ensures { result ≡ list_any (bytes_eq name.now) self.now }
     {
-        self.set.contains(name)
+        self.set.contains(&name.text)
     }
 
     /// The place of a name, from 0. None comes exactly where the name is not there.
@@ -95,6 +99,19 @@ impl Names {
         ensures place { MatchOption result (¬ Contains self.now name.now) (λ at. slice_get self.now at ≡ Some name.now) }
         ensures value { result ≡ position (bytes_eq name.now) self.now }
     {
-        self.set.get_index_of(name)
+        self.set.get_index_of(&name.text)
+    }
+
+    /// The place of the name of these bytes, from 0, whatever the bytes are. None comes exactly where no name has them.
+    #[tactic(auto, using(crate::proofs::NameLists::place_rules))]
+    pub fn place_of(&self, bytes: &[u8]) -> Option<usize>
+        ensures name { IfSome result (λ at. IsJobName bytes.now) }
+        ensures value { result ≡ position (bytes_eq bytes.now) self.now }
+    {
+        let set = &self.set;
+        if bytes.len() > LONGEST_NAME {
+            return None;
+        }
+        set.get_index_of(&Padded::new(bytes))
     }
 }

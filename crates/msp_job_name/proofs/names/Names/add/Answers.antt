@@ -12,5 +12,5 @@ returns-clause-added c =
     c.insert.new.self.keys
     c.args.name
     c.in-Ok.added
-    (c.in-Ok.ensures.added ∙ ap (λ ks. not (list_any (bytes_eq c.args.name) ks)) c.self.view_is)
-    (c.in-Ok.ensures.keys ∙ ap (λ ks. insert_key bytes_eq ks c.args.name) c.self.view_is)
+    (c.in-Ok.ensures.added ∙ ap (λ w. not (list_any (bytes_eq w) c.self.inside.set.keys)) c.name.view_is ∙ ap (λ ks. not (list_any (bytes_eq c.args.name) ks)) c.self.view_is)
+    (c.in-Ok.ensures.keys ∙ ap (λ w. insert_key bytes_eq c.self.inside.set.keys w) c.name.view_is ∙ ap (λ ks. insert_key bytes_eq ks c.args.name) c.self.view_is)

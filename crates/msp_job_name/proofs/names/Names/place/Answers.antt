@@ -10,5 +10,5 @@ returns-clause-place c =
     c.args.self.now
     c.args.name.now
     c.get_index_of.result
-    (c.get_index_of.ensures.index ∙ ap (position (bytes_eq c.args.name.now)) c.self.view_is)
-    (c.get_index_of.ensures.found ∙ ap (list_any (bytes_eq c.args.name.now)) c.self.view_is)
+    (c.get_index_of.ensures.index ∙ ap (λ w. position (bytes_eq w) c.self.inside.set.keys) c.name.view_is ∙ ap (position (bytes_eq c.args.name.now)) c.self.view_is)
+    (c.get_index_of.ensures.found ∙ ap (λ w. list_any (bytes_eq w) c.self.inside.set.keys) c.name.view_is ∙ ap (list_any (bytes_eq c.args.name.now)) c.self.view_is)

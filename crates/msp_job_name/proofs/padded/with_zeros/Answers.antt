@@ -1,7 +1,7 @@
--- The goals of `padded` that are proved by lemmas.
+-- The goals of `with_zeros` that are proved by lemmas.
 use Rattle.std.proofs.Common.{length, ap, ◌++◌, ◌∙◌, drop, replicate}
 use Rattle.std.proofs.lemmas.List.{drop-replicate}
-use Rattle.msp_job_name.proofs.job_name.padded.Goals as goal
+use Rattle.msp_job_name.proofs.padded.with_zeros.Goals as goal
 
 pub returns : goal.returns
 returns c =
