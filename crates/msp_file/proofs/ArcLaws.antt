@@ -13,7 +13,8 @@ use Rattle.msp_file.specs.declared.draft.Draft.{Draft}
 use Rattle.msp_job_name.specs.JobName.{IsJobName, AreDistinct}
 use Rattle.msp_grammar.specs.ScheduleText.{name_at}
 use Rattle.msp_grammar.specs.InstanceText.{line_text, arc_fields, arcs_text}
-use Rattle.msp_file.specs.Reading.{◌>>=◌, Place, line_at, fields_of, first_of, others_of, is_arc_among, with_arc, arc_line_at, LineRead, job_read, more_read, end_read, end_at, arc_or_end, arc_step, ReadsArcs, more_then, more_end, more_fault}
+use Rattle.msp_file.specs.Marks.{is_arc_among}
+use Rattle.msp_file.specs.Reading.{◌>>=◌, Place, line_at, fields_of, first_of, others_of, with_arc, arc_line_at, LineRead, job_read, more_read, end_read, end_at, arc_or_end, arc_step, ReadsArcs, more_then, more_end, more_fault}
 use Rattle.msp_job_name.proofs.NameLists.{same_bytes}
 use Rattle.msp_file.proofs.Apart.{apart_push, apart_before}
 use Rattle.msp_file.proofs.LineLaws.{bind_ok, provided_ok, ok_is, Takes, Takes-then, IsField, fields_takes, fields_again, fields_line_again, one_field}

@@ -8,7 +8,8 @@ use Rattle.msp_file.specs.declared.fault.FileFault.TheVariants.{Class as ClassBr
 use Rattle.msp_file.specs.declared.fault.What.TheVariants as what
 use Rattle.msp_file.specs.declared.kinds.Kind.{Kind}
 use Rattle.msp_file.specs.declared.kinds.Kind.TheVariants as kind
-use Rattle.msp_file.specs.declared.kinds.TheConstants.{GREATEST_BOUND, GREATEST_LEVEL, GREATEST_HEAD, GREATEST_PRICE}
+use Rattle.msp_cert.specs.declared.limits.TheConstants.{GREATEST_HEAD, GREATEST_PRICE}
+use Rattle.msp_file.specs.declared.kinds.TheConstants.{GREATEST_BOUND, GREATEST_LEVEL}
 use Rattle.msp_file.specs.CertificateReading.{kind_in, kind_at, machine_line_at, job_line_of, tail_at, named_field_at, named_line_at, numbers_at, level_at, head_at, price_at, job_in, job_added, jobs_step, segment_added, is_segment_word, segments_step, position_at, column_price_at, column_added, columns_step, ReadsProof, IsCertifiedAs, ReadsEvidence, ReadsCertified, ReadsCertificate}
 use Rattle.msp_file.specs.CertificateText.{segment_lines, column_lines}
 use Rattle.msp_file.specs.CertificateAnswers.{IsCertificateFault}

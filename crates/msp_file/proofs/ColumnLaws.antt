@@ -11,7 +11,8 @@ use Rattle.std.proofs.lemmas.List.Elements.{All-head, All-tail, All-push, All-ap
 use Rattle.std.proofs.Math.Nat.{mul-add-div_right, div-eq_of_lt, mul-add-mod_self_right, mod-eq_of_lt, mod-lt, div-lt_iff_lt-mul, div-add-mod, mul-le-mul_right, mul_comm}
 use Rattle.msp_file.specs.declared.fault.FileFault.TheVariants.{Count, Limit, Again}
 use Rattle.msp_file.specs.declared.fault.What.TheVariants as what
-use Rattle.msp_file.specs.declared.kinds.TheConstants.{GREATEST_PRICE, MOST_LINES}
+use Rattle.msp_cert.specs.declared.limits.TheConstants.{GREATEST_PRICE}
+use Rattle.msp_file.specs.declared.kinds.TheConstants.{MOST_LINES}
 use Rattle.msp_grammar.specs.InstanceText.{where_wanted}
 use Rattle.msp_file.specs.CertificateText.{column_line, column_lines, IsColumnPrice, lines_text}
 use Rattle.msp_file.specs.CertificateReading.{filled, position_at, column_price_at, price_at, column_added, columns_by, columns_step}

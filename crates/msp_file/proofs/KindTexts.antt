@@ -13,7 +13,8 @@ use Rattle.msp_file.specs.declared.fault.FileFault.{FileFault}
 use Rattle.msp_file.specs.declared.fault.What.TheVariants as what
 use Rattle.msp_file.specs.declared.kinds.Kind.{Kind}
 use Rattle.msp_file.specs.declared.kinds.Kind.TheVariants as kind
-use Rattle.msp_file.specs.declared.kinds.TheConstants.{GREATEST_LEVEL, GREATEST_HEAD, GREATEST_PRICE, MOST_LINES}
+use Rattle.msp_cert.specs.declared.limits.TheConstants.{GREATEST_HEAD, GREATEST_PRICE}
+use Rattle.msp_file.specs.declared.kinds.TheConstants.{GREATEST_LEVEL, MOST_LINES}
 use Rattle.msp_file.specs.CertificateText.{kind_of, job_lines, numbered_lines, segment_lines, column_lines, kind_lines, lines_text, IsStatedProof}
 use Rattle.msp_file.specs.CertificateReading.{machine_line_at, job_line_of, tail_at, numbers_at, level_at, head_at, price_at, jobs_step, segments_step, columns_step, filled, ReadsProof}
 use Rattle.msp_file.specs.Reading.{Place, word_line_at, field_line_at, natural_at, known_at, machine_at, ReadsMore, Then}

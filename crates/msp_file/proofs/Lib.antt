@@ -1,3 +1,4 @@
+mod FirstMarks
 mod Fields
 mod Pairs
 mod Readings
@@ -5,6 +6,8 @@ mod LineFaults
 mod AnswerLemmas
 pub mod LineLaws
 pub mod FieldLaws
+mod NameReading
+mod Marking
 pub mod HeadLaws
 pub mod KeyLaws
 pub mod NeedLaws

@@ -8,7 +8,8 @@ use Rattle.msp_file.specs.declared.fault.FileFault.{FileFault}
 use Rattle.msp_file.specs.declared.fault.FileFault.TheVariants.{Count, Key, Limit, Again, Unknown}
 use Rattle.msp_file.specs.declared.kinds.Kind.{Kind}
 use Rattle.msp_file.specs.declared.kinds.Kind.TheVariants as kind
-use Rattle.msp_file.specs.declared.kinds.TheConstants.{GREATEST_BOUND, GREATEST_LEVEL, GREATEST_HEAD, GREATEST_PRICE, MOST_LINES}
+use Rattle.msp_cert.specs.declared.limits.TheConstants.{GREATEST_HEAD, GREATEST_PRICE}
+use Rattle.msp_file.specs.declared.kinds.TheConstants.{GREATEST_BOUND, GREATEST_LEVEL, MOST_LINES}
 use Rattle.msp_file.specs.CertificateText.{kind_word, segment_lines, column_lines}
 use Rattle.msp_file.specs.Reading.{◌>>=◌, provided, Place, line_at, fields_of, first_of, others_of, worded_at, word_line_at, field_line_at, natural_at, integer_at, job_name_at, known_at, ordinal_at, machine_at, LineRead, more_read, end_at, ReadsMore, Then, ReadsBy, all_of}
 use Rattle.msp_file.specs.ScheduleReading.{cost_line_at}

@@ -14,7 +14,8 @@ use Rattle.msp_grammar.specs.InstanceText.{where_wanted, line_text}
 use Rattle.msp_grammar.specs.declared.limits.TheConstants.{GREATEST_DENOMINATOR}
 use Rattle.msp_file.specs.declared.kinds.Kind.{Kind}
 use Rattle.msp_file.specs.declared.kinds.Kind.TheVariants as kind
-use Rattle.msp_file.specs.declared.kinds.TheConstants.{GREATEST_BOUND, GREATEST_LEVEL, GREATEST_HEAD, GREATEST_PRICE, MOST_LINES}
+use Rattle.msp_cert.specs.declared.limits.TheConstants.{GREATEST_HEAD, GREATEST_PRICE}
+use Rattle.msp_file.specs.declared.kinds.TheConstants.{GREATEST_BOUND, GREATEST_LEVEL, MOST_LINES}
 
 -- The kind of a proof, and the word for it.
 abbrev pub kind_of : Proof → Kind

@@ -18,7 +18,6 @@ use Rattle.msp_instance.specs.declared.Need.{Need}
 use Rattle.msp_instance.specs.declared.Step.{Step}
 use Rattle.msp_instance.specs.declared.Curve.{Curve}
 use Rattle.msp_instance.specs.declared.Job.{Job}
-use Rattle.msp_instance.specs.declared.Arc.{Arc}
 use Rattle.msp_instance.specs.Instance.{no_curve}
 use Rattle.msp_instance.specs.Conditions.{HasSmallMultiple, least_time}
 use Rattle.msp_file.specs.declared.fault.What.{What}
@@ -26,6 +25,7 @@ use Rattle.msp_file.specs.declared.fault.What.TheVariants as what
 use Rattle.msp_file.specs.declared.fault.FileFault.{FileFault}
 use Rattle.msp_file.specs.declared.fault.FileFault.TheVariants.{Head, Missing, Cut, Line, Count, Key, Name, Number, Limit, Again, ArcAgain, Unknown, After}
 use Rattle.msp_file.specs.declared.job.Keys.{Keys}
+use Rattle.msp_file.specs.Marks.{is_arc_among}
 use Rattle.msp_file.specs.declared.draft.Draft.{Draft}
 use Rattle.msp_grammar.specs.declared.filed.Filed.{Filed}
 use Rattle.msp_grammar.specs.Layout.{has_times, has_time_line, has_one_time, has_route, has_speeds, has_order, has_time_key, has_times_line}
@@ -320,10 +320,6 @@ job_at_line class machines shared draft at fields place =
       needs ← needs_at class machines (time_in class shared line.1) place
       curve ← curve_at class.crit needs.1
       Ok (record { names = draft.names ++ line.0 ∷ []; jobs = draft.jobs ++ job_of line.1 needs.0 curve.0 ∷ []; arcs = draft.arcs }, curve.1))
-
--- The arc is one of these.
-abbrev pub is_arc_among : List Arc → ℕ → ℕ → Bool
-is_arc_among arcs before after = list_any (λ arc. (arc.before == before) && (arc.after == after)) arcs
 
 -- The draft with one more arc at the end.
 abbrev pub with_arc : Draft → ℕ → ℕ → Draft

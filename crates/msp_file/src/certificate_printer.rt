@@ -1,5 +1,5 @@
 // The printer of certificate texts.
-ghost use Rattle.std.specs.Prelude.{◌≡◌, ◌+◌, ◌/◌, ◌%◌, ◌<◌, ◌++◌, ◌∷◌, [], ℕ, List as Items, not, length, codes, decimal, pos, OnOk, IfOk};
+ghost use Rattle.std.specs.Prelude.{◌≡◌, ◌+◌, ◌/◌, ◌%◌, ◌<◌, ◌++◌, ◌∷◌, [], ℕ, not, length, codes, decimal, pos, OnOk, IfOk};
 ghost use Rattle.std.specs.Fmt.{signed_decimal};
 ghost use Rattle.std.specs.Ordering.{int_eq};
 ghost use Rattle.msp_schedule.specs.Fraction.{IsLowest};

@@ -1,6 +1,5 @@
 // The lines of the prices of positions.
-ghost use Rattle.std.specs.Prelude.{◌≡◌, ◌+◌, ◌-◌, ◌*◌, ◌<◌, ◌≤◌, ◌^◌, [], ◌++◌, ◌∷◌, nat_lt, length, IsTrue, OnOk, IfOk, pos};
-ghost use Rattle.msp_class.specs.declared.list.TheConstants.{PLACES};
+ghost use Rattle.std.specs.Prelude.{◌≡◌, ◌+◌, ◌-◌, ◌*◌, ◌<◌, ◌≤◌, ◌^◌, [], ◌++◌, ◌∷◌, length, IsTrue, OnOk, IfOk};
 ghost use Rattle.msp_file.specs.declared.kinds.TheConstants.{MOST_LINES};
 ghost use Rattle.msp_file.specs.Answers.{Gives};
 ghost use Rattle.msp_file.specs.Reading.{first_of, others_of, ReadsMore};
@@ -10,11 +9,11 @@ ghost use Rattle.msp_file.specs.Steps.{MovesBy, AfterLine, place_of, fields_afte
 
 use crate::draft::end_line;
 use crate::fault::{FileFault, What};
-use crate::kinds::GREATEST_PRICE;
 use crate::lines::{count_fields, line_at, next_field, split_word};
 use crate::number::{ordinal_at, signed_at};
 use crate::place::Lines;
 use crate::segments::has_room;
+use msp_cert::GREATEST_PRICE;
 use msp_class::{List, NoMemory};
 use std::alloc::Global;
 

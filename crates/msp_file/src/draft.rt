@@ -3,7 +3,8 @@ ghost use Rattle.std.specs.Prelude.{◌≡◌, ◌++◌, ◌∷◌, [], ◌≤�
 ghost use Rattle.std.specs.List.{list_any};
 ghost use Rattle.msp_instance.specs.declared.ranges.TheConstants.{MOST_JOBS};
 ghost use Rattle.msp_file.specs.Answers.{Gives};
-ghost use Rattle.msp_file.specs.Reading.{provided, is_arc_among, with_arc, arc_line_at, time_in, job_at_line, arc_step, ReadsArcs, ReadsJobs, end_read, end_at, Place};
+ghost use Rattle.msp_file.specs.Marks.{is_arc_among};
+ghost use Rattle.msp_file.specs.Reading.{provided, with_arc, arc_line_at, time_in, job_at_line, arc_step, ReadsArcs, ReadsJobs, end_read, end_at, Place};
 ghost use Rattle.msp_file.specs.declared.draft.Draft.{Draft as DraftValue};
 ghost use Rattle.msp_schedule.specs.declared.Piece.{Piece as PieceValue};
 ghost use Rattle.msp_file.specs.Steps.{Moves, MovesBy, AfterLine, AfterJob, place_of, fields_after};
@@ -12,7 +13,7 @@ use crate::arcs::Arcs;
 use crate::curve::curve_at;
 use crate::fault::{FileFault, What};
 use crate::job::{Keys, job_line_at, known_at};
-use crate::lines::{count_fields, line_at, next_field, split_word};
+use crate::lines::{count_fields, line_at, split_word, two_fields};
 use crate::operations::needs_at;
 use crate::place::Lines;
 use msp_class::{Class, List};
@@ -103,6 +104,8 @@ fn job_at_line(
 
 /// Puts an arc at the end, unless it is among those so far.
 fn add_arc(at: u32, draft: &mut Draft, before: u32, after: u32) -> Result<(), FileFault>
+    requires before { before < MOST_JOBS }
+    requires after { after < MOST_JOBS }
     ensures gives { Gives (λ _. draft.new) result (provided (not (is_arc_among draft.old.arcs before after)) (FileFault.ArcAgain at) (Ok (with_arc draft.old before after))) }
     ensures names { OnOk result (draft.new.names ≡ draft.old.names) }
     ensures jobs { OnOk result (draft.new.jobs ≡ draft.old.jobs) }
@@ -128,12 +131,10 @@ fn arc_line_at(at: u32, draft: &mut Draft, fields: &[u8]) -> Result<(), FileFaul
             what: What::Arcs,
         });
     }
-    if count_fields(fields) != 2 {
+    let Some((first, second)) = two_fields(fields) else {
         return Err(FileFault::Count { at });
-    }
-    let (first, others) = next_field(fields);
+    };
     let before = known_at(at, &draft.names, first)?;
-    let (second, _) = next_field(others);
     let after = known_at(at, &draft.names, second)?;
     add_arc(at, draft, before, after)
 }

@@ -1,5 +1,5 @@
 // The lines of a certificate after the one with its kind.
-ghost use Rattle.std.specs.Prelude.{◌≡◌, ◌<◌, length};
+ghost use Rattle.std.specs.Prelude.{◌<◌, length};
 ghost use Rattle.msp_class.specs.declared.list.TheConstants.{PLACES};
 ghost use Rattle.msp_file.specs.CertificateReading.{machine_line_at, job_line_of, tail_at, ReadsGroup, ReadsMachine, ReadsLine, ReadsLevels, ReadsSegments, ReadsBlock, ReadsPrices, ReadsProof};
 ghost use Rattle.msp_file.specs.Steps.{Moves, MovesBy, place_of};

@@ -1,11 +1,11 @@
 // The line of a job.
-ghost use Rattle.std.specs.Prelude.{◌≡◌, All, IsTrue, ◌<◌, ◌≤◌, length, false, bytes_eq, IfOk};
+ghost use Rattle.std.specs.Prelude.{◌≡◌, ◌<◌, ◌≤◌, length, false, bytes_eq, position, None, Err, IfOk};
 ghost use Rattle.std.specs.List.{list_any};
 ghost use Rattle.msp_class.specs.declared.list.TheConstants.{PLACES};
 ghost use Rattle.msp_instance.specs.declared.ranges.TheConstants.{GREATEST};
-ghost use Rattle.msp_job_name.specs.JobName.{is_name_byte};
+ghost use Rattle.msp_job_name.specs.JobName.{IsJobName};
 ghost use Rattle.msp_file.specs.Answers.{Gives};
-ghost use Rattle.msp_file.specs.Reading.{is_name_text, job_name_at, known_at, keyed_at, natural_key_at, integer_key_at, keys_at, count_of_keys, most_keys, job_line_at};
+ghost use Rattle.msp_file.specs.Reading.{job_name_at, known_at, keyed_at, natural_key_at, integer_key_at, keys_at, count_of_keys, most_keys, job_line_at};
 ghost use Rattle.msp_file.specs.Steps.{fields_after};
 
 use crate::fault::{FileFault, What};
@@ -25,43 +25,58 @@ pub(crate) struct Keys {
     pub(crate) weight: u64,
 }
 
-fn is_name_text(bytes: &[u8]) -> bool
-    ensures value { result ≡ is_name_text bytes.now }
-    ensures all { IsTrue result → (1 ≤ length bytes.now) × All (λ b. IsTrue (is_name_byte b)) bytes.now }
+/// The fault of bytes that are no job name.
+#[tactic(auto, using(crate::proofs::NameReading::fault_rules))]
+fn name_fault(at: u32, bytes: &[u8]) -> FileFault
+    requires { ¬ IsJobName bytes.now }
+    ensures { job_name_at at bytes.now ≡ Err result }
 {
     match bytes {
-        [] => false,
-        _ => are_name_bytes(bytes),
+        [] => FileFault::Name { at },
+        _ => if are_name_bytes(bytes) {
+            FileFault::Limit {
+                at,
+                what: What::Name,
+            }
+        } else {
+            FileFault::Name { at }
+        },
     }
 }
 
 /// The name of a job.
-#[tactic(auto, unfolding(crate::specs::Reading::job_name_at))]
+#[tactic(auto, using(crate::proofs::FieldLaws::name_again))]
 pub(crate) fn job_name_at(at: u32, bytes: &[u8]) -> Result<JobName, FileFault>
     ensures { result ≡ job_name_at at bytes.now }
 {
-    if !is_name_text(bytes) {
-        return Err(FileFault::Name { at });
-    }
     match JobName::new(bytes) {
         Some(name) => Ok(name),
-        None => Err(FileFault::Limit {
-            at,
-            what: What::Name,
-        }),
+        None => Err(name_fault(at, bytes)),
     }
 }
 
-/// The number of the job of a name, from 0.
-#[tactic(auto, unfolding(crate::specs::Reading::known_at))]
+/// The fault of bytes that no job has as its name.
+#[tactic(auto, using(crate::proofs::NameReading::unknown_rules))]
+fn unknown_fault(at: u32, names: &Names, bytes: &[u8]) -> FileFault
+    requires { position (bytes_eq bytes.now) names.now ≡ None }
+    ensures { known_at at names.now bytes.now ≡ Err result }
+{
+    match job_name_at(at, bytes) {
+        Ok(_) => FileFault::Unknown { at },
+        Err(fault) => fault,
+    }
+}
+
+/// The number of the job of a name, from 0. Bytes that are found are a job name, so only the others are looked at.
+#[tactic(auto, using(crate::proofs::NameReading::known_rules))]
 pub(crate) fn known_at(at: u32, names: &Names, bytes: &[u8]) -> Result<u32, FileFault>
     requires { length names.now < PLACES }
-    ensures { result ≡ known_at at names.now bytes.now }
+    ensures value { result ≡ known_at at names.now bytes.now }
+    ensures within { IfOk result (λ job. job < length names.now) }
 {
-    let name = job_name_at(at, bytes)?;
-    match names.place(&name) {
+    match names.place_of(bytes) {
         Some(job) => Ok(job as u32),
-        None => Err(FileFault::Unknown { at }),
+        None => Err(unknown_fault(at, names, bytes)),
     }
 }
 

@@ -2,7 +2,7 @@
 ghost use Rattle.std.specs.Prelude.{◌≡◌};
 ghost use Rattle.msp_file.specs.CertificateText.{kind_of, kind_word};
 
-use msp_cert::Proof;
+use msp_cert::{MOST_ENTRIES, Proof};
 
 /// The kind of a proof.
 #[derive(Clone, Copy)]
@@ -20,12 +20,8 @@ pub(crate) enum Kind {
 pub const GREATEST_BOUND: u128 = 1_000_000_000_000_000_000_000_000;
 /// The greatest level of a job.
 pub const GREATEST_LEVEL: u32 = 400;
-/// The greatest head of a job.
-pub const GREATEST_HEAD: u64 = 1_000_000_000_000;
-/// The size of the greatest price.
-pub const GREATEST_PRICE: u64 = 1_000_000_000_000_000;
-/// The most lines between that of the kind and the last one.
-pub const MOST_LINES: usize = 20_000;
+/// The most lines between that of the kind and the last one: each stands for an entry of the proof.
+pub const MOST_LINES: usize = MOST_ENTRIES;
 
 /// The kind of a proof.
 pub(crate) fn kind_of(proof: &Proof) -> Kind

@@ -20,6 +20,7 @@ mod curve;
 mod draft;
 mod evidence;
 mod fault;
+mod finding;
 mod head;
 mod job;
 mod kinds;
@@ -36,13 +37,12 @@ mod segments;
 pub use certificate::{printed_certificates_are_read, read_certificate};
 pub use certificate_printer::{print_certificate, put_certificate};
 pub use fault::{FileFault, What};
-pub use kinds::{
-    GREATEST_BOUND, GREATEST_HEAD, GREATEST_LEVEL, GREATEST_PRICE, MOST_LINES, kind_word,
-};
+pub use kinds::{GREATEST_BOUND, GREATEST_LEVEL, MOST_LINES, kind_word};
 pub use laws::{
     law_of_certificate_texts, law_of_front_texts, law_of_instance_texts, law_of_limits,
     law_of_schedule_texts,
 };
+pub use msp_cert::{GREATEST_HEAD, GREATEST_PRICE};
 pub use msp_grammar::{Filed, print_instance, print_schedule};
 pub use msp_job_name::{JobName, Names};
 pub use read::{Front, MOST_BYTES, read_front, read_instance, texts_are_read_one_way};

@@ -1,5 +1,5 @@
 // Lines and fields.
-ghost use Rattle.std.specs.Prelude.{◌≡◌, ◌∷◌, ◌<◌, ◌≤◌, length, position, count_by, ◌==◌, IfOk, OnOk, MatchResult, Ok};
+ghost use Rattle.std.specs.Prelude.{◌≡◌, ◌∷◌, [], ◌<◌, ◌≤◌, length, count_by, ◌==◌, false, IfOk, OnOk, MatchOption, MatchResult, Ok};
 ghost use Rattle.std.specs.List.{slice_split};
 ghost use Rattle.msp_class.specs.declared.list.TheConstants.{PLACES};
 ghost use Rattle.msp_text.specs.Bytes.{space_byte};
@@ -8,13 +8,8 @@ ghost use Rattle.msp_file.specs.Answers.{Fails};
 ghost use Rattle.msp_file.specs.Steps.{Moves, place_of, parts_after, fields_after};
 
 use crate::fault::FileFault;
+use crate::finding::find;
 use crate::place::Lines;
-
-fn find(bytes: &[u8], mark: u8) -> Option<usize>
-    ensures { result ≡ position (λ x. x == mark) bytes.now }
-{
-    bytes.iter().position(|byte| *byte == mark)
-}
 
 fn count_spaces(bytes: &[u8]) -> usize
     ensures value { result ≡ count_by (λ x. x == space_byte) bytes.now }
@@ -79,6 +74,19 @@ pub(crate) fn next_field(rest: &[u8]) -> (&[u8], &[u8])
         [] => (rest, rest),
         [_, more @ ..] => split_word(more),
     }
+}
+
+/// The fields of a line that has two. None comes exactly where it has another number of them.
+#[tactic(auto, using(crate::proofs::Fields::two_rules))]
+pub(crate) fn two_fields(fields: &[u8]) -> Option<(&[u8], &[u8])>
+    ensures { MatchOption result ((length (fields_after fields.now) == 2) ≡ false) (λ two. fields_after fields.now ≡ two.0.now ∷ two.1.now ∷ []) }
+{
+    let (first, others) = next_field(fields);
+    let (second, rest) = next_field(others);
+    if others.is_empty() || !rest.is_empty() {
+        return None;
+    }
+    Some((first, second))
 }
 
 /// How many fields there are.

@@ -6,10 +6,11 @@ ghost use Rattle.msp_file.specs.Steps.{Leads, Moves, place_of, fields_after};
 
 use crate::fault::{FileFault, What};
 use crate::job::job_name_at;
-use crate::kinds::{GREATEST_HEAD, GREATEST_LEVEL, GREATEST_PRICE, MOST_LINES};
+use crate::kinds::{GREATEST_LEVEL, MOST_LINES};
 use crate::lines::{count_fields, next_field, worded_at};
 use crate::number::{natural_at, signed_at};
 use crate::place::Lines;
+use msp_cert::{GREATEST_HEAD, GREATEST_PRICE};
 use msp_class::List;
 use msp_job_name::{JobName, Names};
 use std::alloc::Global;

@@ -34,27 +34,20 @@ fn no_draft(alloc: Global) -> Draft
     }
 }
 
-fn filed_of(
-    alloc: Global,
-    class: Class,
-    machines: u32,
-    speeds: List<u64>,
-    draft: Draft,
-) -> Result<Filed, FileFault>
-    ensures { MatchResult result (λ f. f ≡ filed_of class machines speeds draft) (λ e. e ≡ FileFault.Memory) }
+fn filed_of(class: Class, machines: u32, speeds: List<u64>, draft: Draft) -> Filed
+    ensures { result ≡ filed_of class machines speeds draft }
 {
     let Draft { names, jobs, arcs } = draft;
-    let arcs = arcs.listed(alloc)?;
-    Ok(Filed {
+    Filed {
         instance: Instance {
             class,
             machines,
             speeds,
             jobs,
-            arcs,
+            arcs: arcs.listed(),
         },
         names,
-    })
+    }
 }
 
 /// Reads the lines after the head.
@@ -70,7 +63,7 @@ fn rest_at(
 {
     let mut draft = no_draft(alloc);
     match jobs_at(alloc, frame, &mut draft, lines) {
-        Ok(()) => filed_of(alloc, frame.class, frame.machines, speeds, draft),
+        Ok(()) => Ok(filed_of(frame.class, frame.machines, speeds, draft)),
         Err(fault) => Err(fault),
     }
 }

@@ -3,7 +3,7 @@ ghost use Rattle.std.specs.Prelude.{◌≡◌, ◌+◌, ◌<◌, ◌++◌, ◌�
 ghost use Rattle.msp_class.specs.declared.list.TheConstants.{PLACES};
 ghost use Rattle.msp_file.specs.declared.kinds.TheConstants.{MOST_LINES};
 ghost use Rattle.msp_file.specs.Answers.{Fails, Gives};
-ghost use Rattle.msp_file.specs.Reading.{Place, ReadsMore, more_read, end_read};
+ghost use Rattle.msp_file.specs.Reading.{ReadsMore, more_read, end_read};
 ghost use Rattle.msp_file.specs.CertificateText.{segment_lines};
 ghost use Rattle.msp_file.specs.CertificateReading.{job_in, job_added, jobs_step, with_job, is_segment_word, segment_added, segments_step};
 ghost use Rattle.msp_file.specs.CertificateSteps.{lists_of};
