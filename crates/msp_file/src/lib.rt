@@ -20,7 +20,6 @@ mod curve;
 mod draft;
 mod evidence;
 mod fault;
-mod finding;
 mod head;
 mod job;
 mod kinds;

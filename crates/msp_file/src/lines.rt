@@ -1,5 +1,5 @@
 // Lines and fields.
-ghost use Rattle.std.specs.Prelude.{◌≡◌, ◌∷◌, [], ◌<◌, ◌≤◌, length, count_by, ◌==◌, false, IfOk, OnOk, MatchOption, MatchResult, Ok};
+ghost use Rattle.std.specs.Prelude.{◌≡◌, ◌∷◌, [], ◌<◌, ◌≤◌, length, position, count_by, ◌==◌, false, IfOk, OnOk, MatchOption, MatchResult, Ok};
 ghost use Rattle.std.specs.List.{slice_split};
 ghost use Rattle.msp_class.specs.declared.list.TheConstants.{PLACES};
 ghost use Rattle.msp_text.specs.Bytes.{space_byte};
@@ -8,8 +8,15 @@ ghost use Rattle.msp_file.specs.Answers.{Fails};
 ghost use Rattle.msp_file.specs.Steps.{Moves, place_of, parts_after, fields_after};
 
 use crate::fault::FileFault;
-use crate::finding::find;
 use crate::place::Lines;
+use memchr::memchr;
+
+/// The place of the first mark.
+fn find(bytes: &[u8], mark: u8) -> Option<usize>
+    ensures { result ≡ position (λ x. x == mark) bytes.now }
+{
+    memchr(mark, bytes)
+}
 
 fn count_spaces(bytes: &[u8]) -> usize
     ensures value { result ≡ count_by (λ x. x == space_byte) bytes.now }
