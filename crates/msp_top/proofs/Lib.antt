@@ -10,7 +10,7 @@ pub mod QuestionAnswers
 pub mod SolveAnswers
 pub mod TrialAnswers
 pub mod CheckAnswers
-pub mod CertificateLimits
+pub mod CertifiedTexts
 pub mod AcceptAnswers
 pub mod CertifyAnswers
 pub mod RowJourneys

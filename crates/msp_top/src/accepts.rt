@@ -1,7 +1,9 @@
 // The answer to `accept`.
 ghost use Rattle.std.specs.Prelude.{◌≡◌, ◌≤◌, length, IfOk, if◌then◌else◌};
 ghost use Rattle.msp_instance.specs.Conditions.{InClass};
-ghost use Rattle.msp_file.specs.CertificateText.{IsStatedCertificate};
+ghost use Rattle.msp_schedule.specs.Fraction.{IsComparable};
+ghost use Rattle.msp_cert.specs.Certificates.{KeepsLimits};
+ghost use Rattle.msp_file.specs.CertificateText.{IsStatedBound};
 ghost use Rattle.msp_file.specs.declared.schedule.TheConstants.{LAST_LINE};
 ghost use Rattle.msp_top.specs.Accepts.{IsAcceptReport, AcceptIsRight};
 ghost use Rattle.msp_top.specs.Answers.{Answers, OfRest};
@@ -12,6 +14,7 @@ use crate::statuses::{NO, WRITTEN};
 use msp_cert::{Certificate, accept};
 use msp_class::NoMemory;
 use msp_file::{Filed, read_certificate, read_front};
+use msp_instance::Instance;
 use msp_report::accept_text;
 use std::alloc::Global;
 
@@ -25,6 +28,7 @@ pub fn accept_answer(alloc: Global, input: &[u8]) -> Result<Report, Refusal>
 }
 
 /// The answer to the rest of an input, after the text of the instance.
+#[tactic(auto, using(msp_file::proofs::CertificateLimits::limit_rules))]
 fn accept_rest(alloc: Global, filed: &Filed, line: u32, rest: &[u8]) -> Result<Report, Refusal>
     requires class { InClass filed.now.instance }
     requires named { length filed.now.names ≡ length filed.now.instance.jobs }
@@ -33,7 +37,7 @@ fn accept_rest(alloc: Global, filed: &Filed, line: u32, rest: &[u8]) -> Result<R
     ensures { Answers (OfRest AcceptIsRight filed.now line rest.now) result }
 {
     let certificate = read_certificate(alloc, &filed.names, &filed.instance, rest, line)?;
-    Ok(report_on(alloc, filed, &certificate)?)
+    Ok(report_on(alloc, &filed.instance, &certificate)?)
 }
 
 /// The status of a certificate that is accepted, or not.
@@ -44,15 +48,15 @@ fn status_of(accepted: bool) -> u8
 }
 
 /// The report on a certificate: whether it is accepted.
-#[tactic(auto, using(crate::proofs::CertificateLimits::certificate_limits))]
-fn report_on(alloc: Global, filed: &Filed, certificate: &Certificate) -> Result<Report, NoMemory>
-    requires class { InClass filed.now.instance }
-    requires named { length filed.now.names ≡ length filed.now.instance.jobs }
-    requires stated { IsStatedCertificate filed.now.names filed.now.instance.machines certificate.now }
-    ensures { IfOk result (λ made. IsAcceptReport filed.now.instance certificate.now made.status made.text.items) }
+fn report_on(alloc: Global, inst: &Instance, certificate: &Certificate) -> Result<Report, NoMemory>
+    requires class { InClass inst.now }
+    requires stated { IsStatedBound certificate.now.bound }
+    requires bound { IsComparable certificate.now.bound }
+    requires limits { KeepsLimits certificate.now.proof }
+    ensures { IfOk result (λ made. IsAcceptReport inst.now certificate.now made.status made.text.items) }
 {
-    let accepted = accept(alloc, &filed.instance, certificate)?;
-    let text = accept_text(alloc, &filed.instance, certificate, accepted)?;
+    let accepted = accept(alloc, inst, certificate)?;
+    let text = accept_text(alloc, inst, certificate, accepted)?;
     Ok(Report {
         status: status_of(accepted),
         text,

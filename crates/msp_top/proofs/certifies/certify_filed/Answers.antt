@@ -4,7 +4,7 @@ use Rattle.msp_top.specs.Certifies.{CertifyIsRight, certified}
 use Rattle.msp_top.proofs.Exits.{exits}
 use Rattle.msp_top.proofs.SolveAnswers.{answers-memory}
 use Rattle.msp_top.proofs.CertifyAnswers.{uncertified_right}
-use Rattle.msp_top.proofs.CertificateLimits.{certificate_stated, lowest_bound}
+use Rattle.msp_top.proofs.CertifiedTexts.{certificate_stated, lowest_bound}
 use Rattle.msp_top.proofs.certifies.certify_filed.Goals as goal
 
 pub returns-in_err-certified : goal.returns-in_err-certified

@@ -1,39 +1,22 @@
--- A certificate that has a text is within the limits of judging it, and one of a best cost has a text.
-use Rattle.std.proofs.Common.{◌≡◌, ℕ, suc, ◌+◌, ◌*◌, ◌^◌, ◌<◌, ◌≤◌, Bool, true, false, not, List, [], ◌∷◌, ◌++◌, length, sum_by, All, ℤ, pos, negsuc, unsigned_abs, refl, sym, ap, subst, ◌∙◌, arith, codes, decimal}
+-- A certificate of a best cost has a text.
+use Rattle.std.proofs.Common.{◌≡◌, ℕ, suc, ◌+◌, ◌*◌, ◌<◌, ◌≤◌, Bool, true, false, not, List, [], ◌∷◌, ◌++◌, length, sum_by, All, ℤ, pos, refl, sym, ap, subst, ◌∙◌, arith, codes, decimal}
 use Rattle.std.specs.Fmt.{signed_decimal}
 use Rattle.std.specs.Ordering.{int_eq}
-use Rattle.std.proofs.lemmas.Int.{ints}
 use Rattle.std.proofs.lemmas.List.{length-append, length-map}
 use Rattle.std.proofs.lemmas.List.Sums.{sum_by-cons}
-use Rattle.std.proofs.Math.Nat.{mul-le-mul_left, mul-le-mul_right}
 use Rattle.msp_instance.specs.declared.Instance.{Instance}
-use Rattle.msp_instance.specs.Conditions.{LiesWithin, InClass}
-use Rattle.msp_schedule.specs.declared.Frac.{Frac}
-use Rattle.msp_schedule.specs.Fraction.{IsComparable, IsLowest}
+use Rattle.msp_schedule.specs.Fraction.{IsLowest}
 use Rattle.msp_cert.specs.declared.Proof.{Proof}
 use Rattle.msp_cert.specs.declared.Proof.TheVariants.{Group, Machine, Line, Levels, Segments, Block, Prices}
-use Rattle.msp_cert.specs.declared.Certificate.{Certificate}
 use Rattle.msp_cert.specs.declared.Certified.{Certified}
-use Rattle.msp_cert.specs.Certificates.{HoldsFor, entries, HasSmallNumbers, KeepsLimits}
+use Rattle.msp_cert.specs.Certificates.{HoldsFor, entries, HasSmallNumbers}
 use Rattle.msp_cert.proofs.PriceFacts.{priced_low}
 use Rattle.msp_grammar.specs.InstanceText.{where_wanted}
 use Rattle.msp_grammar.specs.ScheduleText.{name_at}
-use Rattle.msp_file.specs.CertificateText.{job_lines, segment_lines, numbered_lines, column_line, column_lines, kind_lines, AreJobs, IsStatedBound, IsStatedProof, IsStatedCertificate}
+use Rattle.msp_file.specs.CertificateText.{job_lines, segment_lines, numbered_lines, column_line, column_lines, kind_lines, AreJobs, IsStatedProof, IsStatedCertificate}
 use Rattle.msp_file.proofs.KindTexts.{numbered_length}
 use Rattle.msp_dispatch.specs.Certify.{HasLowLevels, IsCertified}
 
--- ---- the bound
-size_within : (x : ℤ) (n : ℕ) → LiesWithin n x → unsigned_abs x ≤ n
-size_within (pos a) n h = omega (arith, ints, h)
-size_within (negsuc a) n h = omega (arith, ints, h)
-
-pub bound_compared : (x : Frac) → IsStatedBound x → IsComparable x
-bound_compared x h = record {
-  num = omega (arith, size_within x.num (10 ^ 24) h.num);
-  den = omega (arith, size_within x.den (10 ^ 13) (omega (arith, ints, h.den), omega (arith, ints, h.den)));
-}
-
--- ---- the lines
 jobs_count : (names : List (List ℕ)) (jobs : List ℕ) → length (job_lines names jobs) ≡ length jobs
 jobs_count names jobs = length-map jobs (λ j. codes "job" ∷ name_at names j ∷ [])
 
@@ -42,29 +25,6 @@ segments_count names [] = refl
 segments_count names (jobs ∷ lists) =
     omega (arith, length-append (job_lines names jobs) (segment_lines names lists), jobs_count names jobs, segments_count names lists, sum_by-cons length jobs lists)
 
-products : (m n a b : ℕ) → m ≤ a → n ≤ b → m * n ≤ a * b
-products m n a b p q = omega (arith, mul-le-mul_right n p, mul-le-mul_left a q)
-
-keeps_limits : (names : List (List ℕ)) (machines : ℕ) (p : Proof) → length names ≤ 400 → machines ≤ 32 → length (kind_lines names p) ≤ 20000 → IsStatedProof names machines p → KeepsLimits p
-keeps_limits names machines (Group jobs) named small few h = record { few = omega (arith, few, jobs_count names jobs); small = tt }
-keeps_limits names machines (Machine machine) named small few h = record { few = omega arith; small = tt }
-keeps_limits names machines (Line job) named small few h = record { few = omega arith; small = tt }
-keeps_limits names machines (Levels level tail) named small few h = record { few = omega (arith, named, h.0); small = tt }
-keeps_limits names machines (Segments lists) named small few h = record { few = omega (arith, few, segments_count names lists); small = tt }
-keeps_limits names machines (Block head jobs) named small few h = record {
-  few = omega (arith, few, length-append (numbered_lines (codes "head") decimal names head) (job_lines names jobs), numbered_length (codes "head") decimal names head h.0, jobs_count names jobs);
-  small = h.1;
-}
-keeps_limits names machines (Prices row column) named small few h = record {
-  few = omega (arith, named, h.0, h.2, products machines (length names) 32 400 small named);
-  small = (h.1, λ k d l. (h.3 k d l).0);
-}
-
-pub certificate_within : (names : List (List ℕ)) (i : Instance) (c : Certificate) → InClass i → length names ≡ length i.jobs → IsStatedCertificate names i.machines c → KeepsLimits c.proof
-certificate_within names i c class named stated =
-    keeps_limits names i.machines c.proof (omega (arith, named, class.conditions.few)) class.conditions.machines.1 stated.few stated.numbers
-
--- ---- certificates of best costs
 column_lines_few : (jobs at : ℕ) (column : List ℤ) → length (column_lines jobs at column) ≤ length column
 column_lines_few jobs at [] = omega arith
 column_lines_few jobs at (price ∷ prices) = along (not (int_eq price (pos 0))) (column_line jobs at price) (column_lines jobs (suc at) prices) (length prices) (column_lines_few jobs (suc at) prices)
@@ -109,5 +69,3 @@ certificate_stated names i c named h = record {
 
 pub lowest_bound : (i : Instance) (c : Certified) → IsCertified i c → IsLowest c.certificate.bound
 lowest_bound i c h = subst IsLowest (sym h.bound) h.solution.lowest
-
-pub ruleset certificate_limits = (bound_compared, certificate_within)
