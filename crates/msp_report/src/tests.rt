@@ -65,9 +65,7 @@ const FLOW_SHOP: Class = Class {
 fn listed<T: Copy + Drop>(alloc: Global, items: &[T]) -> Result<List<T>, Fail> {
     let mut list = List::new(alloc);
     for item in items {
-        if list.push(*item).is_err() {
-            return Err(Fail::from("no memory"));
-        }
+        list.put(*item)?;
     }
     Ok(list)
 }
@@ -76,14 +74,11 @@ fn known(alloc: Global, results: &[Known]) -> Result<List<Entry>, Fail> {
     let mut entries = List::new(alloc);
     for (class, verdict, source) in results {
         let source = listed(alloc, source)?;
-        let entry = Entry {
+        entries.put(Entry {
             class: *class,
             verdict: *verdict,
             source,
-        };
-        if entries.push(entry).is_err() {
-            return Err(Fail::from("no memory"));
-        }
+        })?;
     }
     Ok(entries)
 }

@@ -1,5 +1,5 @@
 // The report of `why`.
-ghost use Rattle.std.specs.Prelude.{◌≡◌, ◌++◌, ◌∷◌, [], ◌+◌, OnOk, IfOk};
+ghost use Rattle.std.specs.Prelude.{◌≡◌, ◌++◌, ◌∷◌, [], OnOk, IfOk};
 ghost use Rattle.std.specs.Option.{is_some};
 ghost use Rattle.msp_table.specs.Rows.{keeps_size};
 ghost use Rattle.msp_table.specs.Chains.{every_row};

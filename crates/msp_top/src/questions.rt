@@ -103,9 +103,7 @@ fn all_classes(alloc: Global) -> Result<List<Class>, NoMemory>
         let Some(class) = unrank(n) else {
             unreachable!();
         };
-        if classes.push(class).is_err() {
-            return Err(NoMemory);
-        }
+        classes.put(class)?;
     }
     Ok(classes)
 }

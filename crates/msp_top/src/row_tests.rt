@@ -283,10 +283,8 @@ fn chain_of(alloc: Global, inst: &Instance, row: Row) -> Result<List<Row>, Fail>
     ensures { IfOk result (λ rows. IsChain inst.now rows) }
 {
     let mut rows = List::new(alloc);
-    match rows.push(row) {
-        Ok(()) => Ok(rows),
-        Err(_) => Err(Fail::new("no memory")),
-    }
+    rows.put(row)?;
+    Ok(rows)
 }
 
 /// The chain of the row of the number, which has to carry the instance.
@@ -330,10 +328,7 @@ fn class_of(name: &str) -> Result<Class, Fail> {
 fn drawn(alloc: Global, class: Class, jobs: u8, seed: u8) -> Result<Instance, Fail>
     ensures { IfOk result (λ inst. Inner inst) }
 {
-    match generate(alloc, class, u32::from(jobs), u32::from(seed)) {
-        Ok(inst) => Ok(inst),
-        Err(fault) => Err(Fail::from(fault)),
-    }
+    Ok(generate(alloc, class, u32::from(jobs), u32::from(seed))?)
 }
 
 /// Each journey's schedule comes back at its cost.

@@ -1,10 +1,7 @@
 // The words of a command line.
 ghost use Rattle.std.specs.Prelude.{◌≡◌, ◌↔◌, ℕ, ◌∷◌, ◌++◌, [], List as Items, map, string_bytes, IsTrue, IfOk, Ok};
-ghost use Rattle.std.specs.List.{AllZip};
 ghost use Rattle.msp_class.specs.declared.class.Class.{Class as ClassValue};
-ghost use Rattle.msp_top.specs.Commands.{IsNameWord};
-ghost use Rattle.msp_top.specs.Usage.{name_then, names_text};
-ghost use Rattle.msp_top.specs.Note.{usage_note};
+ghost use Rattle.msp_top.specs.Usage.{name_then};
 ghost use Rattle.msp_top.specs.Words.{ReadsWords, ReadsName, ReadsNames, ReadsOneName, ReadsOption, ReadsAlone};
 
 use crate::command::{Command, Question, Request};
@@ -51,9 +48,7 @@ fn grown(classes: Result<List<Class>, NoMemory>, class: Class) -> Result<List<Cl
     ensures { IfOk result (λ all. (some : Items ClassValue) × (classes ≡ Ok some) × (all ≡ some ++ class ∷ [])) }
 {
     let mut classes = classes?;
-    if classes.push(class).is_err() {
-        return Err(NoMemory);
-    }
+    classes.put(class)?;
     Ok(classes)
 }
 
