@@ -8,6 +8,7 @@ use crate::accept_text;
 use msp_cert::accept;
 use msp_file::{Filed, put_certificate, read_certificate, read_instance};
 use std::alloc::Global;
+use std::process::Abort;
 use std::test::Fail;
 
 const CUT: &[u8] = b"msp 1\nclass P|pmtn|Cmax\nmachines 2\njob a p=3\njob b p=3\njob c p=3\nend\n";
@@ -33,7 +34,7 @@ const UNRELATED: &[u8] =
     b"msp 1\nclass R||sumC\nmachines 2\njob a\ntimes 1 9\njob b\ntimes 2 3\njob c\ntimes 3 5\nend\n";
 
 /// Instances and certificate texts for them: one of each kind, an empty list and a job that stands twice, and numbers at the limits.
-const PRINTED: [(&[u8], &[u8]); 9] = [
+const PRINTED: &[(&[u8], &[u8])] = &[
     (
         CUT,
         b"certificate\nbound 9/2\nkind group\njob a\njob b\njob c\nend\n",
@@ -86,13 +87,13 @@ fn certificates_are_printed_again(rt: HostRuntime) -> Result<(), Fail> {
     for (instance, text) in PRINTED {
         assert!(rt; instance.len() < 300 && text.len() < 300);
         let filed = read_instance(rt.alloc(), instance)?;
-        assert_eq!(rt; printed_again(rt.alloc(), &filed, text)?.as_slice(), text);
+        assert_eq!(rt; printed_again(rt.alloc(), &filed, text)?.as_slice(), *text);
     }
     Ok(())
 }
 
 /// Texts behind the instance on unrelated machines that have a fault in the lines of the head, of jobs or of a machine, and their notes.
-const FRAME_FAULTS: [(&[u8], &[u8]); 27] = [
+const FRAME_FAULTS: &[(&[u8], &[u8])] = &[
     (b"", b"line 11: missing"),
     (b"certificate", b"line 11: cut"),
     (b"certificate 1\n", b"line 11: count of fields"),
@@ -174,7 +175,7 @@ const FRAME_FAULTS: [(&[u8], &[u8]); 27] = [
 ];
 
 /// The same with a fault in the lines of levels, lists, heads or prices.
-const NUMBER_FAULTS: [(&[u8], &[u8]); 28] = [
+const NUMBER_FAULTS: &[(&[u8], &[u8])] = &[
     (
         b"certificate\nbound 8\nkind levels\ntail 401\nend\n",
         b"line 14: limit of level",
@@ -289,35 +290,32 @@ const NUMBER_FAULTS: [(&[u8], &[u8]); 28] = [
     ),
 ];
 
-#[test]
-fn faults_of_heads_and_jobs(rt: HostRuntime) -> Result<(), Fail> {
-    let Filed { instance, names } = read_instance(rt.alloc(), UNRELATED)?;
-    for (text, note) in FRAME_FAULTS {
+/// Each text behind the instance has the fault of its note.
+fn have_faults(rt: &impl Abort, alloc: Global, cases: &[(&[u8], &[u8])]) -> Result<(), Fail> {
+    let Filed { instance, names } = read_instance(alloc, UNRELATED)?;
+    for (text, note) in cases {
         assert!(rt; text.len() < 300);
-        let fault = read_certificate(rt.alloc(), &names, &instance, text, 11)
+        let fault = read_certificate(alloc, &names, &instance, text, 11)
             .err()
             .ok_or("no fault")?;
-        assert_eq!(rt; fault.text().bytes(), note);
+        assert_eq!(rt; fault.text().bytes(), *note);
     }
     Ok(())
+}
+
+#[test]
+fn faults_of_heads_and_jobs(rt: HostRuntime) -> Result<(), Fail> {
+    have_faults(&rt, rt.alloc(), FRAME_FAULTS)
 }
 
 #[test]
 fn faults_of_numbers(rt: HostRuntime) -> Result<(), Fail> {
-    let Filed { instance, names } = read_instance(rt.alloc(), UNRELATED)?;
-    for (text, note) in NUMBER_FAULTS {
-        assert!(rt; text.len() < 300);
-        let fault = read_certificate(rt.alloc(), &names, &instance, text, 11)
-            .err()
-            .ok_or("no fault")?;
-        assert_eq!(rt; fault.text().bytes(), note);
-    }
-    Ok(())
+    have_faults(&rt, rt.alloc(), NUMBER_FAULTS)
 }
 
 /// Instances, certificates and the reports of `accept` on them: of each kind one that is accepted, one with a greater bound, and one with
 /// other evidence; then bounds below 0 and not in lowest terms.
-const JUDGED: [(&[u8], &[u8], &[u8]); 25] = [
+const JUDGED: &[(&[u8], &[u8], &[u8])] = &[
     (
         CUT,
         b"certificate\nbound 9/2\nkind group\njob a\njob b\njob c\nend\n",
@@ -463,7 +461,7 @@ fn accepted_or_not(rt: HostRuntime) -> Result<(), Fail> {
     for (instance, text, report) in JUDGED {
         assert!(rt; instance.len() < 300 && text.len() < 300);
         let filed = read_instance(rt.alloc(), instance)?;
-        assert_eq!(rt; judged(rt.alloc(), &filed, text)?.as_slice(), report);
+        assert_eq!(rt; judged(rt.alloc(), &filed, text)?.as_slice(), *report);
     }
     Ok(())
 }
