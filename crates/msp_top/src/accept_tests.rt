@@ -1,5 +1,5 @@
 // `accept` over a source and sinks in memory, by full bytes.
-use crate::tests::{Case, calling, gives};
+use crate::tests::{Case, each_gives};
 use std::test::Fail;
 
 /// An instance with a certificate after it.
@@ -146,9 +146,5 @@ const ACCEPTS: &[Case] = &[
 
 #[test]
 fn judges_certificates(rt: HostRuntime) -> Result<(), Fail> {
-    for case in ACCEPTS {
-        let call = calling(case.words, case.text);
-        assert!(rt; gives(rt.alloc(), &call, case.status, case.out, case.notes)?);
-    }
-    Ok(())
+    each_gives(&rt, rt.alloc(), ACCEPTS)
 }

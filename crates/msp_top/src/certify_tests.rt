@@ -1,6 +1,6 @@
 // `certify` over a source and sinks in memory, by full bytes.
 use crate::check_tests::behind;
-use crate::tests::{Case, calling, gives, outcome};
+use crate::tests::{Case, calling, each_gives, outcome};
 use std::test::Fail;
 
 /// An instance of a class with certificates.
@@ -108,13 +108,8 @@ const REFUSED: &[Case] = &[
 
 #[test]
 fn certifies_best_costs(rt: HostRuntime) -> Result<(), Fail> {
-    for cases in [CERTIFIES, REFUSED] {
-        for case in cases {
-            let call = calling(case.words, case.text);
-            assert!(rt; gives(rt.alloc(), &call, case.status, case.out, case.notes)?);
-        }
-    }
-    Ok(())
+    each_gives(&rt, rt.alloc(), CERTIFIES)?;
+    each_gives(&rt, rt.alloc(), REFUSED)
 }
 
 #[test]

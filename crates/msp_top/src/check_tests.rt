@@ -1,5 +1,5 @@
 // `check` over a source and sinks in memory, by full bytes.
-use crate::tests::{Case, SOLVED, TEXT, calling, gives, outcome};
+use crate::tests::{Case, SOLVED, TEXT, calling, each_gives, gives, outcome};
 use std::alloc::Global;
 use std::test::Fail;
 
@@ -75,11 +75,7 @@ const CHECKS: &[Case] = &[
 
 #[test]
 fn checks_schedules(rt: HostRuntime) -> Result<(), Fail> {
-    for case in CHECKS {
-        let call = calling(case.words, case.text);
-        assert!(rt; gives(rt.alloc(), &call, case.status, case.out, case.notes)?);
-    }
-    Ok(())
+    each_gives(&rt, rt.alloc(), CHECKS)
 }
 
 /// The text of an instance with what stands in a report behind it, from the line on that begins so.
@@ -94,12 +90,16 @@ pub fn behind(alloc: Global, text: &[u8], report: &[u8], begin: &[u8]) -> Result
     Ok(whole)
 }
 
+/// Whether `check` says 0 of an instance with the schedule of a report behind it.
+pub fn is_feasible(alloc: Global, text: &[u8], report: &[u8]) -> Result<bool, Fail> {
+    let whole = behind(alloc, text, report, b"schedule\n")?;
+    Ok(outcome(alloc, &calling(&["check"], &whole))?.status == 0)
+}
+
 #[test]
 fn what_is_solved_is_feasible(rt: HostRuntime) -> Result<(), Fail> {
     for case in SOLVED {
-        let text = behind(rt.alloc(), case.text, case.out, b"schedule\n")?;
-        let seen = outcome(rt.alloc(), &calling(&["check"], &text))?;
-        assert_eq!(rt; seen.status, 0);
+        assert!(rt; is_feasible(rt.alloc(), case.text, case.out)?);
     }
     Ok(())
 }

@@ -5,13 +5,17 @@ use crate::accept_tests::ACCEPTED;
 use crate::certify_tests::CERTIFIED;
 use crate::check_tests::CHECKED;
 use crate::run;
-use crate::tests::{Call, Case, Seen, TEXT, calling, gives, outcome};
+use crate::tests::{Call, Case, Seen, TEXT, calling, each_gives, gives, outcome};
 use msp_io::{SureSink, SureSource};
 use std::alloc::Global;
+use std::process::Abort;
 use std::test::Fail;
 
-/// A call of each command that makes and solves, checks, judges or only writes: its words, its input, and whether it reads.
-const CALLS: &[(&[&str], &[u8], bool)] = &[
+/// The words of a call, its input, and whether it reads.
+type Faulty = (&'static [&'static str], &'static [u8], bool);
+
+/// A call of each command that makes and solves, checks, judges or only writes.
+const CALLS: &[Faulty] = &[
     (&["solve"], TEXT, true),
     (&["certify"], CERTIFIED, true),
     (&["check"], CHECKED, true),
@@ -24,7 +28,7 @@ const RESULTS: &[u8] =
     b"class,strength,source\n1||sumwU,hard,Karp 1972\n1||sumwU,pseudo,Lawler and Moore 1969\n";
 
 /// The same for the commands that read results.
-const QUESTIONS: &[(&[&str], &[u8], bool)] = &[
+const QUESTIONS: &[Faulty] = &[
     (&["label", "1||sumwU", "1||Lmax"], RESULTS, true),
     (&["why", "1||Lmax"], RESULTS, true),
     (&["frontier"], RESULTS, true),
@@ -101,32 +105,28 @@ fn answers_each_fault(alloc: Global, call: &Call<'_>, reads: bool) -> Result<boo
     Ok(true)
 }
 
-#[test]
-fn failing_devices(rt: HostRuntime) -> Result<(), Fail> {
-    for (words, text, reads) in CALLS {
+/// Each call answers each fault as it should, with steps of one byte and of seven.
+fn answer_faults(rt: &impl Abort, alloc: Global, calls: &[Faulty]) -> Result<(), Fail> {
+    for (words, text, reads) in calls {
         for step in [1, 7] {
             let call = Call {
                 step,
                 ..calling(words, text)
             };
-            assert!(rt; answers_each_fault(rt.alloc(), &call, *reads)?);
+            assert!(rt; answers_each_fault(alloc, &call, *reads)?);
         }
     }
     Ok(())
 }
 
 #[test]
+fn failing_devices(rt: HostRuntime) -> Result<(), Fail> {
+    answer_faults(&rt, rt.alloc(), CALLS)
+}
+
+#[test]
 fn failing_devices_and_results(rt: HostRuntime) -> Result<(), Fail> {
-    for (words, text, reads) in QUESTIONS {
-        for step in [1, 7] {
-            let call = Call {
-                step,
-                ..calling(words, text)
-            };
-            assert!(rt; answers_each_fault(rt.alloc(), &call, *reads)?);
-        }
-    }
-    Ok(())
+    answer_faults(&rt, rt.alloc(), QUESTIONS)
 }
 
 /// A call over devices that do not fail.
@@ -245,11 +245,7 @@ const DAMAGED: &[Case] = &[
 
 #[test]
 fn damaged_texts(rt: HostRuntime) -> Result<(), Fail> {
-    for case in DAMAGED {
-        let call = calling(case.words, case.text);
-        assert!(rt; gives(rt.alloc(), &call, case.status, case.out, case.notes)?);
-    }
-    Ok(())
+    each_gives(&rt, rt.alloc(), DAMAGED)
 }
 
 /// So many entries.

@@ -2,6 +2,7 @@
 use crate::run;
 use msp_io::{MemorySink, MemorySource};
 use std::alloc::Global;
+use std::process::Abort;
 use std::test::Fail;
 
 pub const TEXT: &[u8] =
@@ -490,22 +491,23 @@ pub fn gives(
     Ok(seen.status == status && seen.out.as_slice() == out && seen.notes.as_slice() == notes)
 }
 
-#[test]
-fn solves_each_case(rt: HostRuntime) -> Result<(), Fail> {
-    for case in SOLVED {
+/// Each case gives its status, report and notes.
+pub fn each_gives(rt: &impl Abort, alloc: Global, cases: &[Case]) -> Result<(), Fail> {
+    for case in cases {
         let call = calling(case.words, case.text);
-        assert!(rt; gives(rt.alloc(), &call, case.status, case.out, case.notes)?);
+        assert!(rt; gives(alloc, &call, case.status, case.out, case.notes)?);
     }
     Ok(())
 }
 
 #[test]
+fn solves_each_case(rt: HostRuntime) -> Result<(), Fail> {
+    each_gives(&rt, rt.alloc(), SOLVED)
+}
+
+#[test]
 fn answers_each_case(rt: HostRuntime) -> Result<(), Fail> {
-    for case in CASES {
-        let call = calling(case.words, case.text);
-        assert!(rt; gives(rt.alloc(), &call, case.status, case.out, case.notes)?);
-    }
-    Ok(())
+    each_gives(&rt, rt.alloc(), CASES)
 }
 
 fn lines(text: &[u8]) -> usize {

@@ -1,5 +1,5 @@
 // `trial` over a source and sinks in memory, by full bytes.
-use crate::tests::{Call, Case, calling, gives};
+use crate::tests::{Call, Case, calling, each_gives, gives};
 use std::test::Fail;
 
 const TRIALS: &[Case] = &[
@@ -154,11 +154,7 @@ const TRIALS: &[Case] = &[
 
 #[test]
 fn tries_each_case(rt: HostRuntime) -> Result<(), Fail> {
-    for case in TRIALS {
-        let call = calling(case.words, case.text);
-        assert!(rt; gives(rt.alloc(), &call, case.status, case.out, case.notes)?);
-    }
-    Ok(())
+    each_gives(&rt, rt.alloc(), TRIALS)
 }
 
 /// Words of a trial.
