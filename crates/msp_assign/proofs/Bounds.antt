@@ -1,8 +1,9 @@
 -- What a row pays stays within bounds.
 use Rattle.std.proofs.Common.{◌≡◌, ℕ, ◌<◌, ◌≤◌, ◌^◌, ℤ, pos, ◌≤ℤ◌, List, nat_abs, arith}
 use Rattle.std.proofs.lemmas.Int.{ints}
+use Rattle.msp_matching.specs.Passing.{at}
 use Rattle.msp_assign.specs.Prices.{HasCosts}
-use Rattle.msp_assign.specs.Search.{at, sizes, paid}
+use Rattle.msp_assign.specs.Search.{sizes, paid}
 
 abs-at_most : (z : ℤ) (n : ℕ) → pos 0 ≤ℤ z → z ≤ℤ pos n → nat_abs z ≤ n
 abs-at_most z n l h = omega (arith, ints)

@@ -2,8 +2,10 @@
 use Rattle.std.proofs.Common.{◌≡◌, ◌≢◌, ℕ, ◌+◌, ◌<◌, ◌≤◌, inl, inr, List, length, IsPermutation, sym, ap, subst, ◌∙◌, arith, refl}
 use Rattle.std.specs.List.{SwappedAt}
 use Rattle.std.proofs.lemmas.List.Sorted.{Contains-permutation, IsPermutation-sym, IsPermutation-refl, IsPermutation-trans, length_permutation}
-use Rattle.msp_assign.specs.Search.{at, IsNearest, AreNearest}
-use Rattle.msp_assign.proofs.Lists.{same_or_not, Contains-at, at-Contains}
+use Rattle.msp_matching.specs.Passing.{at}
+use Rattle.msp_matching.proofs.Lists.{same_or_not}
+use Rattle.msp_assign.specs.Search.{IsNearest, AreNearest}
+use Rattle.msp_assign.proofs.Lists.{Contains-at, at-Contains}
 
 -- of the first k columns those that are so far stand first, if there are some
 pub record IsGathering (distance left next : List ℕ) (far k near : ℕ) : Type 0 where

@@ -3,9 +3,11 @@ use Rattle.std.proofs.Common.{◌≡◌, ◌≢◌, ℕ, ◌+◌, ◌<◌, ◌�
 use Rattle.std.proofs.Math.Seq.{get_or-append_seam}
 use Rattle.std.proofs.lemmas.List.{get_or-replicate, length-replicate, length-append, get_or_append_left, get_or_default}
 use Rattle.std.proofs.lemmas.List.Elements.{All-contains, All-from_get_or}
-use Rattle.msp_assign.specs.Search.{at, paid, AreAll, IsPlaced, IsTree, IsLevel, IsSearch, IsNearest, AreNearest, IsRelaxed}
+use Rattle.msp_matching.specs.Passing.{at}
+use Rattle.msp_matching.proofs.Lists.{same_or_not, distinct-permutation}
+use Rattle.msp_assign.specs.Search.{paid, AreAll, IsPlaced, IsGrown, IsLevel, IsSearch, IsNearest, AreNearest, IsRelaxed}
 use Rattle.std.proofs.lemmas.List.Sorted.{All-permutation, Contains-permutation, IsPermutation-sym}
-use Rattle.msp_assign.proofs.Lists.{same_or_not, contained_or_not, Contains-at, at-Contains, All-from_contained, IsWithout, distinct-permutation}
+use Rattle.msp_assign.proofs.Lists.{contained_or_not, Contains-at, at-Contains, All-from_contained, IsWithout}
 
 -- the nearest column of those that are left
 pub record IsClosest (distance left : List ℕ) (e : ℕ) : Type 0 where
@@ -178,7 +180,7 @@ module _ (cost : ℕ → ℕ → ℕ) (columns : ℕ) (fall column : List ℕ) w
       reached : (c : ℕ) → ((at next c ≡ at distance c) × (at next_from c ≡ at «from» c)) ⊎ ((at next_from c ≡ length tree) × (at next c + own ≡ depth + paid cost fall r c))
       reached c = elim (contained_or_not rest c) [ inl m ↦ (q.each c m).change | inr n ↦ inl (q.others c n) ]
 
-      tree_next : length next_from ≡ columns → IsTree columns column next_from (tree ++ r ∷ [])
+      tree_next : length next_from ≡ columns → IsGrown columns column next_from (tree ++ r ∷ [])
       tree_next sf = record {
         size = sf;
         some = omega (arith, longer);

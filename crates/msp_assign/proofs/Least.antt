@@ -7,10 +7,11 @@ use Rattle.std.proofs.lemmas.List.Elements.{All-get_or}
 use Rattle.msp_class.specs.Sums.{total_below, int_total_below}
 use Rattle.msp_class.proofs.Sums.{total_below-mono, total_below-same, total_below-split, int_total_below-same, int_total_below-mono, int_total_below-add, sum_by_counts, sum_by-distinct_test, sum_by-cons}
 use Rattle.msp_class.proofs.IntegerRing.{≤ℤ_trans, ≤ℤ_of_same}
+use Rattle.msp_matching.specs.Passing.{at}
 use Rattle.msp_assign.specs.declared.assignment.Assignment.{Assignment}
 use Rattle.msp_assign.specs.declared.column.Column.{Column}
 use Rattle.msp_assign.specs.Prices.{HasCosts, IsAssigned, IsPriced, IsLeast, HasFreeColumn, column_of, price_at, cost_of, price_of}
-use Rattle.msp_assign.specs.Search.{at, sizes, IsRowPrices}
+use Rattle.msp_assign.specs.Search.{sizes, IsRowPrices}
 use Rattle.msp_assign.specs.View.{no_column, column_at, number_at, seen, AreNumbers, AreColumnPrices, IsPlacement}
 use Rattle.msp_assign.proofs.Lists.{counted, Contains-at, at-Contains}
 use Rattle.msp_assign.proofs.Bounds.{sizes-is}

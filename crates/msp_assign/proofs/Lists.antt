@@ -1,38 +1,19 @@
--- Reads of lists of numbers after a write or a push, and lists of distinct numbers.
-use Rattle.std.proofs.Common.{◌≡◌, ◌≢◌, ℕ, suc, ◌+◌, ◌<◌, ◌≤◌, ◌⊎◌, inl, inr, refl, List, [], ◌∷◌, ◌++◌, Bool, true, false, eqb, leb, length, take, drop, swap_remove, Contains, All, AllPairs, IsPermutation, cond, count_by, ◌*◌, ◌-◌, sym, subst, ◌∙◌, arith}
-use Rattle.std.proofs.lemmas.Bool.{eqb-true, eqb-false, eq-eqb, leb-true, leb-false}
-use Rattle.std.proofs.Math.Seq.{take-append_seam}
+-- What lists of numbers contain, and lists of distinct numbers.
+use Rattle.std.proofs.Common.{◌≡◌, ◌≢◌, ℕ, suc, ◌+◌, ◌<◌, ◌≤◌, ◌⊎◌, inl, inr, refl, List, [], ◌∷◌, eqb, length, swap_remove, Contains, All, AllPairs, IsPermutation, cond, count_by, ◌*◌, ◌-◌, sym, subst, ◌∙◌, arith}
+use Rattle.std.proofs.lemmas.Bool.{eq-eqb}
 use Rattle.std.proofs.lemmas.List.{get_or_default}
 use Rattle.std.proofs.lemmas.List.Elements.{All-from_get_or, Contains-get_or, Contains-append_right, Contains-append_cases, Contains-push_cases}
 use Rattle.std.proofs.lemmas.List.Sorted.{Contains-permutation, IsPermutation-sym, IsPermutation-swap_remove}
 use Rattle.msp_class.specs.Sums.{total_below}
-use Rattle.msp_class.proofs.Sums.{total_below-add, total_below-mono, total_below-constant, total_below-some, sum_by_counts, sum_by-constant, sum_by-contains, sum_by-IsPermutation, count_by-distinct, distinct_from_counts, cond-yes}
-use Rattle.msp_assign.specs.Search.{at}
+use Rattle.msp_class.proofs.Sums.{total_below-add, total_below-mono, total_below-constant, total_below-some, sum_by_counts, sum_by-constant, sum_by-contains, cond-yes}
+use Rattle.msp_matching.specs.Passing.{at}
+use Rattle.msp_matching.proofs.Lists.{same_or_not, distinct-permutation}
 
 pub Contains-at : (xs : List ℕ) (k c : ℕ) → k < length xs → at xs k ≡ c → Contains xs c
 Contains-at xs k c l e = subst (Contains xs) e (Contains-get_or xs k 0 l)
 
 pub at-Contains : (xs : List ℕ) (c : ℕ) → Contains xs c → (k : ℕ) × (k < length xs) × (at xs k ≡ c)
 at-Contains xs c h = (h.0, h.1, get_or_default xs h.0 0 c h.1 ∙ h.2)
-
--- numbers are the same or not
-pub same_or_not : (a b : ℕ) → (a ≡ b) ⊎ (a ≢ b)
-same_or_not a b = by (eqb a b) refl
-  where
-    by : (v : Bool) → eqb a b ≡ v → (a ≡ b) ⊎ (a ≢ b)
-    by true e = inl (eqb-true a b e)
-    by false e = inr (eqb-false a b e)
-
-pub less_or_not : (a b : ℕ) → (a < b) ⊎ (b ≤ a)
-less_or_not a b = by (leb b a) refl
-  where
-    by : (v : Bool) → leb b a ≡ v → (a < b) ⊎ (b ≤ a)
-    by true e = inr (leb-true b a e)
-    by false e = inl (leb-false b a e)
-
--- what a vector holds after its slice was written
-pub whole_slice : {X : Type 0} (n k : ℕ) (xs ys : List X) → length xs ≡ n → take n (xs ++ drop k ys) ≡ xs
-whole_slice n k xs ys e = subst (λ m. take m (xs ++ drop k ys) ≡ xs) e (take-append_seam xs (drop k ys))
 
 Contains-head : (x : ℕ) (xs : List ℕ) (c : ℕ) → Contains (x ∷ xs) c → (x ≡ c) ⊎ Contains xs c
 Contains-head x xs c h = elim (Contains-append_cases (x ∷ []) xs c h) [
@@ -53,20 +34,6 @@ contained_or_not (x ∷ xs) c = elim (same_or_not x c) [
     | inr m ↦ inr (λ h. elim (Contains-head x xs c h) [ inl e ↦ n e | inr k ↦ m k ])
   ]
 ]
-
--- without repeats, equal numbers stand at one place
-pub same_place : (xs : List ℕ) → AllPairs (λ x y. x ≢ y) xs → (i j : ℕ) → i < length xs → j < length xs → at xs i ≡ at xs j → i ≡ j
-same_place xs h i j li lj e = elim (same_or_not i j) [
-  | inl s ↦ s
-  | inr n ↦ elim (less_or_not i j) [
-    | inl l ↦ absurd (h i j 0 l lj e)
-    | inr l ↦ absurd (h j i 0 (omega (arith, l, n)) li (sym e))
-  ]
-]
-
--- a rearrangement has no repeats either
-pub distinct-permutation : (xs ys : List ℕ) → IsPermutation xs ys → AllPairs (λ x y. x ≢ y) xs → AllPairs (λ x y. x ≢ y) ys
-distinct-permutation xs ys p h = distinct_from_counts ys (λ i. omega (arith, sum_by-IsPermutation (λ x. cond (eqb x i) 1 0) xs ys p, count_by-distinct xs i h))
 
 -- one of distinct numbers is taken away
 pub record IsWithout (xs : List ℕ) (e : ℕ) (ys : List ℕ) : Type 0 where

@@ -1,14 +1,17 @@
 -- After a search the prices move, and the columns are passed on: one row more has a column where it pays least.
-use Rattle.std.proofs.Common.{◌≡◌, ◌≢◌, ℕ, ◌+◌, ◌-◌, ◌<◌, ◌≤◌, ◌^◌, inl, inr, ℤ, List, [], ◌∷◌, ◌++◌, length, get_or, Contains, sym, ap, subst, ◌∙◌, arith}
+use Rattle.std.proofs.Common.{◌≡◌, ◌≢◌, ℕ, zero, suc, ◌+◌, ◌-◌, ◌<◌, ◌≤◌, ◌^◌, inl, inr, ℤ, List, [], ◌∷◌, ◌++◌, length, get_or, Contains, sym, ap, subst, ◌∙◌, arith}
 use Rattle.std.proofs.lemmas.List.{length-append, get_or_default}
 use Rattle.std.proofs.lemmas.List.Elements.{All-append, All-cons, All-nil, All-contains, Contains-append_left, Contains-get_or}
 use Rattle.std.proofs.lemmas.List.Quantifiers.{all_pairs_push}
 use Rattle.std.proofs.lemmas.List.Sorted.{All-permutation, Contains-permutation, length_permutation}
+use Rattle.msp_matching.specs.Passing.{at, IsTree, IsStep, IsPassedOn}
+use Rattle.msp_matching.proofs.Lists.{same_place, distinct-permutation}
 use Rattle.msp_assign.specs.Prices.{HasCosts}
-use Rattle.msp_assign.specs.Search.{at, sizes, IsCheapest, IsPlaced, IsLevel, IsSearch, IsNearest, IsLowered, IsStep, IsPassedOn, IsOneMore}
-use Rattle.msp_assign.proofs.Lists.{same_place, distinct-permutation, contained_or_not, Contains-at}
+use Rattle.msp_assign.specs.Search.{sizes, IsCheapest, IsPlaced, IsLevel, IsSearch, IsNearest, IsLowered, IsOneMore}
+use Rattle.msp_assign.proofs.Lists.{contained_or_not, Contains-at}
 use Rattle.msp_assign.proofs.Growth.{IsClosest, IsClosest-at}
 use Rattle.msp_assign.proofs.Bounds.{sizes-at_most}
+use Rattle.msp_assign.proofs.Passing.{first_free, row_before, kept_column, IsTree-longer}
 
 module _ (cost : ℕ → ℕ → ℕ) (columns : ℕ) (fall column : List ℕ) (p : IsPlaced cost columns fall column)
     (distance «from» left tree : List ℕ) (h : IsSearch cost columns fall column distance «from» left tree)
@@ -53,13 +56,16 @@ module _ (cost : ℕ → ℕ → ℕ) (columns : ℕ) (fall column : List ℕ) (
   ]
 
   -- a column on the way back is the cheapest for the row from which it is reached
-  step_inside : (c : ℕ) → IsStep column tree free c → (c < columns) × (at distance c ≤ at distance free)
-  step_inside c (inl e) = (subst (λ x. x < columns) (sym e) in_view, omega (arith, ap (at distance) e))
-  step_inside c (inr w) =
-      let l = inside (at tree w.0) (h.grown.rows w.0 w.1 w.2) in
-      (subst (λ x. x < columns) w.3 l, subst (λ x. at distance x ≤ at distance free) w.3 (settled_near (at column (at tree w.0)) l (h.own w.0 w.1 w.2)))
+  step_inside : (c : ℕ) → IsStep (column ++ free ∷ []) tree c → (c < columns) × (at distance c ≤ at distance free)
+  step_inside c (zero, l, e) =
+      let same : free ≡ c = sym (first_free columns column «from» tree h.grown free) ∙ e in
+      (subst (λ x. x < columns) same in_view, omega (arith, ap (at distance) same))
+  step_inside c (suc k, l, e) =
+      let same : at column (at tree (suc k)) ≡ c = sym (kept_column columns column «from» tree h.grown free (suc k) (omega arith) l) ∙ e in
+      let own = inside (at tree (suc k)) (h.grown.rows (suc k) (omega arith) l) in
+      (subst (λ x. x < columns) same own, subst (λ x. at distance x ≤ at distance free) same (settled_near (at column (at tree (suc k))) own (h.own (suc k) (omega arith) l)))
 
-  reached : (r c : ℕ) → at tree (at «from» c) ≡ r → IsStep column tree free c → IsCheapest cost columns next r c
+  reached : (r c : ℕ) → at tree (at «from» c) ≡ r → IsStep (column ++ free ∷ []) tree c → IsCheapest cost columns next r c
   reached r c e s = let i = step_inside c s in cheapest_near r c i.0 i.1 (subst (λ x. IsLevel cost columns fall distance x c) e (h.level c i.0))
 
   -- only the price of an owned column moves
@@ -78,7 +84,7 @@ module _ (cost : ℕ → ℕ → ℕ) (columns : ℕ) (fall column : List ℕ) (
         omega (arith, k, (still free in_view unused).1, bound (at tree w.0) s, ap (at next) w.3)
   ]
 
-  module _ (after : List ℕ) (q : IsPassedOn column «from» tree free after) where
+  module _ (after : List ℕ) (q : IsPassedOn (column ++ free ∷ []) «from» tree after) where
     longer : length after ≡ length column + 1
     longer = length_permutation (column ++ free ∷ []) after q.same ∙ length-append column (free ∷ [])
 
@@ -88,8 +94,10 @@ module _ (cost : ℕ → ℕ → ℕ) (columns : ℕ) (fall column : List ℕ) (
       low = low;
       inside = All-permutation (λ c. c < columns) (column ++ free ∷ []) after q.same (All-append (λ c. c < columns) column (free ∷ []) p.inside (All-cons (λ c. c < columns) free [] in_view (All-nil (λ c. c < columns))));
       apart = distinct-permutation (column ++ free ∷ []) after q.same (all_pairs_push (λ c d. c ≢ d) column free p.apart (λ k d l e. unused (subst (Contains column) e (get k d l))));
-      cheapest = λ r l. elim (q.each r (omega (arith, longer))) [
-        | inl a ↦ subst (IsCheapest cost columns next r) (sym a.1) (kept r a.0)
+      cheapest = λ r l. elim (q.each r (omega (arith, l, length_permutation (column ++ free ∷ []) after q.same))) [
+        | inl a ↦
+            let old : r < length column = omega (arith, l, longer, a.0, h.grown.first) in
+            subst (IsCheapest cost columns next r) (sym (a.1 ∙ row_before columns column «from» tree h.grown free r old)) (kept r old)
         | inr a ↦ reached r (at after r) a.0 a.1
       ];
       unused = λ c l n. (still c l (λ m. n (Contains-permutation (column ++ free ∷ []) after c q.same (Contains-append_left column (free ∷ []) c m)))).1;
@@ -107,12 +115,24 @@ pub record IsStepped (cost : ℕ → ℕ → ℕ) (columns : ℕ) (next column a
   pub longer : length after ≡ length column + 1
   pub taken : IsOneMore columns column next after free
 
--- the same, as the lists are read
-pub IsStepped-row : (rows : ℕ) (cost : ℕ → ℕ → ℤ) (columns : ℕ) (fall column column2 column3 distance distance2 «from» from2 left tree tree2 tree3 : List ℕ) (k free far : ℕ) (next after : List ℕ)
+-- the tree over which the columns are passed on, as the lists are read
+pub IsTree-row : (cost : ℕ → ℕ → ℕ) (columns : ℕ) (fall column column2 pushed distance «from» from2 left tree tree2 : List ℕ) (k free : ℕ)
+    → column2 ≡ column → from2 ≡ «from» → tree2 ≡ tree → free ≡ get_or left k free → pushed ≡ column ++ free ∷ []
+    → IsPlaced cost columns fall column → IsSearch cost columns fall column2 distance «from» left tree → IsNearest distance left k → IsTree pushed from2 tree2
+IsTree-row cost columns fall column column2 pushed distance from_ from2 left tree tree2 k free ec ef et es ep p h near =
+    let inside_left : k < length left = omega (arith, near.inside) in
+    let inside : free < columns = omega (arith, es ∙ get_or_default left k free 0 inside_left, h.inside k 0 inside_left) in
+    let g = subst (λ x. IsSearch cost columns fall x distance from_ left tree) ec h in
+    let t = IsTree-longer columns column from_ tree g.grown free p.inside inside in
+    subst (λ x. IsTree x from2 tree2) (sym ep) (subst (λ x. IsTree (column ++ free ∷ []) x tree2) (sym ef) (subst (IsTree (column ++ free ∷ []) from_) (sym et) t))
+
+-- the row's step, as the lists are read
+pub IsStepped-row : (rows : ℕ) (cost : ℕ → ℕ → ℤ) (columns : ℕ) (fall column column2 column3 pushed distance distance2 «from» from2 left tree tree2 tree3 : List ℕ) (k free far : ℕ) (next passed after : List ℕ)
     → column2 ≡ column → column3 ≡ column → distance2 ≡ distance → from2 ≡ «from» → tree2 ≡ tree → tree3 ≡ tree → free ≡ get_or left k free → far ≡ get_or distance free far
+    → pushed ≡ column ++ free ∷ [] → after ≡ passed
     → HasCosts rows columns cost → length column < rows → IsPlaced (sizes cost) columns fall column → IsSearch (sizes cost) columns fall column2 distance «from» left tree → IsNearest distance left k → ¬ Contains column2 (at left k)
-    → IsLowered far distance2 column3 tree2 fall next → IsPassedOn column from2 tree3 free after → IsStepped (sizes cost) columns next column after free
-IsStepped-row rows cost columns fall column column2 column3 distance distance2 from_ from2 left tree tree2 tree3 k free far next after ec ec3 ed ef et et3 es ex costs more p h near unused moved passed =
+    → IsLowered far distance2 column3 tree2 fall next → IsPassedOn pushed from2 tree3 passed → IsStepped (sizes cost) columns next column after free
+IsStepped-row rows cost columns fall column column2 column3 pushed distance distance2 from_ from2 left tree tree2 tree3 k free far next passed after ec ec3 ed ef et et3 es ex ep ea costs more p h near unused moved walk =
     let inside_left : k < length left = omega (arith, near.inside) in
     let is : free ≡ at left k = es ∙ get_or_default left k free 0 inside_left in
     let close = IsClosest-at distance left k free near is in
@@ -121,10 +141,10 @@ IsStepped-row rows cost columns fall column column2 column3 distance distance2 f
     let g = subst (λ x. IsSearch (sizes cost) columns fall x distance from_ left tree) ec h in
     let u : ¬ Contains column free = subst (λ x. ¬ Contains x free) ec (subst (λ x. ¬ Contains column2 x) (sym is) unused) in
     let l = subst (λ x. IsLowered (at distance free) distance x tree fall next) ec3 (subst (λ x. IsLowered (at distance free) distance column3 x fall next) et (subst (λ x. IsLowered (at distance free) x column3 tree2 fall next) ed (subst (λ x. IsLowered x distance2 column3 tree2 fall next) is_far moved))) in
-    let q = subst (λ x. IsPassedOn column x tree free after) ef (subst (λ x. IsPassedOn column from2 x free after) et3 passed) in
+    let q = subst (λ x. IsPassedOn (column ++ free ∷ []) x tree passed) ef (subst (λ x. IsPassedOn (column ++ free ∷ []) from2 x passed) et3 (subst (λ x. IsPassedOn x from2 tree3 passed) ep walk)) in
     let bound : (r : ℕ) → r < length column → sizes cost r free ≤ 2 ^ 100 = λ r lr. sizes-at_most rows columns cost costs r free (omega (arith, lr, more)) inside in
-    record {
-      placed = IsPlaced-moved (sizes cost) columns fall column p distance from_ left tree g free close u bound next l after q;
-      longer = longer (sizes cost) columns fall column p distance from_ left tree g free close u bound next l after q;
-      taken = IsOneMore-moved (sizes cost) columns fall column p distance from_ left tree g free close u bound next l after q;
+    subst (λ x. IsStepped (sizes cost) columns next column x free) (sym ea) record {
+      placed = IsPlaced-moved (sizes cost) columns fall column p distance from_ left tree g free close u bound next l passed q;
+      longer = longer (sizes cost) columns fall column p distance from_ left tree g free close u bound next l passed q;
+      taken = IsOneMore-moved (sizes cost) columns fall column p distance from_ left tree g free close u bound next l passed q;
     }

@@ -1,8 +1,10 @@
 -- The rows that have the columns, row after row.
 use Rattle.std.proofs.Common.{◌≡◌, ◌≢◌, ℕ, ◌+◌, ◌<◌, inl, inr, List, length, get_or, set, Option, None, Some, MatchOption, Contains, sym, ap, subst, ◌∙◌, arith, refl}
 use Rattle.std.proofs.lemmas.List.{get_or-set_same, get_or-set_other, length-set}
-use Rattle.msp_assign.specs.Search.{at, IsOwners}
-use Rattle.msp_assign.proofs.Lists.{at-Contains, same_or_not}
+use Rattle.msp_matching.specs.Passing.{at}
+use Rattle.msp_matching.proofs.Lists.{same_or_not}
+use Rattle.msp_assign.specs.Search.{IsOwners}
+use Rattle.msp_assign.proofs.Lists.{at-Contains}
 
 -- of the rows before k
 pub record IsOwnersBelow (columns k : ℕ) (column : List ℕ) (owner : List (Option ℕ)) : Type 0 where

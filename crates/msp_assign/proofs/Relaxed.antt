@@ -1,8 +1,10 @@
 -- A row's edges to the columns that are left, column after column.
 use Rattle.std.proofs.Common.{◌≡◌, ◌≢◌, ℕ, ◌+◌, ◌-◌, ◌<◌, ◌≤◌, ◌^◌, ◌⊎◌, inl, inr, List, length, min, AllPairs, sym, ap, subst, ◌∙◌, arith, refl}
-use Rattle.msp_assign.specs.Search.{at, paid, IsWay, IsRelaxedAt, IsRelaxed, IsShortened, AreNearest, IsLeastSoFar}
+use Rattle.msp_matching.specs.Passing.{at}
+use Rattle.msp_matching.proofs.Lists.{same_or_not, less_or_not}
+use Rattle.msp_assign.specs.Search.{paid, IsWay, IsRelaxedAt, IsRelaxed, IsShortened, AreNearest, IsLeastSoFar}
 use Rattle.std.proofs.Math.Nat.{min-le_left, min-le_right, min-eq_left, min-eq_right}
-use Rattle.msp_assign.proofs.Lists.{same_or_not, less_or_not, Contains-at, at-Contains}
+use Rattle.msp_assign.proofs.Lists.{Contains-at, at-Contains}
 
 module _ (cost : ℕ → ℕ → ℕ) (fall : List ℕ) (r place depth own : ℕ) (left distance «from» : List ℕ) where
   -- the first k of the columns that are left, and how far the nearest of them is, if that is not `most`

@@ -7,11 +7,13 @@ use Rattle.std.proofs.lemmas.List.{get_or-replicate, length-replicate, get_or_ap
 use Rattle.std.proofs.lemmas.List.Elements.{All-append, All-cons, All-nil, All-from_get_or, All-get_or, Contains-append_left, Contains-push, Contains-push_cases}
 use Rattle.std.proofs.lemmas.List.Sorted.{Contains-permutation, IsPermutation-sym}
 use lib.Arith.{digits_div, digits_mod}
+use Rattle.msp_matching.specs.Passing.{at}
+use Rattle.msp_matching.proofs.Lists.{same_or_not, less_or_not}
 use Rattle.msp_assign.specs.declared.column.Column.{Column}
 use Rattle.msp_assign.specs.Prices.{HasCosts}
-use Rattle.msp_assign.specs.Search.{at, sizes, paid, HasUnfallen, IsPlaced, IsOneMore}
+use Rattle.msp_assign.specs.Search.{sizes, paid, HasUnfallen, IsPlaced, IsOneMore}
 use Rattle.msp_assign.specs.View.{no_column, column_at, number_of, number_at, seen, AreInside, AreFirst, IsView, column_after, IsWidened}
-use Rattle.msp_assign.proofs.Lists.{same_or_not, less_or_not, Contains-at, at-Contains, missing}
+use Rattle.msp_assign.proofs.Lists.{Contains-at, at-Contains, missing}
 
 -- ---- numbers of columns
 pub number-inside : (lines long : ℕ) (c : Column) → c.line < lines → c.place < long → number_of long c < lines * long

@@ -3,11 +3,9 @@
 use Rattle.std.specs.Prelude.{pos, ◌≡◌, ◌≢◌, ℕ, ◌+◌, ◌-◌, ◌<◌, ◌≤◌, ◌^◌, ◌⊎◌, ℤ, List, [], ◌∷◌, ◌++◌, Option, None, length, slice_index_or, unsigned_abs, MatchOption, All, AllPairs, Contains}
 use Rattle.std.specs.List.Sorted.{IsPermutation}
 use Rattle.msp_class.specs.declared.list.TheConstants.{PLACES}
+use Rattle.msp_matching.specs.Passing.{at}
 use Rattle.msp_assign.specs.declared.search.Search.{Search}
 use Rattle.msp_assign.specs.Prices.{greatest_cost, HasCosts, price_at}
-
-abbrev pub at : List ℕ → ℕ → ℕ
-at xs k = slice_index_or xs k 0
 
 abbrev pub sizes : (ℕ → ℕ → ℤ) → ℕ → ℕ → ℕ
 sizes cost r c = unsigned_abs (cost r c)
@@ -52,7 +50,7 @@ pub record IsOwners (columns : ℕ) (column : List ℕ) (owner : List (Option �
 
 -- The rows that the search has reached, the new one first: each column is reached from the row at a place of the tree, and the column
 -- of a row of the tree from an earlier row.
-pub record IsTree (columns : ℕ) (column «from» tree : List ℕ) : Type 0 where
+pub record IsGrown (columns : ℕ) (column «from» tree : List ℕ) : Type 0 where
   pub size : length «from» ≡ columns
   pub some : 1 ≤ length tree
   pub first : at tree 0 ≡ length column
@@ -82,7 +80,7 @@ IsNearest distance left k = AreNearest distance left (k + 1) (at distance (at le
 
 -- The columns of the rows of the tree are settled: their distances are final. The others are left.
 pub record IsSearch (cost : ℕ → ℕ → ℕ) (columns : ℕ) (fall column distance «from» left tree : List ℕ) : Type 0 where
-  pub grown : IsTree columns column «from» tree
+  pub grown : IsGrown columns column «from» tree
   pub distances : length distance ≡ columns
   pub inside : All (λ c. c < columns) left
   pub apart : AllPairs (λ c d. c ≢ d) left
@@ -139,15 +137,6 @@ pub record IsLowered (d : ℕ) (distance column tree fall next : List ℕ) : Typ
   pub size : length next ≡ length fall
   pub reached : (k : ℕ) → 1 ≤ k → k < length tree → at next (at column (at tree k)) ≡ at fall (at column (at tree k)) + (d - at distance (at column (at tree k)))
   pub others : (c : ℕ) → ((k : ℕ) → 1 ≤ k → k < length tree → at column (at tree k) ≢ c) → at next c ≡ at fall c
-
--- A column on a way back: the free one, or that of a row of the tree.
-abbrev pub IsStep : List ℕ → List ℕ → ℕ → ℕ → Type 0
-IsStep column tree free c = (c ≡ free) ⊎ ((k : ℕ) × (1 ≤ k) × (k < length tree) × (at column (at tree k) ≡ c))
-
--- The columns after the walk back from the free one: a row keeps its column, or has one that is reached from it.
-pub record IsPassedOn (column «from» tree : List ℕ) (free : ℕ) (next : List ℕ) : Type 0 where
-  pub same : IsPermutation (column ++ free ∷ []) next
-  pub each : (r : ℕ) → r ≤ length column → ((r < length column) × (at next r ≡ at column r)) ⊎ ((at tree (at «from» (at next r)) ≡ r) × IsStep column tree free (at next r))
 
 -- One more row has a column: one that was free, which keeps its price.
 pub record IsOneMore (columns : ℕ) (column fall after : List ℕ) (free : ℕ) : Type 0 where

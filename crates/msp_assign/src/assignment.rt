@@ -71,10 +71,7 @@ pub fn assign_on_lines<L: Lines>(alloc: Global, costs: &L) -> Result<Assignment,
     ensures least { IfOk result (λ a. IsLeast (L.row_count costs.now) (L.column_count costs.now) (L.cost costs.now) a.column) }
     ensures total { IfOk result (λ a. cost_of (L.row_count costs.now) (L.cost costs.now) a.column ≡ price_of (L.row_count costs.now) (L.column_count costs.now) a) }
 {
-    match priced(alloc, costs) {
-        Ok(assignment) => Ok(assignment),
-        Err(_) => Err(NoMemory),
-    }
+    Ok(priced(alloc, costs)?)
 }
 
 /// The same for any costs: each column is a line of its own.

@@ -1,9 +1,8 @@
 // All rows get columns, while columns come into view.
-ghost use Rattle.std.specs.Prelude.{◌≡◌, ◌+◌, ◌<◌, ◌≤◌, IfOk, OnOk, length};
+ghost use Rattle.std.specs.Prelude.{◌<◌, ◌≤◌, IfOk, OnOk, length};
 ghost use Rattle.msp_assign.specs.declared.assignment.TheConstants.{MOST_ROWS, MOST_COLUMNS};
 ghost use Rattle.msp_assign.specs.Prices.{HasCosts};
-ghost use Rattle.msp_assign.specs.Search.{sizes, IsPlaced};
-ghost use Rattle.msp_assign.specs.View.{column_at, seen, AreFirst, IsView, IsWidened, IsPlacement};
+ghost use Rattle.msp_assign.specs.View.{column_at, AreFirst, IsWidened, IsPlacement};
 
 use crate::Lines;
 use crate::column::Column;

@@ -1,11 +1,13 @@
 // One more row: the prices move, and the columns are passed on along the way to the free one.
-ghost use Rattle.std.specs.Prelude.{◌≡◌, ◌≢◌, ◌+◌, ◌<◌, ◌≤◌, ℕ, All, AllPairs, Contains, IfOk, OnOk, length};
+ghost use Rattle.std.specs.Prelude.{◌≡◌, ◌≢◌, ◌+◌, ◌<◌, ◌≤◌, ℕ, All, AllPairs, Contains, IfOk, length};
 ghost use Rattle.msp_class.specs.declared.list.TheConstants.{PLACES};
+ghost use Rattle.msp_matching.specs.Passing.{at};
 ghost use Rattle.msp_assign.specs.Prices.{greatest_cost, HasCosts};
-ghost use Rattle.msp_assign.specs.Search.{greatest_payment, at, sizes, IsPlaced, IsTree, IsLowered, IsPassedOn, IsOneMore};
+ghost use Rattle.msp_assign.specs.Search.{greatest_payment, sizes, IsPlaced, IsLowered, IsOneMore};
 
 use crate::Costs;
 use crate::search::{find_free, owners};
+use msp_matching::pass_on;
 use std::alloc::{AllocError, Global};
 
 /// Lowers the prices of the columns of the rows of the tree, which are nearer than the free one, by as much as they are nearer.
@@ -24,31 +26,6 @@ fn lower(falls: &mut [u128], distance: &[u128], far: u128, column_of: &[u32], tr
         let column = column_of[tree[place] as usize] as usize;
         falls[column] += far.saturating_sub(distance[column]);
     }
-}
-
-/// Gives the free column to the row from which it is reached, that row's column to the row from which it is reached, and so on to the
-/// new row.
-fn pass_on(
-    column_of: &mut Vec<u32>,
-    from: &[usize],
-    tree: &[u32],
-    free: u32,
-) -> Result<(), AllocError>
-    requires tree { IsTree (length from.now) column_of.old.items from.now tree.now }
-    requires inside { All (λ c. c < length from.now) column_of.old.items }
-    requires free { free < length from.now }
-    ensures { OnOk result (IsPassedOn column_of.old.items from.now tree.now free column_of.new.items) }
-{
-    let last = column_of.len();
-    column_of.push(free)?;
-    let columns = column_of.as_mut_slice();
-    let mut place = from[free as usize];
-    'back: while place > 0 {
-        let row = tree[place] as usize;
-        place = from[columns[row] as usize];
-        columns.swap(row, last);
-    }
-    Ok(())
 }
 
 /// Gives one more row a column of its own: over the shortest way to a free column, with the prices that follow. It says which column was
@@ -79,11 +56,11 @@ pub fn place_row<C: Costs>(
         column_of.as_slice(),
         found.tree.as_slice(),
     );
+    column_of.push(free)?;
     pass_on(
-        column_of,
+        column_of.as_mut_slice(),
         found.from.as_slice(),
         found.tree.as_slice(),
-        free,
-    )?;
+    );
     Ok(free)
 }

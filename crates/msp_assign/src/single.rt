@@ -1,5 +1,4 @@
 // Each column as a line of its own.
-ghost use Rattle.std.specs.Prelude.{◌≡◌, ◌*◌};
 ghost use Rattle.msp_assign.specs.laws.Single.{single-whole, single-rise};
 
 use crate::{Costs, Lines};

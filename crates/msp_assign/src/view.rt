@@ -1,5 +1,5 @@
 // The columns in view, as a table of their own.
-ghost use Rattle.std.specs.Prelude.{◌<◌, ◌≤◌, length};
+ghost use Rattle.std.specs.Prelude.{◌<◌, length};
 ghost use Rattle.msp_class.specs.declared.list.TheConstants.{PLACES};
 ghost use Rattle.msp_assign.specs.View.{AreInside, seen};
 

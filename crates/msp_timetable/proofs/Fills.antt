@@ -5,12 +5,12 @@ use Rattle.std.proofs.lemmas.Int.{ints}
 use Rattle.std.proofs.lemmas.List.{get_or-set_same, get_or-set_other, length-set}
 use Rattle.msp_class.specs.Sums.{total_below}
 use Rattle.msp_class.proofs.Sums.{total_below-add, total_below-same, total_below-none, total_below-only, total_below-exchange, total_below-term, int_total_below-natural}
+use Rattle.msp_matching.specs.Passing.{at}
+use Rattle.msp_matching.proofs.Lists.{same_or_not, less_or_not}
 use Rattle.msp_timetable.specs.declared.matrix.Matrix.{Matrix}
 use Rattle.msp_timetable.specs.declared.square.Square.{Square}
-use Rattle.msp_timetable.specs.Passing.{at}
 use Rattle.msp_timetable.specs.Split.{cell, row_sum, column_sum, greatest_sum, IsMatrix, IsGreatestSum}
 use Rattle.msp_timetable.specs.Square.{cell_at, stocks, row_total, column_total, IsSpreadRow, IsSpread, HasSmallLines, IsGreatest, IsLacking, IsPadding, IsFilled, IsCornerFilled}
-use Rattle.msp_timetable.proofs.Lists.{same_or_not, small_or_not}
 use Rattle.msp_timetable.proofs.Places.{cell-same, cell-other, stocks-set, cond-one}
 
 -- ---- the matrix is copied
@@ -331,11 +331,11 @@ module _ (m : Matrix) (n : ℕ) (given : List ℕ) (g : ℕ) (a : m.rows ≤ n) 
   zero_line e = inl (0, omega arith, at_zero (row_sum m 0) (row_total n given 0) (row-is n m given a b s 0 (omega arith)) (let q = h.rows 0 (omega arith) in omega (arith, q, e)) ∙ ap pos (sym e))
 
   line_of : (l : ℕ) → l < n → (row_total n given l ≡ g) ⊎ (column_total n given l ≡ g) → ((r : ℕ) × (r < m.rows) × (row_sum m r ≡ pos g)) ⊎ ((c : ℕ) × (c < m.columns) × (column_sum m c ≡ pos g))
-  line_of l ll (inl e) = elim (small_or_not l m.rows) [
+  line_of l ll (inl e) = elim (less_or_not l m.rows) [
     | inl q ↦ inl (l, q, row-is n m given a b s l q ∙ ap pos e)
     | inr q ↦ zero_line (sym e ∙ row-none n m given a b s l q ll)
   ]
-  line_of l ll (inr e) = elim (small_or_not l m.columns) [
+  line_of l ll (inr e) = elim (less_or_not l m.columns) [
     | inl q ↦ inr (l, q, column-is n m given a b s l q ∙ ap pos e)
     | inr q ↦ zero_line (sym e ∙ column-none n m given a b s l q ll)
   ]

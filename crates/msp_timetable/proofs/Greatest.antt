@@ -1,8 +1,8 @@
 -- The greatest sum of a line, line after line.
 use Rattle.std.proofs.Common.{◌≡◌, ℕ, ◌+◌, ◌<◌, ◌≤◌, ◌⊎◌, inl, inr, List, sym, ap, ◌∙◌, arith}
+use Rattle.msp_matching.proofs.Lists.{same_or_not}
 use Rattle.msp_timetable.specs.Split.{greatest_sum}
 use Rattle.msp_timetable.specs.Square.{row_total, column_total, HasSmallLines}
-use Rattle.msp_timetable.proofs.Lists.{same_or_not}
 
 pub record IsGreatestBelow (n : ℕ) (given : List ℕ) (k g : ℕ) : Type 0 where
   pub rows : (r : ℕ) → r < k → row_total n given r ≤ g

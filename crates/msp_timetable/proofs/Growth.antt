@@ -6,9 +6,10 @@ use Rattle.std.proofs.Math.Seq.{get_or-append_seam}
 use Rattle.std.proofs.lemmas.List.Elements.{Contains-get_or}
 use Rattle.msp_class.specs.Sums.{total_below}
 use Rattle.msp_class.proofs.Sums.{total_below-mono, total_below-same, total_below-scale_right, sum_by-total_below, sum_by-mono, sum_by-constant, sum_by_counts, sum_by-contains, sum_by-cond, sum_by-distinct_test, cond-yes}
-use Rattle.msp_timetable.specs.Passing.{at}
+use Rattle.msp_matching.specs.Passing.{at}
+use Rattle.msp_matching.proofs.Lists.{same_or_not}
 use Rattle.msp_timetable.specs.Square.{IsPermuted, IsOwners, IsBalanced, IsGrowing, IsSearch, IsFound}
-use Rattle.msp_timetable.proofs.Lists.{same_or_not, all_at, pairs_at, distinct_short, same_place}
+use Rattle.msp_timetable.proofs.Lists.{all_at, pairs_at, distinct_short, same_row}
 
 -- the rows of a tree are at most n
 pub IsGrowing-short : (n : ℕ) (f : ℕ → ℕ → ℕ) (column from tree : List ℕ) → IsGrowing n f column from tree → length tree ≤ n
@@ -144,7 +145,7 @@ module _ (n : ℕ) (f : ℕ → ℕ → ℕ) (column owner : List ℕ) (p : IsPe
     inside = lc;
     reached = omega (arith, here, place_small);
     other = not_new;
-    empty = λ r lr e. subst (λ x. f x c ≡ 0) (same_place n column p (at owner c) r (o.each c lc).0 lr ((o.each c lc).1 ∙ sym e)) empty;
+    empty = λ r lr e. subst (λ x. f x c ≡ 0) (same_row n column p (at owner c) r (o.each c lc).0 lr ((o.each c lc).1 ∙ sym e)) empty;
   }
 
   module _ (full : 0 < f (at owner c) c) where

@@ -7,5 +7,4 @@ pub mod Slices
 pub mod Tables
 pub mod Fills
 pub mod Greatest
-pub mod Passes
 pub mod Ways

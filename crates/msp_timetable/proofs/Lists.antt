@@ -1,28 +1,12 @@
--- Lists of numbers: places in a square, writes, distinct numbers, and sums.
-use Rattle.std.proofs.Common.{◌≡◌, ◌≢◌, ℕ, zero, suc, ◌+◌, ◌*◌, ◌<◌, ◌≤◌, ◌⊎◌, inl, inr, refl, List, [], ◌∷◌, ◌++◌, Bool, true, false, eqb, leb, length, take, drop, get_or, All, AllPairs, IsPermutation, cond, count_by, sum_by, min, max, sym, ap, subst, ◌∙◌, arith}
-use Rattle.std.proofs.lemmas.Bool.{eqb-true, eqb-false, leb-true, leb-false}
-use Rattle.std.proofs.Math.Seq.{take-append_seam}
+-- Lists of numbers: distinct numbers, rearranged columns, and sums.
+use Rattle.std.proofs.Common.{◌≡◌, ◌≢◌, ℕ, zero, suc, ◌+◌, ◌*◌, ◌<◌, ◌≤◌, ◌⊎◌, inl, inr, refl, List, [], ◌∷◌, true, false, eqb, length, get_or, All, AllPairs, IsPermutation, count_by, sum_by, min, max, sym, ap, subst, ◌∙◌, arith}
 use Rattle.std.proofs.lemmas.List.{get_or_default}
 use Rattle.std.proofs.lemmas.List.Sorted.{All-permutation, length_permutation}
 use Rattle.msp_class.specs.Sums.{total_below}
-use Rattle.msp_class.proofs.Sums.{OnceBelow, OnceBelow-from_distinct, total_below-mono, total_below-constant, total_below-split, total_below-same, sum_by_counts, sum_by-constant, sum_by-cons, sum_by-IsPermutation, count_by-distinct, distinct_from_counts}
-use Rattle.msp_timetable.specs.Passing.{at}
+use Rattle.msp_class.proofs.Sums.{OnceBelow, OnceBelow-from_distinct, total_below-mono, total_below-constant, total_below-split, total_below-same, sum_by_counts, sum_by-constant, sum_by-cons, count_by-distinct}
+use Rattle.msp_matching.specs.Passing.{at}
+use Rattle.msp_matching.proofs.Lists.{same_or_not, same_place, distinct-permutation}
 use Rattle.msp_timetable.specs.Square.{IsPermuted}
-
-pub same_or_not : (a b : ℕ) → (a ≡ b) ⊎ (a ≢ b)
-same_or_not a b = by (eqb a b) refl
-  where
-    by : (v : Bool) → eqb a b ≡ v → (a ≡ b) ⊎ (a ≢ b)
-    by true e = inl (eqb-true a b e)
-    by false e = inr (eqb-false a b e)
-
-pub true_or_not : (b : Bool) → (b ≡ true) ⊎ (b ≡ false)
-true_or_not true = inl refl
-true_or_not false = inr refl
-
--- what a vector holds after its slice was written
-pub whole_slice : {X : Type 0} (n k : ℕ) (xs ys : List X) → length xs ≡ n → take n (xs ++ drop k ys) ≡ xs
-whole_slice n k xs ys e = subst (λ m. take m (xs ++ drop k ys) ≡ xs) e (take-append_seam xs (drop k ys))
 
 -- distinct numbers below n are at most n
 pub distinct_short : (n : ℕ) (xs : List ℕ) → All (λ x. x < n) xs → AllPairs (λ x y. x ≢ y) xs → length xs ≤ n
@@ -35,33 +19,24 @@ all_at P xs h k d l = subst P (get_or_default xs k 0 d l) (h k l)
 pub pairs_at : (R : ℕ → ℕ → Type 0) (xs : List ℕ) → ((j k : ℕ) → j < k → k < length xs → R (at xs j) (at xs k)) → AllPairs R xs
 pairs_at R xs h j k d a b = subst (λ x. R x (get_or xs k d)) (get_or_default xs j 0 d (omega arith)) (subst (R (at xs j)) (get_or_default xs k 0 d b) (h j k a b))
 
--- a rearrangement has no repeats either
-pub distinct-permutation : (xs ys : List ℕ) → IsPermutation xs ys → AllPairs (λ x y. x ≢ y) xs → AllPairs (λ x y. x ≢ y) ys
-distinct-permutation xs ys p h = distinct_from_counts ys (λ i. omega (arith, sum_by-IsPermutation (λ x. cond (eqb x i) 1 0) xs ys p, count_by-distinct xs i h))
+-- no column stands twice
+IsPermuted-apart : (n : ℕ) (xs : List ℕ) → IsPermuted n xs → AllPairs (λ x y. x ≢ y) xs
+IsPermuted-apart n xs h = pairs_at (λ x y. x ≢ y) xs (λ j k a b. h.apart j k a (omega (arith, h.size)))
 
 -- one column for each row stays so when columns are exchanged
 pub IsPermuted-permutation : (n : ℕ) (xs ys : List ℕ) → IsPermuted n xs → IsPermutation xs ys → IsPermuted n ys
 IsPermuted-permutation n xs ys h p = record {
   size = length_permutation xs ys p ∙ h.size;
   inside = λ r l. All-permutation (λ x. x < n) xs ys p (all_at (λ x. x < n) xs (λ k m. h.inside k (omega (arith, h.size)))) r 0 (omega (arith, length_permutation xs ys p, h.size));
-  apart = λ q r l m. distinct-permutation xs ys p (pairs_at (λ x y. x ≢ y) xs (λ j k a b. h.apart j k a (omega (arith, h.size)))) q r 0 l (omega (arith, length_permutation xs ys p, h.size));
+  apart = λ q r l m. distinct-permutation xs ys p (IsPermuted-apart n xs h) q r 0 l (omega (arith, length_permutation xs ys p, h.size));
 }
 
 pub OnceBelow-permuted : (n : ℕ) (xs : List ℕ) → IsPermuted n xs → OnceBelow n xs
-OnceBelow-permuted n xs h = OnceBelow-from_distinct n xs h.size (all_at (λ x. x < n) xs (λ k m. h.inside k (omega (arith, h.size)))) (pairs_at (λ x y. x ≢ y) xs (λ j k a b. h.apart j k a (omega (arith, h.size))))
+OnceBelow-permuted n xs h = OnceBelow-from_distinct n xs h.size (all_at (λ x. x < n) xs (λ k m. h.inside k (omega (arith, h.size)))) (IsPermuted-apart n xs h)
 
--- equal numbers stand at one place
-pub same_place : (n : ℕ) (xs : List ℕ) → IsPermuted n xs → (i j : ℕ) → i < n → j < n → at xs i ≡ at xs j → i ≡ j
-same_place n xs h i j li lj e = elim (same_or_not i j) [
-  | inl s ↦ s
-  | inr m ↦ elim (less i j m) [
-    | inl l ↦ absurd (h.apart i j l lj e)
-    | inr l ↦ absurd (h.apart j i l li (sym e))
-  ]
-]
-  where
-    less : (a b : ℕ) → a ≢ b → (a < b) ⊎ (b < a)
-    less a b m = grind arith
+-- a column has one row
+pub same_row : (n : ℕ) (xs : List ℕ) → IsPermuted n xs → (i j : ℕ) → i < n → j < n → at xs i ≡ at xs j → i ≡ j
+same_row n xs h i j li lj e = same_place xs (IsPermuted-apart n xs h) i j (omega (arith, h.size)) (omega (arith, h.size)) e
 
 pub none_held : {m : ℕ} → (0 < m → ⊥) → m ≡ 0
 none_held {m} h = by m h
@@ -114,13 +89,6 @@ max-cases a b c m e = (
 pub same_case : (m a b x : ℕ) → b ≡ x → (m ≡ a) ⊎ (m ≡ b) → (m ≡ a) ⊎ (m ≡ x)
 same_case m a b x e (inl q) = inl q
 same_case m a b x e (inr q) = inr (q ∙ e)
-
-pub small_or_not : (x k : ℕ) → (x < k) ⊎ (k ≤ x)
-small_or_not x k = by (leb k x) refl
-  where
-    by : (v : Bool) → leb k x ≡ v → (x < k) ⊎ (k ≤ x)
-    by true e = inr (leb-true k x e)
-    by false e = inl (leb-false k x e)
 
 -- a sum over a list, place by place
 pub sum_at : (f : ℕ → ℕ) (xs : List ℕ) (n : ℕ) → length xs ≡ n → sum_by f xs ≡ total_below n (λ r. f (at xs r))

@@ -6,13 +6,14 @@ use Rattle.std.proofs.lemmas.List.{length-append}
 use Rattle.std.proofs.lemmas.List.Elements.{All-append, All-cons, All-nil}
 use Rattle.msp_class.specs.Sums.{total_below}
 use Rattle.msp_class.proofs.Sums.{total_below-add, total_below-same, total_below-only, total_below-term, sum_by-OnceBelow, OnceBelow}
+use Rattle.msp_matching.specs.Passing.{at}
+use Rattle.msp_matching.proofs.Lists.{same_or_not, less_or_not}
 use Rattle.msp_timetable.specs.declared.matrix.Matrix.{Matrix}
 use Rattle.msp_timetable.specs.declared.matrix.Slice.{Slice}
 use Rattle.msp_timetable.specs.declared.square.Square.{Square}
-use Rattle.msp_timetable.specs.Passing.{at}
 use Rattle.msp_timetable.specs.Split.{cell, column_of, total, time_at, greatest_sum, IsSlice, IsGreatestSum, IsSplit}
 use Rattle.msp_timetable.specs.Square.{cell_at, stock, used, given_share, padding_share, IsPermuted, IsOwners, IsBalanced, IsLeastUsed, IsEntries, IsCut, IsFilled, IsSplitting}
-use Rattle.msp_timetable.proofs.Lists.{same_or_not, small_or_not, sum_at, OnceBelow-permuted}
+use Rattle.msp_timetable.proofs.Lists.{sum_at, OnceBelow-permuted}
 use Rattle.msp_timetable.proofs.Places.{ltb-yes, ltb-no}
 use Rattle.msp_timetable.proofs.Fills.{IsGreatestSum-square}
 
@@ -114,7 +115,7 @@ module _ (m : Matrix) (s : Square) (column entries : List ℕ) (p : IsPermuted s
       by true e q = let some = ltb-true 0 (cell_at s.size s.given.items r (at column r)) e in inl (some, q, small some)
         where
           small : 0 < cell_at s.size s.given.items r (at column r) → at column r < m.columns
-          small a = elim (small_or_not (at column r) m.columns) [
+          small a = elim (less_or_not (at column r) m.columns) [
             | inl y ↦ y
             | inr y ↦ let z = outside r (at column r) (omega (arith, l, rows)) (p.inside r (omega (arith, l, rows))) (inr y) in absurd (omega (arith, a, z))
           ]

@@ -1,9 +1,10 @@
 -- A row that holds nothing at its column gets one where it does, along the way that a search has found.
 use Rattle.std.proofs.Common.{◌≡◌, ℕ, zero, suc, ◌<◌, ◌≤◌, inl, inr, List, length, IsPermutation, sym, ap, subst, ◌∙◌, arith}
 use Rattle.std.specs.List.{SwappedAt}
-use Rattle.msp_timetable.specs.Passing.{at, IsTree, IsStep, IsPassedOn}
+use Rattle.msp_matching.specs.Passing.{at, IsTree, IsStep, IsPassedOn}
+use Rattle.msp_matching.proofs.Lists.{same_or_not}
 use Rattle.msp_timetable.specs.Square.{IsPermuted, IsOwners, IsFound, IsBetter}
-use Rattle.msp_timetable.proofs.Lists.{same_or_not, IsPermuted-permutation}
+use Rattle.msp_timetable.proofs.Lists.{IsPermuted-permutation}
 
 module _ (n : ℕ) (f : ℕ → ℕ → ℕ) (column owner : List ℕ) (p : IsPermuted n column) (o : IsOwners n column owner)
     (row free last : ℕ) (from tree : List ℕ) (h : IsFound n f column row from tree free) (is_last : last ≡ at owner free)

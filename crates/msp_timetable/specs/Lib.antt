@@ -1,4 +1,3 @@
-pub mod Passing
 pub mod Split
 pub mod Square
 pub mod Steps

@@ -1,10 +1,10 @@
 -- A square of stocks, and the search for a column for each row. No public contract cites this file.
 use Rattle.std.specs.Prelude.{◌≡◌, ◌≢◌, ℕ, ◌+◌, ◌-◌, ◌*◌, ◌<◌, ◌≤◌, ◌⊎◌, pos, ◌+ℤ◌, Bool, true, false, cond, nat_lt, nat_eq, List, length, slice_set as set, count_by, All}
 use Rattle.msp_class.specs.Sums.{total_below}
+use Rattle.msp_matching.specs.Passing.{at}
 use Rattle.msp_timetable.specs.declared.matrix.Matrix.{Matrix}
 use Rattle.msp_timetable.specs.declared.matrix.Slice.{Slice}
 use Rattle.msp_timetable.specs.declared.square.Square.{Square}
-use Rattle.msp_timetable.specs.Passing.{at}
 use Rattle.msp_timetable.specs.Split.{cell, greatest_sum, IsSlice, total, time_at, IsGreatestSum}
 
 -- The cell of a square that stands in a list, row after row.

@@ -1,12 +1,12 @@
 -- The steps of the splitting, in the words of the structs that they work on. No public contract cites this file.
 use Rattle.std.specs.Prelude.{ℕ, ◌+◌, ◌<◌, ◌≤◌, Bool, List}
+use Rattle.msp_matching.specs.Passing.{at}
 use Rattle.msp_timetable.specs.declared.matrix.Matrix.{Matrix}
 use Rattle.msp_timetable.specs.declared.matrix.Slice.{Slice}
 use Rattle.msp_timetable.specs.declared.square.Square.{Square}
 use Rattle.msp_timetable.specs.declared.filling.Lacks.{Lacks}
 use Rattle.msp_timetable.specs.declared.search.Seats.{Seats}
 use Rattle.msp_timetable.specs.declared.search.Search.{Search}
-use Rattle.msp_timetable.specs.Passing.{at}
 use Rattle.msp_timetable.specs.Square.{cell_at, stock, used, IsSearch, IsFound, IsBetter, IsCornerFilled, IsSplitting}
 
 -- The row from which the search goes.

@@ -22,15 +22,15 @@ fn in_use(square: &Square, row: usize, column: usize) -> u128
 }
 
 /// The longest slice that these columns allow.
-pub fn longest(square: &Square, columns: &[usize]) -> u128
+pub fn longest(square: &Square, columns: &[u32]) -> u128
     requires square { IsSquare square.now }
     requires permuted { IsPermuted square.now.size columns.now }
     requires some { 1 ≤ square.now.size }
     ensures { IsLeastUsed square.now columns.now result }
 {
-    let mut least = in_use(square, 0, columns[0]);
+    let mut least = in_use(square, 0, columns[0] as usize);
     for row in 1..square.size {
-        least = least.min(in_use(square, row, columns[row]));
+        least = least.min(in_use(square, row, columns[row] as usize));
     }
     least
 }
@@ -39,7 +39,7 @@ pub fn longest(square: &Square, columns: &[usize]) -> u128
 pub fn entries(
     alloc: Global,
     square: &Square,
-    columns: &[usize],
+    columns: &[u32],
     rows: u32,
     none: u32,
 ) -> Result<List<u32>, AllocError>
@@ -50,9 +50,10 @@ pub fn entries(
 {
     let mut entries = Vec::new(alloc);
     for row in 0..rows as usize {
-        let at = place(square.size, square.size, row, columns[row]);
+        let column = columns[row];
+        let at = place(square.size, square.size, row, column as usize);
         if square.given[at] > 0 {
-            entries.push(columns[row] as u32)?;
+            entries.push(column)?;
         } else {
             entries.push(none)?;
         }
@@ -77,7 +78,7 @@ fn take(square: &mut Square, row: usize, column: usize, length: u128)
 }
 
 /// Takes a slice of this length off the square.
-pub fn cut(square: &mut Square, columns: &[usize], length: u128)
+pub fn cut(square: &mut Square, columns: &[u32], length: u128)
     requires square { IsSquare square.old }
     requires permuted { IsPermuted square.old.size columns.now }
     requires least { IsLeastUsed square.old columns.now length }
@@ -85,6 +86,6 @@ pub fn cut(square: &mut Square, columns: &[usize], length: u128)
     ensures { IsCut square.old square.new columns.now length }
 {
     for row in 0..square.size {
-        take(square, row, columns[row], length);
+        take(square, row, columns[row] as usize, length);
     }
 }

@@ -1,7 +1,7 @@
 // The square is filled: the matrix, and padding that brings each line to the greatest sum of a line.
-ghost use Rattle.std.specs.Prelude.{◌≡◌, ◌+◌, ◌-◌, ◌*◌, ◌<◌, ◌≤◌, ℕ, IfOk, length};
+ghost use Rattle.std.specs.Prelude.{◌≡◌, ◌+◌, ◌*◌, ◌<◌, ◌≤◌, ℕ, IfOk, length};
 ghost use Rattle.msp_class.specs.Sums.{total_below};
-ghost use Rattle.msp_timetable.specs.Passing.{at};
+ghost use Rattle.msp_matching.specs.Passing.{at};
 ghost use Rattle.msp_timetable.specs.Split.{greatest_sum, IsMatrix};
 ghost use Rattle.msp_timetable.specs.Square.{cell_at, stocks, row_total, column_total, IsSpread, IsSpreadRow, HasSmallLines, IsGreatest, IsLacking, IsPadding, IsFilled};
 ghost use Rattle.msp_timetable.specs.Steps.{FillsCorner, HasRoomFor};

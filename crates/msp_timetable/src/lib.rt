@@ -1,6 +1,6 @@
 //! Splits a matrix of times into slices in which each row has at most one column, and no two rows the same.
 //!
-//! It stands on `msp_class`. The layers above use the clauses of `split`: the slices in which a row has a column last as long as the
+//! It stands on `msp_matching`. The layers above use the clauses of `split`: the slices in which a row has a column last as long as the
 //! cell says, and all slices together as long as the longest row or column.
 #![tactic(auto)]
 
@@ -8,7 +8,6 @@ mod cutting;
 mod filling;
 mod matching;
 mod matrix;
-mod passing;
 mod search;
 mod splitting;
 mod square;

@@ -1,12 +1,12 @@
 // Each row gets a column in which it holds stock.
 ghost use Rattle.std.specs.Prelude.{◌≡◌, ◌<◌, ℕ, OnOk, length};
-ghost use Rattle.msp_timetable.specs.Passing.{at};
+ghost use Rattle.msp_matching.specs.Passing.{at};
 ghost use Rattle.msp_timetable.specs.Square.{stock, IsSquare, IsBalanced, IsPermuted, IsOwners};
 ghost use Rattle.msp_timetable.specs.Steps.{Betters, HoldStock};
 
-use crate::passing::pass_on;
 use crate::search::{Seats, find};
 use crate::square::{Square, has_stock};
+use msp_matching::pass_on;
 use std::alloc::{AllocError, Global};
 
 /// Notes the row of each column.
@@ -16,7 +16,7 @@ fn note_owners(seats: &mut Seats)
     ensures owners { IsOwners (length seats.old.owner.items) seats.old.columns.items seats.new.owner.items }
 {
     for row in 0..seats.columns.len() {
-        let column = seats.columns[row];
+        let column = seats.columns[row] as usize;
         seats.owner[column] = row;
     }
 }
@@ -52,7 +52,7 @@ pub fn match_rows(alloc: Global, square: &Square, seats: &mut Seats) -> Result<(
     ensures stocks { OnOk result (HoldStock square.now seats.new) }
 {
     for row in 0..square.size {
-        if !has_stock(square, row, seats.columns[row]) {
+        if !has_stock(square, row, seats.columns[row] as usize) {
             give(alloc, square, seats, row)?;
         }
     }

@@ -1,6 +1,6 @@
 // The search for a way from a row to a column whose row holds nothing there.
 ghost use Rattle.std.specs.Prelude.{◌≡◌, ◌+◌, ◌<◌, ◌≤◌, ℕ, IfOk, true, false, length};
-ghost use Rattle.msp_timetable.specs.Passing.{at};
+ghost use Rattle.msp_matching.specs.Passing.{at};
 ghost use Rattle.msp_timetable.specs.Square.{stock, IsSquare, IsBalanced, IsPermuted, IsOwners};
 ghost use Rattle.msp_timetable.specs.Steps.{start_of, Reaches, Finds};
 
@@ -10,7 +10,7 @@ use std::alloc::{AllocError, Global};
 /// The column of each row, and the row of each column.
 #[derive(Drop)]
 pub struct Seats {
-    pub columns: Vec<usize>,
+    pub columns: Vec<u32>,
     pub owner: Vec<usize>,
 }
 
@@ -20,7 +20,7 @@ pub struct Search {
     /// The place in the tree of the row from which each column is reached; the size of the square where it is not.
     pub from: Vec<usize>,
     /// The rows that are reached.
-    pub tree: Vec<usize>,
+    pub tree: Vec<u32>,
     /// The column whose row holds nothing there.
     pub free: usize,
 }
@@ -44,7 +44,9 @@ fn reach(
     ensures longer { IfOk result (λ _. length search.old.tree.items ≤ length search.new.tree.items) }
     ensures found { IfOk result (λ found. found ≡ true → Finds square.now seats.now (start_of search.old) search.new) }
 {
-    if search.from[column] < square.size || !has_stock(square, search.tree[place], column) {
+    if search.from[column] < square.size
+        || !has_stock(square, search.tree[place] as usize, column)
+    {
         return Ok(false);
     }
     search.from[column] = place;
@@ -53,7 +55,7 @@ fn reach(
         search.free = column;
         return Ok(true);
     }
-    search.tree.push(row)?;
+    search.tree.push(row as u32)?;
     Ok(false)
 }
 
@@ -92,7 +94,7 @@ pub fn find(alloc: Global, square: &Square, seats: &Seats, row: usize) -> Result
     ensures { IfOk result (λ s. Finds square.now seats.now row s) }
 {
     let mut tree = Vec::new(alloc);
-    tree.push(row)?;
+    tree.push(row as u32)?;
     let from = vec![in alloc; square.size; square.size]?;
     let mut search = Search {
         from,

@@ -20,13 +20,14 @@ pub const MOST_COLUMNS: u32 = 400;
 
 /// Each row at the column of its number.
 fn first_seats(alloc: Global, size: usize) -> Result<Seats, AllocError>
+    requires { size ≤ 400 }
     ensures permuted { IfOk result (λ seats. IsPermuted size seats.columns.items) }
     ensures owners { IfOk result (λ seats. IsOwners size seats.columns.items seats.owner.items) }
 {
     let mut columns = Vec::new(alloc);
     let mut owner = Vec::new(alloc);
     for line in 0..size {
-        columns.push(line)?;
+        columns.push(line as u32)?;
         owner.push(line)?;
     }
     Ok(Seats { columns, owner })

@@ -1,6 +1,6 @@
 use Rattle.std.proofs.Common.{◌<◌, arith, refl, length, ◌≤◌}
 use Rattle.std.proofs.lemmas.List.Sorted.{All-permutation, IsPermutation-trans}
-use Rattle.msp_assign.specs.Search.{at}
+use Rattle.msp_matching.specs.Passing.{at}
 use Rattle.msp_assign.proofs.Gathering.{IsGathering-swap, IsNearest-last, some_near}
 use Rattle.msp_assign.proofs.search.gather.Goals as goal
 

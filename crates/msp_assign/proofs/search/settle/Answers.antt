@@ -1,7 +1,8 @@
 use Rattle.std.proofs.Common.{rules, arith, ◌≡◌, ◌+◌, ◌∙◌, ap, sym, length, get_or, subst}
 use Rattle.std.proofs.lemmas.List.{get_or_default}
 use Rattle.std.proofs.lemmas.List.Sorted.{length_permutation}
-use Rattle.msp_assign.specs.Search.{at, sizes, IsSearch, IsRelaxed}
+use Rattle.msp_matching.specs.Passing.{at}
+use Rattle.msp_assign.specs.Search.{sizes, IsSearch, IsRelaxed}
 use Rattle.msp_assign.proofs.Lists.{at-Contains, IsWithout-swap_remove}
 use Rattle.msp_assign.proofs.Growth.{IsClosest-at, IsSearch-grow, IsSearch-reordered, still_left}
 use Rattle.msp_assign.proofs.search.settle.Goals as goal

@@ -1,8 +1,9 @@
 use Rattle.std.proofs.Common.{◌≡◌, length, arith, subst, ◌∙◌, IsPermutation}
 use Rattle.std.proofs.lemmas.List.{get_or_default}
 use Rattle.std.specs.List.{SwappedAt}
-use Rattle.msp_timetable.specs.Passing.{at}
-use Rattle.msp_timetable.proofs.Lists.{whole_slice, IsPermuted-size}
+use Rattle.msp_matching.specs.Passing.{at}
+use Rattle.msp_matching.proofs.Lists.{whole_slice}
+use Rattle.msp_timetable.proofs.Lists.{IsPermuted-size}
 use Rattle.msp_timetable.proofs.Ways.{IsTree-read, IsBetter-read}
 use Rattle.msp_timetable.proofs.matching.give.Goals as goal
 

@@ -1,6 +1,6 @@
 use Rattle.std.proofs.Common.{rules, ◌≡◌, ◌<◌, ◌≤◌, arith, subst, sym, ap, ◌∙◌, ◌++◌, ◌∷◌, []}
 use Rattle.std.proofs.lemmas.List.{get_or_default}
-use Rattle.msp_timetable.specs.Passing.{at}
+use Rattle.msp_matching.specs.Passing.{at}
 use Rattle.msp_timetable.specs.Square.{stock}
 use Rattle.msp_timetable.proofs.Lists.{none_held, no_true}
 use Rattle.msp_timetable.proofs.Growth.{IsFound-new, IsSearch-new, IsSearch-same}

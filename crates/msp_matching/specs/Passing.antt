@@ -1,4 +1,4 @@
--- Columns that rows pass on. No public contract cites this file.
+-- Columns that rows pass on along a tree of rows, in which a search has reached them.
 use Rattle.std.specs.Prelude.{◌≡◌, ◌≢◌, ℕ, ◌<◌, ◌≤◌, ◌⊎◌, List, length, slice_index_or}
 use Rattle.std.specs.List.Sorted.{IsPermutation}
 

@@ -1,5 +1,5 @@
-use Rattle.msp_timetable.proofs.Passes.{IsPassing}
-use Rattle.msp_timetable.proofs.passing.pass_on.Given as goal
+use Rattle.msp_matching.proofs.Passes.{IsPassing}
+use Rattle.msp_matching.proofs.passing.pass_on.Given as goal
 
 -- back at a row of the tree
 abbrev pub invariant-back : goal.invariant-back

@@ -1,6 +1,6 @@
 use Rattle.std.proofs.Common.{◌≡◌, arith, subst}
-use Rattle.msp_timetable.proofs.Passes.{IsPassing, IsPassing-start, IsPassing-next, IsPassedOn-end}
-use Rattle.msp_timetable.proofs.passing.pass_on.Goals as goal
+use Rattle.msp_matching.proofs.Passes.{IsPassing, IsPassing-start, IsPassing-next, IsPassedOn-end}
+use Rattle.msp_matching.proofs.passing.pass_on.Goals as goal
 
 pub back-init : goal.back-init
 back-init c = IsPassing-start _ _ _ c.requires

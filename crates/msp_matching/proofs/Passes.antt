@@ -2,8 +2,8 @@
 use Rattle.std.proofs.Common.{◌≡◌, ◌≢◌, ℕ, ◌<◌, ◌≤◌, ◌⊎◌, inl, inr, List, length, IsPermutation, sym, ap, subst, ◌∙◌, arith, refl}
 use Rattle.std.proofs.lemmas.List.Sorted.{IsPermutation-trans, IsPermutation-refl}
 use Rattle.std.specs.List.{SwappedAt}
-use Rattle.msp_timetable.specs.Passing.{at, IsTree, IsStep, IsPassedOn}
-use Rattle.msp_timetable.proofs.Lists.{same_or_not}
+use Rattle.msp_matching.specs.Passing.{at, IsTree, IsStep, IsPassedOn}
+use Rattle.msp_matching.proofs.Lists.{same_or_not}
 
 module _ (column «from» tree : List ℕ) where
   -- back at a place of the tree: the first row has the column that was taken from its row last
