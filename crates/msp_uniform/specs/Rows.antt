@@ -16,8 +16,8 @@ part_on none machine j a b = if j == none then [] else piece_on machine j a b �
 abbrev pub runs_from : ℕ → ℕ → ℕ → ℕ → ℕ → List Segment → List Piece
 runs_from none machine j a t [] = part_on none machine j a t
 runs_from none machine j a t (x ∷ xs) =
-    if slice_index_or x.jobs.items machine 0 == j then runs_from none machine j a (t + x.length) xs
-    else part_on none machine j a t ++ runs_from none machine (slice_index_or x.jobs.items machine 0) t (t + x.length) xs
+    if slice_index_or x.body.value.jobs.items machine 0 == j then runs_from none machine j a (t + x.length) xs
+    else part_on none machine j a t ++ runs_from none machine (slice_index_or x.body.value.jobs.items machine 0) t (t + x.length) xs
 
 -- The pieces of the first machines.
 abbrev pub runs : ℕ → List Segment → ℕ → List Piece

@@ -1,35 +1,51 @@
 // All jobs are laid: the longest ones over two places each, the others one after another.
-ghost use Rattle.std.specs.Prelude.{◌≡◌, ◌≤◌, length as len, replicate, IfOk};
+ghost use Rattle.std.specs.Prelude.{◌≡◌, ◌<◌, ◌≤◌, length as len, replicate, All, IfOk};
 ghost use Rattle.msp_uniform.specs.Plans.{IsTask, IsAsked, IsFirstPlan, IsFilled};
 
-use crate::segments::Segment;
+use crate::segments::{Body, MACHINES, Segment};
 use crate::tape::lay_all;
 use crate::task::{Filled, Plan, Task};
 use crate::turns::take_turns;
+use arrayvec::ArrayVec;
 use msp_class::NoMemory;
 use std::alloc::Global;
 
 /// No job for each of the machines.
-fn no_jobs(alloc: Global, machines: usize, none: u32) -> Result<Vec<u32>, NoMemory>
-    ensures { IfOk result (λ jobs. jobs.items ≡ replicate machines none) }
+fn no_jobs(machines: usize, none: u16) -> ArrayVec<u16, MACHINES>
+    requires { machines ≤ 32 }
+    ensures { result.items ≡ replicate machines none }
 {
-    Ok(vec![in alloc; none; machines]?)
+    let mut jobs = ArrayVec::from([none; MACHINES]);
+    jobs.truncate(machines);
+    jobs
+}
+
+/// The numbers of all machines, as segments hold them.
+fn all_free(machines: &[u32]) -> ArrayVec<u8, MACHINES>
+    requires few { len machines.now ≤ 32 }
+    requires small { All (λ m. m < 256) machines.now }
+    ensures { result.items ≡ machines.now }
+{
+    let mut free = ArrayVec::new();
+    for machine in machines {
+        free.push(*machine as u8);
+    }
+    free
 }
 
 /// All machines are free up to the least end.
 fn first_plan(alloc: Global, task: &Task, machines: &[u32]) -> Result<Plan, NoMemory>
     requires task { IsTask task.now }
+    requires few { len machines.now ≤ 32 }
+    requires small { All (λ m. m < 256) machines.now }
     ensures { IfOk result (λ p. IsFirstPlan task.now machines.now p.unit p.places p.segments.items) }
 {
-    let jobs = no_jobs(alloc, machines.len(), task.times.len() as u32)?;
-    let free = Vec::from_slice(alloc, machines)?;
-    let segment = Segment {
-        length: u128::from(task.work),
-        jobs,
-        free,
-    };
+    let jobs = no_jobs(machines.len(), task.times.len() as u16);
+    let free = all_free(machines);
+    let body = Box::new(alloc, Body { jobs, free })?;
+    let length = u128::from(task.work);
     let mut segments = Vec::new(alloc);
-    segments.push(segment)?;
+    segments.push(Segment { length, body })?;
     Ok(Plan {
         unit: u128::from(task.speed),
         places: machines.len(),

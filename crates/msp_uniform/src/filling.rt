@@ -26,6 +26,7 @@ pub(crate) fn turn(
     job: u32,
     work: u128,
 ) -> Result<Turned, NoMemory>
+    requires job { job < 2 ^ 16 }
     requires some { 2 ≤ places }
     requires each { (n : ℕ) × All (IsSegment (len speeds.now) n (at speeds.now) places) segments.items }
     requires speeds { All (λ s. s ≤ GREATEST_SPEED) speeds.now }

@@ -31,17 +31,20 @@ pub(crate) fn gain_of(speeds: &[u64], segment: &Segment, place: usize, swap: boo
     requires speeds { All (λ s. s ≤ GREATEST_SPEED) speeds.now }
     ensures value { result ≡ gain_at swap (at speeds.now) place segment.now }
     ensures small { result ≤ GREATEST_SPEED }
+    ensures inside { place < 32 }
 {
-    let rate = u128::from(speeds[segment.free[place] as usize]);
+    let rate = u128::from(speeds[usize::from(segment.body.free[place])]);
     if !swap {
         return rate;
     }
-    rate.saturating_sub(u128::from(speeds[segment.free[place + 1] as usize]))
+    rate.saturating_sub(u128::from(speeds[usize::from(segment.body.free[place + 1])]))
 }
 
 /// The second part: the job goes on at the next place, or the segment stays as it is.
 fn second_of(segment: Segment, length: u128, job: u32, place: usize, swap: bool) -> Segment
-    requires { HasPlaces (len segment.jobs.items) swap place segment }
+    requires job { job < 2 ^ 16 }
+    requires inside { place < 32 }
+    requires places { HasPlaces (len segment.body.value.jobs.items) swap place segment }
     ensures long { result.length ≡ length }
     ensures part { IsSecond swap job place segment result }
 {
@@ -63,7 +66,8 @@ fn lay_one(
     swap: bool,
     left: u128,
 ) -> Result<Laid, NoMemory>
-    requires machines { len segment.jobs.items ≡ len speeds.now }
+    requires job { job < 2 ^ 16 }
+    requires machines { len segment.body.value.jobs.items ≡ len speeds.now }
     requires places { HasPlaces (len speeds.now) swap place segment }
     requires speeds { All (λ s. s ≤ GREATEST_SPEED) speeds.now }
     requires short { segment.length ≤ 10 ^ 25 }
@@ -102,7 +106,8 @@ fn lay_first(
     place: usize,
     left: u128,
 ) -> Result<u128, NoMemory>
-    requires machines { len segment.jobs.items ≡ len speeds.now }
+    requires job { job < 2 ^ 16 }
+    requires machines { len segment.body.value.jobs.items ≡ len speeds.now }
     requires places { HasPlaces (len speeds.now) false place segment }
     requires speeds { All (λ s. s ≤ GREATEST_SPEED) speeds.now }
     requires short { segment.length ≤ 10 ^ 25 }
@@ -130,6 +135,7 @@ pub(crate) fn lay(
     place: usize,
     gain: u128,
 ) -> Result<(), NoMemory>
+    requires job { job < 2 ^ 16 }
     requires late { CanBeLaid speeds.now place gain late.old.items }
     requires speeds { All (λ s. s ≤ GREATEST_SPEED) speeds.now }
     ensures { OnOk result (IsLaidHere (at speeds.now) job place gain early.old.items late.old.items early.new.items late.new.items) }
@@ -156,7 +162,8 @@ fn lay_both(
     place: usize,
     left: u128,
 ) -> Result<u128, NoMemory>
-    requires machines { len segment.jobs.items ≡ len speeds.now }
+    requires job { job < 2 ^ 16 }
+    requires machines { len segment.body.value.jobs.items ≡ len speeds.now }
     requires places { HasPlaces (len speeds.now) true place segment }
     requires speeds { All (λ s. s ≤ GREATEST_SPEED) speeds.now }
     requires short { segment.length ≤ 10 ^ 25 }
@@ -192,7 +199,8 @@ pub(crate) fn lay_over_all(
     place: usize,
     gain: u128,
 ) -> Result<Parts, NoMemory>
-    requires machines { All (λ x. len x.jobs.items ≡ len speeds.now) segments.items }
+    requires job { job < 2 ^ 16 }
+    requires machines { All (λ x. len x.body.value.jobs.items ≡ len speeds.now) segments.items }
     requires places { All (HasPlaces (len speeds.now) true place) segments.items }
     requires speeds { All (λ s. s ≤ GREATEST_SPEED) speeds.now }
     requires short { All (λ x. x.length ≤ 10 ^ 25) segments.items }

@@ -67,7 +67,7 @@ fn put_machine(
     none: u32,
     machine: u32,
 ) -> Result<(), NoMemory>
-    requires machine { All (λ x. machine < len x.jobs.items) segments.now }
+    requires machine { All (λ x. machine < len x.body.value.jobs.items) segments.now }
     requires short { sum_by (λ x. x.length) segments.now < 2 ^ 127 }
     ensures { OnOk result (pieces.new ≡ pieces.old ++ runs_from none machine none 0 0 segments.now) }
 {
@@ -77,7 +77,7 @@ fn put_machine(
     };
     let mut moment: u128 = 0;
     for segment in segments {
-        let job = segment.jobs[machine as usize];
+        let job = u32::from(segment.body.jobs[machine as usize]);
         run = change(pieces, none, machine, run, job, moment)?;
         moment += segment.length;
     }
@@ -91,7 +91,7 @@ pub(crate) fn pieces_of(
     none: u32,
     machines: u32,
 ) -> Result<List<Piece>, NoMemory>
-    requires machines { All (λ x. len x.jobs.items ≡ machines) segments.now }
+    requires machines { All (λ x. len x.body.value.jobs.items ≡ machines) segments.now }
     requires short { sum_by (λ x. x.length) segments.now < 2 ^ 127 }
     ensures { IfOk result (λ pieces. pieces ≡ runs none segments.now machines) }
 {

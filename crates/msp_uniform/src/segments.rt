@@ -1,33 +1,52 @@
 // Parts of the time, in each of which every machine has one job or is free.
-ghost use Rattle.std.specs.Prelude.{◌≡◌, ◌<◌, length as len, IfOk};
+ghost use Rattle.std.specs.Prelude.{◌≡◌, ◌^◌, ◌<◌, length as len, IfOk};
 ghost use Rattle.msp_uniform.specs.Segments.{at, IsTaken, IsPartOf};
 
+use arrayvec::ArrayVec;
 use msp_class::NoMemory;
 use std::alloc::Global;
 
-/// A part of the time.
+/// So many machines there may be.
+pub(crate) const MACHINES: usize = 32;
+
+/// What the machines do.
+#[derive(Drop)]
+pub(crate) struct Body {
+    /// The job of each machine, or the number of jobs for none.
+    pub(crate) jobs: ArrayVec<u16, MACHINES>,
+    /// The machines that have no job, the fastest first.
+    pub(crate) free: ArrayVec<u8, MACHINES>,
+}
+
+/// A part of the time. It is small, since segments go from list to list often.
 #[derive(Drop)]
 pub(crate) struct Segment {
     pub(crate) length: u128,
-    /// The job of each machine, or the number of jobs for none.
-    pub(crate) jobs: Vec<u32>,
-    /// The machines that have no job, the fastest first.
-    pub(crate) free: Vec<u32>,
+    pub(crate) body: Box<Body>,
+}
+
+/// The same items.
+fn copy_of<T: Copy + Default + Drop>(
+    list: &ArrayVec<T, MACHINES>,
+) -> ArrayVec<T, MACHINES>
+    ensures { result.items ≡ list.now.items }
+{
+    let mut copy = ArrayVec::new();
+    let items = list.as_slice();
+    match copy.try_extend_from_slice(items) {
+        Ok(()) => copy,
+        Err(_) => unreachable!(),
+    }
 }
 
 /// The same for another length.
 pub(crate) fn part_of(alloc: Global, segment: &Segment, length: u128) -> Result<Segment, NoMemory>
     ensures { IfOk result (λ part. IsPartOf length segment.now part) }
 {
-    let jobs = match Vec::from_slice(alloc, segment.jobs.as_slice()) {
-        Ok(jobs) => jobs,
-        Err(_) => return Err(NoMemory),
-    };
-    let free = match Vec::from_slice(alloc, segment.free.as_slice()) {
-        Ok(free) => free,
-        Err(_) => return Err(NoMemory),
-    };
-    Ok(Segment { length, jobs, free })
+    let jobs = copy_of(&segment.body.jobs);
+    let free = copy_of(&segment.body.free);
+    let body = Box::new(alloc, Body { jobs, free })?;
+    Ok(Segment { length, body })
 }
 
 /// It lasts as long as this.
@@ -40,12 +59,13 @@ pub(crate) fn lasting(mut segment: Segment, length: u128) -> Segment
 
 /// It lasts as long as this, and a free machine has the job.
 pub(crate) fn taken(mut segment: Segment, length: u128, job: u32, place: usize) -> Segment
-    requires place { place < len segment.free.items }
-    requires machine { at segment.free.items place < len segment.jobs.items }
+    requires place { place < len segment.body.value.free.items }
+    requires machine { at segment.body.value.free.items place < len segment.body.value.jobs.items }
+    requires job { job < 2 ^ 16 }
     ensures { IsTaken job place length segment result }
 {
-    let machine = segment.free.remove(place);
-    segment.jobs[machine as usize] = job;
+    let machine = segment.body.free.remove(place);
+    segment.body.jobs[usize::from(machine)] = job as u16;
     segment.length = length;
     segment
 }
@@ -58,12 +78,11 @@ pub(crate) fn taken_of(
     job: u32,
     place: usize,
 ) -> Result<Segment, NoMemory>
-    requires place { place < len segment.now.free.items }
-    requires machine { at segment.now.free.items place < len segment.now.jobs.items }
+    requires place { place < len segment.now.body.value.free.items }
+    requires machine { at segment.now.body.value.free.items place < len segment.now.body.value.jobs.items }
+    requires job { job < 2 ^ 16 }
     ensures { IfOk result (λ part. IsTaken job place length segment.now part) }
 {
-    let mut part = part_of(alloc, segment, length)?;
-    let machine = part.free.remove(place);
-    part.jobs[machine as usize] = job;
-    Ok(part)
+    let part = part_of(alloc, segment, length)?;
+    Ok(taken(part, length, job, place))
 }

@@ -1,5 +1,5 @@
 // The jobs that no place is too short for, one after another from the last place to the first.
-ghost use Rattle.std.specs.Prelude.{◌≡◌, ◌+◌, ◌-◌, ◌<◌, ◌≤◌, ◌*◌, ◌∷◌, List, ℕ, length as len, All, IfOk, OnOk};
+ghost use Rattle.std.specs.Prelude.{◌≡◌, ◌+◌, ◌-◌, ◌<◌, ◌≤◌, ◌*◌, ◌^◌, ◌∷◌, List, ℕ, length as len, All, IfOk, OnOk};
 ghost use Rattle.msp_instance.specs.declared.ranges.TheConstants.{GREATEST_SPEED};
 ghost use Rattle.msp_uniform.specs.Segments.{at, rate_at, amount};
 ghost use Rattle.msp_uniform.specs.Plans.{IsTask, IsReached, AreShort, IsTaped, IsFilled, CanBeLaid, IsLaidHere, IsLaidOver};
@@ -32,6 +32,7 @@ fn lay_here(
     job: u32,
     work: u128,
 ) -> Result<(), NoMemory>
+    requires job { job < 2 ^ 16 }
     requires late { CanBeLaid speeds.now tape.old.place work tape.old.late.items }
     requires speeds { All (λ s. s ≤ GREATEST_SPEED) speeds.now }
     requires rest { work ≤ tape.old.rest }
@@ -60,6 +61,7 @@ fn lay_over(
     job: u32,
     more: u128,
 ) -> Result<(), NoMemory>
+    requires job { job < 2 ^ 16 }
     requires place { 1 ≤ tape.old.place }
     requires late { CanBeLaid speeds.now tape.old.place tape.old.rest tape.old.late.items }
     requires early { CanBeLaid speeds.now (tape.old.place - 1) more tape.old.early.items }

@@ -6,9 +6,9 @@ pub returns : goal.returns
 returns c = let many : vec_len c.args.task.now.times ≡ length c.args.task.now.times.items = omega (arith, c.args.task.now.times.ok) in record {
   x = _;
   only = only_one _ _ _ c.in_ok-push.ensures.items c.new-segments.ensures.items;
-  unit_is = c.from-2.ensures;
+  unit_is = c.from.ensures;
   places = refl;
-  long = c.from.ensures;
-  jobs = c.in_ok-jobs.ensures ∙ ap (replicate (length c.args.machines.now)) (c.len.ensures ∙ many);
-  free = c.in_ok-free.ensures.items;
+  long = c.from-length.ensures;
+  jobs = ap (λ b. b.jobs.items) c.in_ok-body.ensures.ok ∙ c.no_jobs-jobs.ensures ∙ ap (replicate (length c.args.machines.now)) (c.len.ensures ∙ many);
+  free = ap (λ b. b.free.items) c.in_ok-body.ensures.ok ∙ c.all_free-free.ensures;
 }

@@ -1,0 +1,6 @@
+use Rattle.std.proofs.Common.{◌≡◌, take}
+use Rattle.msp_uniform.proofs.fill.all_free.Given as goal
+
+-- the machines so far
+abbrev pub invariant-loop-machine : goal.invariant-loop-machine
+invariant-loop-machine l = l.free.items ≡ take l.machine-index l.machines
