@@ -95,7 +95,7 @@ fn lay_one(
     })
 }
 
-/// Lays the job over the first of late segments, of which the second part stays late.
+/// Lays the job over the first of late segments, of which the second part stays late. Mostly there is none.
 fn lay_first(
     alloc: Global,
     early: &mut VecDeque<Segment>,
@@ -114,6 +114,13 @@ fn lay_first(
     requires gains { CanGain (rate_at (at speeds.now) place) left (segment ∷ late.old.items) }
     ensures { IfOk result (λ after. IsFirstLaid (at speeds.now) job place left after segment early.old.items late.old.items early.new.items late.new.items) }
 {
+    let gain = gain_of(speeds, &segment, place, false);
+    let whole = segment.length * gain;
+    if whole <= left {
+        let length = segment.length;
+        early.push_back(taken(segment, length, job, place))?;
+        return Ok(left - whole);
+    }
     let laid = lay_one(alloc, early, speeds, segment, job, place, false, left)?;
     let Laid { left: after, rest } = laid;
     match rest {

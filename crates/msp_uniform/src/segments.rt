@@ -1,5 +1,5 @@
 // Parts of the time, in each of which every machine has one job or is free.
-ghost use Rattle.std.specs.Prelude.{◌≡◌, ◌^◌, ◌<◌, length as len, IfOk};
+ghost use Rattle.std.specs.Prelude.{◌≡◌, ◌^◌, ◌<◌, remove, length as len, IfOk};
 ghost use Rattle.msp_uniform.specs.Segments.{at, IsTaken, IsPartOf};
 
 use arrayvec::ArrayVec;
@@ -26,17 +26,15 @@ pub(crate) struct Segment {
 }
 
 /// The same items.
-fn copy_of<T: Copy + Default + Drop>(
-    list: &ArrayVec<T, MACHINES>,
-) -> ArrayVec<T, MACHINES>
+fn copy_of<T: Copy + Default + Drop>(list: &ArrayVec<T, MACHINES>) -> ArrayVec<T, MACHINES>
     ensures { result.items ≡ list.now.items }
 {
     let mut copy = ArrayVec::new();
     let items = list.as_slice();
-    match copy.try_extend_from_slice(items) {
-        Ok(()) => copy,
-        Err(_) => unreachable!(),
-    }
+    let Ok(()) = copy.try_extend_from_slice(items) else {
+        unreachable!()
+    };
+    copy
 }
 
 /// The same for another length.
@@ -57,6 +55,21 @@ pub(crate) fn lasting(mut segment: Segment, length: u128) -> Segment
     segment
 }
 
+/// Takes the machine at a place away from those that are free. Mostly it is the last one.
+fn take_free(free: &mut ArrayVec<u8, MACHINES>, place: usize) -> u8
+    requires { place < len free.old.items }
+    ensures value { result ≡ at free.old.items place }
+    ensures items { free.new.items ≡ remove free.old.items place }
+{
+    let many = free.len();
+    if place + 1 < many {
+        return free.remove(place);
+    }
+    let machine = free.as_slice()[place];
+    free.truncate(place);
+    machine
+}
+
 /// It lasts as long as this, and a free machine has the job.
 pub(crate) fn taken(mut segment: Segment, length: u128, job: u32, place: usize) -> Segment
     requires place { place < len segment.body.value.free.items }
@@ -64,7 +77,7 @@ pub(crate) fn taken(mut segment: Segment, length: u128, job: u32, place: usize) 
     requires job { job < 2 ^ 16 }
     ensures { IsTaken job place length segment result }
 {
-    let machine = segment.body.free.remove(place);
+    let machine = take_free(&mut segment.body.free, place);
     segment.body.jobs[usize::from(machine)] = job as u16;
     segment.length = length;
     segment

@@ -1,7 +1,10 @@
-use Rattle.std.proofs.Common.{◌++◌, ◌∙◌, ap, sym}
+use Rattle.std.proofs.Common.{[], ◌++◌, ◌∙◌, ◌≤◌, refl, ap, sym, arith}
 use Rattle.std.specs.Option.{option_to_list}
-use Rattle.msp_uniform.proofs.LayingFacts.{IsFirstLaid-made}
+use Rattle.msp_uniform.proofs.LayingFacts.{IsOneLaid-whole, IsFirstLaid-made}
 use Rattle.msp_uniform.proofs.laying.lay_first.Goals as goal
+
+pub returns-then-whole-left : goal.returns-then-whole-left
+returns-then-whole-left c = IsFirstLaid-made _ _ _ _ _ _ _ _ _ _ [] (IsOneLaid-whole _ _ _ _ _ _ _ _ _ c.gain_of-gain.ensures.value _ _ (omega (arith, c.if-whole-left.true)) c.taken.ensures c.in_ok-push_back.ensures.items) (omega arith) c.requires.gains refl
 
 pub returns-in-None : goal.returns-in-None
 returns-in-None c = IsFirstLaid-made _ _ _ _ _ _ _ _ _ _ _ c.in_ok-laid.ensures.laid c.in_ok-laid.ensures.few c.requires.gains (sym (ap (λ o. option_to_list o ++ c.args.late.now.items) c.in-None.is))
