@@ -16,6 +16,7 @@ pub mod TapeStart
 pub mod Affordable
 pub mod ReachedFacts
 pub mod TapedFacts
+pub mod HeldFacts
 pub mod FirstFacts
 pub mod OrderRead
 pub mod UnitFacts

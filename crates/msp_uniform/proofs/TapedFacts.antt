@@ -102,8 +102,8 @@ module _ (t : Task) (k : IsTask t) where
     each_late : All (IsSegment m n (at speeds) (suc h)) late
     each_late = subst (λ a. All (IsSegment m n (at speeds) a) late) (one h) r.tape.each_late
 
-    pub late_places : All (HasPlaces m false h) late
-    late_places = has_places speeds (suc h) n late each_late h (omega arith)
+    pub late_places : (p : ℕ) → p ≤ h → All (HasPlaces m false p) late
+    late_places p l = has_places speeds (suc h) n late each_late p (omega (arith, l))
 
   -- ---- a step
   module _ (j : ℕ) (left : List ℕ) (unit h : ℕ) (early late : List Segment) (r : IsTaped t (j ∷ left) unit h early late) where
@@ -116,7 +116,7 @@ module _ (t : Task) (k : IsTask t) where
     end_of : r.end ≤ 4000000000000000000000000
     end_of = end_short (j ∷ left) unit h early late r
 
-    each_of : All (IsSegment m n (at speeds) (suc h)) late
+    pub each_of : All (IsSegment m n (at speeds) (suc h)) late
     each_of = each_late (j ∷ left) unit h early late r
 
     fine : t.multiple ∣ work
@@ -130,10 +130,10 @@ module _ (t : Task) (k : IsTask t) where
       gains = g;
     }
 
-    absent_early : All (IsAbsent m j) early
+    pub absent_early : All (IsAbsent m j) early
     absent_early = All-head (λ i. All (IsAbsent m i) early) j left r.tape.absent_early
 
-    absent_late : All (IsAbsent m j) late
+    pub absent_late : All (IsAbsent m j) late
     absent_late = All-head (λ i. All (IsAbsent m i) late) j left r.tape.absent_late
 
     -- the last place can do it
@@ -181,6 +181,26 @@ module _ (t : Task) (k : IsTask t) where
     over_early : CanBeLaid speeds g more early
     over_early = be_laid j left unit (suc g) early late r g more early r.tape.each_early (omega (arith, r.tape.whole)) (last_can_gain speeds n t.multiple divides g early r.tape.each_early 0 more (dvd-zero t.multiple) more_fine (AreWhole-first (rate_at (at speeds) g) 0 early late (r.whole.below g (omega arith))) enough)
 
+    -- nothing of the rest of the last place is left
+    pub over_whole : (firsts none : List Segment) → AreLaid false (at speeds) j (suc g) rest 0 late firsts none → AreLaid false (at speeds) j (suc g) rest 0 late firsts []
+    over_whole firsts none laid = subst (AreLaid false (at speeds) j (suc g) rest 0 late firsts) are_none laid
+      where
+        inside : j < n
+        inside = tape_inside j left unit (suc g) early late r
+
+        gone_late : All (IsAbsent m j) late
+        gone_late = absent_late j left unit (suc g) early late r
+
+        nothing : amount (rate_at (at speeds) (suc g)) none ≡ 0
+        nothing = omega (arith, tape_rest m n (at speeds) (suc g) j rest late firsts none inside late_each gone_late laid)
+
+        are_none : none ≡ []
+        are_none = none_left (rate_at (at speeds) (suc g)) none (λ i d l. let s = tape_seconds m n (at speeds) (suc g) j rest late firsts none inside late_each gone_late laid i d l in positive _ _ s.lasts ((divides _ 0 (s.machines (suc g) (omega arith))).0)) nothing
+          where
+            positive : (a b : ℕ) → 1 ≤ a → 1 ≤ b → 1 ≤ a * b
+            positive zero b l k = absurd (omega (arith, l))
+            positive (suc a) b l k = omega (arith, k)
+
     over_taped : (early' late' : List Segment) → (firsts none seconds : List Segment) → AreLaid false (at speeds) j (suc g) rest 0 late firsts none → AreLaid false (at speeds) j g more 0 early early' seconds → late' ≡ seconds ++ firsts → IsTaped t left unit g early' late'
     over_taped early' late' firsts none seconds laid also e = subst (λ l. IsTaped t left unit g early' l) (sym e) (record {
       end = r.end;
@@ -200,18 +220,8 @@ module _ (t : Task) (k : IsTask t) where
         gone_late : All (IsAbsent m j) late
         gone_late = absent_late j left unit (suc g) early late r
 
-        nothing : amount (rate_at (at speeds) (suc g)) none ≡ 0
-        nothing = omega (arith, tape_rest m n (at speeds) (suc g) j rest late firsts none inside late_each gone_late laid)
-
-        are_none : none ≡ []
-        are_none = none_left (rate_at (at speeds) (suc g)) none (λ i d l. let s = tape_seconds m n (at speeds) (suc g) j rest late firsts none inside late_each gone_late laid i d l in positive _ _ s.lasts ((divides _ 0 (s.machines (suc g) (omega arith))).0)) nothing
-          where
-            positive : (a b : ℕ) → 1 ≤ a → 1 ≤ b → 1 ≤ a * b
-            positive zero b l k = absurd (omega (arith, l))
-            positive (suc a) b l k = omega (arith, k)
-
         whole_laid : AreLaid false (at speeds) j (suc g) rest 0 late firsts []
-        whole_laid = subst (AreLaid false (at speeds) j (suc g) rest 0 late firsts) are_none laid
+        whole_laid = over_whole firsts none laid
 
         by : (l f s : ℕ) → AreFew (f + s) l 0 → f + s ≤ l + 1
         by l f s (inl q) = omega (arith, q)

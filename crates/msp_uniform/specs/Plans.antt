@@ -121,6 +121,11 @@ IsNextPlan t job turned unit h xs unit' h' xs' = MatchBool turned
     ((left : List ℕ) → IsReached t (job ∷ left) unit h xs → IsReached t left unit' h' xs')
     ((unit' ≡ unit) × (h' ≡ h) × (xs' ≡ xs) × (unit * at t.times.items job ≤ amount (rate_at (at t.speeds.items) (h - 1)) xs))
 
+-- Each place before the last can do so much on the tape, from its begin to its end.
+pub record DoHold (speeds holds : List ℕ) (h : ℕ) (early late : List Segment) : Type 0 where
+  pub many : h ≤ length holds
+  pub each : (k : ℕ) → k < h → at holds k ≡ amount (rate_at (at speeds) k) early + amount (rate_at (at speeds) k) late
+
 -- The jobs need no more than the last place can do.
 abbrev pub AreShort : Task → List ℕ → ℕ → ℕ → List Segment → Type 0
 AreShort t left unit h xs = All (λ j. unit * at t.times.items j ≤ amount (rate_at (at t.speeds.items) (h - 1)) xs) left

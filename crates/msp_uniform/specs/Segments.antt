@@ -52,6 +52,11 @@ job_rate m speed job x = total_below m (λ i. if job_on x i == job then speed i 
 abbrev pub amount : (Segment → ℕ) → List Segment → ℕ
 amount rate xs = sum_by (λ x. x.length * rate x) xs
 
+-- What the machines at each of the first places can do.
+pub record AreWorks (speed : ℕ → ℕ) (places : ℕ) (xs : List Segment) (works : List ℕ) : Type 0 where
+  pub many : length works ≡ places
+  pub each : (k : ℕ) → k < places → at works k ≡ amount (rate_at speed k) xs
+
 -- Segments that are cut in two parts, the first of which has become one thing, and the second another. Either part may be missing. The
 -- numbers are the lengths of the first parts.
 pub data IsLaid (First Second : Segment → Segment → Type 0) : List ℕ → List Segment → List Segment → List Segment → Type 0 where

@@ -1,5 +1,5 @@
 // The longest job takes the two places that can do its work, and leaves one place of the two.
-ghost use Rattle.std.specs.Prelude.{◌≡◌, ℕ, ◌-◌, ◌*◌, ◌<◌, ◌≤◌, ◌^◌, length as len, All, IfOk};
+ghost use Rattle.std.specs.Prelude.{ℕ, ◌-◌, ◌*◌, ◌<◌, ◌≤◌, ◌^◌, length as len, All, IfOk};
 ghost use Rattle.msp_instance.specs.declared.ranges.TheConstants.{GREATEST_SPEED};
 ghost use Rattle.msp_uniform.specs.Segments.{at, rate_at, amount, IsSegment, IsDifference};
 ghost use Rattle.msp_uniform.specs.Plans.{IsTurned};

@@ -1,5 +1,5 @@
 // A job is laid over segments, one after another.
-ghost use Rattle.std.specs.Prelude.{◌≡◌, ℕ, suc, ◌+◌, ◌*◌, ◌<◌, ◌≤◌, ◌⊎◌, [], ◌∷◌, ◌++◌, ◌^◌, true, false, min, length as len, All, IfOk, OnOk};
+ghost use Rattle.std.specs.Prelude.{◌≡◌, ◌+◌, ◌*◌, ◌<◌, ◌≤◌, ◌⊎◌, [], ◌∷◌, ◌^◌, true, false, min, length as len, All, IfOk, OnOk};
 ghost use Rattle.msp_instance.specs.declared.ranges.TheConstants.{GREATEST_SPEED};
 ghost use Rattle.std.specs.Int.{◌∣◌};
 ghost use Rattle.std.specs.Option.{option_to_list};

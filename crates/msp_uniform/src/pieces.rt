@@ -1,5 +1,5 @@
 // Segments one after another, as pieces of a schedule: machine after machine, and a piece ends where its machine gets another job.
-ghost use Rattle.std.specs.Prelude.{◌≡◌, ◌+◌, ◌<◌, ◌≤◌, ◌++◌, ◌^◌, length as len, sum_by, All, IfOk, OnOk};
+ghost use Rattle.std.specs.Prelude.{◌≡◌, ◌<◌, ◌++◌, ◌^◌, length as len, sum_by, All, IfOk, OnOk};
 ghost use Rattle.msp_uniform.specs.Rows.{part_on, runs_from, runs, IsChange};
 
 use crate::segments::Segment;

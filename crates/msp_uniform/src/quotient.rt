@@ -1,5 +1,5 @@
 // The least end: the greatest of works over speeds.
-ghost use Rattle.std.specs.Prelude.{◌≡◌, ◌*◌, ◌<◌, ◌≤◌, ◌⊎◌, length as len, sum_by, All};
+ghost use Rattle.std.specs.Prelude.{◌≡◌, ◌<◌, ◌≤◌, length as len, sum_by, All};
 ghost use Rattle.msp_instance.specs.declared.ranges.TheConstants.{GREATEST, MOST_JOBS};
 ghost use Rattle.msp_uniform.specs.Segments.{at};
 ghost use Rattle.msp_uniform.specs.Quotients.{IsGreater, IsGreatest};

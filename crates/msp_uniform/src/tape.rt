@@ -1,13 +1,13 @@
 // The jobs that no place is too short for, one after another from the last place to the first.
-ghost use Rattle.std.specs.Prelude.{◌≡◌, ◌+◌, ◌-◌, ◌<◌, ◌≤◌, ◌*◌, ◌^◌, ◌∷◌, List, ℕ, length as len, All, IfOk, OnOk};
+ghost use Rattle.std.specs.Prelude.{◌≡◌, ◌+◌, ◌-◌, ◌<◌, ◌≤◌, ◌^◌, ◌∷◌, List, ℕ, All, IfOk, OnOk};
 ghost use Rattle.msp_instance.specs.declared.ranges.TheConstants.{GREATEST_SPEED};
 ghost use Rattle.msp_uniform.specs.Segments.{at, rate_at, amount};
-ghost use Rattle.msp_uniform.specs.Plans.{IsTask, IsReached, AreShort, IsTaped, IsFilled, CanBeLaid, IsLaidHere, IsLaidOver};
+ghost use Rattle.msp_uniform.specs.Plans.{IsTask, IsReached, AreShort, IsTaped, DoHold, IsFilled, CanBeLaid, IsLaidHere, IsLaidOver};
 
 use crate::laying::lay;
 use crate::segments::Segment;
 use crate::task::{Filled, Plan, Task};
-use crate::turning::{scaled, work_in};
+use crate::turning::{scaled, works_in};
 use crate::turns::need_of;
 use msp_class::NoMemory;
 use std::alloc::Global;
@@ -94,17 +94,20 @@ fn lay_over(
     Ok(())
 }
 
-/// Lays the next job.
+/// Lays the next job. Each place before the last holds so much in all.
 fn lay_next(
     alloc: Global,
     tape: &mut Tape,
     task: &Task,
+    holds: &[u128],
     unit: u128,
     job: u32,
 ) -> Result<(), NoMemory>
     requires task { IsTask task.now }
     requires taped { (left : List ℕ) × IsTaped task.now (job ∷ left) unit tape.old.place tape.old.early.items tape.old.late.items }
     requires rest { tape.old.rest ≡ amount (rate_at (at task.now.speeds.items) tape.old.place) tape.old.late.items }
+    requires holds { DoHold task.now.speeds.items holds.now tape.old.place tape.old.early.items tape.old.late.items }
+    ensures holds { OnOk result (DoHold task.now.speeds.items holds.now tape.new.place tape.new.early.items tape.new.late.items) }
     ensures rest { OnOk result (tape.new.rest ≡ amount (rate_at (at task.now.speeds.items) tape.new.place) tape.new.late.items) }
     ensures taped { OnOk result ((left : List ℕ) → IsTaped task.now (job ∷ left) unit tape.old.place tape.old.early.items tape.old.late.items → IsTaped task.now left unit tape.new.place tape.new.early.items tape.new.late.items) }
 {
@@ -115,7 +118,7 @@ fn lay_next(
     }
     let more = work - tape.rest;
     lay_over(alloc, tape, speeds, job, more)?;
-    tape.rest = work_in(&tape.late, speeds, tape.place);
+    tape.rest = holds[tape.place] - more;
     Ok(())
 }
 
@@ -134,8 +137,10 @@ pub(crate) fn lay_all(
     let multiple = u128::from(task.multiple);
     let unit = plan.unit * multiple;
     let late = scaled(alloc, plan.segments, multiple)?;
+    let works = works_in(alloc, &late, task.speeds.as_slice(), plan.places)?;
+    let holds = works.as_slice();
     let place = plan.places - 1;
-    let rest = work_in(&late, task.speeds.as_slice(), place);
+    let rest = holds[place];
     let early = VecDeque::new(alloc);
     let mut tape = Tape {
         place,
@@ -144,7 +149,7 @@ pub(crate) fn lay_all(
         late,
     };
     for job in jobs {
-        lay_next(alloc, &mut tape, task, unit, *job)?;
+        lay_next(alloc, &mut tape, task, holds, unit, *job)?;
     }
     let Tape {
         mut early,

@@ -1,7 +1,7 @@
 // What the free machines of segments can do, and finer units.
 ghost use Rattle.std.specs.Prelude.{◌≡◌, ℕ, ◌+◌, ◌-◌, ◌*◌, ◌<◌, ◌≤◌, ◌^◌, true, false, length as len, All, IfOk};
 ghost use Rattle.msp_instance.specs.declared.ranges.TheConstants.{GREATEST_SPEED};
-ghost use Rattle.msp_uniform.specs.Segments.{at, rate_at, gain_at, amount, HasPlaces, StopsAt, IsDifference, AreScaled};
+ghost use Rattle.msp_uniform.specs.Segments.{at, rate_at, gain_at, amount, AreWorks, HasPlaces, StopsAt, IsDifference, AreScaled};
 
 use crate::laying::gain_of;
 use crate::segments::{Segment, lasting};
@@ -32,6 +32,26 @@ pub(crate) fn work_in(segments: &VecDeque<Segment>, speeds: &[u64], place: usize
 {
     let (front, back) = segments.as_slices();
     work_of(front, speeds, place) + work_of(back, speeds, place)
+}
+
+/// The works that the machines at each of the first places can do.
+pub(crate) fn works_in(
+    alloc: Global,
+    segments: &VecDeque<Segment>,
+    speeds: &[u64],
+    places: usize,
+) -> Result<Vec<u128>, NoMemory>
+    requires each { (p : ℕ) → p < places → All (HasPlaces (len speeds.now) false p) segments.now.items }
+    requires speeds { All (λ s. s ≤ GREATEST_SPEED) speeds.now }
+    requires short { amount (λ _. 1) segments.now.items ≤ 10 ^ 25 }
+    ensures { IfOk result (λ works. AreWorks (at speeds.now) places segments.now.items works.items) }
+{
+    let mut works = Vec::new(alloc);
+    for place in 0..places {
+        let work = work_in(segments, speeds, place);
+        works.push(work)?;
+    }
+    Ok(works)
 }
 
 /// The segments over a finer unit.

@@ -1,9 +1,7 @@
 // Uniform machines with preemption.
-ghost use Rattle.std.specs.Prelude.{◌≡◌, ◌≤◌, length as len, map, IfOk, ⊤};
+ghost use Rattle.std.specs.Prelude.{◌≡◌, IfOk, ⊤};
 ghost use Rattle.msp_instance.specs.Conditions.{Inner};
-ghost use Rattle.msp_instance.specs.Instance.{no_need};
 ghost use Rattle.msp_schedule.specs.Cost.{IsBest};
-ghost use Rattle.msp_schedule.specs.Rows.{time_at};
 ghost use Rattle.msp_route.specs.Bounds.{IsAnswer};
 ghost use Rattle.msp_uniform.specs.Uniform.{cut_class, HasSmallUnit, IsUniformCost};
 ghost use Rattle.msp_uniform.specs.Answers.{AreTimes, IsCutPlan, IsLaidOut};

@@ -1,5 +1,5 @@
 // Whether the unit that is needed is small enough.
-ghost use Rattle.std.specs.Prelude.{◌≡◌, ◌*◌, ◌-◌, ◌^◌, ◌≤◌, ◌↔◌, ℕ, length as len, All, IsTrue};
+ghost use Rattle.std.specs.Prelude.{◌≡◌, ◌*◌, ◌≤◌, ◌↔◌, length as len, All, IsTrue};
 ghost use Rattle.msp_instance.specs.declared.ranges.TheConstants.{GREATEST_SPEED, MOST_MACHINES};
 ghost use Rattle.msp_instance.specs.Conditions.{HasSmallMultiple};
 ghost use Rattle.msp_uniform.specs.Uniform.{gap, sum, HaveSmallUnit};

@@ -1,4 +1,4 @@
-use Rattle.std.proofs.Common.{◌≡◌, ◌∙◌, take, replicate, refl, ap}
+use Rattle.std.proofs.Common.{◌∙◌, take, ap}
 use Rattle.std.proofs.lemmas.List.{take-replicate}
 use Rattle.msp_uniform.proofs.fill.no_jobs.Goals as goal
 

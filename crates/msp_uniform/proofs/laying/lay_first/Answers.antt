@@ -1,4 +1,4 @@
-use Rattle.std.proofs.Common.{[], ◌++◌, ◌∙◌, ◌≤◌, refl, ap, sym, arith}
+use Rattle.std.proofs.Common.{[], ◌++◌, ◌∙◌, refl, ap, sym, arith}
 use Rattle.std.specs.Option.{option_to_list}
 use Rattle.msp_uniform.proofs.LayingFacts.{IsOneLaid-whole, IsFirstLaid-made}
 use Rattle.msp_uniform.proofs.laying.lay_first.Goals as goal

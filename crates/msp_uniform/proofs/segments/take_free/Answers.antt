@@ -1,4 +1,4 @@
-use Rattle.std.proofs.Common.{◌≡◌, ℕ, suc, ◌≤◌, List, ◌++◌, ◌∙◌, length, take, drop, append-nil, ap, sym, arith}
+use Rattle.std.proofs.Common.{◌≡◌, ℕ, suc, ◌≤◌, List, ◌++◌, ◌∙◌, length, take, append-nil, ap, sym, arith}
 use Rattle.std.specs.Prelude.{remove}
 use Rattle.std.proofs.lemmas.List.{drop_all}
 use Rattle.msp_uniform.proofs.segments.take_free.Goals as goal

@@ -1,7 +1,8 @@
 use Rattle.std.proofs.Common.{◌*◌, ◌-◌, ◌≤◌, ◌∙◌, All, ap, sym, subst, subst₂, false, length, arith}
-use Rattle.msp_uniform.specs.Segments.{at, rate_at, amount, HasPlaces, AreScaled}
-use Rattle.msp_uniform.specs.Plans.{IsTaped, IsFilled}
+use Rattle.msp_uniform.specs.Segments.{at, AreWorks, HasPlaces, AreScaled}
+use Rattle.msp_uniform.specs.Plans.{IsTaped, DoHold, IsFilled}
 use Rattle.msp_uniform.proofs.TapedFacts.{start_unit, start_short, IsTaped-start, late_short, late_places, IsTaped-loop, IsTaped-done}
+use Rattle.msp_uniform.proofs.HeldFacts.{DoHold-start}
 use Rattle.msp_uniform.proofs.tape.lay_all.Goals as goal
 
 pub overflow_mul-unit : goal.overflow_mul-unit
@@ -12,29 +13,32 @@ overflow_mul-unit c =
 pub scaled-requires : goal.scaled-requires
 scaled-requires c = subst (λ m. All (λ x. x.length * m ≤ 10000000000000000000000000) c.args.plan.segments.items) (sym c.from-multiple.ensures) (start_short c.args.task.now c.requires.task _ _ _ _ c.requires.reached)
 
-pub work_in-rest-requires-clause-places : goal.work_in-rest-requires-clause-places
-work_in-rest-requires-clause-places c =
+pub works_in-requires-clause-each : goal.works_in-requires-clause-each
+works_in-requires-clause-each c p l =
     let fine = subst (λ m. AreScaled m c.args.plan.segments.items c.in_ok-late.late.items) c.from-multiple.ensures c.in_ok-late.ensures in
     let taped = IsTaped-start c.args.task.now c.requires.task _ _ _ _ c.requires.reached c.requires.short _ fine in
-    subst (λ sp. All (HasPlaces (length sp) false (c.args.plan.places - 1)) c.in_ok-late.late.items) (sym c.as_slice.ensures.value) (late_places c.args.task.now c.requires.task _ _ _ _ _ taped)
+    subst (λ sp. All (HasPlaces (length sp) false p) c.in_ok-late.late.items) (sym c.as_slice.ensures.value) (late_places c.args.task.now c.requires.task _ _ _ _ _ taped p (omega (arith, l)))
 
-pub work_in-rest-requires-clause-short : goal.work_in-rest-requires-clause-short
-work_in-rest-requires-clause-short c =
+pub works_in-requires-clause-short : goal.works_in-requires-clause-short
+works_in-requires-clause-short c =
     let fine = subst (λ m. AreScaled m c.args.plan.segments.items c.in_ok-late.late.items) c.from-multiple.ensures c.in_ok-late.ensures in
     late_short c.args.task.now c.requires.task _ _ _ _ _ (IsTaped-start c.args.task.now c.requires.task _ _ _ _ c.requires.reached c.requires.short _ fine)
 
 pub loop-job-init : goal.loop-job-init
 loop-job-init c =
     let fine = subst (λ m. AreScaled m c.args.plan.segments.items c.in_ok-late.late.items) c.from-multiple.ensures c.in_ok-late.ensures in
+    let works = subst₂ (λ sp ws. AreWorks (at sp) c.args.plan.places c.in_ok-late.late.items ws) c.as_slice.ensures.value (sym c.as_slice-holds.ensures.value) c.in_ok-works.ensures in
     record {
       taped = subst₂ (λ m es. IsTaped c.args.task.now c.args.jobs.now (c.args.plan.unit * m) (c.args.plan.places - 1) es c.in_ok-late.late.items) (sym c.from-multiple.ensures) (sym c.new-early.ensures.items) (IsTaped-start c.args.task.now c.requires.task _ _ _ _ c.requires.reached c.requires.short _ fine);
-      rest = c.work_in-rest.ensures ∙ ap (λ sp. amount (rate_at (at sp) (c.args.plan.places - 1)) c.in_ok-late.late.items) c.as_slice.ensures.value;
+      rest = works.each (c.args.plan.places - 1) (omega (arith, c.requires.reached.places));
+      holds = subst (λ es. DoHold c.args.task.now.speeds.items c.as_slice-holds.result.now (c.args.plan.places - 1) es c.in_ok-late.late.items) (sym c.new-early.ensures.items) (DoHold-start _ _ _ _ works);
     }
 
 pub loop-job-preserved : goal.loop-job-preserved
 loop-job-preserved c = record {
   taped = IsTaped-loop _ _ _ _ _ _ _ _ _ _ _ c.loop-job-test.true c.in_ok-lay_next.ensures.taped c.loop-job.invariant.taped;
   rest = c.in_ok-lay_next.ensures.rest;
+  holds = c.in_ok-lay_next.ensures.holds;
 }
 
 pub returns : goal.returns

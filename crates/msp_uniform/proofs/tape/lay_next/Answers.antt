@@ -1,6 +1,7 @@
-use Rattle.std.proofs.Common.{◌∙◌, ◌<◌, ◌≤◌, ◌*◌, ◌-◌, false, length, All, ap, sym, subst, arith}
-use Rattle.msp_uniform.specs.Segments.{at, amount, rate_at, HasPlaces}
-use Rattle.msp_uniform.proofs.TapedFacts.{can_here, can_late, can_early, before_last, late_places, late_short, read_laid, read_here, read_rest, read_over}
+use Rattle.std.proofs.Common.{◌∙◌, ◌<◌, ◌≤◌, ◌*◌, ◌-◌, false, ap, arith}
+use Rattle.msp_uniform.specs.Segments.{at, amount, rate_at}
+use Rattle.msp_uniform.proofs.TapedFacts.{can_here, can_late, can_early, before_last, read_laid, read_here, read_rest, read_over}
+use Rattle.msp_uniform.proofs.HeldFacts.{held_here, held_over}
 use Rattle.msp_uniform.proofs.tape.lay_next.Goals as goal
 
 pub lay_here-requires-clause-late : goal.lay_here-requires-clause-late
@@ -38,19 +39,42 @@ lay_over-requires-clause-early c =
     let more = ap (λ w. w - c.args.tape.now.rest) work ∙ ap (λ r. c.args.unit * at c.args.task.now.times.items c.args.job - r) c.requires.rest in
     read_laid _ _ _ _ _ _ c.as_slice-speeds.ensures.value more (can_early c.args.task.now c.requires.task _ _ _ _ _ _ c.requires.taped.1 long)
 
-pub work_in-tape-requires-clause-places : goal.work_in-tape-requires-clause-places
-work_in-tape-requires-clause-places c =
+pub returns-then-work-tape-clause-holds : goal.returns-then-work-tape-clause-holds
+returns-then-work-tape-clause-holds c =
     let work = c.need_of-work.ensures ∙ ap (λ ts. c.args.unit * at ts c.args.job) c.as_slice.ensures.value in
-    let long : amount (rate_at (at c.args.task.now.speeds.items) c.args.tape.now.place) c.args.tape.now.late.items < c.args.unit * at c.args.task.now.times.items c.args.job = omega (arith, work, c.requires.rest, c.if-work-tape.false) in
-    let more = ap (λ w. w - c.args.tape.now.rest) work ∙ ap (λ r. c.args.unit * at c.args.task.now.times.items c.args.job - r) c.requires.rest in
-    subst (λ sp. All (HasPlaces (length sp) false c.lay_over.new.tape.place) c.lay_over.new.tape.late.items) (sym c.as_slice-speeds.ensures.value) (late_places c.args.task.now c.requires.task _ _ _ _ _ (read_over c.args.task.now c.requires.task c.args.job c.args.unit c.args.tape.now.place c.args.tape.now.early.items c.args.tape.now.late.items long _ _ _ _ _ _ c.as_slice-speeds.ensures.value c.requires.rest more c.in_ok-lay_over.ensures _ c.requires.taped.1))
+    held_here c.args.task.now c.requires.task c.args.job _ c.args.unit c.args.tape.now.place c.args.tape.now.early.items c.args.tape.now.late.items c.requires.taped.1 c.args.holds.now c.requires.holds c.lay_here.result _ _ c.lay_here.new.tape.place _ _ c.as_slice-speeds.ensures.value work c.lay_here.ensures.laid c.lay_here.ensures.place
 
-pub work_in-tape-requires-clause-short : goal.work_in-tape-requires-clause-short
-work_in-tape-requires-clause-short c =
+pub bounds-holds-tape : goal.bounds-holds-tape
+bounds-holds-tape c =
     let work = c.need_of-work.ensures ∙ ap (λ ts. c.args.unit * at ts c.args.job) c.as_slice.ensures.value in
     let long : amount (rate_at (at c.args.task.now.speeds.items) c.args.tape.now.place) c.args.tape.now.late.items < c.args.unit * at c.args.task.now.times.items c.args.job = omega (arith, work, c.requires.rest, c.if-work-tape.false) in
     let more = ap (λ w. w - c.args.tape.now.rest) work ∙ ap (λ r. c.args.unit * at c.args.task.now.times.items c.args.job - r) c.requires.rest in
-    late_short c.args.task.now c.requires.task _ _ _ _ _ (read_over c.args.task.now c.requires.task c.args.job c.args.unit c.args.tape.now.place c.args.tape.now.early.items c.args.tape.now.late.items long _ _ _ _ _ _ c.as_slice-speeds.ensures.value c.requires.rest more c.in_ok-lay_over.ensures _ c.requires.taped.1)
+    let held = held_over c.args.task.now c.requires.task c.args.job _ c.args.unit c.args.tape.now.place c.args.tape.now.early.items c.args.tape.now.late.items c.requires.taped.1 long c.args.holds.now c.requires.holds _ _ _ _ _ _ c.as_slice-speeds.ensures.value c.requires.rest more c.in_ok-lay_over.ensures in
+    omega (arith, held.inside)
+
+pub overflow_sub-tape : goal.overflow_sub-tape
+overflow_sub-tape c =
+    let work = c.need_of-work.ensures ∙ ap (λ ts. c.args.unit * at ts c.args.job) c.as_slice.ensures.value in
+    let long : amount (rate_at (at c.args.task.now.speeds.items) c.args.tape.now.place) c.args.tape.now.late.items < c.args.unit * at c.args.task.now.times.items c.args.job = omega (arith, work, c.requires.rest, c.if-work-tape.false) in
+    let more = ap (λ w. w - c.args.tape.now.rest) work ∙ ap (λ r. c.args.unit * at c.args.task.now.times.items c.args.job - r) c.requires.rest in
+    let held = held_over c.args.task.now c.requires.task c.args.job _ c.args.unit c.args.tape.now.place c.args.tape.now.early.items c.args.tape.now.late.items c.requires.taped.1 long c.args.holds.now c.requires.holds _ _ _ _ _ _ c.as_slice-speeds.ensures.value c.requires.rest more c.in_ok-lay_over.ensures in
+    omega (arith, held.rest)
+
+pub returns-clause-holds : goal.returns-clause-holds
+returns-clause-holds c =
+    let work = c.need_of-work.ensures ∙ ap (λ ts. c.args.unit * at ts c.args.job) c.as_slice.ensures.value in
+    let long : amount (rate_at (at c.args.task.now.speeds.items) c.args.tape.now.place) c.args.tape.now.late.items < c.args.unit * at c.args.task.now.times.items c.args.job = omega (arith, work, c.requires.rest, c.if-work-tape.false) in
+    let more = ap (λ w. w - c.args.tape.now.rest) work ∙ ap (λ r. c.args.unit * at c.args.task.now.times.items c.args.job - r) c.requires.rest in
+    let held = held_over c.args.task.now c.requires.task c.args.job _ c.args.unit c.args.tape.now.place c.args.tape.now.early.items c.args.tape.now.late.items c.requires.taped.1 long c.args.holds.now c.requires.holds _ _ _ _ _ _ c.as_slice-speeds.ensures.value c.requires.rest more c.in_ok-lay_over.ensures in
+    held.held
+
+pub returns-clause-rest : goal.returns-clause-rest
+returns-clause-rest c =
+    let work = c.need_of-work.ensures ∙ ap (λ ts. c.args.unit * at ts c.args.job) c.as_slice.ensures.value in
+    let long : amount (rate_at (at c.args.task.now.speeds.items) c.args.tape.now.place) c.args.tape.now.late.items < c.args.unit * at c.args.task.now.times.items c.args.job = omega (arith, work, c.requires.rest, c.if-work-tape.false) in
+    let more = ap (λ w. w - c.args.tape.now.rest) work ∙ ap (λ r. c.args.unit * at c.args.task.now.times.items c.args.job - r) c.requires.rest in
+    let held = held_over c.args.task.now c.requires.task c.args.job _ c.args.unit c.args.tape.now.place c.args.tape.now.early.items c.args.tape.now.late.items c.requires.taped.1 long c.args.holds.now c.requires.holds _ _ _ _ _ _ c.as_slice-speeds.ensures.value c.requires.rest more c.in_ok-lay_over.ensures in
+    omega (arith, held.rest)
 
 pub returns-clause-taped : goal.returns-clause-taped
 returns-clause-taped c left r =
