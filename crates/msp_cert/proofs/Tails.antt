@@ -10,7 +10,7 @@ use Rattle.msp_instance.specs.declared.Instance.{Instance}
 use Rattle.msp_instance.specs.Conditions.{InClass, IsSequence, GoesForward}
 use Rattle.msp_instance.specs.Paths.{HasStep}
 use Rattle.msp_schedule.specs.declared.Frac.{Frac}
-use Rattle.msp_schedule.specs.Levels.{LeadsOut, StepsDown, jobs_from}
+use Rattle.msp_schedule.specs.Levels.{LeadsOut, AreLevels, StepsDown, jobs_from}
 use Rattle.msp_schedule.proofs.lists.ForwardOrders.{each_at, leads_to}
 use Rattle.msp_schedule.proofs.lists.Places.{sum_by-places}
 use Rattle.msp_cert.specs.declared.Proof.TheVariants.{Levels}
@@ -79,21 +79,20 @@ count_one level counts k value l small is h = record { wide = length-set counts 
       | inr (ne, none) ↦ omega (arith, more t, none, h.each t b, get_or-set_other counts (get_or level k 0) t value 0 ne)
     ]
 
--- ---- what levels are worth
-module _ (i : Instance) (level : List ℕ) (c : InClass i) (h : AreAllLevels i level) where
-  step_from : (j m : ℕ) → j < length i.jobs → of_job level j ≡ suc m → (k : ℕ) × (k < length i.jobs) × HasStep i.arcs j k × (of_job level j ≤ of_job level k + 1)
-  step_from j m l e = by (subst (λ n. LeadsOut i.arcs n j) e (h.levels j l).path)
+-- ---- levels step down along arcs, and none is as great as the number of jobs
+module _ (i : Instance) (level : ℕ → ℕ) (c : InClass i) (h : AreLevels i level) where
+  step_from : (j m : ℕ) → j < length i.jobs → level j ≡ suc m → (k : ℕ) × (k < length i.jobs) × HasStep i.arcs j k × (level j ≤ level k + 1)
+  step_from j m l e = by (subst (λ n. LeadsOut i.arcs n j) e (h j l).path)
     where
-      by : (k : ℕ) × HasStep i.arcs j k × LeadsOut i.arcs m k → (k : ℕ) × (k < length i.jobs) × HasStep i.arcs j k × (of_job level j ≤ of_job level k + 1)
+      by : (k : ℕ) × HasStep i.arcs j k × LeadsOut i.arcs m k → (k : ℕ) × (k < length i.jobs) × HasStep i.arcs j k × (level j ≤ level k + 1)
       by (k, step, rest) =
           let inside : k < length i.jobs = (All-contains (λ a. (a.before < length i.jobs) × (a.after < length i.jobs)) i.arcs (record { before = j; after = k }) c.conditions.ends step).1 in
-          let more : m ≤ of_job level k = (h.levels k inside).longest m rest in
+          let more : m ≤ level k = (h k inside).longest m rest in
           (k, inside, step, omega (arith, e, more))
 
-  steps : StepsDown i (of_job level)
-  steps j l some = step_from j (of_job level j - 1) l (omega (arith, some))
+  pub steps_down : StepsDown i level
+  steps_down j l some = step_from j (level j - 1) l (omega (arith, some))
 
-  -- no level is as great as the number of jobs
   beyond : (order : List ℕ) → IsSequence i order → All (GoesForward order) i.arcs → (n p : ℕ) → p < length order → LeadsOut i.arcs n (get_or order p 0) → n + p < length order
   beyond order s forward zero p l out = omega (arith, l)
   beyond order s forward (suc n) p l (k, step, rest) =
@@ -101,12 +100,15 @@ module _ (i : Instance) (level : List ℕ) (c : InClass i) (h : AreAllLevels i l
       let less : n + q < length order = beyond order s forward n q near (subst (LeadsOut i.arcs n) (sym at) rest) in
       omega (arith, less, later)
 
-  pub levels_small : All (λ l. l < length i.jobs) level
-  levels_small j d l =
+  pub level_few : (j : ℕ) → j < length i.jobs → level j < length i.jobs
+  level_few j l =
       let (order, s, forward) = c.acyclic in
-      let inside : j < length i.jobs = omega (arith, l, h.each) in
-      let small : of_job level j < length i.jobs = each_at i order s (λ x. LeadsOut i.arcs (of_job level j) x → of_job level j < length i.jobs) (λ k b out. omega (arith, beyond order s forward (of_job level j) k b out, s.whole)) j inside (h.levels j inside).path in
-      subst (λ x. x < length i.jobs) (get_or_default level j 0 d l) small
+      each_at i order s (λ x. LeadsOut i.arcs (level j) x → level j < length i.jobs) (λ k b out. omega (arith, beyond order s forward (level j) k b out, s.whole)) j l (h j l).path
+
+-- ---- what levels are worth
+module _ (i : Instance) (level : List ℕ) (c : InClass i) (h : AreAllLevels i level) where
+  pub levels_small : All (λ l. l < length i.jobs) level
+  levels_small j d l = subst (λ x. x < length i.jobs) (get_or_default level j 0 d l) (level_few i (of_job level) c h.levels j (omega (arith, l, h.each)))
 
   pub no_tail : (tail : ℕ) → 0 ≡ count_by (nat_le tail) level → IsWorth i (Levels level tail) None
   no_tail tail none = worth_nothing i (Levels level tail) (λ holds. never holds.some)
@@ -116,7 +118,7 @@ module _ (i : Instance) (level : List ℕ) (c : InClass i) (h : AreAllLevels i l
 
   pub tail_is_worth : (tail high value : ℕ) (v : Frac) → HasUnitJobs i → high ≡ count_by (nat_le tail) level → 0 < high → value ≡ tail + (high + (i.machines - 1)) / i.machines → v.num ≡ pos value → v.den ≡ pos 1 → IsWorth i (Levels level tail) (Some v)
   tail_is_worth tail high value v units e some is num den =
-      levels_are_worth i level tail value v (record { units = units; each = h.each; steps = steps; some = reached })
+      levels_are_worth i level tail value v (record { units = units; each = h.each; steps = steps_down i (of_job level) c h.levels; some = reached })
       (is ∙ ap (λ n. tail + (n + (i.machines - 1)) / i.machines) (e ∙ sym (jobs_high i level tail h.each))) num den
     where
       reached : Any (λ l. tail ≤ l) level

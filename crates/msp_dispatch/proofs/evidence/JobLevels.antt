@@ -1,41 +1,22 @@
--- Levels of jobs: how high they can be, and that they show the best cost where it is the greatest bound of a level.
-use Rattle.std.proofs.Common.{◌≡◌, ℕ, suc, ◌+◌, ◌-◌, ◌/◌, ◌<◌, ◌≤◌, List, length, map, pos, count_by, cond, leb, refl, sym, ap, ◌∙◌, subst, arith}
+-- Levels of jobs show the best cost where it is the greatest bound of a level.
+use Rattle.std.proofs.Common.{◌≡◌, ℕ, ◌+◌, ◌-◌, ◌/◌, ◌<◌, ◌≤◌, length, pos, count_by, cond, leb, refl, sym, ap, ◌∙◌, arith}
 use Rattle.std.specs.List.{range_with_len}
 use Rattle.std.proofs.Math.Nat.{div-le_self}
 use Rattle.std.proofs.lemmas.List.{get_or_default}
 use Rattle.std.proofs.lemmas.List.Sums.{count_by-le-length}
-use Rattle.std.proofs.lemmas.List.FromFn.{length-range_with_len, length-map-range_with_len, get_or-map-range_with_len}
-use Rattle.std.proofs.lemmas.List.Elements.{All-contains}
+use Rattle.std.proofs.lemmas.List.FromFn.{length-range_with_len}
 use Rattle.msp_class.proofs.Sums.{total_below-range, total_below-same}
 use Rattle.msp_class.specs.Env.{kind_of}
 use Rattle.msp_instance.specs.declared.Instance.{Instance}
 use Rattle.msp_instance.specs.Conditions.{InClass}
-use Rattle.msp_instance.specs.Paths.{HasStep}
 use Rattle.msp_schedule.specs.declared.Frac.{Frac}
-use Rattle.msp_schedule.specs.Levels.{LeadsOut, IsLevel, AreLevels, StepsDown, jobs_from, level_bound}
+use Rattle.msp_schedule.specs.Levels.{IsLevel, jobs_from, level_bound}
 use Rattle.msp_cert.specs.declared.Proof.TheVariants.{Levels}
 use Rattle.msp_cert.specs.Certificates.{HasUnitJobs, of_job}
-use Rattle.msp_cert.specs.Search.{AreAllLevels}
-use Rattle.msp_cert.proofs.Tails.{levels_small}
+use Rattle.msp_cert.proofs.Tails.{steps_down, level_few}
 use Rattle.msp_levels.specs.Levels.{levels_class, IsLevelCost}
 use Rattle.msp_dispatch.specs.Shown.{IsTriedValue}
 use Rattle.msp_dispatch.proofs.evidence.Tried.{tried-levels}
-
--- ---- no level is as great as the number of jobs
-pub level_few : (i : Instance) (level : ℕ → ℕ) → InClass i → AreLevels i level → (j : ℕ) → j < length i.jobs → level j < length i.jobs
-level_few i level c are j l = subst (λ x. x < length i.jobs) (at j l) (levels_small i levels c all j 0 (omega (arith, l, long)))
-  where
-    levels : List ℕ
-    levels = map level (range_with_len 0 (length i.jobs))
-
-    long : length levels ≡ length i.jobs
-    long = length-map-range_with_len level 0 (length i.jobs)
-
-    at : (k : ℕ) → k < length i.jobs → of_job levels k ≡ level k
-    at k b = get_or-map-range_with_len level 0 (length i.jobs) k k 0 b (omega arith)
-
-    all : AreAllLevels i levels
-    all = record { each = long; levels = λ k b. subst (IsLevel i.arcs k) (sym (at k b)) (are k b) }
 
 -- ---- a job has one level
 pub level_same : (i : Instance) (j a b : ℕ) → IsLevel i.arcs j a → IsLevel i.arcs j b → a ≡ b
@@ -50,16 +31,7 @@ count_same n f g t e =
 pub level_bound-same : (i : Instance) (f g : ℕ → ℕ) (t : ℕ) → ((j : ℕ) → j < length i.jobs → f j ≡ g j) → level_bound i f t ≡ level_bound i g t
 level_bound-same i f g t e = ap (λ n. t + (n + (i.machines - 1)) / i.machines) (count_same (length i.jobs) f g t e)
 
--- ---- levels step down along arcs
-pub StepsDown-levels : (i : Instance) (level : ℕ → ℕ) → InClass i → AreLevels i level → StepsDown i level
-StepsDown-levels i level c h j l some = by (level j - 1) (omega (arith, some))
-  where
-    by : (n : ℕ) → level j ≡ suc n → (k : ℕ) × (k < length i.jobs) × HasStep i.arcs j k × (level j ≤ level k + 1)
-    by n is =
-        let (k, step, rest) = subst (λ m. LeadsOut i.arcs m j) is (h j l).path in
-        let inside = (All-contains (λ a. (a.before < length i.jobs) × (a.after < length i.jobs)) i.arcs (record { before = j; after = k }) c.conditions.ends step).1 in
-        (k, inside, step, omega (arith, is, (h k inside).longest n rest))
-
+-- ---- an instance of the class
 module _ (i : Instance) (c : InClass i) (class : i.class ≡ levels_class) (cost : Frac) where
   units : HasUnitJobs i
   units = record {
@@ -93,7 +65,7 @@ module _ (i : Instance) (c : InClass i) (class : i.class ≡ levels_class) (cost
               record {
                 units = units;
                 each = all.each;
-                steps = StepsDown-levels i (of_job levels) c all.levels;
+                steps = steps_down i (of_job levels) c all.levels;
                 some = (j, of_job levels j, omega (arith, l, all.each), get_or_default levels j (of_job levels j) 0 (omega (arith, l, all.each)), omega (arith, same j l));
               },
               (ap pos (sym e ∙ level_bound-same i level (of_job levels) (level j) same), refl),
