@@ -1,5 +1,6 @@
 // Which class of the list an instance is led to, and by which rows.
 ghost use Rattle.std.specs.Prelude.{◌≡◌, ◌↔◌, length, slice_get, Some, IfOk, IfErr, IfSome, IfNone, IsTrue, Contains};
+ghost use Rattle.msp_class.specs.declared.class.Class.{Class as ClassValue};
 ghost use Rattle.msp_class.specs.declared.ranks.TheConstants.{CLASSES};
 ghost use Rattle.msp_table.specs.Rows.{carries};
 ghost use Rattle.msp_table.specs.Chains.{Reaches};
@@ -30,10 +31,9 @@ fn pick_at(alloc: Global, from: Class, place: u32) -> Result<Option<Pick>, NoMem
 {
     match entry_at(place) {
         None => Ok(None),
-        Some(entry) => match route_to(alloc, from, entry.class) {
-            Err(_) => Err(NoMemory),
-            Ok(None) => Ok(None),
-            Ok(Some(chain)) => Ok(Some(Pick { entry, chain })),
+        Some(entry) => match route_to(alloc, from, entry.class)? {
+            None => Ok(None),
+            Some(chain) => Ok(Some(Pick { entry, chain })),
         },
     }
 }
@@ -92,23 +92,29 @@ fn place_of(class: Class) -> Option<u32>
     None
 }
 
-/// The pick of the first class of the list to which a chain leads.
+/// The pick of the first class of the list to which a chain leads. None comes exactly where no chain leads to any of them.
+fn first_reached(alloc: Global, from: Class) -> Result<Option<Pick>, NoMemory>
+    ensures pick { IfOk result (λ found. IfSome found (IsPick from None)) }
+    ensures none { IfOk result (λ found. IfNone found ((target : ClassValue) → Contains solved_classes target → ¬ Reaches carries from target)) }
+{
+    let marks = reached(alloc, from)?;
+    for place in 0..SOLVED {
+        if let Some(pick) = pick_marked(alloc, &marks, from, place)? {
+            return Ok(Some(pick));
+        }
+    }
+    Ok(None)
+}
+
+/// The same, and the fault where there is none.
 fn first_pick(alloc: Global, from: Class) -> Result<Pick, Cannot>
     ensures pick { IfOk result (IsPick from None) }
     ensures fault { IfErr result (HasNoTarget from None) }
 {
-    let marks = match reached(alloc, from) {
-        Ok(marks) => marks,
-        Err(_) => return Err(Cannot::Memory),
-    };
-    for place in 0..SOLVED {
-        match pick_marked(alloc, &marks, from, place) {
-            Err(_) => return Err(Cannot::Memory),
-            Ok(Some(pick)) => return Ok(pick),
-            Ok(None) => (),
-        }
+    match first_reached(alloc, from)? {
+        None => Err(Cannot::NoSolver { class: from }),
+        Some(pick) => Ok(pick),
     }
-    Err(Cannot::NoSolver { class: from })
 }
 
 /// The pick of the class that is asked for.
@@ -118,10 +124,9 @@ fn given_pick(alloc: Global, from: Class, at: Class) -> Result<Pick, Cannot>
 {
     match place_of(at) {
         None => Err(Cannot::NotSolved { class: at }),
-        Some(place) => match pick_at(alloc, from, place) {
-            Err(_) => Err(Cannot::Memory),
-            Ok(None) => Err(Cannot::NoRoute { from, to: at }),
-            Ok(Some(pick)) => Ok(pick),
+        Some(place) => match pick_at(alloc, from, place)? {
+            None => Err(Cannot::NoRoute { from, to: at }),
+            Some(pick) => Ok(pick),
         },
     }
 }

@@ -40,10 +40,8 @@ fn meet(met: &mut Vec<Class>, marks: &mut Vec<bool>, class: Class) -> Result<(),
         return Ok(());
     }
     marks[rank(class) as usize] = true;
-    match met.push(class) {
-        Ok(()) => Ok(()),
-        Err(_) => Err(NoMemory),
-    }
+    met.push(class)?;
+    Ok(())
 }
 
 /// The class to which the row leads, where it carries instances and applies.
