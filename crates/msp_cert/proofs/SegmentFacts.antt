@@ -18,7 +18,7 @@ flat_next lists k d old new t e h =
     e ∙ ap (λ l. l ++ get_or lists k d) h
     ∙ sym (ap (flat_map (λ js. js)) (take_more lists k d t) ∙ flat_map-append (λ js. js) (take k lists) (get_or lists k d ∷ []) ∙ ap (λ l. flat_map (λ js. js) (take k lists) ++ l) (append-nil (get_or lists k d)))
 
-flat_inside : (n : ℕ) (lists : List (List ℕ)) → All (λ js. All (λ j. j < n) js) lists → All (λ j. j < n) (flat_map (λ js. js) lists)
+pub flat_inside : (n : ℕ) (lists : List (List ℕ)) → All (λ js. All (λ j. j < n) js) lists → All (λ j. j < n) (flat_map (λ js. js) lists)
 flat_inside n [] h = All-nil (λ j. j < n)
 flat_inside n (js ∷ rest) h = All-append (λ j. j < n) js (flat_map (λ js. js) rest) (All-head (λ js. All (λ j. j < n) js) js rest h) (flat_inside n rest (All-tail (λ js. All (λ j. j < n) js) js rest h))
 

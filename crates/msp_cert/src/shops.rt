@@ -1,5 +1,5 @@
 // Machines and jobs of shops.
-ghost use Rattle.std.specs.Prelude.{◌↔◌, ◌<◌, length, IsTrue, IfSome};
+ghost use Rattle.std.specs.Prelude.{◌↔◌, IsTrue, IfSome};
 ghost use Rattle.msp_instance.specs.Conditions.{InClass};
 ghost use Rattle.msp_schedule.specs.Fraction.{IsComparable};
 ghost use Rattle.msp_cert.specs.declared.Proof.TheVariants.{Machine, Line};

@@ -1,5 +1,5 @@
 // Whether an instance fits the solver at the end of a chain.
-ghost use Rattle.std.specs.Prelude.{◌≡◌, ◌↔◌, IfOk, IsTrue};
+ghost use Rattle.std.specs.Prelude.{◌↔◌, IfOk, IsTrue};
 ghost use Rattle.msp_instance.specs.Conditions.{Inner};
 ghost use Rattle.msp_carry.specs.Carried.{carried, IsChainTo};
 ghost use Rattle.msp_dispatch.specs.Pick.{IsLedTo};

@@ -1,11 +1,10 @@
 -- Segments, a block and prices of best cost, as certificates.
-use Rattle.std.proofs.Common.{◌≡◌, ◌≢◌, ℕ, zero, suc, ◌+◌, ◌*◌, ◌-◌, ◌/◌, ◌^◌, ◌<◌, ◌≤◌, List, [], ◌∷◌, length, get_or, map, All, AllPairs, sum_by, ℤ, pos, negsuc, unsigned_abs, refl, sym, ap, subst, arith}
+use Rattle.std.proofs.Common.{◌≡◌, ◌≢◌, ℕ, zero, suc, ◌+◌, ◌*◌, ◌-◌, ◌/◌, ◌^◌, ◌<◌, ◌≤◌, List, length, get_or, map, All, AllPairs, sum_by, ℤ, pos, negsuc, unsigned_abs, refl, sym, ap, subst, arith}
 use Rattle.std.specs.List.{flat_map, range_with_len}
 use Rattle.std.proofs.Math.Nat.{div-le_self}
 use Rattle.std.proofs.lemmas.Int.{ints}
 use Rattle.std.proofs.lemmas.Nat.{mul-le}
 use Rattle.std.proofs.lemmas.List.{get_or_default}
-use Rattle.std.proofs.lemmas.List.Elements.{All-nil, All-head, All-tail, All-append}
 use Rattle.std.proofs.lemmas.List.Concat.{length-flat_map}
 use Rattle.msp_class.specs.declared.environments.EnvKind.TheVariants.{Unrelated}
 use Rattle.msp_class.specs.Env.{kind_of}
@@ -29,8 +28,10 @@ use Rattle.msp_assign.specs.declared.assignment.Assignment.{Assignment}
 use Rattle.msp_cert.specs.declared.Proof.{Proof}
 use Rattle.msp_cert.specs.declared.Proof.TheVariants.{Segments, Block, Prices}
 use Rattle.msp_cert.specs.Certificates.{HoldsFor, IsValue}
+use Rattle.msp_cert.specs.declared.limits.TheConstants.{GREATEST_PRICE, MOST_ENTRIES}
 use Rattle.msp_cert.proofs.BlockFacts.{own_cost_within}
 use Rattle.msp_cert.proofs.Facts.{small_needs}
+use Rattle.msp_cert.proofs.SegmentFacts.{flat_inside}
 use Rattle.msp_blocks.specs.Blocks.{blocks_class, greatest_head, IsBestCost}
 use Rattle.msp_lexical.specs.Lexical.{lexical_class, IsLeastCost}
 use Rattle.msp_total.specs.Classes.{unrelated_class}
@@ -56,10 +57,6 @@ natural_within : (n : ℕ) → n ≤ 1000000 → LiesWithin (10 ^ 23) (pos n)
 natural_within n l = (omega (arith, ints), omega (arith, ints, l))
 
 -- ---- segments
-flat_inside : (n : ℕ) (lists : List (List ℕ)) → All (λ js. All (λ j. j < n) js) lists → All (λ j. j < n) (flat_map (λ js. js) lists)
-flat_inside n [] h = All-nil (λ j. j < n)
-flat_inside n (js ∷ rest) h = All-append (λ j. j < n) js (flat_map (λ js. js) rest) (All-head (λ js. All (λ j. j < n) js) js rest h) (flat_inside n rest (All-tail (λ js. All (λ j. j < n) js) js rest h))
-
 module _ (i : Instance) (c : InClass i) (class : i.class ≡ lexical_class) (s : Solution) (best : IsBest i s) (lists : List (List ℕ)) (are : AreSegments i lists) (least : IsLeastCost i (segments_bound i lists)) where
   jobs_few : sum_by length lists ≤ 400
   jobs_few = omega (arith, few_apart i (flat_map (λ js. js) lists) c (flat_inside (length i.jobs) lists are.inside) are.apart, length-flat_map (λ (js : List ℕ). js) lists)
@@ -158,10 +155,10 @@ module _ (i : Instance) (c : InClass i) (class : i.class ≡ unrelated_class) (s
       let k = columns_together in
       (omega (arith, ints, r.0, k.0, c.conditions.few, c.conditions.machines.1), omega (arith, ints, r.1, k.1, c.conditions.few, c.conditions.machines.1))
 
-  widen : (x : ℤ) → LiesWithin 400000000000 x → LiesWithin (10 ^ 15) x
+  widen : (x : ℤ) → LiesWithin 400000000000 x → LiesWithin GREATEST_PRICE x
   widen x h = (omega (arith, ints, h.0), omega (arith, ints, h.1))
 
-  entries_few : length a.row_price + length a.column_price ≤ 20000
+  entries_few : length a.row_price + length a.column_price ≤ MOST_ENTRIES
   entries_few =
       let p : length i.jobs * i.machines ≤ 400 * 32 = mul-le (length i.jobs) i.machines 400 32 c.conditions.few c.conditions.machines.1 in
       omega (arith, p, are.rows, are.columns, c.conditions.few)
@@ -184,8 +181,8 @@ module _ (i : Instance) (c : InClass i) (class : i.class ≡ unrelated_class) (s
       limits = record {
         few = entries_few;
         small = (
-          λ k d l. subst (LiesWithin (10 ^ 15)) (get_or_default a.row_price k (pos 0) d l) (widen _ (row_within k (omega (arith, l, are.rows)))),
-          λ k d l. subst (LiesWithin (10 ^ 15)) (get_or_default a.column_price k (pos 0) d l) (widen _ (column_within k (omega (arith, l, are.columns)))),
+          λ k d l. subst (LiesWithin GREATEST_PRICE) (get_or_default a.row_price k (pos 0) d l) (widen _ (row_within k (omega (arith, l, are.rows)))),
+          λ k d l. subst (LiesWithin GREATEST_PRICE) (get_or_default a.column_price k (pos 0) d l) (widen _ (column_within k (omega (arith, l, are.columns)))),
         );
       };
       levels = tt;
