@@ -2,8 +2,8 @@
 use Rattle.std.proofs.Common.{◌≡◌, ◌≢◌, ℕ, ◌+◌, ◌-◌, ◌<◌, ◌≤◌, ◌⊎◌, inl, inr, eqb, Bool, true, false, not, IsTrue, List, [], ◌∷◌, ◌++◌, length, get_or, set, All, Some, refl, sym, ap, subst, ◌∙◌, length-append, append_assoc, append-nil, eqb-true, eq-eqb, arith}
 use Rattle.std.specs.Prelude.{Contains, cond}
 use Rattle.std.proofs.lemmas.Bool.{cases_lt}
-use Rattle.std.proofs.lemmas.List.{length-set, get_or-set_same, get_or-set_other, get_or_append_left, get_or-append-add, get_or_default}
-use Rattle.std.proofs.lemmas.List.Elements.{All-nil, All-cons, All-append}
+use Rattle.std.proofs.lemmas.List.{length-set, get_or-set_same, get_or-set_other, get_or_append_left, get_or_default}
+use Rattle.std.proofs.lemmas.List.Elements.{All-nil, All-cons, All-append, Contains-append_left, Contains-append_right}
 use Rattle.std.proofs.lemmas.List.Sums.{sum_by-set}
 use Rattle.msp_class.proofs.Sums.{cond-yes}
 use Rattle.msp_class.specs.declared.class.Class.{Class}
@@ -15,13 +15,6 @@ use Rattle.msp_table.specs.Rows.{carries, goes_of}
 use Rattle.msp_table.specs.Chains.{Leads, stay, step, Reaches}
 use Rattle.msp_table.proofs.RowLemmas.{goes_of-numbered}
 use Rattle.msp_dispatch.specs.Reached.{is_marked, Steps, unset, Grows, IsFollowed, IsSearch, AreReached}
-
--- ---- lists
-contains_front : (xs ys : List Class) (c : Class) → Contains xs c → Contains (xs ++ ys) c
-contains_front xs ys c (k, l, e) = (k, omega (arith, l, length-append xs ys), get_or_append_left xs ys c k l ∙ e)
-
-contains_back : (xs ys : List Class) (c : Class) → Contains ys c → Contains (xs ++ ys) c
-contains_back xs ys c (k, l, e) = (length xs + k, omega (arith, l, length-append xs ys), get_or-append-add xs ys k c ∙ e)
 
 -- ---- one class
 pub grows_none : (P : Class → Type 0) (met : List Class) (marks : List Bool) → length marks ≡ CLASSES → Grows P met marks met marks
@@ -95,11 +88,11 @@ grows_on P met met_then met_after marks marks_then marks_after g h = record {
       where
         earlier : (is_marked marks c ≡ true) ⊎ Contains g.behind c → (is_marked marks c ≡ true) ⊎ Contains (g.behind ++ h.behind) c
         earlier (inl a) = inl a
-        earlier (inr b) = inr (contains_front g.behind h.behind c b)
+        earlier (inr b) = inr (Contains-append_left g.behind h.behind c b)
 
         by : (is_marked marks_then c ≡ true) ⊎ Contains h.behind c → (is_marked marks c ≡ true) ⊎ Contains (g.behind ++ h.behind) c
         by (inl a) = earlier (g.fresh c a)
-        by (inr b) = inr (contains_back g.behind h.behind c b)
+        by (inr b) = inr (Contains-append_right g.behind h.behind c b)
 
 -- a further row is followed
 pub followed_more : (a : Class) (n : ℕ) (marks marks_after : List Bool) → ((c : Class) → is_marked marks c ≡ true → is_marked marks_after c ≡ true) → IsFollowed a n marks
@@ -152,8 +145,8 @@ search_next from met marks done class met_after marks_after l at h g f = record 
     known c m = subst (λ xs. Contains xs c) (sym g.front) (by (g.fresh c m))
       where
         by : (is_marked marks c ≡ true) ⊎ Contains g.behind c → Contains (met ++ g.behind) c
-        by (inl a) = contains_front met g.behind c (h.known c a)
-        by (inr b) = contains_back met g.behind c b
+        by (inl a) = Contains-append_left met g.behind c (h.known c a)
+        by (inr b) = Contains-append_right met g.behind c b
 
     read : (j : ℕ) (d : Class) → j < length met → get_or met_after j d ≡ get_or met j d
     read j d m = ap (λ xs. get_or xs j d) g.front ∙ get_or_append_left met g.behind d j m
