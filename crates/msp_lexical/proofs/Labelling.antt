@@ -15,6 +15,8 @@ use Rattle.msp_schedule.specs.Blocks.{HasNoSuccessor}
 use Rattle.msp_schedule.proofs.feasible.Series.{AllPairs-append}
 use Rattle.msp_schedule.proofs.lists.Permuted.{AllPairs-permutation}
 use Rattle.msp_lexical.specs.Steps.{HasSuccessor, Outranks, AreLabels, IsLabelling}
+use Rattle.msp_lexical.specs.Counts.{arcs_into}
+use Rattle.msp_lexical.proofs.Counts.{free_from_none, successor_from_some}
 
 -- ---- along paths
 module _ (i : Instance) (ends : All (λ a. (a.before < length i.jobs) × (a.after < length i.jobs)) i.arcs) where
@@ -68,8 +70,8 @@ module _ (i : Instance) (leads : ℕ → ℕ → Bool) (shows : Shows i leads) (
     small : count < 400
     small = omega (arith, h.size, l, few)
 
-    all : IsPermutation left (job ∷ parted)
-    all = IsPermutation-trans left (job ∷ rest) (job ∷ parted) (IsPermutation-remove left place job l is) (IsPermutation-cons job rest parted (IsPermutation-filter_both stays rises other rest))
+    pub leaves : IsPermutation left (job ∷ parted)
+    leaves = IsPermutation-trans left (job ∷ rest) (job ∷ parted) (IsPermutation-remove left place job l is) (IsPermutation-cons job rest parted (IsPermutation-filter_both stays rises other rest))
       where
         other : (j : ℕ) → rises j ≡ not (stays j)
         other j = twice (leads j job)
@@ -79,23 +81,23 @@ module _ (i : Instance) (leads : ℕ → ℕ → Bool) (shows : Shows i leads) (
             twice false = refl
 
     distinct_all : AllPairs (λ j k. j ≢ k) (job ∷ parted)
-    distinct_all = AllPairs-permutation (λ j k. j ≢ k) (λ j k differ e. differ (sym e)) left (job ∷ parted) all h.once
+    distinct_all = AllPairs-permutation (λ j k. j ≢ k) (λ j k differ e. differ (sym e)) left (job ∷ parted) leaves h.once
 
     from_parted : (j : ℕ) → Contains parted j → Contains left j × (j ≢ job)
-    from_parted j c = (Contains-permutation (job ∷ parted) left j (IsPermutation-sym left (job ∷ parted) all) (later c), λ e. All-contains (λ k. job ≢ k) parted j (AllPairs-head (λ j k. j ≢ k) job parted distinct_all) c (sym e))
+    from_parted j c = (Contains-permutation (job ∷ parted) left j (IsPermutation-sym left (job ∷ parted) leaves) (later c), λ e. All-contains (λ k. job ≢ k) parted j (AllPairs-head (λ j k. j ≢ k) job parted distinct_all) c (sym e))
       where
         later : Contains parted j → Contains (job ∷ parted) j
         later (k, b, e) = (suc k, omega (arith, b), e)
 
     to_parted : (j : ℕ) → j ≢ job → Contains left j → Contains parted j
-    to_parted j differ c = by (Contains-permutation left (job ∷ parted) j all c)
+    to_parted j differ c = by (Contains-permutation left (job ∷ parted) j leaves c)
       where
         by : Contains (job ∷ parted) j → Contains parted j
         by (zero, b, e) = absurd (differ (sym e))
         by (suc k, b, e) = (k, omega (arith, b), e)
 
     pub size_next : count + 1 + length parted ≡ n
-    size_next = let s = length_permutation left (job ∷ parted) all in omega (arith, s, h.size)
+    size_next = let s = length_permutation left (job ∷ parted) leaves in omega (arith, s, h.size)
 
     -- a job that has its label is another one
     old : (j : ℕ) → label j < count → (j ≢ job) × (next j ≡ label j)
@@ -269,7 +271,7 @@ module _ (i : Instance) (leads : ℕ → ℕ → Bool) (shows : Shows i leads) (
     }
 
     pub fewer_left : length parted < length left
-    fewer_left = omega (arith, length_permutation left (job ∷ parted) all)
+    fewer_left = omega (arith, length_permutation left (job ∷ parted) leaves)
 
   -- ---- no label, and all labels
   pub IsLabelling-start : (label : ℕ → ℕ) (left : List ℕ) → ((j : ℕ) → j < n → label j ≡ 400) → left ≡ range_with_len 0 n → IsLabelling i leads 0 label left
@@ -301,30 +303,41 @@ module _ (i : Instance) (leads : ℕ → ℕ → Bool) (shows : Shows i leads) (
       all j b = elim (h.each j b) [ inl q ↦ let (k, c, e) = q.0 in absurd (omega (arith, c, none)) | inr q ↦ omega (arith, q, whole) ]
 
 -- ---- one label more, at the lists as the code passes them
-pub record IsLabelled (i : Instance) (leads : ℕ → ℕ → Bool) (count : ℕ) (labels : List ℕ) (left new : List ℕ) : Type 0 where
+pub record IsLabelled (i : Instance) (leads : ℕ → ℕ → Bool) (count : ℕ) (labels : List ℕ) (job : ℕ) (left new : List ℕ) : Type 0 where
   pub next : IsLabelling i leads (count + 1) (slice_index labels) new
+  pub leaves : IsPermutation left (job ∷ new)
   pub fewer : length new < length left
 
 pub labelled : (i : Instance) (leads : ℕ → ℕ → Bool) → Shows i leads → All (λ a. (a.before < length i.jobs) × (a.after < length i.jobs)) i.arcs → IsAcyclic i → length i.jobs ≤ 400
-    → (count : ℕ) (labels left shown after shown_after new : List ℕ) (place job : ℕ) → IsLabelling i leads count (slice_index labels) left → length labels ≡ 400 → shown ≡ left → place < length shown → HasNoSuccessor i shown (get_or shown place 0)
-    → ((q : ℕ) → q < place → HasSuccessor i shown (get_or shown q 0)) → job ≡ get_or left place job → after ≡ remove left place → shown_after ≡ after → new ≡ filter (λ j. not (leads j job)) shown_after ++ filter (λ j. leads j job) shown_after
-    → IsLabelled i leads count (set labels job count) left new
-labelled i leads shows ends acyclic few count labels left shown after shown_after new place job h long e l free waits is f g new_is = record {
+    → (count : ℕ) (labels counts left shown after new : List ℕ) (place job : ℕ) → IsLabelling i leads count (slice_index labels) left → length labels ≡ 400 → ((j : ℕ) → j < 400 → slice_index counts j ≡ arcs_into i.arcs left j)
+    → shown ≡ left → place < length shown → slice_index counts (get_or shown place 0) ≡ 0 → ((q : ℕ) → q < place → 0 < slice_index counts (get_or shown q 0))
+    → job ≡ get_or left place job → after ≡ remove left place → new ≡ filter (λ j. not (leads j job)) after ++ filter (λ j. leads j job) after
+    → IsLabelled i leads count (set labels job count) job left new
+labelled i leads shows ends acyclic few count labels counts left shown after new place job h long counted e l free waits is f new_is = record {
   next = subst (IsLabelling i leads (count + 1) (slice_index (set labels job count))) (sym all) (IsLabelling-next i leads shows ends acyclic few count (slice_index labels) (slice_index (set labels job count)) left place job h in_left is here_free here_waits given kept);
+  leaves = subst (λ xs. IsPermutation left (job ∷ xs)) (sym all) (leaves i leads shows ends acyclic few count (slice_index labels) (slice_index (set labels job count)) left place job h in_left is here_free here_waits given kept);
   fewer = subst (λ xs. length xs < length left) (sym all) (fewer_left i leads shows ends acyclic few count (slice_index labels) (slice_index (set labels job count)) left place job h in_left is here_free here_waits given kept);
 }
   where
     in_left : place < length left
     in_left = omega (arith, l, ap length e)
 
+    inside : (q : ℕ) → q < length left → get_or left q 0 < 400
+    inside q b = omega (arith, (h.inside q 0 b).0, few)
+
+    same : get_or shown place 0 ≡ job
+    same = ap (λ xs. get_or xs place 0) e ∙ get_or_default left place 0 job in_left ∙ sym is
+
     small : job < 400
-    small = let in_jobs = All-contains (λ j. (j < length i.jobs) × (slice_index labels j ≡ 400)) left job h.inside (place, in_left, sym is) in omega (arith, in_jobs.0, few)
+    small = subst (λ j. j < 400) (ap (λ xs. get_or xs place 0) (sym e) ∙ same) (inside place in_left)
 
     here_free : HasNoSuccessor i left job
-    here_free = subst₂ (HasNoSuccessor i) e (ap (λ xs. get_or xs place 0) e ∙ get_or_default left place 0 job in_left ∙ sym is) free
+    here_free = free_from_none i left job (sym (counted job small) ∙ ap (slice_index counts) (sym same) ∙ free)
 
     here_waits : (q : ℕ) → q < place → HasSuccessor i left (get_or left q 0)
-    here_waits q b = subst (λ xs. HasSuccessor i xs (get_or xs q 0)) e (waits q b)
+    here_waits q b =
+        let early : q < length left = omega (arith, b, in_left) in
+        successor_from_some i left (get_or left q 0) (subst (λ m. 0 < m) (counted (get_or left q 0) (inside q early)) (subst (λ xs. 0 < slice_index counts (get_or xs q 0)) e (waits q b)))
 
     given : slice_index (set labels job count) job ≡ count
     given = get_or-set_same labels job count 0 (omega (arith, small, long))
@@ -333,4 +346,4 @@ labelled i leads shows ends acyclic few count labels left shown after shown_afte
     kept j differ = get_or-set_other labels job j count 0 differ
 
     all : new ≡ filter (λ j. not (leads j job)) (remove left place) ++ filter (λ j. leads j job) (remove left place)
-    all = new_is ∙ ap (λ xs. filter (λ j. not (leads j job)) xs ++ filter (λ j. leads j job) xs) (g ∙ f)
+    all = new_is ∙ ap (λ xs. filter (λ j. not (leads j job)) xs ++ filter (λ j. leads j job) xs) f

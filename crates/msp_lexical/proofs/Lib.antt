@@ -1,7 +1,7 @@
 mod TwoRows
 mod Labelling
 mod Cuts
-mod Free
+mod Counts
 mod Seats
 mod LexicalBest
 mod TopSteps

@@ -1,3 +1,4 @@
 pub mod Lexical
 pub mod Steps
 pub mod Slots
+pub mod Counts

@@ -1,39 +1,33 @@
 // The labels of the jobs.
-ghost use Rattle.std.specs.Prelude.{◌≡◌, ◌++◌, ℕ, ◌<◌, ◌≤◌, not, length, filter, slice_index, All, IfOk, IsPermutation, OnOk, ◌∷◌, [], if◌then◌else◌};
-ghost use Rattle.std.specs.List.{range_with_len};
-ghost use Rattle.std.specs.List.Sorted.{IsNonDecreasingBy};
+ghost use Rattle.std.specs.Prelude.{◌≡◌, ◌++◌, ℕ, ◌<◌, ◌≤◌, not, length, filter, slice_index, All, Any, IfOk, OnOk, ◌∷◌, [], if◌then◌else◌};
 ghost use Rattle.msp_instance.specs.declared.ranges.TheConstants.{MOST_JOBS};
 ghost use Rattle.msp_instance.specs.Conditions.{Inner};
-ghost use Rattle.msp_schedule.specs.Blocks.{HasNoSuccessor};
 ghost use Rattle.msp_instance.specs.Paths.{leads, ShowsPaths};
-ghost use Rattle.msp_lexical.specs.Steps.{HasSuccessor, AreLabels, HasLabels};
+ghost use Rattle.msp_lexical.specs.Steps.{AreLabels, HasLabels};
 
+use crate::links::{leaving_counts, links_of, release};
 use msp_class::NoMemory;
-use msp_instance::{Arc, Instance, MOST_JOBS, Paths, arcs_by_before};
-use msp_schedule::{leads_to_marked, marks_of};
+use msp_instance::{Instance, MOST_JOBS, Paths};
+use msp_schedule::all_jobs;
 use std::alloc::Global;
 
-/// The place of the first job left from which no arc leads to another, with the arcs by their jobs before.
-fn first_free(inst: &Instance, sorted: &[Arc], left: &[u32]) -> usize
-    requires inner { Inner inst.now }
-    requires same { IsPermutation inst.now.arcs sorted.now }
-    requires sorted { IsNonDecreasingBy (λ a. a.before) sorted.now }
-    requires some { 0 < length left.now }
-    requires inside { All (λ j. j < length inst.now.jobs) left.now }
+/// The place of the first job left from which no arc leads to another, by how many lead to one from each job.
+fn first_free(counts: &[usize; MOST_JOBS], left: &[u32]) -> usize
+    requires inside { All (λ j. j < MOST_JOBS) left.now }
+    requires some { Any (λ j. slice_index counts.now j ≡ 0) left.now }
     ensures place { result < length left.now }
-    ensures free { HasNoSuccessor inst.now left.now (slice_index left.now result) }
-    ensures waits { (q : ℕ) → q < result → HasSuccessor inst.now left.now (slice_index left.now q) }
+    ensures free { slice_index counts.now (slice_index left.now result) ≡ 0 }
+    ensures waits { (q : ℕ) → q < result → 0 < slice_index counts.now (slice_index left.now q) }
 {
-    let is_left = marks_of(left);
     for place in 0..left.len() {
-        if !leads_to_marked(sorted, &is_left, left[place]) {
+        if counts[left[place] as usize] == 0 {
             return place;
         }
     }
     unreachable!()
 }
 
-/// The jobs without a label, in two parts.
+/// The jobs left in two parts, each in their order: those that do not lead to a job, and those that do. Each round uses the two lists again.
 #[derive(Drop)]
 struct Parts {
     stay: Vec<u32>,
@@ -54,33 +48,28 @@ fn put(parts: &mut Parts, job: u32, rises: bool) -> Result<(), NoMemory>
     Ok(())
 }
 
-/// The jobs left by the labels to which they lead: those that lead to the job of the greatest label so far come after the others.
-fn parted(alloc: Global, left: &[u32], paths: &Paths, job: u32) -> Result<Vec<u32>, NoMemory>
-    ensures { IfOk result (λ all. all.items ≡ filter (λ j. not (leads paths.now j job)) left.now ++ filter (λ j. leads paths.now j job) left.now) }
+/// Parts the jobs left by whether they lead to the job.
+fn part(parts: &mut Parts, left: &[u32], paths: &Paths, job: u32) -> Result<(), NoMemory>
+    ensures stay { OnOk result (parts.new.stay.items ≡ filter (λ j. not (leads paths.now j job)) left.now) }
+    ensures rise { OnOk result (parts.new.rise.items ≡ filter (λ j. leads paths.now j job) left.now) }
 {
-    let mut parts = Parts {
-        stay: Vec::new(alloc),
-        rise: Vec::new(alloc),
-    };
+    parts.stay.clear();
+    parts.rise.clear();
     for other in left {
-        put(&mut parts, *other, paths.leads(*other, job))?;
+        put(parts, *other, paths.leads(*other, job))?;
     }
-    let Parts { stay, rise } = parts;
-    let mut all = stay;
-    all.extend_from_slice(rise.as_slice())?;
-    Ok(all)
+    Ok(())
 }
 
-/// All jobs, in order of number.
-fn all_jobs(alloc: Global, count: usize) -> Result<Vec<u32>, NoMemory>
-    requires { count ≤ MOST_JOBS }
-    ensures { IfOk result (λ all. all.items ≡ range_with_len 0 count) }
+/// Puts the jobs left that lead to the job of the greatest label so far after the others, and keeps the order of both.
+fn reorder(parts: &mut Parts, left: &mut Vec<u32>, paths: &Paths, job: u32) -> Result<(), NoMemory>
+    ensures { OnOk result (left.new.items ≡ filter (λ j. not (leads paths.now j job)) left.old.items ++ filter (λ j. leads paths.now j job) left.old.items) }
 {
-    let mut all = Vec::new(alloc);
-    for job in 0..count as u32 {
-        all.push(job)?;
-    }
-    Ok(all)
+    part(parts, left.as_slice(), paths, job)?;
+    left.clear();
+    left.extend_from_slice(parts.stay.as_slice())?;
+    left.extend_from_slice(parts.rise.as_slice())?;
+    Ok(())
 }
 
 fn no_labels() -> [u32; MOST_JOBS]
@@ -101,14 +90,21 @@ fn labels_by_paths(
     requires paths { ShowsPaths inst.now paths.now }
     ensures { IfOk result (λ labels. AreLabels inst.now (leads paths.now) (slice_index labels)) }
 {
-    let sorted = arcs_by_before(alloc, inst.arcs.as_slice())?;
+    let arcs = inst.arcs.as_slice();
+    let links = links_of(alloc, arcs)?;
+    let mut counts = leaving_counts(arcs);
     let mut labels = no_labels();
     let mut left = all_jobs(alloc, inst.jobs.len())?;
+    let mut parts = Parts {
+        stay: Vec::new(alloc),
+        rise: Vec::new(alloc),
+    };
     let mut label: u32 = 0;
     while !left.is_empty() {
-        let place = first_free(inst, sorted.as_slice(), left.as_slice());
+        let place = first_free(&counts, left.as_slice());
         let job = left.remove(place);
-        left = parted(alloc, left.as_slice(), paths, job)?;
+        reorder(&mut parts, &mut left, paths, job)?;
+        release(&mut counts, arcs, &links, job);
         labels[job as usize] = label;
         label += 1;
     }

@@ -6,6 +6,7 @@
 #![tactic(auto)]
 
 mod label;
+mod links;
 mod rule;
 mod segment;
 #[cfg(test)]

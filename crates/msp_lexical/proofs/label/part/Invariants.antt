@@ -1,6 +1,6 @@
 use Rattle.std.proofs.Common.{◌≡◌, not, filter, take}
 use Rattle.msp_instance.specs.Paths.{leads}
-use Rattle.msp_lexical.proofs.label.parted.Given as goal
+use Rattle.msp_lexical.proofs.label.part.Given as goal
 
 -- the parts of the jobs so far
 abbrev pub invariant-loop-other : goal.invariant-loop-other
