@@ -7,7 +7,7 @@ use Rattle.msp_dispatch.proofs.Picks.{IsPick-first, none_led, places_next}
 use Rattle.msp_dispatch.proofs.pick.first_reached.Goals as goal
 
 pub returns-in-Some-clause-pick : goal.returns-in-Some-clause-pick
-returns-in-Some-clause-pick c = IsPick-first c.args.from c.loop-place.place c.in_ok-pick_marked.field-0 c.in-Some.pick c.in-Some.is c.in_ok-pick_marked.ensures.pick c.loop-place.invariant
+returns-in-Some-clause-pick c = IsPick-first c.args.from c.loop-place.place c.in_ok-pick.field-0 c.in-Some.pick c.in-Some.is c.in_ok-pick.ensures.pick c.loop-place.invariant
 
 pub returns-clause-none : goal.returns-clause-none
 returns-clause-none c = none_led c.args.from c.loop-place.place (omega (arith, c.loop-place-test.false)) c.loop-place.invariant
@@ -15,4 +15,4 @@ returns-clause-none c = none_led c.args.from c.loop-place.place (omega (arith, c
 pub loop-place-preserved : goal.loop-place-preserved
 loop-place-preserved c =
     places_next (λ k. IfSome (slice_get solved_list k) (λ e. ¬ Reaches carries c.args.from e.class)) c.loop-place.place c.loop-place.invariant
-    (subst (λ o. IfNone o (IfSome (slice_get solved_list c.loop-place.place) (λ e. ¬ Reaches carries c.args.from e.class))) c.in-None.is c.in_ok-pick_marked.ensures.none)
+    (subst (λ o. IfNone o (IfSome (slice_get solved_list c.loop-place.place) (λ e. ¬ Reaches carries c.args.from e.class))) c.in_default.is c.in_ok-pick.ensures.none)
