@@ -14,7 +14,7 @@ use msp_uniform::UniformCut;
 use msp_weighted::LateTable;
 use std::alloc::Global;
 
-/// Whether the instance at the end of the chain fits the solver.
+/// Whether the instance at the end of the chain fits the solver. Along no row it is the instance itself.
 fn fits_along<S: Solver>(
     alloc: Global,
     inst: &Instance,
@@ -26,8 +26,13 @@ fn fits_along<S: Solver>(
     requires asked { S.may_ask solver.now (carried rows.now inst.now) }
     ensures { IfOk result (λ fits. IsTrue fits ↔ S.can_solve solver.now (carried rows.now inst.now)) }
 {
-    let last = carry(alloc, inst, rows)?;
-    Ok(solver.fits(&last))
+    match rows.as_slice() {
+        [] => Ok(solver.fits(inst)),
+        _ => {
+            let last = carry(alloc, inst, rows)?;
+            Ok(solver.fits(&last))
+        }
+    }
 }
 
 /// Whether the instance at the end of the chain fits the solver of the name. It is carried there only where a solver has a limit.
