@@ -3,7 +3,7 @@ use msp_class::Class;
 use msp_schedule::Solution;
 use msp_table::Chain;
 
-/// A solver, by the name under which it is known. Some have a name and are yet to come.
+/// A solver, by the name under which it is known.
 #[derive(Clone, Copy, Debug, PartialEq, Eq)]
 pub enum SolverName {
     Smith,

@@ -1,6 +1,5 @@
 // The form in which schedules are reported: unit and moments without a common divisor, and pieces in order.
-ghost use Rattle.std.specs.Prelude.{◌≡◌, ◌<◌, pos, ◌*ℤ◌, ◌≤ℤ◌, ◌<ℤ◌, unsigned_abs, map, All, AllPairs, IsPermutation};
-ghost use Rattle.std.specs.Int.{IsGcd};
+ghost use Rattle.std.specs.Prelude.{◌≡◌, ◌<◌, List, [], ◌∷◌, ◌++◌, ℤ, pos, ◌*ℤ◌, ◌≤ℤ◌, ◌<ℤ◌, unsigned_abs, map, All, AllPairs, IsPermutation};
 ghost use Rattle.std.specs.Ordering.{int_cmp, nat_cmp, ordering_then};
 ghost use Rattle.msp_instance.specs.declared.Instance.{Instance};
 ghost use Rattle.msp_schedule.specs.Cost.{cost_of};
@@ -14,11 +13,12 @@ use crate::{Piece, Schedule};
 use msp_class::List;
 use std::cmp::Ordering;
 
-/// The greatest common divisor of the piece's moments.
-fn divisor_of(piece: &Piece) -> u128
-    ensures { IsGcd (unsigned_abs piece.now.from) (unsigned_abs piece.now.to) result }
+/// The greatest common divisor of the number and the piece's moments. One division for each moment that the divisor divides.
+fn divisor_with(divisor: u128, piece: &Piece) -> u128
+    ensures { (unit : ℤ) (ps : List Piece) → IsCommonDivisor unit ps divisor → IsCommonDivisor unit (ps ++ piece.now ∷ []) result }
 {
-    gcd(piece.from.unsigned_abs(), piece.to.unsigned_abs())
+    let with_begin = gcd(piece.from.unsigned_abs(), divisor);
+    gcd(piece.to.unsigned_abs(), with_begin)
 }
 
 fn size_of_unit(s: &Schedule) -> u128
@@ -34,7 +34,7 @@ fn common_divisor(s: &Schedule) -> u128
     let pieces = s.pieces.as_slice();
     let mut divisor = size_of_unit(s);
     for piece in pieces {
-        divisor = gcd(divisor, divisor_of(piece));
+        divisor = divisor_with(divisor, piece);
     }
     divisor
 }

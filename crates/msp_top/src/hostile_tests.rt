@@ -27,12 +27,14 @@ const CALLS: &[Faulty] = &[
 const RESULTS: &[u8] =
     b"class,strength,source\n1||sumwU,hard,Karp 1972\n1||sumwU,pseudo,Lawler and Moore 1969\n";
 
-/// The same for the commands that read results.
+/// The same for commands that read results.
 const QUESTIONS: &[Faulty] = &[
     (&["label", "1||sumwU", "1||Lmax"], RESULTS, true),
     (&["why", "1||Lmax"], RESULTS, true),
-    (&["frontier"], RESULTS, true),
 ];
+
+/// The same for the command that looks at all classes.
+const FRONTIER: &[Faulty] = &[(&["frontier"], RESULTS, true)];
 
 fn is_same(seen: &Seen, whole: &Seen) -> bool {
     seen.status == whole.status
@@ -127,6 +129,11 @@ fn failing_devices(rt: HostRuntime) -> Result<(), Fail> {
 #[test]
 fn failing_devices_and_results(rt: HostRuntime) -> Result<(), Fail> {
     answer_faults(&rt, rt.alloc(), QUESTIONS)
+}
+
+#[test]
+fn failing_devices_and_frontier(rt: HostRuntime) -> Result<(), Fail> {
+    answer_faults(&rt, rt.alloc(), FRONTIER)
 }
 
 /// A call over devices that do not fail.

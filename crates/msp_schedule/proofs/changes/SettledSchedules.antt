@@ -31,14 +31,17 @@ IsCommonDivisor-none unit g e = record {
   greatest = λ d h. subst (λ x. d ∣ x) (sym e) h.0;
 }
 
-pub IsCommonDivisor-more : (unit : ℤ) (ps : List Piece) (p : Piece) (g m h : ℕ) → IsGcd (unsigned_abs p.from) (unsigned_abs p.to) m → IsGcd g m h → IsCommonDivisor unit ps g → IsCommonDivisor unit (ps ++ p ∷ []) h
-IsCommonDivisor-more unit ps p g m h of_p of_g c = record {
-  all = (dvd_trans h of_g.0 c.all.0, All-push (λ q. (h ∣ unsigned_abs q.from) × (h ∣ unsigned_abs q.to)) ps p (λ k d l. let a = c.all.1 k d l in (dvd_trans h of_g.0 a.0, dvd_trans h of_g.0 a.1)) (dvd_trans h of_g.1 of_p.0, dvd_trans h of_g.1 of_p.1));
+pub IsCommonDivisor-more : (unit : ℤ) (ps : List Piece) (p : Piece) (g m h : ℕ) → IsGcd (unsigned_abs p.from) g m → IsGcd (unsigned_abs p.to) m h → IsCommonDivisor unit ps g → IsCommonDivisor unit (ps ++ p ∷ []) h
+IsCommonDivisor-more unit ps p g m h from to c = record {
+  all = (dvd_trans h into c.all.0, All-push (λ q. (h ∣ unsigned_abs q.from) × (h ∣ unsigned_abs q.to)) ps p (λ k d l. let a = c.all.1 k d l in (dvd_trans h into a.0, dvd_trans h into a.1)) (dvd_trans h to.1 from.0, to.0));
   greatest = λ d a. let T : Piece → Type 0 = λ q. (d ∣ unsigned_abs q.from) × (d ∣ unsigned_abs q.to) in
       let last = All-last T ps p a.1 in
-      of_g.2 d (c.greatest d (a.0, All-front T ps p a.1)) (of_p.2 d last.0 last.1);
+      to.2 d last.1 (from.2 d last.0 (c.greatest d (a.0, All-front T ps p a.1)));
 }
   where
+    into : h ∣ g
+    into = dvd_trans h to.1 from.1
+
     All-front : (T : Piece → Type 0) (xs : List Piece) (x : Piece) → All T (xs ++ x ∷ []) → All T xs
     All-front T [] x a = All-nil T
     All-front T (y ∷ ys) x a = All-cons T y ys (All-head T y (ys ++ x ∷ []) a) (All-front T ys x (All-tail T y (ys ++ x ∷ []) a))
@@ -47,8 +50,8 @@ IsCommonDivisor-more unit ps p g m h of_p of_g c = record {
     All-last T [] x a = All-head T x [] a
     All-last T (y ∷ ys) x a = All-last T ys x (All-tail T y (ys ++ x ∷ []) a)
 
-pub IsCommonDivisor-step : (unit : ℤ) (ps : List Piece) (i : ℕ) (d : Piece) (g m h : ℕ) → i < length ps → IsGcd (unsigned_abs (get_or ps i d).from) (unsigned_abs (get_or ps i d).to) m → IsGcd g m h → IsCommonDivisor unit (take i ps) g → IsCommonDivisor unit (take (i + 1) ps) h
-IsCommonDivisor-step unit ps i d g m h l of_p of_g c = subst (λ qs. IsCommonDivisor unit qs h) (sym (take_more ps i d l)) (IsCommonDivisor-more unit (take i ps) (get_or ps i d) g m h of_p of_g c)
+pub IsCommonDivisor-step : (unit : ℤ) (ps : List Piece) (i : ℕ) (d : Piece) (g h : ℕ) → i < length ps → ((qs : List Piece) → IsCommonDivisor unit qs g → IsCommonDivisor unit (qs ++ get_or ps i d ∷ []) h) → IsCommonDivisor unit (take i ps) g → IsCommonDivisor unit (take (i + 1) ps) h
+IsCommonDivisor-step unit ps i d g h l more c = subst (λ qs. IsCommonDivisor unit qs h) (sym (take_more ps i d l)) (more (take i ps) c)
 
 -- ---- each piece in its place
 -- the first ones are as wanted, and the others as they were
