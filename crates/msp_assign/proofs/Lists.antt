@@ -7,7 +7,8 @@ use Rattle.std.proofs.lemmas.List.Sorted.{Contains-permutation, IsPermutation-sy
 use Rattle.msp_class.specs.Sums.{total_below}
 use Rattle.msp_class.proofs.Sums.{total_below-add, total_below-mono, total_below-constant, total_below-some, sum_by_counts, sum_by-constant, sum_by-contains, cond-yes}
 use Rattle.msp_matching.specs.Passing.{at}
-use Rattle.msp_matching.proofs.Lists.{same_or_not, distinct-permutation}
+use Rattle.msp_class.proofs.Cases.{same_or_not}
+use Rattle.msp_matching.proofs.Lists.{distinct-permutation}
 
 pub Contains-at : (xs : List ℕ) (k c : ℕ) → k < length xs → at xs k ≡ c → Contains xs c
 Contains-at xs k c l e = subst (Contains xs) e (Contains-get_or xs k 0 l)

@@ -1,7 +1,7 @@
 -- A row's edges to the columns that are left, column after column.
 use Rattle.std.proofs.Common.{◌≡◌, ◌≢◌, ℕ, ◌+◌, ◌-◌, ◌<◌, ◌≤◌, ◌^◌, ◌⊎◌, inl, inr, List, length, min, AllPairs, sym, ap, subst, ◌∙◌, arith, refl}
 use Rattle.msp_matching.specs.Passing.{at}
-use Rattle.msp_matching.proofs.Lists.{same_or_not, less_or_not}
+use Rattle.msp_class.proofs.Cases.{same_or_not, less_or_not}
 use Rattle.msp_assign.specs.Search.{paid, IsWay, IsRelaxedAt, IsRelaxed, IsShortened, AreNearest, IsLeastSoFar}
 use Rattle.std.proofs.Math.Nat.{min-le_left, min-le_right, min-eq_left, min-eq_right}
 use Rattle.msp_assign.proofs.Lists.{Contains-at, at-Contains}

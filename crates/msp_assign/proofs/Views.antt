@@ -8,7 +8,7 @@ use Rattle.std.proofs.lemmas.List.Elements.{All-append, All-cons, All-nil, All-f
 use Rattle.std.proofs.lemmas.List.Sorted.{Contains-permutation, IsPermutation-sym}
 use lib.Arith.{digits_div, digits_mod}
 use Rattle.msp_matching.specs.Passing.{at}
-use Rattle.msp_matching.proofs.Lists.{same_or_not, less_or_not}
+use Rattle.msp_class.proofs.Cases.{same_or_not, less_or_not}
 use Rattle.msp_assign.specs.declared.column.Column.{Column}
 use Rattle.msp_assign.specs.Prices.{HasCosts}
 use Rattle.msp_assign.specs.Search.{sizes, paid, HasUnfallen, IsPlaced, IsOneMore}

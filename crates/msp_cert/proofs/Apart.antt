@@ -1,11 +1,12 @@
 -- Numbers that stand once in a list, by marks.
-use Rattle.std.proofs.Common.{◌≡◌, ◌≢◌, ℕ, suc, ◌+◌, ◌-◌, ◌<◌, ◌≤◌, ◌⊎◌, inl, inr, Bool, true, false, cond, eqb, List, [], ◌∷◌, ◌++◌, reverse, length, map, get_or, count_by, All, AllPairs, sym, ap, ap₂, subst, subst₂, ◌∙◌, arith, zero-add}
+use Rattle.std.proofs.Common.{◌≡◌, ◌≢◌, ℕ, suc, ◌+◌, ◌-◌, ◌<◌, ◌≤◌, inl, inr, Bool, true, false, cond, List, [], ◌∷◌, ◌++◌, reverse, length, map, get_or, count_by, All, AllPairs, sym, ap, ap₂, subst, subst₂, ◌∙◌, arith, zero-add}
 use Rattle.std.specs.Prelude.{slice_set as set}
 use Rattle.std.specs.List.{range_with_len}
 use Rattle.std.specs.List.Sorted.{IsNonDecreasing}
 use Rattle.std.proofs.lemmas.List.{get_or_default, map-append, length-set, length-reverse, get_or-reverse, get_or-set_other}
 use Rattle.std.proofs.lemmas.Grind.{get_or-set_at}
-use Rattle.std.proofs.lemmas.Bool.{false≢true, cases_Bool, eqb-true, eq-eqb}
+use Rattle.std.proofs.lemmas.Bool.{false≢true}
+use Rattle.msp_class.proofs.Cases.{same_or_not}
 use Rattle.msp_class.proofs.Sums.{range_with_len_last, total_below-range}
 use Rattle.msp_class.specs.Sums.{total_below}
 
@@ -28,9 +29,6 @@ pub seen_before : (jobs : List ℕ) (k : ℕ) (seen : List Bool) → All (λ j. 
 seen_before jobs k seen h s l e apart =
     let (p, b, is) = s.back (get_or jobs k 0) (h k 0 l) e in
     apart p k 0 b l is
-
-pub same_or_not : (a b : ℕ) → (a ≡ b) ⊎ (a ≢ b)
-same_or_not a b = elim (cases_Bool (eqb a b)) [ inl e ↦ inl (eqb-true a b e) | inr e ↦ inr (λ q. false≢true (sym e ∙ eq-eqb a b q)) ]
 
 pub mark_next : (jobs : List ℕ) (k : ℕ) (seen : List Bool) → All (λ j. j < 400) jobs → AreSeen jobs k seen → k < length jobs → get_or seen (get_or jobs k 0) false ≡ false → AreSeen jobs (k + 1) (set seen (get_or jobs k 0) true)
 mark_next jobs k seen h s l new = record {

@@ -11,7 +11,7 @@ use Rattle.msp_instance.specs.Paths.{HasStep}
 use Rattle.msp_schedule.specs.Levels.{LeadsOut, IsLevel}
 use Rattle.msp_schedule.proofs.lists.ForwardOrders.{each_at, leads_to}
 use Rattle.msp_cert.specs.Search.{AreAllLevels}
-use Rattle.msp_cert.proofs.Apart.{same_or_not}
+use Rattle.msp_class.proofs.Cases.{same_or_not}
 
 -- one more than the greatest level of a job to which one of the arcs leads from this one, and 0 where none does
 record IsAbove (arcs : List Arc) (level : ℕ → ℕ) (j above : ℕ) : Type 0 where

@@ -17,7 +17,7 @@ use Rattle.msp_cert.specs.declared.Proof.TheVariants.{Levels}
 use Rattle.msp_cert.specs.Certificates.{HasUnitJobs, of_job}
 use Rattle.msp_cert.specs.Search.{AreAllLevels}
 use Rattle.msp_cert.specs.Worth.{IsWorth}
-use Rattle.msp_cert.proofs.Apart.{same_or_not}
+use Rattle.msp_class.proofs.Cases.{same_or_not}
 use Rattle.msp_cert.proofs.Decided.{levels_are_worth, worth_nothing}
 
 -- ---- how many have at least a level

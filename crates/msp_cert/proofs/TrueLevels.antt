@@ -15,7 +15,7 @@ use Rattle.msp_schedule.proofs.lists.ForwardOrders.{each_at}
 use Rattle.msp_cert.specs.Certificates.{of_job}
 use Rattle.msp_cert.specs.Heights.{AreHeights, AreBalanced}
 use Rattle.msp_cert.specs.Search.{AreAllLevels}
-use Rattle.msp_cert.proofs.Apart.{same_or_not}
+use Rattle.msp_class.proofs.Cases.{same_or_not}
 
 -- ---- the heights of a forward order
 pub height_next : (order heights : List ℕ) (k value : ℕ) → AllPairs (λ x y. x ≢ y) order → k < length order → get_or order k 0 < length heights → value + k + 1 ≡ length order

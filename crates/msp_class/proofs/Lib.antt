@@ -1,3 +1,4 @@
+pub mod Cases
 pub mod EnvNumbers
 pub mod IntegerRing
 pub mod RankLemmas

@@ -1,23 +1,9 @@
--- Numbers that are the same or not, and lists of numbers: after a write, and without repeats.
-use Rattle.std.proofs.Common.{◌≡◌, ◌≢◌, ℕ, ◌<◌, ◌≤◌, ◌⊎◌, inl, inr, refl, List, ◌++◌, Bool, true, false, eqb, leb, length, take, drop, AllPairs, IsPermutation, cond, sym, subst, arith}
-use Rattle.std.proofs.lemmas.Bool.{eqb-true, eqb-false, leb-true, leb-false}
+-- Lists of numbers: after a write, and without repeats.
+use Rattle.std.proofs.Common.{◌≡◌, ◌≢◌, ℕ, ◌<◌, ◌≤◌, inl, inr, List, ◌++◌, eqb, length, take, drop, AllPairs, IsPermutation, cond, sym, subst, arith}
 use Rattle.std.proofs.Math.Seq.{take-append_seam}
+use Rattle.msp_class.proofs.Cases.{same_or_not, less_or_not}
 use Rattle.msp_class.proofs.Sums.{sum_by-IsPermutation, count_by-distinct, distinct_from_counts}
 use Rattle.msp_matching.specs.Passing.{at}
-
-pub same_or_not : (a b : ℕ) → (a ≡ b) ⊎ (a ≢ b)
-same_or_not a b = by (eqb a b) refl
-  where
-    by : (v : Bool) → eqb a b ≡ v → (a ≡ b) ⊎ (a ≢ b)
-    by true e = inl (eqb-true a b e)
-    by false e = inr (eqb-false a b e)
-
-pub less_or_not : (a b : ℕ) → (a < b) ⊎ (b ≤ a)
-less_or_not a b = by (leb b a) refl
-  where
-    by : (v : Bool) → leb b a ≡ v → (a < b) ⊎ (b ≤ a)
-    by true e = inr (leb-true b a e)
-    by false e = inl (leb-false b a e)
 
 -- what a vector holds after its slice was written
 pub whole_slice : {X : Type 0} (n k : ℕ) (xs ys : List X) → length xs ≡ n → take n (xs ++ drop k ys) ≡ xs

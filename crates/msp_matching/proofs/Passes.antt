@@ -3,7 +3,7 @@ use Rattle.std.proofs.Common.{◌≡◌, ◌≢◌, ℕ, ◌<◌, ◌≤◌, ◌
 use Rattle.std.proofs.lemmas.List.Sorted.{IsPermutation-trans, IsPermutation-refl}
 use Rattle.std.specs.List.{SwappedAt}
 use Rattle.msp_matching.specs.Passing.{at, IsTree, IsStep, IsPassedOn}
-use Rattle.msp_matching.proofs.Lists.{same_or_not}
+use Rattle.msp_class.proofs.Cases.{same_or_not}
 
 module _ (column «from» tree : List ℕ) where
   -- back at a place of the tree: the first row has the column that was taken from its row last

@@ -2,7 +2,7 @@
 use Rattle.std.proofs.Common.{◌≡◌, ◌≢◌, ℕ, ◌+◌, ◌-◌, ◌*◌, ◌<◌, ◌≤◌, ◌⊎◌, inl, inr, refl, List, true, false, ltb, length, set, cond, sym, ap, subst, ◌∙◌, arith}
 use Rattle.std.proofs.lemmas.Bool.{eq-eqb, ne_eqb}
 use Rattle.msp_matching.specs.Passing.{at}
-use Rattle.msp_matching.proofs.Lists.{same_or_not}
+use Rattle.msp_class.proofs.Cases.{same_or_not}
 use Rattle.msp_timetable.specs.declared.square.Square.{Square}
 use Rattle.msp_timetable.specs.Square.{cell_at, stocks, used, used_at, given_share, padding_share, IsSquare, IsPermuted, IsTaken, IsCut}
 use Rattle.msp_timetable.proofs.Places.{cell-same, cell-other, stocks-set, positive-one, cond-one, ltb-yes, ltb-no, ltb-next}

@@ -1,6 +1,6 @@
 -- The greatest sum of a line, line after line.
 use Rattle.std.proofs.Common.{◌≡◌, ℕ, ◌+◌, ◌<◌, ◌≤◌, ◌⊎◌, inl, inr, List, sym, ap, ◌∙◌, arith}
-use Rattle.msp_matching.proofs.Lists.{same_or_not}
+use Rattle.msp_class.proofs.Cases.{same_or_not}
 use Rattle.msp_timetable.specs.Split.{greatest_sum}
 use Rattle.msp_timetable.specs.Square.{row_total, column_total, HasSmallLines}
 

@@ -14,7 +14,7 @@ use Rattle.msp_uniform.specs.Prefixes.{DoFit}
 use Rattle.msp_uniform.specs.Segments.{at, job_on, place_at, IsSegment, IsAbsent, rate_at, amount}
 use Rattle.msp_uniform.specs.Plans.{works, IsTask, IsAsked, IsFirstPlan, IsReached}
 use Rattle.msp_uniform.proofs.PrefixFacts.{total_below-first}
-use Rattle.msp_uniform.proofs.SegmentFacts.{same_or_not, below_or_not}
+use Rattle.msp_class.proofs.Cases.{same_or_not, less_or_not}
 use Rattle.msp_uniform.proofs.LeastEnd.{order_within, order_distinct, order_length}
 
 -- ---- sums over the first of a list
@@ -98,7 +98,7 @@ module _ (t : Task) (k : IsTask t) (jobs machines : List ℕ) (a : IsAsked t job
 
   -- the first jobs need no more than the first machines can do
   fits : (i : ℕ) → i ≤ length machines → sum_by time (take i jobs) * t.speed ≤ t.work * sum_by speed (take i machines)
-  fits i l = by (below_or_not i (length machines)) (below_or_not (length jobs) i)
+  fits i l = by (less_or_not i (length machines)) (less_or_not (length jobs) i)
     where
       by : (i < length machines) ⊎ (length machines ≤ i) → (length jobs < i) ⊎ (i ≤ length jobs) → sum_by time (take i jobs) * t.speed ≤ t.work * sum_by speed (take i machines)
       by (inl b) (inr c) = a.greatest.firsts i b c

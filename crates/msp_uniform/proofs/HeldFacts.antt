@@ -6,7 +6,7 @@ use Rattle.msp_uniform.specs.declared.segments.Segment.{Segment}
 use Rattle.msp_uniform.specs.declared.task.Task.{Task}
 use Rattle.msp_uniform.specs.Segments.{at, rate_at, amount, IsAbsent, AreLaid, AreWorks}
 use Rattle.msp_uniform.specs.Plans.{IsTask, IsTaped, DoHold, IsLaidHere, IsLaidOver}
-use Rattle.msp_uniform.proofs.SegmentFacts.{below_or_not}
+use Rattle.msp_class.proofs.Cases.{less_or_not}
 use Rattle.msp_uniform.proofs.TapeFacts.{tape_rest, tape_places}
 use Rattle.msp_uniform.proofs.TapedFacts.{tape_inside, each_of, absent_early, absent_late, over_whole}
 
@@ -20,7 +20,7 @@ pub record IsHeldOver (speeds holds : List ℕ) (h more : ℕ) (early late : Lis
 pub AreWorks-more : (speed : ℕ → ℕ) (p : ℕ) (xs : List Segment) (works works' : List ℕ) (work : ℕ) → AreWorks speed p xs works → works' ≡ works ++ work ∷ [] → work ≡ amount (rate_at speed p) xs → AreWorks speed (p + 1) xs works'
 AreWorks-more speed p xs works works' work w e f = subst (AreWorks speed (p + 1) xs) (sym e) (record {
   many = omega (arith, length_push works work, w.many);
-  each = λ k l. by k l (below_or_not k p);
+  each = λ k l. by k l (less_or_not k p);
 })
   where
     by : (k : ℕ) → k < p + 1 → (k < p) ⊎ (p ≤ k) → at (works ++ work ∷ []) k ≡ amount (rate_at speed k) xs

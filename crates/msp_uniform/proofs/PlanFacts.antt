@@ -9,7 +9,7 @@ use Rattle.msp_uniform.specs.Segments.{at, IsSegment, IsAbsent, rate_at, job_rat
 use Rattle.msp_uniform.specs.Plans.{works, IsPlan, IsTurned}
 use Rattle.msp_uniform.proofs.PrefixFacts.{rest, DoFit-merged, DoFit-longest}
 use Rattle.msp_uniform.proofs.TurnNeeds.{difference_some}
-use Rattle.msp_uniform.proofs.SegmentFacts.{same_or_not}
+use Rattle.msp_class.proofs.Cases.{same_or_not}
 use Rattle.msp_uniform.proofs.ScaledFacts.{IsRead-place, IsRead-job, amount-scaled, amount-mono, All-scaled, IsSegment-part, job_kept}
 use Rattle.msp_uniform.proofs.TurnFacts.{segments_are, absent_still, whole_time, others_work, own_work, places_merged}
 

@@ -1,7 +1,7 @@
 -- Works fit into places, turn after turn.
-use Rattle.std.proofs.Common.{◌≡◌, ℕ, zero, suc, ◌+◌, ◌*◌, ◌<◌, ◌≤◌, ◌⊎◌, inl, inr, Bool, true, false, leb, refl, sym, subst, arith}
-use Rattle.std.proofs.lemmas.Bool.{leb-true, leb-false}
+use Rattle.std.proofs.Common.{◌≡◌, ℕ, zero, suc, ◌+◌, ◌*◌, ◌<◌, ◌≤◌, ◌⊎◌, inl, inr, sym, subst, arith}
 use Rattle.msp_class.specs.Sums.{total_below}
+use Rattle.msp_class.proofs.Cases.{less_or_not}
 use Rattle.msp_class.proofs.Sums.{total_below-mono, total_below-same, total_below-scale}
 use Rattle.std.proofs.Math.Nat.{mul-le-mul_left}
 use Rattle.msp_uniform.specs.Prefixes.{DoFit, IsMerged}
@@ -13,13 +13,6 @@ rest works i = works (suc i)
 pub total_below-first : (k : ℕ) (f : ℕ → ℕ) → total_below (suc k) f ≡ f 0 + total_below k (rest f)
 total_below-first zero f = omega arith
 total_below-first (suc k) f = omega (arith, total_below-first k f)
-
-split_at : (k r : ℕ) → (k ≤ r) ⊎ (r < k)
-split_at k r = by (leb k r) refl
-  where
-    by : (v : Bool) → leb k r ≡ v → (k ≤ r) ⊎ (r < k)
-    by true e = inl (leb-true k r e)
-    by false e = inr (leb-false k r e)
 
 module _ (h r : ℕ) (holds works holds' : ℕ → ℕ) (m : IsMerged h r holds (works 0) holds') where
   below : (k : ℕ) → k ≤ r → total_below k holds' ≡ total_below k holds
@@ -55,14 +48,14 @@ module _ (h r n : ℕ) (holds works holds' : ℕ → ℕ) (inside : suc r < h) (
 
   pub DoFit-merged : ((k i : ℕ) → k ≤ r → i < k → rest works i ≤ holds i) → (g : ℕ) → h ≡ suc (suc g) → DoFit (suc g) holds' n (rest works)
   DoFit-merged s g e = record {
-    firsts = λ k l. by k (split_at k r) l;
+    firsts = λ k l. by k (less_or_not r k) l;
     all = omega (arith, subst (λ x. total_below (suc g) holds' + works 0 ≡ total_below x holds) (sym e) (above h r holds works holds' m g (omega (arith, e, inside)) (omega (arith, e))), fit.all, total_below-first n works);
   }
     where
-      by : (k : ℕ) → (k ≤ r) ⊎ (r < k) → k ≤ suc g → total_below k (rest works) ≤ total_below k holds'
-      by k (inl b) l = short_firsts k b (λ i c. s k i b c)
-      by (suc k) (inr b) l = later_firsts k (omega arith) (omega (arith, e))
-      by zero (inr b) l = absurd (omega arith)
+      by : (k : ℕ) → (r < k) ⊎ (k ≤ r) → k ≤ suc g → total_below k (rest works) ≤ total_below k holds'
+      by k (inr b) l = short_firsts k b (λ i c. s k i b c)
+      by (suc k) (inl b) l = later_firsts k (omega arith) (omega (arith, e))
+      by zero (inl b) l = absurd (omega arith)
 
 -- a work takes the last place whole
 pub DoFit-last : (h n : ℕ) (holds works : ℕ → ℕ) → DoFit (suc h) holds (suc n) works → works 0 ≡ holds h → ((i : ℕ) → i < h → rest works i ≤ holds i) → DoFit h holds n (rest works)

@@ -6,7 +6,7 @@ use Rattle.std.proofs.lemmas.List.Sums.{sum_by_more}
 use Rattle.msp_class.proofs.Sums.{sum_by-cons}
 use Rattle.msp_uniform.specs.Segments.{at}
 use Rattle.msp_uniform.specs.Quotients.{IsGreater, IsGreatestUpTo}
-use Rattle.msp_uniform.proofs.SegmentFacts.{below_or_not}
+use Rattle.msp_class.proofs.Cases.{less_or_not}
 
 -- a quotient that is at most another is at most one that is greater
 through : (a b w v w' v' : ℕ) → 1 ≤ v → a * v ≤ w * b → w * v' ≤ w' * v → a * v' ≤ w' * b
@@ -49,7 +49,7 @@ module _ (ts sp jobs machines : List ℕ) where
     rate_some = omega (arith, rate_is, sum_by_more speed machines k 0 inside, fast a b k 0 inside)
 
     up_to : (i x y : ℕ) → ((j : ℕ) → j ≤ k → sum_by time (take j jobs) * y ≤ x * sum_by speed (take j machines)) → work * y ≤ x * rate → i ≤ k + 1 → sum_by time (take i jobs) * y ≤ x * sum_by speed (take i machines)
-    up_to i x y f l m = by (below_or_not i (k + 1))
+    up_to i x y f l m = by (less_or_not i (k + 1))
       where
         same : k + 1 ≤ i → k + 1 ≡ i
         same c = omega (arith, m, c)

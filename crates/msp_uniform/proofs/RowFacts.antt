@@ -13,7 +13,7 @@ use Rattle.msp_schedule.proofs.feasible.Series.{AllPairs-append}
 use Rattle.msp_uniform.specs.declared.segments.Segment.{Segment}
 use Rattle.msp_uniform.specs.Rows.{piece_on, part_on, runs_from, runs, IsSliceOf}
 use Rattle.msp_uniform.specs.Segments.{job_on}
-use Rattle.msp_uniform.proofs.SegmentFacts.{below_or_not}
+use Rattle.msp_class.proofs.Cases.{less_or_not}
 
 abbrev machine_of : Piece → ℕ
 machine_of p = p.machine
@@ -60,7 +60,7 @@ module _ (m n : ℕ) where
     Started j a t = (j ≡ n) ⊎ ((a < t) × (j < n))
 
     begun : (x : Segment) (t : ℕ) → Slice x → Started (job_on x i) t (t + long x)
-    begun x t s = by (below_or_not (job_on x i) n)
+    begun x t s = by (less_or_not (job_on x i) n)
       where
         by : (job_on x i < n) ⊎ (n ≤ job_on x i) → Started (job_on x i) t (t + long x)
         by (inl l) = inr (omega (arith, s.lasts), l)
@@ -224,7 +224,7 @@ module _ (m n : ℕ) where
     all_run (suc k) l = All-append (Runs (suc k)) (runs n xs k) (row_of k) (All-weaker (Runs k) (Runs (suc k)) (λ p r. (r.0, omega (arith, r.1), r.2, r.3)) (runs n xs k) (all_run k (omega (arith, l)))) (row_runs k (omega (arith, l)))
 
     apart_jobs : (k : ℕ) (p q : Piece) → k < m → Runs k p → IsRun k 0 end q → ((moment : ℕ) → start q ≤ moment → moment < finish q → job_at n k 0 xs moment ≡ q.job) → IsApartOn job_of start finish p q
-    apart_jobs k p q l (i, b, r, c) s d e = by (below_or_not (start q) (finish p)) (below_or_not (start p) (finish q))
+    apart_jobs k p q l (i, b, r, c) s d e = by (less_or_not (start q) (finish p)) (less_or_not (start p) (finish q))
       where
         both : (moment : ℕ) → start p ≤ moment → moment < finish p → start q ≤ moment → moment < finish q → ⊥
         both moment t u v w = absurd (omega (arith, r.job, sym (c moment t u) ∙ job_at-once i k 0 moment xs b l h (c moment t u ∙ e ∙ sym (d moment v w))))
@@ -232,7 +232,7 @@ module _ (m n : ℕ) where
         by : (start q < finish p) ⊎ (finish p ≤ start q) → (start p < finish q) ⊎ (finish q ≤ start p) → (finish p ≤ start q) ⊎ (finish q ≤ start p)
         by (inr a) z = inl a
         by (inl a) (inr z) = inr z
-        by (inl a) (inl z) = least (below_or_not (start p) (start q))
+        by (inl a) (inl z) = least (less_or_not (start p) (start q))
           where
             least : (start p < start q) ⊎ (start q ≤ start p) → (finish p ≤ start q) ⊎ (finish q ≤ start p)
             least (inl y) = absurd (both (start q) (omega (arith, y)) a (omega arith) s.timed.lasts)

@@ -1,27 +1,14 @@
 -- What a segment is once a job has taken a machine in it.
 use Rattle.std.proofs.Common.{◌≡◌, ◌≢◌, ℕ, zero, suc, ◌+◌, ◌<◌, ◌≤◌, ◌⊎◌, inl, inr, Bool, true, false, cond, eqb, leb, List, length, refl, sym, ap, subst, subst₂, ◌∙◌, arith}
 use Rattle.std.specs.Prelude.{remove}
-use Rattle.std.proofs.lemmas.Bool.{eqb-true, eqb-false, leb-true, leb-false, ne_eqb, eq-eqb}
+use Rattle.std.proofs.lemmas.Bool.{leb-true, leb-false, ne_eqb, eq-eqb}
 use Rattle.std.proofs.lemmas.List.{length-set, get_or-set_same, get_or-set_other}
 use Rattle.std.proofs.lemmas.List.Edits.{length-remove, get_or-remove_below, get_or-remove_above}
+use Rattle.msp_class.proofs.Cases.{same_or_not, less_or_not}
 use Rattle.msp_class.specs.Sums.{total_below}
 use Rattle.msp_class.proofs.Sums.{total_below-same}
 use Rattle.msp_uniform.specs.declared.segments.Segment.{Segment}
 use Rattle.msp_uniform.specs.Segments.{at, job_on, place_at, IsSegment, IsAbsent, IsTaken, rate_at, job_rate}
-
-pub same_or_not : (a b : ℕ) → (a ≡ b) ⊎ (a ≢ b)
-same_or_not a b = by (eqb a b) refl
-  where
-    by : (v : Bool) → eqb a b ≡ v → (a ≡ b) ⊎ (a ≢ b)
-    by true e = inl (eqb-true a b e)
-    by false e = inr (eqb-false a b e)
-
-pub below_or_not : (a b : ℕ) → (a < b) ⊎ (b ≤ a)
-below_or_not a b = by (leb b a) refl
-  where
-    by : (v : Bool) → leb b a ≡ v → (a < b) ⊎ (b ≤ a)
-    by true e = inr (leb-true b a e)
-    by false e = inl (leb-false b a e)
 
 -- a total in which one term differs
 pub total_below-other : (m : ℕ) (f g : ℕ → ℕ) (k : ℕ) → k < m → ((i : ℕ) → i < m → i ≢ k → f i ≡ g i) → total_below m f + g k ≡ total_below m g + f k
@@ -89,7 +76,7 @@ module _ (m n : ℕ) (speed : ℕ → ℕ) (h r job length' : ℕ) (x y : Segmen
       by false false e f = omega arith
 
   distinct : (q k : ℕ) → q < suc h → k < suc h → q ≢ k → place_at x q ≢ place_at x k
-  distinct q k a b d = by (below_or_not q k)
+  distinct q k a b d = by (less_or_not q k)
     where
       by : (q < k) ⊎ (k ≤ q) → place_at x q ≢ place_at x k
       by (inl l) = s.apart q k l b

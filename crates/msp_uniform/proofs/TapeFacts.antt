@@ -9,7 +9,8 @@ use Rattle.msp_uniform.specs.declared.segments.Segment.{Segment}
 use Rattle.msp_uniform.specs.Segments.{at, job_on, IsSegment, IsAbsent, rate_at, job_rate, amount, gained, CanGain, AreWhole, AreLaid}
 use Rattle.msp_uniform.specs.Plans.{IsTape}
 use Rattle.msp_class.specs.Sums.{total_below}
-use Rattle.msp_uniform.proofs.SegmentFacts.{same_or_not, IsSegment-taken, rate_below, own_rate, other_rate, still_absent}
+use Rattle.msp_class.proofs.Cases.{same_or_not}
+use Rattle.msp_uniform.proofs.SegmentFacts.{IsSegment-taken, rate_below, own_rate, other_rate, still_absent}
 use Rattle.msp_uniform.proofs.LaidFacts.{gained-mono, All-firsts, All-seconds, amount-firsts, amount-seconds}
 use Rattle.msp_uniform.proofs.ScaledFacts.{IsRead-place, IsRead-job, IsSegment-part, job_kept}
 

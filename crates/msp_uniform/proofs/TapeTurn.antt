@@ -6,7 +6,8 @@ use Rattle.msp_class.proofs.Sums.{sum_by-cons, sum_by-append, Contains-tail, All
 use Rattle.msp_uniform.specs.declared.segments.Segment.{Segment}
 use Rattle.msp_uniform.specs.Segments.{at, IsSegment, IsAbsent, rate_at, job_rate, amount, gained, AreLaid}
 use Rattle.msp_uniform.specs.Plans.{IsTape}
-use Rattle.msp_uniform.proofs.SegmentFacts.{same_or_not, rate_below, still_absent}
+use Rattle.msp_class.proofs.Cases.{same_or_not}
+use Rattle.msp_uniform.proofs.SegmentFacts.{rate_below, still_absent}
 use Rattle.msp_uniform.proofs.ScaledFacts.{job_kept, amount-mono}
 use Rattle.msp_uniform.proofs.LaidFacts.{gained-mono, All-firsts, All-seconds, amount-firsts}
 use Rattle.msp_uniform.proofs.TapeFacts.{tape_firsts, tape_seconds, tape_works, tape_rest, tape_places, tape_others, tape_time, idle_amount}
