@@ -1,49 +1,43 @@
 -- Lemmas on greatest common divisors and least common multiples.
-use Rattle.std.proofs.Common.{◌≡◌, ℕ, zero, suc, ◌+◌, ◌*◌, ◌/◌, ◌%◌, ◌<◌, ◌≤◌, ◌^◌, Bool, leb, List, [], ◌∷◌, ◌++◌, length, get_or, take, All, Contains, IsTrue, true, false, ◌↔◌, refl, sym, ap, ◌∙◌, subst, arith}
-use Rattle.std.specs.Int.{◌∣◌}
-use Rattle.std.proofs.lemmas.Nat.Gcd.{dvd_refl, dvd-zero, dvd_trans, le_of_dvd}
-use Rattle.std.proofs.Math.Nat.{dvd-add_iff_right, dvd-mul_right_of_dvd, dvd-mod_iff, div-mul_cancel, mul-dvd-mul_left, mul-dvd-mul_right, dvd_of_mul-dvd-mul_right, pos_of_dvd_of_pos, dvd-mul_right, dvd-mul_left, div-add-mod, one-dvd}
+use Rattle.std.proofs.Common.{◌≡◌, ℕ, zero, suc, ◌+◌, ◌*◌, ◌/◌, ◌%◌, ◌<◌, ◌≤◌, ◌^◌, Bool, leb, List, [], ◌∷◌, ◌++◌, length, get_or, take, All, Contains, IsTrue, true, false, ◌↔◌, refl, sym, ap, ◌∙◌, subst, subst₂, arith}
+use Rattle.std.specs.Int.{◌∣◌, IsGcd}
+use Rattle.std.proofs.lemmas.Nat.Gcd.{IsGcd-from_mod, dvd_trans, le_of_dvd}
+use Rattle.std.proofs.Math.Nat.{dvd-add_iff_right, dvd-mul_right_of_dvd, div-mul_cancel, mul-dvd-mul_left, mul-dvd-mul_right, dvd_of_mul-dvd-mul_right, pos_of_dvd_of_pos, dvd-mul_right, dvd-mul_left, div-add-mod, one-dvd}
 use Rattle.std.proofs.lemmas.Bool.{false≢true, leb-true, leb-false}
 use Rattle.std.proofs.lemmas.Nat.{mul-le}
 use Rattle.std.proofs.lemmas.List.Elements.{All-more, All-take, All-weaker, All-contains, All-nil, All-cons, All-head, All-tail, Contains-push}
 use Rattle.std.proofs.lemmas.List.{take_more}
 use Rattle.msp_instance.specs.Conditions.{HasSmallMultiple}
-use Rattle.msp_instance.specs.Multiples.{IsGreatestDivisor, IsLeastMultiple, IsLeastOfAll}
+use Rattle.msp_instance.specs.Multiples.{IsLeastMultiple, IsLeastOfAll}
 
--- what a and b have in common with a factor, x and y have too, and their common divisors are those of a and b
+-- a greatest common divisor of x and y is one of a and b, and what divides multiples of a and b by one factor divides those of x and y
 pub record SharesDivisors (a b x y : ℕ) : Type 0 where
-  pub back : (d : ℕ) → d ∣ x → d ∣ y → (d ∣ a) × (d ∣ b)
+  pub back : (g : ℕ) → IsGcd x y g → IsGcd a b g
   pub on : (d factor : ℕ) → d ∣ factor * a → d ∣ factor * b → (d ∣ factor * x) × (d ∣ factor * y)
 
 pub SharesDivisors-start : (a b : ℕ) → SharesDivisors a b a b
-SharesDivisors-start a b = record { back = λ d p q. (p, q); on = λ d k p q. (p, q) }
+SharesDivisors-start a b = record { back = λ g h. h; on = λ d k p q. (p, q) }
 
 scaled_rest : (k x y : ℕ) → k * x ≡ k * y * (x / y) + k * (x % y)
 scaled_rest k x y = ap (λ n. k * n) (sym (div-add-mod x y)) ∙ omega arith
 
 pub SharesDivisors-next : (a b x y : ℕ) → SharesDivisors a b x y → SharesDivisors a b y (x % y)
 SharesDivisors-next a b x y h = record {
-  back = λ d p q. h.back d ((dvd-mod_iff d p).0 q) p;
+  back = λ g i. h.back g (IsGcd-from_mod x y g i);
   on = λ d k p q. let both = h.on d k p q in (both.1, (dvd-add_iff_right d (dvd-mul_right_of_dvd d both.1 (x / y))).1 (subst (λ n. d ∣ n) (scaled_rest k x y) both.0));
 }
 
-pub IsGreatestDivisor-end : (a b x y : ℕ) → SharesDivisors a b x y → y ≡ 0 → IsGreatestDivisor a b x
-IsGreatestDivisor-end a b x y h e = record { left = both.0; right = both.1; greatest = λ d k p q. (h.on d k p q).0 }
-  where
-    both : (x ∣ a) × (x ∣ b)
-    both = h.back x (dvd_refl x) (subst (λ n. x ∣ n) (sym e) (dvd-zero x))
-
-pub IsLeastMultiple-from_divisor : (a b g : ℕ) → 1 ≤ a → 1 ≤ b → IsGreatestDivisor a b g → IsLeastMultiple a b (a / g * b) × (1 ≤ a / g * b) × (1 ≤ g)
-IsLeastMultiple-from_divisor a b g some_a some_b h = (record { left = left; right = dvd-mul_left b (a / g); least = least }, some, some_g)
+pub IsLeastMultiple-from_divisor : (a b g : ℕ) → 1 ≤ a → 1 ≤ b → IsGcd a b g → ((d k : ℕ) → d ∣ k * a → d ∣ k * b → d ∣ k * g) → IsLeastMultiple a b (a / g * b) × (1 ≤ a / g * b) × (1 ≤ g) × (g ≤ a)
+IsLeastMultiple-from_divisor a b g some_a some_b h scaled = (record { left = left; right = dvd-mul_left b (a / g); least = least }, some, some_g, le_of_dvd some_a h.0)
   where
     some_g : 0 < g
-    some_g = pos_of_dvd_of_pos h.left (omega arith)
+    some_g = pos_of_dvd_of_pos h.0 (omega arith)
 
     cut_a : a / g * g ≡ a
-    cut_a = div-mul_cancel g h.left
+    cut_a = div-mul_cancel g h.0
 
     cut_b : b / g * g ≡ b
-    cut_b = div-mul_cancel g h.right
+    cut_b = div-mul_cancel g h.1
 
     turned : a / g * b ≡ a * (b / g)
     turned = ap (λ n. a / g * n) (sym cut_b) ∙ omega arith ∙ ap (λ n. n * (b / g)) cut_a
@@ -62,7 +56,10 @@ IsLeastMultiple-from_divisor a b g some_a some_b h = (record { left = left; righ
         positive (suc n) k h = omega arith
 
     least : (m : ℕ) → a ∣ m → b ∣ m → a / g * b ∣ m
-    least m p q = dvd_of_mul-dvd-mul_right (a / g * b) some_g (subst (λ n. n ∣ m * g) whole (h.greatest (a * b) m (subst (λ n. a * b ∣ n) (omega arith) (mul-dvd-mul_left b a q)) (mul-dvd-mul_right a p b)))
+    least m p q = dvd_of_mul-dvd-mul_right (a / g * b) some_g (subst (λ n. n ∣ m * g) whole (scaled (a * b) m (subst (λ n. a * b ∣ n) (omega arith) (mul-dvd-mul_left b a q)) (mul-dvd-mul_right a p b)))
+
+pub IsLeastMultiple-from_wide : (a b x y g : ℕ) → x ≡ a → y ≡ b → 1 ≤ a → 1 ≤ b → IsGcd x y g → ((d k : ℕ) → d ∣ k * x → d ∣ k * y → d ∣ k * g) → IsLeastMultiple a b (a / g * b) × (1 ≤ a / g * b) × (1 ≤ g) × (g ≤ a)
+IsLeastMultiple-from_wide a b x y g e f some_a some_b h scaled = IsLeastMultiple-from_divisor a b g some_a some_b (subst₂ (λ x y. IsGcd x y g) e f h) (subst₂ (λ x y. (d k : ℕ) → d ∣ k * x → d ∣ k * y → d ∣ k * g) e f scaled)
 
 pub IsLeastOfAll-none : IsLeastOfAll [] 1
 IsLeastOfAll-none = record { some = omega arith; common = λ k d t. absurd (omega arith); least = λ m h. one-dvd m }

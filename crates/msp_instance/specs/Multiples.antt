@@ -1,12 +1,6 @@
--- Greatest common divisors and least common multiples.
-use Rattle.std.specs.Prelude.{ℕ, ◌*◌, ◌≤◌, List, All}
+-- Least common multiples.
+use Rattle.std.specs.Prelude.{ℕ, ◌≤◌, List, All}
 use Rattle.std.specs.Int.{◌∣◌}
-
--- A greatest common divisor: it divides both numbers, and what divides two multiples of them by one factor divides its multiple by that factor.
-pub record IsGreatestDivisor (a b divisor : ℕ) : Type 0 where
-  pub left : divisor ∣ a
-  pub right : divisor ∣ b
-  pub greatest : (d factor : ℕ) → d ∣ factor * a → d ∣ factor * b → d ∣ factor * divisor
 
 -- A least common multiple: a multiple of both numbers that divides every other one.
 pub record IsLeastMultiple (a b multiple : ℕ) : Type 0 where

@@ -29,7 +29,7 @@ pub use ranges::{
     MOST_MACHINES, MOST_STEPS,
 };
 pub use sequence::{OrderFault, forward};
-pub use speeds::{common_multiple, has_small_multiple, multiple_of_all};
+pub use speeds::{common_multiple, gcd, has_small_multiple, multiple_of_all};
 
 /// An operation that a job needs: its machine, from 0, and its processing time.
 ///

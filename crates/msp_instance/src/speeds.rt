@@ -1,16 +1,18 @@
 // The conditions of a class on speeds.
-ghost use Rattle.std.specs.Prelude.{◌*◌, ◌<◌, ◌≤◌, ◌↔◌, IsTrue, All};
+ghost use Rattle.std.specs.Prelude.{ℕ, ◌*◌, ◌<◌, ◌≤◌, ◌↔◌, IsTrue, All};
+ghost use Rattle.std.specs.Int.{◌∣◌, IsGcd};
 ghost use Rattle.msp_class.specs.Env.{kind_of};
 ghost use Rattle.msp_instance.specs.declared.ranges.TheConstants.{GREATEST_MULTIPLE, GREATEST_SPEED};
 ghost use Rattle.msp_instance.specs.Conditions.{HasSpeeds, HasSmallMultiple};
-ghost use Rattle.msp_instance.specs.Multiples.{IsGreatestDivisor, IsLeastMultiple, IsLeastOfAll};
+ghost use Rattle.msp_instance.specs.Multiples.{IsLeastMultiple, IsLeastOfAll};
 
 use crate::ranges::{GREATEST_MULTIPLE, GREATEST_SPEED};
 use msp_class::{Env, EnvKind, env_kind};
 
-/// The greatest common divisor (Euclid).
-fn gcd(a: u64, b: u64) -> u64
-    ensures { IsGreatestDivisor a b result }
+/// The greatest common divisor (Euclid). That of 0 and a number is the number.
+pub fn gcd(a: u128, b: u128) -> u128
+    ensures divisor { IsGcd a b result }
+    ensures scaled { (d factor : ℕ) → d ∣ factor * a → d ∣ factor * b → d ∣ factor * result }
 {
     let mut x = a;
     let mut y = b;
@@ -29,7 +31,8 @@ pub fn common_multiple(a: u64, b: u64) -> u64
     ensures least { IsLeastMultiple a b result }
     ensures some { 1 ≤ result }
 {
-    a / gcd(a, b) * b
+    let divisor = gcd(u128::from(a), u128::from(b)) as u64;
+    a / divisor * b
 }
 
 /// The least common multiple of all speeds.

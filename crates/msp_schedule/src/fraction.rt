@@ -1,27 +1,13 @@
 // Fractions in lowest terms.
 ghost use Rattle.std.specs.Prelude.{◌≡◌, ◌/◌, ◌<◌, pos, neg_ℤ, ◌*ℤ◌, ◌≤ℤ◌, ◌<ℤ◌};
-ghost use Rattle.std.specs.Int.{IsGcd};
 ghost use Rattle.std.specs.Ordering.{int_cmp};
 ghost use Rattle.msp_schedule.specs.Fraction.{IsComparable, IsLowest, IsSameFraction};
 ghost use Rattle.msp_schedule.specs.Within.{i128_limit};
 
 use crate::Frac;
 use crate::job_cost::product;
+use msp_instance::gcd;
 use std::cmp::Ordering;
-
-/// The greatest common divisor (Euclid).
-pub(crate) fn gcd(a: u128, b: u128) -> u128
-    ensures { IsGcd a b result }
-{
-    let mut x = a;
-    let mut y = b;
-    while y != 0 {
-        let rest = x % y;
-        x = y;
-        y = rest;
-    }
-    x
-}
 
 /// The number of this size with the sign of `like`.
 fn with_sign(size: u128, like: i128) -> i128

@@ -8,9 +8,10 @@ ghost use Rattle.msp_schedule.specs.Feasible.{Feasible};
 ghost use Rattle.msp_schedule.specs.Settled.{IsReportedFirst, IsSettled, IsSettledFrom};
 ghost use Rattle.msp_schedule.specs.Within.{Within};
 
-use crate::fraction::{gcd, quotient};
+use crate::fraction::quotient;
 use crate::{Piece, Schedule};
 use msp_class::List;
+use msp_instance::gcd;
 use std::cmp::Ordering;
 
 /// The greatest common divisor of the number and the piece's moments. One division for each moment that the divisor divides.
