@@ -8,9 +8,9 @@ use Rattle.msp_class.specs.Sums.{total_below}
 use Rattle.msp_class.proofs.Sums.{sum_by-agree, sum_by-add, sum_by-constant, sum_by-contains, sum_by-some, sum_by-mono, sum_by_push, cond-le, total_below-range}
 use Rattle.msp_instance.specs.declared.Instance.{Instance}
 use Rattle.msp_instance.specs.Conditions.{InClass, IsSequence, GoesForward}
-use Rattle.msp_instance.specs.Paths.{HasStep}
 use Rattle.msp_schedule.specs.declared.Frac.{Frac}
-use Rattle.msp_schedule.specs.Levels.{LeadsOut, AreLevels, StepsDown, jobs_from}
+use Rattle.msp_schedule.specs.Levels.{LeadsOut, AreLevels, jobs_from}
+use Rattle.msp_schedule.proofs.bounds.LevelBound.{StepsDown-levels}
 use Rattle.msp_schedule.proofs.lists.ForwardOrders.{each_at, leads_to}
 use Rattle.msp_schedule.proofs.lists.Places.{sum_by-places}
 use Rattle.msp_cert.specs.declared.Proof.TheVariants.{Levels}
@@ -79,20 +79,8 @@ count_one level counts k value l small is h = record { wide = length-set counts 
       | inr (ne, none) ↦ omega (arith, more t, none, h.each t b, get_or-set_other counts (get_or level k 0) t value 0 ne)
     ]
 
--- ---- levels step down along arcs, and none is as great as the number of jobs
+-- ---- no level is as great as the number of jobs
 module _ (i : Instance) (level : ℕ → ℕ) (c : InClass i) (h : AreLevels i level) where
-  step_from : (j m : ℕ) → j < length i.jobs → level j ≡ suc m → (k : ℕ) × (k < length i.jobs) × HasStep i.arcs j k × (level j ≤ level k + 1)
-  step_from j m l e = by (subst (λ n. LeadsOut i.arcs n j) e (h j l).path)
-    where
-      by : (k : ℕ) × HasStep i.arcs j k × LeadsOut i.arcs m k → (k : ℕ) × (k < length i.jobs) × HasStep i.arcs j k × (level j ≤ level k + 1)
-      by (k, step, rest) =
-          let inside : k < length i.jobs = (All-contains (λ a. (a.before < length i.jobs) × (a.after < length i.jobs)) i.arcs (record { before = j; after = k }) c.conditions.ends step).1 in
-          let more : m ≤ level k = (h k inside).longest m rest in
-          (k, inside, step, omega (arith, e, more))
-
-  pub steps_down : StepsDown i level
-  steps_down j l some = step_from j (level j - 1) l (omega (arith, some))
-
   beyond : (order : List ℕ) → IsSequence i order → All (GoesForward order) i.arcs → (n p : ℕ) → p < length order → LeadsOut i.arcs n (get_or order p 0) → n + p < length order
   beyond order s forward zero p l out = omega (arith, l)
   beyond order s forward (suc n) p l (k, step, rest) =
@@ -118,7 +106,7 @@ module _ (i : Instance) (level : List ℕ) (c : InClass i) (h : AreAllLevels i l
 
   pub tail_is_worth : (tail high value : ℕ) (v : Frac) → HasUnitJobs i → high ≡ count_by (nat_le tail) level → 0 < high → value ≡ tail + (high + (i.machines - 1)) / i.machines → v.num ≡ pos value → v.den ≡ pos 1 → IsWorth i (Levels level tail) (Some v)
   tail_is_worth tail high value v units e some is num den =
-      levels_are_worth i level tail value v (record { units = units; each = h.each; steps = steps_down i (of_job level) c h.levels; some = reached })
+      levels_are_worth i level tail value v (record { units = units; each = h.each; steps = StepsDown-levels i (of_job level) c.conditions.ends h.levels; some = reached })
       (is ∙ ap (λ n. tail + (n + (i.machines - 1)) / i.machines) (e ∙ sym (jobs_high i level tail h.each))) num den
     where
       reached : Any (λ l. tail ≤ l) level

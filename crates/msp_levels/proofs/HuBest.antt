@@ -1,17 +1,15 @@
 -- The schedule of the rule is feasible and best, and costs the greatest bound of a level.
-use Rattle.std.proofs.Common.{◌≡◌, ℕ, zero, suc, ◌+◌, ◌-◌, ◌*◌, ◌/◌, ◌<◌, ◌≤◌, inl, inr, true, List, length, get_or, pos, ◌*ℤ◌, ◌≤ℤ◌, All, AllPairs, refl, sym, ap, subst, subst₂, ◌∙◌, arith}
+use Rattle.std.proofs.Common.{◌≡◌, ℕ, ◌+◌, ◌-◌, ◌*◌, ◌/◌, ◌<◌, ◌≤◌, inl, inr, true, List, length, get_or, pos, ◌*ℤ◌, ◌≤ℤ◌, All, AllPairs, sym, ap, subst, subst₂, ◌∙◌, arith}
 use Rattle.std.specs.List.{range_with_len}
 use Rattle.std.proofs.lemmas.Bool.{cases_lt}
 use Rattle.std.proofs.lemmas.Int.{ints}
 use Rattle.std.proofs.lemmas.Nat.{le-div}
 use native.Mathlib.Nat.{mul-le-mul_left}
-use Rattle.std.proofs.lemmas.List.Elements.{All-contains}
 use Rattle.msp_class.specs.Crit.{is_greatest}
 use Rattle.msp_class.proofs.IntegerRing.{pos-le, ≤ℤ_trans, ≤ℤ_antisym, one-*ℤ, *ℤ-one, *ℤ_comm}
 use Rattle.msp_class.proofs.Sums.{OnceBelow-range}
 use Rattle.msp_instance.specs.declared.Instance.{Instance}
 use Rattle.msp_instance.specs.Instance.{no_job, job_at}
-use Rattle.msp_instance.specs.Paths.{HasStep}
 use Rattle.msp_instance.specs.Conditions.{Inner}
 use Rattle.msp_schedule.specs.declared.Piece.{Piece}
 use Rattle.msp_schedule.specs.declared.Schedule.{Schedule}
@@ -25,7 +23,7 @@ use Rattle.msp_schedule.proofs.lists.Intervals.{greatest_below, greatest_below-b
 use Rattle.msp_schedule.proofs.costs.Charges.{charge_of, cost_of-bound, cost_of-least}
 use Rattle.msp_route.specs.Bounds.{IsAnswer, answer_unit}
 use Rattle.msp_route.proofs.OneEach.{one_each_is_answer}
-use Rattle.msp_schedule.specs.Levels.{LeadsOut, AreLevels, jobs_from, level_bound, StepsDown}
+use Rattle.msp_schedule.specs.Levels.{AreLevels, jobs_from, level_bound}
 use Rattle.msp_slots.specs.ListSchedule.{IsListSchedule}
 use Rattle.msp_slots.proofs.UnitPieces.{HasUnitJobs, AreUnitPieces, one_each, uncut, unit_pieces_are_feasible, unit_pieces_are_within, unit_piece_ends}
 use Rattle.msp_slots.proofs.ListSchedules.{unit_pieces, list_schedule_is_settled}
@@ -33,7 +31,7 @@ use Rattle.msp_levels.specs.Levels.{levels_class, IsGreatestBound, IsLevelCost}
 use Rattle.msp_levels.specs.Steps.{level_from, Fits}
 use Rattle.msp_levels.proofs.Progress.{ends_soon}
 use Rattle.msp_levels.proofs.Facts.{IsUnitForest, IsUnitForest-from, IsForest-from, ones}
-use Rattle.msp_schedule.proofs.bounds.LevelBound.{law_of_levels}
+use Rattle.msp_schedule.proofs.bounds.LevelBound.{StepsDown-levels, law_of_levels}
 
 -- the quotient rounded up is enough
 enough : (n m : ℕ) → 1 ≤ m → n ≤ m * ((n + (m - 1)) / m)
@@ -86,19 +84,10 @@ module _ (i : Instance) (t : IsUnitForest i) (level : ℕ → ℕ) (levels : Are
   upper : cost_of i (schedule_of pieces) ≤ℤ pos levels_bound
   upper = cost_of-least i (schedule_of pieces) (pos levels_bound) greatest_crit t.some (λ k b. subst (λ x. x ≤ℤ pos levels_bound) (sym (charge (schedule_of pieces) k ∙ unit_piece_ends i unit_jobs h.begin h.machine pieces units k b)) (pos-le (soon_enough k b)))
 
-  steps_down : StepsDown i level
-  steps_down j b some = by (level j) refl (levels j b).path
-    where
-      by : (l : ℕ) → level j ≡ l → LeadsOut i.arcs l j → (k : ℕ) × (k < n) × HasStep i.arcs j k × (level j ≤ level k + 1)
-      by zero e p = absurd (omega (arith, e, some))
-      by (suc l) e (k, step, p) =
-          let inside = (All-contains (λ a. (a.before < n) × (a.after < n)) i.arcs (record { before = j; after = k }) t.ends step).1 in
-          (k, inside, step, omega (arith, e, (levels k inside).longest l p))
-
   lower : (s : Schedule) → Feasible i s → (s.unit *ℤ pos levels_bound) ≤ℤ cost_of i s
   lower s f =
       let (j, b, e) = is_greatest_bound.reached in
-      let (k, inside, bound) = law_of_levels i s level (level j) j t.kind t.cut (ones i t) steps_down f b (omega arith) in
+      let (k, inside, bound) = law_of_levels i s level (level j) j t.kind t.cut (ones i t) (StepsDown-levels i level t.ends levels) f b (omega arith) in
       ≤ℤ_trans (subst (λ v. (s.unit *ℤ pos v) ≤ℤ end_of s k) e bound) (subst (λ x. x ≤ℤ cost_of i s) (charge s k) (cost_of-bound i s greatest_crit k inside))
 
   cost_is : cost_of i (schedule_of pieces) ≡ pos levels_bound

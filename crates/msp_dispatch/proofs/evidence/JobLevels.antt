@@ -13,7 +13,8 @@ use Rattle.msp_schedule.specs.declared.Frac.{Frac}
 use Rattle.msp_schedule.specs.Levels.{IsLevel, jobs_from, level_bound}
 use Rattle.msp_cert.specs.declared.Proof.TheVariants.{Levels}
 use Rattle.msp_cert.specs.Certificates.{HasUnitJobs, of_job}
-use Rattle.msp_cert.proofs.Tails.{steps_down, level_few}
+use Rattle.msp_schedule.proofs.bounds.LevelBound.{StepsDown-levels}
+use Rattle.msp_cert.proofs.Tails.{level_few}
 use Rattle.msp_levels.specs.Levels.{levels_class, IsLevelCost}
 use Rattle.msp_dispatch.specs.Shown.{IsTriedValue}
 use Rattle.msp_dispatch.proofs.evidence.Tried.{tried-levels}
@@ -65,7 +66,7 @@ module _ (i : Instance) (c : InClass i) (class : i.class ≡ levels_class) (cost
               record {
                 units = units;
                 each = all.each;
-                steps = steps_down i (of_job levels) c all.levels;
+                steps = StepsDown-levels i (of_job levels) c.conditions.ends all.levels;
                 some = (j, of_job levels j, omega (arith, l, all.each), get_or_default levels j (of_job levels j) 0 (omega (arith, l, all.each)), omega (arith, same j l));
               },
               (ap pos (sym e ∙ level_bound-same i level (of_job levels) (level j) same), refl),

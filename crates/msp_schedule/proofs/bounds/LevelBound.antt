@@ -22,7 +22,7 @@ use Rattle.msp_schedule.proofs.bounds.EndsAndFloors.{law_of_ends, law_of_floors}
 use Rattle.msp_schedule.proofs.bounds.Floored.{FillsUnit, floored-fills}
 use Rattle.msp_schedule.proofs.feasible.LastEnds.{last_end-reached}
 use Rattle.msp_schedule.proofs.feasible.Frames.{frame_of, HasWork, IsShaped-from_identical, Fits-from_feasible}
-use Rattle.msp_schedule.specs.Levels.{StepsDown, jobs_from, level_bound, LawOfLevels}
+use Rattle.msp_schedule.specs.Levels.{LeadsOut, AreLevels, StepsDown, jobs_from, level_bound, LawOfLevels}
 
 -- ---- numbers
 -- the quotient rounded up
@@ -32,6 +32,16 @@ rounded_up n (suc m) d some h = let b : (n + (suc m - 1)) / suc m < d + 1 = div_
 
 cancelled : (u m n d : ℕ) → 1 ≤ u → u * n ≤ m * (u * d) → n ≤ m * d
 cancelled u m n d some h = le_of_mul-le-mul_left {k = u} (omega (arith, h)) some
+
+-- ---- levels step down along arcs
+pub StepsDown-levels : (i : Instance) (level : ℕ → ℕ) → All (λ a. (a.before < length i.jobs) × (a.after < length i.jobs)) i.arcs → AreLevels i level → StepsDown i level
+StepsDown-levels i level ends levels j b some = by (level j) refl (levels j b).path
+  where
+    by : (l : ℕ) → level j ≡ l → LeadsOut i.arcs l j → (k : ℕ) × (k < length i.jobs) × HasStep i.arcs j k × (level j ≤ level k + 1)
+    by zero e p = absurd (omega (arith, e, some))
+    by (suc l) e (k, step, p) =
+        let inside : k < length i.jobs = (All-contains (λ a. (a.before < length i.jobs) × (a.after < length i.jobs)) i.arcs (record { before = j; after = k }) ends step).1 in
+        (k, inside, step, omega (arith, e, (levels k inside).longest l p))
 
 -- where jobs on identical machines take one unit of time, each has work
 pub unit_work : (i : Instance) → kind_of i.class.env ≡ Identical → ((k : ℕ) → k < length i.jobs → (need_at i k 0).time ≡ 1) → HasWork (frame_of i)
