@@ -15,8 +15,6 @@ mod prices;
 mod search;
 mod single;
 mod stored;
-#[cfg(test)]
-mod tests;
 mod view;
 
 pub use assignment::{Assignment, MOST_COLUMNS, MOST_ROWS, assign, assign_on_lines, law_of_limits};

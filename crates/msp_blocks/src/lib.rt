@@ -8,7 +8,5 @@
 mod blocks;
 mod filling;
 mod heads;
-#[cfg(test)]
-mod tests;
 
 pub use blocks::{BindingBlock, Blocks, UnitBlocks, binding};

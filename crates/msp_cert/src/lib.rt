@@ -21,8 +21,6 @@ mod prices;
 mod search;
 mod segments;
 mod shops;
-#[cfg(test)]
-mod tests;
 mod true_levels;
 mod worth;
 

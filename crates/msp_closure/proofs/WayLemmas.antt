@@ -7,7 +7,7 @@ use Rattle.std.proofs.lemmas.List.Elements.{Contains-push, Contains-push_cases}
 use Rattle.msp_class.specs.declared.class.Class.{Class}
 use Rattle.msp_class.specs.declared.ranks.TheConstants.{CLASSES}
 use Rattle.msp_table.specs.declared.row.Chain.{Chain}
-use Rattle.msp_table.specs.Chains.{Reaches, IsNearest}
+use Rattle.msp_table.specs.Chains.{Reaches, IsNearest, stay}
 use Rattle.msp_closure.specs.declared.distances.TheConstants.{FAR}
 use Rattle.msp_closure.specs.Entries.{LeadsToOne, IsLedTo, HasWay, IsFirst, here, later, IsWay}
 use Rattle.msp_closure.specs.Tables.{value_of, AreDistances}
@@ -125,6 +125,17 @@ none_between usable a b r = none_exactly (Reaches usable a b) usable (b ∷ []) 
     let P : Class → Type 0 = λ x. Reaches usable x b in
     let Q : Class → Type 0 = Reaches usable h.0 in
     subst P (sym (one_is h.1)) (subst Q (sym (one_is h.2.1)) h.2.2))
+
+-- from a class to itself no row is the nearest chain
+pub no_rows_is_way : (usable : ℕ → Bool) (a : Class) → IsWay usable (a ∷ []) (a ∷ []) (Some (record { from = a; rows = [] }))
+no_rows_is_way usable a = (
+  here (a, Contains-push [] a, ([], stay)),
+  record {
+    leads = record { last = a; is_wanted = Contains-push [] a; leads = stay };
+    shortest = λ js into. omega arith;
+    least_rows = tt;
+  },
+)
 
 -- neither
 pub none_any : {E : Type 0} (usable : ℕ → Bool) (wanted starts goals firsts : List Class) (r : Result (Option Chain) E) → wanted ≡ goals → starts ≡ firsts

@@ -1,5 +1,5 @@
 // The chains that show what known results say.
-ghost use Rattle.std.specs.Prelude.{◌↔◌, ◌≤◌, ◌∷◌, [], length, IfOk, IfSome, IsNone};
+ghost use Rattle.std.specs.Prelude.{◌≡◌, ◌↔◌, ◌≤◌, ◌∷◌, [], ℕ, Bool, Some, length, IfOk, IfSome, IsNone};
 ghost use Rattle.msp_class.specs.declared.ranks.TheConstants.{CLASSES};
 ghost use Rattle.msp_table.specs.Rows.{carries, keeps_size};
 ghost use Rattle.msp_table.specs.Chains.{every_row, Reaches};
@@ -11,7 +11,7 @@ use crate::entry::{Entry, Verdict};
 use crate::listing::listed;
 use crate::row_set::RowSet;
 use crate::walk::{first_near, walk};
-use msp_class::{Class, List, NoMemory};
+use msp_class::{Class, List, NoMemory, rank};
 use msp_table::Chain;
 use std::alloc::Global;
 
@@ -98,12 +98,26 @@ pub fn strong_clash(alloc: Global, entries: &List<Entry>) -> Result<Option<Chain
     )
 }
 
+/// The chain of no row, which leads from a class to itself.
+fn no_rows(alloc: Global, from: Class) -> Chain
+    ensures way { (usable : ℕ → Bool) → IsWay usable (from ∷ []) (from ∷ []) (Some result) }
+    ensures few { length result.rows ≡ 0 }
+{
+    Chain {
+        from,
+        rows: List::new(alloc),
+    }
+}
+
 /// The nearest chain of carrying rows from one class to another. None comes exactly where there is none.
 pub fn route_to(alloc: Global, from: Class, to: Class) -> Result<Option<Chain>, NoMemory>
     ensures none { IfOk result (λ found. IsNone found ↔ (¬ Reaches carries from to)) }
     ensures way { IfOk result (λ found. IsWay carries (to ∷ []) (from ∷ []) found) }
     ensures few { IfOk result (λ found. IfSome found (λ chain. length chain.rows ≤ CLASSES)) }
 {
+    if rank(from) == rank(to) {
+        return Ok(Some(no_rows(alloc, from)));
+    }
     way(alloc, RowSet::Carrying, &[from], &[to])
 }
 

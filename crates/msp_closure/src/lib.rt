@@ -16,8 +16,6 @@ mod reach_bits;
 mod reached;
 mod relation;
 mod row_set;
-#[cfg(test)]
-mod tests;
 mod walk;
 
 pub use chains::{clash, route_to, strong_clash, why_easy, why_hard, why_pseudo, why_strong};

@@ -144,32 +144,3 @@ fn join_row(
         _ => false,
     }
 }
-
-#[cfg(test)]
-mod tests {
-    use super::*;
-    use msp_class::{Crit, Env, Order, Times};
-    use std::test::Fail;
-
-    const LATENESS: Class = Class {
-        env: Env::One,
-        cut: false,
-        order: Order::Free,
-        heads: false,
-        times: Times::General,
-        crit: Crit::Lmax,
-    };
-
-    const LATE_WEIGHT: Class = Class {
-        crit: Crit::SumWU,
-        ..LATENESS
-    };
-
-    #[test]
-    fn lateness_leads_to_late_weight(rt: HostRuntime) -> Result<(), Fail> {
-        let bits = reach(rt.alloc())?;
-        assert!(rt; reaches(&bits, LATENESS, LATE_WEIGHT));
-        assert!(rt; !reaches(&bits, LATE_WEIGHT, LATENESS));
-        Ok(())
-    }
-}

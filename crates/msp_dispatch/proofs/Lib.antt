@@ -1,3 +1,4 @@
 pub mod Picks
 mod Reach
 pub mod evidence
+pub mod Small

@@ -1,13 +1,16 @@
-// A small instance of each class that is certified, and two that are not.
+// A small instance of each class that is certified, two that are not, and a cost that no proof shows.
+ghost use Rattle.msp_schedule.specs.Fraction.{IsComparable};
+
 use crate::{Uncertified, certify_any};
 use msp_blocks::Blocks;
-use msp_cert::{Proof, accept};
+use msp_cert::{Proof, accept, find};
 use msp_class::{Class, Crit, Env, Order};
 use msp_instance::{Instance, Need};
 use msp_levels::Levels;
 use msp_lexical::Lexical;
 use msp_route::Solver;
 use msp_samples::{JobData, UNIT_JOB, class, in_class, instance, instance_by_needs, need, timed};
+use msp_schedule::Frac;
 use msp_shops::{Open2, OpenCut};
 use msp_total::Unrelated;
 use msp_uniform::UniformCut;
@@ -45,6 +48,22 @@ fn certified(alloc: Global, inst: Option<Instance>) -> Option<(i128, i128, &'sta
 fn uncertified(alloc: Global, inst: Option<Instance>) -> Option<Uncertified> {
     let inst = in_class(alloc, inst?)?;
     certify_any(alloc, &inst).err()
+}
+
+fn whole(cost: u64) -> Frac
+    ensures { IsComparable result }
+{
+    Frac {
+        num: i128::from(cost),
+        den: 1,
+    }
+}
+
+/// The kind of the proof that is found for the cost, and None for want of memory.
+fn found(alloc: Global, inst: Option<Instance>, cost: u64) -> Option<Option<&'static str>> {
+    let inst = in_class(alloc, inst?)?;
+    let proof = find(alloc, &inst, whole(cost)).ok()?;
+    Some(proof.as_ref().map(kind_of))
 }
 
 fn by_needs(
@@ -87,6 +106,16 @@ fn open_shops_by_a_job_or_a_machine(rt: HostRuntime) {
     assert_eq!(rt; by_needs(alloc, OpenCut.target(), &[], &full), machine);
     assert_eq!(rt; by_needs(alloc, Open2.target(), &[], &long), line);
     assert_eq!(rt; by_needs(alloc, Open2.target(), &[], &full), machine);
+}
+
+#[test]
+fn costs_of_a_shop(rt: HostRuntime) {
+    let alloc = rt.alloc();
+    let needs: [&[Need]; 2] = [&[need(0, 1), need(1, 1)], &[need(0, 3), need(1, 2)]];
+    for (cost, kind) in [(3, Some("machine")), (5, Some("line")), (6, None)] {
+        let shop = instance_by_needs(alloc, Open2.target(), 2, &[], &needs);
+        assert_eq!(rt; found(alloc, shop, cost), Some(kind));
+    }
 }
 
 #[test]

@@ -10,12 +10,16 @@
 
 ghost use Rattle.std.specs.Prelude.{◌≡◌};
 
+#[cfg(test)]
+mod bound_tests;
 mod certify;
 #[cfg(test)]
 mod certify_tests;
 mod fit;
 mod pick;
 mod reached;
+#[cfg(test)]
+mod row_tests;
 mod shown;
 mod solve;
 mod solved_list;

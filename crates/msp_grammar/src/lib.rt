@@ -13,8 +13,6 @@ mod laws;
 mod layout;
 mod limits;
 mod schedule_printer;
-#[cfg(test)]
-mod tests;
 
 pub use filed::Filed;
 pub use instance_printer::print_instance;

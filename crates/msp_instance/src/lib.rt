@@ -15,8 +15,6 @@ mod path_rows;
 mod ranges;
 mod sequence;
 mod speeds;
-#[cfg(test)]
-mod tests;
 
 pub use arcs::{arcs_by_after, arcs_by_before, entering_of, leaving_of};
 pub use jobs::least_time;

@@ -7,7 +7,5 @@
 
 mod level;
 mod rule;
-#[cfg(test)]
-mod tests;
 
 pub use rule::{Levels, schedule_by_levels};

@@ -9,8 +9,6 @@ mod label;
 mod links;
 mod rule;
 mod segment;
-#[cfg(test)]
-mod tests;
 
 pub use rule::{Lexical, schedule_by_labels};
 pub use segment::segments;

@@ -2,4 +2,3 @@ mod InTime
 mod Sweeps
 mod Closed
 mod EqualBounds
-pub mod Small

@@ -8,8 +8,6 @@ mod criteria;
 mod curves;
 mod equal;
 mod names;
-#[cfg(test)]
-mod tests;
 mod threshold;
 
 pub use criteria::{Row8, Row10, Row11, Row12, Row13, Row14};

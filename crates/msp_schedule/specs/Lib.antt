@@ -5,7 +5,6 @@ pub mod Fraction
 pub mod Within
 pub mod Settled
 pub mod Divisor
-pub mod Examples
 pub mod Laws
 pub mod Breaks
 pub mod Lanes

@@ -14,8 +14,6 @@ use msp_class::List;
 
 mod arcs;
 mod breaks;
-#[cfg(test)]
-mod definitions;
 mod fraction;
 mod job_cost;
 mod job_marks;
@@ -28,8 +26,6 @@ mod routes;
 mod settling;
 mod shares;
 mod sweep;
-#[cfg(test)]
-mod tests;
 mod total_cost;
 mod work;
 

@@ -12,8 +12,6 @@ mod open_cut;
 mod order;
 mod pass;
 mod slices;
-#[cfg(test)]
-mod tests;
 mod two_machines;
 
 pub use jackson::Jackson;

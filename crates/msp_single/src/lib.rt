@@ -8,8 +8,6 @@
 mod lawler;
 mod moore;
 mod smith;
-#[cfg(test)]
-mod tests;
 
 pub use lawler::Lawler;
 pub use moore::Moore;

@@ -5,7 +5,5 @@
 #![tactic(auto)]
 
 mod shortest;
-#[cfg(test)]
-mod tests;
 
 pub use shortest::Shortest;

@@ -93,29 +93,3 @@ pub fn text(row: Row) -> &'static str
         _ => "p=p to p=1",
     }
 }
-
-#[cfg(test)]
-mod tests {
-    use super::*;
-    use std::test::Fail;
-
-    #[test]
-    fn texts_and_kinds(rt: HostRuntime) -> Result<(), Fail> {
-        let first = Row::new(1).ok_or("no row 1")?;
-        assert_eq!(rt; first.number(), 1);
-        assert_eq!(rt; text(first), "none to chains");
-        assert_eq!(rt; kind(first), RowKind::Carries);
-        let threshold = Row::new(15).ok_or("no row 15")?;
-        assert_eq!(rt; text(threshold), "Lmax to sumU");
-        assert_eq!(rt; kind(threshold), RowKind::Threshold);
-        assert!(rt; keeps_size(threshold));
-        assert!(rt; carries(first));
-        assert!(rt; !carries(threshold));
-        assert!(rt; !keeps_size(Row::new(26).ok_or("no row 26")?));
-        let last = Row::new(54).ok_or("no row 54")?;
-        assert_eq!(rt; text(last), "p=p to p=1");
-        assert_eq!(rt; Row::new(0), None);
-        assert_eq!(rt; Row::new(55), None);
-        Ok(())
-    }
-}

@@ -10,8 +10,6 @@ mod by_due_date;
 mod kept;
 mod search;
 mod squeezing;
-#[cfg(test)]
-mod tests;
 
 pub use search::Search;
 pub use squeezing::{LATE_COUNT_CLASS, squeezed};

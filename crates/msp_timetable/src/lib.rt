@@ -11,8 +11,6 @@ mod matrix;
 mod search;
 mod splitting;
 mod square;
-#[cfg(test)]
-mod tests;
 
 pub use matrix::{Matrix, Slice};
 pub use splitting::{MOST_COLUMNS, MOST_ROWS, split};

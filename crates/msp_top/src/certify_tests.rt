@@ -65,6 +65,27 @@ const CERTIFIES: &[Case] = &[
         out: b"class Q|pmtn|Cmax\ncost 9/5\ncertificate\nbound 9/5\nkind group\njob a\njob b\nend\n",
         notes: b"",
     },
+    Case {
+        words: &["certify"],
+        text: b"msp 1\nclass R||sumC\nmachines 2\njob a\ntimes 2 3\njob b\ntimes 2 9\nend\n",
+        status: 0,
+        out: b"class R||sumC\ncost 5\ncertificate\nbound 5\nkind prices\nrow a 3\nrow b 3\ncolumn 1 1 -1\nend\n",
+        notes: b"",
+    },
+    Case {
+        words: &["certify"],
+        text: b"msp 1\nclass R||sumC\nmachines 3\njob a\ntimes 7 4 9\nend\n",
+        status: 0,
+        out: b"class R||sumC\ncost 4\ncertificate\nbound 4\nkind prices\nrow a 4\nend\n",
+        notes: b"",
+    },
+    Case {
+        words: &["certify"],
+        text: b"msp 1\nclass P|pmtn|Cmax\nmachines 2\njob a p=2\njob b p=4\njob c p=4\nend\n",
+        status: 0,
+        out: b"class P|pmtn|Cmax\ncost 5\ncertificate\nbound 5\nkind group\njob b\njob c\njob a\nend\n",
+        notes: b"",
+    },
 ];
 
 /// A class without certificates, an instance that does not fit the solver, a text with a fault, and words that fit no command.

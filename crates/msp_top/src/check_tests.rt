@@ -71,6 +71,41 @@ const CHECKS: &[Case] = &[
         out: b"",
         notes: b"msp: usage: words fit no command\n",
     },
+    Case {
+        words: &["check"],
+        text: b"msp 1\nclass 1|prec,r|Cmax\njob a p=2 r=0\njob b p=1 r=1\narc a b\nend\nschedule\ncost 3\nunit 1\npiece b 1 1 1 2\npiece a 1 1 0 2\nend\n",
+        status: 1,
+        out: b"class 1|prec,r|Cmax\njobs 2\npieces 2\nfeasible no\nbreak machine 2 1\nend\n",
+        notes: b"",
+    },
+    Case {
+        words: &["check"],
+        text: b"msp 1\nclass 1|prec,r|Cmax\njob a p=2 r=0\njob b p=1 r=1\narc a b\nend\nschedule\ncost 3\nunit 1\npiece b 1 1 0 1\npiece a 1 1 1 3\nend\n",
+        status: 1,
+        out: b"class 1|prec,r|Cmax\njobs 2\npieces 2\nfeasible no\nbreak release 1\nend\n",
+        notes: b"",
+    },
+    Case {
+        words: &["check"],
+        text: b"msp 1\nclass 1|prec,r|Cmax\njob a p=2 r=0\njob b p=1 r=1\narc a b\nend\nschedule\ncost 3\nunit 1\npiece b 1 1 1 2\npiece a 1 1 2 4\nend\n",
+        status: 1,
+        out: b"class 1|prec,r|Cmax\njobs 2\npieces 2\nfeasible no\nbreak arc 1\nend\n",
+        notes: b"",
+    },
+    Case {
+        words: &["check"],
+        text: b"msp 1\nclass 1|prec,r|Cmax\njob a p=2 r=0\njob b p=1 r=1\narc a b\nend\nschedule\ncost 3\nunit 1\npiece a 1 1 0 1\npiece b 1 1 2 3\nend\n",
+        status: 1,
+        out: b"class 1|prec,r|Cmax\njobs 2\npieces 2\nfeasible no\nbreak work a 1\nend\n",
+        notes: b"",
+    },
+    Case {
+        words: &["check"],
+        text: b"msp 1\nclass F2||Cmax\njob a\ntimes 1 1\nend\nschedule\ncost 2\nunit 1\npiece a 2 2 0 1\npiece a 1 1 1 2\nend\n",
+        status: 1,
+        out: b"class F2||Cmax\njobs 1\npieces 2\nfeasible no\nbreak route a 2\nend\n",
+        notes: b"",
+    },
 ];
 
 #[test]

@@ -415,6 +415,13 @@ const CASES: &[Case] = &[
         out: b"",
         notes: b"msp: record 1: width\n",
     },
+    Case {
+        words: &["why", "1|chains|sumwU"],
+        text: b"class,strength,source\n1||sumwU,hard,Karp 1972\n1||sumwU,pseudo,Lawler and Moore 1969\n",
+        status: 0,
+        out: b"class 1|chains|sumwU\nlabel hard\nhard\nrecord 1 Karp 1972\nstart 1||sumwU\nrow 1 1|chains|sumwU\nend\n",
+        notes: b"",
+    },
 ];
 
 /// What a call is run on: the words, the input, how many bytes a device takes or gives at once, and the calls of the source and of the
@@ -537,6 +544,11 @@ fn draws_the_frontier(rt: HostRuntime) -> Result<(), Fail> {
         seen.out
             .starts_with(b"maximal easy 2\n1||Cmax\n1|pmtn|Cmax\nminimal hard 0\n")
     );
+    let unknown = outcome(
+        rt.alloc(),
+        &calling(&["frontier"], b"class,verdict,source\n"),
+    )?;
+    assert!(rt; unknown.out.starts_with(b"maximal easy 0\nminimal hard 0\n"));
     Ok(())
 }
 

@@ -8,10 +8,6 @@ mod lay;
 mod positions;
 mod slot_costs;
 mod slot_table;
-#[cfg(test)]
-mod slot_tests;
-#[cfg(test)]
-mod tests;
 mod uniform;
 mod unit_slots;
 mod unrelated;

@@ -6,7 +6,5 @@
 
 mod horn;
 mod joining;
-#[cfg(test)]
-mod tests;
 
 pub use horn::Horn;

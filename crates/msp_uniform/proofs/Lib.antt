@@ -24,3 +24,4 @@ pub mod QuotientFacts
 pub mod DataFacts
 pub mod UniformAnswer
 pub mod UniformBest
+pub mod LatestFirst

@@ -1,9 +1,10 @@
 -- The schedule of filled segments is best, within the bounds, and costs the greatest quotient.
-use Rattle.std.proofs.Common.{◌≡◌, ℕ, zero, suc, ◌*◌, ◌<◌, ◌≤◌, ◌⊎◌, inl, inr, List, length, take, get_or, ℤ, pos, ◌*ℤ◌, ◌≤ℤ◌, All, sum_by, sym, ap, subst, subst₂, ◌∙◌, arith}
+use Rattle.std.proofs.Common.{◌≡◌, ℕ, zero, suc, ◌*◌, ◌<◌, ◌≤◌, ◌⊎◌, inl, inr, List, length, take, get_or, ℤ, pos, ◌*ℤ◌, ◌≤ℤ◌, All, sum_by, IsPermutation, refl, sym, ap, subst, subst₂, ◌∙◌, arith}
 use Rattle.std.proofs.lemmas.Int.{ints}
 use Rattle.std.proofs.Math.Nat.{mul-le-mul_left, eq_of_mul-eq-mul_right}
 use Rattle.std.proofs.lemmas.List.{get_or-map, length-map}
 use Rattle.std.proofs.lemmas.List.Elements.{All-take}
+use Rattle.std.proofs.lemmas.List.Sorted.{All-permutation, length_permutation}
 use native.Mathlib.Nat.{le_of_mul-le-mul_left}
 use Rattle.msp_class.specs.Env.{kind_of}
 use Rattle.msp_class.specs.declared.environments.EnvKind.{EnvKind}
@@ -22,8 +23,11 @@ use Rattle.msp_schedule.specs.Fraction.{IsOver}
 use Rattle.msp_schedule.specs.Cost.{cost_of, Best}
 use Rattle.msp_schedule.specs.Rows.{time_at}
 use Rattle.msp_schedule.specs.Speeds.{speed_of, speed_by}
-use Rattle.msp_schedule.specs.Within.{Within, IsMoment}
+use Rattle.msp_schedule.specs.Within.{Within, IsMoment, IsUnit}
 use Rattle.msp_route.specs.Bounds.{IsAnswer, answer_unit}
+use Rattle.msp_route.specs.declared.bounds.TheConstants.{GREATEST_ANSWER_MOMENT}
+use Rattle.msp_schedule.proofs.costs.Charges.{cost-same_ends, SameCharges-from_jobs}
+use Rattle.msp_schedule.proofs.lists.Permuted.{Feasible-permutation, last_end-permutation}
 use Rattle.msp_schedule.proofs.feasible.OfClass.{IsOfClass, IsOfClass-from}
 use Rattle.msp_uniform.specs.declared.segments.Segment.{Segment}
 use Rattle.msp_uniform.specs.declared.task.Task.{Task}
@@ -35,6 +39,12 @@ use Rattle.msp_uniform.specs.Answers.{IsTaskOf, IsCutPlan}
 use Rattle.msp_uniform.proofs.RowFacts.{long, IsRowOf, slices_in_row, row_few}
 use Rattle.msp_uniform.proofs.LeastEnd.{law_of_least_end, order_within, order_length}
 use Rattle.msp_uniform.proofs.UniformBest.{row_schedule, row_is_best, row_costs}
+
+not_unrelated : (e : EnvKind) → e ≡ Uniform → e ≡ Unrelated → ⊥
+not_unrelated e p q = uniform_not (sym p ∙ q)
+  where
+    uniform_not : Uniform ≡ Unrelated → ⊥
+    uniform_not x = absurd (cc)
 
 -- what is said of the answer
 pub record IsBestCut (i : Instance) (s : Schedule) : Type 0 where
@@ -210,12 +220,32 @@ module _ (i : Instance) (class : i.class ≡ cut_class) (inner : Inner i) (t : T
     };
     cost = made_cost;
   }
-    where
-      not_unrelated : (e : EnvKind) → e ≡ Uniform → e ≡ Unrelated → ⊥
-      not_unrelated e p q = uniform_not (sym p ∙ q)
-        where
-          uniform_not : Uniform ≡ Unrelated → ⊥
-          uniform_not x = absurd (cc)
+
+-- what is said of an answer holds of its pieces in any order
+IsBestCut-permutation : (i : Instance) → IsOfClass i cut_class → (s r : Schedule) → s.unit ≡ r.unit → IsPermutation s.pieces r.pieces → IsBestCut i s → IsBestCut i r
+IsBestCut-permutation i h s r units moved b =
+    let costs : cost_of i s ≡ cost_of i r =
+    cost-same_ends i i s r (SameCharges-from_jobs i i refl refl (λ k l. (refl, refl, refl))) units b.best.feasible.unit (λ k l. last_end-permutation s.pieces r.pieces moved k) in
+    record {
+      best = record {
+        feasible = Feasible-permutation i s r units moved b.best.feasible;
+        least = λ t f. subst₂ (λ x u. (x *ℤ t.unit) ≤ℤ (cost_of i t *ℤ u)) costs units (b.best.least t f);
+      };
+      within = record {
+        unit = subst IsUnit units b.within.unit;
+        few = omega (arith, b.within.few, length_permutation s.pieces r.pieces moved);
+        moments = All-permutation (λ p. IsMoment p.from × IsMoment p.to) s.pieces r.pieces moved b.within.moments;
+        scaled = λ u. absurd (not_unrelated (kind_of i.class.env) h.kind u);
+      };
+      answer = record {
+        few = omega (arith, b.answer.few, length_permutation s.pieces r.pieces moved);
+        unit = subst (λ u. u ≤ℤ answer_unit (kind_of i.class.env)) units b.answer.unit;
+        ends = All-permutation (λ p. p.to ≤ℤ GREATEST_ANSWER_MOMENT) s.pieces r.pieces moved b.answer.ends;
+      };
+      cost = λ c over. b.cost c (subst₂ (λ x u. IsOver c x u) (sym costs) (sym units) over);
+    }
 
 pub IsBestCut-from_plan : (i : Instance) → i.class ≡ cut_class → Inner i → (s : Schedule) → IsCutPlan i s → IsBestCut i s
-IsBestCut-from_plan i class inner s (unit, xs, (t, jobs, machines, k, f), e) = subst (IsBestCut i) (sym e) (made_best i class inner t jobs machines k unit xs f)
+IsBestCut-from_plan i class inner s (unit, xs, (t, jobs, machines, k, f), units, moved) =
+    IsBestCut-permutation i (h i class inner t jobs machines k unit xs f) (made i class inner t jobs machines k unit xs f) s (sym units) moved
+    (made_best i class inner t jobs machines k unit xs f)

@@ -1,5 +1,5 @@
 -- The jobs of an instance laid over segments, and the schedule of these. No public contract cites this file.
-use Rattle.std.specs.Prelude.{◌≡◌, ℕ, List, length, map, pos, slice_index_or}
+use Rattle.std.specs.Prelude.{◌≡◌, ℕ, List, length, map, pos, slice_index_or, IsPermutation}
 use Rattle.msp_instance.specs.declared.Instance.{Instance}
 use Rattle.msp_instance.specs.Instance.{no_need}
 use Rattle.msp_schedule.specs.declared.Schedule.{Schedule}
@@ -22,4 +22,4 @@ abbrev pub IsLaidOut : Instance → ℕ → List Segment → Type 0
 IsLaidOut i unit xs = (t : Task) × (jobs : List ℕ) × (machines : List ℕ) × IsTaskOf i t jobs machines × IsFilled t unit xs
 
 abbrev pub IsCutPlan : Instance → Schedule → Type 0
-IsCutPlan i s = (unit : ℕ) × (xs : List Segment) × IsLaidOut i unit xs × (s ≡ record { unit = pos unit; pieces = runs (length i.jobs) xs i.machines })
+IsCutPlan i s = (unit : ℕ) × (xs : List Segment) × IsLaidOut i unit xs × (s.unit ≡ pos unit) × IsPermutation (runs (length i.jobs) xs i.machines) s.pieces

@@ -31,6 +31,32 @@ pub record IsSliceOf (m n : ℕ) (long : ℕ) (jobs : List ℕ) : Type 0 where
   pub inside : (i : ℕ) → i < m → slice_index_or jobs i 0 ≤ n
   pub once : (i j : ℕ) → i < j → j < m → slice_index_or jobs i 0 ≡ slice_index_or jobs j 0 → slice_index_or jobs i 0 ≡ n
 
--- A machine that has had a job since the moment a gets one at the moment t: the same one, or another.
-abbrev pub IsChange : ℕ → ℕ → ℕ → ℕ → ℕ → ℕ → List Piece → List Piece → ℕ → ℕ → Type 0
-IsChange none machine j a job t old new j' a' = ((job ≡ j) × (new ≡ old) × (j' ≡ j) × (a' ≡ a)) ⊎ ((job ≢ j) × (new ≡ old ++ part_on none machine j a t) × (j' ≡ job) × (a' ≡ t))
+-- The moment up to which a machine has the job j in segments from the moment t on.
+abbrev pub until : ℕ → ℕ → ℕ → List Segment → ℕ
+until machine j t [] = t
+until machine j t (x ∷ xs) = if slice_index_or x.body.value.jobs.items machine 0 == j then until machine j (t + x.length) xs else t
+
+-- The pieces of the first machines that begin at the moment t, the last machine first: of those that have another job than before.
+abbrev pub begun : ℕ → List ℕ → List ℕ → ℕ → (ℕ → ℕ) → ℕ → List Piece
+begun none before jobs t ends zero = []
+begun none before jobs t ends (suc m) =
+    (if slice_index_or jobs m 0 == slice_index_or before m 0 then [] else part_on none m (slice_index_or jobs m 0) t (ends m))
+    ++ begun none before jobs t ends m
+
+-- All pieces of m machines that begin at the moment t or later, the latest first.
+abbrev pub latest_first : ℕ → ℕ → List ℕ → ℕ → List Segment → List Piece
+latest_first none m before t [] = []
+latest_first none m before t (x ∷ xs) =
+    latest_first none m x.body.value.jobs.items (t + x.length) xs
+    ++ begun none before x.body.value.jobs.items t (λ i. until i (slice_index_or x.body.value.jobs.items i 0) (t + x.length) xs) m
+
+-- The jobs before so many segments are over: those of the segment before, or none.
+abbrev pub jobs_before : List ℕ → List Segment → ℕ → List ℕ
+jobs_before idle xs zero = idle
+jobs_before idle [] (suc k) = idle
+jobs_before idle (x ∷ xs) (suc k) = jobs_before x.body.value.jobs.items xs k
+
+-- The moment up to which each machine has the job that it had before.
+pub record IsNextEnds (before jobs : List ℕ) (t : ℕ) (old new : List ℕ) : Type 0 where
+  pub many : length new ≡ length old
+  pub each : (i : ℕ) → i < length jobs → slice_index_or new i 0 ≡ (if slice_index_or jobs i 0 == slice_index_or before i 0 then slice_index_or old i 0 else t)

@@ -11,7 +11,7 @@ use msp_class::NoMemory;
 use std::alloc::Global;
 
 /// No job for each of the machines.
-fn no_jobs(machines: usize, none: u16) -> ArrayVec<u16, MACHINES>
+pub(crate) fn no_jobs(machines: usize, none: u16) -> ArrayVec<u16, MACHINES>
     requires { machines ≤ 32 }
     ensures { result.items ≡ replicate machines none }
 {

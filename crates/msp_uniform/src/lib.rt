@@ -15,8 +15,6 @@ mod quotient;
 mod segments;
 mod tape;
 mod task;
-#[cfg(test)]
-mod tests;
 mod turning;
 mod turns;
 mod uniform_cut;

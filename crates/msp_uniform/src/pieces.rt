@@ -1,7 +1,8 @@
-// Segments one after another, as pieces of a schedule: machine after machine, and a piece ends where its machine gets another job.
-ghost use Rattle.std.specs.Prelude.{◌≡◌, ◌<◌, ◌++◌, ◌^◌, length as len, sum_by, All, IfOk, OnOk};
-ghost use Rattle.msp_uniform.specs.Rows.{part_on, runs_from, runs, IsChange};
+// Segments one after another, as pieces of a schedule, the latest first: a piece ends where its machine gets another job.
+ghost use Rattle.std.specs.Prelude.{◌≡◌, ◌<◌, ◌≤◌, ◌++◌, ◌^◌, length as len, slice_index_or, sum_by, All, IfOk, OnOk, IsPermutation};
+ghost use Rattle.msp_uniform.specs.Rows.{part_on, runs, begun, jobs_before as jobs_until, IsNextEnds};
 
+use crate::fill::no_jobs;
 use crate::segments::Segment;
 use msp_class::{List, NoMemory};
 use msp_schedule::Piece;
@@ -33,55 +34,63 @@ fn put_part(
     pieces.put(piece)
 }
 
-/// What a machine does: the job, and since when.
-#[derive(Clone, Copy)]
-struct Run {
-    job: u32,
-    begin: u128,
-}
-
-/// The machine gets a job at the moment: where it is another one, puts the piece of the job before.
-fn change(
+/// Puts the pieces that begin at the moment, the last machine first. Each machine goes on with its job until its end.
+fn put_begun(
     pieces: &mut List<Piece>,
+    ends: &mut Vec<u128>,
     none: u32,
-    machine: u32,
-    run: Run,
-    job: u32,
+    jobs: &[u16],
+    before: &[u16],
     moment: u128,
-) -> Result<Run, NoMemory>
-    requires begin { run.begin < 2 ^ 127 }
+) -> Result<(), NoMemory>
+    requires many { len ends.old.items ≡ len jobs.now }
+    requires before { len before.now ≡ len jobs.now }
+    requires few { len jobs.now ≤ 32 }
     requires moment { moment < 2 ^ 127 }
-    ensures { IfOk result (λ next. IsChange none machine run.job run.begin job moment pieces.old pieces.new next.job next.begin) }
+    requires ends { All (λ e. e < 2 ^ 127) ends.old.items }
+    ensures pieces { OnOk result (pieces.new ≡ pieces.old ++ begun none before.now jobs.now moment (λ i. slice_index_or ends.old.items i 0) (len jobs.now)) }
+    ensures ends { OnOk result (IsNextEnds before.now jobs.now moment ends.old.items ends.new.items) }
 {
-    if job == run.job {
-        return Ok(run);
+    let machines = jobs.len();
+    for back in 0..machines {
+        let machine = machines - 1 - back;
+        let job = jobs[machine];
+        if job != before[machine] {
+            put_part(
+                pieces,
+                none,
+                machine as u32,
+                u32::from(job),
+                moment,
+                ends[machine],
+            )?;
+            ends[machine] = moment;
+        }
     }
-    put_part(pieces, none, machine, run.job, run.begin, moment)?;
-    Ok(Run { job, begin: moment })
+    Ok(())
 }
 
-/// Puts the pieces of a machine at the end.
-fn put_machine(
-    pieces: &mut List<Piece>,
-    segments: &[Segment],
-    none: u32,
-    machine: u32,
-) -> Result<(), NoMemory>
-    requires machine { All (λ x. machine < len x.body.value.jobs.items) segments.now }
-    requires short { sum_by (λ x. x.length) segments.now < 2 ^ 127 }
-    ensures { OnOk result (pieces.new ≡ pieces.old ++ runs_from none machine none 0 0 segments.now) }
+/// The jobs in the segment before a place, or none.
+fn jobs_before<'a>(segments: &'a [Segment], place: usize, idle: &'a [u16]) -> &'a [u16]
+    requires { place ≤ len segments.now }
+    ensures { result.now ≡ jobs_until idle.now segments.now place }
 {
-    let mut run = Run {
-        job: none,
-        begin: 0,
-    };
-    let mut moment: u128 = 0;
-    for segment in segments {
-        let job = u32::from(segment.body.jobs[machine as usize]);
-        run = change(pieces, none, machine, run, job, moment)?;
-        moment += segment.length;
+    if place == 0 {
+        return idle;
     }
-    put_part(pieces, none, machine, run.job, run.begin, moment)
+    segments[place - 1].body.jobs.as_slice()
+}
+
+/// How long the segments last.
+fn whole_length(segments: &[Segment]) -> u128
+    requires { sum_by (λ x. x.length) segments.now < 2 ^ 127 }
+    ensures { result ≡ sum_by (λ x. x.length) segments.now }
+{
+    let mut length: u128 = 0;
+    for segment in segments {
+        length += segment.length;
+    }
+    length
 }
 
 /// The pieces of all machines.
@@ -91,13 +100,23 @@ pub(crate) fn pieces_of(
     none: u32,
     machines: u32,
 ) -> Result<List<Piece>, NoMemory>
+    requires none { none < 2 ^ 16 }
+    requires few { machines ≤ 32 }
     requires machines { All (λ x. len x.body.value.jobs.items ≡ machines) segments.now }
     requires short { sum_by (λ x. x.length) segments.now < 2 ^ 127 }
-    ensures { IfOk result (λ pieces. pieces ≡ runs none segments.now machines) }
+    ensures { IfOk result (λ pieces. IsPermutation (runs none segments.now machines) pieces) }
 {
+    let idle = no_jobs(machines as usize, none as u16);
+    let mut moment = whole_length(segments);
+    let mut ends = vec![in alloc; moment; machines as usize]?;
     let mut pieces = List::new(alloc);
-    for machine in 0..machines {
-        put_machine(&mut pieces, segments, none, machine)?;
+    for back in 0..segments.len() {
+        let place = segments.len() - 1 - back;
+        let segment = &segments[place];
+        moment -= segment.length;
+        let jobs = segment.body.jobs.as_slice();
+        let before = jobs_before(segments, place, idle.as_slice());
+        put_begun(&mut pieces, &mut ends, none, jobs, before, moment)?;
     }
     Ok(pieces)
 }

@@ -8,8 +8,6 @@
 mod bits;
 mod late_table;
 mod table;
-#[cfg(test)]
-mod tests;
 mod walk;
 
 pub use late_table::{GREATEST_TOTAL, LateTable, law_of_limits};

@@ -4,8 +4,6 @@
 //! `wrapped`: the cost is the greater of the longest time and the total time over the number of machines.
 #![tactic(auto)]
 
-#[cfg(test)]
-mod tests;
 mod wrap;
 
 pub use wrap::{Wrap, wrapped};

@@ -1,7 +1,10 @@
-use Rattle.std.proofs.Common.{◌≡◌}
-use Rattle.msp_uniform.specs.Rows.{runs}
+use Rattle.std.proofs.Common.{◌≡◌, ◌-◌, ◌<◌, ◌^◌, All, length, replicate}
+use Rattle.msp_uniform.proofs.LatestFirst.{IsWalked}
 use Rattle.msp_uniform.proofs.pieces.pieces_of.Given as goal
 
--- the pieces of the machines so far
-abbrev pub invariant-loop-machine : goal.invariant-loop-machine
-invariant-loop-machine l = l.pieces ≡ runs l.none l.segments l.machine
+-- the segments from the moment on are done
+abbrev pub invariant-loop-back : goal.invariant-loop-back
+invariant-loop-back l = record {
+  walked : IsWalked l.none l.machines (replicate l.machines l.none) l.segments (length l.segments - l.back) l.moment l.ends.items l.pieces;
+  small : All (λ e. e < 2 ^ 127) l.ends.items;
+}
