@@ -1,4 +1,4 @@
-use Rattle.std.proofs.Common.{◌≡◌, ◌-◌, ◌<◌, ◌^◌, All, length, replicate}
+use Rattle.std.proofs.Common.{◌-◌, ◌<◌, ◌^◌, All, length, replicate}
 use Rattle.msp_uniform.proofs.LatestFirst.{IsWalked}
 use Rattle.msp_uniform.proofs.pieces.pieces_of.Given as goal
 

@@ -1,4 +1,4 @@
-use Rattle.std.proofs.Common.{◌∙◌, ◌<◌, ◌≤◌, ◌*◌, ◌-◌, false, ap, arith}
+use Rattle.std.proofs.Common.{◌∙◌, ◌<◌, ◌≤◌, ◌*◌, ◌-◌, ap, arith}
 use Rattle.msp_uniform.specs.Segments.{at, amount, rate_at}
 use Rattle.msp_uniform.proofs.TapedFacts.{can_here, can_late, can_early, before_last, read_laid, read_here, read_rest, read_over}
 use Rattle.msp_uniform.proofs.HeldFacts.{held_here, held_over}
