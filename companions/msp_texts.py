@@ -1,0 +1,460 @@
+"""What the companions share: where the program is, and its texts read with exact numbers.
+
+Nothing here judges an instance or a schedule: that is the program's work (`solve`, `check`). A text that does not have the form of
+docs/formats.md raises a Fault that names the line.
+"""
+import csv
+import difflib
+import os
+import re
+import shutil
+import subprocess
+import sys
+from dataclasses import dataclass, field
+from datetime import datetime, timedelta
+from fractions import Fraction
+
+
+class Fault(Exception):
+    """A fault of a text or a list: a companion prints it on standard error, and ends with status 3."""
+
+
+class Misfit(Exception):
+    """Words that do not fit: a companion prints it on standard error, and ends with status 2."""
+
+
+def run(name, main):
+    """Runs a companion: `main` gives the status; faults are printed behind the companion's name."""
+    try:
+        status = main()
+        sys.stdout.flush()
+        sys.exit(status)
+    except (Fault, Misfit) as fault:
+        print(f"{name}: {fault}", file=sys.stderr)
+        sys.exit(2 if isinstance(fault, Misfit) else 3)
+    except BrokenPipeError:
+        # (the reader ended early; nothing is left to be flushed at the end)
+        os.dup2(os.open(os.devnull, os.O_WRONLY), sys.stdout.fileno())
+        sys.exit(8)
+
+
+# The program
+
+def find_program(named=None):
+    """The program's path: the named one; or $MSP, or msp beside the companions, in PATH or in the clone; or None."""
+    here = os.path.dirname(os.path.realpath(__file__))
+    if named or os.environ.get("MSP"):
+        path = shutil.which(named or os.environ["MSP"])
+        if path is None:
+            raise Misfit(f"there is no program {named or os.environ['MSP']}")
+        return os.path.abspath(path)
+    for path in (f"{here}/msp", shutil.which("msp"), f"{here}/../crates/msp/out/msp"):
+        if path and os.path.isfile(path) and os.access(path, os.X_OK):
+            return os.path.abspath(path)
+    return None
+
+
+def need_program(named=None):
+    """The program's path, or a misfit that says where it was looked for."""
+    program = find_program(named)
+    if program is None:
+        raise Misfit("there is no program msp beside the companions, in PATH or in crates/msp/out; ./run-msp builds it")
+    return program
+
+
+def call(program, words, text=""):
+    """Calls the program: its status, its report and its note without `msp: ` in front."""
+    got = subprocess.run([program, *words], input=text.encode(), capture_output=True)
+    note = got.stderr.decode("utf-8", "replace").strip()
+    return got.returncode, got.stdout.decode("utf-8", "replace"), note.removeprefix("msp: ")
+
+
+# Input
+
+def read_bytes(path=None):
+    """The bytes of a file, or of standard input where the path is None or `-`."""
+    try:
+        if path in (None, "-"):
+            return sys.stdin.buffer.read()
+        with open(path, "rb") as file:
+            return file.read()
+    except OSError as fault:
+        raise Misfit(f"cannot read {path}: {fault.strerror}") from None
+
+
+def read_text(path=None, encoding="utf-8"):
+    """The text of a file, or of standard input where the path is None or `-`."""
+    data = read_bytes(path)
+    try:
+        return data.decode(encoding)
+    except UnicodeDecodeError as fault:
+        line = data[: fault.start].count(b"\n") + 1
+        raise Fault(f"line {line}: a byte that is not {encoding}") from None
+
+
+# Numbers, exact
+
+NUMBER = re.compile(r"0|-?[1-9][0-9]*")
+
+
+def whole(text, where):
+    """The number that the text spells in the way of the formats."""
+    if not NUMBER.fullmatch(text):
+        raise Fault(f"{where}: not a number: {text}")
+    return int(text)
+
+
+def fraction(text, where):
+    """The number or fraction (`9/2`) that the text spells in the way of the formats."""
+    above, _, below = text.partition("/")
+    if "/" in text and whole(below, where) < 1:
+        raise Fault(f"{where}: not a fraction: {text}")
+    return Fraction(whole(above, where), int(below or 1))
+
+
+def decimal(text, where):
+    """The value of a number as people write it: `3`, `1.5`, `1,5`, `10/3`, exact."""
+    said = text.strip().replace(",", ".")
+    if not re.fullmatch(r"[+-]?([0-9]+(\.[0-9]*)?|\.[0-9]+|[0-9]+/0*[1-9][0-9]*)", said):
+        raise Fault(f"{where}: not a number: {text.strip()}")
+    return Fraction(said)
+
+
+def said(value):
+    """A number as people read it, exact: `3`, `1.5`, and `10/3` where no decimal is exact."""
+    value = Fraction(value)
+    twos = fives = 0
+    below = value.denominator
+    while below % 2 == 0:
+        below, twos = below // 2, twos + 1
+    while below % 5 == 0:
+        below, fives = below // 5, fives + 1
+    if below != 1:
+        return f"{value.numerator}/{value.denominator}"
+    places = max(twos, fives)
+    digits = str(abs(value.numerator) * 10**places // value.denominator).rjust(places + 1, "0")
+    front = ("-" if value < 0 else "") + digits[: len(digits) - places]
+    return front + ("." + digits[len(digits) - places:] if places else "")
+
+
+# Lengths of time and dates, exact
+
+SECONDS = {"s": 1, "min": 60, "m": 60, "h": 3600, "d": 86400, "w": 604800}
+
+
+def length_of(text):
+    """The seconds of a length of time as `1h`, `30min`, `1.5d` or `1/3h`: s, min, h, d and w."""
+    found = re.fullmatch(r"([0-9./,]*)\s*(s|min|m|h|d|w)", text.strip())
+    value = decimal(found[1] or "1", "length of time") if found else 0
+    if value <= 0:
+        raise Misfit(f"not a length of time: {text}; write 1h, 30min, 1.5d (units s, min, h, d and w)")
+    return value * SECONDS[found[2]]
+
+
+def said_length(seconds):
+    """A length of time in the greatest unit in which it is whole, else in seconds: `30min`."""
+    for unit in ("w", "d", "h", "min"):
+        if (Fraction(seconds) / SECONDS[unit]).denominator == 1:
+            return f"{said(Fraction(seconds) / SECONDS[unit])}{unit}"
+    return f"{said(seconds)}s"
+
+
+DATE = re.compile(r"([0-9]{4})-([0-9]{2})-([0-9]{2})(?:[ T]([0-9]{2}):([0-9]{2})(?::([0-9]{2}))?(?:\+([0-9]+/[1-9][0-9]*))?)?")
+
+
+def is_date(text):
+    """Whether the text has the form of a date, YYYY-MM-DD with or without HH:MM."""
+    return DATE.fullmatch(text.strip()) is not None
+
+
+def date_of(text, where):
+    """The date that the text spells, and the part of a second beyond it: YYYY-MM-DD, YYYY-MM-DD HH:MM or HH:MM:SS, then +1/3."""
+    found = DATE.fullmatch(text.strip())
+    try:
+        if found is None:
+            raise ValueError
+        return datetime(*(int(it or 0) for it in found.groups()[:6])), Fraction(found[7] or 0)
+    except ValueError:
+        raise Fault(f"{where}: not a date: {text.strip()}; write YYYY-MM-DD HH:MM") from None
+
+
+def seconds_between(start, date):
+    """The seconds from one value of date_of to another."""
+    gap = date[0] - start[0]
+    return Fraction(gap.days * 86400 + gap.seconds) + date[1] - start[1]
+
+
+def said_date(start, seconds):
+    """The date that is so many seconds behind a value of date_of, exact: seconds and parts of them only where there are some."""
+    seconds = Fraction(seconds) + start[1]
+    try:
+        date = start[0] + timedelta(seconds=seconds.__floor__())
+    except OverflowError:
+        raise Fault(f"a date beyond the year 9999: {said(seconds)} seconds behind {start[0]}") from None
+    part = seconds - seconds.__floor__()
+    text = date.strftime("%Y-%m-%d %H:%M" if date.second == 0 and part == 0 else "%Y-%m-%d %H:%M:%S").rjust(16, "0")
+    return text + (f"+{part.numerator}/{part.denominator}" if part else "")
+
+
+# Names of classes
+
+# (the environments that fix the number of machines)
+MACHINES = {"1": 1, "P2": 2, "P3": 3, "Q2": 2, "R2": 2, "O2": 2, "O3": 3, "F2": 2, "F3": 3, "J2": 2}
+ENVIRONMENTS = ("1", "P2", "P3", "P", "Q2", "Q", "R2", "R", "O2", "O3", "O", "F2", "F3", "F", "J2", "J")
+ITEMS = ("pmtn", "chains", "intree", "outtree", "prec", "r", "p=1", "p=p", "n<=2")
+CRITERIA = ("Cmax", "Lmax", "fmax", "sumC", "sumwC", "sumU", "sumwU", "sumT", "sumwT")
+SPELLINGS = {"chain": "chains", "in-tree": "intree", "out-tree": "outtree", "r_j": "r", "rj": "r", "n_j<=2": "n<=2", "nj<=2": "n<=2",
+             "C_max": "Cmax", "L_max": "Lmax", "f_max": "fmax", "sumC_j": "sumC", "sumw_jC_j": "sumwC", "sumU_j": "sumU",
+             "sumw_jU_j": "sumwU", "sumT_j": "sumT", "sumw_jT_j": "sumwT",
+             **{f"p{at}={time}": f"p={time}" for at in ("_j", "j", "_ij", "ij") for time in "1p"}}
+PRECEDENCE = ("chains", "intree", "outtree", "prec")
+
+
+@dataclass(frozen=True)
+class ClassName:
+    """A class by its parts, in canonical spelling; str() gives the name."""
+    environment: str
+    items: tuple
+    criterion: str
+
+    def __str__(self):
+        return f"{self.environment}|{','.join(self.items)}|{self.criterion}"
+
+    @property
+    def kind(self):
+        """The environment without its number of machines: 1, P, Q, R, O, F or J."""
+        return self.environment[0]
+
+    @property
+    def machines(self):
+        """The number of machines that the environment fixes, or None."""
+        return MACHINES.get(self.environment)
+
+    @property
+    def precedence(self):
+        """chains, intree, outtree, prec, or None."""
+        return next((it for it in self.items if it in PRECEDENCE), None)
+
+    @property
+    def general(self):
+        """Whether operations have times of their own."""
+        return "p=1" not in self.items and "p=p" not in self.items
+
+    @property
+    def keys(self):
+        """The keys that a job's line has, as letters in order: some of p, r, d and w."""
+        return ("p" * (self.kind in "1PQ" and self.general) + "r" * ("r" in self.items)
+                + "d" * (self.criterion == "Lmax" or self.criterion[-1] in "UT") + "w" * self.criterion.startswith("sumw"))
+
+
+def class_named(text):
+    """The class of a name in a spelling of docs/formats.md, or None."""
+    parts = text.split("|")
+    if len(parts) != 3 or parts[0] not in ENVIRONMENTS or SPELLINGS.get(parts[2], parts[2]) not in CRITERIA:
+        return None
+    items = [SPELLINGS.get(it, it) for it in parts[1].split(",")] if parts[1] else []
+    groups = ["precedence" if it in PRECEDENCE else it[:2] if it.startswith("p=") else it for it in items]
+    if any(it not in ITEMS for it in items) or len(set(groups)) != len(groups) or ("n<=2" in items and parts[0][0] != "J"):
+        return None
+    return ClassName(parts[0], tuple(sorted(items, key=ITEMS.index)), SPELLINGS.get(parts[2], parts[2]))
+
+
+def near(word, known):
+    """The known word that a word is, by another case or nearly; or None."""
+    lower = {it.lower(): it for it in known}
+    found = difflib.get_close_matches(word.lower(), lower, 1, 0.7)
+    return lower[found[0]] if found else None
+
+
+def class_of(text):
+    """The class of a name, or a misfit that says which part is wrong and what it may be meant to be."""
+    found = class_named(text)
+    if found:
+        return found
+    parts = re.sub(r"[ $\\{}]", "", text.replace(";", ",").replace("\\mid", "|")).split("|")
+    if len(parts) != 3:
+        raise Misfit(f"{text} is no class: a name has three parts with two bars, as '1|prec|Lmax' (in quotes)")
+    env, crit = parts[0][:1].upper() + parts[0][1:], parts[2]
+    env = env if env in ENVIRONMENTS else env[:1] if env[1:] == "m" else near(env, ENVIRONMENTS)
+    spelled = [it for it in parts[1].split(",") if it]
+    items = [it if it in ITEMS or it in SPELLINGS else near(it, [*ITEMS, *SPELLINGS]) for it in spelled]
+    crit = crit if crit in CRITERIA or crit in SPELLINGS else near(crit, [*CRITERIA, *SPELLINGS])
+    meant = class_named(f"{env}|{','.join(map(str, items))}|{crit}") if env and crit and all(items) else None
+    if meant:
+        raise Misfit(f"{text} is no class: is '{meant}' meant?")
+    wrong = (f"environment {parts[0]}: it is one of {' '.join(ENVIRONMENTS)}" if env is None else
+             f"criterion {parts[2]}: it is one of {' '.join(CRITERIA)}" if crit is None else
+             next((f"item {it}: items are {' '.join(ITEMS)}" for it, known in zip(spelled, items) if known is None),
+                  "items that do not go together: at most one of chains, intree, outtree and prec, one of p=1 and p=p, n<=2 with J alone"))
+    raise Misfit(f"{text} is no class: {wrong}")
+
+
+# Instance texts
+
+@dataclass
+class Job:
+    """A job of an instance text; what its class does not have is None or empty."""
+    name: str
+    line: int
+    time: int | None = None
+    release: int | None = None
+    due: int | None = None
+    weight: int | None = None
+    times: list = field(default_factory=list)
+    route: list = field(default_factory=list)  # (pairs of a machine from 1 and a time, which is None where times are shared)
+    curve: list = field(default_factory=list)  # (slope, base, and a threshold and an add for each step)
+
+
+@dataclass
+class Instance:
+    """An instance text as it stands. `lines` is the number of its lines, `arcs` has pairs of names."""
+    kind: ClassName
+    machines: int
+    speeds: list
+    time: int | None
+    jobs: list
+    arcs: list
+    lines: int
+
+    def job(self, name):
+        """The job of the name, or None."""
+        return next((it for it in self.jobs if it.name == name), None)
+
+    def operations(self, job):
+        """For each operation of a job its machine (None where any runs it) and its time there (a list by machines on R)."""
+        shared = 1 if "p=1" in self.kind.items else self.time
+        if self.kind.kind == "J":
+            return [(machine, shared if time is None else time) for machine, time in job.route]
+        if self.kind.kind in "OF":
+            return list(enumerate(job.times or [shared] * self.machines, 1))
+        return [(None, job.times or [shared] * self.machines if self.kind.kind == "R" else shared if job.time is None else job.time)]
+
+
+KEYS = {"p": "time", "r": "release", "d": "due", "w": "weight"}
+
+
+def read_instance(text):
+    """The instance at the front of a text; what stands behind its line `end` is not looked at."""
+    found, name, machines, speeds, time, jobs, arcs = None, None, None, [], None, [], []
+    for number, line in enumerate(text.split("\n"), 1):
+        where, fields = f"line {number}", line.split(" ")
+        if number == 1 and line != "msp 1":
+            raise Fault(f"{where}: an instance text begins with the line msp 1")
+        if number == 1:
+            continue
+        word, rest = fields[0], fields[1:]
+        if number == 2:
+            name = class_named(rest[0]) if word == "class" and len(rest) == 1 else None
+            if name is None:
+                raise Fault(f"{where}: the line class and a name stands here")
+        elif line == "end":
+            found = Instance(name, name.machines or machines, speeds, time, jobs, arcs, number)
+            break
+        elif word == "machines" and len(rest) == 1:
+            machines = whole(rest[0], where)
+        elif word == "speeds":
+            speeds = [whole(it, where) for it in rest]
+        elif word == "time" and len(rest) == 1:
+            time = whole(rest[0], where)
+        elif word == "job" and rest:
+            jobs.append(Job(rest[0], number))
+            for it in rest[1:]:
+                if it[:1] not in KEYS or it[1:2] != "=":
+                    raise Fault(f"{where}: not a key of a job: {it}")
+                setattr(jobs[-1], KEYS[it[0]], whole(it[2:], where))
+        elif word in ("times", "route", "curve") and jobs:
+            numbers = [whole(it, where) for it in rest]
+            if word == "route":
+                numbers = list(zip(numbers[::2], numbers[1::2])) if name.general else [(it, None) for it in numbers]
+            setattr(jobs[-1], word, numbers)
+        elif word == "arc" and len(rest) == 2:
+            arcs.append((rest[0], rest[1]))
+        else:
+            raise Fault(f"{where}: not a line of an instance: {line}")
+    if found is None:
+        raise Fault(f"line {len(text.split(chr(10)))}: the line end is missing")
+    if found.machines is None:
+        raise Fault(f"line 3: the line machines is missing")
+    return found
+
+
+# Schedule texts and reports of solve
+
+@dataclass
+class Piece:
+    """A piece of a schedule: operation and machine count from 1, the moments are exact."""
+    job: str
+    operation: int
+    machine: int
+    start: Fraction
+    end: Fraction
+    line: int
+
+
+@dataclass
+class Schedule:
+    """A schedule text; of a report of `solve` also the chain (pairs of a row and a class) and the solver."""
+    cost: Fraction
+    unit: int
+    pieces: list
+    first: str | None
+    chain: list
+    solver: str | None
+
+    def ends(self):
+        """When each job that has a piece ends, by name."""
+        ends = {}
+        for piece in self.pieces:
+            ends[piece.job] = max(piece.end, ends.get(piece.job, piece.end))
+        return ends
+
+
+def read_schedule(text):
+    """The schedule of a schedule text, of a report of `solve`, or behind an instance text: from the line `schedule` on."""
+    first, chain, solver, cost, unit, pieces, begun = None, [], None, None, None, [], False
+    for number, line in enumerate(text.split("\n"), 1):
+        where, fields = f"line {number}", line.split(" ")
+        word, rest = fields[0], fields[1:]
+        if not begun:
+            begun = line == "schedule"
+            if word == "start" and len(rest) == 1:
+                first, chain = rest[0], []
+            elif word == "row" and len(rest) == 2:
+                chain.append((whole(rest[0], where), rest[1]))
+            elif word == "solver" and len(rest) == 1:
+                solver = rest[0]
+        elif word == "cost" and len(rest) == 1 and cost is None:
+            cost = fraction(rest[0], where)
+        elif word == "unit" and len(rest) == 1 and unit is None:
+            unit = whole(rest[0], where)
+            if unit < 1:
+                raise Fault(f"{where}: a unit is at least 1")
+        elif word == "piece" and len(rest) == 5 and unit is not None:
+            numbers = [whole(it, where) for it in rest[1:]]
+            pieces.append(Piece(rest[0], numbers[0], numbers[1], Fraction(numbers[2], unit), Fraction(numbers[3], unit), number))
+        elif line == "end" and unit is not None and cost is not None:
+            return Schedule(cost, unit, pieces, first, chain, solver)
+        else:
+            raise Fault(f"{where}: not a line of a schedule here: {line}")
+    raise Fault("the line end of the schedule is missing" if begun else "there is no line schedule")
+
+
+# The map of names that from-csv writes
+
+def write_names(path, pairs):
+    """Writes a map of names as CSV: pairs of a job's name in the instance and its name in the spreadsheet."""
+    try:
+        with open(path, "w", encoding="utf-8", newline="") as file:
+            csv.writer(file, lineterminator="\n").writerows([("name", "original"), *pairs])
+    except OSError as fault:
+        raise Misfit(f"cannot write {path}: {fault.strerror}") from None
+
+
+def read_names(path):
+    """A map of names as from-csv writes it: from a job's name in the instance to its name in the spreadsheet; empty without a path."""
+    if path is None:
+        return {}
+    rows = list(csv.reader(read_text(path, "utf-8-sig").splitlines()))
+    if not rows or rows[0] != ["name", "original"] or any(len(it) != 2 for it in rows if it):
+        raise Fault(f"{path}: a map of names is a CSV with the columns name and original, as from-csv --names writes it")
+    return {it[0]: it[1] for it in rows[1:] if it}

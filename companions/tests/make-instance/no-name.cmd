@@ -1,0 +1,1 @@
+make-instance 'F2||Smax' 3 7

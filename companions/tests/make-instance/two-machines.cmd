@@ -1,0 +1,1 @@
+make-instance 'F2||Cmax' 3 7
