@@ -1,1 +1,1 @@
-gantt shop.txt --instance orders.txt
+gantt shop.txt --instance examples/flow-shop.txt
