@@ -1,0 +1,182 @@
+"""What cite and atlas share: reports of `why`, the bibliography, and where a proof of our own or a reason of an open class stands.
+
+Nothing here works out a label or a chain: they are read from what the program printed.
+"""
+import os
+import re
+from dataclasses import dataclass, field
+
+from msp_texts import Fault, Misfit
+
+HERE = os.path.dirname(os.path.realpath(__file__))
+OUR_FIELDS = ("source", "alsosource", "named")
+NO_PUBLICATION = ("own proof", "from CLIQUE", "from VERTEX COVER")
+
+
+def find_file(named, *names):
+    """The path of the named file, or of the first of the names that is in the clone, beside the companions or in share/msp; or None."""
+    if named:
+        return named
+    for name in names:
+        for path in (f"{HERE}/../{name}", f"{HERE}/{os.path.basename(name)}", f"{HERE}/../share/msp/{os.path.basename(name)}"):
+            if os.path.isfile(path):
+                return os.path.normpath(path)
+    return None
+
+
+def need_file(named, name, option):
+    """The path of find_file, or a misfit that names the option."""
+    path = find_file(named, name)
+    if path is None:
+        raise Misfit(f"there is no {name} in the clone or beside the companions; {option} FILE names one")
+    return path
+
+
+# Reports of `why`
+
+@dataclass
+class Reason:
+    """A chain behind a label: `kind` is easy, pseudo, hard or strong (or clash, strong clash, without a record)."""
+    kind: str
+    record: int = 0
+    source: str = ""
+    start: str = ""
+    rows: list = field(default_factory=list)  # (pairs of a row's number and the class to which it leads)
+
+    @property
+    def listed(self):
+        """The class of the entry: the last of the chain where the class leads down to it, the first where it comes from it."""
+        return self.rows[-1][1] if self.rows and self.kind in ("easy", "pseudo") else self.start
+
+
+@dataclass
+class Why:
+    """A report of `why`."""
+    name: str
+    label: str
+    reasons: list
+
+
+def read_why(text):
+    """The parts of a report of `why`."""
+    name = label = None
+    reasons = []
+    for number, line in enumerate(text.split("\n"), 1):
+        word, _, rest = line.partition(" ")
+        if line in ("easy", "pseudo", "hard", "strong", "clash", "strong clash"):
+            reasons.append(Reason(line))
+        elif word == "class":
+            name = rest
+        elif word == "label":
+            label = rest
+        elif line == "end" and name and label:
+            return Why(name, label, reasons)
+        elif word == "record" and reasons:
+            count, _, reasons[-1].source = rest.partition(" ")
+            reasons[-1].record = int(count)
+        elif word == "start" and reasons:
+            reasons[-1].start = rest
+        elif word == "row" and reasons:
+            row, _, lower = rest.partition(" ")
+            reasons[-1].rows.append((int(row), lower))
+        else:
+            raise Fault(f"line {number}: not a line of a report of why: {line}")
+    raise Fault("the line end of the report of why is missing")
+
+
+# The bibliography
+
+@dataclass
+class Reference:
+    """An entry of the bibliography."""
+    kind: str
+    key: str
+    fields: dict
+
+    def bibtex(self):
+        """The entry without the fields that only this repository uses."""
+        lines = [f"  {name} = {{{text}}}" for name, text in self.fields.items() if name not in OUR_FIELDS]
+        return f"@{self.kind}{{{self.key},\n" + ",\n".join(lines) + "\n}"
+
+    def text(self):
+        """The entry as a line of plain text."""
+        said = {name: plain(text) for name, text in self.fields.items()}
+        authors = said.get("author", "").split(" and ")
+        names = authors[0] if len(authors) == 1 else ", ".join(authors[:-1]) + " and " + authors[-1]
+        place = " ".join(said[it] for it in ("journal", "volume") if it in said)
+        if "booktitle" in said:
+            place = "In " + (said["editor"].replace(" and ", ", ") + " (eds.): " if "editor" in said else "") + said["booktitle"]
+        parts = [place] + [said[it] for it in ("series", "type", "number", "institution", "publisher") if it in said]
+        line = ", ".join([it for it in parts if it] + ([said["pages"]] if "pages" in said else []) + ([said["year"]] if "year" in said else []))
+        note = f" ({said['note']})" if "note" in said else ""
+        return f"{names}: " + (f"{said['title']}. " if "title" in said else "") + line + note
+
+
+def plain(text):
+    """A field without TeX."""
+    text = text.replace("\\&", "&").replace("--", "–").replace("``", "“").replace("''", "”").replace("\\mid", "|").replace("\\ ", " ")
+    text = re.sub(r"\\(?:mathit|mathrm)\b", "", text)
+    text = re.sub(r"\\sum\b", "sum", text).replace("\\max", "max")
+    return re.sub(r"[{}$\\]", "", text)
+
+
+def read_references(text):
+    """The references of a bibliography, in order."""
+    found = []
+    for block in re.split(r"\n(?=@)", "\n" + text)[1:]:
+        head = re.match(r"@(\w+)\{(\w+),\n", block)
+        if head is None:
+            raise Fault(f"not an entry of a bibliography: {block.splitlines()[0]}")
+        fields = dict(re.findall(r"^  (\w+) = \{(.*)\},?$", block, flags=re.M))
+        found.append(Reference(head[1], head[2], fields))
+    if not found:
+        raise Fault("a bibliography without an entry")
+    return found
+
+
+def by_source(references):
+    """From each source string to its references."""
+    found = {}
+    for it in references:
+        for name in ("source", "alsosource"):
+            if name in it.fields:
+                found.setdefault(it.fields[name], []).append(it)
+    return found
+
+
+def source_of(entry):
+    """The source of an entry up to its semicolon, and the step behind it."""
+    source, _, step = entry.partition(";")
+    return source.strip(), step.strip()
+
+
+# Documents
+
+def proofs_in(text):
+    """From each class that has a proof in proofs-of-results.md to the heading of its section."""
+    found, heading = {}, None
+    for line in text.splitlines():
+        if line.startswith("### "):
+            heading = line[4:]
+        elif re.match(r"(Easy|Strong|Hard): `", line):
+            for name in re.findall(r"`([^`]+)`", line):
+                found[name] = heading
+    return found
+
+
+def reasons_in(text):
+    """From each open class that has a row in open.md to the heading of its group and the reason."""
+    found, heading = {}, None
+    for line in text.splitlines():
+        if line.startswith("## "):
+            heading = line[3:]
+        row = re.match(r"\| `([^`]+)` \| [\d,]+ \| [\d,]+ \| (.*) \|$", line)
+        if row:
+            why = re.sub(r"\[([^\]]*)\]\([^)]*\)", r"\1", row[2]).replace("`", "").replace("\\|", "|")
+            found[row[1].replace("\\|", "|")] = (heading, why)
+    return found
+
+
+def rows_in(text):
+    """From the number of each row to what it says, by a report of `rows`."""
+    return {int(it[1]): it[2] for it in re.finditer(r"(?m)^row (\d+) \w+ (.*)$", text)}

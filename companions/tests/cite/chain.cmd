@@ -1,0 +1,1 @@
+cite 'R2|r,p=1|sumwU'

@@ -1,0 +1,1 @@
+cite --results clash.csv '1||sumC'

@@ -1,0 +1,1 @@
+cite 'P2|pmtn,p=1|Cmax'

@@ -1,0 +1,1 @@
+cite 'P||Cmaxx'

@@ -1,0 +1,1 @@
+cite --results nothing.csv '1||sumC'

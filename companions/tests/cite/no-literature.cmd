@@ -1,0 +1,1 @@
+cite --results mine.csv --literature mine.csv '1||sumC'

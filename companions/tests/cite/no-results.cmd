@@ -1,0 +1,1 @@
+cite --results examples/two-crews.txt '1||sumC'

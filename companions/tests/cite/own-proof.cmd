@@ -1,0 +1,1 @@
+cite 'Q|r,p=p|fmax'

@@ -1,0 +1,1 @@
+cite '1|r_j|Lmax'

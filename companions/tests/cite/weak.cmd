@@ -1,0 +1,1 @@
+cite 'Q2||sumwU'
