@@ -1,0 +1,1 @@
+atlas --results clash.csv --part 3 > page.html
