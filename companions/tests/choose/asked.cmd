@@ -1,0 +1,1 @@
+printf 'P2\nno\nnone\nno\nany\nCmax\n' | choose

@@ -1,0 +1,1 @@
+choose --environment P

@@ -1,0 +1,1 @@
+choose 'P3|tree|Cmax'

@@ -1,0 +1,1 @@
+choose '1|prec,r|Lmax'

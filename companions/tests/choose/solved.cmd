@@ -1,0 +1,1 @@
+choose --environment identical --criterion lateness --releases --times unit

@@ -1,0 +1,1 @@
+choose --environment job-shop --criterion makespan

@@ -1,0 +1,1 @@
+gantt shop.txt --instance examples/flow-shop.txt

@@ -1,0 +1,1 @@
+gantt orders-planned.txt --names names.csv

@@ -1,0 +1,1 @@
+gantt shop.txt --start tomorrow

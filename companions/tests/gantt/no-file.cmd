@@ -1,0 +1,1 @@
+gantt nothing.txt

@@ -1,0 +1,1 @@
+gantt shop.txt --scale 0

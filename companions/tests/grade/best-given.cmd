@@ -1,0 +1,1 @@
+grade hard.txt few --best 3

@@ -1,0 +1,1 @@
+grade tree.txt trees

@@ -1,0 +1,1 @@
+grade hard.txt nothing

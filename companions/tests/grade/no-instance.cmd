@@ -1,0 +1,1 @@
+grade few/kim.txt few

@@ -1,0 +1,1 @@
+make-instance '1||sumU' 401 7

@@ -1,0 +1,1 @@
+make-instance '1||sumT' 5 1 --nonzero

@@ -1,0 +1,1 @@
+make-instance '1||sumU' 5 1 --nonzero | msp solve | grep '^cost'

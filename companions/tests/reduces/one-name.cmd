@@ -1,0 +1,1 @@
+reduces '1||Lmax'

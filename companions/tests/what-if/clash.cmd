@@ -1,0 +1,1 @@
+what-if small.csv '1||Lmax' strong > /dev/null

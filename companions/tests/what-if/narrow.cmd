@@ -1,0 +1,1 @@
+what-if narrow.csv '1||sumU' easy

@@ -1,0 +1,1 @@
+what-if nothing.csv '1||sumU' easy
