@@ -39,7 +39,7 @@ install:
 	install -m 644 examples/known-*.csv "$(TO)/share/msp/examples"
 	install -m 644 docs/results/literature.bib "$(TO)/share/msp/docs/results"
 	ln -sf ../../bin/msp "$(TO)/lib/msp/msp"
-	for it in $(notdir $(filter-out %.py,$(COMPANIONS))); do ln -sf ../lib/msp/$$it "$(TO)/bin/msp-$$it"; done
+	for it in $(notdir $(filter-out %.py %.html,$(COMPANIONS))); do ln -sf ../lib/msp/$$it "$(TO)/bin/msp-$$it"; done
 
 dist: program
 	tools/dist
