@@ -2,7 +2,7 @@ use Rattle.std.proofs.Common.{List, ℕ, [], ◌∷◌, sym, subst}
 use Rattle.std.specs.Prelude.{Some}
 use Rattle.msp_closure.specs.Entries.{IsWay}
 use Rattle.msp_closure.proofs.WayLemmas.{no_rows_is_way}
-use Rattle.msp_closure.proofs.chains.no_rows.Goals as goal
+use Rattle.msp_closure.proofs.routes.no_rows.Goals as goal
 
 pub returns-clause-way : goal.returns-clause-way
 returns-clause-way c usable =
