@@ -1,7 +1,7 @@
 use Rattle.std.proofs.Common.{◌-◌}
 use Rattle.msp_lexical.specs.Slots.{AreCut}
 use Rattle.msp_lexical.proofs.Cuts.{CutTo}
-use Rattle.msp_lexical.proofs.segment.segments.Given as goal
+use Rattle.msp_lexical.proofs.segment.segments_of.Given as goal
 
 -- the slots so far are cut into segments
 abbrev pub invariant-loop-from : goal.invariant-loop-from
