@@ -5,6 +5,7 @@ pub mod RowFacts
 pub mod FilledFacts
 pub mod WalkFacts
 pub mod LateCost
+pub mod LateBehind
 pub mod LateBest
 pub mod DateKeys
 pub mod TableOrder
