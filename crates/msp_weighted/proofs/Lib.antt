@@ -1,6 +1,7 @@
 pub mod ValueFacts
 pub mod SplitFacts
 pub mod BitFacts
+pub mod ReachFacts
 pub mod RowFacts
 pub mod FilledFacts
 pub mod WalkFacts
