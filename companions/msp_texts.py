@@ -112,7 +112,8 @@ def read_list(encoding="utf-8", path=None):
 def records(text):
     """The records of a list that are not empty, each with the line on which it begins; separated by semicolons or by commas."""
     first = text.split("\n", 1)[0]
-    delimiter = ";" if first.count(";") > first.count(",") else ","
+    # (where the first line names one column, nothing separates)
+    delimiter = ";" if first.count(";") > first.count(",") else "," if "," in first else "\x1f"
     reader, line, found = csv.reader(io.StringIO(text), delimiter=delimiter, strict=True), 1, []
     try:
         for record in reader:
