@@ -1,7 +1,8 @@
 -- The first of the starts that leads to a wanted class, and the way from there.
 use Rattle.std.proofs.Common.{◌≡◌, ◌≢◌, ℕ, suc, ◌<◌, ◌≤◌, ◌+◌, Bool, List, [], ◌∷◌, Option, Some, None, Result, Ok, Err, length, get_or, drop, refl, ap, sym, ◌∙◌, subst, inl, inr, arith}
-use Rattle.std.specs.Prelude.{◌↔◌, Contains, IsNone, IfOk}
-use Rattle.std.proofs.lemmas.Bool.{cases_eq}
+use Rattle.std.specs.Bool.{Decides}
+use Rattle.std.specs.Prelude.{◌↔◌, Contains, IsNone, IfOk, nat_lt}
+use Rattle.std.proofs.lemmas.Bool.{cases_eq, ltb-true, lt-ltb}
 use Rattle.std.proofs.lemmas.List.{drop_more, get_or_default}
 use Rattle.std.proofs.lemmas.List.Elements.{Contains-push, Contains-push_cases}
 use Rattle.msp_class.specs.declared.class.Class.{Class}
@@ -69,6 +70,13 @@ module _ (usable : ℕ → Bool) (starts wanted : List Class) (t : List ℕ) (ar
   leads_near : (c : Class) → Contains starts c → LeadsToOne usable wanted c → value_of t c ≢ FAR
   leads_near c has leads =
       are.all c leads.2.0 (starts_are_led usable starts c has) (record { last = leads.0; is_wanted = leads.1; leads = leads.2.1 })
+
+  -- a value below FAR says that a chain leads from the start to a wanted class
+  pub near_decides : (c : Class) → Contains starts c → Decides (nat_lt (value_of t c) FAR) (LeadsToOne usable wanted c)
+  near_decides c has = (
+    λ yes. near_leads c has (λ far. absurd (omega (arith, far, ltb-true (value_of t c) FAR yes))),
+    λ leads. lt-ltb (value_of t c) FAR (omega (arith, are.few c (leads_near c has leads))),
+  )
 
   pub no_way : ((c : Class) → Contains starts c → value_of t c ≡ FAR) → ¬ HasWay usable wanted starts
   no_way none = λ h. leads_near h.0 h.1 h.2 (none h.0 h.1)
