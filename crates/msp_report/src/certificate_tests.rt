@@ -2,7 +2,7 @@
 // accepted or not. They stand here and not beside the readers, since a crate with tests is proved twice.
 ghost use Rattle.std.specs.Prelude.{◌≡◌, ◌≤◌, length};
 ghost use Rattle.msp_instance.specs.Conditions.{InClass};
-ghost use Rattle.msp_file.specs.declared.read.TheConstants.{MOST_BYTES};
+ghost use Rattle.msp_grammar.specs.declared.lines.limits.TheConstants.{MOST_BYTES};
 
 use crate::accept_text;
 use msp_cert::accept;
@@ -444,7 +444,7 @@ const JUDGED: &[(&[u8], &[u8], &[u8])] = &[
 ];
 
 /// The report of `accept` on a certificate text behind the instance.
-#[tactic(auto, using(msp_file::proofs::CertificateLimits::limit_rules))]
+#[tactic(auto, using(msp_cert_text::proofs::CertificateLimits::limit_rules))]
 fn judged(alloc: Global, filed: &Filed, text: &[u8]) -> Result<Vec<u8>, Fail>
     requires class { InClass filed.now.instance }
     requires named { length filed.now.names ≡ length filed.now.instance.jobs }

@@ -9,10 +9,10 @@ use Rattle.msp_io.specs.declared.whole.Taken.TheVariants as taken
 use Rattle.msp_io.specs.declared.whole.WriteFault.{WriteFault}
 use Rattle.msp_io.proofs.Moved.{Consumes-all, Consumes-within}
 use Rattle.msp_class.specs.declared.class.Class.{Class}
-use Rattle.msp_file.specs.declared.fault.FileFault.{FileFault}
-use Rattle.msp_file.specs.declared.fault.FileFault.TheVariants.{Memory as FileMemory}
+use Rattle.msp_grammar.specs.declared.lines.fault.FileFault.{FileFault}
+use Rattle.msp_grammar.specs.declared.lines.fault.FileFault.TheVariants.{Memory as FileMemory}
 use Rattle.msp_instance.specs.declared.Instance.{Instance}
-use Rattle.msp_file.specs.declared.schedule.Stated.{Stated}
+use Rattle.msp_file.specs.declared.schedule.read.Stated.{Stated}
 use Rattle.msp_closure.specs.declared.entry.Entry.{Entry}
 use Rattle.msp_dispatch.specs.declared.Cannot.{Cannot}
 use Rattle.msp_dispatch.specs.declared.Cannot.TheVariants.{Memory as CannotMemory}
