@@ -14,8 +14,7 @@ NO_PUBLICATION = ("own proof", "from CLIQUE", "from VERTEX COVER")
 
 
 def find_file(named, *names):
-    """The path of the named file, or of the first of the names that is in the clone, beside the companions or in
-    share/msp of an installed release; or None."""
+    """The path of the named file, or of the first of the names that is in the clone, beside the companions or installed with them; or None."""
     if named:
         return named
     for name in names:

@@ -3,8 +3,10 @@
 Nothing here judges an instance or a schedule: that is the program's work (`solve`, `check`). A text that does not have the form of
 docs/formats.md raises a Fault that names the line.
 """
+import argparse
 import csv
 import difflib
+import io
 import os
 import re
 import shutil
@@ -90,6 +92,43 @@ def read_text(path=None, encoding="utf-8"):
     except UnicodeDecodeError as fault:
         line = data[: fault.start].count(b"\n") + 1
         raise Fault(f"line {line}: a byte that is not {encoding}") from None
+
+
+# Lists from spreadsheets
+
+def read_list(encoding="utf-8", path=None):
+    """The text of a list from a spreadsheet, without a byte order mark and carriage returns."""
+    try:
+        text = read_bytes(path).decode(encoding)
+    except LookupError:
+        raise Misfit(f"no encoding {encoding}: cp1252, latin-1, utf-8, utf-16 are some") from None
+    except UnicodeError as fault:
+        line = f"line {fault.object[: fault.start].count(10) + 1}: " if isinstance(fault, UnicodeDecodeError) else ""
+        cure = "; --encoding cp1252 reads lists from Windows" if encoding == "utf-8" else ""
+        raise Fault(f"{line}a byte that is not {encoding}{cure}") from None
+    return text.removeprefix("\ufeff").replace("\r\n", "\n")
+
+
+def records(text):
+    """The records of a list that are not empty, each with the line on which it begins; separated by semicolons or by commas."""
+    first = text.split("\n", 1)[0]
+    # (where the first line names one column, nothing separates)
+    delimiter = ";" if first.count(";") > first.count(",") else "," if "," in first else "\x1f"
+    reader, line, found = csv.reader(io.StringIO(text), delimiter=delimiter, strict=True), 1, []
+    try:
+        for record in reader:
+            found += [(line, record)] if record else []
+            line = reader.line_num + 1
+    except csv.Error as fault:
+        raise Fault(f"line {line}: {fault}") from None
+    return found
+
+
+def positive(text):
+    """A reader of whole numbers from 1 for argparse."""
+    if not text.isdecimal() or int(text) < 1:
+        raise argparse.ArgumentTypeError(f"{text}: write a whole number from 1")
+    return int(text)
 
 
 # Numbers, exact
@@ -194,6 +233,24 @@ def said_date(start, seconds):
     part = seconds - seconds.__floor__()
     text = date.strftime("%Y-%m-%d %H:%M" if date.second == 0 and part == 0 else "%Y-%m-%d %H:%M:%S").rjust(16, "0")
     return text + (f"+{part.numerator}/{part.denominator}" if part else "")
+
+
+def add_moments(words):
+    """The words that say how moments outside of the instance are counted, for argparse."""
+    for option in ("--scale", "--time-unit", "--start"):
+        words.add_argument(option)
+
+
+def settle_moments(wanted):
+    """Reads these words: a number, the seconds of a unit of time (None: they are not said), and the moment 0 as a value of date_of."""
+    try:
+        wanted.scale = decimal(wanted.scale, "--scale") if wanted.scale else Fraction(1)
+        wanted.time_unit = length_of(wanted.time_unit or "1h") if wanted.time_unit or wanted.start else None
+        wanted.start = date_of(wanted.start, "--start") if wanted.start else None
+    except Fault as fault:
+        raise Misfit(str(fault)) from None
+    if wanted.scale <= 0:
+        raise Misfit("--scale is above 0")
 
 
 # Names of classes
@@ -376,6 +433,30 @@ def read_instance(text):
     if found.machines is None:
         raise Fault(f"line 3: the line machines is missing")
     return found
+
+
+def read_instance_at(path):
+    """The instance of a file; faults have its path in front."""
+    try:
+        return read_instance(read_text(path))
+    except Fault as fault:
+        raise Fault(f"{path}: {fault}") from None
+
+
+def cost_of(instance, ends):
+    """The cost of a schedule in which the jobs end so, by name; every job has an end."""
+    criterion = instance.kind.criterion
+    values = []
+    for job in instance.jobs:
+        end = ends[job.name]
+        if criterion == "fmax":
+            steps = zip(job.curve[2::2], job.curve[3::2])
+            value = job.curve[0] * end + job.curve[1] + sum(add for above, add in steps if end > above)
+        else:
+            late = end - job.due if job.due is not None else 0
+            value = {"x": end, "C": end, "U": int(late > 0), "T": max(late, 0)}[criterion[-1]] if criterion != "Lmax" else late
+        values.append(value * (1 if job.weight is None else job.weight))
+    return Fraction(max(values) if criterion in ("Cmax", "Lmax", "fmax") else sum(values))
 
 
 # Schedule texts and reports of solve

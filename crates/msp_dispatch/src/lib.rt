@@ -17,7 +17,6 @@ mod certify;
 mod certify_tests;
 mod fit;
 mod pick;
-mod reached;
 #[cfg(test)]
 mod row_tests;
 mod shown;
@@ -32,7 +31,7 @@ mod via_tests;
 pub use certify::certify_any;
 use msp_class::{Class, NoMemory};
 pub use solve::solve_any;
-pub use solved_list::{SOLVED, SolvedClass, solved};
+pub use solved_list::{SolvedClass, solved};
 
 /// Why an instance is not solved.
 #[derive(Clone, Copy, Debug, PartialEq, Eq)]

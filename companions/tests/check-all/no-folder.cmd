@@ -1,0 +1,1 @@
+check-all list '1||Lmax'

@@ -1,0 +1,2 @@
+mkdir empty
+check-all empty '1||Lmax'

@@ -1,0 +1,1 @@
+check-all lists '1||sumT' --scale 2

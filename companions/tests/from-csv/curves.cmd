@@ -1,0 +1,1 @@
+from-csv '1|pmtn,prec,r|fmax' --scale 2 < curves.csv

@@ -1,0 +1,1 @@
+from-csv 'R2||sumC' < bakery.csv

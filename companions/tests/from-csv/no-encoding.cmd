@@ -1,0 +1,1 @@
+from-csv '1||sumC' --encoding cp9999 < bakery.csv

@@ -1,0 +1,1 @@
+from-csv 'P||sumC' < bakery.csv

@@ -1,0 +1,1 @@
+from-csv '1||Lmax' --scale 2 < orders.csv

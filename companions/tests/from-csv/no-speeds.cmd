@@ -1,0 +1,1 @@
+from-csv 'Q|pmtn|Cmax' --machines 3 < loads.csv

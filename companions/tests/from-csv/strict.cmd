@@ -1,0 +1,1 @@
+from-csv '1||Lmax' --strict < bakery.csv

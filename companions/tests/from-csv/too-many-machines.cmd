@@ -1,0 +1,1 @@
+from-csv '1||sumC' --machines 2 < bakery.csv

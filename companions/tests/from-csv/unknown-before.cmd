@@ -1,0 +1,1 @@
+printf 'job,p,after\na,1,\nb,1,\nc,1,"a, b"\n' | from-csv '1|prec|Cmax'

@@ -1,0 +1,1 @@
+from-csv --machines 2 < bakery.csv

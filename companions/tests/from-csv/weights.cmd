@@ -1,0 +1,1 @@
+from-csv 'J2|n<=2|sumwC' --scale 2 < routes.csv

@@ -1,0 +1,1 @@
+cat orders.txt late.report | plan --names names.csv

@@ -1,0 +1,1 @@
+plan --time-unit 15min --start 'Monday' < orders.report

@@ -1,0 +1,1 @@
+plan orders.report --instance orders.report

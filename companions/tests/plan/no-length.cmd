@@ -1,0 +1,1 @@
+plan --time-unit 15 < orders.report

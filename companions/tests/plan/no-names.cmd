@@ -1,0 +1,1 @@
+plan --names orders.txt < orders.report

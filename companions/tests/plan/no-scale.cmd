@@ -1,0 +1,1 @@
+plan --scale 0 < orders.report

@@ -1,0 +1,1 @@
+plan --instance shop.txt < orders.report

@@ -1,0 +1,1 @@
+plan --instance orders.txt < orders.report

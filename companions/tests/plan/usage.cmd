@@ -1,0 +1,1 @@
+plan --by-job < orders.report

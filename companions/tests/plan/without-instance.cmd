@@ -1,0 +1,2 @@
+plan < shop.report
+plan --csv --jobs < shop.report

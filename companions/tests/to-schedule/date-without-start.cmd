@@ -1,0 +1,1 @@
+to-schedule orders.txt < dates.csv

@@ -1,0 +1,1 @@
+head -n 3 plan.csv | to-schedule orders.txt

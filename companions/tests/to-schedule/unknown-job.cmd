@@ -1,0 +1,1 @@
+printf 'job,machine,start,end\na,1,0,2\nd,1,2,4\n' | to-schedule shop.txt

@@ -1,0 +1,1 @@
+to-schedule < plan.csv

@@ -1,0 +1,3 @@
+to-schedule orders.txt < plan.csv > schedule
+cat schedule
+cat orders.txt schedule | msp check
