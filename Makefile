@@ -37,7 +37,8 @@ install:
 	install -m 755 $(COMPANIONS) "$(TO)/lib/msp"
 	install -m 644 docs/msp.1 "$(TO)/share/man/man1"
 	install -m 644 examples/known-*.csv "$(TO)/share/msp/examples"
-	install -m 644 docs/results/literature.bib "$(TO)/share/msp/docs/results"
+	install -m 644 docs/results/literature.bib docs/results/open.md docs/results/proofs-of-results.md "$(TO)/share/msp/docs/results"
+	install -m 644 docs/solved-classes.md "$(TO)/share/msp/docs"
 	ln -sf ../../bin/msp "$(TO)/lib/msp/msp"
 	for it in $(notdir $(filter-out %.py %.html,$(COMPANIONS))); do ln -sf ../lib/msp/$$it "$(TO)/bin/msp-$$it"; done
 
