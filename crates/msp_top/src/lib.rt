@@ -25,7 +25,9 @@ mod row_tests;
 mod serve;
 #[cfg(test)]
 mod solver_tests;
+mod solves;
 mod statuses;
+mod streams;
 #[cfg(test)]
 mod tests;
 #[cfg(test)]
@@ -39,3 +41,4 @@ pub use serve::run;
 pub use statuses::{
     BAD_INPUT, LIMIT, NO, NO_MEMORY, NO_ROUTE, NO_SOLVER, READ_FAULT, USAGE, WRITE_FAULT, WRITTEN,
 };
+pub use streams::run_on_streams;

@@ -4,7 +4,7 @@ use Rattle.msp_top.specs.Solves.{SolveIsRight, solved}
 use Rattle.msp_top.proofs.Exits.{exits}
 use Rattle.msp_top.proofs.SolveAnswers.{answers-memory, cannot_right}
 use Rattle.msp_top.proofs.Stated.{stated}
-use Rattle.msp_top.proofs.answers.answer_filed.Goals as goal
+use Rattle.msp_top.proofs.solves.answer_filed.Goals as goal
 
 pub returns-in_err-answer : goal.returns-in_err-answer
 returns-in_err-answer c = exits _ (Answers (OfFiled (λ input. SolveIsRight input c.args.at) c.args.filed.now)) c.from_residual.result c.from_residual.ensures.1

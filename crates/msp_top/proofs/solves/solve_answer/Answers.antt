@@ -3,7 +3,7 @@ use Rattle.msp_top.specs.Solves.{SolveIsRight, misread}
 use Rattle.msp_top.specs.Answers.{Answers}
 use Rattle.msp_top.proofs.Exits.{exits}
 use Rattle.msp_top.proofs.SolveAnswers.{filed_right, fault_right}
-use Rattle.msp_top.proofs.answers.solve_answer.Goals as goal
+use Rattle.msp_top.proofs.solves.solve_answer.Goals as goal
 
 pub returns-in_err-filed : goal.returns-in_err-filed
 returns-in_err-filed c = exits _ (Answers (SolveIsRight c.args.input.now c.args.at)) c.from_residual.result c.from_residual.ensures.1
