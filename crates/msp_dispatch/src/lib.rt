@@ -11,6 +11,8 @@
 ghost use Rattle.std.specs.Prelude.{◌≡◌};
 
 #[cfg(test)]
+mod assign_tests;
+#[cfg(test)]
 mod bound_tests;
 mod certify;
 #[cfg(test)]
