@@ -5,8 +5,9 @@ ghost use Rattle.msp_instance.specs.Conditions.{InClass};
 ghost use Rattle.msp_grammar.specs.declared.lines.limits.TheConstants.{MOST_BYTES};
 
 use crate::accept_text;
+use crate::text_tests::is_lowest;
 use msp_cert::accept;
-use msp_file::{Filed, put_certificate, read_certificate, read_instance};
+use msp_file::{Filed, print_certificate, read_certificate, read_instance};
 use std::alloc::Global;
 use std::process::Abort;
 use std::test::Fail;
@@ -77,9 +78,10 @@ fn printed_again(alloc: Global, filed: &Filed, text: &[u8]) -> Result<Vec<u8>, F
 {
     let Filed { instance, names } = filed;
     let certificate = read_certificate(alloc, names, instance, text, 1)?;
-    let mut out = Vec::new(alloc);
-    put_certificate(&mut out, names, instance, &certificate)?;
-    Ok(out)
+    if !is_lowest(certificate.bound) {
+        return Err(Fail::new("a bound that is not in lowest terms"));
+    }
+    Ok(print_certificate(alloc, names, instance, &certificate)?)
 }
 
 #[test]

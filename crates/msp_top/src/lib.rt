@@ -7,6 +7,8 @@
 mod accept_tests;
 mod accepts;
 mod answers;
+#[cfg(test)]
+mod break_tests;
 mod certifies;
 #[cfg(test)]
 mod certify_tests;
@@ -14,6 +16,8 @@ mod certify_tests;
 mod check_tests;
 mod checks;
 mod command;
+#[cfg(test)]
+mod hand_tests;
 #[cfg(test)]
 mod hostile_tests;
 mod laws;
