@@ -3,7 +3,7 @@
 PREFIX ?= /usr/local
 OUT := crates/msp/out
 SOURCES := $(shell find crates/*/src crates/*/specs crates/*/proofs 2>/dev/null)
-COMPANIONS := $(sort $(shell find companions -maxdepth 1 -type f))
+COMPANIONS := $(sort $(shell find companions -maxdepth 1 -type f -name '[a-z]*'))
 TO = $(DESTDIR)$(PREFIX)
 PROCESSORS := $(shell getconf _NPROCESSORS_ONLN 2>/dev/null || echo 1)
 # A prover takes up to a gigabyte and a half of memory.
@@ -32,12 +32,15 @@ install:
 	@if command -v rt >/dev/null; then $(MAKE) program; \
 	elif [ -x $(OUT)/msp ]; then echo 'there is no rt here: the program that stands here is installed as it is' >&2; \
 	else echo 'there is no built program, and no rt to build one: README.md says what it takes' >&2; exit 1; fi
-	install -d "$(TO)/bin" "$(TO)/lib/msp" "$(TO)/share/man/man1"
+	install -d "$(TO)/bin" "$(TO)/lib/msp" "$(TO)/share/man/man1" "$(TO)/share/msp/examples" "$(TO)/share/msp/docs/results"
 	install -m 755 $(OUT)/msp "$(TO)/bin"
 	install -m 755 $(COMPANIONS) "$(TO)/lib/msp"
 	install -m 644 docs/msp.1 "$(TO)/share/man/man1"
+	install -m 644 examples/known-*.csv "$(TO)/share/msp/examples"
+	install -m 644 docs/results/literature.bib docs/results/open.md docs/results/proofs-of-results.md "$(TO)/share/msp/docs/results"
+	install -m 644 docs/solved-classes.md "$(TO)/share/msp/docs"
 	ln -sf ../../bin/msp "$(TO)/lib/msp/msp"
-	for it in $(notdir $(filter-out %.py,$(COMPANIONS))); do ln -sf ../lib/msp/$$it "$(TO)/bin/msp-$$it"; done
+	for it in $(notdir $(filter-out %.py %.html,$(COMPANIONS))); do ln -sf ../lib/msp/$$it "$(TO)/bin/msp-$$it"; done
 
 dist: program
 	tools/dist

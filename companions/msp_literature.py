@@ -14,11 +14,11 @@ NO_PUBLICATION = ("own proof", "from CLIQUE", "from VERTEX COVER")
 
 
 def find_file(named, *names):
-    """The path of the named file, or of the first of the names that is in the clone, beside the companions or in share/msp; or None."""
+    """The path of the named file, or of the first of the names that is in the clone, beside the companions or installed with them; or None."""
     if named:
         return named
     for name in names:
-        for path in (f"{HERE}/../{name}", f"{HERE}/{os.path.basename(name)}", f"{HERE}/../share/msp/{os.path.basename(name)}"):
+        for path in (f"{HERE}/../{name}", f"{HERE}/{os.path.basename(name)}", f"{HERE}/../../share/msp/{name}"):
             if os.path.isfile(path):
                 return os.path.normpath(path)
     return None

@@ -73,22 +73,55 @@ fn by_blocks(alloc: Global, inst: &Instance) -> Result<Placed, NoMemory>
     })
 }
 
-/// A best schedule of the instance by blocks (Baker, Lawler, Lenstra and Rinnooy Kan 1983). Release dates are raised along the arcs, and
-/// the earliest schedule is cut into blocks, in which the machine is never idle. In a block the job that costs least at its end, of those
-/// that no other one of it must follow, takes what the others leave when they are run without it. Where all times are 1, no job is cut.
-fn schedule_by_blocks(alloc: Global, inst: &Instance) -> Result<Solution, NoMemory>
+/// A best schedule, and a block whose value is its cost.
+#[derive(Drop)]
+pub struct BlockSolution {
+    pub solution: Solution,
+    pub block: BindingBlock,
+}
+
+/// A best schedule of the instance by blocks (Baker, Lawler, Lenstra and Rinnooy Kan 1983), and the block whose last job costs most.
+/// Release dates are raised along the arcs, and the earliest schedule is cut into blocks, in which the machine is never idle. In a block
+/// the job that costs least at its end, of those that no other one of it must follow, takes what the others leave when they are run
+/// without it. Where all times are 1, no job is cut.
+fn schedule_by_blocks(alloc: Global, inst: &Instance) -> Result<BlockSolution, NoMemory>
     requires inner { Inner inst.now }
     requires machine { inst.now.class.env ≡ One }
     requires crit { inst.now.class.crit ≡ Fmax }
     requires whole { (inst.now.class.cut ≡ true) ⊎ (inst.now.class.times ≡ Unit) }
-    ensures best { IfOk result (λ s. IsBest inst.now s) }
-    ensures bounds { IfOk result (λ s. IsAnswer inst.now s.schedule) }
-    ensures unit { IfOk result (λ s. s.schedule.unit ≡ pos 1) }
+    ensures best { IfOk result (λ s. IsBest inst.now s.solution) }
+    ensures bounds { IfOk result (λ s. IsAnswer inst.now s.solution.schedule) }
+    ensures unit { IfOk result (λ s. s.solution.schedule.unit ≡ pos 1) }
+    ensures block { IfOk result (λ s. IsBlock inst.now s.block.head s.block.jobs) }
+    ensures value { IfOk result (λ s. (value : ℤ) × IsBlockValue inst.now s.block.head s.block.jobs value × IsBestCost inst.now value) }
+    ensures small { IfOk result (λ s. All (λ h. h ≤ greatest_head) s.block.head) }
 {
-    let Placed { pieces, .. } = by_blocks(alloc, inst)?;
+    let Placed {
+        heads,
+        pieces,
+        bound,
+    } = by_blocks(alloc, inst)?;
     let schedule = Schedule { unit: 1, pieces };
     let cost = msp_schedule::cost(inst, &schedule);
-    Ok(Solution { schedule, cost })
+    let block = BindingBlock {
+        head: List::from_vec(heads),
+        jobs: bound.jobs,
+    };
+    let solution = Solution { schedule, cost };
+    Ok(BlockSolution { solution, block })
+}
+
+/// A best schedule of jobs that may be cut, and the block of `binding`, by one run.
+pub fn solve_with_block(alloc: Global, inst: &Instance) -> Result<BlockSolution, NoMemory>
+    requires inner { Inner inst.now }
+    requires class { inst.now.class ≡ blocks_class }
+    ensures best { IfOk result (λ s. IsBest inst.now s.solution) }
+    ensures bounds { IfOk result (λ s. IsAnswer inst.now s.solution.schedule) }
+    ensures block { IfOk result (λ s. IsBlock inst.now s.block.head s.block.jobs) }
+    ensures value { IfOk result (λ s. (value : ℤ) × IsBlockValue inst.now s.block.head s.block.jobs value × IsBestCost inst.now value) }
+    ensures small { IfOk result (λ s. All (λ h. h ≤ greatest_head) s.block.head) }
+{
+    schedule_by_blocks(alloc, inst)
 }
 
 /// A block whose value is the best cost. Each job, when it is placed, ends last in a block; of these blocks the one whose last job costs
@@ -100,11 +133,8 @@ pub fn binding(alloc: Global, inst: &Instance) -> Result<BindingBlock, NoMemory>
     ensures value { IfOk result (λ b. (value : ℤ) × IsBlockValue inst.now b.head b.jobs value × IsBestCost inst.now value) }
     ensures small { IfOk result (λ b. All (λ h. h ≤ greatest_head) b.head) }
 {
-    let Placed { heads, bound, .. } = by_blocks(alloc, inst)?;
-    Ok(BindingBlock {
-        head: List::from_vec(heads),
-        jobs: bound.jobs,
-    })
+    let BlockSolution { block, .. } = solve_with_block(alloc, inst)?;
+    Ok(block)
 }
 
 /// Finds a schedule of least greatest cost on one machine with precedence, release dates and preemption, by blocks (Baker, Lawler,
@@ -128,7 +158,8 @@ impl Solver for Blocks {
     }
 
     fn solve(&self, alloc: Global, inst: &Instance) -> Result<Solution, NoMemory> {
-        schedule_by_blocks(alloc, inst)
+        let BlockSolution { solution, .. } = schedule_by_blocks(alloc, inst)?;
+        Ok(solution)
     }
 }
 
@@ -158,6 +189,7 @@ impl Solver for UnitBlocks {
         ensures bounds { IfOk result (λ s. IsAnswer inst.now s.schedule) }
         ensures unit { IfOk result (λ s. s.schedule.unit ≡ pos 1) }
     {
-        schedule_by_blocks(alloc, inst)
+        let BlockSolution { solution, .. } = schedule_by_blocks(alloc, inst)?;
+        Ok(solution)
     }
 }

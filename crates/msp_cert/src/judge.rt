@@ -2,7 +2,7 @@
 ghost use Rattle.std.specs.Prelude.{◌↔◌, IsTrue, IfOk, IfSome};
 ghost use Rattle.msp_instance.specs.Conditions.{InClass};
 ghost use Rattle.msp_schedule.specs.Fraction.{IsComparable};
-ghost use Rattle.msp_cert.specs.Certificates.{IsAccepted, KeepsLimits};
+ghost use Rattle.msp_cert.specs.Certificates.{IsAccepted, IsShown, KeepsLimits};
 ghost use Rattle.msp_cert.specs.Worth.{IsWorth};
 
 use crate::block::block_worth;
@@ -37,6 +37,17 @@ fn worth(alloc: Global, inst: &Instance, proof: &Proof) -> Result<Option<Frac>, 
     }
 }
 
+/// Whether the evidence of the proof holds, and the bound is at most its value.
+fn is_shown(alloc: Global, inst: &Instance, bound: &Frac, proof: &Proof) -> Result<bool, NoMemory>
+    requires class { InClass inst.now }
+    requires bound { IsComparable bound.now }
+    requires limits { KeepsLimits proof.now }
+    ensures { IfOk result (λ yes. IsTrue yes ↔ IsShown inst.now bound.now proof.now) }
+{
+    let worth = worth(alloc, inst, proof)?;
+    Ok(shows(bound, worth))
+}
+
 /// Whether the certificate is accepted: the evidence of its proof holds, and the bound is at most its value. No solver is called.
 pub fn accept(alloc: Global, inst: &Instance, cert: &Certificate) -> Result<bool, NoMemory>
     requires class { InClass inst.now }
@@ -44,6 +55,5 @@ pub fn accept(alloc: Global, inst: &Instance, cert: &Certificate) -> Result<bool
     requires limits { KeepsLimits cert.now.proof }
     ensures { IfOk result (λ yes. IsTrue yes ↔ IsAccepted inst.now cert.now) }
 {
-    let worth = worth(alloc, inst, &cert.proof)?;
-    Ok(shows(&cert.bound, worth))
+    is_shown(alloc, inst, &cert.bound, &cert.proof)
 }

@@ -3,6 +3,8 @@ use Rattle.std.proofs.Common.{◌≡◌, ◌≢◌, ℕ, ◌<◌, ◌≤◌, ◌
 use Rattle.std.specs.Prelude.{Contains}
 use Rattle.msp_table.specs.Chains.{stay, LeadsInto}
 use Rattle.msp_table.proofs.ChainLemmas.{LeadsInto-step, LeadsInto-none, LeadsInto-first}
+use Rattle.msp_closure.specs.Entries.{IsLedTo}
+use Rattle.msp_closure.proofs.LedLemmas.{led_on}
 use Rattle.msp_closure.proofs.StepLemmas.{step_of-parts, step_of-from}
 use Rattle.std.proofs.lemmas.List.{get_or_default}
 use Rattle.std.proofs.lemmas.List.Elements.{Contains-get_or}
@@ -89,7 +91,7 @@ Passes-start usable ls t level = record {
 }
 
 module _ (usable : ℕ → Bool) (ls : List Link) (before after : List ℕ) (level n : ℕ) (changed : Bool) (e : Link) (small : level + 1 < FAR)
-    (below : n < length ls) (are : AreLinks usable ls) (p : Passes usable ls before after level changed n) where
+    (below : n < length ls) (starts : List Class) (are : AreLinks usable starts ls) (p : Passes usable ls before after level changed n) where
   -- a link visited without a change
   pub Passes-same : (get_or after (get_or ls n e).from 0 ≡ FAR → get_or after (get_or ls n e).to 0 ≢ level)
       → Passes usable ls before after level changed (n + 1)
@@ -135,46 +137,46 @@ module _ (usable : ℕ → Bool) (ls : List Link) (before after : List ℕ) (lev
       }
 
 -- all links are passed
-pub Advances-passed : (usable : ℕ → Bool) (ls : List Link) (before after : List ℕ) (level n : ℕ) (changed : Bool) → length ls ≤ n
-    → AreLinks usable ls → Passes usable ls before after level changed n → Advances usable before after level changed
-Advances-passed usable ls before after level n changed most are p = record {
+pub Advances-passed : (usable : ℕ → Bool) (starts : List Class) (ls : List Link) (before after : List ℕ) (level n : ℕ) (changed : Bool) → length ls ≤ n
+    → AreLinks usable starts ls → Passes usable ls before after level changed n → Advances usable starts before after level changed
+Advances-passed usable starts ls before after level n changed most are p = record {
   raises = p.raises;
-  misses = λ c far k leads.
-      let has = are.all k c leads.0 leads.1 in
+  misses = λ c led far k leads.
+      let has = are.all k c leads.0 led leads.1 in
       let from : (get_or ls has.0 (link c leads.0)).from ≡ rank_of c = ap (λ l. l.from) has.2 in
       let to : (get_or ls has.0 (link c leads.0)).to ≡ rank_of leads.0 = ap (λ l. l.to) has.2 in
       p.misses has.0 (link c leads.0) (omega (arith, has.1)) (ap (λ i. get_or after i 0) from ∙ far) (ap (λ i. get_or before i 0) to ∙ leads.2);
 }
 
 -- after some passes the values up to the level are the distances, and all others are far
-pub record IsLevel (usable : ℕ → Bool) (wanted : List Class) (t : List ℕ) (level : ℕ) : Type 0 where
+pub record IsLevel (usable : ℕ → Bool) (starts wanted : List Class) (t : List ℕ) (level : ℕ) : Type 0 where
   pub sound : (c : Class) → value_of t c ≢ FAR → (value_of t c ≤ level) × ((ks : List ℕ) × (length ks ≡ value_of t c) × LeadsInto usable wanted c ks)
-  pub complete : (c : Class) (ks : List ℕ) → LeadsInto usable wanted c ks → length ks ≤ level → value_of t c ≤ length ks
+  pub complete : (c : Class) (ks : List ℕ) → IsLedTo usable starts c → LeadsInto usable wanted c ks → length ks ≤ level → value_of t c ≤ length ks
 
-pub IsLevel-start : (usable : ℕ → Bool) (wanted : List Class) (t : List ℕ) → ((c : Class) → Contains wanted c → value_of t c ≡ 0)
-    → ((c : Class) → value_of t c ≢ FAR → Contains wanted c) → IsLevel usable wanted t 0
-IsLevel-start usable wanted t zero far = record {
+pub IsLevel-start : (usable : ℕ → Bool) (starts wanted : List Class) (t : List ℕ) → ((c : Class) → Contains wanted c → value_of t c ≡ 0)
+    → ((c : Class) → value_of t c ≢ FAR → Contains wanted c) → IsLevel usable starts wanted t 0
+IsLevel-start usable starts wanted t zero far = record {
   sound = λ c near.
       let is : value_of t c ≡ 0 = zero c (far c near) in
       (omega arith, ([], sym is, record { last = c; is_wanted = far c near; leads = stay }));
   complete = complete;
 }
   where
-    complete : (c : Class) (ks : List ℕ) → LeadsInto usable wanted c ks → length ks ≤ 0 → value_of t c ≤ length ks
-    complete c [] into short = omega (arith, zero c (LeadsInto-none into))
-    complete c (k ∷ ks) into short = absurd (omega arith)
+    complete : (c : Class) (ks : List ℕ) → IsLedTo usable starts c → LeadsInto usable wanted c ks → length ks ≤ 0 → value_of t c ≤ length ks
+    complete c [] led into short = omega (arith, zero c (LeadsInto-none into))
+    complete c (k ∷ ks) led into short = absurd (omega arith)
 
-module _ (usable : ℕ → Bool) (wanted : List Class) (before after : List ℕ) (level : ℕ) (changed : Bool) (small : level + 1 < FAR)
-    (is : IsLevel usable wanted before level) (a : Advances usable before after level changed) where
+module _ (usable : ℕ → Bool) (starts wanted : List Class) (before after : List ℕ) (level : ℕ) (changed : Bool) (small : level + 1 < FAR)
+    (is : IsLevel usable starts wanted before level) (a : Advances usable starts before after level changed) where
   -- a class from which a row leads to a near class is near
-  near_from_row : (c x : Class) (k : ℕ) → step_of usable k c ≡ Some x → value_of before x ≢ FAR → value_of after c ≢ FAR
-  near_from_row c x k steps near far =
+  near_from_row : (c x : Class) (k : ℕ) → IsLedTo usable starts c → step_of usable k c ≡ Some x → value_of before x ≢ FAR → value_of after c ≢ FAR
+  near_from_row c x k led steps near far =
       let low = is.sound x near in
-      let not_level : value_of before x ≢ level = λ e. a.misses c far k (x, steps, e) in
+      let not_level : value_of before x ≢ level = λ e. a.misses c led far k (x, steps, e) in
       let parts = step_of-parts usable k c x steps in
       let into : LeadsInto usable wanted c (k ∷ low.1.0) = LeadsInto-step parts.0 parts.1 low.1.2 in
       let short : length (k ∷ low.1.0) ≤ level = omega (arith, low.0, low.1.1) in
-      let value : value_of before c ≤ length (k ∷ low.1.0) = is.complete c (k ∷ low.1.0) into short in
+      let value : value_of before c ≤ length (k ∷ low.1.0) = is.complete c (k ∷ low.1.0) led into short in
       let near_before : value_of before c ≢ FAR = λ e. absurd (omega arith) in
       near_before (sym (a.raises.keeps c near_before) ∙ far)
 
@@ -208,29 +210,30 @@ StartsAt-more wanted t n x e below at s =
     }
 
 -- what the next pass makes of the values
-module _ (usable : ℕ → Bool) (wanted : List Class) (before after : List ℕ) (level : ℕ) (changed : Bool) (small : level + 1 < FAR)
-    (is : IsLevel usable wanted before level) (a : Advances usable before after level changed) where
-  complete_next : (c : Class) (ks : List ℕ) → LeadsInto usable wanted c ks → length ks ≤ level + 1 → value_of after c ≤ length ks
-  complete_next c [] into short =
-      let low : value_of before c ≤ 0 = is.complete c [] into (omega arith) in
+module _ (usable : ℕ → Bool) (starts wanted : List Class) (before after : List ℕ) (level : ℕ) (changed : Bool) (small : level + 1 < FAR)
+    (is : IsLevel usable starts wanted before level) (a : Advances usable starts before after level changed) where
+  complete_next : (c : Class) (ks : List ℕ) → IsLedTo usable starts c → LeadsInto usable wanted c ks → length ks ≤ level + 1 → value_of after c ≤ length ks
+  complete_next c [] led into short =
+      let low : value_of before c ≤ 0 = is.complete c [] led into (omega arith) in
       let near : value_of before c ≢ FAR = λ e. absurd (omega arith) in
       omega (arith, a.raises.keeps c near)
-  complete_next c (k ∷ ks) into short =
+  complete_next c (k ∷ ks) led into short =
       let first = LeadsInto-first into in
       let steps : step_of usable k c ≡ Some first.next = step_of-from usable k c first.next first.is_usable first.goes in
-      let low : value_of before first.next ≤ length ks = is.complete first.next ks first.rest (omega arith) in
+      let next_led : IsLedTo usable starts first.next = led_on usable starts c first.next k led steps in
+      let low : value_of before first.next ≤ length ks = is.complete first.next ks next_led first.rest (omega arith) in
       let near : value_of before first.next ≢ FAR = λ e. absurd (omega arith) in
-      let reached : value_of after c ≢ FAR = near_from_row usable wanted before after level changed small is a c first.next k steps near in
+      let reached : value_of after c ≢ FAR = near_from_row usable starts wanted before after level changed small is a c first.next k led steps near in
       elim (cases_eq (value_of before c) FAR) as (λ _. value_of after c ≤ length (k ∷ ks)) [
         | inl far ↦ elim (cases_lt (length ks) level) as (λ _. value_of after c ≤ length (k ∷ ks)) [
           | inl early ↦
-              let value : value_of before c ≤ length (k ∷ ks) = is.complete c (k ∷ ks) into (omega arith) in
+              let value : value_of before c ≤ length (k ∷ ks) = is.complete c (k ∷ ks) led into (omega arith) in
               absurd (omega arith)
           | inr late ↦ omega (arith, (a.raises.reaches c far reached).0)
         ]
         | inr was ↦ elim (cases_lt (length ks) level) as (λ _. value_of after c ≤ length (k ∷ ks)) [
           | inl early ↦
-              let value : value_of before c ≤ length (k ∷ ks) = is.complete c (k ∷ ks) into (omega arith) in
+              let value : value_of before c ≤ length (k ∷ ks) = is.complete c (k ∷ ks) led into (omega arith) in
               omega (arith, a.raises.keeps c was)
           | inr late ↦ omega (arith, a.raises.keeps c was, (is.sound c was).0)
         ]
@@ -255,22 +258,23 @@ module _ (usable : ℕ → Bool) (wanted : List Class) (before after : List ℕ)
       ]
 
   -- the values are right up to the next level
-  pub IsLevel-next : IsLevel usable wanted after (level + 1)
+  pub IsLevel-next : IsLevel usable starts wanted after (level + 1)
   IsLevel-next = record { sound = sound_next; complete = complete_next }
 
-  reached_all : changed ≡ false → (c : Class) (ks : List ℕ) → LeadsInto usable wanted c ks → value_of after c ≢ FAR
-  reached_all still c [] into = let low : value_of after c ≤ 0 = complete_next c [] into (omega arith) in λ e. absurd (omega arith)
-  reached_all still c (k ∷ ks) into =
+  reached_all : changed ≡ false → (c : Class) (ks : List ℕ) → IsLedTo usable starts c → LeadsInto usable wanted c ks → value_of after c ≢ FAR
+  reached_all still c [] led into = let low : value_of after c ≤ 0 = complete_next c [] led into (omega arith) in λ e. absurd (omega arith)
+  reached_all still c (k ∷ ks) led into =
       let first = LeadsInto-first into in
       let steps : step_of usable k c ≡ Some first.next = step_of-from usable k c first.next first.is_usable first.goes in
-      let near : value_of after first.next ≢ FAR = reached_all still first.next ks first.rest in
+      let next_led : IsLedTo usable starts first.next = led_on usable starts c first.next k led steps in
+      let near : value_of after first.next ≢ FAR = reached_all still first.next ks next_led first.rest in
       let near_before : value_of before first.next ≢ FAR = λ e. near (ap (λ t. value_of t first.next) (a.raises.quiet still) ∙ e) in
-      near_from_row usable wanted before after level changed small is a c first.next k steps near_before
+      near_from_row usable starts wanted before after level changed small is a c first.next k led steps near_before
 
   -- a pass that changes nothing ends the walk
-  pub AreDistances-quiet : changed ≡ false → level ≤ CLASSES → AreDistances usable wanted after
+  pub AreDistances-quiet : changed ≡ false → level ≤ CLASSES → AreDistances usable starts wanted after
   AreDistances-quiet still most = record {
-    near = λ c near.
+    near = λ c led near.
         let low = sound_next c near in
         record {
           rows = low.1.0;
@@ -278,7 +282,7 @@ module _ (usable : ℕ → Bool) (wanted : List Class) (before after : List ℕ)
           length_is = low.1.1;
           least = λ ks into. elim (cases_lt (level + 1) (length ks)) as (λ _. value_of after c ≤ length ks) [
             | inl long ↦ omega (arith, low.0)
-            | inr short ↦ complete_next c ks into short
+            | inr short ↦ complete_next c ks led into short
           ];
         };
     all = reached_all still;
@@ -291,7 +295,7 @@ pub far_count-most : (t : List ℕ) → length t ≡ CLASSES → far_count t ≤
 far_count-most t len = omega (arith, count_by-le-length (λ v. eqb v FAR) t)
 
 -- a pass that changes something leaves fewer far classes
-pub far_falls : {usable : ℕ → Bool} {before after : List ℕ} {level : ℕ} {changed : Bool} → Advances usable before after level changed
+pub far_falls : {usable : ℕ → Bool} {starts : List Class} {before after : List ℕ} {level : ℕ} {changed : Bool} → Advances usable starts before after level changed
     → changed ≡ true → far_count after + 1 ≤ far_count before
-far_falls {usable} {before} {after} {level} {changed} a is =
+far_falls {usable} {starts} {before} {after} {level} {changed} a is =
     let one : ◌≡◌ {A = ℕ} (cond changed 1 0) 1 = cond-true changed 1 0 is in omega (arith, a.raises.falls)

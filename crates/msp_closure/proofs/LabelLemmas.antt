@@ -1,10 +1,8 @@
 -- The labels from four tests of each class.
-use Rattle.std.proofs.Common.{◌≡◌, ℕ, ◌<◌, Bool, true, false, not, ltb, ◌&&◌, ◌||◌, Option, List, length, get_or, Some, refl, ap, sym, ◌∙◌, subst, arith}
-use Rattle.std.specs.Prelude.{slice_get, IsSomeAnd, Contains}
-use Rattle.std.specs.List.{list_any}
+use Rattle.std.proofs.Common.{◌≡◌, ◌<◌, Bool, true, false, not, ltb, ◌&&◌, ◌||◌, Option, List, length, get_or, Some, refl, ap, sym, ◌∙◌, subst, arith}
+use Rattle.std.specs.Prelude.{slice_get, IsSomeAnd}
 use Rattle.std.specs.Bool.{Decides}
 use Rattle.std.proofs.lemmas.Option.{slice_get-get_or}
-use Rattle.std.proofs.lemmas.List.Folds.{Any-from_list_any, list_any-from_Any}
 use Rattle.std.proofs.lemmas.Bool.{and_parts, lt-ltb}
 use Rattle.std.proofs.lemmas.Bool.Decides.{Decides-and, Decides-or}
 use Rattle.msp_class.specs.declared.class.Class.{Class}
@@ -12,12 +10,10 @@ use Rattle.msp_class.specs.declared.ranks.TheConstants.{CLASSES}
 use Rattle.msp_class.specs.Rank.{rank_of}
 use Rattle.msp_class.proofs.RankLemmas.{rank_of-below}
 use Rattle.msp_table.specs.Rows.{keeps_size}
-use Rattle.msp_table.specs.Chains.{Reaches}
 use Rattle.msp_closure.specs.declared.entry.Entry.{Entry}
 use Rattle.msp_closure.specs.declared.entry.Mark.{Mark}
 use Rattle.msp_closure.specs.declared.entry.Mark.TheVariants.{Easy, Pseudo, Weak, Hard, Strong, Torn, Both, Unsettled}
-use Rattle.msp_closure.specs.Entries.{pseudo_listed, LeadsToOne, IsLedTo, IsEasy, IsHard, IsStrong, Applies, label_number, Says, AreLabels, mark_of}
-use Rattle.msp_closure.specs.Relation.{relates, IsReach}
+use Rattle.msp_closure.specs.Entries.{pseudo_listed, LeadsToOne, IsEasy, IsHard, IsStrong, Applies, label_number, Says, AreLabels, mark_of}
 
 -- a test of four answers that passes everywhere
 all_of : (Bool → Bool) → Bool
@@ -102,23 +98,6 @@ Says-mark_of es c e p h s are = (
       let holds = (applies-Decides es c e p h s other are).1 applied in
       cc,
 )
-
--- a list has a class that passes a test exactly where the test of all of it says so
-some_passes : (p : Class → Bool) (P : Class → Type 0) → ((b : Class) → Decides (p b) (P b)) → (xs : List Class)
-    → Decides (list_any p xs) ((b : Class) × Contains xs b × P b)
-some_passes p P decides xs = (
-  λ yes. let found = Any-from_list_any p xs yes in (found.1, (found.0, found.2, found.3), (decides found.1).0 found.4),
-  λ found. list_any-from_Any p xs (found.1.0, found.0, found.1.1, found.1.2, (decides found.0).1 found.2),
-)
-
--- whether a class is related to a wanted one says whether a chain leads to a wanted one
-pub leading-Decides : (usable : ℕ → Bool) (words : List ℕ) (wanted : List Class) (c : Class) → IsReach usable words
-    → Decides (list_any (λ b. relates words c b) wanted) (LeadsToOne usable wanted c)
-leading-Decides usable words wanted c r = some_passes (λ b. relates words c b) (λ b. Reaches usable c b) (λ b. (r.sound c b, r.all c b)) wanted
-
-pub led-Decides : (usable : ℕ → Bool) (words : List ℕ) (starts : List Class) (c : Class) → IsReach usable words
-    → Decides (list_any (λ b. relates words b c) starts) (IsLedTo usable starts c)
-led-Decides usable words starts c r = some_passes (λ b. relates words b c) (λ b. Reaches usable b c) (λ b. (r.sound b c, r.all b c)) starts
 
 -- the marks made from the tests
 pub AreLabels-from : (es : List Entry) (tests : (c : Class) → Bool × Bool × Bool × Bool) (marks : List Mark)

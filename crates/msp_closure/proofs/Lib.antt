@@ -1,6 +1,8 @@
 pub mod StepLemmas
 pub mod TableLemmas
+pub mod LedLemmas
 pub mod LinkLemmas
+pub mod OutlookLemmas
 pub mod AdvanceLemmas
 pub mod NearestLemmas
 pub mod WayLemmas

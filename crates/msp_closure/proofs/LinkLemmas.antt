@@ -1,13 +1,11 @@
 -- The list of links: how it grows, and that it has every step.
-use Rattle.std.proofs.Common.{◌≡◌, ◌⊎◌, ℕ, ◌<◌, ◌≤◌, ◌+◌, Bool, List, [], Some, get_or, ap, sym, ◌∙◌, subst, inl, inr, arith}
+use Rattle.std.proofs.Common.{◌≡◌, ◌⊎◌, ℕ, ◌+◌, Bool, List, Some, get_or, ap, sym, ◌∙◌, subst, inl, inr, arith}
 use Rattle.std.specs.Prelude.{Contains}
 use Rattle.std.proofs.lemmas.Bool.{cases_eq}
 use Rattle.std.proofs.lemmas.List.Elements.{Contains-get_or}
 use Rattle.msp_class.specs.declared.class.Class.{Class}
-use Rattle.msp_class.specs.declared.ranks.TheConstants.{CLASSES}
 use Rattle.msp_class.specs.Rank.{rank_of}
-use Rattle.msp_class.proofs.RankLemmas.{rank_of-below, rank_of-injective}
-use Rattle.msp_table.specs.declared.row.TheConstants.{ROWS}
+use Rattle.msp_class.proofs.RankLemmas.{rank_of-below}
 use Rattle.msp_closure.specs.declared.links.Link.{Link}
 use Rattle.msp_closure.specs.Links.{link, AreInside, IsStep, AreLinks, AddsLinks, AddsLink}
 use Rattle.msp_closure.specs.Walk.{step_of}
@@ -36,42 +34,9 @@ AddsLinks-next usable before middle after c k row at one a = record {
   ];
 }
 
--- the links from the classes of ranks below `done`
-pub record HasLinks (usable : ℕ → Bool) (ls : List Link) (done : ℕ) : Type 0 where
-  pub sound : (l : Link) → Contains ls l → IsStep usable l
-  pub all : (k : ℕ) (a x : Class) → rank_of a < done → step_of usable k a ≡ Some x → Contains ls (link a x)
-
-pub HasLinks-start : (usable : ℕ → Bool) → HasLinks usable [] 0
-HasLinks-start usable = record {
-  sound = λ l has. absurd (omega (arith, has.1));
-  all = λ k a x below steps. absurd (omega arith);
-}
-
-pub HasLinks-next : (usable : ℕ → Bool) (before after : List Link) (c : Class) (n : ℕ) → rank_of c ≡ n → AddsLinks usable before after c (ROWS + 1)
-    → HasLinks usable before n → HasLinks usable after (n + 1)
-HasLinks-next usable before after c n at adds h = record {
-  sound = λ l has. elim (adds.sound l has) as (λ _. IsStep usable l) [
-    | inl old ↦ h.sound l old
-    | inr new ↦ new
-  ];
-  all = λ k a x below steps. elim (cases_eq (rank_of a) n) as (λ _. Contains after (link a x)) [
-    | inl same ↦
-        let is : c ≡ a = rank_of-injective c a (at ∙ sym same) in
-        let P : Class → Type 0 = λ y. step_of usable k y ≡ Some x → Contains after (link y x) in
-        subst P is (λ s. adds.all k x (omega (arith, (step_of-numbered usable k c x s).1)) s) steps
-    | inr apart ↦ adds.keeps (link a x) (h.all k a x (below_next (rank_of a) n below apart) steps)
-  ];
-}
-
-pub AreLinks-all : (usable : ℕ → Bool) (ls : List Link) (n : ℕ) → CLASSES ≤ n → HasLinks usable ls n → AreLinks usable ls
-AreLinks-all usable ls n most h = record {
-  sound = h.sound;
-  all = λ k a x steps. h.all k a x (omega (arith, rank_of-below a)) steps;
-}
-
 -- the ends of a step are ranks of classes
-pub AreInside-links : (usable : ℕ → Bool) (ls : List Link) → AreLinks usable ls → AreInside ls
-AreInside-links usable ls are = λ j d below.
+pub AreInside-links : (usable : ℕ → Bool) (starts : List Class) (ls : List Link) → AreLinks usable starts ls → AreInside ls
+AreInside-links usable starts ls are = λ j d below.
     let s = are.sound (get_or ls j d) (Contains-get_or ls j d below) in
     let from : (get_or ls j d).from ≡ rank_of s.start = ap (λ l. l.from) s.joins in
     let to : (get_or ls j d).to ≡ rank_of s.next = ap (λ l. l.to) s.joins in

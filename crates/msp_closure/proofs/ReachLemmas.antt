@@ -5,9 +5,7 @@ use Rattle.msp_class.specs.declared.class.Class.{Class}
 use Rattle.msp_class.specs.declared.ranks.TheConstants.{CLASSES}
 use Rattle.msp_class.specs.Rank.{rank_of}
 use Rattle.msp_class.proofs.RankLemmas.{rank_of-below, rank_of-injective}
-use Rattle.msp_table.specs.Rows.{keeps_size}
-use Rattle.msp_table.proofs.ChainLemmas.{Leads-weaken}
-use Rattle.msp_table.specs.Chains.{every_row, Leads, stay, step, Reaches}
+use Rattle.msp_table.specs.Chains.{Leads, stay, step, Reaches}
 use Rattle.msp_closure.specs.Tables.{is_marked}
 use Rattle.msp_closure.specs.Walk.{step_of}
 use Rattle.msp_closure.specs.Relation.{relates, IsReach, Rises, Joins, Includes, IsSound, Grows, GrowsAt, IsClosedBut, IncludesMarked}
@@ -184,13 +182,6 @@ pub record IsPassed (usable : ℕ → Bool) (words : List ℕ) (last fresh : Lis
 
 pub IsSound-alone : (usable : ℕ → Bool) (words : List ℕ) → ((a b : Class) → relates words a b ≡ true → a ≡ b) → IsSound usable words
 IsSound-alone usable words alone a b now = let P : Class → Type 0 = Reaches usable a in subst P (alone a b now) ([], stay)
-
--- what chains of rows that keep size relate all rows relate
-pub IsSound-every : (words : List ℕ) → IsReach keeps_size words → IsSound every_row words
-IsSound-every words r a b now = let reaches = r.sound a b now in (reaches.0, Leads-weaken (λ k usable. refl) reaches.1)
-
-pub IsReach-itself : (usable : ℕ → Bool) (words : List ℕ) → IsReach usable words → (a : Class) → relates words a a ≡ true
-IsReach-itself usable words r a = r.all a a ([], stay)
 
 pub IsPassed-start : (usable : ℕ → Bool) (words : List ℕ) (last fresh : List Bool) → IsSound usable words
     → ((a : Class) → relates words a a ≡ true) → ((c : Class) → is_marked last c ≡ true) → ((c : Class) → is_marked fresh c ≡ false)

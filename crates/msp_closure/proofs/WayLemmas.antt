@@ -1,7 +1,8 @@
 -- The first of the starts that leads to a wanted class, and the way from there.
 use Rattle.std.proofs.Common.{◌≡◌, ◌≢◌, ℕ, suc, ◌<◌, ◌≤◌, ◌+◌, Bool, List, [], ◌∷◌, Option, Some, None, Result, Ok, Err, length, get_or, drop, refl, ap, sym, ◌∙◌, subst, inl, inr, arith}
-use Rattle.std.specs.Prelude.{◌↔◌, Contains, IsNone, IfOk}
-use Rattle.std.proofs.lemmas.Bool.{cases_eq}
+use Rattle.std.specs.Bool.{Decides}
+use Rattle.std.specs.Prelude.{◌↔◌, Contains, IsNone, IfOk, nat_lt}
+use Rattle.std.proofs.lemmas.Bool.{cases_eq, ltb-true, lt-ltb}
 use Rattle.std.proofs.lemmas.List.{drop_more, get_or_default}
 use Rattle.std.proofs.lemmas.List.Elements.{Contains-push, Contains-push_cases}
 use Rattle.msp_class.specs.declared.class.Class.{Class}
@@ -11,6 +12,7 @@ use Rattle.msp_table.specs.Chains.{Reaches, IsNearest, stay}
 use Rattle.msp_closure.specs.declared.distances.TheConstants.{FAR}
 use Rattle.msp_closure.specs.Entries.{LeadsToOne, IsLedTo, HasWay, IsFirst, here, later, IsWay}
 use Rattle.msp_closure.specs.Tables.{value_of, AreDistances}
+use Rattle.msp_closure.proofs.LedLemmas.{starts_are_led}
 
 -- the classes before a place are far, and the first near class from there on is the first
 pub record FarSoFar (t : List ℕ) (starts : List Class) (n : ℕ) : Type 0 where
@@ -43,11 +45,13 @@ pub FarSoFar-none : (t : List ℕ) (starts : List Class) (n : ℕ) → length st
     → (c : Class) → Contains starts c → value_of t c ≡ FAR
 FarSoFar-none t starts n all s = λ c has. sym (ap (value_of t) has.2) ∙ s.far has.0 c (omega (arith, has.1))
 
--- the first with a property is the first with an equivalent one
-IsFirst-same : {P Q : Class → Type 0} {xs : List Class} {x : Class} → ((c : Class) → P c → Q c) → ((c : Class) → Q c → P c)
-    → IsFirst P xs x → IsFirst Q xs x
-IsFirst-same to back (here p) = here (to _ p)
-IsFirst-same to back (later without f) = later (λ q. without (back _ q)) (IsFirst-same to back f)
+-- the first with a property is the first with one that is equivalent in the list
+IsFirst-same : {P Q : Class → Type 0} {xs : List Class} {x : Class} → ((c : Class) → Contains xs c → P c → Q c)
+    → ((c : Class) → Contains xs c → Q c → P c) → IsFirst P xs x → IsFirst Q xs x
+IsFirst-same to back (here p) = here (to _ (0, omega arith, refl) p)
+IsFirst-same to back (later without f) =
+    later (λ q. without (back _ (0, omega arith, refl) q))
+    (IsFirst-same (λ c has. to c (suc has.0, omega (arith, has.1), has.2)) (λ c has. back c (suc has.0, omega (arith, has.1), has.2)) f)
 
 pub IsFirst-has : {P : Class → Type 0} {xs : List Class} {x : Class} → IsFirst P xs x → P x
 IsFirst-has (here p) = p
@@ -58,33 +62,46 @@ IsFirst-among (here p) = (0, omega arith, refl)
 IsFirst-among (later without f) = let h = IsFirst-among f in (suc h.0, omega (arith, h.1), h.2)
 
 -- the near classes are those that lead to a wanted class
-near_leads : (usable : ℕ → Bool) (wanted : List Class) (t : List ℕ) → AreDistances usable wanted t → (c : Class) → value_of t c ≢ FAR → LeadsToOne usable wanted c
-near_leads usable wanted t are c near = let into = (are.near c near).leads in (into.last, into.is_wanted, ((are.near c near).rows, into.leads))
+module _ (usable : ℕ → Bool) (starts wanted : List Class) (t : List ℕ) (are : AreDistances usable starts wanted t) where
+  near_leads : (c : Class) → Contains starts c → value_of t c ≢ FAR → LeadsToOne usable wanted c
+  near_leads c has near =
+      let d = are.near c (starts_are_led usable starts c has) near in (d.leads.last, d.leads.is_wanted, (d.rows, d.leads.leads))
 
-leads_near : (usable : ℕ → Bool) (wanted : List Class) (t : List ℕ) → AreDistances usable wanted t → (c : Class) → LeadsToOne usable wanted c → value_of t c ≢ FAR
-leads_near usable wanted t are c leads = are.all c leads.2.0 (record { last = leads.0; is_wanted = leads.1; leads = leads.2.1 })
+  leads_near : (c : Class) → Contains starts c → LeadsToOne usable wanted c → value_of t c ≢ FAR
+  leads_near c has leads =
+      are.all c leads.2.0 (starts_are_led usable starts c has) (record { last = leads.0; is_wanted = leads.1; leads = leads.2.1 })
 
-pub no_way : (usable : ℕ → Bool) (wanted starts : List Class) (t : List ℕ) → AreDistances usable wanted t
-    → ((c : Class) → Contains starts c → value_of t c ≡ FAR) → ¬ HasWay usable wanted starts
-no_way usable wanted starts t are none = λ h. leads_near usable wanted t are h.0 h.2 (none h.0 h.1)
+  -- a value below FAR says that a chain leads from the start to a wanted class
+  pub near_decides : (c : Class) → Contains starts c → Decides (nat_lt (value_of t c) FAR) (LeadsToOne usable wanted c)
+  near_decides c has = (
+    λ yes. near_leads c has (λ far. absurd (omega (arith, far, ltb-true (value_of t c) FAR yes))),
+    λ leads. lt-ltb (value_of t c) FAR (omega (arith, are.few c (leads_near c has leads))),
+  )
 
-pub way_from : (usable : ℕ → Bool) (wanted starts : List Class) (t : List ℕ) (x : Class) (ks : List ℕ) → AreDistances usable wanted t
-    → IsFirst (λ c. value_of t c ≢ FAR) starts x
-    → ((wanted : List Class) → AreDistances usable wanted t → value_of t x ≢ FAR → IsNearest usable wanted x ks)
+  pub no_way : ((c : Class) → Contains starts c → value_of t c ≡ FAR) → ¬ HasWay usable wanted starts
+  no_way none = λ h. leads_near h.0 h.1 h.2 (none h.0 h.1)
+
+-- the rows that the walk by distances takes
+abbrev pub IsWalkedBy : (ℕ → Bool) → List ℕ → Class → List ℕ → Type 0
+IsWalkedBy usable t x ks =
+    (starts wanted : List Class) → AreDistances usable starts wanted t → IsLedTo usable starts x → value_of t x ≢ FAR → IsNearest usable wanted x ks
+
+pub way_from : (usable : ℕ → Bool) (starts wanted : List Class) (t : List ℕ) (x : Class) (ks : List ℕ) → AreDistances usable starts wanted t
+    → IsFirst (λ c. value_of t c ≢ FAR) starts x → IsWalkedBy usable t x ks
     → IsFirst (LeadsToOne usable wanted) starts x × IsNearest usable wanted x ks
-way_from usable wanted starts t x ks are first nearest = (
-  IsFirst-same (near_leads usable wanted t are) (leads_near usable wanted t are) first,
-  nearest wanted are (IsFirst-has first),
+way_from usable starts wanted t x ks are first nearest = (
+  IsFirst-same (near_leads usable starts wanted t are) (leads_near usable starts wanted t are) first,
+  nearest starts wanted are (starts_are_led usable starts x (IsFirst-among first)) (IsFirst-has first),
 )
 
 -- the way is no longer than there are classes
-pub way_few : (usable : ℕ → Bool) (wanted starts : List Class) (t : List ℕ) (x : Class) (ks : List ℕ) → AreDistances usable wanted t
-    → IsFirst (λ c. value_of t c ≢ FAR) starts x
-    → ((wanted : List Class) → AreDistances usable wanted t → value_of t x ≢ FAR → IsNearest usable wanted x ks) → length ks ≤ CLASSES
-way_few usable wanted starts t x ks are first nearest =
+pub way_few : (usable : ℕ → Bool) (starts wanted : List Class) (t : List ℕ) (x : Class) (ks : List ℕ) → AreDistances usable starts wanted t
+    → IsFirst (λ c. value_of t c ≢ FAR) starts x → IsWalkedBy usable t x ks → length ks ≤ CLASSES
+way_few usable starts wanted t x ks are first nearest =
     let near = IsFirst-has first in
-    let away = are.near x near in
-    omega (arith, (nearest wanted are near).shortest away.rows away.leads, away.length_is, are.few x near)
+    let led : IsLedTo usable starts x = starts_are_led usable starts x (IsFirst-among first) in
+    let away = are.near x led near in
+    omega (arith, (nearest starts wanted are led near).shortest away.rows away.leads, away.length_is, are.few x near)
 
 -- there is no way exactly where no start leads to a wanted class
 none_exactly : {E : Type 0} (P : Type 0) (usable : ℕ → Bool) (wanted starts : List Class) (r : Result (Option Chain) E)
@@ -99,13 +116,14 @@ pub one_is : {c b : Class} → Contains (c ∷ []) b → c ≡ b
 one_is {c} {b} has = elim (Contains-push_cases [] c b has) as (λ _. c ≡ b) [ inl none ↦ absurd (omega (arith, none.1)) | inr is ↦ is ]
 
 -- from one start
-pub none_from : {E : Type 0} (usable : ℕ → Bool) (wanted listed : List Class) (c : Class) (r : Result (Option Chain) E) → wanted ≡ listed
-    → IfOk r (λ found. IsWay usable wanted (c ∷ []) found) → IfOk r (λ found. IsNone found ↔ (¬ LeadsToOne usable listed c))
-none_from usable wanted listed c r is way =
+pub none_from : {E : Type 0} (usable : ℕ → Bool) (wanted listed starts : List Class) (c : Class) (r : Result (Option Chain) E) → wanted ≡ listed
+    → starts ≡ c ∷ [] → IfOk r (λ found. IsWay usable wanted starts found) → IfOk r (λ found. IsNone found ↔ (¬ LeadsToOne usable listed c))
+none_from usable wanted listed starts c r is one way =
     let P : List Class → Type 0 = λ xs. IfOk r (λ found. IsWay usable xs (c ∷ []) found) in
+    let R : List Class → Type 0 = λ xs. IfOk r (λ found. IsWay usable wanted xs found) in
     none_exactly (LeadsToOne usable listed c) usable listed (c ∷ []) r (λ leads. (c, Contains-push [] c, leads))
     (λ h. let Q : Class → Type 0 = LeadsToOne usable listed in subst Q (sym (one_is h.1)) h.2)
-    (subst P is way)
+    (subst P is (subst R one way))
 
 -- to one wanted class
 pub none_to : {E : Type 0} (usable : ℕ → Bool) (starts listed : List Class) (c : Class) (r : Result (Option Chain) E) → starts ≡ listed

@@ -4,6 +4,7 @@ use Rattle.msp_class.specs.declared.class.Class.{Class}
 use Rattle.msp_class.specs.declared.ranks.TheConstants.{CLASSES}
 use Rattle.msp_class.specs.Rank.{rank_of}
 use Rattle.msp_closure.specs.declared.links.Link.{Link}
+use Rattle.msp_closure.specs.Entries.{IsLedTo}
 use Rattle.msp_closure.specs.Walk.{step_of}
 
 -- the link from one class to another
@@ -22,10 +23,10 @@ pub record IsStep (usable : ℕ → Bool) (l : Link) : Type 0 where
   pub steps : step_of usable row start ≡ Some next
   pub joins : l ≡ link start next
 
--- the links are the steps by usable rows
-pub record AreLinks (usable : ℕ → Bool) (links : List Link) : Type 0 where
+-- the links are steps by usable rows, among them all from classes to which these lead from one of the starts
+pub record AreLinks (usable : ℕ → Bool) (starts : List Class) (links : List Link) : Type 0 where
   pub sound : (l : Link) → Contains links l → IsStep usable l
-  pub all : (k : ℕ) (a x : Class) → step_of usable k a ≡ Some x → Contains links (link a x)
+  pub all : (k : ℕ) (a x : Class) → IsLedTo usable starts a → step_of usable k a ≡ Some x → Contains links (link a x)
 
 -- the links from one class by the usable rows of the numbers below `done` are added
 pub record AddsLinks (usable : ℕ → Bool) (before after : List Link) (c : Class) (done : ℕ) : Type 0 where

@@ -5,6 +5,7 @@ use Rattle.msp_class.specs.declared.ranks.TheConstants.{CLASSES}
 use Rattle.msp_class.specs.Rank.{rank_of}
 use Rattle.msp_table.specs.Rows.{carries, keeps_size}
 use Rattle.msp_table.specs.Chains.{every_row, LeadsInto, IsDistance}
+use Rattle.msp_closure.specs.Entries.{IsLedTo}
 use Rattle.msp_closure.specs.declared.row_set.RowSet.{RowSet}
 use Rattle.msp_closure.specs.declared.row_set.RowSet.TheVariants.{Every, Carrying, KeepsSize}
 use Rattle.msp_closure.specs.declared.distances.TheConstants.{FAR}
@@ -23,8 +24,8 @@ value_of table c = slice_index table (rank_of c)
 abbrev pub is_marked : List Bool → Class → Bool
 is_marked table c = slice_index_or table (rank_of c) false
 
--- the distance of each class to the wanted classes, and FAR where no chain leads to one
-pub record AreDistances (usable : ℕ → Bool) (wanted : List Class) (table : List ℕ) : Type 0 where
-  pub near : (c : Class) → value_of table c ≢ FAR → IsDistance usable wanted c (value_of table c)
-  pub all : (c : Class) (ks : List ℕ) → LeadsInto usable wanted c ks → value_of table c ≢ FAR
+-- the distance to the wanted classes of each class to which chains lead from one of the starts, and FAR where no chain leads to a wanted one
+pub record AreDistances (usable : ℕ → Bool) (starts wanted : List Class) (table : List ℕ) : Type 0 where
+  pub near : (c : Class) → IsLedTo usable starts c → value_of table c ≢ FAR → IsDistance usable wanted c (value_of table c)
+  pub all : (c : Class) (ks : List ℕ) → IsLedTo usable starts c → LeadsInto usable wanted c ks → value_of table c ≢ FAR
   pub few : (c : Class) → value_of table c ≢ FAR → value_of table c ≤ CLASSES

@@ -3,6 +3,7 @@ use Rattle.std.specs.Prelude.{ℕ, ◌≡◌, ◌≢◌, ◌+◌, ◌≤◌, ◌
 use Rattle.msp_class.specs.declared.class.Class.{Class}
 use Rattle.msp_table.specs.Rows.{goes_of}
 use Rattle.msp_closure.specs.declared.distances.TheConstants.{FAR}
+use Rattle.msp_closure.specs.Entries.{IsLedTo}
 use Rattle.msp_closure.specs.Tables.{value_of}
 
 -- the class to which a usable row leads
@@ -25,7 +26,8 @@ pub record Raises (usable : ℕ → Bool) (before after : List ℕ) (level : ℕ
   pub quiet : changed ≡ false → after ≡ before
   pub falls : far_count after + (if changed then 1 else 0) ≤ far_count before
 
--- one pass of the breadth walk: a far class gets the next level exactly where a row leads from it to a class of this level
-pub record Advances (usable : ℕ → Bool) (before after : List ℕ) (level : ℕ) (changed : Bool) : Type 0 where
+-- one pass of the breadth walk: among the classes to which chains lead from the starts, a far one gets the next level exactly where a row leads
+-- from it to a class of this level
+pub record Advances (usable : ℕ → Bool) (starts : List Class) (before after : List ℕ) (level : ℕ) (changed : Bool) : Type 0 where
   pub raises : Raises usable before after level changed
-  pub misses : (c : Class) → value_of after c ≡ FAR → (k : ℕ) → ¬ LeadsToValue usable before c level k
+  pub misses : (c : Class) → IsLedTo usable starts c → value_of after c ≡ FAR → (k : ℕ) → ¬ LeadsToValue usable before c level k

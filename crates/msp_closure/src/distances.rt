@@ -1,31 +1,33 @@
 // The distances of classes to wanted ones.
-ghost use Rattle.std.specs.Prelude.{◌≡◌, ◌≢◌, ◌+◌, ◌<◌, ◌≤◌, ℕ, Bool, true, false, IfOk, Contains, slice_index, slice_set, length};
+ghost use Rattle.std.specs.Prelude.{◌≡◌, ◌≢◌, ◌+◌, ◌<◌, ◌≤◌, ℕ, Bool, List, true, false, IfOk, Contains, slice_index, slice_set, length};
 ghost use Rattle.msp_class.specs.declared.class.Class.{Class};
 ghost use Rattle.msp_closure.specs.Tables.{allows, value_of, AreDistances};
 ghost use Rattle.msp_closure.specs.Links.{AreLinks, AreInside};
+ghost use Rattle.msp_closure.specs.Outlook.{IsOutlook};
 ghost use Rattle.msp_closure.specs.Walk.{Advances};
 
 use crate::class_table::ClassTable;
-use crate::links::{Link, links};
-use crate::row_set::RowSet;
+use crate::links::Link;
+use crate::outlook::Outlook;
 use msp_class::{CLASSES, Class, NoMemory};
 use std::alloc::Global;
 
 /// The value of a class from which no chain leads to a wanted class.
 pub(crate) const FAR: u16 = u16::MAX;
 
-/// The distance of each class to the wanted classes, in rows, by a breadth walk backwards from them.
+/// The distance to the wanted classes, in rows, of each class to which chains lead from the starts, by a breadth walk backwards along
+/// the steps of the walk forwards.
 pub(crate) fn distances(
     alloc: Global,
-    rows: RowSet,
+    outlook: &Outlook,
     wanted: &[Class],
 ) -> Result<ClassTable<u16>, NoMemory>
-    ensures { IfOk result (λ table. AreDistances (allows rows) wanted.now table) }
+    requires { IsOutlook (allows outlook.now.rows) outlook.now.starts.items outlook.now.marks outlook.now.links.items }
+    ensures { IfOk result (λ table. AreDistances (allows outlook.now.rows) outlook.now.starts.items wanted.now table) }
 {
-    let links = links(alloc, rows)?;
     let mut table = wanted_at_zero(alloc, wanted)?;
     let mut level = 0;
-    'passes: while pass(&links, &mut table, level) {
+    'passes: while pass(&outlook.links, &mut table, level) {
         level += 1;
     }
     Ok(table)
@@ -48,7 +50,7 @@ fn wanted_at_zero(alloc: Global, wanted: &[Class]) -> Result<ClassTable<u16>, No
 fn pass(links: &[Link], table: &mut ClassTable<u16>, level: u16) -> bool
     requires inside { AreInside links.now }
     requires level { level ≤ CLASSES }
-    ensures { (usable : ℕ → Bool) → AreLinks usable links.now → Advances usable table.old table.new level result }
+    ensures { (usable : ℕ → Bool) (starts : List Class) → AreLinks usable starts links.now → Advances usable starts table.old table.new level result }
 {
     let mut changed = false;
     for link in links {

@@ -8,7 +8,6 @@ ghost use Rattle.msp_class.specs.declared.class.Class.{Class};
 use crate::class_table::{ClassTable, class_at};
 use crate::entry::{Entry, Mark, Verdict};
 use crate::listing::listed;
-use crate::reach_bits::{follow, related};
 use crate::reached::{leading, led};
 use crate::row_set::RowSet;
 use msp_class::{CLASSES, Class, List, NoMemory};
@@ -38,12 +37,10 @@ pub fn close(alloc: Global, entries: &List<Entry>) -> Result<Labels, NoMemory>
     let pseudo = listed(alloc, entries, Verdict::Pseudo)?;
     let hard = listed(alloc, entries, Verdict::Hard)?;
     let strong = listed(alloc, entries, Verdict::Strong)?;
-    let mut relation = related(alloc, RowSet::KeepsSize)?;
-    let to_pseudo = leading(alloc, &relation, &pseudo)?;
-    let from_strong = led(alloc, &relation, &strong)?;
-    follow(alloc, RowSet::Every, &mut relation)?;
-    let to_easy = leading(alloc, &relation, &easy)?;
-    let from_hard = led(alloc, &relation, &hard)?;
+    let to_easy = leading(alloc, RowSet::Every, &easy)?;
+    let to_pseudo = leading(alloc, RowSet::KeepsSize, &pseudo)?;
+    let from_hard = led(alloc, RowSet::Every, hard)?;
+    let from_strong = led(alloc, RowSet::KeepsSize, strong)?;
     let marks = marked(alloc, &to_easy, &to_pseudo, &from_hard, &from_strong)?;
     Ok(Labels { marks })
 }

@@ -12,14 +12,17 @@ mod frontier_lists;
 mod labels;
 mod links;
 mod listing;
+mod outlook;
 mod reach_bits;
 mod reached;
 mod relation;
+mod routes;
 mod row_set;
 mod walk;
 
-pub use chains::{clash, route_to, strong_clash, why_easy, why_hard, why_pseudo, why_strong};
+pub use chains::{clash, strong_clash, why_easy, why_hard, why_pseudo, why_strong};
 pub use entry::{Entry, Mark, Verdict};
 pub use frontier_lists::{FrontierLists, frontier};
 pub use labels::{Labels, close, label};
 pub use reach_bits::{ReachBits, reach, reaches};
+pub use routes::{Routes, route, route_to, routes_from};

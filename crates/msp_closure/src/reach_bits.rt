@@ -56,7 +56,7 @@ pub(crate) fn next_reached(bits: &ReachBits, c: Class, from: u16) -> Option<Clas
 }
 
 /// Each class related to those to which chains lead.
-pub(crate) fn related(alloc: Global, rows: RowSet) -> Result<Relation, NoMemory>
+fn related(alloc: Global, rows: RowSet) -> Result<Relation, NoMemory>
     ensures { IfOk result (λ relation. IsReach (allows rows) relation) }
 {
     let mut relation = Relation::identity(alloc)?;
@@ -66,7 +66,7 @@ pub(crate) fn related(alloc: Global, rows: RowSet) -> Result<Relation, NoMemory>
 
 /// Relates each class also to those to which chains lead. A pass joins the row of each class to those of the classes to which rows
 /// lead, where these changed in the last pass or in this one.
-pub(crate) fn follow(alloc: Global, rows: RowSet, relation: &mut Relation) -> Result<(), NoMemory>
+fn follow(alloc: Global, rows: RowSet, relation: &mut Relation) -> Result<(), NoMemory>
     requires sound { IsSound (allows rows) relation.old }
     requires itself { (c : Class) → relates relation.old c c ≡ true }
     ensures { IfOk result (λ _. IsReach (allows rows) relation.new) }

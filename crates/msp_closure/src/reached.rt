@@ -1,55 +1,70 @@
-// The classes related to one of a list, and those that one of a list is related to.
-ghost use Rattle.std.specs.Prelude.{◌≡◌, IfOk};
-ghost use Rattle.std.specs.List.{list_any};
+// The classes from which chains lead to one of a list, and those to which chains lead from one of a list.
+ghost use Rattle.std.specs.Prelude.{◌≡◌, IfOk, Contains, nat_lt};
+ghost use Rattle.std.specs.Bool.{Decides};
 ghost use Rattle.msp_class.specs.declared.class.Class.{Class};
-ghost use Rattle.msp_closure.specs.Tables.{is_marked};
-ghost use Rattle.msp_closure.specs.Relation.{relates};
+ghost use Rattle.msp_closure.specs.Entries.{LeadsToOne, IsLedTo};
+ghost use Rattle.msp_closure.specs.Tables.{allows, is_marked, value_of};
 
 use crate::class_table::{ClassTable, class_at};
-use crate::relation::Relation;
+use crate::distances::{FAR, distances};
+use crate::outlook::Outlook;
+use crate::row_set::RowSet;
 use msp_class::{CLASSES, Class, NoMemory};
 use std::alloc::Global;
 
-/// Marks the classes that are related to a wanted one.
+/// Marks the classes from which chains lead to a wanted one.
 pub(crate) fn leading(
     alloc: Global,
-    relation: &Relation,
+    rows: RowSet,
     wanted: &[Class],
 ) -> Result<ClassTable<bool>, NoMemory>
-    ensures { IfOk result (λ table. (c : Class) → is_marked table c ≡ list_any (λ b. relates relation.now c b) wanted.now) }
+    ensures { IfOk result (λ table. (c : Class) → Decides (is_marked table c) (LeadsToOne (allows rows) wanted.now c)) }
 {
-    let mut table = ClassTable::new(alloc, false)?;
-    for n in 0..CLASSES {
-        let c = class_at(n);
-        table.set(c, leads_to_one(relation, wanted, c));
-    }
-    Ok(table)
+    let classes = every_class(alloc)?;
+    let outlook = Outlook::walk(alloc, rows, classes)?;
+    let distances = distances(alloc, &outlook, wanted)?;
+    let marks = near(alloc, &distances)?;
+    Ok(marks)
 }
 
-/// Marks the classes that one of the starts is related to.
+/// Marks the classes to which chains lead from one of the starts.
 pub(crate) fn led(
     alloc: Global,
-    relation: &Relation,
-    starts: &[Class],
+    rows: RowSet,
+    starts: Vec<Class>,
 ) -> Result<ClassTable<bool>, NoMemory>
-    ensures { IfOk result (λ table. (c : Class) → is_marked table c ≡ list_any (λ b. relates relation.now b c) starts.now) }
+    ensures { IfOk result (λ table. (c : Class) → Decides (is_marked table c) (IsLedTo (allows rows) starts.items c)) }
+{
+    let outlook = Outlook::walk(alloc, rows, starts)?;
+    Ok(outlook.marks)
+}
+
+/// All classes, in order of rank.
+fn every_class(alloc: Global) -> Result<Vec<Class>, NoMemory>
+    ensures { IfOk result (λ classes. (c : Class) → Contains classes.items c) }
+{
+    let mut classes = Vec::new(alloc);
+    for n in 0..CLASSES {
+        classes.push(class_at(n))?;
+    }
+    Ok(classes)
+}
+
+/// Marks the classes that have a distance.
+fn near(alloc: Global, distances: &ClassTable<u16>) -> Result<ClassTable<bool>, NoMemory>
+    ensures { IfOk result (λ table. (c : Class) → is_marked table c ≡ nat_lt (value_of distances.now c) FAR) }
 {
     let mut table = ClassTable::new(alloc, false)?;
     for n in 0..CLASSES {
         let c = class_at(n);
-        table.set(c, is_led_to(relation, starts, c));
+        table.set(c, is_near(distances, c));
     }
     Ok(table)
 }
 
-fn leads_to_one(relation: &Relation, wanted: &[Class], c: Class) -> bool
-    ensures { result ≡ list_any (λ b. relates relation.now c b) wanted.now }
+/// Whether a class has a distance.
+fn is_near(distances: &ClassTable<u16>, c: Class) -> bool
+    ensures { result ≡ nat_lt (value_of distances.now c) FAR }
 {
-    wanted.iter().any(|b| relation.relates(c, *b))
-}
-
-fn is_led_to(relation: &Relation, starts: &[Class], c: Class) -> bool
-    ensures { result ≡ list_any (λ b. relates relation.now b c) starts.now }
-{
-    starts.iter().any(|b| relation.relates(*b, c))
+    distances.at(c) < FAR
 }

@@ -2,7 +2,7 @@
 ghost use Rattle.std.specs.Prelude.{◌≡◌, ◌≢◌, ◌+◌, ◌-◌, ◌<◌, ℕ, IfOk, IfSome, IfNone, Contains};
 ghost use Rattle.msp_class.specs.declared.class.Class.{Class};
 ghost use Rattle.msp_table.specs.Chains.{IsNearest};
-ghost use Rattle.msp_closure.specs.Entries.{IsFirst};
+ghost use Rattle.msp_closure.specs.Entries.{IsFirst, IsLedTo};
 ghost use Rattle.msp_closure.specs.Tables.{allows, value_of, AreDistances};
 ghost use Rattle.msp_closure.specs.Walk.{step_of, LeadsToValue};
 
@@ -20,8 +20,8 @@ pub(crate) fn walk(
     table: &ClassTable<u16>,
     from: Class,
 ) -> Result<List<Row>, NoMemory>
-    ensures { IfOk result (λ ks. (wanted : List Class) → AreDistances (allows rows) wanted table.now → value_of table.now from ≢ FAR
-        → IsNearest (allows rows) wanted from ks) }
+    ensures { IfOk result (λ ks. (starts wanted : List Class) → AreDistances (allows rows) starts wanted table.now → IsLedTo (allows rows) starts from
+        → value_of table.now from ≢ FAR → IsNearest (allows rows) wanted from ks) }
 {
     let mut chain = List::new(alloc);
     let mut here = from;

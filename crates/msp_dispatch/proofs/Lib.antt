@@ -1,4 +1,3 @@
 pub mod Picks
-mod Reach
 pub mod evidence
 pub mod Small

@@ -19,7 +19,6 @@ use Rattle.msp_closure.specs.Entries.{IsFirst, here, later, IsWay}
 use Rattle.msp_closure.proofs.WayLemmas.{IsFirst-among, one_is}
 use Rattle.msp_dispatch.specs.declared.solved_list.SolvedClass.{SolvedClass}
 use Rattle.msp_dispatch.specs.declared.pick.Pick.{Pick}
-use Rattle.msp_dispatch.specs.Reached.{is_marked, AreReached}
 use Rattle.msp_dispatch.specs.Solved.{solves, solved_list, solved_classes, Fits}
 use Rattle.msp_dispatch.specs.Dispatch.{IsTarget, IsReported, IsAnswered, HasNoTarget, IsUnfit, IsFault}
 use Rattle.msp_dispatch.specs.declared.Cannot.{Cannot}
@@ -93,10 +92,6 @@ places_next P n h last k l = by (cases_lt k n)
 
 pub not_there : (b : Bool) (T : Type 0) → b ≡ false → (IsTrue b ↔ T) → ¬ T
 not_there b T e h t = absurd (let yes : b ≡ true = h.1 t in cc)
-
--- no chain leads to the class of an entry that is not marked
-pub unreached : (from : Class) (marks : List Bool) (place : ℕ) (e : SolvedClass) → AreReached from marks → slice_get solved_list place ≡ Some e → is_marked marks e.class ≡ false → IfSome (slice_get solved_list place) (λ x. ¬ Reaches carries from x.class)
-unreached from marks place e h g n = subst (λ o. IfSome o (λ x. ¬ Reaches carries from x.class)) (sym g) (λ r. absurd (let yes = (h e.class).1 r in cc))
 
 -- the first of the list to which a chain leads
 pub first_led : (from : Class) (n : ℕ) (p : Pick) → StandsAt n p.entry → IsRoute from p → ((k : ℕ) → k < n → IfSome (slice_get solved_list k) (λ e. ¬ Reaches carries from e.class)) → IsFirst (Reaches carries from) solved_classes p.entry.class

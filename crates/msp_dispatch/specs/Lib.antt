@@ -1,6 +1,5 @@
 pub mod Solved
 pub mod Dispatch
 pub mod Pick
-pub mod Reached
 pub mod Certify
 pub mod Shown

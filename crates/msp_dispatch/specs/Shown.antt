@@ -17,7 +17,7 @@ use Rattle.msp_cert.specs.Certificates.{HoldsFor, IsValue}
 use Rattle.msp_cert.specs.Search.{HasValue, AreLongestFirst, AreAllLevels, tried}
 use Rattle.msp_dispatch.specs.declared.certify.Maker.{Maker}
 use Rattle.msp_dispatch.specs.declared.certify.Maker.TheVariants as maker
-use Rattle.msp_dispatch.specs.Certify.{HasCertificate, FitsWhereWanted, KeepsTextLimits}
+use Rattle.msp_dispatch.specs.Certify.{HasCertificate, FitsWhereWanted, IsProofOf, KeepsTextLimits}
 
 -- The class that is certified by the solver.
 abbrev pub class_of : Maker → Class
@@ -40,9 +40,10 @@ pub record IsCertifiable (i : Instance) : Type 0 where
   pub listed : HasCertificate i.class
   pub fits : FitsWhereWanted i
 
--- The value of the proof is the cost, and a certificate of both keeps the limits of texts.
+-- The value of the proof is the cost, it is the one that the class gets, and a certificate of both keeps the limits of texts.
 pub record Certifies (i : Instance) (cost : Frac) (proof : Proof) : Type 0 where
   pub value : HasValue i cost proof
+  pub own : IsProofOf i cost proof
   pub limits : KeepsTextLimits (record { bound = cost; proof = proof })
 
 -- One of the proofs that are tried shows the number over the unit, which are small, and the cost is that fraction.

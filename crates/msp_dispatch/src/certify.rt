@@ -10,16 +10,15 @@ ghost use Rattle.msp_dispatch.specs.Shown.{class_of, FitsMaker};
 use crate::Uncertified;
 use crate::pick::is_same;
 use crate::shown::{certified, reported, searched};
-use msp_assign::Assignment;
-use msp_blocks::{BindingBlock, Blocks, binding};
+use msp_blocks::{BlockSolution, Blocks, solve_with_block};
 use msp_cert::{Certified, Proof};
 use msp_class::{Class, NoMemory};
 use msp_instance::Instance;
 use msp_levels::Levels;
-use msp_lexical::{Lexical, segments};
+use msp_lexical::{Lexical, SegmentSolution, solve_with_segments};
 use msp_route::Solver;
 use msp_shops::{Open2, OpenCut};
-use msp_total::{Unrelated, prices};
+use msp_total::{PricedSolution, Unrelated, solve_with_prices};
 use msp_uniform::UniformCut;
 use msp_wrap::Wrap;
 use std::alloc::Global;
@@ -101,10 +100,10 @@ fn by_segments(alloc: Global, inst: &Instance) -> Result<Certified, NoMemory>
     requires class { inst.now.class ≡ lexical_class }
     ensures { IfOk result (IsCertified inst.now) }
 {
-    let solution = Lexical.solve(alloc, inst)?;
+    let SegmentSolution { solution, segments } = solve_with_segments(alloc, inst)?;
     let solution = reported(inst, solution);
-    let lists = segments(alloc, inst)?;
-    Ok(certified(inst, solution, Proof::Segments { lists }))
+    let proof = Proof::Segments { lists: segments };
+    Ok(certified(inst, solution, proof))
 }
 
 /// By prices of the jobs and positions.
@@ -113,14 +112,13 @@ fn by_prices(alloc: Global, inst: &Instance) -> Result<Certified, NoMemory>
     requires class { inst.now.class ≡ unrelated_class }
     ensures { IfOk result (IsCertified inst.now) }
 {
-    let solution = Unrelated.solve(alloc, inst)?;
+    let PricedSolution { solution, prices } = solve_with_prices(alloc, inst)?;
     let solution = reported(inst, solution);
-    let Assignment {
-        row_price: row,
-        column_price: column,
-        ..
-    } = prices(alloc, inst)?;
-    Ok(certified(inst, solution, Proof::Prices { row, column }))
+    let proof = Proof::Prices {
+        row: prices.row_price,
+        column: prices.column_price,
+    };
+    Ok(certified(inst, solution, proof))
 }
 
 /// By the block whose last job costs most.
@@ -129,10 +127,13 @@ fn by_block(alloc: Global, inst: &Instance) -> Result<Certified, NoMemory>
     requires class { inst.now.class ≡ blocks_class }
     ensures { IfOk result (IsCertified inst.now) }
 {
-    let solution = Blocks.solve(alloc, inst)?;
+    let BlockSolution { solution, block } = solve_with_block(alloc, inst)?;
     let solution = reported(inst, solution);
-    let BindingBlock { head, jobs } = binding(alloc, inst)?;
-    Ok(certified(inst, solution, Proof::Block { head, jobs }))
+    let proof = Proof::Block {
+        head: block.head,
+        jobs: block.jobs,
+    };
+    Ok(certified(inst, solution, proof))
 }
 
 /// A best solution by the solver, and a certificate of its cost.
@@ -154,7 +155,7 @@ fn certified_by(alloc: Global, inst: &Instance, maker: Maker) -> Result<Certifie
     }
 }
 
-/// A best solution of the instance, and a certificate of its cost, which `msp_cert::accept` accepts. It is found where the class is
+/// A best solution of the instance, and a certificate of its cost, which `msp_cert::accept` accepts, by one run of the solver. It is found where the class is
 /// `P|pmtn|Cmax`, `Q|pmtn|Cmax`, `O|pmtn|Cmax`, `O2||Cmax`, `P|intree,p=1|Cmax`, `P2|prec,p=1|Cmax`, `R||sumC` or
 /// `1|pmtn,prec,r|fmax`; an instance of the second may not fit its solver.
 pub fn certify_any(alloc: Global, inst: &Instance) -> Result<Certified, Uncertified>

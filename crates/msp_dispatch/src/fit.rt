@@ -49,24 +49,6 @@ pub(crate) fn fits_at(
     match name {
         SolverName::UniformCut => fits_along(alloc, inst, rows, &UniformCut),
         SolverName::LateTable => fits_along(alloc, inst, rows, &LateTable),
-        SolverName::Smith
-        | SolverName::Lawler
-        | SolverName::Moore
-        | SolverName::Horn
-        | SolverName::Blocks
-        | SolverName::UnitBlocks
-        | SolverName::Shortest
-        | SolverName::Wrap
-        | SolverName::Levels
-        | SolverName::Uniform
-        | SolverName::Unrelated
-        | SolverName::SlotsLate
-        | SolverName::SlotsCount
-        | SolverName::Johnson
-        | SolverName::Jackson
-        | SolverName::Open2
-        | SolverName::OpenCut
-        | SolverName::Lexical
-        | SolverName::Search => Ok(true),
+        _ => Ok(true),
     }
 }

@@ -11,13 +11,14 @@
 ghost use Rattle.std.specs.Prelude.{◌≡◌};
 
 #[cfg(test)]
+mod assign_tests;
+#[cfg(test)]
 mod bound_tests;
 mod certify;
 #[cfg(test)]
 mod certify_tests;
 mod fit;
 mod pick;
-mod reached;
 #[cfg(test)]
 mod row_tests;
 mod shown;
@@ -32,7 +33,7 @@ mod via_tests;
 pub use certify::certify_any;
 use msp_class::{Class, NoMemory};
 pub use solve::solve_any;
-pub use solved_list::{SOLVED, SolvedClass, solved};
+pub use solved_list::{SolvedClass, solved};
 
 /// Why an instance is not solved.
 #[derive(Clone, Copy, Debug, PartialEq, Eq)]

@@ -1,19 +1,16 @@
 // Which class of the list an instance is led to, and by which rows.
-ghost use Rattle.std.specs.Prelude.{◌≡◌, ◌↔◌, length, slice_get, Some, IfOk, IfErr, IfSome, IfNone, IsTrue, Contains};
+ghost use Rattle.std.specs.Prelude.{◌≡◌, ◌↔◌, slice_get, Some, IfOk, IfErr, IfSome, IfNone, IsTrue, Contains};
 ghost use Rattle.msp_class.specs.declared.class.Class.{Class as ClassValue};
-ghost use Rattle.msp_class.specs.declared.ranks.TheConstants.{CLASSES};
 ghost use Rattle.msp_table.specs.Rows.{carries};
 ghost use Rattle.msp_table.specs.Chains.{Reaches};
 ghost use Rattle.msp_dispatch.specs.Solved.{solved_list, solved_classes};
 ghost use Rattle.msp_dispatch.specs.Dispatch.{HasNoTarget};
 ghost use Rattle.msp_dispatch.specs.Pick.{StandsAt, IsRoute, IsPick};
-ghost use Rattle.msp_dispatch.specs.Reached.{AreReached};
 
 use crate::Cannot;
-use crate::reached::{is_reached, reached};
 use crate::solved_list::{SOLVED, SolvedClass, entry_at, solved};
 use msp_class::{Class, NoMemory, rank};
-use msp_closure::route_to;
+use msp_closure::{Routes, route, routes_from};
 use msp_table::Chain;
 use std::alloc::Global;
 
@@ -24,43 +21,27 @@ pub(crate) struct Pick {
     pub chain: Chain,
 }
 
-/// The pick of a place. None comes exactly where no chain leads to its class, or nothing stands there.
-fn pick_at(alloc: Global, from: Class, place: u32) -> Result<Option<Pick>, NoMemory>
-    ensures none { IfOk result (λ found. IfNone found (IfSome (slice_get solved_list place) (λ e. ¬ Reaches carries from e.class))) }
-    ensures pick { IfOk result (λ found. IfSome found (λ p. StandsAt place p.entry × IsRoute from p)) }
+/// The pick of a place, by the routes from a class. None comes exactly where no chain leads to its class, or nothing stands there.
+fn pick_along(alloc: Global, routes: &Routes, place: u32) -> Result<Option<Pick>, NoMemory>
+    ensures none { IfOk result (λ found. IfNone found (IfSome (slice_get solved_list place) (λ e. ¬ Reaches carries routes.now e.class))) }
+    ensures pick { IfOk result (λ found. IfSome found (λ p. StandsAt place p.entry × IsRoute routes.now p)) }
 {
     match entry_at(place) {
         None => Ok(None),
-        Some(entry) => match route_to(alloc, from, entry.class)? {
+        Some(entry) => match route(alloc, routes, entry.class)? {
             None => Ok(None),
             Some(chain) => Ok(Some(Pick { entry, chain })),
         },
     }
 }
 
-/// The same by the marks of the classes to which a chain leads.
-#[tactic(auto, using(crate::proofs::Picks::unreached))]
-fn pick_marked(
-    alloc: Global,
-    marks: &[bool],
-    from: Class,
-    place: u32,
-) -> Result<Option<Pick>, NoMemory>
-    requires size { length marks.now ≡ CLASSES }
-    requires marks { AreReached from marks.now }
+/// The same from the class itself.
+fn pick_at(alloc: Global, from: Class, place: u32) -> Result<Option<Pick>, NoMemory>
     ensures none { IfOk result (λ found. IfNone found (IfSome (slice_get solved_list place) (λ e. ¬ Reaches carries from e.class))) }
     ensures pick { IfOk result (λ found. IfSome found (λ p. StandsAt place p.entry × IsRoute from p)) }
 {
-    match entry_at(place) {
-        None => Ok(None),
-        Some(entry) => {
-            if is_reached(marks, entry.class) {
-                pick_at(alloc, from, place)
-            } else {
-                Ok(None)
-            }
-        }
-    }
+    let routes = routes_from(alloc, from)?;
+    pick_along(alloc, &routes, place)
 }
 
 pub(crate) fn is_same(a: Class, b: Class) -> bool
@@ -93,17 +74,25 @@ fn place_of(class: Class) -> Option<u32>
 }
 
 /// The pick of the first class of the list to which a chain leads. None comes exactly where no chain leads to any of them.
-fn first_reached(alloc: Global, from: Class) -> Result<Option<Pick>, NoMemory>
-    ensures pick { IfOk result (λ found. IfSome found (IsPick from None)) }
-    ensures none { IfOk result (λ found. IfNone found ((target : ClassValue) → Contains solved_classes target → ¬ Reaches carries from target)) }
+fn first_along(alloc: Global, routes: &Routes) -> Result<Option<Pick>, NoMemory>
+    ensures pick { IfOk result (λ found. IfSome found (IsPick routes.now None)) }
+    ensures none { IfOk result (λ found. IfNone found ((target : ClassValue) → Contains solved_classes target → ¬ Reaches carries routes.now target)) }
 {
-    let marks = reached(alloc, from)?;
     for place in 0..SOLVED {
-        if let Some(pick) = pick_marked(alloc, &marks, from, place)? {
+        if let Some(pick) = pick_along(alloc, routes, place)? {
             return Ok(Some(pick));
         }
     }
     Ok(None)
+}
+
+/// The same from the class itself.
+fn first_reached(alloc: Global, from: Class) -> Result<Option<Pick>, NoMemory>
+    ensures pick { IfOk result (λ found. IfSome found (IsPick from None)) }
+    ensures none { IfOk result (λ found. IfNone found ((target : ClassValue) → Contains solved_classes target → ¬ Reaches carries from target)) }
+{
+    let routes = routes_from(alloc, from)?;
+    first_along(alloc, &routes)
 }
 
 /// The same, and the fault where there is none.
@@ -113,7 +102,7 @@ fn first_pick(alloc: Global, from: Class) -> Result<Pick, Cannot>
 {
     match first_reached(alloc, from)? {
         None => Err(Cannot::NoSolver { class: from }),
-        Some(pick) => Ok(pick),
+        Some(first) => Ok(first),
     }
 }
 

@@ -1,6 +1,6 @@
 // Rows of the table, and the classes to which they lead.
 use msp_class::{Class, Crit, Env, Order, Times};
-use msp_closure::{reach, reaches};
+use msp_closure::{reach, reaches, route_to};
 use msp_samples::class;
 use msp_table::{Row, RowKind, carries, goes, keeps_size, kind, text};
 use std::test::Fail;
@@ -86,5 +86,10 @@ fn lateness_leads_to_late_weight(rt: HostRuntime) -> Result<(), Fail> {
     let bits = reach(rt.alloc())?;
     assert!(rt; reaches(&bits, lateness, late_weight));
     assert!(rt; !reaches(&bits, late_weight, lateness));
+    let greatest = class(Env::One, Order::Free, Crit::Fmax);
+    let chain = route_to(rt.alloc(), lateness, greatest)?.ok_or("no chain")?;
+    assert_eq!(rt; chain.rows.as_slice().len(), 1);
+    assert_eq!(rt; chain.rows.as_slice().first().copied(), Row::new(9));
+    assert!(rt; route_to(rt.alloc(), greatest, lateness)?.is_none());
     Ok(())
 }

@@ -1,11 +1,11 @@
 // Solutions in the form of a report, and certificates of their costs.
-ghost use Rattle.std.specs.Prelude.{IfOk};
+ghost use Rattle.std.specs.Prelude.{Contains, IfOk};
 ghost use Rattle.msp_instance.specs.Conditions.{InClass};
 ghost use Rattle.msp_schedule.specs.Cost.{IsBest};
 ghost use Rattle.msp_schedule.specs.Fraction.{IsLowest, IsSameFraction};
 ghost use Rattle.msp_route.specs.Bounds.{IsAnswer};
 ghost use Rattle.msp_dispatch.specs.Dispatch.{IsReported};
-ghost use Rattle.msp_dispatch.specs.Certify.{IsCertified};
+ghost use Rattle.msp_dispatch.specs.Certify.{IsCertified, searched_classes};
 ghost use Rattle.msp_dispatch.specs.Shown.{IsCertifiable, Certifies, IsTriedValue};
 
 use crate::solve::settled;
@@ -44,6 +44,7 @@ pub(crate) fn certified(inst: &Instance, solution: Solution, proof: Proof) -> Ce
 /// The first of the proofs that are tried whose value is the cost.
 fn found_proof(alloc: Global, inst: &Instance, cost: Frac) -> Result<Proof, NoMemory>
     requires class { InClass inst.now }
+    requires first { Contains searched_classes inst.now.class }
     requires lowest { IsLowest cost }
     requires tried { IsTriedValue inst.now cost }
     ensures { IfOk result (Certifies inst.now cost) }
@@ -62,6 +63,7 @@ pub(crate) fn searched(
 ) -> Result<Certified, NoMemory>
     requires class { InClass inst.now }
     requires listed { IsCertifiable inst.now }
+    requires first { Contains searched_classes inst.now.class }
     requires best { IsBest inst.now solution }
     requires bounds { IsAnswer inst.now solution.schedule }
     requires tried { IsTriedValue inst.now solution.cost }

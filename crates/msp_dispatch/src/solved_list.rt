@@ -18,7 +18,7 @@ use msp_weighted::LateTable;
 use msp_wrap::Wrap;
 
 /// How many classes are solved.
-pub const SOLVED: u32 = 21;
+pub(crate) const SOLVED: u32 = 21;
 
 /// A class that is solved, and its solver.
 #[derive(Clone, Copy, Debug, PartialEq, Eq)]

@@ -9,33 +9,31 @@ use Rattle.msp_instance.specs.Paths.{HasPath}
 use Rattle.msp_instance.proofs.FaultLemmas.{Condition-from_meets, IsFirstFault-unique}
 use Rattle.msp_job_name.specs.JobName.{IsJobName, AreDistinct}
 use Rattle.msp_grammar.specs.declared.filed.Filed.{Filed}
-use Rattle.msp_file.specs.declared.fault.FileFault.{FileFault}
-use Rattle.msp_file.specs.declared.fault.FileFault.TheVariants.{Class, Cycle, Memory, After}
-use Rattle.msp_file.specs.declared.read.Front.{Front}
-use Rattle.msp_file.specs.declared.schedule.Stated.{Stated}
-use Rattle.msp_file.specs.Reading.{Place, Reads, ReadsFront, ReadsLines, start_of}
-use Rattle.msp_file.specs.Steps.{FailsBy}
-use Rattle.msp_file.specs.ScheduleReading.{ReadsSchedule}
-use Rattle.msp_file.specs.Answers.{Fails, faulty_name, IsClassFault, IsCycleFault, IsFaultBy}
-use Rattle.msp_file.specs.ScheduleAnswers.{IsScheduleFaultOf}
+use Rattle.msp_grammar.specs.declared.lines.fault.FileFault.{FileFault}
+use Rattle.msp_grammar.specs.declared.lines.fault.FileFault.TheVariants.{Class, Cycle, Memory, After}
+use Rattle.msp_file.specs.declared.instance.read.Front.{Front}
+use Rattle.msp_file.specs.declared.schedule.read.Stated.{Stated}
+use Rattle.msp_grammar.specs.lines.Reading.{Place}
+use Rattle.msp_file.specs.instance.Reading.{Reads, ReadsFront, ReadsLines, start_of}
+use Rattle.msp_grammar.specs.lines.Steps.{FailsBy}
+use Rattle.msp_file.specs.schedule.Reading.{ReadsSchedule}
+use Rattle.msp_file.specs.instance.Answers.{faulty_name, IsClassFault, IsCycleFault, IsFaultBy}
+use Rattle.msp_file.specs.schedule.Answers.{IsScheduleFaultOf}
 use Rattle.msp_file.specs.Laws.{IsTextOf, IsFirstFaultOf, IsFrontOf, IsFirstFrontFaultOf, IsStatedTextOf, IsFirstScheduleFaultOf, LawOfInstanceTexts, LawOfFrontTexts, LawOfScheduleTexts}
-use Rattle.msp_file.proofs.LineLaws.{reads, ok_is}
-use Rattle.msp_file.proofs.Readings.{reads_same, front_same, front_done, schedule_same}
-use Rattle.msp_file.proofs.TextLaws.{lines_take, whole_takes, whole_again, front_again}
-use Rattle.msp_file.proofs.AnswerLaws.{text_of_read, again_fault, again_front_fault}
-use Rattle.msp_file.proofs.FrontLaws.{front_text, front_fault, front_read}
-use Rattle.msp_file.proofs.LineFaults.{IsLineFault, lines_in, whole, schedule_remembers}
-use Rattle.msp_file.proofs.AnswerLemmas.{fault_of_lines}
-use Rattle.msp_file.proofs.FirstFaults.{class_or_fault}
-use Rattle.msp_file.proofs.Endings.{lines_end, reading_ends, schedule_ends}
-use Rattle.msp_file.proofs.ScheduleLaws.{schedule_again, schedule_taken, no_schedule_fault}
-
-pub err_is : {A : Type 0} (e f : FileFault) → ◌≡◌ {A = Result A FileFault} (Err e) (Err f) → e ≡ f
-err_is e f h = cc
-
-pub not_fails : {A : Type 0} (e : FileFault) (x : A) → e ≢ Memory → Fails e (reads x) → ⊥
-not_fails Memory x m h = m refl
-not_fails e x m h = absurd cc
+use Rattle.msp_grammar.proofs.reading.LineLaws.{reads, ok_is}
+use Rattle.msp_file.proofs.instances.Readings.{reads_same, front_same, front_done}
+use Rattle.msp_file.proofs.schedules.Readings.{schedule_same}
+use Rattle.msp_file.proofs.instances.TextLaws.{lines_take, whole_takes, whole_again, front_again}
+use Rattle.msp_file.proofs.instances.AnswerLaws.{text_of_read, again_fault, again_front_fault}
+use Rattle.msp_file.proofs.instances.FrontLaws.{front_text, front_fault, front_read}
+use Rattle.msp_file.proofs.instances.LineFaults.{IsLineFault, lines_in, whole}
+use Rattle.msp_file.proofs.schedules.LineFaults.{schedule_remembers}
+use Rattle.msp_file.proofs.instances.AnswerLemmas.{fault_of_lines}
+use Rattle.msp_file.proofs.instances.FirstFaults.{class_or_fault}
+use Rattle.msp_file.proofs.instances.Endings.{lines_end, reading_ends}
+use Rattle.msp_file.proofs.schedules.Endings.{schedule_ends}
+use Rattle.msp_file.proofs.schedules.ScheduleLaws.{schedule_again, schedule_taken, no_schedule_fault}
+use Rattle.msp_grammar.proofs.reading.Readings.{err_is, not_fails}
 
 -- ---- one first fault
 

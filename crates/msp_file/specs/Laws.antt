@@ -5,12 +5,12 @@ use Rattle.msp_job_name.specs.JobName.{IsJobName, AreDistinct}
 use Rattle.msp_grammar.specs.declared.filed.Filed.{Filed}
 use Rattle.msp_grammar.specs.InstanceText.{IsInstanceText}
 use Rattle.msp_grammar.specs.ScheduleText.{IsScheduleText}
-use Rattle.msp_file.specs.declared.fault.FileFault.{FileFault}
-use Rattle.msp_file.specs.declared.fault.FileFault.TheVariants.{Memory}
-use Rattle.msp_file.specs.declared.read.Front.{Front}
-use Rattle.msp_file.specs.declared.schedule.Stated.{Stated}
-use Rattle.msp_file.specs.Answers.{IsFaultOf, IsFrontFaultOf, IsFrontText}
-use Rattle.msp_file.specs.ScheduleAnswers.{IsScheduleFaultOf}
+use Rattle.msp_grammar.specs.declared.lines.fault.FileFault.{FileFault}
+use Rattle.msp_grammar.specs.declared.lines.fault.FileFault.TheVariants.{Memory}
+use Rattle.msp_file.specs.declared.instance.read.Front.{Front}
+use Rattle.msp_file.specs.declared.schedule.read.Stated.{Stated}
+use Rattle.msp_file.specs.instance.Answers.{IsFaultOf, IsFrontFaultOf, IsFrontText}
+use Rattle.msp_file.specs.schedule.Answers.{IsScheduleFaultOf}
 
 -- The bytes are a text of the instance and of the names of its jobs.
 abbrev pub IsTextOf : List ℕ → Filed → Type 0

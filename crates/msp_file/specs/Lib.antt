@@ -1,13 +1,4 @@
-pub mod Marks
-pub mod Reading
-pub mod Steps
-pub mod Answers
-pub mod ScheduleReading
-pub mod ScheduleAnswers
-pub mod CertificateText
-pub mod CertificateReading
-pub mod CertificateSteps
-pub mod CertificateAnswers
-pub mod Faults
+pub mod instance
+pub mod schedule
 pub mod Limits
 pub mod Laws

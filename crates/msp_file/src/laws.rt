@@ -1,5 +1,4 @@
 // What is fixed by number, and that texts are read in one way.
-ghost use Rattle.msp_file.specs.CertificateAnswers.{LawOfCertificateTexts};
 ghost use Rattle.msp_file.specs.Laws.{LawOfFrontTexts, LawOfInstanceTexts, LawOfScheduleTexts};
 ghost use Rattle.msp_file.specs.Limits.{AreLimits};
 
@@ -21,9 +20,4 @@ pub fn law_of_front_texts()
 /// The same of schedule texts, for jobs of given names.
 pub fn law_of_schedule_texts()
     ensures { LawOfScheduleTexts }
-{}
-
-/// The same of certificate texts, for jobs of given names and a number of machines.
-pub fn law_of_certificate_texts()
-    ensures { LawOfCertificateTexts }
 {}

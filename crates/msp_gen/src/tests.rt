@@ -12,6 +12,12 @@ const FLOW_SHOP: Class = Class {
     crit: Crit::Cmax,
 };
 
+const WEIGHTED: Class = Class {
+    env: Env::One,
+    crit: Crit::SumWC,
+    ..FLOW_SHOP
+};
+
 const TREE: Class = Class {
     env: Env::Q,
     cut: false,
@@ -39,6 +45,22 @@ fn three_jobs_of_a_flow_shop(rt: HostRuntime) {
             },
         ];
         assert_eq!(rt; job.needs.as_slice(), needs.as_slice());
+    }
+}
+
+#[test]
+fn three_jobs_with_weights(rt: HostRuntime) {
+    let made = generate(rt.alloc(), WEIGHTED, 3, 1).expect(&rt, "there is memory");
+    let jobs: [(u64, u64); 3] = [(39, 59), (14, 16), (52, 28)];
+    assert_eq!(rt; made.jobs.len(), 3);
+    for k in 0..3 {
+        let job = made.jobs.get(k).expect(&rt, "the job is there");
+        let needs = [Need {
+            machine: 0,
+            time: jobs[k].0,
+        }];
+        assert_eq!(rt; job.needs.as_slice(), needs.as_slice());
+        assert_eq!(rt; job.weight, jobs[k].1);
     }
 }
 

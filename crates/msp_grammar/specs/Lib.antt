@@ -3,3 +3,4 @@ pub mod ScheduleText
 pub mod InstanceText
 pub mod Printing
 pub mod Limits
+pub mod lines

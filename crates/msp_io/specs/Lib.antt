@@ -1,6 +1,8 @@
 pub mod Faults
+pub mod Lawful
 pub mod Limits
 pub mod Memory
+pub mod Sinks
 pub mod Sources
 pub mod StdAdapters
 pub mod Views

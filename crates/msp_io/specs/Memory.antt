@@ -1,6 +1,7 @@
 -- What the sources and the sink in memory are, as contracts see them.
-use Rattle.std.specs.Prelude.{◌⊎◌, ℕ, ◌<◌, ◌≤◌, List, length, Contains}
-use Rattle.msp_io.specs.Faults.{one_more}
+use Rattle.std.specs.Prelude.{◌⊎◌, ℕ, ◌<◌, ◌≤◌, List, length, Contains, Some, None}
+use Rattle.msp_io.specs.Faults.{one_more, in_64_bits}
+use Rattle.msp_io.specs.Views.{SourceView, SinkView}
 
 -- a source in memory that may fail
 pub record SourceState : Type 0 where
@@ -44,3 +45,17 @@ FailsNext fails calls = Contains fails (one_more calls)
 -- a sink refuses these bytes: the call is one of those that fail, or there are bytes and no room
 abbrev pub Refuses : SinkState → List ℕ → Type 0
 Refuses sink bytes = FailsNext sink.fails sink.calls ⊎ ((0 < length bytes) × (sink.room ≤ length sink.held))
+
+-- What contracts see of them. None counts its bytes, since each tells them.
+abbrev pub source_view : SourceState → SourceView
+source_view source = record { left = Some source.bytes; given = None; faults = in_64_bits source.faults }
+
+abbrev pub sure_view : SureState → SourceView
+sure_view source = record { left = Some source.bytes; given = None; faults = 0 }
+
+abbrev pub sink_view : SinkState → SinkView
+sink_view sink = record { held = Some sink.held; taken = None; faults = in_64_bits sink.faults }
+
+-- A sink that tells nothing of the bytes that it takes, and never fails.
+abbrev pub sure_sink_view : SinkView
+sure_sink_view = record { held = None; taken = None; faults = 0 }

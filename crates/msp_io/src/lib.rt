@@ -2,11 +2,11 @@
 //!
 //! A source or a sink answers `Failed` only where its count of faults rose in the call, so a caller can prove
 //! which answers of its own came from outside. In memory each call is exact: which calls fail, how many bytes
-//! move, and which. Over std's readers and writers the adapters count what went wrong.
+//! move, and which. Over std's readers and writers the adapters count the bytes that pass, and what went wrong.
 //!
 //! The crate stands on std alone. The layer above uses the contracts of the traits `Source` and `Sink`
-//! and of `read_all` and `write_all`: the bytes taken are those that were left, the bytes appended are
-//! those that were given, and a fault comes only where a count rose.
+//! and of `read_all` and `write_all`: nothing is read behind the first end or behind a failure, nothing is
+//! written behind a failure, what passed before is named, and a fault comes only where a count rose.
 #![tactic(auto)]
 
 mod laws;

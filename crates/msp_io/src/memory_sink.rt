@@ -1,7 +1,9 @@
 // Sinks in memory.
 ghost use Rattle.std.specs.Prelude.{◌≡◌, ◌↔◌, ◌<◌, ◌≤◌, ◌++◌, ◌-◌, [], Some, None, Ok, length, take, min, vec_len, vec_capacity, IsOk, IsErr, IfOk, OnErr};
-ghost use Rattle.msp_io.specs.Faults.{one_more, in_64_bits, in_64_bits-fits};
-ghost use Rattle.msp_io.specs.Memory.{SinkState, Refuses};
+ghost use Rattle.msp_io.specs.Faults.{one_more, in_64_bits-fits};
+ghost use Rattle.msp_io.specs.Lawful.{sink_laws};
+ghost use Rattle.msp_io.specs.Memory.{SinkState, Refuses, sink_view, sure_sink_view};
+ghost use Rattle.msp_io.specs.Sinks.{Takes, TakesAndFails};
 
 use crate::{Failed, Sink};
 use std::alloc::Global;
@@ -79,9 +81,15 @@ impl MemorySink {
 }
 
 impl Sink for MemorySink {
-    ghost seen = { λ s. record { held = Some s.held; faults = in_64_bits s.faults } };
+    ghost seen = { sink_view };
+
+    ghost took = { λ s t bytes. Takes (sink_view s) (sink_view t) bytes };
+
+    ghost broke = { λ s t bytes. TakesAndFails (sink_view s) (sink_view t) bytes };
 
     ghost fits = { λ s. in_64_bits-fits s.faults };
+
+    ghost lawful = { sink_laws sink_view (λ _. tt) };
 
     fn write(&mut self, bytes: &[u8]) -> Result<usize, Failed>
         // Exactly the calls in `fails` and those without room fail, and change nothing but the numbers.
@@ -126,9 +134,15 @@ impl SureSink {
 }
 
 impl Sink for SureSink {
-    ghost seen = { λ _. record { held = None; faults = 0 } };
+    ghost seen = { λ _. sure_sink_view };
+
+    ghost took = { λ _ _ bytes. Takes sure_sink_view sure_sink_view bytes };
+
+    ghost broke = { λ _ _ bytes. TakesAndFails sure_sink_view sure_sink_view bytes };
 
     ghost fits = { λ _. in_64_bits-fits 0 };
+
+    ghost lawful = { sink_laws (λ _. sure_sink_view) (λ _. tt) };
 
     fn write(&mut self, bytes: &[u8]) -> Result<usize, Failed>
         ensures { result ≡ Ok (length bytes.now) }

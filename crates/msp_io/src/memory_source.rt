@@ -1,8 +1,9 @@
 // Sources over bytes in memory.
-ghost use Rattle.std.proofs.KnownBytes.{Consumes-nil, Consumes-trans};
 ghost use Rattle.std.specs.Prelude.{◌≡◌, ◌↔◌, ◌<◌, ◌≤◌, ◌++◌, [], Some, Ok, length, take, drop, min, vec_len, IsErr, IfOk, OnErr};
-ghost use Rattle.msp_io.specs.Faults.{one_more, in_64_bits, in_64_bits-fits};
-ghost use Rattle.msp_io.specs.Memory.{SourceState, SureState, FailsNext};
+ghost use Rattle.msp_io.specs.Faults.{one_more, in_64_bits-fits};
+ghost use Rattle.msp_io.specs.Lawful.{source_laws};
+ghost use Rattle.msp_io.specs.Memory.{SourceState, SureState, FailsNext, source_view, sure_view};
+ghost use Rattle.msp_io.specs.Sources.{Gives, GivesAll, GivesAndFails, MeetsEnd};
 
 use crate::{Failed, Source};
 use std::marker::Model;
@@ -45,21 +46,17 @@ impl SureSource {
 }
 
 impl Source for SureSource {
-    ghost seen = { λ s. record { left = Some s.bytes; faults = 0 } };
+    ghost seen = { sure_view };
 
-    ghost gave = { λ s t bytes. s.bytes ≡ bytes ++ t.bytes };
+    ghost gave = { λ s t bytes. Gives (sure_view s) (sure_view t) bytes };
 
-    ghost ended = { λ s. s.bytes ≡ [] };
+    ghost finished = { λ s t bytes. GivesAll (sure_view s) (sure_view t) bytes };
+
+    ghost broke = { λ s t bytes. GivesAndFails (sure_view s) (sure_view t) bytes };
 
     ghost fits = { λ _. in_64_bits-fits 0 };
 
-    ghost none = { λ a. Consumes-nil (Some a.bytes) };
-
-    ghost joined = { λ a b c xs ys first more. Consumes-trans (Some a.bytes) (Some b.bytes) (Some c.bytes) xs ys first more };
-
-    ghost told = { λ a b xs given. given };
-
-    ghost told_end = { λ s end. end };
+    ghost lawful = { source_laws sure_view (λ _. tt) };
 
     fn read(&mut self, into: &mut [u8]) -> Result<usize, Failed>
         ensures exact { result ≡ Ok (min (min self.old.step (length into.old)) (length self.old.bytes)) }
@@ -114,21 +111,17 @@ impl MemorySource {
 }
 
 impl Source for MemorySource {
-    ghost seen = { λ s. record { left = Some s.bytes; faults = in_64_bits s.faults } };
+    ghost seen = { source_view };
 
-    ghost gave = { λ s t bytes. s.bytes ≡ bytes ++ t.bytes };
+    ghost gave = { λ s t bytes. Gives (source_view s) (source_view t) bytes };
 
-    ghost ended = { λ s. s.bytes ≡ [] };
+    ghost finished = { λ s t bytes. GivesAll (source_view s) (source_view t) bytes };
+
+    ghost broke = { λ s t bytes. GivesAndFails (source_view s) (source_view t) bytes };
 
     ghost fits = { λ s. in_64_bits-fits s.faults };
 
-    ghost none = { λ a. Consumes-nil (Some a.bytes) };
-
-    ghost joined = { λ a b c xs ys first more. Consumes-trans (Some a.bytes) (Some b.bytes) (Some c.bytes) xs ys first more };
-
-    ghost told = { λ a b xs given. given };
-
-    ghost told_end = { λ s end. end };
+    ghost lawful = { source_laws source_view (λ _. tt) };
 
     fn read(&mut self, into: &mut [u8]) -> Result<usize, Failed>
         // Exactly the calls in `fails` fail, and change nothing but the numbers.

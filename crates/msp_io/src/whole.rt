@@ -1,5 +1,5 @@
 // Whole reads and whole writes.
-ghost use Rattle.std.specs.Prelude.{◌<◌, ◌≤◌, ℕ, List, length, IfOk, IfErr, OnOk, IsErrOf};
+ghost use Rattle.std.specs.Prelude.{◌≡◌, ◌<◌, ◌≤◌, ℕ, List, length, take, [], IfOk, IfErr, OnErr, IsErrOf};
 ghost use Rattle.msp_io.specs.Faults.{Rose};
 ghost use Rattle.msp_io.specs.Whole.{IsStop, Puts};
 ghost use Rattle.msp_io.specs.declared.whole.TheConstants.{GREATEST_LIMIT};
@@ -49,17 +49,30 @@ pub fn read_all<S: Source>(alloc: Global, source: &mut S, limit: u64) -> Result<
     requires { limit ≤ GREATEST_LIMIT }
 
     // All that the source gave in this call, to its end.
-    ensures all { IfOk result (λ all. S.gave source.old source.new all.items) }
-    ensures end { OnOk result (S.ended source.new) }
+    ensures all { IfOk result (λ all. S.finished source.old source.new all.items) }
     ensures within { IfOk result (λ all. length all.items ≤ limit) }
 
-    // What was taken before it stopped.
-    ensures stopped { IfErr result (λ why. (taken : List ℕ) × S.gave source.old source.new taken × IsStop why limit (length taken)) }
+    // What was taken before it stopped. After a read that failed, as after one that met the end, nothing more is read.
+    ensures stopped { IfErr result (λ why.
+        (taken : List ℕ) × IsStop (S.gave source.old source.new) (S.broke source.old source.new) why limit taken) }
     ensures fault { IsErrOf result Taken.ReadFault → Rose (S.seen source.old).faults (S.seen source.new).faults }
     ensures faults { (S.seen source.old).faults ≤ (S.seen source.new).faults }
 {
     let mut chunk = [0; CHUNK];
     read_by(alloc, source, limit, &mut chunk)
+}
+
+// One read into a slice with room, and no other. A count of 0 is the end of the input.
+fn read_once<S: Source>(source: &mut S, piece: &mut [u8]) -> Result<usize, Failed>
+    requires { 0 < length piece.old }
+    ensures count { IfOk result (λ n. n ≤ length piece.old) }
+    ensures given { IfOk result (λ n. 0 < n → S.gave source.old source.new (take n piece.new)) }
+    ensures end { IfOk result (λ n. n ≡ 0 → S.finished source.old source.new []) }
+    ensures broken { OnErr result (S.broke source.old source.new []) }
+    ensures fault { OnErr result (Rose (S.seen source.old).faults (S.seen source.new).faults) }
+    ensures faults { (S.seen source.old).faults ≤ (S.seen source.new).faults }
+{
+    source.read(piece)
 }
 
 // `read_all`, by reads into `chunk`.
@@ -71,10 +84,10 @@ fn read_by<S: Source>(
 ) -> Result<Vec<u8>, Taken>
     requires limit { limit ≤ GREATEST_LIMIT }
     requires room { 0 < length chunk.old }
-    ensures all { IfOk result (λ all. S.gave source.old source.new all.items) }
-    ensures end { OnOk result (S.ended source.new) }
+    ensures all { IfOk result (λ all. S.finished source.old source.new all.items) }
     ensures within { IfOk result (λ all. length all.items ≤ limit) }
-    ensures stopped { IfErr result (λ why. (taken : List ℕ) × S.gave source.old source.new taken × IsStop why limit (length taken)) }
+    ensures stopped { IfErr result (λ why.
+        (taken : List ℕ) × IsStop (S.gave source.old source.new) (S.broke source.old source.new) why limit taken) }
     ensures fault { IsErrOf result Taken.ReadFault → Rose (S.seen source.old).faults (S.seen source.new).faults }
     ensures faults { (S.seen source.old).faults ≤ (S.seen source.new).faults }
 {
@@ -82,7 +95,7 @@ fn read_by<S: Source>(
     'pieces: loop {
         let free = limit as usize - bytes.len();
         let most = chunk.len().min(free + 1);
-        match source.read(&mut chunk[..most]) {
+        match read_once(source, &mut chunk[..most]) {
             Err(Failed) => return Err(Taken::ReadFault),
             Ok(0) => return Ok(bytes),
             Ok(count) => {
@@ -95,17 +108,31 @@ fn read_by<S: Source>(
     }
 }
 
+// One write of a slice that is not empty, and no other.
+fn write_once<K: Sink>(sink: &mut K, piece: &[u8]) -> Result<usize, Failed>
+    requires { 0 < length piece.now }
+    ensures count { IfOk result (λ n. (0 < n) × (n ≤ length piece.now)) }
+    ensures taken { IfOk result (λ n. K.took sink.old sink.new (take n piece.now)) }
+    ensures broken { OnErr result (K.broke sink.old sink.new []) }
+    ensures fault { OnErr result (Rose (K.seen sink.old).faults (K.seen sink.new).faults) }
+    ensures faults { (K.seen sink.old).faults ≤ (K.seen sink.new).faults }
+{
+    sink.write(piece)
+}
+
 /// Appends all of `bytes` to `sink`, without a call where there are none.
 ///
 /// # Errors
 ///
-/// `WriteFault` comes only where the sink failed in this call. The front of `bytes` may be held then.
+/// `WriteFault` comes only where the sink failed in this call, and nothing more is written then. The front of `bytes` may be held.
 pub fn write_all<K: Sink>(sink: &mut K, bytes: &[u8]) -> Result<(), WriteFault>
-    ensures { Puts (K.seen sink.old) (K.seen sink.new) bytes.now result }
+    ensures put { Puts (K.took sink.old sink.new) (K.broke sink.old sink.new) bytes.now result }
+    ensures fault { OnErr result (Rose (K.seen sink.old).faults (K.seen sink.new).faults) }
+    ensures faults { (K.seen sink.old).faults ≤ (K.seen sink.new).faults }
 {
     let mut done = 0;
     'pieces: while done < bytes.len() {
-        match sink.write(&bytes[done..]) {
+        match write_once(sink, &bytes[done..]) {
             Ok(count) => done += count,
             Err(Failed) => return Err(WriteFault),
         }

@@ -2,7 +2,7 @@
 //!
 //! It stands on `msp_schedule`, whose law of segments bounds every feasible schedule from below, on `msp_slots`, by which jobs run in the
 //! order of a list, and on `msp_route`. The layers above use the clauses of `Solver`, and `segments`: lists of jobs that show that no
-//! schedule is shorter.
+//! schedule is shorter; `solve_with_segments` gives both by one labelling.
 #![tactic(auto)]
 
 mod label;
@@ -11,4 +11,4 @@ mod rule;
 mod segment;
 
 pub use rule::{Lexical, schedule_by_labels};
-pub use segment::segments;
+pub use segment::{SegmentSolution, segments, solve_with_segments};

@@ -66,6 +66,23 @@ pub fn pieces_by_label(
     pieces_in_order(alloc, inst, order)
 }
 
+/// The schedule of the pieces, with its cost: the bound of some segments.
+pub fn solution_of(inst: &Instance, labels: &[u32; MOST_JOBS], pieces: List<Piece>) -> Solution
+    requires inner { Inner inst.now }
+    requires class { inst.now.class ≡ lexical_class }
+    requires labels { HasLabels inst.now (slice_index labels.now) }
+    requires pieces { IsByLabel inst.now (slice_index labels.now) pieces }
+    ensures best { IsBest inst.now result }
+    ensures bounds { IsAnswer inst.now result.schedule }
+    ensures cost { IsSegmentCost inst.now result.cost }
+    ensures settled { IsSettled result.schedule }
+    ensures lowest { IsLowest result.cost }
+{
+    let schedule = Schedule { unit: 1, pieces };
+    let cost = msp_schedule::cost(inst, &schedule);
+    Solution { schedule, cost }
+}
+
 /// A schedule of least makespan, with its cost: the bound of some segments.
 pub fn schedule_by_labels(alloc: Global, inst: &Instance) -> Result<Solution, NoMemory>
     requires inner { Inner inst.now }
@@ -80,9 +97,7 @@ pub fn schedule_by_labels(alloc: Global, inst: &Instance) -> Result<Solution, No
 {
     let labels = labels_of(alloc, inst)?;
     let pieces = pieces_by_label(alloc, inst, &labels)?;
-    let schedule = Schedule { unit: 1, pieces };
-    let cost = msp_schedule::cost(inst, &schedule);
-    Ok(Solution { schedule, cost })
+    Ok(solution_of(inst, &labels, pieces))
 }
 
 /// Finds a schedule of least makespan: at each moment the free jobs of greatest label run, the greater label on the first machine (Coffman

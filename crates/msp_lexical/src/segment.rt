@@ -4,14 +4,17 @@ ghost use Rattle.msp_instance.specs.declared.ranges.TheConstants.{MOST_JOBS};
 ghost use Rattle.msp_instance.specs.Conditions.{Inner};
 ghost use Rattle.msp_schedule.specs.declared.Piece.{Piece as PieceValue};
 ghost use Rattle.msp_schedule.specs.Segments.{AreSegments, segments_bound};
+ghost use Rattle.msp_schedule.specs.Cost.{IsBest};
+ghost use Rattle.msp_route.specs.Bounds.{IsAnswer};
 ghost use Rattle.msp_lexical.specs.Lexical.{lexical_class, IsLeastCost};
+ghost use Rattle.msp_lexical.specs.Steps.{HasLabels, IsByLabel};
 ghost use Rattle.msp_lexical.specs.Slots.{AreTops, IsTopOf, AreCut, IsSeated, IsSeating, place_of, first_in, second_in, segment};
 
 use crate::label::labels_of;
-use crate::rule::pieces_by_label;
+use crate::rule::{pieces_by_label, solution_of};
 use msp_class::{List, NoMemory};
 use msp_instance::{Instance, MOST_JOBS};
-use msp_schedule::Piece;
+use msp_schedule::{Piece, Solution};
 use std::alloc::Global;
 
 /// Two for each moment: the one of the first machine, and that of the second.
@@ -97,25 +100,24 @@ fn tops_of(
 }
 
 /// The slots of the schedule by labels.
-fn slots_by_label(alloc: Global, inst: &Instance) -> Result<Slots, NoMemory>
+fn slots_by_label(inst: &Instance, labels: &[u32; MOST_JOBS], pieces: &[Piece]) -> Slots
     requires inner { Inner inst.now }
     requires class { inst.now.class ≡ lexical_class }
-    ensures slots { IfOk result (λ s. AreCut inst.now s.labels s.seats s.tops s.count) }
-    ensures cost { IfOk result (λ s. IsLeastCost inst.now s.count) }
+    requires labels { HasLabels inst.now (slice_index labels.now) }
+    requires pieces { IsByLabel inst.now (slice_index labels.now) pieces.now }
+    ensures slots { AreCut inst.now result.labels result.seats result.tops result.count }
+    ensures cost { IsLeastCost inst.now result.count }
 {
-    let labels = labels_of(alloc, inst)?;
-    let made = pieces_by_label(alloc, inst, &labels)?;
     let jobs = inst.jobs.len() as u32;
-    let pieces = made.as_slice();
     let seats = seats_of(jobs, pieces);
     let count = slots_of(pieces);
-    let tops = tops_of(&labels, jobs, &seats, count);
-    Ok(Slots {
-        labels,
+    let tops = tops_of(labels, jobs, &seats, count);
+    Slots {
+        labels: *labels,
         seats,
         tops,
         count,
-    })
+    }
 }
 
 /// The slot where the segment of a slot ends.
@@ -155,6 +157,47 @@ fn segment_of(
     Ok(jobs)
 }
 
+/// The segments of the slots.
+fn segments_of(alloc: Global, inst: &Instance, slots: &Slots) -> Result<List<List<u32>>, NoMemory>
+    requires slots { AreCut inst.now slots.now.labels slots.now.seats slots.now.tops slots.now.count }
+    requires cost { IsLeastCost inst.now slots.now.count }
+    ensures segments { IfOk result (AreSegments inst.now) }
+    ensures cost { IfOk result (λ all. IsLeastCost inst.now (segments_bound inst.now all)) }
+{
+    let mut segments = List::new(alloc);
+    let mut from = 0;
+    while from < slots.count {
+        let last = last_slot(inst, slots, from);
+        segments.put(segment_of(alloc, &slots.seats, from, last)?)?;
+        from = last + 1;
+    }
+    Ok(segments)
+}
+
+/// A schedule of least makespan, and segments that show it.
+#[derive(Drop)]
+pub struct SegmentSolution {
+    pub solution: Solution,
+    pub segments: List<List<u32>>,
+}
+
+/// A schedule of least makespan, with the segments of `segments`, by one labelling.
+pub fn solve_with_segments(alloc: Global, inst: &Instance) -> Result<SegmentSolution, NoMemory>
+    requires inner { Inner inst.now }
+    requires class { inst.now.class ≡ lexical_class }
+    ensures best { IfOk result (λ s. IsBest inst.now s.solution) }
+    ensures bounds { IfOk result (λ s. IsAnswer inst.now s.solution.schedule) }
+    ensures segments { IfOk result (λ s. AreSegments inst.now s.segments) }
+    ensures cost { IfOk result (λ s. IsLeastCost inst.now (segments_bound inst.now s.segments)) }
+{
+    let labels = labels_of(alloc, inst)?;
+    let pieces = pieces_by_label(alloc, inst, &labels)?;
+    let slots = slots_by_label(inst, &labels, pieces.as_slice());
+    let segments = segments_of(alloc, inst, &slots)?;
+    let solution = solution_of(inst, &labels, pieces);
+    Ok(SegmentSolution { solution, segments })
+}
+
 /// Lists of jobs, from each of which a path leads to each job of the next list. Half of their lengths, rounded up, is the time that the lists
 /// take one after another, and that is the least makespan.
 pub fn segments(alloc: Global, inst: &Instance) -> Result<List<List<u32>>, NoMemory>
@@ -163,13 +206,6 @@ pub fn segments(alloc: Global, inst: &Instance) -> Result<List<List<u32>>, NoMem
     ensures segments { IfOk result (AreSegments inst.now) }
     ensures cost { IfOk result (λ all. IsLeastCost inst.now (segments_bound inst.now all)) }
 {
-    let slots = slots_by_label(alloc, inst)?;
-    let mut segments = List::new(alloc);
-    let mut from = 0;
-    while from < slots.count {
-        let last = last_slot(inst, &slots, from);
-        segments.put(segment_of(alloc, &slots.seats, from, last)?)?;
-        from = last + 1;
-    }
+    let SegmentSolution { segments, .. } = solve_with_segments(alloc, inst)?;
     Ok(segments)
 }

@@ -4,7 +4,7 @@ use Rattle.msp_instance.specs.declared.Instance.{Instance}
 use Rattle.msp_schedule.specs.declared.Frac.{Frac}
 use Rattle.msp_schedule.specs.Fraction.{IsSameFraction, IsLowest}
 use Rattle.msp_cert.specs.declared.Certificate.{Certificate}
-use Rattle.msp_file.specs.CertificateText.{kind_of, kind_word}
+use Rattle.msp_cert_text.specs.CertificateText.{kind_of, kind_word}
 use Rattle.msp_report.specs.CertifyText.{accept_lines, IsAcceptText}
 
 pub accept_made : (i : Instance) (c : Certificate) (accepted : Bool) (bound : Frac) (word before text : List ℕ) → IsSameFraction c.bound bound → IsLowest bound → word ≡ kind_word (kind_of c.proof) → before ≡ [] → text ≡ before ++ accept_lines i word bound accepted

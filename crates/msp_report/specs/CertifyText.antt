@@ -6,7 +6,7 @@ use Rattle.msp_schedule.specs.Fraction.{IsSameFraction, IsLowest}
 use Rattle.msp_cert.specs.declared.Certificate.{Certificate}
 use Rattle.msp_cert.specs.declared.Certified.{Certified}
 use Rattle.msp_grammar.specs.ScheduleText.{line_feed, fraction_text}
-use Rattle.msp_file.specs.CertificateText.{kind_of, kind_word, printed_certificate}
+use Rattle.msp_cert_text.specs.CertificateText.{kind_of, kind_word, printed_certificate}
 use Rattle.msp_report.specs.ChainText.{end_line}
 use Rattle.msp_report.specs.Lines.{class_line, cost_line}
 use Rattle.msp_report.specs.CheckText.{yes_or_no}

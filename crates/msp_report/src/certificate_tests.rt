@@ -2,11 +2,12 @@
 // accepted or not. They stand here and not beside the readers, since a crate with tests is proved twice.
 ghost use Rattle.std.specs.Prelude.{◌≡◌, ◌≤◌, length};
 ghost use Rattle.msp_instance.specs.Conditions.{InClass};
-ghost use Rattle.msp_file.specs.declared.read.TheConstants.{MOST_BYTES};
+ghost use Rattle.msp_grammar.specs.declared.lines.limits.TheConstants.{MOST_BYTES};
 
 use crate::accept_text;
+use crate::text_tests::is_lowest;
 use msp_cert::accept;
-use msp_file::{Filed, put_certificate, read_certificate, read_instance};
+use msp_file::{Filed, print_certificate, read_certificate, read_instance};
 use std::alloc::Global;
 use std::process::Abort;
 use std::test::Fail;
@@ -77,9 +78,10 @@ fn printed_again(alloc: Global, filed: &Filed, text: &[u8]) -> Result<Vec<u8>, F
 {
     let Filed { instance, names } = filed;
     let certificate = read_certificate(alloc, names, instance, text, 1)?;
-    let mut out = Vec::new(alloc);
-    put_certificate(&mut out, names, instance, &certificate)?;
-    Ok(out)
+    if !is_lowest(certificate.bound) {
+        return Err(Fail::new("a bound that is not in lowest terms"));
+    }
+    Ok(print_certificate(alloc, names, instance, &certificate)?)
 }
 
 #[test]
@@ -444,7 +446,7 @@ const JUDGED: &[(&[u8], &[u8], &[u8])] = &[
 ];
 
 /// The report of `accept` on a certificate text behind the instance.
-#[tactic(auto, using(msp_file::proofs::CertificateLimits::limit_rules))]
+#[tactic(auto, using(msp_cert_text::proofs::CertificateLimits::limit_rules))]
 fn judged(alloc: Global, filed: &Filed, text: &[u8]) -> Result<Vec<u8>, Fail>
     requires class { InClass filed.now.instance }
     requires named { length filed.now.names ≡ length filed.now.instance.jobs }

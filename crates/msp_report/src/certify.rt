@@ -1,7 +1,7 @@
 // The reports of `certify` and `accept`.
 ghost use Rattle.std.specs.Prelude.{◌≡◌, ◌++◌, OnOk, IfOk, length};
 ghost use Rattle.msp_schedule.specs.Fraction.{IsLowest};
-ghost use Rattle.msp_file.specs.CertificateText.{IsStatedBound, IsStatedCertificate};
+ghost use Rattle.msp_cert_text.specs.CertificateText.{IsStatedBound, IsStatedCertificate};
 ghost use Rattle.msp_report.specs.CertifyText.{certify_report, accept_lines, IsAcceptText};
 
 use crate::check::put_yes_or_no;

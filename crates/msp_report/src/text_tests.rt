@@ -1,7 +1,15 @@
 // The readers of texts: instances and schedules that are read, their first faults by their notes, and
 // instances that are printed again. They stand here and not beside the readers, since a crate with tests is proved twice.
-use msp_file::{Filed, print_instance, read_front, read_instance, read_schedule};
-use msp_schedule::Piece;
+ghost use Rattle.std.specs.Prelude.{◌≤◌, length, IsTrue};
+ghost use Rattle.msp_schedule.specs.Fraction.{IsLowest};
+ghost use Rattle.msp_file.specs.declared.read.TheConstants.{MOST_BYTES};
+
+use msp_file::{
+    Filed, Names, print_instance, print_schedule, read_front, read_instance, read_schedule,
+};
+use msp_instance::gcd;
+use msp_schedule::{Frac, Piece, Solution};
+use std::alloc::Global;
 use std::test::Fail;
 
 /// Texts of instances, and the notes on their first faults.
@@ -207,6 +215,45 @@ fn first_faults_of_schedules(rt: HostRuntime) -> Result<(), Fail> {
             .err()
             .ok_or("no fault")?;
         assert_eq!(rt; fault.text().bytes(), note);
+    }
+    Ok(())
+}
+
+/// Whether the fraction is in lowest terms.
+pub fn is_lowest(f: Frac) -> bool
+    ensures { IsTrue result → IsLowest f }
+{
+    gcd(f.num.unsigned_abs(), f.den.unsigned_abs()) == 1
+}
+
+/// The text of the schedule, read and printed again.
+fn schedule_again(alloc: Global, names: &Names, text: &[u8]) -> Result<Vec<u8>, Fail>
+    requires { length text.now ≤ MOST_BYTES }
+{
+    let stated = read_schedule(alloc, names, text, 1)?;
+    if !is_lowest(stated.cost) {
+        return Err(Fail::new("a cost that is not in lowest terms"));
+    }
+    let solution = Solution {
+        schedule: stated.schedule,
+        cost: stated.cost,
+    };
+    Ok(print_schedule(alloc, names, &solution)?)
+}
+
+/// Texts of schedules for that instance, with costs in lowest terms.
+const SCHEDULES: [&[u8]; 3] = [
+    b"schedule\ncost 9/2\nunit 2\npiece a 1 1 0 6\npiece b 1 2 0 3\npiece c 1 2 3 9\npiece b 1 1 6 9\nend\n",
+    b"schedule\ncost 0\nunit 1\npiece a 1 3 6 6\nend\n",
+    b"schedule\ncost -99999999999999999999999999999999999999/10000000000000\nunit 10000000000000\npiece c 32 32 0 200000000000000000000000000\nend\n",
+];
+
+#[test]
+fn schedules_are_printed_again(rt: HostRuntime) -> Result<(), Fail> {
+    let Filed { names, .. } = read_instance(rt.alloc(), INSTANCE)?;
+    for text in SCHEDULES {
+        assert!(rt; text.len() < 200);
+        assert_eq!(rt; schedule_again(rt.alloc(), &names, text)?.as_slice(), text);
     }
     Ok(())
 }

@@ -1,4 +1,5 @@
--- The search for the least bound on the greatest lateness, and schedules brought back to the kept moments.
+-- The search for the least bound on the greatest lateness, and schedules brought back to the kept moments. No public contract cites this
+-- file.
 use Rattle.std.specs.Prelude.{◌≡◌, ℕ, ◌/◌, ◌<◌, ◌≤◌, List, length, ℤ, ◌-ℤ◌, ◌≤ℤ◌, nat_abs, map, slice_index_or, All, IsPermutation}
 use Rattle.std.specs.List.{range_with_len}
 use Rattle.msp_instance.specs.declared.Job.{Job}
@@ -11,11 +12,7 @@ use Rattle.msp_slots.specs.declared.earliest.Slot.{Slot}
 use Rattle.msp_slots.specs.Earliest.{start_in, AreSlots}
 use Rattle.msp_slots.specs.Pieces.{piece_at}
 use Rattle.msp_threshold.specs.declared.search.Range.{Range}
-use Rattle.msp_threshold.specs.Squeezed.{greatest_bound, HasTime, IsSqueezed, CanMeet}
-
--- The condition holds for each instance squeezed by a bound.
-abbrev pub HoldsSqueezed : (Instance → Type 0) → Instance → Type 0
-HoldsSqueezed P i = (bound : ℤ) (lower : Instance) → LiesWithin greatest_bound bound → IsSqueezed i bound lower → P lower
+use Rattle.msp_threshold.specs.Squeezed.{greatest_bound, HasTime, CanMeet}
 
 -- The bound is the least that a feasible schedule meets.
 pub record IsLeastBound (i : Instance) (bound : ℤ) : Type 0 where

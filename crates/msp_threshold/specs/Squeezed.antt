@@ -8,6 +8,7 @@ use Rattle.msp_class.specs.declared.class.Crit.TheVariants.{Lmax, SumU}
 use Rattle.msp_instance.specs.declared.Job.{Job}
 use Rattle.msp_instance.specs.declared.Instance.{Instance}
 use Rattle.msp_instance.specs.declared.ranges.TheConstants.{GREATEST}
+use Rattle.msp_instance.specs.Conditions.{LiesWithin}
 use Rattle.msp_schedule.specs.declared.Schedule.{Schedule}
 use Rattle.msp_schedule.specs.Feasible.{Feasible}
 use Rattle.msp_schedule.specs.Cost.{cost_of}
@@ -60,6 +61,10 @@ pub record IsSqueezed (i : Instance) (bound : ℤ) (lower : Instance) : Type 0 w
   pub kept : List ℕ
   pub moments : AreKept i kept
   pub value : lower ≡ squeezed_by kept bound i
+
+-- The condition holds for each instance squeezed by a bound.
+abbrev pub HoldsSqueezed : (Instance → Type 0) → Instance → Type 0
+HoldsSqueezed P i = (bound : ℤ) (lower : Instance) → LiesWithin greatest_bound bound → IsSqueezed i bound lower → P lower
 
 -- Some feasible schedule has a greatest lateness of at most the bound; and some feasible schedule costs nothing.
 abbrev pub CanMeet : Instance → ℤ → Type 0

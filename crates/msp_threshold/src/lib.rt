@@ -12,4 +12,4 @@ mod search;
 mod squeezing;
 
 pub use search::Search;
-pub use squeezing::{LATE_COUNT_CLASS, squeezed};
+pub use squeezing::{LATE_COUNT_CLASS, law_of_limits, squeezed};

@@ -4,8 +4,8 @@ ghost use Rattle.msp_instance.specs.declared.ranges.TheConstants.{GREATEST};
 ghost use Rattle.msp_instance.specs.Conditions.{Inner, LiesWithin};
 ghost use Rattle.msp_schedule.specs.Cost.{IsBest, Best, cost_of};
 ghost use Rattle.msp_route.specs.Bounds.{IsAnswer};
-ghost use Rattle.msp_threshold.specs.Squeezed.{lateness_class, late_count_class, greatest_bound, CanMeet};
-ghost use Rattle.msp_threshold.specs.Search.{HoldsSqueezed, IsLeastBound, IsLowest, IsRange, IsShorter};
+ghost use Rattle.msp_threshold.specs.Squeezed.{lateness_class, late_count_class, greatest_bound, CanMeet, HoldsSqueezed};
+ghost use Rattle.msp_threshold.specs.Search.{IsLeastBound, IsLowest, IsRange, IsShorter};
 
 use crate::back::pieces_back;
 use crate::by_due_date::met_bound;
@@ -99,6 +99,7 @@ fn middle_of(range: Range) -> i64
     requires high { LiesWithin greatest_bound range.high }
     ensures low { range.low ≤ℤ result }
     ensures high { result <ℤ range.high }
+    ensures half { ((result +ℤ result) ≤ℤ (range.low +ℤ range.high)) × ((range.low +ℤ range.high) ≤ℤ ((result +ℤ result) +ℤ pos 1)) }
 {
     range.low + (range.high - range.low) / 2
 }

@@ -2,6 +2,7 @@
 ghost use Rattle.std.specs.Prelude.{◌≡◌, ◌↔◌, ◌+◌, ◌*◌, ◌≤◌, ◌≤ℤ◌, length, map, pos, int_le, All, IfOk, IfSome, IsTrue, MatchOption};
 ghost use Rattle.msp_instance.specs.declared.ranges.TheConstants.{GREATEST, MOST_JOBS};
 ghost use Rattle.msp_instance.specs.Conditions.{Inner, InClass, LiesWithin};
+ghost use Rattle.msp_threshold.specs.Limits.{AreLimits};
 ghost use Rattle.msp_threshold.specs.Squeezed.{lateness_class, greatest_bound, squeezed_release, squeezed_due, squeezed_job, squeezed_by, HasTime, IsSqueezed, CanMeet, CanBeFree};
 
 use crate::kept::kept_moments;
@@ -19,6 +20,11 @@ pub const LATE_COUNT_CLASS: Class = Class {
     times: Times::Unit,
     crit: Crit::SumU,
 };
+
+/// The limits by their numbers.
+pub fn law_of_limits()
+    ensures { AreLimits }
+{}
 
 /// How many of the moments are before the release date.
 fn moments_before(kept: &[u64], release: u64) -> u64

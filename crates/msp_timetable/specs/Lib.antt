@@ -1,3 +1,4 @@
+pub mod Limits
 pub mod Split
 pub mod Square
 pub mod Steps

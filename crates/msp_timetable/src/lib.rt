@@ -13,4 +13,4 @@ mod splitting;
 mod square;
 
 pub use matrix::{Matrix, Slice};
-pub use splitting::{MOST_COLUMNS, MOST_ROWS, split};
+pub use splitting::{MOST_COLUMNS, MOST_ROWS, law_of_limits, split};

@@ -1,5 +1,6 @@
 // A matrix is split into slices.
 ghost use Rattle.std.specs.Prelude.{◌<◌, ◌≤◌, IfOk};
+ghost use Rattle.msp_timetable.specs.Limits.{AreLimits};
 ghost use Rattle.msp_timetable.specs.Split.{IsMatrix, IsSplit};
 ghost use Rattle.msp_timetable.specs.Square.{IsPermuted, IsOwners};
 ghost use Rattle.msp_timetable.specs.Steps.{SplitsSoFar};
@@ -17,6 +18,11 @@ use std::alloc::{AllocError, Global};
 pub const MOST_ROWS: u32 = 32;
 /// The most columns.
 pub const MOST_COLUMNS: u32 = 400;
+
+/// The limits by their numbers.
+pub fn law_of_limits()
+    ensures { AreLimits }
+{}
 
 /// Each row at the column of its number.
 fn first_seats(alloc: Global, size: usize) -> Result<Seats, AllocError>

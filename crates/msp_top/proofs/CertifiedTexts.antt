@@ -13,8 +13,8 @@ use Rattle.msp_cert.specs.Certificates.{HoldsFor, entries, HasSmallNumbers}
 use Rattle.msp_cert.proofs.PriceFacts.{priced_low}
 use Rattle.msp_grammar.specs.InstanceText.{where_wanted}
 use Rattle.msp_grammar.specs.ScheduleText.{name_at}
-use Rattle.msp_file.specs.CertificateText.{job_lines, segment_lines, numbered_lines, column_line, column_lines, kind_lines, AreJobs, IsStatedProof, IsStatedCertificate}
-use Rattle.msp_file.proofs.KindTexts.{numbered_length}
+use Rattle.msp_cert_text.specs.CertificateText.{job_lines, segment_lines, numbered_lines, column_line, column_lines, kind_lines, AreJobs, IsStatedProof, IsStatedCertificate}
+use Rattle.msp_cert_text.proofs.KindTexts.{numbered_length}
 use Rattle.msp_dispatch.specs.Certify.{HasLowLevels, IsCertified}
 
 jobs_count : (names : List (List ℕ)) (jobs : List ℕ) → length (job_lines names jobs) ≡ length jobs

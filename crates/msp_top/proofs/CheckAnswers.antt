@@ -12,9 +12,9 @@ use Rattle.msp_schedule.specs.declared.breaks.Break.{Break}
 use Rattle.msp_schedule.specs.Feasible.{Feasible}
 use Rattle.msp_schedule.specs.Breaks.{IsFirstBreak, IsDecision}
 use Rattle.msp_grammar.specs.declared.filed.Filed.{Filed}
-use Rattle.msp_file.specs.declared.read.Front.{Front}
-use Rattle.msp_file.specs.declared.schedule.Stated.{Stated}
-use Rattle.msp_file.specs.Answers.{IsFrontText}
+use Rattle.msp_file.specs.declared.instance.read.Front.{Front}
+use Rattle.msp_file.specs.declared.schedule.read.Stated.{Stated}
+use Rattle.msp_file.specs.instance.Answers.{IsFrontText}
 use Rattle.msp_report.proofs.CheckLemmas.{stated_within}
 use Rattle.msp_top.specs.declared.answers.Report.{Report}
 use Rattle.msp_top.specs.declared.refusal.Refusal.{Refusal}

@@ -6,6 +6,7 @@ pub mod WordLemmas
 pub mod TrialWords
 pub mod OneCommand
 pub mod Endings
+pub mod StreamCounts
 pub mod QuestionAnswers
 pub mod SolveAnswers
 pub mod TrialAnswers

@@ -1,5 +1,5 @@
 -- What the tests of rows need: a drawn instance is an inner one, a row alone is a chain, and a schedule of early moments is within the bounds of one that is brought back.
-use Rattle.std.proofs.Common.{◌≡◌, ℕ, ◌≤◌, ◌∷◌, [], length, All, Option, Some, None, IsTrue, IsSome, inr, ℤ, pos, ◌≤ℤ◌, refl, sym, subst, arith}
+use Rattle.std.proofs.Common.{◌≡◌, ℕ, ◌≤◌, ◌∷◌, [], length, All, Option, Some, None, IsTrue, IsSome, inr, ℤ, pos, ◌≤ℤ◌, refl, arith}
 use Rattle.std.proofs.lemmas.Bool.{false≢true}
 use Rattle.std.proofs.lemmas.Int.{ints}
 use Rattle.msp_class.specs.declared.class.Class.{Class}
@@ -8,7 +8,7 @@ use Rattle.msp_class.specs.declared.environments.EnvKind.TheVariants.{Identical,
 use Rattle.msp_class.specs.Env.{kind_of}
 use Rattle.msp_instance.specs.declared.Instance.{Instance}
 use Rattle.msp_instance.proofs.Limits.{Inner-from_class}
-use Rattle.msp_schedule.specs.declared.limits.TheConstants.{MOST_PIECES}
+use Rattle.msp_schedule.specs.declared.limits.TheConstants.{MOST_PIECES, GREATEST_CARRIED_UNIT}
 use Rattle.msp_schedule.specs.declared.Piece.{Piece}
 use Rattle.msp_schedule.specs.declared.Schedule.{Schedule}
 use Rattle.msp_schedule.specs.Within.{IsMoment, Within}
@@ -36,7 +36,7 @@ IsEarly p = (pos 0 ≤ℤ p.from) × (p.from ≤ℤ p.to) × (p.to ≤ℤ GREATE
 moments : (from to : ℤ) → (pos 0 ≤ℤ from) × (from ≤ℤ to) × (to ≤ℤ GREATEST_ANSWER_MOMENT) → IsMoment from × IsMoment to
 moments from to early = ((omega (arith, ints, early), omega (arith, ints, early)), (omega (arith, ints, early), omega (arith, ints, early)))
 
-unit-fits : (k : EnvKind) → pos 12 ≤ℤ greatest_unit k
+unit-fits : (k : EnvKind) → GREATEST_CARRIED_UNIT ≤ℤ greatest_unit k
 unit-fits Identical = omega (arith, ints)
 unit-fits Uniform = omega (arith, ints)
 unit-fits Unrelated = omega (arith, ints)
@@ -44,13 +44,16 @@ unit-fits OpenShop = omega (arith, ints)
 unit-fits FlowShop = omega (arith, ints)
 unit-fits JobShop = omega (arith, ints)
 
-pub small_sized : (i : Instance) (s : Schedule) → s.unit ≡ pos 12 → length s.pieces ≤ MOST_PIECES → IsSized i s
-small_sized i s is few = record { few = few; unit = subst (λ u. u ≤ℤ greatest_unit (kind_of i.class.env)) (sym is) (unit-fits (kind_of i.class.env)) }
+below : (x y z : ℤ) → x ≤ℤ y → y ≤ℤ z → x ≤ℤ z
+below x y z a b = omega (arith, ints, a, b)
 
-pub small_within : (i : Instance) (s : Schedule) → s.unit ≡ pos 12 → length s.pieces ≤ MOST_PIECES → All IsEarly s.pieces → Within i s
-small_within i s is few early = record {
-  unit = (omega (arith, ints, is), omega (arith, ints, is));
+pub small_sized : (i : Instance) (s : Schedule) → pos 1 ≤ℤ s.unit → s.unit ≤ℤ GREATEST_CARRIED_UNIT → length s.pieces ≤ MOST_PIECES → IsSized i s
+small_sized i s least most few = record { few = few; unit = below s.unit GREATEST_CARRIED_UNIT _ most (unit-fits (kind_of i.class.env)) }
+
+pub small_within : (i : Instance) (s : Schedule) → pos 1 ≤ℤ s.unit → s.unit ≤ℤ GREATEST_CARRIED_UNIT → length s.pieces ≤ MOST_PIECES → All IsEarly s.pieces → Within i s
+small_within i s least most few early = record {
+  unit = (least, omega (arith, ints, most));
   few = few;
   moments = λ k d l. moments _ _ (early k d l);
-  scaled = λ e. inr (omega (arith, ints, is));
+  scaled = λ e. inr most;
 }

@@ -9,12 +9,10 @@ use Rattle.msp_top.specs.declared.command.Command.{Command}
 use Rattle.msp_top.specs.declared.command.Command.TheVariants.{Check, Answer}
 use Rattle.msp_top.specs.declared.command.Question.TheVariants.{Frontier}
 use Rattle.msp_top.specs.declared.command.Trial.{Trial}
-use Rattle.msp_top.specs.declared.refusal.Refusal.{Refusal}
 use Rattle.msp_top.specs.declared.words.Misfit.{Misfit}
 use Rattle.msp_top.specs.declared.words.Misfit.TheVariants.{Form}
 use Rattle.msp_top.specs.Commands.{IsNameWord, IsNumberWord, Asks, AsksForTrial, Misfits}
 use Rattle.msp_top.specs.Usage.{name_then, number_within, number_then, text_of_number, misfit_text}
-use Rattle.msp_top.specs.Refusals.{of_misfit}
 use Rattle.msp_top.specs.Words.{ReadsWords, ReadsName, ReadsNumber, ReadsTrial}
 use Rattle.msp_top.proofs.WordLemmas.{trial_word, rows_word, first_word, asks_first, cons_heads, cons_tails, not_word}
 
@@ -129,8 +127,8 @@ reads_trial_misfit words none = record { no_command = no_command; no_rows = λ h
 pub reads_trial : (word : List ℕ) (words : List (List ℕ)) (trial : Trial) → word ≡ trial_word → AsksForTrial (trial_word ∷ words) trial → AsksForTrial (word ∷ words) trial
 reads_trial word words trial e h = subst (λ w. AsksForTrial (w ∷ words) trial) (sym e) h
 
-pub refuses_trial : (word : List ℕ) (words : List (List ℕ)) (misfit : Misfit) (why : Refusal) → word ≡ trial_word → ReadsTrial words (Err misfit) → why ≡ of_misfit misfit → ReadsWords (word ∷ words) (Err why)
+pub refuses_trial : (word : List ℕ) (words : List (List ℕ)) (misfit why : Misfit) → word ≡ trial_word → ReadsTrial words (Err misfit) → why ≡ misfit → ReadsWords (word ∷ words) (Err why)
 refuses_trial word words misfit why e (none, text) is =
-    let P : List ℕ → Type 0 = λ w. ReadsWords (w ∷ words) (Err (of_misfit misfit)) in
-    let Q : Refusal → Type 0 = λ r. ReadsWords (word ∷ words) (Err r) in
-    subst Q (sym is) (subst P (sym e) (inl (refl, reads_trial_misfit words none, text)))
+    let P : List ℕ → Type 0 = λ w. ReadsWords (w ∷ words) (Err misfit) in
+    let Q : Misfit → Type 0 = λ r. ReadsWords (word ∷ words) (Err r) in
+    subst Q (sym is) (subst P (sym e) (reads_trial_misfit words none, text))

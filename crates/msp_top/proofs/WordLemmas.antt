@@ -1,5 +1,5 @@
 -- The texts for words that are no names.
-use Rattle.std.proofs.Common.{◌≡◌, ℕ, zero, suc, ◌+◌, ◌<◌, ◌-◌, true, false, List, [], ◌∷◌, ◌++◌, length, get_or, take, drop, map, Option, Some, None, Result, Ok, Err, IfOk, if◌then◌else◌, ◌↔◌, inl, inr, refl, sym, ap, ◌∙◌, subst, codes, bytes_eq, arith}
+use Rattle.std.proofs.Common.{◌≡◌, ℕ, zero, suc, ◌+◌, ◌<◌, ◌≤◌, ◌-◌, true, false, List, [], ◌∷◌, ◌++◌, length, get_or, take, drop, map, Option, Some, None, Result, Ok, Err, if◌then◌else◌, ◌↔◌, inl, inr, refl, sym, ap, ◌∙◌, subst, codes, bytes_eq, arith}
 use Rattle.std.specs.List.{AllZip}
 use Rattle.std.proofs.Math.Seq.{drop-cons}
 use Rattle.std.proofs.lemmas.List.{get_or-map, take_more, take_all, length-map, length-drop}
@@ -7,7 +7,6 @@ use Rattle.std.proofs.lemmas.Slice.Eq.{bytes_eq-Decides}
 use Rattle.std.proofs.lemmas.Bool.{lt-ltb}
 use Rattle.msp_class.specs.declared.list.TheConstants.{PLACES}
 use Rattle.msp_class.specs.declared.class.Class.{Class}
-use Rattle.msp_class.specs.declared.NoMemory.{NoMemory}
 use Rattle.msp_name.specs.declared.fault.NameFault.{NameFault}
 use Rattle.msp_name.specs.Names.{NameOf}
 use Rattle.msp_name.specs.Reading.{reading_of}
@@ -15,14 +14,12 @@ use Rattle.msp_top.specs.declared.command.Command.{Command}
 use Rattle.msp_top.specs.declared.command.Command.TheVariants.{Solve, Certify, Check, Accept, Answer}
 use Rattle.msp_top.specs.declared.command.Question.TheVariants.{Label, Frontier, Why}
 use Rattle.msp_top.specs.declared.command.Request.{Request}
-use Rattle.msp_top.specs.declared.refusal.Refusal.{Refusal}
 use Rattle.msp_top.specs.declared.words.Misfit.{Misfit}
 use Rattle.msp_top.specs.declared.words.Misfit.TheVariants.{Form}
 use Rattle.msp_top.specs.Commands.{IsNameWord, Asks, Misfits}
 use Rattle.msp_top.specs.Usage.{names_text, name_text, name_then, text_of_reading, misspelled_text, misfit_text, option_text, trial_text, later_text}
 use Rattle.msp_top.specs.Note.{usage_note}
-use Rattle.msp_top.specs.Refusals.{of_misfit, out_of_memory}
-use Rattle.msp_top.specs.Words.{ReadsWords, ReadsName, ReadsNames, ReadsOneName, ReadsOption, AreNoneAlone, ReadsAlone}
+use Rattle.msp_top.specs.Words.{AsksForLabels, ReadsWords, ReadsName, AreNames, ReadsOneName, ReadsOption, AreNoneAlone, ReadsAlone}
 
 -- the text of a word that is to be a name, where it is short
 pub name_then-short : (place : ℕ) (word later : List ℕ) → length word < PLACES → name_then place word later ≡ text_of_reading place (reading_of word) later
@@ -88,43 +85,24 @@ not_all_names f xs k x word l is e no_name classes h =
     no_name at.0 (subst (λ w. IsNameWord w at.0) (word_at f xs k x l is ∙ sym e) at.1)
 
 -- ---- the classes of names
-classes_more : {X : Type 0} (f : X → List ℕ) (xs : List X) (k : ℕ) (x : X) (word : List ℕ) (c : Class) (before after : List Class) → k < length xs → x ≡ get_or xs k x → word ≡ f x → IsNameWord word c → after ≡ before ++ c ∷ [] →
+pub classes_more : {X : Type 0} (f : X → List ℕ) (xs : List X) (k : ℕ) (x : X) (word : List ℕ) (c : Class) (before after : List Class) → k < length xs → x ≡ get_or xs k x → word ≡ f x → IsNameWord word c → after ≡ before ++ c ∷ [] →
     AllZip IsNameWord (take k (map f xs)) before → AllZip IsNameWord (take (k + 1) (map f xs)) after
 classes_more f xs k x word c before after l is e named grown h =
     subst (λ cs. AllZip IsNameWord (take (k + 1) (map f xs)) cs) (sym grown)
     (subst (λ ws. AllZip IsNameWord ws (before ++ c ∷ [])) (sym (front_at f xs k x l is)) (AllZip-more IsNameWord (take k (map f xs)) before (f x) c h (subst (λ w. IsNameWord w c) e named)))
 
--- the first k words are names, of these classes unless memory was wanting
-pub record AreRead (words : List (List ℕ)) (k : ℕ) (classes : Result (List Class) NoMemory) : Type 0 where
-  pub names : HasNames words k
-  pub listed : IfOk classes (λ some. AllZip IsNameWord (take k words) some)
-
-pub AreRead-next : {X : Type 0} (f : X → List ℕ) (xs : List X) (k : ℕ) (x : X) (word : List ℕ) (c : Class) (before after : Result (List Class) NoMemory) → k < length xs → x ≡ get_or xs k x → word ≡ f x → IsNameWord word c → ((later : List ℕ) → name_then (k + 2) word later ≡ later) →
-    IfOk after (λ all. (some : List Class) × (before ≡ Ok some) × (all ≡ some ++ c ∷ [])) → AreRead (map f xs) k before → AreRead (map f xs) (k + 1) after
-AreRead-next f xs k x word c before after l is e named step grown h = record { names = HasNames-next f xs k x word c l is e named step h.names; listed = listed after grown }
-  where
-    listed : (after : Result (List Class) NoMemory) → IfOk after (λ all. (some : List Class) × (before ≡ Ok some) × (all ≡ some ++ c ∷ [])) → IfOk after (λ all. AllZip IsNameWord (take (k + 1) (map f xs)) all)
-    listed (Ok all) (some, was, more) =
-        let P : Result (List Class) NoMemory → Type 0 = λ r. IfOk r (λ some. AllZip IsNameWord (take k (map f xs)) some) in
-        classes_more f xs k x word c some all l is e named more (subst P was h.listed)
-    listed (Err why) gone = tt
+pub all_classes : (words : List (List ℕ)) (k : ℕ) (classes : List Class) → k ≡ length words → AllZip IsNameWord (take k words) classes → AllZip IsNameWord words classes
+all_classes words k classes all h = subst (λ ws. AllZip IsNameWord ws classes) (take_all k words (omega (arith, all))) h
 
 -- all words are names
-pub reads_names : (words : List (List ℕ)) (k : ℕ) (classes : Result (List Class) NoMemory) (some : List Class) → k ≡ length words → classes ≡ Ok some → AreRead words k classes → ReadsNames words (Ok some)
-reads_names words k classes some all is h =
-    let P : Result (List Class) NoMemory → Type 0 = λ r. IfOk r (λ cs. AllZip IsNameWord (take k words) cs) in
-    subst (λ ws. AllZip IsNameWord ws some) (take_all k words (omega (arith, all))) (subst P is h.listed)
-
-pub no_memory_for_names : (words : List (List ℕ)) (k : ℕ) (classes : Result (List Class) NoMemory) (why : Refusal) → k ≡ length words → AreRead words k classes → why ≡ out_of_memory → ReadsNames words (Err why)
-no_memory_for_names words k classes why all h is =
-    let Q : Refusal → Type 0 = λ r. ReadsNames words (Err r) in
-    subst Q (sym is) (inr ((refl, refl), (h.names.classes, subst (λ ws. AllZip IsNameWord ws h.names.classes) (take_all k words (omega (arith, all))) h.names.front)))
+pub are_names : (words : List (List ℕ)) (k : ℕ) (done : Unit {0}) → k ≡ length words → HasNames words k → AreNames words (Ok done)
+are_names words k done all h = (h.classes, all_classes words k h.classes all h.front)
 
 -- a word that is no name
-pub refuses_names : (words : List (List ℕ)) (first : Misfit) (why : Refusal) → usage_note first ≡ names_text 2 words → ((classes : List Class) → ¬ AllZip IsNameWord words classes) → why ≡ of_misfit first → ReadsNames words (Err why)
+pub refuses_names : (words : List (List ℕ)) (first why : Misfit) → usage_note first ≡ names_text 2 words → ((classes : List Class) → ¬ AllZip IsNameWord words classes) → why ≡ first → AreNames words (Err why)
 refuses_names words first why text none is =
-    let Q : Refusal → Type 0 = λ r. ReadsNames words (Err r) in
-    subst Q (sym is) (inl (refl, none, text))
+    let Q : Misfit → Type 0 = λ r. AreNames words (Err r) in
+    subst Q (sym is) (none, text)
 
 -- a word that is refused is no name
 pub no_name_word : (word bytes : List ℕ) (r : Result Class NameFault) (fault : NameFault) → bytes ≡ word → r ≡ Err fault → ((c : Class) → (r ≡ Ok c) ↔ NameOf bytes c) → (c : Class) → ¬ IsNameWord word c
@@ -234,36 +212,45 @@ reads_solve_misfit options none = record { no_command = no_command; no_rows = λ
     no_command (Answer Frontier) h = not_word solve_word frontier_word refl (cons_heads h)
     no_command command h = not_word solve_word (first_word command) refl (begins _ _ command h)
 
-pub reads_label : (word : List ℕ) (names : List (List ℕ)) (classes : List Class) → word ≡ label_word → AllZip IsNameWord names classes → Asks (word ∷ names) (Answer (Label classes))
-reads_label word names classes e h = (names, ap (λ w. w ∷ names) e, h)
+pub reads_label : (word : List ℕ) (names : List (List ℕ)) → word ≡ label_word → (classes : List Class) × AllZip IsNameWord names classes → AsksForLabels (word ∷ names)
+reads_label word names e (classes, h) = (classes, (names, ap (λ w. w ∷ names) e, h))
 
-pub refuses_label : (word : List ℕ) (names : List (List ℕ)) (first why : Refusal) → word ≡ label_word → ReadsNames names (Err first) → why ≡ first → ReadsWords (word ∷ names) (Err why)
-refuses_label word names first why e h same =
-    let P : List ℕ → Type 0 = λ w. ReadsWords (w ∷ names) (Err first) in
-    let Q : Refusal → Type 0 = λ r. ReadsWords (word ∷ names) (Err r) in
-    subst Q (sym same) (subst P (sym e) (by_cause h))
-  where
-    by_cause : ReadsNames names (Err first) → ReadsWords (label_word ∷ names) (Err first)
-    by_cause (inl (status, none, text)) = inl (status, reads_label_misfit names none, text)
-    by_cause (inr (memory, (classes, zip))) = inr (memory, (Answer (Label classes), (names, refl, zip)))
+pub refuses_label : (word : List ℕ) (names : List (List ℕ)) (misfit why : Misfit) → word ≡ label_word → AreNames names (Err misfit) → why ≡ misfit → ReadsWords (word ∷ names) (Err why)
+refuses_label word names misfit why e (none, text) is =
+    let P : List ℕ → Type 0 = λ w. ReadsWords (w ∷ names) (Err misfit) in
+    let Q : Misfit → Type 0 = λ r. ReadsWords (word ∷ names) (Err r) in
+    subst Q (sym is) (subst P (sym e) (reads_label_misfit names none, text))
+
+-- the words that labels are asked for are the first and those after it
+pub label_words : {X : Type 0} (f : X → List ℕ) (xs : List X) → AsksForLabels (map f xs) → (classes : List Class) × AllZip IsNameWord (map f (drop 1 xs)) classes
+label_words f [] (classes, (names, h, zip)) = let e : [] ≡ label_word ∷ names = h in none_is_some e
+label_words f (x ∷ xs) (classes, (names, h, zip)) = (classes, subst (λ ws. AllZip IsNameWord ws classes) (sym (cons_tails h)) zip)
+
+pub label_words_some : {X : Type 0} (f : X → List ℕ) (xs : List X) → AsksForLabels (map f xs) → 1 ≤ length xs
+label_words_some f [] (classes, (names, h, zip)) = let e : [] ≡ label_word ∷ names = h in none_is_some e
+label_words_some f (x ∷ xs) h = omega arith
+
+pub label_asks : {X : Type 0} (f : X → List ℕ) (xs : List X) (classes : List Class) → AsksForLabels (map f xs) → AllZip IsNameWord (map f (drop 1 xs)) classes → Asks (map f xs) (Answer (Label classes))
+label_asks f [] classes (others, (names, h, zip)) read = let e : [] ≡ label_word ∷ names = h in none_is_some e
+label_asks f (x ∷ xs) classes (others, (names, h, zip)) read = (map f xs, ap (λ w. w ∷ map f xs) (cons_heads h), read)
 
 pub reads_why : (word : List ℕ) (words : List (List ℕ)) (class : Class) → word ≡ why_word → ReadsOneName words (Ok class) → Asks (word ∷ words) (Answer (Why class))
 reads_why word words class e (name, h, named) = (name, ap (λ w. w ∷ words) e ∙ ap (λ ws. why_word ∷ ws) h, named)
 
-pub refuses_why : (word : List ℕ) (words : List (List ℕ)) (misfit : Misfit) (why : Refusal) → word ≡ why_word → ReadsOneName words (Err misfit) → why ≡ of_misfit misfit → ReadsWords (word ∷ words) (Err why)
+pub refuses_why : (word : List ℕ) (words : List (List ℕ)) (misfit why : Misfit) → word ≡ why_word → ReadsOneName words (Err misfit) → why ≡ misfit → ReadsWords (word ∷ words) (Err why)
 refuses_why word words misfit why e (none, text) is =
-    let P : List ℕ → Type 0 = λ w. ReadsWords (w ∷ words) (Err (of_misfit misfit)) in
-    let Q : Refusal → Type 0 = λ r. ReadsWords (word ∷ words) (Err r) in
-    subst Q (sym is) (subst P (sym e) (inl (refl, reads_why_misfit words none, text)))
+    let P : List ℕ → Type 0 = λ w. ReadsWords (w ∷ words) (Err misfit) in
+    let Q : Misfit → Type 0 = λ r. ReadsWords (word ∷ words) (Err r) in
+    subst Q (sym is) (subst P (sym e) (reads_why_misfit words none, text))
 
 pub reads_solve : (word : List ℕ) (options : List (List ℕ)) (at : Option Class) → word ≡ solve_word → Asks (solve_word ∷ options) (Solve at) → Asks (word ∷ options) (Solve at)
 reads_solve word options at e h = subst (λ w. Asks (w ∷ options) (Solve at)) (sym e) h
 
-pub refuses_solve : (word : List ℕ) (options : List (List ℕ)) (misfit : Misfit) (why : Refusal) → word ≡ solve_word → ReadsOption options (Err misfit) → why ≡ of_misfit misfit → ReadsWords (word ∷ options) (Err why)
+pub refuses_solve : (word : List ℕ) (options : List (List ℕ)) (misfit why : Misfit) → word ≡ solve_word → ReadsOption options (Err misfit) → why ≡ misfit → ReadsWords (word ∷ options) (Err why)
 refuses_solve word options misfit why e (none, text) is =
-    let P : List ℕ → Type 0 = λ w. ReadsWords (w ∷ options) (Err (of_misfit misfit)) in
-    let Q : Refusal → Type 0 = λ r. ReadsWords (word ∷ options) (Err r) in
-    subst Q (sym is) (subst P (sym e) (inl (refl, reads_solve_misfit options none, text)))
+    let P : List ℕ → Type 0 = λ w. ReadsWords (w ∷ options) (Err misfit) in
+    let Q : Misfit → Type 0 = λ r. ReadsWords (word ∷ options) (Err r) in
+    subst Q (sym is) (subst P (sym e) (reads_solve_misfit options none, text))
 
 pub none_of : {X : Type 0} (xs : List X) → length xs ≡ 0 → xs ≡ []
 none_of [] e = refl
@@ -288,19 +275,18 @@ none_alone f word xs frontier certify check accept rows = record {
 }
 
 -- words that do not stand alone, and of which the first is none of those that other words follow
-pub refuses_all : (word : List ℕ) (words : List (List ℕ)) (misfit : Misfit) (why : Refusal) → bytes_eq word label_word ≡ false → bytes_eq word why_word ≡ false → bytes_eq word solve_word ≡ false → bytes_eq word trial_word ≡ false →
-    ReadsAlone (word ∷ words) (Err misfit) → why ≡ of_misfit misfit → ReadsWords (word ∷ words) (Err why)
+pub refuses_all : (word : List ℕ) (words : List (List ℕ)) (misfit why : Misfit) → bytes_eq word label_word ≡ false → bytes_eq word why_word ≡ false → bytes_eq word solve_word ≡ false → bytes_eq word trial_word ≡ false →
+    ReadsAlone (word ∷ words) (Err misfit) → why ≡ misfit → ReadsWords (word ∷ words) (Err why)
 refuses_all word words misfit why label why_not solve trial_not (none, form) is =
-    let Q : Refusal → Type 0 = λ r. ReadsWords (word ∷ words) (Err r) in
-    subst Q (sym is) (inl (
-      refl,
+    let Q : Misfit → Type 0 = λ r. ReadsWords (word ∷ words) (Err r) in
+    subst Q (sym is) (
       record {
         no_command = no_command;
         no_rows = none.no_rows;
         no_trial = λ trial h. not_word word trial_word trial_not (cons_heads h.form);
       },
       form ∙ sym text,
-    ))
+    )
   where
     no_command : (command : Command) → ¬ Asks (word ∷ words) command
     no_command (Solve at) h = not_word word solve_word solve (begins _ _ (Solve at) h)
@@ -323,6 +309,11 @@ refuses_all word words misfit why label why_not solve trial_not (none, form) is 
     text : later_text word words ≡ misfit_text
     text = ap (λ b. if b then names_text 2 words else after_label) label ∙ ap (λ b. if b then name_text words else after_why) why_not ∙ ap (λ b. if b then option_text words else after_solve) solve ∙ ap (λ b. if b then trial_text words else misfit_text) trial_not
 
+pub reads_all : (word : List ℕ) (words : List (List ℕ)) (r : Result Request Misfit) → bytes_eq word label_word ≡ false → bytes_eq word why_word ≡ false → bytes_eq word solve_word ≡ false → bytes_eq word trial_word ≡ false →
+    ReadsAlone (word ∷ words) r → ReadsWords (word ∷ words) r
+reads_all word words (Ok request) label why_not solve trial_not h = h
+reads_all word words (Err misfit) label why_not solve trial_not h = refuses_all word words misfit misfit label why_not solve trial_not h refl
+
 tail_of : {X : Type 0} (f : X → List ℕ) (xs : List X) (x : X) → 0 < length xs → x ≡ get_or xs 0 x → map f xs ≡ f x ∷ map f (drop 1 xs)
 tail_of f [] x l is = absurd (omega (arith, l))
 tail_of f (y ∷ ys) x l is = ap (λ z. f z ∷ map f ys) (sym is)
@@ -331,7 +322,7 @@ tail_of f (y ∷ ys) x l is = ap (λ z. f z ∷ map f ys) (sym is)
 pub rest_part : {X : Type 0} (d xs : List X) → d ≡ xs → take (length d - 1) (drop 1 d) ≡ drop 1 xs
 rest_part d xs e = take_all (length d - 1) (drop 1 d) (omega (arith, length-drop 1 d)) ∙ ap (drop 1) e
 
-pub reads_part : {X : Type 0} (f : X → List ℕ) (xs part : List X) (x : X) (word : List ℕ) (r : Result Request Refusal) → 0 < length xs → x ≡ get_or xs 0 x → word ≡ f x → part ≡ drop 1 xs → ReadsWords (word ∷ map f part) r → ReadsWords (map f xs) r
+pub reads_part : {X : Type 0} (f : X → List ℕ) (xs part : List X) (x : X) (word : List ℕ) (r : Result Request Misfit) → 0 < length xs → x ≡ get_or xs 0 x → word ≡ f x → part ≡ drop 1 xs → ReadsWords (word ∷ map f part) r → ReadsWords (map f xs) r
 reads_part f xs part x word r l is e cut h =
     subst (λ ws. ReadsWords ws r) (sym (tail_of f xs x l is)) (subst (λ p. ReadsWords (f x ∷ map f p) r) cut (subst (λ w. ReadsWords (w ∷ map f part) r) e h))
 

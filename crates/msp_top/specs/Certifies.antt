@@ -3,10 +3,10 @@ use Rattle.std.specs.Prelude.{◌≡◌, ◌≢◌, ℕ, List}
 use Rattle.msp_instance.specs.declared.Instance.{Instance}
 use Rattle.msp_cert.specs.declared.Certified.{Certified}
 use Rattle.msp_grammar.specs.InstanceText.{IsInstanceText}
-use Rattle.msp_file.specs.declared.fault.FileFault.{FileFault}
-use Rattle.msp_file.specs.declared.fault.FileFault.TheVariants.{Memory}
-use Rattle.msp_file.specs.Answers.{IsFaultOf}
-use Rattle.msp_file.specs.Faults.{file_text}
+use Rattle.msp_grammar.specs.declared.lines.fault.FileFault.{FileFault}
+use Rattle.msp_grammar.specs.declared.lines.fault.FileFault.TheVariants.{Memory}
+use Rattle.msp_file.specs.instance.Answers.{IsFaultOf}
+use Rattle.msp_grammar.specs.lines.Faults.{file_text}
 use Rattle.msp_report.specs.CertifyText.{certify_report}
 use Rattle.msp_dispatch.specs.declared.Uncertified.{Uncertified}
 use Rattle.msp_dispatch.specs.declared.Uncertified.TheVariants.{Memory as NoMemory}

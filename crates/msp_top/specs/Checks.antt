@@ -11,12 +11,12 @@ use Rattle.msp_schedule.specs.Breaks.{IsDecision}
 use Rattle.msp_grammar.specs.declared.filed.Filed.{Filed}
 use Rattle.msp_grammar.specs.InstanceText.{IsInstanceText}
 use Rattle.msp_grammar.specs.ScheduleText.{IsScheduleText}
-use Rattle.msp_file.specs.declared.fault.FileFault.{FileFault}
-use Rattle.msp_file.specs.declared.fault.FileFault.TheVariants.{Memory}
-use Rattle.msp_file.specs.declared.schedule.Stated.{Stated}
-use Rattle.msp_file.specs.Answers.{IsFrontFaultOf}
-use Rattle.msp_file.specs.ScheduleAnswers.{IsScheduleFaultOf}
-use Rattle.msp_file.specs.Faults.{file_text}
+use Rattle.msp_grammar.specs.declared.lines.fault.FileFault.{FileFault}
+use Rattle.msp_grammar.specs.declared.lines.fault.FileFault.TheVariants.{Memory}
+use Rattle.msp_file.specs.declared.schedule.read.Stated.{Stated}
+use Rattle.msp_file.specs.instance.Answers.{IsFrontFaultOf}
+use Rattle.msp_file.specs.schedule.Answers.{IsScheduleFaultOf}
+use Rattle.msp_grammar.specs.lines.Faults.{file_text}
 use Rattle.msp_report.specs.CheckText.{StatesItsCost, IsCheckText}
 use Rattle.msp_top.specs.Files.{file_status}
 use Rattle.msp_top.specs.Outcome.{Outcome, report, refusal}

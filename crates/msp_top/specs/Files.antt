@@ -1,7 +1,7 @@
 -- The status of an input that is no instance text.
 use Rattle.std.specs.Prelude.{ℕ}
-use Rattle.msp_file.specs.declared.fault.FileFault.{FileFault}
-use Rattle.msp_file.specs.declared.fault.FileFault.TheVariants as fault
+use Rattle.msp_grammar.specs.declared.lines.fault.FileFault.{FileFault}
+use Rattle.msp_grammar.specs.declared.lines.fault.FileFault.TheVariants as fault
 
 -- A passed limit has a status of its own, and every other fault is bad input. Want of memory is no fault of the text.
 abbrev pub file_status : FileFault → ℕ

@@ -12,6 +12,7 @@ pub mod Checks
 pub mod Accepts
 pub mod Reports
 pub mod Run
+pub mod Streams
 pub mod Note
 pub mod Refusals
 pub mod Answers

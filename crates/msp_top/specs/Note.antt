@@ -6,7 +6,7 @@ use Rattle.msp_top.specs.declared.words.Misfit.{Misfit}
 use Rattle.msp_top.specs.declared.words.Misfit.TheVariants.{Form, Name, Number}
 use Rattle.msp_top.specs.Usage.{misfit_text, misspelled_text, misnumbered_text}
 use Rattle.msp_top.specs.Run.{too_long_text}
-use Rattle.msp_file.specs.Faults.{file_text}
+use Rattle.msp_grammar.specs.lines.Faults.{file_text}
 use Rattle.msp_top.specs.Cannots.{cannot_text, uncertified_text}
 use Rattle.msp_top.specs.Checks.{unchecked_text}
 use Rattle.msp_results.specs.Faults.{results_text}

@@ -3,7 +3,7 @@ use Rattle.std.specs.Prelude.{ℕ}
 use Rattle.msp_class.specs.declared.class.Class.{Class}
 use Rattle.msp_io.specs.declared.whole.Taken.{Taken}
 use Rattle.msp_io.specs.declared.whole.Taken.TheVariants as taken
-use Rattle.msp_file.specs.declared.fault.FileFault.{FileFault}
+use Rattle.msp_grammar.specs.declared.lines.fault.FileFault.{FileFault}
 use Rattle.msp_results.specs.declared.fault.ResultFault.{ResultFault}
 use Rattle.msp_dispatch.specs.declared.Cannot.{Cannot}
 use Rattle.msp_dispatch.specs.declared.Uncertified.{Uncertified as WhyUncertified}

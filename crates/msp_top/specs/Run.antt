@@ -1,15 +1,11 @@
--- What a call of `run` leaves. What a sink holds is spoken of as far as it tells it. `gave` says of bytes that the source gave them in this
--- call, and no others, and `ended` that it was at its end then; where the source tells its bytes, these were all that was left.
-use Rattle.std.specs.Prelude.{◌≡◌, ℕ, ◌+◌, ◌<◌, ◌≤◌, ◌⊎◌, List, [], ◌∷◌, ◌++◌, length, take, codes, decimal}
-use Rattle.std.specs.Io.KnownBytes.{Appends}
-use Rattle.msp_io.specs.Faults.{Rose}
-use Rattle.msp_io.specs.Views.{SinkView}
+-- What a call of `run` leaves.
+use Rattle.std.specs.Prelude.{◌≡◌, ◌↔◌, ℕ, ◌+◌, ◌<◌, ◌≤◌, ◌⊎◌, List, [], ◌∷◌, ◌++◌, length, take, map, codes, decimal, Vec, String, string_bytes}
 use Rattle.msp_report.specs.RowsText.{rows_report}
 use Rattle.msp_top.specs.declared.answers.TheConstants.{INPUT_LIMIT, CHECK_LIMIT}
 use Rattle.msp_top.specs.declared.command.Command.{Command}
 use Rattle.msp_top.specs.declared.command.Command.TheVariants.{Solve, Certify, Check, Accept, Answer}
 use Rattle.msp_top.specs.declared.command.Trial.{Trial}
-use Rattle.msp_top.specs.Commands.{Asks, AsksForRows, AsksForTrial}
+use Rattle.msp_top.specs.Commands.{Asks, AsksForRows, AsksForTrial, Misfits}
 use Rattle.msp_top.specs.Usage.{usage_text}
 use Rattle.msp_top.specs.Outcome.{Outcome, report, refusal}
 use Rattle.msp_top.specs.Solves.{SolveIsRight}
@@ -18,6 +14,23 @@ use Rattle.msp_top.specs.Checks.{CheckIsRight}
 use Rattle.msp_top.specs.Accepts.{AcceptIsRight}
 use Rattle.msp_top.specs.Reports.{ReadsResults}
 use Rattle.msp_top.specs.Trials.{TrialIsRight}
+
+-- The words of a command line, as bytes.
+abbrev pub spelled : {Z A : Type 0} → Vec (String Z) A → List (List ℕ)
+spelled words = map string_bytes words.items
+
+-- What passed in a call of `run`: what the source gave, and what the sink of the report took.
+pub record Passed : Type 1 where
+  -- these bytes were read, and no others, and no read met the end or failed
+  pub gave : List ℕ → Type 0
+  -- these bytes were read, and the last read, and no other, met the end
+  pub finished : List ℕ → Type 0
+  -- these bytes were read, and then a read failed
+  pub broke : List ℕ → Type 0
+  -- these bytes were written, and no write failed
+  pub took : List ℕ → Type 0
+  -- these bytes were written, and then a write failed
+  pub broke_off : List ℕ → Type 0
 
 -- The outcome is right for a command and an input within the limit.
 abbrev pub IsRightWithin : Command → List ℕ → Outcome → Type 0
@@ -45,51 +58,59 @@ pub data IsRight (command : Command) (input : List ℕ) : Outcome → Type 0 whe
 
 -- The report is right for the words: of the whole input, by a command that reads it to its end, or that of a trial or the table of rows,
 -- for which nothing is read.
-pub data IsRightReport (words : List (List ℕ)) (gave : List ℕ → Type 0) (ended : Type 0) : ℕ → List ℕ → Type 0 where
-  of_input : (command : Command) (input : List ℕ) (status : ℕ) (text : List ℕ) → Asks words command → gave input → ended → IsRight command input (report status text) → IsRightReport words gave ended status text
-  of_trial : (trial : Trial) (status : ℕ) (text : List ℕ) → AsksForTrial words trial → TrialIsRight trial (report status text) → IsRightReport words gave ended status text
-  of_rows : AsksForRows words → IsRightReport words gave ended 0 rows_report
+pub data IsRightReport (words : List (List ℕ)) (call : Passed) : ℕ → List ℕ → Type 0 where
+  of_input : (command : Command) (input : List ℕ) (status : ℕ) (text : List ℕ) → Asks words command → call.finished input → IsRight command input (report status text) → IsRightReport words call status text
+  of_trial : (trial : Trial) (status : ℕ) (text : List ℕ) → AsksForTrial words trial → TrialIsRight trial (report status text) → IsRightReport words call status text
+  of_rows : AsksForRows words → IsRightReport words call 0 rows_report
 
--- A right report was appended whole.
-abbrev pub Reports : List (List ℕ) → (List ℕ → Type 0) → Type 0 → SinkView → SinkView → ℕ → Type 0
-Reports words gave ended out out_after status = (text : List ℕ) × IsRightReport words gave ended status text × Appends out.held out_after.held text
+-- A right report was written whole.
+abbrev pub Reports : List (List ℕ) → Passed → ℕ → Type 0
+Reports words call status = (text : List ℕ) × IsRightReport words call status text × call.took text
 
--- Only the front of a right report was appended, and the sink failed.
-pub record BreaksOff (words : List (List ℕ)) (gave : List ℕ → Type 0) (ended : Type 0) (out out_after : SinkView) : Type 0 where
+-- Only the front of a right report was written, and then a write failed.
+pub record BreaksOff (words : List (List ℕ)) (call : Passed) : Type 0 where
   pub status : ℕ
   pub text : List ℕ
   pub count : ℕ
-  pub right : IsRightReport words gave ended status text
-  pub part : Appends out.held out_after.held (take count text)
-  pub failed : Rose out.faults out_after.faults
+  pub right : IsRightReport words call status text
+  pub short : count < length text
+  pub part : call.broke_off (take count text)
 
 -- The status and the note are the right refusal of the whole input, by a command that the words ask for, or that of a trial. An input is too
--- long exactly where one byte more than the limit was taken, and then no more is.
-pub data Refuses (words : List (List ℕ)) (gave : List ℕ → Type 0) (ended : Type 0) : ℕ → List ℕ → Type 0 where
-  input_refused : (command : Command) (input : List ℕ) (status : ℕ) (note : List ℕ) → Asks words command → gave input → ended → length input ≤ limit_of command → IsRightWithin command input (refusal status note) → Refuses words gave ended status note
-  past_the_limit : (command : Command) (taken : List ℕ) → Asks words command → gave taken → length taken ≡ limit_of command + 1 → Refuses words gave ended 4 (too_long_text (limit_of command))
-  trial_refused : (trial : Trial) (status : ℕ) (note : List ℕ) → AsksForTrial words trial → TrialIsRight trial (refusal status note) → Refuses words gave ended status note
+-- long exactly where one byte more than the limit was read, and then no more is.
+pub data Refuses (words : List (List ℕ)) (call : Passed) : ℕ → List ℕ → Type 0 where
+  input_refused : (command : Command) (input : List ℕ) (status : ℕ) (note : List ℕ) → Asks words command → call.finished input → length input ≤ limit_of command → IsRightWithin command input (refusal status note) → Refuses words call status note
+  past_the_limit : (command : Command) (taken : List ℕ) → Asks words command → call.gave taken → length taken ≡ limit_of command + 1 → Refuses words call 4 (too_long_text (limit_of command))
+  trial_refused : (trial : Trial) (status : ℕ) (note : List ℕ) → AsksForTrial words trial → TrialIsRight trial (refusal status note) → Refuses words call status note
 
--- At most so many bytes were taken.
-abbrev pub TakesAtMost : (List ℕ → Type 0) → ℕ → Type 0
-TakesAtMost gave limit = (taken : List ℕ) × gave taken × (length taken ≤ limit)
+-- At most so many bytes passed.
+abbrev pub AtMost : (List ℕ → Type 0) → ℕ → Type 0
+AtMost passed limit = (taken : List ℕ) × passed taken × (length taken ≤ limit)
+
+-- A read for a command that the words ask for failed, before more was read than an input may have.
+abbrev pub BreaksReading : List (List ℕ) → Passed → Type 0
+BreaksReading words call = (command : Command) × Asks words command × AtMost call.broke (limit_of command)
+
+-- These bytes were read, to the end or not, and no read failed.
+abbrev pub was_read : Passed → List ℕ → Type 0
+was_read call bytes = call.gave bytes ⊎ call.finished bytes
 
 -- The text of the note for each status from 2 on.
-pub data IsNote (words : List (List ℕ)) (gave : List ℕ → Type 0) (ended : Type 0) : ℕ → List ℕ → Type 0 where
-  misfit : IsNote words gave ended 2 (usage_text words)
-  refused : (status : ℕ) (note : List ℕ) → 3 ≤ status → status ≤ 6 → Refuses words gave ended status note → IsNote words gave ended status note
-  read_fault : IsNote words gave ended 7 (codes "cannot read")
-  write_fault : IsNote words gave ended 8 (codes "cannot write")
-  memory : IsNote words gave ended 9 (codes "out of memory")
+pub data IsNote (words : List (List ℕ)) (call : Passed) : ℕ → List ℕ → Type 0 where
+  misfit : IsNote words call 2 (usage_text words)
+  refused : (status : ℕ) (note : List ℕ) → 3 ≤ status → status ≤ 6 → Refuses words call status note → IsNote words call status note
+  read_fault : IsNote words call 7 (codes "cannot read")
+  write_fault : IsNote words call 8 (codes "cannot write")
+  memory : IsNote words call 9 (codes "out of memory")
 
 -- A note is one line.
 abbrev pub note_line : List ℕ → List ℕ
 note_line text = codes "msp: " ++ text ++ (10 ∷ [])
 
--- The line of the note was appended: all of it where the count of faults did not rise, and else the front of it.
-abbrev pub IsTold : SinkView → SinkView → List ℕ → Type 0
-IsTold notes notes_after text =
-    (count : ℕ) × Appends notes.held notes_after.held (take count (note_line text)) × (length (note_line text) ≤ count ⊎ Rose notes.faults notes_after.faults)
+-- The line of the note was written whole, or only the front of it, and then a write failed.
+abbrev pub IsTold : (List ℕ → Type 0) → (List ℕ → Type 0) → List ℕ → Type 0
+IsTold took broke text =
+    took (note_line text) ⊎ ((count : ℕ) × (count < length (note_line text)) × broke (take count (note_line text)))
 
 -- The status is that of a right outcome.
 abbrev pub IsDue : Command → List ℕ → ℕ → Type 0
@@ -97,3 +118,19 @@ IsDue command input status = ((text : List ℕ) × IsRight command input (report
 
 abbrev pub IsTrialDue : Trial → ℕ → Type 0
 IsTrialDue trial status = ((text : List ℕ) × TrialIsRight trial (report status text)) ⊎ ((note : List ℕ) × TrialIsRight trial (refusal status note))
+
+-- What the status says of a call, and of the note that is told.
+pub record IsServed (words : List (List ℕ)) (call : Passed) (told : List ℕ → Type 0) (status : ℕ) : Type 0 where
+  pub known : status ≤ 9
+  -- Status 2 comes exactly where the words fit no command.
+  pub usage : (status ≡ 2) ↔ Misfits words
+  -- A status below 2 comes with a right report of the whole input that was read.
+  pub right_report : status ≤ 1 → Reports words call status
+  -- A refusal of the input is the right one.
+  pub refusal : 3 ≤ status → status ≤ 6 → (note : List ℕ) × Refuses words call status note
+  pub read_fault : status ≡ 7 → BreaksReading words call
+  pub write_fault : status ≡ 8 → BreaksOff words call
+  -- At 9, as at 7, no more was read than an input may have.
+  pub few : status ≡ 9 → (command : Command) → Asks words command → AtMost (was_read call) (limit_of command)
+  -- Each status from 2 on has its note.
+  pub note : 2 ≤ status → (text : List ℕ) × IsNote words call status text × told text

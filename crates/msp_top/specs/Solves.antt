@@ -3,15 +3,15 @@ use Rattle.std.specs.Prelude.{◌≡◌, ◌≢◌, ℕ, List, Option}
 use Rattle.msp_class.specs.declared.class.Class.{Class}
 use Rattle.msp_instance.specs.declared.Instance.{Instance}
 use Rattle.msp_route.specs.declared.answer.Answer.{Answer}
-use Rattle.msp_file.specs.declared.fault.FileFault.{FileFault}
-use Rattle.msp_file.specs.declared.fault.FileFault.TheVariants.{Memory}
-use Rattle.msp_file.specs.Answers.{IsFaultOf}
+use Rattle.msp_grammar.specs.declared.lines.fault.FileFault.{FileFault}
+use Rattle.msp_grammar.specs.declared.lines.fault.FileFault.TheVariants.{Memory}
+use Rattle.msp_file.specs.instance.Answers.{IsFaultOf}
 use Rattle.msp_grammar.specs.InstanceText.{IsInstanceText}
 use Rattle.msp_report.specs.SolveText.{solve_report}
 use Rattle.msp_dispatch.specs.declared.Cannot.{Cannot}
 use Rattle.msp_dispatch.specs.declared.Cannot.TheVariants.{Memory as NoMemory}
 use Rattle.msp_dispatch.specs.Dispatch.{IsAnswered, IsFault}
-use Rattle.msp_file.specs.Faults.{file_text}
+use Rattle.msp_grammar.specs.lines.Faults.{file_text}
 use Rattle.msp_top.specs.Files.{file_status}
 use Rattle.msp_top.specs.Cannots.{cannot_status, cannot_text}
 use Rattle.msp_top.specs.Outcome.{Outcome, report, refusal}

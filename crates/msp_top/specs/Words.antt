@@ -1,29 +1,29 @@
 -- What reading the words of a command line gives. No public contract cites this file.
-use Rattle.std.specs.Prelude.{◌≡◌, ◌≢◌, ◌⊎◌, ℕ, List, [], ◌∷◌, Option, Result, Ok, Err, codes}
+use Rattle.std.specs.Prelude.{◌≡◌, ◌≢◌, ℕ, List, [], ◌∷◌, Option, Result, Ok, Err, codes}
 use Rattle.std.specs.List.{AllZip}
 use Rattle.msp_class.specs.declared.class.Class.{Class}
 use Rattle.msp_top.specs.declared.command.Command.{Command}
-use Rattle.msp_top.specs.declared.command.Command.TheVariants.{Solve}
+use Rattle.msp_top.specs.declared.command.Command.TheVariants.{Solve, Answer}
+use Rattle.msp_top.specs.declared.command.Question.TheVariants.{Label}
 use Rattle.msp_top.specs.declared.command.Request.{Request}
-use Rattle.msp_top.specs.declared.command.Request.TheVariants.{Rows, Trial as IsTrial, Command as IsCommand}
+use Rattle.msp_top.specs.declared.command.Request.TheVariants.{Rows, Trial as IsTrial, Labels, Command as IsCommand}
 use Rattle.msp_top.specs.declared.command.Trial.{Trial}
 use Rattle.msp_top.specs.declared.words.Misfit.{Misfit}
-use Rattle.msp_top.specs.declared.refusal.Refusal.{Refusal}
 use Rattle.msp_top.specs.Commands.{Asks, AsksForRows, AsksForTrial, Misfits, IsNameWord, IsNumberWord}
 use Rattle.msp_top.specs.Usage.{misfit_text, names_text, name_text, name_then, number_then, option_text, trial_text, usage_text}
-use Rattle.msp_top.specs.Note.{usage_note, note_text}
-use Rattle.msp_top.specs.Answers.{IsNoMemory}
+use Rattle.msp_top.specs.Note.{usage_note}
 
--- The words are a misfit, with its status and its note.
-abbrev pub IsMisfit : List (List ℕ) → Refusal → Type 0
-IsMisfit words why = (why.status ≡ 2) × Misfits words × (note_text why.note ≡ usage_text words)
+-- The words ask for the labels of the classes that the words after the first name.
+abbrev pub AsksForLabels : List (List ℕ) → Type 0
+AsksForLabels words = (classes : List Class) × Asks words (Answer (Label classes))
 
--- A request is what the words ask for. Memory may be wanting only for words that ask for a command.
-abbrev pub ReadsWords : List (List ℕ) → Result Request Refusal → Type 0
+-- A request is what the words ask for, and a misfit is told by its note.
+abbrev pub ReadsWords : List (List ℕ) → Result Request Misfit → Type 0
 ReadsWords words (Ok Rows) = AsksForRows words
 ReadsWords words (Ok (IsTrial trial)) = AsksForTrial words trial
+ReadsWords words (Ok Labels) = AsksForLabels words
 ReadsWords words (Ok (IsCommand command)) = Asks words command
-ReadsWords words (Err why) = IsMisfit words why ⊎ (IsNoMemory why × ((command : Command) × Asks words command))
+ReadsWords words (Err misfit) = Misfits words × (usage_note misfit ≡ usage_text words)
 
 -- The word at this place is the name of the class, or it is no name, and the note says so.
 abbrev pub ReadsName : List ℕ → ℕ → Result Class Misfit → Type 0
@@ -36,12 +36,10 @@ ReadsNumber least greatest word place (Ok number) = IsNumberWord least greatest 
 ReadsNumber least greatest word place (Err misfit) =
     ((later : List ℕ) → usage_note misfit ≡ number_then place least greatest word later) × ((number : ℕ) → ¬ IsNumberWord least greatest word number)
 
--- The words after `label` are names of the classes.
-abbrev pub ReadsNames : List (List ℕ) → Result (List Class) Refusal → Type 0
-ReadsNames names (Ok classes) = AllZip IsNameWord names classes
-ReadsNames names (Err why) =
-    ((why.status ≡ 2) × ((classes : List Class) → ¬ AllZip IsNameWord names classes) × (note_text why.note ≡ names_text 2 names))
-    ⊎ (IsNoMemory why × ((classes : List Class) × AllZip IsNameWord names classes))
+-- The words after `label` are names, or one of them is none, and the note says so.
+abbrev pub AreNames : List (List ℕ) → Result (Unit {0}) Misfit → Type 0
+AreNames names (Ok done) = (classes : List Class) × AllZip IsNameWord names classes
+AreNames names (Err misfit) = ((classes : List Class) → ¬ AllZip IsNameWord names classes) × (usage_note misfit ≡ names_text 2 names)
 
 -- The words after `why` are the name of the class.
 abbrev pub ReadsOneName : List (List ℕ) → Result Class Misfit → Type 0

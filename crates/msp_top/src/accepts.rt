@@ -3,8 +3,8 @@ ghost use Rattle.std.specs.Prelude.{◌≡◌, ◌≤◌, length, IfOk, if◌the
 ghost use Rattle.msp_instance.specs.Conditions.{InClass};
 ghost use Rattle.msp_schedule.specs.Fraction.{IsComparable};
 ghost use Rattle.msp_cert.specs.Certificates.{KeepsLimits};
-ghost use Rattle.msp_file.specs.CertificateText.{IsStatedBound};
-ghost use Rattle.msp_file.specs.declared.schedule.TheConstants.{LAST_LINE};
+ghost use Rattle.msp_cert_text.specs.CertificateText.{IsStatedBound};
+ghost use Rattle.msp_grammar.specs.declared.lines.limits.TheConstants.{LAST_LINE};
 ghost use Rattle.msp_top.specs.Accepts.{IsAcceptReport, AcceptIsRight};
 ghost use Rattle.msp_top.specs.Answers.{Answers, OfRest};
 
@@ -28,7 +28,7 @@ pub fn accept_answer(alloc: Global, input: &[u8]) -> Result<Report, Refusal>
 }
 
 /// The answer to the rest of an input, after the text of the instance.
-#[tactic(auto, using(msp_file::proofs::CertificateLimits::limit_rules))]
+#[tactic(auto, using(msp_cert_text::proofs::CertificateLimits::limit_rules))]
 fn accept_rest(alloc: Global, filed: &Filed, line: u32, rest: &[u8]) -> Result<Report, Refusal>
     requires class { InClass filed.now.instance }
     requires named { length filed.now.names ≡ length filed.now.instance.jobs }

@@ -1,10 +1,8 @@
 // What there is to say of a whole input, by the command.
 ghost use Rattle.std.specs.Prelude.{◌≡◌, ◌≤◌, length};
 ghost use Rattle.msp_io.specs.declared.whole.TheConstants.{GREATEST_LIMIT};
-ghost use Rattle.msp_instance.specs.Conditions.{InClass};
-ghost use Rattle.msp_top.specs.Solves.{SolveIsRight};
 ghost use Rattle.msp_top.specs.Run.{IsRightWithin, limit_of};
-ghost use Rattle.msp_top.specs.Answers.{Answers, OfFiled};
+ghost use Rattle.msp_top.specs.Answers.{Answers};
 
 use crate::accepts::accept_answer;
 use crate::certifies::certify_answer;
@@ -12,12 +10,7 @@ use crate::checks::check_answer;
 use crate::command::Command;
 use crate::questions::answer_question;
 use crate::refusal::Refusal;
-use crate::statuses::WRITTEN;
-use msp_class::Class;
-use msp_dispatch::solve_any;
-use msp_file::read_instance;
-use msp_grammar::Filed;
-use msp_report::solve_text;
+use crate::solves::solve_answer;
 use std::alloc::Global;
 
 /// The most bytes of an input, but for that of `check` and `accept`.
@@ -55,26 +48,4 @@ pub fn answer_to(alloc: Global, command: &Command, input: &[u8]) -> Result<Repor
         Command::Accept => accept_answer(alloc, input),
         Command::Answer { question } => answer_question(alloc, question, input),
     }
-}
-
-fn solve_answer(alloc: Global, at: Option<Class>, input: &[u8]) -> Result<Report, Refusal>
-    requires { length input.now ≤ INPUT_LIMIT }
-    ensures { Answers (SolveIsRight input.now at) result }
-{
-    let filed = read_instance(alloc, input)?;
-    answer_filed(alloc, at, &filed)
-}
-
-/// The answer for an instance, at the class that is named, if one is named.
-fn answer_filed(alloc: Global, at: Option<Class>, filed: &Filed) -> Result<Report, Refusal>
-    requires class { InClass filed.now.instance }
-    requires named { length filed.now.names ≡ length filed.now.instance.jobs }
-    ensures { Answers (OfFiled (λ input. SolveIsRight input at) filed.now) result }
-{
-    let answer = solve_any(alloc, &filed.instance, at)?;
-    let text = solve_text(alloc, &filed.names, &answer)?;
-    Ok(Report {
-        status: WRITTEN,
-        text,
-    })
 }

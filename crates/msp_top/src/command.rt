@@ -38,12 +38,14 @@ pub struct Trial {
     pub seed: u32,
 }
 
-/// What words ask for.
+/// What words ask for, as far as no memory is taken to say it.
 #[derive(Drop)]
 pub enum Request {
     /// The table of rows, for which nothing is read.
     Rows,
     /// A trial, for which nothing is read either.
     Trial(Trial),
+    /// The labels of the classes that the words after the first name.
+    Labels,
     Command(Command),
 }

@@ -7,6 +7,8 @@
 mod accept_tests;
 mod accepts;
 mod answers;
+#[cfg(test)]
+mod break_tests;
 mod certifies;
 #[cfg(test)]
 mod certify_tests;
@@ -14,6 +16,8 @@ mod certify_tests;
 mod check_tests;
 mod checks;
 mod command;
+#[cfg(test)]
+mod hand_tests;
 #[cfg(test)]
 mod hostile_tests;
 mod laws;
@@ -25,7 +29,9 @@ mod row_tests;
 mod serve;
 #[cfg(test)]
 mod solver_tests;
+mod solves;
 mod statuses;
+mod streams;
 #[cfg(test)]
 mod tests;
 #[cfg(test)]
@@ -39,3 +45,4 @@ pub use serve::run;
 pub use statuses::{
     BAD_INPUT, LIMIT, NO, NO_MEMORY, NO_ROUTE, NO_SOLVER, READ_FAULT, USAGE, WRITE_FAULT, WRITTEN,
 };
+pub use streams::run_on_streams;

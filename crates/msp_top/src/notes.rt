@@ -33,21 +33,21 @@ pub enum Note {
 }
 
 fn put_number<E: Sink>(notes: &mut E, number: u64) -> Result<(), WriteFault>
-    ensures { Puts (E.seen notes.old) (E.seen notes.new) (decimal number) result }
+    ensures { Puts (E.took notes.old notes.new) (E.broke notes.old notes.new) (decimal number) result }
 {
     let mut buffer = itoa::Buffer::new();
     write_all(notes, buffer.format(number).as_bytes())
 }
 
 fn put_numbered<E: Sink>(notes: &mut E, head: &[u8], number: u64) -> Result<(), WriteFault>
-    ensures { Puts (E.seen notes.old) (E.seen notes.new) (head.now ++ decimal number) result }
+    ensures { Puts (E.took notes.old notes.new) (E.broke notes.old notes.new) (head.now ++ decimal number) result }
 {
     write_all(notes, head)?;
     put_number(notes, number)
 }
 
 fn put_misspelled<E: Sink>(notes: &mut E, place: u64, fault: NameFault) -> Result<(), WriteFault>
-    ensures { Puts (E.seen notes.old) (E.seen notes.new) (misspelled_text place fault) result }
+    ensures { Puts (E.took notes.old notes.new) (E.broke notes.old notes.new) (misspelled_text place fault) result }
 {
     put_numbered(notes, b"usage: word ", place)?;
     write_all(notes, b": name: ")?;
@@ -60,7 +60,7 @@ fn put_misnumbered<E: Sink>(
     least: u64,
     greatest: u64,
 ) -> Result<(), WriteFault>
-    ensures { Puts (E.seen notes.old) (E.seen notes.new) (misnumbered_text place least greatest) result }
+    ensures { Puts (E.took notes.old notes.new) (E.broke notes.old notes.new) (misnumbered_text place least greatest) result }
 {
     put_numbered(notes, b"usage: word ", place)?;
     put_numbered(notes, b": not a number from ", least)?;
@@ -68,7 +68,7 @@ fn put_misnumbered<E: Sink>(
 }
 
 fn put_misfit<E: Sink>(notes: &mut E, misfit: Misfit) -> Result<(), WriteFault>
-    ensures { Puts (E.seen notes.old) (E.seen notes.new) (usage_note misfit) result }
+    ensures { Puts (E.took notes.old notes.new) (E.broke notes.old notes.new) (usage_note misfit) result }
 {
     match misfit {
         Misfit::Form => write_all(notes, b"usage: words fit no command"),
@@ -82,28 +82,28 @@ fn put_misfit<E: Sink>(notes: &mut E, misfit: Misfit) -> Result<(), WriteFault>
 }
 
 fn put_too_long<E: Sink>(notes: &mut E, limit: u64) -> Result<(), WriteFault>
-    ensures { Puts (E.seen notes.old) (E.seen notes.new) (too_long_text limit) result }
+    ensures { Puts (E.took notes.old notes.new) (E.broke notes.old notes.new) (too_long_text limit) result }
 {
     put_numbered(notes, b"more than ", limit)?;
     write_all(notes, b" bytes")
 }
 
 fn put_to_class<E: Sink>(notes: &mut E, head: &[u8], class: Class) -> Result<(), WriteFault>
-    ensures { Puts (E.seen notes.old) (E.seen notes.new) (head.now ++ name_of class) result }
+    ensures { Puts (E.took notes.old notes.new) (E.broke notes.old notes.new) (head.now ++ name_of class) result }
 {
     write_all(notes, head)?;
     write_all(notes, print(class).bytes())
 }
 
 fn put_not_solved<E: Sink>(notes: &mut E, class: Class) -> Result<(), WriteFault>
-    ensures { Puts (E.seen notes.old) (E.seen notes.new) (name_of class ++ codes " is not solved") result }
+    ensures { Puts (E.took notes.old notes.new) (E.broke notes.old notes.new) (name_of class ++ codes " is not solved") result }
 {
     write_all(notes, print(class).bytes())?;
     write_all(notes, b" is not solved")
 }
 
 fn put_cannot<E: Sink>(notes: &mut E, why: Cannot) -> Result<(), WriteFault>
-    ensures { Puts (E.seen notes.old) (E.seen notes.new) (cannot_text why) result }
+    ensures { Puts (E.took notes.old notes.new) (E.broke notes.old notes.new) (cannot_text why) result }
 {
     match why {
         Cannot::NoSolver { class } => put_to_class(notes, b"no solver for ", class),
@@ -115,7 +115,7 @@ fn put_cannot<E: Sink>(notes: &mut E, why: Cannot) -> Result<(), WriteFault>
 }
 
 fn put_uncertified<E: Sink>(notes: &mut E, why: Uncertified) -> Result<(), WriteFault>
-    ensures { Puts (E.seen notes.old) (E.seen notes.new) (uncertified_text why) result }
+    ensures { Puts (E.took notes.old notes.new) (E.broke notes.old notes.new) (uncertified_text why) result }
 {
     match why {
         Uncertified::NoCertificate { class } => put_to_class(notes, b"no certificate for ", class),
@@ -125,7 +125,7 @@ fn put_uncertified<E: Sink>(notes: &mut E, why: Uncertified) -> Result<(), Write
 }
 
 fn put_note<E: Sink>(notes: &mut E, note: &Note) -> Result<(), WriteFault>
-    ensures { Puts (E.seen notes.old) (E.seen notes.new) (note_text note.now) result }
+    ensures { Puts (E.took notes.old notes.new) (E.broke notes.old notes.new) (note_text note.now) result }
 {
     match note {
         Note::Usage(misfit) => put_misfit(notes, *misfit),
@@ -142,7 +142,7 @@ fn put_note<E: Sink>(notes: &mut E, note: &Note) -> Result<(), WriteFault>
 }
 
 fn put_line<E: Sink>(notes: &mut E, note: &Note) -> Result<(), WriteFault>
-    ensures { Puts (E.seen notes.old) (E.seen notes.new) (note_line (note_text note.now)) result }
+    ensures { Puts (E.took notes.old notes.new) (E.broke notes.old notes.new) (note_line (note_text note.now)) result }
 {
     write_all(notes, b"msp: ")?;
     put_note(notes, note)?;
@@ -151,7 +151,7 @@ fn put_line<E: Sink>(notes: &mut E, note: &Note) -> Result<(), WriteFault>
 
 /// Tells a note, as one line. A failure of `notes` changes nothing else.
 pub fn tell<E: Sink>(note: &Note, notes: &mut E)
-    ensures { IsTold (E.seen notes.old) (E.seen notes.new) (note_text note.now) }
+    ensures { IsTold (E.took notes.old notes.new) (E.broke notes.old notes.new) (note_text note.now) }
 {
     match put_line(notes, note) {
         Ok(()) | Err(WriteFault) => (),

@@ -15,7 +15,9 @@ use msp_gen::generate;
 use msp_instance::{Instance, Need};
 use msp_name::parse;
 use msp_route::GREATEST_ANSWER_MOMENT;
-use msp_schedule::{Frac, MOST_PIECES, Piece, Schedule, Solution, cost, first_break};
+use msp_schedule::{
+    Frac, GREATEST_CARRIED_UNIT, MOST_PIECES, Piece, Schedule, Solution, cost, first_break,
+};
 use msp_table::{Row, carries, goes};
 use std::alloc::Global;
 use std::process::Abort;
@@ -237,16 +239,19 @@ fn are_early(pieces: &[Piece]) -> bool
 
 /// Whether the schedule keeps the bounds of one that is brought back.
 #[tactic(auto, using(crate::proofs::RowJourneys::small_within, crate::proofs::RowJourneys::small_sized))]
-fn is_small(inst: &Instance, s: &Schedule) -> bool
+pub fn is_small(inst: &Instance, s: &Schedule) -> bool
     ensures within { IsTrue result → Within inst.now s.now }
     ensures sized { IsTrue result → IsSized inst.now s.now }
     ensures ends { IsTrue result → EndsBy GREATEST_ANSWER_MOMENT s.now }
 {
-    s.unit == UNIT && s.pieces.len() <= MOST_PIECES && are_early(s.pieces.as_slice())
+    1 <= s.unit
+        && s.unit <= GREATEST_CARRIED_UNIT
+        && s.pieces.len() <= MOST_PIECES
+        && are_early(s.pieces.as_slice())
 }
 
 /// Whether the schedule is feasible. On unrelated machines a class of cut jobs is not tried.
-fn is_feasible(inst: &Instance, s: &Schedule) -> bool
+pub fn is_feasible(inst: &Instance, s: &Schedule) -> bool
     requires inner { Inner inst.now }
     requires within { Within inst.now s.now }
     ensures { IsTrue result → Feasible inst.now s.now }
@@ -288,7 +293,7 @@ fn chain_of(alloc: Global, inst: &Instance, row: Row) -> Result<List<Row>, Fail>
 }
 
 /// The chain of the row of the number, which has to carry the instance.
-fn row_over(alloc: Global, inst: &Instance, number: u8) -> Result<List<Row>, Fail>
+pub fn row_over(alloc: Global, inst: &Instance, number: u8) -> Result<List<Row>, Fail>
     ensures { IfOk result (λ rows. IsChain inst.now rows) }
 {
     let row = Row::new(number).ok_or("no such row")?;
@@ -315,7 +320,7 @@ fn cost_of_journey(alloc: Global, inst: &Instance, number: u8) -> Result<Frac, F
     Ok(above.cost)
 }
 
-fn class_of(name: &str) -> Result<Class, Fail> {
+pub fn class_of(name: &str) -> Result<Class, Fail> {
     let text = name.as_bytes();
     if text.len() > 40 {
         return Err(Fail::new("the name is too long"));

@@ -409,7 +409,7 @@ const BEYOND: &[Case] = &[
 ];
 
 /// Two hundred drawn jobs of each class that has a solver: how the answer begins.
-const DRAWN: &[(&str, &[u8])] = &[
+pub const DRAWN: &[(&str, &[u8])] = &[
     (
         "1||sumwC",
         b"class 1||sumwC\njobs 200\nseed 1\nsolver smith\nrows 0\n",
@@ -537,6 +537,13 @@ fn two_hundred_jobs_of_each_class(rt: HostRuntime) -> Result<(), Fail> {
     for (class, front) in DRAWN {
         assert!(rt; begins(rt.alloc(), &["trial", class, "200", "1"], b"", front)?);
     }
+    Ok(())
+}
+
+#[test]
+fn four_hundred_jobs_on_unrelated_machines(rt: HostRuntime) -> Result<(), Fail> {
+    let front = b"class R||sumC\njobs 400\nseed 1\nsolver unrelated\nrows 0\n";
+    assert!(rt; begins(rt.alloc(), &["trial", "R||sumC", "400", "1"], b"", front)?);
     Ok(())
 }
 

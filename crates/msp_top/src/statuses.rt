@@ -2,7 +2,8 @@
 
 /// The report was written.
 pub const WRITTEN: u8 = 0;
-/// The report was written, and what it says is no: the results clash, or the checked schedule is not feasible or has another cost.
+/// The report was written, and what it says is no: the results clash, the checked schedule is not feasible or has another cost, or
+/// the certificate is not accepted.
 pub const NO: u8 = 1;
 /// The words fit no command.
 pub const USAGE: u8 = 2;
@@ -10,7 +11,7 @@ pub const USAGE: u8 = 2;
 pub const BAD_INPUT: u8 = 3;
 /// The input breaks a limit.
 pub const LIMIT: u8 = 4;
-/// There is no solver for the class of the instance, or its schedules are not checked.
+/// There is no solver or no certificate for the class of the instance, or its schedules are not checked.
 pub const NO_SOLVER: u8 = 5;
 /// The class that is named has no solver, or no chain leads to it.
 pub const NO_ROUTE: u8 = 6;

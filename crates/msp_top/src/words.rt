@@ -1,11 +1,13 @@
 // The words of a command line.
-ghost use Rattle.std.specs.Prelude.{◌≡◌, ◌↔◌, ℕ, ◌∷◌, ◌++◌, [], List as Items, map, string_bytes, IsTrue, IfOk, Ok};
+ghost use Rattle.std.specs.Prelude.{◌≡◌, ◌↔◌, ℕ, ◌∷◌, [], List as Items, map, string_bytes, IsTrue, IfOk};
+ghost use Rattle.std.specs.List.{AllZip};
 ghost use Rattle.msp_class.specs.declared.class.Class.{Class as ClassValue};
+ghost use Rattle.msp_top.specs.Commands.{Asks, IsNameWord};
+ghost use Rattle.msp_top.specs.Run.{spelled};
 ghost use Rattle.msp_top.specs.Usage.{name_then};
-ghost use Rattle.msp_top.specs.Words.{ReadsWords, ReadsName, ReadsNames, ReadsOneName, ReadsOption, ReadsAlone};
+ghost use Rattle.msp_top.specs.Words.{AsksForLabels, ReadsWords, ReadsName, AreNames, ReadsOneName, ReadsOption, ReadsAlone};
 
 use crate::command::{Command, Question, Request};
-use crate::refusal::Refusal;
 use crate::trial_words::read_trial;
 use msp_class::{Class, List, NoMemory};
 use msp_name::{NameFault, parse};
@@ -43,25 +45,14 @@ pub fn read_name(word: &str, place: u64) -> Result<Class, Misfit>
     }
 }
 
-/// The classes with one more behind them. Where memory was wanting before, it is wanting still.
-fn grown(classes: Result<List<Class>, NoMemory>, class: Class) -> Result<List<Class>, NoMemory>
-    ensures { IfOk result (λ all. (some : Items ClassValue) × (classes ≡ Ok some) × (all ≡ some ++ class ∷ [])) }
+/// Whether the words after `label` are names, and else the first that is none.
+fn check_names(names: &[String]) -> Result<(), Misfit>
+    ensures { AreNames (map string_bytes names.now) result }
 {
-    let mut classes = classes?;
-    classes.put(class)?;
-    Ok(classes)
-}
-
-/// The classes of the words after `label`. Want of memory is told only where all words are names.
-fn read_names(alloc: Global, names: &[String]) -> Result<List<Class>, Refusal>
-    ensures { ReadsNames (map string_bytes names.now) result }
-{
-    let mut classes = Ok(List::new(alloc));
     for k in 0..names.len() {
-        let class = read_name(names[k].as_str(), k as u64 + 2)?;
-        classes = grown(classes, class);
+        read_name(names[k].as_str(), k as u64 + 2)?;
     }
-    Ok(classes?)
+    Ok(())
 }
 
 /// The class of the word after `why`.
@@ -120,14 +111,12 @@ fn read_alone(word: &str, words: &[String]) -> Result<Request, Misfit>
 }
 
 /// What a first word and the words after it ask for.
-fn read_after(alloc: Global, word: &str, words: &[String]) -> Result<Request, Refusal>
+fn read_after(word: &str, words: &[String]) -> Result<Request, Misfit>
     ensures { ReadsWords (word.now ∷ map string_bytes words.now) result }
 {
     if word == "label" {
-        let classes = read_names(alloc, words)?;
-        return Ok(Request::Command(Command::Answer {
-            question: Question::Label { classes },
-        }));
+        check_names(words)?;
+        return Ok(Request::Labels);
     }
     if word == "why" {
         let class = read_one_name(words)?;
@@ -143,15 +132,41 @@ fn read_after(alloc: Global, word: &str, words: &[String]) -> Result<Request, Re
         let trial = read_trial(words)?;
         return Ok(Request::Trial(trial));
     }
-    Ok(read_alone(word, words)?)
+    read_alone(word, words)
 }
 
-/// What the words of a command line ask for.
-pub fn read_words(alloc: Global, words: &Vec<String>) -> Result<Request, Refusal>
-    ensures { ReadsWords (map string_bytes words.now.items) result }
+/// What the words of a command line ask for. It takes no memory, so words that fit no command take none.
+pub fn read_words(words: &Vec<String>) -> Result<Request, Misfit>
+    ensures { ReadsWords (spelled words.now) result }
 {
     if words.is_empty() {
-        return Err(Refusal::from(Misfit::Form));
+        return Err(Misfit::Form);
     }
-    read_after(alloc, words[0].as_str(), &words[1..])
+    read_after(words[0].as_str(), &words[1..])
+}
+
+/// The classes of names.
+fn classes_of(alloc: Global, names: &[String]) -> Result<List<Class>, NoMemory>
+    requires { (classes : Items ClassValue) × AllZip IsNameWord (map string_bytes names.now) classes }
+    ensures { IfOk result (λ classes. AllZip IsNameWord (map string_bytes names.now) classes) }
+{
+    let mut classes = List::new(alloc);
+    for k in 0..names.len() {
+        match read_name(names[k].as_str(), k as u64 + 2) {
+            Ok(class) => classes.put(class)?,
+            Err(_) => unreachable!(),
+        }
+    }
+    Ok(classes)
+}
+
+/// The command of words that ask for labels.
+pub fn label_command(alloc: Global, words: &Vec<String>) -> Result<Command, NoMemory>
+    requires { AsksForLabels (spelled words.now) }
+    ensures { IfOk result (λ command. Asks (spelled words.now) command) }
+{
+    let classes = classes_of(alloc, &words[1..])?;
+    Ok(Command::Answer {
+        question: Question::Label { classes },
+    })
 }

@@ -15,7 +15,7 @@ use Rattle.msp_schedule.specs.Cost.{cost_of, Best}
 use Rattle.msp_schedule.specs.Prices.{ArePrices, all_prices}
 use Rattle.msp_schedule.proofs.bounds.PriceBounds.{law_of_prices}
 use Rattle.msp_assign.specs.declared.assignment.Assignment.{Assignment}
-use Rattle.msp_assign.specs.Prices.{column_of, price_at, HasFreeColumn}
+use Rattle.msp_assign.specs.Prices.{IsAssigned, HasFreeColumn, column_of, price_at}
 use Rattle.msp_assign.proofs.Lists.{contained_or_not, at-Contains}
 use Rattle.msp_total.specs.declared.lay.Place.{Place}
 use Rattle.msp_total.specs.declared.positions.Positions.{Positions}
@@ -23,7 +23,7 @@ use Rattle.msp_total.specs.declared.unrelated.Chosen.{Chosen}
 use Rattle.msp_total.specs.Places.{no_place}
 use Rattle.msp_total.specs.Positions.{time_in, position_cost}
 use Rattle.msp_total.specs.Columns.{IsTableOf, IsPositioned, no_chosen, chosen_at, IsByColumn, IsPlaceOf, ArePlacesOf}
-use Rattle.msp_total.specs.Priced.{ArePricesOfBest, AreSmallPrices, KeepsPricesSmall}
+use Rattle.msp_total.specs.Priced.{ArePricesOfBest, TakePositions, AreSmallPrices, KeepsPricesSmall}
 use Rattle.msp_total.proofs.ColumnSteps.{HasColumn, by_column, machine_inside}
 use Rattle.msp_total.proofs.SortedLists.{sorted}
 use Rattle.msp_total.proofs.UnrelatedFacts.{IsUnrelatedInstance}
@@ -103,6 +103,25 @@ module _ (i : Instance) (h : IsUnrelatedInstance i) (p : Positions) (table : IsT
     best = λ t b. subst (λ x. cost_of i t ≡ t.unit *ℤ all_prices i row (λ m k. position (m * x + k))) table.jobs (best_is t b);
   }
 
+  -- ---- each job has a position of its own
+  abbrev at : ℕ → ℕ
+  at j = column_of a.column j
+
+  own_inside : (j : ℕ) → j < p.jobs → at j < p.jobs * p.machines
+  own_inside j l = placing.assigned.inside j 0 (omega (arith, l, placing.assigned.all))
+
+  own_time : (j : ℕ) → j < p.jobs → time_in p.machines p.times j (at j / p.jobs) ≡ (need_at i j (at j / p.jobs)).time
+  own_time j l = read_time i h p table j (at j / p.jobs) (omega (arith, l, table.jobs)) (omega (arith, machine_inside p.jobs p.machines (at j) (own_inside j l), table.machines))
+
+  own_cost : (j : ℕ) → j < p.jobs → row j +ℤ position (at j) ≡ pos ((at j % p.jobs + 1) * (need_at i j (at j / p.jobs)).time)
+  own_cost j l = placing.priced.exact j l ∙ ap (λ x. pos ((at j % p.jobs + 1) * x)) (own_time j l)
+
+  pub TakePositions-positioned : TakePositions i a
+  TakePositions-positioned = record {
+    assigned = subst₂ (λ x y. IsAssigned x (x * y) a.column) table.jobs table.machines placing.assigned;
+    exact = λ j l. subst (λ x. row j +ℤ position (at j) ≡ pos ((at j % x + 1) * (need_at i j (at j / x)).time)) table.jobs (own_cost j (omega (arith, l, table.jobs)));
+  }
+
   -- ---- how large they are
   module _ (most : ℕ) (short : (j m : ℕ) → j < length i.jobs → m < i.machines → (need_at i j m).time ≤ most) where
     some : 1 ≤ p.jobs
@@ -123,9 +142,6 @@ module _ (i : Instance) (h : IsUnrelatedInstance i) (p : Positions) (table : IsT
 
         time : time_in p.machines p.times j (c / p.jobs) ≤ most
         time = omega (arith, read_time i h p table j (c / p.jobs) (omega (arith, l, table.jobs)) (omega (arith, on, table.machines)), short j (c / p.jobs) (omega (arith, l, table.jobs)) (omega (arith, on, table.machines)))
-
-    own_inside : (j : ℕ) → j < p.jobs → column_of a.column j < p.jobs * p.machines
-    own_inside j l = placing.assigned.inside j 0 (omega (arith, l, placing.assigned.all))
 
     row_within : (j : ℕ) → j < p.jobs → (pos 0 ≤ℤ row j) × (row j ≤ℤ pos (p.jobs * most))
     row_within j l = by (row j) (position (column_of a.column j)) (position_cost p.jobs p.machines p.times j (column_of a.column j)) (position placing.zero.0) (position_cost p.jobs p.machines p.times j placing.zero.0) (pos (p.jobs * most))

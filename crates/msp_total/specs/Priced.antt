@@ -1,12 +1,12 @@
 -- What the prices of the jobs and positions on unrelated machines show.
-use Rattle.std.specs.Prelude.{◌≡◌, ℕ, ◌+◌, ◌*◌, ◌<◌, ◌≤◌, ℤ, length, ◌*ℤ◌, unsigned_abs}
+use Rattle.std.specs.Prelude.{◌≡◌, ℕ, ◌+◌, ◌*◌, ◌/◌, ◌%◌, ◌<◌, ◌≤◌, ℤ, pos, length, ◌+ℤ◌, ◌*ℤ◌, unsigned_abs}
 use Rattle.msp_instance.specs.declared.Instance.{Instance}
 use Rattle.msp_instance.specs.Instance.{need_at}
 use Rattle.msp_schedule.specs.declared.Schedule.{Schedule}
 use Rattle.msp_schedule.specs.Cost.{cost_of, Best}
 use Rattle.msp_schedule.specs.Prices.{ArePrices, all_prices}
 use Rattle.msp_assign.specs.declared.assignment.Assignment.{Assignment}
-use Rattle.msp_assign.specs.Prices.{price_at, HasFreeColumn}
+use Rattle.msp_assign.specs.Prices.{IsAssigned, HasFreeColumn, column_of, price_at}
 
 -- The price of the position on machine m that k jobs follow.
 abbrev pub position_price : Instance → Assignment → ℕ → ℕ → ℤ
@@ -19,6 +19,15 @@ pub record ArePricesOfBest (i : Instance) (a : Assignment) : Type 0 where
   pub fit : ArePrices i (price_at a.row_price) (position_price i a)
   pub free : HasFreeColumn (length i.jobs * i.machines) a
   pub best : (s : Schedule) → Best i s → cost_of i s ≡ s.unit *ℤ all_prices i (price_at a.row_price) (position_price i a)
+
+-- What the job costs at the position of the column: its time on the machine, once for itself and once for each job that follows it there.
+abbrev pub cost_at : Instance → ℕ → ℕ → ℤ
+cost_at i j c = pos ((c % length i.jobs + 1) * (need_at i j (c / length i.jobs)).time)
+
+-- Each job has a position of its own, and its price and that of the position are together what it costs there.
+pub record TakePositions (i : Instance) (a : Assignment) : Type 0 where
+  pub assigned : IsAssigned (length i.jobs) (length i.jobs * i.machines) a.column
+  pub exact : (j : ℕ) → j < length i.jobs → price_at a.row_price j +ℤ price_at a.column_price (column_of a.column j) ≡ cost_at i j (column_of a.column j)
 
 -- No price is larger, in size, than the longest time, as many times as there are jobs.
 pub record AreSmallPrices (i : Instance) (a : Assignment) (most : ℕ) : Type 0 where

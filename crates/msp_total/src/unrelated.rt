@@ -7,7 +7,7 @@ ghost use Rattle.msp_schedule.specs.Cost.{IsBest};
 ghost use Rattle.msp_route.specs.Bounds.{IsAnswer};
 ghost use Rattle.msp_assign.specs.Prices.{column_of};
 ghost use Rattle.msp_total.specs.Classes.{unrelated_class};
-ghost use Rattle.msp_total.specs.Priced.{ArePricesOfBest, KeepsPricesSmall};
+ghost use Rattle.msp_total.specs.Priced.{ArePricesOfBest, TakePositions, KeepsPricesSmall};
 ghost use Rattle.msp_total.specs.Columns.{IsTableOf, HasShortTimes, IsPositioned, IsByColumn, IsPlaceOf, ArePlacesOf};
 
 use crate::lay::{Place, lay};
@@ -128,33 +128,63 @@ fn places_of(alloc: Global, table: &Positions, chosen: &[Chosen]) -> Result<Vec<
     Ok(places)
 }
 
-/// A best schedule on unrelated machines: a least assignment of the jobs to positions, counted from each machine's end; a job that k
-/// others follow adds k + 1 times its time there (Horn 1973, Bruno, Coffman and Sethi 1974). The unit is 1.
-fn schedule_by_positions(alloc: Global, inst: &Instance) -> Result<Solution, NoMemory>
+/// The schedule of the jobs at their positions, with its cost. The unit is 1.
+fn solution_at(
+    alloc: Global,
+    inst: &Instance,
+    table: &Positions,
+    assignment: &Assignment,
+) -> Result<Solution, NoMemory>
     requires inner { Inner inst.now }
     requires class { inst.now.class ≡ unrelated_class }
+    requires table { IsTableOf inst.now table.now }
+    requires positions { IsPositioned table.now assignment.now }
     ensures best { IfOk result (λ s. IsBest inst.now s) }
     ensures bounds { IfOk result (λ s. IsAnswer inst.now s.schedule) }
 {
-    let table = positions_of(alloc, inst)?;
-    let assignment = assigned(alloc, &table)?;
     let chosen = by_column(alloc, assignment.column.as_slice())?;
-    let places = places_of(alloc, &table, chosen.as_slice())?;
+    let places = places_of(alloc, table, chosen.as_slice())?;
     let pieces = lay(alloc, places.as_slice())?;
     let schedule = Schedule { unit: 1, pieces };
     let cost = msp_schedule::cost(inst, &schedule);
     Ok(Solution { schedule, cost })
 }
 
-/// Prices of the jobs and of the positions of `Positions` that show what a best schedule costs. The greatest of the positions' is 0.
+/// A best schedule, and prices of the jobs and positions that show it.
+#[derive(Drop)]
+pub struct PricedSolution {
+    pub solution: Solution,
+    pub prices: Assignment,
+}
+
+/// A best schedule on unrelated machines, with the prices of `prices`, by one least assignment of the jobs to positions, counted from each
+/// machine's end; a job that k others follow adds k + 1 times its time there (Horn 1973, Bruno, Coffman and Sethi 1974).
+pub fn solve_with_prices(alloc: Global, inst: &Instance) -> Result<PricedSolution, NoMemory>
+    requires inner { Inner inst.now }
+    requires class { inst.now.class ≡ unrelated_class }
+    ensures best { IfOk result (λ s. IsBest inst.now s.solution) }
+    ensures bounds { IfOk result (λ s. IsAnswer inst.now s.solution.schedule) }
+    ensures prices { IfOk result (λ s. ArePricesOfBest inst.now s.prices) }
+    ensures positions { IfOk result (λ s. TakePositions inst.now s.prices) }
+    ensures small { IfOk result (λ s. KeepsPricesSmall inst.now s.prices) }
+{
+    let table = positions_of(alloc, inst)?;
+    let prices = assigned(alloc, &table)?;
+    let solution = solution_at(alloc, inst, &table, &prices)?;
+    Ok(PricedSolution { solution, prices })
+}
+
+/// The position of each job in a least assignment to `Positions`, and prices of the jobs and of all positions that show what a best
+/// schedule costs. The greatest of the positions' is 0.
 pub fn prices(alloc: Global, inst: &Instance) -> Result<Assignment, NoMemory>
     requires inner { Inner inst.now }
     requires class { inst.now.class ≡ unrelated_class }
     ensures best { IfOk result (ArePricesOfBest inst.now) }
+    ensures positions { IfOk result (TakePositions inst.now) }
     ensures small { IfOk result (KeepsPricesSmall inst.now) }
 {
-    let table = positions_of(alloc, inst)?;
-    assigned(alloc, &table)
+    let PricedSolution { prices, .. } = solve_with_prices(alloc, inst)?;
+    Ok(prices)
 }
 
 /// Finds a schedule of least total completion time on unrelated machines by a least assignment of jobs to positions (Horn 1973, Bruno,
@@ -178,6 +208,7 @@ impl Solver for Unrelated {
     }
 
     fn solve(&self, alloc: Global, inst: &Instance) -> Result<Solution, NoMemory> {
-        schedule_by_positions(alloc, inst)
+        let PricedSolution { solution, .. } = solve_with_prices(alloc, inst)?;
+        Ok(solution)
     }
 }

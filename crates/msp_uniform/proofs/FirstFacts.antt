@@ -109,7 +109,7 @@ module _ (t : Task) (k : IsTask t) (jobs machines : List ℕ) (a : IsAsked t job
           subst (λ ms. sum_by time (take i jobs) * t.speed ≤ t.work * sum_by speed ms) (sym (take_all i machines b))
           (le_trans (mul-le-mul_right t.speed (take-all time i jobs)) a.greatest.total)
 
-  module _ (x : Segment) (long : x.length ≡ t.work) (none : x.body.value.jobs.items ≡ replicate (length machines) n) (free : x.body.value.free.items ≡ machines) where
+  module _ (x : Segment) (long : x.length ≡ t.work) (none : x.body.value.jobs ≡ replicate (length machines) n) (free : x.body.value.free ≡ machines) where
     nothing : (i : ℕ) → i < m → job_on x i ≡ n
     nothing i l = ap (λ js. at js i) none ∙ get_or-replicate (length machines) i n 0 (omega (arith, l, many_machines))
 

@@ -7,12 +7,22 @@ use Rattle.std.proofs.lemmas.List.Sorted.{IsPermutation-refl, IsPermutation-sym,
 use Rattle.msp_class.proofs.Sums.{sum_by-cons, sum_by-append}
 use Rattle.msp_schedule.specs.declared.Piece.{Piece}
 use Rattle.msp_uniform.specs.declared.segments.Segment.{Segment}
-use Rattle.msp_uniform.specs.Rows.{piece_on, part_on, runs_from, runs, until, begun, latest_first, jobs_before, IsNextEnds}
+use Rattle.msp_uniform.specs.Rows.{piece_on, part_on, runs_from, runs, begun, jobs_before, IsNextEnds}
 use Rattle.msp_uniform.specs.Segments.{at, job_on}
 use Rattle.msp_uniform.proofs.RowFacts.{long}
 
 abbrev pub jobs_of : Segment → List ℕ
-jobs_of x = x.body.value.jobs.items
+jobs_of x = x.body.value.jobs
+
+-- the moment up to which a machine has the job j in segments from the moment t on
+abbrev pub until : ℕ → ℕ → ℕ → List Segment → ℕ
+until machine j t [] = t
+until machine j t (x ∷ xs) = cond (eqb (job_on x machine) j) (until machine j (t + long x) xs) t
+
+-- all pieces of m machines that begin at the moment t or later, the latest first
+abbrev pub latest_first : ℕ → ℕ → List ℕ → ℕ → List Segment → List Piece
+latest_first none m before t [] = []
+latest_first none m before t (x ∷ xs) = latest_first none m (jobs_of x) (t + long x) xs ++ begun none before (jobs_of x) t (λ i. until i (job_on x i) (t + long x) xs) m
 
 -- the pieces of one machine that begin at t or later, where it had the job j before
 abbrev own : ℕ → ℕ → ℕ → ℕ → List Segment → List Piece

@@ -25,3 +25,4 @@ pub mod DataFacts
 pub mod UniformAnswer
 pub mod UniformBest
 pub mod LatestFirst
+pub mod NumberFacts

@@ -34,7 +34,7 @@ job_at n i t (x ∷ xs) moment = cond (ltb moment (t + long x)) (job_on x i) (jo
 
 module _ (m n : ℕ) where
   abbrev Slice : Segment → Type 0
-  Slice x = IsSliceOf m n x.length x.body.value.jobs.items
+  Slice x = IsSliceOf m n x.length x.body.value.jobs
 
   -- two machines have different jobs
   job_at-once : (i k t moment : ℕ) (xs : List Segment) → i < k → k < m → All Slice xs → job_at n i t xs moment ≡ job_at n k t xs moment → job_at n i t xs moment ≡ n

@@ -40,17 +40,17 @@ module _ (m n : ℕ) (speed : ℕ → ℕ) (h r job length' : ℕ) (x y : Segmen
   abbrev machine : ℕ
   machine = place_at x r
 
-  machine_in : machine < length x.body.value.jobs.items
+  machine_in : machine < length x.body.value.jobs
   machine_in = subst (λ n. machine < n) (sym s.all) (s.machines r inside)
 
   job_there : job_on y machine ≡ job
-  job_there = ap (λ l. at l machine) t.jobs ∙ get_or-set_same x.body.value.jobs.items machine job 0 machine_in
+  job_there = ap (λ l. at l machine) t.jobs ∙ get_or-set_same x.body.value.jobs machine job 0 machine_in
 
   job_other : (i : ℕ) → i ≢ machine → job_on y i ≡ job_on x i
-  job_other i d = ap (λ l. at l i) t.jobs ∙ get_or-set_other x.body.value.jobs.items machine i job 0 d
+  job_other i d = ap (λ l. at l i) t.jobs ∙ get_or-set_other x.body.value.jobs machine i job 0 d
 
   place_is : (k : ℕ) → place_at y k ≡ place_at x (after r k)
-  place_is k = ap (λ l. at l k) t.free ∙ at-remove x.body.value.free.items r k (omega (arith, s.places, inside))
+  place_is k = ap (λ l. at l k) t.free ∙ at-remove x.body.value.free r k (omega (arith, s.places, inside))
 
   after_in : (k : ℕ) → k < h → after r k < suc h
   after_in k l = by (leb r k)
@@ -95,7 +95,7 @@ module _ (m n : ℕ) (speed : ℕ → ℕ) (h r job length' : ℕ) (x y : Segmen
   pub IsSegment-taken : 1 ≤ length' → IsSegment m n speed h y
   IsSegment-taken some = record {
     lasts = omega (arith, t.long, some);
-    all = ap length t.jobs ∙ length-set x.body.value.jobs.items machine job ∙ s.all;
+    all = ap length t.jobs ∙ length-set x.body.value.jobs machine job ∙ s.all;
     jobs = λ i l. elim (same_or_not i machine) [
       | inl e ↦ omega (arith, ap (job_on y) e, job_there, new)
       | inr d ↦ omega (arith, job_other i d, s.jobs i l)
@@ -107,7 +107,7 @@ module _ (m n : ℕ) (speed : ℕ → ℕ) (h r job length' : ℕ) (x y : Segmen
         | inr c ↦ job_other i d ∙ s.once i j l b (sym (job_other i d) ∙ e ∙ job_other j c)
       ]
     ];
-    places = omega (arith, ap length t.free, length-remove x.body.value.free.items r (omega (arith, s.places, inside)), s.places);
+    places = omega (arith, ap length t.free, length-remove x.body.value.free r (omega (arith, s.places, inside)), s.places);
     machines = λ k l. subst (λ p. p < m) (sym (place_is k)) (s.machines (after r k) (after_in k l));
     idle = λ k l. job_other (place_at y k) (subst (λ p. p ≢ machine) (sym (place_is k)) (distinct (after r k) r (after_in k l) inside (after_not k))) ∙ ap (job_on x) (place_is k) ∙ s.idle (after r k) (after_in k l);
     apart = λ q k l b. subst₂ (λ a c. a ≢ c) (sym (place_is q)) (sym (place_is k)) (s.apart (after r q) (after r k) (after_less q k l) (after_in k b));
@@ -128,14 +128,14 @@ module _ (m n : ℕ) (speed : ℕ → ℕ) (h r job length' : ℕ) (x y : Segmen
   pub rate_below : (k : ℕ) → k < r → rate_at speed k y ≡ rate_at speed k x
   rate_below k l = ap speed (place_is k ∙ by (leb r k) refl)
     where
-      by : (v : Bool) → leb r k ≡ v → at x.body.value.free.items (cond v (suc k) k) ≡ at x.body.value.free.items k
+      by : (v : Bool) → leb r k ≡ v → at x.body.value.free (cond v (suc k) k) ≡ at x.body.value.free k
       by true e = absurd (omega (arith, leb-true r k e))
       by false e = refl
 
   pub rate_above : (k : ℕ) → r ≤ k → rate_at speed k y ≡ rate_at speed (suc k) x
   rate_above k l = ap speed (place_is k ∙ by (leb r k) refl)
     where
-      by : (v : Bool) → leb r k ≡ v → at x.body.value.free.items (cond v (suc k) k) ≡ at x.body.value.free.items (suc k)
+      by : (v : Bool) → leb r k ≡ v → at x.body.value.free (cond v (suc k) k) ≡ at x.body.value.free (suc k)
       by true e = refl
       by false e = absurd (omega (arith, leb-false r k e))
 

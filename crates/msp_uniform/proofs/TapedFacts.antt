@@ -29,7 +29,7 @@ none_left : (rate : Segment → ℕ) (xs : List Segment) → All (λ x. 1 ≤ x.
 none_left rate [] h e = refl
 none_left rate (x ∷ xs) h e = absurd (omega (arith, e, sum_by-cons (λ y. y.length * rate y) x xs, All-head (λ y. 1 ≤ y.length * rate y) x xs h))
 
-slice_of : (m n h : ℕ) (speed : ℕ → ℕ) (x : Segment) → IsSegment m n speed h x → IsSliceOf m n x.length x.body.value.jobs.items
+slice_of : (m n h : ℕ) (speed : ℕ → ℕ) (x : Segment) → IsSegment m n speed h x → IsSliceOf m n x.length x.body.value.jobs
 slice_of m n h speed x s = record { lasts = s.lasts; all = s.all; inside = s.jobs; once = s.once }
 
 module _ (t : Task) (k : IsTask t) where
@@ -266,7 +266,7 @@ module _ (t : Task) (k : IsTask t) where
   pub IsFilled-end : (unit h : ℕ) (early late : List Segment) → IsTaped t [] unit h early late → IsFilled t unit (early ++ late)
   IsFilled-end unit h early late r = record {
     end = r.end;
-    slices = All-append (λ x. IsSliceOf m n x.length x.body.value.jobs.items) early late (All-weaker _ _ (slice_of m n h (at speeds)) early r.tape.each_early) (All-weaker _ _ (slice_of m n (h + 1) (at speeds)) late r.tape.each_late);
+    slices = All-append (λ x. IsSliceOf m n x.length x.body.value.jobs) early late (All-weaker _ _ (slice_of m n h (at speeds)) early r.tape.each_early) (All-weaker _ _ (slice_of m n (h + 1) (at speeds)) late r.tape.each_late);
     whole = joined (λ _. 1) ∙ r.tape.whole;
     done = λ j l. elim (r.tape.done j l) [
       | inl c ↦ absurd (nothing j c)

@@ -43,8 +43,8 @@ module _ (speeds : List ℕ) (h n : ℕ) (xs : List Segment) (each : All (IsSegm
     lengths_short k e l = omega (arith, short, mul-le-mul_left d (length-short xs k e l))
 
     module _ (ys : List Segment) (some : 1 ≤ d) (scaled : AreScaled d xs ys) where
-      pub fine_machines : All (λ x. length x.body.value.jobs.items ≡ length speeds) ys
-      fine_machines = All-scaled (IsSegment (length speeds) n (at speeds) h) (λ x. length x.body.value.jobs.items ≡ length speeds) d xs ys (λ x y s p. ap length p.jobs ∙ s.all) scaled each
+      pub fine_machines : All (λ x. length x.body.value.jobs ≡ length speeds) ys
+      fine_machines = All-scaled (IsSegment (length speeds) n (at speeds) h) (λ x. length x.body.value.jobs ≡ length speeds) d xs ys (λ x y s p. ap length p.jobs ∙ s.all) scaled each
 
       pub fine_places : (r : ℕ) → r + 1 < h → All (HasPlaces (length speeds) true r) ys
       fine_places r l = All-scaled (IsSegment (length speeds) n (at speeds) h) (HasPlaces (length speeds) true r) d xs ys (λ x y s p. has_both r (omega (arith, l)) y (IsSegment-part (length speeds) n (at speeds) h (x.length * d) x y p (positive x.length d s.lasts some) s)) scaled each

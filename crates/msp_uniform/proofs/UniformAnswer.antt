@@ -113,8 +113,8 @@ module _ (i : Instance) (class : i.class ≡ cut_class) (inner : Inner i) (t : T
       by (inl (a, b)) = read _ _ _ _ a b (work_is jobs all_in) (total_speed machines) (law_of_least_end.total i class s e h.some jobs machines by_time by_speed)
       by (inr (q, some, l, m, a, b)) = read _ _ _ _ a b (first_work q) (total_speed (take q machines)) (law_of_least_end.firsts i class s e h.some jobs machines by_time by_speed q (omega (arith, l, order_length i.machines (speed_of i) machines by_speed)) (omega (arith, m, order_length (length i.jobs) (time_at i) jobs by_time)))
 
-  pub slices : All (λ x. IsSliceOf i.machines (length i.jobs) x.length x.body.value.jobs.items) xs
-  slices = subst₂ (λ m n. All (λ x. IsSliceOf m n x.length x.body.value.jobs.items) xs) many_machines many_jobs f.slices
+  pub slices : All (λ x. IsSliceOf i.machines (length i.jobs) x.length x.body.value.jobs) xs
+  slices = subst₂ (λ m n. All (λ x. IsSliceOf m n x.length x.body.value.jobs) xs) many_machines many_jobs f.slices
 
   pub whole : sum_by (λ x. x.length) xs ≡ f.end
   whole = sum_by-same (λ x. x.length) (λ x. x.length * 1) xs (λ a d b. omega arith) ∙ f.whole

@@ -1,3 +1,4 @@
+pub mod Limits
 pub mod Uniform
 pub mod Quotients
 pub mod Prefixes

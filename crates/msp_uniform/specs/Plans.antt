@@ -101,8 +101,8 @@ pub record IsFirstPlan (t : Task) (machines : List ℕ) (unit h : ℕ) (xs : Lis
   pub unit_is : unit ≡ t.speed
   pub places : h ≡ length machines
   pub long : x.length ≡ t.work
-  pub jobs : x.body.value.jobs.items ≡ replicate (length machines) (length t.times.items)
-  pub free : x.body.value.free.items ≡ machines
+  pub jobs : x.body.value.jobs ≡ replicate (length machines) (length t.times.items)
+  pub free : x.body.value.free ≡ machines
 
 -- Some jobs are laid, and these are left.
 pub record IsReached (t : Task) (left : List ℕ) (unit h : ℕ) (xs : List Segment) : Type 0 where
@@ -149,7 +149,7 @@ pub record IsTaped (t : Task) (left : List ℕ) (unit h : ℕ) (early late : Lis
 -- All jobs are laid.
 pub record IsFilled (t : Task) (unit : ℕ) (xs : List Segment) : Type 0 where
   pub end : ℕ
-  pub slices : All (λ x. IsSliceOf (length t.speeds.items) (length t.times.items) x.length x.body.value.jobs.items) xs
+  pub slices : All (λ x. IsSliceOf (length t.speeds.items) (length t.times.items) x.length x.body.value.jobs) xs
   pub whole : amount (λ _. 1) xs ≡ end
   pub done : (j : ℕ) → j < length t.times.items → amount (job_rate (length t.speeds.items) (at t.speeds.items) j) xs ≡ unit * at t.times.items j
   pub within : IsWithin t unit end
@@ -157,7 +157,7 @@ pub record IsFilled (t : Task) (unit : ℕ) (xs : List Segment) : Type 0 where
 
 -- A place of the segments can be laid with a job that gains so much.
 pub record CanBeLaid (speeds : List ℕ) (place gain : ℕ) (xs : List Segment) : Type 0 where
-  pub machines : All (λ x. length x.body.value.jobs.items ≡ length speeds) xs
+  pub machines : All (λ x. length x.body.value.jobs ≡ length speeds) xs
   pub places : All (HasPlaces (length speeds) false place) xs
   pub short : All (λ x. x.length ≤ 10 ^ 25) xs
   pub gains : CanGain (rate_at (at speeds) place) gain xs

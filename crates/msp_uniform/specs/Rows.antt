@@ -16,8 +16,8 @@ part_on none machine j a b = if j == none then [] else piece_on machine j a b �
 abbrev pub runs_from : ℕ → ℕ → ℕ → ℕ → ℕ → List Segment → List Piece
 runs_from none machine j a t [] = part_on none machine j a t
 runs_from none machine j a t (x ∷ xs) =
-    if slice_index_or x.body.value.jobs.items machine 0 == j then runs_from none machine j a (t + x.length) xs
-    else part_on none machine j a t ++ runs_from none machine (slice_index_or x.body.value.jobs.items machine 0) t (t + x.length) xs
+    if slice_index_or x.body.value.jobs machine 0 == j then runs_from none machine j a (t + x.length) xs
+    else part_on none machine j a t ++ runs_from none machine (slice_index_or x.body.value.jobs machine 0) t (t + x.length) xs
 
 -- The pieces of the first machines.
 abbrev pub runs : ℕ → List Segment → ℕ → List Piece
@@ -31,11 +31,6 @@ pub record IsSliceOf (m n : ℕ) (long : ℕ) (jobs : List ℕ) : Type 0 where
   pub inside : (i : ℕ) → i < m → slice_index_or jobs i 0 ≤ n
   pub once : (i j : ℕ) → i < j → j < m → slice_index_or jobs i 0 ≡ slice_index_or jobs j 0 → slice_index_or jobs i 0 ≡ n
 
--- The moment up to which a machine has the job j in segments from the moment t on.
-abbrev pub until : ℕ → ℕ → ℕ → List Segment → ℕ
-until machine j t [] = t
-until machine j t (x ∷ xs) = if slice_index_or x.body.value.jobs.items machine 0 == j then until machine j (t + x.length) xs else t
-
 -- The pieces of the first machines that begin at the moment t, the last machine first: of those that have another job than before.
 abbrev pub begun : ℕ → List ℕ → List ℕ → ℕ → (ℕ → ℕ) → ℕ → List Piece
 begun none before jobs t ends zero = []
@@ -43,18 +38,11 @@ begun none before jobs t ends (suc m) =
     (if slice_index_or jobs m 0 == slice_index_or before m 0 then [] else part_on none m (slice_index_or jobs m 0) t (ends m))
     ++ begun none before jobs t ends m
 
--- All pieces of m machines that begin at the moment t or later, the latest first.
-abbrev pub latest_first : ℕ → ℕ → List ℕ → ℕ → List Segment → List Piece
-latest_first none m before t [] = []
-latest_first none m before t (x ∷ xs) =
-    latest_first none m x.body.value.jobs.items (t + x.length) xs
-    ++ begun none before x.body.value.jobs.items t (λ i. until i (slice_index_or x.body.value.jobs.items i 0) (t + x.length) xs) m
-
 -- The jobs before so many segments are over: those of the segment before, or none.
 abbrev pub jobs_before : List ℕ → List Segment → ℕ → List ℕ
 jobs_before idle xs zero = idle
 jobs_before idle [] (suc k) = idle
-jobs_before idle (x ∷ xs) (suc k) = jobs_before x.body.value.jobs.items xs k
+jobs_before idle (x ∷ xs) (suc k) = jobs_before x.body.value.jobs xs k
 
 -- The moment up to which each machine has the job that it had before.
 pub record IsNextEnds (before jobs : List ℕ) (t : ℕ) (old new : List ℕ) : Type 0 where

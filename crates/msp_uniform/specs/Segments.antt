@@ -9,18 +9,18 @@ abbrev pub at : List ℕ → ℕ → ℕ
 at xs k = slice_index_or xs k 0
 
 abbrev pub job_on : Segment → ℕ → ℕ
-job_on x m = at x.body.value.jobs.items m
+job_on x m = at x.body.value.jobs m
 
 abbrev pub place_at : Segment → ℕ → ℕ
-place_at x r = at x.body.value.free.items r
+place_at x r = at x.body.value.free r
 
 -- Of m machines h are free, the fastest first; the others have jobs below n, each a different one.
 pub record IsSegment (m n : ℕ) (speed : ℕ → ℕ) (h : ℕ) (x : Segment) : Type 0 where
   pub lasts : 1 ≤ x.length
-  pub all : length x.body.value.jobs.items ≡ m
+  pub all : length x.body.value.jobs ≡ m
   pub jobs : (i : ℕ) → i < m → job_on x i ≤ n
   pub once : (i j : ℕ) → i < j → j < m → job_on x i ≡ job_on x j → job_on x i ≡ n
-  pub places : length x.body.value.free.items ≡ h
+  pub places : length x.body.value.free ≡ h
   pub machines : (r : ℕ) → r < h → place_at x r < m
   pub idle : (r : ℕ) → r < h → job_on x (place_at x r) ≡ n
   pub apart : (q r : ℕ) → q < r → r < h → place_at x q ≢ place_at x r
@@ -32,14 +32,14 @@ IsAbsent m job x = (i : ℕ) → i < m → job_on x i ≢ job
 
 pub record IsPartOf (length : ℕ) (x y : Segment) : Type 0 where
   pub long : y.length ≡ length
-  pub jobs : y.body.value.jobs.items ≡ x.body.value.jobs.items
-  pub free : y.body.value.free.items ≡ x.body.value.free.items
+  pub jobs : y.body.value.jobs ≡ x.body.value.jobs
+  pub free : y.body.value.free ≡ x.body.value.free
 
 -- The job has taken the machine at a place.
 pub record IsTaken (job r length : ℕ) (x y : Segment) : Type 0 where
   pub long : y.length ≡ length
-  pub jobs : y.body.value.jobs.items ≡ slice_set x.body.value.jobs.items (place_at x r) job
-  pub free : y.body.value.free.items ≡ remove x.body.value.free.items r
+  pub jobs : y.body.value.jobs ≡ slice_set x.body.value.jobs (place_at x r) job
+  pub free : y.body.value.free ≡ remove x.body.value.free r
 
 -- The speed of the machine at a place, and the speed at which the job is done.
 abbrev pub rate_at : (ℕ → ℕ) → ℕ → Segment → ℕ
@@ -133,8 +133,8 @@ pub record IsOneLaid (swap : Bool) (speed : ℕ → ℕ) (job r whole left : ℕ
 
 -- The places at which a job is laid are there, and their machines are among the first m.
 abbrev pub HasPlaces : ℕ → Bool → ℕ → Segment → Type 0
-HasPlaces m true r x = (suc r < length x.body.value.free.items) × (place_at x r < m) × (place_at x (suc r) < m)
-HasPlaces m false r x = (r < length x.body.value.free.items) × (place_at x r < m)
+HasPlaces m true r x = (suc r < length x.body.value.free) × (place_at x r < m) × (place_at x (suc r) < m)
+HasPlaces m false r x = (r < length x.body.value.free) × (place_at x r < m)
 
 -- The first of late segments is laid: what is early grows by its first part, and its second part is late.
 pub record IsFirstLaid (speed : ℕ → ℕ) (job r whole left : ℕ) (x : Segment) (early late early' late' : List Segment) : Type 0 where

@@ -14,6 +14,7 @@ use Rattle.msp_schedule.specs.Feasible.{Feasible}
 use Rattle.msp_schedule.specs.Fraction.{IsOver}
 use Rattle.msp_schedule.specs.Rows.{time_at}
 use Rattle.msp_schedule.specs.Speeds.{speed_of}
+use Rattle.msp_uniform.specs.declared.unit.TheConstants.{GREATEST_PRODUCT}
 
 -- Uniform machines, preemption, neither precedence nor release dates, any times, and the greatest completion time: `Q|pmtn|Cmax`.
 abbrev pub cut_class : Class
@@ -28,7 +29,7 @@ sum xs = sum_by (λ x. x) xs
 
 -- The sum of the speeds, times the gap for each machine but one, times some common multiple of the speeds, is at most 10^13.
 abbrev pub HaveSmallUnit : List ℕ → ℕ → Type 0
-HaveSmallUnit speeds machines = (multiple : ℕ) × (1 ≤ multiple) × All (λ s. (times : ℕ) × (multiple ≡ times * s)) speeds × (sum speeds * gap speeds ^ (machines - 1) * multiple ≤ 10 ^ 13)
+HaveSmallUnit speeds machines = (multiple : ℕ) × (1 ≤ multiple) × All (λ s. (times : ℕ) × (multiple ≡ times * s)) speeds × (sum speeds * gap speeds ^ (machines - 1) * multiple ≤ GREATEST_PRODUCT)
 
 abbrev pub HasSmallUnit : Instance → Type 0
 HasSmallUnit i = HaveSmallUnit i.speeds i.machines

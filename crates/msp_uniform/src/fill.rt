@@ -1,34 +1,24 @@
 // All jobs are laid: the longest ones over two places each, the others one after another.
-ghost use Rattle.std.specs.Prelude.{◌≡◌, ◌<◌, ◌≤◌, length as len, replicate, All, IfOk};
+ghost use Rattle.std.specs.Prelude.{◌≡◌, ◌<◌, ◌≤◌, length as len, All, IfOk};
 ghost use Rattle.msp_uniform.specs.Plans.{IsTask, IsAsked, IsFirstPlan, IsFilled};
 
-use crate::segments::{Body, MACHINES, Segment};
+use crate::numbers::Numbers;
+use crate::segments::{Body, Segment};
 use crate::tape::lay_all;
 use crate::task::{Filled, Plan, Task};
 use crate::turns::take_turns;
-use arrayvec::ArrayVec;
 use msp_class::NoMemory;
 use std::alloc::Global;
 
-/// No job for each of the machines.
-pub(crate) fn no_jobs(machines: usize, none: u16) -> ArrayVec<u16, MACHINES>
-    requires { machines ≤ 32 }
-    ensures { result.items ≡ replicate machines none }
-{
-    let mut jobs = ArrayVec::from([none; MACHINES]);
-    jobs.truncate(machines);
-    jobs
-}
-
 /// The numbers of all machines, as segments hold them.
-fn all_free(machines: &[u32]) -> ArrayVec<u8, MACHINES>
+fn all_free(machines: &[u32]) -> Numbers
     requires few { len machines.now ≤ 32 }
     requires small { All (λ m. m < 256) machines.now }
-    ensures { result.items ≡ machines.now }
+    ensures { result ≡ machines.now }
 {
-    let mut free = ArrayVec::new();
+    let mut free = Numbers::same(0, 0);
     for machine in machines {
-        free.push(*machine as u8);
+        free.push(*machine as u16);
     }
     free
 }
@@ -40,7 +30,7 @@ fn first_plan(alloc: Global, task: &Task, machines: &[u32]) -> Result<Plan, NoMe
     requires small { All (λ m. m < 256) machines.now }
     ensures { IfOk result (λ p. IsFirstPlan task.now machines.now p.unit p.places p.segments.items) }
 {
-    let jobs = no_jobs(machines.len(), task.times.len() as u16);
+    let jobs = Numbers::same(task.times.len() as u16, machines.len());
     let free = all_free(machines);
     let body = Box::new(alloc, Body { jobs, free })?;
     let length = u128::from(task.work);

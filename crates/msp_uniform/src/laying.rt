@@ -33,18 +33,18 @@ pub(crate) fn gain_of(speeds: &[u64], segment: &Segment, place: usize, swap: boo
     ensures small { result ≤ GREATEST_SPEED }
     ensures inside { place < 32 }
 {
-    let rate = u128::from(speeds[usize::from(segment.body.free[place])]);
+    let rate = u128::from(speeds[usize::from(segment.body.free.at(place))]);
     if !swap {
         return rate;
     }
-    rate.saturating_sub(u128::from(speeds[usize::from(segment.body.free[place + 1])]))
+    rate.saturating_sub(u128::from(speeds[usize::from(segment.body.free.at(place + 1))]))
 }
 
 /// The second part: the job goes on at the next place, or the segment stays as it is.
 fn second_of(segment: Segment, length: u128, job: u32, place: usize, swap: bool) -> Segment
     requires job { job < 2 ^ 16 }
     requires inside { place < 32 }
-    requires places { HasPlaces (len segment.body.value.jobs.items) swap place segment }
+    requires places { HasPlaces (len segment.body.value.jobs) swap place segment }
     ensures long { result.length ≡ length }
     ensures part { IsSecond swap job place segment result }
 {
@@ -67,7 +67,7 @@ fn lay_one(
     left: u128,
 ) -> Result<Laid, NoMemory>
     requires job { job < 2 ^ 16 }
-    requires machines { len segment.body.value.jobs.items ≡ len speeds.now }
+    requires machines { len segment.body.value.jobs ≡ len speeds.now }
     requires places { HasPlaces (len speeds.now) swap place segment }
     requires speeds { All (λ s. s ≤ GREATEST_SPEED) speeds.now }
     requires short { segment.length ≤ 10 ^ 25 }
@@ -107,7 +107,7 @@ fn lay_first(
     left: u128,
 ) -> Result<u128, NoMemory>
     requires job { job < 2 ^ 16 }
-    requires machines { len segment.body.value.jobs.items ≡ len speeds.now }
+    requires machines { len segment.body.value.jobs ≡ len speeds.now }
     requires places { HasPlaces (len speeds.now) false place segment }
     requires speeds { All (λ s. s ≤ GREATEST_SPEED) speeds.now }
     requires short { segment.length ≤ 10 ^ 25 }
@@ -170,7 +170,7 @@ fn lay_both(
     left: u128,
 ) -> Result<u128, NoMemory>
     requires job { job < 2 ^ 16 }
-    requires machines { len segment.body.value.jobs.items ≡ len speeds.now }
+    requires machines { len segment.body.value.jobs ≡ len speeds.now }
     requires places { HasPlaces (len speeds.now) true place segment }
     requires speeds { All (λ s. s ≤ GREATEST_SPEED) speeds.now }
     requires short { segment.length ≤ 10 ^ 25 }
@@ -207,7 +207,7 @@ pub(crate) fn lay_over_all(
     gain: u128,
 ) -> Result<Parts, NoMemory>
     requires job { job < 2 ^ 16 }
-    requires machines { All (λ x. len x.body.value.jobs.items ≡ len speeds.now) segments.items }
+    requires machines { All (λ x. len x.body.value.jobs ≡ len speeds.now) segments.items }
     requires places { All (HasPlaces (len speeds.now) true place) segments.items }
     requires speeds { All (λ s. s ≤ GREATEST_SPEED) speeds.now }
     requires short { All (λ x. x.length ≤ 10 ^ 25) segments.items }

@@ -9,6 +9,7 @@ mod fill;
 mod filling;
 mod laws;
 mod laying;
+mod numbers;
 mod orders;
 mod pieces;
 mod quotient;
@@ -20,5 +21,5 @@ mod turns;
 mod uniform_cut;
 mod unit;
 
-pub use laws::law_of_least_end;
+pub use laws::{law_of_least_end, law_of_limits};
 pub use uniform_cut::UniformCut;

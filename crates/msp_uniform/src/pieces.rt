@@ -2,7 +2,7 @@
 ghost use Rattle.std.specs.Prelude.{◌≡◌, ◌<◌, ◌≤◌, ◌++◌, ◌^◌, length as len, slice_index_or, sum_by, All, IfOk, OnOk, IsPermutation};
 ghost use Rattle.msp_uniform.specs.Rows.{part_on, runs, begun, jobs_before as jobs_until, IsNextEnds};
 
-use crate::fill::no_jobs;
+use crate::numbers::Numbers;
 use crate::segments::Segment;
 use msp_class::{List, NoMemory};
 use msp_schedule::Piece;
@@ -102,11 +102,11 @@ pub(crate) fn pieces_of(
 ) -> Result<List<Piece>, NoMemory>
     requires none { none < 2 ^ 16 }
     requires few { machines ≤ 32 }
-    requires machines { All (λ x. len x.body.value.jobs.items ≡ machines) segments.now }
+    requires machines { All (λ x. len x.body.value.jobs ≡ machines) segments.now }
     requires short { sum_by (λ x. x.length) segments.now < 2 ^ 127 }
     ensures { IfOk result (λ pieces. IsPermutation (runs none segments.now machines) pieces) }
 {
-    let idle = no_jobs(machines as usize, none as u16);
+    let idle = Numbers::same(none as u16, machines as usize);
     let mut moment = whole_length(segments);
     let mut ends = vec![in alloc; moment; machines as usize]?;
     let mut pieces = List::new(alloc);

@@ -1,5 +1,5 @@
 -- The row of the jobs in the table's order is best, and in the form of an answer.
-use Rattle.std.proofs.Common.{◌≡◌, ◌≢◌, ℕ, ◌+◌, ◌*◌, ◌<◌, ◌≤◌, Bool, cond, not, List, [], ◌∷◌, ◌++◌, length, get_or, filter, map, ℤ, pos, nat_abs, ◌*ℤ◌, ◌≤ℤ◌, All, AllPairs, IsPermutation, sum_by, refl, sym, ap, ◌∙◌, subst, arith}
+use Rattle.std.proofs.Common.{◌≡◌, ◌≢◌, ℕ, ◌+◌, ◌*◌, ◌<◌, ◌≤◌, Bool, cond, not, List, [], ◌∷◌, ◌++◌, length, get_or, filter, map, ℤ, pos, nat_abs, ◌*ℤ◌, ◌≤ℤ◌, ◌<ℤ◌, All, AllPairs, IsPermutation, sum_by, refl, sym, ap, ◌∙◌, subst, arith}
 use Rattle.std.specs.List.{range_with_len}
 use native.Mathlib.Nat.{mul-le-mul_left}
 use Rattle.std.proofs.lemmas.List.Sums.{sum_by-append}
@@ -7,6 +7,7 @@ use Rattle.std.proofs.lemmas.List.Sorted.{IsPermutation-trans, IsPermutation-app
 use Rattle.msp_class.proofs.IntegerRing.{≤ℤ_of_same, ≤ℤ_trans, pos-le, *ℤ-one, one-*ℤ}
 use Rattle.msp_class.proofs.Sums.{OnceBelow, OnceBelow-from_permutation, OnceBelow-distinct, OnceBelow-contains, AllPairs-tail, sum_by-OnceBelow, sum_by-none, sum_by-mono, cond-no, cond-le}
 use Rattle.msp_instance.specs.declared.Instance.{Instance}
+use Rattle.msp_instance.specs.Instance.{no_job}
 use Rattle.msp_instance.specs.Conditions.{Inner}
 use Rattle.msp_schedule.specs.declared.Piece.{Piece}
 use Rattle.msp_schedule.specs.declared.Schedule.{Schedule}
@@ -21,13 +22,14 @@ use Rattle.msp_schedule.proofs.feasible.OneMachine.{IsPlan-from_feasible, last_e
 use Rattle.msp_schedule.proofs.feasible.OneRow.{piece_makes, ordered_without_arcs, row_is_feasible, row_is_settled, row_is_within}
 use Rattle.msp_schedule.proofs.costs.LateJobs.{due_at, is_late, not_late, OnTime, ends_on_time, on_time_in_a_row}
 use Rattle.msp_schedule.proofs.lists.DateOrder.{dates_rise}
-use Rattle.msp_schedule.proofs.lists.Parts.{All-front}
+use Rattle.msp_schedule.proofs.lists.Parts.{All-front, All-back}
 use Rattle.msp_route.specs.Bounds.{IsAnswer}
 use Rattle.msp_route.proofs.PlainJobs.{takes_time, is_short}
 use Rattle.msp_route.proofs.RowAnswer.{timed, released, row_is_answer}
-use Rattle.msp_weighted.specs.Late.{late_class, EndInTime, IsDueBefore, IsLateOrder}
+use Rattle.msp_weighted.specs.Late.{late_class, EndInTime, EndLate, IsDueBefore, IsLateOrder}
 use Rattle.msp_weighted.specs.Values.{weight_at, IsTableOrder}
 use Rattle.msp_weighted.proofs.LateCost.{IsLateInstance, IsLateInstance-from_class, late_weight, late_weight_cost, late_and_on_time}
+use Rattle.msp_weighted.proofs.LateBehind.{same_each, costs_weight, is_after, EndLate-behind}
 use Rattle.msp_weighted.proofs.SplitFacts.{split-permutation, split-pairs}
 
 pub all_in_order : (i : Instance) (order : List ℕ) → IsTableOrder i order → IsPermutation (range_with_len 0 (length i.jobs)) order
@@ -102,6 +104,23 @@ module _ (i : Instance) (h : IsLateInstance i) (order : List ℕ) (o : IsTableOr
       let most = o.most on_time (from_OnTime i 0 (filter on_time o.by_date) (on_time_in_a_row i h.plain.machine t f o.by_date dates.within (OnceBelow-distinct dates) sorted)) in
       omega (arith, most, late_and_on_time (is_late i t) (weight_at i) o.by_date, sum_by-OnceBelow (λ j. cond (is_late i t j) (weight_at i j) 0) dates, sum_by-OnceBelow (weight_at i) dates, sum_by-OnceBelow (weight_at i) once, ap (sum_by (weight_at i)) o.whole, sum_by-append (weight_at i) o.on_time o.late)
 
+  -- so each of the others is late
+  behind_within : All (λ j. j < length i.jobs) o.late
+  behind_within = All-back (λ j. j < length i.jobs) o.on_time o.late (subst (All (λ j. j < length i.jobs)) o.whole once.within)
+
+  others_weigh : All (λ j. mark j ≡ weight_at i j) o.late
+  others_weigh =
+      same_each mark (weight_at i) o.late (λ j. cond-le (is_late i (row_schedule i order) j) (weight_at i j))
+      (omega (arith, lower (row_schedule i order) row_feasible, sum_by-OnceBelow mark once, ap (sum_by mark) o.whole, sum_by-append mark o.on_time o.late, sum_by-none mark o.on_time chosen_on_time))
+
+  too_late : EndLate i (sum_by (time_at i) o.on_time) o.late
+  too_late = subst (λ n. EndLate i n o.late) (omega arith) (EndLate-behind i 0 o.on_time o.late distinct (λ k d l. past (get_or o.late k d) (behind_within k d l) (others_weigh k d l)))
+    where
+      past : (j : ℕ) → j < length i.jobs → mark j ≡ weight_at i j → due_at i j <ℤ pos (end_in (time_at i) 0 (o.on_time ++ o.late) j)
+      past j l w =
+          let after = is_after (pos 1 *ℤ due_at i j) (end_of (row_schedule i order) j) (costs_weight (is_late i (row_schedule i order) j) (weight_at i j) (h.heavy j no_job l) w) in
+          subst (λ e. due_at i j <ℤ e) (ends j l) (subst (λ d. d <ℤ end_of (row_schedule i order) j) (one-*ℤ (due_at i j)) after)
+
   beats : (t : Schedule) → Feasible i t → (cost_of i (row_schedule i order) *ℤ t.unit) ≤ℤ (cost_of i t *ℤ pos 1)
   beats t f =
       let unit = (IsPlan-from_feasible i h.plain.machine t f).unit in
@@ -120,6 +139,7 @@ module _ (i : Instance) (h : IsLateInstance i) (order : List ℕ) (o : IsTableOr
     whole = o.whole;
     by_date = split-pairs (IsDueBefore i) o.split o.sorted;
     in_time = o.in_time;
+    too_late = too_late;
     by_number = λ a b d l k. strict (get_or o.late a d) (get_or o.late b d) (apart a b d l k) (o.by_number a b d l k);
   }
     where

@@ -21,6 +21,7 @@ pub record IsLateInstance (i : Instance) : Type 0 where
   pub plain : IsPlain i
   pub arcs : i.arcs ≡ []
   pub light : All (λ j. j.weight ≤ 1000000000) i.jobs
+  pub heavy : All (λ j. 1 ≤ j.weight) i.jobs
 
 pub IsLateInstance-from_class : (i : Instance) → i.class ≡ late_class → Inner i → IsLateInstance i
 IsLateInstance-from_class i e h = record {
@@ -28,6 +29,7 @@ IsLateInstance-from_class i e h = record {
   plain = IsPlain-from i (ap (λ c. c.env) e) (ap (λ c. c.times) e) (ap (λ c. c.heads) e) h;
   arcs = subst (λ o. HasArcs o i.arcs) (ap (λ c. c.order) e) h.conditions.arcs;
   light = λ k d l. (subst (λ c. HasWeight (uses_weight c.crit) (get_or i.jobs k d).weight) e (h.conditions.jobs k d l).weight).1;
+  heavy = λ k d l. (subst (λ c. HasWeight (uses_weight c.crit) (get_or i.jobs k d).weight) e (h.conditions.jobs k d l).weight).0;
 }
 
 -- what the late jobs of a schedule weigh

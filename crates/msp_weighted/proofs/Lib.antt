@@ -1,10 +1,12 @@
 pub mod ValueFacts
 pub mod SplitFacts
 pub mod BitFacts
+pub mod ReachFacts
 pub mod RowFacts
 pub mod FilledFacts
 pub mod WalkFacts
 pub mod LateCost
+pub mod LateBehind
 pub mod LateBest
 pub mod DateKeys
 pub mod TableOrder

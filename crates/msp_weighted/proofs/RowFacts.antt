@@ -1,8 +1,10 @@
 -- One job is put into the table, from its latest end to its earliest.
-use Rattle.std.proofs.Common.{◌≡◌, ◌≢◌, ℕ, ◌+◌, ◌-◌, ◌<◌, ◌≤◌, false, cond, inl, inr, List, get_or, ℤ, pos, ◌≤ℤ◌, ◌<ℤ◌, refl, sym, ap, subst, ◌∙◌, arith}
+use Rattle.std.proofs.Common.{◌≡◌, ℕ, ◌+◌, ◌-◌, ◌<◌, ◌≤◌, false, cond, inl, inr, List, get_or, ℤ, pos, ◌≤ℤ◌, ◌<ℤ◌, refl, sym, ap, ◌∙◌, arith}
 use Rattle.std.specs.Prelude.{slice_index}
-use Rattle.std.proofs.lemmas.Bool.{cases_lt, cases_eq}
+use Rattle.std.proofs.lemmas.Bool.{cases_lt}
+use Rattle.msp_weighted.specs.declared.table.Entry.{Entry}
 use Rattle.msp_weighted.specs.Values.{is_better, gains, value_with, is_marked, IsPut}
+use Rattle.msp_weighted.specs.Steps.{is_gain, value_at, IsPutFrom}
 use Rattle.msp_weighted.proofs.ValueFacts.{gains-no, gains_early, gains_late, gains_inside, value_with-is}
 
 -- the moments from `end` on are done
@@ -33,51 +35,6 @@ module _ (time weight : ℕ) (due : ℤ) (row width : ℕ) (values marks : List 
     behind = λ m h. refl;
   }
 
-  pub row-next : (end moment : ℕ) (v m v' m' : List ℕ) → end ≡ moment + 1 → time ≤ moment → 0 < time
-      → IsRow time weight due row width end values marks v m
-      → get_or v' moment 0 ≡ cond (is_better weight (get_or v (moment - time) 0) (get_or v moment 0)) (get_or v (moment - time) 0 + weight) (get_or v moment 0)
-      → ((t : ℕ) → t ≢ moment → get_or v' t 0 ≡ get_or v t 0)
-      → is_marked m' (row + moment) ≡ is_better weight (get_or v (moment - time) 0) (get_or v moment 0)
-      → ((n : ℕ) → n ≢ row + moment → is_marked m' n ≡ is_marked m n)
-      → IsRow time weight due row width moment values marks v' m'
-  row-next end moment v m v' m' is l some h here others mark kept = record {
-    inside = omega (arith, h.inside, is);
-    early = λ t k. h.early t (omega (arith, k, is));
-    kept = λ t k. others t (λ e. absurd (omega (arith, k, e))) ∙ h.kept t (omega (arith, k, is));
-    done = λ t k n. elim (cases_eq t moment) as (λ _. get_or v' t 0 ≡ value_with time weight due (slice_index values) t) [
-      | inl e ↦ subst (λ x. get_or v' x 0 ≡ value_with time weight due (slice_index values) x) (sym e) now
-      | inr a ↦ others t a ∙ h.done t (later t k a) n
-    ];
-    marked = λ t k n. elim (cases_eq t moment) as (λ _. is_marked m' (row + t) ≡ gains time weight due (slice_index values) t) [
-      | inl e ↦ subst (λ x. is_marked m' (row + x) ≡ gains time weight due (slice_index values) x) (sym e) now_marked
-      | inr a ↦ kept (row + t) (λ e. a (same_place t moment row e)) ∙ h.marked t (later t k a) n
-    ];
-    clear = λ n a b. kept n (λ e. absurd (omega (arith, b, e))) ∙ h.clear n a (omega (arith, b, is));
-    before = λ n a. kept n (λ e. absurd (omega (arith, a, e))) ∙ h.before n a;
-    behind = λ n a. kept n (λ e. absurd (omega (arith, a, e, h.inside, is))) ∙ h.behind n a;
-  }
-    where
-      later : (t : ℕ) → moment ≤ t → t ≢ moment → end ≤ t
-      later t k a = elim (cases_lt t end) [ inl b ↦ absurd (a (omega (arith, b, k, is))) | inr b ↦ b ]
-
-      same_place : (t m r : ℕ) → r + t ≡ r + m → t ≡ m
-      same_place t m r e = omega arith
-
-      begin : get_or v (moment - time) 0 ≡ old (moment - time)
-      begin = h.kept (moment - time) (omega (arith, is))
-
-      stay : get_or v moment 0 ≡ old moment
-      stay = h.kept moment (omega (arith, is))
-
-      better : is_better weight (get_or v (moment - time) 0) (get_or v moment 0) ≡ gains time weight due old moment
-      better = ap (λ a. is_better weight a (get_or v moment 0)) begin ∙ ap (is_better weight (old (moment - time))) stay ∙ sym (gains_inside time weight due old moment l (h.early moment (omega (arith, is))))
-
-      now_marked : is_marked m' (row + moment) ≡ gains time weight due (slice_index values) moment
-      now_marked = mark ∙ better
-
-      now : get_or v' moment 0 ≡ value_with time weight due (slice_index values) moment
-      now = here ∙ ap (λ b. cond b (get_or v (moment - time) 0 + weight) (get_or v moment 0)) better ∙ ap (λ a. cond (gains time weight due old moment) (a + weight) (get_or v moment 0)) begin ∙ ap (cond (gains time weight due old moment) (old (moment - time) + weight)) stay ∙ sym (value_with-is time weight due old moment)
-
   pub row-end : (end : ℕ) (v m : List ℕ) → end ≤ time → IsRow time weight due row width end values marks v m → IsPut time weight due row width values marks v m
   row-end end v m l h = record {
     value = λ t n. elim (cases_lt t end) [
@@ -91,3 +48,36 @@ module _ (time weight : ℕ) (due : ℤ) (row width : ℕ) (values marks : List 
     before = h.before;
     behind = h.behind;
   }
+
+-- one more range of moments
+pub row-next : (e : Entry) (due : ℤ) (width first end : ℕ) (values marks v m v' m' : List ℕ) → e.time ≤ first → first ≤ end → 0 < e.time
+    → IsRow e.time e.weight due e.row width end values marks v m → IsPutFrom e first end v m v' m' → IsRow e.time e.weight due e.row width first values marks v' m'
+row-next e due width first end values marks v m v' m' l below some h p = record {
+  inside = omega (arith, h.inside, below);
+  early = λ t k. h.early t (omega (arith, k, below));
+  kept = λ t k. p.kept t (inl k) ∙ h.kept t (omega (arith, k, below));
+  done = λ t k n. elim (cases_lt t end) as (λ _. get_or v' t 0 ≡ value_with e.time e.weight due (slice_index values) t) [
+    | inl a ↦ p.value t k a ∙ now t k a
+    | inr a ↦ p.kept t (inr a) ∙ h.done t a n
+  ];
+  marked = λ t k n. elim (cases_lt t end) as (λ _. is_marked m' (e.row + t) ≡ gains e.time e.weight due (slice_index values) t) [
+    | inl a ↦ p.marked t k a ∙ gain t k a
+    | inr a ↦ p.others (e.row + t) (inr (omega (arith, a))) ∙ h.marked t a n
+  ];
+  clear = λ n a b. p.others n (inl b) ∙ h.clear n a (omega (arith, b, below));
+  before = λ n a. p.others n (inl (omega (arith, a))) ∙ h.before n a;
+  behind = λ n a. p.others n (inr (omega (arith, a, h.inside))) ∙ h.behind n a;
+}
+  where
+    begin : (t : ℕ) → first ≤ t → t < end → get_or v (t - e.time) 0 ≡ get_or values (t - e.time) 0
+    begin t k a = h.kept (t - e.time) (omega (arith, a))
+
+    gain : (t : ℕ) → first ≤ t → t < end → is_gain v e.time e.weight t ≡ gains e.time e.weight due (slice_index values) t
+    gain t k a = ap (λ x. is_better e.weight x (get_or v t 0)) (begin t k a) ∙ ap (is_better e.weight (get_or values (t - e.time) 0)) (h.kept t a) ∙ sym (gains_inside e.time e.weight due (slice_index values) t (omega (arith, k, l)) (h.early t a))
+
+    now : (t : ℕ) → first ≤ t → t < end → value_at v e.time e.weight t (is_gain v e.time e.weight t) ≡ value_with e.time e.weight due (slice_index values) t
+    now t k a =
+        ap (λ b. cond b (get_or v (t - e.time) 0 + e.weight) (get_or v t 0)) (gain t k a)
+        ∙ ap (λ x. cond (gains e.time e.weight due (slice_index values) t) (x + e.weight) (get_or v t 0)) (begin t k a)
+        ∙ ap (cond (gains e.time e.weight due (slice_index values) t) (get_or values (t - e.time) 0 + e.weight)) (h.kept t a)
+        ∙ sym (value_with-is e.time e.weight due (slice_index values) t)

@@ -31,7 +31,12 @@ abbrev pub EndInTime : Instance → ℕ → List ℕ → Type 0
 EndInTime i t [] = ⊤
 EndInTime i t (j ∷ js) = (pos (t + time_at i j) ≤ℤ (job_at i j).due) × EndInTime i (t + time_at i j) js
 
--- All jobs, each once: first those that end by their due dates, by due date, and then the others, by number.
+-- Each job of a row from the moment t on ends after its due date.
+abbrev pub EndLate : Instance → ℕ → List ℕ → Type 0
+EndLate i t [] = ⊤
+EndLate i t (j ∷ js) = ((job_at i j).due <ℤ pos (t + time_at i j)) × EndLate i (t + time_at i j) js
+
+-- All jobs, each once: first those that end by their due dates, by due date, and then the others, by number, which end after theirs.
 pub record IsLateOrder (i : Instance) (order : List ℕ) : Type 0 where
   pub on_time : List ℕ
   pub late : List ℕ
@@ -39,4 +44,5 @@ pub record IsLateOrder (i : Instance) (order : List ℕ) : Type 0 where
   pub whole : order ≡ on_time ++ late
   pub by_date : AllPairs (IsDueBefore i) on_time
   pub in_time : EndInTime i 0 on_time
+  pub too_late : EndLate i (sum_by (time_at i) on_time) late
   pub by_number : AllPairs (λ a b. a < b) late

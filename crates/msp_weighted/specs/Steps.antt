@@ -1,7 +1,8 @@
 -- The steps of the table and of the way back through it, in the words of the structs. No public contract cites this file.
-use Rattle.std.specs.Prelude.{◌≡◌, ℕ, ◌+◌, ◌-◌, ◌*◌, ◌^◌, ◌<◌, ◌≤◌, Bool, List, [], ◌∷◌, ◌++◌, length, slice_index, pos, ◌+ℤ◌, AllPairs, IsPermutation, if◌then◌else◌}
+use Rattle.std.specs.Prelude.{◌≡◌, ℕ, ◌+◌, ◌-◌, ◌*◌, ◌^◌, ◌<◌, ◌≤◌, ◌⊎◌, Bool, List, [], ◌∷◌, ◌++◌, length, slice_index, pos, ◌+ℤ◌, AllPairs, IsPermutation, if◌then◌else◌}
 use Rattle.msp_instance.specs.declared.Instance.{Instance}
 use Rattle.msp_instance.specs.Instance.{job_at}
+use Rattle.msp_weighted.specs.declared.table.Entry.{Entry}
 use Rattle.msp_weighted.specs.declared.table.Table.{Table}
 use Rattle.msp_weighted.specs.declared.walk.Choice.{Choice}
 use Rattle.msp_weighted.specs.Values.{is_better, is_marked, is_taken, values_of, IsFilled, IsChosen}
@@ -13,6 +14,13 @@ is_gain values time weight moment = is_better weight (slice_index values (moment
 -- The value at the moment with the job, or without it.
 abbrev pub value_at : List ℕ → ℕ → ℕ → ℕ → Bool → ℕ
 value_at values time weight moment gains = if gains then slice_index values (moment - time) + weight else slice_index values moment
+
+-- The job was put into the values at the moments from `first` on before `end`, and its marks say where.
+pub record IsPutFrom (e : Entry) (first end : ℕ) (values marks values' marks' : List ℕ) : Type 0 where
+  pub value : (t : ℕ) → first ≤ t → t < end → slice_index values' t ≡ value_at values e.time e.weight t (is_gain values e.time e.weight t)
+  pub kept : (t : ℕ) → (t < first) ⊎ (end ≤ t) → slice_index values' t ≡ slice_index values t
+  pub marked : (t : ℕ) → first ≤ t → t < end → is_marked marks' (e.row + t) ≡ is_gain values e.time e.weight t
+  pub others : (m : ℕ) → (m < e.row + first) ⊎ (e.row + end ≤ m) → is_marked marks' m ≡ is_marked marks m
 
 -- The values and the marks of all jobs of the list.
 abbrev pub IsTableOf : Instance → List ℕ → ℕ → Table → Type 0

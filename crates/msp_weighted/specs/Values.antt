@@ -44,6 +44,10 @@ is_taken i order k t = gains (time_at i (slice_index order k)) (weight_at i (sli
 unfoldable pub is_marked : List ℕ → ℕ → Bool
 is_marked words n = bit_at (slice_index words (n / 64)) (n % 64) == 1
 
+-- Of so many values each that is not 0 stands in a block of 64 that has a mark.
+abbrev pub AreReached : ℕ → List ℕ → List ℕ → Type 0
+AreReached width values reached = (t : ℕ) → t < width → is_marked reached (t / 64) ≡ false → slice_index values t ≡ 0
+
 -- A job was put into the values, and a row of marks says where.
 pub record IsPut (time weight : ℕ) (due : ℤ) (row width : ℕ) (values marks values' marks' : List ℕ) : Type 0 where
   pub value : (t : ℕ) → t < width → slice_index values' t ≡ value_with time weight due (slice_index values) t

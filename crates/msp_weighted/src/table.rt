@@ -1,11 +1,11 @@
 // The table: for each total time the greatest weight that is on time, and which jobs gave it.
-ghost use Rattle.std.specs.Prelude.{◌≡◌, ◌≢◌, ℕ, ◌+◌, ◌-◌, ◌*◌, ◌/◌, ◌<◌, ◌≤◌, false, length, pos, ◌≤ℤ◌, ◌<ℤ◌, slice_index, slice_index_or, All, IfOk};
+ghost use Rattle.std.specs.Prelude.{◌≡◌, ◌≢◌, ℕ, ◌+◌, ◌-◌, ◌*◌, ◌/◌, ◌<◌, ◌≤◌, true, false, length, pos, ◌≤ℤ◌, ◌<ℤ◌, slice_index, slice_index_or, All, IfOk};
 ghost use Rattle.msp_instance.specs.declared.ranges.TheConstants.{GREATEST, MOST_JOBS};
 ghost use Rattle.msp_instance.specs.Instance.{no_need};
-ghost use Rattle.msp_weighted.specs.Values.{is_marked, first_value, IsPut, IsFilled};
-ghost use Rattle.msp_weighted.specs.Steps.{is_gain, value_at, IsTableOf};
+ghost use Rattle.msp_weighted.specs.Values.{is_marked, first_value, AreReached, IsPut, IsFilled};
+ghost use Rattle.msp_weighted.specs.Steps.{is_gain, value_at, IsPutFrom, IsTableOf};
 
-use crate::bits::set_bit;
+use crate::bits::{is_set, set_bit};
 use msp_class::NoMemory;
 use msp_instance::{Instance, Job};
 use msp_route::first_time;
@@ -16,6 +16,14 @@ use std::alloc::Global;
 pub(crate) struct Table {
     pub(crate) values: Vec<u64>,
     pub(crate) marks: Vec<u64>,
+}
+
+/// A job as it is put into the table: its time, its weight, and where its row of marks begins.
+#[derive(Clone, Copy)]
+struct Entry {
+    time: usize,
+    weight: u64,
+    row: usize,
 }
 
 /// Raises the value at a moment where a job that ends there gives a greater one; whether it does.
@@ -36,29 +44,84 @@ fn improve(values: &mut [u64], time: usize, weight: u64, moment: usize) -> bool
     false
 }
 
-/// The same, and a mark where it does.
-fn put_at(
+/// The same, and marks where it does: one for the job, and one for the block of moments.
+fn put_at(values: &mut [u64], marks: &mut [u64], reached: &mut [u64], entry: Entry, moment: usize)
+    requires begins { entry.time ≤ moment }
+    requires inside { moment < length values.old }
+    requires small { slice_index values.old (moment - entry.time) ≤ GREATEST * MOST_JOBS }
+    requires light { entry.weight ≤ GREATEST }
+    requires row { entry.row ≤ GREATEST * MOST_JOBS }
+    requires room { (entry.row + moment) / 64 < length marks.old }
+    requires clear { is_marked marks.old (entry.row + moment) ≡ false }
+    requires blocks { length values.old ≤ 4096 * length reached.old }
+    requires reached { AreReached (length values.old) values.old reached.old }
+    ensures value { slice_index values.new moment ≡ value_at values.old entry.time entry.weight moment (is_gain values.old entry.time entry.weight moment) }
+    ensures others { (t : ℕ) → t ≢ moment → slice_index values.new t ≡ slice_index values.old t }
+    ensures mark { is_marked marks.new (entry.row + moment) ≡ is_gain values.old entry.time entry.weight moment }
+    ensures kept { (m : ℕ) → m ≢ entry.row + moment → is_marked marks.new m ≡ is_marked marks.old m }
+    ensures reached { AreReached (length values.old) values.new reached.new }
+{
+    if improve(values, entry.time, entry.weight, moment) {
+        set_bit(marks, entry.row + moment);
+        set_bit(reached, moment / 64);
+    }
+}
+
+/// Puts a job at moments from the last one to the first, so that it counts once.
+fn put_range(
     values: &mut [u64],
     marks: &mut [u64],
-    row: usize,
-    time: usize,
-    weight: u64,
-    moment: usize,
+    reached: &mut [u64],
+    entry: Entry,
+    first: usize,
+    end: usize,
 )
-    requires begins { time ≤ moment }
-    requires inside { moment < length values.old }
-    requires small { slice_index values.old (moment - time) ≤ GREATEST * MOST_JOBS }
-    requires light { weight ≤ GREATEST }
-    requires row { row ≤ GREATEST * MOST_JOBS }
-    requires room { (row + moment) / 64 < length marks.old }
-    requires clear { is_marked marks.old (row + moment) ≡ false }
-    ensures value { slice_index values.new moment ≡ value_at values.old time weight moment (is_gain values.old time weight moment) }
-    ensures others { (t : ℕ) → t ≢ moment → slice_index values.new t ≡ slice_index values.old t }
-    ensures mark { is_marked marks.new (row + moment) ≡ is_gain values.old time weight moment }
-    ensures kept { (m : ℕ) → m ≢ row + moment → is_marked marks.new m ≡ is_marked marks.old m }
+    requires time { 0 < entry.time }
+    requires begins { entry.time ≤ first }
+    requires some { first ≤ end }
+    requires inside { end ≤ length values.old }
+    requires small { (t : ℕ) → t < end → slice_index values.old t ≤ GREATEST * MOST_JOBS }
+    requires light { entry.weight ≤ GREATEST }
+    requires row { entry.row ≤ GREATEST * MOST_JOBS }
+    requires room { entry.row + end ≤ 64 * length marks.old }
+    requires clear { (m : ℕ) → entry.row + first ≤ m → m < entry.row + end → is_marked marks.old m ≡ false }
+    requires blocks { length values.old ≤ 4096 * length reached.old }
+    requires reached { AreReached (length values.old) values.old reached.old }
+    ensures put { IsPutFrom entry first end values.old marks.old values.new marks.new }
+    ensures reached { AreReached (length values.old) values.new reached.new }
 {
-    if improve(values, time, weight, moment) {
-        set_bit(marks, row + moment);
+    let mut moment = end;
+    while moment > first {
+        moment -= 1;
+        put_at(values, marks, reached, entry, moment);
+    }
+}
+
+/// Puts a job at the moments before `end` that it reaches from a block, where any value of the block is reached.
+fn put_block(
+    values: &mut [u64],
+    marks: &mut [u64],
+    reached: &mut [u64],
+    entry: Entry,
+    block: usize,
+    end: usize,
+)
+    requires time { 0 < entry.time }
+    requires block { end ≤ block * 64 + 64 + entry.time }
+    requires inside { end ≤ length values.old }
+    requires some { block * 64 + entry.time < end }
+    requires small { (t : ℕ) → t < end → slice_index values.old t ≤ GREATEST * MOST_JOBS }
+    requires light { entry.weight ≤ GREATEST }
+    requires row { entry.row ≤ GREATEST * MOST_JOBS }
+    requires room { entry.row + end ≤ 64 * length marks.old }
+    requires clear { (m : ℕ) → entry.row ≤ m → m < entry.row + end → is_marked marks.old m ≡ false }
+    requires blocks { length values.old ≤ 4096 * length reached.old }
+    requires reached { AreReached (length values.old) values.old reached.old }
+    ensures put { IsPutFrom entry (block * 64 + entry.time) end values.old marks.old values.new marks.new }
+    ensures reached { AreReached (length values.old) values.new reached.new }
+{
+    if is_set(reached, block) {
+        put_range(values, marks, reached, entry, block * 64 + entry.time, end);
     }
 }
 
@@ -74,25 +137,36 @@ fn moments_by(due: i64, width: usize) -> usize
     width.min(due as usize + 1)
 }
 
-/// Puts a job into the values, from its latest end to its earliest, so that it counts once; and marks its row of bits.
-fn put_job(values: &mut [u64], marks: &mut [u64], row: usize, time: usize, weight: u64, due: i64)
-    requires time { 0 < time }
+/// Puts a job into the values, from its latest end to its earliest, block by block; and marks its row of bits.
+fn put_job(values: &mut [u64], marks: &mut [u64], reached: &mut [u64], entry: Entry, due: i64)
+    requires time { 0 < entry.time }
     requires small { (t : ℕ) → t < length values.old → slice_index values.old t ≤ GREATEST * MOST_JOBS }
-    requires light { weight ≤ GREATEST }
-    requires row { row ≤ GREATEST * MOST_JOBS }
-    requires room { row + length values.old ≤ 64 * length marks.old }
-    requires clear { (m : ℕ) → row ≤ m → is_marked marks.old m ≡ false }
-    ensures { IsPut time weight due row (length values.old) values.old marks.old values.new marks.new }
+    requires width { length values.old ≤ GREATEST }
+    requires light { entry.weight ≤ GREATEST }
+    requires row { entry.row ≤ GREATEST * MOST_JOBS }
+    requires room { entry.row + length values.old ≤ 64 * length marks.old }
+    requires clear { (m : ℕ) → entry.row ≤ m → is_marked marks.old m ≡ false }
+    requires blocks { length values.old ≤ 4096 * length reached.old }
+    requires reached { AreReached (length values.old) values.old reached.old }
+    ensures put { IsPut entry.time entry.weight due entry.row (length values.old) values.old marks.old values.new marks.new }
+    ensures reached { AreReached (length values.old) values.new reached.new }
 {
     let mut end = moments_by(due, values.len());
-    while end > time {
-        end -= 1;
-        put_at(values, marks, row, time, weight, end);
+    while end > entry.time {
+        let block = (end - 1 - entry.time) / 64;
+        put_block(values, marks, reached, entry, block, end);
+        end = block * 64 + entry.time;
     }
 }
 
 /// Puts the jobs into the values, one after another.
-fn put_jobs(inst: &Instance, order: &[u32], values: &mut [u64], marks: &mut [u64])
+fn put_jobs(
+    inst: &Instance,
+    order: &[u32],
+    values: &mut [u64],
+    marks: &mut [u64],
+    reached: &mut [u64],
+)
     requires few { length order.now ≤ MOST_JOBS }
     requires jobs { All (λ j. j < length inst.now.jobs) order.now }
     requires needs { All (λ j. (0 < length j.needs) × (0 < (slice_index_or j.needs 0 no_need).time)) inst.now.jobs }
@@ -101,14 +175,20 @@ fn put_jobs(inst: &Instance, order: &[u32], values: &mut [u64], marks: &mut [u64
     requires room { length order.now * length values.old ≤ 64 * length marks.old }
     requires start { (t : ℕ) → t < length values.old → slice_index values.old t ≡ first_value t }
     requires clear { (m : ℕ) → is_marked marks.old m ≡ false }
+    requires blocks { length values.old ≤ 4096 * length reached.old }
+    requires reached { AreReached (length values.old) values.old reached.old }
     ensures { IsFilled inst.now order.now (length values.old) (length order.now) values.new marks.new }
 {
     let jobs = inst.jobs.as_slice();
     let width = values.len();
     for k in 0..order.len() {
         let job = &jobs[order[k] as usize];
-        let time = first_time(job) as usize;
-        put_job(values, marks, k * width, time, job.weight, job.due);
+        let entry = Entry {
+            time: first_time(job) as usize,
+            weight: job.weight,
+            row: k * width,
+        };
+        put_job(values, marks, reached, entry, job.due);
     }
 }
 
@@ -131,6 +211,16 @@ fn first_values(alloc: Global, width: usize) -> Result<Vec<u64>, NoMemory>
     Ok(values)
 }
 
+/// The blocks of 64 moments that are reached where there are no jobs: the first one.
+fn first_blocks(alloc: Global, width: usize) -> Result<Vec<u64>, NoMemory>
+    ensures room { IfOk result (λ reached. width ≤ 4096 * length reached.items) }
+    ensures first { IfOk result (λ reached. is_marked reached.items 0 ≡ true) }
+{
+    let mut reached = zeros(alloc, width / 4096 + 1)?;
+    set_bit(&mut reached, 0);
+    Ok(reached)
+}
+
 /// The table of the jobs in an order, for total times up to that of all jobs.
 pub(crate) fn table_of(
     alloc: Global,
@@ -150,7 +240,8 @@ pub(crate) fn table_of(
     let width = total as usize + 1;
     let mut values = first_values(alloc, width)?;
     let mut marks = zeros(alloc, order.len() * width / 64 + 1)?;
-    put_jobs(inst, order, &mut values, &mut marks);
+    let mut reached = first_blocks(alloc, width)?;
+    put_jobs(inst, order, &mut values, &mut marks, &mut reached);
     Ok(Table { values, marks })
 }
 

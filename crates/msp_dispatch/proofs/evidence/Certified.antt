@@ -1,5 +1,5 @@
 -- What certified solutions are made of: the report of a solver's answer, its class, and the proof of its cost.
-use Rattle.std.proofs.Common.{◌≡◌, ◌≢◌, ℕ, ◌^◌, ◌<◌, ◌≤◌, inl, List, [], ◌∷◌, get_or, Some, ℤ, pos, negsuc, nat_abs, ◌≤ℤ◌, unsigned_abs, refl, sym, ap, ◌∙◌, subst, arith}
+use Rattle.std.proofs.Common.{◌≡◌, ◌≢◌, ℕ, ◌^◌, ◌<◌, ◌≤◌, inl, List, [], ◌∷◌, get_or, Contains, Some, ℤ, pos, negsuc, nat_abs, ◌≤ℤ◌, unsigned_abs, refl, sym, ap, ◌∙◌, subst, arith}
 use Rattle.std.proofs.lemmas.Int.{ints}
 use Rattle.std.proofs.lemmas.List.{get_or-map}
 use Rattle.msp_class.specs.declared.class.Class.{Class}
@@ -24,7 +24,7 @@ use Rattle.msp_cert.proofs.Found.{found_within, found_holds}
 use Rattle.msp_dispatch.specs.declared.certify.Maker.{Maker}
 use Rattle.msp_dispatch.specs.declared.certify.Maker.TheVariants as maker
 use Rattle.msp_dispatch.specs.Dispatch.{IsReported}
-use Rattle.msp_dispatch.specs.Certify.{HasCertificate, FitsWhereWanted, KeepsTextLimits}
+use Rattle.msp_dispatch.specs.Certify.{HasCertificate, FitsWhereWanted, IsProofOf, KeepsTextLimits, found, searched_classes}
 use Rattle.msp_dispatch.specs.Shown.{class_of, FitsMaker, IsCertifiable, Certifies, IsTriedValue}
 use Rattle.msp_dispatch.proofs.evidence.Fractions.{IsNatural-lowest, whole_lowest, same_over}
 use Rattle.msp_dispatch.proofs.evidence.Found.{IsShort-within}
@@ -83,6 +83,9 @@ fits_by maker.Blocks i e h = λ f. absurd (other_class i.class _ cut_class e (λ
 pub IsCertifiable-made : (i : Instance) (m : Maker) → i.class ≡ class_of m → FitsMaker m i → IsCertifiable i
 IsCertifiable-made i m e h = record { listed = subst HasCertificate (sym e) (listed m); fits = fits_by m i e h }
 
+pub searched_class : (c d : Class) → c ≡ d → Contains searched_classes d → Contains searched_classes c
+searched_class c d e h = subst (Contains searched_classes) (sym e) h
+
 -- ---- the proof of the cost
 pub IsTriedValue-same : (i : Instance) (a b : Frac) → IsSameFraction a b → IsTriedValue i a → IsTriedValue i b
 IsTriedValue-same i a b same t = record {
@@ -100,12 +103,13 @@ IsComparable-tried i cost low t =
     let n = IsNatural-lowest cost t.value t.unit t.some t.over low in
     record { num = omega (arith, ap unsigned_abs n.num, n.num_small, t.value_small); den = omega (arith, ap unsigned_abs n.den, n.den_small, t.unit_small) }
 
-pub Certifies-found : (i : Instance) (cost : Frac) (p : Proof) → InClass i → IsLowest cost → IsTriedValue i cost → IsFound i cost (Some p) → Certifies i cost p
-Certifies-found i cost p c low t h =
+pub Certifies-found : (i : Instance) (cost : Frac) (p : Proof) → InClass i → Contains searched_classes i.class → IsLowest cost → IsTriedValue i cost → IsFound i cost (Some p) → Certifies i cost p
+Certifies-found i cost p c first low t h =
     let n = IsNatural-lowest cost t.value t.unit t.some t.over low in
     let short = IsShort-within i p c (found_within i cost p c h) in
     record {
       value = found_holds i cost p h;
+      own = found p first h;
       limits = record {
         num = (omega (arith, ints, n.num, n.num_small, t.value_small), omega (arith, ints, n.num, n.num_small, t.value_small));
         den = (cost.positive, omega (arith, ints, n.den, n.den_small, t.unit_small));
@@ -114,11 +118,12 @@ Certifies-found i cost p c low t h =
       };
     }
 
-pub Certifies-whole : (i : Instance) (s : Solution) (p : Proof) → IsReported i s → IsWholeValue i s p → Certifies i s.cost p
-Certifies-whole i s p r w =
+pub Certifies-whole : (i : Instance) (s : Solution) (p : Proof) → IsReported i s → IsWholeValue i s p → IsProofOf i s.cost p → Certifies i s.cost p
+Certifies-whole i s p r w is =
     let (num, den) = whole_lowest s.cost w.value w.cost r.lowest in
     record {
       value = record { holds = w.holds; num = w.value; den = 1; value = w.is; same = w.cost };
+      own = is;
       limits = record {
         num = (let l = w.small.0 in omega (arith, ints, num), let l = w.small.1 in omega (arith, ints, num));
         den = (s.cost.positive, omega (arith, ints, den));

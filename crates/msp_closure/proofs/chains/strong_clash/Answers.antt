@@ -5,5 +5,4 @@ use Rattle.msp_closure.proofs.WayLemmas.{none_any}
 use Rattle.msp_closure.proofs.chains.strong_clash.Goals as goal
 
 pub returns-clause-none : goal.returns-clause-none
-returns-clause-none c = none_any keeps_size _ _ _ _ c.way.result (c.deref-2.ensures.value ∙ c.in_ok-listed.ensures)
-    (c.deref.ensures.value ∙ c.in_ok-strong.ensures) c.way.ensures.way
+returns-clause-none c = none_any keeps_size _ _ _ _ c.way.result (c.deref.ensures.value ∙ c.in_ok-pseudo.ensures) c.in_ok-strong.ensures c.way.ensures

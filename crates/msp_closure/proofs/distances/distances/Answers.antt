@@ -10,28 +10,33 @@ use Rattle.msp_closure.proofs.distances.distances.Goals as goal
 
 pub passes-init : goal.passes-init
 passes-init c = (
-  IsLevel-start (allows c.args.rows) c.args.wanted.now c.in_ok-table.table c.in_ok-table.ensures.zero c.in_ok-table.ensures.far,
+  IsLevel-start (allows c.args.outlook.now.rows) c.args.outlook.now.starts.items c.args.wanted.now c.in_ok-table.table c.in_ok-table.ensures.zero
+      c.in_ok-table.ensures.far,
   omega (arith, far_count-most c.in_ok-table.table c.in_ok-table.ensures.len),
 )
 
 pub pass-requires-clause-inside : goal.pass-requires-clause-inside
 pass-requires-clause-inside c =
-    let P : List Link → Type 0 = AreLinks (allows c.args.rows) in
-    AreInside-links (allows c.args.rows) c.deref.result.now (subst P (sym c.deref.ensures.value) c.in_ok-links.ensures)
+    let P : List Link → Type 0 = AreLinks (allows c.args.outlook.now.rows) c.args.outlook.now.starts.items in
+    AreInside-links (allows c.args.outlook.now.rows) c.args.outlook.now.starts.items c.deref.result.now
+    (subst P (sym c.deref.ensures.value) c.requires.are_links)
 
 pub passes-preserved : goal.passes-preserved
 passes-preserved c =
     let small : c.passes.level + 1 < FAR = omega arith in
-    let P : List Link → Type 0 = AreLinks (allows c.args.rows) in
-    let advances = c.pass.ensures (allows c.args.rows) (subst P (sym c.deref.ensures.value) c.in_ok-links.ensures) in (
-      IsLevel-next (allows c.args.rows) c.args.wanted.now c.passes.table c.pass.new.table c.passes.level c.pass.result small c.passes.invariant.0 advances,
+    let P : List Link → Type 0 = AreLinks (allows c.args.outlook.now.rows) c.args.outlook.now.starts.items in
+    let advances = c.pass.ensures (allows c.args.outlook.now.rows) c.args.outlook.now.starts.items
+    (subst P (sym c.deref.ensures.value) c.requires.are_links) in (
+      IsLevel-next (allows c.args.outlook.now.rows) c.args.outlook.now.starts.items c.args.wanted.now c.passes.table c.pass.new.table c.passes.level
+          c.pass.result small c.passes.invariant.0 advances,
       omega (arith, c.passes.invariant.1, far_falls advances c.passes-test.true),
     )
 
 pub returns : goal.returns
 returns c =
     let small : c.passes.level + 1 < FAR = omega arith in
-    let P : List Link → Type 0 = AreLinks (allows c.args.rows) in
-    let advances = c.pass.ensures (allows c.args.rows) (subst P (sym c.deref.ensures.value) c.in_ok-links.ensures) in
-    AreDistances-quiet (allows c.args.rows) c.args.wanted.now c.passes.table c.pass.new.table c.passes.level c.pass.result small c.passes.invariant.0
-    advances c.passes-test.false (omega (arith, c.passes.invariant.1))
+    let P : List Link → Type 0 = AreLinks (allows c.args.outlook.now.rows) c.args.outlook.now.starts.items in
+    let advances = c.pass.ensures (allows c.args.outlook.now.rows) c.args.outlook.now.starts.items
+    (subst P (sym c.deref.ensures.value) c.requires.are_links) in
+    AreDistances-quiet (allows c.args.outlook.now.rows) c.args.outlook.now.starts.items c.args.wanted.now c.passes.table c.pass.new.table c.passes.level
+    c.pass.result small c.passes.invariant.0 advances c.passes-test.false (omega (arith, c.passes.invariant.1))

@@ -7,7 +7,8 @@ use Rattle.msp_closure.proofs.AdvanceLemmas.{IsLevel}
 use Rattle.msp_closure.proofs.distances.distances.Given as goal
 
 abbrev pub invariant-passes : goal.invariant-passes
-invariant-passes l = IsLevel (allows l.fn.rows) l.wanted l.table l.level × (l.level + far_count l.table ≤ CLASSES)
+invariant-passes l =
+    IsLevel (allows l.outlook.rows) l.outlook.starts.items l.wanted l.table l.level × (l.level + far_count l.table ≤ CLASSES)
 
 abbrev pub decreases-passes : goal.decreases-passes
 decreases-passes l = far_count l.table

@@ -1,12 +1,13 @@
 use Rattle.msp_instance.proofs.Limits.{Inner-from_class}
 use Rattle.msp_cert.specs.declared.Proof.TheVariants.{Segments}
 use Rattle.msp_dispatch.specs.declared.certify.Maker.TheVariants as maker
+use Rattle.msp_dispatch.specs.Certify.{segmented}
 use Rattle.msp_dispatch.proofs.evidence.Others.{IsWholeValue-segments}
 use Rattle.msp_dispatch.proofs.evidence.Certified.{IsCertifiable-made, Certifies-whole}
 use Rattle.msp_dispatch.proofs.certify.by_segments.Goals as goal
 
-pub segments-requires-clause-inner : goal.segments-requires-clause-inner
-segments-requires-clause-inner c = Inner-from_class c.args.inst.now c.requires.inside
+pub solve_with_segments-requires-clause-inner : goal.solve_with_segments-requires-clause-inner
+solve_with_segments-requires-clause-inner c = Inner-from_class c.args.inst.now c.requires.inside
 
 pub certified-requires-clause-class : goal.certified-requires-clause-class
 certified-requires-clause-class c = IsCertifiable-made c.args.inst.now maker.Lexical c.requires.class tt
@@ -16,5 +17,6 @@ certified-requires-clause-shown c =
     let i = c.args.inst.now in
     let s = c.reported-solution.result in
     let r = c.reported-solution.ensures.reported in
-    let h = c.in_ok-lists.ensures in
-    Certifies-whole i s (Segments c.in_ok-lists.lists) r (IsWholeValue-segments i c.requires.inside c.requires.class s r.best c.in_ok-lists.lists h.segments h.cost)
+    let lists = c.in_ok-solution.field-0.segments in
+    let h = c.in_ok-solution.ensures in
+    Certifies-whole i s (Segments lists) r (IsWholeValue-segments i c.requires.inside c.requires.class s r.best lists h.segments h.cost) (segmented lists c.requires.class h.segments h.cost)

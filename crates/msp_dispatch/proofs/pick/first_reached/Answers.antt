@@ -1,18 +1,14 @@
-use Rattle.std.proofs.Common.{subst, arith}
-use Rattle.std.specs.Prelude.{slice_get, IfNone, IfSome}
+use Rattle.std.proofs.Common.{None, subst}
+use Rattle.std.specs.Prelude.{Contains, IfNone, IfOk, IfSome}
+use Rattle.msp_class.specs.declared.class.Class.{Class}
 use Rattle.msp_table.specs.Rows.{carries}
 use Rattle.msp_table.specs.Chains.{Reaches}
-use Rattle.msp_dispatch.specs.Solved.{solved_list}
-use Rattle.msp_dispatch.proofs.Picks.{IsPick-first, none_led, places_next}
+use Rattle.msp_dispatch.specs.Pick.{IsPick}
+use Rattle.msp_dispatch.specs.Solved.{solved_classes}
 use Rattle.msp_dispatch.proofs.pick.first_reached.Goals as goal
 
-pub returns-in-Some-clause-pick : goal.returns-in-Some-clause-pick
-returns-in-Some-clause-pick c = IsPick-first c.args.from c.loop-place.place c.in_ok-pick.field-0 c.in-Some.pick c.in-Some.is c.in_ok-pick.ensures.pick c.loop-place.invariant
+pub returns-clause-pick : goal.returns-clause-pick
+returns-clause-pick c = subst (λ from. IfOk c.first_along.result (λ found. IfSome found (IsPick from None))) c.in_ok-routes.ensures c.first_along.ensures.pick
 
 pub returns-clause-none : goal.returns-clause-none
-returns-clause-none c = none_led c.args.from c.loop-place.place (omega (arith, c.loop-place-test.false)) c.loop-place.invariant
-
-pub loop-place-preserved : goal.loop-place-preserved
-loop-place-preserved c =
-    places_next (λ k. IfSome (slice_get solved_list k) (λ e. ¬ Reaches carries c.args.from e.class)) c.loop-place.place c.loop-place.invariant
-    (subst (λ o. IfNone o (IfSome (slice_get solved_list c.loop-place.place) (λ e. ¬ Reaches carries c.args.from e.class))) c.in_default.is c.in_ok-pick.ensures.none)
+returns-clause-none c = subst (λ from. IfOk c.first_along.result (λ found. IfNone found ((target : Class) → Contains solved_classes target → ¬ Reaches carries from target))) c.in_ok-routes.ensures c.first_along.ensures.none

@@ -1,6 +1,13 @@
-use Rattle.std.proofs.Common.{sym, ◌∙◌}
-use Rattle.msp_dispatch.proofs.Picks.{IsRoute-from_way}
+use Rattle.std.proofs.Common.{subst}
+use Rattle.std.specs.Prelude.{slice_get, IfNone, IfOk, IfSome}
+use Rattle.msp_table.specs.Rows.{carries}
+use Rattle.msp_table.specs.Chains.{Reaches}
+use Rattle.msp_dispatch.specs.Pick.{StandsAt, IsRoute}
+use Rattle.msp_dispatch.specs.Solved.{solved_list}
 use Rattle.msp_dispatch.proofs.pick.pick_at.Goals as goal
 
-pub returns-in-Some-2-clause-pick : goal.returns-in-Some-2-clause-pick
-returns-in-Some-2-clause-pick c = (sym c.entry_at.ensures ∙ c.in-Some.is, IsRoute-from_way c.args.from c.args.place c.in-Some.entry c.in_ok-route_to-in-Some.field-0 c.in-Some-2.chain c.in-Some-2.is (sym c.entry_at.ensures ∙ c.in-Some.is) c.in_ok-route_to-in-Some.ensures.way c.in_ok-route_to-in-Some.ensures.few)
+pub returns-clause-none : goal.returns-clause-none
+returns-clause-none c = subst (λ from. IfOk c.pick_along.result (λ found. IfNone found (IfSome (slice_get solved_list c.args.place) (λ e. ¬ Reaches carries from e.class)))) c.in_ok-routes.ensures c.pick_along.ensures.none
+
+pub returns-clause-pick : goal.returns-clause-pick
+returns-clause-pick c = subst (λ from. IfOk c.pick_along.result (λ found. IfSome found (λ p. StandsAt c.args.place p.entry × IsRoute from p))) c.in_ok-routes.ensures c.pick_along.ensures.pick

@@ -8,4 +8,4 @@ pub returns-in-TooLong : goal.returns-in-TooLong
 returns-in-TooLong g c = puts-along _ _ _ _ _ (sym (ap note_text c.in-TooLong.is)) c.put_too_long.ensures
 
 pub returns-in-CannotRead : goal.returns-in-CannotRead
-returns-in-CannotRead g c = puts-along _ _ _ _ _ (sym (ap note_text c.in-CannotRead.is)) c.write_all-in-CannotRead.ensures
+returns-in-CannotRead g c = puts-along _ _ _ _ _ (sym (ap note_text c.in-CannotRead.is)) c.write_all-in-CannotRead.ensures.put

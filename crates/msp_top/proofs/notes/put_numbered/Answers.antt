@@ -4,7 +4,7 @@ use Rattle.msp_top.proofs.PutsLemmas.{puts-exit, puts-then}
 use Rattle.msp_top.proofs.notes.put_numbered.Goals as goal
 
 pub returns-in_err-write_all : goal.returns-in_err-write_all
-returns-in_err-write_all g c = puts-exit _ _ _ c.args.head.now (decimal c.args.number) c.from_residual.result _ c.from_residual.ensures.1 c.in_err-write_all.ensures
+returns-in_err-write_all g c = puts-exit _ _ _ c.args.head.now (decimal c.args.number) c.from_residual.result _ c.from_residual.ensures.1 c.in_err-write_all.ensures.put
 
 pub returns : goal.returns
-returns g c = puts-then _ _ _ c.args.head.now (decimal c.args.number) _ _ c.in_ok-write_all.ensures c.put_number.ensures
+returns g c = puts-then g.met.E.Sink.lawful _ _ _ c.args.head.now (decimal c.args.number) _ _ c.in_ok-write_all.ensures.put c.put_number.ensures

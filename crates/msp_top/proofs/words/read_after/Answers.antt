@@ -3,16 +3,16 @@ use Rattle.std.proofs.Common.{◌∙◌, ◌∷◌, sym, string_bytes, map}
 use Rattle.std.proofs.lemmas.Slice.Eq.{bytes_eq-Decides}
 use Rattle.msp_top.specs.Words.{ReadsWords}
 use Rattle.msp_top.proofs.Exits.{exits}
-use Rattle.msp_top.proofs.WordLemmas.{reads_label, refuses_label, reads_why, refuses_why, reads_solve, refuses_solve, refuses_all}
+use Rattle.msp_top.proofs.WordLemmas.{reads_label, refuses_label, reads_why, refuses_why, reads_solve, refuses_solve, reads_all}
 use Rattle.msp_top.proofs.TrialWords.{reads_trial, refuses_trial}
 use Rattle.msp_top.proofs.words.read_after.Goals as goal
 
 pub returns-then-eq : goal.returns-then-eq
-returns-then-eq c = reads_label c.args.word.now (map string_bytes c.args.words.now) c.in_ok-classes.classes ((bytes_eq-Decides _ _).0 (sym c.eq.ensures ∙ c.if-eq.true)) c.in_ok-classes.ensures
+returns-then-eq c = reads_label c.args.word.now (map string_bytes c.args.words.now) ((bytes_eq-Decides _ _).0 (sym c.eq.ensures ∙ c.if-eq.true)) c.in_ok-check_names.ensures
 
-pub returns-in_err-classes : goal.returns-in_err-classes
-returns-in_err-classes c = exits _ (ReadsWords (c.args.word.now ∷ map string_bytes c.args.words.now)) c.from_residual.result c.from_residual.ensures.1
-    (λ why e. refuses_label c.args.word.now (map string_bytes c.args.words.now) c.in_err-classes.field-0.0 why ((bytes_eq-Decides _ _).0 (sym c.eq.ensures ∙ c.if-eq.true)) c.in_err-classes.ensures e)
+pub returns-in_err-check_names : goal.returns-in_err-check_names
+returns-in_err-check_names c = exits _ (ReadsWords (c.args.word.now ∷ map string_bytes c.args.words.now)) c.from_residual.result c.from_residual.ensures.1
+    (λ why e. refuses_label c.args.word.now (map string_bytes c.args.words.now) c.in_err-check_names.field-0.0 why ((bytes_eq-Decides _ _).0 (sym c.eq.ensures ∙ c.if-eq.true)) c.in_err-check_names.ensures e)
 
 pub returns-then-eq-2 : goal.returns-then-eq-2
 returns-then-eq-2 c = reads_why c.args.word.now (map string_bytes c.args.words.now) c.in_ok-class.class ((bytes_eq-Decides _ _).0 (sym c.eq-2.ensures ∙ c.if-eq-2.true)) c.in_ok-class.ensures
@@ -35,6 +35,5 @@ pub returns-in_err-trial : goal.returns-in_err-trial
 returns-in_err-trial c = exits _ (ReadsWords (c.args.word.now ∷ map string_bytes c.args.words.now)) c.from_residual-in_err-trial.result c.from_residual-in_err-trial.ensures.1
     (λ why e. refuses_trial c.args.word.now (map string_bytes c.args.words.now) c.in_err-trial.field-0.0 why ((bytes_eq-Decides _ _).0 (sym c.eq-4.ensures ∙ c.if-eq-4.true)) c.in_err-trial.ensures e)
 
-pub returns-in_err-read_alone : goal.returns-in_err-read_alone
-returns-in_err-read_alone c = exits _ (ReadsWords (c.args.word.now ∷ map string_bytes c.args.words.now)) c.from_residual-in_err-read_alone.result c.from_residual-in_err-read_alone.ensures.1
-    (λ why e. refuses_all c.args.word.now (map string_bytes c.args.words.now) c.in_err-read_alone.field-0.0 why (sym c.eq.ensures ∙ c.if-eq.false) (sym c.eq-2.ensures ∙ c.if-eq-2.false) (sym c.eq-3.ensures ∙ c.if-eq-3.false) (sym c.eq-4.ensures ∙ c.if-eq-4.false) c.in_err-read_alone.ensures e)
+pub returns : goal.returns
+returns c = reads_all c.args.word.now (map string_bytes c.args.words.now) c.read_alone.result (sym c.eq.ensures ∙ c.if-eq.false) (sym c.eq-2.ensures ∙ c.if-eq-2.false) (sym c.eq-3.ensures ∙ c.if-eq-3.false) (sym c.eq-4.ensures ∙ c.if-eq-4.false) c.read_alone.ensures

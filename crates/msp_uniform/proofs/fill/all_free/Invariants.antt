@@ -3,4 +3,4 @@ use Rattle.msp_uniform.proofs.fill.all_free.Given as goal
 
 -- the machines so far
 abbrev pub invariant-loop-machine : goal.invariant-loop-machine
-invariant-loop-machine l = l.free.items ≡ take l.machine-index l.machines
+invariant-loop-machine l = l.free ≡ take l.machine-index l.machines

@@ -9,6 +9,6 @@ returns c = let many : vec_len c.args.task.now.times ≡ length c.args.task.now.
   unit_is = c.from.ensures;
   places = refl;
   long = c.from-length.ensures;
-  jobs = ap (λ b. b.jobs.items) c.in_ok-body.ensures.ok ∙ c.no_jobs-jobs.ensures ∙ ap (replicate (length c.args.machines.now)) (c.len.ensures ∙ many);
-  free = ap (λ b. b.free.items) c.in_ok-body.ensures.ok ∙ c.all_free-free.ensures;
+  jobs = ap (λ b. b.jobs) c.in_ok-body.ensures.ok ∙ c.same-jobs.ensures ∙ ap (replicate (length c.args.machines.now)) (c.len.ensures ∙ many);
+  free = ap (λ b. b.free) c.in_ok-body.ensures.ok ∙ c.all_free-free.ensures;
 }

@@ -7,7 +7,7 @@ pub late-init : goal.late-init
 late-init c = IsLaying-start _ _ _ _ _ _ c.requires.late.gains
 
 pub lay_first-requires-clause-machines : goal.lay_first-requires-clause-machines
-lay_first-requires-clause-machines c = laying_next _ _ _ _ _ _ _ _ _ _ _ c.in-Some.ensures.items (omega (arith, c.late-test.true)) c.late.invariant (λ x. length x.body.value.jobs.items ≡ length c.args.speeds.now) c.requires.late.machines
+lay_first-requires-clause-machines c = laying_next _ _ _ _ _ _ _ _ _ _ _ c.in-Some.ensures.items (omega (arith, c.late-test.true)) c.late.invariant (λ x. length x.body.value.jobs ≡ length c.args.speeds.now) c.requires.late.machines
 
 pub lay_first-requires-clause-places : goal.lay_first-requires-clause-places
 lay_first-requires-clause-places c = laying_next _ _ _ _ _ _ _ _ _ _ _ c.in-Some.ensures.items (omega (arith, c.late-test.true)) c.late.invariant (HasPlaces (length c.args.speeds.now) false c.args.place) c.requires.late.places

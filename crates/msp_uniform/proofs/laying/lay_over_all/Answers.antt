@@ -7,7 +7,7 @@ pub segments-init : goal.segments-init
 segments-init c = AreLaidUpTo-start _ _ _ _ _ _ _ c.new-first.ensures.items c.new-second.ensures.items c.requires.gains
 
 pub lay_both-requires-clause-machines : goal.lay_both-requires-clause-machines
-lay_both-requires-clause-machines c = laid_next _ _ _ _ _ _ _ _ _ _ _ c.in-Some.ensures.items c.segments.invariant (λ x. length x.body.value.jobs.items ≡ length c.args.speeds.now) c.requires.machines
+lay_both-requires-clause-machines c = laid_next _ _ _ _ _ _ _ _ _ _ _ c.in-Some.ensures.items c.segments.invariant (λ x. length x.body.value.jobs ≡ length c.args.speeds.now) c.requires.machines
 
 pub lay_both-requires-clause-places : goal.lay_both-requires-clause-places
 lay_both-requires-clause-places c = laid_next _ _ _ _ _ _ _ _ _ _ _ c.in-Some.ensures.items c.segments.invariant (HasPlaces (length c.args.speeds.now) true c.args.place) c.requires.places

@@ -6,6 +6,6 @@ use Rattle.msp_uniform.proofs.pieces.jobs_before.Goals as goal
 pub returns : goal.returns
 returns c =
     let place : suc (c.args.place - 1) ≡ c.args.place = omega (arith, c.if-place-eq0.false) in
-    c.as_slice.ensures.value ∙ ap (λ b. b.jobs.items) c.deref.ensures
+    c.as_slice.ensures.value ∙ ap (λ b. b.jobs) c.deref.ensures
     ∙ sym (jobs_before_next c.args.idle.now c.args.segments.now (c.args.place - 1) c.index-segments-place.result (omega (arith, c.requires, place)))
     ∙ ap (jobs_until c.args.idle.now c.args.segments.now) place

@@ -9,8 +9,8 @@ use Rattle.msp_uniform.proofs.pieces.pieces_of.Goals as goal
 pub put_begun-requires-clause-before : goal.put_begun-requires-clause-before
 put_begun-requires-clause-before c =
     let p = length c.args.segments.now - 1 - c.loop-back.back in
-    let idle_is : c.as_slice.result.now ≡ replicate c.args.machines c.args.none = c.as_slice.ensures.value ∙ c.no_jobs-idle.ensures in
-    let jobs_are : c.as_slice-jobs.result.now ≡ jobs_of (get_or c.args.segments.now p c.index-segments-place.result) = c.as_slice-jobs.ensures.value ∙ ap (λ b. b.jobs.items) c.deref.ensures ∙ ap jobs_of c.index-segments-place.is in
+    let idle_is : c.as_slice.result.now ≡ replicate c.args.machines c.args.none = c.as_slice.ensures.value ∙ c.same-idle.ensures in
+    let jobs_are : c.as_slice-jobs.result.now ≡ jobs_of (get_or c.args.segments.now p c.index-segments-place.result) = c.as_slice-jobs.ensures.value ∙ ap (λ b. b.jobs) c.deref.ensures ∙ ap jobs_of c.index-segments-place.is in
     ap length c.jobs_before-before.ensures
     ∙ length_jobs_before c.args.machines c.as_slice.result.now c.args.segments.now p (ap length idle_is ∙ length-replicate c.args.machines c.args.none) c.requires.machines
     ∙ sym (ap length jobs_are ∙ c.requires.machines p c.index-segments-place.result (omega (arith, c.loop-back-test.true)))
@@ -19,8 +19,8 @@ pub loop-back-preserved : goal.loop-back-preserved
 loop-back-preserved c =
     let p = length c.args.segments.now - 1 - c.loop-back.back in
     let w = c.loop-back.invariant.walked in
-    let idle_is : c.as_slice.result.now ≡ replicate c.args.machines c.args.none = c.as_slice.ensures.value ∙ c.no_jobs-idle.ensures in
-    let jobs_are : c.as_slice-jobs.result.now ≡ jobs_of (get_or c.args.segments.now p c.index-segments-place.result) = c.as_slice-jobs.ensures.value ∙ ap (λ b. b.jobs.items) c.deref.ensures ∙ ap jobs_of c.index-segments-place.is in
+    let idle_is : c.as_slice.result.now ≡ replicate c.args.machines c.args.none = c.as_slice.ensures.value ∙ c.same-idle.ensures in
+    let jobs_are : c.as_slice-jobs.result.now ≡ jobs_of (get_or c.args.segments.now p c.index-segments-place.result) = c.as_slice-jobs.ensures.value ∙ ap (λ b. b.jobs) c.deref.ensures ∙ ap jobs_of c.index-segments-place.is in
     let all : length c.as_slice-jobs.result.now ≡ c.args.machines = ap length jobs_are ∙ c.requires.machines p c.index-segments-place.result (omega (arith, c.loop-back-test.true)) in
     let short : c.loop-back.moment - c.index-segments-place.result.length < 2 ^ 127 = omega (arith, w.moment, sum_by-take-le long c.args.segments.now (length c.args.segments.now - c.loop-back.back), c.requires.short) in
     record {

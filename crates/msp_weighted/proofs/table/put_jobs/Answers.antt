@@ -6,20 +6,30 @@ use Rattle.msp_weighted.proofs.FilledFacts.{filled-start, filled_small, filled_r
 use Rattle.msp_weighted.proofs.table.put_jobs.Goals as goal
 
 pub loop-k-init : goal.loop-k-init
-loop-k-init c = filled-start _ _ _ _ _ c.requires.start c.requires.clear
+loop-k-init c = record {
+  filled = filled-start _ _ _ _ _ c.requires.start c.requires.clear;
+  reached = c.requires.reached;
+  room = c.requires.blocks;
+}
 
 pub put_job-requires-clause-small : goal.put_job-requires-clause-small
 put_job-requires-clause-small c = λ t l.
     let light = weights_light c.args.inst.now c.args.order.now c.requires.light c.requires.jobs in
-    filled_small c.args.inst.now c.args.order.now (length c.args.values.now) c.loop-k.k c.loop-k-test.true c.loop-k.values c.loop-k.marks c.loop-k.invariant light c.requires.few t (omega (arith, l, c.loop-k.auto.values))
+    filled_small c.args.inst.now c.args.order.now (length c.args.values.now) c.loop-k.k c.loop-k-test.true c.loop-k.values c.loop-k.marks c.loop-k.invariant.filled light c.requires.few t (omega (arith, l, c.loop-k.auto.values))
 
 pub put_job-requires-clause-clear : goal.put_job-requires-clause-clear
-put_job-requires-clause-clear c = λ m l. c.loop-k.invariant.clear m (omega (arith, l))
+put_job-requires-clause-clear c = λ m l. c.loop-k.invariant.filled.clear m (omega (arith, l))
 
 pub put_job-requires-clause-room : goal.put_job-requires-clause-room
 put_job-requires-clause-room c =
     let room = row_room c.loop-k.k (length c.args.order.now) (length c.args.values.now) (64 * length c.args.marks.now) c.loop-k-test.true c.requires.room in
     omega (arith, room, c.loop-k.auto.values, c.loop-k.auto.marks)
+
+pub put_job-requires-clause-blocks : goal.put_job-requires-clause-blocks
+put_job-requires-clause-blocks c = omega (arith, c.loop-k.invariant.room, c.loop-k.auto.values)
+
+pub put_job-requires-clause-reached : goal.put_job-requires-clause-reached
+put_job-requires-clause-reached c = λ t l none. c.loop-k.invariant.reached t (omega (arith, l, c.loop-k.auto.values)) none
 
 pub loop-k-preserved : goal.loop-k-preserved
 loop-k-preserved c =
@@ -27,7 +37,12 @@ loop-k-preserved c =
     let within = c.requires.jobs c.loop-k.k 0 c.loop-k-test.true in
     let inside : get_or c.args.order.now c.loop-k.k 0 < length c.as_slice-jobs.result.now = omega (arith, within, ap length c.as_slice-jobs.ensures) in
     let job = read_job i c.as_slice-jobs.result.now (get_or c.args.order.now c.loop-k.k 0) c.index-jobs-order.result c.as_slice-jobs.ensures inside c.index-jobs-order.is in
-    filled_read i c.args.order.now (length c.args.values.now) c.loop-k.k c.loop-k-test.true c.loop-k.values c.loop-k.marks c.loop-k.invariant c.put_job.new.values c.put_job.new.marks _ _ _
-    (time_read i c.as_slice-jobs.result.now _ _ c.index-jobs-order.result c.as_slice-jobs.ensures within c.index-jobs-order.is c.first_time-time.ensures)
-    (ap (λ j. j.weight) job) (to_z-of_z w64 _ (search rules) ∙ ap (λ j. j.due) job)
-    (put_width _ _ _ _ _ _ _ _ _ _ c.loop-k.auto.values c.put_job.ensures)
+    record {
+      filled =
+          filled_read i c.args.order.now (length c.args.values.now) c.loop-k.k c.loop-k-test.true c.loop-k.values c.loop-k.marks c.loop-k.invariant.filled c.put_job.new.values c.put_job.new.marks _ _ _
+          (time_read i c.as_slice-jobs.result.now _ _ c.index-jobs-order.result c.as_slice-jobs.ensures within c.index-jobs-order.is c.first_time.ensures)
+          (ap (λ j. j.weight) job) (to_z-of_z w64 _ (search rules) ∙ ap (λ j. j.due) job)
+          (put_width _ _ _ _ _ _ _ _ _ _ c.loop-k.auto.values c.put_job.ensures.put);
+      reached = λ t l none. c.put_job.ensures.reached t (omega (arith, l, c.loop-k.auto.values)) none;
+      room = omega (arith, c.loop-k.invariant.room, c.put_job.auto.reached);
+    }

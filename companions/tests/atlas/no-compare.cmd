@@ -1,0 +1,1 @@
+atlas --classes 5

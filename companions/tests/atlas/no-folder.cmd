@@ -1,0 +1,1 @@
+atlas --part 3 --output nowhere/page.html

@@ -1,0 +1,1 @@
+atlas --compare mine.csv

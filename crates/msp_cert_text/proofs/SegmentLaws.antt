@@ -1,0 +1,57 @@
+-- Lists of jobs: a list that begins, and a job that comes to the last one.
+use Rattle.std.proofs.Common.{◌≡◌, ℕ, ◌+◌, List, [], ◌∷◌, ◌++◌, length, Ok, refl, sym, ap, ◌∙◌, append_assoc, append-nil, length-append, codes}
+use Rattle.std.proofs.lemmas.List.Concat.{flat_map-append}
+use Rattle.msp_grammar.specs.declared.lines.fault.FileFault.{FileFault}
+use Rattle.msp_grammar.specs.lines.Answers.{Fails}
+use Rattle.msp_grammar.specs.lines.Reading.{Place, ReadsMore, more_read, end_read, more_then, more_end}
+use Rattle.msp_cert_text.specs.CertificateText.{job_line, job_lines, segment_lines}
+use Rattle.msp_cert_text.specs.Reading.{with_job, segments_step}
+use Rattle.msp_grammar.specs.lines.Steps.{FailsBy}
+use Rattle.msp_grammar.proofs.reading.Readings.{more_fails, fails_on}
+
+pub with_job_last : (done : List (List ℕ)) (last : List ℕ) (j : ℕ) → with_job (done ++ last ∷ []) j ≡ done ++ (last ++ j ∷ []) ∷ []
+with_job_last [] last j = refl
+with_job_last (a ∷ []) last j = refl
+with_job_last (a ∷ b ∷ done) last j = ap (λ lists. a ∷ lists) (with_job_last (b ∷ done) last j)
+
+-- the lines of lists and of one more
+begun_lines : (names lists : List (List ℕ)) (jobs : List ℕ) → segment_lines names (lists ++ jobs ∷ []) ≡ segment_lines names lists ++ (codes "segment" ∷ []) ∷ job_lines names jobs
+begun_lines names lists jobs =
+    flat_map-append (λ (jobs : List ℕ). (codes "segment" ∷ []) ∷ job_lines names jobs) lists (jobs ∷ []) ∙ ap (λ more. segment_lines names lists ++ more) (append-nil ((codes "segment" ∷ []) ∷ job_lines names jobs))
+
+pub begin_lines : (names lists : List (List ℕ)) → segment_lines names (lists ++ [] ∷ []) ≡ segment_lines names lists ++ (codes "segment" ∷ []) ∷ []
+begin_lines names lists = begun_lines names lists []
+
+pub job_lines-push : (names : List (List ℕ)) (jobs : List ℕ) (j : ℕ) → job_lines names (jobs ++ j ∷ []) ≡ job_lines names jobs ++ job_line names j ∷ []
+job_lines-push names [] j = refl
+job_lines-push names (k ∷ jobs) j = ap (λ lines. job_line names k ∷ lines) (job_lines-push names jobs j)
+
+pub push_lines : (names done : List (List ℕ)) (last : List ℕ) (j : ℕ) → segment_lines names (with_job (done ++ last ∷ []) j) ≡ segment_lines names (done ++ last ∷ []) ++ job_line names j ∷ []
+push_lines names done last j =
+    ap (segment_lines names) (with_job_last done last j) ∙ begun_lines names done (last ++ j ∷ [])
+    ∙ ap (λ lines. segment_lines names done ++ (codes "segment" ∷ []) ∷ lines) (job_lines-push names last j)
+    ∙ sym (append_assoc (segment_lines names done) ((codes "segment" ∷ []) ∷ job_lines names last) (job_line names j ∷ []))
+    ∙ ap (λ lines. lines ++ job_line names j ∷ []) (sym (begun_lines names done last))
+
+pub begin_count : (names lists more : List (List ℕ)) → more ≡ lists ++ [] ∷ [] → length (segment_lines names more) ≡ length (segment_lines names lists) + 1
+begin_count names lists more e = ap (λ l. length (segment_lines names l)) e ∙ ap length (begin_lines names lists) ∙ length-append (segment_lines names lists) ((codes "segment" ∷ []) ∷ [])
+
+pub push_count : (names done more : List (List ℕ)) (last : List ℕ) (j : ℕ) → more ≡ with_job (done ++ last ∷ []) j → length (segment_lines names more) ≡ length (segment_lines names (done ++ last ∷ [])) + 1
+push_count names done more last j e = ap (λ l. length (segment_lines names l)) e ∙ ap length (push_lines names done last j) ∙ length-append (segment_lines names (done ++ last ∷ [])) (job_line names j ∷ [])
+
+pub ruleset count_rules = (begin_count, push_count)
+
+-- the first line
+pub first_then : (names lists : List (List ℕ)) (p q r : Place) → segments_step names [] p ≡ Ok (more_read ([] ∷ []) q) → ReadsMore (segments_step names) ([] ∷ []) q (Ok (lists, r)) → ReadsMore (segments_step names) [] p (Ok (lists, r))
+first_then names lists p q r step h = more_then [] ([] ∷ []) p q _ step h
+
+pub first_breaks : (names : List (List ℕ)) (p q : Place) (e : FileFault) → segments_step names [] p ≡ Ok (more_read ([] ∷ []) q) → FailsBy e (ReadsMore (segments_step names) ([] ∷ []) q) → FailsBy e (ReadsMore (segments_step names) [] p)
+first_breaks names p q e step h = fails_on e _ _ (λ r k. more_then [] ([] ∷ []) p q r step k) h
+
+pub first_ends : (names : List (List ℕ)) (p q : Place) → segments_step names [] p ≡ Ok (end_read [] q) → ReadsMore (segments_step names) [] p (Ok ([], q))
+first_ends names p q step = more_end [] [] p q _ step refl
+
+pub first_fails : (names : List (List ℕ)) (p : Place) (e : FileFault) → Fails e (segments_step names [] p) → FailsBy e (ReadsMore (segments_step names) [] p)
+first_fails names p e h = more_fails (segments_step names) [] p e h
+
+pub ruleset first_rules = (first_then, first_breaks, first_ends, first_fails)

@@ -1,0 +1,10 @@
+-- The goals of `take_head` that are proved by lemmas.
+use Rattle.std.proofs.Common.{arith, codes}
+use Rattle.msp_cert_text.specs.Reading.{head_at}
+use Rattle.msp_grammar.specs.lines.Steps.{place_of}
+use Rattle.msp_cert_text.proofs.ListedLaws.{numbers_stop}
+use Rattle.msp_cert_text.proofs.listed.take_head.Goals as goal
+
+pub returns-in-Err-clause-leads : goal.returns-in-Err-clause-leads
+returns-in-Err-clause-leads c =
+    numbers_stop head_at (codes "head") 0 c.args.heads.now c.args.names.now c.args.k c.args.k c.in-Some.name (place_of c.args.lines.now) c.in-Err.fault c.in-Some.ensures (omega (arith, c.requires.place)) c.in-Err.ensures

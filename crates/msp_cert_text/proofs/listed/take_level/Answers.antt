@@ -1,0 +1,10 @@
+-- The goals of `take_level` that are proved by lemmas.
+use Rattle.std.proofs.Common.{arith, codes, ◌+◌}
+use Rattle.msp_cert_text.specs.Reading.{level_at}
+use Rattle.msp_grammar.specs.lines.Steps.{place_of}
+use Rattle.msp_cert_text.proofs.ListedLaws.{numbers_stop}
+use Rattle.msp_cert_text.proofs.listed.take_level.Goals as goal
+
+pub returns-in-Err-clause-leads : goal.returns-in-Err-clause-leads
+returns-in-Err-clause-leads c =
+    numbers_stop level_at (codes "level") 1 c.args.levels.now c.args.names.now c.args.k (c.args.k + 1) c.in-Some.name (place_of c.args.lines.now) c.in-Err.fault c.in-Some.ensures (omega (arith, c.requires.place)) c.in-Err.ensures

@@ -1,0 +1,4 @@
+pub mod CertificateText
+pub mod Reading
+pub mod Steps
+pub mod Answers

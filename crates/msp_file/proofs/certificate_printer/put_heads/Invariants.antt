@@ -1,8 +1,0 @@
--- What holds in the loop of `put_heads`.
-use Rattle.std.proofs.Common.{◌≡◌, ◌++◌, drop, codes, decimal}
-use Rattle.msp_file.specs.CertificateText.{numbered_lines, lines_text}
-use Rattle.msp_file.proofs.certificate_printer.put_heads.Given as goal
-
--- what is written and what is still to be written are the whole
-abbrev pub invariant-jobs : goal.invariant-jobs
-invariant-jobs l = l.out.items ++ lines_text (numbered_lines (codes "head") decimal (drop l.at l.names) (drop l.at l.heads)) ≡ l.initial.out.items ++ lines_text (numbered_lines (codes "head") decimal l.names l.heads)

@@ -1,9 +1,0 @@
--- What holds in the loop of `put_rows`.
-use Rattle.std.proofs.Common.{◌≡◌, ◌++◌, drop, codes}
-use Rattle.std.specs.Fmt.{signed_decimal}
-use Rattle.msp_file.specs.CertificateText.{numbered_lines, lines_text}
-use Rattle.msp_file.proofs.certificate_printer.put_rows.Given as goal
-
--- what is written and what is still to be written are the whole
-abbrev pub invariant-jobs : goal.invariant-jobs
-invariant-jobs l = l.out.items ++ lines_text (numbered_lines (codes "row") signed_decimal (drop l.at l.names) (drop l.at l.row)) ≡ l.initial.out.items ++ lines_text (numbered_lines (codes "row") signed_decimal l.names l.row)

@@ -1,6 +1,0 @@
--- The goals of `texts_are_read_one_way` that are proved by lemmas.
-use Rattle.msp_file.proofs.Readings.{reads_same}
-use Rattle.msp_file.proofs.read.texts_are_read_one_way.Goals as goal
-
-pub returns : goal.returns
-returns c = reads_same

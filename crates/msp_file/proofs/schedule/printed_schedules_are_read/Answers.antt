@@ -1,6 +1,0 @@
--- The goals of `printed_schedules_are_read` that are proved by lemmas.
-use Rattle.msp_file.proofs.ScheduleLaws.{printed_again}
-use Rattle.msp_file.proofs.schedule.printed_schedules_are_read.Goals as goal
-
-pub returns : goal.returns
-returns c = printed_again

@@ -1,6 +1,0 @@
--- The goals of `schedules_are_read_one_way` that are proved by lemmas.
-use Rattle.msp_file.proofs.Readings.{schedule_same}
-use Rattle.msp_file.proofs.schedule.schedules_are_read_one_way.Goals as goal
-
-pub returns : goal.returns
-returns c = schedule_same

@@ -1,0 +1,4 @@
+pub mod Endings
+pub mod LineFaults
+pub mod Readings
+pub mod ScheduleLaws

@@ -1,0 +1,106 @@
+-- The faults of the lines of a schedule.
+use Rattle.std.proofs.Common.{◌≡◌, ℕ, ap, sym, Bool, true, false, ◌==◌, List, [], length, Result, Ok, Err, bytes_eq, codes, ℤ, nat_lt, subst}
+use Rattle.msp_instance.specs.declared.ranges.TheConstants.{MOST_MACHINES}
+use Rattle.msp_class.specs.declared.environments.TheConstants.{MOST_OPERATIONS}
+use Rattle.msp_schedule.specs.declared.limits.TheConstants.{MOST_PIECES}
+use Rattle.msp_schedule.specs.declared.Piece.{Piece}
+use Rattle.msp_file.specs.declared.schedule.read.Stated.{Stated}
+use Rattle.msp_file.specs.schedule.Reading.{title_at, cost_at, unit_at, moment_at, span_at, place_at, piece_at, piece_line_at, piece_step, IsStatedAs, ReadsPieces, ReadsStated, ReadsSchedule}
+use Rattle.msp_file.specs.schedule.Answers.{IsScheduleFault}
+use Rattle.msp_grammar.specs.declared.lines.fault.FileFault.{FileFault}
+use Rattle.msp_grammar.specs.declared.lines.fault.FileFault.TheVariants.{Class as ClassBroken, Cycle, Memory, After, Head, Missing, Cut, Line, Count, Key, Name, Number, Limit, Again, ArcAgain, Unknown}
+use Rattle.msp_grammar.specs.declared.lines.fault.What.TheVariants as what
+use Rattle.msp_grammar.specs.lines.Reading.{first_of, others_of, ◌>>=◌, provided, Place, line_at, fields_of, all_of}
+use Rattle.msp_grammar.proofs.reading.LineFaults.{IsPlainFault, IsPlain, fine, bad, chain, given, either, line_plain, word_plain, natural_plain, ordinal_plain, number_line_plain, known_plain, end_plain, more, then_in, cost_plain}
+
+unit : (p : Place) → IsPlain (unit_at p)
+unfolding unit_at
+unit p = chain _ _ (number_line_plain _ _ _ p) (λ u. fine _)
+
+moment : (at : ℕ) (w : List ℕ) → IsPlain (moment_at at w)
+unfolding moment_at
+moment at w = chain _ _ (natural_plain at _ 0 _ w) (λ m. fine _)
+
+span : (at : ℕ) (fields : List (List ℕ)) → IsPlain (span_at at fields)
+unfolding span_at
+span at fields = chain _ _ (moment at _) (λ from. chain _ _ (moment at _) (λ to. fine _))
+
+piece_place : (at : ℕ) (fields : List (List ℕ)) → IsPlain (place_at at fields)
+unfolding place_at
+piece_place at fields = chain _ _ (ordinal_plain at _ MOST_OPERATIONS _) (λ op. chain _ _ (ordinal_plain at _ MOST_MACHINES _) (λ machine. fine _))
+
+piece : (names : List (List ℕ)) (at : ℕ) (fields : List (List ℕ)) → IsPlain (piece_at names at fields)
+unfolding piece_at
+piece names at fields = chain _ _ (known_plain at names _) (λ job. chain _ _ (piece_place at _) (λ place. chain _ _ (span at _) (λ s. fine _)))
+
+piece_line : (names : List (List ℕ)) (at : ℕ) (pieces : List Piece) (fields : List (List ℕ)) → IsPlain (piece_line_at names at pieces fields)
+unfolding piece_line_at
+piece_line names at pieces fields =
+    given (nat_lt (length pieces) MOST_PIECES) (Limit at what.Pieces) _ tt (
+    given (length fields == 5) (Count at) _ tt (chain _ _ (piece names at fields) (λ p. fine _)))
+
+after_piece : (names : List (List ℕ)) (pieces : List Piece) (p : Place) → IsPlain (piece_step names pieces p)
+unfolding piece_step
+after_piece names pieces p =
+    chain (line_at p) _ (line_plain p) (λ l.
+    let fields = fields_of l.0 in
+    either (bytes_eq (first_of fields) (codes "piece")) _ _ (chain (piece_line_at names p.at pieces (others_of fields)) _ (piece_line names p.at pieces (others_of fields)) (λ e. fine _)) (end_plain p.at pieces fields l.1))
+
+stated_in : (x : ℤ × ℤ) (unit : ℤ) (lines : Result (List Piece × Place) FileFault) (r : Result (Stated × Place) FileFault) → IsPlain lines → IsStatedAs x unit lines r → IsPlain r
+stated_in x unit (Ok line) (Ok s) h k = fine s
+stated_in x unit (Err e) (Err d) h k = bad d (h.fault d (ap Err (sym k)))
+stated_in x unit (Ok line) (Err d) h k = absurd k
+stated_in x unit (Err e) (Ok s) h k = absurd k
+
+pieces_in : (names : List (List ℕ)) (x : ℤ × ℤ) (unit : ℤ) (p : Place) (r : Result (Stated × Place) FileFault) → ReadsPieces names x unit p r → IsPlain r
+pieces_in names x unit p r h = stated_in x unit h.lines r (more (piece_step names) (after_piece names) [] p h.lines h.reads) h.stated
+
+stated : (names : List (List ℕ)) (p : Place) (r : Result (Stated × Place) FileFault) → ReadsStated names p r → IsPlain r
+unfolding ReadsStated
+stated names p r h =
+    then_in (title_at p) _ r (word_plain _ p) (λ (p : Place).
+    then_in (cost_at p) _ r (cost_plain _ _ p) (λ (x : (ℤ × ℤ) × Place).
+    then_in (unit_at x.1) _ r (unit x.1) (λ (u : ℤ × Place).
+    pieces_in names x.0 u.0 u.1 r))) h
+
+plain_schedule : (e : FileFault) → IsPlainFault e → IsScheduleFault e
+plain_schedule (ClassBroken fault name) h = h
+plain_schedule (Cycle job name) h = h
+plain_schedule Memory h = tt
+plain_schedule (After at) h = tt
+plain_schedule (Head at) h = h
+plain_schedule (Missing at) h = tt
+plain_schedule (Cut at) h = tt
+plain_schedule (Line at) h = tt
+plain_schedule (Count at) h = tt
+plain_schedule (Key at) h = h
+plain_schedule (Name at) h = tt
+plain_schedule (Number at) h = tt
+plain_schedule (Limit at quantity) h = tt
+plain_schedule (Again at) h = h
+plain_schedule (ArcAgain at) h = h
+plain_schedule (Unknown at) h = tt
+
+-- the faults of a schedule text
+pub schedule_faults : (names : List (List ℕ)) (line : ℕ) (b : List ℕ) (e : FileFault) → ReadsSchedule names line b (Err e) → IsScheduleFault e
+schedule_faults names line b e h = by h.lines (stated names (record { at = line; rest = b }) h.lines h.reads) h.is
+  where
+    by : (lines : Result (Stated × Place) FileFault) → IsPlain lines → Err e ≡ (lines >>= all_of) → IsScheduleFault e
+    by (Err d) k is = let same : d ≡ e = cc in plain_schedule e (k.fault e (ap Err same))
+    by (Ok x) k is = last (length x.1.rest == 0) is
+      where
+        last : (b : Bool) → Err e ≡ provided b (After x.1.at) (Ok x.0) → IsScheduleFault e
+        last true same = absurd cc
+        last false same = let is : After x.1.at ≡ e = cc in subst IsScheduleFault is tt
+
+-- reading gives no want of memory
+pub schedule_remembers : (names : List (List ℕ)) (line : ℕ) (b : List ℕ) → ¬ ReadsSchedule names line b (Err Memory)
+schedule_remembers names line b h = by h.lines (stated names (record { at = line; rest = b }) h.lines h.reads) h.is
+  where
+    by : (lines : Result (Stated × Place) FileFault) → IsPlain lines → Err Memory ≡ (lines >>= all_of) → ⊥
+    by (Err d) k is = let same : d ≡ Memory = cc in k.fault Memory (ap Err same)
+    by (Ok x) k is = last (length x.1.rest == 0) is
+      where
+        last : (b : Bool) → Err Memory ≡ provided b (After x.1.at) (Ok x.0) → ⊥
+        last true same = absurd cc
+        last false same = absurd cc

@@ -1,0 +1,96 @@
+-- How the text of a schedule is read: line by line, and in a line from left to right, up to the first fault.
+use Rattle.std.specs.Prelude.{◌≡◌, ℕ, ◌==◌, nat_lt, if◌then◌else◌, List, [], ◌∷◌, ◌++◌, length, Result, Ok, Err, codes, bytes_eq, ℤ, pos, unsigned_abs}
+use Rattle.msp_class.specs.declared.environments.TheConstants.{MOST_OPERATIONS}
+use Rattle.msp_instance.specs.declared.ranges.TheConstants.{MOST_MACHINES}
+use Rattle.msp_schedule.specs.declared.limits.TheConstants.{MOST_PIECES, GREATEST_UNIT, GREATEST_MOMENT}
+use Rattle.msp_schedule.specs.declared.Piece.{Piece}
+use Rattle.msp_grammar.specs.declared.limits.TheConstants.{GREATEST_COST}
+use Rattle.msp_grammar.specs.declared.lines.fault.What.TheVariants as what
+use Rattle.msp_grammar.specs.declared.lines.fault.FileFault.{FileFault}
+use Rattle.msp_grammar.specs.declared.lines.fault.FileFault.TheVariants.{Count, Limit}
+use Rattle.msp_file.specs.declared.schedule.read.Stated.{Stated}
+use Rattle.msp_grammar.specs.lines.Reading.{◌>>=◌, provided, Place, line_at, fields_of, first_of, others_of, word_line_at, natural_at, ordinal_at, known_at, number_line_at, LineRead, more_read, end_at, ReadsMore, Then, ReadsBy, all_of}
+use Rattle.msp_grammar.specs.lines.Costs.{cost_line_at}
+
+-- The first line.
+abbrev pub title_at : Place → Result Place FileFault
+title_at place = word_line_at (codes "schedule") place
+
+abbrev pub cost_at : Place → Result ((ℤ × ℤ) × Place) FileFault
+cost_at place = cost_line_at (codes "cost") GREATEST_COST place
+
+-- ---- the unit and the pieces
+
+unfoldable pub unit_at : Place → Result (ℤ × Place) FileFault
+unit_at place = do
+  unit ← number_line_at (codes "unit") what.Unit (unsigned_abs GREATEST_UNIT) place
+  Ok (pos unit.0, unit.1)
+
+unfoldable pub moment_at : ℕ → List ℕ → Result ℤ FileFault
+moment_at at field = do
+  moment ← natural_at at what.Moment 0 (unsigned_abs GREATEST_MOMENT) field
+  Ok (pos moment)
+
+-- The moments between which a piece runs.
+unfoldable pub span_at : ℕ → List (List ℕ) → Result (ℤ × ℤ) FileFault
+span_at at fields = do
+  from ← moment_at at (first_of fields)
+  to ← moment_at at (first_of (others_of fields))
+  Ok (from, to)
+
+-- The operation and the machine of a piece, and the fields after them.
+unfoldable pub place_at : ℕ → List (List ℕ) → Result (ℕ × ℕ × List (List ℕ)) FileFault
+place_at at fields = do
+  op ← ordinal_at at what.Place MOST_OPERATIONS (first_of fields)
+  machine ← ordinal_at at what.Place MOST_MACHINES (first_of (others_of fields))
+  Ok (op, machine, others_of (others_of fields))
+
+-- A piece of one of the named jobs.
+unfoldable pub piece_at : List (List ℕ) → ℕ → List (List ℕ) → Result Piece FileFault
+piece_at names at fields = do
+  job ← known_at at names (first_of fields)
+  place ← place_at at (others_of fields)
+  span ← span_at at place.2
+  Ok (record { job = job; op = place.0; machine = place.1; from = span.0; to = span.1 })
+
+-- The piece whose line has these fields, after the pieces so far.
+unfoldable pub piece_line_at : List (List ℕ) → ℕ → List Piece → List (List ℕ) → Result (List Piece) FileFault
+piece_line_at names at pieces fields =
+    provided (nat_lt (length pieces) MOST_PIECES) (Limit at what.Pieces) (
+    provided (length fields == 5) (Count at) (do
+      piece ← piece_at names at fields
+      Ok (pieces ++ piece ∷ [])))
+
+-- A line after the unit.
+unfoldable pub piece_step : List (List ℕ) → List Piece → Place → Result (LineRead (List Piece)) FileFault
+piece_step names pieces place = do
+  line ← line_at place
+  if bytes_eq (first_of (fields_of line.0)) (codes "piece")
+      then (piece_line_at names place.at pieces (others_of (fields_of line.0)) >>= λ more. Ok (more_read more line.1))
+      else end_at place.at pieces (fields_of line.0) line.1
+
+-- ---- the whole
+
+-- What is read is the schedule of these pieces with this cost, or the fault of its lines.
+abbrev pub IsStatedAs : ℤ × ℤ → ℤ → Result (List Piece × Place) FileFault → Result (Stated × Place) FileFault → Type 0
+IsStatedAs cost unit (Ok line) (Ok read) = (read.0.schedule ≡ record { unit = unit; pieces = line.0 }) × (read.0.cost.num ≡ cost.0) × (read.0.cost.den ≡ cost.1) × (read.1 ≡ line.1)
+IsStatedAs cost unit (Err fault) (Err read) = read ≡ fault
+IsStatedAs cost unit _ _ = ⊥
+
+-- The lines after the unit: each is a piece.
+pub record ReadsPieces (names : List (List ℕ)) (cost : ℤ × ℤ) (unit : ℤ) (place : Place) (read : Result (Stated × Place) FileFault) : Type 0 where
+  pub lines : Result (List Piece × Place) FileFault
+  pub reads : ReadsMore (piece_step names) [] place lines
+  pub stated : IsStatedAs cost unit lines read
+
+-- The lines from a place on are read so: as those of one schedule, up to the place after them, or up to the first fault.
+unfoldable pub ReadsStated : List (List ℕ) → Place → Result (Stated × Place) FileFault → Type 0
+ReadsStated names place read =
+    Then (title_at place) (λ place.
+    Then (cost_at place) (λ cost.
+    Then (unit_at cost.1) (λ unit. ReadsPieces names cost.0 unit.0 unit.1))) read
+
+-- The lines of a text, the first of which has this number, are read so: as those of one schedule of the named jobs and no more, or up
+-- to the first fault.
+abbrev pub ReadsSchedule : List (List ℕ) → ℕ → List ℕ → Result Stated FileFault → Type 0
+ReadsSchedule names line bytes read = ReadsBy all_of (ReadsStated names (record { at = line; rest = bytes })) read

@@ -1,0 +1,9 @@
+pub mod CostLaws
+pub mod CostReading
+pub mod Endings
+pub mod FieldLaws
+pub mod Fields
+pub mod LineFaults
+pub mod LineLaws
+pub mod NameReading
+pub mod Readings

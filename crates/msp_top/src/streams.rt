@@ -1,0 +1,24 @@
+// `run` over std's reader and writers.
+ghost use Rattle.msp_io.specs.StdAdapters.{source_given, sink_taken};
+ghost use Rattle.msp_top.specs.Run.{spelled};
+ghost use Rattle.msp_top.specs.Streams.{passed, IsCounted};
+
+use crate::serve::run;
+use msp_io::{StdSink, StdSource};
+use std::alloc::Global;
+use std::io::{Read, Write};
+
+/// `run` over a reader and writers of std, as the program calls it on the standard streams. They tell no bytes, and the adapters count
+/// them: a right report has as many bytes as `out` took, and no more is read than an input may have, or one byte more at status 4.
+pub fn run_on_streams<R: Read, W: Write, E: Write>(
+    alloc: Global,
+    words: &Vec<String>,
+    source: &mut StdSource<R>,
+    out: &mut StdSink<W>,
+    notes: &mut StdSink<E>,
+) -> u8
+    ensures { IsCounted (spelled words.now) (passed R.remaining W.contents source.old source.new out.old out.new)
+        (source_given source.old) (source_given source.new) (sink_taken out.old) (sink_taken out.new) result }
+{
+    run(alloc, words, source, out, notes)
+}
