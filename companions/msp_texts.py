@@ -3,6 +3,8 @@
 Nothing here judges an instance or a schedule: that is the program's work (`solve`, `check`). A text that does not have the form of
 docs/formats.md raises a Fault that names the line.
 """
+from __future__ import annotations
+
 import argparse
 import csv
 import difflib
@@ -15,6 +17,7 @@ import sys
 from dataclasses import dataclass, field
 from datetime import datetime, timedelta
 from fractions import Fraction
+from functools import cached_property
 
 
 class Fault(Exception):
@@ -26,7 +29,7 @@ class Misfit(Exception):
 
 
 def run(name, main):
-    """Runs a companion: `main` gives the status; faults are printed behind the companion's name."""
+    """Runs a companion: `main` gives the status; faults are printed behind the companion's name, and 8 says that writing failed."""
     try:
         status = main()
         sys.stdout.flush()
@@ -34,8 +37,10 @@ def run(name, main):
     except (Fault, Misfit) as fault:
         print(f"{name}: {fault}", file=sys.stderr)
         sys.exit(2 if isinstance(fault, Misfit) else 3)
-    except BrokenPipeError:
-        # (the reader ended early; nothing is left to be flushed at the end)
+    except OSError as fault:
+        if not isinstance(fault, BrokenPipeError):  # (a reader that ends early is no fault to be told)
+            print(f"{name}: cannot write: {fault.strerror}", file=sys.stderr)
+        # (nothing is left to be flushed at the end)
         os.dup2(os.open(os.devnull, os.O_WRONLY), sys.stdout.fileno())
         sys.exit(8)
 
@@ -373,9 +378,14 @@ class Instance:
     arcs: list
     lines: int
 
+    @cached_property
+    def by_name(self):
+        """The jobs by their names."""
+        return {it.name: it for it in self.jobs}
+
     def job(self, name):
         """The job of the name, or None."""
-        return next((it for it in self.jobs if it.name == name), None)
+        return self.by_name.get(name)
 
     def operations(self, job):
         """For each operation of a job its machine (None where any runs it) and its time there (a list by machines on R)."""

@@ -1,0 +1,1 @@
+check-all --help | head -n 3

@@ -1,0 +1,1 @@
+from-csv --help | head -n 3

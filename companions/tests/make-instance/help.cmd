@@ -1,0 +1,1 @@
+make-instance --help | head -n 3

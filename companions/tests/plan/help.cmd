@@ -1,0 +1,1 @@
+plan --help | head -n 3

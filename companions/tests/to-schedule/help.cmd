@@ -1,0 +1,1 @@
+to-schedule --help | head -n 3
