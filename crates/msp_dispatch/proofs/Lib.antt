@@ -1,3 +1,4 @@
 pub mod Picks
 pub mod evidence
 pub mod Small
+pub mod SmallMatrix

@@ -155,8 +155,8 @@ fn certified_by(alloc: Global, inst: &Instance, maker: Maker) -> Result<Certifie
     }
 }
 
-/// A best solution of the instance, and a certificate of its cost, which `msp_cert::accept` accepts, by one run of the solver. It is found where the class is
-/// `P|pmtn|Cmax`, `Q|pmtn|Cmax`, `O|pmtn|Cmax`, `O2||Cmax`, `P|intree,p=1|Cmax`, `P2|prec,p=1|Cmax`, `R||sumC` or
+/// A best solution of the instance, and a certificate of its cost, which `msp_cert::accept` accepts, by one run of the solver. It is found
+/// where the class is `P|pmtn|Cmax`, `Q|pmtn|Cmax`, `O|pmtn|Cmax`, `O2||Cmax`, `P|intree,p=1|Cmax`, `P2|prec,p=1|Cmax`, `R||sumC` or
 /// `1|pmtn,prec,r|fmax`; an instance of the second may not fit its solver.
 pub fn certify_any(alloc: Global, inst: &Instance) -> Result<Certified, Uncertified>
     requires { InClass inst.now }

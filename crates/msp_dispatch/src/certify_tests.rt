@@ -2,17 +2,17 @@
 ghost use Rattle.msp_schedule.specs.Fraction.{IsComparable};
 
 use crate::{Uncertified, certify_any};
-use msp_blocks::Blocks;
+use msp_blocks::{Blocks, binding};
 use msp_cert::{Proof, accept, find};
 use msp_class::{Class, Crit, Env, Order};
 use msp_instance::{Instance, Need};
 use msp_levels::Levels;
-use msp_lexical::Lexical;
+use msp_lexical::{Lexical, segments};
 use msp_route::Solver;
 use msp_samples::{JobData, UNIT_JOB, class, in_class, instance, instance_by_needs, need, timed};
 use msp_schedule::Frac;
 use msp_shops::{Open2, OpenCut};
-use msp_total::Unrelated;
+use msp_total::{Unrelated, prices};
 use msp_uniform::UniformCut;
 use msp_wrap::Wrap;
 use std::alloc::Global;
@@ -150,6 +150,43 @@ fn prices_and_a_block(rt: HostRuntime) {
     ];
     let blocks = instance(alloc, Blocks.target(), 1, &jobs, &[]);
     assert_eq!(rt; certified(alloc, blocks), Some((6, 1, "block")));
+}
+
+/// How many segments show the bound of four jobs in a diamond of arcs.
+fn segments_alone(alloc: Global) -> Option<usize> {
+    let arcs = [(0, 1), (0, 2), (1, 3), (2, 3)];
+    let diamond = instance(alloc, Lexical.target(), 2, &[UNIT_JOB; 4], &arcs)?;
+    Some(segments(alloc, &diamond).ok()?.len())
+}
+
+/// How many jobs have a price and a position.
+fn prices_alone(alloc: Global, needs: &[&[Need]]) -> Option<usize> {
+    let unrelated = instance_by_needs(alloc, Unrelated.target(), 2, &[], needs)?;
+    Some(prices(alloc, &unrelated).ok()?.column.len())
+}
+
+/// How many jobs the block has that shows the cost.
+fn block_alone(alloc: Global, jobs: &[JobData]) -> Option<usize> {
+    let cut = instance(alloc, Blocks.target(), 1, jobs, &[])?;
+    Some(binding(alloc, &cut).ok()?.jobs.len())
+}
+
+#[test]
+fn evidence_alone(rt: HostRuntime) {
+    let alloc = rt.alloc();
+    assert_eq!(rt; segments_alone(alloc), Some(3));
+    let needs: [&[Need]; 2] = [&[need(0, 1), need(1, 9)], &[need(0, 2), need(1, 3)]];
+    assert_eq!(rt; prices_alone(alloc, &needs), Some(2));
+    let costly = JobData {
+        release: 1,
+        slope: 3,
+        ..timed(1)
+    };
+    let whole = JobData {
+        slope: 1,
+        ..timed(4)
+    };
+    assert_eq!(rt; block_alone(alloc, &[whole, costly]), Some(1));
 }
 
 #[test]

@@ -25,6 +25,8 @@ mod shown;
 mod solve;
 mod solved_list;
 #[cfg(test)]
+mod solver_tests;
+#[cfg(test)]
 mod tests;
 mod threshold;
 #[cfg(test)]

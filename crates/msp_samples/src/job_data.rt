@@ -1,5 +1,5 @@
 // Jobs by their data.
-ghost use Rattle.std.specs.Prelude.{◌≡◌, [], ◌∷◌, map, IfOk};
+ghost use Rattle.std.specs.Prelude.{◌≡◌, map, IfOk};
 ghost use Rattle.msp_samples.specs.declared.job_data.TheConstants.{UNIT_JOB};
 ghost use Rattle.msp_samples.specs.Samples.{steps_of, job_of, plain_job};
 
@@ -107,15 +107,6 @@ fn plain_job(alloc: Global, needs: List<Need>) -> Job
             steps: List::new(alloc),
         },
     }
-}
-
-/// One job with needs alone.
-pub fn one_job(alloc: Global, needs: List<Need>) -> Result<List<Job>, NoMemory>
-    ensures { IfOk result (λ jobs. jobs ≡ plain_job needs ∷ []) }
-{
-    let mut jobs = List::new(alloc);
-    jobs.put(plain_job(alloc, needs))?;
-    Ok(jobs)
 }
 
 /// Jobs with needs alone.

@@ -13,6 +13,6 @@ mod lists;
 mod pieces;
 
 pub use instances::{class, in_class, instance, instance_by_needs};
-pub use job_data::{JobData, UNIT_JOB, jobs, load, need, one_job, timed};
+pub use job_data::{JobData, UNIT_JOB, jobs, load, need, timed};
 pub use lists::list_of;
-pub use pieces::{one_piece, operation_piece, piece, piece_on, unit_piece};
+pub use pieces::{operation_piece, piece, piece_on};

@@ -5,7 +5,7 @@ use Rattle.msp_io.specs.Faults.{so_many_more}
 use Rattle.msp_top.specs.declared.command.Command.{Command}
 use Rattle.msp_top.specs.Commands.{Asks}
 use Rattle.msp_top.specs.Outcome.{report}
-use Rattle.msp_top.specs.Run.{Passed, limit_of, IsRight, too_long, short, IsRightReport, of_input, of_trial, of_rows, Reports, BreaksOff, Refuses, input_refused, past_the_limit, trial_refused, BreaksReading, AtMost, was_read, IsServed}
+use Rattle.msp_top.specs.Run.{Passed, limit_of, IsRight, short, IsRightReport, of_input, of_trial, of_rows, Refuses, input_refused, past_the_limit, trial_refused, IsServed}
 use Rattle.msp_top.specs.Streams.{IsCounted}
 use Rattle.msp_top.proofs.OneCommand.{asks_once, rows_are_no_command, trial_is_no_command}
 

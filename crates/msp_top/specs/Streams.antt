@@ -5,7 +5,7 @@ use Rattle.msp_io.specs.declared.std_io.StdSink.{StdSink}
 use Rattle.msp_io.specs.Faults.{so_many_more}
 use Rattle.msp_io.specs.Sources.{Gives, GivesAll, GivesAndFails}
 use Rattle.msp_io.specs.Sinks.{Takes, TakesAndFails}
-use Rattle.msp_io.specs.StdAdapters.{source_at_end, source_given, source_view, sink_taken, sink_view}
+use Rattle.msp_io.specs.StdAdapters.{source_at_end, source_view, sink_view}
 use Rattle.msp_top.specs.declared.command.Command.{Command}
 use Rattle.msp_top.specs.Commands.{Asks}
 use Rattle.msp_top.specs.Run.{Passed, IsRightReport, limit_of}

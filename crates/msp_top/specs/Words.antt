@@ -2,7 +2,6 @@
 use Rattle.std.specs.Prelude.{◌≡◌, ◌≢◌, ℕ, List, [], ◌∷◌, Option, Result, Ok, Err, codes}
 use Rattle.std.specs.List.{AllZip}
 use Rattle.msp_class.specs.declared.class.Class.{Class}
-use Rattle.msp_top.specs.declared.command.Command.{Command}
 use Rattle.msp_top.specs.declared.command.Command.TheVariants.{Solve, Answer}
 use Rattle.msp_top.specs.declared.command.Question.TheVariants.{Label}
 use Rattle.msp_top.specs.declared.command.Request.{Request}

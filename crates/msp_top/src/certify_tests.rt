@@ -142,3 +142,22 @@ fn what_is_certified_is_accepted(rt: HostRuntime) -> Result<(), Fail> {
     }
     Ok(())
 }
+
+/// Worked instances of open shops and uniform machines with preemption, and of unit jobs with arcs on two machines.
+const WORKED: &[&[u8]] = &[
+    b"msp 1\nclass O|pmtn|Cmax\nmachines 3\njob a\ntimes 2 2 2\njob b\ntimes 2 2 2\nend\n",
+    b"msp 1\nclass Q|pmtn|Cmax\nmachines 2\nspeeds 3 1\njob a p=9\njob b p=1\nend\n",
+    b"msp 1\nclass P2|prec,p=1|Cmax\njob a\njob b\njob c\njob d\narc a b\narc a c\narc b d\narc c d\nend\n",
+];
+
+#[test]
+fn what_certify_prints_is_accepted(rt: HostRuntime) -> Result<(), Fail> {
+    for instance in WORKED {
+        let printed = outcome(rt.alloc(), &calling(&["certify"], instance))?;
+        assert_eq!(rt; printed.status, 0);
+        let text = behind(rt.alloc(), instance, &printed.out, b"certificate\n")?;
+        let seen = outcome(rt.alloc(), &calling(&["accept"], &text))?;
+        assert!(rt; seen.status == 0 && seen.out.as_slice().ends_with(b"\naccepted yes\nend\n"));
+    }
+    Ok(())
+}

@@ -169,6 +169,7 @@ const WHOLE: &[(&[&str], &[u8])] = &[
         &["solve"],
         b"msp 1\nclass 1||Lmax\njob a p=2 d=4\njob b p=3 d=-2\nend\n",
     ),
+    (&["solve"], CERTIFIED),
     (&["certify"], CERTIFIED),
     (&["check"], CHECKED),
     (&["accept"], ACCEPTED),
@@ -204,8 +205,15 @@ fn cut_at_each_byte(rt: HostRuntime) -> Result<(), Fail> {
     Ok(())
 }
 
-/// Results that are not quoted as they should be, and schedules with one fault.
+/// Results with a verdict that is none or a name without its quotes, and schedules with one fault.
 const DAMAGED: &[Case] = &[
+    Case {
+        words: &["label"],
+        text: b"class,verdict,source\nP||Cmax,maybe,x\n",
+        status: 3,
+        out: b"",
+        notes: b"msp: record 1: verdict\n",
+    },
     Case {
         words: &["label"],
         text: b"class,verdict,source\n1|pmtn,r|Lmax,easy,x\n",

@@ -298,7 +298,7 @@ const CASES: &[Case] = &[
     },
     Case {
         words: &["solve"],
-        text: b"msp 1\nclass P|intree,p=p|Cmax\nmachines 2\ntime 1000001\njob a\njob b\narc a b\nend\n",
+        text: b"msp 1\nclass P|intree,p=p|Cmax\nmachines 2\ntime 1000001\njob a\njob b\njob c\njob d\narc a d\narc b d\narc c d\nend\n",
         status: 4,
         out: b"",
         notes: b"msp: line 4: limit of time\n",
@@ -552,12 +552,58 @@ fn draws_the_frontier(rt: HostRuntime) -> Result<(), Fail> {
     Ok(())
 }
 
+/// The lines of the text that end so.
+fn lines_with_end(alloc: Global, text: &[u8], end: &[u8]) -> Result<Vec<u8>, Fail> {
+    let mut found = Vec::new(alloc);
+    for line in text.split(|b| *b == b'\n') {
+        if line.ends_with(end) {
+            found.extend_from_slice(line)?;
+            found.push(b'\n')?;
+        }
+    }
+    Ok(found)
+}
+
+#[test]
+fn lists_the_easy_classes(rt: HostRuntime) -> Result<(), Fail> {
+    let results = b"class,verdict,source\n1||Cmax,easy,\n";
+    let seen = outcome(rt.alloc(), &calling(&["label"], results))?;
+    assert_eq!(rt; seen.status, 0);
+    assert_eq!(rt;
+        lines_with_end(rt.alloc(), &seen.out, b" easy")?.as_slice(),
+        b"1||Cmax easy\n1|p=1|Cmax easy\n1|p=p|Cmax easy\n1|pmtn|Cmax easy\n1|pmtn,p=1|Cmax easy\n1|pmtn,p=p|Cmax easy\n".as_slice()
+    );
+    Ok(())
+}
+
+#[test]
+fn a_source_that_is_too_long(rt: HostRuntime) -> Result<(), Fail> {
+    let mut text = b"class,verdict,source\n1||Cmax,easy,".to_vec(rt.alloc())?;
+    text.resize(text.len().saturating_add(201), b'x')?;
+    let labelling = calling(&["label"], &text);
+    assert!(rt;
+        gives(
+            rt.alloc(),
+            &labelling,
+            4,
+            b"",
+            b"msp: record 1: limit of source\n"
+        )?
+    );
+    Ok(())
+}
+
 #[test]
 fn writes_the_rows(rt: HostRuntime) -> Result<(), Fail> {
     let seen = outcome(rt.alloc(), &calling(&["rows"], b""))?;
     assert_eq!(rt; seen.status, 0);
     assert_eq!(rt; lines(&seen.out), 55);
     assert!(rt; seen.out.starts_with(b"row 1 carries none to chains\n"));
+    let fifteenth = seen.out.split(|b| *b == b'\n').nth(14);
+    assert_eq!(rt;
+        fifteenth,
+        Some(b"row 15 threshold Lmax to sumU".as_slice())
+    );
     assert!(rt; seen.out.ends_with(b"\nrow 54 carries p=p to p=1\nend\n"));
     Ok(())
 }

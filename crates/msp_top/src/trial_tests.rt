@@ -11,6 +11,13 @@ const TRIALS: &[Case] = &[
         notes: b"",
     },
     Case {
+        words: &["trial", "F2||Cmax", "3", "1"],
+        text: b"",
+        status: 0,
+        out: b"class F2||Cmax\njobs 3\nseed 1\nsolver johnson\nrows 0\npieces 6\ncost 139\nend\n",
+        notes: b"",
+    },
+    Case {
         words: &["trial", "1||Lmax", "4", "7"],
         text: b"",
         status: 0,
