@@ -1,5 +1,5 @@
 // What the search over bounds and the split of a table answer to small instances.
-ghost use Rattle.std.specs.Prelude.{IfOk};
+ghost use Rattle.std.specs.Prelude.{◌≡◌, IfOk};
 ghost use Rattle.msp_timetable.specs.Split.{IsMatrix};
 
 use crate::solve_any;
@@ -23,7 +23,9 @@ const LATENESS: Class = Class {
 
 /// The table of two rows and two columns with these cells.
 fn table(alloc: Global, a: u8, b: u8, c: u8, d: u8) -> Result<Matrix, NoMemory>
-    ensures { IfOk result IsMatrix }
+    ensures matrix { IfOk result IsMatrix }
+    ensures rows { IfOk result (λ t. t.rows ≡ 2) }
+    ensures columns { IfOk result (λ t. t.columns ≡ 2) }
 {
     let cells = list_of(
         alloc,

@@ -2,7 +2,7 @@
 // instances that are printed again. They stand here and not beside the readers, since a crate with tests is proved twice.
 ghost use Rattle.std.specs.Prelude.{◌≤◌, length, IsTrue};
 ghost use Rattle.msp_schedule.specs.Fraction.{IsLowest};
-ghost use Rattle.msp_file.specs.declared.read.TheConstants.{MOST_BYTES};
+ghost use Rattle.msp_grammar.specs.declared.lines.limits.TheConstants.{MOST_BYTES};
 
 use msp_file::{
     Filed, Names, print_instance, print_schedule, read_front, read_instance, read_schedule,
