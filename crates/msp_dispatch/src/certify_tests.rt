@@ -174,7 +174,7 @@ fn block_alone(alloc: Global, jobs: &[JobData]) -> Option<usize> {
 #[test]
 fn evidence_alone(rt: HostRuntime) {
     let alloc = rt.alloc();
-    assert_eq!(rt; segments_alone(alloc), Some(3));
+    assert_eq!(rt; segments_alone(alloc), Some(2));
     let needs: [&[Need]; 2] = [&[need(0, 1), need(1, 9)], &[need(0, 2), need(1, 3)]];
     assert_eq!(rt; prices_alone(alloc, &needs), Some(2));
     let costly = JobData {
