@@ -1,571 +1,162 @@
 // The rows that lead to an environment of which theirs is a case. The machines and the jobs stay as they are.
 ghost use Rattle.std.specs.Prelude.{refl};
-ghost use Rattle.msp_route.specs.Changes.{led, same_costs};
-ghost use Rattle.msp_route.proofs.Alike.{IsPositive-same, IsForth-alike, IsBack-alike};
-ghost use Rattle.msp_machines.specs.laws.Environments.{alike_17, alike_18, alike_19, alike_22, alike_25, alike_35, alike_36, alike_37, alike_38, alike_41, alike_42, alike_43, alike_44};
+ghost use Rattle.msp_route.specs.laws.Stays.{carries_same};
+ghost use Rattle.msp_machines.specs.laws.Environments.{stay_17, stay_18, stay_19, stay_22, stay_25, stay_35, stay_36, stay_37, stay_38, stay_41, stay_42, stay_43, stay_44};
 
-use msp_class::NoMemory;
-use msp_instance::Instance;
-use msp_route::{Reduction, led};
-use msp_schedule::Solution;
-use msp_table::Row;
-use std::alloc::Global;
+use msp_route::KeepsData;
 
 /// One machine is the case of any number of identical machines (Lageweg, Lawler, Lenstra and Rinnooy Kan 1982).
 #[derive(Clone, Copy, Debug)]
 pub struct Row17;
 
-impl Reduction for Row17 {
-    ghost number = { λ self. 17 };
+impl KeepsData for Row17 {
+    const NUMBER: u8 = 17;
 
-    ghost lower = { λ self. led 17 };
+    ghost NUMBER = { 17 };
 
-    ghost rate = { λ self i. same_costs };
-
-    ghost forth = { λ self i s. s };
-
-    ghost upper = { λ self i s. s };
-
-    fn row(&self) -> Row {
-        Row::new(17).unwrap()
-    }
-
-    fn down(&self, alloc: Global, inst: &Instance) -> Result<Instance, NoMemory> {
-        led(alloc, inst, self.row())
-    }
-
-    fn back(
-        &self,
-        _alloc: Global,
-        _inst: &Instance,
-        solution: Solution,
-    ) -> Result<Solution, NoMemory> {
-        Ok(solution)
-    }
-
-    ghost lower_is = { λ self i inner applies. (alike_17 i inner applies).lower };
-
-    ghost rate_of_row = { λ self i. refl };
-
-    ghost rate_is = { λ self i inner applies. IsPositive-same };
-
-    ghost forth_is = { λ self i s inner applies. IsForth-alike (alike_17 i inner applies) inner s };
-
-    ghost back_is = { λ self i s inner applies. IsBack-alike (alike_17 i inner applies) inner s };
+    ghost law = { carries_same refl stay_17 };
 }
 
 /// Two identical machines are the case of any number of them (Lageweg, Lawler, Lenstra and Rinnooy Kan 1982).
 #[derive(Clone, Copy, Debug)]
 pub struct Row18;
 
-impl Reduction for Row18 {
-    ghost number = { λ self. 18 };
+impl KeepsData for Row18 {
+    const NUMBER: u8 = 18;
 
-    ghost lower = { λ self. led 18 };
+    ghost NUMBER = { 18 };
 
-    ghost rate = { λ self i. same_costs };
-
-    ghost forth = { λ self i s. s };
-
-    ghost upper = { λ self i s. s };
-
-    fn row(&self) -> Row {
-        Row::new(18).unwrap()
-    }
-
-    fn down(&self, alloc: Global, inst: &Instance) -> Result<Instance, NoMemory> {
-        led(alloc, inst, self.row())
-    }
-
-    fn back(
-        &self,
-        _alloc: Global,
-        _inst: &Instance,
-        solution: Solution,
-    ) -> Result<Solution, NoMemory> {
-        Ok(solution)
-    }
-
-    ghost lower_is = { λ self i inner applies. (alike_18 i inner applies).lower };
-
-    ghost rate_of_row = { λ self i. refl };
-
-    ghost rate_is = { λ self i inner applies. IsPositive-same };
-
-    ghost forth_is = { λ self i s inner applies. IsForth-alike (alike_18 i inner applies) inner s };
-
-    ghost back_is = { λ self i s inner applies. IsBack-alike (alike_18 i inner applies) inner s };
+    ghost law = { carries_same refl stay_18 };
 }
 
 /// Three identical machines are the case of any number of them (Lageweg, Lawler, Lenstra and Rinnooy Kan 1982).
 #[derive(Clone, Copy, Debug)]
 pub struct Row19;
 
-impl Reduction for Row19 {
-    ghost number = { λ self. 19 };
+impl KeepsData for Row19 {
+    const NUMBER: u8 = 19;
 
-    ghost lower = { λ self. led 19 };
+    ghost NUMBER = { 19 };
 
-    ghost rate = { λ self i. same_costs };
-
-    ghost forth = { λ self i s. s };
-
-    ghost upper = { λ self i s. s };
-
-    fn row(&self) -> Row {
-        Row::new(19).unwrap()
-    }
-
-    fn down(&self, alloc: Global, inst: &Instance) -> Result<Instance, NoMemory> {
-        led(alloc, inst, self.row())
-    }
-
-    fn back(
-        &self,
-        _alloc: Global,
-        _inst: &Instance,
-        solution: Solution,
-    ) -> Result<Solution, NoMemory> {
-        Ok(solution)
-    }
-
-    ghost lower_is = { λ self i inner applies. (alike_19 i inner applies).lower };
-
-    ghost rate_of_row = { λ self i. refl };
-
-    ghost rate_is = { λ self i inner applies. IsPositive-same };
-
-    ghost forth_is = { λ self i s inner applies. IsForth-alike (alike_19 i inner applies) inner s };
-
-    ghost back_is = { λ self i s inner applies. IsBack-alike (alike_19 i inner applies) inner s };
+    ghost law = { carries_same refl stay_19 };
 }
 
 /// Two uniform machines are the case of any number of them (Lageweg, Lawler, Lenstra and Rinnooy Kan 1982).
 #[derive(Clone, Copy, Debug)]
 pub struct Row22;
 
-impl Reduction for Row22 {
-    ghost number = { λ self. 22 };
+impl KeepsData for Row22 {
+    const NUMBER: u8 = 22;
 
-    ghost lower = { λ self. led 22 };
+    ghost NUMBER = { 22 };
 
-    ghost rate = { λ self i. same_costs };
-
-    ghost forth = { λ self i s. s };
-
-    ghost upper = { λ self i s. s };
-
-    fn row(&self) -> Row {
-        Row::new(22).unwrap()
-    }
-
-    fn down(&self, alloc: Global, inst: &Instance) -> Result<Instance, NoMemory> {
-        led(alloc, inst, self.row())
-    }
-
-    fn back(
-        &self,
-        _alloc: Global,
-        _inst: &Instance,
-        solution: Solution,
-    ) -> Result<Solution, NoMemory> {
-        Ok(solution)
-    }
-
-    ghost lower_is = { λ self i inner applies. (alike_22 i inner applies).lower };
-
-    ghost rate_of_row = { λ self i. refl };
-
-    ghost rate_is = { λ self i inner applies. IsPositive-same };
-
-    ghost forth_is = { λ self i s inner applies. IsForth-alike (alike_22 i inner applies) inner s };
-
-    ghost back_is = { λ self i s inner applies. IsBack-alike (alike_22 i inner applies) inner s };
+    ghost law = { carries_same refl stay_22 };
 }
 
 /// Two unrelated machines are the case of any number of them (Lageweg, Lawler, Lenstra and Rinnooy Kan 1982).
 #[derive(Clone, Copy, Debug)]
 pub struct Row25;
 
-impl Reduction for Row25 {
-    ghost number = { λ self. 25 };
+impl KeepsData for Row25 {
+    const NUMBER: u8 = 25;
 
-    ghost lower = { λ self. led 25 };
+    ghost NUMBER = { 25 };
 
-    ghost rate = { λ self i. same_costs };
-
-    ghost forth = { λ self i s. s };
-
-    ghost upper = { λ self i s. s };
-
-    fn row(&self) -> Row {
-        Row::new(25).unwrap()
-    }
-
-    fn down(&self, alloc: Global, inst: &Instance) -> Result<Instance, NoMemory> {
-        led(alloc, inst, self.row())
-    }
-
-    fn back(
-        &self,
-        _alloc: Global,
-        _inst: &Instance,
-        solution: Solution,
-    ) -> Result<Solution, NoMemory> {
-        Ok(solution)
-    }
-
-    ghost lower_is = { λ self i inner applies. (alike_25 i inner applies).lower };
-
-    ghost rate_of_row = { λ self i. refl };
-
-    ghost rate_is = { λ self i inner applies. IsPositive-same };
-
-    ghost forth_is = { λ self i s inner applies. IsForth-alike (alike_25 i inner applies) inner s };
-
-    ghost back_is = { λ self i s inner applies. IsBack-alike (alike_25 i inner applies) inner s };
+    ghost law = { carries_same refl stay_25 };
 }
 
 /// A flow shop of two machines is the case of any number of machines (Lageweg, Lawler, Lenstra and Rinnooy Kan 1982).
 #[derive(Clone, Copy, Debug)]
 pub struct Row35;
 
-impl Reduction for Row35 {
-    ghost number = { λ self. 35 };
+impl KeepsData for Row35 {
+    const NUMBER: u8 = 35;
 
-    ghost lower = { λ self. led 35 };
+    ghost NUMBER = { 35 };
 
-    ghost rate = { λ self i. same_costs };
-
-    ghost forth = { λ self i s. s };
-
-    ghost upper = { λ self i s. s };
-
-    fn row(&self) -> Row {
-        Row::new(35).unwrap()
-    }
-
-    fn down(&self, alloc: Global, inst: &Instance) -> Result<Instance, NoMemory> {
-        led(alloc, inst, self.row())
-    }
-
-    fn back(
-        &self,
-        _alloc: Global,
-        _inst: &Instance,
-        solution: Solution,
-    ) -> Result<Solution, NoMemory> {
-        Ok(solution)
-    }
-
-    ghost lower_is = { λ self i inner applies. (alike_35 i inner applies).lower };
-
-    ghost rate_of_row = { λ self i. refl };
-
-    ghost rate_is = { λ self i inner applies. IsPositive-same };
-
-    ghost forth_is = { λ self i s inner applies. IsForth-alike (alike_35 i inner applies) inner s };
-
-    ghost back_is = { λ self i s inner applies. IsBack-alike (alike_35 i inner applies) inner s };
+    ghost law = { carries_same refl stay_35 };
 }
 
 /// A flow shop of three machines is the case of any number of machines (Lageweg, Lawler, Lenstra and Rinnooy Kan 1982).
 #[derive(Clone, Copy, Debug)]
 pub struct Row36;
 
-impl Reduction for Row36 {
-    ghost number = { λ self. 36 };
+impl KeepsData for Row36 {
+    const NUMBER: u8 = 36;
 
-    ghost lower = { λ self. led 36 };
+    ghost NUMBER = { 36 };
 
-    ghost rate = { λ self i. same_costs };
-
-    ghost forth = { λ self i s. s };
-
-    ghost upper = { λ self i s. s };
-
-    fn row(&self) -> Row {
-        Row::new(36).unwrap()
-    }
-
-    fn down(&self, alloc: Global, inst: &Instance) -> Result<Instance, NoMemory> {
-        led(alloc, inst, self.row())
-    }
-
-    fn back(
-        &self,
-        _alloc: Global,
-        _inst: &Instance,
-        solution: Solution,
-    ) -> Result<Solution, NoMemory> {
-        Ok(solution)
-    }
-
-    ghost lower_is = { λ self i inner applies. (alike_36 i inner applies).lower };
-
-    ghost rate_of_row = { λ self i. refl };
-
-    ghost rate_is = { λ self i inner applies. IsPositive-same };
-
-    ghost forth_is = { λ self i s inner applies. IsForth-alike (alike_36 i inner applies) inner s };
-
-    ghost back_is = { λ self i s inner applies. IsBack-alike (alike_36 i inner applies) inner s };
+    ghost law = { carries_same refl stay_36 };
 }
 
 /// An open shop of two machines is the case of any number of machines (Lageweg, Lawler, Lenstra and Rinnooy Kan 1982).
 #[derive(Clone, Copy, Debug)]
 pub struct Row37;
 
-impl Reduction for Row37 {
-    ghost number = { λ self. 37 };
+impl KeepsData for Row37 {
+    const NUMBER: u8 = 37;
 
-    ghost lower = { λ self. led 37 };
+    ghost NUMBER = { 37 };
 
-    ghost rate = { λ self i. same_costs };
-
-    ghost forth = { λ self i s. s };
-
-    ghost upper = { λ self i s. s };
-
-    fn row(&self) -> Row {
-        Row::new(37).unwrap()
-    }
-
-    fn down(&self, alloc: Global, inst: &Instance) -> Result<Instance, NoMemory> {
-        led(alloc, inst, self.row())
-    }
-
-    fn back(
-        &self,
-        _alloc: Global,
-        _inst: &Instance,
-        solution: Solution,
-    ) -> Result<Solution, NoMemory> {
-        Ok(solution)
-    }
-
-    ghost lower_is = { λ self i inner applies. (alike_37 i inner applies).lower };
-
-    ghost rate_of_row = { λ self i. refl };
-
-    ghost rate_is = { λ self i inner applies. IsPositive-same };
-
-    ghost forth_is = { λ self i s inner applies. IsForth-alike (alike_37 i inner applies) inner s };
-
-    ghost back_is = { λ self i s inner applies. IsBack-alike (alike_37 i inner applies) inner s };
+    ghost law = { carries_same refl stay_37 };
 }
 
 /// An open shop of three machines is the case of any number of machines (Lageweg, Lawler, Lenstra and Rinnooy Kan 1982).
 #[derive(Clone, Copy, Debug)]
 pub struct Row38;
 
-impl Reduction for Row38 {
-    ghost number = { λ self. 38 };
+impl KeepsData for Row38 {
+    const NUMBER: u8 = 38;
 
-    ghost lower = { λ self. led 38 };
+    ghost NUMBER = { 38 };
 
-    ghost rate = { λ self i. same_costs };
-
-    ghost forth = { λ self i s. s };
-
-    ghost upper = { λ self i s. s };
-
-    fn row(&self) -> Row {
-        Row::new(38).unwrap()
-    }
-
-    fn down(&self, alloc: Global, inst: &Instance) -> Result<Instance, NoMemory> {
-        led(alloc, inst, self.row())
-    }
-
-    fn back(
-        &self,
-        _alloc: Global,
-        _inst: &Instance,
-        solution: Solution,
-    ) -> Result<Solution, NoMemory> {
-        Ok(solution)
-    }
-
-    ghost lower_is = { λ self i inner applies. (alike_38 i inner applies).lower };
-
-    ghost rate_of_row = { λ self i. refl };
-
-    ghost rate_is = { λ self i inner applies. IsPositive-same };
-
-    ghost forth_is = { λ self i s inner applies. IsForth-alike (alike_38 i inner applies) inner s };
-
-    ghost back_is = { λ self i s inner applies. IsBack-alike (alike_38 i inner applies) inner s };
+    ghost law = { carries_same refl stay_38 };
 }
 
 /// On two machines, jobs of at most two operations are the case of any number of operations (Lageweg, Lawler, Lenstra and Rinnooy Kan 1982).
 #[derive(Clone, Copy, Debug)]
 pub struct Row41;
 
-impl Reduction for Row41 {
-    ghost number = { λ self. 41 };
+impl KeepsData for Row41 {
+    const NUMBER: u8 = 41;
 
-    ghost lower = { λ self. led 41 };
+    ghost NUMBER = { 41 };
 
-    ghost rate = { λ self i. same_costs };
-
-    ghost forth = { λ self i s. s };
-
-    ghost upper = { λ self i s. s };
-
-    fn row(&self) -> Row {
-        Row::new(41).unwrap()
-    }
-
-    fn down(&self, alloc: Global, inst: &Instance) -> Result<Instance, NoMemory> {
-        led(alloc, inst, self.row())
-    }
-
-    fn back(
-        &self,
-        _alloc: Global,
-        _inst: &Instance,
-        solution: Solution,
-    ) -> Result<Solution, NoMemory> {
-        Ok(solution)
-    }
-
-    ghost lower_is = { λ self i inner applies. (alike_41 i inner applies).lower };
-
-    ghost rate_of_row = { λ self i. refl };
-
-    ghost rate_is = { λ self i inner applies. IsPositive-same };
-
-    ghost forth_is = { λ self i s inner applies. IsForth-alike (alike_41 i inner applies) inner s };
-
-    ghost back_is = { λ self i s inner applies. IsBack-alike (alike_41 i inner applies) inner s };
+    ghost law = { carries_same refl stay_41 };
 }
 
 /// A job shop of two machines with at most two operations a job is the case of any number of machines (Lageweg, Lawler, Lenstra and Rinnooy Kan 1982).
 #[derive(Clone, Copy, Debug)]
 pub struct Row42;
 
-impl Reduction for Row42 {
-    ghost number = { λ self. 42 };
+impl KeepsData for Row42 {
+    const NUMBER: u8 = 42;
 
-    ghost lower = { λ self. led 42 };
+    ghost NUMBER = { 42 };
 
-    ghost rate = { λ self i. same_costs };
-
-    ghost forth = { λ self i s. s };
-
-    ghost upper = { λ self i s. s };
-
-    fn row(&self) -> Row {
-        Row::new(42).unwrap()
-    }
-
-    fn down(&self, alloc: Global, inst: &Instance) -> Result<Instance, NoMemory> {
-        led(alloc, inst, self.row())
-    }
-
-    fn back(
-        &self,
-        _alloc: Global,
-        _inst: &Instance,
-        solution: Solution,
-    ) -> Result<Solution, NoMemory> {
-        Ok(solution)
-    }
-
-    ghost lower_is = { λ self i inner applies. (alike_42 i inner applies).lower };
-
-    ghost rate_of_row = { λ self i. refl };
-
-    ghost rate_is = { λ self i inner applies. IsPositive-same };
-
-    ghost forth_is = { λ self i s inner applies. IsForth-alike (alike_42 i inner applies) inner s };
-
-    ghost back_is = { λ self i s inner applies. IsBack-alike (alike_42 i inner applies) inner s };
+    ghost law = { carries_same refl stay_42 };
 }
 
 /// A job shop of two machines is the case of any number of machines (Lageweg, Lawler, Lenstra and Rinnooy Kan 1982).
 #[derive(Clone, Copy, Debug)]
 pub struct Row43;
 
-impl Reduction for Row43 {
-    ghost number = { λ self. 43 };
+impl KeepsData for Row43 {
+    const NUMBER: u8 = 43;
 
-    ghost lower = { λ self. led 43 };
+    ghost NUMBER = { 43 };
 
-    ghost rate = { λ self i. same_costs };
-
-    ghost forth = { λ self i s. s };
-
-    ghost upper = { λ self i s. s };
-
-    fn row(&self) -> Row {
-        Row::new(43).unwrap()
-    }
-
-    fn down(&self, alloc: Global, inst: &Instance) -> Result<Instance, NoMemory> {
-        led(alloc, inst, self.row())
-    }
-
-    fn back(
-        &self,
-        _alloc: Global,
-        _inst: &Instance,
-        solution: Solution,
-    ) -> Result<Solution, NoMemory> {
-        Ok(solution)
-    }
-
-    ghost lower_is = { λ self i inner applies. (alike_43 i inner applies).lower };
-
-    ghost rate_of_row = { λ self i. refl };
-
-    ghost rate_is = { λ self i inner applies. IsPositive-same };
-
-    ghost forth_is = { λ self i s inner applies. IsForth-alike (alike_43 i inner applies) inner s };
-
-    ghost back_is = { λ self i s inner applies. IsBack-alike (alike_43 i inner applies) inner s };
+    ghost law = { carries_same refl stay_43 };
 }
 
 /// Jobs of at most two operations are the case of any number of operations (Lageweg, Lawler, Lenstra and Rinnooy Kan 1982).
 #[derive(Clone, Copy, Debug)]
 pub struct Row44;
 
-impl Reduction for Row44 {
-    ghost number = { λ self. 44 };
+impl KeepsData for Row44 {
+    const NUMBER: u8 = 44;
 
-    ghost lower = { λ self. led 44 };
+    ghost NUMBER = { 44 };
 
-    ghost rate = { λ self i. same_costs };
-
-    ghost forth = { λ self i s. s };
-
-    ghost upper = { λ self i s. s };
-
-    fn row(&self) -> Row {
-        Row::new(44).unwrap()
-    }
-
-    fn down(&self, alloc: Global, inst: &Instance) -> Result<Instance, NoMemory> {
-        led(alloc, inst, self.row())
-    }
-
-    fn back(
-        &self,
-        _alloc: Global,
-        _inst: &Instance,
-        solution: Solution,
-    ) -> Result<Solution, NoMemory> {
-        Ok(solution)
-    }
-
-    ghost lower_is = { λ self i inner applies. (alike_44 i inner applies).lower };
-
-    ghost rate_of_row = { λ self i. refl };
-
-    ghost rate_is = { λ self i inner applies. IsPositive-same };
-
-    ghost forth_is = { λ self i s inner applies. IsForth-alike (alike_44 i inner applies) inner s };
-
-    ghost back_is = { λ self i s inner applies. IsBack-alike (alike_44 i inner applies) inner s };
+    ghost law = { carries_same refl stay_44 };
 }

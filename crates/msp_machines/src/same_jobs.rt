@@ -1,16 +1,13 @@
 // The rows from identical machines that leave the jobs as they are: to machines of equal speeds, and from one machine to shops.
 ghost use Rattle.std.specs.Prelude.{◌≡◌, IfOk, refl};
 ghost use Rattle.msp_route.specs.Law.{Applies};
-ghost use Rattle.msp_route.specs.Changes.{led, same_costs};
-ghost use Rattle.msp_route.proofs.Alike.{IsPositive-same};
+ghost use Rattle.msp_route.specs.laws.Stays.{carries_same};
 ghost use Rattle.msp_machines.specs.Machines.{equal_speeds, led_at_equal_speeds, led_to_two_machines};
-ghost use Rattle.msp_machines.specs.laws.Served.{IsForth-served, IsBack-served};
-ghost use Rattle.msp_machines.specs.laws.SameJobs.{serves_20, serves_21, serves_32, serves_33, serves_34};
+ghost use Rattle.msp_machines.specs.laws.SameJobs.{stay_20, stay_21, stay_32, stay_33, stay_34};
 
 use msp_class::{List, NoMemory};
 use msp_instance::Instance;
-use msp_route::{Reduction, led};
-use msp_schedule::Solution;
+use msp_route::{KeepsData, KeepsSchedules, led};
 use msp_table::Row;
 use std::alloc::Global;
 
@@ -49,213 +46,76 @@ fn led_to_two_machines(alloc: Global, inst: &Instance, row: Row) -> Result<Insta
 #[derive(Clone, Copy, Debug)]
 pub struct Row20;
 
-impl Reduction for Row20 {
-    ghost number = { λ self. 20 };
+impl KeepsSchedules for Row20 {
+    const NUMBER: u8 = 20;
 
-    ghost lower = { λ self. led_at_equal_speeds 20 };
+    ghost NUMBER = { 20 };
 
-    ghost rate = { λ self i. same_costs };
+    ghost lower = { led_at_equal_speeds 20 };
 
-    ghost forth = { λ self i s. s };
-
-    ghost upper = { λ self i s. s };
-
-    fn row(&self) -> Row {
-        Row::new(20).unwrap()
+    fn lead(alloc: Global, inst: &Instance, row: Row) -> Result<Instance, NoMemory> {
+        led_at_equal_speeds(alloc, inst, row)
     }
 
-    fn down(&self, alloc: Global, inst: &Instance) -> Result<Instance, NoMemory> {
-        led_at_equal_speeds(alloc, inst, self.row())
-    }
-
-    fn back(
-        &self,
-        _alloc: Global,
-        _inst: &Instance,
-        solution: Solution,
-    ) -> Result<Solution, NoMemory> {
-        Ok(solution)
-    }
-
-    ghost lower_is = { λ self i inner applies. (serves_20 i inner applies).lower };
-
-    ghost rate_of_row = { λ self i. refl };
-
-    ghost rate_is = { λ self i inner applies. IsPositive-same };
-
-    ghost forth_is = { λ self i s inner applies. IsForth-served (serves_20 i inner applies) inner s };
-
-    ghost back_is = { λ self i s inner applies. IsBack-served (serves_20 i inner applies) inner s };
+    ghost law = { carries_same refl stay_20 };
 }
 
 /// Identical machines are uniform ones of equal speeds (Lageweg, Lawler, Lenstra and Rinnooy Kan 1982).
 #[derive(Clone, Copy, Debug)]
 pub struct Row21;
 
-impl Reduction for Row21 {
-    ghost number = { λ self. 21 };
+impl KeepsSchedules for Row21 {
+    const NUMBER: u8 = 21;
 
-    ghost lower = { λ self. led_at_equal_speeds 21 };
+    ghost NUMBER = { 21 };
 
-    ghost rate = { λ self i. same_costs };
+    ghost lower = { led_at_equal_speeds 21 };
 
-    ghost forth = { λ self i s. s };
-
-    ghost upper = { λ self i s. s };
-
-    fn row(&self) -> Row {
-        Row::new(21).unwrap()
+    fn lead(alloc: Global, inst: &Instance, row: Row) -> Result<Instance, NoMemory> {
+        led_at_equal_speeds(alloc, inst, row)
     }
 
-    fn down(&self, alloc: Global, inst: &Instance) -> Result<Instance, NoMemory> {
-        led_at_equal_speeds(alloc, inst, self.row())
-    }
-
-    fn back(
-        &self,
-        _alloc: Global,
-        _inst: &Instance,
-        solution: Solution,
-    ) -> Result<Solution, NoMemory> {
-        Ok(solution)
-    }
-
-    ghost lower_is = { λ self i inner applies. (serves_21 i inner applies).lower };
-
-    ghost rate_of_row = { λ self i. refl };
-
-    ghost rate_is = { λ self i inner applies. IsPositive-same };
-
-    ghost forth_is = { λ self i s inner applies. IsForth-served (serves_21 i inner applies) inner s };
-
-    ghost back_is = { λ self i s inner applies. IsBack-served (serves_21 i inner applies) inner s };
+    ghost law = { carries_same refl stay_21 };
 }
 
 /// One machine is a flow shop whose jobs have one operation (Lageweg, Lawler, Lenstra and Rinnooy Kan 1982).
 #[derive(Clone, Copy, Debug)]
 pub struct Row32;
 
-impl Reduction for Row32 {
-    ghost number = { λ self. 32 };
+impl KeepsData for Row32 {
+    const NUMBER: u8 = 32;
 
-    ghost lower = { λ self. led 32 };
+    ghost NUMBER = { 32 };
 
-    ghost rate = { λ self i. same_costs };
-
-    ghost forth = { λ self i s. s };
-
-    ghost upper = { λ self i s. s };
-
-    fn row(&self) -> Row {
-        Row::new(32).unwrap()
-    }
-
-    fn down(&self, alloc: Global, inst: &Instance) -> Result<Instance, NoMemory> {
-        led(alloc, inst, self.row())
-    }
-
-    fn back(
-        &self,
-        _alloc: Global,
-        _inst: &Instance,
-        solution: Solution,
-    ) -> Result<Solution, NoMemory> {
-        Ok(solution)
-    }
-
-    ghost lower_is = { λ self i inner applies. (serves_32 i inner applies).lower };
-
-    ghost rate_of_row = { λ self i. refl };
-
-    ghost rate_is = { λ self i inner applies. IsPositive-same };
-
-    ghost forth_is = { λ self i s inner applies. IsForth-served (serves_32 i inner applies) inner s };
-
-    ghost back_is = { λ self i s inner applies. IsBack-served (serves_32 i inner applies) inner s };
+    ghost law = { carries_same refl stay_32 };
 }
 
 /// One machine is an open shop whose jobs have one operation (Lageweg, Lawler, Lenstra and Rinnooy Kan 1982).
 #[derive(Clone, Copy, Debug)]
 pub struct Row33;
 
-impl Reduction for Row33 {
-    ghost number = { λ self. 33 };
+impl KeepsData for Row33 {
+    const NUMBER: u8 = 33;
 
-    ghost lower = { λ self. led 33 };
+    ghost NUMBER = { 33 };
 
-    ghost rate = { λ self i. same_costs };
-
-    ghost forth = { λ self i s. s };
-
-    ghost upper = { λ self i s. s };
-
-    fn row(&self) -> Row {
-        Row::new(33).unwrap()
-    }
-
-    fn down(&self, alloc: Global, inst: &Instance) -> Result<Instance, NoMemory> {
-        led(alloc, inst, self.row())
-    }
-
-    fn back(
-        &self,
-        _alloc: Global,
-        _inst: &Instance,
-        solution: Solution,
-    ) -> Result<Solution, NoMemory> {
-        Ok(solution)
-    }
-
-    ghost lower_is = { λ self i inner applies. (serves_33 i inner applies).lower };
-
-    ghost rate_of_row = { λ self i. refl };
-
-    ghost rate_is = { λ self i inner applies. IsPositive-same };
-
-    ghost forth_is = { λ self i s inner applies. IsForth-served (serves_33 i inner applies) inner s };
-
-    ghost back_is = { λ self i s inner applies. IsBack-served (serves_33 i inner applies) inner s };
+    ghost law = { carries_same refl stay_33 };
 }
 
 /// One machine is the first of a job shop of two, whose jobs have one operation there (Lageweg, Lawler, Lenstra and Rinnooy Kan 1982).
 #[derive(Clone, Copy, Debug)]
 pub struct Row34;
 
-impl Reduction for Row34 {
-    ghost number = { λ self. 34 };
+impl KeepsSchedules for Row34 {
+    const NUMBER: u8 = 34;
 
-    ghost lower = { λ self. led_to_two_machines 34 };
+    ghost NUMBER = { 34 };
 
-    ghost rate = { λ self i. same_costs };
+    ghost lower = { led_to_two_machines 34 };
 
-    ghost forth = { λ self i s. s };
-
-    ghost upper = { λ self i s. s };
-
-    fn row(&self) -> Row {
-        Row::new(34).unwrap()
+    fn lead(alloc: Global, inst: &Instance, row: Row) -> Result<Instance, NoMemory> {
+        led_to_two_machines(alloc, inst, row)
     }
 
-    fn down(&self, alloc: Global, inst: &Instance) -> Result<Instance, NoMemory> {
-        led_to_two_machines(alloc, inst, self.row())
-    }
-
-    fn back(
-        &self,
-        _alloc: Global,
-        _inst: &Instance,
-        solution: Solution,
-    ) -> Result<Solution, NoMemory> {
-        Ok(solution)
-    }
-
-    ghost lower_is = { λ self i inner applies. (serves_34 i inner applies).lower };
-
-    ghost rate_of_row = { λ self i. refl };
-
-    ghost rate_is = { λ self i inner applies. IsPositive-same };
-
-    ghost forth_is = { λ self i s inner applies. IsForth-served (serves_34 i inner applies) inner s };
-
-    ghost back_is = { λ self i s inner applies. IsBack-served (serves_34 i inner applies) inner s };
+    ghost law = { carries_same refl stay_34 };
 }

@@ -3,16 +3,15 @@ ghost use Rattle.std.specs.Prelude.{◌≡◌, map, OnOk, IfOk, refl};
 ghost use Rattle.msp_instance.specs.Conditions.{Inner};
 ghost use Rattle.msp_route.specs.Law.{Applies};
 ghost use Rattle.msp_route.specs.Changes.{same_costs};
-ghost use Rattle.msp_route.proofs.Alike.{IsPositive-same};
+ghost use Rattle.msp_route.specs.laws.Stays.{IsPositive-same, carries_same};
 ghost use Rattle.msp_machines.specs.Shops.{with_idle_operation, with_idle_machine, without_empty, without_empty_operations, with_number, machine_number, numbered_by_route, numbered_by_machine};
-ghost use Rattle.msp_machines.specs.laws.Served.{IsForth-served, IsBack-served};
-ghost use Rattle.msp_machines.specs.laws.IdleMachines.{serves_28, serves_29, serves_30, serves_31};
+ghost use Rattle.msp_machines.specs.laws.IdleMachines.{stay_28, stay_29, stay_30, stay_31};
 ghost use Rattle.msp_machines.specs.laws.Renumbered.{IsForth-renumbered, IsBack-renumbered};
 ghost use Rattle.msp_machines.specs.laws.Routes.{renumbered_39, renumbered_40};
 
 use msp_class::{List, NoMemory};
 use msp_instance::{Instance, Job, Need};
-use msp_route::{Reduction, led};
+use msp_route::{KeepsSchedules, Reduction, led};
 use msp_schedule::{Piece, Solution};
 use msp_table::Row;
 use std::alloc::Global;
@@ -53,172 +52,72 @@ fn with_idle_machine(alloc: Global, inst: &Instance, row: Row) -> Result<Instanc
 #[derive(Clone, Copy, Debug)]
 pub struct Row28;
 
-impl Reduction for Row28 {
-    ghost number = { λ self. 28 };
+impl KeepsSchedules for Row28 {
+    const NUMBER: u8 = 28;
 
-    ghost lower = { λ self. with_idle_machine 28 };
+    ghost NUMBER = { 28 };
 
-    ghost rate = { λ self i. same_costs };
+    ghost lower = { with_idle_machine 28 };
 
-    ghost forth = { λ self i s. s };
-
-    ghost upper = { λ self i s. s };
-
-    fn row(&self) -> Row {
-        Row::new(28).unwrap()
+    fn lead(alloc: Global, inst: &Instance, row: Row) -> Result<Instance, NoMemory> {
+        with_idle_machine(alloc, inst, row)
     }
 
-    fn down(&self, alloc: Global, inst: &Instance) -> Result<Instance, NoMemory> {
-        with_idle_machine(alloc, inst, self.row())
-    }
-
-    fn back(
-        &self,
-        _alloc: Global,
-        _inst: &Instance,
-        solution: Solution,
-    ) -> Result<Solution, NoMemory> {
-        Ok(solution)
-    }
-
-    ghost lower_is = { λ self i inner applies. (serves_28 i inner applies).lower };
-
-    ghost rate_of_row = { λ self i. refl };
-
-    ghost rate_is = { λ self i inner applies. IsPositive-same };
-
-    ghost forth_is = { λ self i s inner applies. IsForth-served (serves_28 i inner applies) inner s };
-
-    ghost back_is = { λ self i s inner applies. IsBack-served (serves_28 i inner applies) inner s };
+    ghost law = { carries_same refl stay_28 };
 }
 
 /// One machine is an open shop whose second machine has no work (Lageweg, Lawler, Lenstra and Rinnooy Kan 1982).
 #[derive(Clone, Copy, Debug)]
 pub struct Row29;
 
-impl Reduction for Row29 {
-    ghost number = { λ self. 29 };
+impl KeepsSchedules for Row29 {
+    const NUMBER: u8 = 29;
 
-    ghost lower = { λ self. with_idle_machine 29 };
+    ghost NUMBER = { 29 };
 
-    ghost rate = { λ self i. same_costs };
+    ghost lower = { with_idle_machine 29 };
 
-    ghost forth = { λ self i s. s };
-
-    ghost upper = { λ self i s. s };
-
-    fn row(&self) -> Row {
-        Row::new(29).unwrap()
+    fn lead(alloc: Global, inst: &Instance, row: Row) -> Result<Instance, NoMemory> {
+        with_idle_machine(alloc, inst, row)
     }
 
-    fn down(&self, alloc: Global, inst: &Instance) -> Result<Instance, NoMemory> {
-        with_idle_machine(alloc, inst, self.row())
-    }
-
-    fn back(
-        &self,
-        _alloc: Global,
-        _inst: &Instance,
-        solution: Solution,
-    ) -> Result<Solution, NoMemory> {
-        Ok(solution)
-    }
-
-    ghost lower_is = { λ self i inner applies. (serves_29 i inner applies).lower };
-
-    ghost rate_of_row = { λ self i. refl };
-
-    ghost rate_is = { λ self i inner applies. IsPositive-same };
-
-    ghost forth_is = { λ self i s inner applies. IsForth-served (serves_29 i inner applies) inner s };
-
-    ghost back_is = { λ self i s inner applies. IsBack-served (serves_29 i inner applies) inner s };
+    ghost law = { carries_same refl stay_29 };
 }
 
 /// A flow shop of two machines is one of three whose last machine has no work (Lageweg, Lawler, Lenstra and Rinnooy Kan 1982).
 #[derive(Clone, Copy, Debug)]
 pub struct Row30;
 
-impl Reduction for Row30 {
-    ghost number = { λ self. 30 };
+impl KeepsSchedules for Row30 {
+    const NUMBER: u8 = 30;
 
-    ghost lower = { λ self. with_idle_machine 30 };
+    ghost NUMBER = { 30 };
 
-    ghost rate = { λ self i. same_costs };
+    ghost lower = { with_idle_machine 30 };
 
-    ghost forth = { λ self i s. s };
-
-    ghost upper = { λ self i s. s };
-
-    fn row(&self) -> Row {
-        Row::new(30).unwrap()
+    fn lead(alloc: Global, inst: &Instance, row: Row) -> Result<Instance, NoMemory> {
+        with_idle_machine(alloc, inst, row)
     }
 
-    fn down(&self, alloc: Global, inst: &Instance) -> Result<Instance, NoMemory> {
-        with_idle_machine(alloc, inst, self.row())
-    }
-
-    fn back(
-        &self,
-        _alloc: Global,
-        _inst: &Instance,
-        solution: Solution,
-    ) -> Result<Solution, NoMemory> {
-        Ok(solution)
-    }
-
-    ghost lower_is = { λ self i inner applies. (serves_30 i inner applies).lower };
-
-    ghost rate_of_row = { λ self i. refl };
-
-    ghost rate_is = { λ self i inner applies. IsPositive-same };
-
-    ghost forth_is = { λ self i s inner applies. IsForth-served (serves_30 i inner applies) inner s };
-
-    ghost back_is = { λ self i s inner applies. IsBack-served (serves_30 i inner applies) inner s };
+    ghost law = { carries_same refl stay_30 };
 }
 
 /// An open shop of two machines is one of three whose last machine has no work (Lageweg, Lawler, Lenstra and Rinnooy Kan 1982).
 #[derive(Clone, Copy, Debug)]
 pub struct Row31;
 
-impl Reduction for Row31 {
-    ghost number = { λ self. 31 };
+impl KeepsSchedules for Row31 {
+    const NUMBER: u8 = 31;
 
-    ghost lower = { λ self. with_idle_machine 31 };
+    ghost NUMBER = { 31 };
 
-    ghost rate = { λ self i. same_costs };
+    ghost lower = { with_idle_machine 31 };
 
-    ghost forth = { λ self i s. s };
-
-    ghost upper = { λ self i s. s };
-
-    fn row(&self) -> Row {
-        Row::new(31).unwrap()
+    fn lead(alloc: Global, inst: &Instance, row: Row) -> Result<Instance, NoMemory> {
+        with_idle_machine(alloc, inst, row)
     }
 
-    fn down(&self, alloc: Global, inst: &Instance) -> Result<Instance, NoMemory> {
-        with_idle_machine(alloc, inst, self.row())
-    }
-
-    fn back(
-        &self,
-        _alloc: Global,
-        _inst: &Instance,
-        solution: Solution,
-    ) -> Result<Solution, NoMemory> {
-        Ok(solution)
-    }
-
-    ghost lower_is = { λ self i inner applies. (serves_31 i inner applies).lower };
-
-    ghost rate_of_row = { λ self i. refl };
-
-    ghost rate_is = { λ self i inner applies. IsPositive-same };
-
-    ghost forth_is = { λ self i s inner applies. IsForth-served (serves_31 i inner applies) inner s };
-
-    ghost back_is = { λ self i s inner applies. IsBack-served (serves_31 i inner applies) inner s };
+    ghost law = { carries_same refl stay_31 };
 }
 
 /// Leaves out the job's operations of time 0.

@@ -9,17 +9,15 @@ ghost use Rattle.msp_schedule.specs.Feasible.{Feasible};
 ghost use Rattle.msp_schedule.specs.Within.{Within};
 ghost use Rattle.msp_schedule.specs.Cost.{IsSolution};
 ghost use Rattle.msp_route.specs.Law.{Applies};
-ghost use Rattle.msp_route.specs.Changes.{same_costs};
-ghost use Rattle.msp_route.proofs.Alike.{IsPositive-same};
+ghost use Rattle.msp_route.specs.laws.Stays.{carries_same};
 ghost use Rattle.msp_route.specs.Rates.{least_common_multiple, speed_rate};
 ghost use Rattle.msp_machines.specs.Unrelated.{IsStretchable, needs_by, only_time, on_each_machine, led_to_each, stretched_step, stretched_curve, stretched, led_by_speeds, stretched_schedule, shrunk_schedule};
 ghost use Rattle.msp_machines.specs.laws.Stretched.{led_26, led_27};
-ghost use Rattle.msp_machines.specs.laws.OnEach.{serves_23, serves_24};
-ghost use Rattle.msp_machines.specs.laws.Served.{IsForth-served, IsBack-served};
+ghost use Rattle.msp_machines.specs.laws.OnEach.{stay_23, stay_24};
 
 use msp_class::{List, NoMemory};
 use msp_instance::{Curve, Instance, Job, Need, Step, multiple_of_all};
-use msp_route::{Reduction, led};
+use msp_route::{KeepsSchedules, Reduction, led};
 use msp_schedule::{Schedule, Solution, cost};
 use msp_table::Row;
 use std::alloc::Global;
@@ -74,86 +72,36 @@ fn led_to_each(alloc: Global, inst: &Instance, row: Row) -> Result<Instance, NoM
 #[derive(Clone, Copy, Debug)]
 pub struct Row23;
 
-impl Reduction for Row23 {
-    ghost number = { λ self. 23 };
+impl KeepsSchedules for Row23 {
+    const NUMBER: u8 = 23;
 
-    ghost lower = { λ self. led_to_each 23 };
+    ghost NUMBER = { 23 };
 
-    ghost rate = { λ self i. same_costs };
+    ghost lower = { led_to_each 23 };
 
-    ghost forth = { λ self i s. s };
-
-    ghost upper = { λ self i s. s };
-
-    fn row(&self) -> Row {
-        Row::new(23).unwrap()
+    fn lead(alloc: Global, inst: &Instance, row: Row) -> Result<Instance, NoMemory> {
+        led_to_each(alloc, inst, row)
     }
 
-    fn down(&self, alloc: Global, inst: &Instance) -> Result<Instance, NoMemory> {
-        led_to_each(alloc, inst, self.row())
-    }
-
-    fn back(
-        &self,
-        _alloc: Global,
-        _inst: &Instance,
-        solution: Solution,
-    ) -> Result<Solution, NoMemory> {
-        Ok(solution)
-    }
-
-    ghost lower_is = { λ self i inner applies. (serves_23 i inner applies).lower };
-
-    ghost rate_of_row = { λ self i. refl };
-
-    ghost rate_is = { λ self i inner applies. IsPositive-same };
-
-    ghost forth_is = { λ self i s inner applies. IsForth-served (serves_23 i inner applies) inner s };
-
-    ghost back_is = { λ self i s inner applies. IsBack-served (serves_23 i inner applies) inner s };
+    ghost law = { carries_same refl stay_23 };
 }
 
 /// Identical machines are unrelated ones, on which each job takes its time (Lageweg, Lawler, Lenstra and Rinnooy Kan 1982).
 #[derive(Clone, Copy, Debug)]
 pub struct Row24;
 
-impl Reduction for Row24 {
-    ghost number = { λ self. 24 };
+impl KeepsSchedules for Row24 {
+    const NUMBER: u8 = 24;
 
-    ghost lower = { λ self. led_to_each 24 };
+    ghost NUMBER = { 24 };
 
-    ghost rate = { λ self i. same_costs };
+    ghost lower = { led_to_each 24 };
 
-    ghost forth = { λ self i s. s };
-
-    ghost upper = { λ self i s. s };
-
-    fn row(&self) -> Row {
-        Row::new(24).unwrap()
+    fn lead(alloc: Global, inst: &Instance, row: Row) -> Result<Instance, NoMemory> {
+        led_to_each(alloc, inst, row)
     }
 
-    fn down(&self, alloc: Global, inst: &Instance) -> Result<Instance, NoMemory> {
-        led_to_each(alloc, inst, self.row())
-    }
-
-    fn back(
-        &self,
-        _alloc: Global,
-        _inst: &Instance,
-        solution: Solution,
-    ) -> Result<Solution, NoMemory> {
-        Ok(solution)
-    }
-
-    ghost lower_is = { λ self i inner applies. (serves_24 i inner applies).lower };
-
-    ghost rate_of_row = { λ self i. refl };
-
-    ghost rate_is = { λ self i inner applies. IsPositive-same };
-
-    ghost forth_is = { λ self i s inner applies. IsForth-served (serves_24 i inner applies) inner s };
-
-    ghost back_is = { λ self i s inner applies. IsBack-served (serves_24 i inner applies) inner s };
+    ghost law = { carries_same refl stay_24 };
 }
 
 /// The least common multiple of all speeds.

@@ -1,16 +1,14 @@
 // The row from the greatest lateness to the greatest cost by curves.
 ghost use Rattle.std.specs.Prelude.{◌≡◌, All, map, refl};
 ghost use Rattle.msp_instance.specs.Conditions.{LiesWithin};
-ghost use Rattle.msp_route.specs.Rates.{rate_of};
 ghost use Rattle.msp_plain.specs.Changes.{by_curve, led_by_curves};
-ghost use Rattle.msp_route.proofs.Alike.{IsPositive-same, IsForth-alike, IsBack-alike};
+ghost use Rattle.msp_route.specs.laws.Stays.{carries_same};
 ghost use Rattle.msp_route.specs.Sizes.{greatest_row_date};
-ghost use Rattle.msp_plain.specs.laws.Curves.{alike_9};
+ghost use Rattle.msp_plain.specs.laws.Curves.{stay_9};
 
 use msp_class::{List, NoMemory};
 use msp_instance::{Curve, Instance, Job};
-use msp_route::{Reduction, led};
-use msp_schedule::Solution;
+use msp_route::{KeepsSchedules, led};
 use msp_table::Row;
 use std::alloc::Global;
 
@@ -40,45 +38,20 @@ fn charge_all_by_curves(alloc: Global, jobs: &mut [Job])
 #[derive(Clone, Copy, Debug)]
 pub struct Row9;
 
-impl Reduction for Row9 {
-    ghost number = { λ self. 9 };
+impl KeepsSchedules for Row9 {
+    const NUMBER: u8 = 9;
 
-    ghost lower = { λ self. led_by_curves };
+    ghost NUMBER = { 9 };
 
-    ghost rate = { λ self. rate_of 9 };
+    ghost lower = { led_by_curves };
 
-    ghost forth = { λ self i s. s };
-
-    ghost upper = { λ self i s. s };
-
-    fn row(&self) -> Row {
-        Row::new(9).unwrap()
-    }
-
-    fn down(&self, alloc: Global, inst: &Instance) -> Result<Instance, NoMemory> {
-        let mut lower = led(alloc, inst, self.row())?;
+    fn lead(alloc: Global, inst: &Instance, row: Row) -> Result<Instance, NoMemory> {
+        let mut lower = led(alloc, inst, row)?;
         let mut jobs = lower.jobs.take_all();
         charge_all_by_curves(alloc, &mut jobs);
         lower.jobs = List::from_vec(jobs);
         Ok(lower)
     }
 
-    fn back(
-        &self,
-        _alloc: Global,
-        _inst: &Instance,
-        solution: Solution,
-    ) -> Result<Solution, NoMemory> {
-        Ok(solution)
-    }
-
-    ghost lower_is = { λ self i inner applies. (alike_9 i inner applies).lower };
-
-    ghost rate_of_row = { λ self i. refl };
-
-    ghost rate_is = { λ self i inner applies. IsPositive-same };
-
-    ghost forth_is = { λ self i s inner applies. IsForth-alike (alike_9 i inner applies) inner s };
-
-    ghost back_is = { λ self i s inner applies. IsBack-alike (alike_9 i inner applies) inner s };
+    ghost law = { carries_same refl stay_9 };
 }

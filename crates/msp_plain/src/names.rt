@@ -1,357 +1,102 @@
 // The rows that widen the precedence constraints, the release dates or the processing times. The class alone changes.
 ghost use Rattle.std.specs.Prelude.{refl};
-ghost use Rattle.msp_route.specs.Changes.{led};
-ghost use Rattle.msp_route.specs.Rates.{rate_of};
-ghost use Rattle.msp_route.proofs.Alike.{IsPositive-same, IsForth-alike, IsBack-alike};
-ghost use Rattle.msp_plain.specs.laws.Names.{alike_1, alike_2, alike_3, alike_4, alike_5, alike_6, alike_7, alike_53};
+ghost use Rattle.msp_route.specs.laws.Stays.{carries_same};
+ghost use Rattle.msp_plain.specs.laws.Names.{stay_1, stay_2, stay_3, stay_4, stay_5, stay_6, stay_7, stay_53};
 
-use msp_class::NoMemory;
-use msp_instance::Instance;
-use msp_route::{Reduction, led};
-use msp_schedule::Solution;
-use msp_table::Row;
-use std::alloc::Global;
+use msp_route::KeepsData;
 
 /// No precedence constraints are chains without arcs (Lageweg, Lawler, Lenstra and Rinnooy Kan 1982).
 #[derive(Clone, Copy, Debug)]
 pub struct Row1;
 
-impl Reduction for Row1 {
-    ghost number = { λ self. 1 };
+impl KeepsData for Row1 {
+    const NUMBER: u8 = 1;
 
-    ghost lower = { λ self. led 1 };
+    ghost NUMBER = { 1 };
 
-    ghost rate = { λ self. rate_of 1 };
-
-    ghost forth = { λ self i s. s };
-
-    ghost upper = { λ self i s. s };
-
-    fn row(&self) -> Row {
-        Row::new(1).unwrap()
-    }
-
-    fn down(&self, alloc: Global, inst: &Instance) -> Result<Instance, NoMemory> {
-        led(alloc, inst, self.row())
-    }
-
-    fn back(
-        &self,
-        _alloc: Global,
-        _inst: &Instance,
-        solution: Solution,
-    ) -> Result<Solution, NoMemory> {
-        Ok(solution)
-    }
-
-    ghost lower_is = { λ self i inner applies. (alike_1 i inner applies).lower };
-
-    ghost rate_of_row = { λ self i. refl };
-
-    ghost rate_is = { λ self i inner applies. IsPositive-same };
-
-    ghost forth_is = { λ self i s inner applies. IsForth-alike (alike_1 i inner applies) inner s };
-
-    ghost back_is = { λ self i s inner applies. IsBack-alike (alike_1 i inner applies) inner s };
+    ghost law = { carries_same refl stay_1 };
 }
 
 /// Chains are intrees: at most one arc leaves each job (Lageweg, Lawler, Lenstra and Rinnooy Kan 1982).
 #[derive(Clone, Copy, Debug)]
 pub struct Row2;
 
-impl Reduction for Row2 {
-    ghost number = { λ self. 2 };
+impl KeepsData for Row2 {
+    const NUMBER: u8 = 2;
 
-    ghost lower = { λ self. led 2 };
+    ghost NUMBER = { 2 };
 
-    ghost rate = { λ self. rate_of 2 };
-
-    ghost forth = { λ self i s. s };
-
-    ghost upper = { λ self i s. s };
-
-    fn row(&self) -> Row {
-        Row::new(2).unwrap()
-    }
-
-    fn down(&self, alloc: Global, inst: &Instance) -> Result<Instance, NoMemory> {
-        led(alloc, inst, self.row())
-    }
-
-    fn back(
-        &self,
-        _alloc: Global,
-        _inst: &Instance,
-        solution: Solution,
-    ) -> Result<Solution, NoMemory> {
-        Ok(solution)
-    }
-
-    ghost lower_is = { λ self i inner applies. (alike_2 i inner applies).lower };
-
-    ghost rate_of_row = { λ self i. refl };
-
-    ghost rate_is = { λ self i inner applies. IsPositive-same };
-
-    ghost forth_is = { λ self i s inner applies. IsForth-alike (alike_2 i inner applies) inner s };
-
-    ghost back_is = { λ self i s inner applies. IsBack-alike (alike_2 i inner applies) inner s };
+    ghost law = { carries_same refl stay_2 };
 }
 
 /// Chains are outtrees: at most one arc enters each job (Lageweg, Lawler, Lenstra and Rinnooy Kan 1982).
 #[derive(Clone, Copy, Debug)]
 pub struct Row3;
 
-impl Reduction for Row3 {
-    ghost number = { λ self. 3 };
+impl KeepsData for Row3 {
+    const NUMBER: u8 = 3;
 
-    ghost lower = { λ self. led 3 };
+    ghost NUMBER = { 3 };
 
-    ghost rate = { λ self. rate_of 3 };
-
-    ghost forth = { λ self i s. s };
-
-    ghost upper = { λ self i s. s };
-
-    fn row(&self) -> Row {
-        Row::new(3).unwrap()
-    }
-
-    fn down(&self, alloc: Global, inst: &Instance) -> Result<Instance, NoMemory> {
-        led(alloc, inst, self.row())
-    }
-
-    fn back(
-        &self,
-        _alloc: Global,
-        _inst: &Instance,
-        solution: Solution,
-    ) -> Result<Solution, NoMemory> {
-        Ok(solution)
-    }
-
-    ghost lower_is = { λ self i inner applies. (alike_3 i inner applies).lower };
-
-    ghost rate_of_row = { λ self i. refl };
-
-    ghost rate_is = { λ self i inner applies. IsPositive-same };
-
-    ghost forth_is = { λ self i s inner applies. IsForth-alike (alike_3 i inner applies) inner s };
-
-    ghost back_is = { λ self i s inner applies. IsBack-alike (alike_3 i inner applies) inner s };
+    ghost law = { carries_same refl stay_3 };
 }
 
 /// Intrees are precedence constraints (Lageweg, Lawler, Lenstra and Rinnooy Kan 1982).
 #[derive(Clone, Copy, Debug)]
 pub struct Row4;
 
-impl Reduction for Row4 {
-    ghost number = { λ self. 4 };
+impl KeepsData for Row4 {
+    const NUMBER: u8 = 4;
 
-    ghost lower = { λ self. led 4 };
+    ghost NUMBER = { 4 };
 
-    ghost rate = { λ self. rate_of 4 };
-
-    ghost forth = { λ self i s. s };
-
-    ghost upper = { λ self i s. s };
-
-    fn row(&self) -> Row {
-        Row::new(4).unwrap()
-    }
-
-    fn down(&self, alloc: Global, inst: &Instance) -> Result<Instance, NoMemory> {
-        led(alloc, inst, self.row())
-    }
-
-    fn back(
-        &self,
-        _alloc: Global,
-        _inst: &Instance,
-        solution: Solution,
-    ) -> Result<Solution, NoMemory> {
-        Ok(solution)
-    }
-
-    ghost lower_is = { λ self i inner applies. (alike_4 i inner applies).lower };
-
-    ghost rate_of_row = { λ self i. refl };
-
-    ghost rate_is = { λ self i inner applies. IsPositive-same };
-
-    ghost forth_is = { λ self i s inner applies. IsForth-alike (alike_4 i inner applies) inner s };
-
-    ghost back_is = { λ self i s inner applies. IsBack-alike (alike_4 i inner applies) inner s };
+    ghost law = { carries_same refl stay_4 };
 }
 
 /// Outtrees are precedence constraints (Lageweg, Lawler, Lenstra and Rinnooy Kan 1982).
 #[derive(Clone, Copy, Debug)]
 pub struct Row5;
 
-impl Reduction for Row5 {
-    ghost number = { λ self. 5 };
+impl KeepsData for Row5 {
+    const NUMBER: u8 = 5;
 
-    ghost lower = { λ self. led 5 };
+    ghost NUMBER = { 5 };
 
-    ghost rate = { λ self. rate_of 5 };
-
-    ghost forth = { λ self i s. s };
-
-    ghost upper = { λ self i s. s };
-
-    fn row(&self) -> Row {
-        Row::new(5).unwrap()
-    }
-
-    fn down(&self, alloc: Global, inst: &Instance) -> Result<Instance, NoMemory> {
-        led(alloc, inst, self.row())
-    }
-
-    fn back(
-        &self,
-        _alloc: Global,
-        _inst: &Instance,
-        solution: Solution,
-    ) -> Result<Solution, NoMemory> {
-        Ok(solution)
-    }
-
-    ghost lower_is = { λ self i inner applies. (alike_5 i inner applies).lower };
-
-    ghost rate_of_row = { λ self i. refl };
-
-    ghost rate_is = { λ self i inner applies. IsPositive-same };
-
-    ghost forth_is = { λ self i s inner applies. IsForth-alike (alike_5 i inner applies) inner s };
-
-    ghost back_is = { λ self i s inner applies. IsBack-alike (alike_5 i inner applies) inner s };
+    ghost law = { carries_same refl stay_5 };
 }
 
 /// No release dates are release dates of 0 (Lageweg, Lawler, Lenstra and Rinnooy Kan 1982).
 #[derive(Clone, Copy, Debug)]
 pub struct Row6;
 
-impl Reduction for Row6 {
-    ghost number = { λ self. 6 };
+impl KeepsData for Row6 {
+    const NUMBER: u8 = 6;
 
-    ghost lower = { λ self. led 6 };
+    ghost NUMBER = { 6 };
 
-    ghost rate = { λ self. rate_of 6 };
-
-    ghost forth = { λ self i s. s };
-
-    ghost upper = { λ self i s. s };
-
-    fn row(&self) -> Row {
-        Row::new(6).unwrap()
-    }
-
-    fn down(&self, alloc: Global, inst: &Instance) -> Result<Instance, NoMemory> {
-        led(alloc, inst, self.row())
-    }
-
-    fn back(
-        &self,
-        _alloc: Global,
-        _inst: &Instance,
-        solution: Solution,
-    ) -> Result<Solution, NoMemory> {
-        Ok(solution)
-    }
-
-    ghost lower_is = { λ self i inner applies. (alike_6 i inner applies).lower };
-
-    ghost rate_of_row = { λ self i. refl };
-
-    ghost rate_is = { λ self i inner applies. IsPositive-same };
-
-    ghost forth_is = { λ self i s inner applies. IsForth-alike (alike_6 i inner applies) inner s };
-
-    ghost back_is = { λ self i s inner applies. IsBack-alike (alike_6 i inner applies) inner s };
+    ghost law = { carries_same refl stay_6 };
 }
 
 /// Unit times are equal times (Brucker and Knust, Complexity Results for Scheduling Problems).
 #[derive(Clone, Copy, Debug)]
 pub struct Row7;
 
-impl Reduction for Row7 {
-    ghost number = { λ self. 7 };
+impl KeepsData for Row7 {
+    const NUMBER: u8 = 7;
 
-    ghost lower = { λ self. led 7 };
+    ghost NUMBER = { 7 };
 
-    ghost rate = { λ self. rate_of 7 };
-
-    ghost forth = { λ self i s. s };
-
-    ghost upper = { λ self i s. s };
-
-    fn row(&self) -> Row {
-        Row::new(7).unwrap()
-    }
-
-    fn down(&self, alloc: Global, inst: &Instance) -> Result<Instance, NoMemory> {
-        led(alloc, inst, self.row())
-    }
-
-    fn back(
-        &self,
-        _alloc: Global,
-        _inst: &Instance,
-        solution: Solution,
-    ) -> Result<Solution, NoMemory> {
-        Ok(solution)
-    }
-
-    ghost lower_is = { λ self i inner applies. (alike_7 i inner applies).lower };
-
-    ghost rate_of_row = { λ self i. refl };
-
-    ghost rate_is = { λ self i inner applies. IsPositive-same };
-
-    ghost forth_is = { λ self i s inner applies. IsForth-alike (alike_7 i inner applies) inner s };
-
-    ghost back_is = { λ self i s inner applies. IsBack-alike (alike_7 i inner applies) inner s };
+    ghost law = { carries_same refl stay_7 };
 }
 
 /// Equal times are times (Brucker and Knust, Complexity Results for Scheduling Problems).
 #[derive(Clone, Copy, Debug)]
 pub struct Row53;
 
-impl Reduction for Row53 {
-    ghost number = { λ self. 53 };
+impl KeepsData for Row53 {
+    const NUMBER: u8 = 53;
 
-    ghost lower = { λ self. led 53 };
+    ghost NUMBER = { 53 };
 
-    ghost rate = { λ self. rate_of 53 };
-
-    ghost forth = { λ self i s. s };
-
-    ghost upper = { λ self i s. s };
-
-    fn row(&self) -> Row {
-        Row::new(53).unwrap()
-    }
-
-    fn down(&self, alloc: Global, inst: &Instance) -> Result<Instance, NoMemory> {
-        led(alloc, inst, self.row())
-    }
-
-    fn back(
-        &self,
-        _alloc: Global,
-        _inst: &Instance,
-        solution: Solution,
-    ) -> Result<Solution, NoMemory> {
-        Ok(solution)
-    }
-
-    ghost lower_is = { λ self i inner applies. (alike_53 i inner applies).lower };
-
-    ghost rate_of_row = { λ self i. refl };
-
-    ghost rate_is = { λ self i inner applies. IsPositive-same };
-
-    ghost forth_is = { λ self i s inner applies. IsForth-alike (alike_53 i inner applies) inner s };
-
-    ghost back_is = { λ self i s inner applies. IsBack-alike (alike_53 i inner applies) inner s };
+    ghost law = { carries_same refl stay_53 };
 }

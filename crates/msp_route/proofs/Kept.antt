@@ -12,18 +12,8 @@ use Rattle.msp_schedule.specs.declared.Schedule.{Schedule}
 use Rattle.msp_table.specs.Rows.{table, goes_of, keeps_size}
 use Rattle.msp_route.specs.Bounds.{EndsBy, IsSized, KeepsBounds, keeps_schedule, trades_dates, moment_after}
 use Rattle.msp_route.specs.declared.bounds.TheConstants.{GREATEST_RAISE, GREATEST_LINED_UP, GREATEST_CLOSED_UP}
+use Rattle.msp_route.specs.laws.Stays.{other_row}
 use Rattle.msp_route.proofs.Applied.{part_and_condition}
-
--- a row that a test passes is none that it fails
-pub other_row : (test : ℕ → Bool) (row n : ℕ) → test n ≡ false → test row ≡ true → (row == n) ≡ false
-other_row test row n fails passes = by (row == n) refl
-  where
-    by : (b : Bool) → (row == n) ≡ b → (row == n) ≡ false
-    by true e = absurd (apart (sym (ap test (eqb-true row n e) ∙ fails) ∙ passes))
-      where
-        apart : false ≡ true → ⊥
-        apart h = cc
-    by false e = e
 
 -- ---- moments
 -- the rows that may raise the greatest moment

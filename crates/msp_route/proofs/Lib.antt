@@ -3,6 +3,7 @@ pub mod EarlyAnswers
 pub mod Composed
 pub mod Kept
 pub mod Alike
+pub mod Brought
 pub mod InnerChanges
 pub mod InPlace
 pub mod JobReads

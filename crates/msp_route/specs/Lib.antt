@@ -7,3 +7,5 @@ pub mod LastJob
 pub mod Candidates
 pub mod Row
 pub mod Sizes
+pub mod Stays
+pub mod laws

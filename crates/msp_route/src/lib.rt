@@ -1,15 +1,17 @@
 //! Reductions that carry instances and schedules, solvers, and a solver composed of both.
 //!
 //! It stands on `msp_schedule` and `msp_table`. The layers above use the traits `Reduction` and `Solver` alone: what a lawful
-//! reduction does to costs, so that a best schedule brought back is best, and that a solver's answer is best within its bounds. What more
-//! than one solver needs stands here too, since no solver's crate stands on another's: the job that ends last (`last_place`), how long
-//! jobs take one after another (`total_time`), their pieces and the solution where they run so (`in_a_row`, `solution_in_order`), and jobs
-//! that are sorted by a number (`Keyed`).
+//! reduction does to costs, so that a best schedule brought back is best, and that a solver's answer is best within its bounds. A row over
+//! which schedules stay as they are says so by `KeepsData` or `KeepsSchedules`, and is a lawful reduction by that. What more than one
+//! solver needs stands here too, since no solver's crate stands on another's: the job that ends last (`last_place`), how long jobs take
+//! one after another (`total_time`), their pieces and the solution where they run so (`in_a_row`, `solution_in_order`), and jobs that are
+//! sorted by a number (`Keyed`).
 #![tactic(auto)]
 
 mod answer;
 mod bounds;
 mod copies;
+mod keeps;
 mod keyed;
 mod last_job;
 mod laws;
@@ -25,6 +27,7 @@ pub use bounds::{
     GREATEST_OPEN_UNIT, GREATEST_RAISE,
 };
 pub use copies::{led, recast};
+pub use keeps::{KeepsData, KeepsSchedules};
 pub use keyed::{Keyed, job_numbers, jobs_by_key, sort_by_falling_key, sort_by_key};
 pub use last_job::last_place;
 pub use laws::law_of_limits;

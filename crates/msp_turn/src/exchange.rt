@@ -3,7 +3,7 @@ ghost use Rattle.std.specs.Prelude.{◌≡◌, ◌<◌, map, All, IfOk, IsPermut
 ghost use Rattle.std.specs.List.{range_with_len};
 ghost use Rattle.msp_table.specs.Rows.{goes_of};
 ghost use Rattle.msp_route.specs.Changes.{same_costs};
-ghost use Rattle.msp_route.proofs.Alike.{IsPositive-same};
+ghost use Rattle.msp_route.specs.laws.Stays.{IsPositive-same};
 ghost use Rattle.msp_turn.specs.Ends.{EndsFall};
 ghost use Rattle.msp_turn.specs.LinedUp.{from_last};
 ghost use Rattle.msp_turn.specs.Exchanged.{IsExchangeable, exchanged_job, exchanged};

@@ -1,7 +1,7 @@
 // The rows between cut and uncut jobs on one machine without release dates. The class alone changes.
 ghost use Rattle.std.specs.Prelude.{refl};
 ghost use Rattle.msp_route.specs.Changes.{led, same_costs};
-ghost use Rattle.msp_route.proofs.Alike.{IsPositive-same};
+ghost use Rattle.msp_route.specs.laws.Stays.{IsPositive-same};
 ghost use Rattle.msp_turn.specs.LinedUp.{by_ends};
 ghost use Rattle.msp_turn.specs.laws.OneMachine.{lower_49, forth_49, back_49, lower_50, forth_50, back_50};
 

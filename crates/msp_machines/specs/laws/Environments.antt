@@ -15,7 +15,8 @@ use Rattle.msp_schedule.proofs.changes.Serves.{SameWork-from_class}
 use Rattle.msp_table.specs.Rows.{goes_of, table}
 use Rattle.msp_route.specs.Law.{Applies}
 use Rattle.msp_route.specs.Changes.{led}
-use Rattle.msp_route.proofs.Alike.{Alike, Alike-led}
+use Rattle.msp_route.specs.Stays.{SchedulesStay}
+use Rattle.msp_route.proofs.Alike.{Alike-led, stay-alike}
 use Rattle.msp_route.proofs.Applied.{part_alone}
 use Rattle.msp_machines.specs.laws.InnerMachines.{AreMachines, AreWithin-self, Inner-same_jobs}
 
@@ -25,8 +26,8 @@ record EnvGrows (from to : Env) : Type 0 where
   machines : (m : ℕ) → MatchOption (fixed_machines from) ⊤ (λ n. m ≡ n) → MatchOption (fixed_machines to) ⊤ (λ n. m ≡ n)
   shape : (m : ℕ) (needs : List Need) → HasShape (kind_of from) from m needs → HasShape (kind_of to) to m needs
 
-alike_env : (row : ℕ) (from to : Env) → EnvGrows from to → (i : Instance) → i.class.env ≡ from → goes_of row i.class ≡ Some (record i.class { env = to }) → Inner i → Alike row i (led row i)
-alike_env row from to grows i e g inner = Alike-led row i (record i.class { env = to }) i.jobs g (record {
+stay_env : (row : ℕ) (from to : Env) → EnvGrows from to → (i : Instance) → i.class.env ≡ from → goes_of row i.class ≡ Some (record i.class { env = to }) → Inner i → SchedulesStay row i (led row i)
+stay_env row from to grows i e g inner = stay-alike (Alike-led row i (record i.class { env = to }) i.jobs g (record {
   lower = record {
     inner = Inner-same_jobs i to i.machines i.speeds (AreWithin-self i.class.env to kinds) machines (λ needs h. record {
       shape = grows.shape i.machines needs (subst (λ x. HasShape (kind_of x) x i.machines needs) e h.shape);
@@ -37,7 +38,7 @@ alike_env row from to grows i e g inner = Alike-led row i (record i.class { env 
   };
   work = SameWork-from_class i (record i.class { env = to }) kinds refl;
   charges = SameCharges-from_class i (record i.class { env = to }) refl;
-})
+})) inner
   where
     kinds : kind_of i.class.env ≡ kind_of to
     kinds = ap kind_of e ∙ grows.kind
@@ -55,54 +56,54 @@ alike_env row from to grows i e g inner = Alike-led row i (record i.class { env 
 longer : {m : ℕ} {needs : List Need} → IsRoute MOST_SHORT_OPERATIONS m needs → IsRoute MOST_OPERATIONS m needs
 longer h = record { some = h.some; few = omega (arith, h.few); machines = h.machines; moves = h.moves }
 
-pub alike_17 : (i : Instance) → Inner i → Applies 17 i → Alike 17 i (led 17 i)
+pub stay_17 : (i : Instance) → Inner i → Applies 17 i → SchedulesStay 17 i (led 17 i)
 unfolding goes_of table
-alike_17 i inner h = let (b, g) = part_alone _ _ h in alike_env 17 One P (record { kind = refl; machines = λ m h. tt; shape = λ m needs h. h }) i (env_number-injective _ One (eqb-true _ _ b)) g inner
+stay_17 i inner h = let (b, g) = part_alone _ _ h in stay_env 17 One P (record { kind = refl; machines = λ m h. tt; shape = λ m needs h. h }) i (env_number-injective _ One (eqb-true _ _ b)) g inner
 
-pub alike_18 : (i : Instance) → Inner i → Applies 18 i → Alike 18 i (led 18 i)
+pub stay_18 : (i : Instance) → Inner i → Applies 18 i → SchedulesStay 18 i (led 18 i)
 unfolding goes_of table
-alike_18 i inner h = let (b, g) = part_alone _ _ h in alike_env 18 P2 P (record { kind = refl; machines = λ m h. tt; shape = λ m needs h. h }) i (env_number-injective _ P2 (eqb-true _ _ b)) g inner
+stay_18 i inner h = let (b, g) = part_alone _ _ h in stay_env 18 P2 P (record { kind = refl; machines = λ m h. tt; shape = λ m needs h. h }) i (env_number-injective _ P2 (eqb-true _ _ b)) g inner
 
-pub alike_19 : (i : Instance) → Inner i → Applies 19 i → Alike 19 i (led 19 i)
+pub stay_19 : (i : Instance) → Inner i → Applies 19 i → SchedulesStay 19 i (led 19 i)
 unfolding goes_of table
-alike_19 i inner h = let (b, g) = part_alone _ _ h in alike_env 19 P3 P (record { kind = refl; machines = λ m h. tt; shape = λ m needs h. h }) i (env_number-injective _ P3 (eqb-true _ _ b)) g inner
+stay_19 i inner h = let (b, g) = part_alone _ _ h in stay_env 19 P3 P (record { kind = refl; machines = λ m h. tt; shape = λ m needs h. h }) i (env_number-injective _ P3 (eqb-true _ _ b)) g inner
 
-pub alike_22 : (i : Instance) → Inner i → Applies 22 i → Alike 22 i (led 22 i)
+pub stay_22 : (i : Instance) → Inner i → Applies 22 i → SchedulesStay 22 i (led 22 i)
 unfolding goes_of table
-alike_22 i inner h = let (b, g) = part_alone _ _ h in alike_env 22 Q2 Q (record { kind = refl; machines = λ m h. tt; shape = λ m needs h. h }) i (env_number-injective _ Q2 (eqb-true _ _ b)) g inner
+stay_22 i inner h = let (b, g) = part_alone _ _ h in stay_env 22 Q2 Q (record { kind = refl; machines = λ m h. tt; shape = λ m needs h. h }) i (env_number-injective _ Q2 (eqb-true _ _ b)) g inner
 
-pub alike_25 : (i : Instance) → Inner i → Applies 25 i → Alike 25 i (led 25 i)
+pub stay_25 : (i : Instance) → Inner i → Applies 25 i → SchedulesStay 25 i (led 25 i)
 unfolding goes_of table
-alike_25 i inner h = let (b, g) = part_alone _ _ h in alike_env 25 R2 R (record { kind = refl; machines = λ m h. tt; shape = λ m needs h. h }) i (env_number-injective _ R2 (eqb-true _ _ b)) g inner
+stay_25 i inner h = let (b, g) = part_alone _ _ h in stay_env 25 R2 R (record { kind = refl; machines = λ m h. tt; shape = λ m needs h. h }) i (env_number-injective _ R2 (eqb-true _ _ b)) g inner
 
-pub alike_35 : (i : Instance) → Inner i → Applies 35 i → Alike 35 i (led 35 i)
+pub stay_35 : (i : Instance) → Inner i → Applies 35 i → SchedulesStay 35 i (led 35 i)
 unfolding goes_of table
-alike_35 i inner h = let (b, g) = part_alone _ _ h in alike_env 35 F2 F (record { kind = refl; machines = λ m h. tt; shape = λ m needs h. h }) i (env_number-injective _ F2 (eqb-true _ _ b)) g inner
+stay_35 i inner h = let (b, g) = part_alone _ _ h in stay_env 35 F2 F (record { kind = refl; machines = λ m h. tt; shape = λ m needs h. h }) i (env_number-injective _ F2 (eqb-true _ _ b)) g inner
 
-pub alike_36 : (i : Instance) → Inner i → Applies 36 i → Alike 36 i (led 36 i)
+pub stay_36 : (i : Instance) → Inner i → Applies 36 i → SchedulesStay 36 i (led 36 i)
 unfolding goes_of table
-alike_36 i inner h = let (b, g) = part_alone _ _ h in alike_env 36 F3 F (record { kind = refl; machines = λ m h. tt; shape = λ m needs h. h }) i (env_number-injective _ F3 (eqb-true _ _ b)) g inner
+stay_36 i inner h = let (b, g) = part_alone _ _ h in stay_env 36 F3 F (record { kind = refl; machines = λ m h. tt; shape = λ m needs h. h }) i (env_number-injective _ F3 (eqb-true _ _ b)) g inner
 
-pub alike_37 : (i : Instance) → Inner i → Applies 37 i → Alike 37 i (led 37 i)
+pub stay_37 : (i : Instance) → Inner i → Applies 37 i → SchedulesStay 37 i (led 37 i)
 unfolding goes_of table
-alike_37 i inner h = let (b, g) = part_alone _ _ h in alike_env 37 O2 O (record { kind = refl; machines = λ m h. tt; shape = λ m needs h. h }) i (env_number-injective _ O2 (eqb-true _ _ b)) g inner
+stay_37 i inner h = let (b, g) = part_alone _ _ h in stay_env 37 O2 O (record { kind = refl; machines = λ m h. tt; shape = λ m needs h. h }) i (env_number-injective _ O2 (eqb-true _ _ b)) g inner
 
-pub alike_38 : (i : Instance) → Inner i → Applies 38 i → Alike 38 i (led 38 i)
+pub stay_38 : (i : Instance) → Inner i → Applies 38 i → SchedulesStay 38 i (led 38 i)
 unfolding goes_of table
-alike_38 i inner h = let (b, g) = part_alone _ _ h in alike_env 38 O3 O (record { kind = refl; machines = λ m h. tt; shape = λ m needs h. h }) i (env_number-injective _ O3 (eqb-true _ _ b)) g inner
+stay_38 i inner h = let (b, g) = part_alone _ _ h in stay_env 38 O3 O (record { kind = refl; machines = λ m h. tt; shape = λ m needs h. h }) i (env_number-injective _ O3 (eqb-true _ _ b)) g inner
 
-pub alike_41 : (i : Instance) → Inner i → Applies 41 i → Alike 41 i (led 41 i)
+pub stay_41 : (i : Instance) → Inner i → Applies 41 i → SchedulesStay 41 i (led 41 i)
 unfolding goes_of table
-alike_41 i inner h = let (b, g) = part_alone _ _ h in alike_env 41 J2Short J2 (record { kind = refl; machines = λ m h. h; shape = λ m needs h. longer h }) i (env_number-injective _ J2Short (eqb-true _ _ b)) g inner
+stay_41 i inner h = let (b, g) = part_alone _ _ h in stay_env 41 J2Short J2 (record { kind = refl; machines = λ m h. h; shape = λ m needs h. longer h }) i (env_number-injective _ J2Short (eqb-true _ _ b)) g inner
 
-pub alike_42 : (i : Instance) → Inner i → Applies 42 i → Alike 42 i (led 42 i)
+pub stay_42 : (i : Instance) → Inner i → Applies 42 i → SchedulesStay 42 i (led 42 i)
 unfolding goes_of table
-alike_42 i inner h = let (b, g) = part_alone _ _ h in alike_env 42 J2Short JShort (record { kind = refl; machines = λ m h. tt; shape = λ m needs h. h }) i (env_number-injective _ J2Short (eqb-true _ _ b)) g inner
+stay_42 i inner h = let (b, g) = part_alone _ _ h in stay_env 42 J2Short JShort (record { kind = refl; machines = λ m h. tt; shape = λ m needs h. h }) i (env_number-injective _ J2Short (eqb-true _ _ b)) g inner
 
-pub alike_43 : (i : Instance) → Inner i → Applies 43 i → Alike 43 i (led 43 i)
+pub stay_43 : (i : Instance) → Inner i → Applies 43 i → SchedulesStay 43 i (led 43 i)
 unfolding goes_of table
-alike_43 i inner h = let (b, g) = part_alone _ _ h in alike_env 43 J2 J (record { kind = refl; machines = λ m h. tt; shape = λ m needs h. h }) i (env_number-injective _ J2 (eqb-true _ _ b)) g inner
+stay_43 i inner h = let (b, g) = part_alone _ _ h in stay_env 43 J2 J (record { kind = refl; machines = λ m h. tt; shape = λ m needs h. h }) i (env_number-injective _ J2 (eqb-true _ _ b)) g inner
 
-pub alike_44 : (i : Instance) → Inner i → Applies 44 i → Alike 44 i (led 44 i)
+pub stay_44 : (i : Instance) → Inner i → Applies 44 i → SchedulesStay 44 i (led 44 i)
 unfolding goes_of table
-alike_44 i inner h = let (b, g) = part_alone _ _ h in alike_env 44 JShort J (record { kind = refl; machines = λ m h. tt; shape = λ m needs h. longer h }) i (env_number-injective _ JShort (eqb-true _ _ b)) g inner
+stay_44 i inner h = let (b, g) = part_alone _ _ h in stay_env 44 JShort J (record { kind = refl; machines = λ m h. tt; shape = λ m needs h. longer h }) i (env_number-injective _ JShort (eqb-true _ _ b)) g inner

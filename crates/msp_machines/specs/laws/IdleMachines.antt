@@ -26,10 +26,11 @@ use Rattle.msp_schedule.proofs.costs.Charges.{SameCharges-from_map, job_cost-rea
 use Rattle.msp_table.specs.Rows.{goes_of, table}
 use Rattle.msp_route.specs.Law.{Applies}
 use Rattle.msp_route.specs.Bounds.{greatest_unit}
+use Rattle.msp_route.specs.Stays.{SchedulesStay}
 use Rattle.msp_route.proofs.Applied.{part_and_condition}
 use Rattle.msp_machines.specs.Shops.{with_idle_operation, with_idle_machine}
 use Rattle.msp_machines.specs.laws.InnerMachines.{in_environment, with_needs, Inner-with_needs, AreWithin-any}
-use Rattle.msp_machines.specs.laws.Served.{ServesBoth}
+use Rattle.msp_machines.specs.laws.Served.{ServesBoth, stay-served}
 
 -- ---- needs with one more, of time 0
 abbrev idle : ℕ → Need
@@ -346,18 +347,18 @@ from_two from to two three kinds above below = record {
 }
 
 -- ---- the rows
-pub serves_28 : (i : Instance) → Inner i → Applies 28 i → ServesBoth 28 i (with_idle_machine 28 i)
+pub stay_28 : (i : Instance) → Inner i → Applies 28 i → SchedulesStay 28 i (with_idle_machine 28 i)
 unfolding goes_of table
-serves_28 i inner h = let (b, g, e) = part_and_condition _ _ _ h in ServesBoth-led One F2 1 (from_one F2 refl flow_shop) i (env_number-injective _ One (eqb-true _ _ b)) (times_number-injective _ General (eqb-true _ _ g)) inner 28 e
+stay_28 i inner h = let (b, g, e) = part_and_condition _ _ _ h in stay-served (ServesBoth-led One F2 1 (from_one F2 refl flow_shop) i (env_number-injective _ One (eqb-true _ _ b)) (times_number-injective _ General (eqb-true _ _ g)) inner 28 e) inner
 
-pub serves_29 : (i : Instance) → Inner i → Applies 29 i → ServesBoth 29 i (with_idle_machine 29 i)
+pub stay_29 : (i : Instance) → Inner i → Applies 29 i → SchedulesStay 29 i (with_idle_machine 29 i)
 unfolding goes_of table
-serves_29 i inner h = let (b, g, e) = part_and_condition _ _ _ h in ServesBoth-led One O2 1 (from_one O2 refl open_shop) i (env_number-injective _ One (eqb-true _ _ b)) (times_number-injective _ General (eqb-true _ _ g)) inner 29 e
+stay_29 i inner h = let (b, g, e) = part_and_condition _ _ _ h in stay-served (ServesBoth-led One O2 1 (from_one O2 refl open_shop) i (env_number-injective _ One (eqb-true _ _ b)) (times_number-injective _ General (eqb-true _ _ g)) inner 29 e) inner
 
-pub serves_30 : (i : Instance) → Inner i → Applies 30 i → ServesBoth 30 i (with_idle_machine 30 i)
+pub stay_30 : (i : Instance) → Inner i → Applies 30 i → SchedulesStay 30 i (with_idle_machine 30 i)
 unfolding goes_of table
-serves_30 i inner h = let (b, g, e) = part_and_condition _ _ _ h in ServesBoth-led F2 F3 2 (from_two F2 F3 refl refl refl flow_shop flow_shop) i (env_number-injective _ F2 (eqb-true _ _ b)) (times_number-injective _ General (eqb-true _ _ g)) inner 30 e
+stay_30 i inner h = let (b, g, e) = part_and_condition _ _ _ h in stay-served (ServesBoth-led F2 F3 2 (from_two F2 F3 refl refl refl flow_shop flow_shop) i (env_number-injective _ F2 (eqb-true _ _ b)) (times_number-injective _ General (eqb-true _ _ g)) inner 30 e) inner
 
-pub serves_31 : (i : Instance) → Inner i → Applies 31 i → ServesBoth 31 i (with_idle_machine 31 i)
+pub stay_31 : (i : Instance) → Inner i → Applies 31 i → SchedulesStay 31 i (with_idle_machine 31 i)
 unfolding goes_of table
-serves_31 i inner h = let (b, g, e) = part_and_condition _ _ _ h in ServesBoth-led O2 O3 2 (from_two O2 O3 refl refl refl open_shop open_shop) i (env_number-injective _ O2 (eqb-true _ _ b)) (times_number-injective _ General (eqb-true _ _ g)) inner 31 e
+stay_31 i inner h = let (b, g, e) = part_and_condition _ _ _ h in stay-served (ServesBoth-led O2 O3 2 (from_two O2 O3 refl refl refl open_shop open_shop) i (env_number-injective _ O2 (eqb-true _ _ b)) (times_number-injective _ General (eqb-true _ _ g)) inner 31 e) inner

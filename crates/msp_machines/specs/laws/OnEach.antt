@@ -24,11 +24,12 @@ use Rattle.msp_schedule.proofs.feasible.Frames.{frame_by, rate_on, IsShaped-from
 use Rattle.msp_table.specs.Rows.{goes_of, table}
 use Rattle.msp_route.specs.Law.{Applies}
 use Rattle.msp_route.specs.Bounds.{greatest_unit}
+use Rattle.msp_route.specs.Stays.{SchedulesStay}
 use Rattle.msp_route.proofs.Applied.{part_alone}
 use Rattle.msp_machines.specs.Unrelated.{needs_by, on_each_machine, led_to_each}
 use Rattle.msp_machines.specs.laws.NeedsBy.{get_or-needs_by, All-needs_by, HasNeeds-needs_by}
 use Rattle.msp_machines.specs.laws.InnerMachines.{in_environment, AreMachines, AreWithin-any, Inner-with_needs}
-use Rattle.msp_machines.specs.laws.Served.{ServesBoth}
+use Rattle.msp_machines.specs.laws.Served.{ServesBoth, stay-served}
 
 -- ---- the lower instance is an inner one
 same_times : (t : Times) (shared : ℕ) (needs : List Need) (n : ℕ) → 0 < length needs → HasSameTimes t shared needs → HasSameTimes t shared (needs_by n (λ m. (slice_index_or needs 0 no_need).time))
@@ -169,10 +170,10 @@ module _ (row : ℕ) (i : Instance) (e : Env) (from : kind_of i.class.env ≡ Id
 shared : (row : ℕ) (i : Instance) (e : Env) → kind_of i.class.env ≡ Identical → kind_of e ≡ Unrelated → fixed_machines i.class.env ≡ fixed_machines e → goes_of row i.class ≡ Some (record i.class { env = e }) → Inner i → ServesBoth row i (led_to_each row i)
 shared row i e from to fixed g inner = subst (ServesBoth row i) (sym (ap (λ o. record i { class = unwrap_or o i.class; jobs = map (on_each_machine i.machines) i.jobs }) g)) (serves_both row i e from to fixed g inner)
 
-pub serves_23 : (i : Instance) → Inner i → Applies 23 i → ServesBoth 23 i (led_to_each 23 i)
+pub stay_23 : (i : Instance) → Inner i → Applies 23 i → SchedulesStay 23 i (led_to_each 23 i)
 unfolding goes_of table
-serves_23 i inner h = let (b, g) = part_alone _ _ h in let e = env_number-injective _ P2 (eqb-true _ _ b) in shared 23 i R2 (ap kind_of e) refl (ap fixed_machines e) g inner
+stay_23 i inner h = let (b, g) = part_alone _ _ h in let e = env_number-injective _ P2 (eqb-true _ _ b) in stay-served (shared 23 i R2 (ap kind_of e) refl (ap fixed_machines e) g inner) inner
 
-pub serves_24 : (i : Instance) → Inner i → Applies 24 i → ServesBoth 24 i (led_to_each 24 i)
+pub stay_24 : (i : Instance) → Inner i → Applies 24 i → SchedulesStay 24 i (led_to_each 24 i)
 unfolding goes_of table
-serves_24 i inner h = let (b, g) = part_alone _ _ h in let e = env_number-injective _ P (eqb-true _ _ b) in shared 24 i R (ap kind_of e) refl (ap fixed_machines e) g inner
+stay_24 i inner h = let (b, g) = part_alone _ _ h in let e = env_number-injective _ P (eqb-true _ _ b) in stay-served (shared 24 i R (ap kind_of e) refl (ap fixed_machines e) g inner) inner

@@ -27,9 +27,10 @@ use Rattle.msp_table.specs.Rows.{goes_of, table}
 use Rattle.msp_route.specs.Law.{Applies}
 use Rattle.msp_route.specs.Bounds.{greatest_unit}
 use Rattle.msp_route.specs.Changes.{led}
+use Rattle.msp_route.specs.Stays.{SchedulesStay}
 use Rattle.msp_route.proofs.Applied.{part_alone}
 use Rattle.msp_machines.specs.laws.InnerMachines.{in_environment, AreMachines, AreWithin-any, Inner-same_jobs}
-use Rattle.msp_machines.specs.laws.Served.{ServesBoth}
+use Rattle.msp_machines.specs.laws.Served.{ServesBoth, stay-served}
 use Rattle.msp_machines.specs.Machines.{equal_speeds, led_at_equal_speeds, led_to_two_machines}
 
 -- ---- the lower instance is an inner one
@@ -142,13 +143,13 @@ serves_speeds row i e from to fixed g inner = ServesBoth-led i e Uniform i.machi
   want = λ a o. refl;
 }) row g
 
-pub serves_20 : (i : Instance) → Inner i → Applies 20 i → ServesBoth 20 i (led_at_equal_speeds 20 i)
+pub stay_20 : (i : Instance) → Inner i → Applies 20 i → SchedulesStay 20 i (led_at_equal_speeds 20 i)
 unfolding goes_of table
-serves_20 i inner h = let (b, g) = part_alone _ _ h in let e = env_number-injective _ P2 (eqb-true _ _ b) in serves_speeds 20 i Q2 (ap kind_of e) refl (ap fixed_machines e) g inner
+stay_20 i inner h = let (b, g) = part_alone _ _ h in let e = env_number-injective _ P2 (eqb-true _ _ b) in stay-served (serves_speeds 20 i Q2 (ap kind_of e) refl (ap fixed_machines e) g inner) inner
 
-pub serves_21 : (i : Instance) → Inner i → Applies 21 i → ServesBoth 21 i (led_at_equal_speeds 21 i)
+pub stay_21 : (i : Instance) → Inner i → Applies 21 i → SchedulesStay 21 i (led_at_equal_speeds 21 i)
 unfolding goes_of table
-serves_21 i inner h = let (b, g) = part_alone _ _ h in let e = env_number-injective _ P (eqb-true _ _ b) in serves_speeds 21 i Q (ap kind_of e) refl (ap fixed_machines e) g inner
+stay_21 i inner h = let (b, g) = part_alone _ _ h in let e = env_number-injective _ P (eqb-true _ _ b) in stay-served (serves_speeds 21 i Q (ap kind_of e) refl (ap fixed_machines e) g inner) inner
 
 -- ---- shops
 module _ (i : Instance) (env : i.class.env ≡ One) (inner : Inner i) where
@@ -230,14 +231,14 @@ serves_open i env g inner = serves_shop 33 i env O OpenShop i.machines refl (rec
 serves_job : (i : Instance) → i.class.env ≡ One → goes_of 34 i.class ≡ Some (record i.class { env = J2Short }) → Inner i → ServesBoth 34 i (led_to_two_machines 34 i)
 serves_job i env g inner = serves_shop 34 i env J2Short JobShop 2 refl (record { kind = refl; shape = route i env inner; least = λ t. omega arith; factor = refl; unit = refl }) (one_machine i env inner J2Short 2 (omega arith) (omega arith) refl refl) g inner
 
-pub serves_32 : (i : Instance) → Inner i → Applies 32 i → ServesBoth 32 i (led 32 i)
+pub stay_32 : (i : Instance) → Inner i → Applies 32 i → SchedulesStay 32 i (led 32 i)
 unfolding goes_of table
-serves_32 i inner h = let (b, g) = part_alone _ _ h in serves_flow i (env_number-injective _ One (eqb-true _ _ b)) g inner
+stay_32 i inner h = let (b, g) = part_alone _ _ h in stay-served (serves_flow i (env_number-injective _ One (eqb-true _ _ b)) g inner) inner
 
-pub serves_33 : (i : Instance) → Inner i → Applies 33 i → ServesBoth 33 i (led 33 i)
+pub stay_33 : (i : Instance) → Inner i → Applies 33 i → SchedulesStay 33 i (led 33 i)
 unfolding goes_of table
-serves_33 i inner h = let (b, g) = part_alone _ _ h in serves_open i (env_number-injective _ One (eqb-true _ _ b)) g inner
+stay_33 i inner h = let (b, g) = part_alone _ _ h in stay-served (serves_open i (env_number-injective _ One (eqb-true _ _ b)) g inner) inner
 
-pub serves_34 : (i : Instance) → Inner i → Applies 34 i → ServesBoth 34 i (led_to_two_machines 34 i)
+pub stay_34 : (i : Instance) → Inner i → Applies 34 i → SchedulesStay 34 i (led_to_two_machines 34 i)
 unfolding goes_of table
-serves_34 i inner h = let (b, g) = part_alone _ _ h in serves_job i (env_number-injective _ One (eqb-true _ _ b)) g inner
+stay_34 i inner h = let (b, g) = part_alone _ _ h in stay-served (serves_job i (env_number-injective _ One (eqb-true _ _ b)) g inner) inner

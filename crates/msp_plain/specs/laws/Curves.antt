@@ -24,7 +24,8 @@ use Rattle.msp_table.specs.Rows.{goes_of, table}
 use Rattle.msp_route.specs.Law.{Applies}
 use Rattle.msp_plain.specs.Changes.{by_curve, led_by_curves}
 use Rattle.msp_route.proofs.InnerChanges.{changed, common_time-map, Inner-changed}
-use Rattle.msp_route.proofs.Alike.{Alike, Alike-led}
+use Rattle.msp_route.specs.Stays.{SchedulesStay}
+use Rattle.msp_route.proofs.Alike.{Alike-led, stay-alike}
 use Rattle.msp_route.specs.Sizes.{greatest_row_date}
 use Rattle.msp_route.proofs.Applied.{part_alone}
 
@@ -72,18 +73,18 @@ by_curve_inner i e inner = Inner-changed i i.class.order i.class.heads i.class.t
         apart : (n : ℕ) (x y : ℤ) → x ≡ pos 0 → y ≡ pos 0 → (x -ℤ y) ≤ℤ pos n
         apart n x y e f = omega (arith, ints)
 
-pub alike_9 : (i : Instance) → Inner i → Applies 9 i → Alike 9 i (led_by_curves i)
+pub stay_9 : (i : Instance) → Inner i → Applies 9 i → SchedulesStay 9 i (led_by_curves i)
 unfolding goes_of table
-alike_9 i inner h = let (b, g) = part_alone _ _ h in by (crit_number-injective _ Lmax (eqb-true _ _ b)) g
+stay_9 i inner h = let (b, g) = part_alone _ _ h in by (crit_number-injective _ Lmax (eqb-true _ _ b)) g
   where
-    by : i.class.crit ≡ Lmax → goes_of 9 i.class ≡ Some (record i.class { crit = Fmax }) → Alike 9 i (led_by_curves i)
+    by : i.class.crit ≡ Lmax → goes_of 9 i.class ≡ Some (record i.class { crit = Fmax }) → SchedulesStay 9 i (led_by_curves i)
     by e g =
         let lower = changed i i.class.order i.class.heads i.class.times Fmax (map by_curve i.jobs) in
-        Alike-led 9 i (record i.class { crit = Fmax }) (map by_curve i.jobs) g (record {
+        stay-alike (Alike-led 9 i (record i.class { crit = Fmax }) (map by_curve i.jobs) g (record {
           lower = record { inner = by_curve_inner i e inner; class = g };
           work = SameWork-from_map i lower by_curve (SameNeeds-from_map i lower by_curve refl refl refl refl refl (λ a. refl)) refl (λ a. refl) refl;
           charges = SameCharges-from_map i lower by_curve refl (ap is_greatest e) (λ a unit x u p. ap (λ c. job_cost c unit a x) e ∙ curve_charge unit a x);
-        })
+        })) inner
 
 -- due dates fit their type, with either sign
 factor_bound : (k : EnvKind) → inner_factor k ≤ GREATEST_MULTIPLE

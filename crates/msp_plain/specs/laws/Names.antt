@@ -28,7 +28,8 @@ use Rattle.msp_table.specs.Rows.{goes_of, table}
 use Rattle.msp_route.specs.Law.{Applies}
 use Rattle.msp_route.specs.Changes.{led}
 use Rattle.msp_route.proofs.InnerChanges.{Inner-recast}
-use Rattle.msp_route.proofs.Alike.{Alike, Alike-led}
+use Rattle.msp_route.specs.Stays.{SchedulesStay}
+use Rattle.msp_route.proofs.Alike.{Alike-led, stay-alike}
 use Rattle.msp_route.proofs.Applied.{part_alone}
 
 -- ---- precedence
@@ -55,8 +56,8 @@ any_leaving = record { arcs = λ l h. h; degree = λ l j e h. tt }
 any_entering : OrderGrows Outtree Prec
 any_entering = record { arcs = λ l h. h; degree = λ l j e h. tt }
 
-alike_order : (row : ℕ) (from to : Order) → OrderGrows from to → (i : Instance) → i.class.order ≡ from → goes_of row i.class ≡ Some (record i.class { order = to }) → Inner i → Alike row i (led row i)
-alike_order row from to grows i e g inner = Alike-led row i (record i.class { order = to }) i.jobs g (record {
+stay_order : (row : ℕ) (from to : Order) → OrderGrows from to → (i : Instance) → i.class.order ≡ from → goes_of row i.class ≡ Some (record i.class { order = to }) → Inner i → SchedulesStay row i (led row i)
+stay_order row from to grows i e g inner = stay-alike (Alike-led row i (record i.class { order = to }) i.jobs g (record {
   lower = record {
     inner = Inner-recast i to i.class.heads i.class.times i.class.crit (λ a h. record {
       needs = record { shape = h.needs.shape; times = h.needs.times; some = h.needs.some };
@@ -70,30 +71,30 @@ alike_order row from to grows i e g inner = Alike-led row i (record i.class { or
   };
   work = SameWork-from_class i (record i.class { order = to }) refl refl;
   charges = SameCharges-from_class i (record i.class { order = to }) refl;
-})
+})) inner
   where
     arcs : HasArcs from i.arcs
     arcs = subst (λ o. HasArcs o i.arcs) e inner.conditions.arcs
 
-pub alike_1 : (i : Instance) → Inner i → Applies 1 i → Alike 1 i (led 1 i)
+pub stay_1 : (i : Instance) → Inner i → Applies 1 i → SchedulesStay 1 i (led 1 i)
 unfolding goes_of table
-alike_1 i inner h = let (b, g) = part_alone _ _ h in alike_order 1 Free Chains no_arcs i (order_number-injective _ Free (eqb-true _ _ b)) g inner
+stay_1 i inner h = let (b, g) = part_alone _ _ h in stay_order 1 Free Chains no_arcs i (order_number-injective _ Free (eqb-true _ _ b)) g inner
 
-pub alike_2 : (i : Instance) → Inner i → Applies 2 i → Alike 2 i (led 2 i)
+pub stay_2 : (i : Instance) → Inner i → Applies 2 i → SchedulesStay 2 i (led 2 i)
 unfolding goes_of table
-alike_2 i inner h = let (b, g) = part_alone _ _ h in alike_order 2 Chains Intree leaving_once i (order_number-injective _ Chains (eqb-true _ _ b)) g inner
+stay_2 i inner h = let (b, g) = part_alone _ _ h in stay_order 2 Chains Intree leaving_once i (order_number-injective _ Chains (eqb-true _ _ b)) g inner
 
-pub alike_3 : (i : Instance) → Inner i → Applies 3 i → Alike 3 i (led 3 i)
+pub stay_3 : (i : Instance) → Inner i → Applies 3 i → SchedulesStay 3 i (led 3 i)
 unfolding goes_of table
-alike_3 i inner h = let (b, g) = part_alone _ _ h in alike_order 3 Chains Outtree entering_once i (order_number-injective _ Chains (eqb-true _ _ b)) g inner
+stay_3 i inner h = let (b, g) = part_alone _ _ h in stay_order 3 Chains Outtree entering_once i (order_number-injective _ Chains (eqb-true _ _ b)) g inner
 
-pub alike_4 : (i : Instance) → Inner i → Applies 4 i → Alike 4 i (led 4 i)
+pub stay_4 : (i : Instance) → Inner i → Applies 4 i → SchedulesStay 4 i (led 4 i)
 unfolding goes_of table
-alike_4 i inner h = let (b, g) = part_alone _ _ h in alike_order 4 Intree Prec any_leaving i (order_number-injective _ Intree (eqb-true _ _ b)) g inner
+stay_4 i inner h = let (b, g) = part_alone _ _ h in stay_order 4 Intree Prec any_leaving i (order_number-injective _ Intree (eqb-true _ _ b)) g inner
 
-pub alike_5 : (i : Instance) → Inner i → Applies 5 i → Alike 5 i (led 5 i)
+pub stay_5 : (i : Instance) → Inner i → Applies 5 i → SchedulesStay 5 i (led 5 i)
 unfolding goes_of table
-alike_5 i inner h = let (b, g) = part_alone _ _ h in alike_order 5 Outtree Prec any_entering i (order_number-injective _ Outtree (eqb-true _ _ b)) g inner
+stay_5 i inner h = let (b, g) = part_alone _ _ h in stay_order 5 Outtree Prec any_entering i (order_number-injective _ Outtree (eqb-true _ _ b)) g inner
 
 -- ---- release dates
 abbrev limits_of : Instance → Limits
@@ -102,12 +103,12 @@ limits_of i = inner_limits (kind_of i.class.env)
 none_in_range : (l : Limits) (r : ℕ) → HasRelease l false r → HasRelease l true r
 none_in_range l r h = omega (arith, h)
 
-pub alike_6 : (i : Instance) → Inner i → Applies 6 i → Alike 6 i (led 6 i)
+pub stay_6 : (i : Instance) → Inner i → Applies 6 i → SchedulesStay 6 i (led 6 i)
 unfolding goes_of table
-alike_6 i inner h = let (b, g) = part_alone _ _ h in by (flag_number-injective _ false (eqb-true _ _ b)) g
+stay_6 i inner h = let (b, g) = part_alone _ _ h in by (flag_number-injective _ false (eqb-true _ _ b)) g
   where
-    by : i.class.heads ≡ false → goes_of 6 i.class ≡ Some (record i.class { heads = true }) → Alike 6 i (led 6 i)
-    by e g = Alike-led 6 i (record i.class { heads = true }) i.jobs g (record {
+    by : i.class.heads ≡ false → goes_of 6 i.class ≡ Some (record i.class { heads = true }) → SchedulesStay 6 i (led 6 i)
+    by e g = stay-alike (Alike-led 6 i (record i.class { heads = true }) i.jobs g (record {
       lower = record {
         inner = Inner-recast i i.class.order true i.class.times i.class.crit (λ a h. record {
           needs = record { shape = h.needs.shape; times = h.needs.times; some = h.needs.some };
@@ -121,12 +122,12 @@ alike_6 i inner h = let (b, g) = part_alone _ _ h in by (flag_number-injective _
       };
       work = SameWork-from_class i (record i.class { heads = true }) refl refl;
       charges = SameCharges-from_class i (record i.class { heads = true }) refl;
-    })
+    })) inner
 
 -- ---- times
-alike_times : (row : ℕ) (to : Times) (i : Instance) → ((a : Job) → IsJobOf (limits_of i) i a → HasTimes (least_time (kind_of i.class.env) to) (greatest_time (limits_of i) to) a.needs × HasSameTimes to (common_time i) a.needs) →
-    goes_of row i.class ≡ Some (record i.class { times = to }) → Inner i → Alike row i (led row i)
-alike_times row to i own g inner = Alike-led row i (record i.class { times = to }) i.jobs g (record {
+stay_times : (row : ℕ) (to : Times) (i : Instance) → ((a : Job) → IsJobOf (limits_of i) i a → HasTimes (least_time (kind_of i.class.env) to) (greatest_time (limits_of i) to) a.needs × HasSameTimes to (common_time i) a.needs) →
+    goes_of row i.class ≡ Some (record i.class { times = to }) → Inner i → SchedulesStay row i (led row i)
+stay_times row to i own g inner = stay-alike (Alike-led row i (record i.class { times = to }) i.jobs g (record {
   lower = record {
     inner = Inner-recast i i.class.order i.class.heads to i.class.crit (λ a h. let t = own a h in record {
       needs = record { shape = h.needs.shape; times = t.0; some = h.needs.some };
@@ -140,7 +141,7 @@ alike_times row to i own g inner = Alike-led row i (record i.class { times = to 
   };
   work = SameWork-from_class i (record i.class { times = to }) refl refl;
   charges = SameCharges-from_class i (record i.class { times = to }) refl;
-})
+})) inner
 
 least_shared : (k : EnvKind) → least_time k Equal ≡ 1
 least_shared Identical = refl
@@ -176,23 +177,23 @@ units i a e h = subst (λ t. HasSameTimes t (common_time i) a.needs) e h.times
 shared_unit : (i : Instance) → i.class.times ≡ UnitTimes → Inner i → common_time i ≡ 1
 shared_unit i e inner = let h = inner.conditions.jobs 0 no_job inner.conditions.some in units i (job_at i 0) e h 0 no_need (some_need (job_at i 0).needs h.needs.some)
 
-pub alike_7 : (i : Instance) → Inner i → Applies 7 i → Alike 7 i (led 7 i)
+pub stay_7 : (i : Instance) → Inner i → Applies 7 i → SchedulesStay 7 i (led 7 i)
 unfolding goes_of table
-alike_7 i inner h = let (b, g) = part_alone _ _ h in by (times_number-injective _ UnitTimes (eqb-true _ _ b)) g
+stay_7 i inner h = let (b, g) = part_alone _ _ h in by (times_number-injective _ UnitTimes (eqb-true _ _ b)) g
   where
-    by : i.class.times ≡ UnitTimes → goes_of 7 i.class ≡ Some (record i.class { times = Equal }) → Alike 7 i (led 7 i)
-    by e g = alike_times 7 Equal i (λ a h. let ones = units i a e h in
+    by : i.class.times ≡ UnitTimes → goes_of 7 i.class ≡ Some (record i.class { times = Equal }) → SchedulesStay 7 i (led 7 i)
+    by e g = stay_times 7 Equal i (λ a h. let ones = units i a e h in
         ((λ k d l. (omega (arith, ones k d l, least_shared (kind_of i.class.env)), omega (arith, ones k d l))), (λ k d l. ones k d l ∙ sym (shared_unit i e inner)))) g inner
 
 equal_in_range : (k : EnvKind) (needs : List Need) → HasTimes (least_time k Equal) (greatest_time (inner_limits k) Equal) needs → HasTimes (least_time k General) (greatest_time (inner_limits k) General) needs
 equal_in_range k needs h = λ j d l. let t = h j d l in (omega (arith, t.0, least_shared k, least_one k), omega (arith, t.1, factor_some k))
 
-pub alike_53 : (i : Instance) → Inner i → Applies 53 i → Alike 53 i (led 53 i)
+pub stay_53 : (i : Instance) → Inner i → Applies 53 i → SchedulesStay 53 i (led 53 i)
 unfolding goes_of table
-alike_53 i inner h = let (b, g) = part_alone _ _ h in by (times_number-injective _ Equal (eqb-true _ _ b)) g
+stay_53 i inner h = let (b, g) = part_alone _ _ h in by (times_number-injective _ Equal (eqb-true _ _ b)) g
   where
-    by : i.class.times ≡ Equal → goes_of 53 i.class ≡ Some (record i.class { times = General }) → Alike 53 i (led 53 i)
-    by e g = alike_times 53 General i (λ a h. (equal_in_range (kind_of i.class.env) a.needs (subst (λ t. HasTimes (least_time (kind_of i.class.env) t) (greatest_time (limits_of i) t) a.needs) e h.needs.times), tt)) g inner
+    by : i.class.times ≡ Equal → goes_of 53 i.class ≡ Some (record i.class { times = General }) → SchedulesStay 53 i (led 53 i)
+    by e g = stay_times 53 General i (λ a h. (equal_in_range (kind_of i.class.env) a.needs (subst (λ t. HasTimes (least_time (kind_of i.class.env) t) (greatest_time (limits_of i) t) a.needs) e h.needs.times), tt)) g inner
 
 -- ---- the criterion
 -- jobs of the one criterion are jobs of the other, and are charged the same
@@ -203,8 +204,8 @@ record CritGrows (from to : Crit) : Type 0 where
   curve : uses_curve from ≡ uses_curve to
   charge : (l : Limits) (a : Job) → HasDue l (uses_due from) a.due → HasWeight (uses_weight from) a.weight → (unit x : ℤ) → pos 0 ≤ℤ x → job_cost from unit a x ≡ job_cost to unit a x
 
-alike_crit : (row : ℕ) (from to : Crit) → CritGrows from to → (i : Instance) → i.class.crit ≡ from → goes_of row i.class ≡ Some (record i.class { crit = to }) → Inner i → Alike row i (led row i)
-alike_crit row from to grows i e g inner = Alike-led row i (record i.class { crit = to }) i.jobs g (record {
+stay_crit : (row : ℕ) (from to : Crit) → CritGrows from to → (i : Instance) → i.class.crit ≡ from → goes_of row i.class ≡ Some (record i.class { crit = to }) → Inner i → SchedulesStay row i (led row i)
+stay_crit row from to grows i e g inner = stay-alike (Alike-led row i (record i.class { crit = to }) i.jobs g (record {
   lower = record {
     inner = Inner-recast i i.class.order i.class.heads i.class.times to (λ a h. record {
       needs = record { shape = h.needs.shape; times = h.needs.times; some = h.needs.some };
@@ -222,7 +223,7 @@ alike_crit row from to grows i e g inner = Alike-led row i (record i.class { cri
     join = ap is_greatest e ∙ grows.join;
     charge = λ k l unit x u p. let h = inner.conditions.jobs k no_job l in ap (λ c. job_cost c unit (job_at i k) x) e ∙ grows.charge (limits_of i) (job_at i k) (due_of (job_at i k) h) (weight_of (job_at i k) h) unit x p;
   };
-})
+})) inner
   where
     due_of : (a : Job) → IsJobOf (limits_of i) i a → HasDue (limits_of i) (uses_due from) a.due
     due_of a h = subst (λ c. HasDue (limits_of i) (uses_due c) a.due) e h.due
@@ -249,26 +250,26 @@ never_late unit a x p e = sym (int_max-right (pos 0) x p) ∙ ap (int_max (pos 0
 once : (w : ℕ) (x : ℤ) → w ≡ 1 → x ≡ pos w *ℤ x
 once w x e = sym (ap (λ n. pos n *ℤ x) e ∙ one-*ℤ x)
 
-pub alike_8 : (i : Instance) → Inner i → Applies 8 i → Alike 8 i (led 8 i)
+pub stay_8 : (i : Instance) → Inner i → Applies 8 i → SchedulesStay 8 i (led 8 i)
 unfolding goes_of table
-alike_8 i inner h = let (b, g) = part_alone _ _ h in alike_crit 8 Cmax Lmax (record { join = refl; due = no_date; weight = λ w h. h; curve = refl; charge = λ l a d w unit x p. never_due unit a x d }) i (crit_number-injective _ Cmax (eqb-true _ _ b)) g inner
+stay_8 i inner h = let (b, g) = part_alone _ _ h in stay_crit 8 Cmax Lmax (record { join = refl; due = no_date; weight = λ w h. h; curve = refl; charge = λ l a d w unit x p. never_due unit a x d }) i (crit_number-injective _ Cmax (eqb-true _ _ b)) g inner
 
-pub alike_10 : (i : Instance) → Inner i → Applies 10 i → Alike 10 i (led 10 i)
+pub stay_10 : (i : Instance) → Inner i → Applies 10 i → SchedulesStay 10 i (led 10 i)
 unfolding goes_of table
-alike_10 i inner h = let (b, g) = part_alone _ _ h in alike_crit 10 SumC SumWC (record { join = refl; due = λ l d h. h; weight = no_weight; curve = refl; charge = λ l a d w unit x p. once a.weight x w }) i (crit_number-injective _ SumC (eqb-true _ _ b)) g inner
+stay_10 i inner h = let (b, g) = part_alone _ _ h in stay_crit 10 SumC SumWC (record { join = refl; due = λ l d h. h; weight = no_weight; curve = refl; charge = λ l a d w unit x p. once a.weight x w }) i (crit_number-injective _ SumC (eqb-true _ _ b)) g inner
 
-pub alike_11 : (i : Instance) → Inner i → Applies 11 i → Alike 11 i (led 11 i)
+pub stay_11 : (i : Instance) → Inner i → Applies 11 i → SchedulesStay 11 i (led 11 i)
 unfolding goes_of table
-alike_11 i inner h = let (b, g) = part_alone _ _ h in alike_crit 11 SumC SumT (record { join = refl; due = no_date; weight = λ w h. h; curve = refl; charge = λ l a d w unit x p. never_late unit a x p d }) i (crit_number-injective _ SumC (eqb-true _ _ b)) g inner
+stay_11 i inner h = let (b, g) = part_alone _ _ h in stay_crit 11 SumC SumT (record { join = refl; due = no_date; weight = λ w h. h; curve = refl; charge = λ l a d w unit x p. never_late unit a x p d }) i (crit_number-injective _ SumC (eqb-true _ _ b)) g inner
 
-pub alike_12 : (i : Instance) → Inner i → Applies 12 i → Alike 12 i (led 12 i)
+pub stay_12 : (i : Instance) → Inner i → Applies 12 i → SchedulesStay 12 i (led 12 i)
 unfolding goes_of table
-alike_12 i inner h = let (b, g) = part_alone _ _ h in alike_crit 12 SumWC SumWT (record { join = refl; due = no_date; weight = λ w h. h; curve = refl; charge = λ l a d w unit x p. ap (λ z. pos a.weight *ℤ z) (never_late unit a x p d) }) i (crit_number-injective _ SumWC (eqb-true _ _ b)) g inner
+stay_12 i inner h = let (b, g) = part_alone _ _ h in stay_crit 12 SumWC SumWT (record { join = refl; due = no_date; weight = λ w h. h; curve = refl; charge = λ l a d w unit x p. ap (λ z. pos a.weight *ℤ z) (never_late unit a x p d) }) i (crit_number-injective _ SumWC (eqb-true _ _ b)) g inner
 
-pub alike_13 : (i : Instance) → Inner i → Applies 13 i → Alike 13 i (led 13 i)
+pub stay_13 : (i : Instance) → Inner i → Applies 13 i → SchedulesStay 13 i (led 13 i)
 unfolding goes_of table
-alike_13 i inner h = let (b, g) = part_alone _ _ h in alike_crit 13 SumT SumWT (record { join = refl; due = λ l d h. h; weight = no_weight; curve = refl; charge = λ l a d w unit x p. once a.weight (tardiness unit a x) w }) i (crit_number-injective _ SumT (eqb-true _ _ b)) g inner
+stay_13 i inner h = let (b, g) = part_alone _ _ h in stay_crit 13 SumT SumWT (record { join = refl; due = λ l d h. h; weight = no_weight; curve = refl; charge = λ l a d w unit x p. once a.weight (tardiness unit a x) w }) i (crit_number-injective _ SumT (eqb-true _ _ b)) g inner
 
-pub alike_14 : (i : Instance) → Inner i → Applies 14 i → Alike 14 i (led 14 i)
+pub stay_14 : (i : Instance) → Inner i → Applies 14 i → SchedulesStay 14 i (led 14 i)
 unfolding goes_of table
-alike_14 i inner h = let (b, g) = part_alone _ _ h in alike_crit 14 SumU SumWU (record { join = refl; due = λ l d h. h; weight = no_weight; curve = refl; charge = λ l a d w unit x p. once a.weight (late unit a x) w }) i (crit_number-injective _ SumU (eqb-true _ _ b)) g inner
+stay_14 i inner h = let (b, g) = part_alone _ _ h in stay_crit 14 SumU SumWU (record { join = refl; due = λ l d h. h; weight = no_weight; curve = refl; charge = λ l a d w unit x p. once a.weight (late unit a x) w }) i (crit_number-injective _ SumU (eqb-true _ _ b)) g inner

@@ -1,8 +1,0 @@
--- The lower schedule serves.
-use Rattle.std.proofs.Common.{refl}
-use Rattle.msp_route.proofs.Alike.{brought}
-use Rattle.msp_machines.specs.laws.Environments.{alike_44}
-use Rattle.msp_machines.proofs.environments.Row44Reduction.back.Goals as goal
-
-pub returns : goal.returns
-returns c = brought (alike_44 c.args._inst.now c.requires.inner c.requires.applies) c.requires.inner refl c.args.solution c.requires.solution c.requires.bounded

@@ -1,8 +1,0 @@
--- The lower schedule serves.
-use Rattle.std.proofs.Common.{refl}
-use Rattle.msp_machines.specs.laws.Served.{brought_served}
-use Rattle.msp_machines.specs.laws.IdleMachines.{serves_30}
-use Rattle.msp_machines.proofs.shops.Row30Reduction.back.Goals as goal
-
-pub returns : goal.returns
-returns c = brought_served (serves_30 c.args._inst.now c.requires.inner c.requires.applies) c.requires.inner refl c.args.solution c.requires.solution c.requires.bounded
