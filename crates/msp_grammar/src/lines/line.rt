@@ -10,12 +10,47 @@ ghost use Rattle.msp_grammar.specs.lines.Steps.{Moves, place_of, parts_after, fi
 use crate::lines::fault::{FileFault, What};
 use crate::lines::number::natural_at;
 use crate::lines::place::Lines;
+use std::simd::prelude::*;
+
+/// So many bytes are looked at together.
+const RUN: usize = 16;
+
+/// The place of the first mark in a run.
+fn find_in_run(run: &[u8; RUN], mark: u8) -> Option<usize>
+    ensures { result ≡ position (λ x. x == mark) run.now }
+{
+    let same = u8x16::from_array(*run).simd_eq(u8x16::splat(mark));
+    let marks = same.to_bitmask();
+    if marks == 0 {
+        return None;
+    }
+    Some(marks.trailing_zeros() as usize)
+}
+
+/// The place of the first mark, byte by byte.
+fn find_by_one(bytes: &[u8], mark: u8) -> Option<usize>
+    ensures { result ≡ position (λ x. x == mark) bytes.now }
+{
+    bytes.iter().position(|byte| *byte == mark)
+}
 
 /// The place of the first mark.
 fn find(bytes: &[u8], mark: u8) -> Option<usize>
     ensures { result ≡ position (λ x. x == mark) bytes.now }
 {
-    bytes.iter().position(|byte| *byte == mark)
+    let mut at = 0;
+    let mut rest = bytes;
+    'runs: while let Some((run, others)) = rest.split_first_chunk() {
+        if let Some(place) = find_in_run(run, mark) {
+            return Some(at + place);
+        }
+        at += RUN;
+        rest = others;
+    }
+    match find_by_one(rest, mark) {
+        Some(place) => Some(at + place),
+        None => None,
+    }
 }
 
 fn count_spaces(bytes: &[u8]) -> usize
