@@ -1,13 +1,13 @@
 -- The range of bounds in which the least one lies, and the least bound as a cost.
-use Rattle.std.proofs.Common.{◌≡◌, ℕ, ◌+◌, ◌*◌, ◌<◌, ◌≤◌, Bool, true, false, inl, inr, List, [], ◌∷◌, ◌++◌, Option, Some, length, get_or, take, All, ℤ, pos, nat_abs, ◌+ℤ◌, ◌-ℤ◌, ◌*ℤ◌, ◌≤ℤ◌, ◌<ℤ◌, FitsSigned, to_z, of_z, refl, sym, ap, ap₂, subst, subst₂, ◌∙◌, arith}
-use Rattle.std.specs.Prelude.{◌↔◌, IsTrue, MatchOption, if◌then◌else◌, nat_eq}
+use Rattle.std.proofs.Common.{◌≡◌, ℕ, ◌+◌, ◌*◌, ◌<◌, ◌≤◌, inl, inr, List, [], ◌∷◌, ◌++◌, Option, Some, length, get_or, take, All, ℤ, pos, nat_abs, ◌+ℤ◌, ◌-ℤ◌, ◌*ℤ◌, ◌≤ℤ◌, ◌<ℤ◌, FitsSigned, to_z, of_z, refl, sym, ap, ap₂, subst, subst₂, ◌∙◌, arith}
+use Rattle.std.specs.Prelude.{◌↔◌, IsTrue, MatchOption, nat_eq}
 use Rattle.std.specs.Int.{int_max, w64, w128}
 use Rattle.std.proofs.lemmas.Bool.{eqb-true}
 use Rattle.std.proofs.lemmas.Int.{ints, to_z-of_z}
 use Rattle.std.proofs.lemmas.List.{take_all, take_more}
 use Rattle.std.proofs.lemmas.List.Elements.{All-push}
 use Rattle.msp_class.specs.declared.class.Crit.TheVariants.{SumU}
-use Rattle.msp_class.proofs.IntegerRing.{natural, lt-pos, <ℤ_weak, zero-le-pos, *ℤ-one, *ℤ_comm, *ℤ-zero, zero-*ℤ, *ℤ-cancel_pos, *ℤ-cancel_same, ≤ℤ-int_max_left, ≤ℤ-int_max_right, int_max-least, ≤ℤ_antisym, ≤ℤ_total, ≤ℤ_trans}
+use Rattle.msp_class.proofs.IntegerRing.{natural, zero-le-pos, *ℤ-one, *ℤ_comm, *ℤ-zero, zero-*ℤ, *ℤ-cancel_pos, *ℤ-cancel_same, ≤ℤ-int_max_left, ≤ℤ-int_max_right, int_max-least, ≤ℤ_antisym, ≤ℤ_total, ≤ℤ_trans}
 use Rattle.msp_instance.specs.declared.Job.{Job}
 use Rattle.msp_instance.specs.declared.Instance.{Instance}
 use Rattle.msp_instance.specs.Conditions.{LiesWithin}
@@ -21,11 +21,11 @@ use Rattle.msp_schedule.proofs.costs.LateJobs.{late_jobs, late_cost}
 use Rattle.msp_schedule.proofs.feasible.OneEach.{IsUncut-identical}
 use Rattle.msp_route.specs.Bounds.{IsAnswer, answer_unit}
 use Rattle.msp_route.proofs.OneEach.{one_each_is_answer}
-use Rattle.msp_threshold.specs.declared.search.Range.{Range}
 use Rattle.msp_threshold.specs.Squeezed.{AreKept, HasTime, squeezed_by, CanMeet, CanBeFree}
-use Rattle.msp_threshold.specs.Search.{IsLeastBound, IsLowest, IsRange, number_of, pieces_back}
+use Rattle.msp_threshold.specs.Search.{IsLowest, number_of, pieces_back}
+use Rattle.msp_threshold.specs.Halving.{IsLeastBound, IsRange}
 use Rattle.msp_threshold.proofs.Facts.{IsLatenessShop}
-use Rattle.msp_threshold.proofs.Meeting.{loosened, own_cost, meets_moments, moments_below}
+use Rattle.msp_threshold.proofs.Meeting.{own_cost, meets_moments, moments_below}
 use Rattle.msp_threshold.proofs.Law.{free_if_met}
 use Rattle.msp_threshold.proofs.BackMeets.{back_each, back_feasible, back_meets, back_inside, time_if_met}
 
@@ -94,7 +94,7 @@ module _ (i : Instance) (t : IsLatenessShop i) where
   n = length i.jobs
 
   -- ---- the first range
-  pub first_range : (low high : ℤ) → IsLowest i.jobs low → LiesWithin 4000000001 low → CanMeet i high → LiesWithin 5000000000 high → IsRange i (record { low = low; high = high })
+  pub first_range : (low high : ℤ) → IsLowest i.jobs low → LiesWithin 4000000001 low → CanMeet i high → LiesWithin 5000000000 high → IsRange (CanMeet i) (record { low = low; high = high })
   first_range low high lowest size met small = record {
     met = met;
     least = λ bound met. lowest.least bound (time_if_met i t bound met);
@@ -102,36 +102,8 @@ module _ (i : Instance) (t : IsLatenessShop i) where
     high = (omega (arith, ints, small.0), omega (arith, ints, small.1));
   }
 
-  -- ---- a half of it
-  pub halved : (range new : Range) (middle : ℤ) (met : Bool) → IsRange i range → range.low ≤ℤ middle → middle <ℤ range.high → IsTrue met ↔ CanMeet i middle
-      → new.low ≡ (if met then range.low else middle +ℤ pos 1) → new.high ≡ (if met then middle else range.high) → IsRange i new
-  halved range new middle true h a b m e f = record {
-    met = subst (CanMeet i) (sym f) (m.0 refl);
-    least = λ bound c. subst (λ x. x ≤ℤ bound) (sym e) (h.least bound c);
-    low = subst (LiesWithin 10000000000) (sym e) h.low;
-    high = subst (LiesWithin 10000000000) (sym f) (omega (arith, ints, a, h.low.0), omega (arith, ints, b, h.high.1));
-  }
-  halved range new middle false h a b m e f = record {
-    met = subst (CanMeet i) (sym f) h.met;
-    least = λ bound c. subst (λ x. x ≤ℤ bound) (sym e) (above bound c);
-    low = subst (LiesWithin 10000000000) (sym e) (omega (arith, ints, a, h.low.0), omega (arith, ints, b, h.high.1));
-    high = subst (LiesWithin 10000000000) (sym f) h.high;
-  }
-    where
-      above : (bound : ℤ) → CanMeet i bound → (middle +ℤ pos 1) ≤ℤ bound
-      above bound c = elim (≤ℤ_total bound middle) [
-        | inl less ↦ absurd (never (m.1 (loosened i bound middle less c)))
-        | inr more ↦ omega (arith, ints, more)
-      ]
-        where
-          never : IsTrue false → ⊥
-          never p = absurd (cc)
-
-  pub least_of : (range : Range) → IsRange i range → range.high ≤ℤ range.low → IsLeastBound i range.high
-  least_of range h e = record { met = h.met; least = λ other c. ≤ℤ_trans e (h.least other c) }
-
   -- ---- a schedule that meets the least bound costs it, and is best
-  module _ (kept : List ℕ) (k : AreKept i kept) (bound : ℤ) (least : IsLeastBound i bound) (pieces : List Piece) (f : Feasible i (record { unit = pos 1; pieces = pieces })) (m : cost_of i (record { unit = pos 1; pieces = pieces }) ≤ℤ (bound *ℤ pos 1)) where
+  module _ (kept : List ℕ) (k : AreKept i kept) (bound : ℤ) (least : IsLeastBound (CanMeet i) bound) (pieces : List Piece) (f : Feasible i (record { unit = pos 1; pieces = pieces })) (m : cost_of i (record { unit = pos 1; pieces = pieces }) ≤ℤ (bound *ℤ pos 1)) where
     abbrev s : Schedule
     s = record { unit = pos 1; pieces = pieces }
 
@@ -174,7 +146,7 @@ module _ (j : Instance) (crit : j.class.crit ≡ SumU) (s : Schedule) (best : Be
       zero d x y e one h = *ℤ-cancel_same d (omega (arith, ints, e, one)) (sym (*ℤ_comm x (pos d)) ∙ ap (λ z. x *ℤ z) (sym e) ∙ h ∙ sym (*ℤ-zero (pos d)))
 
 -- ---- a best schedule of the squeezed instance at the least bound, brought back
-module _ (i : Instance) (t : IsLatenessShop i) (kept : List ℕ) (k : AreKept i kept) (bound : ℤ) (small : LiesWithin 10000000000 bound) (least : IsLeastBound i bound) (lower : Instance) (lower_is : lower ≡ squeezed_by kept bound i) (s : Schedule) (best : Best lower s) where
+module _ (i : Instance) (t : IsLatenessShop i) (kept : List ℕ) (k : AreKept i kept) (bound : ℤ) (small : LiesWithin 10000000000 bound) (least : IsLeastBound (CanMeet i) bound) (lower : Instance) (lower_is : lower ≡ squeezed_by kept bound i) (s : Schedule) (best : Best lower s) where
   possible : All (HasTime bound) i.jobs
   possible = time_if_met i t bound least.met
 
@@ -209,32 +181,10 @@ zero_test x h = ((λ e. sym (to_z-of_z w128 x h) ∙ ap (to_z w128) (eqb-true (o
 pub some_value : {A : Type 0} (P : Type 0) (Q : A → Type 0) (o : Option A) (a : A) → o ≡ Some a → MatchOption o P Q → Q a
 some_value P Q o a e h = subst (λ o. MatchOption o P Q) e h
 
-bound_fits : (x : ℤ) → LiesWithin 10000000000 x → FitsSigned w64 x
-bound_fits x h = omega (arith, ints, h.0, h.1)
-
 pub range_at : (i : Instance) → IsLatenessShop i → (jobs : List Job) (low high : ℤ) → jobs ≡ i.jobs → IsLowest jobs low → LiesWithin 4000000001 low → CanMeet i high → LiesWithin 5000000000 high
-    → IsRange i (record { low = to_z w64 (of_z w64 low); high = to_z w64 (of_z w64 high) })
-range_at i t jobs low high e lowest size met small = subst₂ (λ x y. IsRange i (record { low = x; high = y })) (sym (to_z-of_z w64 low (small_fits low size))) (sym (to_z-of_z w64 high (met_fits high small)))
+    → IsRange (CanMeet i) (record { low = to_z w64 (of_z w64 low); high = to_z w64 (of_z w64 high) })
+range_at i t jobs low high e lowest size met small = subst₂ (λ x y. IsRange (CanMeet i) (record { low = x; high = y })) (sym (to_z-of_z w64 low (small_fits low size))) (sym (to_z-of_z w64 high (met_fits high small)))
     (first_range i t low high (subst (λ js. IsLowest js low) e lowest) size met small)
   where
     met_fits : (x : ℤ) → LiesWithin 5000000000 x → FitsSigned w64 x
     met_fits x h = omega (arith, ints, h.0, h.1)
-
-pub middle_within : (low high m : ℤ) → low ≤ℤ m → m <ℤ high → LiesWithin 10000000000 low → LiesWithin 10000000000 high → LiesWithin 10000000000 m
-middle_within low high m a b p q = (omega (arith, ints, a, p.0), omega (arith, ints, b, q.1))
-
-pub middle_is : (low high m : ℤ) → low ≤ℤ m → m <ℤ high → LiesWithin 10000000000 low → LiesWithin 10000000000 high → to_z w64 (of_z w64 m) ≡ m
-middle_is low high m a b p q = to_z-of_z w64 m (bound_fits m (middle_within low high m a b p q))
-
-pub smaller : (range new : Range) (m x : ℤ) (met : Bool) → x ≡ m → range.low ≤ℤ m → m <ℤ range.high → new.low ≡ (if met then range.low else x +ℤ pos 1) → new.high ≡ (if met then x else range.high) → nat_abs (new.high -ℤ new.low) < nat_abs (range.high -ℤ range.low)
-smaller range new m x true e a b f g = less new.high new.low (range.high) (range.low) (omega (arith, ints, e, f, g, a)) (omega (arith, ints, e, f, g, b))
-  where
-    less : (a b c d : ℤ) → pos 0 ≤ℤ (a -ℤ b) → (a -ℤ b) <ℤ (c -ℤ d) → nat_abs (a -ℤ b) < nat_abs (c -ℤ d)
-    less a b c d h k = lt-pos (subst₂ (λ x y. x <ℤ y) (natural (a -ℤ b) h) (natural (c -ℤ d) (≤ℤ_trans h (<ℤ_weak k))) k)
-smaller range new m x false e a b f g = less new.high new.low (range.high) (range.low) (omega (arith, ints, e, f, g, b)) (omega (arith, ints, e, f, g, a))
-  where
-    less : (a b c d : ℤ) → pos 0 ≤ℤ (a -ℤ b) → (a -ℤ b) <ℤ (c -ℤ d) → nat_abs (a -ℤ b) < nat_abs (c -ℤ d)
-    less a b c d h k = lt-pos (subst₂ (λ x y. x <ℤ y) (natural (a -ℤ b) h) (natural (c -ℤ d) (≤ℤ_trans h (<ℤ_weak k))) k)
-
-pub least_at : (i : Instance) → IsLatenessShop i → (range : Range) → IsRange i range → range.high ≤ℤ range.low → IsLeastBound i (to_z w64 (of_z w64 range.high)) × LiesWithin 10000000000 (to_z w64 (of_z w64 range.high))
-least_at i t range h e = subst (λ x. IsLeastBound i x × LiesWithin 10000000000 x) (sym (to_z-of_z w64 range.high (bound_fits range.high h.high))) (least_of i t range h e, h.high)

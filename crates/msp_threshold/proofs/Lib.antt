@@ -6,3 +6,4 @@ mod Seated
 mod Law
 mod BackMeets
 mod Bounds
+mod Halves

@@ -4,7 +4,7 @@ use Rattle.std.proofs.Common.{◌≡◌, ℕ, ◌+◌, ◌<◌, ◌≤◌, List,
 use Rattle.std.specs.List.{range_with_len}
 use Rattle.std.proofs.lemmas.Int.{ints}
 use Rattle.msp_class.specs.Crit.{is_greatest}
-use Rattle.msp_class.proofs.IntegerRing.{natural, pos-le, one-*ℤ, *ℤ_comm, *ℤ-add, *ℤ-cancel_pos, *ℤ-cancel_lt, *ℤ-mono_nonneg, ≤ℤ_trans}
+use Rattle.msp_class.proofs.IntegerRing.{natural, pos-le, one-*ℤ, *ℤ_comm, *ℤ-add, *ℤ-cancel_pos, *ℤ-cancel_lt, ≤ℤ_trans}
 use Rattle.msp_instance.specs.declared.Instance.{Instance}
 use Rattle.msp_instance.specs.Instance.{job_at}
 use Rattle.msp_schedule.specs.declared.Piece.{Piece}
@@ -21,10 +21,6 @@ use Rattle.msp_slots.proofs.UnitPieces.{AreUnitPieces, pieces_at, AreUnitPieces-
 use Rattle.msp_slots.proofs.SlotPlaces.{heads_many, slot_inside, same_slot, seats_in}
 use Rattle.msp_threshold.specs.Squeezed.{CanMeet}
 use Rattle.msp_threshold.proofs.Facts.{IsLatenessShop, unit_jobs}
-
--- a greater bound can be met too
-pub loosened : (i : Instance) (b c : ℤ) → b ≤ℤ c → CanMeet i b → CanMeet i c
-loosened i b c h (s, f, m) = (s, f, ≤ℤ_trans m (subst₂ (λ x y. x ≤ℤ y) (*ℤ_comm s.unit b) (*ℤ_comm s.unit c) (*ℤ-mono_nonneg s.unit (omega (arith, ints, f.unit)) h)))
 
 -- the cost of a schedule over unit 1 can be met
 pub own_cost : (i : Instance) (pieces : List Piece) → Feasible i (record { unit = pos 1; pieces = pieces }) → CanMeet i (cost_of i (record { unit = pos 1; pieces = pieces }))

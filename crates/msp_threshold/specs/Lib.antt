@@ -1,3 +1,5 @@
 pub mod Limits
 pub mod Squeezed
 pub mod Search
+pub mod Halving
+pub mod laws

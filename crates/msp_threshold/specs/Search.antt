@@ -1,23 +1,25 @@
 -- The search for the least bound on the greatest lateness, and schedules brought back to the kept moments. No public contract cites this
 -- file.
-use Rattle.std.specs.Prelude.{◌≡◌, ℕ, ◌/◌, ◌<◌, ◌≤◌, List, length, ℤ, ◌-ℤ◌, ◌≤ℤ◌, nat_abs, map, slice_index_or, All, IsPermutation}
+use Rattle.std.specs.Prelude.{◌≡◌, ℕ, ◌/◌, ◌<◌, ◌≤◌, List, length, ℤ, ◌≤ℤ◌, nat_abs, map, slice_index_or, All, IsPermutation}
 use Rattle.std.specs.List.{range_with_len}
+use Rattle.msp_class.specs.declared.class.Class.{Class}
 use Rattle.msp_instance.specs.declared.Job.{Job}
 use Rattle.msp_instance.specs.declared.Instance.{Instance}
-use Rattle.msp_instance.specs.Conditions.{LiesWithin}
+use Rattle.msp_instance.specs.Conditions.{Inner}
 use Rattle.msp_schedule.specs.declared.Piece.{Piece}
 use Rattle.msp_schedule.specs.declared.Schedule.{Schedule}
 use Rattle.msp_instance.specs.Instance.{no_job}
 use Rattle.msp_slots.specs.declared.earliest.Slot.{Slot}
 use Rattle.msp_slots.specs.Earliest.{start_in, AreSlots}
 use Rattle.msp_slots.specs.Pieces.{piece_at}
-use Rattle.msp_threshold.specs.declared.search.Range.{Range}
-use Rattle.msp_threshold.specs.Squeezed.{greatest_bound, HasTime, CanMeet}
+use Rattle.msp_threshold.specs.Squeezed.{lateness_class, late_count_class, HoldsSqueezed, HasTime}
 
--- The bound is the least that a feasible schedule meets.
-pub record IsLeastBound (i : Instance) (bound : ℤ) : Type 0 where
-  pub met : CanMeet i bound
-  pub least : (other : ℤ) → CanMeet i other → bound ≤ℤ other
+-- A solver of the class that can solve these instances can be asked whether a bound can be met.
+pub record CanAsk (solved : Class) (can_solve : Instance → Type 0) (i : Instance) : Type 0 where
+  pub solves : solved ≡ late_count_class
+  pub inner : Inner i
+  pub class : i.class ≡ lateness_class
+  pub fits : HoldsSqueezed can_solve i
 
 -- The number of the whole unit of time in which the piece begins; and the piece at the kept moment of that number.
 abbrev pub number_of : ℤ → Piece → ℕ
@@ -52,14 +54,3 @@ pub record AreInSlots (i : Instance) (slots : List Slot) (order : List ℕ) : Ty
 pub record IsLowest (jobs : List Job) (lowest : ℤ) : Type 0 where
   pub time : All (HasTime lowest) jobs
   pub least : (bound : ℤ) → All (HasTime bound) jobs → lowest ≤ℤ bound
-
--- The greater bound can be met, and none below the lesser; both are small.
-pub record IsRange (i : Instance) (range : Range) : Type 0 where
-  pub met : CanMeet i range.high
-  pub least : (bound : ℤ) → CanMeet i bound → range.low ≤ℤ bound
-  pub low : LiesWithin greatest_bound range.low
-  pub high : LiesWithin greatest_bound range.high
-
--- It has fewer bounds than the other.
-abbrev pub IsShorter : Range → Range → Type 0
-IsShorter range shorter = nat_abs (shorter.high -ℤ shorter.low) < nat_abs (range.high -ℤ range.low)

@@ -1,15 +1,19 @@
 // The search for the least bound on the greatest lateness that some schedule meets.
-ghost use Rattle.std.specs.Prelude.{◌≡◌, ◌↔◌, ◌*◌, ◌+◌, ◌<◌, ◌≤◌, length, pos, ◌+ℤ◌, ◌-ℤ◌, ◌≤ℤ◌, ◌<ℤ◌, All, IfOk, IsTrue, if◌then◌else◌};
+ghost use Rattle.std.specs.Prelude.{◌≡◌, ◌*◌, ◌+◌, ◌<◌, ◌≤◌, length, pos, ◌-ℤ◌, All, IfOk};
 ghost use Rattle.msp_instance.specs.declared.ranges.TheConstants.{GREATEST};
 ghost use Rattle.msp_instance.specs.Conditions.{Inner, LiesWithin};
 ghost use Rattle.msp_schedule.specs.Cost.{IsBest, Best, cost_of};
 ghost use Rattle.msp_route.specs.Bounds.{IsAnswer};
 ghost use Rattle.msp_threshold.specs.Squeezed.{lateness_class, late_count_class, greatest_bound, CanMeet, HoldsSqueezed};
-ghost use Rattle.msp_threshold.specs.Search.{IsLeastBound, IsLowest, IsRange, IsShorter};
+ghost use Rattle.msp_threshold.specs.Search.{CanAsk, IsLowest};
+ghost use Rattle.msp_threshold.specs.Halving.{IsLeastBound, IsRange};
+ghost use Rattle.msp_threshold.specs.laws.Rising.{CanMeet-rises};
 
 use crate::back::pieces_back;
 use crate::by_due_date::met_bound;
+use crate::halving::{Range, least_in};
 use crate::kept::kept_moments;
+use crate::question::Question;
 use crate::squeezing::{squeezed, squeezed_at};
 use msp_class::{Class, Crit, Env, NoMemory, Order, Times};
 use msp_instance::{Instance, Job};
@@ -26,13 +30,6 @@ const LATENESS_CLASS: Class = Class {
     times: Times::Unit,
     crit: Crit::Lmax,
 };
-
-/// Bounds, of which the greater can be met and none below the lesser.
-#[derive(Clone, Copy)]
-struct Range {
-    low: i64,
-    high: i64,
-}
 
 /// By how much the job ends late that begins at its release date.
 fn least_lateness(job: &Job) -> i64
@@ -62,117 +59,49 @@ fn lowest_bound(jobs: &[Job]) -> i64
 fn first_range(alloc: Global, inst: &Instance) -> Result<Range, NoMemory>
     requires inner { Inner inst.now }
     requires class { inst.now.class ≡ lateness_class }
-    ensures { IfOk result (IsRange inst.now) }
+    ensures { IfOk result (IsRange (CanMeet inst.now)) }
 {
     let low = lowest_bound(inst.jobs.as_slice());
     let high = met_bound(alloc, inst, low)?;
     Ok(Range { low, high })
 }
 
-/// Whether some schedule meets the bound, by the solver of the number of late jobs.
-fn can_meet<S: Solver>(
-    inner: &S,
-    alloc: Global,
-    inst: &Instance,
-    bound: i64,
-) -> Result<bool, NoMemory>
-    requires solves { S.solved inner.now ≡ late_count_class }
-    requires inner { Inner inst.now }
-    requires class { inst.now.class ≡ lateness_class }
-    requires fits { HoldsSqueezed (S.can_solve inner.now) inst.now }
-    requires bound { LiesWithin greatest_bound bound }
-    ensures { IfOk result (λ met. IsTrue met ↔ CanMeet inst.now bound) }
-{
-    match squeezed(alloc, inst, bound)? {
-        None => Ok(false),
-        Some(lower) => {
-            let solution = inner.solve(alloc, &lower)?;
-            Ok(solution.cost.num == 0)
+/// Whether some schedule of the instance meets a bound, asked of a solver of the number of late jobs.
+#[derive(Drop)]
+struct LateJobs<'a, S: Solver> {
+    inner: &'a S,
+    inst: &'a Instance,
+}
+
+impl<'a, S: Solver> Question for LateJobs<'a, S> {
+    ghost may_ask = { λ q. CanAsk (S.solved q.inner.now) (S.can_solve q.inner.now) q.inst.now };
+
+    ghost met = { λ q. CanMeet q.inst.now };
+
+    fn ask(&self, alloc: Global, bound: i64) -> Result<bool, NoMemory> {
+        match squeezed(alloc, self.inst, bound)? {
+            None => Ok(false),
+            Some(lower) => {
+                let solution = self.inner.solve(alloc, &lower)?;
+                Ok(solution.cost.num == 0)
+            }
         }
     }
+
+    ghost rises = { λ q. CanMeet-rises q.inst.now };
 }
 
-/// The middle of the range.
-fn middle_of(range: Range) -> i64
-    requires some { range.low <ℤ range.high }
-    requires low { LiesWithin greatest_bound range.low }
-    requires high { LiesWithin greatest_bound range.high }
-    ensures low { range.low ≤ℤ result }
-    ensures high { result <ℤ range.high }
-    ensures half { ((result +ℤ result) ≤ℤ (range.low +ℤ range.high)) × ((range.low +ℤ range.high) ≤ℤ ((result +ℤ result) +ℤ pos 1)) }
-{
-    range.low + (range.high - range.low) / 2
-}
-
-/// The half of the range in which the least bound lies, where `middle` is met or not.
-fn halved(range: Range, middle: i64, met: bool) -> Range
-    requires { middle <ℤ range.high }
-    ensures low { result.low ≡ (if met then range.low else middle +ℤ pos 1) }
-    ensures high { result.high ≡ (if met then middle else range.high) }
-{
-    if met {
-        Range {
-            low: range.low,
-            high: middle,
-        }
-    } else {
-        Range {
-            low: middle + 1,
-            high: range.high,
-        }
-    }
-}
-
-/// The part of the range in which the least bound lies, by whether `middle` can be met.
-fn asked<S: Solver>(
-    inner: &S,
-    alloc: Global,
-    inst: &Instance,
-    range: Range,
-    middle: i64,
-) -> Result<Range, NoMemory>
-    requires solves { S.solved inner.now ≡ late_count_class }
-    requires inner { Inner inst.now }
-    requires class { inst.now.class ≡ lateness_class }
-    requires fits { HoldsSqueezed (S.can_solve inner.now) inst.now }
-    requires range { IsRange inst.now range }
-    requires low { range.low ≤ℤ middle }
-    requires high { middle <ℤ range.high }
-    ensures range { IfOk result (IsRange inst.now) }
-    ensures fewer { IfOk result (IsShorter range) }
-{
-    let met = can_meet(inner, alloc, inst, middle)?;
-    Ok(halved(range, middle, met))
-}
-
-/// The range after the first bound is asked for. A schedule by due dates is mostly best, so it is the one below its lateness.
-fn range_asked<S: Solver>(inner: &S, alloc: Global, inst: &Instance) -> Result<Range, NoMemory>
-    requires solves { S.solved inner.now ≡ late_count_class }
-    requires inner { Inner inst.now }
-    requires class { inst.now.class ≡ lateness_class }
-    requires fits { HoldsSqueezed (S.can_solve inner.now) inst.now }
-    ensures { IfOk result (IsRange inst.now) }
-{
-    let range = first_range(alloc, inst)?;
-    if range.low < range.high {
-        return asked(inner, alloc, inst, range, range.high - 1);
-    }
-    Ok(range)
-}
-
-/// The least bound that some schedule meets.
+/// The least bound that some schedule meets. A schedule by due dates is mostly best, so its lateness is the greatest bound of the range.
 fn least_bound<S: Solver>(inner: &S, alloc: Global, inst: &Instance) -> Result<i64, NoMemory>
     requires solves { S.solved inner.now ≡ late_count_class }
     requires inner { Inner inst.now }
     requires class { inst.now.class ≡ lateness_class }
     requires fits { HoldsSqueezed (S.can_solve inner.now) inst.now }
-    ensures { IfOk result (λ bound. IsLeastBound inst.now bound × LiesWithin greatest_bound bound) }
+    ensures least { IfOk result (IsLeastBound (CanMeet inst.now)) }
+    ensures small { IfOk result (LiesWithin greatest_bound) }
 {
-    let mut range = range_asked(inner, alloc, inst)?;
-    while range.low < range.high {
-        range = asked(inner, alloc, inst, range, middle_of(range))?;
-    }
-    Ok(range.high)
+    let range = first_range(alloc, inst)?;
+    least_in(&LateJobs { inner, inst }, alloc, range)
 }
 
 /// A schedule that meets the least bound.
@@ -186,7 +115,7 @@ fn schedule_within<S: Solver>(
     requires inner { Inner inst.now }
     requires class { inst.now.class ≡ lateness_class }
     requires fits { HoldsSqueezed (S.can_solve inner.now) inst.now }
-    requires least { IsLeastBound inst.now bound }
+    requires least { IsLeastBound (CanMeet inst.now) bound }
     requires bound { LiesWithin greatest_bound bound }
     ensures best { IfOk result (λ s. Best inst.now s) }
     ensures bounds { IfOk result (λ s. IsAnswer inst.now s) }

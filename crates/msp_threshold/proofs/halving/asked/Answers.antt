@@ -1,23 +1,22 @@
 use Rattle.std.proofs.Common.{◌≤ℤ◌, ◌<ℤ◌, sym, subst}
 use Rattle.msp_instance.specs.Conditions.{LiesWithin}
-use Rattle.msp_threshold.proofs.Facts.{IsLatenessShop-from}
-use Rattle.msp_threshold.proofs.Bounds.{halved, middle_within, middle_is, smaller}
-use Rattle.msp_threshold.proofs.search.asked.Goals as goal
+use Rattle.msp_threshold.proofs.Halves.{halved, middle_within, middle_is, smaller}
+use Rattle.msp_threshold.proofs.halving.asked.Goals as goal
 
-pub can_meet-requires-clause-bound : goal.can_meet-requires-clause-bound
-can_meet-requires-clause-bound g c =
+pub ask-requires-clause-bound : goal.ask-requires-clause-bound
+ask-requires-clause-bound g c =
     let r = c.args.range in
     let h = c.requires.range in
     subst (LiesWithin 10000000000) (sym (middle_is r.low r.high c.args.middle c.requires.low c.requires.high h.low h.high)) (middle_within r.low r.high c.args.middle c.requires.low c.requires.high h.low h.high)
 
 pub returns-clause-range : goal.returns-clause-range
 returns-clause-range g c =
-    let i = c.args.inst.now in
+    let q = c.args.question.now in
     let r = c.args.range in
     let h = c.requires.range in
     let m = c.args.middle in
     let is = middle_is r.low r.high m c.requires.low c.requires.high h.low h.high in
-    halved i (IsLatenessShop-from i c.requires.class c.requires.inner) r c.halved.result _ c.in_ok-met.met h (subst (λ x. r.low ≤ℤ x) (sym is) c.requires.low) (subst (λ x. x <ℤ r.high) (sym is) c.requires.high) c.in_ok-met.ensures c.halved.ensures.low c.halved.ensures.high
+    halved (g.Q.Question.met q) (g.met.Q.Question.rises q) r c.halved.result _ c.in_ok-met.met h (subst (λ x. r.low ≤ℤ x) (sym is) c.requires.low) (subst (λ x. x <ℤ r.high) (sym is) c.requires.high) c.in_ok-met.ensures c.halved.ensures.low c.halved.ensures.high
 
 pub returns-clause-fewer : goal.returns-clause-fewer
 returns-clause-fewer g c =

@@ -6,20 +6,20 @@ use Rattle.msp_instance.specs.Conditions.{InClass, LiesWithin}
 use Rattle.msp_instance.proofs.Limits.{Inner-from_class}
 use Rattle.msp_threshold.specs.Squeezed.{HasTime, IsSqueezed, CanMeet, CanBeFree}
 use Rattle.msp_threshold.proofs.Bounds.{some_value, free_by_cost, zero_test}
-use Rattle.msp_threshold.proofs.search.can_meet.Goals as goal
+use Rattle.msp_threshold.proofs.search.LateJobsQuestion.ask.Goals as goal
 
 pub solve-requires-clause-inner : goal.solve-requires-clause-inner
 solve-requires-clause-inner g c = Inner-from_class c.in-Some.lower (subst (λ o. IfSome o InClass) c.in-Some.is c.in_ok-squeezed.ensures.inside)
 
 pub solve-requires-clause-fits : goal.solve-requires-clause-fits
 solve-requires-clause-fits g c =
-    let i = c.args.inst.now in
+    let i = c.args.self.now.inst.now in
     let b = to_z w64 (of_z w64 c.args.bound) in
-    c.requires.fits b c.in-Some.lower (subst (LiesWithin 10000000000) (sym (to_z-of_z w64 c.args.bound c.ranges.bound)) c.requires.bound) (some_value (All (HasTime b) i.jobs → ⊥) (IsSqueezed i b) c.in_ok-squeezed.field-0 c.in-Some.lower c.in-Some.is c.in_ok-squeezed.ensures.value)
+    c.requires.asked.fits b c.in-Some.lower (subst (LiesWithin 10000000000) (sym (to_z-of_z w64 c.args.bound c.ranges.bound)) c.requires.bound) (some_value (All (HasTime b) i.jobs → ⊥) (IsSqueezed i b) c.in_ok-squeezed.field-0 c.in-Some.lower c.in-Some.is c.in_ok-squeezed.ensures.value)
 
 pub returns-in_ok-solution-in-Some : goal.returns-in_ok-solution-in-Some
 returns-in_ok-solution-in-Some g c =
-    let i = c.args.inst.now in
+    let i = c.args.self.now.inst.now in
     let b = to_z w64 (of_z w64 c.args.bound) in
     let lower = c.in-Some.lower in
     let s = c.in_ok-solution-in-Some.solution in

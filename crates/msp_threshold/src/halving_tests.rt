@@ -1,0 +1,56 @@
+// The halving, asked about a plain number: from public calls its loop does not run.
+ghost use Rattle.std.specs.Prelude.{◌≤ℤ◌, ⊤};
+ghost use Rattle.msp_instance.specs.Conditions.{LiesWithin};
+ghost use Rattle.msp_class.proofs.IntegerRing.{≤ℤ_trans};
+ghost use Rattle.msp_threshold.specs.Squeezed.{greatest_bound};
+
+use crate::halving::{Range, least_in};
+use crate::question::Question;
+use msp_class::NoMemory;
+use std::alloc::Global;
+use std::cell::Cell;
+use std::test::Fail;
+
+/// Bounds from `least` on are met. It counts how often it is asked.
+#[derive(Drop)]
+struct FromNumber {
+    least: i64,
+    count: Cell<u32>,
+}
+
+impl Question for FromNumber {
+    ghost may_ask = { λ _. ⊤ };
+
+    ghost met = { λ q bound. q.least ≤ℤ bound };
+
+    fn ask(&self, _alloc: Global, bound: i64) -> Result<bool, NoMemory> {
+        self.count.set(self.count.get().wrapping_add(1));
+        Ok(self.least <= bound)
+    }
+
+    ghost rises = { λ q a b more met. ≤ℤ_trans met more };
+}
+
+/// The least bound of the range that is met, and how many were asked about.
+fn searched(alloc: Global, low: i64, high: i64, least: i64) -> Result<(i64, u32), NoMemory>
+    requires low { low ≤ℤ least }
+    requires high { least ≤ℤ high }
+    requires small_low { LiesWithin greatest_bound low }
+    requires small_high { LiesWithin greatest_bound high }
+{
+    let question = FromNumber {
+        least,
+        count: Cell::new(0),
+    };
+    let found = least_in(&question, alloc, Range { low, high })?;
+    Ok((found, question.count.get()))
+}
+
+#[test]
+fn wide_ranges_are_halved(rt: HostRuntime) -> Result<(), Fail> {
+    assert_eq!(rt; searched(rt.alloc(), 0, 1000, 347)?, (347, 11));
+    assert_eq!(rt; searched(rt.alloc(), -1000, 0, -653)?, (-653, 11));
+    // the one below the greatest is asked about alone
+    assert_eq!(rt; searched(rt.alloc(), 0, 1000, 1000)?, (1000, 1));
+    Ok(())
+}
