@@ -38,6 +38,19 @@ impl From<AllocError> for Taken {
 #[derive(Clone, Copy, Debug, PartialEq, Eq)]
 pub struct WriteFault;
 
+// One read into a slice with room, and no other. A count of 0 is the end of the input.
+fn read_once<S: Source>(source: &mut S, piece: &mut [u8]) -> Result<usize, Failed>
+    requires { 0 < length piece.old }
+    ensures count { IfOk result (λ n. n ≤ length piece.old) }
+    ensures given { IfOk result (λ n. 0 < n → S.gave source.old source.new (take n piece.new)) }
+    ensures end { IfOk result (λ n. n ≡ 0 → S.finished source.old source.new []) }
+    ensures broken { OnErr result (S.broke source.old source.new []) }
+    ensures fault { OnErr result (Rose (S.seen source.old).faults (S.seen source.new).faults) }
+    ensures faults { (S.seen source.old).faults ≤ (S.seen source.new).faults }
+{
+    source.read(piece)
+}
+
 /// Takes all bytes of `source`, to its end.
 ///
 /// # Errors
@@ -59,38 +72,6 @@ pub fn read_all<S: Source>(alloc: Global, source: &mut S, limit: u64) -> Result<
     ensures faults { (S.seen source.old).faults ≤ (S.seen source.new).faults }
 {
     let mut chunk = [0; CHUNK];
-    read_by(alloc, source, limit, &mut chunk)
-}
-
-// One read into a slice with room, and no other. A count of 0 is the end of the input.
-fn read_once<S: Source>(source: &mut S, piece: &mut [u8]) -> Result<usize, Failed>
-    requires { 0 < length piece.old }
-    ensures count { IfOk result (λ n. n ≤ length piece.old) }
-    ensures given { IfOk result (λ n. 0 < n → S.gave source.old source.new (take n piece.new)) }
-    ensures end { IfOk result (λ n. n ≡ 0 → S.finished source.old source.new []) }
-    ensures broken { OnErr result (S.broke source.old source.new []) }
-    ensures fault { OnErr result (Rose (S.seen source.old).faults (S.seen source.new).faults) }
-    ensures faults { (S.seen source.old).faults ≤ (S.seen source.new).faults }
-{
-    source.read(piece)
-}
-
-// `read_all`, by reads into `chunk`.
-fn read_by<S: Source>(
-    alloc: Global,
-    source: &mut S,
-    limit: u64,
-    chunk: &mut [u8],
-) -> Result<Vec<u8>, Taken>
-    requires limit { limit ≤ GREATEST_LIMIT }
-    requires room { 0 < length chunk.old }
-    ensures all { IfOk result (λ all. S.finished source.old source.new all.items) }
-    ensures within { IfOk result (λ all. length all.items ≤ limit) }
-    ensures stopped { IfErr result (λ why.
-        (taken : List ℕ) × IsStop (S.gave source.old source.new) (S.broke source.old source.new) why limit taken) }
-    ensures fault { IsErrOf result Taken.ReadFault → Rose (S.seen source.old).faults (S.seen source.new).faults }
-    ensures faults { (S.seen source.old).faults ≤ (S.seen source.new).faults }
-{
     let mut bytes = Vec::new(alloc);
     'pieces: loop {
         let free = limit as usize - bytes.len();

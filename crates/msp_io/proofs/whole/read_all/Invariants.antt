@@ -1,6 +1,6 @@
--- What the loop of `read_by` keeps.
+-- What the loop of `read_all` keeps.
 use Rattle.std.proofs.Common.{◌≤◌, ◌-◌, vec_len}
-use Rattle.msp_io.proofs.whole.read_by.Given as goal
+use Rattle.msp_io.proofs.whole.read_all.Given as goal
 
 abbrev pub invariant-pieces : goal.invariant-pieces
 invariant-pieces g l = record {

@@ -1,9 +1,9 @@
--- The goals of `read_by` that are proved by lemmas.
+-- The goals of `read_all` that are proved by lemmas.
 use Rattle.std.proofs.Common.{ℕ, arith, ◌++◌, take}
 use Rattle.std.proofs.lemmas.List.{length-take, length-append}
 use Rattle.std.proofs.lemmas.Result.{err_from_is_err_and}
 use Rattle.msp_io.proofs.Moved.{and_none}
-use Rattle.msp_io.proofs.whole.read_by.Goals as goal
+use Rattle.msp_io.proofs.whole.read_all.Goals as goal
 
 pub returns-then-count-free-clause-stopped : goal.returns-then-count-free-clause-stopped
 returns-then-count-free-clause-stopped g c =
