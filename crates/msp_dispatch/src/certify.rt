@@ -84,13 +84,7 @@ fn fits(inst: &Instance, maker: Maker) -> bool
 {
     match maker {
         Maker::UniformCut => UniformCut.fits(inst),
-        Maker::Wrap
-        | Maker::OpenCut
-        | Maker::Open2
-        | Maker::Levels
-        | Maker::Lexical
-        | Maker::Unrelated
-        | Maker::Blocks => true,
+        _ => true,
     }
 }
 
