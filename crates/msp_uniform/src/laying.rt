@@ -11,6 +11,16 @@ use msp_class::NoMemory;
 use std::alloc::Global;
 use std::collections::VecDeque;
 
+/// A job, the place among the free machines that it gets, and the speeds of all machines.
+#[derive(Drop)]
+struct Seat<'a> {
+    speeds: &'a [u64],
+    job: u32,
+    place: usize,
+    ghost small: { job < 2 ^ 16 },
+    ghost slow: { All (λ s. s ≤ GREATEST_SPEED) speeds.now },
+}
+
 /// What is left of the job after a segment, and the part of the segment that comes second, if there is one.
 #[derive(Drop)]
 struct Laid {
@@ -59,22 +69,19 @@ fn second_of(segment: Segment, length: u128, job: u32, place: usize, swap: bool)
 fn lay_one(
     alloc: Global,
     first: &mut VecDeque<Segment>,
-    speeds: &[u64],
+    seat: &Seat<'_>,
     segment: Segment,
-    job: u32,
-    place: usize,
     swap: bool,
     left: u128,
 ) -> Result<Laid, NoMemory>
-    requires job { job < 2 ^ 16 }
-    requires machines { len segment.body.value.jobs ≡ len speeds.now }
-    requires places { HasPlaces (len speeds.now) swap place segment }
-    requires speeds { All (λ s. s ≤ GREATEST_SPEED) speeds.now }
+    requires machines { len segment.body.value.jobs ≡ len seat.now.speeds.now }
+    requires places { HasPlaces (len seat.now.speeds.now) swap seat.now.place segment }
     requires short { segment.length ≤ 10 ^ 25 }
-    requires gains { (segment.length * gain_at swap (at speeds.now) place segment ≤ left) ⊎ ((left < segment.length * gain_at swap (at speeds.now) place segment) × (gain_at swap (at speeds.now) place segment ∣ left)) }
-    ensures laid { IfOk result (λ laid. IsOneLaid swap (at speeds.now) job place left laid.left segment first.old.items [] first.new.items (option_to_list laid.rest)) }
+    requires gains { (segment.length * gain_at swap (at seat.now.speeds.now) seat.now.place segment ≤ left) ⊎ ((left < segment.length * gain_at swap (at seat.now.speeds.now) seat.now.place segment) × (gain_at swap (at seat.now.speeds.now) seat.now.place segment ∣ left)) }
+    ensures laid { IfOk result (λ laid. IsOneLaid swap (at seat.now.speeds.now) seat.now.job seat.now.place left laid.left segment first.old.items [] first.new.items (option_to_list laid.rest)) }
     ensures few { IfOk result (λ laid. len (option_to_list laid.rest) + min 1 laid.left ≤ 1) }
 {
+    let Seat { speeds, job, place } = *seat;
     let gain = gain_of(speeds, &segment, place, swap);
     let long = segment.length;
     if long * gain <= left {
@@ -100,28 +107,24 @@ fn lay_first(
     alloc: Global,
     early: &mut VecDeque<Segment>,
     late: &mut VecDeque<Segment>,
-    speeds: &[u64],
+    seat: &Seat<'_>,
     segment: Segment,
-    job: u32,
-    place: usize,
     left: u128,
 ) -> Result<u128, NoMemory>
-    requires job { job < 2 ^ 16 }
-    requires machines { len segment.body.value.jobs ≡ len speeds.now }
-    requires places { HasPlaces (len speeds.now) false place segment }
-    requires speeds { All (λ s. s ≤ GREATEST_SPEED) speeds.now }
+    requires machines { len segment.body.value.jobs ≡ len seat.now.speeds.now }
+    requires places { HasPlaces (len seat.now.speeds.now) false seat.now.place segment }
     requires short { segment.length ≤ 10 ^ 25 }
-    requires gains { CanGain (rate_at (at speeds.now) place) left (segment ∷ late.old.items) }
-    ensures { IfOk result (λ after. IsFirstLaid (at speeds.now) job place left after segment early.old.items late.old.items early.new.items late.new.items) }
+    requires gains { CanGain (rate_at (at seat.now.speeds.now) seat.now.place) left (segment ∷ late.old.items) }
+    ensures { IfOk result (λ after. IsFirstLaid (at seat.now.speeds.now) seat.now.job seat.now.place left after segment early.old.items late.old.items early.new.items late.new.items) }
 {
-    let gain = gain_of(speeds, &segment, place, false);
+    let gain = gain_of(seat.speeds, &segment, seat.place, false);
     let whole = segment.length * gain;
     if whole <= left {
         let length = segment.length;
-        early.push_back(taken(segment, length, job, place))?;
+        early.push_back(taken(segment, length, seat.job, seat.place))?;
         return Ok(left - whole);
     }
-    let laid = lay_one(alloc, early, speeds, segment, job, place, false, left)?;
+    let laid = lay_one(alloc, early, seat, segment, false, left)?;
     let Laid { left: after, rest } = laid;
     match rest {
         None => Ok(after),
@@ -147,12 +150,13 @@ pub(crate) fn lay(
     requires speeds { All (λ s. s ≤ GREATEST_SPEED) speeds.now }
     ensures { OnOk result (IsLaidHere (at speeds.now) job place gain early.old.items late.old.items early.new.items late.new.items) }
 {
+    let seat = Seat { speeds, job, place };
     let mut left = gain;
     'late: while left > 0 {
         match late.pop_front() {
             None => return Ok(()),
             Some(segment) => {
-                left = lay_first(alloc, early, late, speeds, segment, job, place, left)?;
+                left = lay_first(alloc, early, late, &seat, segment, left)?;
             }
         }
     }
@@ -163,30 +167,17 @@ pub(crate) fn lay(
 fn lay_both(
     alloc: Global,
     parts: &mut Parts,
-    speeds: &[u64],
+    seat: &Seat<'_>,
     segment: Segment,
-    job: u32,
-    place: usize,
     left: u128,
 ) -> Result<u128, NoMemory>
-    requires job { job < 2 ^ 16 }
-    requires machines { len segment.body.value.jobs ≡ len speeds.now }
-    requires places { HasPlaces (len speeds.now) true place segment }
-    requires speeds { All (λ s. s ≤ GREATEST_SPEED) speeds.now }
+    requires machines { len segment.body.value.jobs ≡ len seat.now.speeds.now }
+    requires places { HasPlaces (len seat.now.speeds.now) true seat.now.place segment }
     requires short { segment.length ≤ 10 ^ 25 }
-    requires gains { (segment.length * gain_at true (at speeds.now) place segment ≤ left) ⊎ ((left < segment.length * gain_at true (at speeds.now) place segment) × (gain_at true (at speeds.now) place segment ∣ left)) }
-    ensures { IfOk result (λ after. IsOneLaid true (at speeds.now) job place left after segment parts.old.first.items parts.old.second.items parts.new.first.items parts.new.second.items) }
+    requires gains { (segment.length * gain_at true (at seat.now.speeds.now) seat.now.place segment ≤ left) ⊎ ((left < segment.length * gain_at true (at seat.now.speeds.now) seat.now.place segment) × (gain_at true (at seat.now.speeds.now) seat.now.place segment ∣ left)) }
+    ensures { IfOk result (λ after. IsOneLaid true (at seat.now.speeds.now) seat.now.job seat.now.place left after segment parts.old.first.items parts.old.second.items parts.new.first.items parts.new.second.items) }
 {
-    let laid = lay_one(
-        alloc,
-        &mut parts.first,
-        speeds,
-        segment,
-        job,
-        place,
-        true,
-        left,
-    )?;
+    let laid = lay_one(alloc, &mut parts.first, seat, segment, true, left)?;
     let Laid { left: after, rest } = laid;
     match rest {
         None => Ok(after),
@@ -217,9 +208,10 @@ pub(crate) fn lay_over_all(
     let first = VecDeque::new(alloc);
     let second = VecDeque::new(alloc);
     let mut parts = Parts { first, second };
+    let seat = Seat { speeds, job, place };
     let mut left = gain;
     'segments: while let Some(segment) = segments.pop_front() {
-        left = lay_both(alloc, &mut parts, speeds, segment, job, place, left)?;
+        left = lay_both(alloc, &mut parts, &seat, segment, left)?;
     }
     Ok(parts)
 }
