@@ -125,6 +125,10 @@ draw_before job seed = record { value = job - 1 - (draw (min job 5) seed).value;
 abbrev pub draw_behind : ℕ → ℕ → ℕ → Drawn ℕ
 draw_behind jobs job seed = record { value = job + 1 + (draw (min (jobs - 1 - job) 5) seed).value; seed = (draw (min (jobs - 1 - job) 5) seed).seed }
 
+-- An arc from a job to the next one, from one of those before a job, or to one of those behind it.
+abbrev pub draw_arc_to_next : ℕ → ℕ → Drawn (List Arc)
+draw_arc_to_next job seed = without_draw (record { before = job; after = job + 1 } ∷ []) seed
+
 abbrev pub draw_arc_into : ℕ → ℕ → Drawn (List Arc)
 draw_arc_into job seed = record { value = record { before = (draw_before job seed).value; after = job } ∷ []; seed = (draw_before job seed).seed }
 
@@ -152,7 +156,7 @@ arc_turns Prec jobs = 2 * (jobs - 1)
 -- The arcs of a turn: from a job to one behind it, or from one before it to a job.
 abbrev pub draw_arcs : Order → ℕ → ℕ → List Arc → ℕ → Drawn (List Arc)
 draw_arcs Free jobs turn before seed = without_draw [] seed
-draw_arcs Chains jobs turn before seed = draw_mostly (without_draw (record { before = turn; after = turn + 1 } ∷ [])) seed
+draw_arcs Chains jobs turn before seed = draw_mostly (draw_arc_to_next turn) seed
 draw_arcs Intree jobs turn before seed = draw_mostly (draw_arc_from jobs turn) seed
 draw_arcs Outtree jobs turn before seed = draw_mostly (draw_arc_into (turn + 1)) seed
 draw_arcs Prec jobs turn before seed = draw_new_arc_into (turn / 2 + 1) before seed

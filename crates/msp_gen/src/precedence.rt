@@ -1,9 +1,9 @@
 // Precedence: the arcs of each order, drawn in turns.
-ghost use Rattle.std.specs.Prelude.{◌≡◌, ◌<◌, ◌≤◌, ◌-◌, IfOk};
+ghost use Rattle.std.specs.Prelude.{◌≡◌, ◌<◌, ◌≤◌, ◌+◌, ◌-◌, ◌^◌, IfOk};
 ghost use Rattle.std.specs.List.{list_any};
 ghost use Rattle.msp_instance.specs.declared.ranges.TheConstants.{MOST_JOBS};
-ghost use Rattle.msp_gen.specs.Draws.{draw, draw_turns, listed};
-ghost use Rattle.msp_gen.specs.Generated.{draw_before, draw_behind, draw_arcs, arc_turns, is_same};
+ghost use Rattle.msp_gen.specs.Draws.{draw_turns, listed};
+ghost use Rattle.msp_gen.specs.Generated.{draw_mostly, draw_before, draw_behind, draw_arc_to_next, draw_arc_from, draw_arc_into, draw_new_arc_into, draw_arcs, arc_turns, is_same};
 
 use crate::draws::Draws;
 use msp_class::{List, NoMemory, Order};
@@ -37,6 +37,67 @@ fn is_there(arcs: &[Arc], arc: Arc) -> bool
     arcs.iter().any(|other| arc.before == other.before && arc.after == other.after)
 }
 
+/// Two times out of three an arc from the job to the next one.
+fn arc_to_next(draws: &mut Draws, job: u32) -> Option<Arc>
+    requires { job + 1 < 2 ^ 32 }
+    ensures value { listed result ≡ (draw_mostly (draw_arc_to_next job) draws.old.seed).value }
+    ensures seed { draws.new.seed ≡ (draw_mostly (draw_arc_to_next job) draws.old.seed).seed }
+{
+    if draws.draw(3) == 0 {
+        return None;
+    }
+    Some(Arc {
+        before: job,
+        after: job + 1,
+    })
+}
+
+/// Two times out of three an arc from the job, which is not the last, to one behind it.
+fn arc_from(draws: &mut Draws, jobs: u32, job: u32) -> Option<Arc>
+    requires { job < jobs - 1 }
+    ensures value { listed result ≡ (draw_mostly (draw_arc_from jobs job) draws.old.seed).value }
+    ensures seed { draws.new.seed ≡ (draw_mostly (draw_arc_from jobs job) draws.old.seed).seed }
+{
+    if draws.draw(3) == 0 {
+        return None;
+    }
+    Some(Arc {
+        before: job,
+        after: job_behind(draws, jobs, job),
+    })
+}
+
+/// Two times out of three an arc to the job from one before it.
+fn arc_into(draws: &mut Draws, job: u32) -> Option<Arc>
+    requires { 0 < job }
+    ensures value { listed result ≡ (draw_mostly (draw_arc_into job) draws.old.seed).value }
+    ensures seed { draws.new.seed ≡ (draw_mostly (draw_arc_into job) draws.old.seed).seed }
+{
+    if draws.draw(3) == 0 {
+        return None;
+    }
+    Some(Arc {
+        before: job_before(draws, job),
+        after: job,
+    })
+}
+
+/// An arc to the job from one before it, if it is a new one.
+fn new_arc_into(draws: &mut Draws, job: u32, before: &[Arc]) -> Option<Arc>
+    requires { 0 < job }
+    ensures value { listed result ≡ (draw_new_arc_into job before.now draws.old.seed).value }
+    ensures seed { draws.new.seed ≡ (draw_new_arc_into job before.now draws.old.seed).seed }
+{
+    let arc = Arc {
+        before: job_before(draws, job),
+        after: job,
+    };
+    if is_there(before, arc) {
+        return None;
+    }
+    Some(arc)
+}
+
 /// The arc of a turn, if it has one.
 fn arc_of_turn(draws: &mut Draws, order: Order, jobs: u32, turn: u32, before: &[Arc]) -> Option<Arc>
     requires { turn < arc_turns order jobs }
@@ -45,45 +106,10 @@ fn arc_of_turn(draws: &mut Draws, order: Order, jobs: u32, turn: u32, before: &[
 {
     match order {
         Order::Free => None,
-        Order::Chains => {
-            if draws.draw(3) == 0 {
-                return None;
-            }
-            Some(Arc {
-                before: turn,
-                after: turn + 1,
-            })
-        }
-        Order::Intree => {
-            if draws.draw(3) == 0 {
-                return None;
-            }
-            Some(Arc {
-                before: turn,
-                after: job_behind(draws, jobs, turn),
-            })
-        }
-        Order::Outtree => {
-            if draws.draw(3) == 0 {
-                return None;
-            }
-            Some(Arc {
-                before: job_before(draws, turn + 1),
-                after: turn + 1,
-            })
-        }
-        Order::Prec => {
-            let after = turn / 2 + 1;
-            let arc = Arc {
-                before: job_before(draws, after),
-                after,
-            };
-            if is_there(before, arc) {
-                None
-            } else {
-                Some(arc)
-            }
-        }
+        Order::Chains => arc_to_next(draws, turn),
+        Order::Intree => arc_from(draws, jobs, turn),
+        Order::Outtree => arc_into(draws, turn + 1),
+        Order::Prec => new_arc_into(draws, turn / 2 + 1, before),
     }
 }
 
