@@ -1,5 +1,5 @@
 -- What is picked before an instance is solved. No public contract cites this file.
-use Rattle.std.specs.Prelude.{◌≡◌, ⊤, ℕ, ◌≤◌, List, [], ◌∷◌, length, slice_get, IsSomeAnd, Contains, Option, Some, None}
+use Rattle.std.specs.Prelude.{◌≡◌, ⊤, ℕ, ◌≤◌, List, [], ◌∷◌, length, slice_get, IsSomeAnd, Contains, Option, Some}
 use Rattle.msp_class.specs.declared.class.Class.{Class}
 use Rattle.msp_class.specs.declared.ranks.TheConstants.{CLASSES}
 use Rattle.msp_instance.specs.declared.Instance.{Instance}

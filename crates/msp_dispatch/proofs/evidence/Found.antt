@@ -1,5 +1,5 @@
 -- What is found among the proofs that are tried keeps the limits of texts, and where the cost is one of their values, something is found.
-use Rattle.std.proofs.Common.{◌+◌, ◌<◌, ◌≤◌, Some, None, pos, arith}
+use Rattle.std.proofs.Common.{None, pos, arith}
 use Rattle.std.proofs.lemmas.List.Elements.{All-contains}
 use Rattle.msp_instance.specs.declared.Instance.{Instance}
 use Rattle.msp_instance.specs.Conditions.{InClass}
