@@ -11,12 +11,14 @@ use crate::command::Command;
 use crate::questions::answer_question;
 use crate::refusal::Refusal;
 use crate::solves::solve_answer;
+use msp_file::MOST_BYTES;
+use msp_results::LONGEST_FILE;
 use std::alloc::Global;
 
 /// The most bytes of an input, but for that of `check` and `accept`.
-pub const INPUT_LIMIT: u64 = 4_194_304;
+pub const INPUT_LIMIT: u64 = LONGEST_FILE as u64;
 /// The most bytes of an instance text with a schedule text or a certificate text after it.
-pub const CHECK_LIMIT: u64 = 67_108_864;
+pub const CHECK_LIMIT: u64 = MOST_BYTES as u64;
 
 /// The most bytes of the input of a command.
 pub fn limit_of(command: &Command) -> u64

@@ -1,5 +1,6 @@
 // What the words of a command line ask for.
 use msp_class::{Class, List};
+use msp_gen::SEEDS;
 
 /// What is asked of a file of results.
 #[derive(Drop)]
@@ -28,7 +29,7 @@ pub enum Command {
 }
 
 /// The greatest seed of a trial.
-pub const GREATEST_SEED: u32 = 2_147_483_647;
+pub const GREATEST_SEED: u32 = (SEEDS - 1) as u32;
 
 /// A trial: an instance of a class, with so many jobs, is made from a seed and solved.
 #[derive(Clone, Copy, Debug, PartialEq, Eq)]
