@@ -32,6 +32,16 @@ pub record Passed : Type 1 where
   -- these bytes were written, and then a write failed
   pub broke_off : List ℕ → Type 0
 
+-- What passed between two states of a source and two of a sink.
+abbrev pub passed_between : {S K : Type 0} → (S → S → List ℕ → Type 0) → (S → S → List ℕ → Type 0) → (S → S → List ℕ → Type 0) → (K → K → List ℕ → Type 0) → (K → K → List ℕ → Type 0) → S → S → K → K → Passed
+passed_between gave finished broke took broke_off source source_after out out_after = record {
+  gave = gave source source_after;
+  finished = finished source source_after;
+  broke = broke source source_after;
+  took = took out out_after;
+  broke_off = broke_off out out_after;
+}
+
 -- The outcome is right for a command and an input within the limit.
 abbrev pub IsRightWithin : Command → List ℕ → Outcome → Type 0
 IsRightWithin (Solve at) input outcome = SolveIsRight input at outcome

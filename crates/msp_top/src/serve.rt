@@ -4,7 +4,7 @@ ghost use Rattle.msp_io.specs.Faults.{Rose};
 ghost use Rattle.msp_top.specs.declared.command.Command.{Command as CommandValue};
 ghost use Rattle.msp_top.specs.declared.command.Trial.{Trial as TrialValue};
 ghost use Rattle.msp_top.specs.Commands.{Asks, AsksForRows, AsksForTrial};
-ghost use Rattle.msp_top.specs.Run.{spelled, limit_of, IsServed, IsTold, IsDue, IsTrialDue};
+ghost use Rattle.msp_top.specs.Run.{spelled, limit_of, passed_between, IsServed, IsTold, IsDue, IsTrialDue};
 ghost use Rattle.msp_top.specs.Answers.{IsInRange};
 ghost use Rattle.msp_top.specs.Ending.{unread, Serves};
 
@@ -26,13 +26,8 @@ fn serve<S: Source, K: Sink>(
     source: &mut S,
     out: &mut K,
 ) -> Result<u8, Refusal>
-    ensures served { Serves (spelled words.now) (record {
-      gave = S.gave source.old source.new;
-      finished = S.finished source.old source.new;
-      broke = S.broke source.old source.new;
-      took = K.took out.old out.new;
-      broke_off = K.broke out.old out.new;
-    }) (Rose (S.seen source.old).faults (S.seen source.new).faults) (Rose (K.seen out.old).faults (K.seen out.new).faults) result }
+    ensures served { Serves (spelled words.now) (passed_between S.gave S.finished S.broke K.took K.broke source.old source.new out.old out.new)
+        (Rose (S.seen source.old).faults (S.seen source.new).faults) (Rose (K.seen out.old).faults (K.seen out.new).faults) result }
     ensures unread { IfErr result (λ why. why.status ≡ 2 → source.new ≡ source.old) }
     ensures unwritten { IfErr result (λ why. why.status ≢ 8 → out.new ≡ out.old) }
     ensures rows { AsksForRows (spelled words.now) → source.new ≡ source.old }
@@ -71,13 +66,9 @@ fn perform<S: Source, K: Sink>(
     source: &mut S,
     out: &mut K,
 ) -> Result<u8, Refusal>
-    ensures served { (words : List (List ℕ)) → Asks words command.now → Serves words (record {
-      gave = S.gave source.old source.new;
-      finished = S.finished source.old source.new;
-      broke = S.broke source.old source.new;
-      took = K.took out.old out.new;
-      broke_off = K.broke out.old out.new;
-    }) (Rose (S.seen source.old).faults (S.seen source.new).faults) (Rose (K.seen out.old).faults (K.seen out.new).faults) result }
+    ensures served { (words : List (List ℕ)) → Asks words command.now
+        → Serves words (passed_between S.gave S.finished S.broke K.took K.broke source.old source.new out.old out.new)
+        (Rose (S.seen source.old).faults (S.seen source.new).faults) (Rose (K.seen out.old).faults (K.seen out.new).faults) result }
     ensures not_usage { IfErr result (λ why. why.status ≢ 2) }
     ensures unwritten { IfErr result (λ why. why.status ≢ 8 → out.new ≡ out.old) }
 {
@@ -107,13 +98,8 @@ pub fn run<S: Source, K: Sink, E: Sink>(
     notes: &mut E,
 ) -> u8
     // What the status says of the words and of what passed, and which note it has.
-    ensures served { IsServed (spelled words.now) (record {
-      gave = S.gave source.old source.new;
-      finished = S.finished source.old source.new;
-      broke = S.broke source.old source.new;
-      took = K.took out.old out.new;
-      broke_off = K.broke out.old out.new;
-    }) (IsTold (E.took notes.old notes.new) (E.broke notes.old notes.new)) result }
+    ensures served { IsServed (spelled words.now) (passed_between S.gave S.finished S.broke K.took K.broke source.old source.new out.old out.new)
+        (IsTold (E.took notes.old notes.new) (E.broke notes.old notes.new)) result }
 
     // Nothing is read where the words fit no command, statuses other than 0, 1 and 8 leave `out` as it was, and those below 2 `notes`.
     ensures unread { result ≡ 2 → source.new ≡ source.old }

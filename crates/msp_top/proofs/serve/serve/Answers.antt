@@ -1,6 +1,6 @@
 -- The goals of `serve` that are proved by lemmas.
 use Rattle.msp_io.specs.Faults.{Rose}
-use Rattle.msp_top.specs.Run.{spelled}
+use Rattle.msp_top.specs.Run.{spelled, passed_between}
 use Rattle.msp_top.specs.Ending.{Serves}
 use Rattle.msp_top.proofs.Exits.{exits}
 use Rattle.msp_top.proofs.Endings.{serves_misfit, serves_unnamed, asks_for_labels, serves_any, serves_rows, serves_rows_broken, asks_for_rows, asks_for_trial, asks_for, never_usage, trial_in_range}
@@ -9,12 +9,12 @@ use Rattle.msp_top.proofs.serve.serve.Goals as goal
 
 pub returns-in_err-read_words-clause-served : goal.returns-in_err-read_words-clause-served
 returns-in_err-read_words-clause-served g c =
-    exits _ (Serves (spelled c.args.words.now) (record { gave = g.S.Source.gave c.args.source.now c.args.source.now; finished = g.S.Source.finished c.args.source.now c.args.source.now; broke = g.S.Source.broke c.args.source.now c.args.source.now; took = g.K.Sink.took c.args.out.now c.args.out.now; broke_off = g.K.Sink.broke c.args.out.now c.args.out.now }) (Rose (g.S.Source.seen c.args.source.now).faults (g.S.Source.seen c.args.source.now).faults) (Rose (g.K.Sink.seen c.args.out.now).faults (g.K.Sink.seen c.args.out.now).faults)) c.from_residual.result c.from_residual.ensures.1
+    exits _ (Serves (spelled c.args.words.now) (passed_between g.S.Source.gave g.S.Source.finished g.S.Source.broke g.K.Sink.took g.K.Sink.broke c.args.source.now c.args.source.now c.args.out.now c.args.out.now) (Rose (g.S.Source.seen c.args.source.now).faults (g.S.Source.seen c.args.source.now).faults) (Rose (g.K.Sink.seen c.args.out.now).faults (g.K.Sink.seen c.args.out.now).faults)) c.from_residual.result c.from_residual.ensures.1
     (λ why e. serves_misfit _ _ _ _ c.in_err-read_words.field-0.0 why c.in_err-read_words.ensures e)
 
 pub returns-in_err-write_all-in-Rows-clause-served : goal.returns-in_err-write_all-in-Rows-clause-served
 returns-in_err-write_all-in-Rows-clause-served g c =
-    exits _ (Serves (spelled c.args.words.now) (record { gave = g.S.Source.gave c.args.source.now c.args.source.now; finished = g.S.Source.finished c.args.source.now c.args.source.now; broke = g.S.Source.broke c.args.source.now c.args.source.now; took = g.K.Sink.took c.args.out.now c.write_all.new.sink; broke_off = g.K.Sink.broke c.args.out.now c.write_all.new.sink }) (Rose (g.S.Source.seen c.args.source.now).faults (g.S.Source.seen c.args.source.now).faults) (Rose (g.K.Sink.seen c.args.out.now).faults (g.K.Sink.seen c.write_all.new.sink).faults)) c.from_residual-in_err-write_all-in-Rows.result c.from_residual-in_err-write_all-in-Rows.ensures.1
+    exits _ (Serves (spelled c.args.words.now) (passed_between g.S.Source.gave g.S.Source.finished g.S.Source.broke g.K.Sink.took g.K.Sink.broke c.args.source.now c.args.source.now c.args.out.now c.write_all.new.sink) (Rose (g.S.Source.seen c.args.source.now).faults (g.S.Source.seen c.args.source.now).faults) (Rose (g.K.Sink.seen c.args.out.now).faults (g.K.Sink.seen c.write_all.new.sink).faults)) c.from_residual-in_err-write_all-in-Rows.result c.from_residual-in_err-write_all-in-Rows.ensures.1
     (λ why e. serves_rows_broken _ _ _ _ _ c.in_err-write_all-in-Rows.field-0.0 why (asks_for_rows _ c.in_ok-read_words.field-0 c.in_ok-read_words.ensures c.in-Rows.is) c.rows_text.ensures c.in_err-write_all-in-Rows.ensures.put c.in_err-write_all-in-Rows.ensures.fault e)
 
 pub returns-in_ok-write_all-in-Rows-clause-served : goal.returns-in_ok-write_all-in-Rows-clause-served
@@ -28,7 +28,7 @@ returns-in-Trial-clause-served g c = serves_any _ _ _ _ c.try_out.result (c.try_
 
 pub returns-in_err-command-in-Labels-clause-served : goal.returns-in_err-command-in-Labels-clause-served
 returns-in_err-command-in-Labels-clause-served g c =
-    exits _ (Serves (spelled c.args.words.now) (record { gave = g.S.Source.gave c.args.source.now c.args.source.now; finished = g.S.Source.finished c.args.source.now c.args.source.now; broke = g.S.Source.broke c.args.source.now c.args.source.now; took = g.K.Sink.took c.args.out.now c.args.out.now; broke_off = g.K.Sink.broke c.args.out.now c.args.out.now }) (Rose (g.S.Source.seen c.args.source.now).faults (g.S.Source.seen c.args.source.now).faults) (Rose (g.K.Sink.seen c.args.out.now).faults (g.K.Sink.seen c.args.out.now).faults)) c.from_residual-in_err-command-in-Labels.result c.from_residual-in_err-command-in-Labels.ensures.1
+    exits _ (Serves (spelled c.args.words.now) (passed_between g.S.Source.gave g.S.Source.finished g.S.Source.broke g.K.Sink.took g.K.Sink.broke c.args.source.now c.args.source.now c.args.out.now c.args.out.now) (Rose (g.S.Source.seen c.args.source.now).faults (g.S.Source.seen c.args.source.now).faults) (Rose (g.K.Sink.seen c.args.out.now).faults (g.K.Sink.seen c.args.out.now).faults)) c.from_residual-in_err-command-in-Labels.result c.from_residual-in_err-command-in-Labels.ensures.1
     (λ why e. serves_unnamed _ _ _ _ why (g.met.S.Source.lawful.none c.args.source.now) (asks_for_labels _ c.in_ok-read_words.field-0 c.in_ok-read_words.ensures c.in-Labels.is) e)
 
 pub returns-in-Command-clause-served : goal.returns-in-Command-clause-served
