@@ -197,5 +197,9 @@ fn counts_and_names(rt: HostRuntime) -> Result<(), Fail> {
 
 #[test]
 fn begins_with_the_first_row(rt: HostRuntime) {
-    assert!(rt; rows_text().starts_with(b"row 1 carries none to chains\n"));
+    assert!(rt;
+        rows_text()
+            .bytes()
+            .starts_with(b"row 1 carries none to chains\n")
+    );
 }

@@ -35,7 +35,7 @@ fn serve<S: Source, K: Sink>(
 {
     match read_words(words)? {
         Request::Rows => {
-            write_all(out, rows_text())?;
+            write_all(out, rows_text().bytes())?;
             Ok(WRITTEN)
         }
         Request::Trial(trial) => try_out(alloc, &trial, out),

@@ -1,4 +1,5 @@
 -- The goals of `serve` that are proved by lemmas.
+use Rattle.std.proofs.Common.{◌∙◌}
 use Rattle.msp_io.specs.Faults.{Rose}
 use Rattle.msp_top.specs.Run.{spelled, passed_between}
 use Rattle.msp_top.specs.Ending.{Serves}
@@ -15,10 +16,10 @@ returns-in_err-read_words-clause-served g c =
 pub returns-in_err-write_all-in-Rows-clause-served : goal.returns-in_err-write_all-in-Rows-clause-served
 returns-in_err-write_all-in-Rows-clause-served g c =
     exits _ (Serves (spelled c.args.words.now) (passed_between g.S.Source.gave g.S.Source.finished g.S.Source.broke g.K.Sink.took g.K.Sink.broke c.args.source.now c.args.source.now c.args.out.now c.write_all.new.sink) (Rose (g.S.Source.seen c.args.source.now).faults (g.S.Source.seen c.args.source.now).faults) (Rose (g.K.Sink.seen c.args.out.now).faults (g.K.Sink.seen c.write_all.new.sink).faults)) c.from_residual-in_err-write_all-in-Rows.result c.from_residual-in_err-write_all-in-Rows.ensures.1
-    (λ why e. serves_rows_broken _ _ _ _ _ c.in_err-write_all-in-Rows.field-0.0 why (asks_for_rows _ c.in_ok-read_words.field-0 c.in_ok-read_words.ensures c.in-Rows.is) c.rows_text.ensures c.in_err-write_all-in-Rows.ensures.put c.in_err-write_all-in-Rows.ensures.fault e)
+    (λ why e. serves_rows_broken _ _ _ _ _ c.in_err-write_all-in-Rows.field-0.0 why (asks_for_rows _ c.in_ok-read_words.field-0 c.in_ok-read_words.ensures c.in-Rows.is) (c.bytes.ensures.value ∙ c.rows_text.ensures) c.in_err-write_all-in-Rows.ensures.put c.in_err-write_all-in-Rows.ensures.fault e)
 
 pub returns-in_ok-write_all-in-Rows-clause-served : goal.returns-in_ok-write_all-in-Rows-clause-served
-returns-in_ok-write_all-in-Rows-clause-served g c = serves_rows _ _ _ _ _ (asks_for_rows _ c.in_ok-read_words.field-0 c.in_ok-read_words.ensures c.in-Rows.is) c.rows_text.ensures c.in_ok-write_all-in-Rows.ensures.put.all
+returns-in_ok-write_all-in-Rows-clause-served g c = serves_rows _ _ _ _ _ (asks_for_rows _ c.in_ok-read_words.field-0 c.in_ok-read_words.ensures c.in-Rows.is) (c.bytes.ensures.value ∙ c.rows_text.ensures) c.in_ok-write_all-in-Rows.ensures.put.all
 
 pub try_out-requires : goal.try_out-requires
 try_out-requires g c = trial_in_range _ c.in-Trial.trial (asks_for_trial _ c.in_ok-read_words.field-0 c.in-Trial.trial c.in_ok-read_words.ensures c.in-Trial.is)
