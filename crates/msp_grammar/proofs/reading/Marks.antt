@@ -1,8 +1,7 @@
 -- The first mark in bytes that are looked at run by run.
-use Rattle.std.proofs.Common.{◌≡◌, ◌≢◌, ℕ, ◌+◌, ◌*◌, ◌<◌, ◌≤◌, suc, Bool, true, false, not, cond, List, [], ◌∷◌, ◌++◌, length, map, take, drop, None, Some, position, option_map, refl, sym, ap, ◌∙◌, arith}
+use Rattle.std.proofs.Common.{◌≡◌, ◌≢◌, ℕ, ◌+◌, ◌*◌, ◌<◌, ◌≤◌, suc, Bool, true, false, not, cond, List, [], ◌∷◌, length, map, None, Some, position, option_map, refl, sym, ap, ◌∙◌, arith}
 use Rattle.std.specs.List.{position_from, position_or_len}
 use Rattle.std.proofs.lemmas.Bool.{lt-ltb, le-ltb}
-use Rattle.std.proofs.lemmas.List.{take-append-drop}
 use Rattle.std.proofs.lemmas.Iterator.Adapters.{position_from-zero}
 use Rattle.std.proofs.lemmas.Simd.{leading_from_mask_l, trailing_mask_l}
 use lib.Count.{count_trailing_zeros}
@@ -21,37 +20,6 @@ module _ {X : Type 0} (p : X → Bool) where
   -- counted from n, a place is n further
   pub position_further : (xs : List X) (n : ℕ) → position_from p n xs ≡ option_map (λ k. n + k) (position p xs)
   position_further xs n = ap (λ i. position_from p i xs) (omega arith) ∙ shifted xs n 0 ∙ ap (option_map (λ k. n + k)) (sym (position_from-zero p xs))
-
-  -- behind a part that has none
-  pub position_past : (xs ys : List X) (n : ℕ) → position_from p n xs ≡ None → position_from p n (xs ++ ys) ≡ position_from p (n + length xs) ys
-  position_past [] ys n none = ap (λ m. position_from p m ys) (omega arith)
-  position_past (x ∷ xs) ys n none = by (p x) none (λ h. position_past xs ys (n + 1) h ∙ ap (λ m. position_from p m ys) (omega arith))
-    where
-      by : (t : Bool) → cond t (Some n) (position_from p (n + 1) xs) ≡ None
-          → (position_from p (n + 1) xs ≡ None → position_from p (n + 1) (xs ++ ys) ≡ position_from p (n + suc (length xs)) ys)
-          → cond t (Some n) (position_from p (n + 1) (xs ++ ys)) ≡ position_from p (n + suc (length xs)) ys
-      by true e h = absurd cc
-      by false e h = h e
-
-  -- in a first part that has one
-  pub position_within : (xs ys : List X) (n k : ℕ) → position_from p n xs ≡ Some k → position_from p n (xs ++ ys) ≡ Some k
-  position_within [] ys n k found = absurd cc
-  position_within (x ∷ xs) ys n k found = by (p x) found (position_within xs ys (n + 1) k)
-    where
-      by : (t : Bool) → cond t (Some n) (position_from p (n + 1) xs) ≡ Some k → (position_from p (n + 1) xs ≡ Some k → position_from p (n + 1) (xs ++ ys) ≡ Some k)
-          → cond t (Some n) (position_from p (n + 1) (xs ++ ys)) ≡ Some k
-      by true e h = e
-      by false e h = h e
-
-  pub past_run : (xs : List X) (m n : ℕ) → position p (take m xs) ≡ None → length (take m xs) ≡ m → position_from p n xs ≡ position_from p (n + m) (drop m xs)
-  past_run xs m n none long =
-      let nowhere : position_from p n (take m xs) ≡ None = position_further (take m xs) n ∙ ap (option_map (λ k. n + k)) none in
-      ap (position_from p n) (sym (take-append-drop m xs)) ∙ position_past (take m xs) (drop m xs) n nowhere ∙ ap (λ l. position_from p (n + l) (drop m xs)) long
-
-  pub in_run : (xs : List X) (m n k : ℕ) → position p (take m xs) ≡ Some k → position_from p n xs ≡ Some (n + k)
-  in_run xs m n k found =
-      let here : position_from p n (take m xs) ≡ Some (n + k) = position_further (take m xs) n ∙ ap (option_map (λ i. n + i)) found in
-      ap (position_from p n) (sym (take-append-drop m xs)) ∙ position_within (take m xs) (drop m xs) n (n + k) here
 
   -- ---- by the mask of the lanes that pass
 

@@ -1,5 +1,5 @@
 -- The goals of `find` that are proved by lemmas.
-use Rattle.std.proofs.Common.{◌≡◌, ◌+◌, ◌==◌, ◌∙◌, option_map, ap, sym, arith}
+use Rattle.std.proofs.Common.{◌+◌, ◌==◌, ◌∙◌, option_map, ap, sym, arith}
 use Rattle.std.proofs.lemmas.Iterator.Adapters.{position_from-zero}
 use Rattle.msp_grammar.proofs.reading.Marks.{position_further}
 use Rattle.msp_grammar.proofs.lines.line.find.Goals as goal

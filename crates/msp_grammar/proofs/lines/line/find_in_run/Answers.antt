@@ -1,5 +1,5 @@
 -- The goals of `find_in_run` that are proved by lemmas.
-use Rattle.std.proofs.Common.{◌==◌, ◌≡◌, ◌∙◌, ◌≢◌, Some, ap, eqb, w8, sym, arith}
+use Rattle.std.proofs.Common.{◌==◌, ◌∙◌, Some, ap, eqb, w8, sym, arith}
 use Rattle.std.proofs.lemmas.Simd.{bitmask_splat}
 use Rattle.msp_grammar.proofs.reading.Marks.{no_lane, first_lane}
 use Rattle.msp_grammar.proofs.lines.line.find_in_run.Goals as goal
