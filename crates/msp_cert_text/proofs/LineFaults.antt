@@ -1,5 +1,5 @@
 -- The faults of certificate texts, and that their reading comes to an end.
-use Rattle.std.proofs.Common.{◌≡◌, ℕ, ◌+◌, ◌==◌, Bool, true, false, List, [], ◌∷◌, length, Result, Ok, Err, ℤ, bytes_eq, codes, refl, ap, subst, sym}
+use Rattle.std.proofs.Common.{◌≡◌, ◌⊎◌, inl, inr, ℕ, ◌+◌, List, [], ◌∷◌, length, Result, Ok, Err, ℤ, bytes_eq, codes, refl, ap, subst, sym}
 use Rattle.msp_schedule.specs.declared.Frac.{Frac}
 use Rattle.msp_cert.specs.declared.Proof.{Proof}
 use Rattle.msp_cert.specs.declared.Certificate.{Certificate}
@@ -13,10 +13,10 @@ use Rattle.msp_cert_text.specs.declared.kinds.TheConstants.{GREATEST_BOUND, GREA
 use Rattle.msp_cert_text.specs.Reading.{kind_in, kind_at, machine_line_at, job_line_of, tail_at, named_field_at, named_line_at, numbers_at, level_at, head_at, price_at, job_in, job_added, jobs_step, segment_added, is_segment_word, segments_step, position_at, column_price_at, column_added, columns_step, ReadsProof, IsCertifiedAs, ReadsEvidence, ReadsCertified, ReadsCertificate}
 use Rattle.msp_cert_text.specs.CertificateText.{segment_lines, column_lines}
 use Rattle.msp_cert_text.specs.Answers.{IsCertificateFault}
-use Rattle.msp_grammar.specs.lines.Reading.{◌>>=◌, provided, Place, line_at, fields_of, first_of, word_line_at, LineRead, ReadsMore, ReadsBy, Then, all_of}
+use Rattle.msp_grammar.specs.lines.Reading.{Place, line_at, fields_of, first_of, word_line_at, LineRead, ReadsMore, ReadsBy, Then, all_of}
 use Rattle.msp_grammar.specs.lines.Costs.{cost_line_at}
 use Rattle.msp_grammar.proofs.reading.LineLaws.{bind_ok}
-use Rattle.msp_grammar.proofs.reading.LineFaults.{IsPlainFault, InBy, IsPlain, fine, bad, chain, given, or_fault, either, line_plain, worded_plain, word_plain, field_plain, natural_plain, integer_plain, ordinal_plain, named_plain, known_plain, end_plain, cost_plain, more, then_in}
+use Rattle.msp_grammar.proofs.reading.LineFaults.{IsPlainFault, InBy, IsPlain, fine, bad, chain, given, or_fault, either, line_plain, worded_plain, word_plain, field_plain, natural_plain, integer_plain, ordinal_plain, named_plain, known_plain, end_plain, cost_plain, more, then_in, whole_in, whole_remembers}
 use Rattle.msp_cert_text.proofs.KindLaws.{kind_in_by, kind_shortens}
 use Rattle.msp_grammar.proofs.reading.Endings.{Shortens, IsNoJob, line_shorter, more_ends, then_ends, by_ends, IsOfFraction, cost_is}
 
@@ -192,27 +192,15 @@ module _ (names : List (List ℕ)) (machines : ℕ) where
 
   -- the faults of a certificate text
   pub certificate_faults : (line : ℕ) (b : List ℕ) (e : FileFault) → ReadsCertificate names machines line b (Err e) → IsCertificateFault e
-  certificate_faults line b e h = by h.lines (certified (record { at = line; rest = b }) h.lines h.reads) h.is
+  certificate_faults line b e h = by (whole_in h.lines e (certified (record { at = line; rest = b }) h.lines h.reads) h.is)
     where
-      by : (lines : Result (Certificate × Place) FileFault) → InKind lines → Err e ≡ (lines >>= all_of) → IsCertificateFault e
-      by (Err d) k is = let same : d ≡ e = cc in kind_certificate e (k.fault e (ap Err same))
-      by (Ok x) k is = last (length x.1.rest == 0) is
-        where
-          last : (b : Bool) → Err e ≡ provided b (After x.1.at) (Ok x.0) → IsCertificateFault e
-          last true same = absurd cc
-          last false same = let is : After x.1.at ≡ e = cc in subst IsCertificateFault is tt
+      by : IsKindFault e ⊎ ((at : ℕ) × (e ≡ After at)) → IsCertificateFault e
+      by (inl k) = kind_certificate e k
+      by (inr k) = subst IsCertificateFault (sym k.1) tt
 
   -- reading gives no want of memory
   pub certificate_remembers : (line : ℕ) (b : List ℕ) → ¬ ReadsCertificate names machines line b (Err Memory)
-  certificate_remembers line b h = by h.lines (certified (record { at = line; rest = b }) h.lines h.reads) h.is
-    where
-      by : (lines : Result (Certificate × Place) FileFault) → InKind lines → Err Memory ≡ (lines >>= all_of) → ⊥
-      by (Err d) k is = let same : d ≡ Memory = cc in k.fault Memory (ap Err same)
-      by (Ok x) k is = last (length x.1.rest == 0) is
-        where
-          last : (b : Bool) → Err Memory ≡ provided b (After x.1.at) (Ok x.0) → ⊥
-          last true same = absurd cc
-          last false same = absurd cc
+  certificate_remembers line b h = whole_remembers h.lines (certified (record { at = line; rest = b }) h.lines h.reads) (λ k. k) h.is
 
   -- ---- reading comes to an end
 

@@ -63,7 +63,7 @@ then_ends (Err e) next k = (Err e, refl)
 pub by_ends : {A B : Type 0} (last : A → Result B FileFault) (Lines : Result A FileFault → Type 0) → (r : Result A FileFault) × Lines r → (r : Result B FileFault) × ReadsBy last Lines r
 by_ends last Lines x = (x.0 >>= last, record { lines = x.0; reads = x.1; is = refl })
 
--- ---- schedules
+-- ---- costs
 
 in_range : (at : ℕ) (quantity : What) (least greatest : ℕ) (x : ℤ) (n : ℕ) → natural_in at quantity least greatest x ≡ Ok n → least ≤ n
 in_range at quantity least greatest (pos m) n e =

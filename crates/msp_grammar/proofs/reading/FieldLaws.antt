@@ -179,6 +179,8 @@ unfolding known_at
 known_again at names k apart spelled h =
     rw (name_again at (get_or names k []) (spelled k [] h), found_again names k apart h) refl
 
+-- ---- numbers from 1, and lines of one number
+
 pub number_line_takes : (word : List ℕ) (quantity : What) (greatest : ℕ) (p : Place) (x : ℕ × Place) → greatest < 10 ^ 64 → number_line_at word quantity greatest p ≡ Ok x → Takes p (line_text (word ∷ decimal x.0 ∷ [])) x.1 × ((1 ≤ x.0) × (x.0 ≤ greatest))
 unfolding number_line_at
 number_line_takes word quantity greatest p x few h =
@@ -196,8 +198,6 @@ unfolding number_line_at
 number_line_again word quantity greatest at number rest worded few low high =
     let line = worded_again word (decimal number ∷ []) at rest (worded, (wide_field number (omega arith), tt)) in
     (line.0, rw (line.1, wide_again at quantity 1 greatest number few low high) refl)
-
--- ---- routes
 
 pub ordinal_takes : (at : ℕ) (quantity : What) (most : ℕ) (w : List ℕ) (k : ℕ) → most < 10 ^ 64 → ordinal_at at quantity most w ≡ Ok k → (w ≡ decimal (k + 1)) × (k < most)
 unfolding ordinal_at

@@ -1,14 +1,14 @@
 -- Reading lines gives plain faults alone, which texts of every kind can have.
-use Rattle.std.proofs.Common.{◌≡◌, ℕ, sym, ◌+◌, nat_le, Bool, true, false, ◌==◌, List, [], ◌∷◌, length, Option, None, Some, Result, Ok, Err, ok_or, position, bytes_eq, codes, ℤ, pos, negsuc, unsigned_abs, refl, subst, take, drop, if◌then◌else◌}
+use Rattle.std.proofs.Common.{◌≡◌, ◌⊎◌, inl, inr, ℕ, sym, ◌+◌, nat_le, Bool, true, false, ◌==◌, List, [], ◌∷◌, length, Option, None, Some, Result, Ok, Err, ok_or, position, bytes_eq, codes, ℤ, pos, negsuc, unsigned_abs, refl, ap, subst, take, drop, if◌then◌else◌}
 use Rattle.msp_grammar.specs.declared.limits.TheConstants.{GREATEST_DENOMINATOR}
 use Rattle.msp_grammar.specs.lines.Costs.{denominator_at, cost_in, cost_line_at}
 use Rattle.msp_grammar.specs.declared.lines.fault.What.{What}
 use Rattle.msp_grammar.specs.declared.lines.fault.FileFault.{FileFault}
-use Rattle.msp_grammar.specs.declared.lines.fault.FileFault.TheVariants.{Missing, Cut, Line, Count, Name, Number, Limit, Unknown}
+use Rattle.msp_grammar.specs.declared.lines.fault.FileFault.TheVariants.{Missing, Cut, Line, Count, Name, Number, Limit, Unknown, After, Memory}
 use Rattle.msp_grammar.specs.declared.lines.fault.What.TheVariants as what
 use Rattle.msp_job_name.specs.declared.job_name.TheConstants.{LONGEST_NAME}
 use Rattle.msp_text.specs.Numbers.{number_of}
-use Rattle.msp_grammar.specs.lines.Reading.{first_of, ◌>>=◌, provided, Place, line_at, worded_at, word_line_at, field_line_at, natural_in, natural_at, ordinal_at, number_line_at, integer_at, is_name_text, job_name_at, known_at, end_at, LineRead, end_read, ReadsMore, more_then, more_end, more_fault, Then}
+use Rattle.msp_grammar.specs.lines.Reading.{first_of, ◌>>=◌, provided, Place, line_at, worded_at, word_line_at, field_line_at, natural_in, natural_at, ordinal_at, number_line_at, integer_at, is_name_text, job_name_at, known_at, end_at, LineRead, end_read, ReadsMore, more_then, more_end, more_fault, Then, all_of}
 
 -- A fault of a line that texts of every kind can have.
 abbrev pub IsPlainFault : FileFault → Type 0
@@ -120,7 +120,24 @@ pub then_in : {P : FileFault → Type 0} {A B : Type 0} (first : Result A FileFa
 then_in (Ok x) next r h k t = k x t
 then_in (Err e) next r h k t = is_bad r (Err e) e h refl t
 
--- ---- schedules
+-- the fault of a whole text is one of its lines, or that more follows them
+pub whole_in : {P : FileFault → Type 0} {A : Type 0} (lines : Result (A × Place) FileFault) (e : FileFault) → InBy P lines → Err e ≡ (lines >>= all_of) → P e ⊎ ((at : ℕ) × (e ≡ After at))
+whole_in (Err d) e h is = let same : d ≡ e = cc in inl (h.fault e (ap Err same))
+whole_in {P} (Ok x) e h is = last (length x.1.rest == 0) is
+  where
+    last : (b : Bool) → Err e ≡ provided b (After x.1.at) (Ok x.0) → P e ⊎ ((at : ℕ) × (e ≡ After at))
+    last true same = absurd cc
+    last false same = inr (x.1.at, cc)
+
+-- reading a whole text gives no want of memory, where its lines give none
+pub whole_remembers : {P : FileFault → Type 0} {A : Type 0} (lines : Result (A × Place) FileFault) → InBy P lines → ¬ P Memory → ¬ (Err Memory ≡ (lines >>= all_of))
+whole_remembers {P} lines h none is = by (whole_in lines Memory h is)
+  where
+    by : P Memory ⊎ ((at : ℕ) × (Memory ≡ After at)) → ⊥
+    by (inl k) = none k
+    by (inr k) = let same = k.1 in absurd cc
+
+-- ---- costs
 
 denominator : (at : ℕ) (ws : List (List ℕ)) → IsPlain (denominator_at at ws)
 denominator at [] = fine _
