@@ -1,5 +1,6 @@
 -- Certificate texts: what is read is a text of its certificate, and a text of a certificate is read as it.
 use Rattle.std.proofs.Common.{◌≡◌, ℕ, ◌<◌, ◌≤◌, Bool, true, false, if◌then◌else◌, List, [], ◌∷◌, ◌++◌, length, Option, Some, None, ok_or, Result, Ok, Err, ℤ, All, bytes_eq, codes, refl, sym, ap, subst, ◌∙◌, append_assoc, append-nil, arith, eqb-true}
+use Rattle.std.specs.Result.{IfErr}
 use Rattle.std.proofs.lemmas.List.{nil_from_length}
 use Rattle.msp_job_name.specs.JobName.{IsJobName, AreDistinct}
 use Rattle.msp_job_name.proofs.NameLists.{same_bytes}
@@ -17,10 +18,10 @@ use Rattle.msp_cert_text.specs.declared.kinds.TheConstants.{GREATEST_BOUND, MOST
 use Rattle.msp_cert_text.specs.CertificateText.{kind_of, kind_word, kind_lines, lines_text, certificate_text, printed_certificate, IsStatedBound, IsStatedProof, IsStatedCertificate, IsCertificateText}
 use Rattle.msp_cert_text.specs.Reading.{kind_in, kind_at, ReadsProof, IsCertifiedAs, ReadsEvidence, ReadsCertified, ReadsCertificate}
 use Rattle.msp_cert_text.specs.Answers.{IsCertificateFaultOf, IsCertificateFault}
-use Rattle.msp_grammar.specs.lines.Answers.{Fails}
+use Rattle.msp_grammar.specs.lines.Answers.{Fails, Gives}
 use Rattle.msp_grammar.specs.lines.Reading.{Place, word_line_at, field_line_at, all_of}
 use Rattle.msp_grammar.specs.lines.Costs.{cost_line_at}
-use Rattle.msp_grammar.specs.lines.Steps.{FailsBy, parts_of}
+use Rattle.msp_grammar.specs.lines.Steps.{FailsBy, GivesBy, parts_of}
 use Rattle.msp_grammar.proofs.reading.LineLaws.{bind_ok, provided_ok, reads, ok_is, bind_again, Takes, Gets, Takes-then, IsField, word_line_takes, word_line_again, field_line_takes, field_line_again, end_text, GetsBy, spread}
 use Rattle.msp_grammar.proofs.reading.FieldLaws.{ok_some}
 use Rattle.msp_grammar.proofs.reading.Readings.{then_ok, then_again}
@@ -223,5 +224,15 @@ certificate_fault_of names machines line b e h = h
 pub certificate_fault_is : (names : List (List ℕ)) (machines line : ℕ) (b : List ℕ) (e : FileFault) → IsCertificateFaultOf names machines line b e → IsCertificateFault e
 certificate_fault_is names machines line b Memory h = tt
 certificate_fault_is names machines line b e h = certificate_faults names machines line b e h
+
+-- what is answered to the text of a certificate
+pub certificate_answered : (names : List (List ℕ)) (machines : ℕ) → length names < PLACES → machines < PLACES → All IsJobName names → AreDistinct names → (line : ℕ) (b : List ℕ) (r : Result Certificate FileFault) → GivesBy r (ReadsCertificate names machines line b) → (c : Certificate) → IsCertificateText b names machines c → Gives (λ f. f) r (reads c)
+certificate_answered names machines named small spelled apart line b (Ok f) k c h = certificate_is_read names machines named small spelled apart line b f k c h
+certificate_answered names machines named small spelled apart line b (Err e) k c h = no_certificate_fault names machines named small spelled apart line b e (certificate_fault_of names machines line b e k) c h
+
+-- the faults that are answered
+pub certificate_faults_answered : (names : List (List ℕ)) (machines line : ℕ) (b : List ℕ) (r : Result Certificate FileFault) → GivesBy r (ReadsCertificate names machines line b) → IfErr r (λ e. IsCertificateFault e)
+certificate_faults_answered names machines line b (Ok f) k = tt
+certificate_faults_answered names machines line b (Err e) k = certificate_fault_is names machines line b e (certificate_fault_of names machines line b e k)
 
 pub ruleset certificate_rules = (certificate_fault_of, certificate_taken)

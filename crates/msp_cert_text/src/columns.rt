@@ -155,11 +155,8 @@ pub(crate) fn columns_at(
 {
     let mut prices = List::new(alloc);
     let mut used: usize = 0;
-    'lines: loop {
-        match columns_step(counts, before, used, &mut prices, lines) {
-            Ok(true) => used += 1,
-            Ok(false) => return Ok(prices),
-            Err(fault) => return Err(fault),
-        }
+    'lines: while columns_step(counts, before, used, &mut prices, lines)? {
+        used += 1;
     }
+    Ok(prices)
 }

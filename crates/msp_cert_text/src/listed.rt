@@ -71,19 +71,11 @@ fn take_level(
     ensures place { OnOk result (length levels.new ≡ k + 1) }
 {
     let at = lines.at;
-    match names.get(k) {
-        Some(name) => match named_line_at(lines, b"level", k + 1, &name) {
-            Ok(field) => match natural_at(at, What::Level, 0, GREATEST_LEVEL as u64, field) {
-                Ok(level) => {
-                    levels.put(level as u32)?;
-                    Ok(())
-                }
-                Err(fault) => Err(fault),
-            },
-            Err(fault) => Err(fault),
-        },
-        None => unreachable!(),
-    }
+    let name = names.get(k).unwrap();
+    let field = named_line_at(lines, b"level", k + 1, &name)?;
+    let level = natural_at(at, What::Level, 0, GREATEST_LEVEL as u64, field)?;
+    levels.put(level as u32)?;
+    Ok(())
 }
 
 /// The head of the job at a place, put at the end of the heads.
@@ -100,19 +92,11 @@ fn take_head(
     ensures place { OnOk result (length heads.new ≡ k + 1) }
 {
     let at = lines.at;
-    match names.get(k) {
-        Some(name) => match named_line_at(lines, b"head", k, &name) {
-            Ok(field) => match natural_at(at, What::Head, 0, GREATEST_HEAD, field) {
-                Ok(head) => {
-                    heads.put(head)?;
-                    Ok(())
-                }
-                Err(fault) => Err(fault),
-            },
-            Err(fault) => Err(fault),
-        },
-        None => unreachable!(),
-    }
+    let name = names.get(k).unwrap();
+    let field = named_line_at(lines, b"head", k, &name)?;
+    let head = natural_at(at, What::Head, 0, GREATEST_HEAD, field)?;
+    heads.put(head)?;
+    Ok(())
 }
 
 /// The price of the job at a place, put at the end of the prices.
@@ -129,19 +113,11 @@ fn take_row(
     ensures place { OnOk result (length row.new ≡ k + 1) }
 {
     let at = lines.at;
-    match names.get(k) {
-        Some(name) => match named_line_at(lines, b"row", k, &name) {
-            Ok(field) => match signed_at(at, What::Price, GREATEST_PRICE, field) {
-                Ok(price) => {
-                    row.put(price)?;
-                    Ok(())
-                }
-                Err(fault) => Err(fault),
-            },
-            Err(fault) => Err(fault),
-        },
-        None => unreachable!(),
-    }
+    let name = names.get(k).unwrap();
+    let field = named_line_at(lines, b"row", k, &name)?;
+    let price = signed_at(at, What::Price, GREATEST_PRICE, field)?;
+    row.put(price)?;
+    Ok(())
 }
 
 /// A level for each job.

@@ -139,10 +139,7 @@ fn read_for(
     if names.len() > u32::MAX as usize {
         return Err(FileFault::Memory);
     }
-    match certificate_at(alloc, names, machines, bytes, line) {
-        Ok(certificate) => Ok(certificate),
-        Err(fault) => Err(fault),
-    }
+    certificate_at(alloc, names, machines, bytes, line)
 }
 
 /// Reads a certificate text for an instance with these names of jobs, the first line of which has the number `line`. The fault is the

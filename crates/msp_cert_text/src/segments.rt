@@ -5,7 +5,7 @@ ghost use Rattle.msp_cert_text.specs.declared.kinds.TheConstants.{MOST_LINES};
 ghost use Rattle.msp_grammar.specs.lines.Answers.{Fails, Gives};
 ghost use Rattle.msp_grammar.specs.lines.Reading.{ReadsMore, more_read, end_read};
 ghost use Rattle.msp_cert_text.specs.CertificateText.{segment_lines};
-ghost use Rattle.msp_cert_text.specs.Reading.{job_in, job_added, jobs_step, with_job, is_segment_word, segment_added, segments_step};
+ghost use Rattle.msp_cert_text.specs.Reading.{job_in, jobs_step, with_job, is_segment_word, segment_added, segments_step};
 ghost use Rattle.msp_cert_text.specs.Steps.{lists_of};
 ghost use Rattle.msp_grammar.specs.lines.Steps.{MovesBy, AfterLine, place_of, fields_after};
 
@@ -37,23 +37,8 @@ fn job_in(at: u32, names: &Names, fields: &[u8]) -> Result<u32, FileFault>
     known_at(at, names, field)
 }
 
-/// The job in the line with these fields, put at the end of the jobs.
-#[tactic(auto, unfolding(crate::specs::Reading::job_added))]
-fn job_added(at: u32, names: &Names, jobs: &mut List<u32>, fields: &[u8]) -> Result<(), FileFault>
-    requires { length names.now < PLACES }
-    ensures { Gives (λ _. jobs.new) result (job_added names.now at jobs.old (fields_after fields.now)) }
-{
-    match job_in(at, names, fields) {
-        Ok(job) => {
-            jobs.put(job)?;
-            Ok(())
-        }
-        Err(fault) => Err(fault),
-    }
-}
-
 /// Reads a line after so many of the kind and these jobs, and answers whether it is a job.
-#[tactic(auto, unfolding(crate::specs::Reading::jobs_step))]
+#[tactic(auto, unfolding(crate::specs::Reading::jobs_step, crate::specs::Reading::job_added))]
 fn jobs_step(
     names: &Names,
     before: usize,
@@ -74,7 +59,8 @@ fn jobs_step(
                 what: What::Lines,
             });
         }
-        job_added(at, names, jobs, fields)?;
+        let job = job_in(at, names, fields)?;
+        jobs.put(job)?;
         return Ok(true);
     }
     end_line(at, word, fields)?;
@@ -92,13 +78,8 @@ pub(crate) fn jobs_at(
     ensures { MovesBy (λ x. x) result (place_of lines.new) (ReadsMore (jobs_step names.now before) [] (place_of lines.old)) }
 {
     let mut jobs = List::new(alloc);
-    'lines: loop {
-        match jobs_step(names, before, &mut jobs, lines) {
-            Ok(true) => {}
-            Ok(false) => return Ok(jobs),
-            Err(fault) => return Err(fault),
-        }
-    }
+    'lines: while jobs_step(names, before, &mut jobs, lines)? {}
+    Ok(jobs)
 }
 
 /// The lists of jobs that came to an end, and the last one.
@@ -196,13 +177,10 @@ fn lists_at(alloc: Global, names: &Names, lines: &mut Lines<'_>) -> Result<Segme
         last: List::new(alloc),
     };
     let mut before: usize = 1;
-    'lines: loop {
-        match segments_step(names, before, &mut lists, lines) {
-            Ok(true) => before += 1,
-            Ok(false) => return Ok(lists),
-            Err(fault) => return Err(fault),
-        }
+    'lines: while segments_step(names, before, &mut lists, lines)? {
+        before += 1;
     }
+    Ok(lists)
 }
 
 /// Reads the first line, and answers whether it begins a list.
@@ -242,12 +220,9 @@ pub(crate) fn segments_at(
     requires { length names.now < PLACES }
     ensures { MovesBy (λ x. x) result (place_of lines.new) (ReadsMore (segments_step names.now) [] (place_of lines.old)) }
 {
-    match first_list(lines) {
-        Ok(true) => match lists_at(alloc, names, lines) {
-            Ok(lists) => Ok(finish(lists)?),
-            Err(fault) => Err(fault),
-        },
-        Ok(false) => Ok(List::new(alloc)),
-        Err(fault) => Err(fault),
+    if !first_list(lines)? {
+        return Ok(List::new(alloc));
     }
+    let lists = lists_at(alloc, names, lines)?;
+    Ok(finish(lists)?)
 }
