@@ -1,5 +1,5 @@
 -- Reading the lines of an instance gives faults of lines alone.
-use Rattle.std.proofs.Common.{◌≡◌, ◌⊎◌, ℕ, inl, inr, ap, sym, Bool, true, false, ◌&&◌, ◌==◌, List, [], ◌∷◌, length, Option, None, Some, Result, Ok, Err, bytes_eq, codes, subst}
+use Rattle.std.proofs.Common.{◌≡◌, ◌⊎◌, ℕ, inl, inr, ap, sym, Bool, true, false, ◌&&◌, List, [], ◌∷◌, length, Option, None, Some, Result, Ok, Err, bytes_eq, codes, subst}
 use Rattle.msp_class.specs.Env.{fixed_machines}
 use Rattle.msp_class.specs.declared.class.Class.{Class}
 use Rattle.msp_class.specs.declared.class.Env.{Env}
@@ -17,9 +17,9 @@ use Rattle.msp_instance.specs.Conditions.{HasSmallMultiple}
 use Rattle.msp_file.specs.declared.instance.draft.Draft.{Draft}
 use Rattle.msp_grammar.specs.declared.filed.Filed.{Filed}
 use Rattle.msp_grammar.specs.Layout.{has_order}
-use Rattle.msp_grammar.specs.lines.Reading.{first_of, others_of, ◌>>=◌, provided, Place, line_at, fields_of, worded_at, natural_at, integer_at, job_name_at, known_at, machine_at, end_at, Then, all_of, front_of}
+use Rattle.msp_grammar.specs.lines.Reading.{first_of, others_of, ◌>>=◌, Place, line_at, fields_of, worded_at, natural_at, integer_at, job_name_at, known_at, machine_at, end_at, Then, front_of}
 use Rattle.msp_file.specs.instance.Reading.{keyed_at, natural_key_at, integer_key_at, keys_at, job_line_at, with_need, times_at, times_line_at, timed_route_at, machine_route_at, operations_at, route_line_at, needs_at, with_step, steps_at, curve_fields_at, curve_line_at, curve_at, job_at_line, arc_line_at, arc_or_end, arc_step, job_step, ReadsArcs, ReadsJobs, job_then, arc_after, jobs_end, jobs_fault, OnlyWhere, ReadsRest, ReadsLines, ReadsFront, start_of, Reads, no_draft, version_at, class_in, spelled_class, class_at, machines_line_at, machines_at, speeds_in, speeds_line_at, speeds_at, time_line_at, time_at}
-use Rattle.msp_grammar.proofs.reading.LineFaults.{IsPlainFault, InBy, IsPlain, fine, bad, chain, given, either, line_plain, worded_plain, natural_plain, ordinal_plain, number_line_plain, integer_plain, named_plain, known_plain, end_plain, is_fine, is_bad, more, then_in}
+use Rattle.msp_grammar.proofs.reading.LineFaults.{IsPlainFault, InBy, IsPlain, fine, bad, chain, given, either, line_plain, worded_plain, natural_plain, ordinal_plain, number_line_plain, integer_plain, named_plain, known_plain, end_plain, is_fine, is_bad, more, then_in, whole_in}
 
 -- The fault is one of a line.
 abbrev pub IsLineFault : FileFault → Type 0
@@ -255,15 +255,7 @@ lines_in p r h =
 
 -- what follows the lines is the one fault of a text beside those of its lines
 pub whole : (b : List ℕ) (e : FileFault) → Reads b (Err e) → IsLineFault e ⊎ ((at : ℕ) × (e ≡ After at))
-whole b e h = by h.lines (lines_in (start_of b) h.lines h.reads) h.is
-  where
-    by : (lines : Result (Filed × Place) FileFault) → InLines lines → Err e ≡ (lines >>= all_of) → IsLineFault e ⊎ ((at : ℕ) × (e ≡ After at))
-    by (Err d) k is = let same : d ≡ e = cc in inl (k.fault e (ap Err same))
-    by (Ok x) k is = last (length x.1.rest == 0) is
-      where
-        last : (b : Bool) → Err e ≡ provided b (After x.1.at) (Ok x.0) → IsLineFault e ⊎ ((at : ℕ) × (e ≡ After at))
-        last true same = absurd cc
-        last false same = inr (x.1.at, cc)
+whole b e h = whole_in h.lines e (lines_in (start_of b) h.lines h.reads) h.is
 
 pub front : (b : List ℕ) (e : FileFault) → ReadsFront b (Err e) → IsLineFault e
 front b e h = by h.lines (lines_in (start_of b) h.lines h.reads) h.is

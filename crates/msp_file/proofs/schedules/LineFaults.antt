@@ -1,5 +1,5 @@
 -- The faults of the lines of a schedule.
-use Rattle.std.proofs.Common.{◌≡◌, ℕ, ap, sym, Bool, true, false, ◌==◌, List, [], length, Result, Ok, Err, bytes_eq, codes, ℤ, nat_lt, subst}
+use Rattle.std.proofs.Common.{◌≡◌, ◌⊎◌, inl, inr, ℕ, ap, sym, ◌==◌, List, [], length, Result, Ok, Err, bytes_eq, codes, ℤ, nat_lt, subst}
 use Rattle.msp_instance.specs.declared.ranges.TheConstants.{MOST_MACHINES}
 use Rattle.msp_class.specs.declared.environments.TheConstants.{MOST_OPERATIONS}
 use Rattle.msp_schedule.specs.declared.limits.TheConstants.{MOST_PIECES}
@@ -10,8 +10,8 @@ use Rattle.msp_file.specs.schedule.Answers.{IsScheduleFault}
 use Rattle.msp_grammar.specs.declared.lines.fault.FileFault.{FileFault}
 use Rattle.msp_grammar.specs.declared.lines.fault.FileFault.TheVariants.{Class as ClassBroken, Cycle, Memory, After, Head, Missing, Cut, Line, Count, Key, Name, Number, Limit, Again, ArcAgain, Unknown}
 use Rattle.msp_grammar.specs.declared.lines.fault.What.TheVariants as what
-use Rattle.msp_grammar.specs.lines.Reading.{first_of, others_of, ◌>>=◌, provided, Place, line_at, fields_of, all_of}
-use Rattle.msp_grammar.proofs.reading.LineFaults.{IsPlainFault, IsPlain, fine, bad, chain, given, either, line_plain, word_plain, natural_plain, ordinal_plain, number_line_plain, known_plain, end_plain, more, then_in, cost_plain}
+use Rattle.msp_grammar.specs.lines.Reading.{first_of, others_of, Place, line_at, fields_of}
+use Rattle.msp_grammar.proofs.reading.LineFaults.{IsPlainFault, IsPlain, fine, bad, chain, given, either, line_plain, word_plain, natural_plain, ordinal_plain, number_line_plain, known_plain, end_plain, more, then_in, whole_in, whole_remembers, cost_plain}
 
 unit : (p : Place) → IsPlain (unit_at p)
 unfolding unit_at
@@ -83,24 +83,12 @@ plain_schedule (Unknown at) h = tt
 
 -- the faults of a schedule text
 pub schedule_faults : (names : List (List ℕ)) (line : ℕ) (b : List ℕ) (e : FileFault) → ReadsSchedule names line b (Err e) → IsScheduleFault e
-schedule_faults names line b e h = by h.lines (stated names (record { at = line; rest = b }) h.lines h.reads) h.is
+schedule_faults names line b e h = by (whole_in h.lines e (stated names (record { at = line; rest = b }) h.lines h.reads) h.is)
   where
-    by : (lines : Result (Stated × Place) FileFault) → IsPlain lines → Err e ≡ (lines >>= all_of) → IsScheduleFault e
-    by (Err d) k is = let same : d ≡ e = cc in plain_schedule e (k.fault e (ap Err same))
-    by (Ok x) k is = last (length x.1.rest == 0) is
-      where
-        last : (b : Bool) → Err e ≡ provided b (After x.1.at) (Ok x.0) → IsScheduleFault e
-        last true same = absurd cc
-        last false same = let is : After x.1.at ≡ e = cc in subst IsScheduleFault is tt
+    by : IsPlainFault e ⊎ ((at : ℕ) × (e ≡ After at)) → IsScheduleFault e
+    by (inl k) = plain_schedule e k
+    by (inr k) = subst IsScheduleFault (sym k.1) tt
 
 -- reading gives no want of memory
 pub schedule_remembers : (names : List (List ℕ)) (line : ℕ) (b : List ℕ) → ¬ ReadsSchedule names line b (Err Memory)
-schedule_remembers names line b h = by h.lines (stated names (record { at = line; rest = b }) h.lines h.reads) h.is
-  where
-    by : (lines : Result (Stated × Place) FileFault) → IsPlain lines → Err Memory ≡ (lines >>= all_of) → ⊥
-    by (Err d) k is = let same : d ≡ Memory = cc in k.fault Memory (ap Err same)
-    by (Ok x) k is = last (length x.1.rest == 0) is
-      where
-        last : (b : Bool) → Err Memory ≡ provided b (After x.1.at) (Ok x.0) → ⊥
-        last true same = absurd cc
-        last false same = absurd cc
+schedule_remembers names line b h = whole_remembers h.lines (stated names (record { at = line; rest = b }) h.lines h.reads) (λ k. k) h.is
