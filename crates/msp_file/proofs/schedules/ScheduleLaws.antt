@@ -1,6 +1,7 @@
 -- Schedule texts: what is read is a text of its schedule, and a text of a schedule is read as it.
 use Rattle.std.proofs.Common.{◌≡◌, ℕ, ◌+◌, ◌<◌, ◌≤◌, Bool, true, false, ◌==◌, nat_lt, if◌then◌else◌, List, [], ◌∷◌, ◌++◌, length, Result, Ok, Err, ℤ, pos, negsuc, unsigned_abs, All, bytes_eq, refl, sym, ap, subst, ◌∙◌, append_assoc, append-nil, length-append, arith, eqb-true, codes, decimal}
 use Rattle.std.specs.Fmt.{signed_decimal}
+use Rattle.std.specs.Result.{IfErr}
 use Rattle.std.specs.List.{AllByRecursion}
 use Rattle.std.proofs.lemmas.Bool.{ltb-true, lt-ltb}
 use Rattle.std.proofs.lemmas.Int.{ints}
@@ -18,7 +19,7 @@ use Rattle.msp_job_name.proofs.NameLists.{same_bytes}
 use Rattle.msp_grammar.specs.declared.limits.TheConstants.{GREATEST_COST}
 use Rattle.msp_grammar.specs.ScheduleText.{line_feed, name_at, IsFractionText, piece_line, piece_lines, cost_line, unit_line, stated_text, schedule_text, IsStatedCost, IsStatedPiece, IsStated, IsScheduleText}
 use Rattle.msp_grammar.specs.InstanceText.{line_text}
-use Rattle.msp_grammar.specs.lines.Answers.{Fails}
+use Rattle.msp_grammar.specs.lines.Answers.{Fails, Gives}
 use Rattle.msp_grammar.specs.declared.lines.fault.FileFault.{FileFault}
 use Rattle.msp_grammar.specs.declared.lines.fault.FileFault.TheVariants.{Count, Limit, Memory}
 use Rattle.msp_grammar.specs.declared.lines.fault.What.TheVariants as what
@@ -27,7 +28,7 @@ use Rattle.msp_grammar.specs.lines.Reading.{◌>>=◌, Place, line_at, fields_of
 use Rattle.msp_file.specs.schedule.Reading.{title_at, cost_at, unit_at, moment_at, span_at, place_at, piece_at, piece_line_at, piece_step, IsStatedAs, ReadsPieces, ReadsStated, ReadsSchedule}
 use Rattle.msp_grammar.proofs.PrintLemmas.{printed}
 use Rattle.msp_file.specs.schedule.Answers.{IsScheduleFaultOf, IsScheduleFault}
-use Rattle.msp_grammar.specs.lines.Steps.{FailsBy, parts_of}
+use Rattle.msp_grammar.specs.lines.Steps.{FailsBy, GivesBy, parts_of}
 use Rattle.msp_file.proofs.schedules.LineFaults.{schedule_faults}
 use Rattle.msp_file.proofs.schedules.Readings.{schedule_same}
 use Rattle.msp_grammar.proofs.reading.LineLaws.{bind_ok, provided_ok, reads, ok_is, bind_again, provided_again, Takes, Gets, Takes-then, IsField, fields_takes, word_line_takes, word_line_again, line_then, end_text, end_field, end_takes, last_is, no_answer, GetsBy, spread}
@@ -416,5 +417,15 @@ no_schedule_fault names line b e spelled apart k s x h = schedule_same names lin
 
 pub schedule_is : (names : List (List ℕ)) (line : ℕ) (b : List ℕ) (f : Stated) → All IsJobName names → AreDistinct names → ReadsSchedule names line b (Ok f) → (s : Schedule) (x : Frac) → IsScheduleText b names s x → reads (stated_by s x) ≡ reads f
 schedule_is names line b f spelled apart k s x h = schedule_same names line b (reads (stated_by s x)) (Ok f) (schedule_again names line b s x spelled apart h) k
+
+-- what is answered to the text of a schedule
+pub schedule_answered : (names : List (List ℕ)) (line : ℕ) (b : List ℕ) (r : Result Stated FileFault) → All IsJobName names → AreDistinct names → GivesBy r (ReadsSchedule names line b) → (s : Schedule) (x : Frac) → IsScheduleText b names s x → Gives (λ f. f) r (reads (stated_by s x))
+schedule_answered names line b (Ok f) spelled apart k s x h = schedule_is names line b f spelled apart k s x h
+schedule_answered names line b (Err e) spelled apart k s x h = no_schedule_fault names line b e spelled apart (schedule_fault_of names line b e k) s x h
+
+-- the faults that are answered
+pub schedule_faults_answered : (names : List (List ℕ)) (line : ℕ) (b : List ℕ) (r : Result Stated FileFault) → GivesBy r (ReadsSchedule names line b) → IfErr r (λ e. IsScheduleFault e)
+schedule_faults_answered names line b (Ok f) k = tt
+schedule_faults_answered names line b (Err e) k = schedule_fault_is names line b e (schedule_fault_of names line b e k)
 
 pub ruleset schedule_rules = (schedule_fault_of, schedule_taken)

@@ -8,7 +8,7 @@ ghost use Rattle.msp_grammar.specs.lines.Reading.{machine_at};
 ghost use Rattle.msp_file.specs.instance.Reading.{with_need, times_at, timed_route_at, machine_route_at, operations_at, operations_in, is_route_count, times_line_at, route_line_at, unwritten_needs, needs_at};
 ghost use Rattle.msp_grammar.specs.lines.Steps.{Leads, Moves, place_of, fields_after, slice_limit};
 
-use msp_class::{Class, Env, List, MOST_OPERATIONS, env_kind, most_operations};
+use msp_class::{Class, Env, List, MOST_OPERATIONS, NoMemory, env_kind, most_operations};
 use msp_grammar::{
     FileFault, Lines, What, count_fields, has_one_time, has_route, has_times, has_times_line,
     natural_at, next_field, ordinal_at, worded_at,
@@ -17,11 +17,10 @@ use msp_instance::{GREATEST, Need, least_time};
 use std::alloc::Global;
 
 /// Puts a need at the end.
-fn push_need(needs: &mut List<Need>, machine: u32, time: u64) -> Result<(), FileFault>
-    ensures { MatchResult result (λ _. needs.new ≡ with_need needs.old machine time) (λ e. e ≡ FileFault.Memory) }
+fn push_need(needs: &mut List<Need>, machine: u32, time: u64) -> Result<(), NoMemory>
+    ensures { OnOk result (needs.new ≡ with_need needs.old machine time) }
 {
-    needs.put(Need { machine, time })?;
-    Ok(())
+    needs.put(Need { machine, time })
 }
 
 /// The time in the next field, put at the end of the needs. What is left are the other fields.
@@ -40,10 +39,10 @@ fn take_time<'a>(
     let machine = needs.len() as u32;
     let (field, more) = next_field(rest);
     match natural_at(at, What::Time, least, GREATEST, field) {
-        Ok(time) => match push_need(needs, machine, time) {
-            Ok(()) => Ok(more),
-            Err(fault) => Err(fault),
-        },
+        Ok(time) => {
+            push_need(needs, machine, time)?;
+            Ok(more)
+        }
         Err(fault) => Err(fault),
     }
 }
@@ -125,10 +124,10 @@ fn take_machine<'a>(
 {
     let (word, more) = next_field(rest);
     match machine_at(at, machines, word) {
-        Ok(machine) => match push_need(needs, machine, time) {
-            Ok(()) => Ok(more),
-            Err(fault) => Err(fault),
-        },
+        Ok(machine) => {
+            push_need(needs, machine, time)?;
+            Ok(more)
+        }
         Err(fault) => Err(fault),
     }
 }

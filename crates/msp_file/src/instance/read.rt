@@ -1,7 +1,7 @@
 // The reader of instance texts.
 ghost use Rattle.std.specs.Prelude.{◌≡◌, ◌≢◌, ℕ, ◌≤◌, List as Items, length, AllPairs, IfOk, IfErr, MatchResult, Ok};
 ghost use Rattle.msp_instance.specs.declared.Instance.{Instance as InstanceValue};
-ghost use Rattle.msp_instance.specs.Conditions.{MeetsConditions, text_limits, IsAcyclic, InClass};
+ghost use Rattle.msp_instance.specs.Conditions.{MeetsConditions, text_limits, InClass};
 ghost use Rattle.msp_grammar.specs.declared.lines.limits.TheConstants.{MOST_BYTES};
 ghost use Rattle.msp_file.specs.instance.Answers.{faulty_name, IsTextFault, IsFrontFault, IsFaultOf, IsFrontFaultOf, IsFrontText, ReadsOneWay};
 ghost use Rattle.msp_grammar.specs.lines.Answers.{Gives};
@@ -82,17 +82,13 @@ fn speeds_on(
             what: What::Multiple,
         });
     }
-    match time_at(class.times, lines) {
-        Ok(time) => {
-            let frame = Frame {
-                class,
-                machines,
-                time,
-            };
-            rest_at(alloc, frame, speeds, lines)
-        }
-        Err(fault) => Err(fault),
-    }
+    let time = time_at(class.times, lines)?;
+    let frame = Frame {
+        class,
+        machines,
+        time,
+    };
+    rest_at(alloc, frame, speeds, lines)
 }
 
 /// Reads the lines of one instance.
@@ -157,12 +153,13 @@ fn check_class(filed: &Filed) -> Result<(), FileFault>
     }
 }
 
-/// The least job on a cycle of arcs, as a fault of the text.
-fn check_order(alloc: Global, filed: &Filed) -> Result<(), FileFault>
-    requires conditions { MeetsConditions text_limits filed.now.instance }
+/// Whether the instance is in its class: the first condition that it breaks, and else the least job on a cycle, as a fault of the text.
+fn check_filed(alloc: Global, filed: &Filed) -> Result<(), FileFault>
     requires even { length filed.now.names ≡ length filed.now.instance.jobs }
-    ensures { MatchResult result (λ _. IsAcyclic filed.now.instance) (λ e. IsFaultOfFiled filed.now e) }
+    requires once { AllPairs (λ a b. a ≢ b) filed.now.instance.arcs }
+    ensures { MatchResult result (λ _. InClass filed.now.instance) (λ e. IsFaultOfFiled filed.now e) }
 {
+    check_class(filed)?;
     match forward(alloc, &filed.instance) {
         Ok(_) => Ok(()),
         Err(OrderFault::Memory) => Err(FileFault::Memory),
@@ -170,18 +167,6 @@ fn check_order(alloc: Global, filed: &Filed) -> Result<(), FileFault>
             Some(name) => Err(FileFault::Cycle { job, name }),
             None => unreachable!(),
         },
-    }
-}
-
-/// Whether the instance is in its class: the first condition that it breaks, and else a cycle, as a fault of the text.
-fn check_filed(alloc: Global, filed: &Filed) -> Result<(), FileFault>
-    requires even { length filed.now.names ≡ length filed.now.instance.jobs }
-    requires once { AllPairs (λ a b. a ≢ b) filed.now.instance.arcs }
-    ensures { MatchResult result (λ _. InClass filed.now.instance) (λ e. IsFaultOfFiled filed.now e) }
-{
-    match check_class(filed) {
-        Ok(()) => check_order(alloc, filed),
-        Err(fault) => Err(fault),
     }
 }
 
@@ -198,14 +183,9 @@ pub fn read_instance(alloc: Global, bytes: &[u8]) -> Result<Filed, FileFault>
     // A text breaks at most these conditions of its class.
     ensures class_faults { IfErr result (λ e. IsTextFault e) }
 {
-    let filed = match filed_at(alloc, bytes) {
-        Ok(filed) => filed,
-        Err(fault) => return Err(fault),
-    };
-    match check_filed(alloc, &filed) {
-        Ok(()) => Ok(filed),
-        Err(fault) => Err(fault),
-    }
+    let filed = filed_at(alloc, bytes)?;
+    check_filed(alloc, &filed)?;
+    Ok(filed)
 }
 
 /// An instance that stands as a text at the front of other bytes.
@@ -232,18 +212,13 @@ pub fn read_front(alloc: Global, bytes: &[u8]) -> Result<Front, FileFault>
     ensures front_faults { IfErr result (λ e. IsFrontFault e) }
 {
     let mut lines = Lines { at: 1, rest: bytes };
-    let filed = match lines_at(alloc, &mut lines) {
-        Ok(filed) => filed,
-        Err(fault) => return Err(fault),
-    };
-    match check_filed(alloc, &filed) {
-        Ok(()) => Ok(Front {
-            filed,
-            used: bytes.len() - lines.rest.len(),
-            line: lines.at,
-        }),
-        Err(fault) => Err(fault),
-    }
+    let filed = lines_at(alloc, &mut lines)?;
+    check_filed(alloc, &filed)?;
+    Ok(Front {
+        filed,
+        used: bytes.len() - lines.rest.len(),
+        line: lines.at,
+    })
 }
 
 /// Each text is read in one way: the definition of reading by relations gives one instance or one first fault.

@@ -152,13 +152,8 @@ fn pieces_at(alloc: Global, names: &Names, lines: &mut Lines<'_>) -> Result<List
     ensures { MovesBy (λ x. x) result (place_of lines.new) (ReadsMore (piece_step names.now) [] (place_of lines.old)) }
 {
     let mut pieces = List::new(alloc);
-    'lines: loop {
-        match piece_step(names, &mut pieces, lines) {
-            Ok(true) => {}
-            Ok(false) => return Ok(pieces),
-            Err(fault) => return Err(fault),
-        }
-    }
+    'lines: while piece_step(names, &mut pieces, lines)? {}
+    Ok(pieces)
 }
 
 /// Reads the lines of one schedule.
@@ -218,10 +213,7 @@ pub fn read_schedule(
     if names.len() > u32::MAX as usize {
         return Err(FileFault::Memory);
     }
-    match schedule_at(alloc, names, bytes, line) {
-        Ok(stated) => Ok(stated),
-        Err(fault) => Err(fault),
-    }
+    schedule_at(alloc, names, bytes, line)
 }
 
 /// Each schedule text is read in one way: the definition of reading by relations gives one schedule or one first fault.

@@ -1,18 +1,24 @@
 -- The goals of `read_instance` that are proved by lemmas.
+use Rattle.std.proofs.lemmas.Result.{err_from_is_err_and}
 use Rattle.msp_file.proofs.instances.AnswerLemmas.{fault_of_lines, fault_of_whole}
 use Rattle.msp_file.proofs.instances.AnswerLaws.{again_read, again_fault, fault_of_text}
 use Rattle.msp_file.proofs.instance.read.read_instance.Goals as goal
 
-pub returns-in-Err-clause-again : goal.returns-in-Err-clause-again
-returns-in-Err-clause-again c = again_fault c.args.bytes.now c.in-Err.fault (fault_of_lines c.args.bytes.now c.in-Err.fault c.in-Err.ensures.gives)
+pub returns-in_err-filed-clause-again : goal.returns-in_err-filed-clause-again
+returns-in_err-filed-clause-again c =
+    let p = err_from_is_err_and c.from_residual.result c.from_residual.ensures.1 in
+    rw (p.1, p.2) (again_fault c.args.bytes.now c.in_err-filed.field-0.0 (fault_of_lines c.args.bytes.now c.in_err-filed.field-0.0 c.in_err-filed.ensures.gives))
 
-pub returns-in-Err-clause-class_faults : goal.returns-in-Err-clause-class_faults
-returns-in-Err-clause-class_faults c = fault_of_text c.args.bytes.now c.in-Err.fault (fault_of_lines c.args.bytes.now c.in-Err.fault c.in-Err.ensures.gives)
+pub returns-in_err-filed-clause-class_faults : goal.returns-in_err-filed-clause-class_faults
+returns-in_err-filed-clause-class_faults c =
+    let p = err_from_is_err_and c.from_residual.result c.from_residual.ensures.1 in
+    rw (p.1, p.2) (fault_of_text c.args.bytes.now c.in_err-filed.field-0.0 (fault_of_lines c.args.bytes.now c.in_err-filed.field-0.0 c.in_err-filed.ensures.gives))
 
-pub returns-in-Ok-check_filed-clause-again : goal.returns-in-Ok-check_filed-clause-again
-returns-in-Ok-check_filed-clause-again c = again_read c.args.bytes.now c.in-Ok.filed c.in-Ok.ensures.gives
+pub returns-clause-again : goal.returns-clause-again
+returns-clause-again c = again_read c.args.bytes.now c.in_ok-filed.filed c.in_ok-filed.ensures.gives
 
-pub returns-in-Err-check_filed-clause-again : goal.returns-in-Err-check_filed-clause-again
-returns-in-Err-check_filed-clause-again c =
-    again_fault c.args.bytes.now c.in-Err-check_filed.fault
-    (fault_of_whole c.args.bytes.now c.in-Ok.filed c.in-Err-check_filed.fault c.in-Ok.ensures.gives c.in-Err-check_filed.ensures)
+pub returns-in_err-check_filed-clause-again : goal.returns-in_err-check_filed-clause-again
+returns-in_err-check_filed-clause-again c =
+    let p = err_from_is_err_and c.from_residual-in_err-check_filed.result c.from_residual-in_err-check_filed.ensures.1 in
+    rw (p.1, p.2) (again_fault c.args.bytes.now c.in_err-check_filed.field-0.0
+    (fault_of_whole c.args.bytes.now c.in_ok-filed.filed c.in_err-check_filed.field-0.0 c.in_ok-filed.ensures.gives c.in_err-check_filed.ensures))
