@@ -1,5 +1,5 @@
 -- The operations of a job: what is read is what was written, and what was written is read again.
-use Rattle.std.proofs.Common.{◌≡◌, ℕ, suc, ◌+◌, ◌-◌, ◌<◌, ◌≤◌, true, false, ◌&&◌, ◌==◌, List, [], ◌∷◌, ◌++◌, length, map, get_or, Result, Ok, All, refl, sym, ap, ap₂, subst, ◌∙◌, codes, decimal, arith}
+use Rattle.std.proofs.Common.{◌≡◌, ℕ, suc, ◌+◌, ◌<◌, ◌≤◌, true, false, ◌&&◌, ◌==◌, List, [], ◌∷◌, ◌++◌, length, map, get_or, Result, Ok, All, refl, sym, ap, ap₂, subst, ◌∙◌, codes, decimal, arith}
 use Rattle.std.specs.Prelude.{⊤, Bool, if◌then◌else◌, slice_index_or, nat_le, EachIndex}
 use Rattle.std.specs.List.{AllByRecursion, list_any, flat_map, range_with_len}
 use Rattle.std.proofs.lemmas.Bool.{eq-eqb, le-leb}
