@@ -53,8 +53,8 @@ impl KeepsSchedules for Row20 {
 
     ghost lower = { led_at_equal_speeds 20 };
 
-    fn lead(alloc: Global, inst: &Instance, row: Row) -> Result<Instance, NoMemory> {
-        led_at_equal_speeds(alloc, inst, row)
+    fn lead(alloc: Global, inst: &Instance) -> Result<Instance, NoMemory> {
+        led_at_equal_speeds(alloc, inst, Row::new(Self::NUMBER).unwrap())
     }
 
     ghost law = { carries_same refl stay_20 };
@@ -71,8 +71,8 @@ impl KeepsSchedules for Row21 {
 
     ghost lower = { led_at_equal_speeds 21 };
 
-    fn lead(alloc: Global, inst: &Instance, row: Row) -> Result<Instance, NoMemory> {
-        led_at_equal_speeds(alloc, inst, row)
+    fn lead(alloc: Global, inst: &Instance) -> Result<Instance, NoMemory> {
+        led_at_equal_speeds(alloc, inst, Row::new(Self::NUMBER).unwrap())
     }
 
     ghost law = { carries_same refl stay_21 };
@@ -113,8 +113,8 @@ impl KeepsSchedules for Row34 {
 
     ghost lower = { led_to_two_machines 34 };
 
-    fn lead(alloc: Global, inst: &Instance, row: Row) -> Result<Instance, NoMemory> {
-        led_to_two_machines(alloc, inst, row)
+    fn lead(alloc: Global, inst: &Instance) -> Result<Instance, NoMemory> {
+        led_to_two_machines(alloc, inst, Row::new(Self::NUMBER).unwrap())
     }
 
     ghost law = { carries_same refl stay_34 };

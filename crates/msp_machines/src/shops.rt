@@ -59,8 +59,8 @@ impl KeepsSchedules for Row28 {
 
     ghost lower = { with_idle_machine 28 };
 
-    fn lead(alloc: Global, inst: &Instance, row: Row) -> Result<Instance, NoMemory> {
-        with_idle_machine(alloc, inst, row)
+    fn lead(alloc: Global, inst: &Instance) -> Result<Instance, NoMemory> {
+        with_idle_machine(alloc, inst, Row::new(Self::NUMBER).unwrap())
     }
 
     ghost law = { carries_same refl stay_28 };
@@ -77,8 +77,8 @@ impl KeepsSchedules for Row29 {
 
     ghost lower = { with_idle_machine 29 };
 
-    fn lead(alloc: Global, inst: &Instance, row: Row) -> Result<Instance, NoMemory> {
-        with_idle_machine(alloc, inst, row)
+    fn lead(alloc: Global, inst: &Instance) -> Result<Instance, NoMemory> {
+        with_idle_machine(alloc, inst, Row::new(Self::NUMBER).unwrap())
     }
 
     ghost law = { carries_same refl stay_29 };
@@ -95,8 +95,8 @@ impl KeepsSchedules for Row30 {
 
     ghost lower = { with_idle_machine 30 };
 
-    fn lead(alloc: Global, inst: &Instance, row: Row) -> Result<Instance, NoMemory> {
-        with_idle_machine(alloc, inst, row)
+    fn lead(alloc: Global, inst: &Instance) -> Result<Instance, NoMemory> {
+        with_idle_machine(alloc, inst, Row::new(Self::NUMBER).unwrap())
     }
 
     ghost law = { carries_same refl stay_30 };
@@ -113,8 +113,8 @@ impl KeepsSchedules for Row31 {
 
     ghost lower = { with_idle_machine 31 };
 
-    fn lead(alloc: Global, inst: &Instance, row: Row) -> Result<Instance, NoMemory> {
-        with_idle_machine(alloc, inst, row)
+    fn lead(alloc: Global, inst: &Instance) -> Result<Instance, NoMemory> {
+        with_idle_machine(alloc, inst, Row::new(Self::NUMBER).unwrap())
     }
 
     ghost law = { carries_same refl stay_31 };

@@ -79,8 +79,8 @@ impl KeepsSchedules for Row23 {
 
     ghost lower = { led_to_each 23 };
 
-    fn lead(alloc: Global, inst: &Instance, row: Row) -> Result<Instance, NoMemory> {
-        led_to_each(alloc, inst, row)
+    fn lead(alloc: Global, inst: &Instance) -> Result<Instance, NoMemory> {
+        led_to_each(alloc, inst, Row::new(Self::NUMBER).unwrap())
     }
 
     ghost law = { carries_same refl stay_23 };
@@ -97,8 +97,8 @@ impl KeepsSchedules for Row24 {
 
     ghost lower = { led_to_each 24 };
 
-    fn lead(alloc: Global, inst: &Instance, row: Row) -> Result<Instance, NoMemory> {
-        led_to_each(alloc, inst, row)
+    fn lead(alloc: Global, inst: &Instance) -> Result<Instance, NoMemory> {
+        led_to_each(alloc, inst, Row::new(Self::NUMBER).unwrap())
     }
 
     ghost law = { carries_same refl stay_24 };

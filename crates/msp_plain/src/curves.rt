@@ -45,8 +45,8 @@ impl KeepsSchedules for Row9 {
 
     ghost lower = { led_by_curves };
 
-    fn lead(alloc: Global, inst: &Instance, row: Row) -> Result<Instance, NoMemory> {
-        let mut lower = led(alloc, inst, row)?;
+    fn lead(alloc: Global, inst: &Instance) -> Result<Instance, NoMemory> {
+        let mut lower = led(alloc, inst, Row::new(Self::NUMBER).unwrap())?;
         let mut jobs = lower.jobs.take_all();
         charge_all_by_curves(alloc, &mut jobs);
         lower.jobs = List::from_vec(jobs);

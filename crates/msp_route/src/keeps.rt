@@ -25,8 +25,7 @@ pub trait KeepsSchedules {
     /// The lower instance.
     ghost lower: { Inst → Inst };
 
-    fn lead(alloc: Global, inst: &Instance, row: Row) -> Result<Instance, NoMemory>
-        requires row { row ≡ NUMBER }
+    fn lead(alloc: Global, inst: &Instance) -> Result<Instance, NoMemory>
         requires inner { Inner inst.now }
         requires applies { Applies NUMBER inst.now }
         ensures { IfOk result (λ j. j ≡ lower inst.now) };
@@ -53,8 +52,8 @@ impl<T: KeepsData> KeepsSchedules for T {
 
     ghost lower = { led T.NUMBER };
 
-    fn lead(alloc: Global, inst: &Instance, row: Row) -> Result<Instance, NoMemory> {
-        led(alloc, inst, row)
+    fn lead(alloc: Global, inst: &Instance) -> Result<Instance, NoMemory> {
+        led(alloc, inst, Row::new(T::NUMBER).unwrap())
     }
 
     ghost law = { T.law };
@@ -76,7 +75,7 @@ impl<T: KeepsSchedules> Reduction for T {
     }
 
     fn down(&self, alloc: Global, inst: &Instance) -> Result<Instance, NoMemory> {
-        T::lead(alloc, inst, self.row())
+        T::lead(alloc, inst)
     }
 
     fn back(
