@@ -126,10 +126,7 @@ fn add_items(class: Class, text: &[u8], at: u32) -> Result<Class, NameFault>
     let mut rest = text;
     let mut at = at;
     'words: while let Some((word, more)) = cut(rest, b',') {
-        match add_item(class, word, at) {
-            Ok(with) => class = with,
-            Err(fault) => return Err(fault),
-        }
+        class = add_item(class, word, at)?;
         at += word.len() as u32 + 1;
         rest = more;
     }
@@ -165,10 +162,7 @@ fn read_fields(env: &[u8], items: &[u8], crit: &[u8]) -> Result<Class, NameFault
         return Err(NameFault::Environment { at: 0 });
     };
     let at = env.len() as u32 + 1;
-    let class = match read_items(machines, items, at) {
-        Ok(class) => class,
-        Err(fault) => return Err(fault),
-    };
+    let class = read_items(machines, items, at)?;
     match read_crit(crit) {
         Some(crit) => Ok(Class { crit, ..class }),
         None => Err(NameFault::Criterion {

@@ -29,18 +29,13 @@ fn read_entries(
     let mut entries = List::new(alloc);
     let mut at: u32 = 1;
     'rows: loop {
-        match next_row(reader, row) {
-            Ok(true) => {}
-            Ok(false) => return Ok(entries),
-            Err(fault) => return Err(fault),
+        if !next_row(reader, row)? {
+            return Ok(entries);
         }
         if at > MOST_ENTRIES {
             return Err(ResultFault::Many);
         }
-        let entry = match read_row(alloc, version, at, row) {
-            Ok(entry) => entry,
-            Err(fault) => return Err(fault),
-        };
+        let entry = read_row(alloc, version, at, row)?;
         entries.put(entry)?;
         at += 1;
     }
@@ -54,10 +49,8 @@ fn read_records(alloc: Global, bytes: &[u8]) -> Result<List<Entry>, ResultFault>
 {
     let mut reader = open(alloc, bytes);
     let mut row = ByteRecord::new(alloc);
-    match next_row(&mut reader, &mut row) {
-        Ok(true) => {}
-        Ok(false) => return Err(ResultFault::Header),
-        Err(fault) => return Err(fault),
+    if !next_row(&mut reader, &mut row)? {
+        return Err(ResultFault::Header);
     }
     let Some(version) = read_version(&row) else {
         return Err(ResultFault::Header);
