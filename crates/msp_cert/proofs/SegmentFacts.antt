@@ -1,10 +1,10 @@
 -- Lists of jobs that lead from one to the next.
 use Rattle.std.proofs.Common.{◌≡◌, ◌≢◌, ℕ, ◌+◌, ◌-◌, ◌<◌, ◌≤◌, Bool, false, List, [], ◌∷◌, ◌++◌, length, get_or, take, sum_by, All, AllPairs, IsTrue, ◌↔◌, sym, ap, subst, subst₂, ◌∙◌, arith}
 use Rattle.std.specs.List.{AllAdjacentBelow, flat_map}
-use Rattle.std.proofs.lemmas.Grind.{flat_map-append}
-use Rattle.std.proofs.lemmas.List.{append-nil, get_or_default, take_more}
+use Rattle.std.proofs.lemmas.List.{get_or_default}
 use Rattle.std.proofs.lemmas.Bool.{false≢true}
 use Rattle.std.proofs.lemmas.List.Elements.{All-nil, All-head, All-tail, All-append, Contains-get_or}
+use Rattle.msp_class.proofs.Lists.{flat_map-take_more}
 use Rattle.msp_class.proofs.Sums.{sum_by-contains}
 use Rattle.msp_instance.specs.declared.Instance.{Instance}
 use Rattle.msp_instance.specs.declared.path_rows.Paths.{Paths}
@@ -14,9 +14,7 @@ use Rattle.msp_cert.specs.declared.limits.TheConstants.{MOST_ENTRIES}
 use Rattle.msp_cert.specs.Small.{ShowLeads}
 
 pub flat_next : (lists : List (List ℕ)) (k : ℕ) (d old new : List ℕ) → k < length lists → new ≡ old ++ get_or lists k d → old ≡ flat_map (λ js. js) (take k lists) → new ≡ flat_map (λ js. js) (take (k + 1) lists)
-flat_next lists k d old new t e h =
-    e ∙ ap (λ l. l ++ get_or lists k d) h
-    ∙ sym (ap (flat_map (λ js. js)) (take_more lists k d t) ∙ flat_map-append (λ js. js) (take k lists) (get_or lists k d ∷ []) ∙ ap (λ l. flat_map (λ js. js) (take k lists) ++ l) (append-nil (get_or lists k d)))
+flat_next lists k d old new t e h = e ∙ ap (λ l. l ++ get_or lists k d) h ∙ sym (flat_map-take_more (λ js. js) lists k d t)
 
 pub flat_inside : (n : ℕ) (lists : List (List ℕ)) → All (λ js. All (λ j. j < n) js) lists → All (λ j. j < n) (flat_map (λ js. js) lists)
 flat_inside n [] h = All-nil (λ j. j < n)

@@ -2,10 +2,10 @@
 use Rattle.std.proofs.Common.{◌≡◌, ◌≢◌, ℕ, zero, suc, ◌+◌, ◌-◌, ◌/◌, ◌<◌, ◌≤◌, ◌⊎◌, inl, inr, Bool, cond, List, length, get_or, set, take, count_by, Some, None, All, pos, refl, sym, ap, subst, ◌∙◌, arith}
 use Rattle.std.specs.Prelude.{Any, nat_le, ◌==◌}
 use Rattle.std.proofs.lemmas.Bool.Decides.{nat_tests}
-use Rattle.std.proofs.lemmas.List.{get_or_default, get_or-set_same, get_or-set_other, length-set, length-take-le, take_more}
+use Rattle.std.proofs.lemmas.List.{get_or_default, get_or-set_same, get_or-set_other, length-set, length-take-le}
 use Rattle.std.proofs.lemmas.List.Elements.{All-contains}
 use Rattle.msp_class.specs.Sums.{total_below}
-use Rattle.msp_class.proofs.Sums.{sum_by-agree, sum_by-add, sum_by-constant, sum_by-contains, sum_by-some, sum_by-mono, sum_by_push, cond-le, total_below-range}
+use Rattle.msp_class.proofs.Sums.{sum_by-agree, sum_by-add, sum_by-constant, sum_by-contains, sum_by-some, sum_by-mono, sum_by-take_more, cond-le, total_below-range}
 use Rattle.msp_instance.specs.declared.Instance.{Instance}
 use Rattle.msp_instance.specs.Conditions.{InClass, IsSequence, GoesForward}
 use Rattle.msp_schedule.specs.declared.Frac.{Frac}
@@ -71,7 +71,7 @@ pub count_one : (level counts : List ℕ) (k value : ℕ) → k < length level �
 count_one level counts k value l small is h = record { wide = length-set counts (get_or level k 0) value ∙ h.wide; each = each }
   where
     more : (t : ℕ) → count_by (λ l. l == t) (take (k + 1) level) ≡ count_by (λ l. l == t) (take k level) + cond (get_or level k 0 == t) 1 0
-    more t = ap (count_by (λ l. l == t)) (take_more level k 0 l) ∙ sum_by_push (λ x. cond (x == t) 1 0) (take k level) (get_or level k 0)
+    more t = sum_by-take_more (λ x. cond (x == t) 1 0) level k 0 l
 
     each : (t : ℕ) → t < 400 → get_or (set counts (get_or level k 0) value) t 0 ≡ count_by (λ l. l == t) (take (k + 1) level)
     each t b = elim (here_or_not (get_or level k 0) t) [

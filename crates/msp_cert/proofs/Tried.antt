@@ -4,10 +4,10 @@ use Rattle.std.specs.Prelude.{sum}
 use Rattle.std.specs.List.{range_with_len}
 use Rattle.std.proofs.lemmas.Bool.{cases_lt}
 use Rattle.std.proofs.lemmas.Option.{slice_get_read}
-use Rattle.std.proofs.lemmas.List.{get_or_past, get_or-take, length-take-le, take_more}
+use Rattle.std.proofs.lemmas.List.{get_or_past, get_or-take, length-take-le}
 use Rattle.std.proofs.lemmas.List.Elements.{All-cons, All-nil, All-head, All-tail, All-take}
 use Rattle.std.proofs.lemmas.List.FromFn.{length-map-range_with_len, get_or-map-range_with_len, take-map-range_with_len}
-use Rattle.msp_class.proofs.Sums.{sum_by-cons, sum_by_push, OnceBelow, OnceBelow-from_permutation, OnceBelow-distinct, length-OnceBelow}
+use Rattle.msp_class.proofs.Sums.{sum_by-cons, sum_by-take_more, OnceBelow, OnceBelow-from_permutation, OnceBelow-distinct, length-OnceBelow}
 use Rattle.msp_instance.specs.declared.Job.{Job}
 use Rattle.msp_instance.specs.declared.Instance.{Instance}
 use Rattle.msp_instance.specs.Instance.{no_job, no_need, need_at}
@@ -89,7 +89,7 @@ pub record AreTogether (i : Instance) (longest speeds : List ℕ) (k time speed 
 pub one_more : (i : Instance) (longest speeds : List ℕ) (k time speed t s job : ℕ) → InClass i → HasRelatedMachines i → IsPermutation (speeds_of i) speeds → k < length longest → job ≡ get_or longest k 0 → t ≡ (need_at i job 0).time → s ≡ get_or speeds k 0
     → AreTogether i longest speeds k time speed → AreTogether i longest speeds (k + 1) (time + t) (speed + s)
 one_more i longest speeds k time speed t s job c asked all l is t_is s_is h = record {
-  time_is = omega (arith, h.time_is, t_is, ap (λ j. (need_at i j 0).time) is, ap (total_time i) (take_more longest k 0 l), sum_by_push (λ j. (need_at i j 0).time) (take k longest) (get_or longest k 0));
+  time_is = omega (arith, h.time_is, t_is, ap (λ j. (need_at i j 0).time) is, sum_by-take_more (λ j. (need_at i j 0).time) longest k 0 l);
   speed_is = omega (arith, h.speed_is, s_is, sum_more speeds k, ap (λ n. sum (take n speeds)) next);
   short = omega (arith, h.short, t_is, time_small i job c);
   slow = omega (arith, h.slow, s_is, speed_small_at speeds k (small_speeds i speeds c asked.speeds all).slow);

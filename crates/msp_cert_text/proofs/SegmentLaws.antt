@@ -1,6 +1,6 @@
 -- Lists of jobs: a list that begins, and a job that comes to the last one.
-use Rattle.std.proofs.Common.{◌≡◌, ℕ, ◌+◌, List, [], ◌∷◌, ◌++◌, length, Ok, refl, sym, ap, ◌∙◌, append_assoc, append-nil, length-append, codes}
-use Rattle.std.proofs.lemmas.List.Concat.{flat_map-append}
+use Rattle.std.proofs.Common.{◌≡◌, ℕ, ◌+◌, List, [], ◌∷◌, ◌++◌, length, Ok, refl, sym, ap, ◌∙◌, append_assoc, length-append, codes}
+use Rattle.msp_class.proofs.Lists.{flat_map_push}
 use Rattle.msp_grammar.specs.declared.lines.fault.FileFault.{FileFault}
 use Rattle.msp_grammar.specs.lines.Answers.{Fails}
 use Rattle.msp_grammar.specs.lines.Reading.{Place, ReadsMore, more_read, end_read, more_then, more_end}
@@ -17,7 +17,7 @@ with_job_last (a ∷ b ∷ done) last j = ap (λ lists. a ∷ lists) (with_job_l
 -- the lines of lists and of one more
 begun_lines : (names lists : List (List ℕ)) (jobs : List ℕ) → segment_lines names (lists ++ jobs ∷ []) ≡ segment_lines names lists ++ (codes "segment" ∷ []) ∷ job_lines names jobs
 begun_lines names lists jobs =
-    flat_map-append (λ (jobs : List ℕ). (codes "segment" ∷ []) ∷ job_lines names jobs) lists (jobs ∷ []) ∙ ap (λ more. segment_lines names lists ++ more) (append-nil ((codes "segment" ∷ []) ∷ job_lines names jobs))
+    flat_map_push (λ (jobs : List ℕ). (codes "segment" ∷ []) ∷ job_lines names jobs) lists jobs
 
 pub begin_lines : (names lists : List (List ℕ)) → segment_lines names (lists ++ [] ∷ []) ≡ segment_lines names lists ++ (codes "segment" ∷ []) ∷ []
 begin_lines names lists = begun_lines names lists []

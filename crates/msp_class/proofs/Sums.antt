@@ -1,11 +1,11 @@
 -- Finite sums of natural numbers: over a list (std's `sum_by`) and over the numbers below n.
-use Rattle.std.proofs.Common.{◌≡◌, ℕ, zero, suc, ◌+◌, ◌*◌, ◌≤◌, ◌<◌, Bool, true, false, cond, eqb, ltb, ◌≢◌, List, [], ◌∷◌, ◌++◌, map, length, get_or, All, AllPairs, Contains, filter, sum_by, count_by, IsPermutation, ℤ, pos, ◌+ℤ◌, ◌*ℤ◌, ◌≤ℤ◌, ◌⊎◌, inl, inr, ap₂, subst₂, arith, refl, sym, ap, subst, ◌∙◌}
+use Rattle.std.proofs.Common.{◌≡◌, ℕ, zero, suc, ◌+◌, ◌*◌, ◌≤◌, ◌<◌, Bool, true, false, cond, eqb, ltb, ◌≢◌, List, [], ◌∷◌, ◌++◌, map, length, get_or, take, All, AllPairs, Contains, filter, sum_by, count_by, IsPermutation, ℤ, pos, ◌+ℤ◌, ◌*ℤ◌, ◌≤ℤ◌, ◌⊎◌, inl, inr, ap₂, subst₂, arith, refl, sym, ap, subst, ◌∙◌}
 use Rattle.std.specs.List.{range_with_len, AllAdjacentBelow}
 pub use Rattle.std.proofs.lemmas.List.Sums.{sum_by-cons, sum_by-append, sum_by_push}
 use Rattle.std.proofs.lemmas.List.Sorted.{All-permutation}
 pub use Rattle.std.proofs.lemmas.List.Sorted.{sum_by-IsPermutation}
 use Rattle.std.proofs.lemmas.List.Elements.{All-nil, All-cons, All-head, All-tail, Contains-get_or, All-contains, All-filter, All-contains_itself, filter_passes}
-use Rattle.std.proofs.lemmas.List.{get_or_default}
+use Rattle.std.proofs.lemmas.List.{get_or_default, take_more}
 use Rattle.std.proofs.lemmas.List.Kept.{AllPairs-cons}
 use Rattle.std.proofs.lemmas.Int.{ints}
 use Rattle.msp_class.specs.Sums.{total_below, int_total_below}
@@ -53,6 +53,9 @@ eqb_comm m n = by (eqb n m) refl
 
 -- ---- over a list
 module _ {X : Type 0} where
+  pub sum_by-take_more : (f : X → ℕ) (xs : List X) (k : ℕ) (d : X) → k < length xs → sum_by f (take (k + 1) xs) ≡ sum_by f (take k xs) + f (get_or xs k d)
+  sum_by-take_more f xs k d l = ap (sum_by f) (take_more xs k d l) ∙ sum_by_push f (take k xs) (get_or xs k d)
+
   pub sum_by-mono : (f g : X → ℕ) (xs : List X) → All (λ x. f x ≤ g x) xs → sum_by f xs ≤ sum_by g xs
   sum_by-mono f g [] h = omega arith
   sum_by-mono f g (x ∷ xs) h = omega (arith, sum_by-cons f x xs, sum_by-cons g x xs, All-head (λ y. f y ≤ g y) x xs h, sum_by-mono f g xs (All-tail (λ y. f y ≤ g y) x xs h))

@@ -2,11 +2,11 @@
 use Rattle.std.proofs.Common.{◌≡◌, ◌≢◌, ℕ, zero, suc, ◌+◌, ◌-◌, ◌*◌, ◌/◌, ◌<◌, ◌≤◌, inl, inr, Bool, true, List, [], ◌∷◌, ◌++◌, length, get_or, slice_index, All, AllPairs, refl, sym, ap, ap₂, subst, subst₂, ◌∙◌, arith, append_assoc}
 use Rattle.std.specs.List.{AllAdjacentBelow, flat_map}
 use Rattle.std.proofs.lemmas.Bool.{cases_lt}
-use Rattle.std.proofs.lemmas.List.{length-append, get_or_append_left, get_or-append_right, append-nil}
-use Rattle.std.proofs.lemmas.List.Concat.{flat_map-append}
+use Rattle.std.proofs.lemmas.List.{length-append, get_or_append_left, get_or-append_right}
 use Rattle.std.proofs.lemmas.List.Elements.{All-nil, All-cons, All-head, All-tail, All-append, All-push, All-weaker}
 use Rattle.std.proofs.lemmas.List.Kept.{AllPairs-cons}
 use Rattle.std.proofs.lemmas.List.Sums.{sum_by_push}
+use Rattle.msp_class.proofs.Lists.{flat_map_push}
 use Rattle.msp_instance.specs.declared.Instance.{Instance}
 use Rattle.msp_instance.specs.Paths.{HasPath}
 use Rattle.msp_schedule.proofs.feasible.Series.{AllPairs-append}
@@ -164,7 +164,7 @@ module _ (i : Instance) (two : i.machines ≡ 2) (slots : ℕ) (slot label first
         h.on k a at p z b (get_or new q y) m.0 m.1 m.3
 
     apart_next : AllPairs (λ j k. j ≢ k) (flat_map (λ jobs. jobs) (segments ++ new ∷ []))
-    apart_next = subst (AllPairs (λ j k. j ≢ k)) (sym (flat_map-append (λ jobs. jobs) segments (new ∷ []) ∙ ap (λ r. flat_map (λ jobs. jobs) segments ++ r) (append-nil new)))
+    apart_next = subst (AllPairs (λ j k. j ≢ k)) (sym (flat_map_push (λ jobs. jobs) segments new))
         (AllPairs-append (λ j k. j ≢ k) (flat_map (λ jobs. jobs) segments) new h.apart (apart_in d from l e inner) (λ p z b q y c same.
         let before = All-flat (IsEarly from) segments h.early p z b in
         let m = new_members q y c in

@@ -1,11 +1,11 @@
 -- The report of `rows`, line by line.
-use Rattle.std.proofs.Common.{◌≡◌, ℕ, ◌+◌, ◌-◌, ◌<◌, ◌≤◌, List, [], ◌∷◌, ◌++◌, length, get_or, take, refl, sym, ap, ap₂, ◌∙◌, subst, lit≤, arith}
+use Rattle.std.proofs.Common.{◌≡◌, ℕ, ◌+◌, ◌-◌, ◌<◌, ◌≤◌, List, [], ◌++◌, length, take, refl, sym, ap, ap₂, ◌∙◌, subst, lit≤, arith}
 use Rattle.std.specs.Fmt.{digits}
 use Rattle.std.specs.List.{flat_map, range_with_len}
-use Rattle.std.proofs.lemmas.List.{append-nil, length-append, take_more}
-use Rattle.std.proofs.lemmas.List.Concat.{flat_map-append}
+use Rattle.std.proofs.lemmas.List.{length-append}
 use Rattle.std.proofs.lemmas.List.Folds.{length-flat_map-take}
 use Rattle.std.proofs.lemmas.List.FromFn.{length-range_with_len, get_or-range_with_len}
+use Rattle.msp_class.proofs.Lists.{flat_map-take_more}
 use Rattle.msp_table.specs.Rows.{table, text_of}
 use Rattle.msp_table.specs.declared.row.TheConstants.{ROWS}
 use Rattle.msp_report.specs.declared.rows.TheConstants.{ROWS_ROOM}
@@ -26,9 +26,8 @@ IsBefore-first = refl
 
 more : (f : ℕ → List ℕ) (rows n k : ℕ) → n < rows → 1 + n ≡ k → flat_map f (take (n + 1) (range_with_len 1 rows)) ≡ flat_map f (take n (range_with_len 1 rows)) ++ f k
 more f rows n k less is =
-    ap (flat_map f) (take_more (range_with_len 1 rows) n 0 (omega (arith, less, length-range_with_len 1 rows)))
-    ∙ flat_map-append f (take n (range_with_len 1 rows)) (get_or (range_with_len 1 rows) n 0 ∷ [])
-    ∙ ap (λ line. flat_map f (take n (range_with_len 1 rows)) ++ line) (append-nil (f (get_or (range_with_len 1 rows) n 0)) ∙ ap f (get_or-range_with_len 1 rows n 0 less ∙ is))
+    flat_map-take_more f (range_with_len 1 rows) n 0 (omega (arith, less, length-range_with_len 1 rows))
+    ∙ ap (λ row. flat_map f (take n (range_with_len 1 rows)) ++ f row) (get_or-range_with_len 1 rows n 0 less ∙ is)
 
 lines_before-next : (k : ℕ) → 1 ≤ k → k ≤ ROWS → lines_before (k + 1) ≡ lines_before k ++ table_line k
 unfolding lines_before

@@ -1,8 +1,8 @@
 -- Jobs read by their numbers: their times, where they run one after another, and the size of their costs.
 use Rattle.std.proofs.Common.{◌≡◌, ℕ, ◌+◌, ◌*◌, ◌<◌, ◌≤◌, inr, List, [], ◌∷◌, length, get_or, take, sum_by, pos, All, sym, ap, ◌∙◌, subst, arith, slice_index_or}
 use Rattle.std.proofs.lemmas.Int.{ints}
-use Rattle.std.proofs.lemmas.List.{take_more, get_or_default}
-use Rattle.std.proofs.lemmas.List.Sums.{sum_by-append, sum_by-cons}
+use Rattle.std.proofs.lemmas.List.{get_or_default}
+use Rattle.msp_class.proofs.Sums.{sum_by-take_more}
 use Rattle.msp_instance.specs.declared.Job.{Job}
 use Rattle.msp_instance.specs.declared.Instance.{Instance}
 use Rattle.msp_instance.specs.Instance.{no_need, no_job, job_at}
@@ -18,7 +18,7 @@ read_job i jobs k j e l is = is ∙ get_or_default jobs k j no_job l ∙ ap (λ 
 
 -- the end after one more job
 pub ends-next : (p : ℕ → ℕ) (order : List ℕ) (k j moment end : ℕ) → end ≡ moment + p j → k < length order → j ≡ get_or order k 0 → moment ≡ sum_by p (take k order) → end ≡ sum_by p (take (k + 1) order)
-ends-next p order k j moment end is l at ends = omega (arith, ends, is, ap p at, ap (sum_by p) (take_more order k 0 l), sum_by-append p (take k order) (get_or order k 0 ∷ []), sum_by-cons p (get_or order k 0) [])
+ends-next p order k j moment end is l at ends = omega (arith, ends, is, ap p at, sum_by-take_more p order k 0 l)
 
 -- the time that was read of the job j
 pub time_read : (i : Instance) (jobs : List Job) (j time : ℕ) (job : Job) → jobs ≡ i.jobs → j < length i.jobs → job ≡ get_or jobs j job → time ≡ (slice_index_or job.needs 0 no_need).time → time ≡ time_at i j

@@ -3,10 +3,9 @@ use Rattle.std.proofs.Common.{◌≡◌, ℕ, ◌+◌, ◌*◌, ◌<◌, ◌≤�
 use Rattle.std.specs.Prelude.{slice_index_or}
 use Rattle.std.proofs.lemmas.Bool.{eqb-true, eqb-false}
 use Rattle.std.proofs.lemmas.Grind.{get_or-set_at}
-use Rattle.std.proofs.lemmas.List.{take_more, drop_more, drop_all, append-nil, get_or-set_other, length-take, length-drop, get_or-drop, append_assoc}
+use Rattle.std.proofs.lemmas.List.{drop_more, drop_all, append-nil, get_or-set_other, length-take, length-drop, get_or-drop, append_assoc}
 use Rattle.std.proofs.lemmas.List.Elements.{All-take}
-use Rattle.std.proofs.lemmas.List.Sums.{sum_by_push}
-use Rattle.msp_class.proofs.Sums.{cond-yes, cond-no}
+use Rattle.msp_class.proofs.Sums.{cond-yes, cond-no, sum_by-take_more}
 use Rattle.msp_schedule.specs.declared.Piece.{Piece}
 use Rattle.msp_total.specs.declared.lay.Place.{Place}
 use Rattle.msp_total.specs.Places.{no_place, ArePlaces, time_on, piece_until, laid}
@@ -18,7 +17,7 @@ AreTimes times places = (m : ℕ) → m < 32 → slice_index_or times m 0 ≡ ti
 
 -- ---- one place more
 time_on-next : (m k : ℕ) (places : List Place) → k < length places → time_on m (take (k + 1) places) ≡ time_on m (take k places) + cond (eqb (get_or places k no_place).machine m) (get_or places k no_place).length 0
-time_on-next m k places l = ap (time_on m) (take_more places k no_place l) ∙ sum_by_push (λ p. cond (eqb p.machine m) p.length 0) (take k places) (get_or places k no_place)
+time_on-next m k places l = sum_by-take_more (λ p. cond (eqb p.machine m) p.length 0) places k no_place l
 
 pub times-next : (places : List Place) (k : ℕ) (p : Place) (old : List ℕ) (long : ℕ) → k < length places → p ≡ get_or places k no_place → p.machine < length old → p.machine < 32 → long ≡ p.length
     → AreTimes old (take k places) → AreTimes (set old p.machine (slice_index_or old p.machine 0 + long)) (take (k + 1) places)

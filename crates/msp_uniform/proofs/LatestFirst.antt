@@ -1,10 +1,10 @@
 -- The pieces of segments, the latest first, are those of one machine after another in another order.
 use Rattle.std.proofs.Common.{◌≡◌, ◌≢◌, ℕ, zero, suc, ◌+◌, ◌-◌, ◌<◌, ◌≤◌, Bool, true, false, cond, eqb, List, [], ◌∷◌, ◌++◌, length, get_or, take, drop, replicate, set, sum_by, All, IsPermutation, inl, inr, refl, sym, ap, subst, subst₂, ◌∙◌, append_assoc, arith}
 use Rattle.std.proofs.lemmas.Bool.{eqb-true, eqb-false, eq-eqb, ne_eqb, cases_eq}
-use Rattle.std.proofs.lemmas.List.{append-nil, get_or-replicate, take_more, drop_more, length-set, get_or-set_same, get_or-set_other, get_or_default}
+use Rattle.std.proofs.lemmas.List.{append-nil, get_or-replicate, drop_more, length-set, get_or-set_same, get_or-set_other, get_or_default}
 use Rattle.std.proofs.lemmas.List.Elements.{All-head, All-tail}
 use Rattle.std.proofs.lemmas.List.Sorted.{IsPermutation-refl, IsPermutation-sym, IsPermutation-trans, IsPermutation-append, IsPermutation-append_left, IsPermutation-append_right, IsPermutation-append_comm}
-use Rattle.msp_class.proofs.Sums.{sum_by-cons, sum_by-append}
+use Rattle.msp_class.proofs.Sums.{sum_by-cons, sum_by-take_more}
 use Rattle.msp_schedule.specs.declared.Piece.{Piece}
 use Rattle.msp_uniform.specs.declared.segments.Segment.{Segment}
 use Rattle.msp_uniform.specs.Rows.{piece_on, part_on, runs_from, runs, begun, jobs_before, IsNextEnds}
@@ -124,9 +124,6 @@ pub jobs_before_next : (idle : List ℕ) (xs : List Segment) (k : ℕ) (d : Segm
 jobs_before_next idle [] k d l = absurd (omega (arith, l))
 jobs_before_next idle (x ∷ xs) zero d l = refl
 jobs_before_next idle (x ∷ xs) (suc k) d l = jobs_before_next (jobs_of x) xs k d (omega (arith, l))
-
-sum_by-take_more : (f : Segment → ℕ) (xs : List Segment) (k : ℕ) (d : Segment) → k < length xs → sum_by f (take (k + 1) xs) ≡ sum_by f (take k xs) + f (get_or xs k d)
-sum_by-take_more f xs k d l = ap (sum_by f) (take_more xs k d l) ∙ sum_by-append f (take k xs) (get_or xs k d ∷ []) ∙ omega (arith, sum_by-cons f (get_or xs k d) [])
 
 -- how far the walk has come: the segments from the moment t on are done
 pub record IsWalked (n m : ℕ) (idle : List ℕ) (xs : List Segment) (k t : ℕ) (ends : List ℕ) (pieces : List Piece) : Type 0 where
