@@ -1,3 +1,4 @@
 pub mod Turns
 pub mod ChainSteps
 mod LastRow
+pub mod StepFacts

@@ -7,6 +7,7 @@ ghost use Rattle.msp_route.specs.Law.{Applies, IsLower, IsBack};
 ghost use Rattle.msp_route.specs.Rates.{rate_of};
 ghost use Rattle.msp_route.specs.Bounds.{IsBounded, KeepsBounds};
 ghost use Rattle.msp_carry.specs.Carried.{lower_of};
+ghost use Rattle.msp_carry.specs.Steps.{ComesFrom, IsBroughtBack};
 
 use crate::step::{step_back, step_down};
 use msp_class::NoMemory;
@@ -97,8 +98,22 @@ pub(crate) fn down(alloc: Global, inst: &Instance, row: Row) -> Result<Instance,
     at_row!(row, step_down, alloc, inst)
 }
 
-/// A solution of the instance from one of the lower instance of the row, a best one from a best one.
+/// Brings a solution back at the reduction of the row.
 #[tactic(auto, unfolding(crate::specs::Carried::lower_of))]
+fn back_at_row(
+    alloc: Global,
+    inst: &Instance,
+    row: Row,
+    solution: Solution,
+) -> Result<Solution, NoMemory>
+    requires carries { IsTrue (carries row) }
+    requires comes { ComesFrom row inst.now (lower_of row inst.now) solution }
+    ensures { IfOk result (λ s. IsBroughtBack row inst.now (lower_of row inst.now) solution s) }
+{
+    at_row!(row, step_back, alloc, inst, solution)
+}
+
+/// A solution of the instance from one of the lower instance of the row, a best one from a best one.
 pub(crate) fn back(
     alloc: Global,
     inst: &Instance,
@@ -115,5 +130,5 @@ pub(crate) fn back(
     ensures law { IfOk result (λ s. IsBack (rate_of row inst.now) inst.now (lower_of row inst.now) solution.schedule s.schedule) }
     ensures bounds { IfOk result (λ s. KeepsBounds row inst.now (lower_of row inst.now) solution.schedule s.schedule) }
 {
-    at_row!(row, step_back, alloc, inst, solution)
+    back_at_row(alloc, inst, row, solution)
 }

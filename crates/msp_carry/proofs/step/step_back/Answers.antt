@@ -1,19 +1,31 @@
 -- A best schedule brought back is best, and costs are translated as the table says.
 use Rattle.std.proofs.Common.{IfOk, subst}
+use Rattle.msp_schedule.specs.Cost.{IsBest}
 use Rattle.msp_route.specs.Law.{IsBack}
 use Rattle.msp_route.proofs.Composed.{IfOk-best}
+use Rattle.msp_carry.proofs.StepFacts.{IfOk-brought}
 use Rattle.msp_carry.proofs.step.step_back.Goals as goal
 
-pub returns-clause-best : goal.returns-clause-best
-returns-clause-best g c = λ best.
-    let reduction = c.args.reduction.now in
-    let inst = c.args.inst.now in
-    IfOk-best (g.R.Reduction.rate reduction inst) inst (g.R.Reduction.lower reduction inst) (g.R.Reduction.forth reduction inst) c.args.solution.schedule c.back.result
-    (g.met.R.Reduction.rate_is reduction inst c.requires.inner c.requires.applies) (λ u. g.met.R.Reduction.forth_is reduction inst u c.requires.inner c.requires.applies)
-    best.best c.back.ensures.solution c.back.ensures.law
+pub back-requires-clause-inner : goal.back-requires-clause-inner
+back-requires-clause-inner g c = c.requires.inner
 
-pub returns-clause-law : goal.returns-clause-law
-returns-clause-law g c =
+pub back-requires-clause-applies : goal.back-requires-clause-applies
+back-requires-clause-applies g c = c.requires.applies
+
+pub back-requires-clause-solution : goal.back-requires-clause-solution
+back-requires-clause-solution g c = c.requires.solution
+
+pub back-requires-clause-bounded : goal.back-requires-clause-bounded
+back-requires-clause-bounded g c = c.requires.bounded
+
+pub returns : goal.returns
+returns g c =
     let reduction = c.args.reduction.now in
     let inst = c.args.inst.now in
-    subst (λ r. IfOk c.back.result (λ s. IsBack r inst (g.R.Reduction.lower reduction inst) c.args.solution.schedule s.schedule)) (g.met.R.Reduction.rate_of_row reduction inst) c.back.ensures.law
+    let lower = g.R.Reduction.lower reduction inst in
+    let best = λ (best : IsBest lower c.args.solution).
+    IfOk-best (g.R.Reduction.rate reduction inst) inst lower (g.R.Reduction.forth reduction inst) c.args.solution.schedule c.back.result
+    (g.met.R.Reduction.rate_is reduction inst c.requires.inner c.requires.applies) (λ u. g.met.R.Reduction.forth_is reduction inst u c.requires.inner c.requires.applies)
+    best.best c.back.ensures.solution c.back.ensures.law in
+    let law = subst (λ r. IfOk c.back.result (λ s. IsBack r inst lower c.args.solution.schedule s.schedule)) (g.met.R.Reduction.rate_of_row reduction inst) c.back.ensures.law in
+    IfOk-brought (g.R.Reduction.number reduction) inst lower c.args.solution c.back.result c.back.ensures.solution best law c.back.ensures.bounds
