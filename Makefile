@@ -6,9 +6,9 @@ SOURCES := $(shell find crates/*/src crates/*/specs crates/*/proofs 2>/dev/null)
 COMPANIONS := $(sort $(shell find companions -maxdepth 1 -type f -name '[a-z]*'))
 TO = $(DESTDIR)$(PREFIX)
 PROCESSORS := $(shell getconf _NPROCESSORS_ONLN 2>/dev/null || echo 1)
-# A prover takes up to a gigabyte and a half of memory.
+# Crates proved at once: half as many again as processors, since most take one and wait at times, but a gigabyte and a half each.
 ROOM := $(shell awk '/^MemAvailable/ { most = int($$2 / 1500000); print (most < 1 ? 1 : most) }' /proc/meminfo 2>/dev/null || echo 1)
-AT_ONCE ?= $(shell printf '%s\n' $(PROCESSORS) $(ROOM) | sort -n | head -n 1)
+AT_ONCE ?= $(shell printf '%s\n' $$((3 * $(PROCESSORS) / 2)) $(ROOM) | sort -n | head -n 1)
 
 .PHONY: program check install clean help atlas dist
 .DELETE_ON_ERROR:
@@ -56,7 +56,7 @@ MAKEFLAGS += -j$(AT_ONCE)
 include $(OUT)/rules.mk
 $(OUT)/rules.mk: crates.txt $(SOURCES) tools/rules
 	@mkdir -p $(OUT)
-	@tools/rules >$@
+	@tools/rules $(PROCESSORS) >$@
 # Statements keep their time where they stay the same, so what stands on them is not proved again.
 $(CRATES:%=$(OUT)/%.stated): $(OUT)/%.stated: $(OUT)/%.proved ;
 endif
