@@ -139,7 +139,7 @@ pub fn binding(alloc: Global, inst: &Instance) -> Result<BindingBlock, NoMemory>
 
 /// Finds a schedule of least greatest cost on one machine with precedence, release dates and preemption, by blocks (Baker, Lawler,
 /// Lenstra and Rinnooy Kan 1983).
-#[derive(Clone, Copy, Debug)]
+#[derive(Clone, Copy)]
 pub struct Blocks;
 
 impl Solver for Blocks {
@@ -164,7 +164,7 @@ impl Solver for Blocks {
 }
 
 /// Finds a schedule of least greatest cost on one machine with precedence, release dates and unit times, by blocks, over the unit 1: no job is cut.
-#[derive(Clone, Copy, Debug)]
+#[derive(Clone, Copy)]
 pub struct UnitBlocks;
 
 impl Solver for UnitBlocks {

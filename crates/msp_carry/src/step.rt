@@ -18,7 +18,7 @@ pub(crate) fn step_down<R: Reduction>(
 ) -> Result<Instance, NoMemory>
     requires inner { Inner inst.now }
     requires applies { Applies (R.number reduction.now) inst.now }
-    ensures same { IfOk result (λ j. j ≡ R.lower reduction.now inst.now) }
+    ensures same { IfOk result (λ j. j ≡ R.lower_of reduction.now inst.now) }
     ensures led { IfOk result (λ j. IsLower (R.number reduction.now) inst.now j) }
 {
     reduction.down(alloc, inst)
@@ -31,8 +31,8 @@ pub(crate) fn step_back<R: Reduction>(
     inst: &Instance,
     solution: Solution,
 ) -> Result<Solution, NoMemory>
-    requires { ComesFrom (R.number reduction.now) inst.now (R.lower reduction.now inst.now) solution }
-    ensures { IfOk result (λ s. IsBroughtBack (R.number reduction.now) inst.now (R.lower reduction.now inst.now) solution s) }
+    requires { ComesFrom (R.number reduction.now) inst.now (R.lower_of reduction.now inst.now) solution }
+    ensures { IfOk result (λ s. IsBroughtBack (R.number reduction.now) inst.now (R.lower_of reduction.now inst.now) solution s) }
 {
     reduction.back(alloc, inst, solution)
 }

@@ -29,7 +29,7 @@ pub struct FrontierLists {
 }
 
 /// What a mark says of a class.
-#[derive(Clone, Copy, Debug, PartialEq, Eq)]
+#[derive(Clone, Copy, PartialEq, Eq)]
 enum Standing {
     Easy,
     Hard,

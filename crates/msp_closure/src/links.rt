@@ -9,7 +9,7 @@ use msp_class::{Class, NoMemory, rank};
 use msp_table::Row;
 
 /// A step from one class to another, by their ranks.
-#[derive(Clone, Copy, Debug, PartialEq, Eq)]
+#[derive(Clone, Copy)]
 pub(crate) struct Link {
     pub from: u16,
     pub to: u16,

@@ -7,7 +7,7 @@ use msp_class::Class;
 use msp_table::{ROWS, Row, carries, goes, keeps_size};
 
 /// The rows that a search may use.
-#[derive(Clone, Copy, Debug, PartialEq, Eq)]
+#[derive(Clone, Copy)]
 pub(crate) enum RowSet {
     Every,
     /// Those that carry schedules.
@@ -17,7 +17,7 @@ pub(crate) enum RowSet {
 }
 
 /// A row, and the class to which it leads.
-#[derive(Clone, Copy, Debug, PartialEq, Eq)]
+#[derive(Clone, Copy)]
 pub(crate) struct RowStep {
     pub row: Row,
     pub next: Class,

@@ -24,7 +24,7 @@ use msp_wrap::Wrap;
 use std::alloc::Global;
 
 /// The solvers whose best costs get a certificate.
-#[derive(Clone, Copy, Debug, PartialEq, Eq)]
+#[derive(Clone, Copy)]
 enum Maker {
     Wrap,
     UniformCut,

@@ -47,7 +47,7 @@ pub fn schedule_by_levels(alloc: Global, inst: &Instance) -> Result<Solution, No
 
 /// Finds a schedule of least makespan: at each moment, of the jobs that no job left must precede, those of highest level, on machines in
 /// order, ties to the lesser number (Hu 1961).
-#[derive(Clone, Copy, Debug)]
+#[derive(Clone, Copy)]
 pub struct Levels;
 
 impl Solver for Levels {

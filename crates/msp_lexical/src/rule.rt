@@ -102,7 +102,7 @@ pub fn schedule_by_labels(alloc: Global, inst: &Instance) -> Result<Solution, No
 
 /// Finds a schedule of least makespan: at each moment the free jobs of greatest label run, the greater label on the first machine (Coffman
 /// and Graham 1972).
-#[derive(Clone, Copy, Debug)]
+#[derive(Clone, Copy)]
 pub struct Lexical;
 
 impl Solver for Lexical {

@@ -6,7 +6,7 @@ ghost use Rattle.msp_machines.specs.laws.Environments.{stay_17, stay_18, stay_19
 use msp_route::KeepsData;
 
 /// One machine is the case of any number of identical machines (Lageweg, Lawler, Lenstra and Rinnooy Kan 1982).
-#[derive(Clone, Copy, Debug)]
+#[derive(Clone, Copy)]
 pub struct Row17;
 
 impl KeepsData for Row17 {
@@ -18,7 +18,7 @@ impl KeepsData for Row17 {
 }
 
 /// Two identical machines are the case of any number of them (Lageweg, Lawler, Lenstra and Rinnooy Kan 1982).
-#[derive(Clone, Copy, Debug)]
+#[derive(Clone, Copy)]
 pub struct Row18;
 
 impl KeepsData for Row18 {
@@ -30,7 +30,7 @@ impl KeepsData for Row18 {
 }
 
 /// Three identical machines are the case of any number of them (Lageweg, Lawler, Lenstra and Rinnooy Kan 1982).
-#[derive(Clone, Copy, Debug)]
+#[derive(Clone, Copy)]
 pub struct Row19;
 
 impl KeepsData for Row19 {
@@ -42,7 +42,7 @@ impl KeepsData for Row19 {
 }
 
 /// Two uniform machines are the case of any number of them (Lageweg, Lawler, Lenstra and Rinnooy Kan 1982).
-#[derive(Clone, Copy, Debug)]
+#[derive(Clone, Copy)]
 pub struct Row22;
 
 impl KeepsData for Row22 {
@@ -54,7 +54,7 @@ impl KeepsData for Row22 {
 }
 
 /// Two unrelated machines are the case of any number of them (Lageweg, Lawler, Lenstra and Rinnooy Kan 1982).
-#[derive(Clone, Copy, Debug)]
+#[derive(Clone, Copy)]
 pub struct Row25;
 
 impl KeepsData for Row25 {
@@ -66,7 +66,7 @@ impl KeepsData for Row25 {
 }
 
 /// A flow shop of two machines is the case of any number of machines (Lageweg, Lawler, Lenstra and Rinnooy Kan 1982).
-#[derive(Clone, Copy, Debug)]
+#[derive(Clone, Copy)]
 pub struct Row35;
 
 impl KeepsData for Row35 {
@@ -78,7 +78,7 @@ impl KeepsData for Row35 {
 }
 
 /// A flow shop of three machines is the case of any number of machines (Lageweg, Lawler, Lenstra and Rinnooy Kan 1982).
-#[derive(Clone, Copy, Debug)]
+#[derive(Clone, Copy)]
 pub struct Row36;
 
 impl KeepsData for Row36 {
@@ -90,7 +90,7 @@ impl KeepsData for Row36 {
 }
 
 /// An open shop of two machines is the case of any number of machines (Lageweg, Lawler, Lenstra and Rinnooy Kan 1982).
-#[derive(Clone, Copy, Debug)]
+#[derive(Clone, Copy)]
 pub struct Row37;
 
 impl KeepsData for Row37 {
@@ -102,7 +102,7 @@ impl KeepsData for Row37 {
 }
 
 /// An open shop of three machines is the case of any number of machines (Lageweg, Lawler, Lenstra and Rinnooy Kan 1982).
-#[derive(Clone, Copy, Debug)]
+#[derive(Clone, Copy)]
 pub struct Row38;
 
 impl KeepsData for Row38 {
@@ -114,7 +114,7 @@ impl KeepsData for Row38 {
 }
 
 /// On two machines, jobs of at most two operations are the case of any number of operations (Lageweg, Lawler, Lenstra and Rinnooy Kan 1982).
-#[derive(Clone, Copy, Debug)]
+#[derive(Clone, Copy)]
 pub struct Row41;
 
 impl KeepsData for Row41 {
@@ -126,7 +126,7 @@ impl KeepsData for Row41 {
 }
 
 /// A job shop of two machines with at most two operations a job is the case of any number of machines (Lageweg, Lawler, Lenstra and Rinnooy Kan 1982).
-#[derive(Clone, Copy, Debug)]
+#[derive(Clone, Copy)]
 pub struct Row42;
 
 impl KeepsData for Row42 {
@@ -138,7 +138,7 @@ impl KeepsData for Row42 {
 }
 
 /// A job shop of two machines is the case of any number of machines (Lageweg, Lawler, Lenstra and Rinnooy Kan 1982).
-#[derive(Clone, Copy, Debug)]
+#[derive(Clone, Copy)]
 pub struct Row43;
 
 impl KeepsData for Row43 {
@@ -150,7 +150,7 @@ impl KeepsData for Row43 {
 }
 
 /// Jobs of at most two operations are the case of any number of operations (Lageweg, Lawler, Lenstra and Rinnooy Kan 1982).
-#[derive(Clone, Copy, Debug)]
+#[derive(Clone, Copy)]
 pub struct Row44;
 
 impl KeepsData for Row44 {

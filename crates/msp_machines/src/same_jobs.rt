@@ -43,7 +43,7 @@ fn led_to_two_machines(alloc: Global, inst: &Instance, row: Row) -> Result<Insta
 }
 
 /// Two identical machines are uniform ones of equal speeds (Lageweg, Lawler, Lenstra and Rinnooy Kan 1982).
-#[derive(Clone, Copy, Debug)]
+#[derive(Clone, Copy)]
 pub struct Row20;
 
 impl KeepsSchedules for Row20 {
@@ -51,7 +51,7 @@ impl KeepsSchedules for Row20 {
 
     ghost NUMBER = { 20 };
 
-    ghost lower = { led_at_equal_speeds 20 };
+    ghost lower_of = { led_at_equal_speeds 20 };
 
     fn lead(alloc: Global, inst: &Instance) -> Result<Instance, NoMemory> {
         led_at_equal_speeds(alloc, inst, Row::new(Self::NUMBER).unwrap())
@@ -61,7 +61,7 @@ impl KeepsSchedules for Row20 {
 }
 
 /// Identical machines are uniform ones of equal speeds (Lageweg, Lawler, Lenstra and Rinnooy Kan 1982).
-#[derive(Clone, Copy, Debug)]
+#[derive(Clone, Copy)]
 pub struct Row21;
 
 impl KeepsSchedules for Row21 {
@@ -69,7 +69,7 @@ impl KeepsSchedules for Row21 {
 
     ghost NUMBER = { 21 };
 
-    ghost lower = { led_at_equal_speeds 21 };
+    ghost lower_of = { led_at_equal_speeds 21 };
 
     fn lead(alloc: Global, inst: &Instance) -> Result<Instance, NoMemory> {
         led_at_equal_speeds(alloc, inst, Row::new(Self::NUMBER).unwrap())
@@ -79,7 +79,7 @@ impl KeepsSchedules for Row21 {
 }
 
 /// One machine is a flow shop whose jobs have one operation (Lageweg, Lawler, Lenstra and Rinnooy Kan 1982).
-#[derive(Clone, Copy, Debug)]
+#[derive(Clone, Copy)]
 pub struct Row32;
 
 impl KeepsData for Row32 {
@@ -91,7 +91,7 @@ impl KeepsData for Row32 {
 }
 
 /// One machine is an open shop whose jobs have one operation (Lageweg, Lawler, Lenstra and Rinnooy Kan 1982).
-#[derive(Clone, Copy, Debug)]
+#[derive(Clone, Copy)]
 pub struct Row33;
 
 impl KeepsData for Row33 {
@@ -103,7 +103,7 @@ impl KeepsData for Row33 {
 }
 
 /// One machine is the first of a job shop of two, whose jobs have one operation there (Lageweg, Lawler, Lenstra and Rinnooy Kan 1982).
-#[derive(Clone, Copy, Debug)]
+#[derive(Clone, Copy)]
 pub struct Row34;
 
 impl KeepsSchedules for Row34 {
@@ -111,7 +111,7 @@ impl KeepsSchedules for Row34 {
 
     ghost NUMBER = { 34 };
 
-    ghost lower = { led_to_two_machines 34 };
+    ghost lower_of = { led_to_two_machines 34 };
 
     fn lead(alloc: Global, inst: &Instance) -> Result<Instance, NoMemory> {
         led_to_two_machines(alloc, inst, Row::new(Self::NUMBER).unwrap())

@@ -49,7 +49,7 @@ fn with_idle_machine(alloc: Global, inst: &Instance, row: Row) -> Result<Instanc
 }
 
 /// One machine is a flow shop whose second machine has no work (Lageweg, Lawler, Lenstra and Rinnooy Kan 1982).
-#[derive(Clone, Copy, Debug)]
+#[derive(Clone, Copy)]
 pub struct Row28;
 
 impl KeepsSchedules for Row28 {
@@ -57,7 +57,7 @@ impl KeepsSchedules for Row28 {
 
     ghost NUMBER = { 28 };
 
-    ghost lower = { with_idle_machine 28 };
+    ghost lower_of = { with_idle_machine 28 };
 
     fn lead(alloc: Global, inst: &Instance) -> Result<Instance, NoMemory> {
         with_idle_machine(alloc, inst, Row::new(Self::NUMBER).unwrap())
@@ -67,7 +67,7 @@ impl KeepsSchedules for Row28 {
 }
 
 /// One machine is an open shop whose second machine has no work (Lageweg, Lawler, Lenstra and Rinnooy Kan 1982).
-#[derive(Clone, Copy, Debug)]
+#[derive(Clone, Copy)]
 pub struct Row29;
 
 impl KeepsSchedules for Row29 {
@@ -75,7 +75,7 @@ impl KeepsSchedules for Row29 {
 
     ghost NUMBER = { 29 };
 
-    ghost lower = { with_idle_machine 29 };
+    ghost lower_of = { with_idle_machine 29 };
 
     fn lead(alloc: Global, inst: &Instance) -> Result<Instance, NoMemory> {
         with_idle_machine(alloc, inst, Row::new(Self::NUMBER).unwrap())
@@ -85,7 +85,7 @@ impl KeepsSchedules for Row29 {
 }
 
 /// A flow shop of two machines is one of three whose last machine has no work (Lageweg, Lawler, Lenstra and Rinnooy Kan 1982).
-#[derive(Clone, Copy, Debug)]
+#[derive(Clone, Copy)]
 pub struct Row30;
 
 impl KeepsSchedules for Row30 {
@@ -93,7 +93,7 @@ impl KeepsSchedules for Row30 {
 
     ghost NUMBER = { 30 };
 
-    ghost lower = { with_idle_machine 30 };
+    ghost lower_of = { with_idle_machine 30 };
 
     fn lead(alloc: Global, inst: &Instance) -> Result<Instance, NoMemory> {
         with_idle_machine(alloc, inst, Row::new(Self::NUMBER).unwrap())
@@ -103,7 +103,7 @@ impl KeepsSchedules for Row30 {
 }
 
 /// An open shop of two machines is one of three whose last machine has no work (Lageweg, Lawler, Lenstra and Rinnooy Kan 1982).
-#[derive(Clone, Copy, Debug)]
+#[derive(Clone, Copy)]
 pub struct Row31;
 
 impl KeepsSchedules for Row31 {
@@ -111,7 +111,7 @@ impl KeepsSchedules for Row31 {
 
     ghost NUMBER = { 31 };
 
-    ghost lower = { with_idle_machine 31 };
+    ghost lower_of = { with_idle_machine 31 };
 
     fn lead(alloc: Global, inst: &Instance) -> Result<Instance, NoMemory> {
         with_idle_machine(alloc, inst, Row::new(Self::NUMBER).unwrap())
@@ -168,13 +168,13 @@ fn numbered_by_machine(mut solution: Solution) -> Solution
 }
 
 /// A flow shop of two machines is a job shop of at most two operations a job: those that take time (Lageweg, Lawler, Lenstra and Rinnooy Kan 1982).
-#[derive(Clone, Copy, Debug)]
+#[derive(Clone, Copy)]
 pub struct Row39;
 
 impl Reduction for Row39 {
     ghost number = { λ self. 39 };
 
-    ghost lower = { λ self. without_empty_operations 39 };
+    ghost lower_of = { λ self. without_empty_operations 39 };
 
     ghost rate = { λ self i. same_costs };
 
@@ -194,9 +194,9 @@ impl Reduction for Row39 {
         &self,
         _alloc: Global,
         _inst: &Instance,
-        solution: Solution,
+        lower: Solution,
     ) -> Result<Solution, NoMemory> {
-        Ok(numbered_by_machine(solution))
+        Ok(numbered_by_machine(lower))
     }
 
     ghost lower_is = { λ self i inner applies. (renumbered_39 i inner applies).lower };
@@ -211,13 +211,13 @@ impl Reduction for Row39 {
 }
 
 /// A flow shop is a job shop in which each job takes the machines on which it has work in order (Lageweg, Lawler, Lenstra and Rinnooy Kan 1982).
-#[derive(Clone, Copy, Debug)]
+#[derive(Clone, Copy)]
 pub struct Row40;
 
 impl Reduction for Row40 {
     ghost number = { λ self. 40 };
 
-    ghost lower = { λ self. without_empty_operations 40 };
+    ghost lower_of = { λ self. without_empty_operations 40 };
 
     ghost rate = { λ self i. same_costs };
 
@@ -237,9 +237,9 @@ impl Reduction for Row40 {
         &self,
         _alloc: Global,
         _inst: &Instance,
-        solution: Solution,
+        lower: Solution,
     ) -> Result<Solution, NoMemory> {
-        Ok(numbered_by_machine(solution))
+        Ok(numbered_by_machine(lower))
     }
 
     ghost lower_is = { λ self i inner applies. (renumbered_40 i inner applies).lower };

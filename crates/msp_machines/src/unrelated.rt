@@ -69,7 +69,7 @@ fn led_to_each(alloc: Global, inst: &Instance, row: Row) -> Result<Instance, NoM
 }
 
 /// Two identical machines are unrelated ones, on which each job takes its time (Lageweg, Lawler, Lenstra and Rinnooy Kan 1982).
-#[derive(Clone, Copy, Debug)]
+#[derive(Clone, Copy)]
 pub struct Row23;
 
 impl KeepsSchedules for Row23 {
@@ -77,7 +77,7 @@ impl KeepsSchedules for Row23 {
 
     ghost NUMBER = { 23 };
 
-    ghost lower = { led_to_each 23 };
+    ghost lower_of = { led_to_each 23 };
 
     fn lead(alloc: Global, inst: &Instance) -> Result<Instance, NoMemory> {
         led_to_each(alloc, inst, Row::new(Self::NUMBER).unwrap())
@@ -87,7 +87,7 @@ impl KeepsSchedules for Row23 {
 }
 
 /// Identical machines are unrelated ones, on which each job takes its time (Lageweg, Lawler, Lenstra and Rinnooy Kan 1982).
-#[derive(Clone, Copy, Debug)]
+#[derive(Clone, Copy)]
 pub struct Row24;
 
 impl KeepsSchedules for Row24 {
@@ -95,7 +95,7 @@ impl KeepsSchedules for Row24 {
 
     ghost NUMBER = { 24 };
 
-    ghost lower = { led_to_each 24 };
+    ghost lower_of = { led_to_each 24 };
 
     fn lead(alloc: Global, inst: &Instance) -> Result<Instance, NoMemory> {
         led_to_each(alloc, inst, Row::new(Self::NUMBER).unwrap())
@@ -259,13 +259,13 @@ fn solution_by_speeds(inst: &Instance, schedule: Schedule) -> Solution
 
 /// Uniform machines are unrelated ones: once all times are multiplied by the least common multiple of the speeds, a job takes its time
 /// divided by the speed on each machine (Lageweg, Lawler, Lenstra and Rinnooy Kan 1982).
-#[derive(Clone, Copy, Debug)]
+#[derive(Clone, Copy)]
 pub struct Row26;
 
 impl Reduction for Row26 {
     ghost number = { λ self. 26 };
 
-    ghost lower = { λ self. led_by_speeds 26 };
+    ghost lower_of = { λ self. led_by_speeds 26 };
 
     ghost rate = { λ self. speed_rate };
 
@@ -285,9 +285,9 @@ impl Reduction for Row26 {
         &self,
         _alloc: Global,
         inst: &Instance,
-        solution: Solution,
+        lower: Solution,
     ) -> Result<Solution, NoMemory> {
-        Ok(solution_by_speeds(inst, solution.schedule))
+        Ok(solution_by_speeds(inst, lower.schedule))
     }
 
     ghost lower_is = { λ self i inner applies. (led_26 i inner applies).lower };
@@ -302,13 +302,13 @@ impl Reduction for Row26 {
 }
 
 /// Two uniform machines are unrelated ones, in the same way (Lageweg, Lawler, Lenstra and Rinnooy Kan 1982).
-#[derive(Clone, Copy, Debug)]
+#[derive(Clone, Copy)]
 pub struct Row27;
 
 impl Reduction for Row27 {
     ghost number = { λ self. 27 };
 
-    ghost lower = { λ self. led_by_speeds 27 };
+    ghost lower_of = { λ self. led_by_speeds 27 };
 
     ghost rate = { λ self. speed_rate };
 
@@ -328,9 +328,9 @@ impl Reduction for Row27 {
         &self,
         _alloc: Global,
         inst: &Instance,
-        solution: Solution,
+        lower: Solution,
     ) -> Result<Solution, NoMemory> {
-        Ok(solution_by_speeds(inst, solution.schedule))
+        Ok(solution_by_speeds(inst, lower.schedule))
     }
 
     ghost lower_is = { λ self i inner applies. (led_27 i inner applies).lower };

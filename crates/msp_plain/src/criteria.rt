@@ -6,7 +6,7 @@ ghost use Rattle.msp_plain.specs.laws.Names.{stay_8, stay_10, stay_11, stay_12, 
 use msp_route::KeepsData;
 
 /// The makespan is the greatest lateness at due dates of 0 (Lageweg, Lawler, Lenstra and Rinnooy Kan 1982).
-#[derive(Clone, Copy, Debug)]
+#[derive(Clone, Copy)]
 pub struct Row8;
 
 impl KeepsData for Row8 {
@@ -18,7 +18,7 @@ impl KeepsData for Row8 {
 }
 
 /// The sum of completion times is the weighted one at weights of 1 (Lageweg, Lawler, Lenstra and Rinnooy Kan 1982).
-#[derive(Clone, Copy, Debug)]
+#[derive(Clone, Copy)]
 pub struct Row10;
 
 impl KeepsData for Row10 {
@@ -30,7 +30,7 @@ impl KeepsData for Row10 {
 }
 
 /// The sum of completion times is the total tardiness at due dates of 0 (Lageweg, Lawler, Lenstra and Rinnooy Kan 1982).
-#[derive(Clone, Copy, Debug)]
+#[derive(Clone, Copy)]
 pub struct Row11;
 
 impl KeepsData for Row11 {
@@ -42,7 +42,7 @@ impl KeepsData for Row11 {
 }
 
 /// The weighted sum of completion times is the weighted tardiness at due dates of 0 (Lageweg, Lawler, Lenstra and Rinnooy Kan 1982).
-#[derive(Clone, Copy, Debug)]
+#[derive(Clone, Copy)]
 pub struct Row12;
 
 impl KeepsData for Row12 {
@@ -54,7 +54,7 @@ impl KeepsData for Row12 {
 }
 
 /// The total tardiness is the weighted one at weights of 1 (Lageweg, Lawler, Lenstra and Rinnooy Kan 1982).
-#[derive(Clone, Copy, Debug)]
+#[derive(Clone, Copy)]
 pub struct Row13;
 
 impl KeepsData for Row13 {
@@ -66,7 +66,7 @@ impl KeepsData for Row13 {
 }
 
 /// The number of late jobs is the weighted one at weights of 1 (Lageweg, Lawler, Lenstra and Rinnooy Kan 1982).
-#[derive(Clone, Copy, Debug)]
+#[derive(Clone, Copy)]
 pub struct Row14;
 
 impl KeepsData for Row14 {

@@ -35,7 +35,7 @@ fn charge_all_by_curves(alloc: Global, jobs: &mut [Job])
 }
 
 /// The lateness of a job is a curve of slope 1 that starts at minus its due date (Lageweg, Lawler, Lenstra and Rinnooy Kan 1982).
-#[derive(Clone, Copy, Debug)]
+#[derive(Clone, Copy)]
 pub struct Row9;
 
 impl KeepsSchedules for Row9 {
@@ -43,7 +43,7 @@ impl KeepsSchedules for Row9 {
 
     ghost NUMBER = { 9 };
 
-    ghost lower = { led_by_curves };
+    ghost lower_of = { led_by_curves };
 
     fn lead(alloc: Global, inst: &Instance) -> Result<Instance, NoMemory> {
         let mut lower = led(alloc, inst, Row::new(Self::NUMBER).unwrap())?;

@@ -43,7 +43,7 @@ fn make_all_unit(jobs: &mut [Job])
 }
 
 /// A sweep over pieces as they begin: the moment by which those so far end, and how many moments before it are idle.
-#[derive(Clone, Copy, Debug)]
+#[derive(Clone, Copy)]
 struct Sweep {
     reach: i128,
     idle: i128,
@@ -129,13 +129,13 @@ fn close_up(s: &mut Schedule, time: u64)
 
 /// Equal times are unit times on another scale, where jobs have no release dates and costs read ends and weights alone. Stretches
 /// in which no machine works are taken out on the way back, so that moments stay small.
-#[derive(Clone, Copy, Debug)]
+#[derive(Clone, Copy)]
 pub struct Row54;
 
 impl Reduction for Row54 {
     ghost number = { λ self. 54 };
 
-    ghost lower = { λ self. led_to_unit };
+    ghost lower_of = { λ self. led_to_unit };
 
     ghost rate = { λ self. rate_of 54 };
 
@@ -159,9 +159,9 @@ impl Reduction for Row54 {
         &self,
         _alloc: Global,
         inst: &Instance,
-        solution: Solution,
+        lower: Solution,
     ) -> Result<Solution, NoMemory> {
-        let mut schedule = solution.schedule;
+        let mut schedule = lower.schedule;
         close_up(&mut schedule, common_time(inst));
         let cost = cost(inst, &schedule);
         Ok(Solution { schedule, cost })

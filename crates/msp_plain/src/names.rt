@@ -6,7 +6,7 @@ ghost use Rattle.msp_plain.specs.laws.Names.{stay_1, stay_2, stay_3, stay_4, sta
 use msp_route::KeepsData;
 
 /// No precedence constraints are chains without arcs (Lageweg, Lawler, Lenstra and Rinnooy Kan 1982).
-#[derive(Clone, Copy, Debug)]
+#[derive(Clone, Copy)]
 pub struct Row1;
 
 impl KeepsData for Row1 {
@@ -18,7 +18,7 @@ impl KeepsData for Row1 {
 }
 
 /// Chains are intrees: at most one arc leaves each job (Lageweg, Lawler, Lenstra and Rinnooy Kan 1982).
-#[derive(Clone, Copy, Debug)]
+#[derive(Clone, Copy)]
 pub struct Row2;
 
 impl KeepsData for Row2 {
@@ -30,7 +30,7 @@ impl KeepsData for Row2 {
 }
 
 /// Chains are outtrees: at most one arc enters each job (Lageweg, Lawler, Lenstra and Rinnooy Kan 1982).
-#[derive(Clone, Copy, Debug)]
+#[derive(Clone, Copy)]
 pub struct Row3;
 
 impl KeepsData for Row3 {
@@ -42,7 +42,7 @@ impl KeepsData for Row3 {
 }
 
 /// Intrees are precedence constraints (Lageweg, Lawler, Lenstra and Rinnooy Kan 1982).
-#[derive(Clone, Copy, Debug)]
+#[derive(Clone, Copy)]
 pub struct Row4;
 
 impl KeepsData for Row4 {
@@ -54,7 +54,7 @@ impl KeepsData for Row4 {
 }
 
 /// Outtrees are precedence constraints (Lageweg, Lawler, Lenstra and Rinnooy Kan 1982).
-#[derive(Clone, Copy, Debug)]
+#[derive(Clone, Copy)]
 pub struct Row5;
 
 impl KeepsData for Row5 {
@@ -66,7 +66,7 @@ impl KeepsData for Row5 {
 }
 
 /// No release dates are release dates of 0 (Lageweg, Lawler, Lenstra and Rinnooy Kan 1982).
-#[derive(Clone, Copy, Debug)]
+#[derive(Clone, Copy)]
 pub struct Row6;
 
 impl KeepsData for Row6 {
@@ -78,7 +78,7 @@ impl KeepsData for Row6 {
 }
 
 /// Unit times are equal times (Brucker and Knust, Complexity Results for Scheduling Problems).
-#[derive(Clone, Copy, Debug)]
+#[derive(Clone, Copy)]
 pub struct Row7;
 
 impl KeepsData for Row7 {
@@ -90,7 +90,7 @@ impl KeepsData for Row7 {
 }
 
 /// Equal times are times (Brucker and Knust, Complexity Results for Scheduling Problems).
-#[derive(Clone, Copy, Debug)]
+#[derive(Clone, Copy)]
 pub struct Row53;
 
 impl KeepsData for Row53 {

@@ -23,15 +23,15 @@ pub trait KeepsSchedules {
     ghost NUMBER: { ℕ };
 
     /// The lower instance.
-    ghost lower: { Inst → Inst };
+    ghost lower_of: { Inst → Inst };
 
     fn lead(alloc: Global, inst: &Instance) -> Result<Instance, NoMemory>
         requires inner { Inner inst.now }
         requires applies { Applies NUMBER inst.now }
-        ensures { IfOk result (λ j. j ≡ lower inst.now) };
+        ensures { IfOk result (λ j. j ≡ lower_of inst.now) };
 
     /// Each schedule stays as it is, from whatever instance the row applies to.
-    ghost law: { CarriesSame NUMBER lower };
+    ghost law: { CarriesSame NUMBER lower_of };
 }
 
 /// A row that keeps all data: an instance changes its class alone, and the row carries the same schedules at the same costs.
@@ -50,7 +50,7 @@ impl<T: KeepsData> KeepsSchedules for T {
 
     ghost NUMBER = { T.NUMBER };
 
-    ghost lower = { led T.NUMBER };
+    ghost lower_of = { led T.NUMBER };
 
     fn lead(alloc: Global, inst: &Instance) -> Result<Instance, NoMemory> {
         led(alloc, inst, Row::new(T::NUMBER).unwrap())
@@ -62,7 +62,7 @@ impl<T: KeepsData> KeepsSchedules for T {
 impl<T: KeepsSchedules> Reduction for T {
     ghost number = { λ self. T.NUMBER };
 
-    ghost lower = { λ self. T.lower };
+    ghost lower_of = { λ self. T.lower_of };
 
     ghost rate = { λ self i. same_costs };
 
@@ -82,9 +82,9 @@ impl<T: KeepsSchedules> Reduction for T {
         &self,
         _alloc: Global,
         _inst: &Instance,
-        solution: Solution,
+        lower: Solution,
     ) -> Result<Solution, NoMemory> {
-        Ok(solution)
+        Ok(lower)
     }
 
     ghost lower_is = { λ self i inner applies. (T.law.stay i inner applies).leads };

@@ -21,7 +21,7 @@ pub trait Reduction {
     ghost number: { Self → ℕ };
 
     /// The instance of the class to which the row leads.
-    ghost lower: { Self → Inst → Inst };
+    ghost lower_of: { Self → Inst → Inst };
 
     /// How costs are translated.
     ghost rate: { Self → Inst → Rate };
@@ -40,21 +40,21 @@ pub trait Reduction {
     fn down(&self, alloc: Global, inst: &Instance) -> Result<Instance, NoMemory>
         requires inner { Inner inst.now }
         requires applies { Applies (number self.now) inst.now }
-        ensures { IfOk result (λ j. j ≡ lower self.now inst.now) };
+        ensures { IfOk result (λ j. j ≡ lower_of self.now inst.now) };
 
     /// A solution of the instance from one of the lower instance.
-    fn back(&self, alloc: Global, inst: &Instance, solution: Solution) -> Result<Solution, NoMemory>
+    fn back(&self, alloc: Global, inst: &Instance, lower: Solution) -> Result<Solution, NoMemory>
         requires inner { Inner inst.now }
         requires applies { Applies (number self.now) inst.now }
-        requires solution { IsSolution (lower self.now inst.now) solution }
-        requires bounded { IsBounded (lower self.now inst.now) solution.schedule }
+        requires solution { IsSolution (lower_of self.now inst.now) lower }
+        requires bounded { IsBounded (lower_of self.now inst.now) lower.schedule }
         ensures solution { IfOk result (λ s. IsSolution inst.now s) }
-        ensures law { IfOk result (λ s. IsBack (rate self.now inst.now) inst.now (lower self.now inst.now) solution.schedule s.schedule) }
-        ensures same { IfOk result (λ s. IsReordered (upper self.now inst.now solution.schedule) s.schedule) }
-        ensures bounds { IfOk result (λ s. KeepsBounds (number self.now) inst.now (lower self.now inst.now) solution.schedule s.schedule) };
+        ensures law { IfOk result (λ s. IsBack (rate self.now inst.now) inst.now (lower_of self.now inst.now) lower.schedule s.schedule) }
+        ensures same { IfOk result (λ s. IsReordered (upper self.now inst.now lower.schedule) s.schedule) }
+        ensures bounds { IfOk result (λ s. KeepsBounds (number self.now) inst.now (lower_of self.now inst.now) lower.schedule s.schedule) };
 
     /// The lower instance is an inner one of the class to which the row leads.
-    ghost lower_is: { (self : Self) (i : Inst) → Inner i → Applies (number self) i → IsLower (number self) i (lower self i) };
+    ghost lower_is: { (self : Self) (i : Inst) → Inner i → Applies (number self) i → IsLower (number self) i (lower_of self i) };
 
     /// Costs are translated as the table says for the row, by positive numbers.
     ghost rate_of_row: { (self : Self) (i : Inst) → rate self i ≡ rate_of (number self) i };
@@ -62,7 +62,7 @@ pub trait Reduction {
     ghost rate_is: { (self : Self) (i : Inst) → Inner i → Applies (number self) i → IsPositive (rate self i) };
 
     /// Each half of the law: a feasible schedule of either instance gives one of the other, and what it costs.
-    ghost forth_is: { (self : Self) (i : Inst) (s : Schedule) → Inner i → Applies (number self) i → IsForth (rate self i) i (lower self i) s (forth self i s) };
+    ghost forth_is: { (self : Self) (i : Inst) (s : Schedule) → Inner i → Applies (number self) i → IsForth (rate self i) i (lower_of self i) s (forth self i s) };
 
-    ghost back_is: { (self : Self) (i : Inst) (s : Schedule) → Inner i → Applies (number self) i → IsBack (rate self i) i (lower self i) s (upper self i s) };
+    ghost back_is: { (self : Self) (i : Inst) (s : Schedule) → Inner i → Applies (number self) i → IsBack (rate self i) i (lower_of self i) s (upper self i s) };
 }

@@ -21,9 +21,9 @@ pub struct Via<R: Reduction, S: Solver> {
 impl<R: Reduction, S: Solver> Solver for Via<R, S> {
     ghost solved = { λ via. via.from };
 
-    ghost can_solve = { λ via i. S.can_solve via.second (R.lower via.first i) };
+    ghost can_solve = { λ via i. S.can_solve via.second (R.lower_of via.first i) };
 
-    ghost may_ask = { λ via i. S.can_solve via.second (R.lower via.first i) };
+    ghost may_ask = { λ via i. S.can_solve via.second (R.lower_of via.first i) };
 
     fn target(&self) -> Class {
         self.from

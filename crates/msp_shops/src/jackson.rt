@@ -22,7 +22,7 @@ const JACKSON_CLASS: Class = Class {
 /// Finds a schedule of least length on two machines, where each job has at most two operations in an order of its own: each machine
 /// takes first the jobs that go on to the other one, in Johnson's order, then those that it has alone, and last those that come from
 /// the other one (Jackson 1956).
-#[derive(Clone, Copy, Debug)]
+#[derive(Clone, Copy)]
 pub struct Jackson;
 
 impl Solver for Jackson {

@@ -21,7 +21,7 @@ const JOHNSON_CLASS: Class = Class {
 
 /// Finds a schedule of least length on two machines in series: first the jobs that take no longer on the first machine, by increasing
 /// time there, then the others, by decreasing time on the second one; each operation begins as early as it can (Johnson 1954).
-#[derive(Clone, Copy, Debug)]
+#[derive(Clone, Copy)]
 pub struct Johnson;
 
 impl Solver for Johnson {

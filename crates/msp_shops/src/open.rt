@@ -139,7 +139,7 @@ pub fn open_shop(alloc: Global, inst: &Instance) -> Result<Solution, NoMemory>
 }
 
 /// Finds a schedule of least length in an open shop of two machines (Gonzalez and Sahni 1976).
-#[derive(Clone, Copy, Debug)]
+#[derive(Clone, Copy)]
 pub struct Open2;
 
 impl Solver for Open2 {

@@ -87,7 +87,7 @@ fn cut_pieces(alloc: Global, inst: &Instance) -> Result<List<Piece>, NoMemory>
 
 /// Finds a schedule of least length in an open shop with preemption: the slices into which the matrix of times is split run one after
 /// another (Gonzalez and Sahni 1976), and pieces of one operation that touch are joined.
-#[derive(Clone, Copy, Debug)]
+#[derive(Clone, Copy)]
 pub struct OpenCut;
 
 impl Solver for OpenCut {

@@ -53,7 +53,7 @@ fn lawler_order(alloc: Global, inst: &Instance) -> Result<Vec<u32>, NoMemory>
 
 /// Finds a schedule of least greatest cost: from the end, of the jobs that no job left must follow the one that costs least goes last,
 /// ties to the lesser number (Lawler 1973).
-#[derive(Clone, Copy, Debug)]
+#[derive(Clone, Copy)]
 pub struct Lawler;
 
 impl Solver for Lawler {

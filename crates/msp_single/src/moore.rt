@@ -202,7 +202,7 @@ fn moore_order(alloc: Global, inst: &Instance) -> Result<Vec<u32>, NoMemory>
 
 /// Finds a schedule with the least number of late jobs: by due date, ties by number, each job is accepted, and at an overrun the longest
 /// accepted one is dropped; the accepted ones run by due date, and then the dropped ones by number (Moore 1968, after Hodgson).
-#[derive(Clone, Copy, Debug)]
+#[derive(Clone, Copy)]
 pub struct Moore;
 
 impl Solver for Moore {

@@ -96,7 +96,7 @@ fn smith_order(alloc: Global, inst: &Instance) -> Result<Vec<u32>, NoMemory>
 
 /// Finds a schedule of least weighted completion time: the jobs one after another by nonincreasing ratio of weight to time, ties by
 /// number (Smith 1956).
-#[derive(Clone, Copy, Debug)]
+#[derive(Clone, Copy)]
 pub struct Smith;
 
 impl Solver for Smith {

@@ -250,7 +250,7 @@ fn shortest_pieces(alloc: Global, inst: &Instance) -> Result<List<Piece>, NoMemo
 
 /// Finds a schedule with the least sum of completion times on one machine with release dates, where jobs may be cut: at each moment the
 /// released job with the least remaining time runs, ties to the lesser number (Schrage 1968).
-#[derive(Clone, Copy, Debug)]
+#[derive(Clone, Copy)]
 pub struct Shortest;
 
 impl Solver for Shortest {

@@ -150,7 +150,7 @@ fn schedule_by_multipliers(alloc: Global, inst: &Instance) -> Result<Solution, N
 
 /// Finds a schedule of least total completion time on uniform machines: the longest jobs take the least multipliers, ties to the lesser
 /// job and the lesser machine (Horowitz and Sahni 1976).
-#[derive(Clone, Copy, Debug)]
+#[derive(Clone, Copy)]
 pub struct Uniform;
 
 impl Solver for Uniform {

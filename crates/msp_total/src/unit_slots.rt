@@ -119,7 +119,7 @@ fn schedule_in_slots(alloc: Global, inst: &Instance, late: bool) -> Result<Solut
 
 /// Finds a schedule of unit jobs with release dates on identical machines whose weighted tardiness is least: a least assignment of the
 /// jobs to the slots of the earliest schedule (Lawler 1964).
-#[derive(Clone, Copy, Debug)]
+#[derive(Clone, Copy)]
 pub struct SlotsLate;
 
 impl Solver for SlotsLate {
@@ -143,7 +143,7 @@ impl Solver for SlotsLate {
 }
 
 /// Finds a schedule of unit jobs with release dates on identical machines whose late jobs weigh least, in the same way.
-#[derive(Clone, Copy, Debug)]
+#[derive(Clone, Copy)]
 pub struct SlotsCount;
 
 impl Solver for SlotsCount {

@@ -189,7 +189,7 @@ pub fn prices(alloc: Global, inst: &Instance) -> Result<Assignment, NoMemory>
 
 /// Finds a schedule of least total completion time on unrelated machines by a least assignment of jobs to positions (Horn 1973, Bruno,
 /// Coffman and Sethi 1974).
-#[derive(Clone, Copy, Debug)]
+#[derive(Clone, Copy)]
 pub struct Unrelated;
 
 impl Solver for Unrelated {

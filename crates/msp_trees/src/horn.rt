@@ -26,7 +26,7 @@ const HORN_CLASS: Class = Class {
 
 /// Finds a schedule of least weighted completion time: a job, or jobs that were joined, of greatest ratio of weight to time is joined
 /// behind its predecessor, or behind the start, again and again, ties to the lesser number of the first job (Horn 1972).
-#[derive(Clone, Copy, Debug)]
+#[derive(Clone, Copy)]
 pub struct Horn;
 
 impl Solver for Horn {

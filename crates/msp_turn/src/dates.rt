@@ -59,13 +59,13 @@ fn release_all(jobs: &mut [Job], last: i64)
 }
 
 /// Release dates become due dates when a schedule is read from its end (Lageweg, Lawler, Lenstra and Rinnooy Kan 1982).
-#[derive(Clone, Copy, Debug)]
+#[derive(Clone, Copy)]
 pub struct Row47;
 
 impl Reduction for Row47 {
     ghost number = { λ self. 47 };
 
-    ghost lower = { λ self. led_to_due_dates };
+    ghost lower_of = { λ self. led_to_due_dates };
 
     ghost rate = { λ self i. same_costs };
 
@@ -89,9 +89,9 @@ impl Reduction for Row47 {
         &self,
         _alloc: Global,
         inst: &Instance,
-        solution: Solution,
+        lower: Solution,
     ) -> Result<Solution, NoMemory> {
-        Ok(reversed(inst, solution))
+        Ok(reversed(inst, lower))
     }
 
     ghost lower_is = { λ self i inner applies. (reversal_47 i inner applies).lower };
@@ -106,13 +106,13 @@ impl Reduction for Row47 {
 }
 
 /// Due dates become release dates when a schedule is read from its end (Lageweg, Lawler, Lenstra and Rinnooy Kan 1982).
-#[derive(Clone, Copy, Debug)]
+#[derive(Clone, Copy)]
 pub struct Row48;
 
 impl Reduction for Row48 {
     ghost number = { λ self. 48 };
 
-    ghost lower = { λ self. led_to_release_dates };
+    ghost lower_of = { λ self. led_to_release_dates };
 
     ghost rate = { λ self i. raised_costs (greatest_due i) };
 
@@ -137,9 +137,9 @@ impl Reduction for Row48 {
         &self,
         _alloc: Global,
         inst: &Instance,
-        solution: Solution,
+        lower: Solution,
     ) -> Result<Solution, NoMemory> {
-        Ok(reversed(inst, solution))
+        Ok(reversed(inst, lower))
     }
 
     ghost lower_is = { λ self i inner applies. (reversal_48 i inner applies).lower };

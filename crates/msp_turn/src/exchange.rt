@@ -67,13 +67,13 @@ fn order_from_last(alloc: Global, count: u32, schedule: &Schedule) -> Result<Vec
 
 /// Jobs of an intree, put in the opposite order, are jobs of an outtree that cost as much with times and weights exchanged, as a chart of
 /// both in two dimensions shows (Eastman, Even and Isaacs 1964).
-#[derive(Clone, Copy, Debug)]
+#[derive(Clone, Copy)]
 pub struct Row51;
 
 impl Reduction for Row51 {
     ghost number = { λ self. 51 };
 
-    ghost lower = { λ self. exchanged 51 };
+    ghost lower_of = { λ self. exchanged 51 };
 
     ghost rate = { λ self i. same_costs };
 
@@ -93,10 +93,10 @@ impl Reduction for Row51 {
         &self,
         alloc: Global,
         inst: &Instance,
-        solution: Solution,
+        lower: Solution,
     ) -> Result<Solution, NoMemory> {
-        let order = order_from_last(alloc, inst.jobs.len() as u32, &solution.schedule)?;
-        line_up(alloc, inst, solution.schedule.unit.unsigned_abs(), &order)
+        let order = order_from_last(alloc, inst.jobs.len() as u32, &lower.schedule)?;
+        line_up(alloc, inst, lower.schedule.unit.unsigned_abs(), &order)
     }
 
     ghost lower_is = { λ self i inner applies. (exchange_51 i inner applies).lower };
@@ -112,13 +112,13 @@ impl Reduction for Row51 {
 
 /// Jobs of an outtree, put in the opposite order, are jobs of an intree that cost as much with times and weights exchanged, as a chart of
 /// both in two dimensions shows (Eastman, Even and Isaacs 1964).
-#[derive(Clone, Copy, Debug)]
+#[derive(Clone, Copy)]
 pub struct Row52;
 
 impl Reduction for Row52 {
     ghost number = { λ self. 52 };
 
-    ghost lower = { λ self. exchanged 52 };
+    ghost lower_of = { λ self. exchanged 52 };
 
     ghost rate = { λ self i. same_costs };
 
@@ -138,10 +138,10 @@ impl Reduction for Row52 {
         &self,
         alloc: Global,
         inst: &Instance,
-        solution: Solution,
+        lower: Solution,
     ) -> Result<Solution, NoMemory> {
-        let order = order_from_last(alloc, inst.jobs.len() as u32, &solution.schedule)?;
-        line_up(alloc, inst, solution.schedule.unit.unsigned_abs(), &order)
+        let order = order_from_last(alloc, inst.jobs.len() as u32, &lower.schedule)?;
+        line_up(alloc, inst, lower.schedule.unit.unsigned_abs(), &order)
     }
 
     ghost lower_is = { λ self i inner applies. (exchange_52 i inner applies).lower };

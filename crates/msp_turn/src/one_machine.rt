@@ -16,13 +16,13 @@ use std::alloc::Global;
 
 /// Where jobs may be cut, none needs to be: one after another in the order of their ends they end no later (Conway, Maxwell and Miller
 /// 1967).
-#[derive(Clone, Copy, Debug)]
+#[derive(Clone, Copy)]
 pub struct Row49;
 
 impl Reduction for Row49 {
     ghost number = { λ self. 49 };
 
-    ghost lower = { λ self. led 49 };
+    ghost lower_of = { λ self. led 49 };
 
     ghost rate = { λ self i. same_costs };
 
@@ -42,9 +42,9 @@ impl Reduction for Row49 {
         &self,
         _alloc: Global,
         _inst: &Instance,
-        solution: Solution,
+        lower: Solution,
     ) -> Result<Solution, NoMemory> {
-        Ok(solution)
+        Ok(lower)
     }
 
     ghost lower_is = { λ self. lower_49 };
@@ -60,13 +60,13 @@ impl Reduction for Row49 {
 
 /// Jobs that are not cut serve where jobs may be cut. Back, the jobs are put one after another in the order of their ends (Conway,
 /// Maxwell and Miller 1967).
-#[derive(Clone, Copy, Debug)]
+#[derive(Clone, Copy)]
 pub struct Row50;
 
 impl Reduction for Row50 {
     ghost number = { λ self. 50 };
 
-    ghost lower = { λ self. led 50 };
+    ghost lower_of = { λ self. led 50 };
 
     ghost rate = { λ self i. same_costs };
 
@@ -86,10 +86,10 @@ impl Reduction for Row50 {
         &self,
         alloc: Global,
         inst: &Instance,
-        solution: Solution,
+        lower: Solution,
     ) -> Result<Solution, NoMemory> {
-        let order = order_of_ends(alloc, inst.jobs.len() as u32, &solution.schedule)?;
-        line_up(alloc, inst, solution.schedule.unit.unsigned_abs(), &order)
+        let order = order_of_ends(alloc, inst.jobs.len() as u32, &lower.schedule)?;
+        line_up(alloc, inst, lower.schedule.unit.unsigned_abs(), &order)
     }
 
     ghost lower_is = { λ self. lower_50 };

@@ -15,13 +15,13 @@ use msp_table::Row;
 use std::alloc::Global;
 
 /// A schedule of an intree is one of an outtree when it is read from its end (Lageweg, Lawler, Lenstra and Rinnooy Kan 1982).
-#[derive(Clone, Copy, Debug)]
+#[derive(Clone, Copy)]
 pub struct Row45;
 
 impl Reduction for Row45 {
     ghost number = { λ self. 45 };
 
-    ghost lower = { λ self. led_turned 45 };
+    ghost lower_of = { λ self. led_turned 45 };
 
     ghost rate = { λ self i. same_costs };
 
@@ -41,9 +41,9 @@ impl Reduction for Row45 {
         &self,
         _alloc: Global,
         inst: &Instance,
-        solution: Solution,
+        lower: Solution,
     ) -> Result<Solution, NoMemory> {
-        Ok(reversed(inst, solution))
+        Ok(reversed(inst, lower))
     }
 
     ghost lower_is = { λ self i inner applies. (reversal_45 i inner applies).lower };
@@ -58,13 +58,13 @@ impl Reduction for Row45 {
 }
 
 /// A schedule of an outtree is one of an intree when it is read from its end (Lageweg, Lawler, Lenstra and Rinnooy Kan 1982).
-#[derive(Clone, Copy, Debug)]
+#[derive(Clone, Copy)]
 pub struct Row46;
 
 impl Reduction for Row46 {
     ghost number = { λ self. 46 };
 
-    ghost lower = { λ self. led_turned 46 };
+    ghost lower_of = { λ self. led_turned 46 };
 
     ghost rate = { λ self i. same_costs };
 
@@ -84,9 +84,9 @@ impl Reduction for Row46 {
         &self,
         _alloc: Global,
         inst: &Instance,
-        solution: Solution,
+        lower: Solution,
     ) -> Result<Solution, NoMemory> {
-        Ok(reversed(inst, solution))
+        Ok(reversed(inst, lower))
     }
 
     ghost lower_is = { λ self i inner applies. (reversal_46 i inner applies).lower };

@@ -86,7 +86,7 @@ fn schedule_of(alloc: Global, inst: &Instance) -> Result<Schedule, NoMemory>
 
 /// Finds a schedule of least length on uniform machines with preemption, where the unit stays small: the longest jobs take two machines
 /// each for one part of the time after another (Gonzalez and Sahni 1978).
-#[derive(Clone, Copy, Debug)]
+#[derive(Clone, Copy)]
 pub struct UniformCut;
 
 impl Solver for UniformCut {

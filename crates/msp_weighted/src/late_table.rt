@@ -134,7 +134,7 @@ fn late_order(alloc: Global, inst: &Instance) -> Result<Vec<u32>, NoMemory>
 /// number, one after another, it keeps for each total time the greatest weight that is on time (Lawler and Moore 1969). The jobs that gave
 /// the greatest weight run by due date, and then the others by number. The table takes 8 bytes for each total time, and a bit for each job
 /// and each total time.
-#[derive(Clone, Copy, Debug)]
+#[derive(Clone, Copy)]
 pub struct LateTable;
 
 impl Solver for LateTable {

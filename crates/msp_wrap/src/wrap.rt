@@ -169,7 +169,7 @@ pub fn wrapped(alloc: Global, inst: &Instance) -> Result<Solution, NoMemory>
 }
 
 /// Finds a schedule of least length on identical machines, where jobs may be cut, by the wrap around rule (McNaughton 1959).
-#[derive(Clone, Copy, Debug)]
+#[derive(Clone, Copy)]
 pub struct Wrap;
 
 impl Solver for Wrap {

@@ -22,7 +22,7 @@ pub returns : goal.returns
 returns g c =
     let reduction = c.args.reduction.now in
     let inst = c.args.inst.now in
-    let lower = g.R.Reduction.lower reduction inst in
+    let lower = g.R.Reduction.lower_of reduction inst in
     let best = λ (best : IsBest lower c.args.solution).
     IfOk-best (g.R.Reduction.rate reduction inst) inst lower (g.R.Reduction.forth reduction inst) c.args.solution.schedule c.back.result
     (g.met.R.Reduction.rate_is reduction inst c.requires.inner c.requires.applies) (λ u. g.met.R.Reduction.forth_is reduction inst u c.requires.inner c.requires.applies)

@@ -12,7 +12,7 @@ pub returns-clause-best : goal.returns-clause-best
 returns-clause-best g c =
     let first = c.args.self.now.first in
     let inst = c.args.inst.now in
-    IfOk-best (g.R.Reduction.rate first inst) inst (g.R.Reduction.lower first inst) (g.R.Reduction.forth first inst) c.in_ok-solution.solution.schedule c.back.result
+    IfOk-best (g.R.Reduction.rate first inst) inst (g.R.Reduction.lower_of first inst) (g.R.Reduction.forth first inst) c.in_ok-solution.solution.schedule c.back.result
     (g.met.R.Reduction.rate_is first inst c.requires.inner (search rules)) (λ u. g.met.R.Reduction.forth_is first inst u c.requires.inner (search rules))
     (subst (λ j. Best j c.in_ok-solution.solution.schedule) c.in_ok-lower.ensures c.in_ok-solution.ensures.best.best) c.back.ensures.solution c.back.ensures.law
 
@@ -24,5 +24,5 @@ returns-clause-bounds g c =
     let led = g.met.R.Reduction.lower_is first inst c.requires.inner (search rules) in
     let answer = subst (λ j. IsAnswer j t) c.in_ok-lower.ensures c.in_ok-solution.ensures.bounds in
     let best = subst (λ j. Best j t) c.in_ok-lower.ensures c.in_ok-solution.ensures.best.best in
-    IfOk-answer (g.R.Reduction.number first) inst (g.R.Reduction.lower first inst) t c.back.result led answer
-    (λ turns. turned_cost (g.R.Reduction.number first) inst (g.R.Reduction.lower first inst) t turns led best answer.unit) c.back.ensures.bounds
+    IfOk-answer (g.R.Reduction.number first) inst (g.R.Reduction.lower_of first inst) t c.back.result led answer
+    (λ turns. turned_cost (g.R.Reduction.number first) inst (g.R.Reduction.lower_of first inst) t turns led best answer.unit) c.back.ensures.bounds

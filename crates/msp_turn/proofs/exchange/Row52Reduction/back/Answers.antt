@@ -13,19 +13,19 @@ line_up-requires-clause-machine c = (exchange_52 c.args.inst.now c.requires.inne
 pub line_up-requires-clause-all : goal.line_up-requires-clause-all
 line_up-requires-clause-all c =
     let i = c.args.inst.now in
-    last_all 52 i (exchanged 52 i) (exchange_52 i c.requires.inner c.requires.applies) lines_52 c.requires.inner c.args.solution.schedule c.requires.solution.feasible c.requires.bounded
+    last_all 52 i (exchanged 52 i) (exchange_52 i c.requires.inner c.requires.applies) lines_52 c.requires.inner c.args.lower.schedule c.requires.solution.feasible c.requires.bounded
     c.unsigned_abs.result c.len.result _ _ c.unsigned_abs.ensures.value c.len.ensures c.deref.ensures.value c.in_ok-order.ensures.all c.in_ok-order.ensures.sorted
 
 pub line_up-requires-clause-feasible : goal.line_up-requires-clause-feasible
 line_up-requires-clause-feasible c =
     let i = c.args.inst.now in
-    last_feasible 52 i (exchanged 52 i) (exchange_52 i c.requires.inner c.requires.applies) lines_52 c.requires.inner c.args.solution.schedule c.requires.solution.feasible c.requires.bounded
+    last_feasible 52 i (exchanged 52 i) (exchange_52 i c.requires.inner c.requires.applies) lines_52 c.requires.inner c.args.lower.schedule c.requires.solution.feasible c.requires.bounded
     c.unsigned_abs.result c.len.result _ _ c.unsigned_abs.ensures.value c.len.ensures c.deref.ensures.value c.in_ok-order.ensures.all c.in_ok-order.ensures.sorted
 
 pub returns : goal.returns
 returns c =
     let i = c.args.inst.now in
-    let t = c.args.solution.schedule in
+    let t = c.args.lower.schedule in
     let brought = IfOk-weaker c.line_up.result (IsLinedUp i c.unsigned_abs.result c.deref.result.now) (IsBrought 52 i (exchanged 52 i) (from_last i t) t)
     (last_brought 52 i (exchanged 52 i) (exchange_52 i c.requires.inner c.requires.applies) lines_52 c.requires.inner t c.requires.solution.feasible c.requires.bounded
     c.unsigned_abs.result c.len.result _ _ c.unsigned_abs.ensures.value c.len.ensures c.deref.ensures.value c.in_ok-order.ensures.all c.in_ok-order.ensures.sorted) c.line_up.ensures in
