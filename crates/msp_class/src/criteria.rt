@@ -40,16 +40,3 @@ pub fn is_greatest(k: Crit) -> bool
         Crit::SumC | Crit::SumWC | Crit::SumU | Crit::SumWU | Crit::SumT | Crit::SumWT => false,
     }
 }
-
-#[cfg(test)]
-mod tests {
-    use super::*;
-
-    #[test]
-    fn facts_by_table(rt: HostRuntime) {
-        assert!(rt; uses_due(Crit::SumU) && !uses_due(Crit::SumWC));
-        assert!(rt; uses_weight(Crit::SumWC) && !uses_weight(Crit::SumU));
-        assert!(rt; uses_curve(Crit::Fmax) && !uses_curve(Crit::Lmax));
-        assert!(rt; is_greatest(Crit::Fmax) && !is_greatest(Crit::SumC));
-    }
-}

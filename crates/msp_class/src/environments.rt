@@ -76,19 +76,3 @@ pub fn most_operations(e: Env) -> usize
         _ => MOST_OPERATIONS,
     }
 }
-
-#[cfg(test)]
-mod tests {
-    use super::*;
-
-    #[test]
-    fn facts_by_table(rt: HostRuntime) {
-        assert_eq!(rt; fixed_machines(Env::One), Some(1));
-        assert_eq!(rt; fixed_machines(Env::J2Short), Some(2));
-        assert_eq!(rt; fixed_machines(Env::JShort), None);
-        assert!(rt; is_shop(Env::O3) && !is_shop(Env::R));
-        assert!(rt; is_mirror(Env::O3) && !is_mirror(Env::F2));
-        assert_eq!(rt; most_operations(Env::JShort), 2);
-        assert_eq!(rt; most_operations(Env::J2), 32);
-    }
-}

@@ -92,21 +92,3 @@ impl<T: Drop> List<T> {
         Ok(())
     }
 }
-
-#[cfg(test)]
-mod tests {
-    use super::*;
-
-    #[test]
-    fn keeps_order(rt: HostRuntime) {
-        let mut list = List::new(rt.alloc());
-        assert_eq!(rt; list.push(3u8), Ok(()));
-        assert_eq!(rt; list.put(5), Ok(()));
-        assert_eq!(rt; list.len(), 2);
-        assert_eq!(rt; list.get(1).copied(), Some(5));
-        assert_eq!(rt; list.get(2).copied(), None);
-        let again = List::from_vec(list.take_all());
-        assert_eq!(rt; list.len(), 0);
-        assert_eq!(rt; again.as_slice(), [3, 5].as_slice());
-    }
-}

@@ -14,14 +14,3 @@ pub fn turned(o: Order) -> Order
         Order::Free | Order::Chains | Order::Prec => o,
     }
 }
-
-#[cfg(test)]
-mod tests {
-    use super::*;
-
-    #[test]
-    fn turns_trees(rt: HostRuntime) {
-        assert_eq!(rt; turned(Order::Intree), Order::Outtree);
-        assert_eq!(rt; turned(Order::Prec), Order::Prec);
-    }
-}

@@ -1,4 +1,2 @@
 pub mod Picks
 pub mod evidence
-pub mod Small
-pub mod SmallMatrix

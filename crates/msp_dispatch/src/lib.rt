@@ -10,27 +10,13 @@
 
 ghost use Rattle.std.specs.Prelude.{◌≡◌};
 
-#[cfg(test)]
-mod assign_tests;
-#[cfg(test)]
-mod bound_tests;
 mod certify;
-#[cfg(test)]
-mod certify_tests;
 mod fit;
 mod pick;
-#[cfg(test)]
-mod row_tests;
 mod shown;
 mod solve;
 mod solved_list;
-#[cfg(test)]
-mod solver_tests;
-#[cfg(test)]
-mod tests;
 mod threshold;
-#[cfg(test)]
-mod via_tests;
 
 pub use certify::certify_any;
 use msp_class::{Class, NoMemory};

@@ -11,8 +11,6 @@ mod laws;
 mod limits;
 mod precedence;
 mod routes;
-#[cfg(test)]
-mod tests;
 
 pub use instance::{GenFault, generate};
 pub use laws::law_of_limits;

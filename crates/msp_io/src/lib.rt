@@ -25,5 +25,3 @@ pub use source::{Failed, Source};
 pub use std_io::{StdSink, StdSource};
 pub use whole::{GREATEST_LIMIT, Taken, WriteFault, read_all, write_all};
 
-#[cfg(test)]
-mod tests;

@@ -8,8 +8,6 @@ mod job_name;
 mod laws;
 mod names;
 mod padded;
-#[cfg(test)]
-mod tests;
 
 pub use job_name::{JobName, LONGEST_NAME, are_name_bytes};
 pub use laws::law_of_limits;

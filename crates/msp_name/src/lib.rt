@@ -8,8 +8,6 @@ mod fault;
 mod laws;
 mod reader;
 mod short_text;
-#[cfg(test)]
-mod tests;
 mod text;
 mod words;
 

@@ -5,8 +5,6 @@
 //! `itoa`. The layer above uses that each text is exactly the one that `specs/` defines.
 #![tactic(auto)]
 
-#[cfg(test)]
-mod certificate_tests;
 mod certify;
 mod chain_text;
 mod check;
@@ -15,10 +13,6 @@ mod labels;
 mod lines;
 mod rows;
 mod solve;
-#[cfg(test)]
-mod tests;
-#[cfg(test)]
-mod text_tests;
 mod trial;
 mod why;
 

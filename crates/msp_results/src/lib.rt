@@ -11,8 +11,6 @@ mod laws;
 mod limits;
 mod read;
 mod records;
-#[cfg(test)]
-mod tests;
 mod version;
 
 pub use fault::ResultFault;

@@ -1,12 +1,8 @@
-//! Instances and schedules for the tests of other crates, and the tests of the definitions and instances of the two crates below.
+//! Instances and schedules for tests.
 //!
-//! It stands on `msp_class`, `msp_instance` and `msp_schedule`. Tests of the layers above use it, and no program does.
+//! It stands on `msp_class`, `msp_instance` and `msp_schedule`. `msp_tests` uses it, and no program does.
 #![tactic(auto)]
 
-#[cfg(test)]
-mod definitions;
-#[cfg(test)]
-mod instance_tests;
 mod instances;
 mod job_data;
 mod lists;

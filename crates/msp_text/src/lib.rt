@@ -6,8 +6,6 @@
 
 mod number;
 mod pieces;
-#[cfg(test)]
-mod tests;
 
 pub use number::{Spelled, read_number};
 pub use pieces::{put, put_integer, put_number};

@@ -1,0 +1,43 @@
+//! Tests of the public calls of the crates below, in one crate, since a crate with tests of its own is proved once more for them.
+//!
+//! It stands on all that it calls, and nothing stands on it.
+#![tactic(auto)]
+
+#[cfg(test)]
+mod assignments;
+#[cfg(test)]
+mod bounds;
+#[cfg(test)]
+mod bytes;
+#[cfg(test)]
+mod certificates;
+#[cfg(test)]
+mod certified;
+#[cfg(test)]
+mod classes;
+#[cfg(test)]
+mod composed;
+#[cfg(test)]
+mod definitions;
+#[cfg(test)]
+mod generated;
+#[cfg(test)]
+mod instances;
+#[cfg(test)]
+mod job_names;
+#[cfg(test)]
+mod names;
+#[cfg(test)]
+mod numbers;
+#[cfg(test)]
+mod reports;
+#[cfg(test)]
+mod results;
+#[cfg(test)]
+mod rows;
+#[cfg(test)]
+mod solvers;
+#[cfg(test)]
+mod solving;
+#[cfg(test)]
+mod texts;

@@ -1,0 +1,45 @@
+// Numbers and pieces, on examples.
+use msp_text::{put, put_integer, put_number, read_number};
+use std::test::Fail;
+
+#[test]
+fn puts_pieces(rt: HostRuntime) -> Result<(), Fail> {
+    let mut out = Vec::new(rt.alloc());
+    assert!(rt; put(&mut out, b"cost ").is_ok());
+    assert!(rt; put_integer(&mut out, -14).is_ok());
+    assert!(rt; put(&mut out, b"/").is_ok());
+    assert!(rt; put_number(&mut out, 30).is_ok());
+    assert_eq!(rt; out.as_slice(), b"cost -14/30".as_slice());
+    Ok(())
+}
+
+/// What the bytes spell: whether there is a minus, and the size.
+fn spelled(bytes: &[u8]) -> Option<(bool, u128)> {
+    match read_number(bytes) {
+        Some(number) => Some((number.negative, number.size)),
+        None => None,
+    }
+}
+
+const SPELLINGS: [(&[u8], Option<(bool, u128)>); 10] = [
+    (b"0", Some((false, 0))),
+    (b"30", Some((false, 30))),
+    (b"-7", Some((true, 7))),
+    (
+        b"1000000000000000000000000000000000000000",
+        Some((false, u128::MAX)),
+    ),
+    (b"", None),
+    (b"-", None),
+    (b"-0", None),
+    (b"+1", None),
+    (b"01", None),
+    (b"1x", None),
+];
+
+#[test]
+fn reads_numbers(rt: HostRuntime) {
+    for (bytes, number) in SPELLINGS {
+        assert!(rt; spelled(bytes) == number);
+    }
+}

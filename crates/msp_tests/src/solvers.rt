@@ -1,0 +1,77 @@
+// What the search over bounds and the split of a table answer to small instances.
+ghost use Rattle.std.specs.Prelude.{◌≡◌, IfOk};
+ghost use Rattle.msp_timetable.specs.Split.{IsMatrix};
+
+use msp_class::{Class, Crit, Env, NoMemory, Order, Times};
+use msp_dispatch::solve_any;
+use msp_samples::{JobData, UNIT_JOB, in_class, instance, list_of};
+use msp_threshold::squeezed;
+use msp_timetable::{Matrix, split};
+use std::alloc::Global;
+use std::process::Abort;
+use std::test::Fail;
+
+/// Unit jobs with release dates on identical machines, by greatest lateness: `P|r,p=1|Lmax`.
+const LATENESS: Class = Class {
+    env: Env::P,
+    cut: false,
+    order: Order::Free,
+    heads: true,
+    times: Times::Unit,
+    crit: Crit::Lmax,
+};
+
+/// The table of two rows and two columns with these cells.
+fn table(alloc: Global, a: u8, b: u8, c: u8, d: u8) -> Result<Matrix, NoMemory>
+    ensures matrix { IfOk result IsMatrix }
+    ensures rows { IfOk result (λ t. t.rows ≡ 2) }
+    ensures columns { IfOk result (λ t. t.columns ≡ 2) }
+{
+    let cells = list_of(
+        alloc,
+        &[i128::from(a), i128::from(b), i128::from(c), i128::from(d)],
+    )?;
+    Ok(Matrix {
+        rows: 2,
+        columns: 2,
+        cells,
+    })
+}
+
+#[test]
+fn bounds_on_the_greatest_lateness(rt: HostRuntime) -> Result<(), Fail> {
+    let apart = JobData {
+        release: 1_000_000_000,
+        due: -1_000_000_000,
+        ..UNIT_JOB
+    };
+    let one = instance(rt.alloc(), LATENESS, 1, &[apart], &[]).ok_or("no instance")?;
+    assert!(rt; squeezed(rt.alloc(), &one, 2_000_000_001)?.is_some());
+    assert!(rt; squeezed(rt.alloc(), &one, 2_000_000_000)?.is_none());
+    // the bound 1 is asked for, and no schedule meets it
+    let made = instance(rt.alloc(), LATENESS, 1, &[UNIT_JOB, UNIT_JOB], &[]).ok_or("no instance")?;
+    let two = in_class(rt.alloc(), made).ok_or("not in its class")?;
+    let answer = solve_any(rt.alloc(), &two, None).ok().ok_or("no answer")?;
+    assert_eq!(rt;
+        (answer.solution.cost.num, answer.solution.cost.den),
+        (2, 1)
+    );
+    Ok(())
+}
+
+#[test]
+fn splits_of_tables(rt: HostRuntime) -> Result<(), Fail> {
+    let idle = table(rt.alloc(), 0, 0, 0, 0)?;
+    assert!(rt; split(rt.alloc(), &idle)?.as_slice().is_empty());
+    // each row has each column for a time of 1
+    let busy = table(rt.alloc(), 1, 1, 1, 1)?;
+    let slices = split(rt.alloc(), &busy)?;
+    let [first, second] = slices.as_slice() else {
+        return Err("not two slices".into());
+    };
+    assert_eq!(rt; (first.length, second.length), (1, 1));
+    let (straight, crossed) = ([0, 1], [1, 0]);
+    let columns = (first.column.as_slice(), second.column.as_slice());
+    assert!(rt; columns == (&straight, &crossed) || columns == (&crossed, &straight));
+    Ok(())
+}
