@@ -4,6 +4,7 @@ pub mod LevelBound
 pub mod SegmentBound
 pub mod Loads
 pub mod Groups
+pub mod LastEnds
 pub mod SpeedBound
 pub mod PriceBounds
 pub mod Certified

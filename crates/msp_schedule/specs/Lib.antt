@@ -14,6 +14,7 @@ pub mod Marks
 pub mod Prices
 pub mod Levels
 pub mod Loads
+pub mod LastEnds
 pub mod Blocks
 pub mod Speeds
 pub mod Segments

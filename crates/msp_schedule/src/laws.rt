@@ -1,6 +1,7 @@
 // Laws of feasible schedules, on which solvers stand.
 ghost use Rattle.msp_schedule.specs.Blocks.{LawOfBlocks};
 ghost use Rattle.msp_schedule.specs.Breaks.{LawOfFirstBreak};
+ghost use Rattle.msp_schedule.specs.LastEnds.{LawOfLastEnds};
 ghost use Rattle.msp_schedule.specs.Laws.{LawOfEnds, LawOfFloors, LawOfGroups};
 ghost use Rattle.msp_schedule.specs.Levels.{LawOfLevels};
 ghost use Rattle.msp_schedule.specs.Limits.{AreLimits};
@@ -17,6 +18,11 @@ pub fn law_of_ends()
 /// Jobs end only when as many machines as they can use have had the time for them.
 pub fn law_of_groups()
     ensures { LawOfGroups }
+{}
+
+/// Jobs have no more time than all machines up to a moment and, behind it, each job up to its end.
+pub fn law_of_last_ends()
+    ensures { LawOfLastEnds }
 {}
 
 /// Jobs on machines with speeds end only when the machines have had the time for them: below a threshold of speed each job is on one

@@ -1,11 +1,11 @@
 //! Schedules over any unit, and what it means that a schedule is feasible, what it costs, and that it is best.
 //!
-//! It stands on `msp_instance`. The layers above use the definitions `Feasible`, `cost_of` and `Best`, that `first_break` and
-//! `swept` answer None exactly where a schedule is feasible, that `cost` gives the cost in lowest terms, and the laws of feasible
-//! schedules: `law_of_blocks` on one machine, `law_of_ends`, `law_of_groups`, `law_of_floors`, `law_of_levels` and `law_of_segments` on
-//! identical machines, `law_of_speeds` on identical and uniform machines, `law_of_prices` on unrelated machines, and `law_of_machines`
-//! and `law_of_lines` in shops. `law_of_first_break` says that the first break of a schedule is determined, and `law_of_limits` the
-//! limits by their numbers.
+//! It stands on `msp_instance`. The layers above use the definitions `Feasible`, `cost_of` and `Best`, that `first_break` and `swept`
+//! answer None exactly where a schedule is feasible, that `cost` gives the cost in lowest terms, and the laws of feasible schedules:
+//! `law_of_blocks` on one machine, `law_of_ends`, `law_of_groups`, `law_of_floors`, `law_of_levels` and `law_of_segments` on identical
+//! machines, `law_of_last_ends` on these and in shops, `law_of_speeds` on identical and uniform machines, `law_of_prices` on unrelated
+//! machines, and `law_of_machines` and `law_of_lines` in shops. `law_of_first_break` says that the first break of a schedule is
+//! determined, and `law_of_limits` the limits by their numbers.
 #![tactic(auto)]
 
 ghost use Rattle.std.specs.Prelude.{pos, ◌≤ℤ◌};
@@ -34,8 +34,9 @@ pub use fraction::{compare, lowest};
 pub use job_cost::job_cost_at;
 pub use job_marks::{follows_marked, leads_to_marked, marks_before, marks_of};
 pub use laws::{
-    law_of_blocks, law_of_ends, law_of_first_break, law_of_floors, law_of_groups, law_of_levels,
-    law_of_limits, law_of_lines, law_of_machines, law_of_prices, law_of_segments, law_of_speeds,
+    law_of_blocks, law_of_ends, law_of_first_break, law_of_floors, law_of_groups, law_of_last_ends,
+    law_of_levels, law_of_limits, law_of_lines, law_of_machines, law_of_prices, law_of_segments,
+    law_of_speeds,
 };
 pub use limits::{
     GREATEST_CARRIED_UNIT, GREATEST_COMPARED_DENOMINATOR, GREATEST_COMPARED_NUMERATOR,

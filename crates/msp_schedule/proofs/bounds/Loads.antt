@@ -127,6 +127,15 @@ module _ (i : Instance) (s : Schedule) (shop : is_shop i.class.env ≡ true) (f 
       by : (a b c e : ℕ) → a ≡ b → unit * b ≤ c → c ≤ e - 0 → unit * a ≤ e
       by a b c e q h k = subst (λ x. unit * x ≤ e) (sym q) (omega arith)
 
+  pub job_is_worked : (j : ℕ) → j < length i.jobs → unit * job_length i j ≤ sum_by size (share j)
+  job_is_worked j l = subst (λ x. unit * x ≤ sum_by size (share j)) (sym (sum_by-places (λ n. n.time) (needs j) no_need)) (operations_are_done (λ _. true) j l)
+
+  pub shop_machines_below : All (λ j. All (λ n. n.machine < i.machines) j.needs) i.jobs → All (λ p. p.machine < i.machines) s.pieces
+  shop_machines_below on k d l =
+      let p = get_or s.pieces k d in
+      let place = f.place k d l in
+      subst (λ m. m < i.machines) (sym (reads.may p.job p.op p.machine place.machine)) (on p.job no_job place.job p.op no_need (reads.has p.job p.op place.operation))
+
   -- ---- a machine
   apart_on_machines : AllPairs (IsApartOn (λ p. p.machine) start finish) s.pieces
   apart_on_machines a b d h k e = apart_in_nat _ _ (timed a d (omega arith)) (timed b d k) (f.machine a b d h k e)
