@@ -1,4 +1,11 @@
-// Jackson's rule for two machines on which jobs have at most two operations.
+// Jackson's rule for two machines on which jobs have at most two operations, `J2|n<=2|Cmax` (Jackson 1956).
+//
+// Rule: on each machine stand first the jobs that begin there and go on to the other, in Johnson's order, then those of that machine alone;
+// and behind them, each as early as it can, those that come from the other machine, in its order.
+//
+// Best (`proofs/InSeries.antt`): a machine ends when its work is done without a gap, which is its load in any schedule; or when the jobs
+// that come from the other machine are done, of which those of Johnson's rule alone need as long (`johnson.rt`, over lists of jobs that
+// begin on one machine). Johnson's solver is the same call, where all jobs begin on the first machine.
 ghost use Rattle.std.specs.Prelude.{⊤};
 ghost use Rattle.msp_shops.specs.Classes.{jackson_class};
 

@@ -1,4 +1,13 @@
-// Johnson's rule for two machines in series.
+// Johnson's rule for two machines in series, `F2||Cmax` (Johnson 1954).
+//
+// Rule: first the jobs that take no longer on the first machine than on the second, by rising time on the first; then the others, by
+// falling time on the second; ties by number. Both machines run the jobs in this order, each as early as it can.
+//
+// Best (`proofs/Threshold.antt`, `JohnsonOrder.antt`, `InSeries.antt`): the last end here is the time of the jobs up to some job on the
+// first machine and from that job on on the second. Let that job take no longer on the first machine, θ there. In any schedule look at the
+// moment at which the first of the jobs that take at least θ on the first machine is done there: what is over on the first machine by then
+// and what is not begun on the second fit one after the other before the end (`proofs/Cut.antt`), and that is no less. Where the job takes
+// longer on the first machine, the same is seen from the end. Nobody asks in which order a machine of that schedule takes the jobs.
 ghost use Rattle.std.specs.Prelude.{⊤};
 ghost use Rattle.msp_shops.specs.Classes.{johnson_class};
 

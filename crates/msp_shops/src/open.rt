@@ -1,4 +1,13 @@
-// Open shops of two machines: the rule of Gonzalez and Sahni.
+// Open shops of two machines, `O2||Cmax`: the rule of Gonzalez and Sahni (1976).
+//
+// Rule: of all jobs take the one whose lesser time is greatest, and call the machine on which it takes longer the second. It runs first on
+// the second machine and last on the first. Between run the others, on the first machine and then on the second, each as early as it can:
+// first those that take no longer on the first machine, then those that do.
+//
+// In the loop (`proofs/OpenSteps.antt`): the first machine has no gap, the second is packed from some job on.
+//
+// Best (`proofs/OpenFacts.antt`): the machines end by the greatest of their loads and of the lengths of the jobs, and no schedule ends
+// before any of these (`law_of_machines` and `law_of_lines` of `msp_schedule`).
 ghost use Rattle.std.specs.Prelude.{◌≡◌, ◌≢◌, ◌<◌, ◌≤◌, ◌∷◌, length, map, All, AllPairs, IfOk, IsPermutation, ⊤};
 ghost use Rattle.msp_instance.specs.declared.ranges.TheConstants.{GREATEST, MOST_JOBS};
 ghost use Rattle.msp_instance.specs.Conditions.{Inner};

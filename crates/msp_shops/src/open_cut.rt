@@ -1,4 +1,11 @@
-// Open shops with preemption: the matrix of times is split into slices.
+// Open shops with preemption, `O|pmtn|Cmax`: the matrix of times is split into slices (Gonzalez and Sahni 1976).
+//
+// Rule: rows are machines, columns jobs, and the greatest sum of a line is the least end. `split` of `msp_timetable` gives slices of time,
+// in each of which every machine has at most one job and no job two machines, and which last together just as long as the least end. Laid
+// one after another they are the schedule; pieces that touch on a machine are joined.
+//
+// Best (`proofs/OpenCutFacts.antt`): a line's sum is the load of a machine or the length of a job, and no schedule ends before it
+// (`law_of_machines` and `law_of_lines` of `msp_schedule`).
 ghost use Rattle.std.specs.Prelude.{◌≡◌, ◌<◌, ◌≤◌, ◌++◌, pos, length, map, IfOk, OnOk, ⊤};
 ghost use Rattle.std.specs.List.{range_with_len};
 ghost use Rattle.msp_instance.specs.Conditions.{Inner};

@@ -1,4 +1,14 @@
-// Lawler's rule: from the last job to the first, the one of least cost that no job left must follow.
+// Lawler's rule for `1|prec|fmax` (Lawler 1973).
+//
+// Rule: from the last place to the first, of the jobs left that no job left must follow, the one that costs least where all that are left
+// end takes the place, ties to the lesser number.
+//
+// In the loop: the jobs behind the place stand in their order, the others are left, and arcs lead from jobs that are left, or to later
+// places.
+//
+// Best (`proofs/LawlerBest.antt`, by the bound of `msp_schedule/proofs/bounds/Certified.antt`): of the jobs left at a place one ends last
+// in any schedule, no earlier than all of them take together, and none of them must follow it. It costs there at least what the chosen job
+// costs. So each job of the row costs no more than some job of any other schedule.
 ghost use Rattle.std.specs.Prelude.{◌≡◌, length, map, IfOk, IsPermutation, ⊤};
 ghost use Rattle.std.specs.List.{range_with_len};
 ghost use Rattle.msp_instance.specs.Conditions.{Inner};

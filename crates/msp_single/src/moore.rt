@@ -1,4 +1,14 @@
-// Moore's rule: jobs by due date, and the longest one accepted is dropped at an overrun.
+// Moore's rule for `1||sumU` (Moore 1968, after Hodgson).
+//
+// Rule: by due date, ties by number, each job is accepted; where the accepted jobs then take longer than its due date allows, the longest
+// of them is dropped. The accepted jobs run first, by due date, and then the dropped ones by number.
+//
+// In the loop: no accepted job is late; and for each choice of the jobs so far in which none is late, of b jobs that take s together, at
+// least b jobs are accepted, and the b shortest of these take no longer than s.
+//
+// Best (`proofs/MooreChoice.antt`, `MooreBest.antt`): the jobs that are on time in any schedule are such a choice, as the machine has done
+// those due by a date when it comes. That the b shortest are compared, and not all, carries the step in which a job is dropped; that as
+// many are accepted as can be, of least time together, is the case where b is their number.
 ghost use Rattle.std.specs.Prelude.{◌≡◌, ◌+◌, ◌*◌, ◌<◌, ◌≤◌, ◌++◌, List, [], ◌∷◌, true, false, length, map, slice_index_or, sum_by, All, AllPairs, IfOk, IsPermutation, ⊤};
 ghost use Rattle.std.specs.List.{range_with_len};
 ghost use Rattle.std.specs.Ordering.{int_cmp, nat_cmp, ordering_then};

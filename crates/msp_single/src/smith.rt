@@ -1,4 +1,11 @@
-// Smith's rule: jobs by nonincreasing ratio of weight to time.
+// Smith's rule for `1||sumwC` (Smith 1956).
+//
+// Rule: the jobs run one after another by nonincreasing ratio of weight to time, ties by number. Ratios are compared by products.
+//
+// Best (`proofs/SmithBest.antt`): in any feasible schedule a job ends no earlier than the jobs that end by then take together, as the
+// pieces of one machine do not overlap. So any schedule costs at least, for each pair of jobs, the weight of the one that ends later times
+// the time of the one that ends earlier. Of the two products that a pair can give, the order of the rule has the lesser one for each pair.
+// No schedule is changed by an exchange: the other schedule gives its ends and nothing else.
 ghost use Rattle.std.specs.Prelude.{◌≡◌, ◌*◌, ◌<◌, ◌≤◌, ◌⊎◌, length, map, slice_index_or, All, AllPairs, IfOk, IsPermutation, ⊤};
 ghost use Rattle.std.specs.List.{range_with_len};
 ghost use Rattle.std.specs.Ordering.{nat_cmp, ordering_then};

@@ -1,4 +1,14 @@
-// Uniform machines: the longest jobs take the positions of least multiplier.
+// Total completion time on uniform machines, `Q||sumC` (Horowitz and Sahni 1976).
+//
+// Rule: a job with k − 1 jobs behind it on a machine counts k times in the sum of all ends, over the machine's speed: that multiplier
+// belongs to the position. The jobs by falling time, ties by number, take the positions one after another, each time the one of least
+// multiplier that is left, ties to the lesser machine. The unit is the least common multiple of the speeds.
+//
+// In the loop (`proofs/Greedy.antt`): the positions taken are the last ones of each machine, and no other one has a lesser multiplier.
+//
+// Best (`proofs/UniformBest.antt`): in any schedule the jobs stand at positions of their own, counted from the end of each machine
+// (`law_of_prices` of `msp_schedule` stands on the same count), and cost at least their times by the multipliers. Any q positions have
+// multipliers that add up to at least those of the first q taken, so the longest times at the least multipliers add up to the least.
 ghost use Rattle.std.specs.Prelude.{◌≡◌, ◌+◌, ◌*◌, ◌/◌, ◌<◌, ◌≤◌, length, map, slice_set, All, IfOk, ⊤};
 ghost use Rattle.std.specs.List.{range_with_len};
 ghost use Rattle.msp_instance.specs.declared.ranges.TheConstants.{GREATEST, GREATEST_MULTIPLE, MOST_JOBS, MOST_MACHINES};

@@ -1,4 +1,14 @@
-// Unit jobs in the slots of the earliest schedule, at least cost.
+// Unit jobs with release dates on identical machines, `P|r,p=1|sumwT` and `P|r,p=1|sumwU`: in the slots of the earliest schedule, at least
+// cost.
+//
+// Rule: the slots are those in which the earliest schedule runs its jobs, of all jobs by release date (`earliest_slots` of `msp_slots`).
+// The jobs are assigned to the slots at least cost (`msp_assign`): what a job costs that ends one after the slot begins, or more than all
+// jobs together may where the slot begins before its release date.
+//
+// Best (`proofs/SlotBest.antt`): whatever the whole moments at which the jobs of a schedule begin, each job has a slot of its own that
+// begins no later and not before its release date (`msp_slots/proofs/SlotPlaces.antt`); fractions are no help, as begins may be rounded
+// down (`law_of_floors` of `msp_schedule`). Costs do not fall with ends, so the assignment costs no more; and it never takes a slot before
+// a release date, since the jobs fit without.
 ghost use Rattle.std.specs.Prelude.{◌≡◌, ◌<◌, ◌≤◌, length, map, All, IfOk, ⊤};
 ghost use Rattle.msp_instance.specs.declared.ranges.TheConstants.{GREATEST, MOST_JOBS};
 ghost use Rattle.msp_instance.specs.Conditions.{Inner};

@@ -1,4 +1,14 @@
-// Unrelated machines: a least assignment of jobs to positions.
+// Total completion time on unrelated machines, `R||sumC` (Horn 1973; Bruno, Coffman and Sethi 1974).
+//
+// Rule: a job with k jobs behind it on a machine counts k + 1 times in the sum of all ends. So jobs are assigned to positions, a machine
+// and a count of jobs behind, at least cost (`msp_assign`; along a machine the costs of a job never fall, so its positions are a line of
+// columns); each machine runs its jobs by their positions, the last position first, from moment 0 on.
+//
+// Best (`proofs/UnrelatedBest.antt`): in any schedule the jobs stand at positions of their own and cost at least what the assignment costs
+// there; the assignment is least, as its prices show.
+//
+// The prices (`prices`, `solve_with_prices`) are evidence of the cost: they are together what a best schedule costs
+// (`proofs/PositionPrices.antt`, `law_of_prices` of `msp_schedule`).
 ghost use Rattle.std.specs.Prelude.{◌≡◌, ◌++◌, ◌*◌, ◌/◌, ◌<◌, ◌≤◌, length, map, All, IfOk, OnOk, ⊤};
 ghost use Rattle.std.specs.List.{range_with_len};
 ghost use Rattle.msp_instance.specs.declared.ranges.TheConstants.{MOST_JOBS, MOST_MACHINES};
