@@ -164,10 +164,10 @@ fn spell(class: Class) -> ShortText<NAME_ROOM>
 }
 
 /// The canonical spelling of the class. `parse` of its bytes gives the class again.
-pub fn print(class: Class) -> NameText
-    ensures text { result ≡ name_of class }
-    ensures named { NameOf result class }
+pub fn print(c: Class) -> NameText
+    ensures text { result ≡ name_of c }
+    ensures named { NameOf result c }
     ensures longest { length result ≤ 32 }
 {
-    NameText { text: spell(class) }
+    NameText { text: spell(c) }
 }

@@ -1,12 +1,12 @@
 // The words of a name, by the tables of spellings.
-ghost use Rattle.std.specs.Prelude.{◌≡◌};
+ghost use Rattle.std.specs.Prelude.{◌≡◌, drop};
 ghost use Rattle.msp_name.specs.Spellings.{env_texts, item_texts, crit_texts};
 ghost use Rattle.msp_name.specs.Reading.{spelled};
 
 use msp_class::{Crit, Env};
 
 /// What can stand between the bars of a name.
-#[derive(Clone, Copy, Debug, PartialEq, Eq)]
+#[derive(Clone, Copy)]
 pub enum Item {
     Cut,
     Chains,
@@ -35,7 +35,16 @@ pub fn read_env(word: &[u8]) -> Option<Env>
         Some(Env::Q2)
     } else if word == b"Q".as_slice() {
         Some(Env::Q)
-    } else if word == b"R2".as_slice() {
+    } else {
+        read_env_from_6(word)
+    }
+}
+
+#[tactic(auto, unfolding(crate::specs::Spellings::env_texts))]
+fn read_env_from_6(word: &[u8]) -> Option<Env>
+    ensures { result ≡ spelled (drop 6 env_texts) word.now }
+{
+    if word == b"R2".as_slice() {
         Some(Env::R2)
     } else if word == b"R".as_slice() {
         Some(Env::R)
@@ -47,7 +56,16 @@ pub fn read_env(word: &[u8]) -> Option<Env>
         Some(Env::O)
     } else if word == b"F2".as_slice() {
         Some(Env::F2)
-    } else if word == b"F3".as_slice() {
+    } else {
+        read_env_from_12(word)
+    }
+}
+
+#[tactic(auto, unfolding(crate::specs::Spellings::env_texts))]
+fn read_env_from_12(word: &[u8]) -> Option<Env>
+    ensures { result ≡ spelled (drop 12 env_texts) word.now }
+{
+    if word == b"F3".as_slice() {
         Some(Env::F3)
     } else if word == b"F".as_slice() {
         Some(Env::F)
@@ -76,7 +94,16 @@ pub fn read_item(word: &[u8]) -> Option<Item>
         Some(Item::Intree)
     } else if word == b"outtree".as_slice() {
         Some(Item::Outtree)
-    } else if word == b"out-tree".as_slice() {
+    } else {
+        read_item_from_6(word)
+    }
+}
+
+#[tactic(auto, unfolding(crate::specs::Spellings::item_texts))]
+fn read_item_from_6(word: &[u8]) -> Option<Item>
+    ensures { result ≡ spelled (drop 6 item_texts) word.now }
+{
+    if word == b"out-tree".as_slice() {
         Some(Item::Outtree)
     } else if word == b"prec".as_slice() {
         Some(Item::Prec)
@@ -88,7 +115,16 @@ pub fn read_item(word: &[u8]) -> Option<Item>
         Some(Item::Heads)
     } else if word == b"p=1".as_slice() {
         Some(Item::Unit)
-    } else if word == b"p_j=1".as_slice() {
+    } else {
+        read_item_from_12(word)
+    }
+}
+
+#[tactic(auto, unfolding(crate::specs::Spellings::item_texts))]
+fn read_item_from_12(word: &[u8]) -> Option<Item>
+    ensures { result ≡ spelled (drop 12 item_texts) word.now }
+{
+    if word == b"p_j=1".as_slice() {
         Some(Item::Unit)
     } else if word == b"pj=1".as_slice() {
         Some(Item::Unit)
@@ -100,7 +136,16 @@ pub fn read_item(word: &[u8]) -> Option<Item>
         Some(Item::Equal)
     } else if word == b"p_j=p".as_slice() {
         Some(Item::Equal)
-    } else if word == b"pj=p".as_slice() {
+    } else {
+        read_item_from_18(word)
+    }
+}
+
+#[tactic(auto, unfolding(crate::specs::Spellings::item_texts))]
+fn read_item_from_18(word: &[u8]) -> Option<Item>
+    ensures { result ≡ spelled (drop 18 item_texts) word.now }
+{
+    if word == b"pj=p".as_slice() {
         Some(Item::Equal)
     } else if word == b"p_ij=p".as_slice() {
         Some(Item::Equal)
@@ -133,7 +178,16 @@ pub fn read_crit(word: &[u8]) -> Option<Crit>
         Some(Crit::Fmax)
     } else if word == b"f_max".as_slice() {
         Some(Crit::Fmax)
-    } else if word == b"sumC".as_slice() {
+    } else {
+        read_crit_from_6(word)
+    }
+}
+
+#[tactic(auto, unfolding(crate::specs::Spellings::crit_texts))]
+fn read_crit_from_6(word: &[u8]) -> Option<Crit>
+    ensures { result ≡ spelled (drop 6 crit_texts) word.now }
+{
+    if word == b"sumC".as_slice() {
         Some(Crit::SumC)
     } else if word == b"sumC_j".as_slice() {
         Some(Crit::SumC)
@@ -145,7 +199,16 @@ pub fn read_crit(word: &[u8]) -> Option<Crit>
         Some(Crit::SumU)
     } else if word == b"sumU_j".as_slice() {
         Some(Crit::SumU)
-    } else if word == b"sumwU".as_slice() {
+    } else {
+        read_crit_from_12(word)
+    }
+}
+
+#[tactic(auto, unfolding(crate::specs::Spellings::crit_texts))]
+fn read_crit_from_12(word: &[u8]) -> Option<Crit>
+    ensures { result ≡ spelled (drop 12 crit_texts) word.now }
+{
+    if word == b"sumwU".as_slice() {
         Some(Crit::SumWU)
     } else if word == b"sumw_jU_j".as_slice() {
         Some(Crit::SumWU)
