@@ -1,5 +1,5 @@
 // Numbers and pieces, on examples.
-use msp_text::{put, put_integer, put_number, read_number};
+use msp_text::{Part, put, put_all, put_integer, put_number, read_number};
 use std::test::Fail;
 
 #[test]
@@ -9,7 +9,9 @@ fn puts_pieces(rt: HostRuntime) -> Result<(), Fail> {
     assert!(rt; put_integer(&mut out, -14).is_ok());
     assert!(rt; put(&mut out, b"/").is_ok());
     assert!(rt; put_number(&mut out, 30).is_ok());
-    assert_eq!(rt; out.as_slice(), b"cost -14/30".as_slice());
+    let unit = [Part::Text(b" unit "), Part::Integer(-1), Part::Number(2)];
+    assert!(rt; put_all(&mut out, unit.as_slice()).is_ok());
+    assert_eq!(rt; out.as_slice(), b"cost -14/30 unit -12".as_slice());
     Ok(())
 }
 

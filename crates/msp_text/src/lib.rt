@@ -5,7 +5,9 @@
 #![tactic(auto)]
 
 mod number;
+mod parts;
 mod pieces;
 
 pub use number::{Spelled, read_number};
+pub use parts::{Part, put_all};
 pub use pieces::{put, put_integer, put_number};

@@ -7,7 +7,7 @@ ghost use Rattle.std.specs.Str.Parse.{digits_value};
 ghost use Rattle.msp_text.specs.Numbers.{is_natural, is_positive, natural_of, negative_of, number_of, capped};
 
 /// A number as a text spells it. A size beyond its type is the greatest one.
-#[derive(Clone, Copy, Debug, PartialEq, Eq)]
+#[derive(Clone, Copy)]
 pub struct Spelled {
     pub negative: bool,
     pub size: u128,
