@@ -5,7 +5,7 @@ ghost use Rattle.msp_class.specs.Env.{kind_of, fixed_machines, is_shop, is_mirro
 use crate::class::Env;
 
 /// The kinds of machine environments. One machine is the case of one identical machine.
-#[derive(Clone, Copy, Debug, PartialEq, Eq)]
+#[derive(Clone, Copy, PartialEq, Eq)]
 pub enum EnvKind {
     Identical,
     Uniform,
