@@ -20,3 +20,4 @@ pub mod Applied
 pub mod Samples
 pub mod KeyOrder
 pub mod KeyedJobs
+pub mod Halves

@@ -9,3 +9,4 @@ pub mod Row
 pub mod Sizes
 pub mod Stays
 pub mod laws
+pub mod Halving

@@ -11,10 +11,14 @@
 mod answer;
 mod bounds;
 mod copies;
+mod halving;
+#[cfg(test)]
+mod halving_tests;
 mod keeps;
 mod keyed;
 mod last_job;
 mod laws;
+mod question;
 mod reduction;
 mod row;
 mod solver;
@@ -27,10 +31,12 @@ pub use bounds::{
     GREATEST_OPEN_UNIT, GREATEST_RAISE,
 };
 pub use copies::{led, recast};
+pub use halving::{Range, least_in};
 pub use keeps::{KeepsData, KeepsSchedules};
 pub use keyed::{Keyed, job_numbers, jobs_by_key, sort_by_falling_key, sort_by_key};
 pub use last_job::last_place;
 pub use laws::law_of_limits;
+pub use question::Question;
 pub use reduction::Reduction;
 pub use row::{in_a_row, solution_in_order};
 pub use solver::Solver;

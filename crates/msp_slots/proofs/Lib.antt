@@ -6,3 +6,4 @@ pub mod Begins
 pub mod UnitPieces
 pub mod ListSchedules
 pub mod SlotPlaces
+pub mod Places

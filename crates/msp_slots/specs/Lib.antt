@@ -4,3 +4,4 @@ pub mod Earliest
 pub mod Filling
 pub mod ListSchedule
 pub mod Steps
+pub mod Places

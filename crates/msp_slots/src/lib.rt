@@ -7,7 +7,9 @@
 
 mod earliest;
 mod in_order;
+mod laws;
 mod slot;
 
 pub use earliest::{Slot, earliest_slots, releases_of, sorted_releases, starts_of};
 pub use in_order::pieces_in_order;
+pub use laws::law_of_places;

@@ -23,7 +23,7 @@ use Rattle.msp_route.specs.Bounds.{IsAnswer, answer_unit}
 use Rattle.msp_route.proofs.OneEach.{one_each_is_answer}
 use Rattle.msp_threshold.specs.Squeezed.{AreKept, HasTime, squeezed_by, CanMeet, CanBeFree}
 use Rattle.msp_threshold.specs.Search.{IsLowest, number_of, pieces_back}
-use Rattle.msp_threshold.specs.Halving.{IsLeastBound, IsRange}
+use Rattle.msp_route.specs.Halving.{IsLeastBound, IsRange}
 use Rattle.msp_threshold.proofs.Facts.{IsLatenessShop}
 use Rattle.msp_threshold.proofs.Meeting.{own_cost, meets_moments, moments_below}
 use Rattle.msp_threshold.proofs.Law.{free_if_met}
@@ -94,7 +94,7 @@ module _ (i : Instance) (t : IsLatenessShop i) where
   n = length i.jobs
 
   -- ---- the first range
-  pub first_range : (low high : ℤ) → IsLowest i.jobs low → LiesWithin 4000000001 low → CanMeet i high → LiesWithin 5000000000 high → IsRange (CanMeet i) (record { low = low; high = high })
+  pub first_range : (low high : ℤ) → IsLowest i.jobs low → LiesWithin 4000000001 low → CanMeet i high → LiesWithin 5000000000 high → IsRange (CanMeet i) 10000000000 (record { low = low; high = high })
   first_range low high lowest size met small = record {
     met = met;
     least = λ bound met. lowest.least bound (time_if_met i t bound met);
@@ -181,10 +181,33 @@ zero_test x h = ((λ e. sym (to_z-of_z w128 x h) ∙ ap (to_z w128) (eqb-true (o
 pub some_value : {A : Type 0} (P : Type 0) (Q : A → Type 0) (o : Option A) (a : A) → o ≡ Some a → MatchOption o P Q → Q a
 some_value P Q o a e h = subst (λ o. MatchOption o P Q) e h
 
-pub range_at : (i : Instance) → IsLatenessShop i → (jobs : List Job) (low high : ℤ) → jobs ≡ i.jobs → IsLowest jobs low → LiesWithin 4000000001 low → CanMeet i high → LiesWithin 5000000000 high
-    → IsRange (CanMeet i) (record { low = to_z w64 (of_z w64 low); high = to_z w64 (of_z w64 high) })
-range_at i t jobs low high e lowest size met small = subst₂ (λ x y. IsRange (CanMeet i) (record { low = x; high = y })) (sym (to_z-of_z w64 low (small_fits low size))) (sym (to_z-of_z w64 high (met_fits high small)))
+-- a small bound of 128 bits is one of 64
+pub narrow_is : (x : ℤ) → LiesWithin 10000000000 x → to_z w64 (of_z w64 (to_z w128 (of_z w128 x))) ≡ x
+narrow_is x h = ap (λ y. to_z w64 (of_z w64 y)) (to_z-of_z w128 x (wide x h)) ∙ to_z-of_z w64 x (narrow x h)
+  where
+    wide : (x : ℤ) → LiesWithin 10000000000 x → FitsSigned w128 x
+    wide x h = omega (arith, ints, h.0, h.1)
+
+    narrow : (x : ℤ) → LiesWithin 10000000000 x → FitsSigned w64 x
+    narrow x h = omega (arith, ints, h.0, h.1)
+
+pub range_at : (i : Instance) → IsLatenessShop i → (jobs : List Job) (low high wide_low wide_high : ℤ) → jobs ≡ i.jobs → wide_low ≡ to_z w64 (of_z w64 low) → wide_high ≡ to_z w64 (of_z w64 high)
+    → IsLowest jobs low → LiesWithin 4000000001 low → CanMeet i high → LiesWithin 5000000000 high
+    → IsRange (CanMeet i) 10000000000 (record { low = to_z w128 (of_z w128 wide_low); high = to_z w128 (of_z w128 wide_high) })
+range_at i t jobs low high wide_low wide_high e f g lowest size met small =
+    subst₂ (λ x y. IsRange (CanMeet i) 10000000000 (record { low = x; high = y }))
+    (sym (ap (λ x. to_z w128 (of_z w128 x)) (f ∙ to_z-of_z w64 low (low_fits low size)) ∙ to_z-of_z w128 low (low_wide low size)))
+    (sym (ap (λ x. to_z w128 (of_z w128 x)) (g ∙ to_z-of_z w64 high (met_fits high small)) ∙ to_z-of_z w128 high (met_wide high small)))
     (first_range i t low high (subst (λ js. IsLowest js low) e lowest) size met small)
   where
+    low_fits : (x : ℤ) → LiesWithin 4000000001 x → FitsSigned w64 x
+    low_fits x h = omega (arith, ints, h.0, h.1)
+
+    low_wide : (x : ℤ) → LiesWithin 4000000001 x → FitsSigned w128 x
+    low_wide x h = omega (arith, ints, h.0, h.1)
+
     met_fits : (x : ℤ) → LiesWithin 5000000000 x → FitsSigned w64 x
     met_fits x h = omega (arith, ints, h.0, h.1)
+
+    met_wide : (x : ℤ) → LiesWithin 5000000000 x → FitsSigned w128 x
+    met_wide x h = omega (arith, ints, h.0, h.1)

@@ -6,4 +6,3 @@ mod Seated
 mod Law
 mod BackMeets
 mod Bounds
-mod Halves

@@ -1,5 +1,4 @@
 pub mod Limits
 pub mod Squeezed
 pub mod Search
-pub mod Halving
 pub mod laws

@@ -16,11 +16,7 @@
 
 mod back;
 mod by_due_date;
-mod halving;
-#[cfg(test)]
-mod halving_tests;
 mod kept;
-mod question;
 mod search;
 mod squeezing;
 

@@ -6,18 +6,16 @@ ghost use Rattle.msp_schedule.specs.Cost.{IsBest, Best, cost_of};
 ghost use Rattle.msp_route.specs.Bounds.{IsAnswer};
 ghost use Rattle.msp_threshold.specs.Squeezed.{lateness_class, late_count_class, greatest_bound, CanMeet, HoldsSqueezed};
 ghost use Rattle.msp_threshold.specs.Search.{CanAsk, IsLowest};
-ghost use Rattle.msp_threshold.specs.Halving.{IsLeastBound, IsRange};
+ghost use Rattle.msp_route.specs.Halving.{IsLeastBound, IsRange};
 ghost use Rattle.msp_threshold.specs.laws.Rising.{CanMeet-rises};
 
 use crate::back::pieces_back;
 use crate::by_due_date::met_bound;
-use crate::halving::{Range, least_in};
 use crate::kept::kept_moments;
-use crate::question::Question;
 use crate::squeezing::{squeezed, squeezed_at};
 use msp_class::{Class, Crit, Env, NoMemory, Order, Times};
 use msp_instance::{Instance, Job};
-use msp_route::Solver;
+use msp_route::{Question, Range, Solver, least_in};
 use msp_schedule::{Frac, Schedule, Solution};
 use std::alloc::Global;
 
@@ -59,11 +57,14 @@ fn lowest_bound(jobs: &[Job]) -> i64
 fn first_range(alloc: Global, inst: &Instance) -> Result<Range, NoMemory>
     requires inner { Inner inst.now }
     requires class { inst.now.class ≡ lateness_class }
-    ensures { IfOk result (IsRange (CanMeet inst.now)) }
+    ensures { IfOk result (IsRange (CanMeet inst.now) greatest_bound) }
 {
     let low = lowest_bound(inst.jobs.as_slice());
     let high = met_bound(alloc, inst, low)?;
-    Ok(Range { low, high })
+    Ok(Range {
+        low: i128::from(low),
+        high: i128::from(high),
+    })
 }
 
 /// Whether some schedule of the instance meets a bound, asked of a solver of the number of late jobs.
@@ -76,10 +77,12 @@ struct LateJobs<'a, S: Solver> {
 impl<'a, S: Solver> Question for LateJobs<'a, S> {
     ghost may_ask = { λ q. CanAsk (S.solved q.inner.now) (S.can_solve q.inner.now) q.inst.now };
 
+    ghost limit = { λ _. greatest_bound };
+
     ghost met = { λ q. CanMeet q.inst.now };
 
-    fn ask(&self, alloc: Global, bound: i64) -> Result<bool, NoMemory> {
-        match squeezed(alloc, self.inst, bound)? {
+    fn ask(&self, alloc: Global, bound: i128) -> Result<bool, NoMemory> {
+        match squeezed(alloc, self.inst, bound as i64)? {
             None => Ok(false),
             Some(lower) => {
                 let solution = self.inner.solve(alloc, &lower)?;
@@ -101,7 +104,8 @@ fn least_bound<S: Solver>(inner: &S, alloc: Global, inst: &Instance) -> Result<i
     ensures small { IfOk result (LiesWithin greatest_bound) }
 {
     let range = first_range(alloc, inst)?;
-    least_in(&LateJobs { inner, inst }, alloc, range)
+    let least = least_in(&LateJobs { inner, inst }, alloc, range)?;
+    Ok(least as i64)
 }
 
 /// A schedule that meets the least bound.

@@ -1,11 +1,10 @@
 use Rattle.std.proofs.Common.{rules, All, to_z, of_z, ap, sym, subst}
 use Rattle.std.specs.Prelude.{IfSome, ◌↔◌}
-use Rattle.std.specs.Int.{w64}
-use Rattle.std.proofs.lemmas.Int.{to_z-of_z}
+use Rattle.std.specs.Int.{w64, w128}
 use Rattle.msp_instance.specs.Conditions.{InClass, LiesWithin}
 use Rattle.msp_instance.proofs.Limits.{Inner-from_class}
 use Rattle.msp_threshold.specs.Squeezed.{HasTime, IsSqueezed, CanMeet, CanBeFree}
-use Rattle.msp_threshold.proofs.Bounds.{some_value, free_by_cost, zero_test}
+use Rattle.msp_threshold.proofs.Bounds.{some_value, free_by_cost, zero_test, narrow_is}
 use Rattle.msp_threshold.proofs.search.LateJobsQuestion.ask.Goals as goal
 
 pub solve-requires-clause-inner : goal.solve-requires-clause-inner
@@ -14,17 +13,17 @@ solve-requires-clause-inner g c = Inner-from_class c.in-Some.lower (subst (λ o.
 pub solve-requires-clause-fits : goal.solve-requires-clause-fits
 solve-requires-clause-fits g c =
     let i = c.args.self.now.inst.now in
-    let b = to_z w64 (of_z w64 c.args.bound) in
-    c.requires.asked.fits b c.in-Some.lower (subst (LiesWithin 10000000000) (sym (to_z-of_z w64 c.args.bound c.ranges.bound)) c.requires.bound) (some_value (All (HasTime b) i.jobs → ⊥) (IsSqueezed i b) c.in_ok-squeezed.field-0 c.in-Some.lower c.in-Some.is c.in_ok-squeezed.ensures.value)
+    let b = to_z w64 (of_z w64 (to_z w128 (of_z w128 c.args.bound))) in
+    c.requires.asked.fits b c.in-Some.lower (subst (LiesWithin 10000000000) (sym (narrow_is c.args.bound c.requires.bound)) c.requires.bound) (some_value (All (HasTime b) i.jobs → ⊥) (IsSqueezed i b) c.in_ok-squeezed.field-0 c.in-Some.lower c.in-Some.is c.in_ok-squeezed.ensures.value)
 
 pub returns-in_ok-solution-in-Some : goal.returns-in_ok-solution-in-Some
 returns-in_ok-solution-in-Some g c =
     let i = c.args.self.now.inst.now in
-    let b = to_z w64 (of_z w64 c.args.bound) in
+    let b = to_z w64 (of_z w64 (to_z w128 (of_z w128 c.args.bound))) in
     let lower = c.in-Some.lower in
     let s = c.in_ok-solution-in-Some.solution in
     let squeezed = some_value (All (HasTime b) i.jobs → ⊥) (IsSqueezed i b) c.in_ok-squeezed.field-0 lower c.in-Some.is c.in_ok-squeezed.ensures.value in
     let test = zero_test s.cost.num (search rules) in
     let free = free_by_cost lower (ap (λ l. l.class.crit) squeezed.value) s.schedule c.in_ok-solution-in-Some.ensures.best.best s.cost c.in_ok-solution-in-Some.ensures.best.cost in
-    let law = subst (λ x. CanBeFree lower ↔ CanMeet i x) (to_z-of_z w64 c.args.bound c.ranges.bound) (some_value (CanMeet i b → ⊥) (λ l. CanBeFree l ↔ CanMeet i b) c.in_ok-squeezed.field-0 lower c.in-Some.is c.in_ok-squeezed.ensures.law) in
+    let law = subst (λ x. CanBeFree lower ↔ CanMeet i x) (narrow_is c.args.bound c.requires.bound) (some_value (CanMeet i b → ⊥) (λ l. CanBeFree l ↔ CanMeet i b) c.in_ok-squeezed.field-0 lower c.in-Some.is c.in_ok-squeezed.ensures.law) in
     ((λ e. law.0 (free.0 (test.0 e))), (λ m. test.1 (free.1 (law.1 m))))

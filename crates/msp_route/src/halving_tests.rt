@@ -1,8 +1,7 @@
 // The halving, asked about a plain number: from public calls its loop does not run.
-ghost use Rattle.std.specs.Prelude.{◌≤ℤ◌, ⊤};
+ghost use Rattle.std.specs.Prelude.{◌^◌, ◌≤ℤ◌, ⊤};
 ghost use Rattle.msp_instance.specs.Conditions.{LiesWithin};
 ghost use Rattle.msp_class.proofs.IntegerRing.{≤ℤ_trans};
-ghost use Rattle.msp_threshold.specs.Squeezed.{greatest_bound};
 
 use crate::halving::{Range, least_in};
 use crate::question::Question;
@@ -14,16 +13,18 @@ use std::test::Fail;
 /// Bounds from `least` on are met. It counts how often it is asked.
 #[derive(Drop)]
 struct FromNumber {
-    least: i64,
+    least: i128,
     count: Cell<u32>,
 }
 
 impl Question for FromNumber {
     ghost may_ask = { λ _. ⊤ };
 
+    ghost limit = { λ _. 10 ^ 10 };
+
     ghost met = { λ q bound. q.least ≤ℤ bound };
 
-    fn ask(&self, _alloc: Global, bound: i64) -> Result<bool, NoMemory> {
+    fn ask(&self, _alloc: Global, bound: i128) -> Result<bool, NoMemory> {
         self.count.set(self.count.get().wrapping_add(1));
         Ok(self.least <= bound)
     }
@@ -32,11 +33,11 @@ impl Question for FromNumber {
 }
 
 /// The least bound of the range that is met, and how many were asked about.
-fn searched(alloc: Global, low: i64, high: i64, least: i64) -> Result<(i64, u32), NoMemory>
+fn searched(alloc: Global, low: i128, high: i128, least: i128) -> Result<(i128, u32), NoMemory>
     requires low { low ≤ℤ least }
     requires high { least ≤ℤ high }
-    requires small_low { LiesWithin greatest_bound low }
-    requires small_high { LiesWithin greatest_bound high }
+    requires small_low { LiesWithin (10 ^ 10) low }
+    requires small_high { LiesWithin (10 ^ 10) high }
 {
     let question = FromNumber {
         least,

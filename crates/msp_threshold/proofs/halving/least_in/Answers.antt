@@ -1,9 +1,0 @@
-use Rattle.std.proofs.Common.{rules}
-use Rattle.msp_threshold.proofs.Halves.{least_at, small_at}
-use Rattle.msp_threshold.proofs.halving.least_in.Goals as goal
-
-pub returns-clause-least : goal.returns-clause-least
-returns-clause-least g c = least_at (g.Q.Question.met c.args.question.now) c.loop-range.range c.loop-range.invariant (search rules)
-
-pub returns-clause-small : goal.returns-clause-small
-returns-clause-small g c = small_at c.loop-range.range.high c.loop-range.invariant.high
