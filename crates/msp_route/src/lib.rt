@@ -12,8 +12,6 @@ mod answer;
 mod bounds;
 mod copies;
 mod halving;
-#[cfg(test)]
-mod halving_tests;
 mod keeps;
 mod keyed;
 mod last_job;

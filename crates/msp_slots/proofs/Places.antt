@@ -135,8 +135,12 @@ spread m v true inside = sym (total_below-only m (λ _. 1) v (inside refl))
 pub injected : (n m : ℕ) (test : ℕ → Bool) (value : ℕ → ℕ) → ((j : ℕ) → j < n → test j ≡ true → value j < m)
     → ((a b : ℕ) → a < n → b < n → test a ≡ true → test b ≡ true → value a ≡ value b → a ≡ b) → total_below n (λ j. one_if (test j)) ≤ m
 injected n m test value inside once =
-    omega (arith, total_below-same n (λ j. one_if (test j)) (λ j. total_below m (λ y. one_if (at_value test value j y))) (λ j l. spread m (value j) (test j) (inside j l)),
-    total_below-exchange n m (λ j y. one_if (at_value test value j y)), total_below-bound m 1 (λ y. total_below n (λ j. one_if (at_value test value j y))) (λ y _. column y))
+    omega (
+      arith,
+      total_below-same n (λ j. one_if (test j)) (λ j. total_below m (λ y. one_if (at_value test value j y))) (λ j l. spread m (value j) (test j) (inside j l)),
+      total_below-exchange n m (λ j y. one_if (at_value test value j y)),
+      total_below-bound m 1 (λ y. total_below n (λ j. one_if (at_value test value j y))) (λ y _. column y),
+    )
   where
     column : (y : ℕ) → total_below n (λ j. one_if (at_value test value j y)) ≤ 1
     column y = one_passes n (λ j. at_value test value j y) (λ a b k l s t.
@@ -330,7 +334,7 @@ module _ (l : Limits) (i : Instance) (s : Schedule) (kind : IsEither (kind_of i.
   places : ArePlaces i (place_of n number)
   places = record {
     few = λ x. injected n i.machines (λ j. eqb (place_of n number j) x) machine (λ j b _. inside j b)
-      (λ a b k m u v e. alone a b k m e (same_number n number a b k m (eqb-true (place_of n number a) x u ∙ sym (eqb-true (place_of n number b) x v))));
+        (λ a b k m u v e. alone a b k m e (same_number n number a b k m (eqb-true (place_of n number a) x u ∙ sym (eqb-true (place_of n number b) x v))));
     forward = λ k d b. forward (get_or i.arcs k d) (c.ends k d b) (f.arc k d b);
     early = λ j b. place_early n number j b;
   }

@@ -22,6 +22,8 @@ mod definitions;
 #[cfg(test)]
 mod generated;
 #[cfg(test)]
+mod halving;
+#[cfg(test)]
 mod instances;
 #[cfg(test)]
 mod job_names;

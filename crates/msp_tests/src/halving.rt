@@ -1,11 +1,10 @@
-// The halving, asked about a plain number: from public calls its loop does not run.
+// The halving, asked about a plain number: from public calls of solvers its loop does not run.
 ghost use Rattle.std.specs.Prelude.{◌^◌, ◌≤ℤ◌, ⊤};
 ghost use Rattle.msp_instance.specs.Conditions.{LiesWithin};
 ghost use Rattle.msp_class.proofs.IntegerRing.{≤ℤ_trans};
 
-use crate::halving::{Range, least_in};
-use crate::question::Question;
 use msp_class::NoMemory;
+use msp_route::{Question, Range, least_in};
 use std::alloc::Global;
 use std::cell::Cell;
 use std::test::Fail;
