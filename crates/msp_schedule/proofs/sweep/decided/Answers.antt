@@ -4,7 +4,7 @@ use Rattle.std.proofs.lemmas.Int.{to_z-of_z}
 use Rattle.std.specs.Int.{w128}
 use Rattle.msp_instance.specs.Instance.{job_at}
 use Rattle.msp_instance.specs.Conditions.{LiesWithin}
-use Rattle.msp_schedule.specs.declared.breaks.Break.TheVariants.{Job, Release, Arc, Route, Work}
+use Rattle.msp_schedule.specs.declared.breaks.Break.TheVariants.{Span, Place, Machine, Job, Release, Arc, Route, Work}
 use Rattle.msp_schedule.specs.Works.{AreSmallTimes, LacksWorkAmong}
 use Rattle.msp_schedule.specs.Within.{Within, greatest_scaled}
 use Rattle.msp_schedule.specs.Feasible.{Feasible}
@@ -13,6 +13,15 @@ use Rattle.msp_schedule.proofs.costs.Small.{small_releases, small_times}
 use Rattle.msp_schedule.proofs.judging.FirstBreaks.{first_of, first_release_at, first_work_at, feasible_if_kept, up_to_none, up_to_span, up_to_place, up_to_machine, up_to_job, up_to_release_at, up_to_arc, up_to_route, up_to_work_at, with_pieces, same_schedule}
 use Rattle.msp_schedule.proofs.judging.SweepFacts.{none_is}
 use Rattle.msp_schedule.proofs.sweep.decided.Goals as goal
+
+pub returns-in-Some : goal.returns-in-Some
+returns-in-Some c = subst (λ t. IsFirstBreak c.args.inst.now t (Span c.in-Some.piece)) (same_schedule c.args.s.now c.as_slice-pieces.result.now c.as_slice-pieces.ensures) (first_of c.args.inst.now (with_pieces c.args.s.now c.as_slice-pieces.result.now) (Span c.in-Some.piece) (up_to_none c.args.inst.now (with_pieces c.args.s.now c.as_slice-pieces.result.now)) c.in-Some.ensures.some)
+
+pub returns-in-Some-first_misplaced : goal.returns-in-Some-first_misplaced
+returns-in-Some-first_misplaced c = subst (λ t. IsFirstBreak c.args.inst.now t (Place c.in-Some-first_misplaced.piece)) (same_schedule c.args.s.now c.as_slice-pieces.result.now c.as_slice-pieces.ensures) (first_of c.args.inst.now (with_pieces c.args.s.now c.as_slice-pieces.result.now) (Place c.in-Some-first_misplaced.piece) (up_to_span c.args.inst.now (with_pieces c.args.s.now c.as_slice-pieces.result.now) (up_to_none c.args.inst.now (with_pieces c.args.s.now c.as_slice-pieces.result.now)) (c.in_default.ensures.none refl)) c.in-Some-first_misplaced.ensures.some)
+
+pub returns-in-Some-2 : goal.returns-in-Some-2
+returns-in-Some-2 c = subst (λ t. IsFirstBreak c.args.inst.now t (Machine c.in-Some-2.first c.in-Some-2.second)) (same_schedule c.args.s.now c.as_slice-pieces.result.now c.as_slice-pieces.ensures) (first_of c.args.inst.now (with_pieces c.args.s.now c.as_slice-pieces.result.now) (Machine c.in-Some-2.first c.in-Some-2.second) (up_to_place c.args.inst.now (with_pieces c.args.s.now c.as_slice-pieces.result.now) (up_to_span c.args.inst.now (with_pieces c.args.s.now c.as_slice-pieces.result.now) (up_to_none c.args.inst.now (with_pieces c.args.s.now c.as_slice-pieces.result.now)) (c.in_default.ensures.none refl)) (c.in_default-first_misplaced.ensures.none refl)) (subst (λ r. IfSome r (λ pair. IsFirstOverlap (λ p. p.machine) c.as_slice-pieces.result.now pair.0 pair.1)) c.in-Some-2.is c.in_ok-first.ensures.some))
 
 pub returns-in-Some-3 : goal.returns-in-Some-3
 returns-in-Some-3 c = subst (λ t. IsFirstBreak c.args.inst.now t (Job c.in-Some-3.first c.in-Some-3.second)) (same_schedule c.args.s.now c.as_slice-pieces.result.now c.as_slice-pieces.ensures) (first_of c.args.inst.now (with_pieces c.args.s.now c.as_slice-pieces.result.now) (Job c.in-Some-3.first c.in-Some-3.second) (up_to_machine c.args.inst.now (with_pieces c.args.s.now c.as_slice-pieces.result.now) (up_to_place c.args.inst.now (with_pieces c.args.s.now c.as_slice-pieces.result.now) (up_to_span c.args.inst.now (with_pieces c.args.s.now c.as_slice-pieces.result.now) (up_to_none c.args.inst.now (with_pieces c.args.s.now c.as_slice-pieces.result.now)) (c.in_default.ensures.none refl)) (c.in_default-first_misplaced.ensures.none refl)) (c.in_ok-first.ensures.none (none_is _ c.in_default-2.is))) (subst (λ r. IfSome r (λ pair. IsFirstOverlap (λ p. p.job) c.as_slice-pieces.result.now pair.0 pair.1)) c.in-Some-3.is c.in_ok-first-2.ensures.some))
