@@ -1,4 +1,4 @@
--- Fields as they are printed one after the other: each behind a space.
+-- Fields as they are printed one after the other: each behind a space. No public contract cites this file.
 use Rattle.std.specs.Prelude.{ℕ, List, ◌∷◌}
 use Rattle.std.specs.List.{flat_map}
 use Rattle.msp_text.specs.Bytes.{space_byte}

@@ -2,7 +2,7 @@
 //!
 //! It stands on `msp_text`, `msp_name`, `msp_job_name`, `msp_instance` and `msp_schedule`. The layers above use the definitions: that
 //! bytes are a text of an instance (`IsInstanceText`), and the text of a schedule (`schedule_text`); that `print_instance` and
-//! `print_schedule` give exactly `instance_text` and `schedule_text`, the first of which is then an instance text; that `put_schedule`,
+//! `print_schedule` give exactly `instance_text` and `schedule_text`, the first of which is then an instance text; that
 //! `put_fraction` and `put_name` put their text at the end of another one; and, for the readers, which lines and keys the texts of a class
 //! have.
 //!
@@ -36,4 +36,4 @@ pub use lines::line::{
 pub use lines::name::{job_name_at, known_at};
 pub use lines::number::{integer_at, natural_at, ordinal_at, signed_at, wide_at};
 pub use lines::place::Lines;
-pub use schedule_printer::{print_schedule, put_fraction, put_name, put_schedule};
+pub use schedule_printer::{print_schedule, put_fraction, put_name};

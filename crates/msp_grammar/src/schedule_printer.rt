@@ -1,18 +1,19 @@
 // The printer of schedule texts.
-ghost use Rattle.std.specs.Prelude.{◌≡◌, ◌+◌, ◌++◌, OnOk, IfOk, decimal};
+ghost use Rattle.std.specs.Prelude.{◌≡◌, ◌+◌, ◌++◌, OnOk, OnErr, IfOk, decimal};
 ghost use Rattle.std.specs.Fmt.{signed_decimal};
 ghost use Rattle.msp_schedule.specs.Fraction.{IsLowest};
-ghost use Rattle.msp_grammar.specs.ScheduleText.{space, name_at, fraction_text, piece_line, piece_lines, cost_line, unit_line, schedule_text, IsStated, IsScheduleText};
+ghost use Rattle.msp_grammar.specs.ScheduleText.{space, line_feed, name_at, fraction_text, piece_line, piece_lines, cost_line, unit_line, schedule_text, IsStated, IsScheduleText};
 
 use msp_class::NoMemory;
 use msp_job_name::Names;
 use msp_schedule::{Frac, Piece, Schedule, Solution};
-use msp_text::{put, put_integer, put_number};
+use msp_text::{Part, put, put_all, put_integer};
 use std::alloc::Global;
 
 /// Puts the name of the job of a number, from 0.
 pub fn put_name(out: &mut Vec<u8>, names: &Names, job: u32) -> Result<(), NoMemory>
-    ensures { OnOk result (out.new.items ≡ out.old.items ++ name_at names.now job) }
+    ensures added { OnOk result (out.new.items ≡ out.old.items ++ name_at names.now job) }
+    ensures refused { OnErr result (out.new.items ≡ out.old.items) }
 {
     match names.get(job as usize) {
         Some(name) => put(out, name.bytes()),
@@ -22,32 +23,44 @@ pub fn put_name(out: &mut Vec<u8>, names: &Names, job: u32) -> Result<(), NoMemo
 
 /// Puts a fraction: its numerator and, where it is not 1, its denominator.
 pub fn put_fraction(out: &mut Vec<u8>, fraction: Frac) -> Result<(), NoMemory>
-    ensures { OnOk result (out.new.items ≡ out.old.items ++ fraction_text fraction) }
+    ensures added { OnOk result (out.new.items ≡ out.old.items ++ fraction_text fraction) }
+    ensures refused { OnErr result (out.new.items ≡ out.old.items) }
 {
-    put_integer(out, fraction.num)?;
     if fraction.den == 1 {
-        return Ok(());
+        return put_integer(out, fraction.num);
     }
-    put(out, b"/")?;
-    put_integer(out, fraction.den)
+    let parts = [
+        Part::Integer(fraction.num),
+        Part::Text(b"/"),
+        Part::Integer(fraction.den),
+    ];
+    put_all(out, &parts)
 }
 
 fn put_place(out: &mut Vec<u8>, names: &Names, piece: Piece) -> Result<(), NoMemory>
-    ensures { OnOk result (out.new.items ≡ out.old.items ++ (name_at names.now piece.job ++ space ++ decimal (piece.op + 1) ++ space ++ decimal (piece.machine + 1))) }
+    ensures { OnOk result (out.new.items ≡ out.old.items ++ (name_at names.now piece.job ++ space ++ decimal (piece.op + 1) ++ space ++ decimal (piece.machine + 1) ++ space)) }
 {
     put_name(out, names, piece.job)?;
-    put(out, b" ")?;
-    put_number(out, piece.op as u64 + 1)?;
-    put(out, b" ")?;
-    put_number(out, piece.machine as u64 + 1)
+    let parts = [
+        Part::Text(b" "),
+        Part::Number(piece.op as u64 + 1),
+        Part::Text(b" "),
+        Part::Number(piece.machine as u64 + 1),
+        Part::Text(b" "),
+    ];
+    put_all(out, &parts)
 }
 
 fn put_span(out: &mut Vec<u8>, piece: Piece) -> Result<(), NoMemory>
-    ensures { OnOk result (out.new.items ≡ out.old.items ++ (signed_decimal piece.from ++ space ++ signed_decimal piece.to)) }
+    ensures { OnOk result (out.new.items ≡ out.old.items ++ (signed_decimal piece.from ++ space ++ signed_decimal piece.to ++ line_feed)) }
 {
-    put_integer(out, piece.from)?;
-    put(out, b" ")?;
-    put_integer(out, piece.to)
+    let parts = [
+        Part::Integer(piece.from),
+        Part::Text(b" "),
+        Part::Integer(piece.to),
+        Part::Text(b"\n"),
+    ];
+    put_all(out, &parts)
 }
 
 #[tactic(auto, unfolding(crate::specs::ScheduleText::piece_line))]
@@ -56,9 +69,7 @@ fn put_piece(out: &mut Vec<u8>, names: &Names, piece: Piece) -> Result<(), NoMem
 {
     put(out, b"piece ")?;
     put_place(out, names, piece)?;
-    put(out, b" ")?;
-    put_span(out, piece)?;
-    put(out, b"\n")
+    put_span(out, piece)
 }
 
 fn put_pieces(out: &mut Vec<u8>, names: &Names, pieces: &[Piece]) -> Result<(), NoMemory>
@@ -83,14 +94,13 @@ fn put_cost(out: &mut Vec<u8>, cost: Frac) -> Result<(), NoMemory>
 fn put_unit(out: &mut Vec<u8>, unit: i128) -> Result<(), NoMemory>
     ensures { OnOk result (out.new.items ≡ out.old.items ++ unit_line unit) }
 {
-    put(out, b"unit ")?;
-    put_integer(out, unit)?;
-    put(out, b"\n")
+    let parts = [Part::Text(b"unit "), Part::Integer(unit), Part::Text(b"\n")];
+    put_all(out, &parts)
 }
 
 /// Puts the text of a schedule and its cost.
 #[tactic(auto, unfolding(crate::specs::ScheduleText::schedule_text))]
-pub fn put_schedule(
+fn put_schedule(
     out: &mut Vec<u8>,
     names: &Names,
     schedule: &Schedule,

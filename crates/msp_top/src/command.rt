@@ -32,7 +32,7 @@ pub enum Command {
 pub const GREATEST_SEED: u32 = (SEEDS - 1) as u32;
 
 /// A trial: an instance of a class, with so many jobs, is made from a seed and solved.
-#[derive(Clone, Copy, Debug, PartialEq, Eq)]
+#[derive(Clone, Copy)]
 pub struct Trial {
     pub class: Class,
     pub jobs: u32,

@@ -16,7 +16,7 @@ use msp_name::{NameFault, print};
 use msp_results::ResultFault;
 
 /// What a note says.
-#[derive(Clone, Copy, Debug, PartialEq, Eq)]
+#[derive(Clone, Copy)]
 pub enum Note {
     Usage(Misfit),
     /// The input has more bytes than this.

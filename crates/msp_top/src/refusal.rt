@@ -17,7 +17,7 @@ use msp_io::{Taken, WriteFault};
 use msp_results::ResultFault;
 
 /// The status of a call that gives no report, and the note to be told.
-#[derive(Clone, Copy, Debug, PartialEq, Eq)]
+#[derive(Clone, Copy)]
 pub struct Refusal {
     pub status: u8,
     pub note: Note,

@@ -14,7 +14,7 @@ use msp_name::{NameFault, parse};
 use std::alloc::Global;
 
 /// Why words ask for no command. A place of a word counts from 1.
-#[derive(Clone, Copy, Debug, PartialEq, Eq)]
+#[derive(Clone, Copy)]
 pub enum Misfit {
     /// They have not the form of a command.
     Form,

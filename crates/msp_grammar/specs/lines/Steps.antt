@@ -1,4 +1,4 @@
--- What the functions that read say: that they read as the definitions do, unless memory runs out. No public contract cites this file.
+-- What the functions that read say: that they read as the definitions do, unless memory runs out.
 use Rattle.std.specs.Prelude.{◌≡◌, ℕ, ℤ, ◌^◌, ◌==◌, Bool, true, false, List, [], ◌∷◌, Result, Ok, Err}
 use Rattle.std.specs.List.{slice_split}
 use Rattle.msp_grammar.specs.declared.lines.fault.FileFault.{FileFault}

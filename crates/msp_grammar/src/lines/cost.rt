@@ -1,8 +1,9 @@
 // Costs, and the bounds of certificates.
-ghost use Rattle.std.specs.Prelude.{◌≡◌, ◌≤◌, ℤ};
+ghost use Rattle.std.specs.Prelude.{◌≡◌, ◌≢◌, ◌≤◌, IfErr, ℤ};
 ghost use Rattle.msp_text.specs.Bytes.{slash_byte};
 ghost use Rattle.msp_text.specs.Numbers.{capped};
 ghost use Rattle.msp_grammar.specs.declared.limits.TheConstants.{GREATEST_COST};
+ghost use Rattle.msp_grammar.specs.declared.lines.fault.FileFault.TheVariants.{Memory};
 ghost use Rattle.msp_grammar.specs.lines.Answers.{Gives};
 ghost use Rattle.msp_grammar.specs.lines.Costs.{number_at, denominator_at, cost_of, cost_in, cost_line_at};
 ghost use Rattle.msp_grammar.specs.lines.Steps.{Moves, spelled_as, parts_of, place_of, parts_after};
@@ -16,7 +17,8 @@ use msp_schedule::Frac;
 use msp_text::{Spelled, read_number};
 
 fn number_at(at: u32, field: &[u8]) -> Result<Spelled, FileFault>
-    ensures { result ≡ spelled_as (number_at at field.now) }
+    ensures read { result ≡ spelled_as (number_at at field.now) }
+    ensures fault { IfErr result (λ e. e ≢ Memory) }
 {
     match read_number(field) {
         Some(number) => Ok(number),
@@ -26,7 +28,8 @@ fn number_at(at: u32, field: &[u8]) -> Result<Spelled, FileFault>
 
 /// The denominator behind the first `/`. It is 1 where there is none.
 fn denominator_at(at: u32, rest: &[u8]) -> Result<Spelled, FileFault>
-    ensures { result ≡ spelled_as (denominator_at at (parts_after slash_byte rest.now)) }
+    ensures read { result ≡ spelled_as (denominator_at at (parts_after slash_byte rest.now)) }
+    ensures fault { IfErr result (λ e. e ≢ Memory) }
 {
     match rest {
         [] => Ok(Spelled {
@@ -51,7 +54,8 @@ fn cost_of(
     denominator: Spelled,
 ) -> Result<Frac, FileFault>
     requires { greatest ≤ GREATEST_COST }
-    ensures { (x y : ℤ) → numerator ≡ capped x → denominator ≡ capped y → Gives parts_of result (cost_of greatest at x y) }
+    ensures gives { (x y : ℤ) → numerator ≡ capped x → denominator ≡ capped y → Gives parts_of result (cost_of greatest at x y) }
+    ensures fault { IfErr result (λ e. e ≢ Memory) }
 {
     let limit = Err(FileFault::Limit {
         at,
@@ -76,7 +80,8 @@ fn cost_of(
 #[tactic(auto, unfolding(crate::specs::lines::Costs::cost_in), using(crate::proofs::reading::CostReading::cost_rules))]
 fn cost_in(greatest: u128, at: u32, field: &[u8]) -> Result<Frac, FileFault>
     requires { greatest ≤ GREATEST_COST }
-    ensures { Gives parts_of result (cost_in greatest at field.now) }
+    ensures gives { Gives parts_of result (cost_in greatest at field.now) }
+    ensures fault { IfErr result (λ e. e ≢ Memory) }
 {
     let (top, rest) = split_first(field, b'/');
     match number_at(at, top) {
@@ -92,7 +97,8 @@ fn cost_in(greatest: u128, at: u32, field: &[u8]) -> Result<Frac, FileFault>
 #[tactic(auto, unfolding(crate::specs::lines::Costs::cost_line_at))]
 pub fn cost_line_at(lines: &mut Lines<'_>, word: &[u8], greatest: u128) -> Result<Frac, FileFault>
     requires { greatest ≤ GREATEST_COST }
-    ensures { Moves parts_of result (place_of lines.new) (cost_line_at word.now greatest (place_of lines.old)) }
+    ensures moves { Moves parts_of result (place_of lines.new) (cost_line_at word.now greatest (place_of lines.old)) }
+    ensures fault { IfErr result (λ e. e ≢ Memory) }
 {
     let at = lines.at;
     let field = field_line_at(lines, word)?;

@@ -1,8 +1,9 @@
 // Lines and fields.
-ghost use Rattle.std.specs.Prelude.{◌≡◌, ◌∷◌, [], ◌<◌, ◌≤◌, length, position, count_by, ◌==◌, false, IfOk, OnOk, MatchOption, MatchResult, Ok};
+ghost use Rattle.std.specs.Prelude.{◌≡◌, ◌≢◌, ◌∷◌, [], ◌<◌, ◌≤◌, length, position, count_by, ◌==◌, false, IfOk, IfErr, OnOk, MatchOption, MatchResult, Ok};
 ghost use Rattle.std.specs.List.{slice_split};
 ghost use Rattle.msp_class.specs.declared.list.TheConstants.{PLACES};
 ghost use Rattle.msp_text.specs.Bytes.{space_byte};
+ghost use Rattle.msp_grammar.specs.declared.lines.fault.FileFault.TheVariants.{Memory};
 ghost use Rattle.msp_grammar.specs.lines.Reading.{line_at, worded_at, word_line_at, field_line_at, fields_of, first_of, others_of, number_line_at, last_at};
 ghost use Rattle.msp_grammar.specs.lines.Answers.{Fails, Gives};
 ghost use Rattle.msp_grammar.specs.lines.Steps.{Moves, place_of, parts_after, fields_after};
@@ -64,6 +65,7 @@ fn count_spaces(bytes: &[u8]) -> usize
 #[tactic(auto, unfolding(crate::specs::lines::Reading::line_at), using(std::proofs::lemmas::List::take_rest))]
 pub fn line_at<'a>(lines: &mut Lines<'a>) -> Result<&'a [u8], FileFault>
     ensures moves { Moves (λ line. line.now) result (place_of lines.new) (line_at (place_of lines.old)) }
+    ensures fault { IfErr result (λ e. e ≢ Memory) }
     ensures short { IfOk result (λ line. length line.now < PLACES) }
     ensures shrinks { OnOk result (length lines.new.rest.now < length lines.old.rest.now) }
 {
@@ -147,6 +149,7 @@ pub fn count_fields(rest: &[u8]) -> usize
 #[tactic(auto, unfolding(crate::specs::lines::Reading::worded_at))]
 pub fn worded_at<'a>(lines: &mut Lines<'a>, word: &[u8]) -> Result<&'a [u8], FileFault>
     ensures moves { Moves (λ rest. fields_after rest.now) result (place_of lines.new) (worded_at word.now (place_of lines.old)) }
+    ensures fault { IfErr result (λ e. e ≢ Memory) }
     ensures short { IfOk result (λ rest. length rest.now < PLACES) }
     ensures shrinks { OnOk result (length lines.new.rest.now ≤ length lines.old.rest.now) }
 {
@@ -162,7 +165,8 @@ pub fn worded_at<'a>(lines: &mut Lines<'a>, word: &[u8]) -> Result<&'a [u8], Fil
 /// A line of one word.
 #[tactic(auto, unfolding(crate::specs::lines::Reading::word_line_at))]
 pub fn word_line_at(lines: &mut Lines<'_>, word: &[u8]) -> Result<(), FileFault>
-    ensures { MatchResult result (λ _. word_line_at word.now (place_of lines.old) ≡ Ok (place_of lines.new)) (λ e. Fails e (word_line_at word.now (place_of lines.old))) }
+    ensures moves { MatchResult result (λ _. word_line_at word.now (place_of lines.old) ≡ Ok (place_of lines.new)) (λ e. Fails e (word_line_at word.now (place_of lines.old))) }
+    ensures fault { IfErr result (λ e. e ≢ Memory) }
 {
     let at = lines.at;
     let fields = worded_at(lines, word)?;
@@ -175,7 +179,8 @@ pub fn word_line_at(lines: &mut Lines<'_>, word: &[u8]) -> Result<(), FileFault>
 /// The field of a line with one field behind its word.
 #[tactic(auto, unfolding(crate::specs::lines::Reading::field_line_at))]
 pub fn field_line_at<'a>(lines: &mut Lines<'a>, word: &[u8]) -> Result<&'a [u8], FileFault>
-    ensures { Moves (λ field. field.now) result (place_of lines.new) (field_line_at word.now (place_of lines.old)) }
+    ensures moves { Moves (λ field. field.now) result (place_of lines.new) (field_line_at word.now (place_of lines.old)) }
+    ensures fault { IfErr result (λ e. e ≢ Memory) }
 {
     let at = lines.at;
     let fields = worded_at(lines, word)?;
@@ -195,6 +200,7 @@ pub fn number_line_at(
     greatest: u64,
 ) -> Result<u64, FileFault>
     ensures moves { Moves (λ n. n) result (place_of lines.new) (number_line_at word.now what greatest (place_of lines.old)) }
+    ensures fault { IfErr result (λ e. e ≢ Memory) }
     ensures range { IfOk result (λ n. (1 ≤ n) × (n ≤ greatest)) }
 {
     let at = lines.at;
@@ -208,7 +214,8 @@ pub fn number_line_at(
 
 /// The last line.
 pub fn end_line(at: u32, word: &[u8], fields: &[u8]) -> Result<(), FileFault>
-    ensures { Gives (λ _. tt) result (last_at at (word.now ∷ fields_after fields.now)) }
+    ensures gives { Gives (λ _. tt) result (last_at at (word.now ∷ fields_after fields.now)) }
+    ensures fault { IfErr result (λ e. e ≢ Memory) }
 {
     if *word != *b"end".as_slice() {
         return Err(FileFault::Line { at });

@@ -1,7 +1,8 @@
 // The numbers of fields.
-ghost use Rattle.std.specs.Prelude.{◌≡◌, ◌<◌, ◌≤◌, IfOk, pos, neg_ℤ, if◌then◌else◌};
+ghost use Rattle.std.specs.Prelude.{◌≡◌, ◌≢◌, ◌<◌, ◌≤◌, IfOk, IfErr, pos, neg_ℤ, if◌then◌else◌};
 ghost use Rattle.msp_instance.specs.Conditions.{LiesWithin};
 ghost use Rattle.msp_schedule.specs.Within.{i128_limit};
+ghost use Rattle.msp_grammar.specs.declared.lines.fault.FileFault.TheVariants.{Memory};
 ghost use Rattle.msp_grammar.specs.lines.Reading.{natural_at, ordinal_at, integer_at};
 
 use crate::lines::fault::{FileFault, What};
@@ -18,6 +19,7 @@ pub fn wide_at(
 ) -> Result<u128, FileFault>
     requires { greatest < i128_limit }
     ensures value { result ≡ natural_at at what least greatest bytes.now }
+    ensures fault { IfErr result (λ e. e ≢ Memory) }
     ensures range { IfOk result (λ n. (least ≤ n) × (n ≤ greatest)) }
 {
     let Some(number) = read_number(bytes) else {
@@ -38,6 +40,7 @@ pub fn natural_at(
     bytes: &[u8],
 ) -> Result<u64, FileFault>
     ensures value { result ≡ natural_at at what least greatest bytes.now }
+    ensures fault { IfErr result (λ e. e ≢ Memory) }
     ensures range { IfOk result (λ n. (least ≤ n) × (n ≤ greatest)) }
 {
     match wide_at(at, what, least as u128, greatest as u128, bytes) {
