@@ -1,11 +1,14 @@
 -- Sources and sinks of which all is said by what contracts see of them keep the laws.
-use Rattle.std.proofs.Common.{◌≡◌, ℕ, ◌^◌, ◌<◌, List, [], ◌++◌, length, Option, Some, None, refl, ◌∙◌, arith}
+use Rattle.std.proofs.Common.{◌≡◌, ℕ, ◌^◌, ◌<◌, List, [], ◌++◌, length, Option, Some, None, refl, ◌∙◌, ap, arith}
 use Rattle.std.proofs.lemmas.List.{length-append}
 use Rattle.std.proofs.KnownBytes.{Consumes-nil, Consumes-trans, Appends-nil, Appends-trans}
-use Rattle.msp_io.specs.Faults.{Rose, WentUp, so_many_more}
+use Rattle.msp_io.specs.Faults.{Rose, WentUp, one_more, so_many_more}
 use Rattle.msp_io.specs.Views.{SourceView, SinkView}
 use Rattle.msp_io.specs.Sources.{Gives, GivesAll, GivesAndFails, KeepsLaws}
 use Rattle.msp_io.specs.Sinks.{Takes, TakesAndFails, KeepsLaws as KeepsSinkLaws}
+use Rattle.msp_io.specs.StdAdapters.{source_given, source_view, SourceGave, SourceFinished, SourceBroke, sink_taken, sink_view, SinkTook, SinkBroke}
+use Rattle.msp_io.specs.declared.std_io.StdSource.{StdSource}
+use Rattle.msp_io.specs.declared.std_io.StdSink.{StdSink}
 
 -- a count of 64 bits, where there is one
 abbrev pub Fits : Option ℕ → Type 0
@@ -81,19 +84,6 @@ source_laws seen fits = record {
   breaks = λ a b xs h. h;
 }
 
--- a source that knows besides whether its last read met the end
-pub source_laws_at_end : {S : Type 0} (seen : S → SourceView) (IsOver : S → Type 0) → ((s : S) → Fits (seen s).given) →
-    KeepsLaws seen (λ a b xs. Gives (seen a) (seen b) xs) (λ a b xs. IsOver b × GivesAll (seen a) (seen b) xs) (λ a b xs. GivesAndFails (seen a) (seen b) xs)
-source_laws_at_end seen IsOver fits = record {
-  none = λ a. Gives-none (seen a) (fits a);
-  joined = λ a b c. Gives-more (seen a) (seen b) (seen c);
-  joined_end = λ a b c xs ys first more. (more.0, GivesAll-more (seen a) (seen b) (seen c) xs ys first more.1);
-  joined_fault = λ a b c. GivesAndFails-more (seen a) (seen b) (seen c);
-  gives = λ a b xs h. h;
-  finishes = λ a b xs h. h.1;
-  breaks = λ a b xs h. h;
-}
-
 -- a sink that moves its bytes as it is seen to
 pub sink_laws : {K : Type 0} (seen : K → SinkView) → ((s : K) → Fits (seen s).taken) →
     KeepsSinkLaws seen (λ a b xs. Takes (seen a) (seen b) xs) (λ a b xs. TakesAndFails (seen a) (seen b) xs)
@@ -103,4 +93,41 @@ sink_laws seen fits = record {
   joined_fault = λ a b c. TakesAndFails-more (seen a) (seen b) (seen c);
   takes = λ a b xs h. h;
   breaks = λ a b xs h. h;
+}
+
+-- the adapter of a reader of std, which counts the ends that it meets
+pub std_source_laws : {R : Type 0} (remaining : R → Option (List ℕ)) → ((s : StdSource R) → source_given s < 2 ^ 64) →
+    KeepsLaws (source_view remaining) (SourceGave remaining) (SourceFinished remaining) (SourceBroke remaining)
+std_source_laws remaining fits = let laws = source_laws (source_view remaining) fits in record {
+  none = λ a. record { gives = laws.none a; ends = refl };
+  joined = λ a b c xs ys first more. record { gives = laws.joined a b c xs ys first.gives more.gives; ends = more.ends ∙ first.ends };
+  joined_end = λ a b c xs ys first more. record {
+    gives_all = laws.joined_end a b c xs ys first.gives more.gives_all;
+    last = more.last;
+    ends = more.ends ∙ ap one_more first.ends;
+  };
+  joined_fault = λ a b c xs ys first more. record {
+    breaks = laws.joined_fault a b c xs ys first.gives more.breaks;
+    last = more.last;
+    faults = more.faults ∙ ap one_more first.gives.faults;
+    ends = more.ends ∙ first.ends;
+  };
+  gives = λ a b xs h. h.gives;
+  finishes = λ a b xs h. h.gives_all;
+  breaks = λ a b xs h. h.breaks;
+}
+
+-- the adapter of a writer of std
+pub std_sink_laws : {W : Type 0} (contents : W → Option (List ℕ)) → ((s : StdSink W) → sink_taken s < 2 ^ 64) →
+    KeepsSinkLaws (sink_view contents) (SinkTook contents) (SinkBroke contents)
+std_sink_laws contents fits = let laws = sink_laws (sink_view contents) fits in record {
+  none = laws.none;
+  joined = laws.joined;
+  joined_fault = λ a b c xs ys first more. record {
+    breaks = laws.joined_fault a b c xs ys first more.breaks;
+    last = more.last;
+    faults = more.faults ∙ ap one_more first.faults;
+  };
+  takes = laws.takes;
+  breaks = λ a b xs h. h.breaks;
 }
