@@ -1,0 +1,88 @@
+-- The jobs by falling time or weight, as they are sorted.
+use Rattle.std.proofs.Common.{◌≡◌, ℕ, ◌-◌, ◌<◌, ◌≤◌, ◌⊎◌, inl, inr, List, length, map, get_or, All, AllPairs, IfOk, IsPermutation, Result, Ok, Err, ap, sym, subst, subst₂, ◌∙◌, arith}
+use Rattle.std.specs.List.{range_with_len}
+use Rattle.std.proofs.lemmas.Bool.{cases_lt}
+use Rattle.std.proofs.lemmas.List.{get_or-map, length-map}
+use Rattle.std.proofs.lemmas.List.Elements.{All-map}
+use Rattle.msp_class.proofs.Sums.{OnceBelow, OnceBelow-from_permutation, OnceBelow-distinct, length-OnceBelow}
+use Rattle.msp_instance.specs.declared.Job.{Job}
+use Rattle.msp_instance.specs.declared.Instance.{Instance}
+use Rattle.msp_instance.specs.Instance.{no_job, job_at}
+use Rattle.msp_cut_sums.specs.Sums.{at, IsByFalling}
+
+module _ (values : List ℕ) (small : All (λ v. v ≤ 1000000000) values) (keys : List ℕ) (is : keys ≡ map (λ v. 1000000000 - v) values) where
+  many : length keys ≡ length values
+  many = ap length is ∙ length-map values (λ v. 1000000000 - v)
+
+  key_is : (j : ℕ) → j < length values → at keys j ≡ 1000000000 - at values j
+  key_is j l = ap (λ ks. at ks j) is ∙ get_or-map (λ v. 1000000000 - v) values j 0 0 l
+
+  IsByFalling-lacks : (order : List ℕ) → IsPermutation (range_with_len 0 (length keys)) order → AllPairs (λ a b. (at keys a < at keys b) ⊎ ((at keys a ≡ at keys b) × (a ≤ b))) order → IsByFalling (length values) (at values) order
+  IsByFalling-lacks order all rising = record {
+    all = subst (λ n. IsPermutation (range_with_len 0 n) order) many all;
+    falls = λ a b d l k. by (get_or order a d) (get_or order b d) (within a d (omega (arith, l, k))) (within b d k) (rising a b d l k);
+  }
+    where
+      within : All (λ j. j < length values) order
+      within k d l = omega (arith, many, (OnceBelow-from_permutation all).within k d l)
+
+      by : (x y : ℕ) → x < length values → y < length values → (at keys x < at keys y) ⊎ ((at keys x ≡ at keys y) × (x ≤ y)) → at values y ≤ at values x
+      by x y p q (inl l) = omega (arith, l, key_is x p, key_is y q, small x 0 p, small y 0 q)
+      by x y p q (inr l) = omega (arith, l.0, key_is x p, key_is y q, small x 0 p, small y 0 q)
+
+pub by_lacks : {V E : Type 0} (values : List ℕ) (small : All (λ v. v ≤ 1000000000) values) (keys kept : List ℕ) (items : V → List ℕ) → kept ≡ map (λ v. 1000000000 - v) values → keys ≡ kept → (r : Result V E) → IfOk r (λ o. IsPermutation (range_with_len 0 (length keys)) (items o)) → IfOk r (λ o. AllPairs (λ a b. (at keys a < at keys b) ⊎ ((at keys a ≡ at keys b) × (a ≤ b))) (items o)) → IfOk r (λ o. IsByFalling (length values) (at values) (items o))
+by_lacks values small keys kept items e f (Ok o) p q = IsByFalling-lacks values small keys (f ∙ e) (items o) p q
+by_lacks values small keys kept items e f (Err x) p q = tt
+
+-- ---- numbers that are read of the jobs
+module _ (i : Instance) (f : Job → ℕ) (values kept : List ℕ) (is : kept ≡ map f i.jobs) (same : values ≡ kept) where
+  pub values_many : length values ≡ length i.jobs
+  values_many = ap length (same ∙ is) ∙ length-map i.jobs f
+
+  pub values_small : All (λ j. f j ≤ 1000000000) i.jobs → All (λ v. v ≤ 1000000000) values
+  values_small h = subst (All (λ v. v ≤ 1000000000)) (sym (same ∙ is)) (All-map (λ v. v ≤ 1000000000) f i.jobs h)
+
+  read : (order : List ℕ) → IsByFalling (length values) (at values) order → IsByFalling (length i.jobs) (λ j. f (job_at i j)) order
+  read order h = record {
+    all = subst (λ n. IsPermutation (range_with_len 0 n) order) values_many h.all;
+    falls = λ a b d l k. subst₂ (λ x y. x ≤ y) (value (get_or order b d) (within b d k)) (value (get_or order a d) (within a d (omega (arith, l, k)))) (h.falls a b d l k);
+  }
+    where
+      within : All (λ j. j < length i.jobs) order
+      within k d l = omega (arith, values_many, (OnceBelow-from_permutation h.all).within k d l)
+
+      value : (j : ℕ) → j < length i.jobs → at values j ≡ f (job_at i j)
+      value j l = ap (λ vs. at vs j) (same ∙ is) ∙ get_or-map f i.jobs j no_job 0 l
+
+  pub read_order : {V E : Type 0} (items : V → List ℕ) (r : Result V E) → IfOk r (λ o. IsByFalling (length values) (at values) (items o)) → IfOk r (λ o. IsByFalling (length i.jobs) (λ j. f (job_at i j)) (items o))
+  read_order items (Ok o) h = read (items o) h
+  read_order items (Err x) h = tt
+
+-- ---- by places
+module _ (n : ℕ) (key : ℕ → ℕ) (order : List ℕ) (h : IsByFalling n key order) where
+  pub order_once : OnceBelow n order
+  order_once = OnceBelow-from_permutation h.all
+
+  pub order_many : length order ≡ n
+  order_many = length-OnceBelow order_once
+
+  pub order_inside : (k : ℕ) → k < n → at order k < n
+  order_inside k l = order_once.within k 0 (omega (arith, l, order_many))
+
+  pub order_falls : (a b : ℕ) → a ≤ b → b < n → key (at order b) ≤ key (at order a)
+  order_falls a b l k = by (cases_lt a b)
+    where
+      by : (a < b) ⊎ (b ≤ a) → key (at order b) ≤ key (at order a)
+      by (inl m) = h.falls a b 0 m (omega (arith, k, order_many))
+      by (inr m) = omega (arith, ap (λ x. key (at order x)) same)
+        where
+          same : a ≡ b
+          same = omega (arith, l, m)
+
+  pub order_distinct : (a b : ℕ) → a < n → b < n → at order a ≡ at order b → a ≡ b
+  order_distinct a b l k e = by (cases_lt a b) (cases_lt b a)
+    where
+      by : (a < b) ⊎ (b ≤ a) → (b < a) ⊎ (a ≤ b) → a ≡ b
+      by (inl m) o = absurd (OnceBelow-distinct order_once a b 0 m (omega (arith, k, order_many)) e)
+      by (inr m) (inl o) = absurd (OnceBelow-distinct order_once b a 0 o (omega (arith, l, order_many)) (sym e))
+      by (inr m) (inr o) = omega (arith, m, o)

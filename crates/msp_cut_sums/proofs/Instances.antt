@@ -1,0 +1,166 @@
+-- What the instances of the classes have.
+use Rattle.std.proofs.Common.{◌≡◌, ℕ, ◌*◌, ◌<◌, ◌≤◌, true, not, [], length, get_or, All, pos, ◌≤ℤ◌, inl, inr, ◌⊎◌, sym, ap, subst, ◌∙◌, arith, slice_index_or}
+use Rattle.std.proofs.lemmas.Int.{ints}
+use Rattle.std.proofs.lemmas.List.{get_or_default}
+use Rattle.msp_class.specs.declared.environments.EnvKind.TheVariants.{Identical, Unrelated, OpenShop}
+use Rattle.msp_class.specs.declared.class.Crit.TheVariants.{SumWC}
+use Rattle.msp_class.specs.Env.{kind_of, is_shop, is_shop_kind, is_mirror_kind}
+use Rattle.msp_class.specs.Sums.{total_below}
+use Rattle.msp_class.proofs.Sums.{total_below-same, total_below-constant}
+use Rattle.msp_instance.specs.declared.Instance.{Instance}
+use Rattle.msp_instance.specs.Instance.{no_job, no_need, job_at, need_at, common_time}
+use Rattle.msp_instance.specs.Conditions.{Inner}
+use Rattle.msp_schedule.specs.Feasible.{HasOperation, whole_work}
+use Rattle.msp_schedule.specs.LastEnds.{AreOnMachines}
+use Rattle.msp_schedule.specs.Loads.{job_length}
+use Rattle.msp_schedule.specs.Rows.{time_at}
+use Rattle.msp_schedule.proofs.lists.Places.{sum_by-places}
+use Rattle.msp_schedule.proofs.feasible.Frames.{IsShaped-from_identical, rate_on}
+use Rattle.msp_schedule.proofs.feasible.OfClass.{IsOfClass, IsOfClass-from}
+use Rattle.msp_route.specs.Bounds.{answer_unit}
+use Rattle.msp_cut_sums.specs.Sums.{cut_sum_class, cut_weights_class, open_weights_class, cut_open_weights_class}
+use Rattle.msp_cut_sums.proofs.Placed.{HasOperations}
+
+-- ---- identical machines
+abbrev pub IsSumInstance : Instance → Type 0
+IsSumInstance i = IsOfClass i cut_sum_class
+
+abbrev pub IsWeightsInstance : Instance → Type 0
+IsWeightsInstance i = IsOfClass i cut_weights_class
+
+pub HasOperations-identical : (i : Instance) → kind_of i.class.env ≡ Identical → i.arcs ≡ [] → ((j : ℕ) → j < length i.jobs → (job_at i j).release ≡ 0) → HasOperations i 1
+HasOperations-identical i kind arcs release = record {
+  shaped = IsShaped-from_identical i kind;
+  has = λ j o l h. first o (subst (λ k. HasOperation k i j o) kind h);
+  rate = λ j m. ap (λ k. rate_on k i j m) kind;
+  want = λ j o. ap (λ k. whole_work k i j o) kind;
+  unrouted = ap (λ k. not (is_mirror_kind k)) kind;
+  arcs = arcs;
+  release = release;
+  unit = subst (λ k. pos 1 ≤ℤ answer_unit k) (sym kind) (omega (arith, ints));
+}
+  where
+    first : (o : ℕ) → o ≡ 0 → o < 1
+    first o e = omega (arith, e)
+
+module _ (i : Instance) (h : IsSumInstance i) where
+  pub sum_operations : HasOperations i 1
+  sum_operations = HasOperations-identical i h.kind h.arcs (λ j l. (h.jobs j no_job l).release)
+
+  pub sum_times : (j : ℕ) → j < length i.jobs → (1 ≤ time_at i j) × (time_at i j ≤ 1000000000)
+  sum_times j l = let n = (h.jobs j no_job l).needs in n.times 0 no_need (omega (arith, n.shape.0))
+
+  pub sum_times_small : All (λ j. (slice_index_or j.needs 0 no_need).time ≤ 1000000000) i.jobs
+  sum_times_small k d l = let n = (h.jobs k d l).needs in (n.times 0 no_need (omega (arith, n.shape.0))).1
+
+module _ (i : Instance) (h : IsWeightsInstance i) where
+  pub weights_operations : HasOperations i 1
+  weights_operations = HasOperations-identical i h.kind h.arcs (λ j l. (h.jobs j no_job l).release)
+
+  pub weights_time : (j : ℕ) → j < length i.jobs → time_at i j ≡ common_time i
+  weights_time j l = (h.jobs j no_job l).times 0 no_need (omega (arith, (h.jobs j no_job l).needs.shape.0))
+
+  pub weights_span : (1 ≤ common_time i) × (common_time i ≤ 1000000)
+  weights_span = let n = (h.jobs 0 no_job (omega (arith, h.some))).needs in n.times 0 no_need (omega (arith, n.shape.0))
+
+  pub weights_small : All (λ j. j.weight ≤ 1000000000) i.jobs
+  weights_small k d l = (h.jobs k d l).weight.1
+
+-- ---- open shops
+-- an open shop without arcs and release dates, whose operations all take one time
+pub record IsEvenShop (i : Instance) : Type 0 where
+  pub kind : kind_of i.class.env ≡ OpenShop
+  pub crit : i.class.crit ≡ SumWC
+  pub arcs : i.arcs ≡ []
+  pub release : (j : ℕ) → j < length i.jobs → (job_at i j).release ≡ 0
+  pub some : 1 ≤ length i.jobs
+  pub few : length i.jobs ≤ 400
+  pub machine : 1 ≤ i.machines
+  pub machines : i.machines ≤ 32
+  pub needs : (j : ℕ) → j < length i.jobs → length (job_at i j).needs ≡ i.machines
+  pub own : (j o : ℕ) → j < length i.jobs → o < i.machines → (need_at i j o).machine ≡ o
+  pub time : (j o : ℕ) → j < length i.jobs → o < i.machines → (need_at i j o).time ≡ common_time i
+  pub span : (1 ≤ common_time i) × (common_time i ≤ 1000000)
+  pub weights : All (λ j. j.weight ≤ 1000000000) i.jobs
+
+IsEvenShop-from_unit : (i : Instance) → IsOfClass i open_weights_class → IsEvenShop i
+IsEvenShop-from_unit i h = record {
+  kind = h.kind;
+  crit = h.crit;
+  arcs = h.arcs;
+  release = λ j l. (h.jobs j no_job l).release;
+  some = h.some;
+  few = h.few;
+  machine = h.machine;
+  machines = h.machines;
+  needs = λ j l. (h.jobs j no_job l).needs.shape.0;
+  own = λ j o l b. let s = (h.jobs j no_job l).needs.shape in s.1 o (omega (arith, s.0, b));
+  time = λ j o l b. one j o l b ∙ sym first;
+  span = (omega (arith, first), omega (arith, first));
+  weights = λ k d l. (h.jobs k d l).weight.1;
+}
+  where
+    one : (j o : ℕ) → j < length i.jobs → o < i.machines → (need_at i j o).time ≡ 1
+    one j o l b = let w = h.jobs j no_job l in w.times o no_need (omega (arith, w.needs.shape.0, b))
+
+    first : common_time i ≡ 1
+    first = one 0 0 (omega (arith, h.some)) (omega (arith, h.machine))
+
+IsEvenShop-from_equal : (i : Instance) → IsOfClass i cut_open_weights_class → IsEvenShop i
+IsEvenShop-from_equal i h = record {
+  kind = h.kind;
+  crit = h.crit;
+  arcs = h.arcs;
+  release = λ j l. (h.jobs j no_job l).release;
+  some = h.some;
+  few = h.few;
+  machine = h.machine;
+  machines = h.machines;
+  needs = λ j l. (h.jobs j no_job l).needs.shape.0;
+  own = λ j o l b. let s = (h.jobs j no_job l).needs.shape in s.1 o (omega (arith, s.0, b));
+  time = λ j o l b. let w = h.jobs j no_job l in w.times o no_need (omega (arith, w.needs.shape.0, b));
+  span = let n = (h.jobs 0 no_job (omega (arith, h.some))).needs in n.times 0 no_need (omega (arith, n.shape.0, h.machine));
+  weights = λ k d l. (h.jobs k d l).weight.1;
+}
+
+pub IsEvenShop-from : (i : Instance) → (i.class ≡ open_weights_class) ⊎ (i.class ≡ cut_open_weights_class) → Inner i → IsEvenShop i
+IsEvenShop-from i (inl e) inner = IsEvenShop-from_unit i (IsOfClass-from i open_weights_class e inner)
+IsEvenShop-from i (inr e) inner = IsEvenShop-from_equal i (IsOfClass-from i cut_open_weights_class e inner)
+
+module _ (i : Instance) (h : IsEvenShop i) where
+  pub shop_is : is_shop i.class.env ≡ true
+  shop_is = ap is_shop_kind h.kind
+
+  pub shop_operations : HasOperations i i.machines
+  shop_operations = record {
+    shaped = record { unrelated = λ e. absurd (never (sym h.kind ∙ e)) };
+    has = λ j o l has. inside j o l (subst (λ k. HasOperation k i j o) h.kind has).0;
+    rate = λ j m. ap (λ k. rate_on k i j m) h.kind;
+    want = λ j o. ap (λ k. whole_work k i j o) h.kind;
+    unrouted = ap (λ k. not (is_mirror_kind k)) h.kind;
+    arcs = h.arcs;
+    release = h.release;
+    unit = subst (λ k. pos 1 ≤ℤ answer_unit k) (sym h.kind) (omega (arith, ints));
+  }
+    where
+      never : OpenShop ≡ Unrelated → ⊥
+      never e = cc
+
+      inside : (j o : ℕ) → j < length i.jobs → o < length (job_at i j).needs → o < i.machines
+      inside j o l b = omega (arith, b, h.needs j l)
+
+  pub shop_machines : AreOnMachines i
+  shop_machines k d l a c b =
+      let is = get_or_default i.jobs k d no_job l in
+      let here : a < length (job_at i k).needs = subst (λ j. a < length j.needs) is b in
+      subst (λ n. n.machine < i.machines) (sym (ap (λ j. get_or j.needs a c) is ∙ get_or_default (job_at i k).needs a c no_need here)) (below a (h.own k a l (omega (arith, here, h.needs k l))) (omega (arith, here, h.needs k l)))
+    where
+      below : (a : ℕ) {m : ℕ} → m ≡ a → a < i.machines → m < i.machines
+      below a {m} e l = omega (arith, e, l)
+
+  pub shop_length : (j : ℕ) → j < length i.jobs → job_length i j ≡ i.machines * common_time i
+  shop_length j l =
+      sum_by-places (λ n. n.time) (job_at i j).needs no_need
+      ∙ ap (λ n. total_below n (λ o. (need_at i j o).time)) (h.needs j l)
+      ∙ total_below-same i.machines (λ o. (need_at i j o).time) (λ _. common_time i) (λ o b. h.time j o l b)
+      ∙ total_below-constant i.machines (common_time i)

@@ -1,0 +1,12 @@
+mod InBlocks
+mod Placed
+mod Instances
+mod Room
+mod Summed
+mod Falling
+mod Rests
+mod Stacked
+mod Blocked
+mod Squared
+mod Steps
+mod Solved

@@ -1,0 +1,72 @@
+-- What the loops keep: the ends from the last place on, and the pieces so far.
+use Rattle.std.proofs.Common.{◌≡◌, ℕ, ◌+◌, ◌*◌, ◌-◌, ◌/◌, ◌<◌, ◌≤◌, ◌⊎◌, inl, inr, List, [], ◌∷◌, ◌++◌, length, map, All, set, sym, ap, subst, ◌∙◌, arith, zero-add}
+use Rattle.std.specs.List.{range_with_len}
+use Rattle.std.proofs.lemmas.Bool.{cases_lt}
+use Rattle.std.proofs.lemmas.List.{length-set, get_or-set_same, get_or-set_other}
+use Rattle.std.proofs.lemmas.List.Elements.{All-set}
+use Rattle.std.proofs.lemmas.List.FromFn.{map-range_with_len_more}
+use Rattle.std.proofs.Math.ListN.{get_or-eq_default}
+use Rattle.std.proofs.Math.Nat.{div-mul-le_self, mul-le-mul_right}
+use Rattle.msp_cut_sums.specs.Sums.{at}
+
+-- the places from n - back on have their ends, of which none is later than so many times the greatest
+pub record HaveEnds (m back : ℕ) (times ends : List ℕ) : Type 0 where
+  pub many : length ends ≡ length times
+  pub each : (k : ℕ) → length times ≤ k + back → k < length times → at ends k ≡ at times k + at ends (k + m)
+  pub early : All (λ e. e ≤ back * 1000000000) ends
+
+pub ends_first : (m : ℕ) (times ends : List ℕ) → length ends ≡ length times → All (λ e. e ≡ 0) ends → HaveEnds m 0 times ends
+ends_first m times ends many none = record { many = many; each = λ k l b. absurd (omega (arith, l, b)); early = λ k d l. omega (arith, none k d l) }
+
+module _ (m back : ℕ) (times ends : List ℕ) (some : 1 ≤ m) (inside : back < length times) (short : All (λ t. t ≤ 1000000000) times) (h : HaveEnds m back times ends) where
+  abbrev place : ℕ
+  place = length times - 1 - back
+
+  -- an end and a time are small
+  pub end_small : (k : ℕ) → at ends k ≤ back * 1000000000
+  end_small k = by (cases_lt k (length ends))
+    where
+      by : (k < length ends) ⊎ (length ends ≤ k) → at ends k ≤ back * 1000000000
+      by (inl l) = h.early k 0 l
+      by (inr l) = omega (arith, get_or-eq_default ends 0 l)
+
+  pub ends_next : (new : List ℕ) → new ≡ set ends place (at times place + at ends (place + m)) → HaveEnds m (back + 1) times new
+  ends_next new e = subst (HaveEnds m (back + 1) times) (sym e) (record {
+    many = length-set ends place value ∙ h.many;
+    each = each;
+    early = All-set (λ e. e ≤ (back + 1) * 1000000000) ends place value (omega (arith, short place 0 here, end_small (place + m))) (λ k d l. omega (arith, h.early k d l));
+  })
+    where
+      value : ℕ
+      value = at times place + at ends (place + m)
+
+      here : place < length times
+      here = omega (arith, inside)
+
+      other : (k : ℕ) → place < k → at (set ends place value) k ≡ at ends k
+      other k l = get_or-set_other ends place k value 0 (λ e. differ e l)
+        where
+          differ : k ≡ place → place < k → ⊥
+          differ e l = omega (arith, e, l)
+
+      each : (k : ℕ) → length times ≤ k + (back + 1) → k < length times → at (set ends place value) k ≡ at times k + at (set ends place value) (k + m)
+      each k l b = by (cases_lt place k)
+        where
+          by : (place < k) ⊎ (k ≤ place) → at (set ends place value) k ≡ at times k + at (set ends place value) (k + m)
+          by (inl o) = other k o ∙ h.each k (omega (arith, o, inside)) b ∙ ap (λ x. at times k + x) (sym (other (k + m) (omega (arith, o))))
+          by (inr o) = subst (λ x. at (set ends place value) x ≡ at times x + at (set ends place value) (x + m)) same (get_or-set_same ends place value 0 (omega (arith, here, h.many)) ∙ ap (λ x. at times place + x) (sym (other (place + m) (omega (arith, some)))))
+            where
+              same : place ≡ k
+              same = omega (arith, o, l, inside)
+
+-- ---- pieces of one place more
+pub pieces_next : {X : Type 0} (make : ℕ → X) (k : ℕ) (old new : List X) → new ≡ old ++ make k ∷ [] → old ≡ map make (range_with_len 0 k) → new ≡ map make (range_with_len 0 (k + 1))
+pieces_next make k old new e is = e ∙ ap (λ l. l ++ make k ∷ []) is ∙ sym (map-range_with_len_more make 0 k k (zero-add k))
+
+-- ---- turns
+pub turn_inside : (n m turn : ℕ) → turn < n * m → turn / m < n
+turn_inside n m turn l = by (cases_lt (turn / m) n)
+  where
+    by : (turn / m < n) ⊎ (n ≤ turn / m) → turn / m < n
+    by (inl b) = b
+    by (inr b) = absurd (omega (arith, l, mul-le-mul_right m b, div-mul-le_self turn m))

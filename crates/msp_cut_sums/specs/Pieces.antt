@@ -1,0 +1,54 @@
+-- The pieces of the schedules, by the places of the jobs in an order. No public contract cites this file.
+use Rattle.std.specs.Prelude.{◌≡◌, ℕ, ◌+◌, ◌*◌, ◌-◌, ◌/◌, ◌%◌, ◌<◌, ◌≤◌, List, length, map, pos, All}
+use Rattle.std.specs.List.{range_with_len}
+use Rattle.msp_instance.specs.declared.Instance.{Instance}
+use Rattle.msp_instance.specs.declared.ranges.TheConstants.{GREATEST, MOST_JOBS}
+use Rattle.msp_instance.specs.Instance.{common_time}
+use Rattle.msp_schedule.specs.declared.Piece.{Piece}
+use Rattle.msp_schedule.specs.Rows.{time_at}
+use Rattle.msp_cut_sums.specs.Sums.{at, weight_at, IsByFalling}
+
+-- A piece of an operation on a machine.
+abbrev pub part : ℕ → ℕ → ℕ → ℕ → ℕ → Piece
+part job op machine from to = record { job = job; op = op; machine = machine; from = pos from; to = pos to }
+
+-- On m machines the job at a place ends as long after the job m places behind it as it takes. Behind the last place that is 0.
+pub record AreEnds (m : ℕ) (times ends : List ℕ) : Type 0 where
+  pub many : length ends ≡ length times
+  pub each : (k : ℕ) → k < length times → at ends k ≡ at times k + at ends (k + m)
+
+-- The pieces of the jobs that end so: place k is on machine k mod m.
+abbrev pub stacked_piece : ℕ → List ℕ → List ℕ → ℕ → Piece
+stacked_piece m order ends k = part (at order k) 0 (k % m) (at ends (k + m)) (at ends k)
+
+abbrev pub stacked : ℕ → List ℕ → List ℕ → List Piece
+stacked m order ends = map (stacked_piece m order ends) (range_with_len 0 (length order))
+
+-- The pieces of jobs of one time, m at a time: place k is on machine k mod m in slot k / m.
+abbrev pub blocked_piece : ℕ → ℕ → List ℕ → ℕ → Piece
+blocked_piece m time order k = part (at order k) 0 (k % m) (k / m * time) ((k / m + 1) * time)
+
+abbrev pub blocked : ℕ → ℕ → List ℕ → List Piece
+blocked m time order = map (blocked_piece m time order) (range_with_len 0 (length order))
+
+-- The slot of place k on a machine of m: the block of m slots is that of the place, and the machines go round from that of its seat.
+abbrev pub slot : ℕ → ℕ → ℕ → ℕ
+slot m k machine = k / m * m + (machine + (m - k % m)) % m
+
+-- The pieces of operations of one time on each machine, m jobs in m slots: turn x is machine x mod m of place x / m.
+abbrev pub squared_piece : ℕ → ℕ → List ℕ → ℕ → Piece
+squared_piece m time order x = part (at order (x / m)) (x % m) (x % m) (slot m (x / m) (x % m) * time) ((slot m (x / m) (x % m) + 1) * time)
+
+abbrev pub squared : ℕ → ℕ → List ℕ → List Piece
+squared m time order = map (squared_piece m time order) (range_with_len 0 (length order * m))
+
+-- The pieces of the rules, in an order of all jobs by falling time or weight.
+abbrev pub IsStacked : Instance → List Piece → Type 0
+IsStacked i pieces = (order : List ℕ) × (ends : List ℕ) × IsByFalling (length i.jobs) (time_at i) order × AreEnds i.machines (map (time_at i) order) ends
+    × All (λ e. e ≤ MOST_JOBS * GREATEST) ends × (pieces ≡ stacked i.machines order ends)
+
+abbrev pub IsBlocked : Instance → List Piece → Type 0
+IsBlocked i pieces = (order : List ℕ) × IsByFalling (length i.jobs) (weight_at i) order × (pieces ≡ blocked i.machines (common_time i) order)
+
+abbrev pub IsSquared : Instance → List Piece → Type 0
+IsSquared i pieces = (order : List ℕ) × IsByFalling (length i.jobs) (weight_at i) order × (pieces ≡ squared i.machines (common_time i) order)
