@@ -76,7 +76,7 @@ fn pieces_by_weight(alloc: Global, inst: &Instance) -> Result<List<Piece>, NoMem
 
 /// Finds a schedule of least weighted completion time of jobs of one time on identical machines where jobs may be cut, without cutting
 /// any: the heaviest run first, as many at a time as there are machines.
-#[derive(Clone, Copy, Debug)]
+#[derive(Clone, Copy)]
 pub struct CutWeights;
 
 impl Solver for CutWeights {

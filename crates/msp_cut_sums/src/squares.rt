@@ -108,7 +108,7 @@ fn solution(alloc: Global, inst: &Instance) -> Result<Solution, NoMemory>
 
 /// Finds a schedule of least weighted completion time in an open shop whose operations take one unit of time: the heaviest jobs first, in
 /// blocks of as many as there are machines, which they go round in as many slots (Adiri and Amit 1984 for equal weights).
-#[derive(Clone, Copy, Debug)]
+#[derive(Clone, Copy)]
 pub struct OpenWeights;
 
 impl Solver for OpenWeights {
@@ -138,7 +138,7 @@ impl Solver for OpenWeights {
 }
 
 /// The same with preemption, and operations that share any time: no operation is cut.
-#[derive(Clone, Copy, Debug)]
+#[derive(Clone, Copy)]
 pub struct CutOpenWeights;
 
 impl Solver for CutOpenWeights {

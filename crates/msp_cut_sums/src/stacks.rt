@@ -121,7 +121,7 @@ fn pieces_by_time(alloc: Global, inst: &Instance) -> Result<List<Piece>, NoMemor
 
 /// Finds a schedule of least total completion time on identical machines where jobs may be cut, without cutting any: the k-th job by
 /// falling time, from 0, runs on machine k mod m, before the longer ones there (McNaughton 1959).
-#[derive(Clone, Copy, Debug)]
+#[derive(Clone, Copy)]
 pub struct CutSum;
 
 impl Solver for CutSum {

@@ -17,6 +17,8 @@ use crate::threshold::threshold_search;
 use msp_blocks::{Blocks, UnitBlocks};
 use msp_carry::solve_along;
 use msp_class::{Class, List, NoMemory};
+use msp_cut_sums::{CutOpenWeights, CutSum, CutWeights, OpenWeights};
+use msp_due::{PairDue, TreeDue};
 use msp_instance::Instance;
 use msp_levels::Levels;
 use msp_lexical::Lexical;
@@ -58,6 +60,12 @@ macro_rules! at_solver {
             SolverName::Lexical => $call($($argument),*, &Lexical),
             SolverName::LateTable => $call($($argument),*, &LateTable),
             SolverName::Search => $call($($argument),*, &threshold_search()),
+            SolverName::TreeDue => $call($($argument),*, &TreeDue),
+            SolverName::PairDue => $call($($argument),*, &PairDue),
+            SolverName::CutSum => $call($($argument),*, &CutSum),
+            SolverName::CutWeights => $call($($argument),*, &CutWeights),
+            SolverName::OpenWeights => $call($($argument),*, &OpenWeights),
+            SolverName::CutOpenWeights => $call($($argument),*, &CutOpenWeights),
         }
     };
 }

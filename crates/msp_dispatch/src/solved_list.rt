@@ -5,6 +5,8 @@ ghost use Rattle.msp_dispatch.specs.Solved.{solved_list, solved_classes};
 use crate::threshold::threshold_search;
 use msp_blocks::{Blocks, UnitBlocks};
 use msp_class::Class;
+use msp_cut_sums::{CutOpenWeights, CutSum, CutWeights, OpenWeights};
+use msp_due::{PairDue, TreeDue};
 use msp_levels::Levels;
 use msp_lexical::Lexical;
 use msp_route::{Solver, SolverName};
@@ -18,7 +20,7 @@ use msp_weighted::LateTable;
 use msp_wrap::Wrap;
 
 /// How many classes are solved.
-pub(crate) const SOLVED: u32 = 21;
+pub(crate) const SOLVED: u32 = 27;
 
 /// A class that is solved, and its solver.
 #[derive(Clone, Copy, Debug, PartialEq, Eq)]
@@ -62,6 +64,12 @@ pub(crate) fn entry_at(n: u32) -> Option<SolvedClass>
         18 => Some(entry(&Lexical, SolverName::Lexical)),
         19 => Some(entry(&LateTable, SolverName::LateTable)),
         20 => Some(entry(&threshold_search(), SolverName::Search)),
+        21 => Some(entry(&TreeDue, SolverName::TreeDue)),
+        22 => Some(entry(&PairDue, SolverName::PairDue)),
+        23 => Some(entry(&CutSum, SolverName::CutSum)),
+        24 => Some(entry(&CutWeights, SolverName::CutWeights)),
+        25 => Some(entry(&OpenWeights, SolverName::OpenWeights)),
+        26 => Some(entry(&CutOpenWeights, SolverName::CutOpenWeights)),
         _ => None,
     }
 }

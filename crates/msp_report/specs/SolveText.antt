@@ -28,6 +28,12 @@ solver_word solver.UniformCut = codes "uniform-cut"
 solver_word solver.Lexical = codes "lexical"
 solver_word solver.LateTable = codes "late-table"
 solver_word solver.Search = codes "search"
+solver_word solver.TreeDue = codes "tree-due"
+solver_word solver.PairDue = codes "pair-due"
+solver_word solver.CutSum = codes "cut-sum"
+solver_word solver.CutWeights = codes "cut-weights"
+solver_word solver.OpenWeights = codes "open-weights"
+solver_word solver.CutOpenWeights = codes "cut-open-weights"
 
 -- the line of the solver
 unfoldable pub solver_line : SolverName → List ℕ

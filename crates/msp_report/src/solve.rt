@@ -38,6 +38,12 @@ fn word(solver: SolverName) -> &'static [u8]
         SolverName::Lexical => b"lexical",
         SolverName::LateTable => b"late-table",
         SolverName::Search => b"search",
+        SolverName::TreeDue => b"tree-due",
+        SolverName::PairDue => b"pair-due",
+        SolverName::CutSum => b"cut-sum",
+        SolverName::CutWeights => b"cut-weights",
+        SolverName::OpenWeights => b"open-weights",
+        SolverName::CutOpenWeights => b"cut-open-weights",
     }
 }
 

@@ -27,6 +27,12 @@ pub enum SolverName {
     Lexical,
     LateTable,
     Search,
+    TreeDue,
+    PairDue,
+    CutSum,
+    CutWeights,
+    OpenWeights,
+    CutOpenWeights,
 }
 
 /// A solution of an instance, with the chain of rows that led it to the class of a solver.
