@@ -23,7 +23,7 @@ use Rattle.msp_shops.specs.Open.{open_class}
 use Rattle.msp_shops.specs.OpenCut.{open_cut_class}
 use Rattle.msp_uniform.specs.Uniform.{cut_class}
 use Rattle.msp_lexical.specs.Lexical.{lexical_class}
-use Rattle.msp_due.specs.Due.{tree_due_class, pair_due_class}
+use Rattle.msp_due.specs.Due.{tree_class, pair_class}
 use Rattle.msp_cut_sums.specs.Sums.{cut_sum_class, cut_weights_class, open_weights_class, cut_open_weights_class}
 use Rattle.msp_threshold.specs.Squeezed.{lateness_class}
 use Rattle.msp_weighted.specs.Late.{late_class}
@@ -57,8 +57,8 @@ class_of solver.UniformCut = Some cut_class
 class_of solver.Lexical = Some lexical_class
 class_of solver.LateTable = Some late_class
 class_of solver.Search = Some lateness_class
-class_of solver.TreeDue = Some tree_due_class
-class_of solver.PairDue = Some pair_due_class
+class_of solver.TreeDue = Some tree_class
+class_of solver.PairDue = Some pair_class
 class_of solver.CutSum = Some cut_sum_class
 class_of solver.CutWeights = Some cut_weights_class
 class_of solver.OpenWeights = Some open_weights_class

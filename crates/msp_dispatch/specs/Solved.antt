@@ -19,7 +19,7 @@ use Rattle.msp_shops.specs.Open.{open_class}
 use Rattle.msp_shops.specs.OpenCut.{open_cut_class}
 use Rattle.msp_uniform.specs.Uniform.{cut_class, HasSmallUnit}
 use Rattle.msp_lexical.specs.Lexical.{lexical_class}
-use Rattle.msp_due.specs.Due.{tree_due_class, pair_due_class}
+use Rattle.msp_due.specs.Due.{tree_class, pair_class}
 use Rattle.msp_cut_sums.specs.Sums.{cut_sum_class, cut_weights_class, open_weights_class, cut_open_weights_class}
 use Rattle.msp_threshold.specs.Squeezed.{lateness_class}
 use Rattle.msp_weighted.specs.Late.{late_class, total_time}
@@ -52,8 +52,8 @@ solved_list =
     solves lexical_class solver.Lexical ∷
     solves late_class solver.LateTable ∷
     solves lateness_class solver.Search ∷
-    solves tree_due_class solver.TreeDue ∷
-    solves pair_due_class solver.PairDue ∷
+    solves tree_class solver.TreeDue ∷
+    solves pair_class solver.PairDue ∷
     solves cut_sum_class solver.CutSum ∷
     solves cut_weights_class solver.CutWeights ∷
     solves open_weights_class solver.OpenWeights ∷
