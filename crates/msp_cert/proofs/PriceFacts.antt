@@ -102,7 +102,7 @@ priced_from i row column c h low fair = record {
   columns = h.columns;
   prices = record {
     low = λ m k in_m in_k. low (m * length i.jobs + k) (pos 0) (omega (arith, place_inside m (length i.jobs) i.machines (length column) in_m h.columns, in_k));
-    fair = λ j m k in_j in_m in_k. fair j in_j m k (omega (arith, in_m, needs_many i j c h.unrelated in_j)) in_k;
+    fair = λ j m k in_j in_m in_k. fair j in_j m (omega (arith, in_m, needs_many i j c h.unrelated in_j)) k in_k;
   };
 }
 
@@ -126,7 +126,7 @@ priced_low i row column p k d t = subst (λ x. x ≤ℤ pos 0) (get_or_default c
     way = div-add-mod' k (length i.jobs)
 
 pub priced_fair : (i : Instance) (row column : List ℤ) → InClass i → IsPriced i row column → AreFair i row column
-priced_fair i row column c p j in_j m k in_m in_k = p.prices.fair j m k in_j (omega (arith, in_m, needs_many i j c p.unrelated in_j)) in_k
+priced_fair i row column c p j in_j m in_m k in_k = p.prices.fair j m k in_j (omega (arith, in_m, needs_many i j c p.unrelated in_j)) in_k
 
 -- one job more is fair, or it is not
 module _ (i : Instance) (row column : List ℤ) (job : ℕ) (price : ℤ) (needs : List Need) (own : Job) (jobs : List Job) (same : jobs ≡ i.jobs) (needs_is : needs ≡ (get_or jobs job own).needs) (price_is : price ≡ get_or row job (pos 0)) (t : job < length jobs) where

@@ -7,13 +7,14 @@ use Rattle.msp_instance.specs.declared.Need.{Need}
 use Rattle.msp_instance.specs.declared.Instance.{Instance}
 use Rattle.msp_instance.specs.Instance.{no_need, job_at}
 
--- The price of a job and of each position on a machine are together at most what the job costs there.
-abbrev pub IsFairOn : ℤ → List ℤ → ℕ → Type 0
-IsFairOn price positions time = (k : ℕ) → k < length positions → (price +ℤ slice_index_or positions k (pos 0)) ≤ℤ pos ((k + 1) * time)
+-- The price of a job and of each position on a machine are together at most what the job costs there. The machine's positions are so many of
+-- the column from the start on.
+abbrev pub IsFairOn : ℤ → List ℤ → ℕ → ℕ → ℕ → Type 0
+IsFairOn price column start count time = (k : ℕ) → k < count → (price +ℤ slice_index_or column (start + k) (pos 0)) ≤ℤ pos ((k + 1) * time)
 
 -- The same for each machine on which the job has a time. So many positions stand for each.
 abbrev pub IsFair : ℤ → List ℤ → ℕ → List Need → Type 0
-IsFair price column count needs = (m k : ℕ) → m < length needs → k < count → (price +ℤ slice_index_or column (m * count + k) (pos 0)) ≤ℤ pos ((k + 1) * (slice_index_or needs m no_need).time)
+IsFair price column count needs = (m : ℕ) → m < length needs → IsFairOn price column (m * count) count (slice_index_or needs m no_need).time
 
 -- The same for each job.
 abbrev pub AreFair : Instance → List ℤ → List ℤ → Type 0

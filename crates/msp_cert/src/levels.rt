@@ -6,7 +6,7 @@ ghost use Rattle.msp_instance.specs.Conditions.{InClass};
 ghost use Rattle.msp_schedule.specs.Fraction.{IsComparable};
 ghost use Rattle.msp_schedule.specs.Levels.{StepsDown, level_bound};
 ghost use Rattle.msp_cert.specs.declared.Proof.TheVariants.{Levels};
-ghost use Rattle.msp_cert.specs.Small.{Supports};
+ghost use Rattle.msp_cert.specs.Small.{Supports, StepsFrom};
 ghost use Rattle.msp_cert.specs.Certificates.{HasUnitJobs, AreSteps, of_job};
 ghost use Rattle.msp_cert.specs.Worth.{IsWorth};
 
@@ -49,14 +49,20 @@ fn is_supported(level: &[u32], job: u32, arcs: &[Arc]) -> bool
     arcs.iter().any(|arc| supports(level, job, arc))
 }
 
-/// Whether such an arc leaves each job above level 0.
+/// Whether the job is of level 0, or such an arc leaves it.
+fn steps_from(inst: &Instance, level: &[u32], job: u32) -> bool
+    ensures { IsTrue result ↔ StepsFrom inst.now (of_job level.now) job }
+{
+    level_of(level, job) == 0 || is_supported(level, job, inst.arcs.as_slice())
+}
+
+/// The same for each job.
 fn steps_down(inst: &Instance, level: &[u32]) -> bool
     requires { InClass inst.now }
     ensures { IsTrue result ↔ StepsDown inst.now (of_job level.now) }
 {
     for k in 0..inst.jobs.len() {
-        let job = k as u32;
-        if 0 < level_of(level, job) && !is_supported(level, job, inst.arcs.as_slice()) {
+        if !steps_from(inst, level, k as u32) {
             return false;
         }
     }

@@ -1,5 +1,5 @@
 // Prices of jobs and positions on unrelated machines.
-ghost use Rattle.std.specs.Prelude.{◌≡◌, ◌↔◌, ◌*◌, ◌≤◌, pos, ◌≤ℤ◌, length, All, IsTrue, IfSome};
+ghost use Rattle.std.specs.Prelude.{◌≡◌, ◌↔◌, ◌+◌, ◌*◌, ◌≤◌, pos, ◌≤ℤ◌, length, All, IsTrue, IfSome};
 ghost use Rattle.msp_class.specs.declared.environments.TheConstants.{MOST_OPERATIONS};
 ghost use Rattle.msp_instance.specs.declared.ranges.TheConstants.{GREATEST, MOST_JOBS};
 ghost use Rattle.msp_instance.specs.Conditions.{InClass, LiesWithin};
@@ -23,17 +23,19 @@ fn are_low(prices: &[i128]) -> bool
     prices.iter().all(|price| *price <= 0)
 }
 
-/// Whether the price of the job and of each position on a machine are together at most what the job costs there.
-fn is_fair_on(price: i128, positions: &[i128], time: u64) -> bool
+/// Whether the price of the job and of each position on a machine are together at most what the job costs there. The machine's positions
+/// are so many of the column from the start on.
+fn is_fair_on(price: i128, column: &[i128], start: usize, count: usize, time: u64) -> bool
     requires price { LiesWithin GREATEST_PRICE price }
-    requires positions { All (LiesWithin GREATEST_PRICE) positions.now }
-    requires few { length positions.now ≤ MOST_JOBS }
+    requires column { All (LiesWithin GREATEST_PRICE) column.now }
+    requires few { count ≤ MOST_JOBS }
+    requires inside { start + count ≤ length column.now }
     requires time { time ≤ GREATEST }
-    ensures { IsTrue result ↔ IsFairOn price positions.now time }
+    ensures { IsTrue result ↔ IsFairOn price column.now start count time }
 {
-    for k in 0..positions.len() {
+    for k in 0..count {
         let owed = (k as u64 + 1) * time;
-        if price + positions[k] > i128::from(owed) {
+        if price + column[start + k] > i128::from(owed) {
             return false;
         }
     }
@@ -51,8 +53,7 @@ fn is_fair(price: i128, column: &[i128], count: usize, needs: &[Need]) -> bool
     ensures { IsTrue result ↔ IsFair price column.now count needs.now }
 {
     for machine in 0..needs.len() {
-        let positions = &column[machine * count..machine * count + count];
-        if !is_fair_on(price, positions, needs[machine].time) {
+        if !is_fair_on(price, column, machine * count, count, needs[machine].time) {
             return false;
         }
     }

@@ -211,6 +211,28 @@ fn earlier(first: Option<Proof>, second: Option<Proof>) -> Option<Proof>
     }
 }
 
+/// The first group of the longest jobs that has the value, ties to the lesser number.
+fn longest_with(alloc: Global, inst: &Instance, cost: &Frac) -> Result<Option<Proof>, NoMemory>
+    requires class { InClass inst.now }
+    requires cost { IsComparable cost.now }
+    ensures { IfOk result (λ found. (longest : List ℕ) × AreLongestFirst inst.now longest × IsFirst (HasValue inst.now cost.now) (groups inst.now longest) found) }
+{
+    let longest = longest_first(alloc, inst)?;
+    group_with(alloc, inst, cost, longest.as_slice())
+}
+
+/// The first machine, job or tail that has the value.
+fn other_with(alloc: Global, inst: &Instance, cost: &Frac) -> Result<Option<Proof>, NoMemory>
+    requires class { InClass inst.now }
+    requires cost { IsComparable cost.now }
+    ensures { IfOk result (λ found. (level : List ℕ) × AreAllLevels inst.now level × IsFirst (HasValue inst.now cost.now) (machines inst.now ++ (lines inst.now ++ tails inst.now level)) found) }
+{
+    let levels = levels_with(alloc, inst, cost)?;
+    let machine = machine_with(inst, cost);
+    let line = line_with(inst, cost);
+    Ok(earlier(machine, earlier(line, levels)))
+}
+
 /// The first proof that has just the cost as its value: of the k longest jobs for k from 1 on, ties to the lesser number, then of each
 /// machine, of each job, and of the levels with each tail from 0 on. None comes exactly where none of these has it. No solver is called.
 pub fn find(alloc: Global, inst: &Instance, cost: Frac) -> Result<Option<Proof>, NoMemory>
@@ -218,10 +240,8 @@ pub fn find(alloc: Global, inst: &Instance, cost: Frac) -> Result<Option<Proof>,
     requires cost { IsComparable cost }
     ensures { IfOk result (λ found. IsFound inst.now cost found) }
 {
-    let longest = longest_first(alloc, inst)?;
-    let group = group_with(alloc, inst, &cost, longest.as_slice())?;
-    let machine = machine_with(inst, &cost);
-    let line = line_with(inst, &cost);
-    let levels = levels_with(alloc, inst, &cost)?;
-    Ok(earlier(group, earlier(machine, earlier(line, levels))))
+    match longest_with(alloc, inst, &cost)? {
+        Some(proof) => Ok(Some(proof)),
+        None => other_with(alloc, inst, &cost),
+    }
 }

@@ -1,17 +1,33 @@
-use Rattle.std.proofs.Common.{List, ℕ, ◌++◌, subst}
-use Rattle.msp_cert.specs.Search.{HasValue, IsFirst, groups, machines, lines, tails}
+use Rattle.std.proofs.Common.{◌++◌, Option, List, ℕ, subst}
+use Rattle.std.proofs.lemmas.Result.{IfOk-weaker}
+use Rattle.msp_cert.specs.declared.Proof.{Proof}
+use Rattle.msp_cert.specs.Search.{AreAllLevels, AreLongestFirst, HasValue, IsFirst, IsFound, groups, machines, lines, tails}
+use Rattle.msp_cert.proofs.Tried.{first_append, first_stays}
+use Rattle.msp_cert.proofs.SomeLevels.{some_levels}
 use Rattle.msp_cert.proofs.search.find.Goals as goal
 
-pub returns : goal.returns
-returns c =
+pub returns-in-Some : goal.returns-in-Some
+returns-in-Some c =
     let i = c.args.inst.now in
-    let longest = c.in_ok-longest.longest.items in
-    let (level, levels, with_tail) = c.in_ok-levels.ensures in
+    let (longest, jobs, first) = subst (λ (found : Option Proof). (x : List ℕ) × AreLongestFirst i x × IsFirst (HasValue i c.args.cost) (groups i x) found) c.in-Some.is c.in_ok-proof.ensures in
+    let (level, levels) = some_levels i c.requires.class in
     record {
       longest = longest;
       level = level;
-      jobs = c.in_ok-longest.ensures;
+      jobs = jobs;
       levels = levels;
-      first = c.earlier-3.ensures i c.args.cost (groups i longest) (machines i ++ (lines i ++ tails i level)) (subst (λ (l : List ℕ). IsFirst (HasValue i c.args.cost) (groups i l) c.in_ok-group.group) c.as_slice.ensures.value c.in_ok-group.ensures)
-          (c.earlier-2.ensures i c.args.cost (machines i) (lines i ++ tails i level) c.machine_with-machine.ensures (c.earlier.ensures i c.args.cost (lines i) (tails i level) c.line_with-line.ensures with_tail));
+      first = first_stays (HasValue i c.args.cost) (groups i longest) (machines i ++ (lines i ++ tails i level)) c.in-Some.proof first;
     }
+
+pub returns-in-None : goal.returns-in-None
+returns-in-None c =
+    let i = c.args.inst.now in
+    let (longest, jobs, first) = subst (λ (found : Option Proof). (x : List ℕ) × AreLongestFirst i x × IsFirst (HasValue i c.args.cost) (groups i x) found) c.in-None.is c.in_ok-proof.ensures in
+    IfOk-weaker c.other_with.result (λ found. (level : List ℕ) × AreAllLevels i level × IsFirst (HasValue i c.args.cost) (machines i ++ (lines i ++ tails i level)) found) (IsFound i c.args.cost)
+    (λ found h. record {
+      longest = longest;
+      level = h.0;
+      jobs = jobs;
+      levels = h.1;
+      first = first_append (HasValue i c.args.cost) (groups i longest) (machines i ++ (lines i ++ tails i h.0)) found first h.2;
+    }) c.other_with.ensures
