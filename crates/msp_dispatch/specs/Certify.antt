@@ -63,7 +63,7 @@ pub record KeepsTextLimits (c : Certificate) : Type 0 where
   pub levels : HasLowLevels c.proof
 
 -- The proof of a best cost that a class gets: what `find` gives for the cost in the first five classes; segments as `segments` gives them,
--- prices as `prices` does, of which some column price is 0, and a block as `binding` does in the others.
+-- prices as `prices` does, of a least assignment and with some column price 0, and a block as `binding` does in the others.
 pub data IsProofOf (i : Instance) (cost : Frac) : Proof → Type 0 where
   found : (proof : Proof) → Contains searched_classes i.class → IsFound i cost (Some proof) → IsProofOf i cost proof
   segmented : (lists : List (List ℕ)) → i.class ≡ lexical_class → AreSegments i lists → IsLeastCost i (segments_bound i lists) → IsProofOf i cost (Segments lists)

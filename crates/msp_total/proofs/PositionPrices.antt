@@ -10,12 +10,14 @@ use Rattle.std.proofs.lemmas.List.Elements.{All-map}
 use Rattle.msp_class.proofs.IntegerRing.{pos-le, ≤ℤ_trans, *ℤ_comm, *ℤ-mono_nonneg, *ℤ-one}
 use Rattle.msp_instance.specs.declared.Instance.{Instance}
 use Rattle.msp_instance.specs.Instance.{need_at}
+use Rattle.msp_instance.proofs.PathRowLemmas.{row_inside}
 use Rattle.msp_schedule.specs.declared.Schedule.{Schedule}
 use Rattle.msp_schedule.specs.Cost.{cost_of, Best}
 use Rattle.msp_schedule.specs.Prices.{ArePrices, all_prices}
 use Rattle.msp_schedule.proofs.bounds.PriceBounds.{law_of_prices}
 use Rattle.msp_assign.specs.declared.assignment.Assignment.{Assignment}
-use Rattle.msp_assign.specs.Prices.{IsAssigned, HasFreeColumn, column_of, price_at}
+use Rattle.msp_assign.specs.Prices.{IsAssigned, IsPriced, IsLeast, HasFreeColumn, column_of, price_at}
+use Rattle.msp_assign.proofs.Least.{IsLeast-from_prices}
 use Rattle.msp_assign.proofs.Lists.{contained_or_not, at-Contains}
 use Rattle.msp_total.specs.declared.lay.Place.{Place}
 use Rattle.msp_total.specs.declared.positions.Positions.{Positions}
@@ -110,16 +112,29 @@ module _ (i : Instance) (h : IsUnrelatedInstance i) (p : Positions) (table : IsT
   own_inside : (j : ℕ) → j < p.jobs → at j < p.jobs * p.machines
   own_inside j l = placing.assigned.inside j 0 (omega (arith, l, placing.assigned.all))
 
-  own_time : (j : ℕ) → j < p.jobs → time_in p.machines p.times j (at j / p.jobs) ≡ (need_at i j (at j / p.jobs)).time
-  own_time j l = read_time i h p table j (at j / p.jobs) (omega (arith, l, table.jobs)) (omega (arith, machine_inside p.jobs p.machines (at j) (own_inside j l), table.machines))
+  abbrev cost_there : ℕ → ℕ → ℤ
+  cost_there j c = pos ((c % p.jobs + 1) * (need_at i j (c / p.jobs)).time)
 
-  own_cost : (j : ℕ) → j < p.jobs → row j +ℤ position (at j) ≡ pos ((at j % p.jobs + 1) * (need_at i j (at j / p.jobs)).time)
-  own_cost j l = placing.priced.exact j l ∙ ap (λ x. pos ((at j % p.jobs + 1) * x)) (own_time j l)
+  same_cost : (j c : ℕ) → j < p.jobs → c < p.jobs * p.machines → position_cost p.jobs p.machines p.times j c ≡ cost_there j c
+  same_cost j c l k = ap (λ x. pos ((c % p.jobs + 1) * x)) (read_time i h p table j (c / p.jobs) (omega (arith, l, table.jobs)) (omega (arith, machine_inside p.jobs p.machines c k, table.machines)))
+
+  priced : IsPriced p.jobs (p.jobs * p.machines) cost_there a
+  priced = record {
+    row_prices = placing.priced.row_prices;
+    column_prices = placing.priced.column_prices;
+    at_most = λ j c l k. subst (λ x. (row j +ℤ position c) ≤ℤ x) (same_cost j c l k) (placing.priced.at_most j c l k);
+    exact = λ j l. placing.priced.exact j l ∙ same_cost j (at j) l (own_inside j l);
+    low = placing.priced.low;
+    unused = placing.priced.unused;
+  }
 
   pub TakePositions-positioned : TakePositions i a
   TakePositions-positioned = record {
     assigned = subst₂ (λ x y. IsAssigned x (x * y) a.column) table.jobs table.machines placing.assigned;
-    exact = λ j l. subst (λ x. row j +ℤ position (at j) ≡ pos ((at j % x + 1) * (need_at i j (at j / x)).time)) table.jobs (own_cost j (omega (arith, l, table.jobs)));
+    exact = λ j l. subst (λ x. row j +ℤ position (at j) ≡ pos ((at j % x + 1) * (need_at i j (at j / x)).time)) table.jobs (priced.exact j (omega (arith, l, table.jobs)));
+    unused = λ m k l b. placing.priced.unused (m * length i.jobs + k) (subst₂ (λ x y. m * length i.jobs + k < x * y) (sym table.jobs) (sym table.machines) (omega (arith, row_inside (length i.jobs) i.machines m l, b)));
+    least = subst₂ (λ x y. IsLeast x (x * y) (λ j c. pos ((c % x + 1) * (need_at i j (c / x)).time)) a.column) table.jobs table.machines
+        (IsLeast-from_prices p.jobs (p.jobs * p.machines) cost_there a placing.assigned priced);
   }
 
   -- ---- how large they are

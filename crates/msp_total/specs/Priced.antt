@@ -1,12 +1,12 @@
--- What the prices of the jobs and positions on unrelated machines show.
-use Rattle.std.specs.Prelude.{◌≡◌, ℕ, ◌+◌, ◌*◌, ◌/◌, ◌%◌, ◌<◌, ◌≤◌, ℤ, pos, length, ◌+ℤ◌, ◌*ℤ◌, unsigned_abs}
+-- What the prices of the jobs and positions on unrelated machines show, and which assignment they are of.
+use Rattle.std.specs.Prelude.{◌≡◌, ℕ, ◌+◌, ◌*◌, ◌/◌, ◌%◌, ◌<◌, ◌≤◌, ℤ, pos, length, ◌+ℤ◌, ◌*ℤ◌, unsigned_abs, Contains}
 use Rattle.msp_instance.specs.declared.Instance.{Instance}
 use Rattle.msp_instance.specs.Instance.{need_at}
 use Rattle.msp_schedule.specs.declared.Schedule.{Schedule}
 use Rattle.msp_schedule.specs.Cost.{cost_of, Best}
 use Rattle.msp_schedule.specs.Prices.{ArePrices, all_prices}
 use Rattle.msp_assign.specs.declared.assignment.Assignment.{Assignment}
-use Rattle.msp_assign.specs.Prices.{IsAssigned, HasFreeColumn, column_of, price_at}
+use Rattle.msp_assign.specs.Prices.{IsAssigned, IsLeast, HasFreeColumn, column_of, price_at}
 
 -- The price of the position on machine m that k jobs follow.
 abbrev pub position_price : Instance → Assignment → ℕ → ℕ → ℤ
@@ -24,10 +24,13 @@ pub record ArePricesOfBest (i : Instance) (a : Assignment) : Type 0 where
 abbrev pub cost_at : Instance → ℕ → ℕ → ℤ
 cost_at i j c = pos ((c % length i.jobs + 1) * (need_at i j (c / length i.jobs)).time)
 
--- Each job has a position of its own, and its price and that of the position are together what it costs there.
+-- Each job has a position of its own, and its price and that of the position are together what it costs there. The price of a position that
+-- no job has is 0. So no assignment of the jobs to positions costs less.
 pub record TakePositions (i : Instance) (a : Assignment) : Type 0 where
   pub assigned : IsAssigned (length i.jobs) (length i.jobs * i.machines) a.column
   pub exact : (j : ℕ) → j < length i.jobs → price_at a.row_price j +ℤ price_at a.column_price (column_of a.column j) ≡ cost_at i j (column_of a.column j)
+  pub unused : (m k : ℕ) → m < i.machines → k < length i.jobs → ¬ Contains a.column (m * length i.jobs + k) → position_price i a m k ≡ pos 0
+  pub least : IsLeast (length i.jobs) (length i.jobs * i.machines) (cost_at i) a.column
 
 -- No price is larger, in size, than the longest time, as many times as there are jobs.
 pub record AreSmallPrices (i : Instance) (a : Assignment) (most : ℕ) : Type 0 where

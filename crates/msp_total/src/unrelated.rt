@@ -184,8 +184,8 @@ pub fn solve_with_prices(alloc: Global, inst: &Instance) -> Result<PricedSolutio
     Ok(PricedSolution { solution, prices })
 }
 
-/// The position of each job in a least assignment to `Positions`, and prices of the jobs and of all positions that show what a best
-/// schedule costs. The greatest of the positions' is 0.
+/// The position of each job in a least assignment to `Positions`, and prices of the jobs and of all positions that show that it is least,
+/// and what a best schedule costs. The greatest of the positions' is 0.
 pub fn prices(alloc: Global, inst: &Instance) -> Result<Assignment, NoMemory>
     requires inner { Inner inst.now }
     requires class { inst.now.class ≡ unrelated_class }
