@@ -258,6 +258,48 @@ const WORKED: &[Case] = &[
         out: b"start 1||Cmax\nrow 1 1|chains|Cmax\nrow 2 1|intree|Cmax\nrow 4 1|prec|Cmax\nrow 8 1|prec|Lmax\nrow 9 1|prec|fmax\nsolver lawler\nschedule\ncost 5\nunit 1\npiece b 1 1 0 3\npiece a 1 1 3 5\nend\n",
         notes: b"",
     },
+    Case {
+        words: &["solve"],
+        text: b"msp 1\nclass P|intree,p=p|Lmax\nmachines 2\ntime 3\njob a d=9\njob b d=5\njob c d=5\njob d d=8\njob e d=7\narc a e\nend\n",
+        status: 0,
+        out: b"start P|intree,p=p|Lmax\nrow 9 P|intree,p=p|fmax\nrow 24 R|intree,p=p|fmax\nsolver tree-due\nschedule\ncost 1\nunit 1\npiece a 1 1 0 3\npiece b 1 2 0 3\npiece c 1 1 3 6\npiece e 1 2 3 6\npiece d 1 1 6 9\nend\n",
+        notes: b"",
+    },
+    Case {
+        words: &["solve"],
+        text: b"msp 1\nclass P2|prec,p=1|Lmax\njob a d=3\njob b d=3\njob c d=3\njob d d=2\njob w d=2\njob x d=9\narc x a\narc x b\narc x c\nend\n",
+        status: 0,
+        out: b"start P2|prec,p=1|Lmax\nrow 7 P2|prec,p=p|Lmax\nrow 9 P2|prec,p=p|fmax\nrow 23 R2|prec,p=p|fmax\nsolver pair-due\nschedule\ncost 0\nunit 1\npiece x 1 1 0 1\npiece d 1 2 0 1\npiece w 1 1 1 2\npiece a 1 2 1 2\npiece b 1 1 2 3\npiece c 1 2 2 3\nend\n",
+        notes: b"",
+    },
+    Case {
+        words: &["solve"],
+        text: b"msp 1\nclass P|pmtn|sumC\nmachines 2\njob a p=5\njob b p=3\njob c p=3\njob d p=1\nend\n",
+        status: 0,
+        out: b"start P|pmtn|sumC\nsolver cut-sum\nschedule\ncost 16\nunit 1\npiece c 1 1 0 3\npiece d 1 2 0 1\npiece b 1 2 1 4\npiece a 1 1 3 8\nend\n",
+        notes: b"",
+    },
+    Case {
+        words: &["solve"],
+        text: b"msp 1\nclass P|pmtn,p=p|sumwC\nmachines 2\ntime 3\njob a w=1\njob b w=4\njob c w=2\nend\n",
+        status: 0,
+        out: b"start P|pmtn,p=p|sumwC\nsolver cut-weights\nschedule\ncost 24\nunit 1\npiece b 1 1 0 3\npiece c 1 2 0 3\npiece a 1 1 3 6\nend\n",
+        notes: b"",
+    },
+    Case {
+        words: &["solve"],
+        text: b"msp 1\nclass O|p=1|sumwC\nmachines 2\njob a w=1\njob b w=4\njob c w=2\nend\n",
+        status: 0,
+        out: b"start O|p=1|sumwC\nsolver open-weights\nschedule\ncost 16\nunit 1\npiece b 1 1 0 1\npiece c 2 2 0 1\npiece c 1 1 1 2\npiece b 2 2 1 2\npiece a 1 1 2 3\npiece a 2 2 3 4\nend\n",
+        notes: b"",
+    },
+    Case {
+        words: &["solve"],
+        text: b"msp 1\nclass O|pmtn,p=p|sumwC\nmachines 3\ntime 2\njob a w=1\njob b w=5\njob c w=3\njob d w=3\nend\n",
+        status: 0,
+        out: b"start O|pmtn,p=p|sumwC\nsolver cut-open-weights\nschedule\ncost 78\nunit 1\npiece b 1 1 0 2\npiece c 2 2 0 2\npiece d 3 3 0 2\npiece d 1 1 2 4\npiece b 2 2 2 4\npiece c 3 3 2 4\npiece c 1 1 4 6\npiece d 2 2 4 6\npiece b 3 3 4 6\npiece a 1 1 6 8\npiece a 2 2 8 10\npiece a 3 3 10 12\nend\n",
+        notes: b"",
+    },
 ];
 
 /// Examples that have many best schedules: how the answer begins.
@@ -493,6 +535,30 @@ pub const DRAWN: &[(&str, &[u8])] = &[
     (
         "P|r,p=1|Lmax",
         b"class P|r,p=1|Lmax\njobs 200\nseed 1\nsolver search\nrows 0\n",
+    ),
+    (
+        "R|intree,p=p|fmax",
+        b"class R|intree,p=p|fmax\njobs 200\nseed 1\nsolver tree-due\nrows 0\n",
+    ),
+    (
+        "R2|prec,p=p|fmax",
+        b"class R2|prec,p=p|fmax\njobs 200\nseed 1\nsolver pair-due\nrows 0\n",
+    ),
+    (
+        "P|pmtn|sumC",
+        b"class P|pmtn|sumC\njobs 200\nseed 1\nsolver cut-sum\nrows 0\n",
+    ),
+    (
+        "P|pmtn,p=p|sumwC",
+        b"class P|pmtn,p=p|sumwC\njobs 200\nseed 1\nsolver cut-weights\nrows 0\n",
+    ),
+    (
+        "O|p=1|sumwC",
+        b"class O|p=1|sumwC\njobs 200\nseed 1\nsolver open-weights\nrows 0\n",
+    ),
+    (
+        "O|pmtn,p=p|sumwC",
+        b"class O|pmtn,p=p|sumwC\njobs 200\nseed 1\nsolver cut-open-weights\nrows 0\n",
     ),
 ];
 
