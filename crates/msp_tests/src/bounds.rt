@@ -1,4 +1,4 @@
-// A bound on the greatest lateness, tried from both sides.
+// Bounds on the greatest lateness and on the greatest cost, tried from both sides.
 ghost use Rattle.std.specs.Prelude.{◌≡◌, pos, ◌+ℤ◌, IfSome, IsTrue, All};
 ghost use Rattle.msp_class.specs.declared.class.Env.TheVariants.{One};
 ghost use Rattle.msp_class.specs.declared.class.Crit.TheVariants.{Lmax};
@@ -6,9 +6,11 @@ ghost use Rattle.msp_instance.specs.Conditions.{Inner, LiesWithin};
 ghost use Rattle.msp_schedule.specs.Within.{Within};
 
 use msp_class::{Crit, Env, Order};
-use msp_instance::{Instance, Job};
+use msp_due::{TreeDue, can_meet};
+use msp_instance::{Instance, Job, Need};
 use msp_plain::{meets, shifted};
-use msp_samples::{JobData, class, instance, list_of, piece, timed};
+use msp_route::Solver;
+use msp_samples::{JobData, class, instance, instance_by_needs, list_of, need, piece, timed};
 use msp_schedule::{Schedule, first_break};
 use std::alloc::Global;
 use std::test::Fail;
@@ -91,4 +93,17 @@ fn due_dates_are_raised(rt: HostRuntime) -> Result<(), Fail> {
     };
     assert!(rt; first.due == 9 && second.due == 3 && raised.class.crit == Crit::SumU);
     Ok(())
+}
+
+/// Whether two jobs of cost 0 can cost at most a bound.
+fn can_cost(alloc: Global, bound: i128) -> Option<bool> {
+    let needs: [&[Need]; 2] = [&[need(0, 3), need(1, 3)], &[need(0, 3), need(1, 3)]];
+    let inst = instance_by_needs(alloc, TreeDue.target(), 2, &[], &needs)?;
+    can_meet(alloc, &inst, &bound).ok()
+}
+
+#[test]
+fn a_cost_can_be_met(rt: HostRuntime) {
+    assert_eq!(rt; can_cost(rt.alloc(), 0), Some(true));
+    assert_eq!(rt; can_cost(rt.alloc(), -1), Some(false));
 }

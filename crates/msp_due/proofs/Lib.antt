@@ -1,0 +1,9 @@
+mod DueSlots
+mod Counts
+mod Meeting
+mod Facts
+mod LongPieces
+mod Best
+mod LoweredSlots
+mod Ranges
+mod ListedSlots
