@@ -1,5 +1,7 @@
 -- What a call of `run` leaves.
-use Rattle.std.specs.Prelude.{◌≡◌, ◌↔◌, ℕ, ◌+◌, ◌<◌, ◌≤◌, ◌⊎◌, List, [], ◌∷◌, ◌++◌, length, take, map, codes, decimal, Vec, String, string_bytes}
+use Rattle.std.specs.Prelude.{◌≡◌, ◌≢◌, ◌↔◌, ℕ, ◌+◌, ◌<◌, ◌≤◌, ◌⊎◌, List, [], ◌∷◌, ◌++◌, length, take, map, codes, decimal, IfSome, Vec, String, string_bytes}
+use Rattle.msp_io.specs.Faults.{Rose}
+use Rattle.msp_io.specs.Views.{SourceView, SinkView}
 use Rattle.msp_report.specs.RowsText.{rows_report}
 use Rattle.msp_top.specs.declared.answers.TheConstants.{INPUT_LIMIT, CHECK_LIMIT}
 use Rattle.msp_top.specs.declared.command.Command.{Command}
@@ -144,3 +146,27 @@ pub record IsServed (words : List (List ℕ)) (call : Passed) (told : List ℕ �
   pub few : status ≡ 9 → (command : Command) → Asks words command → AtMost (was_read call) (limit_of command)
   -- Each status from 2 on has its note.
   pub note : 2 ≤ status → (text : List ℕ) × IsNote words call status text × told text
+
+-- What a call of `run` leaves, and one of `run_on_streams`: of the words, of what passed, of the notes that were told, of a source and a sink
+-- of the report that contracts see so, of the sink of the notes, each before and after the call, and of the status.
+pub record Leaves {S K E : Type 0} (words : List (List ℕ)) (call : Passed) (told : List ℕ → Type 0) (seen : S → SourceView) (source source_after : S) (seen_out : K → SinkView) (out out_after : K) (notes notes_after : E) (status : ℕ) : Type 0 where
+  -- What the status says of the words and of what passed, and which note it has.
+  pub served : IsServed words call told status
+  -- Nothing is read where the words fit no command, statuses other than 0, 1 and 8 leave the sink of the report as it was, and those below 2
+  -- that of the notes.
+  pub unread : status ≡ 2 → source_after ≡ source
+  pub unwritten : 2 ≤ status → status ≢ 8 → out_after ≡ out
+  pub silent : status ≤ 1 → notes_after ≡ notes
+  -- A failing device has counted it.
+  pub read_fault : status ≡ 7 → Rose (seen source).faults (seen source_after).faults
+  pub write_fault : status ≡ 8 → Rose (seen_out out).faults (seen_out out_after).faults
+  -- The table of rows takes no memory, and nothing is read for it: it is written, or the sink failed.
+  pub rows : AsksForRows words → (source_after ≡ source) × ((status ≡ 0) ⊎ (status ≡ 8))
+  -- A trial reads nothing, so the source does not end it. Where the sink has no new fault it ends as is due, or for want of memory.
+  pub trial : (trial : Trial) → AsksForTrial words trial
+      → (source_after ≡ source) × (status ≢ 7) × (¬ Rose (seen_out out).faults (seen_out out_after).faults → (status ≡ 9) ⊎ IsTrialDue trial status)
+  -- Words that fit and no new fault give the status that the whole input is due, or want of memory. Where the source tells its bytes, that
+  -- input is all that was left.
+  pub completeness : (command : Command) → Asks words command
+      → ¬ Rose (seen source).faults (seen source_after).faults → ¬ Rose (seen_out out).faults (seen_out out_after).faults
+      → (status ≡ 9) ⊎ IfSome (seen source).left (λ input. IsDue command input status)

@@ -1,24 +1,20 @@
--- What `run` leaves over std's reader and writers, of which a contract knows how many bytes passed.
-use Rattle.std.specs.Prelude.{◌≡◌, ◌⊎◌, ℕ, ◌+◌, ◌<◌, ◌≤◌, List, length, Option, true}
+-- What passed over std's reader and writers: the bytes where they tell them, and else how many.
+use Rattle.std.specs.Prelude.{◌≡◌, ◌⊎◌, ℕ, ◌+◌, ◌<◌, ◌≤◌, List, length, Option}
 use Rattle.msp_io.specs.declared.std_io.StdSource.{StdSource}
 use Rattle.msp_io.specs.declared.std_io.StdSink.{StdSink}
 use Rattle.msp_io.specs.Faults.{so_many_more}
-use Rattle.msp_io.specs.Sources.{Gives, GivesAll, GivesAndFails}
-use Rattle.msp_io.specs.Sinks.{Takes, TakesAndFails}
-use Rattle.msp_io.specs.StdAdapters.{source_at_end, source_view, sink_view}
+use Rattle.msp_io.specs.StdAdapters.{SourceGave, SourceFinished, SourceBroke, SinkTook, SinkBroke}
 use Rattle.msp_top.specs.declared.command.Command.{Command}
 use Rattle.msp_top.specs.Commands.{Asks}
-use Rattle.msp_top.specs.Run.{Passed, IsRightReport, limit_of}
+use Rattle.msp_top.specs.Run.{Passed, passed_between, IsRightReport, IsTold, limit_of}
 
 -- what passed between two states of std's reader and of its writer
 abbrev pub passed : {R W : Type 0} → (R → Option (List ℕ)) → (W → Option (List ℕ)) → StdSource R → StdSource R → StdSink W → StdSink W → Passed
-passed remaining contents source source_after out out_after = record {
-  gave = λ bytes. Gives (source_view remaining source) (source_view remaining source_after) bytes;
-  finished = λ bytes. (source_at_end source_after ≡ true) × GivesAll (source_view remaining source) (source_view remaining source_after) bytes;
-  broke = λ bytes. GivesAndFails (source_view remaining source) (source_view remaining source_after) bytes;
-  took = λ bytes. Takes (sink_view contents out) (sink_view contents out_after) bytes;
-  broke_off = λ bytes. TakesAndFails (sink_view contents out) (sink_view contents out_after) bytes;
-}
+passed remaining contents = passed_between (SourceGave remaining) (SourceFinished remaining) (SourceBroke remaining) (SinkTook contents) (SinkBroke contents)
+
+-- what was told on std's writer of the notes between two of its states
+abbrev pub told : {E : Type 0} → (E → Option (List ℕ)) → StdSink E → StdSink E → List ℕ → Type 0
+told contents notes notes_after = IsTold (SinkTook contents notes notes_after) (SinkBroke contents notes notes_after)
 
 -- By the counts of the bytes that the source gave and that the sink took.
 pub record IsCounted (words : List (List ℕ)) (call : Passed) (given given_after taken taken_after status : ℕ) : Type 0 where

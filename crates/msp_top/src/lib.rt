@@ -1,6 +1,6 @@
 //! The program as a library: `run` takes the words of the command line, a source, and two sinks, and answers the exit status.
 //!
-//! It stands on all that it calls. The program uses the clauses of `run`.
+//! It stands on all that it calls. The program calls `run_on_streams`, which promises over readers and writers of std what `run` does.
 #![tactic(auto)]
 
 #[cfg(test)]

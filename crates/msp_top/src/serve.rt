@@ -1,10 +1,9 @@
 // `run`: the words are read, the input is taken and answered, and what there is to say is written.
-ghost use Rattle.std.specs.Prelude.{◌≡◌, ◌≢◌, ◌⊎◌, ◌≤◌, ℕ, List, IfErr, IfSome};
+ghost use Rattle.std.specs.Prelude.{◌≡◌, ◌≢◌, ℕ, List, IfErr};
 ghost use Rattle.msp_io.specs.Faults.{Rose};
-ghost use Rattle.msp_top.specs.declared.command.Command.{Command as CommandValue};
 ghost use Rattle.msp_top.specs.declared.command.Trial.{Trial as TrialValue};
 ghost use Rattle.msp_top.specs.Commands.{Asks, AsksForRows, AsksForTrial};
-ghost use Rattle.msp_top.specs.Run.{spelled, limit_of, passed_between, IsServed, IsTold, IsDue, IsTrialDue};
+ghost use Rattle.msp_top.specs.Run.{spelled, passed_between, IsTold, Leaves};
 ghost use Rattle.msp_top.specs.Answers.{IsInRange};
 ghost use Rattle.msp_top.specs.Ending.{unread, Serves};
 
@@ -97,31 +96,8 @@ pub fn run<S: Source, K: Sink, E: Sink>(
     out: &mut K,
     notes: &mut E,
 ) -> u8
-    // What the status says of the words and of what passed, and which note it has.
-    ensures served { IsServed (spelled words.now) (passed_between S.gave S.finished S.broke K.took K.broke source.old source.new out.old out.new)
-        (IsTold (E.took notes.old notes.new) (E.broke notes.old notes.new)) result }
-
-    // Nothing is read where the words fit no command, statuses other than 0, 1 and 8 leave `out` as it was, and those below 2 `notes`.
-    ensures unread { result ≡ 2 → source.new ≡ source.old }
-    ensures unwritten { 2 ≤ result → result ≢ 8 → out.new ≡ out.old }
-    ensures silent { result ≤ 1 → notes.new ≡ notes.old }
-
-    // A failing device has counted it.
-    ensures read_fault { result ≡ 7 → Rose (S.seen source.old).faults (S.seen source.new).faults }
-    ensures write_fault { result ≡ 8 → Rose (K.seen out.old).faults (K.seen out.new).faults }
-
-    // The table of rows takes no memory, and nothing is read for it: it is written, or `out` failed.
-    ensures rows { AsksForRows (spelled words.now) → (source.new ≡ source.old) × ((result ≡ 0) ⊎ (result ≡ 8)) }
-
-    // A trial reads nothing, so the source does not end it. Where `out` has no new fault it ends as is due, or for want of memory.
-    ensures trial { (trial : TrialValue) → AsksForTrial (spelled words.now) trial
-        → (source.new ≡ source.old) × (result ≢ 7) × (¬ Rose (K.seen out.old).faults (K.seen out.new).faults → (result ≡ 9) ⊎ IsTrialDue trial result) }
-
-    // Words that fit and no new fault give the status that the whole input is due, or want of memory. Where the source tells its bytes, that
-    // input is all that was left.
-    ensures completeness { (command : CommandValue) → Asks (spelled words.now) command
-        → ¬ Rose (S.seen source.old).faults (S.seen source.new).faults → ¬ Rose (K.seen out.old).faults (K.seen out.new).faults
-        → (result ≡ 9) ⊎ IfSome (S.seen source.old).left (λ input. IsDue command input result) }
+    ensures { Leaves (spelled words.now) (passed_between S.gave S.finished S.broke K.took K.broke source.old source.new out.old out.new)
+        (IsTold (E.took notes.old notes.new) (E.broke notes.old notes.new)) S.seen source.old source.new K.seen out.old out.new notes.old notes.new result }
 {
     match serve(alloc, words, source, out) {
         Ok(status) => status,
