@@ -1,5 +1,6 @@
 // Each carrying row once over a small instance that is solved by hand: where it leads, and what comes back of the best schedule there.
-ghost use Rattle.std.specs.Prelude.{IfOk, IsTrue};
+ghost use Rattle.std.specs.Prelude.{◌≡◌, IfOk, IsTrue};
+ghost use Rattle.msp_carry.specs.Carried.{IsChain, carried};
 ghost use Rattle.msp_instance.specs.Conditions.{InClass, Inner};
 ghost use Rattle.msp_schedule.specs.Cost.{IsSolution};
 ghost use Rattle.msp_route.specs.Bounds.{IsSized, EndsBy};
@@ -7,9 +8,11 @@ ghost use Rattle.msp_route.specs.declared.bounds.TheConstants.{GREATEST_ANSWER_M
 
 use crate::row_tests::{is_feasible, is_small, row_over};
 use msp_carry::{bring, carry};
+use msp_class::List;
 use msp_file::{Filed, Names, Stated, print_instance, read_instance, read_schedule};
 use msp_instance::{Instance, check, forward};
 use msp_schedule::{Solution, cost, settle};
+use msp_table::Row;
 use std::alloc::Global;
 use std::process::Abort;
 use std::test::Fail;
@@ -479,23 +482,64 @@ fn read(alloc: Global, text: &[u8]) -> Result<Filed, Fail>
     Ok(read_instance(alloc, text)?)
 }
 
+/// Whether what comes back is what is known.
+fn is_known(back: &Solution, known: &Stated) -> bool {
+    back.cost == known.cost
+        && back.schedule.unit == known.schedule.unit
+        && back.schedule.pieces.as_slice() == known.schedule.pieces.as_slice()
+}
+
+/// Whether the stated schedule comes back.
+fn is_stated(alloc: Global, names: &Names, back: &Solution, text: &[u8]) -> Result<bool, Fail> {
+    let known = stated(alloc, names, text)?;
+    Ok(is_known(back, &known))
+}
+
+/// Whether the text of the instance is this one.
+fn is_printed(alloc: Global, instance: Instance, names: Names, text: &[u8]) -> Result<bool, Fail> {
+    let made = printed(alloc, instance, names)?;
+    Ok(made.as_slice() == text)
+}
+
+/// What comes back of the best schedule of the lower instance.
+fn brought(
+    alloc: Global,
+    inst: &Instance,
+    rows: &List<Row>,
+    lower: &Instance,
+    names: &Names,
+    text: &[u8],
+) -> Result<Solution, Fail>
+    requires inner { Inner inst.now }
+    requires chain { IsChain inst.now rows.now }
+    requires lower { lower.now ≡ carried rows.now inst.now }
+    requires inner_lower { Inner lower.now }
+{
+    let best = solution_of(alloc, lower, names, text)?;
+    settled(inst, bring(alloc, inst, rows, best)?)
+}
+
+/// Follows the way down, and back to what is stated. The lower instance.
+fn follow_back(alloc: Global, filed: &Filed, way: &Way) -> Result<Instance, Fail>
+    requires { Inner filed.now.instance }
+{
+    let inst = &filed.instance;
+    let rows = row_over(alloc, inst, way.row)?;
+    let lower = carry(alloc, inst, &rows)?;
+    let back = brought(alloc, inst, &rows, &lower, &filed.names, way.best)?;
+    if !is_stated(alloc, &filed.names, &back, way.back)? {
+        return Err(Fail::new("another schedule comes back"));
+    }
+    Ok(lower)
+}
+
 /// Follows the way down and back.
 fn follow(rt: &impl Abort, alloc: Global, way: &Way) -> Result<(), Fail> {
-    let Filed { instance, names } = read(alloc, way.upper)?;
-    let rows = row_over(alloc, &instance, way.row)?;
-    let lower = carry(alloc, &instance, &rows)?;
-    let best = solution_of(alloc, &lower, &names, way.best)?;
-    let back = settled(&instance, bring(alloc, &instance, &rows, best)?)?;
-    let known = stated(alloc, &names, way.back)?;
+    let filed = read(alloc, way.upper)?;
+    let lower = follow_back(alloc, &filed, way)?;
     let row = way.row;
-    assert_eq!(rt; back.cost, known.cost, "row {row}");
-    assert_eq!(rt; back.schedule.unit, known.schedule.unit, "row {row}");
     assert!(rt;
-        back.schedule.pieces.as_slice() == known.schedule.pieces.as_slice(),
-        "row {row}"
-    );
-    assert!(rt;
-        printed(alloc, lower, names)?.as_slice() == way.lower,
+        is_printed(alloc, lower, filed.names, way.lower)?,
         "row {row}"
     );
     Ok(())
