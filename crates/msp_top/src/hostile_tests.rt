@@ -5,7 +5,7 @@ use crate::accept_tests::ACCEPTED;
 use crate::certify_tests::CERTIFIED;
 use crate::check_tests::CHECKED;
 use crate::run;
-use crate::tests::{Call, Case, Seen, TEXT, calling, each_gives, gives, outcome};
+use crate::tests::{Call, Case, Seen, TEXT, calling, each_gives, gives, outcome, spelled};
 use msp_io::{SureSink, SureSource};
 use std::alloc::Global;
 use std::process::Abort;
@@ -150,15 +150,22 @@ fn surely(
     run(alloc, words, source, out, notes)
 }
 
-#[test]
-fn sure_devices(rt: HostRuntime) -> Result<(), Fail> {
-    let mut words = Vec::new(rt.alloc());
-    words.push(String::from_str(rt.alloc(), "solve")?)?;
-    let mut source = SureSource::new(TEXT.to_vec(rt.alloc())?, 7);
+/// The status of a call over devices that do not fail.
+fn sure_status(alloc: Global, words: &[&str], text: &[u8]) -> Result<u8, Fail> {
+    let words = spelled(alloc, words)?;
+    let mut source = SureSource::new(text.to_vec(alloc)?, 7);
     let mut out = SureSink::new();
     let mut notes = SureSink::new();
-    let status = surely(rt.alloc(), &words, &mut source, &mut out, &mut notes);
-    assert_eq!(rt; status, 0);
+    Ok(surely(alloc, &words, &mut source, &mut out, &mut notes))
+}
+
+#[test]
+fn sure_devices(rt: HostRuntime) -> Result<(), Fail> {
+    for calls in [CALLS, QUESTIONS, FRONTIER] {
+        for (words, text, _) in calls {
+            assert_eq!(rt; sure_status(rt.alloc(), words, text)?, 0);
+        }
+    }
     Ok(())
 }
 

@@ -464,13 +464,19 @@ pub fn calling<'a>(words: &'a [&'a str], text: &'a [u8]) -> Call<'a> {
     }
 }
 
+/// The words of a command line.
+pub fn spelled(alloc: Global, words: &[&str]) -> Result<Vec<String>, Fail> {
+    let mut spelled = Vec::new(alloc);
+    for word in words {
+        spelled.push(String::from_str(alloc, word)?)?;
+    }
+    Ok(spelled)
+}
+
 /// Runs a call. A number of 0 is the number of no call.
 pub fn outcome(alloc: Global, call: &Call<'_>) -> Result<Seen, Fail> {
     let step = call.step.max(1);
-    let mut words = Vec::new(alloc);
-    for word in call.words {
-        words.push(String::from_str(alloc, word)?)?;
-    }
+    let words = spelled(alloc, call.words)?;
     let mut source = MemorySource::new(
         call.text.to_vec(alloc)?,
         step,
@@ -692,8 +698,7 @@ fn one_job_too_many(rt: HostRuntime) -> Result<(), Fail> {
 fn one_byte_too_many(rt: HostRuntime) -> Result<(), Fail> {
     let mut text = Vec::new(rt.alloc());
     text.resize(4_194_305, b'x')?;
-    let mut words = Vec::new(rt.alloc());
-    words.push(String::from_str(rt.alloc(), "solve")?)?;
+    let words = spelled(rt.alloc(), &["solve"])?;
     let mut source = MemorySource::new(text, 1 << 20, Vec::new(rt.alloc()));
     let mut out = MemorySink::new(rt.alloc(), 100, 100, Vec::new(rt.alloc()))?;
     let mut notes = MemorySink::new(rt.alloc(), 100, 100, Vec::new(rt.alloc()))?;
