@@ -152,11 +152,15 @@ fn prices_and_a_block(rt: HostRuntime) {
     assert_eq!(rt; certified(alloc, blocks), Some((6, 1, "block")));
 }
 
-/// How many segments show the bound of four jobs in a diamond of arcs.
-fn segments_alone(alloc: Global) -> Option<usize> {
+/// How long the two segments are that show the bound of four jobs in a diamond of arcs.
+fn segments_alone(alloc: Global) -> Option<[usize; 2]> {
     let arcs = [(0, 1), (0, 2), (1, 3), (2, 3)];
     let diamond = instance(alloc, Lexical.target(), 2, &[UNIT_JOB; 4], &arcs)?;
-    Some(segments(alloc, &diamond).ok()?.len())
+    let lists = segments(alloc, &diamond).ok()?;
+    match lists.as_slice() {
+        [first, last] => Some([first.len(), last.len()]),
+        _ => None,
+    }
 }
 
 /// How many jobs have a price and a position.
@@ -174,7 +178,8 @@ fn block_alone(alloc: Global, jobs: &[JobData]) -> Option<usize> {
 #[test]
 fn evidence_alone(rt: HostRuntime) {
     let alloc = rt.alloc();
-    assert_eq!(rt; segments_alone(alloc), Some(2));
+    // Halved and rounded up they give the cost: 1 and 2.
+    assert_eq!(rt; segments_alone(alloc), Some([1, 3]));
     let needs: [&[Need]; 2] = [&[need(0, 1), need(1, 9)], &[need(0, 2), need(1, 3)]];
     assert_eq!(rt; prices_alone(alloc, &needs), Some(2));
     let costly = JobData {
