@@ -14,4 +14,3 @@ pub mod CheckAnswers
 pub mod CertifiedTexts
 pub mod AcceptAnswers
 pub mod CertifyAnswers
-pub mod RowJourneys

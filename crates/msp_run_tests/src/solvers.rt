@@ -1,6 +1,6 @@
 // Each solver over a source and sinks in memory: worked examples by full bytes, and two hundred drawn jobs.
-use crate::check_tests::is_feasible;
-use crate::tests::{Case, calling, each_gives, gives, outcome};
+use crate::calls::{Case, calling, each_gives, gives, outcome};
+use crate::checked::is_feasible;
 use std::alloc::Global;
 use std::test::Fail;
 

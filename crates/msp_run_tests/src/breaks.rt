@@ -2,8 +2,8 @@
 ghost use Rattle.std.specs.Prelude.{IfOk};
 ghost use Rattle.msp_instance.specs.Conditions.{InClass, Inner};
 
-use crate::row_tests::{class_of, is_small};
-use crate::solver_tests::DRAWN;
+use crate::rows::{class_of, is_small};
+use crate::solvers::DRAWN;
 use msp_class::{Class, EnvKind, List, env_kind};
 use msp_dispatch::{Cannot, solve_any};
 use msp_gen::generate;

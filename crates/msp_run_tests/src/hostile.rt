@@ -1,12 +1,12 @@
 // Devices that fail at one of their calls, texts that are cut at each byte, and damaged texts.
 ghost use Rattle.std.specs.Prelude.{◌≢◌};
 
-use crate::accept_tests::ACCEPTED;
-use crate::certify_tests::CERTIFIED;
-use crate::check_tests::CHECKED;
-use crate::run;
-use crate::tests::{Call, Case, Seen, TEXT, calling, each_gives, gives, outcome, spelled};
+use crate::accepted::ACCEPTED;
+use crate::calls::{Call, Case, Seen, TEXT, calling, each_gives, gives, outcome, spelled};
+use crate::certified::CERTIFIED;
+use crate::checked::CHECKED;
 use msp_io::{SureSink, SureSource};
+use msp_top::run;
 use std::alloc::Global;
 use std::process::Abort;
 use std::test::Fail;

@@ -1,6 +1,6 @@
 // `certify` over a source and sinks in memory, by full bytes.
-use crate::check_tests::behind;
-use crate::tests::{Case, calling, each_gives, outcome};
+use crate::calls::{Case, calling, each_gives, outcome};
+use crate::checked::behind;
 use std::test::Fail;
 
 /// An instance of a class with certificates.

@@ -6,7 +6,7 @@ ghost use Rattle.msp_schedule.specs.Cost.{IsSolution};
 ghost use Rattle.msp_route.specs.Bounds.{IsSized, EndsBy};
 ghost use Rattle.msp_route.specs.declared.bounds.TheConstants.{GREATEST_ANSWER_MOMENT};
 
-use crate::row_tests::{is_feasible, is_small, row_over};
+use crate::rows::{is_feasible, is_small, row_over};
 use msp_carry::{bring, carry};
 use msp_class::List;
 use msp_file::{Filed, Names, Stated, print_instance, read_instance, read_schedule};

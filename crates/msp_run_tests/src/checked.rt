@@ -1,5 +1,5 @@
 // `check` over a source and sinks in memory, by full bytes.
-use crate::tests::{Case, SOLVED, TEXT, calling, each_gives, gives, outcome};
+use crate::calls::{Case, SOLVED, TEXT, calling, each_gives, gives, outcome};
 use std::alloc::Global;
 use std::test::Fail;
 

@@ -1,5 +1,5 @@
 // `trial` over a source and sinks in memory, by full bytes.
-use crate::tests::{Call, Case, calling, each_gives, gives};
+use crate::calls::{Call, Case, calling, each_gives, gives};
 use std::test::Fail;
 
 const TRIALS: &[Case] = &[

@@ -1,6 +1,6 @@
 // The whole command line over a source and sinks in memory, by full bytes: solving, questions, misfits and failing devices.
-use crate::run;
 use msp_io::{MemorySink, MemorySource};
+use msp_top::run;
 use std::alloc::Global;
 use std::process::Abort;
 use std::test::Fail;

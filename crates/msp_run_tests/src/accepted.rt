@@ -1,5 +1,5 @@
 // `accept` over a source and sinks in memory, by full bytes.
-use crate::tests::{Case, each_gives};
+use crate::calls::{Case, each_gives};
 use std::test::Fail;
 
 /// An instance with a certificate after it.
