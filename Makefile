@@ -1,39 +1,44 @@
-# Proves msp, builds it, and puts it where it is wanted. It needs the toolchain that README.md names, but for `install` and `dist`
-# where a built program stands.
+# Proves msp, builds it, and puts it where it is wanted. It needs the toolchain that README.md names, but for `install` and `dist`, which
+# take the released program: the one where it is not there, the other always.
 PREFIX ?= /usr/local
 OUT := crates/msp/out
 SOURCES := $(shell find crates/*/src crates/*/specs crates/*/proofs 2>/dev/null)
 COMPANIONS := $(sort $(shell find companions -maxdepth 1 -type f -name '[a-z]*'))
 TO = $(DESTDIR)$(PREFIX)
+# The program to be installed.
+PROGRAM ?= $(if $(shell command -v rt 2>/dev/null),$(OUT)/msp,released/msp)
 PROCESSORS := $(shell getconf _NPROCESSORS_ONLN 2>/dev/null || echo 1)
 # Crates proved at once: half as many again as processors, since most take one and wait at times, but a gigabyte and a half each.
 ROOM := $(shell awk '/^MemAvailable/ { most = int($$2 / 1500000); print (most < 1 ? 1 : most) }' /proc/meminfo 2>/dev/null || echo 1)
 AT_ONCE ?= $(shell printf '%s\n' $$((3 * $(PROCESSORS) / 2)) $(ROOM) | sort -n | head -n 1)
 
-.PHONY: program check install clean help atlas dist
+.PHONY: program check install clean help atlas dist release
 .DELETE_ON_ERROR:
 MAKEFLAGS += --no-builtin-rules --no-print-directory
 
 # The program, proved and built; after an edit only what changed is proved again, and what stands on it.
 program: $(OUT)/msp
+	@if cmp -s $(OUT)/msp released/msp; then echo '$(OUT)/msp is the released program, byte for byte'; \
+	elif why=$$(tools/released); then echo '$(OUT)/msp is not the released program, though its sources are the same'; \
+	else echo "$(OUT)/msp is not the released program: $$why"; fi
 
 help:
 	@echo 'make                the program, $(OUT)/msp: proves and builds what changed ($(AT_ONCE) crates at once here; AT_ONCE=N for others)'
-	@echo 'make check          the gate: every proof, every test, every wrong body (rt ci)'
+	@echo 'make check          the gate: every proof, every test, every wrong body (rt ci), and the released program against them'
 	@echo 'make install        the program, its manual page, and the companions as msp-NAME, to $(PREFIX) (PREFIX=..., DESTDIR=...)'
 	@echo 'make atlas          all classes as one page, $(OUT)/atlas.html'
-	@echo 'make dist           archives of the program and of the sources, in $(OUT)/dist'
+	@echo 'make release        puts what was built into released/, with all checksums'
+	@echo 'make dist           archives of the released program and of the sources, in $(OUT)/dist'
 	@echo 'make clean          removes all that was built'
 
 check:
-	rt ci
+	.ci/run
 
 install:
-	@if command -v rt >/dev/null; then $(MAKE) program; \
-	elif [ -x $(OUT)/msp ]; then echo 'there is no rt here: the program that stands here is installed as it is' >&2; \
-	else echo 'there is no built program, and no rt to build one: README.md says what it takes' >&2; exit 1; fi
+	@if [ $(PROGRAM) != released/msp ]; then $(MAKE) $(PROGRAM); \
+	elif ! why=$$(tools/released); then echo "the released program is not that of the sources here, and not installed: $$why" >&2; exit 1; fi
 	install -d "$(TO)/bin" "$(TO)/lib/msp" "$(TO)/share/man/man1" "$(TO)/share/msp/examples" "$(TO)/share/msp/docs/results"
-	install -m 755 $(OUT)/msp "$(TO)/bin"
+	install -m 755 $(PROGRAM) "$(TO)/bin"
 	install -m 755 $(COMPANIONS) "$(TO)/lib/msp"
 	install -m 644 docs/msp.1 "$(TO)/share/man/man1"
 	install -m 644 examples/known-*.csv "$(TO)/share/msp/examples"
@@ -42,7 +47,10 @@ install:
 	ln -sf ../../bin/msp "$(TO)/lib/msp/msp"
 	for it in $(notdir $(filter-out %.py %.html,$(COMPANIONS))); do ln -sf ../lib/msp/$$it "$(TO)/bin/msp-$$it"; done
 
-dist: program
+release:
+	tools/release
+
+dist:
 	tools/dist
 
 atlas: program
@@ -51,8 +59,10 @@ atlas: program
 clean:
 	rm -rf crates/*/out
 
-ifneq ($(filter-out help clean check install,$(or $(MAKECMDGOALS),program)),)
+ifneq ($(filter-out help clean check install release dist,$(or $(MAKECMDGOALS),program)),)
 MAKEFLAGS += -j$(AT_ONCE)
+# When this call began, by which tools/progress tells what it proved.
+export BEGUN := $(shell date +%s)
 include $(OUT)/rules.mk
 $(OUT)/rules.mk: crates.txt $(SOURCES) tools/rules
 	@mkdir -p $(OUT)

@@ -48,24 +48,30 @@ def run(name, main):
 # The program
 
 def find_program(named=None):
-    """The program's path: the named one; or $MSP, or msp beside the companions, in PATH or in the clone; or None."""
+    """The program's path: the named one; or $MSP, or msp beside the companions, in PATH or in the clone, where the released one comes first
+    if it is that of the sources; or None."""
     here = os.path.dirname(os.path.realpath(__file__))
     if named or os.environ.get("MSP"):
         path = shutil.which(named or os.environ["MSP"])
         if path is None:
             raise Misfit(f"there is no program {named or os.environ['MSP']}")
         return os.path.abspath(path)
-    for path in (f"{here}/msp", shutil.which("msp"), f"{here}/../crates/msp/out/msp"):
-        if path and os.path.isfile(path) and os.access(path, os.X_OK):
+    for path in (f"{here}/msp", shutil.which("msp"), f"{here}/../released/msp", f"{here}/../crates/msp/out/msp"):
+        if path and os.path.isfile(path) and os.access(path, os.X_OK) and (not path.endswith("released/msp") or is_released(path)):
             return os.path.abspath(path)
     return None
+
+
+def is_released(path):
+    """Whether the released program has its checksum, and is that of the sources beside it."""
+    return subprocess.run(["sh", f"{os.path.dirname(path)}/../tools/released"], stdout=subprocess.DEVNULL).returncode == 0
 
 
 def need_program(named=None):
     """The program's path, or a misfit that says where it was looked for."""
     program = find_program(named)
     if program is None:
-        raise Misfit("there is no program msp beside the companions, in PATH or in crates/msp/out; ./run-msp builds it")
+        raise Misfit("there is no program msp beside the companions, in PATH or in crates/msp/out, and none in released/ that is that of the sources; make builds it")
     return program
 
 
