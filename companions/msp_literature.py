@@ -6,6 +6,7 @@ import os
 import re
 from dataclasses import dataclass, field
 
+import msp_texts
 from msp_texts import Fault, Misfit
 
 HERE = os.path.dirname(os.path.realpath(__file__))
@@ -30,6 +31,19 @@ def need_file(named, name, option):
     if path is None:
         raise Misfit(f"there is no {name} in the clone or beside the companions; {option} FILE names one")
     return path
+
+
+# Names that stand for several classes
+
+def lines_of(program, results, means):
+    """What is said of a name that stands for several classes, or for a fixed number of machines, by their labels; nothing of others."""
+    if means.single:
+        return []
+    names = [str(it) for it in [*means.classes, *means.with_input]]
+    status, report, note = msp_texts.call(program, ["label", *names], results)
+    if status > 1:
+        raise Fault(note)
+    return means.lines(dict(it.split(" ") for it in report.splitlines() if it.count("|") == 2 and it.count(" ") == 1))
 
 
 # Reports of `why`

@@ -7,7 +7,6 @@ from __future__ import annotations
 
 import argparse
 import csv
-import difflib
 import io
 import os
 import re
@@ -19,13 +18,8 @@ from datetime import datetime, timedelta
 from fractions import Fraction
 from functools import cached_property
 
-
-class Fault(Exception):
-    """A fault of a text or a list: a companion prints it on standard error, and ends with status 3."""
-
-
-class Misfit(Exception):
-    """Words that do not fit: a companion prints it on standard error, and ends with status 2."""
+from msp_classes import (CRITERIA, ENVIRONMENTS, ITEMS, PRECEDENCE, ClassName, Fault, Misfit,  # noqa: F401
+                         class_named, class_of)
 
 
 def run(name, main):
@@ -264,99 +258,6 @@ def settle_moments(wanted):
         raise Misfit("--scale is above 0")
 
 
-# Names of classes
-
-# (the environments that fix the number of machines)
-MACHINES = {"1": 1, "P2": 2, "P3": 3, "Q2": 2, "R2": 2, "O2": 2, "O3": 3, "F2": 2, "F3": 3, "J2": 2}
-ENVIRONMENTS = ("1", "P2", "P3", "P", "Q2", "Q", "R2", "R", "O2", "O3", "O", "F2", "F3", "F", "J2", "J")
-ITEMS = ("pmtn", "chains", "intree", "outtree", "prec", "r", "p=1", "p=p", "n<=2")
-CRITERIA = ("Cmax", "Lmax", "fmax", "sumC", "sumwC", "sumU", "sumwU", "sumT", "sumwT")
-SPELLINGS = {"chain": "chains", "in-tree": "intree", "out-tree": "outtree", "r_j": "r", "rj": "r", "n_j<=2": "n<=2", "nj<=2": "n<=2",
-             "C_max": "Cmax", "L_max": "Lmax", "f_max": "fmax", "sumC_j": "sumC", "sumw_jC_j": "sumwC", "sumU_j": "sumU",
-             "sumw_jU_j": "sumwU", "sumT_j": "sumT", "sumw_jT_j": "sumwT",
-             **{f"p{at}={time}": f"p={time}" for at in ("_j", "j", "_ij", "ij") for time in "1p"}}
-PRECEDENCE = ("chains", "intree", "outtree", "prec")
-
-
-@dataclass(frozen=True)
-class ClassName:
-    """A class by its parts, in canonical spelling; str() gives the name."""
-    environment: str
-    items: tuple
-    criterion: str
-
-    def __str__(self):
-        return f"{self.environment}|{','.join(self.items)}|{self.criterion}"
-
-    @property
-    def kind(self):
-        """The environment without its number of machines: 1, P, Q, R, O, F or J."""
-        return self.environment[0]
-
-    @property
-    def machines(self):
-        """The number of machines that the environment fixes, or None."""
-        return MACHINES.get(self.environment)
-
-    @property
-    def precedence(self):
-        """chains, intree, outtree, prec, or None."""
-        return next((it for it in self.items if it in PRECEDENCE), None)
-
-    @property
-    def general(self):
-        """Whether operations have times of their own."""
-        return "p=1" not in self.items and "p=p" not in self.items
-
-    @property
-    def keys(self):
-        """The keys that a job's line has, as letters in order: some of p, r, d and w."""
-        return ("p" * (self.kind in "1PQ" and self.general) + "r" * ("r" in self.items)
-                + "d" * (self.criterion == "Lmax" or self.criterion[-1] in "UT") + "w" * self.criterion.startswith("sumw"))
-
-
-def class_named(text):
-    """The class of a name in a spelling of docs/formats.md, or None."""
-    parts = text.split("|")
-    if len(parts) != 3 or parts[0] not in ENVIRONMENTS or SPELLINGS.get(parts[2], parts[2]) not in CRITERIA:
-        return None
-    items = [SPELLINGS.get(it, it) for it in parts[1].split(",")] if parts[1] else []
-    groups = ["precedence" if it in PRECEDENCE else it[:2] if it.startswith("p=") else it for it in items]
-    if any(it not in ITEMS for it in items) or len(set(groups)) != len(groups) or ("n<=2" in items and parts[0][0] != "J"):
-        return None
-    return ClassName(parts[0], tuple(sorted(items, key=ITEMS.index)), SPELLINGS.get(parts[2], parts[2]))
-
-
-def near(word, known):
-    """The known word that a word is, by another case or nearly; or None."""
-    lower = {it.lower(): it for it in known}
-    found = difflib.get_close_matches(word.lower(), lower, 1, 0.7)
-    return lower[found[0]] if found else None
-
-
-def class_of(text):
-    """The class of a name, or a misfit that says which part is wrong and what it may be meant to be."""
-    found = class_named(text)
-    if found:
-        return found
-    parts = re.sub(r"[ $\\{}]", "", text.replace(";", ",").replace("\\mid", "|")).split("|")
-    if len(parts) != 3:
-        raise Misfit(f"{text} is no class: a name has three parts with two bars, as '1|prec|Lmax' (in quotes)")
-    env, crit = parts[0][:1].upper() + parts[0][1:], parts[2]
-    env = env if env in ENVIRONMENTS else env[:1] if env[1:] == "m" else near(env, ENVIRONMENTS)
-    spelled = [it for it in parts[1].split(",") if it]
-    items = [it if it in ITEMS or it in SPELLINGS else near(it, [*ITEMS, *SPELLINGS]) for it in spelled]
-    crit = crit if crit in CRITERIA or crit in SPELLINGS else near(crit, [*CRITERIA, *SPELLINGS])
-    meant = class_named(f"{env}|{','.join(map(str, items))}|{crit}") if env and crit and all(items) else None
-    if meant:
-        raise Misfit(f"{text} is no class: is '{meant}' meant?")
-    wrong = (f"environment {parts[0]}: it is one of {' '.join(ENVIRONMENTS)}" if env is None else
-             f"criterion {parts[2]}: it is one of {' '.join(CRITERIA)}" if crit is None else
-             next((f"item {it}: items are {' '.join(ITEMS)}" for it, known in zip(spelled, items) if known is None),
-                  "items that do not go together: at most one of chains, intree, outtree and prec, one of p=1 and p=p, n<=2 with J alone"))
-    raise Misfit(f"{text} is no class: {wrong}")
-
-
 # Instance texts
 
 @dataclass
@@ -449,6 +350,20 @@ def read_instance(text):
     if found.machines is None:
         raise Fault(f"line 3: the line machines is missing")
     return found
+
+
+def text_of(instance):
+    """The text of an instance."""
+    kind, lines = instance.kind, ["msp 1", f"class {instance.kind}"]
+    lines += [] if kind.machines else [f"machines {instance.machines}"]
+    lines += ["speeds " + " ".join(map(str, instance.speeds))] if instance.speeds else []
+    lines += [f"time {instance.time}"] if "p=p" in kind.items else []
+    for job in instance.jobs:
+        lines.append(f"job {job.name}" + "".join(f" {key}={getattr(job, KEYS[key])}" for key in kind.keys))
+        numbers = {"times": job.times, "route": [it for step in job.route for it in step if it is not None], "curve": job.curve}
+        lines += [f"{word} " + " ".join(map(str, those)) for word, those in numbers.items() if those]
+    lines += [f"arc {before} {after}" for before, after in instance.arcs]
+    return "\n".join([*lines, "end", ""])
 
 
 def read_instance_at(path):

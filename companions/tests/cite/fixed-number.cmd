@@ -1,0 +1,2 @@
+cite 'Pm|pmtn|\sum U_j'
+cite --bibtex 'Pm||Cmax' | grep -E '^[%@]'
