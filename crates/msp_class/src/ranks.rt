@@ -8,6 +8,53 @@ use crate::class::{Class, Crit, Env, Order, Times};
 /// How many classes there are.
 pub const CLASSES: u16 = 9720;
 
+/// The environments by their numbers.
+const ENVS: [Env; 18] = [
+    Env::One,
+    Env::P2,
+    Env::P3,
+    Env::P,
+    Env::Q2,
+    Env::Q,
+    Env::R2,
+    Env::R,
+    Env::O2,
+    Env::O3,
+    Env::O,
+    Env::F2,
+    Env::F3,
+    Env::F,
+    Env::J2Short,
+    Env::JShort,
+    Env::J2,
+    Env::J,
+];
+
+/// The orders by their numbers.
+const ORDERS: [Order; 5] = [
+    Order::Free,
+    Order::Chains,
+    Order::Intree,
+    Order::Outtree,
+    Order::Prec,
+];
+
+/// The kinds of times by their numbers.
+const TIMES: [Times; 3] = [Times::General, Times::Unit, Times::Equal];
+
+/// The criteria by their numbers.
+const CRITS: [Crit; 9] = [
+    Crit::Cmax,
+    Crit::Lmax,
+    Crit::Fmax,
+    Crit::SumC,
+    Crit::SumWC,
+    Crit::SumU,
+    Crit::SumWU,
+    Crit::SumT,
+    Crit::SumWT,
+];
+
 /// The number of a class, from 0 to `CLASSES - 1`.
 #[tactic(auto, unfolding(crate::specs::Rank::rank_of))]
 pub fn rank(c: Class) -> u16
@@ -96,26 +143,7 @@ fn env_at(n: u16) -> Env
     requires { n < 18 }
     ensures { env_number result ≡ n }
 {
-    match n {
-        0 => Env::One,
-        1 => Env::P2,
-        2 => Env::P3,
-        3 => Env::P,
-        4 => Env::Q2,
-        5 => Env::Q,
-        6 => Env::R2,
-        7 => Env::R,
-        8 => Env::O2,
-        9 => Env::O3,
-        10 => Env::O,
-        11 => Env::F2,
-        12 => Env::F3,
-        13 => Env::F,
-        14 => Env::J2Short,
-        15 => Env::JShort,
-        16 => Env::J2,
-        _ => Env::J,
-    }
+    ENVS[n as usize]
 }
 
 fn flag_at(n: u16) -> bool
@@ -129,39 +157,19 @@ fn order_at(n: u16) -> Order
     requires { n < 5 }
     ensures { order_number result ≡ n }
 {
-    match n {
-        0 => Order::Free,
-        1 => Order::Chains,
-        2 => Order::Intree,
-        3 => Order::Outtree,
-        _ => Order::Prec,
-    }
+    ORDERS[n as usize]
 }
 
 fn times_at(n: u16) -> Times
     requires { n < 3 }
     ensures { times_number result ≡ n }
 {
-    match n {
-        0 => Times::General,
-        1 => Times::Unit,
-        _ => Times::Equal,
-    }
+    TIMES[n as usize]
 }
 
 fn crit_at(n: u16) -> Crit
     requires { n < 9 }
     ensures { crit_number result ≡ n }
 {
-    match n {
-        0 => Crit::Cmax,
-        1 => Crit::Lmax,
-        2 => Crit::Fmax,
-        3 => Crit::SumC,
-        4 => Crit::SumWC,
-        5 => Crit::SumU,
-        6 => Crit::SumWU,
-        7 => Crit::SumT,
-        _ => Crit::SumWT,
-    }
+    CRITS[n as usize]
 }
