@@ -1,4 +1,4 @@
--- What the functions that put jobs into order, and that search for cycles, keep.
+-- What the functions that put jobs into order, and that search for cycles, keep. No public contract cites this file.
 use Rattle.std.specs.Prelude.{◌≡◌, ◌≢◌, ℕ, ◌<◌, Bool, not, ◌==◌, ◌&&◌, cond, List, length, slice_index, All, AllPairs, Any, Contains, ◌⊎◌, count_by, take}
 use Rattle.std.specs.List.{list_any}
 use Rattle.msp_instance.specs.declared.Arc.{Arc}

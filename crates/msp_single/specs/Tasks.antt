@@ -1,4 +1,5 @@
--- The tasks of Moore's rule: what they say of jobs, how they compare, and what the rule does with them.
+-- The tasks of Moore's rule: what they say of jobs, how they compare, and what the rule does with them. No public contract cites this
+-- file.
 use Rattle.std.specs.Prelude.{◌≡◌, ℕ, ◌<◌, ◌≤◌, ◌⊎◌, ◌<ℤ◌, ◌++◌, List, [], ◌∷◌, map, AllPairs, IsPermutation}
 use Rattle.std.specs.List.{remove}
 use Rattle.msp_instance.specs.declared.Instance.{Instance}
