@@ -24,4 +24,3 @@ pub use sink::Sink;
 pub use source::{Failed, Source};
 pub use std_io::{StdSink, StdSource};
 pub use whole::{GREATEST_LIMIT, Taken, WriteFault, read_all, write_all};
-

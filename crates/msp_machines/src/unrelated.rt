@@ -281,12 +281,7 @@ impl Reduction for Row26 {
         led_by_speeds(alloc, inst, self.row())
     }
 
-    fn back(
-        &self,
-        _alloc: Global,
-        inst: &Instance,
-        lower: Solution,
-    ) -> Result<Solution, NoMemory> {
+    fn back(&self, _alloc: Global, inst: &Instance, lower: Solution) -> Result<Solution, NoMemory> {
         Ok(solution_by_speeds(inst, lower.schedule))
     }
 
@@ -324,12 +319,7 @@ impl Reduction for Row27 {
         led_by_speeds(alloc, inst, self.row())
     }
 
-    fn back(
-        &self,
-        _alloc: Global,
-        inst: &Instance,
-        lower: Solution,
-    ) -> Result<Solution, NoMemory> {
+    fn back(&self, _alloc: Global, inst: &Instance, lower: Solution) -> Result<Solution, NoMemory> {
         Ok(solution_by_speeds(inst, lower.schedule))
     }
 

@@ -155,12 +155,7 @@ impl Reduction for Row54 {
         Ok(lower)
     }
 
-    fn back(
-        &self,
-        _alloc: Global,
-        inst: &Instance,
-        lower: Solution,
-    ) -> Result<Solution, NoMemory> {
+    fn back(&self, _alloc: Global, inst: &Instance, lower: Solution) -> Result<Solution, NoMemory> {
         let mut schedule = lower.schedule;
         close_up(&mut schedule, common_time(inst));
         let cost = cost(inst, &schedule);

@@ -85,12 +85,7 @@ impl Reduction for Row47 {
         Ok(lower)
     }
 
-    fn back(
-        &self,
-        _alloc: Global,
-        inst: &Instance,
-        lower: Solution,
-    ) -> Result<Solution, NoMemory> {
+    fn back(&self, _alloc: Global, inst: &Instance, lower: Solution) -> Result<Solution, NoMemory> {
         Ok(reversed(inst, lower))
     }
 
@@ -133,12 +128,7 @@ impl Reduction for Row48 {
         Ok(lower)
     }
 
-    fn back(
-        &self,
-        _alloc: Global,
-        inst: &Instance,
-        lower: Solution,
-    ) -> Result<Solution, NoMemory> {
+    fn back(&self, _alloc: Global, inst: &Instance, lower: Solution) -> Result<Solution, NoMemory> {
         Ok(reversed(inst, lower))
     }
 

@@ -89,12 +89,7 @@ impl Reduction for Row51 {
         exchanged(alloc, inst, self.row())
     }
 
-    fn back(
-        &self,
-        alloc: Global,
-        inst: &Instance,
-        lower: Solution,
-    ) -> Result<Solution, NoMemory> {
+    fn back(&self, alloc: Global, inst: &Instance, lower: Solution) -> Result<Solution, NoMemory> {
         let order = order_from_last(alloc, inst.jobs.len() as u32, &lower.schedule)?;
         line_up(alloc, inst, lower.schedule.unit.unsigned_abs(), &order)
     }
@@ -134,12 +129,7 @@ impl Reduction for Row52 {
         exchanged(alloc, inst, self.row())
     }
 
-    fn back(
-        &self,
-        alloc: Global,
-        inst: &Instance,
-        lower: Solution,
-    ) -> Result<Solution, NoMemory> {
+    fn back(&self, alloc: Global, inst: &Instance, lower: Solution) -> Result<Solution, NoMemory> {
         let order = order_from_last(alloc, inst.jobs.len() as u32, &lower.schedule)?;
         line_up(alloc, inst, lower.schedule.unit.unsigned_abs(), &order)
     }

@@ -82,12 +82,7 @@ impl Reduction for Row50 {
         led(alloc, inst, self.row())
     }
 
-    fn back(
-        &self,
-        alloc: Global,
-        inst: &Instance,
-        lower: Solution,
-    ) -> Result<Solution, NoMemory> {
+    fn back(&self, alloc: Global, inst: &Instance, lower: Solution) -> Result<Solution, NoMemory> {
         let order = order_of_ends(alloc, inst.jobs.len() as u32, &lower.schedule)?;
         line_up(alloc, inst, lower.schedule.unit.unsigned_abs(), &order)
     }

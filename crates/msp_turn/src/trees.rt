@@ -37,12 +37,7 @@ impl Reduction for Row45 {
         led_turned(alloc, inst, self.row())
     }
 
-    fn back(
-        &self,
-        _alloc: Global,
-        inst: &Instance,
-        lower: Solution,
-    ) -> Result<Solution, NoMemory> {
+    fn back(&self, _alloc: Global, inst: &Instance, lower: Solution) -> Result<Solution, NoMemory> {
         Ok(reversed(inst, lower))
     }
 
@@ -80,12 +75,7 @@ impl Reduction for Row46 {
         led_turned(alloc, inst, self.row())
     }
 
-    fn back(
-        &self,
-        _alloc: Global,
-        inst: &Instance,
-        lower: Solution,
-    ) -> Result<Solution, NoMemory> {
+    fn back(&self, _alloc: Global, inst: &Instance, lower: Solution) -> Result<Solution, NoMemory> {
         Ok(reversed(inst, lower))
     }
 
