@@ -6,7 +6,7 @@ ghost use Rattle.msp_report.specs.SolveText.{solver_word, solver_line, solve_rep
 
 use crate::chain_text::put_chain;
 use msp_class::NoMemory;
-use msp_grammar::put_schedule;
+use msp_grammar::print_schedule;
 use msp_job_name::Names;
 use msp_route::{Answer, SolverName};
 use msp_text::put;
@@ -63,10 +63,10 @@ pub fn solve_text(alloc: Global, names: &Names, answer: &Answer) -> Result<Vec<u
     requires lowest { IsLowest answer.now.solution.cost }
     ensures { IfOk result (λ text. text.items ≡ solve_report names.now answer.now) }
 {
+    let schedule = print_schedule(alloc, names, &answer.solution)?;
     let mut text = Vec::new(alloc);
     put_chain(&mut text, &answer.chain)?;
     put_solver(&mut text, answer.solver)?;
-    let solution = &answer.solution;
-    put_schedule(&mut text, names, &solution.schedule, solution.cost)?;
+    put(&mut text, &schedule)?;
     Ok(text)
 }
