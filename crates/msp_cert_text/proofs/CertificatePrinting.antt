@@ -14,9 +14,8 @@ two_line w v = append_assoc w (32 ∷ v) (10 ∷ [])
 pub three_line : (w n v : List ℕ) → line_text (w ∷ n ∷ v ∷ []) ≡ w ++ (32 ∷ (n ++ (32 ∷ (v ++ 10 ∷ []))))
 three_line w n v = append_assoc w (32 ∷ (n ++ (32 ∷ v))) (10 ∷ []) ∙ ap (λ x. w ++ (32 ∷ x)) (two_line n v)
 
-pub four_line : (w a b v : List ℕ) → line_text (w ∷ a ∷ b ∷ v ∷ []) ≡ w ++ (32 ∷ ((a ++ (32 ∷ b)) ++ (32 ∷ (v ++ 10 ∷ []))))
-four_line w a b v =
-    append_assoc w (32 ∷ (a ++ (32 ∷ (b ++ (32 ∷ v))))) (10 ∷ []) ∙ ap (λ x. w ++ (32 ∷ x)) (three_line a b v ∙ sym (append_assoc a (32 ∷ b) (32 ∷ (v ++ 10 ∷ []))))
+pub four_line : (w a b v : List ℕ) → line_text (w ∷ a ∷ b ∷ v ∷ []) ≡ w ++ (32 ∷ (a ++ (32 ∷ (b ++ (32 ∷ (v ++ 10 ∷ []))))))
+four_line w a b v = append_assoc w (32 ∷ (a ++ (32 ∷ (b ++ (32 ∷ v))))) (10 ∷ []) ∙ ap (λ x. w ++ (32 ∷ x)) (three_line a b v)
 
 pub lines_text-append : (a b : List (List (List ℕ))) → lines_text (a ++ b) ≡ lines_text a ++ lines_text b
 lines_text-append a b = flat_map-append line_text a b

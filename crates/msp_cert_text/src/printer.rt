@@ -1,9 +1,9 @@
 // The printer of certificate texts.
-ghost use Rattle.std.specs.Prelude.{◌≡◌, ◌+◌, ◌/◌, ◌%◌, ◌<◌, ◌++◌, ◌∷◌, [], ℕ, not, length, codes, decimal, pos, OnOk, IfOk};
+ghost use Rattle.std.specs.Prelude.{◌≡◌, ◌<◌, ◌++◌, ◌∷◌, [], ℕ, not, length, codes, decimal, pos, OnOk, IfOk};
 ghost use Rattle.std.specs.Fmt.{signed_decimal};
 ghost use Rattle.std.specs.Ordering.{int_eq};
 ghost use Rattle.msp_schedule.specs.Fraction.{IsLowest};
-ghost use Rattle.msp_grammar.specs.ScheduleText.{space, name_at, fraction_text};
+ghost use Rattle.msp_grammar.specs.ScheduleText.{name_at, fraction_text};
 ghost use Rattle.msp_grammar.specs.InstanceText.{where_wanted, line_text};
 ghost use Rattle.msp_grammar.specs.lines.Steps.{slice_limit};
 ghost use Rattle.msp_cert_text.specs.CertificateText.{job_line, job_lines, numbered_lines, segment_lines, column_line, column_lines, kind_lines, lines_text, certificate_text, printed_certificate, IsStatedProof, IsStatedCertificate, IsCertificateText};
@@ -15,31 +15,42 @@ use msp_class::{List, NoMemory};
 use msp_grammar::{put_fraction, put_name};
 use msp_instance::Instance;
 use msp_job_name::Names;
-use msp_text::{put, put_integer, put_number};
+use msp_text::{Part, put, put_all};
 use std::alloc::Global;
 
 /// Puts a line of two fields.
 #[tactic(auto, using(crate::proofs::CertificatePrinting::two_line))]
-fn put_two(out: &mut Vec<u8>, word: &[u8], field: &[u8]) -> Result<(), NoMemory>
+fn put_two<'a>(out: &mut Vec<u8>, word: &'a [u8], field: &'a [u8]) -> Result<(), NoMemory>
     ensures { OnOk result (out.new.items ≡ out.old.items ++ line_text (word.now ∷ field.now ∷ [])) }
 {
-    put(out, word)?;
-    put(out, b" ")?;
-    put(out, field)?;
-    put(out, b"\n")
+    let parts = [
+        Part::Text(word),
+        Part::Text(b" "),
+        Part::Text(field),
+        Part::Text(b"\n"),
+    ];
+    put_all(out, &parts)
 }
 
 /// Puts the line of a job's name and its number.
 #[tactic(auto, using(crate::proofs::CertificatePrinting::three_line))]
-fn put_three(out: &mut Vec<u8>, word: &[u8], name: &[u8], field: &[u8]) -> Result<(), NoMemory>
+fn put_three<'a>(
+    out: &mut Vec<u8>,
+    word: &'a [u8],
+    name: &'a [u8],
+    field: &'a [u8],
+) -> Result<(), NoMemory>
     ensures { OnOk result (out.new.items ≡ out.old.items ++ line_text (word.now ∷ name.now ∷ field.now ∷ [])) }
 {
-    put(out, word)?;
-    put(out, b" ")?;
-    put(out, name)?;
-    put(out, b" ")?;
-    put(out, field)?;
-    put(out, b"\n")
+    let parts = [
+        Part::Text(word),
+        Part::Text(b" "),
+        Part::Text(name),
+        Part::Text(b" "),
+        Part::Text(field),
+        Part::Text(b"\n"),
+    ];
+    put_all(out, &parts)
 }
 
 /// Puts the line of a word and a number.
@@ -157,29 +168,23 @@ fn put_lists(out: &mut Vec<u8>, names: &Names, lists: &[List<u32>]) -> Result<()
     Ok(())
 }
 
-/// Puts the machine and the place there of a position, both from 1.
-fn put_place(out: &mut Vec<u8>, jobs: u64, at: u64) -> Result<(), NoMemory>
-    requires some { 0 < jobs }
-    requires small { at < slice_limit }
-    ensures { OnOk result (out.new.items ≡ out.old.items ++ (decimal (at / jobs + 1) ++ space ++ decimal (at % jobs + 1))) }
-{
-    put_number(out, at / jobs + 1)?;
-    put(out, b" ")?;
-    put_number(out, at % jobs + 1)
-}
-
-/// Puts the line of the price of a position.
+/// Puts the line of the price of a position: its machine and its place there, both from 1, and the price.
 #[tactic(auto, using(crate::proofs::CertificatePrinting::four_line))]
 fn put_column_line(out: &mut Vec<u8>, jobs: u64, at: u64, price: i128) -> Result<(), NoMemory>
     requires some { 0 < jobs }
     requires small { at < slice_limit }
     ensures { OnOk result (out.new.items ≡ out.old.items ++ line_text (column_line jobs at price)) }
 {
-    put(out, b"column ")?;
-    put_place(out, jobs, at)?;
-    put(out, b" ")?;
-    put_integer(out, price)?;
-    put(out, b"\n")
+    let parts = [
+        Part::Text(b"column "),
+        Part::Number(at / jobs + 1),
+        Part::Text(b" "),
+        Part::Number(at % jobs + 1),
+        Part::Text(b" "),
+        Part::Integer(price),
+        Part::Text(b"\n"),
+    ];
+    put_all(out, &parts)
 }
 
 /// Puts the price of a position, unless it is 0.

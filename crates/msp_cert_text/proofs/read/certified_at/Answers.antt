@@ -14,5 +14,5 @@ returns c =
     let first = place_of c.word_line_at.new.lines in
     let bound : (ℤ × ℤ) × Place = (parts_of c.in_ok-bound.bound, place_of c.cost_line_at.new.lines) in
     let after = place_of c.evidence_at.new.lines in
-    then_goes (λ x. x) (word_line_at (codes "certificate") (place_of c.args.lines.now)) _ first c.evidence_at.result after c.in_ok-word_line_at.ensures
-    (then_goes (λ x. x) (cost_line_at (codes "bound") GREATEST_BOUND first) _ bound c.evidence_at.result after c.in_ok-bound.ensures c.evidence_at.ensures)
+    then_goes (λ x. x) (word_line_at (codes "certificate") (place_of c.args.lines.now)) _ first c.evidence_at.result after c.in_ok-word_line_at.ensures.moves
+    (then_goes (λ x. x) (cost_line_at (codes "bound") GREATEST_BOUND first) _ bound c.evidence_at.result after c.in_ok-bound.ensures.moves c.evidence_at.ensures)
