@@ -1,4 +1,3 @@
 pub mod instance
 pub mod schedule
-pub mod Limits
 pub mod Laws

@@ -1,11 +1,5 @@
-// What is fixed by number, and that texts are read in one way.
+// That texts are read in one way.
 ghost use Rattle.msp_file.specs.Laws.{LawOfFrontTexts, LawOfInstanceTexts, LawOfScheduleTexts};
-ghost use Rattle.msp_file.specs.Limits.{AreLimits};
-
-/// The limits by their numbers.
-pub fn law_of_limits()
-    ensures { AreLimits }
-{}
 
 /// Bytes are an instance text exactly where they have no first fault, and each instance and each first fault is the only one.
 pub fn law_of_instance_texts()

@@ -1,7 +1,7 @@
 -- The goals of `read_instance` that are proved by lemmas.
 use Rattle.std.proofs.lemmas.Result.{err_from_is_err_and}
 use Rattle.msp_file.proofs.instances.AnswerLemmas.{fault_of_lines, fault_of_whole}
-use Rattle.msp_file.proofs.instances.AnswerLaws.{again_read, again_fault, fault_of_text}
+use Rattle.msp_file.proofs.instances.AnswerLaws.{again_read, again_fault, fault_of_text, fault_of_filed, text_of_read}
 use Rattle.msp_file.proofs.instance.read.read_instance.Goals as goal
 
 pub returns-in_err-filed-clause-again : goal.returns-in_err-filed-clause-again
@@ -22,3 +22,21 @@ returns-in_err-check_filed-clause-again c =
     let p = err_from_is_err_and c.from_residual-in_err-check_filed.result c.from_residual-in_err-check_filed.ensures.1 in
     rw (p.1, p.2) (again_fault c.args.bytes.now c.in_err-check_filed.field-0.0
     (fault_of_whole c.args.bytes.now c.in_ok-filed.filed c.in_err-check_filed.field-0.0 c.in_ok-filed.ensures.gives c.in_err-check_filed.ensures))
+
+pub returns-clause-text : goal.returns-clause-text
+returns-clause-text c = text_of_read c.args.bytes.now c.in_ok-filed.filed c.in_ok-filed.ensures.gives c.in_ok-check_filed.ensures
+
+pub returns-in_err-filed-clause-fault : goal.returns-in_err-filed-clause-fault
+returns-in_err-filed-clause-fault c =
+    let p = err_from_is_err_and c.from_residual.result c.from_residual.ensures.1 in
+    rw (p.1, p.2) (fault_of_lines c.args.bytes.now c.in_err-filed.field-0.0 c.in_err-filed.ensures.gives)
+
+pub returns-in_err-check_filed-clause-fault : goal.returns-in_err-check_filed-clause-fault
+returns-in_err-check_filed-clause-fault c =
+    let p = err_from_is_err_and c.from_residual-in_err-check_filed.result c.from_residual-in_err-check_filed.ensures.1 in
+    rw (p.1, p.2) (fault_of_whole c.args.bytes.now c.in_ok-filed.filed c.in_err-check_filed.field-0.0 c.in_ok-filed.ensures.gives c.in_err-check_filed.ensures)
+
+pub returns-in_err-check_filed-clause-class_faults : goal.returns-in_err-check_filed-clause-class_faults
+returns-in_err-check_filed-clause-class_faults c =
+    let p = err_from_is_err_and c.from_residual-in_err-check_filed.result c.from_residual-in_err-check_filed.ensures.1 in
+    rw (p.1, p.2) (fault_of_filed c.args.bytes.now c.in_ok-filed.filed c.in_err-check_filed.field-0.0 c.in_ok-filed.ensures.gives c.in_err-check_filed.ensures)
