@@ -23,7 +23,7 @@ fn read(numbers: &mut impl Iterator<Item = i64>) -> Instance {
 
 // An instance from its text, which is taken to be right.
 fn read_text(class: &str, text: &str) -> Instance {
-    let mut found = Instance { speeds: vec![1; if class.starts_with("P2") { 2 } else { 1 }], jobs: Vec::new(), arcs: Vec::new() };
+    let mut found = Instance { speeds: vec![1; if class.starts_with("P2") || class.starts_with("R2") { 2 } else { 1 }], jobs: Vec::new(), arcs: Vec::new() };
     let (mut numbers, mut unit) = (HashMap::new(), 1);
     for line in text.lines() {
         let mut words = line.split(' ');
@@ -42,6 +42,11 @@ fn read_text(class: &str, text: &str) -> Instance {
                 found.jobs.push(job);
             }
             "times" => found.jobs.last_mut().unwrap().times = words.map(|w| w.parse().unwrap()).enumerate().collect(),
+            "curve" => {
+                let numbers: Vec<i64> = words.map(|w| w.parse().unwrap()).collect();
+                let job = found.jobs.last_mut().unwrap();
+                (job.slope, job.base, job.steps) = (numbers[0], numbers[1], numbers[2..].chunks(2).map(|s| (s[0], s[1])).collect());
+            }
             "arc" => found.arcs.push((numbers[words.next().unwrap()], numbers[words.next().unwrap()])),
             _ => {}
         }
@@ -566,6 +571,113 @@ fn search(x: &Instance) -> (i64, i64) {
     (high, 1)
 }
 
+// Jobs of one time in slots, as many at a time as there are machines, by the keys of those that are free.
+fn in_slots(x: &Instance, after: &[Vec<usize>], keys: &[i64]) -> Vec<(usize, usize, i64)> {
+    let mut blocked = vec![0; keys.len()];
+    for &(_, b) in &x.arcs { blocked[b] += 1; }
+    let mut free: BinaryHeap<_> = (0..keys.len()).filter(|&j| blocked[j] == 0).map(|j| Reverse((keys[j], j))).collect();
+    let (mut slot, mut found) = (0, Vec::new());
+    while !free.is_empty() {
+        let run: Vec<_> = (0..x.speeds.len()).filter_map(|_| free.pop()).collect();
+        for (machine, Reverse((_, job))) in run.into_iter().enumerate() {
+            found.push((job, machine, slot));
+            for &b in &after[job] { blocked[b] -= 1; if blocked[b] == 0 { free.push(Reverse((keys[b], b))); } }
+        }
+        slot += 1;
+    }
+    found
+}
+
+fn due_slots(x: &Instance) -> (i64, i64) {
+    let (n, m) = (x.jobs.len(), x.speeds.len() as i64);
+    let (mut after, mut before, mut blocked) = (vec![Vec::new(); n], vec![0; n], vec![Vec::new(); n]);
+    for &(a, b) in &x.arcs { after[a].push(b); before[a] += 1; blocked[b].push(a); }
+    let mut backward: Vec<usize> = (0..n).filter(|&j| before[j] == 0).collect();
+    let mut at = 0;
+    while at < backward.len() {
+        for &a in &blocked[backward[at]] { before[a] -= 1; if before[a] == 0 { backward.push(a); } }
+        at += 1;
+    }
+    let mut paths = vec![[0u64; 7]; n];
+    for &job in &backward {
+        for &b in &after[job] {
+            let own = paths[b];
+            for (word, more) in paths[job].iter_mut().zip(own) { *word |= more; }
+            paths[job][b / 64] |= 1 << (b % 64);
+        }
+    }
+    let followers: Vec<Vec<usize>> = paths.iter().map(|row| (0..n).filter(|&b| row[b / 64] >> (b % 64) & 1 == 1).collect()).collect();
+    let cost = |job: usize, slots: i64| x.jobs[job].cost(x.jobs[job].time() * slots);
+    let lowered = |bound: i64| {
+        let mut due: Vec<i64> = (0..n).map(|job| {
+            let (mut met, mut beyond) = (0, n as i64 + 1);
+            while met + 1 < beyond {
+                let middle = (met + beyond) / 2;
+                if cost(job, middle) <= bound { met = middle; } else { beyond = middle; }
+            }
+            met
+        }).collect();
+        for &job in &backward {
+            let mut counts = vec![0; n + 1];
+            for &b in &followers[job] { counts[due[b] as usize] += 1; }
+            let mut after = 0;
+            for end in 0..=n {
+                after += counts[end];
+                if after > 0 { due[job] = due[job].min((end as i64 - (after + m - 1) / m).max(0)); }
+            }
+        }
+        due
+    };
+    let mut low = (0..n).map(|job| cost(job, 1)).max().unwrap();
+    let mut high = (0..n).map(|job| cost(job, n as i64)).max().unwrap();
+    while low < high {
+        let bound = low + (high - low).div_euclid(2);
+        let due = lowered(bound);
+        if in_slots(x, &after, &due).iter().all(|&(job, _, slot)| slot < due[job]) { high = bound; } else { low = bound + 1; }
+    }
+    let time = x.jobs[0].time() as i128;
+    let piece = |(job, machine, slot)| Piece { job, machine, from: slot as i128 * time, to: (slot as i128 + 1) * time };
+    printed(in_slots(x, &after, &lowered(high)).into_iter().map(piece).collect());
+    (high, 1)
+}
+
+// The longest jobs last, on each machine by rising times.
+fn cut_sum(x: &Instance) -> (i64, i64) {
+    let mut order: Vec<usize> = (0..x.jobs.len()).collect();
+    order.sort_by_key(|&j| x.jobs[j].time());
+    let (mut ends, mut cost, mut pieces) = (vec![0; x.speeds.len()], 0, Vec::new());
+    for (place, job) in order.into_iter().enumerate() {
+        let machine = place % x.speeds.len();
+        let from = ends[machine];
+        ends[machine] += x.jobs[job].time();
+        cost += ends[machine];
+        pieces.push(Piece { job, machine, from: from as i128, to: ends[machine] as i128 });
+    }
+    printed(pieces);
+    (cost, 1)
+}
+
+// The greatest weights first, in blocks of as many jobs as there are machines: each on one machine, or on all in turns.
+fn weights(x: &Instance, on_all: bool) -> (i64, i64) {
+    let mut order: Vec<usize> = (0..x.jobs.len()).collect();
+    order.sort_by_key(|&j| Reverse(x.jobs[j].weight));
+    let (m, time) = (x.speeds.len(), x.jobs[0].time());
+    let whole = if on_all { m as i64 * time } else { time };
+    let (mut cost, mut pieces) = (0, Vec::new());
+    for (block, jobs) in order.chunks(m).enumerate() {
+        let begin = block as i64 * whole;
+        for turn in 0..if on_all { m } else { 1 } {
+            let from = begin + turn as i64 * time;
+            for (place, &job) in jobs.iter().enumerate() {
+                pieces.push(Piece { job, machine: (place + turn) % m, from: from as i128, to: (from + time) as i128 });
+            }
+        }
+        cost += jobs.iter().map(|&job| x.jobs[job].weight * (begin + whole)).sum::<i64>();
+    }
+    printed(pieces);
+    (cost, 1)
+}
+
 fn rule(class: &str, x: &Instance) -> (i64, i64) {
     match class {
         "1||sumwC" => smith(x),
@@ -587,6 +699,10 @@ fn rule(class: &str, x: &Instance) -> (i64, i64) {
         "P2|prec,p=1|Cmax" => lexical(x),
         "1||sumwU" => late_table(x),
         "P|r,p=1|Lmax" => search(x),
+        "R|intree,p=p|fmax" | "R2|prec,p=p|fmax" => due_slots(x),
+        "P|pmtn|sumC" => cut_sum(x),
+        "P|pmtn,p=p|sumwC" => weights(x, false),
+        "O|p=1|sumwC" | "O|pmtn,p=p|sumwC" => weights(x, true),
         _ => std::process::exit(3),
     }
 }
