@@ -240,24 +240,6 @@ def said_date(start, seconds):
     return text + (f"+{part.numerator}/{part.denominator}" if part else "")
 
 
-def add_moments(words):
-    """The words that say how moments outside of the instance are counted, for argparse."""
-    for option in ("--scale", "--time-unit", "--start"):
-        words.add_argument(option)
-
-
-def settle_moments(wanted):
-    """Reads these words: a number, the seconds of a unit of time (None: they are not said), and the moment 0 as a value of date_of."""
-    try:
-        wanted.scale = decimal(wanted.scale, "--scale") if wanted.scale else Fraction(1)
-        wanted.time_unit = length_of(wanted.time_unit or "1h") if wanted.time_unit or wanted.start else None
-        wanted.start = date_of(wanted.start, "--start") if wanted.start else None
-    except Fault as fault:
-        raise Misfit(str(fault)) from None
-    if wanted.scale <= 0:
-        raise Misfit("--scale is above 0")
-
-
 # Instance texts
 
 @dataclass
@@ -449,24 +431,3 @@ def read_schedule(text):
         else:
             raise Fault(f"{where}: not a line of a schedule here: {line}")
     raise Fault("the line end of the schedule is missing" if begun else "there is no line schedule")
-
-
-# The map of names that from-csv writes
-
-def write_names(path, pairs):
-    """Writes a map of names as CSV: pairs of a job's name in the instance and its name in the spreadsheet."""
-    try:
-        with open(path, "w", encoding="utf-8", newline="") as file:
-            csv.writer(file, lineterminator="\n").writerows([("name", "original"), *pairs])
-    except OSError as fault:
-        raise Misfit(f"cannot write {path}: {fault.strerror}") from None
-
-
-def read_names(path):
-    """A map of names as from-csv writes it: from a job's name in the instance to its name in the spreadsheet; empty without a path."""
-    if path is None:
-        return {}
-    rows = list(csv.reader(read_text(path, "utf-8-sig").splitlines()))
-    if not rows or rows[0] != ["name", "original"] or any(len(it) != 2 for it in rows if it):
-        raise Fault(f"{path}: a map of names is a CSV with the columns name and original, as from-csv --names writes it")
-    return {it[0]: it[1] for it in rows[1:] if it}
