@@ -18,4 +18,4 @@
 mod level;
 mod rule;
 
-pub use rule::{Levels, schedule_by_levels};
+pub use rule::Levels;

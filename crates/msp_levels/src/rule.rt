@@ -26,7 +26,7 @@ const LEVELS_CLASS: Class = Class {
 };
 
 /// A schedule of least makespan, with its cost: the greatest bound of a level.
-pub fn schedule_by_levels(alloc: Global, inst: &Instance) -> Result<Solution, NoMemory>
+fn schedule_by_levels(alloc: Global, inst: &Instance) -> Result<Solution, NoMemory>
     requires inner { Inner inst.now }
     requires class { inst.now.class ≡ levels_class }
     ensures best { IfOk result (λ s. IsBest inst.now s) }

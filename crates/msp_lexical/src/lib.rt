@@ -23,5 +23,5 @@ mod links;
 mod rule;
 mod segment;
 
-pub use rule::{Lexical, schedule_by_labels};
+pub use rule::Lexical;
 pub use segment::{SegmentSolution, segments, solve_with_segments};

@@ -84,7 +84,7 @@ pub fn solution_of(inst: &Instance, labels: &[u32; MOST_JOBS], pieces: List<Piec
 }
 
 /// A schedule of least makespan, with its cost: the bound of some segments.
-pub fn schedule_by_labels(alloc: Global, inst: &Instance) -> Result<Solution, NoMemory>
+fn schedule_by_labels(alloc: Global, inst: &Instance) -> Result<Solution, NoMemory>
     requires inner { Inner inst.now }
     requires class { inst.now.class ≡ lexical_class }
     ensures best { IfOk result (λ s. IsBest inst.now s) }

@@ -1,7 +1,7 @@
 //! The solvers of two-machine shops, and of open shops with preemption.
 //!
 //! It stands on `msp_schedule`, `msp_route` and `msp_timetable`. The layers above use the clauses of `Solver`: the answers are best; and
-//! those of `open_shop` and `OpenCut`: the cost is the greatest of the loads of the machines and of the lengths of the jobs.
+//! those of `Open2` and `OpenCut`: the cost is the greatest of the loads of the machines and of the lengths of the jobs.
 #![tactic(auto)]
 
 mod groups;
@@ -16,5 +16,5 @@ mod two_machines;
 
 pub use jackson::Jackson;
 pub use johnson::Johnson;
-pub use open::{Open2, open_shop};
+pub use open::Open2;
 pub use open_cut::OpenCut;

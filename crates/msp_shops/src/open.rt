@@ -134,7 +134,7 @@ fn open_pieces(alloc: Global, inst: &Instance) -> Result<List<Piece>, NoMemory>
 
 /// A best schedule of an open shop of two machines: a job whose lesser time is greatest runs first on one machine and last on the other,
 /// and between them the other jobs, each as early as it can (Gonzalez and Sahni 1976).
-pub fn open_shop(alloc: Global, inst: &Instance) -> Result<Solution, NoMemory>
+fn open_shop(alloc: Global, inst: &Instance) -> Result<Solution, NoMemory>
     requires inner { Inner inst.now }
     requires class { inst.now.class ≡ open_class }
     ensures best { IfOk result (λ s. IsBest inst.now s) }

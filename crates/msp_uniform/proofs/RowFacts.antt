@@ -11,7 +11,7 @@ use Rattle.msp_schedule.specs.Piece.{start, finish, job_of, IsTimed}
 use Rattle.msp_schedule.specs.Intervals.{IsApartOn, size_of}
 use Rattle.msp_schedule.proofs.feasible.Series.{AllPairs-append}
 use Rattle.msp_uniform.specs.declared.segments.Segment.{Segment}
-use Rattle.msp_uniform.specs.Rows.{piece_on, part_on, runs_from, runs, IsSliceOf}
+use Rattle.msp_uniform.specs.Runs.{piece_on, part_on, runs_from, runs, IsSliceOf}
 use Rattle.msp_uniform.specs.Segments.{job_on}
 use Rattle.msp_class.proofs.Cases.{less_or_not}
 

@@ -9,7 +9,7 @@ use Rattle.msp_class.specs.Sums.{total_below}
 use Rattle.msp_class.proofs.Sums.{sum_by-append, sum_by-cons}
 use Rattle.msp_uniform.specs.declared.segments.Segment.{Segment}
 use Rattle.msp_uniform.specs.declared.task.Task.{Task}
-use Rattle.msp_uniform.specs.Rows.{IsSliceOf}
+use Rattle.msp_uniform.specs.Runs.{IsSliceOf}
 use Rattle.msp_uniform.specs.Segments.{at, IsSegment, IsPartOf, IsAbsent, rate_at, amount, AreFew, AreScaled, AreLaid, CanGain, HasPlaces}
 use Rattle.msp_uniform.specs.Plans.{IsTask, IsReached, IsNextPlan, IsTaped, IsFilled, AreShort, CanBeLaid, IsLaidHere, IsLaidOver}
 use Rattle.msp_uniform.proofs.Affordable.{finest_small, end_small}

@@ -33,7 +33,7 @@ use Rattle.msp_uniform.specs.declared.segments.Segment.{Segment}
 use Rattle.msp_uniform.specs.declared.task.Task.{Task}
 use Rattle.msp_uniform.specs.Uniform.{cut_class, IsByFalling, IsUniformCost, work, speed}
 use Rattle.msp_uniform.specs.Segments.{at, job_rate, amount}
-use Rattle.msp_uniform.specs.Rows.{IsSliceOf}
+use Rattle.msp_uniform.specs.Runs.{IsSliceOf}
 use Rattle.msp_uniform.specs.Plans.{IsFilled}
 use Rattle.msp_uniform.specs.Answers.{IsTaskOf, IsCutPlan}
 use Rattle.msp_uniform.proofs.RowFacts.{long, IsRowOf, slices_in_row, row_few}

@@ -27,7 +27,7 @@ use Rattle.msp_schedule.proofs.costs.Makespan.{cost_by_ends, cost_natural}
 use Rattle.msp_uniform.specs.declared.segments.Segment.{Segment}
 use Rattle.msp_uniform.specs.Uniform.{cut_class}
 use Rattle.msp_uniform.specs.Segments.{at, job_rate, amount}
-use Rattle.msp_uniform.specs.Rows.{runs, IsSliceOf}
+use Rattle.msp_uniform.specs.Runs.{runs, IsSliceOf}
 use Rattle.msp_uniform.proofs.RowFacts.{long, IsRowOf, slices_in_row, work_in_row}
 
 module _ (i : Instance) (h : IsOfClass i cut_class) (unit end : ℕ) (xs : List Segment) (some : 1 ≤ unit) (slices : All (λ x. IsSliceOf i.machines (length i.jobs) x.length x.body.value.jobs) xs) (whole : sum_by (λ x. x.length) xs ≡ end) (done : (j : ℕ) → j < length i.jobs → amount (job_rate i.machines (at i.speeds) j) xs ≡ unit * time_at i j) where

@@ -5,7 +5,7 @@ use Rattle.msp_instance.specs.Instance.{no_need}
 use Rattle.msp_schedule.specs.declared.Schedule.{Schedule}
 use Rattle.msp_uniform.specs.declared.segments.Segment.{Segment}
 use Rattle.msp_uniform.specs.declared.task.Task.{Task}
-use Rattle.msp_uniform.specs.Rows.{runs}
+use Rattle.msp_uniform.specs.Runs.{runs}
 use Rattle.msp_uniform.specs.Plans.{IsTask, IsAsked, IsFilled}
 
 abbrev pub AreTimes : Instance → List ℕ → Type 0

@@ -3,6 +3,6 @@ pub mod Uniform
 pub mod Quotients
 pub mod Prefixes
 pub mod Segments
-pub mod Rows
+pub mod Runs
 pub mod Plans
 pub mod Answers

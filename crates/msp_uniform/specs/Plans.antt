@@ -8,7 +8,7 @@ use Rattle.msp_uniform.specs.declared.task.Task.{Task}
 use Rattle.msp_uniform.specs.Uniform.{gap, IsByFalling}
 use Rattle.msp_uniform.specs.Quotients.{IsGreatest}
 use Rattle.msp_uniform.specs.Prefixes.{DoFit}
-use Rattle.msp_uniform.specs.Rows.{IsSliceOf}
+use Rattle.msp_uniform.specs.Runs.{IsSliceOf}
 use Rattle.msp_uniform.specs.Segments.{at, HasPlaces, CanGain, IsSegment, IsAbsent, rate_at, job_rate, amount, IsDifference, AreScaled, AreWhole, AreLaid}
 
 -- The works of the jobs that are left, in order, and 0 after the last one.

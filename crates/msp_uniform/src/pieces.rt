@@ -1,6 +1,6 @@
 // Segments one after another, as pieces of a schedule, the latest first: a piece ends where its machine gets another job.
 ghost use Rattle.std.specs.Prelude.{◌≡◌, ◌<◌, ◌≤◌, ◌++◌, ◌^◌, length as len, slice_index_or, sum_by, All, IfOk, OnOk, IsPermutation};
-ghost use Rattle.msp_uniform.specs.Rows.{part_on, runs, begun, jobs_before as jobs_until, IsNextEnds};
+ghost use Rattle.msp_uniform.specs.Runs.{part_on, runs, begun, jobs_before as jobs_until, IsNextEnds};
 
 use crate::numbers::Numbers;
 use crate::segments::Segment;

@@ -10,10 +10,10 @@
 //! Best (`proofs/Best.antt`): no job ends before its time is over, and the machines together have no more time than their number times the
 //! end (`law_of_ends` of `msp_schedule`).
 //!
-//! It stands on `msp_schedule` and `msp_route`. The layers above use the clauses of `Solver`: the answers are best; and that of `wrapped`:
+//! It stands on `msp_schedule` and `msp_route`. The layers above use the clauses of `Solver`: the answers are best; and that of `Wrap`:
 //! the cost is the greater of the longest time and the total time over the number of machines.
 #![tactic(auto)]
 
 mod wrap;
 
-pub use wrap::{Wrap, wrapped};
+pub use wrap::Wrap;

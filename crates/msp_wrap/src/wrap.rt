@@ -152,7 +152,7 @@ fn wrapped_pieces(alloc: Global, inst: &Instance, end: u64) -> Result<List<Piece
 
 /// A best schedule of the instance: the jobs in order fill machine after machine up to the least end, and a job that does not fit goes
 /// on at moment 0 of the next machine (McNaughton 1959). The unit is the number of machines.
-pub fn wrapped(alloc: Global, inst: &Instance) -> Result<Solution, NoMemory>
+fn wrapped(alloc: Global, inst: &Instance) -> Result<Solution, NoMemory>
     requires inner { Inner inst.now }
     requires class { inst.now.class ≡ wrap_class }
     ensures best { IfOk result (λ s. IsBest inst.now s) }

@@ -1,5 +1,5 @@
 use Rattle.std.proofs.Common.{◌≡◌, suc, ◌-◌, sym, ◌∙◌, ap, arith}
-use Rattle.msp_uniform.specs.Rows.{jobs_before as jobs_until}
+use Rattle.msp_uniform.specs.Runs.{jobs_before as jobs_until}
 use Rattle.msp_uniform.proofs.LatestFirst.{jobs_before_next}
 use Rattle.msp_uniform.proofs.pieces.jobs_before.Goals as goal
 

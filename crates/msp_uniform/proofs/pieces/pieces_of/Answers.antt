@@ -1,7 +1,7 @@
 use Rattle.std.proofs.Common.{◌≡◌, ◌-◌, ◌<◌, ◌^◌, length, replicate, get_or, sym, ◌∙◌, ap, arith}
 use Rattle.std.proofs.lemmas.List.{length-replicate}
 use Rattle.std.proofs.lemmas.List.Sums.{sum_by-take-le}
-use Rattle.msp_uniform.specs.Rows.{jobs_before as jobs_until}
+use Rattle.msp_uniform.specs.Runs.{jobs_before as jobs_until}
 use Rattle.msp_uniform.proofs.RowFacts.{long}
 use Rattle.msp_uniform.proofs.LatestFirst.{jobs_of, length_jobs_before, next_small, walked_on, walked_all}
 use Rattle.msp_uniform.proofs.pieces.pieces_of.Goals as goal

@@ -2,7 +2,7 @@ use Rattle.std.proofs.Common.{◌≡◌, ℕ, ◌+◌, ◌-◌, ◌++◌, ◌<�
 use Rattle.std.proofs.lemmas.List.{get_or_default}
 use Rattle.std.proofs.lemmas.List.Elements.{All-set}
 use Rattle.msp_schedule.specs.declared.Piece.{Piece}
-use Rattle.msp_uniform.specs.Rows.{part_on}
+use Rattle.msp_uniform.specs.Runs.{part_on}
 use Rattle.msp_uniform.specs.Segments.{at}
 use Rattle.msp_uniform.proofs.LatestFirst.{IsBack, IsBack-end, IsBack-kept, IsBack-changed}
 use Rattle.msp_uniform.proofs.pieces.put_begun.Goals.{then-job-before+in_ok-put_part, else-job-before}
