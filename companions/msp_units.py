@@ -82,7 +82,7 @@ def settled(name, wanted, names):
 
 
 class Units:
-    """How moments, lengths of time and costs of an instance are shown, and read back."""
+    """How moments, lengths of time and costs of an instance are shown, and read back; without the name of a tool nothing is said."""
 
     def __init__(self, wanted, tool, comma=False):
         self.names = read_names(wanted.names)
@@ -96,7 +96,7 @@ class Units:
         self.comma = comma
         # (the length of 1 of the instance: in hours, or as the list counts)
         self.factor = (self.time_unit / 3600 if self.time_unit else 1) / self.scale
-        if "scale" not in self.names.words:
+        if tool and "scale" not in self.names.words:
             print(f"{tool}: {self.assumed()}", file=sys.stderr)
 
     def assumed(self):

@@ -1,0 +1,165 @@
+"""What students hand in, read with its slips of format mended: schedule texts, and orders of jobs where an order makes the schedule.
+
+A slip is told, and the schedule is judged all the same: marks in front of a text, line ends and encodings of other systems, blank lines,
+blanks and tabs, capitals, decimals for parts of a unit, a missing line `end`.
+"""
+from __future__ import annotations
+
+import math
+import re
+from dataclasses import dataclass, field
+from fractions import Fraction
+
+import msp_texts
+from msp_texts import Fault, Piece
+
+WORDS = ("schedule", "cost", "unit", "piece", "end")
+
+
+@dataclass
+class HandIn:
+    """A hand-in: its schedule text, the stated cost, the pieces with the lines where they stand, and the slips that were mended."""
+    text: str
+    stated: Fraction | None
+    pieces: list
+    slips: list = field(default_factory=list)
+
+
+def decoded(data, slips):
+    """The text of the bytes."""
+    if data[:2] in (b"\xff\xfe", b"\xfe\xff"):
+        slips.append("UTF-16")
+        return data.decode("utf-16", "replace")
+    if data[:3] == b"\xef\xbb\xbf":
+        slips.append("byte order mark")
+        data = data[3:]
+    try:
+        return data.decode("utf-8")
+    except UnicodeDecodeError:
+        slips.append("cp1252")
+        return data.decode("cp1252", "replace")
+
+
+def lines_of(text, slips):
+    """The lines that are not blank, each with its number and its fields."""
+    if "\r" in text:
+        slips.append("line ends of Windows")
+    lines = text.replace("\r\n", "\n").replace("\r", "\n").split("\n")
+    if lines[-1]:
+        slips.append("no line feed at the end")
+    else:
+        lines.pop()
+    if any(not it.strip() for it in lines):
+        slips.append("blank lines")
+    if any(it.strip() and (it != " ".join(it.split()) or "\t" in it) for it in lines):
+        slips.append("blanks and tabs")
+    return [(number, line.split()) for number, line in enumerate(lines, 1) if line.strip()]
+
+
+def number_of(text, where, slips):
+    """A number of a hand-in; a decimal is a slip."""
+    if not re.fullmatch(r"-?[0-9]+(/[0-9]+)?", text):
+        slips.append("decimals")
+    return msp_texts.decimal(text, where)
+
+
+def schedule_of(lines, slips):
+    """The hand-in of the lines of a schedule text, from its line `schedule` on."""
+    cost = unit = None
+    pieces, ended = [], False
+    for number, (word, *rest) in lines:
+        where = f"line {number}"
+        if word not in WORDS and word.lower() in WORDS:
+            slips.append("capitals")
+        word = word.lower()
+        if ended:
+            raise Fault(f"{where}: stands behind the line end")
+        if word == "cost" and len(rest) == 1:
+            cost = number_of(rest[0], where, slips)
+        elif word == "unit" and len(rest) == 1:
+            unit = number_of(rest[0], where, slips)
+        elif word == "piece" and len(rest) == 5:
+            operation, machine = (msp_texts.whole(it, where) for it in rest[1:3])
+            pieces.append(Piece(rest[0], operation, machine, *(number_of(it, where, slips) for it in rest[3:]), number))
+        elif word == "end" and not rest:
+            ended = True
+        elif word != "schedule" or rest:
+            raise Fault(f"{where}: not a line of a schedule: {' '.join([word, *rest])}")
+    if unit is None:
+        slips.append("no line unit")
+        unit = Fraction(1)
+    if unit <= 0:
+        raise Fault("a unit is above 0")
+    if cost is None:
+        slips.append("no line cost")
+    if not ended:
+        slips.append("no line end")
+    pieces = [Piece(it.job, it.operation, it.machine, it.start / unit, it.end / unit, it.line) for it in pieces]
+    return HandIn(text_of(pieces, cost or Fraction(0)), cost, pieces)
+
+
+def text_of(pieces, cost):
+    """A schedule text in the least unit."""
+    unit = math.lcm(1, *(it.denominator for piece in pieces for it in (piece.start, piece.end)))
+    lines = [f"piece {it.job} {it.operation} {it.machine} {it.start * unit} {it.end * unit}" for it in pieces]
+    return "\n".join(["schedule", f"cost {cost}", f"unit {unit}", *lines, "end", ""])
+
+
+# Orders of jobs
+
+def order_of(lines, instance):
+    """The jobs in the order that the lines have, and the cost that they state, where they have nothing else; or None."""
+    words, cost = [], None
+    for number, fields in lines:
+        if fields[0].lower() == "cost" and len(fields) == 2:
+            cost = msp_texts.decimal(fields[1], f"line {number}")
+        elif fields[0].lower() not in ("order", "end", "schedule"):
+            words += [(it, number) for it in re.split(r"[\s,;]+", " ".join(fields)) if it]
+        elif fields[0].lower() == "order":
+            words += [(it, number) for it in re.split(r"[\s,;:]+", " ".join(fields[1:])) if it]
+    if not words or any(instance.job(it) is None for it, _ in words):
+        return None
+    again = next((it for at, (it, _) in enumerate(words) if it in [one for one, _ in words[:at]]), None)
+    missing = next((it.name for it in instance.jobs if it.name not in [one for one, _ in words]), None)
+    if again or missing:
+        raise Fault(f"an order with {again} twice" if again else f"an order without {missing}")
+    return words, cost
+
+
+def by_order(words, instance):
+    """The pieces of an order: each job as early as the ones in front of it allow, on the machine that is free first; or a fault."""
+    if instance.kind.kind not in "1PF":
+        raise Fault(f"an order alone makes no schedule in {instance.kind}: hand in the pieces")
+    free, ends, pieces = [Fraction(0)] * instance.machines, {}, []
+    for name, line in words:
+        job = instance.job(name)
+        before = [one for one, other in instance.arcs if other == name]
+        if any(it not in ends for it in before):
+            raise Fault(f"line {line}: {name} stands in front of a job that it comes after")
+        now = max([Fraction(job.release or 0), *(ends[it] for it in before)])
+        for number, (machine, time) in enumerate(instance.operations(job), 1):
+            at = machine - 1 if machine else min(range(instance.machines), key=lambda it: free[it])
+            if time:
+                start = max(free[at], now)
+                now = free[at] = start + time
+                pieces.append(Piece(name, number, at + 1, start, now, line))
+        ends[name] = now
+    return pieces, ends
+
+
+def read(data, instance):
+    """A hand-in of bytes, mended; a fault where it is neither a schedule nor an order."""
+    slips = []
+    lines = lines_of(decoded(data, slips), slips)
+    begin = next((at for at, (_, fields) in enumerate(lines) if fields[0].lower() == "schedule" and len(fields) == 1), None)
+    order = order_of(lines, instance) if begin is None else None
+    if order:
+        words, cost = order
+        pieces, ends = by_order(words, instance)
+        found = HandIn(text_of(pieces, msp_texts.cost_of(instance, ends)), cost, pieces)
+    elif begin is None:
+        raise Fault("neither a schedule text, from its line schedule on, nor an order of all jobs")
+    else:
+        found = schedule_of(lines[begin:], slips)
+    found.slips = list(dict.fromkeys(slips))
+    return found

@@ -1,0 +1,1 @@
+grade sheet.txt students --strict
