@@ -1,1 +1,1 @@
-choose 'P3|tree|Cmax'
+choose 'P3|sp-graph|Cmax'
