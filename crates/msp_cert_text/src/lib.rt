@@ -18,5 +18,5 @@ mod segments;
 
 pub use kinds::{GREATEST_BOUND, GREATEST_LEVEL, MOST_LINES, kind_word};
 pub use laws::{law_of_certificate_texts, law_of_limits};
-pub use printer::{print_certificate, put_certificate};
+pub use printer::print_certificate;
 pub use read::{printed_certificates_are_read, read_certificate};

@@ -270,7 +270,7 @@ fn put_bound(out: &mut Vec<u8>, certificate: &Certificate) -> Result<(), NoMemor
 
 /// Puts the text of a certificate.
 #[tactic(auto, unfolding(crate::specs::CertificateText::certificate_text))]
-pub fn put_certificate(
+fn put_certificate(
     out: &mut Vec<u8>,
     names: &Names,
     inst: &Instance,

@@ -16,7 +16,7 @@ pub use instance::read::{Front, read_front, read_instance, texts_are_read_one_wa
 pub use laws::{law_of_front_texts, law_of_instance_texts, law_of_schedule_texts};
 pub use msp_cert_text::{
     GREATEST_BOUND, GREATEST_LEVEL, MOST_LINES, kind_word, law_of_certificate_texts,
-    print_certificate, printed_certificates_are_read, put_certificate, read_certificate,
+    print_certificate, printed_certificates_are_read, read_certificate,
 };
 pub use msp_grammar::{
     FileFault, Filed, LAST_LINE, MOST_BYTES, What, print_instance, print_schedule,

@@ -8,7 +8,7 @@ use crate::check::put_yes_or_no;
 use crate::lines::{put_class_line, put_cost_line};
 use msp_cert::{Certificate, Certified};
 use msp_class::NoMemory;
-use msp_file::{kind_word, put_certificate};
+use msp_file::{kind_word, print_certificate};
 use msp_grammar::put_fraction;
 use msp_instance::Instance;
 use msp_job_name::Names;
@@ -31,10 +31,11 @@ pub fn certify_text(
     requires cost { IsLowest certified.now.solution.cost }
     ensures { IfOk result (λ text. text.items ≡ certify_report names.now certified.now) }
 {
+    let certificate = print_certificate(alloc, names, inst, &certified.certificate)?;
     let mut text = Vec::new(alloc);
     put_class_line(&mut text, certified.class)?;
     put_cost_line(&mut text, certified.solution.cost)?;
-    put_certificate(&mut text, names, inst, &certified.certificate)?;
+    put(&mut text, &certificate)?;
     Ok(text)
 }
 
