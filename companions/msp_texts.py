@@ -6,8 +6,6 @@ docs/formats.md raises a Fault that names the line.
 from __future__ import annotations
 
 import argparse
-import csv
-import io
 import os
 import re
 import shutil
@@ -29,7 +27,7 @@ def run(name, main):
         sys.stdout.flush()
         sys.exit(status)
     except (Fault, Misfit) as fault:
-        print(f"{name}: {fault}", file=sys.stderr)
+        print("\n".join(f"{name}: {line}" for line in str(fault).split("\n")), file=sys.stderr)
         sys.exit(2 if isinstance(fault, Misfit) else 3)
     except OSError as fault:
         if not isinstance(fault, BrokenPipeError):  # (a reader that ends early is no fault to be told)
@@ -99,35 +97,7 @@ def read_text(path=None, encoding="utf-8"):
         raise Fault(f"line {line}: a byte that is not {encoding}") from None
 
 
-# Lists from spreadsheets
-
-def read_list(encoding="utf-8", path=None):
-    """The text of a list from a spreadsheet, without a byte order mark and carriage returns."""
-    try:
-        text = read_bytes(path).decode(encoding)
-    except LookupError:
-        raise Misfit(f"no encoding {encoding}: cp1252, latin-1, utf-8, utf-16 are some") from None
-    except UnicodeError as fault:
-        line = f"line {fault.object[: fault.start].count(10) + 1}: " if isinstance(fault, UnicodeDecodeError) else ""
-        cure = "; --encoding cp1252 reads lists from Windows" if encoding == "utf-8" else ""
-        raise Fault(f"{line}a byte that is not {encoding}{cure}") from None
-    return text.removeprefix("\ufeff").replace("\r\n", "\n")
-
-
-def records(text):
-    """The records of a list that are not empty, each with the line on which it begins; separated by semicolons or by commas."""
-    first = text.split("\n", 1)[0]
-    # (where the first line names one column, nothing separates)
-    delimiter = ";" if first.count(";") > first.count(",") else "," if "," in first else "\x1f"
-    reader, line, found = csv.reader(io.StringIO(text), delimiter=delimiter, strict=True), 1, []
-    try:
-        for record in reader:
-            found += [(line, record)] if record else []
-            line = reader.line_num + 1
-    except csv.Error as fault:
-        raise Fault(f"line {line}: {fault}") from None
-    return found
-
+# Words of calls
 
 def positive(text):
     """A reader of whole numbers from 1 for argparse."""
@@ -139,13 +109,26 @@ def positive(text):
 # Numbers, exact
 
 NUMBER = re.compile(r"0|-?[1-9][0-9]*")
+MOST_DIGITS = 1000  # (the greatest number of the formats has 38)
 
 
 def whole(text, where):
     """The number that the text spells in the way of the formats."""
     if not NUMBER.fullmatch(text):
-        raise Fault(f"{where}: not a number: {text}")
+        raise Fault(f"{where}: not a number: {shortened(text)}")
+    refuse_long(text, where)
     return int(text)
+
+
+def shortened(text):
+    """The text as notes show it."""
+    return text if len(text) <= 60 else f"{text[:40]}.. ({len(text)} characters)"
+
+
+def refuse_long(text, where):
+    """Refuses numbers of more digits than any that is meant."""
+    if len(text) > MOST_DIGITS:
+        raise Fault(f"{where}: a number of {len(text)} digits: {shortened(text)}")
 
 
 def fraction(text, where):
@@ -160,7 +143,8 @@ def decimal(text, where):
     """The value of a number as people write it: `3`, `1.5`, `1,5`, `10/3`, exact."""
     said = text.strip().replace(",", ".")
     if not re.fullmatch(r"[+-]?([0-9]+(\.[0-9]*)?|\.[0-9]+|[0-9]+/0*[1-9][0-9]*)", said):
-        raise Fault(f"{where}: not a number: {text.strip()}")
+        raise Fault(f"{where}: not a number: {shortened(text.strip())}")
+    refuse_long(said, where)
     return Fraction(said)
 
 
@@ -206,14 +190,25 @@ def said_length(seconds):
 DATE = re.compile(r"([0-9]{4})-([0-9]{2})-([0-9]{2})(?:[ T]([0-9]{2}):([0-9]{2})(?::([0-9]{2}))?(?:\+([0-9]+/[1-9][0-9]*))?)?")
 
 
+GERMAN = re.compile(r"([0-9]{1,2})\.([0-9]{1,2})\.([0-9]{4})(?: ([0-9]{1,2})(:[0-9]{2}(?::[0-9]{2})?))?")
+
+
+def in_order(text):
+    """A date as 02.03.2026 06:00 in the form YYYY-MM-DD HH:MM; another text as it stands."""
+    found = GERMAN.fullmatch(text.strip())
+    if found is None:
+        return text.strip()
+    return f"{found[3]}-{int(found[2]):02d}-{int(found[1]):02d}" + (f" {int(found[4]):02d}{found[5]}" if found[4] else "")
+
+
 def is_date(text):
-    """Whether the text has the form of a date, YYYY-MM-DD with or without HH:MM."""
-    return DATE.fullmatch(text.strip()) is not None
+    """Whether the text has the form of a date, YYYY-MM-DD or DD.MM.YYYY with or without HH:MM."""
+    return DATE.fullmatch(in_order(text)) is not None
 
 
 def date_of(text, where):
     """The date that the text spells, and the part of a second beyond it: YYYY-MM-DD, YYYY-MM-DD HH:MM or HH:MM:SS, then +1/3."""
-    found = DATE.fullmatch(text.strip())
+    found = DATE.fullmatch(in_order(text))
     try:
         if found is None:
             raise ValueError
