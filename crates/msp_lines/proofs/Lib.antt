@@ -1,0 +1,5 @@
+mod Turns
+mod LineBegins
+mod LineFacts
+mod LinePieces
+mod LineBest

@@ -1,0 +1,59 @@
+-- The pieces of jobs that begin in slots of the earliest schedule on one machine. No public contract cites this file.
+use Rattle.std.specs.Prelude.{◌≡◌, ℕ, ◌+◌, ◌*◌, ◌/◌, ◌%◌, Bool, true, false, List, length, map, pos, IsPermutation}
+use Rattle.std.specs.List.{range_with_len}
+use Rattle.msp_class.specs.declared.class.Class.{Class}
+use Rattle.msp_class.specs.declared.class.Crit.{Crit}
+use Rattle.msp_class.specs.declared.class.Crit.TheVariants.{SumWT, SumWU}
+use Rattle.msp_instance.specs.declared.Instance.{Instance}
+use Rattle.msp_schedule.specs.declared.Piece.{Piece}
+use Rattle.msp_slots.specs.declared.earliest.Slot.{Slot}
+use Rattle.msp_slots.specs.Earliest.{start_in, AreSlots}
+use Rattle.msp_assign.specs.Prices.{IsAssigned, IsLeast, column_of}
+use Rattle.msp_lines.specs.declared.line_table.LineSlots.{LineSlots}
+use Rattle.msp_lines.specs.Classes.{lines_late_class}
+use Rattle.msp_lines.specs.Costs.{line_cost}
+
+-- The class that is solved: by the weighted tardiness, or where `late` is false, by the weighted number of late jobs.
+abbrev pub line_crit : Bool → Crit
+line_crit true = SumWT
+line_crit false = SumWU
+
+abbrev pub line_class : Bool → Class
+line_class late = record lines_late_class { crit = line_crit late }
+
+-- The operation of a job that begins at the moment: on the machine of its number, as many units of time later.
+abbrev pub line_part : ℕ → ℕ → ℕ → Piece
+line_part job op start = record { job = job; op = op; machine = op; from = pos (start + op); to = pos (start + op + 1) }
+
+-- The pieces of jobs that begin at moments, m for each: turn x is operation x mod m of job x / m.
+abbrev pub line_piece : ℕ → (ℕ → ℕ) → ℕ → Piece
+line_piece m begin x = line_part (x / m) (x % m) (begin (x / m))
+
+abbrev pub lines_from : ℕ → ℕ → (ℕ → ℕ) → List Piece
+lines_from n m begin = map (line_piece m begin) (range_with_len 0 (n * m))
+
+-- Those of the jobs that begin in the slots of their columns.
+abbrev pub lined : ℕ → List Slot → List ℕ → List Piece
+lined m slots column = lines_from (length column) m (λ j. start_in slots (column_of column j))
+
+-- The table is that of the jobs in the slots.
+pub record IsTable (i : Instance) (late : Bool) (slots : List Slot) (table : LineSlots) : Type 0 where
+  pub kind : table.late ≡ late
+  pub machines : table.machines ≡ i.machines
+  pub start : table.start ≡ map (λ s. s.start) slots
+  pub release : table.release ≡ map (λ j. j.release) i.jobs
+  pub due : table.due ≡ map (λ j. j.due) i.jobs
+  pub weight : table.weight ≡ map (λ j. j.weight) i.jobs
+
+-- The jobs begin in slots of the earliest schedule on one machine, at least cost.
+pub record AreLeastLined (i : Instance) (late : Bool) (pieces : List Piece) : Type 0 where
+  pub heads : List ℕ
+  pub slots : List Slot
+  pub table : LineSlots
+  pub column : List ℕ
+  pub all : IsPermutation (map (λ j. j.release) i.jobs) heads
+  pub filled : AreSlots 1 heads slots
+  pub is_table : IsTable i late slots table
+  pub assigned : IsAssigned (length i.jobs) (length i.jobs) column
+  pub least : IsLeast (length i.jobs) (length i.jobs) (line_cost table) column
+  pub laid : pieces ≡ lined i.machines slots column
