@@ -28,6 +28,8 @@ mod instances;
 #[cfg(test)]
 mod job_names;
 #[cfg(test)]
+mod lines;
+#[cfg(test)]
 mod names;
 #[cfg(test)]
 mod numbers;
