@@ -28,8 +28,6 @@ mod instances;
 #[cfg(test)]
 mod job_names;
 #[cfg(test)]
-mod lines;
-#[cfg(test)]
 mod names;
 #[cfg(test)]
 mod numbers;
@@ -45,3 +43,5 @@ mod solvers;
 mod solving;
 #[cfg(test)]
 mod texts;
+#[cfg(test)]
+mod unlisted;
