@@ -3,3 +3,7 @@ mod Counts
 mod Progress
 mod Facts
 mod HuBest
+mod Above
+mod Ended
+mod Slots
+mod SumBest
