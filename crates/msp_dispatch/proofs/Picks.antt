@@ -1,7 +1,7 @@
 -- What is picked from the list, and a best schedule that is settled.
 use Rattle.std.proofs.Common.{◌≡◌, refl, ◌≢◌, ℕ, zero, suc, ◌+◌, ◌<◌, ◌≤◌, ◌⊎◌, inl, inr, ◌↔◌, Bool, true, false, IsTrue, List, [], ◌∷◌, length, map, ℤ, pos, ◌*ℤ◌, ◌≤ℤ◌, ◌<ℤ◌, sym, ap, ap₂, subst, subst₂, ◌∙◌, arith}
 use Rattle.std.specs.Option.{option_map}
-use Rattle.std.specs.Prelude.{⊤, slice_get, Contains, IfSome, IfOk, IfErr, Option, Some, None, Result, Ok, Err}
+use Rattle.std.specs.Prelude.{⊤, slice_get, Contains, IfSome, IfNone, IfOk, IfErr, Option, Some, None, Result, Ok, Err}
 use Rattle.std.proofs.lemmas.Bool.{cases_lt}
 use Rattle.std.proofs.lemmas.Int.{ints}
 use Rattle.std.proofs.lemmas.Option.{slice_get-map, slice_get_within, get_or_from_slice_get}
@@ -96,6 +96,20 @@ not_there b T e h t = absurd (let yes : b ≡ true = h.1 t in cc)
 -- the first of the list to which a chain leads
 pub first_led : (from : Class) (n : ℕ) (p : Pick) → StandsAt n p.entry → IsRoute from p → ((k : ℕ) → k < n → IfSome (slice_get solved_list k) (λ e. ¬ Reaches carries from e.class)) → IsFirst (Reaches carries from) solved_classes p.entry.class
 first_led from n p at h none = first_in (Reaches carries from) solved_list n p.entry at (IsRoute-reaches from p h) none
+
+-- a class of the list to which no chain leads
+pub no_route : (from at : Class) (n : ℕ) (found : Option Pick) → found ≡ None → IfNone found (IfSome (slice_get solved_list n) (λ e. ¬ Reaches carries from e.class)) → slice_get solved_classes n ≡ Some at
+    → HasNoTarget from (Some at) (NoRoute from at)
+no_route from at n found is h stands = (
+  refl,
+  refl,
+  (n, slice_get_within solved_classes n at stands, get_or_from_slice_get solved_classes n at at stands),
+  by (slice_get solved_list n) (sym (slice_get-map (λ s. s.class) solved_list n) ∙ stands) (subst (λ o. IfNone o (IfSome (slice_get solved_list n) (λ e. ¬ Reaches carries from e.class))) is h),
+)
+  where
+    by : (o : Option SolvedClass) → option_map (λ s. s.class) o ≡ Some at → IfSome o (λ e. ¬ Reaches carries from e.class) → ¬ Reaches carries from at
+    by None e g = absurd (cc)
+    by (Some x) e g = let same : x.class ≡ at = cc in subst (λ c. ¬ Reaches carries from c) same g
 
 -- no chain leads to a class of the list, where none leads to that of an entry
 none_in : (P : Class → Type 0) (xs : List SolvedClass) → ((k : ℕ) → k < length xs → IfSome (slice_get xs k) (λ x. ¬ P x.class)) → (t : Class) → Contains (map (λ x. x.class) xs) t → ¬ P t
