@@ -119,6 +119,16 @@ class Units:
         """A length of time of the instance, as a number of the list's units, or in hours."""
         return self.number(value * self.factor)
 
+    def length_in_words(self, value):
+        """A length of time of the instance in words, as 47 h 25 min; a number where no time unit is known."""
+        if self.time_unit is None:
+            return self.length(value)
+        seconds = Fraction(value) * self.factor * 3600
+        sign, seconds = "-" * (seconds < 0), abs(seconds)
+        parts = [(seconds // 3600, "h"), (seconds % 3600 // 60, "min"), (seconds % 60, "s")]
+        found = " ".join(f"{said(number)} {unit}" for number, unit in parts if number)
+        return sign + (found or "0 h")
+
     def moment(self, value, ends=False):
         """A moment of the instance, as a number, in hours, or as a date; `ends` says that something ends there."""
         return self.length(value) if self.start is None else msp_texts.said_date(self.start, value * self.factor * 3600)
