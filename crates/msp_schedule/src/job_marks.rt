@@ -4,7 +4,7 @@ ghost use Rattle.std.specs.List.{list_any};
 ghost use Rattle.std.specs.List.Sorted.{IsNonDecreasingBy};
 ghost use Rattle.msp_instance.specs.declared.ranges.TheConstants.{MOST_JOBS};
 
-use msp_instance::{Arc, MOST_JOBS, entering_of, leaving_of};
+use msp_instance::{Arc, MOST_JOBS, entering_of};
 
 /// A mark for each job, none set.
 fn no_marks() -> [bool; MOST_JOBS]
@@ -44,21 +44,6 @@ pub fn marks_before(arcs: &[Arc], marks: &[bool; MOST_JOBS]) -> [bool; MOST_JOBS
         mark(&mut before, arc.before, marks[arc.after as usize]);
     }
     before
-}
-
-/// Whether an arc leads from the job to a marked one, of arcs by their jobs before.
-pub fn leads_to_marked(sorted: &[Arc], marks: &[bool; MOST_JOBS], job: u32) -> bool
-    requires ends { All (λ a. (a.before < MOST_JOBS) × (a.after < MOST_JOBS)) sorted.now }
-    requires sorted { IsNonDecreasingBy (λ a. a.before) sorted.now }
-    ensures { result ≡ list_any (λ a. a.before == job && slice_index_or marks.now a.after false) sorted.now }
-{
-    let leaving = leaving_of(sorted, job);
-    for arc in leaving {
-        if marks[arc.after as usize] {
-            return true;
-        }
-    }
-    false
 }
 
 /// Whether an arc leads to the job from a marked one, of arcs by their jobs after.

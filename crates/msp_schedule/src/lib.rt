@@ -32,7 +32,7 @@ mod work;
 pub use breaks::{Break, first_break};
 pub use fraction::{compare, lowest};
 pub use job_cost::job_cost_at;
-pub use job_marks::{follows_marked, leads_to_marked, marks_before, marks_of};
+pub use job_marks::{follows_marked, marks_before, marks_of};
 pub use laws::{
     law_of_blocks, law_of_ends, law_of_first_break, law_of_floors, law_of_groups, law_of_last_ends,
     law_of_levels, law_of_limits, law_of_lines, law_of_machines, law_of_prices, law_of_segments,
