@@ -23,7 +23,7 @@ fn read(numbers: &mut impl Iterator<Item = i64>) -> Instance {
 
 // An instance from its text, which is taken to be right.
 fn read_text(class: &str, text: &str) -> Instance {
-    let mut found = Instance { speeds: vec![1; if class.starts_with("P2") || class.starts_with("R2") { 2 } else { 1 }], jobs: Vec::new(), arcs: Vec::new() };
+    let mut found = Instance { speeds: vec![1; if ["P2", "R2", "J2"].iter().any(|kind| class.starts_with(kind)) { 2 } else { 1 }], jobs: Vec::new(), arcs: Vec::new() };
     let (mut numbers, mut unit) = (HashMap::new(), 1);
     for line in text.lines() {
         let mut words = line.split(' ');
@@ -42,6 +42,10 @@ fn read_text(class: &str, text: &str) -> Instance {
                 found.jobs.push(job);
             }
             "times" => found.jobs.last_mut().unwrap().times = words.map(|w| w.parse().unwrap()).enumerate().collect(),
+            "route" => {
+                let numbers: Vec<i64> = words.map(|w| w.parse().unwrap()).collect();
+                found.jobs.last_mut().unwrap().times = numbers.chunks(2).map(|s| (s[0] as usize - 1, s[1])).collect();
+            }
             "curve" => {
                 let numbers: Vec<i64> = words.map(|w| w.parse().unwrap()).collect();
                 let job = found.jobs.last_mut().unwrap();
@@ -678,6 +682,149 @@ fn weights(x: &Instance, on_all: bool) -> (i64, i64) {
     (cost, 1)
 }
 
+// Whether the jobs by due date all end by it and the bound together, on machines whose ends fall like stairs; their pieces where they do.
+fn stairs_of(jobs: &[(usize, i128, i128)], m: usize, bound: i128) -> Option<Vec<Piece>> {
+    let mut ends: Vec<(i128, usize)> = (0..m).map(|i| (0, i)).collect();
+    let mut pieces = Vec::new();
+    for &(job, time, due) in jobs {
+        let due = due + bound;
+        if ends[0].0 + time <= due {
+            pieces.push(Piece { job, machine: ends[0].1, from: ends[0].0, to: ends[0].0 + time });
+            ends[0].0 += time;
+            continue;
+        }
+        let place = ends.partition_point(|end| end.0 + time > due) - 1;
+        if place + 1 == m { return None; }
+        let (end, machine) = ends.remove(place);
+        if end < due { pieces.push(Piece { job, machine, from: end, to: due }); }
+        let rest = time - (due - end);
+        if rest > 0 {
+            pieces.push(Piece { job, machine: ends[place].1, from: ends[place].0, to: ends[place].0 + rest });
+            ends[place].0 += rest;
+        }
+        ends.insert(0, (due, machine));
+    }
+    Some(pieces)
+}
+
+fn stairs(x: &Instance) -> (i64, i64) {
+    let m = x.speeds.len();
+    let scaled = |number: i64| number as i128 * m as i128;
+    let mut jobs: Vec<_> = x.jobs.iter().enumerate().map(|(j, job)| (j, scaled(job.time()), scaled(job.due))).collect();
+    jobs.sort_by_key(|&(_, _, due)| due);
+    let mut low = jobs.iter().map(|&(_, time, due)| time - due).max().unwrap();
+    let mut high = jobs.iter().map(|&(_, time, _)| time).sum::<i128>() - jobs[0].2;
+    while low < high {
+        let bound = low + (high - low).div_euclid(2);
+        if stairs_of(&jobs, m, bound).is_some() { high = bound; } else { low = bound + 1; }
+    }
+    printed(stairs_of(&jobs, m, high).unwrap());
+    (high as i64, m as i64)
+}
+
+fn lcm(a: i64, b: i64) -> i64 { a / gcd(a as i128, b as i128) as i64 * b }
+
+// The places of jobs of one time on uniform machines that end first, as many as there are jobs: begin, end and machine, over the unit.
+fn places_of(x: &Instance) -> (i64, Vec<(i64, i64, usize)>) {
+    let unit = x.speeds.iter().fold(1, |a, &b| lcm(a, b));
+    let share = |i: usize| x.jobs[0].time() * (unit / x.speeds[i]);
+    let mut next: BinaryHeap<_> = (0..x.speeds.len()).map(|i| Reverse((share(i), i))).collect();
+    let places = x.jobs.iter().map(|_| {
+        let Reverse((end, i)) = next.pop().unwrap();
+        next.push(Reverse((end + share(i), i)));
+        (end - share(i), end, i)
+    }).collect();
+    (unit, places)
+}
+
+fn placed(places: &[(i64, i64, usize)], job_at: &[usize]) {
+    printed(places.iter().zip(job_at).map(|(&(from, to, machine), &job)| Piece { job, machine, from: from as i128, to: to as i128 }).collect());
+}
+
+fn places_most(x: &Instance) -> (i64, i64) {
+    let (unit, places) = places_of(x);
+    let (mut left, mut job_at, mut most) = ((0..x.jobs.len()).collect::<Vec<_>>(), vec![0; x.jobs.len()], i64::MIN);
+    let cost = |job: usize, end: i64| {
+        let job = &x.jobs[job];
+        job.slope * end + job.base * unit + job.steps.iter().filter(|s| s.0 * unit < end).map(|s| s.1).sum::<i64>() * unit
+    };
+    for (place, &(_, end, _)) in places.iter().enumerate().rev() {
+        let (at, _) = left.iter().enumerate().min_by_key(|&(_, &job)| (cost(job, end), job)).unwrap();
+        let job = left.remove(at);
+        job_at[place] = job;
+        most = most.max(cost(job, end));
+    }
+    placed(&places, &job_at);
+    (most, unit)
+}
+
+fn places(x: &Instance, late: impl Fn(i64) -> i64) -> i64 {
+    let (unit, places) = places_of(x);
+    assign(x.jobs.len(), places.len(), |j, c| x.jobs[j].weight * late(places[c].1 - x.jobs[j].due * unit))
+}
+
+// By levels on an outtree, and the sum of the ends.
+fn levels_sum(x: &Instance) -> (i64, i64) {
+    let n = x.jobs.len();
+    let (mut after, mut before, mut order) = (vec![Vec::new(); n], vec![None; n], Vec::new());
+    for &(a, b) in &x.arcs { after[a].push(b); before[b] = Some(a); }
+    order.extend((0..n).filter(|&j| before[j].is_none()));
+    let mut at = 0;
+    while at < order.len() { order.extend(&after[order[at]]); at += 1; }
+    let mut level = vec![0; n];
+    for &job in order.iter().rev() { if let Some(a) = before[job] { level[a] = level[a].max(level[job] + 1); } }
+    let keys: Vec<i64> = level.iter().map(|l: &i64| -l).collect();
+    let found = in_slots(x, &after, &keys);
+    let cost = found.iter().map(|&(_, _, slot)| slot + 1).sum();
+    printed(found.into_iter().map(|(job, machine, slot)| Piece { job, machine, from: slot as i128, to: slot as i128 + 1 }).collect());
+    (cost, 1)
+}
+
+fn equal_heads(x: &Instance) -> (i64, i64) {
+    let (n, time) = (x.jobs.len(), x.jobs[0].time());
+    let (mut after, mut before) = (vec![Vec::new(); n], vec![0; n]);
+    for &(a, b) in &x.arcs { after[a].push(b); before[b] += 1; }
+    let mut heads: Vec<i64> = x.jobs.iter().map(|job| job.release).collect();
+    let mut forward: Vec<usize> = (0..n).filter(|&j| before[j] == 0).collect();
+    let mut at = 0;
+    while at < forward.len() {
+        let job = forward[at];
+        for &b in &after[job] {
+            heads[b] = heads[b].max(heads[job] + time);
+            before[b] -= 1;
+            if before[b] == 0 { forward.push(b); }
+        }
+        at += 1;
+    }
+    let mut order: Vec<usize> = (0..n).collect();
+    order.sort_by_key(|&j| heads[j]);
+    let (mut now, mut cost, mut pieces) = (0, 0, Vec::new());
+    for job in order {
+        let from = heads[job].max(now);
+        now = from + time;
+        cost += now;
+        pieces.push(Piece { job, machine: 0, from: from as i128, to: now as i128 });
+    }
+    printed(pieces);
+    (cost, 1)
+}
+
+// Unit operations in a flow shop: as on one machine, whose jobs end as many units later as there are machines behind the first.
+fn lines(x: &Instance, late: impl Fn(&Job, i64) -> i64) -> (i64, i64) {
+    let (m, machines) = (x.speeds.len() as i64, x.speeds.len());
+    let single = Instance {
+        speeds: vec![1],
+        jobs: x.jobs.iter().map(|j| Job { release: j.release, due: j.due, weight: j.weight, times: vec![(0, 1)], ..Job::default() }).collect(),
+        arcs: Vec::new(),
+    };
+    let cost = slots(&single, |job, end| late(job, end + m - 1));
+    printed(starts_of(&single).iter().enumerate().flat_map(|(job, &start)| (0..machines).map(move |machine| {
+        let from = start as i128 + machine as i128;
+        Piece { job, machine, from, to: from + 1 }
+    })).collect());
+    cost
+}
+
 fn rule(class: &str, x: &Instance) -> (i64, i64) {
     match class {
         "1||sumwC" => smith(x),
@@ -693,7 +840,7 @@ fn rule(class: &str, x: &Instance) -> (i64, i64) {
         "P|r,p=1|sumwT" => slots(x, |job, end| (end - job.due).max(0)),
         "P|r,p=1|sumwU" => slots(x, |job, end| (end > job.due) as i64),
         "F2||Cmax" => johnson(x),
-        "J2|n<=2|Cmax" => jackson(x),
+        "J2|n<=2|Cmax" | "J2|pmtn,n<=2|Cmax" => jackson(x),
         "O|pmtn|Cmax" => open_cut(x),
         "Q|pmtn|Cmax" => uniform_cut(x),
         "P2|prec,p=1|Cmax" => lexical(x),
@@ -703,6 +850,14 @@ fn rule(class: &str, x: &Instance) -> (i64, i64) {
         "P|pmtn|sumC" => cut_sum(x),
         "P|pmtn,p=p|sumwC" => weights(x, false),
         "O|p=1|sumwC" | "O|pmtn,p=p|sumwC" => weights(x, true),
+        "P|pmtn|Lmax" => stairs(x),
+        "Q|p=p|fmax" => places_most(x),
+        "Q|p=p|sumwT" => (places(x, |late| late.max(0)), places_of(x).0),
+        "Q|p=p|sumwU" => (places(x, |late| (late > 0) as i64), 1),
+        "P|outtree,p=1|sumC" => levels_sum(x),
+        "1|prec,r,p=p|sumC" => equal_heads(x),
+        "F|r,p=1|sumwT" => lines(x, |job, end| (end - job.due).max(0)),
+        "F|r,p=1|sumwU" => lines(x, |job, end| (end > job.due) as i64),
         _ => std::process::exit(3),
     }
 }
