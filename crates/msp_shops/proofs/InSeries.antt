@@ -1,5 +1,5 @@
--- No feasible schedule on two machines in series ends before the laid pieces, so they are best.
-use Rattle.std.proofs.Common.{ap, ◌≡◌, ℕ, ◌+◌, ◌*◌, ◌≤◌, inl, inr, max, Bool, true, false, leb, List, All, AllPairs, sum_by, nat_abs, refl, sym, subst, arith}
+-- No feasible schedule on two machines in series, cut or not, ends before the laid pieces, so they are best.
+use Rattle.std.proofs.Common.{ap, ◌≡◌, ℕ, ◌+◌, ◌*◌, ◌<◌, ◌≤◌, inl, inr, max, Bool, true, false, leb, List, All, AllPairs, sum_by, nat_abs, refl, sym, subst, arith}
 use Rattle.msp_class.specs.Env.{is_shop_kind}
 use Rattle.msp_instance.specs.declared.Instance.{Instance}
 use Rattle.msp_schedule.specs.declared.Piece.{Piece}
@@ -14,13 +14,12 @@ use Rattle.msp_shops.specs.Laid.{after, AreLaid}
 use Rattle.msp_shops.proofs.Cut.{HaveTwoStages}
 use Rattle.msp_shops.proofs.JohnsonOrder.{johnson_bound}
 use Rattle.msp_shops.proofs.Shops.{IsPlainShop, IsLeastEnd-from_pieces, IsBestPlan, IsBestPlan-from_plan, over_one}
-use Rattle.msp_shops.proofs.Stages.{begin_first, begin_second, two_stages, load}
+use Rattle.msp_shops.proofs.Stages.{ready, two_stages, load}
 use Rattle.msp_shops.proofs.LaidPieces.{last, IsShopPlan-laid, laid_ends, laid_few, laid_short}
 
 pub IsPlainShop-from_two_machines : (i : Instance) → IsTwoMachineShop i → IsPlainShop i
 IsPlainShop-from_two_machines i shop = record {
   kind = elim shop.kind [ inl e ↦ ap is_shop_kind e | inr e ↦ ap is_shop_kind e ];
-  cut = shop.cut;
   crit = shop.crit;
   arcs = shop.arcs;
   release = shop.release;
@@ -35,13 +34,13 @@ module _ (i : Instance) (shop : IsTwoMachineShop i) (s : Schedule) (f : Feasible
   less : (u m n : ℕ) → m ≤ n → u * n ≤ end → u * m ≤ end
   less u m n l b = grind arith
 
-  second_is_over : (m : ℕ) (jobs others : List JobTimes) → IsJohnsonGroup i m jobs → unit * (sum_by (λ t. t.first) others + sum_by (λ t. t.second) jobs) ≤ end → (y : ℕ) → IsCritical jobs (after others) y → unit * y ≤ end
-  second_is_over m jobs others g full y (inl e) = less unit y _ (omega (arith, e)) full
-  second_is_over m jobs others g full y (inr (before, k, rest, is, e)) =
-      let S : List JobTimes → Type 0 = HaveTwoStages (λ t. t.first) (λ t. t.second) (begin_first i shop s f end ends) (begin_second i shop s f end ends) unit end in
+  second_is_over : (m : ℕ) → m < 2 → (jobs others : List JobTimes) → IsJohnsonGroup i m jobs → unit * (sum_by (λ t. t.first) others + sum_by (λ t. t.second) jobs) ≤ end → (y : ℕ) → IsCritical jobs (after others) y → unit * y ≤ end
+  second_is_over m two jobs others g full y (inl e) = less unit y _ (omega (arith, e)) full
+  second_is_over m two jobs others g full y (inr (before, k, rest, is, e)) =
+      let S : List JobTimes → Type 0 = HaveTwoStages (λ t. t.first) (λ t. t.second) (ready i shop s f end ends m) unit end in
       less unit y _ (omega (arith, e))
-      (johnson_bound (λ t. t.first) (λ t. t.second) (begin_first i shop s f end ends) (begin_second i shop s f end ends) unit end before k rest
-      (subst (AllPairs (GoesBefore (λ t. t.first) (λ t. t.second))) is g.order) (subst S is (two_stages i shop s f end ends m jobs g.group)))
+      (johnson_bound (λ t. t.first) (λ t. t.second) (ready i shop s f end ends m) unit end before k rest
+      (subst (AllPairs (GoesBefore (λ t. t.first) (λ t. t.second))) is g.order) (subst S is (two_stages i shop s f end ends m two jobs g.group)))
 
   module _ (here there : List JobTimes) (group_here : IsJohnsonGroup i 0 here) (group_there : IsJohnsonGroup i 1 there) (ps : List Piece) (h : AreLaid here there ps) where
     load_here : unit * (sum_by (λ t. t.first) here + sum_by (λ t. t.second) there) ≤ end
@@ -69,9 +68,9 @@ module _ (i : Instance) (shop : IsTwoMachineShop i) (s : Schedule) (f : Feasible
     pub last_is_over : unit * last i shop here there group_here.group group_there.group ps h ≤ end
     last_is_over = greater h.end_here.first h.end_here.second h.end_there.first h.end_there.second
         (less unit h.end_here.first _ (omega (arith, h.pass_here.first_end)) load_here)
-        (second_is_over 0 here there group_here load_there h.end_here.second h.pass_here.second_end)
+        (second_is_over 0 (omega arith) here there group_here load_there h.end_here.second h.pass_here.second_end)
         (less unit h.end_there.first _ (omega (arith, h.pass_there.first_end)) load_there)
-        (second_is_over 1 there here group_there load_here h.end_there.second h.pass_there.second_end)
+        (second_is_over 1 (omega arith) there here group_there load_here h.end_there.second h.pass_there.second_end)
 
 -- ---- the answer
 pub IsBestPlan-laid : (i : Instance) (shop : IsTwoMachineShop i) (here there : List JobTimes) (group_here : IsJohnsonGroup i 0 here) (group_there : IsJohnsonGroup i 1 there) (ps : List Piece) (h : AreLaid here there ps)

@@ -88,8 +88,8 @@ module _ {X : Type 0} (first second : X → ℕ) where
       by true e = omega arith
       by false e = absurd (omega (arith, leb-false d d e))
 
-  pub johnson_bound : (begin begun : X → ℕ) (unit end : ℕ) (l1 : List X) (k : X) (l2 : List X) → AllPairs (GoesBefore first second) (l1 ++ k ∷ l2) → HaveTwoStages first second begin begun unit end (l1 ++ k ∷ l2) → unit * way l1 k l2 ≤ end
-  johnson_bound begin begun unit end l1 k l2 order h = by (leb (first k) (second k)) refl
+  pub johnson_bound : (ready : X → ℕ) (unit end : ℕ) (l1 : List X) (k : X) (l2 : List X) → AllPairs (GoesBefore first second) (l1 ++ k ∷ l2) → HaveTwoStages first second ready unit end (l1 ++ k ∷ l2) → unit * way l1 k l2 ≤ end
+  johnson_bound ready unit end l1 k l2 order h = by (leb (first k) (second k)) refl
     where
       before : All (λ x. GoesBefore first second x k) l1
       before = all_before (GoesBefore first second) l1 k l2 order
@@ -108,9 +108,9 @@ module _ {X : Type 0} (first second : X → ℕ) where
           let l = leb-true (first k) (second k) e in
           scaled unit _ _
           (counts (added first second (first k)) l1 k l2 (λ i d m. early_before _ _ _ _ l (before i d m)) (λ i d m. early_after _ _ _ _ l (after i d m)) (first k) (early_own (first k) (second k)))
-          (threshold first second begin begun unit end (l1 ++ k ∷ l2) h (first k) k here (omega arith))
+          (threshold first second ready unit end (l1 ++ k ∷ l2) h (first k) k here (omega arith))
       by false e =
           let l = leb-false (first k) (second k) e in
           scaled unit _ _
           (counts (added second first (second k)) l1 k l2 (λ i d m. late_before _ _ _ _ l (before i d m)) (λ i d m. late_after _ _ _ _ l (after i d m)) (second k) (late_own (first k) (second k)))
-          (threshold_from_end first second begin begun unit end (l1 ++ k ∷ l2) h (second k) k here (omega arith))
+          (threshold_from_end first second ready unit end (l1 ++ k ∷ l2) h (second k) k here (omega arith))

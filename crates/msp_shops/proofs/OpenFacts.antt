@@ -45,7 +45,6 @@ IsOpenInstance-from_class i e h =
       kind = ap kind_of env;
       shop = record {
         kind = ap is_shop env;
-        cut = ap (λ c. c.cut) e;
         crit = ap (λ c. c.crit) e;
         arcs = subst (λ o. HasArcs o i.arcs) (ap (λ c. c.order) e) m.arcs;
         release = λ k d l. subst (λ b. HasRelease (inner_limits (kind_of i.class.env)) b (get_or i.jobs k d).release) (ap (λ c. c.heads) e) (m.jobs k d l).release;

@@ -1,5 +1,5 @@
 -- The instances of the classes of Johnson's and of Jackson's rule are shops of two machines in series.
-use Rattle.std.proofs.Common.{◌≡◌, ◌≢◌, ℕ, ◌-◌, ◌<◌, ◌≤◌, ◌⊎◌, inl, inr, false, length, get_or, All, MatchOption, ap, subst, subst₂, ◌∙◌, arith}
+use Rattle.std.proofs.Common.{◌≡◌, ◌≢◌, ℕ, ◌-◌, ◌<◌, ◌≤◌, ◌⊎◌, inl, inr, Bool, false, length, get_or, All, MatchOption, ap, subst, subst₂, ◌∙◌, arith}
 use Rattle.std.specs.Prelude.{⊤}
 use Rattle.std.proofs.lemmas.Bool.{cases_lt}
 use Rattle.std.proofs.Math.ListN.{get_or-eq_default}
@@ -46,7 +46,6 @@ IsTwoMachineShop-from_johnson i h e =
     let env : i.class.env ≡ F2 = ap (λ c. c.env) e in
     record {
       kind = inl (ap kind_of env);
-      cut = ap (λ c. c.cut) e;
       crit = ap (λ c. c.crit) e;
       arcs = subst (λ o. HasArcs o i.arcs) (ap (λ c. c.order) e) h.conditions.arcs;
       some = h.conditions.some;
@@ -66,12 +65,12 @@ IsTwoMachineShop-from_johnson i h e =
           };
     }
 
-pub IsTwoMachineShop-from_jackson : (i : Instance) → Inner i → i.class ≡ jackson_class → IsTwoMachineShop i
-IsTwoMachineShop-from_jackson i h e =
+-- with preemption or without
+pub IsTwoMachineShop-from_jackson : (i : Instance) (cut : Bool) → Inner i → i.class ≡ record jackson_class { cut = cut } → IsTwoMachineShop i
+IsTwoMachineShop-from_jackson i cut h e =
     let env : i.class.env ≡ J2Short = ap (λ c. c.env) e in
     record {
       kind = inr (ap kind_of env);
-      cut = ap (λ c. c.cut) e;
       crit = ap (λ c. c.crit) e;
       arcs = subst (λ o. HasArcs o i.arcs) (ap (λ c. c.order) e) h.conditions.arcs;
       some = h.conditions.some;

@@ -1,23 +1,26 @@
--- The operations of a feasible schedule on two machines in series: each that takes time has its piece.
-use Rattle.std.proofs.Common.{◌≡◌, ◌≢◌, ℕ, ◌+◌, ◌*◌, ◌-◌, ◌<◌, ◌≤◌, ◌⊎◌, inl, inr, Bool, [], ◌∷◌, length, map, All, AllPairs, Contains, MatchBool, ℤ, pos, nat_abs, ◌-ℤ◌, ◌*ℤ◌, refl, sym, ap, subst, ◌∙◌, arith}
+-- The pieces of a feasible schedule on two machines in series, cut or not: the work of each operation, and the order on each job's route.
+use Rattle.std.proofs.Common.{◌≡◌, ◌≢◌, ℕ, ◌*◌, ◌-◌, ◌<◌, ◌≤◌, ◌⊎◌, inl, inr, Bool, true, false, cond, eqb, List, [], ◌∷◌, length, get_or, map, filter, All, AllPairs, MatchBool, pos, nat_abs, ◌*ℤ◌, sum_by, refl, sym, ap, ap₂, subst, ◌∙◌, arith}
 use Rattle.std.specs.Prelude.{◌==◌, ◌&&◌}
-use Rattle.std.proofs.lemmas.Bool.{cases_lt, eqb-true}
+use Rattle.std.proofs.lemmas.Bool.{cases_lt, eqb-true, eqb-false, eq-eqb}
 use Rattle.std.proofs.lemmas.Int.{ints}
-use Rattle.std.proofs.lemmas.List.Elements.{All-contains}
+use Rattle.std.proofs.lemmas.List.Elements.{All-filter, filter_passes}
 use Rattle.std.proofs.Math.ListN.{get_or-eq_default}
 use Rattle.msp_class.specs.declared.environments.EnvKind.{EnvKind}
 use Rattle.msp_class.specs.declared.environments.EnvKind.TheVariants.{FlowShop, JobShop}
 use Rattle.msp_class.specs.Env.{kind_of}
-use Rattle.msp_class.proofs.IntegerRing.{natural, pos-same}
-use Rattle.msp_class.proofs.Sums.{AllPairs-contains, Contains-from_filter}
+use Rattle.msp_class.proofs.IntegerRing.{natural, pos-same, +ℤ_idl}
+use Rattle.msp_class.proofs.Sums.{sum_by-filter, sum_by-mono}
 use Rattle.msp_instance.specs.declared.Instance.{Instance}
 use Rattle.msp_instance.specs.Instance.{job_at, need_at, no_need}
 use Rattle.msp_schedule.specs.declared.Piece.{Piece}
 use Rattle.msp_schedule.specs.declared.Schedule.{Schedule}
-use Rattle.msp_schedule.specs.Piece.{length_of, pieces_of, IsBefore, start, finish, IsTimed}
-use Rattle.msp_schedule.specs.Feasible.{Feasible, HasPlace, HasOperation, MayRun, FollowsRoute, GetsWork, IsWholeWork, total, whole_work, work_of as part_of}
-use Rattle.msp_schedule.specs.Intervals.{IsApartOn}
-use Rattle.msp_schedule.proofs.feasible.OneMachine.{IsTimed-from_span, apart_in_nat, both_true}
+use Rattle.msp_schedule.specs.Piece.{length_of, pieces_of, job_of, IsBefore, start, finish, IsTimed}
+use Rattle.msp_schedule.specs.Feasible.{Feasible, HasOperation, MayRun, FollowsRoute, IsWholeWork, total, whole_work, work_of as part_of}
+use Rattle.msp_schedule.specs.Intervals.{IsApart, size_of, work_of}
+use Rattle.msp_schedule.proofs.lists.Intervals.{apart_on_each}
+use Rattle.msp_schedule.proofs.lists.Places.{filter-both}
+use Rattle.msp_schedule.proofs.feasible.Frames.{named_one}
+use Rattle.msp_schedule.proofs.feasible.OneMachine.{IsTimed-from_span, apart_in_nat, both_true, total_lengths}
 use Rattle.msp_shops.specs.Pass.{machine_of}
 use Rattle.msp_shops.specs.Groups.{IsTwoMachineShop}
 
@@ -29,11 +32,19 @@ operation_there i j o works = by (cases_lt o (length (job_at i j).needs))
     by (inl l) = l
     by (inr l) = absurd (works (ap (λ n. n.time) (get_or-eq_default (job_at i j).needs no_need l)))
 
+-- what passes a test is no more than what passes a wider one
+sum_by-wider : {X : Type 0} (f : X → ℕ) (p q : X → Bool) (xs : List X) → All (λ x. p x ≡ true → q x ≡ true) xs → sum_by f (filter p xs) ≤ sum_by f (filter q xs)
+sum_by-wider f p q xs h = omega (arith, sum_by-filter f p xs, sum_by-filter f q xs, sum_by-mono (λ x. cond (p x) (f x) 0) (λ x. cond (q x) (f x) 0) xs (λ k d l. wider (p (get_or xs k d)) (q (get_or xs k d)) (f (get_or xs k d)) (h k d l)))
+  where
+    wider : (a b : Bool) (n : ℕ) → (a ≡ true → b ≡ true) → cond a n 0 ≤ cond b n 0
+    wider true b n h = subst (λ c. n ≤ cond c n 0) (sym (h refl)) (omega arith)
+    wider false b n h = omega arith
+
 module _ (i : Instance) (shop : IsTwoMachineShop i) where
   abbrev kind : EnvKind
   kind = kind_of i.class.env
 
-  pub by_kind : (P : EnvKind → Type 0) → P FlowShop → P JobShop → P kind
+  by_kind : (P : EnvKind → Type 0) → P FlowShop → P JobShop → P kind
   by_kind P f j = elim shop.kind [ inl e ↦ subst P (sym e) f | inr e ↦ subst P (sym e) j ]
 
   of_kind : (P : EnvKind → Type 0) {A : Type 0} → P kind → (P FlowShop → A) → (P JobShop → A) → A
@@ -44,79 +55,122 @@ module _ (i : Instance) (shop : IsTwoMachineShop i) (s : Schedule) (f : Feasible
   abbrev unit : ℕ
   unit = nat_abs s.unit
 
-  pub timed_pieces : All IsTimed s.pieces
+  timed_pieces : All IsTimed s.pieces
   timed_pieces k d l = IsTimed-from_span _ (f.span k d l)
 
-  pub apart_on_machines : AllPairs (IsApartOn machine_of start finish) s.pieces
-  apart_on_machines a b d h k e = apart_in_nat _ _ (timed_pieces a d (omega arith)) (timed_pieces b d k) (f.machine a b d h k e)
+  -- the pieces on a machine
+  abbrev pub on : ℕ → List Piece
+  on m = filter (λ p. eqb p.machine m) s.pieces
 
-  -- the piece of an operation
-  pub record IsPieceOf (j o : ℕ) (p : Piece) : Type 0 where
-    pub there : Contains s.pieces p
-    pub job : p.job ≡ j
-    pub op : p.op ≡ o
-    pub machine : p.machine ≡ (need_at i j o).machine
-    pub whole : finish p ≡ start p + unit * (need_at i j o).time
+  pub among : (m : ℕ) (P : Piece → Type 0) → All P s.pieces → All P (on m)
+  among m P h = All-filter (λ p. eqb p.machine m) P s.pieces h
 
-  module _ (j o : ℕ) (inside : j < length i.jobs) (works : (need_at i j o).time ≢ 0) where
-    abbrev Gives : EnvKind → Bool → Type 0
-    Gives x b = MatchBool b (total (map (part_of x i) (pieces_of s j o)) ≡ s.unit *ℤ pos (whole_work x i j o)) ((p : Piece) × (pieces_of s j o ≡ p ∷ []) × IsWholeWork x i s.unit p)
+  pub jobs_on : (m : ℕ) → All (λ p. p.job < length i.jobs) (on m)
+  jobs_on m = among m (λ p. p.job < length i.jobs) (λ k d l. (f.place k d l).job)
 
-    given : (p : Piece) × (pieces_of s j o ≡ p ∷ []) × (length_of p ≡ s.unit *ℤ pos (need_at i p.job p.op).time)
-    given =
-        let g : GetsWork i s j o = f.work j o inside (by_kind i shop (λ x. HasOperation x i j o) (operation_there i j o works, works) (operation_there i j o works, works)) in
-        of_kind i shop (λ x. Gives x i.class.cut) g (λ h. subst (Gives FlowShop) shop.cut h) (λ h. subst (Gives JobShop) shop.cut h)
+  machine_on : (m : ℕ) → All (λ p. p.machine ≡ m) (on m)
+  machine_on m k d l = eqb-true _ _ (filter_passes (λ p. eqb p.machine m) s.pieces k d l)
 
-    sole_is : (p : Piece) → pieces_of s j o ≡ p ∷ [] → Contains (pieces_of s j o) p
-    sole_is p e = subst (λ l. Contains l p) (sym e) (0, omega arith, refl)
+  pub apart_on : (m : ℕ) → AllPairs (IsApart start finish) (on m)
+  apart_on m = apart_on_each machine_of start finish m s.pieces (λ a b d h k e. apart_in_nat _ _ (timed_pieces a d (omega arith)) (timed_pieces b d k) (f.machine a b d h k e))
 
-    pub piece_of_operation : (p : Piece) × IsPieceOf j o p
-    piece_of_operation =
-        let (p, e, size) = given in
-        let (there, passes) = Contains-from_filter (λ q. (q.job == j) && (q.op == o)) s.pieces p (sole_is p e) in
-        let (a, b) = both_true _ _ passes in
-        let job : p.job ≡ j = eqb-true p.job j a in
-        let op : p.op ≡ o = eqb-true p.op o b in
-        let same : need_at i p.job p.op ≡ need_at i j o = ap (λ x. need_at i x p.op) job ∙ ap (need_at i j) op in
-        let place = All-contains (HasPlace i) s.pieces p f.place there in (
-          p,
-          record {
-            there = there;
-            job = job;
-            op = op;
-            machine = of_kind i shop (λ x. MayRun x i p.job p.op p.machine) place.machine (λ h. h) (λ h. h) ∙ ap (λ n. n.machine) same;
-            whole = lasts p s.unit (need_at i j o).time (All-contains IsTimed s.pieces p timed_pieces there) (natural s.unit (omega (arith, ints, f.unit))) (size ∙ ap (λ n. s.unit *ℤ pos n.time) same);
-          },
-        )
-      where
-        lasts : (p : Piece) (u : ℤ) (t : ℕ) → IsTimed p → u ≡ pos (nat_abs u) → length_of p ≡ u *ℤ pos t → finish p ≡ start p + nat_abs u * t
-        lasts p u t timed e h = by (start p) (finish p) (nat_abs u * t) timed.lasts (sym (minus p.from p.to (start p) (finish p) timed.from timed.to timed.lasts) ∙ h ∙ ap (λ x. x *ℤ pos t) e)
-          where
-            minus : (x y : ℤ) (m n : ℕ) → x ≡ pos m → y ≡ pos n → m < n → y -ℤ x ≡ pos (n - m)
-            minus x y m n e f l = omega (arith, ints)
+  -- the piece is of an operation that its job has, on the machine of the operation
+  record HasOwnPlace (p : Piece) : Type 0 where
+    op : p.op < length (job_at i p.job).needs
+    machine : p.machine ≡ (need_at i p.job p.op).machine
 
-            by : (m n k : ℕ) → m < n → pos (n - m) ≡ pos k → n ≡ m + k
-            by m n k l e = omega (arith, pos-same e)
+  own_places : All HasOwnPlace s.pieces
+  own_places k d l =
+      let p = get_or s.pieces k d in
+      let place = f.place k d l in
+      record {
+        op = of_kind i shop (λ x. HasOperation x i p.job p.op) place.operation (λ h. h.0) (λ h. h.0);
+        machine = of_kind i shop (λ x. MayRun x i p.job p.op p.machine) place.machine (λ h. h) (λ h. h);
+      }
 
-  -- the second operation of a job begins no earlier than the first one ends
-  pub follows_route : (j o q : ℕ) (x y : Piece) → IsPieceOf j o x → IsPieceOf j q y → o < q → finish x ≤ start y
-  follows_route j o q x y a b less =
-      let route : All (λ p. All (λ q. p.job ≡ q.job → p.op < q.op → IsBefore p q) s.pieces) s.pieces = of_kind i shop (λ x. FollowsRoute x s.pieces) f.route (λ h. h) (λ h. h) in
-      let before = All-contains (λ q. x.job ≡ q.job → x.op < q.op → IsBefore x q) s.pieces y (All-contains (λ p. All (λ q. p.job ≡ q.job → p.op < q.op → IsBefore p q) s.pieces) s.pieces x route a.there) b.there (a.job ∙ sym b.job) (omega (arith, less, a.op, b.op)) in
-      let t = All-contains IsTimed s.pieces x timed_pieces a.there in
-      let u = All-contains IsTimed s.pieces y timed_pieces b.there in
-      omega (arith, ints, before, t.to, u.from)
-
-  -- operations of two jobs on one machine are apart
-  pub apart_pieces : (j o k q : ℕ) (x y : Piece) → IsPieceOf j o x → IsPieceOf k q y → j ≢ k → (need_at i j o).machine ≡ (need_at i k q).machine → (finish x ≤ start y) ⊎ (finish y ≤ start x)
-  apart_pieces j o k q x y a b other same =
-      let on : x.machine ≡ y.machine = a.machine ∙ same ∙ sym b.machine in
-      elim (AllPairs-contains (IsApartOn machine_of start finish) s.pieces x y apart_on_machines a.there b.there) [
-        | inl r ↦ r on
-        | inr (inl is) ↦ absurd (other (sym a.job ∙ ap (λ p. p.job) is ∙ b.job))
-        | inr (inr r) ↦ turned (r (sym on))
-      ]
+  -- ---- the order on a job's route
+  is_first : (m : ℕ) (p : Piece) → m < 2 → p.job < length i.jobs → HasOwnPlace p → (need_at i p.job 0).machine ≡ m → p.machine ≡ m → p.op ≡ 0
+  is_first m p two inside h begins on = by (cases_lt p.op 1)
     where
-      turned : (finish y ≤ start x) ⊎ (finish x ≤ start y) → (finish x ≤ start y) ⊎ (finish y ≤ start x)
-      turned (inl l) = inr l
-      turned (inr l) = inl l
+      by : (p.op < 1) ⊎ (1 ≤ p.op) → p.op ≡ 0
+      by (inl l) = omega (arith, l)
+      by (inr l) =
+          let needs = shop.needs p.job inside in
+          let e : p.op ≡ 1 = omega (arith, l, h.op, needs.few) in
+          absurd (omega (arith, two, begins, on, h.machine, ap (λ o. (need_at i p.job o).machine) e, needs.second (omega (arith, e, h.op, needs.few))))
+
+  is_second : (m : ℕ) (q : Piece) → m < 2 → HasOwnPlace q → (need_at i q.job 0).machine ≡ m → q.machine ≡ 1 - m → 1 ≤ q.op
+  is_second m q two h begins on = by (cases_lt q.op 1)
+    where
+      by : (q.op < 1) ⊎ (1 ≤ q.op) → 1 ≤ q.op
+      by (inl l) = let e : q.op ≡ 0 = omega (arith, l) in absurd (omega (arith, two, begins, on, h.machine, ap (λ o. (need_at i q.job o).machine) e))
+      by (inr l) = l
+
+  abbrev Follows : Piece → Piece → Type 0
+  Follows p q = p.job ≡ q.job → p.op < q.op → IsBefore p q
+
+  route : All (λ p. All (Follows p) s.pieces) s.pieces
+  route = of_kind i shop (λ x. FollowsRoute x s.pieces) f.route (λ h. h) (λ h. h)
+
+  -- of a job that begins on the machine, no piece on the other one begins before all those on this one are over
+  pub follows_route : (m : ℕ) → m < 2 → All (λ q. (need_at i q.job 0).machine ≡ m → All (λ p. p.job ≡ q.job → finish p ≤ start q) (on m)) (on (1 - m))
+  follows_route m two k d l begins a e h same =
+      let p = get_or (on m) a e in
+      let q = get_or (on (1 - m)) k d in
+      let first : p.op ≡ 0 = is_first m p two (jobs_on m a e h) (among m HasOwnPlace own_places a e h) (ap (λ j. (need_at i j 0).machine) same ∙ begins) (machine_on m a e h) in
+      let second : 1 ≤ q.op = is_second m q two (among (1 - m) HasOwnPlace own_places k d l) begins (machine_on (1 - m) k d l) in
+      let before : IsBefore p q = among m (λ p. All (Follows p) (on (1 - m))) (λ x y z. among (1 - m) (Follows (get_or s.pieces x y)) (route x y z)) a e h k d l same (omega (arith, first, second)) in
+      omega (arith, ints, before, (among m IsTimed timed_pieces a e h).to, (among (1 - m) IsTimed timed_pieces k d l).from)
+
+  -- ---- the work of an operation, cut or not
+  module _ (j o : ℕ) (inside : j < length i.jobs) where
+    abbrev own : List Piece
+    own = pieces_of s j o
+
+    abbrev time : ℕ
+    time = (need_at i j o).time
+
+    adds_up : (cut : Bool) → MatchBool cut (total (map length_of own) ≡ s.unit *ℤ pos time) ((p : Piece) × (own ≡ p ∷ []) × (length_of p ≡ s.unit *ℤ pos (need_at i p.job p.op).time)) → total (map length_of own) ≡ s.unit *ℤ pos time
+    adds_up true h = h
+    adds_up false (p, e, h) =
+        let named = named_one s.pieces j o p e in
+        ap (λ l. total (map length_of l)) e ∙ +ℤ_idl (length_of p) ∙ h ∙ ap₂ (λ a b. s.unit *ℤ pos (need_at i a b).time) named.0 named.1
+
+    abbrev Gives : EnvKind → Type 0
+    Gives x = MatchBool i.class.cut (total (map (part_of x i) own) ≡ s.unit *ℤ pos (whole_work x i j o)) ((p : Piece) × (own ≡ p ∷ []) × IsWholeWork x i s.unit p)
+
+    worked : time ≢ 0 → sum_by (size_of start finish) own ≡ unit * time
+    worked works =
+        let has = operation_there i j o works in
+        let given = f.work j o inside (by_kind i shop (λ x. HasOperation x i j o) (has, works) (has, works)) in
+        pos-same (
+        sym (total_lengths own (All-filter (λ p. (p.job == j) && (p.op == o)) IsTimed s.pieces timed_pieces))
+        ∙ of_kind i shop Gives given (adds_up i.class.cut) (adds_up i.class.cut)
+        ∙ ap (λ u. u *ℤ pos time) (natural s.unit (omega (arith, ints, f.unit))))
+
+    -- and it is work on the operation's machine
+    pub work_on_machine : (m : ℕ) → (time ≢ 0 → (need_at i j o).machine ≡ m) → unit * time ≤ work_of job_of start finish (on m) j
+    work_on_machine m is = by (eqb time 0) refl
+      where
+        none : (t x : ℕ) → t ≡ 0 → unit * t ≤ x
+        none t x e = subst (λ n. unit * n ≤ x) (sym e) (omega arith)
+
+        both : (a b : Bool) → a ≡ true → b ≡ true → (a && b) ≡ true
+        both a b e f = cc
+
+        on_it : time ≢ 0 → (p : Piece) → HasOwnPlace p → ((p.job == j) && (p.op == o)) ≡ true → (eqb p.machine m && eqb p.job j) ≡ true
+        on_it works p h e =
+            let (a, b) = both_true _ _ e in
+            let on : p.machine ≡ m = h.machine ∙ ap₂ (λ k n. (need_at i k n).machine) (eqb-true _ _ a) (eqb-true _ _ b) ∙ is works in
+            both _ _ (eq-eqb _ _ on) a
+
+        by : (b : Bool) → eqb time 0 ≡ b → unit * time ≤ work_of job_of start finish (on m) j
+        by true e = none time _ (eqb-true _ _ e)
+        by false e =
+            let works : time ≢ 0 = eqb-false _ _ e in
+            omega (
+              arith,
+              worked works,
+              sum_by-wider (size_of start finish) (λ p. (p.job == j) && (p.op == o)) (λ p. eqb p.machine m && eqb p.job j) s.pieces (λ k d l. on_it works (get_or s.pieces k d) (own_places k d l)),
+              ap (sum_by (size_of start finish)) (filter-both (λ p. eqb p.machine m) (λ p. eqb p.job j) s.pieces),
+            )

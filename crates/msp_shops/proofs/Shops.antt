@@ -1,5 +1,5 @@
--- Pieces of an uncut shop as a schedule over the unit 1: when it is feasible, and when no feasible schedule ends earlier.
-use Rattle.std.proofs.Common.{◌≡◌, ◌≢◌, ℕ, ◌+◌, ◌*◌, ◌<◌, ◌≤◌, ◌⊎◌, ◌^◌, inl, inr, true, false, List, [], ◌∷◌, length, get_or, map, ℤ, pos, nat_abs, ◌*ℤ◌, ◌≤ℤ◌, ◌<ℤ◌, All, AllPairs, Contains, Bool, MatchBool, refl, sym, ap, ◌∙◌, subst, subst₂, arith}
+-- Pieces of a shop, one for each operation, as a schedule over the unit 1: when it is feasible, and when no feasible schedule ends earlier.
+use Rattle.std.proofs.Common.{◌≡◌, ◌≢◌, ℕ, ◌+◌, ◌*◌, ◌<◌, ◌≤◌, ◌⊎◌, ◌^◌, inl, inr, true, false, List, [], ◌∷◌, length, get_or, map, ℤ, pos, nat_abs, ◌*ℤ◌, ◌≤ℤ◌, ◌<ℤ◌, All, AllPairs, Contains, Bool, MatchBool, refl, sym, ap, ap₂, ◌∙◌, subst, subst₂, arith}
 use Rattle.std.specs.Prelude.{◌==◌, ◌&&◌}
 use Rattle.std.proofs.lemmas.Bool.{eq-eqb}
 use Rattle.std.proofs.lemmas.Int.{ints}
@@ -9,7 +9,7 @@ use Rattle.msp_class.specs.declared.environments.EnvKind.{EnvKind}
 use Rattle.msp_class.specs.declared.environments.EnvKind.TheVariants.{Identical, Uniform, Unrelated, OpenShop, FlowShop, JobShop}
 use Rattle.msp_class.specs.declared.class.Crit.TheVariants.{Cmax}
 use Rattle.msp_class.specs.Env.{kind_of, is_shop_kind, is_shop}
-use Rattle.msp_class.proofs.IntegerRing.{natural, pos-le, ≤ℤ_antisym, *ℤ_comm, *ℤ-one, one-*ℤ}
+use Rattle.msp_class.proofs.IntegerRing.{natural, pos-le, ≤ℤ_antisym, +ℤ_idl, *ℤ_comm, *ℤ-one, one-*ℤ}
 use Rattle.msp_class.proofs.Sums.{AllPairs-contains, Contains-filter}
 use Rattle.msp_instance.specs.declared.Arc.{Arc}
 use Rattle.msp_instance.specs.declared.Instance.{Instance}
@@ -22,7 +22,7 @@ use Rattle.msp_schedule.specs.Cost.{cost_of, end_of, Best}
 use Rattle.msp_schedule.specs.Within.{IsMoment, Within}
 use Rattle.msp_schedule.specs.Intervals.{IsApartOn}
 use Rattle.msp_schedule.proofs.feasible.OneMachine.{IsTimed-from_span, apart_in_int}
-use Rattle.msp_schedule.proofs.feasible.Frames.{of_operation-named, of_one}
+use Rattle.msp_schedule.proofs.feasible.Frames.{of_operation-named, of_one, named_one}
 use Rattle.msp_schedule.proofs.feasible.LastEnds.{last_end-bound}
 use Rattle.msp_schedule.proofs.costs.Makespan.{cost_natural, ends_by_cost, cost_by_ends}
 use Rattle.msp_route.specs.Bounds.{IsAnswer, answer_unit}
@@ -65,6 +65,14 @@ whole_by OpenShop i unit p s h = h
 whole_by FlowShop i unit p s h = h
 whole_by JobShop i unit p s h = h
 
+sums_by : (k : EnvKind) (i : Instance) (ps : List Piece) (j o : ℕ) (unit : ℤ) → is_shop_kind k ≡ true → total (map length_of ps) ≡ unit *ℤ pos (need_at i j o).time → total (map (work_of k i) ps) ≡ unit *ℤ pos (whole_work k i j o)
+sums_by Identical i ps j o unit s h = absurd (cc)
+sums_by Uniform i ps j o unit s h = absurd (cc)
+sums_by Unrelated i ps j o unit s h = absurd (cc)
+sums_by OpenShop i ps j o unit s h = h
+sums_by FlowShop i ps j o unit s h = h
+sums_by JobShop i ps j o unit s h = h
+
 route_by : (k : EnvKind) (ps : List Piece) → is_shop_kind k ≡ true → (k ≡ OpenShop) ⊎ All (λ p. All (λ q. p.job ≡ q.job → p.op < q.op → IsBefore p q) ps) ps → FollowsRoute k ps
 route_by Identical ps s h = absurd (cc)
 route_by Uniform ps s h = absurd (cc)
@@ -90,10 +98,9 @@ not_unrelated k s e = never (sym (ap is_shop_kind e) ∙ s)
     never : is_shop_kind Unrelated ≡ true → ⊥
     never e = absurd (cc)
 
--- a shop without preemption, precedence and release dates, and the greatest completion time
+-- a shop without precedence and release dates, and the greatest completion time
 pub record IsPlainShop (i : Instance) : Type 0 where
   pub kind : is_shop i.class.env ≡ true
-  pub cut : i.class.cut ≡ false
   pub crit : i.class.crit ≡ Cmax
   pub arcs : i.arcs ≡ []
   pub release : All (λ j. j.release ≡ 0) i.jobs
@@ -185,8 +192,15 @@ module _ (i : Instance) (h : IsPlainShop i) (ps : List Piece) (w : IsShopPlan i 
         let (p, e) = sole in
         let t : IsTimed p = of_one IsTimed ps j o p e w.timed in
         let long : finish p ≡ start p + (need_at i p.job p.op).time = of_one (λ p. finish p ≡ start p + (need_at i p.job p.op).time) ps j o p e w.whole in
-        subst (λ b. MatchBool b (total (map (work_of (kind_of i.class.env) i) mine) ≡ pos 1 *ℤ pos (whole_work (kind_of i.class.env) i j o)) ((p : Piece) × (mine ≡ p ∷ []) × IsWholeWork (kind_of i.class.env) i (pos 1) p)) (sym h.cut)
-        (p, e, whole_by (kind_of i.class.env) i (pos 1) p h.kind ((lasts p _ t long).1 ∙ sym (one-*ℤ _)))
+        let size : length_of p ≡ pos 1 *ℤ pos (need_at i p.job p.op).time = (lasts p _ t long).1 ∙ sym (one-*ℤ _) in
+        let named = named_one ps j o p e in
+        -- where it may be cut, the one piece is work that adds up
+        let sum : total (map length_of mine) ≡ pos 1 *ℤ pos (need_at i j o).time = ap (λ l. total (map length_of l)) e ∙ +ℤ_idl (length_of p) ∙ size ∙ ap₂ (λ a b. pos 1 *ℤ pos (need_at i a b).time) named.0 named.1 in
+        either i.class.cut (sums_by (kind_of i.class.env) i mine j o (pos 1) h.kind sum) (p, e, whole_by (kind_of i.class.env) i (pos 1) p h.kind size)
+      where
+        either : {A B : Type 0} (cut : Bool) → A → B → MatchBool cut A B
+        either true a b = a
+        either false a b = b
 
   pub Feasible-from_plan : Feasible i s
   Feasible-from_plan = record {

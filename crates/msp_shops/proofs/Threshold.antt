@@ -2,7 +2,7 @@
 use Rattle.std.proofs.Common.{◌≡◌, ℕ, zero, suc, ◌+◌, ◌*◌, ◌-◌, ◌≤◌, ◌⊎◌, inl, inr, min, Bool, true, false, cond, leb, List, [], ◌∷◌, get_or, All, Contains, sum_by, refl, ap, arith}
 use Rattle.std.proofs.lemmas.Bool.{leb-true, leb-false, le-leb}
 use Rattle.std.proofs.lemmas.List.Elements.{All-nil, All-cons, All-head, All-tail, All-contains}
-use Rattle.msp_class.proofs.Sums.{sum_by-cons, sum_by-mono}
+use Rattle.msp_class.proofs.Sums.{sum_by-cons, sum_by-mono, sum_by-same}
 use Rattle.msp_shops.proofs.Cut.{HaveTwoStages, around_cut, cut_law}
 
 -- ---- general: the first one by f of those that pass a test, and a sum with one term that is greater by more
@@ -39,10 +39,7 @@ sum_by-more f g more (x ∷ xs) q h (suc k, m, e) l =
 abbrev pub added : {X : Type 0} → (X → ℕ) → (X → ℕ) → ℕ → X → ℕ
 added first second least x = cond (leb least (first x)) (second x) (min (first x) (second x))
 
-module _ {X : Type 0} (first second begin begun : X → ℕ) (unit end : ℕ) (items : List X) (h : HaveTwoStages first second begin begun unit end items) (least : ℕ) where
-  abbrev ready : X → ℕ
-  ready x = begin x + unit * first x
-
+module _ {X : Type 0} (first second ready : X → ℕ) (unit end : ℕ) (items : List X) (h : HaveTwoStages first second ready unit end items) (least : ℕ) where
   abbrev reaches : X → Bool
   reaches x = leb least (first x)
 
@@ -71,35 +68,42 @@ module _ {X : Type 0} (first second begin begun : X → ℕ) (unit end : ℕ) (i
   pub threshold : (x : X) → Contains items x → least ≤ first x → unit * (least + sum_by (added first second least) items) ≤ end
   threshold x c l =
       let (q, (at, passes, before)) = earliest_of reaches ready items x c (le-leb least (first x) l) in
-      let inside : ready q ≤ end = All-contains (λ y. ready y ≤ end) items q (λ k d m. omega (arith, h.follows k d m, h.over k d m)) at in
       scaled unit _ _
       (sum_by-more (added first second least) (around_cut first second ready (ready q)) least items q
       (λ k d m. adds (first (get_or items k d)) (second (get_or items k d)) (ready (get_or items k d)) (ready q) _ (before k d m) _ _ refl refl)
       at (at_cut (first q) (second q) (ready q) (leb-true least (first q) passes) _ _ _ refl refl))
-      (cut_law first second begin begun unit end items h (ready q) inside)
+      (cut_law first second ready unit end items h (ready q) (All-contains (λ y. ready y ≤ end) items q h.inside at))
     where
       scaled : (u m n : ℕ) → m ≤ n → u * n ≤ end → u * m ≤ end
       scaled u m n l b = grind arith
 
 -- ---- the law from the second machine: the same read from the end
-mirrored : {X : Type 0} (first second begin begun : X → ℕ) (unit end : ℕ) (items : List X) → HaveTwoStages first second begin begun unit end items
-    → HaveTwoStages second first (λ x. end - (begun x + unit * second x)) (λ x. end - (begin x + unit * first x)) unit end items
-mirrored first second begin begun unit end items h = record {
-  follows = λ k d l. omega (arith, h.follows k d l, h.over k d l);
-  over = λ k d l. omega (arith, h.follows k d l, h.over k d l);
-  apart_first = λ a b d l m.
-      turned (begun (get_or items a d)) (unit * second (get_or items a d)) (begun (get_or items b d)) (unit * second (get_or items b d))
-      (h.over a d (omega (arith, l, m))) (h.over b d m) (h.apart_second a b d l m);
-  apart_second = λ a b d l m.
-      turned (begin (get_or items a d)) (unit * first (get_or items a d)) (begin (get_or items b d)) (unit * first (get_or items b d))
-      (omega (arith, h.follows a d (omega (arith, l, m)), h.over a d (omega (arith, l, m)))) (omega (arith, h.follows b d m, h.over b d m)) (h.apart_first a b d l m);
-}
+same_test : (a b c d : ℕ) → a + d ≡ b + c → leb a b ≡ leb c d
+same_test a b c d e = by (leb a b) refl (leb c d) refl
   where
-    turned : (f p g q : ℕ) → f + p ≤ end → g + q ≤ end → (f + p ≤ g) ⊎ (g + q ≤ f) → ((end - (f + p)) + p ≤ end - (g + q)) ⊎ ((end - (g + q)) + q ≤ end - (f + p))
-    turned f p g q k l (inl m) = inr (omega arith)
-    turned f p g q k l (inr m) = inl (omega arith)
+    by : (s : Bool) → leb a b ≡ s → (t : Bool) → leb c d ≡ t → s ≡ t
+    by true f true g = refl
+    by true f false g = absurd (omega (arith, e, leb-true a b f, leb-false c d g))
+    by false f true g = absurd (omega (arith, e, leb-false a b f, leb-true c d g))
+    by false f false g = refl
 
-pub threshold_from_end : {X : Type 0} (first second begin begun : X → ℕ) (unit end : ℕ) (items : List X) → HaveTwoStages first second begin begun unit end items
+mirrored : {X : Type 0} (first second ready : X → ℕ) (unit end : ℕ) (items : List X) → HaveTwoStages first second ready unit end items
+    → HaveTwoStages second first (λ x. end - ready x) unit end items
+mirrored first second ready unit end items h = record {
+  inside = λ k d l. omega arith;
+  over = λ z l. omega (
+    arith,
+    h.to_come (end - z) (omega arith),
+    ap (λ n. unit * n) (sum_by-same (λ x. cond (leb (end - ready x) z) (second x) 0) (λ x. cond (leb (end - z) (ready x)) (second x) 0) items (λ k d m. ap (λ b. cond b (second (get_or items k d)) 0) (same_test (end - ready (get_or items k d)) z (end - z) (ready (get_or items k d)) (omega (arith, l, h.inside k d m))))),
+  );
+  to_come = λ z l. omega (
+    arith,
+    h.over (end - z) (omega arith),
+    ap (λ n. unit * n) (sum_by-same (λ x. cond (leb z (end - ready x)) (first x) 0) (λ x. cond (leb (ready x) (end - z)) (first x) 0) items (λ k d m. ap (λ b. cond b (first (get_or items k d)) 0) (same_test z (end - ready (get_or items k d)) (ready (get_or items k d)) (end - z) (omega (arith, l, h.inside k d m))))),
+  );
+}
+
+pub threshold_from_end : {X : Type 0} (first second ready : X → ℕ) (unit end : ℕ) (items : List X) → HaveTwoStages first second ready unit end items
     → (least : ℕ) (x : X) → Contains items x → least ≤ second x → unit * (least + sum_by (added second first least) items) ≤ end
-threshold_from_end first second begin begun unit end items h least x c l =
-    threshold second first (λ x. end - (begun x + unit * second x)) (λ x. end - (begin x + unit * first x)) unit end items (mirrored first second begin begun unit end items h) least x c l
+threshold_from_end first second ready unit end items h least x c l =
+    threshold second first (λ x. end - ready x) unit end items (mirrored first second ready unit end items h) least x c l

@@ -1,5 +1,5 @@
 -- Instances with two machines in series, and their jobs by the machine on which they begin. No public contract cites this file.
-use Rattle.std.specs.Prelude.{◌≡◌, ◌≢◌, ℕ, ◌-◌, ◌<◌, ◌≤◌, ◌⊎◌, ◌==◌, Bool, false, List, [], length, map, filter, All, AllPairs, Contains}
+use Rattle.std.specs.Prelude.{◌≡◌, ◌≢◌, ℕ, ◌-◌, ◌<◌, ◌≤◌, ◌⊎◌, ◌==◌, Bool, List, [], length, map, filter, All, AllPairs, Contains}
 use Rattle.std.specs.List.{range_with_len}
 use Rattle.msp_class.specs.declared.class.Crit.TheVariants.{Cmax}
 use Rattle.msp_class.specs.declared.environments.EnvKind.TheVariants.{FlowShop, JobShop}
@@ -31,11 +31,10 @@ pub record HasTwoMachines (i : Instance) (j : ℕ) : Type 0 where
   pub short_first : (need_at i j 0).time ≤ GREATEST
   pub short_second : (need_at i j 1).time ≤ GREATEST
 
--- Two machines, on which each job has at most one operation, and the route of each job is given; no job is cut, none has to wait for
--- another or for a release date, and the last end counts.
+-- Two machines, on which each job has at most one operation, and the route of each job is given; no job has to wait for another or for a
+-- release date, and the last end counts. Preemption is allowed or not.
 pub record IsTwoMachineShop (i : Instance) : Type 0 where
   pub kind : (kind_of i.class.env ≡ FlowShop) ⊎ (kind_of i.class.env ≡ JobShop)
-  pub cut : i.class.cut ≡ false
   pub crit : i.class.crit ≡ Cmax
   pub arcs : i.arcs ≡ []
   pub some : 1 ≤ length i.jobs
