@@ -2,3 +2,5 @@ pub mod Classes
 pub mod Places
 pub mod Placed
 pub mod Taken
+pub mod Most
+pub mod Search

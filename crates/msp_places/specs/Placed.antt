@@ -1,4 +1,4 @@
--- The pieces of jobs in places. No public contract cites this file.
+-- The pieces of jobs in places.
 use Rattle.std.specs.Prelude.{◌≡◌, ℕ, ◌<◌, List, length, map, pos}
 use Rattle.std.specs.List.{range_with_len}
 use Rattle.msp_schedule.specs.declared.Piece.{Piece}

@@ -23,7 +23,7 @@ pub record TakesTurn (lengths : List ℕ) (before : List Place) (place : Place) 
   pub machine : ℕ
   pub first : IsFirstPlace before machine
   pub is : place ≡ place_at before machine
-  pub after : after ≡ slice_set before machine (behind place (slice_index_or lengths machine 0))
+  pub next : after ≡ slice_set before machine (behind place (slice_index_or lengths machine 0))
 
 -- The places that were taken, in turn, and the next one of each machine: those before it are taken.
 pub record AreTaken (lengths : List ℕ) (taken next : List Place) : Type 0 where

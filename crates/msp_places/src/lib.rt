@@ -10,8 +10,10 @@
 
 mod earliest;
 mod laws;
+mod most;
 mod place;
 
 pub use earliest::earliest_places;
 pub use laws::law_of_earliest_places;
+pub use most::PlacesMost;
 pub use place::Place;
