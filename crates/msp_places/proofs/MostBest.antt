@@ -1,12 +1,11 @@
 -- The jobs in the order of least cost in the earliest places: a best schedule by the greatest cost of a job.
-use Rattle.std.proofs.Common.{◌≡◌, ◌≢◌, ℕ, zero, suc, ◌+◌, ◌*◌, ◌<◌, ◌≤◌, ◌^◌, ◌⊎◌, inl, inr, true, eqb, List, length, get_or, take, map, sum_by, ℤ, pos, nat_abs, ◌*ℤ◌, ◌≤ℤ◌, ◌<ℤ◌, All, AllPairs, Contains, refl, sym, ap, ap₂, subst, subst₂, ◌∙◌, arith}
+use Rattle.std.proofs.Common.{◌≡◌, ◌≢◌, ℕ, zero, suc, ◌+◌, ◌<◌, ◌≤◌, ◌^◌, ◌⊎◌, inl, inr, true, List, length, get_or, take, map, ℤ, pos, nat_abs, ◌*ℤ◌, ◌≤ℤ◌, All, AllPairs, refl, sym, ap, ap₂, subst, subst₂, ◌∙◌, arith}
 use Rattle.std.proofs.lemmas.Bool.{cases_lt}
 use Rattle.std.proofs.lemmas.Int.{ints}
 use Rattle.std.proofs.lemmas.List.{get_or-take, length-take, length-map, get_or-map, get_or_default}
 use Rattle.msp_class.specs.declared.class.Crit.TheVariants.{Fmax}
 use Rattle.msp_class.specs.Crit.{is_greatest}
 use Rattle.msp_class.specs.Env.{kind_of}
-use Rattle.msp_class.specs.Sums.{total_below}
 use Rattle.msp_class.proofs.IntegerRing.{natural, pos-le, ≤ℤ_trans, ≤ℤ_of_same, <ℤ_weak, *ℤ-mono, *ℤ_comm}
 use Rattle.msp_class.proofs.Sums.{total_below-constant, sum_by-constant, sum_by-distinct_test, OnceBelow, OnceBelow-from_permutation, OnceBelow-distinct, OnceBelow-contains, length-OnceBelow}
 use Rattle.msp_instance.specs.declared.Instance.{Instance}

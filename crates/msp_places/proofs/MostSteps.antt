@@ -1,5 +1,5 @@
 -- Steps of the search for the job that costs least, and of the answer.
-use Rattle.std.proofs.Common.{◌≡◌, ℕ, ◌+◌, ◌*◌, ◌<◌, ◌≤◌, ◌^◌, ◌⊎◌, inl, inr, List, [], ◌∷◌, ◌++◌, length, get_or, take, ℤ, pos, ◌≤ℤ◌, ◌<ℤ◌, All, refl, sym, ap, ap₂, subst, subst₂, ◌∙◌, arith, slice_index_or, zero-add}
+use Rattle.std.proofs.Common.{◌≡◌, ℕ, ◌+◌, ◌*◌, ◌<◌, ◌≤◌, ◌^◌, ◌⊎◌, inl, inr, List, [], ◌∷◌, ◌++◌, length, get_or, take, ℤ, pos, ◌<ℤ◌, All, refl, sym, ap, ap₂, subst, subst₂, ◌∙◌, arith, slice_index_or, zero-add}
 use Rattle.std.proofs.lemmas.Bool.{cases_lt}
 use Rattle.std.proofs.lemmas.Int.{ints}
 use Rattle.std.proofs.lemmas.List.{get_or-take, length-take, take_all, get_or_default}
@@ -20,12 +20,12 @@ use Rattle.msp_route.specs.Bounds.{IsAnswer}
 use Rattle.msp_places.specs.declared.place.Place.{Place}
 use Rattle.msp_places.specs.declared.most.Candidate.{Candidate}
 use Rattle.msp_places.specs.Classes.{places_most_class}
-use Rattle.msp_places.specs.Places.{lengths_of, AreEarliestPlaces, no_place, place_at}
+use Rattle.msp_places.specs.Places.{lengths_of, AreEarliestPlaces, place_at}
 use Rattle.msp_places.specs.Placed.{piece_in, placed}
 use Rattle.msp_places.specs.Most.{cost_in, CostsLess, IsCheapest, IsOrderByCost, ArePlacedByCost, IsByCost}
 use Rattle.msp_places.specs.Search.{Precedes, IsCandidate, IsBestOf}
 use Rattle.msp_places.proofs.InTurn.{length_is}
-use Rattle.msp_places.proofs.PlaceFacts.{IsPlacesInstance, IsPlacesInstance-from, common_time_within, lengths_short}
+use Rattle.msp_places.proofs.PlaceFacts.{IsPlacesInstance-from, common_time_within, lengths_short}
 use Rattle.msp_places.proofs.PlacedJobs.{placed_is_within, placed_is_answer, ends_bounded}
 use Rattle.msp_places.proofs.MostBest.{job, own, most_is_best}
 

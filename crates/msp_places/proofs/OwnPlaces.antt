@@ -1,7 +1,7 @@
 -- The law of earliest places. A job's place in a schedule is that of its rank on its machine, by the ends; these are different places.
-use Rattle.std.proofs.Common.{◌≡◌, ◌≢◌, ℕ, ◌+◌, ◌*◌, ◌-◌, ◌/◌, ◌<◌, ◌≤◌, ◌⊎◌, inl, inr, Bool, true, false, cond, eqb, leb, List, length, get_or, map, All, AllPairs, Contains, ℤ, pos, nat_abs, ◌-ℤ◌, ◌*ℤ◌, ◌≤ℤ◌, refl, sym, ap, ap₂, subst, subst₂, ◌∙◌, arith}
-use Rattle.std.specs.Prelude.{◌&&◌, slice_index_or}
-use Rattle.std.proofs.lemmas.Bool.{cases_lt, eqb-true, eqb-false, eq-eqb, leb-true, leb-false, le-leb}
+use Rattle.std.proofs.Common.{◌≡◌, ◌≢◌, ℕ, ◌+◌, ◌*◌, ◌-◌, ◌/◌, ◌<◌, ◌≤◌, ◌⊎◌, inl, inr, Bool, true, false, cond, eqb, leb, List, length, get_or, ℤ, pos, nat_abs, ◌-ℤ◌, ◌*ℤ◌, ◌≤ℤ◌, refl, sym, ap, ap₂, subst, ◌∙◌, arith}
+use Rattle.std.specs.Prelude.{◌&&◌}
+use Rattle.std.proofs.lemmas.Bool.{cases_lt, eqb-true, eqb-false, eq-eqb, leb-true, le-leb}
 use Rattle.std.proofs.lemmas.Int.{ints}
 use Rattle.std.proofs.lemmas.List.{length-map, get_or-map, get_or_default}
 use Rattle.std.proofs.Math.Nat.{div-mul_cancel, mul-le-mul_left}
@@ -11,14 +11,13 @@ use Rattle.msp_class.specs.declared.environments.EnvKind.TheVariants.{Uniform}
 use Rattle.msp_class.specs.Env.{kind_of}
 use Rattle.msp_class.specs.Sums.{total_below}
 use Rattle.msp_class.proofs.IntegerRing.{natural, pos-le, pos-same, ≤ℤ_trans, *ℤ-mono, *ℤ-mono_nonneg}
-use Rattle.msp_class.proofs.Sums.{cond-yes, cond-no, cond-le, cond-scale, total_below-mono, total_below-same, total_below-scale, total_below-term, total_below-bound}
-use Rattle.msp_instance.specs.declared.Need.{Need}
+use Rattle.msp_class.proofs.Sums.{cond-yes, cond-no, cond-le, total_below-same, total_below-scale, total_below-term}
 use Rattle.msp_instance.specs.declared.Instance.{Instance}
 use Rattle.msp_instance.specs.Instance.{no_need, no_job, job_at, need_at, common_time}
 use Rattle.msp_instance.specs.Conditions.{Limits, MeetsConditions, HasShape, HasTimes, HasSpeeds, least_time, greatest_time}
 use Rattle.msp_instance.specs.Multiples.{IsLeastOfAll}
 use Rattle.msp_schedule.specs.declared.Schedule.{Schedule}
-use Rattle.msp_schedule.specs.Piece.{length_of, start, finish, IsTimed}
+use Rattle.msp_schedule.specs.Piece.{start, finish, IsTimed}
 use Rattle.msp_schedule.specs.Intervals.{IsApart}
 use Rattle.msp_schedule.specs.Feasible.{Feasible, HasOperation, MayRun, IsWholeWork}
 use Rattle.msp_schedule.specs.Cost.{end_of}
@@ -26,7 +25,7 @@ use Rattle.msp_schedule.proofs.lists.Positions.{total_below-strict, holds_up, en
 use Rattle.msp_schedule.proofs.feasible.OneMachine.{both_true}
 use Rattle.msp_schedule.proofs.feasible.SolePieces.{only_piece, IsOnly, is_only, only_timed, only_placed, only_apart, only_end}
 use Rattle.msp_places.specs.declared.place.Place.{Place}
-use Rattle.msp_places.specs.Places.{lengths_of, place_on, IsPlace, ComesFirst, AreEarliest, no_place, place_at, HaveOwnPlaces, TakeCommonTime, LawOfEarliestPlaces}
+use Rattle.msp_places.specs.Places.{lengths_of, place_on, ComesFirst, AreEarliest, no_place, place_at, HaveOwnPlaces, TakeCommonTime, LawOfEarliestPlaces}
 use Rattle.msp_places.proofs.Ranks.{one_if, rank, rank_inside, rank_once, rank_early}
 
 -- ---- places in order, as numbers: by end, then by machine

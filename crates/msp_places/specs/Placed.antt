@@ -1,5 +1,5 @@
 -- The pieces of jobs in places.
-use Rattle.std.specs.Prelude.{◌≡◌, ℕ, ◌<◌, List, length, map, pos}
+use Rattle.std.specs.Prelude.{◌≡◌, ℕ, ◌<◌, List, map, pos}
 use Rattle.std.specs.List.{range_with_len}
 use Rattle.msp_schedule.specs.declared.Piece.{Piece}
 use Rattle.msp_places.specs.declared.place.Place.{Place}

@@ -1,4 +1,4 @@
-use Rattle.std.proofs.Common.{◌<◌, ◌≤◌, ◌*◌, ◌^◌, All, sym, subst, arith}
+use Rattle.std.proofs.Common.{sym, subst}
 use Rattle.msp_route.proofs.JobReads.{time_read}
 use Rattle.msp_places.proofs.OwnPlaces.{speeds_of}
 use Rattle.msp_places.proofs.PlaceFacts.{common_time_range, lengths_short, lengths_read}

@@ -1,4 +1,4 @@
-use Rattle.std.proofs.Common.{refl, slice_index_or}
+use Rattle.std.proofs.Common.{slice_index_or}
 use Rattle.msp_places.proofs.MostSteps.{piece_next}
 use Rattle.msp_places.proofs.most.in_turn.Goals as goal
 

@@ -1,7 +1,7 @@
-use Rattle.std.proofs.Common.{take, get_or, subst, arith}
+use Rattle.std.proofs.Common.{arith}
 use Rattle.std.proofs.lemmas.List.{length-take}
 use Rattle.std.proofs.lemmas.List.Sorted.{IsPermutation-trans}
-use Rattle.msp_places.proofs.InTurn.{put_next, length_is, take_within}
+use Rattle.msp_places.proofs.InTurn.{put_next, take_within}
 use Rattle.msp_places.proofs.most.put_in_order.Goals as goal
 
 pub cheapest-place-requires-clause-inside : goal.cheapest-place-requires-clause-inside
