@@ -42,12 +42,18 @@ some_late k number (suc m) = elim (some_late k number m) [
 few_below : (k : ℕ) (xs : List ℕ) → All (λ x. x < k) xs → AllPairs (λ x y. x ≢ y) xs → length xs ≤ k
 few_below k xs inside apart = omega (arith, sum_by-constant 1 xs, sum_by-distinct_test (λ _. 1) (λ _. true) k xs inside apart (λ _ _ _. refl), total_below-constant k 1)
 
-pub late_one : (k : ℕ) (jobs : List ℕ) (number : ℕ → ℕ) → k < length jobs → ((a b : ℕ) → a < b → b < length jobs → number (get_or jobs a 0) ≢ number (get_or jobs b 0)) → (x : ℕ) × (x < length jobs) × (k ≤ number (get_or jobs x 0))
+pub late_one : (k : ℕ) (jobs : List ℕ) (number : ℕ → ℕ) → k < length jobs
+    → ((a b : ℕ) → a < b → b < length jobs → number (get_or jobs a 0) ≢ number (get_or jobs b 0)) → (x : ℕ) × (x < length jobs) × (k ≤ number (get_or jobs x 0))
 late_one k jobs number long apart = elim (some_late k (λ x. number (get_or jobs x 0)) (length jobs)) [
   | inl w ↦ w
-  | inr all ↦ absurd (omega (arith, long, length-map jobs number, few_below k (map number jobs)
-      (λ x d l. let b : x < length jobs = omega (arith, l, length-map jobs number) in subst (λ y. y < k) (sym (get_or-map number jobs x 0 d b)) (all x b))
-      (λ a b d l m e. let q : b < length jobs = omega (arith, m, length-map jobs number) in apart a b l q (sym (get_or-map number jobs a 0 d (omega (arith, l, q))) ∙ e ∙ get_or-map number jobs b 0 d q))))
+  | inr all ↦ absurd (omega (
+    arith,
+    long,
+    length-map jobs number,
+    few_below k (map number jobs)
+        (λ x d l. let b : x < length jobs = omega (arith, l, length-map jobs number) in subst (λ y. y < k) (sym (get_or-map number jobs x 0 d b)) (all x b))
+        (λ a b d l m e. let q : b < length jobs = omega (arith, m, length-map jobs number) in apart a b l q (sym (get_or-map number jobs a 0 d (omega (arith, l, q))) ∙ e ∙ get_or-map number jobs b 0 d q)),
+  ))
 ]
 
 -- ---- the places end in order
@@ -68,7 +74,8 @@ end_rises places order a b l k = elim (cases_lt a b) [
     by p q (inr h) = omega (arith, h.0)
 
 -- ---- the schedule
-module _ (i : Instance) (h : IsPlacesInstance Fmax i) (inner : Inner i) (unit : ℕ) (common : IsLeastOfAll i.speeds unit) (few : unit ≤ 2 ^ 30) (places : List Place) (earliest : AreEarliestPlaces i unit places) (order : List ℕ) (o : IsOrderByCost i unit places order) where
+module _ (i : Instance) (h : IsPlacesInstance Fmax i) (inner : Inner i) (unit : ℕ) (common : IsLeastOfAll i.speeds unit) (few : unit ≤ 2 ^ 30) (places : List Place)
+    (earliest : AreEarliestPlaces i unit places) (order : List ℕ) (o : IsOrderByCost i unit places order) where
   abbrev n : ℕ
   n = length i.jobs
 
@@ -134,7 +141,7 @@ module _ (i : Instance) (h : IsPlacesInstance Fmax i) (inner : Inner i) (unit : 
             let p : a < k + 1 = omega (arith, less, q) in
             let inside : b < n = omega (arith, q, l) in
             differ a b less inside (number.1.own (job a) (job b) (own.jobs a (omega (arith, less, inside))) (own.jobs b inside)
-                (ap number.0 (sym (get_or-take (k + 1) order a 0 p)) ∙ e ∙ ap number.0 (get_or-take (k + 1) order b 0 q)))
+            (ap number.0 (sym (get_or-take (k + 1) order a 0 p)) ∙ e ∙ ap number.0 (get_or-take (k + 1) order b 0 q)))
 
     abbrev x : ℕ
     x = late.0
@@ -146,7 +153,8 @@ module _ (i : Instance) (h : IsPlacesInstance Fmax i) (inner : Inner i) (unit : 
     cheapest : cost_in i unit (place_at places k).end (job k) ≤ℤ cost_in i unit (place_at places k).end (job x)
     cheapest = no_more (subst (CostsLess i unit (place_at places k).end (job k)) (get_or-take (k + 1) order x 0 late.1) (o.cheapest k (omega (arith, l, count)) x 0 (omega (arith, late.1, length-take (k + 1) order, count, l))))
       where
-        no_more : CostsLess i unit (place_at places k).end (job k) (job x) → cost_in i unit (place_at places k).end (job k) ≤ℤ cost_in i unit (place_at places k).end (job x)
+        no_more : CostsLess i unit (place_at places k).end (job k) (job x)
+            → cost_in i unit (place_at places k).end (job k) ≤ℤ cost_in i unit (place_at places k).end (job x)
         no_more (inl a) = <ℤ_weak a
         no_more (inr a) = ≤ℤ_of_same a.0
 

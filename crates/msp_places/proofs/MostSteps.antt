@@ -44,7 +44,8 @@ idle_is_within i kind unit some few = record {
     not_unrelated : Uniform ≡ Unrelated → ⊥
     not_unrelated e = cc
 
-pub small_in : (i : Instance) → Inner i → i.class ≡ places_most_class → (unit : ℕ) → 1 ≤ unit → unit ≤ 2 ^ 30 → (u : ℤ) (jobs : List Job) (k : ℕ) (j : Job) → u ≡ pos unit → jobs ≡ i.jobs → j ≡ get_or jobs k j → k < length i.jobs → HasSmallCost u j
+pub small_in : (i : Instance) → Inner i → i.class ≡ places_most_class → (unit : ℕ) → 1 ≤ unit → unit ≤ 2 ^ 30 → (u : ℤ) (jobs : List Job) (k : ℕ) (j : Job)
+    → u ≡ pos unit → jobs ≡ i.jobs → j ≡ get_or jobs k j → k < length i.jobs → HasSmallCost u j
 small_in i inner class unit some few u jobs k j e same is l =
     subst₂ HasSmallCost (sym e) (sym (is ∙ ap (λ xs. get_or xs k j) same)) (small_costs i (idle unit) inner (idle_is_within i (ap (λ c. kind_of c.env) class) unit some few) k j l)
 
@@ -63,7 +64,8 @@ less-same c j = inr (refl, omega arith)
 
 module _ (i : Instance) (unit end : ℕ) (jobs : List ℕ) where
   -- a candidate that precedes one is less than what this is less than
-  before_all : (c d : Candidate) (k : ℕ) → c.cost ≡ cost_in i unit end c.job → d.cost ≡ cost_in i unit end d.job → Precedes c d → CostsLess i unit end d.job k → CostsLess i unit end c.job k
+  before_all : (c d : Candidate) (k : ℕ) → c.cost ≡ cost_in i unit end c.job → d.cost ≡ cost_in i unit end d.job → Precedes c d → CostsLess i unit end d.job k
+      → CostsLess i unit end c.job k
   before_all c d k e f h less = less-trans (cost_in i unit end c.job) c.job (cost_in i unit end d.job) d.job (cost_in i unit end k) k (subst₂ (λ x y. IsLess x c.job y d.job) e f h) less
 
   one_more : (P : ℕ → Type 0) (k : ℕ) → k < length jobs → All P (take k jobs) → P (get_or jobs k 0) → All P (take (k + 1) jobs)
@@ -85,7 +87,8 @@ module _ (i : Instance) (unit end : ℕ) (jobs : List ℕ) where
     cheapest = one_more (CostsLess i unit end c.job) 0 l (λ a d m. absurd (omega (arith, m))) (subst (CostsLess i unit end c.job) h.job (less-same (cost_in i unit end c.job) c.job));
   }
 
-  pub best_next : (k : ℕ) (best next c : Candidate) → k < length jobs → IsBestOf i unit end jobs k best → IsCandidate i unit end jobs k next → (c ≡ best) ⊎ (c ≡ next) → Precedes c best → Precedes c next → IsBestOf i unit end jobs (k + 1) c
+  pub best_next : (k : ℕ) (best next c : Candidate) → k < length jobs → IsBestOf i unit end jobs k best → IsCandidate i unit end jobs k next
+      → (c ≡ best) ⊎ (c ≡ next) → Precedes c best → Precedes c next → IsBestOf i unit end jobs (k + 1) c
   best_next k best next c l h n either p q = record {
     early = elim either [ inl e ↦ omega (arith, ap (λ (x : Candidate). x.place) e, h.early) | inr e ↦ omega (arith, ap (λ (x : Candidate). x.place) e, n.place_is) ];
     is = is;
@@ -99,7 +102,8 @@ module _ (i : Instance) (unit end : ℕ) (jobs : List ℕ) where
         | inr e ↦ subst (λ x. IsCandidate i unit end jobs x.place x) (sym e) (record { place_is = refl; job = n.job ∙ ap (λ x. get_or jobs x 0) (sym n.place_is); cost = n.cost })
       ]
 
-  pub best_of_all : (k : ℕ) (c : Candidate) → k ≡ length jobs → IsBestOf i unit end jobs k c → (c.place < length jobs) × IsCheapest i unit end jobs (get_or jobs c.place 0)
+  pub best_of_all : (k : ℕ) (c : Candidate) → k ≡ length jobs → IsBestOf i unit end jobs k c
+      → (c.place < length jobs) × IsCheapest i unit end jobs (get_or jobs c.place 0)
   best_of_all k c e h = (omega (arith, h.early, e), subst₂ (λ xs j. IsCheapest i unit end xs j) (take_all k jobs (omega (arith, e))) h.is.job h.cheapest)
 
 -- ---- the answer
@@ -126,7 +130,8 @@ IsMostAnswer-from i class inner unit u pieces common few e p =
     })
 
 -- as the code makes the pieces
-pub placed_by_cost : (i : Instance) (unit : ℕ) (places listed : List Place) (order slice : List ℕ) (pieces : List Piece) → AreEarliestPlaces i unit places → listed ≡ places → IsOrderByCost i unit listed order → slice ≡ order
+pub placed_by_cost : (i : Instance) (unit : ℕ) (places listed : List Place) (order slice : List ℕ) (pieces : List Piece) → AreEarliestPlaces i unit places
+    → listed ≡ places → IsOrderByCost i unit listed order → slice ≡ order
     → pieces ≡ placed (length slice) listed (λ k. slice_index_or slice k 0) (λ k. k) → ArePlacedByCost i unit pieces
 placed_by_cost i unit places listed order slice pieces earliest same by same_order all = record { places = places; order = order; earliest = earliest; by_cost = o; are = are }
   where
@@ -141,15 +146,18 @@ placed_by_cost i unit places listed order slice pieces earliest same by same_ord
 pub places_many : (i : Instance) (unit : ℕ) (places listed : List Place) → AreEarliestPlaces i unit places → listed ≡ places → length listed ≡ length i.jobs
 places_many i unit places listed earliest same = ap length same ∙ earliest.count
 
-pub places_soon : (i : Instance) → i.class ≡ places_most_class → Inner i → (unit : ℕ) (places listed : List Place) → IsLeastOfAll i.speeds unit → unit ≤ 2 ^ 30 → AreEarliestPlaces i unit places → listed ≡ places → All (λ p. p.end ≤ 400 * 1000000 * 2 ^ 30) listed
+pub places_soon : (i : Instance) → i.class ≡ places_most_class → Inner i → (unit : ℕ) (places listed : List Place) → IsLeastOfAll i.speeds unit → unit ≤ 2 ^ 30
+    → AreEarliestPlaces i unit places → listed ≡ places → All (λ p. p.end ≤ 400 * 1000000 * 2 ^ 30) listed
 places_soon i class inner unit places listed common few earliest same =
     let h = IsPlacesInstance-from Fmax i class inner in
     subst (All (λ p. p.end ≤ 400 * 1000000 * 2 ^ 30)) (sym same) (ends_bounded (lengths_of i unit) (lengths_short i h.speeds (common_time_within Fmax i h) unit common few) (length i.jobs) places h.few earliest)
 
-pub order_many : (i : Instance) (unit : ℕ) (places listed : List Place) (order slice : List ℕ) → AreEarliestPlaces i unit places → listed ≡ places → IsOrderByCost i unit listed order → slice ≡ order → length listed ≡ length slice
+pub order_many : (i : Instance) (unit : ℕ) (places listed : List Place) (order slice : List ℕ) → AreEarliestPlaces i unit places → listed ≡ places
+    → IsOrderByCost i unit listed order → slice ≡ order → length listed ≡ length slice
 order_many i unit places listed order slice earliest same o same_order = places_many i unit places listed earliest same ∙ sym (length_is (length i.jobs) order o.all) ∙ sym (ap length same_order)
 
 -- the pieces with one more
-pub piece_next : (places : List Place) (job number : ℕ → ℕ) (k : ℕ) (new old : List Piece) (p : Piece) → new ≡ old ++ p ∷ [] → p ≡ piece_in (job k) (place_at places (number k)) → old ≡ placed k places job number → new ≡ placed (k + 1) places job number
+pub piece_next : (places : List Place) (job number : ℕ → ℕ) (k : ℕ) (new old : List Piece) (p : Piece) → new ≡ old ++ p ∷ []
+    → p ≡ piece_in (job k) (place_at places (number k)) → old ≡ placed k places job number → new ≡ placed (k + 1) places job number
 piece_next places job number k new old p e is so_far =
     e ∙ ap₂ (λ l x. l ++ x ∷ []) so_far is ∙ sym (map-range_with_len_more (λ n. piece_in (job n) (place_at places (number n))) 0 k k (zero-add k))

@@ -63,7 +63,8 @@ cancel v x y k e = both (le_of_mul-le-mul_left {k = v} (omega (arith, e)) k) (le
 pub some_common_time : (l : Limits) (i : Instance) → kind_of i.class.env ≡ Uniform → MeetsConditions l i → 1 ≤ common_time i
 some_common_time l i kind c = by (kind_of i.class.env) kind (c.jobs 0 no_job (omega (arith, c.some))).needs.shape (c.jobs 0 no_job (omega (arith, c.some))).needs.times
   where
-    by : (k : EnvKind) → k ≡ Uniform → HasShape k i.class.env i.machines (job_at i 0).needs → HasTimes (least_time k i.class.times) (greatest_time l i.class.times) (job_at i 0).needs → 1 ≤ common_time i
+    by : (k : EnvKind) → k ≡ Uniform → HasShape k i.class.env i.machines (job_at i 0).needs
+        → HasTimes (least_time k i.class.times) (greatest_time l i.class.times) (job_at i 0).needs → 1 ≤ common_time i
     by k e shape times =
         let single = subst (λ x. HasShape x i.class.env i.machines (job_at i 0).needs) e shape in
         let ranges = subst (λ x. HasTimes (least_time x i.class.times) (greatest_time l i.class.times) (job_at i 0).needs) e times in
@@ -101,7 +102,8 @@ module _ (i : Instance) (unit : ℕ) (speeds : HasSpeeds Uniform i.machines i.sp
       by a b u p e k h = grind arith
 
 -- ---- jobs on machines, each in one piece
-module _ (n : ℕ) (machine begin end : ℕ → ℕ) (lasts : (a : ℕ) → a < n → begin a < end a) (apart : (a b : ℕ) → a < n → b < n → a ≢ b → machine a ≡ machine b → IsApart begin end a b) where
+module _ (n : ℕ) (machine begin end : ℕ → ℕ) (lasts : (a : ℕ) → a < n → begin a < end a)
+    (apart : (a b : ℕ) → a < n → b < n → a ≢ b → machine a ≡ machine b → IsApart begin end a b) where
   -- how many jobs end on the machine of b by its end
   abbrev pub front : ℕ → ℕ
   front b = total_below n (λ a. cond (holds_up n machine end a b) 1 0)
@@ -140,7 +142,8 @@ module _ (n : ℕ) (machine begin end : ℕ → ℕ) (lasts : (a : ℕ) → a < 
       ]
 
   -- where the jobs of a machine take equal times over a common unit
-  pub front-takes : (unit other : ℕ) (time : ℕ → ℕ) → ((a : ℕ) → a < n → unit * (end a - begin a) ≡ time (machine a) * other) → (b : ℕ) → b < n → other * (front b * time (machine b)) ≤ unit * end b
+  pub front-takes : (unit other : ℕ) (time : ℕ → ℕ) → ((a : ℕ) → a < n → unit * (end a - begin a) ≡ time (machine a) * other) → (b : ℕ) → b < n
+      → other * (front b * time (machine b)) ≤ unit * end b
   front-takes unit other time takes b l =
       subst (λ x. x ≤ unit * end b) (sym (total_below-scale n unit (λ a. cond (held a b) (end a - begin a) 0)) ∙ counted) here
     where
@@ -169,7 +172,8 @@ module _ (n : ℕ) (machine begin end : ℕ → ℕ) (lasts : (a : ℕ) → a < 
           each a k false e = ap (λ x. unit * x) (cond-no (end a - begin a) e) ∙ none unit (time (machine b) * other) ∙ ap (λ x. time (machine b) * other * x) (sym (cond-no 1 e))
 
 -- ---- the law
-module _ (l : Limits) (i : Instance) (s : Schedule) (unit : ℕ) (places : List Place) (kind : kind_of i.class.env ≡ Uniform) (uncut : i.class.cut ≡ false) (c : MeetsConditions l i) (times : TakeCommonTime i) (f : Feasible i s) (common : IsLeastOfAll i.speeds unit)
+module _ (l : Limits) (i : Instance) (s : Schedule) (unit : ℕ) (places : List Place) (kind : kind_of i.class.env ≡ Uniform) (uncut : i.class.cut ≡ false)
+    (c : MeetsConditions l i) (times : TakeCommonTime i) (f : Feasible i s) (common : IsLeastOfAll i.speeds unit)
     (earliest : AreEarliest (lengths_of i unit) (length i.jobs) places) where
   abbrev n : ℕ
   n = length i.jobs

@@ -21,16 +21,19 @@ use Rattle.msp_places.proofs.Turns.{AreShort}
 
 -- ---- jobs of one time on uniform machines
 -- the common time is in range
-pub common_time_range : (l : Limits) (i : Instance) → kind_of i.class.env ≡ Uniform → i.class.times ≡ Equal → MeetsConditions l i → (1 ≤ common_time i) × (common_time i ≤ 1000000)
+pub common_time_range : (l : Limits) (i : Instance) → kind_of i.class.env ≡ Uniform → i.class.times ≡ Equal → MeetsConditions l i
+    → (1 ≤ common_time i) × (common_time i ≤ 1000000)
 common_time_range l i kind equal c = by (kind_of i.class.env) kind i.class.times equal (c.jobs 0 no_job (omega (arith, c.some))).needs.shape (c.jobs 0 no_job (omega (arith, c.some))).needs.times
   where
-    by : (k : EnvKind) → k ≡ Uniform → (t : Times) → t ≡ Equal → HasShape k i.class.env i.machines (job_at i 0).needs → HasTimes (least_time k t) (greatest_time l t) (job_at i 0).needs → (1 ≤ common_time i) × (common_time i ≤ 1000000)
+    by : (k : EnvKind) → k ≡ Uniform → (t : Times) → t ≡ Equal → HasShape k i.class.env i.machines (job_at i 0).needs
+        → HasTimes (least_time k t) (greatest_time l t) (job_at i 0).needs → (1 ≤ common_time i) × (common_time i ≤ 1000000)
     by k e t f shape times =
         let single = subst (λ x. HasShape x i.class.env i.machines (job_at i 0).needs) e shape in
         let ranges = subst₂ (λ x y. HasTimes (least_time x y) (greatest_time l y) (job_at i 0).needs) e f times in
         ranges 0 no_need (omega (arith, single.0))
 
-module _ (i : Instance) (speeds : HasSpeeds Uniform i.machines i.speeds) (time : (1 ≤ common_time i) × (common_time i ≤ 1000000)) (unit : ℕ) (common : IsLeastOfAll i.speeds unit) (few : unit ≤ 2 ^ 30) where
+module _ (i : Instance) (speeds : HasSpeeds Uniform i.machines i.speeds) (time : (1 ≤ common_time i) × (common_time i ≤ 1000000)) (unit : ℕ)
+    (common : IsLeastOfAll i.speeds unit) (few : unit ≤ 2 ^ 30) where
   pub lengths_short : AreShort (lengths_of i unit)
   lengths_short m d l = subst (λ x. (1 ≤ x) × (x ≤ 1000000 * 2 ^ 30)) (get_or_default (lengths_of i unit) m 0 d l)
       (long-some i unit speeds common m inside time.0, omega (arith, at_most (get_or (lengths_of i unit) m 0) (get_or i.speeds m 0) (unit * common_time i) (long-speed i unit speeds common m inside) (speeds.1 m 0 (omega (arith, inside, speeds.0))).0, mul-le unit (common_time i) (2 ^ 30) 1000000 few time.1))
@@ -42,7 +45,8 @@ module _ (i : Instance) (speeds : HasSpeeds Uniform i.machines i.speeds) (time :
       at_most a b u e k = grind arith
 
 -- the lengths, as the code makes them
-pub lengths_read : (i : Instance) (unit time : ℕ) (speeds lengths slice : List ℕ) → speeds ≡ i.speeds → time ≡ common_time i → lengths ≡ map (λ s. time * (unit / s)) speeds → slice ≡ lengths → slice ≡ lengths_of i unit
+pub lengths_read : (i : Instance) (unit time : ℕ) (speeds lengths slice : List ℕ) → speeds ≡ i.speeds → time ≡ common_time i
+    → lengths ≡ map (λ s. time * (unit / s)) speeds → slice ≡ lengths → slice ≡ lengths_of i unit
 lengths_read i unit time speeds lengths slice e f g h = h ∙ g ∙ ap₂ (λ t l. map (λ s. t * (unit / s)) l) f e
 
 -- the classes that are solved differ in the criterion

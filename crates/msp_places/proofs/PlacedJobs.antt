@@ -38,7 +38,8 @@ abbrev pub placed_schedule : ℕ → ℕ → List Place → (ℕ → ℕ) → (�
 placed_schedule unit n places job number = record { unit = pos unit; pieces = placed n places job number }
 
 -- ---- the ends of the earliest places
-pub ends_bounded : (lengths : List ℕ) → AreShort lengths → (n : ℕ) (places : List Place) → n ≤ 400 → AreEarliest lengths n places → All (λ p. p.end ≤ 400 * 1000000 * 2 ^ 30) places
+pub ends_bounded : (lengths : List ℕ) → AreShort lengths → (n : ℕ) (places : List Place) → n ≤ 400 → AreEarliest lengths n places
+    → All (λ p. p.end ≤ 400 * 1000000 * 2 ^ 30) places
 ends_bounded lengths short n places few earliest k d l =
     let is = earliest.each k d l in
     let p = get_or places k d in
@@ -75,10 +76,12 @@ module _ (lengths : List ℕ) (n : ℕ) (places : List Place) (earliest : AreEar
       less : (a b : ℕ) → a < b → a ≤ b - 1
       less a b h = omega (arith, h)
 
-  pub apart_places : (x y : ℕ) → x < n → y < n → x ≢ y → (place_at places x).machine ≡ (place_at places y).machine → ((place_at places x).end ≤ (place_at places y).begin) ⊎ ((place_at places y).end ≤ (place_at places x).begin)
+  pub apart_places : (x y : ℕ) → x < n → y < n → x ≢ y → (place_at places x).machine ≡ (place_at places y).machine
+      → ((place_at places x).end ≤ (place_at places y).begin) ⊎ ((place_at places y).end ≤ (place_at places x).begin)
   apart_places x y l k ne on = by (place_at places x) (place_at places y) (place_is x l).is (place_is y k).is on (differ x y l k ne)
     where
-      by : (p q : Place) → p ≡ place_on lengths p.machine p.rank → q ≡ place_on lengths q.machine q.rank → p.machine ≡ q.machine → p ≢ q → (p.end ≤ q.begin) ⊎ (q.end ≤ p.begin)
+      by : (p q : Place) → p ≡ place_on lengths p.machine p.rank → q ≡ place_on lengths q.machine q.rank → p.machine ≡ q.machine → p ≢ q
+          → (p.end ≤ q.begin) ⊎ (q.end ≤ p.begin)
       by p q e f on ne = elim (cases_lt p.rank q.rank) [
         | inl less ↦ inl (ends p q q.machine (e ∙ ap (λ m. place_on lengths m p.rank) on) f less)
         | inr more ↦ elim (cases_lt q.rank p.rank) [
@@ -93,7 +96,8 @@ module _ (lengths : List ℕ) (n : ℕ) (places : List Place) (earliest : AreEar
           same : (x y : ℕ) → y ≤ x → x ≤ y → x ≡ y
           same x y l k = omega (arith, l, k)
 
-module _ (crit : Crit) (i : Instance) (h : IsPlacesInstance crit i) (unit : ℕ) (common : IsLeastOfAll i.speeds unit) (few : unit ≤ 2 ^ 30) (places : List Place) (earliest : AreEarliestPlaces i unit places) (job number : ℕ → ℕ) (own : AreApart (length i.jobs) job number) where
+module _ (crit : Crit) (i : Instance) (h : IsPlacesInstance crit i) (unit : ℕ) (common : IsLeastOfAll i.speeds unit) (few : unit ≤ 2 ^ 30) (places : List Place)
+    (earliest : AreEarliestPlaces i unit places) (job number : ℕ → ℕ) (own : AreApart (length i.jobs) job number) where
   abbrev n : ℕ
   n = length i.jobs
 

@@ -36,7 +36,8 @@ first_is lengths m = ap₂ (λ b e. record { machine = m; rank = 1; begin = b; e
     one : (l : ℕ) → l ≡ 1 * l
     one l = omega arith
 
-pub first_next : (lengths : List ℕ) (k : ℕ) (new old : List Place) (p : Place) → new ≡ old ++ p ∷ [] → p ≡ from_zero k (get_or lengths k 0) → AreFirstBelow lengths k old → AreFirstBelow lengths (k + 1) new
+pub first_next : (lengths : List ℕ) (k : ℕ) (new old : List Place) (p : Place) → new ≡ old ++ p ∷ [] → p ≡ from_zero k (get_or lengths k 0)
+    → AreFirstBelow lengths k old → AreFirstBelow lengths (k + 1) new
 first_next lengths k new old p e is so_far = record {
   many = ap length e ∙ length-append old (p ∷ []) ∙ omega (arith, so_far.many);
   each = λ m l. ap (λ xs. place_at xs m) e ∙ elim (cases_lt m k) [
@@ -111,7 +112,8 @@ taken_none lengths first h = record {
     one m l = ap (λ (p : Place). p.rank) (h.each m l)
 
 -- ---- one turn more
-module _ (lengths : List ℕ) (long : (m : ℕ) → m < length lengths → 1 ≤ get_or lengths m 0) (taken next : List Place) (h : AreTaken lengths taken next) (k : ℕ) (first : IsFirstPlace next k) where
+module _ (lengths : List ℕ) (long : (m : ℕ) → m < length lengths → 1 ≤ get_or lengths m 0) (taken next : List Place) (h : AreTaken lengths taken next) (k : ℕ)
+    (first : IsFirstPlace next k) where
   abbrev p : Place
   p = place_at next k
 
@@ -201,7 +203,8 @@ module _ (lengths : List ℕ) (long : (m : ℕ) → m < length lengths → 1 ≤
           same a b l k = omega (arith, l, k)
 
 -- ---- at the end
-pub earliest_taken : (lengths : List ℕ) (long : (m : ℕ) → m < length lengths → 1 ≤ get_or lengths m 0) (n : ℕ) (taken next : List Place) → AreTaken lengths taken next → length taken ≡ n → AreEarliest lengths n taken
+pub earliest_taken : (lengths : List ℕ) (long : (m : ℕ) → m < length lengths → 1 ≤ get_or lengths m 0) (n : ℕ) (taken next : List Place)
+    → AreTaken lengths taken next → length taken ≡ n → AreEarliest lengths n taken
 earliest_taken lengths long n taken next h e = record {
   count = e;
   each = subst (λ n. All (IsPlace lengths n) taken) e h.each;
@@ -223,7 +226,8 @@ pub record HasTaken (lengths : List ℕ) (turn : ℕ) (taken next : List Place) 
 pub at_first : (lengths : List ℕ) (taken first : List Place) → taken ≡ [] → AreFirst lengths first → HasTaken lengths 0 taken first
 at_first lengths taken first e h = record { taken_are = subst (λ t. AreTaken lengths t first) (sym e) (taken_none lengths first h); count = ap length e }
 
-pub turn_taken : (lengths : List ℕ) → AreShort lengths → (turn : ℕ) (taken next new after : List Place) (place : Place) → HasTaken lengths turn taken next → TakesTurn lengths next place after → new ≡ taken ++ place ∷ [] → HasTaken lengths (turn + 1) new after
+pub turn_taken : (lengths : List ℕ) → AreShort lengths → (turn : ℕ) (taken next new after : List Place) (place : Place) → HasTaken lengths turn taken next
+    → TakesTurn lengths next place after → new ≡ taken ++ place ∷ [] → HasTaken lengths (turn + 1) new after
 turn_taken lengths short turn taken next new after place h t e =
     record {
       taken_are = subst₂ (AreTaken lengths) (sym (e ∙ ap (λ p. taken ++ p ∷ []) t.is)) (sym (t.next ∙ ap (λ p. set next t.machine (behind p (get_or lengths t.machine 0))) t.is))
@@ -237,7 +241,8 @@ ranks_small lengths turn taken next h l k d b =
     let inside : k < length lengths = omega (arith, b, h.taken_are.count) in
     omega (arith, h.taken_are.few k inside, h.count, l, ap (λ (p : Place). p.rank) (get_or_default next k d no_place b))
 
-pub ends_small : (lengths : List ℕ) → AreShort lengths → (turn : ℕ) (taken next : List Place) → HasTaken lengths turn taken next → turn < 400 → All (λ p. p.end ≤ 400 * 1000000 * 2 ^ 30) next
+pub ends_small : (lengths : List ℕ) → AreShort lengths → (turn : ℕ) (taken next : List Place) → HasTaken lengths turn taken next → turn < 400
+    → All (λ p. p.end ≤ 400 * 1000000 * 2 ^ 30) next
 ends_small lengths short turn taken next h l k d b =
     let inside : k < length lengths = omega (arith, b, h.taken_are.count) in
     omega (
@@ -246,5 +251,6 @@ ends_small lengths short turn taken next h l k d b =
       mul-le (place_at next k).rank (get_or lengths k 0) 400 (1000000 * 2 ^ 30) (omega (arith, h.taken_are.few k inside, h.count, l)) (short k 0 inside).1,
     )
 
-pub earliest_at_end : (lengths : List ℕ) → AreShort lengths → (n turn : ℕ) (taken next : List Place) → HasTaken lengths turn taken next → turn ≡ n → AreEarliest lengths n taken
+pub earliest_at_end : (lengths : List ℕ) → AreShort lengths → (n turn : ℕ) (taken next : List Place) → HasTaken lengths turn taken next → turn ≡ n
+    → AreEarliest lengths n taken
 earliest_at_end lengths short n turn taken next h e = earliest_taken lengths (λ m l. (short m 0 l).0) n taken next h.taken_are (h.count ∙ e)

@@ -21,12 +21,7 @@ use msp_route::first_time;
 use std::alloc::Global;
 
 /// How long a job that takes the time runs on each machine, over the unit.
-fn lengths_of(
-    alloc: Global,
-    speeds: &[u64],
-    time: u64,
-    unit: u64,
-) -> Result<Vec<u64>, NoMemory>
+fn lengths_of(alloc: Global, speeds: &[u64], time: u64, unit: u64) -> Result<Vec<u64>, NoMemory>
     requires speeds { All (λ s. 1 ≤ s) speeds.now }
     requires time { time ≤ GREATEST_EQUAL_TIME }
     requires unit { unit ≤ GREATEST_MULTIPLE }
@@ -118,11 +113,7 @@ fn places_by(alloc: Global, lengths: &[u64], count: usize) -> Result<Vec<Place>,
 }
 
 /// The earliest places over the unit, as many as there are jobs, in order of end, ties to the lesser machine.
-pub fn earliest_places(
-    alloc: Global,
-    inst: &Instance,
-    unit: u64,
-) -> Result<Vec<Place>, NoMemory>
+pub fn earliest_places(alloc: Global, inst: &Instance, unit: u64) -> Result<Vec<Place>, NoMemory>
     requires inner { Inner inst.now }
     requires kind { kind_of inst.now.class.env ≡ Uniform }
     requires times { inst.now.class.times ≡ Equal }
