@@ -1,0 +1,9 @@
+pub mod Ranks
+pub mod OwnPlaces
+pub mod Turns
+pub mod PlaceFacts
+pub mod PlacedJobs
+pub mod Charged
+pub mod InTurn
+pub mod MostBest
+pub mod MostSteps

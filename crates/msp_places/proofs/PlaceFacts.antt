@@ -1,0 +1,76 @@
+-- What an instance of jobs of one time on uniform machines has.
+use Rattle.std.proofs.Common.{◌≡◌, ℕ, ◌*◌, ◌/◌, ◌<◌, ◌≤◌, ◌^◌, List, length, get_or, map, All, ap₂, subst, subst₂, ◌∙◌, arith}
+use Rattle.std.proofs.lemmas.Nat.{mul-le}
+use Rattle.std.proofs.lemmas.List.{get_or_default}
+use Rattle.msp_class.specs.declared.class.Class.{Class}
+use Rattle.msp_class.specs.declared.class.Crit.{Crit}
+use Rattle.msp_class.specs.declared.class.Times.{Times}
+use Rattle.msp_class.specs.declared.class.Times.TheVariants.{Equal}
+use Rattle.msp_class.specs.declared.environments.EnvKind.{EnvKind}
+use Rattle.msp_class.specs.declared.environments.EnvKind.TheVariants.{Uniform}
+use Rattle.msp_class.specs.Env.{kind_of}
+use Rattle.msp_instance.specs.declared.Instance.{Instance}
+use Rattle.msp_instance.specs.Instance.{no_need, no_job, job_at, common_time}
+use Rattle.msp_instance.specs.Conditions.{Inner, Limits, MeetsConditions, HasShape, HasTimes, HasSpeeds, least_time, greatest_time}
+use Rattle.msp_instance.specs.Multiples.{IsLeastOfAll}
+use Rattle.msp_schedule.proofs.feasible.OfClass.{IsOfClass, IsOfClass-from}
+use Rattle.msp_places.specs.Classes.{places_most_class}
+use Rattle.msp_places.specs.Places.{lengths_of, TakeCommonTime}
+use Rattle.msp_places.proofs.OwnPlaces.{lengths-count, long-speed, long-some}
+use Rattle.msp_places.proofs.Turns.{AreShort}
+
+-- ---- jobs of one time on uniform machines
+-- the common time is in range
+pub common_time_range : (l : Limits) (i : Instance) → kind_of i.class.env ≡ Uniform → i.class.times ≡ Equal → MeetsConditions l i
+    → (1 ≤ common_time i) × (common_time i ≤ 1000000)
+common_time_range l i kind equal c = by (kind_of i.class.env) kind i.class.times equal (c.jobs 0 no_job (omega (arith, c.some))).needs.shape (c.jobs 0 no_job (omega (arith, c.some))).needs.times
+  where
+    by : (k : EnvKind) → k ≡ Uniform → (t : Times) → t ≡ Equal → HasShape k i.class.env i.machines (job_at i 0).needs
+        → HasTimes (least_time k t) (greatest_time l t) (job_at i 0).needs → (1 ≤ common_time i) × (common_time i ≤ 1000000)
+    by k e t f shape times =
+        let single = subst (λ x. HasShape x i.class.env i.machines (job_at i 0).needs) e shape in
+        let ranges = subst₂ (λ x y. HasTimes (least_time x y) (greatest_time l y) (job_at i 0).needs) e f times in
+        ranges 0 no_need (omega (arith, single.0))
+
+module _ (i : Instance) (speeds : HasSpeeds Uniform i.machines i.speeds) (time : (1 ≤ common_time i) × (common_time i ≤ 1000000)) (unit : ℕ)
+    (common : IsLeastOfAll i.speeds unit) (few : unit ≤ 2 ^ 30) where
+  pub lengths_short : AreShort (lengths_of i unit)
+  lengths_short m d l = subst (λ x. (1 ≤ x) × (x ≤ 1000000 * 2 ^ 30)) (get_or_default (lengths_of i unit) m 0 d l)
+      (long-some i unit speeds common m inside time.0, omega (arith, at_most (get_or (lengths_of i unit) m 0) (get_or i.speeds m 0) (unit * common_time i) (long-speed i unit speeds common m inside) (speeds.1 m 0 (omega (arith, inside, speeds.0))).0, mul-le unit (common_time i) (2 ^ 30) 1000000 few time.1))
+    where
+      inside : m < i.machines
+      inside = omega (arith, l, lengths-count i unit speeds common)
+
+      at_most : (a b u : ℕ) → a * b ≡ u → 1 ≤ b → a ≤ u
+      at_most a b u e k = grind arith
+
+-- the lengths, as the code makes them
+pub lengths_read : (i : Instance) (unit time : ℕ) (speeds lengths slice : List ℕ) → speeds ≡ i.speeds → time ≡ common_time i
+    → lengths ≡ map (λ s. time * (unit / s)) speeds → slice ≡ lengths → slice ≡ lengths_of i unit
+lengths_read i unit time speeds lengths slice e f g h = h ∙ g ∙ ap₂ (λ t l. map (λ s. t * (unit / s)) l) f e
+
+-- the classes that are solved differ in the criterion
+abbrev pub class_by : Crit → Class
+class_by crit = record places_most_class { crit = crit }
+
+abbrev pub IsPlacesInstance : Crit → Instance → Type 0
+IsPlacesInstance crit i = IsOfClass i (class_by crit)
+
+pub IsPlacesInstance-from : (crit : Crit) (i : Instance) → i.class ≡ class_by crit → Inner i → IsPlacesInstance crit i
+IsPlacesInstance-from crit i e inner = IsOfClass-from i (class_by crit) e inner
+
+module _ (crit : Crit) (i : Instance) (h : IsPlacesInstance crit i) where
+  pub one_need : (j : ℕ) → j < length i.jobs → 0 < length (job_at i j).needs
+  one_need j l = omega (arith, (h.jobs j no_job l).needs.shape.0)
+
+  pub takes_common_time : TakeCommonTime i
+  takes_common_time j l = (h.jobs j no_job l).times 0 no_need (one_need j l)
+
+  pub no_release : (j : ℕ) → j < length i.jobs → (job_at i j).release ≡ 0
+  no_release j l = (h.jobs j no_job l).release
+
+  pub common_time_within : (1 ≤ common_time i) × (common_time i ≤ 1000000)
+  common_time_within = (h.jobs 0 no_job (omega (arith, h.some))).needs.times 0 no_need (one_need 0 (omega (arith, h.some)))
+
+  pub speeds_some : All (λ s. 1 ≤ s) i.speeds
+  speeds_some k d l = (h.speeds.1 k d l).0

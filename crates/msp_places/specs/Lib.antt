@@ -1,0 +1,6 @@
+pub mod Classes
+pub mod Places
+pub mod Placed
+pub mod Taken
+pub mod Most
+pub mod Search
