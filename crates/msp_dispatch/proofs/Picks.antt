@@ -54,7 +54,7 @@ AreSolved [] = ⊤
 AreSolved (e ∷ es) = (class_of e.solver ≡ Some e.class) × AreSolved es
 
 all_solved : AreSolved solved_list
-all_solved = (refl, (refl, (refl, (refl, (refl, (refl, (refl, (refl, (refl, (refl, (refl, (refl, (refl, (refl, (refl, (refl, (refl, (refl, (refl, (refl, (refl, (refl, (refl, (refl, (refl, (refl, (refl, tt)))))))))))))))))))))))))))
+all_solved = (refl, (refl, (refl, (refl, (refl, (refl, (refl, (refl, (refl, (refl, (refl, (refl, (refl, (refl, (refl, (refl, (refl, (refl, (refl, (refl, (refl, (refl, (refl, (refl, (refl, (refl, (refl, (refl, (refl, (refl, (refl, (refl, (refl, (refl, (refl, (refl, tt))))))))))))))))))))))))))))))))))))
 
 solved_at : (xs : List SolvedClass) (n : ℕ) (e : SolvedClass) → AreSolved xs → slice_get xs n ≡ Some e → class_of e.solver ≡ Some e.class
 solved_at [] n e h g = absurd (cc)

@@ -18,13 +18,18 @@ use Rattle.msp_wrap.specs.Wrap.{wrap_class}
 use Rattle.msp_levels.specs.Levels.{levels_class}
 use Rattle.msp_total.specs.Classes.{uniform_class, unrelated_class}
 use Rattle.msp_total.specs.Slots.{tardiness_class, late_jobs_class}
-use Rattle.msp_shops.specs.Classes.{johnson_class, jackson_class}
+use Rattle.msp_shops.specs.Classes.{johnson_class, jackson_class, jackson_cut_class}
 use Rattle.msp_shops.specs.Open.{open_class}
 use Rattle.msp_shops.specs.OpenCut.{open_cut_class}
 use Rattle.msp_uniform.specs.Uniform.{cut_class}
 use Rattle.msp_lexical.specs.Lexical.{lexical_class}
 use Rattle.msp_due.specs.Due.{tree_class, pair_class}
 use Rattle.msp_cut_sums.specs.Sums.{cut_sum_class, cut_weights_class, open_weights_class, cut_open_weights_class}
+use Rattle.msp_stairs.specs.Stairs.{stairs_class}
+use Rattle.msp_places.specs.Classes.{places_most_class, places_late_class, places_count_class}
+use Rattle.msp_levels.specs.Sums.{levels_sum_class}
+use Rattle.msp_srpt.specs.EqualHeads.{equal_heads_class}
+use Rattle.msp_lines.specs.Classes.{lines_late_class, lines_count_class}
 use Rattle.msp_threshold.specs.Squeezed.{lateness_class}
 use Rattle.msp_weighted.specs.Late.{late_class}
 use Rattle.msp_dispatch.specs.declared.Cannot.{Cannot}
@@ -59,10 +64,19 @@ class_of solver.LateTable = Some late_class
 class_of solver.Search = Some lateness_class
 class_of solver.TreeDue = Some tree_class
 class_of solver.PairDue = Some pair_class
+class_of solver.Stairs = Some stairs_class
 class_of solver.CutSum = Some cut_sum_class
 class_of solver.CutWeights = Some cut_weights_class
 class_of solver.OpenWeights = Some open_weights_class
 class_of solver.CutOpenWeights = Some cut_open_weights_class
+class_of solver.PlacesMost = Some places_most_class
+class_of solver.PlacesLate = Some places_late_class
+class_of solver.PlacesCount = Some places_count_class
+class_of solver.LevelsSum = Some levels_sum_class
+class_of solver.EqualHeads = Some equal_heads_class
+class_of solver.JacksonCut = Some jackson_cut_class
+class_of solver.LinesLate = Some lines_late_class
+class_of solver.LinesCount = Some lines_count_class
 
 -- An entry of the list stands at the place.
 abbrev pub StandsAt : ℕ → SolvedClass → Type 0

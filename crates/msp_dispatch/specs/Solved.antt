@@ -14,13 +14,18 @@ use Rattle.msp_wrap.specs.Wrap.{wrap_class}
 use Rattle.msp_levels.specs.Levels.{levels_class}
 use Rattle.msp_total.specs.Classes.{uniform_class, unrelated_class}
 use Rattle.msp_total.specs.Slots.{tardiness_class, late_jobs_class}
-use Rattle.msp_shops.specs.Classes.{johnson_class, jackson_class}
+use Rattle.msp_shops.specs.Classes.{johnson_class, jackson_class, jackson_cut_class}
 use Rattle.msp_shops.specs.Open.{open_class}
 use Rattle.msp_shops.specs.OpenCut.{open_cut_class}
 use Rattle.msp_uniform.specs.Uniform.{cut_class, HasSmallUnit}
 use Rattle.msp_lexical.specs.Lexical.{lexical_class}
 use Rattle.msp_due.specs.Due.{tree_class, pair_class}
 use Rattle.msp_cut_sums.specs.Sums.{cut_sum_class, cut_weights_class, open_weights_class, cut_open_weights_class}
+use Rattle.msp_stairs.specs.Stairs.{stairs_class}
+use Rattle.msp_places.specs.Classes.{places_most_class, places_late_class, places_count_class}
+use Rattle.msp_levels.specs.Sums.{levels_sum_class}
+use Rattle.msp_srpt.specs.EqualHeads.{equal_heads_class}
+use Rattle.msp_lines.specs.Classes.{lines_late_class, lines_count_class}
 use Rattle.msp_threshold.specs.Squeezed.{lateness_class}
 use Rattle.msp_weighted.specs.Late.{late_class, total_time}
 use Rattle.msp_weighted.specs.declared.late_table.TheConstants.{GREATEST_TOTAL}
@@ -54,10 +59,19 @@ solved_list =
     solves lateness_class solver.Search ∷
     solves tree_class solver.TreeDue ∷
     solves pair_class solver.PairDue ∷
+    solves stairs_class solver.Stairs ∷
     solves cut_sum_class solver.CutSum ∷
     solves cut_weights_class solver.CutWeights ∷
     solves open_weights_class solver.OpenWeights ∷
     solves cut_open_weights_class solver.CutOpenWeights ∷
+    solves places_most_class solver.PlacesMost ∷
+    solves places_late_class solver.PlacesLate ∷
+    solves places_count_class solver.PlacesCount ∷
+    solves levels_sum_class solver.LevelsSum ∷
+    solves equal_heads_class solver.EqualHeads ∷
+    solves jackson_cut_class solver.JacksonCut ∷
+    solves lines_late_class solver.LinesLate ∷
+    solves lines_count_class solver.LinesCount ∷
     []
 
 abbrev pub solved_classes : List Class

@@ -20,13 +20,16 @@ use msp_class::{Class, List, NoMemory};
 use msp_cut_sums::{CutOpenWeights, CutSum, CutWeights, OpenWeights};
 use msp_due::{PairDue, TreeDue};
 use msp_instance::Instance;
-use msp_levels::Levels;
+use msp_levels::{Levels, LevelsSum};
 use msp_lexical::Lexical;
+use msp_lines::{LinesCount, LinesLate};
+use msp_places::{PlacesCount, PlacesLate, PlacesMost};
 use msp_route::{Answer, SolverName};
 use msp_schedule::{Solution, cost, settle};
-use msp_shops::{Jackson, Johnson, Open2, OpenCut};
+use msp_shops::{Jackson, JacksonCut, Johnson, Open2, OpenCut};
 use msp_single::{Lawler, Moore, Smith};
-use msp_srpt::Shortest;
+use msp_srpt::{EqualHeads, Shortest};
+use msp_stairs::Stairs;
 use msp_table::Row;
 use msp_total::{SlotsCount, SlotsLate, Uniform, Unrelated};
 use msp_trees::Horn;
@@ -62,10 +65,19 @@ macro_rules! at_solver {
             SolverName::Search => $call($($argument),*, &threshold_search()),
             SolverName::TreeDue => $call($($argument),*, &TreeDue),
             SolverName::PairDue => $call($($argument),*, &PairDue),
+            SolverName::Stairs => $call($($argument),*, &Stairs),
             SolverName::CutSum => $call($($argument),*, &CutSum),
             SolverName::CutWeights => $call($($argument),*, &CutWeights),
             SolverName::OpenWeights => $call($($argument),*, &OpenWeights),
             SolverName::CutOpenWeights => $call($($argument),*, &CutOpenWeights),
+            SolverName::PlacesMost => $call($($argument),*, &PlacesMost),
+            SolverName::PlacesLate => $call($($argument),*, &PlacesLate),
+            SolverName::PlacesCount => $call($($argument),*, &PlacesCount),
+            SolverName::LevelsSum => $call($($argument),*, &LevelsSum),
+            SolverName::EqualHeads => $call($($argument),*, &EqualHeads),
+            SolverName::JacksonCut => $call($($argument),*, &JacksonCut),
+            SolverName::LinesLate => $call($($argument),*, &LinesLate),
+            SolverName::LinesCount => $call($($argument),*, &LinesCount),
         }
     };
 }

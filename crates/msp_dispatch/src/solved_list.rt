@@ -7,12 +7,15 @@ use msp_blocks::{Blocks, UnitBlocks};
 use msp_class::Class;
 use msp_cut_sums::{CutOpenWeights, CutSum, CutWeights, OpenWeights};
 use msp_due::{PairDue, TreeDue};
-use msp_levels::Levels;
+use msp_levels::{Levels, LevelsSum};
 use msp_lexical::Lexical;
+use msp_lines::{LinesCount, LinesLate};
+use msp_places::{PlacesCount, PlacesLate, PlacesMost};
 use msp_route::{Solver, SolverName};
-use msp_shops::{Jackson, Johnson, Open2, OpenCut};
+use msp_shops::{Jackson, JacksonCut, Johnson, Open2, OpenCut};
 use msp_single::{Lawler, Moore, Smith};
-use msp_srpt::Shortest;
+use msp_srpt::{EqualHeads, Shortest};
+use msp_stairs::Stairs;
 use msp_total::{SlotsCount, SlotsLate, Uniform, Unrelated};
 use msp_trees::Horn;
 use msp_uniform::UniformCut;
@@ -20,7 +23,7 @@ use msp_weighted::LateTable;
 use msp_wrap::Wrap;
 
 /// How many classes are solved.
-pub(crate) const SOLVED: u32 = 27;
+pub(crate) const SOLVED: u32 = 36;
 
 /// A class that is solved, and its solver.
 #[derive(Clone, Copy, Debug, PartialEq, Eq)]
@@ -66,10 +69,19 @@ pub(crate) fn entry_at(n: u32) -> Option<SolvedClass>
         20 => Some(entry(&threshold_search(), SolverName::Search)),
         21 => Some(entry(&TreeDue, SolverName::TreeDue)),
         22 => Some(entry(&PairDue, SolverName::PairDue)),
-        23 => Some(entry(&CutSum, SolverName::CutSum)),
-        24 => Some(entry(&CutWeights, SolverName::CutWeights)),
-        25 => Some(entry(&OpenWeights, SolverName::OpenWeights)),
-        26 => Some(entry(&CutOpenWeights, SolverName::CutOpenWeights)),
+        23 => Some(entry(&Stairs, SolverName::Stairs)),
+        24 => Some(entry(&CutSum, SolverName::CutSum)),
+        25 => Some(entry(&CutWeights, SolverName::CutWeights)),
+        26 => Some(entry(&OpenWeights, SolverName::OpenWeights)),
+        27 => Some(entry(&CutOpenWeights, SolverName::CutOpenWeights)),
+        28 => Some(entry(&PlacesMost, SolverName::PlacesMost)),
+        29 => Some(entry(&PlacesLate, SolverName::PlacesLate)),
+        30 => Some(entry(&PlacesCount, SolverName::PlacesCount)),
+        31 => Some(entry(&LevelsSum, SolverName::LevelsSum)),
+        32 => Some(entry(&EqualHeads, SolverName::EqualHeads)),
+        33 => Some(entry(&JacksonCut, SolverName::JacksonCut)),
+        34 => Some(entry(&LinesLate, SolverName::LinesLate)),
+        35 => Some(entry(&LinesCount, SolverName::LinesCount)),
         _ => None,
     }
 }

@@ -40,10 +40,19 @@ fn word(solver: SolverName) -> &'static [u8]
         SolverName::Search => b"search",
         SolverName::TreeDue => b"tree-due",
         SolverName::PairDue => b"pair-due",
+        SolverName::Stairs => b"stairs",
         SolverName::CutSum => b"cut-sum",
         SolverName::CutWeights => b"cut-weights",
         SolverName::OpenWeights => b"open-weights",
         SolverName::CutOpenWeights => b"cut-open-weights",
+        SolverName::PlacesMost => b"places-most",
+        SolverName::PlacesLate => b"places-late",
+        SolverName::PlacesCount => b"places-count",
+        SolverName::LevelsSum => b"levels-sum",
+        SolverName::EqualHeads => b"equal-heads",
+        SolverName::JacksonCut => b"jackson-cut",
+        SolverName::LinesLate => b"lines-late",
+        SolverName::LinesCount => b"lines-count",
     }
 }
 

@@ -29,10 +29,19 @@ pub enum SolverName {
     Search,
     TreeDue,
     PairDue,
+    Stairs,
     CutSum,
     CutWeights,
     OpenWeights,
     CutOpenWeights,
+    PlacesMost,
+    PlacesLate,
+    PlacesCount,
+    LevelsSum,
+    EqualHeads,
+    JacksonCut,
+    LinesLate,
+    LinesCount,
 }
 
 /// A solution of an instance, with the chain of rows that led it to the class of a solver.
