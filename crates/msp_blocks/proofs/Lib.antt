@@ -1,4 +1,3 @@
-pub mod Raising
 pub mod Lists
 pub mod Idle
 pub mod Fill

@@ -30,7 +30,7 @@ use Rattle.msp_schedule.proofs.feasible.LastEnds.{last_end-least}
 use Rattle.msp_schedule.specs.Blocks.{cost_at}
 use Rattle.msp_route.specs.Bounds.{IsAnswer, answer_unit}
 use Rattle.msp_blocks.specs.Blocks.{IsBestCost}
-use Rattle.msp_blocks.specs.Heads.{AreHeads}
+use Rattle.msp_heads.specs.Heads.{AreHeads}
 use Rattle.msp_blocks.specs.Filling.{IsPut, IsFilling, IsBound, CostAtMost, greatest_end}
 use Rattle.msp_blocks.proofs.Bound.{best_by_block, value_is_best}
 use Rattle.msp_route.proofs.OneInstances.{IsOneInstance, IsOneInstance-from, takes_time}

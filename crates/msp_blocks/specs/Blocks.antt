@@ -1,14 +1,14 @@
 -- The two classes that are solved by blocks, and the best cost as the value of a block.
-use Rattle.std.specs.Prelude.{◌≡◌, ℕ, ◌+◌, ◌*◌, true, false, ℤ, ◌*ℤ◌}
+use Rattle.std.specs.Prelude.{◌≡◌, true, false, ℤ, ◌*ℤ◌}
 use Rattle.msp_class.specs.declared.class.Class.{Class}
 use Rattle.msp_class.specs.declared.class.Env.TheVariants.{One}
 use Rattle.msp_class.specs.declared.class.Order.TheVariants.{Prec}
 use Rattle.msp_class.specs.declared.class.Times.TheVariants.{General, Unit}
 use Rattle.msp_class.specs.declared.class.Crit.TheVariants.{Fmax}
 use Rattle.msp_instance.specs.declared.Instance.{Instance}
-use Rattle.msp_instance.specs.declared.ranges.TheConstants.{GREATEST, MOST_JOBS}
 use Rattle.msp_schedule.specs.declared.Schedule.{Schedule}
 use Rattle.msp_schedule.specs.Cost.{cost_of, Best}
+pub use Rattle.msp_heads.specs.Heads.{greatest_head}
 
 -- One machine, preemption, precedence, release dates, any times, and the greatest cost of a job by its curve: `1|pmtn,prec,r|fmax`.
 abbrev pub blocks_class : Class
@@ -17,10 +17,6 @@ blocks_class = record { env = One; cut = true; order = Prec; heads = true; times
 -- The same with unit times in place of preemption: `1|prec,r,p=1|fmax`.
 abbrev pub unit_blocks_class : Class
 unit_blocks_class = record { env = One; cut = false; order = Prec; heads = true; times = Unit; crit = Fmax }
-
--- No head of a job is later than this.
-abbrev pub greatest_head : ℕ
-greatest_head = GREATEST * (2 + MOST_JOBS)
 
 -- The value is the best cost: what each best schedule costs, over its unit.
 abbrev pub IsBestCost : Instance → ℤ → Type 0

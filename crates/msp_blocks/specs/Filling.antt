@@ -7,7 +7,7 @@ use Rattle.msp_schedule.specs.Blocks.{IsBlock, IsBlockValue, cost_at}
 use Rattle.msp_schedule.specs.Intervals.{IsApart, work_of}
 use Rattle.msp_schedule.specs.Piece.{job_of, start, finish, IsTimed}
 use Rattle.msp_schedule.specs.Rows.{piece, time_at}
-use Rattle.msp_blocks.specs.Heads.{head_in}
+use Rattle.msp_heads.specs.Heads.{head_in}
 
 -- When jobs that begin at their heads at the earliest are done one after another on a machine that is free from a moment on.
 abbrev pub done_by : (ℕ → ℕ) → (ℕ → ℕ) → ℕ → List ℕ → ℕ

@@ -7,13 +7,13 @@ ghost use Rattle.msp_instance.specs.Conditions.{Inner};
 ghost use Rattle.msp_schedule.specs.Blocks.{IsBlock, IsBlockValue};
 ghost use Rattle.msp_schedule.specs.Cost.{IsBest};
 ghost use Rattle.msp_route.specs.Bounds.{IsAnswer};
-ghost use Rattle.msp_blocks.specs.Blocks.{blocks_class, unit_blocks_class, greatest_head, IsBestCost};
-ghost use Rattle.msp_blocks.specs.Heads.{AreHeads};
+ghost use Rattle.msp_blocks.specs.Blocks.{blocks_class, unit_blocks_class, IsBestCost};
+ghost use Rattle.msp_heads.specs.Heads.{AreHeads, greatest_head};
 ghost use Rattle.msp_blocks.specs.Filling.{ArePlaced, IsBound, CostAtMost};
 
 use crate::filling::{Bound, Filled, place_all};
-use crate::heads::heads_of;
 use msp_class::{Class, Crit, Env, List, NoMemory, Order, Times};
+use msp_heads::heads_of;
 use msp_instance::Instance;
 use msp_route::{Solver, jobs_by_key};
 use msp_schedule::{Piece, Schedule, Solution};

@@ -5,11 +5,11 @@ ghost use Rattle.msp_instance.specs.declared.ranges.TheConstants.{MOST_JOBS};
 ghost use Rattle.msp_instance.specs.Conditions.{Inner};
 ghost use Rattle.msp_schedule.specs.Blocks.{cost_at};
 ghost use Rattle.msp_schedule.specs.Rows.{time_at};
-ghost use Rattle.msp_blocks.specs.Heads.{head_in, AreHeads};
+ghost use Rattle.msp_heads.specs.Heads.{head_in, AreHeads};
 ghost use Rattle.msp_blocks.specs.Filling.{done_by, gap, gaps, next_head, IsFirstBlock, ArePlaced, IsBound, CostAtMost, KeepsCosts, greatest_end};
 
-use crate::heads::time_of;
 use msp_class::{List, NoMemory};
+use msp_heads::time_of;
 use msp_instance::Instance;
 use msp_route::{last_place, total_time};
 use msp_schedule::{Piece, job_cost_at};

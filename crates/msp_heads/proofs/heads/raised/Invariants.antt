@@ -1,6 +1,6 @@
 use Rattle.std.proofs.Common.{take, slice_index_or}
-use Rattle.msp_blocks.specs.Heads.{IsRaised}
-use Rattle.msp_blocks.proofs.heads.raised.Given as goal
+use Rattle.msp_heads.specs.Heads.{IsRaised}
+use Rattle.msp_heads.proofs.heads.raised.Given as goal
 
 -- the head by the arcs so far
 abbrev pub invariant-loop-arc : goal.invariant-loop-arc

@@ -1,5 +1,5 @@
-use Rattle.msp_blocks.proofs.Raising.{IsHeaded}
-use Rattle.msp_blocks.proofs.heads.put_heads.Given as goal
+use Rattle.msp_heads.proofs.Raising.{IsHeaded}
+use Rattle.msp_heads.proofs.heads.put_heads.Given as goal
 
 -- the jobs before the place have their heads
 abbrev pub invariant-loop-place : goal.invariant-loop-place

@@ -1,10 +1,10 @@
--- Heads raised along the arcs. No public contract cites this file.
-use Rattle.std.specs.Prelude.{◌≡◌, ℕ, ◌+◌, ◌≤◌, ◌<◌, ◌⊎◌, List, length, All, Contains, slice_index_or}
+-- Heads: moments before which jobs on one machine cannot begin, release dates raised along the arcs.
+use Rattle.std.specs.Prelude.{◌≡◌, ℕ, ◌+◌, ◌*◌, ◌≤◌, ◌<◌, ◌⊎◌, List, length, All, Contains, slice_index_or}
 use Rattle.msp_instance.specs.declared.Arc.{Arc}
 use Rattle.msp_instance.specs.declared.Instance.{Instance}
+use Rattle.msp_instance.specs.declared.ranges.TheConstants.{GREATEST, MOST_JOBS}
 use Rattle.msp_instance.specs.Instance.{job_at, need_at}
 use Rattle.msp_schedule.specs.Blocks.{IsSound}
-use Rattle.msp_blocks.specs.Blocks.{greatest_head}
 
 -- The head of a job, by the heads of the jobs from which one of the arcs leads to it: the greatest of its release date and of what these
 -- take from their heads on.
@@ -16,6 +16,10 @@ pub record IsRaised (i : Instance) (arcs : List Arc) (heads : ℕ → ℕ) (job 
 -- The head of a job, of those of all jobs.
 abbrev pub head_in : List ℕ → ℕ → ℕ
 head_in heads j = slice_index_or heads j 0
+
+-- No head is later than this.
+abbrev pub greatest_head : ℕ
+greatest_head = GREATEST * (2 + MOST_JOBS)
 
 -- A head for each job: not before its release date, nor before a job from which an arc leads to it has had its time from its own head on,
 -- and no later than one of these.

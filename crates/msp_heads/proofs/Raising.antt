@@ -12,7 +12,7 @@ use Rattle.msp_instance.specs.Instance.{job_at}
 use Rattle.msp_instance.specs.Conditions.{IsSequence, GoesForward}
 use Rattle.msp_schedule.specs.Rows.{time_at}
 use Rattle.msp_schedule.proofs.lists.ForwardOrders.{at_inside, each_at, set_elsewhere, comes_from}
-use Rattle.msp_blocks.specs.Heads.{IsRaised, AreHeads}
+use Rattle.msp_heads.specs.Heads.{IsRaised, AreHeads}
 use Rattle.msp_route.proofs.OneInstances.{IsOneInstance, is_short, is_early}
 
 -- ---- the arcs of one job

@@ -6,7 +6,7 @@ ghost use Rattle.msp_instance.specs.declared.ranges.TheConstants.{GREATEST, MOST
 ghost use Rattle.msp_instance.specs.Instance.{job_at};
 ghost use Rattle.msp_instance.specs.Conditions.{Inner, IsSequence, GoesForward};
 ghost use Rattle.msp_schedule.specs.Rows.{time_at};
-ghost use Rattle.msp_blocks.specs.Heads.{head_in, IsRaised, AreHeads};
+ghost use Rattle.msp_heads.specs.Heads.{head_in, IsRaised, AreHeads};
 
 use msp_class::NoMemory;
 use msp_instance::{Arc, Instance, OrderFault, arcs_by_after, entering_of, forward};

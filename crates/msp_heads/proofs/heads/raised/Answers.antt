@@ -1,8 +1,8 @@
 use Rattle.std.proofs.Common.{ℕ, get_or, slice_index_or}
 use Rattle.std.proofs.lemmas.List.{get_or_default}
 use Rattle.msp_instance.specs.declared.Arc.{Arc}
-use Rattle.msp_blocks.proofs.Raising.{IsRaised-take}
-use Rattle.msp_blocks.proofs.heads.raised.Goals as goal
+use Rattle.msp_heads.proofs.Raising.{IsRaised-take}
+use Rattle.msp_heads.proofs.heads.raised.Goals as goal
 
 pub loop-arc-preserved : goal.loop-arc-preserved
 loop-arc-preserved c =

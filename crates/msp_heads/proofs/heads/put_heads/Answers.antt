@@ -1,7 +1,7 @@
 use Rattle.std.proofs.Common.{refl, arith}
 use Rattle.msp_route.proofs.OneInstances.{IsOneInstance-from}
-use Rattle.msp_blocks.proofs.Raising.{raised_next, entering_ends, AreHeads-end, job_inside}
-use Rattle.msp_blocks.proofs.heads.put_heads.Goals as goal
+use Rattle.msp_heads.proofs.Raising.{raised_next, entering_ends, AreHeads-end, job_inside}
+use Rattle.msp_heads.proofs.heads.put_heads.Goals as goal
 
 pub raised-requires-clause-inside : goal.raised-requires-clause-inside
 raised-requires-clause-inside c = job_inside c.args.inst.now c.args.order.now c.requires.sequence c.loop-place.place _ c.loop-place-test.true refl
