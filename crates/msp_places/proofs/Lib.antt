@@ -7,3 +7,5 @@ pub mod Charged
 pub mod InTurn
 pub mod MostBest
 pub mod MostSteps
+pub mod AssignedFacts
+pub mod AssignedBest

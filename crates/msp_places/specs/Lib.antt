@@ -4,3 +4,4 @@ pub mod Placed
 pub mod Taken
 pub mod Most
 pub mod Search
+pub mod Assigned

@@ -11,11 +11,14 @@
 #![tactic(auto)]
 
 mod earliest;
+mod late;
 mod laws;
 mod most;
 mod place;
+mod place_costs;
 
 pub use earliest::earliest_places;
+pub use late::{PlacesCount, PlacesLate};
 pub use laws::law_of_earliest_places;
 pub use most::PlacesMost;
 pub use place::Place;
