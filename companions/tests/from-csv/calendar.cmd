@@ -17,3 +17,5 @@ cat days.names
 printf 'job,p,d\nbefore,1,2026-12-24 05:00\nafter,1,2026-12-26 23:30\nSunday,1,2026-12-27 22:30\n' > list.csv
 echo 2026-12-24..2026-12-25 > days.txt
 from-csv '1||Lmax' --scale 2 --time-unit 1h --start '2026-12-23 22:00' --shifts 'Mon-Sun 22:00-06:00' --holidays days.txt < list.csv
+# A day of the clock is no day of the plant: it is told what is counted.
+printf 'job,p,d\nsaw,2,3\n' | from-csv '1||Lmax' --time-unit 8h --date-unit 1d --start '2026-03-02 06:00' --shifts 'Mon-Fri 06:00-14:00' 2>&1
