@@ -8,7 +8,7 @@ from __future__ import annotations
 import itertools
 import re
 from bisect import bisect_left
-from dataclasses import dataclass, field
+from dataclasses import dataclass
 from datetime import date, datetime
 from fractions import Fraction
 
@@ -142,12 +142,11 @@ class Calendar:
     shifts: tuple
     holidays: frozenset
     start: tuple
-    in_week: list = field(init=False)  # (the work of the first days of a week)
-    off: list = field(init=False)  # (the work that the first holidays take away)
 
     def __post_init__(self):
         in_day = [sum(end - begin for begin, end in spans) for spans in self.shifts]
         self.days_off = sorted(self.holidays)
+        # (the work of the first days of a week, and what the first holidays take away)
         self.in_week = list(itertools.accumulate(in_day, initial=0))
         self.off = list(itertools.accumulate((in_day[it % 7] for it in self.days_off), initial=0))
         self.zero = moment_of(self.start)
