@@ -1,13 +1,17 @@
 """What a Gantt chart shows: its lines and pieces, what is late and what overlaps, the moments of its axis, and labels that tell jobs apart."""
 from __future__ import annotations
 
+import itertools
 import re
 from fractions import Fraction
 
+import msp_calendar
 import msp_texts
 from msp_texts import Fault
 
-STEPS = (60, 300, 600, 900, 1800, 3600, 7200, 10800, 21600, 43200, 86400, 172800, 604800, 1209600)  # seconds between dates on the axis
+PAUSES = (0, 7200, 43200, 129600, 345600)  # seconds that pauses last at least, where shorter ones are too many to be drawn
+MOST_PAUSES = 20000
+STEPS = (60, 300, 600, 900, 1800, 3600, 7200, 10800, 21600, 43200, 86400, 172800, 345600, 604800, 1209600)  # seconds between dates on the axis
 IN_WORDS = {"Cmax": "makespan", "Lmax": "greatest lateness", "fmax": "greatest cost", "sumC": "sum of ends", "sumwC": "weighted sum of ends",
             "sumT": "total tardiness", "sumwT": "total weighted tardiness"}
 
@@ -65,8 +69,9 @@ class Chart:
         return [(self.machine(at), [it for it in self.pieces if it.machine == at], None) for at in range(1, self.machines + 1)]
 
     def moment(self, value, ends=False):
-        """A moment as it is written: exact, in the units of the list, or as a date."""
-        return self.units.moment(Fraction(value), ends)
+        """A moment as it is written: exact, in the units of the list, as 3 1/3, or as a date."""
+        text = self.units.moment(Fraction(value), ends)
+        return text if self.units.start else mixed(text)
 
     # The labels
 
@@ -90,7 +95,8 @@ class Chart:
     def note(self, piece):
         """What a piece says of itself."""
         text = f"{self.names[piece.job]}, operation {piece.operation}, {self.machine(piece.machine)}: {self.moment(piece.start)} to {self.moment(piece.end, True)}"
-        text += "; overlaps another piece" if id(piece) in self.overlapping else ""
+        pauses = self.units.pauses(piece.start, piece.end, 3)
+        text += (f"; pauses {pauses}" if pauses else "") + ("; overlaps another piece" if id(piece) in self.overlapping else "")
         return text + (f"; late, due {self.moment(self.late[piece.job], True)}" if piece.job in self.late else "")
 
     def title(self):
@@ -118,6 +124,8 @@ class Chart:
         end = self.span * self.units.factor
         if self.units.start is None:
             return [it / self.units.factor for it in round_numbers(end, most) if it <= end]
+        if self.units.calendar:
+            return self.working_ticks(most)
         step = next((it for it in STEPS if end * 3600 / it <= most), None)
         if step is None:
             step = STEPS[-1]
@@ -130,6 +138,36 @@ class Chart:
         values = [Fraction(first + at * step) / 3600 for at in range(most + 1)]
         return [it / self.units.factor for it in values if it <= end]
 
+    def of_work(self, seconds):
+        """The moment that lies so many seconds of work behind the start."""
+        return seconds / 3600 / self.units.factor
+
+    def working_ticks(self, most):
+        """At most so many moments for the axis: round clock times that are worked, or the begin of work on days at round distances."""
+        calendar = self.units.calendar
+        end = calendar.clock(self.span * self.units.factor * 3600, True)
+        for step in itertools.chain(STEPS, (STEPS[-1] * 2**it for it in range(1, 20))):
+            if end / step > 20 * most:
+                continue
+            clocks = [-calendar.zero % step + at * step for at in range(int(end // step) + 1)]
+            found = list(dict.fromkeys(calendar.work(it) for it in clocks if it < end and (step >= msp_calendar.DAY or calendar.is_worked(it))))
+            if len(found) <= most:
+                break
+        return [self.of_work(it) for it in found]
+
+    def pauses(self, most):
+        """The pauses of the plant up to the end of the schedule, at most so many: how long they last at least, and pairs of a moment and
+        what is said of it."""
+        calendar = self.units.calendar
+        if calendar is None:
+            return 0, []
+        found = list(itertools.islice(calendar.pauses(0, self.span * self.units.factor * 3600), MOST_PAUSES))
+        for least in PAUSES:
+            those = [it for it in found if it[1] - it[0] >= least]
+            if len(those) <= most:
+                break
+        return least, [(self.of_work(calendar.work(it[0])), " to ".join(msp_texts.said_date(calendar.start, one) for one in it)) for it in those[:most]]
+
 
 def round_numbers(end, most):
     """Multiples of a round number, at most so many up to the end."""
@@ -140,6 +178,15 @@ def round_numbers(end, most):
         step /= 10
     step = next((step / it for it in (10, 5, 2) if end / (step / it) <= most and (step / it).denominator == 1), step)
     return [at * step for at in range(most + 1)]
+
+
+def mixed(text):
+    """A number as people read it on an axis: a fraction as 10/3 becomes 3 1/3."""
+    found = re.fullmatch("(-?)([0-9]+)/([0-9]+)", text)
+    if found is None or int(found[2]) < int(found[3]):
+        return text
+    whole, above = divmod(int(found[2]), int(found[3]))
+    return f"{found[1]}{whole} {above}/{found[3]}"
 
 
 def middle(name, fits):
