@@ -60,21 +60,3 @@ def misses(report, text, wanted):
     if wanted.against and cost_by(wanted.against, msp_texts.read_instance(text)) == schedule.cost:
         return f"is solved by {wanted.against}, {RULES[wanted.against][0]}"
     return None
-
-
-# Trees by shape
-
-def tree_of(draws, items, jobs, wanted):
-    """The arcs of a tree of a shape: so many roots, at most so many jobs in a path, at most so many arcs at a job."""
-    roots, depth, width = min(wanted.roots or 1, jobs), wanted.depth or jobs, wanted.width or jobs
-    level, children = {it: 0 for it in range(1, roots + 1)}, dict.fromkeys(range(1, jobs + 1), 0)
-    arcs = []
-    for job in range(roots + 1, jobs + 1):
-        free = [it for it in level if level[it] < depth - 1 and children[it] < width]
-        if not free:
-            raise Misfit("--depth, --width and --roots leave no place for all jobs")
-        parent = free[draws.below(len(free))]
-        level[job], children[parent] = level[parent] + 1, children[parent] + 1
-        arcs.append((parent, job))
-    # (an intree is an outtree turned round, its root the last job)
-    return arcs if "outtree" in items else [(jobs + 1 - job, jobs + 1 - parent) for parent, job in reversed(arcs)]
