@@ -111,12 +111,11 @@ def order_of(lines, instance):
     """The jobs in the order that the lines have, and the cost that they state, where they have nothing else; or None."""
     words, cost = [], None
     for number, fields in lines:
-        if fields[0].lower() == "cost" and len(fields) == 2:
+        word = fields[0].lower().rstrip(":")
+        if word == "cost" and len(fields) == 2:
             cost = msp_texts.decimal(fields[1], f"line {number}")
-        elif fields[0].lower() not in ("order", "end", "schedule"):
-            words += [(it, number) for it in re.split(r"[\s,;]+", " ".join(fields)) if it]
-        elif fields[0].lower() == "order":
-            words += [(it, number) for it in re.split(r"[\s,;:]+", " ".join(fields[1:])) if it]
+        elif word not in ("end", "schedule"):
+            words += [(it, number) for it in re.split(r"[\s,;:]+", " ".join(fields[word == "order":])) if it]
     if not words or any(instance.job(it) is None for it, _ in words):
         return None
     again = next((it for at, (it, _) in enumerate(words) if it in [one for one, _ in words[:at]]), None)

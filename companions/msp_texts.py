@@ -74,6 +74,17 @@ def call(program, words, text=""):
     return got.returncode, got.stdout.decode("utf-8", "replace"), note.removeprefix("msp: ")
 
 
+def best_cost(program, text):
+    """The least cost of an instance, by `solve`, and no note; or None and the note where there is no solver, or the instance is beyond its
+    limit. A fault where the program does not read the text."""
+    status, report, note = call(program, ["solve"], text)
+    if status == 0:
+        return read_schedule(report).cost, ""
+    if status == 5 or note.startswith("limit of the solver"):
+        return None, note
+    raise Fault(note)
+
+
 # Input
 
 def read_bytes(path=None):
@@ -351,20 +362,22 @@ def read_instance_at(path):
         raise Fault(f"{path}: {fault}") from None
 
 
+def cost_at(instance, job, end):
+    """What a job costs where it ends at a moment."""
+    criterion = instance.kind.criterion
+    if criterion == "fmax":
+        steps = zip(job.curve[2::2], job.curve[3::2])
+        value = job.curve[0] * end + job.curve[1] + sum(add for above, add in steps if end > above)
+    else:
+        late = end - job.due if job.due is not None else 0
+        value = {"x": end, "C": end, "U": int(late > 0), "T": max(late, 0)}[criterion[-1]] if criterion != "Lmax" else late
+    return value * (1 if job.weight is None else job.weight)
+
+
 def cost_of(instance, ends):
     """The cost of a schedule in which the jobs end so, by name; every job has an end."""
-    criterion = instance.kind.criterion
-    values = []
-    for job in instance.jobs:
-        end = ends[job.name]
-        if criterion == "fmax":
-            steps = zip(job.curve[2::2], job.curve[3::2])
-            value = job.curve[0] * end + job.curve[1] + sum(add for above, add in steps if end > above)
-        else:
-            late = end - job.due if job.due is not None else 0
-            value = {"x": end, "C": end, "U": int(late > 0), "T": max(late, 0)}[criterion[-1]] if criterion != "Lmax" else late
-        values.append(value * (1 if job.weight is None else job.weight))
-    return Fraction(max(values) if criterion in ("Cmax", "Lmax", "fmax") else sum(values))
+    values = [cost_at(instance, job, ends[job.name]) for job in instance.jobs]
+    return Fraction(max(values) if instance.kind.criterion in ("Cmax", "Lmax", "fmax") else sum(values))
 
 
 # Schedule texts and reports of solve
@@ -392,10 +405,15 @@ class Schedule:
 
     def ends(self):
         """When each job that has a piece ends, by name."""
-        ends = {}
-        for piece in self.pieces:
-            ends[piece.job] = max(piece.end, ends.get(piece.job, piece.end))
-        return ends
+        return ends_of(self.pieces)
+
+
+def ends_of(pieces):
+    """When each job that has one of the pieces ends, by name."""
+    ends = {}
+    for piece in pieces:
+        ends[piece.job] = max(piece.end, ends.get(piece.job, piece.end))
+    return ends
 
 
 def read_schedule(text):
