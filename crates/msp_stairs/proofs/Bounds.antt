@@ -1,5 +1,5 @@
 -- The least bound that can be met: some forced lateness reaches it, so it is that of a best schedule.
-use Rattle.std.proofs.Common.{◌≡◌, ◌≢◌, ℕ, zero, suc, ◌+◌, ◌*◌, ◌<◌, ◌≤◌, ◌⊎◌, inl, inr, Bool, true, false, List, [], ◌∷◌, length, get_or, map, ℤ, pos, nat_abs, ◌+ℤ◌, ◌-ℤ◌, ◌*ℤ◌, ◌≤ℤ◌, ◌<ℤ◌, All, AllPairs, sum_by, refl, sym, ap, subst, subst₂, ◌∙◌, arith}
+use Rattle.std.proofs.Common.{◌≡◌, ℕ, zero, suc, ◌+◌, ◌*◌, ◌<◌, ◌≤◌, ◌⊎◌, inl, inr, Bool, true, false, List, [], ◌∷◌, length, get_or, map, ℤ, pos, nat_abs, ◌+ℤ◌, ◌-ℤ◌, ◌*ℤ◌, ◌≤ℤ◌, ◌<ℤ◌, All, sum_by, refl, sym, ap, subst, subst₂, ◌∙◌, arith}
 use Rattle.std.specs.Prelude.{Option, Some, None, MatchOption, IsTrue, is_some, ◌↔◌}
 use Rattle.std.specs.Int.{int_max}
 use Rattle.std.specs.List.{range_with_len}
@@ -9,7 +9,7 @@ use Rattle.std.proofs.lemmas.List.{length-map}
 use Rattle.std.proofs.lemmas.List.Elements.{All-nil, All-map}
 use Rattle.std.proofs.Math.Nat.{mul-le-mul_left}
 use Rattle.msp_class.specs.Sums.{total_below}
-use Rattle.msp_class.proofs.IntegerRing.{natural, pos-le, le-pos, ≤ℤ_trans, ≤ℤ_refl, ≤ℤ_antisym, ≤ℤ-int_max_left, int_max_mono, *ℤ_comm, *ℤ-mono, *ℤ-cancel, *ℤ-sub}
+use Rattle.msp_class.proofs.IntegerRing.{natural, le-pos, ≤ℤ_trans, ≤ℤ_refl, ≤ℤ_antisym, ≤ℤ-int_max_left, int_max_mono, *ℤ_comm, *ℤ-mono, *ℤ-cancel, *ℤ-sub}
 use Rattle.msp_class.proofs.Sums.{OnceBelow, OnceBelow-range, OnceBelow-from_permutation, length-OnceBelow, total_below-scale}
 use Rattle.msp_instance.specs.declared.Instance.{Instance}
 use Rattle.msp_instance.specs.Instance.{job_at, no_job, no_need}
@@ -27,7 +27,7 @@ use Rattle.msp_stairs.specs.declared.climb.Stair.{Stair}
 use Rattle.msp_stairs.specs.declared.climb.Task.{Task}
 use Rattle.msp_stairs.specs.Stairs.{stairs_class, IsForced}
 use Rattle.msp_stairs.specs.Bounds.{greatest_bound, CanMeet, at, work_at, deadline, AreByDate, IsReady}
-use Rattle.msp_stairs.specs.Steps.{machines_of, ends_of, Holds, Falls, of_all, of_first, IsBelow, level, AreOnStairs, HasClimbed, IsClimbed, IsTooLate, task_for, IsLaid}
+use Rattle.msp_stairs.specs.Steps.{machines_of, ends_of, Falls, of_all, of_first, IsBelow, level, HasClimbed, IsClimbed, IsTooLate, task_for, IsLaid}
 use Rattle.msp_stairs.proofs.Climbing.{Falls-none, AreBacked-none}
 use Rattle.msp_stairs.proofs.Steps.{CanLay, HasClimbed-next, IsTooLate-found}
 use Rattle.msp_stairs.proofs.Laying.{laying}

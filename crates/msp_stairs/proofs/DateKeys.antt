@@ -4,7 +4,6 @@ use Rattle.std.specs.List.{range_with_len}
 use Rattle.std.proofs.lemmas.Int.{ints}
 use Rattle.msp_class.proofs.Sums.{OnceBelow, OnceBelow-from_permutation}
 use Rattle.msp_instance.specs.declared.Instance.{Instance}
-use Rattle.msp_instance.specs.Instance.{job_at}
 use Rattle.msp_stairs.specs.Bounds.{AreByDate}
 use Rattle.msp_stairs.specs.Steps.{AreKeys}
 

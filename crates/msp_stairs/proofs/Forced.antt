@@ -1,5 +1,5 @@
 -- Forced lateness: no schedule has less, and where a job fits on no machine, it is above the bound.
-use Rattle.std.proofs.Common.{◌≡◌, ◌≢◌, ℕ, zero, suc, ◌+◌, ◌*◌, ◌-◌, ◌<◌, ◌≤◌, ◌⊎◌, inl, inr, List, [], ◌∷◌, ◌++◌, length, get_or, map, take, drop, All, AllPairs, Contains, pos, ℤ, nat_abs, ◌+ℤ◌, ◌-ℤ◌, ◌*ℤ◌, ◌≤ℤ◌, ◌<ℤ◌, sum_by, refl, sym, ap, ap₂, subst, subst₂, ◌∙◌, arith}
+use Rattle.std.proofs.Common.{◌≡◌, ◌≢◌, ℕ, zero, suc, ◌+◌, ◌*◌, ◌-◌, ◌<◌, ◌≤◌, inl, inr, List, [], ◌∷◌, ◌++◌, length, get_or, map, take, drop, All, AllPairs, Contains, pos, ℤ, nat_abs, ◌+ℤ◌, ◌-ℤ◌, ◌*ℤ◌, ◌≤ℤ◌, ◌<ℤ◌, sum_by, refl, sym, ap, ap₂, subst, subst₂, ◌∙◌, arith}
 use Rattle.std.specs.Int.{int_max}
 use Rattle.std.proofs.lemmas.Bool.{cases_lt}
 use Rattle.std.proofs.lemmas.Int.{ints}
@@ -7,10 +7,9 @@ use Rattle.std.proofs.lemmas.List.{length-map, map-append, take-append-drop, len
 use Rattle.std.proofs.lemmas.List.Elements.{All-nil, All-cons, All-drop, All-map, All-contains}
 use Rattle.std.proofs.lemmas.List.Kept.{AllPairs-cons}
 use Rattle.std.proofs.lemmas.List.Sums.{sum_by-cons}
-use Rattle.msp_class.specs.declared.class.Crit.TheVariants.{Lmax}
 use Rattle.msp_class.specs.Crit.{is_greatest}
-use Rattle.msp_class.proofs.IntegerRing.{natural, pos-le, le-pos, pos-lt, ≤ℤ_trans, ≤ℤ-<ℤ, ≤ℤ_of_same, ≤ℤ-int_max_left, ≤ℤ-int_max_right, *ℤ-add, add-*ℤ, *ℤ-sub, *ℤ-mono, *ℤ-cancel_lt, *ℤ_assoc, *ℤ_comm, *ℤ-zero, zero-*ℤ, pos-*ℤ-pos}
-use Rattle.msp_class.proofs.Sums.{OnceBelow, OnceBelow-distinct, length-OnceBelow}
+use Rattle.msp_class.proofs.IntegerRing.{natural, le-pos, pos-lt, ≤ℤ_trans, ≤ℤ-<ℤ, ≤ℤ_of_same, ≤ℤ-int_max_left, ≤ℤ-int_max_right, *ℤ-add, *ℤ-sub, *ℤ-mono, *ℤ-cancel_lt, *ℤ_assoc, *ℤ_comm, *ℤ-zero, zero-*ℤ}
+use Rattle.msp_class.proofs.Sums.{OnceBelow, OnceBelow-distinct}
 use Rattle.msp_instance.specs.declared.Instance.{Instance}
 use Rattle.msp_instance.specs.Instance.{job_at}
 use Rattle.msp_schedule.specs.declared.Schedule.{Schedule}
@@ -194,9 +193,11 @@ module _ (i : Instance) (order : List ℕ) (bound : ℤ) (once : OnceBelow (leng
   -- of a job
   job_forced : (x : ℕ) → x < length order → limit_at x < work x → (y : ℤ) × IsForced i y × (bound <ℤ y)
   job_forced x l over =
-      let j = at order x in
-      (pos m *ℤ (pos (time_at i j) -ℤ date j), inl (j, once.within x 0 l, refl),
-      subst (λ z. bound <ℤ z) (sym (*ℤ-sub (pos m) (pos (time_at i j)) (date j))) (above (m * time_at i j) (limit_at x) (pos m *ℤ date j) bound (deadline-late i bound j) over))
+      let j = at order x in (
+        pos m *ℤ (pos (time_at i j) -ℤ date j),
+        inl (j, once.within x 0 l, refl),
+        subst (λ z. bound <ℤ z) (sym (*ℤ-sub (pos m) (pos (time_at i j)) (date j))) (above (m * time_at i j) (limit_at x) (pos m *ℤ date j) bound (deadline-late i bound j) over),
+      )
     where
       above : (w l : ℕ) (d b : ℤ) → (d +ℤ b) ≤ℤ pos l → l < w → b <ℤ (pos w -ℤ d)
       above w l d b h k = omega (arith, ints, h, k)

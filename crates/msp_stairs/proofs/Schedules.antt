@@ -1,5 +1,5 @@
 -- The pieces on the stairs as a schedule: it is feasible, has at most the lateness of the bound, and lies within the bounds of an answer.
-use Rattle.std.proofs.Common.{◌≡◌, ℕ, ◌+◌, ◌*◌, ◌<◌, ◌≤◌, ◌⊎◌, inl, inr, Bool, List, [], ◌∷◌, length, get_or, map, ℤ, pos, neg_ℤ, nat_abs, ◌+ℤ◌, ◌-ℤ◌, ◌*ℤ◌, ◌≤ℤ◌, ◌<ℤ◌, All, Contains, MatchBool, refl, sym, ap, subst, subst₂, ◌∙◌, arith}
+use Rattle.std.proofs.Common.{◌≡◌, ℕ, ◌*◌, ◌<◌, ◌≤◌, inl, inr, Bool, List, [], ◌∷◌, length, get_or, map, ℤ, pos, neg_ℤ, nat_abs, ◌+ℤ◌, ◌-ℤ◌, ◌*ℤ◌, ◌≤ℤ◌, All, MatchBool, sym, ap, subst, ◌∙◌, arith}
 use Rattle.std.specs.Prelude.{◌==◌}
 use Rattle.std.specs.Int.{int_max}
 use Rattle.std.proofs.lemmas.Int.{ints}
@@ -7,11 +7,11 @@ use Rattle.std.proofs.lemmas.List.{get_or_default}
 use Rattle.std.proofs.lemmas.List.Elements.{All-filter, All-contains}
 use Rattle.std.proofs.Math.Nat.{mul-le-mul_right}
 use Rattle.msp_class.specs.declared.environments.EnvKind.{EnvKind}
-use Rattle.msp_class.specs.declared.environments.EnvKind.TheVariants.{Identical, Unrelated}
+use Rattle.msp_class.specs.declared.environments.EnvKind.TheVariants.{Identical}
 use Rattle.msp_class.specs.Crit.{is_greatest}
 use Rattle.msp_class.specs.Env.{kind_of}
-use Rattle.msp_class.proofs.IntegerRing.{≤ℤ_trans, ≤ℤ_total, <ℤ_weak, natural, pos-le, le-pos, ≤ℤ-int_max_left, int_max-least, *ℤ-neg, int_max-right, int_max-left, *ℤ_comm, *ℤ-mono, *ℤ-cancel}
-use Rattle.msp_class.proofs.Sums.{OnceBelow, OnceBelow-contains, length-OnceBelow}
+use Rattle.msp_class.proofs.IntegerRing.{≤ℤ_trans, ≤ℤ_total, <ℤ_weak, natural, pos-le, le-pos, ≤ℤ-int_max_left, int_max-least, *ℤ-neg, int_max-right, int_max-left, *ℤ_comm, *ℤ-mono}
+use Rattle.msp_class.proofs.Sums.{OnceBelow-contains, length-OnceBelow}
 use Rattle.msp_instance.specs.declared.Instance.{Instance}
 use Rattle.msp_instance.specs.Instance.{job_at, no_job}
 use Rattle.msp_instance.specs.Conditions.{LiesWithin}

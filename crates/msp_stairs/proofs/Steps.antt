@@ -1,7 +1,7 @@
 -- One job more: what stays true, and where it fits on no machine.
-use Rattle.std.proofs.Common.{◌≡◌, ◌≢◌, ℕ, suc, ◌+◌, ◌*◌, ◌-◌, ◌<◌, ◌≤◌, ◌⊎◌, inl, inr, true, false, List, [], ◌∷◌, ◌++◌, length, get_or, map, All, AllPairs, pos, ℤ, ◌≤ℤ◌, refl, sym, ap, subst, ◌∙◌, arith, append_assoc}
+use Rattle.std.proofs.Common.{◌≡◌, ℕ, suc, ◌+◌, ◌-◌, ◌<◌, ◌≤◌, inl, inr, true, false, List, [], ◌∷◌, ◌++◌, length, ℤ, sym, ap, subst, ◌∙◌, arith, append_assoc}
 use Rattle.std.proofs.lemmas.List.{length-map, map-append}
-use Rattle.std.proofs.lemmas.List.Elements.{All-nil, All-map}
+use Rattle.std.proofs.lemmas.List.Elements.{All-map}
 use Rattle.msp_class.proofs.Sums.{OnceBelow, length-OnceBelow}
 use Rattle.msp_instance.specs.declared.Instance.{Instance}
 use Rattle.msp_schedule.specs.declared.Piece.{Piece}
@@ -9,7 +9,7 @@ use Rattle.msp_stairs.specs.declared.climb.Stair.{Stair}
 use Rattle.msp_stairs.specs.declared.climb.Task.{Task}
 use Rattle.msp_stairs.specs.Bounds.{at, work_at, deadline}
 use Rattle.msp_stairs.specs.Steps.{ends_of, Falls, IsBelow, AreBacked, parts, AreOnStairs, HaveWork, HasClimbed, IsTooLate, task_for, IsWhole, IsCut, IsLaid}
-use Rattle.msp_stairs.proofs.Climbing.{Falls-raise, Falls-cut, Falls-among, IsBelow-more, AreBacked-whole, AreBacked-cut, found_late}
+use Rattle.msp_stairs.proofs.Climbing.{Falls-raise, Falls-cut, Falls-among, AreBacked-whole, AreBacked-cut, found_late}
 use Rattle.msp_stairs.proofs.Pieces.{ran_to, in_front, AreParts-parts, AreOfJob-one, AreOfJob-two, HaveWork-more}
 
 next : (k : ℕ) → suc k ≡ k + 1

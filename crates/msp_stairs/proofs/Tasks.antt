@@ -7,10 +7,9 @@ use Rattle.msp_instance.specs.declared.Instance.{Instance}
 use Rattle.msp_instance.specs.declared.Job.{Job}
 use Rattle.msp_instance.specs.Instance.{job_at, no_job, no_need}
 use Rattle.msp_instance.specs.Conditions.{LiesWithin}
-use Rattle.msp_schedule.specs.Rows.{time_at}
 use Rattle.msp_schedule.proofs.feasible.OfClass.{IsOfClass}
 use Rattle.msp_stairs.specs.Stairs.{stairs_class}
-use Rattle.msp_stairs.specs.Bounds.{greatest_bound, work_at, deadline}
+use Rattle.msp_stairs.specs.Bounds.{greatest_bound}
 use Rattle.msp_stairs.specs.declared.climb.Task.{Task}
 use Rattle.msp_stairs.specs.Steps.{task_for}
 use Rattle.msp_stairs.proofs.Schedules.{product-small}

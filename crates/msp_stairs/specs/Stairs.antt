@@ -1,5 +1,5 @@
 -- The class that the rule solves, and what its answers cost.
-use Rattle.std.specs.Prelude.{◌≡◌, ◌≢◌, ℕ, ◌*◌, ◌<◌, ◌⊎◌, true, false, List, [], ◌∷◌, ◌++◌, length, ℤ, pos, ◌+ℤ◌, ◌-ℤ◌, ◌*ℤ◌, ◌≤ℤ◌, All, AllPairs, sum_by}
+use Rattle.std.specs.Prelude.{◌≡◌, ◌≢◌, ℕ, ◌<◌, ◌⊎◌, true, false, List, [], ◌∷◌, ◌++◌, length, ℤ, pos, ◌+ℤ◌, ◌-ℤ◌, ◌*ℤ◌, ◌≤ℤ◌, All, AllPairs, sum_by}
 use Rattle.msp_class.specs.declared.class.Class.{Class}
 use Rattle.msp_class.specs.declared.class.Env.TheVariants.{P as Identical}
 use Rattle.msp_class.specs.declared.class.Order.TheVariants.{Free}
@@ -27,15 +27,16 @@ pub record AreDueLast (i : Instance) (last others : List ℕ) : Type 0 where
   pub once : AllPairs (λ a b. a ≢ b) (last ++ others)
   pub dates : All (λ a. All (λ b. (job_at i b).due ≤ℤ (job_at i a).due) others) last
 
--- The lateness that a job has in each schedule, where it begins at moment 0, times the number of machines: its time less its due date.
+-- What no schedule avoids, times the number of machines: of a job its time less its due date, since it ends no sooner than its time is over.
 abbrev pub IsLatenessOfJob : Instance → ℤ → Type 0
 IsLatenessOfJob i x = (j : ℕ) × (j < length i.jobs) × (x ≡ pos i.machines *ℤ (pos (time_at i j) -ℤ (job_at i j).due))
 
--- The average lateness that the last jobs of a set have in each schedule, times the number of machines: the time of the set less their due
--- dates.
+-- And of a set of jobs the time of all less the due dates of those that are due last.
 abbrev pub IsLatenessOfSet : Instance → ℤ → Type 0
-IsLatenessOfSet i x = (last : List ℕ) × (others : List ℕ) × AreDueLast i last others × (x ≡ pos (sum_by (time_at i) (last ++ others)) -ℤ dates_together i last)
+IsLatenessOfSet i x = (last : List ℕ) × (others : List ℕ) × AreDueLast i last others
+    × (x ≡ pos (sum_by (time_at i) (last ++ others)) -ℤ dates_together i last)
 
+-- One of the two.
 abbrev pub IsForced : Instance → ℤ → Type 0
 IsForced i x = IsLatenessOfJob i x ⊎ IsLatenessOfSet i x
 

@@ -1,5 +1,5 @@
 -- The stairs of machines by falling ends, and the jobs that are laid on them. No public contract cites this file.
-use Rattle.std.specs.Prelude.{◌≡◌, ◌≢◌, ℕ, zero, suc, ◌+◌, ◌*◌, ◌-◌, ◌<◌, ◌≤◌, ◌⊎◌, Bool, true, false, ltb, cond, List, [], ◌∷◌, ◌++◌, length, map, pos, ℤ, ◌+ℤ◌, ◌^◌, All, AllPairs, ⊤, slice_index_or, slice_set, remove}
+use Rattle.std.specs.Prelude.{◌≡◌, ℕ, zero, suc, ◌+◌, ◌*◌, ◌<◌, ◌≤◌, ◌⊎◌, Bool, true, false, ltb, cond, List, [], ◌∷◌, ◌++◌, length, map, pos, ℤ, ◌+ℤ◌, ◌^◌, All, AllPairs, ⊤, slice_index_or, slice_set, remove}
 use Rattle.std.specs.List.{range_with_len}
 use Rattle.msp_class.proofs.Sums.{OnceBelow}
 use Rattle.msp_instance.specs.declared.Instance.{Instance}

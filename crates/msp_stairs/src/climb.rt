@@ -97,12 +97,7 @@ fn too_high(stairs: &[Stair], task: &Task) -> usize
 }
 
 /// Puts a piece of the job on the machine up to the end, and none where the machine is busy up to then.
-fn put_part(
-    pieces: &mut List<Piece>,
-    stair: &Stair,
-    job: u32,
-    end: u64,
-) -> Result<(), NoMemory>
+fn put_part(pieces: &mut List<Piece>, stair: &Stair, job: u32, end: u64) -> Result<(), NoMemory>
     ensures { OnOk result (pieces.new ≡ pieces.old ++ parts job stair.now.machine stair.now.end end) }
 {
     if stair.end < end {
@@ -179,11 +174,7 @@ fn lay_cut(
 }
 
 /// Runs the whole task on the first machine.
-fn lay_whole(
-    stairs: &mut Vec<Stair>,
-    pieces: &mut List<Piece>,
-    task: &Task,
-) -> Result<(), NoMemory>
+fn lay_whole(stairs: &mut Vec<Stair>, pieces: &mut List<Piece>, task: &Task) -> Result<(), NoMemory>
     requires low { HasTooHigh task.now stairs.old.items 0 }
     requires some { 0 < length stairs.old.items }
     ensures { OnOk result (IsWhole task.now stairs.old.items pieces.old stairs.new.items pieces.new) }
@@ -195,11 +186,7 @@ fn lay_whole(
 }
 
 /// Lays the task on the stairs, and says whether it ends by its deadline.
-fn lay(
-    stairs: &mut Vec<Stair>,
-    pieces: &mut List<Piece>,
-    task: &Task,
-) -> Result<bool, NoMemory>
+fn lay(stairs: &mut Vec<Stair>, pieces: &mut List<Piece>, task: &Task) -> Result<bool, NoMemory>
     requires some { 0 < length stairs.old.items }
     requires falls { Falls task.now.due (ends_of stairs.old.items) }
     ensures { IfOk result (λ ends. IsLaid task.now stairs.old.items pieces.old ends stairs.new.items pieces.new) }

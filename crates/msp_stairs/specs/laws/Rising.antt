@@ -1,5 +1,5 @@
 -- What meets a bound meets each greater one.
-use Rattle.std.proofs.Common.{ℤ, pos, nat_abs, ◌≡◌, ◌*ℤ◌, ◌≤ℤ◌, sym, subst, arith}
+use Rattle.std.proofs.Common.{ℤ, nat_abs, ◌*ℤ◌, ◌≤ℤ◌, sym, subst, arith}
 use Rattle.std.proofs.lemmas.Int.{ints}
 use Rattle.msp_class.proofs.IntegerRing.{≤ℤ_trans, natural, *ℤ-mono_right}
 use Rattle.msp_instance.specs.declared.Instance.{Instance}

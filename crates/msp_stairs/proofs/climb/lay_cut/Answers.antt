@@ -1,4 +1,3 @@
-use Rattle.std.proofs.Common.{arith}
 use Rattle.msp_stairs.proofs.Laying.{between, cut_done}
 use Rattle.msp_stairs.proofs.climb.lay_cut.Goals as goal
 
