@@ -1,0 +1,10 @@
+mod Climbing
+mod Pieces
+mod Steps
+mod Room
+mod Forced
+mod Schedules
+mod Laying
+mod Bounds
+mod DateKeys
+mod Tasks

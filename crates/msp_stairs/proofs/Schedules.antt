@@ -1,0 +1,187 @@
+-- The pieces on the stairs as a schedule: it is feasible, has at most the lateness of the bound, and lies within the bounds of an answer.
+use Rattle.std.proofs.Common.{◌≡◌, ℕ, ◌*◌, ◌<◌, ◌≤◌, inl, inr, Bool, List, [], ◌∷◌, length, get_or, map, ℤ, pos, neg_ℤ, nat_abs, ◌+ℤ◌, ◌-ℤ◌, ◌*ℤ◌, ◌≤ℤ◌, All, MatchBool, sym, ap, subst, ◌∙◌, arith}
+use Rattle.std.specs.Prelude.{◌==◌}
+use Rattle.std.specs.Int.{int_max}
+use Rattle.std.proofs.lemmas.Int.{ints}
+use Rattle.std.proofs.lemmas.List.{get_or_default}
+use Rattle.std.proofs.lemmas.List.Elements.{All-filter, All-contains}
+use Rattle.std.proofs.Math.Nat.{mul-le-mul_right}
+use Rattle.msp_class.specs.declared.environments.EnvKind.{EnvKind}
+use Rattle.msp_class.specs.declared.environments.EnvKind.TheVariants.{Identical}
+use Rattle.msp_class.specs.Crit.{is_greatest}
+use Rattle.msp_class.specs.Env.{kind_of}
+use Rattle.msp_class.proofs.IntegerRing.{≤ℤ_trans, ≤ℤ_total, <ℤ_weak, natural, pos-le, le-pos, ≤ℤ-int_max_left, int_max-least, *ℤ-neg, int_max-right, int_max-left, *ℤ_comm, *ℤ-mono}
+use Rattle.msp_class.proofs.Sums.{OnceBelow-contains, length-OnceBelow}
+use Rattle.msp_instance.specs.declared.Instance.{Instance}
+use Rattle.msp_instance.specs.Instance.{job_at, no_job}
+use Rattle.msp_instance.specs.Conditions.{LiesWithin}
+use Rattle.msp_schedule.specs.declared.Piece.{Piece}
+use Rattle.msp_schedule.specs.declared.Schedule.{Schedule}
+use Rattle.msp_schedule.specs.Piece.{job_of, length_of, pieces_of, start, finish, IsTimed}
+use Rattle.msp_schedule.specs.Feasible.{Feasible, HasPlace, HasOperation, MayRun, FollowsRoute, GetsWork, IsWholeWork, total, whole_work, work_of as part_of}
+use Rattle.msp_schedule.specs.Intervals.{work_of}
+use Rattle.msp_schedule.specs.Cost.{end_of, cost_of, job_cost}
+use Rattle.msp_schedule.specs.Rows.{time_at}
+use Rattle.msp_schedule.proofs.lists.Intervals.{piece_of}
+use Rattle.msp_schedule.proofs.feasible.LastEnds.{last_end-least}
+use Rattle.msp_schedule.proofs.feasible.OfClass.{IsOfClass}
+use Rattle.msp_schedule.proofs.feasible.OneMachine.{apart_in_int, pieces_of-job, total_lengths}
+use Rattle.msp_schedule.proofs.feasible.OneRow.{ordered_without_arcs}
+use Rattle.msp_schedule.proofs.costs.Charges.{cost_of-least}
+use Rattle.msp_route.specs.Bounds.{IsAnswer, answer_unit}
+use Rattle.msp_stairs.specs.declared.climb.Stair.{Stair}
+use Rattle.msp_stairs.specs.Stairs.{stairs_class}
+use Rattle.msp_stairs.specs.Bounds.{greatest_bound, CanMeet, work_at, deadline, at}
+use Rattle.msp_stairs.specs.Steps.{HasClimbed, IsClimbed}
+use Rattle.msp_stairs.proofs.Steps.{CanLay}
+
+abbrev pub stairs_schedule : Instance → List Piece → Schedule
+stairs_schedule i ps = record { unit = pos i.machines; pieces = ps }
+
+-- a deadline that a piece keeps is not cut off at 0
+deadline-exact : (i : Instance) (bound : ℤ) (j : ℕ) → 0 < deadline i bound j → pos (deadline i bound j) ≡ (pos i.machines *ℤ (job_at i j).due) +ℤ bound
+deadline-exact i bound j some = by ((pos i.machines *ℤ (job_at i j).due) +ℤ bound) some
+  where
+    by : (z : ℤ) → 0 < nat_abs (int_max (pos 0) z) → pos (nat_abs (int_max (pos 0) z)) ≡ z
+    by z l = elim (≤ℤ_total (pos 0) z) [
+      | inl above ↦ ap (λ x. pos (nat_abs x)) (int_max-right (pos 0) z above) ∙ sym (natural z above)
+      | inr below ↦ absurd (never (subst (λ x. 0 < nat_abs x) (int_max-left (pos 0) z (<ℤ_weak below)) l))
+    ]
+      where
+        never : 0 < nat_abs (pos 0) → ⊥
+        never l = omega (arith, l)
+
+-- and it is not large
+pub product-small : (m : ℕ) (x : ℤ) (c : ℕ) → m ≤ 32 → LiesWithin c x → LiesWithin (32 * c) (pos m *ℤ x)
+product-small m x c l h = (low, high)
+  where
+    few : m * c ≤ 32 * c
+    few = mul-le-mul_right c l
+
+    high : (pos m *ℤ x) ≤ℤ pos (32 * c)
+    high = ≤ℤ_trans (*ℤ-mono m h.1) (pos-le few)
+
+    low : neg_ℤ (pos (32 * c)) ≤ℤ (pos m *ℤ x)
+    low = ≤ℤ_trans (turned (m * c) (32 * c) few) (subst (λ z. z ≤ℤ (pos m *ℤ x)) (*ℤ-neg (pos m) (pos c)) (*ℤ-mono m h.0))
+      where
+        turned : (a b : ℕ) → a ≤ b → neg_ℤ (pos b) ≤ℤ neg_ℤ (pos a)
+        turned a b l = omega (arith, ints, l)
+
+-- a due date, times the number of machines and with a bound
+pub due-within : (i : Instance) → IsOfClass i stairs_class → (j : ℕ) → j < length i.jobs → LiesWithin 64000000000 (pos i.machines *ℤ (job_at i j).due)
+due-within i h j l = product-small i.machines (job_at i j).due 2000000000 h.machines (h.jobs j no_job l).due
+
+pub deadline-small : (i : Instance) → IsOfClass i stairs_class → (bound : ℤ) → LiesWithin greatest_bound bound → (j : ℕ) → j < length i.jobs → deadline i bound j ≤ 20064000000000
+deadline-small i h bound small j l = by ((pos i.machines *ℤ (job_at i j).due) +ℤ bound) (added (pos i.machines *ℤ (job_at i j).due) bound (due-within i h j l).1 small.1)
+  where
+    added : (x y : ℤ) → x ≤ℤ pos 64000000000 → y ≤ℤ pos 20000000000000 → (x +ℤ y) ≤ℤ pos 20064000000000
+    added x y h k = omega (arith, ints, h, k)
+
+    by : (z : ℤ) → z ≤ℤ pos 20064000000000 → nat_abs (int_max (pos 0) z) ≤ 20064000000000
+    by z l = le-pos (subst (λ x. x ≤ℤ pos 20064000000000) (natural (int_max (pos 0) z) (≤ℤ-int_max_left (pos 0) z)) (int_max-least (omega (arith, ints)) l))
+
+module _ (i : Instance) (h : IsOfClass i stairs_class) (order : List ℕ) (bound : ℤ) (can : CanLay i order bound) (ps : List Piece) (made : IsClimbed i order bound ps) where
+  abbrev n : ℕ
+  n = length i.jobs
+
+  abbrev stairs : List Stair
+  stairs = made.0
+
+  abbrev c : HasClimbed i order bound (length order) stairs ps
+  c = made.1
+
+  abbrev s : Schedule
+  s = stairs_schedule i ps
+
+  many : length order ≡ n
+  many = length-OnceBelow can.once
+
+  job_inside : All (λ p. p.job < n) ps
+  job_inside k d l = let (x, b, e) = c.worked.jobs k d l in subst (λ j. j < n) (sym e) (can.once.within x 0 b)
+
+  -- a job has its place in the order
+  each_job : (Q : ℕ → Type 0) → ((x : ℕ) → x < length order → Q (at order x)) → (j : ℕ) → j < n → Q j
+  each_job Q q j l = let (x, b, e) = OnceBelow-contains can.once j l in subst Q (found x b e) (q x b)
+    where
+      found : (x : ℕ) → x < length order → get_or order x j ≡ j → at order x ≡ j
+      found x b e = get_or_default order x 0 j b ∙ e
+
+  -- ---- feasible
+  places : All (HasPlace i) ps
+  places k d l = record {
+    job = job_inside k d l;
+    operation = subst (λ x. HasOperation x i (get_or ps k d).job (get_or ps k d).op) (sym h.kind) (c.on_stairs.place k d l).0;
+    machine = subst (λ x. MayRun x i (get_or ps k d).job (get_or ps k d).op (get_or ps k d).machine) (sym h.kind) (c.on_stairs.place k d l).1;
+  }
+
+  released : All (λ p. (pos i.machines *ℤ pos (job_at i p.job).release) ≤ℤ p.from) ps
+  released k d l = by (get_or ps k d).from _ i.machines (job_at i (get_or ps k d).job).release (c.on_stairs.timed k d l).from (h.jobs (get_or ps k d).job no_job (job_inside k d l)).release
+    where
+      by : (x : ℤ) (n m r : ℕ) → x ≡ pos n → r ≡ 0 → (pos m *ℤ pos r) ≤ℤ x
+      by x n m r e z = subst (λ y. (pos m *ℤ pos y) ≤ℤ x) (sym z) (omega (arith, ints, e))
+
+  module _ (j : ℕ) (small : j < n) where
+    adds_up : total (map length_of (pieces_of s j 0)) ≡ pos i.machines *ℤ pos (time_at i j)
+    adds_up =
+        ap (λ l. total (map length_of l)) (pieces_of-job s j (λ k d l. (c.on_stairs.place k d l).0))
+        ∙ total_lengths _ (All-filter (λ p. p.job == j) IsTimed ps c.on_stairs.timed)
+        ∙ ap pos (each_job (λ j. work_of job_of start finish ps j ≡ work_at i j) c.worked.work j small)
+
+    abbrev Gets : EnvKind → ℕ → Bool → Type 0
+    Gets x n b = MatchBool b (total (map (part_of x i) (pieces_of s j n)) ≡ pos i.machines *ℤ pos (whole_work x i j n)) ((p : Piece) × (pieces_of s j n ≡ p ∷ []) × IsWholeWork x i (pos i.machines) p)
+
+    works : (n : ℕ) → HasOperation (kind_of i.class.env) i j n → GetsWork i s j n
+    works n op =
+        let zero_op : n ≡ 0 = subst (λ x. HasOperation x i j n) h.kind op in
+        subst (λ x. Gets x n i.class.cut) (sym h.kind) (subst (λ z. Gets Identical z i.class.cut) (sym zero_op) (subst (Gets Identical 0) (sym h.cut) adds_up))
+
+  pub is_feasible : Feasible i s
+  is_feasible = record {
+    unit = omega (arith, ints, h.machine);
+    span = λ k d l. let t = c.on_stairs.timed k d l in (omega (arith, ints, t.from), omega (arith, ints, t.from, t.to, t.lasts));
+    place = places;
+    machine = λ a b d m k e. apart_in_int _ _ (c.on_stairs.timed a d (omega arith)) (c.on_stairs.timed b d k) (c.on_stairs.apart a b d m k e);
+    job = λ a b d m k e. apart_in_int _ _ (c.on_stairs.timed a d (omega arith)) (c.on_stairs.timed b d k) (c.worked.apart a b d m k e);
+    release = released;
+    arc = ordered_without_arcs i.arcs ps h.arcs;
+    route = subst (λ x. FollowsRoute x ps) (sym h.kind) tt;
+    work = λ j n l op. works j l n op;
+  }
+
+  -- ---- in time
+  some_deadline : (j : ℕ) → j < n → 0 < deadline i bound j
+  some_deadline j l =
+      let (q, among, mine, lasts) = piece_of job_of start finish ps j (subst (λ w. 0 < w) (sym (each_job (λ j. work_of job_of start finish ps j ≡ work_at i j) c.worked.work j l)) (each_job (λ j. 0 < work_at i j) (λ x b. omega (arith, can.works x b)) j l)) in
+      let late = All-contains (λ p. finish p ≤ deadline i bound p.job) ps q c.worked.ends among in
+      omega (arith, lasts, subst (λ x. finish q ≤ deadline i bound x) mine late)
+
+  job_in_time : (j : ℕ) → j < n → end_of s j ≤ℤ ((pos i.machines *ℤ (job_at i j).due) +ℤ bound)
+  job_in_time j l = subst (λ x. end_of s j ≤ℤ x) (deadline-exact i bound j (some_deadline j l))
+      (last_end-least ps j (pos (deadline i bound j)) (pos-le (omega arith)) (λ k d b e. by (get_or ps k d) (c.on_stairs.timed k d b) (subst (λ x. finish (get_or ps k d) ≤ deadline i bound x) e (c.worked.ends k d b))))
+    where
+      by : (p : Piece) → IsTimed p → finish p ≤ deadline i bound j → p.to ≤ℤ pos (deadline i bound j)
+      by p t l = subst (λ x. x ≤ℤ pos (deadline i bound j)) (sym t.to) (pos-le l)
+
+  pub at_most_bound : cost_of i s ≤ℤ bound
+  at_most_bound = cost_of-least i s bound (ap is_greatest h.crit) (omega (arith, h.some)) (λ j l. subst (λ x. job_cost x (pos i.machines) (job_at i j) (end_of s j) ≤ℤ bound) (sym h.crit) (moved (end_of s j) (pos i.machines *ℤ (job_at i j).due) (job_in_time j l)))
+    where
+      moved : (x y : ℤ) → x ≤ℤ (y +ℤ bound) → (x -ℤ y) ≤ℤ bound
+      moved x y l = omega (arith, ints, l)
+
+  pub meets : CanMeet i bound
+  meets = (s, is_feasible, subst (λ x. (pos i.machines *ℤ cost_of i s) ≤ℤ x) (*ℤ_comm (pos i.machines) bound) (*ℤ-mono i.machines at_most_bound))
+
+  -- ---- bounds
+  module _ (small : LiesWithin greatest_bound bound) where
+    moments : All (λ p. p.to ≤ℤ pos 20064000000000) ps
+    moments k d l = by (get_or ps k d) (c.on_stairs.timed k d l) (omega (arith, c.worked.ends k d l, deadline-small i h bound small (get_or ps k d).job (job_inside k d l)))
+      where
+        by : (p : Piece) → IsTimed p → finish p ≤ 20064000000000 → p.to ≤ℤ pos 20064000000000
+        by p t l = subst (λ x. x ≤ℤ pos 20064000000000) (sym t.to) (pos-le l)
+
+    pub is_answer : IsAnswer i s
+    is_answer = record {
+      few = omega (arith, c.worked.few, many, h.few);
+      unit = subst (λ k. pos i.machines ≤ℤ answer_unit k) (sym h.kind) (omega (arith, ints, h.machines));
+      ends = λ k d l. ≤ℤ_trans (moments k d l) (omega (arith, ints));
+    }

@@ -1,0 +1,55 @@
+use Rattle.std.proofs.Common.{◌<◌, get_or, length, pos, ◌-ℤ◌, ◌*ℤ◌, sym, ap, ap₂, subst, ◌∙◌, arith}
+use Rattle.msp_instance.specs.Instance.{no_need}
+use Rattle.msp_stairs.proofs.Tasks.{job_read, date_read, date_kept, date_held}
+use Rattle.msp_stairs.proofs.Bounds.{h, some_order, few_order, first_inside, order_inside, time_short, range_is}
+use Rattle.msp_stairs.proofs.search.first_range.Goals as goal
+
+pub bounds-order-0 : goal.bounds-order-0
+bounds-order-0 c = some_order c.args.inst.now c.args.order.now c.requires.ready
+
+pub bounds-as_slice-order : goal.bounds-as_slice-order
+bounds-as_slice-order c = subst (λ xs. get_or c.args.order.now 0 0 < length xs) (sym c.as_slice.ensures) (first_inside c.args.inst.now c.args.order.now c.requires.ready)
+
+pub total_time-all-requires-clause-few : goal.total_time-all-requires-clause-few
+total_time-all-requires-clause-few c = few_order c.args.inst.now c.args.order.now c.requires.ready
+
+pub total_time-all-requires-clause-jobs : goal.total_time-all-requires-clause-jobs
+total_time-all-requires-clause-jobs c = order_inside c.args.inst.now c.args.order.now c.requires.ready
+
+pub over_machines-requires-clause-time : goal.over_machines-requires-clause-time
+over_machines-requires-clause-time c =
+    let i = c.args.inst.now in
+    let order = c.args.order.now in
+    let inside = first_inside i order c.requires.ready in
+    let read = job_read i c.as_slice.result.now (get_or order 0 0) c.index-as_slice-order.result c.as_slice.ensures inside c.index-as_slice-order.is in
+    omega (arith, c.first_time-alone.ensures ∙ ap (λ ns. (get_or ns 0 no_need).time) c.as_slice-2.ensures ∙ ap (λ j. (get_or j.needs 0 no_need).time) read, time_short i order c.requires.ready (get_or order 0 0) inside)
+
+pub over_machines-requires-clause-date : goal.over_machines-requires-clause-date
+over_machines-requires-clause-date c =
+    let i = c.args.inst.now in
+    let order = c.args.order.now in
+    let inside = first_inside i order c.requires.ready in
+    let read = job_read i c.as_slice.result.now (get_or order 0 0) c.index-as_slice-order.result c.as_slice.ensures inside c.index-as_slice-order.is in
+    date_held c.index-as_slice-order.result.due (date_read i (h i order c.requires.ready) (get_or order 0 0) c.index-as_slice-order.result inside read)
+
+pub over_machines-requires-2-clause-date : goal.over_machines-requires-2-clause-date
+over_machines-requires-2-clause-date c =
+    let i = c.args.inst.now in
+    let order = c.args.order.now in
+    let inside = first_inside i order c.requires.ready in
+    let read = job_read i c.as_slice.result.now (get_or order 0 0) c.index-as_slice-order.result c.as_slice.ensures inside c.index-as_slice-order.is in
+    date_held c.index-as_slice-order.result.due (date_read i (h i order c.requires.ready) (get_or order 0 0) c.index-as_slice-order.result inside read)
+
+pub returns : goal.returns
+returns c =
+    let i = c.args.inst.now in
+    let order = c.args.order.now in
+    let inside = first_inside i order c.requires.ready in
+    let job = c.index-as_slice-order.result in
+    let read = job_read i c.as_slice.result.now (get_or order 0 0) job c.as_slice.ensures inside c.index-as_slice-order.is in
+    let due = date_kept job.due (date_read i (h i order c.requires.ready) (get_or order 0 0) job inside read) ∙ ap (λ j. j.due) read in
+    let alone = c.first_time-alone.ensures ∙ ap (λ ns. (get_or ns 0 no_need).time) c.as_slice-2.ensures ∙ ap (λ j. (get_or j.needs 0 no_need).time) read in
+    range_is i order c.requires.ready c.over_machines.result c.over_machines-2.result
+    (c.over_machines.ensures.value ∙ ap₂ (λ t d. pos i.machines *ℤ (pos t -ℤ d)) alone due)
+    (c.over_machines-2.ensures.value ∙ ap₂ (λ t d. pos i.machines *ℤ (pos t -ℤ d)) c.total_time-all.ensures.value due)
+    c.over_machines.ensures.size c.over_machines-2.ensures.size

@@ -1,0 +1,41 @@
+-- Bounds on the greatest lateness, times the number of machines. No public contract cites this file.
+use Rattle.std.specs.Prelude.{◌≡◌, ℕ, ◌*◌, ◌^◌, List, length, ℤ, pos, nat_abs, ◌+ℤ◌, ◌*ℤ◌, ◌≤ℤ◌, AllPairs, IsPermutation, slice_index_or}
+use Rattle.std.specs.List.{range_with_len}
+use Rattle.std.specs.Int.{int_max}
+use Rattle.msp_instance.specs.declared.Instance.{Instance}
+use Rattle.msp_instance.specs.Instance.{job_at}
+use Rattle.msp_instance.specs.Conditions.{Inner}
+use Rattle.msp_schedule.specs.declared.Schedule.{Schedule}
+use Rattle.msp_schedule.specs.Feasible.{Feasible}
+use Rattle.msp_schedule.specs.Cost.{cost_of}
+use Rattle.msp_schedule.specs.Rows.{time_at}
+use Rattle.msp_stairs.specs.Stairs.{stairs_class}
+
+-- No bound is greater in size: all jobs together take less, and no due date is further away.
+abbrev pub greatest_bound : ℕ
+greatest_bound = 2 * 10 ^ 13
+
+-- Some feasible schedule has at most the lateness.
+abbrev pub CanMeet : Instance → ℤ → Type 0
+CanMeet i bound = (s : Schedule) × Feasible i s × ((pos i.machines *ℤ cost_of i s) ≤ℤ (bound *ℤ s.unit))
+
+-- The time of a job, and the moment by which it has to end for the bound, over the number of machines.
+abbrev pub work_at : Instance → ℕ → ℕ
+work_at i j = i.machines * time_at i j
+
+abbrev pub deadline : Instance → ℤ → ℕ → ℕ
+deadline i bound j = nat_abs (int_max (pos 0) ((pos i.machines *ℤ (job_at i j).due) +ℤ bound))
+
+abbrev pub at : List ℕ → ℕ → ℕ
+at xs k = slice_index_or xs k 0
+
+-- All jobs by due date.
+pub record AreByDate (i : Instance) (order : List ℕ) : Type 0 where
+  pub all : IsPermutation (range_with_len 0 (length i.jobs)) order
+  pub rising : AllPairs (λ a b. (job_at i a).due ≤ℤ (job_at i b).due) order
+
+-- The instance is of the class, and these are its jobs by due date.
+pub record IsReady (i : Instance) (order : List ℕ) : Type 0 where
+  pub inner : Inner i
+  pub class : i.class ≡ stairs_class
+  pub by_date : AreByDate i order

@@ -1,0 +1,4 @@
+pub mod Stairs
+pub mod Bounds
+pub mod Steps
+pub mod laws

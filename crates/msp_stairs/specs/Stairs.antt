@@ -1,0 +1,46 @@
+-- The class that the rule solves, and what its answers cost.
+use Rattle.std.specs.Prelude.{◌≡◌, ◌≢◌, ℕ, ◌<◌, ◌⊎◌, true, false, List, [], ◌∷◌, ◌++◌, length, ℤ, pos, ◌+ℤ◌, ◌-ℤ◌, ◌*ℤ◌, ◌≤ℤ◌, All, AllPairs, sum_by}
+use Rattle.msp_class.specs.declared.class.Class.{Class}
+use Rattle.msp_class.specs.declared.class.Env.TheVariants.{P as Identical}
+use Rattle.msp_class.specs.declared.class.Order.TheVariants.{Free}
+use Rattle.msp_class.specs.declared.class.Times.TheVariants.{General}
+use Rattle.msp_class.specs.declared.class.Crit.TheVariants.{Lmax}
+use Rattle.msp_instance.specs.declared.Instance.{Instance}
+use Rattle.msp_instance.specs.Instance.{job_at}
+use Rattle.msp_schedule.specs.declared.Frac.{Frac}
+use Rattle.msp_schedule.specs.Fraction.{IsOver}
+use Rattle.msp_schedule.specs.Rows.{time_at}
+
+-- Identical machines, preemption, neither precedence nor release dates, any times, and the greatest lateness: `P|pmtn|Lmax`.
+abbrev pub stairs_class : Class
+stairs_class = record { env = Identical; cut = true; order = Free; heads = false; times = General; crit = Lmax }
+
+-- The due dates of the jobs together.
+abbrev pub dates_together : Instance → List ℕ → ℤ
+dates_together i [] = pos 0
+dates_together i (j ∷ js) = (job_at i j).due +ℤ dates_together i js
+
+-- A set of jobs, of which as many as there are machines are due last: none of the others is due later than any of these.
+pub record AreDueLast (i : Instance) (last others : List ℕ) : Type 0 where
+  pub many : length last ≡ i.machines
+  pub jobs : All (λ j. j < length i.jobs) (last ++ others)
+  pub once : AllPairs (λ a b. a ≢ b) (last ++ others)
+  pub dates : All (λ a. All (λ b. (job_at i b).due ≤ℤ (job_at i a).due) others) last
+
+-- What no schedule avoids, times the number of machines: of a job its time less its due date, since it ends no sooner than its time is over.
+abbrev pub IsLatenessOfJob : Instance → ℤ → Type 0
+IsLatenessOfJob i x = (j : ℕ) × (j < length i.jobs) × (x ≡ pos i.machines *ℤ (pos (time_at i j) -ℤ (job_at i j).due))
+
+-- And of a set of jobs the time of all less the due dates of those that are due last.
+abbrev pub IsLatenessOfSet : Instance → ℤ → Type 0
+IsLatenessOfSet i x = (last : List ℕ) × (others : List ℕ) × AreDueLast i last others
+    × (x ≡ pos (sum_by (time_at i) (last ++ others)) -ℤ dates_together i last)
+
+-- One of the two.
+abbrev pub IsForced : Instance → ℤ → Type 0
+IsForced i x = IsLatenessOfJob i x ⊎ IsLatenessOfSet i x
+
+-- The cost is the greatest of these: of the time of a job less its due date, and of the time of at least m jobs less their m greatest due
+-- dates, over m, where there are m machines.
+abbrev pub IsStairsCost : Instance → Frac → Type 0
+IsStairsCost i cost = (x : ℤ) × IsForced i x × ((y : ℤ) → IsForced i y → y ≤ℤ x) × IsOver cost x (pos i.machines)

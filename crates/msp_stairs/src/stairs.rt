@@ -1,0 +1,69 @@
+// The solver.
+ghost use Rattle.std.specs.Prelude.{◌≡◌, IfOk, ⊤};
+ghost use Rattle.msp_instance.specs.Conditions.{Inner};
+ghost use Rattle.msp_schedule.specs.Cost.{IsBest};
+ghost use Rattle.msp_route.specs.Bounds.{IsAnswer};
+ghost use Rattle.msp_stairs.specs.Stairs.{stairs_class, IsStairsCost};
+
+use crate::climb::climbed;
+use crate::dates::jobs_by_date;
+use crate::search::least_bound;
+use msp_class::{Class, Crit, Env, NoMemory, Order, Times};
+use msp_instance::Instance;
+use msp_route::Solver;
+use msp_schedule::{Frac, Schedule, Solution};
+use std::alloc::Global;
+
+/// The class that the rule solves: `P|pmtn|Lmax`.
+const STAIRS_CLASS: Class = Class {
+    env: Env::P,
+    cut: true,
+    order: Order::Free,
+    heads: false,
+    times: Times::General,
+    crit: Crit::Lmax,
+};
+
+/// Finds a schedule of least greatest lateness on identical machines, where jobs may be cut: by due date, on the stairs of the machines by
+/// falling ends, for the least bound that can be met (Horn 1974; Sahni 1979). The unit is the number of machines.
+#[derive(Clone, Copy)]
+pub struct Stairs;
+
+impl Solver for Stairs {
+    ghost solved = { λ _. stairs_class };
+
+    ghost can_solve = { λ _ _. ⊤ };
+
+    ghost may_ask = { λ _ _. ⊤ };
+
+    fn target(&self) -> Class {
+        STAIRS_CLASS
+    }
+
+    fn fits(&self, _inst: &Instance) -> bool {
+        true
+    }
+
+    fn solve(&self, alloc: Global, inst: &Instance) -> Result<Solution, NoMemory>
+        requires inner { Inner inst.now }
+        requires class { inst.now.class ≡ stairs_class }
+        ensures best { IfOk result (λ s. IsBest inst.now s) }
+        ensures bounds { IfOk result (λ s. IsAnswer inst.now s.schedule) }
+        ensures cost { IfOk result (λ s. IsStairsCost inst.now s.cost) }
+    {
+        let order = jobs_by_date(alloc, inst)?;
+        let bound = least_bound(alloc, inst, order.as_slice())?;
+        match climbed(alloc, inst, order.as_slice(), &bound)? {
+            Some(pieces) => {
+                let unit = i128::from(inst.machines);
+                let schedule = Schedule { unit, pieces };
+                let cost = Frac {
+                    num: bound,
+                    den: unit,
+                };
+                Ok(Solution { schedule, cost })
+            }
+            None => unreachable!(),
+        }
+    }
+}
