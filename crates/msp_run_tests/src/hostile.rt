@@ -1,15 +1,25 @@
-// Devices that fail at one of their calls, texts that are cut at each byte, and damaged texts.
+// Devices that fail at one of their calls, texts that are cut at each byte, and an entry too many.
 ghost use Rattle.std.specs.Prelude.{◌≢◌};
 
-use crate::accepted::ACCEPTED;
-use crate::calls::{Call, Case, Seen, TEXT, calling, each_gives, gives, outcome, spelled};
-use crate::certified::CERTIFIED;
-use crate::checked::CHECKED;
+use crate::calls::{Call, Seen, calling, gives, outcome, spelled};
 use msp_io::{SureSink, SureSource};
 use msp_top::run;
 use std::alloc::Global;
 use std::process::Abort;
 use std::test::Fail;
+
+/// An instance that is solved.
+const TEXT: &[u8] = b"msp 1\nclass 1||sumwC\njob a p=3 w=1\njob b p=1 w=2\njob c p=2 w=2\nend\n";
+
+/// An instance of a class with certificates; the same with a schedule behind it, and with a certificate.
+const CERTIFIED: &[u8] =
+    b"msp 1\nclass P|pmtn|Cmax\nmachines 2\njob a p=3\njob b p=3\njob c p=3\nend\n";
+
+const CHECKED: &[u8] =
+    b"msp 1\nclass P|pmtn|Cmax\nmachines 2\njob a p=3\njob b p=3\njob c p=3\nend\nschedule\ncost 9/2\nunit 2\npiece a 1 1 0 6\npiece b 1 2 0 3\npiece c 1 2 3 9\npiece b 1 1 6 9\nend\n";
+
+const ACCEPTED: &[u8] =
+    b"msp 1\nclass P|pmtn|Cmax\nmachines 2\njob a p=3\njob b p=3\njob c p=3\nend\ncertificate\nbound 9/2\nkind group\njob a\njob b\njob c\nend\n";
 
 /// The words of a call, its input, and whether it reads.
 type Faulty = (&'static [&'static str], &'static [u8], bool);
@@ -210,64 +220,6 @@ fn cut_at_each_byte(rt: HostRuntime) -> Result<(), Fail> {
         assert!(rt; only_whole(rt.alloc(), words, text)?);
     }
     Ok(())
-}
-
-/// Results with a verdict that is none or a name without its quotes, and schedules with one fault.
-const DAMAGED: &[Case] = &[
-    Case {
-        words: &["label"],
-        text: b"class,verdict,source\nP||Cmax,maybe,x\n",
-        status: 3,
-        out: b"",
-        notes: b"msp: record 1: verdict\n",
-    },
-    Case {
-        words: &["label"],
-        text: b"class,verdict,source\n1|pmtn,r|Lmax,easy,x\n",
-        status: 3,
-        out: b"",
-        notes: b"msp: record 1: width\n",
-    },
-    Case {
-        words: &["label", "1|pmtn,r|Lmax"],
-        text: b"class,verdict,source\n\"1|pmtn,r|Lmax\",easy,x\n",
-        status: 0,
-        out: b"1|pmtn,r|Lmax easy\nend\n",
-        notes: b"",
-    },
-    Case {
-        words: &["check"],
-        text: b"msp 1\nclass P|pmtn|Cmax\nmachines 2\njob a p=3\njob b p=3\njob c p=3\nend\nschedule\ncost 9/2\nunit 0\npiece a 1 1 0 6\nend\n",
-        status: 4,
-        out: b"",
-        notes: b"msp: line 10: limit of unit\n",
-    },
-    Case {
-        words: &["check"],
-        text: b"msp 1\nclass P|pmtn|Cmax\nmachines 2\njob a p=3\njob b p=3\njob c p=3\nend\nschedule\ncost 9/2\nunit 2\npiece z 1 1 0 6\nend\n",
-        status: 3,
-        out: b"",
-        notes: b"msp: line 11: unknown name\n",
-    },
-    Case {
-        words: &["check"],
-        text: b"msp 1\nclass P|pmtn|Cmax\nmachines 2\njob a p=3\njob b p=3\njob c p=3\nend\nschedule\ncost 9/2\nunit 2\npiece a 1 33 0 6\nend\n",
-        status: 4,
-        out: b"",
-        notes: b"msp: line 11: limit of place\n",
-    },
-    Case {
-        words: &["check"],
-        text: b"msp 1\nclass P|pmtn|Cmax\nmachines 2\njob a p=3\njob b p=3\njob c p=3\nend\nschedule\ncost 9/2\nunit 2\npiece a 1 1 0 200000000000000000000000001\nend\n",
-        status: 4,
-        out: b"",
-        notes: b"msp: line 11: limit of moment\n",
-    },
-];
-
-#[test]
-fn damaged_texts(rt: HostRuntime) -> Result<(), Fail> {
-    each_gives(&rt, rt.alloc(), DAMAGED)
 }
 
 /// So many entries.

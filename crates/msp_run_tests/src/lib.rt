@@ -1,18 +1,14 @@
-//! Tests of `run` over devices in memory: the whole command line by full bytes, and what can be asked of devices alone.
+//! Tests of `run` over devices in memory that are computations, and of rows and searches that no text asks alone.
 //!
-//! It stands on `msp_top` and on what its tests build instances with; nothing stands on it.
+//! It stands on `msp_top` and on what its tests build instances with; nothing stands on it. Tables stand in the files of `msp_cases`.
 #![tactic(auto)]
 
-#[cfg(test)]
-mod accepted;
 #[cfg(test)]
 mod breaks;
 #[cfg(test)]
 mod by_hand;
 #[cfg(test)]
 mod calls;
-#[cfg(test)]
-mod certified;
 #[cfg(test)]
 mod checked;
 #[cfg(test)]
@@ -21,5 +17,3 @@ mod hostile;
 mod rows;
 #[cfg(test)]
 mod solvers;
-#[cfg(test)]
-mod trials;
