@@ -113,6 +113,42 @@ pub const DRAWN: &[(&str, &[u8])] = &[
         "O|pmtn,p=p|sumwC",
         b"class O|pmtn,p=p|sumwC\njobs 200\nseed 1\nsolver cut-open-weights\nrows 0\n",
     ),
+    (
+        "P|pmtn|Lmax",
+        b"class P|pmtn|Lmax\njobs 200\nseed 1\nsolver stairs\nrows 0\n",
+    ),
+    (
+        "Q|p=p|fmax",
+        b"class Q|p=p|fmax\njobs 200\nseed 1\nsolver places-most\nrows 0\n",
+    ),
+    (
+        "Q|p=p|sumwT",
+        b"class Q|p=p|sumwT\njobs 200\nseed 1\nsolver places-late\nrows 0\n",
+    ),
+    (
+        "Q|p=p|sumwU",
+        b"class Q|p=p|sumwU\njobs 200\nseed 1\nsolver places-count\nrows 0\n",
+    ),
+    (
+        "P|outtree,p=1|sumC",
+        b"class P|outtree,p=1|sumC\njobs 200\nseed 1\nsolver levels-sum\nrows 0\n",
+    ),
+    (
+        "1|prec,r,p=p|sumC",
+        b"class 1|prec,r,p=p|sumC\njobs 200\nseed 1\nsolver equal-heads\nrows 0\n",
+    ),
+    (
+        "J2|pmtn,n<=2|Cmax",
+        b"class J2|pmtn,n<=2|Cmax\njobs 200\nseed 1\nsolver jackson-cut\nrows 0\n",
+    ),
+    (
+        "F|r,p=1|sumwT",
+        b"class F|r,p=1|sumwT\njobs 200\nseed 1\nsolver lines-late\nrows 0\n",
+    ),
+    (
+        "F|r,p=1|sumwU",
+        b"class F|r,p=1|sumwU\njobs 200\nseed 1\nsolver lines-count\nrows 0\n",
+    ),
 ];
 
 /// Whether the call answers status 0 and a report that begins so.

@@ -43,5 +43,3 @@ mod solvers;
 mod solving;
 #[cfg(test)]
 mod texts;
-#[cfg(test)]
-mod unlisted;
