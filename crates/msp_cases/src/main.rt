@@ -18,13 +18,17 @@ use std::fs;
 use std::process::ExitCode;
 
 /// The files of cases, in the folder in which the program runs.
-const FILES: [&str; 7] = [
+const FILES: [&str; 11] = [
     "calls",
+    "names",
+    "instances",
     "solvers",
     "checked",
     "trials",
     "certified",
     "accepted",
+    "certificates",
+    "results",
     "damaged",
 ];
 

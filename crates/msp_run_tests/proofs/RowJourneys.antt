@@ -8,7 +8,8 @@ use Rattle.msp_class.specs.declared.environments.EnvKind.TheVariants.{Identical,
 use Rattle.msp_class.specs.Env.{kind_of}
 use Rattle.msp_instance.specs.declared.Instance.{Instance}
 use Rattle.msp_instance.proofs.Limits.{Inner-from_class}
-use Rattle.msp_schedule.specs.declared.limits.TheConstants.{MOST_PIECES, GREATEST_CARRIED_UNIT}
+use Rattle.msp_class.specs.declared.sizes.TheConstants.{MOST_PIECES}
+use Rattle.msp_schedule.specs.declared.limits.TheConstants.{GREATEST_CARRIED_UNIT}
 use Rattle.msp_schedule.specs.declared.Piece.{Piece}
 use Rattle.msp_schedule.specs.declared.Schedule.{Schedule}
 use Rattle.msp_schedule.specs.Within.{IsMoment, Within}

@@ -108,23 +108,6 @@ fn lists_the_easy_classes(rt: HostRuntime) -> Result<(), Fail> {
     Ok(())
 }
 
-#[test]
-fn a_source_that_is_too_long(rt: HostRuntime) -> Result<(), Fail> {
-    let mut text = b"class,verdict,source\n1||Cmax,easy,".to_vec(rt.alloc())?;
-    text.resize(text.len().saturating_add(201), b'x')?;
-    let labelling = calling(&["label"], &text);
-    assert!(rt;
-        gives(
-            rt.alloc(),
-            &labelling,
-            4,
-            b"",
-            b"msp: record 1: limit of source\n"
-        )?
-    );
-    Ok(())
-}
-
 /// The text of so many jobs with the greatest numbers.
 fn greatest(alloc: Global, count: u32) -> Result<Vec<u8>, Fail> {
     let mut text = b"msp 1\nclass 1||sumwC\n".to_vec(alloc)?;

@@ -46,7 +46,7 @@ fn one_piece_too_many(rt: HostRuntime) -> Result<(), Fail> {
 }
 
 /// One job that is cut into so many pieces, one after another.
-fn pieces_in_a_row(alloc: Global, count: u32) -> Result<Vec<u8>, Fail> {
+fn pieces_back_to_back(alloc: Global, count: u32) -> Result<Vec<u8>, Fail> {
     let mut text = format!(in alloc;
         "msp 1\nclass 1|pmtn|Cmax\njob a p={count}\nend\nschedule\ncost {count}\nunit 1\n"
     )?;
@@ -59,8 +59,8 @@ fn pieces_in_a_row(alloc: Global, count: u32) -> Result<Vec<u8>, Fail> {
 }
 
 #[test]
-fn many_pieces_in_a_row(rt: HostRuntime) -> Result<(), Fail> {
-    let text = pieces_in_a_row(rt.alloc(), 500_000)?;
+fn many_pieces_back_to_back(rt: HostRuntime) -> Result<(), Fail> {
+    let text = pieces_back_to_back(rt.alloc(), 500_000)?;
     assert!(rt;
         gives(
             rt.alloc(),

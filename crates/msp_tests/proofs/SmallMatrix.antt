@@ -20,12 +20,15 @@ module _ (a b c d : ℕ) (la : a < 256) (lb : b < 256) (lc : c < 256) (ld : d < 
   pub small_table : IsMatrix table
   small_table = record {
     whole = refl;
-    cells = λ r s l m. two (λ r. pos 0 ≤ℤ cell table r s) (two (λ s. pos 0 ≤ℤ cell table 0 s) (omega (arith, ints)) (omega (arith, ints)) s m) (two (λ s. pos 0 ≤ℤ cell table 1 s) (omega (arith, ints)) (omega (arith, ints)) s m) r l;
+    cells = λ r s l m. two (λ r. pos 0 ≤ℤ cell table r s) (two (λ s. pos 0 ≤ℤ cell table 0 s) (omega (arith, ints)) (omega (arith, ints)) s m)
+        (two (λ s. pos 0 ≤ℤ cell table 1 s) (omega (arith, ints)) (omega (arith, ints)) s m) r l;
     row_sums = two (λ r. row_sum table r ≤ℤ pos greatest_sum) (omega (arith, ints, la, lb)) (omega (arith, ints, lc, ld));
     column_sums = two (λ s. column_sum table s ≤ℤ pos greatest_sum) (omega (arith, ints, la, lc)) (omega (arith, ints, lb, ld));
   }
 
-pub small_matrix : (a b c d : ℕ) → a < 256 → b < 256 → c < 256 → d < 256 → (w x y z : ℤ) → w ≡ pos a → x ≡ pos b → y ≡ pos c → z ≡ pos d → (cells : List ℤ) → cells ≡ w ∷ x ∷ y ∷ z ∷ [] → IsMatrix (record { rows = 2; columns = 2; cells = cells })
+pub small_matrix : (a b c d : ℕ) → a < 256 → b < 256 → c < 256 → d < 256 → (w x y z : ℤ)
+    → w ≡ pos a → x ≡ pos b → y ≡ pos c → z ≡ pos d → (cells : List ℤ) → cells ≡ w ∷ x ∷ y ∷ z ∷ [] → IsMatrix (record { rows = 2; columns = 2; cells = cells })
 small_matrix a b c d la lb lc ld w x y z ew ex ey ez cells is =
-    subst (λ xs. IsMatrix (record { rows = 2; columns = 2; cells = xs })) (sym (is ∙ ap (λ v. v ∷ x ∷ y ∷ z ∷ []) ew ∙ ap (λ v. pos a ∷ v ∷ y ∷ z ∷ []) ex ∙ ap (λ v. pos a ∷ pos b ∷ v ∷ z ∷ []) ey ∙ ap (λ v. pos a ∷ pos b ∷ pos c ∷ v ∷ []) ez))
+    subst (λ xs. IsMatrix (record { rows = 2; columns = 2; cells = xs }))
+    (sym (is ∙ ap (λ v. v ∷ x ∷ y ∷ z ∷ []) ew ∙ ap (λ v. pos a ∷ v ∷ y ∷ z ∷ []) ex ∙ ap (λ v. pos a ∷ pos b ∷ v ∷ z ∷ []) ey ∙ ap (λ v. pos a ∷ pos b ∷ pos c ∷ v ∷ []) ez))
     (small_table a b c d la lb lc ld)

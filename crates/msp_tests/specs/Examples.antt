@@ -87,7 +87,13 @@ second_first = schedule (record (piece 0 1 0 1) { op = 1 } ∷ piece 0 0 1 2 ∷
 
 -- A job shop of two machines: a job that comes back to the first machine, and a job of the second machine alone.
 abbrev pub back_again : Instance
-back_again = record { class = class_of J2 false Free false Cmax; machines = 2; speeds = []; jobs = record (job 1 1) { needs = need 0 2 ∷ need 1 3 ∷ need 0 4 ∷ [] } ∷ record (job 1 1) { needs = need 1 5 ∷ [] } ∷ []; arcs = [] }
+back_again = record {
+  class = class_of J2 false Free false Cmax;
+  machines = 2;
+  speeds = [];
+  jobs = record (job 1 1) { needs = need 0 2 ∷ need 1 3 ∷ need 0 4 ∷ [] } ∷ record (job 1 1) { needs = need 1 5 ∷ [] } ∷ [];
+  arcs = [];
+}
 
 -- Two jobs with due dates 1 and 9, weights 3 and 1, and curves t - 4 with a jump of 10 after 1, and 0: they end at 2 and 3.
 abbrev pub two_jobs : Crit → Instance

@@ -5,7 +5,8 @@ ghost use Rattle.msp_schedule.specs.Feasible.{Feasible};
 ghost use Rattle.msp_schedule.specs.Loads.{machine_load, job_length};
 ghost use Rattle.msp_schedule.specs.Segments.{segments_bound};
 ghost use Rattle.msp_schedule.specs.Speeds.{speed_above};
-ghost use Rattle.msp_tests.specs.Examples.{Costs, three_speeds, weighted, by_ratio, no_span, no_place, at_once, half_done, parallel, on_both, released, too_early, ordered, backward, flow, second_first, back_again};
+ghost use Rattle.msp_tests.specs.Examples.{Costs, three_speeds, weighted, by_ratio, no_span, no_place, at_once, half_done, parallel, on_both, released, too_early, ordered};
+ghost use Rattle.msp_tests.specs.Examples.{backward, flow, second_first, back_again};
 
 fn a_schedule_by_ratio_is_feasible()
     ensures feasible { Feasible weighted by_ratio }

@@ -12,13 +12,13 @@ mod bytes;
 #[cfg(test)]
 mod certificates;
 #[cfg(test)]
-mod certified;
-#[cfg(test)]
 mod classes;
 #[cfg(test)]
 mod composed;
 #[cfg(test)]
 mod definitions;
+#[cfg(test)]
+mod evidence;
 #[cfg(test)]
 mod generated;
 #[cfg(test)]
@@ -28,18 +28,10 @@ mod instances;
 #[cfg(test)]
 mod job_names;
 #[cfg(test)]
-mod names;
-#[cfg(test)]
 mod numbers;
-#[cfg(test)]
-mod reports;
-#[cfg(test)]
-mod results;
 #[cfg(test)]
 mod rows;
 #[cfg(test)]
 mod solvers;
-#[cfg(test)]
-mod solving;
 #[cfg(test)]
 mod texts;

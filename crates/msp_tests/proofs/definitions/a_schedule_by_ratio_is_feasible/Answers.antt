@@ -34,7 +34,8 @@ pub returns-clause-feasible : goal.returns-clause-feasible
 returns-clause-feasible c = record {
   unit = omega (arith, ints);
   span = all (λ q. (pos 0 ≤ℤ q.from) × (q.from <ℤ q.to)) (omega (arith, ints), omega (arith, ints)) (omega (arith, ints), omega (arith, ints)) (omega (arith, ints), omega (arith, ints));
-  place = all (HasPlace weighted) (record { job = lit< tt; operation = refl; machine = lit< tt }) (record { job = lit< tt; operation = refl; machine = lit< tt }) (record { job = lit< tt; operation = refl; machine = lit< tt });
+  place = all (HasPlace weighted) (record { job = lit< tt; operation = refl; machine = lit< tt })
+      (record { job = lit< tt; operation = refl; machine = lit< tt }) (record { job = lit< tt; operation = refl; machine = lit< tt });
   machine = pairs (λ p q. p.machine ≡ q.machine → IsApart p q) (λ _. inl (omega (arith, ints))) (λ _. inl (omega (arith, ints))) (λ _. inl (omega (arith, ints)));
   job = pairs (λ p q. p.job ≡ q.job → IsApart p q) (λ _. inl (omega (arith, ints))) (λ _. inl (omega (arith, ints))) (λ _. inl (omega (arith, ints)));
   release = all (λ q. (pos 1 *ℤ pos (job_at weighted q.job).release) ≤ℤ q.from) (omega (arith, ints)) (omega (arith, ints)) (omega (arith, ints));

@@ -12,4 +12,5 @@ lowest_by x y u v n w g eu ev en ew common one =
     subst P (en ∙ ap unsigned_abs eu) (subst Q (ew ∙ ap unsigned_abs ev) (subst (IsGcd n w) (eqb-true g 1 one) common))
 
 pub returns : goal.returns
-returns c = lowest_by _ _ _ _ _ _ _ (to_z-of_z w128 c.args.f.num (search rules)) (to_z-of_z w128 c.args.f.den (search rules)) c.unsigned_abs.ensures.value c.unsigned_abs-2.ensures.value c.gcd.ensures.divisor
+returns c = lowest_by _ _ _ _ _ _ _ (to_z-of_z w128 c.args.f.num (search rules))
+    (to_z-of_z w128 c.args.f.den (search rules)) c.unsigned_abs.ensures.value c.unsigned_abs-2.ensures.value c.gcd.ensures.divisor
