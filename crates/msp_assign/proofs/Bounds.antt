@@ -17,5 +17,6 @@ sizes-at_most rows columns cost h r c lr lc = abs-at_most (cost r c) (2 ^ 100) (
 pub sizes-is : (rows columns : ℕ) (cost : ℕ → ℕ → ℤ) → HasCosts rows columns cost → (r c : ℕ) → r < rows → c < columns → pos (sizes cost r c) ≡ cost r c
 sizes-is rows columns cost h r c lr lc = abs-is (cost r c) (h r c lr lc).0
 
-pub paid-at_most : (rows columns : ℕ) (cost : ℕ → ℕ → ℤ) (fall : List ℕ) → HasCosts rows columns cost → ((c : ℕ) → c < columns → at fall c ≤ 2 ^ 100) → (r c : ℕ) → r < rows → c < columns → paid (sizes cost) fall r c ≤ 2 ^ 101
+pub paid-at_most : (rows columns : ℕ) (cost : ℕ → ℕ → ℤ) (fall : List ℕ)
+    → HasCosts rows columns cost → ((c : ℕ) → c < columns → at fall c ≤ 2 ^ 100) → (r c : ℕ) → r < rows → c < columns → paid (sizes cost) fall r c ≤ 2 ^ 101
 paid-at_most rows columns cost fall h low r c lr lc = let a = sizes-at_most rows columns cost h r c lr lc in let b = low c lc in omega (arith, a, b)

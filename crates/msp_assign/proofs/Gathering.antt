@@ -59,7 +59,8 @@ IsNearest-last distance left far near k h e =
     subst (AreNearest distance left (k + 1)) here (subst (λ n. AreNearest distance left n far) e h)
 
 -- some column was so far, so some stand first
-pub some_near : (distance left next : List ℕ) (far k near : ℕ) → IsGathering distance left next far k near → k ≡ length next → ((j : ℕ) × (j < length left) × (at distance (at left j) ≡ far)) → 1 ≤ near
+pub some_near : (distance left next : List ℕ) (far k near : ℕ)
+    → IsGathering distance left next far k near → k ≡ length next → ((j : ℕ) × (j < length left) × (at distance (at left j) ≡ far)) → 1 ≤ near
 some_near distance left next far k near h e w = elim (same_or_not near 0) [
   | inl z ↦
       let m = at-Contains next (at left w.0) (Contains-permutation left next (at left w.0) h.same (Contains-at left w.0 (at left w.0) w.1 refl)) in

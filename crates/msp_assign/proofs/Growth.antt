@@ -80,14 +80,16 @@ module _ (cost : ℕ → ℕ → ℕ) (columns : ℕ) (fall column : List ℕ) w
       owned = λ c l. inl (all c l);
       level_own = λ k a b. absurd (omega (arith, a, b));
       level = λ c l. record {
-        level = λ d ld. subst (λ k. at next d + paid cost fall (at (length column ∷ []) k) c ≤ at next c + paid cost fall (at (length column ∷ []) k) d) (sym (begun_at c l).0) (omega (arith, (begun_at c l).1, (begun_at d ld).1));
+        level = λ d ld. subst (λ k. at next d + paid cost fall (at (length column ∷ []) k) c ≤ at next c + paid cost fall (at (length column ∷ []) k) d)
+            (sym (begun_at c l).0) (omega (arith, (begun_at c l).1, (begun_at d ld).1));
       };
       nearer = λ c d l n m. absurd (n (all c l));
       low = λ c l. omega (arith, (begun_at c l).1, bound c l);
     }
 
   -- the order of the columns that are left does not matter
-  pub IsSearch-reordered : (distance «from» left left2 tree : List ℕ) → IsPermutation left left2 → IsSearch cost columns fall column distance «from» left tree → IsSearch cost columns fall column distance «from» left2 tree
+  pub IsSearch-reordered : (distance «from» left left2 tree : List ℕ)
+      → IsPermutation left left2 → IsSearch cost columns fall column distance «from» left tree → IsSearch cost columns fall column distance «from» left2 tree
   IsSearch-reordered distance from_ left left2 tree p h =
       let there : (c : ℕ) → Contains left c → Contains left2 c = λ c m. Contains-permutation left left2 c p m in
       let back : (c : ℕ) → Contains left2 c → Contains left c = λ c m. Contains-permutation left2 left c (IsPermutation-sym left left2 p) m in
@@ -251,7 +253,8 @@ module _ (cost : ℕ → ℕ → ℕ) (columns : ℕ) (fall column : List ℕ) w
 pub IsSearch-made : (cost : ℕ → ℕ → ℕ) (columns : ℕ) (fall column : List ℕ) (most : ℕ) (left left2 distance «from» next next_from tree : List ℕ) → 2 ^ 101 < most
     → AreAll columns left → distance ≡ replicate columns most → length «from» ≡ columns
     → ((c : ℕ) → c < columns → paid cost fall (length column) c ≤ 2 ^ 101) → length next ≡ length distance → length next_from ≡ length «from»
-    → IsRelaxed cost fall (length column) 0 0 0 left distance «from» next next_from → tree ≡ [] ++ length column ∷ [] → IsPermutation left left2 → IsSearch cost columns fall column next next_from left2 tree
+    → IsRelaxed cost fall (length column) 0 0 0 left distance «from» next next_from
+    → tree ≡ [] ++ length column ∷ [] → IsPermutation left left2 → IsSearch cost columns fall column next next_from left2 tree
 IsSearch-made cost columns fall column most left left2 distance from_ next next_from tree lm all ed lf bound ln lnf q et p =
     IsSearch-reordered cost columns fall column next next_from left left2 tree p
     (subst (IsSearch cost columns fall column next next_from left) (sym et)

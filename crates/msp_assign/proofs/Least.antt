@@ -1,11 +1,13 @@
 -- Prices show that an assignment is least.
-use Rattle.std.proofs.Common.{◌≡◌, ℕ, zero, suc, ◌+◌, ◌*◌, ◌/◌, ◌%◌, ◌<◌, ◌≤◌, inl, inr, ℤ, pos, neg_ℤ, ◌+ℤ◌, ◌≤ℤ◌, nat_abs, List, [], ◌∷◌, true, eqb, length, Contains, count_by, sum_by, sym, ap, ap₂, subst, subst₂, ◌∙◌, arith, refl}
+use Rattle.std.proofs.Common.{◌≡◌, ℕ, zero, suc, ◌+◌, ◌*◌, ◌/◌, ◌%◌, ◌<◌, ◌≤◌, inl, inr, ℤ, pos, neg_ℤ, ◌+ℤ◌, ◌≤ℤ◌, nat_abs, List, [], ◌∷◌, true, eqb, length, Contains, count_by}
+use Rattle.std.proofs.Common.{sum_by, sym, ap, ap₂, subst, subst₂, ◌∙◌, arith, refl}
 use Rattle.std.proofs.Math.Nat.{div-add-mod, mod-lt}
 use Rattle.std.proofs.lemmas.Int.{ints}
 use Rattle.std.proofs.lemmas.List.{get_or_default}
 use Rattle.std.proofs.lemmas.List.Elements.{All-get_or}
 use Rattle.msp_class.specs.Sums.{total_below, int_total_below}
-use Rattle.msp_class.proofs.Sums.{total_below-mono, total_below-same, total_below-split, int_total_below-same, int_total_below-mono, int_total_below-add, sum_by_counts, sum_by-distinct_test, sum_by-cons}
+use Rattle.msp_class.proofs.Sums.{total_below-mono, total_below-same, total_below-split, int_total_below-same, int_total_below-mono, int_total_below-add, sum_by_counts}
+use Rattle.msp_class.proofs.Sums.{sum_by-distinct_test, sum_by-cons}
 use Rattle.msp_class.proofs.IntegerRing.{≤ℤ_trans, ≤ℤ_of_same}
 use Rattle.msp_matching.specs.Passing.{at}
 use Rattle.msp_assign.specs.declared.assignment.Assignment.{Assignment}
@@ -22,7 +24,15 @@ sum_by-places : (f : ℕ → ℕ) (xs : List ℕ) → sum_by f xs ≡ total_belo
 sum_by-places f [] = refl
 sum_by-places f (x ∷ xs) =
     let whole = total_below-split 1 (length xs) (λ j. f (at (x ∷ xs) j)) in
-    omega (arith, sum_by-cons f x xs, sum_by-places f xs, whole, ap (λ n. total_below n (λ j. f (at (x ∷ xs) j))) (one_more (length xs)), total_below-same (length xs) (λ i. f (at (x ∷ xs) (1 + i))) (λ i. f (at xs i)) (λ i l. ap f (ap (at (x ∷ xs)) (sym (one_more i)))))
+    omega (
+      arith,
+      sum_by-cons f x xs,
+      sum_by-places f xs,
+      whole,
+      ap (λ n. total_below n (λ j. f (at (x ∷ xs) j))) (one_more (length xs)),
+      total_below-same
+          (length xs) (λ i. f (at (x ∷ xs) (1 + i))) (λ i. f (at xs i)) (λ i l. ap f (ap (at (x ∷ xs)) (sym (one_more i)))),
+    )
   where
     one_more : (n : ℕ) → suc n ≡ 1 + n
     one_more n = omega arith
@@ -46,11 +56,13 @@ module _ (rows columns : ℕ) (cost : ℕ → ℕ → ℤ) (a : Assignment) (own
   -- the prices of an assignment's columns together
   prices_of : (other : List ℕ) → IsAssigned rows columns other → int_total_below rows (λ r. price_at a.column_price (column_of other r)) ≡ neg_ℤ (pos (sum_by fall other))
   prices_of other o =
-      int_total_below-same rows (λ r. price_at a.column_price (column_of other r)) (λ r. neg_ℤ (pos (fall (column_of other r)))) (λ r l. fall_is (column_of other r) (o.inside r 0 (omega (arith, o.all))))
+      int_total_below-same rows (λ r. price_at a.column_price (column_of other r))
+      (λ r. neg_ℤ (pos (fall (column_of other r)))) (λ r l. fall_is (column_of other r) (o.inside r 0 (omega (arith, o.all))))
       ∙ int_total_below-negative rows (λ r. fall (column_of other r))
       ∙ ap (λ n. neg_ℤ (pos n)) (ap (λ n. total_below n (λ r. fall (column_of other r))) (sym o.all) ∙ sym (sum_by-places fall other))
 
-  both : (other : List ℕ) → IsAssigned rows columns other → int_total_below rows (λ r. price_at a.row_price r +ℤ price_at a.column_price (column_of other r)) ≡ rows_price +ℤ neg_ℤ (pos (sum_by fall other))
+  both : (other : List ℕ) → IsAssigned rows columns other
+      → int_total_below rows (λ r. price_at a.row_price r +ℤ price_at a.column_price (column_of other r)) ≡ rows_price +ℤ neg_ℤ (pos (sum_by fall other))
   unfolding rows_price
   both other o = int_total_below-add rows (price_at a.row_price) (λ r. price_at a.column_price (column_of other r)) ∙ ap (λ x. int_total_below rows (price_at a.row_price) +ℤ x) (prices_of other o)
 
@@ -88,7 +100,8 @@ module _ (rows columns : ℕ) (cost : ℕ → ℕ → ℤ) (a : Assignment) (own
       ≤ℤ_trans (≤ℤ_of_same (total_is ∙ price_is))
       (≤ℤ_trans (less (at_most_all other o))
       (≤ℤ_trans (≤ℤ_of_same (sym (both other o)))
-      (int_total_below-mono rows (λ r. price_at a.row_price r +ℤ price_at a.column_price (column_of other r)) (λ r. cost r (column_of other r)) (λ r l. h.at_most r (column_of other r) l (o.inside r 0 (omega (arith, o.all)))))))
+      (int_total_below-mono rows (λ r. price_at a.row_price r +ℤ price_at a.column_price (column_of other r))
+      (λ r. cost r (column_of other r)) (λ r l. h.at_most r (column_of other r) l (o.inside r 0 (omega (arith, o.all)))))))
     where
       lower : (x : ℤ) (m n : ℕ) → m ≤ n → (x +ℤ neg_ℤ (pos n)) ≤ℤ (x +ℤ neg_ℤ (pos m))
       lower x m n l = omega (arith, ints)
@@ -97,7 +110,8 @@ module _ (rows columns : ℕ) (cost : ℕ → ℕ → ℤ) (a : Assignment) (own
       less l = lower rows_price (sum_by fall other) (total_below columns fall) l
 
 -- ---- columns in view where each row pays least there
-module _ (rows count lines long : ℕ) (cost : ℕ → ℕ → ℤ) (columns : List Column) (falls used : List ℕ) (a : Assignment) (whole : lines * long ≡ count) (some : 1 ≤ long) (costs : HasCosts rows count cost)
+module _ (rows count lines long : ℕ) (cost : ℕ → ℕ → ℤ)
+    (columns : List Column) (falls used : List ℕ) (a : Assignment) (whole : lines * long ≡ count) (some : 1 ≤ long) (costs : HasCosts rows count cost)
     (rise : Rises lines long cost) (h : IsPlacement rows lines long cost columns falls used) (numbers : AreNumbers long columns used a.column)
     (row_prices : IsRowPrices (sizes (seen cost long columns)) falls used a.row_price) (column_prices : AreColumnPrices count long columns falls a.column_price) where
   place_inside : (k : ℕ) → k < length columns → ((column_at columns k).line < lines) × ((column_at columns k).place < long)
@@ -154,7 +168,8 @@ module _ (rows count lines long : ℕ) (cost : ℕ → ℕ → ℤ) (columns : L
   size_is r k l m = sizes-is rows count cost costs r (number_at long columns k) l (number_inside k m)
 
   -- a column of the line that stands no later and has not fallen makes a later one serve with price 0
-  at_most_behind : (r k c : ℕ) → r < rows → k < length columns → c < count → at falls k ≡ 0 → cost r (number_at long columns k) ≤ℤ cost r c → (price_at a.row_price r +ℤ price_at a.column_price c) ≤ℤ cost r c
+  at_most_behind : (r k c : ℕ) → r < rows → k < length columns
+      → c < count → at falls k ≡ 0 → cost r (number_at long columns k) ≤ℤ cost r c → (price_at a.row_price r +ℤ price_at a.column_price c) ≤ℤ cost r c
   at_most_behind r k c l m b f d = by _ (at falls k) (sizes cost r (number_at long columns k)) _ _ _ _ (row_price r l) (at_seen r k l m) f (size_is r k l m) d (price_low c b)
     where
       by : (w z s : ℕ) (u v x y : ℤ) → u ≡ pos w → w ≤ s + z → z ≡ 0 → pos s ≡ x → x ≤ℤ y → v ≤ℤ pos 0 → (u +ℤ v) ≤ℤ y
@@ -212,14 +227,19 @@ pub record IsGiven (rows count : ℕ) (cost : ℕ → ℕ → ℤ) (a : Assignme
   pub zero : HasFreeColumn count a
 
 -- as the code has it
-pub IsGiven-read : (rows count lines lines2 long long2 : ℕ) (cost : ℕ → ℕ → ℤ) (columns columns2 : List Column) (falls falls2 used used2 : List ℕ) (a : Assignment) → lines * long ≡ count → 1 ≤ rows → rows ≤ count → HasCosts rows count cost → Rises lines long cost
+pub IsGiven-read : (rows count lines lines2 long long2 : ℕ) (cost : ℕ → ℕ → ℤ) (columns columns2 : List Column) (falls falls2 used used2 : List ℕ) (a : Assignment)
+    → lines * long ≡ count → 1 ≤ rows → rows ≤ count → HasCosts rows count cost → Rises lines long cost
     → lines2 ≡ lines → long2 ≡ long → columns2 ≡ columns → falls2 ≡ falls → used2 ≡ used → IsPlacement rows lines long cost columns falls used → AreNumbers long2 columns2 used2 a.column
     → IsRowPrices (sizes (seen cost long columns2)) falls2 used2 a.row_price → AreColumnPrices (lines2 * long2) long2 columns2 falls2 a.column_price → IsGiven rows count cost a
 IsGiven-read rows count lines lines2 long long2 cost columns columns2 falls falls2 used used2 a whole one enough costs rise el eg ec ef eu h n r c =
     let some = (some_places rows lines long count whole one enough).1 in
-    let n2 : AreNumbers long columns used a.column = subst (λ x. AreNumbers x columns used a.column) eg (subst (λ x. AreNumbers long2 x used a.column) ec (subst (λ x. AreNumbers long2 columns2 x a.column) eu n)) in
-    let r2 : IsRowPrices (sizes (seen cost long columns)) falls used a.row_price = subst (λ x. IsRowPrices (sizes (seen cost long x)) falls used a.row_price) ec (subst (λ x. IsRowPrices (sizes (seen cost long columns2)) x used a.row_price) ef (subst (λ x. IsRowPrices (sizes (seen cost long columns2)) falls2 x a.row_price) eu r)) in
-    let c2 : AreColumnPrices count long columns falls a.column_price = subst (λ x. AreColumnPrices x long columns falls a.column_price) (ap₂ (λ x y. x * y) el eg ∙ whole) (subst (λ x. AreColumnPrices (lines2 * long2) x columns falls a.column_price) eg (subst (λ x. AreColumnPrices (lines2 * long2) long2 x falls a.column_price) ec (subst (λ x. AreColumnPrices (lines2 * long2) long2 columns2 x a.column_price) ef c))) in
+    let n2 : AreNumbers long columns used a.column =
+    subst (λ x. AreNumbers x columns used a.column) eg (subst (λ x. AreNumbers long2 x used a.column) ec (subst (λ x. AreNumbers long2 columns2 x a.column) eu n)) in
+    let r2 : IsRowPrices (sizes (seen cost long columns)) falls used a.row_price = subst (λ x. IsRowPrices (sizes (seen cost long x)) falls used a.row_price) ec
+    (subst (λ x. IsRowPrices (sizes (seen cost long columns2)) x used a.row_price) ef (subst (λ x. IsRowPrices (sizes (seen cost long columns2)) falls2 x a.row_price) eu r)) in
+    let c2 : AreColumnPrices count long columns falls a.column_price =
+    subst (λ x. AreColumnPrices x long columns falls a.column_price) (ap₂ (λ x y. x * y) el eg ∙ whole) (subst (λ x. AreColumnPrices (lines2 * long2) x columns falls a.column_price) eg
+    (subst (λ x. AreColumnPrices (lines2 * long2) long2 x falls a.column_price) ec (subst (λ x. AreColumnPrices (lines2 * long2) long2 columns2 x a.column_price) ef c))) in
     record {
       assigned = IsAssigned-placement rows count lines long cost columns falls used a whole some costs rise h n2 r2 c2;
       priced = IsPriced-placement rows count lines long cost columns falls used a whole some costs rise h n2 r2 c2;

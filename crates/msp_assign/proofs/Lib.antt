@@ -10,3 +10,5 @@ pub mod Moves
 pub mod Views
 pub mod Placements
 pub mod Least
+pub mod Totals
+pub mod Choices

@@ -92,7 +92,8 @@ module _ (cost : ℕ → ℕ → ℕ) (columns : ℕ) (fall column : List ℕ) (
     IsPlaced-moved = record {
       size = lowered.size ∙ p.size;
       low = low;
-      inside = All-permutation (λ c. c < columns) (column ++ free ∷ []) after q.same (All-append (λ c. c < columns) column (free ∷ []) p.inside (All-cons (λ c. c < columns) free [] in_view (All-nil (λ c. c < columns))));
+      inside = All-permutation (λ c. c < columns) (column ++ free ∷ [])
+          after q.same (All-append (λ c. c < columns) column (free ∷ []) p.inside (All-cons (λ c. c < columns) free [] in_view (All-nil (λ c. c < columns))));
       apart = distinct-permutation (column ++ free ∷ []) after q.same (all_pairs_push (λ c d. c ≢ d) column free p.apart (λ k d l e. unused (subst (Contains column) e (get k d l))));
       cheapest = λ r l. elim (q.each r (omega (arith, l, length_permutation (column ++ free ∷ []) after q.same))) [
         | inl a ↦
@@ -127,12 +128,15 @@ IsTree-row cost columns fall column column2 pushed distance from_ from2 left tre
     subst (λ x. IsTree x from2 tree2) (sym ep) (subst (λ x. IsTree (column ++ free ∷ []) x tree2) (sym ef) (subst (IsTree (column ++ free ∷ []) from_) (sym et) t))
 
 -- the row's step, as the lists are read
-pub IsStepped-row : (rows : ℕ) (cost : ℕ → ℕ → ℤ) (columns : ℕ) (fall column column2 column3 pushed distance distance2 «from» from2 left tree tree2 tree3 : List ℕ) (k free far : ℕ) (next passed after : List ℕ)
+pub IsStepped-row : (rows : ℕ) (cost : ℕ → ℕ → ℤ) (columns : ℕ)
+    (fall column column2 column3 pushed distance distance2 «from» from2 left tree tree2 tree3 : List ℕ) (k free far : ℕ) (next passed after : List ℕ)
     → column2 ≡ column → column3 ≡ column → distance2 ≡ distance → from2 ≡ «from» → tree2 ≡ tree → tree3 ≡ tree → free ≡ get_or left k free → far ≡ get_or distance free far
     → pushed ≡ column ++ free ∷ [] → after ≡ passed
-    → HasCosts rows columns cost → length column < rows → IsPlaced (sizes cost) columns fall column → IsSearch (sizes cost) columns fall column2 distance «from» left tree → IsNearest distance left k → ¬ Contains column2 (at left k)
+    → HasCosts rows columns cost → length column < rows → IsPlaced (sizes cost) columns fall column
+    → IsSearch (sizes cost) columns fall column2 distance «from» left tree → IsNearest distance left k → ¬ Contains column2 (at left k)
     → IsLowered far distance2 column3 tree2 fall next → IsPassedOn pushed from2 tree3 passed → IsStepped (sizes cost) columns next column after free
-IsStepped-row rows cost columns fall column column2 column3 pushed distance distance2 from_ from2 left tree tree2 tree3 k free far next passed after ec ec3 ed ef et et3 es ex ep ea costs more p h near unused moved walk =
+IsStepped-row rows cost columns fall column column2 column3 pushed
+    distance distance2 from_ from2 left tree tree2 tree3 k free far next passed after ec ec3 ed ef et et3 es ex ep ea costs more p h near unused moved walk =
     let inside_left : k < length left = omega (arith, near.inside) in
     let is : free ≡ at left k = es ∙ get_or_default left k free 0 inside_left in
     let close = IsClosest-at distance left k free near is in
@@ -140,7 +144,8 @@ IsStepped-row rows cost columns fall column column2 column3 pushed distance dist
     let is_far : far ≡ at distance free = ex ∙ get_or_default distance free far 0 (omega (arith, h.distances, inside)) in
     let g = subst (λ x. IsSearch (sizes cost) columns fall x distance from_ left tree) ec h in
     let u : ¬ Contains column free = subst (λ x. ¬ Contains x free) ec (subst (λ x. ¬ Contains column2 x) (sym is) unused) in
-    let l = subst (λ x. IsLowered (at distance free) distance x tree fall next) ec3 (subst (λ x. IsLowered (at distance free) distance column3 x fall next) et (subst (λ x. IsLowered (at distance free) x column3 tree2 fall next) ed (subst (λ x. IsLowered x distance2 column3 tree2 fall next) is_far moved))) in
+    let l = subst (λ x. IsLowered (at distance free) distance x tree fall next) ec3 (subst (λ x. IsLowered (at distance free) distance column3 x fall next) et
+    (subst (λ x. IsLowered (at distance free) x column3 tree2 fall next) ed (subst (λ x. IsLowered x distance2 column3 tree2 fall next) is_far moved))) in
     let q = subst (λ x. IsPassedOn (column ++ free ∷ []) x tree passed) ef (subst (λ x. IsPassedOn (column ++ free ∷ []) from2 x passed) et3 (subst (λ x. IsPassedOn x from2 tree3 passed) ep walk)) in
     let bound : (r : ℕ) → r < length column → sizes cost r free ≤ 2 ^ 100 = λ r lr. sizes-at_most rows columns cost costs r free (omega (arith, lr, more)) inside in
     subst (λ x. IsStepped (sizes cost) columns next column x free) (sym ea) record {

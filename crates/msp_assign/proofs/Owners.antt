@@ -19,16 +19,20 @@ later k column c None ne h = λ r l. elim (same_or_not r k) [
 ]
 later k column c (Some r) ne h = (omega (arith, h.0), h.1)
 
-pub IsOwnersBelow-next : (columns k : ℕ) (column : List ℕ) (owner : List (Option ℕ)) → IsOwnersBelow columns k column owner → at column k < columns → IsOwnersBelow columns (k + 1) column (set owner (at column k) (Some k))
+pub IsOwnersBelow-next : (columns k : ℕ) (column : List ℕ) (owner : List (Option ℕ))
+    → IsOwnersBelow columns k column owner → at column k < columns → IsOwnersBelow columns (k + 1) column (set owner (at column k) (Some k))
 IsOwnersBelow-next columns k column owner h l = record {
   size = length-set owner (at column k) (Some k) ∙ h.size;
   each = λ c lc. elim (same_or_not c (at column k)) [
-    | inl e ↦ subst (λ o. MatchOption o ((r : ℕ) → r < k + 1 → at column r ≢ c) (λ r. (r < k + 1) × (at column r ≡ c))) (sym (ap (λ d. get_or (set owner (at column k) (Some k)) d None) e ∙ get_or-set_same owner (at column k) (Some k) None (omega (arith, h.size)))) (omega arith, sym e)
-    | inr n ↦ subst (λ o. MatchOption o ((r : ℕ) → r < k + 1 → at column r ≢ c) (λ r. (r < k + 1) × (at column r ≡ c))) (sym (get_or-set_other owner (at column k) c (Some k) None n)) (later k column c (get_or owner c None) (λ q. n (sym q)) (h.each c lc))
+    | inl e ↦ subst (λ o. MatchOption o ((r : ℕ) → r < k + 1 → at column r ≢ c) (λ r. (r < k + 1) × (at column r ≡ c)))
+        (sym (ap (λ d. get_or (set owner (at column k) (Some k)) d None) e ∙ get_or-set_same owner (at column k) (Some k) None (omega (arith, h.size)))) (omega arith, sym e)
+    | inr n ↦ subst (λ o. MatchOption o ((r : ℕ) → r < k + 1 → at column r ≢ c) (λ r. (r < k + 1) × (at column r ≡ c)))
+        (sym (get_or-set_other owner (at column k) c (Some k) None n)) (later k column c (get_or owner c None) (λ q. n (sym q)) (h.each c lc))
   ];
 }
 
-none_contained : (column : List ℕ) (c : ℕ) (o : Option ℕ) → MatchOption o ((r : ℕ) → r < length column → at column r ≢ c) (λ r. (r < length column) × (at column r ≡ c)) → MatchOption o (¬ Contains column c) (λ r. (r < length column) × (at column r ≡ c))
+none_contained : (column : List ℕ) (c : ℕ) (o : Option ℕ) → MatchOption o ((r : ℕ) → r < length column → at column r ≢ c) (λ r. (r < length column) × (at column r ≡ c))
+    → MatchOption o (¬ Contains column c) (λ r. (r < length column) × (at column r ≡ c))
 none_contained column c None h = λ m. let q = at-Contains column c m in h q.0 q.1 q.2
 none_contained column c (Some r) h = h
 
@@ -36,7 +40,8 @@ pub IsOwners-from_below : (columns : ℕ) (column : List ℕ) (owner : List (Opt
 IsOwners-from_below columns column owner h = record { size = h.size; each = λ c l. none_contained column c (get_or owner c None) (h.each c l) }
 
 -- a column without owner is free
-pub free_from_owners : (columns : ℕ) (column : List ℕ) (owner : List (Option ℕ)) → IsOwners columns column owner → (c e : ℕ) → c ≡ e → e < columns → ((r : ℕ) → get_or owner c None ≡ Some r → ⊥) → ¬ Contains column e
+pub free_from_owners : (columns : ℕ) (column : List ℕ) (owner : List (Option ℕ))
+    → IsOwners columns column owner → (c e : ℕ) → c ≡ e → e < columns → ((r : ℕ) → get_or owner c None ≡ Some r → ⊥) → ¬ Contains column e
 free_from_owners columns column owner h c e same l none = by (get_or owner e None) refl (h.each e l)
   where
     by : (o : Option ℕ) → get_or owner e None ≡ o → MatchOption o (¬ Contains column e) (λ r. (r < length column) × (at column r ≡ e)) → ¬ Contains column e

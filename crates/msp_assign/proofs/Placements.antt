@@ -30,7 +30,8 @@ other_factor (suc m) n h = omega arith
 pub some_places : (rows lines long columns : ℕ) → lines * long ≡ columns → 1 ≤ rows → rows ≤ columns → (1 ≤ lines) × (1 ≤ long)
 some_places rows lines long columns e a b = let h : 1 ≤ lines * long = omega (arith, a, b, e) in (other_factor lines long h, factor lines long h)
 
-pub IsPlacing-start : (rows lines lines2 long count : ℕ) (cost : ℕ → ℕ → ℤ) (columns : List Column) (k : ℕ) (falls used : List ℕ) → lines * long ≡ count → lines2 ≡ lines → k ≡ length columns → falls ≡ replicate k 0 → used ≡ [] → 1 ≤ rows → rows ≤ count
+pub IsPlacing-start : (rows lines lines2 long count : ℕ) (cost : ℕ → ℕ → ℤ) (columns : List Column) (k : ℕ) (falls used : List ℕ)
+    → lines * long ≡ count → lines2 ≡ lines → k ≡ length columns → falls ≡ replicate k 0 → used ≡ [] → 1 ≤ rows → rows ≤ count
     → AreFirst lines2 columns → IsPlacing rows lines long cost columns falls used
 IsPlacing-start rows lines lines2 long count cost columns k falls used whole el ek ef eu some enough first =
     subst (IsPlacing rows lines long cost columns falls) (sym eu) (record {
@@ -53,7 +54,8 @@ IsPlacing-start rows lines lines2 long count cost columns k falls used whole el 
     inside : 0 < length columns
     inside = omega (arith, places.0, first2.count)
 
-module _ (rows lines long count : ℕ) (cost : ℕ → ℕ → ℤ) (columns : List Column) (falls used : List ℕ) (whole : lines * long ≡ count) (costs : HasCosts rows count cost) (h : IsPlacing rows lines long cost columns falls used) where
+module _ (rows lines long count : ℕ) (cost : ℕ → ℕ → ℤ) (columns : List Column)
+    (falls used : List ℕ) (whole : lines * long ≡ count) (costs : HasCosts rows count cost) (h : IsPlacing rows lines long cost columns falls used) where
   costs_all : HasCosts rows (lines * long) cost
   costs_all = subst (λ x. HasCosts rows x cost) (sym whole) costs
 
@@ -65,8 +67,10 @@ module _ (rows lines long count : ℕ) (cost : ℕ → ℕ → ℤ) (columns : L
       subst (λ x. (k : ℕ) × (k < length x) × ¬ Contains used k) (sym e)
       (some_free lines long columns used h.view (factor lines long (omega (arith, whole, more, enough))) (omega (arith, whole, more, enough)) h.placed.inside)
 
-  pub IsPlacing-next : Rises lines long cost → length used < rows → (columns2 : List Column) (lowered lowered2 after : List ℕ) (f long2 : ℕ) (wide : List Column) (wide_falls : List ℕ) → columns2 ≡ columns → lowered2 ≡ lowered → long2 ≡ long
-      → IsPlaced (sizes (seen cost long columns2)) (length columns2) lowered after → length after ≡ length used + 1 → IsOneMore (length columns2) used lowered after f → IsWidened long2 columns lowered2 f wide wide_falls
+  pub IsPlacing-next : Rises lines long cost → length used < rows
+      → (columns2 : List Column) (lowered lowered2 after : List ℕ) (f long2 : ℕ) (wide : List Column) (wide_falls : List ℕ) → columns2 ≡ columns → lowered2 ≡ lowered → long2 ≡ long
+      → IsPlaced (sizes (seen cost long columns2)) (length columns2) lowered after
+      → length after ≡ length used + 1 → IsOneMore (length columns2) used lowered after f → IsWidened long2 columns lowered2 f wide wide_falls
       → IsPlacing rows lines long cost wide wide_falls after
   IsPlacing-next rise more columns2 lowered lowered2 after f long2 wide wide_falls ec el eg p longer o w = record {
     placed = IsPlaced-next lines long columns used lowered after f h.view one rows cost costs_all rise placed (omega (arith, longer, more)) wide wide_falls wider;
@@ -85,5 +89,7 @@ module _ (rows lines long count : ℕ) (cost : ℕ → ℕ → ℤ) (columns : L
       wider : IsWidened long columns lowered f wide wide_falls
       wider = subst (λ x. IsWidened x columns lowered f wide wide_falls) eg (subst (λ x. IsWidened long2 columns x f wide wide_falls) el w)
 
-pub IsPlacement-end : (rows rows2 lines long : ℕ) (cost : ℕ → ℕ → ℤ) (columns : List Column) (falls used : List ℕ) → rows2 ≡ rows → (length used < rows2 → ⊥) → IsPlacing rows lines long cost columns falls used → IsPlacement rows lines long cost columns falls used
-IsPlacement-end rows rows2 lines long cost columns falls used e all h = record { all = omega (arith, e, all, h.at_most); placed = h.placed; view = h.view; few = omega (arith, h.few, h.at_most); zero = h.zero }
+pub IsPlacement-end : (rows rows2 lines long : ℕ) (cost : ℕ → ℕ → ℤ) (columns : List Column) (falls used : List ℕ)
+    → rows2 ≡ rows → (length used < rows2 → ⊥) → IsPlacing rows lines long cost columns falls used → IsPlacement rows lines long cost columns falls used
+IsPlacement-end rows rows2 lines long cost columns falls used e all h =
+    record { all = omega (arith, e, all, h.at_most); placed = h.placed; view = h.view; few = omega (arith, h.few, h.at_most); zero = h.zero }

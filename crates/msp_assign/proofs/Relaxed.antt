@@ -82,7 +82,8 @@ module _ (cost : ℕ → ℕ → ℕ) (fall : List ℕ) (r place depth own : ℕ
       before = λ j l. elim (same_or_not j k) [
         | inl q ↦ subst (IsRelaxedAt cost fall r place depth own distance «from» last last_from) (e ∙ sym (ap (at left) q))
             (IsRelaxedAt-shortened next next_from last last_from c way shortest (h.others c fresh).0 (h.others c fresh).1 w s)
-        | inr q ↦ IsRelaxedAt-same next next_from last last_from (at left j) (s.others (at left j) (fresh j (omega arith))).0 (s.others (at left j) (fresh j (omega arith))).1 (h.before j (omega arith))
+        | inr q ↦ IsRelaxedAt-same next next_from last last_from
+            (at left j) (s.others (at left j) (fresh j (omega arith))).0 (s.others (at left j) (fresh j (omega arith))).1 (h.before j (omega arith))
       ];
       others = λ d q.
           let nd : d ≢ c = λ x. q k (omega arith) (sym e ∙ sym x) in
@@ -109,7 +110,8 @@ module _ (cost : ℕ → ℕ → ℕ) (fall : List ℕ) (r place depth own : ℕ
         fresh : (j : ℕ) → j < k → at left j ≢ c
         fresh j l x = ahead j l (x ∙ e)
 
-  pub IsRelaxed-from_all : (most : ℕ) (next next_from : List ℕ) (k far : ℕ) → k ≡ length left → IsRelaxing most next next_from k far → IsRelaxed cost fall r place depth own left distance «from» next next_from
+  pub IsRelaxed-from_all : (most : ℕ) (next next_from : List ℕ) (k far : ℕ)
+      → k ≡ length left → IsRelaxing most next next_from k far → IsRelaxed cost fall r place depth own left distance «from» next next_from
   IsRelaxed-from_all most next next_from k far e h = record {
     each = λ c m. let w = at-Contains left c m in subst (IsRelaxedAt cost fall r place depth own distance «from» next next_from) w.2 (h.before w.0 (omega (arith, e, w.1)));
     others = λ c n. h.others c (λ j l x. n (Contains-at left j c (omega (arith, e, l)) x));

@@ -1,5 +1,6 @@
 -- Columns come into view along their lines.
-use Rattle.std.proofs.Common.{◌≡◌, ◌≢◌, ℕ, ◌+◌, ◌*◌, ◌/◌, ◌%◌, ◌<◌, ◌≤◌, ◌⊎◌, inl, inr, refl, List, [], ◌∷◌, ◌++◌, length, map, replicate, ℤ, pos, ◌≤ℤ◌, nat_abs, All, Contains, sym, ap, subst, ◌∙◌, arith}
+use Rattle.std.proofs.Common.{◌≡◌, ◌≢◌, ℕ, ◌+◌, ◌*◌, ◌/◌, ◌%◌, ◌<◌, ◌≤◌, ◌⊎◌, inl, inr, refl, List, [], ◌∷◌, ◌++◌, length, map, replicate, ℤ, pos, ◌≤ℤ◌, nat_abs, All, Contains}
+use Rattle.std.proofs.Common.{sym, ap, subst, ◌∙◌, arith}
 use Rattle.std.proofs.Math.Seq.{get_or-append_seam}
 use Rattle.std.proofs.Math.Nat.{mul-le-mul_right, div-mul-le_self, div-add-mod, mod-lt}
 use Rattle.std.proofs.lemmas.Int.{ints}
@@ -121,11 +122,13 @@ module _ (lines long : ℕ) (columns : List Column) (used falls after : List ℕ
 
     old : (k : ℕ) → k < length columns → IsOld k
     unfolding IsOld
-    old k l = let e : column_at wider k ≡ column_at columns k = get_or_append_left columns (column_after columns f ∷ []) no_column k l in (l, ap (λ (c : Column). c.line) e, ap (λ (c : Column). c.place) e)
+    old k l = let e : column_at wider k ≡ column_at columns k = get_or_append_left columns (column_after columns f ∷ []) no_column k l in
+        (l, ap (λ (c : Column). c.line) e, ap (λ (c : Column). c.place) e)
 
     new : (k : ℕ) → k ≡ length columns → IsNew k
     unfolding IsNew
-    new k e = let q : column_at wider k ≡ column_after columns f = ap (column_at wider) e ∙ get_or-append_seam columns (column_after columns f) [] no_column in (e, ap (λ (c : Column). c.line) q, ap (λ (c : Column). c.place) q)
+    new k e = let q : column_at wider k ≡ column_after columns f = ap (column_at wider) e ∙ get_or-append_seam columns (column_after columns f) [] no_column in
+        (e, ap (λ (c : Column). c.line) q, ap (λ (c : Column). c.place) q)
 
     either : (k : ℕ) → k < length wider → IsOld k ⊎ IsNew k
     either k l = elim (same_or_not k (length columns)) [
@@ -252,7 +255,8 @@ module _ (lines long : ℕ) (columns : List Column) (used falls after : List ℕ
     own : (r : ℕ) → r < length after → at after r < length columns
     own r l = p.inside r 0 l
 
-    cheapest : (r d : ℕ) → r < length after → (d < length columns) ⊎ (d ≡ length columns) → paid (sizes (seen cost long wide)) (falls ++ 0 ∷ []) r (at after r) ≤ paid (sizes (seen cost long wide)) (falls ++ 0 ∷ []) r d
+    cheapest : (r d : ℕ) → r < length after → (d < length columns) ⊎ (d ≡ length columns)
+        → paid (sizes (seen cost long wide)) (falls ++ 0 ∷ []) r (at after r) ≤ paid (sizes (seen cost long wide)) (falls ++ 0 ∷ []) r d
     cheapest r d l (inl a) = omega (arith, paid_old r (at after r) (own r l), paid_old r d a, (p.cheapest r l).cheapest d a)
     cheapest r d l (inr e) = subst (λ x. paid (sizes (seen cost long wide)) (falls ++ 0 ∷ []) r (at after r) ≤ paid (sizes (seen cost long wide)) (falls ++ 0 ∷ []) r x) (sym e)
         (omega (arith, paid_old r (at after r) (own r l), paid_new r, (p.cheapest r l).cheapest f o.inside, taken_paid r, dearer r (omega (arith, l, few))))
@@ -274,11 +278,13 @@ module _ (lines long : ℕ) (columns : List Column) (used falls after : List ℕ
     }
 
 -- the prices of the columns in view after a row's step
-pub IsPlaced-next : (lines long : ℕ) (columns : List Column) (used falls after : List ℕ) (f : ℕ) → IsView lines long columns used → IsOneMore (length columns) used falls after f → (rows : ℕ) (cost : ℕ → ℕ → ℤ) → HasCosts rows (lines * long) cost
+pub IsPlaced-next : (lines long : ℕ) (columns : List Column) (used falls after : List ℕ) (f : ℕ)
+    → IsView lines long columns used → IsOneMore (length columns) used falls after f → (rows : ℕ) (cost : ℕ → ℕ → ℤ) → HasCosts rows (lines * long) cost
     → ((r l j k : ℕ) → l < lines → j ≤ k → k < long → cost r (l * long + j) ≤ℤ cost r (l * long + k)) → IsPlaced (sizes (seen cost long columns)) (length columns) falls after → length after ≤ rows
     → (grown : List Column) (grown_falls : List ℕ) → IsWidened long columns falls f grown grown_falls → IsPlaced (sizes (seen cost long grown)) (length grown) grown_falls after
 IsPlaced-next lines long columns used falls after f v o rows cost costs rise p few grown grown_falls (inl w) =
-    subst (λ x. IsPlaced (sizes (seen cost long x)) (length x) grown_falls after) (sym w.1) (subst (λ x. IsPlaced (sizes (seen cost long (columns ++ column_after columns f ∷ []))) (length (columns ++ column_after columns f ∷ [])) x after) (sym w.2)
+    subst (λ x. IsPlaced (sizes (seen cost long x)) (length x) grown_falls after) (sym w.1)
+    (subst (λ x. IsPlaced (sizes (seen cost long (columns ++ column_after columns f ∷ []))) (length (columns ++ column_after columns f ∷ [])) x after) (sym w.2)
     (IsPlaced-wider lines long columns used falls after f v o rows cost costs rise p few w.0))
 IsPlaced-next lines long columns used falls after f v o rows cost costs rise p few grown grown_falls (inr w) =
     subst (λ x. IsPlaced (sizes (seen cost long x)) (length x) grown_falls after) (sym w.1) (subst (λ x. IsPlaced (sizes (seen cost long columns)) (length columns) x after) (sym w.2) p)
@@ -293,22 +299,27 @@ HasUnfallen-next long columns used falls after f o size wide wide_falls (inl w) 
 )
 HasUnfallen-next long columns used falls after f o size wide wide_falls (inr w) = (f, omega (arith, ap length w.1, o.inside), ap (λ x. at x f) w.2 ∙ o.unfallen)
 
-pub longer-next : (long : ℕ) (columns : List Column) (falls : List ℕ) (f : ℕ) (wide : List Column) (wide_falls : List ℕ) → IsWidened long columns falls f wide wide_falls → (length columns ≤ length wide) × (length wide ≤ length columns + 1)
-longer-next long columns falls f wide wide_falls (inl w) = (omega (arith, ap length w.1, length-append columns (column_after columns f ∷ [])), omega (arith, ap length w.1, length-append columns (column_after columns f ∷ [])))
+pub longer-next : (long : ℕ) (columns : List Column) (falls : List ℕ) (f : ℕ) (wide : List Column) (wide_falls : List ℕ)
+    → IsWidened long columns falls f wide wide_falls → (length columns ≤ length wide) × (length wide ≤ length columns + 1)
+longer-next long columns falls f wide wide_falls (inl w) =
+    (omega (arith, ap length w.1, length-append columns (column_after columns f ∷ [])), omega (arith, ap length w.1, length-append columns (column_after columns f ∷ [])))
 longer-next long columns falls f wide wide_falls (inr w) = (omega (arith, ap length w.1), omega (arith, ap length w.1))
 
 -- ---- the columns in view as a table
-pub HasCosts-seen : (rows lines long : ℕ) (cost : ℕ → ℕ → ℤ) (columns : List Column) → HasCosts rows (lines * long) cost → AreInside lines long columns → HasCosts rows (length columns) (seen cost long columns)
+pub HasCosts-seen : (rows lines long : ℕ) (cost : ℕ → ℕ → ℤ) (columns : List Column)
+    → HasCosts rows (lines * long) cost → AreInside lines long columns → HasCosts rows (length columns) (seen cost long columns)
 HasCosts-seen rows lines long cost columns h inside r k lr lk =
     let i = All-get_or (λ c. (c.line < lines) × (c.place < long)) columns k no_column lk inside in
     h r (number_at long columns k) lr (number-inside lines long (column_at columns k) i.0 i.1)
 
-pub HasCosts-read : (rows count lines long : ℕ) (cost : ℕ → ℕ → ℤ) (columns columns2 : List Column) → lines * long ≡ count → columns2 ≡ columns → HasCosts rows count cost → AreInside lines long columns → HasCosts rows (length columns2) (seen cost long columns2)
+pub HasCosts-read : (rows count lines long : ℕ) (cost : ℕ → ℕ → ℤ) (columns columns2 : List Column) → lines * long ≡ count
+    → columns2 ≡ columns → HasCosts rows count cost → AreInside lines long columns → HasCosts rows (length columns2) (seen cost long columns2)
 HasCosts-read rows count lines long cost columns columns2 whole e h inside =
     subst (λ x. HasCosts rows (length x) (seen cost long x)) (sym e) (HasCosts-seen rows lines long cost columns (subst (λ x. HasCosts rows x cost) (sym whole) h) inside)
 
 -- while a row has no column, some column in view is free
-module _ (lines long : ℕ) (columns : List Column) (used : List ℕ) (v : IsView lines long columns used) (some : 1 ≤ long) (few : length used < lines * long) (own : All (λ k. k < length columns) used) where
+module _ (lines long : ℕ) (columns : List Column)
+    (used : List ℕ) (v : IsView lines long columns used) (some : 1 ≤ long) (few : length used < lines * long) (own : All (λ k. k < length columns) used) where
   abbrev numbers : List ℕ
   numbers = map (number_at long columns) used
 
@@ -326,7 +337,8 @@ module _ (lines long : ℕ) (columns : List Column) (used : List ℕ) (v : IsVie
 
   taken_number : (k : ℕ) → Contains used k → Contains numbers (number_at long columns k)
   taken_number k m = let w = at-Contains used k m in
-      Contains-at (map (number_at long columns) used) w.0 (number_at long columns k) (omega (arith, w.1, length-map used (number_at long columns))) (get_or-map (number_at long columns) used w.0 0 0 w.1 ∙ ap (number_at long columns) w.2)
+      Contains-at (map (number_at long columns) used) w.0 (number_at long columns k) (omega (arith, w.1, length-map used (number_at long columns)))
+      (get_or-map (number_at long columns) used w.0 0 0 w.1 ∙ ap (number_at long columns) w.2)
 
   pub some_free : (k : ℕ) × (k < length columns) × ¬ Contains used k
   some_free =

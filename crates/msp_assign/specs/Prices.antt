@@ -3,7 +3,7 @@ use Rattle.std.specs.Prelude.{◌≡◌, ◌≢◌, ℕ, ◌<◌, ◌^◌, ℤ, 
 use Rattle.msp_class.specs.Sums.{int_total_below}
 use Rattle.msp_assign.specs.declared.assignment.Assignment.{Assignment}
 
--- The most that a row costs at a column.
+-- The most that a row costs at a column. What all rows pay together, each twice as much, has to fit 128 bits.
 abbrev pub greatest_cost : ℕ
 greatest_cost = 2 ^ 100
 

@@ -1,6 +1,6 @@
 -- The search for a free column for one more row, from the columns and prices of the rows before it, among the columns in view. No public
 -- contract cites this file.
-use Rattle.std.specs.Prelude.{pos, ◌≡◌, ◌≢◌, ℕ, ◌+◌, ◌-◌, ◌<◌, ◌≤◌, ◌^◌, ◌⊎◌, ℤ, List, [], ◌∷◌, ◌++◌, Option, None, length, slice_index_or, unsigned_abs, MatchOption, All, AllPairs, Contains}
+use Rattle.std.specs.Prelude.{pos, ◌≡◌, ◌≢◌, ℕ, ◌+◌, ◌-◌, ◌<◌, ◌≤◌, ◌*◌, ◌^◌, ◌⊎◌, ℤ, List, [], ◌∷◌, ◌++◌, Option, None, length, slice_index_or, unsigned_abs, MatchOption, All, AllPairs, Contains}
 use Rattle.std.specs.List.Sorted.{IsPermutation}
 use Rattle.msp_class.specs.declared.list.TheConstants.{PLACES}
 use Rattle.msp_matching.specs.Passing.{at}
@@ -16,7 +16,7 @@ paid cost fall r c = cost r c + at fall c
 
 -- The most that a row pays at a column, and that the search goes: a cost, and a price as far below 0.
 abbrev pub greatest_payment : ℕ
-greatest_payment = 2 ^ 101
+greatest_payment = 2 * greatest_cost
 
 -- The row pays at no column less than at c.
 pub record IsCheapest (cost : ℕ → ℕ → ℕ) (columns : ℕ) (fall : List ℕ) (r c : ℕ) : Type 0 where

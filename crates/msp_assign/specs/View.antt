@@ -35,8 +35,10 @@ pub record AreFirst (lines : ℕ) (columns : List Column) : Type 0 where
 pub record IsView (lines long : ℕ) (columns : List Column) (used : List ℕ) : Type 0 where
   pub inside : AreInside lines long columns
   pub once : (j k : ℕ) → j < length columns → k < length columns → (column_at columns j).line ≡ (column_at columns k).line → (column_at columns j).place ≡ (column_at columns k).place → j ≡ k
-  pub behind : (j k : ℕ) → j < length columns → k < length columns → (column_at columns j).line ≡ (column_at columns k).line → (column_at columns j).place < (column_at columns k).place → Contains used j
-  pub ahead : (l k : ℕ) → l < lines → k < long → (j : ℕ) × (j < length columns) × ((column_at columns j).line ≡ l) × ((column_at columns j).place ≤ k) × (((column_at columns j).place ≡ k) ⊎ ¬ Contains used j)
+  pub behind : (j k : ℕ) → j < length columns → k < length columns
+      → (column_at columns j).line ≡ (column_at columns k).line → (column_at columns j).place < (column_at columns k).place → Contains used j
+  pub ahead : (l k : ℕ) → l < lines → k < long
+      → (j : ℕ) × (j < length columns) × ((column_at columns j).line ≡ l) × ((column_at columns j).place ≤ k) × (((column_at columns j).place ≡ k) ⊎ ¬ Contains used j)
 
 -- The column that is next on the line after `taken`.
 abbrev pub column_after : List Column → ℕ → Column

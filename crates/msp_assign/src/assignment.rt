@@ -8,7 +8,7 @@ use crate::prices::{column_prices, numbers, row_prices};
 use crate::single::Single;
 use crate::view::View;
 use crate::{Costs, Lines};
-use msp_class::{List, NoMemory};
+use msp_class::{List, MOST_JOBS, NoMemory};
 use std::alloc::{AllocError, Global};
 
 /// The column of each row, and the prices of the rows and the columns.
@@ -20,8 +20,8 @@ pub struct Assignment {
 }
 
 /// The most rows.
-pub const MOST_ROWS: u32 = 400;
-/// The most columns.
+pub const MOST_ROWS: u32 = MOST_JOBS as u32;
+/// The most columns: at least `MOST_MACHINES` places for each of `MOST_JOBS` jobs.
 pub const MOST_COLUMNS: u32 = 1 << 20;
 
 /// The limits of `assign`, by their numbers.

@@ -183,7 +183,8 @@ fn spread<C: Costs>(
     requires distances { length search.old.distance.items ≡ C.column_count costs.now }
     requires places { length search.old.from.items ≡ C.column_count costs.now }
     requires near { AreNearest search.old.distance.items search.old.left.items near reached.depth }
-    ensures relaxed { IsRelaxed (sizes (C.cost costs.now)) falls.now reached.row reached.place reached.depth reached.own search.old.left.items search.old.distance.items search.old.from.items search.new.distance.items search.new.from.items }
+    ensures relaxed { IsRelaxed (sizes (C.cost costs.now))
+        falls.now reached.row reached.place reached.depth reached.own search.old.left.items search.old.distance.items search.old.from.items search.new.distance.items search.new.from.items }
     ensures same { IsPermutation search.old.left.items search.new.left.items }
     ensures nearest { IsNearest search.new.distance.items search.new.left.items search.new.nearest }
     ensures tree { search.new.tree.items ≡ search.old.tree.items }

@@ -20,14 +20,16 @@ module _ (i : Instance) (env : i.class.env ≡ One) (greatest : is_greatest i.cl
   owed : (t : Schedule) → Feasible i t → (t.unit *ℤ cost) ≤ℤ cost_of i t
   owed t f = law_of_blocks _ i t heads jobs cost env greatest inner.conditions f b.block b.value
 
-  module _ (s : Schedule) (single : s.unit ≡ pos 1) (feasible : Feasible i s) (some : 0 < length i.jobs) (each : (k : ℕ) → k < length i.jobs → (moment : ℕ) × (end_of s k ≤ℤ pos moment) × (cost_at i k moment ≤ℤ cost)) where
+  module _ (s : Schedule) (single : s.unit ≡ pos 1) (feasible : Feasible i s)
+      (some : 0 < length i.jobs) (each : (k : ℕ) → k < length i.jobs → (moment : ℕ) × (end_of s k ≤ℤ pos moment) × (cost_at i k moment ≤ℤ cost)) where
     no_more : cost_of i s ≤ℤ cost
     no_more = cost_of-least i s cost greatest some by
       where
         by : (k : ℕ) → k < length i.jobs → charge_of i s k ≤ℤ cost
         by k l =
             let (moment, early, costs) = each k l in
-            subst (λ u. job_cost i.class.crit u (job_at i k) (end_of s k) ≤ℤ cost) (sym single) (≤ℤ_trans (job_cost-mono i.class.crit (pos 1) (job_at i k) (end_of s k) (pos moment) (omega (arith, ints)) early) costs)
+            subst (λ u. job_cost i.class.crit u (job_at i k) (end_of s k) ≤ℤ cost)
+            (sym single) (≤ℤ_trans (job_cost-mono i.class.crit (pos 1) (job_at i k) (end_of s k) (pos moment) (omega (arith, ints)) early) costs)
 
     scaled : (t : Schedule) → Feasible i t → (cost_of i s *ℤ t.unit) ≤ℤ (t.unit *ℤ cost)
     scaled t f = ≤ℤ_trans (≤ℤ_of_same (*ℤ_comm (cost_of i s) t.unit)) (*ℤ-mono_nonneg t.unit (positive t.unit f.unit) no_more)

@@ -1,5 +1,6 @@
 -- One job more is placed: the one that ends last in the first block takes what the others of the block leave of its time.
-use Rattle.std.proofs.Common.{◌≡◌, ◌≢◌, ℕ, ◌+◌, ◌<◌, ◌≤◌, false, eqb, ◌⊎◌, inl, inr, List, [], ◌∷◌, ◌++◌, length, get_or, filter, All, AllPairs, Contains, sum_by, ℤ, ◌≤ℤ◌, refl, sym, ap, subst, ◌∙◌, arith, le_trans, length-append, append_assoc}
+use Rattle.std.proofs.Common.{◌≡◌, ◌≢◌, ℕ, ◌+◌, ◌<◌, ◌≤◌, false, eqb, ◌⊎◌, inl, inr, List, [], ◌∷◌, ◌++◌, length, get_or, filter, All, AllPairs, Contains, sum_by, ℤ, ◌≤ℤ◌, refl}
+use Rattle.std.proofs.Common.{sym, ap, subst, ◌∙◌, arith, le_trans, length-append, append_assoc}
 use Rattle.std.proofs.lemmas.Bool.{cases_Bool, eqb-true, eqb-false, eq-eqb, false≢true}
 use Rattle.std.proofs.lemmas.List.{get_or_default}
 use Rattle.std.proofs.lemmas.List.Sums.{sum_by-cons, sum_by-append}
@@ -16,18 +17,20 @@ use Rattle.msp_schedule.specs.Blocks.{cost_at, total_time, HasNoSuccessor, Leads
 use Rattle.msp_schedule.specs.Intervals.{IsApart, size_of, work_of}
 use Rattle.msp_schedule.proofs.judging.JobShares.{filter_none, filter_whole}
 use Rattle.msp_schedule.specs.Piece.{job_of, start, finish}
-use Rattle.msp_schedule.specs.Rows.{piece, time_at}
+use Rattle.msp_schedule.specs.BackToBack.{piece, time_at}
 use Rattle.msp_schedule.proofs.feasible.Series.{AllPairs-append}
 use Rattle.msp_route.specs.LastJob.{EndsAt, CostsLess}
 use Rattle.msp_schedule.proofs.lists.Intervals.{piece_of}
 use Rattle.msp_schedule.proofs.lists.Parts.{All-front, AllPairs-front, AllPairs-back}
 use Rattle.msp_blocks.specs.Filling.{done_by, busy_until, Follow, gaps, IsPut, IsFilling, IsBound, CostAtMost}
 use Rattle.msp_blocks.proofs.Lists.{All-without, All-at, AllPairs-without, Contains-with, Contains-at, Contains-without, Contains-once}
-use Rattle.msp_blocks.proofs.Idle.{done-mono, done-tight, busy-mono, busy-append, busy-done, busy-without, Follow-append, Follow-heads, around, gaps-inside, gaps-made, gaps-apart, gaps-size, gaps-few, gaps-idle}
+use Rattle.msp_blocks.proofs.Idle.{done-mono, done-tight, busy-mono, busy-append, busy-done, busy-without, Follow-append, Follow-heads, around, gaps-inside, gaps-made, gaps-apart}
+use Rattle.msp_blocks.proofs.Idle.{gaps-size, gaps-few, gaps-idle}
 
 -- what holds of the pieces of a job: the rest is by whose they are
 work_of-append : (ps new : List Piece) (j : ℕ) → work_of job_of start finish (ps ++ new) j ≡ work_of job_of start finish ps j + work_of job_of start finish new j
-work_of-append ps new j = ap (sum_by (size_of start finish)) (filter-append (λ q. eqb (job_of q) j) ps new) ∙ sum_by-append (size_of start finish) (filter (λ q. eqb (job_of q) j) ps) (filter (λ q. eqb (job_of q) j) new)
+work_of-append ps new j = ap (sum_by (size_of start finish)) (filter-append (λ q. eqb (job_of q) j) ps new)
+    ∙ sum_by-append (size_of start finish) (filter (λ q. eqb (job_of q) j) ps) (filter (λ q. eqb (job_of q) j) new)
 
 work_of-none : (ps : List Piece) (j : ℕ) → All (λ p. p.job ≢ j) ps → work_of job_of start finish ps j ≡ 0
 work_of-none ps j h = ap (sum_by (size_of start finish)) (filter_none (λ q. eqb (job_of q) j) ps (λ k d l. no (get_or ps k d).job (h k d l)))
@@ -162,13 +165,15 @@ module _ (i : Instance) (head : ℕ → ℕ) (greatest : ℕ) (takes : (j : ℕ)
   Idle p = busy_until head time 0 (X ++ (Y ++ C)) (finish p) ≤ start p
 
   still_idle : All Idle ps
-  still_idle k d b = le_trans (busy-without head time 0 X l (Y ++ C) (finish (get_or ps k d))) (subst (λ xs. busy_until head time 0 xs (finish (get_or ps k d)) ≤ start (get_or ps k d)) whole_is (f.idle k d b))
+  still_idle k d b = le_trans (busy-without head time 0 X l (Y ++ C) (finish (get_or ps k d)))
+      (subst (λ xs. busy_until head time 0 xs (finish (get_or ps k d)) ≤ start (get_or ps k d)) whole_is (f.idle k d b))
 
   sorted_after : AllPairs (λ j k. head j ≤ head k) (Y ++ C)
   sorted_after = AllPairs-tail (λ j k. head j ≤ head k) l (Y ++ C) (AllPairs-back (λ j k. head j ≤ head k) X (l ∷ (Y ++ C)) sorted_before)
 
   begun : (y : ℕ) → busy_until head time 0 X y ≤ m
-  begun y = le_trans (busy-done head time 0 X y) (subst (λ n. done_by head time 0 X ≤ n) (done-tight head time h X (Follow-append head time h X (l ∷ Y) tight).0) (done-mono head time 0 h X (omega arith)))
+  begun y = le_trans (busy-done head time 0 X y)
+      (subst (λ n. done_by head time 0 X ≤ n) (done-tight head time h X (Follow-append head time h X (l ∷ Y) tight).0) (done-mono head time 0 h X (omega arith)))
 
   newly_idle : All Idle new
   newly_idle k d b =
@@ -199,12 +204,14 @@ module _ (i : Instance) (head : ℕ → ℕ) (greatest : ℕ) (takes : (j : ℕ)
       | inr there ↦ omega (arith, (inside k x y).1, All-contains (λ c. e < head c) C a.after later there)
     ]
 
-    old_new : (k : ℕ) (x : Piece) → k < length ps → (k' : ℕ) (x' : Piece) → k' < length new → (get_or ps k x).job ≡ a.before → (get_or new k' x').job ≡ a.after → finish (get_or ps k x) ≤ start (get_or new k' x')
+    old_new : (k : ℕ) (x : Piece) → k < length ps → (k' : ℕ) (x' : Piece)
+        → k' < length new → (get_or ps k x).job ≡ a.before → (get_or new k' x').job ≡ a.after → finish (get_or ps k x) ≤ start (get_or new k' x')
     old_new k x y k' x' y' same is =
         let to_l : a.after ≡ l = sym is ∙ own k' x' y' in
         omega (arith, f.early n d b k x y same (subst (Contains (block ++ C)) (sym to_l) l_left), ap head to_l, head_is_early, (inside k' x' y').0)
 
-    new_old : (k : ℕ) (x : Piece) → k < length new → (k' : ℕ) (x' : Piece) → k' < length ps → (get_or new k x).job ≡ a.before → (get_or ps k' x').job ≡ a.after → finish (get_or new k x) ≤ start (get_or ps k' x')
+    new_old : (k : ℕ) (x : Piece) → k < length new → (k' : ℕ) (x' : Piece)
+        → k' < length ps → (get_or new k x).job ≡ a.before → (get_or ps k' x').job ≡ a.after → finish (get_or new k x) ≤ start (get_or ps k' x')
     new_old k x y k' x' y' same is = elim (apart_from_block k' x' y') [
       | inl g ↦
           let from_l : a.before ≡ l = sym same ∙ own k x y in
@@ -220,12 +227,15 @@ module _ (i : Instance) (head : ℕ → ℕ) (greatest : ℕ) (takes : (j : ℕ)
         omega (arith, rise, ap head from_l, ap head to_l, ap time from_l, takes l l_inside)
 
   early_now : All (λ a. All (λ p. p.job ≡ a.before → Contains rest a.after → finish p ≤ head a.after) (ps ++ new)) i.arcs
-  early_now n d b = All-append (λ p. p.job ≡ (get_or i.arcs n d).before → Contains rest (get_or i.arcs n d).after → finish p ≤ head (get_or i.arcs n d).after) ps new (λ k x y same c. f.early n d b k x y same (to_whole (get_or i.arcs n d).after c)) (early_new n d b)
+  early_now n d b = All-append (λ p. p.job ≡ (get_or i.arcs n d).before → Contains rest (get_or i.arcs n d).after → finish p ≤ head (get_or i.arcs n d).after)
+      ps new (λ k x y same c. f.early n d b k x y same (to_whole (get_or i.arcs n d).after c)) (early_new n d b)
 
   ordered_now : All (λ a. All (λ p. All (λ q. p.job ≡ a.before → q.job ≡ a.after → finish p ≤ start q) (ps ++ new)) (ps ++ new)) i.arcs
   ordered_now n d b = All-append (λ p. All (λ q. p.job ≡ (get_or i.arcs n d).before → q.job ≡ (get_or i.arcs n d).after → finish p ≤ start q) (ps ++ new)) ps new
-      (λ k x y. All-append (λ q. (get_or ps k x).job ≡ (get_or i.arcs n d).before → q.job ≡ (get_or i.arcs n d).after → finish (get_or ps k x) ≤ start q) ps new (f.ordered n d b k x y) (λ k' x' y' same is. old_new n d b k x y k' x' y' same is))
-      (λ k x y. All-append (λ q. (get_or new k x).job ≡ (get_or i.arcs n d).before → q.job ≡ (get_or i.arcs n d).after → finish (get_or new k x) ≤ start q) ps new (λ k' x' y' same is. new_old n d b k x y k' x' y' same is) (λ k' x' y' same is. absurd (new_new n d b k x y k' x' y' same is)))
+      (λ k x y. All-append (λ q. (get_or ps k x).job ≡ (get_or i.arcs n d).before → q.job ≡ (get_or i.arcs n d).after → finish (get_or ps k x) ≤ start q)
+      ps new (f.ordered n d b k x y) (λ k' x' y' same is. old_new n d b k x y k' x' y' same is))
+      (λ k x y. All-append (λ q. (get_or new k x).job ≡ (get_or i.arcs n d).before → q.job ≡ (get_or i.arcs n d).after → finish (get_or new k x) ≤ start q)
+      ps new (λ k' x' y' same is. new_old n d b k x y k' x' y' same is) (λ k' x' y' same is. absurd (new_new n d b k x y k' x' y' same is)))
 
   work_last : work_of job_of start finish (ps ++ new) l ≡ time l
   work_last = omega (arith, work_of-append ps new l, work_of-none ps l l_new, work_of-own new l own, gaps-size head time l m e Y room, parts)
@@ -336,7 +346,8 @@ module _ (i : Instance) (head : ℕ → ℕ) (greatest : ℕ) (takes : (j : ℕ)
     leads_to_none k d b p = from_last refl p (Contains-get_or block k d b)
 
     no_successor : (j : ℕ) → LeadsToNone i block j → HasNoSuccessor i block j
-    no_successor j none n d b same there = All-contains (λ x. ¬ HasPath i.arcs j x) block (get_or i.arcs n d).after none there (one (subst (λ x. HasStep i.arcs x (get_or i.arcs n d).after) same (Contains-get_or i.arcs n d b)))
+    no_successor j none n d b same there =
+        All-contains (λ x. ¬ HasPath i.arcs j x) block (get_or i.arcs n d).after none there (one (subst (λ x. HasStep i.arcs x (get_or i.arcs n d).after) same (Contains-get_or i.arcs n d b)))
 
     -- ---- so the block's value is what the last job costs at its end
     module _ (heads : List ℕ) (each : length heads ≡ length i.jobs) (are : (j : ℕ) → get_or heads j 0 ≡ head j) (sound : IsSound i (λ j. get_or heads j 0)) where

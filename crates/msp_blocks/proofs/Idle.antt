@@ -1,5 +1,6 @@
 -- The earliest schedule of jobs by their heads, when it is idle, and what it leaves of a block when one job is taken out.
-use Rattle.std.proofs.Common.{◌≡◌, ℕ, suc, ◌+◌, ◌-◌, ◌<◌, ◌≤◌, max, Bool, true, false, cond, ltb, ◌⊎◌, inl, inr, List, [], ◌∷◌, ◌++◌, length, get_or, take, All, AllPairs, sum_by, refl, sym, ap, subst, ◌∙◌, arith, le_trans, length-append}
+use Rattle.std.proofs.Common.{◌≡◌, ℕ, suc, ◌+◌, ◌-◌, ◌<◌, ◌≤◌, max, Bool, true, false, cond, ltb, ◌⊎◌, inl, inr, List, [], ◌∷◌, ◌++◌, length, get_or, take, All, AllPairs, sum_by}
+use Rattle.std.proofs.Common.{refl, sym, ap, subst, ◌∙◌, arith, le_trans, length-append}
 use Rattle.std.proofs.lemmas.Bool.{cases_Bool, cases_lt, ltb-true, ltb-false}
 use Rattle.std.proofs.lemmas.List.Sums.{sum_by-cons, sum_by-append}
 use Rattle.std.proofs.lemmas.List.Elements.{All-nil, All-cons, All-head, All-tail, All-append, All-weaker}
@@ -7,7 +8,7 @@ use Rattle.msp_class.proofs.Sums.{AllPairs-head, AllPairs-tail}
 use Rattle.msp_schedule.specs.declared.Piece.{Piece}
 use Rattle.msp_schedule.specs.Intervals.{IsApart, size_of}
 use Rattle.msp_schedule.specs.Piece.{start, finish}
-use Rattle.msp_schedule.specs.Rows.{piece}
+use Rattle.msp_schedule.specs.BackToBack.{piece}
 use Rattle.msp_schedule.proofs.feasible.Series.{AllPairs-append}
 use Rattle.msp_blocks.specs.Filling.{done_by, busy_until, Follow, gap, gaps}
 
@@ -178,7 +179,8 @@ module _ (q p : ℕ → ℕ) where
   gaps-apart job t e (j ∷ ys) h =
       AllPairs-append (IsApart start finish) (gap job t (q j)) (gaps q p job (max t (q j) + p j) ys e) (gap-apart job t (q j)) (gaps-apart job (max t (q j) + p j) e ys h)
       (gap-All (λ g. All (IsApart start finish g) (gaps q p job (max t (q j) + p j) ys e)) job t (q j) (λ l.
-      All-weaker (Lies (max t (q j) + p j) e) (IsApart start finish (piece job t (q j))) (λ g l. inl (le_trans (head_first t (q j) (p j)) l.0)) (gaps q p job (max t (q j) + p j) ys e) (gaps-inside job (max t (q j) + p j) e ys h)))
+      All-weaker (Lies (max t (q j) + p j) e) (IsApart start finish (piece job t (q j)))
+      (λ g l. inl (le_trans (head_first t (q j) (p j)) l.0)) (gaps q p job (max t (q j) + p j) ys e) (gaps-inside job (max t (q j) + p j) e ys h)))
 
   gap-size : (job a b : ℕ) → sum_by (size_of start finish) (gap job a b) ≡ b - a
   gap-size job a b = by (ltb a b) refl
@@ -210,6 +212,8 @@ module _ (q p : ℕ → ℕ) where
   gaps-idle job s t e [] cs h sorted later = gap-All (Idle s cs) job t e (λ l. omega (arith, busy-none s cs e (All-weaker (λ c. e < q c) (λ c. e ≤ q c) (λ c m. omega (arith, m)) cs later), h))
   gaps-idle job s t e (j ∷ ys) cs h sorted later =
       All-append (Idle s (j ∷ ys ++ cs)) (gap job t (q j)) (gaps q p job (max t (q j) + p j) ys e)
-      (gap-All (Idle s (j ∷ ys ++ cs)) job t (q j) (λ l. omega (arith, busy-none s (j ∷ ys ++ cs) (q j) (All-cons (λ k. q j ≤ q k) j (ys ++ cs) (omega arith) (AllPairs-head (λ j k. q j ≤ q k) j (ys ++ cs) sorted)), h)))
-      (All-weaker (Idle (max s (q j) + p j) (ys ++ cs)) (Idle s (j ∷ ys ++ cs)) (λ g l. either (ltb (q j) (finish g)) l (le_trans (busy-mono s (max s (q j) + p j) (ys ++ cs) (finish g) (more s (q j) (p j))) l)) (gaps q p job (max t (q j) + p j) ys e)
+      (gap-All (Idle s (j ∷ ys ++ cs)) job t (q j)
+      (λ l. omega (arith, busy-none s (j ∷ ys ++ cs) (q j) (All-cons (λ k. q j ≤ q k) j (ys ++ cs) (omega arith) (AllPairs-head (λ j k. q j ≤ q k) j (ys ++ cs) sorted)), h)))
+      (All-weaker (Idle (max s (q j) + p j) (ys ++ cs)) (Idle s (j ∷ ys ++ cs))
+      (λ g l. either (ltb (q j) (finish g)) l (le_trans (busy-mono s (max s (q j) + p j) (ys ++ cs) (finish g) (more s (q j) (p j))) l)) (gaps q p job (max t (q j) + p j) ys e)
       (gaps-idle job (max s (q j) + p j) (max t (q j) + p j) e ys cs (omega (arith, h)) (AllPairs-tail (λ j k. q j ≤ q k) j (ys ++ cs) sorted) later))

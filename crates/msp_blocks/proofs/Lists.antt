@@ -28,10 +28,11 @@ module _ {X : Type 0} where
   Contains-at xs x ys = All-at (Contains (xs ++ x ∷ ys)) xs x ys (All-contains_itself (xs ++ x ∷ ys))
 
   pub Contains-without : (xs : List X) (x : X) (ys : List X) (y : X) → y ≢ x → Contains (xs ++ x ∷ ys) y → Contains (xs ++ ys) y
-  Contains-without xs x ys y other c = elim (All-contains (λ z. (z ≡ x) ⊎ Contains (xs ++ ys) z) (xs ++ x ∷ ys) y (All-with (λ z. (z ≡ x) ⊎ Contains (xs ++ ys) z) xs x ys (inl refl) (λ k d l. inr (All-contains_itself (xs ++ ys) k d l))) c) [
-    | inl e ↦ absurd (other e)
-    | inr h ↦ h
-  ]
+  Contains-without xs x ys y other c = elim (All-contains (λ z. (z ≡ x) ⊎ Contains (xs ++ ys) z)
+      (xs ++ x ∷ ys) y (All-with (λ z. (z ≡ x) ⊎ Contains (xs ++ ys) z) xs x ys (inl refl) (λ k d l. inr (All-contains_itself (xs ++ ys) k d l))) c) [
+        | inl e ↦ absurd (other e)
+        | inr h ↦ h
+      ]
 
   -- each of several that differ stands once
   pub Contains-once : (xs : List X) (x : X) (ys : List X) → AllPairs (λ y z. y ≢ z) (xs ++ x ∷ ys) → ¬ Contains (xs ++ ys) x
@@ -39,4 +40,5 @@ module _ {X : Type 0} where
     where
       others : (xs : List X) → AllPairs (λ y z. y ≢ z) (xs ++ x ∷ ys) → All (λ y. y ≢ x) (xs ++ ys)
       others [] u = λ k d l e. AllPairs-head (λ y z. y ≢ z) x ys u k d l (sym e)
-      others (z ∷ xs) u = All-cons (λ y. y ≢ x) z (xs ++ ys) (All-at (λ y. z ≢ y) xs x ys (AllPairs-head (λ y z. y ≢ z) z (xs ++ x ∷ ys) u)) (others xs (AllPairs-tail (λ y z. y ≢ z) z (xs ++ x ∷ ys) u))
+      others (z ∷ xs) u = All-cons (λ y. y ≢ x) z (xs ++ ys)
+          (All-at (λ y. z ≢ y) xs x ys (AllPairs-head (λ y z. y ≢ z) z (xs ++ x ∷ ys) u)) (others xs (AllPairs-tail (λ y z. y ≢ z) z (xs ++ x ∷ ys) u))

@@ -1,5 +1,6 @@
 -- All jobs are placed: the pieces are a feasible schedule, and it is best.
-use Rattle.std.proofs.Common.{◌≡◌, ℕ, ◌+◌, ◌<◌, ◌≤◌, ◌⊎◌, inl, inr, Bool, true, false, List, [], ◌∷◌, length, get_or, map, filter, ℤ, pos, ◌-ℤ◌, ◌*ℤ◌, ◌≤ℤ◌, All, AllPairs, Contains, IsPermutation, MatchBool, sum_by, refl, sym, ap, ◌∙◌, subst, arith}
+use Rattle.std.proofs.Common.{◌≡◌, ℕ, ◌+◌, ◌<◌, ◌≤◌, ◌⊎◌, inl, inr, Bool, true, false, List, [], ◌∷◌, length, get_or, map, filter, ℤ, pos, ◌-ℤ◌, ◌*ℤ◌, ◌≤ℤ◌, All, AllPairs}
+use Rattle.std.proofs.Common.{Contains, IsPermutation, MatchBool, sum_by, refl, sym, ap, ◌∙◌, subst, arith}
 use Rattle.std.specs.Prelude.{◌==◌}
 use Rattle.std.specs.List.{range_with_len}
 use Rattle.std.proofs.lemmas.Int.{ints}
@@ -25,7 +26,7 @@ use Rattle.msp_schedule.specs.Cost.{Best, end_of}
 use Rattle.msp_schedule.specs.Within.{IsMoment, Within}
 use Rattle.msp_schedule.specs.Intervals.{size_of}
 use Rattle.msp_schedule.proofs.feasible.OneMachine.{apart_in_int, pieces_of-job, total_lengths}
-use Rattle.msp_schedule.specs.Rows.{time_at}
+use Rattle.msp_schedule.specs.BackToBack.{time_at}
 use Rattle.msp_schedule.proofs.feasible.LastEnds.{last_end-least}
 use Rattle.msp_schedule.specs.Blocks.{cost_at}
 use Rattle.msp_route.specs.Bounds.{IsAnswer, answer_unit}
@@ -36,7 +37,8 @@ use Rattle.msp_blocks.proofs.Bound.{best_by_block, value_is_best}
 use Rattle.msp_route.proofs.OneInstances.{IsOneInstance, IsOneInstance-from, takes_time}
 
 -- ---- before the first job is placed
-pub IsFilling-none : (i : Instance) → IsOneInstance i → (head : ℕ → ℕ) (jobs : List ℕ) → IsPermutation (range_with_len 0 (length i.jobs)) jobs → AllPairs (λ a b. head a ≤ head b) jobs → IsFilling i head greatest_end jobs []
+pub IsFilling-none : (i : Instance) → IsOneInstance i → (head : ℕ → ℕ) (jobs : List ℕ)
+    → IsPermutation (range_with_len 0 (length i.jobs)) jobs → AllPairs (λ a b. head a ≤ head b) jobs → IsFilling i head greatest_end jobs []
 IsFilling-none i one head jobs all rising =
     let once = OnceBelow-from_permutation all in
     record {
@@ -90,7 +92,8 @@ module _ (i : Instance) (one : IsOneInstance i) (heads : List ℕ) (are : AreHea
       }
 
   released : All (λ p. (pos 1 *ℤ pos (job_at i p.job).release) ≤ℤ p.from) ps
-  released k d l = by (get_or ps k d).from (start (get_or ps k d)) (job_at i (get_or ps k d).job).release (timed k d l).from (omega (arith, are.release (get_or ps k d).job (f.put k d l).job, f.after k d l))
+  released k d l = by (get_or ps k d).from (start (get_or ps k d))
+      (job_at i (get_or ps k d).job).release (timed k d l).from (omega (arith, are.release (get_or ps k d).job (f.put k d l).job, f.after k d l))
     where
       by : (x : ℤ) (n r : ℕ) → x ≡ pos n → r ≤ n → (pos 1 *ℤ pos r) ≤ℤ x
       by x n r e m = omega (arith, ints, e, m)
@@ -205,7 +208,8 @@ pub record IsBlockSchedule (i : Instance) (s : Schedule) (cost : ℤ) : Type 0 w
   pub answer : IsAnswer i s
   pub value : IsBestCost i cost
 
-pub IsBlockSchedule-made : (i : Instance) → i.class.env ≡ One → i.class.crit ≡ Fmax → Inner i → (i.class.cut ≡ true) ⊎ (i.class.times ≡ UnitTimes) → (heads : List ℕ) → AreHeads i heads → (ps : List Piece) → IsFilling i (λ j. get_or heads j 0) greatest_end [] ps
+pub IsBlockSchedule-made : (i : Instance) → i.class.env ≡ One → i.class.crit ≡ Fmax → Inner i → (i.class.cut ≡ true) ⊎ (i.class.times ≡ UnitTimes)
+    → (heads : List ℕ) → AreHeads i heads → (ps : List Piece) → IsFilling i (λ j. get_or heads j 0) greatest_end [] ps
     → (jobs : List ℕ) (cost : ℤ) → IsBound i heads jobs cost → CostAtMost i cost [] ps → IsBlockSchedule i (record { unit = pos 1; pieces = ps }) cost
 IsBlockSchedule-made i env crit inner whole heads are ps f jobs cost bound costs =
     let one = IsOneInstance-from i env inner in
@@ -220,11 +224,13 @@ IsBlockSchedule-made i env crit inner whole heads are ps f jobs cost bound costs
     }
 
 -- ---- as the code passes them
-pub filling_passed : (i : Instance) → i.class.env ≡ One → Inner i → (heads first second jobs : List ℕ) → AreHeads i heads → first ≡ heads → second ≡ heads → IsPermutation (range_with_len 0 (length first)) jobs
+pub filling_passed : (i : Instance) → i.class.env ≡ One
+    → Inner i → (heads first second jobs : List ℕ) → AreHeads i heads → first ≡ heads → second ≡ heads → IsPermutation (range_with_len 0 (length first)) jobs
     → AllPairs (λ a b. get_or first a 0 ≤ get_or first b 0) jobs → IsFilling i (λ j. get_or second j 0) greatest_end jobs []
 filling_passed i env inner heads first second jobs are same again all rising =
     let one = IsOneInstance-from i env inner in
-    IsFilling-none i one (λ j. get_or second j 0) jobs (subst (λ n. IsPermutation (range_with_len 0 n) jobs) (ap length same ∙ are.each) all) (subst (λ hs. AllPairs (λ a b. get_or hs a 0 ≤ get_or hs b 0) jobs) (same ∙ sym again) rising)
+    IsFilling-none i one (λ j. get_or second j 0) jobs (subst (λ n. IsPermutation (range_with_len 0 n) jobs) (ap length same ∙ are.each) all)
+    (subst (λ hs. AllPairs (λ a b. get_or hs a 0 ≤ get_or hs b 0) jobs) (same ∙ sym again) rising)
 
 pub some_passed : (i : Instance) → i.class.env ≡ One → Inner i → (heads first jobs : List ℕ) → AreHeads i heads → first ≡ heads → IsPermutation (range_with_len 0 (length first)) jobs → 0 < length jobs
 some_passed i env inner heads first jobs are same all =

@@ -1,5 +1,6 @@
 -- The steps of the loops, at the numbers as the code passes them.
-use Rattle.std.proofs.Common.{◌≡◌, ℕ, suc, ◌+◌, ◌<◌, ◌≤◌, max, List, ◌∷◌, ◌++◌, length, get_or, take, drop, All, AllPairs, sum_by, ℤ, refl, sym, ap, ap₂, subst, subst₂, ◌∙◌, arith, le_trans, append_assoc, inl, inr, OnOk, Ok, Err, Result}
+use Rattle.std.proofs.Common.{◌≡◌, ℕ, suc, ◌+◌, ◌<◌, ◌≤◌, max, List, ◌∷◌, ◌++◌, length, get_or, take, drop, All, AllPairs, sum_by, ℤ, refl, sym, ap, ap₂, subst, subst₂, ◌∙◌, arith}
+use Rattle.std.proofs.Common.{le_trans, append_assoc, inl, inr, OnOk, Ok, Err, Result}
 use Rattle.std.specs.List.{remove}
 use Rattle.std.proofs.lemmas.Bool.{cases_lt}
 use Rattle.std.proofs.lemmas.List.{take-take, drop_all, length-drop, get_or-drop, drop_more, take-append-drop, length-take, get_or-take, get_or_default}
@@ -8,7 +9,7 @@ use Rattle.std.proofs.lemmas.List.Sums.{sum_by-cons, sum_by-append, sum_by_more}
 use Rattle.msp_instance.specs.declared.Instance.{Instance}
 use Rattle.msp_schedule.specs.declared.Piece.{Piece}
 use Rattle.msp_schedule.specs.Blocks.{cost_at}
-use Rattle.msp_schedule.specs.Rows.{time_at}
+use Rattle.msp_schedule.specs.BackToBack.{time_at}
 use Rattle.msp_heads.specs.Heads.{AreHeads}
 use Rattle.msp_blocks.specs.Filling.{done_by, gap, gaps, Follow, IsFirstBlock, IsFilling, IsBound, CostAtMost, greatest_end}
 use Rattle.msp_route.specs.LastJob.{EndsAt}
@@ -26,7 +27,8 @@ module _ (head time : ℕ → ℕ) (jobs : List ℕ) where
     near = λ k l. let first : k ≡ 0 = omega (arith, l) in subst (λ n. head (get_or jobs n 0) ≤ head (get_or jobs 0 0) + sum_by time (take n jobs)) (sym first) (omega arith);
   }
 
-  pub IsFirstBlock-next : (count end new : ℕ) → count < length jobs → head (get_or jobs count 0) ≤ end → new ≡ end + time (get_or jobs count 0) → IsFirstBlock head time jobs count end → IsFirstBlock head time jobs (count + 1) new
+  pub IsFirstBlock-next : (count end new : ℕ) → count < length jobs → head (get_or jobs count 0) ≤ end
+      → new ≡ end + time (get_or jobs count 0) → IsFirstBlock head time jobs count end → IsFirstBlock head time jobs (count + 1) new
   IsFirstBlock-next count end new inside early e h = record {
     some = omega arith;
     within = omega (arith, inside);
@@ -83,7 +85,8 @@ module _ (i : Instance) (one : IsOneInstance i) (heads : List ℕ) (are : AreHea
   abbrev first : List ℕ
   first = take count left
 
-  module _ (block : IsFirstBlock head time left count end) (later : count < length left → end < head (get_or left count 0)) (small : end ≤ greatest_end) (sorted : AllPairs (λ j k. head j ≤ head k) left) where
+  module _ (block : IsFirstBlock head time left count end)
+      (later : count < length left → end < head (get_or left count 0)) (small : end ≤ greatest_end) (sorted : AllPairs (λ j k. head j ≤ head k) left) where
     length_first : length first ≡ count
     length_first = omega (arith, length-take count left, block.within)
 
@@ -148,25 +151,38 @@ module _ (i : Instance) (one : IsOneInstance i) (heads : List ℕ) (are : AreHea
           by : Follow head time (head (get_or first 0 0) + sum_by time X) (job ∷ Y) → done_by head time (head (get_or first 0 0) + sum_by time X) Y ≤ end
           by f =
               let m = head (get_or first 0 0) + sum_by time X in
-              omega (arith, done-mono head time m (m + time job) Y (omega arith), done-tight head time (m + time job) Y f.1, end_is, ap (sum_by time) parts, sum_by-append time X (job ∷ Y), sum_by-cons time job Y)
+              omega (
+                arith,
+                done-mono head time m (m + time job) Y (omega arith),
+                done-tight head time
+                    (m + time job) Y f.1,
+                end_is,
+                ap (sum_by time) parts,
+                sum_by-append time X (job ∷ Y),
+                sum_by-cons time job Y,
+              )
 
-      pub placed_next : (ps new : List Piece) (left_now : List ℕ) (moment : ℕ) → moment ≡ head (get_or first 0 0) + sum_by time X → EndsAt i end first job → left_now ≡ remove left place → new ≡ ps ++ gaps head time job moment Y end
+      pub placed_next : (ps new : List Piece) (left_now : List ℕ) (moment : ℕ) → moment ≡ head (get_or first 0 0) + sum_by time X
+          → EndsAt i end first job → left_now ≡ remove left place → new ≡ ps ++ gaps head time job moment Y end
           → IsFilling i head greatest_end left ps → IsOneMore i head greatest_end heads left left_now ps new first (cost_at i job end)
       placed_next ps new left_now moment e last now put f =
           let left_is = now ∙ without in
           let put_is = put ∙ ap (λ t. ps ++ gaps head time job t Y end) e in
-          let m = IsOneMore-made i head greatest_end (takes_time i one) are.arcs X job Y C ps (subst (λ l. IsFilling i head greatest_end l ps) whole f) (head (get_or first 0 0)) end (ap (λ l. head (get_or l 0 0)) parts) tight (end_is ∙ ap (λ l. head (get_or first 0 0) + sum_by time l) parts) small after
+          let m = IsOneMore-made i head greatest_end (takes_time i one) are.arcs X job Y C ps (subst (λ l. IsFilling i head greatest_end l ps) whole f)
+          (head (get_or first 0 0)) end (ap (λ l. head (get_or l 0 0)) parts) tight (end_is ∙ ap (λ l. head (get_or first 0 0) + sum_by time l) parts) small after
           (subst (λ l. EndsAt i end l job) parts last) one.inner.conditions.ends heads are.each (λ j. refl) are.sound in
           record {
             filling = subst (λ l. IsFilling i head greatest_end l new) (sym left_is) (subst (IsFilling i head greatest_end (X ++ Y ++ C)) (sym put_is) m.filling);
             bound = subst (λ l. IsBound i heads l (cost_at i job end)) (sym parts) m.bound;
-            costs = λ most h c. subst (λ l. CostAtMost i most l new) (sym left_is) (subst (CostAtMost i most (X ++ Y ++ C)) (sym put_is) (m.costs most h (subst (λ l. CostAtMost i most l ps) whole c)));
+            costs = λ most h c. subst (λ l. CostAtMost i most l new)
+                (sym left_is) (subst (CostAtMost i most (X ++ Y ++ C)) (sym put_is) (m.costs most h (subst (λ l. CostAtMost i most l ps) whole c)));
           }
 
 -- at the numbers as the code passes them
 module _ (i : Instance) (one : IsOneInstance i) (heads : List ℕ) (are : AreHeads i heads) (left slice again : List ℕ) (count end : ℕ) (is : slice ≡ left) (is_again : again ≡ left)
     (block : IsFirstBlock (λ j. get_or heads j 0) (time_at i) slice count end) (later : count < length slice → end < get_or heads (get_or slice count 0) 0) (small : end ≤ greatest_end)
-    (ps : List Piece) (f : IsFilling i (λ j. get_or heads j 0) greatest_end left ps) (place total : ℕ) (inside : place < length (take count again)) (sum : total ≡ sum_by (time_at i) (take place (take count again)))
+    (ps : List Piece) (f : IsFilling i (λ j. get_or heads j 0) greatest_end left ps)
+    (place total : ℕ) (inside : place < length (take count again)) (sum : total ≡ sum_by (time_at i) (take place (take count again)))
     (others : List ℕ) (rest : others ≡ drop (place + 1) (take count again)) where
   abbrev q : ℕ → ℕ
   q j = get_or heads j 0
@@ -193,12 +209,15 @@ module _ (i : Instance) (one : IsOneInstance i) (heads : List ℕ) (are : AreHea
   rest_now = rest ∙ ap (drop (place + 1)) same
 
   pub passed_room : done_by q (time_at i) (q (get_or (take count again) 0 0) + total) others ≤ end
-  passed_room = subst (λ l. done_by q (time_at i) (q (get_or (take count again) 0 0) + total) l ≤ end) (sym rest_now) (has_room i one heads are left count end block_now later_now small f.sorted place inside_now (q (get_or (take count again) 0 0) + total) begin_is)
+  passed_room = subst (λ l. done_by q (time_at i) (q (get_or (take count again) 0 0) + total) l ≤ end) (sym rest_now)
+      (has_room i one heads are left count end block_now later_now small f.sorted place inside_now (q (get_or (take count again) 0 0) + total) begin_is)
 
-  pub passed_next : (job : ℕ) → job ≡ get_or (take count again) place 0 → EndsAt i end (take count again) (get_or (take count again) place 0) → (now : List ℕ) → now ≡ remove left place → (new : List Piece) → new ≡ ps ++ gaps q (time_at i) job (q (get_or (take count again) 0 0) + total) others end
+  pub passed_next : (job : ℕ) → job ≡ get_or (take count again) place 0 → EndsAt i end (take count again) (get_or (take count again) place 0) → (now : List ℕ)
+      → now ≡ remove left place → (new : List Piece) → new ≡ ps ++ gaps q (time_at i) job (q (get_or (take count again) 0 0) + total) others end
       → (bound : List ℕ) → bound ≡ take count again → (cost : ℤ) → cost ≡ cost_at i job end → IsOneMore i q greatest_end heads left now ps new bound cost
   passed_next chosen at last now gone new put bound bound_is cost cost_is =
       let job_is : chosen ≡ get_or jobs place 0 = at ∙ ap (λ l. get_or l place 0) same in
       subst₂ (λ b x. IsOneMore i q greatest_end heads left now ps new b x) (sym (bound_is ∙ same)) (sym (cost_is ∙ ap (λ j. cost_at i j end) job_is))
-      (placed_next i one heads are left count end block_now later_now small f.sorted place inside_now ps new now (q (get_or (take count again) 0 0) + total) begin_is (subst (λ l. EndsAt i end l (get_or l place 0)) same last) gone
+      (placed_next i one heads are left count end block_now later_now small f.sorted place inside_now ps new now
+      (q (get_or (take count again) 0 0) + total) begin_is (subst (λ l. EndsAt i end l (get_or l place 0)) same last) gone
       (put ∙ ap₂ (λ j l. ps ++ gaps q (time_at i) j (q (get_or (take count again) 0 0) + total) l end) job_is rest_now) f)

@@ -1,12 +1,12 @@
 -- The earliest schedule of jobs that wait, and what is placed of the others. No public contract cites this file.
 use Rattle.std.specs.Prelude.{◌≡◌, ◌≢◌, ℕ, ◌+◌, ◌*◌, ◌<◌, ◌≤◌, max, cond, ltb, List, [], ◌∷◌, ◌++◌, length, take, slice_index_or, ℤ, ◌≤ℤ◌, All, AllPairs, Contains, sum_by, ⊤}
 use Rattle.msp_instance.specs.declared.Instance.{Instance}
-use Rattle.msp_instance.specs.declared.ranges.TheConstants.{GREATEST, MOST_JOBS}
+use Rattle.msp_class.specs.declared.sizes.TheConstants.{MOST_JOBS, GREATEST}
 use Rattle.msp_schedule.specs.declared.Piece.{Piece}
 use Rattle.msp_schedule.specs.Blocks.{IsBlock, IsBlockValue, cost_at}
 use Rattle.msp_schedule.specs.Intervals.{IsApart, work_of}
 use Rattle.msp_schedule.specs.Piece.{job_of, start, finish, IsTimed}
-use Rattle.msp_schedule.specs.Rows.{piece, time_at}
+use Rattle.msp_schedule.specs.BackToBack.{piece, time_at}
 use Rattle.msp_heads.specs.Heads.{head_in}
 
 -- When jobs that begin at their heads at the earliest are done one after another on a machine that is free from a moment on.
@@ -68,7 +68,7 @@ pub record IsFilling (i : Instance) (head : ℕ → ℕ) (greatest : ℕ) (left 
   -- the jobs that are placed have their time
   pub work : (j : ℕ) → j < length i.jobs → ¬ Contains left j → work_of job_of start finish pieces j ≡ time_at i j
   -- how many they are, and how late
-  pub few : length pieces + 400 * length left ≤ 160000
+  pub few : length pieces + MOST_JOBS * length left ≤ (MOST_JOBS * MOST_JOBS)
   pub ends : All (λ p. finish p ≤ greatest) pieces
 
 -- The jobs are a block of that value.

@@ -1,5 +1,5 @@
 // The solvers by blocks.
-ghost use Rattle.std.specs.Prelude.{◌≡◌, ◌⊎◌, ◌≤◌, true, [], ℤ, pos, All, IfOk, ⊤};
+ghost use Rattle.std.specs.Prelude.{◌≡◌, ◌⊎◌, ◌≤◌, true, [], ℤ, pos, All, IfOk};
 ghost use Rattle.msp_class.specs.declared.class.Env.TheVariants.{One};
 ghost use Rattle.msp_class.specs.declared.class.Times.TheVariants.{Unit};
 ghost use Rattle.msp_class.specs.declared.class.Crit.TheVariants.{Fmax};
@@ -145,10 +145,6 @@ pub struct Blocks;
 impl Solver for Blocks {
     ghost solved = { λ _. blocks_class };
 
-    ghost can_solve = { λ _ _. ⊤ };
-
-    ghost may_ask = { λ _ _. ⊤ };
-
     fn target(&self) -> Class {
         BLOCKS_CLASS
     }
@@ -169,10 +165,6 @@ pub struct UnitBlocks;
 
 impl Solver for UnitBlocks {
     ghost solved = { λ _. unit_blocks_class };
-
-    ghost can_solve = { λ _ _. ⊤ };
-
-    ghost may_ask = { λ _ _. ⊤ };
 
     fn target(&self) -> Class {
         UNIT_BLOCKS_CLASS

@@ -1,10 +1,10 @@
 // The schedule by blocks, job by job: the one that ends last in the first block takes what the others of the block leave.
 ghost use Rattle.std.specs.Prelude.{◌≡◌, ◌⊎◌, ◌+◌, ◌<◌, ◌≤◌, ◌++◌, [], ℤ, ◌≤ℤ◌, true, false, length, All, IfOk, OnOk};
 ghost use Rattle.msp_class.specs.declared.class.Env.TheVariants.{One};
-ghost use Rattle.msp_instance.specs.declared.ranges.TheConstants.{MOST_JOBS};
+ghost use Rattle.msp_class.specs.declared.sizes.TheConstants.{MOST_JOBS};
 ghost use Rattle.msp_instance.specs.Conditions.{Inner};
 ghost use Rattle.msp_schedule.specs.Blocks.{cost_at};
-ghost use Rattle.msp_schedule.specs.Rows.{time_at};
+ghost use Rattle.msp_schedule.specs.BackToBack.{time_at};
 ghost use Rattle.msp_heads.specs.Heads.{head_in, AreHeads};
 ghost use Rattle.msp_blocks.specs.Filling.{done_by, gap, gaps, next_head, IsFirstBlock, ArePlaced, IsBound, CostAtMost, KeepsCosts, greatest_end};
 

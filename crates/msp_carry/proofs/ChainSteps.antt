@@ -10,7 +10,7 @@ use Rattle.msp_class.specs.declared.environments.EnvKind.TheVariants.{Identical,
 use Rattle.msp_class.specs.Env.{kind_of}
 use Rattle.msp_class.proofs.IntegerRing.{≤ℤ_refl, ≤ℤ_trans}
 use Rattle.msp_instance.specs.declared.Instance.{Instance}
-use Rattle.msp_schedule.specs.declared.limits.TheConstants.{GREATEST_UNIT}
+use Rattle.msp_class.specs.declared.sizes.TheConstants.{GREATEST_UNIT}
 use Rattle.msp_schedule.specs.declared.Schedule.{Schedule}
 use Rattle.msp_schedule.specs.declared.Solution.{Solution}
 use Rattle.msp_schedule.specs.Feasible.{Feasible}
@@ -89,7 +89,8 @@ IsBounded-chain i rows last s chain sized ends = record {
   ends = λ k d l. ≤ℤ_trans (ends k d l) (moment_over-low carries i.class last rows chain.leads chain.few);
 }
 
-pub IfOk-ends : {i : Instance} {k : ℕ} {rows : List ℕ} {last : Class} (lower : Instance) (t : Schedule) (result : Result Solution NoMemory) → FirstStep i k rows last → EndsBy (moment_over (behind rows)) t
+pub IfOk-ends : {i : Instance} {k : ℕ} {rows : List ℕ} {last : Class} (lower : Instance) (t : Schedule) (result : Result Solution NoMemory)
+    → FirstStep i k rows last → EndsBy (moment_over (behind rows)) t
     → IfOk result (λ s. KeepsBounds k i lower t s.schedule) → IfOk result (λ s. EndsBy (moment_over rows) s.schedule)
 IfOk-ends {i} {k} {rows} lower t (Ok s) first ends keeps = subst (λ r. EndsBy (moment_over r) s.schedule) (sym first.is) (keeps.ends (moment_over (behind rows)) ends)
 IfOk-ends lower t (Err e) first ends keeps = tt

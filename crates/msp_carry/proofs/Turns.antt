@@ -50,7 +50,8 @@ turned_from : (a c : Class) → goes_of 47 a ≡ Some c → (spare a ≡ 1) × (
 unfolding goes_of table spare one_if
 turned_from a c e = by (eqb (flag_number a.heads) 1) (eqb (crit_number a.crit) 0) (is_mirror a.env) refl e
   where
-    by : (h r m : Bool) → eqb (crit_number a.crit) 0 ≡ r → (if (h && (r && true)) && m then Some (record a { order = turned a.order; heads = false; crit = Lmax }) else None) ≡ Some c → (spare a ≡ 1) × (spare c ≡ 0)
+    by : (h r m : Bool) → eqb (crit_number a.crit) 0 ≡ r
+        → (if (h && (r && true)) && m then Some (record a { order = turned a.order; heads = false; crit = Lmax }) else None) ≡ Some c → (spare a ≡ 1) × (spare c ≡ 0)
     by true true true is g = let same : record a { order = turned a.order; heads = false; crit = Lmax } ≡ c = cc in (ap one_if is, subst (λ x. spare x ≡ 0) same refl)
     by true true false is g = absurd (cc)
     by true false m is g = absurd (cc)
@@ -97,10 +98,12 @@ moment_over-most [] = start (turns_in [])
   where
     start : (n : ℕ) → GREATEST_ANSWER_MOMENT ≤ℤ (GREATEST_ANSWER_MOMENT +ℤ pos (n * raise))
     start n = omega (arith, ints)
-moment_over-most (k ∷ ks) = subst (λ n. moment_over (k ∷ ks) ≤ℤ (GREATEST_ANSWER_MOMENT +ℤ pos (n * raise))) (sym (turns_in-more k ks)) (by (turns_dates k) (k == 51 || k == 52) (k == 54) (moment_over-most ks))
+moment_over-most (k ∷ ks) = subst (λ n. moment_over (k ∷ ks) ≤ℤ (GREATEST_ANSWER_MOMENT +ℤ pos (n * raise)))
+    (sym (turns_in-more k ks)) (by (turns_dates k) (k == 51 || k == 52) (k == 54) (moment_over-most ks))
   where
     by : (t l c : Bool) → moment_over ks ≤ℤ (GREATEST_ANSWER_MOMENT +ℤ pos (turns_in ks * raise))
-        → (if t then moment_over ks +ℤ GREATEST_RAISE else if l then GREATEST_LINED_UP else if c then GREATEST_CLOSED_UP else moment_over ks) ≤ℤ (GREATEST_ANSWER_MOMENT +ℤ pos ((turns_in ks + one_if t) * raise))
+        → (if t then moment_over ks +ℤ GREATEST_RAISE else if l then GREATEST_LINED_UP else if c then GREATEST_CLOSED_UP else moment_over ks)
+        ≤ℤ (GREATEST_ANSWER_MOMENT +ℤ pos ((turns_in ks + one_if t) * raise))
     by true l c h = raised (moment_over ks) (turns_in ks) h
     by false true c h = lined_up (turns_in ks + 0)
     by false false true h = closed_up (turns_in ks + 0)

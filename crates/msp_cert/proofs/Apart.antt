@@ -1,23 +1,25 @@
--- Numbers that stand once in a list, by marks.
-use Rattle.std.proofs.Common.{◌≡◌, ◌≢◌, ℕ, suc, ◌+◌, ◌-◌, ◌<◌, ◌≤◌, inl, inr, Bool, true, false, cond, List, [], ◌∷◌, ◌++◌, reverse, length, map, get_or, count_by, All, AllPairs, sym, ap, ap₂, subst, subst₂, ◌∙◌, arith, zero-add}
+-- Numbers that stand once in a list, by what is seen.
+use Rattle.std.proofs.Common.{◌≡◌, ◌≢◌, ℕ, suc, ◌+◌, ◌-◌, ◌<◌, ◌≤◌, inl, inr, Bool, true, false, cond, List, [], ◌∷◌, ◌++◌, reverse, length, map, get_or, count_by, All, AllPairs}
+use Rattle.std.proofs.Common.{sym, ap, ap₂, subst, subst₂, ◌∙◌, arith, zero-add}
 use Rattle.std.specs.Prelude.{slice_set as set}
 use Rattle.std.specs.List.{range_with_len}
 use Rattle.std.specs.List.Sorted.{IsNonDecreasing}
 use Rattle.std.proofs.lemmas.List.{get_or_default, map-append, length-set, length-reverse, get_or-reverse, get_or-set_other}
 use Rattle.std.proofs.lemmas.Grind.{get_or-set_at}
 use Rattle.std.proofs.lemmas.Bool.{false≢true}
+use Rattle.msp_class.specs.declared.sizes.TheConstants.{MOST_JOBS}
 use Rattle.msp_class.proofs.Cases.{same_or_not}
 use Rattle.msp_class.proofs.Sums.{range_with_len_last, total_below-range}
 use Rattle.msp_class.specs.Sums.{total_below}
 
--- the first k numbers stand once, and are marked, and no other number is
+-- the first k numbers stand once, and are seen, and no other number is
 pub record AreSeen (jobs : List ℕ) (k : ℕ) (seen : List Bool) : Type 0 where
-  pub long : length seen ≡ 400
+  pub long : length seen ≡ MOST_JOBS
   pub apart : (p q : ℕ) → p < q → q < k → get_or jobs p 0 ≢ get_or jobs q 0
-  pub back : (j : ℕ) → j < 400 → get_or seen j false ≡ true → (p : ℕ) × (p < k) × (get_or jobs p 0 ≡ j)
+  pub back : (j : ℕ) → j < MOST_JOBS → get_or seen j false ≡ true → (p : ℕ) × (p < k) × (get_or jobs p 0 ≡ j)
   pub there : (p : ℕ) → p < k → get_or seen (get_or jobs p 0) false ≡ true
 
-pub none_seen : (jobs : List ℕ) (seen : List Bool) → length seen ≡ 400 → ((j : ℕ) → j < 400 → get_or seen j false ≡ false) → AreSeen jobs 0 seen
+pub none_seen : (jobs : List ℕ) (seen : List Bool) → length seen ≡ MOST_JOBS → ((j : ℕ) → j < MOST_JOBS → get_or seen j false ≡ false) → AreSeen jobs 0 seen
 none_seen jobs seen long h = record {
   long = long;
   apart = λ p q a b. absurd (omega (arith, b));
@@ -25,13 +27,15 @@ none_seen jobs seen long h = record {
   there = λ p l. absurd (omega (arith, l));
 }
 
-pub seen_before : (jobs : List ℕ) (k : ℕ) (seen : List Bool) → All (λ j. j < 400) jobs → AreSeen jobs k seen → k < length jobs → get_or seen (get_or jobs k 0) false ≡ true → ¬ AllPairs (λ x y. x ≢ y) jobs
+pub seen_before : (jobs : List ℕ) (k : ℕ) (seen : List Bool)
+    → All (λ j. j < MOST_JOBS) jobs → AreSeen jobs k seen → k < length jobs → get_or seen (get_or jobs k 0) false ≡ true → ¬ AllPairs (λ x y. x ≢ y) jobs
 seen_before jobs k seen h s l e apart =
     let (p, b, is) = s.back (get_or jobs k 0) (h k 0 l) e in
     apart p k 0 b l is
 
-pub mark_next : (jobs : List ℕ) (k : ℕ) (seen : List Bool) → All (λ j. j < 400) jobs → AreSeen jobs k seen → k < length jobs → get_or seen (get_or jobs k 0) false ≡ false → AreSeen jobs (k + 1) (set seen (get_or jobs k 0) true)
-mark_next jobs k seen h s l new = record {
+pub seen_next : (jobs : List ℕ) (k : ℕ) (seen : List Bool) → All (λ j. j < MOST_JOBS) jobs
+    → AreSeen jobs k seen → k < length jobs → get_or seen (get_or jobs k 0) false ≡ false → AreSeen jobs (k + 1) (set seen (get_or jobs k 0) true)
+seen_next jobs k seen h s l new = record {
   long = length-set seen (get_or jobs k 0) true ∙ s.long;
   apart = λ p q a b e. elim (same_or_not q k) [
     | inl is ↦ false≢true (sym new ∙ ap (λ x. get_or seen x false) (sym (e ∙ ap (λ x. get_or jobs x 0) is)) ∙ s.there p (omega (arith, a, is)))

@@ -1,5 +1,6 @@
 -- Heads that arcs back, and the least cost of the last jobs of a block.
-use Rattle.std.proofs.Common.{◌≡◌, ◌⊎◌, inl, inr, ℕ, ◌+◌, ◌^◌, ◌<◌, ◌≤◌, Bool, true, false, cond, List, [], ◌∷◌, ◌++◌, length, get_or, take, All, Any, Some, None, ℤ, pos, ◌+ℤ◌, ◌*ℤ◌, ◌≤ℤ◌, sum_by, refl, sym, ap, subst, ◌∙◌, arith, unwrap_or}
+use Rattle.std.proofs.Common.{◌≡◌, ◌⊎◌, inl, inr, ℕ, ◌+◌, ◌^◌, ◌<◌, ◌≤◌, Bool, true, false, cond, List, [], ◌∷◌, ◌++◌, length, get_or, take, All, Any, Some, None, ℤ, pos, ◌+ℤ◌}
+use Rattle.std.proofs.Common.{◌*ℤ◌, ◌≤ℤ◌, sum_by, refl, sym, ap, subst, ◌∙◌, arith, unwrap_or}
 use Rattle.std.specs.Prelude.{slice_get, Option, int_lt}
 use Rattle.std.specs.Option.{IfSome}
 use Rattle.std.proofs.lemmas.Bool.{false≢true, cases_lt}
@@ -8,6 +9,7 @@ use Rattle.std.proofs.lemmas.Nat.{mul-le}
 use Rattle.std.proofs.lemmas.Option.{unwrap_or-slice_get}
 use Rattle.std.proofs.lemmas.List.{get_or_default, take_all, take_more}
 use Rattle.std.proofs.lemmas.List.Elements.{All-push, Contains-push, Contains-append_left}
+use Rattle.msp_class.specs.declared.sizes.TheConstants.{GREATEST}
 use Rattle.msp_class.proofs.Sums.{sum_by-mono, sum_by-constant}
 use Rattle.msp_class.proofs.IntegerRing.{≤ℤ_refl, ≤ℤ_trans}
 use Rattle.msp_class.specs.Crit.{uses_curve}
@@ -17,7 +19,7 @@ use Rattle.msp_instance.specs.declared.Step.{Step}
 use Rattle.msp_instance.specs.declared.Instance.{Instance}
 use Rattle.msp_instance.specs.Instance.{no_job, no_need, job_at, need_at}
 use Rattle.msp_instance.specs.Conditions.{LiesWithin, HasCurve, InClass, text_limits}
-use Rattle.msp_instance.specs.declared.path_rows.Paths.{Paths}
+use Rattle.msp_instance.specs.declared.path_bits.Paths.{Paths}
 use Rattle.msp_instance.specs.Paths.{HasPath, ShowsPaths, leads}
 use Rattle.msp_schedule.specs.declared.Frac.{Frac}
 use Rattle.msp_schedule.specs.Blocks.{IsSound, LeadsToNone, IsBlockValue, total_time, cost_at}
@@ -64,7 +66,8 @@ first_head head jobs least e = record {
   after = λ p t. let zero : p ≡ 0 = omega (arith, t) in subst (λ q. least ≤ of_job head (get_or jobs q 0)) (sym zero) (omega (arith, e));
 }
 
-pub next_head : (head jobs : List ℕ) (k least own new : ℕ) → own ≡ of_job head (get_or jobs k 0) → (new ≡ least) ⊎ (new ≡ own) → (new ≤ least) × (new ≤ own) → IsLeastHead head jobs k least → IsLeastHead head jobs (k + 1) new
+pub next_head : (head jobs : List ℕ) (k least own new : ℕ) → own ≡ of_job head (get_or jobs k 0)
+    → (new ≡ least) ⊎ (new ≡ own) → (new ≤ least) × (new ≤ own) → IsLeastHead head jobs k least → IsLeastHead head jobs (k + 1) new
 next_head head jobs k least own new e one low h = record {
   first = elim one as (λ _. (p : ℕ) × (p < k + 1) × (of_job head (get_or jobs p 0) ≡ new)) [
     | inl old ↦ (h.first.0, omega (arith, h.first.1), h.first.2 ∙ sym old)
@@ -77,23 +80,24 @@ next_head head jobs k least own new e one low h = record {
 }
 
 pub head_reached : (head jobs : List ℕ) (k least : ℕ) → IsLeastHead head jobs k least → k ≤ length jobs → Any (λ j. of_job head j ≡ least) jobs
-head_reached head jobs k least h t = (h.first.0, get_or jobs h.first.0 0, omega (arith, h.first.1, t), get_or_default jobs h.first.0 (get_or jobs h.first.0 0) 0 (omega (arith, h.first.1, t)), h.first.2)
+head_reached head jobs k least h t =
+    (h.first.0, get_or jobs h.first.0 0, omega (arith, h.first.1, t), get_or_default jobs h.first.0 (get_or jobs h.first.0 0) 0 (omega (arith, h.first.1, t)), h.first.2)
 
 pub head_low : (head jobs : List ℕ) (k least : ℕ) → IsLeastHead head jobs k least → length jobs ≤ k → All (λ j. least ≤ of_job head j) jobs
 head_low head jobs k least h past p d t = subst (λ j. least ≤ of_job head j) (get_or_default jobs p 0 d t) (h.after p (omega (arith, t, past)))
 
 -- ---- the cost of a job
-adds_few : (steps : List Step) (x : ℤ) → length steps ≤ 16 → All (λ s. (s.above ≤ 1000000000) × (s.add ≤ 1000000000)) steps → sum_by (λ s. jump (pos 1) s x) steps ≤ 16000000000
+adds_few : (steps : List Step) (x : ℤ) → length steps ≤ 16 → All (λ s. (s.above ≤ GREATEST) × (s.add ≤ GREATEST)) steps → sum_by (λ s. jump (pos 1) s x) steps ≤ 16000000000
 adds_few steps x few h =
-    let each = sum_by-mono (λ s. s.add) (λ _. 1000000000) steps (λ k d l. (h k d l).1) in
-    let same = sum_by-constant 1000000000 steps in
-    let most = mul-le (length steps) 1000000000 16 1000000000 few (omega arith) in
+    let each = sum_by-mono (λ s. s.add) (λ _. GREATEST) steps (λ k d l. (h k d l).1) in
+    let same = sum_by-constant GREATEST steps in
+    let most = mul-le (length steps) GREATEST 16 GREATEST few (omega arith) in
     omega (arith, jumps_le (pos 1) x steps, each, same, most)
 
-curve_within : (slope e adds : ℕ) (base : ℤ) → slope ≤ 1000000000 → e ≤ 21000000000000 → adds ≤ 16000000000 → LiesWithin 1000000000 base
+curve_within : (slope e adds : ℕ) (base : ℤ) → slope ≤ GREATEST → e ≤ 21000000000000 → adds ≤ 16000000000 → LiesWithin GREATEST base
     → LiesWithin (10 ^ 23) ((pos slope *ℤ pos e) +ℤ (pos 1 *ℤ (base +ℤ pos adds)))
 curve_within slope e adds base low early few w =
-    let first = product_within slope (pos e) 1000000000 21000000000000 21000000000000000000000 low (omega (arith, ints), omega (arith, ints)) (omega arith) in
+    let first = product_within slope (pos e) GREATEST 21000000000000 21000000000000000000000 low (omega (arith, ints), omega (arith, ints)) (omega arith) in
     let second = product_within 1 (base +ℤ pos adds) 1 17000000000 17000000000 (omega arith) (omega (arith, ints, w), omega (arith, ints, w)) (omega arith) in
     (omega (arith, ints, first, second), omega (arith, ints, first, second))
 
@@ -109,7 +113,8 @@ cost_within i j e c is t early = subst (λ f. LiesWithin (10 ^ 23) (job_cost f (
     by c is t early =
         let own = c.conditions.jobs j no_job t in
         let curve = subst (λ f. HasCurve text_limits (uses_curve f) (job_at i j).curve) is own.curve in
-        curve_within (job_at i j).curve.slope e (jumps (pos 1) (job_at i j).curve (pos e)) (job_at i j).curve.base curve.slope early (adds_few (job_at i j).curve.steps (pos e) curve.few curve.steps) curve.base
+        curve_within (job_at i j).curve.slope e (jumps (pos 1) (job_at i j).curve (pos e))
+        (job_at i j).curve.base curve.slope early (adds_few (job_at i j).curve.steps (pos e) curve.few curve.steps) curve.base
 
 pub own_cost_within : (i : Instance) (j e : ℕ) (x : ℤ) → InClass i → i.class.crit ≡ Fmax → j < length i.jobs → e ≤ 21000000000000 → x ≡ cost_at i j e → LiesWithin (10 ^ 23) x
 own_cost_within i j e x c is t early same = subst (LiesWithin (10 ^ 23)) (sym same) (cost_within i j e c is t early)
@@ -144,7 +149,8 @@ module _ (counts : ℕ → Type 0) (cost : ℕ → ℤ) (jobs : List ℕ) (k : �
       by (Some x) (Some y) l o = both (int_lt y x) refl
         where
           both : (b : Bool) → int_lt y x ≡ b → IsLeast counts cost longer (Some (cond b y x))
-          both true less = (here y o.0 o.1, All-push (λ j. counts j → y ≤ℤ cost j) (take k jobs) now (λ p e u mine. ≤ℤ_trans (not_above y x less) (l.1 p e u mine)) (λ mine. subst (λ z. y ≤ℤ z) o.1 (≤ℤ_refl y)))
+          both true less =
+              (here y o.0 o.1, All-push (λ j. counts j → y ≤ℤ cost j) (take k jobs) now (λ p e u mine. ≤ℤ_trans (not_above y x less) (l.1 p e u mine)) (λ mine. subst (λ z. y ≤ℤ z) o.1 (≤ℤ_refl y)))
           both false more = (there x l.0, All-push (λ j. counts j → x ≤ℤ cost j) (take k jobs) now l.1 (λ mine. subst (λ z. x ≤ℤ z) o.1 (not_below y x more)))
 
 pub lesser_within : (P : ℤ → Type 0) (a b : Option ℤ) → IfSome a P → IfSome b P → IfSome (lesser a b) P
@@ -156,7 +162,8 @@ lesser_within P (Some x) (Some y) h g = by (int_lt y x)
     by true = g
     by false = h
 
-pub next_least : (counts : ℕ → Type 0) (cost : ℕ → ℤ) (jobs : List ℕ) (k d : ℕ) → k < length jobs → (least own new : Option ℤ) → new ≡ lesser least own → IsLeast counts cost (take k jobs) least → IsOwnCost (counts (get_or jobs k d)) (cost (get_or jobs k d)) own → IsLeast counts cost (take (k + 1) jobs) new
+pub next_least : (counts : ℕ → Type 0) (cost : ℕ → ℤ) (jobs : List ℕ) (k d : ℕ) → k < length jobs → (least own new : Option ℤ) → new ≡ lesser least own
+    → IsLeast counts cost (take k jobs) least → IsOwnCost (counts (get_or jobs k d)) (cost (get_or jobs k d)) own → IsLeast counts cost (take (k + 1) jobs) new
 next_least counts cost jobs k d t least own new e h o = subst (IsLeast counts cost (take (k + 1) jobs)) (sym e) (least_next counts cost jobs k d t least own h o)
 
 pub least_of_all : (counts : ℕ → Type 0) (cost : ℕ → ℤ) (jobs : List ℕ) (k : ℕ) (least : Option ℤ) → length jobs ≤ k → IsLeast counts cost (take k jobs) least → IsLeast counts cost jobs least
@@ -183,7 +190,8 @@ module _ (i : Instance) (p : Paths) (head jobs : List ℕ) (shows : ShowsPaths i
   is_last : (j : ℕ) → j < length i.jobs → LeadsToNone i jobs j → IsLast p jobs j
   is_last j t h k d u = off j (get_or jobs k d) t (inside k d u) (h k d u)
 
-  pub block_is_worth : (begin time end : ℕ) (x : ℤ) (v : Frac) → IsBlockOf i head jobs → Any (λ j. of_job head j ≡ begin) jobs → All (λ j. begin ≤ of_job head j) jobs → time ≡ total_time i jobs → end ≡ begin + time
+  pub block_is_worth : (begin time end : ℕ) (x : ℤ) (v : Frac)
+      → IsBlockOf i head jobs → Any (λ j. of_job head j ≡ begin) jobs → All (λ j. begin ≤ of_job head j) jobs → time ≡ total_time i jobs → end ≡ begin + time
       → IsLeast (IsLast p jobs) (λ j. cost_at i j end) jobs (Some x) → v.num ≡ x → v.den ≡ pos 1 → IsWorth i (Block head jobs) (Some v)
   block_is_worth begin time end x v holds first after time_is end_is least num den = (holds, (1, den, (subst (IsBlockValue i head jobs) (sym num) value, refl)))
     where

@@ -1,5 +1,6 @@
 -- The value of a proof is determined, so that one comparison decides whether the proof shows a bound.
-use Rattle.std.proofs.Common.{◌≡◌, ℕ, zero, suc, ◌+◌, ◌*◌, ◌-◌, ◌≤◌, Bool, false, List, [], ◌∷◌, length, sum_by, All, AllPairs, IsPermutation, ℤ, pos, ◌*ℤ◌, ◌≤ℤ◌, refl, sym, ap, subst, subst₂, ◌∙◌, arith}
+use Rattle.std.proofs.Common.{◌≡◌, ℕ, zero, suc, ◌+◌, ◌*◌, ◌-◌, ◌≤◌, Bool, false, List, [], ◌∷◌, length, sum_by, All, AllPairs, IsPermutation, ℤ, pos, ◌*ℤ◌, ◌≤ℤ◌, refl, sym, ap}
+use Rattle.std.proofs.Common.{subst, subst₂, ◌∙◌, arith}
 use Rattle.std.specs.Prelude.{take, sum, Any, Some, None, IsTrue, ◌↔◌, slice_index_or}
 use Rattle.std.proofs.lemmas.Bool.{false≢true}
 use Rattle.std.proofs.lemmas.List.Sums.{sum_by-cons}
@@ -33,7 +34,8 @@ first_below (x ∷ xs) (suc n) t = by (sum (take (suc n) (x ∷ xs))) _ _ _ (sum
 speed_at_most : (i : Instance) (count a b : ℕ) → 1 ≤ count → IsSpeedOfFastest i count a → IsSpeedOfFastest i count b → a ≤ b
 speed_at_most i count a b some h g =
     let (t, is) = some_threshold g.order count some g.falls in
-    by t is.reached (first_below h.order count t) (sym (sum_by-IsPermutation (λ x. x - t) (speeds_of i) h.order h.all)) (sym (sum_by-IsPermutation (λ x. x - t) (speeds_of i) g.order g.all)) h.first g.first
+    by t is.reached (first_below h.order count t) (sym (sum_by-IsPermutation (λ x. x - t) (speeds_of i) h.order h.all))
+    (sym (sum_by-IsPermutation (λ x. x - t) (speeds_of i) g.order g.all)) h.first g.first
   where
     by : (t : ℕ) {p q r : ℕ} {m n : ℕ} → count * t + q ≤ m → n ≤ count * t + p → r ≡ p → r ≡ q → a ≡ n → b ≡ m → a ≤ b
     by t reached below e f an bm = omega (arith, reached, below, e, f, an, bm)
@@ -52,7 +54,8 @@ block_at_most : (i : Instance) (heads jobs : List ℕ) (a b : ℤ) → IsBlockVa
 block_at_most i heads jobs a b h g =
     let (k, x, l, at, (none, is)) = g.reached in
     let same = block_begin i heads jobs a b h g in
-    subst (λ y. a ≤ℤ y) (sym is) (subst (λ n. a ≤ℤ cost_at i x (n + total_time i jobs)) same (subst (λ y. LeadsToNone i jobs y → a ≤ℤ cost_at i y (h.begin + total_time i jobs)) at (h.least k x l) none))
+    subst (λ y. a ≤ℤ y) (sym is)
+    (subst (λ n. a ≤ℤ cost_at i x (n + total_time i jobs)) same (subst (λ y. LeadsToNone i jobs y → a ≤ℤ cost_at i y (h.begin + total_time i jobs)) at (h.least k x l) none))
 
 value_same : (i : Instance) (b : Frac) (p : Proof) (num m : ℤ) (den d : ℕ) → HoldsFor i p → IsValue i p num den → IsValue i p m d → (num ≡ m) × (den ≡ d)
 value_same i b (Group jobs) num m den d holds h g = (h.0 ∙ sym g.0, speed_same i (length jobs) den d holds.some h.1 g.1)
@@ -100,7 +103,8 @@ pub line_is_worth : (i : Instance) (job length : ℕ) (needs : List Need) (v : F
     → v.num ≡ pos length → v.den ≡ pos 1 → IsWorth i (Line job) (Some v)
 line_is_worth i job length needs v holds same e num den = (holds, (1, den, (num ∙ ap pos (e ∙ ap (λ l. sum_by (λ n. n.time) l) same), refl)))
 
-pub group_is_worth : (i : Instance) (jobs order : List ℕ) (time speed : ℕ) (v : Frac) → IsGroup i jobs → time ≡ total_time i jobs → IsPermutation (speeds_of i) order → AllPairs (λ x y. y ≤ x) order → speed ≡ sum (take (length jobs) order)
+pub group_is_worth : (i : Instance) (jobs order : List ℕ) (time speed : ℕ) (v : Frac)
+    → IsGroup i jobs → time ≡ total_time i jobs → IsPermutation (speeds_of i) order → AllPairs (λ x y. y ≤ x) order → speed ≡ sum (take (length jobs) order)
     → v.num ≡ pos time → v.den ≡ pos speed → IsWorth i (Group jobs) (Some v)
 group_is_worth i jobs order time speed v holds e all falls first num den = (holds, (speed, den, (num ∙ ap pos e, record { order = order; all = all; falls = falls; first = first })))
 

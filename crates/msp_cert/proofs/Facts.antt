@@ -12,17 +12,18 @@ use Rattle.msp_instance.specs.declared.Instance.{Instance}
 use Rattle.msp_instance.specs.Conditions.{InClass, HasShape, HasSpeeds, text_limits, greatest_time}
 use Rattle.std.proofs.lemmas.List.Sorted.{All-permutation, length_permutation}
 use Rattle.std.proofs.lemmas.List.FromFn.{get_or-map-range_with_len}
+use Rattle.msp_class.specs.declared.sizes.TheConstants.{MOST_MACHINES, MOST_OPERATIONS, GREATEST}
 use Rattle.msp_schedule.specs.Speeds.{HaveSpeeds, speed_by, speed_of}
 use Rattle.msp_cert.specs.Certificates.{speeds_of}
 use Rattle.msp_cert.proofs.Soundness.{speeds_many, speed_some}
 use Rattle.msp_cert.specs.Small.{HasSmallNeeds}
 
-short_times : (t : Times) → greatest_time text_limits t ≤ 1000000000
+short_times : (t : Times) → greatest_time text_limits t ≤ GREATEST
 short_times General = omega arith
 short_times UnitTimes = omega arith
 short_times Equal = omega arith
 
-few_operations : (e : Env) → most_operations e ≤ 32
+few_operations : (e : Env) → most_operations e ≤ MOST_OPERATIONS
 few_operations J2Short = omega arith
 few_operations JShort = omega arith
 few_operations _ = omega arith
@@ -50,7 +51,7 @@ speed_small i k n h l (inr e) =
 -- the speeds of all machines are few and small, in any order
 pub record AreSmallSpeeds (order : List ℕ) : Type 0 where
   pub some : 1 ≤ length order
-  pub few : length order ≤ 32
+  pub few : length order ≤ MOST_MACHINES
   pub slow : All (λ s. s ≤ 1000000) order
   pub fast : All (λ s. 1 ≤ s) order
 

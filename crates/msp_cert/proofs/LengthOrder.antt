@@ -12,7 +12,8 @@ use Rattle.msp_class.proofs.Sums.{OnceBelow-range, OnceBelow-distinct}
 use Rattle.msp_schedule.proofs.lists.Permuted.{AllPairs-permutation}
 
 -- two different jobs, of which the second does not stand first
-stands_first : (t u j k : ℕ) (x y : Ordering) → MatchOrdering x (t < u) (t ≡ u) (u < t) → MatchOrdering y (k < j) (k ≡ j) (j < k) → j ≢ k → is_lt (ordering_then x y) ≡ false → (u < t) ⊎ ((u ≡ t) × (j < k))
+stands_first : (t u j k : ℕ) (x y : Ordering) → MatchOrdering x (t < u) (t ≡ u) (u < t)
+    → MatchOrdering y (k < j) (k ≡ j) (j < k) → j ≢ k → is_lt (ordering_then x y) ≡ false → (u < t) ⊎ ((u ≡ t) × (j < k))
 stands_first t u j k Less y h g apart e = absurd (cc)
 stands_first t u j k Equal Less h g apart e = absurd (cc)
 stands_first t u j k Equal Equal h g apart e = absurd (omega (arith, g, apart))
@@ -33,7 +34,8 @@ module _ (time : ℕ → ℕ) where
   longer_sorted jobs apart h p q d l b =
       let j = get_or jobs p d in
       let k = get_or jobs q d in
-      stands_first (time j) (time k) j k (nat_cmp (time j) (time k)) (nat_cmp k j) (ranked (time j) (time k) _ refl) (ranked k j _ refl) (apart p q d l b) (sorted_far longer longer-order jobs h p q d (omega (arith, l)) b)
+      stands_first (time j) (time k) j k (nat_cmp (time j) (time k)) (nat_cmp k j)
+      (ranked (time j) (time k) _ refl) (ranked k j _ refl) (apart p q d l b) (sorted_far longer longer-order jobs h p q d (omega (arith, l)) b)
 
 pub distinct_jobs : (count : ℕ) (jobs : List ℕ) → jobs ≡ range_with_len 0 count → AllPairs (λ j k. j ≢ k) jobs
 distinct_jobs count jobs e = rw e (OnceBelow-distinct (OnceBelow-range count))

@@ -1,5 +1,6 @@
 -- Prices added up and compared, machine by machine.
-use Rattle.std.proofs.Common.{◌≡◌, ℕ, zero, suc, ◌+◌, ◌*◌, ◌/◌, ◌%◌, ◌<◌, ◌≤◌, inl, inr, true, false, List, length, get_or, map, Some, ℤ, pos, ◌+ℤ◌, ◌≤ℤ◌, All, IsTrue, ◌↔◌, refl, sym, ap, ap₂, subst, subst₂, ◌∙◌, arith}
+use Rattle.std.proofs.Common.{◌≡◌, ℕ, zero, suc, ◌+◌, ◌*◌, ◌/◌, ◌%◌, ◌<◌, ◌≤◌, inl, inr, true, false, List, length, get_or, map, Some, ℤ, pos, ◌+ℤ◌, ◌≤ℤ◌, All, IsTrue, ◌↔◌, refl}
+use Rattle.std.proofs.Common.{sym, ap, ap₂, subst, subst₂, ◌∙◌, arith}
 use Rattle.std.specs.List.{range_with_len}
 use Rattle.std.proofs.lemmas.Int.{ints}
 use Rattle.std.proofs.lemmas.Nat.{div_below, mod_below, div-add-mod'}
@@ -14,7 +15,7 @@ use Rattle.msp_instance.specs.declared.Job.{Job}
 use Rattle.msp_instance.specs.declared.Instance.{Instance}
 use Rattle.msp_instance.specs.Instance.{no_job, job_at}
 use Rattle.msp_instance.specs.Conditions.{LiesWithin, HasShape, InClass}
-use Rattle.msp_instance.proofs.PathRowLemmas.{row_inside}
+use Rattle.msp_instance.proofs.PathBitLemmas.{row_inside}
 use Rattle.msp_schedule.specs.declared.Frac.{Frac}
 use Rattle.msp_schedule.specs.Feasible.{total}
 use Rattle.msp_schedule.specs.Prices.{prices_on_machine, all_prices}
@@ -31,7 +32,8 @@ pub record IsSum (prices : List ℤ) (k : ℕ) (sum : ℤ) : Type 0 where
   pub value : sum ≡ int_total_below k (λ j. get_or prices j (pos 0))
   pub size : LiesWithin (GREATEST_PRICE * k) sum
 
-pub IsSum-next : (prices : List ℤ) (k : ℕ) (sum x new : ℤ) → x ≡ get_or prices k (pos 0) → LiesWithin GREATEST_PRICE (get_or prices k (pos 0)) → new ≡ sum +ℤ x → IsSum prices k sum → IsSum prices (k + 1) new
+pub IsSum-next : (prices : List ℤ) (k : ℕ) (sum x new : ℤ)
+    → x ≡ get_or prices k (pos 0) → LiesWithin GREATEST_PRICE (get_or prices k (pos 0)) → new ≡ sum +ℤ x → IsSum prices k sum → IsSum prices (k + 1) new
 IsSum-next prices k sum x new is w e h = record {
   value = e ∙ ap₂ ◌+ℤ◌ h.value is ∙ ap (λ n. int_total_below n (λ j. get_or prices j (pos 0))) place;
   size = (let l = h.size.0 in let m = w.0 in omega (arith, ints, e, is), let l = h.size.1 in let m = w.1 in omega (arith, ints, e, is));
@@ -82,7 +84,8 @@ total_is_all i row column r c rows columns r_is c_is = ap₂ ◌+ℤ◌ (r_is �
     machines : total column ≡ total (map (prices_on_machine i (column_price i column)) (range_with_len 0 i.machines))
     machines =
         total-below column ∙ ap (λ k. int_total_below k (λ j. get_or column j (pos 0))) columns ∙ by_machine i.machines (length i.jobs) (λ j. get_or column j (pos 0))
-        ∙ int_total_below-same i.machines (λ a. int_total_below (length i.jobs) (λ k. get_or column (a * length i.jobs + k) (pos 0))) (prices_on_machine i (column_price i column)) (λ a t. sym (total_over_range (length i.jobs) (column_price i column a)))
+        ∙ int_total_below-same i.machines (λ a. int_total_below (length i.jobs) (λ k. get_or column (a * length i.jobs + k) (pos 0)))
+        (prices_on_machine i (column_price i column)) (λ a t. sym (total_over_range (length i.jobs) (column_price i column a)))
         ∙ sym (total_over_range i.machines (prices_on_machine i (column_price i column)))
 
 -- ---- compared
@@ -110,7 +113,8 @@ pub priced_shape : (i : Instance) (row column : List ℤ) → IsPriced i row col
 priced_shape i row column p = record { sum = p.sum; unrelated = p.unrelated; uncut = p.uncut; rows = p.rows; columns = p.columns }
 
 pub priced_low : (i : Instance) (row column : List ℤ) → IsPriced i row column → All (λ p. p ≤ℤ pos 0) column
-priced_low i row column p k d t = subst (λ x. x ≤ℤ pos 0) (get_or_default column k (pos 0) d t) (subst (λ q. get_or column q (pos 0) ≤ℤ pos 0) way (p.prices.low (k / length i.jobs) (k % length i.jobs) (div_below k (length i.jobs) i.machines some inside) (mod_below k (length i.jobs) some)))
+priced_low i row column p k d t = subst (λ x. x ≤ℤ pos 0) (get_or_default column k (pos 0) d t)
+    (subst (λ q. get_or column q (pos 0) ≤ℤ pos 0) way (p.prices.low (k / length i.jobs) (k % length i.jobs) (div_below k (length i.jobs) i.machines some inside) (mod_below k (length i.jobs) some)))
   where
     some : 0 < length i.jobs
     some = positive (length i.jobs) i.machines (omega (arith, t, p.columns))
@@ -129,7 +133,8 @@ pub priced_fair : (i : Instance) (row column : List ℤ) → InClass i → IsPri
 priced_fair i row column c p j in_j m in_m k in_k = p.prices.fair j m k in_j (omega (arith, in_m, needs_many i j c p.unrelated in_j)) in_k
 
 -- one job more is fair, or it is not
-module _ (i : Instance) (row column : List ℤ) (job : ℕ) (price : ℤ) (needs : List Need) (own : Job) (jobs : List Job) (same : jobs ≡ i.jobs) (needs_is : needs ≡ (get_or jobs job own).needs) (price_is : price ≡ get_or row job (pos 0)) (t : job < length jobs) where
+module _ (i : Instance) (row column : List ℤ) (job : ℕ) (price : ℤ) (needs : List Need) (own : Job) (jobs : List Job)
+    (same : jobs ≡ i.jobs) (needs_is : needs ≡ (get_or jobs job own).needs) (price_is : price ≡ get_or row job (pos 0)) (t : job < length jobs) where
   own_is : get_or jobs job own ≡ job_at i job
   own_is = get_or_default jobs job own no_job t ∙ ap (λ l. get_or l job no_job) same
 
@@ -142,11 +147,13 @@ module _ (i : Instance) (row column : List ℤ) (job : ℕ) (price : ℤ) (needs
   pub fair_refused : (IsTrue false ↔ IsFair price column (length jobs) needs) → (IsTrue false ↔ AreFair i row column)
   fair_refused unfair = (λ e. absurd (false≢true e), λ h. unfair.1 (back (h job (omega (arith, t, ap length same)))))
 
-  pub fair_next : (IsTrue true ↔ IsFair price column (length jobs) needs) → ((j : ℕ) → j < job → IsFair (get_or row j (pos 0)) column (length i.jobs) (job_at i j).needs) → (j : ℕ) → j < job + 1 → IsFair (get_or row j (pos 0)) column (length i.jobs) (job_at i j).needs
+  pub fair_next : (IsTrue true ↔ IsFair price column (length jobs) needs) → ((j : ℕ) → j < job → IsFair (get_or row j (pos 0)) column (length i.jobs) (job_at i j).needs)
+      → (j : ℕ) → j < job + 1 → IsFair (get_or row j (pos 0)) column (length i.jobs) (job_at i j).needs
   fair_next ok before j u = elim (cases_lt j job) as (λ _. IsFair (get_or row j (pos 0)) column (length i.jobs) (job_at i j).needs) [
     | inl low ↦ before j low
     | inr high ↦ let e : job ≡ j = omega (arith, u, high) in subst (λ q. IsFair (get_or row q (pos 0)) column (length i.jobs) (job_at i q).needs) e (there (ok.0 refl))
   ]
 
-pub prices_are_worth : (i : Instance) (row column : List ℤ) (r c x : ℤ) (v : Frac) → IsPriced i row column → r ≡ total row → c ≡ total column → v.num ≡ x → x ≡ r +ℤ c → v.den ≡ pos 1 → IsWorth i (Prices row column) (Some v)
+pub prices_are_worth : (i : Instance) (row column : List ℤ) (r c x : ℤ) (v : Frac)
+    → IsPriced i row column → r ≡ total row → c ≡ total column → v.num ≡ x → x ≡ r +ℤ c → v.den ≡ pos 1 → IsWorth i (Prices row column) (Some v)
 prices_are_worth i row column r c x v holds r_is c_is num sum den = (holds, (1, den, (num ∙ sum ∙ total_is_all i row column r c holds.rows holds.columns r_is c_is, refl)))

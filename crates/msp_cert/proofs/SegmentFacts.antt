@@ -4,24 +4,28 @@ use Rattle.std.specs.List.{AllAdjacentBelow, flat_map}
 use Rattle.std.proofs.lemmas.List.{get_or_default}
 use Rattle.std.proofs.lemmas.Bool.{false≢true}
 use Rattle.std.proofs.lemmas.List.Elements.{All-nil, All-head, All-tail, All-append, Contains-get_or}
+use Rattle.msp_class.specs.declared.sizes.TheConstants.{MOST_JOBS}
 use Rattle.msp_class.proofs.Lists.{flat_map-take_more}
 use Rattle.msp_class.proofs.Sums.{sum_by-contains}
 use Rattle.msp_instance.specs.declared.Instance.{Instance}
-use Rattle.msp_instance.specs.declared.path_rows.Paths.{Paths}
+use Rattle.msp_instance.specs.declared.path_bits.Paths.{Paths}
 use Rattle.msp_instance.specs.Paths.{ShowsPaths}
 use Rattle.msp_schedule.specs.Segments.{LeadTo, AreSegments}
 use Rattle.msp_cert.specs.declared.limits.TheConstants.{MOST_ENTRIES}
 use Rattle.msp_cert.specs.Small.{ShowLeads}
 
-pub flat_next : (lists : List (List ℕ)) (k : ℕ) (d old new : List ℕ) → k < length lists → new ≡ old ++ get_or lists k d → old ≡ flat_map (λ js. js) (take k lists) → new ≡ flat_map (λ js. js) (take (k + 1) lists)
+pub flat_next : (lists : List (List ℕ)) (k : ℕ) (d old new : List ℕ)
+    → k < length lists → new ≡ old ++ get_or lists k d → old ≡ flat_map (λ js. js) (take k lists) → new ≡ flat_map (λ js. js) (take (k + 1) lists)
 flat_next lists k d old new t e h = e ∙ ap (λ l. l ++ get_or lists k d) h ∙ sym (flat_map-take_more (λ js. js) lists k d t)
 
 pub flat_inside : (n : ℕ) (lists : List (List ℕ)) → All (λ js. All (λ j. j < n) js) lists → All (λ j. j < n) (flat_map (λ js. js) lists)
 flat_inside n [] h = All-nil (λ j. j < n)
-flat_inside n (js ∷ rest) h = All-append (λ j. j < n) js (flat_map (λ js. js) rest) (All-head (λ js. All (λ j. j < n) js) js rest h) (flat_inside n rest (All-tail (λ js. All (λ j. j < n) js) js rest h))
+flat_inside n (js ∷ rest) h = All-append (λ j. j < n)
+    js (flat_map (λ js. js) rest) (All-head (λ js. All (λ j. j < n) js) js rest h) (flat_inside n rest (All-tail (λ js. All (λ j. j < n) js) js rest h))
 
-pub flat_small : (n : ℕ) (lists : List (List ℕ)) (flat shown : List ℕ) → n ≤ 400 → All (λ js. All (λ j. j < n) js) lists → shown ≡ flat → flat ≡ flat_map (λ js. js) lists → All (λ j. j < 400) shown
-flat_small n lists flat shown few h same is = subst (All (λ j. j < 400)) (sym (same ∙ is)) (λ k d t. omega (arith, few, flat_inside n lists h k d t))
+pub flat_small : (n : ℕ) (lists : List (List ℕ)) (flat shown : List ℕ)
+    → n ≤ MOST_JOBS → All (λ js. All (λ j. j < n) js) lists → shown ≡ flat → flat ≡ flat_map (λ js. js) lists → All (λ j. j < MOST_JOBS) shown
+flat_small n lists flat shown few h same is = subst (All (λ j. j < MOST_JOBS)) (sym (same ∙ is)) (λ k d t. omega (arith, few, flat_inside n lists h k d t))
 
 module _ (i : Instance) (p : Paths) (shows : ShowsPaths i p) (a b : List ℕ) (in_a : All (λ j. j < length i.jobs) a) (in_b : All (λ j. j < length i.jobs) b) where
   pub leads_there : ShowLeads p a b → LeadTo i a b
@@ -30,7 +34,8 @@ module _ (i : Instance) (p : Paths) (shows : ShowsPaths i p) (a b : List ℕ) (i
   pub leads_back : LeadTo i a b → ShowLeads p a b
   leads_back h x d t y e u = (shows (get_or a x d) (get_or b y e) (in_a x d t) (in_b y e u)).1 (h x d t y e u)
 
-pub segments_decided : (i : Instance) (p : Paths) (lists : List (List ℕ)) (flat shown : List ℕ) (x : Bool) → All (λ js. 0 < length js) lists → All (λ js. All (λ j. j < length i.jobs) js) lists → shown ≡ flat → flat ≡ flat_map (λ js. js) lists
+pub segments_decided : (i : Instance) (p : Paths) (lists : List (List ℕ)) (flat shown : List ℕ) (x : Bool)
+    → All (λ js. 0 < length js) lists → All (λ js. All (λ j. j < length i.jobs) js) lists → shown ≡ flat → flat ≡ flat_map (λ js. js) lists
     → AllPairs (λ j k. j ≢ k) shown → ShowsPaths i p → (IsTrue x ↔ AllAdjacentBelow (ShowLeads p) lists (length lists)) → (IsTrue x ↔ AreSegments i lists)
 segments_decided i p lists flat shown x some inside same is apart shows h = (
   λ e. record {
@@ -45,7 +50,8 @@ segments_decided i p lists flat shown x some inside same is apart shows h = (
 pub not_apart : (i : Instance) (lists : List (List ℕ)) (flat shown : List ℕ) → shown ≡ flat → flat ≡ flat_map (λ js. js) lists → ¬ AllPairs (λ j k. j ≢ k) shown → ¬ AreSegments i lists
 not_apart i lists flat shown same is never s = never (subst (AllPairs (λ j k. j ≢ k)) (sym (same ∙ is)) s.apart)
 
-pub not_leading : (p : Paths) (lists : List (List ℕ)) (k : ℕ) (a b first second : List ℕ) → 1 ≤ k → k < length lists → a ≡ get_or lists (k - 1) a → b ≡ get_or lists k b → first ≡ a → second ≡ b → (IsTrue false ↔ ShowLeads p first second) → (IsTrue false ↔ AllAdjacentBelow (ShowLeads p) lists (length lists))
+pub not_leading : (p : Paths) (lists : List (List ℕ)) (k : ℕ) (a b first second : List ℕ) → 1 ≤ k → k < length lists → a ≡ get_or lists (k - 1) a
+    → b ≡ get_or lists k b → first ≡ a → second ≡ b → (IsTrue false ↔ ShowLeads p first second) → (IsTrue false ↔ AllAdjacentBelow (ShowLeads p) lists (length lists))
 not_leading p lists k a b first second some t at_a at_b is_a is_b never = (
   λ e. absurd (false≢true e),
   λ h. never.1 (subst₂ (ShowLeads p) (sym (is_a ∙ at_a)) (later ∙ sym (is_b ∙ at_b)) (h (k - 1) a (omega (arith, some, t)))),

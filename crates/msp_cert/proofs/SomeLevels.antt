@@ -42,7 +42,8 @@ above_next a arcs level j (above, h) = elim (same_or_not a.before j) [
       level a.after + 1,
       record {
         reached = inr (a, (0, omega arith, refl), here, refl);
-        over = All-cons (λ b. b.before ≡ j → level b.after < level a.after + 1) a arcs (λ e. omega arith) (All-weaker (λ b. b.before ≡ j → level b.after < above) (λ b. b.before ≡ j → level b.after < level a.after + 1) (λ b f e. let less = f e in omega (arith, less, more)) arcs h.over);
+        over = All-cons (λ b. b.before ≡ j → level b.after < level a.after + 1) a arcs (λ e. omega arith)
+            (All-weaker (λ b. b.before ≡ j → level b.after < above) (λ b. b.before ≡ j → level b.after < level a.after + 1) (λ b f e. let less = f e in omega (arith, less, more)) arcs h.over);
       },
     )
   ]

@@ -112,7 +112,8 @@ fastest_above i count speed some h =
     let (t, is) = some_threshold h.order count some h.falls in
     (t, by t (is.reached) h.first (sym (sum_by-map (λ x. x - t) (speed_of i) (range_with_len 0 i.machines)) ∙ sym (sum_by-IsPermutation (λ x. x - t) (speeds_of i) h.order h.all)))
   where
-    by : (t : ℕ) → count * t + sum_by (λ x. x - t) h.order ≤ sum (take count h.order) → speed ≡ sum (take count h.order) → speed_above i t ≡ sum_by (λ x. x - t) h.order → count * t + speed_above i t ≤ speed
+    by : (t : ℕ) → count * t + sum_by (λ x. x - t) h.order ≤ sum (take count h.order)
+        → speed ≡ sum (take count h.order) → speed_above i t ≡ sum_by (λ x. x - t) h.order → count * t + speed_above i t ≤ speed
     by t reached first same = omega (arith, reached, first, same)
 
 group : (i : Instance) (jobs : List ℕ) (num : ℤ) (den : ℕ) (s : Schedule) → InClass i → IsGroup i jobs → num ≡ pos (total_time i jobs) → IsSpeedOfFastest i (length jobs) den → Feasible i s
@@ -126,7 +127,8 @@ group i jobs num den s c g e v f =
       by t room above,
     )
   where
-    by : (t : ℕ) → (s.unit *ℤ pos (time_together i (among i jobs g.inside g.apart))) ≤ℤ (cost_of i s *ℤ pos (jobs_together i (among i jobs g.inside g.apart) * t + speed_above i t)) → length jobs * t + speed_above i t ≤ den
+    by : (t : ℕ) → (s.unit *ℤ pos (time_together i (among i jobs g.inside g.apart))) ≤ℤ (cost_of i s *ℤ pos (jobs_together i (among i jobs g.inside g.apart) * t + speed_above i t))
+        → length jobs * t + speed_above i t ≤ den
         → (num *ℤ s.unit) ≤ℤ (cost_of i s *ℤ pos den)
     by t room above =
         ≤ℤ_trans (≤ℤ_of_same (*ℤ_comm num s.unit ∙ ap (λ x. s.unit *ℤ x) (e ∙ ap pos (sym (together i jobs g.inside g.apart)))))

@@ -1,9 +1,11 @@
 -- How many jobs have at least a level, level by level, and what the levels of all jobs are worth with each tail.
-use Rattle.std.proofs.Common.{◌≡◌, ◌≢◌, ℕ, zero, suc, ◌+◌, ◌-◌, ◌/◌, ◌<◌, ◌≤◌, ◌⊎◌, inl, inr, Bool, cond, List, length, get_or, set, take, count_by, Some, None, All, pos, refl, sym, ap, subst, ◌∙◌, arith}
+use Rattle.std.proofs.Common.{◌≡◌, ◌≢◌, ℕ, zero, suc, ◌+◌, ◌-◌, ◌/◌, ◌<◌, ◌≤◌, ◌⊎◌, inl, inr, Bool, cond, List, length, get_or, set, take, count_by, Some, None, All, pos, refl}
+use Rattle.std.proofs.Common.{sym, ap, subst, ◌∙◌, arith}
 use Rattle.std.specs.Prelude.{Any, nat_le, ◌==◌}
 use Rattle.std.proofs.lemmas.Bool.Decides.{nat_tests}
 use Rattle.std.proofs.lemmas.List.{get_or_default, get_or-set_same, get_or-set_other, length-set, length-take-le}
 use Rattle.std.proofs.lemmas.List.Elements.{All-contains}
+use Rattle.msp_class.specs.declared.sizes.TheConstants.{MOST_JOBS}
 use Rattle.msp_class.specs.Sums.{total_below}
 use Rattle.msp_class.proofs.Sums.{sum_by-agree, sum_by-add, sum_by-constant, sum_by-contains, sum_by-some, sum_by-mono, sum_by-take_more, cond-le, total_below-range}
 use Rattle.msp_instance.specs.declared.Instance.{Instance}
@@ -37,7 +39,8 @@ pub all_high : (level : List ℕ) → count_by (nat_le 0) level ≡ length level
 all_high level = sum_by-agree (λ x. cond (nat_le 0 x) 1 0) (λ _. 1) level (λ x. one_high 0 x (omega arith)) ∙ sum_by-constant 1 level ∙ omega arith
 
 pub next_high : (t : ℕ) (level : List ℕ) → count_by (nat_le t) level ≡ count_by (λ l. l == t) level + count_by (nat_le (t + 1)) level
-next_high t level = sum_by-agree (λ x. cond (nat_le t x) 1 0) (λ x. cond (x == t) 1 0 + cond (nat_le (t + 1) x) 1 0) level (high_or_there t) ∙ sum_by-add (λ x. cond (x == t) 1 0) (λ x. cond (nat_le (t + 1) x) 1 0) level
+next_high t level = sum_by-agree (λ x. cond (nat_le t x) 1 0) (λ x. cond (x == t) 1 0 + cond (nat_le (t + 1) x) 1 0) level (high_or_there t)
+    ∙ sum_by-add (λ x. cond (x == t) 1 0) (λ x. cond (nat_le (t + 1) x) 1 0) level
 
 pub jobs_high : (i : Instance) (level : List ℕ) (t : ℕ) → length level ≡ length i.jobs → jobs_from i (of_job level) t ≡ count_by (nat_le t) level
 jobs_high i level t each =
@@ -46,16 +49,16 @@ jobs_high i level t each =
 
 -- ---- counted job by job
 pub record AreCounted (level : List ℕ) (k : ℕ) (counts : List ℕ) : Type 0 where
-  pub wide : length counts ≡ 400
-  pub each : (t : ℕ) → t < 400 → get_or counts t 0 ≡ count_by (λ l. l == t) (take k level)
+  pub wide : length counts ≡ MOST_JOBS
+  pub each : (t : ℕ) → t < MOST_JOBS → get_or counts t 0 ≡ count_by (λ l. l == t) (take k level)
 
-pub none_counted : (level counts : List ℕ) → length counts ≡ 400 → ((t : ℕ) → t < 400 → get_or counts t 0 ≡ 0) → AreCounted level 0 counts
+pub none_counted : (level counts : List ℕ) → length counts ≡ MOST_JOBS → ((t : ℕ) → t < MOST_JOBS → get_or counts t 0 ≡ 0) → AreCounted level 0 counts
 none_counted level counts wide none = record { wide = wide; each = λ t l. none t l }
 
 at_most_all : (t : ℕ) (xs : List ℕ) → count_by (λ l. l == t) xs ≤ length xs
 at_most_all t xs = omega (arith, sum_by-mono (λ x. cond (x == t) 1 0) (λ _. 1) xs (λ k d l. cond-le (get_or xs k d == t) 1), sum_by-constant 1 xs)
 
-pub counted_few : (level counts : List ℕ) (k t : ℕ) → AreCounted level k counts → k ≤ length level → t < 400 → get_or counts t 0 ≤ k
+pub counted_few : (level counts : List ℕ) (k t : ℕ) → AreCounted level k counts → k ≤ length level → t < MOST_JOBS → get_or counts t 0 ≤ k
 counted_few level counts k t h l b = omega (arith, h.each t b, at_most_all t (take k level), length-take-le k level l)
 
 here_or_not : (x t : ℕ) → ((x ≡ t) × (one_if (x == t) ≡ 1)) ⊎ ((t ≢ x) × (one_if (x == t) ≡ 0))
@@ -67,15 +70,26 @@ here_or_not x t = elim (same_or_not x t) [ inl e ↦ inl (e, here x t e) | inr n
     gone : (x t : ℕ) → x ≢ t → one_if (x == t) ≡ 0
     gone x t ne = grind (arith, nat_tests)
 
-pub count_one : (level counts : List ℕ) (k value : ℕ) → k < length level → get_or level k 0 < 400 → value ≡ get_or counts (get_or level k 0) 0 + 1 → AreCounted level k counts → AreCounted level (k + 1) (set counts (get_or level k 0) value)
+pub count_one : (level counts : List ℕ) (k value : ℕ) → k < length level → get_or level k 0 < MOST_JOBS
+    → value ≡ get_or counts (get_or level k 0) 0 + 1 → AreCounted level k counts → AreCounted level (k + 1) (set counts (get_or level k 0) value)
 count_one level counts k value l small is h = record { wide = length-set counts (get_or level k 0) value ∙ h.wide; each = each }
   where
     more : (t : ℕ) → count_by (λ l. l == t) (take (k + 1) level) ≡ count_by (λ l. l == t) (take k level) + cond (get_or level k 0 == t) 1 0
     more t = sum_by-take_more (λ x. cond (x == t) 1 0) level k 0 l
 
-    each : (t : ℕ) → t < 400 → get_or (set counts (get_or level k 0) value) t 0 ≡ count_by (λ l. l == t) (take (k + 1) level)
+    each : (t : ℕ) → t < MOST_JOBS → get_or (set counts (get_or level k 0) value) t 0 ≡ count_by (λ l. l == t) (take (k + 1) level)
     each t b = elim (here_or_not (get_or level k 0) t) [
-      | inl (e, one) ↦ omega (arith, more t, one, h.each t b, ap (λ x. get_or counts x 0) e, ap (λ x. get_or (set counts (get_or level k 0) value) x 0) e, get_or-set_same counts (get_or level k 0) value 0 (omega (arith, small, h.wide)), is)
+      | inl (e, one) ↦ omega (
+        arith,
+        more t,
+        one,
+        h.each t b,
+        ap (λ x. get_or counts x 0)
+            e,
+        ap (λ x. get_or (set counts (get_or level k 0) value) x 0) e,
+        get_or-set_same counts (get_or level k 0) value 0 (omega (arith, small, h.wide)),
+        is,
+      )
       | inr (ne, none) ↦ omega (arith, more t, none, h.each t b, get_or-set_other counts (get_or level k 0) t value 0 ne)
     ]
 
@@ -84,7 +98,8 @@ module _ (i : Instance) (level : ℕ → ℕ) (c : InClass i) (h : AreLevels i l
   beyond : (order : List ℕ) → IsSequence i order → All (GoesForward order) i.arcs → (n p : ℕ) → p < length order → LeadsOut i.arcs n (get_or order p 0) → n + p < length order
   beyond order s forward zero p l out = omega (arith, l)
   beyond order s forward (suc n) p l (k, step, rest) =
-      let (q, later, near, at) = All-contains (λ a. a.before ≡ get_or order p 0 → (q : ℕ) × (p < q) × (q < length order) × (get_or order q 0 ≡ a.after)) i.arcs (record { before = get_or order p 0; after = k }) (leads_to i order s forward p l) step refl in
+      let (q, later, near, at) = All-contains (λ a. a.before ≡ get_or order p 0 → (q : ℕ) × (p < q) × (q < length order) × (get_or order q 0 ≡ a.after))
+      i.arcs (record { before = get_or order p 0; after = k }) (leads_to i order s forward p l) step refl in
       let less : n + q < length order = beyond order s forward n q near (subst (LeadsOut i.arcs n) (sym at) rest) in
       omega (arith, less, later)
 
@@ -104,7 +119,8 @@ module _ (i : Instance) (level : List ℕ) (c : InClass i) (h : AreAllLevels i l
       never : Any (λ l. tail ≤ l) level → ⊥
       never (k, x, l, at, high) = omega (arith, none, sum_by-contains (λ y. cond (nat_le tail y) 1 0) level x (k, l, at), one_high tail x high)
 
-  pub tail_is_worth : (tail high value : ℕ) (v : Frac) → HasUnitJobs i → high ≡ count_by (nat_le tail) level → 0 < high → value ≡ tail + (high + (i.machines - 1)) / i.machines → v.num ≡ pos value → v.den ≡ pos 1 → IsWorth i (Levels level tail) (Some v)
+  pub tail_is_worth : (tail high value : ℕ) (v : Frac) → HasUnitJobs i → high ≡ count_by (nat_le tail) level
+      → 0 < high → value ≡ tail + (high + (i.machines - 1)) / i.machines → v.num ≡ pos value → v.den ≡ pos 1 → IsWorth i (Levels level tail) (Some v)
   tail_is_worth tail high value v units e some is num den =
       levels_are_worth i level tail value v (record { units = units; each = h.each; steps = StepsDown-levels i (of_job level) c.conditions.ends h.levels; some = reached })
       (is ∙ ap (λ n. tail + (n + (i.machines - 1)) / i.machines) (e ∙ sym (jobs_high i level tail h.each))) num den

@@ -1,5 +1,6 @@
 -- The proofs that are tried: the first of a list, by places and by parts, and what the groups of the longest jobs are worth.
-use Rattle.std.proofs.Common.{◌≡◌, ℕ, zero, suc, ◌+◌, ◌*◌, ◌<◌, ◌≤◌, inl, inr, List, [], ◌∷◌, ◌++◌, length, get_or, map, take, Option, Some, None, All, AllPairs, IsPermutation, pos, sym, ap, subst, ◌∙◌, arith}
+use Rattle.std.proofs.Common.{◌≡◌, ℕ, zero, suc, ◌+◌, ◌*◌, ◌<◌, ◌≤◌, inl, inr, List, [], ◌∷◌, ◌++◌, length, get_or, map, take, Option, Some, None, All, AllPairs, IsPermutation}
+use Rattle.std.proofs.Common.{pos, sym, ap, subst, ◌∙◌, arith}
 use Rattle.std.specs.Prelude.{sum}
 use Rattle.std.specs.List.{range_with_len}
 use Rattle.std.proofs.lemmas.Bool.{cases_lt}
@@ -7,6 +8,7 @@ use Rattle.std.proofs.lemmas.Option.{slice_get_read}
 use Rattle.std.proofs.lemmas.List.{get_or_past, get_or-take, length-take-le}
 use Rattle.std.proofs.lemmas.List.Elements.{All-cons, All-nil, All-head, All-tail, All-take}
 use Rattle.std.proofs.lemmas.List.FromFn.{length-map-range_with_len, get_or-map-range_with_len, take-map-range_with_len}
+use Rattle.msp_class.specs.declared.sizes.TheConstants.{GREATEST}
 use Rattle.msp_class.proofs.Sums.{sum_by-cons, sum_by-take_more, OnceBelow, OnceBelow-from_permutation, OnceBelow-distinct, length-OnceBelow}
 use Rattle.msp_instance.specs.declared.Job.{Job}
 use Rattle.msp_instance.specs.declared.Instance.{Instance}
@@ -39,7 +41,8 @@ module _ (P : Proof → Type 0) where
   pub first_stays : (all more : List Proof) (q : Proof) → IsFirst P all (Some q) → IsFirst P (all ++ more) (Some q)
   first_stays [] more q (k, at, holds, before) = absurd (cc)
   first_stays (x ∷ all) more q (zero, at, holds, before) = (0, at, holds, All-nil (λ p. ¬ P p))
-  first_stays (x ∷ all) more q (suc k, at, holds, before) = first_later x (all ++ more) (Some q) (All-head (λ p. ¬ P p) x (take k all) before) (first_stays all more q (k, at, holds, All-tail (λ p. ¬ P p) x (take k all) before))
+  first_stays (x ∷ all) more q (suc k, at, holds, before) =
+      first_later x (all ++ more) (Some q) (All-head (λ p. ¬ P p) x (take k all) before) (first_stays all more q (k, at, holds, All-tail (λ p. ¬ P p) x (take k all) before))
 
   -- by places
   module _ (f : ℕ → Proof) where
@@ -64,7 +67,7 @@ pub no_tails : (i : Instance) (cost : Frac) (level : List ℕ) → ¬ HasUnitJob
 no_tails i cost level never = none_placed (HasValue i cost) (Levels level) (length i.jobs) (λ k b h. never h.holds.units)
 
 -- ---- groups of the longest jobs
-pub time_small : (i : Instance) (j : ℕ) → InClass i → (need_at i j 0).time ≤ 1000000000
+pub time_small : (i : Instance) (j : ℕ) → InClass i → (need_at i j 0).time ≤ GREATEST
 time_small i j c = elim (cases_lt j (length i.jobs)) [
   | inl l ↦ let needs = small_needs i c j no_job l in needs.short 0 no_need (omega (arith, needs.some))
   | inr past ↦ omega (arith, ap (λ (x : Job). (get_or x.needs 0 no_need).time) (get_or_past i.jobs j no_job past))
@@ -83,10 +86,11 @@ sum_more (x ∷ xs) (suc k) = omega (arith, sum_by-cons (λ y. y) x (take (suc k
 pub record AreTogether (i : Instance) (longest speeds : List ℕ) (k time speed : ℕ) : Type 0 where
   pub time_is : time ≡ total_time i (take k longest)
   pub speed_is : speed ≡ sum (take k speeds)
-  pub short : time ≤ 1000000000 * k
+  pub short : time ≤ GREATEST * k
   pub slow : speed ≤ 1000000 * k
 
-pub one_more : (i : Instance) (longest speeds : List ℕ) (k time speed t s job : ℕ) → InClass i → HasRelatedMachines i → IsPermutation (speeds_of i) speeds → k < length longest → job ≡ get_or longest k 0 → t ≡ (need_at i job 0).time → s ≡ get_or speeds k 0
+pub one_more : (i : Instance) (longest speeds : List ℕ) (k time speed t s job : ℕ) → InClass i → HasRelatedMachines i
+    → IsPermutation (speeds_of i) speeds → k < length longest → job ≡ get_or longest k 0 → t ≡ (need_at i job 0).time → s ≡ get_or speeds k 0
     → AreTogether i longest speeds k time speed → AreTogether i longest speeds (k + 1) (time + t) (speed + s)
 one_more i longest speeds k time speed t s job c asked all l is t_is s_is h = record {
   time_is = omega (arith, h.time_is, t_is, ap (λ j. (need_at i j 0).time) is, sum_by-take_more (λ j. (need_at i j 0).time) longest k 0 l);
@@ -104,7 +108,8 @@ group_of_longest i longest k h asked l = record {
   speeds = asked.speeds;
   some = omega (arith, long);
   inside = All-take (λ j. j < length i.jobs) (k + 1) longest once.within;
-  apart = λ p q d less b e. OnceBelow-distinct once p q d less (omega (arith, b, long, l)) (sym (get_or-take (k + 1) longest p d (omega (arith, b, long, less))) ∙ e ∙ get_or-take (k + 1) longest q d (omega (arith, b, long)));
+  apart = λ p q d less b e. OnceBelow-distinct once p q d less (omega (arith, b, long, l))
+      (sym (get_or-take (k + 1) longest p d (omega (arith, b, long, less))) ∙ e ∙ get_or-take (k + 1) longest q d (omega (arith, b, long)));
 }
   where
     once : OnceBelow (length i.jobs) longest
@@ -116,12 +121,14 @@ group_of_longest i longest k h asked l = record {
 pub all_longest : (i : Instance) (longest : List ℕ) → AreLongestFirst i longest → length longest ≡ length i.jobs
 all_longest i longest h = length-OnceBelow (OnceBelow-from_permutation h.all)
 
-pub some_speed : (i : Instance) (longest speeds : List ℕ) (k time speed : ℕ) → InClass i → HasRelatedMachines i → IsPermutation (speeds_of i) speeds → AreTogether i longest speeds (k + 1) time speed → 0 < speed
+pub some_speed : (i : Instance) (longest speeds : List ℕ) (k time speed : ℕ)
+    → InClass i → HasRelatedMachines i → IsPermutation (speeds_of i) speeds → AreTogether i longest speeds (k + 1) time speed → 0 < speed
 some_speed i longest speeds k time speed c asked all h =
     let s = small_speeds i speeds c asked.speeds all in
     subst (λ x. 1 ≤ x) (sym h.speed_is) (first_some speeds (k + 1) (omega arith) s.some s.fast)
 
-pub longest_worth : (i : Instance) (longest speeds : List ℕ) (k time speed : ℕ) (v : Frac) → AreLongestFirst i longest → HasRelatedMachines i → IsPermutation (speeds_of i) speeds → AllPairs (λ x y. y ≤ x) speeds → k < length longest
+pub longest_worth : (i : Instance) (longest speeds : List ℕ) (k time speed : ℕ) (v : Frac)
+    → AreLongestFirst i longest → HasRelatedMachines i → IsPermutation (speeds_of i) speeds → AllPairs (λ x y. y ≤ x) speeds → k < length longest
     → AreTogether i longest speeds (k + 1) time speed → v.num ≡ pos time → v.den ≡ pos speed → IsWorth i (Group (take (k + 1) longest)) (Some v)
 longest_worth i longest speeds k time speed v h asked all falls l sums num den =
     group_is_worth i (take (k + 1) longest) speeds time speed v (group_of_longest i longest k h asked l) sums.time_is all falls

@@ -22,15 +22,18 @@ pub height_next : (order heights : List ℕ) (k value : ℕ) → AllPairs (λ x 
     → ((p : ℕ) → p < k → get_or heights (get_or order p 0) 0 + p + 1 ≡ length order) → (p : ℕ) → p < k + 1 → get_or (set heights (get_or order k 0) value) (get_or order p 0) 0 + p + 1 ≡ length order
 height_next order heights k value apart l wide is before p b = elim (cases_lt p k) [
   | inl low ↦ omega (arith, get_or-set_other heights (get_or order k 0) (get_or order p 0) value 0 (apart p k 0 low l), before p low)
-  | inr high ↦ let e : p ≡ k = omega (arith, b, high) in subst (λ q. get_or (set heights (get_or order k 0) value) (get_or order q 0) 0 + q + 1 ≡ length order) (sym e) (omega (arith, get_or-set_same heights (get_or order k 0) value 0 wide, is))
+  | inr high ↦ let e : p ≡ k = omega (arith, b, high) in
+      subst (λ q. get_or (set heights (get_or order k 0) value) (get_or order q 0) 0 + q + 1 ≡ length order) (sym e) (omega (arith, get_or-set_same heights (get_or order k 0) value 0 wide, is))
 ]
 
 pub heights_from : (i : Instance) (order heights : List ℕ) → IsSequence i order → All (GoesForward order) i.arcs → length heights ≡ length i.jobs
     → ((k : ℕ) → k < length order → of_job heights (get_or order k 0) + k + 1 ≡ length order) → AreHeights i heights
 heights_from i order heights s forward each is = record {
   each = each;
-  small = λ j d l. subst (λ x. x < length i.jobs) (get_or_default heights j 0 d l) (each_at i order s (λ x. of_job heights x < length i.jobs) (λ k b. omega (arith, is k b, s.whole)) j (omega (arith, l, each)));
-  falls = λ n d l. let (p, q, less, x, y) = forward n d l in falls (get_or i.arcs n d) p q less (get_or_from_slice_get order p _ 0 x) (get_or_from_slice_get order q _ 0 y) (slice_get_within order p _ x) (slice_get_within order q _ y);
+  small = λ j d l. subst (λ x. x < length i.jobs) (get_or_default heights j 0 d l)
+      (each_at i order s (λ x. of_job heights x < length i.jobs) (λ k b. omega (arith, is k b, s.whole)) j (omega (arith, l, each)));
+  falls = λ n d l. let (p, q, less, x, y) = forward n d l in
+      falls (get_or i.arcs n d) p q less (get_or_from_slice_get order p _ 0 x) (get_or_from_slice_get order q _ 0 y) (slice_get_within order p _ x) (slice_get_within order q _ y);
 }
   where
     falls : (a : Arc) (p q : ℕ) → p < q → get_or order p 0 ≡ a.before → get_or order q 0 ≡ a.after → p < length order → q < length order → of_job heights a.after < of_job heights a.before
@@ -94,8 +97,10 @@ all_raised heights arcs k level many few h = record {
   ];
 }
 
-module _ (heights : ℕ → ℕ) (arcs : List Arc) (k : ℕ) (level : List ℕ) (value : ℕ) (l : k < length arcs) (falls : All (λ a. heights a.after < heights a.before) arcs) (sorted : IsNonDecreasingBy (λ a. heights a.before) arcs)
-    (wide : (get_or arcs k no_arc).before < length level) (is : value ≡ max (of_job level (get_or arcs k no_arc).before) (of_job level (get_or arcs k no_arc).after + 1)) (h : AreRaised heights arcs k level) where
+module _ (heights : ℕ → ℕ) (arcs : List Arc) (k : ℕ) (level : List ℕ)
+    (value : ℕ) (l : k < length arcs) (falls : All (λ a. heights a.after < heights a.before) arcs) (sorted : IsNonDecreasingBy (λ a. heights a.before) arcs)
+    (wide : (get_or arcs k no_arc).before < length level)
+    (is : value ≡ max (of_job level (get_or arcs k no_arc).before) (of_job level (get_or arcs k no_arc).after + 1)) (h : AreRaised heights arcs k level) where
   abbrev from : ℕ
   from = (get_or arcs k no_arc).before
 
@@ -133,7 +138,8 @@ module _ (heights : ℕ → ℕ) (arcs : List Arc) (k : ℕ) (level : List ℕ) 
   over : (p : ℕ) → p < k + 1 → of_job new (get_or arcs p no_arc).after < of_job new (get_or arcs p no_arc).before
   over p b = elim (cases_lt p k) [
     | inl less ↦ omega (arith, same_end p (omega (arith, less)), h.over p less, grows (get_or arcs p no_arc).before)
-    | inr more ↦ let e : k ≡ p = omega (arith, b, more) in subst (λ q. of_job new (get_or arcs q no_arc).after < of_job new (get_or arcs q no_arc).before) e (omega (arith, same_end k (omega arith), here, is))
+    | inr more ↦ let e : k ≡ p = omega (arith, b, more) in
+        subst (λ q. of_job new (get_or arcs q no_arc).after < of_job new (get_or arcs q no_arc).before) e (omega (arith, same_end k (omega arith), here, is))
   ]
 
   abbrev Reached : List ℕ → ℕ → ℕ → Type 0
@@ -157,7 +163,8 @@ module _ (heights : ℕ → ℕ) (arcs : List Arc) (k : ℕ) (level : List ℕ) 
   })
 
 -- the arcs as the code passes them
-pub arcs_inside : (i : Instance) (sorted : List Arc) (n : ℕ) → n ≡ length i.jobs → All (λ a. (a.before < length i.jobs) × (a.after < length i.jobs)) i.arcs → IsPermutation i.arcs sorted → All (λ a. a.before < n) sorted
+pub arcs_inside : (i : Instance) (sorted : List Arc) (n : ℕ) → n ≡ length i.jobs
+    → All (λ a. (a.before < length i.jobs) × (a.after < length i.jobs)) i.arcs → IsPermutation i.arcs sorted → All (λ a. a.before < n) sorted
 arcs_inside i sorted n e ends p = All-permutation (λ a. a.before < n) i.arcs sorted p (λ k d l. omega (arith, e, (ends k d l).0))
 
 pub arcs_fall : (i : Instance) (sorted : List Arc) (heights : List ℕ) → AreHeights i heights → IsPermutation i.arcs sorted → All (λ a. of_job heights a.after < of_job heights a.before) sorted

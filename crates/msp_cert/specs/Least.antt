@@ -2,7 +2,7 @@
 use Rattle.std.specs.Prelude.{◌≡◌, ℕ, ◌+◌, ◌≤◌, ◌⊎◌, false, List, Option, Some, None, ℤ, ◌≤ℤ◌, int_lt, if◌then◌else◌, All, Any}
 use Rattle.msp_instance.specs.declared.Arc.{Arc}
 use Rattle.msp_instance.specs.declared.Instance.{Instance}
-use Rattle.msp_instance.specs.declared.path_rows.Paths.{Paths}
+use Rattle.msp_instance.specs.declared.path_bits.Paths.{Paths}
 use Rattle.msp_instance.specs.Instance.{job_at, need_at}
 use Rattle.msp_instance.specs.Paths.{leads}
 

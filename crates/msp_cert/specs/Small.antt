@@ -1,12 +1,11 @@
 -- What the parts of the evidence are judged by. No public contract cites this file.
 use Rattle.std.specs.Prelude.{◌≡◌, ℕ, ◌+◌, ◌<◌, ◌≤◌, List, length, All, Any, IsTrue, if◌then◌else◌, ◌==◌}
-use Rattle.msp_class.specs.declared.environments.TheConstants.{MOST_OPERATIONS}
-use Rattle.msp_instance.specs.declared.ranges.TheConstants.{GREATEST}
+use Rattle.msp_class.specs.declared.sizes.TheConstants.{MOST_OPERATIONS, GREATEST}
 use Rattle.msp_instance.specs.declared.Need.{Need}
 use Rattle.msp_instance.specs.declared.Job.{Job}
 use Rattle.msp_instance.specs.declared.Arc.{Arc}
 use Rattle.msp_instance.specs.declared.Instance.{Instance}
-use Rattle.msp_instance.specs.declared.path_rows.Paths.{Paths}
+use Rattle.msp_instance.specs.declared.path_bits.Paths.{Paths}
 use Rattle.msp_instance.specs.Paths.{leads}
 
 -- A job has at least one need and at most 32, and each takes at most 1,000,000,000.

@@ -10,6 +10,6 @@ abbrev pub IsWorth : Instance → Proof → Option Frac → Type 0
 IsWorth i p None = (num : ℤ) (den : ℕ) → HoldsFor i p → ¬ IsValue i p num den
 IsWorth i p (Some v) = HoldsFor i p × ((den : ℕ) × (v.den ≡ pos den) × IsValue i p v.num den)
 
--- The greatest size of a value that is a whole number.
+-- The greatest size of a value that is a whole number: at least what a job costs that ends MOST_ENTRIES times GREATEST after the greatest head.
 abbrev pub greatest_value : ℕ
 greatest_value = 10 ^ 23

@@ -1,7 +1,7 @@
 // Blocks on one machine.
 ghost use Rattle.std.specs.Prelude.{◌≡◌, ◌↔◌, ◌+◌, ◌*◌, ◌<◌, ◌≤◌, ◌⊎◌, length, All, Any, IsTrue, IfOk, IfSome};
 ghost use Rattle.msp_class.specs.declared.class.Crit.TheVariants.{Fmax};
-ghost use Rattle.msp_instance.specs.declared.ranges.TheConstants.{GREATEST};
+ghost use Rattle.msp_class.specs.declared.sizes.TheConstants.{GREATEST};
 ghost use Rattle.msp_instance.specs.Conditions.{InClass, LiesWithin};
 ghost use Rattle.msp_instance.specs.Instance.{need_at, job_at};
 ghost use Rattle.msp_schedule.specs.Blocks.{IsSound, cost_at};

@@ -1,7 +1,6 @@
 // How long the operations on a machine take together, and those of a job.
 ghost use Rattle.std.specs.Prelude.{◌≡◌, ◌*◌, ◌≤◌, length, sum_by, All};
-ghost use Rattle.msp_class.specs.declared.environments.TheConstants.{MOST_OPERATIONS};
-ghost use Rattle.msp_instance.specs.declared.ranges.TheConstants.{GREATEST, MOST_JOBS};
+ghost use Rattle.msp_class.specs.declared.sizes.TheConstants.{MOST_JOBS, MOST_OPERATIONS, GREATEST};
 ghost use Rattle.msp_cert.specs.Small.{HasSmallNeeds, time_there};
 
 use msp_instance::{Job, Need};

@@ -1,7 +1,6 @@
 // Prices of jobs and positions on unrelated machines.
 ghost use Rattle.std.specs.Prelude.{◌≡◌, ◌↔◌, ◌+◌, ◌*◌, ◌≤◌, pos, ◌≤ℤ◌, length, All, IsTrue, IfSome};
-ghost use Rattle.msp_class.specs.declared.environments.TheConstants.{MOST_OPERATIONS};
-ghost use Rattle.msp_instance.specs.declared.ranges.TheConstants.{GREATEST, MOST_JOBS};
+ghost use Rattle.msp_class.specs.declared.sizes.TheConstants.{MOST_JOBS, MOST_OPERATIONS, GREATEST};
 ghost use Rattle.msp_instance.specs.Conditions.{InClass, LiesWithin};
 ghost use Rattle.msp_schedule.specs.Feasible.{total};
 ghost use Rattle.msp_schedule.specs.Fraction.{IsComparable};

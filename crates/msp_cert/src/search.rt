@@ -1,6 +1,6 @@
 // The first of the proofs tried that has just a cost as its value.
 ghost use Rattle.std.specs.Prelude.{◌≡◌, ℕ, ◌+◌, ◌<◌, ◌≤◌, ◌++◌, nat_le, slice_index, List, length, take, count_by, All, AllPairs, IfOk, IfSome, IsPermutation, ◌==◌};
-ghost use Rattle.msp_instance.specs.declared.ranges.TheConstants.{MOST_JOBS};
+ghost use Rattle.msp_class.specs.declared.sizes.TheConstants.{MOST_JOBS};
 ghost use Rattle.msp_instance.specs.declared.Instance.{Instance};
 ghost use Rattle.msp_instance.specs.Conditions.{InClass};
 ghost use Rattle.msp_schedule.specs.declared.Frac.{Frac};

@@ -1,7 +1,7 @@
 // Lists of jobs, of which each is done only after the one before it.
 ghost use Rattle.std.specs.Prelude.{◌≡◌, ◌↔◌, ◌+◌, ◌-◌, ◌/◌, ◌<◌, ◌≤◌, length, All, IsTrue, IfOk, IfSome};
 ghost use Rattle.std.specs.List.{AllAdjacentBelow, flat_map};
-ghost use Rattle.msp_instance.specs.declared.ranges.TheConstants.{MOST_MACHINES};
+ghost use Rattle.msp_class.specs.declared.sizes.TheConstants.{MOST_MACHINES};
 ghost use Rattle.msp_instance.specs.Conditions.{InClass};
 ghost use Rattle.msp_instance.specs.Paths.{leads};
 ghost use Rattle.msp_schedule.specs.Fraction.{IsComparable};

@@ -4,6 +4,7 @@ use Rattle.std.proofs.lemmas.List.{length-map, length-append}
 use Rattle.std.proofs.lemmas.List.Sums.{sum_by-cons}
 use Rattle.std.proofs.lemmas.Nat.{mul-le}
 use Rattle.std.proofs.lemmas.Int.{ints}
+use Rattle.msp_class.specs.declared.sizes.TheConstants.{MOST_JOBS, MOST_MACHINES}
 use Rattle.msp_instance.specs.declared.Instance.{Instance}
 use Rattle.msp_instance.specs.Conditions.{InClass}
 use Rattle.msp_schedule.specs.declared.Frac.{Frac}
@@ -25,16 +26,24 @@ segments_counted names (jobs ∷ lists) =
     omega (arith, sum_by-cons length jobs lists, segments_counted names lists, length-append (job_lines names jobs) (segment_lines names lists), length-map jobs (job_line names))
 
 -- a proof of so many lines has few entries
-few : (names : List (List ℕ)) (machines : ℕ) (p : Proof) → length names ≤ 400 → machines ≤ 32 → IsStatedProof names machines p → length (kind_lines names p) ≤ MOST_LINES → entries p ≤ 20000
+few : (names : List (List ℕ)) (machines : ℕ) (p : Proof)
+    → length names ≤ MOST_JOBS → machines ≤ MOST_MACHINES → IsStatedProof names machines p → length (kind_lines names p) ≤ MOST_LINES → entries p ≤ 20000
 few names machines (Group jobs) jobs_few machines_few stated lines = omega (arith, length-map jobs (job_line names), lines)
 few names machines (Machine machine) jobs_few machines_few stated lines = omega arith
 few names machines (Line job) jobs_few machines_few stated lines = omega arith
 few names machines (Levels level tail) jobs_few machines_few stated lines = omega (arith, stated.0, jobs_few)
 few names machines (Segments lists) jobs_few machines_few stated lines = omega (arith, segments_counted names lists, lines)
 few names machines (Block head jobs) jobs_few machines_few stated lines =
-    omega (arith, length-append (numbered_lines (codes "head") decimal names head) (job_lines names jobs), numbered_length (codes "head") decimal names head stated.0, length-map jobs (job_line names), lines)
+    omega (
+      arith,
+      length-append (numbered_lines (codes "head") decimal names head)
+          (job_lines names jobs),
+      numbered_length (codes "head") decimal names head stated.0,
+      length-map jobs (job_line names),
+      lines,
+    )
 few names machines (Prices row column) jobs_few machines_few stated lines =
-    let all : machines * length names ≤ 32 * 400 = mul-le machines (length names) 32 400 machines_few jobs_few in
+    let all : machines * length names ≤ MOST_MACHINES * MOST_JOBS = mul-le machines (length names) MOST_MACHINES MOST_JOBS machines_few jobs_few in
     omega (arith, stated.0, stated.2, all, jobs_few)
 
 small : (names : List (List ℕ)) (machines : ℕ) (p : Proof) → IsStatedProof names machines p → HasSmallNumbers p
@@ -46,7 +55,8 @@ small names machines (Segments lists) stated = tt
 small names machines (Block head jobs) stated = stated.1
 small names machines (Prices row column) stated = (stated.1, λ k d l. (stated.3 k d l).0)
 
-pub keeps_limits : (bytes : List ℕ) (names : List (List ℕ)) (i : Instance) (c : Certificate) → InClass i → length names ≡ length i.jobs → IsCertificateText bytes names i.machines c → KeepsLimits c.proof
+pub keeps_limits : (bytes : List ℕ) (names : List (List ℕ)) (i : Instance) (c : Certificate)
+    → InClass i → length names ≡ length i.jobs → IsCertificateText bytes names i.machines c → KeepsLimits c.proof
 keeps_limits bytes names i c h named text = record {
   few = few names i.machines c.proof (omega (arith, named, h.conditions.few)) h.conditions.machines.1 text.stated.numbers text.stated.few;
   small = small names i.machines c.proof text.stated.numbers;

@@ -31,7 +31,8 @@ numbered_next : {A : Type 0} (word : List ℕ) (spell : A → List ℕ) (names :
 numbered_next word spell names xs at d h k = rw (drop-cons names at [] h, drop-cons xs at d k) refl
 
 pub numbered_step : {A : Type 0} (word : List ℕ) (spell : A → List ℕ) (names : List (List ℕ)) (xs : List A) (at : ℕ) (d : A) (o p total : List ℕ) → at < length names → at < length xs
-    → p ≡ o ++ line_text (word ∷ get_or names at [] ∷ spell (get_or xs at d) ∷ []) → o ++ lines_text (numbered_lines word spell (drop at names) (drop at xs)) ≡ total → p ++ lines_text (numbered_lines word spell (drop (at + 1) names) (drop (at + 1) xs)) ≡ total
+    → p ≡ o ++ line_text (word ∷ get_or names at [] ∷ spell (get_or xs at d) ∷ []) → o ++ lines_text (numbered_lines word spell (drop at names) (drop at xs)) ≡ total
+    → p ++ lines_text (numbered_lines word spell (drop (at + 1) names) (drop (at + 1) xs)) ≡ total
 numbered_step {A} word spell names xs at d o p total h k f g =
     let next : at + 1 ≡ suc at = add-one at in
     let rest = lines_text (numbered_lines word spell (drop (suc at) names) (drop (suc at) xs)) in

@@ -1,5 +1,6 @@
 -- The prices of positions: their lines, and the prices that lines say.
-use Rattle.std.proofs.Common.{◌≡◌, ℕ, zero, suc, ◌+◌, ◌-◌, ◌*◌, ◌/◌, ◌%◌, ◌^◌, ◌<◌, ◌≤◌, true, not, ◌==◌, nat_le, List, [], ◌∷◌, ◌++◌, length, replicate, Ok, ℤ, pos, negsuc, All, bytes_eq, codes, refl, sym, ap, subst, ◌∙◌, append_assoc, append-nil, length-append, add-one, arith, eqb-true, ltb-true, leb-true, le-leb, decimal}
+use Rattle.std.proofs.Common.{◌≡◌, ℕ, zero, suc, ◌+◌, ◌-◌, ◌*◌, ◌/◌, ◌%◌, ◌^◌, ◌<◌, ◌≤◌, true, not, ◌==◌, nat_le, List, [], ◌∷◌, ◌++◌, length, replicate, Ok, ℤ, pos, negsuc, All}
+use Rattle.std.proofs.Common.{bytes_eq, codes, refl, sym, ap, subst, ◌∙◌, append_assoc, append-nil, length-append, add-one, arith, eqb-true, ltb-true, leb-true, le-leb, decimal}
 use Rattle.std.specs.Int.Signed.{◌≤ℤ◌}
 use Rattle.std.specs.Prelude.{int_lt}
 use Rattle.std.specs.Ordering.{int_eq}
@@ -27,7 +28,8 @@ use Rattle.msp_job_name.proofs.NameLists.{same_bytes}
 pub filled-again : (count : ℕ) (xs : List ℤ) → length xs < count → filled count (xs ++ pos 0 ∷ []) ≡ filled count xs
 filled-again count xs h =
     let one : count - length (xs ++ pos 0 ∷ []) + 1 ≡ count - length xs = omega (arith, length-append xs (pos 0 ∷ [])) in
-    let next : pos 0 ∷ replicate (count - length (xs ++ pos 0 ∷ [])) (pos 0) ≡ replicate (count - length xs) (pos 0) = ap (λ n. replicate n (pos 0)) (sym (add-one (count - length (xs ++ pos 0 ∷ []))) ∙ one) in
+    let next : pos 0 ∷ replicate (count - length (xs ++ pos 0 ∷ [])) (pos 0) ≡ replicate (count - length xs) (pos 0) =
+    ap (λ n. replicate n (pos 0)) (sym (add-one (count - length (xs ++ pos 0 ∷ []))) ∙ one) in
     append_assoc xs (pos 0 ∷ []) (replicate (count - length (xs ++ pos 0 ∷ [])) (pos 0)) ∙ ap (λ ys. xs ++ ys) next
 
 pub filled-all : (count : ℕ) (xs : List ℤ) → count ≤ length xs → filled count xs ≡ xs
@@ -57,7 +59,8 @@ column_lines-zeros n at (suc k) = column_lines-zeros n (suc at) k
 
 pub lines-filled : (n count : ℕ) (xs : List ℤ) → column_lines n 0 (filled count xs) ≡ column_lines n 0 xs
 lines-filled n count xs =
-    column_lines-append n 0 xs (replicate (count - length xs) (pos 0)) ∙ ap (λ lines. column_lines n 0 xs ++ lines) (column_lines-zeros n (0 + length xs) (count - length xs)) ∙ append-nil (column_lines n 0 xs)
+    column_lines-append n 0 xs (replicate (count - length xs) (pos 0))
+    ∙ ap (λ lines. column_lines n 0 xs ++ lines) (column_lines-zeros n (0 + length xs) (count - length xs)) ∙ append-nil (column_lines n 0 xs)
 
 -- a price that is less than 0
 abbrev IsBelow : ℤ → Type 0
@@ -218,7 +221,8 @@ module _ (n machines : ℕ) (narrow : n < 10 ^ 64) (small : machines < 10 ^ 64) 
         added = sym (ok_is (filled k.0 xs ++ x.0 ∷ []) after later.1);
       }
 
-  column_again : (at k : ℕ) (xs : List ℤ) (x : ℤ) → k < machines * n → length xs ≤ k → IsColumnPrice x → IsBelow x → column_added n machines at xs (others_of (column_line n k x)) ≡ Ok (filled k xs ++ x ∷ [])
+  column_again : (at k : ℕ) (xs : List ℤ) (x : ℤ) → k < machines * n
+      → length xs ≤ k → IsColumnPrice x → IsBelow x → column_added n machines at xs (others_of (column_line n k x)) ≡ Ok (filled k xs ++ x ∷ [])
   unfolding column_added
   column_again at k xs x h later price b =
       bind_again _ _ _ _ (position_again at k (signed_decimal x ∷ []) h) (
@@ -237,7 +241,8 @@ module _ (n machines : ℕ) (narrow : n < 10 ^ 64) (small : machines < 10 ^ 64) 
   pub all_filled : (count : ℕ) (xs : List ℤ) → All IsColumnPrice xs → All IsColumnPrice (filled count xs)
   all_filled count xs h = All-append IsColumnPrice xs (replicate (count - length xs) (pos 0)) h (All-replicate IsColumnPrice (count - length xs) (pos 0) zero_price)
 
-  one_column : (before : ℕ) (xs : List ℤ) (fields : List (List ℕ)) (e : List ℤ) → AreColumns before xs → before + length (column_lines n 0 xs) < MOST_LINES → AddsColumn xs fields e → Adds (column_lines n 0) (AreColumns before) xs (codes "column" ∷ fields) e
+  one_column : (before : ℕ) (xs : List ℤ) (fields : List (List ℕ)) (e : List ℤ) → AreColumns before xs
+      → before + length (column_lines n 0 xs) < MOST_LINES → AddsColumn xs fields e → Adds (column_lines n 0) (AreColumns before) xs (codes "column" ∷ fields) e
   one_column before xs fields e fit room h =
       let lines : column_lines n 0 e ≡ column_lines n 0 xs ++ column_line n h.number h.price ∷ [] = ap (column_lines n 0) h.added ∙ lines-price n h.number xs h.price h.later h.says.below in
       let long : length e ≡ h.number + 1 = ap length h.added ∙ length-append (filled h.number xs) (h.price ∷ []) ∙ ap (λ m. m + 1) (length-filled h.number xs h.later) in
@@ -250,15 +255,18 @@ module _ (n machines : ℕ) (narrow : n < 10 ^ 64) (small : machines < 10 ^ 64) 
         },
       )
 
-  pub columns_takes : (before : ℕ) (xs : List ℤ) (p : Place) (next : LineRead (List ℤ)) → AreColumns before xs → columns_step n machines before xs p ≡ Ok next → TakesOne (column_lines n 0) (AreColumns before) xs p next
+  pub columns_takes : (before : ℕ) (xs : List ℤ) (p : Place) (next : LineRead (List ℤ))
+      → AreColumns before xs → columns_step n machines before xs p ≡ Ok next → TakesOne (column_lines n 0) (AreColumns before) xs p next
   unfolding columns_step
   columns_takes before xs p next fit e =
       let l = bind_ok (line_at p) _ next e in
       let fields = fields_of l.0.0 in
-      kind_takes (column_lines n 0) (AreColumns before) (before + length (column_lines n 0 xs)) (bytes_eq (first_of fields) (codes "column")) (column_added n machines) xs p.at fields p l.0.1 next (fields_takes p l.0 l.1)
+      kind_takes (column_lines n 0) (AreColumns before) (before + length (column_lines n 0 xs))
+      (bytes_eq (first_of fields) (codes "column")) (column_added n machines) xs p.at fields p l.0.1 next (fields_takes p l.0 l.1)
       (λ e word room added.
       let is : first_of fields ≡ codes "column" = same_bytes (first_of fields) (codes "column") word in
-      subst (λ (w : List ℕ). Adds (column_lines n 0) (AreColumns before) xs (w ∷ others_of fields) e) (sym is) (one_column before xs (others_of fields) e fit room (column_takes p.at xs (others_of fields) e added)))
+      subst (λ (w : List ℕ). Adds (column_lines n 0) (AreColumns before) xs (w ∷ others_of fields) e)
+      (sym is) (one_column before xs (others_of fields) e fit room (column_takes p.at xs (others_of fields) e added)))
       l.2
 
   -- ---- what was written is read again
@@ -281,7 +289,8 @@ module _ (n machines : ℕ) (narrow : n < 10 ^ 64) (small : machines < 10 ^ 64) 
     gets : (at : ℕ) → GetsBy (ReadsMore (columns_step n machines before) xs (record { at = at; rest = (lines_text lines ++ end_text) ++ rest })) prices rest
 
   columns_from : (before : ℕ) (more xs : List ℤ) (gap : ℕ) (rest : List ℕ) → length xs + gap + length more ≡ machines * n → All IsColumnPrice more
-      → before + length (column_lines n 0 xs) + length (column_lines n (length xs + gap) more) ≤ MOST_LINES → GetsColumns before xs (column_lines n (length xs + gap) more) (xs ++ (replicate gap (pos 0) ++ more)) rest
+      → before + length (column_lines n 0 xs) + length (column_lines n (length xs + gap) more) ≤ MOST_LINES
+      → GetsColumns before xs (column_lines n (length xs + gap) more) (xs ++ (replicate gap (pos 0) ++ more)) rest
   columns_from before [] xs gap rest total prices room = record {
     prices = xs;
     filled_up =
@@ -292,9 +301,11 @@ module _ (n machines : ℕ) (narrow : n < 10 ^ 64) (small : machines < 10 ^ 64) 
   columns_from before (pos zero ∷ more) xs gap rest total prices room =
       let place : suc (length xs + gap) ≡ length xs + (gap + 1) = omega arith in
       let lines : column_lines n (length xs + gap) (pos 0 ∷ more) ≡ column_lines n (length xs + (gap + 1)) more = ap (λ k. column_lines n k more) place in
-      let g = columns_from before more xs (gap + 1) rest (omega arith) (All-tail IsColumnPrice (pos 0) more prices) (subst (λ (ls : List (List (List ℕ))). before + length (column_lines n 0 xs) + length ls ≤ MOST_LINES) lines room) in
+      let g = columns_from before more xs (gap + 1) rest (omega arith) (All-tail IsColumnPrice (pos 0) more prices)
+      (subst (λ (ls : List (List (List ℕ))). before + length (column_lines n 0 xs) + length ls ≤ MOST_LINES) lines room) in
       let all : xs ++ (replicate (gap + 1) (pos 0) ++ more) ≡ xs ++ (replicate gap (pos 0) ++ pos 0 ∷ more) = ap (λ ys. xs ++ ys) (zero_inside gap more) in
-      subst (λ (ls : List (List (List ℕ))). GetsColumns before xs ls (xs ++ (replicate gap (pos 0) ++ pos 0 ∷ more)) rest) (sym lines) (subst (λ (ys : List ℤ). GetsColumns before xs (column_lines n (length xs + (gap + 1)) more) ys rest) all g)
+      subst (λ (ls : List (List (List ℕ))). GetsColumns before xs ls (xs ++ (replicate gap (pos 0) ++ pos 0 ∷ more)) rest)
+      (sym lines) (subst (λ (ys : List ℤ). GetsColumns before xs (column_lines n (length xs + (gap + 1)) more) ys rest) all g)
   columns_from before (pos (suc m) ∷ more) xs gap rest total prices room = let price = All-head IsColumnPrice (pos (suc m)) more prices in absurd (omega (arith, ints, price.1))
   columns_from before (negsuc m ∷ more) xs gap rest total prices room =
       let k = length xs + gap in
@@ -307,16 +318,22 @@ module _ (n machines : ℕ) (narrow : n < 10 ^ 64) (small : machines < 10 ^ 64) 
       let long : length after ≡ k + 1 = length-append (filled k xs) (x ∷ []) ∙ ap (λ j. j + 1) (length-filled k xs later) in
       let place : suc k ≡ length after + 0 = omega arith in
       let some : column_lines n (suc k) more ≡ column_lines n (length after + 0) more = ap (λ j. column_lines n j more) place in
-      let g = columns_from before more after 0 rest (omega (arith, long)) (All-tail IsColumnPrice x more prices) (subst (λ (ls : List (List (List ℕ))). before + length (column_lines n 0 after) + length ls ≤ MOST_LINES) some (omega (arith, ap length lines, length-append (column_lines n 0 xs) (column_line n k x ∷ [])))) in
+      let g = columns_from before more after 0 rest (omega (arith, long))
+      (All-tail IsColumnPrice x more prices) (subst (λ (ls : List (List (List ℕ))). before + length (column_lines n 0 after) + length ls ≤ MOST_LINES)
+      some (omega (arith, ap length lines, length-append (column_lines n 0 xs) (column_line n k x ∷ [])))) in
       let all : after ++ more ≡ xs ++ (replicate gap (pos 0) ++ x ∷ more) = filled_then k gap xs x more refl in
       record {
         prices = g.prices;
         filled_up = g.filled_up ∙ all;
-        gets = λ at. line_on (columns_step n machines before) (columns_by n machines before) (columns_is before) xs after g.prices (codes "column") (others_of (column_line n k x)) (column_lines n (suc k) more) at rest (column_fields k x inside price (m, refl))
-            (λ q. may_again (before + length (column_lines n 0 xs)) (bytes_eq (codes "column") (codes "column")) (column_added n machines) xs after at (column_line n k x) q refl (omega (arith, room)) (column_again at k xs x inside later price (m, refl)))
-            (λ next. subst (λ (ls : List (List (List ℕ))). GetsBy (ReadsMore (columns_step n machines before) after (record { at = next; rest = (lines_text ls ++ end_text) ++ rest })) g.prices rest) (sym some) (g.gets next));
+        gets = λ at. line_on (columns_step n machines before) (columns_by n machines before) (columns_is before)
+            xs after g.prices (codes "column") (others_of (column_line n k x)) (column_lines n (suc k) more) at rest (column_fields k x inside price (m, refl))
+            (λ q. may_again (before + length (column_lines n 0 xs)) (bytes_eq (codes "column") (codes "column"))
+            (column_added n machines) xs after at (column_line n k x) q refl (omega (arith, room)) (column_again at k xs x inside later price (m, refl)))
+            (λ next. subst (λ (ls : List (List (List ℕ))). GetsBy (ReadsMore (columns_step n machines before) after (record { at = next; rest = (lines_text ls ++ end_text) ++ rest })) g.prices rest)
+            (sym some) (g.gets next));
       }
 
   pub columns_again : (before : ℕ) (column : List ℤ) (at : ℕ) (rest : List ℕ) → length column ≡ machines * n → All IsColumnPrice column → before + length (column_lines n 0 column) ≤ MOST_LINES
-      → (prices : List ℤ) × (filled (machines * n) prices ≡ column) × GetsBy (ReadsMore (columns_step n machines before) [] (record { at = at; rest = (lines_text (column_lines n 0 column) ++ end_text) ++ rest })) prices rest
+      → (prices : List ℤ) × (filled (machines * n) prices ≡ column)
+      × GetsBy (ReadsMore (columns_step n machines before) [] (record { at = at; rest = (lines_text (column_lines n 0 column) ++ end_text) ++ rest })) prices rest
   columns_again before column at rest total prices room = let g = columns_from before column [] 0 rest (omega arith) prices (omega arith) in (g.prices, g.filled_up, g.gets at)

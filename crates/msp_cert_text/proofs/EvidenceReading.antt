@@ -39,19 +39,23 @@ block_done names head jobs p q h = record { lines = Ok (jobs, q); reads = h; is 
 pub block_fails : (names : List (List ℕ)) (head : List ℕ) (p : Place) (e : FileFault) → FailsBy e (ReadsMore (jobs_step names (length head)) [] p) → FailsBy e (BlockAfter names head p)
 block_fails names head p e h = by_fails _ _ e h
 
-pub prices_done : (names : List (List ℕ)) (machines : ℕ) (row prices : List ℤ) (p q : Place) → ReadsMore (columns_step (length names) machines (length row)) [] p (Ok (prices, q)) → PricesAfter names machines row p (Ok (proof.Prices row (filled (machines * length names) prices), q))
+pub prices_done : (names : List (List ℕ)) (machines : ℕ) (row prices : List ℤ) (p q : Place) → ReadsMore (columns_step (length names) machines (length row)) [] p (Ok (prices, q))
+    → PricesAfter names machines row p (Ok (proof.Prices row (filled (machines * length names) prices), q))
 prices_done names machines row prices p q h = record { lines = Ok (prices, q); reads = h; is = refl }
 
-pub prices_fail : (names : List (List ℕ)) (machines : ℕ) (row : List ℤ) (p : Place) (e : FileFault) → FailsBy e (ReadsMore (columns_step (length names) machines (length row)) [] p) → FailsBy e (PricesAfter names machines row p)
+pub prices_fail : (names : List (List ℕ)) (machines : ℕ) (row : List ℤ) (p : Place) (e : FileFault)
+    → FailsBy e (ReadsMore (columns_step (length names) machines (length row)) [] p) → FailsBy e (PricesAfter names machines row p)
 prices_fail names machines row p e h = by_fails _ _ e h
 
 pub ruleset kind_rules = (group_done, group_fails, segments_done, segments_fail, block_done, block_fails, prices_done, prices_fail)
 
-pub evidence_fails : (names : List (List ℕ)) (machines : ℕ) (bound : ℤ × ℤ) (k : Kind) (p : Place) (e : FileFault) → FailsBy e (ReadsProof names machines k p) → FailsBy e (ReadsEvidence names machines bound k p)
+pub evidence_fails : (names : List (List ℕ)) (machines : ℕ) (bound : ℤ × ℤ) (k : Kind) (p : Place) (e : FileFault)
+    → FailsBy e (ReadsProof names machines k p) → FailsBy e (ReadsEvidence names machines bound k p)
 evidence_fails names machines bound k p Memory h = tt
 evidence_fails names machines bound k p e h = record { lines = Err e; reads = h; certified = refl }
 
-pub evidence_done : (names : List (List ℕ)) (machines : ℕ) (bound : Frac) (k : Kind) (p q : Place) (x : Proof) → ReadsProof names machines k p (Ok (x, q)) → ReadsEvidence names machines (parts_of bound) k p (Ok (record { bound = bound; proof = x }, q))
+pub evidence_done : (names : List (List ℕ)) (machines : ℕ) (bound : Frac) (k : Kind) (p q : Place) (x : Proof)
+    → ReadsProof names machines k p (Ok (x, q)) → ReadsEvidence names machines (parts_of bound) k p (Ok (record { bound = bound; proof = x }, q))
 evidence_done names machines bound k p q x h = record { lines = Ok (x, q); reads = h; certified = (refl, refl, refl, refl) }
 
 pub ruleset evidence_rules = (evidence_fails, evidence_done)

@@ -1,5 +1,6 @@
 -- The lines of jobs and of lists of jobs: what is read is what was written, and what was written is read again.
-use Rattle.std.proofs.Common.{◌≡◌, ℕ, suc, ◌+◌, ◌<◌, ◌≤◌, Bool, true, false, not, ◌&&◌, ◌||◌, ◌==◌, if◌then◌else◌, List, [], ◌∷◌, ◌++◌, length, Ok, Some, All, bytes_eq, codes, refl, sym, ap, subst, ◌∙◌, append_assoc, append-nil, length-append, arith}
+use Rattle.std.proofs.Common.{◌≡◌, ℕ, suc, ◌+◌, ◌<◌, ◌≤◌, Bool, true, false, not, ◌&&◌, ◌||◌, ◌==◌, if◌then◌else◌, List, [], ◌∷◌, ◌++◌, length, Ok, Some, All, bytes_eq, codes}
+use Rattle.std.proofs.Common.{refl, sym, ap, subst, ◌∙◌, append_assoc, append-nil, length-append, arith}
 use Rattle.std.specs.List.{AllByRecursion}
 use Rattle.std.proofs.lemmas.Bool.{and_parts, eqb-true}
 use Rattle.std.proofs.lemmas.List.{nil_from_length}
@@ -41,7 +42,8 @@ pub record AreJobLines (names : List (List ℕ)) (before : ℕ) (jobs : List ℕ
   pub inside : AreJobs names jobs
   pub few : before + length jobs ≤ MOST_LINES
 
-job_added_takes : (names : List (List ℕ)) (at before : ℕ) (jobs : List ℕ) (fields : List (List ℕ)) (e : List ℕ) → AreJobLines names before jobs → before + length jobs < MOST_LINES → job_added names at jobs fields ≡ Ok e → Adds (job_lines names) (AreJobLines names before) jobs (codes "job" ∷ fields) e
+job_added_takes : (names : List (List ℕ)) (at before : ℕ) (jobs : List ℕ) (fields : List (List ℕ)) (e : List ℕ) → AreJobLines names before jobs
+    → before + length jobs < MOST_LINES → job_added names at jobs fields ≡ Ok e → Adds (job_lines names) (AreJobLines names before) jobs (codes "job" ∷ fields) e
 unfolding job_added
 job_added_takes names at before jobs fields e fit room h =
     let j = bind_ok (job_in names at fields) _ e h in
@@ -52,7 +54,8 @@ job_added_takes names at before jobs fields e fit room h =
     ) in
     subst (Adds (job_lines names) (AreJobLines names before) jobs (codes "job" ∷ fields)) (ok_is (jobs ++ j.0 ∷ []) e j.2) one
 
-pub jobs_takes : (names : List (List ℕ)) (before : ℕ) (jobs : List ℕ) (p : Place) (next : LineRead (List ℕ)) → AreJobLines names before jobs → jobs_step names before jobs p ≡ Ok next → TakesOne (job_lines names) (AreJobLines names before) jobs p next
+pub jobs_takes : (names : List (List ℕ)) (before : ℕ) (jobs : List ℕ) (p : Place) (next : LineRead (List ℕ))
+    → AreJobLines names before jobs → jobs_step names before jobs p ≡ Ok next → TakesOne (job_lines names) (AreJobLines names before) jobs p next
 unfolding jobs_step
 jobs_takes names before jobs p next fit e =
     let l = bind_ok (line_at p) _ next e in
@@ -67,7 +70,8 @@ jobs_is : (names : List (List ℕ)) (before : ℕ) (jobs : List ℕ) (p : Place)
 unfolding jobs_step
 jobs_is names before jobs p = refl
 
-pub jobs_again : (names : List (List ℕ)) (before : ℕ) (more jobs : List ℕ) (at : ℕ) (rest : List ℕ) → AreDistinct names → All IsJobName names → AreJobs names more → before + length jobs + length more ≤ MOST_LINES
+pub jobs_again : (names : List (List ℕ)) (before : ℕ) (more jobs : List ℕ) (at : ℕ) (rest : List ℕ)
+    → AreDistinct names → All IsJobName names → AreJobs names more → before + length jobs + length more ≤ MOST_LINES
     → GetsBy (ReadsMore (jobs_step names before) jobs (record { at = at; rest = (lines_text (job_lines names more) ++ end_text) ++ rest })) (jobs ++ more) rest
 unfolding job_added
 jobs_again names before [] jobs at rest apart spelled inside room =
@@ -75,10 +79,12 @@ jobs_again names before [] jobs at rest apart spelled inside room =
     subst (λ (js : List ℕ). GetsBy (ReadsMore (jobs_step names before) jobs (record { at = at; rest = end_text ++ rest })) js rest) (sym (append-nil jobs)) g
 jobs_again names before (j ∷ more) jobs at rest apart spelled inside room =
     let here = All-head (λ k. k < length names) j more inside in
-    line_on (jobs_step names before) (jobs_by names before) (jobs_is names before) jobs (jobs ++ j ∷ []) (jobs ++ j ∷ more) (codes "job") (name_at names j ∷ []) (job_lines names more) at rest (job_fields names apart spelled j here)
+    line_on (jobs_step names before) (jobs_by names before) (jobs_is names before)
+    jobs (jobs ++ j ∷ []) (jobs ++ j ∷ more) (codes "job") (name_at names j ∷ []) (job_lines names more) at rest (job_fields names apart spelled j here)
     (λ q. may_again (before + length jobs) true (job_added names) jobs (jobs ++ j ∷ []) at (job_line names j) q refl (omega arith) (bind_again _ _ _ _ (job_again names apart spelled at j here) refl))
     (λ next.
-    subst (λ (js : List ℕ). GetsBy (ReadsMore (jobs_step names before) (jobs ++ j ∷ []) (record { at = next; rest = (lines_text (job_lines names more) ++ end_text) ++ rest })) js rest) (append_assoc jobs (j ∷ []) more)
+    subst (λ (js : List ℕ). GetsBy (ReadsMore (jobs_step names before) (jobs ++ j ∷ []) (record { at = next; rest = (lines_text (job_lines names more) ++ end_text) ++ rest })) js rest)
+    (append_assoc jobs (j ∷ []) more)
     (jobs_again names before more (jobs ++ j ∷ []) next rest apart spelled (All-tail (λ k. k < length names) j more inside) (omega (arith, length-append jobs (j ∷ [])))))
 
 -- ---- lists of jobs
@@ -106,7 +112,8 @@ pub record AreListLines (names lists : List (List ℕ)) : Type 0 where
   pub inside : All (AreJobs names) lists
   pub few : length (segment_lines names lists) ≤ MOST_LINES
 
-begin_adds : (names lists : List (List ℕ)) → AreListLines names lists → length (segment_lines names lists) < MOST_LINES → Adds (segment_lines names) (AreListLines names) lists (codes "segment" ∷ []) (lists ++ [] ∷ [])
+begin_adds : (names lists : List (List ℕ)) → AreListLines names lists
+    → length (segment_lines names lists) < MOST_LINES → Adds (segment_lines names) (AreListLines names) lists (codes "segment" ∷ []) (lists ++ [] ∷ [])
 begin_adds names lists fit room = (
   begin_lines names lists,
   record {
@@ -131,19 +138,22 @@ or_parts : (a b c : Bool) → (a || (b && c)) ≡ true → a ≡ false → (b �
 or_parts true b c h n = absurd cc
 or_parts false b c h n = and_parts b c h
 
-segment_added_takes : (names : List (List ℕ)) (at : ℕ) (lists fields : List (List ℕ)) (e : List (List ℕ)) → AreListLines names lists → is_segment_word lists (first_of fields) ≡ true → length (segment_lines names lists) < MOST_LINES
+segment_added_takes : (names : List (List ℕ)) (at : ℕ) (lists fields : List (List ℕ)) (e : List (List ℕ))
+    → AreListLines names lists → is_segment_word lists (first_of fields) ≡ true → length (segment_lines names lists) < MOST_LINES
     → segment_added names (first_of fields) at lists (others_of fields) ≡ Ok e → Adds (segment_lines names) (AreListLines names) lists (first_of fields ∷ others_of fields) e
 unfolding segment_added
 segment_added_takes names at lists fields e fit word room = by (bytes_eq (first_of fields) (codes "segment")) refl
   where
-    by : (b : Bool) → bytes_eq (first_of fields) (codes "segment") ≡ b → (if b then provided (length (others_of fields) == 0) (Count at) (Ok (lists ++ [] ∷ [])) else (job_in names at (others_of fields) >>= λ job. Ok (with_job lists job))) ≡ Ok e
+    by : (b : Bool) → bytes_eq (first_of fields) (codes "segment") ≡ b
+        → (if b then provided (length (others_of fields) == 0) (Count at) (Ok (lists ++ [] ∷ [])) else (job_in names at (others_of fields) >>= λ job. Ok (with_job lists job))) ≡ Ok e
         → Adds (segment_lines names) (AreListLines names) lists (first_of fields ∷ others_of fields) e
     by true is h =
         let none = provided_ok (length (others_of fields) == 0) (Count at) (Ok (lists ++ [] ∷ [])) e h in
         let first : first_of fields ≡ codes "segment" = same_bytes (first_of fields) (codes "segment") is in
         let others : others_of fields ≡ [] = nil_from_length (others_of fields) (eqb-true _ _ none.0) in
         let one = subst (Adds (segment_lines names) (AreListLines names) lists (codes "segment" ∷ [])) (ok_is (lists ++ [] ∷ []) e none.1) (begin_adds names lists fit room) in
-        subst (λ (w : List ℕ). Adds (segment_lines names) (AreListLines names) lists (w ∷ others_of fields) e) (sym first) (subst (λ (ws : List (List ℕ)). Adds (segment_lines names) (AreListLines names) lists (codes "segment" ∷ ws) e) (sym others) one)
+        subst (λ (w : List ℕ). Adds (segment_lines names) (AreListLines names) lists (w ∷ others_of fields) e)
+        (sym first) (subst (λ (ws : List (List ℕ)). Adds (segment_lines names) (AreListLines names) lists (codes "segment" ∷ ws) e) (sym others) one)
     by false is h =
         let j = bind_ok (job_in names at (others_of fields)) _ e h in
         let t = job_takes names at (others_of fields) j.0 j.1 in
@@ -153,14 +163,17 @@ segment_added_takes names at lists fields e fit word room = by (bytes_eq (first_
         let one = push_adds names ends.done ends.last j.0 (subst (AreListLines names) ends.is fit) (subst (λ (ls : List (List ℕ)). length (segment_lines names ls) < MOST_LINES) ends.is room) t.1 in
         let here = subst (λ (ls : List (List ℕ)). Adds (segment_lines names) (AreListLines names) ls (job_line names j.0) (with_job ls j.0)) (sym ends.is) one in
         let last = subst (Adds (segment_lines names) (AreListLines names) lists (job_line names j.0)) (ok_is (with_job lists j.0) e j.2) here in
-        subst (λ (w : List ℕ). Adds (segment_lines names) (AreListLines names) lists (w ∷ others_of fields) e) (sym first) (subst (λ (ws : List (List ℕ)). Adds (segment_lines names) (AreListLines names) lists (codes "job" ∷ ws) e) (sym t.0) last)
+        subst (λ (w : List ℕ). Adds (segment_lines names) (AreListLines names) lists (w ∷ others_of fields) e)
+        (sym first) (subst (λ (ws : List (List ℕ)). Adds (segment_lines names) (AreListLines names) lists (codes "job" ∷ ws) e) (sym t.0) last)
 
-pub segments_takes : (names lists : List (List ℕ)) (p : Place) (next : LineRead (List (List ℕ))) → AreListLines names lists → segments_step names lists p ≡ Ok next → TakesOne (segment_lines names) (AreListLines names) lists p next
+pub segments_takes : (names lists : List (List ℕ)) (p : Place) (next : LineRead (List (List ℕ)))
+    → AreListLines names lists → segments_step names lists p ≡ Ok next → TakesOne (segment_lines names) (AreListLines names) lists p next
 unfolding segments_step
 segments_takes names lists p next fit e =
     let l = bind_ok (line_at p) _ next e in
     let fields = fields_of l.0.0 in
-    kind_takes (segment_lines names) (AreListLines names) (length (segment_lines names lists)) (is_segment_word lists (first_of fields)) (segment_added names (first_of fields)) lists p.at fields p l.0.1 next (fields_takes p l.0 l.1)
+    kind_takes (segment_lines names) (AreListLines names) (length (segment_lines names lists))
+    (is_segment_word lists (first_of fields)) (segment_added names (first_of fields)) lists p.at fields p l.0.1 next (fields_takes p l.0 l.1)
     (λ e word room added. segment_added_takes names p.at lists fields e fit word room added) l.2
 
 segments_is : (names lists : List (List ℕ)) (p : Place) → segments_step names lists p ≡ (line_at p >>= λ l. segments_by names lists p.at (fields_of l.0) l.1)
@@ -181,7 +194,8 @@ module _ (names : List (List ℕ)) (apart : AreDistinct names) (spelled : All Is
   -- jobs of the last list, and the lists after it
   pub lists_again : (lists : List (List ℕ)) (jobs : List ℕ) (done : List (List ℕ)) (last : List ℕ) (at : ℕ) (rest : List ℕ) → All (AreJobs names) lists → AreJobs names jobs
       → length (segment_lines names (done ++ last ∷ [])) + length (job_lines names jobs ++ segment_lines names lists) ≤ MOST_LINES
-      → GetsBy (ReadsMore (segments_step names) (done ++ last ∷ []) (record { at = at; rest = (lines_text (job_lines names jobs ++ segment_lines names lists) ++ end_text) ++ rest })) (done ++ (last ++ jobs) ∷ lists) rest
+      → GetsBy (ReadsMore (segments_step names) (done ++ last ∷ []) (record { at = at; rest = (lines_text (job_lines names jobs ++ segment_lines names lists) ++ end_text) ++ rest }))
+      (done ++ (last ++ jobs) ∷ lists) rest
   unfolding segment_added
   lists_again [] [] done last at rest inside here room =
       let g = end_on (segments_step names) (segments_by names) (segments_is names) (done ++ last ∷ []) at rest (λ q. may_end names (done ++ last ∷ []) at q) in
@@ -190,26 +204,32 @@ module _ (names : List (List ℕ)) (apart : AreDistinct names) (spelled : All Is
       let now = done ++ last ∷ [] in
       let more = job_lines names jobs ++ segment_lines names lists in
       let next = begin_lines names now in
-      line_on (segments_step names) (segments_by names) (segments_is names) now (now ++ [] ∷ []) (done ++ (last ++ []) ∷ jobs ∷ lists) (codes "segment") [] more at rest (record { no_space = refl; no_line_feed = refl }, tt)
+      line_on (segments_step names) (segments_by names) (segments_is names)
+      now (now ++ [] ∷ []) (done ++ (last ++ []) ∷ jobs ∷ lists) (codes "segment") [] more at rest (record { no_space = refl; no_line_feed = refl }, tt)
       (λ q. may_again (length (segment_lines names now)) true (segment_added names (codes "segment")) now (now ++ [] ∷ []) at (codes "segment" ∷ []) q refl (omega (arith, room)) refl)
       (λ at.
       let all : now ++ jobs ∷ lists ≡ done ++ (last ++ []) ∷ jobs ∷ lists = append_assoc done (last ∷ []) (jobs ∷ lists) ∙ ap (λ (js : List ℕ). done ++ js ∷ jobs ∷ lists) (sym (append-nil last)) in
       subst (λ (ls : List (List ℕ)). GetsBy (ReadsMore (segments_step names) (now ++ [] ∷ []) (record { at = at; rest = (lines_text more ++ end_text) ++ rest })) ls rest) all
-      (lists_again lists jobs now [] at rest (All-tail (AreJobs names) jobs lists inside) (All-head (AreJobs names) jobs lists inside) (omega (arith, ap length next, length-append (segment_lines names now) ((codes "segment" ∷ []) ∷ []), room))))
+      (lists_again lists jobs now [] at rest (All-tail (AreJobs names) jobs lists inside) (All-head (AreJobs names) jobs lists inside)
+      (omega (arith, ap length next, length-append (segment_lines names now) ((codes "segment" ∷ []) ∷ []), room))))
   lists_again lists (j ∷ jobs) done last at rest inside here room =
       let now = done ++ last ∷ [] in
       let more = job_lines names jobs ++ segment_lines names lists in
       let h = All-head (λ k. k < length names) j jobs here in
       let next = push_lines names done last j in
       let last_is = with_job_last done last j in
-      line_on (segments_step names) (segments_by names) (segments_is names) now (with_job now j) (done ++ (last ++ j ∷ jobs) ∷ lists) (codes "job") (name_at names j ∷ []) more at rest (job_fields names apart spelled j h)
-      (λ q. may_again (length (segment_lines names now)) (is_segment_word now (codes "job")) (segment_added names (codes "job")) now (with_job now j) at (job_line names j) q (may_stand done last) (omega (arith, room)) (bind_again _ _ _ _ (job_again names apart spelled at j h) refl))
+      line_on (segments_step names) (segments_by names) (segments_is names)
+      now (with_job now j) (done ++ (last ++ j ∷ jobs) ∷ lists) (codes "job") (name_at names j ∷ []) more at rest (job_fields names apart spelled j h)
+      (λ q. may_again (length (segment_lines names now)) (is_segment_word now (codes "job")) (segment_added names (codes "job")) now
+      (with_job now j) at (job_line names j) q (may_stand done last) (omega (arith, room)) (bind_again _ _ _ _ (job_again names apart spelled at j h) refl))
       (λ at.
       let all : done ++ ((last ++ j ∷ []) ++ jobs) ∷ lists ≡ done ++ (last ++ j ∷ jobs) ∷ lists = ap (λ (js : List ℕ). done ++ js ∷ lists) (append_assoc last (j ∷ []) jobs) in
-      subst (λ (ls : List (List ℕ)). GetsBy (ReadsMore (segments_step names) ls (record { at = at; rest = (lines_text more ++ end_text) ++ rest })) (done ++ (last ++ j ∷ jobs) ∷ lists) rest) (sym last_is)
+      subst (λ (ls : List (List ℕ)). GetsBy (ReadsMore (segments_step names) ls (record { at = at; rest = (lines_text more ++ end_text) ++ rest })) (done ++ (last ++ j ∷ jobs) ∷ lists) rest)
+      (sym last_is)
       (subst (λ (ls : List (List ℕ)). GetsBy (ReadsMore (segments_step names) (done ++ (last ++ j ∷ []) ∷ []) (record { at = at; rest = (lines_text more ++ end_text) ++ rest })) ls rest) all
       (lists_again lists jobs done (last ++ j ∷ []) at rest inside (All-tail (λ k. k < length names) j jobs here)
-      (subst (λ (ls : List (List ℕ)). length (segment_lines names ls) + length more ≤ MOST_LINES) last_is (omega (arith, ap length next, length-append (segment_lines names now) (job_line names j ∷ []), room))))))
+      (subst (λ (ls : List (List ℕ)). length (segment_lines names ls) + length more ≤ MOST_LINES)
+      last_is (omega (arith, ap length next, length-append (segment_lines names now) (job_line names j ∷ []), room))))))
 
   pub segments_again : (lists : List (List ℕ)) (at : ℕ) (rest : List ℕ) → All (AreJobs names) lists → length (segment_lines names lists) ≤ MOST_LINES
       → GetsBy (ReadsMore (segments_step names) [] (record { at = at; rest = (lines_text (segment_lines names lists) ++ end_text) ++ rest })) lists rest

@@ -8,7 +8,8 @@ use Rattle.msp_grammar.specs.declared.lines.fault.What.TheVariants as what
 use Rattle.msp_cert_text.specs.declared.kinds.TheConstants.{MOST_LINES}
 use Rattle.msp_cert_text.specs.CertificateText.{lines_text}
 use Rattle.msp_cert_text.specs.Reading.{kind_step}
-use Rattle.msp_grammar.specs.lines.Reading.{◌>>=◌, provided, Place, line_at, fields_of, first_of, others_of, LineRead, job_read, more_read, end_read, end_at, ReadsMore, more_then, more_end, more_fault}
+use Rattle.msp_grammar.specs.lines.Reading.{◌>>=◌, provided, Place, line_at, fields_of, first_of, others_of, LineRead, job_read, more_read, end_read, end_at, ReadsMore, more_then}
+use Rattle.msp_grammar.specs.lines.Reading.{more_end, more_fault}
 use Rattle.msp_grammar.proofs.reading.LineLaws.{bind_ok, provided_ok, ok_is, Takes, Takes-then, IsField, line_then, end_text, end_field, end_takes, last_is, no_answer, GetsBy}
 use Rattle.msp_grammar.proofs.reading.LineFaults.{InBy, fine, chain, given, either}
 use Rattle.msp_grammar.proofs.reading.Endings.{Shortens, IsNoJob}
@@ -32,7 +33,8 @@ TakesOne L Fit d p (end_read e q) = (e ≡ d) × Takes p end_text q
 abbrev pub Adds : {A : Type 0} → (A → List (List (List ℕ))) → (A → Type 0) → A → List (List ℕ) → A → Type 0
 Adds L Fit d fields e = (L e ≡ L d ++ fields ∷ []) × Fit e
 
-pub kind_takes : {A : Type 0} (L : A → List (List (List ℕ))) (Fit : A → Type 0) (before : ℕ) (may : Bool) (add : ℕ → A → List (List ℕ) → Result A FileFault) (d : A) (at : ℕ) (fields : List (List ℕ)) (p q : Place) (next : LineRead A)
+pub kind_takes : {A : Type 0} (L : A → List (List (List ℕ))) (Fit : A → Type 0)
+    (before : ℕ) (may : Bool) (add : ℕ → A → List (List ℕ) → Result A FileFault) (d : A) (at : ℕ) (fields : List (List ℕ)) (p q : Place) (next : LineRead A)
     → Takes p (line_text (first_of fields ∷ others_of fields)) q
     → ((e : A) → may ≡ true → before < MOST_LINES → add at d (others_of fields) ≡ Ok e → Adds L Fit d (first_of fields ∷ others_of fields) e)
     → kind_step before may add d at fields q ≡ Ok next → TakesOne L Fit d p next
@@ -50,15 +52,18 @@ pub record MoreTaken {A : Type 0} (L : A → List (List (List ℕ))) (Fit : A �
   pub text : Takes p (lines_text more ++ end_text) q
   pub fit : Fit e
 
-one_then : {A : Type 0} (L : A → List (List (List ℕ))) (Fit : A → Type 0) (d : A) (p : Place) (e : A) (q : Place) (x : A × Place) → OneMore L Fit d p e q → MoreTaken L Fit e q x.0 x.1 → MoreTaken L Fit d p x.0 x.1
+one_then : {A : Type 0} (L : A → List (List (List ℕ))) (Fit : A → Type 0) (d : A) (p : Place) (e : A) (q : Place) (x : A × Place)
+    → OneMore L Fit d p e q → MoreTaken L Fit e q x.0 x.1 → MoreTaken L Fit d p x.0 x.1
 one_then L Fit d p e q x h rest = record {
   more = h.fields ∷ rest.more;
   added = rest.added ∙ ap (λ lines. lines ++ rest.more) h.added ∙ append_assoc (L d) (h.fields ∷ []) rest.more;
-  text = subst (λ (b : List ℕ). p.rest ≡ b ++ x.1.rest) (sym (append_assoc (line_text h.fields) (lines_text rest.more) end_text)) (Takes-then p q x.1 (line_text h.fields) (lines_text rest.more ++ end_text) h.text rest.text);
+  text = subst (λ (b : List ℕ). p.rest ≡ b ++ x.1.rest) (sym (append_assoc (line_text h.fields) (lines_text rest.more) end_text))
+      (Takes-then p q x.1 (line_text h.fields) (lines_text rest.more ++ end_text) h.text rest.text);
   fit = rest.fit;
 }
 
-module _ {A : Type 0} (step : A → Place → Result (LineRead A) FileFault) (L : A → List (List (List ℕ))) (Fit : A → Type 0) (takes : (d : A) (p : Place) (next : LineRead A) → Fit d → step d p ≡ Ok next → TakesOne L Fit d p next) where
+module _ {A : Type 0} (step : A → Place → Result (LineRead A) FileFault) (L : A → List (List (List ℕ)))
+    (Fit : A → Type 0) (takes : (d : A) (p : Place) (next : LineRead A) → Fit d → step d p ≡ Ok next → TakesOne L Fit d p next) where
   pub more_takes : (d : A) (p : Place) (read : Result (A × Place) FileFault) (x : A × Place) → Fit d → ReadsMore step d p read → read ≡ Ok x → MoreTaken L Fit d p x.0 x.1
   more_takes d p read x fit (more_then _ e _ q _ one rest) is = let t = takes d p (more_read e q) fit one in one_then L Fit d p e q x t (more_takes e q read x t.fit rest is)
   more_takes d p read x fit (more_end _ e _ q _ one ends) is =
@@ -68,18 +73,22 @@ module _ {A : Type 0} (step : A → Place → Result (LineRead A) FileFault) (L 
 
 -- ---- what was written is read again
 
-pub may_again : {A : Type 0} (before : ℕ) (may : Bool) (add : ℕ → A → List (List ℕ) → Result A FileFault) (d e : A) (at : ℕ) (fields : List (List ℕ)) (q : Place) → may ≡ true → before < MOST_LINES → add at d (others_of fields) ≡ Ok e → kind_step before may add d at fields q ≡ Ok (more_read e q)
+pub may_again : {A : Type 0} (before : ℕ) (may : Bool) (add : ℕ → A → List (List ℕ) → Result A FileFault) (d e : A) (at : ℕ) (fields : List (List ℕ)) (q : Place)
+    → may ≡ true → before < MOST_LINES → add at d (others_of fields) ≡ Ok e → kind_step before may add d at fields q ≡ Ok (more_read e q)
 may_again before may add d e at fields q h few k = rw (h, lt-ltb before MOST_LINES few, k) refl
 
-module _ {A : Type 0} (step : A → Place → Result (LineRead A) FileFault) (by : A → ℕ → List (List ℕ) → Place → Result (LineRead A) FileFault) (is : (d : A) (p : Place) → step d p ≡ (line_at p >>= λ l. by d p.at (fields_of l.0) l.1)) where
+module _ {A : Type 0} (step : A → Place → Result (LineRead A) FileFault) (by : A → ℕ → List (List ℕ) → Place → Result (LineRead A) FileFault)
+    (is : (d : A) (p : Place) → step d p ≡ (line_at p >>= λ l. by d p.at (fields_of l.0) l.1)) where
   pub end_on : (d : A) (at : ℕ) (rest : List ℕ) → ((q : Place) → by d at (codes "end" ∷ []) q ≡ Ok (end_read d q)) → GetsBy (ReadsMore step d (record { at = at; rest = end_text ++ rest })) d rest
   end_on d at rest h =
       let l = line_then (by d at) at (codes "end") [] rest end_field in
       let q : Place = record { at = l.0; rest = rest } in
       (l.0, more_end d d _ q _ (is d (record { at = at; rest = end_text ++ rest }) ∙ l.1 ∙ h q) refl)
 
-  pub line_on : (d e x : A) (w : List ℕ) (ws : List (List ℕ)) (lines : List (List (List ℕ))) (at : ℕ) (rest : List ℕ) → AllByRecursion IsField (w ∷ ws) → ((q : Place) → by d at (w ∷ ws) q ≡ Ok (more_read e q))
-      → ((next : ℕ) → GetsBy (ReadsMore step e (record { at = next; rest = (lines_text lines ++ end_text) ++ rest })) x rest) → GetsBy (ReadsMore step d (record { at = at; rest = (lines_text ((w ∷ ws) ∷ lines) ++ end_text) ++ rest })) x rest
+  pub line_on : (d e x : A) (w : List ℕ) (ws : List (List ℕ)) (lines : List (List (List ℕ))) (at : ℕ) (rest : List ℕ)
+      → AllByRecursion IsField (w ∷ ws) → ((q : Place) → by d at (w ∷ ws) q ≡ Ok (more_read e q))
+      → ((next : ℕ) → GetsBy (ReadsMore step e (record { at = next; rest = (lines_text lines ++ end_text) ++ rest })) x rest)
+      → GetsBy (ReadsMore step d (record { at = at; rest = (lines_text ((w ∷ ws) ∷ lines) ++ end_text) ++ rest })) x rest
   line_on d e x w ws lines at rest fields h on =
       let left : List ℕ = (lines_text lines ++ end_text) ++ rest in
       let text : (lines_text ((w ∷ ws) ∷ lines) ++ end_text) ++ rest ≡ line_text (w ∷ ws) ++ left =
@@ -96,7 +105,8 @@ read_of (job_read e q) = e
 read_of (more_read e q) = e
 read_of (end_read e q) = e
 
-pub kind_more : {A : Type 0} (before : ℕ) (may : Bool) (add : ℕ → A → List (List ℕ) → Result A FileFault) (d e : A) (at : ℕ) (fields : List (List ℕ)) (q r : Place) → kind_step before may add d at fields q ≡ Ok (more_read e r) → add at d (others_of fields) ≡ Ok e
+pub kind_more : {A : Type 0} (before : ℕ) (may : Bool) (add : ℕ → A → List (List ℕ) → Result A FileFault) (d e : A) (at : ℕ) (fields : List (List ℕ)) (q r : Place)
+    → kind_step before may add d at fields q ≡ Ok (more_read e r) → add at d (others_of fields) ≡ Ok e
 kind_more before true add d e at fields q r h =
     let l = bind_ok (provided (nat_lt before MOST_LINES) (Limit at what.Lines) (add at d (others_of fields))) _ (more_read e r) h in
     let a = provided_ok (nat_lt before MOST_LINES) (Limit at what.Lines) (add at d (others_of fields)) l.0 l.1 in
@@ -109,10 +119,12 @@ kind_more before false add d e at fields q r h =
 
 -- ---- faults, and that reading comes to an end
 
-pub kind_in_by : {P : FileFault → Type 0} {A : Type 0} (before : ℕ) (may : Bool) (add : ℕ → A → List (List ℕ) → Result A FileFault) (d : A) (at : ℕ) (fields : List (List ℕ)) (q : Place) → P (Limit at what.Lines) → InBy P (add at d (others_of fields)) → InBy P (end_at at d fields q) → InBy P (kind_step before may add d at fields q)
+pub kind_in_by : {P : FileFault → Type 0} {A : Type 0} (before : ℕ) (may : Bool) (add : ℕ → A → List (List ℕ) → Result A FileFault) (d : A) (at : ℕ) (fields : List (List ℕ)) (q : Place)
+    → P (Limit at what.Lines) → InBy P (add at d (others_of fields)) → InBy P (end_at at d fields q) → InBy P (kind_step before may add d at fields q)
 kind_in_by before may add d at fields q limit adds ends = either may _ _ (chain _ _ (given (nat_lt before MOST_LINES) (Limit at what.Lines) _ limit adds) (λ e. fine _)) ends
 
-pub kind_shortens : {A : Type 0} (before : ℕ) (may : Bool) (add : ℕ → A → List (List ℕ) → Result A FileFault) (d : A) (at : ℕ) (fields : List (List ℕ)) (p q : Place) (next : LineRead A) → length q.rest < length p.rest → kind_step before may add d at fields q ≡ Ok next → IsNoJob next × Shortens p next
+pub kind_shortens : {A : Type 0} (before : ℕ) (may : Bool) (add : ℕ → A → List (List ℕ) → Result A FileFault) (d : A) (at : ℕ) (fields : List (List ℕ)) (p q : Place) (next : LineRead A)
+    → length q.rest < length p.rest → kind_step before may add d at fields q ≡ Ok next → IsNoJob next × Shortens p next
 kind_shortens {A} before true add d at fields p q next less h =
     let l = bind_ok (provided (nat_lt before MOST_LINES) (Limit at what.Lines) (add at d (others_of fields))) _ next h in
     subst (λ (x : LineRead A). IsNoJob x × Shortens p x) (ok_is (more_read l.0 q) next l.2) (tt, less)

@@ -1,5 +1,6 @@
 -- The lines after the kind: what is read is the text of the proof, and the text of a proof is read as it.
-use Rattle.std.proofs.Common.{◌≡◌, ℕ, suc, ◌+◌, ◌*◌, ◌<◌, ◌≤◌, ◌^◌, List, [], ◌∷◌, ◌++◌, length, Result, Ok, ℤ, All, codes, refl, sym, ap, subst, ◌∙◌, append_assoc, append-nil, length-append, arith, decimal}
+use Rattle.std.proofs.Common.{◌≡◌, ℕ, suc, ◌+◌, ◌*◌, ◌<◌, ◌≤◌, ◌^◌, List, [], ◌∷◌, ◌++◌, length, Result, Ok, ℤ, All, codes, refl, sym, ap, subst, ◌∙◌, append_assoc, append-nil}
+use Rattle.std.proofs.Common.{length-append, arith, decimal}
 use Rattle.std.specs.Fmt.{signed_decimal}
 use Rattle.std.proofs.lemmas.List.{length-map}
 use Rattle.std.proofs.lemmas.List.Elements.{All-nil}
@@ -59,7 +60,8 @@ numbered_length word spell (name ∷ names) (x ∷ xs) h = ap suc (numbered_leng
 
 -- ---- single lines
 
-machine_takes : (machines : ℕ) (p : Place) (x : ℕ × Place) → machines < 10 ^ 64 → machine_line_at machines p ≡ Ok x → Takes p (line_text (codes "machine" ∷ decimal (x.0 + 1) ∷ [])) x.1 × (x.0 < machines)
+machine_takes : (machines : ℕ) (p : Place) (x : ℕ × Place)
+    → machines < 10 ^ 64 → machine_line_at machines p ≡ Ok x → Takes p (line_text (codes "machine" ∷ decimal (x.0 + 1) ∷ [])) x.1 × (x.0 < machines)
 unfolding machine_line_at
 machine_takes machines p x small e =
     let l = bind_ok (field_line_at (codes "machine") p) _ x e in
@@ -68,7 +70,8 @@ machine_takes machines p x small e =
     let text = subst (λ (w : List ℕ). Takes p (line_text (codes "machine" ∷ w ∷ [])) l.0.1) t.0 (field_line_takes (codes "machine") p l.0 l.1) in
     subst (λ (y : ℕ × Place). Takes p (line_text (codes "machine" ∷ decimal (y.0 + 1) ∷ [])) y.1 × (y.0 < machines)) (ok_is (m.0, l.0.1) x m.2) (text, t.1)
 
-machine_again : (machines m at : ℕ) (rest : List ℕ) → machines < 10 ^ 64 → m < machines → Gets (machine_line_at machines (record { at = at; rest = line_text (codes "machine" ∷ decimal (m + 1) ∷ []) ++ rest })) m rest
+machine_again : (machines m at : ℕ) (rest : List ℕ) → machines < 10 ^ 64
+    → m < machines → Gets (machine_line_at machines (record { at = at; rest = line_text (codes "machine" ∷ decimal (m + 1) ∷ []) ++ rest })) m rest
 unfolding machine_line_at
 machine_again machines m at rest small h =
     let l = field_line_again (codes "machine") (decimal (m + 1)) at rest (record { no_space = refl; no_line_feed = refl }) (wide_field (m + 1) (omega arith)) in
@@ -83,7 +86,8 @@ job_takes names p x e =
     let text = subst (λ (w : List ℕ). Takes p (line_text (codes "job" ∷ w ∷ [])) l.0.1) t.0 (field_line_takes (codes "job") p l.0 l.1) in
     subst (λ (y : ℕ × Place). Takes p (line_text (codes "job" ∷ name_at names y.0 ∷ [])) y.1 × (y.0 < length names)) (ok_is (j.0, l.0.1) x j.2) (text, t.1)
 
-job_again : (names : List (List ℕ)) (j at : ℕ) (rest : List ℕ) → AreDistinct names → All IsJobName names → j < length names → Gets (job_line_of names (record { at = at; rest = line_text (codes "job" ∷ name_at names j ∷ []) ++ rest })) j rest
+job_again : (names : List (List ℕ)) (j at : ℕ) (rest : List ℕ) → AreDistinct names → All IsJobName names
+    → j < length names → Gets (job_line_of names (record { at = at; rest = line_text (codes "job" ∷ name_at names j ∷ []) ++ rest })) j rest
 unfolding job_line_of
 job_again names j at rest apart spelled h =
     let l = field_line_again (codes "job") (name_at names j) at rest (record { no_space = refl; no_line_feed = refl }) (name_field _ (spelled j [] h)) in
@@ -119,7 +123,8 @@ taken_text L Fit d e p q none t = subst (λ (ls : List (List (List ℕ))). Takes
 
 after_lines : (p q r : Place) (a b : List (List (List ℕ))) → Takes p (lines_text a) q → Takes q (lines_text b ++ end_text) r → Takes p (lines_text (a ++ b) ++ end_text) r
 after_lines p q r a b t u =
-    subst (λ (text : List ℕ). Takes p text r) (sym (append_assoc (lines_text a) (lines_text b) end_text) ∙ ap (λ text. text ++ end_text) (sym (lines_text-append a b))) (Takes-then p q r (lines_text a) (lines_text b ++ end_text) t u)
+    subst (λ (text : List ℕ). Takes p text r) (sym (append_assoc (lines_text a) (lines_text b) end_text) ∙ ap (λ text. text ++ end_text) (sym (lines_text-append a b)))
+    (Takes-then p q r (lines_text a) (lines_text b ++ end_text) t u)
 
 one_line_text : (w : List (List ℕ)) → lines_text (w ∷ []) ≡ line_text w
 one_line_text w = append-nil (line_text w)
@@ -128,9 +133,11 @@ then_end : (p q r : Place) (w : List (List ℕ)) → Takes p (line_text w) q →
 then_end p q r w t u = subst (λ (text : List ℕ). Takes p (text ++ end_text) r) (sym (one_line_text w)) (Takes-then p q r (line_text w) end_text t u)
 
 module _ (names : List (List ℕ)) (machines : ℕ) (named : length names < 10 ^ 64) (small : machines < 10 ^ 64) where
-  jobs_say : (before : ℕ) (p : Place) (lines : Result (List ℕ × Place) FileFault) (x : List ℕ × Place) → before ≤ MOST_LINES → ReadsMore (jobs_step names before) [] p lines → lines ≡ Ok x → Takes p (lines_text (job_lines names x.0) ++ end_text) x.1 × AreJobLines names before x.0
+  jobs_say : (before : ℕ) (p : Place) (lines : Result (List ℕ × Place) FileFault) (x : List ℕ × Place) → before ≤ MOST_LINES
+      → ReadsMore (jobs_step names before) [] p lines → lines ≡ Ok x → Takes p (lines_text (job_lines names x.0) ++ end_text) x.1 × AreJobLines names before x.0
   jobs_say before p lines x room h e =
-      let t = more_takes (jobs_step names before) (job_lines names) (AreJobLines names before) (jobs_takes names before) [] p lines x (record { inside = All-nil (λ j. j < length names); few = omega arith }) h e in
+      let t = more_takes (jobs_step names before) (job_lines names)
+      (AreJobLines names before) (jobs_takes names before) [] p lines x (record { inside = All-nil (λ j. j < length names); few = omega arith }) h e in
       (taken_text (job_lines names) (AreJobLines names before) [] x.0 p x.1 refl t, t.fit)
 
   group_says : (p : Place) (y : Proof × Place) → ReadsProof names machines kind.Group p (Ok y) → SaysProof names machines kind.Group p y.0 y.1
@@ -179,7 +186,8 @@ module _ (names : List (List ℕ)) (machines : ℕ) (named : length names < 10 ^
   segments_say : (p : Place) (y : Proof × Place) → ReadsProof names machines kind.Segments p (Ok y) → SaysProof names machines kind.Segments p y.0 y.1
   segments_say p y h =
       let l = bind_ok h.lines _ y (sym h.is) in
-      let t = more_takes (segments_step names) (segment_lines names) (AreListLines names) (segments_takes names) [] p h.lines l.0 (record { inside = All-nil (λ jobs. All (λ j. j < length names) jobs); few = omega arith }) h.reads l.1 in
+      let t = more_takes (segments_step names) (segment_lines names) (AreListLines names)
+      (segments_takes names) [] p h.lines l.0 (record { inside = All-nil (λ jobs. All (λ j. j < length names) jobs); few = omega arith }) h.reads l.1 in
       subst (λ (z : Proof × Place). SaysProof names machines kind.Segments p z.0 z.1) (ok_is (proof.Segments l.0.0, l.0.1) y l.2)
       (record { is = refl; text = taken_text (segment_lines names) (AreListLines names) [] l.0.0 p l.0.1 refl t; few = t.fit.few; numbers = t.fit.inside })
 
@@ -214,7 +222,8 @@ module _ (names : List (List ℕ)) (machines : ℕ) (named : length names < 10 ^
       let jobs = length names in
       let before = length n.0.0 in
       let none : AreColumns jobs machines named small before [] = record { inside = omega arith; prices = All-nil _; few = omega (arith, says.room) } in
-      let t = more_takes (columns_step jobs machines before) (column_lines jobs 0) (AreColumns jobs machines named small before) (columns_takes jobs machines named small before) [] n.0.1 r.lines l.0 none r.reads l.1 in
+      let t = more_takes (columns_step jobs machines before) (column_lines jobs 0)
+      (AreColumns jobs machines named small before) (columns_takes jobs machines named small before) [] n.0.1 r.lines l.0 none r.reads l.1 in
       let column = filled (machines * jobs) l.0.0 in
       let text = taken_text (column_lines jobs 0) (AreColumns jobs machines named small before) [] l.0.0 n.0.1 l.0.1 refl t in
       let lines : column_lines jobs 0 column ≡ column_lines jobs 0 l.0.0 = lines-filled jobs (machines * jobs) l.0.0 in
@@ -250,7 +259,8 @@ module _ (names : List (List ℕ)) (machines : ℕ) (named : length names < 10 ^
   GetsProof x lines at rest = GetsBy (ReadsProof names machines (kind_of x) (record { at = at; rest = (lines_text lines ++ end_text) ++ rest })) x rest
 
   single_again : {A : Type 0} (x : Proof) (line : List (List ℕ)) (first : Place → Result (A × Place) FileFault) (make : A → Proof) (a : A) (at : ℕ) (rest : List ℕ)
-      → ((q : Place) (read : Result (Proof × Place) FileFault) → Then (first q) (λ m. Then (word_line_at (codes "end") m.1) (λ place read. read ≡ Ok (make m.0, place))) read → ReadsProof names machines (kind_of x) q read)
+      → ((q : Place) (read : Result (Proof × Place) FileFault)
+      → Then (first q) (λ m. Then (word_line_at (codes "end") m.1) (λ place read. read ≡ Ok (make m.0, place))) read → ReadsProof names machines (kind_of x) q read)
       → make a ≡ x → ((rest : List ℕ) → Gets (first (record { at = at; rest = line_text line ++ rest })) a rest) → GetsProof x (line ∷ []) at rest
   single_again x line first make a at rest goes is h =
       let f = h (end_text ++ rest) in
@@ -264,14 +274,16 @@ module _ (names : List (List ℕ)) (machines : ℕ) (named : length names < 10 ^
       let g = jobs_again names 0 jobs [] at rest apart spelled h (omega (arith, length-map jobs (λ j. codes "job" ∷ name_at names j ∷ []))) in
       (g.0, group_done names _ _ jobs g.1)
   proof_again (proof.Machine machine) at rest h few =
-      single_again (proof.Machine machine) (codes "machine" ∷ decimal (machine + 1) ∷ []) (machine_line_at machines) proof.Machine machine at rest (λ q read k. k) refl (λ rest. machine_again machines machine at rest small h)
+      single_again (proof.Machine machine) (codes "machine" ∷ decimal (machine + 1) ∷ [])
+      (machine_line_at machines) proof.Machine machine at rest (λ q read k. k) refl (λ rest. machine_again machines machine at rest small h)
   proof_again (proof.Line job) at rest h few =
       single_again (proof.Line job) (codes "job" ∷ name_at names job ∷ []) (job_line_of names) proof.Line job at rest (λ q read k. k) refl (λ rest. job_again names job at rest apart spelled h)
   proof_again (proof.Levels level tail) at rest h few =
       let lines = numbered_lines (codes "level") decimal names level in
       let line = line_text (codes "tail" ∷ decimal tail ∷ []) in
       let t = tail_again tail at ((lines_text lines ++ end_text) ++ rest) h.2 in
-      let l = numbers_again level_at decimal (λ l. l ≤ GREATEST_LEVEL) level_read (codes "level") 1 names level [] t.0 (end_text ++ rest) (record { no_space = refl; no_line_feed = refl }) spelled h.0 h.1 (omega (arith, few, numbered_length (codes "level") decimal names level h.0)) in
+      let l = numbers_again level_at decimal (λ l. l ≤ GREATEST_LEVEL) level_read (codes "level") 1 names level [] t.0 (end_text ++ rest)
+      (record { no_space = refl; no_line_feed = refl }) spelled h.0 h.1 (omega (arith, few, numbered_length (codes "level") decimal names level h.0)) in
       let e = word_line_again (codes "end") l.0 rest (record { no_space = refl; no_line_feed = refl }) in
       let first = ap (λ (b : List ℕ). tail_at (record { at = at; rest = b })) (line_first line (lines_text lines) rest) ∙ t.1 in
       let second = ap (λ (b : List ℕ). numbers_at level_at (codes "level") 1 [] names (record { at = t.0; rest = b })) (append_assoc (lines_text lines) end_text rest) ∙ l.1 in
@@ -284,7 +296,8 @@ module _ (names : List (List ℕ)) (machines : ℕ) (named : length names < 10 ^
       let count = numbered_length (codes "head") decimal names head h.0 in
       let all = length-append heads (job_lines names jobs) in
       let long = length-map jobs (λ j. codes "job" ∷ name_at names j ∷ []) in
-      let n = numbers_again head_at decimal (λ h. h ≤ GREATEST_HEAD) head_read (codes "head") 0 names head [] at ((lines_text (job_lines names jobs) ++ end_text) ++ rest) (record { no_space = refl; no_line_feed = refl }) spelled h.0 h.1 (omega (arith, few, count, all)) in
+      let n = numbers_again head_at decimal (λ h. h ≤ GREATEST_HEAD) head_read (codes "head") 0 names head [] at
+      ((lines_text (job_lines names jobs) ++ end_text) ++ rest) (record { no_space = refl; no_line_feed = refl }) spelled h.0 h.1 (omega (arith, few, count, all)) in
       let g = jobs_again names (length head) jobs [] n.0 rest apart spelled h.2 (omega (arith, few, count, all, long)) in
       let first = ap (λ (b : List ℕ). numbers_at head_at (codes "head") 0 [] names (record { at = at; rest = b })) (lines_first heads (job_lines names jobs) rest) ∙ n.1 in
       (g.0, then_again _ _ _ _ first (block_done names head jobs _ _ g.1))
@@ -294,8 +307,12 @@ module _ (names : List (List ℕ)) (machines : ℕ) (named : length names < 10 ^
       let columns = column_lines jobs 0 column in
       let count = numbered_length (codes "row") signed_decimal names row h.0 in
       let all = length-append rows columns in
-      let n = numbers_again price_at signed_decimal (LiesWithin GREATEST_PRICE) price_read (codes "row") 0 names row [] at ((lines_text columns ++ end_text) ++ rest) (record { no_space = refl; no_line_feed = refl }) spelled h.0 h.1 (omega (arith, few, count, all)) in
+      let n = numbers_again price_at signed_decimal (LiesWithin GREATEST_PRICE) price_read (codes "row") 0 names row
+      [] at ((lines_text columns ++ end_text) ++ rest) (record { no_space = refl; no_line_feed = refl }) spelled h.0 h.1 (omega (arith, few, count, all)) in
       let g = columns_again jobs machines named small (length row) column n.0 rest h.2 h.3 (omega (arith, few, count, all)) in
       let first = ap (λ (b : List ℕ). numbers_at price_at (codes "row") 0 [] names (record { at = at; rest = b })) (lines_first rows columns rest) ∙ n.1 in
-      let read = prices_done names machines row g.0 (record { at = n.0; rest = (lines_text columns ++ end_text) ++ rest }) (record { at = g.2.0; rest = rest }) g.2.1 in
-      (g.2.0, then_again _ _ _ _ first (subst (λ (c : List ℤ). PricesAfter names machines row (record { at = n.0; rest = (lines_text columns ++ end_text) ++ rest }) (Ok (proof.Prices row c, record { at = g.2.0; rest = rest }))) g.1 read))
+      let read = prices_done names machines row g.0 (record { at = n.0; rest = (lines_text columns ++ end_text) ++ rest }) (record { at = g.2.0; rest = rest }) g.2.1 in (
+        g.2.0,
+        then_again _ _ _ _ first (subst (λ (c : List ℤ). PricesAfter names machines row
+            (record { at = n.0; rest = (lines_text columns ++ end_text) ++ rest }) (Ok (proof.Prices row c, record { at = g.2.0; rest = rest }))) g.1 read),
+      )

@@ -4,19 +4,24 @@ use Rattle.msp_schedule.specs.declared.Frac.{Frac}
 use Rattle.msp_cert.specs.declared.Proof.{Proof}
 use Rattle.msp_cert.specs.declared.Certificate.{Certificate}
 use Rattle.msp_grammar.specs.declared.lines.fault.FileFault.{FileFault}
-use Rattle.msp_grammar.specs.declared.lines.fault.FileFault.TheVariants.{Class as ClassBroken, Cycle, Memory, After, Head, Missing, Cut, Line, Count, Key, Name, Number, Limit, Again, ArcAgain, Unknown}
+use Rattle.msp_grammar.specs.declared.lines.fault.FileFault.TheVariants.{Class as ClassBroken, Cycle, Memory, After, Head, Missing, Cut, Line, Count, Key, Name, Number, Limit}
+use Rattle.msp_grammar.specs.declared.lines.fault.FileFault.TheVariants.{Again, ArcAgain, Unknown}
 use Rattle.msp_grammar.specs.declared.lines.fault.What.TheVariants as what
 use Rattle.msp_cert_text.specs.declared.kinds.Kind.{Kind}
 use Rattle.msp_cert_text.specs.declared.kinds.Kind.TheVariants as kind
 use Rattle.msp_cert.specs.declared.limits.TheConstants.{GREATEST_HEAD, GREATEST_PRICE}
 use Rattle.msp_cert_text.specs.declared.kinds.TheConstants.{GREATEST_BOUND, GREATEST_LEVEL}
-use Rattle.msp_cert_text.specs.Reading.{kind_in, kind_at, machine_line_at, job_line_of, tail_at, named_field_at, named_line_at, numbers_at, level_at, head_at, price_at, job_in, job_added, jobs_step, segment_added, is_segment_word, segments_step, position_at, column_price_at, column_added, columns_step, ReadsProof, IsCertifiedAs, ReadsEvidence, ReadsCertified, ReadsCertificate}
+use Rattle.msp_cert_text.specs.Reading.{kind_in, kind_at, machine_line_at, job_line_of, tail_at, named_field_at, named_line_at, numbers_at, level_at, head_at, price_at, job_in}
+use Rattle.msp_cert_text.specs.Reading.{job_added, jobs_step, segment_added, is_segment_word, segments_step, position_at, column_price_at, column_added, columns_step, ReadsProof}
+use Rattle.msp_cert_text.specs.Reading.{IsCertifiedAs, ReadsEvidence, ReadsCertified, ReadsCertificate}
 use Rattle.msp_cert_text.specs.CertificateText.{segment_lines, column_lines}
 use Rattle.msp_cert_text.specs.Answers.{IsCertificateFault}
 use Rattle.msp_grammar.specs.lines.Reading.{Place, line_at, fields_of, first_of, word_line_at, LineRead, ReadsMore, ReadsBy, Then, all_of}
 use Rattle.msp_grammar.specs.lines.Costs.{cost_line_at}
 use Rattle.msp_grammar.proofs.reading.LineLaws.{bind_ok}
-use Rattle.msp_grammar.proofs.reading.LineFaults.{IsPlainFault, InBy, IsPlain, fine, bad, chain, given, or_fault, either, line_plain, worded_plain, word_plain, field_plain, natural_plain, integer_plain, ordinal_plain, named_plain, known_plain, end_plain, cost_plain, more, then_in, whole_in, whole_remembers}
+use Rattle.msp_grammar.proofs.reading.LineFaults.{IsPlainFault, InBy, IsPlain, fine, bad, chain, given, or_fault, either, line_plain, worded_plain, word_plain, field_plain}
+use Rattle.msp_grammar.proofs.reading.LineFaults.{natural_plain, integer_plain, ordinal_plain, named_plain, known_plain, end_plain, cost_plain, more, then_in, whole_in}
+use Rattle.msp_grammar.proofs.reading.LineFaults.{whole_remembers}
 use Rattle.msp_cert_text.proofs.KindLaws.{kind_in_by, kind_shortens}
 use Rattle.msp_grammar.proofs.reading.Endings.{Shortens, IsNoJob, line_shorter, more_ends, then_ends, by_ends, IsOfFraction, cost_is}
 
@@ -78,7 +83,8 @@ named_line : (word : List ℕ) (before : ℕ) (name : List ℕ) (p : Place) → 
 unfolding named_line_at
 named_line word before name p = chain _ _ (widen _ (worded_plain word p)) (λ l. chain _ _ (named_fields before name p.at l.0) (λ w. fine _))
 
-numbers : {A : Type 0} (read : ℕ → List ℕ → Result A FileFault) (word : List ℕ) (before : ℕ) (xs : List A) (names : List (List ℕ)) (p : Place) → ((at : ℕ) (w : List ℕ) → InKind (read at w)) → InKind (numbers_at read word before xs names p)
+numbers : {A : Type 0} (read : ℕ → List ℕ → Result A FileFault) (word : List ℕ) (before : ℕ) (xs : List A) (names : List (List ℕ)) (p : Place)
+    → ((at : ℕ) (w : List ℕ) → InKind (read at w)) → InKind (numbers_at read word before xs names p)
 unfolding numbers_at
 numbers read word before xs [] p each = fine _
 numbers read word before xs (name ∷ names) p each =
@@ -103,7 +109,8 @@ after_job : (names : List (List ℕ)) (before : ℕ) (jobs : List ℕ) (p : Plac
 unfolding jobs_step job_added
 after_job names before jobs p =
     chain (line_at p) _ (widen _ (line_plain p)) (λ l.
-    kind_in_by _ (bytes_eq (first_of (fields_of l.0)) (codes "job")) (job_added names) jobs p.at (fields_of l.0) l.1 tt (chain _ _ (one_job names p.at _) (λ j. fine _)) (widen _ (end_plain p.at jobs (fields_of l.0) l.1)))
+    kind_in_by _ (bytes_eq (first_of (fields_of l.0)) (codes "job"))
+    (job_added names) jobs p.at (fields_of l.0) l.1 tt (chain _ _ (one_job names p.at _) (λ j. fine _)) (widen _ (end_plain p.at jobs (fields_of l.0) l.1)))
 
 segment_line : (names : List (List ℕ)) (word : List ℕ) (at : ℕ) (lists fields : List (List ℕ)) → InKind (segment_added names word at lists fields)
 unfolding segment_added
@@ -113,7 +120,8 @@ after_segment : (names lists : List (List ℕ)) (p : Place) → InKind (segments
 unfolding segments_step
 after_segment names lists p =
     chain (line_at p) _ (widen _ (line_plain p)) (λ l.
-    kind_in_by _ (is_segment_word lists (first_of (fields_of l.0))) (segment_added names (first_of (fields_of l.0))) lists p.at (fields_of l.0) l.1 tt (segment_line names _ p.at lists _) (widen _ (end_plain p.at lists (fields_of l.0) l.1)))
+    kind_in_by _ (is_segment_word lists (first_of (fields_of l.0))) (segment_added names (first_of (fields_of l.0)))
+    lists p.at (fields_of l.0) l.1 tt (segment_line names _ p.at lists _) (widen _ (end_plain p.at lists (fields_of l.0) l.1)))
 
 position : (jobs machines at : ℕ) (fields : List (List ℕ)) → InKind (position_at jobs machines at fields)
 unfolding position_at
@@ -132,11 +140,13 @@ after_column : (jobs machines before : ℕ) (prices : List ℤ) (p : Place) → 
 unfolding columns_step
 after_column jobs machines before prices p =
     chain (line_at p) _ (widen _ (line_plain p)) (λ l.
-    kind_in_by _ (bytes_eq (first_of (fields_of l.0)) (codes "column")) (column_added jobs machines) prices p.at (fields_of l.0) l.1 tt (column_line jobs machines p.at prices _) (widen _ (end_plain p.at prices (fields_of l.0) l.1)))
+    kind_in_by _ (bytes_eq (first_of (fields_of l.0)) (codes "column")) (column_added jobs machines)
+    prices p.at (fields_of l.0) l.1 tt (column_line jobs machines p.at prices _) (widen _ (end_plain p.at prices (fields_of l.0) l.1)))
 
 -- ---- the whole
 
-by_in : {A B : Type 0} (make : A × Place → B) (step : A → Place → Result (LineRead A) FileFault) → ((d : A) (p : Place) → InKind (step d p)) → (d : A) (p : Place) (r : Result B FileFault) → ReadsBy (λ x. Ok (make x)) (ReadsMore step d p) r → InKind r
+by_in : {A B : Type 0} (make : A × Place → B) (step : A → Place → Result (LineRead A) FileFault)
+    → ((d : A) (p : Place) → InKind (step d p)) → (d : A) (p : Place) (r : Result B FileFault) → ReadsBy (λ x. Ok (make x)) (ReadsMore step d p) r → InKind r
 by_in make step each d p r h = subst InKind (sym h.is) (chain h.lines _ (more step each d p h.lines h.reads) (λ x. fine (make x)))
 
 is_read : {A : Type 0} (r : Result A FileFault) (x : A) → r ≡ Ok x → InKind r
@@ -155,9 +165,11 @@ module _ (names : List (List ℕ)) (machines : ℕ) where
       then_in (numbers_at level_at (codes "level") 1 [] names t.1) _ r (numbers level_at (codes "level") 1 [] names t.1 level) (λ (l : List ℕ × Place). last_in l.1 _ r)) h
   proof_in kind.Segments p r h = by_in _ (segments_step names) (after_segment names) [] p r h
   proof_in kind.Block p r h =
-      then_in (numbers_at head_at (codes "head") 0 [] names p) _ r (numbers head_at (codes "head") 0 [] names p head) (λ (n : List ℕ × Place). by_in _ (jobs_step names (length n.0)) (after_job names (length n.0)) [] n.1 r) h
+      then_in (numbers_at head_at (codes "head") 0 [] names p) _ r (numbers head_at (codes "head") 0 [] names p head)
+      (λ (n : List ℕ × Place). by_in _ (jobs_step names (length n.0)) (after_job names (length n.0)) [] n.1 r) h
   proof_in kind.Prices p r h =
-      then_in (numbers_at price_at (codes "row") 0 [] names p) _ r (numbers price_at (codes "row") 0 [] names p price) (λ (n : List ℤ × Place). by_in _ (columns_step (length names) machines (length n.0)) (after_column (length names) machines (length n.0)) [] n.1 r) h
+      then_in (numbers_at price_at (codes "row") 0 [] names p) _ r (numbers price_at (codes "row") 0 [] names p price)
+      (λ (n : List ℤ × Place). by_in _ (columns_step (length names) machines (length n.0)) (after_column (length names) machines (length n.0)) [] n.1 r) h
 
   certified_in : (bound : ℤ × ℤ) (lines : Result (Proof × Place) FileFault) (r : Result (Certificate × Place) FileFault) → InKind lines → IsCertifiedAs bound lines r → InKind r
   certified_in bound (Ok line) (Ok c) h k = fine c
@@ -198,7 +210,7 @@ module _ (names : List (List ℕ)) (machines : ℕ) where
       by (inl k) = kind_certificate e k
       by (inr k) = subst IsCertificateFault (sym k.1) tt
 
-  -- reading gives no want of memory
+  -- reading gives no out of memory
   pub certificate_remembers : (line : ℕ) (b : List ℕ) → ¬ ReadsCertificate names machines line b (Err Memory)
   certificate_remembers line b h = whole_remembers h.lines (certified (record { at = line; rest = b }) h.lines h.reads) (λ k. k) h.is
 
@@ -206,15 +218,18 @@ module _ (names : List (List ℕ)) (machines : ℕ) where
 
   jobs_shorten : (before : ℕ) (d : List ℕ) (p : Place) (next : LineRead (List ℕ)) → jobs_step names before d p ≡ Ok next → IsNoJob next × Shortens p next
   unfolding jobs_step
-  jobs_shorten before d p next e = let l = bind_ok (line_at p) _ next e in kind_shortens (before + length d) (bytes_eq (first_of (fields_of l.0.0)) (codes "job")) (job_added names) d p.at (fields_of l.0.0) p l.0.1 next (line_shorter p l.0 l.1) l.2
+  jobs_shorten before d p next e = let l = bind_ok (line_at p) _ next e in
+      kind_shortens (before + length d) (bytes_eq (first_of (fields_of l.0.0)) (codes "job")) (job_added names) d p.at (fields_of l.0.0) p l.0.1 next (line_shorter p l.0 l.1) l.2
 
   segments_shorten : (d : List (List ℕ)) (p : Place) (next : LineRead (List (List ℕ))) → segments_step names d p ≡ Ok next → IsNoJob next × Shortens p next
   unfolding segments_step
-  segments_shorten d p next e = let l = bind_ok (line_at p) _ next e in kind_shortens (length (segment_lines names d)) (is_segment_word d (first_of (fields_of l.0.0))) (segment_added names (first_of (fields_of l.0.0))) d p.at (fields_of l.0.0) p l.0.1 next (line_shorter p l.0 l.1) l.2
+  segments_shorten d p next e = let l = bind_ok (line_at p) _ next e in kind_shortens (length (segment_lines names d)) (is_segment_word d (first_of (fields_of l.0.0)))
+      (segment_added names (first_of (fields_of l.0.0))) d p.at (fields_of l.0.0) p l.0.1 next (line_shorter p l.0 l.1) l.2
 
   columns_shorten : (jobs before : ℕ) (d : List ℤ) (p : Place) (next : LineRead (List ℤ)) → columns_step jobs machines before d p ≡ Ok next → IsNoJob next × Shortens p next
   unfolding columns_step
-  columns_shorten jobs before d p next e = let l = bind_ok (line_at p) _ next e in kind_shortens (before + length (column_lines jobs 0 d)) (bytes_eq (first_of (fields_of l.0.0)) (codes "column")) (column_added jobs machines) d p.at (fields_of l.0.0) p l.0.1 next (line_shorter p l.0 l.1) l.2
+  columns_shorten jobs before d p next e = let l = bind_ok (line_at p) _ next e in kind_shortens (before + length (column_lines jobs 0 d))
+      (bytes_eq (first_of (fields_of l.0.0)) (codes "column")) (column_added jobs machines) d p.at (fields_of l.0.0) p l.0.1 next (line_shorter p l.0 l.1) l.2
 
   proof_ends : (k : Kind) (p : Place) → (r : Result (Proof × Place) FileFault) × ReadsProof names machines k p r
   proof_ends kind.Group p = by_ends _ _ (more_ends (jobs_step names 0) (jobs_shorten 0) [] p)
@@ -227,7 +242,8 @@ module _ (names : List (List ℕ)) (machines : ℕ) where
   proof_ends kind.Block p =
       then_ends (numbers_at head_at (codes "head") 0 [] names p) _ (λ (n : List ℕ × Place) _. by_ends _ _ (more_ends (jobs_step names (length n.0)) (jobs_shorten (length n.0)) [] n.1))
   proof_ends kind.Prices p =
-      then_ends (numbers_at price_at (codes "row") 0 [] names p) _ (λ (n : List ℤ × Place) _. by_ends _ _ (more_ends (columns_step (length names) machines (length n.0)) (columns_shorten (length names) (length n.0)) [] n.1))
+      then_ends (numbers_at price_at (codes "row") 0 [] names p)
+      _ (λ (n : List ℤ × Place) _. by_ends _ _ (more_ends (columns_step (length names) machines (length n.0)) (columns_shorten (length names) (length n.0)) [] n.1))
 
   certified_lines : (x : Frac) (r : Result (Proof × Place) FileFault) → (s : Result (Certificate × Place) FileFault) × IsCertifiedAs (x.num, x.den) r s
   certified_lines x (Ok line) = (Ok (record { bound = x; proof = line.0 }, line.1), (refl, refl, refl, refl))

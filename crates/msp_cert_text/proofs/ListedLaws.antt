@@ -15,13 +15,17 @@ names_from names k name e =
     let is : name ≡ get_or names k [] = same_Some name (get_or names k []) (e ∙ slice_get-get_or names k [] within) in
     rw (add-one, drop-cons names k [] within) (ap (λ (w : List ℕ). w ∷ drop (suc k) names) (sym is))
 
-numbers_on : {A : Type 0} (read : ℕ → List ℕ → Result A FileFault) (word : List ℕ) (before : ℕ) (numbers : List A) (names : List (List ℕ)) (k count : ℕ) (name : List ℕ) (p : Place) → Some name ≡ slice_get names k → count ≡ before + length numbers
-    → numbers_at read word before numbers (drop k names) p ≡ (named_line_at word count name p >>= λ line. read p.at line.0 >>= λ number. numbers_at read word before (numbers ++ number ∷ []) (drop (k + 1) names) line.1)
+numbers_on : {A : Type 0} (read : ℕ → List ℕ → Result A FileFault) (word : List ℕ) (before : ℕ) (numbers : List A) (names : List (List ℕ)) (k count : ℕ) (name : List ℕ) (p : Place)
+    → Some name ≡ slice_get names k → count ≡ before + length numbers
+    → numbers_at read word before numbers (drop k names) p
+    ≡ (named_line_at word count name p >>= λ line. read p.at line.0 >>= λ number. numbers_at read word before (numbers ++ number ∷ []) (drop (k + 1) names) line.1)
 unfolding numbers_at
 numbers_on read word before numbers names k count name p e c = rw (names_from names k name e, c) refl
 
-pub numbers_goes : {A : Type 0} (read : ℕ → List ℕ → Result A FileFault) (word : List ℕ) (before : ℕ) (numbers : List A) (names : List (List ℕ)) (k count : ℕ) (name : List ℕ) (p q : Place) (field : List ℕ) (x : A) → Some name ≡ slice_get names k → count ≡ before + length numbers
-    → named_line_at word count name p ≡ Ok (field, q) → read p.at field ≡ Ok x → numbers_at read word before numbers (drop k names) p ≡ numbers_at read word before (numbers ++ x ∷ []) (drop (k + 1) names) q
+pub numbers_goes : {A : Type 0} (read : ℕ → List ℕ → Result A FileFault) (word : List ℕ) (before : ℕ) (numbers : List A) (names : List (List ℕ))
+    (k count : ℕ) (name : List ℕ) (p q : Place) (field : List ℕ) (x : A) → Some name ≡ slice_get names k → count ≡ before + length numbers
+    → named_line_at word count name p ≡ Ok (field, q)
+    → read p.at field ≡ Ok x → numbers_at read word before numbers (drop k names) p ≡ numbers_at read word before (numbers ++ x ∷ []) (drop (k + 1) names) q
 numbers_goes read word before numbers names k count name p q field x e c f g =
     numbers_on read word before numbers names k count name p e c ∙ bind_again _ _ _ _ f (bind_again _ _ _ _ g refl)
 
@@ -34,11 +38,13 @@ fails_too : {A B : Type 0} (r : Result A FileFault) (s : Result B FileFault) (e 
 fails_too r s Memory f h = tt
 fails_too r s e f h = f h
 
-pub numbers_stop : {A : Type 0} (read : ℕ → List ℕ → Result A FileFault) (word : List ℕ) (before : ℕ) (numbers : List A) (names : List (List ℕ)) (k count : ℕ) (name : List ℕ) (p : Place) (fault : FileFault) → Some name ≡ slice_get names k → count ≡ before + length numbers
+pub numbers_stop : {A : Type 0} (read : ℕ → List ℕ → Result A FileFault) (word : List ℕ) (before : ℕ) (numbers : List A)
+    (names : List (List ℕ)) (k count : ℕ) (name : List ℕ) (p : Place) (fault : FileFault) → Some name ≡ slice_get names k → count ≡ before + length numbers
     → Fails fault (named_line_at word count name p) → Fails fault (numbers_at read word before numbers (drop k names) p)
 numbers_stop read word before numbers names k count name p fault e c f = fails_too _ _ fault (λ h. numbers_on read word before numbers names k count name p e c ∙ rw h refl) f
 
-pub numbers_break : {A : Type 0} (read : ℕ → List ℕ → Result A FileFault) (word : List ℕ) (before : ℕ) (numbers : List A) (names : List (List ℕ)) (k count : ℕ) (name : List ℕ) (p q : Place) (field : List ℕ) (fault : FileFault) → Some name ≡ slice_get names k → count ≡ before + length numbers
+pub numbers_break : {A : Type 0} (read : ℕ → List ℕ → Result A FileFault) (word : List ℕ) (before : ℕ) (numbers : List A) (names : List (List ℕ))
+    (k count : ℕ) (name : List ℕ) (p q : Place) (field : List ℕ) (fault : FileFault) → Some name ≡ slice_get names k → count ≡ before + length numbers
     → named_line_at word count name p ≡ Ok (field, q) → Err fault ≡ read p.at field → Fails fault (numbers_at read word before numbers (drop k names) p)
 numbers_break read word before numbers names k count name p q field fault e c f g =
     fault_of _ fault (numbers_on read word before numbers names k count name p e c ∙ bind_again _ _ _ _ f (rw (sym g) refl))

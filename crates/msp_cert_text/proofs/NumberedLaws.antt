@@ -1,5 +1,6 @@
 -- The lines that each job has: what is read is what was written, and what was written is read again.
-use Rattle.std.proofs.Common.{◌≡◌, ℕ, suc, ◌+◌, ◌<◌, ◌≤◌, nat_lt, ◌==◌, List, [], ◌∷◌, ◌++◌, length, Result, Ok, All, bytes_eq, refl, sym, ap, subst, ◌∙◌, append_assoc, append-nil, length-append, arith, ltb-true, lt-ltb}
+use Rattle.std.proofs.Common.{◌≡◌, ℕ, suc, ◌+◌, ◌<◌, ◌≤◌, nat_lt, ◌==◌, List, [], ◌∷◌, ◌++◌, length, Result, Ok, All, bytes_eq, refl, sym, ap, subst, ◌∙◌, append_assoc, append-nil}
+use Rattle.std.proofs.Common.{length-append, arith, ltb-true, lt-ltb}
 use Rattle.std.proofs.lemmas.Slice.Eq.{bytes_eq-Decides}
 use Rattle.std.proofs.lemmas.List.Elements.{All-head, All-tail, All-push}
 use Rattle.msp_job_name.specs.JobName.{IsJobName}
@@ -42,7 +43,8 @@ named_takes word before name p x e =
       room = t.1;
     })
 
-named_again : (word : List ℕ) (before : ℕ) (name w : List ℕ) (at : ℕ) (rest : List ℕ) → IsField word → IsJobName name → IsField w → before < MOST_LINES → Gets (named_line_at word before name (record { at = at; rest = line_text (word ∷ name ∷ w ∷ []) ++ rest })) w rest
+named_again : (word : List ℕ) (before : ℕ) (name w : List ℕ) (at : ℕ) (rest : List ℕ) → IsField word → IsJobName name
+    → IsField w → before < MOST_LINES → Gets (named_line_at word before name (record { at = at; rest = line_text (word ∷ name ∷ w ∷ []) ++ rest })) w rest
 unfolding named_line_at named_field_at
 named_again word before name w at rest worded named field room =
     let line = worded_again word (name ∷ w ∷ []) at rest (worded, (name_field name named, (field, tt))) in
@@ -64,7 +66,8 @@ module _ {A : Type 0} (read : ℕ → List ℕ → Result A FileFault) (spell : 
     pub good : All Good after
     pub room : before + length after ≤ MOST_LINES
 
-  pub numbers_take : (names : List (List ℕ)) (numbers : List A) (p : Place) (x : List A × Place) → All Good numbers → before + length numbers ≤ MOST_LINES → numbers_at read word before numbers names p ≡ Ok x → SaysNumbers numbers names p x.0 x.1
+  pub numbers_take : (names : List (List ℕ)) (numbers : List A) (p : Place) (x : List A × Place)
+      → All Good numbers → before + length numbers ≤ MOST_LINES → numbers_at read word before numbers names p ≡ Ok x → SaysNumbers numbers names p x.0 x.1
   unfolding numbers_at
   numbers_take [] numbers p x good room e =
       let last : List A × Place = (numbers, p) in
@@ -86,7 +89,8 @@ module _ {A : Type 0} (read : ℕ → List ℕ → Result A FileFault) (spell : 
         room = rest.room;
       }
 
-  pub numbers_again : (names : List (List ℕ)) (more numbers : List A) (at : ℕ) (rest : List ℕ) → IsField word → All IsJobName names → length more ≡ length names → All Good more → before + length numbers + length more ≤ MOST_LINES
+  pub numbers_again : (names : List (List ℕ)) (more numbers : List A) (at : ℕ) (rest : List ℕ)
+      → IsField word → All IsJobName names → length more ≡ length names → All Good more → before + length numbers + length more ≤ MOST_LINES
       → Gets (numbers_at read word before numbers names (record { at = at; rest = lines_text (numbered_lines word spell names more) ++ rest })) (numbers ++ more) rest
   unfolding numbers_at
   numbers_again [] [] numbers at rest worded named each good room = (at, ap (λ (ns : List A). Ok (ns, record { at = at; rest = rest })) (sym (append-nil numbers)))
@@ -96,7 +100,9 @@ module _ {A : Type 0} (read : ℕ → List ℕ → Result A FileFault) (spell : 
       let lines = lines_text (numbered_lines word spell names more) in
       let fine = All-head Good x more good in
       let l = named_again word (before + length numbers) name (spell x) at (lines ++ rest) worded (All-head IsJobName name names named) (is.field x fine) (omega arith) in
-      let r = numbers_again names more (numbers ++ x ∷ []) l.0 rest worded (All-tail IsJobName name names named) (omega arith) (All-tail Good x more good) (omega (arith, length-append numbers (x ∷ []))) in
-      let text : (line_text (word ∷ name ∷ spell x ∷ []) ++ lines) ++ rest ≡ line_text (word ∷ name ∷ spell x ∷ []) ++ (lines ++ rest) = append_assoc (line_text (word ∷ name ∷ spell x ∷ [])) lines rest in
+      let r = numbers_again names more (numbers ++ x ∷ [])
+      l.0 rest worded (All-tail IsJobName name names named) (omega arith) (All-tail Good x more good) (omega (arith, length-append numbers (x ∷ []))) in
+      let text : (line_text (word ∷ name ∷ spell x ∷ []) ++ lines) ++ rest ≡ line_text (word ∷ name ∷ spell x ∷ []) ++ (lines ++ rest) =
+      append_assoc (line_text (word ∷ name ∷ spell x ∷ [])) lines rest in
       let goes = ap (λ (b : List ℕ). named_line_at word (before + length numbers) name (record { at = at; rest = b })) text ∙ l.1 in
       (r.0, bind_again _ _ _ _ goes (bind_again _ _ _ _ (is.again at x fine) (r.1 ∙ ap (λ (ns : List A). Ok (ns, record { at = r.0; rest = rest })) (append_assoc numbers (x ∷ []) more))))

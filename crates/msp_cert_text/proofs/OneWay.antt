@@ -14,7 +14,8 @@ use Rattle.msp_cert_text.proofs.TextLaws.{certificate_taken, certificate_again, 
 
 module _ (names : List (List ℕ)) (machines line : ℕ) (h : AreCounted names machines) where
   one_certificate : (b : List ℕ) (c d : Certificate) → IsCertificateTextOf names machines b c → IsCertificateTextOf names machines b d → c ≡ d
-  one_certificate b c d s t = ok_is c d (certificate_same names machines line b (reads c) (reads d) (certificate_again names machines h.few h.machine h.spelled h.distinct line b c s) (certificate_again names machines h.few h.machine h.spelled h.distinct line b d t))
+  one_certificate b c d s t = ok_is c d (certificate_same names machines line b (reads c) (reads d)
+      (certificate_again names machines h.few h.machine h.spelled h.distinct line b c s) (certificate_again names machines h.few h.machine h.spelled h.distinct line b d t))
 
   not_both : (b : List ℕ) (c : Certificate) (e : FileFault) → IsCertificateTextOf names machines b c → ¬ IsFirstCertificateFaultOf names machines line b e
   not_both b c e s k = not_fails e c k.1 (no_certificate_fault names machines h.few h.machine h.spelled h.distinct line b e k.0 c s)
@@ -26,7 +27,8 @@ module _ (names : List (List ℕ)) (machines line : ℕ) (h : AreCounted names m
   one_fault : (b : List ℕ) (e f : FileFault) → IsFirstCertificateFaultOf names machines line b e → IsFirstCertificateFaultOf names machines line b f → e ≡ f
   one_fault b e f s t = err_is e f (certificate_same names machines line b (Err e) (Err f) (reads_fault b e s.0 s.1) (reads_fault b f t.0 t.1))
 
-  some_certificate : (b : List ℕ) (r : Result Certificate FileFault) → ReadsCertificate names machines line b r → ((c : Certificate) × IsCertificateTextOf names machines b c) ⊎ ((e : FileFault) × IsFirstCertificateFaultOf names machines line b e)
+  some_certificate : (b : List ℕ) (r : Result Certificate FileFault) → ReadsCertificate names machines line b r
+      → ((c : Certificate) × IsCertificateTextOf names machines b c) ⊎ ((e : FileFault) × IsFirstCertificateFaultOf names machines line b e)
   some_certificate b (Ok c) k = inl (c, certificate_taken names machines h.few h.machine line b c k)
   some_certificate b (Err Memory) k = absurd (certificate_remembers names machines line b k)
   some_certificate b (Err e) k = inr (e, (k, λ m. absurd cc))

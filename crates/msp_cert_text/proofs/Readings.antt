@@ -7,13 +7,15 @@ use Rattle.msp_grammar.specs.declared.lines.fault.FileFault.{FileFault}
 use Rattle.msp_cert_text.specs.declared.kinds.Kind.{Kind}
 use Rattle.msp_cert_text.specs.declared.kinds.Kind.TheVariants as kind
 use Rattle.msp_cert_text.specs.declared.kinds.TheConstants.{GREATEST_BOUND}
-use Rattle.msp_cert_text.specs.Reading.{machine_line_at, job_line_of, tail_at, numbers_at, level_at, head_at, price_at, jobs_step, segments_step, columns_step, kind_at, ReadsProof, IsCertifiedAs, ReadsEvidence, ReadsCertified, ReadsCertificate}
+use Rattle.msp_cert_text.specs.Reading.{machine_line_at, job_line_of, tail_at, numbers_at, level_at, head_at, price_at, jobs_step, segments_step, columns_step, kind_at, ReadsProof}
+use Rattle.msp_cert_text.specs.Reading.{IsCertifiedAs, ReadsEvidence, ReadsCertified, ReadsCertificate}
 use Rattle.msp_grammar.specs.lines.Reading.{Place, word_line_at, LineRead, ReadsMore, ReadsBy, all_of}
 use Rattle.msp_grammar.specs.lines.Costs.{cost_line_at}
 use Rattle.msp_grammar.proofs.reading.Readings.{more_same, then_same, by_same, fraction_is}
 
 -- lines up to the end
-more_by_same : {A B : Type 0} (last : A × Place → Result B FileFault) (step : A → Place → Result (LineRead A) FileFault) (d : A) (p : Place) (r s : Result B FileFault) → ReadsBy last (ReadsMore step d p) r → ReadsBy last (ReadsMore step d p) s → r ≡ s
+more_by_same : {A B : Type 0} (last : A × Place → Result B FileFault) (step : A → Place → Result (LineRead A) FileFault) (d : A) (p : Place) (r s : Result B FileFault)
+    → ReadsBy last (ReadsMore step d p) r → ReadsBy last (ReadsMore step d p) s → r ≡ s
 more_by_same last step d p r s h k = by_same last (ReadsMore step d p) (λ x y a b. more_same step d p x y a b) r s h k
 
 module _ (names : List (List ℕ)) (machines : ℕ) where

@@ -36,16 +36,20 @@ push_lines names done last j =
 pub begin_count : (names lists more : List (List ℕ)) → more ≡ lists ++ [] ∷ [] → length (segment_lines names more) ≡ length (segment_lines names lists) + 1
 begin_count names lists more e = ap (λ l. length (segment_lines names l)) e ∙ ap length (begin_lines names lists) ∙ length-append (segment_lines names lists) ((codes "segment" ∷ []) ∷ [])
 
-pub push_count : (names done more : List (List ℕ)) (last : List ℕ) (j : ℕ) → more ≡ with_job (done ++ last ∷ []) j → length (segment_lines names more) ≡ length (segment_lines names (done ++ last ∷ [])) + 1
-push_count names done more last j e = ap (λ l. length (segment_lines names l)) e ∙ ap length (push_lines names done last j) ∙ length-append (segment_lines names (done ++ last ∷ [])) (job_line names j ∷ [])
+pub push_count : (names done more : List (List ℕ)) (last : List ℕ) (j : ℕ)
+    → more ≡ with_job (done ++ last ∷ []) j → length (segment_lines names more) ≡ length (segment_lines names (done ++ last ∷ [])) + 1
+push_count names done more last j e =
+    ap (λ l. length (segment_lines names l)) e ∙ ap length (push_lines names done last j) ∙ length-append (segment_lines names (done ++ last ∷ [])) (job_line names j ∷ [])
 
 pub ruleset count_rules = (begin_count, push_count)
 
 -- the first line
-pub first_then : (names lists : List (List ℕ)) (p q r : Place) → segments_step names [] p ≡ Ok (more_read ([] ∷ []) q) → ReadsMore (segments_step names) ([] ∷ []) q (Ok (lists, r)) → ReadsMore (segments_step names) [] p (Ok (lists, r))
+pub first_then : (names lists : List (List ℕ)) (p q r : Place) → segments_step names [] p ≡ Ok (more_read ([] ∷ []) q)
+    → ReadsMore (segments_step names) ([] ∷ []) q (Ok (lists, r)) → ReadsMore (segments_step names) [] p (Ok (lists, r))
 first_then names lists p q r step h = more_then [] ([] ∷ []) p q _ step h
 
-pub first_breaks : (names : List (List ℕ)) (p q : Place) (e : FileFault) → segments_step names [] p ≡ Ok (more_read ([] ∷ []) q) → FailsBy e (ReadsMore (segments_step names) ([] ∷ []) q) → FailsBy e (ReadsMore (segments_step names) [] p)
+pub first_breaks : (names : List (List ℕ)) (p q : Place) (e : FileFault) → segments_step names [] p ≡ Ok (more_read ([] ∷ []) q)
+    → FailsBy e (ReadsMore (segments_step names) ([] ∷ []) q) → FailsBy e (ReadsMore (segments_step names) [] p)
 first_breaks names p q e step h = fails_on e _ _ (λ r k. more_then [] ([] ∷ []) p q r step k) h
 
 pub first_ends : (names : List (List ℕ)) (p q : Place) → segments_step names [] p ≡ Ok (end_read [] q) → ReadsMore (segments_step names) [] p (Ok ([], q))

@@ -1,5 +1,6 @@
 -- Certificate texts: what is read is a text of its certificate, and a text of a certificate is read as it.
-use Rattle.std.proofs.Common.{◌≡◌, ℕ, ◌<◌, ◌≤◌, Bool, true, false, if◌then◌else◌, List, [], ◌∷◌, ◌++◌, length, Option, Some, None, ok_or, Result, Ok, Err, ℤ, All, bytes_eq, codes, refl, sym, ap, subst, ◌∙◌, append_assoc, append-nil, arith, eqb-true}
+use Rattle.std.proofs.Common.{◌≡◌, ℕ, ◌<◌, ◌≤◌, Bool, true, false, if◌then◌else◌, List, [], ◌∷◌, ◌++◌, length, Option, Some, None, ok_or, Result, Ok, Err, ℤ, All, bytes_eq, codes}
+use Rattle.std.proofs.Common.{refl, sym, ap, subst, ◌∙◌, append_assoc, append-nil, arith, eqb-true}
 use Rattle.std.specs.Result.{IfErr}
 use Rattle.std.proofs.lemmas.List.{nil_from_length}
 use Rattle.msp_job_name.specs.JobName.{IsJobName, AreDistinct}
@@ -22,7 +23,8 @@ use Rattle.msp_grammar.specs.lines.Answers.{Fails, Gives}
 use Rattle.msp_grammar.specs.lines.Reading.{Place, word_line_at, field_line_at, all_of}
 use Rattle.msp_grammar.specs.lines.Costs.{cost_line_at}
 use Rattle.msp_grammar.specs.lines.Steps.{FailsBy, GivesBy, parts_of}
-use Rattle.msp_grammar.proofs.reading.LineLaws.{bind_ok, provided_ok, reads, ok_is, bind_again, Takes, Gets, Takes-then, IsField, word_line_takes, word_line_again, field_line_takes, field_line_again, end_text, GetsBy, spread}
+use Rattle.msp_grammar.proofs.reading.LineLaws.{bind_ok, provided_ok, reads, ok_is, bind_again, Takes, Gets, Takes-then, IsField, word_line_takes, word_line_again}
+use Rattle.msp_grammar.proofs.reading.LineLaws.{field_line_takes, field_line_again, end_text, GetsBy, spread}
 use Rattle.msp_grammar.proofs.reading.FieldLaws.{ok_some}
 use Rattle.msp_grammar.proofs.reading.Readings.{then_ok, then_again}
 use Rattle.msp_grammar.proofs.reading.CostLaws.{IsCostWithin, with_place, cost_line_takes, cost_line_again, pair}
@@ -128,7 +130,8 @@ bound_line w = line_text (codes "bound" ∷ w ∷ [])
 kind_line : Kind → List ℕ
 kind_line k = line_text (codes "kind" ∷ kind_word k ∷ [])
 
-certificate_is : (spelling : List ℕ) (names : List (List ℕ)) (x : Proof) → certificate_text spelling names x ≡ title ++ bound_line spelling ++ kind_line (kind_of x) ++ lines_text (kind_lines names x) ++ end_text
+certificate_is : (spelling : List ℕ) (names : List (List ℕ)) (x : Proof)
+    → certificate_text spelling names x ≡ title ++ bound_line spelling ++ kind_line (kind_of x) ++ lines_text (kind_lines names x) ++ end_text
 unfolding certificate_text title bound_line kind_line
 certificate_is spelling names x = refl
 
@@ -151,11 +154,13 @@ module _ (names : List (List ℕ)) (machines : ℕ) (named : length names < PLAC
       subst (λ (text : List ℕ). Takes start text says.line.1) (sym (append_assoc (title ++ bound_line bound.spelling ++ kind_line k.0.0) (lines_text (kind_lines names says.line.0)) end_text)) four in
       let six : Takes start (title ++ bound_line bound.spelling ++ kind_line (kind_of says.line.0) ++ lines_text (kind_lines names says.line.0) ++ end_text) says.line.1 =
       subst (λ (j : Kind). Takes start (title ++ bound_line bound.spelling ++ kind_line j ++ lines_text (kind_lines names says.line.0) ++ end_text) says.line.1) (sym a.is) five in
-      let whole : Takes start (certificate_text bound.spelling names says.line.0) says.line.1 = subst (λ (text : List ℕ). Takes start text says.line.1) (sym (certificate_is bound.spelling names says.line.0)) six in
+      let whole : Takes start (certificate_text bound.spelling names says.line.0) says.line.1 =
+      subst (λ (text : List ℕ). Takes start text says.line.1) (sym (certificate_is bound.spelling names says.line.0)) six in
       record {
         spelling = bound.spelling;
         spells = bound.spells;
-        text = subst (λ (q : Place). Takes start (certificate_text bound.spelling names x.0.proof) q) (sym says.place) (subst (λ (y : Proof). Takes start (certificate_text bound.spelling names y) says.line.1) (sym says.proof) whole);
+        text = subst (λ (q : Place). Takes start (certificate_text bound.spelling names x.0.proof) q)
+            (sym says.place) (subst (λ (y : Proof). Takes start (certificate_text bound.spelling names y) says.line.1) (sym says.proof) whole);
         stated = record {
           bound = stated_bound x.0.bound bound.range;
           few = subst (λ (y : Proof). length (kind_lines names y) ≤ MOST_LINES) (sym says.proof) a.few;
@@ -184,9 +189,11 @@ module _ (names : List (List ℕ)) (machines : ℕ) (named : length names < PLAC
         let bound = bound_line spelling in
         let k = kind_line (kind_of c.proof) in
         let text : certificate_text spelling names c.proof ++ rest ≡ title ++ (bound ++ (k ++ lines)) =
-        ap (λ (b : List ℕ). b ++ rest) (certificate_is spelling names c.proof) ∙ spread title bound k inner end_text rest ∙ ap (λ (b : List ℕ). title ++ (bound ++ (k ++ b))) (sym (append_assoc inner end_text rest)) in
+        ap (λ (b : List ℕ). b ++ rest) (certificate_is spelling names c.proof)
+        ∙ spread title bound k inner end_text rest ∙ ap (λ (b : List ℕ). title ++ (bound ++ (k ++ b))) (sym (append_assoc inner end_text rest)) in
         let t = word_line_again (codes "certificate") at (bound ++ (k ++ lines)) (record { no_space = refl; no_line_feed = refl }) in
-        let b = cost_line_again GREATEST_BOUND (omega arith) (codes "bound") t.0 spelling c.bound (k ++ lines) (record { no_space = refl; no_line_feed = refl }) spells (bound_within c.bound h.bound) in
+        let b = cost_line_again GREATEST_BOUND (omega arith)
+        (codes "bound") t.0 spelling c.bound (k ++ lines) (record { no_space = refl; no_line_feed = refl }) spells (bound_within c.bound h.bound) in
         let kind_read = kind_line_again (kind_of c.proof) b.0 lines in
         let p = proof_again names machines (omega (arith, named)) (omega (arith, small)) apart spelled c.proof kind_read.0 rest h.numbers h.few in (
           p.0,
@@ -226,12 +233,16 @@ certificate_fault_is names machines line b Memory h = tt
 certificate_fault_is names machines line b e h = certificate_faults names machines line b e h
 
 -- what is answered to the text of a certificate
-pub certificate_answered : (names : List (List ℕ)) (machines : ℕ) → length names < PLACES → machines < PLACES → All IsJobName names → AreDistinct names → (line : ℕ) (b : List ℕ) (r : Result Certificate FileFault) → GivesBy r (ReadsCertificate names machines line b) → (c : Certificate) → IsCertificateText b names machines c → Gives (λ f. f) r (reads c)
+pub certificate_answered : (names : List (List ℕ)) (machines : ℕ)
+    → length names < PLACES → machines < PLACES → All IsJobName names → AreDistinct names → (line : ℕ) (b : List ℕ) (r : Result Certificate FileFault)
+    → GivesBy r (ReadsCertificate names machines line b) → (c : Certificate) → IsCertificateText b names machines c → Gives (λ f. f) r (reads c)
 certificate_answered names machines named small spelled apart line b (Ok f) k c h = certificate_is_read names machines named small spelled apart line b f k c h
-certificate_answered names machines named small spelled apart line b (Err e) k c h = no_certificate_fault names machines named small spelled apart line b e (certificate_fault_of names machines line b e k) c h
+certificate_answered names machines named small spelled apart line b (Err e) k c h =
+    no_certificate_fault names machines named small spelled apart line b e (certificate_fault_of names machines line b e k) c h
 
 -- the faults that are answered
-pub certificate_faults_answered : (names : List (List ℕ)) (machines line : ℕ) (b : List ℕ) (r : Result Certificate FileFault) → GivesBy r (ReadsCertificate names machines line b) → IfErr r (λ e. IsCertificateFault e)
+pub certificate_faults_answered : (names : List (List ℕ)) (machines line : ℕ) (b : List ℕ) (r : Result Certificate FileFault)
+    → GivesBy r (ReadsCertificate names machines line b) → IfErr r (λ e. IsCertificateFault e)
 certificate_faults_answered names machines line b (Ok f) k = tt
 certificate_faults_answered names machines line b (Err e) k = certificate_fault_is names machines line b e (certificate_fault_of names machines line b e k)
 

@@ -9,7 +9,7 @@ use Rattle.msp_grammar.specs.declared.lines.fault.FileFault.TheVariants.{Head, A
 use Rattle.msp_cert_text.specs.CertificateText.{printed_certificate, IsStatedCertificate, IsCertificateText}
 use Rattle.msp_cert_text.specs.Reading.{ReadsCertificate}
 
--- The fault is the first one of the text, whose first line has this number. Want of memory says nothing.
+-- The fault is the first one of the text, whose first line has this number. Out of memory says nothing.
 abbrev pub IsCertificateFaultOf : List (List ℕ) → ℕ → ℕ → List ℕ → FileFault → Type 0
 IsCertificateFaultOf names machines line bytes Memory = Unit {0}
 IsCertificateFaultOf names machines line bytes e = ReadsCertificate names machines line bytes (Err e)

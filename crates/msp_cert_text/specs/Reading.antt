@@ -1,5 +1,6 @@
 -- How the text of a certificate is read: line by line, and in a line from left to right, up to the first fault.
-use Rattle.std.specs.Prelude.{◌≡◌, ℕ, ◌+◌, ◌-◌, ◌*◌, Bool, ◌==◌, ◌&&◌, ◌||◌, not, nat_le, nat_lt, if◌then◌else◌, List, [], ◌∷◌, ◌++◌, length, replicate, Option, Some, None, Result, Ok, Err, ok_or, codes, bytes_eq, ℤ, pos, int_lt}
+use Rattle.std.specs.Prelude.{◌≡◌, ℕ, ◌+◌, ◌-◌, ◌*◌, Bool, ◌==◌, ◌&&◌, ◌||◌, not, nat_le, nat_lt, if◌then◌else◌, List, [], ◌∷◌, ◌++◌, length, replicate, Option, Some, None, Result}
+use Rattle.std.specs.Prelude.{Ok, Err, ok_or, codes, bytes_eq, ℤ, pos, int_lt}
 use Rattle.msp_cert.specs.declared.Proof.{Proof}
 use Rattle.msp_cert.specs.declared.Proof.TheVariants as proof
 use Rattle.msp_cert.specs.declared.Certificate.{Certificate}
@@ -11,7 +12,8 @@ use Rattle.msp_cert_text.specs.declared.kinds.Kind.TheVariants as kind
 use Rattle.msp_cert.specs.declared.limits.TheConstants.{GREATEST_HEAD, GREATEST_PRICE}
 use Rattle.msp_cert_text.specs.declared.kinds.TheConstants.{GREATEST_BOUND, GREATEST_LEVEL, MOST_LINES}
 use Rattle.msp_cert_text.specs.CertificateText.{kind_word, segment_lines, column_lines}
-use Rattle.msp_grammar.specs.lines.Reading.{◌>>=◌, provided, Place, line_at, fields_of, first_of, others_of, worded_at, word_line_at, field_line_at, natural_at, integer_at, job_name_at, known_at, ordinal_at, machine_at, LineRead, more_read, end_at, ReadsMore, Then, ReadsBy, all_of}
+use Rattle.msp_grammar.specs.lines.Reading.{◌>>=◌, provided, Place, line_at, fields_of, first_of, others_of, worded_at, word_line_at, field_line_at, natural_at, integer_at}
+use Rattle.msp_grammar.specs.lines.Reading.{job_name_at, known_at, ordinal_at, machine_at, LineRead, more_read, end_at, ReadsMore, Then, ReadsBy, all_of}
 use Rattle.msp_grammar.specs.lines.Costs.{cost_line_at}
 
 -- ---- the first lines
@@ -162,7 +164,8 @@ column_added jobs machines at prices fields = provided (length fields == 3) (Cou
   provided (nat_le (length prices) position) (Again at) (Ok (filled position prices ++ price ∷ [])))
 
 abbrev pub columns_by : ℕ → ℕ → ℕ → List ℤ → ℕ → List (List ℕ) → Place → Result (LineRead (List ℤ)) FileFault
-columns_by jobs machines before prices at fields place = kind_step (before + length (column_lines jobs 0 prices)) (bytes_eq (first_of fields) (codes "column")) (column_added jobs machines) prices at fields place
+columns_by jobs machines before prices at fields place =
+    kind_step (before + length (column_lines jobs 0 prices)) (bytes_eq (first_of fields) (codes "column")) (column_added jobs machines) prices at fields place
 
 unfoldable pub columns_step : ℕ → ℕ → ℕ → List ℤ → Place → Result (LineRead (List ℤ)) FileFault
 columns_step jobs machines before prices place = do

@@ -3,6 +3,7 @@ ghost use Rattle.std.specs.Prelude.{◌≡◌};
 ghost use Rattle.msp_cert_text.specs.CertificateText.{kind_of, kind_word};
 
 use msp_cert::{MOST_ENTRIES, Proof};
+use msp_class::MOST_JOBS;
 
 /// The kind of a proof.
 #[derive(Clone, Copy)]
@@ -16,10 +17,10 @@ pub(crate) enum Kind {
     Prices,
 }
 
-/// The size of the greatest bound's numerator.
+/// The size of the greatest bound's numerator: at least the greatest value of a proof, and at most what `compare` takes.
 pub const GREATEST_BOUND: u128 = 1_000_000_000_000_000_000_000_000;
 /// The greatest level of a job.
-pub const GREATEST_LEVEL: u32 = 400;
+pub const GREATEST_LEVEL: u32 = MOST_JOBS as u32;
 /// The most lines between that of the kind and the last one: each stands for an entry of the proof.
 pub const MOST_LINES: usize = MOST_ENTRIES;
 

@@ -67,7 +67,8 @@ fn take_level(
     requires inside { k < length names.now }
     requires small { k + 1 < 2 ^ 64 }
     requires place { length levels.old ≡ k }
-    ensures leads { Leads (λ _. numbers_at level_at (codes "level") 1 levels.new (drop (k + 1) names.now) (place_of lines.new)) result (numbers_at level_at (codes "level") 1 levels.old (drop k names.now) (place_of lines.old)) }
+    ensures leads { Leads (λ _. numbers_at level_at (codes "level") 1 levels.new (drop (k + 1) names.now) (place_of lines.new))
+        result (numbers_at level_at (codes "level") 1 levels.old (drop k names.now) (place_of lines.old)) }
     ensures place { OnOk result (length levels.new ≡ k + 1) }
 {
     let at = lines.at;
@@ -88,7 +89,8 @@ fn take_head(
 ) -> Result<(), FileFault>
     requires inside { k < length names.now }
     requires place { length heads.old ≡ k }
-    ensures leads { Leads (λ _. numbers_at head_at (codes "head") 0 heads.new (drop (k + 1) names.now) (place_of lines.new)) result (numbers_at head_at (codes "head") 0 heads.old (drop k names.now) (place_of lines.old)) }
+    ensures leads { Leads (λ _. numbers_at head_at (codes "head") 0 heads.new (drop (k + 1) names.now) (place_of lines.new))
+        result (numbers_at head_at (codes "head") 0 heads.old (drop k names.now) (place_of lines.old)) }
     ensures place { OnOk result (length heads.new ≡ k + 1) }
 {
     let at = lines.at;
@@ -109,7 +111,8 @@ fn take_row(
 ) -> Result<(), FileFault>
     requires inside { k < length names.now }
     requires place { length row.old ≡ k }
-    ensures leads { Leads (λ _. numbers_at price_at (codes "row") 0 row.new (drop (k + 1) names.now) (place_of lines.new)) result (numbers_at price_at (codes "row") 0 row.old (drop k names.now) (place_of lines.old)) }
+    ensures leads { Leads (λ _. numbers_at price_at (codes "row") 0 row.new (drop (k + 1) names.now) (place_of lines.new))
+        result (numbers_at price_at (codes "row") 0 row.old (drop k names.now) (place_of lines.old)) }
     ensures place { OnOk result (length row.new ≡ k + 1) }
 {
     let at = lines.at;

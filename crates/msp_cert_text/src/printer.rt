@@ -6,7 +6,8 @@ ghost use Rattle.msp_schedule.specs.Fraction.{IsLowest};
 ghost use Rattle.msp_grammar.specs.ScheduleText.{name_at, fraction_text};
 ghost use Rattle.msp_grammar.specs.InstanceText.{where_wanted, line_text};
 ghost use Rattle.msp_grammar.specs.lines.Steps.{slice_limit};
-ghost use Rattle.msp_cert_text.specs.CertificateText.{job_line, job_lines, numbered_lines, segment_lines, column_line, column_lines, kind_lines, lines_text, certificate_text, printed_certificate, IsStatedProof, IsStatedCertificate, IsCertificateText};
+ghost use Rattle.msp_cert_text.specs.CertificateText.{job_line, job_lines, numbered_lines, segment_lines, column_line, column_lines, kind_lines, lines_text, certificate_text};
+ghost use Rattle.msp_cert_text.specs.CertificateText.{printed_certificate, IsStatedProof, IsStatedCertificate, IsCertificateText};
 
 use crate::kinds::kind_word;
 use itoa::Buffer;

@@ -186,7 +186,8 @@ fn lists_at(alloc: Global, names: &Names, lines: &mut Lines<'_>) -> Result<Segme
 /// Reads the first line, and answers whether it begins a list.
 #[tactic(auto, unfolding(crate::specs::Reading::segments_step, crate::specs::Reading::segment_added))]
 fn first_list(lines: &mut Lines<'_>) -> Result<bool, FileFault>
-    ensures { (names : Items (Items ℕ)) → MatchResult result (λ yes. MatchBool yes (segments_step names [] (place_of lines.old) ≡ Ok (more_read ([] ∷ []) (place_of lines.new))) (segments_step names [] (place_of lines.old) ≡ Ok (end_read [] (place_of lines.new)))) (λ e. Fails e (segments_step names [] (place_of lines.old))) }
+    ensures { (names : Items (Items ℕ)) → MatchResult result (λ yes. MatchBool yes (segments_step names [] (place_of lines.old) ≡ Ok (more_read ([] ∷ []) (place_of lines.new)))
+        (segments_step names [] (place_of lines.old) ≡ Ok (end_read [] (place_of lines.new)))) (λ e. Fails e (segments_step names [] (place_of lines.old))) }
 {
     let at = lines.at;
     let line = line_at(lines)?;

@@ -85,7 +85,19 @@ pub *ℤ-one : (a : ℤ) → a *ℤ pos 1 ≡ a
 *ℤ-one a = omega (arith, ints)
 
 pub *ℤ_assoc : (a b c : ℤ) → (a *ℤ b) *ℤ c ≡ a *ℤ (b *ℤ c)
-*ℤ_assoc a b c = omega (arith, ints, ap (λ n. n * up c) (product_is a b).0, ap (λ n. n * up c) (product_is a b).1, ap (λ n. n * down c) (product_is a b).0, ap (λ n. n * down c) (product_is a b).1, ap (λ n. up a * n) (product_is b c).0, ap (λ n. up a * n) (product_is b c).1, ap (λ n. down a * n) (product_is b c).0, ap (λ n. down a * n) (product_is b c).1)
+*ℤ_assoc a b c = omega (
+  arith,
+  ints,
+  ap (λ n. n * up c) (product_is a b).0,
+  ap (λ n. n * up c) (product_is a b).1,
+  ap (λ n. n * down c) (product_is a b).0,
+  ap (λ n. n * down c)
+      (product_is a b).1,
+  ap (λ n. up a * n) (product_is b c).0,
+  ap (λ n. up a * n) (product_is b c).1,
+  ap (λ n. down a * n) (product_is b c).0,
+  ap (λ n. down a * n) (product_is b c).1,
+)
 
 -- a product over a sum
 pub *ℤ-add : (a b c : ℤ) → a *ℤ (b +ℤ c) ≡ a *ℤ b +ℤ a *ℤ c

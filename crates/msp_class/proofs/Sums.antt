@@ -1,5 +1,6 @@
 -- Finite sums of natural numbers: over a list (std's `sum_by`) and over the numbers below n.
-use Rattle.std.proofs.Common.{◌≡◌, ℕ, zero, suc, ◌+◌, ◌*◌, ◌≤◌, ◌<◌, Bool, true, false, cond, eqb, ltb, ◌≢◌, List, [], ◌∷◌, ◌++◌, map, length, get_or, take, All, AllPairs, Contains, filter, sum_by, count_by, IsPermutation, ℤ, pos, ◌+ℤ◌, ◌*ℤ◌, ◌≤ℤ◌, ◌⊎◌, inl, inr, ap₂, subst₂, arith, refl, sym, ap, subst, ◌∙◌}
+use Rattle.std.proofs.Common.{◌≡◌, ℕ, zero, suc, ◌+◌, ◌*◌, ◌≤◌, ◌<◌, Bool, true, false, cond, eqb, ltb, ◌≢◌, List, [], ◌∷◌, ◌++◌, map, length, get_or, take, All, AllPairs}
+use Rattle.std.proofs.Common.{Contains, filter, sum_by, count_by, IsPermutation, ℤ, pos, ◌+ℤ◌, ◌*ℤ◌, ◌≤ℤ◌, ◌⊎◌, inl, inr, ap₂, subst₂, arith, refl, sym, ap, subst, ◌∙◌}
 use Rattle.std.specs.List.{range_with_len, AllAdjacentBelow}
 pub use Rattle.std.proofs.lemmas.List.Sums.{sum_by-cons, sum_by-append, sum_by_push}
 use Rattle.std.proofs.lemmas.List.Sorted.{All-permutation}
@@ -123,7 +124,8 @@ module _ {X : Type 0} where
       by false c = c
 
   pub Contains-from_filter : (p : X → Bool) (xs : List X) (x : X) → Contains (filter p xs) x → Contains xs x × (p x ≡ true)
-  Contains-from_filter p xs x c = (All-contains (Contains xs) (filter p xs) x (All-filter p (Contains xs) xs (All-contains_itself xs)) c, All-contains (λ y. p y ≡ true) (filter p xs) x (filter_passes p xs) c)
+  Contains-from_filter p xs x c =
+      (All-contains (Contains xs) (filter p xs) x (All-filter p (Contains xs) xs (All-contains_itself xs)) c, All-contains (λ y. p y ≡ true) (filter p xs) x (filter_passes p xs) c)
 
 module _ {X Y : Type 0} where
   pub sum_by-map : (f : Y → ℕ) (g : X → Y) (xs : List X) → sum_by f (map g xs) ≡ sum_by (λ x. f (g x)) xs
@@ -132,7 +134,8 @@ module _ {X Y : Type 0} where
 
   pub sum_by-exchange : (h : X → Y → ℕ) (xs : List X) (ys : List Y) → sum_by (λ x. sum_by (λ y. h x y) ys) xs ≡ sum_by (λ y. sum_by (λ x. h x y) xs) ys
   sum_by-exchange h [] ys = sym (sum_by-none (λ _. 0) ys (λ k d l. refl))
-  sum_by-exchange h (x ∷ xs) ys = sum_by-cons (λ z. sum_by (λ y. h z y) ys) x xs ∙ ap (λ n. sum_by (λ y. h x y) ys + n) (sum_by-exchange h xs ys) ∙ sym (sum_by-agree (λ y. sum_by (λ z. h z y) (x ∷ xs)) (λ y. h x y + sum_by (λ z. h z y) xs) ys (λ y. sum_by-cons (λ z. h z y) x xs) ∙ sum_by-add (λ y. h x y) (λ y. sum_by (λ z. h z y) xs) ys)
+  sum_by-exchange h (x ∷ xs) ys = sum_by-cons (λ z. sum_by (λ y. h z y) ys) x xs ∙ ap (λ n. sum_by (λ y. h x y) ys + n) (sum_by-exchange h xs ys)
+      ∙ sym (sum_by-agree (λ y. sum_by (λ z. h z y) (x ∷ xs)) (λ y. h x y + sum_by (λ z. h z y) xs) ys (λ y. sum_by-cons (λ z. h z y) x xs) ∙ sum_by-add (λ y. h x y) (λ y. sum_by (λ z. h z y) xs) ys)
 
 -- ---- over the numbers below n
 -- whatever has these two clauses is this total
@@ -244,7 +247,8 @@ module _ {X : Type 0} where
   sum_by-total_below h n (x ∷ xs) =
       sum_by-cons (λ y. total_below n (λ i. h y i)) x xs
       ∙ ap (λ k. total_below n (λ i. h x i) + k) (sum_by-total_below h n xs)
-      ∙ sym (total_below-same n (λ i. sum_by (λ y. h y i) (x ∷ xs)) (λ i. h x i + sum_by (λ y. h y i) xs) (λ i l. sum_by-cons (λ y. h y i) x xs) ∙ total_below-add n (λ i. h x i) (λ i. sum_by (λ y. h y i) xs))
+      ∙ sym (total_below-same n (λ i. sum_by (λ y. h y i) (x ∷ xs)) (λ i. h x i + sum_by (λ y. h y i) xs) (λ i l. sum_by-cons (λ y. h y i) x xs)
+      ∙ total_below-add n (λ i. h x i) (λ i. sum_by (λ y. h y i) xs))
 
   -- a sum by key
   pub sum_by-by_key : (key f : X → ℕ) (n : ℕ) (xs : List X) → All (λ x. key x < n) xs → sum_by f xs ≡ total_below n (λ i. sum_by (λ x. cond (eqb (key x) i) (f x) 0) xs)
@@ -260,7 +264,8 @@ module _ {X : Type 0} where
   sum_by-cond false f xs = sum_by-none (λ _. 0) xs (λ k d l. refl)
 
   -- the same for what passes a test on the key
-  pub sum_by-by_key_test : (key f : X → ℕ) (test : ℕ → Bool) (n : ℕ) (xs : List X) → All (λ x. key x < n) xs → sum_by (λ x. cond (test (key x)) (f x) 0) xs ≡ total_below n (λ i. cond (test i) (sum_by f (filter (λ x. eqb (key x) i) xs)) 0)
+  pub sum_by-by_key_test : (key f : X → ℕ) (test : ℕ → Bool) (n : ℕ) (xs : List X) → All (λ x. key x < n) xs
+      → sum_by (λ x. cond (test (key x)) (f x) 0) xs ≡ total_below n (λ i. cond (test i) (sum_by f (filter (λ x. eqb (key x) i) xs)) 0)
   sum_by-by_key_test key f test n xs h = sum_by-by_key key (λ x. cond (test (key x)) (f x) 0) n xs h ∙ total_below-same n _ _ (λ i l. one i)
     where
       swaps : (i k a : ℕ) (b : Bool) → eqb k i ≡ b → cond b (cond (test k) a 0) 0 ≡ cond (test i) (cond b a 0) 0
@@ -268,7 +273,8 @@ module _ {X : Type 0} where
       swaps i k a false e = sym (cond-zero (test i) refl)
 
       one : (i : ℕ) → sum_by (λ x. cond (eqb (key x) i) (cond (test (key x)) (f x) 0) 0) xs ≡ cond (test i) (sum_by f (filter (λ x. eqb (key x) i) xs)) 0
-      one i = sum_by-agree _ _ xs (λ x. swaps i (key x) (f x) (eqb (key x) i) refl) ∙ sum_by-cond (test i) (λ x. cond (eqb (key x) i) (f x) 0) xs ∙ ap (λ m. cond (test i) m 0) (sym (sum_by-filter f (λ x. eqb (key x) i) xs))
+      one i = sum_by-agree _ _ xs (λ x. swaps i (key x) (f x) (eqb (key x) i) refl)
+          ∙ sum_by-cond (test i) (λ x. cond (eqb (key x) i) (f x) 0) xs ∙ ap (λ m. cond (test i) m 0) (sym (sum_by-filter f (λ x. eqb (key x) i) xs))
 
   pub AllPairs-head : (R : X → X → Type 0) (x : X) (xs : List X) → AllPairs R (x ∷ xs) → All (R x) xs
   AllPairs-head R x xs h k d l = h 0 (suc k) d (omega arith) (omega arith)
@@ -322,7 +328,12 @@ count_by-distinct [] i h = omega arith
 count_by-distinct (x ∷ xs) i h = by (eqb x i) refl (count_by-distinct xs i (AllPairs-tail (λ x y. x ≢ y) x xs h))
   where
     by : (b : Bool) → eqb x i ≡ b → count_by (λ y. eqb y i) xs ≤ 1 → count_by (λ y. eqb y i) (x ∷ xs) ≤ 1
-    by true e later = omega (arith, sum_by-cons (λ y. cond (eqb y i) 1 0) x xs, cond-yes 1 e, sum_by-none (λ y. cond (eqb y i) 1 0) xs (λ k d l. cond-no 1 (ne_eqb (get_or xs k d) i (λ q. AllPairs-head (λ x y. x ≢ y) x xs h k d l (eqb-true x i e ∙ sym q)))))
+    by true e later = omega (
+      arith,
+      sum_by-cons (λ y. cond (eqb y i) 1 0) x xs,
+      cond-yes 1 e,
+      sum_by-none (λ y. cond (eqb y i) 1 0) xs (λ k d l. cond-no 1 (ne_eqb (get_or xs k d) i (λ q. AllPairs-head (λ x y. x ≢ y) x xs h k d l (eqb-true x i e ∙ sym q)))),
+    )
     by false e later = omega (arith, sum_by-cons (λ y. cond (eqb y i) 1 0) x xs, cond-no 1 e, later)
 
 pub distinct_from_counts : (xs : List ℕ) → ((i : ℕ) → count_by (λ x. eqb x i) xs ≤ 1) → AllPairs (λ x y. x ≢ y) xs
@@ -336,7 +347,8 @@ distinct_from_counts (x ∷ xs) h = AllPairs-cons (λ x y. x ≢ y) x xs apart (
         omega (arith, h v, sum_by-cons (λ y. cond (eqb y v) 1 0) x xs, some, cond-yes 1 (eq-eqb v v refl), cond-yes 1 (eq-eqb x v q))
 
 -- without repeats and within a test, it sums to at most the test's total
-pub sum_by-distinct_test : (f : ℕ → ℕ) (test : ℕ → Bool) (n : ℕ) (xs : List ℕ) → All (λ x. x < n) xs → AllPairs (λ x y. x ≢ y) xs → All (λ x. test x ≡ true) xs → sum_by f xs ≤ total_below n (λ i. cond (test i) (f i) 0)
+pub sum_by-distinct_test : (f : ℕ → ℕ) (test : ℕ → Bool) (n : ℕ) (xs : List ℕ)
+    → All (λ x. x < n) xs → AllPairs (λ x y. x ≢ y) xs → All (λ x. test x ≡ true) xs → sum_by f xs ≤ total_below n (λ i. cond (test i) (f i) 0)
 sum_by-distinct_test f test n xs h u t =
     let same : sum_by f xs ≡ sum_by (λ x. cond (test x) (f x) 0) xs = sum_by-same f _ xs (λ k d l. sym (cond-yes (f (get_or xs k d)) (t k d l))) in
     let c : (i : ℕ) → cond (test i) (f i) 0 * count_by (λ x. eqb x i) xs ≤ cond (test i) (f i) 0 = λ i. at_most_one (cond (test i) (f i) 0) (count_by (λ x. eqb x i) xs) (count_by-distinct xs i u) in
@@ -378,7 +390,14 @@ OnceBelow-from_permutation {n} {xs} p = OnceBelow-permutation (OnceBelow-range n
 pub OnceBelow-from_distinct : (n : ℕ) (xs : List ℕ) → length xs ≡ n → All (λ x. x < n) xs → AllPairs (λ x y. x ≢ y) xs → OnceBelow n xs
 OnceBelow-from_distinct n xs len h u = record {
   within = h;
-  once = total_below-tight n (λ i. count_by (λ x. eqb x i) xs) (λ _. 1) (λ i l. count_by-distinct xs i u) (omega (arith, total_below-constant n 1, sum_by-constant 1 xs, sum_by_counts (λ _. 1) n xs h, total_below-same n (λ i. 1 * count_by (λ x. eqb x i) xs) (λ i. count_by (λ x. eqb x i) xs) (λ i l. omega arith)));
+  once = total_below-tight n (λ i. count_by (λ x. eqb x i) xs) (λ _. 1) (λ i l. count_by-distinct xs i u) (omega (
+    arith,
+    total_below-constant n 1,
+    sum_by-constant 1 xs,
+    sum_by_counts
+        (λ _. 1) n xs h,
+    total_below-same n (λ i. 1 * count_by (λ x. eqb x i) xs) (λ i. count_by (λ x. eqb x i) xs) (λ i l. omega arith),
+  ));
 }
 
 pub OnceBelow-distinct : {n : ℕ} {xs : List ℕ} → OnceBelow n xs → AllPairs (λ x y. x ≢ y) xs

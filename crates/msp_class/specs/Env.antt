@@ -5,7 +5,7 @@ use Rattle.msp_class.specs.declared.class.Env.{Env}
 use Rattle.msp_class.specs.declared.class.Env.TheVariants.{One, P2, P3, P, Q2, Q, R2, R, O2, O3, O, F2, F3, F, J2Short, JShort, J2, J}
 use Rattle.msp_class.specs.declared.environments.EnvKind.{EnvKind}
 use Rattle.msp_class.specs.declared.environments.EnvKind.TheVariants.{Identical, Uniform, Unrelated, OpenShop, FlowShop, JobShop}
-use Rattle.msp_class.specs.declared.environments.TheConstants.{MOST_OPERATIONS, MOST_SHORT_OPERATIONS}
+use Rattle.msp_class.specs.declared.sizes.TheConstants.{MOST_OPERATIONS, MOST_SHORT_OPERATIONS}
 
 -- the kind of an environment; one machine is the case of one identical machine
 abbrev pub kind_of : Env → EnvKind

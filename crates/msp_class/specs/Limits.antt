@@ -1,6 +1,6 @@
 -- The limits of classes and lists, by their numbers.
 use Rattle.std.specs.Prelude.{◌≡◌, ◌^◌}
-use Rattle.msp_class.specs.declared.environments.TheConstants.{MOST_OPERATIONS, MOST_SHORT_OPERATIONS}
+use Rattle.msp_class.specs.declared.sizes.TheConstants.{MOST_OPERATIONS, MOST_SHORT_OPERATIONS}
 use Rattle.msp_class.specs.declared.list.TheConstants.{PLACES}
 use Rattle.msp_class.specs.declared.ranks.TheConstants.{CLASSES}
 

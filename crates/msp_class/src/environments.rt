@@ -3,6 +3,7 @@ ghost use Rattle.std.specs.Prelude.{◌≡◌};
 ghost use Rattle.msp_class.specs.Env.{kind_of, fixed_machines, is_shop, is_mirror, most_operations};
 
 use crate::class::Env;
+use crate::sizes::{MOST_OPERATIONS, MOST_SHORT_OPERATIONS};
 
 /// The kinds of machine environments. One machine is the case of one identical machine.
 #[derive(Clone, Copy, PartialEq, Eq)]
@@ -14,12 +15,6 @@ pub enum EnvKind {
     FlowShop,
     JobShop,
 }
-
-/// The most operations of a job shop's route.
-pub const MOST_OPERATIONS: usize = 32;
-
-/// The most operations of a job shop's route with `n<=2`.
-pub const MOST_SHORT_OPERATIONS: usize = 2;
 
 /// The kind of an environment.
 pub fn env_kind(e: Env) -> EnvKind

@@ -34,7 +34,7 @@ impl<T> List<T> {
         }
     }
 
-    /// Puts an item at the end. For want of memory it hands the item back.
+    /// Puts an item at the end. When out of memory it hands the item back.
     pub fn push(&mut self, item: T) -> Result<(), T>
         ensures pushed { OnOk result (self.new ≡ self.old ++ item ∷ []) }
         ensures refused { IfErr result (λ back. (back ≡ item) × (self.new ≡ self.old)) }
@@ -83,7 +83,7 @@ impl<T> List<T> {
 }
 
 impl<T: Drop> List<T> {
-    /// Puts an item at the end. For want of memory it lets the item go.
+    /// Puts an item at the end. When out of memory it lets the item go.
     pub fn put(&mut self, item: T) -> Result<(), NoMemory>
         ensures put { OnOk result (self.new ≡ self.old ++ item ∷ []) }
         ensures refused { OnErr result (self.new ≡ self.old) }

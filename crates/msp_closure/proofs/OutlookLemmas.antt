@@ -1,5 +1,6 @@
 -- A walk forwards: what it meets is what the starts lead to.
-use Rattle.std.proofs.Common.{◌≡◌, ◌≢◌, ℕ, ◌+◌, ◌-◌, ◌<◌, ◌≤◌, ◌⊎◌, inl, inr, eqb, Bool, true, false, not, List, [], ◌∷◌, ◌++◌, length, get_or, set, All, Some, refl, sym, ap, subst, ◌∙◌, length-append, append_assoc, eqb-true, eq-eqb, arith}
+use Rattle.std.proofs.Common.{◌≡◌, ◌≢◌, ℕ, ◌+◌, ◌-◌, ◌<◌, ◌≤◌, ◌⊎◌, inl, inr, eqb, Bool, true, false, not, List, [], ◌∷◌, ◌++◌, length, get_or, set, All, Some, refl, sym, ap}
+use Rattle.std.proofs.Common.{subst, ◌∙◌, length-append, append_assoc, eqb-true, eq-eqb, arith}
 use Rattle.std.specs.Prelude.{Contains, cond}
 use Rattle.std.proofs.lemmas.Bool.{cases_eq}
 use Rattle.std.proofs.lemmas.List.{append-nil, get_or-set_same, get_or-set_other, get_or_append_left, get_or_default}
@@ -16,25 +17,25 @@ use Rattle.msp_closure.specs.declared.links.Link.{Link}
 use Rattle.msp_closure.specs.Entries.{IsLedTo}
 use Rattle.msp_closure.specs.Links.{link, IsStep, AddsLinks}
 use Rattle.msp_closure.specs.Outlook.{Steps, unset, Grows, IsFollowed, IsWalk, IsOutlook}
-use Rattle.msp_closure.specs.Tables.{is_marked}
+use Rattle.msp_closure.specs.Tables.{is_flagged}
 use Rattle.msp_closure.specs.Walk.{step_of}
 use Rattle.msp_closure.proofs.StepLemmas.{step_of-numbered, step_of-from}
 use Rattle.msp_closure.proofs.TableLemmas.{below_next}
 use Rattle.msp_closure.proofs.LedLemmas.{starts_are_led, led_on}
 
 -- one class
-pub grows_none : (P : Class → Type 0) (met : List Class) (marks : List Bool) → Grows P met marks met marks
-grows_none P met marks = record { behind = []; front = sym (append-nil met); sound = All-nil P; keeps = λ c h. h; fresh = λ c h. inl h; falls = omega arith }
+pub grows_none : (P : Class → Type 0) (met : List Class) (flags : List Bool) → Grows P met flags met flags
+grows_none P met flags = record { behind = []; front = sym (append-nil met); sound = All-nil P; keeps = λ c h. h; fresh = λ c h. inl h; falls = omega arith }
 
-module _ (class : Class) (marks : List Bool) (size : length marks ≡ CLASSES) (new : is_marked marks class ≡ false) where
-  inside : rank_of class < length marks
+module _ (class : Class) (flags : List Bool) (size : length flags ≡ CLASSES) (new : is_flagged flags class ≡ false) where
+  inside : rank_of class < length flags
   inside = omega (arith, size, rank_of-below class)
 
-  at_itself : is_marked (set marks (rank_of class) true) class ≡ true
-  at_itself = get_or-set_same marks (rank_of class) true false inside
+  at_itself : is_flagged (set flags (rank_of class) true) class ≡ true
+  at_itself = get_or-set_same flags (rank_of class) true false inside
 
-  elsewhere : (c : Class) → rank_of c ≢ rank_of class → is_marked (set marks (rank_of class) true) c ≡ is_marked marks c
-  elsewhere c n = get_or-set_other marks (rank_of class) (rank_of c) true false n
+  elsewhere : (c : Class) → rank_of c ≢ rank_of class → is_flagged (set flags (rank_of class) true) c ≡ is_flagged flags c
+  elsewhere c n = get_or-set_other flags (rank_of class) (rank_of c) true false n
 
   same_or_not : (c : Class) → (c ≡ class) ⊎ (rank_of c ≢ rank_of class)
   same_or_not c = by (eqb (rank_of c) (rank_of class)) refl
@@ -43,14 +44,15 @@ module _ (class : Class) (marks : List Bool) (size : length marks ≡ CLASSES) (
       by true e = inl (rank_of-injective c class (eqb-true (rank_of c) (rank_of class) e))
       by false e = inr (λ q. absurd (let yes = eq-eqb (rank_of c) (rank_of class) q in cc))
 
-  fewer : unset (set marks (rank_of class) true) + 1 ≤ unset marks
+  fewer : unset (set flags (rank_of class) true) + 1 ≤ unset flags
   fewer =
-      let change = sum_by-set (λ b. cond (not b) 1 0) marks (rank_of class) true false inside in
+      let change = sum_by-set (λ b. cond (not b) 1 0) flags (rank_of class) true false inside in
       let one = cond-yes 1 (ap not new) in
       omega (arith, change, one)
 
-  pub grows_one : (met met_after : List Class) (marks_after : List Bool) → marks_after ≡ set marks (rank_of class) true → met_after ≡ met ++ class ∷ [] → Grows (λ c. c ≡ class) met marks met_after marks_after
-  grows_one met met_after marks_after e f = subst (Grows (λ c. c ≡ class) met marks met_after) (sym e) (record {
+  pub grows_one : (met met_after : List Class) (flags_after : List Bool)
+      → flags_after ≡ set flags (rank_of class) true → met_after ≡ met ++ class ∷ [] → Grows (λ c. c ≡ class) met flags met_after flags_after
+  grows_one met met_after flags_after e f = subst (Grows (λ c. c ≡ class) met flags met_after) (sym e) (record {
     behind = class ∷ [];
     front = f;
     sound = All-cons (λ c. c ≡ class) class [] refl (All-nil (λ c. c ≡ class));
@@ -59,23 +61,24 @@ module _ (class : Class) (marks : List Bool) (size : length marks ≡ CLASSES) (
     falls = fewer;
   })
     where
-      keep : (c : Class) → is_marked marks c ≡ true → is_marked (set marks (rank_of class) true) c ≡ true
+      keep : (c : Class) → is_flagged flags c ≡ true → is_flagged (set flags (rank_of class) true) c ≡ true
       keep c h = by (same_or_not c)
         where
-          by : (c ≡ class) ⊎ (rank_of c ≢ rank_of class) → is_marked (set marks (rank_of class) true) c ≡ true
-          by (inl q) = subst (λ x. is_marked (set marks (rank_of class) true) x ≡ true) (sym q) at_itself
+          by : (c ≡ class) ⊎ (rank_of c ≢ rank_of class) → is_flagged (set flags (rank_of class) true) c ≡ true
+          by (inl q) = subst (λ x. is_flagged (set flags (rank_of class) true) x ≡ true) (sym q) at_itself
           by (inr n) = elsewhere c n ∙ h
 
-      fresh : (c : Class) → is_marked (set marks (rank_of class) true) c ≡ true → (is_marked marks c ≡ true) ⊎ Contains (class ∷ []) c
+      fresh : (c : Class) → is_flagged (set flags (rank_of class) true) c ≡ true → (is_flagged flags c ≡ true) ⊎ Contains (class ∷ []) c
       fresh c h = by (same_or_not c)
         where
-          by : (c ≡ class) ⊎ (rank_of c ≢ rank_of class) → (is_marked marks c ≡ true) ⊎ Contains (class ∷ []) c
+          by : (c ≡ class) ⊎ (rank_of c ≢ rank_of class) → (is_flagged flags c ≡ true) ⊎ Contains (class ∷ []) c
           by (inl q) = inr (0, omega arith, sym q)
           by (inr n) = inl (sym (elsewhere c n) ∙ h)
 
 -- one after another
-pub grows_on : (P : Class → Type 0) (met met_then met_after : List Class) (marks marks_then marks_after : List Bool) → Grows P met marks met_then marks_then → Grows P met_then marks_then met_after marks_after → Grows P met marks met_after marks_after
-grows_on P met met_then met_after marks marks_then marks_after g h = record {
+pub grows_on : (P : Class → Type 0) (met met_then met_after : List Class) (flags flags_then flags_after : List Bool)
+    → Grows P met flags met_then flags_then → Grows P met_then flags_then met_after flags_after → Grows P met flags met_after flags_after
+grows_on P met met_then met_after flags flags_then flags_after g h = record {
   behind = g.behind ++ h.behind;
   front = h.front ∙ ap (λ xs. xs ++ h.behind) g.front ∙ append_assoc met g.behind h.behind;
   sound = All-append P g.behind h.behind g.sound h.sound;
@@ -84,78 +87,78 @@ grows_on P met met_then met_after marks marks_then marks_after g h = record {
   falls = omega (arith, g.falls, h.falls, length-append g.behind h.behind);
 }
   where
-    fresh : (c : Class) → is_marked marks_after c ≡ true → (is_marked marks c ≡ true) ⊎ Contains (g.behind ++ h.behind) c
+    fresh : (c : Class) → is_flagged flags_after c ≡ true → (is_flagged flags c ≡ true) ⊎ Contains (g.behind ++ h.behind) c
     fresh c m = by (h.fresh c m)
       where
-        earlier : (is_marked marks c ≡ true) ⊎ Contains g.behind c → (is_marked marks c ≡ true) ⊎ Contains (g.behind ++ h.behind) c
+        earlier : (is_flagged flags c ≡ true) ⊎ Contains g.behind c → (is_flagged flags c ≡ true) ⊎ Contains (g.behind ++ h.behind) c
         earlier (inl a) = inl a
         earlier (inr b) = inr (Contains-append_left g.behind h.behind c b)
 
-        by : (is_marked marks_then c ≡ true) ⊎ Contains h.behind c → (is_marked marks c ≡ true) ⊎ Contains (g.behind ++ h.behind) c
+        by : (is_flagged flags_then c ≡ true) ⊎ Contains h.behind c → (is_flagged flags c ≡ true) ⊎ Contains (g.behind ++ h.behind) c
         by (inl a) = earlier (g.fresh c a)
         by (inr b) = inr (Contains-append_right g.behind h.behind c b)
 
 -- a further row is followed
-pub followed_more : (usable : ℕ → Bool) (a : Class) (n row : ℕ) (marks marks_after : List Bool) → row ≡ n
-    → ((c : Class) → is_marked marks c ≡ true → is_marked marks_after c ≡ true) → IsFollowed usable a n marks
-    → ((x : Class) → step_of usable row a ≡ Some x → is_marked marks_after x ≡ true) → IsFollowed usable a (n + 1) marks_after
-followed_more usable a n row marks marks_after at keeps old here k x l e = elim (cases_eq k n) as (λ _. is_marked marks_after x ≡ true) [
+pub followed_more : (usable : ℕ → Bool) (a : Class) (n row : ℕ) (flags flags_after : List Bool) → row ≡ n
+    → ((c : Class) → is_flagged flags c ≡ true → is_flagged flags_after c ≡ true) → IsFollowed usable a n flags
+    → ((x : Class) → step_of usable row a ≡ Some x → is_flagged flags_after x ≡ true) → IsFollowed usable a (n + 1) flags_after
+followed_more usable a n row flags flags_after at keeps old here k x l e = elim (cases_eq k n) as (λ _. is_flagged flags_after x ≡ true) [
   | inl same ↦ here x (ap (λ j. step_of usable j a) (at ∙ sym same) ∙ e)
   | inr apart ↦ keeps x (old k x (below_next k n l apart) e)
 ]
 
-pub followed_none : (usable : ℕ → Bool) (a : Class) (marks : List Bool) → IsFollowed usable a 1 marks
-followed_none usable a marks k x l e = absurd (omega (arith, (step_of-numbered usable k a x e).0))
+pub followed_none : (usable : ℕ → Bool) (a : Class) (flags : List Bool) → IsFollowed usable a 1 flags
+followed_none usable a flags k x l e = absurd (omega (arith, (step_of-numbered usable k a x e).0))
 
 -- the first of the starts are met, and nothing else
-pub record IsStart (starts met : List Class) (marks : List Bool) (links : List Link) (n : ℕ) : Type 0 where
-  pub first : (k : ℕ) (d : Class) → k < n → is_marked marks (get_or starts k d) ≡ true
+pub record IsStart (starts met : List Class) (flags : List Bool) (links : List Link) (n : ℕ) : Type 0 where
+  pub first : (k : ℕ) (d : Class) → k < n → is_flagged flags (get_or starts k d) ≡ true
   pub sound : All (Contains starts) met
-  pub known : (c : Class) → is_marked marks c ≡ true → Contains met c
+  pub known : (c : Class) → is_flagged flags c ≡ true → Contains met c
   pub none : links ≡ []
 
--- a class that is marked after the walk grew was met before or is met behind
-known_after : (P : Class → Type 0) (met met_after : List Class) (marks marks_after : List Bool) → ((c : Class) → is_marked marks c ≡ true → Contains met c)
-    → Grows P met marks met_after marks_after → (c : Class) → is_marked marks_after c ≡ true → Contains met_after c
-known_after P met met_after marks marks_after known g c m =
+-- a class that is flagged after the walk grew was met before or is met behind
+known_after : (P : Class → Type 0) (met met_after : List Class) (flags flags_after : List Bool) → ((c : Class) → is_flagged flags c ≡ true → Contains met c)
+    → Grows P met flags met_after flags_after → (c : Class) → is_flagged flags_after c ≡ true → Contains met_after c
+known_after P met met_after flags flags_after known g c m =
     let Q : List Class → Type 0 = λ xs. Contains xs c in
     subst Q (sym g.front) (elim (g.fresh c m) as (λ _. Contains (met ++ g.behind) c) [
       | inl a ↦ Contains-append_left met g.behind c (known c a)
       | inr b ↦ Contains-append_right met g.behind c b
     ])
 
-pub IsStart-start : (starts : List Class) (marks : List Bool) → ((c : Class) (d : Bool) → get_or marks (rank_of c) d ≡ false)
-    → IsStart starts [] marks [] 0
-IsStart-start starts marks none = record {
+pub IsStart-start : (starts : List Class) (flags : List Bool) → ((c : Class) (d : Bool) → get_or flags (rank_of c) d ≡ false)
+    → IsStart starts [] flags [] 0
+IsStart-start starts flags none = record {
   first = λ k d below. absurd (omega arith);
   sound = All-nil (Contains starts);
   known = λ c m. absurd (let no = none c false in cc);
   none = refl;
 }
 
-pub IsStart-next : (starts met met_after : List Class) (marks marks_after : List Bool) (links links_after : List Link) (n : ℕ) (x e : Class) → n < length starts
-    → get_or starts n e ≡ x → Grows (λ c. c ≡ x) met marks met_after marks_after → is_marked marks_after x ≡ true → links_after ≡ links
-    → IsStart starts met marks links n → IsStart starts met_after marks_after links_after (n + 1)
-IsStart-next starts met met_after marks marks_after links links_after n x e below at g here still s = record {
-  first = λ k d early. elim (cases_eq k n) as (λ _. is_marked marks_after (get_or starts k d) ≡ true) [
+pub IsStart-next : (starts met met_after : List Class) (flags flags_after : List Bool) (links links_after : List Link) (n : ℕ) (x e : Class) → n < length starts
+    → get_or starts n e ≡ x → Grows (λ c. c ≡ x) met flags met_after flags_after → is_flagged flags_after x ≡ true → links_after ≡ links
+    → IsStart starts met flags links n → IsStart starts met_after flags_after links_after (n + 1)
+IsStart-next starts met met_after flags flags_after links links_after n x e below at g here still s = record {
+  first = λ k d early. elim (cases_eq k n) as (λ _. is_flagged flags_after (get_or starts k d) ≡ true) [
     | inl same ↦
         let is : get_or starts k d ≡ x = ap (λ i. get_or starts i d) same ∙ get_or_default starts n d e below ∙ at in
-        ap (is_marked marks_after) is ∙ here
+        ap (is_flagged flags_after) is ∙ here
     | inr apart ↦ g.keeps (get_or starts k d) (s.first k d (below_next k n early apart))
   ];
   sound =
       let P : List Class → Type 0 = All (Contains starts) in
       subst P (sym g.front) (All-append (Contains starts) met g.behind s.sound
       (λ k d m. (n, below, get_or_default starts n (get_or g.behind k d) e below ∙ at ∙ sym (g.sound k d m))));
-  known = known_after (λ c. c ≡ x) met met_after marks marks_after s.known g;
+  known = known_after (λ c. c ≡ x) met met_after flags flags_after s.known g;
   none = still ∙ s.none;
 }
 
 -- the starts are met, and none is followed yet
-pub IsWalk-start : (usable : ℕ → Bool) (starts met : List Class) (marks : List Bool) (links : List Link) (n : ℕ) → length starts ≤ n
-    → IsStart starts met marks links n → IsWalk usable starts met marks links 0
-IsWalk-start usable starts met marks links n most s = record {
-  started = λ b has. ap (is_marked marks) (sym has.2) ∙ s.first has.0 b (omega (arith, has.1));
+pub IsWalk-start : (usable : ℕ → Bool) (starts met : List Class) (flags : List Bool) (links : List Link) (n : ℕ) → length starts ≤ n
+    → IsStart starts met flags links n → IsWalk usable starts met flags links 0
+IsWalk-start usable starts met flags links n most s = record {
+  started = λ b has. ap (is_flagged flags) (sym has.2) ∙ s.first has.0 b (omega (arith, has.1));
   sound = λ k d below. starts_are_led usable starts (get_or met k d) (s.sound k d below);
   known = s.known;
   closed = λ j d x below. absurd (omega arith);
@@ -164,9 +167,9 @@ IsWalk-start usable starts met marks links n most s = record {
 }
 
 -- one more class is followed
-module _ (usable : ℕ → Bool) (starts met met_after : List Class) (marks marks_after : List Bool) (links links_after : List Link) (done : ℕ) (class : Class)
-    (inside : done < length met) (at : class ≡ get_or met done class) (w : IsWalk usable starts met marks links done)
-    (g : Grows (Steps usable class) met marks met_after marks_after) (f : IsFollowed usable class (ROWS + 1) marks_after)
+module _ (usable : ℕ → Bool) (starts met met_after : List Class) (flags flags_after : List Bool) (links links_after : List Link) (done : ℕ) (class : Class)
+    (inside : done < length met) (at : class ≡ get_or met done class) (w : IsWalk usable starts met flags links done)
+    (g : Grows (Steps usable class) met flags met_after flags_after) (f : IsFollowed usable class (ROWS + 1) flags_after)
     (a : AddsLinks usable links links_after class (ROWS + 1)) where
   here : IsLedTo usable starts class
   here = let P : Class → Type 0 = IsLedTo usable starts in subst P (sym at) (w.sound done class inside)
@@ -188,15 +191,15 @@ module _ (usable : ℕ → Bool) (starts met met_after : List Class) (marks mark
         subst P (sym (read j d (omega (arith, inside, early)))) (old j d early)
   ]
 
-  pub IsWalk-next : IsWalk usable starts met_after marks_after links_after (done + 1)
+  pub IsWalk-next : IsWalk usable starts met_after flags_after links_after (done + 1)
   IsWalk-next = record {
     started = λ b has. g.keeps b (w.started b has);
     sound =
         let P : List Class → Type 0 = All (IsLedTo usable starts) in
         subst P (sym g.front) (All-append (IsLedTo usable starts) met g.behind w.sound
         (λ k d below. let s = g.sound k d below in led_on usable starts class (get_or g.behind k d) s.0 here s.1));
-    known = known_after (Steps usable class) met met_after marks marks_after w.known g;
-    closed = λ j d x below s. followed_now (λ c. Steps usable c x → is_marked marks_after x ≡ true)
+    known = known_after (Steps usable class) met met_after flags flags_after w.known g;
+    closed = λ j d x below s. followed_now (λ c. Steps usable c x → is_flagged flags_after x ≡ true)
         (λ t. f t.0 x (omega (arith, (step_of-numbered usable t.0 class x t.1).1)) t.1)
         (λ i e early t. g.keeps x (w.closed i e x early t)) j d below s;
     steps = λ l has. elim (a.sound l has) as (λ _. IsStep usable l) [ inl old ↦ w.steps l old | inr new ↦ new ];
@@ -205,39 +208,39 @@ module _ (usable : ℕ → Bool) (starts met met_after : List Class) (marks mark
         (λ i e early t. a.keeps (link (get_or met i e) x) (w.linked i e x early t)) j d below s;
   }
 
--- what is left to do falls: a class that is followed, or one that is marked
-pub walk_smaller : (P : Class → Type 0) (met met_after : List Class) (marks marks_after : List Bool) (done : ℕ) → done < length met → Grows P met marks met_after marks_after
-    → (unset marks_after + unset marks_after + (length met_after - (done + 1)) < unset marks + unset marks + (length met - done)) × (done + 1 ≤ length met_after)
-walk_smaller P met met_after marks marks_after done l g =
+-- what is left to do falls: a class that is followed, or one that is flagged
+pub walk_smaller : (P : Class → Type 0) (met met_after : List Class) (flags flags_after : List Bool) (done : ℕ) → done < length met → Grows P met flags met_after flags_after
+    → (unset flags_after + unset flags_after + (length met_after - (done + 1)) < unset flags + unset flags + (length met - done)) × (done + 1 ≤ length met_after)
+walk_smaller P met met_after flags flags_after done l g =
     let more : length met_after ≡ length met + length g.behind = ap length g.front ∙ length-append met g.behind in
     (omega (arith, l, g.falls, more), omega (arith, l, more))
 
 -- all classes that are met are followed
-module _ (usable : ℕ → Bool) (starts met : List Class) (marks : List Bool) (links : List Link) (done : ℕ) (most : length met ≤ done)
-    (w : IsWalk usable starts met marks links done) where
-  met_is_led : (c : Class) → is_marked marks c ≡ true → IsLedTo usable starts c
+module _ (usable : ℕ → Bool) (starts met : List Class) (flags : List Bool) (links : List Link) (done : ℕ) (most : length met ≤ done)
+    (w : IsWalk usable starts met flags links done) where
+  met_is_led : (c : Class) → is_flagged flags c ≡ true → IsLedTo usable starts c
   met_is_led c m = let has = w.known c m in let P : Class → Type 0 = IsLedTo usable starts in subst P has.2 (w.sound has.0 c has.1)
 
-  marked_on : (a x : Class) → is_marked marks a ≡ true → Steps usable a x → is_marked marks x ≡ true
-  marked_on a x m s =
+  flagged_on : (a x : Class) → is_flagged flags a ≡ true → Steps usable a x → is_flagged flags x ≡ true
+  flagged_on a x m s =
       let has = w.known a m in
       let P : Class → Type 0 = λ b. Steps usable b x in
       w.closed has.0 a x (omega (arith, most, has.1)) (subst P (sym has.2) s)
 
-  marked_along : (ks : List ℕ) (a b : Class) → Leads usable a ks b → is_marked marks a ≡ true → is_marked marks b ≡ true
-  marked_along [] a b stay m = m
-  marked_along (k ∷ ks) a b (step u goes rest) m = marked_along ks _ b rest (marked_on a _ m (k, step_of-from usable k a _ u goes))
+  flagged_along : (ks : List ℕ) (a b : Class) → Leads usable a ks b → is_flagged flags a ≡ true → is_flagged flags b ≡ true
+  flagged_along [] a b stay m = m
+  flagged_along (k ∷ ks) a b (step u goes rest) m = flagged_along ks _ b rest (flagged_on a _ m (k, step_of-from usable k a _ u goes))
 
-  led_is_marked : (c : Class) → IsLedTo usable starts c → is_marked marks c ≡ true
-  led_is_marked c led = marked_along led.2.0 led.0 c led.2.1 (w.started led.0 led.1)
+  led_is_flagged : (c : Class) → IsLedTo usable starts c → is_flagged flags c ≡ true
+  led_is_flagged c led = flagged_along led.2.0 led.0 c led.2.1 (w.started led.0 led.1)
 
-  pub IsOutlook-walked : IsOutlook usable starts marks links
+  pub IsOutlook-walked : IsOutlook usable starts flags links
   IsOutlook-walked = record {
-    marked = λ c. (met_is_led c, led_is_marked c);
+    flagged = λ c. (met_is_led c, led_is_flagged c);
     are_links = record {
       sound = w.steps;
       all = λ k a x led steps.
-          let has = w.known a (led_is_marked a led) in
+          let has = w.known a (led_is_flagged a led) in
           let P : Class → Type 0 = λ b. Steps usable b x → Contains links (link b x) in
           subst P has.2 (w.linked has.0 a x (omega (arith, most, has.1))) (k, steps);
     };

@@ -6,11 +6,11 @@ use Rattle.msp_class.specs.declared.ranks.TheConstants.{CLASSES}
 use Rattle.msp_class.specs.Rank.{rank_of}
 use Rattle.msp_class.proofs.RankLemmas.{rank_of-below, rank_of-injective}
 use Rattle.msp_table.specs.Chains.{Leads, stay, step, Reaches}
-use Rattle.msp_closure.specs.Tables.{is_marked}
+use Rattle.msp_closure.specs.Tables.{is_flagged}
 use Rattle.msp_closure.specs.Walk.{step_of}
-use Rattle.msp_closure.specs.Relation.{relates, IsReach, Rises, Joins, Includes, IsSound, Grows, GrowsAt, IsClosedBut, IncludesMarked}
+use Rattle.msp_closure.specs.Relation.{relates, IsReach, Rises, Joins, Includes, IsSound, Grows, GrowsAt, IsClosedBut, IncludesFlagged}
 use Rattle.msp_closure.proofs.StepLemmas.{step_of-parts, step_of-from}
-use Rattle.msp_closure.proofs.TableLemmas.{is_marked-set_same, is_marked-set_other}
+use Rattle.msp_closure.proofs.TableLemmas.{is_flagged-set_same, is_flagged-set_other}
 use Rattle.msp_closure.proofs.RelationLemmas.{Rises-none, Rises-more, Rises-same}
 
 pub Grows-none : (usable : ℕ → Bool) (words : List ℕ) → Grows usable words words
@@ -70,9 +70,9 @@ Includes-join before after a c j = elim (cases_eq (rank_of c) (rank_of a)) as (�
 some_one : {x y : Class} → Some x ≡ Some y → x ≡ y
 some_one e = cc
 
-pub IncludesMarked-join : (usable : ℕ → Bool) (marks : List Bool) (before after : List ℕ) (a c : Class) (k : ℕ) → step_of usable k a ≡ Some c
-    → Joins before after a c → IncludesMarked usable marks after a k
-IncludesMarked-join usable marks before after a c k steps j x steps_too marked =
+pub IncludesFlagged-join : (usable : ℕ → Bool) (flags : List Bool) (before after : List ℕ) (a c : Class) (k : ℕ) → step_of usable k a ≡ Some c
+    → Joins before after a c → IncludesFlagged usable flags after a k
+IncludesFlagged-join usable flags before after a c k steps j x steps_too flagged =
     let P : Class → Type 0 = Includes after a in
     subst P (some_one (sym steps ∙ steps_too)) (Includes-join before after a c j)
 
@@ -89,29 +89,29 @@ Includes-kept_own usable before after a c g was = elim (cases_eq (rank_of c) (ra
 
 -- the rows of the table before a number have been followed from a class
 abbrev pub IncludesBefore : (ℕ → Bool) → List Bool → List ℕ → Class → ℕ → Type 0
-IncludesBefore usable marks words a n = (k : ℕ) → k < n → IncludesMarked usable marks words a k
+IncludesBefore usable flags words a n = (k : ℕ) → k < n → IncludesFlagged usable flags words a k
 
-pub IncludesBefore-next : (usable : ℕ → Bool) (marks : List Bool) (before after : List ℕ) (a : Class) (n : ℕ) → GrowsAt usable before after a
-    → IncludesMarked usable marks after a n → IncludesBefore usable marks before a n → IncludesBefore usable marks after a (n + 1)
-IncludesBefore-next usable marks before after a n g here early k below = elim (cases_eq k n) as (λ _. IncludesMarked usable marks after a k) [
-  | inl same ↦ let P : ℕ → Type 0 = IncludesMarked usable marks after a in subst P (sym same) here
-  | inr apart ↦ λ c steps marked. Includes-kept_own usable before after a c g (early k (omega arith) c steps marked)
+pub IncludesBefore-next : (usable : ℕ → Bool) (flags : List Bool) (before after : List ℕ) (a : Class) (n : ℕ) → GrowsAt usable before after a
+    → IncludesFlagged usable flags after a n → IncludesBefore usable flags before a n → IncludesBefore usable flags after a (n + 1)
+IncludesBefore-next usable flags before after a n g here early k below = elim (cases_eq k n) as (λ _. IncludesFlagged usable flags after a k) [
+  | inl same ↦ let P : ℕ → Type 0 = IncludesFlagged usable flags after a in subst P (sym same) here
+  | inr apart ↦ λ c steps flagged. Includes-kept_own usable before after a c g (early k (omega arith) c steps flagged)
 ]
 
 -- a pass that has visited the classes of the highest ranks
 pub record Passed (usable : ℕ → Bool) (before words : List ℕ) (last fresh : List Bool) (changed : Bool) (n : ℕ) : Type 0 where
   pub grows : Grows usable before words
   pub rises : Rises before words changed
-  pub quiet : changed ≡ false → (c : Class) → is_marked fresh c ≡ false
-  pub closed : (a : Class) (k : ℕ) (c : Class) → step_of usable k a ≡ Some c → is_marked fresh c ≡ false
-      → (is_marked last c ≡ false) ⊎ (CLASSES ≤ rank_of a + n) → Includes words a c
+  pub quiet : changed ≡ false → (c : Class) → is_flagged fresh c ≡ false
+  pub closed : (a : Class) (k : ℕ) (c : Class) → step_of usable k a ≡ Some c → is_flagged fresh c ≡ false
+      → (is_flagged last c ≡ false) ⊎ (CLASSES ≤ rank_of a + n) → Includes words a c
 
-pub Passed-start : (usable : ℕ → Bool) (words : List ℕ) (last fresh : List Bool) → ((c : Class) → is_marked fresh c ≡ false)
+pub Passed-start : (usable : ℕ → Bool) (words : List ℕ) (last fresh : List Bool) → ((c : Class) → is_flagged fresh c ≡ false)
     → ((a : Class) → IsClosedBut usable last words a) → Passed usable words words last fresh false 0
-Passed-start usable words last fresh unmarked closed = record {
+Passed-start usable words last fresh unflagged closed = record {
   grows = Grows-none usable words;
   rises = Rises-none words;
-  quiet = λ e. unmarked;
+  quiet = λ e. unflagged;
   closed = λ a k c steps not_fresh done. elim done as (λ _. Includes words a c) [
     | inl old ↦ closed a k c steps old
     | inr high ↦ absurd (omega (arith, rank_of-below a))
@@ -120,20 +120,20 @@ Passed-start usable words last fresh unmarked closed = record {
 
 -- the next class, given that what other classes include is kept
 closed_next : (usable : ℕ → Bool) (before after : List ℕ) (last fresh : List Bool) (n : ℕ) (v : Class) → rank_of v + n + 1 ≡ CLASSES
-    → ((a : Class) (k : ℕ) (c : Class) → step_of usable k a ≡ Some c → is_marked fresh c ≡ false
-    → (is_marked last c ≡ false) ⊎ (CLASSES ≤ rank_of a + n) → Includes before a c)
-    → ((k : ℕ) → IncludesMarked usable last after v k)
-    → (a : Class) (k : ℕ) (c : Class) → step_of usable k a ≡ Some c → is_marked fresh c ≡ false → (Includes before a c → Includes after a c)
-    → (is_marked last c ≡ false) ⊎ (CLASSES ≤ rank_of a + (n + 1)) → Includes after a c
+    → ((a : Class) (k : ℕ) (c : Class) → step_of usable k a ≡ Some c → is_flagged fresh c ≡ false
+    → (is_flagged last c ≡ false) ⊎ (CLASSES ≤ rank_of a + n) → Includes before a c)
+    → ((k : ℕ) → IncludesFlagged usable last after v k)
+    → (a : Class) (k : ℕ) (c : Class) → step_of usable k a ≡ Some c → is_flagged fresh c ≡ false → (Includes before a c → Includes after a c)
+    → (is_flagged last c ≡ false) ⊎ (CLASSES ≤ rank_of a + (n + 1)) → Includes after a c
 closed_next usable before after last fresh n v at closed here a k c steps not_fresh kept done =
-    elim (cases_Bool (is_marked last c)) as (λ _. Includes after a c) [
+    elim (cases_Bool (is_flagged last c)) as (λ _. Includes after a c) [
       | inr old ↦ kept (closed a k c steps not_fresh (inl old))
-      | inl marked ↦ elim (cases_eq (rank_of a) (rank_of v)) as (λ _. Includes after a c) [
+      | inl flagged ↦ elim (cases_eq (rank_of a) (rank_of v)) as (λ _. Includes after a c) [
         | inl same ↦
             let P : Class → Type 0 = λ x. step_of usable k x ≡ Some c → Includes after x c in
-            subst P (rank_of-injective v a (sym same)) (λ s. here k c s marked) steps
+            subst P (rank_of-injective v a (sym same)) (λ s. here k c s flagged) steps
         | inr apart ↦ elim done as (λ _. Includes after a c) [
-          | inl old ↦ absurd (let both : true ≡ false = sym marked ∙ old in cc)
+          | inl old ↦ absurd (let both : true ≡ false = sym flagged ∙ old in cc)
           | inr high ↦ kept (closed a k c steps not_fresh (inr (omega arith)))
         ]
       ]
@@ -141,7 +141,7 @@ closed_next usable before after last fresh n v at closed here a k c steps not_fr
 
 pub Passed-more : (usable : ℕ → Bool) (before words after : List ℕ) (last fresh : List Bool) (changed : Bool) (n : ℕ) (v : Class)
     → rank_of v + n + 1 ≡ CLASSES → length fresh ≡ CLASSES → GrowsAt usable words after v → Rises words after true
-    → ((k : ℕ) → IncludesMarked usable last after v k)
+    → ((k : ℕ) → IncludesFlagged usable last after v k)
     → Passed usable before words last fresh changed n → Passed usable before after last (set fresh (rank_of v) true) true (n + 1)
 Passed-more usable before words after last fresh changed n v at len g r here p = record {
   grows = Grows-then p.grows g.grows;
@@ -149,16 +149,16 @@ Passed-more usable before words after last fresh changed n v at len g r here p =
   quiet = λ e. cc;
   closed = λ a k c steps not_fresh done.
       let apart : rank_of c ≢ rank_of v = λ e.
-      let now : is_marked (set fresh (rank_of v) true) c ≡ true = ap (is_marked (set fresh (rank_of v) true)) (rank_of-injective c v e)
-      ∙ is_marked-set_same fresh v true len in
+      let now : is_flagged (set fresh (rank_of v) true) c ≡ true = ap (is_flagged (set fresh (rank_of v) true)) (rank_of-injective c v e)
+      ∙ is_flagged-set_same fresh v true len in
       let both : true ≡ false = sym now ∙ not_fresh in
       cc in
-      closed_next usable words after last fresh n v at p.closed here a k c steps (sym (is_marked-set_other fresh v c true apart) ∙ not_fresh)
+      closed_next usable words after last fresh n v at p.closed here a k c steps (sym (is_flagged-set_other fresh v c true apart) ∙ not_fresh)
       (Includes-kept usable words after v a c g apart) done;
 }
 
 pub Passed-same : (usable : ℕ → Bool) (before words after : List ℕ) (last fresh : List Bool) (changed : Bool) (n : ℕ) (v : Class)
-    → rank_of v + n + 1 ≡ CLASSES → GrowsAt usable words after v → Rises words after false → ((k : ℕ) → IncludesMarked usable last after v k)
+    → rank_of v + n + 1 ≡ CLASSES → GrowsAt usable words after v → Rises words after false → ((k : ℕ) → IncludesFlagged usable last after v k)
     → Passed usable before words last fresh changed n → Passed usable before after last fresh changed (n + 1)
 Passed-same usable before words after last fresh changed n v at g r here p = record {
   grows = Grows-then p.grows g.grows;
@@ -178,29 +178,29 @@ pub record IsPassed (usable : ℕ → Bool) (words : List ℕ) (last fresh : Lis
   pub sound : IsSound usable words
   pub itself : (a : Class) → relates words a a ≡ true
   pub closed : (a : Class) → IsClosedBut usable last words a
-  pub unmarked : (c : Class) → is_marked fresh c ≡ false
+  pub unflagged : (c : Class) → is_flagged fresh c ≡ false
 
 pub IsSound-alone : (usable : ℕ → Bool) (words : List ℕ) → ((a b : Class) → relates words a b ≡ true → a ≡ b) → IsSound usable words
 IsSound-alone usable words alone a b now = let P : Class → Type 0 = Reaches usable a in subst P (alone a b now) ([], stay)
 
 pub IsPassed-start : (usable : ℕ → Bool) (words : List ℕ) (last fresh : List Bool) → IsSound usable words
-    → ((a : Class) → relates words a a ≡ true) → ((c : Class) → is_marked last c ≡ true) → ((c : Class) → is_marked fresh c ≡ false)
+    → ((a : Class) → relates words a a ≡ true) → ((c : Class) → is_flagged last c ≡ true) → ((c : Class) → is_flagged fresh c ≡ false)
     → IsPassed usable words last fresh
 IsPassed-start usable words last fresh sound itself all none = record {
   sound = sound;
   itself = itself;
   closed = λ a k c steps old. absurd (let both : true ≡ false = sym (all c) ∙ old in cc);
-  unmarked = none;
+  unflagged = none;
 }
 
 pub IsPassed-next : (usable : ℕ → Bool) (before after : List ℕ) (last unused fresh none : List Bool) → IsPassed usable before last unused
-    → Grows usable before after → ((a : Class) → IsClosedBut usable fresh after a) → ((c : Class) → is_marked none c ≡ false)
+    → Grows usable before after → ((a : Class) → IsClosedBut usable fresh after a) → ((c : Class) → is_flagged none c ≡ false)
     → IsPassed usable after fresh none
-IsPassed-next usable before after last unused fresh none p g closed unmarked = record {
+IsPassed-next usable before after last unused fresh none p g closed unflagged = record {
   sound = g.sound p.sound;
   itself = λ a. g.keeps a a (p.itself a);
   closed = closed;
-  unmarked = unmarked;
+  unflagged = unflagged;
 }
 
 related_along : (usable : ℕ → Bool) (words : List ℕ) (a b : Class) (ks : List ℕ) → ((x : Class) → relates words x x ≡ true)
@@ -211,10 +211,10 @@ related_along usable words a b (k ∷ ks) itself closed (step {c = x} u goes lea
 
 -- a quiet pass ends the search
 pub IsReach-closed : (usable : ℕ → Bool) (before after : List ℕ) (last fresh : List Bool) → ((a : Class) → relates before a a ≡ true)
-    → IsSound usable before → Grows usable before after → ((a : Class) → IsClosedBut usable fresh after a) → ((c : Class) → is_marked fresh c ≡ false)
+    → IsSound usable before → Grows usable before after → ((a : Class) → IsClosedBut usable fresh after a) → ((c : Class) → is_flagged fresh c ≡ false)
     → IsReach usable after
-IsReach-closed usable before after last fresh itself sound g closed unmarked = record {
+IsReach-closed usable before after last fresh itself sound g closed unflagged = record {
   sound = g.sound sound;
   all = λ a b reaches.
-      related_along usable after a b reaches.0 (λ x. g.keeps x x (itself x)) (λ x k c steps. closed x k c steps (unmarked c)) reaches.1;
+      related_along usable after a b reaches.0 (λ x. g.keeps x x (itself x)) (λ x k c steps. closed x k c steps (unflagged c)) reaches.1;
 }

@@ -5,7 +5,7 @@ use Rattle.msp_class.specs.declared.class.Class.{Class}
 use Rattle.msp_class.specs.declared.ranks.TheConstants.{CLASSES}
 use Rattle.msp_class.specs.Rank.{rank_of}
 use Rattle.msp_class.proofs.RankLemmas.{rank_of-below, rank_of-injective}
-use Rattle.msp_closure.specs.Tables.{value_of, is_marked}
+use Rattle.msp_closure.specs.Tables.{value_of, is_flagged}
 
 -- a class written to has the value
 pub value_of-set_same : (t : List ℕ) (c : Class) (v : ℕ) → length t ≡ CLASSES → value_of (set t (rank_of c) v) c ≡ v
@@ -14,11 +14,11 @@ value_of-set_same t c v len = let below : rank_of c < length t = omega (arith, r
 pub value_of-set_other : (t : List ℕ) (c x : Class) (v : ℕ) → rank_of x ≢ rank_of c → value_of (set t (rank_of c) v) x ≡ value_of t x
 value_of-set_other t c x v apart = get_or-set_other t (rank_of c) (rank_of x) v 0 apart
 
-pub is_marked-set_same : (t : List Bool) (c : Class) (v : Bool) → length t ≡ CLASSES → is_marked (set t (rank_of c) v) c ≡ v
-is_marked-set_same t c v len = let below : rank_of c < length t = omega (arith, rank_of-below c) in get_or-set_same t (rank_of c) v false below
+pub is_flagged-set_same : (t : List Bool) (c : Class) (v : Bool) → length t ≡ CLASSES → is_flagged (set t (rank_of c) v) c ≡ v
+is_flagged-set_same t c v len = let below : rank_of c < length t = omega (arith, rank_of-below c) in get_or-set_same t (rank_of c) v false below
 
-pub is_marked-set_other : (t : List Bool) (c x : Class) (v : Bool) → rank_of x ≢ rank_of c → is_marked (set t (rank_of c) v) x ≡ is_marked t x
-is_marked-set_other t c x v apart = get_or-set_other t (rank_of c) (rank_of x) v false apart
+pub is_flagged-set_other : (t : List Bool) (c x : Class) (v : Bool) → rank_of x ≢ rank_of c → is_flagged (set t (rank_of c) v) x ≡ is_flagged t x
+is_flagged-set_other t c x v apart = get_or-set_other t (rank_of c) (rank_of x) v false apart
 
 -- a class whose rank is not the one before is not done before
 pub below_next : (n m : ℕ) → n < m + 1 → n ≢ m → n < m

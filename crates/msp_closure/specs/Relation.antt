@@ -5,7 +5,7 @@ use Rattle.msp_class.specs.declared.class.Class.{Class}
 use Rattle.msp_class.specs.Rank.{rank_of}
 use Rattle.msp_table.specs.Chains.{Reaches}
 use Rattle.msp_closure.specs.declared.relation.TheConstants.{WIDTH}
-use Rattle.msp_closure.specs.Tables.{is_marked}
+use Rattle.msp_closure.specs.Tables.{is_flagged}
 use Rattle.msp_closure.specs.Walk.{step_of}
 
 -- whether the words relate the first class to the second: the row of the first class has the bit of the second
@@ -51,15 +51,15 @@ pub record Grows (usable : ℕ → Bool) (before after : List ℕ) : Type 0 wher
   pub keeps : (a b : Class) → relates before a b ≡ true → relates after a b ≡ true
   pub sound : IsSound usable before → IsSound usable after
 
--- the class is related to all to which those are that a usable row leads to, but for classes with a mark
+-- the class is related to all to which those are that a usable row leads to, but for classes with a flag
 abbrev pub IsClosedBut : (ℕ → Bool) → List Bool → List ℕ → Class → Type 0
-IsClosedBut usable marks words a = (k : ℕ) (c : Class) → step_of usable k a ≡ Some c → is_marked marks c ≡ false → Includes words a c
+IsClosedBut usable flags words a = (k : ℕ) (c : Class) → step_of usable k a ≡ Some c → is_flagged flags c ≡ false → Includes words a c
 
 -- the rows are joined along rows of the table, and only the row of one class changes
 pub record GrowsAt (usable : ℕ → Bool) (before after : List ℕ) (a : Class) : Type 0 where
   pub grows : Grows usable before after
   pub others : (x b : Class) → rank_of x ≢ rank_of a → relates after x b ≡ relates before x b
 
--- where a row of the table leads from the class to a marked one, the class is related to all to which that is
-abbrev pub IncludesMarked : (ℕ → Bool) → List Bool → List ℕ → Class → ℕ → Type 0
-IncludesMarked usable marks words a k = (c : Class) → step_of usable k a ≡ Some c → is_marked marks c ≡ true → Includes words a c
+-- where a row of the table leads from the class to a flagged one, the class is related to all to which that is
+abbrev pub IncludesFlagged : (ℕ → Bool) → List Bool → List ℕ → Class → ℕ → Type 0
+IncludesFlagged usable flags words a k = (c : Class) → step_of usable k a ≡ Some c → is_flagged flags c ≡ true → Includes words a c

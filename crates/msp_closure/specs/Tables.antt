@@ -20,9 +20,9 @@ allows KeepsSize = keeps_size
 abbrev pub value_of : List ℕ → Class → ℕ
 value_of table c = slice_index table (rank_of c)
 
--- a mark kept for each class, by rank
-abbrev pub is_marked : List Bool → Class → Bool
-is_marked table c = slice_index_or table (rank_of c) false
+-- a flag kept for each class, by rank
+abbrev pub is_flagged : List Bool → Class → Bool
+is_flagged table c = slice_index_or table (rank_of c) false
 
 -- the distance to the wanted classes of each class to which chains lead from one of the starts, and FAR where no chain leads to a wanted one
 pub record AreDistances (usable : ℕ → Bool) (starts wanted : List Class) (table : List ℕ) : Type 0 where

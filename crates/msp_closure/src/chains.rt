@@ -95,7 +95,7 @@ pub(crate) fn way_within(
     outlook: &Outlook,
     wanted: &[Class],
 ) -> Result<Option<Chain>, NoMemory>
-    requires { IsOutlook (allows outlook.now.rows) outlook.now.starts.items outlook.now.marks outlook.now.links.items }
+    requires { IsOutlook (allows outlook.now.rows) outlook.now.starts.items outlook.now.flags outlook.now.links.items }
     ensures way { IfOk result (λ found. IsWay (allows outlook.now.rows) wanted.now outlook.now.starts.items found) }
     ensures few { IfOk result (λ found. IfSome found (λ chain. length chain.rows ≤ CLASSES)) }
 {

@@ -22,7 +22,7 @@ pub(crate) fn distances(
     outlook: &Outlook,
     wanted: &[Class],
 ) -> Result<ClassTable<u16>, NoMemory>
-    requires { IsOutlook (allows outlook.now.rows) outlook.now.starts.items outlook.now.marks outlook.now.links.items }
+    requires { IsOutlook (allows outlook.now.rows) outlook.now.starts.items outlook.now.flags outlook.now.links.items }
     ensures { IfOk result (λ table. AreDistances (allows outlook.now.rows) outlook.now.starts.items wanted.now table) }
 {
     let mut table = wanted_at_zero(alloc, wanted)?;

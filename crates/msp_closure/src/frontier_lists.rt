@@ -2,7 +2,7 @@
 ghost use Rattle.std.specs.Prelude.{◌≡◌, ◌↔◌, ◌<◌, List, true, false, IfOk, IsTrue};
 ghost use Rattle.msp_class.specs.declared.class.Class.{Class};
 ghost use Rattle.msp_table.specs.Chains.{every_row, Reaches};
-ghost use Rattle.msp_closure.specs.Tables.{is_marked};
+ghost use Rattle.msp_closure.specs.Tables.{is_flagged};
 ghost use Rattle.msp_closure.specs.Frontier.{IsMaximal, IsMinimal, ListsInOrder, mark_at, says_easy, says_hard, says_open, HasMark, IsFrontier};
 ghost use Rattle.msp_closure.specs.Entries.{AreLabels};
 ghost use Rattle.msp_closure.specs.declared.entry.Entry.{Entry};
@@ -87,13 +87,13 @@ fn minimal(
     in_order(alloc, &left)
 }
 
-/// Marks the classes of a standing.
+/// Flags the classes of a standing.
 fn with_standing(
     alloc: Global,
     labels: &Labels,
     standing: Standing,
 ) -> Result<ClassTable<bool>, NoMemory>
-    ensures { IfOk result (λ table. (c : Class) → is_marked table c ≡ has_standing standing (mark_at labels.now c)) }
+    ensures { IfOk result (λ table. (c : Class) → is_flagged table c ≡ has_standing standing (mark_at labels.now c)) }
 {
     let mut table = ClassTable::new(alloc, false)?;
     for n in 0..CLASSES {
@@ -115,10 +115,10 @@ fn has_standing(standing: Standing, mark: Mark) -> bool
     }
 }
 
-/// Takes the mark from each class that is not maximal among the marked ones.
+/// Takes the flag from each class that is not maximal among the flagged ones.
 fn keep_maximal(bits: &ReachBits, set: &ClassTable<bool>, left: &mut ClassTable<bool>)
-    requires { (c : Class) → is_marked left.old c ≡ is_marked set.now c }
-    ensures { (c : Class) → (is_marked left.new c ≡ true) ↔ IsMaximal (λ b. is_marked set.now b ≡ true) c }
+    requires { (c : Class) → is_flagged left.old c ≡ is_flagged set.now c }
+    ensures { (c : Class) → (is_flagged left.new c ≡ true) ↔ IsMaximal (λ b. is_flagged set.now b ≡ true) c }
 {
     for n in 0..CLASSES {
         let c = class_at(n);
@@ -128,10 +128,10 @@ fn keep_maximal(bits: &ReachBits, set: &ClassTable<bool>, left: &mut ClassTable<
     }
 }
 
-/// Takes the mark from each class that is not minimal among the marked ones.
+/// Takes the flag from each class that is not minimal among the flagged ones.
 fn keep_minimal(bits: &ReachBits, set: &ClassTable<bool>, left: &mut ClassTable<bool>)
-    requires { (c : Class) → is_marked left.old c ≡ is_marked set.now c }
-    ensures { (c : Class) → (is_marked left.new c ≡ true) ↔ IsMinimal (λ b. is_marked set.now b ≡ true) c }
+    requires { (c : Class) → is_flagged left.old c ≡ is_flagged set.now c }
+    ensures { (c : Class) → (is_flagged left.new c ≡ true) ↔ IsMinimal (λ b. is_flagged set.now b ≡ true) c }
 {
     for n in 0..CLASSES {
         let c = class_at(n);
@@ -141,17 +141,17 @@ fn keep_minimal(bits: &ReachBits, set: &ClassTable<bool>, left: &mut ClassTable<
     }
 }
 
-/// Whether the class is marked and leads to a marked one that does not lead back to it.
+/// Whether the class is flagged and leads to a flagged one that does not lead back to it.
 fn is_beaten(bits: &ReachBits, set: &ClassTable<bool>, c: Class) -> bool
-    ensures beaten { result ≡ true → ¬ IsMaximal (λ b. is_marked set.now b ≡ true) c }
-    ensures not_beaten { result ≡ false → is_marked set.now c ≡ true → IsMaximal (λ b. is_marked set.now b ≡ true) c }
+    ensures beaten { result ≡ true → ¬ IsMaximal (λ b. is_flagged set.now b ≡ true) c }
+    ensures not_beaten { result ≡ false → is_flagged set.now c ≡ true → IsMaximal (λ b. is_flagged set.now b ≡ true) c }
 {
     set.at(c) && !is_led_back(bits, set, c)
 }
 
-/// Whether each marked class to which the class leads leads back to it.
+/// Whether each flagged class to which the class leads leads back to it.
 fn is_led_back(bits: &ReachBits, set: &ClassTable<bool>, c: Class) -> bool
-    ensures { IsTrue result ↔ ((b : Class) → is_marked set.now b ≡ true → Reaches every_row c b → Reaches every_row b c) }
+    ensures { IsTrue result ↔ ((b : Class) → is_flagged set.now b ≡ true → Reaches every_row c b → Reaches every_row b c) }
 {
     let mut from = 0;
     'reached: while let Some(b) = next_reached(bits, c, from) {
@@ -163,9 +163,9 @@ fn is_led_back(bits: &ReachBits, set: &ClassTable<bool>, c: Class) -> bool
     true
 }
 
-/// Takes the mark from each class to which the class leads and that does not lead back to it.
+/// Takes the flag from each class to which the class leads and that does not lead back to it.
 fn strike(bits: &ReachBits, left: &mut ClassTable<bool>, c: Class)
-    ensures { (b : Class) → is_marked left.new b ≡ true ↔ ((is_marked left.old b ≡ true) × (Reaches every_row c b → Reaches every_row b c)) }
+    ensures { (b : Class) → is_flagged left.new b ≡ true ↔ ((is_flagged left.old b ≡ true) × (Reaches every_row c b → Reaches every_row b c)) }
 {
     let mut from = 0;
     'reached: while let Some(b) = next_reached(bits, c, from) {
@@ -176,9 +176,9 @@ fn strike(bits: &ReachBits, left: &mut ClassTable<bool>, c: Class)
     }
 }
 
-/// The marked classes in order of rank.
+/// The flagged classes in order of rank.
 fn in_order(alloc: Global, table: &ClassTable<bool>) -> Result<List<Class>, NoMemory>
-    ensures { IfOk result (λ classes. ListsInOrder (λ c. is_marked table.now c ≡ true) classes) }
+    ensures { IfOk result (λ classes. ListsInOrder (λ c. is_flagged table.now c ≡ true) classes) }
 {
     let mut classes = List::new(alloc);
     for n in 0..CLASSES {

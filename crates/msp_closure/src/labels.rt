@@ -2,7 +2,7 @@
 ghost use Rattle.std.specs.Prelude.{◌≡◌, IfOk, slice_get, slice_index_or, length};
 ghost use Rattle.msp_class.specs.Rank.{rank_of};
 ghost use Rattle.msp_closure.specs.Entries.{AreLabels, mark_of};
-ghost use Rattle.msp_closure.specs.Tables.{is_marked};
+ghost use Rattle.msp_closure.specs.Tables.{is_flagged};
 ghost use Rattle.msp_class.specs.declared.class.Class.{Class};
 
 use crate::class_table::{ClassTable, class_at};
@@ -61,7 +61,7 @@ fn marked(
 ) -> Result<ClassTable<Mark>, NoMemory>
     ensures len { IfOk result (λ table. length table ≡ CLASSES) }
     ensures each { IfOk result (λ table. (c : Class) (d : Mark) → slice_index_or table (rank_of c) d
-        ≡ mark_of (is_marked to_easy.now c) (is_marked to_pseudo.now c) (is_marked from_hard.now c) (is_marked from_strong.now c)) }
+        ≡ mark_of (is_flagged to_easy.now c) (is_flagged to_pseudo.now c) (is_flagged from_hard.now c) (is_flagged from_strong.now c)) }
 {
     let mut table = ClassTable::new(alloc, Mark::Unsettled)?;
     for n in 0..CLASSES {

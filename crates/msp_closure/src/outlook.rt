@@ -2,7 +2,7 @@
 ghost use Rattle.std.specs.Prelude.{◌≡◌, ◌+◌, ◌∷◌, [], ℕ, Bool, true, Some, IfOk, OnOk};
 ghost use Rattle.msp_class.specs.declared.class.Class.{Class};
 ghost use Rattle.msp_table.specs.declared.row.TheConstants.{ROWS};
-ghost use Rattle.msp_closure.specs.Tables.{allows, is_marked};
+ghost use Rattle.msp_closure.specs.Tables.{allows, is_flagged};
 ghost use Rattle.msp_closure.specs.Walk.{step_of};
 ghost use Rattle.msp_closure.specs.Links.{AddsLinks, AddsLink};
 ghost use Rattle.msp_closure.specs.Outlook.{Steps, Grows, IsFollowed, IsWalk, IsOutlook};
@@ -19,15 +19,15 @@ use std::alloc::Global;
 pub(crate) struct Outlook {
     pub rows: RowSet,
     pub starts: Vec<Class>,
-    pub marks: ClassTable<bool>,
+    pub flags: ClassTable<bool>,
     pub links: Vec<Link>,
 }
 
-/// What a walk has met: the classes in this order, each marked, and the steps from those that it has followed.
+/// What a walk has met: the classes in this order, each flagged, and the steps from those that it has followed.
 #[derive(Drop)]
 struct Met {
     classes: Vec<Class>,
-    marks: ClassTable<bool>,
+    flags: ClassTable<bool>,
     links: Vec<Link>,
 }
 
@@ -36,7 +36,7 @@ impl Outlook {
     pub(crate) fn walk(alloc: Global, rows: RowSet, starts: Vec<Class>) -> Result<Outlook, NoMemory>
         ensures rows { IfOk result (λ o. o.rows ≡ rows) }
         ensures starts { IfOk result (λ o. o.starts ≡ starts) }
-        ensures outlook { IfOk result (λ o. IsOutlook (allows rows) starts.items o.marks o.links.items) }
+        ensures outlook { IfOk result (λ o. IsOutlook (allows rows) starts.items o.flags o.links.items) }
     {
         let mut met = Met::all(alloc, &starts)?;
         let mut done = 0;
@@ -48,7 +48,7 @@ impl Outlook {
         Ok(Outlook {
             rows,
             starts,
-            marks: met.marks,
+            flags: met.flags,
             links: met.links,
         })
     }
@@ -66,11 +66,11 @@ pub(crate) fn only(alloc: Global, c: Class) -> Result<Vec<Class>, NoMemory>
 impl Met {
     /// The classes of a list alone.
     fn all(alloc: Global, classes: &[Class]) -> Result<Met, NoMemory>
-        ensures { IfOk result (λ met. (usable : ℕ → Bool) → IsWalk usable classes.now met.classes.items met.marks met.links.items 0) }
+        ensures { IfOk result (λ met. (usable : ℕ → Bool) → IsWalk usable classes.now met.classes.items met.flags met.links.items 0) }
     {
         let mut met = Met {
             classes: Vec::new(alloc),
-            marks: ClassTable::new(alloc, false)?,
+            flags: ClassTable::new(alloc, false)?,
             links: Vec::new(alloc),
         };
         for c in classes {
@@ -79,24 +79,24 @@ impl Met {
         Ok(met)
     }
 
-    /// Marks a class, and puts it behind those that were met where it is new.
+    /// Flags a class, and puts it behind those that were met where it is new.
     fn meet(&mut self, class: Class) -> Result<(), NoMemory>
-        ensures grows { OnOk result (Grows (λ c. c ≡ class) self.old.classes.items self.old.marks self.new.classes.items self.new.marks) }
-        ensures marked { OnOk result (is_marked self.new.marks class ≡ true) }
+        ensures grows { OnOk result (Grows (λ c. c ≡ class) self.old.classes.items self.old.flags self.new.classes.items self.new.flags) }
+        ensures flagged { OnOk result (is_flagged self.new.flags class ≡ true) }
         ensures links { OnOk result (self.new.links ≡ self.old.links) }
     {
-        if self.marks.at(class) {
+        if self.flags.at(class) {
             return Ok(());
         }
-        self.marks.set(class, true);
+        self.flags.set(class, true);
         self.classes.push(class)?;
         Ok(())
     }
 
     /// Meets the class to which the row leads, and keeps the step.
     fn follow_row(&mut self, rows: RowSet, row: Row, class: Class) -> Result<(), NoMemory>
-        ensures grows { OnOk result (Grows (Steps (allows rows) class) self.old.classes.items self.old.marks self.new.classes.items self.new.marks) }
-        ensures followed { OnOk result ((x : Class) → step_of (allows rows) row class ≡ Some x → is_marked self.new.marks x ≡ true) }
+        ensures grows { OnOk result (Grows (Steps (allows rows) class) self.old.classes.items self.old.flags self.new.classes.items self.new.flags) }
+        ensures followed { OnOk result ((x : Class) → step_of (allows rows) row class ≡ Some x → is_flagged self.new.flags x ≡ true) }
         ensures links { OnOk result (AddsLink (allows rows) self.old.links.items self.new.links.items class row) }
     {
         match put_link(rows, row, class, &mut self.links)? {
@@ -107,8 +107,8 @@ impl Met {
 
     /// Meets the classes to which rows of the set lead from the class, and keeps the steps.
     fn follow(&mut self, rows: RowSet, class: Class) -> Result<(), NoMemory>
-        ensures grows { OnOk result (Grows (Steps (allows rows) class) self.old.classes.items self.old.marks self.new.classes.items self.new.marks) }
-        ensures followed { OnOk result (IsFollowed (allows rows) class (ROWS + 1) self.new.marks) }
+        ensures grows { OnOk result (Grows (Steps (allows rows) class) self.old.classes.items self.old.flags self.new.classes.items self.new.flags) }
+        ensures followed { OnOk result (IsFollowed (allows rows) class (ROWS + 1) self.new.flags) }
         ensures links { OnOk result (AddsLinks (allows rows) self.old.links.items self.new.links.items class (ROWS + 1)) }
     {
         for k in 1..=ROWS {

@@ -3,8 +3,8 @@ ghost use Rattle.std.specs.Prelude.{◌≡◌, ◌↔◌, ◌≤◌, ◌<◌, �
 ghost use Rattle.msp_class.specs.declared.class.Class.{Class};
 ghost use Rattle.msp_class.specs.Rank.{rank_of};
 ghost use Rattle.msp_table.specs.Chains.{every_row, Reaches};
-ghost use Rattle.msp_closure.specs.Tables.{allows, is_marked};
-ghost use Rattle.msp_closure.specs.Relation.{relates, IsReach, IsSound, Rises, Grows, GrowsAt, IncludesMarked, IsClosedBut};
+ghost use Rattle.msp_closure.specs.Tables.{allows, is_flagged};
+ghost use Rattle.msp_closure.specs.Relation.{relates, IsReach, IsSound, Rises, Grows, GrowsAt, IncludesFlagged, IsClosedBut};
 
 use crate::class_table::{ClassTable, class_at};
 use crate::relation::Relation;
@@ -80,19 +80,19 @@ fn follow(alloc: Global, rows: RowSet, relation: &mut Relation) -> Result<(), No
     Ok(())
 }
 
-/// One pass, from the highest rank down, since most rows lead to a higher one; it marks the classes whose rows changed. Whether one did.
+/// One pass, from the highest rank down, since most rows lead to a higher one; it flags the classes whose rows changed. Whether one did.
 fn pass(
     rows: RowSet,
     relation: &mut Relation,
     last: &ClassTable<bool>,
     fresh: &mut ClassTable<bool>,
 ) -> bool
-    requires unmarked { (c : Class) → is_marked fresh.old c ≡ false }
+    requires unflagged { (c : Class) → is_flagged fresh.old c ≡ false }
     requires closed { (c : Class) → IsClosedBut (allows rows) last.now relation.old c }
     ensures grows { Grows (allows rows) relation.old relation.new }
     ensures rises { Rises relation.old relation.new result }
     ensures closed { (c : Class) → IsClosedBut (allows rows) fresh.new relation.new c }
-    ensures quiet { result ≡ false → (c : Class) → is_marked fresh.new c ≡ false }
+    ensures quiet { result ≡ false → (c : Class) → is_flagged fresh.new c ≡ false }
 {
     let mut changed = false;
     for n in 0..CLASSES {
@@ -115,7 +115,7 @@ fn join_class(
 ) -> bool
     ensures grows { GrowsAt (allows rows) relation.old relation.new c }
     ensures rises { Rises relation.old relation.new result }
-    ensures includes { (k : ℕ) → IncludesMarked (allows rows) last.now relation.new c k }
+    ensures includes { (k : ℕ) → IncludesFlagged (allows rows) last.now relation.new c k }
 {
     let mut changed = false;
     for k in 1..=ROWS {
@@ -137,7 +137,7 @@ fn join_row(
 ) -> bool
     ensures grows { GrowsAt (allows rows) relation.old relation.new c }
     ensures rises { Rises relation.old relation.new result }
-    ensures includes { IncludesMarked (allows rows) last.now relation.new c row }
+    ensures includes { IncludesFlagged (allows rows) last.now relation.new c row }
 {
     match step(rows, row, c) {
         Some(next) if last.at(next) || fresh.at(next) => relation.join(c, next),

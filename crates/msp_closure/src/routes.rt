@@ -32,7 +32,7 @@ impl Model for Routes {
     ghost view = { λ r. r.from };
 
     ghost invariant = { λ r. (r.outlook.rows ≡ Carrying) × (r.outlook.starts.items ≡ r.from ∷ [])
-        × IsOutlook carries (r.from ∷ []) r.outlook.marks r.outlook.links.items };
+        × IsOutlook carries (r.from ∷ []) r.outlook.flags r.outlook.links.items };
 }
 
 /// Works out where carrying rows lead from a class.
@@ -48,7 +48,7 @@ pub fn routes_from(alloc: Global, from: Class) -> Result<Routes, NoMemory>
 fn leads_to(routes: &Routes, to: Class) -> bool
     ensures { IsTrue result ↔ Reaches carries routes.now to }
 {
-    routes.outlook.marks.at(to)
+    routes.outlook.flags.at(to)
 }
 
 /// The nearest chain of carrying rows to a class. None comes exactly where there is none.

@@ -2,11 +2,12 @@
 use Rattle.std.proofs.Common.{◌≡◌, ℕ, ◌+◌, ◌*◌, ◌/◌, ◌%◌, ◌<◌, ◌≤◌, inl, List, length, pos, nat_abs, refl, sym, ap, subst, arith}
 use Rattle.std.proofs.Math.Nat.{div-le_self, mul-le-mul_right}
 use Rattle.std.proofs.lemmas.Nat.{mul-le}
+use Rattle.msp_class.specs.declared.sizes.TheConstants.{MOST_JOBS}
 use Rattle.msp_class.proofs.Sums.{total_below-same}
 use Rattle.msp_instance.specs.declared.Instance.{Instance}
 use Rattle.msp_instance.specs.Instance.{common_time}
 use Rattle.msp_schedule.specs.Feasible.{HasOperation, MayRun}
-use Rattle.msp_schedule.specs.Rows.{time_at}
+use Rattle.msp_schedule.specs.BackToBack.{time_at}
 use Rattle.msp_schedule.proofs.bounds.LastEnds.{law_of_last_ends}
 use Rattle.msp_cut_sums.specs.Sums.{at, in_blocks, weight_at, IsByFalling}
 use Rattle.msp_cut_sums.specs.Pieces.{blocked}
@@ -15,7 +16,8 @@ use Rattle.msp_cut_sums.proofs.InBlocks.{weights_bound}
 use Rattle.msp_cut_sums.proofs.Instances.{IsWeightsInstance, weights_operations, weights_time, weights_span}
 use Rattle.msp_cut_sums.proofs.Placed.{ArePlaced, placed_is_feasible, placed_is_within, placed_is_answer, placed_ends}
 use Rattle.msp_cut_sums.proofs.Rests.{rest_small, blocks_rise}
-use Rattle.msp_cut_sums.proofs.Room.{end_at, room_in_order}
+use Rattle.msp_schedule.proofs.bounds.Room.{end_at}
+use Rattle.msp_cut_sums.proofs.Room.{room_in_order}
 use Rattle.msp_cut_sums.proofs.Summed.{IsSumOf-weights, IsSumAnswer, answered}
 
 module _ (i : Instance) (h : IsWeightsInstance i) (order : List ℕ) (sorted : IsByFalling (length i.jobs) (weight_at i) order) where
@@ -50,7 +52,7 @@ module _ (i : Instance) (h : IsWeightsInstance i) (order : List ℕ) (sorted : I
     some = λ x l. omega (arith, weights_time i h (at order x) (inside x (omega (arith, l, many))), (weights_span i h).0);
     on_machine = λ x y l b e. inl (mul-le-mul_right span (more (x / m) (y / m) (blocks_rise m x y l e)));
     of_job = λ x y l b e. absurd (differ x y l b e);
-    early = λ x l. omega (arith, mul-le (x / m + 1) span 400 1000000 (omega (arith, div-le_self x m, l, many, h.few)) (weights_span i h).1);
+    early = λ x l. omega (arith, mul-le (x / m + 1) span MOST_JOBS 1000000 (omega (arith, div-le_self x m, l, many, h.few)) (weights_span i h).1);
   }
     where
       differ : (x y : ℕ) → x < y → y < length order → at order x ≡ at order y → ⊥
@@ -71,7 +73,8 @@ module _ (i : Instance) (h : IsWeightsInstance i) (order : List ℕ) (sorted : I
       (placed_is_feasible i 1 (length order) (at order) (λ k. 0) (λ k. k % m) (λ k. k / m * span) end (weights_operations i h) placed)
       (placed_is_within i 1 (length order) (at order) (λ k. 0) (λ k. k % m) (λ k. k / m * span) end (weights_operations i h) placed)
       (placed_is_answer i 1 (length order) (at order) (λ k. 0) (λ k. k % m) (λ k. k / m * span) end (weights_operations i h) placed)
-      (λ r l. placed_ends i 1 (length order) (at order) (λ k. 0) (λ k. k % m) (λ k. k / m * span) end (weights_operations i h) placed (at order r) (end r) (λ x b e. same x r (order_distinct n (weight_at i) order sorted x r (omega (arith, b, many)) l e)))
+      (λ r l. placed_ends i 1 (length order) (at order) (λ k. 0) (λ k. k % m) (λ k. k / m * span) end (weights_operations i h)
+      placed (at order r) (end r) (λ x b e. same x r (order_distinct n (weight_at i) order sorted x r (omega (arith, b, many)) l e)))
       (λ t f. weights_bound n m (nat_abs t.unit) (λ r. time_at i (at order r)) (λ r. end_at t (at order r)) h.machine
       (room_in_order i t f (time_at i) (λ test moment. law_of_last_ends.machines i t test moment h.kind f) order (order_once n (weight_at i) order sorted))
       span (λ r l. weights_time i h (at order r) (inside r l)) (λ k. weight_at i (at order k)) (order_falls n (weight_at i) order sorted))

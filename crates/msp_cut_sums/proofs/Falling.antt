@@ -4,20 +4,22 @@ use Rattle.std.specs.List.{range_with_len}
 use Rattle.std.proofs.lemmas.Bool.{cases_lt}
 use Rattle.std.proofs.lemmas.List.{get_or-map, length-map}
 use Rattle.std.proofs.lemmas.List.Elements.{All-map}
+use Rattle.msp_class.specs.declared.sizes.TheConstants.{GREATEST}
 use Rattle.msp_class.proofs.Sums.{OnceBelow, OnceBelow-from_permutation, OnceBelow-distinct, length-OnceBelow}
 use Rattle.msp_instance.specs.declared.Job.{Job}
 use Rattle.msp_instance.specs.declared.Instance.{Instance}
 use Rattle.msp_instance.specs.Instance.{no_job, job_at}
 use Rattle.msp_cut_sums.specs.Sums.{at, IsByFalling}
 
-module _ (values : List ℕ) (small : All (λ v. v ≤ 1000000000) values) (keys : List ℕ) (is : keys ≡ map (λ v. 1000000000 - v) values) where
+module _ (values : List ℕ) (small : All (λ v. v ≤ GREATEST) values) (keys : List ℕ) (is : keys ≡ map (λ v. GREATEST - v) values) where
   many : length keys ≡ length values
-  many = ap length is ∙ length-map values (λ v. 1000000000 - v)
+  many = ap length is ∙ length-map values (λ v. GREATEST - v)
 
-  key_is : (j : ℕ) → j < length values → at keys j ≡ 1000000000 - at values j
-  key_is j l = ap (λ ks. at ks j) is ∙ get_or-map (λ v. 1000000000 - v) values j 0 0 l
+  key_is : (j : ℕ) → j < length values → at keys j ≡ GREATEST - at values j
+  key_is j l = ap (λ ks. at ks j) is ∙ get_or-map (λ v. GREATEST - v) values j 0 0 l
 
-  IsByFalling-lacks : (order : List ℕ) → IsPermutation (range_with_len 0 (length keys)) order → AllPairs (λ a b. (at keys a < at keys b) ⊎ ((at keys a ≡ at keys b) × (a ≤ b))) order → IsByFalling (length values) (at values) order
+  IsByFalling-lacks : (order : List ℕ) → IsPermutation (range_with_len 0 (length keys)) order
+      → AllPairs (λ a b. (at keys a < at keys b) ⊎ ((at keys a ≡ at keys b) × (a ≤ b))) order → IsByFalling (length values) (at values) order
   IsByFalling-lacks order all rising = record {
     all = subst (λ n. IsPermutation (range_with_len 0 n) order) many all;
     falls = λ a b d l k. by (get_or order a d) (get_or order b d) (within a d (omega (arith, l, k))) (within b d k) (rising a b d l k);
@@ -30,7 +32,9 @@ module _ (values : List ℕ) (small : All (λ v. v ≤ 1000000000) values) (keys
       by x y p q (inl l) = omega (arith, l, key_is x p, key_is y q, small x 0 p, small y 0 q)
       by x y p q (inr l) = omega (arith, l.0, key_is x p, key_is y q, small x 0 p, small y 0 q)
 
-pub by_lacks : {V E : Type 0} (values : List ℕ) (small : All (λ v. v ≤ 1000000000) values) (keys kept : List ℕ) (items : V → List ℕ) → kept ≡ map (λ v. 1000000000 - v) values → keys ≡ kept → (r : Result V E) → IfOk r (λ o. IsPermutation (range_with_len 0 (length keys)) (items o)) → IfOk r (λ o. AllPairs (λ a b. (at keys a < at keys b) ⊎ ((at keys a ≡ at keys b) × (a ≤ b))) (items o)) → IfOk r (λ o. IsByFalling (length values) (at values) (items o))
+pub by_lacks : {V E : Type 0} (values : List ℕ) (small : All (λ v. v ≤ GREATEST) values) (keys kept : List ℕ) (items : V → List ℕ)
+    → kept ≡ map (λ v. GREATEST - v) values → keys ≡ kept → (r : Result V E) → IfOk r (λ o. IsPermutation (range_with_len 0 (length keys)) (items o))
+    → IfOk r (λ o. AllPairs (λ a b. (at keys a < at keys b) ⊎ ((at keys a ≡ at keys b) × (a ≤ b))) (items o)) → IfOk r (λ o. IsByFalling (length values) (at values) (items o))
 by_lacks values small keys kept items e f (Ok o) p q = IsByFalling-lacks values small keys (f ∙ e) (items o) p q
 by_lacks values small keys kept items e f (Err x) p q = tt
 
@@ -39,8 +43,8 @@ module _ (i : Instance) (f : Job → ℕ) (values kept : List ℕ) (is : kept �
   pub values_many : length values ≡ length i.jobs
   values_many = ap length (same ∙ is) ∙ length-map i.jobs f
 
-  pub values_small : All (λ j. f j ≤ 1000000000) i.jobs → All (λ v. v ≤ 1000000000) values
-  values_small h = subst (All (λ v. v ≤ 1000000000)) (sym (same ∙ is)) (All-map (λ v. v ≤ 1000000000) f i.jobs h)
+  pub values_small : All (λ j. f j ≤ GREATEST) i.jobs → All (λ v. v ≤ GREATEST) values
+  values_small h = subst (All (λ v. v ≤ GREATEST)) (sym (same ∙ is)) (All-map (λ v. v ≤ GREATEST) f i.jobs h)
 
   read : (order : List ℕ) → IsByFalling (length values) (at values) order → IsByFalling (length i.jobs) (λ j. f (job_at i j)) order
   read order h = record {
@@ -54,7 +58,8 @@ module _ (i : Instance) (f : Job → ℕ) (values kept : List ℕ) (is : kept �
       value : (j : ℕ) → j < length i.jobs → at values j ≡ f (job_at i j)
       value j l = ap (λ vs. at vs j) (same ∙ is) ∙ get_or-map f i.jobs j no_job 0 l
 
-  pub read_order : {V E : Type 0} (items : V → List ℕ) (r : Result V E) → IfOk r (λ o. IsByFalling (length values) (at values) (items o)) → IfOk r (λ o. IsByFalling (length i.jobs) (λ j. f (job_at i j)) (items o))
+  pub read_order : {V E : Type 0} (items : V → List ℕ) (r : Result V E)
+      → IfOk r (λ o. IsByFalling (length values) (at values) (items o)) → IfOk r (λ o. IsByFalling (length i.jobs) (λ j. f (job_at i j)) (items o))
   read_order items (Ok o) h = read (items o) h
   read_order items (Err x) h = tt
 

@@ -1,5 +1,6 @@
 -- Blocks of m: in the order of the ends, the last m ends are together at least all times, and so on without these. So times count by blocks.
-use Rattle.std.proofs.Common.{◌≡◌, ◌≢◌, ℕ, zero, suc, ◌+◌, ◌*◌, ◌-◌, ◌/◌, ◌≤◌, ◌<◌, ◌⊎◌, inl, inr, List, [], ◌∷◌, length, get_or, take, drop, All, AllPairs, pos, neg_ℤ, ◌≤ℤ◌, sum_by, refl, sym, ap, ap₂, subst, subst₂, ◌∙◌, arith, le_trans, zero-add}
+use Rattle.std.proofs.Common.{◌≡◌, ◌≢◌, ℕ, zero, suc, ◌+◌, ◌*◌, ◌-◌, ◌/◌, ◌≤◌, ◌<◌, ◌⊎◌, inl, inr, List, [], ◌∷◌, length, get_or, take, drop, All, AllPairs, pos, neg_ℤ, ◌≤ℤ◌}
+use Rattle.std.proofs.Common.{sum_by, refl, sym, ap, ap₂, subst, subst₂, ◌∙◌, arith, le_trans, zero-add}
 use Rattle.std.specs.List.{range_with_len}
 use Rattle.std.proofs.lemmas.Bool.{cases_lt}
 use Rattle.std.proofs.lemmas.Int.{ints}
@@ -8,7 +9,8 @@ use Rattle.std.proofs.lemmas.List.Sums.{sum_by-take-drop, sum_by-take-le}
 use Rattle.std.proofs.lemmas.Nat.{le-div}
 use Rattle.std.proofs.Math.Nat.{add-div_left, div-eq_of_lt, div-le_self, div-mul-le_self, mul-le-mul_left}
 use Rattle.msp_class.specs.Sums.{total_below}
-use Rattle.msp_class.proofs.Sums.{sum_by-mono, sum_by-same, sum_by-add, sum_by-constant, sum_by-none, sum_by-OnceBelow, OnceBelow, OnceBelow-range, OnceBelow-distinct, length-OnceBelow, total_below-same, total_below-add, total_below-scale, total_below-constant, total_below-none, total_below-split}
+use Rattle.msp_class.proofs.Sums.{sum_by-mono, sum_by-same, sum_by-add, sum_by-constant, sum_by-none, sum_by-OnceBelow, OnceBelow, OnceBelow-range, OnceBelow-distinct}
+use Rattle.msp_class.proofs.Sums.{length-OnceBelow, total_below-same, total_below-add, total_below-scale, total_below-constant, total_below-none, total_below-split}
 use Rattle.msp_schedule.proofs.lists.Places.{sum_by-places}
 use Rattle.msp_schedule.proofs.changes.LineUp.{sorted_by-rises, sorted_by-OnceBelow}
 use Rattle.msp_schedule.specs.LineUp.{sorted_by}
@@ -127,14 +129,16 @@ module _ (n m D : ℕ) (time end : ℕ → ℕ) (some : 1 ≤ m) (law : HaveRoom
   last_ends ys within distinct falls = by (cases_lt (length ys) m)
     where
       by : (length ys < m) ⊎ (m ≤ length ys) → D * sum_by time ys ≤ sum_by end (take m ys)
-      by (inl l) = subst (λ zs. D * sum_by time ys ≤ sum_by end zs) (sym (take_all m ys (omega (arith, l)))) (omega (arith, law ys within distinct 0, sum_by-same (λ r. end r - 0) end ys (λ k d b. none (end (get_or ys k d)))))
+      by (inl l) = subst (λ zs. D * sum_by time ys ≤ sum_by end zs) (sym (take_all m ys (omega (arith, l))))
+          (omega (arith, law ys within distinct 0, sum_by-same (λ r. end r - 0) end ys (λ k d b. none (end (get_or ys k d)))))
         where
           none : (a : ℕ) → a - 0 ≡ a
           none a = omega arith
       by (inr l) = omega (arith, law ys within distinct (least_of_first end ys falls m some l), first_greatest end ys falls m some l)
 
   -- and so on without them
-  by_blocks : (fuel : ℕ) (ys : List ℕ) → length ys ≤ fuel → All (λ r. r < n) ys → AllPairs (λ a b. a ≢ b) ys → AllPairs (λ a b. end b ≤ end a) ys → D * in_blocks m (length ys) (λ k. time (at ys k)) ≤ sum_by end ys
+  by_blocks : (fuel : ℕ) (ys : List ℕ) → length ys ≤ fuel → All (λ r. r < n) ys
+      → AllPairs (λ a b. a ≢ b) ys → AllPairs (λ a b. end b ≤ end a) ys → D * in_blocks m (length ys) (λ k. time (at ys k)) ≤ sum_by end ys
   by_blocks zero [] short within distinct falls = omega arith
   by_blocks zero (y ∷ ys) short within distinct falls = absurd (omega (arith, short))
   by_blocks (suc fuel) ys short within distinct falls =
@@ -174,21 +178,24 @@ module _ (n m D : ℕ) (time end : ℕ → ℕ) (some : 1 ≤ m) (law : HaveRoom
         ys,
         once,
         subst₂ (λ x y. D * in_blocks m x (λ k. time (at ys k)) ≤ y) many (sum_by-OnceBelow end once)
-            (by_blocks (length ys) ys (omega arith) (λ k d b. omega (arith, once.within k d b, l)) (OnceBelow-distinct once) (λ a b d h k. turned (sorted_by-rises (λ r. neg_ℤ (pos (end r))) (range_with_len 0 s) a b d h k))),
+            (by_blocks (length ys) ys (omega arith) (λ k d b. omega (arith, once.within k d b, l))
+            (OnceBelow-distinct once) (λ a b d h k. turned (sorted_by-rises (λ r. neg_ℤ (pos (end r))) (range_with_len 0 s) a b d h k))),
       )
     where
       turned : {x y : ℕ} → neg_ℤ (pos x) ≤ℤ neg_ℤ (pos y) → y ≤ x
       turned {x} {y} h = omega (arith, ints, h)
 
   -- ---- where all take one time, and weights fall
-  pub weights_bound : (span : ℕ) → ((r : ℕ) → r < n → time r ≡ span) → (weight : ℕ → ℕ) → ((a b : ℕ) → a ≤ b → b < n → weight b ≤ weight a) → D * in_blocks m n (λ k. span * weight k) ≤ total_below n (λ k. weight k * end k)
+  pub weights_bound : (span : ℕ) → ((r : ℕ) → r < n → time r ≡ span)
+      → (weight : ℕ → ℕ) → ((a b : ℕ) → a ≤ b → b < n → weight b ≤ weight a) → D * in_blocks m n (λ k. span * weight k) ≤ total_below n (λ k. weight k * end k)
   weights_bound span same weight falls = subst (λ x. x ≤ total_below n (λ k. weight k * end k)) moved (abel n weight end (λ k. D * ((k / m + 1) * span)) falls each)
     where
       each : (s : ℕ) → s ≤ n → total_below s (λ k. D * ((k / m + 1) * span)) ≤ total_below s end
       each s l =
           let (ys, once, bound) = prefix s l in
           subst (λ x. x ≤ total_below s end) (sym (total_below-scale s D (λ k. (k / m + 1) * span)))
-          (subst (λ x. D * x ≤ total_below s end) (in_blocks-same m s (λ k. time (at ys k)) (λ _. span) (λ k b. same (at ys k) (omega (arith, once.within k 0 (omega (arith, b, length-OnceBelow once)), l)))) bound)
+          (subst (λ x. D * x ≤ total_below s end)
+          (in_blocks-same m s (λ k. time (at ys k)) (λ _. span) (λ k b. same (at ys k) (omega (arith, once.within k 0 (omega (arith, b, length-OnceBelow once)), l)))) bound)
 
       moved : total_below n (λ k. weight k * (D * ((k / m + 1) * span))) ≡ D * in_blocks m n (λ k. span * weight k)
       moved = total_below-same n _ (λ k. D * ((k / m + 1) * (span * weight k))) (λ k l. grouped (weight k) D (k / m + 1) span) ∙ total_below-scale n D (λ k. (k / m + 1) * (span * weight k))
@@ -271,7 +278,8 @@ module _ (n m D : ℕ) (time end : ℕ → ℕ) (some : 1 ≤ m) (law : HaveRoom
         few k l = omega (arith, div-le_self k m, l)
 
         both : (f : ℕ → ℕ) → total_below n (λ k. (most - place k) * f k) + in_blocks m n f ≡ most * total_below n f
-        both f = sym (total_below-add n (λ k. (most - place k) * f k) (λ k. place k * f k)) ∙ total_below-same n _ (λ k. most * f k) (λ k l. whole most (place k) (f k) (few k l)) ∙ total_below-scale n most f
+        both f = sym (total_below-add n (λ k. (most - place k) * f k) (λ k. place k * f k))
+            ∙ total_below-same n _ (λ k. most * f k) (λ k l. whole most (place k) (f k) (few k l)) ∙ total_below-scale n most f
           where
             whole : (a b c : ℕ) → b ≤ a → (a - b) * c + b * c ≡ a * c
             whole a b c l = by a b c (a - b) (omega (arith, l))
@@ -280,7 +288,8 @@ module _ (n m D : ℕ) (time end : ℕ → ℕ) (some : 1 ≤ m) (law : HaveRoom
                 by a b c d e = sym (ap (λ x. x * c) e ∙ omega arith)
 
         least : (ys : List ℕ) → OnceBelow n ys → in_blocks m n time ≤ in_blocks m n (λ k. time (at ys k))
-        least ys once = by (in_blocks m n time) (in_blocks m n (λ k. time (at ys k))) (total_below n (λ k. (most - place k) * time k)) (total_below n (λ k. (most - place k) * time (at ys k))) (both time) (both (λ k. time (at ys k))) (ap (λ x. most * x) same)
+        least ys once = by (in_blocks m n time) (in_blocks m n (λ k. time (at ys k))) (total_below n (λ k. (most - place k) * time k))
+            (total_below n (λ k. (most - place k) * time (at ys k))) (both time) (both (λ k. time (at ys k))) (ap (λ x. most * x) same)
             (abel n (λ k. most - place k) time (λ k. time (at ys k)) (λ a b l h. later (place a) (place b) most (rises a b l)) (first_most ys once))
           where
             rises : (a b : ℕ) → a ≤ b → place a ≤ place b

@@ -2,6 +2,7 @@
 use Rattle.std.proofs.Common.{◌≡◌, ℕ, ◌*◌, ◌<◌, ◌≤◌, true, not, [], length, get_or, All, pos, ◌≤ℤ◌, inl, inr, ◌⊎◌, sym, ap, subst, ◌∙◌, arith, slice_index_or}
 use Rattle.std.proofs.lemmas.Int.{ints}
 use Rattle.std.proofs.lemmas.List.{get_or_default}
+use Rattle.msp_class.specs.declared.sizes.TheConstants.{MOST_JOBS, MOST_MACHINES, GREATEST}
 use Rattle.msp_class.specs.declared.environments.EnvKind.TheVariants.{Identical, Unrelated, OpenShop}
 use Rattle.msp_class.specs.declared.class.Crit.TheVariants.{SumWC}
 use Rattle.msp_class.specs.Env.{kind_of, is_shop, is_shop_kind, is_mirror_kind}
@@ -13,7 +14,7 @@ use Rattle.msp_instance.specs.Conditions.{Inner}
 use Rattle.msp_schedule.specs.Feasible.{HasOperation, whole_work}
 use Rattle.msp_schedule.specs.LastEnds.{AreOnMachines}
 use Rattle.msp_schedule.specs.Loads.{job_length}
-use Rattle.msp_schedule.specs.Rows.{time_at}
+use Rattle.msp_schedule.specs.BackToBack.{time_at}
 use Rattle.msp_schedule.proofs.lists.Places.{sum_by-places}
 use Rattle.msp_schedule.proofs.feasible.Frames.{IsShaped-from_identical, rate_on}
 use Rattle.msp_schedule.proofs.feasible.OfClass.{IsOfClass, IsOfClass-from}
@@ -47,10 +48,10 @@ module _ (i : Instance) (h : IsSumInstance i) where
   pub sum_operations : HasOperations i 1
   sum_operations = HasOperations-identical i h.kind h.arcs (λ j l. (h.jobs j no_job l).release)
 
-  pub sum_times : (j : ℕ) → j < length i.jobs → (1 ≤ time_at i j) × (time_at i j ≤ 1000000000)
+  pub sum_times : (j : ℕ) → j < length i.jobs → (1 ≤ time_at i j) × (time_at i j ≤ GREATEST)
   sum_times j l = let n = (h.jobs j no_job l).needs in n.times 0 no_need (omega (arith, n.shape.0))
 
-  pub sum_times_small : All (λ j. (slice_index_or j.needs 0 no_need).time ≤ 1000000000) i.jobs
+  pub sum_times_small : All (λ j. (slice_index_or j.needs 0 no_need).time ≤ GREATEST) i.jobs
   sum_times_small k d l = let n = (h.jobs k d l).needs in (n.times 0 no_need (omega (arith, n.shape.0))).1
 
 module _ (i : Instance) (h : IsWeightsInstance i) where
@@ -63,7 +64,7 @@ module _ (i : Instance) (h : IsWeightsInstance i) where
   pub weights_span : (1 ≤ common_time i) × (common_time i ≤ 1000000)
   weights_span = let n = (h.jobs 0 no_job (omega (arith, h.some))).needs in n.times 0 no_need (omega (arith, n.shape.0))
 
-  pub weights_small : All (λ j. j.weight ≤ 1000000000) i.jobs
+  pub weights_small : All (λ j. j.weight ≤ GREATEST) i.jobs
   weights_small k d l = (h.jobs k d l).weight.1
 
 -- ---- open shops
@@ -74,14 +75,14 @@ pub record IsEvenShop (i : Instance) : Type 0 where
   pub arcs : i.arcs ≡ []
   pub release : (j : ℕ) → j < length i.jobs → (job_at i j).release ≡ 0
   pub some : 1 ≤ length i.jobs
-  pub few : length i.jobs ≤ 400
+  pub few : length i.jobs ≤ MOST_JOBS
   pub machine : 1 ≤ i.machines
-  pub machines : i.machines ≤ 32
+  pub machines : i.machines ≤ MOST_MACHINES
   pub needs : (j : ℕ) → j < length i.jobs → length (job_at i j).needs ≡ i.machines
   pub own : (j o : ℕ) → j < length i.jobs → o < i.machines → (need_at i j o).machine ≡ o
   pub time : (j o : ℕ) → j < length i.jobs → o < i.machines → (need_at i j o).time ≡ common_time i
   pub span : (1 ≤ common_time i) × (common_time i ≤ 1000000)
-  pub weights : All (λ j. j.weight ≤ 1000000000) i.jobs
+  pub weights : All (λ j. j.weight ≤ GREATEST) i.jobs
 
 IsEvenShop-from_unit : (i : Instance) → IsOfClass i open_weights_class → IsEvenShop i
 IsEvenShop-from_unit i h = record {
@@ -153,7 +154,8 @@ module _ (i : Instance) (h : IsEvenShop i) where
   shop_machines k d l a c b =
       let is = get_or_default i.jobs k d no_job l in
       let here : a < length (job_at i k).needs = subst (λ j. a < length j.needs) is b in
-      subst (λ n. n.machine < i.machines) (sym (ap (λ j. get_or j.needs a c) is ∙ get_or_default (job_at i k).needs a c no_need here)) (below a (h.own k a l (omega (arith, here, h.needs k l))) (omega (arith, here, h.needs k l)))
+      subst (λ n. n.machine < i.machines) (sym (ap (λ j. get_or j.needs a c) is ∙ get_or_default (job_at i k).needs a c no_need here))
+      (below a (h.own k a l (omega (arith, here, h.needs k l))) (omega (arith, here, h.needs k l)))
     where
       below : (a : ℕ) {m : ℕ} → m ≡ a → a < i.machines → m < i.machines
       below a {m} e l = omega (arith, e, l)

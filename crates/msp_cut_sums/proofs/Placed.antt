@@ -1,5 +1,6 @@
 -- Pieces by places: one for each operation, on its machine and apart from the others of that machine and of its job. They make a feasible schedule.
-use Rattle.std.proofs.Common.{◌≡◌, ◌≢◌, ℕ, ◌+◌, ◌*◌, ◌<◌, ◌≤◌, ◌⊎◌, inl, inr, Bool, true, false, not, eqb, List, [], ◌∷◌, length, get_or, map, All, AllPairs, pos, ◌-ℤ◌, ◌*ℤ◌, ◌≤ℤ◌, refl, sym, ap, ap₂, subst, subst₂, ◌∙◌, arith, zero-add}
+use Rattle.std.proofs.Common.{◌≡◌, ◌≢◌, ℕ, ◌+◌, ◌*◌, ◌<◌, ◌≤◌, ◌⊎◌, inl, inr, Bool, true, false, not, eqb, List, [], ◌∷◌, length, get_or, map, All, AllPairs, pos, ◌-ℤ◌, ◌*ℤ◌, ◌≤ℤ◌}
+use Rattle.std.proofs.Common.{refl, sym, ap, ap₂, subst, subst₂, ◌∙◌, arith, zero-add}
 use Rattle.std.specs.Prelude.{◌==◌, ◌&&◌}
 use Rattle.std.specs.List.{range_with_len}
 use Rattle.std.proofs.Math.Nat.{mul-le-mul_right}
@@ -8,6 +9,7 @@ use Rattle.std.proofs.lemmas.Int.{ints}
 use Rattle.std.proofs.lemmas.List.{length-map, get_or-map}
 use Rattle.std.proofs.lemmas.List.Elements.{All-nil}
 use Rattle.std.proofs.lemmas.List.FromFn.{get_or-map-range_with_len, length-map-range_with_len}
+use Rattle.msp_class.specs.declared.sizes.TheConstants.{MOST_JOBS, MOST_MACHINES}
 use Rattle.msp_class.specs.Env.{kind_of, is_mirror_kind}
 use Rattle.msp_class.proofs.IntegerRing.{pos-le, pos-lt, zero-le-pos, *ℤ-one, +ℤ_idl}
 use Rattle.msp_class.proofs.Sums.{OnceBelow, OnceBelow-from_distinct}
@@ -42,7 +44,7 @@ pub record HasOperations (i : Instance) (ops : ℕ) : Type 0 where
 -- place x has an operation of a job, a machine, and the moments from which and to which it runs
 pub record ArePlaced (i : Instance) (ops N : ℕ) (job op machine from to : ℕ → ℕ) : Type 0 where
   pub count : N ≡ length i.jobs * ops
-  pub few : N ≤ 12800
+  pub few : N ≤ (MOST_MACHINES * MOST_JOBS)
   pub job_inside : (x : ℕ) → x < N → job x < length i.jobs
   pub op_inside : (x : ℕ) → x < N → op x < ops
   pub operation : (x : ℕ) → x < N → HasOperation (kind_of i.class.env) i (job x) (op x)
@@ -135,15 +137,19 @@ module _ (i : Instance) (ops N : ℕ) (job op machine from to : ℕ → ℕ) (h 
     where
       found : (p : Piece) × (of_operation pieces j o ≡ p ∷ [])
       found =
-          let (p, e) = OnceBelow-one key pieces keys (j * ops + o) (key_small j o l k) in
-          (p, filter-same (λ p. (p.job == j) && (p.op == o)) (λ p. eqb (key p) (j * ops + o)) pieces (all (λ p. ((p.job == j) && (p.op == o)) ≡ eqb (key p) (j * ops + o)) (λ x b. same_key ops (job x) (op x) j o (placed.op_inside x b) k)) ∙ e)
+          let (p, e) = OnceBelow-one key pieces keys (j * ops + o) (key_small j o l k) in (
+            p,
+            filter-same (λ p. (p.job == j) && (p.op == o)) (λ p. eqb (key p) (j * ops + o)) pieces
+                (all (λ p. ((p.job == j) && (p.op == o)) ≡ eqb (key p) (j * ops + o)) (λ x b. same_key ops (job x) (op x) j o (placed.op_inside x b) k)) ∙ e,
+          )
 
       by : (p : Piece) → of_operation pieces j o ≡ p ∷ [] → total (map (part (frame_of i)) (of_operation pieces j o)) ≡ pos 1 *ℤ pos (whole_work (kind_of i.class.env) i j o)
       by p e =
           let name = named_one pieces j o p e in
           ap (λ l. total (map (part (frame_of i)) l)) e ∙ +ℤ_idl (part (frame_of i) p)
           ∙ ap (λ r. length_of p *ℤ pos r) (h.rate p.job p.machine) ∙ *ℤ-one (length_of p)
-          ∙ of_one (λ q. length_of q ≡ pos (need_at i q.job q.op).time) pieces j o p e (all (λ q. length_of q ≡ pos (need_at i q.job q.op).time) (λ x b. lasts (from x) (to x) (need_at i (job x) (op x)).time (placed.long x b)))
+          ∙ of_one (λ q. length_of q ≡ pos (need_at i q.job q.op).time) pieces j o p e
+          (all (λ q. length_of q ≡ pos (need_at i q.job q.op).time) (λ x b. lasts (from x) (to x) (need_at i (job x) (op x)).time (placed.long x b)))
           ∙ ap₂ (λ a b. pos (need_at i a b).time) name.0 name.1 ∙ ap pos (sym (h.want j o)) ∙ one (whole_work (kind_of i.class.env) i j o)
         where
           lasts : (a b t : ℕ) → b ≡ a + t → (pos b -ℤ pos a) ≡ pos t
@@ -160,7 +166,8 @@ module _ (i : Instance) (ops N : ℕ) (job op machine from to : ℕ → ℕ) (h 
     machine = pairs (λ p q. p.machine ≡ q.machine → IsApart p q) (λ x y l b e. apart (placed.on_machine x y l b e));
     job = pairs (λ p q. p.job ≡ q.job → IsApart p q) (λ x y l b e. apart (placed.of_job x y l b e));
     release = all (λ p. (pos 1 *ℤ pos (job_at i p.job).release) ≤ℤ p.from) (λ x b. released (job_at i (job x)).release (from x) (h.release (job x) (placed.job_inside x b)));
-    arc = subst (λ arcs. All (λ a. All (λ p. All (λ q. p.job ≡ a.before → q.job ≡ a.after → IsBefore p q) pieces) pieces) arcs) (sym h.arcs) (All-nil (λ (a : Arc). All (λ p. All (λ q. p.job ≡ a.before → q.job ≡ a.after → IsBefore p q) pieces) pieces));
+    arc = subst (λ arcs. All (λ a. All (λ p. All (λ q. p.job ≡ a.before → q.job ≡ a.after → IsBefore p q) pieces) pieces) arcs)
+        (sym h.arcs) (All-nil (λ (a : Arc). All (λ p. All (λ q. p.job ≡ a.before → q.job ≡ a.after → IsBefore p q) pieces) pieces));
     route = λ e. absurd (never (sym h.unrouted ∙ e));
     work = λ j o l has. gets j o l (h.has j o l has);
   }

@@ -29,14 +29,18 @@ pub record IsSolved (i : Instance) (Costs : Frac → Type 0) (s : Schedule) : Ty
 pub IsSolved-stacked : (i : Instance) → i.class ≡ cut_sum_class → Inner i → (pieces : List Piece) → IsStacked i pieces → IsSolved i (IsCutSumCost i) (over_one pieces)
 IsSolved-stacked i class inner pieces (order, ends, sorted, are, small, e) =
     let a = stacked_answer i (IsOfClass-from i cut_sum_class class inner) order sorted ends are small in
-    subst (λ ps. IsSolved i (IsCutSumCost i) (over_one ps)) (sym e) (record { best = a.best; within = a.within; answer = a.answer; cost = λ cost over. (order, sorted, subst (λ x. IsOver cost x (pos 1)) a.cost over) })
+    subst (λ ps. IsSolved i (IsCutSumCost i) (over_one ps)) (sym e)
+    (record { best = a.best; within = a.within; answer = a.answer; cost = λ cost over. (order, sorted, subst (λ x. IsOver cost x (pos 1)) a.cost over) })
 
 pub IsSolved-blocked : (i : Instance) → i.class ≡ cut_weights_class → Inner i → (pieces : List Piece) → IsBlocked i pieces → IsSolved i (IsWeightsCost i) (over_one pieces)
 IsSolved-blocked i class inner pieces (order, sorted, e) =
     let a = blocked_answer i (IsOfClass-from i cut_weights_class class inner) order sorted in
-    subst (λ ps. IsSolved i (IsWeightsCost i) (over_one ps)) (sym e) (record { best = a.best; within = a.within; answer = a.answer; cost = λ cost over. (order, sorted, subst (λ x. IsOver cost x (pos 1)) a.cost over) })
+    subst (λ ps. IsSolved i (IsWeightsCost i) (over_one ps)) (sym e)
+    (record { best = a.best; within = a.within; answer = a.answer; cost = λ cost over. (order, sorted, subst (λ x. IsOver cost x (pos 1)) a.cost over) })
 
-pub IsSolved-squared : (i : Instance) → (i.class ≡ open_weights_class) ⊎ (i.class ≡ cut_open_weights_class) → Inner i → (pieces : List Piece) → IsSquared i pieces → IsSolved i (IsOpenCost i) (over_one pieces)
+pub IsSolved-squared : (i : Instance) → (i.class ≡ open_weights_class) ⊎ (i.class ≡ cut_open_weights_class)
+    → Inner i → (pieces : List Piece) → IsSquared i pieces → IsSolved i (IsOpenCost i) (over_one pieces)
 IsSolved-squared i class inner pieces (order, sorted, e) =
     let a = squared_answer i (IsEvenShop-from i class inner) order sorted in
-    subst (λ ps. IsSolved i (IsOpenCost i) (over_one ps)) (sym e) (record { best = a.best; within = a.within; answer = a.answer; cost = λ cost over. (order, sorted, subst (λ x. IsOver cost x (pos 1)) a.cost over) })
+    subst (λ ps. IsSolved i (IsOpenCost i) (over_one ps)) (sym e)
+    (record { best = a.best; within = a.within; answer = a.answer; cost = λ cost over. (order, sorted, subst (λ x. IsOver cost x (pos 1)) a.cost over) })

@@ -3,6 +3,7 @@ use Rattle.std.proofs.Common.{◌≡◌, ◌≢◌, ℕ, ◌+◌, ◌*◌, ◌-�
 use Rattle.std.proofs.Math.Nat.{div-le_self, div-mul-le_self, mul-le-mul_right}
 use Rattle.std.proofs.lemmas.Nat.{mul-le}
 use Rattle.std.proofs.lemmas.Bool.{cases_lt}
+use Rattle.msp_class.specs.declared.sizes.TheConstants.{MOST_JOBS, MOST_MACHINES}
 use Rattle.msp_class.proofs.Sums.{total_below-same}
 use Rattle.msp_instance.specs.declared.Instance.{Instance}
 use Rattle.msp_instance.specs.Instance.{common_time, need_at}
@@ -16,7 +17,8 @@ use Rattle.msp_cut_sums.proofs.InBlocks.{weights_bound}
 use Rattle.msp_cut_sums.proofs.Instances.{IsEvenShop, shop_is, shop_operations, shop_machines, shop_length}
 use Rattle.msp_cut_sums.proofs.Placed.{ArePlaced, placed_is_feasible, placed_is_within, placed_is_answer, placed_ends}
 use Rattle.msp_cut_sums.proofs.Rests.{block_and_rest, rest_small, same_block, rests_differ}
-use Rattle.msp_cut_sums.proofs.Room.{end_at, room_in_order}
+use Rattle.msp_schedule.proofs.bounds.Room.{end_at}
+use Rattle.msp_cut_sums.proofs.Room.{room_in_order}
 use Rattle.msp_cut_sums.proofs.Summed.{IsSumOf-weights, IsSumAnswer, answered}
 
 -- ---- slots
@@ -130,7 +132,7 @@ module _ (i : Instance) (h : IsEvenShop i) (order : List ℕ) (sorted : IsByFall
   placed : ArePlaced i m N job (λ x. x % m) (λ x. x % m) from to
   placed = record {
     count = ap (λ k. k * m) many;
-    few = omega (arith, mul-le (length order) m 400 32 (omega (arith, many, h.few)) h.machines);
+    few = omega (arith, mul-le (length order) m MOST_JOBS MOST_MACHINES (omega (arith, many, h.few)) h.machines);
     job_inside = inside;
     op_inside = λ x l. on x;
     operation = λ x l. subst (λ k. HasOperation k i (job x) (x % m)) (sym h.kind) (omega (arith, on x, h.needs (job x) (inside x l)), works (need_at i (job x) (x % m)).time (time_is x l));
@@ -153,8 +155,8 @@ module _ (i : Instance) (h : IsEvenShop i) (order : List ℕ) (sorted : IsByFall
       early : (x : ℕ) → x < N → to x ≤ 1000000000000
       early x l =
           let k = place_inside x l in
-          let rows = mul-le (x / m / m + 1) m 400 32 (omega (arith, div-le_self (x / m) m, k, h.few)) h.machines in
-          omega (arith, mul-le (slot_at x + 1) time 12800 1000000 (omega (arith, slot_early m h.machine (x / m) (x % m), rows)) h.span.1)
+          let rows = mul-le (x / m / m + 1) m MOST_JOBS MOST_MACHINES (omega (arith, div-le_self (x / m) m, k, h.few)) h.machines in
+          omega (arith, mul-le (slot_at x + 1) time (MOST_MACHINES * MOST_JOBS) 1000000 (omega (arith, slot_early m h.machine (x / m) (x % m), rows)) h.span.1)
 
   abbrev value : ℕ
   value = in_blocks m n (λ k. span * weight_at i (at order k))
@@ -168,7 +170,8 @@ module _ (i : Instance) (h : IsEvenShop i) (order : List ℕ) (sorted : IsByFall
       (placed_is_feasible i m N job (λ x. x % m) (λ x. x % m) from to (shop_operations i h) placed)
       (placed_is_within i m N job (λ x. x % m) (λ x. x % m) from to (shop_operations i h) placed)
       (placed_is_answer i m N job (λ x. x % m) (λ x. x % m) from to (shop_operations i h) placed)
-      (λ r l. placed_ends i m N job (λ x. x % m) (λ x. x % m) from to (shop_operations i h) placed (at order r) (end r) (λ x b e. ends x r (order_distinct n (weight_at i) order sorted (x / m) r (place_inside x b) l e)))
+      (λ r l. placed_ends i m N job (λ x. x % m) (λ x. x % m) from to
+      (shop_operations i h) placed (at order r) (end r) (λ x b e. ends x r (order_distinct n (weight_at i) order sorted (x / m) r (place_inside x b) l e)))
       (λ t f. weights_bound n m (nat_abs t.unit) (λ r. job_length i (at order r)) (λ r. end_at t (at order r)) h.machine
       (room_in_order i t f (job_length i) (λ test moment. law_of_last_ends.shops i t test moment (shop_is i h) (shop_machines i h) f) order (order_once n (weight_at i) order sorted))
       span (λ r l. shop_length i h (at order r) (order_inside n (weight_at i) order sorted r l)) (λ k. weight_at i (at order k)) (order_falls n (weight_at i) order sorted))

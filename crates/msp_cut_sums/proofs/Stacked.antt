@@ -3,11 +3,12 @@ use Rattle.std.proofs.Common.{◌≡◌, ℕ, zero, suc, ◌+◌, ◌*◌, ◌-�
 use Rattle.std.proofs.Math.ListN.{get_or-eq_default}
 use Rattle.std.proofs.lemmas.Bool.{cases_lt}
 use Rattle.std.proofs.lemmas.List.{length-map, get_or-map}
+use Rattle.msp_class.specs.declared.sizes.TheConstants.{MOST_JOBS, GREATEST}
 use Rattle.msp_class.specs.Sums.{total_below}
 use Rattle.msp_class.proofs.Sums.{total_below-same, total_below-add, total_below-none, total_below-split}
 use Rattle.msp_instance.specs.declared.Instance.{Instance}
 use Rattle.msp_schedule.specs.Feasible.{HasOperation, MayRun}
-use Rattle.msp_schedule.specs.Rows.{time_at}
+use Rattle.msp_schedule.specs.BackToBack.{time_at}
 use Rattle.msp_schedule.proofs.bounds.LastEnds.{law_of_last_ends}
 use Rattle.msp_cut_sums.specs.Sums.{at, in_blocks, IsByFalling}
 use Rattle.msp_cut_sums.specs.Pieces.{AreEnds, stacked}
@@ -16,7 +17,8 @@ use Rattle.msp_cut_sums.proofs.InBlocks.{in_blocks-step, times_bound}
 use Rattle.msp_cut_sums.proofs.Instances.{IsSumInstance, sum_operations, sum_times}
 use Rattle.msp_cut_sums.proofs.Placed.{ArePlaced, placed_is_feasible, placed_is_within, placed_is_answer, placed_ends}
 use Rattle.msp_cut_sums.proofs.Rests.{block_and_rest, rest_small, blocks_rise}
-use Rattle.msp_cut_sums.proofs.Room.{end_at, room_in_order}
+use Rattle.msp_schedule.proofs.bounds.Room.{end_at}
+use Rattle.msp_cut_sums.proofs.Room.{room_in_order}
 use Rattle.msp_cut_sums.proofs.Summed.{IsSumOf-ones, IsSumAnswer, answered}
 
 -- ---- such ends add up by blocks
@@ -52,7 +54,8 @@ ends_by_blocks (suc fuel) n m t e some short each none =
         nothing : (a : ℕ) → a + 0 ≡ a
         nothing a = omega arith
 
-module _ (i : Instance) (h : IsSumInstance i) (order : List ℕ) (sorted : IsByFalling (length i.jobs) (time_at i) order) (ends : List ℕ) (are : AreEnds i.machines (map (time_at i) order) ends) (small : All (λ e. e ≤ 400000000000) ends) where
+module _ (i : Instance) (h : IsSumInstance i) (order : List ℕ) (sorted : IsByFalling (length i.jobs) (time_at i) order)
+    (ends : List ℕ) (are : AreEnds i.machines (map (time_at i) order) ends) (small : All (λ e. e ≤ (MOST_JOBS * GREATEST)) ends) where
   abbrev n : ℕ
   n = length i.jobs
 
@@ -87,7 +90,8 @@ module _ (i : Instance) (h : IsSumInstance i) (order : List ℕ) (sorted : IsByF
       by (inr l) k = omega (arith, no_end (x + j * m + m) (omega (arith, l)))
 
   later_ends : (x y : ℕ) → x < y → x % m ≡ y % m → at ends y ≤ at ends (x + m)
-  later_ends x y l e = subst (λ z. at ends z ≤ at ends (x + m)) (there (x / m) (y / m) (x % m) (y % m) m (blocks_rise m x y l e) (block_and_rest m x) (block_and_rest m y) e) (end_falls (y / m - x / m - 1) (x + m))
+  later_ends x y l e = subst (λ z. at ends z ≤ at ends (x + m))
+      (there (x / m) (y / m) (x % m) (y % m) m (blocks_rise m x y l e) (block_and_rest m x) (block_and_rest m y) e) (end_falls (y / m - x / m - 1) (x + m))
     where
       there : (p q r s m : ℕ) {x y : ℕ} → p < q → p * m + r ≡ x → q * m + s ≡ y → r ≡ s → x + m + (q - p - 1) * m ≡ y
       there p q r s m {x} {y} l e f g = by (q - p - 1) (omega (arith, l))
@@ -132,7 +136,8 @@ module _ (i : Instance) (h : IsSumInstance i) (order : List ℕ) (sorted : IsByF
       (placed_is_feasible i 1 (length order) (at order) (λ k. 0) (λ k. k % m) (λ k. at ends (k + m)) (at ends) (sum_operations i h) placed)
       (placed_is_within i 1 (length order) (at order) (λ k. 0) (λ k. k % m) (λ k. at ends (k + m)) (at ends) (sum_operations i h) placed)
       (placed_is_answer i 1 (length order) (at order) (λ k. 0) (λ k. k % m) (λ k. at ends (k + m)) (at ends) (sum_operations i h) placed)
-      (λ r l. placed_ends i 1 (length order) (at order) (λ k. 0) (λ k. k % m) (λ k. at ends (k + m)) (at ends) (sum_operations i h) placed (at order r) (at ends r) (λ x b e. same x r (order_distinct n (time_at i) order sorted x r (omega (arith, b, many)) l e)))
+      (λ r l. placed_ends i 1 (length order) (at order) (λ k. 0) (λ k. k % m) (λ k. at ends (k + m)) (at ends)
+      (sum_operations i h) placed (at order r) (at ends r) (λ x b e. same x r (order_distinct n (time_at i) order sorted x r (omega (arith, b, many)) l e)))
       (λ t f. subst (λ x. nat_abs t.unit * value ≤ x) (sym (ones (λ r. end_at t (at order r))))
       (times_bound n m (nat_abs t.unit) (λ r. time_at i (at order r)) (λ r. end_at t (at order r)) h.machine
       (room_in_order i t f (time_at i) (λ test moment. law_of_last_ends.machines i t test moment h.kind f) order (order_once n (time_at i) order sorted))

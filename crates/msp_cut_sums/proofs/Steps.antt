@@ -7,26 +7,27 @@ use Rattle.std.proofs.lemmas.List.Elements.{All-set}
 use Rattle.std.proofs.lemmas.List.FromFn.{map-range_with_len_more}
 use Rattle.std.proofs.Math.ListN.{get_or-eq_default}
 use Rattle.std.proofs.Math.Nat.{div-mul-le_self, mul-le-mul_right}
+use Rattle.msp_class.specs.declared.sizes.TheConstants.{GREATEST}
 use Rattle.msp_cut_sums.specs.Sums.{at}
 
 -- the places from n - back on have their ends, of which none is later than so many times the greatest
 pub record HaveEnds (m back : ℕ) (times ends : List ℕ) : Type 0 where
   pub many : length ends ≡ length times
   pub each : (k : ℕ) → length times ≤ k + back → k < length times → at ends k ≡ at times k + at ends (k + m)
-  pub early : All (λ e. e ≤ back * 1000000000) ends
+  pub early : All (λ e. e ≤ back * GREATEST) ends
 
 pub ends_first : (m : ℕ) (times ends : List ℕ) → length ends ≡ length times → All (λ e. e ≡ 0) ends → HaveEnds m 0 times ends
 ends_first m times ends many none = record { many = many; each = λ k l b. absurd (omega (arith, l, b)); early = λ k d l. omega (arith, none k d l) }
 
-module _ (m back : ℕ) (times ends : List ℕ) (some : 1 ≤ m) (inside : back < length times) (short : All (λ t. t ≤ 1000000000) times) (h : HaveEnds m back times ends) where
+module _ (m back : ℕ) (times ends : List ℕ) (some : 1 ≤ m) (inside : back < length times) (short : All (λ t. t ≤ GREATEST) times) (h : HaveEnds m back times ends) where
   abbrev place : ℕ
   place = length times - 1 - back
 
   -- an end and a time are small
-  pub end_small : (k : ℕ) → at ends k ≤ back * 1000000000
+  pub end_small : (k : ℕ) → at ends k ≤ back * GREATEST
   end_small k = by (cases_lt k (length ends))
     where
-      by : (k < length ends) ⊎ (length ends ≤ k) → at ends k ≤ back * 1000000000
+      by : (k < length ends) ⊎ (length ends ≤ k) → at ends k ≤ back * GREATEST
       by (inl l) = h.early k 0 l
       by (inr l) = omega (arith, get_or-eq_default ends 0 l)
 
@@ -34,7 +35,7 @@ module _ (m back : ℕ) (times ends : List ℕ) (some : 1 ≤ m) (inside : back 
   ends_next new e = subst (HaveEnds m (back + 1) times) (sym e) (record {
     many = length-set ends place value ∙ h.many;
     each = each;
-    early = All-set (λ e. e ≤ (back + 1) * 1000000000) ends place value (omega (arith, short place 0 here, end_small (place + m))) (λ k d l. omega (arith, h.early k d l));
+    early = All-set (λ e. e ≤ (back + 1) * GREATEST) ends place value (omega (arith, short place 0 here, end_small (place + m))) (λ k d l. omega (arith, h.early k d l));
   })
     where
       value : ℕ
@@ -54,7 +55,8 @@ module _ (m back : ℕ) (times ends : List ℕ) (some : 1 ≤ m) (inside : back 
         where
           by : (place < k) ⊎ (k ≤ place) → at (set ends place value) k ≡ at times k + at (set ends place value) (k + m)
           by (inl o) = other k o ∙ h.each k (omega (arith, o, inside)) b ∙ ap (λ x. at times k + x) (sym (other (k + m) (omega (arith, o))))
-          by (inr o) = subst (λ x. at (set ends place value) x ≡ at times x + at (set ends place value) (x + m)) same (get_or-set_same ends place value 0 (omega (arith, here, h.many)) ∙ ap (λ x. at times place + x) (sym (other (place + m) (omega (arith, some)))))
+          by (inr o) = subst (λ x. at (set ends place value) x ≡ at times x + at (set ends place value) (x + m)) same
+              (get_or-set_same ends place value 0 (omega (arith, here, h.many)) ∙ ap (λ x. at times place + x) (sym (other (place + m) (omega (arith, some)))))
             where
               same : place ≡ k
               same = omega (arith, o, l, inside)

@@ -19,7 +19,7 @@ use Rattle.msp_schedule.proofs.costs.Charges.{charge_of, cost_of-sum}
 use Rattle.msp_schedule.proofs.feasible.LastEnds.{last_end-natural}
 use Rattle.msp_route.specs.Bounds.{IsAnswer}
 use Rattle.msp_cut_sums.specs.Sums.{at, weight_at}
-use Rattle.msp_cut_sums.proofs.Room.{end_at}
+use Rattle.msp_schedule.proofs.bounds.Room.{end_at}
 
 -- the cost is the sum of all ends, each as often as the weight says
 pub record IsSumOf (i : Instance) (weight : ℕ → ℕ) : Type 0 where
@@ -48,7 +48,8 @@ module _ (i : Instance) (weight : ℕ → ℕ) (sums : IsSumOf i weight) (order 
   cost_in_order s =
       cost_of-sum i s sums.greatest
       ∙ int_total_below-natural n (charge_of i s) (λ j. weight j * end_at s j) (λ j l. sums.charge s j ∙ ap (λ x. pos (weight j) *ℤ x) (natural (end_of s j) (last_end-natural s.pieces j)))
-      ∙ ap pos (sym (sum_by-OnceBelow (λ j. weight j * end_at s j) once) ∙ sum_by-places (λ j. weight j * end_at s j) order 0 ∙ ap (λ k. total_below k (λ r. weight (at order r) * end_at s (at order r))) (length-OnceBelow once))
+      ∙ ap pos (sym (sum_by-OnceBelow (λ j. weight j * end_at s j) once) ∙ sum_by-places (λ j. weight j * end_at s j) order 0
+      ∙ ap (λ k. total_below k (λ r. weight (at order r) * end_at s (at order r))) (length-OnceBelow once))
 
   pub answered : (ps : List Piece) (value : ℕ) (ends : ℕ → ℕ) → total_below n (λ r. weight (at order r) * ends r) ≡ value
       → Feasible i (record { unit = pos 1; pieces = ps }) → Within i (record { unit = pos 1; pieces = ps }) → IsAnswer i (record { unit = pos 1; pieces = ps })
@@ -61,7 +62,8 @@ module _ (i : Instance) (weight : ℕ → ℕ) (sums : IsSumOf i weight) (order 
       s = record { unit = pos 1; pieces = ps }
 
       upper : cost_of i s ≤ℤ pos value
-      upper = subst₂ (λ x y. x ≤ℤ pos y) (sym (cost_in_order s)) is (pos-le (total_below-mono n (λ r. weight (at order r) * end_at s (at order r)) (λ r. weight (at order r) * ends r) (λ r l. mul-le-mul_left (weight (at order r)) (le-pos (subst (λ x. x ≤ℤ pos (ends r)) (natural (end_of s (at order r)) (last_end-natural ps (at order r))) (early r l))))))
+      upper = subst₂ (λ x y. x ≤ℤ pos y) (sym (cost_in_order s)) is (pos-le (total_below-mono n (λ r. weight (at order r) * end_at s (at order r)) (λ r. weight (at order r) * ends r)
+          (λ r l. mul-le-mul_left (weight (at order r)) (le-pos (subst (λ x. x ≤ℤ pos (ends r)) (natural (end_of s (at order r)) (last_end-natural ps (at order r))) (early r l))))))
 
       bound : (t : Schedule) → Feasible i t → (t.unit *ℤ pos value) ≤ℤ cost_of i t
       bound t f = subst₂ (λ u c. (u *ℤ pos value) ≤ℤ c) (sym (natural t.unit (omega (arith, ints, f.unit)))) (sym (cost_in_order t)) (pos-le (lower t f))

@@ -1,6 +1,6 @@
 // Identical machines with preemption, and jobs of one time: the heaviest jobs first.
-ghost use Rattle.std.specs.Prelude.{◌≡◌, ◌<◌, ◌≤◌, length, IfOk, ⊤};
-ghost use Rattle.msp_instance.specs.declared.ranges.TheConstants.{GREATEST_EQUAL_TIME, MOST_JOBS, MOST_MACHINES};
+ghost use Rattle.std.specs.Prelude.{◌≡◌, ◌<◌, ◌≤◌, length, IfOk};
+ghost use Rattle.msp_class.specs.declared.sizes.TheConstants.{MOST_JOBS, MOST_MACHINES, GREATEST_EQUAL_TIME};
 ghost use Rattle.msp_instance.specs.Instance.{common_time};
 ghost use Rattle.msp_instance.specs.Conditions.{Inner};
 ghost use Rattle.msp_schedule.specs.Cost.{IsBest};
@@ -81,10 +81,6 @@ pub struct CutWeights;
 
 impl Solver for CutWeights {
     ghost solved = { λ _. cut_weights_class };
-
-    ghost can_solve = { λ _ _. ⊤ };
-
-    ghost may_ask = { λ _ _. ⊤ };
 
     fn target(&self) -> Class {
         CUT_WEIGHTS_CLASS

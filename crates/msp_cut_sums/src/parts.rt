@@ -1,6 +1,6 @@
 // Pieces of operations.
 ghost use Rattle.std.specs.Prelude.{◌≡◌, ◌+◌, ◌*◌, ◌≤◌, ◌++◌, ◌∷◌, [], OnOk};
-ghost use Rattle.msp_instance.specs.declared.ranges.TheConstants.{GREATEST_EQUAL_TIME, MOST_JOBS, MOST_MACHINES};
+ghost use Rattle.msp_class.specs.declared.sizes.TheConstants.{MOST_JOBS, MOST_MACHINES, GREATEST_EQUAL_TIME};
 ghost use Rattle.msp_cut_sums.specs.Pieces.{part};
 
 use msp_class::{List, NoMemory};

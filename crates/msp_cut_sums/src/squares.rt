@@ -1,6 +1,6 @@
 // Open shops whose operations take one time: the heaviest jobs first, in squares of as many jobs and slots as there are machines.
-ghost use Rattle.std.specs.Prelude.{◌≡◌, ◌+◌, ◌*◌, ◌<◌, ◌≤◌, ◌⊎◌, length, IfOk, ⊤};
-ghost use Rattle.msp_instance.specs.declared.ranges.TheConstants.{GREATEST_EQUAL_TIME, MOST_JOBS, MOST_MACHINES};
+ghost use Rattle.std.specs.Prelude.{◌≡◌, ◌+◌, ◌*◌, ◌<◌, ◌≤◌, ◌⊎◌, length, IfOk};
+ghost use Rattle.msp_class.specs.declared.sizes.TheConstants.{MOST_JOBS, MOST_MACHINES, GREATEST_EQUAL_TIME};
 ghost use Rattle.msp_instance.specs.Conditions.{Inner};
 ghost use Rattle.msp_schedule.specs.Cost.{IsBest};
 ghost use Rattle.msp_route.specs.Bounds.{IsAnswer};
@@ -114,10 +114,6 @@ pub struct OpenWeights;
 impl Solver for OpenWeights {
     ghost solved = { λ _. open_weights_class };
 
-    ghost can_solve = { λ _ _. ⊤ };
-
-    ghost may_ask = { λ _ _. ⊤ };
-
     fn target(&self) -> Class {
         OPEN_WEIGHTS_CLASS
     }
@@ -143,10 +139,6 @@ pub struct CutOpenWeights;
 
 impl Solver for CutOpenWeights {
     ghost solved = { λ _. cut_open_weights_class };
-
-    ghost can_solve = { λ _ _. ⊤ };
-
-    ghost may_ask = { λ _ _. ⊤ };
 
     fn target(&self) -> Class {
         CUT_OPEN_WEIGHTS_CLASS

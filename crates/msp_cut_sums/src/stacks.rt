@@ -1,8 +1,8 @@
 // Identical machines with preemption: each machine runs its jobs from the shortest to the longest.
-ghost use Rattle.std.specs.Prelude.{◌≡◌, ◌*◌, ◌<◌, ◌≤◌, map, length, All, IfOk, ⊤};
-ghost use Rattle.msp_instance.specs.declared.ranges.TheConstants.{GREATEST, MOST_JOBS, MOST_MACHINES};
+ghost use Rattle.std.specs.Prelude.{◌≡◌, ◌*◌, ◌<◌, ◌≤◌, map, length, All, IfOk};
+ghost use Rattle.msp_class.specs.declared.sizes.TheConstants.{MOST_JOBS, MOST_MACHINES, GREATEST};
 ghost use Rattle.msp_instance.specs.Conditions.{Inner};
-ghost use Rattle.msp_schedule.specs.Rows.{time_at};
+ghost use Rattle.msp_schedule.specs.BackToBack.{time_at};
 ghost use Rattle.msp_schedule.specs.Cost.{IsBest};
 ghost use Rattle.msp_route.specs.Bounds.{IsAnswer};
 ghost use Rattle.msp_cut_sums.specs.Sums.{at, cut_sum_class, IsCutSumCost};
@@ -126,10 +126,6 @@ pub struct CutSum;
 
 impl Solver for CutSum {
     ghost solved = { λ _. cut_sum_class };
-
-    ghost can_solve = { λ _ _. ⊤ };
-
-    ghost may_ask = { λ _ _. ⊤ };
 
     fn target(&self) -> Class {
         CUT_SUM_CLASS

@@ -1,5 +1,6 @@
 -- What is picked from the list, and a best schedule that is settled.
-use Rattle.std.proofs.Common.{◌≡◌, refl, ◌≢◌, ℕ, zero, suc, ◌+◌, ◌<◌, ◌≤◌, ◌⊎◌, inl, inr, ◌↔◌, Bool, true, false, IsTrue, List, [], ◌∷◌, length, map, ℤ, pos, ◌*ℤ◌, ◌≤ℤ◌, ◌<ℤ◌, sym, ap, ap₂, subst, subst₂, ◌∙◌, arith}
+use Rattle.std.proofs.Common.{◌≡◌, refl, ◌≢◌, ℕ, zero, suc, ◌+◌, ◌<◌, ◌≤◌, ◌⊎◌, inl, inr, ◌↔◌, Bool, true, false, IsTrue, List, [], ◌∷◌, length, map, ℤ, pos, ◌*ℤ◌, ◌≤ℤ◌, ◌<ℤ◌, sym}
+use Rattle.std.proofs.Common.{ap, ap₂, subst, subst₂, ◌∙◌, arith}
 use Rattle.std.specs.Option.{option_map}
 use Rattle.std.specs.Prelude.{⊤, slice_get, Contains, IfSome, IfNone, IfOk, IfErr, Option, Some, None, Result, Ok, Err}
 use Rattle.std.proofs.lemmas.Bool.{cases_lt}
@@ -54,7 +55,55 @@ AreSolved [] = ⊤
 AreSolved (e ∷ es) = (class_of e.solver ≡ Some e.class) × AreSolved es
 
 all_solved : AreSolved solved_list
-all_solved = (refl, (refl, (refl, (refl, (refl, (refl, (refl, (refl, (refl, (refl, (refl, (refl, (refl, (refl, (refl, (refl, (refl, (refl, (refl, (refl, (refl, (refl, (refl, (refl, (refl, (refl, (refl, (refl, (refl, (refl, (refl, (refl, (refl, (refl, (refl, (refl, tt))))))))))))))))))))))))))))))))))))
+all_solved = (
+  refl,
+  (
+    refl,
+    (
+      refl,
+      (
+        refl,
+        (
+          refl,
+          (
+            refl,
+            (
+              refl,
+              (
+                refl,
+                (
+                  refl,
+                  (
+                    refl,
+                    (
+                      refl,
+                      (
+                        refl,
+                        (
+                          refl,
+                          (
+                            refl,
+                            (
+                              refl,
+                              (
+                                refl,
+                                (refl, (refl, (refl, (refl, (refl, (refl, (refl, (refl, (refl, (refl, (refl, (refl, (refl, (refl, (refl, (refl, (refl, (refl, (refl, (refl, tt)))))))))))))))))))),
+                              ),
+                            ),
+                          ),
+                        ),
+                      ),
+                    ),
+                  ),
+                ),
+              ),
+            ),
+          ),
+        ),
+      ),
+    ),
+  ),
+)
 
 solved_at : (xs : List SolvedClass) (n : ℕ) (e : SolvedClass) → AreSolved xs → slice_get xs n ≡ Some e → class_of e.solver ≡ Some e.class
 solved_at [] n e h g = absurd (cc)
@@ -70,14 +119,21 @@ IsRoute-from_way from n e found c is at led short =
     let way : IsWay carries (e.class ∷ []) (from ∷ []) (Some c) = subst (IsWay carries (e.class ∷ []) (from ∷ [])) is led in
     let few : length c.rows ≤ CLASSES = subst (λ o. IfSome o (λ x. length x.rows ≤ CLASSES)) is short in
     let start : from ≡ c.from = one_is (IsFirst-among way.0) in
-    record { listed = listed_at n e at; solver = solved_at solved_list n e all_solved at; start = sym start; nearest = subst (λ x. IsNearest carries (e.class ∷ []) x c.rows) (sym start) way.1; few = few }
+    record {
+      listed = listed_at n e at;
+      solver = solved_at solved_list n e all_solved at;
+      start = sym start;
+      nearest = subst (λ x. IsNearest carries (e.class ∷ []) x c.rows) (sym start) way.1;
+      few = few;
+    }
 
 pub IsRoute-reaches : (from : Class) (p : Pick) → IsRoute from p → Reaches carries from p.entry.class
 IsRoute-reaches from p h =
     let into = h.nearest.leads in
     subst (Reaches carries from) (sym (one_is into.is_wanted)) (p.chain.rows, into.leads)
 
-first_in : (P : Class → Type 0) (xs : List SolvedClass) (n : ℕ) (e : SolvedClass) → slice_get xs n ≡ Some e → P e.class → ((k : ℕ) → k < n → IfSome (slice_get xs k) (λ x. ¬ P x.class)) → IsFirst P (map (λ x. x.class) xs) e.class
+first_in : (P : Class → Type 0) (xs : List SolvedClass) (n : ℕ) (e : SolvedClass)
+    → slice_get xs n ≡ Some e → P e.class → ((k : ℕ) → k < n → IfSome (slice_get xs k) (λ x. ¬ P x.class)) → IsFirst P (map (λ x. x.class) xs) e.class
 first_in P [] n e g p h = absurd (cc)
 first_in P (x ∷ xs) zero e g p h = let same : x ≡ e = cc in subst (λ y. IsFirst P (y.class ∷ map (λ z. z.class) xs) e.class) (sym same) (here p)
 first_in P (x ∷ xs) (suc n) e g p h = later (h 0 (omega arith)) (first_in P xs n e g p (λ k l. h (suc k) (omega arith)))
@@ -94,11 +150,13 @@ pub not_there : (b : Bool) (T : Type 0) → b ≡ false → (IsTrue b ↔ T) →
 not_there b T e h t = absurd (let yes : b ≡ true = h.1 t in cc)
 
 -- the first of the list to which a chain leads
-pub first_led : (from : Class) (n : ℕ) (p : Pick) → StandsAt n p.entry → IsRoute from p → ((k : ℕ) → k < n → IfSome (slice_get solved_list k) (λ e. ¬ Reaches carries from e.class)) → IsFirst (Reaches carries from) solved_classes p.entry.class
+pub first_led : (from : Class) (n : ℕ) (p : Pick) → StandsAt n p.entry → IsRoute from p
+    → ((k : ℕ) → k < n → IfSome (slice_get solved_list k) (λ e. ¬ Reaches carries from e.class)) → IsFirst (Reaches carries from) solved_classes p.entry.class
 first_led from n p at h none = first_in (Reaches carries from) solved_list n p.entry at (IsRoute-reaches from p h) none
 
 -- a class of the list to which no chain leads
-pub no_route : (from at : Class) (n : ℕ) (found : Option Pick) → found ≡ None → IfNone found (IfSome (slice_get solved_list n) (λ e. ¬ Reaches carries from e.class)) → slice_get solved_classes n ≡ Some at
+pub no_route : (from at : Class) (n : ℕ) (found : Option Pick)
+    → found ≡ None → IfNone found (IfSome (slice_get solved_list n) (λ e. ¬ Reaches carries from e.class)) → slice_get solved_classes n ≡ Some at
     → HasNoTarget from (Some at) (NoRoute from at)
 no_route from at n found is h stands = (
   refl,
@@ -117,7 +175,8 @@ none_in P [] h t (k, inside, e) = absurd (omega (arith, inside))
 none_in P (x ∷ xs) h t (zero, inside, e) = λ p. h 0 (omega arith) (subst P (sym e) p)
 none_in P (x ∷ xs) h t (suc k, inside, e) = none_in P xs (λ n l. h (suc n) (omega (arith, l))) t (k, omega (arith, inside), e)
 
-pub none_led : (from : Class) (n : ℕ) → length solved_list ≤ n → ((k : ℕ) → k < n → IfSome (slice_get solved_list k) (λ e. ¬ Reaches carries from e.class)) → (t : Class) → Contains solved_classes t → ¬ Reaches carries from t
+pub none_led : (from : Class) (n : ℕ) → length solved_list ≤ n → ((k : ℕ) → k < n → IfSome (slice_get solved_list k) (λ e. ¬ Reaches carries from e.class))
+    → (t : Class) → Contains solved_classes t → ¬ Reaches carries from t
 none_led from n whole h t inside = none_in (Reaches carries from) solved_list (λ k l. h k (omega (arith, l, whole))) t inside
 
 -- a class that stands at no place is not in the list
@@ -177,7 +236,8 @@ IsPick-first from n found p is picked none =
 some_once : (o : Option Class) (a b : Class) → o ≡ Some a → o ≡ Some b → a ≡ b
 some_once o a b e f = cc
 
-pub IsPick-given : (from at : Class) (n : ℕ) (found : Option Pick) (p : Pick) → found ≡ Some p → IfSome found (λ q. StandsAt n q.entry × IsRoute from q) → slice_get solved_classes n ≡ Some at → IsPick from (Some at) p
+pub IsPick-given : (from at : Class) (n : ℕ) (found : Option Pick) (p : Pick)
+    → found ≡ Some p → IfSome found (λ q. StandsAt n q.entry × IsRoute from q) → slice_get solved_classes n ≡ Some at → IsPick from (Some at) p
 IsPick-given from at n found p is picked given =
     let h : StandsAt n p.entry × IsRoute from p = subst (λ o. IfSome o (λ q. StandsAt n q.entry × IsRoute from q)) is picked in
     let there : slice_get solved_classes n ≡ Some p.entry.class = slice_get-map (λ s. s.class) solved_list n ∙ ap (option_map (λ s. s.class)) h.0 in

@@ -1,5 +1,6 @@
 -- Which classes get a certificate of the best cost, and what is answered there.
 use Rattle.std.specs.Prelude.{◌≡◌, ⊤, ℕ, ◌^◌, ◌≤◌, List, [], ◌∷◌, Some, ℤ, pos, ◌≤ℤ◌, All, Contains}
+use Rattle.msp_class.specs.declared.sizes.TheConstants.{MOST_JOBS, GREATEST_UNIT}
 use Rattle.msp_class.specs.declared.class.Class.{Class}
 use Rattle.msp_instance.specs.declared.Instance.{Instance}
 use Rattle.msp_instance.specs.Conditions.{LiesWithin}
@@ -49,7 +50,7 @@ abbrev pub HasLowLevels : Proof → Type 0
 HasLowLevels (Group jobs) = ⊤
 HasLowLevels (Machine machine) = ⊤
 HasLowLevels (Line job) = ⊤
-HasLowLevels (Levels level tail) = All (λ l. l ≤ 400) level × (tail ≤ 400)
+HasLowLevels (Levels level tail) = All (λ l. l ≤ MOST_JOBS) level × (tail ≤ MOST_JOBS)
 HasLowLevels (Segments lists) = ⊤
 HasLowLevels (Block head jobs) = ⊤
 HasLowLevels (Prices row column) = ⊤
@@ -58,7 +59,7 @@ HasLowLevels (Prices row column) = ⊤
 -- entries, none of them too great.
 pub record KeepsTextLimits (c : Certificate) : Type 0 where
   pub num : LiesWithin (10 ^ 24) c.bound.num
-  pub den : (pos 1 ≤ℤ c.bound.den) × (c.bound.den ≤ℤ pos (10 ^ 13))
+  pub den : (pos 1 ≤ℤ c.bound.den) × (c.bound.den ≤ℤ GREATEST_UNIT)
   pub proof : KeepsLimits c.proof
   pub levels : HasLowLevels c.proof
 
@@ -68,7 +69,8 @@ pub data IsProofOf (i : Instance) (cost : Frac) : Proof → Type 0 where
   found : (proof : Proof) → Contains searched_classes i.class → IsFound i cost (Some proof) → IsProofOf i cost proof
   segmented : (lists : List (List ℕ)) → i.class ≡ lexical_class → AreSegments i lists → IsLeastCost i (segments_bound i lists) → IsProofOf i cost (Segments lists)
   priced : (a : Assignment) → i.class ≡ unrelated_class → ArePricesOfBest i a → TakePositions i a → KeepsPricesSmall i a → IsProofOf i cost (Prices a.row_price a.column_price)
-  bounded : (head jobs : List ℕ) (value : ℤ) → i.class ≡ blocks_class → IsBlock i head jobs → IsBlockValue i head jobs value → IsBestCost i value → All (λ h. h ≤ greatest_head) head → IsProofOf i cost (Block head jobs)
+  bounded : (head jobs : List ℕ) (value : ℤ) → i.class ≡ blocks_class
+      → IsBlock i head jobs → IsBlockValue i head jobs value → IsBestCost i value → All (λ h. h ≤ greatest_head) head → IsProofOf i cost (Block head jobs)
 
 -- The answer to an instance of one of the classes: a best solution in the form of a report, and a certificate whose bound is its cost, and
 -- whose evidence holds with just that value, by the proof that the class gets.

@@ -1,5 +1,6 @@
 -- The schedule of the least bound is best.
-use Rattle.std.proofs.Common.{◌≡◌, ◌≢◌, ℕ, zero, suc, ◌+◌, ◌-◌, ◌*◌, ◌<◌, ◌≤◌, ◌⊎◌, inl, inr, Bool, true, eqb, leb, ℤ, List, length, get_or, map, filter, pos, nat_abs, ◌+ℤ◌, ◌-ℤ◌, ◌*ℤ◌, ◌≤ℤ◌, ◌<ℤ◌, All, AllPairs, Contains, refl, sym, ap, ap₂, subst, subst₂, ◌∙◌, arith}
+use Rattle.std.proofs.Common.{◌≡◌, ◌≢◌, ℕ, zero, suc, ◌+◌, ◌-◌, ◌*◌, ◌<◌, ◌≤◌, ◌⊎◌, inl, inr, Bool, true, eqb, leb, ℤ, List, length, get_or, map, filter, pos, nat_abs, ◌+ℤ◌, ◌-ℤ◌}
+use Rattle.std.proofs.Common.{◌*ℤ◌, ◌≤ℤ◌, ◌<ℤ◌, All, AllPairs, Contains, refl, sym, ap, ap₂, subst, subst₂, ◌∙◌, arith}
 use Rattle.std.specs.Prelude.{◌&&◌, ◌==◌, ◌↔◌, IsTrue}
 use Rattle.std.proofs.lemmas.Bool.{cases_lt, eqb-true, eq-eqb}
 use Rattle.std.proofs.lemmas.Int.{ints}
@@ -79,7 +80,8 @@ module _ (i : Instance) (t : HasOneTime i) where
 
   path_rises : (rank : ℕ → ℕ) → All (λ a. rank a.before < rank a.after) i.arcs → (j k : ℕ) → HasPath i.arcs j k → rank j < rank k
   path_rises rank rises j k (one step) = All-contains (λ a. rank a.before < rank a.after) i.arcs (record { before = j; after = k }) rises step
-  path_rises rank rises j k (more {k = m} step path) = omega (arith, All-contains (λ a. rank a.before < rank a.after) i.arcs (record { before = j; after = m }) rises step, path_rises rank rises m k path)
+  path_rises rank rises j k (more {k = m} step path) =
+      omega (arith, All-contains (λ a. rank a.before < rank a.after) i.arcs (record { before = j; after = m }) rises step, path_rises rank rises m k path)
 
   -- ---- places that keep the due slots keep the lowered ones
   module _ (bound : ℤ) (low : List ℕ) (pieces : List Piece) (h : IsListed i bound low pieces) where
@@ -121,14 +123,20 @@ module _ (i : Instance) (t : HasOneTime i) where
           kept_by rank rises (total_below n rank + 1) (total_below n rank + 1) (λ k b. omega (arith, total_below-term n rank k b)) j l (omega arith)
 
       -- ---- so the schedule in slots keeps them
-      waits : (j x : ℕ) → j < n → x < h.schedule.begin j → ((k : ℕ) × (k < n) × HasStep i.arcs k j × (x ≤ h.schedule.begin k)) ⊎ (i.machines ≤ how_many n (λ k. leb (slot k) (slot j) && eqb (h.schedule.begin k) x))
+      waits : (j x : ℕ) → j < n → x < h.schedule.begin j
+          → ((k : ℕ) × (k < n) × HasStep i.arcs k j × (x ≤ h.schedule.begin k)) ⊎ (i.machines ≤ how_many n (λ k. leb (slot k) (slot j) && eqb (h.schedule.begin k) x))
       waits j x l less = elim (h.schedule.runs.waits j x l less) [
         | inl (a, c, to, from) ↦ inl (a.before, (All-contains (λ a. (a.before < n) × (a.after < n)) i.arcs a t.ends c).0, subst (λ y. HasStep i.arcs a.before y) to c, from)
         | inr all ↦ inr (omega (
           arith,
           covered n i.machines (λ k. leb (slot k) (slot j) && eqb (h.schedule.begin k) x) (λ _. true) h.schedule.machine (λ m b _.
-              let (k, inside, at, on, ahead) = all m b in
-              (k, inside, both_is_true (leb (slot k) (slot j)) (eqb (h.schedule.begin k) x) (le_leb (slot k) (slot j) (stands-in (λ a b. slot a ≤ slot b) h.order k j h.rising ahead)) (eq-eqb (h.schedule.begin k) x at), on)),
+              let (k, inside, at, on, ahead) = all m b in (
+                k,
+                inside,
+                both_is_true (leb (slot k) (slot j)) (eqb (h.schedule.begin k) x)
+                    (le_leb (slot k) (slot j) (stands-in (λ a b. slot a ≤ slot b) h.order k j h.rising ahead)) (eq-eqb (h.schedule.begin k) x at),
+                on,
+              )),
           total_below-constant i.machines 1,
         ))
       ]
@@ -140,13 +148,15 @@ module _ (i : Instance) (t : HasOneTime i) where
         waits = waits;
         path = λ k j a b step. (h.shows k j a b).1 (one step);
         joined = λ k j l a b c p q. (h.shows k l a c).1 (joined_paths i.arcs k j l ((h.shows k j a b).0 p) ((h.shows j l b c).0 q));
-        fits = λ x y a b path. (h.lowered x a).fits (slot y) (omega (arith, due_small y b)) (omega (arith, kept x a)) (how_many-some n (λ z. h.leads x z && leb (slot z) (slot y)) y b (both_is_true (h.leads x y) (leb (slot y) (slot y)) path (le_leb (slot y) (slot y) (omega arith))));
+        fits = λ x y a b path. (h.lowered x a).fits (slot y) (omega (arith, due_small y b)) (omega (arith, kept x a))
+            (how_many-some n (λ z. h.leads x z && leb (slot z) (slot y)) y b (both_is_true (h.leads x y) (leb (slot y) (slot y)) path (le_leb (slot y) (slot y) (omega arith))));
         few = p.few;
         kept = kept;
       }
 
       pub all_early : ((j : ℕ) → j < n → leaving i.arcs j ≤ 1) ⊎ (i.machines ≡ 2) → (j : ℕ) → j < n → h.schedule.begin j < slot j
-      all_early (inl tree) = all_in_time n i.machines (HasStep i.arcs) h.leads slot h.schedule.begin place run (tree_step n i.machines (HasStep i.arcs) h.leads slot h.schedule.begin place run (next_of i.arcs) (λ k j step. next_is i.arcs k j (tree k (step_inside k j step).0) step))
+      all_early (inl tree) = all_in_time n i.machines (HasStep i.arcs) h.leads slot h.schedule.begin place run
+          (tree_step n i.machines (HasStep i.arcs) h.leads slot h.schedule.begin place run (next_of i.arcs) (λ k j step. next_is i.arcs k j (tree k (step_inside k j step).0) step))
       all_early (inr two) = all_in_time n i.machines (HasStep i.arcs) h.leads slot h.schedule.begin place run (pair_step n i.machines (HasStep i.arcs) h.leads slot h.schedule.begin place run two)
 
     -- ---- pieces in time are jobs in time
@@ -154,7 +164,9 @@ module _ (i : Instance) (t : HasOneTime i) where
     EndInTime p = p.to ≤ℤ pos (slot p.job)
 
     pub jobs_in_time : All EndInTime pieces → (j : ℕ) → j < n → h.schedule.begin j < slot j
-    jobs_in_time all j l = All-contains (λ j. h.schedule.begin j < slot j) (map (λ p. p.job) pieces) j (All-map (λ j. h.schedule.begin j < slot j) (λ p. p.job) pieces (λ k d b. early (get_or pieces k d) (h.schedule.each k d b) (all k d b))) (OnceBelow-contains (OnceBelow-from_permutation h.schedule.all) j l)
+    jobs_in_time all j l = All-contains (λ j. h.schedule.begin j < slot j) (map (λ p. p.job) pieces)
+        j (All-map (λ j. h.schedule.begin j < slot j) (λ p. p.job) pieces (λ k d b. early (get_or pieces k d) (h.schedule.each k d b) (all k d b)))
+        (OnceBelow-contains (OnceBelow-from_permutation h.schedule.all) j l)
       where
         early : (p : Piece) → p ≡ piece_at (h.schedule.begin p.job) (h.schedule.machine p.job) p.job → EndInTime p → h.schedule.begin p.job < slot p.job
         early p e m = omega (arith, le-pos (subst (λ x. x ≤ℤ pos (slot p.job)) (ap (λ p. p.to) e) m))
@@ -166,7 +178,8 @@ module _ (i : Instance) (t : HasOneTime i) where
         in_time p e l = subst (λ x. x ≤ℤ pos (slot p.job)) (sym (ap (λ p. p.to) e)) (pos-le (omega (arith, l)))
 
         job_inside : All (λ p. p.job < n) pieces
-        job_inside k d l = All-contains (λ j. j < n) (map (λ p. p.job) pieces) (get_or pieces k d).job (OnceBelow-from_permutation h.schedule.all).within (Contains-map (λ p. p.job) pieces (get_or pieces k d) (Contains-get_or pieces k d l))
+        job_inside k d l = All-contains (λ j. j < n) (map (λ p. p.job) pieces) (get_or pieces k d).job
+            (OnceBelow-from_permutation h.schedule.all).within (Contains-map (λ p. p.job) pieces (get_or pieces k d) (Contains-get_or pieces k d l))
 
     cost_met : ((j : ℕ) → j < n → h.schedule.begin j < slot j) → (j : ℕ) → j < n → cost_in i j (h.schedule.begin j + 1) ≤ℤ bound
     cost_met early j l = (h.dues j l).met (h.schedule.begin j + 1) (omega arith) (omega (arith, early j l, (h.lowered j l).most))
@@ -174,7 +187,8 @@ module _ (i : Instance) (t : HasOneTime i) where
     -- the slots of the schedule are places
     slots_are_places : ArePlaces i h.schedule.begin
     slots_are_places = record {
-      few = λ x. injected n i.machines (λ j. eqb (h.schedule.begin j) x) h.schedule.machine (λ j b _. h.schedule.runs.inside j b) (λ a b k l u v e. h.schedule.runs.apart a b k l (eqb-true (h.schedule.begin a) x u ∙ sym (eqb-true (h.schedule.begin b) x v)) e);
+      few = λ x. injected n i.machines (λ j. eqb (h.schedule.begin j) x) h.schedule.machine (λ j b _. h.schedule.runs.inside j b)
+          (λ a b k l u v e. h.schedule.runs.apart a b k l (eqb-true (h.schedule.begin a) x u ∙ sym (eqb-true (h.schedule.begin b) x v)) e);
       forward = h.schedule.runs.forward;
       early = begins_soon i h.order pieces h.schedule;
     }
@@ -220,11 +234,13 @@ module _ (i : Instance) (t : HasOneTime i) where
 
     pays : (j : ℕ) → j < n → (pos unit *ℤ cost_in i j (place j + 1)) ≤ℤ cost_of i s
     pays j l =
-        ≤ℤ_trans (subst (λ x. x ≤ℤ charge_of i s j) (scaled (common_time i * (place j + 1))) (job_cost-mono i.class.crit s.unit (job_at i j) (s.unit *ℤ pos (common_time i * (place j + 1))) (end_of s j) (omega (arith, ints, f.unit)) (placed.2 j l)))
+        ≤ℤ_trans (subst (λ x. x ≤ℤ charge_of i s j) (scaled (common_time i * (place j + 1)))
+        (job_cost-mono i.class.crit s.unit (job_at i j) (s.unit *ℤ pos (common_time i * (place j + 1))) (end_of s j) (omega (arith, ints, f.unit)) (placed.2 j l)))
         (cost_of-bound i s greatest_crit j l)
       where
         scaled : (x : ℕ) → job_cost i.class.crit s.unit (job_at i j) (s.unit *ℤ pos x) ≡ pos unit *ℤ cost_at i j x
-        scaled x = ap (λ u. job_cost i.class.crit u (job_at i j) (u *ℤ pos x)) unit_is ∙ ap (λ u. job_cost i.class.crit u (job_at i j) (pos unit *ℤ pos x)) (sym (*ℤ-one (pos unit))) ∙ job_cost-scale unit some_unit (pos 1) i.class.crit (job_at i j) (pos x)
+        scaled x = ap (λ u. job_cost i.class.crit u (job_at i j) (u *ℤ pos x)) unit_is
+            ∙ ap (λ u. job_cost i.class.crit u (job_at i j) (pos unit *ℤ pos x)) (sym (*ℤ-one (pos unit))) ∙ job_cost-scale unit some_unit (pos 1) i.class.crit (job_at i j) (pos x)
 
     pub placed_by : (bound : ℤ) → cost_of i s ≤ℤ (bound *ℤ s.unit) → CanPlace i bound
     placed_by bound m = (place, placed.1, λ j l. *ℤ-cancel unit some_unit (≤ℤ_trans (pays j l) (subst (λ x. cost_of i s ≤ℤ x) (ap (λ u. bound *ℤ u) unit_is ∙ *ℤ_comm bound (pos unit)) m)))
@@ -257,7 +273,11 @@ module _ (i : Instance) (class : (i.class ≡ tree_class) ⊎ (i.class ≡ pair_
 
   pub meet_exactly : Ends ↔ CanMeet i bound
   meet_exactly = (
-    λ all. (schedule i t h.order pieces h.schedule, feasible i t h.order pieces h.schedule, subst (λ x. cost_of i (schedule i t h.order pieces h.schedule) ≤ℤ x) (sym (*ℤ-one bound)) (meets i t bound low pieces h all)),
+    λ all. (
+      schedule i t h.order pieces h.schedule,
+      feasible i t h.order pieces h.schedule,
+      subst (λ x. cost_of i (schedule i t h.order pieces h.schedule) ≤ℤ x) (sym (*ℤ-one bound)) (meets i t bound low pieces h all),
+    ),
     λ can. end_in_time i t bound low pieces h (tree_or_pair i class inner) (placed_by i t can.0 can.1 bound can.2),
   )
 
@@ -270,7 +290,8 @@ module _ (i : Instance) (class : (i.class ≡ tree_class) ⊎ (i.class ≡ pair_
     jobs_inside = subst₂ (λ ps xs. All (λ p. p.job < length xs) ps) (sym same) (sym alike) (λ k d l. omega (arith, inside k d l, h.whole))
       where
         inside : All (λ p. p.job < length i.jobs) pieces
-        inside k d l = All-contains (λ j. j < length i.jobs) (map (λ p. p.job) pieces) (get_or pieces k d).job (OnceBelow-from_permutation h.schedule.all).within (Contains-map (λ p. p.job) pieces (get_or pieces k d) (Contains-get_or pieces k d l))
+        inside k d l = All-contains (λ j. j < length i.jobs) (map (λ p. p.job) pieces) (get_or pieces k d).job
+            (OnceBelow-from_permutation h.schedule.all).within (Contains-map (λ p. p.job) pieces (get_or pieces k d) (Contains-get_or pieces k d l))
 
     ends_same : EndBySlots ≡ Ends
     ends_same = ap₂ (λ ps (xs : List ℕ). All (λ p. p.to ≤ℤ pos (get_or xs p.job 0)) ps) same alike

@@ -28,7 +28,8 @@ how_many-same n f g h = total_below-same n (λ j. one_if (f j)) (λ j. one_if (g
 -- and one number more passes that
 pub how_many-more : (n : ℕ) (f g : ℕ → Bool) (x : ℕ) → x < n → f x ≡ false → g x ≡ true → ((j : ℕ) → j < n → f j ≡ true → g j ≡ true) → how_many n f + 1 ≤ how_many n g
 how_many-more n f g x l fails passes h =
-    omega (arith, total_below-mono n (λ j. one_if (f j) + cond (eqb x j) 1 0) (λ j. one_if (g j)) each, total_below-add n (λ j. one_if (f j)) (λ j. cond (eqb x j) 1 0), total_below-only n (λ _. 1) x l)
+    omega
+    (arith, total_below-mono n (λ j. one_if (f j) + cond (eqb x j) 1 0) (λ j. one_if (g j)) each, total_below-add n (λ j. one_if (f j)) (λ j. cond (eqb x j) 1 0), total_below-only n (λ _. 1) x l)
   where
     each : (j : ℕ) → j < n → one_if (f j) + cond (eqb x j) 1 0 ≤ one_if (g j)
     each j b = by (eqb x j) refl
@@ -44,7 +45,12 @@ how_many-some n f x l passes = omega (arith, total_below-term n (λ j. one_if (f
 pub only_one : (n : ℕ) (f : ℕ → Bool) (a b : ℕ) → how_many n f < 2 → a < n → b < n → f a ≡ true → f b ≡ true → a ≡ b
 only_one n f a b few k l p q = elim (cases_eq a b) [
   | inl same ↦ same
-  | inr other ↦ absurd (omega (arith, few, how_many-more n (λ j. f j && eqb a j) f b l (fails other) q (λ j _ h. (both_true (f j) (eqb a j) h).0), how_many-some n (λ j. f j && eqb a j) a k (both_is_true (f a) (eqb a a) p (eq-eqb a a refl))))
+  | inr other ↦ absurd (omega (
+    arith,
+    few,
+    how_many-more n (λ j. f j && eqb a j) f b l (fails other) q (λ j _ h. (both_true (f j) (eqb a j) h).0),
+    how_many-some n (λ j. f j && eqb a j) a k (both_is_true (f a) (eqb a a) p (eq-eqb a a refl)),
+  ))
 ]
   where
     fails : a ≢ b → (f b && eqb a b) ≡ false
@@ -77,7 +83,8 @@ covered n k f g value h =
 
 -- ---- numbers that have slots
 -- those between two slots are no more than these slots hold
-pub slots_hold : (n m : ℕ) (slot : ℕ → ℕ) → ((x : ℕ) → begin_at n slot x ≤ m) → (from d : ℕ) (f : ℕ → Bool) → ((j : ℕ) → j < n → f j ≡ true → (from ≤ slot j) × (slot j < from + d)) → how_many n f ≤ m * d
+pub slots_hold : (n m : ℕ) (slot : ℕ → ℕ) → ((x : ℕ) → begin_at n slot x ≤ m)
+    → (from d : ℕ) (f : ℕ → Bool) → ((j : ℕ) → j < n → f j ≡ true → (from ≤ slot j) × (slot j < from + d)) → how_many n f ≤ m * d
 slots_hold n m slot few from zero f h = omega (arith, total_below-none n (λ j. one_if (f j)) (λ j l. none (f j) (λ e. h j l e)))
   where
     none : {j : ℕ} (t : Bool) → (t ≡ true → (from ≤ slot j) × (slot j < from + 0)) → one_if t ≡ 0
@@ -103,7 +110,8 @@ slots_hold n m slot few from (suc d) f h =
         at_end x e l = grind (arith, nat_tests)
 
 -- and where each of these slots has m, they are no fewer
-pub slots_full : (n m : ℕ) (slot : ℕ → ℕ) (f : ℕ → Bool) (from d : ℕ) → ((x : ℕ) → from ≤ x → x < from + d → m ≤ how_many n (λ j. f j && eqb (slot j) x)) → m * d ≤ how_many n (λ j. f j && (leb from (slot j) && ltb (slot j) (from + d)))
+pub slots_full : (n m : ℕ) (slot : ℕ → ℕ) (f : ℕ → Bool) (from d : ℕ) → ((x : ℕ) → from ≤ x → x < from + d → m ≤ how_many n (λ j. f j && eqb (slot j) x))
+    → m * d ≤ how_many n (λ j. f j && (leb from (slot j) && ltb (slot j) (from + d)))
 slots_full n m slot f from zero h = omega arith
 slots_full n m slot f from (suc d) h =
     omega (
@@ -111,7 +119,8 @@ slots_full n m slot f from (suc d) h =
       h (from + d) (omega arith) (omega arith),
       slots_full n m slot f from d (λ x a b. h x a (omega (arith, b))),
       total_below-add n (λ j. one_if (f j && (leb from (slot j) && ltb (slot j) (from + d)))) (λ j. one_if (f j && eqb (slot j) (from + d))),
-      total_below-mono n (λ j. one_if (f j && (leb from (slot j) && ltb (slot j) (from + d))) + one_if (f j && eqb (slot j) (from + d))) (λ j. one_if (f j && (leb from (slot j) && ltb (slot j) (from + suc d)))) (λ j l. joined (slot j) (f j)),
+      total_below-mono n (λ j. one_if (f j && (leb from (slot j) && ltb (slot j) (from + d))) + one_if (f j && eqb (slot j) (from + d)))
+          (λ j. one_if (f j && (leb from (slot j) && ltb (slot j) (from + suc d)))) (λ j l. joined (slot j) (f j)),
     )
   where
     joined : (x : ℕ) (t : Bool) → one_if (t && (leb from x && ltb x (from + d))) + one_if (t && eqb x (from + d)) ≤ one_if (t && (leb from x && ltb x (from + suc d)))

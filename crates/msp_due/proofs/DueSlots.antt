@@ -65,12 +65,14 @@ IsBetween-end i bound j b l h = record {
 pub AreDueSlots-none : (i : Instance) (bound : ℤ) (slots : List ℕ) → AreDueSlots i bound 0 slots
 AreDueSlots-none i bound slots j l = absurd (omega (arith, l))
 
-pub AreDueSlots-next : (i : Instance) (bound : ℤ) (k : ℕ) (slots new : List ℕ) (slot : ℕ) → new ≡ slots ++ slot ∷ [] → length slots ≡ k → IsDueSlot i bound k slot → AreDueSlots i bound k slots → AreDueSlots i bound (k + 1) new
+pub AreDueSlots-next : (i : Instance) (bound : ℤ) (k : ℕ) (slots new : List ℕ) (slot : ℕ)
+    → new ≡ slots ++ slot ∷ [] → length slots ≡ k → IsDueSlot i bound k slot → AreDueSlots i bound k slots → AreDueSlots i bound (k + 1) new
 AreDueSlots-next i bound k slots new slot e len is h j l = elim (cases_lt j k) [
   | inl less ↦ subst (IsDueSlot i bound j) (sym (ap (λ xs. get_or xs j 0) e ∙ get_or_append_left slots (slot ∷ []) 0 j (omega (arith, less, len)))) (h j less)
   | inr last ↦
       let at : k ≡ j = omega (arith, l, last) in
-      subst (λ j. IsDueSlot i bound j (get_or new j 0)) at (subst (IsDueSlot i bound k) (sym (ap (λ xs. get_or xs k 0) e ∙ get_or-append_right slots (slot ∷ []) k k 0 len (omega arith) ∙ ap (λ n. get_or (slot ∷ []) n 0) (none k))) is)
+      subst (λ j. IsDueSlot i bound j (get_or new j 0)) at
+      (subst (IsDueSlot i bound k) (sym (ap (λ xs. get_or xs k 0) e ∙ get_or-append_right slots (slot ∷ []) k k 0 len (omega arith) ∙ ap (λ n. get_or (slot ∷ []) n 0) (none k))) is)
 ]
   where
     none : (k : ℕ) → k - k ≡ 0

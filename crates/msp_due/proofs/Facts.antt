@@ -1,6 +1,7 @@
 -- What an instance of one of the two classes has.
 use Rattle.std.proofs.Common.{◌≡◌, ℕ, ◌*◌, ◌<◌, ◌≤◌, ◌⊎◌, inl, inr, Bool, true, false, length, get_or, List, All, Contains, refl, ap, subst, sym, ◌∙◌, arith}
 use Rattle.std.specs.Prelude.{MatchOption, ⊤}
+use Rattle.msp_class.specs.declared.sizes.TheConstants.{MOST_JOBS}
 use Rattle.msp_class.specs.declared.class.Class.{Class}
 use Rattle.msp_class.specs.declared.class.Crit.TheVariants.{Fmax}
 use Rattle.msp_class.specs.declared.class.Times.{Times}
@@ -21,7 +22,7 @@ pub record HasOneTime (i : Instance) : Type 0 where
   pub cut : i.class.cut ≡ false
   pub crit : i.class.crit ≡ Fmax
   pub some : 1 ≤ length i.jobs
-  pub few : length i.jobs ≤ 400
+  pub few : length i.jobs ≤ MOST_JOBS
   pub machine : 1 ≤ i.machines
   pub released : (j : ℕ) → j < length i.jobs → (job_at i j).release ≡ 0
   pub wide : (j : ℕ) → j < length i.jobs → length (job_at i j).needs ≡ i.machines
@@ -31,7 +32,8 @@ pub record HasOneTime (i : Instance) : Type 0 where
   pub acyclic : IsAcyclic i
   pub inner : Inner i
 
-module _ (i : Instance) (h : Inner i) (kind : kind_of i.class.env ≡ Unrelated) (cut : i.class.cut ≡ false) (crit : i.class.crit ≡ Fmax) (heads : i.class.heads ≡ false) (times : i.class.times ≡ Equal) where
+module _ (i : Instance) (h : Inner i) (kind : kind_of i.class.env ≡ Unrelated)
+    (cut : i.class.cut ≡ false) (crit : i.class.crit ≡ Fmax) (heads : i.class.heads ≡ false) (times : i.class.times ≡ Equal) where
   job : (j : ℕ) → j < length i.jobs → IsJobOf (inner_limits (kind_of i.class.env)) i (job_at i j)
   job j b = h.conditions.jobs j no_job b
 
@@ -40,7 +42,9 @@ module _ (i : Instance) (h : Inner i) (kind : kind_of i.class.env ≡ Unrelated)
 
   first_time : (1 ≤ common_time i) × (common_time i ≤ 1000000)
   first_time =
-      subst (λ t. HasTimes 1 (greatest_time (inner_limits (kind_of i.class.env)) t) (job_at i 0).needs) times (subst (λ k. HasTimes (least_time k i.class.times) (greatest_time (inner_limits (kind_of i.class.env)) i.class.times) (job_at i 0).needs) kind (job 0 (omega (arith, h.conditions.some))).needs.times)
+      subst (λ t. HasTimes 1 (greatest_time (inner_limits (kind_of i.class.env)) t) (job_at i 0).needs)
+      times (subst (λ k. HasTimes (least_time k i.class.times) (greatest_time (inner_limits (kind_of i.class.env)) i.class.times) (job_at i 0).needs)
+      kind (job 0 (omega (arith, h.conditions.some))).needs.times)
       0 no_need (omega (arith, needs_wide 0 (omega (arith, h.conditions.some)), h.conditions.machines.0))
 
   pub one_time : HasOneTime i

@@ -1,11 +1,13 @@
 -- A schedule in slots where each slot lasts the common time: it is feasible, and when its jobs end.
-use Rattle.std.proofs.Common.{◌≡◌, ◌≢◌, ℕ, ℤ, ◌+◌, ◌*◌, ◌<◌, ◌≤◌, ◌⊎◌, inl, inr, true, eqb, List, [], ◌∷◌, length, get_or, map, filter, fold, pos, ◌-ℤ◌, ◌*ℤ◌, ◌≤ℤ◌, ◌<ℤ◌, All, AllPairs, Contains, refl, sym, ap, ap₂, subst, subst₂, ◌∙◌, arith}
+use Rattle.std.proofs.Common.{◌≡◌, ◌≢◌, ℕ, ℤ, ◌+◌, ◌*◌, ◌<◌, ◌≤◌, ◌⊎◌, inl, inr, true, eqb, List, [], ◌∷◌, length, get_or, map, filter, fold, pos, ◌-ℤ◌, ◌*ℤ◌, ◌≤ℤ◌, ◌<ℤ◌, All}
+use Rattle.std.proofs.Common.{AllPairs, Contains, refl, sym, ap, ap₂, subst, subst₂, ◌∙◌, arith}
 use Rattle.std.specs.Int.{int_max}
 use Rattle.std.proofs.lemmas.Bool.{cases_lt, eqb-true}
 use Rattle.std.proofs.lemmas.Int.{ints}
 use Rattle.std.proofs.lemmas.List.{length-map, get_or-map}
 use Rattle.std.proofs.lemmas.List.Elements.{All-map, All-contains, Contains-get_or}
 use Rattle.std.proofs.Math.Nat.{mul-le-mul_left, mul-le-mul}
+use Rattle.msp_class.specs.declared.sizes.TheConstants.{MOST_JOBS, GREATEST_EQUAL_TIME}
 use Rattle.msp_class.specs.declared.environments.EnvKind.TheVariants.{Unrelated}
 use Rattle.msp_class.specs.Env.{kind_of}
 use Rattle.msp_class.specs.Crit.{is_greatest}
@@ -84,7 +86,8 @@ module _ (i : Instance) (t : HasOneTime i) (order : List ℕ) (pieces : List Pie
       OnceBelow-distinct jobs a b 0 l kb (get_or-map (λ p. p.job) long a d 0 (omega (arith, k, l)) ∙ e ∙ sym (get_or-map (λ p. p.job) long b d 0 k))
 
   two_apart : (p q : Piece) → Mine p → Mine q → p.job < n → q.job < n → p.job ≢ q.job → p.machine ≡ q.machine → IsApart p q
-  two_apart p q e f a b other m = subst₂ IsApart (sym e) (sym f) (by (h.begin p.job) (h.begin q.job) (λ same. other (h.runs.apart p.job q.job a b same (sym (ap (λ p. p.machine) e) ∙ m ∙ ap (λ p. p.machine) f))))
+  two_apart p q e f a b other m = subst₂ IsApart (sym e)
+      (sym f) (by (h.begin p.job) (h.begin q.job) (λ same. other (h.runs.apart p.job q.job a b same (sym (ap (λ p. p.machine) e) ∙ m ∙ ap (λ p. p.machine) f))))
     where
       by : (x y : ℕ) → x ≢ y → (pos (time * (x + 1)) ≤ℤ pos (time * y)) ⊎ (pos (time * (y + 1)) ≤ℤ pos (time * x))
       by x y ne = elim (cases_lt x y) [
@@ -98,10 +101,10 @@ module _ (i : Instance) (t : HasOneTime i) (order : List ℕ) (pieces : List Pie
       by : (p q : Piece) → Mine p → Mine q → h.begin p.job < h.begin q.job → IsBefore p q
       by p q e f less = subst₂ IsBefore (sym e) (sym f) (pos-le (slot_over time (h.begin p.job) (h.begin q.job) less))
 
-  soon : (j : ℕ) → j < n → time * (h.begin j + 1) ≤ 400000000
+  soon : (j : ℕ) → j < n → time * (h.begin j + 1) ≤ (MOST_JOBS * GREATEST_EQUAL_TIME)
   soon j l = small time (h.begin j + 1) t.time.1 (omega (arith, begins_soon i order pieces h j l, t.few))
     where
-      small : (a b : ℕ) → a ≤ 1000000 → b ≤ 400 → a * b ≤ 400000000
+      small : (a b : ℕ) → a ≤ 1000000 → b ≤ MOST_JOBS → a * b ≤ (MOST_JOBS * GREATEST_EQUAL_TIME)
       small a b p q = omega (arith, mul-le-mul p q)
 
   one_each : AreOneEach i 1 long

@@ -43,7 +43,8 @@ between_is from e x h = (grind (arith, nat_tests), grind (arith, nat_tests))
 
 -- on two machines too many jobs come after one that is in time
 too_many : (m t s a b count : ℕ) → m ≡ 2 → s < t → m * (t - (s + 1)) + 1 ≤ count → count + m * a ≤ m * b → s < a → b ≤ t → ⊥
-too_many m t s a b count two = subst (λ m. s < t → m * (t - (s + 1)) + 1 ≤ count → count + m * a ≤ m * b → s < a → b ≤ t → ⊥) (sym two) (λ l many fits early late. omega (arith, l, many, fits, early, late))
+too_many m t s a b count two = subst (λ m. s < t → m * (t - (s + 1)) + 1 ≤ count → count + m * a ≤ m * b → s < a → b ≤ t → ⊥)
+    (sym two) (λ l many fits early late. omega (arith, l, many, fits, early, late))
 
 module _ (n m : ℕ) (Step : ℕ → ℕ → Type 0) (leads : ℕ → ℕ → Bool) (low begin place : ℕ → ℕ) (h : IsRun n m Step leads low begin place) where
   -- a job is urgent where its due slot is no later than e
@@ -153,7 +154,8 @@ module _ (n m : ℕ) (Step : ℕ → ℕ → Type 0) (leads : ℕ → ℕ → Bo
           after : (z : ℕ) → z < n → low z ≤ low x → s < begin z → begin z ≤ begin x → (leads y z && leb (low z) (low x)) ≡ true
           after z k u p q =
               let (w, inside, soon, at, path) = back (low x) s free (begin x) z k u p (omega (arith, q)) in
-              let same = only_one n (λ j. urgent (low x) j && eqb (begin j) s) w y (subst (λ m. how_many n (λ j. urgent (low x) j && eqb (begin j) s) < m) two free) inside c (is_at (low x) s w soon at) (is_at (low x) s y due is) in
+              let same = only_one n (λ j. urgent (low x) j && eqb (begin j) s) w y (subst (λ m. how_many n (λ j. urgent (low x) j && eqb (begin j) s) < m) two free)
+              inside c (is_at (low x) s w soon at) (is_at (low x) s y due is) in
               both_is_true (leads y z) (leb (low z) (low x)) (subst (λ k. leads k z ≡ true) same path) (le_leb (low z) (low x) u)
 
   module _ (step : FullStep) where
@@ -167,7 +169,8 @@ module _ (n m : ℕ) (Step : ℕ → ℕ → Type 0) (leads : ℕ → ℕ → Bo
     none_late x b late in_time =
         let t = begin x in
         let lower = slots_full n m begin (urgent (low x)) 0 t (λ s p q. full x b late in_time t s (omega arith) (omega (arith, q))) in
-        let more = how_many-more n (λ j. urgent (low x) j && (leb 0 (begin j) && ltb (begin j) (0 + t))) (urgent (low x)) x b (past (urgent (low x) x) 0 t (0 + t) (omega arith)) (le_leb (low x) (low x) (omega arith)) (λ j _ e. (both_true (urgent (low x) j) (leb 0 (begin j) && ltb (begin j) (0 + t)) e).0) in
+        let more = how_many-more n (λ j. urgent (low x) j && (leb 0 (begin j) && ltb (begin j) (0 + t))) (urgent (low x)) x b (past (urgent (low x) x) 0 t (0 + t) (omega arith))
+        (le_leb (low x) (low x) (omega arith)) (λ j _ e. (both_true (urgent (low x) j) (leb 0 (begin j) && ltb (begin j) (0 + t)) e).0) in
         let upper = slots_hold n m place h.few 0 t (urgent (low x)) (λ j k e. (omega arith, omega (arith, h.kept j k, leb_le (low j) (low x) e, late))) in
         omega (arith, lower, more, upper)
 

@@ -1,5 +1,6 @@
 -- The bounds between which the least one lies.
-use Rattle.std.proofs.Common.{◌≡◌, ◌≢◌, ℕ, ◌+◌, ◌<◌, ◌≤◌, inl, inr, eqb, ℤ, List, length, get_or, pos, ◌≤ℤ◌, FitsSigned, to_z, of_z, All, AllPairs, Contains, refl, sym, ap, ap₂, subst, subst₂, ◌∙◌, arith}
+use Rattle.std.proofs.Common.{◌≡◌, ◌≢◌, ℕ, ◌+◌, ◌<◌, ◌≤◌, inl, inr, eqb, ℤ, List, length, get_or, pos, ◌≤ℤ◌, FitsSigned, to_z, of_z, All, AllPairs, Contains, refl, sym, ap, ap₂}
+use Rattle.std.proofs.Common.{subst, subst₂, ◌∙◌, arith}
 use Rattle.std.specs.Int.{int_max, w128}
 use Rattle.std.specs.Prelude.{slice_get, Some}
 use Rattle.std.proofs.lemmas.Bool.{cases_lt, eqb-true}
@@ -25,7 +26,8 @@ pub cost_fits : (x : ℤ) → LiesWithin greatest_cost x → FitsSigned w128 x
 cost_fits x h = omega (arith, ints, h.0, h.1)
 
 -- ---- the greatest cost of one job more
-pub greatest-next : (i : Instance) (slots k : ℕ) (old x a b new : ℤ) → a ≡ old → b ≡ to_z w128 (of_z w128 x) → new ≡ int_max a b → x ≡ cost_in i k slots → LiesWithin greatest_cost x → IsGreatestCost i slots k old → LiesWithin greatest_cost old
+pub greatest-next : (i : Instance) (slots k : ℕ) (old x a b new : ℤ) → a ≡ old → b ≡ to_z w128 (of_z w128 x)
+    → new ≡ int_max a b → x ≡ cost_in i k slots → LiesWithin greatest_cost x → IsGreatestCost i slots k old → LiesWithin greatest_cost old
     → IsGreatestCost i slots (k + 1) (to_z w128 (of_z w128 new)) × LiesWithin greatest_cost (to_z w128 (of_z w128 new))
 greatest-next i slots k old x a b new f g m is small h size =
     subst (λ z. IsGreatestCost i slots (k + 1) z × LiesWithin greatest_cost z) (sym (to_z-of_z w128 new (cost_fits new new_size))) (record { reached = reached; greatest = greatest }, new_size)
@@ -86,7 +88,8 @@ module _ (i : Instance) (t : HasOneTime i) (order : List ℕ) (s : IsSequence i 
 first_costs : (i : Instance) (low bound : ℤ) → IsGreatestCost i 1 (length i.jobs) low → CanPlace i bound → low ≤ℤ bound
 first_costs i low bound h (place, places, met) = let (j, l, e) = h.reached in subst (λ x. x ≤ℤ bound) e (≤ℤ_trans (cost_in-mono i j 1 (place j + 1) (omega arith)) (met j l))
 
-pub range_at : (i : Instance) → HasOneTime i → (low high : ℤ) (many : ℕ) → many ≡ length i.jobs → IsGreatestCost i 1 (length i.jobs) low → LiesWithin greatest_cost low → IsGreatestCost i many (length i.jobs) high → LiesWithin greatest_cost high
+pub range_at : (i : Instance) → HasOneTime i → (low high : ℤ) (many : ℕ) → many ≡ length i.jobs
+    → IsGreatestCost i 1 (length i.jobs) low → LiesWithin greatest_cost low → IsGreatestCost i many (length i.jobs) high → LiesWithin greatest_cost high
     → IsRange (CanPlace i) greatest_cost (record { low = to_z w128 (of_z w128 low); high = to_z w128 (of_z w128 high) })
 range_at i t low high many e first small last size =
     subst₂ (λ x y. IsRange (CanPlace i) greatest_cost (record { low = x; high = y })) (sym (to_z-of_z w128 low (cost_fits low small))) (sym (to_z-of_z w128 high (cost_fits high size))) (record {

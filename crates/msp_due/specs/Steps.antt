@@ -1,9 +1,9 @@
 -- What the steps of the rule keep. No public contract cites this file.
 use Rattle.std.specs.Prelude.{◌≡◌, ℕ, ◌+◌, ◌*◌, ◌<◌, ◌≤◌, ◌⊎◌, ◌↔◌, IsTrue, Bool, ◌&&◌, leb, List, length, slice_index_or, ℤ, pos, ◌*ℤ◌, ◌≤ℤ◌, ◌<ℤ◌, All, AllPairs}
 use Rattle.msp_class.specs.Sums.{total_below}
-use Rattle.msp_instance.specs.declared.ranges.TheConstants.{MOST_JOBS}
+use Rattle.msp_class.specs.declared.sizes.TheConstants.{MOST_JOBS}
 use Rattle.msp_instance.specs.declared.Instance.{Instance}
-use Rattle.msp_instance.specs.declared.path_rows.Paths.{Paths}
+use Rattle.msp_instance.specs.declared.path_bits.Paths.{Paths}
 use Rattle.msp_instance.specs.Instance.{common_time}
 use Rattle.msp_instance.specs.Conditions.{Inner, IsSequence, GoesForward}
 use Rattle.msp_instance.specs.Paths.{HasPath, ShowsPaths}
@@ -60,7 +60,8 @@ pub record AreLoweredFrom (m : ℕ) (leads : ℕ → ℕ → Bool) (order due : 
   pub inside : place ≤ length order
   pub most : (x : ℕ) → slice_index_or low x 0 ≤ slice_index_or due x 0
   pub still : (k : ℕ) → k < place → slice_index_or low (slice_index_or order k 0) 0 ≡ slice_index_or due (slice_index_or order k 0) 0
-  pub done : (k : ℕ) → place ≤ k → k < length order → IsLowered (length due + 1) m (due_after (length due) leads (λ z. slice_index_or low z 0) (slice_index_or order k 0)) (slice_index_or due (slice_index_or order k 0) 0) (slice_index_or low (slice_index_or order k 0) 0)
+  pub done : (k : ℕ) → place ≤ k → k < length order → IsLowered (length due + 1) m (due_after (length due) leads (λ z. slice_index_or low z 0) (slice_index_or order k 0))
+      (slice_index_or due (slice_index_or order k 0) 0) (slice_index_or low (slice_index_or order k 0) 0)
 
 -- The instance is of one of the two classes, with its paths and an order in which its arcs go forward.
 pub record IsReady (i : Instance) (p : Paths) (order : List ℕ) : Type 0 where

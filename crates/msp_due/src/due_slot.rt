@@ -1,6 +1,6 @@
 // Due slots for a bound on the greatest cost.
 ghost use Rattle.std.specs.Prelude.{◌≡◌, ◌+◌, ◌-◌, ◌<◌, ◌≤◌, ◌⊎◌, ◌↔◌, length, ◌≤ℤ◌, IfOk, IsTrue, if◌then◌else◌};
-ghost use Rattle.msp_instance.specs.declared.ranges.TheConstants.{MOST_JOBS};
+ghost use Rattle.msp_class.specs.declared.sizes.TheConstants.{MOST_JOBS};
 ghost use Rattle.msp_instance.specs.Conditions.{Inner, LiesWithin};
 ghost use Rattle.msp_schedule.specs.Within.{greatest_cost};
 ghost use Rattle.msp_due.specs.Due.{tree_class, pair_class};

@@ -1,7 +1,7 @@
 // Due slots lowered by those of the jobs that follow.
 ghost use Rattle.std.specs.Prelude.{◌≡◌, ℕ, ◌+◌, ◌*◌, ◌<◌, ◌≤◌, ◌&&◌, Bool, eqb, length, slice_index, slice_index_or, All, if◌then◌else◌};
 ghost use Rattle.msp_class.specs.Sums.{total_below};
-ghost use Rattle.msp_instance.specs.declared.ranges.TheConstants.{MOST_JOBS};
+ghost use Rattle.msp_class.specs.declared.sizes.TheConstants.{MOST_JOBS};
 ghost use Rattle.msp_instance.specs.Conditions.{IsSequence, GoesForward};
 ghost use Rattle.msp_instance.specs.Paths.{leads, ShowsPaths};
 ghost use Rattle.msp_due.specs.Steps.{how_many, due_after, IsLowered, AreLowered};

@@ -1,6 +1,6 @@
 // The solvers of the two classes.
-ghost use Rattle.std.specs.Prelude.{◌≡◌, ◌≤◌, ◌⊎◌, length, map, pos, ◌≤ℤ◌, All, IfOk, ⊤};
-ghost use Rattle.msp_instance.specs.declared.ranges.TheConstants.{MOST_JOBS, GREATEST_EQUAL_TIME};
+ghost use Rattle.std.specs.Prelude.{◌≡◌, ◌≤◌, ◌⊎◌, length, map, pos, ◌≤ℤ◌, All, IfOk};
+ghost use Rattle.msp_class.specs.declared.sizes.TheConstants.{GREATEST_EQUAL_TIME};
 ghost use Rattle.msp_instance.specs.Conditions.{Inner};
 ghost use Rattle.msp_schedule.specs.Cost.{IsBest};
 ghost use Rattle.msp_route.specs.Bounds.{IsAnswer};
@@ -83,10 +83,6 @@ pub struct TreeDue;
 impl Solver for TreeDue {
     ghost solved = { λ _. tree_class };
 
-    ghost can_solve = { λ _ _. ⊤ };
-
-    ghost may_ask = { λ _ _. ⊤ };
-
     fn target(&self) -> Class {
         TREE_CLASS
     }
@@ -113,10 +109,6 @@ pub struct PairDue;
 
 impl Solver for PairDue {
     ghost solved = { λ _. pair_class };
-
-    ghost can_solve = { λ _ _. ⊤ };
-
-    ghost may_ask = { λ _ _. ⊤ };
 
     fn target(&self) -> Class {
         PAIR_CLASS

@@ -1,6 +1,6 @@
 // The least bound on the greatest cost that some schedule meets.
 ghost use Rattle.std.specs.Prelude.{◌≡◌, ◌*◌, ◌<◌, ◌≤◌, ◌↔◌, ◌⊎◌, length, pos, ◌≤ℤ◌, All, IfOk, IsTrue};
-ghost use Rattle.msp_instance.specs.declared.ranges.TheConstants.{MOST_JOBS};
+ghost use Rattle.msp_class.specs.declared.sizes.TheConstants.{MOST_JOBS};
 ghost use Rattle.msp_instance.specs.Conditions.{Inner, LiesWithin};
 ghost use Rattle.msp_schedule.specs.Within.{greatest_cost};
 ghost use Rattle.msp_route.specs.Halving.{IsLeastBound, IsRange};

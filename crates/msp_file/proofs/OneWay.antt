@@ -12,7 +12,7 @@ use Rattle.msp_grammar.specs.declared.filed.Filed.{Filed}
 use Rattle.msp_grammar.specs.declared.lines.fault.FileFault.{FileFault}
 use Rattle.msp_grammar.specs.declared.lines.fault.FileFault.TheVariants.{Class, Cycle, Memory, After}
 use Rattle.msp_file.specs.declared.instance.read.Front.{Front}
-use Rattle.msp_file.specs.declared.schedule.read.Stated.{Stated}
+use Rattle.msp_grammar.specs.declared.filed.Stated.{Stated}
 use Rattle.msp_grammar.specs.lines.Reading.{Place}
 use Rattle.msp_file.specs.instance.Reading.{Reads, ReadsFront, ReadsLines, start_of}
 use Rattle.msp_grammar.specs.lines.Steps.{FailsBy}
@@ -188,7 +188,8 @@ law_of_front_texts = record {
 
 module _ (names : List (List ℕ)) (line : ℕ) (spelled : All IsJobName names) (apart : AreDistinct names) where
   pub one_schedule : (b : List ℕ) (s t : Stated) → IsStatedTextOf names b s → IsStatedTextOf names b t → s ≡ t
-  one_schedule b s t h k = ok_is s t (schedule_same names line b (reads s) (reads t) (schedule_again names line b s.schedule s.cost spelled apart h) (schedule_again names line b t.schedule t.cost spelled apart k))
+  one_schedule b s t h k = ok_is s t
+      (schedule_same names line b (reads s) (reads t) (schedule_again names line b s.schedule s.cost spelled apart h) (schedule_again names line b t.schedule t.cost spelled apart k))
 
   pub schedule_not_both : (b : List ℕ) (s : Stated) (e : FileFault) → IsStatedTextOf names b s → ¬ IsFirstScheduleFaultOf names line b e
   schedule_not_both b s e h k = not_fails e s k.1 (no_schedule_fault names line b e spelled apart k.0 s.schedule s.cost h)

@@ -13,7 +13,7 @@ pub mod JobsLaws
 pub mod KeyLaws
 pub mod LineCounts
 pub mod LineFaults
-pub mod Marking
+pub mod Flagging
 pub mod NeedLaws
 pub mod Orders
 pub mod Pairs

@@ -8,7 +8,7 @@ use Rattle.msp_grammar.specs.ScheduleText.{IsScheduleText}
 use Rattle.msp_grammar.specs.declared.lines.fault.FileFault.{FileFault}
 use Rattle.msp_grammar.specs.declared.lines.fault.FileFault.TheVariants.{Memory}
 use Rattle.msp_file.specs.declared.instance.read.Front.{Front}
-use Rattle.msp_file.specs.declared.schedule.read.Stated.{Stated}
+use Rattle.msp_grammar.specs.declared.filed.Stated.{Stated}
 use Rattle.msp_file.specs.instance.Answers.{IsFaultOf, IsFrontFaultOf, IsFrontText}
 use Rattle.msp_file.specs.schedule.Answers.{IsScheduleFaultOf}
 
@@ -16,7 +16,7 @@ use Rattle.msp_file.specs.schedule.Answers.{IsScheduleFaultOf}
 abbrev pub IsTextOf : List ℕ → Filed → Type 0
 IsTextOf bytes f = IsInstanceText bytes f.instance f.names
 
--- The fault is the first one of the bytes. Want of memory is none.
+-- The fault is the first one of the bytes. Out of memory is none.
 abbrev pub IsFirstFaultOf : List ℕ → FileFault → Type 0
 IsFirstFaultOf bytes e = IsFaultOf bytes e × (e ≢ Memory)
 

@@ -1,4 +1,4 @@
 pub mod Answers
-pub mod Marks
+pub mod ArcFlags
 pub mod Reading
 pub mod Steps

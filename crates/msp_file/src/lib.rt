@@ -4,8 +4,8 @@
 //! the instance texts of the grammar, `IsInstanceText`, each as its instance, and answers to another text its first fault, `IsFaultOf`;
 //! that `read_front` reads such a text at the front of other bytes, `IsFrontText`; that `read_schedule` reads exactly the schedule texts,
 //! `IsScheduleText`; and that bytes are a text exactly where they have no first fault, and have one value or one first fault alone
-//! (`law_of_instance_texts`, `law_of_front_texts`, `law_of_schedule_texts`). The faults, the printers, the names of jobs, and the reader and
-//! printer of certificates, of the layers below, are re-exported here.
+//! (`law_of_instance_texts`, `law_of_front_texts`, `law_of_schedule_texts`). What a caller names with these calls is re-exported here: the
+//! types of texts and faults, the names of jobs, the printers, and the reader and printer of certificates, of the layers below.
 #![tactic(auto)]
 
 mod instance;
@@ -14,14 +14,7 @@ mod schedule;
 
 pub use instance::read::{Front, read_front, read_instance, texts_are_read_one_way};
 pub use laws::{law_of_front_texts, law_of_instance_texts, law_of_schedule_texts};
-pub use msp_cert_text::{
-    GREATEST_BOUND, GREATEST_LEVEL, MOST_LINES, kind_word, law_of_certificate_texts,
-    print_certificate, printed_certificates_are_read, read_certificate,
-};
-pub use msp_grammar::{
-    FileFault, Filed, LAST_LINE, MOST_BYTES, What, print_instance, print_schedule,
-};
+pub use msp_cert_text::{print_certificate, read_certificate};
+pub use msp_grammar::{FileFault, Filed, Stated, What, print_instance, print_schedule};
 pub use msp_job_name::{JobName, Names};
-pub use schedule::read::{
-    Stated, printed_schedules_are_read, read_schedule, schedules_are_read_one_way,
-};
+pub use schedule::read::{printed_schedules_are_read, read_schedule, schedules_are_read_one_way};

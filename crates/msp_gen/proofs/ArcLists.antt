@@ -1,5 +1,6 @@
 -- The drawn arcs are those of their order, and go from lesser to greater numbers.
-use Rattle.std.proofs.Common.{◌≡◌, ◌≢◌, ℕ, suc, ◌+◌, ◌-◌, ◌/◌, ◌<◌, ◌≤◌, min, ◌⊎◌, inl, inr, eqb, Bool, true, false, cond, ◌==◌, List, [], ◌∷◌, ◌++◌, length, get_or, map, All, AllPairs, if◌then◌else◌, refl, sym, ap, subst, ◌∙◌, length-append, append-nil, eq-eqb, arith}
+use Rattle.std.proofs.Common.{◌≡◌, ◌≢◌, ℕ, suc, ◌+◌, ◌-◌, ◌/◌, ◌<◌, ◌≤◌, min, ◌⊎◌, inl, inr, eqb, Bool, true, false, cond, ◌==◌, List, [], ◌∷◌, ◌++◌, length, get_or, map, All}
+use Rattle.std.proofs.Common.{AllPairs, if◌then◌else◌, refl, sym, ap, subst, ◌∙◌, length-append, append-nil, eq-eqb, arith}
 use Rattle.std.specs.Prelude.{count_by}
 use Rattle.std.specs.List.{list_any}
 use Rattle.std.proofs.lemmas.Bool.{cases_lt}
@@ -7,6 +8,7 @@ use Rattle.std.proofs.lemmas.List.{get_or_append_left, get_or_default, length-ma
 use Rattle.std.proofs.Math.ListN.{get_or-map}
 use Rattle.std.proofs.lemmas.List.Elements.{All-nil}
 use Rattle.std.proofs.lemmas.List.Folds.{list_any_at}
+use Rattle.msp_class.specs.declared.sizes.TheConstants.{MOST_JOBS}
 use Rattle.msp_class.specs.declared.class.Order.{Order}
 use Rattle.msp_class.specs.declared.class.Order.TheVariants.{Free, Chains, Intree, Outtree, Prec}
 use Rattle.msp_class.proofs.Sums.{count_by-distinct, sum_by-map}
@@ -105,7 +107,8 @@ more order n k arcs h = subst (KeepsArcs order n (suc k)) (sym (append-nil arcs)
     by Outtree o = rising_more (λ a. a.after) (k + 1) (suc k + 1) arcs (omega arith) o
     by Prec o = o
 
-one : (order : Order) (n k : ℕ) (arcs : List Arc) (a : Arc) → a.before < a.after → a.after < n → KeepsOrder order (suc k) (arcs ++ a ∷ []) → KeepsArcs order n k arcs → KeepsArcs order n (suc k) (arcs ++ a ∷ [])
+one : (order : Order) (n k : ℕ) (arcs : List Arc) (a : Arc)
+    → a.before < a.after → a.after < n → KeepsOrder order (suc k) (arcs ++ a ∷ []) → KeepsArcs order n k arcs → KeepsArcs order n (suc k) (arcs ++ a ∷ [])
 one order n k arcs a l m o h =
     record { few = omega (arith, h.few, length-append arcs (a ∷ [])); forward = all_behind (λ b. (b.before < b.after) × (b.after < n)) arcs a h.forward (l, m); ordered = o }
 
@@ -131,16 +134,20 @@ turn : (order : Order) (n k : ℕ) (arcs : List Arc) (s : ℕ) → k < arc_turns
 turn Free n k arcs s l h = absurd (omega (arith, l))
 turn Chains n k arcs s l h =
     mostly (λ xs. KeepsArcs Chains n (suc k) (arcs ++ xs)) (without_draw (record { before = k; after = k + 1 } ∷ [])) s (more Chains n k arcs h)
-    (λ t. one Chains n k arcs (record { before = k; after = k + 1 }) (omega arith) (omega (arith, l))
-    (rising_behind (λ a. a.before) k (suc k) arcs (record { before = k; after = k + 1 }) (omega arith) (omega arith) h.ordered.0, rising_behind (λ a. a.after) (k + 1) (suc k + 1) arcs (record { before = k; after = k + 1 }) (omega arith) (omega arith) h.ordered.1) h)
+    (λ t. one Chains n k arcs (record { before = k; after = k + 1 }) (omega arith) (omega (arith, l)) (
+      rising_behind (λ a. a.before) k (suc k) arcs (record { before = k; after = k + 1 }) (omega arith) (omega arith) h.ordered.0,
+      rising_behind (λ a. a.after) (k + 1) (suc k + 1) arcs (record { before = k; after = k + 1 }) (omega arith) (omega arith) h.ordered.1,
+    ) h)
 turn Intree n k arcs s l h =
     mostly (λ xs. KeepsArcs Intree n (suc k) (arcs ++ xs)) (draw_arc_from n k) s (more Intree n k arcs h)
     (λ t. let b = draw_below (min (n - 1 - k) 5) t (omega (arith, l)) in
-    one Intree n k arcs (record { before = k; after = (draw_behind n k t).value }) (omega arith) (omega (arith, l, b)) (rising_behind (λ a. a.before) k (suc k) arcs (record { before = k; after = (draw_behind n k t).value }) (omega arith) (omega arith) h.ordered) h)
+    one Intree n k arcs (record { before = k; after = (draw_behind n k t).value }) (omega arith) (omega (arith, l, b))
+    (rising_behind (λ a. a.before) k (suc k) arcs (record { before = k; after = (draw_behind n k t).value }) (omega arith) (omega arith) h.ordered) h)
 turn Outtree n k arcs s l h =
     mostly (λ xs. KeepsArcs Outtree n (suc k) (arcs ++ xs)) (draw_arc_into (k + 1)) s (more Outtree n k arcs h)
     (λ t. let b = draw_below (min (k + 1) 5) t (omega arith) in
-    one Outtree n k arcs (record { before = (draw_before (k + 1) t).value; after = k + 1 }) (omega (arith, b)) (omega (arith, l)) (rising_behind (λ a. a.after) (k + 1) (suc k + 1) arcs (record { before = (draw_before (k + 1) t).value; after = k + 1 }) (omega arith) (omega arith) h.ordered) h)
+    one Outtree n k arcs (record { before = (draw_before (k + 1) t).value; after = k + 1 }) (omega (arith, b)) (omega (arith, l))
+    (rising_behind (λ a. a.after) (k + 1) (suc k + 1) arcs (record { before = (draw_before (k + 1) t).value; after = k + 1 }) (omega arith) (omega arith) h.ordered) h)
 turn Prec n k arcs s l h =
     let a : Arc = record { before = (draw_before (k / 2 + 1) s).value; after = k / 2 + 1 } in
     let b = draw_below (min (k / 2 + 1) 5) s (omega arith) in
@@ -171,7 +178,7 @@ degree_fits order n k arcs h j = by order h.ordered
     by Outtree o = rising_once (λ a. a.after) (k + 1) arcs o j
     by Prec o = tt
 
-pub number_fits : (order : Order) (n : ℕ) (arcs : List Arc) → n ≤ 400 → KeepsArcs order n (arc_turns order n) arcs → HasArcs order arcs
+pub number_fits : (order : Order) (n : ℕ) (arcs : List Arc) → n ≤ MOST_JOBS → KeepsArcs order n (arc_turns order n) arcs → HasArcs order arcs
 number_fits Free n arcs l h = h.ordered
 number_fits Chains n arcs l h = omega (arith, h.few, l)
 number_fits Intree n arcs l h = omega (arith, h.few, l)

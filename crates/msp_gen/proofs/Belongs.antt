@@ -8,7 +8,7 @@ use Rattle.msp_class.specs.declared.class.Class.{Class}
 use Rattle.msp_class.specs.declared.class.Env.{Env}
 use Rattle.msp_class.specs.declared.class.Times.TheVariants.{Equal}
 use Rattle.msp_class.specs.Env.{kind_of, fixed_machines}
-use Rattle.msp_instance.specs.declared.ranges.TheConstants.{MOST_MACHINES}
+use Rattle.msp_class.specs.declared.sizes.TheConstants.{MOST_MACHINES}
 use Rattle.msp_instance.specs.declared.Instance.{Instance}
 use Rattle.msp_instance.specs.Instance.{job_at, common_time, no_job}
 use Rattle.msp_instance.specs.Conditions.{text_limits, least_time, HasMachines, IsJobOf, GoesForward, IsAcyclic, InClass}
@@ -33,7 +33,8 @@ job_belongs : (i : Instance) (shared k : ℕ) → AreDrawnJobs i.class i.machine
 job_belongs i shared k h some j d l =
     let job = h.1 j d l in
     let first = h.1 0 no_job (omega (arith, h.0, some)) in
-    let common : i.class.times ≡ Equal → common_time i ≡ shared = shared_by_first i.class.times shared (least_time (kind_of i.class.env) i.class.times) (job_at i 0).needs first.needs.some first.needs.times_met in
+    let common : i.class.times ≡ Equal → common_time i ≡ shared =
+    shared_by_first i.class.times shared (least_time (kind_of i.class.env) i.class.times) (job_at i 0).needs first.needs.some first.needs.times_met in
     record {
       needs = record { shape = job.needs.shape; times = times_within _ i.class.times shared _ job.needs.times_met; some = job.needs.some };
       times = same_times i.class.times shared (common_time i) _ _ common job.needs.times_met;

@@ -12,12 +12,13 @@ use Rattle.msp_class.specs.declared.environments.EnvKind.{EnvKind}
 use Rattle.msp_class.specs.declared.environments.EnvKind.TheVariants.{Identical, Uniform, Unrelated, OpenShop, FlowShop, JobShop}
 use Rattle.msp_class.specs.Crit.{uses_due, uses_weight, uses_curve}
 use Rattle.msp_class.specs.Env.{kind_of, most_operations}
-use Rattle.msp_instance.specs.declared.ranges.TheConstants.{GREATEST}
+use Rattle.msp_class.specs.declared.sizes.TheConstants.{GREATEST}
 use Rattle.msp_instance.specs.declared.Need.{Need}
 use Rattle.msp_instance.specs.declared.Step.{Step}
 use Rattle.msp_instance.specs.declared.Job.{Job}
 use Rattle.msp_instance.specs.Instance.{no_need, no_curve}
-use Rattle.msp_instance.specs.Conditions.{text_limits, least_shop_time, least_time, greatest_time, HasShape, HasTimes, HasSameTimes, HasSpeeds, HasSmallMultiple, HasRelease, HasDue, HasWeight, HasCurve}
+use Rattle.msp_instance.specs.Conditions.{text_limits, least_shop_time, least_time, greatest_time, HasShape, HasTimes, HasSameTimes, HasSpeeds, HasSmallMultiple, HasRelease}
+use Rattle.msp_instance.specs.Conditions.{HasDue, HasWeight, HasCurve}
 use Rattle.msp_gen.specs.Draws.{draw, draw_from_one, draw_one, draw_turns, draw_where}
 use Rattle.msp_gen.specs.Generated.{draw_speeds, draw_some_time, draw_shop_time, draw_needs, draw_step, draw_curve, draw_job, most_drawn}
 use Rattle.msp_gen.proofs.Turns.{turns_keep}
@@ -83,8 +84,10 @@ curve_fits true s =
         turns_keep AreSteps (λ _ _. draw_one draw_step) count s (refl, All-nil (λ x. (x.above ≤ GREATEST) × (x.add ≤ GREATEST)))
         (λ k before t l h.
         let above = draw_below 2000 t (omega arith) in
-        let add = draw_below 100 (draw 2000 t).seed (omega arith) in
-        (omega (arith, length-append before ((draw_step t).value ∷ []), h.0), all_behind (λ x. (x.above ≤ GREATEST) × (x.add ≤ GREATEST)) before (draw_step t).value h.1 (omega (arith, above), omega (arith, add))))
+        let add = draw_below 100 (draw 2000 t).seed (omega arith) in (
+          omega (arith, length-append before ((draw_step t).value ∷ []), h.0),
+          all_behind (λ x. (x.above ≤ GREATEST) × (x.add ≤ GREATEST)) before (draw_step t).value h.1 (omega (arith, above), omega (arith, add)),
+        ))
 
 -- ---- a job
 pub record IsDrawnJob (c : Class) (m shared : ℕ) (job : Job) : Type 0 where
@@ -111,10 +114,14 @@ job_fits c m shared s one two ok =
 abbrev pub AreDrawnJobs : Class → ℕ → ℕ → ℕ → List Job → Type 0
 AreDrawnJobs c m shared k jobs = (length jobs ≡ k) × All (IsDrawnJob c m shared) jobs
 
-pub jobs_fit : (c : Class) (m shared n s : ℕ) → 1 ≤ m → (kind_of c.env ≡ JobShop → 2 ≤ m) → IsSharedTime c.times shared → AreDrawnJobs c m shared n (draw_turns (λ _ _. draw_one (draw_job c m shared)) n s).value
+pub jobs_fit : (c : Class) (m shared n s : ℕ) → 1 ≤ m
+    → (kind_of c.env ≡ JobShop → 2 ≤ m) → IsSharedTime c.times shared → AreDrawnJobs c m shared n (draw_turns (λ _ _. draw_one (draw_job c m shared)) n s).value
 jobs_fit c m shared n s one two ok =
     turns_keep (AreDrawnJobs c m shared) (λ _ _. draw_one (draw_job c m shared)) n s (refl, All-nil (IsDrawnJob c m shared))
-    (λ k before t l h. (omega (arith, length-append before ((draw_job c m shared t).value ∷ []), h.0), all_behind (IsDrawnJob c m shared) before (draw_job c m shared t).value h.1 (job_fits c m shared t one two ok)))
+    (λ k before t l h. (
+      omega (arith, length-append before ((draw_job c m shared t).value ∷ []), h.0),
+      all_behind (IsDrawnJob c m shared) before (draw_job c m shared t).value h.1 (job_fits c m shared t one two ok),
+    ))
 
 -- ---- what the conditions say of the needs in an instance
 wide : (t : Times) → 100 ≤ greatest_time text_limits t

@@ -4,7 +4,7 @@ use Rattle.msp_class.specs.declared.class.Env.{Env}
 use Rattle.msp_class.specs.declared.class.Env.TheVariants.{One, P2, P3, P, Q2, Q, R2, R, O2, O3, O, F2, F3, F, J2Short, JShort, J2, J}
 use Rattle.msp_class.specs.declared.environments.EnvKind.TheVariants.{JobShop}
 use Rattle.msp_class.specs.Env.{kind_of}
-use Rattle.msp_instance.specs.declared.ranges.TheConstants.{MOST_MACHINES}
+use Rattle.msp_class.specs.declared.sizes.TheConstants.{MOST_MACHINES}
 use Rattle.msp_gen.specs.Generated.{machines_of}
 
 -- a job shop has at least two

@@ -60,7 +60,8 @@ module _ (times : Times) (shared least : ℕ) (rule : ℕ → ℕ → Drawn ℕ)
         where
           by : (j < length before) ⊎ (length before ≤ j) → (get_or (before ++ new ∷ []) j no_need).machine ≡ j
           by (inl m) = ap (λ n. n.machine) (get_or_append_left before (new ∷ []) no_need j m) ∙ h.places j m
-          by (inr m) = let last : j ≡ length before = omega (arith, l, m, length-append before (new ∷ [])) in ap (λ n. n.machine) (ap (λ x. get_or (before ++ new ∷ []) x no_need) last ∙ at_end before new no_need) ∙ sym h.count ∙ sym last
+          by (inr m) = let last : j ≡ length before = omega (arith, l, m, length-append before (new ∷ [])) in
+              ap (λ n. n.machine) (ap (λ x. get_or (before ++ new ∷ []) x no_need) last ∙ at_end before new no_need) ∙ sym h.count ∙ sym last
 
       any : (n : ℕ) → n ≡ k → Any (λ n. 1 ≤ n.time) (before ++ new ∷ [])
       any zero e = any_behind (λ n. 1 ≤ n.time) before new (subst (λ x. 1 ≤ (rule x s).value) e (first s))
@@ -123,13 +124,21 @@ module _ (m : ℕ) (two : 2 ≤ m) where
         move j d l = by (cases_lt (j + 1) (length before))
           where
             by : (j + 1 < length before) ⊎ (length before ≤ j + 1) → (get_or (before ++ new ∷ []) j d).machine ≢ (get_or (before ++ new ∷ []) (j + 1) d).machine
-            by (inl k') = λ e. h.moves j d k' (ap (λ n. n.machine) (sym (get_or_append_left before (new ∷ []) d j (omega (arith, k')))) ∙ e ∙ ap (λ n. n.machine) (get_or_append_left before (new ∷ []) d (j + 1) k'))
+            by (inl k') = λ e. h.moves j d k'
+                (ap (λ n. n.machine) (sym (get_or_append_left before (new ∷ []) d j (omega (arith, k')))) ∙ e ∙ ap (λ n. n.machine) (get_or_append_left before (new ∷ []) d (j + 1) k'))
             by (inr k') =
                 let last : j + 1 ≡ length before = omega (arith, l, k', length-append before (new ∷ [])) in
-                λ e. machine_differs before s j d h.machines last (ap (λ n. n.machine) (sym (get_or_append_left before (new ∷ []) d j (omega (arith, last)))) ∙ e ∙ ap (λ n. n.machine) (ap (λ x. get_or (before ++ new ∷ []) x d) last ∙ at_end before new d))
+                λ e. machine_differs before s j d h.machines last (ap (λ n. n.machine) (sym (get_or_append_left before (new ∷ []) d j (omega (arith, last))))
+                ∙ e ∙ ap (λ n. n.machine) (ap (λ x. get_or (before ++ new ∷ []) x d) last ∙ at_end before new d))
 
     pub route : (count s : ℕ) → KeepsRoute count (draw_turns (λ _ before. draw_one (draw_operation times shared m before)) count s).value
     route count s =
         turns_keep KeepsRoute (λ _ before. draw_one (draw_operation times shared m before)) count s
-        (record { count = refl; machines = All-nil (λ n. n.machine < m); moves = λ j d l. absurd (omega (arith, l)); times_met = All-nil (λ n. IsTime times shared 1 n.time); some = λ l. absurd (omega (arith, l)) })
+        (record {
+          count = refl;
+          machines = All-nil (λ n. n.machine < m);
+          moves = λ j d l. absurd (omega (arith, l));
+          times_met = All-nil (λ n. IsTime times shared 1 n.time);
+          some = λ l. absurd (omega (arith, l));
+        })
         (λ k before t l h. keeps_route k before t h)

@@ -21,19 +21,23 @@ unfolding draw_turns
 no_turn rule seed items e = ap (λ xs. record { value = xs; seed = seed }) (sym e)
 
 -- a turn that adds one
-pub next_one : {A : Type 0} (one : ℕ → List A → ℕ → Drawn A) (k seed middle last : ℕ) (before after : List A) (item : A) → after ≡ before ++ item ∷ [] → draw_turns (λ n b. draw_one (one n b)) k seed ≡ record { value = before; seed = middle }
+pub next_one : {A : Type 0} (one : ℕ → List A → ℕ → Drawn A) (k seed middle last : ℕ) (before after : List A) (item : A)
+    → after ≡ before ++ item ∷ [] → draw_turns (λ n b. draw_one (one n b)) k seed ≡ record { value = before; seed = middle }
     → item ≡ (one k before middle).value → last ≡ (one k before middle).seed → draw_turns (λ n b. draw_one (one n b)) (k + 1) seed ≡ record { value = after; seed = last }
 next_one one k seed middle last before after item a e f g =
     next_turn (λ n b. draw_one (one n b)) k seed middle last before (item ∷ []) e (sym (ap₂ (λ x s. record { value = x ∷ []; seed = s }) f g)) ∙ ap (λ xs. record { value = xs; seed = last }) (sym a)
 
 -- a turn whose rule sees the list so far, and adds what it draws
-pub next_drawn : {A : Type 0} (rule : ℕ → List A → ℕ → Drawn (List A)) (k seed middle last : ℕ) (before seen after behind : List A) → seen ≡ before → after ≡ before ++ behind → draw_turns rule k seed ≡ record { value = before; seed = middle }
+pub next_drawn : {A : Type 0} (rule : ℕ → List A → ℕ → Drawn (List A)) (k seed middle last : ℕ) (before seen after behind : List A)
+    → seen ≡ before → after ≡ before ++ behind → draw_turns rule k seed ≡ record { value = before; seed = middle }
     → behind ≡ (rule k seen middle).value → last ≡ (rule k seen middle).seed → draw_turns rule (k + 1) seed ≡ record { value = after; seed = last }
 next_drawn rule k seed middle last before seen after behind same a e f g =
-    next_turn rule k seed middle last before behind e (ap (λ b. rule k b middle) (sym same) ∙ sym (ap₂ (λ x s. record { value = x; seed = s }) f g)) ∙ ap (λ xs. record { value = xs; seed = last }) (sym a)
+    next_turn rule k seed middle last before behind e (ap (λ b. rule k b middle) (sym same) ∙ sym (ap₂ (λ x s. record { value = x; seed = s }) f g))
+    ∙ ap (λ xs. record { value = xs; seed = last }) (sym a)
 
 -- what each turn keeps
-pub turns_keep : {A : Type 0} (Q : ℕ → List A → Type 0) (rule : ℕ → List A → ℕ → Drawn (List A)) (n seed : ℕ) → Q 0 [] → ((k : ℕ) (before : List A) (s : ℕ) → k < n → Q k before → Q (suc k) (before ++ (rule k before s).value))
+pub turns_keep : {A : Type 0} (Q : ℕ → List A → Type 0) (rule : ℕ → List A → ℕ → Drawn (List A)) (n seed : ℕ)
+    → Q 0 [] → ((k : ℕ) (before : List A) (s : ℕ) → k < n → Q k before → Q (suc k) (before ++ (rule k before s).value))
     → Q n (draw_turns rule n seed).value
 unfolding draw_turns
 turns_keep Q rule zero seed z h = z

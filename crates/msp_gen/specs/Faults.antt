@@ -1,6 +1,6 @@
 -- When no instance is made.
 use Rattle.std.specs.Prelude.{ℕ, ◌≤◌}
-use Rattle.msp_instance.specs.declared.ranges.TheConstants.{MOST_JOBS}
+use Rattle.msp_class.specs.declared.sizes.TheConstants.{MOST_JOBS}
 use Rattle.msp_gen.specs.declared.instance.GenFault.{GenFault}
 use Rattle.msp_gen.specs.declared.instance.GenFault.TheVariants.{Jobs, Memory}
 

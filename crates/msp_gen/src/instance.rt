@@ -1,6 +1,6 @@
 // The whole instance.
 ghost use Rattle.std.specs.Prelude.{◌≡◌, ◌<◌, ◌≤◌, IfOk, IfErr};
-ghost use Rattle.msp_instance.specs.declared.ranges.TheConstants.{MOST_JOBS};
+ghost use Rattle.msp_class.specs.declared.sizes.TheConstants.{MOST_JOBS};
 ghost use Rattle.msp_instance.specs.Conditions.{InClass};
 ghost use Rattle.msp_gen.specs.declared.limits.TheConstants.{SEEDS};
 ghost use Rattle.msp_gen.specs.Generated.{machines_of, draw_speeds, draw_shared_time, generated};

@@ -1,7 +1,7 @@
 // Precedence: the arcs of each order, drawn in turns.
 ghost use Rattle.std.specs.Prelude.{◌≡◌, ◌<◌, ◌≤◌, ◌+◌, ◌-◌, ◌^◌, IfOk};
 ghost use Rattle.std.specs.List.{list_any};
-ghost use Rattle.msp_instance.specs.declared.ranges.TheConstants.{MOST_JOBS};
+ghost use Rattle.msp_class.specs.declared.sizes.TheConstants.{MOST_JOBS};
 ghost use Rattle.msp_gen.specs.Draws.{draw_turns, listed};
 ghost use Rattle.msp_gen.specs.Generated.{draw_mostly, draw_before, draw_behind, draw_arc_to_next, draw_arc_from, draw_arc_into, draw_new_arc_into, draw_arcs, arc_turns, is_same};
 

@@ -1,7 +1,7 @@
 // The times of a job, and on which machines it needs them.
 ghost use Rattle.std.specs.Prelude.{◌≡◌, ◌<◌, ◌≤◌, IfOk};
 ghost use Rattle.msp_class.specs.Env.{kind_of, most_operations};
-ghost use Rattle.msp_instance.specs.declared.ranges.TheConstants.{MOST_MACHINES};
+ghost use Rattle.msp_class.specs.declared.sizes.TheConstants.{MOST_MACHINES};
 ghost use Rattle.msp_gen.specs.Draws.{draw_one, draw_turns};
 ghost use Rattle.msp_gen.specs.Generated.{machines_of, draw_some_time, draw_shop_time, draw_need, draw_machine, draw_operation, draw_needs};
 
@@ -76,7 +76,8 @@ fn operation_per_machine(
     shared: u64,
     machines: u32,
 ) -> Result<List<Need>, NoMemory>
-    ensures { IfOk result (λ needs. draw_turns (λ machine _. draw_one (draw_need machine (draw_shop_time times shared machine))) machines draws.old.seed ≡ record { value = needs; seed = draws.new.seed }) }
+    ensures { IfOk result
+        (λ needs. draw_turns (λ machine _. draw_one (draw_need machine (draw_shop_time times shared machine))) machines draws.old.seed ≡ record { value = needs; seed = draws.new.seed }) }
 {
     let mut needs = List::new(alloc);
     for machine in 0..machines {

@@ -1,5 +1,6 @@
 -- Printed fields and lines.
-use Rattle.std.proofs.Common.{◌≡◌, ℕ, Bool, true, false, pos, if◌then◌else◌, List, [], ◌∷◌, ◌++◌, Result, Ok, Err, refl, sym, ap, ◌∙◌, append_assoc, codes, suc, ◌+◌, ◌<◌, length, drop, get_or, add-one, drop-cons}
+use Rattle.std.proofs.Common.{◌≡◌, ℕ, Bool, true, false, pos, if◌then◌else◌, List, [], ◌∷◌, ◌++◌, Result, Ok, Err, refl, sym, ap, ◌∙◌, append_assoc, codes, suc, ◌+◌, ◌<◌, length}
+use Rattle.std.proofs.Common.{drop, get_or, add-one, drop-cons}
 use Rattle.std.specs.Prelude.{OnOk}
 use Rattle.std.specs.Fmt.{signed_decimal}
 use Rattle.std.specs.Ordering.{int_eq}

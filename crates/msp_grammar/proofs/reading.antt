@@ -5,6 +5,6 @@ pub mod FieldLaws
 pub mod Fields
 pub mod LineFaults
 pub mod LineLaws
-pub mod Marks
+pub mod FirstSeparator
 pub mod NameReading
 pub mod Readings

@@ -4,7 +4,9 @@ ghost use Rattle.std.specs.Fmt.{signed_decimal};
 ghost use Rattle.std.specs.List.{flat_map};
 ghost use Rattle.msp_name.specs.Names.{name_of};
 ghost use Rattle.msp_instance.specs.Conditions.{InClass};
-ghost use Rattle.msp_grammar.specs.InstanceText.{line_text, where_wanted, time_key, release_key, due_key, weight_key, key_fields, job_fields, times_fields, operation_fields, route_fields, step_fields, curve_fields, times_text, route_text, curve_text, job_text, jobs_text, arc_fields, arcs_text, machines_text, speeds_text, time_text, class_text, head_text, instance_text, IsInstanceText};
+ghost use Rattle.msp_grammar.specs.InstanceText.{line_text, where_wanted, time_key, release_key, due_key, weight_key, key_fields, job_fields, times_fields, operation_fields};
+ghost use Rattle.msp_grammar.specs.InstanceText.{route_fields, step_fields, curve_fields, times_text, route_text, curve_text, job_text, jobs_text, arc_fields, arcs_text};
+ghost use Rattle.msp_grammar.specs.InstanceText.{machines_text, speeds_text, time_text, class_text, head_text, instance_text, IsInstanceText};
 ghost use Rattle.msp_grammar.specs.Printing.{spaced};
 ghost use Rattle.msp_grammar.specs.ScheduleText.{name_at};
 

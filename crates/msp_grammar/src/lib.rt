@@ -18,7 +18,7 @@ mod limits;
 mod lines;
 mod schedule_printer;
 
-pub use filed::Filed;
+pub use filed::{Filed, Stated};
 pub use instance_printer::print_instance;
 pub use laws::law_of_limits;
 pub use layout::{

@@ -5,12 +5,13 @@ use Rattle.std.proofs.lemmas.Bool.{cases_lt, eqb-true, eq-eqb}
 use Rattle.std.proofs.lemmas.List.{get_or_past, get_or-set_same, take_more, length-set}
 use Rattle.std.proofs.lemmas.List.Elements.{All-push, All-set, All-contains, All-contains_itself, All-filter, All-weaker, Contains-get_or, filter_passes, Contains-append_left, Contains-push}
 use Rattle.std.proofs.lemmas.List.Sorted.{All-permutation, Contains-permutation}
+use Rattle.msp_class.specs.declared.sizes.TheConstants.{GREATEST}
 use Rattle.msp_class.proofs.Sums.{Contains-filter}
 use Rattle.msp_instance.specs.declared.Arc.{Arc}
 use Rattle.msp_instance.specs.declared.Instance.{Instance}
 use Rattle.msp_instance.specs.Instance.{job_at}
 use Rattle.msp_instance.specs.Conditions.{IsSequence, GoesForward}
-use Rattle.msp_schedule.specs.Rows.{time_at}
+use Rattle.msp_schedule.specs.BackToBack.{time_at}
 use Rattle.msp_schedule.proofs.lists.ForwardOrders.{at_inside, each_at, set_elsewhere, comes_from}
 use Rattle.msp_heads.specs.Heads.{IsRaised, AreHeads}
 use Rattle.msp_route.proofs.OneInstances.{IsOneInstance, is_short, is_early}
@@ -23,11 +24,13 @@ module _ (i : Instance) (arcs : List Arc) (heads : ℕ → ℕ) (job : ℕ) (k :
   same : take (k + 1) arcs ≡ take k arcs ++ a ∷ []
   same = take_more arcs k a inside ∙ ap (λ x. take k arcs ++ x ∷ []) (sym at)
 
-  pub IsRaised-take : (old end now : ℕ) → a.after ≡ job → end ≡ heads a.before + time_at i a.before → now ≡ max old end → IsRaised i (take k arcs) heads job old → IsRaised i (take (k + 1) arcs) heads job now
+  pub IsRaised-take : (old end now : ℕ) → a.after ≡ job
+      → end ≡ heads a.before + time_at i a.before → now ≡ max old end → IsRaised i (take k arcs) heads job old → IsRaised i (take (k + 1) arcs) heads job now
   IsRaised-take old end now here is e h = subst (λ l. IsRaised i l heads job now) (sym same) (record {
     release = omega (arith, h.release, e);
     above = All-push (λ b. b.after ≡ job → heads b.before + time_at i b.before ≤ now) (take k arcs) a
-        (All-weaker (λ b. b.after ≡ job → heads b.before + time_at i b.before ≤ old) (λ b. b.after ≡ job → heads b.before + time_at i b.before ≤ now) (λ b f g. let less = f g in omega (arith, e, less)) (take k arcs) h.above)
+        (All-weaker (λ b. b.after ≡ job → heads b.before + time_at i b.before ≤ old)
+        (λ b. b.after ≡ job → heads b.before + time_at i b.before ≤ now) (λ b f g. let less = f g in omega (arith, e, less)) (take k arcs) h.above)
         (λ _. omega (arith, e, is));
     reached = elim (cases_lt old end) [
       | inl more ↦ inr (a, Contains-push (take k arcs) a, here, omega (arith, e, is, more))
@@ -36,27 +39,37 @@ module _ (i : Instance) (arcs : List Arc) (heads : ℕ → ℕ) (job : ℕ) (k :
   })
 
 -- the arcs that enter the job are all that count
-pub IsRaised-whole : (i : Instance) (sorted : List Arc) → IsPermutation i.arcs sorted → (heads : ℕ → ℕ) (job head : ℕ) → IsRaised i (filter (λ a. a.after == job) sorted) heads job head → IsRaised i i.arcs heads job head
+pub IsRaised-whole : (i : Instance) (sorted : List Arc) → IsPermutation i.arcs sorted
+    → (heads : ℕ → ℕ) (job head : ℕ) → IsRaised i (filter (λ a. a.after == job) sorted) heads job head → IsRaised i i.arcs heads job head
 IsRaised-whole i sorted same heads job head h = record {
   release = h.release;
   above = λ k d l e. All-contains (λ a. a.after ≡ job → heads a.before + time_at i a.before ≤ head) (filter (λ a. a.after == job) sorted) (get_or i.arcs k d) h.above
       (Contains-filter (λ a. a.after == job) sorted (get_or i.arcs k d) (Contains-permutation i.arcs sorted (get_or i.arcs k d) same (Contains-get_or i.arcs k d l)) (eq-eqb _ _ e)) e;
   reached = elim h.reached [
     | inl z ↦ inl z
-    | inr (a, c, e, r) ↦ inr (a, All-contains (Contains i.arcs) (filter (λ a. a.after == job) sorted) a (All-filter (λ a. a.after == job) (Contains i.arcs) sorted (All-permutation (Contains i.arcs) i.arcs sorted same (All-contains_itself i.arcs))) c, e, r)
+    | inr (a, c, e, r) ↦ inr (
+      a,
+      All-contains (Contains i.arcs) (filter (λ a. a.after == job) sorted) a
+          (All-filter (λ a. a.after == job) (Contains i.arcs) sorted (All-permutation (Contains i.arcs) i.arcs sorted same (All-contains_itself i.arcs))) c,
+      e,
+      r,
+    )
   ];
 }
 
 -- they begin at jobs of the instance
-pub entering_ends : (i : Instance) (sorted : List Arc) → IsPermutation i.arcs sorted → All (λ a. (a.before < length i.jobs) × (a.after < length i.jobs)) i.arcs → (job : ℕ) (entering : List Arc) → entering ≡ filter (λ a. a.after == job) sorted
+pub entering_ends : (i : Instance) (sorted : List Arc) → IsPermutation i.arcs sorted → All (λ a. (a.before < length i.jobs) × (a.after < length i.jobs)) i.arcs
+    → (job : ℕ) (entering : List Arc) → entering ≡ filter (λ a. a.after == job) sorted
     → All (λ a. (a.after ≡ job) × (a.before < length i.jobs)) entering
 entering_ends i sorted same ends job entering e = subst (All (λ a. (a.after ≡ job) × (a.before < length i.jobs))) (sym e) (λ k d l. (
   eqb-true _ _ (filter_passes (λ a. a.after == job) sorted k d l),
-  (All-filter (λ a. a.after == job) (λ a. (a.before < length i.jobs) × (a.after < length i.jobs)) sorted (All-permutation (λ a. (a.before < length i.jobs) × (a.after < length i.jobs)) i.arcs sorted same ends) k d l).0,
+  (All-filter (λ a. a.after == job) (λ a. (a.before < length i.jobs) × (a.after < length i.jobs))
+      sorted (All-permutation (λ a. (a.before < length i.jobs) × (a.after < length i.jobs)) i.arcs sorted same ends) k d l).0,
 ))
 
 -- it reads the heads of the jobs alone from which arcs lead to it
-pub IsRaised-same : (i : Instance) (arcs : List Arc) (old new : ℕ → ℕ) (job head : ℕ) → All (λ a. a.after ≡ job → new a.before ≡ old a.before) arcs → IsRaised i arcs old job head → IsRaised i arcs new job head
+pub IsRaised-same : (i : Instance) (arcs : List Arc) (old new : ℕ → ℕ) (job head : ℕ)
+    → All (λ a. a.after ≡ job → new a.before ≡ old a.before) arcs → IsRaised i arcs old job head → IsRaised i arcs new job head
 IsRaised-same i arcs old new job head agree h = record {
   release = h.release;
   above = λ k d l e. omega (arith, agree k d l e, h.above k d l e);
@@ -68,12 +81,13 @@ pub record IsHeaded (i : Instance) (order : List ℕ) (place : ℕ) (heads : Lis
   pub each : length heads ≡ length i.jobs
   pub inside : place ≤ length order
   pub done : (k : ℕ) → k < place → IsRaised i i.arcs (λ j. get_or heads j 0) (get_or order k 0) (get_or heads (get_or order k 0) 0)
-  pub small : All (λ h. h ≤ 1000000000 * (2 + place)) heads
+  pub small : All (λ h. h ≤ GREATEST * (2 + place)) heads
 
 pub IsHeaded-start : (i : Instance) (order heads : List ℕ) → length heads ≡ length i.jobs → All (λ h. h ≡ 0) heads → IsHeaded i order 0 heads
 IsHeaded-start i order heads each none = record { each = each; inside = omega arith; done = λ k l. absurd (omega (arith, l)); small = λ k d l. omega (arith, none k d l) }
 
-pub AreHeads-end : (i : Instance) → IsOneInstance i → (order heads : List ℕ) (place : ℕ) → length order ≤ place → All (λ a. (a.before < length i.jobs) × (a.after < length i.jobs)) i.arcs → IsSequence i order → IsHeaded i order place heads → AreHeads i heads
+pub AreHeads-end : (i : Instance) → IsOneInstance i → (order heads : List ℕ) (place : ℕ) → length order ≤ place
+    → All (λ a. (a.before < length i.jobs) × (a.after < length i.jobs)) i.arcs → IsSequence i order → IsHeaded i order place heads → AreHeads i heads
 AreHeads-end i one order heads place all ends s h = record {
   each = h.each;
   release = λ j l. (at j l).release;
@@ -85,7 +99,8 @@ AreHeads-end i one order heads place all ends s h = record {
     at : (j : ℕ) → j < length i.jobs → IsRaised i i.arcs (λ j. get_or heads j 0) j (get_or heads j 0)
     at = each_at i order s (λ x. IsRaised i i.arcs (λ j. get_or heads j 0) x (get_or heads x 0)) (λ k l. h.done k (omega (arith, l, all)))
 
-module _ (i : Instance) (one : IsOneInstance i) (order : List ℕ) (s : IsSequence i order) (forward : All (GoesForward order) i.arcs) (heads : List ℕ) (place job value : ℕ) (some : place < length order) (at : job ≡ get_or order place 0)
+module _ (i : Instance) (one : IsOneInstance i) (order : List ℕ) (s : IsSequence i order)
+    (forward : All (GoesForward order) i.arcs) (heads : List ℕ) (place job value : ℕ) (some : place < length order) (at : job ≡ get_or order place 0)
     (h : IsHeaded i order place heads) (raised : IsRaised i i.arcs (λ k. get_or heads k 0) job value) where
   wide : job < length i.jobs
   wide = subst (λ x. x < length i.jobs) (sym at) (at_inside i order s place some)
@@ -105,20 +120,21 @@ module _ (i : Instance) (one : IsOneInstance i) (order : List ℕ) (s : IsSequen
   here : get_or new job 0 ≡ value
   here = get_or-set_same heads job value 0 (omega (arith, wide, h.each))
 
-  pub value_small : value ≤ 1000000000 * (3 + place)
+  pub value_small : value ≤ GREATEST * (3 + place)
   value_small = elim raised.reached [
     | inl e ↦ omega (arith, e, is_early i one job wide)
     | inr r ↦ let (a, c, e, is) = r in omega (arith, is, get_small a.before, short a c)
   ]
     where
-      get_small : (j : ℕ) → get_or heads j 0 ≤ 1000000000 * (2 + place)
+      get_small : (j : ℕ) → get_or heads j 0 ≤ GREATEST * (2 + place)
       get_small j = elim (cases_lt j (length heads)) [ inl l ↦ h.small j 0 l | inr l ↦ omega (arith, get_or_past heads j 0 (omega (arith, l))) ]
 
-      short : (a : Arc) → Contains i.arcs a → time_at i a.before ≤ 1000000000
+      short : (a : Arc) → Contains i.arcs a → time_at i a.before ≤ GREATEST
       short a c = is_short i one a.before (All-contains (λ a. (a.before < length i.jobs) × (a.after < length i.jobs)) i.arcs a one.inner.conditions.ends c).0
 
   first : IsRaised i i.arcs (λ k. get_or new k 0) job (get_or new job 0)
-  first = subst (IsRaised i i.arcs (λ k. get_or new k 0) job) (sym here) (IsRaised-same i i.arcs (λ k. get_or heads k 0) (λ k. get_or new k 0) job value (subst (λ x. All (λ a. a.after ≡ x → get_or new a.before 0 ≡ get_or heads a.before 0) i.arcs) (sym at) (agree place (omega arith))) raised)
+  first = subst (IsRaised i i.arcs (λ k. get_or new k 0) job) (sym here) (IsRaised-same i i.arcs (λ k. get_or heads k 0) (λ k. get_or new k 0)
+      job value (subst (λ x. All (λ a. a.after ≡ x → get_or new a.before 0 ≡ get_or heads a.before 0) i.arcs) (sym at) (agree place (omega arith))) raised)
 
   pub IsHeaded-next : IsHeaded i order (place + 1) new
   IsHeaded-next = record { each = length-set heads job value ∙ h.each; inside = omega (arith, some); done = done; small = small }
@@ -133,14 +149,16 @@ module _ (i : Instance) (one : IsOneInstance i) (order : List ℕ) (s : IsSequen
             subst (λ x. IsRaised i i.arcs (λ j. get_or new j 0) x (get_or new x 0)) (at ∙ ap (λ n. get_or order n 0) (sym is)) first
       ]
 
-      small : All (λ h. h ≤ 1000000000 * (2 + (place + 1))) new
-      small = All-set (λ h. h ≤ 1000000000 * (2 + (place + 1))) heads job value (omega (arith, value_small)) (λ k d l. omega (arith, h.small k d l))
+      small : All (λ h. h ≤ GREATEST * (2 + (place + 1))) new
+      small = All-set (λ h. h ≤ GREATEST * (2 + (place + 1))) heads job value (omega (arith, value_small)) (λ k d l. omega (arith, h.small k d l))
 
 -- at the numbers as the code passes them
-pub raised_next : (i : Instance) → IsOneInstance i → (order : List ℕ) → IsSequence i order → All (GoesForward order) i.arcs → (heads : List ℕ) (place job value : ℕ) → place < length order → job ≡ get_or order place 0 → (sorted : List Arc) → IsPermutation i.arcs sorted → (entering : List Arc)
+pub raised_next : (i : Instance) → IsOneInstance i → (order : List ℕ) → IsSequence i order → All (GoesForward order) i.arcs → (heads : List ℕ) (place job value : ℕ)
+    → place < length order → job ≡ get_or order place 0 → (sorted : List Arc) → IsPermutation i.arcs sorted → (entering : List Arc)
     → entering ≡ filter (λ a. a.after == job) sorted → IsRaised i entering (λ k. get_or heads k 0) job value → IsHeaded i order place heads → IsHeaded i order (place + 1) (set heads job value)
 raised_next i one order s forward heads place job value some at sorted same entering e raised h =
-    IsHeaded-next i one order s forward heads place job value some at h (IsRaised-whole i sorted same (λ k. get_or heads k 0) job value (subst (λ l. IsRaised i l (λ k. get_or heads k 0) job value) e raised))
+    IsHeaded-next i one order s forward heads place job value some at h
+    (IsRaised-whole i sorted same (λ k. get_or heads k 0) job value (subst (λ l. IsRaised i l (λ k. get_or heads k 0) job value) e raised))
 
 pub job_inside : (i : Instance) (order : List ℕ) → IsSequence i order → (p job : ℕ) → p < length order → job ≡ get_or order p 0 → job < length i.jobs
 job_inside i order s p job l e = subst (λ x. x < length i.jobs) (sym e) (at_inside i order s p l)

@@ -1,5 +1,6 @@
 -- Lemmas on sorted arcs, and on how many arcs enter a job.
-use Rattle.std.proofs.Common.{◌≡◌, ℕ, ◌+◌, ◌-◌, ◌<◌, ◌≤◌, Bool, true, false, cond, eqb, ltb, leb, List, [], ◌∷◌, ◌++◌, length, get_or, take, drop, set, filter, replicate, ◌==◌, ◌&&◌, ◌||◌, inl, inr, add-one, All, refl, sym, ap, ◌∙◌, subst, arith}
+use Rattle.std.proofs.Common.{◌≡◌, ℕ, ◌+◌, ◌-◌, ◌<◌, ◌≤◌, Bool, true, false, cond, eqb, ltb, leb, List, [], ◌∷◌, ◌++◌, length, get_or, take, drop, set, filter, replicate, ◌==◌}
+use Rattle.std.proofs.Common.{◌&&◌, ◌||◌, inl, inr, add-one, All, refl, sym, ap, ◌∙◌, subst, arith}
 use Rattle.std.proofs.Math.ListN.{length-set, length-replicate}
 use Rattle.std.proofs.lemmas.Grind.{get_or-set_at}
 use Rattle.std.specs.List.{list_any, range_with_len}
@@ -98,7 +99,8 @@ CountsEntering-more arcs i d n j counts t is inside h = record { whole = length-
       | inl hit ↦
           let same : j ≡ k = eqb-true j k hit in
           let there : get_or new k 0 ≡ get_or counts j 0 + 1 = get_or-set_at counts j k _ 0 (sym same) (omega (arith, h.whole)) in
-          there ∙ ap (λ m. m + 1) (h.each j inside ∙ ap (entering (take i arcs)) same) ∙ sym (entering_more arcs i d k t ∙ ap (λ m. entering (take i arcs) k + cond (m == k) 1 0) is ∙ ap (λ b. entering (take i arcs) k + cond b 1 0) hit)
+          there ∙ ap (λ m. m + 1) (h.each j inside ∙ ap (entering (take i arcs)) same)
+          ∙ sym (entering_more arcs i d k t ∙ ap (λ m. entering (take i arcs) k + cond (m == k) 1 0) is ∙ ap (λ b. entering (take i arcs) k + cond b 1 0) hit)
       | inr miss ↦
           let there : get_or new k 0 ≡ get_or counts k 0 = get_or-set_other counts j k _ 0 (λ e. eqb-false j k miss (sym e)) in
           there ∙ h.each k u ∙ sym (entering_more arcs i d k t ∙ ap (λ m. entering (take i arcs) k + cond (m == k) 1 0) is ∙ ap (λ b. entering (take i arcs) k + cond b 1 0) miss ∙ omega arith)
@@ -117,7 +119,10 @@ entering-small arcs i k = omega (arith, count_by-le-length (λ a. a.after == k) 
 pub CountsEntering-read : (arcs : List Arc) (i : ℕ) (d : Arc) (n r : ℕ) (counts : List ℕ) → i < length arcs → All (λ a. a.after < n) arcs
     → CountsEntering (take i arcs) n counts → r ≡ get_or counts (get_or arcs i d).after r
     → (r ≤ i) × CountsEntering (take (i + 1) arcs) n (set counts (get_or arcs i d).after (r + 1))
-CountsEntering-read arcs i d n r counts t ends h is = (omega (arith, value, h.each j (ends i d t), entering-small arcs i j), subst (λ m. CountsEntering (take (i + 1) arcs) n (set counts j (m + 1))) (sym value) (CountsEntering-more arcs i d n j counts t refl (ends i d t) h))
+CountsEntering-read arcs i d n r counts t ends h is = (
+  omega (arith, value, h.each j (ends i d t), entering-small arcs i j),
+  subst (λ m. CountsEntering (take (i + 1) arcs) n (set counts j (m + 1))) (sym value) (CountsEntering-more arcs i d n j counts t refl (ends i d t) h),
+)
   where
     j : ℕ
     j = (get_or arcs i d).after
@@ -126,5 +131,6 @@ CountsEntering-read arcs i d n r counts t ends h is = (omega (arith, value, h.ea
     value = is ∙ get_or_default counts j r 0 (let u : j < n = ends i d t in omega (arith, h.whole))
 
 -- the step of the loop that lists the numbers of a range that pass a test
-pub filter_range_next : (p : ℕ → Bool) (n : ℕ) (old new : List ℕ) (b : Bool) → p n ≡ b → new ≡ old ++ cond b (n ∷ []) [] → old ≡ filter p (range_with_len 0 n) → new ≡ filter p (range_with_len 0 (n + 1))
+pub filter_range_next : (p : ℕ → Bool) (n : ℕ) (old new : List ℕ) (b : Bool)
+    → p n ≡ b → new ≡ old ++ cond b (n ∷ []) [] → old ≡ filter p (range_with_len 0 n) → new ≡ filter p (range_with_len 0 (n + 1))
 filter_range_next p n old new b at e h = e ∙ ap (λ l. l ++ cond b (n ∷ []) []) h ∙ ap (λ c. filter p (range_with_len 0 n) ++ cond c (n ∷ []) []) (sym at) ∙ sym (filter_range_more p n)

@@ -1,5 +1,6 @@
 -- Lemmas on orders of all jobs, and on cycles: there is the one or the other.
-use Rattle.std.proofs.Common.{◌≡◌, ◌≢◌, ℕ, zero, suc, ◌+◌, ◌<◌, ◌≤◌, true, false, cond, ◌==◌, List, [], ◌∷◌, length, get_or, take, count_by, All, AllPairs, Contains, Some, ◌⊎◌, inl, inr, sym, ap, ◌∙◌, subst, arith}
+use Rattle.std.proofs.Common.{◌≡◌, ◌≢◌, ℕ, zero, suc, ◌+◌, ◌<◌, ◌≤◌, true, false, cond, ◌==◌, List, [], ◌∷◌, length, get_or, take, count_by, All, AllPairs, Contains, Some, ◌⊎◌}
+use Rattle.std.proofs.Common.{inl, inr, sym, ap, ◌∙◌, subst, arith}
 use Rattle.std.specs.Prelude.{slice_get}
 use Rattle.std.specs.List.{list_any}
 use Rattle.std.specs.List.Sorted.{IsPermutation}
@@ -11,7 +12,8 @@ use Rattle.std.proofs.lemmas.List.Sorted.{Contains-permutation, All-permutation,
 use Rattle.std.proofs.lemmas.List.Kept.{AllPairs-cons}
 use Rattle.std.proofs.lemmas.Option.{slice_get-get_or, slice_get_within, get_or_from_slice_get}
 use Rattle.msp_class.specs.Sums.{total_below}
-use Rattle.msp_class.proofs.Sums.{cond-yes, cond-no, total_below-add, total_below-same, sum_by-mono, sum_by-constant, sum_by-total_below, total_below-constant, total_below-only, total_below-none, total_below-mono, total_below-tight, count_by-distinct, OnceBelow, OnceBelow-from_distinct, OnceBelow-contains}
+use Rattle.msp_class.proofs.Sums.{cond-yes, cond-no, total_below-add, total_below-same, sum_by-mono, sum_by-constant, sum_by-total_below, total_below-constant, total_below-only}
+use Rattle.msp_class.proofs.Sums.{total_below-none, total_below-mono, total_below-tight, count_by-distinct, OnceBelow, OnceBelow-from_distinct, OnceBelow-contains}
 use Rattle.msp_instance.specs.declared.Arc.{Arc}
 use Rattle.msp_instance.specs.declared.Instance.{Instance}
 use Rattle.msp_instance.specs.Conditions.{IsSequence, GoesForward, IsAcyclic}
@@ -32,7 +34,8 @@ GoesForward-from_longest i arcs order p ends h whole k d t = (
   before.0,
   after.0,
   omega (arith, before.1, length-take after.0 order),
-  slice_get-get_or order before.0 a.before (omega (arith, before.1, length-take after.0 order)) ∙ ap Some (sym (get_or-take after.0 order before.0 a.before (omega (arith, before.1, length-take after.0 order))) ∙ before.2),
+  slice_get-get_or order before.0 a.before (omega (arith, before.1, length-take after.0 order))
+      ∙ ap Some (sym (get_or-take after.0 order before.0 a.before (omega (arith, before.1, length-take after.0 order))) ∙ before.2),
   slice_get-get_or order after.0 a.after after.1 ∙ ap Some after.2,
 )
   where
@@ -43,7 +46,8 @@ GoesForward-from_longest i arcs order p ends h whole k d t = (
     after = (IsSequence-from_longest i arcs order h whole).each a.after (ends k d t).1
 
     before : Contains (take after.0 order) a.before
-    before = h.early a.before after.0 after.1 (subst (HasStep arcs a.before) (sym (get_or_default order after.0 0 a.after after.1 ∙ after.2)) (Contains-permutation i.arcs arcs a p (Contains-get_or i.arcs k d t)))
+    before = h.early a.before after.0 after.1
+        (subst (HasStep arcs a.before) (sym (get_or_default order after.0 0 a.after after.1 ∙ after.2)) (Contains-permutation i.arcs arcs a p (Contains-get_or i.arcs k d t)))
 
 -- ---- a path never leads back where every arc goes forward
 equal_below-inside : (n x : ℕ) → x < n → total_below n (λ j. cond {A = ℕ} (x == j) 1 0) ≡ 1
@@ -74,18 +78,25 @@ inside_from_counts n (x ∷ xs) h =
     (inside_from_counts n xs (omega (arith, counts, at_most_one n x)))
   where
     counts : length xs + 1 ≤ total_below n (λ j. cond (x == j) 1 0) + total_below n (λ j. count_by (λ y. y == j) xs)
-    counts = omega (arith, h, total_below-add n (λ j. cond (x == j) 1 0) (λ j. count_by (λ y. y == j) xs), total_below-same n (λ j. count_by (λ y. y == j) (x ∷ xs)) (λ j. cond (x == j) 1 0 + count_by (λ y. y == j) xs) (λ j t. sum_by-cons (λ y. cond (y == j) 1 0) x xs))
+    counts = omega (
+      arith,
+      h,
+      total_below-add n (λ j. cond (x == j) 1 0) (λ j. count_by (λ y. y == j) xs),
+      total_below-same n (λ j. count_by (λ y. y == j) (x ∷ xs)) (λ j. cond (x == j) 1 0 + count_by (λ y. y == j) xs) (λ j t. sum_by-cons (λ y. cond (y == j) 1 0) x xs),
+    )
 
 pub count_once : (i : Instance) (order : List ℕ) → IsSequence i order → (j : ℕ) → j < length i.jobs → count_by (λ x. x == j) order ≡ 1
 count_once i order h j t =
-    sym (total_below-tight (length i.jobs) (λ _. 1) (λ k. count_by (λ x. x == k) order) (λ k u. count-from_contains order k (h.each k u)) (omega (arith, counts_below (length i.jobs) order, total_below-constant (length i.jobs) 1, h.whole)) j t)
+    sym (total_below-tight (length i.jobs) (λ _. 1) (λ k. count_by (λ x. x == k) order) (λ k u. count-from_contains order k (h.each k u))
+    (omega (arith, counts_below (length i.jobs) order, total_below-constant (length i.jobs) 1, h.whole)) j t)
 
 -- an order of all jobs has each of their numbers once, and no other number
 pub OnceBelow-from_sequence : (i : Instance) (order : List ℕ) → IsSequence i order → OnceBelow (length i.jobs) order
 OnceBelow-from_sequence i order h =
     let n = length i.jobs in
     record {
-      within = inside_from_counts n order (omega (arith, h.whole, total_below-constant n 1, total_below-mono n (λ _. 1) (λ k. count_by (λ x. x == k) order) (λ k u. count-from_contains order k (h.each k u))));
+      within = inside_from_counts n order
+          (omega (arith, h.whole, total_below-constant n 1, total_below-mono n (λ _. 1) (λ k. count_by (λ x. x == k) order) (λ k u. count-from_contains order k (h.each k u))));
       once = count_once i order h;
     }
 
@@ -156,17 +167,20 @@ walk_back arcs n order ends h (suc fuel) last walked enough out w =
     let there : (j < n) × (last < n) = All-contains (λ a. (a.before < n) × (a.after < n)) arcs (record { before = j; after = last }) ends back.1 in
     step (λ k gone v. walk_back arcs n order ends h fuel k (last ∷ walked) (omega arith) gone v) back.0 back.1 back.2 there.0 (cases_Bool (j == last)) (cases_Bool (list_any (λ x. x == j) walked))
   where
-    step : ((j : ℕ) → ¬ Contains order j → IsWalk arcs n j (last ∷ walked) → (k : ℕ) × (k < n) × HasPath arcs k k) → (j : ℕ) → HasStep arcs j last → ¬ Contains order j → j < n → ((j == last) ≡ true) ⊎ ((j == last) ≡ false) → (list_any (λ x. x == j) walked ≡ true) ⊎ (list_any (λ x. x == j) walked ≡ false) → (k : ℕ) × (k < n) × HasPath arcs k k
+    step : ((j : ℕ) → ¬ Contains order j → IsWalk arcs n j (last ∷ walked) → (k : ℕ) × (k < n) × HasPath arcs k k) → (j : ℕ) → HasStep arcs j last → ¬ Contains order j
+        → j < n → ((j == last) ≡ true) ⊎ ((j == last) ≡ false) → (list_any (λ x. x == j) walked ≡ true) ⊎ (list_any (λ x. x == j) walked ≡ false) → (k : ℕ) × (k < n) × HasPath arcs k k
     step on j s gone t (inl same) b = (j, t, one (subst (HasStep arcs j) (sym (eqb-true j last same)) s))
     step on j s gone t (inr other) (inl met) = (j, t, more s (All-contains (HasPath arcs last) walked j w.paths (Contains-from_list_any walked j met)))
     step on j s gone t (inr other) (inr fresh) =
         on j gone (record {
           inside = All-cons (λ k. k < n) j (last ∷ walked) t w.inside;
-          apart = AllPairs-cons (λ k l. k ≢ l) j (last ∷ walked) (All-cons (λ k. j ≢ k) last walked (eqb-false j last other) (λ k d u e. false≢true (sym fresh ∙ list_any-from_Contains walked j (subst (Contains walked) (sym e) (Contains-get_or walked k d u))))) w.apart;
+          apart = AllPairs-cons (λ k l. k ≢ l) j (last ∷ walked) (All-cons (λ k. j ≢ k) last walked (eqb-false j last other)
+              (λ k d u e. false≢true (sym fresh ∙ list_any-from_Contains walked j (subst (Contains walked) (sym e) (Contains-get_or walked k d u))))) w.apart;
           paths = All-cons (HasPath arcs j) last walked (one s) (λ k d u. more s (w.paths k d u));
         })
 
-pub cycle_from_short : (arcs : List Arc) (n : ℕ) (order : List ℕ) → All (λ a. (a.before < n) × (a.after < n)) arcs → IsLongestOrder arcs n order → length order < n → (j : ℕ) × (j < n) × HasPath arcs j j
+pub cycle_from_short : (arcs : List Arc) (n : ℕ) (order : List ℕ)
+    → All (λ a. (a.before < n) × (a.after < n)) arcs → IsLongestOrder arcs n order → length order < n → (j : ℕ) × (j < n) × HasPath arcs j j
 cycle_from_short arcs n order ends h short =
     let first = missing_job n order short in
     walk_back arcs n order ends h n first.0 [] (omega arith) first.2 (record {
@@ -179,7 +193,8 @@ cycle_from_short arcs n order ends h short =
 abbrev AreEnds : ℕ → List Arc → Type 0
 AreEnds n arcs = All (λ a. (a.before < n) × (a.after < n)) arcs
 
-module _ (i : Instance) (read items sorted : List Arc) (n : ℕ) (jobs : n ≡ length i.jobs) (read_is : read ≡ i.arcs) (moved : IsPermutation read items) (sorted_is : sorted ≡ items) (ends : AreEnds (length i.jobs) i.arcs) where
+module _ (i : Instance) (read items sorted : List Arc) (n : ℕ) (jobs : n ≡ length i.jobs)
+    (read_is : read ≡ i.arcs) (moved : IsPermutation read items) (sorted_is : sorted ≡ items) (ends : AreEnds (length i.jobs) i.arcs) where
   moved_arcs : IsPermutation i.arcs sorted
   moved_arcs = subst (IsPermutation i.arcs) (sym sorted_is) (subst (λ l. IsPermutation l items) read_is moved)
 

@@ -6,7 +6,8 @@ use Rattle.msp_class.specs.Env.{kind_of}
 use Rattle.msp_instance.specs.declared.Arc.{Arc}
 use Rattle.msp_instance.specs.declared.Instance.{Instance}
 use Rattle.msp_instance.specs.declared.membership.ClassFault.{ClassFault}
-use Rattle.msp_instance.specs.declared.membership.ClassFault.TheVariants.{Jobs, Machines, Speeds, Multiple, Need as NeedFault, Unit as UnitFault, Head, Due, Weight, Curve as CurveFault, Arcs, Arc as ArcFault, Degree}
+use Rattle.msp_instance.specs.declared.membership.ClassFault.TheVariants.{Jobs, Machines, Speeds, Multiple, Need as NeedFault, Unit as UnitFault, Head, Due, Weight}
+use Rattle.msp_instance.specs.declared.membership.ClassFault.TheVariants.{Curve as CurveFault, Arcs, Arc as ArcFault, Degree}
 use Rattle.msp_instance.specs.Instance.{no_job}
 use Rattle.msp_instance.specs.Conditions.{text_limits, HasMachines, HasSpeeds, HasSmallMultiple, MeetsConditions}
 use Rattle.msp_instance.specs.Faults.{arc_at, HasJobs, HasArc, Condition, IsOf, Turn, turn_of, IsSooner, IsFirstFault}
@@ -79,7 +80,8 @@ sooner_or_same s t = elim (cases_order s.part t.part) [
 
 -- the fault whose turn it is
 abbrev fault_at : ℕ → ℕ → ℕ → ClassFault
-fault_at part j step = get_or (get_or ((Jobs ∷ []) ∷ (Machines ∷ []) ∷ (Speeds ∷ []) ∷ (Multiple ∷ []) ∷ (NeedFault j ∷ UnitFault j ∷ Head j ∷ Due j ∷ Weight j ∷ CurveFault j ∷ []) ∷ (Arcs ∷ []) ∷ (ArcFault j ∷ []) ∷ (Degree j ∷ []) ∷ []) part []) step Jobs
+fault_at part j step = get_or (get_or ((Jobs ∷ []) ∷ (Machines ∷ []) ∷ (Speeds ∷ []) ∷ (Multiple ∷ [])
+    ∷ (NeedFault j ∷ UnitFault j ∷ Head j ∷ Due j ∷ Weight j ∷ CurveFault j ∷ []) ∷ (Arcs ∷ []) ∷ (ArcFault j ∷ []) ∷ (Degree j ∷ []) ∷ []) part []) step Jobs
 
 fault_at_turn : (f : ClassFault) → fault_at (turn_of f).part (turn_of f).number (turn_of f).step ≡ f
 fault_at_turn Jobs = refl

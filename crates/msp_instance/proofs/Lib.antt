@@ -6,4 +6,4 @@ pub mod ListingLemmas
 pub mod OrderLemmas
 pub mod SearchLemmas
 pub mod CycleLemmas
-pub mod PathRowLemmas
+pub mod PathBitLemmas

@@ -7,13 +7,14 @@ use Rattle.msp_class.specs.Env.{kind_of}
 use Rattle.msp_class.specs.Crit.{uses_due}
 use Rattle.msp_class.specs.declared.class.Times.{Times}
 use Rattle.msp_class.specs.declared.class.Times.TheVariants.{General, Unit as UnitTimes, Equal}
-use Rattle.msp_instance.specs.declared.ranges.TheConstants.{GREATEST}
+use Rattle.msp_class.specs.declared.sizes.TheConstants.{GREATEST}
 use Rattle.msp_instance.specs.declared.Need.{Need}
 use Rattle.msp_instance.specs.declared.Curve.{Curve}
 use Rattle.msp_instance.specs.declared.Job.{Job}
 use Rattle.msp_instance.specs.declared.Instance.{Instance}
 use Rattle.msp_instance.specs.Instance.{no_job, job_at}
-use Rattle.msp_instance.specs.Conditions.{Limits, text_limits, inner_limits, inner_factor, LiesWithin, greatest_time, HasTimes, HasNeeds, HasRelease, HasDue, IsCurve, HasCurve, IsJobOf, MeetsConditions, InClass, Inner}
+use Rattle.msp_instance.specs.Conditions.{Limits, text_limits, inner_limits, inner_factor, LiesWithin, greatest_time, HasTimes, HasNeeds, HasRelease, HasDue, IsCurve, HasCurve}
+use Rattle.msp_instance.specs.Conditions.{IsJobOf, MeetsConditions, InClass, Inner}
 
 -- each limit of the first is within that of the second
 pub record AreWithin (l m : Limits) : Type 0 where

@@ -1,12 +1,14 @@
 -- Lemmas on lists of the numbers below n that pass a test.
-use Rattle.std.proofs.Common.{◌≡◌, ◌≢◌, ℕ, ◌+◌, ◌*◌, ◌<◌, ◌≤◌, Bool, true, false, cond, ◌==◌, eqb, ltb, List, [], ◌∷◌, ◌++◌, length, get_or, take, filter, count_by, All, AllPairs, Contains, inl, inr, refl, sym, ap, ◌∙◌, subst, arith}
+use Rattle.std.proofs.Common.{◌≡◌, ◌≢◌, ℕ, ◌+◌, ◌*◌, ◌<◌, ◌≤◌, Bool, true, false, cond, ◌==◌, eqb, ltb, List, [], ◌∷◌, ◌++◌, length, get_or, take, filter, count_by, All, AllPairs}
+use Rattle.std.proofs.Common.{Contains, inl, inr, refl, sym, ap, ◌∙◌, subst, arith}
 use Rattle.std.specs.List.{list_any, range_with_len}
 use Rattle.std.proofs.lemmas.Bool.{cases_Bool, eqb-true, eqb-false, eq-eqb, ne_eqb, ltb-true, ltb-false}
 use Rattle.std.proofs.lemmas.List.{get_or_default, get_or-take, length-take}
 use Rattle.std.proofs.lemmas.List.Folds.{Any-from_list_any, list_any-from_Any}
 use Rattle.std.proofs.lemmas.List.Sums.{sum_by_push}
 use Rattle.std.proofs.lemmas.List.Elements.{All-push, All-contains, All-filter}
-use Rattle.msp_class.proofs.Sums.{cond-yes, cond-no, eqb_comm, sum_by-constant, sum_by-filter, sum_by-agree, sum_by-none, sum_by-some, sum_by-contains, sum_by_counts, total_below-range, total_below-mono, total_below-only, total_below-constant, OnceBelow, OnceBelow-range, distinct_from_counts}
+use Rattle.msp_class.proofs.Sums.{cond-yes, cond-no, eqb_comm, sum_by-constant, sum_by-filter, sum_by-agree, sum_by-none, sum_by-some, sum_by-contains, sum_by_counts}
+use Rattle.msp_class.proofs.Sums.{total_below-range, total_below-mono, total_below-only, total_below-constant, OnceBelow, OnceBelow-range, distinct_from_counts}
 use Rattle.msp_instance.specs.Listing.{IsListing}
 
 -- ---- membership as a test
@@ -66,7 +68,8 @@ IsListing-filter n test = record { inside = All-filter test (λ x. x < n) (range
     each : (k : ℕ) → k < n → count_by (λ x. x == k) (filter test (range_with_len 0 n)) ≡ cond (test k) 1 0
     each k t =
         sum_by-filter (λ x. cond (x == k) 1 0) test (range_with_len 0 n)
-        ∙ sum_by-agree (λ x. cond (test x) (cond (x == k) 1 0) 0) (λ x. cond (eqb k x) (cond (test x) 1 0) 0) (range_with_len 0 n) (λ x. turned (test x) (eqb x k) ∙ ap (λ b. cond b (cond {A = ℕ} (test x) 1 0) 0) (eqb_comm x k))
+        ∙ sum_by-agree (λ x. cond (test x) (cond (x == k) 1 0) 0) (λ x. cond (eqb k x) (cond (test x) 1 0) 0)
+        (range_with_len 0 n) (λ x. turned (test x) (eqb x k) ∙ ap (λ b. cond b (cond {A = ℕ} (test x) 1 0) 0) (eqb_comm x k))
         ∙ total_below-range n (λ x. cond (eqb k x) (cond (test x) 1 0) 0)
         ∙ total_below-only n (λ x. cond (test x) 1 0) k t
 
@@ -77,7 +80,8 @@ pub IsListing-same : (n : ℕ) (test other : ℕ → Bool) (xs : List ℕ) → (
 IsListing-same n test other xs e h = record { inside = h.inside; each = λ k t. h.each k t ∙ ap (λ b. cond b 1 0) (sym (e k t)) }
 
 -- a number that begins to pass goes to the end of the list
-pub IsListing-push : (n : ℕ) (test other : ℕ → Bool) (xs : List ℕ) (j : ℕ) → j < n → test j ≡ false → other j ≡ true → ((k : ℕ) → k < n → k ≢ j → other k ≡ test k) → IsListing n test xs → IsListing n other (xs ++ j ∷ [])
+pub IsListing-push : (n : ℕ) (test other : ℕ → Bool) (xs : List ℕ) (j : ℕ)
+    → j < n → test j ≡ false → other j ≡ true → ((k : ℕ) → k < n → k ≢ j → other k ≡ test k) → IsListing n test xs → IsListing n other (xs ++ j ∷ [])
 IsListing-push n test other xs j inside before now same h = record { inside = All-push (λ x. x < n) xs j h.inside inside; each = each }
   where
     each : (k : ℕ) → k < n → count_by (λ x. x == k) (xs ++ j ∷ []) ≡ cond (other k) 1 0

@@ -1,8 +1,10 @@
 -- Lemmas on greatest common divisors and least common multiples.
-use Rattle.std.proofs.Common.{◌≡◌, ℕ, zero, suc, ◌+◌, ◌*◌, ◌/◌, ◌%◌, ◌<◌, ◌≤◌, ◌^◌, Bool, leb, List, [], ◌∷◌, ◌++◌, length, get_or, take, All, Contains, IsTrue, true, false, ◌↔◌, refl, sym, ap, ◌∙◌, subst, subst₂, arith}
+use Rattle.std.proofs.Common.{◌≡◌, ℕ, zero, suc, ◌+◌, ◌*◌, ◌/◌, ◌%◌, ◌<◌, ◌≤◌, ◌^◌, Bool, leb, List, [], ◌∷◌, ◌++◌, length, get_or, take, All, Contains, IsTrue, true, false, ◌↔◌}
+use Rattle.std.proofs.Common.{refl, sym, ap, ◌∙◌, subst, subst₂, arith}
 use Rattle.std.specs.Int.{◌∣◌, IsGcd}
 use Rattle.std.proofs.lemmas.Nat.Gcd.{IsGcd-from_mod, dvd_trans, le_of_dvd}
-use Rattle.std.proofs.Math.Nat.{dvd-add_iff_right, dvd-mul_right_of_dvd, div-mul_cancel, mul-dvd-mul_left, mul-dvd-mul_right, dvd_of_mul-dvd-mul_right, pos_of_dvd_of_pos, dvd-mul_right, dvd-mul_left, div-add-mod, one-dvd}
+use Rattle.std.proofs.Math.Nat.{dvd-add_iff_right, dvd-mul_right_of_dvd, div-mul_cancel, mul-dvd-mul_left, mul-dvd-mul_right, dvd_of_mul-dvd-mul_right, pos_of_dvd_of_pos}
+use Rattle.std.proofs.Math.Nat.{dvd-mul_right, dvd-mul_left, div-add-mod, one-dvd}
 use Rattle.std.proofs.lemmas.Bool.{false≢true, leb-true, leb-false}
 use Rattle.std.proofs.lemmas.Nat.{mul-le}
 use Rattle.std.proofs.lemmas.List.Elements.{All-more, All-take, All-weaker, All-contains, All-nil, All-cons, All-head, All-tail, Contains-push}
@@ -56,10 +58,13 @@ IsLeastMultiple-from_divisor a b g some_a some_b h scaled = (record { left = lef
         positive (suc n) k h = omega arith
 
     least : (m : ℕ) → a ∣ m → b ∣ m → a / g * b ∣ m
-    least m p q = dvd_of_mul-dvd-mul_right (a / g * b) some_g (subst (λ n. n ∣ m * g) whole (scaled (a * b) m (subst (λ n. a * b ∣ n) (omega arith) (mul-dvd-mul_left b a q)) (mul-dvd-mul_right a p b)))
+    least m p q = dvd_of_mul-dvd-mul_right (a / g * b)
+        some_g (subst (λ n. n ∣ m * g) whole (scaled (a * b) m (subst (λ n. a * b ∣ n) (omega arith) (mul-dvd-mul_left b a q)) (mul-dvd-mul_right a p b)))
 
-pub IsLeastMultiple-from_wide : (a b x y g : ℕ) → x ≡ a → y ≡ b → 1 ≤ a → 1 ≤ b → IsGcd x y g → ((d k : ℕ) → d ∣ k * x → d ∣ k * y → d ∣ k * g) → IsLeastMultiple a b (a / g * b) × (1 ≤ a / g * b) × (1 ≤ g) × (g ≤ a)
-IsLeastMultiple-from_wide a b x y g e f some_a some_b h scaled = IsLeastMultiple-from_divisor a b g some_a some_b (subst₂ (λ x y. IsGcd x y g) e f h) (subst₂ (λ x y. (d k : ℕ) → d ∣ k * x → d ∣ k * y → d ∣ k * g) e f scaled)
+pub IsLeastMultiple-from_wide : (a b x y g : ℕ) → x ≡ a → y ≡ b
+    → 1 ≤ a → 1 ≤ b → IsGcd x y g → ((d k : ℕ) → d ∣ k * x → d ∣ k * y → d ∣ k * g) → IsLeastMultiple a b (a / g * b) × (1 ≤ a / g * b) × (1 ≤ g) × (g ≤ a)
+IsLeastMultiple-from_wide a b x y g e f some_a some_b h scaled =
+    IsLeastMultiple-from_divisor a b g some_a some_b (subst₂ (λ x y. IsGcd x y g) e f h) (subst₂ (λ x y. (d k : ℕ) → d ∣ k * x → d ∣ k * y → d ∣ k * g) e f scaled)
 
 pub IsLeastOfAll-none : IsLeastOfAll [] 1
 IsLeastOfAll-none = record { some = omega arith; common = λ k d t. absurd (omega arith); least = λ m h. one-dvd m }
@@ -68,7 +73,8 @@ pub All-append_left : {X : Type 0} (P : X → Type 0) (xs ys : List X) → All P
 All-append_left P [] ys h = All-nil P
 All-append_left P (x ∷ xs) ys h = All-cons P x xs (All-head P x (xs ++ ys) h) (All-append_left P xs ys (All-tail P x (xs ++ ys) h))
 
-pub IsLeastOfAll-more : (xs : List ℕ) (k multiple next : ℕ) → k < length xs → IsLeastOfAll (take k xs) multiple → 1 ≤ next → IsLeastMultiple multiple (get_or xs k 0) next → IsLeastOfAll (take (k + 1) xs) next
+pub IsLeastOfAll-more : (xs : List ℕ) (k multiple next : ℕ)
+    → k < length xs → IsLeastOfAll (take k xs) multiple → 1 ≤ next → IsLeastMultiple multiple (get_or xs k 0) next → IsLeastOfAll (take (k + 1) xs) next
 IsLeastOfAll-more xs k multiple next t so_far some h = record {
   some = some;
   common = All-more (λ s. s ∣ next) xs k 0 t (All-weaker _ _ (λ s p. dvd_trans s p h.left) (take k xs) so_far.common) h.right;

@@ -1,5 +1,6 @@
 -- Lemmas on jobs put into order one after the other, each once no arc into it waits for a job that is left.
-use Rattle.std.proofs.Common.{◌≡◌, ◌≢◌, ℕ, ◌+◌, ◌-◌, ◌<◌, ◌≤◌, Bool, true, false, cond, not, ◌==◌, ◌&&◌, ◌||◌, List, [], ◌∷◌, ◌++◌, length, get_or, take, set, filter, All, Contains, ◌⊎◌, inl, inr, refl, sym, ap, ◌∙◌, subst, arith}
+use Rattle.std.proofs.Common.{◌≡◌, ◌≢◌, ℕ, ◌+◌, ◌-◌, ◌<◌, ◌≤◌, Bool, true, false, cond, not, ◌==◌, ◌&&◌, ◌||◌, List, [], ◌∷◌, ◌++◌, length, get_or, take, set, filter, All}
+use Rattle.std.proofs.Common.{Contains, ◌⊎◌, inl, inr, refl, sym, ap, ◌∙◌, subst, arith}
 use Rattle.std.specs.List.{list_any, range_with_len}
 use Rattle.std.proofs.lemmas.Bool.{cases_Bool, cases_lt, eqb-true, eqb-false, eq-eqb, ne_eqb, and_parts, false≢true}
 use Rattle.std.proofs.lemmas.List.{take_all, take_more, take-take, take-append-le, get_or_default, get_or-take, get_or-set_other, length-take, length-set}
@@ -13,7 +14,8 @@ use Rattle.msp_instance.specs.Conditions.{entering}
 use Rattle.msp_instance.specs.Paths.{HasStep}
 use Rattle.msp_instance.specs.Listing.{IsListing, waiting, IsLongestOrder}
 use Rattle.msp_instance.proofs.ArcLemmas.{entering_more}
-use Rattle.msp_instance.proofs.ListingLemmas.{list_any-from_Contains, Contains-from_list_any, Contains-take, IsListing-filter, IsListing-same, IsListing-push, IsListing-distinct, IsListing-length, IsListing-contains, IsListing-passes, not_before_itself}
+use Rattle.msp_instance.proofs.ListingLemmas.{list_any-from_Contains, Contains-from_list_any, Contains-take, IsListing-filter, IsListing-same, IsListing-push, IsListing-distinct}
+use Rattle.msp_instance.proofs.ListingLemmas.{IsListing-length, IsListing-contains, IsListing-passes, not_before_itself}
 
 -- ---- arcs from outside a list
 abbrev awaits : List ℕ → ℕ → Arc → ℕ
@@ -35,13 +37,17 @@ awaits-push xs j k a none = elim (cases_Bool (a.before == j)) [
   | inl own ↦
       let same : a.before ≡ j = eqb-true a.before j own in
       let before : list_any (λ x. x == a.before) xs ≡ false = ap (λ m. list_any (λ x. x == m) xs) same ∙ none in
-      let after : list_any (λ x. x == a.before) (xs ++ j ∷ []) ≡ true = list_any-append (λ x. x == a.before) xs (j ∷ []) ∙ ap (λ b. b || (j == a.before || false)) before ∙ ap (λ b. b || false) (eq-eqb j a.before (sym same)) in
+      let after : list_any (λ x. x == a.before) (xs ++ j ∷ []) ≡ true =
+      list_any-append (λ x. x == a.before) xs (j ∷ []) ∙ ap (λ b. b || (j == a.before || false)) before ∙ ap (λ b. b || false) (eq-eqb j a.before (sym same)) in
       ap (λ b. cond {A = ℕ} (a.after == k && not b) 1 0) before ∙ own_term (a.after == k)
-      ∙ sym (ap (λ b. cond {A = ℕ} (a.after == k && not b) 1 0 + cond (a.before == j) (cond (a.after == k) 1 0) 0) after ∙ ap (λ b. cond {A = ℕ} (a.after == k && not true) 1 0 + cond b (cond (a.after == k) 1 0) 0) own)
+      ∙ sym (ap (λ b. cond {A = ℕ} (a.after == k && not b) 1 0 + cond (a.before == j) (cond (a.after == k) 1 0) 0) after
+      ∙ ap (λ b. cond {A = ℕ} (a.after == k && not true) 1 0 + cond b (cond (a.after == k) 1 0) 0) own)
   | inr other ↦
       let differs : a.before ≢ j = eqb-false a.before j other in
-      let after : list_any (λ x. x == a.before) (xs ++ j ∷ []) ≡ list_any (λ x. x == a.before) xs = list_any-append (λ x. x == a.before) xs (j ∷ []) ∙ ap (λ b. list_any (λ x. x == a.before) xs || (b || false)) (ne_eqb j a.before (λ e. differs (sym e))) ∙ or_false (list_any (λ x. x == a.before) xs) in
-      sym (ap (λ b. cond {A = ℕ} (a.after == k && not b) 1 0 + cond (a.before == j) (cond (a.after == k) 1 0) 0) after ∙ ap (λ b. awaits xs k a + cond b (cond (a.after == k) 1 0) 0) other ∙ omega arith)
+      let after : list_any (λ x. x == a.before) (xs ++ j ∷ []) ≡ list_any (λ x. x == a.before) xs = list_any-append (λ x. x == a.before) xs (j ∷ [])
+      ∙ ap (λ b. list_any (λ x. x == a.before) xs || (b || false)) (ne_eqb j a.before (λ e. differs (sym e))) ∙ or_false (list_any (λ x. x == a.before) xs) in
+      sym (ap (λ b. cond {A = ℕ} (a.after == k && not b) 1 0 + cond (a.before == j) (cond (a.after == k) 1 0) 0) after
+      ∙ ap (λ b. awaits xs k a + cond b (cond (a.after == k) 1 0) 0) other ∙ omega arith)
 ]
   where
     or_false : (b : Bool) → (b || false) ≡ b
@@ -105,7 +111,8 @@ pub IsReleasing-more : (n : ℕ) (leaving : List Arc) (i : ℕ) (d : Arc) (count
     → new_counts ≡ set now_counts (get_or leaving i d).after (get_or now_counts (get_or leaving i d).after 0 - 1)
     → new_order ≡ cond (get_or now_counts (get_or leaving i d).after 0 == 1) (now_order ++ (get_or leaving i d).after ∷ []) now_order
     → IsReleasing n (take i leaving) counts order now_counts now_order → IsReleasing n (take (i + 1) leaving) counts order new_counts new_order
-IsReleasing-more n leaving i d counts order now_counts now_order new_counts new_order t inside some counted listed h = record { whole = ap length counted ∙ length-set now_counts j _ ∙ h.whole; each = each; listing = listing; kept = kept }
+IsReleasing-more n leaving i d counts order now_counts now_order new_counts new_order t inside some counted listed h =
+    record { whole = ap length counted ∙ length-set now_counts j _ ∙ h.whole; each = each; listing = listing; kept = kept }
   where
     j : ℕ
     j = (get_or leaving i d).after
@@ -133,7 +140,8 @@ IsReleasing-more n leaving i d counts order now_counts now_order new_counts new_
           let v : get_or now_counts j 0 ≡ 1 = eqb-true _ 1 last in
           let list : new_order ≡ now_order ++ j ∷ [] = listed ∙ ap (λ b. cond b (now_order ++ j ∷ []) now_order) last in
           subst (IsListing n (λ k. get_or new_counts k 0 == 0)) (sym list)
-          (IsListing-push n (λ k. get_or now_counts k 0 == 0) (λ k. get_or new_counts k 0 == 0) now_order j inside (ne_eqb _ 0 (λ e. absurd (omega arith))) (eq-eqb _ 0 (omega (arith, at_j))) (λ k u differs. ap (λ m. m == 0) (elsewhere k differs)) h.listing)
+          (IsListing-push n (λ k. get_or now_counts k 0 == 0) (λ k. get_or new_counts k 0 == 0) now_order j inside
+          (ne_eqb _ 0 (λ e. absurd (omega arith))) (eq-eqb _ 0 (omega (arith, at_j))) (λ k u differs. ap (λ m. m == 0) (elsewhere k differs)) h.listing)
       | inr more ↦
           let v : get_or now_counts j 0 ≢ 1 = eqb-false _ 1 more in
           let list : new_order ≡ now_order = listed ∙ ap (λ b. cond b (now_order ++ j ∷ []) now_order) more in
@@ -166,11 +174,13 @@ pub record IsPassing (n : ℕ) (arcs : List Arc) (counts order : List ℕ) (done
   pub early : (j q : ℕ) → q < length order → HasStep arcs j (get_or order q 0) → Contains (take q order) j
   pub near : done ≤ length order
 
-pub IsPassing-start : (n : ℕ) (arcs : List Arc) (counts order : List ℕ) → length counts ≡ n → ((k : ℕ) → k < n → get_or counts k 0 ≡ entering arcs k) → order ≡ filter (λ k. get_or counts k 0 == 0) (range_with_len 0 (length counts)) → IsPassing n arcs counts order 0
+pub IsPassing-start : (n : ℕ) (arcs : List Arc) (counts order : List ℕ) → length counts ≡ n → ((k : ℕ) → k < n → get_or counts k 0 ≡ entering arcs k)
+    → order ≡ filter (λ k. get_or counts k 0 == 0) (range_with_len 0 (length counts)) → IsPassing n arcs counts order 0
 IsPassing-start n arcs counts order whole each is = record { whole = whole; each = λ k t. each k t ∙ sym (waiting-none arcs k); listing = listing; early = early; near = omega arith }
   where
     listing : IsListing n (λ k. get_or counts k 0 == 0) order
-    listing = subst (IsListing n (λ k. get_or counts k 0 == 0)) (sym (is ∙ ap (λ m. filter (λ k. get_or counts k 0 == 0) (range_with_len 0 m)) whole)) (IsListing-filter n (λ k. get_or counts k 0 == 0))
+    listing = subst (IsListing n (λ k. get_or counts k 0 == 0))
+        (sym (is ∙ ap (λ m. filter (λ k. get_or counts k 0 == 0) (range_with_len 0 m)) whole)) (IsListing-filter n (λ k. get_or counts k 0 == 0))
 
     early : (j q : ℕ) → q < length order → HasStep arcs j (get_or order q 0) → Contains (take q order) j
     early j q t step =
@@ -179,7 +189,8 @@ IsPassing-start n arcs counts order whole each is = record { whole = whole; each
         absurd (omega (arith, each k free.0, eqb-true _ 0 free.1, sum_by-contains (λ a. cond (a.after == k) 1 0) arcs (record { before = j; after = k }) step, cond-yes 1 (eq-eqb k k refl)))
 
 -- the arcs of the next job are all counted
-pub IsPassing-enough : (n : ℕ) (arcs : List Arc) (counts order : List ℕ) (done : ℕ) → IsPassing n arcs counts order done → done < length order → (k : ℕ) → k < n → entering (filter (λ a. a.before == get_or order done 0) arcs) k ≤ get_or counts k 0
+pub IsPassing-enough : (n : ℕ) (arcs : List Arc) (counts order : List ℕ) (done : ℕ) → IsPassing n arcs counts order done
+    → done < length order → (k : ℕ) → k < n → entering (filter (λ a. a.before == get_or order done 0) arcs) k ≤ get_or counts k 0
 IsPassing-enough n arcs counts order done h t k u =
     omega (arith, h.each k u, waiting-push arcs (take done order) (get_or order done 0) k (not_before_itself order done (IsListing-distinct n _ order h.listing) t))
 
@@ -232,7 +243,8 @@ IsLongestOrder-end n arcs counts order done h past = record { inside = h.listing
     ])
 
 -- ---- the same, by what the loop reads and calls
-module _ (n : ℕ) (arcs : List Arc) (counts order : List ℕ) (done job : ℕ) (leaving : List Arc) (h : IsPassing n arcs counts order done) (t : done < length order) (is : job ≡ get_or order done job) (arcs_of : leaving ≡ filter (λ a. a.before == job) arcs) where
+module _ (n : ℕ) (arcs : List Arc) (counts order : List ℕ) (done job : ℕ) (leaving : List Arc) (h : IsPassing n arcs counts order done)
+    (t : done < length order) (is : job ≡ get_or order done job) (arcs_of : leaving ≡ filter (λ a. a.before == job) arcs) where
   own : leaving ≡ filter (λ a. a.before == get_or order done 0) arcs
   own = arcs_of ∙ ap (λ j. filter (λ a. a.before == j) arcs) (is ∙ get_or_default order done job 0 t)
 
@@ -256,6 +268,7 @@ module _ (n : ℕ) (arcs : List Arc) (counts order : List ℕ) (done job : ℕ) 
   pub IsPassing-smaller : n - (done + 1) < n - done
   IsPassing-smaller = omega (arith, IsListing-length n _ order h.listing)
 
-pub IsPassing-begin : (n : ℕ) (arcs : List Arc) (first shown counts order : List ℕ) → length first ≡ n → ((k : ℕ) → k < n → get_or first k 0 ≡ entering arcs k) → shown ≡ first → counts ≡ first → order ≡ filter (λ k. get_or shown k 0 == 0) (range_with_len 0 (length shown)) → IsPassing n arcs counts order 0
+pub IsPassing-begin : (n : ℕ) (arcs : List Arc) (first shown counts order : List ℕ) → length first ≡ n → ((k : ℕ) → k < n → get_or first k 0 ≡ entering arcs k)
+    → shown ≡ first → counts ≡ first → order ≡ filter (λ k. get_or shown k 0 == 0) (range_with_len 0 (length shown)) → IsPassing n arcs counts order 0
 IsPassing-begin n arcs first shown counts order whole each s c is =
     subst (λ l. IsPassing n arcs l order 0) (sym c) (IsPassing-start n arcs first order whole each (is ∙ ap (λ l. filter (λ k. get_or l k 0 == 0) (range_with_len 0 (length l))) s))

@@ -1,5 +1,6 @@
 -- Lemmas on paths, and on the search for the jobs to which paths lead.
-use Rattle.std.proofs.Common.{◌≡◌, ◌≢◌, ℕ, ◌+◌, ◌-◌, ◌<◌, ◌≤◌, Bool, true, false, cond, ◌==◌, List, [], ◌∷◌, ◌++◌, length, get_or, take, set, filter, replicate, All, Any, Contains, ◌⊎◌, inl, inr, IsTrue, ◌↔◌, refl, sym, ap, ◌∙◌, subst, arith}
+use Rattle.std.proofs.Common.{◌≡◌, ◌≢◌, ℕ, ◌+◌, ◌-◌, ◌<◌, ◌≤◌, Bool, true, false, cond, ◌==◌, List, [], ◌∷◌, ◌++◌, length, get_or, take, set, filter, replicate, All, Any, Contains}
+use Rattle.std.proofs.Common.{◌⊎◌, inl, inr, IsTrue, ◌↔◌, refl, sym, ap, ◌∙◌, subst, arith}
 use Rattle.std.specs.List.Sorted.{IsPermutation}
 use Rattle.std.proofs.lemmas.Bool.{cases_Bool, cases_lt, eqb-true, eqb-false, eq-eqb}
 use Rattle.std.proofs.lemmas.List.{take_all, take_more, take-append-le, get_or_default, get_or-set_other, length-set, length-replicate}
@@ -23,7 +24,8 @@ HasPath-push arcs (one s) t = more s (one t)
 HasPath-push arcs (more s h) t = more s (HasPath-push arcs h t)
 
 -- where each arc from the first job, and from a job of the list, leads into the list, so does each path
-pub HasPath-closed : (arcs : List Arc) (xs : List ℕ) → ((j k : ℕ) → Contains xs j → HasStep arcs j k → Contains xs k) → {j l : ℕ} → ((k : ℕ) → HasStep arcs j k → Contains xs k) → HasPath arcs j l → Contains xs l
+pub HasPath-closed : (arcs : List Arc) (xs : List ℕ) → ((j k : ℕ) → Contains xs j → HasStep arcs j k → Contains xs k)
+    → {j l : ℕ} → ((k : ℕ) → HasStep arcs j k → Contains xs k) → HasPath arcs j l → Contains xs l
 HasPath-closed arcs xs closed first (one s) = first _ s
 HasPath-closed arcs xs closed first (more s h) = HasPath-closed arcs xs closed (λ k t. closed _ k (first _ s) t) h
 
@@ -44,23 +46,24 @@ IsMeeting-start n seen found whole listing = record {
   only = λ k d t. inl (Contains-get_or found k d t);
 }
 
-pub IsMeeting-more : (n : ℕ) (leaving : List Arc) (i : ℕ) (d : Arc) (found : List ℕ) (now_seen : List Bool) (now_found : List ℕ) (new_seen : List Bool) (new_found : List ℕ) → i < length leaving → (get_or leaving i d).after < n
+pub IsMeeting-more : (n : ℕ) (leaving : List Arc) (i : ℕ) (d : Arc) (found : List ℕ) (now_seen : List Bool) (now_found : List ℕ) (new_seen : List Bool) (new_found : List ℕ)
+    → i < length leaving → (get_or leaving i d).after < n
     → new_seen ≡ set now_seen (get_or leaving i d).after true
     → new_found ≡ cond (get_or now_seen (get_or leaving i d).after false) now_found (now_found ++ (get_or leaving i d).after ∷ [])
     → IsMeeting n (take i leaving) found now_seen now_found → IsMeeting n (take (i + 1) leaving) found new_seen new_found
-IsMeeting-more n leaving i d found now_seen now_found new_seen new_found t inside marked listed h = by (cases_Bool (get_or now_seen j false))
+IsMeeting-more n leaving i d found now_seen now_found new_seen new_found t inside is_set listed h = by (cases_Bool (get_or now_seen j false))
   where
     j : ℕ
     j = (get_or leaving i d).after
 
     whole : length new_seen ≡ n
-    whole = ap length marked ∙ length-set now_seen j true ∙ h.whole
+    whole = ap length is_set ∙ length-set now_seen j true ∙ h.whole
 
     at_j : get_or new_seen j false ≡ true
-    at_j = ap (λ l. get_or l j false) marked ∙ get_or-set_at now_seen j j true false refl (let u : j < n = inside in omega (arith, h.whole))
+    at_j = ap (λ l. get_or l j false) is_set ∙ get_or-set_at now_seen j j true false refl (let u : j < n = inside in omega (arith, h.whole))
 
     elsewhere : (k : ℕ) → k ≢ j → get_or new_seen k false ≡ get_or now_seen k false
-    elsewhere k differs = ap (λ l. get_or l k false) marked ∙ get_or-set_other now_seen j k true false differs
+    elsewhere k differs = ap (λ l. get_or l k false) is_set ∙ get_or-set_other now_seen j k true false differs
 
     wider : (k : ℕ) → IsMet found (take i leaving) k → IsMet found (take (i + 1) leaving) k
     wider k (inl c) = inl c
@@ -95,7 +98,9 @@ IsMeeting-more n leaving i d found now_seen now_found new_seen new_found t insid
           whole = whole;
           listing = IsListing-push n (λ k. get_or now_seen k false) (λ k. get_or new_seen k false) now_found j inside fresh at_j (λ k u. elsewhere k) h.listing;
           kept = take-append-le (length found) now_found (j ∷ []) (length-kept found now_found h.kept) ∙ h.kept;
-          met = met_more (now_found ++ j ∷ []) (All-weaker (λ a. Contains now_found a.after) (λ a. Contains (now_found ++ j ∷ []) a.after) (λ a c. Contains-append_left now_found (j ∷ []) a.after c) (take i leaving) h.met) (Contains-push now_found j);
+          met = met_more (now_found ++ j ∷ [])
+              (All-weaker (λ a. Contains now_found a.after) (λ a. Contains (now_found ++ j ∷ []) a.after) (λ a c. Contains-append_left now_found (j ∷ []) a.after c) (take i leaving) h.met)
+              (Contains-push now_found j);
           only = All-push (IsMet found (take (i + 1) leaving)) now_found j (All-weaker (IsMet found (take i leaving)) (IsMet found (take (i + 1) leaving)) wider now_found h.only) here;
         })
 
@@ -134,7 +139,8 @@ IsSearch-start n arcs start seen found whole listing met only = record {
     reach k (inl c) = absurd (omega (arith, c.1))
     reach k (inr a) = one (step_of arcs start k a)
 
-pub IsSearch-next : (n : ℕ) (arcs : List Arc) (start : ℕ) (seen : List Bool) (found : List ℕ) (done : ℕ) (new_seen : List Bool) (new_found : List ℕ) → IsSearch n arcs start seen found done → done < length found → length new_seen ≡ n
+pub IsSearch-next : (n : ℕ) (arcs : List Arc) (start : ℕ) (seen : List Bool) (found : List ℕ) (done : ℕ) (new_seen : List Bool) (new_found : List ℕ)
+    → IsSearch n arcs start seen found done → done < length found → length new_seen ≡ n
     → IsListing n (λ k. get_or new_seen k false) new_found → take (length found) new_found ≡ found
     → All (λ a. Contains new_found a.after) (filter (λ a. a.before == get_or found done 0) arcs) → All (λ k. IsMet found (filter (λ a. a.before == get_or found done 0) arcs) k) new_found
     → IsSearch n arcs start new_seen new_found (done + 1)
@@ -165,7 +171,8 @@ IsSearch-next n arcs start seen found done new_seen new_found h t whole listing 
 pub IsSearch-smaller : (n : ℕ) (arcs : List Arc) (start : ℕ) (seen : List Bool) (found : List ℕ) (done : ℕ) → IsSearch n arcs start seen found done → done < length found → n - (done + 1) < n - done
 IsSearch-smaller n arcs start seen found done h t = omega (arith, IsListing-length n (λ k. get_or seen k false) found h.listing)
 
-pub IsSearch-end : (n : ℕ) (arcs : List Arc) (start : ℕ) (seen : List Bool) (found : List ℕ) (done : ℕ) (k : ℕ) → IsSearch n arcs start seen found done → length found ≤ done → k < n → IsTrue (get_or seen k false) ↔ HasPath arcs start k
+pub IsSearch-end : (n : ℕ) (arcs : List Arc) (start : ℕ) (seen : List Bool) (found : List ℕ) (done : ℕ) (k : ℕ)
+    → IsSearch n arcs start seen found done → length found ≤ done → k < n → IsTrue (get_or seen k false) ↔ HasPath arcs start k
 IsSearch-end n arcs start seen found done k h past inside = (there, back)
   where
     there : IsTrue (get_or seen k false) → HasPath arcs start k
@@ -186,13 +193,15 @@ ends_inside n arcs leaving job m own whole ends k d u =
     let there = All-filter (λ a. a.before == job) (λ a. (a.before < n) × (a.after < n)) arcs ends in
     omega (arith, whole, (subst (All (λ a. (a.before < n) × (a.after < n))) (sym own) there k d u).1)
 
-pub IsSearch-begin : (n : ℕ) (arcs : List Arc) (start : ℕ) (leaving : List Arc) (old_seen seen : List Bool) (none found : List ℕ) → leaving ≡ filter (λ a. a.before == start) arcs → length old_seen ≡ n → length seen ≡ length old_seen → none ≡ []
+pub IsSearch-begin : (n : ℕ) (arcs : List Arc) (start : ℕ) (leaving : List Arc) (old_seen seen : List Bool) (none found : List ℕ)
+    → leaving ≡ filter (λ a. a.before == start) arcs → length old_seen ≡ n → length seen ≡ length old_seen → none ≡ []
     → IsListing (length old_seen) (λ k. get_or seen k false) found → All (λ a. Contains found a.after) leaving → All (IsMet none leaving) found → IsSearch n arcs start seen found 0
 IsSearch-begin n arcs start leaving old_seen seen none found own whole same is_none listing met only =
     IsSearch-start n arcs start seen found (same ∙ whole) (subst (λ m. IsListing m (λ k. get_or seen k false) found) whole listing)
     (subst (All (λ a. Contains found a.after)) own met) (subst (λ l. All (IsMet [] l) found) own (subst (λ l. All (IsMet l leaving) found) is_none only))
 
-pub IsSearch-step : (n : ℕ) (arcs : List Arc) (start : ℕ) (seen : List Bool) (found : List ℕ) (done job : ℕ) (leaving : List Arc) (new_seen : List Bool) (new_found : List ℕ) → IsSearch n arcs start seen found done → done < length found
+pub IsSearch-step : (n : ℕ) (arcs : List Arc) (start : ℕ) (seen : List Bool) (found : List ℕ) (done job : ℕ) (leaving : List Arc) (new_seen : List Bool) (new_found : List ℕ)
+    → IsSearch n arcs start seen found done → done < length found
     → job ≡ get_or found done job → leaving ≡ filter (λ a. a.before == job) arcs → length new_seen ≡ length seen
     → IsListing (length seen) (λ k. get_or new_seen k false) new_found → take (length found) new_found ≡ found → All (λ a. Contains new_found a.after) leaving → All (IsMet found leaving) new_found
     → IsSearch n arcs start new_seen new_found (done + 1)

@@ -1,5 +1,6 @@
 -- What it means that an instance belongs to its class.
-use Rattle.std.specs.Prelude.{◌≡◌, ◌≢◌, ℕ, ◌*◌, ◌<◌, ◌≤◌, Bool, true, false, List, [], length, slice_index_or, slice_get, ℤ, pos, neg_ℤ, ◌-ℤ◌, ◌≤ℤ◌, Some, All, AllPairs, Any, Contains, EachIndex, MatchOption, ⊤, count_by, ◌==◌}
+use Rattle.std.specs.Prelude.{◌≡◌, ◌≢◌, ℕ, ◌*◌, ◌<◌, ◌≤◌, Bool, true, false, List, [], length, slice_index_or, slice_get, ℤ, pos, neg_ℤ, ◌-ℤ◌, ◌≤ℤ◌, Some, All, AllPairs, Any}
+use Rattle.std.specs.Prelude.{Contains, EachIndex, MatchOption, ⊤, count_by, ◌==◌}
 use Rattle.std.specs.List.{AllAdjacentBelow}
 use Rattle.msp_class.specs.declared.environments.EnvKind.{EnvKind}
 use Rattle.msp_class.specs.declared.environments.EnvKind.TheVariants.{Identical, Uniform, Unrelated, OpenShop, FlowShop, JobShop}
@@ -15,7 +16,7 @@ use Rattle.msp_instance.specs.declared.Curve.{Curve}
 use Rattle.msp_instance.specs.declared.Job.{Job}
 use Rattle.msp_instance.specs.declared.Arc.{Arc}
 use Rattle.msp_instance.specs.declared.Instance.{Instance}
-use Rattle.msp_instance.specs.declared.ranges.TheConstants.{MOST_JOBS, MOST_MACHINES, MOST_ARCS, MOST_STEPS, GREATEST, GREATEST_SPEED, GREATEST_MULTIPLE, GREATEST_EQUAL_TIME}
+use Rattle.msp_class.specs.declared.sizes.TheConstants.{MOST_JOBS, MOST_MACHINES, MOST_ARCS, MOST_STEPS, GREATEST, GREATEST_SPEED, GREATEST_MULTIPLE, GREATEST_EQUAL_TIME}
 use Rattle.msp_instance.specs.Instance.{no_need, no_curve, job_at, common_time}
 
 -- How large the numbers of an instance may be: times, thresholds and adds; release dates; due dates and bases, in size.

@@ -4,7 +4,7 @@ pub mod Faults
 pub mod Multiples
 pub mod Bits
 pub mod Paths
-pub mod PathRows
+pub mod PathBits
 pub mod Listing
 pub mod Laws
 pub mod Limits

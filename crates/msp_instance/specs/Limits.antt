@@ -1,6 +1,6 @@
 -- The limits of instance texts, by their numbers.
 use Rattle.std.specs.Prelude.{◌≡◌, ◌^◌}
-use Rattle.msp_instance.specs.declared.ranges.TheConstants.{MOST_JOBS, MOST_MACHINES, MOST_ARCS, MOST_STEPS, GREATEST, GREATEST_SPEED, GREATEST_MULTIPLE, GREATEST_EQUAL_TIME}
+use Rattle.msp_class.specs.declared.sizes.TheConstants.{MOST_JOBS, MOST_MACHINES, MOST_ARCS, MOST_STEPS, GREATEST, GREATEST_SPEED, GREATEST_MULTIPLE, GREATEST_EQUAL_TIME}
 
 pub record AreLimits : Type 0 where
   pub jobs : MOST_JOBS ≡ 400

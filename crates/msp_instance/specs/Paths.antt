@@ -2,7 +2,7 @@
 use Rattle.std.specs.Prelude.{ℕ, ◌<◌, Bool, List, length, Contains, ⊤, IsTrue, ◌↔◌}
 use Rattle.msp_instance.specs.declared.Arc.{Arc}
 use Rattle.msp_instance.specs.declared.Instance.{Instance}
-use Rattle.msp_instance.specs.declared.path_rows.Paths.{Paths}
+use Rattle.msp_instance.specs.declared.path_bits.Paths.{Paths}
 use Rattle.msp_instance.specs.declared.sequence.OrderFault.{OrderFault}
 use Rattle.msp_instance.specs.declared.sequence.OrderFault.TheVariants.{Cycle, Memory}
 use Rattle.msp_instance.specs.Conditions.{IsAcyclic}
@@ -17,7 +17,7 @@ pub data HasPath (arcs : List Arc) : ℕ → ℕ → Type 0 where
   one : {j k : ℕ} → HasStep arcs j k → HasPath arcs j k
   more : {j k l : ℕ} → HasStep arcs j k → HasPath arcs k l → HasPath arcs j l
 
--- Whether the row of the first job has the bit of the second.
+-- Whether the first job has the bit of the second.
 abbrev pub leads : Paths → ℕ → ℕ → Bool
 leads p = has_bit p.words p.width
 
@@ -31,7 +31,7 @@ pub record IsLeastOnCycle (n : ℕ) (arcs : List Arc) (j : ℕ) : Type 0 where
   pub cycle : HasPath arcs j j
   pub least : (k : ℕ) → k < j → ¬ HasPath arcs k k
 
--- What an order fault says. Want of memory says nothing.
+-- What an order fault says. Out of memory says nothing.
 abbrev pub IsOrderFault : Instance → OrderFault → Type 0
 IsOrderFault i (Cycle j) = (¬ IsAcyclic i) × IsLeastOnCycle (length i.jobs) i.arcs j
 IsOrderFault i Memory = ⊤

@@ -6,7 +6,7 @@ use crate::Arc;
 use std::alloc::{AllocError, Global};
 
 /// The arcs by their jobs before.
-pub fn arcs_by_before(alloc: Global, arcs: &[Arc]) -> Result<Vec<Arc>, AllocError>
+pub(crate) fn arcs_by_before(alloc: Global, arcs: &[Arc]) -> Result<Vec<Arc>, AllocError>
     ensures same { IfOk result (λ sorted. IsPermutation arcs.now sorted.items) }
     ensures sorted { IfOk result (λ sorted. IsNonDecreasingBy (λ a. a.before) sorted.items) }
 {
@@ -26,7 +26,7 @@ pub fn arcs_by_after(alloc: Global, arcs: &[Arc]) -> Result<Vec<Arc>, AllocError
 }
 
 /// The arcs that leave a job, of arcs by their jobs before.
-pub fn leaving_of(sorted: &[Arc], job: u32) -> &[Arc]
+pub(crate) fn leaving_of(sorted: &[Arc], job: u32) -> &[Arc]
     requires { IsNonDecreasingBy (λ a. a.before) sorted.now }
     ensures { result.now ≡ filter (λ a. a.before == job) sorted.now }
 {

@@ -5,12 +5,13 @@ ghost use Rattle.msp_class.specs.Env.{kind_of};
 ghost use Rattle.msp_instance.specs.Instance.{no_curve};
 ghost use Rattle.msp_class.specs.Env.{most_operations};
 ghost use Rattle.msp_class.specs.Crit.{uses_due, uses_weight, uses_curve};
-ghost use Rattle.msp_instance.specs.Conditions.{text_limits, LiesWithin, IsSingleNeed, IsNeedPerMachine, IsRoute, HasShape, least_time, greatest_time, HasTimes, HasNeeds, HasSameTimes, HasRelease, HasDue, HasWeight, IsCurve, HasCurve};
+ghost use Rattle.msp_instance.specs.Conditions.{text_limits, LiesWithin, IsSingleNeed, IsNeedPerMachine, IsRoute, HasShape, least_time, greatest_time, HasTimes, HasNeeds};
+ghost use Rattle.msp_instance.specs.Conditions.{HasSameTimes, HasRelease, HasDue, HasWeight, IsCurve, HasCurve};
 
-use crate::ranges::{GREATEST, GREATEST_EQUAL_TIME, MOST_STEPS};
 use crate::{Curve, Instance, Need, Step};
 use msp_class::{
-    Crit, Env, EnvKind, Times, env_kind, most_operations, uses_curve, uses_due, uses_weight,
+    Crit, Env, EnvKind, GREATEST, GREATEST_EQUAL_TIME, MOST_STEPS, Times, env_kind,
+    most_operations, uses_curve, uses_due, uses_weight,
 };
 
 fn is_single_need(needs: &[Need]) -> bool

@@ -2,32 +2,31 @@
 //!
 //! It stands on `msp_class`. The layers above use the definitions `InClass` and `Inner`: an instance meets the conditions of its
 //! class within the limits of texts, or within the wider limits that carried instances keep. `check` tests the conditions but for
-//! cycles, and `forward` is the rest: it puts the jobs into an order in which every arc goes forward. `leaving_of` and `entering_of` give the
-//! arcs of a job. `law_of_inner` says that an
-//! instance within the limits of texts keeps the wider ones, and `law_of_limits` says the limits of texts by their numbers.
+//! cycles, and `forward` is the rest: it puts the jobs into an order in which every arc goes forward. `entering_of` gives the arcs that
+//! enter a job. `law_of_inner` says that an instance within the limits of texts keeps the wider ones, and `law_of_limits` says the limits
+//! of texts by their numbers.
 #![tactic(auto)]
 
 mod arcs;
 mod jobs;
 mod laws;
 mod membership;
-mod path_rows;
-mod ranges;
+mod path_bits;
 mod sequence;
 mod speeds;
 
-pub use arcs::{arcs_by_after, arcs_by_before, entering_of, leaving_of};
+pub use arcs::{arcs_by_after, entering_of};
 pub use jobs::least_time;
 pub use laws::{law_of_inner, law_of_limits};
 pub use membership::{ClassFault, check, check_distinct_arcs, common_time, first_time};
-use msp_class::{Class, List};
-pub use path_rows::Paths;
-pub use ranges::{
+pub use msp_class::{
     GREATEST, GREATEST_EQUAL_TIME, GREATEST_MULTIPLE, GREATEST_SPEED, MOST_ARCS, MOST_JOBS,
     MOST_MACHINES, MOST_STEPS,
 };
+use msp_class::{Class, List};
+pub use path_bits::Paths;
 pub use sequence::{OrderFault, forward};
-pub use speeds::{common_multiple, gcd, has_small_multiple, multiple_of_all};
+pub use speeds::{gcd, has_small_multiple, multiple_of_all};
 
 /// An operation that a job needs: its machine, from 0, and its processing time.
 ///

@@ -5,10 +5,9 @@ ghost use Rattle.msp_instance.specs.Conditions.{text_limits, HasMachines, HasArc
 ghost use Rattle.msp_instance.specs.Faults.{HasJobs, HasArc, HasFrame, HasJobsBefore, HasAllJobs, IsFirstFault};
 
 use crate::jobs::{has_curve, has_due, has_needs, has_release, has_same_times, has_weight};
-use crate::ranges::{MOST_ARCS, MOST_JOBS, MOST_MACHINES};
 use crate::speeds::{has_small_multiple, has_speeds};
 use crate::{Arc, Instance, Need};
-use msp_class::{Order, fixed_machines};
+use msp_class::{MOST_ARCS, MOST_JOBS, MOST_MACHINES, Order, fixed_machines};
 
 /// The first condition of its class that an instance breaks. Jobs and arcs are numbered from 0.
 #[derive(Clone, Copy, Debug, PartialEq, Eq)]

@@ -1,5 +1,6 @@
 // An order of the jobs in which every arc goes forward, or the least job on a cycle.
-ghost use Rattle.std.specs.Prelude.{◌≡◌, ℕ, ◌+◌, ◌-◌, ◌<◌, ◌≤◌, ◌==◌, ◌++◌, length, IfOk, IfErr, OnOk, IsTrue, ◌↔◌, All, Contains, true, false, slice_index, slice_index_or, slice_set, take, filter, [], ◌∷◌, if◌then◌else◌};
+ghost use Rattle.std.specs.Prelude.{◌≡◌, ℕ, ◌+◌, ◌-◌, ◌<◌, ◌≤◌, ◌==◌, ◌++◌, length, IfOk, IfErr, OnOk, IsTrue, ◌↔◌, All, Contains, true, false, slice_index, slice_index_or};
+ghost use Rattle.std.specs.Prelude.{slice_set, take, filter, [], ◌∷◌, if◌then◌else◌};
 ghost use Rattle.std.specs.List.{range_with_len};
 ghost use Rattle.std.specs.List.Sorted.{IsNonDecreasingBy};
 ghost use Rattle.msp_class.specs.declared.list.TheConstants.{PLACES};
@@ -17,7 +18,7 @@ use std::alloc::{AllocError, Global};
 pub enum OrderFault {
     /// There is none: a path of arcs leads from the job to itself, and from no lesser one.
     Cycle { job: u32 },
-    /// Want of memory.
+    /// Out of memory.
     Memory,
 }
 

@@ -2,12 +2,11 @@
 ghost use Rattle.std.specs.Prelude.{ℕ, ◌*◌, ◌<◌, ◌≤◌, ◌↔◌, IsTrue, All};
 ghost use Rattle.std.specs.Int.{◌∣◌, IsGcd};
 ghost use Rattle.msp_class.specs.Env.{kind_of};
-ghost use Rattle.msp_instance.specs.declared.ranges.TheConstants.{GREATEST_MULTIPLE, GREATEST_SPEED};
+ghost use Rattle.msp_class.specs.declared.sizes.TheConstants.{GREATEST_SPEED, GREATEST_MULTIPLE};
 ghost use Rattle.msp_instance.specs.Conditions.{HasSpeeds, HasSmallMultiple};
 ghost use Rattle.msp_instance.specs.Multiples.{IsLeastMultiple, IsLeastOfAll};
 
-use crate::ranges::{GREATEST_MULTIPLE, GREATEST_SPEED};
-use msp_class::{Env, EnvKind, env_kind};
+use msp_class::{Env, EnvKind, GREATEST_MULTIPLE, GREATEST_SPEED, env_kind};
 
 /// The greatest common divisor (Euclid). That of 0 and a number is the number.
 pub fn gcd(a: u128, b: u128) -> u128
@@ -25,7 +24,7 @@ pub fn gcd(a: u128, b: u128) -> u128
 }
 
 /// The least common multiple of two numbers.
-pub fn common_multiple(a: u64, b: u64) -> u64
+fn common_multiple(a: u64, b: u64) -> u64
     requires a { (1 ≤ a) × (a ≤ GREATEST_MULTIPLE) }
     requires b { (1 ≤ b) × (b ≤ GREATEST_SPEED) }
     ensures least { IsLeastMultiple a b result }

@@ -1,5 +1,6 @@
 -- Lists of distinct names.
-use Rattle.std.proofs.Common.{◌≡◌, ◌≢◌, ℕ, ◌+◌, ◌<◌, ◌≤◌, List, [], ◌∷◌, ◌++◌, length, take, get_or, Bool, true, false, not, Option, None, Some, Contains, MatchOption, MatchBool, IfSome, All, bytes_eq, position, slice_get, refl, sym, ap, subst, ◌∙◌, arith, length-take}
+use Rattle.std.proofs.Common.{◌≡◌, ◌≢◌, ℕ, ◌+◌, ◌<◌, ◌≤◌, List, [], ◌∷◌, ◌++◌, length, take, get_or, Bool, true, false, not, Option, None, Some, Contains, MatchOption, MatchBool}
+use Rattle.std.proofs.Common.{IfSome, All, bytes_eq, position, slice_get, refl, sym, ap, subst, ◌∙◌, arith, length-take}
 use Rattle.std.specs.Option.{is_some}
 use Rattle.std.specs.Cmp.Lexicographic.{nat_list_eq_equiv}
 use Rattle.std.proofs.lemmas.Slice.Eq.{bytes_eq-Decides}
@@ -29,7 +30,8 @@ pub adds : (before after : List (List ℕ)) (w : List ℕ) (b : Bool) → b ≡ 
     → MatchBool b ((¬ (Contains before w)) × (after ≡ before ++ w ∷ [])) (Contains before w × (after ≡ before))
 adds before after w b e f = by (list_any (bytes_eq w) before) refl b e
   where
-    by : (a : Bool) → list_any (bytes_eq w) before ≡ a → (b : Bool) → b ≡ not (list_any (bytes_eq w) before) → MatchBool b ((¬ (Contains before w)) × (after ≡ before ++ w ∷ [])) (Contains before w × (after ≡ before))
+    by : (a : Bool) → list_any (bytes_eq w) before ≡ a → (b : Bool)
+        → b ≡ not (list_any (bytes_eq w) before) → MatchBool b ((¬ (Contains before w)) × (after ≡ before ++ w ∷ [])) (Contains before w × (after ≡ before))
     by true h true e = absurd (cc)
     by true h false e = (is_among before w h, rw h at f)
     by false h true e = (not_among before w h, rw h at f)

@@ -18,7 +18,8 @@ module _ (arcs : List Arc) where
 
   above-next : (k j : ℕ) (a : Arc) → Contains arcs a → a.after ≡ j → has_above arcs k a.before ≡ true → has_above arcs (suc k) j ≡ true
   above-next k j a (m, l, e) to h =
-      list_any_at (λ a. a.after == j && has_above arcs k a.before) arcs m a l (ap (λ b. b.after == j && has_above arcs k b.before) e ∙ ap (λ b. b && has_above arcs k a.before) (eq-eqb a.after j to) ∙ h)
+      list_any_at (λ a. a.after == j && has_above arcs k a.before)
+      arcs m a l (ap (λ b. b.after == j && has_above arcs k b.before) e ∙ ap (λ b. b && has_above arcs k a.before) (eq-eqb a.after j to) ∙ h)
 
   above-fewer : (k j : ℕ) → has_above arcs (suc k) j ≡ true → has_above arcs k j ≡ true
   above-fewer zero j h = refl

@@ -1,5 +1,6 @@
 -- How many jobs of a list have a level, and that a slot of the rule leaves no more jobs of high levels than fit the moments that are left.
-use Rattle.std.proofs.Common.{◌≡◌, ◌≢◌, ℕ, zero, suc, ◌+◌, ◌-◌, ◌*◌, ◌<◌, ◌≤◌, ◌⊎◌, inl, inr, Bool, true, false, not, cond, eqb, leb, List, [], ◌∷◌, ◌++◌, length, get_or, filter, count_by, sum_by, All, Contains, IsPermutation, refl, sym, ap, ◌∙◌, arith}
+use Rattle.std.proofs.Common.{◌≡◌, ◌≢◌, ℕ, zero, suc, ◌+◌, ◌-◌, ◌*◌, ◌<◌, ◌≤◌, ◌⊎◌, inl, inr, Bool, true, false, not, cond, eqb, leb, List, [], ◌∷◌, ◌++◌, length, get_or, filter}
+use Rattle.std.proofs.Common.{count_by, sum_by, All, Contains, IsPermutation, refl, sym, ap, ◌∙◌, arith}
 use Rattle.std.proofs.lemmas.Bool.{cases_lt, eqb-true, eq-eqb, false≢true}
 use Rattle.std.proofs.lemmas.Bool.Decides.{nat_tests}
 use Rattle.std.proofs.lemmas.List.Elements.{All-head, All-tail, All-cons, All-filter, All-contains, filter_passes, Contains-get_or, Contains-append_left, Contains-append_right}
@@ -50,21 +51,31 @@ level_at level t xs = sum_by (λ j. cond (eqb (level j) t) 1 0) xs
 
 from_next : (level : ℕ → ℕ) (t : ℕ) (xs : List ℕ) → level_from level t xs ≡ level_at level t xs + level_from level (t + 1) xs
 from_next level t [] = refl
-from_next level t (x ∷ xs) = omega (arith, sum_by-cons (λ j. cond (leb t (level j)) 1 0) x xs, sum_by-cons (λ j. cond (eqb (level j) t) 1 0) x xs, sum_by-cons (λ j. cond (leb (t + 1) (level j)) 1 0) x xs, from_next level t xs, one (level x))
+from_next level t (x ∷ xs) = omega (
+  arith,
+  sum_by-cons (λ j. cond (leb t (level j)) 1 0)
+      x xs,
+  sum_by-cons (λ j. cond (eqb (level j) t) 1 0) x xs,
+  sum_by-cons (λ j. cond (leb (t + 1) (level j)) 1 0) x xs,
+  from_next level t xs,
+  one (level x),
+)
   where
     one : (l : ℕ) → cond (leb t l) 1 0 ≡ cond (eqb l t) 1 0 + cond (leb (t + 1) l) 1 0
     one l = grind (arith, nat_tests)
 
 none_from : (level : ℕ → ℕ) (t : ℕ) (xs : List ℕ) → All (λ j. level j < t) xs → level_from level t xs ≡ 0
 none_from level t [] h = refl
-none_from level t (x ∷ xs) h = omega (arith, sum_by-cons (λ j. cond (leb t (level j)) 1 0) x xs, none_from level t xs (All-tail (λ j. level j < t) x xs h), one (level x) (All-head (λ j. level j < t) x xs h))
+none_from level t (x ∷ xs) h = omega
+    (arith, sum_by-cons (λ j. cond (leb t (level j)) 1 0) x xs, none_from level t xs (All-tail (λ j. level j < t) x xs h), one (level x) (All-head (λ j. level j < t) x xs h))
   where
     one : (l : ℕ) → l < t → cond (leb t l) 1 0 + 0 ≡ 0
     one l h = grind (arith, nat_tests)
 
 all_from : (level : ℕ → ℕ) (t : ℕ) (xs : List ℕ) → All (λ j. t ≤ level j) xs → level_from level t xs ≡ length xs
 all_from level t [] h = refl
-all_from level t (x ∷ xs) h = omega (arith, sum_by-cons (λ j. cond (leb t (level j)) 1 0) x xs, all_from level t xs (All-tail (λ j. t ≤ level j) x xs h), one (level x) (All-head (λ j. t ≤ level j) x xs h))
+all_from level t (x ∷ xs) h = omega
+    (arith, sum_by-cons (λ j. cond (leb t (level j)) 1 0) x xs, all_from level t xs (All-tail (λ j. t ≤ level j) x xs h), one (level x) (All-head (λ j. t ≤ level j) x xs h))
   where
     one : (l : ℕ) → t ≤ l → cond (leb t l) 1 0 + 0 ≡ 1
     one l h = grind (arith, nat_tests)
@@ -95,7 +106,8 @@ pub Fits-low : (m : ℕ) (level : ℕ → ℕ) (xs : List ℕ) (g : ℕ) → Fit
 Fits-low m level xs g h k d l = lt_of_mul-lt-mul_left m (omega (arith, h k d l, some_from level xs (get_or xs k d) (Contains-get_or xs k d l)))
 
 pub Fits-permutation : (m : ℕ) (level : ℕ → ℕ) (xs ys : List ℕ) (g : ℕ) → IsPermutation xs ys → Fits m level xs g → Fits m level ys g
-Fits-permutation m level xs ys g p h = All-permutation (λ j. level_from level (level j) ys + m * level j ≤ m * g) xs ys p (λ k d l. omega (arith, h k d l, sum_by-IsPermutation (λ j. cond (leb (level (get_or xs k d)) (level j)) 1 0) xs ys p))
+Fits-permutation m level xs ys g p h = All-permutation (λ j. level_from level (level j) ys + m * level j ≤ m * g)
+    xs ys p (λ k d l. omega (arith, h k d l, sum_by-IsPermutation (λ j. cond (leb (level (get_or xs k d)) (level j)) 1 0) xs ys p))
 
 module _ (m : ℕ) (level after : ℕ → ℕ) (blocked : ℕ → Bool) (left taken rest : List ℕ) (perm : IsPermutation left (taken ++ rest)) (few : length taken ≤ m) (once : HasOnce left)
     (kept : All (λ j. (blocked j ≡ true) ⊎ ((length taken ≡ m) × All (λ f. level j ≤ level f) taken)) rest)
@@ -147,7 +159,15 @@ module _ (m : ℕ) (level after : ℕ → ℕ) (blocked : ℕ → Bool) (left ta
     -- where all that is left from a level on is blocked: the jobs of a level are no more than those taken of higher ones
     narrow : (d t : ℕ) → t + d ≡ g → All (λ j. t ≤ level j → blocked j ≡ true) rest → (level_at level t rest ≤ level_from level (t + 1) taken) × (level_from level t rest ≤ m * d)
     narrow zero t e h =
-        let here : level_at level t rest ≤ level_from level (t + 1) taken = omega (arith, width t h, from_next level (t + 1) left, none_from level (t + 1) taken (low_taken (t + 1) (omega (arith, e))), none_from level (t + 1) rest (low_rest (t + 1) (omega (arith, e))), split (λ j. cond (leb (t + 1) (level j)) 1 0)) in
+        let here : level_at level t rest ≤ level_from level (t + 1) taken = omega (
+          arith,
+          width t h,
+          from_next level (t + 1) left,
+          none_from level (t + 1) taken
+              (low_taken (t + 1) (omega (arith, e))),
+          none_from level (t + 1) rest (low_rest (t + 1) (omega (arith, e))),
+          split (λ j. cond (leb (t + 1) (level j)) 1 0),
+        ) in
         (here, omega (arith, here, from_next level t rest, none_from level (t + 1) taken (low_taken (t + 1) (omega (arith, e))), none_from level (t + 1) rest (low_rest (t + 1) (omega (arith, e)))))
     narrow (suc d) t e h =
         let (a, b) = narrow d (t + 1) (omega (arith, e)) (λ k x l w. h k x l (omega (arith, w))) in

@@ -41,7 +41,8 @@ module _ (i : Instance) where
   n = length i.jobs
 
   pub most-next : (t : ℕ) → most_ended i (suc t) ≡ min (most_ended i t + i.machines) (jobs_under i (suc t))
-  most-next t = ap₂ min (least_to-more i.machines (λ k. jobs_under i k + i.machines * (t - k)) (λ k. jobs_under i k + i.machines * (suc t - k)) t (λ k l. one k (jobs_under i k) l)) (last (jobs_under i (suc t)))
+  most-next t =
+      ap₂ min (least_to-more i.machines (λ k. jobs_under i k + i.machines * (t - k)) (λ k. jobs_under i k + i.machines * (suc t - k)) t (λ k l. one k (jobs_under i k) l)) (last (jobs_under i (suc t)))
     where
       one : (k u : ℕ) → k ≤ t → u + i.machines * (suc t - k) ≡ u + i.machines * (t - k) + i.machines
       one k u l = let e : suc t - k ≡ suc (t - k) = omega (arith, l) in omega (arith, ap (λ x. i.machines * x) e, product (t - k))
@@ -64,7 +65,8 @@ module _ (i : Instance) where
   -- ---- at whole places no more have begun before a moment than can have ended by it
   pub begun-most : (place : ℕ → ℕ) → ArePlaces i place → (t : ℕ) → begun n place t ≤ most_ended i t
   begun-most place h zero = omega (arith, begun-none n place)
-  begun-most place h (suc t) = subst (λ x. begun n place (suc t) ≤ x) (sym (most-next t)) (least (begun n place (suc t)) (most_ended i t) (jobs_under i (suc t)) (omega (arith, begun-next n place t, begun-most place h t, h.few t)) under)
+  begun-most place h (suc t) = subst (λ x. begun n place (suc t) ≤ x) (sym (most-next t))
+      (least (begun n place (suc t)) (most_ended i t) (jobs_under i (suc t)) (omega (arith, begun-next n place t, begun-most place h t, h.few t)) under)
     where
       least : (a b c : ℕ) → a ≤ b + i.machines → a ≤ c → a ≤ min (b + i.machines) c
       least a b c u v = omega (arith, u, v)
@@ -119,4 +121,9 @@ sum_of_ends n begin h =
     one t b = grind (arith, nat_tests)
 
     rest : (t : ℕ) → total_below n (λ j. one_if (ltb t (begin j + 1))) ≡ n - begun n begin t
-    rest t = omega (arith, total_below-add n (λ j. one_if (ltb t (begin j + 1))) (λ j. one_if (ltb (begin j) t)), total_below-same n (λ j. one_if (ltb t (begin j + 1)) + one_if (ltb (begin j) t)) (λ _. 1) (λ j l. one t (begin j)), total_below-constant n 1)
+    rest t = omega (
+      arith,
+      total_below-add n (λ j. one_if (ltb t (begin j + 1))) (λ j. one_if (ltb (begin j) t)),
+      total_below-same n (λ j. one_if (ltb t (begin j + 1)) + one_if (ltb (begin j) t)) (λ _. 1) (λ j l. one t (begin j)),
+      total_below-constant n 1,
+    )

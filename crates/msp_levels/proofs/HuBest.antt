@@ -43,7 +43,8 @@ enough n m some = elim (cases_lt (m * ((n + (m - 1)) / m)) n) [
 abbrev schedule_of : List Piece → Schedule
 schedule_of pieces = record { unit = pos 1; pieces = pieces }
 
-module _ (i : Instance) (t : IsUnitForest i) (level : ℕ → ℕ) (levels : AreLevels i level) (order : List ℕ) (falling : AllPairs (λ a b. level b ≤ level a) order) (pieces : List Piece) (h : IsListSchedule i order pieces) where
+module _ (i : Instance) (t : IsUnitForest i) (level : ℕ → ℕ) (levels : AreLevels i level)
+    (order : List ℕ) (falling : AllPairs (λ a b. level b ≤ level a) order) (pieces : List Piece) (h : IsListSchedule i order pieces) where
   abbrev n : ℕ
   n = length i.jobs
 
@@ -82,7 +83,8 @@ module _ (i : Instance) (t : IsUnitForest i) (level : ℕ → ℕ) (levels : Are
   greatest_crit = ap is_greatest t.crit
 
   upper : cost_of i (schedule_of pieces) ≤ℤ pos levels_bound
-  upper = cost_of-least i (schedule_of pieces) (pos levels_bound) greatest_crit t.some (λ k b. subst (λ x. x ≤ℤ pos levels_bound) (sym (charge (schedule_of pieces) k ∙ unit_piece_ends i unit_jobs h.begin h.machine pieces units k b)) (pos-le (soon_enough k b)))
+  upper = cost_of-least i (schedule_of pieces) (pos levels_bound) greatest_crit t.some
+      (λ k b. subst (λ x. x ≤ℤ pos levels_bound) (sym (charge (schedule_of pieces) k ∙ unit_piece_ends i unit_jobs h.begin h.machine pieces units k b)) (pos-le (soon_enough k b)))
 
   lower : (s : Schedule) → Feasible i s → (s.unit *ℤ pos levels_bound) ≤ℤ cost_of i s
   lower s f =
@@ -104,7 +106,8 @@ module _ (i : Instance) (t : IsUnitForest i) (level : ℕ → ℕ) (levels : Are
   within = unit_pieces_are_within i unit_jobs h.begin h.machine pieces units
 
   answer : IsAnswer i (schedule_of pieces)
-  answer = one_each_is_answer i (uncut i unit_jobs h.begin h.machine pieces units) 1 pieces (one_each i unit_jobs h.begin h.machine pieces units) (subst (λ k. pos 1 ≤ℤ answer_unit k) (sym t.kind) (omega (arith, ints)))
+  answer = one_each_is_answer i (uncut i unit_jobs h.begin h.machine pieces units)
+      1 pieces (one_each i unit_jobs h.begin h.machine pieces units) (subst (λ k. pos 1 ≤ℤ answer_unit k) (sym t.kind) (omega (arith, ints)))
 
   level_cost : (cost : Frac) → IsOver cost (cost_of i (schedule_of pieces)) (pos 1) → IsLevelCost i cost
   level_cost cost over = (level, levels_bound, levels, is_greatest_bound, subst (λ x. IsOver cost x (pos 1)) cost_is over)
@@ -117,7 +120,8 @@ pub record IsHuAnswer (i : Instance) (s : Schedule) : Type 0 where
   pub settled : IsSettled s
   pub cost : (cost : Frac) → IsOver cost (cost_of i s) s.unit → IsLevelCost i cost
 
-pub IsHuAnswer-from : (i : Instance) → i.class ≡ levels_class → Inner i → (level : ℕ → ℕ) → AreLevels i level → (order : List ℕ) → AllPairs (λ a b. level b ≤ level a) order → (pieces : List Piece) → IsListSchedule i order pieces → IsHuAnswer i (record { unit = pos 1; pieces = pieces })
+pub IsHuAnswer-from : (i : Instance) → i.class ≡ levels_class → Inner i → (level : ℕ → ℕ) → AreLevels i level → (order : List ℕ)
+    → AllPairs (λ a b. level b ≤ level a) order → (pieces : List Piece) → IsListSchedule i order pieces → IsHuAnswer i (record { unit = pos 1; pieces = pieces })
 IsHuAnswer-from i class inner level levels order falling pieces h =
     let t = IsUnitForest-from i class inner in
     record {

@@ -1,5 +1,6 @@
 -- How soon the jobs of an intree begin that run by falling level.
-use Rattle.std.proofs.Common.{◌≡◌, ◌≢◌, ℕ, zero, suc, ◌+◌, ◌<◌, ◌≤◌, ◌⊎◌, inl, inr, Bool, true, not, eqb, ltb, List, length, get_or, map, filter, All, AllPairs, Contains, refl, sym, ap, subst, ◌∙◌, arith}
+use Rattle.std.proofs.Common.{◌≡◌, ◌≢◌, ℕ, zero, suc, ◌+◌, ◌<◌, ◌≤◌, ◌⊎◌, inl, inr, Bool, true, not, eqb, ltb, List, length, get_or, map, filter, All, AllPairs, Contains, refl}
+use Rattle.std.proofs.Common.{sym, ap, subst, ◌∙◌, arith}
 use Rattle.std.specs.Prelude.{◌==◌, ◌&&◌}
 use Rattle.std.specs.List.{list_any, range_with_len}
 use Rattle.std.proofs.lemmas.Bool.{cases_lt, eqb-true, eq-eqb, ne_eqb, lt-ltb, le-ltb, false≢true}
@@ -113,7 +114,12 @@ module _ (i : Instance) (level : ℕ → ℕ) (t : IsForest i level) where
 
     -- no more begin at a moment than there are machines
     few : (x : ℕ) → length (taken x) ≤ i.machines
-    few x = omega (arith, cover (λ k. k) (range_with_len 0 i.machines) (map machine (taken x)) (λ k. count_by-distinct (map machine (taken x)) k distinct) each, length-map (taken x) machine, length-range_with_len 0 i.machines)
+    few x = omega (
+      arith,
+      cover (λ k. k) (range_with_len 0 i.machines) (map machine (taken x)) (λ k. count_by-distinct (map machine (taken x)) k distinct) each,
+      length-map (taken x) machine,
+      length-range_with_len 0 i.machines,
+    )
       where
         jobs_apart : AllPairs (λ a b. a ≢ b) (taken x)
         jobs_apart = distinct_from_counts (taken x) (HasOnce-filter (now x) (left x) (once x))
@@ -131,7 +137,12 @@ module _ (i : Instance) (level : ℕ → ℕ) (t : IsForest i level) where
             (machine j, OnceBelow-contains (OnceBelow-range i.machines) (machine j) (h.inside j (taken-from x j (Contains-get_or (taken x) k d l)).0), refl))
 
     full : (x : ℕ) → ((k : ℕ) → k < i.machines → (j : ℕ) × Contains (taken x) j × (machine j ≡ k)) → i.machines ≤ length (taken x)
-    full x f = omega (arith, cover machine (taken x) (range_with_len 0 i.machines) (λ k. count_by-distinct (range_with_len 0 i.machines) k (OnceBelow-distinct (OnceBelow-range i.machines))) (λ k d l. f (get_or (range_with_len 0 i.machines) k d) ((OnceBelow-range i.machines).within k d l)), length-range_with_len 0 i.machines)
+    full x f = omega (
+      arith,
+      cover machine (taken x) (range_with_len 0 i.machines) (λ k. count_by-distinct (range_with_len 0 i.machines) k (OnceBelow-distinct (OnceBelow-range i.machines)))
+          (λ k d l. f (get_or (range_with_len 0 i.machines) k d) ((OnceBelow-range i.machines).within k d l)),
+      length-range_with_len 0 i.machines,
+    )
 
     -- why jobs are left
     abbrev leads : ℕ → ℕ → Arc → Bool
@@ -145,10 +156,14 @@ module _ (i : Instance) (level : ℕ → ℕ) (t : IsForest i level) where
 
     is_blocked : (x j : ℕ) → WaitsForJob i begin x j → blocked x j ≡ true
     unfolding blocked
-    is_blocked x j (a, (k, l, e), to, from) = list_any_at (leads x j) i.arcs k a l (ap (leads x j) e ∙ ap (λ b. b && not (ltb (begin a.before) x)) (eq-eqb a.after j to) ∙ ap not (le-ltb (begin a.before) x from))
+    is_blocked x j (a, (k, l, e), to, from) =
+        list_any_at (leads x j) i.arcs k a l (ap (leads x j) e ∙ ap (λ b. b && not (ltb (begin a.before) x)) (eq-eqb a.after j to) ∙ ap not (le-ltb (begin a.before) x from))
 
     is_full : (x j : ℕ) → ((k : ℕ) → k < i.machines → RunsAhead i order begin machine x k j) → Kept x j
-    is_full x j f = inr (omega (arith, few x, full x (λ k l. let (p, b, e, g, st) = f k l in (p, taken-to x p b e, g))), λ k d l. higher (get_or (taken x) k d) (taken-from x (get_or (taken x) k d) (Contains-get_or (taken x) k d l)))
+    is_full x j f = inr (
+      omega (arith, few x, full x (λ k l. let (p, b, e, g, st) = f k l in (p, taken-to x p b e, g))),
+      λ k d l. higher (get_or (taken x) k d) (taken-from x (get_or (taken x) k d) (Contains-get_or (taken x) k d l)),
+    )
       where
         higher : (p : ℕ) → (p < n) × (begin p ≡ x) → level j ≤ level p
         higher p (l, e) =
@@ -183,8 +198,12 @@ module _ (i : Instance) (level : ℕ → ℕ) (t : IsForest i level) where
         step zero e g = let c = left-to x j l (omega (arith, from)) in absurd (omega (arith, All-contains (λ j. level j < 0) (left x) j (Fits-low i.machines level (left x) 0 g) c))
         step (suc g) e f =
             let more : suc g ≡ g + 1 = omega arith in
-            let now_fits : Fits i.machines level (left x) (g + 1) = subst (Fits i.machines level (left x)) more f in
-            (g, omega (arith, e), Fits-next i.machines level (after_of i.arcs) (blocked x) (left x) (taken x) (left (suc x)) (IsPermutation-filter_both (now x) (later x) (λ j. refl) (left x)) (few x) (once x) (kept x) (why x) g (λ k d l. omega (arith, Fits-low i.machines level (left x) (g + 1) now_fits k d l)) now_fits)
+            let now_fits : Fits i.machines level (left x) (g + 1) = subst (Fits i.machines level (left x)) more f in (
+              g,
+              omega (arith, e),
+              Fits-next i.machines level (after_of i.arcs) (blocked x) (left x) (taken x) (left (suc x)) (IsPermutation-filter_both (now x) (later x) (λ j. refl) (left x))
+                  (few x) (once x) (kept x) (why x) g (λ k d l. omega (arith, Fits-low i.machines level (left x) (g + 1) now_fits k d l)) now_fits,
+            )
 
     -- where so many slots are enough by the levels, all jobs end by then
     pub ends_soon : (b : ℕ) → Fits i.machines level (range_with_len 0 n) b → (j : ℕ) → j < n → begin j + 1 ≤ b

@@ -54,7 +54,8 @@ pub record IsOuttree (i : Instance) (level : ℕ → ℕ) : Type 0 where
   pub ends : All (λ a. (a.before < length i.jobs) × (a.after < length i.jobs)) i.arcs
   pub levels : AreLevels i level
 
-module _ (i : Instance) (level : ℕ → ℕ) (t : IsOuttree i level) (order : List ℕ) (falling : AllPairs (λ a b. level b ≤ level a) order) (begin machine : ℕ → ℕ) (h : RunsInOrder i order begin machine) where
+module _ (i : Instance) (level : ℕ → ℕ) (t : IsOuttree i level)
+    (order : List ℕ) (falling : AllPairs (λ a b. level b ≤ level a) order) (begin machine : ℕ → ℕ) (h : RunsInOrder i order begin machine) where
   abbrev n : ℕ
   n = length i.jobs
 
@@ -71,7 +72,15 @@ module _ (i : Instance) (level : ℕ → ℕ) (t : IsOuttree i level) (order : L
 
     -- some number of each job of the slot does not give all machines
     never_all : (f : ℕ → ℕ) → ((k : ℕ) → k < i.machines → (z : ℕ) × (z < n) × (begin z ≡ x) × (f z ≡ k)) → ⊥
-    never_all f all = absurd (omega (arith, room, length-range_with_len 0 i.machines, cover f here (range_with_len 0 i.machines) (λ k. count_by-distinct (range_with_len 0 i.machines) k (OnceBelow-distinct (OnceBelow-range i.machines))) each, length-filter now (range_with_len 0 n), total_below-range n (λ j. one_if (eqb (begin j) x))))
+    never_all f all = absurd (omega (
+      arith,
+      room,
+      length-range_with_len 0 i.machines,
+      cover f here (range_with_len 0 i.machines) (λ k. count_by-distinct (range_with_len 0 i.machines)
+          k (OnceBelow-distinct (OnceBelow-range i.machines))) each,
+      length-filter now (range_with_len 0 n),
+      total_below-range n (λ j. one_if (eqb (begin j) x)),
+    ))
       where
         here : List ℕ
         here = filter now (range_with_len 0 n)
@@ -112,7 +121,8 @@ module _ (i : Instance) (level : ℕ → ℕ) (t : IsOuttree i level) (order : L
       | inr full ↦ (s, y, l, len, out, omega (arith, sum), full)
       | inl (a, c, to, from) ↦
           let step : begin a.before < begin y = subst (λ k. begin a.before < begin k) to (rises a c) in
-          pause_in_line s a.before (inside a c).0 (omega (arith, from, step, e)) (suc len) (y, subst (λ k. Contains i.arcs (record { before = a.before; after = k })) to c, out) (omega (arith, sum)) (under-before i.arcs s y a c to under)
+          pause_in_line s a.before (inside a c).0 (omega (arith, from, step, e)) (suc len)
+          (y, subst (λ k. Contains i.arcs (record { before = a.before; after = k })) to c, out) (omega (arith, sum)) (under-before i.arcs s y a c to under)
     ]
 
     -- ---- below a job with a way down that is long enough, one runs in the slot
@@ -151,7 +161,8 @@ module _ (i : Instance) (level : ℕ → ℕ) (t : IsOuttree i level) (order : L
         each k b =
             let (q, lq, eq, on, st) = full k b in
             let high : level v ≤ level q = stands-in (λ a b. level b ≤ level a) order q v falling st in
-            let (z, lz, ez, up) = line_to_slot s q (level q) q 0 lq (t.levels q lq).path (omega (arith, eq, sum)) (omega (arith, eq, sum, high, (t.levels v l).longest len out)) (omega (arith, eq)) (λ d. climb-stop i.arcs begin s (d + 0) q (omega (arith, eq))) in
+            let (z, lz, ez, up) = line_to_slot s q (level q) q 0 lq (t.levels q lq).path (omega (arith, eq, sum))
+            (omega (arith, eq, sum, high, (t.levels v l).longest len out)) (omega (arith, eq)) (λ d. climb-stop i.arcs begin s (d + 0) q (omega (arith, eq))) in
             (z, lz, ez, ap machine up ∙ on)
 
     pub slot_with_room : (w : ℕ) → w < n → has_above i.arcs (suc x) w ≡ false → begin w ≤ x

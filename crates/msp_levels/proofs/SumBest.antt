@@ -95,10 +95,15 @@ module _ (i : Instance) (class : i.class ≡ levels_sum_class) (inner : Inner i)
         (int_total_below-mono n (λ j. s.unit *ℤ pos (place j + 1)) (charge_of i s) (λ j b. subst (λ x. (s.unit *ℤ pos (place j + 1)) ≤ℤ x) (sym (charge s j)) (ends_after j b))))
       where
         sums : least_sum i ≤ total_below n (λ j. place j + 1)
-        sums = subst (λ x. least_sum i ≤ x) (sym (sum_of_ends n place placed.1.early)) (total_below-mono n (λ t. n - most_ended i t) (λ t. n - begun n place t) (λ t l. omega (arith, begun-most i place placed.1 t)))
+        sums = subst (λ x. least_sum i ≤ x) (sym (sum_of_ends n place placed.1.early))
+            (total_below-mono n (λ t. n - most_ended i t) (λ t. n - begun n place t) (λ t l. omega (arith, begun-most i place placed.1 t)))
 
     pub no_more : (t : ℕ) → ended_by i s t ≤ most_ended i t
-    no_more t = omega (arith, begun-most i place placed.1 t, total_below-mono n (λ j. one_if (int_le (end_of s j) (s.unit *ℤ pos t))) (λ j. one_if (ltb (place j) t)) (λ j b. by j b (int_le (end_of s j) (s.unit *ℤ pos t)) refl))
+    no_more t = omega (
+      arith,
+      begun-most i place placed.1 t,
+      total_below-mono n (λ j. one_if (int_le (end_of s j) (s.unit *ℤ pos t))) (λ j. one_if (ltb (place j) t)) (λ j b. by j b (int_le (end_of s j) (s.unit *ℤ pos t)) refl),
+    )
       where
         early : (j : ℕ) → j < n → end_of s j ≤ℤ (s.unit *ℤ pos t) → place j < t
         early j b h = omega (arith, le-pos (*ℤ-cancel unit some_unit (subst (λ u. (u *ℤ pos (place j + 1)) ≤ℤ (u *ℤ pos t)) unit_is (≤ℤ_trans (ends_after j b) h))))
@@ -130,7 +135,8 @@ module _ (i : Instance) (class : i.class ≡ levels_sum_class) (inner : Inner i)
     upper : cost_of i made ≤ℤ pos (least_sum i)
     upper =
         subst (λ x. x ≤ℤ pos (least_sum i)) (sym (cost_is made ∙ int_total_below-natural n (charge_of i made) (λ j. h.begin j + 1) (λ j b. charge made j ∙ ends j b)))
-        (pos-le (subst (λ x. x ≤ least_sum i) (sym (sum_of_ends n h.begin (begins_soon i order pieces h))) (total_below-mono n (λ t. n - begun n h.begin t) (λ t. n - most_ended i t) (λ t l. omega (arith, as_many t)))))
+        (pos-le (subst (λ x. x ≤ least_sum i) (sym (sum_of_ends n h.begin (begins_soon i order pieces h)))
+        (total_below-mono n (λ t. n - begun n h.begin t) (λ t. n - most_ended i t) (λ t l. omega (arith, as_many t)))))
 
     least_cost : cost_of i made ≡ pos (least_sum i)
     least_cost = ≤ℤ_antisym upper (subst (λ x. x ≤ℤ cost_of i made) (one-*ℤ (pos (least_sum i))) (lower made feasible))
@@ -145,7 +151,8 @@ module _ (i : Instance) (class : i.class ≡ levels_sum_class) (inner : Inner i)
     within = unit_pieces_are_within i unit_jobs h.begin h.machine pieces units
 
     pub answer : IsAnswer i made
-    answer = one_each_is_answer i (uncut i unit_jobs h.begin h.machine pieces units) 1 pieces (one_each i unit_jobs h.begin h.machine pieces units) (subst (λ k. pos 1 ≤ℤ answer_unit k) (sym t.kind) (omega (arith, ints)))
+    answer = one_each_is_answer i (uncut i unit_jobs h.begin h.machine pieces units)
+        1 pieces (one_each i unit_jobs h.begin h.machine pieces units) (subst (λ k. pos 1 ≤ℤ answer_unit k) (sym t.kind) (omega (arith, ints)))
 
     pub cost : (result : Frac) → IsOver result (cost_of i made) (pos 1) → IsLeastSum i result
     cost result over = subst (λ x. IsOver result x (pos 1)) least_cost over
@@ -161,4 +168,5 @@ module _ (i : Instance) (class : i.class ≡ levels_sum_class) (inner : Inner i)
           where
             by : (j : ℕ) → j < n → (b : Bool) → ltb (h.begin j) t ≡ b → one_if b ≤ one_if (int_le (end_of made j) (pos 1 *ℤ pos t))
             by j b false e = omega arith
-            by j b true e = omega (arith, ap one_if (int_le-from (end_of made j) (pos 1 *ℤ pos t) (subst₂ (λ x y. x ≤ℤ y) (sym (ends j b)) (sym (one-*ℤ (pos t))) (pos-le (omega (arith, ltb-true (h.begin j) t e))))))
+            by j b true e = omega
+                (arith, ap one_if (int_le-from (end_of made j) (pos 1 *ℤ pos t) (subst₂ (λ x y. x ≤ℤ y) (sym (ends j b)) (sym (one-*ℤ (pos t))) (pos-le (omega (arith, ltb-true (h.begin j) t e))))))

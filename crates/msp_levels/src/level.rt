@@ -1,7 +1,7 @@
 // The levels of jobs, and the jobs by falling level.
 ghost use Rattle.std.specs.Prelude.{◌≡◌, ℕ, ◌<◌, ◌≤◌, slice_index, map, All, AllPairs, IfOk, IsPermutation};
 ghost use Rattle.std.specs.List.{range_with_len};
-ghost use Rattle.msp_instance.specs.declared.ranges.TheConstants.{MOST_JOBS};
+ghost use Rattle.msp_class.specs.declared.sizes.TheConstants.{MOST_JOBS};
 ghost use Rattle.msp_instance.specs.Conditions.{Inner, IsSequence, GoesForward};
 ghost use Rattle.msp_schedule.specs.Levels.{AreLevels};
 ghost use Rattle.msp_levels.specs.Steps.{IsOver};

@@ -1,5 +1,5 @@
 // Sums of completion times by the same levels, on outtrees.
-ghost use Rattle.std.specs.Prelude.{◌≡◌, IfOk, ⊤};
+ghost use Rattle.std.specs.Prelude.{◌≡◌, IfOk};
 ghost use Rattle.msp_instance.specs.Conditions.{Inner};
 ghost use Rattle.msp_schedule.specs.Cost.{IsBest};
 ghost use Rattle.msp_route.specs.Bounds.{IsAnswer};
@@ -30,10 +30,6 @@ pub struct LevelsSum;
 
 impl Solver for LevelsSum {
     ghost solved = { λ _. levels_sum_class };
-
-    ghost can_solve = { λ _ _. ⊤ };
-
-    ghost may_ask = { λ _ _. ⊤ };
 
     fn target(&self) -> Class {
         LEVELS_SUM_CLASS

@@ -1,5 +1,6 @@
 -- Arcs counted by the jobs that they join, and linked by their jobs after.
-use Rattle.std.proofs.Common.{◌≡◌, ◌≢◌, ℕ, zero, suc, ◌+◌, ◌-◌, ◌<◌, ◌≤◌, inl, inr, ◌⊎◌, Bool, true, false, cond, ◌==◌, ◌&&◌, ◌||◌, List, ◌∷◌, [], length, get_or, set, take, replicate, All, AllPairs, Contains, IsPermutation, refl, sym, ap, subst, ◌∙◌, arith, add-one}
+use Rattle.std.proofs.Common.{◌≡◌, ◌≢◌, ℕ, zero, suc, ◌+◌, ◌-◌, ◌<◌, ◌≤◌, inl, inr, ◌⊎◌, Bool, true, false, cond, ◌==◌, ◌&&◌, ◌||◌, List, ◌∷◌, [], length, get_or, set, take}
+use Rattle.std.proofs.Common.{replicate, All, AllPairs, Contains, IsPermutation, refl, sym, ap, subst, ◌∙◌, arith, add-one}
 use Rattle.std.specs.List.{list_any, range_with_len}
 use Rattle.std.proofs.lemmas.Bool.{cases_Bool, cases_lt, cases_eq, eqb-true, eq-eqb, ne_eqb, and_parts, false≢true}
 use Rattle.std.proofs.lemmas.Grind.{get_or-set_at}
@@ -7,6 +8,7 @@ use Rattle.std.proofs.lemmas.List.{length-set, length-replicate, get_or-replicat
 use Rattle.std.proofs.lemmas.List.Elements.{All-contains, Contains-get_or}
 use Rattle.std.proofs.lemmas.List.Sums.{sum_by_more}
 use Rattle.std.proofs.lemmas.List.Sorted.{list_any-IsPermutation}
+use Rattle.msp_class.specs.declared.sizes.TheConstants.{MOST_JOBS}
 use Rattle.msp_class.proofs.Sums.{cond-yes, cond-no, eqb_comm, sum_by-same, sum_by-agree, sum_by-add, sum_by-contains, sum_by-some, AllPairs-head, OnceBelow-range, OnceBelow-contains}
 use Rattle.msp_instance.specs.declared.Arc.{Arc}
 use Rattle.msp_instance.specs.declared.Instance.{Instance}
@@ -23,8 +25,13 @@ use Rattle.msp_lexical.specs.Counts.{arcs_between, arcs_into, last_into, AreLink
 abbrev no_arc : Arc
 no_arc = record { before = 0; after = 0 }
 
-pub AreLinks-none : (arcs : List Arc) (earlier : List ℕ) → earlier ≡ [] → AreLinks arcs 0 (replicate 400 0) earlier
-AreLinks-none arcs earlier e = record { whole = length-replicate {A = ℕ} 400 0; of_jobs = λ j l. get_or-replicate 400 j 0 0 l; len = ap length e; of_arcs = λ k l. absurd (omega (arith, l)) }
+pub AreLinks-none : (arcs : List Arc) (earlier : List ℕ) → earlier ≡ [] → AreLinks arcs 0 (replicate MOST_JOBS 0) earlier
+AreLinks-none arcs earlier e = record {
+  whole = length-replicate {A = ℕ} MOST_JOBS 0;
+  of_jobs = λ j l. get_or-replicate MOST_JOBS j 0 0 l;
+  len = ap length e;
+  of_arcs = λ k l. absurd (omega (arith, l));
+}
 
 -- ---- the last arc that enters a job
 last_into-small : (arcs : List Arc) (j n : ℕ) → last_into arcs j n ≤ n
@@ -39,7 +46,8 @@ last_into-enters : (arcs : List Arc) (j n : ℕ) → 0 < last_into arcs j n → 
 last_into-enters arcs j zero l = absurd (omega (arith, l))
 last_into-enters arcs j (suc n) l = by ((get_or arcs n no_arc).after == j) refl (last_into-enters arcs j n) l
   where
-    by : (b : Bool) → ((get_or arcs n no_arc).after == j) ≡ b → (0 < last_into arcs j n → (get_or arcs (last_into arcs j n - 1) no_arc).after ≡ j) → 0 < cond b (suc n) (last_into arcs j n) → (get_or arcs (cond b (suc n) (last_into arcs j n) - 1) no_arc).after ≡ j
+    by : (b : Bool) → ((get_or arcs n no_arc).after == j) ≡ b → (0 < last_into arcs j n → (get_or arcs (last_into arcs j n - 1) no_arc).after ≡ j)
+        → 0 < cond b (suc n) (last_into arcs j n) → (get_or arcs (cond b (suc n) (last_into arcs j n) - 1) no_arc).after ≡ j
     by true e h some = let at : suc n - 1 ≡ n = omega arith in ap (λ m. (get_or arcs m no_arc).after) at ∙ eqb-true _ j e
     by false e h some = h some
 
@@ -57,7 +65,8 @@ between_last arcs j k (suc n) l = by (cases_Bool ((get_or arcs n no_arc).after =
     to : Bool → ℕ
     to b = arcs_between (take (cond b (suc n) (last_into arcs k n)) arcs) j k
 
-    by : (((get_or arcs n no_arc).after == k) ≡ true) ⊎ (((get_or arcs n no_arc).after == k) ≡ false) → arcs_between (take n arcs) j k ≡ arcs_between (take (last_into arcs k n) arcs) j k → arcs_between (take (suc n) arcs) j k ≡ to ((get_or arcs n no_arc).after == k)
+    by : (((get_or arcs n no_arc).after == k) ≡ true) ⊎ (((get_or arcs n no_arc).after == k) ≡ false)
+        → arcs_between (take n arcs) j k ≡ arcs_between (take (last_into arcs k n) arcs) j k → arcs_between (take (suc n) arcs) j k ≡ to ((get_or arcs n no_arc).after == k)
     by (inl e) h = sym (ap to e)
     by (inr e) h =
         let none : joins j k (get_or arcs n no_arc) ≡ 0 = ap (λ b. cond (b && ((get_or arcs n no_arc).before == j)) 1 0) e in
@@ -67,24 +76,26 @@ between_last arcs j k (suc n) l = by (cases_Bool ((get_or arcs n no_arc).after =
 
 -- ---- the arcs that enter a job are taken away, from the last to the first
 pub record IsReleasing (arcs : List Arc) (job : ℕ) (old now : List ℕ) (number : ℕ) : Type 0 where
-  pub whole : length now ≡ 400
+  pub whole : length now ≡ MOST_JOBS
   pub few : number ≤ length arcs
   pub enters : 0 < number → (get_or arcs (number - 1) no_arc).after ≡ job
-  pub each : (j : ℕ) → j < 400 → get_or now j 0 + arcs_between arcs j job ≡ get_or old j 0 + arcs_between (take number arcs) j job
+  pub each : (j : ℕ) → j < MOST_JOBS → get_or now j 0 + arcs_between arcs j job ≡ get_or old j 0 + arcs_between (take number arcs) j job
 
 module _ (arcs : List Arc) (job : ℕ) (old last earlier : List ℕ) (links : AreLinks arcs (length arcs) last earlier) where
-  pub IsReleasing-start : (number : ℕ) → length old ≡ 400 → job < 400 → number ≡ get_or last job 0 → IsReleasing arcs job old old number
+  pub IsReleasing-start : (number : ℕ) → length old ≡ MOST_JOBS → job < MOST_JOBS → number ≡ get_or last job 0 → IsReleasing arcs job old old number
   IsReleasing-start number whole inside read = record {
     whole = whole;
     few = omega (arith, is, last_into-small arcs job (length arcs));
     enters = subst (λ m. 0 < m → (get_or arcs (m - 1) no_arc).after ≡ job) (sym is) (last_into-enters arcs job (length arcs));
-    each = λ j l. ap (λ m. get_or old j 0 + m) (ap (λ xs. arcs_between xs j job) (sym (take_all (length arcs) arcs (omega arith))) ∙ between_last arcs j job (length arcs) (omega arith) ∙ ap (λ m. arcs_between (take m arcs) j job) (sym is));
+    each = λ j l. ap (λ m. get_or old j 0 + m) (ap (λ xs. arcs_between xs j job) (sym (take_all (length arcs) arcs (omega arith)))
+        ∙ between_last arcs j job (length arcs) (omega arith) ∙ ap (λ m. arcs_between (take m arcs) j job) (sym is));
   }
     where
       is : number ≡ last_into arcs job (length arcs)
       is = read ∙ links.of_jobs job inside
 
-  module _ (now : List ℕ) (number at next : ℕ) (h : IsReleasing arcs job old now number) (some : 0 < number) (ends : All (λ a. a.before < 400) arcs) (counted : (j : ℕ) → j < 400 → arcs_between arcs j job ≤ get_or old j 0)
+  module _ (now : List ℕ) (number at next : ℕ) (h : IsReleasing arcs job old now number)
+      (some : 0 < number) (ends : All (λ a. a.before < MOST_JOBS) arcs) (counted : (j : ℕ) → j < MOST_JOBS → arcs_between arcs j job ≤ get_or old j 0)
       (own : at ≡ (get_or arcs (number - 1) no_arc).before) (next_read : next ≡ get_or earlier (number - 1) next) where
     abbrev p : ℕ
     p = number - 1
@@ -95,8 +106,8 @@ module _ (arcs : List Arc) (job : ℕ) (old last earlier : List ℕ) (links : Ar
     early : p < length arcs
     early = omega (arith, some, h.few)
 
-    inside : at < 400
-    inside = subst (λ m. m < 400) (sym own) (ends p no_arc early)
+    inside : at < MOST_JOBS
+    inside = subst (λ m. m < MOST_JOBS) (sym own) (ends p no_arc early)
 
     more : (j : ℕ) → arcs_between (take number arcs) j job ≡ arcs_between (take p arcs) j job + cond (at == j) 1 0
     more j =
@@ -124,9 +135,19 @@ module _ (arcs : List Arc) (job : ℕ) (old last earlier : List ℕ) (links : Ar
       each = each;
     }
       where
-        each : (j : ℕ) → j < 400 → get_or (set now at (get_or now at 0 - 1)) j 0 + arcs_between arcs j job ≡ get_or old j 0 + arcs_between (take next arcs) j job
+        each : (j : ℕ) → j < MOST_JOBS → get_or (set now at (get_or now at 0 - 1)) j 0 + arcs_between arcs j job ≡ get_or old j 0 + arcs_between (take next arcs) j job
         each j b = elim (cases_eq j at) [
-          | inl same ↦ omega (arith, get_or-set_at now at j (get_or now at 0 - 1) 0 same (omega (arith, b, same, h.whole)), ap (λ k. get_or now k 0) same, releases, h.each j b, more j, cond-yes 1 (eq-eqb at j (sym same)), gone j)
+          | inl same ↦ omega (
+            arith,
+            get_or-set_at now at j (get_or now at 0 - 1) 0 same
+                (omega (arith, b, same, h.whole)),
+            ap (λ k. get_or now k 0) same,
+            releases,
+            h.each j b,
+            more j,
+            cond-yes 1 (eq-eqb at j (sym same)),
+            gone j,
+          )
           | inr differ ↦ omega (arith, get_or-set_other now at j (get_or now at 0 - 1) 0 differ, h.each j b, more j, cond-no 1 (ne_eqb at j (λ e. differ (sym e))), gone j)
         ]
 
@@ -138,10 +159,12 @@ into jobs j a = cond (list_any (λ k. k == a.after) jobs && (a.before == j)) 1 0
 pub arcs_into-all : (arcs : List Arc) (n : ℕ) (jobs : List ℕ) (j : ℕ) → All (λ a. a.after < n) arcs → jobs ≡ range_with_len 0 n → arcs_into arcs jobs j ≡ leaving arcs j
 arcs_into-all arcs n jobs j ends e =
     sum_by-same (into jobs j) (λ a. cond (a.before == j) 1 0) arcs
-    (λ k d l. ap (λ b. cond (b && ((get_or arcs k d).before == j)) 1 0) (list_any-from_Contains jobs (get_or arcs k d).after (subst (λ xs. Contains xs (get_or arcs k d).after) (sym e) (OnceBelow-contains (OnceBelow-range n) (get_or arcs k d).after (ends k d l)))))
+    (λ k d l. ap (λ b. cond (b && ((get_or arcs k d).before == j)) 1 0)
+    (list_any-from_Contains jobs (get_or arcs k d).after (subst (λ xs. Contains xs (get_or arcs k d).after) (sym e) (OnceBelow-contains (OnceBelow-range n) (get_or arcs k d).after (ends k d l)))))
 
 -- a job leaves the list
-pub arcs_into-less : (arcs : List Arc) (jobs rest : List ℕ) (job j : ℕ) → IsPermutation jobs (job ∷ rest) → AllPairs (λ j k. j ≢ k) jobs → arcs_into arcs jobs j ≡ arcs_into arcs rest j + arcs_between arcs j job
+pub arcs_into-less : (arcs : List Arc) (jobs rest : List ℕ) (job j : ℕ)
+    → IsPermutation jobs (job ∷ rest) → AllPairs (λ j k. j ≢ k) jobs → arcs_into arcs jobs j ≡ arcs_into arcs rest j + arcs_between arcs j job
 arcs_into-less arcs jobs rest job j all once = sum_by-agree (into jobs j) (λ a. into rest j a + joins j job a) arcs (λ a. less a.after (a.before == j)) ∙ sum_by-add (into rest j) (joins j job) arcs
   where
     own : (t r b : Bool) → (t ≡ true → r ≡ false) → cond {A = ℕ} ((t || r) && b) 1 0 ≡ cond (r && b) 1 0 + cond (t && b) 1 0
@@ -154,7 +177,8 @@ arcs_into-less arcs jobs rest job j all once = sum_by-agree (into jobs j) (λ a.
 
     out : list_any (λ k. k == job) rest ≡ false
     out = elim (cases_Bool (list_any (λ k. k == job) rest)) [
-      | inl e ↦ absurd (All-contains (λ k. job ≢ k) rest job (AllPairs-head (λ j k. j ≢ k) job rest (AllPairs-permutation (λ j k. j ≢ k) (λ j k differ e. differ (sym e)) jobs (job ∷ rest) all once)) (Contains-from_list_any rest job e) refl)
+      | inl e ↦ absurd (All-contains (λ k. job ≢ k) rest job
+          (AllPairs-head (λ j k. j ≢ k) job rest (AllPairs-permutation (λ j k. j ≢ k) (λ j k differ e. differ (sym e)) jobs (job ∷ rest) all once)) (Contains-from_list_any rest job e) refl)
       | inr e ↦ e
     ]
 
@@ -198,15 +222,17 @@ module _ (i : Instance) (left : List ℕ) where
 
 -- ---- the counts of arcs into a list, as the code passes them
 module _ (arcs shown : List Arc) (same : shown ≡ arcs) where
-  pub counts-start : (n : ℕ) (jobs counts : List ℕ) → All (λ a. a.after < n) arcs → jobs ≡ range_with_len 0 n → ((j : ℕ) → j < 400 → get_or counts j 0 ≡ leaving shown j) → (j : ℕ) → j < 400 → get_or counts j 0 ≡ arcs_into arcs jobs j
+  pub counts-start : (n : ℕ) (jobs counts : List ℕ) → All (λ a. a.after < n) arcs → jobs ≡ range_with_len 0 n
+      → ((j : ℕ) → j < MOST_JOBS → get_or counts j 0 ≡ leaving shown j) → (j : ℕ) → j < MOST_JOBS → get_or counts j 0 ≡ arcs_into arcs jobs j
   counts-start n jobs counts ends e h j l = h j l ∙ ap (λ xs. leaving xs j) same ∙ sym (arcs_into-all arcs n jobs j ends e)
 
-  module _ (left rest counts : List ℕ) (job : ℕ) (all : IsPermutation left (job ∷ rest)) (once : AllPairs (λ j k. j ≢ k) left) (h : (j : ℕ) → j < 400 → get_or counts j 0 ≡ arcs_into arcs left j) where
-    less : (j : ℕ) → j < 400 → get_or counts j 0 ≡ arcs_into arcs rest j + arcs_between shown j job
+  module _ (left rest counts : List ℕ) (job : ℕ) (all : IsPermutation left (job ∷ rest))
+      (once : AllPairs (λ j k. j ≢ k) left) (h : (j : ℕ) → j < MOST_JOBS → get_or counts j 0 ≡ arcs_into arcs left j) where
+    less : (j : ℕ) → j < MOST_JOBS → get_or counts j 0 ≡ arcs_into arcs rest j + arcs_between shown j job
     less j l = h j l ∙ arcs_into-less arcs left rest job j all once ∙ ap (λ xs. arcs_into arcs rest j + arcs_between xs j job) (sym same)
 
-    pub counts-enough : (j : ℕ) → j < 400 → arcs_between shown j job ≤ get_or counts j 0
+    pub counts-enough : (j : ℕ) → j < MOST_JOBS → arcs_between shown j job ≤ get_or counts j 0
     counts-enough j l = omega (arith, less j l)
 
-    pub counts-next : (new : List ℕ) → ((j : ℕ) → j < 400 → get_or new j 0 + arcs_between shown j job ≡ get_or counts j 0) → (j : ℕ) → j < 400 → get_or new j 0 ≡ arcs_into arcs rest j
+    pub counts-next : (new : List ℕ) → ((j : ℕ) → j < MOST_JOBS → get_or new j 0 + arcs_between shown j job ≡ get_or counts j 0) → (j : ℕ) → j < MOST_JOBS → get_or new j 0 ≡ arcs_into arcs rest j
     counts-next new g j l = omega (arith, g j l, less j l)

@@ -1,5 +1,6 @@
 -- The slots cut into segments: one segment more, and all of them.
-use Rattle.std.proofs.Common.{◌≡◌, ◌≢◌, ℕ, zero, suc, ◌+◌, ◌-◌, ◌*◌, ◌/◌, ◌<◌, ◌≤◌, inl, inr, Bool, true, List, [], ◌∷◌, ◌++◌, length, get_or, slice_index, All, AllPairs, refl, sym, ap, ap₂, subst, subst₂, ◌∙◌, arith, append_assoc}
+use Rattle.std.proofs.Common.{◌≡◌, ◌≢◌, ℕ, zero, suc, ◌+◌, ◌-◌, ◌*◌, ◌/◌, ◌<◌, ◌≤◌, inl, inr, Bool, true, List, [], ◌∷◌, ◌++◌, length, get_or, slice_index, All, AllPairs, refl}
+use Rattle.std.proofs.Common.{sym, ap, ap₂, subst, subst₂, ◌∙◌, arith, append_assoc}
 use Rattle.std.specs.List.{AllAdjacentBelow, flat_map}
 use Rattle.std.proofs.lemmas.Bool.{cases_lt}
 use Rattle.std.proofs.lemmas.List.{length-append, get_or_append_left, get_or-append_right}
@@ -32,14 +33,16 @@ length-segment : (first second : ℕ → ℕ) (x d : ℕ) → length (segment fi
 length-segment first second x zero = refl
 length-segment first second x (suc d) = omega (arith, length-segment first second (x + 1) d)
 
-adjacent-push : {X : Type 0} (R : X → X → Type 0) (xs : List X) (y : X) → AllAdjacentBelow R xs (length xs) → ((k : ℕ) (d : X) → k + 1 ≡ length xs → R (get_or xs k d) y) → AllAdjacentBelow R (xs ++ y ∷ []) (length (xs ++ y ∷ []))
+adjacent-push : {X : Type 0} (R : X → X → Type 0) (xs : List X) (y : X) → AllAdjacentBelow R xs (length xs)
+    → ((k : ℕ) (d : X) → k + 1 ≡ length xs → R (get_or xs k d) y) → AllAdjacentBelow R (xs ++ y ∷ []) (length (xs ++ y ∷ []))
 adjacent-push R xs y h last k d l = elim (cases_lt (k + 1) (length xs)) [
   | inl less ↦ subst₂ R (sym (get_or_append_left xs (y ∷ []) d k (omega (arith, less)))) (sym (get_or_append_left xs (y ∷ []) d (k + 1) less)) (h k d less)
   | inr more ↦
       let n = length-append xs (y ∷ []) in
       let at : k + 1 ≡ length xs = omega (arith, more, l, n) in
       let zero_is : k + 1 - length xs ≡ 0 = omega (arith, at) in
-      subst₂ R (sym (get_or_append_left xs (y ∷ []) d k (omega (arith, at)))) (sym (get_or-append_right xs (y ∷ []) (length xs) (k + 1) d refl (omega (arith, at)) ∙ ap (λ p. get_or (y ∷ []) p d) zero_is)) (last k d at)
+      subst₂ R (sym (get_or_append_left xs (y ∷ []) d k (omega (arith, at))))
+      (sym (get_or-append_right xs (y ∷ []) (length xs) (k + 1) d refl (omega (arith, at)) ∙ ap (λ p. get_or (y ∷ []) p d) zero_is)) (last k d at)
 ]
 
 module _ (i : Instance) (two : i.machines ≡ 2) (slots : ℕ) (slot label first second : ℕ → ℕ) (leads : ℕ → ℕ → Bool) (s : AreSlots (length i.jobs) slots slot label first second leads)
@@ -89,7 +92,8 @@ module _ (i : Instance) (two : i.machines ≡ 2) (slots : ℕ) (slot label first
       let rest = (members d (x + 1) (omega (arith, l)) next goes).0 in
       let others = segment first second (x + 1) d in
       AllPairs-cons (λ j k. j ≢ k) (first x) (second x ∷ others)
-      (All-cons (λ k. first x ≢ k) (second x) others (λ same_job. absurd (omega (arith, b.1, ap label same_job))) (All-weaker (IsMember (x + 1) (top (x + 1))) (λ k. first x ≢ k) (λ k h same_job. absurd (omega (arith, h.1, ap slot same_job, f.1))) others rest))
+      (All-cons (λ k. first x ≢ k) (second x) others (λ same_job. absurd (omega (arith, b.1, ap label same_job)))
+      (All-weaker (IsMember (x + 1) (top (x + 1))) (λ k. first x ≢ k) (λ k h same_job. absurd (omega (arith, h.1, ap slot same_job, f.1))) others rest))
       (AllPairs-cons (λ j k. j ≢ k) (second x) others
       (All-weaker (IsMember (x + 1) (top (x + 1))) (λ k. second x ≢ k) (λ k h same_job. absurd (omega (arith, h.1, ap slot same_job, b.0))) others rest)
       (apart_in d (x + 1) (omega (arith, l)) next goes))
@@ -121,7 +125,8 @@ module _ (i : Instance) (two : i.machines ≡ 2) (slots : ℕ) (slot label first
 
   All-flat : (P : ℕ → Type 0) (segments : List (List ℕ)) → All (λ jobs. All P jobs) segments → All P (flat_map (λ jobs. jobs) segments)
   All-flat P [] h = All-nil P
-  All-flat P (jobs ∷ segments) h = All-append P jobs (flat_map (λ jobs. jobs) segments) (All-head (λ jobs. All P jobs) jobs segments h) (All-flat P segments (All-tail (λ jobs. All P jobs) jobs segments h))
+  All-flat P (jobs ∷ segments) h = All-append P jobs
+      (flat_map (λ jobs. jobs) segments) (All-head (λ jobs. All P jobs) jobs segments h) (All-flat P segments (All-tail (λ jobs. All P jobs) jobs segments h))
 
   halves : (m l d : ℕ) → m ≡ 2 → l ≡ 2 * d + 1 → (l + (m - 1)) / m ≡ d + 1
   halves m l d e f = ap (λ m. (l + (m - 1)) / m) e ∙ omega (arith, f)
@@ -156,7 +161,8 @@ module _ (i : Instance) (two : i.machines ≡ 2) (slots : ℕ) (slot label first
         let (in_z, from_z, same, high_z) = new_members p z b in
         let j = get_or new p z in
         let early_j = new_early p z b in
-        paths j x in_z c (each_leads n slots slot label first second leads s top t (from + d) (omega (arith, after, (s.only x c).0)) e j x in_z (omega (arith, early_j.1)) (same ∙ top_same) (omega (arith, high_z, top_same)) c (omega (arith, after)) high)
+        paths j x in_z c (each_leads n slots slot label first second leads s top t (from + d) (omega (arith, after, (s.only x c).0))
+        e j x in_z (omega (arith, early_j.1)) (same ∙ top_same) (omega (arith, high_z, top_same)) c (omega (arith, after)) high)
 
     lead_new : (k : ℕ) (a : List ℕ) → k + 1 ≡ length segments → LeadTo i (get_or segments k a) new
     lead_new k a at p z b q y c =
@@ -173,7 +179,8 @@ module _ (i : Instance) (two : i.machines ≡ 2) (slots : ℕ) (slot label first
     pub IsCut-next : IsCut (from + d + 1) (segments ++ new ∷ [])
     IsCut-next = record {
       some = All-push (λ jobs. 0 < length jobs) segments new h.some (omega (arith, length-segment first second from d));
-      early = All-push (λ jobs. All (IsEarly (from + d + 1)) jobs) segments new (All-weaker (λ jobs. All (IsEarly from) jobs) (λ jobs. All (IsEarly (from + d + 1)) jobs) (λ jobs a. All-weaker (IsEarly from) (IsEarly (from + d + 1)) (λ j b. (b.0, omega (arith, b.1))) jobs a) segments h.early) new_early;
+      early = All-push (λ jobs. All (IsEarly (from + d + 1)) jobs) segments new (All-weaker (λ jobs. All (IsEarly from) jobs) (λ jobs. All (IsEarly (from + d + 1)) jobs)
+          (λ jobs a. All-weaker (IsEarly from) (IsEarly (from + d + 1)) (λ j b. (b.0, omega (arith, b.1))) jobs a) segments h.early) new_early;
       apart = apart_next;
       lead = adjacent-push (LeadTo i) segments new h.lead lead_new;
       on = last;
@@ -214,8 +221,12 @@ module _ (i : Instance) (two : i.machines ≡ 2) (slots : ℕ) (slot label first
         | inl e ↦ let same : x ≡ x + 0 = omega arith in (0, omega (arith, b), subst Ends same e, λ y from to. absurd (omega (arith, from, to)))
         | inr goes ↦
             let (d, c, e, inner) = next_end more (x + 1) (omega (arith, g)) goes.1 in
-            let same : (x + 1) + d ≡ x + suc d = omega arith in
-            (suc d, omega (arith, c), subst Ends same e, λ y from to. elim (cases_lt x y) [ inl after ↦ inner y (omega (arith, after)) (omega (arith, to)) | inr at ↦ let here : x ≡ y = omega (arith, from, at) in subst Goes here goes ])
+            let same : (x + 1) + d ≡ x + suc d = omega arith in (
+              suc d,
+              omega (arith, c),
+              subst Ends same e,
+              λ y from to. elim (cases_lt x y) [ inl after ↦ inner y (omega (arith, after)) (omega (arith, to)) | inr at ↦ let here : x ≡ y = omega (arith, from, at) in subst Goes here goes ],
+            )
       ]
 
   pub some_segments : (segments : List (List ℕ)) × AreSegments i segments × (segments_bound i segments ≡ slots)
@@ -258,12 +269,14 @@ module _ (i : Instance) (labels seats tops : List ℕ) (slots : ℕ) (c : AreCut
       let goes = goes_or_ends (slots - 1) last (none (slots - 1) (omega (arith, l)) (omega (arith, l, past))) in
       omega (arith, goes.1)
 
-  pub CutTo-next : (from last : ℕ) (segments new : List (List ℕ)) (jobs : List ℕ) → from ≤ last → last < slots → top last ≡ label (first last) → ((x : ℕ) → from ≤ x → x < last → top x ≢ label (first x)) → jobs ≡ segment first second from (last - from) → new ≡ segments ++ jobs ∷ []
+  pub CutTo-next : (from last : ℕ) (segments new : List (List ℕ)) (jobs : List ℕ) → from ≤ last → last < slots → top last ≡ label (first last)
+      → ((x : ℕ) → from ≤ x → x < last → top x ≢ label (first x)) → jobs ≡ segment first second from (last - from) → new ≡ segments ++ jobs ∷ []
       → CutTo i labels seats tops slots c from segments → CutTo i labels seats tops slots c (last + 1) new
   CutTo-next from last segments new jobs le l ends goes e f h = record {
     near = omega (arith, l);
     cut = subst₂ (IsCut i c.two slots c.slot label first second c.leads c.are_slots c.paths top c.are_tops) (ap (λ x. x + 1) same) (sym (f ∙ ap (λ js. segments ++ js ∷ []) e))
-        (IsCut-next i c.two slots c.slot label first second c.leads c.are_slots c.paths top c.are_tops from (last - from) segments h.cut (omega (arith, same, l)) (subst (IsEnd (length i.jobs) slots label first second top) (sym same) (ends_here last l ends))
+        (IsCut-next i c.two slots c.slot label first second c.leads c.are_slots c.paths top c.are_tops from (last - from)
+        segments h.cut (omega (arith, same, l)) (subst (IsEnd (length i.jobs) slots label first second top) (sym same) (ends_here last l ends))
         (λ y after before. let early : y < last = omega (arith, same, before) in goes_or_ends y (omega (arith, early, l)) (goes y after early)));
   }
     where
@@ -273,16 +286,20 @@ module _ (i : Instance) (labels seats tops : List ℕ) (slots : ℕ) (c : AreCut
   pub AreSegments-cut : (from : ℕ) (segments : List (List ℕ)) → slots ≤ from → CutTo i labels seats tops slots c from segments → AreSegments i segments × (segments_bound i segments ≡ slots)
   AreSegments-cut from segments l h =
       let same : from ≡ slots = omega (arith, l, h.near) in
-      AreSegments-end i c.two slots c.slot label first second c.leads c.are_slots c.paths top c.are_tops slots segments (subst (λ x. IsCut i c.two slots c.slot label first second c.leads c.are_slots c.paths top c.are_tops x segments) same h.cut)
+      AreSegments-end i c.two slots c.slot label first second c.leads c.are_slots c.paths top c.are_tops slots segments
+      (subst (λ x. IsCut i c.two slots c.slot label first second c.leads c.are_slots c.paths top c.are_tops x segments) same h.cut)
 
 -- ---- the jobs of a segment, slot by slot
-pub pairs-next : (first second : ℕ → ℕ) (from slot : ℕ) (old middle new : List ℕ) → from ≤ slot → middle ≡ old ++ first slot ∷ [] → new ≡ middle ++ second slot ∷ [] → old ≡ pairs first second from (slot - from) → new ≡ pairs first second from (slot + 1 - from)
+pub pairs-next : (first second : ℕ → ℕ) (from slot : ℕ) (old middle new : List ℕ) → from ≤ slot → middle ≡ old ++ first slot ∷ []
+    → new ≡ middle ++ second slot ∷ [] → old ≡ pairs first second from (slot - from) → new ≡ pairs first second from (slot + 1 - from)
 pairs-next first second from slot old middle new le e f h =
     let here : from + (slot - from) ≡ slot = omega (arith, le) in
     let next : slot - from + 1 ≡ slot + 1 - from = omega (arith, le) in
-    f ∙ ap (λ xs. xs ++ second slot ∷ []) e ∙ append_assoc old (first slot ∷ []) (second slot ∷ []) ∙ ap₂ (λ xs y. xs ++ first y ∷ second y ∷ []) h (sym here) ∙ sym (pairs-push first second from (slot - from)) ∙ ap (pairs first second from) next
+    f ∙ ap (λ xs. xs ++ second slot ∷ []) e ∙ append_assoc old (first slot ∷ []) (second slot ∷ [])
+    ∙ ap₂ (λ xs y. xs ++ first y ∷ second y ∷ []) h (sym here) ∙ sym (pairs-push first second from (slot - from)) ∙ ap (pairs first second from) next
 
-pub segment-made : (first second : ℕ → ℕ) (from slot last : ℕ) (old new : List ℕ) → from ≤ last → slot ≡ last → new ≡ old ++ first last ∷ [] → old ≡ pairs first second from (slot - from) → new ≡ segment first second from (last - from)
+pub segment-made : (first second : ℕ → ℕ) (from slot last : ℕ) (old new : List ℕ)
+    → from ≤ last → slot ≡ last → new ≡ old ++ first last ∷ [] → old ≡ pairs first second from (slot - from) → new ≡ segment first second from (last - from)
 segment-made first second from slot last old new le e f h =
     let here : from + (last - from) ≡ last = omega (arith, le) in
     f ∙ ap₂ (λ xs y. xs ++ first y ∷ []) (h ∙ ap (λ s. pairs first second from (s - from)) e) (sym here) ∙ segment_from_pairs first second from (last - from)

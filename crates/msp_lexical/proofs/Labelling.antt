@@ -1,5 +1,6 @@
 -- One label more, and the labels of all jobs.
-use Rattle.std.proofs.Common.{◌≡◌, ◌≢◌, ℕ, zero, suc, ◌+◌, ◌<◌, ◌≤◌, ◌⊎◌, inl, inr, Bool, true, false, not, List, ◌∷◌, ◌++◌, length, get_or, set, filter, slice_index, All, AllPairs, Contains, IsTrue, ◌↔◌, IsPermutation, refl, sym, ap, subst, subst₂, ◌∙◌, arith}
+use Rattle.std.proofs.Common.{◌≡◌, ◌≢◌, ℕ, zero, suc, ◌+◌, ◌<◌, ◌≤◌, ◌⊎◌, inl, inr, Bool, true, false, not, List, ◌∷◌, ◌++◌, length, get_or, set, filter, slice_index, All}
+use Rattle.std.proofs.Common.{AllPairs, Contains, IsTrue, ◌↔◌, IsPermutation, refl, sym, ap, subst, subst₂, ◌∙◌, arith}
 use Rattle.std.specs.List.{remove, range_with_len}
 use Rattle.std.proofs.lemmas.List.{get_or_default, get_or-set_same, get_or-set_other}
 use Rattle.std.proofs.lemmas.Bool.{cases_Bool, cases_lt, cases_eq, false≢true, not-true}
@@ -7,6 +8,7 @@ use Rattle.std.proofs.lemmas.List.Elements.{All-contains, Contains-get_or, filte
 use Rattle.std.proofs.lemmas.List.Kept.{AllPairs-filter}
 use Rattle.std.proofs.lemmas.List.Quantifiers.{all_pairs_remove}
 use Rattle.std.proofs.lemmas.List.Sorted.{Contains-permutation, length_permutation, IsPermutation-sym, IsPermutation-trans, IsPermutation-cons, IsPermutation-remove, IsPermutation-filter_both}
+use Rattle.msp_class.specs.declared.sizes.TheConstants.{MOST_JOBS}
 use Rattle.msp_class.proofs.Sums.{AllPairs-head, AllPairs-tail, OnceBelow-range, OnceBelow-contains, OnceBelow-distinct, length-OnceBelow}
 use Rattle.msp_instance.specs.declared.Instance.{Instance}
 use Rattle.msp_instance.specs.Conditions.{IsAcyclic}
@@ -39,7 +41,8 @@ module _ (i : Instance) (ends : All (λ a. (a.before < length i.jobs) × (a.afte
 abbrev pub Shows : Instance → (ℕ → ℕ → Bool) → Type 0
 Shows i leads = (j k : ℕ) → j < length i.jobs → k < length i.jobs → IsTrue (leads j k) ↔ HasPath i.arcs j k
 
-module _ (i : Instance) (leads : ℕ → ℕ → Bool) (shows : Shows i leads) (ends : All (λ a. (a.before < length i.jobs) × (a.after < length i.jobs)) i.arcs) (acyclic : IsAcyclic i) (few : length i.jobs ≤ 400) where
+module _ (i : Instance) (leads : ℕ → ℕ → Bool) (shows : Shows i leads)
+    (ends : All (λ a. (a.before < length i.jobs) × (a.after < length i.jobs)) i.arcs) (acyclic : IsAcyclic i) (few : length i.jobs ≤ MOST_JOBS) where
   abbrev n : ℕ
   n = length i.jobs
 
@@ -59,7 +62,7 @@ module _ (i : Instance) (leads : ℕ → ℕ → Bool) (shows : Shows i leads) (
     parted = filter stays rest ++ filter rises rest
 
     abbrev Unlabelled : ℕ → Type 0
-    Unlabelled j = (j < n) × (label j ≡ 400)
+    Unlabelled j = (j < n) × (label j ≡ MOST_JOBS)
 
     here : Contains left job
     here = (place, l, sym is)
@@ -67,7 +70,7 @@ module _ (i : Instance) (leads : ℕ → ℕ → Bool) (shows : Shows i leads) (
     job_is : Unlabelled job
     job_is = All-contains Unlabelled left job h.inside here
 
-    small : count < 400
+    small : count < MOST_JOBS
     small = omega (arith, h.size, l, few)
 
     pub leaves : IsPermutation left (job ∷ parted)
@@ -84,7 +87,10 @@ module _ (i : Instance) (leads : ℕ → ℕ → Bool) (shows : Shows i leads) (
     distinct_all = AllPairs-permutation (λ j k. j ≢ k) (λ j k differ e. differ (sym e)) left (job ∷ parted) leaves h.once
 
     from_parted : (j : ℕ) → Contains parted j → Contains left j × (j ≢ job)
-    from_parted j c = (Contains-permutation (job ∷ parted) left j (IsPermutation-sym left (job ∷ parted) leaves) (later c), λ e. All-contains (λ k. job ≢ k) parted j (AllPairs-head (λ j k. j ≢ k) job parted distinct_all) c (sym e))
+    from_parted j c = (
+      Contains-permutation (job ∷ parted) left j (IsPermutation-sym left (job ∷ parted) leaves) (later c),
+      λ e. All-contains (λ k. job ≢ k) parted j (AllPairs-head (λ j k. j ≢ k) job parted distinct_all) c (sym e),
+    )
       where
         later : Contains parted j → Contains (job ∷ parted) j
         later (k, b, e) = (suc k, omega (arith, b), e)
@@ -117,23 +123,24 @@ module _ (i : Instance) (leads : ℕ → ℕ → Bool) (shows : Shows i leads) (
         by j b (one step) = first j step
         by j b (more {k = k} step p) = let less = first k step in omega (arith, less, path_lower i ends label count h.lower p less)
 
-    Outranks-kept : (a b : ℕ) → a < n → b < n → label b < count → Outranks n leads label 401 a b → Outranks n leads next 401 a b
+    Outranks-kept : (a b : ℕ) → a < n → b < n → label b < count → Outranks n leads label (MOST_JOBS + 1) a b → Outranks n leads next (MOST_JOBS + 1) a b
     Outranks-kept a b in_a in_b has r j c limit to not_to =
         let less = path_lower i ends label count h.lower ((shows b j in_b c).0 to) has in
         let at = old j (omega (arith, less, has)) in
         let (k, d, bound, greater, to_k, not_k) = r j c (omega (arith, less, has, small)) to not_to in
         (k, d, (by k bound greater less at.1).0, (by k bound greater less at.1).1, to_k, not_k)
       where
-        by : (k : ℕ) → label k < 401 → label j < label k → label j < label b → next j ≡ label j → (next k < 401) × (next j < next k)
+        by : (k : ℕ) → label k < (MOST_JOBS + 1) → label j < label k → label j < label b → next j ≡ label j → (next k < (MOST_JOBS + 1)) × (next j < next k)
         by k bound greater less same = elim (cases_eq k job) [
           | inl e ↦ let at : next k ≡ count = ap next e ∙ given in (omega (arith, at, small), omega (arith, at, same, less, has))
           | inr differ ↦ let at = kept k differ in (omega (arith, at, bound), omega (arith, at, same, greater))
         ]
 
-    ranked_next : (a b : ℕ) → a < n → b < n → next b < count + 1 → next b < next a → Outranks n leads next 401 a b
+    ranked_next : (a b : ℕ) → a < n → b < n → next b < count + 1 → next b < next a → Outranks n leads next (MOST_JOBS + 1) a b
     ranked_next a b in_a in_b has more_ = elim (cases_eq b job) [
-      | inl e ↦ subst (λ x. Outranks n leads next 401 a x) (sym e) (newest (omega (arith, ap next e, given, more_)))
-      | inr differ ↦ let at = kept b differ in let small_b = labelled b in_b differ (omega (arith, at, has)) in Outranks-kept a b in_a in_b small_b (h.ranked a b in_a in_b small_b (before (omega (arith, at, more_)) small_b))
+      | inl e ↦ subst (λ x. Outranks n leads next (MOST_JOBS + 1) a x) (sym e) (newest (omega (arith, ap next e, given, more_)))
+      | inr differ ↦ let at = kept b differ in let small_b = labelled b in_b differ (omega (arith, at, has)) in
+          Outranks-kept a b in_a in_b small_b (h.ranked a b in_a in_b small_b (before (omega (arith, at, more_)) small_b))
     ]
       where
         labelled : (j : ℕ) → j < n → j ≢ job → label j < count + 1 → label j < count
@@ -145,7 +152,7 @@ module _ (i : Instance) (leads : ℕ → ℕ → Bool) (shows : Shows i leads) (
           | inr differ ↦ omega (arith, kept a differ, less)
         ]
 
-        newest : count < next a → Outranks n leads next 401 a job
+        newest : count < next a → Outranks n leads next (MOST_JOBS + 1) a job
         newest less = elim (h.each a in_a) [
           | inr q ↦ absurd (omega (arith, (old a q).1, q, less))
           | inl q ↦ let (at, c, e) = q.0 in by at c e (cases_lt at place)
@@ -154,7 +161,7 @@ module _ (i : Instance) (leads : ℕ → ℕ → Bool) (shows : Shows i leads) (
             not_job : a ≢ job
             not_job e = absurd (omega (arith, ap next e, given, less))
 
-            by : (at : ℕ) → at < length left → get_or left at a ≡ a → (at < place) ⊎ (place ≤ at) → Outranks n leads next 401 a job
+            by : (at : ℕ) → at < length left → get_or left at a ≡ a → (at < place) ⊎ (place ≤ at) → Outranks n leads next (MOST_JOBS + 1) a job
             by at c e (inl earlier) j d limit to not_to =
                 let (k, step, in_left) = waits at earlier in
                 let unlabelled = All-contains Unlabelled left k h.inside in_left in
@@ -162,11 +169,14 @@ module _ (i : Instance) (leads : ℕ → ℕ → Bool) (shows : Shows i leads) (
                 let to_k : leads a k ≡ true = (shows a k in_a unlabelled.0).1 (one (subst (λ x. HasStep i.arcs x k) (get_or_default left at 0 a c ∙ e) step)) in
                 (k, unlabelled.0, next_small k unlabelled.1, above k j unlabelled.1 has_j, to_k, not_led k unlabelled)
               where
-                next_small : (k : ℕ) → label k ≡ 400 → next k < 401
+                next_small : (k : ℕ) → label k ≡ MOST_JOBS → next k < (MOST_JOBS + 1)
                 next_small k u = elim (cases_eq k job) [ inl e ↦ omega (arith, ap next e, given, small) | inr differ ↦ omega (arith, kept k differ, u) ]
 
-                above : (k j : ℕ) → label k ≡ 400 → label j < count → next j < next k
-                above k j u has_j = elim (cases_eq k job) [ inl e ↦ omega (arith, ap next e, given, (old j has_j).1, has_j) | inr differ ↦ omega (arith, kept k differ, u, (old j has_j).1, has_j, small) ]
+                above : (k j : ℕ) → label k ≡ MOST_JOBS → label j < count → next j < next k
+                above k j u has_j = elim (cases_eq k job) [
+                  | inl e ↦ omega (arith, ap next e, given, (old j has_j).1, has_j)
+                  | inr differ ↦ omega (arith, kept k differ, u, (old j has_j).1, has_j, small)
+                ]
 
                 not_led : (k : ℕ) → Unlabelled k → leads job k ≡ false
                 not_led k u = elim (cases_Bool (leads job k)) [ inl reached ↦ absurd (omega (arith, led k u.0 reached, u.1, small)) | inr r ↦ r ]
@@ -217,17 +227,19 @@ module _ (i : Instance) (leads : ℕ → ℕ → Bool) (shows : Shows i leads) (
 
     sorted_next : AllPairs Later parted
     sorted_next = AllPairs-append Later (filter stays rest) (filter rises rest)
-        (λ p q d b c. alike (get_or (filter stays rest) p d) (get_or (filter stays rest) q d) (stay p d (omega (arith, b, c)) ∙ sym (stay q d c)) (AllPairs-filter (λ b a. Outranks n leads label count a b) stays rest rest_sorted p q d b c))
-        (λ p q d b c. alike (get_or (filter rises rest) p d) (get_or (filter rises rest) q d) (rise p d (omega (arith, b, c)) ∙ sym (rise q d c)) (AllPairs-filter (λ b a. Outranks n leads label count a b) rises rest rest_sorted p q d b c))
+        (λ p q d b c. alike (get_or (filter stays rest) p d) (get_or (filter stays rest) q d)
+        (stay p d (omega (arith, b, c)) ∙ sym (stay q d c)) (AllPairs-filter (λ b a. Outranks n leads label count a b) stays rest rest_sorted p q d b c))
+        (λ p q d b c. alike (get_or (filter rises rest) p d) (get_or (filter rises rest) q d)
+        (rise p d (omega (arith, b, c)) ∙ sym (rise q d c)) (AllPairs-filter (λ b a. Outranks n leads label count a b) rises rest rest_sorted p q d b c))
         (λ p d b q e c. across (get_or (filter stays rest) p d) (get_or (filter rises rest) q e) (stay p d b) (rise q e c))
 
-    each_next : (j : ℕ) → j < n → (Contains parted j × (next j ≡ 400)) ⊎ (next j < count + 1)
+    each_next : (j : ℕ) → j < n → (Contains parted j × (next j ≡ MOST_JOBS)) ⊎ (next j < count + 1)
     each_next j b = elim (cases_eq j job) [
       | inl e ↦ inr (omega (arith, ap next e, given))
       | inr differ ↦ elim (h.each j b) [ inl q ↦ inl (to_parted j differ q.0, kept j differ ∙ q.1) | inr q ↦ inr (omega (arith, kept j differ, q)) ]
     ]
 
-    inside_next : All (λ j. (j < n) × (next j ≡ 400)) parted
+    inside_next : All (λ j. (j < n) × (next j ≡ MOST_JOBS)) parted
     inside_next k d b =
         let (c, differ) = from_parted (get_or parted k d) (Contains-get_or parted k d b) in
         let u = All-contains Unlabelled left (get_or parted k d) h.inside c in
@@ -274,10 +286,10 @@ module _ (i : Instance) (leads : ℕ → ℕ → Bool) (shows : Shows i leads) (
     fewer_left = omega (arith, length_permutation left (job ∷ parted) leaves)
 
   -- ---- no label, and all labels
-  pub IsLabelling-start : (label : ℕ → ℕ) (left : List ℕ) → ((j : ℕ) → j < n → label j ≡ 400) → left ≡ range_with_len 0 n → IsLabelling i leads 0 label left
+  pub IsLabelling-start : (label : ℕ → ℕ) (left : List ℕ) → ((j : ℕ) → j < n → label j ≡ MOST_JOBS) → left ≡ range_with_len 0 n → IsLabelling i leads 0 label left
   IsLabelling-start label left none e = record {
     each = λ j b. inl (subst (λ xs. Contains xs j) (sym e) (OnceBelow-contains (OnceBelow-range n) j b), none j b);
-    inside = subst (All (λ j. (j < n) × (label j ≡ 400))) (sym e) (λ k d b. let inside = (OnceBelow-range n).within k d b in (inside, none (get_or (range_with_len 0 n) k d) inside));
+    inside = subst (All (λ j. (j < n) × (label j ≡ MOST_JOBS))) (sym e) (λ k d b. let inside = (OnceBelow-range n).within k d b in (inside, none (get_or (range_with_len 0 n) k d) inside));
     once = subst (AllPairs (λ j k. j ≢ k)) (sym e) (OnceBelow-distinct (OnceBelow-range n));
     size = omega (arith, ap length e, length-OnceBelow (OnceBelow-range n));
     distinct = λ j k b c less. absurd (omega (arith, less));
@@ -308,28 +320,32 @@ pub record IsLabelled (i : Instance) (leads : ℕ → ℕ → Bool) (count : ℕ
   pub leaves : IsPermutation left (job ∷ new)
   pub fewer : length new < length left
 
-pub labelled : (i : Instance) (leads : ℕ → ℕ → Bool) → Shows i leads → All (λ a. (a.before < length i.jobs) × (a.after < length i.jobs)) i.arcs → IsAcyclic i → length i.jobs ≤ 400
-    → (count : ℕ) (labels counts left shown after new : List ℕ) (place job : ℕ) → IsLabelling i leads count (slice_index labels) left → length labels ≡ 400 → ((j : ℕ) → j < 400 → slice_index counts j ≡ arcs_into i.arcs left j)
+pub labelled : (i : Instance) (leads : ℕ → ℕ → Bool) → Shows i leads → All (λ a. (a.before < length i.jobs) × (a.after < length i.jobs)) i.arcs → IsAcyclic i → length i.jobs ≤ MOST_JOBS
+    → (count : ℕ) (labels counts left shown after new : List ℕ) (place job : ℕ) → IsLabelling i leads count (slice_index labels) left
+    → length labels ≡ MOST_JOBS → ((j : ℕ) → j < MOST_JOBS → slice_index counts j ≡ arcs_into i.arcs left j)
     → shown ≡ left → place < length shown → slice_index counts (get_or shown place 0) ≡ 0 → ((q : ℕ) → q < place → 0 < slice_index counts (get_or shown q 0))
     → job ≡ get_or left place job → after ≡ remove left place → new ≡ filter (λ j. not (leads j job)) after ++ filter (λ j. leads j job) after
     → IsLabelled i leads count (set labels job count) job left new
 labelled i leads shows ends acyclic few count labels counts left shown after new place job h long counted e l free waits is f new_is = record {
-  next = subst (IsLabelling i leads (count + 1) (slice_index (set labels job count))) (sym all) (IsLabelling-next i leads shows ends acyclic few count (slice_index labels) (slice_index (set labels job count)) left place job h in_left is here_free here_waits given kept);
-  leaves = subst (λ xs. IsPermutation left (job ∷ xs)) (sym all) (leaves i leads shows ends acyclic few count (slice_index labels) (slice_index (set labels job count)) left place job h in_left is here_free here_waits given kept);
-  fewer = subst (λ xs. length xs < length left) (sym all) (fewer_left i leads shows ends acyclic few count (slice_index labels) (slice_index (set labels job count)) left place job h in_left is here_free here_waits given kept);
+  next = subst (IsLabelling i leads (count + 1) (slice_index (set labels job count))) (sym all)
+      (IsLabelling-next i leads shows ends acyclic few count (slice_index labels) (slice_index (set labels job count)) left place job h in_left is here_free here_waits given kept);
+  leaves = subst (λ xs. IsPermutation left (job ∷ xs)) (sym all)
+      (leaves i leads shows ends acyclic few count (slice_index labels) (slice_index (set labels job count)) left place job h in_left is here_free here_waits given kept);
+  fewer = subst (λ xs. length xs < length left) (sym all)
+      (fewer_left i leads shows ends acyclic few count (slice_index labels) (slice_index (set labels job count)) left place job h in_left is here_free here_waits given kept);
 }
   where
     in_left : place < length left
     in_left = omega (arith, l, ap length e)
 
-    inside : (q : ℕ) → q < length left → get_or left q 0 < 400
+    inside : (q : ℕ) → q < length left → get_or left q 0 < MOST_JOBS
     inside q b = omega (arith, (h.inside q 0 b).0, few)
 
     same : get_or shown place 0 ≡ job
     same = ap (λ xs. get_or xs place 0) e ∙ get_or_default left place 0 job in_left ∙ sym is
 
-    small : job < 400
-    small = subst (λ j. j < 400) (ap (λ xs. get_or xs place 0) (sym e) ∙ same) (inside place in_left)
+    small : job < MOST_JOBS
+    small = subst (λ j. j < MOST_JOBS) (ap (λ xs. get_or xs place 0) (sym e) ∙ same) (inside place in_left)
 
     here_free : HasNoSuccessor i left job
     here_free = free_from_none i left job (sym (counted job small) ∙ ap (slice_index counts) (sym same) ∙ free)

@@ -72,7 +72,8 @@ module _ (i : Instance) (class : i.class ≡ lexical_class) (inner : Inner i) (l
 
   module _ (slots : ℕ) (seat : ℕ → ℕ → ℕ) (seats : AreSeats n begin machine slots seat) where
     pub are_slots : AreSlots n slots begin label (λ x. seat x 0) (λ x. seat x 1) h.leads
-    are_slots = AreSlots-from i b.order begin machine label h.leads b.schedule.runs (IsOrdered-from i inner) (two_machines i class inner) inner.conditions.ends h.shows h.labels b.falling slots seat seats
+    are_slots = AreSlots-from i b.order begin machine label h.leads b.schedule.runs
+        (IsOrdered-from i inner) (two_machines i class inner) inner.conditions.ends h.shows h.labels b.falling slots seat seats
 
     segments_there_are : (segments : List (List ℕ)) × AreSegments i segments × (segments_bound i segments ≡ slots)
     segments_there_are =
@@ -80,7 +81,8 @@ module _ (i : Instance) (class : i.class ≡ lexical_class) (inner : Inner i) (l
         some_segments i (two_machines i class inner) slots begin label (λ x. seat x 0) (λ x. seat x 1) h.leads are_slots (λ j k c d to. (h.shows j k c d).0 to) top tops
 
     upper : cost_of i (schedule_of pieces) ≤ℤ pos slots
-    upper = cost_of-least i (schedule_of pieces) (pos slots) greatest_crit t.some (λ k l. subst (λ x. x ≤ℤ pos slots) (sym (charge (schedule_of pieces) k ∙ unit_piece_ends i unit begin machine pieces units k l)) (pos-le (omega (arith, seats.below k l))))
+    upper = cost_of-least i (schedule_of pieces) (pos slots) greatest_crit t.some
+        (λ k l. subst (λ x. x ≤ℤ pos slots) (sym (charge (schedule_of pieces) k ∙ unit_piece_ends i unit begin machine pieces units k l)) (pos-le (omega (arith, seats.below k l))))
 
     lower : (s : Schedule) → Feasible i s → (s.unit *ℤ pos slots) ≤ℤ cost_of i s
     lower s f =

@@ -6,7 +6,8 @@ use Rattle.std.proofs.lemmas.List.{length_push, get_or_append_left, get_or-appen
 use Rattle.msp_lexical.specs.Steps.{AreRanks}
 use Rattle.msp_class.proofs.Sums.{OnceBelow-from_permutation}
 
-pub AreRanks-next : (count : ℕ) (labels ranks new : List ℕ) (job rank : ℕ) → new ≡ ranks ++ rank ∷ [] → rank ≡ count - 1 - slice_index labels job → AreRanks count labels ranks job → AreRanks count labels new (job + 1)
+pub AreRanks-next : (count : ℕ) (labels ranks new : List ℕ) (job rank : ℕ)
+    → new ≡ ranks ++ rank ∷ [] → rank ≡ count - 1 - slice_index labels job → AreRanks count labels ranks job → AreRanks count labels new (job + 1)
 AreRanks-next count labels ranks new job rank e is h = record {
   len = ap length e ∙ length_push ranks rank ∙ ap (λ n. n + 1) h.len;
   each = λ j l. ap (λ xs. slice_index xs j) e ∙ by j (cases_lt j job) l;
@@ -20,9 +21,11 @@ AreRanks-next count labels ranks new job rank e is h = record {
         get_or-append_right ranks (rank ∷ []) job j 0 h.len more ∙ ap (λ p. get_or (rank ∷ []) p 0) zero_is ∙ is ∙ ap (λ k. count - 1 - slice_index labels k) (sym same)
 
 -- rising ranks are falling labels
-pub falling_labels : (count : ℕ) (labels shown ranks order : List ℕ) → shown ≡ ranks → AreRanks count labels ranks count → ((j : ℕ) → j < count → slice_index labels j < count) → IsPermutation (range_with_len 0 count) order
+pub falling_labels : (count : ℕ) (labels shown ranks order : List ℕ)
+    → shown ≡ ranks → AreRanks count labels ranks count → ((j : ℕ) → j < count → slice_index labels j < count) → IsPermutation (range_with_len 0 count) order
     → AllPairs (λ a b. (get_or shown a 0 < get_or shown b 0) ⊎ ((get_or shown a 0 ≡ get_or shown b 0) × (a ≤ b))) order → AllPairs (λ a b. slice_index labels b ≤ slice_index labels a) order
-falling_labels count labels shown ranks order e h small all sorted p q d l b = by (get_or order p d) (get_or order q d) ((OnceBelow-from_permutation all).within p d (omega (arith, l, b))) ((OnceBelow-from_permutation all).within q d b) (sorted p q d l b)
+falling_labels count labels shown ranks order e h small all sorted p q d l b =
+    by (get_or order p d) (get_or order q d) ((OnceBelow-from_permutation all).within p d (omega (arith, l, b))) ((OnceBelow-from_permutation all).within q d b) (sorted p q d l b)
   where
     by : (x y : ℕ) → x < count → y < count → (get_or shown x 0 < get_or shown y 0) ⊎ ((get_or shown x 0 ≡ get_or shown y 0) × (x ≤ y)) → slice_index labels y ≤ slice_index labels x
     by x y c d less =

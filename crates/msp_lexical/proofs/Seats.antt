@@ -1,5 +1,6 @@
 -- Schedules in the order of a list, seat by seat: what slots and segments need.
-use Rattle.std.proofs.Common.{◌≡◌, ℕ, zero, suc, ◌+◌, ◌-◌, ◌<◌, ◌≤◌, ◌⊎◌, inl, inr, Bool, true, cond, ◌==◌, ◌&&◌, List, length, All, AllPairs, Contains, refl, sym, ap, ap₂, subst, subst₂, ◌∙◌, arith, ltb}
+use Rattle.std.proofs.Common.{◌≡◌, ℕ, zero, suc, ◌+◌, ◌-◌, ◌<◌, ◌≤◌, ◌⊎◌, inl, inr, Bool, true, cond, ◌==◌, ◌&&◌, List, length, All, AllPairs, Contains, refl, sym, ap, ap₂, subst}
+use Rattle.std.proofs.Common.{subst₂, ◌∙◌, arith, ltb}
 use Rattle.std.proofs.lemmas.Bool.{cases_Bool, cases_lt, eqb-true, eq-eqb, ltb-true, ltb-false, false≢true, and_from, and_parts, and_cases, cond-true, cond-false}
 use Rattle.std.specs.List.{range_with_len, position_or_len}
 use Rattle.std.proofs.lemmas.List.FromFn.{length-range_with_len, get_or-range_with_len}
@@ -17,7 +18,8 @@ use Rattle.msp_lexical.specs.Slots.{AreSlots, IsEnd, IsInner, AreTops, AreSeats}
 use Rattle.msp_lexical.specs.Steps.{AreLabels}
 use Rattle.msp_lexical.proofs.Labelling.{Shows, path_joined, path_lower}
 
-module _ (i : Instance) (order : List ℕ) (begin machine label : ℕ → ℕ) (leads : ℕ → ℕ → Bool) (r : RunsInOrder i order begin machine) (ordered : IsOrdered i) (two : i.machines ≡ 2) (ends : All (λ a. (a.before < length i.jobs) × (a.after < length i.jobs)) i.arcs) (shows : Shows i leads)
+module _ (i : Instance) (order : List ℕ) (begin machine label : ℕ → ℕ) (leads : ℕ → ℕ → Bool) (r : RunsInOrder i order begin machine)
+    (ordered : IsOrdered i) (two : i.machines ≡ 2) (ends : All (λ a. (a.before < length i.jobs) × (a.after < length i.jobs)) i.arcs) (shows : Shows i leads)
     (labels : AreLabels i leads label) (falling : AllPairs (λ a b. label b ≤ label a) order) where
   abbrev n : ℕ
   n = length i.jobs
@@ -120,7 +122,8 @@ module _ (n : ℕ) (begin machine : ℕ → ℕ) (some : 0 < n) (apart : (j k : 
   seat_found : (j : ℕ) → j < n → some_seat n begin machine (begin j) (machine j) < n
   unfolding some_seat
   seat_found j l = elim (cases_lt j (position_or_len test (range_with_len 0 n))) [
-    | inl past ↦ absurd (false≢true (sym (fails_before_first test (range_with_len 0 n) j 0 past) ∙ ap test (get_or-range_with_len 0 n j 0 l ∙ omega arith) ∙ and_from (begin j == begin j) (machine j == machine j) (eq-eqb (begin j) (begin j) refl) (eq-eqb (machine j) (machine j) refl)))
+    | inl past ↦ absurd (false≢true (sym (fails_before_first test (range_with_len 0 n) j 0 past) ∙ ap test (get_or-range_with_len 0 n j 0 l ∙ omega arith)
+        ∙ and_from (begin j == begin j) (machine j == machine j) (eq-eqb (begin j) (begin j) refl) (eq-eqb (machine j) (machine j) refl)))
     | inr here ↦ omega (arith, here, l)
   ]
     where
@@ -145,7 +148,8 @@ goes_on n label second least = ltb second n && ltb least (label second)
 
 some_top : ℕ → ℕ → (ℕ → ℕ) → (ℕ → ℕ) → (ℕ → ℕ) → ℕ → ℕ
 some_top n slots label first second zero = label (first (slots - 1))
-some_top n slots label first second (suc d) = cond (goes_on n label (second (slots - 1 - suc d)) (some_top n slots label first second d)) (some_top n slots label first second d) (label (first (slots - 1 - suc d)))
+some_top n slots label first second (suc d) =
+    cond (goes_on n label (second (slots - 1 - suc d)) (some_top n slots label first second d)) (some_top n slots label first second d) (label (first (slots - 1 - suc d)))
 
 pub tops_there_are : (n slots : ℕ) (label first second : ℕ → ℕ) → (top : ℕ → ℕ) × AreTops n slots label first second top
 unfolding some_top
@@ -161,7 +165,12 @@ tops_there_are n slots label first second = (λ x. top (slots - 1 - x), λ x l. 
           let both = and_parts (ltb (second (slots - 1 - suc d)) n) (ltb (top d) (label (second (slots - 1 - suc d)))) goes in
           let there = ltb-true (second (slots - 1 - suc d)) n both.0 in
           let more_ = ltb-true (top d) (label (second (slots - 1 - suc d))) both.1 in
-          inr (ap top e ∙ cond-true _ (top d) (label (first (slots - 1 - suc d))) goes ∙ ap top (sym after), omega (arith, e, l), subst (λ y. second y < n) here there, subst₂ (λ z y. top z < label (second y)) (sym after) here more_)
+          inr (
+            ap top e ∙ cond-true _ (top d) (label (first (slots - 1 - suc d))) goes ∙ ap top (sym after),
+            omega (arith, e, l),
+            subst (λ y. second y < n) here there,
+            subst₂ (λ z y. top z < label (second y)) (sym after) here more_,
+          )
       | inr stops ↦ inl (
         ap top e ∙ cond-false _ (top d) (label (first (slots - 1 - suc d))) stops ∙ ap (λ y. label (first y)) here,
         inr (elim (and_cases (ltb (second (slots - 1 - suc d)) n) (ltb (top d) (label (second (slots - 1 - suc d)))) stops) [

@@ -1,8 +1,10 @@
 -- The slots of a schedule by labels, as they are read off its pieces.
-use Rattle.std.proofs.Common.{◌≡◌, ◌≢◌, ℕ, zero, suc, ◌+◌, ◌-◌, ◌*◌, ◌<◌, ◌≤◌, inl, inr, cond, eqb, List, length, get_or, slice_index, map, nat_abs, pos, All, AllPairs, refl, sym, ap, subst, ◌∙◌, arith}
+use Rattle.std.proofs.Common.{◌≡◌, ◌≢◌, ℕ, zero, suc, ◌+◌, ◌-◌, ◌*◌, ◌<◌, ◌≤◌, inl, inr, cond, eqb, List, length, get_or, slice_index, map, nat_abs, pos, All, AllPairs, refl, sym}
+use Rattle.std.proofs.Common.{ap, subst, ◌∙◌, arith}
 use Rattle.std.proofs.lemmas.Bool.{cases_lt}
 use Rattle.std.proofs.lemmas.List.{length-map, get_or-map}
 use Rattle.std.proofs.lemmas.List.Elements.{All-contains, Contains-get_or}
+use Rattle.msp_class.specs.declared.sizes.TheConstants.{MOST_JOBS}
 use Rattle.msp_class.proofs.Sums.{OnceBelow, OnceBelow-from_permutation, OnceBelow-contains, OnceBelow-distinct, length-OnceBelow}
 use Rattle.msp_instance.specs.declared.Instance.{Instance}
 use Rattle.msp_instance.specs.Conditions.{Inner}
@@ -15,7 +17,8 @@ use Rattle.msp_lexical.specs.Slots.{AreSlots, AreTops, AreSeats, AreCut, IsSeate
 use Rattle.msp_lexical.specs.Steps.{HasLabels, IsByLabel}
 use Rattle.msp_lexical.proofs.LexicalBest.{two_machines, are_slots, least_cost}
 
-module _ (i : Instance) (class : i.class ≡ lexical_class) (inner : Inner i) (labels : List ℕ) (h : HasLabels i (slice_index labels)) (pieces : List Piece) (b : IsByLabel i (slice_index labels) pieces) where
+module _ (i : Instance) (class : i.class ≡ lexical_class)
+    (inner : Inner i) (labels : List ℕ) (h : HasLabels i (slice_index labels)) (pieces : List Piece) (b : IsByLabel i (slice_index labels) pieces) where
   abbrev n : ℕ
   n = length i.jobs
 
@@ -53,7 +56,12 @@ module _ (i : Instance) (class : i.class ≡ lexical_class) (inner : Inner i) (l
   seated k d l =
       let inside = job_inside k d l in
       let of = of_piece k d l in
-      record { machine = omega (arith, of.on, b.schedule.runs.inside (get_or pieces k d).job inside, two_machines i class inner); from = of.from; early = omega (arith, of.begins, begins_soon i b.order pieces b.schedule (get_or pieces k d).job inside); job = inside }
+      record {
+        machine = omega (arith, of.on, b.schedule.runs.inside (get_or pieces k d).job inside, two_machines i class inner);
+        from = of.from;
+        early = omega (arith, of.begins, begins_soon i b.order pieces b.schedule (get_or pieces k d).job inside);
+        job = inside;
+      }
 
   pub places_apart : AllPairs (λ p q. place_of p ≢ place_of q) pieces
   places_apart k m d less l e = by (get_or pieces k d) (get_or pieces m d) (of_piece k d lk) (of_piece m d l) (seated k d lk) (seated m d l) other e
@@ -87,8 +95,9 @@ module _ (i : Instance) (class : i.class ≡ lexical_class) (inner : Inner i) (l
     slots_are : slots ≡ begin (get_or pieces (length pieces - 1) no_piece).job + 1
     slots_are = omega (arith, slots_is, (of_piece (length pieces - 1) no_piece last_inside).begins)
 
-    pub few_slots : slots ≤ 400
-    few_slots = omega (arith, slots_are, begins_soon i b.order pieces b.schedule (get_or pieces (length pieces - 1) no_piece).job (job_inside (length pieces - 1) no_piece last_inside), inner.conditions.few)
+    pub few_slots : slots ≤ MOST_JOBS
+    few_slots =
+        omega (arith, slots_are, begins_soon i b.order pieces b.schedule (get_or pieces (length pieces - 1) no_piece).job (job_inside (length pieces - 1) no_piece last_inside), inner.conditions.few)
 
     at_place : (x m : ℕ) → m < 2 → seat x m ≡ slice_index seats (2 * x + m)
     at_place x zero l = let same : 2 * x ≡ 2 * x + 0 = omega arith in ap (slice_index seats) same
@@ -103,7 +112,8 @@ module _ (i : Instance) (class : i.class ≡ lexical_class) (inner : Inner i) (l
             let (k, c, e) = piece_of j l in
             let of = of_piece k no_piece c in
             let same = e no_piece in
-            at_place (begin j) (machine j) (omega (arith, b.schedule.runs.inside j l, two_machines i class inner)) ∙ ap (slice_index seats) (omega (arith, of.begins, of.on, ap begin same, ap machine same)) ∙ s.seated k no_piece c ∙ same
+            at_place (begin j) (machine j) (omega (arith, b.schedule.runs.inside j l, two_machines i class inner))
+            ∙ ap (slice_index seats) (omega (arith, of.begins, of.on, ap begin same, ap machine same)) ∙ s.seated k no_piece c ∙ same
 
         from_seat : (x m : ℕ) → x < slots → m < 2 → seat x m < n → (begin (seat x m) ≡ x) × (machine (seat x m) ≡ m)
         from_seat x m l two l_n = elim (s.others (2 * x + m) (omega (arith, l, two, few_slots))) [
@@ -122,7 +132,10 @@ module _ (i : Instance) (class : i.class ≡ lexical_class) (inner : Inner i) (l
             let (k, c, e) = piece_of j l in
             let same = ap begin (e no_piece) in
             elim (cases_lt k (length pieces - 1)) [
-              | inl less ↦ elim (b.schedule.sorted k (length pieces - 1) no_piece less last_inside) [ inl sooner ↦ omega (arith, sooner, same, slots_are) | inr equal ↦ omega (arith, equal.0, same, slots_are) ]
+              | inl less ↦ elim (b.schedule.sorted k (length pieces - 1) no_piece less last_inside) [
+                | inl sooner ↦ omega (arith, sooner, same, slots_are)
+                | inr equal ↦ omega (arith, equal.0, same, slots_are)
+              ]
               | inr more ↦ let here : k ≡ length pieces - 1 = omega (arith, more, c) in omega (arith, ap (λ k. begin (get_or pieces k no_piece).job) here, same, slots_are)
             ]
 

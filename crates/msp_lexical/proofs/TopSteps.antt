@@ -2,21 +2,23 @@
 use Rattle.std.proofs.Common.{◌≡◌, ◌≢◌, ℕ, ◌+◌, ◌<◌, ◌≤◌, ◌⊎◌, inl, inr, List, length, set, slice_index, refl, sym, subst, ◌∙◌, arith}
 use Rattle.std.proofs.lemmas.Bool.{cases_lt, cases_eq}
 use Rattle.std.proofs.lemmas.List.{length-set, get_or-set_same, get_or-set_other}
+use Rattle.msp_class.specs.declared.sizes.TheConstants.{MOST_JOBS}
 use Rattle.msp_lexical.specs.Slots.{IsEnd, IsInner, AreTops, IsTopOf}
 
 -- the slots from one on have their least labels, and the number is that of the slot, or 400 after the last one
 pub record IsTopping (n slots : ℕ) (label first second : ℕ → ℕ) (slot next : ℕ) (tops : List ℕ) : Type 0 where
   pub inside : slot ≤ slots
-  pub whole : length tops ≡ 400
+  pub whole : length tops ≡ MOST_JOBS
   pub here : slot < slots → next ≡ slice_index tops slot
-  pub after : slot ≡ slots → next ≡ 400
+  pub after : slot ≡ slots → next ≡ MOST_JOBS
   pub tops_are : (x : ℕ) → slot ≤ x → x < slots → IsEnd n slots label first second (slice_index tops) x ⊎ IsInner n slots label second (slice_index tops) x
 
-module _ (n slots : ℕ) (label first second : ℕ → ℕ) (small : (j : ℕ) → j < n → label j < 400) (few : slots ≤ 400) where
-  pub IsTopping-start : (tops : List ℕ) → length tops ≡ 400 → IsTopping n slots label first second slots 400 tops
+module _ (n slots : ℕ) (label first second : ℕ → ℕ) (small : (j : ℕ) → j < n → label j < MOST_JOBS) (few : slots ≤ MOST_JOBS) where
+  pub IsTopping-start : (tops : List ℕ) → length tops ≡ MOST_JOBS → IsTopping n slots label first second slots MOST_JOBS tops
   IsTopping-start tops whole = record { inside = omega arith; whole = whole; here = λ l. absurd (omega (arith, l)); after = λ _. refl; tops_are = λ x l m. absurd (omega (arith, l, m)) }
 
-  pub IsTopping-next : (slot next top : ℕ) (tops : List ℕ) → slot + 1 ≤ slots → IsTopOf n label (first slot) (second slot) next top → IsTopping n slots label first second (slot + 1) next tops → IsTopping n slots label first second slot top (set tops slot top)
+  pub IsTopping-next : (slot next top : ℕ) (tops : List ℕ) → slot + 1 ≤ slots → IsTopOf n label (first slot) (second slot) next top
+      → IsTopping n slots label first second (slot + 1) next tops → IsTopping n slots label first second slot top (set tops slot top)
   IsTopping-next slot next top tops l step h = record {
     inside = omega (arith, l);
     whole = length-set tops slot top ∙ h.whole;
@@ -37,7 +39,8 @@ module _ (n slots : ℕ) (label first second : ℕ → ℕ) (small : (j : ℕ) �
       Found : ℕ → Type 0
       Found x = IsEnd n slots label first second (slice_index (set tops slot top)) x ⊎ IsInner n slots label second (slice_index (set tops slot top)) x
 
-      older : (x : ℕ) → slice_index (set tops slot top) x ≡ slice_index tops x → slice_index (set tops slot top) (x + 1) ≡ slice_index tops (x + 1) → IsEnd n slots label first second (slice_index tops) x ⊎ IsInner n slots label second (slice_index tops) x → Found x
+      older : (x : ℕ) → slice_index (set tops slot top) x ≡ slice_index tops x → slice_index (set tops slot top) (x + 1) ≡ slice_index tops (x + 1)
+          → IsEnd n slots label first second (slice_index tops) x ⊎ IsInner n slots label second (slice_index tops) x → Found x
       older x e f (inl at_end) = inl (e ∙ at_end.0, elim at_end.1 [ inl last ↦ inl last | inr rest ↦ inr (elim rest [ inl none ↦ inl none | inr less ↦ inr (omega (arith, less, f)) ]) ])
       older x e f (inr goes) = inr (e ∙ goes.0 ∙ sym f, goes.1, goes.2, omega (arith, goes.3, f))
 

@@ -100,7 +100,8 @@ module _ (n slots : ℕ) (slot label first second : ℕ → ℕ) (leads : ℕ �
             absurd (omega (arith, ap slot same, (s.second_in u early p.0).0, l))
       ]
         where
-          by : ((y : ℕ) → y < n → u < slot y → top (u + 1) ≤ label y → slot y < fuel → leads (first u) y ≡ true) → (y : ℕ) → y < n → leads y x ≡ true → slot y < slot x → label x < label y → u ≤ slot y → (u < slot y) ⊎ (slot y ≤ u) → (y ≡ first (slot y)) ⊎ (y ≡ second (slot y)) → leads (first u) x ≡ true
+          by : ((y : ℕ) → y < n → u < slot y → top (u + 1) ≤ label y → slot y < fuel → leads (first u) y ≡ true) → (y : ℕ) → y < n → leads y x ≡ true → slot y < slot x
+              → label x < label y → u ≤ slot y → (u < slot y) ⊎ (slot y ≤ u) → (y ≡ first (slot y)) ⊎ (y ≡ second (slot y)) → leads (first u) x ≡ true
           by again y c to sooner greater e (inl past) at = s.joined (first u) y x (s.first_in u early).0 c b (again y c past (omega (arith, greater, h)) (omega (arith, sooner, f))) to
           by again y c to sooner greater e (inr near) (inl at) = let here : slot y ≡ u = omega (arith, e, near) in subst (λ z. leads z x ≡ true) (at ∙ ap first here) to
           by again y c to sooner greater e (inr near) (inr at) =
@@ -124,7 +125,8 @@ module _ (n slots : ℕ) (slot label first second : ℕ → ℕ) (leads : ℕ �
           by : (slot w < u) ⊎ (u ≤ slot w) → (w ≡ first (slot w)) ⊎ (w ≡ second (slot w)) → top u ≤ label w
           by place (inl at) = omega (arith, top_first (slot w) slot_early, ap label at, top_same)
           by (inl less) (inr at) = elim (t (slot w) slot_early) [
-            | inl e ↦ let here : slot (first (slot w)) ≡ u = same_slot u (first (slot w)) early (s.first_in (slot w) slot_early).0 (omega (arith, e.0, top_same, ends.0)) in absurd (omega (arith, here, (s.first_in (slot w) slot_early).1, less))
+            | inl e ↦ let here : slot (first (slot w)) ≡ u = same_slot u (first (slot w)) early (s.first_in (slot w) slot_early).0 (omega (arith, e.0, top_same, ends.0)) in
+                absurd (omega (arith, here, (s.first_in (slot w) slot_early).1, less))
             | inr i ↦ omega (arith, i.3, i.0, ap label at, top_same)
           ]
           by (inr last) (inr at) =
@@ -138,7 +140,8 @@ module _ (n slots : ℕ) (slot label first second : ℕ → ℕ) (leads : ℕ �
       leads_by (suc fuel) z x f c near same high b l h = elim (cases_lt (slot z) u) [
         | inl less ↦ elim (cases_Bool (leads z x)) [
           | inl reached ↦ reached
-          | inr not ↦ absurd (differ (λ w d near same high far. leads_by fuel w x far d near same high b l h) less not (s.ranked z (first u) x c (s.first_in u early).0 b (greater less) (first_leads x b l h) not))
+          | inr not ↦ absurd
+              (differ (λ w d near same high far. leads_by fuel w x far d near same high b l h) less not (s.ranked z (first u) x c (s.first_in u early).0 b (greater less) (first_leads x b l h) not))
         ]
         | inr last ↦ at_last (omega (arith, near, last)) (s.only z c).1
       ]
@@ -155,7 +158,8 @@ module _ (n slots : ℕ) (slot label first second : ℕ → ℕ) (leads : ℕ �
               let is : z ≡ second u = at ∙ ap second here in
               absurd (omega (arith, (s.second_in u early (subst (λ v. v < n) is c)).1, ap label is, high, ends.0))
 
-          differ : ((w : ℕ) → w < n → slot w ≤ u → top (slot w) ≡ top u → top u ≤ label w → u < slot w + fuel → leads w x ≡ true) → slot z < u → leads z x ≡ false → (w : ℕ) × (w < n) × (label x < label w) × (leads z w ≡ true) × (leads (first u) w ≡ false) → ⊥
+          differ : ((w : ℕ) → w < n → slot w ≤ u → top (slot w) ≡ top u → top u ≤ label w → u < slot w + fuel → leads w x ≡ true)
+              → slot z < u → leads z x ≡ false → (w : ℕ) × (w < n) × (label x < label w) × (leads z w ≡ true) × (leads (first u) w ≡ false) → ⊥
           differ again less not (w, d, more, to, not_to) =
               let after = s.later z w c d to in
               elim (cases_lt u (slot w)) [

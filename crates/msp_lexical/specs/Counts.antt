@@ -2,7 +2,7 @@
 use Rattle.std.specs.Prelude.{◌≡◌, ℕ, zero, suc, ◌<◌, ◌==◌, ◌&&◌, cond, List, length, slice_index, slice_index_or, count_by}
 use Rattle.std.specs.List.{list_any}
 use Rattle.msp_instance.specs.declared.Arc.{Arc}
-use Rattle.msp_instance.specs.declared.ranges.TheConstants.{MOST_JOBS}
+use Rattle.msp_class.specs.declared.sizes.TheConstants.{MOST_JOBS}
 
 -- How many arcs lead from the one job to the other, and from the job to jobs of the list.
 abbrev pub arcs_between : List Arc → ℕ → ℕ → ℕ

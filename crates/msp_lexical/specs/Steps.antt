@@ -1,7 +1,7 @@
 -- What the steps of the rule keep. No public contract cites this file.
 use Rattle.std.specs.Prelude.{◌≡◌, ◌≢◌, ℕ, ◌+◌, ◌-◌, ◌<◌, ◌≤◌, ◌⊎◌, Bool, true, false, List, length, slice_index, All, AllPairs, Contains, IsTrue, ◌↔◌}
 use Rattle.msp_instance.specs.declared.Instance.{Instance}
-use Rattle.msp_instance.specs.declared.ranges.TheConstants.{MOST_JOBS}
+use Rattle.msp_class.specs.declared.sizes.TheConstants.{MOST_JOBS}
 use Rattle.msp_instance.specs.Paths.{HasStep, HasPath}
 use Rattle.msp_schedule.specs.declared.Piece.{Piece}
 use Rattle.msp_slots.specs.ListSchedule.{IsListSchedule}
@@ -13,7 +13,8 @@ HasSuccessor i jobs j = (k : ℕ) × HasStep i.arcs j k × Contains jobs k
 -- The labels of the jobs to which b leads are no more than those of a: of the labels below the limit that only one of the two leads to, a
 -- leads to the greatest.
 abbrev pub Outranks : ℕ → (ℕ → ℕ → Bool) → (ℕ → ℕ) → ℕ → ℕ → ℕ → Type 0
-Outranks n leads label limit a b = (j : ℕ) → j < n → label j < limit → leads b j ≡ true → leads a j ≡ false → (k : ℕ) × (k < n) × (label k < limit) × (label j < label k) × (leads a k ≡ true) × (leads b k ≡ false)
+Outranks n leads label limit a b = (j : ℕ) → j < n → label j < limit
+    → leads b j ≡ true → leads a j ≡ false → (k : ℕ) × (k < n) × (label k < limit) × (label j < label k) × (leads a k ≡ true) × (leads b k ≡ false)
 
 -- The jobs have different labels, those of successors are less, and a greater label stands for greater labels of the jobs led to.
 pub record AreLabels (i : Instance) (leads : ℕ → ℕ → Bool) (label : ℕ → ℕ) : Type 0 where

@@ -1,6 +1,6 @@
 // The labels of the jobs.
 ghost use Rattle.std.specs.Prelude.{◌≡◌, ◌++◌, ℕ, ◌<◌, ◌≤◌, not, length, filter, slice_index, All, Any, IfOk, OnOk, ◌∷◌, [], if◌then◌else◌};
-ghost use Rattle.msp_instance.specs.declared.ranges.TheConstants.{MOST_JOBS};
+ghost use Rattle.msp_class.specs.declared.sizes.TheConstants.{MOST_JOBS};
 ghost use Rattle.msp_instance.specs.Conditions.{Inner};
 ghost use Rattle.msp_instance.specs.Paths.{leads, ShowsPaths};
 ghost use Rattle.msp_lexical.specs.Steps.{AreLabels, HasLabels};

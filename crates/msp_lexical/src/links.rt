@@ -1,6 +1,6 @@
 // The arcs that enter each job, and how many leave it.
 ghost use Rattle.std.specs.Prelude.{◌≡◌, ◌+◌, ◌<◌, ◌≤◌, ℕ, length, slice_index, All, IfOk};
-ghost use Rattle.msp_instance.specs.declared.ranges.TheConstants.{MOST_JOBS};
+ghost use Rattle.msp_class.specs.declared.sizes.TheConstants.{MOST_JOBS};
 ghost use Rattle.msp_instance.specs.Conditions.{leaving};
 ghost use Rattle.msp_lexical.specs.Counts.{arcs_between, AreLinks};
 

@@ -1,6 +1,6 @@
 // Segments: lists of jobs that take both machines one list after another.
 ghost use Rattle.std.specs.Prelude.{◌≡◌, ◌≢◌, ◌+◌, ◌-◌, ◌*◌, ◌<◌, ◌≤◌, ℕ, length, nat_abs, slice_index, slice_index_or, All, AllPairs, IfOk};
-ghost use Rattle.msp_instance.specs.declared.ranges.TheConstants.{MOST_JOBS};
+ghost use Rattle.msp_class.specs.declared.sizes.TheConstants.{MOST_JOBS};
 ghost use Rattle.msp_instance.specs.Conditions.{Inner};
 ghost use Rattle.msp_schedule.specs.declared.Piece.{Piece as PieceValue};
 ghost use Rattle.msp_schedule.specs.Segments.{AreSegments, segments_bound};

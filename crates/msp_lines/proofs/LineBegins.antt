@@ -1,6 +1,7 @@
 -- What a feasible schedule of a flow shop of unit operations has: its jobs come to the last machine at moments that, rounded down to whole
 -- ones and moved to the front by one for each machine before, are begins on one machine, none of which is too late.
-use Rattle.std.proofs.Common.{◌≡◌, ℕ, zero, suc, ◌+◌, ◌*◌, ◌-◌, ◌/◌, ◌<◌, ◌≤◌, ◌⊎◌, inl, inr, Bool, true, false, eqb, [], ◌∷◌, length, get_or, map, All, Contains, MatchBool, ℤ, pos, nat_abs, ◌-ℤ◌, ◌*ℤ◌, ◌≤ℤ◌, ◌<ℤ◌, refl, sym, ap, ap₂, subst, subst₂, ◌∙◌, arith}
+use Rattle.std.proofs.Common.{◌≡◌, ℕ, zero, suc, ◌+◌, ◌*◌, ◌-◌, ◌/◌, ◌<◌, ◌≤◌, ◌⊎◌, inl, inr, Bool, true, false, eqb, [], ◌∷◌, length, get_or, map, All, Contains, MatchBool, ℤ}
+use Rattle.std.proofs.Common.{pos, nat_abs, ◌-ℤ◌, ◌*ℤ◌, ◌≤ℤ◌, ◌<ℤ◌, refl, sym, ap, ap₂, subst, subst₂, ◌∙◌, arith}
 use Rattle.std.specs.Prelude.{◌==◌, ◌&&◌}
 use Rattle.std.proofs.lemmas.Bool.{eqb-true, ne_eqb}
 use Rattle.std.proofs.lemmas.Int.{ints}
@@ -92,7 +93,8 @@ module _ (i : Instance) (late : Bool) (h : IsLineShop i late) (s : Schedule) (f 
         lasts x y t from to e d g = omega (arith, ints, e, d, g)
 
     is_operation : IsOperation j o (piece j o)
-    is_operation = by (subst (λ c. MatchBool c (total (map (work_of (kind_of i.class.env) i) (pieces_of s j o)) ≡ s.unit *ℤ pos (whole_work (kind_of i.class.env) i j o)) HasOne) h.cut (f.work j o l (operations i late h j o l b)))
+    is_operation = by (subst (λ c. MatchBool c (total (map (work_of (kind_of i.class.env) i) (pieces_of s j o)) ≡ s.unit *ℤ pos (whole_work (kind_of i.class.env) i j o)) HasOne)
+        h.cut (f.work j o l (operations i late h j o l b)))
       where
         by : HasOne → IsOperation j o (piece j o)
         by (p, e, w) =
@@ -110,7 +112,8 @@ module _ (i : Instance) (late : Bool) (h : IsLineShop i late) (s : Schedule) (f 
   soon j zero l b =
       let e = is_operation j zero l b in
       let head = All-contains (λ p. (s.unit *ℤ pos (job_at i p.job).release) ≤ℤ p.from) s.pieces (piece j zero) f.release e.among in
-      first (head_at i j) (start (piece j zero)) (le-pos (subst₂ (λ x y. x ≤ℤ y) (ap (λ v. v *ℤ pos (job_at i (piece j zero).job).release) unit_is ∙ ap (λ k. pos (u * (job_at i k).release)) e.job) e.timed.from head))
+      first (head_at i j) (start (piece j zero))
+      (le-pos (subst₂ (λ x y. x ≤ℤ y) (ap (λ v. v *ℤ pos (job_at i (piece j zero).job).release) unit_is ∙ ap (λ k. pos (u * (job_at i k).release)) e.job) e.timed.from head))
     where
       first : (r x : ℕ) → u * r ≤ x → u * (r + 0) ≤ x
       first r x g = omega (arith, g)
@@ -119,7 +122,8 @@ module _ (i : Instance) (late : Bool) (h : IsLineShop i late) (s : Schedule) (f 
       let d = is_operation j o l c in
       let e = is_operation j (suc o) l b in
       let less : (piece j o).op < (piece j (suc o)).op = subst₂ (λ x y. x < y) (sym d.op) (sym e.op) (omega arith) in
-      let follows : finish (piece j o) ≤ start (piece j (suc o)) = le-pos (subst₂ (λ x y. x ≤ℤ y) d.timed.to e.timed.from (before (piece j o) (piece j (suc o)) d.among e.among (d.job ∙ sym e.job) less)) in
+      let follows : finish (piece j o) ≤ start (piece j (suc o)) =
+      le-pos (subst₂ (λ x y. x ≤ℤ y) d.timed.to e.timed.from (before (piece j o) (piece j (suc o)) d.among e.among (d.job ∙ sym e.job) less)) in
       next (head_at i j) o (start (piece j o)) (finish (piece j o)) (start (piece j (suc o))) (soon j o l c) d.lasts follows
     where
       next : (r o x y z : ℕ) → u * (r + o) ≤ x → y ≡ x + u → y ≤ z → u * (r + suc o) ≤ z

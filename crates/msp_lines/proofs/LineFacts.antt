@@ -1,12 +1,13 @@
 -- What a flow shop of unit operations with release dates has, and what its jobs cost in slots.
-use Rattle.std.proofs.Common.{◌≡◌, ◌≢◌, ℕ, ◌+◌, ◌^◌, ◌<◌, ◌≤◌, Bool, true, false, ltb, List, length, map, get_or, All, IsPermutation, inl, inr, ℤ, pos, ◌-ℤ◌, ◌*ℤ◌, ◌≤ℤ◌, refl, sym, ap, ap₂, subst, subst₂, ◌∙◌, arith}
+use Rattle.std.proofs.Common.{◌≡◌, ◌≢◌, ℕ, ◌+◌, ◌^◌, ◌<◌, ◌≤◌, Bool, true, false, List, [], length, map, get_or, All, IsPermutation, ◌⊎◌, inl, inr, ℤ, pos, ◌-ℤ◌, ◌*ℤ◌, ◌≤ℤ◌, refl}
+use Rattle.std.proofs.Common.{sym, ap, subst, subst₂, ◌∙◌, arith}
 use Rattle.std.specs.Prelude.{int_lt, if◌then◌else◌}
 use Rattle.std.specs.Int.{int_max}
 use Rattle.std.proofs.lemmas.Bool.{lt-ltb, le-ltb, cases_lt}
 use Rattle.std.proofs.lemmas.Int.{ints, clamps}
-use Rattle.std.proofs.lemmas.List.{length-map, get_or-map}
-use Rattle.std.proofs.lemmas.List.Elements.{All-map}
+use Rattle.std.proofs.lemmas.List.Elements.{All-nil, All-map}
 use Rattle.std.proofs.lemmas.List.Sorted.{All-permutation}
+use Rattle.msp_class.specs.declared.sizes.TheConstants.{MOST_JOBS, GREATEST}
 use Rattle.msp_class.specs.declared.environments.EnvKind.TheVariants.{FlowShop}
 use Rattle.msp_class.specs.Env.{kind_of}
 use Rattle.msp_class.specs.Crit.{is_greatest, uses_due, uses_weight}
@@ -17,22 +18,33 @@ use Rattle.msp_instance.specs.Instance.{no_need, no_job, job_at, need_at}
 use Rattle.msp_instance.specs.Conditions.{Limits, LiesWithin, HasDue, HasWeight, Inner, inner_limits}
 use Rattle.msp_schedule.specs.declared.Piece.{Piece}
 use Rattle.msp_schedule.specs.Cost.{job_cost}
+use Rattle.msp_schedule.specs.Within.{IsMoment, HasSmallCost}
+use Rattle.msp_schedule.proofs.costs.Small.{small_costs}
 use Rattle.msp_schedule.specs.Feasible.{HasOperation}
 use Rattle.msp_schedule.proofs.feasible.OfClass.{IsOfClass, IsOfClass-from}
 use Rattle.msp_assign.specs.Prices.{HasCosts, IsAssigned, IsLeast}
 use Rattle.msp_slots.specs.declared.earliest.Slot.{Slot}
-use Rattle.msp_slots.specs.Earliest.{no_slot, start_in, AreSlots}
+use Rattle.msp_slots.specs.Earliest.{start_in, AreSlots}
 use Rattle.msp_slots.proofs.Begins.{head_at}
 use Rattle.msp_slots.proofs.SlotPlaces.{heads_many}
-use Rattle.msp_lines.specs.declared.line_table.LineSlots.{LineSlots}
-use Rattle.msp_lines.specs.Costs.{forbidden, past_due, line_cost}
-use Rattle.msp_lines.specs.LineSteps.{line_crit, line_class, lined, IsTable, AreLeastLined}
+use Rattle.msp_lines.specs.Classes.{lines_late_class, lines_count_class}
+use Rattle.msp_lines.specs.Costs.{forbidden, line_cost}
+use Rattle.msp_lines.specs.LineSteps.{line_crit, line_class, lined, AreLeastLined}
 
 abbrev pub IsLineShop : Instance → Bool → Type 0
 IsLineShop i late = IsOfClass i (line_class late)
 
-pub IsLineShop-from : (i : Instance) (late : Bool) → i.class ≡ line_class late → Inner i → IsLineShop i late
+IsLineShop-from : (i : Instance) (late : Bool) → i.class ≡ line_class late → Inner i → IsLineShop i late
 IsLineShop-from i late e h = IsOfClass-from i (line_class late) e h
+
+-- by the weighted tardiness, or by the weight of late jobs
+pub record IsDueShop (i : Instance) : Type 0 where
+  pub late : Bool
+  pub is : IsLineShop i late
+
+pub IsDueShop-from : (i : Instance) → (i.class ≡ lines_late_class) ⊎ (i.class ≡ lines_count_class) → Inner i → IsDueShop i
+IsDueShop-from i (inl e) inner = record { late = true; is = IsLineShop-from i true e inner }
+IsDueShop-from i (inr e) inner = record { late = false; is = IsLineShop-from i false e inner }
 
 -- ---- operations
 module _ (i : Instance) (late : Bool) (h : IsLineShop i late) where
@@ -62,7 +74,7 @@ due_of : (late : Bool) (l : Limits) (d : ℤ) → HasDue l (uses_due (line_crit 
 due_of true l d h = h
 due_of false l d h = h
 
-weight_of : (late : Bool) (w : ℕ) → HasWeight (uses_weight (line_crit late)) w → w ≤ 1000000000
+weight_of : (late : Bool) (w : ℕ) → HasWeight (uses_weight (line_crit late)) w → w ≤ GREATEST
 weight_of true w h = h.1
 weight_of false w h = h.1
 
@@ -72,7 +84,7 @@ releases i late h j d b = (h.jobs j d b).release
 dues : (i : Instance) (late : Bool) → IsLineShop i late → All (λ j. LiesWithin 2000000000 j.due) i.jobs
 dues i late h j d b = due_of late (inner_limits FlowShop) (get_or i.jobs j d).due (h.jobs j d b).due
 
-pub weights : (i : Instance) (late : Bool) → IsLineShop i late → All (λ j. j.weight ≤ 1000000000) i.jobs
+pub weights : (i : Instance) (late : Bool) → IsLineShop i late → All (λ j. j.weight ≤ GREATEST) i.jobs
 weights i late h j d b = weight_of late (get_or i.jobs j d).weight (h.jobs j d b).weight
 
 pub sums : (i : Instance) (late : Bool) → IsLineShop i late → is_greatest i.class.crit ≡ false
@@ -83,6 +95,10 @@ sums i late h = ap is_greatest h.crit ∙ by late
     by false = refl
 
 -- a job that ends at a whole moment
+abbrev past_due : Bool → ℤ → ℤ → ℤ
+past_due true end due = int_max (pos 0) (end -ℤ due)
+past_due false end due = if int_lt due end then pos 1 else pos 0
+
 cost_at : (late : Bool) (j : Job) (x : ℕ) → job_cost (line_crit late) (pos 1) j (pos x) ≡ pos j.weight *ℤ past_due late (pos x) j.due
 cost_at true j x = ap (λ d. pos j.weight *ℤ int_max (pos 0) (pos x -ℤ d)) (one-*ℤ j.due)
 cost_at false j x = ap (λ d. pos j.weight *ℤ (if int_lt d (pos x) then pos 1 else pos 0)) (one-*ℤ j.due)
@@ -107,67 +123,59 @@ past_small false x d l h = by (int_lt d (pos x))
 weighed_natural : (w : ℕ) (p : ℤ) → pos 0 ≤ℤ p → pos 0 ≤ℤ (pos w *ℤ p)
 weighed_natural w p h = subst (λ z. z ≤ℤ (pos w *ℤ p)) (*ℤ-zero (pos w)) (*ℤ-mono w h)
 
-weighed_small : (w : ℕ) (p : ℤ) → w ≤ 1000000000 → p ≤ℤ pos 10000000000 → (pos w *ℤ p) ≤ℤ pos 10000000000000000000
+weighed_small : (w : ℕ) (p : ℤ) → w ≤ GREATEST → p ≤ℤ pos 10000000000 → (pos w *ℤ p) ≤ℤ pos 10000000000000000000
 weighed_small w p l h = ≤ℤ_trans (*ℤ-mono w h) (omega (arith, ints, l))
 
 -- what the job costs that ends as many units of time after the moment as there are machines
 abbrev pub ended : Instance → ℕ → ℕ → ℤ
 ended i j x = job_cost i.class.crit (pos 1) (job_at i j) (pos (x + i.machines))
 
--- ---- the table
-module _ (i : Instance) (late : Bool) (h : IsLineShop i late) (slots : List Slot) (table : LineSlots) (t : IsTable i late slots table) where
-  start_is : (k : ℕ) → k < length slots → get_or table.start k 0 ≡ start_in slots k
-  start_is k l = ap (λ xs. get_or xs k 0) t.start ∙ get_or-map (λ s. s.start) slots k no_slot 0 l
-
-  release_is : (j : ℕ) → j < length i.jobs → get_or table.release j 0 ≡ head_at i j
-  release_is j l = ap (λ xs. get_or xs j 0) t.release ∙ get_or-map (λ j. j.release) i.jobs j no_job 0 l
-
-  due_is : (j : ℕ) → j < length i.jobs → get_or table.due j (pos 0) ≡ (job_at i j).due
-  due_is j l = ap (λ xs. get_or xs j (pos 0)) t.due ∙ get_or-map (λ j. j.due) i.jobs j no_job (pos 0) l
-
-  weight_is : (j : ℕ) → j < length i.jobs → get_or table.weight j 0 ≡ (job_at i j).weight
-  weight_is j l = ap (λ xs. get_or xs j 0) t.weight ∙ get_or-map (λ j. j.weight) i.jobs j no_job 0 l
-
+-- ---- costs
+module _ (i : Instance) (late : Bool) (h : IsLineShop i late) where
   ended_is : (j x : ℕ) → ended i j x ≡ pos (job_at i j).weight *ℤ past_due late (pos (x + i.machines)) (job_at i j).due
   ended_is j x = ap (λ c. job_cost c (pos 1) (job_at i j) (pos (x + i.machines))) h.crit ∙ cost_at late (job_at i j) (x + i.machines)
 
-  line_cost-is : (j k : ℕ) → j < length i.jobs → k < length slots → line_cost table j k ≡ (if ltb (start_in slots k) (head_at i j) then forbidden else ended i j (start_in slots k))
-  line_cost-is j k a b =
-      ap₂ (λ s r. if ltb s r then forbidden else (pos (get_or table.weight j 0) *ℤ past_due table.late (pos (s + table.machines)) (get_or table.due j (pos 0)))) (start_is k b) (release_is j a)
-      ∙ ap (λ z. if ltb (start_in slots k) (head_at i j) then forbidden else z)
-      (ap₂ (λ w d. pos w *ℤ past_due table.late (pos (start_in slots k + table.machines)) d) (weight_is j a) (due_is j a)
-      ∙ ap₂ (λ b m. pos (job_at i j).weight *ℤ past_due b (pos (start_in slots k + m)) (job_at i j).due) t.kind t.machines
-      ∙ sym (ended_is j (start_in slots k)))
-
   ended_natural : (j x : ℕ) → pos 0 ≤ℤ ended i j x
-  ended_natural j x = subst (λ z. pos 0 ≤ℤ z) (sym (ended_is j x)) (weighed_natural (job_at i j).weight (past_due late (pos (x + i.machines)) (job_at i j).due) (past_natural late (pos (x + i.machines)) (job_at i j).due))
+  ended_natural j x = subst (λ z. pos 0 ≤ℤ z) (sym (ended_is j x))
+      (weighed_natural (job_at i j).weight (past_due late (pos (x + i.machines)) (job_at i j).due) (past_natural late (pos (x + i.machines)) (job_at i j).due))
 
   pub ended_small : (j x : ℕ) → j < length i.jobs → x ≤ 4000000000 → ended i j x ≤ℤ pos 10000000000000000000
   ended_small j x a l = subst (λ z. z ≤ℤ pos 10000000000000000000) (sym (ended_is j x))
-      (weighed_small (job_at i j).weight (past_due late (pos (x + i.machines)) (job_at i j).due) (weights i late h j no_job a) (past_small late (x + i.machines) (job_at i j).due (omega (arith, l, h.machines)) (dues i late h j no_job a)))
+      (weighed_small (job_at i j).weight (past_due late (pos (x + i.machines)) (job_at i j).due)
+      (weights i late h j no_job a) (past_small late (x + i.machines) (job_at i j).due (omega (arith, l, h.machines)) (dues i late h j no_job a)))
 
-  -- in a slot that begins early, and in another
-  pub cost_early : (j k : ℕ) → j < length i.jobs → k < length slots → start_in slots k < head_at i j → line_cost table j k ≡ forbidden
-  cost_early j k a b l = line_cost-is j k a b ∙ ap (λ c. if c then forbidden else ended i j (start_in slots k)) (lt-ltb (start_in slots k) (head_at i j) l)
+  module _ (slots : List Slot) where
+    -- in a slot that begins early, and in another
+    pub cost_early : (j k : ℕ) → start_in slots k < head_at i j → line_cost i slots j k ≡ forbidden
+    cost_early j k l = ap (λ c. if c then forbidden else ended i j (start_in slots k)) (lt-ltb (start_in slots k) (head_at i j) l)
 
-  pub cost_in_time : (j k : ℕ) → j < length i.jobs → k < length slots → head_at i j ≤ start_in slots k → line_cost table j k ≡ ended i j (start_in slots k)
-  cost_in_time j k a b l = line_cost-is j k a b ∙ ap (λ c. if c then forbidden else ended i j (start_in slots k)) (le-ltb (start_in slots k) (head_at i j) l)
+    pub cost_in_time : (j k : ℕ) → head_at i j ≤ start_in slots k → line_cost i slots j k ≡ ended i j (start_in slots k)
+    cost_in_time j k l = ap (λ c. if c then forbidden else ended i j (start_in slots k)) (le-ltb (start_in slots k) (head_at i j) l)
 
-  pub cost_natural : (j k : ℕ) → j < length i.jobs → k < length slots → pos 0 ≤ℤ line_cost table j k
-  cost_natural j k a b = elim (cases_lt (start_in slots k) (head_at i j)) [
-    | inl less ↦ subst (λ z. pos 0 ≤ℤ z) (sym (cost_early j k a b less)) (omega (arith, ints))
-    | inr more ↦ subst (λ z. pos 0 ≤ℤ z) (sym (cost_in_time j k a b more)) (ended_natural j (start_in slots k))
-  ]
+    pub cost_natural : (j k : ℕ) → pos 0 ≤ℤ line_cost i slots j k
+    cost_natural j k = elim (cases_lt (start_in slots k) (head_at i j)) [
+      | inl less ↦ subst (λ z. pos 0 ≤ℤ z) (sym (cost_early j k less)) (omega (arith, ints))
+      | inr more ↦ subst (λ z. pos 0 ≤ℤ z) (sym (cost_in_time j k more)) (ended_natural j (start_in slots k))
+    ]
 
-  cost_small : (j k : ℕ) → j < length i.jobs → k < length slots → start_in slots k ≤ 4000000000 → line_cost table j k ≤ℤ pos (2 ^ 100)
-  cost_small j k a b l = elim (cases_lt (start_in slots k) (head_at i j)) [
-    | inl less ↦ subst (λ z. z ≤ℤ pos (2 ^ 100)) (sym (cost_early j k a b less)) (omega (arith, ints))
-    | inr more ↦ subst (λ z. z ≤ℤ pos (2 ^ 100)) (sym (cost_in_time j k a b more)) (≤ℤ_trans (ended_small j (start_in slots k) a l) (omega (arith, ints)))
-  ]
+    cost_small : (j k : ℕ) → j < length i.jobs → start_in slots k ≤ 4000000000 → line_cost i slots j k ≤ℤ pos (2 ^ 100)
+    cost_small j k a l = elim (cases_lt (start_in slots k) (head_at i j)) [
+      | inl less ↦ subst (λ z. z ≤ℤ pos (2 ^ 100)) (sym (cost_early j k less)) (omega (arith, ints))
+      | inr more ↦ subst (λ z. z ≤ℤ pos (2 ^ 100)) (sym (cost_in_time j k more)) (≤ℤ_trans (ended_small j (start_in slots k) a l) (omega (arith, ints)))
+    ]
+
+-- the numbers of all jobs over the unit 1
+pub small : (i : Instance) → Inner i → All (HasSmallCost (pos 1)) i.jobs
+small i inner = small_costs i (record { unit = pos 1; pieces = [] }) inner (record {
+  unit = (omega (arith, ints), omega (arith, ints));
+  few = omega arith;
+  moments = All-nil (λ p. IsMoment p.from × IsMoment p.to);
+  scaled = λ e. inr (omega (arith, ints));
+})
 
 -- ---- the slots
 module _ (i : Instance) (late : Bool) (h : IsLineShop i late) (heads : List ℕ) (p : IsPermutation (map (λ j. j.release) i.jobs) heads) where
-  pub heads_few : length heads ≤ 400
+  pub heads_few : length heads ≤ MOST_JOBS
   heads_few = omega (arith, heads_many i heads p, h.few)
 
   pub heads_low : All (λ r. r ≤ 2000000000) heads
@@ -180,36 +188,30 @@ module _ (i : Instance) (late : Bool) (h : IsLineShop i late) (heads : List ℕ)
     pub slots_soon : (k : ℕ) → k < length slots → start_in slots k ≤ 2000000400
     slots_soon k l = omega (arith, filled.soon k (omega (arith, l, filled.count)), heads_few)
 
-    module _ (table : LineSlots) (t : IsTable i late slots table) where
-      pub rows_many : length table.release ≡ length i.jobs
-      rows_many = ap length t.release ∙ length-map i.jobs (λ j. j.release)
+    -- as the code passes the slots
+    module _ (listed : List Slot) (same : listed ≡ slots) where
+      pub listed_many : length listed ≡ length i.jobs
+      listed_many = ap length same ∙ slots_many
 
-      pub columns_many : length table.start ≡ length i.jobs
-      columns_many = ap length t.start ∙ length-map slots (λ s. s.start) ∙ slots_many
+      pub has_costs : HasCosts (length i.jobs) (length listed) (line_cost i listed)
+      has_costs = subst (λ l. HasCosts (length i.jobs) (length l) (line_cost i l))
+          (sym same) (λ j k a b. (cost_natural i late h slots j k, cost_small i late h slots j k a (omega (arith, slots_soon k b))))
 
-      pub has_costs : HasCosts (length table.release) (length table.start) (line_cost table)
-      has_costs j k a b =
-          let inside : j < length i.jobs = omega (arith, a, rows_many) in
-          let in_slots : k < length slots = omega (arith, b, columns_many, slots_many) in
-          (cost_natural i late h slots table t j k inside in_slots, cost_small i late h slots table t j k inside in_slots (omega (arith, slots_soon k in_slots)))
-
-      module _ (column : List ℕ) (a : IsAssigned (length table.release) (length table.start) column) where
+      module _ (column : List ℕ) (a : IsAssigned (length i.jobs) (length listed) column) where
         pub columns_inside : All (λ c. c < length slots) column
-        columns_inside k d b = omega (arith, a.inside k d b, columns_many, slots_many)
+        columns_inside k d b = omega (arith, a.inside k d b, listed_many, slots_many)
 
-        pub columns_few : length column ≤ 400
-        columns_few = omega (arith, a.all, rows_many, h.few)
+        pub columns_few : length column ≤ MOST_JOBS
+        columns_few = omega (arith, a.all, h.few)
 
-        pub least_lined : (pieces : List Piece) → IsLeast (length table.release) (length table.start) (line_cost table) column → pieces ≡ lined i.machines slots column → AreLeastLined i late pieces
+        pub least_lined : (pieces : List Piece) → IsLeast (length i.jobs) (length listed) (line_cost i listed) column → pieces ≡ lined i.machines slots column → AreLeastLined i pieces
         least_lined pieces b laid = record {
           heads = heads;
           slots = slots;
-          table = table;
           column = column;
           all = p;
           filled = filled;
-          is_table = t;
-          assigned = subst₂ (λ r c. IsAssigned r c column) rows_many columns_many a;
-          least = subst₂ (λ r c. IsLeast r c (line_cost table) column) rows_many columns_many b;
+          assigned = subst (λ c. IsAssigned (length i.jobs) c column) listed_many a;
+          least = subst₂ (λ c l. IsLeast (length i.jobs) c (line_cost i l) column) listed_many same b;
           laid = laid;
         }

@@ -1,6 +1,7 @@
 -- Jobs that begin on one machine at moments of their own: their operations, each on the machine of its number and as many units of time
 -- later, make a feasible schedule of a flow shop.
-use Rattle.std.proofs.Common.{◌≡◌, ◌≢◌, ℕ, ◌+◌, ◌*◌, ◌/◌, ◌%◌, ◌<◌, ◌≤◌, ◌⊎◌, inl, inr, Bool, eqb, List, [], ◌∷◌, length, get_or, map, All, AllPairs, MatchBool, pos, ◌-ℤ◌, ◌*ℤ◌, ◌≤ℤ◌, ◌<ℤ◌, sym, ap, subst, subst₂, ◌∙◌, arith, zero-add}
+use Rattle.std.proofs.Common.{◌≡◌, ◌≢◌, ℕ, ◌+◌, ◌*◌, ◌/◌, ◌%◌, ◌<◌, ◌≤◌, ◌⊎◌, inl, inr, Bool, eqb, List, [], ◌∷◌, length, get_or, map, All, AllPairs, MatchBool, pos, ◌-ℤ◌, ◌*ℤ◌}
+use Rattle.std.proofs.Common.{◌≤ℤ◌, ◌<ℤ◌, sym, ap, subst, subst₂, ◌∙◌, arith, zero-add}
 use Rattle.std.specs.Prelude.{◌==◌, ◌&&◌}
 use Rattle.std.proofs.lemmas.Nat.{mul-le}
 use Rattle.std.proofs.lemmas.Bool.{cases_lt}
@@ -9,6 +10,7 @@ use Rattle.std.proofs.lemmas.List.{length-map, get_or-map}
 use Rattle.std.proofs.lemmas.List.Elements.{All-nil}
 use Rattle.std.proofs.lemmas.List.FromFn.{get_or-map-range_with_len, length-map-range_with_len}
 use Rattle.std.proofs.Math.Nat.{mul-le-mul_right}
+use Rattle.msp_class.specs.declared.sizes.TheConstants.{MOST_JOBS, MOST_MACHINES}
 use Rattle.msp_class.specs.Env.{kind_of}
 use Rattle.msp_class.proofs.IntegerRing.{pos-le, pos-lt, zero-le-pos}
 use Rattle.msp_class.proofs.Sums.{OnceBelow, OnceBelow-from_distinct}
@@ -59,8 +61,8 @@ module _ (i : Instance) (late : Bool) (h : IsLineShop i late) (begin : ℕ → �
   many : length pieces ≡ N
   many = length-map-range_with_len piece 0 N
 
-  few : N ≤ 12800
-  few = omega (arith, mul-le n m 400 32 h.few h.machines)
+  few : N ≤ (MOST_MACHINES * MOST_JOBS)
+  few = omega (arith, mul-le n m MOST_JOBS MOST_MACHINES h.few h.machines)
 
   piece_is : (k : ℕ) (d : Piece) → k < N → get_or pieces k d ≡ piece k
   piece_is k d l = get_or-map-range_with_len piece 0 N k k d l (zero-add k)
@@ -105,19 +107,24 @@ module _ (i : Instance) (late : Bool) (h : IsLineShop i late) (begin : ℕ → �
           differ l e = omega (arith, l, e)
 
   wholes : All (IsWholeWork (kind_of i.class.env) i (pos 1)) pieces
-  wholes = all (IsWholeWork (kind_of i.class.env) i (pos 1)) (λ x b. subst (λ k. IsWholeWork k i (pos 1) (piece x)) (sym h.kind) (lasts (begin (x / m) + x % m) (need_at i (x / m) (x % m)).time (ones i late h (x / m) (x % m) (job_inside x b) (on x))))
+  wholes = all (IsWholeWork (kind_of i.class.env) i (pos 1))
+      (λ x b. subst (λ k. IsWholeWork k i (pos 1) (piece x)) (sym h.kind) (lasts (begin (x / m) + x % m) (need_at i (x / m) (x % m)).time (ones i late h (x / m) (x % m) (job_inside x b) (on x))))
     where
       lasts : (a t : ℕ) → t ≡ 1 → (pos (a + 1) -ℤ pos a) ≡ pos 1 *ℤ pos t
       lasts a t e = omega (arith, ints, e)
 
   gets : (j o : ℕ) → j < n → o < m → GetsWork i s j o
-  gets j o l k = subst (λ b. MatchBool b (total (map (work_of (kind_of i.class.env) i) (pieces_of s j o)) ≡ pos 1 *ℤ pos (whole_work (kind_of i.class.env) i j o)) ((p : Piece) × (pieces_of s j o ≡ p ∷ []) × IsWholeWork (kind_of i.class.env) i (pos 1) p)) (sym h.cut)
+  gets j o l k = subst (λ b. MatchBool b (total (map (work_of (kind_of i.class.env) i) (pieces_of s j o)) ≡ pos 1 *ℤ pos (whole_work (kind_of i.class.env) i j o))
+      ((p : Piece) × (pieces_of s j o ≡ p ∷ []) × IsWholeWork (kind_of i.class.env) i (pos 1) p)) (sym h.cut)
       (let (p, e) = found in (p, e, of_one (IsWholeWork (kind_of i.class.env) i (pos 1)) pieces j o p e wholes))
     where
       found : (p : Piece) × (pieces_of s j o ≡ p ∷ [])
       found =
-          let (p, e) = OnceBelow-one key pieces keys (j * m + o) (key_small j o l k) in
-          (p, filter-same (λ p. (p.job == j) && (p.op == o)) (λ p. eqb (key p) (j * m + o)) pieces (all (λ p. ((p.job == j) && (p.op == o)) ≡ eqb (key p) (j * m + o)) (λ x b. same_key m (x / m) (x % m) j o (on x) k)) ∙ e)
+          let (p, e) = OnceBelow-one key pieces keys (j * m + o) (key_small j o l k) in (
+            p,
+            filter-same (λ p. (p.job == j) && (p.op == o)) (λ p. eqb (key p) (j * m + o))
+                pieces (all (λ p. ((p.job == j) && (p.op == o)) ≡ eqb (key p) (j * m + o)) (λ x b. same_key m (x / m) (x % m) j o (on x) k)) ∙ e,
+          )
 
   -- ---- feasible
   apart : (x y : ℕ) → x < y → y < N → x % m ≡ y % m → IsApart (piece x) (piece y)
@@ -161,7 +168,8 @@ module _ (i : Instance) (late : Bool) (h : IsLineShop i late) (begin : ℕ → �
     machine = pairs (λ p q. p.machine ≡ q.machine → IsApart p q) apart;
     job = pairs (λ p q. p.job ≡ q.job → IsApart p q) (λ x y l b e. inl (follows x y e (later_rest m x y l e)));
     release = all (λ p. (pos 1 *ℤ pos (job_at i p.job).release) ≤ℤ p.from) (λ x b. released (head_at i (x / m)) (begin (x / m)) (x % m) (own_begins.released (x / m) (job_inside x b)));
-    arc = subst (λ arcs. All (λ a. All (λ p. All (λ q. p.job ≡ a.before → q.job ≡ a.after → IsBefore p q) pieces) pieces) arcs) (sym h.arcs) (All-nil (λ (a : Arc). All (λ p. All (λ q. p.job ≡ a.before → q.job ≡ a.after → IsBefore p q) pieces) pieces));
+    arc = subst (λ arcs. All (λ a. All (λ p. All (λ q. p.job ≡ a.before → q.job ≡ a.after → IsBefore p q) pieces) pieces) arcs)
+        (sym h.arcs) (All-nil (λ (a : Arc). All (λ p. All (λ q. p.job ≡ a.before → q.job ≡ a.after → IsBefore p q) pieces) pieces));
     route = subst (λ k. FollowsRoute k pieces) (sym h.kind) (all (λ p. All (From p) pieces) (λ x b. all (From (piece x)) (λ y c e l. follows x y e l)));
     work = λ j o l has. gets j o l (operation_inside i late h j o l has);
   }
@@ -193,7 +201,8 @@ module _ (i : Instance) (late : Bool) (h : IsLineShop i late) (begin : ℕ → �
 
   -- a job ends as many units of time after its begin as there are machines
   pub lines_end : (j : ℕ) → j < n → end_of s j ≤ℤ pos (begin j + m)
-  lines_end j l = last_end-least pieces j (pos (begin j + m)) (zero-le-pos (begin j + m)) (all (λ p. p.job ≡ j → p.to ≤ℤ pos (begin j + m)) (λ x b e. pos-le (by (begin (x / m)) (begin j) (x % m) (ap begin e) (on x))))
+  lines_end j l = last_end-least pieces j (pos (begin j + m)) (zero-le-pos (begin j + m))
+      (all (λ p. p.job ≡ j → p.to ≤ℤ pos (begin j + m)) (λ x b e. pos-le (by (begin (x / m)) (begin j) (x % m) (ap begin e) (on x))))
     where
       by : (a c r : ℕ) → a ≡ c → r < m → a + r + 1 ≤ c + m
       by a c r e l = omega (arith, e, l)

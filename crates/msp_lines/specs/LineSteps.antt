@@ -9,7 +9,6 @@ use Rattle.msp_schedule.specs.declared.Piece.{Piece}
 use Rattle.msp_slots.specs.declared.earliest.Slot.{Slot}
 use Rattle.msp_slots.specs.Earliest.{start_in, AreSlots}
 use Rattle.msp_assign.specs.Prices.{IsAssigned, IsLeast, column_of}
-use Rattle.msp_lines.specs.declared.line_table.LineSlots.{LineSlots}
 use Rattle.msp_lines.specs.Classes.{lines_late_class}
 use Rattle.msp_lines.specs.Costs.{line_cost}
 
@@ -36,24 +35,13 @@ lines_from n m begin = map (line_piece m begin) (range_with_len 0 (n * m))
 abbrev pub lined : ℕ → List Slot → List ℕ → List Piece
 lined m slots column = lines_from (length column) m (λ j. start_in slots (column_of column j))
 
--- The table is that of the jobs in the slots.
-pub record IsTable (i : Instance) (late : Bool) (slots : List Slot) (table : LineSlots) : Type 0 where
-  pub kind : table.late ≡ late
-  pub machines : table.machines ≡ i.machines
-  pub start : table.start ≡ map (λ s. s.start) slots
-  pub release : table.release ≡ map (λ j. j.release) i.jobs
-  pub due : table.due ≡ map (λ j. j.due) i.jobs
-  pub weight : table.weight ≡ map (λ j. j.weight) i.jobs
-
 -- The jobs begin in slots of the earliest schedule on one machine, at least cost.
-pub record AreLeastLined (i : Instance) (late : Bool) (pieces : List Piece) : Type 0 where
+pub record AreLeastLined (i : Instance) (pieces : List Piece) : Type 0 where
   pub heads : List ℕ
   pub slots : List Slot
-  pub table : LineSlots
   pub column : List ℕ
   pub all : IsPermutation (map (λ j. j.release) i.jobs) heads
   pub filled : AreSlots 1 heads slots
-  pub is_table : IsTable i late slots table
   pub assigned : IsAssigned (length i.jobs) (length i.jobs) column
-  pub least : IsLeast (length i.jobs) (length i.jobs) (line_cost table) column
+  pub least : IsLeast (length i.jobs) (length i.jobs) (line_cost i slots) column
   pub laid : pieces ≡ lined i.machines slots column

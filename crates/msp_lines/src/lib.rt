@@ -10,7 +10,6 @@
 #![tactic(auto)]
 
 mod line_costs;
-mod line_table;
 mod unit_lines;
 
 pub use unit_lines::{LinesCount, LinesLate};

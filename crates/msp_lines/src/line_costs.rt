@@ -1,69 +1,49 @@
 // What jobs cost in the slots of a flow shop.
-ghost use Rattle.std.specs.Prelude.{◌≡◌, ◌+◌, ◌*◌, ◌<◌, ◌≤◌, ◌^◌, pos, ◌*ℤ◌, unsigned_abs, length};
-ghost use Rattle.msp_instance.specs.declared.ranges.TheConstants.{GREATEST};
-ghost use Rattle.msp_instance.specs.Conditions.{LiesWithin};
-ghost use Rattle.msp_lines.specs.Costs.{greatest_past, past_due, line_cost};
+ghost use Rattle.std.specs.Prelude.{◌<◌, pos, length, All};
+ghost use Rattle.msp_class.specs.declared.list.TheConstants.{PLACES};
+ghost use Rattle.msp_schedule.specs.Within.{HasSmallCost};
+ghost use Rattle.msp_lines.specs.Costs.{line_cost};
 
-use crate::line_table::LineSlots;
 use msp_assign::Costs;
+use msp_instance::Instance;
+use msp_schedule::job_cost_at;
+use msp_slots::Slot;
 
 /// More than any schedule costs: what a job costs in a slot that begins before its release date.
 const FORBIDDEN: i128 = 1 << 90;
 
-fn product(a: i128, b: i128) -> i128
-    requires { unsigned_abs a * unsigned_abs b < 2 ^ 127 }
-    ensures { result ≡ a *ℤ b }
-{
-    a * b
+/// What the jobs of an instance cost that begin in slots and end as many units of time later as there are machines.
+#[derive(Drop)]
+pub(crate) struct LineCosts<'a> {
+    pub inst: &'a Instance,
+    pub slots: &'a [Slot],
+    ghost jobs: { length inst.now.jobs < PLACES },
+    ghost listed: { length slots.now < PLACES },
+    ghost small: { All (HasSmallCost (pos 1)) inst.now.jobs },
 }
 
-fn weighed(weight: u64, past: i128) -> i128
-    requires weight { weight ≤ GREATEST }
-    requires past { LiesWithin greatest_past past }
-    ensures { result ≡ pos weight *ℤ past }
-{
-    product(i128::from(weight), past)
-}
+impl<'a> Costs for LineCosts<'a> {
+    ghost row_count = { λ t. length t.inst.now.jobs };
 
-/// How far the end of a job that begins at `start` is past its due date, or where `late` is false, 1 where it is past it. Its operations
-/// run one after another, one on each machine.
-fn past(late: bool, start: u64, machines: u32, due: &i64) -> i128
-    ensures value { result ≡ past_due late (pos (start + machines)) due.now }
-    ensures size { LiesWithin greatest_past result }
-{
-    let end = i128::from(start) + i128::from(machines);
-    let date = i128::from(*due);
-    if late {
-        return (end - date).max(0);
-    }
-    if date < end { 1 } else { 0 }
-}
+    ghost column_count = { λ t. length t.slots.now };
 
-impl Costs for LineSlots {
-    ghost row_count = { λ s. length s.release };
-
-    ghost column_count = { λ s. length s.start };
-
-    ghost cost = { line_cost };
+    ghost cost = { λ t. line_cost t.inst.now t.slots.now };
 
     fn rows(&self) -> u32 {
-        self.release.len() as u32
+        self.inst.jobs.len() as u32
     }
 
     fn columns(&self) -> u32 {
-        self.start.len() as u32
+        self.slots.len() as u32
     }
 
     fn at(&self, row: u32, column: u32) -> i128 {
-        let job = row as usize;
-        let start = self.start.as_slice()[column as usize];
-        if start < self.release.as_slice()[job] {
+        let job = &self.inst.jobs.as_slice()[row as usize];
+        let start = self.slots[column as usize].start;
+        if start < job.release {
             return FORBIDDEN;
         }
-        let due = &self.due.as_slice()[job];
-        weighed(
-            self.weight.as_slice()[job],
-            past(self.late, start, self.machines, due),
-        )
+        let end = i128::from(start) + i128::from(self.inst.machines);
+        job_cost_at(self.inst.class.crit, 1, job, end)
     }
 }

@@ -1,20 +1,20 @@
 // Flow shops of unit operations with release dates, `F|r,p=1|sumwT` and `F|r,p=1|sumwU`: in the slots of the earliest schedule on one
 // machine, at least cost.
-ghost use Rattle.std.specs.Prelude.{◌≡◌, ◌<◌, ◌≤◌, length, map, All, IfOk, ⊤};
-ghost use Rattle.msp_instance.specs.declared.ranges.TheConstants.{GREATEST, MOST_JOBS, MOST_MACHINES};
+ghost use Rattle.std.specs.Prelude.{◌≡◌, ◌<◌, ◌≤◌, ◌⊎◌, length, All, IfOk};
+ghost use Rattle.msp_class.specs.declared.sizes.TheConstants.{MOST_JOBS, MOST_MACHINES};
 ghost use Rattle.msp_instance.specs.Conditions.{Inner};
 ghost use Rattle.msp_schedule.specs.Cost.{IsBest};
 ghost use Rattle.msp_route.specs.Bounds.{IsAnswer};
 ghost use Rattle.msp_lines.specs.Classes.{lines_late_class, lines_count_class};
-ghost use Rattle.msp_lines.specs.LineSteps.{line_class, line_part, lined, IsTable, AreLeastLined};
+ghost use Rattle.msp_lines.specs.LineSteps.{line_class, line_part, lined, AreLeastLined};
 
-use crate::line_table::LineSlots;
+use crate::line_costs::LineCosts;
 use msp_assign::{Assignment, assign};
 use msp_class::{Class, Crit, Env, List, NoMemory, Order, Times};
-use msp_instance::{Instance, Job};
+use msp_instance::Instance;
 use msp_route::Solver;
 use msp_schedule::{Piece, Schedule, Solution};
-use msp_slots::{Slot, earliest_slots, releases_of, sorted_releases, starts_of};
+use msp_slots::{Slot, earliest_slots, sorted_releases};
 use std::alloc::Global;
 
 /// The class of unit operations with release dates in flow shops, by weighted tardiness or by the weight of late jobs.
@@ -30,45 +30,6 @@ fn class_of(late: bool) -> Class
         times: Times::Unit,
         crit,
     }
-}
-
-fn dues_of(alloc: Global, jobs: &[Job]) -> Result<Vec<i64>, NoMemory>
-    ensures { IfOk result (λ all. all.items ≡ map (λ j. j.due) jobs.now) }
-{
-    Ok(jobs.iter().map(|job| job.due).collect(alloc)?)
-}
-
-fn weights_of(alloc: Global, jobs: &[Job]) -> Result<Vec<u64>, NoMemory>
-    ensures { IfOk result (λ all. all.items ≡ map (λ j. j.weight) jobs.now) }
-{
-    Ok(jobs.iter().map(|job| job.weight).collect(alloc)?)
-}
-
-/// What the jobs cost in the slots.
-fn table_of(
-    alloc: Global,
-    inst: &Instance,
-    slots: &[Slot],
-    late: bool,
-) -> Result<LineSlots, NoMemory>
-    requires jobs { length inst.now.jobs ≤ MOST_JOBS }
-    requires slots { length slots.now ≤ MOST_JOBS }
-    requires light { All (λ w. w ≤ GREATEST) (map (λ j. j.weight) inst.now.jobs) }
-    ensures { IfOk result (IsTable inst.now late slots.now) }
-{
-    let jobs = inst.jobs.as_slice();
-    let start = List::from_vec(starts_of(alloc, slots)?);
-    let release = List::from_vec(releases_of(alloc, jobs)?);
-    let due = List::from_vec(dues_of(alloc, jobs)?);
-    let weight = List::from_vec(weights_of(alloc, jobs)?);
-    Ok(LineSlots {
-        late,
-        machines: inst.machines,
-        start,
-        release,
-        due,
-        weight,
-    })
 }
 
 /// The operation of the job that begins in the slot: each operation runs on the machine of its number, as many units of time later.
@@ -108,14 +69,17 @@ fn laid_out(
 }
 
 /// The pieces of a schedule of least cost.
-fn least_pieces(alloc: Global, inst: &Instance, late: bool) -> Result<List<Piece>, NoMemory>
+fn least_pieces(alloc: Global, inst: &Instance) -> Result<List<Piece>, NoMemory>
     requires inner { Inner inst.now }
-    requires class { inst.now.class ≡ line_class late }
-    ensures { IfOk result (AreLeastLined inst.now late) }
+    requires class { (inst.now.class ≡ lines_late_class) ⊎ (inst.now.class ≡ lines_count_class) }
+    ensures { IfOk result (AreLeastLined inst.now) }
 {
     let heads = sorted_releases(alloc, inst.jobs.as_slice())?;
     let slots = earliest_slots(alloc, heads.as_slice(), 1)?;
-    let table = table_of(alloc, inst, slots.as_slice(), late)?;
+    let table = LineCosts {
+        inst,
+        slots: slots.as_slice(),
+    };
     let Assignment { column, .. } = assign(alloc, &table)?;
     laid_out(
         alloc,
@@ -125,14 +89,14 @@ fn least_pieces(alloc: Global, inst: &Instance, late: bool) -> Result<List<Piece
     )
 }
 
-/// A schedule of least weighted tardiness, or where `late` is false, of least weight of late jobs, with its cost.
-fn schedule_in_lines(alloc: Global, inst: &Instance, late: bool) -> Result<Solution, NoMemory>
+/// A schedule of least cost, with it.
+fn schedule_in_lines(alloc: Global, inst: &Instance) -> Result<Solution, NoMemory>
     requires inner { Inner inst.now }
-    requires class { inst.now.class ≡ line_class late }
+    requires class { (inst.now.class ≡ lines_late_class) ⊎ (inst.now.class ≡ lines_count_class) }
     ensures best { IfOk result (λ s. IsBest inst.now s) }
     ensures bounds { IfOk result (λ s. IsAnswer inst.now s.schedule) }
 {
-    let pieces = least_pieces(alloc, inst, late)?;
+    let pieces = least_pieces(alloc, inst)?;
     let schedule = Schedule { unit: 1, pieces };
     let cost = msp_schedule::cost(inst, &schedule);
     Ok(Solution { schedule, cost })
@@ -146,10 +110,6 @@ pub struct LinesLate;
 impl Solver for LinesLate {
     ghost solved = { λ _. lines_late_class };
 
-    ghost can_solve = { λ _ _. ⊤ };
-
-    ghost may_ask = { λ _ _. ⊤ };
-
     fn target(&self) -> Class {
         class_of(true)
     }
@@ -159,7 +119,7 @@ impl Solver for LinesLate {
     }
 
     fn solve(&self, alloc: Global, inst: &Instance) -> Result<Solution, NoMemory> {
-        schedule_in_lines(alloc, inst, true)
+        schedule_in_lines(alloc, inst)
     }
 }
 
@@ -170,10 +130,6 @@ pub struct LinesCount;
 impl Solver for LinesCount {
     ghost solved = { λ _. lines_count_class };
 
-    ghost can_solve = { λ _ _. ⊤ };
-
-    ghost may_ask = { λ _ _. ⊤ };
-
     fn target(&self) -> Class {
         class_of(false)
     }
@@ -183,6 +139,6 @@ impl Solver for LinesCount {
     }
 
     fn solve(&self, alloc: Global, inst: &Instance) -> Result<Solution, NoMemory> {
-        schedule_in_lines(alloc, inst, false)
+        schedule_in_lines(alloc, inst)
     }
 }

@@ -1,7 +1,7 @@
 -- The changes that the rows to unrelated machines make.
 use Rattle.std.specs.Prelude.{ℕ, ◌*◌, ◌/◌, ◌≤◌, List, [], length, pos, ◌*ℤ◌, slice_index_or, map, All}
 use Rattle.std.specs.List.{range_with_len}
-use Rattle.msp_instance.specs.declared.ranges.TheConstants.{GREATEST}
+use Rattle.msp_class.specs.declared.sizes.TheConstants.{GREATEST}
 use Rattle.msp_instance.specs.declared.Need.{Need}
 use Rattle.msp_instance.specs.declared.Step.{Step}
 use Rattle.msp_instance.specs.declared.Curve.{Curve}

@@ -1,6 +1,6 @@
 // The rows to unrelated machines.
 ghost use Rattle.std.specs.Prelude.{◌≡◌, ◌*◌, ◌/◌, ◌≤◌, IfOk, map, length, slice_index_or, All, pos, ◌*ℤ◌, ◌≤ℤ◌, refl};
-ghost use Rattle.msp_instance.specs.declared.ranges.TheConstants.{GREATEST, GREATEST_MULTIPLE, GREATEST_SPEED, MOST_MACHINES};
+ghost use Rattle.msp_class.specs.declared.sizes.TheConstants.{MOST_MACHINES, GREATEST, GREATEST_SPEED, GREATEST_MULTIPLE};
 ghost use Rattle.msp_instance.specs.Conditions.{HasSmallMultiple, LiesWithin, Inner};
 ghost use Rattle.msp_class.specs.declared.environments.EnvKind.TheVariants.{Uniform};
 ghost use Rattle.msp_class.specs.Env.{kind_of};
@@ -11,7 +11,8 @@ ghost use Rattle.msp_schedule.specs.Cost.{IsSolution};
 ghost use Rattle.msp_route.specs.Law.{Applies};
 ghost use Rattle.msp_route.specs.laws.Stays.{carries_same};
 ghost use Rattle.msp_route.specs.Rates.{least_common_multiple, speed_rate};
-ghost use Rattle.msp_machines.specs.Unrelated.{IsStretchable, needs_by, only_time, on_each_machine, led_to_each, stretched_step, stretched_curve, stretched, led_by_speeds, stretched_schedule, shrunk_schedule};
+ghost use Rattle.msp_machines.specs.Unrelated.{IsStretchable, needs_by, only_time, on_each_machine, led_to_each, stretched_step, stretched_curve, stretched, led_by_speeds};
+ghost use Rattle.msp_machines.specs.Unrelated.{stretched_schedule, shrunk_schedule};
 ghost use Rattle.msp_machines.specs.laws.Stretched.{led_26, led_27};
 ghost use Rattle.msp_machines.specs.laws.OnEach.{stay_23, stay_24};
 

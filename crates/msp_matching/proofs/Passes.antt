@@ -56,7 +56,8 @@ module _ (column «from» tree : List ℕ) where
     IsPassedOn-end next h = record {
       same = h.same;
       each = λ r l. elim (same_or_not r (at tree 0)) [
-        | inl e ↦ subst (λ x. ((x ≢ at tree 0) × (at next x ≡ at column x)) ⊎ ((at tree (at «from» (at next x)) ≡ x) × IsStep column tree (at next x))) (sym e) (inr (ap (at tree) (sym h.place_is), h.last))
+        | inl e ↦ subst (λ x. ((x ≢ at tree 0) × (at next x ≡ at column x)) ⊎ ((at tree (at «from» (at next x)) ≡ x) × IsStep column tree (at next x)))
+            (sym e) (inr (ap (at tree) (sym h.place_is), h.last))
         | inr n ↦ elim (h.each r l n) [
           | inl a ↦ inl (n, a)
           | inr a ↦ inr a

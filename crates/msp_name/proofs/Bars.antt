@@ -23,11 +23,13 @@ pub reading_of-one_bar : (b env rest : List ℕ) → parts bar b ≡ env ∷ par
 unfolding reading_of
 reading_of-one_bar b env rest e f = rw (e, f) refl
 
-pub reading_of-two_bars : (b env rest items crit : List ℕ) → parts bar b ≡ env ∷ parts bar rest → parts bar rest ≡ items ∷ parts bar crit → parts bar crit ≡ crit ∷ [] → fields_read env items crit ≡ reading_of b
+pub reading_of-two_bars : (b env rest items crit : List ℕ)
+    → parts bar b ≡ env ∷ parts bar rest → parts bar rest ≡ items ∷ parts bar crit → parts bar crit ≡ crit ∷ [] → fields_read env items crit ≡ reading_of b
 unfolding reading_of
 reading_of-two_bars b env rest items crit e f g = rw (e, f, g) refl
 
-pub reading_of-more_bars : (b env rest items left crit more : List ℕ) → parts bar b ≡ env ∷ parts bar rest → parts bar rest ≡ items ∷ parts bar left → parts bar left ≡ crit ∷ parts bar more → Err Bars ≡ reading_of b
+pub reading_of-more_bars : (b env rest items left crit more : List ℕ)
+    → parts bar b ≡ env ∷ parts bar rest → parts bar rest ≡ items ∷ parts bar left → parts bar left ≡ crit ∷ parts bar more → Err Bars ≡ reading_of b
 unfolding reading_of
 reading_of-more_bars b env rest items left crit more e f g = rw (e, f, g) (sym (many env items crit more))
 

@@ -30,28 +30,57 @@ Gains-heads : (s : Class) → Gains s i.Heads (record s { heads = true })
 Gains-heads s = record { items = λ y. elim y as (λ y. has_item (record s { heads = true }) y ≡ (item_eq i.Heads y || has_item s y)) [ i.Cut ↦ refl | _ ↦ refl ]; env = refl; crit = refl }
 
 Gains-unit : (s : Class) → Gains (record s { times = t.General }) i.Unit (record s { times = t.Unit })
-Gains-unit s = record { items = λ y. elim y as (λ y. has_item (record s { times = t.Unit }) y ≡ (item_eq i.Unit y || has_item (record s { times = t.General }) y)) [ i.Cut ↦ refl | _ ↦ refl ]; env = refl; crit = refl }
+Gains-unit s = record {
+  items = λ y. elim y as (λ y. has_item (record s { times = t.Unit }) y ≡ (item_eq i.Unit y || has_item (record s { times = t.General }) y)) [ i.Cut ↦ refl | _ ↦ refl ];
+  env = refl;
+  crit = refl;
+}
 
 Gains-equal : (s : Class) → Gains (record s { times = t.General }) i.Equal (record s { times = t.Equal })
-Gains-equal s = record { items = λ y. elim y as (λ y. has_item (record s { times = t.Equal }) y ≡ (item_eq i.Equal y || has_item (record s { times = t.General }) y)) [ i.Cut ↦ refl | _ ↦ refl ]; env = refl; crit = refl }
+Gains-equal s = record {
+  items = λ y. elim y as (λ y. has_item (record s { times = t.Equal }) y ≡ (item_eq i.Equal y || has_item (record s { times = t.General }) y)) [ i.Cut ↦ refl | _ ↦ refl ];
+  env = refl;
+  crit = refl;
+}
 
 Gains-chains : (s : Class) → Gains (record s { order = o.Free }) i.Chains (record s { order = o.Chains })
-Gains-chains s = record { items = λ y. elim y as (λ y. has_item (record s { order = o.Chains }) y ≡ (item_eq i.Chains y || has_item (record s { order = o.Free }) y)) [ i.Cut ↦ refl | _ ↦ refl ]; env = refl; crit = refl }
+Gains-chains s = record {
+  items = λ y. elim y as (λ y. has_item (record s { order = o.Chains }) y ≡ (item_eq i.Chains y || has_item (record s { order = o.Free }) y)) [ i.Cut ↦ refl | _ ↦ refl ];
+  env = refl;
+  crit = refl;
+}
 
 Gains-intree : (s : Class) → Gains (record s { order = o.Free }) i.Intree (record s { order = o.Intree })
-Gains-intree s = record { items = λ y. elim y as (λ y. has_item (record s { order = o.Intree }) y ≡ (item_eq i.Intree y || has_item (record s { order = o.Free }) y)) [ i.Cut ↦ refl | _ ↦ refl ]; env = refl; crit = refl }
+Gains-intree s = record {
+  items = λ y. elim y as (λ y. has_item (record s { order = o.Intree }) y ≡ (item_eq i.Intree y || has_item (record s { order = o.Free }) y)) [ i.Cut ↦ refl | _ ↦ refl ];
+  env = refl;
+  crit = refl;
+}
 
 Gains-outtree : (s : Class) → Gains (record s { order = o.Free }) i.Outtree (record s { order = o.Outtree })
-Gains-outtree s = record { items = λ y. elim y as (λ y. has_item (record s { order = o.Outtree }) y ≡ (item_eq i.Outtree y || has_item (record s { order = o.Free }) y)) [ i.Cut ↦ refl | _ ↦ refl ]; env = refl; crit = refl }
+Gains-outtree s = record {
+  items = λ y. elim y as (λ y. has_item (record s { order = o.Outtree }) y ≡ (item_eq i.Outtree y || has_item (record s { order = o.Free }) y)) [ i.Cut ↦ refl | _ ↦ refl ];
+  env = refl;
+  crit = refl;
+}
 
 Gains-prec : (s : Class) → Gains (record s { order = o.Free }) i.Prec (record s { order = o.Prec })
-Gains-prec s = record { items = λ y. elim y as (λ y. has_item (record s { order = o.Prec }) y ≡ (item_eq i.Prec y || has_item (record s { order = o.Free }) y)) [ i.Cut ↦ refl | _ ↦ refl ]; env = refl; crit = refl }
+Gains-prec s = record {
+  items = λ y. elim y as (λ y. has_item (record s { order = o.Prec }) y ≡ (item_eq i.Prec y || has_item (record s { order = o.Free }) y)) [ i.Cut ↦ refl | _ ↦ refl ];
+  env = refl;
+  crit = refl;
+}
 
 Gains-J2 : (s : Class) → Gains (record s { env = e.J2 }) i.Short (record s { env = e.J2Short })
-Gains-J2 s = record { items = λ y. elim y as (λ y. has_item (record s { env = e.J2Short }) y ≡ (item_eq i.Short y || has_item (record s { env = e.J2 }) y)) [ i.Cut ↦ refl | _ ↦ refl ]; env = refl; crit = refl }
+Gains-J2 s = record {
+  items = λ y. elim y as (λ y. has_item (record s { env = e.J2Short }) y ≡ (item_eq i.Short y || has_item (record s { env = e.J2 }) y)) [ i.Cut ↦ refl | _ ↦ refl ];
+  env = refl;
+  crit = refl;
+}
 
 Gains-J : (s : Class) → Gains (record s { env = e.J }) i.Short (record s { env = e.JShort })
-Gains-J s = record { items = λ y. elim y as (λ y. has_item (record s { env = e.JShort }) y ≡ (item_eq i.Short y || has_item (record s { env = e.J }) y)) [ i.Cut ↦ refl | _ ↦ refl ]; env = refl; crit = refl }
+Gains-J s =
+    record { items = λ y. elim y as (λ y. has_item (record s { env = e.JShort }) y ≡ (item_eq i.Short y || has_item (record s { env = e.J }) y)) [ i.Cut ↦ refl | _ ↦ refl ]; env = refl; crit = refl }
 
 with_order-some : (p : Order) (r d : Class) → elim p as (λ _. Option Class) [ o.Free ↦ Some r | _ ↦ None ] ≡ Some d → (p ≡ o.Free) × (r ≡ d)
 with_order-some o.Free r d h = (refl, cc)
@@ -162,7 +191,8 @@ fits_order s r p h = rw h (r, refl)
 fits_times : (s : Class) (r : Class) (p : Times) → p ≡ t.General → (d : Class) × (elim p as (λ _. Option Class) [ t.General ↦ Some r | _ ↦ None ] ≡ Some d)
 fits_times s r p h = rw h (r, refl)
 
-short_of : (x y : Env) (r q : Class) → plain_env x ≡ plain_env y → is_short y ≡ true → is_short x ≡ false → (d : Class) × (elim x as (λ _. Option Class) [ e.J2 ↦ Some r | e.J ↦ Some q | _ ↦ None ] ≡ Some d)
+short_of : (x y : Env) (r q : Class) → plain_env x ≡ plain_env y
+    → is_short y ≡ true → is_short x ≡ false → (d : Class) × (elim x as (λ _. Option Class) [ e.J2 ↦ Some r | e.J ↦ Some q | _ ↦ None ] ≡ Some d)
 short_of e.J2 y r q h k m = (r, refl)
 short_of e.J y r q h k m = (q, refl)
 short_of e.J2Short y r q h k m = cc

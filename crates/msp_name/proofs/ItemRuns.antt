@@ -37,14 +37,16 @@ item_eq-itself : (x : Item) → item_eq x x ≡ true
 item_eq-itself i.Cut = refl
 item_eq-itself _ = refl
 
-fresh_back : (s d : Class) (x : Item) → Gains s x d → (xs : List Item) → AllByRecursion (λ y. has_item d y ≡ false) xs → AllByRecursion (λ y. has_item s y ≡ false) xs × AllByRecursion (λ y. item_eq x y ≡ false) xs
+fresh_back : (s d : Class) (x : Item) → Gains s x d → (xs : List Item)
+    → AllByRecursion (λ y. has_item d y ≡ false) xs → AllByRecursion (λ y. has_item s y ≡ false) xs × AllByRecursion (λ y. item_eq x y ≡ false) xs
 fresh_back s d x g [] h = (tt, tt)
 fresh_back s d x g (y ∷ ys) h =
     let both = or_parts _ _ (sym (g.items y) ∙ h.0) in
     let rest = fresh_back s d x g ys h.1 in
     ((both.1, rest.0), (both.0, rest.1))
 
-fresh_on : (s d : Class) (x : Item) → Gains s x d → (xs : List Item) → AllByRecursion (λ y. has_item s y ≡ false) xs → AllByRecursion (λ y. item_eq x y ≡ false) xs → AllByRecursion (λ y. has_item d y ≡ false) xs
+fresh_on : (s d : Class) (x : Item) → Gains s x d → (xs : List Item)
+    → AllByRecursion (λ y. has_item s y ≡ false) xs → AllByRecursion (λ y. item_eq x y ≡ false) xs → AllByRecursion (λ y. has_item d y ≡ false) xs
 fresh_on s d x g [] h k = tt
 fresh_on s d x g (y ∷ ys) h k =
     let here : has_item d y ≡ false = g.items y ∙ (rw (k.0, h.0) refl) in

@@ -4,6 +4,6 @@ pub mod Bars
 pub mod ItemLemmas
 pub mod TableLemmas
 pub mod ItemRuns
-pub mod Marks
+pub mod Separators
 pub mod NameLemmas
 pub mod PrintLemmas

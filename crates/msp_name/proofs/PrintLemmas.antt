@@ -1,5 +1,6 @@
 -- The canonical name: how its items are put one by one, its length, and that it is a name.
-use Rattle.std.proofs.Common.{◌≡◌, ℕ, ◌≤◌, List, [], ◌∷◌, ◌++◌, length, map, refl, sym, ap, ◌∙◌, Bool, true, false, ◌||◌, ◌&&◌, not, Some, append_assoc, append-nil, lit≤, leb, bytes_eq, Contains, All, codes, length-append, arith}
+use Rattle.std.proofs.Common.{◌≡◌, ℕ, ◌≤◌, List, [], ◌∷◌, ◌++◌, length, map, refl, sym, ap, ◌∙◌, Bool, true, false, ◌||◌, ◌&&◌, not, Some, append_assoc, append-nil, lit≤, leb}
+use Rattle.std.proofs.Common.{bytes_eq, Contains, All, codes, length-append, arith}
 use Rattle.std.specs.List.{join_with_byte, IsDistinct, AllByRecursion}
 use Rattle.std.specs.Cmp.Lexicographic.{pointwise}
 use Rattle.std.proofs.lemmas.Bool.{leb-true, and_parts}
@@ -42,7 +43,8 @@ step out p b w ws = ap (λ t. out ++ t) (following-if p b w ws) ∙ sym (append_
 
 -- five items put one by one
 pub five_items : (out : List ℕ) (a b d f g : Bool) (u v w x y : List ℕ) →
-    ((((out ++ following false (text_if a u)) ++ following (false || a) (text_if b v)) ++ following ((false || a) || b) (text_if d w)) ++ following (((false || a) || b) || d) (text_if f x)) ++ following ((((false || a) || b) || d) || f) (text_if g y)
+    ((((out ++ following false (text_if a u)) ++ following (false || a) (text_if b v)) ++ following ((false || a) || b) (text_if d w)) ++ following (((false || a) || b) || d) (text_if f x))
+    ++ following ((((false || a) || b) || d) || f) (text_if g y)
     ≡ out ++ join_with_byte comma (text_if a u ++ (text_if b v ++ (text_if d w ++ (text_if f x ++ text_if g y))))
 five_items out a b d f g u v w x y = sym (
     ap (λ t. out ++ t) (sym (following-join (text_if a u ++ (text_if b v ++ (text_if d w ++ (text_if f x ++ text_if g y))))))
@@ -72,7 +74,8 @@ rows : Bool → Order → Bool → Times → Bool → List (List ℕ × Item)
 rows a p h u s = row_if a (codes "pmtn", i.Cut) ++ (order_row p ++ (row_if h (codes "r", i.Heads) ++ (times_row u ++ row_if s (codes "n<=2", i.Short))))
 
 texts : Bool → Order → Bool → Times → Bool → List (List ℕ)
-texts a p h u s = text_if a (codes "pmtn") ++ (text_if (not (order_eq p o.Free)) (order_text p) ++ (text_if h (codes "r") ++ (text_if (not (times_eq u t.General)) (times_text u) ++ text_if s (codes "n<=2"))))
+texts a p h u s = text_if a (codes "pmtn")
+    ++ (text_if (not (order_eq p o.Free)) (order_text p) ++ (text_if h (codes "r") ++ (text_if (not (times_eq u t.General)) (times_text u) ++ text_if s (codes "n<=2"))))
 
 -- a test at each value
 all_bools : (Bool → Bool) → Bool

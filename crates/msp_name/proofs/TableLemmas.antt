@@ -1,4 +1,4 @@
--- The tables of texts: what stands in a row is what a look-up finds, and no text has a mark in it.
+-- The tables of texts: what stands in a row is what a look-up finds, and no text has a separator in it.
 use Rattle.std.proofs.Common.{◌≡◌, ℕ, suc, List, [], ◌∷◌, refl, sym, subst, Bool, true, false, cond, Some, Contains, bytes_eq, arith}
 use Rattle.std.specs.List.{AllByRecursion}
 use Rattle.std.proofs.lemmas.List.Elements.{All-from_recursion, All-contains}
@@ -15,7 +15,8 @@ Contains-here x xs = (0, omega arith, refl)
 Contains-there : {A : Type 0} (x y : A) (xs : List A) → Contains xs y → Contains (x ∷ xs) y
 Contains-there x y xs h = (suc h.0, omega (arith, h.1), h.2)
 
-by_row : {A : Type 0} (row : List ℕ × A) (rows : List (List ℕ × A)) (w : List ℕ) (x : A) (b : Bool) → bytes_eq w row.0 ≡ b → (spelled rows w ≡ Some x → Contains rows (w, x)) → cond b (Some row.1) (spelled rows w) ≡ Some x → Contains (row ∷ rows) (w, x)
+by_row : {A : Type 0} (row : List ℕ × A) (rows : List (List ℕ × A)) (w : List ℕ) (x : A) (b : Bool)
+    → bytes_eq w row.0 ≡ b → (spelled rows w ≡ Some x → Contains rows (w, x)) → cond b (Some row.1) (spelled rows w) ≡ Some x → Contains (row ∷ rows) (w, x)
 by_row row rows w x true h k e =
     let t : w ≡ row.0 = (bytes_eq-Decides w row.0).0 h in
     let v : row.1 ≡ x = cc in
@@ -36,7 +37,8 @@ env_finds = (refl, (refl, (refl, (refl, (refl, (refl, (refl, (refl, (refl, (refl
 
 item_finds : AllByRecursion (Finds item_texts) item_texts
 unfolding item_texts Finds
-item_finds = (refl, (refl, (refl, (refl, (refl, (refl, (refl, (refl, (refl, (refl, (refl, (refl, (refl, (refl, (refl, (refl, (refl, (refl, (refl, (refl, (refl, (refl, (refl, (refl, tt))))))))))))))))))))))))
+item_finds =
+    (refl, (refl, (refl, (refl, (refl, (refl, (refl, (refl, (refl, (refl, (refl, (refl, (refl, (refl, (refl, (refl, (refl, (refl, (refl, (refl, (refl, (refl, (refl, (refl, tt))))))))))))))))))))))))
 
 crit_finds : AllByRecursion (Finds crit_texts) crit_texts
 unfolding crit_texts Finds

@@ -32,9 +32,9 @@ abbrev pub items_read : ℕ → Class → List (List ℕ) → Result Class NameF
 items_read at c [] = Ok c
 items_read at c (w ∷ ws) = then_read (item_read at c w) (λ d. items_read (at + length w + 1) d ws)
 
--- the parts round a mark
+-- the parts round a separator
 abbrev pub parts : ℕ → List ℕ → List (List ℕ)
-parts mark b = slice_split (λ x. x == mark) b
+parts separator b = slice_split (λ x. x == separator) b
 
 -- the texts of the items: none between two bars side by side
 abbrev pub words : List ℕ → List (List ℕ)

@@ -81,21 +81,21 @@ fn with_item(class: Class, item: Item) -> Option<Class>
     }
 }
 
-fn find(bytes: &[u8], mark: u8) -> Option<usize>
-    ensures { result ≡ position (λ x. x == mark) bytes.now }
+fn find(bytes: &[u8], separator: u8) -> Option<usize>
+    ensures { result ≡ position (λ x. x == separator) bytes.now }
 {
-    bytes.iter().position(|byte| *byte == mark)
+    bytes.iter().position(|byte| *byte == separator)
 }
 
-/// The text before the first mark and the text after it.
+/// The text before the first separator and the text after it.
 #[tactic(auto, using(crate::proofs::Parts::cut_rules))]
-fn cut(bytes: &[u8], mark: u8) -> Option<(&[u8], &[u8])>
+fn cut(bytes: &[u8], separator: u8) -> Option<(&[u8], &[u8])>
     ensures { MatchOption result
-        (parts mark bytes.now ≡ bytes.now ∷ [])
-        (λ p. (parts mark bytes.now ≡ p.0.now ∷ parts mark p.1.now)
+        (parts separator bytes.now ≡ bytes.now ∷ [])
+        (λ p. (parts separator bytes.now ≡ p.0.now ∷ parts separator p.1.now)
         × (length p.0.now + 1 + length p.1.now ≡ length bytes.now)) }
 {
-    match find(bytes, mark) {
+    match find(bytes, separator) {
         Some(at) => Some((&bytes[..at], &bytes[at + 1..])),
         None => None,
     }

@@ -3,6 +3,7 @@ use Rattle.std.proofs.Common.{◌≡◌, ℕ, ◌<◌, ◌≤◌, ◌^◌, ◌�
 use Rattle.std.specs.Prelude.{int_lt, if◌then◌else◌}
 use Rattle.std.specs.Int.{int_max}
 use Rattle.std.proofs.lemmas.Int.{ints, clamps}
+use Rattle.msp_class.specs.declared.sizes.TheConstants.{MOST_JOBS, GREATEST}
 use Rattle.msp_class.specs.declared.class.Class.{Class}
 use Rattle.msp_class.specs.declared.class.Crit.{Crit}
 use Rattle.msp_class.specs.declared.class.Crit.TheVariants.{SumWT, SumWU}
@@ -54,10 +55,11 @@ counted : (b : Bool) (unit : ℕ) → unit ≤ 1073741824 → IsPast (if b then 
 counted true unit l = (zero-le-pos unit, pos-le (omega (arith, l)))
 counted false unit l = (omega (arith, ints), omega (arith, ints))
 
-weighed : (w : ℕ) (x : ℤ) → w ≤ 1000000000 → IsPast x → IsCost (pos w *ℤ x)
+weighed : (w : ℕ) (x : ℤ) → w ≤ GREATEST → IsPast x → IsCost (pos w *ℤ x)
 weighed w x l h = (*ℤ-nonneg (zero-le-pos w) h.0, ≤ℤ_trans (*ℤ-mono w h.1) (pos-le (omega (arith, l))))
 
-cost_bounded : (crit : Crit) → (crit ≡ SumWT) ⊎ (crit ≡ SumWU) → (unit end : ℕ) (j : Job) → unit ≤ 1073741824 → end ≤ 429496729600000000 → LiesWithin 2000000000 j.due → j.weight ≤ 1000000000 → IsCost (job_cost crit (pos unit) j (pos end))
+cost_bounded : (crit : Crit) → (crit ≡ SumWT) ⊎ (crit ≡ SumWU) → (unit end : ℕ) (j : Job)
+    → unit ≤ 1073741824 → end ≤ 429496729600000000 → LiesWithin 2000000000 j.due → j.weight ≤ GREATEST → IsCost (job_cost crit (pos unit) j (pos end))
 cost_bounded crit either unit end j few soon due light = elim either [
   | inl e ↦ subst (λ c. IsCost (job_cost c (pos unit) j (pos end))) (sym e) (weighed j.weight (tardiness (pos unit) j (pos end)) light (tardy end (pos unit *ℤ j.due) soon scaled))
   | inr e ↦ subst (λ c. IsCost (job_cost c (pos unit) j (pos end))) (sym e) (weighed j.weight (late (pos unit) j (pos end)) light (counted (int_lt (pos unit *ℤ j.due) (pos end)) unit few))
@@ -67,15 +69,18 @@ cost_bounded crit either unit end j few soon due light = elim either [
     scaled = product_within unit j.due 1073741824 2000000000 2147483648000000000 few due (omega arith)
 
 -- ---- the table
-module _ (i : Instance) (d : IsByDues i) (inner : Inner i) (unit : ℕ) (common : IsLeastOfAll i.speeds unit) (few : unit ≤ 2 ^ 30) (places : List Place) (earliest : AreEarliestPlaces i unit places) where
+module _ (i : Instance) (d : IsByDues i) (inner : Inner i)
+    (unit : ℕ) (common : IsLeastOfAll i.speeds unit) (few : unit ≤ 2 ^ 30) (places : List Place) (earliest : AreEarliestPlaces i unit places) where
   abbrev n : ℕ
   n = length i.jobs
 
   pub small : All (HasSmallCost (pos unit)) i.jobs
-  small = small_costs i (placed_schedule unit n places (λ j. j) (λ j. j)) inner (placed_is_within d.crit i d.is unit common few places earliest (λ j. j) (λ j. j) (record { jobs = λ a l. l; once = λ a b l k e. e; numbers = λ a l. l; own = λ a b l k e. e }))
+  small = small_costs i (placed_schedule unit n places (λ j. j) (λ j. j)) inner
+      (placed_is_within d.crit i d.is unit common few places earliest (λ j. j) (λ j. j) (record { jobs = λ a l. l; once = λ a b l k e. e; numbers = λ a l. l; own = λ a b l k e. e }))
 
   end_soon : (k : ℕ) → k < n → (place_at places k).end ≤ 429496729600000000
-  end_soon k l = ends_bounded (lengths_of i unit) (lengths_short i d.is.speeds (common_time_within d.crit i d.is) unit common few) n places d.is.few earliest k no_place (omega (arith, l, earliest.count))
+  end_soon k l = ends_bounded (lengths_of i unit)
+      (lengths_short i d.is.speeds (common_time_within d.crit i d.is) unit common few) n places d.is.few earliest k no_place (omega (arith, l, earliest.count))
 
   due_small : (j : ℕ) → j < n → LiesWithin 2000000000 (job_at i j).due
   due_small j l = due_within (inner_limits Uniform) (uses_due d.crit) (job_at i j).due (d.is.jobs j no_job l).due
@@ -92,7 +97,7 @@ module _ (i : Instance) (d : IsByDues i) (inner : Inner i) (unit : ℕ) (common 
     has_costs = subst₂ (λ m p. HasCosts n m (place_cost i unit p)) (sym listed_many) (sym same) costs
 
     module _ (column : List ℕ) (assigned : IsAssigned n (length listed) column) where
-      pub columns_few : length column ≤ 400
+      pub columns_few : length column ≤ MOST_JOBS
       columns_few = omega (arith, assigned.all, d.is.few)
 
       pub least_assigned : (pieces : List Piece) → IsLeast n (length listed) (place_cost i unit listed) column → pieces ≡ in_columns (length column) listed column → AreLeastAssigned i unit pieces

@@ -3,7 +3,6 @@ pub mod OwnPlaces
 pub mod Turns
 pub mod PlaceFacts
 pub mod PlacedJobs
-pub mod Charged
 pub mod InTurn
 pub mod MostBest
 pub mod MostSteps

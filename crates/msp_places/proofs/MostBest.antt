@@ -1,5 +1,6 @@
 -- The jobs in the order of least cost in the earliest places: a best schedule by the greatest cost of a job.
-use Rattle.std.proofs.Common.{◌≡◌, ◌≢◌, ℕ, zero, suc, ◌+◌, ◌<◌, ◌≤◌, ◌^◌, ◌⊎◌, inl, inr, true, List, length, get_or, take, map, ℤ, pos, nat_abs, ◌*ℤ◌, ◌≤ℤ◌, All, AllPairs, refl, sym, ap, ap₂, subst, subst₂, ◌∙◌, arith}
+use Rattle.std.proofs.Common.{◌≡◌, ◌≢◌, ℕ, zero, suc, ◌+◌, ◌<◌, ◌≤◌, ◌^◌, ◌⊎◌, inl, inr, true, List, length, get_or, take, map, ℤ, pos, nat_abs, ◌*ℤ◌, ◌≤ℤ◌, All, AllPairs, refl}
+use Rattle.std.proofs.Common.{sym, ap, ap₂, subst, subst₂, ◌∙◌, arith}
 use Rattle.std.proofs.lemmas.Bool.{cases_lt}
 use Rattle.std.proofs.lemmas.Int.{ints}
 use Rattle.std.proofs.lemmas.List.{get_or-take, length-take, length-map, get_or-map, get_or_default}
@@ -20,7 +21,7 @@ use Rattle.msp_places.specs.declared.place.Place.{Place}
 use Rattle.msp_places.specs.Places.{ComesFirst, AreEarliestPlaces, no_place, place_at, HaveOwnPlaces}
 use Rattle.msp_places.specs.Placed.{AreApart}
 use Rattle.msp_places.specs.Most.{cost_in, CostsLess, IsOrderByCost}
-use Rattle.msp_places.proofs.Charged.{costs_no_less}
+use Rattle.msp_schedule.proofs.costs.Charged.{costs_no_less}
 use Rattle.msp_places.proofs.OwnPlaces.{law_of_earliest_places}
 use Rattle.msp_places.proofs.PlaceFacts.{IsPlacesInstance, takes_common_time}
 use Rattle.msp_places.proofs.PlacedJobs.{placed_schedule, placed_is_feasible, placed_end}
@@ -52,7 +53,8 @@ late_one k jobs number long apart = elim (some_late k (λ x. number (get_or jobs
     length-map jobs number,
     few_below k (map number jobs)
         (λ x d l. let b : x < length jobs = omega (arith, l, length-map jobs number) in subst (λ y. y < k) (sym (get_or-map number jobs x 0 d b)) (all x b))
-        (λ a b d l m e. let q : b < length jobs = omega (arith, m, length-map jobs number) in apart a b l q (sym (get_or-map number jobs a 0 d (omega (arith, l, q))) ∙ e ∙ get_or-map number jobs b 0 d q)),
+        (λ a b d l m e. let q : b < length jobs = omega (arith, m, length-map jobs number) in
+        apart a b l q (sym (get_or-map number jobs a 0 d (omega (arith, l, q))) ∙ e ∙ get_or-map number jobs b 0 d q)),
   ))
 ]
 
@@ -151,7 +153,8 @@ module _ (i : Instance) (h : IsPlacesInstance Fmax i) (inner : Inner i) (unit : 
 
     -- there it costs no less
     cheapest : cost_in i unit (place_at places k).end (job k) ≤ℤ cost_in i unit (place_at places k).end (job x)
-    cheapest = no_more (subst (CostsLess i unit (place_at places k).end (job k)) (get_or-take (k + 1) order x 0 late.1) (o.cheapest k (omega (arith, l, count)) x 0 (omega (arith, late.1, length-take (k + 1) order, count, l))))
+    cheapest = no_more (subst (CostsLess i unit (place_at places k).end (job k))
+        (get_or-take (k + 1) order x 0 late.1) (o.cheapest k (omega (arith, l, count)) x 0 (omega (arith, late.1, length-take (k + 1) order, count, l))))
       where
         no_more : CostsLess i unit (place_at places k).end (job k) (job x)
             → cost_in i unit (place_at places k).end (job k) ≤ℤ cost_in i unit (place_at places k).end (job x)
@@ -160,7 +163,8 @@ module _ (i : Instance) (h : IsPlacesInstance Fmax i) (inner : Inner i) (unit : 
 
     -- and it ends no earlier
     ends_late : (pos other *ℤ pos (place_at places k).end) ≤ℤ (pos unit *ℤ end_of t (job x))
-    ends_late = ≤ℤ_trans (*ℤ-mono other (pos-le (end_rises places earliest.order k (number.0 (job x)) late.2 (omega (arith, number.1.inside (job x) inside, earliest.count))))) (subst (λ u. (u *ℤ pos (place_at places (number.0 (job x))).end) ≤ℤ (pos unit *ℤ end_of t (job x))) unit_is (number.1.ends (job x) inside))
+    ends_late = ≤ℤ_trans (*ℤ-mono other (pos-le (end_rises places earliest.order k (number.0 (job x)) late.2 (omega (arith, number.1.inside (job x) inside, earliest.count)))))
+        (subst (λ u. (u *ℤ pos (place_at places (number.0 (job x))).end) ≤ℤ (pos unit *ℤ end_of t (job x))) unit_is (number.1.ends (job x) inside))
 
     owed : (pos other *ℤ cost_in i unit (place_at places k).end (job k)) ≤ℤ (pos unit *ℤ cost_of i t)
     owed =
@@ -174,7 +178,8 @@ module _ (i : Instance) (h : IsPlacesInstance Fmax i) (inner : Inner i) (unit : 
       let (k, b, e) = OnceBelow-contains once j l in
       let m : k < n = omega (arith, b, count) in
       let is : job k ≡ j = get_or_default order k 0 j b ∙ e in
-      let cost : cost_of i s ≡ cost_in i unit (place_at places k).end (job k) = sym reached ∙ ap (charge_of i s) (sym is) ∙ ap (job_cost i.class.crit (pos unit) (job_at i (job k))) (placed_end Fmax i h unit common few places earliest job (λ k. k) own k m) in
+      let cost : cost_of i s ≡ cost_in i unit (place_at places k).end (job k) = sym reached ∙ ap (charge_of i s) (sym is)
+      ∙ ap (job_cost i.class.crit (pos unit) (job_at i (job k))) (placed_end Fmax i h unit common few places earliest job (λ k. k) own k m) in
       subst₂ (λ a b. a ≤ℤ b) (turned cost (unit_is t f k m)) (*ℤ_comm (pos unit) (cost_of i t)) (owed t f k m)
     where
       turned : {a b u v : ℤ} → a ≡ b → u ≡ v → v *ℤ b ≡ a *ℤ u

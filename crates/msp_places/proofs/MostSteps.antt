@@ -1,9 +1,11 @@
 -- Steps of the search for the job that costs least, and of the answer.
-use Rattle.std.proofs.Common.{◌≡◌, ℕ, ◌+◌, ◌*◌, ◌<◌, ◌≤◌, ◌^◌, ◌⊎◌, inl, inr, List, [], ◌∷◌, ◌++◌, length, get_or, take, ℤ, pos, ◌<ℤ◌, All, refl, sym, ap, ap₂, subst, subst₂, ◌∙◌, arith, slice_index_or, zero-add}
+use Rattle.std.proofs.Common.{◌≡◌, ℕ, ◌+◌, ◌*◌, ◌<◌, ◌≤◌, ◌^◌, ◌⊎◌, inl, inr, List, [], ◌∷◌, ◌++◌, length, get_or, take, ℤ, pos, ◌<ℤ◌, All, refl, sym, ap, ap₂, subst, subst₂, ◌∙◌}
+use Rattle.std.proofs.Common.{arith, slice_index_or, zero-add}
 use Rattle.std.proofs.lemmas.Bool.{cases_lt}
 use Rattle.std.proofs.lemmas.Int.{ints}
 use Rattle.std.proofs.lemmas.List.{get_or-take, length-take, take_all, get_or_default}
 use Rattle.std.proofs.lemmas.List.FromFn.{map-range_with_len_more}
+use Rattle.msp_class.specs.declared.sizes.TheConstants.{MOST_JOBS}
 use Rattle.msp_class.specs.declared.environments.EnvKind.TheVariants.{Uniform, Unrelated}
 use Rattle.msp_class.specs.declared.class.Crit.TheVariants.{Fmax}
 use Rattle.msp_class.specs.Env.{kind_of}
@@ -24,7 +26,7 @@ use Rattle.msp_places.specs.Places.{lengths_of, AreEarliestPlaces, place_at}
 use Rattle.msp_places.specs.Placed.{piece_in, placed}
 use Rattle.msp_places.specs.Most.{cost_in, CostsLess, IsCheapest, IsOrderByCost, ArePlacedByCost, IsByCost}
 use Rattle.msp_places.specs.Search.{Precedes, IsCandidate, IsBestOf}
-use Rattle.msp_places.proofs.InTurn.{length_is}
+use Rattle.msp_schedule.proofs.lists.InTurn.{length_is}
 use Rattle.msp_places.proofs.PlaceFacts.{IsPlacesInstance-from, common_time_within, lengths_short}
 use Rattle.msp_places.proofs.PlacedJobs.{placed_is_within, placed_is_answer, ends_bounded}
 use Rattle.msp_places.proofs.MostBest.{job, own, most_is_best}
@@ -117,7 +119,8 @@ pub record IsMostAnswer (i : Instance) (s : Schedule) : Type 0 where
   pub answer : IsAnswer i s
   pub by_cost : IsByCost i s
 
-pub IsMostAnswer-from : (i : Instance) → i.class ≡ places_most_class → Inner i → (unit : ℕ) (u : ℤ) (pieces : List Piece) → IsLeastOfAll i.speeds unit → unit ≤ 2 ^ 30 → u ≡ pos unit → ArePlacedByCost i unit pieces → IsMostAnswer i (record { unit = u; pieces = pieces })
+pub IsMostAnswer-from : (i : Instance) → i.class ≡ places_most_class → Inner i → (unit : ℕ) (u : ℤ) (pieces : List Piece)
+    → IsLeastOfAll i.speeds unit → unit ≤ 2 ^ 30 → u ≡ pos unit → ArePlacedByCost i unit pieces → IsMostAnswer i (record { unit = u; pieces = pieces })
 IsMostAnswer-from i class inner unit u pieces common few e p =
     let h = IsPlacesInstance-from Fmax i class inner in
     let turn = job i h inner unit common few p.places p.earliest p.order p.by_cost in
@@ -147,10 +150,11 @@ pub places_many : (i : Instance) (unit : ℕ) (places listed : List Place) → A
 places_many i unit places listed earliest same = ap length same ∙ earliest.count
 
 pub places_soon : (i : Instance) → i.class ≡ places_most_class → Inner i → (unit : ℕ) (places listed : List Place) → IsLeastOfAll i.speeds unit → unit ≤ 2 ^ 30
-    → AreEarliestPlaces i unit places → listed ≡ places → All (λ p. p.end ≤ 400 * 1000000 * 2 ^ 30) listed
+    → AreEarliestPlaces i unit places → listed ≡ places → All (λ p. p.end ≤ MOST_JOBS * 1000000 * 2 ^ 30) listed
 places_soon i class inner unit places listed common few earliest same =
     let h = IsPlacesInstance-from Fmax i class inner in
-    subst (All (λ p. p.end ≤ 400 * 1000000 * 2 ^ 30)) (sym same) (ends_bounded (lengths_of i unit) (lengths_short i h.speeds (common_time_within Fmax i h) unit common few) (length i.jobs) places h.few earliest)
+    subst (All (λ p. p.end ≤ MOST_JOBS * 1000000 * 2 ^ 30)) (sym same)
+    (ends_bounded (lengths_of i unit) (lengths_short i h.speeds (common_time_within Fmax i h) unit common few) (length i.jobs) places h.few earliest)
 
 pub order_many : (i : Instance) (unit : ℕ) (places listed : List Place) (order slice : List ℕ) → AreEarliestPlaces i unit places → listed ≡ places
     → IsOrderByCost i unit listed order → slice ≡ order → length listed ≡ length slice

@@ -1,5 +1,6 @@
 -- The law of earliest places. A job's place in a schedule is that of its rank on its machine, by the ends; these are different places.
-use Rattle.std.proofs.Common.{◌≡◌, ◌≢◌, ℕ, ◌+◌, ◌*◌, ◌-◌, ◌/◌, ◌<◌, ◌≤◌, ◌⊎◌, inl, inr, Bool, true, false, cond, eqb, leb, List, length, get_or, ℤ, pos, nat_abs, ◌-ℤ◌, ◌*ℤ◌, ◌≤ℤ◌, refl, sym, ap, ap₂, subst, ◌∙◌, arith}
+use Rattle.std.proofs.Common.{◌≡◌, ◌≢◌, ℕ, ◌+◌, ◌*◌, ◌-◌, ◌/◌, ◌<◌, ◌≤◌, ◌⊎◌, inl, inr, Bool, true, false, cond, eqb, leb, List, length, get_or, ℤ, pos, nat_abs, ◌-ℤ◌, ◌*ℤ◌, ◌≤ℤ◌}
+use Rattle.std.proofs.Common.{refl, sym, ap, ap₂, subst, ◌∙◌, arith}
 use Rattle.std.specs.Prelude.{◌&&◌}
 use Rattle.std.proofs.lemmas.Bool.{cases_lt, eqb-true, eqb-false, eq-eqb, leb-true, le-leb}
 use Rattle.std.proofs.lemmas.Int.{ints}
@@ -87,7 +88,8 @@ module _ (i : Instance) (unit : ℕ) (speeds : HasSpeeds Uniform i.machines i.sp
   pub long-speed : (m : ℕ) → m < i.machines → long m * speed m ≡ unit * common_time i
   long-speed m l =
       let inside : m < length i.speeds = omega (arith, l, speeds.0) in
-      ap (λ x. x * speed m) (get_or-map (λ s. common_time i * (unit / s)) i.speeds m 0 0 inside) ∙ turned (common_time i) (unit / speed m) (speed m) unit (div-mul_cancel (speed m) (common.common m 0 inside))
+      ap (λ x. x * speed m) (get_or-map (λ s. common_time i * (unit / s)) i.speeds m 0 0 inside)
+      ∙ turned (common_time i) (unit / speed m) (speed m) unit (div-mul_cancel (speed m) (common.common m 0 inside))
     where
       turned : (a b c u : ℕ) → b * c ≡ u → a * b * c ≡ u * a
       turned a b c u e = grouped a b c ∙ ap (λ x. x * a) e
@@ -119,12 +121,18 @@ module _ (n : ℕ) (machine begin end : ℕ → ℕ) (lasts : (a : ℕ) → a < 
 
   -- of two jobs on a machine the later one has the greater number
   front-rises : (a b : ℕ) → b < n → machine a ≡ machine b → end a < end b → front a < front b
-  front-rises a b l on less = total_below-strict n (λ c. cond (held c a) 1 0) (λ c. cond (held c b) 1 0) b l (λ c _. more c (held c a) refl) (omega (arith, cond-yes 1 (held_itself b), later (held b a) refl))
+  front-rises a b l on less = total_below-strict n (λ c. cond (held c a) 1 0)
+      (λ c. cond (held c b) 1 0) b l (λ c _. more c (held c a) refl) (omega (arith, cond-yes 1 (held_itself b), later (held b a) refl))
     where
       more : (c : ℕ) (t : Bool) → held c a ≡ t → cond (held c a) 1 0 ≤ cond (held c b) 1 0
       more c true e =
           let (p, q) = both_true (eqb (machine c) (machine a)) (leb (end c) (end a)) e in
-          omega (arith, cond-le (held c a) 1, cond-yes 1 (ap (λ t. t && leb (end c) (end b)) (eq-eqb (machine c) (machine b) (eqb-true (machine c) (machine a) p ∙ on)) ∙ le-leb (end c) (end b) (omega (arith, leb-true (end c) (end a) q, less))))
+          omega (
+            arith,
+            cond-le (held c a) 1,
+            cond-yes 1 (ap (λ t. t && leb (end c) (end b)) (eq-eqb (machine c) (machine b) (eqb-true (machine c) (machine a) p ∙ on))
+                ∙ le-leb (end c) (end b) (omega (arith, leb-true (end c) (end a) q, less))),
+          )
       more c false e = omega (arith, cond-no 1 e)
 
       later : (t : Bool) → held b a ≡ t → one_if (held b a) ≡ 0
@@ -167,7 +175,8 @@ module _ (n : ℕ) (machine begin end : ℕ → ℕ) (lasts : (a : ℕ) → a < 
 
           each : (a : ℕ) → a < n → (t : Bool) → held a b ≡ t → unit * cond (held a b) (end a - begin a) 0 ≡ time (machine b) * other * cond (held a b) 1 0
           each a k true e =
-              ap (λ x. unit * x) (cond-yes (end a - begin a) e) ∙ takes a k ∙ ap (λ m. time m * other) (eqb-true (machine a) (machine b) (both_true (eqb (machine a) (machine b)) (leb (end a) (end b)) e).0)
+              ap (λ x. unit * x) (cond-yes (end a - begin a) e)
+              ∙ takes a k ∙ ap (λ m. time m * other) (eqb-true (machine a) (machine b) (both_true (eqb (machine a) (machine b)) (leb (end a) (end b)) e).0)
               ∙ one (time (machine b) * other) ∙ ap (λ x. time (machine b) * other * x) (sym (cond-yes 1 e))
           each a k false e = ap (λ x. unit * x) (cond-no (end a - begin a) e) ∙ none unit (time (machine b) * other) ∙ ap (λ x. time (machine b) * other * x) (sym (cond-no 1 e))
 
@@ -213,7 +222,8 @@ module _ (l : Limits) (i : Instance) (s : Schedule) (unit : ℕ) (places : List 
 
   -- the unit times a job's length is its time on the machine times the other unit
   takes : (j : ℕ) → j < n → unit * (end j - begin j) ≡ take (on j) * other
-  takes j l = by (end j - begin j) (take (on j)) (speed i unit speeds common (on j)) unit (common_time i) other (long-speed i unit speeds common (on j) (on-inside j l)) work (speeds.1 (on j) 0 (omega (arith, on-inside j l, speeds.0))).0
+  takes j l = by (end j - begin j) (take (on j)) (speed i unit speeds common (on j))
+      unit (common_time i) other (long-speed i unit speeds common (on j) (on-inside j l)) work (speeds.1 (on j) 0 (omega (arith, on-inside j l, speeds.0))).0
     where
       -- x·v ≡ o·p and a·v ≡ u·p give u·x ≡ a·o
       by : (x a v u p o : ℕ) → a * v ≡ u * p → x * v ≡ o * p → 1 ≤ v → u * x ≡ a * o
@@ -260,7 +270,8 @@ module _ (l : Limits) (i : Instance) (s : Schedule) (unit : ℕ) (places : List 
   key-once : (a b : ℕ) → a < n → b < n → key a ≡ key b → a ≡ b
   key-once a b k m e =
       let (ends, same) = same_order i.machines (number_on a * take (on a)) (number_on b * take (on b)) (on a) (on b) (on-inside a k) (on-inside b m) e in
-      front-once n on begin end lasts apart a b k m same (cancel (take (on b)) (number_on a) (number_on b) (long-some i unit speeds common (on b) (on-inside b m) (some_common_time l i kind c)) (turned (number_on a) (take (on b)) ∙ ap (λ x. number_on a * take x) (sym same) ∙ ends ∙ turned (take (on b)) (number_on b)))
+      front-once n on begin end lasts apart a b k m same (cancel (take (on b)) (number_on a) (number_on b) (long-some i unit speeds common (on b) (on-inside b m) (some_common_time l i kind c))
+      (turned (number_on a) (take (on b)) ∙ ap (λ x. number_on a * take x) (sym same) ∙ ends ∙ turned (take (on b)) (number_on b)))
     where
       turned : (x y : ℕ) → y * x ≡ x * y
       turned x y = omega arith
@@ -269,11 +280,13 @@ module _ (l : Limits) (i : Instance) (s : Schedule) (unit : ℕ) (places : List 
   machine-listed r l = omega (arith, (earliest.each r no_place (omega (arith, l, earliest.count))).machine, lengths-count i unit speeds common)
 
   listed-rises : (a b : ℕ) → a < b → b < n → listed a < listed b
-  listed-rises a b less l = less_by_order i.machines (place_at places a) (place_at places b) (machine-listed a (omega (arith, less, l))) (earliest.order a b no_place less (omega (arith, l, earliest.count)))
+  listed-rises a b less l = less_by_order i.machines
+      (place_at places a) (place_at places b) (machine-listed a (omega (arith, less, l))) (earliest.order a b no_place less (omega (arith, l, earliest.count)))
 
   covers : (j : ℕ) → j < n → ((r : ℕ) × (r < n) × (listed r ≡ key j)) ⊎ ((r : ℕ) → r < n → listed r < key j)
   covers j l = elim (earliest.earliest (on j) (number_on j) (omega (arith, on-inside j l, lengths-count i unit speeds common)) (front-some n on begin end lasts apart j l)) [
-    | inl w ↦ inl (w.0, omega (arith, w.1, earliest.count), ap (λ p. order_of i.machines p.end p.machine) (get_or_default places w.0 no_place (place_on (lengths_of i unit) (on j) (number_on j)) w.1 ∙ w.2))
+    | inl w ↦ inl
+        (w.0, omega (arith, w.1, earliest.count), ap (λ p. order_of i.machines p.end p.machine) (get_or_default places w.0 no_place (place_on (lengths_of i unit) (on j) (number_on j)) w.1 ∙ w.2))
     | inr all ↦ inr (λ r k. less_by_order i.machines (place_at places r) (place_on (lengths_of i unit) (on j) (number_on j)) (machine-listed r k) (all r no_place (omega (arith, k, earliest.count))))
   ]
 
@@ -284,7 +297,8 @@ module _ (l : Limits) (i : Instance) (s : Schedule) (unit : ℕ) (places : List 
   own_places = record {
     inside = λ j l. rank_inside n key listed key-once listed-rises covers j l;
     own = λ j k l m e. rank_once n key listed key-once listed-rises covers j k l m e;
-    ends = λ j l. ≤ℤ_trans (ends_mono s.unit (place_at places (number j)).end (number_on j * take (on j)) (omega (arith, ints, f.unit)) (end_by_order i.machines (place_at places (number j)).end (number_on j * take (on j)) (place_at places (number j)).machine (on j) (on-inside j l)
+    ends = λ j l. ≤ℤ_trans (ends_mono s.unit (place_at places (number j)).end (number_on j * take (on j)) (omega (arith, ints, f.unit))
+        (end_by_order i.machines (place_at places (number j)).end (number_on j * take (on j)) (place_at places (number j)).machine (on j) (on-inside j l)
         (rank_early n key listed key-once listed-rises covers j l))) (ends_then j l);
   }
     where

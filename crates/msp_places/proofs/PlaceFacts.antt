@@ -35,8 +35,15 @@ common_time_range l i kind equal c = by (kind_of i.class.env) kind i.class.times
 module _ (i : Instance) (speeds : HasSpeeds Uniform i.machines i.speeds) (time : (1 ≤ common_time i) × (common_time i ≤ 1000000)) (unit : ℕ)
     (common : IsLeastOfAll i.speeds unit) (few : unit ≤ 2 ^ 30) where
   pub lengths_short : AreShort (lengths_of i unit)
-  lengths_short m d l = subst (λ x. (1 ≤ x) × (x ≤ 1000000 * 2 ^ 30)) (get_or_default (lengths_of i unit) m 0 d l)
-      (long-some i unit speeds common m inside time.0, omega (arith, at_most (get_or (lengths_of i unit) m 0) (get_or i.speeds m 0) (unit * common_time i) (long-speed i unit speeds common m inside) (speeds.1 m 0 (omega (arith, inside, speeds.0))).0, mul-le unit (common_time i) (2 ^ 30) 1000000 few time.1))
+  lengths_short m d l = subst (λ x. (1 ≤ x) × (x ≤ 1000000 * 2 ^ 30)) (get_or_default (lengths_of i unit) m 0 d l) (
+    long-some i unit speeds common m inside time.0,
+    omega (
+      arith,
+      at_most (get_or (lengths_of i unit) m 0) (get_or i.speeds m 0) (unit * common_time i)
+          (long-speed i unit speeds common m inside) (speeds.1 m 0 (omega (arith, inside, speeds.0))).0,
+      mul-le unit (common_time i) (2 ^ 30) 1000000 few time.1,
+    ),
+  )
     where
       inside : m < i.machines
       inside = omega (arith, l, lengths-count i unit speeds common)

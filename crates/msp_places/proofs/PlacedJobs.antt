@@ -1,5 +1,6 @@
 -- Jobs in places of their own: a feasible schedule, in which each job ends when its place does, within the bounds of an answer.
-use Rattle.std.proofs.Common.{◌≡◌, ◌≢◌, ℕ, ◌+◌, ◌*◌, ◌-◌, ◌<◌, ◌≤◌, ◌^◌, ◌⊎◌, inl, inr, List, length, get_or, map, All, AllPairs, pos, ◌-ℤ◌, ◌*ℤ◌, ◌≤ℤ◌, ◌<ℤ◌, refl, sym, ap, ap₂, subst, subst₂, ◌∙◌, arith, zero-add}
+use Rattle.std.proofs.Common.{◌≡◌, ◌≢◌, ℕ, ◌+◌, ◌*◌, ◌-◌, ◌<◌, ◌≤◌, ◌^◌, ◌⊎◌, inl, inr, List, length, get_or, map, All, AllPairs, pos, ◌-ℤ◌, ◌*ℤ◌, ◌≤ℤ◌, ◌<ℤ◌, refl, sym, ap, ap₂}
+use Rattle.std.proofs.Common.{subst, subst₂, ◌∙◌, arith, zero-add}
 use Rattle.std.proofs.lemmas.Bool.{cases_lt}
 use Rattle.std.proofs.lemmas.Int.{ints}
 use Rattle.std.proofs.lemmas.Nat.{mul-le}
@@ -7,6 +8,7 @@ use Rattle.std.proofs.lemmas.List.{length-map, get_or-map}
 use Rattle.std.proofs.lemmas.List.Elements.{All-nil}
 use Rattle.std.proofs.lemmas.List.FromFn.{get_or-map-range_with_len, length-map-range_with_len}
 use Rattle.std.proofs.Math.Nat.{mul-le-mul_right}
+use Rattle.msp_class.specs.declared.sizes.TheConstants.{MOST_JOBS}
 use Rattle.msp_class.specs.declared.class.Crit.{Crit}
 use Rattle.msp_class.specs.declared.environments.EnvKind.TheVariants.{Uniform, Unrelated}
 use Rattle.msp_class.specs.Env.{kind_of}
@@ -38,12 +40,12 @@ abbrev pub placed_schedule : ℕ → ℕ → List Place → (ℕ → ℕ) → (�
 placed_schedule unit n places job number = record { unit = pos unit; pieces = placed n places job number }
 
 -- ---- the ends of the earliest places
-pub ends_bounded : (lengths : List ℕ) → AreShort lengths → (n : ℕ) (places : List Place) → n ≤ 400 → AreEarliest lengths n places
-    → All (λ p. p.end ≤ 400 * 1000000 * 2 ^ 30) places
+pub ends_bounded : (lengths : List ℕ) → AreShort lengths → (n : ℕ) (places : List Place) → n ≤ MOST_JOBS → AreEarliest lengths n places
+    → All (λ p. p.end ≤ MOST_JOBS * 1000000 * 2 ^ 30) places
 ends_bounded lengths short n places few earliest k d l =
     let is = earliest.each k d l in
     let p = get_or places k d in
-    omega (arith, ap (λ (x : Place). x.end) is.is, mul-le p.rank (get_or lengths p.machine 0) 400 (1000000 * 2 ^ 30) (omega (arith, is.few, few)) (short p.machine 0 is.machine).1)
+    omega (arith, ap (λ (x : Place). x.end) is.is, mul-le p.rank (get_or lengths p.machine 0) MOST_JOBS (1000000 * 2 ^ 30) (omega (arith, is.few, few)) (short p.machine 0 is.machine).1)
 
 -- ---- two of the earliest places on one machine are apart
 module _ (lengths : List ℕ) (n : ℕ) (places : List Place) (earliest : AreEarliest lengths n places) where
@@ -158,8 +160,8 @@ module _ (crit : Crit) (i : Instance) (h : IsPlacesInstance crit i) (unit : ℕ)
           grown : (r l : ℕ) → (r + 1) * l ≡ r * l + l
           grown r l = omega arith
 
-  end_soon : (k : ℕ) → k < n → (place k).end ≤ 400 * (1000000 * 2 ^ 30)
-  end_soon k l = omega (arith, end_is k l, mul-le (place k).rank (long (place k).machine) 400 (1000000 * 2 ^ 30) (omega (arith, (is k l).few, h.few)) (short k l).1)
+  end_soon : (k : ℕ) → k < n → (place k).end ≤ MOST_JOBS * (1000000 * 2 ^ 30)
+  end_soon k l = omega (arith, end_is k l, mul-le (place k).rank (long (place k).machine) MOST_JOBS (1000000 * 2 ^ 30) (omega (arith, (is k l).few, h.few)) (short k l).1)
 
   different : (x y : ℕ) → x < y → y < n → job x ≢ job y
   different x y l k e = unequal l (own.once x y (omega (arith, l, k)) k e)
@@ -182,14 +184,16 @@ module _ (crit : Crit) (i : Instance) (h : IsPlacesInstance crit i) (unit : ℕ)
           different a b l q (sym (job_is a d (omega (arith, l, q))) ∙ e ∙ job_is b d q)
 
   apart : (x y : ℕ) → x < y → y < n → (piece x).machine ≡ (piece y).machine → IsApart (piece x) (piece y)
-  apart x y l k on = elim (apart_places lengths n places earliest (number x) (number y) (own.numbers x (omega (arith, l, k))) (own.numbers y k) (λ e. unequal l (own.own x y (omega (arith, l, k)) k e)) on) [ inl a ↦ inl (pos-le a) | inr a ↦ inr (pos-le a) ]
+  apart x y l k on = elim (apart_places lengths n places earliest (number x) (number y) (own.numbers x (omega (arith, l, k)))
+      (own.numbers y k) (λ e. unequal l (own.own x y (omega (arith, l, k)) k e)) on) [ inl a ↦ inl (pos-le a) | inr a ↦ inr (pos-le a) ]
     where
       unequal : {x y : ℕ} → x < y → x ≡ y → ⊥
       unequal l e = omega (arith, l, e)
 
   whole : (k : ℕ) → k < n → IsWholeWork (kind_of i.class.env) i (pos unit) (piece k)
   whole k l = subst (λ e. IsWholeWork e i (pos unit) (piece k)) (sym h.kind)
-      (by (place k).begin (place k).end (long (place k).machine) (get_or i.speeds (place k).machine 0) unit (common_time i) (need_at i (job k) 0).time (end_later k l) (long-speed i unit h.speeds common (place k).machine (on k l)) (takes_common_time crit i h (job k) (own.jobs k l)))
+      (by (place k).begin (place k).end (long (place k).machine) (get_or i.speeds (place k).machine 0) unit (common_time i) (need_at i (job k) 0).time
+      (end_later k l) (long-speed i unit h.speeds common (place k).machine (on k l)) (takes_common_time crit i h (job k) (own.jobs k l)))
     where
       by : (a b l v u p t : ℕ) → b ≡ a + l → l * v ≡ u * p → t ≡ p → (pos b -ℤ pos a) *ℤ pos v ≡ pos u *ℤ pos t
       by a b l v u p t e f g = ap (λ x. x *ℤ pos v) (lasts a b l e) ∙ ap pos (f ∙ ap (λ x. u * x) (sym g))
@@ -206,7 +210,8 @@ module _ (crit : Crit) (i : Instance) (h : IsPlacesInstance crit i) (unit : ℕ)
     span = all (λ p. (pos 0 ≤ℤ p.from) × (p.from <ℤ p.to)) (λ k l. spanned (place k).begin (place k).end (long (place k).machine) (end_later k l) (short k l).0);
     apart = pairs (λ p q. p.machine ≡ q.machine → IsApart p q) apart;
     released = all (λ p. (pos unit *ℤ pos (job_at i p.job).release) ≤ℤ p.from) (λ k l. released unit (job_at i (job k)).release (place k).begin (no_release crit i h (job k) (own.jobs k l)));
-    forward = subst (λ arcs. All (λ a. All (λ p. All (λ q. p.job ≡ a.before → q.job ≡ a.after → IsBefore p q) pieces) pieces) arcs) (sym h.arcs) (All-nil (λ (a : Arc). All (λ p. All (λ q. p.job ≡ a.before → q.job ≡ a.after → IsBefore p q) pieces) pieces));
+    forward = subst (λ arcs. All (λ a. All (λ p. All (λ q. p.job ≡ a.before → q.job ≡ a.after → IsBefore p q) pieces) pieces) arcs)
+        (sym h.arcs) (All-nil (λ (a : Arc). All (λ p. All (λ q. p.job ≡ a.before → q.job ≡ a.after → IsBefore p q) pieces) pieces));
     whole = all (IsWholeWork (kind_of i.class.env) i (pos unit)) whole;
     ends = all (λ p. p.to ≤ℤ pos 10000000000000000000000000) (λ k l. pos-le (omega (arith, end_soon k l)));
   }
@@ -234,7 +239,8 @@ module _ (crit : Crit) (i : Instance) (h : IsPlacesInstance crit i) (unit : ℕ)
 
   -- each job ends when its place does
   pub placed_end : (k : ℕ) → k < n → end_of s (job k) ≡ pos (place k).end
-  placed_end k l = ≤ℤ_antisym (last_end-least pieces (job k) (pos (place k).end) (zero-le-pos (place k).end) (all (λ p. p.job ≡ job k → p.to ≤ℤ pos (place k).end) no_later)) (last_end-contains pieces (piece k) (k, omega (arith, l, many), piece_at k (piece k) l))
+  placed_end k l = ≤ℤ_antisym (last_end-least pieces (job k) (pos (place k).end) (zero-le-pos (place k).end) (all (λ p. p.job ≡ job k → p.to ≤ℤ pos (place k).end) no_later))
+      (last_end-contains pieces (piece k) (k, omega (arith, l, many), piece_at k (piece k) l))
     where
       no_later : (x : ℕ) → x < n → job x ≡ job k → pos (place x).end ≤ℤ pos (place k).end
       no_later x m e = subst (λ y. pos (place y).end ≤ℤ pos (place k).end) (sym (own.once x k m l e)) (≤ℤ_refl (pos (place k).end))

@@ -23,10 +23,12 @@ module _ (n : ℕ) (key list : ℕ → ℕ) (once : (a b : ℕ) → a < n → b 
       by false e = cond-no 1 e
 
   pub rank_inside : (a : ℕ) → a < n → rank a < n
-  rank_inside a l = omega (arith, total_below-strict n (λ b. cond (ltb (key b) (key a)) 1 0) (λ _. 1) a l (λ b _. cond-le (ltb (key b) (key a)) 1) (omega (arith, not_itself a)), total_below-constant n 1)
+  rank_inside a l =
+      omega (arith, total_below-strict n (λ b. cond (ltb (key b) (key a)) 1 0) (λ _. 1) a l (λ b _. cond-le (ltb (key b) (key a)) 1) (omega (arith, not_itself a)), total_below-constant n 1)
 
   rank_rises : (a b : ℕ) → a < n → key a < key b → rank a < rank b
-  rank_rises a b l h = total_below-strict n (λ c. cond (ltb (key c) (key a)) 1 0) (λ c. cond (ltb (key c) (key b)) 1 0) a l (λ c _. more c (ltb (key c) (key a)) refl) (omega (arith, not_itself a, cond-yes 1 (lt-ltb (key a) (key b) h)))
+  rank_rises a b l h = total_below-strict n (λ c. cond (ltb (key c) (key a)) 1 0)
+      (λ c. cond (ltb (key c) (key b)) 1 0) a l (λ c _. more c (ltb (key c) (key a)) refl) (omega (arith, not_itself a, cond-yes 1 (lt-ltb (key a) (key b) h)))
     where
       more : (c : ℕ) (t : Bool) → ltb (key c) (key a) ≡ t → one_if (ltb (key c) (key a)) ≤ one_if (ltb (key c) (key b))
       more c true e = omega (arith, cond-yes 1 e, cond-yes 1 (lt-ltb (key c) (key b) (omega (arith, ltb-true (key c) (key a) e, h))))
@@ -60,7 +62,8 @@ module _ (n : ℕ) (key list : ℕ → ℕ) (once : (a b : ℕ) → a < n → b 
     hits c q = cond (eqb (list q) (key c)) 1 0
 
     one_more : rank a < total_below n up_to
-    one_more = total_below-strict n (λ b. cond (ltb (key b) (key a)) 1 0) up_to a l (λ c _. more c (ltb (key c) (key a)) refl) (omega (arith, not_itself a, cond-yes 1 (le-leb (key a) (key a) (omega arith))))
+    one_more = total_below-strict n (λ b. cond (ltb (key b) (key a)) 1 0)
+        up_to a l (λ c _. more c (ltb (key c) (key a)) refl) (omega (arith, not_itself a, cond-yes 1 (le-leb (key a) (key a) (omega arith))))
       where
         more : (c : ℕ) (t : Bool) → ltb (key c) (key a) ≡ t → one_if (ltb (key c) (key a)) ≤ up_to c
         more c true e = omega (arith, cond-yes 1 e, cond-yes 1 (le-leb (key c) (key a) (omega (arith, ltb-true (key c) (key a) e))))

@@ -1,11 +1,13 @@
 -- Places that are taken in turn are the earliest.
-use Rattle.std.proofs.Common.{◌≡◌, ◌≢◌, ℕ, ◌+◌, ◌*◌, ◌-◌, ◌<◌, ◌≤◌, ◌^◌, inl, inr, Bool, true, false, eqb, List, [], ◌∷◌, ◌++◌, length, get_or, set, All, Contains, refl, sym, ap, ap₂, subst, subst₂, ◌∙◌, arith}
+use Rattle.std.proofs.Common.{◌≡◌, ◌≢◌, ℕ, ◌+◌, ◌*◌, ◌-◌, ◌<◌, ◌≤◌, ◌^◌, inl, inr, Bool, true, false, eqb, List, [], ◌∷◌, ◌++◌, length, get_or, set, All, Contains, refl, sym, ap}
+use Rattle.std.proofs.Common.{ap₂, subst, subst₂, ◌∙◌, arith}
 use Rattle.std.proofs.lemmas.Bool.{cases_lt, eqb-true, eqb-false}
 use Rattle.std.proofs.lemmas.Nat.{mul-le}
 use Rattle.std.proofs.lemmas.Grind.{get_or-set_at}
 use Rattle.std.proofs.lemmas.List.{get_or-set_other, get_or_default, get_or-append_right, get_or_append_left, length-append, length-set}
 use Rattle.std.proofs.lemmas.List.Elements.{All-nil, All-push, Contains-append_left, Contains-push}
 use Rattle.std.proofs.Math.Nat.{mul-le-mul_right}
+use Rattle.msp_class.specs.declared.sizes.TheConstants.{MOST_JOBS}
 use Rattle.msp_schedule.proofs.feasible.Series.{AllPairs-append}
 use Rattle.msp_places.specs.declared.place.Place.{Place}
 use Rattle.msp_places.specs.Places.{place_on, IsPlace, ComesFirst, AreEarliest, no_place, place_at}
@@ -167,7 +169,8 @@ module _ (lengths : List ℕ) (long : (m : ℕ) → m < length lengths → 1 ≤
     | inl less ↦ inl less
     | inr same ↦ elim (cases_lt m k) [
       | inl early ↦ absurd (omega (arith, first.first m early, same))
-      | inr late ↦ inr (equal p.end (place_at next m).end (first.least m (omega (arith, l, h.count))) same, on (place_at next m).machine (ap (λ (x : Place). x.machine) (h.places m l)) p-machine late ne)
+      | inr late ↦ inr
+          (equal p.end (place_at next m).end (first.least m (omega (arith, l, h.count))) same, on (place_at next m).machine (ap (λ (x : Place). x.machine) (h.places m l)) p-machine late ne)
     ]
   ]
     where
@@ -179,15 +182,19 @@ module _ (lengths : List ℕ) (long : (m : ℕ) → m < length lengths → 1 ≤
 
   pub taken_more : AreTaken lengths more after
   taken_more = record {
-    each = subst (λ n. All (IsPlace lengths n) more) (sym many) (All-push (IsPlace lengths (length taken + 1)) taken p (λ a d l. weaker_place lengths (length taken) (length taken + 1) (get_or taken a d) (omega arith) (h.each a d l)) new_place);
-    order = AllPairs-append ComesFirst taken (p ∷ []) h.order (λ a b d l e. absurd (omega (arith, l, e))) (λ a d l. All-push (ComesFirst (get_or taken a d)) [] p (All-nil (ComesFirst (get_or taken a d))) (h.before k inside a d l));
+    each = subst (λ n. All (IsPlace lengths n) more) (sym many)
+        (All-push (IsPlace lengths (length taken + 1)) taken p (λ a d l. weaker_place lengths (length taken) (length taken + 1) (get_or taken a d) (omega arith) (h.each a d l)) new_place);
+    order = AllPairs-append ComesFirst taken (p ∷ []) h.order (λ a b d l e. absurd (omega (arith, l, e)))
+        (λ a d l. All-push (ComesFirst (get_or taken a d)) [] p (All-nil (ComesFirst (get_or taken a d))) (h.before k inside a d l));
     count = length-set next k q ∙ h.count;
     places = by_machine (λ m x. x ≡ place_on lengths m x.rank) q-is (λ m l _. h.places m l);
     some = by_machine (λ m x. 1 ≤ x.rank) (omega arith) (λ m l _. h.some m l);
     few = by_machine (λ m x. x.rank ≤ length more + 1) (omega (arith, h.few k inside, many)) (λ m l _. omega (arith, h.few m l, many));
-    before = by_machine (λ m x. All (λ y. ComesFirst y x) more) (All-push (λ y. ComesFirst y q) taken p (λ a d l. ComesFirst-trans (get_or taken a d) p q (h.before k inside a d l) p-before_q) (inl p-before_q))
+    before = by_machine (λ m x. All (λ y. ComesFirst y x) more)
+        (All-push (λ y. ComesFirst y q) taken p (λ a d l. ComesFirst-trans (get_or taken a d) p q (h.before k inside a d l) p-before_q) (inl p-before_q))
         (λ m l ne. All-push (λ y. ComesFirst y (place_at next m)) taken p (h.before m l) (p-before m l ne));
-    whole = λ m rank l some less. by_machine (λ m x. (rank : ℕ) → 1 ≤ rank → rank < x.rank → Contains more (place_on lengths m rank)) here (λ m l _ rank some less. Contains-append_left taken (p ∷ []) (place_on lengths m rank) (h.whole m rank l some less)) m l rank some less;
+    whole = λ m rank l some less. by_machine (λ m x. (rank : ℕ) → 1 ≤ rank → rank < x.rank → Contains more (place_on lengths m rank))
+        here (λ m l _ rank some less. Contains-append_left taken (p ∷ []) (place_on lengths m rank) (h.whole m rank l some less)) m l rank some less;
   }
     where
       new_place : IsPlace lengths (length taken + 1) p
@@ -211,7 +218,8 @@ earliest_taken lengths long n taken next h e = record {
   order = h.order;
   earliest = λ m rank l some. elim (cases_lt rank (place_at next m).rank) [
     | inl less ↦ inl (h.whole m rank l some less)
-    | inr more ↦ inr (λ a d k. ComesFirst-same (get_or taken a d) (place_at next m) (place_on lengths m rank) (h.before m l a d k) (no_later m rank l more) (ap (λ (x : Place). x.machine) (h.places m l)))
+    | inr more ↦ inr
+        (λ a d k. ComesFirst-same (get_or taken a d) (place_at next m) (place_on lengths m rank) (h.before m l a d k) (no_later m rank l more) (ap (λ (x : Place). x.machine) (h.places m l)))
   ];
 }
   where
@@ -236,19 +244,19 @@ turn_taken lengths short turn taken next new after place h t e =
     }
 
 -- the ranks and ends of the next places are small
-pub ranks_small : (lengths : List ℕ) (turn : ℕ) (taken next : List Place) → HasTaken lengths turn taken next → turn < 400 → All (λ p. p.rank ≤ 400) next
+pub ranks_small : (lengths : List ℕ) (turn : ℕ) (taken next : List Place) → HasTaken lengths turn taken next → turn < MOST_JOBS → All (λ p. p.rank ≤ MOST_JOBS) next
 ranks_small lengths turn taken next h l k d b =
     let inside : k < length lengths = omega (arith, b, h.taken_are.count) in
     omega (arith, h.taken_are.few k inside, h.count, l, ap (λ (p : Place). p.rank) (get_or_default next k d no_place b))
 
-pub ends_small : (lengths : List ℕ) → AreShort lengths → (turn : ℕ) (taken next : List Place) → HasTaken lengths turn taken next → turn < 400
-    → All (λ p. p.end ≤ 400 * 1000000 * 2 ^ 30) next
+pub ends_small : (lengths : List ℕ) → AreShort lengths → (turn : ℕ) (taken next : List Place) → HasTaken lengths turn taken next → turn < MOST_JOBS
+    → All (λ p. p.end ≤ MOST_JOBS * 1000000 * 2 ^ 30) next
 ends_small lengths short turn taken next h l k d b =
     let inside : k < length lengths = omega (arith, b, h.taken_are.count) in
     omega (
       arith,
       ap (λ (p : Place). p.end) (get_or_default next k d no_place b ∙ h.taken_are.places k inside),
-      mul-le (place_at next k).rank (get_or lengths k 0) 400 (1000000 * 2 ^ 30) (omega (arith, h.taken_are.few k inside, h.count, l)) (short k 0 inside).1,
+      mul-le (place_at next k).rank (get_or lengths k 0) MOST_JOBS (1000000 * 2 ^ 30) (omega (arith, h.taken_are.few k inside, h.count, l)) (short k 0 inside).1,
     )
 
 pub earliest_at_end : (lengths : List ℕ) → AreShort lengths → (n turn : ℕ) (taken next : List Place) → HasTaken lengths turn taken next → turn ≡ n

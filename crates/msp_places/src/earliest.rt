@@ -8,7 +8,7 @@ ghost use Rattle.std.specs.Prelude.{◌≡◌, ◌+◌, ◌*◌, ◌/◌, ◌<�
 ghost use Rattle.msp_class.specs.declared.environments.EnvKind.TheVariants.{Uniform};
 ghost use Rattle.msp_class.specs.declared.class.Times.TheVariants.{Equal};
 ghost use Rattle.msp_class.specs.Env.{kind_of};
-ghost use Rattle.msp_instance.specs.declared.ranges.TheConstants.{GREATEST_EQUAL_TIME, GREATEST_MULTIPLE, MOST_JOBS, MOST_MACHINES};
+ghost use Rattle.msp_class.specs.declared.sizes.TheConstants.{MOST_JOBS, MOST_MACHINES, GREATEST_MULTIPLE, GREATEST_EQUAL_TIME};
 ghost use Rattle.msp_instance.specs.Conditions.{Inner};
 ghost use Rattle.msp_instance.specs.Multiples.{IsLeastOfAll};
 ghost use Rattle.msp_places.specs.Places.{AreEarliest, AreEarliestPlaces};

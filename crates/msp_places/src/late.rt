@@ -8,8 +8,8 @@
 // Best (`proofs/AssignedBest.antt`): in any schedule the jobs have earliest places of their own and end no earlier (`law_of_earliest_places`).
 // That is an assignment too, and costs do not fall as ends grow, so the schedule costs no less than the assignment, and this no less than the
 // least one (Lawler 1964 for one machine).
-ghost use Rattle.std.specs.Prelude.{◌≡◌, ◌<◌, ◌≤◌, ◌⊎◌, length, All, IfOk, ⊤};
-ghost use Rattle.msp_instance.specs.declared.ranges.TheConstants.{GREATEST_MULTIPLE, MOST_JOBS};
+ghost use Rattle.std.specs.Prelude.{◌≡◌, ◌<◌, ◌≤◌, ◌⊎◌, length, All, IfOk};
+ghost use Rattle.msp_class.specs.declared.sizes.TheConstants.{MOST_JOBS, GREATEST_MULTIPLE};
 ghost use Rattle.msp_instance.specs.Conditions.{Inner};
 ghost use Rattle.msp_instance.specs.Multiples.{IsLeastOfAll};
 ghost use Rattle.msp_schedule.specs.Cost.{IsBest};
@@ -104,10 +104,6 @@ pub struct PlacesLate;
 impl Solver for PlacesLate {
     ghost solved = { λ _. places_late_class };
 
-    ghost can_solve = { λ _ _. ⊤ };
-
-    ghost may_ask = { λ _ _. ⊤ };
-
     fn target(&self) -> Class {
         PLACES_LATE_CLASS
     }
@@ -127,10 +123,6 @@ pub struct PlacesCount;
 
 impl Solver for PlacesCount {
     ghost solved = { λ _. places_count_class };
-
-    ghost can_solve = { λ _ _. ⊤ };
-
-    ghost may_ask = { λ _ _. ⊤ };
 
     fn target(&self) -> Class {
         PLACES_COUNT_CLASS

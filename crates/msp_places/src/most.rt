@@ -8,9 +8,9 @@
 //
 // Best (`proofs/MostBest.antt`): at the k-th place k jobs are left. In any schedule they have places of their own among the earliest ones,
 // so one of them has the k-th or a later one, and does not end before it. There it costs no less than the job chosen.
-ghost use Rattle.std.specs.Prelude.{◌≡◌, ◌*◌, ◌<◌, ◌≤◌, ◌⊎◌, length, slice_index_or, All, IfOk, IsPermutation, ⊤};
+ghost use Rattle.std.specs.Prelude.{◌≡◌, ◌*◌, ◌<◌, ◌≤◌, ◌⊎◌, length, slice_index_or, All, IfOk, IsPermutation};
 ghost use Rattle.std.specs.List.{range_with_len};
-ghost use Rattle.msp_instance.specs.declared.ranges.TheConstants.{GREATEST_EQUAL_TIME, GREATEST_MULTIPLE, MOST_JOBS};
+ghost use Rattle.msp_class.specs.declared.sizes.TheConstants.{MOST_JOBS, GREATEST_MULTIPLE, GREATEST_EQUAL_TIME};
 ghost use Rattle.msp_instance.specs.Conditions.{Inner};
 ghost use Rattle.msp_instance.specs.Multiples.{IsLeastOfAll};
 ghost use Rattle.msp_schedule.specs.Cost.{IsBest};
@@ -201,10 +201,6 @@ pub struct PlacesMost;
 
 impl Solver for PlacesMost {
     ghost solved = { λ _. places_most_class };
-
-    ghost can_solve = { λ _ _. ⊤ };
-
-    ghost may_ask = { λ _ _. ⊤ };
 
     fn target(&self) -> Class {
         PLACES_MOST_CLASS

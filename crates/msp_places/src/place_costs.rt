@@ -1,7 +1,7 @@
 // What jobs cost in places.
 ghost use Rattle.std.specs.Prelude.{◌<◌, ◌≤◌, pos, length, All};
 ghost use Rattle.msp_class.specs.declared.list.TheConstants.{PLACES};
-ghost use Rattle.msp_instance.specs.declared.ranges.TheConstants.{GREATEST_MULTIPLE};
+ghost use Rattle.msp_class.specs.declared.sizes.TheConstants.{GREATEST_MULTIPLE};
 ghost use Rattle.msp_schedule.specs.Within.{HasSmallCost};
 ghost use Rattle.msp_places.specs.Assigned.{place_cost};
 

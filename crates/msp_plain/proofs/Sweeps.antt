@@ -56,7 +56,8 @@ module _ (time : ℕ) (xs zs : List Piece) (span : All Lasts xs) (sorted : AllPa
       sooner x y a b (inl h) = let t = IsTimed-from_span x a in let u = IsTimed-from_span y b in omega (arith, ints, t.from, u.from, h)
       sooner x y a b (inr h) = omega (arith, ap nat_abs h.0)
 
-  pub IsPast-next : IsSwept start finish xs k (nat_abs reach) (nat_abs idle) → pos 0 ≤ℤ idle → idle ≤ℤ reach → after ≡ int_max reach p.to → later ≡ idle +ℤ int_max (pos 0) (p.from -ℤ reach) → IsPast time xs k p after later
+  pub IsPast-next : IsSwept start finish xs k (nat_abs reach) (nat_abs idle)
+      → pos 0 ≤ℤ idle → idle ≤ℤ reach → after ≡ int_max reach p.to → later ≡ idle +ℤ int_max (pos 0) (p.from -ℤ reach) → IsPast time xs k p after later
   IsPast-next swept low high after_is later_is =
       let step = IsSwept-next start finish xs rises (λ n c l. timed (get_or xs n c) (span n c l)) k (nat_abs reach) (nat_abs idle) d inside swept in
       let t = IsTimed-from_span p (span k d inside) in
@@ -103,7 +104,8 @@ module _ (time : ℕ) (xs zs : List Piece) (span : All Lasts xs) (sorted : AllPa
         (IsPast-next sweeping.swept sweeping.idle_from sweeping.idle_to (after_is ∙ ap (λ q. int_max reach q.to) same) (later_is ∙ ap (λ q. idle +ℤ int_max (pos 0) (q.from -ℤ reach)) same))
 
     small_here : busy_moment time xs (get_or zs k d).to ≤ℤ GREATEST_CLOSED_UP
-    small_here = subst (λ q. q.to ≤ℤ GREATEST_CLOSED_UP) (get_or-map (moved (busy_moment time xs)) xs k d d inside ∙ ap (moved (busy_moment time xs)) (sym same)) (small k d (omega (arith, length-map xs (moved (busy_moment time xs)))))
+    small_here = subst (λ q. q.to ≤ℤ GREATEST_CLOSED_UP) (get_or-map (moved (busy_moment time xs)) xs k d d inside ∙ ap (moved (busy_moment time xs)) (sym same))
+        (small k d (omega (arith, length-map xs (moved (busy_moment time xs)))))
 
     pub small_from : (pos time *ℤ ((get_or zs k d).from -ℤ later)) ≤ℤ GREATEST_CLOSED_UP
     small_from = subst (λ z. z ≤ℤ GREATEST_CLOSED_UP) (sym IsPast-read.from_is) (≤ℤ_trans IsPast-read.increases small_here)
@@ -113,7 +115,8 @@ module _ (time : ℕ) (xs zs : List Piece) (span : All Lasts xs) (sorted : AllPa
 
     pub IsSweeping-next : (new : Piece) → new ≡ moved (λ x. pos time *ℤ (x -ℤ later)) (get_or zs k d) → IsSweeping time xs (slice_set zs k new) (k + 1) after later
     IsSweeping-next new e = record {
-      halfway = Halfway-step (moved (busy_moment time xs)) xs zs k new d (omega (arith, long, inside)) long (e ∙ ap₂ (λ x y. record (get_or zs k d) { from = x; to = y }) IsPast-read.from_is IsPast-read.to_is) sweeping.halfway;
+      halfway = Halfway-step (moved (busy_moment time xs)) xs zs k new d (omega (arith, long, inside))
+          long (e ∙ ap₂ (λ x y. record (get_or zs k d) { from = x; to = y }) IsPast-read.from_is IsPast-read.to_is) sweeping.halfway;
       swept = IsPast-read.swept;
       idle_from = IsPast-read.idle_from;
       idle_to = IsPast-read.idle_to;

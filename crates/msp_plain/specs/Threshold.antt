@@ -12,7 +12,7 @@ use Rattle.msp_schedule.specs.Feasible.{Feasible}
 use Rattle.msp_schedule.specs.Cost.{cost_of}
 use Rattle.msp_plain.specs.Changes.{shift_of}
 
--- The most, in size, of a bound on the greatest lateness.
+-- The most, in size, of a bound on the greatest lateness: the greatest date of an inner instance and it together are at most greatest_row_date.
 abbrev pub greatest_threshold : ℕ
 greatest_threshold = 2 * 10 ^ 18
 

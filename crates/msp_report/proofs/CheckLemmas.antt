@@ -1,5 +1,6 @@
 -- Fractions that are the same number, and what a stated schedule lies within.
-use Rattle.std.proofs.Common.{◌≡◌, ◌++◌, Result, Ok, Err, OnOk, codes, ◌↔◌, true, false, to_z, of_z, SFits, ℕ, zero, suc, List, negsuc, ◌≤ℤ◌, ◌*◌, ◌<◌, ℤ, pos, ◌*ℤ◌, unsigned_abs, neg_ℤ, ◌<ℤ◌, ◌^◌, inl, refl, sym, ap, ◌∙◌, subst, append_assoc, arith}
+use Rattle.std.proofs.Common.{◌≡◌, ◌++◌, Result, Ok, Err, OnOk, codes, ◌↔◌, true, false, to_z, of_z, SFits, ℕ, zero, suc, List, negsuc, ◌≤ℤ◌, ◌*◌, ◌<◌, ℤ, pos, ◌*ℤ◌, unsigned_abs}
+use Rattle.std.proofs.Common.{neg_ℤ, ◌<ℤ◌, ◌^◌, inl, refl, sym, ap, ◌∙◌, subst, append_assoc, arith}
 use Rattle.std.proofs.lemmas.Int.{ints, to_z-of_z}
 use Rattle.std.specs.Int.{IsGcd, w128}
 use Rattle.msp_class.proofs.IntegerRing.{natural_some, *ℤ_assoc, *ℤ_comm, *ℤ_exchange, *ℤ-cancel_same}
@@ -86,7 +87,8 @@ lowest_once a b p q e =
     let some : 0 < n = omega (arith, ints, a.positive, a_is) in
     let more : 0 < m = omega (arith, ints, b.positive, b_is) in
     let f : a.num *ℤ pos m ≡ b.num *ℤ pos n = subst (λ y. a.num *ℤ y ≡ b.num *ℤ pos n) b_is (subst (λ y. a.num *ℤ b.den ≡ b.num *ℤ y) a_is e) in
-    let same : n ≡ m = denominators a.num b.num n m some more (subst (λ y. IsGcd (unsigned_abs a.num) (unsigned_abs y) 1) a_is p) (subst (λ y. IsGcd (unsigned_abs b.num) (unsigned_abs y) 1) b_is q) f in
+    let same : n ≡ m =
+    denominators a.num b.num n m some more (subst (λ y. IsGcd (unsigned_abs a.num) (unsigned_abs y) 1) a_is p) (subst (λ y. IsGcd (unsigned_abs b.num) (unsigned_abs y) 1) b_is q) f in
     let g : a.num *ℤ pos n ≡ b.num *ℤ pos n = subst (λ k. a.num *ℤ pos k ≡ b.num *ℤ pos n) (sym same) f in
     (*ℤ-cancel_same n some (*ℤ_comm (pos n) a.num ∙ g ∙ *ℤ_comm b.num (pos n)), a_is ∙ ap pos same ∙ sym b_is)
 
@@ -100,10 +102,12 @@ pub states : (stated least cost : Frac) (c unit : ℤ) → pos 1 ≤ℤ unit →
 states stated least cost c unit u p q = (forth, back)
   where
     forth : IsSameFraction least cost → IsOver stated c unit
-    forth r = same_through stated.num stated.den cost.num cost.den c unit (omega (arith, ints, cost.positive)) (same_through stated.num stated.den least.num least.den cost.num cost.den (omega (arith, ints, least.positive)) p r) q
+    forth r = same_through stated.num stated.den cost.num cost.den c unit (omega (arith, ints, cost.positive))
+        (same_through stated.num stated.den least.num least.den cost.num cost.den (omega (arith, ints, least.positive)) p r) q
 
     back : IsOver stated c unit → IsSameFraction least cost
-    back r = same_through least.num least.den c unit cost.num cost.den (omega (arith, ints, u)) (same_through least.num least.den stated.num stated.den c unit (omega (arith, ints, stated.positive)) (sym p) r) (sym q)
+    back r = same_through least.num least.den c unit cost.num cost.den
+        (omega (arith, ints, u)) (same_through least.num least.den stated.num stated.den c unit (omega (arith, ints, stated.positive)) (sym p) r) (sym q)
 
 pub stated_within : (i : Instance) (names : List (List ℕ)) (s : Schedule) (x : Frac) → InClass i → IsStated names s x → Within i s
 stated_within i names s x h g = record {

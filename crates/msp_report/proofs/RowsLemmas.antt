@@ -69,4 +69,5 @@ pub IsBefore-room : (k row : ℕ) (out : List ℕ) → 1 ≤ k → k ≤ ROWS �
 IsBefore-room k row out from to is h = subst (λ r. length out + length (table_line r) ≤ ROWS_ROOM) (sym is) (subst (λ l. length l + length (table_line k) ≤ ROWS_ROOM) (sym h) (line_fits k from to))
 
 pub IsBefore-end : (k : ℕ) (out : List ℕ) → k ≡ ROWS + 1 → IsBefore k out → length out + length end_line ≤ ROWS_ROOM
-IsBefore-end k out is h = subst (λ l. length l + length end_line ≤ ROWS_ROOM) (sym (h ∙ ap lines_before is)) (omega (arith, sym (length-append (lines_before (ROWS + 1)) end_line) ∙ ap length all_lines, report_fits))
+IsBefore-end k out is h = subst (λ l. length l + length end_line ≤ ROWS_ROOM)
+    (sym (h ∙ ap lines_before is)) (omega (arith, sym (length-append (lines_before (ROWS + 1)) end_line) ∙ ap length all_lines, report_fits))

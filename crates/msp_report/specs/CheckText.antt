@@ -9,7 +9,7 @@ use Rattle.msp_schedule.specs.Cost.{cost_of}
 use Rattle.msp_schedule.specs.Fraction.{IsOver, IsSameFraction, IsLowest}
 use Rattle.msp_grammar.specs.ScheduleText.{line_feed, space, name_at, fraction_text}
 use Rattle.msp_grammar.specs.declared.filed.Filed.{Filed}
-use Rattle.msp_file.specs.declared.schedule.read.Stated.{Stated}
+use Rattle.msp_grammar.specs.declared.filed.Stated.{Stated}
 use Rattle.msp_report.specs.Lines.{class_line, number_line}
 
 -- the class, and how many jobs and pieces there are

@@ -3,7 +3,6 @@ use Rattle.std.specs.Prelude.{ℕ, ◌≡◌, ◌+◌, Bool, ◌&&◌, ◌==◌,
 use Rattle.std.specs.Option.{option_map_or}
 use Rattle.msp_class.specs.declared.class.Class.{Class}
 use Rattle.msp_class.specs.Rank.{rank_of}
-use Rattle.msp_name.specs.Names.{name_of}
 use Rattle.msp_table.specs.declared.row.Chain.{Chain}
 use Rattle.msp_table.specs.Rows.{goes_of, keeps_size}
 use Rattle.msp_table.specs.Chains.{every_row}
@@ -11,6 +10,7 @@ use Rattle.msp_closure.specs.declared.entry.Entry.{Entry}
 use Rattle.msp_closure.specs.declared.entry.Verdict.{Verdict}
 use Rattle.msp_closure.specs.declared.entry.Mark.{Mark}
 use Rattle.msp_closure.specs.Entries.{is_easy, is_pseudo, is_hard, is_strong, easy_listed, pseudo_listed, hard_listed, strong_listed, Says, IsWay}
+use Rattle.msp_report.specs.Lines.{class_line}
 use Rattle.msp_report.specs.ChainText.{chain_lines, clash_part, end_line}
 use Rattle.msp_report.specs.LabelsText.{label_text}
 
@@ -62,7 +62,7 @@ lower_part es hard strong = part_from (codes "hard\n") is_hard es hard ++ part_f
 
 -- the first lines: the class and its label
 abbrev pub why_head : Class → Mark → List ℕ
-why_head c m = codes "class " ++ name_of c ++ codes "\nlabel " ++ label_text m ++ codes "\n"
+why_head c m = class_line c ++ codes "label " ++ label_text m ++ codes "\n"
 
 -- the report of `why` on a class: its label, the chains that show it, then the chains that show a contradiction
 pub record IsWhyText (es : List Entry) (c : Class) (easy pseudo hard strong : Option Chain) (text : List ℕ) : Type 0 where

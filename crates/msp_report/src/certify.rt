@@ -7,8 +7,8 @@ ghost use Rattle.msp_report.specs.CertifyText.{certify_report, accept_lines, IsA
 use crate::check::put_yes_or_no;
 use crate::lines::{put_class_line, put_cost_line};
 use msp_cert::{Certificate, Certified};
+use msp_cert_text::{kind_word, print_certificate};
 use msp_class::NoMemory;
-use msp_file::{kind_word, print_certificate};
 use msp_grammar::put_fraction;
 use msp_instance::Instance;
 use msp_job_name::Names;

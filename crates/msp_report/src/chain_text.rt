@@ -1,29 +1,20 @@
 // The lines of chains.
 ghost use Rattle.std.specs.Prelude.{◌≡◌, ◌++◌, OnOk};
-ghost use Rattle.msp_name.specs.Names.{name_of};
 ghost use Rattle.msp_report.specs.ChainText.{row_line, row_lines, chain_lines, headed_chain, clash_part};
 
+use crate::lines::put_name_line;
 use msp_class::{Class, NoMemory};
-use msp_name::print;
 use msp_table::{Chain, Row, goes};
-use msp_text::{put, put_number};
-
-pub(crate) fn put_name(out: &mut Vec<u8>, c: Class) -> Result<(), NoMemory>
-    ensures { OnOk result (out.new.items ≡ out.old.items ++ name_of c) }
-{
-    put(out, print(c).bytes())
-}
+use msp_text::Part::{Number, Text};
+use msp_text::{put, put_all};
 
 /// Puts the line of a row and the class to which it leads.
 #[tactic(auto, unfolding(crate::specs::ChainText::row_line))]
 fn put_row(out: &mut Vec<u8>, row: Row, next: Class) -> Result<(), NoMemory>
     ensures { OnOk result (out.new.items ≡ out.old.items ++ row_line row next) }
 {
-    put(out, b"row ")?;
-    put_number(out, u64::from(row.number()))?;
-    put(out, b" ")?;
-    put_name(out, next)?;
-    put(out, b"\n")
+    put_all(out, &[Text(b"row "), Number(u64::from(row.number()))])?;
+    put_name_line(out, b" ", next)
 }
 
 fn put_rows(out: &mut Vec<u8>, from: Class, rows: &[Row]) -> Result<(), NoMemory>
@@ -46,9 +37,7 @@ fn put_rows(out: &mut Vec<u8>, from: Class, rows: &[Row]) -> Result<(), NoMemory
 pub(crate) fn put_chain(out: &mut Vec<u8>, chain: &Chain) -> Result<(), NoMemory>
     ensures { OnOk result (out.new.items ≡ out.old.items ++ chain_lines chain.now) }
 {
-    put(out, b"start ")?;
-    put_name(out, chain.from)?;
-    put(out, b"\n")?;
+    put_name_line(out, b"start ", chain.from)?;
     put_rows(out, chain.from, chain.rows.as_slice())
 }
 

@@ -8,12 +8,12 @@ ghost use Rattle.msp_report.specs.CheckText.{count_lines, numbers_text, operatio
 
 use crate::lines::{put_class_line, put_number_line};
 use msp_class::NoMemory;
-use msp_file::{Filed, Stated};
-use msp_grammar::{put_fraction, put_name};
+use msp_grammar::{Filed, Stated, put_fraction, put_name};
 use msp_instance::Instance;
 use msp_job_name::Names;
 use msp_schedule::{Break, Frac, Schedule, cost, lowest};
-use msp_text::{put, put_number};
+use msp_text::Part::{Number, Text};
+use msp_text::{put, put_all};
 use std::alloc::Global;
 
 #[tactic(auto, unfolding(crate::specs::CheckText::count_lines))]
@@ -29,8 +29,7 @@ fn put_counts(out: &mut Vec<u8>, inst: &Instance, s: &Schedule) -> Result<(), No
 fn put_numbered(out: &mut Vec<u8>, word: &[u8], number: u32) -> Result<(), NoMemory>
     ensures { OnOk result (out.new.items ≡ out.old.items ++ (word.now ++ decimal (number + 1))) }
 {
-    put(out, word)?;
-    put_number(out, number as u64 + 1)
+    put_all(out, &[Text(word), Number(number as u64 + 1)])
 }
 
 fn put_two(out: &mut Vec<u8>, word: &[u8], first: u32, second: u32) -> Result<(), NoMemory>

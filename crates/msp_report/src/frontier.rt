@@ -2,38 +2,31 @@
 ghost use Rattle.std.specs.Prelude.{◌≡◌, ◌++◌, OnOk, IfOk};
 ghost use Rattle.msp_report.specs.FrontierText.{name_line, name_lines, list_lines, decided_lists, open_lists, frontier_report};
 
-use crate::chain_text::{put_clash, put_name};
+use crate::chain_text::put_clash;
+use crate::lines::{put_name_line, put_number_line};
 use msp_class::{Class, List, NoMemory};
 use msp_closure::FrontierLists;
 use msp_table::Chain;
-use msp_text::{put, put_number};
+use msp_text::put;
 use std::alloc::Global;
 
 #[tactic(auto, unfolding(crate::specs::FrontierText::name_line))]
-fn put_name_line(out: &mut Vec<u8>, c: Class) -> Result<(), NoMemory>
-    ensures { OnOk result (out.new.items ≡ out.old.items ++ name_line c) }
-{
-    put_name(out, c)?;
-    put(out, b"\n")
-}
-
 fn put_name_lines(out: &mut Vec<u8>, classes: &[Class]) -> Result<(), NoMemory>
     ensures { OnOk result (out.new.items ≡ out.old.items ++ name_lines classes.now) }
 {
     for c in classes {
-        put_name_line(out, *c)?;
+        put_name_line(out, b"", *c)?;
     }
     Ok(())
 }
 
 /// Puts how many classes a list has, behind its heading, and their names.
+#[tactic(auto, unfolding(crate::specs::Lines::number_line))]
 fn put_list(out: &mut Vec<u8>, heading: &[u8], classes: &List<Class>) -> Result<(), NoMemory>
     ensures { OnOk result (out.new.items ≡ out.old.items ++ list_lines heading.now classes.now) }
 {
     put(out, heading)?;
-    put(out, b" ")?;
-    put_number(out, classes.len() as u64)?;
-    put(out, b"\n")?;
+    put_number_line(out, b" ", classes.len() as u64)?;
     put_name_lines(out, classes.as_slice())
 }
 

@@ -3,11 +3,13 @@ ghost use Rattle.std.specs.Prelude.{◌≡◌, ◌++◌, OnOk, IfOk};
 ghost use Rattle.msp_closure.specs.Frontier.{mark_at};
 ghost use Rattle.msp_report.specs.LabelsText.{label_text, label_line, label_lines, labels_report};
 
-use crate::chain_text::{put_clash, put_name};
+use crate::chain_text::put_clash;
 use msp_class::{Class, List, NoMemory};
 use msp_closure::{Labels, Mark, label};
+use msp_name::print;
 use msp_table::Chain;
-use msp_text::put;
+use msp_text::Part::Text;
+use msp_text::{put, put_all};
 use std::alloc::Global;
 
 /// The word of a mark.
@@ -37,10 +39,8 @@ fn label_word(labels: &Labels, c: Class) -> &'static [u8]
 fn put_label(out: &mut Vec<u8>, labels: &Labels, c: Class) -> Result<(), NoMemory>
     ensures { OnOk result (out.new.items ≡ out.old.items ++ label_line labels.now c) }
 {
-    put_name(out, c)?;
-    put(out, b" ")?;
-    put(out, label_word(labels, c))?;
-    put(out, b"\n")
+    put(out, print(c).bytes())?;
+    put_all(out, &[Text(b" "), Text(label_word(labels, c)), Text(b"\n")])
 }
 
 fn put_labels(out: &mut Vec<u8>, labels: &Labels, classes: &[Class]) -> Result<(), NoMemory>

@@ -1,8 +1,8 @@
 //! The texts of reports: labels of classes, the frontier, why a class has its label, the table of rows, the answer to an instance,
 //! whole or in a few lines, the check of a schedule, a certified cost, and whether a certificate is accepted.
 //!
-//! It stands on `msp_class`, `msp_name`, `msp_table`, `msp_closure`, `msp_route`, `msp_cert`, `msp_grammar`, `msp_file`, `msp_text` and
-//! `itoa`. The layer above uses that each text is exactly the one that `specs/` defines.
+//! It stands on `msp_class`, `msp_name`, `msp_table`, `msp_closure`, `msp_route`, `msp_cert`, `msp_cert_text`, `msp_grammar`, `msp_text`
+//! and `itoa`. The layer above uses that each text is exactly the one that `specs/` defines.
 #![tactic(auto)]
 
 mod certify;

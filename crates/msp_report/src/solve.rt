@@ -9,7 +9,8 @@ use msp_class::NoMemory;
 use msp_grammar::print_schedule;
 use msp_job_name::Names;
 use msp_route::{Answer, SolverName};
-use msp_text::put;
+use msp_text::Part::Text;
+use msp_text::{put, put_all};
 use std::alloc::Global;
 
 /// The word for a solver.
@@ -60,9 +61,7 @@ fn word(solver: SolverName) -> &'static [u8]
 pub(crate) fn put_solver(out: &mut Vec<u8>, solver: SolverName) -> Result<(), NoMemory>
     ensures { OnOk result (out.new.items ≡ out.old.items ++ solver_line solver) }
 {
-    put(out, b"solver ")?;
-    put(out, word(solver))?;
-    put(out, b"\n")
+    put_all(out, &[Text(b"solver "), Text(word(solver)), Text(b"\n")])
 }
 
 /// The report of `solve` for an answer, with its jobs' names.

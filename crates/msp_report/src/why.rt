@@ -6,12 +6,14 @@ ghost use Rattle.msp_table.specs.Chains.{every_row};
 ghost use Rattle.msp_closure.specs.Entries.{easy_listed, pseudo_listed, hard_listed, strong_listed, IsWay, makes, mark_of};
 ghost use Rattle.msp_report.specs.WhyText.{source_text, record_line, lists, first_record, last_class, part_to, part_from, upper_part, lower_part, why_head, IsWhyText};
 
-use crate::chain_text::{put_chain, put_clash, put_name};
+use crate::chain_text::{put_chain, put_clash};
 use crate::labels::word;
+use crate::lines::put_class_line;
 use msp_class::{Class, List, NoMemory, rank};
 use msp_closure::{Entry, Mark, Verdict, clash, strong_clash};
 use msp_table::{Chain, goes};
-use msp_text::{put, put_number};
+use msp_text::Part::{Number, Text};
+use msp_text::{put, put_all};
 use std::alloc::Global;
 
 fn put_source(out: &mut Vec<u8>, source: &[u8]) -> Result<(), NoMemory>
@@ -19,10 +21,7 @@ fn put_source(out: &mut Vec<u8>, source: &[u8]) -> Result<(), NoMemory>
 {
     match source {
         [] => Ok(()),
-        [..] => {
-            put(out, b" ")?;
-            put(out, source)
-        }
+        [..] => put_all(out, &[Text(b" "), Text(source)]),
     }
 }
 
@@ -31,8 +30,7 @@ fn put_source(out: &mut Vec<u8>, source: &[u8]) -> Result<(), NoMemory>
 fn put_record(out: &mut Vec<u8>, number: usize, entry: &Entry) -> Result<(), NoMemory>
     ensures { OnOk result (out.new.items ≡ out.old.items ++ record_line number entry.now) }
 {
-    put(out, b"record ")?;
-    put_number(out, number as u64)?;
+    put_all(out, &[Text(b"record "), Number(number as u64)])?;
     put_source(out, entry.source.as_slice())?;
     put(out, b"\n")
 }
@@ -145,14 +143,12 @@ fn put_lower(
 }
 
 /// Puts the class and its label.
+#[tactic(auto, unfolding(crate::specs::Lines::class_line))]
 fn put_head(out: &mut Vec<u8>, c: Class, mark: Mark) -> Result<(), NoMemory>
     ensures { OnOk result (out.new.items ≡ out.old.items ++ why_head c mark) }
 {
-    put(out, b"class ")?;
-    put_name(out, c)?;
-    put(out, b"\nlabel ")?;
-    put(out, word(mark))?;
-    put(out, b"\n")
+    put_class_line(out, c)?;
+    put_all(out, &[Text(b"label "), Text(word(mark)), Text(b"\n")])
 }
 
 /// The mark of a class by the chains that show what it is.

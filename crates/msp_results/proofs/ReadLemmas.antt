@@ -23,7 +23,8 @@ after-after xs e (Ok es) = ap (λ v. Ok v) (append_assoc xs (e ∷ []) es)
 after-after xs e (Err f) = refl
 
 -- one entry more
-pub Going-more : (version : Version) (start now new : Reader (Bor (List ℕ))) (at : ℕ) (entries : List Entry) (fields : List (List ℕ)) (e : Entry) → Going version start now at entries → NextRow true now fields new → at ≤ MOST_ENTRIES → Ok e ≡ row_read version at fields
+pub Going-more : (version : Version) (start now new : Reader (Bor (List ℕ))) (at : ℕ) (entries : List Entry) (fields : List (List ℕ)) (e : Entry)
+    → Going version start now at entries → NextRow true now fields new → at ≤ MOST_ENTRIES → Ok e ≡ row_read version at fields
     → Going version start new (at + 1) (entries ++ (e ∷ []))
 Going-more version start now new at entries fields e g next few read =
     let low = g.low in

@@ -1,5 +1,6 @@
 -- What is read are the entries of the bytes, and the other way round.
-use Rattle.std.proofs.Common.{◌≡◌, ◌≢◌, ◌≤◌, ℕ, ◌+◌, ◌-◌, List, [], ◌∷◌, length, refl, sym, ap, subst, ◌∙◌, Bool, true, false, cond, not, ◌&&◌, ◌==◌, Option, Some, None, Result, Ok, Err, bytes_eq, codes, arith, ◌⊎◌, inl, inr}
+use Rattle.std.proofs.Common.{◌≡◌, ◌≢◌, ◌≤◌, ℕ, ◌+◌, ◌-◌, List, [], ◌∷◌, length, refl, sym, ap, subst, ◌∙◌, Bool, true, false, cond, not, ◌&&◌, ◌==◌, Option, Some, None, Result}
+use Rattle.std.proofs.Common.{Ok, Err, bytes_eq, codes, arith, ◌⊎◌, inl, inr}
 use Rattle.std.specs.Prelude.{nat_lt, nat_le, IfOk, IsTrue}
 use Rattle.std.specs.List.{AllZip, AllByRecursion, list_all}
 use Rattle.std.specs.Str.{is_utf8}
@@ -22,7 +23,8 @@ use Rattle.msp_results.specs.declared.version.Version.{Version}
 use Rattle.msp_results.specs.declared.version.Version.TheVariants.{First, Second}
 use Rattle.msp_results.specs.Results.{IsEntry, IsPlainText, ResultsOf, column_text, has_verdict, header, records_of, verdict_text}
 use Rattle.msp_results.specs.Laws.{IsFirstFault, LawOfResults}
-use Rattle.msp_results.specs.Reading.{then_after, column_read, columns_read, entries_read, fields_read, headed_read, is_plain, is_printable, judged, known, named, results_of, row_read, rows_read, sourced, three_of, verdict_read, version_read, word_read}
+use Rattle.msp_results.specs.Reading.{then_after, column_read, columns_read, entries_read, fields_read, headed_read, is_plain, is_printable, judged, known, named, results_of}
+use Rattle.msp_results.specs.Reading.{row_read, rows_read, sourced, three_of, verdict_read, version_read, word_read}
 
 if_ok : {A : Type 0} (b : Bool) (e : ResultFault) (r : Result A ResultFault) (x : A) → cond b (Err e) r ≡ Ok x → (b ≡ false) × (r ≡ Ok x)
 if_ok true e r x h = cc
@@ -140,7 +142,8 @@ three_of-some (x ∷ y ∷ z ∷ []) a b c h =
     λ j. (k j).0 ∷ (k j).1 ∷ (k j).2 ∷ []
 three_of-some (x ∷ y ∷ z ∷ w ∷ ws) a b c h = cc
 
-by_fields : (version : Version) (at : ℕ) (o : Option (List ℕ × List ℕ × List ℕ)) (e : Entry) → elim o as (λ _. Result Entry ResultFault) [ Some t ↦ fields_read version at t.0 t.1 t.2 | None ↦ Err (fault.Width at) ] ≡ Ok e
+by_fields : (version : Version) (at : ℕ) (o : Option (List ℕ × List ℕ × List ℕ)) (e : Entry)
+    → elim o as (λ _. Result Entry ResultFault) [ Some t ↦ fields_read version at t.0 t.1 t.2 | None ↦ Err (fault.Width at) ] ≡ Ok e
     → (n : List ℕ) × (v : List ℕ) × (s : List ℕ) × (o ≡ Some (n, v, s)) × (fields_read version at n v s ≡ Ok e)
 by_fields version at None e h = cc
 by_fields version at (Some t) e h = (t.0, t.1, t.2, refl, h)
@@ -175,7 +178,8 @@ row_read-from version at fs e i =
     let short : nat_lt LONGEST_SOURCE (length e.source) ≡ false = le-ltb LONGEST_SOURCE (length e.source) i.short in
     rw (i.three, name, verdict_read-text version e.verdict i.known, plain, short) refl
 
-then_after-ok : (r : Result Entry ResultFault) (q : Result (List Entry) ResultFault) (es : List Entry) → then_after r q ≡ Ok es → (e : Entry) × (rest : List Entry) × (r ≡ Ok e) × (q ≡ Ok rest) × (e ∷ rest ≡ es)
+then_after-ok : (r : Result Entry ResultFault) (q : Result (List Entry) ResultFault) (es : List Entry)
+    → then_after r q ≡ Ok es → (e : Entry) × (rest : List Entry) × (r ≡ Ok e) × (q ≡ Ok rest) × (e ∷ rest ≡ es)
 then_after-ok (Err f) q es h = cc
 then_after-ok (Ok e) (Err f) es h = cc
 then_after-ok (Ok e) (Ok rest) es h = let k : e ∷ rest ≡ es = cc in (e, rest, refl, refl, k)

@@ -1,5 +1,6 @@
 -- The records of a text, one by one: a record takes bytes off the front, and its fields hold no more bytes than these.
-use Rattle.std.proofs.Common.{◌≡◌, ℕ, ◌+◌, ◌≤◌, ◌<◌, zero, suc, List, [], ◌∷◌, ◌++◌, length, refl, sym, ap, subst, ◌∙◌, Bool, true, false, cond, ◌⊎◌, inl, inr, Option, Some, None, All, arith, length-append, add-one}
+use Rattle.std.proofs.Common.{◌≡◌, ℕ, ◌+◌, ◌≤◌, ◌<◌, zero, suc, List, [], ◌∷◌, ◌++◌, length, refl, sym, ap, subst, ◌∙◌, Bool, true, false, cond, ◌⊎◌, inl, inr, Option, Some, None}
+use Rattle.std.proofs.Common.{All, arith, length-append, add-one}
 use Rattle.std.specs.Prelude.{IsSomeAnd}
 use Rattle.std.specs.List.{AllByRecursion}
 use Rattle.std.proofs.lemmas.List.Elements.{All-from_recursion}
@@ -83,7 +84,8 @@ unfolding records_from next_record
 none_left cfg zero = refl
 none_left cfg (suc n) = refl
 
-turned : (cfg : Config) (n m : ℕ) (o : Option Read) → ((p : Read) → o ≡ Some p → records_from cfg n p.1 p.2 ≡ records_from cfg m p.1 p.2) → records_next (records_from cfg n) o ≡ records_next (records_from cfg m) o
+turned : (cfg : Config) (n m : ℕ) (o : Option Read) → ((p : Read) → o ≡ Some p → records_from cfg n p.1 p.2 ≡ records_from cfg m p.1 p.2)
+    → records_next (records_from cfg n) o ≡ records_next (records_from cfg m) o
 turned cfg n m None k = refl
 turned cfg n m (Some p) k = ap (λ t. p.0 ∷ t) (k p refl)
 
@@ -98,7 +100,8 @@ unfolding records_from
 turns cfg n m s [] h k = turned cfg n m (next_record cfg s [] [] []) (at_end cfg n m s)
 turns cfg zero m s (c ∷ r) h k = absurd (omega arith)
 turns cfg (suc n) zero s (c ∷ r) h k = absurd (omega arith)
-turns cfg (suc n) (suc m) s (c ∷ r) h k = turned cfg (suc n) (suc m) (next_record cfg s [] [] (c ∷ r)) (λ p e. let less = next-shorter cfg s [] [] c r p e in turns cfg n m p.1 p.2 (omega arith) (omega arith))
+turns cfg (suc n) (suc m) s (c ∷ r) h k =
+    turned cfg (suc n) (suc m) (next_record cfg s [] [] (c ∷ r)) (λ p e. let less = next-shorter cfg s [] [] c r p e in turns cfg n m p.1 p.2 (omega arith) (omega arith))
 
 -- one record more
 first_row : (s : State) (xs : List ℕ) (p : Read) → next_record default_config s [] [] xs ≡ Some p → records_from default_config (length xs) p.1 p.2 ≡ rows_from p.1 p.2

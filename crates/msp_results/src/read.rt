@@ -61,7 +61,7 @@ fn read_records(alloc: Global, bytes: &[u8]) -> Result<List<Entry>, ResultFault>
 /// The entries of a file of results, in order. A class may stand there more than once.
 ///
 /// The file is CSV (RFC 4180). With the header `class,verdict,source` its verdicts are `easy` and `hard`, and with the header
-/// `class,strength,source` they are `easy`, `pseudo`, `hard` and `strong`. Reading stops at the first fault. Want of memory, and whatever
+/// `class,strength,source` they are `easy`, `pseudo`, `hard` and `strong`. Reading stops at the first fault. Out of memory, and whatever
 /// else `csv` refuses, is answered as `Memory`.
 pub fn read_results(alloc: Global, bytes: &[u8]) -> Result<List<Entry>, ResultFault>
     requires { length bytes.now ≤ LONGEST_FILE }

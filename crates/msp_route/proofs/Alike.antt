@@ -23,7 +23,8 @@ pub record Alike (row : ℕ) (i j : Instance) : Type 0 where
   pub work : SameWork i j
   pub charges : SameCharges i j
 
-pub Alike-led : (row : ℕ) (i : Instance) (c : Class) (jobs : List Job) → goes_of row i.class ≡ Some c → Alike row i (record i { class = c; jobs = jobs }) → Alike row i (record (led row i) { jobs = jobs })
+pub Alike-led : (row : ℕ) (i : Instance) (c : Class) (jobs : List Job)
+    → goes_of row i.class ≡ Some c → Alike row i (record i { class = c; jobs = jobs }) → Alike row i (record (led row i) { jobs = jobs })
 Alike-led row i c jobs g h = subst (Alike row i) (sym (ap (λ o. record i { class = unwrap_or o i.class; jobs = jobs }) g)) h
 
 module _ {row : ℕ} {i j : Instance} (h : Alike row i j) (inner : Inner i) where

@@ -10,7 +10,8 @@ parts_and_condition true false c h = absurd (cc)
 parts_and_condition false given c h = absurd (cc)
 
 -- the row has one part
-pub part_and_condition : (part given : Bool) (c : Class) → IsSome (if part && true && given then Some c else None) → (part ≡ true) × (given ≡ true) × ((if part && true && given then Some c else None) ≡ Some c)
+pub part_and_condition : (part given : Bool) (c : Class)
+    → IsSome (if part && true && given then Some c else None) → (part ≡ true) × (given ≡ true) × ((if part && true && given then Some c else None) ≡ Some c)
 part_and_condition true true c h = (refl, refl, refl)
 part_and_condition true false c h = absurd (cc)
 part_and_condition false given c h = absurd (cc)

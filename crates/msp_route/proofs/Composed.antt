@@ -42,13 +42,15 @@ IsBounded-from_answer i s h = record {
 later-row : (row : ℕ) → (row == 47) ≡ false → moment_after row GREATEST_ANSWER_MOMENT ≤ℤ GREATEST_ANSWER_MOMENT
 later-row row e = by (row == 47) (row == 51 || row == 52) (row == 54) e
   where
-    by : (a b c : Bool) → a ≡ false → (if a then GREATEST_ANSWER_MOMENT +ℤ GREATEST_RAISE else if b then GREATEST_LINED_UP else if c then GREATEST_CLOSED_UP else GREATEST_ANSWER_MOMENT) ≤ℤ GREATEST_ANSWER_MOMENT
+    by : (a b c : Bool) → a ≡ false
+        → (if a then GREATEST_ANSWER_MOMENT +ℤ GREATEST_RAISE else if b then GREATEST_LINED_UP else if c then GREATEST_CLOSED_UP else GREATEST_ANSWER_MOMENT) ≤ℤ GREATEST_ANSWER_MOMENT
     by true b c e = absurd (cc)
     by false true c e = omega (arith, ints)
     by false false true e = omega (arith, ints)
     by false false false e = ≤ℤ_refl GREATEST_ANSWER_MOMENT
 
-ends-composed : (row : ℕ) (upper lower : Instance) (t s : Schedule) → KeepsBounds row upper lower t s → EndsBy GREATEST_ANSWER_MOMENT t → (turns_dates row ≡ true → cost_of lower t ≤ℤ GREATEST_ANSWER_MOMENT) → EndsBy GREATEST_ANSWER_MOMENT s
+ends-composed : (row : ℕ) (upper lower : Instance) (t s : Schedule) → KeepsBounds row upper lower t s
+    → EndsBy GREATEST_ANSWER_MOMENT t → (turns_dates row ≡ true → cost_of lower t ≤ℤ GREATEST_ANSWER_MOMENT) → EndsBy GREATEST_ANSWER_MOMENT s
 ends-composed row upper lower t s keeps ends low = by (row == 47) refl
   where
     by : (b : Bool) → (row == 47) ≡ b → EndsBy GREATEST_ANSWER_MOMENT s
@@ -75,10 +77,12 @@ open_unit row upper lower t s led keeps open_shop = by (keeps_size row) refl
         apart : OpenShop ≡ Uniform → ⊥
         apart f = cc
 
-IsAnswer-composed : (row : ℕ) (upper lower : Instance) (t s : Schedule) → IsLower row upper lower → IsAnswer lower t → KeepsBounds row upper lower t s → (turns_dates row ≡ true → cost_of lower t ≤ℤ GREATEST_ANSWER_MOMENT) → IsAnswer upper s
+IsAnswer-composed : (row : ℕ) (upper lower : Instance) (t s : Schedule) → IsLower row upper lower
+    → IsAnswer lower t → KeepsBounds row upper lower t s → (turns_dates row ≡ true → cost_of lower t ≤ℤ GREATEST_ANSWER_MOMENT) → IsAnswer upper s
 IsAnswer-composed row upper lower t s led answer keeps low = record {
   few = keeps.sized.few;
-  unit = unit-composed (kind_of upper.class.env) (kind_of lower.class.env) t.unit s.unit (open_shops-stay row upper.class lower.class led.class) (open_unit row upper lower t s led keeps) keeps.sized.unit answer.unit;
+  unit = unit-composed (kind_of upper.class.env) (kind_of lower.class.env)
+      t.unit s.unit (open_shops-stay row upper.class lower.class led.class) (open_unit row upper lower t s led keeps) keeps.sized.unit answer.unit;
   ends = ends-composed row upper lower t s keeps answer.ends low;
 }
 
@@ -92,7 +96,8 @@ IfOk-best rate upper lower forth t (Ok s) positive forth_is best solution law = 
 }
 IfOk-best rate upper lower forth t (Err e) positive forth_is best solution law = tt
 
-pub IfOk-answer : (row : ℕ) (upper lower : Instance) (t : Schedule) (result : Result Solution NoMemory) → IsLower row upper lower → IsAnswer lower t → (turns_dates row ≡ true → cost_of lower t ≤ℤ GREATEST_ANSWER_MOMENT)
+pub IfOk-answer : (row : ℕ) (upper lower : Instance) (t : Schedule) (result : Result Solution NoMemory)
+    → IsLower row upper lower → IsAnswer lower t → (turns_dates row ≡ true → cost_of lower t ≤ℤ GREATEST_ANSWER_MOMENT)
     → IfOk result (λ s. KeepsBounds row upper lower t s.schedule) → IfOk result (λ s. IsAnswer upper s.schedule)
 IfOk-answer row upper lower t (Ok s) led answer low keeps = IsAnswer-composed row upper lower t s.schedule led answer keeps low
 IfOk-answer row upper lower t (Err e) led answer low keeps = tt

@@ -40,7 +40,8 @@ unit_is OpenShop = refl
 unit_is FlowShop = refl
 unit_is JobShop = refl
 
-pub turned_cost : (row : ℕ) (upper lower : Instance) (t : Schedule) → turns_dates row ≡ true → IsLower row upper lower → Best lower t → t.unit ≤ℤ answer_unit (kind_of lower.class.env) → cost_of lower t ≤ℤ GREATEST_ANSWER_MOMENT
+pub turned_cost : (row : ℕ) (upper lower : Instance) (t : Schedule) → turns_dates row ≡ true
+    → IsLower row upper lower → Best lower t → t.unit ≤ℤ answer_unit (kind_of lower.class.env) → cost_of lower t ≤ℤ GREATEST_ANSWER_MOMENT
 turned_cost row upper lower t e low best small =
     let leads = row_47_leads upper.class lower.class (ap (λ k. goes_of k upper.class) (sym (eqb-true row 47 e)) ∙ low.class) in
     best_ends_early lower t low.inner leads.mirror leads.heads (inr leads.crit) best (subst (λ u. t.unit ≤ℤ u) (unit_is (kind_of lower.class.env)) small)

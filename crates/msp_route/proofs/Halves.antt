@@ -37,7 +37,8 @@ module _ (Met : ℤ → Type 0) (limit : ℕ) where
           never p = absurd (cc)
 
   pub least_at : limit ≤ greatest_limit → (range : Range) → IsRange Met limit range → range.high ≤ℤ range.low → IsLeastBound Met (to_z w128 (of_z w128 range.high))
-  least_at small range h e = subst (IsLeastBound Met) (sym (to_z-of_z w128 range.high (bound_fits limit range.high small h.high))) (record { met = h.met; least = λ other c. ≤ℤ_trans e (h.least other c) })
+  least_at small range h e = subst (IsLeastBound Met)
+      (sym (to_z-of_z w128 range.high (bound_fits limit range.high small h.high))) (record { met = h.met; least = λ other c. ≤ℤ_trans e (h.least other c) })
 
 pub small_at : (limit : ℕ) → limit ≤ greatest_limit → (x : ℤ) → LiesWithin limit x → LiesWithin limit (to_z w128 (of_z w128 x))
 small_at limit small x h = subst (LiesWithin limit) (sym (to_z-of_z w128 x (bound_fits limit x small h))) h
@@ -51,6 +52,7 @@ middle_is limit small low high m a b p q = to_z-of_z w128 m (bound_fits limit m 
 less : (a b c d : ℤ) → pos 0 ≤ℤ (a -ℤ b) → (a -ℤ b) <ℤ (c -ℤ d) → nat_abs (a -ℤ b) < nat_abs (c -ℤ d)
 less a b c d h k = lt-pos (subst₂ (λ x y. x <ℤ y) (natural (a -ℤ b) h) (natural (c -ℤ d) (≤ℤ_trans h (<ℤ_weak k))) k)
 
-pub smaller : (range new : Range) (m x : ℤ) (met : Bool) → x ≡ m → range.low ≤ℤ m → m <ℤ range.high → new.low ≡ (if met then range.low else x +ℤ pos 1) → new.high ≡ (if met then x else range.high) → IsShorter range new
+pub smaller : (range new : Range) (m x : ℤ) (met : Bool) → x ≡ m
+    → range.low ≤ℤ m → m <ℤ range.high → new.low ≡ (if met then range.low else x +ℤ pos 1) → new.high ≡ (if met then x else range.high) → IsShorter range new
 smaller range new m x true e a b f g = less new.high new.low range.high range.low (omega (arith, ints, e, f, g, a)) (omega (arith, ints, e, f, g, b))
 smaller range new m x false e a b f g = less new.high new.low range.high range.low (omega (arith, ints, e, f, g, b)) (omega (arith, ints, e, f, g, a))

@@ -5,7 +5,7 @@ use Rattle.msp_class.specs.declared.class.Order.{Order}
 use Rattle.msp_class.specs.declared.class.Times.{Times}
 use Rattle.msp_class.specs.declared.class.Crit.{Crit}
 use Rattle.msp_class.specs.Env.{kind_of}
-use Rattle.msp_instance.specs.declared.ranges.TheConstants.{GREATEST}
+use Rattle.msp_class.specs.declared.sizes.TheConstants.{GREATEST}
 use Rattle.msp_instance.specs.declared.Job.{Job}
 use Rattle.msp_instance.specs.declared.Instance.{Instance}
 use Rattle.msp_instance.specs.Instance.{no_need, job_at, common_time}
@@ -41,7 +41,8 @@ Inner-changed i o h t c jobs same own arcs degree dues inner = record {
 
 -- the same jobs
 pub Inner-recast : (i : Instance) (o : Order) (h : Bool) (t : Times) (c : Crit) →
-    ((a : Job) → IsJobOf (inner_limits (kind_of i.class.env)) i a → IsJobOf (inner_limits (kind_of i.class.env)) (changed i o h t c i.jobs) a) → HasArcs o i.arcs → ((j : ℕ) → j < length i.jobs → HasDegree o i.arcs j) → Inner i → Inner (changed i o h t c i.jobs)
+    ((a : Job) → IsJobOf (inner_limits (kind_of i.class.env)) i a → IsJobOf (inner_limits (kind_of i.class.env)) (changed i o h t c i.jobs) a)
+    → HasArcs o i.arcs → ((j : ℕ) → j < length i.jobs → HasDegree o i.arcs j) → Inner i → Inner (changed i o h t c i.jobs)
 Inner-recast i o h t c own arcs degree inner = Inner-changed i o h t c i.jobs refl (λ k d l. own (get_or i.jobs k d) (inner.conditions.jobs k d l)) arcs degree inner.dues inner
 
 -- the common time where each job keeps its needs

@@ -52,7 +52,8 @@ kept_dates row h = shape (row == 47) (row == 48) (other_row keeps_schedule row 4
     shape a b p q = cc
 
 -- what a row owes that raises no moment and trades no dates
-pub KeepsBounds-unraised : (row : ℕ) (i j : Instance) (before after : Schedule) → raises row ≡ false → trades_dates row ≡ false → (keeps_schedule row ≡ true → after ≡ before) → (keeps_size row ≡ true → after.unit ≡ before.unit)
+pub KeepsBounds-unraised : (row : ℕ) (i j : Instance) (before after : Schedule)
+    → raises row ≡ false → trades_dates row ≡ false → (keeps_schedule row ≡ true → after ≡ before) → (keeps_size row ≡ true → after.unit ≡ before.unit)
     → length after.pieces ≤ length before.pieces → IsSized i after → ((moment : ℤ) → EndsBy moment before → EndsBy moment after) → KeepsBounds row i j before after
 KeepsBounds-unraised row i j before after low plain same unit few sized ends = record {
   same = same;

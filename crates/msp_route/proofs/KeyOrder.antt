@@ -68,7 +68,8 @@ module _ {X : Type 0} (key number : X → ℕ) where
   pub key_less-order : IsStrictWeakOrder key_less
   key_less-order = record {
     one_way = λ x y h. not_less (key y) (key x) (number y) (number x) (less-yes (key x) (key y) (number x) (number y) h);
-    chain = λ x y z h k. not_less (key x) (key z) (number x) (number z) (joined (key x) (key y) (key z) (number x) (number y) (number z) (less-no (key x) (key y) (number x) (number y) h) (less-no (key y) (key z) (number y) (number z) k));
+    chain = λ x y z h k. not_less (key x) (key z) (number x) (number z)
+        (joined (key x) (key y) (key z) (number x) (number y) (number z) (less-no (key x) (key y) (number x) (number y) h) (less-no (key y) (key z) (number y) (number z) k));
   }
 
   pub key_sorted : (xs : List X) → IsSortedBy key_less xs → AllPairs (λ a b. (key a < key b) ⊎ ((key a ≡ key b) × (number a ≤ number b))) xs
@@ -82,8 +83,10 @@ module _ {X : Type 0} (key number : X → ℕ) where
   pub falling_less-order : IsStrictWeakOrder falling_less
   falling_less-order = record {
     one_way = λ x y h. not_less (key x) (key y) (number y) (number x) (less-yes (key y) (key x) (number x) (number y) h);
-    chain = λ x y z h k. not_less (key z) (key x) (number x) (number z) (turned (key x) (key y) (key z) (number x) (number y) (number z) (less-no (key y) (key x) (number x) (number y) h) (less-no (key z) (key y) (number y) (number z) k));
+    chain = λ x y z h k. not_less (key z) (key x) (number x) (number z)
+        (turned (key x) (key y) (key z) (number x) (number y) (number z) (less-no (key y) (key x) (number x) (number y) h) (less-no (key z) (key y) (number y) (number z) k));
   }
 
   pub falling_sorted : (xs : List X) → IsSortedBy falling_less xs → AllPairs (λ a b. (key b < key a) ⊎ ((key b ≡ key a) × (number a ≤ number b))) xs
-  falling_sorted xs h i j d l k = less-no (key (get_or xs i d)) (key (get_or xs j d)) (number (get_or xs j d)) (number (get_or xs i d)) (sorted_far falling_less falling_less-order xs h i j d (omega arith) k)
+  falling_sorted xs h i j d l k = less-no (key (get_or xs i d))
+      (key (get_or xs j d)) (number (get_or xs j d)) (number (get_or xs i d)) (sorted_far falling_less falling_less-order xs h i j d (omega arith) k)

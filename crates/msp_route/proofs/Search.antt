@@ -1,5 +1,6 @@
 -- The search for the job that ends last: one more job, and what was found among all.
-use Rattle.std.proofs.Common.{◌≡◌, ℕ, ◌+◌, ◌<◌, ◌≤◌, ◌⊎◌, inl, inr, Bool, true, false, ◌==◌, ◌&&◌, List, length, get_or, take, Option, Some, None, IfSome, ℤ, ◌<ℤ◌, All, IsPermutation, sym, ap, ◌∙◌, subst, arith, slice_index_or}
+use Rattle.std.proofs.Common.{◌≡◌, ℕ, ◌+◌, ◌<◌, ◌≤◌, ◌⊎◌, inl, inr, Bool, true, false, ◌==◌, ◌&&◌, List, length, get_or, take, Option, Some, None, IfSome, ℤ, ◌<ℤ◌, All}
+use Rattle.std.proofs.Common.{IsPermutation, sym, ap, ◌∙◌, subst, arith, slice_index_or}
 use Rattle.std.specs.List.{list_any}
 use Rattle.std.proofs.lemmas.Bool.{cases_Bool, eqb-true, eq-eqb, false≢true}
 use Rattle.std.proofs.lemmas.Int.{ints}
@@ -7,6 +8,7 @@ use Rattle.std.proofs.lemmas.List.{take_all, take_more}
 use Rattle.std.proofs.lemmas.List.Folds.{list_any_none, list_any_at}
 use Rattle.std.proofs.lemmas.List.Sorted.{list_any-IsPermutation}
 use Rattle.std.proofs.lemmas.List.Elements.{All-push, All-contains}
+use Rattle.msp_class.specs.declared.sizes.TheConstants.{MOST_JOBS}
 use Rattle.msp_instance.specs.declared.Arc.{Arc}
 use Rattle.msp_instance.specs.declared.Instance.{Instance}
 use Rattle.msp_instance.specs.Conditions.{IsAcyclic}
@@ -73,35 +75,37 @@ module _ (jobs : List ℕ) (blocked : ℕ → Bool) (cost : ℕ → ℤ) (k : �
       chosen : Chosen result
       chosen = elim either [ inl e ↦ subst Chosen (sym e) newest | inr e ↦ kept best e h ]
 
--- ---- marks and successors
-module _ (i : Instance) (left : List ℕ) (marks : List Bool) (blocked : ℕ → Bool) (arcs : List Arc) (same : IsPermutation i.arcs arcs) (few : length i.jobs ≤ 400) (ends : All (λ a. (a.before < length i.jobs) × (a.after < length i.jobs)) i.arcs)
-    (marked : (j : ℕ) → j < 400 → slice_index_or marks j false ≡ list_any (λ k. k == j) left)
-    (blocked_is : (j : ℕ) → j < 400 → blocked j ≡ list_any (λ a. a.before == j && slice_index_or marks a.after false) arcs) where
+-- ---- flags and successors
+module _ (i : Instance) (left : List ℕ) (flags : List Bool) (blocked : ℕ → Bool) (arcs : List Arc)
+    (same : IsPermutation i.arcs arcs) (few : length i.jobs ≤ MOST_JOBS) (ends : All (λ a. (a.before < length i.jobs) × (a.after < length i.jobs)) i.arcs)
+    (flagged : (j : ℕ) → j < MOST_JOBS → slice_index_or flags j false ≡ list_any (λ k. k == j) left)
+    (blocked_is : (j : ℕ) → j < MOST_JOBS → blocked j ≡ list_any (λ a. a.before == j && slice_index_or flags a.after false) arcs) where
   abbrev leads : ℕ → Arc → Bool
-  leads j a = a.before == j && slice_index_or marks a.after false
+  leads j a = a.before == j && slice_index_or flags a.after false
 
   in_arcs : (j : ℕ) → j < length i.jobs → blocked j ≡ list_any (leads j) i.arcs
   in_arcs j l = blocked_is j (omega (arith, l, few)) ∙ sym (list_any-IsPermutation (leads j) i.arcs arcs same)
 
-  mark_is : All (λ a. slice_index_or marks a.after false ≡ list_any (λ k. k == a.after) left) i.arcs
-  mark_is k d l = marked (get_or i.arcs k d).after (omega (arith, (ends k d l).1, few))
+  flag_is : All (λ a. slice_index_or flags a.after false ≡ list_any (λ k. k == a.after) left) i.arcs
+  flag_is k d l = flagged (get_or i.arcs k d).after (omega (arith, (ends k d l).1, few))
 
   pub free_from_open : (j : ℕ) → j < length i.jobs → blocked j ≡ false → HasNoSuccessor i left j
-  free_from_open j inside unmarked k d l e c =
+  free_from_open j inside unflagged k d l e c =
       let a = get_or i.arcs k d in
-      let yes : leads j a ≡ true = ap (λ b. b && slice_index_or marks a.after false) (eq-eqb a.before j e) ∙ mark_is k d l ∙ list_any-from_Contains left a.after c in
-      false≢true (sym unmarked ∙ in_arcs j inside ∙ list_any_at (leads j) i.arcs k d l yes)
+      let yes : leads j a ≡ true = ap (λ b. b && slice_index_or flags a.after false) (eq-eqb a.before j e) ∙ flag_is k d l ∙ list_any-from_Contains left a.after c in
+      false≢true (sym unflagged ∙ in_arcs j inside ∙ list_any_at (leads j) i.arcs k d l yes)
 
   pub open_from_free : (j : ℕ) → j < length i.jobs → HasNoSuccessor i left j → blocked j ≡ false
-  open_from_free j inside free = in_arcs j inside ∙ list_any_none (leads j) i.arcs (λ k d l. one k d l (cases_Bool (a_before k d)) (cases_Bool (slice_index_or marks (get_or i.arcs k d).after false)))
+  open_from_free j inside free = in_arcs j inside ∙ list_any_none (leads j) i.arcs (λ k d l. one k d l (cases_Bool (a_before k d)) (cases_Bool (slice_index_or flags (get_or i.arcs k d).after false)))
     where
       a_before : ℕ → Arc → Bool
       a_before k d = (get_or i.arcs k d).before == j
 
-      one : (k : ℕ) (d : Arc) → k < length i.arcs → (a_before k d ≡ true) ⊎ (a_before k d ≡ false) → (slice_index_or marks (get_or i.arcs k d).after false ≡ true) ⊎ (slice_index_or marks (get_or i.arcs k d).after false ≡ false) → leads j (get_or i.arcs k d) ≡ false
-      one k d l (inl e) (inl m) = absurd (free k d l (eqb-true (get_or i.arcs k d).before j e) (Contains-from_list_any left (get_or i.arcs k d).after (sym (mark_is k d l) ∙ m)))
-      one k d l (inl e) (inr m) = ap (λ b. b && slice_index_or marks (get_or i.arcs k d).after false) e ∙ m
-      one k d l (inr e) m = ap (λ b. b && slice_index_or marks (get_or i.arcs k d).after false) e
+      one : (k : ℕ) (d : Arc) → k < length i.arcs → (a_before k d ≡ true) ⊎ (a_before k d ≡ false)
+          → (slice_index_or flags (get_or i.arcs k d).after false ≡ true) ⊎ (slice_index_or flags (get_or i.arcs k d).after false ≡ false) → leads j (get_or i.arcs k d) ≡ false
+      one k d l (inl e) (inl m) = absurd (free k d l (eqb-true (get_or i.arcs k d).before j e) (Contains-from_list_any left (get_or i.arcs k d).after (sym (flag_is k d l) ∙ m)))
+      one k d l (inl e) (inr m) = ap (λ b. b && slice_index_or flags (get_or i.arcs k d).after false) e ∙ m
+      one k d l (inr e) m = ap (λ b. b && slice_index_or flags (get_or i.arcs k d).after false) e
 
   module _ (inside : All (λ j. j < length i.jobs) left) where
     -- of the jobs left the one latest in a forward list has no arc to a job left

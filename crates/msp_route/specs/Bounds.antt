@@ -4,7 +4,8 @@ use Rattle.msp_class.specs.declared.environments.EnvKind.{EnvKind}
 use Rattle.msp_class.specs.declared.environments.EnvKind.TheVariants.{Identical, Uniform, Unrelated, OpenShop, FlowShop, JobShop}
 use Rattle.msp_class.specs.Env.{kind_of}
 use Rattle.msp_instance.specs.declared.Instance.{Instance}
-use Rattle.msp_schedule.specs.declared.limits.TheConstants.{MOST_PIECES, GREATEST_UNIT, GREATEST_CARRIED_UNIT}
+use Rattle.msp_class.specs.declared.sizes.TheConstants.{MOST_PIECES, GREATEST_UNIT}
+use Rattle.msp_schedule.specs.declared.limits.TheConstants.{GREATEST_CARRIED_UNIT}
 use Rattle.msp_schedule.specs.declared.Schedule.{Schedule}
 use Rattle.msp_schedule.specs.Cost.{cost_of}
 use Rattle.msp_table.specs.Rows.{keeps_size}

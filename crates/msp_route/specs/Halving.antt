@@ -3,7 +3,7 @@ use Rattle.std.specs.Prelude.{ℕ, ◌^◌, ◌<◌, ℤ, ◌-ℤ◌, ◌≤ℤ�
 use Rattle.msp_instance.specs.Conditions.{LiesWithin}
 use Rattle.msp_route.specs.declared.halving.Range.{Range}
 
--- No bound is greater in size than this.
+-- No bound is greater in size than this: at least what a job costs at most, and so small that two of them fit 128 bits.
 abbrev pub greatest_limit : ℕ
 greatest_limit = 10 ^ 36
 

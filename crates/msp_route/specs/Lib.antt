@@ -5,8 +5,9 @@ pub mod Rates
 pub mod Limits
 pub mod LastJob
 pub mod Candidates
-pub mod Row
+pub mod BackToBack
 pub mod Sizes
 pub mod Stays
 pub mod laws
 pub mod Halving
+pub mod Dates

@@ -2,7 +2,7 @@
 ghost use Rattle.std.specs.Prelude.{◌≡◌, ◌<◌, ◌≤◌, ◌⊎◌, length, map, slice_index_or, All, AllPairs, IfOk, IsPermutation};
 ghost use Rattle.std.specs.List.{range_with_len};
 ghost use Rattle.std.specs.Ordering.{nat_cmp, ordering_then};
-ghost use Rattle.msp_instance.specs.declared.ranges.TheConstants.{MOST_JOBS};
+ghost use Rattle.msp_class.specs.declared.sizes.TheConstants.{MOST_JOBS};
 
 use msp_class::NoMemory;
 use std::alloc::Global;
@@ -28,7 +28,7 @@ fn falling(a: &Keyed, b: &Keyed) -> Ordering
 }
 
 /// Puts the job of the least key first, ties to the lesser job.
-pub fn sort_by_key(jobs: &mut Vec<Keyed>)
+fn sort_by_key(jobs: &mut Vec<Keyed>)
     ensures permutation { IsPermutation jobs.old.items jobs.new.items }
     ensures sorted { AllPairs (λ a b. (a.key < b.key) ⊎ ((a.key ≡ b.key) × (a.job ≤ b.job))) jobs.new.items }
 {
@@ -69,7 +69,8 @@ fn keyed_jobs(alloc: Global, keys: &[u64]) -> Result<Vec<Keyed>, NoMemory>
 pub fn jobs_by_key(alloc: Global, keys: &[u64]) -> Result<Vec<u32>, NoMemory>
     requires { length keys.now ≤ MOST_JOBS }
     ensures all { IfOk result (λ jobs. IsPermutation (range_with_len 0 (length keys.now)) jobs.items) }
-    ensures rising { IfOk result (λ jobs. AllPairs (λ a b. (slice_index_or keys.now a 0 < slice_index_or keys.now b 0) ⊎ ((slice_index_or keys.now a 0 ≡ slice_index_or keys.now b 0) × (a ≤ b))) jobs.items) }
+    ensures rising { IfOk result
+        (λ jobs. AllPairs (λ a b. (slice_index_or keys.now a 0 < slice_index_or keys.now b 0) ⊎ ((slice_index_or keys.now a 0 ≡ slice_index_or keys.now b 0) × (a ≤ b))) jobs.items) }
 {
     let mut all = keyed_jobs(alloc, keys)?;
     sort_by_key(&mut all);

@@ -1,13 +1,13 @@
 // The job that ends last: of those that no job left must follow the one that costs least at the end.
 ghost use Rattle.std.specs.Prelude.{◌≡◌, ◌<◌, ◌⊎◌, false, length, slice_index_or, All, IfSome};
-ghost use Rattle.msp_instance.specs.declared.ranges.TheConstants.{MOST_JOBS};
+ghost use Rattle.msp_class.specs.declared.sizes.TheConstants.{MOST_JOBS};
 ghost use Rattle.msp_instance.specs.Conditions.{Inner};
 ghost use Rattle.msp_schedule.specs.Blocks.{cost_at};
 ghost use Rattle.msp_route.specs.LastJob.{EndsAt};
 ghost use Rattle.msp_route.specs.Candidates.{Precedes, IsFound};
 
 use msp_instance::{Instance, MOST_JOBS};
-use msp_schedule::{job_cost_at, marks_before, marks_of};
+use msp_schedule::{flags_before, flags_of, job_cost_at};
 
 /// A job that may go last: its place in the list of jobs left, and what it costs there.
 #[derive(Clone, Copy)]
@@ -74,8 +74,8 @@ pub fn last_place(inst: &Instance, left: &[u32], moment: u64) -> usize
     ensures place { result < length left.now }
     ensures last { EndsAt inst.now moment left.now (slice_index_or left.now result 0) }
 {
-    let is_left = marks_of(left);
-    let blocked = marks_before(inst.arcs.as_slice(), &is_left);
+    let is_left = flags_of(left);
+    let blocked = flags_before(inst.arcs.as_slice(), &is_left);
     match least_of(inst, left, &blocked, moment) {
         Some(last) => last.place,
         None => unreachable!(),

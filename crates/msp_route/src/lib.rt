@@ -4,13 +4,15 @@
 //! reduction does to costs, so that a best schedule brought back is best, and that a solver's answer is best within its bounds. A row over
 //! which schedules stay as they are says so by `KeepsData` or `KeepsSchedules`, and is a lawful reduction by that. What more than one
 //! solver needs stands here too, since no solver's crate stands on another's: the job that ends last (`last_place`), how long jobs take
-//! one after another (`total_time`), their pieces and the solution where they run so (`in_a_row`, `solution_in_order`), and jobs that are
-//! sorted by a number (`Keyed`).
+//! one after another (`total_time`), their pieces and the solution where they run so (`pieces_back_to_back`, `solution_in_order`), jobs
+//! that are sorted by a number (`Keyed`), and jobs by due date (`jobs_by_date`).
 #![tactic(auto)]
 
 mod answer;
+mod back_to_back;
 mod bounds;
 mod copies;
+mod dates;
 mod halving;
 mod keeps;
 mod keyed;
@@ -18,25 +20,25 @@ mod last_job;
 mod laws;
 mod question;
 mod reduction;
-mod row;
 mod solver;
 mod times;
 mod via;
 
 pub use answer::{Answer, SolverName};
+pub use back_to_back::{pieces_back_to_back, solution_in_order};
 pub use bounds::{
     GREATEST_ANSWER_MOMENT, GREATEST_BACK_MOMENT, GREATEST_CLOSED_UP, GREATEST_LINED_UP,
     GREATEST_OPEN_UNIT, GREATEST_RAISE,
 };
 pub use copies::{led, recast};
+pub use dates::jobs_by_date;
 pub use halving::{Range, least_in};
 pub use keeps::{KeepsData, KeepsSchedules};
-pub use keyed::{Keyed, job_numbers, jobs_by_key, sort_by_falling_key, sort_by_key};
+pub use keyed::{Keyed, job_numbers, jobs_by_key, sort_by_falling_key};
 pub use last_job::last_place;
 pub use laws::law_of_limits;
 pub use question::Question;
 pub use reduction::Reduction;
-pub use row::{in_a_row, solution_in_order};
 pub use solver::Solver;
 pub use times::{first_time, total_time};
 pub use via::Via;

@@ -1,5 +1,5 @@
 // Solvers: what answers the instances of one class.
-ghost use Rattle.std.specs.Prelude.{◌≡◌, ◌↔◌, IfOk, IsTrue};
+ghost use Rattle.std.specs.Prelude.{◌≡◌, ◌↔◌, ⊤, IfOk, IsTrue};
 ghost use Rattle.msp_class.specs.declared.class.Class.{Class as ClassValue};
 ghost use Rattle.msp_instance.specs.declared.Instance.{Instance as Inst};
 ghost use Rattle.msp_instance.specs.Conditions.{Inner};
@@ -11,16 +11,17 @@ use msp_instance::Instance;
 use msp_schedule::Solution;
 use std::alloc::Global;
 
-/// What answers each instance of a class that fits it with a best schedule.
+/// What answers each instance of a class that fits it with a best schedule. A solver that names no limit can solve each instance of its
+/// class, and its `fits` answers true.
 pub trait Solver {
     /// The class whose instances it solves.
     ghost solved: { Self → ClassValue };
 
     /// The solver can solve the instance.
-    ghost can_solve: { Self → Inst → Type 0 };
+    ghost can_solve: { Self → Inst → Type 0 } = { λ _ _. ⊤ };
 
     /// The solver may be asked whether it can.
-    ghost may_ask: { Self → Inst → Type 0 };
+    ghost may_ask: { Self → Inst → Type 0 } = { λ _ _. ⊤ };
 
     /// The class whose instances it solves.
     fn target(&self) -> Class

@@ -1,8 +1,8 @@
 // The times of jobs, which an instance on one machine gives in their first operations.
 ghost use Rattle.std.specs.Prelude.{◌≡◌, ◌*◌, ◌<◌, ◌≤◌, length, slice_index_or, sum_by, All};
-ghost use Rattle.msp_instance.specs.declared.ranges.TheConstants.{GREATEST, MOST_JOBS};
+ghost use Rattle.msp_class.specs.declared.sizes.TheConstants.{MOST_JOBS, GREATEST};
 ghost use Rattle.msp_instance.specs.Instance.{no_need};
-ghost use Rattle.msp_schedule.specs.Rows.{time_at};
+ghost use Rattle.msp_schedule.specs.BackToBack.{time_at};
 
 use msp_instance::{Instance, Job};
 

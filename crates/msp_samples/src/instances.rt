@@ -25,7 +25,7 @@ pub const fn class(env: Env, order: Order, crit: Crit) -> Class
     }
 }
 
-/// The same instance, or None where it does not belong to its class, or for want of memory.
+/// The same instance, or None where it does not belong to its class, or when out of memory.
 pub fn in_class(alloc: Global, inst: Instance) -> Option<Instance>
     ensures class { IfSome result InClass }
     ensures inner { IfSome result Inner }
@@ -40,7 +40,7 @@ pub fn in_class(alloc: Global, inst: Instance) -> Option<Instance>
     }
 }
 
-/// An instance of jobs of one operation, without speeds, or None where it does not belong to the class, or for want of memory.
+/// An instance of jobs of one operation, without speeds, or None where it does not belong to the class, or when out of memory.
 pub fn instance(
     alloc: Global,
     class: Class,
@@ -62,7 +62,7 @@ pub fn instance(
     in_class(alloc, inst)
 }
 
-/// An instance of jobs with needs alone, or None where it does not belong to the class, or for want of memory.
+/// An instance of jobs with needs alone, or None where it does not belong to the class, or when out of memory.
 pub fn instance_by_needs(
     alloc: Global,
     class: Class,

@@ -11,4 +11,4 @@ mod pieces;
 pub use instances::{class, in_class, instance, instance_by_needs};
 pub use job_data::{JobData, UNIT_JOB, jobs, load, need, timed};
 pub use lists::list_of;
-pub use pieces::{operation_piece, piece, piece_on};
+pub use pieces::piece;

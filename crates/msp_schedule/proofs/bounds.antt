@@ -8,3 +8,4 @@ pub mod LastEnds
 pub mod SpeedBound
 pub mod PriceBounds
 pub mod Certified
+pub mod Room

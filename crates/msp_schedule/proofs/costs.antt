@@ -8,3 +8,4 @@ pub mod Charges
 pub mod Makespan
 pub mod LateJobs
 pub mod InTime
+pub mod Charged

@@ -1,6 +1,6 @@
 pub mod Frames
 pub mod OneMachine
-pub mod OneRow
+pub mod BackToBack
 pub mod LastEnds
 pub mod Series
 pub mod InSeries

@@ -2,7 +2,7 @@ pub mod Among
 pub mod ArcTimes
 pub mod FirstBreaks
 pub mod JobShares
-pub mod MarkFacts
+pub mod OccupancyFacts
 pub mod OneBreak
 pub mod OverlapFacts
 pub mod SomeBreak

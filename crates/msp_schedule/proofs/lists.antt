@@ -1,6 +1,6 @@
 pub mod Intervals
-pub mod Rows
-pub mod Sequences
+pub mod BackToBack
+pub mod WeightedEnds
 pub mod Places
 pub mod Parts
 pub mod Positions
@@ -9,3 +9,4 @@ pub mod Permuted
 pub mod DateOrder
 pub mod ForwardOrders
 pub mod Pushes
+pub mod InTurn

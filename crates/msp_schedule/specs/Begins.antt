@@ -1,6 +1,6 @@
 -- The first beginnings of jobs. No public contract cites this file.
 use Rattle.std.specs.Prelude.{◌≡◌, ℕ, ◌<◌, List, ℤ, pos, ◌≤ℤ◌, All, slice_index_or}
-use Rattle.msp_instance.specs.declared.ranges.TheConstants.{MOST_JOBS}
+use Rattle.msp_class.specs.declared.sizes.TheConstants.{MOST_JOBS}
 use Rattle.msp_schedule.specs.declared.limits.TheConstants.{GREATEST_MOMENT}
 use Rattle.msp_schedule.specs.declared.Piece.{Piece}
 

@@ -10,7 +10,7 @@ pub mod Breaks
 pub mod Lanes
 pub mod Works
 pub mod Begins
-pub mod Marks
+pub mod Occupancies
 pub mod Prices
 pub mod Levels
 pub mod Loads
@@ -19,7 +19,7 @@ pub mod Blocks
 pub mod Speeds
 pub mod Segments
 pub mod Intervals
-pub mod Rows
+pub mod BackToBack
 pub mod LineUp
 pub mod Busy
 pub mod Limits

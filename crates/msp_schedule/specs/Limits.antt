@@ -1,6 +1,7 @@
 -- The limits of schedules, by their numbers.
 use Rattle.std.specs.Prelude.{◌≡◌, ◌*◌, ◌^◌, pos}
-use Rattle.msp_schedule.specs.declared.limits.TheConstants.{MOST_PIECES, GREATEST_UNIT, GREATEST_CARRIED_UNIT, GREATEST_MOMENT, GREATEST_COMPARED_NUMERATOR, GREATEST_COMPARED_DENOMINATOR}
+use Rattle.msp_class.specs.declared.sizes.TheConstants.{MOST_PIECES, GREATEST_UNIT}
+use Rattle.msp_schedule.specs.declared.limits.TheConstants.{GREATEST_CARRIED_UNIT, GREATEST_MOMENT, GREATEST_COMPARED_NUMERATOR, GREATEST_COMPARED_DENOMINATOR}
 
 -- Pieces, the unit, the unit that is carried beyond the limits of texts, moments, and the numbers of fractions that are compared.
 abbrev pub AreLimits : Type 0

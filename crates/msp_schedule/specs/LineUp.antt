@@ -1,14 +1,14 @@
--- The jobs of one machine in the order in which a schedule ends them, in a row.
+-- The jobs of one machine in the order in which a schedule ends them, back to back.
 use Rattle.std.specs.Prelude.{ℕ, ◌*◌, List, [], ◌∷◌, length, ℤ, pos, int_lt, if◌then◌else◌}
 use Rattle.std.specs.List.{range_with_len}
 use Rattle.msp_instance.specs.declared.Instance.{Instance}
 use Rattle.msp_schedule.specs.declared.Schedule.{Schedule}
 use Rattle.msp_schedule.specs.Cost.{end_of}
-use Rattle.msp_schedule.specs.Rows.{row, piece, time_at}
+use Rattle.msp_schedule.specs.BackToBack.{back_to_back, piece, time_at}
 
--- The jobs on machine 0 in a row from moment 0 on, over the unit D.
+-- The jobs on machine 0 back to back from moment 0 on, over the unit D.
 abbrev pub lined_up : Instance → ℕ → List ℕ → Schedule
-lined_up i D order = record { unit = pos D; pieces = row piece (λ j. D * time_at i j) 0 order }
+lined_up i D order = record { unit = pos D; pieces = back_to_back piece (λ j. D * time_at i j) 0 order }
 
 -- The number put before the first one of at least its value; and numbers sorted by their values, in their old order where these are the same.
 abbrev pub insert_by : (ℕ → ℤ) → ℕ → List ℕ → List ℕ

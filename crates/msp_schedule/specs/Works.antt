@@ -1,5 +1,5 @@
 -- The work of an operation among some pieces. No public contract cites this file.
-use Rattle.std.specs.Prelude.{◌≡◌, ℕ, ◌*◌, ◌^◌, ◌<◌, ◌≤◌, All, List, [], ◌∷◌, length, ℤ, pos, ◌*ℤ◌, map, slice_index_or, MatchBool}
+use Rattle.std.specs.Prelude.{◌≡◌, ℕ, ◌*◌, ◌<◌, ◌≤◌, All, List, [], ◌∷◌, length, ℤ, pos, ◌*ℤ◌, unsigned_abs, map, slice_index_or, MatchBool}
 use Rattle.msp_class.specs.declared.environments.EnvKind.{EnvKind}
 use Rattle.msp_class.specs.declared.environments.EnvKind.TheVariants.{Identical, Uniform, Unrelated, OpenShop, FlowShop, JobShop}
 use Rattle.msp_class.specs.Env.{IsCutOnUnrelated, kind_of}
@@ -7,7 +7,8 @@ use Rattle.msp_instance.specs.declared.Instance.{Instance}
 use Rattle.msp_instance.specs.Instance.{job_at, need_at}
 use Rattle.msp_instance.specs.Conditions.{LiesWithin, Inner}
 use Rattle.msp_schedule.specs.declared.Piece.{Piece}
-use Rattle.msp_schedule.specs.declared.limits.TheConstants.{MOST_PIECES}
+use Rattle.msp_class.specs.declared.sizes.TheConstants.{MOST_PIECES, GREATEST_SPEED}
+use Rattle.msp_schedule.specs.declared.limits.TheConstants.{GREATEST_MOMENT}
 use Rattle.msp_schedule.specs.Piece.{length_of}
 use Rattle.msp_schedule.specs.Feasible.{HasOperation, HasPlace, total, work_of, whole_work, IsWholeWork}
 use Rattle.msp_schedule.specs.Breaks.{pieces_among, IsLeastOperation}
@@ -31,12 +32,12 @@ measured_by OpenShop i p = length_of p
 measured_by FlowShop i p = length_of p
 measured_by JobShop i p = length_of p
 
--- The most, in size, of the length of a piece, and of its work.
+-- The most, in size, of the length of a piece, and of its work, on uniform machines times the speed.
 abbrev pub greatest_length : ℕ
-greatest_length = 2 * 10 ^ 26
+greatest_length = unsigned_abs GREATEST_MOMENT
 
 abbrev pub greatest_work : ℕ
-greatest_work = 2 * 10 ^ 32
+greatest_work = greatest_length * GREATEST_SPEED
 
 -- The times over the unit fit a signed number of 128 bits.
 abbrev pub AreSmallTimes : Instance → ℤ → Type 0

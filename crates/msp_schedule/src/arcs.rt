@@ -1,7 +1,7 @@
 // Arcs by the last end and the first beginning of each job.
 ghost use Rattle.std.specs.Prelude.{◌≡◌, ℕ, ◌<◌, ◌≤◌, ◌↔◌, pos, ◌≤ℤ◌, length, All, slice_index_or, slice_set, IsTrue, IsNone, IfSome};
 ghost use Rattle.std.specs.Int.{int_min};
-ghost use Rattle.msp_instance.specs.declared.ranges.TheConstants.{MOST_ARCS, MOST_JOBS};
+ghost use Rattle.msp_class.specs.declared.sizes.TheConstants.{MOST_JOBS, MOST_ARCS};
 ghost use Rattle.msp_schedule.specs.declared.limits.TheConstants.{GREATEST_MOMENT};
 ghost use Rattle.msp_schedule.specs.Within.{IsMoment};
 ghost use Rattle.msp_schedule.specs.Breaks.{KeepsArc, IsFirstLostArc};

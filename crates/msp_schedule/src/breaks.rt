@@ -1,9 +1,8 @@
 // The first condition of a feasible schedule that a schedule breaks.
 ghost use Rattle.std.specs.Prelude.{◌≡◌, ◌≢◌, ℕ, ◌<◌, ◌≤◌, ◌↔◌, slice_index_or, pos, ◌*ℤ◌, ◌≤ℤ◌, ◌<ℤ◌, length, All, IsTrue, IsNone, IfSome};
-ghost use Rattle.msp_schedule.specs.declared.limits.TheConstants.{MOST_PIECES};
+ghost use Rattle.msp_class.specs.declared.sizes.TheConstants.{MOST_ARCS, MOST_PIECES};
 ghost use Rattle.msp_class.specs.Env.{IsCutOnUnrelated, kind_of};
 ghost use Rattle.msp_instance.specs.declared.Instance.{Instance as InstanceValue};
-ghost use Rattle.msp_instance.specs.declared.ranges.TheConstants.{MOST_ARCS};
 ghost use Rattle.msp_instance.specs.Instance.{job_at, no_need};
 ghost use Rattle.msp_schedule.specs.Feasible.{Feasible, HasOperation, HasPlace, MayRun};
 ghost use Rattle.msp_instance.specs.Conditions.{LiesWithin, Inner};

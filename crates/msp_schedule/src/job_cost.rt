@@ -1,7 +1,7 @@
 // The cost of one job.
 ghost use Rattle.std.specs.Prelude.{◌≡◌, ℕ, ◌*◌, ◌<◌, ◌≤◌, pos, ◌+ℤ◌, ◌-ℤ◌, ◌*ℤ◌, unsigned_abs, sum_by, length, All, int_lt, if◌then◌else◌};
 ghost use Rattle.std.specs.Int.{int_max};
-ghost use Rattle.msp_instance.specs.declared.ranges.TheConstants.{GREATEST, MOST_STEPS};
+ghost use Rattle.msp_class.specs.declared.sizes.TheConstants.{MOST_STEPS, GREATEST};
 ghost use Rattle.msp_instance.specs.Conditions.{LiesWithin};
 ghost use Rattle.msp_schedule.specs.Cost.{jump, jumps, job_cost};
 ghost use Rattle.msp_schedule.specs.Within.{i128_limit, IsMoment, IsUnit, HasSmallCost, greatest_cost, greatest_scaled, greatest_lateness, greatest_level, greatest_adds, greatest_slope_cost};

@@ -16,11 +16,11 @@ mod arcs;
 mod breaks;
 mod fraction;
 mod job_cost;
-mod job_marks;
+mod job_flags;
 mod laws;
 mod limits;
-mod marks;
 mod numbers;
+mod occupancies;
 mod overlaps;
 mod routes;
 mod settling;
@@ -32,7 +32,7 @@ mod work;
 pub use breaks::{Break, first_break};
 pub use fraction::{compare, lowest};
 pub use job_cost::job_cost_at;
-pub use job_marks::{follows_marked, marks_before, marks_of};
+pub use job_flags::{flags_before, flags_of, follows_flagged};
 pub use laws::{
     law_of_blocks, law_of_ends, law_of_first_break, law_of_floors, law_of_groups, law_of_last_ends,
     law_of_levels, law_of_limits, law_of_lines, law_of_machines, law_of_prices, law_of_segments,
@@ -40,8 +40,9 @@ pub use laws::{
 };
 pub use limits::{
     GREATEST_CARRIED_UNIT, GREATEST_COMPARED_DENOMINATOR, GREATEST_COMPARED_NUMERATOR,
-    GREATEST_MOMENT, GREATEST_UNIT, MOST_PIECES,
+    GREATEST_MOMENT,
 };
+pub use msp_class::{GREATEST_UNIT, MOST_PIECES};
 pub use numbers::all_jobs;
 pub use settling::{settle, sort_pieces};
 pub use sweep::swept;

@@ -1,6 +1,6 @@
 // Pieces that overlap on a machine or in a job, found among all pairs.
 ghost use Rattle.std.specs.Prelude.{◌≡◌, ℕ, ◌+◌, ◌<◌, ◌≤◌, ◌↔◌, length, AllPairs, IsTrue, IsNone, IfNone, IfSome};
-ghost use Rattle.msp_schedule.specs.declared.limits.TheConstants.{MOST_PIECES};
+ghost use Rattle.msp_class.specs.declared.sizes.TheConstants.{MOST_PIECES};
 ghost use Rattle.msp_schedule.specs.Piece.{IsApart};
 ghost use Rattle.msp_schedule.specs.Breaks.{StandsAhead, Overlaps, IsFirstOverlap};
 ghost use Rattle.msp_schedule.specs.Lanes.{lane_of, Precedes, IsFirstOverlapBelow};

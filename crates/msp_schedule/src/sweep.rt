@@ -9,7 +9,7 @@ ghost use Rattle.msp_schedule.specs.Within.{Within};
 use crate::Schedule;
 use crate::arcs::swept_arc;
 use crate::breaks::{Break, first_early, first_empty, first_misplaced};
-use crate::marks::swept_overlap;
+use crate::occupancies::swept_overlap;
 use crate::overlaps::Lane;
 use crate::shares::{swept_route, swept_work};
 use msp_class::NoMemory;

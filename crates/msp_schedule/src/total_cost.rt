@@ -4,7 +4,7 @@ ghost use Rattle.std.specs.Int.{int_max};
 ghost use Rattle.msp_schedule.specs.Cost.{last_end, job_costs, greatest, combined, cost_of};
 ghost use Rattle.msp_schedule.specs.Feasible.{total, Feasible};
 ghost use Rattle.msp_schedule.specs.Fraction.{IsOver, IsLowest};
-ghost use Rattle.msp_instance.specs.declared.ranges.TheConstants.{MOST_JOBS};
+ghost use Rattle.msp_class.specs.declared.sizes.TheConstants.{MOST_JOBS};
 ghost use Rattle.msp_instance.specs.Conditions.{LiesWithin, Inner};
 ghost use Rattle.msp_schedule.specs.Within.{IsMoment, IsUnit, HasSmallCost, Within, greatest_total};
 

@@ -1,11 +1,10 @@
 // Whether an operation gets its work.
 ghost use Rattle.std.specs.Prelude.{◌≡◌, ◌≢◌, ◌<◌, ◌≤◌, ◌↔◌, [], ◌∷◌, pos, ◌*ℤ◌, length, map, ◌==◌, ◌&&◌, All, IsTrue, IfNone, IfSome, slice_index_or, if◌then◌else◌};
-ghost use Rattle.msp_instance.specs.declared.ranges.TheConstants.{GREATEST_SPEED};
+ghost use Rattle.msp_class.specs.declared.sizes.TheConstants.{MOST_PIECES, GREATEST_SPEED};
 ghost use Rattle.msp_instance.specs.Instance.{job_at, need_at};
 ghost use Rattle.msp_class.specs.declared.environments.EnvKind.TheVariants.{Unrelated};
 ghost use Rattle.msp_class.specs.Env.{kind_of};
 ghost use Rattle.msp_instance.specs.Conditions.{LiesWithin, Inner};
-ghost use Rattle.msp_schedule.specs.declared.limits.TheConstants.{MOST_PIECES};
 ghost use Rattle.msp_schedule.specs.Feasible.{HasOperation, HasPlace, IsWholeWork, total, work_of};
 ghost use Rattle.msp_schedule.specs.Works.{AreMeasurable, AreSmallTimes, GetsWorkAmong, need_of, measured_by, greatest_length, greatest_work};
 ghost use Rattle.msp_schedule.specs.Within.{IsMoment, greatest_scaled};

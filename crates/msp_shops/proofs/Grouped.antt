@@ -1,5 +1,6 @@
 -- The jobs that begin on a machine, read one after another and put into another order, are a group.
-use Rattle.std.proofs.Common.{◌≡◌, ◌≢◌, ℕ, suc, ◌+◌, ◌<◌, ◌≤◌, Bool, true, false, not, cond, if◌then◌else◌, List, [], ◌∷◌, ◌++◌, length, map, filter, All, AllPairs, Contains, IsPermutation, refl, sym, ap, ap₂, subst, ◌∙◌, arith}
+use Rattle.std.proofs.Common.{◌≡◌, ◌≢◌, ℕ, suc, ◌+◌, ◌<◌, ◌≤◌, Bool, true, false, not, cond, if◌then◌else◌, List, [], ◌∷◌, ◌++◌, length, map, filter, All, AllPairs, Contains}
+use Rattle.std.proofs.Common.{IsPermutation, refl, sym, ap, ap₂, subst, ◌∙◌, arith}
 use Rattle.std.specs.List.{range_with_len}
 use Rattle.std.proofs.lemmas.Bool.{eqb-true, eq-eqb}
 use Rattle.std.proofs.lemmas.List.{map-append, length-map, get_or-map}
@@ -17,11 +18,13 @@ use Rattle.msp_shops.specs.Groups.{route_times, begins_on, IsTwoMachineShop, IsG
 
 module _ (i : Instance) (machine : ℕ) where
   -- one job more
-  pub grouped-next : (new old : List JobTimes) (k : ℕ) → new ≡ old ++ (if begins_on i machine k then route_times i k ∷ [] else []) → old ≡ map (route_times i) (filter (begins_on i machine) (range_with_len 0 k)) → new ≡ map (route_times i) (filter (begins_on i machine) (range_with_len 0 (k + 1)))
+  pub grouped-next : (new old : List JobTimes) (k : ℕ) → new ≡ old ++ (if begins_on i machine k then route_times i k ∷ [] else [])
+      → old ≡ map (route_times i) (filter (begins_on i machine) (range_with_len 0 k)) → new ≡ map (route_times i) (filter (begins_on i machine) (range_with_len 0 (k + 1)))
   grouped-next new old k e so_far =
       let more : range_with_len 0 (k + 1) ≡ range_with_len 0 k ++ k ∷ [] = ap (range_with_len 0) back ∙ range_with_len_last 0 k ∙ ap (λ n. range_with_len 0 k ++ n ∷ []) place in
       e ∙ ap₂ (λ a b. a ++ b) so_far (one (begins_on i machine k))
-      ∙ sym (ap (λ l. map (route_times i) (filter (begins_on i machine) l)) more ∙ ap (map (route_times i)) (filter-append (begins_on i machine) (range_with_len 0 k) (k ∷ [])) ∙ map-append (route_times i) (filter (begins_on i machine) (range_with_len 0 k)) (filter (begins_on i machine) (k ∷ [])))
+      ∙ sym (ap (λ l. map (route_times i) (filter (begins_on i machine) l)) more ∙ ap (map (route_times i)) (filter-append (begins_on i machine) (range_with_len 0 k) (k ∷ []))
+      ∙ map-append (route_times i) (filter (begins_on i machine) (range_with_len 0 k)) (filter (begins_on i machine) (k ∷ [])))
     where
       back : k + 1 ≡ suc k
       back = omega arith
@@ -41,8 +44,11 @@ module _ (i : Instance) (machine : ℕ) where
     IsMember t = (t ≡ route_times i t.job) × (t.job < length i.jobs) × ((need_at i t.job 0).machine ≡ machine)
 
     members : All IsMember (map (route_times i) numbers)
-    members = All-map IsMember (route_times i) numbers (λ k d l.
-        (refl, All-filter (begins_on i machine) (λ j. j < length i.jobs) (range_with_len 0 (length i.jobs)) (OnceBelow-range (length i.jobs)).within k d l, eqb-true _ _ (filter_passes (begins_on i machine) (range_with_len 0 (length i.jobs)) k d l)))
+    members = All-map IsMember (route_times i) numbers (λ k d l. (
+      refl,
+      All-filter (begins_on i machine) (λ j. j < length i.jobs) (range_with_len 0 (length i.jobs)) (OnceBelow-range (length i.jobs)).within k d l,
+      eqb-true _ _ (filter_passes (begins_on i machine) (range_with_len 0 (length i.jobs)) k d l),
+    ))
 
     there : (j : ℕ) → j < length i.jobs → (need_at i j 0).machine ≡ machine → Contains (map (route_times i) numbers) (route_times i j)
     there j inside e =
@@ -50,12 +56,18 @@ module _ (i : Instance) (machine : ℕ) where
         (k, omega (arith, l, length-map numbers (route_times i)), get_or-map (route_times i) numbers k j (route_times i j) l ∙ ap (route_times i) is)
 
     once : AllPairs (λ a b. a.job ≢ b.job) (map (route_times i) numbers)
-    once = AllPairs-map (λ a b. a.job ≢ b.job) (route_times i) numbers (AllPairs-filter (λ a b. a ≢ b) (begins_on i machine) (range_with_len 0 (length i.jobs)) (OnceBelow-distinct (OnceBelow-range (length i.jobs))))
+    once = AllPairs-map (λ a b. a.job ≢ b.job) (route_times i)
+        numbers (AllPairs-filter (λ a b. a ≢ b) (begins_on i machine) (range_with_len 0 (length i.jobs)) (OnceBelow-distinct (OnceBelow-range (length i.jobs))))
 
     short : length (map (route_times i) numbers) ≤ length i.jobs
     short =
         let range = range_with_len 0 (length i.jobs) in
-        omega (arith, length-map numbers (route_times i), length-filter_both (begins_on i machine) (λ j. not (begins_on i machine j)) (λ j. refl) range, length-OnceBelow (OnceBelow-range (length i.jobs)))
+        omega (
+          arith,
+          length-map numbers (route_times i),
+          length-filter_both (begins_on i machine) (λ j. not (begins_on i machine j)) (λ j. refl) range,
+          length-OnceBelow (OnceBelow-range (length i.jobs)),
+        )
 
     pub IsGroup-made : IsGroup i machine ys
     IsGroup-made =

@@ -34,7 +34,8 @@ module _ (i : Instance) (shop : IsTwoMachineShop i) (s : Schedule) (f : Feasible
   less : (u m n : ℕ) → m ≤ n → u * n ≤ end → u * m ≤ end
   less u m n l b = grind arith
 
-  second_is_over : (m : ℕ) → m < 2 → (jobs others : List JobTimes) → IsJohnsonGroup i m jobs → unit * (sum_by (λ t. t.first) others + sum_by (λ t. t.second) jobs) ≤ end → (y : ℕ) → IsCritical jobs (after others) y → unit * y ≤ end
+  second_is_over : (m : ℕ) → m < 2 → (jobs others : List JobTimes) → IsJohnsonGroup i m jobs
+      → unit * (sum_by (λ t. t.first) others + sum_by (λ t. t.second) jobs) ≤ end → (y : ℕ) → IsCritical jobs (after others) y → unit * y ≤ end
   second_is_over m two jobs others g full y (inl e) = less unit y _ (omega (arith, e)) full
   second_is_over m two jobs others g full y (inr (before, k, rest, is, e)) =
       let S : List JobTimes → Type 0 = HaveTwoStages (λ t. t.first) (λ t. t.second) (ready i shop s f end ends m) unit end in
@@ -73,15 +74,18 @@ module _ (i : Instance) (shop : IsTwoMachineShop i) (s : Schedule) (f : Feasible
         (second_is_over 1 (omega arith) there here group_there load_here h.end_there.second h.pass_there.second_end)
 
 -- ---- the answer
-pub IsBestPlan-laid : (i : Instance) (shop : IsTwoMachineShop i) (here there : List JobTimes) (group_here : IsJohnsonGroup i 0 here) (group_there : IsJohnsonGroup i 1 there) (ps : List Piece) (h : AreLaid here there ps)
+pub IsBestPlan-laid : (i : Instance) (shop : IsTwoMachineShop i)
+    (here there : List JobTimes) (group_here : IsJohnsonGroup i 0 here) (group_there : IsJohnsonGroup i 1 there) (ps : List Piece) (h : AreLaid here there ps)
     → IsBestPlan i (last i shop here there group_here.group group_there.group ps h) (over_one ps)
 IsBestPlan-laid i shop here there group_here group_there ps h =
     IsBestPlan-from_plan i (IsPlainShop-from_two_machines i shop) (last i shop here there group_here.group group_there.group ps h)
-    (IsLeastEnd-from_pieces i (last i shop here there group_here.group group_there.group ps h) (λ t f c ends. last_is_over i shop t f c ends here there group_here group_there ps h)) ps (IsShopPlan-laid i shop here there group_here.group group_there.group ps h)
+    (IsLeastEnd-from_pieces i (last i shop here there group_here.group group_there.group ps h) (λ t f c ends. last_is_over i shop t f c ends here there group_here group_there ps h))
+    ps (IsShopPlan-laid i shop here there group_here.group group_there.group ps h)
     (omega (arith, laid_few i shop here there group_here.group group_there.group ps h, shop.few)) (laid_ends i shop here there group_here.group group_there.group ps h)
     (omega (arith, laid_short i shop here there group_here.group group_there.group ps h))
 
 -- as the code has it
-pub IsBestPlan-read : (i : Instance) (shop : IsTwoMachineShop i) (here there here_read there_read : List JobTimes) (ps : List Piece) → IsJohnsonGroup i 0 here → IsJohnsonGroup i 1 there → here_read ≡ here → there_read ≡ there
+pub IsBestPlan-read : (i : Instance) (shop : IsTwoMachineShop i) (here there here_read there_read : List JobTimes) (ps : List Piece)
+    → IsJohnsonGroup i 0 here → IsJohnsonGroup i 1 there → here_read ≡ here → there_read ≡ there
     → AreLaid here_read there_read ps → (end : ℕ) × IsBestPlan i end (over_one ps)
 IsBestPlan-read i shop here there here_read there_read ps a b e f h = (_, IsBestPlan-laid i shop here there a b ps (subst (λ l. AreLaid here l ps) f (subst (λ l. AreLaid l there_read ps) e h)))

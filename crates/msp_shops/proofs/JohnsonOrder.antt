@@ -27,7 +27,8 @@ module _ {X : Type 0} (first second : X → ℕ) where
   way l1 k l2 = ((sum_by first l1 + first k) + second k) + sum_by second l2
 
   -- what the two laws count around k is at least that
-  counts : (g : X → ℕ) (l1 : List X) (k : X) (l2 : List X) → All (λ x. first x ≤ g x) l1 → All (λ x. second x ≤ g x) l2 → (least : ℕ) → first k + second k ≤ least + g k → way l1 k l2 ≤ least + sum_by g (l1 ++ k ∷ l2)
+  counts : (g : X → ℕ) (l1 : List X) (k : X) (l2 : List X) → All (λ x. first x ≤ g x) l1
+      → All (λ x. second x ≤ g x) l2 → (least : ℕ) → first k + second k ≤ least + g k → way l1 k l2 ≤ least + sum_by g (l1 ++ k ∷ l2)
   counts g l1 k l2 before after least own = omega (arith, sum_by-append g l1 (k ∷ l2), sum_by-cons g k l2, sum_by-mono first g l1 before, sum_by-mono second g l2 after, own)
 
   -- k in the first group
@@ -88,7 +89,8 @@ module _ {X : Type 0} (first second : X → ℕ) where
       by true e = omega arith
       by false e = absurd (omega (arith, leb-false d d e))
 
-  pub johnson_bound : (ready : X → ℕ) (unit end : ℕ) (l1 : List X) (k : X) (l2 : List X) → AllPairs (GoesBefore first second) (l1 ++ k ∷ l2) → HaveTwoStages first second ready unit end (l1 ++ k ∷ l2) → unit * way l1 k l2 ≤ end
+  pub johnson_bound : (ready : X → ℕ) (unit end : ℕ) (l1 : List X) (k : X) (l2 : List X)
+      → AllPairs (GoesBefore first second) (l1 ++ k ∷ l2) → HaveTwoStages first second ready unit end (l1 ++ k ∷ l2) → unit * way l1 k l2 ≤ end
   johnson_bound ready unit end l1 k l2 order h = by (leb (first k) (second k)) refl
     where
       before : All (λ x. GoesBefore first second x k) l1

@@ -1,5 +1,6 @@
 -- Pieces that touch are joined: what is said of the pieces of slices still holds, and none goes on with another.
-use Rattle.std.proofs.Common.{◌≡◌, ℕ, suc, ◌+◌, ◌<◌, ◌≤◌, ◌⊎◌, inl, inr, Bool, true, false, cond, ltb, List, [], ◌∷◌, ◌++◌, length, length-append, get_or, drop, map, All, AllPairs, ℤ, pos, ◌+ℤ◌, ◌≤ℤ◌, ◌<ℤ◌, ◌-ℤ◌, append_assoc, refl, sym, ap, ap₂, subst, subst₂, ◌∙◌, arith}
+use Rattle.std.proofs.Common.{◌≡◌, ℕ, suc, ◌+◌, ◌<◌, ◌≤◌, ◌⊎◌, inl, inr, Bool, true, false, cond, ltb, List, [], ◌∷◌, ◌++◌, length, length-append, get_or, drop, map, All, AllPairs}
+use Rattle.std.proofs.Common.{ℤ, pos, ◌+ℤ◌, ◌≤ℤ◌, ◌<ℤ◌, ◌-ℤ◌, append_assoc, refl, sym, ap, ap₂, subst, subst₂, ◌∙◌, arith}
 use Rattle.std.specs.Prelude.{◌==◌, ◌&&◌}
 use Rattle.std.proofs.lemmas.Bool.{ltb-true, ltb-false}
 use Rattle.std.proofs.lemmas.Int.{ints}
@@ -124,17 +125,21 @@ All-last P p o (x ∷ front) f h = All-cons P x (front ++ o ∷ []) (All-head P 
 
 AllPairs-last : (R : Piece → Piece → Type 0) (p o : Piece) (front : List Piece) → ((x : Piece) → R x p → R x o) → AllPairs R (front ++ p ∷ []) → AllPairs R (front ++ o ∷ [])
 AllPairs-last R p o [] f h = pairs_one R o
-AllPairs-last R p o (x ∷ front) f h = AllPairs-cons R x (front ++ o ∷ []) (All-last (R x) p o front (f x) (AllPairs-head R x (front ++ p ∷ []) h)) (AllPairs-last R p o front f (AllPairs-tail R x (front ++ p ∷ []) h))
+AllPairs-last R p o (x ∷ front) f h =
+    AllPairs-cons R x (front ++ o ∷ []) (All-last (R x) p o front (f x) (AllPairs-head R x (front ++ p ∷ []) h)) (AllPairs-last R p o front f (AllPairs-tail R x (front ++ p ∷ []) h))
 
 -- a piece with which none goes on follows all
-none_on : (m : ℕ) (t : ℤ) (q : Piece) → q.machine ≡ m → q.op ≡ m → q.from ≡ t → (xs : List Piece) → AllPairs Follows xs → All (StandsBy m t) xs → ((front : List Piece) (p : Piece) → xs ≡ front ++ p ∷ [] → ¬ IsEndOf q.job m t p) → All (λ x. Follows x q) xs
+none_on : (m : ℕ) (t : ℤ) (q : Piece) → q.machine ≡ m → q.op ≡ m → q.from ≡ t → (xs : List Piece) → AllPairs Follows xs
+    → All (StandsBy m t) xs → ((front : List Piece) (p : Piece) → xs ≡ front ++ p ∷ [] → ¬ IsEndOf q.job m t p) → All (λ x. Follows x q) xs
 none_on m t q machine op «from» [] pairs all new = All-nil (λ x. Follows x q)
 none_on m t q machine op «from» (x ∷ []) pairs all new = All-cons (λ x. Follows x q) x [] (by (All-head (StandsBy m t) x [] all).1) (All-nil (λ x. Follows x q))
   where
     by : ((x.machine < m) ⊎ ((x.machine ≡ m) × (x.to ≤ℤ t))) → Follows x q
     by (inl below) = inl (omega (arith, below, machine))
-    by (inr (same, ends)) = inr (same ∙ sym machine, subst (λ y. x.to ≤ℤ y) (sym «from») ends, λ g. new [] x refl (record { of_job = g.job; of_op = g.op ∙ op; on_machine = same; ends = g.touch ∙ «from» }))
-none_on m t q machine op «from» (x ∷ y ∷ xs) pairs all new = All-cons (λ x. Follows x q) x (y ∷ xs) (by (All-head (StandsBy m t) x (y ∷ xs) all).1) (none_on m t q machine op «from» (y ∷ xs) (AllPairs-tail Follows x (y ∷ xs) pairs) (All-tail (StandsBy m t) x (y ∷ xs) all) (λ front p e. new (x ∷ front) p (ap (λ l. x ∷ l) e)))
+    by (inr (same, ends)) =
+        inr (same ∙ sym machine, subst (λ y. x.to ≤ℤ y) (sym «from») ends, λ g. new [] x refl (record { of_job = g.job; of_op = g.op ∙ op; on_machine = same; ends = g.touch ∙ «from» }))
+none_on m t q machine op «from» (x ∷ y ∷ xs) pairs all new = All-cons (λ x. Follows x q) x (y ∷ xs) (by (All-head (StandsBy m t) x (y ∷ xs) all).1)
+    (none_on m t q machine op «from» (y ∷ xs) (AllPairs-tail Follows x (y ∷ xs) pairs) (All-tail (StandsBy m t) x (y ∷ xs) all) (λ front p e. new (x ∷ front) p (ap (λ l. x ∷ l) e)))
   where
     next : StandsBy m t y
     next = All-head (StandsBy m t) y xs (All-tail (StandsBy m t) x (y ∷ xs) all)
@@ -176,7 +181,8 @@ made job m begin end = record { job = job; op = m; machine = m; from = begin; to
 put_first : (job m : ℕ) (t begin u : ℤ) (old mid : List Piece) → t <ℤ u → HasBegun job m t begin old mid → AreInRows m t old → AreInRows m u (mid ++ made job m begin u ∷ [])
 put_first job m t begin u old mid l (anew e f new) h =
     subst₂ (λ xs b. AreInRows m u (xs ++ made job m b u ∷ [])) (sym e) (sym f) (record {
-      follow = AllPairs-append Follows old (q ∷ []) h.follow (pairs_one Follows q) (λ k d inside. All-cons (Follows (get_or old k d)) q [] (none_on m t q refl refl refl old h.follow h.by new k d inside) (All-nil (Follows (get_or old k d))));
+      follow = AllPairs-append Follows old (q ∷ []) h.follow (pairs_one Follows q)
+          (λ k d inside. All-cons (Follows (get_or old k d)) q [] (none_on m t q refl refl refl old h.follow h.by new k d inside) (All-nil (Follows (get_or old k d))));
       by = All-append (StandsBy m u) old (q ∷ []) (later m t u (omega (arith, ints, l)) old h.by) (All-cons (StandsBy m u) q [] (l, inr (refl, omega (arith, ints))) (All-nil (StandsBy m u)));
     })
   where
@@ -192,12 +198,17 @@ put_first job m t begin u old mid l (earlier p e ends f) h = record {
 
     follows : (x : Piece) → Follows x p → Follows x o
     follows x (inl below) = inl (omega (arith, below, ends.on_machine))
-    follows x (inr (same, to, apart)) = inr (same ∙ ends.on_machine, subst (λ y. x.to ≤ℤ y) (sym f) to, λ g. apart (record { job = g.job ∙ sym ends.of_job; op = g.op ∙ sym ends.of_op; machine = g.machine ∙ sym ends.on_machine; touch = g.touch ∙ f }))
+    follows x (inr (same, to, apart)) = inr (
+      same ∙ ends.on_machine,
+      subst (λ y. x.to ≤ℤ y) (sym f) to,
+      λ g. apart (record { job = g.job ∙ sym ends.of_job; op = g.op ∙ sym ends.of_op; machine = g.machine ∙ sym ends.on_machine; touch = g.touch ∙ f }),
+    )
 
     stands : StandsBy m u p → StandsBy m u o
     stands (lasts, w) = (omega (arith, ints, lasts, f, ends.ends, l), inr (refl, omega (arith, ints)))
 
-pub AreInRows-put : (job m : ℕ) (t begin from to : ℤ) (x : ℤ) (old mid new : List Piece) → pos 1 ≤ℤ x → HasBegun job m t begin old mid → from ≡ begin → to ≡ t +ℤ x → new ≡ mid ++ made job m from to ∷ [] → AreInRows m t old → AreInRows m (t +ℤ x) new
+pub AreInRows-put : (job m : ℕ) (t begin from to : ℤ) (x : ℤ) (old mid new : List Piece) → pos 1 ≤ℤ x
+    → HasBegun job m t begin old mid → from ≡ begin → to ≡ t +ℤ x → new ≡ mid ++ made job m from to ∷ [] → AreInRows m t old → AreInRows m (t +ℤ x) new
 AreInRows-put job m t begin «from» to x old mid new lasts begun same ends pushed h =
     subst (AreInRows m (t +ℤ x)) (sym (pushed ∙ ap₂ (λ a b. mid ++ made job m a b ∷ []) same ends)) (put_first job m t begin (t +ℤ x) old mid (omega (arith, ints, lasts)) begun h)
 
@@ -221,9 +232,11 @@ joins_first job m t begin u old mid (earlier p e ends f) =
 pub column_is : (columns : List ℕ) (m : ℕ) (s : Slice) → columns ≡ s.column → get_or columns m 0 ≡ column_of s m
 column_is columns m s e = ap (λ l. get_or l m 0) e
 
-pub Joins-put : (columns job m : ℕ) (t begin from to : ℤ) (s : Slice) (old mid new : List Piece) → job ≡ column_of s m → job < columns → HasBegun job m t begin old mid → from ≡ begin → to ≡ t +ℤ s.length → new ≡ mid ++ made job m from to ∷ [] → Joins (old ++ row_part columns t s m) new
+pub Joins-put : (columns job m : ℕ) (t begin from to : ℤ) (s : Slice) (old mid new : List Piece) → job ≡ column_of s m → job < columns
+    → HasBegun job m t begin old mid → from ≡ begin → to ≡ t +ℤ s.length → new ≡ mid ++ made job m from to ∷ [] → Joins (old ++ row_part columns t s m) new
 Joins-put columns job m t begin «from» to s old mid new column inside begun same ends pushed =
-    subst₂ Joins (ap (λ xs. old ++ xs) (sym (by (ltb (column_of s m) columns) refl))) (sym (pushed ∙ ap₂ (λ a b. mid ++ made job m a b ∷ []) same ends)) (joins_first job m t begin (t +ℤ s.length) old mid begun)
+    subst₂ Joins (ap (λ xs. old ++ xs) (sym (by (ltb (column_of s m) columns) refl)))
+    (sym (pushed ∙ ap₂ (λ a b. mid ++ made job m a b ∷ []) same ends)) (joins_first job m t begin (t +ℤ s.length) old mid begun)
   where
     by : (b : Bool) → ltb (column_of s m) columns ≡ b → cond b (row_piece t s m ∷ []) [] ≡ made job m t (t +ℤ s.length) ∷ []
     by true e = ap (λ j. made j m t (t +ℤ s.length) ∷ []) (sym column)
@@ -236,18 +249,21 @@ Joins-none columns job m t s old column outside = subst (λ xs. Joins xs old) (s
     by true e = absurd (omega (arith, ltb-true (column_of s m) columns e, column, outside))
     by false e = refl
 
-pub Joins-slice : (columns m k : ℕ) (t : ℤ) (x d : Slice) (slices : List Slice) (parts old new : List Piece) → k < length slices → x ≡ get_or slices k d → Joins parts (old ++ row_parts columns t m (drop k slices)) → Joins (old ++ row_part columns t x m) new → Joins parts (new ++ row_parts columns (t +ℤ x.length) m (drop (k + 1) slices))
+pub Joins-slice : (columns m k : ℕ) (t : ℤ) (x d : Slice) (slices : List Slice) (parts old new : List Piece) → k < length slices → x ≡ get_or slices k d
+    → Joins parts (old ++ row_parts columns t m (drop k slices)) → Joins (old ++ row_part columns t x m) new → Joins parts (new ++ row_parts columns (t +ℤ x.length) m (drop (k + 1) slices))
 Joins-slice columns m k t x d slices parts old new l e so_far put =
     let here : drop k slices ≡ x ∷ drop (k + 1) slices = drop_more slices k d l ∙ ap (λ y. y ∷ drop (k + 1) slices) (sym e) in
     let rest : List Piece = row_parts columns (t +ℤ x.length) m (drop (k + 1) slices) in
-    let whole : old ++ row_parts columns t m (drop k slices) ≡ (old ++ row_part columns t x m) ++ rest = ap (λ l. old ++ row_parts columns t m l) here ∙ sym (append_assoc old (row_part columns t x m) rest) in
+    let whole : old ++ row_parts columns t m (drop k slices) ≡ (old ++ row_part columns t x m) ++ rest =
+    ap (λ l. old ++ row_parts columns t m l) here ∙ sym (append_assoc old (row_part columns t x m) rest) in
     Joins-both (subst (Joins parts) whole so_far) (Joins-more rest put)
 
 pub Joins-last : (columns m k : ℕ) (t : ℤ) (slices : List Slice) (parts new : List Piece) → length slices ≤ k → Joins parts (new ++ row_parts columns t m (drop k slices)) → Joins parts new
 Joins-last columns m k t slices parts new l h = subst (Joins parts) (ap (λ xs. new ++ row_parts columns t m xs) (drop_all k slices l) ∙ append-nil new) h
 
 -- the pieces of one machine more
-pub Joins-row : (columns n : ℕ) (slices : List Slice) (old new : List Piece) → Joins (laid columns slices n) old → Joins (old ++ row_parts columns (pos 0) n slices) new → Joins (laid columns slices (n + 1)) new
+pub Joins-row : (columns n : ℕ) (slices : List Slice) (old new : List Piece)
+    → Joins (laid columns slices n) old → Joins (old ++ row_parts columns (pos 0) n slices) new → Joins (laid columns slices (n + 1)) new
 Joins-row columns n slices old new before row =
     let more : suc n ≡ n + 1 = omega arith in
     subst (λ k. Joins (laid columns slices k) new) more (Joins-both (Joins-more (row_parts columns (pos 0) n slices) before) row)

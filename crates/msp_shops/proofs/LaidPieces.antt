@@ -1,7 +1,8 @@
 -- The laid pieces are the operations of all jobs, and when they end.
-use Rattle.std.proofs.Common.{◌≡◌, ◌≢◌, ℕ, ◌+◌, ◌-◌, ◌<◌, ◌≤◌, ◌⊎◌, inl, inr, max, List, ◌++◌, length, length-append, get_or, All, AllPairs, Contains, sum_by, refl, sym, ap, subst, ◌∙◌, arith}
+use Rattle.std.proofs.Common.{◌*◌, ◌≡◌, ◌≢◌, ℕ, ◌+◌, ◌-◌, ◌<◌, ◌≤◌, ◌⊎◌, inl, inr, max, List, ◌++◌, length, length-append, get_or, All, AllPairs, Contains, sum_by, refl, sym, ap, subst, ◌∙◌, arith}
 use Rattle.std.proofs.lemmas.Bool.{cases_lt}
 use Rattle.std.proofs.lemmas.List.Elements.{All-append, All-contains, Contains-append_left, Contains-append_right}
+use Rattle.msp_class.specs.declared.sizes.TheConstants.{MOST_JOBS, GREATEST}
 use Rattle.msp_instance.specs.declared.Instance.{Instance}
 use Rattle.msp_instance.specs.Instance.{job_at, need_at}
 use Rattle.msp_schedule.specs.declared.Piece.{Piece}
@@ -28,7 +29,8 @@ abbrev pub InOrder : Piece → Piece → Type 0
 InOrder p q = p.job ≡ q.job → (p.op < q.op) × (finish p ≤ start q)
 
 -- ---- one group
-module _ (i : Instance) (shop : IsTwoMachineShop i) (m other : ℕ) (turns : other ≡ 1 - m) (jobs : List JobTimes) (group : IsGroup i m jobs) (from to : Moments) (ps : List Piece) (h : IsPass (record { op = 0; machine = m }) (record { op = 1; machine = other }) jobs from to ps) where
+module _ (i : Instance) (shop : IsTwoMachineShop i) (m other : ℕ) (turns : other ≡ 1 - m) (jobs : List JobTimes) (group : IsGroup i m jobs)
+    (from to : Moments) (ps : List Piece) (h : IsPass (record { op = 0; machine = m }) (record { op = 1; machine = other }) jobs from to ps) where
   abbrev IsMember : JobTimes → Type 0
   IsMember t = (t ≡ route_times i t.job) × (t.job < length i.jobs) × ((need_at i t.job 0).machine ≡ m)
 
@@ -38,7 +40,8 @@ module _ (i : Instance) (shop : IsTwoMachineShop i) (m other : ℕ) (turns : oth
     pub begins : (need_at i p.job 0).machine ≡ m
     pub side : ((p.machine ≡ m) × (finish p ≤ to.first)) ⊎ ((p.machine ≡ other) × (from.second ≤ start p) × (finish p ≤ to.second))
 
-  operation : (p : Piece) (j o time : ℕ) → IsTimed p → p.job ≡ j → p.op ≡ o → j < length i.jobs → time ≡ (need_at i j o).time → finish p ≡ start p + time → (0 < time → p.machine ≡ (need_at i j o).machine) → IsOperationOf i p
+  operation : (p : Piece) (j o time : ℕ) → IsTimed p → p.job ≡ j → p.op ≡ o
+      → j < length i.jobs → time ≡ (need_at i j o).time → finish p ≡ start p + time → (0 < time → p.machine ≡ (need_at i j o).machine) → IsOperationOf i p
   operation p j o time timed job op inside is whole machine =
       let there : (need_at i p.job p.op) ≡ need_at i j o = ap (λ x. need_at i x p.op) job ∙ ap (need_at i j) op in
       let some : 0 < time = omega (arith, timed.lasts, whole) in
@@ -126,7 +129,8 @@ module _ (i : Instance) (shop : IsTwoMachineShop i) (here there : List JobTimes)
   timed = All-append IsTimed h.pieces_here h.pieces_there h.pass_here.tidy.timed h.pass_there.tidy.timed
 
   ends : All (λ p. finish p ≤ last) both
-  ends = All-append (λ p. finish p ≤ last) h.pieces_here h.pieces_there (λ k d l. by_here (get_or h.pieces_here k d) (ones_here k d l)) (λ k d l. by_there (get_or h.pieces_there k d) (ones_there k d l))
+  ends = All-append (λ p. finish p ≤ last) h.pieces_here h.pieces_there
+      (λ k d l. by_here (get_or h.pieces_here k d) (ones_here k d l)) (λ k d l. by_there (get_or h.pieces_there k d) (ones_there k d l))
     where
       by_here : (p : Piece) → OneHere p → finish p ≤ last
       by_here p o = elim o.side [ inl s ↦ omega (arith, s.1) | inr s ↦ omega (arith, s.2) ]
@@ -193,6 +197,6 @@ module _ (i : Instance) (shop : IsTwoMachineShop i) (here there : List JobTimes)
 
   pub laid_short : last ≤ 1200000000000
   laid_short =
-      let here_first : sum_by (λ t. t.first) here ≤ 400000000000 = omega (arith, h.pass_here.first_end, h.pass_here.small.0, group_here.few) in
-      let there_first : sum_by (λ t. t.first) there ≤ 400000000000 = omega (arith, h.pass_there.first_end, h.pass_there.small.0, group_there.few) in
+      let here_first : sum_by (λ t. t.first) here ≤ (MOST_JOBS * GREATEST) = omega (arith, h.pass_here.first_end, h.pass_here.small.0, group_here.few) in
+      let there_first : sum_by (λ t. t.first) there ≤ (MOST_JOBS * GREATEST) = omega (arith, h.pass_there.first_end, h.pass_there.small.0, group_there.few) in
       omega (arith, here_first, there_first, h.pass_here.small.0, h.pass_here.small.1, h.pass_there.small.0, h.pass_there.small.1, group_here.few, group_there.few)

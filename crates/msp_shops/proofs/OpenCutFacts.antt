@@ -1,5 +1,6 @@
 -- Open shops with preemption: what an instance has, the lines of its matrix of times, and why laid slices are best.
-use Rattle.std.proofs.Common.{◌≡◌, ◌≢◌, ℕ, suc, ◌+◌, ◌*◌, ◌<◌, ◌≤◌, ◌⊎◌, inl, inr, true, cond, eqb, List, [], ◌∷◌, ◌++◌, length, get_or, map, All, AllPairs, MatchBool, ℤ, pos, ◌+ℤ◌, ◌*ℤ◌, ◌≤ℤ◌, sum_by, append_assoc, refl, sym, ap, ap₂, subst, subst₂, ◌∙◌, arith}
+use Rattle.std.proofs.Common.{◌≡◌, ◌≢◌, ℕ, suc, ◌+◌, ◌*◌, ◌<◌, ◌≤◌, ◌⊎◌, inl, inr, true, cond, eqb, List, [], ◌∷◌, ◌++◌, length, get_or, map, All, AllPairs, MatchBool, ℤ, pos}
+use Rattle.std.proofs.Common.{◌+ℤ◌, ◌*ℤ◌, ◌≤ℤ◌, sum_by, append_assoc, refl, sym, ap, ap₂, subst, subst₂, ◌∙◌, arith}
 use Rattle.std.specs.List.{range_with_len}
 use Rattle.std.proofs.lemmas.Int.{ints}
 use Rattle.std.proofs.lemmas.Nat.{mul-le}
@@ -7,6 +8,7 @@ use Rattle.std.proofs.lemmas.Bool.{cases_lt}
 use Rattle.std.proofs.lemmas.List.{get_or_append_left, get_or-append-add, length-append}
 use Rattle.std.proofs.lemmas.List.FromFn.{get_or-map-range_with_len, length-map-range_with_len, map-range_with_len_more}
 use Rattle.std.proofs.lemmas.List.Elements.{All-nil}
+use Rattle.msp_class.specs.declared.sizes.TheConstants.{MOST_JOBS, MOST_MACHINES, MOST_PIECES, GREATEST}
 use Rattle.msp_class.specs.declared.class.Env.{Env}
 use Rattle.msp_class.specs.declared.class.Times.{Times}
 use Rattle.msp_class.specs.declared.class.Crit.TheVariants.{Cmax}
@@ -49,12 +51,12 @@ pub record IsCutInstance (i : Instance) : Type 0 where
   pub arcs : i.arcs ≡ []
   pub release : All (λ j. j.release ≡ 0) i.jobs
   pub some : 1 ≤ length i.jobs
-  pub few : length i.jobs ≤ 400
+  pub few : length i.jobs ≤ MOST_JOBS
   pub some_machines : 1 ≤ i.machines
-  pub few_machines : i.machines ≤ 32
+  pub few_machines : i.machines ≤ MOST_MACHINES
   pub needs : (j : ℕ) → j < length i.jobs → length (job_at i j).needs ≡ i.machines
   pub machines : (j o : ℕ) → j < length i.jobs → o < i.machines → (need_at i j o).machine ≡ o
-  pub times : (j o : ℕ) → j < length i.jobs → o < i.machines → (need_at i j o).time ≤ 1000000000
+  pub times : (j o : ℕ) → j < length i.jobs → o < i.machines → (need_at i j o).time ≤ GREATEST
 
 pub IsCutInstance-from_class : (i : Instance) → i.class ≡ open_cut_class → Inner i → IsCutInstance i
 IsCutInstance-from_class i e h =
@@ -82,11 +84,13 @@ IsCutInstance-from_class i e h =
     shape env m j l = subst (λ v. HasShape (kind_of v) v i.machines (job_at i j).needs) env (m.jobs j no_job l).needs.shape
 
 -- ---- loads and lengths
-on_machine : (needs : List Need) (n o : ℕ) → length needs ≡ n → ((k : ℕ) → k < n → (get_or needs k no_need).machine ≡ k) → o < n → sum_by (λ n. cond (eqb n.machine o) n.time 0) needs ≡ (get_or needs o no_need).time
+on_machine : (needs : List Need) (n o : ℕ) → length needs ≡ n
+    → ((k : ℕ) → k < n → (get_or needs k no_need).machine ≡ k) → o < n → sum_by (λ n. cond (eqb n.machine o) n.time 0) needs ≡ (get_or needs o no_need).time
 on_machine needs n o size is l =
     sum_by-places (λ (n : Need). cond (eqb n.machine o) n.time 0) needs no_need
     ∙ ap (λ k. total_below k (λ k. cond (eqb (get_or needs k no_need).machine o) (get_or needs k no_need).time 0)) size
-    ∙ total_below-same n (λ k. cond (eqb (get_or needs k no_need).machine o) (get_or needs k no_need).time 0) (λ k. cond (eqb o k) (get_or needs k no_need).time 0) (λ k m. ap (λ b. cond b (get_or needs k no_need).time 0) (ap (λ x. eqb x o) (is k m) ∙ eqb_comm k o))
+    ∙ total_below-same n (λ k. cond (eqb (get_or needs k no_need).machine o) (get_or needs k no_need).time 0)
+    (λ k. cond (eqb o k) (get_or needs k no_need).time 0) (λ k m. ap (λ b. cond b (get_or needs k no_need).time 0) (ap (λ x. eqb x o) (is k m) ∙ eqb_comm k o))
     ∙ total_below-only n (λ k. (get_or needs k no_need).time) o l
 
 module _ (i : Instance) (h : IsCutInstance i) where
@@ -98,16 +102,16 @@ module _ (i : Instance) (h : IsCutInstance i) where
   length_is : (j : ℕ) → j < length i.jobs → job_length i j ≡ total_below i.machines (λ o. (need_at i j o).time)
   length_is j l = sum_by-places (λ (n : Need). n.time) (job_at i j).needs no_need ∙ ap (λ n. total_below n (λ o. (need_at i j o).time)) (h.needs j l)
 
-  load_short : (o : ℕ) → o < i.machines → machine_load i o ≤ 400000000000
-  load_short o l = omega (arith, load_is o l, total_below-bound (length i.jobs) 1000000000 (λ j. (need_at i j o).time) (λ j b. h.times j o b l), h.few)
+  load_short : (o : ℕ) → o < i.machines → machine_load i o ≤ (MOST_JOBS * GREATEST)
+  load_short o l = omega (arith, load_is o l, total_below-bound (length i.jobs) GREATEST (λ j. (need_at i j o).time) (λ j b. h.times j o b l), h.few)
 
   length_short : (j : ℕ) → j < length i.jobs → job_length i j ≤ 32000000000
-  length_short j l = omega (arith, length_is j l, total_below-bound i.machines 1000000000 (λ o. (need_at i j o).time) (λ o b. h.times j o l b), h.few_machines)
+  length_short j l = omega (arith, length_is j l, total_below-bound i.machines GREATEST (λ o. (need_at i j o).time) (λ o b. h.times j o l b), h.few_machines)
 
-  end_short : (end : ℕ) → IsGreatestLine i end → end ≤ 400000000000
+  end_short : (end : ℕ) → IsGreatestLine i end → end ≤ (MOST_JOBS * GREATEST)
   end_short end e = by e.reached
     where
-      by : ((m : ℕ) × (m < i.machines) × (end ≡ machine_load i m)) ⊎ ((j : ℕ) × (j < length i.jobs) × (end ≡ job_length i j)) → end ≤ 400000000000
+      by : ((m : ℕ) × (m < i.machines) × (end ≡ machine_load i m)) ⊎ ((j : ℕ) × (j < length i.jobs) × (end ≡ job_length i j)) → end ≤ (MOST_JOBS * GREATEST)
       by (inl (m, l, f)) = omega (arith, f, load_short m l)
       by (inr (j, l, f)) = omega (arith, f, length_short j l)
 
@@ -167,7 +171,10 @@ module _ (i : Instance) (h : IsCutInstance i) where
       job_inside p a = omega (arith, a.job, columns)
 
       timely : (p : Piece) → IsLaidPiece m.rows m.columns slices (pos 0) (pos 0 +ℤ g) p → (p.op < length (job_at i p.job).needs) × ((need_at i p.job p.op).time ≢ 0)
-      timely p a = (omega (arith, a.row, rows, h.needs p.job (job_inside p a)), λ z. absurd (some (need_at i p.job p.op).time z (subst (λ x. pos 1 ≤ℤ x) (split.cells p.op p.job a.row a.job ∙ cells p.op p.job a.row a.job) a.uses)))
+      timely p a = (
+        omega (arith, a.row, rows, h.needs p.job (job_inside p a)),
+        λ z. absurd (some (need_at i p.job p.op).time z (subst (λ x. pos 1 ≤ℤ x) (split.cells p.op p.job a.row a.job ∙ cells p.op p.job a.row a.job) a.uses)),
+      )
         where
           some : (t : ℕ) → t ≡ 0 → pos 1 ≤ℤ pos t → ⊥
           some t z l = absurd (omega (arith, ints, z, l))
@@ -190,7 +197,8 @@ module _ (i : Instance) (h : IsCutInstance i) where
           let there : o < length (job_at i j).needs = (subst (λ k. HasOperation k i j o) h.kind op).0 in
           let row : o < m.rows = omega (arith, there, rows, h.needs j l) in
           let column : j < m.columns = omega (arith, l, columns) in
-          subst₂ (λ b k. MatchBool b (sum (map (work_of k i) (pieces_of (over_one ps) j o)) ≡ pos 1 *ℤ pos (whole_work k i j o)) ((p : Piece) × (pieces_of (over_one ps) j o ≡ p ∷ []) × IsWholeWork k i (pos 1) p)) (sym h.cut) (sym h.kind)
+          subst₂ (λ b k. MatchBool b (sum (map (work_of k i) (pieces_of (over_one ps) j o)) ≡ pos 1 *ℤ pos (whole_work k i j o))
+          ((p : Piece) × (pieces_of (over_one ps) j o ≡ p ∷ []) × IsWholeWork k i (pos 1) p)) (sym h.cut) (sym h.kind)
           (laid.work j o column row ∙ split.cells o j row column ∙ cells o j row column ∙ sym (one-*ℤ (pos (need_at i j o).time)))
 
       feasible : Feasible i (over_one ps)
@@ -201,7 +209,8 @@ module _ (i : Instance) (h : IsCutInstance i) where
         machine = λ a b d l k e. on_one (get_or ps a d) (get_or ps b d) (pairs a b d l k) e;
         job = λ a b d l k e. of_one (get_or ps a d) (get_or ps b d) (pairs a b d l k) e;
         release = λ k d l. released _ (each k d l);
-        arc = subst (λ arcs. All (λ a. All (λ p. All (λ r. p.job ≡ a.before → r.job ≡ a.after → IsBefore p r) ps) ps) arcs) (sym h.arcs) (All-nil (λ (a : Arc). All (λ p. All (λ r. p.job ≡ a.before → r.job ≡ a.after → IsBefore p r) ps) ps));
+        arc = subst (λ arcs. All (λ a. All (λ p. All (λ r. p.job ≡ a.before → r.job ≡ a.after → IsBefore p r) ps) ps) arcs)
+            (sym h.arcs) (All-nil (λ (a : Arc). All (λ p. All (λ r. p.job ≡ a.before → r.job ≡ a.after → IsBefore p r) ps) ps));
         route = subst (λ k. FollowsRoute k ps) (sym h.kind) tt;
         work = works;
       }
@@ -214,14 +223,14 @@ module _ (i : Instance) (h : IsCutInstance i) where
           of_one p q (inl a) e = a
           of_one p q (inr a) e = absurd (a.1 e)
 
-      few : length ps ≤ 500000
+      few : length ps ≤ MOST_PIECES
       few = by (length slices) m.rows m.columns laid.few split.few (omega (arith, rows, h.few_machines)) (omega (arith, columns, h.few))
         where
-          by : (n r c : ℕ) → length ps ≤ n * r → n ≤ r * c + 2 * (r + c) → r ≤ 32 → c ≤ 400 → length ps ≤ 500000
+          by : (n r c : ℕ) → length ps ≤ n * r → n ≤ r * c + 2 * (r + c) → r ≤ MOST_MACHINES → c ≤ MOST_JOBS → length ps ≤ MOST_PIECES
           by n r c l s a b =
-              let cells : r * c ≤ 32 * 400 = mul-le r c 32 400 a b in
+              let cells : r * c ≤ MOST_MACHINES * MOST_JOBS = mul-le r c MOST_MACHINES MOST_JOBS a b in
               let most : n ≤ 13664 = omega (arith, s, cells, a, b) in
-              omega (arith, l, mul-le n r 13664 32 most a)
+              omega (arith, l, mul-le n r 13664 MOST_MACHINES most a)
 
       pub best_laid : (end : ℕ) × IsGreatestLine i end × IsBestPlan i end (over_one ps)
       best_laid =
@@ -236,7 +245,8 @@ module _ (i : Instance) (h : IsCutInstance i) where
           ended p end e a = omega (arith, ints, a.to, a.from, a.lasts, e)
 
 -- ---- as the code has it
-pub row_next : (i : Instance) (k j : ℕ) (base old new : List ℤ) (x : ℤ) (t : ℕ) → new ≡ old ++ x ∷ [] → x ≡ pos t → t ≡ (need_at i j k).time → old ≡ base ++ map (λ j. pos (need_at i j k).time) (range_with_len 0 j) → new ≡ base ++ map (λ j. pos (need_at i j k).time) (range_with_len 0 (j + 1))
+pub row_next : (i : Instance) (k j : ℕ) (base old new : List ℤ) (x : ℤ) (t : ℕ) → new ≡ old ++ x ∷ [] → x ≡ pos t → t ≡ (need_at i j k).time
+    → old ≡ base ++ map (λ j. pos (need_at i j k).time) (range_with_len 0 j) → new ≡ base ++ map (λ j. pos (need_at i j k).time) (range_with_len 0 (j + 1))
 row_next i k j base old new x t e is time so_far =
     e ∙ ap₂ (λ l y. l ++ y ∷ []) so_far (is ∙ ap pos time) ∙ append_assoc base (map (λ j. pos (need_at i j k).time) (range_with_len 0 j)) (pos (need_at i j k).time ∷ [])
     ∙ ap (λ l. base ++ l) (sym (map-range_with_len_more (λ j. pos (need_at i j k).time) 0 j j (omega arith)))
@@ -263,7 +273,8 @@ AreTimes-next i k old new e h = record {
 
 pub IsTimeMatrix-made : (i : Instance) → i.class ≡ open_cut_class → Inner i → (m : Matrix) → m.rows ≡ i.machines → m.columns ≡ length i.jobs → AreTimes i i.machines m.cells → IsTimeMatrix i m
 IsTimeMatrix-made i class inner m rows columns t =
-    let cells : (r c : ℕ) → r < m.rows → c < m.columns → cell m r c ≡ pos (need_at i c r).time = λ r c l b. ap (λ n. get_or m.cells (r * n + c) (pos 0)) columns ∙ t.each r c (omega (arith, l, rows)) (omega (arith, b, columns)) in
+    let cells : (r c : ℕ) → r < m.rows → c < m.columns → cell m r c ≡ pos (need_at i c r).time =
+    λ r c l b. ap (λ n. get_or m.cells (r * n + c) (pos 0)) columns ∙ t.each r c (omega (arith, l, rows)) (omega (arith, b, columns)) in
     record {
       rows = rows;
       columns = columns;
@@ -273,7 +284,8 @@ IsTimeMatrix-made i class inner m rows columns t =
 
 pub IsBestPlan-from_cut : (i : Instance) → i.class ≡ open_cut_class → Inner i → (pieces : List Piece) → IsCutPlan i pieces → (end : ℕ) × IsGreatestLine i end × IsBestPlan i end (over_one pieces)
 IsBestPlan-from_cut i class inner pieces (m, slices, t, split, joins, apart) =
-    best_laid i (IsCutInstance-from_class i class inner) m t.rows t.columns t.cells slices split pieces (AreLaid-joined m.rows m.columns slices joins (AreLaid-parts m.rows m.columns slices split.each))
+    best_laid i (IsCutInstance-from_class i class inner)
+    m t.rows t.columns t.cells slices split pieces (AreLaid-joined m.rows m.columns slices joins (AreLaid-parts m.rows m.columns slices split.each))
 
 pub AreJoined-from_cut : (i : Instance) (pieces : List Piece) → IsCutPlan i pieces → AreJoined pieces
 AreJoined-from_cut i pieces (m, slices, t, split, joins, apart) = apart

@@ -1,10 +1,12 @@
 -- Open shops of two machines: what an instance has, the greatest of its loads and lengths, and why the second machine ends by it.
-use Rattle.std.proofs.Common.{◌≡◌, ℕ, zero, suc, ◌+◌, ◌<◌, ◌≤◌, ◌⊎◌, inl, inr, max, min, true, false, Bool, cond, eqb, leb, List, [], ◌∷◌, ◌++◌, length, get_or, All, Contains, pos, ◌*ℤ◌, ◌≤ℤ◌, sum_by, refl, sym, ap, subst, subst₂, ◌∙◌, arith}
+use Rattle.std.proofs.Common.{◌*◌, ◌≡◌, ℕ, zero, suc, ◌+◌, ◌<◌, ◌≤◌, ◌⊎◌, inl, inr, max, min, true, false, Bool, cond, eqb, leb, List, [], ◌∷◌, ◌++◌, length, get_or, All, Contains}
+use Rattle.std.proofs.Common.{pos, ◌*ℤ◌, ◌≤ℤ◌, sum_by, refl, sym, ap, subst, subst₂, ◌∙◌, arith}
 use Rattle.std.specs.Prelude.{MatchOption, ⊤}
 use Rattle.std.specs.List.{range_with_len}
 use Rattle.std.proofs.lemmas.Bool.{leb-true, leb-false}
 use Rattle.std.proofs.lemmas.List.Elements.{All-contains, Contains-append_right}
 use Rattle.std.proofs.lemmas.List.Sums.{sum_by-append, sum_by-cons}
+use Rattle.msp_class.specs.declared.sizes.TheConstants.{MOST_JOBS, GREATEST}
 use Rattle.msp_class.specs.declared.class.Env.{Env}
 use Rattle.msp_class.specs.declared.class.Env.TheVariants.{O2}
 use Rattle.msp_class.specs.declared.class.Times.{Times}
@@ -32,10 +34,10 @@ use Rattle.msp_shops.proofs.Shops.{IsPlainShop, IsLeastEnd}
 pub record IsOpenInstance (i : Instance) : Type 0 where
   pub kind : kind_of i.class.env ≡ OpenShop
   pub shop : IsPlainShop i
-  pub few : length i.jobs ≤ 400
+  pub few : length i.jobs ≤ MOST_JOBS
   pub needs : (j : ℕ) → j < length i.jobs → length (job_at i j).needs ≡ 2
   pub machines : (j o : ℕ) → j < length i.jobs → o < 2 → (need_at i j o).machine ≡ o
-  pub times : (j o : ℕ) → j < length i.jobs → o < 2 → (need_at i j o).time ≤ 1000000000
+  pub times : (j o : ℕ) → j < length i.jobs → o < 2 → (need_at i j o).time ≤ GREATEST
 
 pub IsOpenInstance-from_class : (i : Instance) → i.class ≡ open_class → Inner i → IsOpenInstance i
 IsOpenInstance-from_class i e h =
@@ -70,7 +72,8 @@ one_or_other zero l = inl refl
 one_or_other (suc zero) l = inr refl
 one_or_other (suc (suc o)) l = absurd (omega arith)
 
-load_of_two : (needs : List Need) (o : ℕ) → length needs ≡ 2 → ((k : ℕ) → k < 2 → (get_or needs k no_need).machine ≡ k) → o < 2 → sum_by (λ n. cond (eqb n.machine o) n.time 0) needs ≡ (get_or needs o no_need).time
+load_of_two : (needs : List Need) (o : ℕ) → length needs ≡ 2
+    → ((k : ℕ) → k < 2 → (get_or needs k no_need).machine ≡ k) → o < 2 → sum_by (λ n. cond (eqb n.machine o) n.time 0) needs ≡ (get_or needs o no_need).time
 load_of_two [] o e m l = absurd (omega (arith, e))
 load_of_two (a ∷ []) o e m l = absurd (omega (arith, e))
 load_of_two (a ∷ b ∷ c ∷ needs) o e m l = absurd (omega (arith, e))
@@ -113,16 +116,16 @@ module _ (i : Instance) (h : IsOpenInstance i) where
   pub length_is : (j : ℕ) → j < length i.jobs → job_length i j ≡ (need_at i j 0).time + (need_at i j 1).time
   length_is j l = length_of_two (job_at i j).needs (h.needs j l)
 
-  load_short : (o : ℕ) → o < 2 → machine_load i o ≤ 400000000000
-  load_short o l = omega (arith, load_is o l, total_below-bound (length i.jobs) 1000000000 (λ j. (need_at i j o).time) (λ j b. h.times j o b l), h.few)
+  load_short : (o : ℕ) → o < 2 → machine_load i o ≤ (MOST_JOBS * GREATEST)
+  load_short o l = omega (arith, load_is o l, total_below-bound (length i.jobs) GREATEST (λ j. (need_at i j o).time) (λ j b. h.times j o b l), h.few)
 
   length_short : (j : ℕ) → j < length i.jobs → job_length i j ≤ 2000000000
   length_short j l = omega (arith, length_is j l, h.times j 0 l (omega arith), h.times j 1 l (omega arith))
 
-  pub end_short : (end : ℕ) → IsOpenEnd i end → end ≤ 400000000000
+  pub end_short : (end : ℕ) → IsOpenEnd i end → end ≤ (MOST_JOBS * GREATEST)
   end_short end e = by e.reached
     where
-      by : (end ≡ machine_load i 0) ⊎ ((end ≡ machine_load i 1) ⊎ ((j : ℕ) × (j < length i.jobs) × (end ≡ job_length i j))) → end ≤ 400000000000
+      by : (end ≡ machine_load i 0) ⊎ ((end ≡ machine_load i 1) ⊎ ((j : ℕ) × (j < length i.jobs) × (end ≡ job_length i j))) → end ≤ (MOST_JOBS * GREATEST)
       by (inl f) = omega (arith, f, load_short 0 (omega arith))
       by (inr (inl f)) = omega (arith, f, load_short 1 (omega arith))
       by (inr (inr (j, l, f))) = omega (arith, f, length_short j l)
@@ -147,10 +150,12 @@ IsOpenEnd-open_end i some = record {
   first_load = omega arith;
   second_load = omega arith;
   lengths = λ j l. omega (arith, greatest_by-contains (job_length i) (job_numbers i) j (OnceBelow-contains (OnceBelow-range (length i.jobs)) j l));
-  reached = by (machine_load i 0) (machine_load i 1) (greatest_by (job_length i) (job_numbers i)) (greatest_by-reached (job_length i) (job_numbers i) (omega (arith, some, length-OnceBelow (OnceBelow-range (length i.jobs)))));
+  reached = by (machine_load i 0) (machine_load i 1) (greatest_by (job_length i) (job_numbers i))
+      (greatest_by-reached (job_length i) (job_numbers i) (omega (arith, some, length-OnceBelow (OnceBelow-range (length i.jobs)))));
 }
   where
-    by : (a b c : ℕ) → (j : ℕ) × Contains (job_numbers i) j × (job_length i j ≡ c) → (max (max a b) c ≡ a) ⊎ ((max (max a b) c ≡ b) ⊎ ((j : ℕ) × (j < length i.jobs) × (max (max a b) c ≡ job_length i j)))
+    by : (a b c : ℕ) → (j : ℕ) × Contains (job_numbers i) j × (job_length i j ≡ c)
+        → (max (max a b) c ≡ a) ⊎ ((max (max a b) c ≡ b) ⊎ ((j : ℕ) × (j < length i.jobs) × (max (max a b) c ≡ job_length i j)))
     by a b c (j, k, e) = choose (leb b a) (leb c (max a b)) refl refl
       where
         choose : (s t : Bool) → leb b a ≡ s → leb c (max a b) ≡ t → (max (max a b) c ≡ a) ⊎ ((max (max a b) c ≡ b) ⊎ ((j : ℕ) × (j < length i.jobs) × (max (max a b) c ≡ job_length i j)))
@@ -162,7 +167,8 @@ IsOpenEnd-open_end i some = record {
 abbrev EarlierShorter : JobTimes → JobTimes → Type 0
 EarlierShorter s t = t.first ≤ t.second → s.first ≤ s.second
 
-pub critical_end : (others : List JobTimes) (a b end y : ℕ) → a ≤ b → All (λ t. min t.first t.second ≤ min a b) others → AreGrouped others → a + sum_by (λ t. t.first) others ≤ end → b + sum_by (λ t. t.second) others ≤ end →
+pub critical_end : (others : List JobTimes) (a b end y : ℕ) → a ≤ b
+    → All (λ t. min t.first t.second ≤ min a b) others → AreGrouped others → a + sum_by (λ t. t.first) others ≤ end → b + sum_by (λ t. t.second) others ≤ end →
     IsCritical others (record { first = 0; second = b }) y → y ≤ end
 critical_end others a b end y small greatest grouped one two (inl e) = omega (arith, e, two)
 critical_end others a b end y small greatest grouped one two (inr (before, k, rest, is, e)) =

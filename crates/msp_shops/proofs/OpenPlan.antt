@@ -1,12 +1,15 @@
 -- The pieces of an open shop as the rule lays them: they are a plan, and end by the greatest of the loads and lengths.
-use Rattle.std.proofs.Common.{◌≡◌, ◌≢◌, ℕ, zero, suc, ◌+◌, ◌<◌, ◌≤◌, ◌⊎◌, inl, inr, max, List, [], ◌∷◌, ◌++◌, length, get_or, map, All, AllPairs, Contains, sum_by, refl, sym, ap, ap₂, subst, ◌∙◌, arith, length-append}
+use Rattle.std.proofs.Common.{◌≡◌, ◌≢◌, ℕ, zero, suc, ◌+◌, ◌<◌, ◌≤◌, ◌⊎◌, inl, inr, max, List, [], ◌∷◌, ◌++◌, length, get_or, map, All, AllPairs, Contains, sum_by, refl, sym, ap}
+use Rattle.std.proofs.Common.{ap₂, subst, ◌∙◌, arith, length-append}
 use Rattle.std.specs.Prelude.{IsPermutation}
 use Rattle.std.proofs.lemmas.List.{length-map, get_or-map}
 use Rattle.std.proofs.lemmas.List.Elements.{All-append, All-contains, All-map, All-head, All-tail, Contains-append_left, Contains-append_right}
 use Rattle.std.proofs.lemmas.List.Sums.{sum_by-cons}
 use Rattle.std.proofs.lemmas.List.Sorted.{IsPermutation-map, All-permutation, Contains-permutation, sum_by-IsPermutation}
+use Rattle.msp_class.specs.declared.sizes.TheConstants.{MOST_JOBS, GREATEST}
 use Rattle.msp_class.specs.Sums.{total_below}
-use Rattle.msp_class.proofs.Sums.{total_below-range, sum_by-map, OnceBelow, OnceBelow-range, OnceBelow-permutation, OnceBelow-distinct, OnceBelow-contains, length-OnceBelow, AllPairs-tail, AllPairs-head}
+use Rattle.msp_class.proofs.Sums.{total_below-range, sum_by-map, OnceBelow, OnceBelow-range, OnceBelow-permutation, OnceBelow-distinct, OnceBelow-contains, length-OnceBelow}
+use Rattle.msp_class.proofs.Sums.{AllPairs-tail, AllPairs-head}
 use Rattle.msp_instance.specs.declared.Instance.{Instance}
 use Rattle.msp_instance.specs.Instance.{need_at}
 use Rattle.msp_schedule.specs.declared.Piece.{Piece}
@@ -62,7 +65,8 @@ pub record IsRead (i : Instance) (first second : Stage) (t : JobTimes) : Type 0 
   pub first_time : t.first ≡ (need_at i t.job first.op).time
   pub second_time : t.second ≡ (need_at i t.job second.op).time
 
-module _ (i : Instance) (h : IsOpenInstance i) (first second : Stage) (g : AreStages first second) (special : JobTimes) (others : List JobTimes) (all : IsPermutation (all_times i first.op second.op) (special ∷ others)) where
+module _ (i : Instance) (h : IsOpenInstance i) (first second : Stage)
+    (g : AreStages first second) (special : JobTimes) (others : List JobTimes) (all : IsPermutation (all_times i first.op second.op) (special ∷ others)) where
   abbrev jobs : List JobTimes
   jobs = special ∷ others
 
@@ -70,10 +74,12 @@ module _ (i : Instance) (h : IsOpenInstance i) (first second : Stage) (g : AreSt
   times = all_times i first.op second.op
 
   read : All (IsRead i first second) jobs
-  read = All-permutation (IsRead i first second) times jobs all (All-map (IsRead i first second) (times_at i first.op second.op) (job_numbers i) (λ k d l. record { inside = (OnceBelow-range (length i.jobs)).within k d l; first_time = refl; second_time = refl }))
+  read = All-permutation (IsRead i first second) times jobs all (All-map (IsRead i first second) (times_at i first.op second.op)
+      (job_numbers i) (λ k d l. record { inside = (OnceBelow-range (length i.jobs)).within k d l; first_time = refl; second_time = refl }))
 
   once : OnceBelow (length i.jobs) (map (λ t. t.job) jobs)
-  once = OnceBelow-permutation (subst (OnceBelow (length i.jobs)) (sym (jobs_of i first.op second.op (job_numbers i))) (OnceBelow-range (length i.jobs))) (IsPermutation-map (λ t. t.job) times jobs all)
+  once = OnceBelow-permutation (subst (OnceBelow (length i.jobs)) (sym (jobs_of i first.op second.op (job_numbers i))) (OnceBelow-range (length i.jobs)))
+      (IsPermutation-map (λ t. t.job) times jobs all)
 
   distinct : AllPairs (λ a b. a.job ≢ b.job) jobs
   distinct = distinct_from_map (λ t. t.job) jobs (OnceBelow-distinct once)
@@ -84,20 +90,21 @@ module _ (i : Instance) (h : IsOpenInstance i) (first second : Stage) (g : AreSt
   not_special : All (λ t. special.job ≢ t.job) others
   not_special = AllPairs-head (λ a b. a.job ≢ b.job) special others distinct
 
-  pub few_others : length others ≤ 400
+  pub few_others : length others ≤ MOST_JOBS
   few_others = omega (arith, length-OnceBelow once, length-map jobs (λ t. t.job), h.few)
 
-  short : All (λ t. (t.first ≤ 1000000000) × (t.second ≤ 1000000000)) jobs
+  short : All (λ t. (t.first ≤ GREATEST) × (t.second ≤ GREATEST)) jobs
   short k d l = let r = read k d l in (omega (arith, r.first_time, h.times _ first.op r.inside g.one_small), omega (arith, r.second_time, h.times _ second.op r.inside g.two_small))
 
-  pub short_special : (special.first ≤ 1000000000) × (special.second ≤ 1000000000)
-  short_special = All-head (λ t. (t.first ≤ 1000000000) × (t.second ≤ 1000000000)) special others short
+  pub short_special : (special.first ≤ GREATEST) × (special.second ≤ GREATEST)
+  short_special = All-head (λ t. (t.first ≤ GREATEST) × (t.second ≤ GREATEST)) special others short
 
-  pub short_others : All (λ t. (t.first ≤ 1000000000) × (t.second ≤ 1000000000)) others
-  short_others = All-tail (λ t. (t.first ≤ 1000000000) × (t.second ≤ 1000000000)) special others short
+  pub short_others : All (λ t. (t.first ≤ GREATEST) × (t.second ≤ GREATEST)) others
+  short_others = All-tail (λ t. (t.first ≤ GREATEST) × (t.second ≤ GREATEST)) special others short
 
   has_job : (j : ℕ) → j < length i.jobs → (special ≡ times_at i first.op second.op j) ⊎ Contains others (times_at i first.op second.op j)
-  has_job j l = in_front special others (times_at i first.op second.op j) (Contains-permutation times jobs (times_at i first.op second.op j) all (Contains-map (times_at i first.op second.op) (job_numbers i) j (OnceBelow-contains (OnceBelow-range (length i.jobs)) j l)))
+  has_job j l = in_front special others (times_at i first.op second.op j) (Contains-permutation times jobs (times_at i first.op second.op j)
+      all (Contains-map (times_at i first.op second.op) (job_numbers i) j (OnceBelow-contains (OnceBelow-range (length i.jobs)) j l)))
 
   module _ (end : ℕ) (e : IsOpenEnd i end) where
     load_ends : (o : ℕ) → o < 2 → total_below (length i.jobs) (λ j. (need_at i j o).time) ≤ end
@@ -108,7 +115,8 @@ module _ (i : Instance) (h : IsOpenInstance i) (first second : Stage) (g : AreSt
         by (inr z) = omega (arith, sym (load_is i h o l), ap (machine_load i) z, e.second_load)
 
     sum_of : (f : JobTimes → ℕ) → f special + sum_by f others ≡ total_below (length i.jobs) (λ j. f (times_at i first.op second.op j))
-    sum_of f = sym (sum_by-cons f special others) ∙ sum_by-IsPermutation f times jobs all ∙ sum_by-map f (times_at i first.op second.op) (job_numbers i) ∙ total_below-range (length i.jobs) (λ j. f (times_at i first.op second.op j))
+    sum_of f = sym (sum_by-cons f special others) ∙ sum_by-IsPermutation f times jobs all
+        ∙ sum_by-map f (times_at i first.op second.op) (job_numbers i) ∙ total_below-range (length i.jobs) (λ j. f (times_at i first.op second.op j))
 
     first_sum : special.first + sum_by (λ t. t.first) others ≤ end
     first_sum = omega (arith, sum_of (λ t. t.first), load_ends first.op g.one_small)
@@ -119,10 +127,19 @@ module _ (i : Instance) (h : IsOpenInstance i) (first second : Stage) (g : AreSt
     line : special.first + special.second ≤ end
     line =
         let r : IsRead i first second special = All-head (IsRead i first second) special others read in
-        omega (arith, r.first_time, r.second_time, both_operations (λ o. (need_at i special.job o).time) first.op second.op g.one_small g.two_small g.other, length_is i h special.job r.inside, e.lengths special.job r.inside)
+        omega (
+          arith,
+          r.first_time,
+          r.second_time,
+          both_operations (λ o. (need_at i special.job o).time)
+              first.op second.op g.one_small g.two_small g.other,
+          length_is i h special.job r.inside,
+          e.lengths special.job r.inside,
+        )
 
     -- ---- the pieces
-    module _ (s : IsSpecial special others) (grouped : AreGrouped others) (to : Moments) (laid : List Piece) (p : IsPass first second others (record { first = 0; second = special.second }) to laid) where
+    module _ (s : IsSpecial special others) (grouped : AreGrouped others)
+        (to : Moments) (laid : List Piece) (p : IsPass first second others (record { first = 0; second = special.second }) to laid) where
       abbrev from : Moments
       from = record { first = 0; second = special.second }
 
@@ -151,7 +168,8 @@ module _ (i : Instance) (h : IsOpenInstance i) (first second : Stage) (g : AreSt
       second_ends = critical_end others special.first special.second end to.second s.lesser_first s.greatest grouped first_sum second_sum p.second_end
 
       each : (P : Piece → Type 0) → P two → All P laid → P one → All P pieces
-      each P a b c = All-append P (before ++ laid) after (All-append P before laid (All-part P special.job second 0 special.second (λ _. a)) b) (All-part P special.job first last special.first (λ _. c))
+      each P a b c = All-append P (before ++ laid) after
+          (All-append P before laid (All-part P special.job second 0 special.second (λ _. a)) b) (All-part P special.job first last special.first (λ _. c))
 
       pairs : (R : Piece → Piece → Type 0) → All (R two) laid → AllPairs R laid → All (λ q. R q one) laid → R two one → AllPairs R pieces
       pairs R a b c d =
@@ -166,7 +184,8 @@ module _ (i : Instance) (h : IsOpenInstance i) (first second : Stage) (g : AreSt
       abbrev Known : Piece → Type 0
       Known q = (q.job < length i.jobs) × (q.op < 2) × (q.machine ≡ q.op) × (finish q ≡ start q + (need_at i q.job q.op).time) × (finish q ≤ end)
 
-      known_by : (stage : Stage) (number time earliest latest : ℕ) (q : Piece) → IsOperation stage number time earliest latest q → number < length i.jobs → time ≡ (need_at i number stage.op).time → stage.machine ≡ stage.op → stage.op < 2 → latest ≤ end → Known q
+      known_by : (stage : Stage) (number time earliest latest : ℕ) (q : Piece) → IsOperation stage number time earliest latest q
+          → number < length i.jobs → time ≡ (need_at i number stage.op).time → stage.machine ≡ stage.op → stage.op < 2 → latest ≤ end → Known q
       known_by stage number time earliest latest q o inside is same small early = (
         omega (arith, o.job, inside),
         omega (arith, o.op, small),
@@ -184,9 +203,11 @@ module _ (i : Instance) (h : IsOpenInstance i) (first second : Stage) (g : AreSt
           let r : IsRead i first second special = All-head (IsRead i first second) special others read in
           let rest : All (IsRead i first second) others = All-tail (IsRead i first second) special others read in
           each Known
-          (known_by second special.job special.second 0 special.second two (record { job = refl; op = refl; machine = refl; whole = refl; from = omega arith; to = omega arith }) r.inside r.second_time g.two g.two_small (omega (arith, line)))
+          (known_by second special.job special.second 0 special.second two (record { job = refl; op = refl; machine = refl; whole = refl; from = omega arith; to = omega arith })
+          r.inside r.second_time g.two g.two_small (omega (arith, line)))
           (λ k d l. let (t, c, o) = p.tidy.known k d l in known_of (get_or laid k d) t (All-contains (IsRead i first second) others t rest c) o)
-          (known_by first special.job special.first 0 end one (record { job = refl; op = refl; machine = refl; whole = refl; from = omega arith; to = omega (arith, first_ends, line) }) r.inside r.first_time g.one g.one_small (omega arith))
+          (known_by first special.job special.first 0 end one (record { job = refl; op = refl; machine = refl; whole = refl; from = omega arith; to = omega (arith, first_ends, line) })
+          r.inside r.first_time g.one g.one_small (omega arith))
 
       different : first.machine ≢ second.machine
       different z = g.other (sym g.one ∙ z ∙ g.two)
@@ -233,11 +254,18 @@ module _ (i : Instance) (h : IsOpenInstance i) (first second : Stage) (g : AreSt
           positive t n = omega arith
 
       has_first : (j : ℕ) → (special ≡ times_at i first.op second.op j) ⊎ Contains others (times_at i first.op second.op j) → 0 < (need_at i j first.op).time → HasPiece pieces first j
-      has_first j (inl z) n = (one, Contains-append_right (before ++ laid) after one (Contains-part special.job first last special.first (omega (arith, ap (λ t. t.first) z, n))), ap (λ t. t.job) z, refl)
+      has_first j (inl z) n =
+          (one, Contains-append_right (before ++ laid) after one (Contains-part special.job first last special.first (omega (arith, ap (λ t. t.first) z, n))), ap (λ t. t.job) z, refl)
       has_first j (inr c) n = in_laid first j (All-contains (λ t. 0 < t.first → HasPiece laid first t.job) others (times_at i first.op second.op j) p.tidy.has_first c n)
 
       has_second : (j : ℕ) → (special ≡ times_at i first.op second.op j) ⊎ Contains others (times_at i first.op second.op j) → 0 < (need_at i j second.op).time → HasPiece pieces second j
-      has_second j (inl z) n = (two, Contains-append_left (before ++ laid) after two (Contains-append_left before laid two (Contains-part special.job second 0 special.second (omega (arith, ap (λ t. t.second) z, n)))), ap (λ t. t.job) z, refl)
+      has_second j (inl z) n = (
+        two,
+        Contains-append_left (before ++ laid) after two
+            (Contains-append_left before laid two (Contains-part special.job second 0 special.second (omega (arith, ap (λ t. t.second) z, n)))),
+        ap (λ t. t.job) z,
+        refl,
+      )
       has_second j (inr c) n = in_laid second j (All-contains (λ t. 0 < t.second → HasPiece laid second t.job) others (times_at i first.op second.op j) p.tidy.has_second c n)
 
       which : (o : ℕ) → o < 2 → (o ≡ first.op) ⊎ (o ≡ second.op)
@@ -278,6 +306,15 @@ module _ (i : Instance) (h : IsOpenInstance i) (first second : Stage) (g : AreSt
 
       pub IsBestPlan-from_laid : IsBestPlan i end (over_one pieces)
       IsBestPlan-from_laid = IsBestPlan-from_plan i h.shop end (least_end i h end e) pieces plan
-          (omega (arith, length-append (before ++ laid) after, length-append before laid, length-part special.job second 0 special.second, length-part special.job first last special.first, p.few, few_others))
+          (omega (
+            arith,
+            length-append (before ++ laid)
+                after,
+            length-append before laid,
+            length-part special.job second 0 special.second,
+            length-part special.job first last special.first,
+            p.few,
+            few_others,
+          ))
           (λ k d l. (known k d l).4)
           (omega (arith, end_short i h end e))

@@ -1,5 +1,6 @@
 -- The jobs of an open shop as the code takes and lays them.
-use Rattle.std.proofs.Common.{◌≡◌, ℕ, suc, ◌+◌, ◌<◌, ◌≤◌, List, [], ◌∷◌, ◌++◌, length, get_or, map, All, sym, ap, ◌∙◌, ap₂, subst, subst₂, zero-add, Option, Some, arith, length-append, ◌≢◌, inl, inr, AllPairs, pos, refl}
+use Rattle.std.proofs.Common.{◌≡◌, ℕ, suc, ◌+◌, ◌<◌, ◌≤◌, List, [], ◌∷◌, ◌++◌, length, get_or, map, All, sym, ap, ◌∙◌, ap₂, subst, subst₂, zero-add, Option, Some, arith}
+use Rattle.std.proofs.Common.{length-append, ◌≢◌, inl, inr, AllPairs, pos, refl}
 use Rattle.std.specs.Prelude.{IsPermutation}
 use Rattle.std.specs.List.{range_with_len}
 use Rattle.std.specs.List.Sorted.{IsNonDecreasingBy}
@@ -15,6 +16,7 @@ use Rattle.msp_shops.specs.Times.{times_at}
 use Rattle.msp_shops.specs.Order.{GoesBefore}
 use Rattle.msp_shops.specs.OpenOrder.{lesser, AreGrouped, all_times, turned, IsLaid, IsLaidOut, on_first, on_second, IsOpenPlan}
 use Rattle.std.proofs.lemmas.List.Elements.{All-map}
+use Rattle.msp_class.specs.declared.sizes.TheConstants.{MOST_JOBS, GREATEST}
 use Rattle.msp_instance.specs.Conditions.{Inner}
 use Rattle.msp_schedule.specs.declared.Piece.{Piece}
 use Rattle.msp_schedule.specs.declared.Schedule.{Schedule}
@@ -42,7 +44,8 @@ popped sorted rest o x e f = e ∙ ap (λ p. rest ++ option_to_list p) f
 pub all_popped : (old sorted rest : List JobTimes) (o : Option JobTimes) (x : JobTimes) → IsPermutation old sorted → sorted ≡ rest ++ option_to_list o → o ≡ Some x → IsPermutation old (x ∷ rest)
 all_popped old sorted rest o x p e f = IsPermutation-trans old (rest ++ x ∷ []) (x ∷ rest) (subst (IsPermutation old) (popped sorted rest o x e f) p) (IsPermutation-append_comm rest (x ∷ []))
 
-pub greatest_popped : (sorted rest : List JobTimes) (o : Option JobTimes) (x : JobTimes) → IsNonDecreasingBy lesser sorted → sorted ≡ rest ++ option_to_list o → o ≡ Some x → All (λ t. lesser t ≤ lesser x) rest
+pub greatest_popped : (sorted rest : List JobTimes) (o : Option JobTimes) (x : JobTimes)
+    → IsNonDecreasingBy lesser sorted → sorted ≡ rest ++ option_to_list o → o ≡ Some x → All (λ t. lesser t ≤ lesser x) rest
 greatest_popped sorted rest o x h e f k d l =
     let is = popped sorted rest o x e f in
     let whole : length sorted ≡ length rest + 1 = ap length is ∙ length-append rest (x ∷ []) in
@@ -52,7 +55,8 @@ greatest_popped sorted rest o x h e f k d l =
     (h k (length rest) d (omega (arith, l)) (omega (arith, whole)))
 
 -- ---- one job more
-pub times_next : (i : Instance) (old new : List JobTimes) (k : ℕ) (x : JobTimes) → new ≡ old ++ x ∷ [] → x ≡ route_times i k → old ≡ map (route_times i) (range_with_len 0 k) → new ≡ map (route_times i) (range_with_len 0 (k + 1))
+pub times_next : (i : Instance) (old new : List JobTimes) (k : ℕ) (x : JobTimes)
+    → new ≡ old ++ x ∷ [] → x ≡ route_times i k → old ≡ map (route_times i) (range_with_len 0 k) → new ≡ map (route_times i) (range_with_len 0 (k + 1))
 times_next i old new k x e one so_far =
     e ∙ ap₂ (λ l y. l ++ y ∷ []) so_far one ∙ sym (map-append (route_times i) (range_with_len 0 k) (k ∷ []))
     ∙ ap (λ n. map (route_times i) (range_with_len 0 k ++ n ∷ [])) (sym (zero-add k)) ∙ ap (map (route_times i)) (sym (range_with_len_last 0 k) ∙ ap (range_with_len 0) place)
@@ -74,7 +78,8 @@ turned_times i (x ∷ xs) = ap (λ l. times_at i 1 0 x ∷ l) (turned_times i xs
 best_laid : (i : Instance) → IsOpenInstance i → (first second : Stage) → AreStages first second → (ps : List Piece) → IsLaidOut i first second ps → IsBestPlan i (open_end i) (over_one ps)
 best_laid i h first second g ps w =
     let (to, laid, p, e) = w.laid in
-    subst (λ l. IsBestPlan i (open_end i) (over_one l)) (sym e) (IsBestPlan-from_laid i h first second g w.special w.others w.all (open_end i) (IsOpenEnd-open_end i h.shop.some) w.is_special w.grouped to laid p)
+    subst (λ l. IsBestPlan i (open_end i) (over_one l)) (sym e)
+    (IsBestPlan-from_laid i h first second g w.special w.others w.all (open_end i) (IsOpenEnd-open_end i h.shop.some) w.is_special w.grouped to laid p)
 
 pub IsBestPlan-from_open : (i : Instance) → i.class ≡ open_class → Inner i → (ps : List Piece) → IsOpenPlan i ps → IsBestPlan i (open_end i) (over_one ps)
 IsBestPlan-from_open i class inner ps (inl w) = best_laid i (IsOpenInstance-from_class i class inner) on_first on_second first_stages ps w
@@ -86,12 +91,13 @@ IsOpenCost-read i class inner cost s w over = (open_end i, IsOpenEnd-open_end i 
 -- what is asked of the jobs before they are laid
 pub record IsReady (i : Instance) (first second : Stage) (special : JobTimes) (others : List JobTimes) : Type 0 where
   pub all : IsPermutation (all_times i first.op second.op) (special ∷ others)
-  pub few : length others ≤ 400
+  pub few : length others ≤ MOST_JOBS
   pub once : AllPairs (λ a b. a.job ≢ b.job) others
-  pub short : All (λ t. (t.first ≤ 1000000000) × (t.second ≤ 1000000000)) others
-  pub short_special : (special.first ≤ 1000000000) × (special.second ≤ 1000000000)
+  pub short : All (λ t. (t.first ≤ GREATEST) × (t.second ≤ GREATEST)) others
+  pub short_special : (special.first ≤ GREATEST) × (special.second ≤ GREATEST)
 
-IsReady-from_all : (i : Instance) → IsOpenInstance i → (first second : Stage) → AreStages first second → (special : JobTimes) (others : List JobTimes) → IsPermutation (all_times i first.op second.op) (special ∷ others) → IsReady i first second special others
+IsReady-from_all : (i : Instance) → IsOpenInstance i → (first second : Stage) → AreStages first second
+    → (special : JobTimes) (others : List JobTimes) → IsPermutation (all_times i first.op second.op) (special ∷ others) → IsReady i first second special others
 IsReady-from_all i h first second g special others all = record {
   all = all;
   few = few_others i h first second g special others all;
@@ -103,19 +109,22 @@ IsReady-from_all i h first second g special others all = record {
 sorted_rest : (times rest sorted : List JobTimes) (special : JobTimes) → IsPermutation times (special ∷ rest) → IsPermutation rest sorted → IsPermutation times (special ∷ sorted)
 sorted_rest times rest sorted special p q = IsPermutation-trans times (special ∷ rest) (special ∷ sorted) p (IsPermutation-append_right (special ∷ []) rest sorted q)
 
-pub ready : (i : Instance) → i.class ≡ open_class → Inner i → (times rest sorted others : List JobTimes) (special : JobTimes) → times ≡ all_times i 0 1 → IsPermutation times (special ∷ rest) → IsPermutation rest sorted → others ≡ sorted → IsReady i on_first on_second special others
+pub ready : (i : Instance) → i.class ≡ open_class → Inner i → (times rest sorted others : List JobTimes) (special : JobTimes)
+    → times ≡ all_times i 0 1 → IsPermutation times (special ∷ rest) → IsPermutation rest sorted → others ≡ sorted → IsReady i on_first on_second special others
 ready i class inner times rest sorted others special is p q same =
     IsReady-from_all i (IsOpenInstance-from_class i class inner) on_first on_second first_stages special others
     (subst₂ (λ l m. IsPermutation l (special ∷ m)) is (sym same) (sorted_rest times rest sorted special p q))
 
-pub ready_turned : (i : Instance) → i.class ≡ open_class → Inner i → (times rest exchanged sorted others : List JobTimes) (special other : JobTimes) → times ≡ all_times i 0 1 → IsPermutation times (special ∷ rest) → exchanged ≡ map turned rest → IsPermutation exchanged sorted → others ≡ sorted → other ≡ turned special → IsReady i on_second on_first other others
+pub ready_turned : (i : Instance) → i.class ≡ open_class → Inner i → (times rest exchanged sorted others : List JobTimes) (special other : JobTimes) → times ≡ all_times i 0 1
+    → IsPermutation times (special ∷ rest) → exchanged ≡ map turned rest → IsPermutation exchanged sorted → others ≡ sorted → other ≡ turned special → IsReady i on_second on_first other others
 ready_turned i class inner times rest exchanged sorted others special other is p turns q same e =
     IsReady-from_all i (IsOpenInstance-from_class i class inner) on_second on_first second_stages other others
     (subst₂ (λ x m. IsPermutation (all_times i 1 0) (x ∷ m)) (sym e) (sym same)
     (subst (λ l. IsPermutation l (turned special ∷ sorted)) (ap (map turned) is ∙ turned_times i (job_numbers i))
     (sorted_rest (map turned times) (map turned rest) sorted (turned special) (IsPermutation-map turned times (special ∷ rest) p) (subst (λ l. IsPermutation l sorted) turns q))))
 
-pub laid_first : (i : Instance) (special : JobTimes) (rest sorted others : List JobTimes) (ps : List Piece) → IsReady i on_first on_second special others → special.first ≤ special.second → All (λ t. lesser t ≤ lesser special) rest → IsPermutation rest sorted → AreGrouped sorted → others ≡ sorted →
+pub laid_first : (i : Instance) (special : JobTimes) (rest sorted others : List JobTimes) (ps : List Piece) → IsReady i on_first on_second special others
+    → special.first ≤ special.second → All (λ t. lesser t ≤ lesser special) rest → IsPermutation rest sorted → AreGrouped sorted → others ≡ sorted →
     IsLaid on_first on_second special others ps → IsOpenPlan i ps
 laid_first i special rest sorted others ps r small greatest q grouped same laid = inl (record {
   special = special;
@@ -126,7 +135,8 @@ laid_first i special rest sorted others ps r small greatest q grouped same laid 
   laid = laid;
 })
 
-pub laid_second : (i : Instance) (special other : JobTimes) (rest exchanged sorted others : List JobTimes) (ps : List Piece) → IsReady i on_second on_first other others → other ≡ turned special → special.second < special.first → All (λ t. lesser t ≤ lesser special) rest →
+pub laid_second : (i : Instance) (special other : JobTimes) (rest exchanged sorted others : List JobTimes) (ps : List Piece)
+    → IsReady i on_second on_first other others → other ≡ turned special → special.second < special.first → All (λ t. lesser t ≤ lesser special) rest →
     exchanged ≡ map turned rest → IsPermutation exchanged sorted → AreGrouped sorted → others ≡ sorted → IsLaid on_second on_first other others ps → IsOpenPlan i ps
 laid_second i special other rest exchanged sorted others ps r e small greatest turns q grouped same laid = inr (record {
   special = other;

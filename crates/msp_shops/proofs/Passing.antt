@@ -1,10 +1,12 @@
 -- What one job more adds to a pass over two machines.
-use Rattle.std.proofs.Common.{◌≡◌, ◌≢◌, ℕ, ◌+◌, ◌<◌, ◌≤◌, inl, inr, max, Bool, true, false, cond, leb, List, [], ◌∷◌, ◌++◌, length, get_or, take, All, AllPairs, Contains, sum_by, refl, sym, ap, ◌∙◌, subst, subst₂, arith, length-append}
+use Rattle.std.proofs.Common.{◌≡◌, ◌≢◌, ℕ, ◌+◌, ◌<◌, ◌≤◌, inl, inr, max, Bool, true, false, cond, leb, List, [], ◌∷◌, ◌++◌, length, get_or, take, All, AllPairs, Contains, sum_by}
+use Rattle.std.proofs.Common.{refl, sym, ap, ◌∙◌, subst, subst₂, arith, length-append}
 use Rattle.std.specs.Prelude.{◌==◌}
 use Rattle.std.proofs.lemmas.Bool.{eqb-true, eqb-false, leb-true, leb-false}
 use Rattle.std.proofs.lemmas.List.{take_more, append_assoc, append-nil, length-take-le, get_or-take, get_or_default}
 use Rattle.std.proofs.lemmas.List.Sums.{sum_by_push}
 use Rattle.std.proofs.lemmas.List.Elements.{All-nil, All-cons, All-push, All-append, All-contains, Contains-append_left, Contains-append_right}
+use Rattle.msp_class.specs.declared.sizes.TheConstants.{GREATEST}
 use Rattle.msp_schedule.specs.declared.Piece.{Piece}
 use Rattle.msp_schedule.specs.Intervals.{IsApartOn}
 use Rattle.msp_schedule.specs.Piece.{start, finish, IsTimed}
@@ -47,7 +49,8 @@ AllPairs-part R job stage begin time = by (time == 0)
     by false a b d h k = absurd (omega arith)
 
 -- ---- one job more
-module _ (first second : Stage) (machines : first.machine ≢ second.machine) (jobs : List JobTimes) (from at : Moments) (j : JobTimes) (other : All (λ k. k.job ≢ j.job) jobs) (ps : List Piece) (h : IsTidy first second jobs from at ps) (begin : ℕ) (after : at.first + j.first ≤ begin) (free : at.second ≤ begin) (begun : (from.first ≤ at.first) × (from.second ≤ at.second)) where
+module _ (first second : Stage) (machines : first.machine ≢ second.machine) (jobs : List JobTimes) (from at : Moments) (j : JobTimes) (other : All (λ k. k.job ≢ j.job) jobs) (ps : List Piece)
+    (h : IsTidy first second jobs from at ps) (begin : ℕ) (after : at.first + j.first ≤ begin) (free : at.second ≤ begin) (begun : (from.first ≤ at.first) × (from.second ≤ at.second)) where
   abbrev to : Moments
   to = record { first = at.first + j.first; second = begin + j.second }
 
@@ -144,7 +147,8 @@ module _ (first second : Stage) (machines : first.machine ≢ second.machine) (j
   }
 
 -- ---- the end of the second machine
-critical_next : (jobs : List JobTimes) (from : Moments) (x y : ℕ) (j : JobTimes) → x ≡ from.first + sum_by (λ k. k.first) jobs → IsCritical jobs from y → IsCritical (jobs ++ j ∷ []) from (max (x + j.first) y + j.second)
+critical_next : (jobs : List JobTimes) (from : Moments) (x y : ℕ) (j : JobTimes)
+    → x ≡ from.first + sum_by (λ k. k.first) jobs → IsCritical jobs from y → IsCritical (jobs ++ j ∷ []) from (max (x + j.first) y + j.second)
 critical_next jobs from x y j total h = by (leb y (x + j.first)) refl h
   where
     greater : (m n : ℕ) → n ≤ m → max m n ≡ m
@@ -184,7 +188,8 @@ module _ (first second : Stage) (machines : first.machine ≢ second.machine) (f
     small = (omega arith, omega arith);
   }
 
-  pub IsPass-next : (jobs : List JobTimes) (at : Moments) (j : JobTimes) (ps : List Piece) → All (λ k. k.job ≢ j.job) jobs → (j.first ≤ 1000000000) × (j.second ≤ 1000000000) → IsPass first second jobs from at ps →
+  pub IsPass-next : (jobs : List JobTimes) (at : Moments) (j : JobTimes) (ps : List Piece)
+      → All (λ k. k.job ≢ j.job) jobs → (j.first ≤ GREATEST) × (j.second ≤ GREATEST) → IsPass first second jobs from at ps →
       IsPass first second (jobs ++ j ∷ []) from (record { first = at.first + j.first; second = max (at.first + j.first) at.second + j.second })
       ((ps ++ part j.job first at.first j.first) ++ part j.job second (max (at.first + j.first) at.second) j.second)
   IsPass-next jobs at j ps other short h =
@@ -212,7 +217,7 @@ pub HasPassed-none : (first second : Stage) → first.machine ≢ second.machine
 HasPassed-none first second machines jobs from ps = ([], sym (append-nil ps), IsPass-none first second machines from)
 
 pub HasPassed-next : (first second : Stage) → first.machine ≢ second.machine → (jobs : List JobTimes) (from at to : Moments) (k : ℕ) (j : JobTimes) (old now put new : List Piece) (begin : ℕ) →
-    k < length jobs → j ≡ get_or jobs k j → AllPairs (λ a b. a.job ≢ b.job) jobs → All (λ j. (j.first ≤ 1000000000) × (j.second ≤ 1000000000)) jobs →
+    k < length jobs → j ≡ get_or jobs k j → AllPairs (λ a b. a.job ≢ b.job) jobs → All (λ j. (j.first ≤ GREATEST) × (j.second ≤ GREATEST)) jobs →
     begin ≡ max (at.first + j.first) at.second → put ≡ now ++ part j.job first at.first j.first → new ≡ put ++ part j.job second begin j.second →
     to ≡ record { first = at.first + j.first; second = begin + j.second } →
     HasPassed first second (take k jobs) from at old now → HasPassed first second (take (k + 1) jobs) from to old new
@@ -221,7 +226,8 @@ HasPassed-next first second machines jobs from at to k j old now put new begin i
     let seconds = part j.job second (max (at.first + j.first) at.second) j.second in (
       (laid ++ firsts) ++ seconds,
       news ∙ ap (λ b. put ++ part j.job second b j.second) starts ∙ ap (λ l. l ++ seconds) (puts ∙ ap (λ l. l ++ firsts) e ∙ append_assoc old laid firsts) ∙ append_assoc old (laid ++ firsts) seconds,
-      subst₂ (λ js m. IsPass first second js from m ((laid ++ firsts) ++ seconds)) (sym (take_more jobs k j inside ∙ ap (λ x. take k jobs ++ x ∷ []) (sym is))) (sym (ends ∙ ap (λ b. record { first = at.first + j.first; second = b + j.second }) starts))
+      subst₂ (λ js m. IsPass first second js from m ((laid ++ firsts) ++ seconds)) (sym (take_more jobs k j inside ∙ ap (λ x. take k jobs ++ x ∷ []) (sym is)))
+          (sym (ends ∙ ap (λ b. record { first = at.first + j.first; second = b + j.second }) starts))
           (IsPass-next first second machines from (take k jobs) at j laid others times h),
     )
   where
@@ -230,5 +236,5 @@ HasPassed-next first second machines jobs from at to k j old now put new begin i
         let early : n < k = omega (arith, l, length-take-le k jobs (omega (arith, inside))) in
         once n k j early inside (ap (λ x. x.job) (get_or_default jobs n j d (omega (arith, early, inside))) ∙ sym (ap (λ x. x.job) (get_or-take k jobs n d early)) ∙ e ∙ ap (λ x. x.job) is)
 
-    times : (j.first ≤ 1000000000) × (j.second ≤ 1000000000)
-    times = subst (λ x. (x.first ≤ 1000000000) × (x.second ≤ 1000000000)) (sym is) (short k j inside)
+    times : (j.first ≤ GREATEST) × (j.second ≤ GREATEST)
+    times = subst (λ x. (x.first ≤ GREATEST) × (x.second ≤ GREATEST)) (sym is) (short k j inside)

@@ -3,6 +3,7 @@ use Rattle.std.proofs.Common.{◌≡◌, ◌≢◌, ℕ, ◌-◌, ◌<◌, ◌�
 use Rattle.std.specs.Prelude.{⊤}
 use Rattle.std.proofs.lemmas.Bool.{cases_lt}
 use Rattle.std.proofs.Math.ListN.{get_or-eq_default}
+use Rattle.msp_class.specs.declared.sizes.TheConstants.{GREATEST}
 use Rattle.msp_class.specs.declared.class.Env.{Env}
 use Rattle.msp_class.specs.declared.class.Env.TheVariants.{F2, J2Short}
 use Rattle.msp_class.specs.declared.class.Times.{Times}
@@ -15,10 +16,10 @@ use Rattle.msp_shops.specs.Classes.{johnson_class, jackson_class}
 use Rattle.msp_shops.specs.Groups.{IsTwoMachineShop}
 
 -- times in range, and 0 where there is no such need
-short : (i : Instance) (j o least : ℕ) → HasTimes least 1000000000 (job_at i j).needs → (need_at i j o).time ≤ 1000000000
+short : (i : Instance) (j o least : ℕ) → HasTimes least GREATEST (job_at i j).needs → (need_at i j o).time ≤ GREATEST
 short i j o least h = by (cases_lt o (length (job_at i j).needs))
   where
-    by : (o < length (job_at i j).needs) ⊎ (length (job_at i j).needs ≤ o) → (need_at i j o).time ≤ 1000000000
+    by : (o < length (job_at i j).needs) ⊎ (length (job_at i j).needs ≤ o) → (need_at i j o).time ≤ GREATEST
     by (inl l) = (h o no_need l).1
     by (inr l) = omega (arith, ap (λ n. n.time) (get_or-eq_default (job_at i j).needs no_need l))
 
@@ -84,7 +85,8 @@ IsTwoMachineShop-from_jackson i cut h e =
             some = route.some;
             few = route.few;
             first = omega (arith, two, route.machines 0 no_need (omega (arith, route.some)));
-            second = λ n. turned (need_at i j 0).machine (need_at i j 1).machine (omega (arith, two, route.machines 0 no_need (omega (arith, n)))) (omega (arith, two, route.machines 1 no_need (omega (arith, n)))) (route.moves 0 no_need (omega (arith, n)));
+            second = λ n. turned (need_at i j 0).machine (need_at i j 1).machine (omega (arith, two, route.machines 0 no_need (omega (arith, n))))
+                (omega (arith, two, route.machines 1 no_need (omega (arith, n)))) (route.moves 0 no_need (omega (arith, n)));
             short_first = short i j 0 1 short_times;
             short_second = short i j 1 1 short_times;
           };

@@ -1,5 +1,6 @@
 -- The pieces of a feasible schedule on two machines in series, cut or not: the work of each operation, and the order on each job's route.
-use Rattle.std.proofs.Common.{◌≡◌, ◌≢◌, ℕ, ◌*◌, ◌-◌, ◌<◌, ◌≤◌, ◌⊎◌, inl, inr, Bool, true, false, cond, eqb, List, [], ◌∷◌, length, get_or, map, filter, All, AllPairs, MatchBool, pos, nat_abs, ◌*ℤ◌, sum_by, refl, sym, ap, ap₂, subst, ◌∙◌, arith}
+use Rattle.std.proofs.Common.{◌≡◌, ◌≢◌, ℕ, ◌*◌, ◌-◌, ◌<◌, ◌≤◌, ◌⊎◌, inl, inr, Bool, true, false, cond, eqb, List, [], ◌∷◌, length, get_or, map, filter, All, AllPairs, MatchBool}
+use Rattle.std.proofs.Common.{pos, nat_abs, ◌*ℤ◌, sum_by, refl, sym, ap, ap₂, subst, ◌∙◌, arith}
 use Rattle.std.specs.Prelude.{◌==◌, ◌&&◌}
 use Rattle.std.proofs.lemmas.Bool.{cases_lt, eqb-true, eqb-false, eq-eqb}
 use Rattle.std.proofs.lemmas.Int.{ints}
@@ -34,7 +35,12 @@ operation_there i j o works = by (cases_lt o (length (job_at i j).needs))
 
 -- what passes a test is no more than what passes a wider one
 sum_by-wider : {X : Type 0} (f : X → ℕ) (p q : X → Bool) (xs : List X) → All (λ x. p x ≡ true → q x ≡ true) xs → sum_by f (filter p xs) ≤ sum_by f (filter q xs)
-sum_by-wider f p q xs h = omega (arith, sum_by-filter f p xs, sum_by-filter f q xs, sum_by-mono (λ x. cond (p x) (f x) 0) (λ x. cond (q x) (f x) 0) xs (λ k d l. wider (p (get_or xs k d)) (q (get_or xs k d)) (f (get_or xs k d)) (h k d l)))
+sum_by-wider f p q xs h = omega (
+  arith,
+  sum_by-filter f p xs,
+  sum_by-filter f q xs,
+  sum_by-mono (λ x. cond (p x) (f x) 0) (λ x. cond (q x) (f x) 0) xs (λ k d l. wider (p (get_or xs k d)) (q (get_or xs k d)) (f (get_or xs k d)) (h k d l)),
+)
   where
     wider : (a b : Bool) (n : ℕ) → (a ≡ true → b ≡ true) → cond a n 0 ≤ cond b n 0
     wider true b n h = subst (λ c. n ≤ cond c n 0) (sym (h refl)) (omega arith)
@@ -130,7 +136,8 @@ module _ (i : Instance) (shop : IsTwoMachineShop i) (s : Schedule) (f : Feasible
     abbrev time : ℕ
     time = (need_at i j o).time
 
-    adds_up : (cut : Bool) → MatchBool cut (total (map length_of own) ≡ s.unit *ℤ pos time) ((p : Piece) × (own ≡ p ∷ []) × (length_of p ≡ s.unit *ℤ pos (need_at i p.job p.op).time)) → total (map length_of own) ≡ s.unit *ℤ pos time
+    adds_up : (cut : Bool) → MatchBool cut (total (map length_of own) ≡ s.unit *ℤ pos time) ((p : Piece) × (own ≡ p ∷ []) × (length_of p ≡ s.unit *ℤ pos (need_at i p.job p.op).time))
+        → total (map length_of own) ≡ s.unit *ℤ pos time
     adds_up true h = h
     adds_up false (p, e, h) =
         let named = named_one s.pieces j o p e in

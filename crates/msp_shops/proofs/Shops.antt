@@ -1,10 +1,12 @@
 -- Pieces of a shop, one for each operation, as a schedule over the unit 1: when it is feasible, and when no feasible schedule ends earlier.
-use Rattle.std.proofs.Common.{◌≡◌, ◌≢◌, ℕ, ◌+◌, ◌*◌, ◌<◌, ◌≤◌, ◌⊎◌, ◌^◌, inl, inr, true, false, List, [], ◌∷◌, length, get_or, map, ℤ, pos, nat_abs, ◌*ℤ◌, ◌≤ℤ◌, ◌<ℤ◌, All, AllPairs, Contains, Bool, MatchBool, refl, sym, ap, ap₂, ◌∙◌, subst, subst₂, arith}
+use Rattle.std.proofs.Common.{◌≡◌, ◌≢◌, ℕ, ◌+◌, ◌*◌, ◌<◌, ◌≤◌, ◌⊎◌, ◌^◌, inl, inr, true, false, List, [], ◌∷◌, length, get_or, map, ℤ, pos, nat_abs, ◌*ℤ◌, ◌≤ℤ◌, ◌<ℤ◌, All}
+use Rattle.std.proofs.Common.{AllPairs, Contains, Bool, MatchBool, refl, sym, ap, ap₂, ◌∙◌, subst, subst₂, arith}
 use Rattle.std.specs.Prelude.{◌==◌, ◌&&◌}
 use Rattle.std.proofs.lemmas.Bool.{eq-eqb}
 use Rattle.std.proofs.lemmas.Int.{ints}
 use Rattle.std.proofs.lemmas.List.Elements.{All-nil, Contains-get_or}
 use Rattle.std.proofs.lemmas.List.Kept.{AllPairs-filter}
+use Rattle.msp_class.specs.declared.sizes.TheConstants.{MOST_PIECES}
 use Rattle.msp_class.specs.declared.environments.EnvKind.{EnvKind}
 use Rattle.msp_class.specs.declared.environments.EnvKind.TheVariants.{Identical, Uniform, Unrelated, OpenShop, FlowShop, JobShop}
 use Rattle.msp_class.specs.declared.class.Crit.TheVariants.{Cmax}
@@ -65,7 +67,8 @@ whole_by OpenShop i unit p s h = h
 whole_by FlowShop i unit p s h = h
 whole_by JobShop i unit p s h = h
 
-sums_by : (k : EnvKind) (i : Instance) (ps : List Piece) (j o : ℕ) (unit : ℤ) → is_shop_kind k ≡ true → total (map length_of ps) ≡ unit *ℤ pos (need_at i j o).time → total (map (work_of k i) ps) ≡ unit *ℤ pos (whole_work k i j o)
+sums_by : (k : EnvKind) (i : Instance) (ps : List Piece) (j o : ℕ) (unit : ℤ)
+    → is_shop_kind k ≡ true → total (map length_of ps) ≡ unit *ℤ pos (need_at i j o).time → total (map (work_of k i) ps) ≡ unit *ℤ pos (whole_work k i j o)
 sums_by Identical i ps j o unit s h = absurd (cc)
 sums_by Uniform i ps j o unit s h = absurd (cc)
 sums_by Unrelated i ps j o unit s h = absurd (cc)
@@ -144,7 +147,8 @@ module _ (i : Instance) (h : IsPlainShop i) (ps : List Piece) (w : IsShopPlan i 
       by x n r e z = subst (λ y. (pos 1 *ℤ pos y) ≤ℤ x) (sym z) (omega (arith, ints, e))
 
   no_arcs : All (λ a. All (λ p. All (λ r. p.job ≡ a.before → r.job ≡ a.after → IsBefore p r) ps) ps) i.arcs
-  no_arcs = subst (λ arcs. All (λ a. All (λ p. All (λ r. p.job ≡ a.before → r.job ≡ a.after → IsBefore p r) ps) ps) arcs) (sym h.arcs) (All-nil (λ (a : Arc). All (λ p. All (λ r. p.job ≡ a.before → r.job ≡ a.after → IsBefore p r) ps) ps))
+  no_arcs = subst (λ arcs. All (λ a. All (λ p. All (λ r. p.job ≡ a.before → r.job ≡ a.after → IsBefore p r) ps) ps) arcs)
+      (sym h.arcs) (All-nil (λ (a : Arc). All (λ p. All (λ r. p.job ≡ a.before → r.job ≡ a.after → IsBefore p r) ps) ps))
 
   before : (p q : Piece) → IsTimed p → IsTimed q → finish p ≤ start q → IsBefore p q
   before p q t u l = omega (arith, ints, t.to, u.from, l)
@@ -152,7 +156,8 @@ module _ (i : Instance) (h : IsPlainShop i) (ps : List Piece) (w : IsShopPlan i 
   abbrev Follows : Piece → Piece → Type 0
   Follows p q = p.job ≡ q.job → (p.op < q.op) × IsBefore p q
 
-  routed : (kind_of i.class.env ≡ OpenShop) ⊎ AllPairs (λ p q. p.job ≡ q.job → p.op < q.op) ps → (kind_of i.class.env ≡ OpenShop) ⊎ All (λ p. All (λ q. p.job ≡ q.job → p.op < q.op → IsBefore p q) ps) ps
+  routed : (kind_of i.class.env ≡ OpenShop) ⊎ AllPairs (λ p q. p.job ≡ q.job → p.op < q.op) ps
+      → (kind_of i.class.env ≡ OpenShop) ⊎ All (λ p. All (λ q. p.job ≡ q.job → p.op < q.op → IsBefore p q) ps) ps
   routed (inl e) = inl e
   routed (inr r) = inr (λ a d l b e m same less. by (get_or ps a d) (get_or ps b e) same less
       (AllPairs-contains Follows ps (get_or ps a d) (get_or ps b e)
@@ -181,7 +186,8 @@ module _ (i : Instance) (h : IsPlainShop i) (ps : List Piece) (w : IsShopPlan i 
         by [] e = absurd (omega (arith, (subst (λ l. Contains l (w.each j o inside timely).0) e found).1))
         by (p ∷ []) e = (p, e)
         by (p ∷ q ∷ rest) e = absurd (
-            let pairs = subst (AllPairs (λ p q. p.job ≡ q.job → (p.op ≢ q.op) × (finish p ≤ start q))) e (AllPairs-filter (λ p q. p.job ≡ q.job → (p.op ≢ q.op) × (finish p ≤ start q)) (λ p. (p.job == j) && (p.op == o)) ps w.in_order) in
+            let pairs = subst (AllPairs (λ p q. p.job ≡ q.job → (p.op ≢ q.op) × (finish p ≤ start q)))
+            e (AllPairs-filter (λ p q. p.job ≡ q.job → (p.op ≢ q.op) × (finish p ≤ start q)) (λ p. (p.job == j) && (p.op == o)) ps w.in_order) in
             let named = subst (All (λ p. (p.job ≡ j) × (p.op ≡ o))) e (of_operation-named ps j o) in
             let a : (p.job ≡ j) × (p.op ≡ o) = named 0 p (omega arith) in
             let b : (q.job ≡ j) × (q.op ≡ o) = named 1 p (omega arith) in
@@ -195,7 +201,8 @@ module _ (i : Instance) (h : IsPlainShop i) (ps : List Piece) (w : IsShopPlan i 
         let size : length_of p ≡ pos 1 *ℤ pos (need_at i p.job p.op).time = (lasts p _ t long).1 ∙ sym (one-*ℤ _) in
         let named = named_one ps j o p e in
         -- where it may be cut, the one piece is work that adds up
-        let sum : total (map length_of mine) ≡ pos 1 *ℤ pos (need_at i j o).time = ap (λ l. total (map length_of l)) e ∙ +ℤ_idl (length_of p) ∙ size ∙ ap₂ (λ a b. pos 1 *ℤ pos (need_at i a b).time) named.0 named.1 in
+        let sum : total (map length_of mine) ≡ pos 1 *ℤ pos (need_at i j o).time =
+        ap (λ l. total (map length_of l)) e ∙ +ℤ_idl (length_of p) ∙ size ∙ ap₂ (λ a b. pos 1 *ℤ pos (need_at i a b).time) named.0 named.1 in
         either i.class.cut (sums_by (kind_of i.class.env) i mine j o (pos 1) h.kind sum) (p, e, whole_by (kind_of i.class.env) i (pos 1) p h.kind size)
       where
         either : {A B : Type 0} (cut : Bool) → A → B → MatchBool cut A B
@@ -223,7 +230,8 @@ IsLeastEnd i end = (t : Schedule) → Feasible i t → (c : ℤ) → pos 0 ≤�
 -- the same by the ends of its pieces, in ℕ
 pub IsLeastEnd-from_pieces : (i : Instance) (end : ℕ) → ((t : Schedule) → Feasible i t → (c : ℕ) → All (λ p. finish p ≤ c) t.pieces → nat_abs t.unit * end ≤ c) → IsLeastEnd i end
 IsLeastEnd-from_pieces i end h t f c b ends =
-    subst₂ (λ x y. (x *ℤ pos end) ≤ℤ y) (sym (natural t.unit (omega (arith, ints, f.unit)))) (sym (natural c b)) (pos-le (h t f (nat_abs c) (λ k d l. ended (get_or t.pieces k d) (f.span k d l) (last_end-bound t.pieces k d l) (ends (get_or t.pieces k d).job (f.place k d l).job))))
+    subst₂ (λ x y. (x *ℤ pos end) ≤ℤ y) (sym (natural t.unit (omega (arith, ints, f.unit)))) (sym (natural c b))
+    (pos-le (h t f (nat_abs c) (λ k d l. ended (get_or t.pieces k d) (f.span k d l) (last_end-bound t.pieces k d l) (ends (get_or t.pieces k d).job (f.place k d l).job))))
   where
     ended : (p : Piece) → (pos 0 ≤ℤ p.from) × (p.from <ℤ p.to) → p.to ≤ℤ end_of t p.job → end_of t p.job ≤ℤ c → finish p ≤ nat_abs c
     ended p s l m = omega (arith, ints, (IsTimed-from_span p s).to, natural c b, l, m)
@@ -239,7 +247,7 @@ module _ (i : Instance) (kind : is_shop i.class.env ≡ true) (crit : i.class.cr
   bound : (t : Schedule) → Feasible i t → (pos end *ℤ t.unit) ≤ℤ cost_of i t
   bound t f = subst (λ x. x ≤ℤ cost_of i t) (*ℤ_comm t.unit (pos end)) (least t f (cost_of i t) (omega (arith, ints, cost_natural i crit t some)) (ends_by_cost i crit t))
 
-  module _ (ps : List Piece) (feasible : Feasible i (over_one ps)) (few : length ps ≤ 500000) (ends : All (λ p. finish p ≤ end) ps) (short : end ≤ 10 ^ 25) where
+  module _ (ps : List Piece) (feasible : Feasible i (over_one ps)) (few : length ps ≤ MOST_PIECES) (ends : All (λ p. finish p ≤ end) ps) (short : end ≤ 10 ^ 25) where
     abbrev made : Schedule
     made = over_one ps
 
@@ -263,7 +271,10 @@ module _ (i : Instance) (kind : is_shop i.class.env ≡ true) (crit : i.class.cr
 
     pub IsBestPlan-from_feasible : IsBestPlan i end made
     IsBestPlan-from_feasible = record {
-      best = record { feasible = feasible; least = λ t f. subst (λ x. (x *ℤ t.unit) ≤ℤ (cost_of i t *ℤ pos 1)) (sym cost_is) (subst (λ x. (pos end *ℤ t.unit) ≤ℤ x) (sym (*ℤ-one (cost_of i t))) (bound t f)) };
+      best = record {
+        feasible = feasible;
+        least = λ t f. subst (λ x. (x *ℤ t.unit) ≤ℤ (cost_of i t *ℤ pos 1)) (sym cost_is) (subst (λ x. (pos end *ℤ t.unit) ≤ℤ x) (sym (*ℤ-one (cost_of i t))) (bound t f));
+      };
       within = record {
         unit = (omega (arith, ints), omega (arith, ints));
         few = few;
@@ -278,5 +289,6 @@ module _ (i : Instance) (kind : is_shop i.class.env ≡ true) (crit : i.class.cr
       cost = cost_is;
     }
 
-pub IsBestPlan-from_plan : (i : Instance) → IsPlainShop i → (end : ℕ) → IsLeastEnd i end → (ps : List Piece) → IsShopPlan i ps → length ps ≤ 500000 → All (λ p. finish p ≤ end) ps → end ≤ 10 ^ 25 → IsBestPlan i end (over_one ps)
+pub IsBestPlan-from_plan : (i : Instance) → IsPlainShop i → (end : ℕ) → IsLeastEnd i end
+    → (ps : List Piece) → IsShopPlan i ps → length ps ≤ MOST_PIECES → All (λ p. finish p ≤ end) ps → end ≤ 10 ^ 25 → IsBestPlan i end (over_one ps)
 IsBestPlan-from_plan i h end least ps w = IsBestPlan-from_feasible i h.kind h.crit h.some end least ps (Feasible-from_plan i h ps w)

@@ -1,5 +1,6 @@
--- Slices laid in a row: what their pieces are, that they fit together, and how long each row has each column.
-use Rattle.std.proofs.Common.{◌≡◌, ◌≢◌, ℕ, zero, suc, ◌+◌, ◌*◌, ◌<◌, ◌≤◌, ◌⊎◌, inl, inr, Bool, true, false, cond, eqb, ltb, List, [], ◌∷◌, ◌++◌, length, length-append, get_or, drop, map, filter, All, AllPairs, ℤ, pos, ◌+ℤ◌, ◌≤ℤ◌, ◌<ℤ◌, ◌-ℤ◌, refl, sym, ap, ap₂, subst, ◌∙◌, arith}
+-- Slices laid one after another: what their pieces are, that they fit together, and how long each row has each column.
+use Rattle.std.proofs.Common.{◌≡◌, ◌≢◌, ℕ, zero, suc, ◌+◌, ◌*◌, ◌<◌, ◌≤◌, ◌⊎◌, inl, inr, Bool, true, false, cond, eqb, ltb, List, [], ◌∷◌, ◌++◌, length, length-append, get_or}
+use Rattle.std.proofs.Common.{drop, map, filter, All, AllPairs, ℤ, pos, ◌+ℤ◌, ◌≤ℤ◌, ◌<ℤ◌, ◌-ℤ◌, refl, sym, ap, ap₂, subst, ◌∙◌, arith}
 use Rattle.std.specs.Prelude.{◌==◌, ◌&&◌}
 use Rattle.std.proofs.lemmas.Bool.{cases_lt, ltb-true, ltb-false, eq-eqb, ne_eqb}
 use Rattle.std.proofs.lemmas.Int.{ints}
@@ -61,7 +62,8 @@ module _ (columns : ℕ) (moment : ℤ) (s : Slice) where
   part_is n = by (ltb (column_of s n) columns) refl
     where
       by : (b : Bool) → ltb (column_of s n) columns ≡ b → All (λ p. (p.op ≡ n) × IsRowPiece p) (cond b (row_piece moment s n ∷ []) [])
-      by true e = All-cons (λ p. (p.op ≡ n) × IsRowPiece p) (row_piece moment s n) [] (refl, record { machine = refl; column = refl; job = ltb-true _ _ e; from = refl; to = refl }) (All-nil (λ p. (p.op ≡ n) × IsRowPiece p))
+      by true e = All-cons (λ p. (p.op ≡ n) × IsRowPiece p) (row_piece moment s n)
+          [] (refl, record { machine = refl; column = refl; job = ltb-true _ _ e; from = refl; to = refl }) (All-nil (λ p. (p.op ≡ n) × IsRowPiece p))
       by false e = All-nil (λ p. (p.op ≡ n) × IsRowPiece p)
 
   part_few : (n : ℕ) → length (row_part columns moment s n) ≤ 1
@@ -112,7 +114,8 @@ lengths_from [] h = omega (arith, ints)
 lengths_from (s ∷ rest) h = omega (arith, ints, All-head (λ x. pos 1 ≤ℤ x.length) s rest h, lengths_from rest (All-tail (λ x. pos 1 ≤ℤ x.length) s rest h))
 
 -- a slice is short, where it and those after it end in time
-pub slice_fits : (slices : List Slice) (k : ℕ) (x d : Slice) (end : ℤ) → k < length slices → x ≡ get_or slices k d → All (λ s. pos 1 ≤ℤ s.length) slices → (end +ℤ total (λ s. s.length) (drop k slices)) ≤ℤ pos greatest_sum → (end +ℤ x.length) ≤ℤ pos greatest_sum
+pub slice_fits : (slices : List Slice) (k : ℕ) (x d : Slice) (end : ℤ) → k < length slices → x ≡ get_or slices k d
+    → All (λ s. pos 1 ≤ℤ s.length) slices → (end +ℤ total (λ s. s.length) (drop k slices)) ≤ℤ pos greatest_sum → (end +ℤ x.length) ≤ℤ pos greatest_sum
 slice_fits slices k x d end l e lasts h =
     let parts : drop k slices ≡ x ∷ drop (k + 1) slices = drop_more slices k d l ∙ ap (λ y. y ∷ drop (k + 1) slices) (sym e) in
     let rest : pos 0 ≤ℤ total (λ s. s.length) (drop (k + 1) slices) = lengths_from (drop (k + 1) slices) (All-drop (λ s. pos 1 ≤ℤ s.length) (k + 1) slices lasts) in
@@ -122,7 +125,8 @@ pub lasts_at : (slices : List Slice) (k : ℕ) (x d : Slice) → k < length slic
 lasts_at slices k x d l e h = let P : Slice → Type 0 = λ s. pos 1 ≤ℤ s.length in subst P (sym e) (h k d l)
 
 -- what is left after a slice
-pub slice_rest : (slices : List Slice) (k : ℕ) (x d : Slice) (end : ℤ) (g : ℤ) → k < length slices → x ≡ get_or slices k d → (end +ℤ total (λ s. s.length) (drop k slices)) ≤ℤ g → ((end +ℤ x.length) +ℤ total (λ s. s.length) (drop (k + 1) slices)) ≤ℤ g
+pub slice_rest : (slices : List Slice) (k : ℕ) (x d : Slice) (end : ℤ) (g : ℤ) → k < length slices
+    → x ≡ get_or slices k d → (end +ℤ total (λ s. s.length) (drop k slices)) ≤ℤ g → ((end +ℤ x.length) +ℤ total (λ s. s.length) (drop (k + 1) slices)) ≤ℤ g
 slice_rest slices k x d end g l e h =
     let parts : drop k slices ≡ x ∷ drop (k + 1) slices = drop_more slices k d l ∙ ap (λ y. y ∷ drop (k + 1) slices) (sym e) in
     omega (arith, ints, h, ap (total (λ s. s.length)) parts)
@@ -157,9 +161,11 @@ module _ (rows columns : ℕ) where
   Parted p q = IsApart p q ⊎ Differ p q
 
   -- ---- one row
-  row_pieces : (r : ℕ) → r < rows → (moment : ℤ) (slices : List Slice) → All (IsSlice rows columns) slices → All (λ p. (p.op ≡ r) × IsLaidPiece slices moment (last_of moment slices) p) (row_parts columns moment r slices)
+  row_pieces : (r : ℕ) → r < rows → (moment : ℤ) (slices : List Slice)
+      → All (IsSlice rows columns) slices → All (λ p. (p.op ≡ r) × IsLaidPiece slices moment (last_of moment slices) p) (row_parts columns moment r slices)
   row_pieces r inside moment [] h = All-nil (λ p. (p.op ≡ r) × IsLaidPiece [] moment (moment +ℤ pos 0) p)
-  row_pieces r inside moment (s ∷ rest) h = All-append (λ p. (p.op ≡ r) × IsLaidPiece (s ∷ rest) moment (last_of moment (s ∷ rest)) p) (row_part columns moment s r) (row_parts columns (moment +ℤ s.length) r rest)
+  row_pieces r inside moment (s ∷ rest) h =
+      All-append (λ p. (p.op ≡ r) × IsLaidPiece (s ∷ rest) moment (last_of moment (s ∷ rest)) p) (row_part columns moment s r) (row_parts columns (moment +ℤ s.length) r rest)
       (λ k d l. here _ (part_is columns moment s r k d l))
       (λ k d l. later _ (row_pieces r inside (moment +ℤ s.length) rest others k d l))
     where
@@ -208,7 +214,8 @@ module _ (rows columns : ℕ) where
       (λ k d l a e m. inl (inl (before moment s rest _ _ (part_is columns moment s r k d l).1 (row_pieces r inside (moment +ℤ s.length) rest others a e m).1)))
 
   -- ---- two rows
-  cross : (q r : ℕ) → q < r → r < rows → (moment : ℤ) (slices : List Slice) → All (IsSlice rows columns) slices → All (λ x. All (Parted x) (row_parts columns moment r slices)) (row_parts columns moment q slices)
+  cross : (q r : ℕ) → q < r → r < rows → (moment : ℤ) (slices : List Slice)
+      → All (IsSlice rows columns) slices → All (λ x. All (Parted x) (row_parts columns moment r slices)) (row_parts columns moment q slices)
   cross q r below inside moment [] h = All-nil (λ x. All (Parted x) [])
   cross q r below inside moment (s ∷ rest) h = All-append (λ x. All (Parted x) (row_parts columns moment r (s ∷ rest))) (row_part columns moment s q) (row_parts columns next q rest)
       (λ k d l. here _ (part_is columns moment s q k d l))
@@ -239,11 +246,13 @@ module _ (rows columns : ℕ) where
 
     across : (n r : ℕ) → n ≤ r → r < rows → All (λ x. All (Parted x) (row_parts columns (pos 0) r slices)) (laid columns slices n)
     across zero r l m = All-nil (λ x. All (Parted x) (row_parts columns (pos 0) r slices))
-    across (suc n) r l m = All-append (λ x. All (Parted x) (row_parts columns (pos 0) r slices)) (laid columns slices n) (row_parts columns (pos 0) n slices) (across n r (omega (arith, l)) m) (cross n r (omega (arith, l)) m (pos 0) slices h)
+    across (suc n) r l m = All-append (λ x. All (Parted x) (row_parts columns (pos 0) r slices))
+        (laid columns slices n) (row_parts columns (pos 0) n slices) (across n r (omega (arith, l)) m) (cross n r (omega (arith, l)) m (pos 0) slices h)
 
     laid_apart : (n : ℕ) → n ≤ rows → AllPairs Parted (laid columns slices n)
     laid_apart zero l = pairs_nil Parted
-    laid_apart (suc n) l = AllPairs-append Parted (laid columns slices n) (row_parts columns (pos 0) n slices) (laid_apart n (omega (arith, l))) (row_apart n (omega (arith, l)) (pos 0) slices h) (across n n (omega arith) (omega (arith, l)))
+    laid_apart (suc n) l = AllPairs-append Parted (laid columns slices n) (row_parts columns (pos 0) n slices)
+        (laid_apart n (omega (arith, l))) (row_apart n (omega (arith, l)) (pos 0) slices h) (across n n (omega arith) (omega (arith, l)))
 
     laid_few : (n : ℕ) → length (laid columns slices n) ≤ length slices * n
     laid_few zero = omega arith
@@ -251,26 +260,31 @@ module _ (rows columns : ℕ) where
       where
         row_few : (r : ℕ) (moment : ℤ) (slices : List Slice) → length (row_parts columns moment r slices) ≤ length slices
         row_few r moment [] = omega arith
-        row_few r moment (s ∷ rest) = omega (arith, length-append (row_part columns moment s r) (row_parts columns (moment +ℤ s.length) r rest), part_few columns moment s r, row_few r (moment +ℤ s.length) rest)
+        row_few r moment (s ∷ rest) = omega
+            (arith, length-append (row_part columns moment s r) (row_parts columns (moment +ℤ s.length) r rest), part_few columns moment s r, row_few r (moment +ℤ s.length) rest)
 
   -- each row has each column as long as the slices say
   row_work : (c r : ℕ) → c < columns → (moment : ℤ) (slices : List Slice) → among c r (row_parts columns moment r slices) ≡ total (time_at r c) slices
   row_work c r inside moment [] = refl
-  row_work c r inside moment (s ∷ rest) = among-append c r (row_part columns moment s r) (row_parts columns (moment +ℤ s.length) r rest) ∙ ap₂ ◌+ℤ◌ (part_same columns moment s c r inside) (row_work c r inside (moment +ℤ s.length) rest)
+  row_work c r inside moment (s ∷ rest) = among-append c r (row_part columns moment s r) (row_parts columns (moment +ℤ s.length) r rest)
+      ∙ ap₂ ◌+ℤ◌ (part_same columns moment s c r inside) (row_work c r inside (moment +ℤ s.length) rest)
 
   other_work : (c r n : ℕ) → c < columns → n ≢ r → (moment : ℤ) (slices : List Slice) → among c r (row_parts columns moment n slices) ≡ pos 0
   other_work c r n inside other moment [] = refl
-  other_work c r n inside other moment (s ∷ rest) = among-append c r (row_part columns moment s n) (row_parts columns (moment +ℤ s.length) n rest) ∙ ap₂ ◌+ℤ◌ (part_other columns moment s c r inside n other) (other_work c r n inside other (moment +ℤ s.length) rest)
+  other_work c r n inside other moment (s ∷ rest) = among-append c r (row_part columns moment s n) (row_parts columns (moment +ℤ s.length) n rest)
+      ∙ ap₂ ◌+ℤ◌ (part_other columns moment s c r inside n other) (other_work c r n inside other (moment +ℤ s.length) rest)
 
   work_before : (c r n : ℕ) → c < columns → n ≤ r → (slices : List Slice) → among c r (laid columns slices n) ≡ pos 0
   work_before c r zero inside l slices = refl
-  work_before c r (suc n) inside l slices = among-append c r (laid columns slices n) (row_parts columns (pos 0) n slices) ∙ ap₂ ◌+ℤ◌ (work_before c r n inside (omega (arith, l)) slices) (other_work c r n inside (λ z. omega (arith, l, z)) (pos 0) slices)
+  work_before c r (suc n) inside l slices = among-append c r (laid columns slices n) (row_parts columns (pos 0) n slices)
+      ∙ ap₂ ◌+ℤ◌ (work_before c r n inside (omega (arith, l)) slices) (other_work c r n inside (λ z. omega (arith, l, z)) (pos 0) slices)
 
   laid_work : (c r n : ℕ) → c < columns → r < n → (slices : List Slice) → among c r (laid columns slices n) ≡ total (time_at r c) slices
   laid_work c r zero inside l slices = absurd (omega (arith, l))
   laid_work c r (suc n) inside l slices = among-append c r (laid columns slices n) (row_parts columns (pos 0) n slices) ∙ by (cases_lt r n) (λ m. laid_work c r n inside m slices)
     where
-      by : (r < n) ⊎ (n ≤ r) → (r < n → among c r (laid columns slices n) ≡ total (time_at r c) slices) → among c r (laid columns slices n) +ℤ among c r (row_parts columns (pos 0) n slices) ≡ total (time_at r c) slices
+      by : (r < n) ⊎ (n ≤ r) → (r < n → among c r (laid columns slices n) ≡ total (time_at r c) slices)
+          → among c r (laid columns slices n) +ℤ among c r (row_parts columns (pos 0) n slices) ≡ total (time_at r c) slices
       by (inl m) before = omega (arith, ints, before m, other_work c r n inside (λ z. omega (arith, m, z)) (pos 0) slices)
       by (inr m) before =
           let z : n ≡ r = omega (arith, l, m) in

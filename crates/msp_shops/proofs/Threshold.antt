@@ -17,7 +17,8 @@ module _ {X : Type 0} (p : X → Bool) (f : X → ℕ) where
       by : (b : Bool) → p x ≡ b → All (λ y. p y ≡ false) xs ⊎ ((q : X) × IsEarliest xs q) → All (λ y. p y ≡ false) (x ∷ xs) ⊎ ((q : X) × IsEarliest (x ∷ xs) q)
       by false e (inl none) = inl (All-cons (λ y. p y ≡ false) x xs e none)
       by false e (inr (q, (c, t, l))) = inr (q, ((suc c.0, omega (arith, c.1), c.2), t, All-cons (λ y. p y ≡ true → f q ≤ f y) x xs (λ h. absurd (cc)) l))
-      by true e (inl none) = inr (x, ((0, omega arith, refl), e, All-cons (λ y. p y ≡ true → f x ≤ f y) x xs (λ h. omega arith) (λ k d m h. let no : p (get_or xs k d) ≡ false = none k d m in absurd (cc))))
+      by true e (inl none) =
+          inr (x, ((0, omega arith, refl), e, All-cons (λ y. p y ≡ true → f x ≤ f y) x xs (λ h. omega arith) (λ k d m h. let no : p (get_or xs k d) ≡ false = none k d m in absurd (cc))))
       by true e (inr (q, (c, t, l))) = choose (leb (f q) (f x)) refl
         where
           choose : (b : Bool) → leb (f q) (f x) ≡ b → All (λ y. p y ≡ false) (x ∷ xs) ⊎ ((r : X) × IsEarliest (x ∷ xs) r)
@@ -94,12 +95,14 @@ mirrored first second ready unit end items h = record {
   over = λ z l. omega (
     arith,
     h.to_come (end - z) (omega arith),
-    ap (λ n. unit * n) (sum_by-same (λ x. cond (leb (end - ready x) z) (second x) 0) (λ x. cond (leb (end - z) (ready x)) (second x) 0) items (λ k d m. ap (λ b. cond b (second (get_or items k d)) 0) (same_test (end - ready (get_or items k d)) z (end - z) (ready (get_or items k d)) (omega (arith, l, h.inside k d m))))),
+    ap (λ n. unit * n) (sum_by-same (λ x. cond (leb (end - ready x) z) (second x) 0) (λ x. cond (leb (end - z) (ready x)) (second x) 0) items
+        (λ k d m. ap (λ b. cond b (second (get_or items k d)) 0) (same_test (end - ready (get_or items k d)) z (end - z) (ready (get_or items k d)) (omega (arith, l, h.inside k d m))))),
   );
   to_come = λ z l. omega (
     arith,
     h.over (end - z) (omega arith),
-    ap (λ n. unit * n) (sum_by-same (λ x. cond (leb z (end - ready x)) (first x) 0) (λ x. cond (leb (ready x) (end - z)) (first x) 0) items (λ k d m. ap (λ b. cond b (first (get_or items k d)) 0) (same_test z (end - ready (get_or items k d)) (ready (get_or items k d)) (end - z) (omega (arith, l, h.inside k d m))))),
+    ap (λ n. unit * n) (sum_by-same (λ x. cond (leb z (end - ready x)) (first x) 0) (λ x. cond (leb (ready x) (end - z)) (first x) 0) items
+        (λ k d m. ap (λ b. cond b (first (get_or items k d)) 0) (same_test z (end - ready (get_or items k d)) (ready (get_or items k d)) (end - z) (omega (arith, l, h.inside k d m))))),
   );
 }
 

@@ -5,7 +5,7 @@ use Rattle.msp_class.specs.declared.class.Crit.TheVariants.{Cmax}
 use Rattle.msp_class.specs.declared.environments.EnvKind.TheVariants.{FlowShop, JobShop}
 use Rattle.msp_class.specs.Env.{kind_of}
 use Rattle.msp_instance.specs.declared.Instance.{Instance}
-use Rattle.msp_instance.specs.declared.ranges.TheConstants.{GREATEST, MOST_JOBS}
+use Rattle.msp_class.specs.declared.sizes.TheConstants.{MOST_JOBS, GREATEST}
 use Rattle.msp_instance.specs.Instance.{job_at, need_at}
 use Rattle.msp_shops.specs.declared.pass.JobTimes.{JobTimes}
 use Rattle.msp_shops.specs.Order.{GoesBefore}

@@ -1,6 +1,6 @@
 -- What holds of jobs that pass over a first and then over a second machine. No public contract cites this file.
 use Rattle.std.specs.Prelude.{◌≡◌, ℕ, ◌+◌, ◌*◌, ◌^◌, ◌<◌, ◌≤◌, ◌⊎◌, ◌++◌, ◌==◌, List, [], ◌∷◌, if◌then◌else◌, pos, All, AllPairs, Contains, length, sum_by}
-use Rattle.msp_instance.specs.declared.ranges.TheConstants.{GREATEST}
+use Rattle.msp_class.specs.declared.sizes.TheConstants.{GREATEST}
 use Rattle.msp_schedule.specs.declared.Piece.{Piece}
 use Rattle.msp_schedule.specs.Intervals.{IsApartOn}
 use Rattle.msp_schedule.specs.Piece.{start, finish, IsTimed}
@@ -8,7 +8,7 @@ use Rattle.msp_shops.specs.declared.pass.JobTimes.{JobTimes}
 use Rattle.msp_shops.specs.declared.pass.Moments.{Moments}
 use Rattle.msp_shops.specs.declared.pass.Stage.{Stage}
 
--- The most of a moment at which an operation begins, and of its time: their sum fits a number of 64 bits.
+-- The most of a moment at which an operation begins, and of its time: at least 3 * MOST_JOBS * GREATEST. Their sum fits a number of 64 bits.
 abbrev pub greatest_begin : ℕ
 greatest_begin = 10 ^ 13
 

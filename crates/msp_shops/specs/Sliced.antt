@@ -1,4 +1,4 @@
--- Slices laid in a row as pieces of a schedule that are joined where they touch, and the matrix of an open shop's times. No public contract cites this file.
+-- Slices laid one after another as pieces of a schedule that are joined where they touch, and the matrix of an open shop's times. No public contract cites this file.
 use Rattle.std.specs.Prelude.{◌≡◌, ℕ, zero, suc, ◌*◌, ◌+◌, ◌<◌, ◌⊎◌, ◌++◌, ℤ, pos, ◌+ℤ◌, ◌≤ℤ◌, ◌<ℤ◌, List, [], ◌∷◌, if◌then◌else◌, nat_lt, length, slice_index_or, All, AllPairs}
 use Rattle.msp_instance.specs.declared.Instance.{Instance}
 use Rattle.msp_instance.specs.Instance.{need_at}

@@ -1,6 +1,6 @@
 // The jobs by the machine on which they begin, and their times.
 ghost use Rattle.std.specs.Prelude.{◌≡◌, ◌≤◌, ◌<◌, ◌*◌, ◌++◌, [], ◌∷◌, if◌then◌else◌, length, slice_index_or, All, IfOk, OnOk, sum_by};
-ghost use Rattle.msp_instance.specs.declared.ranges.TheConstants.{GREATEST, MOST_JOBS};
+ghost use Rattle.msp_class.specs.declared.sizes.TheConstants.{MOST_JOBS, GREATEST};
 ghost use Rattle.msp_instance.specs.Instance.{no_need, need_at};
 ghost use Rattle.msp_shops.specs.Groups.{route_times, begins_on, times_from, IsTwoMachineShop, IsJohnsonGroup};
 

@@ -6,7 +6,6 @@
 // Best (`proofs/InSeries.antt`): a machine ends when its work is done without a gap, which is its load in any schedule; or when the jobs
 // that come from the other machine are done, of which those of Johnson's rule alone need as long (`johnson.rt`, over lists of jobs that
 // begin on one machine). Johnson's solver is the same call, where all jobs begin on the first machine.
-ghost use Rattle.std.specs.Prelude.{⊤};
 ghost use Rattle.msp_shops.specs.Classes.{jackson_class};
 
 use crate::two_machines::in_series;
@@ -34,10 +33,6 @@ pub struct Jackson;
 
 impl Solver for Jackson {
     ghost solved = { λ _. jackson_class };
-
-    ghost can_solve = { λ _ _. ⊤ };
-
-    ghost may_ask = { λ _ _. ⊤ };
 
     fn target(&self) -> Class {
         JACKSON_CLASS

@@ -6,7 +6,6 @@
 // however that is cut. And of a job that goes on to the other machine Johnson's rule asks only at which moment its last piece on the first
 // one ends (`proofs/Stages.antt`): the first operations that are over by a moment fit before it, and the second ones of the jobs whose first
 // ones are not over before it fit from there to the end. So preemption gains nothing on two machines with routes this short.
-ghost use Rattle.std.specs.Prelude.{⊤};
 ghost use Rattle.msp_shops.specs.Classes.{jackson_cut_class};
 
 use crate::two_machines::in_series;
@@ -33,10 +32,6 @@ pub struct JacksonCut;
 
 impl Solver for JacksonCut {
     ghost solved = { λ _. jackson_cut_class };
-
-    ghost can_solve = { λ _ _. ⊤ };
-
-    ghost may_ask = { λ _ _. ⊤ };
 
     fn target(&self) -> Class {
         JACKSON_CUT_CLASS

@@ -8,7 +8,6 @@
 // moment at which the first of the jobs that take at least θ on the first machine is done there: what is over on the first machine by then
 // and what is not begun on the second fit one after the other before the end (`proofs/Cut.antt`), and that is no less. Where the job takes
 // longer on the first machine, the same is seen from the end. Nobody asks in which order a machine of that schedule takes the jobs.
-ghost use Rattle.std.specs.Prelude.{⊤};
 ghost use Rattle.msp_shops.specs.Classes.{johnson_class};
 
 use crate::two_machines::in_series;
@@ -35,10 +34,6 @@ pub struct Johnson;
 
 impl Solver for Johnson {
     ghost solved = { λ _. johnson_class };
-
-    ghost can_solve = { λ _ _. ⊤ };
-
-    ghost may_ask = { λ _ _. ⊤ };
 
     fn target(&self) -> Class {
         JOHNSON_CLASS

@@ -8,8 +8,8 @@
 //
 // Best (`proofs/OpenFacts.antt`): the machines end by the greatest of their loads and of the lengths of the jobs, and no schedule ends
 // before any of these (`law_of_machines` and `law_of_lines` of `msp_schedule`).
-ghost use Rattle.std.specs.Prelude.{◌≡◌, ◌≢◌, ◌<◌, ◌≤◌, ◌∷◌, length, map, All, AllPairs, IfOk, IsPermutation, ⊤};
-ghost use Rattle.msp_instance.specs.declared.ranges.TheConstants.{GREATEST, MOST_JOBS};
+ghost use Rattle.std.specs.Prelude.{◌≡◌, ◌≢◌, ◌<◌, ◌≤◌, ◌∷◌, length, map, All, AllPairs, IfOk, IsPermutation};
+ghost use Rattle.msp_class.specs.declared.sizes.TheConstants.{MOST_JOBS, GREATEST};
 ghost use Rattle.msp_instance.specs.Conditions.{Inner};
 ghost use Rattle.msp_schedule.specs.Cost.{IsBest};
 ghost use Rattle.msp_route.specs.Bounds.{IsAnswer};
@@ -153,10 +153,6 @@ pub struct Open2;
 
 impl Solver for Open2 {
     ghost solved = { λ _. open_class };
-
-    ghost can_solve = { λ _ _. ⊤ };
-
-    ghost may_ask = { λ _ _. ⊤ };
 
     fn target(&self) -> Class {
         OPEN_CLASS

@@ -6,8 +6,9 @@
 //
 // Best (`proofs/OpenCutFacts.antt`): a line's sum is the load of a machine or the length of a job, and no schedule ends before it
 // (`law_of_machines` and `law_of_lines` of `msp_schedule`).
-ghost use Rattle.std.specs.Prelude.{◌≡◌, ◌<◌, ◌≤◌, ◌++◌, pos, length, map, IfOk, OnOk, ⊤};
+ghost use Rattle.std.specs.Prelude.{◌≡◌, ◌<◌, ◌≤◌, ◌++◌, pos, length, map, IfOk, OnOk};
 ghost use Rattle.std.specs.List.{range_with_len};
+ghost use Rattle.msp_class.specs.declared.sizes.TheConstants.{MOST_JOBS, MOST_MACHINES};
 ghost use Rattle.msp_instance.specs.Conditions.{Inner};
 ghost use Rattle.msp_instance.specs.Instance.{need_at};
 ghost use Rattle.msp_schedule.specs.Cost.{IsBest};
@@ -45,7 +46,7 @@ fn time_on(inst: &Instance, job: usize, machine: usize) -> u64
 
 /// Puts the times of all jobs on a machine at the end.
 fn put_row(cells: &mut Vec<i128>, inst: &Instance, machine: usize) -> Result<(), NoMemory>
-    requires { length inst.now.jobs ≤ 400 }
+    requires { length inst.now.jobs ≤ MOST_JOBS }
     ensures { OnOk result (cells.new.items ≡ cells.old.items ++ map (λ j. pos (need_at inst.now j machine).time) (range_with_len 0 (length inst.now.jobs))) }
 {
     for job in 0..inst.jobs.len() {
@@ -56,8 +57,8 @@ fn put_row(cells: &mut Vec<i128>, inst: &Instance, machine: usize) -> Result<(),
 
 /// The times of all jobs, machine after machine.
 fn times_by_machine(alloc: Global, inst: &Instance) -> Result<Vec<i128>, NoMemory>
-    requires few { length inst.now.jobs ≤ 400 }
-    requires machines { inst.now.machines ≤ 32 }
+    requires few { length inst.now.jobs ≤ MOST_JOBS }
+    requires machines { inst.now.machines ≤ MOST_MACHINES }
     ensures { IfOk result (λ cells. AreTimes inst.now inst.now.machines cells.items) }
 {
     let mut cells = Vec::new(alloc);
@@ -99,10 +100,6 @@ pub struct OpenCut;
 
 impl Solver for OpenCut {
     ghost solved = { λ _. open_cut_class };
-
-    ghost can_solve = { λ _ _. ⊤ };
-
-    ghost may_ask = { λ _ _. ⊤ };
 
     fn target(&self) -> Class {
         OPEN_CUT_CLASS

@@ -1,6 +1,6 @@
 // Jobs that pass one after another over a first and then over a second machine.
 ghost use Rattle.std.specs.Prelude.{◌≡◌, ◌≢◌, ◌*◌, ◌≤◌, ◌++◌, length, All, AllPairs, IfOk, OnOk};
-ghost use Rattle.msp_instance.specs.declared.ranges.TheConstants.{GREATEST, MOST_JOBS};
+ghost use Rattle.msp_class.specs.declared.sizes.TheConstants.{MOST_JOBS, GREATEST};
 ghost use Rattle.msp_shops.specs.Pass.{HasPassed, greatest_begin, part};
 
 use msp_class::{List, NoMemory};

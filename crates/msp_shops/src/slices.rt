@@ -1,5 +1,6 @@
 // Slices of a matrix, laid one after another as pieces of a schedule. Pieces of one operation that touch are joined.
 ghost use Rattle.std.specs.Prelude.{◌≡◌, ◌<◌, ◌+◌, ◌++◌, ◌≤ℤ◌, ◌+ℤ◌, ◌≤◌, pos, length, All, IfOk, OnOk, true, false};
+ghost use Rattle.msp_class.specs.declared.sizes.TheConstants.{MOST_MACHINES};
 ghost use Rattle.msp_timetable.specs.Split.{greatest_sum, total};
 ghost use Rattle.msp_shops.specs.Joined.{AreJoined};
 ghost use Rattle.msp_shops.specs.Sliced.{row_part, row_parts, laid, Joins, IsEndOf, HasBegun, AreInRows};
@@ -54,7 +55,7 @@ fn begin_of(row: &mut Row, job: u32, machine: u32) -> Result<i128, NoMemory>
 /// Puts the piece of a machine in this slice at the end, where it has one.
 fn put_piece(row: &mut Row, slice: &Slice, machine: usize, columns: u32) -> Result<(), NoMemory>
     requires inside { machine < length slice.now.column }
-    requires few { machine < 32 }
+    requires few { machine < MOST_MACHINES }
     requires begin { pos 0 ≤ℤ row.old.moment }
     requires lasts { pos 1 ≤ℤ slice.now.length }
     requires short { (row.old.moment +ℤ slice.now.length) ≤ℤ pos greatest_sum }
@@ -82,7 +83,7 @@ fn put_piece(row: &mut Row, slice: &Slice, machine: usize, columns: u32) -> Resu
 /// The same, and goes on to the next slice.
 fn put_part(row: &mut Row, slice: &Slice, machine: usize, columns: u32) -> Result<(), NoMemory>
     requires inside { machine < length slice.now.column }
-    requires few { machine < 32 }
+    requires few { machine < MOST_MACHINES }
     requires begin { pos 0 ≤ℤ row.old.moment }
     requires lasts { pos 1 ≤ℤ slice.now.length }
     requires short { (row.old.moment +ℤ slice.now.length) ≤ℤ pos greatest_sum }
@@ -104,7 +105,7 @@ fn put_machine(
     machine: usize,
     columns: u32,
 ) -> Result<(), NoMemory>
-    requires few { machine < 32 }
+    requires few { machine < MOST_MACHINES }
     requires all { All (λ s. machine < length s.column) slices.now }
     requires lasts { All (λ s. pos 1 ≤ℤ s.length) slices.now }
     requires short { total (λ s. s.length) slices.now ≤ℤ pos greatest_sum }
@@ -126,7 +127,7 @@ pub fn lay_slices(
     rows: u32,
     columns: u32,
 ) -> Result<List<Piece>, NoMemory>
-    requires few { rows ≤ 32 }
+    requires few { rows ≤ MOST_MACHINES }
     requires all { All (λ s. length s.column ≡ rows) slices.now }
     requires lasts { All (λ s. pos 1 ≤ℤ s.length) slices.now }
     requires short { total (λ s. s.length) slices.now ≤ℤ pos greatest_sum }

@@ -1,4 +1,4 @@
--- The row of the jobs in Lawler's order is best, and in the form of an answer.
+-- The jobs back to back in Lawler's order are a best schedule, and in the form of an answer.
 use Rattle.std.proofs.Common.{◌≡◌, ◌≢◌, ℕ, ◌+◌, ◌<◌, inl, inr, List, ◌∷◌, ◌++◌, length, get_or, take, drop, map, pos, ◌≤ℤ◌, All, AllPairs, Contains, refl, sym, ap, subst, ◌∙◌, arith}
 use Rattle.std.proofs.lemmas.List.{take-append-drop, drop_more, get_or-take, length-take, get_or_default}
 use Rattle.std.proofs.lemmas.List.Sums.{sum_by_more}
@@ -15,10 +15,10 @@ use Rattle.msp_schedule.specs.Feasible.{Feasible}
 use Rattle.msp_schedule.specs.Cost.{end_of, Best}
 use Rattle.msp_schedule.specs.Settled.{IsSettled}
 use Rattle.msp_schedule.specs.Within.{Within}
-use Rattle.msp_schedule.specs.Rows.{row, piece, time_at, row_schedule}
-use Rattle.msp_schedule.proofs.lists.Rows.{row-jobs, row-last, end_in, end_in-at}
+use Rattle.msp_schedule.specs.BackToBack.{back_to_back, piece, time_at, schedule_in_order}
+use Rattle.msp_schedule.proofs.lists.BackToBack.{back_to_back-jobs, back_to_back-last, end_in, end_in-at}
 use Rattle.msp_schedule.proofs.feasible.OneMachine.{last_end-is}
-use Rattle.msp_schedule.proofs.feasible.OneRow.{piece_makes, row_is_settled, row_is_within}
+use Rattle.msp_schedule.proofs.feasible.BackToBack.{piece_makes, back_to_back_is_settled, back_to_back_is_within}
 use Rattle.msp_route.specs.Bounds.{IsAnswer}
 use Rattle.msp_route.specs.LastJob.{CostsLess}
 use Rattle.msp_single.specs.Lawler.{lawler_class, IsLawlerOrder}
@@ -26,8 +26,8 @@ use Rattle.msp_schedule.specs.Blocks.{total_time, cost_at, IsCertified}
 use Rattle.msp_schedule.proofs.bounds.Certified.{ranked, Rises, best_by_certificates}
 use Rattle.msp_route.proofs.PlainJobs.{takes_time, is_short}
 use Rattle.msp_single.proofs.LawlerFacts.{IsLawlerInstance, IsLawlerInstance-from_class}
-use Rattle.msp_route.proofs.RowAnswer.{timed, row_is_answer}
-use Rattle.msp_route.proofs.RowArcs.{forward_row_is_feasible}
+use Rattle.msp_route.proofs.BackToBackAnswer.{timed, back_to_back_is_answer}
+use Rattle.msp_route.proofs.BackToBackArcs.{forward_is_feasible}
 
 -- what is said of the answer's schedule
 pub record IsLawlerSchedule (i : Instance) (s : Schedule) : Type 0 where
@@ -45,7 +45,7 @@ module _ (i : Instance) (h : IsLawlerInstance i) (order : List ℕ) (o : IsLawle
   distinct = OnceBelow-distinct once
 
   abbrev pieces : List Piece
-  pieces = row piece (time_at i) 0 order
+  pieces = back_to_back piece (time_at i) 0 order
 
   abbrev rank : ℕ → ℕ
   rank = (ranked i h.inner.acyclic).0
@@ -62,10 +62,14 @@ module _ (i : Instance) (h : IsLawlerInstance i) (order : List ℕ) (o : IsLawle
       let free = (o.last b inside).free in
       let here : get_or order b d ≡ get_or order b 0 = get_or_default order b d 0 inside in
       let not_there = All-contains (λ v. v.before ≡ get_or order b 0 → ¬ Contains (take (b + 1) order) v.after) i.arcs (record { before = get_or order b d; after = get_or order a d }) free c here in
-      not_there (a, omega (arith, length-take (b + 1) order, less, inside), get_or-take (b + 1) order a (get_or order a d) (omega (arith, less)) ∙ get_or_default order a (get_or order a d) d (omega (arith, less, inside)))
+      not_there (
+        a,
+        omega (arith, length-take (b + 1) order, less, inside),
+        get_or-take (b + 1) order a (get_or order a d) (omega (arith, less)) ∙ get_or_default order a (get_or order a d) d (omega (arith, less, inside)),
+      )
 
-  lawler_is_feasible : Feasible i (row_schedule i order)
-  lawler_is_feasible = forward_row_is_feasible i h.plain order once loose forward
+  lawler_is_feasible : Feasible i (schedule_in_order i order)
+  lawler_is_feasible = forward_is_feasible i h.plain order once loose forward
 
   -- ---- each job is certified when it ends
   module _ (k : ℕ) (inside : k < length order) where
@@ -93,32 +97,34 @@ module _ (i : Instance) (h : IsLawlerInstance i) (order : List ℕ) (o : IsLawle
         at_most : (x : ℕ) → CostsLess i moment (get_or order k 0) x → cost_at i (get_or order k 0) moment ≤ℤ cost_at i x moment
         at_most x c = elim c [ inl l ↦ <ℤ_weak l | inr e ↦ ≤ℤ_of_same e.0 ]
 
-    ends_then : end_of (row_schedule i order) (get_or order k 0) ≡ pos moment
+    ends_then : end_of (schedule_in_order i order) (get_or order k 0) ≡ pos moment
     ends_then =
         let j = get_or order k 0 in
         let split : order ≡ take k order ++ j ∷ drop (k + 1) order = sym (take-append-drop k order) ∙ ap (λ l. take k order ++ l) (drop_more order k 0 inside) in
-        let others : All (λ x. x ≢ j) (take k order) = λ a d l e. distinct a k 0 (omega (arith, length-take k order, l)) inside (get_or_default order a 0 d (omega (arith, length-take k order, l, inside)) ∙ sym (get_or-take k order a d (omega (arith, length-take k order, l))) ∙ e) in
+        let others : All (λ x. x ≢ j) (take k order) = λ a d l e. distinct a k 0 (omega (arith, length-take k order, l)) inside
+        (get_or_default order a 0 d (omega (arith, length-take k order, l, inside)) ∙ sym (get_or-take k order a d (omega (arith, length-take k order, l))) ∙ e) in
         last_end-is pieces j (timed i h.plain order once)
-        ∙ ap pos (row-last piece (time_at i) piece_makes 0 order j distinct (Contains-get_or order k 0 inside)
+        ∙ ap pos (back_to_back-last piece (time_at i) piece_makes 0 order j distinct (Contains-get_or order k 0 inside)
         ∙ ap (λ l. end_in (time_at i) 0 l j) split
         ∙ end_in-at (time_at i) 0 (take k order) j (drop (k + 1) order) others
         ∙ omega (arith, sum_by_more (time_at i) order k 0 inside))
 
-  each_certified : (j : ℕ) → j < length i.jobs → (moment : ℕ) × (end_of (row_schedule i order) j ≤ℤ pos moment) × IsCertified i (λ _. 0) j moment
+  each_certified : (j : ℕ) → j < length i.jobs → (moment : ℕ) × (end_of (schedule_in_order i order) j ≤ℤ pos moment) × IsCertified i (λ _. 0) j moment
   each_certified j l =
       let (k, inside, e) = OnceBelow-contains once j l in
       let is : get_or order k 0 ≡ j = get_or_default order k 0 j inside ∙ e in
-      (moment k inside, ≤ℤ_of_same (ap (end_of (row_schedule i order)) (sym is) ∙ ends_then k inside), subst (λ x. IsCertified i (λ _. 0) x (moment k inside)) is (certified k inside))
+      (moment k inside, ≤ℤ_of_same (ap (end_of (schedule_in_order i order)) (sym is) ∙ ends_then k inside), subst (λ x. IsCertified i (λ _. 0) x (moment k inside)) is (certified k inside))
 
-  pub lawler_schedule : IsLawlerSchedule i (row_schedule i order)
+  pub lawler_schedule : IsLawlerSchedule i (schedule_in_order i order)
   lawler_schedule = record {
-    best = best_by_certificates i h.plain.machine (takes_time i h.plain) h.inner.conditions.ends (omega (arith, h.plain.some)) h.greatest (λ _. 0) (λ j l. inl (omega arith)) (row_schedule i order) refl lawler_is_feasible each_certified;
-    settled = row_is_settled i order once (takes_time i h.plain);
-    within = row_is_within i order once (takes_time i h.plain) h.plain.few (is_short i h.plain) h.plain.machine.kind;
-    answer = row_is_answer i h.plain order once;
-    order = subst (IsLawlerOrder i) (sym (row-jobs piece (time_at i) piece_makes 0 order)) o;
+    best = best_by_certificates i h.plain.machine (takes_time i h.plain) h.inner.conditions.ends
+        (omega (arith, h.plain.some)) h.greatest (λ _. 0) (λ j l. inl (omega arith)) (schedule_in_order i order) refl lawler_is_feasible each_certified;
+    settled = back_to_back_is_settled i order once (takes_time i h.plain);
+    within = back_to_back_is_within i order once (takes_time i h.plain) h.plain.few (is_short i h.plain) h.plain.machine.kind;
+    answer = back_to_back_is_answer i h.plain order once;
+    order = subst (IsLawlerOrder i) (sym (back_to_back-jobs piece (time_at i) piece_makes 0 order)) o;
   }
 
 -- ---- at the numbers as the code passes them
-pub IsLawlerSchedule-made : (i : Instance) → i.class ≡ lawler_class → Inner i → (numbers order : List ℕ) → IsLawlerOrder i order → numbers ≡ order → IsLawlerSchedule i (row_schedule i numbers)
-IsLawlerSchedule-made i class inner numbers order o same = subst (λ js. IsLawlerSchedule i (row_schedule i js)) (sym same) (lawler_schedule i (IsLawlerInstance-from_class i class inner) order o)
+pub IsLawlerSchedule-made : (i : Instance) → i.class ≡ lawler_class → Inner i → (numbers order : List ℕ) → IsLawlerOrder i order → numbers ≡ order → IsLawlerSchedule i (schedule_in_order i numbers)
+IsLawlerSchedule-made i class inner numbers order o same = subst (λ js. IsLawlerSchedule i (schedule_in_order i js)) (sym same) (lawler_schedule i (IsLawlerInstance-from_class i class inner) order o)

@@ -1,6 +1,7 @@
 -- What Moore's rule accepts: nothing of it is late, and no other part of the list without a late element is larger. What is accepted and
 -- what is dropped is all that was seen.
-use Rattle.std.proofs.Common.{◌≡◌, ℕ, zero, suc, ◌+◌, ◌*◌, ◌-◌, ◌<◌, ◌≤◌, Bool, true, false, cond, ltb, leb, inl, inr, List, [], ◌∷◌, ◌++◌, length, filter, ℤ, pos, ◌≤ℤ◌, ◌<ℤ◌, All, AllPairs, IsPermutation, sum_by, refl, sym, ap, subst, ◌∙◌, arith}
+use Rattle.std.proofs.Common.{◌≡◌, ℕ, zero, suc, ◌+◌, ◌*◌, ◌-◌, ◌<◌, ◌≤◌, Bool, true, false, cond, ltb, leb, inl, inr, List, [], ◌∷◌, ◌++◌, length, filter, ℤ, pos, ◌≤ℤ◌, ◌<ℤ◌, All}
+use Rattle.std.proofs.Common.{AllPairs, IsPermutation, sum_by, refl, sym, ap, subst, ◌∙◌, arith}
 use Rattle.std.specs.List.{remove}
 use Rattle.std.proofs.Math.Nat.{mul-le-mul_right}
 use Rattle.std.proofs.lemmas.Bool.{leb-true, leb-false, ltb-true, ltb-false, cases_lt}
@@ -9,7 +10,8 @@ use Rattle.std.proofs.lemmas.List.{append_assoc, append-nil, length-append}
 use Rattle.std.proofs.lemmas.List.Edits.{remove-append_left, remove-append_right, length-remove}
 use Rattle.std.proofs.lemmas.List.Elements.{All-head, All-tail, filter-append}
 use Rattle.std.proofs.lemmas.List.Sums.{sum_by-cons, sum_by-append, sum_by-remove}
-use Rattle.std.proofs.lemmas.List.Sorted.{IsPermutation-refl, IsPermutation-sym, IsPermutation-trans, IsPermutation-cons, IsPermutation-middle, IsPermutation-to_front, IsPermutation-append_left, IsPermutation-remove, All-permutation}
+use Rattle.std.proofs.lemmas.List.Sorted.{IsPermutation-refl, IsPermutation-sym, IsPermutation-trans, IsPermutation-cons, IsPermutation-middle, IsPermutation-to_front}
+use Rattle.std.proofs.lemmas.List.Sorted.{IsPermutation-append_left, IsPermutation-remove, All-permutation}
 use Rattle.msp_class.proofs.IntegerRing.{≤ℤ_trans, pos-le}
 use Rattle.msp_schedule.proofs.costs.LateJobs.{OnTime}
 use Rattle.msp_schedule.proofs.lists.Parts.{All-front, All-back, AllPairs-front, AllPairs-last}
@@ -51,7 +53,8 @@ module _ {X : Type 0} (time number : X → ℕ) (due : X → ℤ) where
   OnTime-total : (d : ℤ) (t : ℕ) (xs : List X) → OnTime time due t xs → All (λ x. due x ≤ℤ d) xs → 0 < length xs → pos (t + sum_by time xs) ≤ℤ d
   OnTime-total d t [] h a l = absurd (omega (arith, l))
   OnTime-total d t (x ∷ []) h a l = ≤ℤ_trans (pos-le (omega (arith, sum_by-cons time x []))) (≤ℤ_trans h.0 (All-head (λ y. due y ≤ℤ d) x [] a))
-  OnTime-total d t (x ∷ y ∷ ys) h a l = ≤ℤ_trans (pos-le (omega (arith, sum_by-cons time x (y ∷ ys)))) (OnTime-total d (t + time x) (y ∷ ys) h.1 (All-tail (λ y. due y ≤ℤ d) x (y ∷ ys) a) (omega arith))
+  OnTime-total d t (x ∷ y ∷ ys) h a l =
+      ≤ℤ_trans (pos-le (omega (arith, sum_by-cons time x (y ∷ ys)))) (OnTime-total d (t + time x) (y ∷ ys) h.1 (All-tail (λ y. due y ≤ℤ d) x (y ∷ ys) a) (omega arith))
 
   -- ---- the longest is taken out
   module _ (all : List X) (place : ℕ) (longest : X) (h : IsLongest time number all place longest) where
@@ -81,11 +84,14 @@ module _ {X : Type 0} (time number : X → ℕ) (due : X → ℤ) where
       omega (arith, sum_by-cons (λ x. m - time x) x xs, sum_by-cons time x xs, slack-all m xs (All-tail (λ y. time y ≤ m) x xs h), l)
 
   -- the two steps, with names for the lists that they lead to
-  pub keeps : (seen accepted dropped seen' accepted' : List X) (x : X) → seen' ≡ seen ++ x ∷ [] → accepted' ≡ accepted ++ x ∷ [] → IsChoice time number due seen accepted dropped → pos (sum_by time accepted') ≤ℤ due x → IsChoice time number due seen' accepted' dropped
+  pub keeps : (seen accepted dropped seen' accepted' : List X) (x : X) → seen' ≡ seen ++ x ∷ [] → accepted' ≡ accepted ++ x ∷ []
+      → IsChoice time number due seen accepted dropped → pos (sum_by time accepted') ≤ℤ due x → IsChoice time number due seen' accepted' dropped
   keeps seen accepted dropped seen' accepted' x e f c l =
-      subst (λ xs. IsChoice time number due xs accepted' dropped) (sym e) (subst (λ xs. IsChoice time number due (seen ++ x ∷ []) xs dropped) (sym f) (kept c (subst (λ xs. pos (sum_by time xs) ≤ℤ due x) f l)))
+      subst (λ xs. IsChoice time number due xs accepted' dropped)
+      (sym e) (subst (λ xs. IsChoice time number due (seen ++ x ∷ []) xs dropped) (sym f) (kept c (subst (λ xs. pos (sum_by time xs) ≤ℤ due x) f l)))
 
-  pub drops : (seen accepted dropped seen' all accepted' dropped' : List X) (x longest : X) (place : ℕ) → seen' ≡ seen ++ x ∷ [] → all ≡ accepted ++ x ∷ [] → accepted' ≡ remove all place → dropped' ≡ dropped ++ longest ∷ []
+  pub drops : (seen accepted dropped seen' all accepted' dropped' : List X) (x longest : X) (place : ℕ)
+      → seen' ≡ seen ++ x ∷ [] → all ≡ accepted ++ x ∷ [] → accepted' ≡ remove all place → dropped' ≡ dropped ++ longest ∷ []
       → IsChoice time number due seen accepted dropped → due x <ℤ pos (sum_by time all) → IsLongest time number all place longest → IsChoice time number due seen' accepted' dropped'
   drops seen accepted dropped seen' all accepted' dropped' x longest place e f g k c l h =
       subst (λ xs. IsChoice time number due xs accepted' dropped') (sym e)
@@ -96,7 +102,8 @@ module _ {X : Type 0} (time number : X → ℕ) (due : X → ℤ) where
   one_more : (seen accepted dropped : List X) (x : X) → IsPermutation seen (accepted ++ dropped) → IsPermutation (seen ++ x ∷ []) ((accepted ++ x ∷ []) ++ dropped)
   one_more seen accepted dropped x p =
       subst (IsPermutation (seen ++ x ∷ [])) (sym (append_assoc accepted (x ∷ []) dropped))
-      (IsPermutation-trans _ _ _ (IsPermutation-to_front seen x) (IsPermutation-trans _ _ _ (IsPermutation-cons x seen (accepted ++ dropped) p) (IsPermutation-sym _ _ (IsPermutation-middle accepted x dropped))))
+      (IsPermutation-trans _ _ _ (IsPermutation-to_front seen x)
+      (IsPermutation-trans _ _ _ (IsPermutation-cons x seen (accepted ++ dropped) p) (IsPermutation-sym _ _ (IsPermutation-middle accepted x dropped))))
 
   -- all that was seen is accepted or dropped
   pub choice-permutation : {seen accepted dropped : List X} → IsChoice time number due seen accepted dropped → IsPermutation seen (accepted ++ dropped)
@@ -116,7 +123,8 @@ module _ {X : Type 0} (time number : X → ℕ) (due : X → ℤ) where
   on_time-kept : (accepted : List X) (x : X) → OnTime time due 0 accepted → pos (sum_by time (accepted ++ x ∷ [])) ≤ℤ due x → OnTime time due 0 (accepted ++ x ∷ [])
   on_time-kept accepted x h l = OnTime-append 0 accepted (x ∷ []) h (≤ℤ_trans (pos-le (omega (arith, sum_by-append time accepted (x ∷ []), sum_by-cons time x []))) l, tt)
 
-  on_time-overrun : (accepted : List X) (x longest : X) (place : ℕ) → OnTime time due 0 accepted → All (λ y. due y ≤ℤ due x) accepted → IsLongest time number (accepted ++ x ∷ []) place longest → OnTime time due 0 (remove (accepted ++ x ∷ []) place)
+  on_time-overrun : (accepted : List X) (x longest : X) (place : ℕ) → OnTime time due 0 accepted
+      → All (λ y. due y ≤ℤ due x) accepted → IsLongest time number (accepted ++ x ∷ []) place longest → OnTime time due 0 (remove (accepted ++ x ∷ []) place)
   on_time-overrun accepted x longest place h early l = by (ltb place (length accepted)) refl
     where
       all : List X
@@ -127,8 +135,10 @@ module _ {X : Type 0} (time number : X → ℕ) (due : X → ℤ) where
           let inside : place < length accepted = ltb-true place (length accepted) e in
           let is : remove all place ≡ remove accepted place ++ x ∷ [] = remove-append_left accepted (x ∷ []) place inside in
           let last : time x ≤ time longest = All-head (λ y. time y ≤ time longest) x [] (All-back (λ y. time y ≤ time longest) accepted (x ∷ []) (no_longer all place longest l)) in
-          let less : 0 + sum_by time (remove accepted place) + time x ≤ 0 + sum_by time accepted = omega (arith, without all place longest l time, ap (sum_by time) is, sum_by-append time (remove accepted place) (x ∷ []), sum_by-append time accepted (x ∷ []), sum_by-cons time x [], last) in
-          subst (OnTime time due 0) (sym is) (OnTime-append 0 (remove accepted place) (x ∷ []) (OnTime-remove 0 accepted place h) (≤ℤ_trans (pos-le less) (OnTime-total (due x) 0 accepted h early (omega (arith, inside))), tt))
+          let less : 0 + sum_by time (remove accepted place) + time x ≤ 0 + sum_by time accepted = omega
+          (arith, without all place longest l time, ap (sum_by time) is, sum_by-append time (remove accepted place) (x ∷ []), sum_by-append time accepted (x ∷ []), sum_by-cons time x [], last) in
+          subst (OnTime time due 0) (sym is)
+          (OnTime-append 0 (remove accepted place) (x ∷ []) (OnTime-remove 0 accepted place h) (≤ℤ_trans (pos-le less) (OnTime-total (due x) 0 accepted h early (omega (arith, inside))), tt))
       by false e =
           let past : length accepted ≤ place = ltb-false place (length accepted) e in
           let here : place ≡ length accepted = omega (arith, past, l.within, length-append accepted (x ∷ [])) in
@@ -196,7 +206,8 @@ module _ {X : Type 0} (time number : X → ℕ) (due : X → ℤ) where
   -- a part that takes less time than the whole is not all of it
   fewer_than : (ys all : List X) (place : ℕ) (longest : X) → IsLongest time number all place longest → sum_by time ys < sum_by time all → IsNoWorse time ys all → length ys < length all
   fewer_than ys all place longest l less h =
-      by (length ys) (length all) (time longest) (sum_by time ys) (sum_by time all) (slack time (time longest) all) h.count (h.least (time longest)) (slack-all (time longest) all (no_longer all place longest l)) less
+      by (length ys) (length all) (time longest) (sum_by time ys)
+      (sum_by time all) (slack time (time longest) all) h.count (h.least (time longest)) (slack-all (time longest) all (no_longer all place longest l)) less
     where
       by : (b r p s t k : ℕ) → b ≤ r → b * p ≤ s + k → k + t ≡ r * p → s < t → b < r
       by b r p s t k l h f g = elim (cases_lt b r) [ inl a ↦ a | inr a ↦ let e : b ≡ r = omega (arith, a, l) in absurd (omega (arith, h, f, g, ap (λ n. n * p) e)) ]

@@ -1,17 +1,20 @@
 -- The numbers of the tasks that are accepted and dropped are Moore's order.
-use Rattle.std.proofs.Common.{◌≡◌, ◌≢◌, ℕ, suc, ◌<◌, ◌≤◌, ◌⊎◌, inl, inr, List, [], ◌∷◌, ◌++◌, length, get_or, map, take, drop, ℤ, pos, ◌≤ℤ◌, ◌<ℤ◌, All, AllPairs, IsPermutation, sum_by, refl, sym, ap, ap₂, subst, subst₂, ◌∙◌, arith, slice_index_or}
+use Rattle.std.proofs.Common.{◌≡◌, ◌≢◌, ℕ, suc, ◌<◌, ◌≤◌, ◌⊎◌, inl, inr, List, [], ◌∷◌, ◌++◌, length, get_or, map, take, drop, ℤ, pos, ◌≤ℤ◌, ◌<ℤ◌, All, AllPairs, IsPermutation}
+use Rattle.std.proofs.Common.{sum_by, refl, sym, ap, ap₂, subst, subst₂, ◌∙◌, arith, slice_index_or}
 use Rattle.std.specs.List.{range_with_len, remove, take-map, drop-map}
 use Rattle.std.proofs.lemmas.List.{map-append, length-map, get_or-map}
 use Rattle.std.proofs.lemmas.List.Elements.{All-head, All-append, All-map}
 use Rattle.std.proofs.lemmas.List.Sorted.{IsPermutation-map, IsPermutation-trans, IsPermutation-append_right, All-permutation, length_permutation}
+use Rattle.msp_class.specs.declared.sizes.TheConstants.{GREATEST}
 use Rattle.msp_class.proofs.Sums.{OnceBelow, OnceBelow-range, OnceBelow-from_permutation, OnceBelow-distinct, length-OnceBelow, AllPairs-tail, sum_by-map, sum_by-same}
 use Rattle.msp_instance.specs.declared.Instance.{Instance}
 use Rattle.msp_instance.specs.Instance.{no_need, no_job, job_at}
 use Rattle.msp_schedule.proofs.changes.Moves.{AllPairs-map}
-use Rattle.msp_schedule.specs.Rows.{time_at}
+use Rattle.msp_schedule.specs.BackToBack.{time_at}
 use Rattle.msp_schedule.proofs.changes.Shrunk.{All-from_map}
 use Rattle.msp_single.specs.declared.moore.Task.{Task}
-use Rattle.msp_single.specs.Moore.{IsLongest, IsChoice, none, kept, overrun, IsDueBefore, IsMooreOrder}
+use Rattle.msp_route.specs.Dates.{IsDueBefore}
+use Rattle.msp_single.specs.Moore.{IsLongest, IsChoice, none, kept, overrun, IsMooreOrder}
 use Rattle.msp_schedule.proofs.lists.Parts.{All-front, All-back}
 use Rattle.msp_single.proofs.MooreChoice.{accepted_of, keeps, drops, choice-permutation}
 use Rattle.msp_single.proofs.MooreSteps.{IsTaskOf, Chooses}
@@ -38,7 +41,8 @@ module _ {X Y : Type 0} (f : X → Y) (time number : X → ℕ) (due : X → ℤ
     all = All-map (λ y. (time' y < time' (f longest)) ⊎ ((time' y ≡ time' (f longest)) × (number' (f longest) ≤ number' y))) f xs (λ k d l. one (get_or xs k d) (a k d l) (h.all k d l));
   }
     where
-      one : (x : X) → Agrees x → (time x < time longest) ⊎ ((time x ≡ time longest) × (number longest ≤ number x)) → (time' (f x) < time' (f longest)) ⊎ ((time' (f x) ≡ time' (f longest)) × (number' (f longest) ≤ number' (f x)))
+      one : (x : X) → Agrees x → (time x < time longest) ⊎ ((time x ≡ time longest) × (number longest ≤ number x))
+          → (time' (f x) < time' (f longest)) ⊎ ((time' (f x) ≡ time' (f longest)) × (number' (f longest) ≤ number' (f x)))
       one x b (inl l) = inl (omega (arith, l, b.0, own.0))
       one x b (inr e) = inr (omega (arith, e.0, b.0, own.0), omega (arith, e.1, b.1, own.1))
 
@@ -48,14 +52,16 @@ module _ {X Y : Type 0} (f : X → Y) (time number : X → ℕ) (due : X → ℤ
       let before = All-front Agrees seen (x ∷ []) a in
       let own = All-head Agrees x [] (All-back Agrees seen (x ∷ []) a) in
       let all = All-append Agrees accepted (x ∷ []) (accepted_of time number due Agrees seen accepted dropped c before) (All-back Agrees seen (x ∷ []) a) in
-      keeps time' number' due' (map f seen) (map f accepted) (map f dropped) (map f (seen ++ x ∷ [])) (map f (accepted ++ x ∷ [])) (f x) (map-append f seen (x ∷ [])) (map-append f accepted (x ∷ [])) (choice-map c before)
+      keeps time' number' due' (map f seen) (map f accepted) (map f dropped)
+      (map f (seen ++ x ∷ [])) (map f (accepted ++ x ∷ [])) (f x) (map-append f seen (x ∷ [])) (map-append f accepted (x ∷ [])) (choice-map c before)
       (subst₂ (λ n d. pos n ≤ℤ d) (sum-map (accepted ++ x ∷ []) all) own.2 l)
   choice-map (overrun {seen} {accepted} {dropped} {x} {longest} {place} c l h) a =
       let before = All-front Agrees seen (x ∷ []) a in
       let own = All-head Agrees x [] (All-back Agrees seen (x ∷ []) a) in
       let all = All-append Agrees accepted (x ∷ []) (accepted_of time number due Agrees seen accepted dropped c before) (All-back Agrees seen (x ∷ []) a) in
       let taken : Agrees longest = subst Agrees (sym h.is) (all place longest h.within) in
-      drops time' number' due' (map f seen) (map f accepted) (map f dropped) (map f (seen ++ x ∷ [])) (map f (accepted ++ x ∷ [])) (map f (remove (accepted ++ x ∷ []) place)) (map f (dropped ++ longest ∷ [])) (f x) (f longest) place
+      drops time' number' due' (map f seen) (map f accepted) (map f dropped) (map f (seen ++ x ∷ []))
+      (map f (accepted ++ x ∷ [])) (map f (remove (accepted ++ x ∷ []) place)) (map f (dropped ++ longest ∷ [])) (f x) (f longest) place
       (map-append f seen (x ∷ [])) (map-append f accepted (x ∷ [])) (remove-map f (accepted ++ x ∷ []) place) (map-append f dropped (longest ∷ [])) (choice-map c before)
       (subst₂ (λ n d. d <ℤ pos n) (sum-map (accepted ++ x ∷ []) all) own.2 l) (longest-map (accepted ++ x ∷ []) place longest all taken h)
 
@@ -76,7 +82,7 @@ module _ (i : Instance) (ts : List Task) (numbers : map (λ x. x.job) ts ≡ ran
   tasks_are : All (IsTaskOf i) sorted
   tasks_are = All-permutation (IsTaskOf i) ts sorted moved each
 
-  pub tasks_short : All (λ j. (slice_index_or j.needs 0 no_need).time ≤ 1000000000) i.jobs → All (λ t. t.time ≤ 1000000000) sorted
+  pub tasks_short : All (λ j. (slice_index_or j.needs 0 no_need).time ≤ GREATEST) i.jobs → All (λ t. t.time ≤ GREATEST) sorted
   tasks_short h k d l = omega (arith, (tasks_are k d l).0, h (get_or sorted k d).job no_job (tasks_within k d l))
 
   abbrev job : Task → ℕ
@@ -103,7 +109,8 @@ module _ (i : Instance) (ts : List Task) (numbers : map (λ x. x.job) ts ≡ ran
       ties : AllPairs GoesOrIs (map job sorted)
       ties = AllPairs-map GoesOrIs job sorted (λ a b d l k. here (get_or sorted a d) (get_or sorted b d) (tasks_are a d (omega (arith, l, k))) (tasks_are b d k) (up a b d l k))
 
-  pub moore_order_is : (accepted dropped late : List Task) (order : List ℕ) → AllPairs DueFirst sorted → Chooses sorted accepted dropped → IsPermutation dropped late → AllPairs (λ a b. a.job ≤ b.job) late → order ≡ map job (accepted ++ late) → IsMooreOrder i order
+  pub moore_order_is : (accepted dropped late : List Task) (order : List ℕ) → AllPairs DueFirst sorted → Chooses sorted accepted dropped
+      → IsPermutation dropped late → AllPairs (λ a b. a.job ≤ b.job) late → order ≡ map job (accepted ++ late) → IsMooreOrder i order
   moore_order_is accepted dropped late order up choice swapped by_number e = record {
     by_date = map job sorted;
     accepted = map job accepted;
@@ -121,7 +128,8 @@ module _ (i : Instance) (ts : List Task) (numbers : map (λ x. x.job) ts ≡ ran
       chosen = choice-map job (λ (t : Task). t.time) job (λ (t : Task). t.due) (time_at i) (λ j. j) (λ j. (job_at i j).due) choice (λ k d l. ((tasks_are k d l).0, refl, (tasks_are k d l).1))
 
       once : OnceBelow n (map job accepted ++ map job late)
-      once = OnceBelow-from_permutation (IsPermutation-trans _ _ _ all_once (IsPermutation-trans _ _ _ (choice-permutation (time_at i) (λ j. j) (λ j. (job_at i j).due) chosen) (IsPermutation-append_right (map job accepted) (map job dropped) (map job late) (IsPermutation-map job dropped late swapped))))
+      once = OnceBelow-from_permutation (IsPermutation-trans _ _ _ all_once (IsPermutation-trans _ _ _ (choice-permutation (time_at i) (λ j. j) (λ j. (job_at i j).due) chosen)
+          (IsPermutation-append_right (map job accepted) (map job dropped) (map job late) (IsPermutation-map job dropped late swapped))))
 
       distinct : AllPairs (λ x y. x ≢ y) (map job late)
       distinct = AllPairs-back (λ x y. x ≢ y) (map job accepted) (map job late) (OnceBelow-distinct once)

@@ -1,5 +1,6 @@
 -- The steps of Moore's rule at the numbers as the code passes them.
-use Rattle.std.proofs.Common.{◌≡◌, ℕ, ◌+◌, ◌<◌, ◌≤◌, true, false, ◌⊎◌, inl, inr, List, [], ◌∷◌, ◌++◌, length, get_or, take, sum_by, ℤ, pos, ◌≤ℤ◌, ◌<ℤ◌, All, refl, sym, ap, ◌∙◌, subst, arith, slice_index_or}
+use Rattle.std.proofs.Common.{◌≡◌, ℕ, ◌+◌, ◌<◌, ◌≤◌, true, false, ◌⊎◌, inl, inr, List, [], ◌∷◌, ◌++◌, length, get_or, take, sum_by, ℤ, pos, ◌≤ℤ◌, ◌<ℤ◌, All, refl, sym, ap, ◌∙◌}
+use Rattle.std.proofs.Common.{subst, arith, slice_index_or}
 use Rattle.std.specs.Prelude.{int_lt}
 use Rattle.std.specs.List.{remove}
 use Rattle.std.proofs.lemmas.Int.{ints}
@@ -17,7 +18,8 @@ use Rattle.msp_single.proofs.MooreChoice.{keeps, drops}
 abbrev pub IsTaskOf : Instance → Task → Type 0
 IsTaskOf i x = (x.time ≡ (need_at i x.job 0).time) × (x.due ≡ (job_at i x.job).due)
 
-pub each-next : (i : Instance) (new ts : List Task) (x : Task) (jobs : List Job) (k : ℕ) (j w : Job) → new ≡ ts ++ x ∷ [] → jobs ≡ i.jobs → k < length jobs → j ≡ get_or jobs k j → w ≡ get_or jobs k w →
+pub each-next : (i : Instance) (new ts : List Task) (x : Task) (jobs : List Job) (k : ℕ) (j w : Job)
+    → new ≡ ts ++ x ∷ [] → jobs ≡ i.jobs → k < length jobs → j ≡ get_or jobs k j → w ≡ get_or jobs k w →
     x.job ≡ k → x.time ≡ (slice_index_or j.needs 0 no_need).time → x.due ≡ w.due → All (IsTaskOf i) ts → All (IsTaskOf i) new
 each-next i new ts x jobs k j w e same l at at' is time due so_far =
     let P : List Task → Type 0 = All (IsTaskOf i) in
@@ -36,12 +38,15 @@ outlasts_on a b c (inl h) (inr k) = inl (omega (arith, h, k.0))
 outlasts_on a b c (inr h) (inl k) = inl (omega (arith, h.0, k))
 outlasts_on a b c (inr h) (inr k) = inr (omega (arith, h.0, k.0), omega (arith, h.1, k.1))
 
-pub longest-take : (xs : List Task) (best place : ℕ) (d : Task) → place < length xs → Outlasts (get_or xs place d) (get_or xs best d) → All (Outlasts (get_or xs best d)) (take place xs) → All (Outlasts (get_or xs place d)) (take (place + 1) xs)
+pub longest-take : (xs : List Task) (best place : ℕ) (d : Task) → place < length xs → Outlasts (get_or xs place d) (get_or xs best d)
+    → All (Outlasts (get_or xs best d)) (take place xs) → All (Outlasts (get_or xs place d)) (take (place + 1) xs)
 longest-take xs best place d l h so_far =
     subst (All (Outlasts (get_or xs place d))) (sym (take_more xs place d l))
-    (All-push (Outlasts (get_or xs place d)) (take place xs) (get_or xs place d) (λ k e m. outlasts_on (get_or xs place d) (get_or xs best d) (get_or (take place xs) k e) h (so_far k e m)) (inr (refl, omega arith)))
+    (All-push (Outlasts (get_or xs place d)) (take place xs) (get_or xs place d)
+    (λ k e m. outlasts_on (get_or xs place d) (get_or xs best d) (get_or (take place xs) k e) h (so_far k e m)) (inr (refl, omega arith)))
 
-pub longest-keep : (xs : List Task) (best place : ℕ) (d : Task) → place < length xs → Outlasts (get_or xs best d) (get_or xs place d) → All (Outlasts (get_or xs best d)) (take place xs) → All (Outlasts (get_or xs best d)) (take (place + 1) xs)
+pub longest-keep : (xs : List Task) (best place : ℕ) (d : Task) → place < length xs → Outlasts (get_or xs best d) (get_or xs place d)
+    → All (Outlasts (get_or xs best d)) (take place xs) → All (Outlasts (get_or xs best d)) (take (place + 1) xs)
 longest-keep xs best place d l h so_far = subst (All (Outlasts (get_or xs best d))) (sym (take_more xs place d l)) (All-push (Outlasts (get_or xs best d)) (take place xs) (get_or xs place d) so_far h)
 
 -- what was read with other defaults
@@ -60,12 +65,15 @@ with_last accepted all x total e sum = omega (arith, sum, ap (sum_by (λ (t : Ta
 
 pub accept-kept : (accepted dropped all : List Task) (x : Task) (total : ℕ) → all ≡ accepted ++ x ∷ [] → total ≡ sum_by (λ t. t.time) accepted → pos (total + x.time) ≤ℤ x.due
     → (seen : List Task) → Chooses seen accepted dropped → Chooses (seen ++ x ∷ []) all dropped
-accept-kept accepted dropped all x total e sum l seen c = keeps (λ t. t.time) (λ t. t.job) (λ t. t.due) seen accepted dropped (seen ++ x ∷ []) all x refl e c (subst (λ n. pos n ≤ℤ x.due) (with_last accepted all x total e sum) l)
+accept-kept accepted dropped all x total e sum l seen c =
+    keeps (λ t. t.time) (λ t. t.job) (λ t. t.due) seen accepted dropped (seen ++ x ∷ []) all x refl e c (subst (λ n. pos n ≤ℤ x.due) (with_last accepted all x total e sum) l)
 
-pub accept-overrun : (accepted dropped all accepted' dropped' : List Task) (x : Task) (total : ℕ) → all ≡ accepted ++ x ∷ [] → total ≡ sum_by (λ t. t.time) accepted → x.due <ℤ pos (total + x.time) → Drops all dropped accepted' dropped'
+pub accept-overrun : (accepted dropped all accepted' dropped' : List Task) (x : Task) (total : ℕ)
+    → all ≡ accepted ++ x ∷ [] → total ≡ sum_by (λ t. t.time) accepted → x.due <ℤ pos (total + x.time) → Drops all dropped accepted' dropped'
     → (seen : List Task) → Chooses seen accepted dropped → Chooses (seen ++ x ∷ []) accepted' dropped'
 accept-overrun accepted dropped all accepted' dropped' x total e sum l (place, longest, h, a, d) seen c =
-    drops (λ t. t.time) (λ t. t.job) (λ t. t.due) seen accepted dropped (seen ++ x ∷ []) all accepted' dropped' x longest place refl e a d c (subst (λ n. x.due <ℤ pos n) (with_last accepted all x total e sum) l) h
+    drops (λ t. t.time) (λ t. t.job) (λ t. t.due) seen accepted dropped
+    (seen ++ x ∷ []) all accepted' dropped' x longest place refl e a d c (subst (λ n. x.due <ℤ pos n) (with_last accepted all x total e sum) l) h
 
 -- a total compared with a due date
 pub overran : (a b d : ℤ) (n : ℕ) → int_lt a b ≡ true → a ≡ d → b ≡ pos n → d <ℤ pos n

@@ -1,4 +1,4 @@
--- The row of the jobs in Smith's order is best, and in the form of an answer.
+-- The jobs back to back in Smith's order are a best schedule, and in the form of an answer.
 use Rattle.std.proofs.Common.{◌≡◌, ℕ, ◌*◌, ◌≤◌, inl, inr, List, length, get_or, map, ℤ, pos, nat_abs, ◌*ℤ◌, ◌≤ℤ◌, AllPairs, sym, ap, ◌∙◌, subst, arith}
 use Rattle.msp_class.proofs.IntegerRing.{≤ℤ_of_same, ≤ℤ_trans, pos-le, *ℤ-one}
 use Rattle.msp_class.proofs.Sums.{OnceBelow, OnceBelow-from_permutation}
@@ -12,15 +12,15 @@ use Rattle.msp_schedule.specs.Feasible.{Feasible}
 use Rattle.msp_schedule.specs.Cost.{cost_of, Best}
 use Rattle.msp_schedule.specs.Settled.{IsSettled}
 use Rattle.msp_schedule.specs.Within.{Within}
-use Rattle.msp_schedule.specs.Rows.{row, seq, piece, time_at, row_schedule}
-use Rattle.msp_schedule.proofs.lists.Rows.{row-jobs, last-seq_below}
-use Rattle.msp_schedule.proofs.lists.Sequences.{SmithBefore, smith_beats_last}
+use Rattle.msp_schedule.specs.BackToBack.{back_to_back, weighted_ends, piece, time_at, schedule_in_order}
+use Rattle.msp_schedule.proofs.lists.BackToBack.{back_to_back-jobs, last-weighted_ends_below}
+use Rattle.msp_schedule.proofs.lists.WeightedEnds.{SmithBefore, smith_beats_last}
 use Rattle.msp_schedule.proofs.feasible.OneMachine.{IsPlan-from_feasible, weighted_cost}
-use Rattle.msp_schedule.proofs.feasible.OneRow.{piece_makes, ordered_without_arcs, row_is_feasible, row_is_settled, row_is_within}
+use Rattle.msp_schedule.proofs.feasible.BackToBack.{piece_makes, ordered_without_arcs, back_to_back_is_feasible, back_to_back_is_settled, back_to_back_is_within}
 use Rattle.msp_route.specs.Bounds.{IsAnswer}
 use Rattle.msp_single.specs.Smith.{smith_class, GoesBefore, IsSmithOrder}
 use Rattle.msp_route.proofs.PlainJobs.{takes_time, is_short}
-use Rattle.msp_route.proofs.RowAnswer.{timed, released, row_is_answer}
+use Rattle.msp_route.proofs.BackToBackAnswer.{timed, released, back_to_back_is_answer}
 use Rattle.msp_single.proofs.SmithFacts.{IsSmithInstance, IsSmithInstance-from_class}
 
 abbrev weight_at : Instance → ℕ → ℕ
@@ -39,10 +39,10 @@ module _ (i : Instance) (h : IsSmithInstance i) (order : List ℕ) (o : IsSmithO
   once = OnceBelow-from_permutation o.all
 
   abbrev pieces : List Piece
-  pieces = row piece (time_at i) 0 order
+  pieces = back_to_back piece (time_at i) 0 order
 
-  pub smith_is_feasible : Feasible i (row_schedule i order)
-  smith_is_feasible = row_is_feasible i order once (takes_time i h.plain) h.plain.machine (released i h.plain order once) (ordered_without_arcs i.arcs pieces h.arcs)
+  pub smith_is_feasible : Feasible i (schedule_in_order i order)
+  smith_is_feasible = back_to_back_is_feasible i order once (takes_time i h.plain) h.plain.machine (released i h.plain order once) (ordered_without_arcs i.arcs pieces h.arcs)
 
   smith_pairs : AllPairs (SmithBefore (time_at i) (weight_at i)) order
   smith_pairs a b d l k = at_most (get_or order a d) (get_or order b d) (o.sorted a b d l k)
@@ -50,14 +50,15 @@ module _ (i : Instance) (h : IsSmithInstance i) (order : List ℕ) (o : IsSmithO
       at_most : (x y : ℕ) → GoesBefore i x y → weight_at i y * time_at i x ≤ weight_at i x * time_at i y
       at_most x y g = elim g [ inl l ↦ omega (arith, l) | inr e ↦ omega (arith, e.0) ]
 
-  -- the cost of the row in ℕ
+  -- the cost of the schedule in ℕ
   abbrev least_cost : ℕ
-  least_cost = seq (time_at i) (weight_at i) 0 order
+  least_cost = weighted_ends (time_at i) (weight_at i) 0 order
 
-  smith_cost : cost_of i (row_schedule i order) ≡ pos least_cost
-  smith_cost = weighted_cost i (row_schedule i order) h.crit (timed i h.plain order once) ∙ ap pos (last-seq_below piece piece_makes (time_at i) (weight_at i) (length i.jobs) 0 order once)
+  smith_cost : cost_of i (schedule_in_order i order) ≡ pos least_cost
+  smith_cost = weighted_cost i (schedule_in_order i order) h.crit (timed i h.plain order once)
+      ∙ ap pos (last-weighted_ends_below piece piece_makes (time_at i) (weight_at i) (length i.jobs) 0 order once)
 
-  smith_beats : (t : Schedule) → Feasible i t → (cost_of i (row_schedule i order) *ℤ t.unit) ≤ℤ (cost_of i t *ℤ pos 1)
+  smith_beats : (t : Schedule) → Feasible i t → (cost_of i (schedule_in_order i order) *ℤ t.unit) ≤ℤ (cost_of i t *ℤ pos 1)
   smith_beats t f =
       let p = IsPlan-from_feasible i h.plain.machine t f in
       in_int _ _ t.unit least_cost _ (nat_abs t.unit) smith_cost (weighted_cost i t h.crit p.timed) p.unit
@@ -69,17 +70,17 @@ module _ (i : Instance) (h : IsSmithInstance i) (order : List ℕ) (o : IsSmithO
           ≤ℤ_trans (≤ℤ_of_same (ap (λ z. z *ℤ u) ex ∙ ap (λ z. pos a *ℤ z) eu ∙ ap pos same)) (≤ℤ_trans (pos-le l) (≤ℤ_of_same (sym (*ℤ-one y ∙ ey))))
 
   smith_in_order : IsSmithOrder i (map job_of pieces)
-  smith_in_order = subst (IsSmithOrder i) (sym (row-jobs piece (time_at i) piece_makes 0 order)) o
+  smith_in_order = subst (IsSmithOrder i) (sym (back_to_back-jobs piece (time_at i) piece_makes 0 order)) o
 
-  pub smith_schedule : IsSmithSchedule i (row_schedule i order)
+  pub smith_schedule : IsSmithSchedule i (schedule_in_order i order)
   smith_schedule = record {
     best = record { feasible = smith_is_feasible; least = smith_beats };
-    settled = row_is_settled i order once (takes_time i h.plain);
-    within = row_is_within i order once (takes_time i h.plain) h.plain.few (is_short i h.plain) h.plain.machine.kind;
-    answer = row_is_answer i h.plain order once;
+    settled = back_to_back_is_settled i order once (takes_time i h.plain);
+    within = back_to_back_is_within i order once (takes_time i h.plain) h.plain.few (is_short i h.plain) h.plain.machine.kind;
+    answer = back_to_back_is_answer i h.plain order once;
     order = smith_in_order;
   }
 
 -- ---- at the numbers as the code passes them
-pub IsSmithSchedule-made : (i : Instance) → i.class ≡ smith_class → Inner i → (numbers order : List ℕ) → IsSmithOrder i order → numbers ≡ order → IsSmithSchedule i (row_schedule i numbers)
-IsSmithSchedule-made i class inner numbers order o same = subst (λ js. IsSmithSchedule i (row_schedule i js)) (sym same) (smith_schedule i (IsSmithInstance-from_class i class inner) order o)
+pub IsSmithSchedule-made : (i : Instance) → i.class ≡ smith_class → Inner i → (numbers order : List ℕ) → IsSmithOrder i order → numbers ≡ order → IsSmithSchedule i (schedule_in_order i numbers)
+IsSmithSchedule-made i class inner numbers order o same = subst (λ js. IsSmithSchedule i (schedule_in_order i js)) (sym same) (smith_schedule i (IsSmithInstance-from_class i class inner) order o)

@@ -47,4 +47,5 @@ module _ {X : Type 0} (number time weight : X → ℕ) (takes_time : (x : X) →
 
   -- a first, b later: the first has the greater weight for its time, or as great a one and no greater number
   pub smith_sorted : (xs : List X) → IsSortedBy smith_less xs → AllPairs (λ a b. (weight b * time a < weight a * time b) ⊎ ((weight b * time a ≡ weight a * time b) × (number a ≤ number b))) xs
-  smith_sorted xs h i j d l k = less-no (weight (get_or xs i d) * time (get_or xs j d)) (weight (get_or xs j d) * time (get_or xs i d)) (number (get_or xs j d)) (number (get_or xs i d)) (sorted_far smith_less smith_less-order xs h i j d (omega arith) k)
+  smith_sorted xs h i j d l k = less-no (weight (get_or xs i d) * time (get_or xs j d)) (weight (get_or xs j d) * time (get_or xs i d))
+      (number (get_or xs j d)) (number (get_or xs i d)) (sorted_far smith_less smith_less-order xs h i j d (omega arith) k)

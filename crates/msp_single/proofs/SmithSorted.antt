@@ -28,13 +28,16 @@ goes_or_is i a b la lb h =
 
 AllPairs-map : {X Y : Type 0} (R : Y → Y → Type 0) (f : X → Y) (xs : List X) → AllPairs (λ a b. R (f a) (f b)) xs → AllPairs R (map f xs)
 AllPairs-map R f [] h = λ i j d a b. absurd (omega (arith, b))
-AllPairs-map R f (x ∷ xs) h = AllPairs-cons R (f x) (map f xs) (All-map (R (f x)) f xs (AllPairs-head (λ a b. R (f a) (f b)) x xs h)) (AllPairs-map R f xs (AllPairs-tail (λ a b. R (f a) (f b)) x xs h))
+AllPairs-map R f (x ∷ xs) h = AllPairs-cons R
+    (f x) (map f xs) (All-map (R (f x)) f xs (AllPairs-head (λ a b. R (f a) (f b)) x xs h)) (AllPairs-map R f xs (AllPairs-tail (λ a b. R (f a) (f b)) x xs h))
 
 strict : (i : Instance) (a b : ℕ) → a ≢ b → GoesOrIs i a b → GoesBefore i a b
 strict i a b n h = elim h [ inl l ↦ inl l | inr e ↦ inr (e.0, omega (arith, e.1, n)) ]
 
-pub smith_order_is : (i : Instance) (ls sorted : List Load) (order : List ℕ) → map (λ x. x.job) ls ≡ range_with_len 0 (length i.jobs) → All (IsLoadOf i) ls → IsPermutation ls sorted → Sorted sorted → order ≡ map (λ x. x.job) sorted → IsSmithOrder i order
-smith_order_is i ls sorted order numbers each moved up e = subst (IsSmithOrder i) (sym e) (record { all = all; sorted = λ a b d l k. strict i _ _ (OnceBelow-distinct (OnceBelow-from_permutation all) a b d l k) (ties a b d l k) })
+pub smith_order_is : (i : Instance) (ls sorted : List Load) (order : List ℕ) → map (λ x. x.job) ls ≡ range_with_len 0 (length i.jobs)
+    → All (IsLoadOf i) ls → IsPermutation ls sorted → Sorted sorted → order ≡ map (λ x. x.job) sorted → IsSmithOrder i order
+smith_order_is i ls sorted order numbers each moved up e =
+    subst (IsSmithOrder i) (sym e) (record { all = all; sorted = λ a b d l k. strict i _ _ (OnceBelow-distinct (OnceBelow-from_permutation all) a b d l k) (ties a b d l k) })
   where
     all : IsPermutation (range_with_len 0 (length i.jobs)) (map (λ x. x.job) sorted)
     all = subst (λ l. IsPermutation l (map (λ x. x.job) sorted)) numbers (IsPermutation-map (λ x. x.job) ls sorted moved)

@@ -10,7 +10,8 @@ use Rattle.msp_route.proofs.JobReads.{read_job}
 abbrev pub IsLoadOf : Instance → Load → Type 0
 IsLoadOf i x = (x.time ≡ (need_at i x.job 0).time) × (x.weight ≡ (job_at i x.job).weight)
 
-pub each-next : (i : Instance) (new ls : List Load) (x : Load) (jobs : List Job) (k : ℕ) (j w : Job) → new ≡ ls ++ x ∷ [] → jobs ≡ i.jobs → k < length jobs → j ≡ get_or jobs k j → w ≡ get_or jobs k w →
+pub each-next : (i : Instance) (new ls : List Load) (x : Load) (jobs : List Job) (k : ℕ) (j w : Job)
+    → new ≡ ls ++ x ∷ [] → jobs ≡ i.jobs → k < length jobs → j ≡ get_or jobs k j → w ≡ get_or jobs k w →
     x.job ≡ k → x.time ≡ (slice_index_or j.needs 0 no_need).time → x.weight ≡ w.weight → All (IsLoadOf i) ls → All (IsLoadOf i) new
 each-next i new ls x jobs k j w e same l at at' is time weight so_far =
     let P : List Load → Type 0 = All (IsLoadOf i) in

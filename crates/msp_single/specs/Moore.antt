@@ -8,14 +8,11 @@ use Rattle.msp_class.specs.declared.class.Times.TheVariants.{General}
 use Rattle.msp_class.specs.declared.class.Crit.TheVariants.{SumU}
 use Rattle.msp_instance.specs.declared.Instance.{Instance}
 use Rattle.msp_instance.specs.Instance.{job_at, need_at}
+use Rattle.msp_route.specs.Dates.{IsDueBefore}
 
 -- One machine, neither preemption nor precedence nor release dates, any times, and the number of late jobs: `1||sumU`.
 abbrev pub moore_class : Class
 moore_class = record { env = One; cut = false; order = Free; heads = false; times = General; crit = SumU }
-
--- Job a is due before job b, or at the same date and has the lesser number.
-abbrev pub IsDueBefore : Instance → ℕ → ℕ → Type 0
-IsDueBefore i a b = ((job_at i a).due <ℤ (job_at i b).due) ⊎ (((job_at i a).due ≡ (job_at i b).due) × (a < b))
 
 -- What stands at the place takes longest, and of what takes as long has the least number.
 pub record IsLongest {X : Type 0} (time number : X → ℕ) (xs : List X) (place : ℕ) (longest : X) : Type 0 where

@@ -29,5 +29,5 @@ DropsLongest accepted dropped kept after =
     (place : ℕ) × (longest : Task) × IsLongest (λ t. t.time) (λ t. t.job) accepted place longest × (kept ≡ remove accepted place) × (after ≡ dropped ++ longest ∷ [])
 
 -- The numbers of the tasks that are accepted, and then of those that are dropped, in order.
-abbrev pub IsRowOf : List Task → List Task → List ℕ → Type 0
-IsRowOf accepted dropped order = (late : List Task) × IsPermutation dropped late × AllPairs (λ a b. a.job ≤ b.job) late × (order ≡ map (λ t. t.job) (accepted ++ late))
+abbrev pub IsOrderOf : List Task → List Task → List ℕ → Type 0
+IsOrderOf accepted dropped order = (late : List Task) × IsPermutation dropped late × AllPairs (λ a b. a.job ≤ b.job) late × (order ≡ map (λ t. t.job) (accepted ++ late))

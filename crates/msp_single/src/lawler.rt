@@ -8,8 +8,8 @@
 //
 // Best (`proofs/LawlerBest.antt`, by the bound of `msp_schedule/proofs/bounds/Certified.antt`): of the jobs left at a place one ends last
 // in any schedule, no earlier than all of them take together, and none of them must follow it. It costs there at least what the chosen job
-// costs. So each job of the row costs no more than some job of any other schedule.
-ghost use Rattle.std.specs.Prelude.{◌≡◌, length, map, IfOk, IsPermutation, ⊤};
+// costs. So each job in that order costs no more than some job of any other schedule.
+ghost use Rattle.std.specs.Prelude.{◌≡◌, length, map, IfOk, IsPermutation};
 ghost use Rattle.std.specs.List.{range_with_len};
 ghost use Rattle.msp_instance.specs.Conditions.{Inner};
 ghost use Rattle.msp_schedule.specs.Cost.{IsBest};
@@ -68,10 +68,6 @@ pub struct Lawler;
 
 impl Solver for Lawler {
     ghost solved = { λ _. lawler_class };
-
-    ghost can_solve = { λ _ _. ⊤ };
-
-    ghost may_ask = { λ _ _. ⊤ };
 
     fn target(&self) -> Class {
         LAWLER_CLASS

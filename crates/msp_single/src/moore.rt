@@ -9,10 +9,10 @@
 // Best (`proofs/MooreChoice.antt`, `MooreBest.antt`): the jobs that are on time in any schedule are such a choice, as the machine has done
 // those due by a date when it comes. That the b shortest are compared, and not all, carries the step in which a job is dropped; that as
 // many are accepted as can be, of least time together, is the case where b is their number.
-ghost use Rattle.std.specs.Prelude.{◌≡◌, ◌+◌, ◌*◌, ◌<◌, ◌≤◌, ◌++◌, List, [], ◌∷◌, true, false, length, map, slice_index_or, sum_by, All, AllPairs, IfOk, IsPermutation, ⊤};
+ghost use Rattle.std.specs.Prelude.{◌≡◌, ◌+◌, ◌*◌, ◌<◌, ◌≤◌, ◌++◌, List, [], ◌∷◌, true, false, length, map, slice_index_or, sum_by, All, AllPairs, IfOk, IsPermutation};
 ghost use Rattle.std.specs.List.{range_with_len};
 ghost use Rattle.std.specs.Ordering.{int_cmp, nat_cmp, ordering_then};
-ghost use Rattle.msp_instance.specs.declared.ranges.TheConstants.{GREATEST, MOST_JOBS};
+ghost use Rattle.msp_class.specs.declared.sizes.TheConstants.{MOST_JOBS, GREATEST};
 ghost use Rattle.msp_instance.specs.Instance.{no_need};
 ghost use Rattle.msp_instance.specs.Conditions.{Inner};
 ghost use Rattle.msp_schedule.specs.Cost.{IsBest};
@@ -20,7 +20,7 @@ ghost use Rattle.msp_schedule.specs.Fraction.{IsLowest};
 ghost use Rattle.msp_schedule.specs.Settled.{IsSettled};
 ghost use Rattle.msp_route.specs.Bounds.{IsAnswer};
 ghost use Rattle.msp_single.specs.Moore.{moore_class, IsMooreOrder};
-ghost use Rattle.msp_single.specs.Tasks.{IsTask, IsDueFirst, Outlasts, AreChosen, DropsLongest, IsRowOf};
+ghost use Rattle.msp_single.specs.Tasks.{IsTask, IsDueFirst, Outlasts, AreChosen, DropsLongest, IsOrderOf};
 
 use msp_class::{Class, Crit, Env, NoMemory, Order, Times};
 use msp_instance::Instance;
@@ -185,7 +185,7 @@ fn numbers_of(alloc: Global, tasks: &[Task]) -> Result<Vec<u32>, NoMemory>
 
 /// The numbers of the tasks that are accepted, in their order, and of those that are dropped, sorted.
 fn in_order(alloc: Global, choice: Choice) -> Result<Vec<u32>, NoMemory>
-    ensures { IfOk result (λ o. IsRowOf choice.accepted.items choice.dropped.items o.items) }
+    ensures { IfOk result (λ o. IsOrderOf choice.accepted.items choice.dropped.items o.items) }
 {
     let Choice {
         mut accepted,
@@ -217,10 +217,6 @@ pub struct Moore;
 
 impl Solver for Moore {
     ghost solved = { λ _. moore_class };
-
-    ghost can_solve = { λ _ _. ⊤ };
-
-    ghost may_ask = { λ _ _. ⊤ };
 
     fn target(&self) -> Class {
         MOORE_CLASS

@@ -6,10 +6,10 @@
 // pieces of one machine do not overlap. So any schedule costs at least, for each pair of jobs, the weight of the one that ends later times
 // the time of the one that ends earlier. Of the two products that a pair can give, the order of the rule has the lesser one for each pair.
 // No schedule is changed by an exchange: the other schedule gives its ends and nothing else.
-ghost use Rattle.std.specs.Prelude.{◌≡◌, ◌*◌, ◌<◌, ◌≤◌, ◌⊎◌, length, map, slice_index_or, All, AllPairs, IfOk, IsPermutation, ⊤};
+ghost use Rattle.std.specs.Prelude.{◌≡◌, ◌*◌, ◌<◌, ◌≤◌, ◌⊎◌, length, map, slice_index_or, All, AllPairs, IfOk, IsPermutation};
 ghost use Rattle.std.specs.List.{range_with_len};
 ghost use Rattle.std.specs.Ordering.{nat_cmp, ordering_then};
-ghost use Rattle.msp_instance.specs.declared.ranges.TheConstants.{MOST_JOBS};
+ghost use Rattle.msp_class.specs.declared.sizes.TheConstants.{MOST_JOBS};
 ghost use Rattle.msp_instance.specs.Instance.{job_at, need_at, no_need};
 ghost use Rattle.msp_instance.specs.Conditions.{Inner};
 ghost use Rattle.msp_schedule.specs.Cost.{IsBest};
@@ -108,10 +108,6 @@ pub struct Smith;
 
 impl Solver for Smith {
     ghost solved = { λ _. smith_class };
-
-    ghost can_solve = { λ _ _. ⊤ };
-
-    ghost may_ask = { λ _ _. ⊤ };
 
     fn target(&self) -> Class {
         SMITH_CLASS

@@ -1,6 +1,7 @@
 -- What a feasible schedule of unit jobs on identical machines has: whole moments at which its jobs could begin, no more at a time than there
 -- are machines, and none of them later than the job begins.
-use Rattle.std.proofs.Common.{◌≡◌, ℕ, zero, suc, [], ◌∷◌, ◌+◌, ◌*◌, ◌/◌, ◌-◌, ◌<◌, ◌≤◌, Bool, true, false, cond, eqb, length, get_or, pos, nat_abs, ◌-ℤ◌, ◌*ℤ◌, ◌≤ℤ◌, All, Contains, refl, sym, ap, subst, subst₂, ◌∙◌, arith}
+use Rattle.std.proofs.Common.{◌≡◌, ℕ, zero, suc, [], ◌∷◌, ◌+◌, ◌*◌, ◌/◌, ◌-◌, ◌<◌, ◌≤◌, Bool, true, false, cond, eqb, length, get_or, pos, nat_abs, ◌-ℤ◌, ◌*ℤ◌, ◌≤ℤ◌, All, Contains}
+use Rattle.std.proofs.Common.{refl, sym, ap, subst, subst₂, ◌∙◌, arith}
 use Rattle.std.specs.Prelude.{◌==◌, ◌&&◌}
 use Rattle.std.proofs.lemmas.Bool.{eqb-true, eq-eqb}
 use Rattle.std.proofs.lemmas.Int.{ints}
@@ -40,7 +41,8 @@ module _ (i : Instance) (kind : kind_of i.class.env ≡ Identical) (ones : (k : 
 
   -- jobs that pass a test, by their times
   together : (test : ℕ → Bool) → time_together i test ≡ total_below (length i.jobs) (λ j. one_if (test j))
-  together test = total_below-range (length i.jobs) (λ j. cond (test j) (need_at i j 0).time 0) ∙ total_below-same (length i.jobs) _ (λ j. one_if (test j)) (λ j b. ap (λ x. cond (test j) x 0) (ones j b))
+  together test = total_below-range (length i.jobs) (λ j. cond (test j) (need_at i j 0).time 0)
+      ∙ total_below-same (length i.jobs) _ (λ j. one_if (test j)) (λ j b. ap (λ x. cond (test j) x 0) (ones j b))
 
   -- in a schedule whose pieces last one unit and begin at multiples of it
   module _ (s : Schedule) (f : Feasible i s) (unit : ℕ) (unit_is : s.unit ≡ pos unit) (pieces : All (FillsUnit unit) s.pieces) where
@@ -95,10 +97,12 @@ module _ (i : Instance) (kind : kind_of i.class.env ≡ Identical) (ones : (k : 
     released j b =
         let r = run j b in
         let head = All-contains (λ p. (s.unit *ℤ pos (job_at i p.job).release) ≤ℤ p.from) s.pieces r.piece f.release r.here in
-        le_of_mul-le-mul_left {k = unit} (le-pos (subst₂ (λ x y. x ≤ℤ y) (ap (λ u. u *ℤ pos (job_at i r.piece.job).release) unit_is ∙ ap (λ k. pos (unit * (job_at i k).release)) r.of) r.from head)) some_unit
+        le_of_mul-le-mul_left {k = unit}
+        (le-pos (subst₂ (λ x y. x ≤ℤ y) (ap (λ u. u *ℤ pos (job_at i r.piece.job).release) unit_is ∙ ap (λ k. pos (unit * (job_at i k).release)) r.of) r.from head)) some_unit
 
     few : (uncut : i.class.cut ≡ false) (x : ℕ) → begin_at (length i.jobs) begin x ≤ i.machines
-    few uncut x = le_of_mul-le-mul_left {k = unit} (by (le-pos (subst (λ z. pos (unit * begin_at (length i.jobs) begin x) ≤ℤ (pos i.machines *ℤ z)) (apart (unit * x) unit) (subst₂ (λ u n. (u *ℤ pos n) ≤ℤ (pos i.machines *ℤ (pos (unit * x + unit) -ℤ pos (unit * x)))) unit_is (together test) has)))) some_unit
+    few uncut x = le_of_mul-le-mul_left {k = unit} (by (le-pos (subst (λ z. pos (unit * begin_at (length i.jobs) begin x) ≤ℤ (pos i.machines *ℤ z))
+        (apart (unit * x) unit) (subst₂ (λ u n. (u *ℤ pos n) ≤ℤ (pos i.machines *ℤ (pos (unit * x + unit) -ℤ pos (unit * x)))) unit_is (together test) has)))) some_unit
       where
         test : ℕ → Bool
         test j = eqb (begin j) x
@@ -110,7 +114,8 @@ module _ (i : Instance) (kind : kind_of i.class.env ≡ Identical) (ones : (k : 
         by h = omega (arith, h)
 
         from : BeginsFrom (pos (unit * x)) test s
-        from k d l e = let p = get_or s.pieces k d in subst (λ z. pos (unit * x) ≤ℤ z) (sym (only uncut p (Contains-get_or s.pieces k d l))) (subst (λ y. pos (unit * x) ≤ℤ pos (unit * y)) (sym (eqb-true (begin p.job) x e)) (≤ℤ_refl (pos (unit * x))))
+        from k d l e = let p = get_or s.pieces k d in subst (λ z. pos (unit * x) ≤ℤ z) (sym (only uncut p (Contains-get_or s.pieces k d l)))
+            (subst (λ y. pos (unit * x) ≤ℤ pos (unit * y)) (sym (eqb-true (begin p.job) x e)) (≤ℤ_refl (pos (unit * x))))
 
         to : (j : ℕ) → j < length i.jobs → test j ≡ true → end_of s j ≤ℤ pos (unit * x + unit)
         to j b e = subst (λ z. z ≤ℤ pos (unit * x + unit)) (sym ((run j b).end ∙ ap (λ y. pos (unit * y + unit)) (eqb-true (begin j) x e))) (≤ℤ_refl (pos (unit * x + unit)))
@@ -125,7 +130,8 @@ module _ (i : Instance) (kind : kind_of i.class.env ≡ Identical) (ones : (k : 
     }
 
 -- every feasible schedule has such moments
-pub begins_of : (i : Instance) (s : Schedule) → kind_of i.class.env ≡ Identical → i.class.cut ≡ false → ((k : ℕ) → k < length i.jobs → (need_at i k 0).time ≡ 1) → Feasible i s → (begin : ℕ → ℕ) × HasBegins i s begin
+pub begins_of : (i : Instance) (s : Schedule) → kind_of i.class.env ≡ Identical
+    → i.class.cut ≡ false → ((k : ℕ) → k < length i.jobs → (need_at i k 0).time ≡ 1) → Feasible i s → (begin : ℕ → ℕ) × HasBegins i s begin
 begins_of i s kind uncut ones f =
     let (g, no_later) = law_of_floors i s kind uncut ones f in
     let unit_is : s.unit ≡ pos (nat_abs s.unit) = natural s.unit (omega (arith, ints, f.unit)) in

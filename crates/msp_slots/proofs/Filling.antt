@@ -47,7 +47,8 @@ module _ (m : ℕ) (heads : List ℕ) (k moment taken : ℕ) (slots : List Slot)
 
   -- how many slots begin at a moment now
   counts : (x : ℕ) → begin_at (k + 1) (start_in new) x ≡ begin_at k (start_in slots) x + one_if (eqb slot.start x)
-  counts x = begin_at-next k (start_in new) x ∙ ap (λ n. n + one_if (eqb (start_in new k) x)) (begin_at-same k (start_in new) (start_in slots) x kept_start) ∙ ap (λ s. begin_at k (start_in slots) x + one_if (eqb s x)) here_start
+  counts x = begin_at-next k (start_in new) x ∙ ap (λ n. n + one_if (eqb (start_in new k) x)) (begin_at-same k (start_in new) (start_in slots) x kept_start)
+      ∙ ap (λ s. begin_at k (start_in slots) x + one_if (eqb s x)) here_start
 
   grown : (x : ℕ) → begin_at k (start_in slots) x ≤ begin_at (k + 1) (start_in new) x
   grown x = omega (arith, counts x)
@@ -128,8 +129,10 @@ module _ (m : ℕ) (heads : List ℕ) (k moment taken : ℕ) (slots : List Slot)
     ];
     machine = λ j l. elim (last_or j k l) [
       | inl less ↦
-          ap (λ s. s.machine) (kept j less) ∙ h.machine j less ∙ sym (ap (begin_at j (start_in new)) (kept_start j less) ∙ begin_at-same j (start_in new) (start_in slots) (start_in slots j) (λ i b. kept_start i (omega (arith, b, less))))
-      | inr e ↦ subst (λ n. machine_in new n ≡ begin_at n (start_in new) (start_in new n)) (sym e) (ap (λ s. s.machine) here ∙ sym (ap (begin_at k (start_in new)) here_start ∙ begin_at-same k (start_in new) (start_in slots) slot.start kept_start ∙ placed.order))
+          ap (λ s. s.machine) (kept j less) ∙ h.machine j less
+          ∙ sym (ap (begin_at j (start_in new)) (kept_start j less) ∙ begin_at-same j (start_in new) (start_in slots) (start_in slots j) (λ i b. kept_start i (omega (arith, b, less))))
+      | inr e ↦ subst (λ n. machine_in new n ≡ begin_at n (start_in new) (start_in new n)) (sym e)
+          (ap (λ s. s.machine) here ∙ sym (ap (begin_at k (start_in new)) here_start ∙ begin_at-same k (start_in new) (start_in slots) slot.start kept_start ∙ placed.order))
     ];
     early = λ j l. elim (last_or j k l) [
       | inl less ↦ omega (arith, kept_start j less, h.early j less, placed.later)
@@ -157,7 +160,8 @@ AreFilled-none m heads = record {
 pub filled_next : (m : ℕ) (heads : List ℕ) (k moment taken : ℕ) (slots new : List Slot) (slot : Slot) → 1 ≤ m → k < length heads → All (λ r. r ≤ 2000000000) heads → IsNonDecreasing heads
     → AreFilled m heads k moment taken slots → IsNextSlot moment taken m (head_in heads k) slot → new ≡ slots ++ slot ∷ [] → AreFilled m heads (k + 1) slot.start (slot.machine + 1) new
 filled_next m heads k moment taken slots new slot some inside low rising h next e =
-    subst (AreFilled m heads (k + 1) slot.start (slot.machine + 1)) (sym e) (AreFilled-next m heads k moment taken slots some (low k 0 inside) (λ j l. rising j k 0 (omega (arith, l)) inside) h slot next)
+    subst (AreFilled m heads (k + 1) slot.start (slot.machine + 1))
+    (sym e) (AreFilled-next m heads k moment taken slots some (low k 0 inside) (λ j l. rising j k 0 (omega (arith, l)) inside) h slot next)
 
 pub filled_all : (m : ℕ) (heads : List ℕ) (k moment taken : ℕ) (slots : List Slot) → length heads ≤ k → k ≤ length heads → AreFilled m heads k moment taken slots → AreSlots m heads slots
 filled_all m heads k moment taken slots a b h = whole (subst (λ n. AreFilled m heads n moment taken slots) (omega (arith, a, b)) h)

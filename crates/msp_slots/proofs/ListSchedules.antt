@@ -4,6 +4,7 @@ use Rattle.std.proofs.lemmas.Bool.{cases_lt}
 use Rattle.std.proofs.lemmas.List.Elements.{All-map, All-contains}
 use Rattle.std.proofs.lemmas.Nat.Gcd.{dvd_antisymm}
 use Rattle.std.proofs.Math.Nat.{one-dvd}
+use Rattle.msp_class.specs.declared.sizes.TheConstants.{MOST_JOBS}
 use Rattle.msp_class.proofs.IntegerRing.{pos-lt}
 use Rattle.msp_class.proofs.Sums.{OnceBelow-from_permutation, OnceBelow-contains}
 use Rattle.msp_instance.specs.declared.Instance.{Instance}
@@ -48,9 +49,10 @@ module _ (i : Instance) (order : List ℕ) (t : IsOrdered i) (begin machine : �
 -- ---- the pieces
 module _ (i : Instance) (order : List ℕ) (pieces : List Piece) (h : IsListSchedule i order pieces) where
   pub begins_soon : (j : ℕ) → j < length i.jobs → h.begin j < length i.jobs
-  begins_soon j l = All-contains (λ j. h.begin j < length i.jobs) (map (λ p. p.job) pieces) j (All-map (λ j. h.begin j < length i.jobs) (λ p. p.job) pieces h.soon) (OnceBelow-contains (OnceBelow-from_permutation h.all) j l)
+  begins_soon j l = All-contains (λ j. h.begin j < length i.jobs) (map (λ p. p.job) pieces)
+      j (All-map (λ j. h.begin j < length i.jobs) (λ p. p.job) pieces h.soon) (OnceBelow-contains (OnceBelow-from_permutation h.all) j l)
 
-  pub unit_pieces : length i.jobs ≤ 400 → ((j : ℕ) → j < length i.jobs → (job_at i j).release ≡ 0) → AreUnitPieces i h.begin h.machine pieces
+  pub unit_pieces : length i.jobs ≤ MOST_JOBS → ((j : ℕ) → j < length i.jobs → (job_at i j).release ≡ 0) → AreUnitPieces i h.begin h.machine pieces
   unit_pieces few released = record {
     jobs = OnceBelow-from_permutation h.all;
     each = h.each;
@@ -67,7 +69,8 @@ module _ (i : Instance) (order : List ℕ) (pieces : List Piece) (h : IsListSche
     order = λ a b d l k. by (get_or pieces a d) (get_or pieces b d) (h.each a d (omega (arith, l, k))) (h.each b d k) (h.sorted a b d l k);
   }
     where
-      by : (p q : Piece) → p ≡ piece_at (h.begin p.job) (h.machine p.job) p.job → q ≡ piece_at (h.begin q.job) (h.machine q.job) q.job → (h.begin p.job < h.begin q.job) ⊎ ((h.begin p.job ≡ h.begin q.job) × (h.machine p.job < h.machine q.job))
+      by : (p q : Piece) → p ≡ piece_at (h.begin p.job) (h.machine p.job) p.job → q ≡ piece_at (h.begin q.job) (h.machine q.job) q.job
+          → (h.begin p.job < h.begin q.job) ⊎ ((h.begin p.job ≡ h.begin q.job) × (h.machine p.job < h.machine q.job))
           → (p.from <ℤ q.from) ⊎ ((p.from ≡ q.from) × (p.machine ≤ q.machine))
       by p q e f (inl less) = inl (subst₂ (λ x y. x <ℤ y) (sym (ap (λ p. p.from) e)) (sym (ap (λ p. p.from) f)) (pos-lt less))
       by p q e f (inr same) = inr (ap (λ p. p.from) e ∙ ap pos same.0 ∙ sym (ap (λ p. p.from) f), omega (arith, ap (λ p. p.machine) e, ap (λ p. p.machine) f, same.1))

@@ -1,5 +1,6 @@
 -- The law of places. A job's whole number is how many common times are over when it begins; its place is how many lesser numbers are in use.
-use Rattle.std.proofs.Common.{◌≡◌, ◌≢◌, ℕ, zero, suc, ◌+◌, ◌*◌, ◌/◌, ◌<◌, ◌≤◌, ◌⊎◌, inl, inr, Bool, true, false, cond, eqb, ltb, List, [], ◌∷◌, length, get_or, map, filter, fold, pos, nat_abs, ◌-ℤ◌, ◌*ℤ◌, ◌≤ℤ◌, ◌<ℤ◌, ℤ, All, AllPairs, Contains, refl, sym, ap, ap₂, subst, subst₂, ◌∙◌, arith}
+use Rattle.std.proofs.Common.{◌≡◌, ◌≢◌, ℕ, zero, suc, ◌+◌, ◌*◌, ◌/◌, ◌<◌, ◌≤◌, ◌⊎◌, inl, inr, Bool, true, false, cond, eqb, ltb, List, [], ◌∷◌, length, get_or, map, filter, fold}
+use Rattle.std.proofs.Common.{pos, nat_abs, ◌-ℤ◌, ◌*ℤ◌, ◌≤ℤ◌, ◌<ℤ◌, ℤ, All, AllPairs, Contains, refl, sym, ap, ap₂, subst, subst₂, ◌∙◌, arith}
 use Rattle.std.specs.Prelude.{◌==◌, ◌&&◌, MatchBool}
 use Rattle.std.specs.Int.{int_max}
 use Rattle.std.proofs.lemmas.Bool.{cases_lt, eqb-true, eq-eqb}
@@ -14,7 +15,8 @@ use Rattle.msp_class.specs.declared.environments.EnvKind.{EnvKind}
 use Rattle.msp_class.specs.declared.environments.EnvKind.TheVariants.{Identical, Unrelated}
 use Rattle.msp_class.specs.Env.{kind_of}
 use Rattle.msp_class.specs.Sums.{total_below}
-use Rattle.msp_class.proofs.Sums.{total_below-mono, total_below-same, total_below-none, total_below-term, total_below-bound, total_below-exchange, total_below-constant, total_below-only, cond-le, eqb_comm, Contains-from_filter}
+use Rattle.msp_class.proofs.Sums.{total_below-mono, total_below-same, total_below-none, total_below-term, total_below-bound, total_below-exchange, total_below-constant}
+use Rattle.msp_class.proofs.Sums.{total_below-only, cond-le, eqb_comm, Contains-from_filter}
 use Rattle.msp_class.proofs.IntegerRing.{natural, pos-le, le-pos, pos-same, zero-le-pos, ≤ℤ_trans, int_max-right}
 use Rattle.msp_instance.specs.declared.Job.{Job}
 use Rattle.msp_instance.specs.declared.Need.{Need}
@@ -108,7 +110,8 @@ none_passes k test h = total_below-none k (λ j. one_if (test j)) (λ j l. no (t
     no false f = refl
     no true f = absurd (f refl)
 
-one_more : (n : ℕ) (test : ℕ → Bool) → ((a b : ℕ) → a < suc n → b < suc n → test a ≡ true → test b ≡ true → a ≡ b) → total_below n (λ j. one_if (test j)) ≤ 1 → (t : Bool) → test n ≡ t → total_below (suc n) (λ j. one_if (test j)) ≤ 1
+one_more : (n : ℕ) (test : ℕ → Bool) → ((a b : ℕ) → a < suc n → b < suc n → test a ≡ true → test b ≡ true → a ≡ b)
+    → total_below n (λ j. one_if (test j)) ≤ 1 → (t : Bool) → test n ≡ t → total_below (suc n) (λ j. one_if (test j)) ≤ 1
 one_more n test h so_far false e = omega (arith, so_far, ap one_if e)
 one_more n test h so_far true e = omega (arith, ap one_if e, none_passes n test (λ j l yes. absurd (omega (arith, h j n (omega (arith, l)) (omega arith) yes e, l))))
 
@@ -165,7 +168,8 @@ pair_of R ps p q h (a, k, e) (b, l, f) ne = elim (cases_lt a b) [
   | inl less ↦ inl (subst₂ R (get_or_default ps a no_piece p k ∙ e) (get_or_default ps b no_piece q l ∙ f) (h a b no_piece less l))
   | inr more ↦ elim (cases_lt b a) [
     | inl less ↦ inr (subst₂ R (get_or_default ps b no_piece q l ∙ f) (get_or_default ps a no_piece p k ∙ e) (h b a no_piece less k))
-    | inr last ↦ let s : a ≡ b = omega (arith, more, last) in absurd (ne (ap (λ x. x.job) (sym (get_or_default ps a no_piece p k ∙ e) ∙ ap (λ x. get_or ps x no_piece) s ∙ get_or_default ps b no_piece q l ∙ f)))
+    | inr last ↦ let s : a ≡ b = omega (arith, more, last) in
+        absurd (ne (ap (λ x. x.job) (sym (get_or_default ps a no_piece p k ∙ e) ∙ ap (λ x. get_or ps x no_piece) s ∙ get_or_default ps b no_piece q l ∙ f)))
   ]
 ]
 
@@ -185,27 +189,33 @@ machine_inside : (k : EnvKind) (i : Instance) (j o m : ℕ) → IsEither k → M
 machine_inside k i j o m (inl e) h = subst (λ k. MayRun k i j o m) e h
 machine_inside k i j o m (inr e) h = subst (λ k. MayRun k i j o m) e h
 
-whole_length : (k : EnvKind) (i : Instance) (unit : ℤ) (time : ℕ) (p : Piece) → IsEither k → p.op ≡ 0 → p.machine < i.machines → HasShape k i.class.env i.machines (job_at i p.job).needs → All (λ n. n.time ≡ time) (job_at i p.job).needs
+whole_length : (k : EnvKind) (i : Instance) (unit : ℤ) (time : ℕ) (p : Piece) → IsEither k
+    → p.op ≡ 0 → p.machine < i.machines → HasShape k i.class.env i.machines (job_at i p.job).needs → All (λ n. n.time ≡ time) (job_at i p.job).needs
     → IsWholeWork k i unit p → length_of p ≡ unit *ℤ pos time
 whole_length k i unit time p (inl e) op inside shape times w =
-    subst (λ k. IsWholeWork k i unit p) e w ∙ ap (λ t. unit *ℤ pos t) (ap (λ o. (need_at i p.job o).time) op ∙ times 0 no_need (one (length (job_at i p.job).needs) (subst (λ k. HasShape k i.class.env i.machines (job_at i p.job).needs) e shape).0))
+    subst (λ k. IsWholeWork k i unit p) e w ∙ ap (λ t. unit *ℤ pos t)
+    (ap (λ o. (need_at i p.job o).time) op ∙ times 0 no_need (one (length (job_at i p.job).needs) (subst (λ k. HasShape k i.class.env i.machines (job_at i p.job).needs) e shape).0))
   where
     one : (n : ℕ) → n ≡ 1 → 0 < n
     one n e = omega (arith, e)
 whole_length k i unit time p (inr e) op inside shape times w =
-    subst (λ k. IsWholeWork k i unit p) e w ∙ ap (λ t. unit *ℤ pos t) (times p.machine no_need (fits (length (job_at i p.job).needs) (subst (λ k. HasShape k i.class.env i.machines (job_at i p.job).needs) e shape).0))
+    subst (λ k. IsWholeWork k i unit p) e w
+    ∙ ap (λ t. unit *ℤ pos t) (times p.machine no_need (fits (length (job_at i p.job).needs) (subst (λ k. HasShape k i.class.env i.machines (job_at i p.job).needs) e shape).0))
   where
     fits : (n : ℕ) → n ≡ i.machines → p.machine < n
     fits n e = omega (arith, e, inside)
 
-pub least_one : (k : EnvKind) (i : Instance) (t : Times) (g : ℕ) (needs : List Need) → IsEither k → 1 ≤ i.machines → HasShape k i.class.env i.machines needs → HasTimes (least_time k t) g needs → 1 ≤ (get_or needs 0 no_need).time
+pub least_one : (k : EnvKind) (i : Instance) (t : Times) (g : ℕ) (needs : List Need)
+    → IsEither k → 1 ≤ i.machines → HasShape k i.class.env i.machines needs → HasTimes (least_time k t) g needs → 1 ≤ (get_or needs 0 no_need).time
 least_one k i t g needs (inl e) some shape times =
-    subst (λ k. HasTimes (least_time k t) g needs → 1 ≤ (get_or needs 0 no_need).time) (sym e) (λ h. (h 0 no_need (one (length needs) (subst (λ k. HasShape k i.class.env i.machines needs) e shape).0)).0) times
+    subst (λ k. HasTimes (least_time k t) g needs → 1 ≤ (get_or needs 0 no_need).time)
+    (sym e) (λ h. (h 0 no_need (one (length needs) (subst (λ k. HasShape k i.class.env i.machines needs) e shape).0)).0) times
   where
     one : (n : ℕ) → n ≡ 1 → 0 < n
     one n e = omega (arith, e)
 least_one k i t g needs (inr e) some shape times =
-    subst (λ k. HasTimes (least_time k t) g needs → 1 ≤ (get_or needs 0 no_need).time) (sym e) (λ h. (h 0 no_need (fits (length needs) (subst (λ k. HasShape k i.class.env i.machines needs) e shape).0)).0) times
+    subst (λ k. HasTimes (least_time k t) g needs → 1 ≤ (get_or needs 0 no_need).time)
+    (sym e) (λ h. (h 0 no_need (fits (length needs) (subst (λ k. HasShape k i.class.env i.machines needs) e shape).0)).0) times
   where
     fits : (n : ℕ) → n ≡ i.machines → 0 < n
     fits n e = omega (arith, e, some)
@@ -261,12 +271,14 @@ module _ (l : Limits) (i : Instance) (s : Schedule) (kind : IsEither (kind_of i.
 
   is_mine : (j : ℕ) → j < n → IsMine j
   is_mine j b =
-      let (p, e, w) = when_false _ ((p : Piece) × (pieces_of s j 0 ≡ p ∷ []) × IsWholeWork (kind_of i.class.env) i s.unit p) i.class.cut uncut (f.work j 0 b (has_first (kind_of i.class.env) i j kind)) in
+      let (p, e, w) = when_false _ ((p : Piece) × (pieces_of s j 0 ≡ p ∷ []) × IsWholeWork (kind_of i.class.env) i s.unit p)
+      i.class.cut uncut (f.work j 0 b (has_first (kind_of i.class.env) i j kind)) in
       let first : mine j ≡ p = ap (λ ps. get_or ps 0 no_piece) e in
       record { only = e ∙ ap (λ q. q ∷ []) (sym first); whole = subst (IsWholeWork (kind_of i.class.env) i s.unit) (sym first) w }
 
   here : (j : ℕ) → j < n → Contains s.pieces (mine j) × (((mine j).job == j) && ((mine j).op == 0)) ≡ true
-  here j b = let in_mine : Contains (pieces_of s j 0) (mine j) = subst (λ ps. Contains ps (mine j)) (sym (is_mine j b).only) (0, omega arith, refl) in Contains-from_filter (λ p. (p.job == j) && (p.op == 0)) s.pieces (mine j) in_mine
+  here j b = let in_mine : Contains (pieces_of s j 0) (mine j) = subst (λ ps. Contains ps (mine j)) (sym (is_mine j b).only) (0, omega arith, refl) in
+      Contains-from_filter (λ p. (p.job == j) && (p.op == 0)) s.pieces (mine j) in_mine
 
   of_job : (j : ℕ) → j < n → (mine j).job ≡ j
   of_job j b = eqb-true (mine j).job j (both_true ((mine j).job == j) ((mine j).op == 0) (here j b).1).0
@@ -297,7 +309,8 @@ module _ (l : Limits) (i : Instance) (s : Schedule) (kind : IsEither (kind_of i.
   to_is j b =
       let shape = (All-job c.jobs (mine j).job (placed j b).job).needs.shape in
       ends_at (mine j).from (mine j).to s.unit (begin j) unit (common_time i) (from_is j b) unit_is
-      (whole_length (kind_of i.class.env) i s.unit (common_time i) (mine j) kind (All-contains (λ p. p.op ≡ 0) s.pieces (mine j) operations (here j b).0) (inside j b) shape (times (mine j).job (placed j b).job) (is_mine j b).whole)
+      (whole_length (kind_of i.class.env) i s.unit (common_time i) (mine j) kind
+      (All-contains (λ p. p.op ≡ 0) s.pieces (mine j) operations (here j b).0) (inside j b) shape (times (mine j).job (placed j b).job) (is_mine j b).whole)
     where
       All-job : All (IsJobOf l i) i.jobs → (k : ℕ) → k < n → IsJobOf l i (job_at i k)
       All-job h k b = h k no_job b
@@ -339,11 +352,13 @@ module _ (l : Limits) (i : Instance) (s : Schedule) (kind : IsEither (kind_of i.
     early = λ j b. place_early n number j b;
   }
     where
-      forward : (a : Arc) → (a.before < n) × (a.after < n) → All (λ p. All (λ q. p.job ≡ a.before → q.job ≡ a.after → IsBefore p q) s.pieces) s.pieces → place_of n number a.before < place_of n number a.after
+      forward : (a : Arc) → (a.before < n) × (a.after < n)
+          → All (λ p. All (λ q. p.job ≡ a.before → q.job ≡ a.after → IsBefore p q) s.pieces) s.pieces → place_of n number a.before < place_of n number a.after
       forward a (k, m) h =
           place_rises n number a.before a.after k (before a.before a.after k m
           (All-contains (λ q. (mine a.before).job ≡ a.before → q.job ≡ a.after → IsBefore (mine a.before) q) s.pieces (mine a.after)
-          (All-contains (λ p. All (λ q. p.job ≡ a.before → q.job ≡ a.after → IsBefore p q) s.pieces) s.pieces (mine a.before) h (here a.before k).0) (here a.after m).0 (of_job a.before k) (of_job a.after m)))
+          (All-contains (λ p. All (λ q. p.job ≡ a.before → q.job ≡ a.after → IsBefore p q) s.pieces) s.pieces (mine a.before) h (here a.before k).0)
+          (here a.after m).0 (of_job a.before k) (of_job a.after m)))
 
   ends : EndAfterPlaces i s (place_of n number)
   ends j b =

@@ -1,5 +1,6 @@
 -- One slot more: what the pieces and the jobs that are left keep.
-use Rattle.std.proofs.Common.{◌≡◌, ◌≢◌, ℕ, zero, suc, ◌+◌, ◌<◌, ◌≤◌, ◌⊎◌, inl, inr, Bool, true, false, cond, List, [], ◌∷◌, ◌++◌, length, get_or, map, All, AllPairs, Contains, IsPermutation, refl, sym, ap, ap₂, subst, subst₂, ◌∙◌, arith, append_assoc}
+use Rattle.std.proofs.Common.{◌≡◌, ◌≢◌, ℕ, zero, suc, ◌+◌, ◌<◌, ◌≤◌, ◌⊎◌, inl, inr, Bool, true, false, cond, List, [], ◌∷◌, ◌++◌, length, get_or, map, All, AllPairs, Contains}
+use Rattle.std.proofs.Common.{IsPermutation, refl, sym, ap, ap₂, subst, subst₂, ◌∙◌, arith, append_assoc}
 use Rattle.std.specs.Prelude.{◌==◌, ◌&&◌}
 use Rattle.std.specs.List.{list_any, range_with_len}
 use Rattle.std.proofs.lemmas.Bool.{cases_Bool, cases_lt, eqb-true, eq-eqb, false≢true}
@@ -8,6 +9,7 @@ use Rattle.std.proofs.lemmas.List.Elements.{All-head, All-tail, All-append, All-
 use Rattle.std.proofs.lemmas.List.Folds.{Any-from_list_any, list_any_at}
 use Rattle.std.proofs.lemmas.List.Kept.{AllPairs-cons}
 use Rattle.std.proofs.lemmas.List.Sorted.{All-permutation, Contains-permutation, length_permutation, IsPermutation-sym, IsPermutation-trans, IsPermutation-append_right}
+use Rattle.msp_class.specs.declared.sizes.TheConstants.{MOST_JOBS}
 use Rattle.msp_class.proofs.Sums.{AllPairs-head, AllPairs-tail, OnceBelow-from_permutation, OnceBelow-distinct, OnceBelow-contains, length-OnceBelow}
 use Rattle.msp_instance.specs.declared.Arc.{Arc}
 use Rattle.msp_instance.specs.declared.Instance.{Instance}
@@ -29,7 +31,8 @@ stands-in R xs a b h (p, q, less, inside, e, f) = subst₂ R e f (h p q 0 less i
 
 AllPairs-append : {X : Type 0} (R : X → X → Type 0) (xs ys : List X) → AllPairs R xs → AllPairs R ys → All (λ x. All (R x) ys) xs → AllPairs R (xs ++ ys)
 AllPairs-append R [] ys h g c = g
-AllPairs-append R (x ∷ xs) ys h g c = AllPairs-cons R x (xs ++ ys) (All-append (R x) xs ys (AllPairs-head R x xs h) (All-head (λ x. All (R x) ys) x xs c)) (AllPairs-append R xs ys (AllPairs-tail R x xs h) g (All-tail (λ x. All (R x) ys) x xs c))
+AllPairs-append R (x ∷ xs) ys h g c = AllPairs-cons R x (xs ++ ys) (All-append (R x) xs ys (AllPairs-head R x xs h) (All-head (λ x. All (R x) ys) x xs c))
+    (AllPairs-append R xs ys (AllPairs-tail R x xs h) g (All-tail (λ x. All (R x) ys) x xs c))
 
 -- ---- the pieces of a slot, by places
 length-seats : (moment machine : ℕ) (js : List ℕ) → length (seats moment machine js) ≡ length js
@@ -67,7 +70,8 @@ open_arc arcs left a (k, l, e) b = list_any_at leads arcs k a l (ap leads e ∙ 
     here : leads a ≡ true
     here = ap (λ b. b && list_any (λ y. y == a.before) left) (eq-eqb a.after a.after refl) ∙ list_any-from_Contains left a.before b
 
-module _ (i : Instance) (order : List ℕ) (t : IsOrdered i) (moment : ℕ) (pieces : List Piece) (left taken rest : List ℕ) (u : IsUnderWay i order moment pieces left) (s : IsSlot left (is_blocked i.arcs left) i.machines taken rest) where
+module _ (i : Instance) (order : List ℕ) (t : IsOrdered i) (moment : ℕ) (pieces : List Piece)
+    (left taken rest : List ℕ) (u : IsUnderWay i order moment pieces left) (s : IsSlot left (is_blocked i.arcs left) i.machines taken rest) where
   abbrev n : ℕ
   n = length i.jobs
 
@@ -78,10 +82,12 @@ module _ (i : Instance) (order : List ℕ) (t : IsOrdered i) (moment : ℕ) (pie
   made_now = seats moment 0 taken
 
   apart_now : AllPairs (λ x y. x ≢ y) (taken ++ rest)
-  apart_now = AllPairs-back (λ x y. x ≢ y) placed (taken ++ rest) (OnceBelow-distinct (OnceBelow-from_permutation (IsPermutation-trans _ _ _ u.all (IsPermutation-append_right placed left (taken ++ rest) s.all))))
+  apart_now = AllPairs-back (λ x y. x ≢ y) placed (taken ++ rest)
+      (OnceBelow-distinct (OnceBelow-from_permutation (IsPermutation-trans _ _ _ u.all (IsPermutation-append_right placed left (taken ++ rest) s.all))))
 
   not_both : (j : ℕ) → Contains taken j → Contains rest j → ⊥
-  not_both j (k, l, e) (m, b, f) = apart_now k (length taken + m) j (omega (arith, l)) (omega (arith, b, length-append taken rest)) (get_or_append_left taken rest j k l ∙ e ∙ sym (get_or-append-add taken rest m j ∙ f))
+  not_both j (k, l, e) (m, b, f) = apart_now k (length taken + m)
+      j (omega (arith, l)) (omega (arith, b, length-append taken rest)) (get_or_append_left taken rest j k l ∙ e ∙ sym (get_or-append-add taken rest m j ∙ f))
 
   taken_left : (j : ℕ) → Contains taken j → Contains left j
   taken_left j c = Contains-permutation (taken ++ rest) left j (IsPermutation-sym left (taken ++ rest) s.all) (Contains-append_left taken rest j c)
@@ -205,7 +211,8 @@ module _ (i : Instance) (order : List ℕ) (t : IsOrdered i) (moment : ℕ) (pie
       same = sym (append_assoc placed taken rest) ∙ ap (λ l. (placed ++ l) ++ rest) (sym (jobs-seats moment 0 taken)) ∙ ap (λ l. l ++ rest) (sym (map-append (λ p. p.job) pieces made_now))
 
   new_at : (P : Piece → Type 0) → ((k : ℕ) → k < length taken → P (piece_at moment k (get_or taken k 0))) → All P made_now
-  new_at P h k d l = let b : k < length taken = omega (arith, l, length-seats moment 0 taken) in subst P (ap (λ m. piece_at moment m (get_or taken k 0)) (zero_more k) ∙ sym (seats-at moment 0 taken k d 0 b)) (h k b)
+  new_at P h k d l = let b : k < length taken = omega (arith, l, length-seats moment 0 taken) in
+      subst P (ap (λ m. piece_at moment m (get_or taken k 0)) (zero_more k) ∙ sym (seats-at moment 0 taken k d 0 b)) (h k b)
     where
       zero_more : (k : ℕ) → k ≡ 0 + k
       zero_more k = omega arith
@@ -216,7 +223,8 @@ module _ (i : Instance) (order : List ℕ) (t : IsOrdered i) (moment : ℕ) (pie
   each : All (λ p. p ≡ piece_at (begin p.job) (machine p.job) p.job) (pieces ++ made_now)
   each = All-append (λ p. p ≡ piece_at (begin p.job) (machine p.job) p.job) pieces made_now
       (λ k d l. let p = get_or pieces k d in u.each k d l ∙ ap₂ (λ b m. piece_at b m p.job) (sym (begin-early p.job (u.early k d l))) (sym (machine-early p.job (u.early k d l))))
-      (new_at (λ p. p ≡ piece_at (begin p.job) (machine p.job) p.job) (λ k l. ap₂ (λ b m. piece_at b m (get_or taken k 0)) (sym (begin-taken (get_or taken k 0) (taken_at k l))) (sym (machine-taken k l))))
+      (new_at (λ p. p ≡ piece_at (begin p.job) (machine p.job) p.job)
+      (λ k l. ap₂ (λ b m. piece_at b m (get_or taken k 0)) (sym (begin-taken (get_or taken k 0) (taken_at k l))) (sym (machine-taken k l))))
 
   early : All (λ p. begin p.job < moment + 1) (pieces ++ made_now)
   early = All-append (λ p. begin p.job < moment + 1) pieces made_now
@@ -232,7 +240,8 @@ module _ (i : Instance) (order : List ℕ) (t : IsOrdered i) (moment : ℕ) (pie
   First p q = (begin p.job < begin q.job) ⊎ ((begin p.job ≡ begin q.job) × (machine p.job < machine q.job))
 
   sorted : AllPairs First (pieces ++ made_now)
-  sorted = AllPairs-append First pieces made_now old among (λ k d l. new_at (First (get_or pieces k d)) (λ m b. inl (omega (arith, begin-early (get_or pieces k d).job (u.early k d l), u.early k d l, begin-taken (get_or taken m 0) (taken_at m b)))))
+  sorted = AllPairs-append First pieces made_now old among
+      (λ k d l. new_at (First (get_or pieces k d)) (λ m b. inl (omega (arith, begin-early (get_or pieces k d).job (u.early k d l), u.early k d l, begin-taken (get_or taken m 0) (taken_at m b)))))
     where
       old : AllPairs First pieces
       old a b d l k = by (get_or pieces a d) (get_or pieces b d) (u.early a d (omega (arith, l, k))) (u.early b d k) (u.sorted a b d l k)
@@ -247,7 +256,8 @@ module _ (i : Instance) (order : List ℕ) (t : IsOrdered i) (moment : ℕ) (pie
       among a b d h l =
           let kb : b < length taken = omega (arith, l, length-seats moment 0 taken) in
           let ka : a < length taken = omega (arith, kb, h) in
-          subst₂ First (sym (seats-at moment 0 taken a d 0 ka)) (sym (seats-at moment 0 taken b d 0 kb)) (inr (begin-taken (get_or taken a 0) (taken_at a ka) ∙ sym (begin-taken (get_or taken b 0) (taken_at b kb)), omega (arith, machine-taken a ka, machine-taken b kb, h)))
+          subst₂ First (sym (seats-at moment 0 taken a d 0 ka)) (sym (seats-at moment 0 taken b d 0 kb))
+          (inr (begin-taken (get_or taken a 0) (taken_at a ka) ∙ sym (begin-taken (get_or taken b 0) (taken_at b kb)), omega (arith, machine-taken a ka, machine-taken b kb, h)))
 
   -- ---- the arcs
   open_ : (a : Arc) → Contains i.arcs a → Contains taken a.after → Contains left a.before → ⊥
@@ -321,10 +331,12 @@ module _ (i : Instance) (order : List ℕ) (t : IsOrdered i) (moment : ℕ) (pie
   machines = All-append Machines pieces made_now (λ k d l. old (get_or pieces k d) (u.early k d l) (u.machines k d l)) (new_at Machines (λ k l m b. new k l m (omega (arith, b, machine-taken k l))))
     where
       old : (p : Piece) → u.begin p.job < moment → ((m : ℕ) → m < u.machine p.job → RunsAhead i order u.begin u.machine (u.begin p.job) m p.job) → Machines p
-      old p soon h m l = subst (λ x. RunsAhead i order begin machine x m p.job) (sym (begin-early p.job soon)) (ahead_still (u.begin p.job) m p.job soon (h m (omega (arith, l, machine-early p.job soon))))
+      old p soon h m l = subst (λ x. RunsAhead i order begin machine x m p.job)
+          (sym (begin-early p.job soon)) (ahead_still (u.begin p.job) m p.job soon (h m (omega (arith, l, machine-early p.job soon))))
 
       new : (k : ℕ) → k < length taken → (m : ℕ) → m < k → RunsAhead i order begin machine (begin (get_or taken k 0)) m (get_or taken k 0)
-      new k l m b = subst (λ x. RunsAhead i order begin machine x m (get_or taken k 0)) (sym (begin-taken (get_or taken k 0) (taken_at k l))) (ahead_now m (get_or taken k 0) (omega (arith, b, l)) (s.taken_order m k 0 b l))
+      new k l m b = subst (λ x. RunsAhead i order begin machine x m (get_or taken k 0))
+          (sym (begin-taken (get_or taken k 0) (taken_at k l))) (ahead_now m (get_or taken k 0) (omega (arith, b, l)) (s.taken_order m k 0 b l))
 
   pub IsUnderWay-next : 0 < length left → IsUnderWay i order (moment + 1) (pieces ++ made_now) rest
   IsUnderWay-next some = record {
@@ -421,7 +433,8 @@ module _ (i : Instance) (order : List ℕ) (moment : ℕ) (pieces : List Piece) 
 pub IsOrdered-from : (i : Instance) → Inner i → IsOrdered i
 IsOrdered-from i h = record { ends = h.conditions.ends; acyclic = h.acyclic; some = h.conditions.machines.0 }
 
-module _ (i : Instance) (order : List ℕ) (t : IsOrdered i) (moment : ℕ) (pieces new : List Piece) (left shown taken passed rest : List ℕ) (sorted : List Arc) (e : IsPermutation i.arcs sorted) (f : shown ≡ left) (g : passed ≡ taken)
+module _ (i : Instance) (order : List ℕ) (t : IsOrdered i) (moment : ℕ) (pieces new : List Piece)
+    (left shown taken passed rest : List ℕ) (sorted : List Arc) (e : IsPermutation i.arcs sorted) (f : shown ≡ left) (g : passed ≡ taken)
     (s : IsSlot shown (is_blocked sorted shown) i.machines taken rest) (some_left : 0 < length left) (u : IsUnderWay i order moment pieces left) where
   here : IsSlot left (is_blocked i.arcs left) i.machines taken rest
   here = IsSlot-arcs i.arcs sorted left i.machines taken rest e (subst (λ l. IsSlot l (is_blocked sorted l) i.machines taken rest) f s)
@@ -430,13 +443,16 @@ module _ (i : Instance) (order : List ℕ) (t : IsOrdered i) (moment : ℕ) (pie
   slot_smaller = fewer i order t moment pieces left taken rest u here some_left
 
   pub slot_done : new ≡ pieces ++ seats moment 0 passed → IsUnderWay i order (moment + 1) new rest
-  slot_done n = subst (λ ps. IsUnderWay i order (moment + 1) ps rest) (ap (λ js. pieces ++ seats moment 0 js) (sym g) ∙ sym n) (IsUnderWay-next i order t moment pieces left taken rest u here some_left)
+  slot_done n = subst (λ ps. IsUnderWay i order (moment + 1) ps rest)
+      (ap (λ js. pieces ++ seats moment 0 js) (sym g) ∙ sym n) (IsUnderWay-next i order t moment pieces left taken rest u here some_left)
 
-pub inside_shown : (i : Instance) (order : List ℕ) (moment : ℕ) (pieces : List Piece) (left shown : List ℕ) → length i.jobs ≤ 400 → shown ≡ left → IsUnderWay i order moment pieces left → All (λ j. j < 400) shown
-inside_shown i order moment pieces left shown few e u = subst (All (λ j. j < 400)) (sym e) (λ k d l. omega (arith, left_inside i order moment pieces left u k d l, few))
+pub inside_shown : (i : Instance) (order : List ℕ) (moment : ℕ) (pieces : List Piece) (left shown : List ℕ)
+    → length i.jobs ≤ MOST_JOBS → shown ≡ left → IsUnderWay i order moment pieces left → All (λ j. j < MOST_JOBS) shown
+inside_shown i order moment pieces left shown few e u = subst (All (λ j. j < MOST_JOBS)) (sym e) (λ k d l. omega (arith, left_inside i order moment pieces left u k d l, few))
 
-pub ends_sorted : (i : Instance) (sorted : List Arc) → Inner i → IsPermutation i.arcs sorted → All (λ a. (a.before < 400) × (a.after < 400)) sorted
-ends_sorted i sorted h e = All-permutation (λ a. (a.before < 400) × (a.after < 400)) i.arcs sorted e (λ k d l. (omega (arith, (h.conditions.ends k d l).0, h.conditions.few), omega (arith, (h.conditions.ends k d l).1, h.conditions.few)))
+pub ends_sorted : (i : Instance) (sorted : List Arc) → Inner i → IsPermutation i.arcs sorted → All (λ a. (a.before < MOST_JOBS) × (a.after < MOST_JOBS)) sorted
+ends_sorted i sorted h e = All-permutation (λ a. (a.before < MOST_JOBS) × (a.after < MOST_JOBS))
+    i.arcs sorted e (λ k d l. (omega (arith, (h.conditions.ends k d l).0, h.conditions.few), omega (arith, (h.conditions.ends k d l).1, h.conditions.few)))
 
 pub start_at : (i : Instance) (order : List ℕ) (pieces : List Piece) → IsOrdered i → pieces ≡ [] → IsPermutation (range_with_len 0 (length i.jobs)) order → IsUnderWay i order 0 pieces order
 start_at i order pieces t e h = subst (λ ps. IsUnderWay i order 0 ps order) (sym e) (IsUnderWay-start i order t h)

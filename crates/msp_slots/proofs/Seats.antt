@@ -55,7 +55,8 @@ before_start n begin = total_below-none n (λ j. one_if (ltb (begin j) 0)) (λ j
     none a = grind (arith, nat_tests)
 
 pub before_next : (n : ℕ) (begin : ℕ → ℕ) (x : ℕ) → begin_before n begin (x + 1) ≡ begin_before n begin x + begin_at n begin x
-before_next n begin x = total_below-same n (λ j. one_if (ltb (begin j) (x + 1))) (λ j. one_if (ltb (begin j) x) + one_if (eqb (begin j) x)) (λ j l. one (begin j)) ∙ total_below-add n (λ j. one_if (ltb (begin j) x)) (λ j. one_if (eqb (begin j) x))
+before_next n begin x = total_below-same n (λ j. one_if (ltb (begin j) (x + 1))) (λ j. one_if (ltb (begin j) x) + one_if (eqb (begin j) x)) (λ j l. one (begin j))
+    ∙ total_below-add n (λ j. one_if (ltb (begin j) x)) (λ j. one_if (eqb (begin j) x))
   where
     one : (a : ℕ) → one_if (ltb a (x + 1)) ≡ one_if (ltb a x) + one_if (eqb a x)
     one a = grind (arith, nat_tests)
@@ -75,7 +76,8 @@ before_most n begin x = omega (arith, total_below-bound n 1 (λ j. one_if (ltb (
 
 -- ---- tight: how many begin before a moment is determined by the release dates
 before_step : (n m : ℕ) (release begin : ℕ → ℕ) → IsSeated n m release begin → IsTight n m release begin → (x : ℕ)
-    → (begin_before n begin (x + 1) ≤ released_by n release x) × (begin_before n begin (x + 1) ≤ begin_before n begin x + m) × ((begin_before n begin (x + 1) ≡ released_by n release x) ⊎ (begin_before n begin (x + 1) ≡ begin_before n begin x + m))
+    → (begin_before n begin (x + 1) ≤ released_by n release x) × (begin_before n begin (x + 1) ≤ begin_before n begin x + m)
+    × ((begin_before n begin (x + 1) ≡ released_by n release x) ⊎ (begin_before n begin (x + 1) ≡ begin_before n begin x + m))
 before_step n m release begin h tight x = (
   early,
   omega (arith, before_next n begin x, h.few x),
@@ -104,7 +106,8 @@ before_same n m release begin heads start a b c d same (suc x) =
     let (u, v, w) = before_step n m release begin a b x in
     let (p, q, r) = before_step n m heads start c d x in
     ap (begin_before n begin) (next x)
-    ∙ both (begin_before n begin x) (begin_before n start x) (begin_before n begin (x + 1)) (begin_before n start (x + 1)) (released_by n release x) (released_by n heads x) (before_same n m release begin heads start a b c d same x) (same x) u v w p q r
+    ∙ both (begin_before n begin x) (begin_before n start x) (begin_before n begin (x + 1)) (begin_before n start (x + 1))
+    (released_by n release x) (released_by n heads x) (before_same n m release begin heads start a b c d same x) (same x) u v w p q r
     ∙ sym (ap (begin_before n start) (next x))
   where
     next : (x : ℕ) → suc x ≡ x + 1
@@ -165,7 +168,10 @@ module _ (n m : ℕ) (release begin : ℕ → ℕ) where
   ]
     where
       search : (j : ℕ) → j < n → Waits j ⊎ ((x : ℕ) → x < begin j → release j ≤ x → m ≤ begin_at n begin x)
-      search j l = elim (either_below (begin j) (λ x. (release j ≤ x) × (begin_at n begin x < m)) (λ x. release j ≤ x → m ≤ begin_at n begin x) (at j)) [ inl (x, b, p) ↦ inl (x, b, p.0, p.1) | inr all ↦ inr all ]
+      search j l = elim (either_below (begin j) (λ x. (release j ≤ x) × (begin_at n begin x < m)) (λ x. release j ≤ x → m ≤ begin_at n begin x) (at j)) [
+        | inl (x, b, p) ↦ inl (x, b, p.0, p.1)
+        | inr all ↦ inr all
+      ]
         where
           at : (j x : ℕ) → x < begin j → ((release j ≤ x) × (begin_at n begin x < m)) ⊎ (release j ≤ x → m ≤ begin_at n begin x)
           at j x b = elim (cases_lt x (release j)) [
@@ -234,7 +240,8 @@ rising_from : (n : ℕ) (start : ℕ → ℕ) (k x : ℕ) → Rises n start → 
 rising_from n start k x rises l h = elim (cases_lt (start k) x) [
   | inr more ↦ more
   | inl less ↦
-      let all : total_below (suc k) (λ j. one_if (ltb (start j) x)) ≡ suc k * 1 = total_below-same (suc k) (λ j. one_if (ltb (start j) x)) (λ _. 1) (λ j b. one (start j) (omega (arith, rises j k (omega (arith, b)) l, less))) ∙ total_below-constant (suc k) 1 in
+      let all : total_below (suc k) (λ j. one_if (ltb (start j) x)) ≡ suc k * 1 =
+      total_below-same (suc k) (λ j. one_if (ltb (start j) x)) (λ _. 1) (λ j b. one (start j) (omega (arith, rises j k (omega (arith, b)) l, less))) ∙ total_below-constant (suc k) 1 in
       absurd (omega (arith, all, total_below-within (λ j. one_if (ltb (start j) x)) (suc k) n (omega (arith, l)), h))
 ]
   where
@@ -245,7 +252,8 @@ rising_before : (n : ℕ) (start : ℕ → ℕ) (k x : ℕ) → Rises n start �
 rising_before n start k x rises l h = elim (cases_lt (start k) x) [
   | inl less ↦ less
   | inr more ↦
-      let rest : total_below (n - k) (λ i. one_if (ltb (start (k + i)) x)) ≡ 0 = total_below-none (n - k) (λ i. one_if (ltb (start (k + i)) x)) (λ i b. none (start (k + i)) (omega (arith, rises k (k + i) (omega arith) (omega (arith, b)), more))) in
+      let rest : total_below (n - k) (λ i. one_if (ltb (start (k + i)) x)) ≡ 0 =
+      total_below-none (n - k) (λ i. one_if (ltb (start (k + i)) x)) (λ i b. none (start (k + i)) (omega (arith, rises k (k + i) (omega arith) (omega (arith, b)), more))) in
       let whole : n ≡ k + (n - k) = omega (arith, l) in
       absurd (omega (arith, rest, ap (λ z. begin_before z start x) whole, total_below-split k (n - k) (λ j. one_if (ltb (start j) x)), before_most k start x, h))
 ]
@@ -269,7 +277,11 @@ law_of_seats n m release begin heads start h slots tight_slots rises same =
     let k = seat_of n early j in
     let inside = seat_inside n early j l in
     let profile = before_same n m release early heads start seated tight slots tight_slots same in
-    omega (arith, rising_from n start k (early j) rises inside (omega (arith, profile (early j))), rising_before n start k (early j + 1) rises inside (omega (arith, profile (early j + 1), seat_early n early j l))) in (
+    omega (
+      arith,
+      rising_from n start k (early j) rises inside (omega (arith, profile (early j))),
+      rising_before n start k (early j + 1) rises inside (omega (arith, profile (early j + 1), seat_early n early j l)),
+    ) in (
       seat_of n early,
       record {
         inside = seat_inside n early;

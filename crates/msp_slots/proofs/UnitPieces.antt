@@ -1,11 +1,13 @@
 -- Jobs of one unit of time, each with one piece: what makes the schedule feasible and keeps it in bounds, and when its jobs end.
-use Rattle.std.proofs.Common.{◌≡◌, ◌≢◌, ℕ, ◌+◌, ◌<◌, ◌≤◌, ◌⊎◌, inl, inr, eqb, false, List, [], ◌∷◌, length, get_or, map, filter, fold, pos, ◌-ℤ◌, ◌*ℤ◌, ◌≤ℤ◌, ◌<ℤ◌, All, AllPairs, Contains, refl, sym, ap, subst, subst₂, ◌∙◌, arith}
+use Rattle.std.proofs.Common.{◌≡◌, ◌≢◌, ℕ, ◌+◌, ◌<◌, ◌≤◌, ◌⊎◌, inl, inr, eqb, false, List, [], ◌∷◌, length, get_or, map, filter, fold, pos, ◌-ℤ◌, ◌*ℤ◌, ◌≤ℤ◌, ◌<ℤ◌, All, AllPairs}
+use Rattle.std.proofs.Common.{Contains, refl, sym, ap, subst, subst₂, ◌∙◌, arith}
 use Rattle.std.specs.Int.{int_max}
 use Rattle.std.specs.List.{range_with_len}
 use Rattle.std.proofs.lemmas.Bool.{cases_lt, eqb-true}
 use Rattle.std.proofs.lemmas.Int.{ints}
 use Rattle.std.proofs.lemmas.List.{length-map, get_or-map}
 use Rattle.std.proofs.lemmas.List.Elements.{All-nil, All-map, All-contains, Contains-get_or}
+use Rattle.msp_class.specs.declared.sizes.TheConstants.{MOST_JOBS}
 use Rattle.msp_class.specs.declared.environments.EnvKind.TheVariants.{Identical}
 use Rattle.msp_class.specs.Env.{kind_of}
 use Rattle.msp_class.proofs.IntegerRing.{pos-le, pos-lt, int_max-right, zero-le-pos}
@@ -28,7 +30,7 @@ use Rattle.msp_slots.specs.Pieces.{piece_at}
 pub record HasUnitJobs (i : Instance) : Type 0 where
   pub kind : kind_of i.class.env ≡ Identical
   pub cut : i.class.cut ≡ false
-  pub few : length i.jobs ≤ 400
+  pub few : length i.jobs ≤ MOST_JOBS
   pub ones : (j : ℕ) → j < length i.jobs → (need_at i j 0).time ≡ 1
 
 -- each job has the piece from `begin j` on, on `machine j`, and no two of them take one place
@@ -63,7 +65,8 @@ module _ (i : Instance) (u : HasUnitJobs i) (begin machine : ℕ → ℕ) (piece
   Mine p = p ≡ piece_at (begin p.job) (machine p.job) p.job
 
   two_apart : (p q : Piece) → Mine p → Mine q → p.job < n → q.job < n → p.job ≢ q.job → p.machine ≡ q.machine → IsApart p q
-  two_apart p q e f a b other m = subst₂ IsApart (sym e) (sym f) (by (begin p.job) (begin q.job) (λ same. other (h.apart p.job q.job a b same (sym (ap (λ p. p.machine) e) ∙ m ∙ ap (λ p. p.machine) f))))
+  two_apart p q e f a b other m = subst₂ IsApart
+      (sym e) (sym f) (by (begin p.job) (begin q.job) (λ same. other (h.apart p.job q.job a b same (sym (ap (λ p. p.machine) e) ∙ m ∙ ap (λ p. p.machine) f))))
     where
       by : (x y : ℕ) → x ≢ y → (pos (x + 1) ≤ℤ pos y) ⊎ (pos (y + 1) ≤ℤ pos x)
       by x y ne = elim (cases_lt x y) [
@@ -89,7 +92,8 @@ module _ (i : Instance) (u : HasUnitJobs i) (begin machine : ℕ → ℕ) (piece
         two_apart (get_or pieces a d) (get_or pieces b d) (h.each a d la) (h.each b d k) (job_inside a d la) (job_inside b d k) (jobs_apart a b d l k) m;
     released = all_pieces (λ p. (pos 1 *ℤ pos (job_at i p.job).release) ≤ℤ p.from) (λ j l. released (job_at i j).release (begin j) (h.released j l));
     forward = in_order;
-    whole = all_pieces (IsWholeWork (kind_of i.class.env) i (pos 1)) (λ j l. subst (λ k. IsWholeWork k i (pos 1) (piece_at (begin j) (machine j) j)) (sym u.kind) (unit_work (begin j) (need_at i j 0).time (u.ones j l)));
+    whole = all_pieces (IsWholeWork (kind_of i.class.env) i (pos 1))
+        (λ j l. subst (λ k. IsWholeWork k i (pos 1) (piece_at (begin j) (machine j) j)) (sym u.kind) (unit_work (begin j) (need_at i j 0).time (u.ones j l)));
     ends = all_pieces (λ p. p.to ≤ℤ pos 10000000000000000000000000) (λ j l. pos-le (omega (arith, h.early j l)));
   }
     where

@@ -1,6 +1,6 @@
 -- The slots of the earliest schedule as they are found one after another. No public contract cites this file.
 use Rattle.std.specs.Prelude.{◌≡◌, ℕ, ◌+◌, ◌*◌, ◌<◌, ◌≤◌, ◌⊎◌, List, length}
-use Rattle.msp_instance.specs.declared.ranges.TheConstants.{GREATEST}
+use Rattle.msp_class.specs.declared.sizes.TheConstants.{GREATEST}
 use Rattle.msp_slots.specs.declared.earliest.Slot.{Slot}
 use Rattle.msp_slots.specs.Seating.{begin_at, IsSeated, IsTight, Rises}
 use Rattle.msp_slots.specs.Earliest.{start_in, machine_in, head_in}
@@ -9,7 +9,8 @@ use Rattle.msp_slots.specs.Earliest.{start_in, machine_in, head_in}
 -- left, or else one unit of time later.
 abbrev pub IsNextSlot : ℕ → ℕ → ℕ → ℕ → Slot → Type 0
 IsNextSlot moment taken machines head s =
-    ((moment < head) × (s.start ≡ head) × (s.machine ≡ 0)) ⊎ (((head ≤ moment) × (taken < machines) × (s.start ≡ moment) × (s.machine ≡ taken)) ⊎ ((head ≤ moment) × (machines ≤ taken) × (s.start ≡ moment + 1) × (s.machine ≡ 0)))
+    ((moment < head) × (s.start ≡ head) × (s.machine ≡ 0))
+    ⊎ (((head ≤ moment) × (taken < machines) × (s.start ≡ moment) × (s.machine ≡ taken)) ⊎ ((head ≤ moment) × (machines ≤ taken) × (s.start ≡ moment + 1) × (s.machine ≡ 0)))
 
 -- The slots for the first k release dates, the last of which begin at the moment, so many at that moment.
 pub record AreFilled (machines : ℕ) (heads : List ℕ) (k moment taken : ℕ) (slots : List Slot) : Type 0 where

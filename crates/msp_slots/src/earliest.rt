@@ -1,7 +1,7 @@
 // The slots of the earliest schedule of unit jobs: each job, by its release date, as early as a machine is left.
 ghost use Rattle.std.specs.Prelude.{◌≡◌, ◌*◌, ◌≤◌, length, map, All, IfOk, IsPermutation};
 ghost use Rattle.std.specs.List.Sorted.{IsNonDecreasing};
-ghost use Rattle.msp_instance.specs.declared.ranges.TheConstants.{GREATEST, MOST_JOBS, MOST_MACHINES};
+ghost use Rattle.msp_class.specs.declared.sizes.TheConstants.{MOST_JOBS, MOST_MACHINES, GREATEST};
 ghost use Rattle.msp_slots.specs.Earliest.{AreSlots};
 ghost use Rattle.msp_slots.specs.Filling.{IsNextSlot};
 

@@ -1,12 +1,12 @@
 // One slot: of the jobs left the first that are free, on machines in order.
 ghost use Rattle.std.specs.Prelude.{◌≡◌, ◌++◌, ◌∷◌, [], ◌<◌, ◌≤◌, length, All, IfOk, OnOk, if◌then◌else◌};
 ghost use Rattle.std.specs.List.Sorted.{IsNonDecreasingBy};
-ghost use Rattle.msp_instance.specs.declared.ranges.TheConstants.{MOST_JOBS, MOST_MACHINES};
+ghost use Rattle.msp_class.specs.declared.sizes.TheConstants.{MOST_JOBS, MOST_MACHINES};
 ghost use Rattle.msp_slots.specs.Steps.{is_blocked, IsSlot, seats};
 
 use msp_class::{List, NoMemory};
 use msp_instance::Arc;
-use msp_schedule::{Piece, follows_marked, marks_of};
+use msp_schedule::{Piece, flags_of, follows_flagged};
 use std::alloc::Global;
 
 /// The jobs of a slot, and those that are left after it.
@@ -42,13 +42,13 @@ pub fn next_slot(
     requires inside { All (λ j. j < MOST_JOBS) left.now }
     ensures { IfOk result (λ s. IsSlot left.now (is_blocked sorted.now left.now) machines s.taken.items s.rest.items) }
 {
-    let is_left = marks_of(left);
+    let is_left = flags_of(left);
     let mut split = Split {
         taken: Vec::new(alloc),
         rest: Vec::new(alloc),
     };
     for job in left {
-        let goes = split.taken.len() < machines && !follows_marked(sorted, &is_left, *job);
+        let goes = split.taken.len() < machines && !follows_flagged(sorted, &is_left, *job);
         put(&mut split, *job, goes)?;
     }
     Ok(split)

@@ -1,14 +1,17 @@
 -- The jobs come one after another by release date: the loop over them.
-use Rattle.std.proofs.Common.{◌≡◌, ℕ, ◌+◌, ◌*◌, ◌<◌, ◌≤◌, ◌⊎◌, inl, inr, Bool, true, false, cond, eqb, List, [], ◌∷◌, ◌++◌, length, get_or, map, take, drop, All, AllPairs, IsPermutation, sum_by, count_by, refl, sym, ap, ◌∙◌, subst, arith}
+use Rattle.std.proofs.Common.{◌≡◌, ℕ, ◌+◌, ◌*◌, ◌<◌, ◌≤◌, ◌⊎◌, inl, inr, Bool, true, false, cond, eqb, List, [], ◌∷◌, ◌++◌, length, get_or, map, take, drop, All, AllPairs}
+use Rattle.std.proofs.Common.{IsPermutation, sum_by, count_by, refl, sym, ap, ◌∙◌, subst, arith}
 use Rattle.std.specs.Prelude.{◌==◌}
 use Rattle.std.specs.List.{range_with_len}
 use Rattle.std.proofs.lemmas.Bool.{cases_lt, eqb-true, eq-eqb}
 use Rattle.std.proofs.lemmas.List.{take_more, take_all, take-append-drop, length-map, length-drop, get_or-map, get_or-drop, get_or_default, get_or_past}
-use Rattle.msp_class.proofs.Sums.{total_below-same, total_below-only, sum_by-append, sum_by-cons, sum_by-none, sum_by-mono, sum_by-constant, sum_by-OnceBelow, length-OnceBelow, eqb_comm, cond-yes, OnceBelow, OnceBelow-from_permutation}
+use Rattle.msp_class.specs.declared.sizes.TheConstants.{MOST_JOBS, GREATEST}
+use Rattle.msp_class.proofs.Sums.{total_below-same, total_below-only, sum_by-append, sum_by-cons, sum_by-none, sum_by-mono, sum_by-constant, sum_by-OnceBelow, length-OnceBelow}
+use Rattle.msp_class.proofs.Sums.{eqb_comm, cond-yes, OnceBelow, OnceBelow-from_permutation}
 use Rattle.msp_instance.specs.declared.Instance.{Instance}
 use Rattle.msp_instance.specs.Instance.{job_at, no_job}
 use Rattle.msp_schedule.specs.declared.Piece.{Piece}
-use Rattle.msp_schedule.specs.Rows.{time_at}
+use Rattle.msp_schedule.specs.BackToBack.{time_at}
 use Rattle.msp_srpt.specs.declared.shortest.Task.{Task}
 use Rattle.msp_srpt.specs.declared.shortest.Arrival.{Arrival}
 use Rattle.msp_srpt.specs.Running.{HaveCome, IsUnderWay, GoesOn, IsCarriedOut, brought}
@@ -25,7 +28,8 @@ brought-all i order once j l =
     ∙ total_below-only (length i.jobs) (time_at i) j l
 
 -- jobs by their release dates as keys
-pub sorted_by_release : (i : Instance) (dates order : List ℕ) → dates ≡ map (λ j. j.release) i.jobs → AllPairs (λ a b. (get_or dates a 0 < get_or dates b 0) ⊎ ((get_or dates a 0 ≡ get_or dates b 0) × (a ≤ b))) order
+pub sorted_by_release : (i : Instance) (dates order : List ℕ)
+    → dates ≡ map (λ j. j.release) i.jobs → AllPairs (λ a b. (get_or dates a 0 < get_or dates b 0) ⊎ ((get_or dates a 0 ≡ get_or dates b 0) × (a ≤ b))) order
     → AllPairs (λ a b. (job_at i a).release ≤ (job_at i b).release) order
 sorted_by_release i dates order e rising a b d l k = omega (arith, rises_or_stays (λ j. get_or dates j 0) order rising a b d l k, is (get_or order a d), is (get_or order b d))
   where
@@ -35,7 +39,8 @@ sorted_by_release i dates order e rising a b d l k = omega (arith, rises_or_stay
       | inr l ↦ get_or_past (map (λ j. j.release) i.jobs) n 0 (omega (arith, length-map i.jobs (λ j. j.release), l)) ∙ sym (ap (λ j. j.release) (get_or_past i.jobs n no_job (omega (arith, l))))
     ]
 
-module _ (i : Instance) (h : IsShortestInstance i) (order : List ℕ) (all : IsPermutation (range_with_len 0 (length i.jobs)) order) (sorted : AllPairs (λ a b. (job_at i a).release ≤ (job_at i b).release) order) where
+module _ (i : Instance) (h : IsShortestInstance i) (order : List ℕ)
+    (all : IsPermutation (range_with_len 0 (length i.jobs)) order) (sorted : AllPairs (λ a b. (job_at i a).release ≤ (job_at i b).release) order) where
   once : OnceBelow (length i.jobs) order
   once = OnceBelow-from_permutation all
 
@@ -69,7 +74,11 @@ module _ (i : Instance) (h : IsShortestInstance i) (order : List ℕ) (all : IsP
       after m q = omega (arith, q, length-drop k order)
 
       not_before : (m : ℕ) → m < length (drop k order) → release (at k) ≤ release (at (k + m))
-      not_before m q = elim (cases_lt 0 m) [ inl g ↦ sorted k (k + m) 0 (omega (arith, g)) (after m q) | inr g ↦ let z : k + m ≡ k = omega (arith, g) in subst (λ x. release (at k) ≤ release (at x)) (sym z) (omega arith) ]
+      not_before m q = elim (cases_lt 0 m) [
+        | inl g ↦ sorted k (k + m) 0 (omega (arith, g)) (after m q)
+        | inr g ↦ let z : k + m ≡ k = omega (arith, g) in
+            subst (λ x. release (at k) ≤ release (at x)) (sym z) (omega arith)
+      ]
 
       later : All (λ a. f a ≡ 0) (drop k order)
       later m e q =
@@ -81,12 +90,14 @@ module _ (i : Instance) (h : IsShortestInstance i) (order : List ℕ) (all : IsP
   not_yet k l =
       let a = at k in
       let f : ℕ → ℕ = λ y. cond (y == a) 1 0 in
-      by _ _ _ _ (once.once a (inside k l)) (parts f (k + 1)) (ap (sum_by f) (take_more order k 0 l) ∙ sum_by-append f (take k order) (a ∷ [])) (sum_by-cons f a [] ∙ ap (λ n. n + 0) (cond-yes 1 (eq-eqb a a refl)))
+      by _ _ _ _ (once.once a (inside k l)) (parts f (k + 1)) (ap (sum_by f) (take_more order k 0 l) ∙ sum_by-append f (take k order) (a ∷ []))
+      (sum_by-cons f a [] ∙ ap (λ n. n + 0) (cond-yes 1 (eq-eqb a a refl)))
     where
       by : (w x y z : ℕ) {v : ℕ} → w ≡ 1 → w ≡ x + y → x ≡ v + z → z ≡ 1 + 0 → v ≡ 0
       by w x y z e f g q = omega (arith, e, f, g, q)
 
-  module _ (k : ℕ) (a : Arrival) (l : k < length order) (release_is : a.release ≡ (job_at i (get_or order k 0)).release) (job_is : a.task.job ≡ get_or order k 0) (left_is : a.task.left ≡ time_at i (get_or order k 0)) where
+  module _ (k : ℕ) (a : Arrival) (l : k < length order) (release_is : a.release ≡ (job_at i (get_or order k 0)).release)
+      (job_is : a.task.job ≡ get_or order k 0) (left_is : a.task.left ≡ time_at i (get_or order k 0)) where
     small : a.task.job < length i.jobs
     small = subst (λ n. n < length i.jobs) (sym job_is) (inside k l)
 
@@ -97,7 +108,8 @@ module _ (i : Instance) (h : IsShortestInstance i) (order : List ℕ) (all : IsP
     early = (omega (arith, release_is, is_early i h.one (at k) (inside k l)), omega (arith, left_is, takes_time i h.one (at k) (inside k l)))
 
     -- one more round
-    pub comes : (t : ℕ) (old new : List Piece) (xs ys zs : List Task) → GoesOn a.release t a.release old xs new ys → IsPermutation (a.task ∷ ys) zs → IsUnderWay i (take k order) t old xs → IsUnderWay i (take (k + 1) order) a.release new zs
+    pub comes : (t : ℕ) (old new : List Piece) (xs ys zs : List Task) → GoesOn a.release t a.release old xs new ys
+        → IsPermutation (a.task ∷ ys) zs → IsUnderWay i (take k order) t old xs → IsUnderWay i (take (k + 1) order) a.release new zs
     comes t old new xs ys zs on p u =
         subst (λ js. IsUnderWay i js a.release new zs) (sym (take_more order k 0 l))
         (subst (λ n. IsUnderWay i (take k order ++ n ∷ []) a.release new zs) job_is
@@ -110,30 +122,31 @@ module _ (i : Instance) (h : IsShortestInstance i) (order : List ℕ) (all : IsP
     in_order m less q = omega (arith, release_is, sorted k m 0 (omega (arith, less)) q)
 
   -- the last round
-  pub carried_out : (k t : ℕ) (old new items : List Piece) (xs ys : List Task) → length order ≤ k → IsUnderWay i (take k order) t old xs → GoesOn 403000000000 t 403000000000 old xs new ys → items ≡ new → length new ≤ 2 * length order + 1
-      → IsCarriedOut i 403000000000 items
+  pub carried_out : (k t : ℕ) (old new items : List Piece) (xs ys : List Task) → length order ≤ k → IsUnderWay i (take k order) t old xs
+      → GoesOn ((MOST_JOBS + 3) * GREATEST) t ((MOST_JOBS + 3) * GREATEST) old xs new ys → items ≡ new → length new ≤ 2 * length order + 1
+      → IsCarriedOut i ((MOST_JOBS + 3) * GREATEST) items
   carried_out k t old new items xs ys l u on same short = record {
     order = order;
     once = once;
-    ended = subst (λ ps. IsUnderWay i order 403000000000 ps []) (sym same) (subst (IsUnderWay i order 403000000000 new) (none ys last) last);
+    ended = subst (λ ps. IsUnderWay i order ((MOST_JOBS + 3) * GREATEST) ps []) (sym same) (subst (IsUnderWay i order ((MOST_JOBS + 3) * GREATEST) new) (none ys last) last);
     short = omega arith;
     few = omega (arith, short, ap length same, length-OnceBelow once);
   }
     where
-      last : IsUnderWay i order 403000000000 new ys
+      last : IsUnderWay i order ((MOST_JOBS + 3) * GREATEST) new ys
       last = on i order (λ j m _. brought-all i order once j m) (subst (λ bs. IsUnderWay i bs t old xs) (take_all k order l) u)
 
       -- how long all jobs take
-      whole : sum_by (time_at i) order ≤ 400000000000
+      whole : sum_by (time_at i) order ≤ (MOST_JOBS * GREATEST)
       whole =
           omega (
             arith,
-            sum_by-mono (time_at i) (λ _. 1000000000) order (λ m d q. is_short i h.one (get_or order m d) (once.within m d q)),
-            sum_by-constant 1000000000 order,
+            sum_by-mono (time_at i) (λ _. GREATEST) order (λ m d q. is_short i h.one (get_or order m d) (once.within m d q)),
+            sum_by-constant GREATEST order,
             length-OnceBelow once,
             h.one.few,
           )
 
-      none : (ys : List Task) → IsUnderWay i order 403000000000 new ys → ys ≡ []
+      none : (ys : List Task) → IsUnderWay i order ((MOST_JOBS + 3) * GREATEST) new ys → ys ≡ []
       none [] v = refl
       none (y ∷ zs) v = absurd (omega (arith, v.soon (omega arith), whole))

@@ -1,5 +1,6 @@
 -- The pieces of all jobs as a schedule: it is feasible, keeps the rule and is best.
-use Rattle.std.proofs.Common.{◌≡◌, ℕ, ◌+◌, ◌*◌, ◌-◌, ◌<◌, ◌≤◌, ◌⊎◌, inl, inr, min, Bool, true, false, cond, eqb, List, [], ◌∷◌, length, get_or, map, ℤ, pos, nat_abs, ◌*ℤ◌, ◌≤ℤ◌, All, AllPairs, MatchBool, refl, sym, ap, ◌∙◌, subst, arith}
+use Rattle.std.proofs.Common.{◌≡◌, ℕ, ◌+◌, ◌*◌, ◌-◌, ◌<◌, ◌≤◌, ◌⊎◌, inl, inr, min, Bool, true, false, cond, eqb, List, [], ◌∷◌, length, get_or, map, ℤ, pos, nat_abs, ◌*ℤ◌, ◌≤ℤ◌}
+use Rattle.std.proofs.Common.{All, AllPairs, MatchBool, refl, sym, ap, ◌∙◌, subst, arith}
 use Rattle.std.specs.Prelude.{◌==◌}
 use Rattle.std.proofs.Math.Nat.{one-dvd}
 use Rattle.std.proofs.lemmas.Bool.{cases_lt, eq-eqb}
@@ -28,7 +29,7 @@ use Rattle.msp_schedule.proofs.costs.Charges.{charge_of, cost_of-sum}
 use Rattle.msp_schedule.specs.Intervals.{size_of, work_of}
 use Rattle.msp_schedule.proofs.lists.Intervals.{last_of, last_of-least}
 use Rattle.msp_schedule.proofs.feasible.OneMachine.{IsPlan-from_feasible, last_end-is, pieces_of-job, total_lengths}
-use Rattle.msp_schedule.specs.Rows.{time_at}
+use Rattle.msp_schedule.specs.BackToBack.{time_at}
 use Rattle.msp_srpt.specs.Shortest.{shortest_class, run_before, IsWaiting, KeepsRule, idle, runs, IsShortestFirst}
 use Rattle.msp_srpt.specs.Running.{IsCarriedOut, IsLaid}
 use Rattle.msp_srpt.proofs.Laying.{run_of, run-settled, run-unborn}
@@ -47,7 +48,8 @@ ends_cost i s e h =
 ended_by : (ps : List Piece) (t v j : ℕ) → v ≤ t → All IsTimed ps → All (λ p. finish p ≤ t) ps → run_before ps t j ≤ run_before ps v j → All (λ p. p.job ≡ j → finish p ≤ v) ps
 ended_by [] t v j l timed early h = All-nil (λ p. p.job ≡ j → finish p ≤ v)
 ended_by (p ∷ ps) t v j l timed early h =
-    All-cons (λ p. p.job ≡ j → finish p ≤ v) p ps (λ e. one (p.job == j) (eq-eqb p.job j e) (All-head IsTimed p ps timed).lasts (All-head (λ p. finish p ≤ t) p ps early) (omega (arith, h, less, rest, sum t, sum v)))
+    All-cons (λ p. p.job ≡ j → finish p ≤ v) p ps
+    (λ e. one (p.job == j) (eq-eqb p.job j e) (All-head IsTimed p ps timed).lasts (All-head (λ p. finish p ≤ t) p ps early) (omega (arith, h, less, rest, sum t, sum v)))
     (ended_by ps t v j l (All-tail IsTimed p ps timed) (All-tail (λ p. finish p ≤ t) p ps early) (omega (arith, h, less, rest, sum t, sum v)))
   where
     sum : (u : ℕ) → run_before (p ∷ ps) u j ≡ run_of u j p + run_before ps u j
@@ -63,7 +65,8 @@ ended_by (p ∷ ps) t v j l timed early h =
     rest : run_before ps v j ≤ run_before ps t j
     rest = sum_by-mono (run_of v j) (run_of t j) ps (λ k d m. shorter (nat_abs (get_or ps k d).to) (nat_abs (get_or ps k d).from) ((get_or ps k d).job == j))
 
-    one : (b : Bool) → b ≡ true → nat_abs p.from < nat_abs p.to → nat_abs p.to ≤ t → cond b (min (nat_abs p.to) t - nat_abs p.from) 0 ≤ cond b (min (nat_abs p.to) v - nat_abs p.from) 0 → nat_abs p.to ≤ v
+    one : (b : Bool) → b ≡ true → nat_abs p.from < nat_abs p.to
+        → nat_abs p.to ≤ t → cond b (min (nat_abs p.to) t - nat_abs p.from) 0 ≤ cond b (min (nat_abs p.to) v - nat_abs p.from) 0 → nat_abs p.to ≤ v
     one true e m n q = omega (arith, m, n, q)
     one false e m n q = absurd (cc)
 
@@ -104,10 +107,12 @@ module _ (i : Instance) (h : IsShortestInstance i) (t : ℕ) (ps : List Piece) (
       }
 
   no_arcs : All (λ a. All (λ p. All (λ r. p.job ≡ a.before → r.job ≡ a.after → IsBefore p r) ps) ps) i.arcs
-  no_arcs = subst (λ arcs. All (λ a. All (λ p. All (λ r. p.job ≡ a.before → r.job ≡ a.after → IsBefore p r) ps) ps) arcs) (sym h.arcs) (All-nil (λ (a : Arc). All (λ p. All (λ r. p.job ≡ a.before → r.job ≡ a.after → IsBefore p r) ps) ps))
+  no_arcs = subst (λ arcs. All (λ a. All (λ p. All (λ r. p.job ≡ a.before → r.job ≡ a.after → IsBefore p r) ps) ps) arcs)
+      (sym h.arcs) (All-nil (λ (a : Arc). All (λ p. All (λ r. p.job ≡ a.before → r.job ≡ a.after → IsBefore p r) ps) ps))
 
   sizes : (j : ℕ) → work_of job_of start finish ps j ≡ run_before ps t j
-  sizes j = sum_by-filter (size_of start finish) (λ p. eqb p.job j) ps ∙ sum_by-same (λ p. cond (eqb p.job j) (size_of start finish p) 0) (run_of t j) ps (λ k d l. by (get_or ps k d) ((get_or ps k d).job == j) (laid.early k d l))
+  sizes j = sum_by-filter (size_of start finish) (λ p. eqb p.job j) ps
+      ∙ sum_by-same (λ p. cond (eqb p.job j) (size_of start finish p) 0) (run_of t j) ps (λ k d l. by (get_or ps k d) ((get_or ps k d).job == j) (laid.early k d l))
     where
       by : (p : Piece) (b : Bool) → finish p ≤ t → cond b (nat_abs p.to - nat_abs p.from) 0 ≡ cond b (min (nat_abs p.to) t - nat_abs p.from) 0
       by p true e = omega (arith, e)
@@ -188,11 +193,13 @@ module _ (i : Instance) (h : IsShortestInstance i) (t : ℕ) (ps : List Piece) (
       let plan = IsPlan-from_feasible i h.one.machine c f in
       let d = nat_abs c.unit in
       in_int _ _ c.unit (total_below n ends) (total_below n (last_of job_of finish c.pieces)) d (ends_cost i s h.crit laid.timed) (ends_cost i c h.crit plan.timed) plan.unit
-      (ends_below n (λ j. (job_at i j).release) (time_at i) (run_before ps) (takes_time i h.one) (λ v j l m. run-unborn i v j ps laid.released m) in_numbers job_of start finish c.pieces d plan.some plan.jobs plan.apart
+      (ends_below n (λ j. (job_at i j).release) (time_at i) (run_before ps)
+      (takes_time i h.one) (λ v j l m. run-unborn i v j ps laid.released m) in_numbers job_of start finish c.pieces d plan.some plan.jobs plan.apart
       (λ k e l. begins (get_or c.pieces k e) (plan.timed k e l) plan.unit (f.release k e l)) plan.work ends complete)
     where
       begins : (p : Piece) → IsTimed p → c.unit ≡ pos (nat_abs c.unit) → (c.unit *ℤ pos (job_at i p.job).release) ≤ℤ p.from → nat_abs c.unit * (job_at i p.job).release ≤ start p
-      begins p timed unit l = by (nat_abs c.unit) (job_at i p.job).release (start p) (subst (λ x. (pos (nat_abs c.unit) *ℤ pos (job_at i p.job).release) ≤ℤ x) timed.from (subst (λ x. (x *ℤ pos (job_at i p.job).release) ≤ℤ p.from) unit l))
+      begins p timed unit l = by (nat_abs c.unit) (job_at i p.job).release (start p)
+          (subst (λ x. (pos (nat_abs c.unit) *ℤ pos (job_at i p.job).release) ≤ℤ x) timed.from (subst (λ x. (x *ℤ pos (job_at i p.job).release) ≤ℤ p.from) unit l))
         where
           by : (a b x : ℕ) → (pos a *ℤ pos b) ≤ℤ pos x → a * b ≤ x
           by a b x l = omega (arith, ints, l)
@@ -206,7 +213,10 @@ module _ (i : Instance) (h : IsShortestInstance i) (t : ℕ) (ps : List Piece) (
   IsShortestSchedule-made = record {
     best = record { feasible = is_feasible; least = beats };
     rule = is_shortest_first;
-    settled = record { lowest = λ d divides _. dvd_antisymm divides (one-dvd d); order = λ a b d l m. let k = laid.timed a d (omega arith) in inl (omega (arith, ints, in_order a b d l m, k.from, k.to, k.lasts)) };
+    settled = record {
+      lowest = λ d divides _. dvd_antisymm divides (one-dvd d);
+      order = λ a b d l m. let k = laid.timed a d (omega arith) in inl (omega (arith, ints, in_order a b d l m, k.from, k.to, k.lasts));
+    };
   }
 
 -- as the code has it

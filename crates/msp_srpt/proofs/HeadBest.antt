@@ -1,9 +1,11 @@
 -- Jobs of one time that run by rising head: their schedule is feasible, its ends come first, and it is best.
-use Rattle.std.proofs.Common.{◌≡◌, ℕ, zero, suc, ◌+◌, ◌*◌, ◌<◌, ◌≤◌, inl, inr, cond, leb, List, length, get_or, map, All, ℤ, pos, nat_abs, ◌-ℤ◌, ◌*ℤ◌, ◌≤ℤ◌, ◌<ℤ◌, refl, sym, ap, ap₂, subst, subst₂, ◌∙◌, arith, le_trans}
+use Rattle.std.proofs.Common.{◌≡◌, ℕ, zero, suc, ◌+◌, ◌*◌, ◌<◌, ◌≤◌, inl, inr, cond, leb, List, length, get_or, map, All, ℤ, pos, nat_abs, ◌-ℤ◌, ◌*ℤ◌, ◌≤ℤ◌, ◌<ℤ◌, refl, sym, ap}
+use Rattle.std.proofs.Common.{ap₂, subst, subst₂, ◌∙◌, arith, le_trans}
 use Rattle.std.proofs.lemmas.Bool.{cases_lt}
 use Rattle.std.proofs.lemmas.Int.{ints}
 use Rattle.std.proofs.lemmas.List.{get_or_default}
 use Rattle.std.proofs.lemmas.Nat.{mul-le}
+use Rattle.msp_class.specs.declared.sizes.TheConstants.{MOST_JOBS, GREATEST}
 use native.Mathlib.Nat.{mul-le-mul_left}
 use Rattle.msp_class.specs.Env.{kind_of}
 use Rattle.msp_class.specs.Sums.{total_below}
@@ -17,7 +19,7 @@ use Rattle.msp_schedule.specs.declared.Schedule.{Schedule}
 use Rattle.msp_schedule.specs.Cost.{cost_of, Best}
 use Rattle.msp_schedule.specs.Feasible.{Feasible, IsWholeWork}
 use Rattle.msp_schedule.specs.Piece.{IsBefore, job_of, start, finish, IsTimed}
-use Rattle.msp_schedule.specs.Rows.{piece, time_at}
+use Rattle.msp_schedule.specs.BackToBack.{piece, time_at}
 use Rattle.msp_schedule.specs.Within.{Within}
 use Rattle.msp_schedule.proofs.feasible.OneEach.{AreOneEach, one_each_is_feasible, one_each_is_within}
 use Rattle.msp_schedule.proofs.feasible.OneMachine.{IsPlan-from_feasible, last_end-is}
@@ -76,17 +78,17 @@ module _ (i : Instance) (h : IsEqualInstance i) (heads : List ℕ) (are : AreHea
   takes : (k : ℕ) → k < n → 0 < time
   takes k l = subst (λ x. 0 < x) (h.same k l) (takes_time i h.one k l)
 
-  short : (k : ℕ) → k < n → time ≤ 1000000000
-  short k l = subst (λ x. x ≤ 1000000000) (h.same k l) (is_short i h.one k l)
+  short : (k : ℕ) → k < n → time ≤ GREATEST
+  short k l = subst (λ x. x ≤ GREATEST) (h.same k l) (is_short i h.one k l)
 
-  soon : (k : ℕ) → k < n → begin k + time ≤ 803000000000
+  soon : (k : ℕ) → k < n → begin k + time ≤ ((2 * MOST_JOBS + 3) * GREATEST)
   soon k l =
       let run = run_of i h heads are pieces r k l in
       let lf : number run.first < length heads = omega (arith, number_inside i h heads are pieces r run.first (omega (arith, run.place, l)), are.each) in
       early (begin k) (head_in heads (number run.first)) run.more time run.begin_is (are.small (number run.first) 0 lf) (omega (arith, run.place, l, h.one.few)) (short k l)
     where
-      early : (b x m t : ℕ) → b ≡ x + m * t → x ≤ 1000000000 * (2 + 400) → m ≤ 400 → t ≤ 1000000000 → b + t ≤ 803000000000
-      early b x m t e p q u = omega (arith, e, p, u, mul-le m t 400 1000000000 q u)
+      early : (b x m t : ℕ) → b ≡ x + m * t → x ≤ GREATEST * (2 + MOST_JOBS) → m ≤ MOST_JOBS → t ≤ GREATEST → b + t ≤ ((2 * MOST_JOBS + 3) * GREATEST)
+      early b x m t e p q u = omega (arith, e, p, u, mul-le m t MOST_JOBS GREATEST q u)
 
   apart : (a b : ℕ) (d : Piece) → a < b → b < length pieces → IsBefore (get_or pieces a d) (get_or pieces b d)
   apart a b d l m =
@@ -119,7 +121,8 @@ module _ (i : Instance) (h : IsEqualInstance i) (heads : List ℕ) (are : AreHea
         released (job_at i (number k)).release (begin k) (omega (arith, are.release (number k) (number_inside i h heads are pieces r k l), from_head i h heads are pieces r k l)));
     forward = forward;
     whole = each (IsWholeWork (kind_of i.class.env) i (pos 1)) (λ k l.
-        subst (λ e. IsWholeWork e i (pos 1) (piece (number k) (begin k) (begin k + time))) (sym h.one.machine.kind) (work (begin k) time (time_at i (number k)) (h.same (number k) (number_inside i h heads are pieces r k l))));
+        subst (λ e. IsWholeWork e i (pos 1) (piece (number k) (begin k) (begin k + time)))
+        (sym h.one.machine.kind) (work (begin k) time (time_at i (number k)) (h.same (number k) (number_inside i h heads are pieces r k l))));
     ends = each (λ p. p.to ≤ℤ pos 10000000000000000000000000) (λ k l. pos-le (omega (arith, soon k l)));
   }
     where
@@ -152,8 +155,10 @@ module _ (i : Instance) (h : IsEqualInstance i) (heads : List ℕ) (are : AreHea
       let ours = AreCounted-from_sorted i s ends (λ j _. last_end-is pieces j timed) mine hm in
       let others = AreCounted-from_sorted i t last (λ j _. last_end-is t.pieces j plan.timed) its hi in
       let moment = nat_abs (end_number its k) in
-      let least = no_earlier i h heads are pieces r t f k moment l (subst (λ m. k < m) (others.counts moment) (count_from_low n (λ k. nat_abs (end_number its k)) others.rises k moment l (omega arith))) in
-      let most = low_from_count n (λ k. nat_abs (end_number mine k)) ours.rises k (begin k + time) l (subst (λ m. k < m) (sym (ours.counts (begin k + time))) (enough i h heads are pieces r ends k (begin k + time) l (ends_up_to i h heads are pieces r k l))) in
+      let least = no_earlier i h heads are pieces r t f k moment l
+      (subst (λ m. k < m) (others.counts moment) (count_from_low n (λ k. nat_abs (end_number its k)) others.rises k moment l (omega arith))) in
+      let most = low_from_count n (λ k. nat_abs (end_number mine k)) ours.rises k (begin k + time) l
+      (subst (λ m. k < m) (sym (ours.counts (begin k + time))) (enough i h heads are pieces r ends k (begin k + time) l (ends_up_to i h heads are pieces r k l))) in
       over_units (end_number mine k) (end_number its k) t.unit (nat_abs (end_number mine k)) moment (nat_abs t.unit)
       (number_at i s ends (λ j _. last_end-is pieces j timed) mine hm k l) (number_at i t last (λ j _. last_end-is t.pieces j plan.timed) its hi k l) plan.unit
       (omega (arith, mul-le-mul_left (nat_abs t.unit) most, least))
@@ -166,7 +171,8 @@ module _ (i : Instance) (h : IsEqualInstance i) (heads : List ℕ) (are : AreHea
       over_units (cost_of i s) (cost_of i t) t.unit (total_below n ends) (total_below n last) unit (ends_cost i s h.crit timed) (ends_cost i t h.crit plan.timed) plan.unit
       (subst (λ x. x ≤ total_below n last) (total_below-scale n unit ends) (total_from_counts n (λ j. unit * ends j) last (λ c. counts t f c (at_most n last c) refl)))
     where
-      counts : (t : Schedule) (f : Feasible i t) (c m : ℕ) → at_most n (last_of job_of finish t.pieces) c ≡ m → at_most n (last_of job_of finish t.pieces) c ≤ at_most n (λ j. nat_abs t.unit * ends j) c
+      counts : (t : Schedule) (f : Feasible i t) (c m : ℕ)
+          → at_most n (last_of job_of finish t.pieces) c ≡ m → at_most n (last_of job_of finish t.pieces) c ≤ at_most n (λ j. nat_abs t.unit * ends j) c
       counts t f c zero e = omega (arith, e)
       counts t f c (suc k) e =
           let l : k < n = omega (arith, e, total_below-bound n 1 (λ j. cond (leb (last_of job_of finish t.pieces j) c) 1 0) (λ j _. cond-le (leb (last_of job_of finish t.pieces j) c) 1)) in

@@ -7,7 +7,8 @@ use Rattle.std.proofs.lemmas.List.{length-map, get_or-map, get_or_default}
 use Rattle.std.proofs.lemmas.List.Elements.{Contains-get_or}
 use native.Mathlib.Nat.{mul-le-mul_left}
 use Rattle.msp_class.specs.Sums.{total_below}
-use Rattle.msp_class.proofs.Sums.{OnceBelow, OnceBelow-from_permutation, OnceBelow-distinct, length-OnceBelow, sum_by-OnceBelow, cond-le, cond-count, total_below-mono, total_below-same, total_below-add, total_below-scale}
+use Rattle.msp_class.proofs.Sums.{OnceBelow, OnceBelow-from_permutation, OnceBelow-distinct, length-OnceBelow, sum_by-OnceBelow, cond-le, cond-count, total_below-mono}
+use Rattle.msp_class.proofs.Sums.{total_below-same, total_below-add, total_below-scale}
 use Rattle.msp_instance.specs.declared.Instance.{Instance}
 use Rattle.msp_instance.specs.Instance.{common_time}
 use Rattle.msp_schedule.specs.declared.Piece.{Piece}
@@ -15,8 +16,9 @@ use Rattle.msp_schedule.specs.declared.Schedule.{Schedule}
 use Rattle.msp_schedule.specs.Breaks.{no_piece}
 use Rattle.msp_schedule.specs.Feasible.{Feasible}
 use Rattle.msp_schedule.specs.Piece.{job_of, start, finish}
-use Rattle.msp_schedule.specs.Rows.{piece, time_at}
+use Rattle.msp_schedule.specs.BackToBack.{piece, time_at}
 use Rattle.msp_schedule.proofs.feasible.OneMachine.{IsPlan, IsPlan-from_feasible}
+use Rattle.msp_schedule.proofs.bounds.Certified.{after_heads}
 use Rattle.msp_schedule.proofs.lists.Intervals.{last_of, last_of-bound, last_of-least, room_on_one}
 use Rattle.msp_schedule.proofs.lists.Places.{sum_by-places}
 use Rattle.msp_heads.specs.Heads.{head_in, AreHeads}
@@ -24,7 +26,6 @@ use Rattle.msp_route.proofs.OneInstances.{takes_time}
 use Rattle.msp_srpt.specs.EqualHeads.{piece_number, end_before, RunInOrder}
 use Rattle.msp_srpt.proofs.Counts.{at_most}
 use Rattle.msp_srpt.proofs.EqualInstances.{IsEqualInstance}
-use Rattle.msp_srpt.proofs.HeadBegins.{after_heads}
 use Rattle.msp_srpt.proofs.SortedEnds.{count-yes, few, many, Rises}
 
 -- ---- begins that grow step by step
@@ -173,7 +174,8 @@ module _ (i : Instance) (h : IsEqualInstance i) (heads : List ℕ) (are : AreHea
       between a d b e =
           let q = get_or t.pieces a d in
           let both = and_parts (leb (last q.job) moment) (leb from (head_in heads q.job)) e in (
-            le_trans (mul-le-mul_left unit (leb-true _ _ both.1)) (after_heads i h t f (head_in heads) are.sound q (Contains-get_or t.pieces a d b)),
+            le_trans (mul-le-mul_left unit (leb-true _ _ both.1))
+                (after_heads i h.one.machine (takes_time i h.one) h.one.inner.conditions.ends t f (head_in heads) are.sound q (Contains-get_or t.pieces a d b)),
             le_trans (last_of-bound job_of finish t.pieces a d b) (leb-true _ _ both.0),
           )
 
@@ -186,11 +188,13 @@ module _ (i : Instance) (h : IsEqualInstance i) (heads : List ℕ) (are : AreHea
       before : total_below n (λ j. cond (not (leb from (head_in heads j))) 1 0) ≤ run.first
       before =
           subst (λ m. m ≤ run.first) (sym (by_number (λ j. cond (not (leb from (head_in heads j))) 1 0)))
-          (few n run.first (λ p. cond (not (leb from (head p))) 1 0) (λ p. cond-le (not (leb from (head p))) 1) (λ p b m. ap (λ x. cond (not x) 1 0) (le-leb from (head p) (heads_rise run.first p b m))))
+          (few n run.first (λ p. cond (not (leb from (head p))) 1 0)
+          (λ p. cond-le (not (leb from (head p))) 1) (λ p b m. ap (λ x. cond (not x) 1 0) (le-leb from (head p) (heads_rise run.first p b m))))
 
       all : at_most n last moment ≤ count + total_below n (λ j. cond (not (leb from (head_in heads j))) 1 0)
       all = subst (λ m. at_most n last moment ≤ m) (total_below-add n (λ j. cond (test j) 1 0) (λ j. cond (not (leb from (head_in heads j))) 1 0))
-          (total_below-mono n (λ j. cond (leb (last j) moment) 1 0) (λ j. cond (test j) 1 0 + cond (not (leb from (head_in heads j))) 1 0) (λ j b. either (leb (last j) moment) (leb from (head_in heads j))))
+          (total_below-mono n (λ j. cond (leb (last j) moment) 1 0)
+          (λ j. cond (test j) 1 0 + cond (not (leb from (head_in heads j))) 1 0) (λ j b. either (leb (last j) moment) (leb from (head_in heads j))))
 
       -- where more than k jobs end by a moment, the job of place k can
       pub no_earlier : unit * (begin k + time) ≤ moment

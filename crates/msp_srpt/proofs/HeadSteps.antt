@@ -4,12 +4,13 @@ use Rattle.std.specs.List.{range_with_len}
 use Rattle.std.proofs.lemmas.Bool.{cases_lt}
 use Rattle.std.proofs.lemmas.List.{length-map, length-take-le, map-append, get_or_append_left, get_or_push, take_more, take_all}
 use Rattle.std.proofs.lemmas.List.Elements.{All-push}
+use Rattle.msp_class.specs.declared.sizes.TheConstants.{MOST_JOBS, GREATEST}
 use Rattle.msp_class.proofs.Sums.{OnceBelow-from_permutation, length-OnceBelow}
 use Rattle.msp_instance.specs.declared.Instance.{Instance}
 use Rattle.msp_schedule.specs.declared.Piece.{Piece}
 use Rattle.msp_schedule.specs.Breaks.{no_piece}
 use Rattle.msp_schedule.specs.Piece.{start, finish}
-use Rattle.msp_schedule.specs.Rows.{piece, time_at}
+use Rattle.msp_schedule.specs.BackToBack.{piece, time_at}
 use Rattle.msp_heads.specs.Heads.{head_in, AreHeads}
 use Rattle.msp_route.proofs.OneInstances.{IsOneInstance, is_short}
 use Rattle.msp_srpt.specs.EqualHeads.{piece_number, end_before, HeadsBefore, RunInOrder}
@@ -21,7 +22,7 @@ pub record HaveRun (i : Instance) (heads order : List ℕ) (k moment : ℕ) (pie
   pub whole : All (λ p. p ≡ piece p.job (start p) (start p + time_at i p.job)) pieces
   pub early : (m : ℕ) → m < k → start (piece_number pieces m) ≡ max (end_before pieces m) (head_in heads (piece_number pieces m).job)
   pub now : moment ≡ end_before pieces k
-  pub soon : moment ≤ 1000000000 * (402 + k)
+  pub soon : moment ≤ GREATEST * ((MOST_JOBS + 2) + k)
 
 pub HaveRun-start : (i : Instance) (heads order : List ℕ) → HaveRun i heads order 0 0 []
 HaveRun-start i heads order = record { within = omega arith; jobs = refl; whole = λ k d l. absurd (omega (arith, l)); early = λ m l. absurd (omega (arith, l)); now = refl; soon = omega arith }
@@ -39,7 +40,8 @@ before_kept old p zero l = refl
 before_kept old p (suc m) l = ap finish (number_kept old p m (omega (arith, l)))
 
 module _ (i : Instance) (heads order : List ℕ) (k moment : ℕ) (old : List Piece) (h : HaveRun i heads order k moment old) (some : k < length order)
-    (job from to : ℕ) (is : job ≡ get_or order k 0) (begins : from ≡ max moment (head_in heads job)) (ends : to ≡ from + time_at i job) (low : head_in heads job ≤ 1000000000 * 402) (short : time_at i job ≤ 1000000000) where
+    (job from to : ℕ) (is : job ≡ get_or order k 0) (begins : from ≡ max moment (head_in heads job))
+    (ends : to ≡ from + time_at i job) (low : head_in heads job ≤ GREATEST * (MOST_JOBS + 2)) (short : time_at i job ≤ GREATEST) where
   abbrev last : Piece
   last = piece job from to
 
@@ -56,11 +58,13 @@ module _ (i : Instance) (heads order : List ℕ) (k moment : ℕ) (old : List Pi
   early_now m l = elim (cases_lt m k) [
     | inl less ↦
         let same = number_kept old last m (omega (arith, less, many)) in
-        ap start same ∙ h.early m less ∙ ap (λ x. max x (head_in heads (piece_number old m).job)) (sym (before_kept old last m (omega (arith, less, many)))) ∙ ap (λ p. max (end_before new m) (head_in heads p.job)) (sym same)
+        ap start same ∙ h.early m less ∙ ap (λ x. max x (head_in heads (piece_number old m).job)) (sym (before_kept old last m (omega (arith, less, many))))
+        ∙ ap (λ p. max (end_before new m) (head_in heads p.job)) (sym same)
     | inr more ↦
         let e : m ≡ k = omega (arith, l, more) in
         let at = ap (piece_number new) e ∙ here in
-        ap start at ∙ begins ∙ ap (λ x. max x (head_in heads job)) (h.now ∙ sym (before_kept old last k (omega (arith, many))) ∙ ap (end_before new) (sym e)) ∙ ap (λ p. max (end_before new m) (head_in heads p.job)) (sym at)
+        ap start at ∙ begins ∙ ap (λ x. max x (head_in heads job)) (h.now ∙ sym (before_kept old last k (omega (arith, many))) ∙ ap (end_before new) (sym e))
+        ∙ ap (λ p. max (end_before new m) (head_in heads p.job)) (sym at)
   ]
 
   now_is : to ≡ end_before new (k + 1)
@@ -79,7 +83,8 @@ module _ (i : Instance) (heads order : List ℕ) (k moment : ℕ) (old : List Pi
     soon = omega (arith, ends, begins, low, short, h.soon);
   }
 
-pub RunInOrder-end : (i : Instance) (heads order : List ℕ) (k moment : ℕ) (pieces : List Piece) → length order ≤ k → IsPermutation (range_with_len 0 (length i.jobs)) order → AllPairs (HeadsBefore heads) order
+pub RunInOrder-end : (i : Instance) (heads order : List ℕ) (k moment : ℕ) (pieces : List Piece)
+    → length order ≤ k → IsPermutation (range_with_len 0 (length i.jobs)) order → AllPairs (HeadsBefore heads) order
     → HaveRun i heads order k moment pieces → RunInOrder i heads pieces
 RunInOrder-end i heads order k moment pieces all same rising h =
     let jobs = h.jobs ∙ take_all k order all in
@@ -101,15 +106,16 @@ module _ (i : Instance) (one : IsOneInstance i) (heads order : List ℕ) (are : 
   pub head_inside : job < length heads
   head_inside = omega (arith, job_inside, are.each)
 
-  head_low : head_in heads job ≤ 1000000000 * 402
+  head_low : head_in heads job ≤ GREATEST * (MOST_JOBS + 2)
   head_low = are.small job 0 head_inside
 
   module _ (moment : ℕ) (old : List Piece) (h : HaveRun i heads order k moment old) (from length_is : ℕ) (begins : from ≡ max moment (head_in heads job)) (lasts : length_is ≡ time_at i job) where
-    short : time_at i job ≤ 1000000000
+    short : time_at i job ≤ GREATEST
     short = is_short i one job job_inside
 
-    pub ends_soon : from + length_is ≤ 803000000000
+    pub ends_soon : from + length_is ≤ ((2 * MOST_JOBS + 3) * GREATEST)
     ends_soon = omega (arith, begins, lasts, head_low, short, h.soon, some, length-OnceBelow (OnceBelow-from_permutation all), one.few)
 
     pub have_next : (new : List Piece) → new ≡ old ++ piece job from (from + length_is) ∷ [] → HaveRun i heads order (k + 1) (from + length_is) new
-    have_next new e = subst (HaveRun i heads order (k + 1) (from + length_is)) (sym e) (HaveRun-next i heads order k moment old h some job from (from + length_is) refl begins (omega (arith, lasts)) head_low short)
+    have_next new e = subst (HaveRun i heads order (k + 1) (from + length_is))
+        (sym e) (HaveRun-next i heads order k moment old h some job from (from + length_is) refl begins (omega (arith, lasts)) head_low short)

@@ -65,7 +65,8 @@ module _ (i : Instance) (a t e : ℕ) (small : a < length i.jobs) (released : (j
       }
 
   -- the last piece goes on
-  longer : (front : List Piece) (q : Piece) (to : ℤ) → to ≡ pos e → q.job ≡ a → q.to ≡ pos t → IsLaid i t (front ++ q ∷ []) → HasRun i a t e (front ++ q ∷ []) (front ++ record { job = a; op = 0; machine = 0; from = q.from; to = to } ∷ [])
+  longer : (front : List Piece) (q : Piece) (to : ℤ) → to ≡ pos e → q.job ≡ a → q.to ≡ pos t
+      → IsLaid i t (front ++ q ∷ []) → HasRun i a t e (front ++ q ∷ []) (front ++ record { job = a; op = 0; machine = 0; from = q.from; to = to } ∷ [])
   longer front q to is same ends h =
       let p : Piece = record { job = a; op = 0; machine = 0; from = q.from; to = to } in
       let end : nat_abs to ≡ e = ap nat_abs is in
@@ -75,8 +76,10 @@ module _ (i : Instance) (a t e : ℕ) (small : a < length i.jobs) (released : (j
       record {
         laid = record {
           timed = All-push IsTimed front p (All-front IsTimed front (q ∷ []) h.timed) (record { from = timed.from; to = is ∙ ap pos (sym end); lasts = omega (arith, lasts, end, last, timed.lasts) });
-          place = All-push (λ p. (p.job < length i.jobs) × (p.op ≡ 0) × (p.machine ≡ 0)) front p (All-front (λ p. (p.job < length i.jobs) × (p.op ≡ 0) × (p.machine ≡ 0)) front (q ∷ []) h.place) (small, refl, refl);
-          released = All-push (λ p. (job_at i p.job).release ≤ start p) front p (All-front (λ p. (job_at i p.job).release ≤ start p) front (q ∷ []) h.released) (subst (λ x. (job_at i x).release ≤ start q) same (All-last (λ p. (job_at i p.job).release ≤ start p) front q h.released));
+          place = All-push (λ p. (p.job < length i.jobs) × (p.op ≡ 0) × (p.machine ≡ 0))
+              front p (All-front (λ p. (p.job < length i.jobs) × (p.op ≡ 0) × (p.machine ≡ 0)) front (q ∷ []) h.place) (small, refl, refl);
+          released = All-push (λ p. (job_at i p.job).release ≤ start p) front p (All-front (λ p. (job_at i p.job).release ≤ start p) front (q ∷ []) h.released)
+              (subst (λ x. (job_at i x).release ≤ start q) same (All-last (λ p. (job_at i p.job).release ≤ start p) front q h.released));
           early = All-push (λ p. finish p ≤ e) front p (λ k d l. omega (arith, All-front (λ p. finish p ≤ t) front (q ∷ []) h.early k d l, lasts)) (omega (arith, end));
           order = AllPairs-push (λ p q. finish p ≤ start q) front p (AllPairs-front (λ p q. finish p ≤ start q) front (q ∷ []) h.order) (AllPairs-last (λ p q. finish p ≤ start q) front q h.order);
           whole = AllPairs-push R front p (AllPairs-front R front (q ∷ []) h.whole) (λ k d l s. AllPairs-last R front q h.whole k d l (s ∙ sym same));
@@ -98,7 +101,8 @@ module _ (i : Instance) (a t e : ℕ) (small : a < length i.jobs) (released : (j
           by false = omega arith
 
 -- as the code has it
-pub Runs-laid : (a t e : ℕ) (begin from to : ℤ) (old mid new : List Piece) → t < e → HasBegun a t begin old mid → from ≡ begin → to ≡ pos e → new ≡ mid ++ record { job = a; op = 0; machine = 0; from = from; to = to } ∷ [] → Runs a t e old new
+pub Runs-laid : (a t e : ℕ) (begin from to : ℤ) (old mid new : List Piece) → t < e → HasBegun a t begin old mid
+    → from ≡ begin → to ≡ pos e → new ≡ mid ++ record { job = a; op = 0; machine = 0; from = from; to = to } ∷ [] → Runs a t e old new
 Runs-laid a t e begin from to old mid new lasts begun first is made i small released laid =
     subst (HasRun i a t e old) (sym (made ∙ ap (λ b. mid ++ record { job = a; op = 0; machine = 0; from = b; to = to } ∷ []) first)) (by begun)
   where
@@ -108,4 +112,5 @@ Runs-laid a t e begin from to old mid new lasts begun first is made i small rele
         subst (λ b. G b mid) (sym h.1) (subst (G (pos t)) (sym h.0) (fresh i a t e small released lasts old to is laid h.2))
     by (inr (q, split, same, ends, at)) =
         let G : ℤ → Type 0 = λ b. HasRun i a t e old (mid ++ record { job = a; op = 0; machine = 0; from = b; to = to } ∷ []) in
-        subst G (sym at) (subst (λ ps. HasRun i a t e ps (mid ++ record { job = a; op = 0; machine = 0; from = q.from; to = to } ∷ [])) (sym split) (longer i a t e small released lasts mid q to is same ends (subst (IsLaid i t) split laid)))
+        subst G (sym at) (subst (λ ps. HasRun i a t e ps (mid ++ record { job = a; op = 0; machine = 0; from = q.from; to = to } ∷ []))
+        (sym split) (longer i a t e small released lasts mid q to is same ends (subst (IsLaid i t) split laid)))

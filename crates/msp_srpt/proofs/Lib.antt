@@ -9,7 +9,6 @@ pub mod Arrivals
 pub mod Best
 pub mod EqualInstances
 pub mod SortedEnds
-pub mod HeadBegins
 pub mod HeadEnds
 pub mod HeadSteps
 pub mod HeadBest

@@ -1,7 +1,8 @@
 -- Why no schedule on one machine has a lesser sum of ends than one that keeps the rule of shortest remaining time. Numbers alone: the
 -- jobs are those below n, released at `r`, with the times `p`; `run t j` says how long job j runs before the moment t under the rule. The
 -- other schedule is any list of pieces that are apart, in parts of a unit.
-use Rattle.std.proofs.Common.{◌≡◌, ℕ, zero, suc, ◌+◌, ◌*◌, ◌-◌, ◌<◌, ◌≤◌, ◌⊎◌, inl, inr, Bool, true, false, cond, eqb, leb, List, get_or, filter, All, AllPairs, Contains, sum_by, refl, sym, ap, ◌∙◌, subst, subst₂, arith}
+use Rattle.std.proofs.Common.{◌≡◌, ℕ, zero, suc, ◌+◌, ◌*◌, ◌-◌, ◌<◌, ◌≤◌, ◌⊎◌, inl, inr, Bool, true, false, cond, eqb, leb, List, get_or, filter, All, AllPairs, Contains, sum_by}
+use Rattle.std.proofs.Common.{refl, sym, ap, ◌∙◌, subst, subst₂, arith}
 use Rattle.std.proofs.Math.Nat.{mul-le-mul_left}
 use Rattle.std.proofs.lemmas.Bool.{leb-true, leb-false, eqb-true, eq-eqb, cases_lt}
 use Rattle.std.proofs.lemmas.List.Elements.{All-filter, All-contains, filter_passes}
@@ -38,7 +39,8 @@ least_left d m h b z y u l e f = elim (cases_lt z b) [
     more : (d m z x w y u : ℕ) → d * ((suc m + w) * (suc z + x)) ≤ y + d * ((suc m + w) * z) → y ≤ u + d → d * (m * (suc z + x)) ≤ u + d * (m * z)
     more d m z x w y u e f = omega (arith, e, f)
 
-module _ (n : ℕ) (r p : ℕ → ℕ) (run : ℕ → ℕ → ℕ) (positive : (j : ℕ) → j < n → 0 < p j) (unborn : (t j : ℕ) → j < n → t ≤ r j → run t j ≡ 0) (keeps : (t : ℕ) → Keeps n r p (run t) (run (t + 1)) t) where
+module _ (n : ℕ) (r p : ℕ → ℕ) (run : ℕ → ℕ → ℕ)
+    (positive : (j : ℕ) → j < n → 0 < p j) (unborn : (t j : ℕ) → j < n → t ≤ r j → run t j ≡ 0) (keeps : (t : ℕ) → Keeps n r p (run t) (run (t + 1)) t) where
   abbrev left : ℕ → ℕ → ℕ
   left t j = p j - run t j
 
@@ -126,7 +128,8 @@ module _ (n : ℕ) (r p : ℕ → ℕ) (run : ℕ → ℕ → ℕ) (positive : (
           left_is a = sym (total_below-scale n d (λ j. m * cond (a j) (cond (over j) 1 0) 0) ∙ ap (λ s. d * s) (total_below-scale n m (λ j. cond (a j) (cond (over j) 1 0) 0)))
 
           right_is : (a : ℕ → Bool) → still a t + d * short a t m ≡ total_below n (upper a)
-          right_is a = sym (total_below-add n (λ j. cond (a j) (cond (over j) (fills (d * t) c j) 0) 0) (λ j. d * cond (a j) (m - left t j) 0) ∙ ap (λ s. still a t + s) (total_below-scale n d (λ j. cond (a j) (m - left t j) 0)))
+          right_is a = sym (total_below-add n (λ j. cond (a j) (cond (over j) (fills (d * t) c j) 0) 0) (λ j. d * cond (a j) (m - left t j) 0)
+              ∙ ap (λ s. still a t + s) (total_below-scale n d (λ j. cond (a j) (m - left t j) 0)))
 
           by : (x y z : ℕ) {u v : ℕ} → x ≡ u → y + z ≡ v → u ≤ v → x ≤ y + z
           by x y z e f l = omega (arith, e, f, l)
@@ -144,7 +147,8 @@ module _ (n : ℕ) (r p : ℕ → ℕ) (run : ℕ → ℕ → ℕ) (positive : (
             | inl e ↦ subst (λ x. d * (m * cond x (cond (over j) 1 0) 0) + upper a j ≤ (cond x (cond (over j) (fills (d * t) c j) 0) 0 + d * cond x (m - left t j) 0) + lower a j) e (omega arith)
             | inr e ↦
                 let fresh = new j l e.2 (over j) refl in
-                let P : Bool → Bool → Type 0 = λ x y. d * (m * cond y (cond (over j) 1 0) 0) + (cond x (cond (over j) (fills (d * t) c j) 0) 0 + d * cond x (m - left t j) 0) ≤ (cond y (cond (over j) (fills (d * t) c j) 0) 0 + d * cond y (m - left t j) 0) + d * (m * cond x (cond (over j) 1 0) 0) in
+                let P : Bool → Bool → Type 0 = λ x y. d * (m * cond y (cond (over j) 1 0) 0) + (cond x (cond (over j) (fills (d * t) c j) 0) 0 + d * cond x (m - left t j) 0)
+                ≤ (cond y (cond (over j) (fills (d * t) c j) 0) 0 + d * cond y (m - left t j) 0) + d * (m * cond x (cond (over j) 1 0) 0) in
                 subst₂ P (sym e.0) (sym e.1) (omega (arith, fresh))
           ]
 
@@ -153,7 +157,8 @@ module _ (n : ℕ) (r p : ℕ → ℕ) (run : ℕ → ℕ → ℕ) (positive : (
         -- the other schedule has one moment too
         steps : still a t ≤ still a (t + 1) + d
         steps =
-            let terms = total_below-mono n (λ j. cond (a j) (cond (over j) (fills (d * t) c j) 0) 0) (λ j. cond (a j) (cond (over j) (fills (d * (t + 1)) c j) 0) 0 + fills (d * t) (d * (t + 1)) j) (λ j l. one (a j) (over j) _ _ _ (fills-add j (d * t) (d * (t + 1)) c (omega arith) early)) in
+            let terms = total_below-mono n (λ j. cond (a j) (cond (over j) (fills (d * t) c j) 0) 0) (λ j. cond (a j) (cond (over j) (fills (d * (t + 1)) c j) 0) 0 + fills (d * t) (d * (t + 1)) j)
+            (λ j l. one (a j) (over j) _ _ _ (fills-add j (d * t) (d * (t + 1)) c (omega arith) early)) in
             omega (arith, terms, total_below-add n (λ j. cond (a j) (cond (over j) (fills (d * (t + 1)) c j) 0) 0) (fills (d * t) (d * (t + 1))), fills-all (d * t) (d * (t + 1)))
           where
             one : (x y : Bool) (f g h : ℕ) → f ≡ g + h → cond x (cond y f 0) 0 ≤ cond x (cond y h 0) 0 + g
@@ -170,7 +175,8 @@ module _ (n : ℕ) (r p : ℕ → ℕ) (run : ℕ → ℕ → ℕ) (positive : (
 
         steps_by : Keeps n r p (run t) (run (t + 1)) t → Bound a (t + 1)
         steps_by (rests none same) m =
-            let all : m * count a ≤ short a (t + 1) m = subst (λ s. s ≤ short a (t + 1) m) (total_below-scale n m (λ j. cond (a j) (cond (over j) 1 0) 0)) (total_below-mono n (λ j. m * cond (a j) (cond (over j) 1 0) 0) (λ j. cond (a j) (m - left (t + 1) j) 0) (λ j l. one j l (a j) refl)) in
+            let all : m * count a ≤ short a (t + 1) m = subst (λ s. s ≤ short a (t + 1) m) (total_below-scale n m (λ j. cond (a j) (cond (over j) 1 0) 0))
+            (total_below-mono n (λ j. m * cond (a j) (cond (over j) 1 0) 0) (λ j. cond (a j) (m - left (t + 1) j) 0) (λ j l. one j l (a j) refl)) in
             omega (arith, mul-le-mul_left d all)
           where
             nothing : (j : ℕ) → j < n → a j ≡ true → left (t + 1) j ≡ 0
@@ -212,14 +218,17 @@ module _ (n : ℕ) (r p : ℕ → ℕ) (run : ℕ → ℕ → ℕ) (positive : (
                 omega (arith, bound m, steps, mul-le-mul_left d grows)
               where
                 term : (j : ℕ) (b : Bool) → eqb k j ≡ b → cond (a j) (m - left t j) 0 + cond b 1 0 ≤ cond (a j) (m - left (t + 1) j) 0
-                term j true e = subst (λ i. cond (a i) (m - left t i) 0 + 1 ≤ cond (a i) (m - left (t + 1) i) 0) (eqb-true k j e) (subst (λ x. cond x (m - left t k) 0 + 1 ≤ cond x (m - left (t + 1) k) 0) (sym in_test) (omega (arith, that, g)))
+                term j true e = subst (λ i. cond (a i) (m - left t i) 0 + 1 ≤ cond (a i) (m - left (t + 1) i) 0)
+                    (eqb-true k j e) (subst (λ x. cond x (m - left t k) 0 + 1 ≤ cond x (m - left (t + 1) k) 0) (sym in_test) (omega (arith, that, g)))
                 term j false e = omega (arith, ap (λ x. cond (a j) (m - x) 0) (other j e))
 
             -- m is less than each remaining time but 0
             below : m < h → d * (m * count a) ≤ still a (t + 1) + d * short a (t + 1) m
             below g =
-                let few : short a t h ≤ h * complete = subst (λ s. short a t h ≤ s) (total_below-scale n h (λ j. cond (a j) (cond (leb (left t j) 0) 1 0) 0)) (total_below-mono n (λ j. cond (a j) (h - left t j) 0) (λ j. h * cond (a j) (cond (leb (left t j) 0) 1 0) 0) (λ j l. at_h j l (a j) refl (leb (left t j) 0) refl)) in
-                let many : m * complete ≤ short a (t + 1) m = subst (λ s. s ≤ short a (t + 1) m) (total_below-scale n m (λ j. cond (a j) (cond (leb (left t j) 0) 1 0) 0)) (total_below-mono n (λ j. m * cond (a j) (cond (leb (left t j) 0) 1 0) 0) (λ j. cond (a j) (m - left (t + 1) j) 0) (λ j l. at_m j (a j) (leb (left t j) 0) refl)) in
+                let few : short a t h ≤ h * complete = subst (λ s. short a t h ≤ s) (total_below-scale n h (λ j. cond (a j) (cond (leb (left t j) 0) 1 0) 0))
+                (total_below-mono n (λ j. cond (a j) (h - left t j) 0) (λ j. h * cond (a j) (cond (leb (left t j) 0) 1 0) 0) (λ j l. at_h j l (a j) refl (leb (left t j) 0) refl)) in
+                let many : m * complete ≤ short a (t + 1) m = subst (λ s. s ≤ short a (t + 1) m) (total_below-scale n m (λ j. cond (a j) (cond (leb (left t j) 0) 1 0) 0))
+                (total_below-mono n (λ j. m * cond (a j) (cond (leb (left t j) 0) 1 0) 0) (λ j. cond (a j) (m - left (t + 1) j) 0) (λ j l. at_m j (a j) (leb (left t j) 0) refl)) in
                 omega (arith, least_left d m h (count a) complete (still a t) (still a (t + 1)) g (omega (arith, bound h, mul-le-mul_left d few)) steps, mul-le-mul_left d many)
               where
                 at_h : (j : ℕ) → j < n → (x : Bool) → a j ≡ x → (y : Bool) → leb (left t j) 0 ≡ y → cond x (h - left t j) 0 ≤ h * cond x (cond y 1 0) 0
@@ -268,9 +277,16 @@ module _ (n : ℕ) (r p : ℕ → ℕ) (run : ℕ → ℕ → ℕ) (positive : (
       -- no more jobs are over by c than are complete by the last moment of the rule that is not after c
       over_by : (end : ℕ → ℕ) → ((t j : ℕ) → j < n → left t j ≡ 0 → end j ≤ t) → (t : ℕ) → d * t ≤ c → c < d * (t + 1) → at_most n last c ≤ at_most n (λ j. d * end j) c
       over_by end complete t l m =
-          let all : at_most n last c ≤ count (by_now t) = total_below-mono n (λ j. cond (over j) 1 0) (λ j. cond (by_now t j) (cond (over j) 1 0) 0) (λ j k. released_by j k (over j) refl (by_now t j) refl) in
-          let room : still (by_now t) t ≤ c - d * t = omega (arith, total_below-mono n (λ j. cond (by_now t j) (cond (over j) (fills (d * t) c j) 0) 0) (fills (d * t) c) (λ j k. omega (arith, cond-le (by_now t j) (cond (over j) (fills (d * t) c j) 0), cond-le (over j) (fills (d * t) c j))), fills-all (d * t) c) in
-          let done : short (by_now t) t 1 ≤ at_most n (λ j. d * end j) c = total_below-mono n (λ j. cond (by_now t j) (1 - left t j) 0) (λ j. cond (leb (d * end j) c) 1 0) (λ j k. ended j k (by_now t j) (leb (d * end j) c) refl) in
+          let all : at_most n last c ≤ count (by_now t) =
+          total_below-mono n (λ j. cond (over j) 1 0) (λ j. cond (by_now t j) (cond (over j) 1 0) 0) (λ j k. released_by j k (over j) refl (by_now t j) refl) in
+          let room : still (by_now t) t ≤ c - d * t = omega (
+            arith,
+            total_below-mono n (λ j. cond (by_now t j) (cond (over j) (fills (d * t) c j) 0) 0) (fills (d * t) c)
+                (λ j k. omega (arith, cond-le (by_now t j) (cond (over j) (fills (d * t) c j) 0), cond-le (over j) (fills (d * t) c j))),
+            fills-all (d * t) c,
+          ) in
+          let done : short (by_now t) t 1 ≤ at_most n (λ j. d * end j) c =
+          total_below-mono n (λ j. cond (by_now t j) (1 - left t j) 0) (λ j. cond (leb (d * end j) c) 1 0) (λ j k. ended j k (by_now t j) (leb (d * end j) c) refl) in
           omega (arith, all, done, fewer (count (by_now t)) (short (by_now t) t 1) (still (by_now t) t) (omega (arith, bound_at t l 1)) (omega (arith, room, m)))
         where
           -- d times more would not fit

@@ -34,7 +34,8 @@ pub still_put : (x : Task) (xs ys : List Task) → IsPermutation (x ∷ xs) ys �
 still_put x xs ys p l h = All-permutation (λ y. 0 < y.left) (x ∷ xs) ys p (All-cons (λ y. 0 < y.left) x xs l h)
 
 -- ---- the rule goes on
-pub GoesOn-complete : (until t : ℕ) (x : Task) (xs : List Task) (old new : List Piece) → 0 < x.left → x.left ≤ until - t → t < until → All (Precedes x) xs → Runs x.job t (t + x.left) old new → GoesOn until t (t + x.left) old (x ∷ xs) new xs
+pub GoesOn-complete : (until t : ℕ) (x : Task) (xs : List Task) (old new : List Piece)
+    → 0 < x.left → x.left ≤ until - t → t < until → All (Precedes x) xs → Runs x.job t (t + x.left) old new → GoesOn until t (t + x.left) old (x ∷ xs) new xs
 GoesOn-complete until t x xs old new some l m first run i seen come u =
     let h = All-head (λ y. (y.job < length i.jobs) × ((job_at i y.job).release ≤ t) × (0 < y.left)) x xs u.tasks in
     IsUnderWay-complete i seen t until old new x xs x.left some (omega arith) (omega (arith, l, m)) come first u (run i h.0 h.1 u.laid) refl
@@ -46,10 +47,12 @@ GoesOn-cut until t x xs ys old new l m first run p i seen come u =
     let all : t + (until - t) ≡ until = omega (arith, m) in
     IsUnderWay-permuted i seen until new (record { left = x.left - (until - t); job = x.job } ∷ xs) ys p
     (subst (λ v. IsUnderWay i seen v new (record { left = x.left - (until - t); job = x.job } ∷ xs)) all
-    (IsUnderWay-cut i seen t until old new x xs (until - t) (omega (arith, m)) (omega (arith, l)) (omega (arith, m)) come first u (subst (λ v. Runs x.job t v old new) (sym all) run i h.0 h.1 u.laid) l))
+    (IsUnderWay-cut i seen t until old new x xs (until - t)
+    (omega (arith, m)) (omega (arith, l)) (omega (arith, m)) come first u (subst (λ v. Runs x.job t v old new) (sym all) run i h.0 h.1 u.laid) l))
 
 -- one more task is served
-pub GoesOn-next : (until from t v : ℕ) (ps old new : List Piece) (rs xs ys zs : List Task) (x : Task) → IsPermutation xs (x ∷ ys) → GoesOn until t v old (x ∷ ys) new zs → GoesOn until from t ps rs old xs → GoesOn until from v ps rs new zs
+pub GoesOn-next : (until from t v : ℕ) (ps old new : List Piece) (rs xs ys zs : List Task) (x : Task)
+    → IsPermutation xs (x ∷ ys) → GoesOn until t v old (x ∷ ys) new zs → GoesOn until from t ps rs old xs → GoesOn until from v ps rs new zs
 GoesOn-next until from t v ps old new rs xs ys zs x p step so_far i seen come u =
     step i seen come (IsUnderWay-permuted i seen t old xs (x ∷ ys) p (so_far i seen come u))
 

@@ -1,5 +1,6 @@
 -- The steps of the rule: a job comes, the first task runs, none waits.
-use Rattle.std.proofs.Common.{◌≡◌, ℕ, ◌+◌, ◌-◌, ◌<◌, ◌≤◌, ◌⊎◌, inl, inr, min, Bool, true, false, cond, List, [], ◌∷◌, ◌++◌, length, get_or, All, Contains, IsPermutation, sum_by, count_by, refl, sym, ap, ◌∙◌, subst, arith}
+use Rattle.std.proofs.Common.{◌≡◌, ℕ, ◌+◌, ◌-◌, ◌<◌, ◌≤◌, ◌⊎◌, inl, inr, min, Bool, true, false, cond, List, [], ◌∷◌, ◌++◌, length, get_or, All, Contains, IsPermutation, sum_by}
+use Rattle.std.proofs.Common.{count_by, refl, sym, ap, ◌∙◌, subst, arith}
 use Rattle.std.specs.Prelude.{◌==◌}
 use Rattle.std.proofs.lemmas.Bool.{cases_lt, eqb-true, eq-eqb}
 use Rattle.std.proofs.lemmas.List.Elements.{All-cons, All-head, All-tail, All-contains}
@@ -8,7 +9,7 @@ use Rattle.msp_class.proofs.Sums.{sum_by-append, sum_by-cons, sum_by-none, sum_b
 use Rattle.msp_instance.specs.declared.Instance.{Instance}
 use Rattle.msp_instance.specs.Instance.{job_at}
 use Rattle.msp_schedule.specs.declared.Piece.{Piece}
-use Rattle.msp_schedule.specs.Rows.{time_at}
+use Rattle.msp_schedule.specs.BackToBack.{time_at}
 use Rattle.msp_srpt.specs.declared.shortest.Task.{Task}
 use Rattle.msp_srpt.specs.Shortest.{run_before, left_of, IsWaiting, IsAhead, KeepsRule, idle, runs}
 use Rattle.msp_srpt.specs.Running.{Precedes, HasRun, HaveCome, IsUnderWay, waiting, brought}
@@ -51,7 +52,8 @@ lefts-cons x xs = sum_by-cons (λ (y : Task). y.left) x xs
 
 -- no task of a job that is not counted
 waiting-none : (xs : List Task) (j : ℕ) → counted xs j ≡ 0 → waiting xs j ≡ 0
-waiting-none xs j e = sum_by-none (λ x. cond (x.job == j) x.left 0) xs (λ k d l. by ((get_or xs k d).job == j) (get_or xs k d).left (omega (arith, sum_by-zero (λ (x : Task). cond (x.job == j) 1 0) xs e k d l)))
+waiting-none xs j e = sum_by-none (λ x. cond (x.job == j) x.left 0)
+    xs (λ k d l. by ((get_or xs k d).job == j) (get_or xs k d).left (omega (arith, sum_by-zero (λ (x : Task). cond (x.job == j) 1 0) xs e k d l)))
   where
     by : (b : Bool) (n : ℕ) → cond b 1 0 ≤ 0 → cond b n 0 ≡ 0
     by true n z = absurd (omega (arith, z))
@@ -126,7 +128,8 @@ module _ (i : Instance) (seen : List ℕ) (t v : ℕ) (ps : List Piece) (later :
   }
 
 -- ---- a job comes
-pub IsUnderWay-comes : (i : Instance) (seen : List ℕ) (t : ℕ) (ps : List Piece) (xs : List Task) (x : Task) → x.job < length i.jobs → (job_at i x.job).release ≤ t → x.left ≡ time_at i x.job → 0 < x.left
+pub IsUnderWay-comes : (i : Instance) (seen : List ℕ) (t : ℕ) (ps : List Piece) (xs : List Task) (x : Task)
+    → x.job < length i.jobs → (job_at i x.job).release ≤ t → x.left ≡ time_at i x.job → 0 < x.left
     → count_by (λ y. y == x.job) seen ≡ 0 → t ≤ 2000000000 → IsUnderWay i seen t ps xs → IsUnderWay i (seen ++ x.job ∷ []) t ps (x ∷ xs)
 IsUnderWay-comes i seen t ps xs x inside released is some new early u = record {
   laid = u.laid;
@@ -219,7 +222,8 @@ module _ (i : Instance) (seen : List ℕ) (t until : ℕ) (old new : List Piece)
             compare (left_of i (run_before new v) a) y.left _ _ (omega (arith, left-mine)) is (subst (λ k. (x.left < y.left) ⊎ ((x.left ≡ y.left) × (a ≤ k))) same o) small
 
     keeps : KeepsRule i (run_before new v) (run_before new (v + 1)) v
-    keeps = runs a (record { inside = mine.0; released = omega (arith, mine.1, from); left = omega (arith, left-mine, part, before) }) ahead (λ j. run-then (v + 1) j (omega (arith, from)) (omega (arith, before)) ∙ by j (a == j) (run_before old t j) ∙ ap (λ n. n + cond (a == j) 1 0) (sym (run-then v j from (omega (arith, before)))))
+    keeps = runs a (record { inside = mine.0; released = omega (arith, mine.1, from); left = omega (arith, left-mine, part, before) }) ahead
+        (λ j. run-then (v + 1) j (omega (arith, from)) (omega (arith, before)) ∙ by j (a == j) (run_before old t j) ∙ ap (λ n. n + cond (a == j) 1 0) (sym (run-then v j from (omega (arith, before)))))
       where
         by : (j : ℕ) (b : Bool) (n : ℕ) → n + cond b ((v + 1) - t) 0 ≡ (n + cond b (v - t) 0) + cond b 1 0
         by j true n = omega (arith, from)
@@ -234,7 +238,8 @@ module _ (i : Instance) (seen : List ℕ) (t until : ℕ) (old new : List Piece)
       | inl g ↦ KeepsRule-same i _ _ (run_before new v) (run_before new (v + 1)) v (λ j. run-early v j (omega (arith, g))) (λ j. run-early (v + 1) j (omega (arith, g))) (u.kept v g)
       | inr g ↦ keeps v g l
     ];
-    share = λ j. by (run_before new (t + d) j) (run_before old t j) (waiting ys j) (cond (a == j) ((t + d) - t) 0) (cond (a == j) d 0) (waiting (x ∷ xs) j) (brought i seen j) (run-then (t + d) j (omega arith) (omega arith)) (same (a == j)) (wait j) (u.share j);
+    share = λ j. by (run_before new (t + d) j) (run_before old t j) (waiting ys j) (cond (a == j) ((t + d) - t) 0)
+        (cond (a == j) d 0) (waiting (x ∷ xs) j) (brought i seen j) (run-then (t + d) j (omega arith) (omega arith)) (same (a == j)) (wait j) (u.share j);
     tasks = λ k e l. let h = all k e l in (h.0, omega (arith, h.1), h.2);
     once = λ j. omega (arith, count j, u.once j);
     distinct = u.distinct;
@@ -262,8 +267,10 @@ module _ (i : Instance) (seen : List ℕ) (t until : ℕ) (old new : List Piece)
   pub IsUnderWay-cut : d < x.left → IsUnderWay i seen (t + d) new (record { left = x.left - d; job = x.job } ∷ xs)
   IsUnderWay-cut less =
       let y : Task = record { left = x.left - d; job = x.job } in
-      served (y ∷ xs) (λ j. by j (a == j) (waiting xs j) (waiting-cons y xs j) (waiting-cons x xs j)) (λ j. omega (arith, counted-cons x xs j, counted-cons y xs j)) (omega (arith, lefts-cons x xs, lefts-cons y xs, less))
-      (All-cons (λ y. (y.job < length i.jobs) × ((job_at i y.job).release ≤ t) × (0 < y.left)) y xs (mine.0, mine.1, omega (arith, less)) (All-tail (λ y. (y.job < length i.jobs) × ((job_at i y.job).release ≤ t) × (0 < y.left)) x xs u.tasks))
+      served (y ∷ xs) (λ j. by j (a == j) (waiting xs j) (waiting-cons y xs j) (waiting-cons x xs j))
+      (λ j. omega (arith, counted-cons x xs j, counted-cons y xs j)) (omega (arith, lefts-cons x xs, lefts-cons y xs, less))
+      (All-cons (λ y. (y.job < length i.jobs) × ((job_at i y.job).release ≤ t) × (0 < y.left))
+      y xs (mine.0, mine.1, omega (arith, less)) (All-tail (λ y. (y.job < length i.jobs) × ((job_at i y.job).release ≤ t) × (0 < y.left)) x xs u.tasks))
     where
       by : (j : ℕ) (b : Bool) (n : ℕ) {v w : ℕ} → v ≡ cond b (x.left - d) 0 + n → w ≡ cond b x.left 0 + n → v + cond b d 0 ≡ w
       by j true n e f = omega (arith, e, f, less)

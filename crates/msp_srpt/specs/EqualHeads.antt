@@ -13,7 +13,7 @@ use Rattle.msp_schedule.specs.Breaks.{no_piece}
 use Rattle.msp_schedule.specs.Cost.{end_of}
 use Rattle.msp_schedule.specs.Feasible.{Feasible}
 use Rattle.msp_schedule.specs.Piece.{start, finish}
-use Rattle.msp_schedule.specs.Rows.{piece, time_at}
+use Rattle.msp_schedule.specs.BackToBack.{piece, time_at}
 use Rattle.msp_heads.specs.Heads.{head_in, AreHeads}
 
 -- One machine, precedence, release dates, equal times, and the sum of the completion times: `1|prec,r,p=p|sumC`.

@@ -3,12 +3,13 @@ use Rattle.std.specs.Prelude.{◌≡◌, ℕ, ◌+◌, ◌-◌, ◌*◌, ◌<◌
 use Rattle.std.specs.BinaryHeap.{IsHeap}
 use Rattle.std.specs.Ordering.{nat_cmp, ordering_then}
 use Rattle.std.specs.declared.cmp.Reverse.{Reverse}
+use Rattle.msp_class.specs.declared.sizes.TheConstants.{MOST_JOBS, GREATEST}
 use Rattle.msp_class.proofs.Sums.{OnceBelow}
 use Rattle.msp_instance.specs.declared.Instance.{Instance}
 use Rattle.msp_instance.specs.Instance.{job_at}
 use Rattle.msp_schedule.specs.declared.Piece.{Piece}
 use Rattle.msp_schedule.specs.Piece.{start, finish, IsTimed}
-use Rattle.msp_schedule.specs.Rows.{time_at}
+use Rattle.msp_schedule.specs.BackToBack.{time_at}
 use Rattle.msp_srpt.specs.declared.shortest.Task.{Task}
 use Rattle.msp_srpt.specs.Shortest.{run_before, KeepsRule}
 
@@ -71,7 +72,7 @@ pub record IsUnderWay (i : Instance) (seen : List ℕ) (t : ℕ) (pieces : List 
   pub tasks : All (λ x. (x.job < length i.jobs) × ((job_at i x.job).release ≤ t) × (0 < x.left)) ready
   pub once : (j : ℕ) → count_by (λ x. x.job == j) ready ≤ count_by (λ x. x == j) seen
   pub distinct : (j : ℕ) → count_by (λ x. x == j) seen ≤ 1
-  pub soon : 0 < length ready → t + sum_by (λ x. x.left) ready ≤ 2000000000 + sum_by (time_at i) seen
+  pub soon : 0 < length ready → t + sum_by (λ x. x.left) ready ≤ 2 * GREATEST + sum_by (time_at i) seen
 
 -- The rule is carried out from one moment to another, whichever jobs have come.
 abbrev pub GoesOn : ℕ → ℕ → ℕ → List Piece → List Task → List Piece → List Task → Type 0
@@ -83,5 +84,5 @@ pub record IsCarriedOut (i : Instance) (t : ℕ) (pieces : List Piece) : Type 0 
   pub order : List ℕ
   pub once : OnceBelow (length i.jobs) order
   pub ended : IsUnderWay i order t pieces []
-  pub short : t ≤ 403000000000
+  pub short : t ≤ (MOST_JOBS + 3) * GREATEST
   pub few : length pieces ≤ 2 * length i.jobs + 1

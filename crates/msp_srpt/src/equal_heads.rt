@@ -9,12 +9,12 @@
 // jobs only those before that one in the order can have a lesser head. So where k jobs end by a moment in any feasible schedule, as many of
 // them as the run has lie between that head and the moment, which is therefore no earlier than the k-th end here. Sums of ends compare as
 // the counts of ends by each moment do (`proofs/Counts.antt`). Heads rise along arcs, so arcs are kept.
-ghost use Rattle.std.specs.Prelude.{◌≡◌, length, pos, AllPairs, IfOk, IsPermutation, ⊤};
+ghost use Rattle.std.specs.Prelude.{◌≡◌, length, pos, AllPairs, IfOk, IsPermutation};
 ghost use Rattle.std.specs.List.{range_with_len};
 ghost use Rattle.msp_class.specs.declared.class.Env.TheVariants.{One};
 ghost use Rattle.msp_instance.specs.Conditions.{Inner};
 ghost use Rattle.msp_schedule.specs.Cost.{IsBest};
-ghost use Rattle.msp_schedule.specs.Rows.{piece};
+ghost use Rattle.msp_schedule.specs.BackToBack.{piece};
 ghost use Rattle.msp_route.specs.Bounds.{IsAnswer};
 ghost use Rattle.msp_heads.specs.Heads.{AreHeads};
 ghost use Rattle.msp_srpt.specs.EqualHeads.{equal_heads_class, HeadsBefore, RunInOrder, RunByHeads, EndsFirst};
@@ -92,10 +92,6 @@ pub struct EqualHeads;
 
 impl Solver for EqualHeads {
     ghost solved = { λ _. equal_heads_class };
-
-    ghost can_solve = { λ _ _. ⊤ };
-
-    ghost may_ask = { λ _ _. ⊤ };
 
     fn target(&self) -> Class {
         EQUAL_HEADS_CLASS

@@ -1,20 +1,20 @@
 // Shortest remaining time: at each moment the released job runs that still needs the least time.
-ghost use Rattle.std.specs.Prelude.{◌≡◌, ℕ, ◌+◌, ◌-◌, ◌*◌, ◌<◌, ◌≤◌, [], ◌∷◌, true, false, length, map, vec_len, All, AllPairs, IfOk, IfNone, IfSome, IsPermutation, ⊤};
+ghost use Rattle.std.specs.Prelude.{◌≡◌, ℕ, ◌+◌, ◌-◌, ◌*◌, ◌<◌, ◌≤◌, [], ◌∷◌, true, false, length, map, vec_len, All, AllPairs, IfOk, IfNone, IfSome, IsPermutation};
 ghost use Rattle.std.specs.BinaryHeap.{heap_items, heap_len};
 ghost use Rattle.std.specs.List.{range_with_len};
-ghost use Rattle.msp_instance.specs.declared.ranges.TheConstants.{MOST_JOBS};
+ghost use Rattle.msp_class.specs.declared.sizes.TheConstants.{MOST_JOBS};
 ghost use Rattle.msp_instance.specs.Instance.{job_at};
 ghost use Rattle.msp_instance.specs.Conditions.{Inner};
 ghost use Rattle.msp_schedule.specs.Cost.{IsBest};
 ghost use Rattle.msp_schedule.specs.Fraction.{IsLowest};
-ghost use Rattle.msp_schedule.specs.Rows.{time_at};
+ghost use Rattle.msp_schedule.specs.BackToBack.{time_at};
 ghost use Rattle.msp_schedule.specs.Settled.{IsSettled};
 ghost use Rattle.msp_route.specs.Bounds.{IsAnswer};
 ghost use Rattle.msp_srpt.specs.Shortest.{shortest_class, IsShortestFirst};
 ghost use Rattle.msp_srpt.specs.Running.{Precedes, IsQueue, tasks_in, HasBegun, Runs, GoesOn, IsCarriedOut};
 
 use msp_class::{Class, Crit, Env, List, NoMemory, Order, Times};
-use msp_instance::{GREATEST, Instance};
+use msp_instance::{GREATEST, Instance, MOST_JOBS};
 use msp_route::{Solver, first_time, jobs_by_key};
 use msp_schedule::{Piece, Schedule, Solution};
 use std::alloc::Global;
@@ -32,7 +32,7 @@ const SHORTEST_CLASS: Class = Class {
 };
 
 /// A moment after all jobs are complete.
-const LATEST: u64 = 403 * GREATEST;
+const LATEST: u64 = (MOST_JOBS as u64 + 3) * GREATEST;
 
 /// A job and the time that it still needs. The lesser one runs first.
 #[derive(Clone, Copy, PartialEq, Eq, PartialOrd, Ord)]
@@ -255,10 +255,6 @@ pub struct Shortest;
 
 impl Solver for Shortest {
     ghost solved = { λ _. shortest_class };
-
-    ghost can_solve = { λ _ _. ⊤ };
-
-    ghost may_ask = { λ _ _. ⊤ };
 
     fn target(&self) -> Class {
         SHORTEST_CLASS

@@ -1,5 +1,6 @@
 -- The least bound that can be met: some forced lateness reaches it, so it is that of a best schedule.
-use Rattle.std.proofs.Common.{◌≡◌, ℕ, zero, suc, ◌+◌, ◌*◌, ◌<◌, ◌≤◌, ◌⊎◌, inl, inr, Bool, true, false, List, [], ◌∷◌, length, get_or, map, ℤ, pos, nat_abs, ◌+ℤ◌, ◌-ℤ◌, ◌*ℤ◌, ◌≤ℤ◌, ◌<ℤ◌, All, sum_by, refl, sym, ap, subst, subst₂, ◌∙◌, arith}
+use Rattle.std.proofs.Common.{◌≡◌, ℕ, zero, suc, ◌+◌, ◌*◌, ◌<◌, ◌≤◌, ◌⊎◌, inl, inr, Bool, true, false, List, [], ◌∷◌, length, get_or, map, ℤ, pos, nat_abs, ◌+ℤ◌, ◌-ℤ◌, ◌*ℤ◌, ◌≤ℤ◌}
+use Rattle.std.proofs.Common.{◌<ℤ◌, All, AllPairs, IsPermutation, sum_by, refl, sym, ap, subst, subst₂, ◌∙◌, arith}
 use Rattle.std.specs.Prelude.{Option, Some, None, MatchOption, IsTrue, is_some, ◌↔◌}
 use Rattle.std.specs.Int.{int_max}
 use Rattle.std.specs.List.{range_with_len}
@@ -8,6 +9,7 @@ use Rattle.std.proofs.lemmas.Int.{ints}
 use Rattle.std.proofs.lemmas.List.{length-map}
 use Rattle.std.proofs.lemmas.List.Elements.{All-nil, All-map}
 use Rattle.std.proofs.Math.Nat.{mul-le-mul_left}
+use Rattle.msp_class.specs.declared.sizes.TheConstants.{MOST_JOBS, MOST_MACHINES, GREATEST}
 use Rattle.msp_class.specs.Sums.{total_below}
 use Rattle.msp_class.proofs.IntegerRing.{natural, le-pos, ≤ℤ_trans, ≤ℤ_refl, ≤ℤ_antisym, ≤ℤ-int_max_left, int_max_mono, *ℤ_comm, *ℤ-mono, *ℤ-cancel, *ℤ-sub}
 use Rattle.msp_class.proofs.Sums.{OnceBelow, OnceBelow-range, OnceBelow-from_permutation, length-OnceBelow, total_below-scale}
@@ -18,21 +20,23 @@ use Rattle.msp_schedule.specs.declared.Piece.{Piece}
 use Rattle.msp_schedule.specs.declared.Schedule.{Schedule}
 use Rattle.msp_schedule.specs.Feasible.{Feasible}
 use Rattle.msp_schedule.specs.Cost.{cost_of, Best}
-use Rattle.msp_schedule.specs.Rows.{time_at}
+use Rattle.msp_schedule.specs.BackToBack.{time_at}
+use Rattle.msp_schedule.proofs.lists.DateOrder.{dates_rise}
 use Rattle.msp_schedule.proofs.lists.Places.{sum_by-places, total_below-within}
 use Rattle.msp_schedule.proofs.feasible.OfClass.{IsOfClass, IsOfClass-from}
 use Rattle.msp_route.specs.Bounds.{IsAnswer}
+use Rattle.msp_route.specs.Dates.{IsDueBefore}
 use Rattle.msp_route.specs.Halving.{IsLeastBound, IsRange}
 use Rattle.msp_stairs.specs.declared.climb.Stair.{Stair}
 use Rattle.msp_stairs.specs.declared.climb.Task.{Task}
-use Rattle.msp_stairs.specs.Stairs.{stairs_class, IsForced}
+use Rattle.msp_stairs.specs.Stairs.{stairs_class, IsForced, HasTwoPiecesAtMost}
 use Rattle.msp_stairs.specs.Bounds.{greatest_bound, CanMeet, at, work_at, deadline, AreByDate, IsReady}
 use Rattle.msp_stairs.specs.Steps.{machines_of, ends_of, Falls, of_all, of_first, IsBelow, level, HasClimbed, IsClimbed, IsTooLate, task_for, IsLaid}
 use Rattle.msp_stairs.proofs.Climbing.{Falls-none, AreBacked-none}
 use Rattle.msp_stairs.proofs.Steps.{CanLay, HasClimbed-next, IsTooLate-found}
 use Rattle.msp_stairs.proofs.Laying.{laying}
 use Rattle.msp_stairs.proofs.Forced.{forced_bounds, forced_above, deadline-late}
-use Rattle.msp_stairs.proofs.Schedules.{stairs_schedule, is_feasible, at_most_bound, meets, is_answer}
+use Rattle.msp_stairs.proofs.Schedules.{stairs_schedule, is_feasible, at_most_bound, meets, is_answer, cut_once}
 use Rattle.msp_stairs.proofs.Tasks.{held, kept}
 
 -- ---- no job is laid yet
@@ -60,11 +64,12 @@ HasClimbed-none i order bound = record {
     work = λ x l. absurd (omega (arith, l));
     ends = λ k d l. absurd (omega (arith, l));
     few = omega arith;
+    cuts = λ x l. absurd (omega (arith, l));
   };
 }
 
 -- ---- times, and deadlines in order
-time_some : (i : Instance) → IsOfClass i stairs_class → (j : ℕ) → j < length i.jobs → (1 ≤ time_at i j) × (time_at i j ≤ 1000000000)
+time_some : (i : Instance) → IsOfClass i stairs_class → (j : ℕ) → j < length i.jobs → (1 ≤ time_at i j) × (time_at i j ≤ GREATEST)
 time_some i h j l = let n = (h.jobs j no_job l).needs in let t = n.times 0 no_need (omega (arith, n.shape.0)) in (t.0, t.1)
 
 some_product : (a b : ℕ) → 1 ≤ a → 1 ≤ b → 1 ≤ a * b
@@ -101,7 +106,8 @@ module _ (i : Instance) (order : List ℕ) (r : IsReady i order) where
           added x y h = omega (arith, ints, h)
 
           by : (x y : ℤ) → x ≤ℤ y → nat_abs (int_max (pos 0) x) ≤ nat_abs (int_max (pos 0) y)
-          by x y h = le-pos (subst₂ (λ u v. u ≤ℤ v) (natural (int_max (pos 0) x) (≤ℤ-int_max_left (pos 0) x)) (natural (int_max (pos 0) y) (≤ℤ-int_max_left (pos 0) y)) (int_max_mono (≤ℤ_refl (pos 0)) h))
+          by x y h =
+              le-pos (subst₂ (λ u v. u ≤ℤ v) (natural (int_max (pos 0) x) (≤ℤ-int_max_left (pos 0) x)) (natural (int_max (pos 0) y) (≤ℤ-int_max_left (pos 0) y)) (int_max_mono (≤ℤ_refl (pos 0)) h))
 
       rises : (x y : ℕ) → x ≤ y → y < length order → deadline i bound (at order x) ≤ deadline i bound (at order y)
       rises x y l b = elim (cases_lt x y) [
@@ -122,7 +128,8 @@ module _ (i : Instance) (order : List ℕ) (r : IsReady i order) where
   pub order_inside : All (λ j. j < n) order
   order_inside = once.within
 
-  module _ (bound : ℤ) (k : ℕ) (old new : List Stair) (before after : List Piece) (inside : k < length order) (c : HasClimbed i order bound k old before) (t : Task) (is : t ≡ task_for i bound (at order k)) where
+  module _ (bound : ℤ) (k : ℕ) (old new : List Stair) (before after : List Piece)
+      (inside : k < length order) (c : HasClimbed i order bound k old before) (t : Task) (is : t ≡ task_for i bound (at order k)) where
     pub some_stairs : 0 < length old
     some_stairs = omega (arith, sym (length-map old (λ s. s.machine)) ∙ length-OnceBelow c.on_stairs.machines, h.machine)
 
@@ -151,9 +158,11 @@ module _ (i : Instance) (order : List ℕ) (r : IsReady i order) where
       next : k + 1 ≡ suc k
       next = omega arith
 
-      by : (stairs : List Stair) (ps : List Piece) → HasClimbed i order bound k stairs ps → (fits : Bool) (new : List Stair) (after : List Piece) → IsLaid (task_for i bound (at order k)) stairs ps fits new after
+      by : (stairs : List Stair) (ps : List Piece) → HasClimbed i order bound k stairs ps
+          → (fits : Bool) (new : List Stair) (after : List Piece) → IsLaid (task_for i bound (at order k)) stairs ps fits new after
           → ((stairs : List Stair) × (ps : List Piece) × HasClimbed i order bound (suc k) stairs ps) ⊎ IsTooLate i order bound
-      by stairs ps c true new after laid = inl (new, after, subst (λ q. HasClimbed i order bound q new after) next (HasClimbed-next i order bound (CanLay-ready bound) k stairs new ps after (omega (arith, l)) c laid))
+      by stairs ps c true new after laid =
+          inl (new, after, subst (λ q. HasClimbed i order bound q new after) next (HasClimbed-next i order bound (CanLay-ready bound) k stairs new ps after (omega (arith, l)) c laid))
       by stairs ps c false new after laid = inr (IsTooLate-found i order bound (CanLay-ready bound) k stairs new ps after (omega (arith, l)) c laid)
 
   pub decides : (bound : ℤ) → CanMeet i bound ⊎ IsTooLate i order bound
@@ -167,7 +176,8 @@ module _ (i : Instance) (order : List ℕ) (r : IsReady i order) where
   all_forced bound y (s, f, met) forced = by s.unit (nat_abs s.unit) (natural s.unit (omega (arith, ints, f.unit))) f.unit (≤ℤ_trans (forced_bounds i h s f y forced) met)
     where
       by : (u : ℤ) (k : ℕ) → u ≡ pos k → pos 1 ≤ℤ u → (y *ℤ u) ≤ℤ (bound *ℤ u) → y ≤ℤ bound
-      by u k e l b = *ℤ-cancel k (omega (arith, le-pos (subst (λ x. pos 1 ≤ℤ x) e l))) (subst₂ (λ p q. p ≤ℤ q) (ap (λ x. y *ℤ x) e ∙ *ℤ_comm y (pos k)) (ap (λ x. bound *ℤ x) e ∙ *ℤ_comm bound (pos k)) b)
+      by u k e l b = *ℤ-cancel k (omega (arith, le-pos (subst (λ x. pos 1 ≤ℤ x) e l)))
+          (subst₂ (λ p q. p ≤ℤ q) (ap (λ x. y *ℤ x) e ∙ *ℤ_comm y (pos k)) (ap (λ x. bound *ℤ x) e ∙ *ℤ_comm bound (pos k)) b)
 
   pub not_met : (bound : ℤ) → IsTooLate i order bound → CanMeet i bound → ⊥
   not_met bound late can = let (y, forced, above) = exceeded bound late in never (all_forced bound y can forced) above
@@ -194,7 +204,8 @@ module _ (i : Instance) (order : List ℕ) (r : IsReady i order) where
       feasible = is_feasible i h order bound (CanLay-ready bound) ps made
 
       pub cost_is : cost_of i (stairs_schedule i ps) ≡ bound
-      cost_is = ≤ℤ_antisym (at_most_bound i h order bound (CanLay-ready bound) ps made) (*ℤ-cancel m (omega (arith, h.machine)) (subst (λ x. x ≤ℤ (pos m *ℤ cost_of i (stairs_schedule i ps))) (*ℤ_comm bound (pos m)) (forced_bounds i h (stairs_schedule i ps) feasible bound reached)))
+      cost_is = ≤ℤ_antisym (at_most_bound i h order bound (CanLay-ready bound) ps made) (*ℤ-cancel m (omega (arith, h.machine))
+          (subst (λ x. x ≤ℤ (pos m *ℤ cost_of i (stairs_schedule i ps))) (*ℤ_comm bound (pos m)) (forced_bounds i h (stairs_schedule i ps) feasible bound reached)))
 
       pub is_best : Best i (stairs_schedule i ps)
       is_best = record {
@@ -236,7 +247,8 @@ module _ (i : Instance) (order : List ℕ) (r : IsReady i order) where
       enough x l = omega (arith, first, (CanLay-ready high).rises 0 x (omega arith) l)
         where
           first : m * sum_by (time_at i) order ≤ due 0
-          first = le-pos (by (pos m *ℤ (job_at i (at order 0)).due) (m * sum_by (time_at i) order) (due 0) high (*ℤ-sub (pos m) (pos (sum_by (time_at i) order)) (job_at i (at order 0)).due) (deadline-late i high (at order 0)))
+          first = le-pos (by (pos m *ℤ (job_at i (at order 0)).due) (m * sum_by (time_at i) order)
+              (due 0) high (*ℤ-sub (pos m) (pos (sum_by (time_at i) order)) (job_at i (at order 0)).due) (deadline-late i high (at order 0)))
             where
               by : (d : ℤ) (w l : ℕ) (b : ℤ) → b ≡ pos w -ℤ d → (d +ℤ b) ≤ℤ pos l → pos w ≤ℤ pos l
               by d w l b e h = omega (arith, ints, e, h)
@@ -255,13 +267,14 @@ module _ (i : Instance) (order : List ℕ) (r : IsReady i order) where
   pub some_order : 0 < length order
   some_order = omega (arith, length-OnceBelow once, h.some)
 
-  pub few_order : length order ≤ 400
+  pub few_order : length order ≤ MOST_JOBS
   few_order = omega (arith, length-OnceBelow once, h.few)
 
-  pub time_short : (j : ℕ) → j < n → time_at i j ≤ 400000000000
+  pub time_short : (j : ℕ) → j < n → time_at i j ≤ (MOST_JOBS * GREATEST)
   time_short j l = let t = (time_some i h j l).1 in omega (arith, t)
 
-  pub range_is : (low high : ℤ) → low ≡ pos m *ℤ (pos (time_at i (at order 0)) -ℤ (job_at i (at order 0)).due) → high ≡ pos m *ℤ (pos (sum_by (time_at i) order) -ℤ (job_at i (at order 0)).due) → LiesWithin greatest_bound low → LiesWithin greatest_bound high
+  pub range_is : (low high : ℤ) → low ≡ pos m *ℤ (pos (time_at i (at order 0)) -ℤ (job_at i (at order 0)).due)
+      → high ≡ pos m *ℤ (pos (sum_by (time_at i) order) -ℤ (job_at i (at order 0)).due) → LiesWithin greatest_bound low → LiesWithin greatest_bound high
       → IsRange (CanMeet i) greatest_bound (record { low = held low; high = held high })
   range_is low high e f p q = subst₂ (λ x y. IsRange (CanMeet i) greatest_bound (record { low = x; high = y })) (sym (bound_kept low p)) (sym (bound_kept high q)) (record {
     met = subst (CanMeet i) (sym f) high_is;
@@ -284,10 +297,13 @@ pub record IsSolved (i : Instance) (s : Schedule) (num den : ℤ) : Type 0 where
   pub best : Best i s
   pub over : (num *ℤ s.unit) ≡ (cost_of i s *ℤ den)
   pub answer : IsAnswer i s
+  pub cuts : HasTwoPiecesAtMost s
   pub cost : (x : ℤ) × IsForced i x × ((y : ℤ) → IsForced i y → y ≤ℤ x) × ((num *ℤ pos i.machines) ≡ (x *ℤ den))
 
-pub IsReady-shown : (i : Instance) (order shown : List ℕ) → i.class ≡ stairs_class → Inner i → AreByDate i order → shown ≡ order → IsReady i shown
-IsReady-shown i order shown class inner by_date e = record { inner = inner; class = class; by_date = subst (AreByDate i) (sym e) by_date }
+pub IsReady-shown : (i : Instance) (order shown : List ℕ) → i.class ≡ stairs_class
+    → Inner i → IsPermutation (range_with_len 0 (length i.jobs)) order → AllPairs (IsDueBefore i) order → shown ≡ order → IsReady i shown
+IsReady-shown i order shown class inner all sorted e =
+    record { inner = inner; class = class; by_date = subst (AreByDate i) (sym e) (record { all = all; rising = dates_rise (λ a b. a < b) (λ j. (job_at i j).due) order sorted }) }
 
 module _ (i : Instance) (order : List ℕ) (r : IsReady i order) (bound : ℤ) (least : IsLeastBound (CanMeet i) bound) (size : LiesWithin greatest_bound bound) where
   pub never_late : IsTooLate i order (held bound) → ⊥
@@ -298,6 +314,7 @@ module _ (i : Instance) (order : List ℕ) (r : IsReady i order) (bound : ℤ) (
     best = is_best i order r bound least ps made;
     over = ap (λ x. x *ℤ pos i.machines) (sym (cost_is i order r bound least ps made));
     answer = is_answer i (h i order r) order bound (CanLay-ready i order r bound) ps made size;
+    cuts = cut_once i (h i order r) order bound (CanLay-ready i order r bound) ps made;
     cost = (bound, reached i order r bound least, (λ y forced. all_forced i order r bound y least.met forced), refl);
   }
 
@@ -306,5 +323,5 @@ module _ (i : Instance) (order : List ℕ) (r : IsReady i order) (bound : ℤ) (
       subst₂ (λ u b. IsSolved i (record { unit = u; pieces = ps }) b u) (sym (ap held e ∙ kept (pos i.machines) (few i.machines (h i order r).machines))) (sym (bound_kept bound size))
       (plainly ps (subst (λ b. IsClimbed i order b ps) (bound_kept bound size) made))
     where
-      few : (q : ℕ) → q ≤ 32 → LiesWithin 30000000000000 (pos q)
+      few : (q : ℕ) → q ≤ MOST_MACHINES → LiesWithin 30000000000000 (pos q)
       few q l = (omega (arith, ints), omega (arith, ints, l))

@@ -72,7 +72,8 @@ module _ (p D : ℕ → ℕ) where
       enough (suc l) = let n = together-none (e ∷ es) h in omega (arith, n)
 
   -- where job k fits on none of m machines, some jobs take longer than their m greatest deadlines
-  pub found_late : (k l m : ℕ) (es : List ℕ) → m ≡ l + length es → 0 < length es → All (λ e. D k < e + p k) es → AreBacked p D k l es → (set : List ℕ) × IsBelow (suc k) set × (of_first D m set < of_all p set)
+  pub found_late : (k l m : ℕ) (es : List ℕ) → m ≡ l + length es
+      → 0 < length es → All (λ e. D k < e + p k) es → AreBacked p D k l es → (set : List ℕ) × IsBelow (suc k) set × (of_first D m set < of_all p set)
   found_late k l m [] is some high h = absurd (omega (arith, some))
   found_late k l m (e ∷ []) is some high h =
       let (set, below, enough) = h.0 in

@@ -1,5 +1,6 @@
 -- Forced lateness: no schedule has less, and where a job fits on no machine, it is above the bound.
-use Rattle.std.proofs.Common.{◌≡◌, ◌≢◌, ℕ, zero, suc, ◌+◌, ◌*◌, ◌-◌, ◌<◌, ◌≤◌, inl, inr, List, [], ◌∷◌, ◌++◌, length, get_or, map, take, drop, All, AllPairs, Contains, pos, ℤ, nat_abs, ◌+ℤ◌, ◌-ℤ◌, ◌*ℤ◌, ◌≤ℤ◌, ◌<ℤ◌, sum_by, refl, sym, ap, ap₂, subst, subst₂, ◌∙◌, arith}
+use Rattle.std.proofs.Common.{◌≡◌, ◌≢◌, ℕ, zero, suc, ◌+◌, ◌*◌, ◌-◌, ◌<◌, ◌≤◌, inl, inr, List, [], ◌∷◌, ◌++◌, length, get_or, map, take, drop, All, AllPairs, Contains, pos, ℤ}
+use Rattle.std.proofs.Common.{nat_abs, ◌+ℤ◌, ◌-ℤ◌, ◌*ℤ◌, ◌≤ℤ◌, ◌<ℤ◌, sum_by, refl, sym, ap, ap₂, subst, subst₂, ◌∙◌, arith}
 use Rattle.std.specs.Int.{int_max}
 use Rattle.std.proofs.lemmas.Bool.{cases_lt}
 use Rattle.std.proofs.lemmas.Int.{ints}
@@ -8,14 +9,15 @@ use Rattle.std.proofs.lemmas.List.Elements.{All-nil, All-cons, All-drop, All-map
 use Rattle.std.proofs.lemmas.List.Kept.{AllPairs-cons}
 use Rattle.std.proofs.lemmas.List.Sums.{sum_by-cons}
 use Rattle.msp_class.specs.Crit.{is_greatest}
-use Rattle.msp_class.proofs.IntegerRing.{natural, le-pos, pos-lt, ≤ℤ_trans, ≤ℤ-<ℤ, ≤ℤ_of_same, ≤ℤ-int_max_left, ≤ℤ-int_max_right, *ℤ-add, *ℤ-sub, *ℤ-mono, *ℤ-cancel_lt, *ℤ_assoc, *ℤ_comm, *ℤ-zero, zero-*ℤ}
+use Rattle.msp_class.proofs.IntegerRing.{natural, le-pos, pos-lt, ≤ℤ_trans, ≤ℤ-<ℤ, ≤ℤ_of_same, ≤ℤ-int_max_left, ≤ℤ-int_max_right, *ℤ-add, *ℤ-sub, *ℤ-mono, *ℤ-cancel_lt, *ℤ_assoc}
+use Rattle.msp_class.proofs.IntegerRing.{*ℤ_comm, *ℤ-zero, zero-*ℤ}
 use Rattle.msp_class.proofs.Sums.{OnceBelow, OnceBelow-distinct}
 use Rattle.msp_instance.specs.declared.Instance.{Instance}
 use Rattle.msp_instance.specs.Instance.{job_at}
 use Rattle.msp_schedule.specs.declared.Schedule.{Schedule}
 use Rattle.msp_schedule.specs.Feasible.{Feasible}
 use Rattle.msp_schedule.specs.Cost.{end_of, cost_of, job_cost}
-use Rattle.msp_schedule.specs.Rows.{time_at}
+use Rattle.msp_schedule.specs.BackToBack.{time_at}
 use Rattle.msp_schedule.proofs.changes.Moves.{AllPairs-map}
 use Rattle.msp_schedule.proofs.costs.Charges.{cost_of-bound}
 use Rattle.msp_schedule.proofs.feasible.LastEnds.{last_end-natural}
@@ -24,7 +26,8 @@ use Rattle.msp_schedule.proofs.lists.Parts.{All-front, All-back}
 use Rattle.msp_stairs.specs.Stairs.{stairs_class, dates_together, AreDueLast, IsForced}
 use Rattle.msp_stairs.specs.Bounds.{at, work_at, deadline}
 use Rattle.msp_stairs.specs.Steps.{of_all, of_first, IsBelow, IsTooLate}
-use Rattle.msp_stairs.proofs.Room.{end_at, room_for, room_by_limits}
+use Rattle.msp_schedule.proofs.bounds.Room.{end_at}
+use Rattle.msp_stairs.proofs.Room.{room_for, room_by_limits}
 
 -- ---- lists
 -- one of a list has the least value
@@ -81,7 +84,8 @@ module _ (i : Instance) (h : IsOfClass i stairs_class) (t : Schedule) (f : Feasi
   limits_are : (xs : List ℕ) → All (λ x. x < n) xs → pos (sum_by limit xs) ≡ (t.unit *ℤ dates_together i xs) +ℤ (pos (length xs) *ℤ cost)
   limits_are [] w = sym (ap₂ (λ x y. x +ℤ y) (*ℤ-zero t.unit) (zero-*ℤ cost))
   limits_are (x ∷ xs) w =
-      added (sum_by limit (x ∷ xs)) (limit x) (sum_by limit xs) (t.unit *ℤ due x) cost (t.unit *ℤ dates_together i xs) (pos (length xs) *ℤ cost) _ _ (sum_by-cons limit x xs) (limit_is x (w 0 0 (omega arith))) (limits_are xs (λ k d l. w (suc k) d (omega (arith, l))))
+      added (sum_by limit (x ∷ xs)) (limit x) (sum_by limit xs) (t.unit *ℤ due x) cost (t.unit *ℤ dates_together i xs)
+      (pos (length xs) *ℤ cost) _ _ (sum_by-cons limit x xs) (limit_is x (w 0 0 (omega arith))) (limits_are xs (λ k d l. w (suc k) d (omega (arith, l))))
       (*ℤ-add t.unit (due x) (dates_together i xs)) (suc-*ℤ (length xs) cost)
     where
       added : (s a b : ℕ) (ux c ud lc u l : ℤ) → s ≡ a + b → (ux +ℤ c) ≡ pos a → pos b ≡ ud +ℤ lc → u ≡ ux +ℤ ud → l ≡ lc +ℤ c → pos s ≡ u +ℤ l
@@ -109,7 +113,8 @@ module _ (i : Instance) (h : IsOfClass i stairs_class) (t : Schedule) (f : Feasi
           omega (arith, in_time y (back k d l), rises y x (back k d l) inside before)
         where
           rises : (y x : ℕ) → y < n → x < n → due y ≤ℤ due x → limit y ≤ limit x
-          rises y x l k b = le-pos (subst₂ (λ u v. u ≤ℤ v) (limit_is y l) (limit_is x k) (more (t.unit *ℤ due y) (t.unit *ℤ due x) cost (subst (λ u. (u *ℤ due y) ≤ℤ (u *ℤ due x)) (sym unit_is) (*ℤ-mono (nat_abs t.unit) b))))
+          rises y x l k b = le-pos (subst₂ (λ u v. u ≤ℤ v) (limit_is y l) (limit_is x k)
+              (more (t.unit *ℤ due y) (t.unit *ℤ due x) cost (subst (λ u. (u *ℤ due y) ≤ℤ (u *ℤ due x)) (sym unit_is) (*ℤ-mono (nat_abs t.unit) b))))
             where
               more : (u v c : ℤ) → u ≤ℤ v → (u +ℤ c) ≤ℤ (v +ℤ c)
               more u v c h = omega (arith, ints, h)
@@ -244,14 +249,16 @@ module _ (i : Instance) (order : List ℕ) (bound : ℤ) (once : OnceBelow (leng
     split (suc q) k [] b l = All-nil (λ a. All (λ b. date b ≤ℤ date a) [])
     split (suc q) k (x ∷ xs) b l =
         All-cons (λ a. All (λ b. date b ≤ℤ date a) (map (at order) (drop q xs))) (at order x) (map (at order) (take q xs))
-        (All-map (λ b. date b ≤ℤ date (at order x)) (at order) (drop q xs) (All-drop (λ y. date (at order y) ≤ℤ date (at order x)) q xs (λ n d j. due_before x (get_or xs n d) (IsBelow-all x xs b.1 n d j) (omega (arith, b.0, l)))))
+        (All-map (λ b. date b ≤ℤ date (at order x)) (at order) (drop q xs)
+        (All-drop (λ y. date (at order y) ≤ℤ date (at order x)) q xs (λ n d j. due_before x (get_or xs n d) (IsBelow-all x xs b.1 n d j) (omega (arith, b.0, l)))))
         (split q x xs b.1 (omega (arith, b.0, l)))
 
     due_last : AreDueLast i last others
     due_last = record {
       many = length-map (take m set) (at order) ∙ length-take-le m set many;
       jobs = subst (All (λ j. j < length i.jobs)) (sym whole) (All-map (λ j. j < length i.jobs) (at order) set (λ k d l. once.within (get_or set k d) 0 (within k d l)));
-      once = subst (AllPairs (λ a b. a ≢ b)) (sym whole) (AllPairs-map (λ a b. a ≢ b) (at order) set (λ a b d l k. apart (get_or set a d) (get_or set b d) (IsBelow-pairs (length order) set below a b d l k) (within a d (omega (arith, l, k)))));
+      once = subst (AllPairs (λ a b. a ≢ b)) (sym whole)
+          (AllPairs-map (λ a b. a ≢ b) (at order) set (λ a b d l k. apart (get_or set a d) (get_or set b d) (IsBelow-pairs (length order) set below a b d l k) (within a d (omega (arith, l, k)))));
       dates = split m (length order) set below (omega arith);
     }
       where
@@ -259,7 +266,8 @@ module _ (i : Instance) (order : List ℕ) (bound : ℤ) (once : OnceBelow (leng
         apart x y l k e = OnceBelow-distinct once y x 0 l k (sym e)
 
     set_forced : (y : ℤ) × IsForced i y × (bound <ℤ y)
-    set_forced = (pos (sum_by (time_at i) (last ++ others)) -ℤ dates_together i last, inr (last, others, due_last, refl), above m (sum_by (time_at i) (last ++ others)) (dates_together i last) bound strict)
+    set_forced =
+        (pos (sum_by (time_at i) (last ++ others)) -ℤ dates_together i last, inr (last, others, due_last, refl), above m (sum_by (time_at i) (last ++ others)) (dates_together i last) bound strict)
       where
         all_late : of_all limit_at (take m set) < m * sum_by (time_at i) (last ++ others)
         all_late = subst₂ (λ x y. x < y) (of_first-is limit_at m set) (times_are set ∙ ap (λ l. m * sum_by (time_at i) l) (sym whole)) late

@@ -1,5 +1,6 @@
 -- A task is laid by the place of the first machine on which it ends by its deadline.
-use Rattle.std.proofs.Common.{◌≡◌, ℕ, zero, suc, ◌+◌, ◌-◌, ◌<◌, ◌≤◌, ◌⊎◌, inl, inr, Bool, true, false, ltb, List, [], ◌∷◌, ◌++◌, length, get_or, set, All, refl, sym, ap, ap₂, subst, ◌∙◌, arith, zero-add}
+use Rattle.std.proofs.Common.{◌≡◌, ℕ, zero, suc, ◌+◌, ◌-◌, ◌<◌, ◌≤◌, ◌⊎◌, inl, inr, Bool, true, false, ltb, List, [], ◌∷◌, ◌++◌, length, get_or, set, All, refl, sym, ap, ap₂}
+use Rattle.std.proofs.Common.{subst, ◌∙◌, arith, zero-add}
 use Rattle.std.specs.Prelude.{remove}
 use Rattle.std.specs.List.Sorted.{IsPartitionedBy, IsPartitionPoint}
 use Rattle.std.proofs.lemmas.Bool.{cases_lt, ltb-true, ltb-false, lt-ltb}
@@ -76,7 +77,8 @@ cut_made t old one two new before begun after p end h l is e1 b1 e2 b2 e3 = reco
 read : (xs : List Stair) (k : ℕ) (s : Stair) → k < length xs → s ≡ get_or xs k s → s ≡ get_or xs k no_stair
 read xs k s l e = e ∙ get_or_default xs k s no_stair l
 
-pub between : (t : Task) (old : List Stair) (place : ℕ) (high low : Stair) → HasTooHigh t old place → Falls t.due (ends_of old) → 0 < place → place < length old → high ≡ get_or old (place - 1) high → low ≡ get_or old place low → IsBetween t high low
+pub between : (t : Task) (old : List Stair) (place : ℕ) (high low : Stair) → HasTooHigh t old place
+    → Falls t.due (ends_of old) → 0 < place → place < length old → high ≡ get_or old (place - 1) high → low ≡ get_or old place low → IsBetween t high low
 between t old place high low h falls some l e f = (
   subst (λ s. s.end ≤ t.due) (sym e) (Falls-all t.due old falls (place - 1) high (omega (arith, some, l))),
   subst (λ s. t.due < s.end + t.time) (sym (read old (place - 1) high (omega (arith, some, l)) e)) (h.high (place - 1) (omega (arith, some))),
@@ -90,7 +92,8 @@ pub cut_done : (t : Task) (old one two new : List Stair) (before begun after : L
     → new ≡ to_front (place - 1) two → IsCut t old before new after
 cut_done t old one two new before begun after place end high low h some l eh el is e1 b1 e2 b2 e3 =
     cut_made t old one two new before begun after (place - 1) end (subst (HasTooHigh t old) same h) (omega (arith, some, l))
-    (subst (λ q. end + t.due ≡ (get_or old q no_stair).end + (get_or old (place - 1) no_stair).end + t.time) same (is ∙ ap₂ (λ x y. x.end + y.end + t.time) (read old place low l el) (read old (place - 1) high (omega (arith, some, l)) eh)))
+    (subst (λ q. end + t.due ≡ (get_or old q no_stair).end + (get_or old (place - 1) no_stair).end + t.time)
+    same (is ∙ ap₂ (λ x y. x.end + y.end + t.time) (read old place low l el) (read old (place - 1) high (omega (arith, some, l)) eh)))
     e1 b1 (subst (λ q. two ≡ raised q end one) same e2) (subst (λ q. after ≡ begun ++ parts t.job (get_or one q no_stair).machine (get_or one q no_stair).end end) same b2) e3
   where
     same : place ≡ suc (place - 1)
@@ -116,7 +119,8 @@ place_of t (s ∷ ss) = elim (cases_lt t.due (s.end + t.time)) [
     high p over h zero l = over
     high p over h (suc k) l = h.high k (omega (arith, l))
 
-pub laying : (t : Task) (old : List Stair) (before : List Piece) → 0 < length old → Falls t.due (ends_of old) → (fits : Bool) × (new : List Stair) × (after : List Piece) × IsLaid t old before fits new after
+pub laying : (t : Task) (old : List Stair) (before : List Piece)
+    → 0 < length old → Falls t.due (ends_of old) → (fits : Bool) × (new : List Stair) × (after : List Piece) × IsLaid t old before fits new after
 laying t old before some falls = let (place, h) = place_of t old in by place h (cases_lt place (length old))
   where
     by : (place : ℕ) → HasTooHigh t old place → (place < length old) ⊎ (length old ≤ place) → (fits : Bool) × (new : List Stair) × (after : List Piece) × IsLaid t old before fits new after
@@ -144,7 +148,8 @@ parted t top xs h i j d l b e =
     let over = ltb-true t.due ((get_or xs j d).end + t.time) e in
     lt-ltb t.due ((get_or xs i d).end + t.time) (omega (arith, less, over))
 
-pub place_found : (t : Task) (xs : List Stair) (place : ℕ) → place ≤ length xs → IsPartitionPoint (λ s. ltb t.due (s.end + t.time) ≡ true) (λ s. ltb t.due (s.end + t.time) ≡ false) xs place → HasTooHigh t xs place
+pub place_found : (t : Task) (xs : List Stair) (place : ℕ)
+    → place ≤ length xs → IsPartitionPoint (λ s. ltb t.due (s.end + t.time) ≡ true) (λ s. ltb t.due (s.end + t.time) ≡ false) xs place → HasTooHigh t xs place
 place_found t xs place l (above, below) = record {
   inside = l;
   high = λ k b. ltb-true t.due ((get_or xs k no_stair).end + t.time) (above k no_stair (omega arith) b);

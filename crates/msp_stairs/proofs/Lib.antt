@@ -6,5 +6,4 @@ mod Forced
 mod Schedules
 mod Laying
 mod Bounds
-mod DateKeys
 mod Tasks

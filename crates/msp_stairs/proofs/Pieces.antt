@@ -1,12 +1,16 @@
 -- One job more on the stairs: its pieces, on the machines and by jobs.
-use Rattle.std.proofs.Common.{◌≡◌, ◌≢◌, ℕ, ◌+◌, ◌-◌, ◌<◌, ◌≤◌, inl, inr, Bool, true, false, cond, eqb, ltb, List, [], ◌∷◌, ◌++◌, length, get_or, map, All, AllPairs, ℤ, sum_by, refl, sym, ap, ap₂, subst, subst₂, ◌∙◌, arith, append-nil, append_assoc, length-append}
+use Rattle.std.proofs.Common.{◌≡◌, ◌≢◌, ℕ, ◌+◌, ◌-◌, ◌<◌, ◌≤◌, inl, inr, Bool, true, false, cond, eqb, ltb, List, [], ◌∷◌, ◌++◌, length, get_or, map, All, AllPairs, ℤ, sum_by}
+use Rattle.std.proofs.Common.{refl, sym, ap, ap₂, subst, subst₂, ◌∙◌, arith, append-nil, append_assoc, length-append}
+use Rattle.std.specs.Prelude.{◌==◌}
+use Rattle.std.specs.List.{filter, count_by}
 use Rattle.std.proofs.lemmas.Bool.{cases_lt, eq-eqb, ne_eqb, ltb-true, ltb-false}
 use Rattle.std.proofs.lemmas.List.{length-map, get_or-map, map-append}
-use Rattle.std.proofs.lemmas.List.Elements.{All-nil, All-cons, All-head, All-tail, All-append, All-push}
+use Rattle.std.proofs.lemmas.List.Elements.{All-nil, All-cons, All-head, All-tail, All-append, All-push, filter-append}
 use Rattle.std.proofs.lemmas.List.Sorted.{IsPermutation-middle}
-use Rattle.std.proofs.lemmas.List.Sums.{sum_by-append, sum_by-cons}
+use Rattle.std.proofs.lemmas.List.Sums.{sum_by-append, sum_by-cons, length-filter, count_by-le-length}
 use Rattle.msp_class.proofs.Sums.{OnceBelow, OnceBelow-distinct, OnceBelow-permutation, AllPairs-head, sum_by-filter, sum_by-none, sum_by-same, cond-no, cond-yes}
 use Rattle.msp_instance.specs.declared.Instance.{Instance}
+use Rattle.msp_instance.proofs.ArcLemmas.{filter_none}
 use Rattle.msp_schedule.specs.declared.Piece.{Piece}
 use Rattle.msp_schedule.specs.Intervals.{IsApartOn, size_of, work_of}
 use Rattle.msp_schedule.specs.Piece.{job_of, start, finish, IsTimed}
@@ -58,7 +62,8 @@ module _ (m : ℕ) (xs : List Stair) (a : Stair) (zs : List Stair) (ps : List Pi
   ran : (j e : ℕ) → a.end < e → AreOnStairs m (xs ++ busy e ∷ zs) (ps ++ part j a.machine a.end e ∷ [])
   ran j e lasts = record {
     machines = subst (OnceBelow m) (sym (same_machines e)) o.machines;
-    hold = All-append (Holds new) xs (busy e ∷ zs) (still xs ahead (All-front (Holds ps) xs (a ∷ zs) o.hold)) (All-cons (Holds new) (busy e) zs here (still zs behind (All-tail (Holds ps) a zs (All-back (Holds ps) xs (a ∷ zs) o.hold))));
+    hold = All-append (Holds new) xs (busy e ∷ zs) (still xs ahead (All-front (Holds ps) xs (a ∷ zs) o.hold))
+        (All-cons (Holds new) (busy e) zs here (still zs behind (All-tail (Holds ps) a zs (All-back (Holds ps) xs (a ∷ zs) o.hold))));
     timed = All-push IsTimed ps p o.timed (record { from = refl; to = refl; lasts = lasts });
     place = All-push (λ q. (q.op ≡ 0) × (q.machine < m)) ps p o.place (refl, inside);
     apart = AllPairs-push (IsApartOn machine_of start finish) ps p o.apart (λ k d l e. inl (held k d l e));
@@ -88,7 +93,8 @@ module _ (m : ℕ) (xs : List Stair) (a : Stair) (zs : List Stair) (ps : List Pi
 
   pub in_front : AreOnStairs m (a ∷ (xs ++ zs)) ps
   in_front = record {
-    machines = subst (OnceBelow m) (ap (λ ms. a.machine ∷ ms) (sym (map-append number xs zs))) (OnceBelow-permutation (subst (OnceBelow m) (map-append number xs (a ∷ zs)) o.machines) (IsPermutation-middle (map number xs) a.machine (map number zs)));
+    machines = subst (OnceBelow m) (ap (λ ms. a.machine ∷ ms) (sym (map-append number xs zs)))
+        (OnceBelow-permutation (subst (OnceBelow m) (map-append number xs (a ∷ zs)) o.machines) (IsPermutation-middle (map number xs) a.machine (map number zs)));
     hold = All-cons (Holds ps) a (xs ++ zs) held (All-append (Holds ps) xs zs (All-front (Holds ps) xs (a ∷ zs) o.hold) (All-tail (Holds ps) a zs (All-back (Holds ps) xs (a ∷ zs) o.hold)));
     timed = o.timed;
     place = o.place;
@@ -136,7 +142,8 @@ AreOfJob-one job work due a b ps e l h = record {
   few = omega (arith, h.few);
 }
 
-pub AreOfJob-two : (job work due a b c e : ℕ) (ps qs : List Piece) → a ≤ b → c ≤ e → e ≤ a → (b - a) + (e - c) ≡ work → b ≤ due → AreParts job a b ps → AreParts job c e qs → AreOfJob job work due (ps ++ qs)
+pub AreOfJob-two : (job work due a b c e : ℕ) (ps qs : List Piece)
+    → a ≤ b → c ≤ e → e ≤ a → (b - a) + (e - c) ≡ work → b ≤ due → AreParts job a b ps → AreParts job c e qs → AreOfJob job work due (ps ++ qs)
 AreOfJob-two job work due a b c e ps qs l k before is in_time h g = record {
   jobs = All-append (λ p. p.job ≡ job) ps qs (λ n d m. (h.each n d m).0) (λ n d m. (g.each n d m).0);
   apart = AllPairs-append (IsApartOn job_of start finish) ps qs (single ps h.few) (single qs g.few) (λ n d m x f y same. inr (omega (arith, (h.each n d m).1, (g.each x f y).2, before)));
@@ -166,7 +173,22 @@ work_of-none ps j h =
 work_of-all : (ps : List Piece) (j : ℕ) → All (λ p. p.job ≡ j) ps → work_of job_of start finish ps j ≡ sum_by (size_of start finish) ps
 work_of-all ps j h =
     sum_by-filter (size_of start finish) (λ q. eqb (job_of q) j) ps
-    ∙ sum_by-same (λ q. cond (eqb (job_of q) j) (size_of start finish q) 0) (size_of start finish) ps (λ k d l. cond-yes (size_of start finish (get_or ps k d)) (eq-eqb (job_of (get_or ps k d)) j (h k d l)))
+    ∙ sum_by-same (λ q. cond (eqb (job_of q) j) (size_of start finish q) 0)
+    (size_of start finish) ps (λ k d l. cond-yes (size_of start finish (get_or ps k d)) (eq-eqb (job_of (get_or ps k d)) j (h k d l)))
+
+-- ---- how many pieces each job has
+count-append : (ps qs : List Piece) (j : ℕ) → count_by (λ p. p.job == j) (ps ++ qs) ≡ count_by (λ p. p.job == j) ps + count_by (λ p. p.job == j) qs
+count-append ps qs j =
+    sym (length-filter mine (ps ++ qs))
+    ∙ ap length (filter-append mine ps qs)
+    ∙ length-append (filter mine ps) (filter mine qs)
+    ∙ ap₂ (λ x y. x + y) (length-filter mine ps) (length-filter mine qs)
+  where
+    mine : Piece → Bool
+    mine p = p.job == j
+
+pub count-none : (ps : List Piece) (j : ℕ) → All (λ p. p.job ≢ j) ps → count_by (λ p. p.job == j) ps ≡ 0
+count-none ps j h = sym (length-filter (λ p. p.job == j) ps) ∙ ap length (filter_none (λ p. p.job == j) ps (λ k d l. ne_eqb (get_or ps k d).job j (h k d l)))
 
 -- ---- one job more
 module _ (i : Instance) (order : List ℕ) (bound : ℤ) (k : ℕ) (ps qs : List Piece) (once : OnceBelow (length i.jobs) order) (inside : k < length order)
@@ -181,6 +203,7 @@ module _ (i : Instance) (order : List ℕ) (bound : ℤ) (k : ℕ) (ps qs : List
     work = works;
     ends = All-append (λ p. finish p ≤ deadline i bound p.job) ps qs h.ends (λ n d l. subst (λ j. finish (get_or qs n d) ≤ deadline i bound j) (sym (g.jobs n d l)) (g.ends n d l));
     few = omega (arith, length-append ps qs, h.few, g.few);
+    cuts = cuts;
   }
     where
       other : (x : ℕ) → x < k → All (λ p. p.job ≢ at order x) qs
@@ -189,12 +212,22 @@ module _ (i : Instance) (order : List ℕ) (bound : ℤ) (k : ℕ) (ps qs : List
       new : All (λ p. p.job ≢ at order k) ps
       new n d m e = let (z, b, f) = h.jobs n d m in apart_places z b (sym f ∙ e)
 
+      cuts : (x : ℕ) → x < k + 1 → count_by (λ p. p.job == at order x) (ps ++ qs) ≤ 2
+      cuts x l = elim (cases_lt x k) [
+        | inl before ↦ omega (arith, count-append ps qs (at order x), count-none qs (at order x) (other x before), h.cuts x before)
+        | inr last ↦
+            let same : k ≡ x = omega (arith, l, last) in
+            subst (λ y. count_by (λ p. p.job == at order y) (ps ++ qs) ≤ 2) same
+            (omega (arith, count-append ps qs (at order k), count-none ps (at order k) new, count_by-le-length (λ (p : Piece). p.job == at order k) qs, g.few))
+      ]
+
       works : (x : ℕ) → x < k + 1 → work_of job_of start finish (ps ++ qs) (at order x) ≡ work_at i (at order x)
       works x l = elim (cases_lt x k) [
         | inl before ↦ sums (work_of-append ps qs (at order x)) (work_of-none qs (at order x) (other x before)) (h.work x before)
         | inr last ↦
             let same : k ≡ x = omega (arith, l, last) in
-            subst (λ y. work_of job_of start finish (ps ++ qs) (at order y) ≡ work_at i (at order y)) same (others (work_of-append ps qs (at order k)) (work_of-none ps (at order k) new) (work_of-all qs (at order k) g.jobs ∙ g.size))
+            subst (λ y. work_of job_of start finish (ps ++ qs) (at order y) ≡ work_at i (at order y))
+            same (others (work_of-append ps qs (at order k)) (work_of-none ps (at order k) new) (work_of-all qs (at order k) g.jobs ∙ g.size))
       ]
         where
           sums : {a b c w : ℕ} → a ≡ b + c → c ≡ 0 → b ≡ w → a ≡ w

@@ -2,10 +2,13 @@
 use Rattle.std.proofs.Common.{◌≡◌, ℕ, ◌*◌, ◌<◌, ◌≤◌, inl, inr, Bool, List, [], ◌∷◌, length, get_or, map, ℤ, pos, neg_ℤ, nat_abs, ◌+ℤ◌, ◌-ℤ◌, ◌*ℤ◌, ◌≤ℤ◌, All, MatchBool, sym, ap, subst, ◌∙◌, arith}
 use Rattle.std.specs.Prelude.{◌==◌}
 use Rattle.std.specs.Int.{int_max}
+use Rattle.std.specs.List.{count_by}
 use Rattle.std.proofs.lemmas.Int.{ints}
+use Rattle.std.proofs.lemmas.Bool.{cases_lt}
 use Rattle.std.proofs.lemmas.List.{get_or_default}
 use Rattle.std.proofs.lemmas.List.Elements.{All-filter, All-contains}
 use Rattle.std.proofs.Math.Nat.{mul-le-mul_right}
+use Rattle.msp_class.specs.declared.sizes.TheConstants.{MOST_MACHINES}
 use Rattle.msp_class.specs.declared.environments.EnvKind.{EnvKind}
 use Rattle.msp_class.specs.declared.environments.EnvKind.TheVariants.{Identical}
 use Rattle.msp_class.specs.Crit.{is_greatest}
@@ -21,18 +24,19 @@ use Rattle.msp_schedule.specs.Piece.{job_of, length_of, pieces_of, start, finish
 use Rattle.msp_schedule.specs.Feasible.{Feasible, HasPlace, HasOperation, MayRun, FollowsRoute, GetsWork, IsWholeWork, total, whole_work, work_of as part_of}
 use Rattle.msp_schedule.specs.Intervals.{work_of}
 use Rattle.msp_schedule.specs.Cost.{end_of, cost_of, job_cost}
-use Rattle.msp_schedule.specs.Rows.{time_at}
+use Rattle.msp_schedule.specs.BackToBack.{time_at}
 use Rattle.msp_schedule.proofs.lists.Intervals.{piece_of}
 use Rattle.msp_schedule.proofs.feasible.LastEnds.{last_end-least}
 use Rattle.msp_schedule.proofs.feasible.OfClass.{IsOfClass}
 use Rattle.msp_schedule.proofs.feasible.OneMachine.{apart_in_int, pieces_of-job, total_lengths}
-use Rattle.msp_schedule.proofs.feasible.OneRow.{ordered_without_arcs}
+use Rattle.msp_schedule.proofs.feasible.BackToBack.{ordered_without_arcs}
 use Rattle.msp_schedule.proofs.costs.Charges.{cost_of-least}
 use Rattle.msp_route.specs.Bounds.{IsAnswer, answer_unit}
 use Rattle.msp_stairs.specs.declared.climb.Stair.{Stair}
-use Rattle.msp_stairs.specs.Stairs.{stairs_class}
+use Rattle.msp_stairs.specs.Stairs.{stairs_class, HasTwoPiecesAtMost}
 use Rattle.msp_stairs.specs.Bounds.{greatest_bound, CanMeet, work_at, deadline, at}
 use Rattle.msp_stairs.specs.Steps.{HasClimbed, IsClimbed}
+use Rattle.msp_stairs.proofs.Pieces.{count-none}
 use Rattle.msp_stairs.proofs.Steps.{CanLay}
 
 abbrev pub stairs_schedule : Instance → List Piece → Schedule
@@ -52,17 +56,17 @@ deadline-exact i bound j some = by ((pos i.machines *ℤ (job_at i j).due) +ℤ 
         never l = omega (arith, l)
 
 -- and it is not large
-pub product-small : (m : ℕ) (x : ℤ) (c : ℕ) → m ≤ 32 → LiesWithin c x → LiesWithin (32 * c) (pos m *ℤ x)
+pub product-small : (m : ℕ) (x : ℤ) (c : ℕ) → m ≤ MOST_MACHINES → LiesWithin c x → LiesWithin (MOST_MACHINES * c) (pos m *ℤ x)
 product-small m x c l h = (low, high)
   where
-    few : m * c ≤ 32 * c
+    few : m * c ≤ MOST_MACHINES * c
     few = mul-le-mul_right c l
 
-    high : (pos m *ℤ x) ≤ℤ pos (32 * c)
+    high : (pos m *ℤ x) ≤ℤ pos (MOST_MACHINES * c)
     high = ≤ℤ_trans (*ℤ-mono m h.1) (pos-le few)
 
-    low : neg_ℤ (pos (32 * c)) ≤ℤ (pos m *ℤ x)
-    low = ≤ℤ_trans (turned (m * c) (32 * c) few) (subst (λ z. z ≤ℤ (pos m *ℤ x)) (*ℤ-neg (pos m) (pos c)) (*ℤ-mono m h.0))
+    low : neg_ℤ (pos (MOST_MACHINES * c)) ≤ℤ (pos m *ℤ x)
+    low = ≤ℤ_trans (turned (m * c) (MOST_MACHINES * c) few) (subst (λ z. z ≤ℤ (pos m *ℤ x)) (*ℤ-neg (pos m) (pos c)) (*ℤ-mono m h.0))
       where
         turned : (a b : ℕ) → a ≤ b → neg_ℤ (pos b) ≤ℤ neg_ℤ (pos a)
         turned a b l = omega (arith, ints, l)
@@ -148,22 +152,35 @@ module _ (i : Instance) (h : IsOfClass i stairs_class) (order : List ℕ) (bound
     work = λ j n l op. works j l n op;
   }
 
+  -- ---- interrupted once at most
+  pub cut_once : HasTwoPiecesAtMost s
+  cut_once j = elim (cases_lt j n) [
+    | inl inside ↦ each_job (λ j. count_by (λ p. p.job == j) ps ≤ 2) c.worked.cuts j inside
+    | inr outside ↦ omega (arith, count-none ps j (λ k d l e. absurd (never outside (subst (λ x. x < n) e (job_inside k d l)))))
+  ]
+    where
+      never : n ≤ j → j < n → ⊥
+      never l k = omega (arith, l, k)
+
   -- ---- in time
   some_deadline : (j : ℕ) → j < n → 0 < deadline i bound j
   some_deadline j l =
-      let (q, among, mine, lasts) = piece_of job_of start finish ps j (subst (λ w. 0 < w) (sym (each_job (λ j. work_of job_of start finish ps j ≡ work_at i j) c.worked.work j l)) (each_job (λ j. 0 < work_at i j) (λ x b. omega (arith, can.works x b)) j l)) in
+      let (q, among, mine, lasts) = piece_of job_of start finish ps j
+      (subst (λ w. 0 < w) (sym (each_job (λ j. work_of job_of start finish ps j ≡ work_at i j) c.worked.work j l)) (each_job (λ j. 0 < work_at i j) (λ x b. omega (arith, can.works x b)) j l)) in
       let late = All-contains (λ p. finish p ≤ deadline i bound p.job) ps q c.worked.ends among in
       omega (arith, lasts, subst (λ x. finish q ≤ deadline i bound x) mine late)
 
   job_in_time : (j : ℕ) → j < n → end_of s j ≤ℤ ((pos i.machines *ℤ (job_at i j).due) +ℤ bound)
   job_in_time j l = subst (λ x. end_of s j ≤ℤ x) (deadline-exact i bound j (some_deadline j l))
-      (last_end-least ps j (pos (deadline i bound j)) (pos-le (omega arith)) (λ k d b e. by (get_or ps k d) (c.on_stairs.timed k d b) (subst (λ x. finish (get_or ps k d) ≤ deadline i bound x) e (c.worked.ends k d b))))
+      (last_end-least ps j (pos (deadline i bound j)) (pos-le (omega arith))
+      (λ k d b e. by (get_or ps k d) (c.on_stairs.timed k d b) (subst (λ x. finish (get_or ps k d) ≤ deadline i bound x) e (c.worked.ends k d b))))
     where
       by : (p : Piece) → IsTimed p → finish p ≤ deadline i bound j → p.to ≤ℤ pos (deadline i bound j)
       by p t l = subst (λ x. x ≤ℤ pos (deadline i bound j)) (sym t.to) (pos-le l)
 
   pub at_most_bound : cost_of i s ≤ℤ bound
-  at_most_bound = cost_of-least i s bound (ap is_greatest h.crit) (omega (arith, h.some)) (λ j l. subst (λ x. job_cost x (pos i.machines) (job_at i j) (end_of s j) ≤ℤ bound) (sym h.crit) (moved (end_of s j) (pos i.machines *ℤ (job_at i j).due) (job_in_time j l)))
+  at_most_bound = cost_of-least i s bound (ap is_greatest h.crit) (omega (arith, h.some))
+      (λ j l. subst (λ x. job_cost x (pos i.machines) (job_at i j) (end_of s j) ≤ℤ bound) (sym h.crit) (moved (end_of s j) (pos i.machines *ℤ (job_at i j).due) (job_in_time j l)))
     where
       moved : (x y : ℤ) → x ≤ℤ (y +ℤ bound) → (x -ℤ y) ≤ℤ bound
       moved x y l = omega (arith, ints, l)

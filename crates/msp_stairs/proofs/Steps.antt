@@ -29,7 +29,8 @@ pub record CanLay (i : Instance) (order : List ℕ) (bound : ℤ) : Type 0 where
   pub works : (x : ℕ) → x < length order → 1 ≤ work_at i (at order x)
   pub machine : 1 ≤ i.machines
 
-module _ (i : Instance) (order : List ℕ) (bound : ℤ) (can : CanLay i order bound) (k : ℕ) (old new : List Stair) (before after : List Piece) (inside : k < length order) (c : HasClimbed i order bound k old before) where
+module _ (i : Instance) (order : List ℕ) (bound : ℤ) (can : CanLay i order bound)
+    (k : ℕ) (old new : List Stair) (before after : List Piece) (inside : k < length order) (c : HasClimbed i order bound k old before) where
   abbrev task : Task
   task = task_for i bound (at order k)
 
@@ -42,9 +43,12 @@ module _ (i : Instance) (order : List ℕ) (bound : ℤ) (can : CanLay i order b
   HasClimbed-whole : IsWhole task old before new after → HasClimbed i order bound (k + 1) new after
   HasClimbed-whole w = record {
     falls = λ x l b. subst (λ ss. Falls (due x) (ends_of ss)) (sym w.stand) (omega (arith, w.fits, can.rises k x (omega (arith, l)) b), Falls-raise (ends_of w.others) (omega (arith, w.is)) falls.1);
-    backed = subst (λ ss. AreBacked work due (k + 1) 0 (ends_of ss)) (sym w.stand) (subst (λ n. AreBacked work due n 0 (w.end ∷ ends_of w.others)) (next k) (AreBacked-whole work due k w.first.end w.end (ends_of w.others) w.is (subst (λ ss. AreBacked work due k 0 (ends_of ss)) w.stood c.backed)));
-    on_stairs = subst (λ ss. AreOnStairs i.machines ss after) (sym w.stand) (subst (AreOnStairs i.machines (record { machine = w.first.machine; end = w.end } ∷ w.others)) (sym w.laid) (ran_to i.machines [] w.first w.others before (subst (λ ss. AreOnStairs i.machines ss before) w.stood c.on_stairs) (at order k) w.end (omega (arith, w.is))));
-    worked = subst (HaveWork i order bound (k + 1)) (sym w.laid) (HaveWork-more i order bound k before (parts (at order k) w.first.machine w.first.end w.end) can.once inside c.worked (AreOfJob-one (at order k) (work k) (due k) w.first.end w.end _ w.is w.fits (AreParts-parts (at order k) w.first.machine w.first.end w.end)));
+    backed = subst (λ ss. AreBacked work due (k + 1) 0 (ends_of ss)) (sym w.stand) (subst (λ n. AreBacked work due n 0 (w.end ∷ ends_of w.others))
+        (next k) (AreBacked-whole work due k w.first.end w.end (ends_of w.others) w.is (subst (λ ss. AreBacked work due k 0 (ends_of ss)) w.stood c.backed)));
+    on_stairs = subst (λ ss. AreOnStairs i.machines ss after) (sym w.stand) (subst (AreOnStairs i.machines (record { machine = w.first.machine; end = w.end } ∷ w.others))
+        (sym w.laid) (ran_to i.machines [] w.first w.others before (subst (λ ss. AreOnStairs i.machines ss before) w.stood c.on_stairs) (at order k) w.end (omega (arith, w.is))));
+    worked = subst (HaveWork i order bound (k + 1)) (sym w.laid) (HaveWork-more i order bound k before (parts (at order k) w.first.machine w.first.end w.end)
+        can.once inside c.worked (AreOfJob-one (at order k) (work k) (due k) w.first.end w.end _ w.is w.fits (AreParts-parts (at order k) w.first.machine w.first.end w.end)));
   }
     where
       falls : Falls (due k) (w.first.end ∷ ends_of w.others)
@@ -92,14 +96,17 @@ module _ (i : Instance) (order : List ℕ) (bound : ℤ) (can : CanLay i order b
     first_on = ran_to i.machines w.ahead w.high (w.low ∷ w.behind) before (subst (λ ss. AreOnStairs i.machines ss before) w.stood c.on_stairs) (at order k) (due k) high_early
 
     second_on : AreOnStairs i.machines ((w.ahead ++ raised_high ∷ []) ++ raised_low ∷ w.behind) ((before ++ first_parts) ++ second_parts)
-    second_on = ran_to i.machines (w.ahead ++ raised_high ∷ []) w.low w.behind (before ++ first_parts) (subst (λ ss. AreOnStairs i.machines ss (before ++ first_parts)) (sym (append_assoc w.ahead (raised_high ∷ []) (w.low ∷ w.behind))) first_on) (at order k) w.end above_low
+    second_on = ran_to i.machines (w.ahead ++ raised_high ∷ []) w.low w.behind (before ++ first_parts)
+        (subst (λ ss. AreOnStairs i.machines ss (before ++ first_parts)) (sym (append_assoc w.ahead (raised_high ∷ []) (w.low ∷ w.behind))) first_on) (at order k) w.end above_low
 
     all_on : AreOnStairs i.machines (raised_high ∷ (w.ahead ++ raised_low ∷ w.behind)) ((before ++ first_parts) ++ second_parts)
-    all_on = in_front i.machines w.ahead raised_high (raised_low ∷ w.behind) ((before ++ first_parts) ++ second_parts) (subst (λ ss. AreOnStairs i.machines ss ((before ++ first_parts) ++ second_parts)) (append_assoc w.ahead (raised_high ∷ []) (raised_low ∷ w.behind)) second_on)
+    all_on = in_front i.machines w.ahead raised_high (raised_low ∷ w.behind) ((before ++ first_parts) ++ second_parts)
+        (subst (λ ss. AreOnStairs i.machines ss ((before ++ first_parts) ++ second_parts)) (append_assoc w.ahead (raised_high ∷ []) (raised_low ∷ w.behind)) second_on)
 
     all_worked : HaveWork i order bound (k + 1) (before ++ (first_parts ++ second_parts))
     all_worked = HaveWork-more i order bound k before (first_parts ++ second_parts) can.once inside c.worked
-        (AreOfJob-two (at order k) (work k) (due k) w.high.end (due k) w.low.end w.end first_parts second_parts high_early above_low below_high (adds_up w.high.end (due k) w.low.end w.end (work k) w.is high_early above_low) (omega arith)
+        (AreOfJob-two (at order k) (work k) (due k) w.high.end (due k) w.low.end w.end first_parts second_parts high_early above_low below_high
+        (adds_up w.high.end (due k) w.low.end w.end (work k) w.is high_early above_low) (omega arith)
         (AreParts-parts (at order k) w.high.machine w.high.end (due k)) (AreParts-parts (at order k) w.low.machine w.low.end w.end))
       where
         adds_up : (a b c e w : ℕ) → e + b ≡ c + a + w → a ≤ b → c ≤ e → (b - a) + (e - c) ≡ w

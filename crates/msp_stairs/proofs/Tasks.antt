@@ -3,6 +3,7 @@ use Rattle.std.proofs.Common.{◌≡◌, ℕ, ◌*◌, ◌<◌, ◌≤◌, List,
 use Rattle.std.specs.Int.{int_max, w64, w128}
 use Rattle.std.proofs.lemmas.Int.{ints, to_z-of_z}
 use Rattle.std.proofs.lemmas.List.{get_or_default}
+use Rattle.msp_class.specs.declared.sizes.TheConstants.{MOST_JOBS, MOST_MACHINES, GREATEST}
 use Rattle.msp_instance.specs.declared.Instance.{Instance}
 use Rattle.msp_instance.specs.declared.Job.{Job}
 use Rattle.msp_instance.specs.Instance.{job_at, no_job, no_need}
@@ -27,7 +28,7 @@ kept x h = to_z-of_z w128 x (fits x h)
 wider : (a b : ℕ) (x : ℤ) → a ≤ b → LiesWithin a x → LiesWithin b x
 wider a b x l h = (omega (arith, ints, l, h.0), omega (arith, ints, l, h.1))
 
-count_within : (m : ℕ) → m ≤ 32 → LiesWithin 30000000000000 (pos m)
+count_within : (m : ℕ) → m ≤ MOST_MACHINES → LiesWithin 30000000000000 (pos m)
 count_within m l = (omega (arith, ints), omega (arith, ints, l))
 
 -- a date as 64 bits hold it
@@ -38,7 +39,7 @@ pub date_held : (d : ℤ) → LiesWithin 2000000000 d → LiesWithin 2000000000 
 date_held d h = subst (LiesWithin 2000000000) (sym (date_kept d h)) h
 
 -- the moment of a deadline
-module _ (x y z : ℤ) (m : ℕ) (d : ℤ) (e : x ≡ pos m) (f : y ≡ d) (few : m ≤ 32) (date : LiesWithin 2000000000 d) (bound : LiesWithin greatest_bound z) where
+module _ (x y z : ℤ) (m : ℕ) (d : ℤ) (e : x ≡ pos m) (f : y ≡ d) (few : m ≤ MOST_MACHINES) (date : LiesWithin 2000000000 d) (bound : LiesWithin greatest_bound z) where
   product : LiesWithin 64000000000 (pos m *ℤ d)
   product = product-small m d 2000000000 few date
 
@@ -52,7 +53,8 @@ module _ (x y z : ℤ) (m : ℕ) (d : ℤ) (e : x ≡ pos m) (f : y ≡ d) (few 
   factors = ap₂ (λ u v. u *ℤ v) (ap held e ∙ kept (pos m) (count_within m few)) (ap held f ∙ kept d (wider 2000000000 30000000000000 d (omega arith) date))
 
   pub moment_is : (held (held x *ℤ held y) +ℤ held z) ≡ ((pos m *ℤ d) +ℤ z)
-  moment_is = ap₂ (λ u v. u +ℤ v) (ap held factors ∙ kept (pos m *ℤ d) (wider 64000000000 30000000000000 (pos m *ℤ d) (omega arith) product)) (kept z (wider 20000000000000 30000000000000 z (omega arith) bound))
+  moment_is = ap₂ (λ u v. u +ℤ v) (ap held factors ∙ kept (pos m *ℤ d) (wider 64000000000 30000000000000 (pos m *ℤ d) (omega arith) product))
+      (kept z (wider 20000000000000 30000000000000 z (omega arith) bound))
 
   pub moment_fits : FitsSigned w128 (held (held x *ℤ held y) +ℤ held z)
   moment_fits = subst (FitsSigned w128) (sym moment_is) (fits ((pos m *ℤ d) +ℤ z) (wider 20064000000000 30000000000000 ((pos m *ℤ d) +ℤ z) (omega arith) total_within))
@@ -73,15 +75,17 @@ job_read i jobs k job e l at = at ∙ get_or_default jobs k job no_job (subst (�
 pub date_read : (i : Instance) → IsOfClass i stairs_class → (k : ℕ) (job : Job) → k < length i.jobs → job ≡ job_at i k → LiesWithin 2000000000 job.due
 date_read i h k job l e = subst (λ j. LiesWithin 2000000000 j.due) (sym e) (h.jobs k no_job l).due
 
-pub task_read : (i : Instance) (bound : ℤ) (k m t due : ℕ) (job : Job) → job ≡ job_at i k → m ≡ i.machines → t ≡ (get_or job.needs 0 no_need).time → due ≡ nat_abs (int_max (pos 0) ((pos i.machines *ℤ job.due) +ℤ bound))
+pub task_read : (i : Instance) (bound : ℤ) (k m t due : ℕ) (job : Job)
+    → job ≡ job_at i k → m ≡ i.machines → t ≡ (get_or job.needs 0 no_need).time → due ≡ nat_abs (int_max (pos 0) ((pos i.machines *ℤ job.due) +ℤ bound))
     → record { job = k; time = m * t; due = due } ≡ task_for i bound k
-task_read i bound k m t due job e f g h = ap₂ made (ap₂ (λ a b. a * b) f (g ∙ ap (λ j. (get_or j.needs 0 no_need).time) e)) (h ∙ ap (λ j. nat_abs (int_max (pos 0) ((pos i.machines *ℤ j.due) +ℤ bound))) e)
+task_read i bound k m t due job e f g h =
+    ap₂ made (ap₂ (λ a b. a * b) f (g ∙ ap (λ j. (get_or j.needs 0 no_need).time) e)) (h ∙ ap (λ j. nat_abs (int_max (pos 0) ((pos i.machines *ℤ j.due) +ℤ bound))) e)
   where
     made : ℕ → ℕ → Task
     made a b = record { job = k; time = a; due = b }
 
 -- the ends of the range of bounds
-module _ (x t d : ℤ) (m time : ℕ) (due : ℤ) (e : x ≡ pos m) (f : t ≡ pos time) (g : d ≡ due) (few : m ≤ 32) (short : time ≤ 400000000000) (date : LiesWithin 2000000000 due) where
+module _ (x t d : ℤ) (m time : ℕ) (due : ℤ) (e : x ≡ pos m) (f : t ≡ pos time) (g : d ≡ due) (few : m ≤ MOST_MACHINES) (short : time ≤ (MOST_JOBS * GREATEST)) (date : LiesWithin 2000000000 due) where
   lateness : LiesWithin 402000000000 (pos time -ℤ due)
   lateness = (omega (arith, ints, short, date.1), omega (arith, ints, short, date.0))
 

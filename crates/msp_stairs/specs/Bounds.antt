@@ -8,10 +8,10 @@ use Rattle.msp_instance.specs.Conditions.{Inner}
 use Rattle.msp_schedule.specs.declared.Schedule.{Schedule}
 use Rattle.msp_schedule.specs.Feasible.{Feasible}
 use Rattle.msp_schedule.specs.Cost.{cost_of}
-use Rattle.msp_schedule.specs.Rows.{time_at}
+use Rattle.msp_schedule.specs.BackToBack.{time_at}
 use Rattle.msp_stairs.specs.Stairs.{stairs_class}
 
--- No bound is greater in size: all jobs together take less, and no due date is further away.
+-- No bound is greater in size: all jobs together take less, and no due date is further away. At least MOST_MACHINES * (MOST_JOBS + 2) * GREATEST.
 abbrev pub greatest_bound : ℕ
 greatest_bound = 2 * 10 ^ 13
 

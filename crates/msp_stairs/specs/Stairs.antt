@@ -1,5 +1,6 @@
 -- The class that the rule solves, and what its answers cost.
-use Rattle.std.specs.Prelude.{◌≡◌, ◌≢◌, ℕ, ◌<◌, ◌⊎◌, true, false, List, [], ◌∷◌, ◌++◌, length, ℤ, pos, ◌+ℤ◌, ◌-ℤ◌, ◌*ℤ◌, ◌≤ℤ◌, All, AllPairs, sum_by}
+use Rattle.std.specs.Prelude.{◌≡◌, ◌≢◌, ℕ, ◌==◌, ◌<◌, ◌≤◌, ◌⊎◌, true, false, List, [], ◌∷◌, ◌++◌, length, ℤ, pos, ◌+ℤ◌, ◌-ℤ◌, ◌*ℤ◌, ◌≤ℤ◌, All, AllPairs, sum_by}
+use Rattle.std.specs.List.{count_by}
 use Rattle.msp_class.specs.declared.class.Class.{Class}
 use Rattle.msp_class.specs.declared.class.Env.TheVariants.{P as Identical}
 use Rattle.msp_class.specs.declared.class.Order.TheVariants.{Free}
@@ -8,8 +9,9 @@ use Rattle.msp_class.specs.declared.class.Crit.TheVariants.{Lmax}
 use Rattle.msp_instance.specs.declared.Instance.{Instance}
 use Rattle.msp_instance.specs.Instance.{job_at}
 use Rattle.msp_schedule.specs.declared.Frac.{Frac}
+use Rattle.msp_schedule.specs.declared.Schedule.{Schedule}
 use Rattle.msp_schedule.specs.Fraction.{IsOver}
-use Rattle.msp_schedule.specs.Rows.{time_at}
+use Rattle.msp_schedule.specs.BackToBack.{time_at}
 
 -- Identical machines, preemption, neither precedence nor release dates, any times, and the greatest lateness: `P|pmtn|Lmax`.
 abbrev pub stairs_class : Class
@@ -44,3 +46,7 @@ IsForced i x = IsLatenessOfJob i x ⊎ IsLatenessOfSet i x
 -- dates, over m, where there are m machines.
 abbrev pub IsStairsCost : Instance → Frac → Type 0
 IsStairsCost i cost = (x : ℤ) × IsForced i x × ((y : ℤ) → IsForced i y → y ≤ℤ x) × IsOver cost x (pos i.machines)
+
+-- No job has more than two pieces: each is interrupted once at most.
+abbrev pub HasTwoPiecesAtMost : Schedule → Type 0
+HasTwoPiecesAtMost s = (j : ℕ) → count_by (λ p. p.job == j) s.pieces ≤ 2

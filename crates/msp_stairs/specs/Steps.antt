@@ -1,9 +1,9 @@
 -- The stairs of machines by falling ends, and the jobs that are laid on them. No public contract cites this file.
-use Rattle.std.specs.Prelude.{◌≡◌, ℕ, zero, suc, ◌+◌, ◌*◌, ◌<◌, ◌≤◌, ◌⊎◌, Bool, true, false, ltb, cond, List, [], ◌∷◌, ◌++◌, length, map, pos, ℤ, ◌+ℤ◌, ◌^◌, All, AllPairs, ⊤, slice_index_or, slice_set, remove}
-use Rattle.std.specs.List.{range_with_len}
+use Rattle.std.specs.Prelude.{◌≡◌, ℕ, ◌==◌, zero, suc, ◌+◌, ◌*◌, ◌<◌, ◌≤◌, ◌⊎◌, Bool, true, false, ltb, cond, List, [], ◌∷◌, ◌++◌, length, map, pos, ℤ, All, AllPairs, ⊤}
+use Rattle.std.specs.Prelude.{slice_index_or, slice_set, remove}
+use Rattle.std.specs.List.{range_with_len, count_by}
 use Rattle.msp_class.proofs.Sums.{OnceBelow}
 use Rattle.msp_instance.specs.declared.Instance.{Instance}
-use Rattle.msp_instance.specs.Instance.{job_at}
 use Rattle.msp_schedule.specs.declared.Piece.{Piece}
 use Rattle.msp_schedule.specs.Intervals.{IsApartOn, work_of}
 use Rattle.msp_schedule.specs.Piece.{job_of, start, finish, IsTimed}
@@ -89,6 +89,7 @@ pub record HaveWork (i : Instance) (order : List ℕ) (bound : ℤ) (k : ℕ) (p
   pub work : (x : ℕ) → x < k → work_of job_of start finish pieces (at order x) ≡ work_at i (at order x)
   pub ends : All (λ p. finish p ≤ deadline i bound p.job) pieces
   pub few : length pieces ≤ 2 * k
+  pub cuts : (x : ℕ) → x < k → count_by (λ p. p.job == at order x) pieces ≤ 2
 
 -- The first k jobs of the order are laid, and the ends do not stand above the deadlines of the others.
 pub record HasClimbed (i : Instance) (order : List ℕ) (bound : ℤ) (k : ℕ) (stairs : List Stair) (pieces : List Piece) : Type 0 where
@@ -158,8 +159,3 @@ pub record IsCut (t : Task) (old : List Stair) (before : List Piece) (new : List
 abbrev pub IsLaid : Task → List Stair → List Piece → Bool → List Stair → List Piece → Type 0
 IsLaid t old before true new after = IsWhole t old before new after ⊎ IsCut t old before new after
 IsLaid t old before false new after = All (λ s. t.due < s.end + t.time) old
-
--- ---- keys
--- A number for each job that rises with its due date.
-abbrev pub AreKeys : Instance → List ℕ → Type 0
-AreKeys i keys = (k : ℕ) → k < length i.jobs → pos (slice_index_or keys k 0) ≡ (job_at i k).due +ℤ pos (2 ^ 63)

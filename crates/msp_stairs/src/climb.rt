@@ -1,7 +1,7 @@
 // Jobs by due date, laid on the stairs of the machines.
 ghost use Rattle.std.specs.Prelude.{◌≡◌, ◌+◌, ◌*◌, ◌^◌, ◌<◌, ◌≤◌, ◌++◌, ltb, length, pos, nat_abs, ◌+ℤ◌, ◌*ℤ◌, ◌≤ℤ◌, IfOk, MatchOption, OnOk, slice_index_or};
 ghost use Rattle.std.specs.Int.{int_max};
-ghost use Rattle.msp_instance.specs.declared.ranges.TheConstants.{GREATEST, MOST_MACHINES};
+ghost use Rattle.msp_class.specs.declared.sizes.TheConstants.{MOST_MACHINES, GREATEST};
 ghost use Rattle.msp_instance.specs.Conditions.{Inner, LiesWithin};
 ghost use Rattle.msp_stairs.specs.Stairs.{stairs_class};
 ghost use Rattle.msp_stairs.specs.Bounds.{greatest_bound, at, IsReady};

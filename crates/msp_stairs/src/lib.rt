@@ -15,7 +15,6 @@
 #![tactic(auto)]
 
 mod climb;
-mod dates;
 mod search;
 mod stairs;
 

@@ -1,6 +1,6 @@
 // The least bound on the lateness that can be met, over the number of machines.
 ghost use Rattle.std.specs.Prelude.{◌≡◌, ◌*◌, ◌≤◌, pos, ◌-ℤ◌, ◌*ℤ◌, IfOk};
-ghost use Rattle.msp_instance.specs.declared.ranges.TheConstants.{GREATEST, MOST_JOBS, MOST_MACHINES};
+ghost use Rattle.msp_class.specs.declared.sizes.TheConstants.{MOST_JOBS, MOST_MACHINES, GREATEST};
 ghost use Rattle.msp_instance.specs.Conditions.{LiesWithin};
 ghost use Rattle.msp_route.specs.Halving.{IsLeastBound, IsRange};
 ghost use Rattle.msp_stairs.specs.Bounds.{greatest_bound, CanMeet, IsReady};

@@ -1,16 +1,15 @@
 // The solver.
-ghost use Rattle.std.specs.Prelude.{◌≡◌, IfOk, ⊤};
+ghost use Rattle.std.specs.Prelude.{◌≡◌, IfOk};
 ghost use Rattle.msp_instance.specs.Conditions.{Inner};
 ghost use Rattle.msp_schedule.specs.Cost.{IsBest};
 ghost use Rattle.msp_route.specs.Bounds.{IsAnswer};
-ghost use Rattle.msp_stairs.specs.Stairs.{stairs_class, IsStairsCost};
+ghost use Rattle.msp_stairs.specs.Stairs.{stairs_class, IsStairsCost, HasTwoPiecesAtMost};
 
 use crate::climb::climbed;
-use crate::dates::jobs_by_date;
 use crate::search::least_bound;
 use msp_class::{Class, Crit, Env, NoMemory, Order, Times};
 use msp_instance::Instance;
-use msp_route::Solver;
+use msp_route::{Solver, jobs_by_date};
 use msp_schedule::{Frac, Schedule, Solution};
 use std::alloc::Global;
 
@@ -32,10 +31,6 @@ pub struct Stairs;
 impl Solver for Stairs {
     ghost solved = { λ _. stairs_class };
 
-    ghost can_solve = { λ _ _. ⊤ };
-
-    ghost may_ask = { λ _ _. ⊤ };
-
     fn target(&self) -> Class {
         STAIRS_CLASS
     }
@@ -50,6 +45,7 @@ impl Solver for Stairs {
         ensures best { IfOk result (λ s. IsBest inst.now s) }
         ensures bounds { IfOk result (λ s. IsAnswer inst.now s.schedule) }
         ensures cost { IfOk result (λ s. IsStairsCost inst.now s.cost) }
+        ensures pieces { IfOk result (λ s. HasTwoPiecesAtMost s.schedule) }
     {
         let order = jobs_by_date(alloc, inst)?;
         let bound = least_bound(alloc, inst, order.as_slice())?;

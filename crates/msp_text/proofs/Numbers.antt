@@ -1,5 +1,6 @@
 -- The sizes of spelled numbers.
-use Rattle.std.proofs.Common.{◌≡◌, ◌≢◌, ℕ, zero, suc, ◌+◌, ◌-◌, ◌*◌, ◌^◌, ◌<◌, ◌≤◌, min, true, not, ◌==◌, eqb, List, [], ◌∷◌, length, take, get_or, Some, pos, neg_ℤ, refl, sym, ap, ◌∙◌, arith, add-one}
+use Rattle.std.proofs.Common.{◌≡◌, ◌≢◌, ℕ, zero, suc, ◌+◌, ◌-◌, ◌*◌, ◌^◌, ◌<◌, ◌≤◌, min, true, not, ◌==◌, eqb, List, [], ◌∷◌, length, take, get_or, Some, pos, neg_ℤ, refl, sym, ap}
+use Rattle.std.proofs.Common.{◌∙◌, arith, add-one}
 use Rattle.std.specs.Char.{is_ascii_digit, digit_value}
 use Rattle.std.specs.List.{list_all}
 use Rattle.std.specs.Int.{IsInRange}
@@ -49,5 +50,6 @@ capped_negative zero size h e = absurd (omega arith)
 capped_negative (suc n) size h e = ap (λ s. Some (record { negative = true; size = s })) (e ∙ ap (λ m. min m (2 ^ 128 - 1)) (sym (add-one n)))
 
 -- what is spelled behind the sign
-pub negative_spelled : (ds : List ℕ) (size : ℕ) → is_positive ds ≡ true → size ≡ min (digits_value 10 ds) (2 ^ 128 - 1) → Some (record { negative = true; size = size }) ≡ option_map capped (negative_of ds)
+pub negative_spelled : (ds : List ℕ) (size : ℕ) → is_positive ds ≡ true
+    → size ≡ min (digits_value 10 ds) (2 ^ 128 - 1) → Some (record { negative = true; size = size }) ≡ option_map capped (negative_of ds)
 negative_spelled ds size h e = rw h (capped_negative (digits_value 10 ds) size (positive_value ds h) e)

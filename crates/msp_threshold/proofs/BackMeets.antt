@@ -1,6 +1,7 @@
 -- The law of squeezing, the other way: a schedule of the squeezed instance in which no job is late, brought back to the kept moments, is
 -- feasible and meets the bound.
-use Rattle.std.proofs.Common.{◌≡◌, ℕ, ◌+◌, ◌*◌, ◌<◌, ◌≤◌, inl, inr, cond, eqb, List, [], ◌∷◌, length, get_or, map, count_by, All, AllPairs, ℤ, pos, nat_abs, ◌+ℤ◌, ◌-ℤ◌, ◌*ℤ◌, ◌≤ℤ◌, ◌<ℤ◌, refl, sym, ap, ap₂, subst, subst₂, ◌∙◌, arith}
+use Rattle.std.proofs.Common.{◌≡◌, ℕ, ◌+◌, ◌*◌, ◌<◌, ◌≤◌, inl, inr, cond, eqb, List, [], ◌∷◌, length, get_or, map, count_by, All, AllPairs, ℤ, pos, nat_abs, ◌+ℤ◌, ◌-ℤ◌, ◌*ℤ◌, ◌≤ℤ◌}
+use Rattle.std.proofs.Common.{◌<ℤ◌, refl, sym, ap, ap₂, subst, subst₂, ◌∙◌, arith}
 use Rattle.std.specs.Prelude.{int_le}
 use Rattle.std.proofs.lemmas.Int.{ints}
 use Rattle.std.proofs.lemmas.Simd.{map-map}
@@ -25,7 +26,7 @@ use Rattle.msp_schedule.proofs.costs.InTime.{EndsInTime, meets_jobs, free_jobs}
 use Rattle.msp_schedule.proofs.changes.Moves.{AllPairs-map}
 use Rattle.msp_schedule.proofs.feasible.LastEnds.{last_end-bound, last_end-least}
 use Rattle.msp_schedule.proofs.feasible.OneMachine.{pieces_of-job}
-use Rattle.msp_schedule.proofs.feasible.OneRow.{ordered_without_arcs}
+use Rattle.msp_schedule.proofs.feasible.BackToBack.{ordered_without_arcs}
 use Rattle.msp_schedule.proofs.feasible.OneEach.{IsUncut, IsUncut-identical, AreOneEach, one_each_is_feasible}
 use Rattle.msp_slots.proofs.UnitPieces.{HasUnitJobs}
 use Rattle.msp_threshold.specs.Squeezed.{AreKept, HasTime, squeezed_due, squeezed_by, CanMeet, CanBeFree}
@@ -76,14 +77,17 @@ module _ (i : Instance) (t : IsLatenessShop i) (kept : List ℕ) (k : AreKept i 
     in_time : pos (get_or kept (number_of s.unit p) 0 + 1) ≤ℤ ((job_at i p.job).due +ℤ bound)
 
   in_slot : All IsInSlot s.pieces
-  in_slot m d l = by (get_or s.pieces m d) (at_floor (HasPlace lower) g_feasible.place m d l) (at_floor (λ p. (s.unit *ℤ pos (job_at lower p.job).release) ≤ℤ p.from) g_feasible.release m d l) (at_floor (λ p. p.to ≤ℤ end_of (floored s) p.job) (last_end-bound (floored s).pieces) m d l)
+  in_slot m d l = by (get_or s.pieces m d) (at_floor (HasPlace lower) g_feasible.place m d l) (at_floor (λ p. (s.unit *ℤ pos (job_at lower p.job).release) ≤ℤ p.from) g_feasible.release m d l)
+      (at_floor (λ p. p.to ≤ℤ end_of (floored s) p.job) (last_end-bound (floored s).pieces) m d l)
     where
-      by : (p : Piece) → HasPlace lower (floored_piece s.unit p) → (s.unit *ℤ pos (job_at lower p.job).release) ≤ℤ (s.unit *ℤ pos (number_of s.unit p)) → ((s.unit *ℤ pos (number_of s.unit p)) +ℤ s.unit) ≤ℤ end_of (floored s) p.job → IsInSlot p
+      by : (p : Piece) → HasPlace lower (floored_piece s.unit p) → (s.unit *ℤ pos (job_at lower p.job).release) ≤ℤ (s.unit *ℤ pos (number_of s.unit p))
+          → ((s.unit *ℤ pos (number_of s.unit p)) +ℤ s.unit) ≤ℤ end_of (floored s) p.job → IsInSlot p
       by p place head end = record {
         job = inside_job;
         machine = place.machine;
         inside = inside;
-        released = released_there kept k.rising q inside (job_at i p.job).release (le_of_mul-le-mul_left {k = unit} (le-pos (subst₂ (λ u r. (u *ℤ pos r) ≤ℤ (u *ℤ pos q)) unit_is (lower_release i t kept bound p.job inside_job) head)) some_unit);
+        released = released_there kept k.rising q inside (job_at i p.job).release
+            (le_of_mul-le-mul_left {k = unit} (le-pos (subst₂ (λ u r. (u *ℤ pos r) ≤ℤ (u *ℤ pos q)) unit_is (lower_release i t kept bound p.job inside_job) head)) some_unit);
         in_time = in_time_there kept k.rising q inside date early;
       }
         where
@@ -100,7 +104,8 @@ module _ (i : Instance) (t : IsLatenessShop i) (kept : List ℕ) (k : AreKept i 
           in_due = (free_jobs lower s refl f.unit).0 free p.job place.job
 
           early : q < squeezed_due kept date
-          early = lt_of_mul-lt-mul_left unit (less unit q (squeezed_due kept date) some_unit (le-pos (subst₂ (λ x y. x ≤ℤ y) (ap (λ u. (u *ℤ pos q) +ℤ u) unit_is) (ap₂ (λ u d. u *ℤ d) unit_is (+ℤ_idr (job_at lower p.job).due ∙ lower_due i t kept bound p.job inside_job)) (≤ℤ_trans end (≤ℤ_trans (no_later p.job) in_due)))))
+          early = lt_of_mul-lt-mul_left unit (less unit q (squeezed_due kept date) some_unit (le-pos (subst₂ (λ x y. x ≤ℤ y) (ap (λ u. (u *ℤ pos q) +ℤ u) unit_is)
+              (ap₂ (λ u d. u *ℤ d) unit_is (+ℤ_idr (job_at lower p.job).due ∙ lower_due i t kept bound p.job inside_job)) (≤ℤ_trans end (≤ℤ_trans (no_later p.job) in_due)))))
             where
               less : (u a d : ℕ) → 1 ≤ u → u * a + u ≤ u * d → u * a < u * d
               less u a d some h = omega (arith, h, some)
@@ -132,11 +137,18 @@ module _ (i : Instance) (t : IsLatenessShop i) (kept : List ℕ) (k : AreKept i 
       let la : a < length s.pieces = omega (arith, l, m) in
       by (get_or s.pieces a d) (get_or s.pieces b d) (in_slot a d la) (in_slot b d m) (floors a b d l m e))
     where
-      floors : (a b : ℕ) (d : Piece) → a < b → b < length s.pieces → (get_or s.pieces a d).machine ≡ (get_or s.pieces b d).machine → IsApart (floored_piece s.unit (get_or s.pieces a d)) (floored_piece s.unit (get_or s.pieces b d))
-      floors a b d l m = subst₂ (λ p q. p.machine ≡ q.machine → IsApart p q) (get_or-map (floored_piece s.unit) s.pieces a d d (omega (arith, l, m))) (get_or-map (floored_piece s.unit) s.pieces b d d m) (g_feasible.machine a b d l (omega (arith, m, length-map s.pieces (floored_piece s.unit))))
+      floors : (a b : ℕ) (d : Piece) → a < b → b < length s.pieces → (get_or s.pieces a d).machine ≡ (get_or s.pieces b d).machine
+          → IsApart (floored_piece s.unit (get_or s.pieces a d)) (floored_piece s.unit (get_or s.pieces b d))
+      floors a b d l m = subst₂ (λ p q. p.machine ≡ q.machine → IsApart p q) (get_or-map (floored_piece s.unit) s.pieces a d d (omega (arith, l, m)))
+          (get_or-map (floored_piece s.unit) s.pieces b d d m) (g_feasible.machine a b d l (omega (arith, m, length-map s.pieces (floored_piece s.unit))))
 
-      before : (p q : Piece) → IsInSlot q → ((s.unit *ℤ pos (number_of s.unit p)) +ℤ s.unit) ≤ℤ (s.unit *ℤ pos (number_of s.unit q)) → pos (get_or kept (number_of s.unit p) 0 + 1) ≤ℤ pos (get_or kept (number_of s.unit q) 0)
-      before p q on h = pos-le (omega (arith, k.rising (number_of s.unit p) (number_of s.unit q) 0 (lt_of_mul-lt-mul_left unit (less unit (number_of s.unit p) (number_of s.unit q) some_unit (le-pos (subst (λ u. ((u *ℤ pos (number_of s.unit p)) +ℤ u) ≤ℤ (u *ℤ pos (number_of s.unit q))) unit_is h)))) on.inside))
+      before : (p q : Piece) → IsInSlot q → ((s.unit *ℤ pos (number_of s.unit p)) +ℤ s.unit) ≤ℤ (s.unit *ℤ pos (number_of s.unit q))
+          → pos (get_or kept (number_of s.unit p) 0 + 1) ≤ℤ pos (get_or kept (number_of s.unit q) 0)
+      before p q on h = pos-le (omega (
+        arith,
+        k.rising (number_of s.unit p) (number_of s.unit q) 0 (lt_of_mul-lt-mul_left unit
+            (less unit (number_of s.unit p) (number_of s.unit q) some_unit (le-pos (subst (λ u. ((u *ℤ pos (number_of s.unit p)) +ℤ u) ≤ℤ (u *ℤ pos (number_of s.unit q))) unit_is h)))) on.inside,
+      ))
         where
           less : (u a b : ℕ) → 1 ≤ u → u * a + u ≤ u * b → u * a < u * b
           less u a b some h = omega (arith, h, some)
@@ -153,7 +165,8 @@ module _ (i : Instance) (t : IsLatenessShop i) (kept : List ℕ) (k : AreKept i 
     inside = All-map (λ p. p.machine < i.machines) move s.pieces (λ m d l. (in_slot m d l).machine);
     span = All-map (λ p. (pos 0 ≤ℤ p.from) × (p.from <ℤ p.to)) move s.pieces (λ m d l. lasts (get_or kept (number_of s.unit (get_or s.pieces m d)) 0));
     apart = apart;
-    released = All-map (λ p. (pos 1 *ℤ pos (job_at i p.job).release) ≤ℤ p.from) move s.pieces (λ m d l. head (job_at i (get_or s.pieces m d).job).release (get_or kept (number_of s.unit (get_or s.pieces m d)) 0) (in_slot m d l).released);
+    released = All-map (λ p. (pos 1 *ℤ pos (job_at i p.job).release) ≤ℤ p.from) move s.pieces
+        (λ m d l. head (job_at i (get_or s.pieces m d).job).release (get_or kept (number_of s.unit (get_or s.pieces m d)) 0) (in_slot m d l).released);
     forward = ordered_without_arcs i.arcs back t.arcs;
     whole = All-map (IsWholeWork (kind_of i.class.env) i (pos 1)) move s.pieces (λ m d l.
         let p = get_or s.pieces m d in
@@ -186,7 +199,8 @@ module _ (i : Instance) (t : IsLatenessShop i) (kept : List ℕ) (k : AreKept i 
 
   ends_in_time : (j : ℕ) → j < n → EndsInTime i bound schedule j
   ends_in_time j l = last_end-least back j (pos 1 *ℤ date) (subst (λ x. pos 0 ≤ℤ x) (sym (one-*ℤ date)) (some (job_at i j).release date (possible j no_job l)))
-      (All-map (λ p. p.job ≡ j → p.to ≤ℤ (pos 1 *ℤ date)) move s.pieces (λ m d b e. subst (λ x. pos (get_or kept (number_of s.unit (get_or s.pieces m d)) 0 + 1) ≤ℤ x) (ap (λ a. (job_at i a).due +ℤ bound) e ∙ sym (one-*ℤ date)) (in_slot m d b).in_time))
+      (All-map (λ p. p.job ≡ j → p.to ≤ℤ (pos 1 *ℤ date)) move s.pieces
+      (λ m d b e. subst (λ x. pos (get_or kept (number_of s.unit (get_or s.pieces m d)) 0 + 1) ≤ℤ x) (ap (λ a. (job_at i a).due +ℤ bound) e ∙ sym (one-*ℤ date)) (in_slot m d b).in_time))
     where
       date : ℤ
       date = (job_at i j).due +ℤ bound
@@ -201,12 +215,15 @@ module _ (i : Instance) (t : IsLatenessShop i) (kept : List ℕ) (k : AreKept i 
   pub back_inside : All (λ p. number_of s.unit p < length kept) s.pieces
   back_inside m d l = (in_slot m d l).inside
 
-pub met_if_free : (i : Instance) → IsLatenessShop i → (kept : List ℕ) → AreKept i kept → (bound : ℤ) → LiesWithin 10000000000 bound → All (HasTime bound) i.jobs → CanBeFree (squeezed_by kept bound i) → CanMeet i bound
-met_if_free i t kept k bound small possible (s, f, free) = (record { unit = pos 1; pieces = pieces_back kept s }, back_feasible i t kept k bound small possible s f free, back_meets i t kept k bound small possible s f free)
+pub met_if_free : (i : Instance) → IsLatenessShop i → (kept : List ℕ)
+    → AreKept i kept → (bound : ℤ) → LiesWithin 10000000000 bound → All (HasTime bound) i.jobs → CanBeFree (squeezed_by kept bound i) → CanMeet i bound
+met_if_free i t kept k bound small possible (s, f, free) =
+    (record { unit = pos 1; pieces = pieces_back kept s }, back_feasible i t kept k bound small possible s f free, back_meets i t kept k bound small possible s f free)
 
 -- a bound that can be met leaves each job time
 pub time_if_met : (i : Instance) → IsLatenessShop i → (bound : ℤ) → CanMeet i bound → All (HasTime bound) i.jobs
-time_if_met i t bound met j d l = let m = moments_of i t bound met in subst (HasTime bound) (get_or_default i.jobs j no_job d l) (≤ℤ_trans (pos-le (more (job_at i j).release (m.begin j) (m.seated.released j l))) (m.in_time j l))
+time_if_met i t bound met j d l = let m = moments_of i t bound met in
+    subst (HasTime bound) (get_or_default i.jobs j no_job d l) (≤ℤ_trans (pos-le (more (job_at i j).release (m.begin j) (m.seated.released j l))) (m.in_time j l))
   where
     more : (a b : ℕ) → a ≤ b → a + 1 ≤ b + 1
     more a b h = omega (arith, h)

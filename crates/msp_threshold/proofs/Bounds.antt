@@ -1,5 +1,6 @@
 -- The range of bounds in which the least one lies, and the least bound as a cost.
-use Rattle.std.proofs.Common.{◌≡◌, ℕ, ◌+◌, ◌*◌, ◌<◌, ◌≤◌, inl, inr, List, [], ◌∷◌, ◌++◌, Option, Some, length, get_or, take, All, ℤ, pos, nat_abs, ◌+ℤ◌, ◌-ℤ◌, ◌*ℤ◌, ◌≤ℤ◌, ◌<ℤ◌, FitsSigned, to_z, of_z, refl, sym, ap, ap₂, subst, subst₂, ◌∙◌, arith}
+use Rattle.std.proofs.Common.{◌≡◌, ℕ, ◌+◌, ◌*◌, ◌<◌, ◌≤◌, inl, inr, List, [], ◌∷◌, ◌++◌, Option, Some, length, get_or, take, All, ℤ, pos, nat_abs, ◌+ℤ◌, ◌-ℤ◌, ◌*ℤ◌, ◌≤ℤ◌, ◌<ℤ◌}
+use Rattle.std.proofs.Common.{FitsSigned, to_z, of_z, refl, sym, ap, ap₂, subst, subst₂, ◌∙◌, arith}
 use Rattle.std.specs.Prelude.{◌↔◌, IsTrue, MatchOption, nat_eq}
 use Rattle.std.specs.Int.{int_max, w64, w128}
 use Rattle.std.proofs.lemmas.Bool.{eqb-true}
@@ -7,7 +8,8 @@ use Rattle.std.proofs.lemmas.Int.{ints, to_z-of_z}
 use Rattle.std.proofs.lemmas.List.{take_all, take_more}
 use Rattle.std.proofs.lemmas.List.Elements.{All-push}
 use Rattle.msp_class.specs.declared.class.Crit.TheVariants.{SumU}
-use Rattle.msp_class.proofs.IntegerRing.{natural, zero-le-pos, *ℤ-one, *ℤ_comm, *ℤ-zero, zero-*ℤ, *ℤ-cancel_pos, *ℤ-cancel_same, ≤ℤ-int_max_left, ≤ℤ-int_max_right, int_max-least, ≤ℤ_antisym, ≤ℤ_total, ≤ℤ_trans}
+use Rattle.msp_class.proofs.IntegerRing.{natural, zero-le-pos, *ℤ-one, *ℤ_comm, *ℤ-zero, zero-*ℤ, *ℤ-cancel_pos, *ℤ-cancel_same, ≤ℤ-int_max_left, ≤ℤ-int_max_right, int_max-least}
+use Rattle.msp_class.proofs.IntegerRing.{≤ℤ_antisym, ≤ℤ_total, ≤ℤ_trans}
 use Rattle.msp_instance.specs.declared.Job.{Job}
 use Rattle.msp_instance.specs.declared.Instance.{Instance}
 use Rattle.msp_instance.specs.Conditions.{LiesWithin}
@@ -56,7 +58,8 @@ lateness_small x d r e h w = (omega (arith, ints, e, h, w.1), omega (arith, ints
 small_fits : (x : ℤ) → LiesWithin 4000000001 x → FitsSigned w64 x
 small_fits x h = omega (arith, ints, h.0, h.1)
 
-module _ (jobs : List Job) (released : All (λ j. j.release ≤ 2000000000) jobs) (dues : All (λ j. LiesWithin 2000000000 j.due) jobs) (k : ℕ) (j : Job) (x : ℤ) (inside : k < length jobs) (at : j ≡ get_or jobs k j) (e : x ≡ pos (j.release + 1) -ℤ j.due) where
+module _ (jobs : List Job) (released : All (λ j. j.release ≤ 2000000000) jobs) (dues : All (λ j. LiesWithin 2000000000 j.due) jobs)
+    (k : ℕ) (j : Job) (x : ℤ) (inside : k < length jobs) (at : j ≡ get_or jobs k j) (e : x ≡ pos (j.release + 1) -ℤ j.due) where
   here : (P : Job → Type 0) → All P jobs → P j
   here P h = subst P (sym at) (h k j inside)
 
@@ -75,7 +78,9 @@ module _ (jobs : List Job) (released : All (λ j. j.release ≤ 2000000000) jobs
 
   pub lowest-next : (old a b new : ℤ) → a ≡ old → b ≡ to_z w64 (of_z w64 x) → new ≡ int_max a b → IsLowestSoFar jobs k old → IsLowestSoFar jobs (k + 1) (to_z w64 (of_z w64 new))
   lowest-next old a b new f g m h = subst (IsLowestSoFar jobs (k + 1)) (sym (to_z-of_z w64 new (small_fits new size))) (record {
-    time = subst (All (HasTime new)) (sym (take_more jobs k j inside ∙ ap (λ y. take k jobs ++ y ∷ []) (sym at))) (All-push (HasTime new) (take k jobs) j (has_time-more old new (take k jobs) (subst (λ z. old ≤ℤ z) (sym is_max) (≤ℤ-int_max_left old x)) h.time) (has_time-here new x j e (subst (λ z. x ≤ℤ z) (sym is_max) (≤ℤ-int_max_right old x))));
+    time = subst (All (HasTime new)) (sym (take_more jobs k j inside ∙ ap (λ y. take k jobs ++ y ∷ []) (sym at)))
+        (All-push (HasTime new) (take k jobs) j (has_time-more old new (take k jobs) (subst (λ z. old ≤ℤ z) (sym is_max) (≤ℤ-int_max_left old x)) h.time)
+        (has_time-here new x j e (subst (λ z. x ≤ℤ z) (sym is_max) (≤ℤ-int_max_right old x))));
     least = λ bound all. subst (λ z. z ≤ℤ bound) (sym is_max) (int_max-least (h.least bound all) (has_time-there bound x j e (here (HasTime bound) all)));
     size = size;
   })
@@ -103,7 +108,8 @@ module _ (i : Instance) (t : IsLatenessShop i) where
   }
 
   -- ---- a schedule that meets the least bound costs it, and is best
-  module _ (kept : List ℕ) (k : AreKept i kept) (bound : ℤ) (least : IsLeastBound (CanMeet i) bound) (pieces : List Piece) (f : Feasible i (record { unit = pos 1; pieces = pieces })) (m : cost_of i (record { unit = pos 1; pieces = pieces }) ≤ℤ (bound *ℤ pos 1)) where
+  module _ (kept : List ℕ) (k : AreKept i kept) (bound : ℤ) (least : IsLeastBound (CanMeet i) bound) (pieces : List Piece)
+      (f : Feasible i (record { unit = pos 1; pieces = pieces })) (m : cost_of i (record { unit = pos 1; pieces = pieces }) ≤ℤ (bound *ℤ pos 1)) where
     abbrev s : Schedule
     s = record { unit = pos 1; pieces = pieces }
 
@@ -131,14 +137,16 @@ module _ (j : Instance) (crit : j.class.crit ≡ SumU) (s : Schedule) (best : Be
   no_less = subst (λ x. pos 0 ≤ℤ x) (sym (late_cost j s (nat_abs s.unit) crit unit_is)) (zero-le-pos (nat_abs s.unit * late_jobs j s))
 
   pub best_is_free : CanBeFree j → cost_of j s ≡ pos 0
-  best_is_free (u, f, e) = ≤ℤ_antisym (*ℤ-cancel_pos u.unit (positive u.unit f.unit) (subst₂ (λ x y. x ≤ℤ y) (*ℤ_comm (cost_of j s) u.unit) (ap (λ c. c *ℤ s.unit) e ∙ zero-*ℤ s.unit ∙ sym (*ℤ-zero u.unit)) (best.least u f))) no_less
+  best_is_free (u, f, e) = ≤ℤ_antisym
+      (*ℤ-cancel_pos u.unit (positive u.unit f.unit) (subst₂ (λ x y. x ≤ℤ y) (*ℤ_comm (cost_of j s) u.unit) (ap (λ c. c *ℤ s.unit) e ∙ zero-*ℤ s.unit ∙ sym (*ℤ-zero u.unit)) (best.least u f))) no_less
     where
       positive : (x : ℤ) → pos 1 ≤ℤ x → pos 0 <ℤ x
       positive x h = omega (arith, ints, h)
 
   pub free_by_cost : (cost : Frac) → IsOver cost (cost_of j s) s.unit → (cost.num ≡ pos 0) ↔ CanBeFree j
   free_by_cost cost over = (
-    (λ e. (s, best.feasible, zero (nat_abs cost.den) (cost_of j s) cost.den (natural cost.den (omega (arith, ints, cost.positive))) cost.positive (sym over ∙ ap (λ x. x *ℤ s.unit) e ∙ zero-*ℤ s.unit))),
+    (λ e.
+        (s, best.feasible, zero (nat_abs cost.den) (cost_of j s) cost.den (natural cost.den (omega (arith, ints, cost.positive))) cost.positive (sym over ∙ ap (λ x. x *ℤ s.unit) e ∙ zero-*ℤ s.unit))),
     (λ h. zero (nat_abs s.unit) cost.num s.unit unit_is best.feasible.unit (over ∙ ap (λ x. x *ℤ cost.den) (best_is_free h) ∙ zero-*ℤ cost.den)),
   )
     where
@@ -146,7 +154,8 @@ module _ (j : Instance) (crit : j.class.crit ≡ SumU) (s : Schedule) (best : Be
       zero d x y e one h = *ℤ-cancel_same d (omega (arith, ints, e, one)) (sym (*ℤ_comm x (pos d)) ∙ ap (λ z. x *ℤ z) (sym e) ∙ h ∙ sym (*ℤ-zero (pos d)))
 
 -- ---- a best schedule of the squeezed instance at the least bound, brought back
-module _ (i : Instance) (t : IsLatenessShop i) (kept : List ℕ) (k : AreKept i kept) (bound : ℤ) (small : LiesWithin 10000000000 bound) (least : IsLeastBound (CanMeet i) bound) (lower : Instance) (lower_is : lower ≡ squeezed_by kept bound i) (s : Schedule) (best : Best lower s) where
+module _ (i : Instance) (t : IsLatenessShop i) (kept : List ℕ) (k : AreKept i kept) (bound : ℤ) (small : LiesWithin 10000000000 bound)
+    (least : IsLeastBound (CanMeet i) bound) (lower : Instance) (lower_is : lower ≡ squeezed_by kept bound i) (s : Schedule) (best : Best lower s) where
   possible : All (HasTime bound) i.jobs
   possible = time_if_met i t bound least.met
 
@@ -172,7 +181,8 @@ module _ (i : Instance) (t : IsLatenessShop i) (kept : List ℕ) (k : AreKept i 
   answer_best = least_best i t kept k bound least (pieces_back kept s) feasible meets
 
   pub answer_bounds : IsAnswer i (record { unit = pos 1; pieces = pieces_back kept s })
-  answer_bounds = one_each_is_answer i (IsUncut-identical i t.kind t.cut t.few) 1 (pieces_back kept s) (back_each i t kept k bound small possible s in_lower.feasible free) (subst (λ e. pos 1 ≤ℤ answer_unit e) (sym t.kind) (omega (arith, ints)))
+  answer_bounds = one_each_is_answer i (IsUncut-identical i t.kind t.cut t.few) 1 (pieces_back kept s)
+      (back_each i t kept k bound small possible s in_lower.feasible free) (subst (λ e. pos 1 ≤ℤ answer_unit e) (sym t.kind) (omega (arith, ints)))
 
 -- ---- tests, as the code makes them
 pub zero_test : (x : ℤ) → FitsSigned w128 x → IsTrue (nat_eq (of_z w128 x) 0) ↔ (x ≡ pos 0)

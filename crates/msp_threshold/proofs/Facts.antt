@@ -6,6 +6,7 @@ use Rattle.std.proofs.lemmas.Int.{ints, to_z-of_z}
 use Rattle.msp_class.specs.declared.environments.EnvKind.TheVariants.{Identical}
 use Rattle.std.proofs.lemmas.List.{length-map}
 use Rattle.std.proofs.lemmas.List.Elements.{All-map}
+use Rattle.msp_class.specs.declared.sizes.TheConstants.{MOST_JOBS, GREATEST}
 use Rattle.msp_class.proofs.IntegerRing.{pos-le, zero-le-pos}
 use Rattle.msp_instance.specs.declared.Job.{Job}
 use Rattle.msp_instance.specs.declared.Instance.{Instance}
@@ -61,7 +62,7 @@ module _ (i : Instance) (t : IsLatenessShop i) where
       ones = λ j b. let l : j < length i.jobs = omega (arith, b, many) in ap (λ a. (get_or a.needs 0 no_need).time) (lower_job j l) ∙ ones j l;
     }
 
-    own : length kept ≤ 400 → (a : Job) → IsJobOf (inner_limits Identical) (record i { class = lateness_class }) a → IsJobOf text_limits lower (squeezed_job kept bound a)
+    own : length kept ≤ MOST_JOBS → (a : Job) → IsJobOf (inner_limits Identical) (record i { class = lateness_class }) a → IsJobOf text_limits lower (squeezed_job kept bound a)
     own few a h = record {
       needs = record { shape = h.needs.shape; times = h.needs.times; some = h.needs.some };
       times = h.times;
@@ -71,10 +72,10 @@ module _ (i : Instance) (t : IsLatenessShop i) where
       curve = h.curve;
     }
       where
-        small : (d : ℕ) → d ≤ 400 → LiesWithin 1000000000 (pos d)
+        small : (d : ℕ) → d ≤ MOST_JOBS → LiesWithin GREATEST (pos d)
         small d l = (omega (arith, ints), pos-le (omega (arith, l)))
 
-    pub lower_in_class : length kept ≤ 400 → Inner i → InClass lower
+    pub lower_in_class : length kept ≤ MOST_JOBS → Inner i → InClass lower
     lower_in_class few inner = record {
       conditions = record {
         some = omega (arith, many, t.some);
@@ -92,17 +93,22 @@ module _ (i : Instance) (t : IsLatenessShop i) where
     }
 
     -- the dates lie between 0 and the number of moments
-    pub lower_small : length kept ≤ 400 → All (λ j. (j.release ≤ 400) × (pos 0 ≤ℤ j.due) × (j.due ≤ℤ pos 400)) lower.jobs
-    lower_small few = All-map (λ j. (j.release ≤ 400) × (pos 0 ≤ℤ j.due) × (j.due ≤ℤ pos 400)) (squeezed_job kept bound) i.jobs (λ k d l.
-        let a = get_or i.jobs k d in
-        (omega (arith, count_by-most (λ x. ltb x a.release) kept, few), zero-le-pos (squeezed_due kept (a.due +ℤ bound)), pos-le (omega (arith, count_by-most (λ x. int_le (pos (x + 1)) (a.due +ℤ bound)) kept, few))))
+    pub lower_small : length kept ≤ MOST_JOBS → All (λ j. (j.release ≤ MOST_JOBS) × (pos 0 ≤ℤ j.due) × (j.due ≤ℤ pos MOST_JOBS)) lower.jobs
+    lower_small few = All-map (λ j. (j.release ≤ MOST_JOBS) × (pos 0 ≤ℤ j.due) × (j.due ≤ℤ pos MOST_JOBS)) (squeezed_job kept bound) i.jobs (λ k d l.
+        let a = get_or i.jobs k d in (
+          omega (arith, count_by-most (λ x. ltb x a.release) kept, few),
+          zero-le-pos (squeezed_due kept (a.due +ℤ bound)),
+          pos-le (omega (arith, count_by-most (λ x. int_le (pos (x + 1)) (a.due +ℤ bound)) kept, few)),
+        ))
 
 -- ---- one job, as the code changes it
-pub squeeze_is : (kept : List ℕ) (bound d : ℤ) (j : Job) (r : ℕ) (x : ℤ) → length kept ≤ 400 → LiesWithin 2000000000 j.due → LiesWithin 10000000000 bound → r ≡ squeezed_release kept j.release
-    → d ≡ pos (squeezed_due kept x) → x ≡ to_z w64 (of_z w64 (to_z w64 (of_z w64 j.due) +ℤ to_z w64 (of_z w64 bound))) → record j { release = r; due = to_z w64 (of_z w64 d) } ≡ squeezed_job kept bound j
-squeeze_is kept bound d j r x few w b e f g = ap₂ (λ y z. record j { release = y; due = z }) e (to_z-of_z w64 d (fits d (squeezed_due kept x) f (omega (arith, few, count_by-most (λ y. int_le (pos (y + 1)) x) kept))) ∙ f ∙ ap (λ y. pos (squeezed_due kept y)) (g ∙ sum))
+pub squeeze_is : (kept : List ℕ) (bound d : ℤ) (j : Job) (r : ℕ) (x : ℤ) → length kept ≤ MOST_JOBS → LiesWithin 2000000000 j.due → LiesWithin 10000000000 bound → r ≡ squeezed_release kept j.release
+    → d ≡ pos (squeezed_due kept x) → x ≡ to_z w64 (of_z w64 (to_z w64 (of_z w64 j.due) +ℤ to_z w64 (of_z w64 bound)))
+    → record j { release = r; due = to_z w64 (of_z w64 d) } ≡ squeezed_job kept bound j
+squeeze_is kept bound d j r x few w b e f g = ap₂ (λ y z. record j { release = y; due = z }) e
+    (to_z-of_z w64 d (fits d (squeezed_due kept x) f (omega (arith, few, count_by-most (λ y. int_le (pos (y + 1)) x) kept))) ∙ f ∙ ap (λ y. pos (squeezed_due kept y)) (g ∙ sum))
   where
-    fits : (d : ℤ) (n : ℕ) → d ≡ pos n → n ≤ 400 → FitsSigned w64 d
+    fits : (d : ℤ) (n : ℕ) → d ≡ pos n → n ≤ MOST_JOBS → FitsSigned w64 d
     fits d n e l = omega (arith, ints, e, l)
 
     due_fits : (x : ℤ) → LiesWithin 2000000000 x → FitsSigned w64 x
@@ -115,4 +121,5 @@ squeeze_is kept bound d j r x few w b e f g = ap₂ (λ y z. record j { release 
     both_fit x y h k = omega (arith, ints, h.0, h.1, k.0, k.1)
 
     sum : to_z w64 (of_z w64 (to_z w64 (of_z w64 j.due) +ℤ to_z w64 (of_z w64 bound))) ≡ j.due +ℤ bound
-    sum = ap (λ z. to_z w64 (of_z w64 z)) (ap₂ (λ y z. y +ℤ z) (to_z-of_z w64 j.due (due_fits j.due w)) (to_z-of_z w64 bound (bound_fits bound b))) ∙ to_z-of_z w64 (j.due +ℤ bound) (both_fit j.due bound w b)
+    sum = ap (λ z. to_z w64 (of_z w64 z)) (ap₂ (λ y z. y +ℤ z) (to_z-of_z w64 j.due (due_fits j.due w)) (to_z-of_z w64 bound (bound_fits bound b)))
+        ∙ to_z-of_z w64 (j.due +ℤ bound) (both_fit j.due bound w b)

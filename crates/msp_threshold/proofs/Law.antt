@@ -45,7 +45,8 @@ module _ (i : Instance) (t : IsLatenessShop i) (kept : List ℕ) (k : AreKept i 
       let many_slots : s < length k.slots = omega (arith, l, k.filled.count, heads) in
       let begins = map (λ x. x.start) k.slots in
       let at : get_or begins s 0 ≡ start s = get_or-map (λ x. x.start) k.slots s no_slot 0 many_slots in
-      let c : Contains begins (start s) = (s, omega (arith, many_slots, length-map k.slots (λ x. x.start)), get_or_default begins s (start s) 0 (omega (arith, many_slots, length-map k.slots (λ x. x.start))) ∙ at) in
+      let c : Contains begins (start s) =
+      (s, omega (arith, many_slots, length-map k.slots (λ x. x.start)), get_or_default begins s (start s) 0 (omega (arith, many_slots, length-map k.slots (λ x. x.start))) ∙ at) in
       by ((k.each (start s)).1 c)
     where
       by : Contains kept (start s) → IsNumber s
@@ -75,7 +76,8 @@ module _ (i : Instance) (t : IsLatenessShop i) (kept : List ℕ) (k : AreKept i 
 
     pieces : AreUnitPieces lower begin machine (pieces_at begin machine (range_with_len 0 (length lower.jobs)))
     pieces = AreUnitPieces-from lower begin machine t.arcs (λ j l. slot_inside i.machines k.heads k.slots k.filled (seat j) (in_slots j (inside j l)))
-        (λ a b u v e f. h.once a b (inside a u) (inside b v) (same_slot i.machines k.heads k.slots k.filled (seat a) (seat b) (in_slots a (inside a u)) (in_slots b (inside b v)) (same_start (seat a) (seat b) (h.inside a (inside a u)) (h.inside b (inside b v)) e) f))
+        (λ a b u v e f. h.once a b (inside a u) (inside b v) (same_slot i.machines k.heads k.slots k.filled (seat a) (seat b)
+        (in_slots a (inside a u)) (in_slots b (inside b v)) (same_start (seat a) (seat b) (h.inside a (inside a u)) (h.inside b (inside b v)) e) f))
         (λ j l. released j (inside j l)) (λ j l. soon j (inside j l))
       where
         released : (j : ℕ) → j < n → (job_at lower j).release ≤ begin j
@@ -100,7 +102,8 @@ module _ (i : Instance) (t : IsLatenessShop i) (kept : List ℕ) (k : AreKept i 
             let b = numbered (seat j) (h.inside j l) in
             let date = (job_at i j).due +ℤ bound in
             let late = in_time_here kept k.rising (begin j) b.inside date (≤ℤ_trans (pos-le (later (get_or kept (begin j) 0) (m.begin j) (omega (arith, b.is, h.early j l)))) (m.in_time j l)) in
-            subst₂ (λ x y. x ≤ℤ y) (sym (unit_piece_ends lower (lower_units i t kept bound) begin machine s.pieces pieces j (omega (arith, l, many i t kept bound)))) (sym (one-*ℤ ((job_at lower j).due +ℤ pos 0) ∙ +ℤ_idr (job_at lower j).due ∙ lower_due i t kept bound j l)) (pos-le (omega (arith, late)))
+            subst₂ (λ x y. x ≤ℤ y) (sym (unit_piece_ends lower (lower_units i t kept bound) begin machine s.pieces pieces j (omega (arith, l, many i t kept bound))))
+            (sym (one-*ℤ ((job_at lower j).due +ℤ pos 0) ∙ +ℤ_idr (job_at lower j).due ∙ lower_due i t kept bound j l)) (pos-le (omega (arith, late)))
           where
             later : (a b : ℕ) → a ≤ b → a + 1 ≤ b + 1
             later a b h = omega (arith, h)

@@ -57,7 +57,8 @@ module _ (i : Instance) (t : IsLatenessShop i) where
   moments_below bound s f less = let (begin, b) = moments s f in record {
     begin = begin;
     seated = b.seated;
-    in_time = λ j l. one_less (pos (begin j + 1)) (due j) (*ℤ-cancel_lt (nat_abs s.unit) (subst (λ u. (u *ℤ pos (begin j + 1)) <ℤ (u *ℤ (due j +ℤ bound))) unit_is (strict j l (pos (begin j + 1)) (b.ends j l))));
+    in_time = λ j l. one_less (pos (begin j + 1)) (due j)
+        (*ℤ-cancel_lt (nat_abs s.unit) (subst (λ u. (u *ℤ pos (begin j + 1)) <ℤ (u *ℤ (due j +ℤ bound))) unit_is (strict j l (pos (begin j + 1)) (b.ends j l))));
   }
     where
       unit_is : s.unit ≡ pos (nat_abs s.unit)
@@ -88,7 +89,8 @@ module _ (i : Instance) (t : IsLatenessShop i) where
     start = start_in slots
 
     -- each job in a slot of its own
-    pub meets_seats : (bound : ℤ) (seat : ℕ → ℕ) → ((j : ℕ) → j < n → seat j < n) → ((j k : ℕ) → j < n → k < n → seat j ≡ seat k → j ≡ k) → ((j : ℕ) → j < n → (job_at i j).release ≤ start (seat j)) → InTime bound (λ j. start (seat j)) → CanMeet i bound
+    pub meets_seats : (bound : ℤ) (seat : ℕ → ℕ) → ((j : ℕ) → j < n → seat j < n) → ((j k : ℕ) → j < n → k < n → seat j ≡ seat k → j ≡ k)
+        → ((j : ℕ) → j < n → (job_at i j).release ≤ start (seat j)) → InTime bound (λ j. start (seat j)) → CanMeet i bound
     meets_seats bound seat inside once released here =
         meets_pieces bound (λ j. start (seat j)) (λ j. machine_in slots (seat j)) (pieces_at (λ j. start (seat j)) (λ j. machine_in slots (seat j)) (range_with_len 0 n))
         (AreUnitPieces-from i (λ j. start (seat j)) (λ j. machine_in slots (seat j)) t.arcs (λ j l. slot_inside i.machines heads slots filled (seat j) (omega (arith, inside j l, many)))
@@ -99,7 +101,8 @@ module _ (i : Instance) (t : IsLatenessShop i) where
   pub meets_moments : (heads : List ℕ) (slots : List Slot) → IsPermutation (map (λ j. j.release) i.jobs) heads → AreSlots i.machines heads slots → (bound : ℤ) → HasMoments bound → CanMeet i bound
   meets_moments heads slots all filled bound m =
       let (seat, h) = seats_in i heads slots all filled m.begin m.seated in
-      meets_seats heads slots filled (heads_many i heads all) bound seat h.inside h.once h.released (λ j l. ≤ℤ_trans (pos-le (later (start_in slots (seat j)) (m.begin j) (h.early j l))) (m.in_time j l))
+      meets_seats heads slots filled (heads_many i heads all)
+      bound seat h.inside h.once h.released (λ j l. ≤ℤ_trans (pos-le (later (start_in slots (seat j)) (m.begin j) (h.early j l))) (m.in_time j l))
     where
       later : (a b : ℕ) → a ≤ b → a + 1 ≤ b + 1
       later a b h = omega (arith, h)

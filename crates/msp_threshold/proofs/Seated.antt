@@ -1,6 +1,7 @@
 -- Jobs in the slots of the earliest schedule: in order of their release dates at first, then as they change places, and the bound that they
 -- meet.
-use Rattle.std.proofs.Common.{◌≡◌, ℕ, ◌+◌, ◌<◌, ◌≤◌, ◌⊎◌, inl, inr, List, ◌++◌, length, take, drop, get_or, map, All, AllPairs, Contains, IsPermutation, FitsSigned, ℤ, pos, ◌+ℤ◌, ◌≤ℤ◌, sym, ap, subst, ◌∙◌, arith}
+use Rattle.std.proofs.Common.{◌≡◌, ℕ, ◌+◌, ◌<◌, ◌≤◌, ◌⊎◌, inl, inr, List, ◌++◌, length, take, drop, get_or, map, All, AllPairs, Contains, IsPermutation, FitsSigned, ℤ, pos, ◌+ℤ◌}
+use Rattle.std.proofs.Common.{◌≤ℤ◌, sym, ap, subst, ◌∙◌, arith}
 use Rattle.std.specs.List.{range_with_len, SwappedAt}
 use Rattle.std.specs.List.Sorted.{IsNonDecreasing}
 use Rattle.std.proofs.Math.Seq.{take-append_seam}
@@ -37,7 +38,8 @@ places_read xs =
     ext_get_or 0 (map (λ j. get_or xs j 0) (range_with_len 0 (length xs))) xs same (λ i l. get_or-map-range_with_len (λ j. get_or xs j 0) 0 (length xs) i i 0 (omega (arith, l, same)) (omega arith))
 
 -- ---- by release date
-module _ (i : Instance) (releases order heads : List ℕ) (r : releases ≡ map (λ j. j.release) i.jobs) (p : IsPermutation (range_with_len 0 (length releases)) order) (h : heads ≡ map (λ j. get_or releases j 0) order) where
+module _ (i : Instance) (releases order heads : List ℕ) (r : releases ≡ map (λ j. j.release) i.jobs)
+    (p : IsPermutation (range_with_len 0 (length releases)) order) (h : heads ≡ map (λ j. get_or releases j 0) order) where
   many : length releases ≡ length i.jobs
   many = ap length r ∙ length-map i.jobs (λ j. j.release)
 
@@ -45,7 +47,8 @@ module _ (i : Instance) (releases order heads : List ℕ) (r : releases ≡ map 
   order_inside = (OnceBelow-from_permutation p).within
 
   pub heads_sorted : IsPermutation (map (λ j. j.release) i.jobs) heads
-  heads_sorted = subst (IsPermutation (map (λ j. j.release) i.jobs)) (sym h) (subst (λ x. IsPermutation x (map (λ j. get_or releases j 0) order)) (places_read releases ∙ r) (IsPermutation-map (λ j. get_or releases j 0) (range_with_len 0 (length releases)) order p))
+  heads_sorted = subst (IsPermutation (map (λ j. j.release) i.jobs)) (sym h)
+      (subst (λ x. IsPermutation x (map (λ j. get_or releases j 0) order)) (places_read releases ∙ r) (IsPermutation-map (λ j. get_or releases j 0) (range_with_len 0 (length releases)) order p))
 
   head_is : (k : ℕ) → k < length order → (d : ℕ) → get_or heads k d ≡ get_or releases (get_or order k 0) 0
   head_is k l d = ap (λ x. get_or x k d) h ∙ get_or-map (λ j. get_or releases j 0) order k 0 d l
@@ -73,7 +76,8 @@ module _ (i : Instance) (releases order heads : List ℕ) (r : releases ≡ map 
     all = subst (λ n. IsPermutation (range_with_len 0 n) order) many p;
     released = λ k l.
         let inside : get_or order k 0 < length i.jobs = omega (arith, order_inside k 0 l, many) in
-        let release : (job_in i.jobs order k).release ≡ get_or heads k 0 = sym (get_or-map (λ j. j.release) i.jobs (get_or order k 0) no_job 0 inside) ∙ sym (ap (λ x. get_or x (get_or order k 0) 0) r) ∙ sym (head_is k l 0) in
+        let release : (job_in i.jobs order k).release ≡ get_or heads k 0 =
+        sym (get_or-map (λ j. j.release) i.jobs (get_or order k 0) no_job 0 inside) ∙ sym (ap (λ x. get_or x (get_or order k 0) 0) r) ∙ sym (head_is k l 0) in
         omega (arith, release, f.seated.released k (omega (arith, l, heads_many)));
   }
 
@@ -88,7 +92,8 @@ module _ (i : Instance) (slots : List Slot) (order next : List ℕ) (h : AreInSl
   seated_count = length-OnceBelow once_each ∙ sym h.count
 
 -- ---- two jobs change places
-pub released-swapped : (jobs : List Job) (slots : List Slot) (order next : List ℕ) (a b : ℕ) → ((j k : ℕ) → j ≤ k → k < length slots → start_in slots j ≤ start_in slots k) → length order ≡ length slots → AreReleased jobs slots order
+pub released-swapped : (jobs : List Job) (slots : List Slot) (order next : List ℕ) (a b : ℕ)
+    → ((j k : ℕ) → j ≤ k → k < length slots → start_in slots j ≤ start_in slots k) → length order ≡ length slots → AreReleased jobs slots order
     → a ≤ b → b < length order → IsReleased jobs order (start_in slots a) b → length next ≡ length order → SwappedAt order next a b → AreReleased jobs slots next
 released-swapped jobs slots order next a b rises count h le l first same s k lk = elim (cases_lt a k) [
   | inl above ↦ elim (cases_lt k b) [

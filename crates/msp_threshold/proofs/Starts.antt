@@ -7,6 +7,7 @@ use Rattle.std.proofs.lemmas.List.Elements.{All-cons, All-tail, All-map}
 use Rattle.std.proofs.lemmas.List.Filters.{All-dedup}
 use Rattle.std.proofs.lemmas.List.Kept.{AllPairs-cons, Contains-dedup_nat, Contains-from_dedup}
 use Rattle.std.proofs.lemmas.List.Sorted.{All-permutation}
+use Rattle.msp_class.specs.declared.sizes.TheConstants.{MOST_JOBS}
 use Rattle.msp_class.proofs.Sums.{AllPairs-head, AllPairs-tail}
 use Rattle.msp_instance.specs.declared.Instance.{Instance}
 use Rattle.msp_slots.specs.declared.earliest.Slot.{Slot}
@@ -28,7 +29,8 @@ dedup_rising k (x ∷ xs) h =
     (λ _. dedup_rising k xs (AllPairs-cons (λ a b. a ≤ b) k xs (All-tail (λ b. k ≤ b) x xs from_k) (AllPairs-tail (λ a b. a ≤ b) x xs rest)))
     (λ f.
     let less : k < x = above k x (from_k 0 0 (omega arith)) (eqb-false x k f) in
-    AllPairs-cons (λ a b. a < b) k (dedup_from eqb x xs) (All-dedup eqb (λ y. k < y) (x ∷ xs) (All-cons (λ y. k < y) x xs less (λ m d l. omega (arith, less, AllPairs-head (λ a b. a ≤ b) x xs rest m d l)))) (dedup_rising x xs rest))
+    AllPairs-cons (λ a b. a < b) k (dedup_from eqb x xs)
+    (All-dedup eqb (λ y. k < y) (x ∷ xs) (All-cons (λ y. k < y) x xs less (λ m d l. omega (arith, less, AllPairs-head (λ a b. a ≤ b) x xs rest m d l)))) (dedup_rising x xs rest))
   where
     above : (k x : ℕ) → k ≤ x → x ≢ k → k < x
     above k x h ne = grind arith
@@ -40,10 +42,12 @@ rising (x ∷ xs) h = dedup_rising x xs h
 starts_rise : (m : ℕ) (heads : List ℕ) (slots : List Slot) → AreSlots m heads slots → Up (map (λ s. s.start) slots)
 starts_rise m heads slots h a b d l k =
     let kb : b < length slots = omega (arith, k, length-map slots (λ s. s.start)) in
-    subst₂ (λ x y. x ≤ y) (sym (get_or-map (λ s. s.start) slots a no_slot d (omega (arith, l, kb)))) (sym (get_or-map (λ s. s.start) slots b no_slot d kb)) (h.rises a b (omega (arith, l)) (omega (arith, kb, h.count)))
+    subst₂ (λ x y. x ≤ y) (sym (get_or-map (λ s. s.start) slots a no_slot d (omega (arith, l, kb))))
+    (sym (get_or-map (λ s. s.start) slots b no_slot d kb)) (h.rises a b (omega (arith, l)) (omega (arith, kb, h.count)))
 
 -- at the numbers as the code passes them
-pub AreKept-from : (i : Instance) (heads : List ℕ) (slots : List Slot) (starts kept : List ℕ) → IsPermutation (map (λ j. j.release) i.jobs) heads → AreSlots i.machines heads slots → starts ≡ map (λ s. s.start) slots → kept ≡ dedup eqb starts → AreKept i kept
+pub AreKept-from : (i : Instance) (heads : List ℕ) (slots : List Slot) (starts kept : List ℕ) → IsPermutation (map (λ j. j.release) i.jobs) heads
+    → AreSlots i.machines heads slots → starts ≡ map (λ s. s.start) slots → kept ≡ dedup eqb starts → AreKept i kept
 AreKept-from i heads slots starts kept all filled e f = record {
   heads = heads;
   slots = slots;
@@ -56,17 +60,19 @@ AreKept-from i heads slots starts kept all filled e f = record {
 -- ---- how many
 dedup_from-most : (k : ℕ) (xs : List ℕ) → length (dedup_from eqb k xs) ≤ length xs + 1
 dedup_from-most k [] = omega arith
-dedup_from-most k (x ∷ xs) = cond_both (eqb x k) (dedup_from eqb k xs) (k ∷ dedup_from eqb x xs) (λ l. length l ≤ length (x ∷ xs) + 1) (λ _. omega (arith, dedup_from-most k xs)) (λ _. omega (arith, dedup_from-most x xs))
+dedup_from-most k (x ∷ xs) = cond_both (eqb x k) (dedup_from eqb k xs)
+    (k ∷ dedup_from eqb x xs) (λ l. length l ≤ length (x ∷ xs) + 1) (λ _. omega (arith, dedup_from-most k xs)) (λ _. omega (arith, dedup_from-most x xs))
 
 dedup-most : (xs : List ℕ) → length (dedup eqb xs) ≤ length xs
 dedup-most [] = omega arith
 dedup-most (x ∷ xs) = omega (arith, dedup_from-most x xs)
 
-pub kept_few : (m : ℕ) (heads : List ℕ) (slots : List Slot) (starts kept : List ℕ) → length heads ≤ 400 → AreSlots m heads slots → starts ≡ map (λ s. s.start) slots → kept ≡ dedup eqb starts → length kept ≤ 400
+pub kept_few : (m : ℕ) (heads : List ℕ) (slots : List Slot) (starts kept : List ℕ)
+    → length heads ≤ MOST_JOBS → AreSlots m heads slots → starts ≡ map (λ s. s.start) slots → kept ≡ dedup eqb starts → length kept ≤ MOST_JOBS
 kept_few m heads slots starts kept few filled e f = omega (arith, few, filled.count, ap length e, length-map slots (λ s. s.start), ap length f, dedup-most starts)
 
 module _ (i : Instance) (t : IsLatenessShop i) (heads : List ℕ) (p : IsPermutation (map (λ j. j.release) i.jobs) heads) where
-  pub heads_few : length heads ≤ 400
+  pub heads_few : length heads ≤ MOST_JOBS
   heads_few = omega (arith, heads_many i heads p, t.few)
 
   pub heads_low : All (λ r. r ≤ 2000000000) heads

@@ -7,7 +7,7 @@ use Rattle.msp_class.specs.declared.class.Times.TheVariants.{Unit as UnitTimes}
 use Rattle.msp_class.specs.declared.class.Crit.TheVariants.{Lmax, SumU}
 use Rattle.msp_instance.specs.declared.Job.{Job}
 use Rattle.msp_instance.specs.declared.Instance.{Instance}
-use Rattle.msp_instance.specs.declared.ranges.TheConstants.{GREATEST}
+use Rattle.msp_class.specs.declared.sizes.TheConstants.{GREATEST}
 use Rattle.msp_instance.specs.Conditions.{LiesWithin}
 use Rattle.msp_schedule.specs.declared.Schedule.{Schedule}
 use Rattle.msp_schedule.specs.Feasible.{Feasible}

@@ -1,6 +1,6 @@
 // A schedule of the jobs in order of their due dates: its greatest lateness bounds the search from above.
 ghost use Rattle.std.specs.Prelude.{◌≡◌, ℕ, ◌+◌, ◌*◌, ◌<◌, ◌≤◌, ◌⊎◌, length, map, slice_index_or, pos, ◌+ℤ◌, ◌≤ℤ◌, All, IfOk, IsPermutation};
-ghost use Rattle.msp_instance.specs.declared.ranges.TheConstants.{GREATEST, MOST_JOBS};
+ghost use Rattle.msp_class.specs.declared.sizes.TheConstants.{MOST_JOBS, GREATEST};
 ghost use Rattle.msp_instance.specs.Conditions.{Inner, LiesWithin};
 ghost use Rattle.msp_slots.specs.Earliest.{start_in};
 ghost use Rattle.msp_threshold.specs.Squeezed.{lateness_class, CanMeet};

@@ -1,6 +1,6 @@
 // The kept moments: those at which the earliest schedule begins a job.
 ghost use Rattle.std.specs.Prelude.{◌≡◌, ◌≤◌, length, IfOk};
-ghost use Rattle.msp_instance.specs.declared.ranges.TheConstants.{MOST_JOBS};
+ghost use Rattle.msp_class.specs.declared.sizes.TheConstants.{MOST_JOBS};
 ghost use Rattle.msp_instance.specs.Conditions.{Inner};
 ghost use Rattle.msp_threshold.specs.Squeezed.{lateness_class, AreKept};
 

@@ -1,6 +1,6 @@
 // The search for the least bound on the greatest lateness that some schedule meets.
 ghost use Rattle.std.specs.Prelude.{◌≡◌, ◌*◌, ◌+◌, ◌<◌, ◌≤◌, length, pos, ◌-ℤ◌, All, IfOk};
-ghost use Rattle.msp_instance.specs.declared.ranges.TheConstants.{GREATEST};
+ghost use Rattle.msp_class.specs.declared.sizes.TheConstants.{GREATEST};
 ghost use Rattle.msp_instance.specs.Conditions.{Inner, LiesWithin};
 ghost use Rattle.msp_schedule.specs.Cost.{IsBest, Best, cost_of};
 ghost use Rattle.msp_route.specs.Bounds.{IsAnswer};

@@ -1,6 +1,6 @@
 // An instance squeezed to the kept moments, by a bound on the greatest lateness.
 ghost use Rattle.std.specs.Prelude.{◌≡◌, ◌↔◌, ◌+◌, ◌*◌, ◌≤◌, ◌≤ℤ◌, length, map, pos, int_le, All, IfOk, IfSome, IsTrue, MatchOption};
-ghost use Rattle.msp_instance.specs.declared.ranges.TheConstants.{GREATEST, MOST_JOBS};
+ghost use Rattle.msp_class.specs.declared.sizes.TheConstants.{MOST_JOBS, GREATEST};
 ghost use Rattle.msp_instance.specs.Conditions.{Inner, InClass, LiesWithin};
 ghost use Rattle.msp_threshold.specs.Limits.{AreLimits};
 ghost use Rattle.msp_threshold.specs.Squeezed.{lateness_class, greatest_bound, squeezed_release, squeezed_due, squeezed_job, squeezed_by, HasTime, IsSqueezed, CanMeet, CanBeFree};

@@ -97,43 +97,53 @@ module _ (s : Square) (column : List ℕ) (p : IsPermuted s.size column) (d low 
       b : ℕ
       b = cell_at s.size s.padding.items k (at column k)
 
-      from_given : 0 < cell_at s.size now.given.items k (at column k) → next.given.items ≡ set now.given.items (k * s.size + at column k) (cell_at s.size now.given.items k (at column k) - d) → next.padding.items ≡ now.padding.items → IsCutting s column d low next (k + 1)
+      from_given : 0 < cell_at s.size now.given.items k (at column k) → next.given.items ≡ set now.given.items (k * s.size + at column k) (cell_at s.size now.given.items k (at column k) - d)
+          → next.padding.items ≡ now.padding.items → IsCutting s column d low next (k + 1)
       from_given w e f =
           let yes : ltb 0 (cell_at s.size s.given.items k (at column k)) ≡ true = ltb-yes 0 (cell_at s.size s.given.items k (at column k)) (omega (arith, now_given)) in
-          let is : used_at s column k ≡ cell_at s.size s.given.items k (at column k) = ap (λ v. cond v (cell_at s.size s.given.items k (at column k)) (cell_at s.size s.padding.items k (at column k))) yes in
+          let is : used_at s column k ≡ cell_at s.size s.given.items k (at column k) =
+          ap (λ v. cond v (cell_at s.size s.given.items k (at column k)) (cell_at s.size s.padding.items k (at column k))) yes in
           let here : given_share s column d k (at column k) ≡ d = given_here k ∙ ap (λ v. cond v d 0) yes in
           let v = cell_at s.size now.given.items k (at column k) - d in
           let lost : (low ≡ k → 0 + cond (ltb 0 v) 1 0 ≡ 0 + 0) = λ q. let g = tight q in one_of v (omega (arith, g, is, now_given)) in
           let kept : stocks next.padding.items ≡ stocks now.padding.items = ap stocks f in
           let count = stocks-set s.size now.given.items k (at column k) v given_size lk (p.inside k lk) in
           let given_count : stocks next.given.items ≡ stocks (set now.given.items (k * s.size + at column k) v) = ap stocks e in
-          let more = count-next (stocks (set now.given.items (k * s.size + at column k) v)) (stocks now.given.items) (stocks now.padding.items) (cond (ltb 0 (cell_at s.size now.given.items k (at column k))) 1 0) (cond (ltb 0 v) 1 0) (stocks s.given.items + stocks s.padding.items)
+          let more = count-next (stocks (set now.given.items (k * s.size + at column k) v)) (stocks now.given.items) (stocks now.padding.items)
+          (cond (ltb 0 (cell_at s.size now.given.items k (at column k))) 1 0) (cond (ltb 0 v) 1 0) (stocks s.given.items + stocks s.padding.items)
           (positive-one (cell_at s.size now.given.items k (at column k)) w) (cond-one (ltb 0 v)) (λ q. omega (arith, lost q)) count h.fewer in
           record {
             square = t.square;
             size = t.size ∙ h.size;
-            given = rows-set s.size column p s.given.items now.given.items next.given.items (given_share s column d) k lk given_size (given_none k) h.given v (omega (arith, now_given, here, is, enough)) e;
-            padding = rows-kept s.size column p s.padding.items now.padding.items next.padding.items (padding_share s column d) k lk padding_size (padding_none k) h.padding f (padding_here k ∙ ap (λ x. cond x 0 d) yes);
+            given = rows-set s.size column p s.given.items now.given.items next.given.items
+                (given_share s column d) k lk given_size (given_none k) h.given v (omega (arith, now_given, here, is, enough)) e;
+            padding = rows-kept s.size column p s.padding.items now.padding.items next.padding.items
+                (padding_share s column d) k lk padding_size (padding_none k) h.padding f (padding_here k ∙ ap (λ x. cond x 0 d) yes);
             fewer = omega (arith, more, kept, given_count);
           }
 
-      from_padding : cell_at s.size now.given.items k (at column k) ≡ 0 → next.given.items ≡ now.given.items → next.padding.items ≡ set now.padding.items (k * s.size + at column k) (cell_at s.size now.padding.items k (at column k) - d) → IsCutting s column d low next (k + 1)
+      from_padding : cell_at s.size now.given.items k (at column k) ≡ 0 → next.given.items ≡ now.given.items
+          → next.padding.items ≡ set now.padding.items (k * s.size + at column k) (cell_at s.size now.padding.items k (at column k) - d) → IsCutting s column d low next (k + 1)
       from_padding w f e =
           let no : ltb 0 (cell_at s.size s.given.items k (at column k)) ≡ false = ltb-no 0 (cell_at s.size s.given.items k (at column k)) (omega (arith, now_given)) in
-          let is : used_at s column k ≡ cell_at s.size s.padding.items k (at column k) = ap (λ v. cond v (cell_at s.size s.given.items k (at column k)) (cell_at s.size s.padding.items k (at column k))) no in
+          let is : used_at s column k ≡ cell_at s.size s.padding.items k (at column k) =
+          ap (λ v. cond v (cell_at s.size s.given.items k (at column k)) (cell_at s.size s.padding.items k (at column k))) no in
           let here : padding_share s column d k (at column k) ≡ d = padding_here k ∙ ap (λ v. cond v 0 d) no in
           let v = cell_at s.size now.padding.items k (at column k) - d in
           let lost : (low ≡ k → 0 + cond (ltb 0 v) 1 0 ≡ 0 + 0) = λ q. let g = tight q in one_of v (omega (arith, g, is, now_padding)) in
           let kept : stocks next.given.items ≡ stocks now.given.items = ap stocks f in
           let count = stocks-set s.size now.padding.items k (at column k) v padding_size lk (p.inside k lk) in
           let padding_count : stocks next.padding.items ≡ stocks (set now.padding.items (k * s.size + at column k) v) = ap stocks e in
-          let more = count-next (stocks (set now.padding.items (k * s.size + at column k) v)) (stocks now.padding.items) (stocks now.given.items) (cond (ltb 0 (cell_at s.size now.padding.items k (at column k))) 1 0) (cond (ltb 0 v) 1 0) (stocks s.given.items + stocks s.padding.items)
-          (positive-one (cell_at s.size now.padding.items k (at column k)) (omega (arith, now_padding, is, enough, positive))) (cond-one (ltb 0 v)) (λ q. omega (arith, lost q)) count (omega (arith, h.fewer)) in
+          let more = count-next (stocks (set now.padding.items (k * s.size + at column k) v)) (stocks now.padding.items) (stocks now.given.items)
+          (cond (ltb 0 (cell_at s.size now.padding.items k (at column k))) 1 0) (cond (ltb 0 v) 1 0) (stocks s.given.items + stocks s.padding.items)
+          (positive-one (cell_at s.size now.padding.items k (at column k)) (omega (arith, now_padding, is, enough, positive)))
+          (cond-one (ltb 0 v)) (λ q. omega (arith, lost q)) count (omega (arith, h.fewer)) in
           record {
             square = t.square;
             size = t.size ∙ h.size;
             given = rows-kept s.size column p s.given.items now.given.items next.given.items (given_share s column d) k lk given_size (given_none k) h.given f (given_here k ∙ ap (λ x. cond x d 0) no);
-            padding = rows-set s.size column p s.padding.items now.padding.items next.padding.items (padding_share s column d) k lk padding_size (padding_none k) h.padding v (omega (arith, now_padding, here, is, enough)) e;
+            padding = rows-set s.size column p s.padding.items now.padding.items next.padding.items
+                (padding_share s column d) k lk padding_size (padding_none k) h.padding v (omega (arith, now_padding, here, is, enough)) e;
             fewer = omega (arith, more, kept, padding_count);
           }
 
@@ -144,10 +154,14 @@ module _ (s : Square) (column : List ℕ) (p : IsPermuted s.size column) (d low 
         | inr w ↦ from_padding w.0 w.1 w.2
       ]
         where
-          change : ((0 < cell_at s.size now.given.items k (at column k)) × (next.given.items ≡ set now.given.items (k * s.size + at column k) (cell_at s.size now.given.items k (at column k) - d)) × (next.padding.items ≡ now.padding.items))
-              ⊎ ((cell_at s.size now.given.items k (at column k) ≡ 0) × (next.given.items ≡ now.given.items) × (next.padding.items ≡ set now.padding.items (k * s.size + at column k) (cell_at s.size now.padding.items k (at column k) - d)))
-          change = subst (λ m. ((0 < cell_at m now.given.items k (at column k)) × (next.given.items ≡ set now.given.items (k * m + at column k) (cell_at m now.given.items k (at column k) - d)) × (next.padding.items ≡ now.padding.items))
-              ⊎ ((cell_at m now.given.items k (at column k) ≡ 0) × (next.given.items ≡ now.given.items) × (next.padding.items ≡ set now.padding.items (k * m + at column k) (cell_at m now.padding.items k (at column k) - d)))) h.size t.change
+          change : ((0 < cell_at s.size now.given.items k (at column k))
+              × (next.given.items ≡ set now.given.items (k * s.size + at column k) (cell_at s.size now.given.items k (at column k) - d)) × (next.padding.items ≡ now.padding.items))
+              ⊎ ((cell_at s.size now.given.items k (at column k) ≡ 0) × (next.given.items ≡ now.given.items)
+              × (next.padding.items ≡ set now.padding.items (k * s.size + at column k) (cell_at s.size now.padding.items k (at column k) - d)))
+          change = subst (λ m. ((0 < cell_at m now.given.items k (at column k))
+              × (next.given.items ≡ set now.given.items (k * m + at column k) (cell_at m now.given.items k (at column k) - d)) × (next.padding.items ≡ now.padding.items))
+              ⊎ ((cell_at m now.given.items k (at column k) ≡ 0) × (next.given.items ≡ now.given.items)
+              × (next.padding.items ≡ set now.padding.items (k * m + at column k) (cell_at m now.padding.items k (at column k) - d)))) h.size t.change
 
   pub IsCutting-start : IsSquare s → IsCutting s column d low s 0
   IsCutting-start q = record {

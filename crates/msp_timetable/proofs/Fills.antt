@@ -1,8 +1,10 @@
 -- The square is filled: the matrix, what the lines lack, and the padding from corner to corner.
-use Rattle.std.proofs.Common.{◌≡◌, ◌≢◌, ℕ, zero, suc, ◌+◌, ◌-◌, ◌*◌, ◌<◌, ◌≤◌, ◌⊎◌, inl, inr, refl, List, Bool, true, false, eqb, ltb, length, set, cond, ℤ, pos, nat_abs, ◌≤ℤ◌, sym, ap, subst, ◌∙◌, arith}
+use Rattle.std.proofs.Common.{◌≡◌, ◌≢◌, ℕ, zero, suc, ◌+◌, ◌-◌, ◌*◌, ◌<◌, ◌≤◌, ◌⊎◌, inl, inr, refl, List, Bool, true, false, eqb, ltb, length, set, cond, ℤ, pos, nat_abs, ◌≤ℤ◌}
+use Rattle.std.proofs.Common.{sym, ap, subst, ◌∙◌, arith}
 use Rattle.std.proofs.lemmas.Bool.{eq-eqb, ne_eqb}
 use Rattle.std.proofs.lemmas.Int.{ints}
 use Rattle.std.proofs.lemmas.List.{get_or-set_same, get_or-set_other, length-set}
+use Rattle.msp_class.specs.declared.sizes.TheConstants.{MOST_JOBS}
 use Rattle.msp_class.specs.Sums.{total_below}
 use Rattle.msp_class.proofs.Sums.{total_below-add, total_below-same, total_below-none, total_below-only, total_below-exchange, total_below-term, int_total_below-natural}
 use Rattle.msp_matching.specs.Passing.{at}
@@ -23,7 +25,8 @@ pub record IsSpreading (n : ℕ) (m : Matrix) (row : ℕ) (old now : List ℕ) (
 abs-is : (z : ℤ) → pos 0 ≤ℤ z → pos (nat_abs z) ≡ z
 abs-is z l = omega (arith, ints)
 
-pub IsSpreading-next : (n : ℕ) (m : Matrix) (row : ℕ) (old now : List ℕ) (k : ℕ) → length old ≡ n * n → row < n → k < n → IsSpreading n m row old now k → (v : ℕ) → pos v ≡ cell m row k → IsSpreading n m row old (set now (row * n + k) v) (k + 1)
+pub IsSpreading-next : (n : ℕ) (m : Matrix) (row : ℕ) (old now : List ℕ) (k : ℕ) → length old ≡ n * n
+    → row < n → k < n → IsSpreading n m row old now k → (v : ℕ) → pos v ≡ cell m row k → IsSpreading n m row old (set now (row * n + k) v) (k + 1)
 IsSpreading-next n m row old now k size lr lk h v e = record {
   size = length-set now (row * n + k) v ∙ h.size;
   cells = λ c l. elim (same_or_not c k) [
@@ -55,7 +58,8 @@ pub record IsSpreadBelow (n : ℕ) (m : Matrix) (now : List ℕ) (k : ℕ) : Typ
   pub outside : (r c : ℕ) → r < n → c < n → (k ≤ r) ⊎ (m.columns ≤ c) → cell_at n now r c ≡ 0
   pub few : stocks now ≤ k * m.columns
 
-pub IsSpreadBelow-next : (n : ℕ) (m : Matrix) (now next : List ℕ) (k : ℕ) → m.rows ≤ n → m.columns ≤ n → k < m.rows → IsSpreadBelow n m now k → IsSpreadRow n m k now next → IsSpreadBelow n m next (k + 1)
+pub IsSpreadBelow-next : (n : ℕ) (m : Matrix) (now next : List ℕ) (k : ℕ)
+    → m.rows ≤ n → m.columns ≤ n → k < m.rows → IsSpreadBelow n m now k → IsSpreadRow n m k now next → IsSpreadBelow n m next (k + 1)
 IsSpreadBelow-next n m now next k a b lk h s = record {
   size = s.size ∙ h.size;
   cells = λ r c lr lc. elim (same_or_not r k) [
@@ -163,11 +167,22 @@ module _ (n : ℕ) (rows columns : List ℕ) where
 
     cells : (r c : ℕ) → r < n → c < n → cell_at n padding2 r c ≡ cell_at n padding r c + cond (eqb i r) (cond (eqb j c) s.both 0) 0
     cells r c lr lc = subst (λ xs. cell_at n xs r c ≡ cell_at n padding r c + cond (eqb i r) (cond (eqb j c) s.both 0) 0) (sym s.padding) (elim (same_or_not r i) [
-      | inl p ↦ subst (λ y. cell_at n (set padding (i * n + j) (cell_at n padding i j + s.both)) y c ≡ cell_at n padding y c + cond (eqb i y) (cond (eqb j c) s.both 0) 0) (sym p) (elim (same_or_not c j) [
-        | inl q ↦ subst (λ y. cell_at n (set padding (i * n + j) (cell_at n padding i j + s.both)) i y ≡ cell_at n padding i y + cond (eqb i i) (cond (eqb j y) s.both 0) 0) (sym q)
-            (omega (arith, cell-same n padding i j (cell_at n padding i j + s.both) h.size li lj, ap (λ v. cond v (cond (eqb j j) s.both 0) 0) (eq-eqb i i refl), ap (λ v. cond v s.both 0) (eq-eqb j j refl)))
-        | inr q ↦ omega (arith, cell-other n padding i j (cell_at n padding i j + s.both) h.size li lj i c lc (inr q), ap (λ v. cond v (cond (eqb j c) s.both 0) 0) (eq-eqb i i refl), ap (λ v. cond v s.both 0) (ne_eqb j c (λ y. q (sym y))))
-      ])
+      | inl p ↦ subst (λ y. cell_at n (set padding (i * n + j) (cell_at n padding i j + s.both)) y c ≡ cell_at n padding y c + cond (eqb i y) (cond (eqb j c) s.both 0) 0)
+          (sym p) (elim (same_or_not c j) [
+            | inl q ↦ subst (λ y. cell_at n (set padding (i * n + j) (cell_at n padding i j + s.both)) i y ≡ cell_at n padding i y + cond (eqb i i) (cond (eqb j y) s.both 0) 0) (sym q)
+                (omega (
+                  arith,
+                  cell-same n padding i j (cell_at n padding i j + s.both) h.size li lj,
+                  ap (λ v. cond v (cond (eqb j j) s.both 0) 0) (eq-eqb i i refl),
+                  ap (λ v. cond v s.both 0) (eq-eqb j j refl),
+                ))
+            | inr q ↦ omega (
+              arith,
+              cell-other n padding i j (cell_at n padding i j + s.both) h.size li lj i c lc (inr q),
+              ap (λ v. cond v (cond (eqb j c) s.both 0) 0) (eq-eqb i i refl),
+              ap (λ v. cond v s.both 0) (ne_eqb j c (λ y. q (sym y))),
+            )
+          ])
       | inr p ↦ omega (arith, cell-other n padding i j (cell_at n padding i j + s.both) h.size li lj r c lc (inl p), ap (λ v. cond v (cond (eqb j c) s.both 0) 0) (ne_eqb i r (λ y. p (sym y))))
     ])
 
@@ -187,13 +202,15 @@ module _ (n : ℕ) (rows columns : List ℕ) where
         ∙ ap (λ k. row_total n padding r + k) (only (eqb i r) j lj)
 
     column_more : (c : ℕ) → c < n → column_total n padding2 c ≡ column_total n padding c + cond (eqb j c) s.both 0
-    column_more c l = total_below-same n (λ r. cell_at n padding2 r c) (λ r. cell_at n padding r c + cond (eqb j c) (cond (eqb i r) s.both 0) 0) (λ r lr. cells r c lr l ∙ ap (λ k. cell_at n padding r c + k) (turn (eqb i r) (eqb j c)))
+    column_more c l = total_below-same n (λ r. cell_at n padding2 r c) (λ r. cell_at n padding r c + cond (eqb j c) (cond (eqb i r) s.both 0) 0)
+        (λ r lr. cells r c lr l ∙ ap (λ k. cell_at n padding r c + k) (turn (eqb i r) (eqb j c)))
         ∙ total_below-add n (λ r. cell_at n padding r c) (λ r. cond (eqb j c) (cond (eqb i r) s.both 0) 0)
         ∙ ap (λ k. column_total n padding c + k) (only (eqb j c) i li)
 
     lowered : (xs ys : List ℕ) (k : ℕ) → k < n → length xs ≡ n → ys ≡ set xs k (at xs k - s.both) → s.both ≤ at xs k → (r : ℕ) → at ys r + cond (eqb k r) s.both 0 ≡ at xs r
     lowered xs ys k l size q low r = subst (λ zs. at zs r + cond (eqb k r) s.both 0 ≡ at xs r) (sym q) (elim (same_or_not r k) [
-      | inl p ↦ subst (λ y. at (set xs k (at xs k - s.both)) y + cond (eqb k y) s.both 0 ≡ at xs y) (sym p) (omega (arith, get_or-set_same xs k (at xs k - s.both) 0 (omega (arith, size)), ap (λ v. cond v s.both 0) (eq-eqb k k refl), low))
+      | inl p ↦ subst (λ y. at (set xs k (at xs k - s.both)) y + cond (eqb k y) s.both 0 ≡ at xs y)
+          (sym p) (omega (arith, get_or-set_same xs k (at xs k - s.both) 0 (omega (arith, size)), ap (λ v. cond v s.both 0) (eq-eqb k k refl), low))
       | inr p ↦ omega (arith, get_or-set_other xs k r (at xs k - s.both) 0 p, ap (λ v. cond v s.both 0) (ne_eqb k r (λ y. p (sym y))))
     ])
 
@@ -267,7 +284,8 @@ module _ (n : ℕ) (rows columns : List ℕ) where
       zeros (inl a) = let z : (r : ℕ) → r < n → at d r ≡ 0 = λ r l. h.rows_done r (omega arith) in (z, all_zero (λ r. at d r) (λ c. at e c) h.same z)
       zeros (inr a) = let z : (c : ℕ) → c < n → at e c ≡ 0 = λ c l. h.columns_done c (omega arith) in (all_zero (λ c. at e c) (λ r. at d r) (sym h.same) z, z)
 
-  pub IsCorner-start : (padding : List ℕ) → length padding ≡ n * n → ((k : ℕ) → at padding k ≡ 0) → stocks padding ≡ 0 → length rows ≡ n → length columns ≡ n → total_below n (λ r. at rows r) ≡ total_below n (λ c. at columns c) → IsCorner padding rows columns 0 0
+  pub IsCorner-start : (padding : List ℕ) → length padding ≡ n * n → ((k : ℕ) → at padding k ≡ 0) → stocks padding ≡ 0
+      → length rows ≡ n → length columns ≡ n → total_below n (λ r. at rows r) ≡ total_below n (λ c. at columns c) → IsCorner padding rows columns 0 0
   IsCorner-start padding size z none rs cs same = record {
     size = size;
     row_size = rs;
@@ -294,23 +312,28 @@ IsSpreadBelow-start n m xs size z none = record { size = size; cells = λ r c l 
 pub IsSpread-end : (n : ℕ) (m : Matrix) (xs : List ℕ) → IsSpreadBelow n m xs m.rows → IsSpread n m xs
 IsSpread-end n m xs h = record { size = h.size; cells = h.cells; outside = h.outside; few = h.few }
 
-pub corner-small : (n : ℕ) (rows columns padding d e : List ℕ) (i j : ℕ) → IsCorner n rows columns padding d e i j → i < n → j < n → ((r : ℕ) → r < n → at rows r ≤ greatest_sum) → cell_at n padding i j + at d i ≤ greatest_sum
+pub corner-small : (n : ℕ) (rows columns padding d e : List ℕ) (i j : ℕ)
+    → IsCorner n rows columns padding d e i j → i < n → j < n → ((r : ℕ) → r < n → at rows r ≤ greatest_sum) → cell_at n padding i j + at d i ≤ greatest_sum
 corner-small n rows columns padding d e i j h li lj low = let t = total_below-term n (λ c. cell_at n padding i c) j lj in omega (arith, t, h.each_row i li, low i li)
 
-pub IsSpreading-read : (n : ℕ) (m : Matrix) (row : ℕ) (old now : List ℕ) (k : ℕ) → length old ≡ n * n → row < m.rows → m.rows ≤ n → m.columns ≤ n → k < m.columns → IsMatrix m → IsSpreading n m row old now k → (q v : ℕ) (z : ℤ) → q ≡ row * n + k → v ≡ nat_abs z → z ≡ cell m row k → IsSpreading n m row old (set now q v) (k + 1)
+pub IsSpreading-read : (n : ℕ) (m : Matrix) (row : ℕ) (old now : List ℕ) (k : ℕ) → length old ≡ n * n → row < m.rows → m.rows ≤ n → m.columns ≤ n → k < m.columns
+    → IsMatrix m → IsSpreading n m row old now k → (q v : ℕ) (z : ℤ) → q ≡ row * n + k → v ≡ nat_abs z → z ≡ cell m row k → IsSpreading n m row old (set now q v) (k + 1)
 IsSpreading-read n m row old now k size lr a b lk h s q v z eq ev ez =
     subst (λ x. IsSpreading n m row old (set now x v) (k + 1)) (sym eq)
     (IsSpreading-next n m row old now k size (omega arith) (omega arith) s v (ap pos (ev ∙ ap nat_abs ez) ∙ cell-abs m row k h lr lk))
 
 -- all of it
-pub IsFilled-made : (m : Matrix) (s : Square) (g : ℕ) (d e : List ℕ) → s.size ≤ 400 → IsSpread s.size m s.given.items → IsGreatest s.size s.given.items g → IsLacking s.size s.given.items g d e → IsPadding s.size d e s.padding.items → IsFilled m s g
+pub IsFilled-made : (m : Matrix) (s : Square) (g : ℕ) (d e : List ℕ) → s.size ≤ MOST_JOBS → IsSpread s.size m s.given.items
+    → IsGreatest s.size s.given.items g → IsLacking s.size s.given.items g d e → IsPadding s.size d e s.padding.items → IsFilled m s g
 IsFilled-made m s g d e small spread greatest l p = record {
   square = record { small = small; given = spread.size; padding = p.size };
   spread = spread;
   greatest = greatest;
   balanced = record {
-    rows = λ r lr. total_below-add s.size (λ c. cell_at s.size s.given.items r c) (λ c. cell_at s.size s.padding.items r c) ∙ ap (λ k. row_total s.size s.given.items r + k) (p.each_row r lr) ∙ l.each_row r lr;
-    columns = λ c lc. total_below-add s.size (λ r. cell_at s.size s.given.items r c) (λ r. cell_at s.size s.padding.items r c) ∙ ap (λ k. column_total s.size s.given.items c + k) (p.each_column c lc) ∙ l.each_column c lc;
+    rows = λ r lr. total_below-add s.size (λ c. cell_at s.size s.given.items r c) (λ c. cell_at s.size s.padding.items r c)
+        ∙ ap (λ k. row_total s.size s.given.items r + k) (p.each_row r lr) ∙ l.each_row r lr;
+    columns = λ c lc. total_below-add s.size (λ r. cell_at s.size s.given.items r c) (λ r. cell_at s.size s.padding.items r c)
+        ∙ ap (λ k. column_total s.size s.given.items c + k) (p.each_column c lc) ∙ l.each_column c lc;
   };
   few = omega (arith, spread.few, p.few);
 }

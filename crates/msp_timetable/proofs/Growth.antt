@@ -1,15 +1,17 @@
 -- The search grows, and never runs dry: Hall's count.
-use Rattle.std.proofs.Common.{◌≡◌, ◌≢◌, ℕ, zero, suc, ◌+◌, ◌*◌, ◌<◌, ◌≤◌, ◌⊎◌, inl, inr, refl, List, [], ◌∷◌, ◌++◌, Bool, true, false, eqb, ltb, length, set, map, Contains, All, cond, count_by, sum_by, sym, ap, subst, ◌∙◌, arith}
+use Rattle.std.proofs.Common.{◌≡◌, ◌≢◌, ℕ, zero, suc, ◌+◌, ◌*◌, ◌<◌, ◌≤◌, ◌⊎◌, inl, inr, refl, List, [], ◌∷◌, ◌++◌, Bool, true, false, eqb, ltb, length, set, map, Contains, All}
+use Rattle.std.proofs.Common.{cond, count_by, sum_by, sym, ap, subst, ◌∙◌, arith}
 use Rattle.std.proofs.lemmas.Bool.{ltb-true, ltb-false, eq-eqb}
 use Rattle.std.proofs.lemmas.List.{get_or-set_same, get_or-set_other, length-set, get_or_append_left, length-append, get_or-map, length-map}
 use Rattle.std.proofs.Math.Seq.{get_or-append_seam}
 use Rattle.std.proofs.lemmas.List.Elements.{Contains-get_or}
 use Rattle.msp_class.specs.Sums.{total_below}
-use Rattle.msp_class.proofs.Sums.{total_below-mono, total_below-same, total_below-scale_right, sum_by-total_below, sum_by-mono, sum_by-constant, sum_by_counts, sum_by-contains, sum_by-cond, sum_by-distinct_test, cond-yes}
+use Rattle.msp_class.proofs.Sums.{total_below-mono, total_below-same, total_below-scale_right, sum_by-total_below, sum_by-mono, sum_by-constant, sum_by_counts, sum_by-contains}
+use Rattle.msp_class.proofs.Sums.{sum_by-cond, sum_by-distinct_test, cond-yes}
 use Rattle.msp_matching.specs.Passing.{at}
 use Rattle.msp_class.proofs.Cases.{same_or_not}
 use Rattle.msp_timetable.specs.Square.{IsPermuted, IsOwners, IsBalanced, IsGrowing, IsSearch, IsFound}
-use Rattle.msp_timetable.proofs.Lists.{all_at, pairs_at, distinct_short, same_row}
+use Rattle.msp_timetable.proofs.Lists.{all_at, pairs_at, distinct_short, same_back_to_back}
 
 -- the rows of a tree are at most n
 pub IsGrowing-short : (n : ℕ) (f : ℕ → ℕ → ℕ) (column from tree : List ℕ) → IsGrowing n f column from tree → length tree ≤ n
@@ -145,7 +147,7 @@ module _ (n : ℕ) (f : ℕ → ℕ → ℕ) (column owner : List ℕ) (p : IsPe
     inside = lc;
     reached = omega (arith, here, place_small);
     other = not_new;
-    empty = λ r lr e. subst (λ x. f x c ≡ 0) (same_row n column p (at owner c) r (o.each c lc).0 lr ((o.each c lc).1 ∙ sym e)) empty;
+    empty = λ r lr e. subst (λ x. f x c ≡ 0) (same_back_to_back n column p (at owner c) r (o.each c lc).0 lr ((o.each c lc).1 ∙ sym e)) empty;
   }
 
   module _ (full : 0 < f (at owner c) c) where
@@ -212,7 +214,8 @@ module _ (n : ℕ) (f : ℕ → ℕ → ℕ) (column owner : List ℕ) (p : IsPe
     }
 
 -- on to the next place
-pub IsSearch-next : (n : ℕ) (f : ℕ → ℕ → ℕ) (column : List ℕ) (start place : ℕ) (from tree : List ℕ) → IsSearch n f column start place n from tree → place < length tree → IsSearch n f column start (place + 1) 0 from tree
+pub IsSearch-next : (n : ℕ) (f : ℕ → ℕ → ℕ) (column : List ℕ) (start place : ℕ) (from tree : List ℕ)
+    → IsSearch n f column start place n from tree → place < length tree → IsSearch n f column start (place + 1) 0 from tree
 IsSearch-next n f column start place from tree h l = record {
   growing = h.growing;
   first = h.first;
@@ -227,7 +230,8 @@ IsSearch-next n f column start place from tree h l = record {
 }
 
 -- the last place is never the end of the tree
-pub IsSearch-goes_on : (n : ℕ) (f : ℕ → ℕ → ℕ) (left : ℕ) → IsBalanced n f left → 0 < left → (column : List ℕ) → IsPermuted n column → (start place : ℕ) (from tree : List ℕ) → IsSearch n f column start place 0 from tree → place < length tree
+pub IsSearch-goes_on : (n : ℕ) (f : ℕ → ℕ → ℕ) (left : ℕ) → IsBalanced n f left → 0 < left
+    → (column : List ℕ) → IsPermuted n column → (start place : ℕ) (from tree : List ℕ) → IsSearch n f column start place 0 from tree → place < length tree
 IsSearch-goes_on n f left b positive column p start place from [] h = absurd (omega (arith, h.growing.some))
 IsSearch-goes_on n f left b positive column p start place from (x ∷ rest) h = elim (same_or_not place (length (x ∷ rest))) [
   | inr e ↦ omega (arith, h.here)
@@ -249,13 +253,15 @@ IsSearch-goes_on n f left b positive column p start place from (x ∷ rest) h = 
     mapped k l = get_or-map (at column) rest k 0 0 l
 
     inside : All (λ y. y < n) (map (at column) rest)
-    inside = all_at (λ y. y < n) (map (at column) rest) (λ k l. let m : k < length rest = omega (arith, length-map rest (at column)) in omega (arith, mapped k m, p.inside (at rest k) (h.growing.rows (suc k) (omega arith))))
+    inside = all_at (λ y. y < n) (map (at column) rest)
+        (λ k l. let m : k < length rest = omega (arith, length-map rest (at column)) in omega (arith, mapped k m, p.inside (at rest k) (h.growing.rows (suc k) (omega arith))))
 
     named : (d : ℕ) → ((k : ℕ) × (1 ≤ k) × (k < length (x ∷ rest)) × (at column (at (x ∷ rest) k) ≡ d)) → Contains (map (at column) rest) d
     named d (zero, a, l, e) = absurd (omega arith)
     named d (suc k, a, l, e) = let m : k < length rest = omega arith in numbered n (map (at column) rest) k d (omega (arith, length-map rest (at column))) (mapped k m ∙ e)
 
-pub IsSearch-start : (n : ℕ) (f : ℕ → ℕ → ℕ) (column : List ℕ) (start : ℕ) → start < n → f start (at column start) ≡ 0 → (from tree : List ℕ) → length from ≡ n → ((d : ℕ) → d < n → at from d ≡ n) → tree ≡ start ∷ [] → IsSearch n f column start 0 0 from tree
+pub IsSearch-start : (n : ℕ) (f : ℕ → ℕ → ℕ) (column : List ℕ) (start : ℕ) → start < n → f start (at column start) ≡ 0
+    → (from tree : List ℕ) → length from ≡ n → ((d : ℕ) → d < n → at from d ≡ n) → tree ≡ start ∷ [] → IsSearch n f column start 0 0 from tree
 IsSearch-start n f column start l e from tree size far is = subst (IsSearch n f column start 0 0 from) (sym is) record {
   growing = record {
     size = size;
@@ -274,11 +280,13 @@ IsSearch-start n f column start l e from tree size far is = subst (IsSearch n f 
 }
 
 -- the same search, as the tree is read
-pub IsSearch-same : {n : ℕ} {f : ℕ → ℕ → ℕ} {column : List ℕ} {start place c : ℕ} {from tree tree2 : List ℕ} → IsSearch n f column start place c from tree → tree ≡ tree2 → IsSearch n f column start place c from tree2
+pub IsSearch-same : {n : ℕ} {f : ℕ → ℕ → ℕ} {column : List ℕ} {start place c : ℕ} {from tree tree2 : List ℕ}
+    → IsSearch n f column start place c from tree → tree ≡ tree2 → IsSearch n f column start place c from tree2
 IsSearch-same {n} {f} {column} {start} {place} {c} {from} {tree} {tree2} h e = subst (IsSearch n f column start place c from) e h
 
 -- a place is scanned, and the search goes on
-pub IsSearch-step : (n : ℕ) (f : ℕ → ℕ → ℕ) (column : List ℕ) → IsPermuted n column → (left : ℕ) × (0 < left) × IsBalanced n f left → (start start2 place : ℕ) (from tree : List ℕ) → start2 ≡ start → IsSearch n f column start2 place n from tree → place < length tree
+pub IsSearch-step : (n : ℕ) (f : ℕ → ℕ → ℕ) (column : List ℕ) → IsPermuted n column → (left : ℕ) × (0 < left) × IsBalanced n f left
+    → (start start2 place : ℕ) (from tree : List ℕ) → start2 ≡ start → IsSearch n f column start2 place n from tree → place < length tree
     → IsSearch n f column start (place + 1) 0 from tree × (place + 1 < length tree)
 IsSearch-step n f column p b start start2 place from tree e h l =
     let next = IsSearch-next n f column start place from tree (subst (λ x. IsSearch n f column x place n from tree) e h) l in

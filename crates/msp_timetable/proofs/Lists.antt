@@ -1,9 +1,11 @@
 -- Lists of numbers: distinct numbers, rearranged columns, and sums.
-use Rattle.std.proofs.Common.{◌≡◌, ◌≢◌, ℕ, zero, suc, ◌+◌, ◌*◌, ◌<◌, ◌≤◌, ◌⊎◌, inl, inr, refl, List, [], ◌∷◌, true, false, eqb, length, get_or, All, AllPairs, IsPermutation, count_by, sum_by, min, max, sym, ap, subst, ◌∙◌, arith}
+use Rattle.std.proofs.Common.{◌≡◌, ◌≢◌, ℕ, zero, suc, ◌+◌, ◌*◌, ◌<◌, ◌≤◌, ◌⊎◌, inl, inr, refl, List, [], ◌∷◌, true, false, eqb, length, get_or, All, AllPairs, IsPermutation}
+use Rattle.std.proofs.Common.{count_by, sum_by, min, max, sym, ap, subst, ◌∙◌, arith}
 use Rattle.std.proofs.lemmas.List.{get_or_default}
 use Rattle.std.proofs.lemmas.List.Sorted.{All-permutation, length_permutation}
 use Rattle.msp_class.specs.Sums.{total_below}
-use Rattle.msp_class.proofs.Sums.{OnceBelow, OnceBelow-from_distinct, total_below-mono, total_below-constant, total_below-split, total_below-same, sum_by_counts, sum_by-constant, sum_by-cons, count_by-distinct}
+use Rattle.msp_class.proofs.Sums.{OnceBelow, OnceBelow-from_distinct, total_below-mono, total_below-constant, total_below-split, total_below-same, sum_by_counts, sum_by-constant}
+use Rattle.msp_class.proofs.Sums.{sum_by-cons, count_by-distinct}
 use Rattle.msp_matching.specs.Passing.{at}
 use Rattle.msp_class.proofs.Cases.{same_or_not}
 use Rattle.msp_matching.proofs.Lists.{same_place, distinct-permutation}
@@ -11,7 +13,14 @@ use Rattle.msp_timetable.specs.Square.{IsPermuted}
 
 -- distinct numbers below n are at most n
 pub distinct_short : (n : ℕ) (xs : List ℕ) → All (λ x. x < n) xs → AllPairs (λ x y. x ≢ y) xs → length xs ≤ n
-distinct_short n xs h u = omega (arith, sum_by_counts (λ _. 1) n xs h, sum_by-constant 1 xs, total_below-mono n (λ i. 1 * count_by (λ x. eqb x i) xs) (λ _. 1) (λ i l. omega (arith, count_by-distinct xs i u)), total_below-constant n 1)
+distinct_short n xs h u = omega (
+  arith,
+  sum_by_counts (λ _. 1) n xs h,
+  sum_by-constant 1 xs,
+  total_below-mono n
+      (λ i. 1 * count_by (λ x. eqb x i) xs) (λ _. 1) (λ i l. omega (arith, count_by-distinct xs i u)),
+  total_below-constant n 1,
+)
 
 -- a list that is read place by place
 pub all_at : (P : ℕ → Type 0) (xs : List ℕ) → ((k : ℕ) → k < length xs → P (at xs k)) → All P xs
@@ -36,8 +45,8 @@ pub OnceBelow-permuted : (n : ℕ) (xs : List ℕ) → IsPermuted n xs → OnceB
 OnceBelow-permuted n xs h = OnceBelow-from_distinct n xs h.size (all_at (λ x. x < n) xs (λ k m. h.inside k (omega (arith, h.size)))) (IsPermuted-apart n xs h)
 
 -- a column has one row
-pub same_row : (n : ℕ) (xs : List ℕ) → IsPermuted n xs → (i j : ℕ) → i < n → j < n → at xs i ≡ at xs j → i ≡ j
-same_row n xs h i j li lj e = same_place xs (IsPermuted-apart n xs h) i j (omega (arith, h.size)) (omega (arith, h.size)) e
+pub same_back_to_back : (n : ℕ) (xs : List ℕ) → IsPermuted n xs → (i j : ℕ) → i < n → j < n → at xs i ≡ at xs j → i ≡ j
+same_back_to_back n xs h i j li lj e = same_place xs (IsPermuted-apart n xs h) i j (omega (arith, h.size)) (omega (arith, h.size)) e
 
 pub none_held : {m : ℕ} → (0 < m → ⊥) → m ≡ 0
 none_held {m} h = by m h
@@ -100,7 +109,13 @@ sum_at f xs n e = sum_at_take xs n (omega arith) ∙ refl
     sum_at_take (y ∷ ys) k q =
         let z : k ≡ 1 + length ys = omega arith in
         subst (λ m. sum_by f (y ∷ ys) ≡ total_below m (λ r. f (at (y ∷ ys) r))) (sym z)
-        (omega (arith, sum_by-cons f y ys, sum_at_take ys (length ys) refl, total_below-split 1 (length ys) (λ r. f (at (y ∷ ys) r)), total_below-same (length ys) (λ r. f (at (y ∷ ys) (1 + r))) (λ r. f (at ys r)) (λ r l. ap (λ t. f (at (y ∷ ys) t)) (one r))))
+        (omega (
+          arith,
+          sum_by-cons f y ys,
+          sum_at_take ys (length ys) refl,
+          total_below-split 1 (length ys) (λ r. f (at (y ∷ ys) r)),
+          total_below-same (length ys) (λ r. f (at (y ∷ ys) (1 + r))) (λ r. f (at ys r)) (λ r l. ap (λ t. f (at (y ∷ ys) t)) (one r)),
+        ))
       where
         one : (r : ℕ) → 1 + r ≡ suc r
         one r = omega arith

@@ -5,12 +5,13 @@ use Rattle.msp_class.proofs.Sums.{OnceBelow-contains}
 use Rattle.msp_matching.specs.Passing.{at}
 use Rattle.msp_class.proofs.Cases.{same_or_not}
 use Rattle.msp_timetable.specs.Square.{IsPermuted, IsOwners}
-use Rattle.msp_timetable.proofs.Lists.{same_row, OnceBelow-permuted}
+use Rattle.msp_timetable.proofs.Lists.{same_back_to_back, OnceBelow-permuted}
 
-pub noted-next : (n : ℕ) (column owner : List ℕ) → IsPermuted n column → length owner ≡ n → (k : ℕ) → k < n → ((r : ℕ) → r < k → at owner (at column r) ≡ r) → (r : ℕ) → r < k + 1 → at (set owner (at column k) k) (at column r) ≡ r
+pub noted-next : (n : ℕ) (column owner : List ℕ) → IsPermuted n column → length owner ≡ n
+    → (k : ℕ) → k < n → ((r : ℕ) → r < k → at owner (at column r) ≡ r) → (r : ℕ) → r < k + 1 → at (set owner (at column k) k) (at column r) ≡ r
 noted-next n column owner p size k l h r lr = elim (same_or_not r k) [
   | inl e ↦ ap (λ x. at (set owner (at column k) k) (at column x)) e ∙ get_or-set_same owner (at column k) k 0 (omega (arith, size, p.inside k l)) ∙ sym e
-  | inr e ↦ get_or-set_other owner (at column k) (at column r) k 0 (λ q. e (same_row n column p r k (omega arith) l q)) ∙ h r (omega arith)
+  | inr e ↦ get_or-set_other owner (at column k) (at column r) k 0 (λ q. e (same_back_to_back n column p r k (omega arith) l q)) ∙ h r (omega arith)
 ]
 
 pub IsOwners-noted : (n : ℕ) (column owner : List ℕ) → IsPermuted n column → length owner ≡ n → ((r : ℕ) → r < n → at owner (at column r) ≡ r) → IsOwners n column owner

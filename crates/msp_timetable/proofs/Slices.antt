@@ -107,11 +107,13 @@ module _ (m : Matrix) (s : Square) (column entries : List ℕ) (p : IsPermuted s
     (outside : (r c : ℕ) → r < s.size → c < s.size → (m.rows ≤ r) ⊎ (m.columns ≤ c) → cell_at s.size s.given.items r c ≡ 0)
     (h : IsEntries s m.rows m.columns column entries) where
   -- a row has its column, where it uses its part of the matrix there, or none
-  has : (r : ℕ) → r < m.rows → ((0 < cell_at s.size s.given.items r (at column r)) × (at entries r ≡ at column r) × (at column r < m.columns)) ⊎ ((cell_at s.size s.given.items r (at column r) ≡ 0) × (at entries r ≡ m.columns))
+  has : (r : ℕ) → r < m.rows → ((0 < cell_at s.size s.given.items r (at column r)) × (at entries r ≡ at column r) × (at column r < m.columns))
+      ⊎ ((cell_at s.size s.given.items r (at column r) ≡ 0) × (at entries r ≡ m.columns))
   has r l = by (ltb 0 (cell_at s.size s.given.items r (at column r))) refl (h.each r l)
     where
       by : (v : Bool) → ltb 0 (cell_at s.size s.given.items r (at column r)) ≡ v → at entries r ≡ cond v (at column r) m.columns
-          → ((0 < cell_at s.size s.given.items r (at column r)) × (at entries r ≡ at column r) × (at column r < m.columns)) ⊎ ((cell_at s.size s.given.items r (at column r) ≡ 0) × (at entries r ≡ m.columns))
+          → ((0 < cell_at s.size s.given.items r (at column r)) × (at entries r ≡ at column r) × (at column r < m.columns))
+          ⊎ ((cell_at s.size s.given.items r (at column r) ≡ 0) × (at entries r ≡ m.columns))
       by true e q = let some = ltb-true 0 (cell_at s.size s.given.items r (at column r)) e in inl (some, q, small some)
         where
           small : 0 < cell_at s.size s.given.items r (at column r) → at column r < m.columns
@@ -149,9 +151,11 @@ module _ (m : Matrix) (s : Square) (column entries : List ℕ) (p : IsPermuted s
   time_at-made x d el ec r c lr lc = ap (λ z. cond (eqb (column_of x r) c) z (pos 0)) el ∙ ap (λ xs. cond (eqb (at xs r) c) (pos d) (pos 0)) ec ∙ elim (same_or_not (at column r) c) [
     | inl e ↦ elim (has r lr) [
       | inl w ↦ ap (λ b. cond b (pos d) (pos 0)) (eq-eqb (at entries r) c (w.1 ∙ e))
-          ∙ sym (ap pos (ap (λ b. cond b (cond (ltb 0 (cell_at s.size s.given.items r c)) d 0) 0) (eq-eqb (at column r) c e) ∙ ap (λ b. cond b d 0) (ltb-yes 0 (cell_at s.size s.given.items r c) (subst (λ k. 0 < cell_at s.size s.given.items r k) e w.0))))
+          ∙ sym (ap pos (ap (λ b. cond b (cond (ltb 0 (cell_at s.size s.given.items r c)) d 0) 0) (eq-eqb (at column r) c e)
+          ∙ ap (λ b. cond b d 0) (ltb-yes 0 (cell_at s.size s.given.items r c) (subst (λ k. 0 < cell_at s.size s.given.items r k) e w.0))))
       | inr w ↦ ap (λ b. cond b (pos d) (pos 0)) (ne_eqb (at entries r) c (λ q. omega (arith, w.1, q)))
-          ∙ sym (ap pos (ap (λ b. cond b (cond (ltb 0 (cell_at s.size s.given.items r c)) d 0) 0) (eq-eqb (at column r) c e) ∙ ap (λ b. cond b d 0) (ltb-no 0 (cell_at s.size s.given.items r c) (subst (λ k. cell_at s.size s.given.items r k ≤ 0) e (omega (arith, w.0))))))
+          ∙ sym (ap pos (ap (λ b. cond b (cond (ltb 0 (cell_at s.size s.given.items r c)) d 0) 0) (eq-eqb (at column r) c e)
+          ∙ ap (λ b. cond b d 0) (ltb-no 0 (cell_at s.size s.given.items r c) (subst (λ k. cell_at s.size s.given.items r k ≤ 0) e (omega (arith, w.0))))))
     ]
     | inr e ↦ ap (λ b. cond b (pos d) (pos 0)) (ne_eqb (at entries r) c (λ q. e (other q)))
         ∙ sym (ap pos (ap (λ b. cond b (cond (ltb 0 (cell_at s.size s.given.items r c)) d 0) 0) (ne_eqb (at column r) c e)))
@@ -165,7 +169,8 @@ module _ (m : Matrix) (s : Square) (column entries : List ℕ) (p : IsPermuted s
 
 -- ---- the state
 pub IsSplitting-next : (m : Matrix) (s t : Square) (column column2 owner owner2 entries : List ℕ) (slices : List Slice) (x : Slice) (left d : ℕ) → IsSplitting m s column owner slices left
-    → IsPermuted s.size column2 → IsOwners s.size column2 owner2 → IsLeastUsed s column2 d → 0 < d → IsEntries s m.rows m.columns column2 entries → IsCut s t column2 d → x.length ≡ pos d → x.column ≡ entries
+    → IsPermuted s.size column2 → IsOwners s.size column2 owner2
+    → IsLeastUsed s column2 d → 0 < d → IsEntries s m.rows m.columns column2 entries → IsCut s t column2 d → x.length ≡ pos d → x.column ≡ entries
     → IsSplitting m t column2 owner2 (slices ++ x ∷ []) (left - d)
 IsSplitting-next m s t column column2 owner owner2 entries slices x left d h p o least positive e c el ec = record {
   square = c.square;
@@ -175,11 +180,15 @@ IsSplitting-next m s t column column2 owner owner2 entries slices x left d h p o
   permuted = subst (λ n. IsPermuted n column2) (sym c.size) p;
   owners = subst (λ n. IsOwners n column2 owner2) (sym c.size) o;
   balanced = IsBalanced-cut s t column2 p d c left h.balanced;
-  outside = λ r k lr lk q. subst (λ n. cell_at n t.given.items r k ≡ 0) (sym c.size) (let z = h.outside r k (omega (arith, lr, c.size)) (omega (arith, lk, c.size)) q in omega (arith, z, c.given r k (omega (arith, lr, c.size)) (omega (arith, lk, c.size))));
-  each = All-append (IsSlice m.rows m.columns) slices (x ∷ []) h.each (All-cons (IsSlice m.rows m.columns) x [] (IsSlice-made m s column2 entries p h.rows h.columns h.outside e x d el ec positive) (All-nil (IsSlice m.rows m.columns)));
+  outside = λ r k lr lk q. subst (λ n. cell_at n t.given.items r k ≡ 0) (sym c.size)
+      (let z = h.outside r k (omega (arith, lr, c.size)) (omega (arith, lk, c.size)) q in omega (arith, z, c.given r k (omega (arith, lr, c.size)) (omega (arith, lk, c.size))));
+  each = All-append (IsSlice m.rows m.columns) slices (x ∷ []) h.each
+      (All-cons (IsSlice m.rows m.columns) x [] (IsSlice-made m s column2 entries p h.rows h.columns h.outside e x d el ec positive) (All-nil (IsSlice m.rows m.columns)));
   cells = λ r k lr lk. subst (λ n. total (time_at r k) (slices ++ x ∷ []) +ℤ pos (cell_at n t.given.items r k) ≡ cell m r k) (sym c.size)
-      (together (total (time_at r k) slices) (time_at r k x) (total (time_at r k) (slices ++ x ∷ [])) (cell m r k) (given_share s column2 d r k) (cell_at s.size t.given.items r k) (cell_at s.size s.given.items r k)
-      (total-push (time_at r k) slices x) (time_at-made m s column2 entries p h.rows h.columns h.outside e x d el ec r k lr lk) (c.given r k (omega (arith, lr, h.rows)) (omega (arith, lk, h.columns))) (h.cells r k lr lk));
+      (together (total (time_at r k) slices) (time_at r k x) (total (time_at r k) (slices ++ x ∷ []))
+      (cell m r k) (given_share s column2 d r k) (cell_at s.size t.given.items r k) (cell_at s.size s.given.items r k)
+      (total-push (time_at r k) slices x) (time_at-made m s column2 entries p h.rows h.columns h.outside e x d el ec r k lr lk)
+      (c.given r k (omega (arith, lr, h.rows)) (omega (arith, lk, h.columns))) (h.cells r k lr lk));
   lengths = subst (IsGreatestSum m) (lasted (total (λ y. y.length) slices) x.length (total (λ y. y.length) (slices ++ x ∷ [])) left d (total-push (λ y. y.length) slices x) el most) h.lengths;
   low = omega (arith, h.low);
   few = omega (arith, h.few, c.fewer, c.size, length-append slices (x ∷ []));
@@ -213,22 +222,27 @@ IsSplit-end m s column owner slices h = record {
     plain a = omega (arith, ints)
 
 -- the same, as the lists are read
-pub IsSplitting-read : (m : Matrix) (s t : Square) (column column2 column3 owner owner2 entries : List ℕ) (slices slices2 : List Slice) (x : Slice) (left d : ℕ) → column3 ≡ column2 → IsSplitting m s column owner slices left
-    → IsPermuted s.size column2 → IsOwners s.size column2 owner2 → ((r : ℕ) → r < s.size → 0 < stock s r (at column2 r)) → IsLeastUsed s column3 d → IsEntries s m.rows m.columns column3 entries → IsCut s t column3 d → x.length ≡ pos d → x.column ≡ entries → slices2 ≡ slices ++ x ∷ []
+pub IsSplitting-read : (m : Matrix) (s t : Square) (column column2 column3 owner owner2 entries : List ℕ) (slices slices2 : List Slice) (x : Slice) (left d : ℕ)
+    → column3 ≡ column2 → IsSplitting m s column owner slices left
+    → IsPermuted s.size column2 → IsOwners s.size column2 owner2 → ((r : ℕ) → r < s.size → 0 < stock s r (at column2 r)) → IsLeastUsed s column3 d
+    → IsEntries s m.rows m.columns column3 entries → IsCut s t column3 d → x.length ≡ pos d → x.column ≡ entries → slices2 ≡ slices ++ x ∷ []
     → IsSplitting m t column2 owner2 slices2 (left - d)
 IsSplitting-read m s t column column2 column3 owner owner2 entries slices slices2 x left d q h p o some least e c el ec es =
     let low = subst (λ xs. IsLeastUsed s xs d) q least in
     subst (λ xs. IsSplitting m t column2 owner2 xs (left - d)) (sym es)
-    (IsSplitting-next m s t column column2 owner owner2 entries slices x left d h p o low (longest-positive s column2 p d low some) (subst (λ xs. IsEntries s m.rows m.columns xs entries) q e) (subst (λ xs. IsCut s t xs d) q c) el ec)
+    (IsSplitting-next m s t column column2 owner owner2 entries slices x left d h p o low
+    (longest-positive s column2 p d low some) (subst (λ xs. IsEntries s m.rows m.columns xs entries) q e) (subst (λ xs. IsCut s t xs d) q c) el ec)
 
-pub longest-fits : (m : Matrix) (s : Square) (column column2 column3 owner : List ℕ) (slices : List Slice) (left d : ℕ) → column3 ≡ column2 → IsSplitting m s column owner slices left → IsPermuted s.size column2 → ((r : ℕ) → r < s.size → 0 < stock s r (at column2 r)) → IsLeastUsed s column3 d
+pub longest-fits : (m : Matrix) (s : Square) (column column2 column3 owner : List ℕ) (slices : List Slice) (left d : ℕ) → column3 ≡ column2
+    → IsSplitting m s column owner slices left → IsPermuted s.size column2 → ((r : ℕ) → r < s.size → 0 < stock s r (at column2 r)) → IsLeastUsed s column3 d
     → (0 < d) × (d ≤ left) × (d ≤ greatest_sum)
 longest-fits m s column column2 column3 owner slices left d q h p some least =
     let low = subst (λ xs. IsLeastUsed s xs d) q least in
     let most = longest-most s column2 p d low left h.balanced in
     (longest-positive s column2 p d low some, most, omega (arith, most, h.low))
 
-pub IsSplitting-start : (m : Matrix) (s : Square) (g : ℕ) (column owner : List ℕ) (slices : List Slice) → 1 ≤ m.rows → (m.rows ≤ s.size) × (m.columns ≤ s.size) × (s.size ≤ m.rows + m.columns) → IsFilled m s g → IsPermuted s.size column → IsOwners s.size column owner → slices ≡ [] → IsSplitting m s column owner slices g
+pub IsSplitting-start : (m : Matrix) (s : Square) (g : ℕ) (column owner : List ℕ) (slices : List Slice) → 1 ≤ m.rows → (m.rows ≤ s.size) × (m.columns ≤ s.size)
+    × (s.size ≤ m.rows + m.columns) → IsFilled m s g → IsPermuted s.size column → IsOwners s.size column owner → slices ≡ [] → IsSplitting m s column owner slices g
 IsSplitting-start m s g column owner slices some size f p o e = subst (λ xs. IsSplitting m s column owner xs g) (sym e) record {
   square = f.square;
   rows = size.0;

@@ -1,6 +1,7 @@
 -- Small matrices, for tests.
 use Rattle.std.proofs.Common.{◌≡◌, ℕ, zero, suc, ◌+◌, ◌*◌, ◌<◌, ◌≤◌, length, get_or, ℤ, pos, ◌+ℤ◌, ◌≤ℤ◌, arith}
 use Rattle.std.proofs.lemmas.Int.{ints}
+use Rattle.msp_class.specs.declared.sizes.TheConstants.{MOST_JOBS, MOST_MACHINES}
 use Rattle.msp_class.specs.Sums.{int_total_below}
 use Rattle.msp_timetable.specs.declared.matrix.Matrix.{Matrix}
 use Rattle.msp_timetable.specs.Split.{cell, row_sum, column_sum, greatest_sum, IsMatrix}
@@ -18,13 +19,13 @@ small_total (suc n) f h =
     step : (x y : ℤ) (k m : ℕ) → x ≤ℤ pos k → y ≤ℤ pos 4294967296 → m ≡ k + 4294967296 → (x +ℤ y) ≤ℤ pos m
     step x y k m a b e = omega (arith, ints)
 
-bounded : (z : ℤ) (n : ℕ) → z ≤ℤ pos (n * 4294967296) → n ≤ 400 → z ≤ℤ pos greatest_sum
+bounded : (z : ℤ) (n : ℕ) → z ≤ℤ pos (n * 4294967296) → n ≤ MOST_JOBS → z ≤ℤ pos greatest_sum
 bounded z n h l = let k : n * 4294967296 ≤ greatest_sum = omega arith in low z (n * 4294967296) greatest_sum h k
   where
     low : (y : ℤ) (a b : ℕ) → y ≤ℤ pos a → a ≤ b → y ≤ℤ pos b
     low y a b p q = omega (arith, ints)
 
-pub IsMatrix-small : (m : Matrix) → m.rows ≤ 32 → m.columns ≤ 400 → length m.cells ≡ m.rows * m.columns
+pub IsMatrix-small : (m : Matrix) → m.rows ≤ MOST_MACHINES → m.columns ≤ MOST_JOBS → length m.cells ≡ m.rows * m.columns
     → ((k : ℕ) → k < length m.cells → (pos 0 ≤ℤ get_or m.cells k (pos 0)) × (get_or m.cells k (pos 0) ≤ℤ pos 4294967296)) → IsMatrix m
 IsMatrix-small m a b whole h = record {
   whole = whole;

@@ -62,4 +62,5 @@ module _ (n : ℕ) (f : ℕ → ℕ → ℕ) (column owner : List ℕ) (p : IsPe
   IsTree-read from2 tree2 a b = subst (λ xs. IsTree turned xs tree2) (sym a) (subst (IsTree turned from) (sym b) IsTree-turned)
 
   pub IsBetter-read : row < n → (from2 tree2 next next2 : List ℕ) → from2 ≡ from → tree2 ≡ tree → next2 ≡ next → IsPassedOn turned from2 tree2 next → IsBetter n f row column next2
-  IsBetter-read lr from2 tree2 next next2 a b e q = subst (IsBetter n f row column) (sym e) (IsBetter-passed lr next (subst (λ xs. IsPassedOn turned from xs next) b (subst (λ xs. IsPassedOn turned xs tree2 next) a q)))
+  IsBetter-read lr from2 tree2 next next2 a b e q =
+      subst (IsBetter n f row column) (sym e) (IsBetter-passed lr next (subst (λ xs. IsPassedOn turned from xs next) b (subst (λ xs. IsPassedOn turned xs tree2 next) a q)))

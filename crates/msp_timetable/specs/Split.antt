@@ -14,11 +14,11 @@ row_sum m r = int_total_below m.columns (λ c. cell m r c)
 abbrev pub column_sum : Matrix → ℕ → ℤ
 column_sum m c = int_total_below m.rows (λ r. cell m r c)
 
--- The most that a row or a column adds up to.
+-- The most that a row or a column adds up to: at least MOST_JOBS * GREATEST, and so small that all sums fit 128 bits.
 abbrev pub greatest_sum : ℕ
 greatest_sum = 10 ^ 25
 
--- All cells are there, none is below 0, and each row and each column adds up to at most 10^25.
+-- All cells are there, none is below 0, and no row and no column adds up to more than that.
 pub record IsMatrix (m : Matrix) : Type 0 where
   pub whole : length m.cells ≡ m.rows * m.columns
   pub cells : (r c : ℕ) → r < m.rows → c < m.columns → pos 0 ≤ℤ cell m r c

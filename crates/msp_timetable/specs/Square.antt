@@ -1,5 +1,6 @@
 -- A square of stocks, and the search for a column for each row. No public contract cites this file.
 use Rattle.std.specs.Prelude.{◌≡◌, ◌≢◌, ℕ, ◌+◌, ◌-◌, ◌*◌, ◌<◌, ◌≤◌, ◌⊎◌, pos, ◌+ℤ◌, Bool, true, false, cond, nat_lt, nat_eq, List, length, slice_set as set, count_by, All}
+use Rattle.msp_class.specs.declared.sizes.TheConstants.{MOST_JOBS}
 use Rattle.msp_class.specs.Sums.{total_below}
 use Rattle.msp_matching.specs.Passing.{at}
 use Rattle.msp_timetable.specs.declared.matrix.Matrix.{Matrix}
@@ -16,7 +17,7 @@ abbrev pub stock : Square → ℕ → ℕ → ℕ
 stock s r c = cell_at s.size s.given.items r c + cell_at s.size s.padding.items r c
 
 pub record IsSquare (s : Square) : Type 0 where
-  pub small : s.size ≤ 400
+  pub small : s.size ≤ MOST_JOBS
   pub given : length s.given.items ≡ s.size * s.size
   pub padding : length s.padding.items ≡ s.size * s.size
 

@@ -1,5 +1,6 @@
 // The square is filled: the matrix, and padding that brings each line to the greatest sum of a line.
 ghost use Rattle.std.specs.Prelude.{◌≡◌, ◌+◌, ◌*◌, ◌<◌, ◌≤◌, ℕ, IfOk, length};
+ghost use Rattle.msp_class.specs.declared.sizes.TheConstants.{MOST_JOBS, MOST_MACHINES};
 ghost use Rattle.msp_class.specs.Sums.{total_below};
 ghost use Rattle.msp_matching.specs.Passing.{at};
 ghost use Rattle.msp_timetable.specs.Split.{greatest_sum, IsMatrix};
@@ -12,7 +13,7 @@ use std::alloc::{AllocError, Global};
 
 /// A square of zeros.
 fn zeros(alloc: Global, size: usize) -> Result<Vec<u128>, AllocError>
-    requires { size ≤ 400 }
+    requires { size ≤ MOST_JOBS }
     ensures length { IfOk result (λ list. length list.items ≡ size * size) }
     ensures zeros { IfOk result (λ list. (k : ℕ) → at list.items k ≡ 0) }
     ensures none { IfOk result (λ list. stocks list.items ≡ 0) }
@@ -23,9 +24,9 @@ fn zeros(alloc: Global, size: usize) -> Result<Vec<u128>, AllocError>
 /// Copies a row of the matrix.
 fn spread_row(given: &mut [u128], matrix: &Matrix, size: usize, row: usize)
     requires matrix { IsMatrix matrix.now }
-    requires few_rows { matrix.now.rows ≤ 32 }
-    requires few_columns { matrix.now.columns ≤ 400 }
-    requires small { size ≤ 400 }
+    requires few_rows { matrix.now.rows ≤ MOST_MACHINES }
+    requires few_columns { matrix.now.columns ≤ MOST_JOBS }
+    requires small { size ≤ MOST_JOBS }
     requires rows { matrix.now.rows ≤ size }
     requires columns { matrix.now.columns ≤ size }
     requires row { row < matrix.now.rows }
@@ -43,9 +44,9 @@ fn spread_row(given: &mut [u128], matrix: &Matrix, size: usize, row: usize)
 /// The matrix in the upper left of the square.
 fn spread(alloc: Global, matrix: &Matrix, size: usize) -> Result<Vec<u128>, AllocError>
     requires matrix { IsMatrix matrix.now }
-    requires few_rows { matrix.now.rows ≤ 32 }
-    requires few_columns { matrix.now.columns ≤ 400 }
-    requires small { size ≤ 400 }
+    requires few_rows { matrix.now.rows ≤ MOST_MACHINES }
+    requires few_columns { matrix.now.columns ≤ MOST_JOBS }
+    requires small { size ≤ MOST_JOBS }
     requires rows { matrix.now.rows ≤ size }
     requires columns { matrix.now.columns ≤ size }
     ensures { IfOk result (λ given. IsSpread size matrix.now given.items) }
@@ -61,7 +62,7 @@ fn spread(alloc: Global, matrix: &Matrix, size: usize) -> Result<Vec<u128>, Allo
 /// What a row of the square adds up to.
 fn row_sum(given: &[u128], size: usize, row: usize) -> u128
     requires given { length given.now ≡ size * size }
-    requires small { size ≤ 400 }
+    requires small { size ≤ MOST_JOBS }
     requires row { row < size }
     requires few { row_total size given.now row ≤ greatest_sum }
     ensures { result ≡ row_total size given.now row }
@@ -76,7 +77,7 @@ fn row_sum(given: &[u128], size: usize, row: usize) -> u128
 /// What a column of the square adds up to.
 fn column_sum(given: &[u128], size: usize, column: usize) -> u128
     requires given { length given.now ≡ size * size }
-    requires small { size ≤ 400 }
+    requires small { size ≤ MOST_JOBS }
     requires column { column < size }
     requires few { column_total size given.now column ≤ greatest_sum }
     ensures { result ≡ column_total size given.now column }
@@ -91,7 +92,7 @@ fn column_sum(given: &[u128], size: usize, column: usize) -> u128
 /// The greatest sum of a row or a column.
 fn greatest(given: &[u128], size: usize) -> u128
     requires given { length given.now ≡ size * size }
-    requires small { size ≤ 400 }
+    requires small { size ≤ MOST_JOBS }
     requires few { HasSmallLines size given.now }
     ensures { IsGreatest size given.now result }
 {
@@ -113,7 +114,7 @@ pub struct Lacks {
 /// How much each line lacks.
 fn compare(alloc: Global, given: &[u128], size: usize, greatest: u128) -> Result<Lacks, AllocError>
     requires given { length given.now ≡ size * size }
-    requires small { size ≤ 400 }
+    requires small { size ≤ MOST_JOBS }
     requires few { HasSmallLines size given.now }
     requires greatest { IsGreatest size given.now greatest }
     ensures { IfOk result (λ lacks. IsLacking size given.now greatest lacks.rows.items lacks.columns.items) }
@@ -135,7 +136,7 @@ fn fill_corner(
     row: usize,
     column: usize,
 ) -> bool
-    requires small { size ≤ 400 }
+    requires small { size ≤ MOST_JOBS }
     requires padding { length padding.old.items ≡ size * size }
     requires rows { length lacks.old.rows.items ≡ size }
     requires columns { length lacks.old.columns.items ≡ size }
@@ -153,7 +154,7 @@ fn fill_corner(
 
 /// Fills what the lines lack, from one corner to the other.
 fn pad(alloc: Global, size: usize, lacks: &mut Lacks) -> Result<Vec<u128>, AllocError>
-    requires small { size ≤ 400 }
+    requires small { size ≤ MOST_JOBS }
     requires rows { length lacks.old.rows.items ≡ size }
     requires columns { length lacks.old.columns.items ≡ size }
     requires same { total_below size (at lacks.old.rows.items) ≡ total_below size (at lacks.old.columns.items) }
@@ -184,8 +185,8 @@ pub struct Filled {
 pub fn fill(alloc: Global, matrix: &Matrix) -> Result<Filled, AllocError>
     requires matrix { IsMatrix matrix.now }
     requires some { 1 ≤ matrix.now.rows }
-    requires few_rows { matrix.now.rows ≤ 32 }
-    requires few_columns { matrix.now.columns ≤ 400 }
+    requires few_rows { matrix.now.rows ≤ MOST_MACHINES }
+    requires few_columns { matrix.now.columns ≤ MOST_JOBS }
     ensures filled { IfOk result (λ f. IsFilled matrix.now f.square f.greatest) }
     ensures size { IfOk result (λ f. HasRoomFor matrix.now f.square) }
 {

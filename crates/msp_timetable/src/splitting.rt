@@ -1,5 +1,6 @@
 // A matrix is split into slices.
 ghost use Rattle.std.specs.Prelude.{◌<◌, ◌≤◌, IfOk};
+ghost use Rattle.msp_class.specs.declared.sizes.TheConstants.{MOST_JOBS, MOST_MACHINES};
 ghost use Rattle.msp_timetable.specs.Limits.{AreLimits};
 ghost use Rattle.msp_timetable.specs.Split.{IsMatrix, IsSplit};
 ghost use Rattle.msp_timetable.specs.Square.{IsPermuted, IsOwners};
@@ -11,13 +12,13 @@ use crate::matching::match_rows;
 use crate::matrix::{Matrix, Slice};
 use crate::search::Seats;
 use crate::square::Square;
-use msp_class::{List, NoMemory};
+use msp_class::{List, MOST_JOBS, MOST_MACHINES, NoMemory};
 use std::alloc::{AllocError, Global};
 
 /// The most rows.
-pub const MOST_ROWS: u32 = 32;
+pub const MOST_ROWS: u32 = MOST_MACHINES;
 /// The most columns.
-pub const MOST_COLUMNS: u32 = 400;
+pub const MOST_COLUMNS: u32 = MOST_JOBS as u32;
 
 /// The limits by their numbers.
 pub fn law_of_limits()
@@ -26,7 +27,7 @@ pub fn law_of_limits()
 
 /// Each row at the column of its number.
 fn first_seats(alloc: Global, size: usize) -> Result<Seats, AllocError>
-    requires { size ≤ 400 }
+    requires { size ≤ MOST_JOBS }
     ensures permuted { IfOk result (λ seats. IsPermuted size seats.columns.items) }
     ensures owners { IfOk result (λ seats. IsOwners size seats.columns.items seats.owner.items) }
 {
@@ -70,9 +71,9 @@ fn next_slice(
 fn cut_all(alloc: Global, matrix: &Matrix) -> Result<Vec<Slice>, AllocError>
     requires matrix { IsMatrix matrix.now }
     requires some_rows { 1 ≤ matrix.now.rows }
-    requires few_rows { matrix.now.rows ≤ 32 }
+    requires few_rows { matrix.now.rows ≤ MOST_MACHINES }
     requires some_columns { 1 ≤ matrix.now.columns }
-    requires few_columns { matrix.now.columns ≤ 400 }
+    requires few_columns { matrix.now.columns ≤ MOST_JOBS }
     ensures { IfOk result (λ slices. IsSplit matrix.now slices.items) }
 {
     let filled = fill(alloc, matrix)?;

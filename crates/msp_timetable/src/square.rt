@@ -1,5 +1,6 @@
 // A square of cells that hold two stocks each.
 ghost use Rattle.std.specs.Prelude.{◌≡◌, ◌↔◌, ◌+◌, ◌*◌, ◌<◌, ◌≤◌, IsTrue};
+ghost use Rattle.msp_class.specs.declared.sizes.TheConstants.{MOST_JOBS};
 ghost use Rattle.msp_timetable.specs.Square.{stock, IsSquare};
 
 /// A square with as many lines as the longer side of the matrix. The padding fills each line up to the greatest sum of a line.
@@ -12,8 +13,8 @@ pub struct Square {
 
 /// Where a cell stands in a list of rows.
 pub fn place(rows: usize, columns: usize, row: usize, column: usize) -> usize
-    requires few_rows { rows ≤ 400 }
-    requires few_columns { columns ≤ 400 }
+    requires few_rows { rows ≤ MOST_JOBS }
+    requires few_columns { columns ≤ MOST_JOBS }
     requires row { row < rows }
     requires column { column < columns }
     ensures place { result ≡ row * columns + column }

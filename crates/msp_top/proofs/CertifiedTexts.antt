@@ -40,9 +40,22 @@ lines_few names i (Line job) named h few = omega arith
 lines_few names i (Levels level tail) named h few = omega (arith, few, numbered_length (codes "level") decimal names level (h.each ∙ sym named))
 lines_few names i (Segments lists) named h few = omega (arith, few, segments_count names lists)
 lines_few names i (Block head jobs) named h few =
-    omega (arith, few, length-append (numbered_lines (codes "head") decimal names head) (job_lines names jobs), numbered_length (codes "head") decimal names head (h.block.each ∙ sym named), jobs_count names jobs)
+    omega (
+      arith,
+      few,
+      length-append (numbered_lines (codes "head") decimal names head)
+          (job_lines names jobs),
+      numbered_length (codes "head") decimal names head (h.block.each ∙ sym named),
+      jobs_count names jobs,
+    )
 lines_few names i (Prices row column) named h few =
-    omega (arith, few, length-append (numbered_lines (codes "row") signed_decimal names row) (column_lines (length names) 0 column), numbered_length (codes "row") signed_decimal names row (h.rows ∙ sym named), column_lines_few (length names) 0 column)
+    omega (
+      arith,
+      few,
+      length-append (numbered_lines (codes "row") signed_decimal names row) (column_lines (length names) 0 column),
+      numbered_length (codes "row") signed_decimal names row (h.rows ∙ sym named),
+      column_lines_few (length names) 0 column,
+    )
 
 are_jobs : (names : List (List ℕ)) (n : ℕ) (jobs : List ℕ) → length names ≡ n → All (λ j. j < n) jobs → AreJobs names jobs
 are_jobs names n jobs named h = subst (λ k. All (λ j. j < k) jobs) (sym named) h

@@ -13,7 +13,7 @@ use Rattle.msp_schedule.specs.Feasible.{Feasible}
 use Rattle.msp_schedule.specs.Breaks.{IsFirstBreak, IsDecision}
 use Rattle.msp_grammar.specs.declared.filed.Filed.{Filed}
 use Rattle.msp_file.specs.declared.instance.read.Front.{Front}
-use Rattle.msp_file.specs.declared.schedule.read.Stated.{Stated}
+use Rattle.msp_grammar.specs.declared.filed.Stated.{Stated}
 use Rattle.msp_file.specs.instance.Answers.{IsFrontText}
 use Rattle.msp_report.proofs.CheckLemmas.{stated_within}
 use Rattle.msp_top.specs.declared.answers.Report.{Report}
@@ -45,11 +45,13 @@ begins input rest f h e =
 pub rest_part : (used : ℕ) (input : List ℕ) → take (length input - used) (drop used input) ≡ drop used input
 rest_part used input = take_all (length input - used) (drop used input) (omega (arith, length-drop used input))
 
-pub front_right : (IsRightOf : List ℕ → Outcome → Type 0) (input rest : List ℕ) (f : Front) (r : Result Report Refusal) → IsFrontText input f.filed.instance f.filed.names f.used f.line → rest ≡ drop f.used input → Answers (OfRest IsRightOf f.filed f.line rest) r → Answers (IsRightOf input) r
+pub front_right : (IsRightOf : List ℕ → Outcome → Type 0) (input rest : List ℕ) (f : Front) (r : Result Report Refusal)
+    → IsFrontText input f.filed.instance f.filed.names f.used f.line → rest ≡ drop f.used input → Answers (OfRest IsRightOf f.filed f.line rest) r → Answers (IsRightOf input) r
 front_right IsRightOf input rest f r h e right = answers-along (OfRest IsRightOf f.filed f.line rest) (IsRightOf input) r (λ outcome g. g input (begins input rest f h e)) right
 
 -- ---- the rest
-pub rest_unchecked : (filed : Filed) (line : ℕ) (rest : List ℕ) (why : Refusal) → IsCutOnUnrelated filed.instance.class → why ≡ of_unchecked filed.instance.class → Answers (OfRest CheckIsRight filed line rest) (Err why)
+pub rest_unchecked : (filed : Filed) (line : ℕ) (rest : List ℕ) (why : Refusal)
+    → IsCutOnUnrelated filed.instance.class → why ≡ of_unchecked filed.instance.class → Answers (OfRest CheckIsRight filed line rest) (Err why)
 rest_unchecked filed line rest why cut e =
     let Q : Refusal → Type 0 = λ w. Answers (OfRest CheckIsRight filed line rest) (Err w) in
     subst Q (sym e) (inr (λ input begins. unchecked filed line rest begins cut))

@@ -1,12 +1,13 @@
 -- How large the cost of a schedule within the bounds can be.
-use Rattle.std.proofs.Common.{ℕ, ◌+◌, ◌*◌, ◌≤◌, ◌<◌, Bool, true, false, cond, List, [], ◌∷◌, length, get_or, fold, All, inl, inr, ℤ, pos, ◌+ℤ◌, ◌-ℤ◌, ◌*ℤ◌, int_lt, unsigned_abs, refl, sym, subst, arith, lit≤}
+use Rattle.std.proofs.Common.{ℕ, ◌+◌, ◌*◌, ◌≤◌, ◌<◌, Bool, true, false, cond, List, [], ◌∷◌, length, get_or, fold, All, inl, inr, ℤ, pos, ◌+ℤ◌, ◌-ℤ◌, ◌*ℤ◌, int_lt, unsigned_abs}
+use Rattle.std.proofs.Common.{refl, sym, subst, arith, lit≤}
 use Rattle.std.specs.Int.{int_max}
 use Rattle.std.proofs.lemmas.Int.{ints, clamps, fold-int_max_reached}
 use Rattle.std.proofs.lemmas.List.Elements.{All-head, All-tail, All-contains}
 use Rattle.msp_class.specs.declared.class.Crit.{Crit}
 use Rattle.msp_class.specs.declared.class.Crit.TheVariants.{Cmax, Lmax, Fmax, SumC, SumWC, SumU, SumWU, SumT, SumWT}
 use Rattle.msp_class.specs.Crit.{is_greatest}
-use Rattle.msp_instance.specs.declared.ranges.TheConstants.{GREATEST, MOST_JOBS}
+use Rattle.msp_class.specs.declared.sizes.TheConstants.{MOST_JOBS, GREATEST}
 use Rattle.msp_instance.specs.declared.Instance.{Instance}
 use Rattle.msp_instance.specs.declared.Job.{Job}
 use Rattle.msp_instance.specs.Instance.{no_job}
@@ -43,7 +44,8 @@ weighted : (w : ℕ) (x : ℤ) → w ≤ GREATEST → LiesWithin greatest_latene
 weighted w x small h = product_within w x GREATEST greatest_lateness greatest_cost small h (lit≤ tt)
 
 sloped : (w : ℕ) (x y : ℤ) → w ≤ GREATEST → IsMoment x → LiesWithin greatest_level y → LiesWithin greatest_cost ((pos w *ℤ x) +ℤ y)
-sloped w x y small m h = along (pos w *ℤ x) y (product_within w x GREATEST (unsigned_abs GREATEST_MOMENT) (GREATEST * unsigned_abs GREATEST_MOMENT) small (omega (arith, ints, m), omega (arith, ints, m)) (lit≤ tt)) h
+sloped w x y small m h = along (pos w *ℤ x) y
+    (product_within w x GREATEST (unsigned_abs GREATEST_MOMENT) (GREATEST * unsigned_abs GREATEST_MOMENT) small (omega (arith, ints, m), omega (arith, ints, m)) (lit≤ tt)) h
   where
     along : (x y : ℤ) → LiesWithin (GREATEST * unsigned_abs GREATEST_MOMENT) x → LiesWithin greatest_level y → LiesWithin greatest_cost (x +ℤ y)
     along x y h k = (omega (arith, ints, h, k), omega (arith, ints, h, k))
@@ -99,5 +101,6 @@ ends_are_moments ps h j = (last_end-natural ps j, last_end-least ps j _ (omega (
 
 pub cost_of_small : (i : Instance) (s : Schedule) → Inner i → Within i s → LiesWithin greatest_total (cost_of i s)
 cost_of_small i s inner w =
-    combined_small (is_greatest i.class.crit) (job_costs i.class.crit s.unit (end_of s) 0 i.jobs) (subst (λ n. n ≤ MOST_JOBS) (sym (length-job_costs i.class.crit s.unit (end_of s) 0 i.jobs)) inner.conditions.few)
+    combined_small (is_greatest i.class.crit) (job_costs i.class.crit s.unit (end_of s) 0 i.jobs)
+    (subst (λ n. n ≤ MOST_JOBS) (sym (length-job_costs i.class.crit s.unit (end_of s) 0 i.jobs)) inner.conditions.few)
     (job_costs_small i.class.crit s.unit (end_of s) i.jobs w.unit (ends_are_moments s.pieces w.moments) (small_costs i s inner w))

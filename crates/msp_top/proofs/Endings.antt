@@ -12,7 +12,7 @@ use Rattle.msp_class.specs.declared.class.Class.{Class}
 use Rattle.msp_grammar.specs.declared.lines.fault.FileFault.{FileFault}
 use Rattle.msp_grammar.specs.declared.lines.fault.FileFault.TheVariants.{Memory as FileMemory}
 use Rattle.msp_instance.specs.declared.Instance.{Instance}
-use Rattle.msp_file.specs.declared.schedule.read.Stated.{Stated}
+use Rattle.msp_grammar.specs.declared.filed.Stated.{Stated}
 use Rattle.msp_closure.specs.declared.entry.Entry.{Entry}
 use Rattle.msp_dispatch.specs.declared.Cannot.{Cannot}
 use Rattle.msp_dispatch.specs.declared.Cannot.TheVariants.{Memory as CannotMemory}
@@ -44,7 +44,9 @@ use Rattle.msp_cert.specs.declared.Certificate.{Certificate}
 use Rattle.msp_top.specs.Accepts.{IsAcceptReport, accepted, rejected, AcceptIsRight, judged, misread_front as misread_first, misread_rest as misread_later}
 use Rattle.msp_top.specs.Reports.{HasClashStatus, contradicts, agrees, ReadsResults, reported, misread as misread_results}
 use Rattle.msp_top.specs.Trials.{TrialIsRight, solved as trial_solved, unsolved as trial_unsolved}
-use Rattle.msp_top.specs.Run.{Passed, limit_of, too_long_text, IsRight, IsRightWithin, too_long, short, IsRightReport, of_input, of_trial, of_rows, Reports, BreaksOff, Refuses, input_refused, past_the_limit, trial_refused, AtMost, was_read, BreaksReading, IsDue, IsTrialDue, IsServed, IsNote, misfit as note_misfit, refused as note_refused, read_fault, write_fault, memory as note_memory}
+use Rattle.msp_top.specs.Run.{Passed, limit_of, too_long_text, IsRight, IsRightWithin, too_long, short, IsRightReport, of_input, of_trial, of_rows, Reports, BreaksOff, Refuses}
+use Rattle.msp_top.specs.Run.{input_refused, past_the_limit, trial_refused, AtMost, was_read, BreaksReading, IsDue, IsTrialDue, IsServed, IsNote, misfit as note_misfit}
+use Rattle.msp_top.specs.Run.{refused as note_refused, read_fault, write_fault, memory as note_memory}
 use Rattle.msp_top.specs.Note.{note_text}
 use Rattle.msp_top.specs.Refusals.{of_misfit, of_taken, of_write_fault, out_of_memory}
 use Rattle.msp_top.specs.Answers.{Answers, IsInRange}
@@ -129,7 +131,8 @@ trial_status trial (refusal status note) (trial_unsolved cannot other fault) = c
 pub right_same : (command : Command) (passed input : List ℕ) (outcome : Outcome) → passed ≡ input → IsRightWithin command passed outcome → IsRightWithin command input outcome
 right_same command passed input outcome e h = let P : List ℕ → Type 0 = λ l. IsRightWithin command l outcome in subst P e h
 
-pub answered_same : (command : Command) (passed input : List ℕ) (first why : Refusal) → passed ≡ input → why ≡ first → Answers (IsRightWithin command passed) (Err first) → Answers (IsRightWithin command input) (Err why)
+pub answered_same : (command : Command) (passed input : List ℕ) (first why : Refusal)
+    → passed ≡ input → why ≡ first → Answers (IsRightWithin command passed) (Err first) → Answers (IsRightWithin command input) (Err why)
 answered_same command passed input first why e same h =
     let P : List ℕ → Type 0 = λ l. Answers (IsRightWithin command l) (Err why) in
     let Q : Refusal → Type 0 = λ r. Answers (IsRightWithin command passed) (Err r) in
@@ -140,7 +143,8 @@ refused_is_no_usage command input why (inl wanting) is = omega (arith, wanting.0
 refused_is_no_usage command input why (inr right) is = omega (arith, (within_status command input _ right).0, is)
 
 -- the words ask for nothing
-pub serves_misfit : (words : List (List ℕ)) (call : Passed) (read wrote : Type 0) (first : Misfit) (why : Refusal) → ReadsWords words (Err first) → why ≡ of_misfit first → Serves words call read wrote (Err why)
+pub serves_misfit : (words : List (List ℕ)) (call : Passed) (read wrote : Type 0) (first : Misfit) (why : Refusal)
+    → ReadsWords words (Err first) → why ≡ of_misfit first → Serves words call read wrote (Err why)
 serves_misfit words call read wrote first why h same = let P : Refusal → Type 0 = λ r. Serves words call read wrote (Err r) in subst P (sym same) (misfit (Usage first) h.0 h.1)
 
 -- there was no memory for the classes that are named
@@ -171,20 +175,23 @@ never_usage X (Ok status) h = tt
 never_usage X (Err why) h = λ is. absurd (h is)
 
 -- the input was not taken whole
-pub serves_taken : (words : List (List ℕ)) (call : Passed) (read wrote : Type 0) (command : Command) (limit : ℕ) (cause : Taken) (why : Refusal) → Asks words command → limit ≡ limit_of command → why ≡ of_taken limit cause → (cause ≡ taken.ReadFault → read) →
+pub serves_taken : (words : List (List ℕ)) (call : Passed) (read wrote : Type 0) (command : Command) (limit : ℕ) (cause : Taken) (why : Refusal)
+    → Asks words command → limit ≡ limit_of command → why ≡ of_taken limit cause → (cause ≡ taken.ReadFault → read) →
     (bytes : List ℕ) × IsStop call.gave call.broke cause limit bytes → Serves words call read wrote (Err why)
 serves_taken words call read wrote command limit cause why asked same e failed stop =
     let P : Refusal → Type 0 = λ r. Serves words call read wrote (Err r) in
     let Q : ℕ → Type 0 = λ n. (bytes : List ℕ) × IsStop call.gave call.broke cause n bytes in
     subst P (sym (e ∙ ap (λ n. of_taken n cause) same)) (by_cause cause failed (subst Q same stop))
   where
-    by_cause : (cause : Taken) → (cause ≡ taken.ReadFault → read) → (bytes : List ℕ) × IsStop call.gave call.broke cause (limit_of command) bytes → Serves words call read wrote (Err (of_taken (limit_of command) cause))
+    by_cause : (cause : Taken) → (cause ≡ taken.ReadFault → read)
+        → (bytes : List ℕ) × IsStop call.gave call.broke cause (limit_of command) bytes → Serves words call read wrote (Err (of_taken (limit_of command) cause))
     by_cause taken.ReadFault failed (bytes, (broken, few)) = cannot_read command asked (bytes, broken, few) (failed refl)
     by_cause taken.Memory failed (bytes, (given, few)) = no_memory out_of_memory (to_answer command asked (bytes, inl given, few)) (refl, refl)
     by_cause taken.TooLong failed (bytes, (given, count)) = refuses 4 (TooLong (limit_of command)) (omega arith) (omega arith) (past_the_limit command bytes asked given count)
 
 -- the input was taken whole and refused
-pub serves_refused : (words : List (List ℕ)) (call : Passed) (read wrote : Type 0) (command : Command) (input : List ℕ) (why : Refusal) → Asks words command → call.finished input → length input ≤ limit_of command →
+pub serves_refused : (words : List (List ℕ)) (call : Passed) (read wrote : Type 0) (command : Command) (input : List ℕ) (why : Refusal)
+    → Asks words command → call.finished input → length input ≤ limit_of command →
     Answers (IsRightWithin command input) (Err why) → Serves words call read wrote (Err why)
 serves_refused words call read wrote command input why asked given within (inl memory) = no_memory why (to_answer command asked (input, inr given, within)) memory
 serves_refused words call read wrote command input why asked given within (inr right) =
@@ -197,20 +204,24 @@ right_report : (words : List (List ℕ)) (call : Passed) (command : Command) (in
 right_report words call command input made asked given within right = of_input command input made.status made.text.items asked given (short _ within right)
 
 -- a report was written whole
-pub serves_written : (words : List (List ℕ)) (call : Passed) (read wrote : Type 0) (command : Command) (input : List ℕ) (made : Report) (bytes : List ℕ) → Asks words command → call.finished input → length input ≤ limit_of command →
+pub serves_written : (words : List (List ℕ)) (call : Passed) (read wrote : Type 0) (command : Command) (input : List ℕ) (made : Report) (bytes : List ℕ)
+    → Asks words command → call.finished input → length input ≤ limit_of command →
     IsRightWithin command input (report made.status made.text.items) → bytes ≡ made.text.items → call.took bytes → Serves words call read wrote (Ok made.status)
 serves_written words call read wrote command input made bytes asked given within right e grown =
     writes made.status (within_status command input _ right) (made.text.items, right_report words call command input made asked given within right, subst call.took e grown)
 
-breaks_off : (words : List (List ℕ)) (call : Passed) (read wrote : Type 0) (status : ℕ) (text bytes : List ℕ) (fault : WriteFault) (why : Refusal) → IsRightReport words call status text → bytes ≡ text → Puts call.took call.broke_off bytes (Err fault) → wrote → why ≡ of_write_fault → Serves words call read wrote (Err why)
+breaks_off : (words : List (List ℕ)) (call : Passed) (read wrote : Type 0) (status : ℕ) (text bytes : List ℕ) (fault : WriteFault) (why : Refusal)
+    → IsRightReport words call status text → bytes ≡ text → Puts call.took call.broke_off bytes (Err fault) → wrote → why ≡ of_write_fault → Serves words call read wrote (Err why)
 breaks_off words call read wrote status text bytes fault why right e put failed is =
     let P : Refusal → Type 0 = λ r. Serves words call read wrote (Err r) in
     let all : Puts call.took call.broke_off text (Err fault) = subst (λ b. Puts call.took call.broke_off b (Err fault)) e put in
     subst P (sym is) (cannot_write (record { status = status; text = text; count = all.stopped.0; right = right; short = all.stopped.1; part = all.stopped.2 }) failed)
 
 -- a report was begun, and the sink failed
-pub serves_broken : (words : List (List ℕ)) (call : Passed) (read wrote : Type 0) (command : Command) (input : List ℕ) (made : Report) (bytes : List ℕ) (fault : WriteFault) (why : Refusal) → Asks words command → call.finished input →
-    length input ≤ limit_of command → IsRightWithin command input (report made.status made.text.items) → bytes ≡ made.text.items → Puts call.took call.broke_off bytes (Err fault) → wrote → why ≡ of_write_fault → Serves words call read wrote (Err why)
+pub serves_broken : (words : List (List ℕ)) (call : Passed) (read wrote : Type 0) (command : Command) (input : List ℕ) (made : Report) (bytes : List ℕ) (fault : WriteFault) (why : Refusal)
+    → Asks words command → call.finished input →
+    length input ≤ limit_of command → IsRightWithin command input (report made.status made.text.items)
+    → bytes ≡ made.text.items → Puts call.took call.broke_off bytes (Err fault) → wrote → why ≡ of_write_fault → Serves words call read wrote (Err why)
 serves_broken words call read wrote command input made bytes fault why asked given within right e put failed is =
     breaks_off words call read wrote made.status made.text.items bytes fault why (right_report words call command input made asked given within right) e put failed is
 
@@ -218,11 +229,13 @@ serves_broken words call read wrote command input made bytes fault why asked giv
 pub serves_rows : (words : List (List ℕ)) (call : Passed) (read wrote : Type 0) (bytes : List ℕ) → AsksForRows words → bytes ≡ rows_report → call.took bytes → Serves words call read wrote (Ok 0)
 serves_rows words call read wrote bytes asked e grown = writes 0 (omega arith) (rows_report, of_rows asked, subst call.took e grown)
 
-pub serves_rows_broken : (words : List (List ℕ)) (call : Passed) (read wrote : Type 0) (bytes : List ℕ) (fault : WriteFault) (why : Refusal) → AsksForRows words → bytes ≡ rows_report → Puts call.took call.broke_off bytes (Err fault) → wrote → why ≡ of_write_fault → Serves words call read wrote (Err why)
+pub serves_rows_broken : (words : List (List ℕ)) (call : Passed) (read wrote : Type 0) (bytes : List ℕ) (fault : WriteFault) (why : Refusal) → AsksForRows words
+    → bytes ≡ rows_report → Puts call.took call.broke_off bytes (Err fault) → wrote → why ≡ of_write_fault → Serves words call read wrote (Err why)
 serves_rows_broken words call read wrote bytes fault why asked e put failed is = breaks_off words call read wrote 0 rows_report bytes fault why (of_rows asked) e put failed is
 
 -- a trial was not solved, or memory was wanting
-pub serves_untried : (words : List (List ℕ)) (call : Passed) (read wrote : Type 0) (trial : Trial) (first why : Refusal) → AsksForTrial words trial → Answers (TrialIsRight trial) (Err first) → why ≡ first → Serves words call read wrote (Err why)
+pub serves_untried : (words : List (List ℕ)) (call : Passed) (read wrote : Type 0) (trial : Trial) (first why : Refusal)
+    → AsksForTrial words trial → Answers (TrialIsRight trial) (Err first) → why ≡ first → Serves words call read wrote (Err why)
 serves_untried words call read wrote trial first why asked h same = let P : Refusal → Type 0 = λ r. Serves words call read wrote (Err r) in subst P (sym same) (by_cause h)
   where
     by_cause : Answers (TrialIsRight trial) (Err first) → Serves words call read wrote (Err first)
@@ -230,12 +243,16 @@ serves_untried words call read wrote trial first why asked h same = let P : Refu
     by_cause (inr right) = let range = trial_status trial _ right in refuses first.status first.note range.0 range.1 (trial_refused trial first.status (note_text first.note) asked right)
 
 -- the report of a trial was written whole, or the sink failed
-pub serves_trial : (words : List (List ℕ)) (call : Passed) (read wrote : Type 0) (trial : Trial) (made : Report) (bytes : List ℕ) → AsksForTrial words trial → TrialIsRight trial (report made.status made.text.items) → bytes ≡ made.text.items → call.took bytes → Serves words call read wrote (Ok made.status)
+pub serves_trial : (words : List (List ℕ)) (call : Passed) (read wrote : Type 0) (trial : Trial) (made : Report) (bytes : List ℕ) → AsksForTrial words trial
+    → TrialIsRight trial (report made.status made.text.items) → bytes ≡ made.text.items → call.took bytes → Serves words call read wrote (Ok made.status)
 serves_trial words call read wrote trial made bytes asked right e grown =
     writes made.status (trial_status trial _ right) (made.text.items, of_trial trial made.status made.text.items asked right, subst call.took e grown)
 
-pub serves_trial_broken : (words : List (List ℕ)) (call : Passed) (read wrote : Type 0) (trial : Trial) (made : Report) (bytes : List ℕ) (fault : WriteFault) (why : Refusal) → AsksForTrial words trial → TrialIsRight trial (report made.status made.text.items) → bytes ≡ made.text.items → Puts call.took call.broke_off bytes (Err fault) → wrote → why ≡ of_write_fault → Serves words call read wrote (Err why)
-serves_trial_broken words call read wrote trial made bytes fault why asked right e put failed is = breaks_off words call read wrote made.status made.text.items bytes fault why (of_trial trial made.status made.text.items asked right) e put failed is
+pub serves_trial_broken : (words : List (List ℕ)) (call : Passed) (read wrote : Type 0) (trial : Trial) (made : Report) (bytes : List ℕ) (fault : WriteFault) (why : Refusal)
+    → AsksForTrial words trial → TrialIsRight trial (report made.status made.text.items)
+    → bytes ≡ made.text.items → Puts call.took call.broke_off bytes (Err fault) → wrote → why ≡ of_write_fault → Serves words call read wrote (Err why)
+serves_trial_broken words call read wrote trial made bytes fault why asked right e put failed is =
+    breaks_off words call read wrote made.status made.text.items bytes fault why (of_trial trial made.status made.text.items asked right) e put failed is
 
 -- ---- words that misfit ask for nothing
 no_report : {X : Type 0} (words : List (List ℕ)) (call : Passed) (status : ℕ) (text : List ℕ) → Misfits words → IsRightReport words call status text → X
@@ -289,7 +306,8 @@ refusal_is_high words call read wrote why (cannot_write h failed) low = absurd (
 pub report_is_low : (words : List (List ℕ)) (call : Passed) (read wrote : Type 0) (status : ℕ) → Serves words call read wrote (Ok status) → status ≤ 1
 report_is_low words call read wrote status (writes n small h) = small
 
-pub serves_refusal : (words : List (List ℕ)) (call : Passed) (read wrote : Type 0) (why : Refusal) → Serves words call read wrote (Err why) → 3 ≤ why.status → why.status ≤ 6 → (note : List ℕ) × Refuses words call why.status note
+pub serves_refusal : (words : List (List ℕ)) (call : Passed) (read wrote : Type 0) (why : Refusal)
+    → Serves words call read wrote (Err why) → 3 ≤ why.status → why.status ≤ 6 → (note : List ℕ) × Refuses words call why.status note
 serves_refusal words call read wrote why (misfit n h text) low high = absurd (omega (arith, low))
 serves_refusal words call read wrote why (cannot_read command asked few rose) low high = absurd (omega (arith, high))
 serves_refusal words call read wrote why (no_memory w takes memory) low high = absurd (omega (arith, high, memory.0))
@@ -315,7 +333,8 @@ pub record AreTold (call : Passed) (left : Option (List ℕ)) : Type 0 where
   pub whole : (input : List ℕ) → call.finished input → IfSome left (λ all. input ≡ all)
   pub front : (bytes : List ℕ) → call.gave bytes → IfSome left (λ all. length bytes ≤ length all)
 
-pub are_told : (before after : SourceView) (call : Passed) → ((bytes : List ℕ) → call.gave bytes → Gives before after bytes) → ((bytes : List ℕ) → call.finished bytes → GivesAll before after bytes) → AreTold call before.left
+pub are_told : (before after : SourceView) (call : Passed) → ((bytes : List ℕ) → call.gave bytes → Gives before after bytes)
+    → ((bytes : List ℕ) → call.finished bytes → GivesAll before after bytes) → AreTold call before.left
 are_told before after call gives finishes = record {
   whole = λ input h. let all = finishes input h in whole before.left input all.gives.left all.end;
   front = λ bytes h. front before.left bytes (gives bytes h).left;
@@ -334,33 +353,43 @@ IfSome-map None P Q f h = tt
 IfSome-map (Some input) P Q f h = f input h
 
 -- a report of the bytes that were given is one of all that was left
-report_told : (words : List (List ℕ)) (call : Passed) (left : Option (List ℕ)) (status : ℕ) (text : List ℕ) (command : Command) → AreTold call left → Asks words command → IsRightReport words call status text → IfSome left (λ input. IsRight command input (report status text))
+report_told : (words : List (List ℕ)) (call : Passed) (left : Option (List ℕ)) (status : ℕ) (text : List ℕ) (command : Command)
+    → AreTold call left → Asks words command → IsRightReport words call status text → IfSome left (λ input. IsRight command input (report status text))
 report_told words call left status text command told asked (of_input other input n l asks given right) =
-    IfSome-map left (λ all. input ≡ all) _ (λ all e. subst (λ i. IsRight command i (report status text)) e (subst (λ c. IsRight c input (report status text)) (asks_once words other command asks asked) right)) (told.whole input given)
+    IfSome-map left (λ all. input ≡ all)
+    _ (λ all e. subst (λ i. IsRight command i (report status text)) e (subst (λ c. IsRight c input (report status text)) (asks_once words other command asks asked) right)) (told.whole input given)
 report_told words call left status text command told asked (of_trial trial n l asks right) = trial_is_no_command words trial command asks asked
 report_told words call left status text command told asked (of_rows asks) = rows_are_no_command words command asks asked
 
 -- a refusal of the bytes that were given is one of all that was left
-refusal_told : (words : List (List ℕ)) (call : Passed) (left : Option (List ℕ)) (status : ℕ) (note : List ℕ) (command : Command) → AreTold call left → Asks words command → Refuses words call status note → IfSome left (λ input. IsRight command input (refusal status note))
+refusal_told : (words : List (List ℕ)) (call : Passed) (left : Option (List ℕ)) (status : ℕ) (note : List ℕ) (command : Command)
+    → AreTold call left → Asks words command → Refuses words call status note → IfSome left (λ input. IsRight command input (refusal status note))
 refusal_told words call left status note command told asked (input_refused other input n l asks given within right) =
-    IfSome-map left (λ all. input ≡ all) _ (λ all e. subst (λ i. IsRight command i (refusal status note)) e (subst (λ c. IsRight c input (refusal status note)) (asks_once words other command asks asked) (short _ within right))) (told.whole input given)
+    IfSome-map left (λ all. input ≡ all)
+    _ (λ all e. subst (λ i. IsRight command i (refusal status note)) e (subst (λ c. IsRight c input (refusal status note)) (asks_once words other command asks asked) (short _ within right)))
+    (told.whole input given)
 refusal_told words call left status note command told asked (past_the_limit other bytes asks given count) =
-    IfSome-map left (λ all. length bytes ≤ length all) _ (λ all long. subst (λ c. IsRight c all (refusal 4 (too_long_text (limit_of other)))) (asks_once words other command asks asked) (too_long (omega (arith, long, count)))) (told.front bytes given)
+    IfSome-map left (λ all. length bytes ≤ length all)
+    _ (λ all long. subst (λ c. IsRight c all (refusal 4 (too_long_text (limit_of other)))) (asks_once words other command asks asked) (too_long (omega (arith, long, count))))
+    (told.front bytes given)
 refusal_told words call left status note command told asked (trial_refused trial n l asks right) = trial_is_no_command words trial command asks asked
 
-pub serves_due : (words : List (List ℕ)) (call : Passed) (read wrote : Type 0) (left : Option (List ℕ)) (r : Result ℕ Refusal) → AreTold call left → Serves words call read wrote r → (command : Command) → Asks words command → ¬ read → ¬ wrote →
+pub serves_due : (words : List (List ℕ)) (call : Passed) (read wrote : Type 0) (left : Option (List ℕ)) (r : Result ℕ Refusal)
+    → AreTold call left → Serves words call read wrote r → (command : Command) → Asks words command → ¬ read → ¬ wrote →
     (status_of r ≡ 9) ⊎ IfSome left (λ input. IsDue command input (status_of r))
 serves_due words call read wrote left r told (misfit n h text) command asked source out = absurd (h.no_command command asked)
 serves_due words call read wrote left r told (cannot_read other asks few rose) command asked source out = absurd (source rose)
 serves_due words call read wrote left r told (no_memory why takes wanting) command asked source out = inl wanting.0
 serves_due words call read wrote left r told (refuses status note from to h) command asked source out =
-    inr (IfSome-map left (λ input. IsRight command input (refusal status (note_text note))) _ (λ input right. inr (note_text note, right)) (refusal_told words call left status (note_text note) command told asked h))
+    inr (IfSome-map left (λ input. IsRight command input (refusal status (note_text note)))
+    _ (λ input right. inr (note_text note, right)) (refusal_told words call left status (note_text note) command told asked h))
 serves_due words call read wrote left r told (cannot_write h failed) command asked source out = absurd (out failed)
 serves_due words call read wrote left r told (writes status small (text, right, grown)) command asked source out =
     inr (IfSome-map left (λ input. IsRight command input (report status text)) _ (λ input r. inl (text, r)) (report_told words call left status text command told asked right))
 
 -- at 9 no more is read than an input may have
-pub serves_few : (words : List (List ℕ)) (call : Passed) (read wrote : Type 0) (r : Result ℕ Refusal) → Serves words call read wrote r → status_of r ≡ 9 → (command : Command) → Asks words command → AtMost (was_read call) (limit_of command)
+pub serves_few : (words : List (List ℕ)) (call : Passed) (read wrote : Type 0) (r : Result ℕ Refusal)
+    → Serves words call read wrote r → status_of r ≡ 9 → (command : Command) → Asks words command → AtMost (was_read call) (limit_of command)
 serves_few words call read wrote r (misfit n h text) is command asked = absurd (h.no_command command asked)
 serves_few words call read wrote r (cannot_read other asks few rose) is command asked = absurd (omega (arith, is))
 serves_few words call read wrote r (no_memory why (to_answer other asks few) wanting) is command asked = subst (λ c. AtMost (was_read call) (limit_of c)) (asks_once words other command asks asked) few
@@ -384,7 +413,8 @@ rows_take_none : {X : Type 0} (words : List (List ℕ)) (call : Passed) → Asks
 rows_take_none words call rows (to_answer command asked few) = rows_are_no_command words command rows asked
 rows_take_none words call rows (to_try trial asked) = trial_is_no_rows words trial asked rows
 
-pub serves_rows_status : (words : List (List ℕ)) (call : Passed) (read wrote : Type 0) (r : Result ℕ Refusal) → Serves words call read wrote r → AsksForRows words → (status_of r ≡ 0) ⊎ (status_of r ≡ 8)
+pub serves_rows_status : (words : List (List ℕ)) (call : Passed) (read wrote : Type 0) (r : Result ℕ Refusal)
+    → Serves words call read wrote r → AsksForRows words → (status_of r ≡ 0) ⊎ (status_of r ≡ 8)
 serves_rows_status words call read wrote r (misfit n h text) rows = absurd (h.no_rows rows)
 serves_rows_status words call read wrote r (cannot_read command asked few rose) rows = rows_are_no_command words command rows asked
 serves_rows_status words call read wrote r (no_memory why takes wanting) rows = rows_take_none words call rows takes
@@ -393,7 +423,8 @@ serves_rows_status words call read wrote r (cannot_write h failed) rows = inr re
 serves_rows_status words call read wrote r (writes status small (text, right, grown)) rows = inl (rows_status words call status text rows right)
 
 -- a trial is not ended by the source
-pub serves_trial_status : (words : List (List ℕ)) (call : Passed) (read wrote : Type 0) (r : Result ℕ Refusal) → Serves words call read wrote r → (trial : Trial) → AsksForTrial words trial → status_of r ≢ 7
+pub serves_trial_status : (words : List (List ℕ)) (call : Passed) (read wrote : Type 0) (r : Result ℕ Refusal)
+    → Serves words call read wrote r → (trial : Trial) → AsksForTrial words trial → status_of r ≢ 7
 serves_trial_status words call read wrote r (misfit n h text) trial asked is = absurd (omega (arith, is))
 serves_trial_status words call read wrote r (cannot_read command asks few rose) trial asked is = trial_is_no_command words trial command asked asks
 serves_trial_status words call read wrote r (no_memory why takes wanting) trial asked is = absurd (omega (arith, is, wanting.0))
@@ -409,9 +440,11 @@ trial_written_due words call status text trial asked (of_rows asks) = trial_is_n
 trial_refused_due : (words : List (List ℕ)) (call : Passed) (status : ℕ) (note : List ℕ) (trial : Trial) → AsksForTrial words trial → Refuses words call status note → IsTrialDue trial status
 trial_refused_due words call status note trial asked (input_refused command input n l asks given within right) = trial_is_no_command words trial command asked asks
 trial_refused_due words call status note trial asked (past_the_limit command bytes asks given count) = trial_is_no_command words trial command asked asks
-trial_refused_due words call status note trial asked (trial_refused other n l asks right) = inr (note, subst (λ a. TrialIsRight a (refusal status note)) (trial_once words other trial asks asked) right)
+trial_refused_due words call status note trial asked (trial_refused other n l asks right) =
+    inr (note, subst (λ a. TrialIsRight a (refusal status note)) (trial_once words other trial asks asked) right)
 
-pub serves_trial_due : (words : List (List ℕ)) (call : Passed) (read wrote : Type 0) (r : Result ℕ Refusal) → Serves words call read wrote r → (trial : Trial) → AsksForTrial words trial → ¬ wrote → (status_of r ≡ 9) ⊎ IsTrialDue trial (status_of r)
+pub serves_trial_due : (words : List (List ℕ)) (call : Passed) (read wrote : Type 0) (r : Result ℕ Refusal)
+    → Serves words call read wrote r → (trial : Trial) → AsksForTrial words trial → ¬ wrote → (status_of r ≡ 9) ⊎ IsTrialDue trial (status_of r)
 serves_trial_due words call read wrote r (misfit n h text) trial asked out = absurd (h.no_trial trial asked)
 serves_trial_due words call read wrote r (cannot_read command asks few rose) trial asked out = trial_is_no_command words trial command asked asks
 serves_trial_due words call read wrote r (no_memory why takes wanting) trial asked out = inl wanting.0
@@ -450,7 +483,8 @@ serves_any words call read wrote r (misfit n h text) = misfit n h text
 serves_any words call read wrote r (cannot_read command asked few failed) = absurd failed
 serves_any words call read wrote r (no_memory why takes wanting) = no_memory why (takes_of_any words call takes) wanting
 serves_any words call read wrote r (refuses status note from to h) = refuses status note from to (refusal_of_any words call status (note_text note) h)
-serves_any words call read wrote r (cannot_write h failed) = cannot_write (record { status = h.status; text = h.text; count = h.count; right = report_of_any words call h.status h.text h.right; short = h.short; part = h.part }) failed
+serves_any words call read wrote r (cannot_write h failed) =
+    cannot_write (record { status = h.status; text = h.text; count = h.count; right = report_of_any words call h.status h.text h.right; short = h.short; part = h.part }) failed
 serves_any words call read wrote r (writes status small (text, right, grown)) = writes status small (text, report_of_any words call status text right, grown)
 
 -- ---- all that the status says
@@ -468,7 +502,8 @@ is_served words call read wrote told status h =
       note = λ high. absurd (omega (arith, high, low));
     }
 
-pub is_refused : (words : List (List ℕ)) (call : Passed) (read wrote : Type 0) (told : List ℕ → Type 0) (why : Refusal) → Serves words call read wrote (Err why) → told (note_text why.note) → IsServed words call told why.status
+pub is_refused : (words : List (List ℕ)) (call : Passed) (read wrote : Type 0) (told : List ℕ → Type 0) (why : Refusal)
+    → Serves words call read wrote (Err why) → told (note_text why.note) → IsServed words call told why.status
 is_refused words call read wrote told why h line = record {
   known = serves_known words call read wrote (Err why) h;
   usage = serves_usage words call read wrote (Err why) h;

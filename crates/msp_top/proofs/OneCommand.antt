@@ -39,7 +39,8 @@ same_first words a b p q = cons_heads (sym (asks_first words a p).1 ∙ (asks_fi
 
 pub asks_once : (words : List (List ℕ)) (a b : Command) → Asks words a → Asks words b → a ≡ b
 asks_once words (Solve a) (Solve b) p q = ap Solve (at_once words a b p q)
-asks_once words (Answer (Label a)) (Answer (Label b)) p q = ap (λ classes. Answer (Label classes)) (classes_once q.0 a b (subst (λ names. AllZip IsNameWord names a) (cons_tails (sym p.1 ∙ q.1)) p.2) q.2)
+asks_once words (Answer (Label a)) (Answer (Label b)) p q =
+    ap (λ classes. Answer (Label classes)) (classes_once q.0 a b (subst (λ names. AllZip IsNameWord names a) (cons_tails (sym p.1 ∙ q.1)) p.2) q.2)
 asks_once words (Answer Frontier) (Answer Frontier) p q = refl
 asks_once words (Answer (Why a)) (Answer (Why b)) p q = ap (λ class. Answer (Why class)) (why_once words a b p q)
 asks_once words Certify Certify p q = refl

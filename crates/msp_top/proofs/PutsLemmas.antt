@@ -18,7 +18,8 @@ puts-stop took broke a b e f h = record {
 }
 
 -- a function ends where its first text stopped
-pub puts-exit : (Q : WriteFault → Type 0) (took broke : List ℕ → Type 0) (a b : List ℕ) (r : Result (Unit {0}) WriteFault) (e : WriteFault) → IsErrAnd r Q → Puts took broke a (Err e) → Puts took broke (a ++ b) r
+pub puts-exit : (Q : WriteFault → Type 0) (took broke : List ℕ → Type 0) (a b : List ℕ) (r : Result (Unit {0}) WriteFault) (e : WriteFault)
+    → IsErrAnd r Q → Puts took broke a (Err e) → Puts took broke (a ++ b) r
 puts-exit Q took broke a b r e is h = let q = err_from_is_err_and {Q = Q} r is in subst (Puts took broke (a ++ b)) (sym q.1) (puts-stop took broke a b e q.0 h)
 
 -- the first text was put whole, and then the second
@@ -27,7 +28,11 @@ pub puts-then : {K : Type 0} {seen : K → SinkView} {took broke : K → K → L
 puts-then laws s t u a b (Ok y) x p q = record { all = laws.joined s t u a b p.all q.all; stopped = tt }
 puts-then {broke = broke} laws s t u a b (Err y) x p q = record {
   all = tt;
-  stopped = (length a + q.stopped.0, omega (arith, q.stopped.1, length-append a b), subst (broke s u) (sym (take-append-add a b q.stopped.0)) (laws.joined_fault s t u a (take q.stopped.0 b) p.all q.stopped.2));
+  stopped = (
+    length a + q.stopped.0,
+    omega (arith, q.stopped.1, length-append a b),
+    subst (broke s u) (sym (take-append-add a b q.stopped.0)) (laws.joined_fault s t u a (take q.stopped.0 b) p.all q.stopped.2),
+  );
 }
 
 pub puts-along : (took broke : List ℕ → Type 0) (a b : List ℕ) (r : Result (Unit {0}) WriteFault) → a ≡ b → Puts took broke a r → Puts took broke b r

@@ -1,5 +1,6 @@
 -- The answers to questions about a file of results.
-use Rattle.std.proofs.Common.{◌≡◌, ℕ, ◌+◌, ◌<◌, List, [], ◌∷◌, ◌++◌, length, get_or, Bool, true, false, Option, Some, None, IfOk, is_some, Result, Ok, Err, ◌⊎◌, inl, inr, refl, sym, ap, ◌∙◌, subst, arith}
+use Rattle.std.proofs.Common.{◌≡◌, ℕ, ◌+◌, ◌<◌, List, [], ◌∷◌, ◌++◌, length, get_or, Bool, true, false, Option, Some, None, IfOk, is_some, Result, Ok, Err, ◌⊎◌, inl, inr, refl}
+use Rattle.std.proofs.Common.{sym, ap, ◌∙◌, subst, arith}
 use Rattle.std.specs.Prelude.{slice_index_or}
 use Rattle.std.proofs.lemmas.Bool.{cases_lt}
 use Rattle.std.proofs.lemmas.List.{get_or_append_left, length-append}
@@ -78,7 +79,8 @@ named_shown items (c ∷ cs) entries r l report = report (c ∷ cs) refl
 
 -- ---- the frontier
 
-pub frontier_right : {V E : Type 0} (items : V → List ℕ) (entries : List Entry) (lists : FrontierLists) (clash strong_clash : Option Chain) (r : Result V E) → IsFrontier entries lists → AreClashes entries clash strong_clash →
+pub frontier_right : {V E : Type 0} (items : V → List ℕ) (entries : List Entry) (lists : FrontierLists) (clash strong_clash : Option Chain) (r : Result V E)
+    → IsFrontier entries lists → AreClashes entries clash strong_clash →
     IfOk r (λ text. items text ≡ frontier_report lists clash strong_clash) → IfOk r (λ text. IsFrontierReport entries (items text))
 frontier_right items entries lists clash strong_clash (Ok text) frontier clashes printed = record {
   lists = lists;
@@ -93,7 +95,8 @@ frontier_right items entries lists clash strong_clash (Err e) frontier clashes p
 -- ---- what shows the label of a class
 
 pub why_right : {V E : Type 0} (items : V → List ℕ) (class : Class) (entries : List Entry) (easy pseudo hard strong : Option Chain) (r : Result V E) →
-    IsWay every_row (easy_listed entries) (class ∷ []) easy → IsWay keeps_size (pseudo_listed entries) (class ∷ []) pseudo → IsWay every_row (class ∷ []) (hard_listed entries) hard → IsWay keeps_size (class ∷ []) (strong_listed entries) strong →
+    IsWay every_row (easy_listed entries) (class ∷ []) easy → IsWay keeps_size (pseudo_listed entries) (class ∷ []) pseudo
+    → IsWay every_row (class ∷ []) (hard_listed entries) hard → IsWay keeps_size (class ∷ []) (strong_listed entries) strong →
     IfOk r (λ text. IsWhyText entries class easy pseudo hard strong (items text)) → IfOk r (λ text. IsWhyReport class entries (items text))
 why_right items class entries easy pseudo hard strong (Ok text) easy_is pseudo_is hard_is strong_is printed = record {
   easy = easy;
@@ -119,7 +122,8 @@ first_fault question input fault (inr first) = inr (misread fault (λ e. cc) fir
 err_same : {T : Type 0} {a b : ResultFault} {r : Result T ResultFault} → r ≡ Err a → r ≡ Err b → a ≡ b
 err_same p q = cc
 
-pub misread_right : (question : Question) (input : List ℕ) (r : Result (List Entry) ResultFault) (fault : ResultFault) (why : Refusal) → r ≡ Err fault → (r ≡ Err Memory) ⊎ (r ≡ results_of input) → why ≡ of_result_fault fault → Answers (ReadsResults question input) (Err why)
+pub misread_right : (question : Question) (input : List ℕ) (r : Result (List Entry) ResultFault) (fault : ResultFault) (why : Refusal)
+    → r ≡ Err fault → (r ≡ Err Memory) ⊎ (r ≡ results_of input) → why ≡ of_result_fault fault → Answers (ReadsResults question input) (Err why)
 misread_right question input r fault why is reading e =
     let Q : Refusal → Type 0 = λ w. Answers (ReadsResults question input) (Err w) in
     subst Q (sym e) (first_fault question input fault (elim reading [ inl memory ↦ inl (err_same is memory) | inr same ↦ inr (sym same ∙ is) ]))

@@ -6,7 +6,7 @@ use Rattle.msp_class.specs.declared.class.Env.{Env}
 use Rattle.msp_class.specs.declared.class.Env.TheVariants.{J2Short, JShort}
 use Rattle.msp_class.specs.declared.environments.EnvKind.{EnvKind}
 use Rattle.msp_class.specs.declared.environments.EnvKind.TheVariants as kind
-use Rattle.msp_class.specs.declared.environments.TheConstants.{MOST_OPERATIONS}
+use Rattle.msp_class.specs.declared.sizes.TheConstants.{MOST_MACHINES, MOST_OPERATIONS}
 use Rattle.msp_class.specs.Env.{kind_of, most_operations}
 use Rattle.msp_class.proofs.IntegerRing.{natural_some}
 use Rattle.msp_instance.specs.declared.Instance.{Instance}
@@ -61,7 +61,7 @@ few_operations J2Short = omega arith
 few_operations JShort = omega arith
 few_operations _ = omega arith
 
-operation_small : (k : EnvKind) (e : Env) (i : Instance) (j o : ℕ) → i.machines ≤ 32 → HasShape k e i.machines (job_at i j).needs → HasOperation k i j o → o < 32
+operation_small : (k : EnvKind) (e : Env) (i : Instance) (j o : ℕ) → i.machines ≤ MOST_MACHINES → HasShape k e i.machines (job_at i j).needs → HasOperation k i j o → o < MOST_OPERATIONS
 operation_small kind.Identical e i j o few shape h = omega (arith, h)
 operation_small kind.Uniform e i j o few shape h = omega (arith, h)
 operation_small kind.Unrelated e i j o few shape h = omega (arith, h)
@@ -69,7 +69,7 @@ operation_small kind.OpenShop e i j o few shape h = omega (arith, h.0, shape.0, 
 operation_small kind.FlowShop e i j o few shape h = omega (arith, h.0, shape.0, few)
 operation_small kind.JobShop e i j o few shape h = omega (arith, h.0, shape.few, few_operations e)
 
-machine_small : (k : EnvKind) (e : Env) (i : Instance) (j o m : ℕ) → i.machines ≤ 32 → HasShape k e i.machines (job_at i j).needs → HasOperation k i j o → MayRun k i j o m → m < 32
+machine_small : (k : EnvKind) (e : Env) (i : Instance) (j o m : ℕ) → i.machines ≤ MOST_MACHINES → HasShape k e i.machines (job_at i j).needs → HasOperation k i j o → MayRun k i j o m → m < 32
 machine_small kind.Identical e i j o m few shape h r = omega (arith, r, few)
 machine_small kind.Uniform e i j o m few shape h r = omega (arith, r, few)
 machine_small kind.Unrelated e i j o m few shape h r = omega (arith, r, few)

@@ -16,14 +16,16 @@ Read command given given_after status = (count : ℕ) × (given_after ≡ so_man
 report_short : (command : Command) (input : List ℕ) (status : ℕ) (text : List ℕ) → IsRight command input (report status text) → length input ≤ limit_of command
 report_short command input status text (short outcome within right) = within
 
-report_read : (words : List (List ℕ)) (call : Passed) (given given_after n status : ℕ) (text : List ℕ) (command : Command) → ((bytes : List ℕ) → call.finished bytes → given_after ≡ so_many_more given (length bytes)) →
+report_read : (words : List (List ℕ)) (call : Passed) (given given_after n status : ℕ) (text : List ℕ) (command : Command)
+    → ((bytes : List ℕ) → call.finished bytes → given_after ≡ so_many_more given (length bytes)) →
     Asks words command → IsRightReport words call status text → Read command given given_after n
 report_read words call given given_after n status text command finished asked (of_input other input k l asks h right) =
     (length input, finished input h, inl (subst (λ c. length input ≤ limit_of c) (asks_once words other command asks asked) (report_short other input status text right)))
 report_read words call given given_after n status text command finished asked (of_trial trial k l asks right) = trial_is_no_command words trial command asks asked
 report_read words call given given_after n status text command finished asked (of_rows asks) = rows_are_no_command words command asks asked
 
-refusal_read : (words : List (List ℕ)) (call : Passed) (given given_after status : ℕ) (note : List ℕ) (command : Command) → ((bytes : List ℕ) → call.gave bytes → given_after ≡ so_many_more given (length bytes)) → ((bytes : List ℕ) → call.finished bytes → given_after ≡ so_many_more given (length bytes)) →
+refusal_read : (words : List (List ℕ)) (call : Passed) (given given_after status : ℕ) (note : List ℕ) (command : Command)
+    → ((bytes : List ℕ) → call.gave bytes → given_after ≡ so_many_more given (length bytes)) → ((bytes : List ℕ) → call.finished bytes → given_after ≡ so_many_more given (length bytes)) →
     Asks words command → Refuses words call status note → Read command given given_after status
 refusal_read words call given given_after status note command gave finished asked (input_refused other input k l asks h within right) =
     (length input, finished input h, inl (subst (λ c. length input ≤ limit_of c) (asks_once words other command asks asked) within))
@@ -59,7 +61,8 @@ front_length count text less = omega (arith, length-take count text, less)
 
 -- what the counts say, where each relation says by how many they went up
 pub is_counted : (words : List (List ℕ)) (call : Passed) (told : List ℕ → Type 0) (given given_after taken taken_after status : ℕ) →
-    ((bytes : List ℕ) → call.gave bytes → given_after ≡ so_many_more given (length bytes)) → ((bytes : List ℕ) → call.finished bytes → given_after ≡ so_many_more given (length bytes)) → ((bytes : List ℕ) → call.broke bytes → given_after ≡ so_many_more given (length bytes)) →
+    ((bytes : List ℕ) → call.gave bytes → given_after ≡ so_many_more given (length bytes)) → ((bytes : List ℕ) → call.finished bytes → given_after ≡ so_many_more given (length bytes))
+    → ((bytes : List ℕ) → call.broke bytes → given_after ≡ so_many_more given (length bytes)) →
     ((bytes : List ℕ) → call.took bytes → taken_after ≡ so_many_more taken (length bytes)) → ((bytes : List ℕ) → call.broke_off bytes → taken_after ≡ so_many_more taken (length bytes)) →
     IsServed words call told status → IsCounted words call given given_after taken taken_after status
 is_counted words call told given given_after taken taken_after status gave finished broke took broke_off h = record {

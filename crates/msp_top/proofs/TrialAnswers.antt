@@ -22,6 +22,7 @@ trial_unsolved trial i cannot why made fault e =
     let Q : Refusal → Type 0 = λ w. Answers (TrialIsRight trial) (Err w) in
     subst Q (sym e) (cannot_first trial cannot (subst (λ j. IsFault j None cannot) made fault))
 
-pub trial_solved : (trial : Trial) (i : Instance) (answer : Answer) (text : List ℕ) → i ≡ instance_of trial → IsAnswered i None answer → text ≡ trial_report i trial.seed answer → TrialIsRight trial (report 0 text)
+pub trial_solved : (trial : Trial) (i : Instance) (answer : Answer) (text : List ℕ)
+    → i ≡ instance_of trial → IsAnswered i None answer → text ≡ trial_report i trial.seed answer → TrialIsRight trial (report 0 text)
 trial_solved trial i answer text made answered e =
     solved answer text (subst (λ j. IsAnswered j None answer) made answered) (e ∙ ap (λ j. trial_report j trial.seed answer) made)

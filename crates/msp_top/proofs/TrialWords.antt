@@ -1,9 +1,10 @@
 -- The words after `trial`.
-use Rattle.std.proofs.Common.{◌≡◌, ℕ, ◌<◌, ◌≤◌, Bool, true, false, ◌&&◌, nat_le, List, [], ◌∷◌, length, get_or, map, Option, Some, None, Result, Err, ℤ, pos, negsuc, if◌then◌else◌, refl, sym, ap, ◌∙◌, subst, arith}
+use Rattle.std.proofs.Common.{◌≡◌, ℕ, ◌<◌, ◌≤◌, Bool, true, false, ◌&&◌, nat_le, List, [], ◌∷◌, length, get_or, map, Option, Some, None, Result, Err, ℤ, pos, negsuc, if◌then◌else◌}
+use Rattle.std.proofs.Common.{refl, sym, ap, ◌∙◌, subst, arith}
 use Rattle.std.proofs.lemmas.Bool.{lt-ltb, le-leb, leb-true}
 use Rattle.msp_class.specs.declared.list.TheConstants.{PLACES}
 use Rattle.msp_text.specs.Numbers.{number_of}
-use Rattle.msp_instance.specs.declared.ranges.TheConstants.{MOST_JOBS}
+use Rattle.msp_class.specs.declared.sizes.TheConstants.{MOST_JOBS}
 use Rattle.msp_top.specs.declared.command.TheConstants.{GREATEST_SEED}
 use Rattle.msp_top.specs.declared.command.Command.{Command}
 use Rattle.msp_top.specs.declared.command.Command.TheVariants.{Check, Answer}
@@ -17,7 +18,8 @@ use Rattle.msp_top.specs.Words.{ReadsWords, ReadsName, ReadsNumber, ReadsTrial}
 use Rattle.msp_top.proofs.WordLemmas.{trial_word, rows_word, first_word, asks_first, cons_heads, cons_tails, not_word}
 
 -- ---- numbers in a range
-within_range : (least greatest n m : ℕ) (a b : Bool) → nat_le least n ≡ a → nat_le n greatest ≡ b → (if a && b then Some n else None) ≡ Some m → (Some (pos n) ≡ Some (pos m)) × (least ≤ m) × (m ≤ greatest)
+within_range : (least greatest n m : ℕ) (a b : Bool)
+    → nat_le least n ≡ a → nat_le n greatest ≡ b → (if a && b then Some n else None) ≡ Some m → (Some (pos n) ≡ Some (pos m)) × (least ≤ m) × (m ≤ greatest)
 within_range least greatest n m false b p q e = absurd cc
 within_range least greatest n m true false p q e = absurd cc
 within_range least greatest n m true true p q e =
@@ -33,21 +35,25 @@ within_there : (least greatest m : ℕ) → least ≤ m → m ≤ greatest → n
 within_there least greatest m low high =
     ap (λ b. if b && nat_le m greatest then Some m else None) (le-leb least m low) ∙ ap (λ b. if b then Some m else None) (le-leb m greatest high)
 
-pub number_word : (least greatest : ℕ) (word bytes : List ℕ) (r : Option ℕ) (m : ℕ) → length word < PLACES → bytes ≡ word → r ≡ number_within least greatest (number_of bytes) → r ≡ Some m → IsNumberWord least greatest word m
+pub number_word : (least greatest : ℕ) (word bytes : List ℕ) (r : Option ℕ) (m : ℕ)
+    → length word < PLACES → bytes ≡ word → r ≡ number_within least greatest (number_of bytes) → r ≡ Some m → IsNumberWord least greatest word m
 number_word least greatest word bytes r m short e reads is =
     let found = within_found least greatest (number_of bytes) m (sym reads ∙ is) in
     record { short = short; spelled = ap number_of (sym e) ∙ found.0; low = found.1; high = found.2 }
 
-pub no_number_word : (least greatest : ℕ) (word bytes : List ℕ) (r : Option ℕ) → bytes ≡ word → r ≡ number_within least greatest (number_of bytes) → r ≡ None → (m : ℕ) → ¬ IsNumberWord least greatest word m
+pub no_number_word : (least greatest : ℕ) (word bytes : List ℕ) (r : Option ℕ)
+    → bytes ≡ word → r ≡ number_within least greatest (number_of bytes) → r ≡ None → (m : ℕ) → ¬ IsNumberWord least greatest word m
 no_number_word least greatest word bytes r e reads is m h =
-    let there : number_within least greatest (number_of bytes) ≡ Some m = ap (λ w. number_within least greatest (number_of w)) e ∙ ap (number_within least greatest) h.spelled ∙ within_there least greatest m h.low h.high in
+    let there : number_within least greatest (number_of bytes) ≡ Some m =
+    ap (λ w. number_within least greatest (number_of w)) e ∙ ap (number_within least greatest) h.spelled ∙ within_there least greatest m h.low h.high in
     none_is_not (sym is ∙ reads ∙ there)
   where
     none_is_not : {n : ℕ} → None ≡ Some n → ⊥
     none_is_not q = cc
 
 -- the text of a word that is to be a number, where it is short
-pub number_then-short : (place least greatest : ℕ) (word bytes later : List ℕ) (r : Option ℕ) → length word < PLACES → bytes ≡ word → r ≡ number_within least greatest (number_of bytes) → number_then place least greatest word later ≡ text_of_number place least greatest r later
+pub number_then-short : (place least greatest : ℕ) (word bytes later : List ℕ) (r : Option ℕ) → length word < PLACES → bytes ≡ word
+    → r ≡ number_within least greatest (number_of bytes) → number_then place least greatest word later ≡ text_of_number place least greatest r later
 number_then-short place least greatest word bytes later r short e reads =
     ap (λ b. if b then text_of_number place least greatest (number_within least greatest (number_of word)) later else misfit_text) (lt-ltb (length word) PLACES short)
     ∙ ap (λ w. text_of_number place least greatest (number_within least greatest (number_of w)) later) (sym e)
@@ -65,7 +71,8 @@ refuses_name name count start first misfit (text, none) same =
     no_trial : (trial : Trial) → ¬ AsksForTrial (trial_word ∷ name ∷ count ∷ start ∷ []) trial
     no_trial trial h = none trial.class (subst (λ w. IsNameWord w trial.class) (same_words h.form).0 h.class)
 
-pub refuses_count : (name count start : List ℕ) (first misfit : Misfit) → ((later : List ℕ) → name_then 2 name later ≡ later) → ReadsNumber 1 MOST_JOBS count 3 (Err first) → misfit ≡ first → ReadsTrial (name ∷ count ∷ start ∷ []) (Err misfit)
+pub refuses_count : (name count start : List ℕ) (first misfit : Misfit) → ((later : List ℕ) → name_then 2 name later ≡ later)
+    → ReadsNumber 1 MOST_JOBS count 3 (Err first) → misfit ≡ first → ReadsTrial (name ∷ count ∷ start ∷ []) (Err misfit)
 refuses_count name count start first misfit named (text, none) same =
     let P : Misfit → Type 0 = λ m. ReadsTrial (name ∷ count ∷ start ∷ []) (Err m) in
     let seeds : List ℕ = number_then 4 0 GREATEST_SEED start misfit_text in
@@ -74,7 +81,8 @@ refuses_count name count start first misfit named (text, none) same =
     no_trial : (trial : Trial) → ¬ AsksForTrial (trial_word ∷ name ∷ count ∷ start ∷ []) trial
     no_trial trial h = none trial.jobs (subst (λ w. IsNumberWord 1 MOST_JOBS w trial.jobs) (same_words h.form).1 h.jobs)
 
-pub refuses_start : (name count start : List ℕ) (first misfit : Misfit) → ((later : List ℕ) → name_then 2 name later ≡ later) → ((later : List ℕ) → number_then 3 1 MOST_JOBS count later ≡ later) → ReadsNumber 0 GREATEST_SEED start 4 (Err first) → misfit ≡ first → ReadsTrial (name ∷ count ∷ start ∷ []) (Err misfit)
+pub refuses_start : (name count start : List ℕ) (first misfit : Misfit) → ((later : List ℕ) → name_then 2 name later ≡ later)
+    → ((later : List ℕ) → number_then 3 1 MOST_JOBS count later ≡ later) → ReadsNumber 0 GREATEST_SEED start 4 (Err first) → misfit ≡ first → ReadsTrial (name ∷ count ∷ start ∷ []) (Err misfit)
 refuses_start name count start first misfit named counted (text, none) same =
     let P : Misfit → Type 0 = λ m. ReadsTrial (name ∷ count ∷ start ∷ []) (Err m) in
     let seeds : List ℕ = number_then 4 0 GREATEST_SEED start misfit_text in
@@ -83,7 +91,8 @@ refuses_start name count start first misfit named counted (text, none) same =
     no_trial : (trial : Trial) → ¬ AsksForTrial (trial_word ∷ name ∷ count ∷ start ∷ []) trial
     no_trial trial h = none trial.seed (subst (λ w. IsNumberWord 0 GREATEST_SEED w trial.seed) (same_words h.form).2 h.seed)
 
-pub reads_three : {X : Type 0} (f : X → List ℕ) (xs : List X) (x y z : X) (name count start : List ℕ) (r : Result Trial Misfit) → length xs ≡ 3 → x ≡ get_or xs 0 x → y ≡ get_or xs 1 y → z ≡ get_or xs 2 z → name ≡ f x → count ≡ f y → start ≡ f z →
+pub reads_three : {X : Type 0} (f : X → List ℕ) (xs : List X) (x y z : X) (name count start : List ℕ) (r : Result Trial Misfit)
+    → length xs ≡ 3 → x ≡ get_or xs 0 x → y ≡ get_or xs 1 y → z ≡ get_or xs 2 z → name ≡ f x → count ≡ f y → start ≡ f z →
     ReadsTrial (name ∷ count ∷ start ∷ []) r → ReadsTrial (map f xs) r
 reads_three f [] x y z name count start r l i j k p q s h = absurd (omega (arith, l))
 reads_three f (a ∷ []) x y z name count start r l i j k p q s h = absurd (omega (arith, l))

@@ -1,5 +1,6 @@
 -- The texts for words that are no names.
-use Rattle.std.proofs.Common.{◌≡◌, ℕ, zero, suc, ◌+◌, ◌<◌, ◌≤◌, ◌-◌, true, false, List, [], ◌∷◌, ◌++◌, length, get_or, take, drop, map, Option, Some, None, Result, Ok, Err, if◌then◌else◌, ◌↔◌, refl, sym, ap, ◌∙◌, subst, codes, bytes_eq, arith}
+use Rattle.std.proofs.Common.{◌≡◌, ℕ, zero, suc, ◌+◌, ◌<◌, ◌≤◌, ◌-◌, true, false, List, [], ◌∷◌, ◌++◌, length, get_or, take, drop, map, Option, Some, None, Result, Ok, Err}
+use Rattle.std.proofs.Common.{if◌then◌else◌, ◌↔◌, refl, sym, ap, ◌∙◌, subst, codes, bytes_eq, arith}
 use Rattle.std.specs.List.{AllZip}
 use Rattle.std.proofs.Math.Seq.{drop-cons}
 use Rattle.std.proofs.lemmas.List.{get_or-map, take_more, take_all, length-map, length-drop}
@@ -25,7 +26,8 @@ use Rattle.msp_top.specs.Words.{AsksForLabels, ReadsWords, ReadsName, AreNames, 
 pub name_then-short : (place : ℕ) (word later : List ℕ) → length word < PLACES → name_then place word later ≡ text_of_reading place (reading_of word) later
 name_then-short place word later short = ap (λ b. if b then text_of_reading place (reading_of word) later else misfit_text) (lt-ltb (length word) PLACES short)
 
-pub name_then-fault : (place : ℕ) (word bytes later : List ℕ) (r : Result Class NameFault) (fault : NameFault) → length word < PLACES → bytes ≡ word → r ≡ reading_of bytes → r ≡ Err fault → misspelled_text place fault ≡ name_then place word later
+pub name_then-fault : (place : ℕ) (word bytes later : List ℕ) (r : Result Class NameFault) (fault : NameFault)
+    → length word < PLACES → bytes ≡ word → r ≡ reading_of bytes → r ≡ Err fault → misspelled_text place fault ≡ name_then place word later
 name_then-fault place word bytes later r fault short e reads is =
     sym (name_then-short place word later short ∙ ap (λ s. text_of_reading place s later) (ap reading_of (sym e) ∙ sym reads ∙ is))
 
@@ -65,8 +67,10 @@ pub HasNames-next : {X : Type 0} (f : X → List ℕ) (xs : List X) (k : ℕ) (x
     ((later : List ℕ) → name_then (k + 2) word later ≡ later) → HasNames (map f xs) k → HasNames (map f xs) (k + 1)
 HasNames-next f xs k x word c l is e named step h = record {
   classes = h.classes ++ c ∷ [];
-  front = subst (λ ws. AllZip IsNameWord ws (h.classes ++ c ∷ [])) (sym (front_at f xs k x l is)) (AllZip-more IsNameWord (take k (map f xs)) h.classes (f x) c h.front (subst (λ w. IsNameWord w c) e named));
-  text = h.text ∙ ap (names_text (k + 2)) (rest_at f xs k x l is) ∙ ap (λ w. names_text (k + 2) (w ∷ drop (k + 1) (map f xs))) (sym e) ∙ step (names_text ((k + 2) + 1) (drop (k + 1) (map f xs))) ∙ ap (λ n. names_text n (drop (k + 1) (map f xs))) (places k);
+  front = subst (λ ws. AllZip IsNameWord ws (h.classes ++ c ∷ []))
+      (sym (front_at f xs k x l is)) (AllZip-more IsNameWord (take k (map f xs)) h.classes (f x) c h.front (subst (λ w. IsNameWord w c) e named));
+  text = h.text ∙ ap (names_text (k + 2)) (rest_at f xs k x l is) ∙ ap (λ w. names_text (k + 2) (w ∷ drop (k + 1) (map f xs))) (sym e)
+      ∙ step (names_text ((k + 2) + 1) (drop (k + 1) (map f xs))) ∙ ap (λ n. names_text n (drop (k + 1) (map f xs))) (places k);
 }
   where
     places : (k : ℕ) → (k + 2) + 1 ≡ (k + 1) + 2
@@ -85,7 +89,8 @@ not_all_names f xs k x word l is e no_name classes h =
     no_name at.0 (subst (λ w. IsNameWord w at.0) (word_at f xs k x l is ∙ sym e) at.1)
 
 -- ---- the classes of names
-pub classes_more : {X : Type 0} (f : X → List ℕ) (xs : List X) (k : ℕ) (x : X) (word : List ℕ) (c : Class) (before after : List Class) → k < length xs → x ≡ get_or xs k x → word ≡ f x → IsNameWord word c → after ≡ before ++ c ∷ [] →
+pub classes_more : {X : Type 0} (f : X → List ℕ) (xs : List X) (k : ℕ) (x : X) (word : List ℕ) (c : Class) (before after : List Class)
+    → k < length xs → x ≡ get_or xs k x → word ≡ f x → IsNameWord word c → after ≡ before ++ c ∷ [] →
     AllZip IsNameWord (take k (map f xs)) before → AllZip IsNameWord (take (k + 1) (map f xs)) after
 classes_more f xs k x word c before after l is e named grown h =
     subst (λ cs. AllZip IsNameWord (take (k + 1) (map f xs)) cs) (sym grown)
@@ -99,13 +104,15 @@ pub are_names : (words : List (List ℕ)) (k : ℕ) (done : Unit {0}) → k ≡ 
 are_names words k done all h = (h.classes, all_classes words k h.classes all h.front)
 
 -- a word that is no name
-pub refuses_names : (words : List (List ℕ)) (first why : Misfit) → usage_note first ≡ names_text 2 words → ((classes : List Class) → ¬ AllZip IsNameWord words classes) → why ≡ first → AreNames words (Err why)
+pub refuses_names : (words : List (List ℕ)) (first why : Misfit)
+    → usage_note first ≡ names_text 2 words → ((classes : List Class) → ¬ AllZip IsNameWord words classes) → why ≡ first → AreNames words (Err why)
 refuses_names words first why text none is =
     let Q : Misfit → Type 0 = λ r. AreNames words (Err r) in
     subst Q (sym is) (none, text)
 
 -- a word that is refused is no name
-pub no_name_word : (word bytes : List ℕ) (r : Result Class NameFault) (fault : NameFault) → bytes ≡ word → r ≡ Err fault → ((c : Class) → (r ≡ Ok c) ↔ NameOf bytes c) → (c : Class) → ¬ IsNameWord word c
+pub no_name_word : (word bytes : List ℕ) (r : Result Class NameFault) (fault : NameFault)
+    → bytes ≡ word → r ≡ Err fault → ((c : Class) → (r ≡ Ok c) ↔ NameOf bytes c) → (c : Class) → ¬ IsNameWord word c
 no_name_word word bytes r fault e is named c h = ok_is_not_err (sym ((named c).1 (subst (λ w. NameOf w c) (sym e) h.named)) ∙ is)
   where
     ok_is_not_err : {d : Class} {f : NameFault} → Ok d ≡ Err f → ⊥
@@ -191,21 +198,33 @@ nothing_asked = record {
 -- ---- what the words after the first are decides what all words are
 
 reads_label_misfit : (names : List (List ℕ)) → ((classes : List Class) → ¬ AllZip IsNameWord names classes) → Misfits (label_word ∷ names)
-reads_label_misfit names none = record { no_command = no_command; no_rows = λ h. not_word label_word rows_word refl (cons_heads h); no_trial = λ trial h. not_word label_word trial_word refl (cons_heads h.form) }
+reads_label_misfit names none = record {
+  no_command = no_command;
+  no_rows = λ h. not_word label_word rows_word refl (cons_heads h);
+  no_trial = λ trial h. not_word label_word trial_word refl (cons_heads h.form);
+}
   where
     no_command : (command : Command) → ¬ Asks (label_word ∷ names) command
     no_command (Answer (Label classes)) (others, h, zip) = none classes (subst (λ ws. AllZip IsNameWord ws classes) (sym (cons_tails h)) zip)
     no_command command h = not_word label_word (first_word command) refl (begins _ _ command h)
 
 reads_why_misfit : (words : List (List ℕ)) → ((name : List ℕ) (class : Class) → words ≡ name ∷ [] → ¬ IsNameWord name class) → Misfits (why_word ∷ words)
-reads_why_misfit words none = record { no_command = no_command; no_rows = λ h. not_word why_word rows_word refl (cons_heads h); no_trial = λ trial h. not_word why_word trial_word refl (cons_heads h.form) }
+reads_why_misfit words none = record {
+  no_command = no_command;
+  no_rows = λ h. not_word why_word rows_word refl (cons_heads h);
+  no_trial = λ trial h. not_word why_word trial_word refl (cons_heads h.form);
+}
   where
     no_command : (command : Command) → ¬ Asks (why_word ∷ words) command
     no_command (Answer (Why class)) (name, h, named) = none name class (cons_tails h) named
     no_command command h = not_word why_word (first_word command) refl (begins _ _ command h)
 
 reads_solve_misfit : (options : List (List ℕ)) → ((at : Option Class) → ¬ Asks (solve_word ∷ options) (Solve at)) → Misfits (solve_word ∷ options)
-reads_solve_misfit options none = record { no_command = no_command; no_rows = λ h. not_word solve_word rows_word refl (cons_heads h); no_trial = λ trial h. not_word solve_word trial_word refl (cons_heads h.form) }
+reads_solve_misfit options none = record {
+  no_command = no_command;
+  no_rows = λ h. not_word solve_word rows_word refl (cons_heads h);
+  no_trial = λ trial h. not_word solve_word trial_word refl (cons_heads h.form);
+}
   where
     no_command : (command : Command) → ¬ Asks (solve_word ∷ options) command
     no_command (Solve at) h = none at h
@@ -230,7 +249,8 @@ pub label_words_some : {X : Type 0} (f : X → List ℕ) (xs : List X) → AsksF
 label_words_some f [] (classes, (names, h, zip)) = let e : [] ≡ label_word ∷ names = h in none_is_some e
 label_words_some f (x ∷ xs) h = omega arith
 
-pub label_asks : {X : Type 0} (f : X → List ℕ) (xs : List X) (classes : List Class) → AsksForLabels (map f xs) → AllZip IsNameWord (map f (drop 1 xs)) classes → Asks (map f xs) (Answer (Label classes))
+pub label_asks : {X : Type 0} (f : X → List ℕ) (xs : List X) (classes : List Class)
+    → AsksForLabels (map f xs) → AllZip IsNameWord (map f (drop 1 xs)) classes → Asks (map f xs) (Answer (Label classes))
 label_asks f [] classes (others, (names, h, zip)) read = let e : [] ≡ label_word ∷ names = h in none_is_some e
 label_asks f (x ∷ xs) classes (others, (names, h, zip)) read = (map f xs, ap (λ w. w ∷ map f xs) (cons_heads h), read)
 
@@ -265,7 +285,8 @@ map_none f [] e = refl
 map_none f (x ∷ xs) e = cc
 
 -- a first word that is none of those that stand alone, or that has words behind it
-pub none_alone : {X : Type 0} (f : X → List ℕ) (word : List ℕ) (xs : List X) → ¬ ((word ≡ frontier_word) × (xs ≡ [])) → ¬ ((word ≡ certify_word) × (xs ≡ [])) → ¬ ((word ≡ check_word) × (xs ≡ [])) → ¬ ((word ≡ accept_word) × (xs ≡ [])) → ¬ ((word ≡ rows_word) × (xs ≡ [])) → AreNoneAlone (word ∷ map f xs)
+pub none_alone : {X : Type 0} (f : X → List ℕ) (word : List ℕ) (xs : List X) → ¬ ((word ≡ frontier_word) × (xs ≡ [])) → ¬ ((word ≡ certify_word) × (xs ≡ []))
+    → ¬ ((word ≡ check_word) × (xs ≡ [])) → ¬ ((word ≡ accept_word) × (xs ≡ [])) → ¬ ((word ≡ rows_word) × (xs ≡ [])) → AreNoneAlone (word ∷ map f xs)
 none_alone f word xs frontier certify check accept rows = record {
   no_frontier = λ h. frontier (cons_heads h, map_none f xs (cons_tails h));
   no_certify = λ h. certify (cons_heads h, map_none f xs (cons_tails h));
@@ -275,7 +296,8 @@ none_alone f word xs frontier certify check accept rows = record {
 }
 
 -- words that do not stand alone, and of which the first is none of those that other words follow
-pub refuses_all : (word : List ℕ) (words : List (List ℕ)) (misfit why : Misfit) → bytes_eq word label_word ≡ false → bytes_eq word why_word ≡ false → bytes_eq word solve_word ≡ false → bytes_eq word trial_word ≡ false →
+pub refuses_all : (word : List ℕ) (words : List (List ℕ)) (misfit why : Misfit)
+    → bytes_eq word label_word ≡ false → bytes_eq word why_word ≡ false → bytes_eq word solve_word ≡ false → bytes_eq word trial_word ≡ false →
     ReadsAlone (word ∷ words) (Err misfit) → why ≡ misfit → ReadsWords (word ∷ words) (Err why)
 refuses_all word words misfit why label why_not solve trial_not (none, form) is =
     let Q : Misfit → Type 0 = λ r. ReadsWords (word ∷ words) (Err r) in
@@ -307,9 +329,11 @@ refuses_all word words misfit why label why_not solve trial_not (none, form) is 
     after_label = if bytes_eq word why_word then name_text words else after_why
 
     text : later_text word words ≡ misfit_text
-    text = ap (λ b. if b then names_text 2 words else after_label) label ∙ ap (λ b. if b then name_text words else after_why) why_not ∙ ap (λ b. if b then option_text words else after_solve) solve ∙ ap (λ b. if b then trial_text words else misfit_text) trial_not
+    text = ap (λ b. if b then names_text 2 words else after_label) label ∙ ap (λ b. if b then name_text words else after_why) why_not
+        ∙ ap (λ b. if b then option_text words else after_solve) solve ∙ ap (λ b. if b then trial_text words else misfit_text) trial_not
 
-pub reads_all : (word : List ℕ) (words : List (List ℕ)) (r : Result Request Misfit) → bytes_eq word label_word ≡ false → bytes_eq word why_word ≡ false → bytes_eq word solve_word ≡ false → bytes_eq word trial_word ≡ false →
+pub reads_all : (word : List ℕ) (words : List (List ℕ)) (r : Result Request Misfit)
+    → bytes_eq word label_word ≡ false → bytes_eq word why_word ≡ false → bytes_eq word solve_word ≡ false → bytes_eq word trial_word ≡ false →
     ReadsAlone (word ∷ words) r → ReadsWords (word ∷ words) r
 reads_all word words (Ok request) label why_not solve trial_not h = h
 reads_all word words (Err misfit) label why_not solve trial_not h = refuses_all word words misfit misfit label why_not solve trial_not h refl
@@ -322,7 +346,8 @@ tail_of f (y ∷ ys) x l is = ap (λ z. f z ∷ map f ys) (sym is)
 pub rest_part : {X : Type 0} (d xs : List X) → d ≡ xs → take (length d - 1) (drop 1 d) ≡ drop 1 xs
 rest_part d xs e = take_all (length d - 1) (drop 1 d) (omega (arith, length-drop 1 d)) ∙ ap (drop 1) e
 
-pub reads_part : {X : Type 0} (f : X → List ℕ) (xs part : List X) (x : X) (word : List ℕ) (r : Result Request Misfit) → 0 < length xs → x ≡ get_or xs 0 x → word ≡ f x → part ≡ drop 1 xs → ReadsWords (word ∷ map f part) r → ReadsWords (map f xs) r
+pub reads_part : {X : Type 0} (f : X → List ℕ) (xs part : List X) (x : X) (word : List ℕ) (r : Result Request Misfit)
+    → 0 < length xs → x ≡ get_or xs 0 x → word ≡ f x → part ≡ drop 1 xs → ReadsWords (word ∷ map f part) r → ReadsWords (map f xs) r
 reads_part f xs part x word r l is e cut h =
     subst (λ ws. ReadsWords ws r) (sym (tail_of f xs x l is)) (subst (λ p. ReadsWords (f x ∷ map f p) r) cut (subst (λ w. ReadsWords (w ∷ map f part) r) e h))
 
@@ -332,7 +357,8 @@ one_item f [] x word l is e = absurd (omega (arith, l))
 one_item f (a ∷ []) x word l is e = ap (λ w. w ∷ []) (ap f (sym is) ∙ sym e)
 one_item f (a ∷ b ∷ xs) x word l is e = absurd (omega (arith, l))
 
-pub reads_one : {X : Type 0} (f : X → List ℕ) (xs : List X) (x : X) (word : List ℕ) (r : Result Class Misfit) → length xs ≡ 1 → x ≡ get_or xs 0 x → word ≡ f x → ReadsName word 2 r → ReadsOneName (map f xs) r
+pub reads_one : {X : Type 0} (f : X → List ℕ) (xs : List X) (x : X) (word : List ℕ) (r : Result Class Misfit)
+    → length xs ≡ 1 → x ≡ get_or xs 0 x → word ≡ f x → ReadsName word 2 r → ReadsOneName (map f xs) r
 reads_one f xs x word r l is e h = let P : List (List ℕ) → Type 0 = λ ws. ReadsOneName ws r in subst P (sym (one_item f xs x word l is e)) (by_result r h)
   where
     by_result : (r : Result Class Misfit) → ReadsName word 2 r → ReadsOneName (word ∷ []) r
@@ -364,14 +390,16 @@ reads_at option name (Err misfit) e (text, none) = (no_class, text misfit_text �
     no_class None h = cc
     no_class (Some class) (other, h, named) = none class (subst (λ w. IsNameWord w class) (sym (cons_heads (cons_tails (cons_tails h)))) named)
 
-pub reads_at_part : {X : Type 0} (f : X → List ℕ) (xs : List X) (x y : X) (option name : List ℕ) (r : Result Class Misfit) → length xs ≡ 2 → x ≡ get_or xs 0 x → y ≡ get_or xs 1 y → option ≡ f x → name ≡ f y → option ≡ at_word → ReadsName name 3 r → ReadsOption (map f xs) (at_class r)
+pub reads_at_part : {X : Type 0} (f : X → List ℕ) (xs : List X) (x y : X) (option name : List ℕ) (r : Result Class Misfit) → length xs ≡ 2
+    → x ≡ get_or xs 0 x → y ≡ get_or xs 1 y → option ≡ f x → name ≡ f y → option ≡ at_word → ReadsName name 3 r → ReadsOption (map f xs) (at_class r)
 reads_at_part f [] x y option name r l first second p q e h = absurd (omega (arith, l))
 reads_at_part f (a ∷ []) x y option name r l first second p q e h = absurd (omega (arith, l))
 reads_at_part f (a ∷ b ∷ []) x y option name r l first second p q e h =
     subst (λ ws. ReadsOption ws (at_class r)) (ap (λ w. w ∷ name ∷ []) (p ∙ ap f first) ∙ ap (λ w. f a ∷ w ∷ []) (q ∙ ap f second)) (reads_at option name r e h)
 reads_at_part f (a ∷ b ∷ d ∷ xs) x y option name r l first second p q e h = absurd (omega (arith, l))
 
-pub refuses_at_part : {X : Type 0} (f : X → List ℕ) (xs : List X) (x y : X) (option name : List ℕ) (first misfit : Misfit) → length xs ≡ 2 → x ≡ get_or xs 0 x → y ≡ get_or xs 1 y → option ≡ f x → name ≡ f y → option ≡ at_word → ReadsName name 3 (Err first) → misfit ≡ first → ReadsOption (map f xs) (Err misfit)
+pub refuses_at_part : {X : Type 0} (f : X → List ℕ) (xs : List X) (x y : X) (option name : List ℕ) (first misfit : Misfit) → length xs ≡ 2 → x ≡ get_or xs 0 x
+    → y ≡ get_or xs 1 y → option ≡ f x → name ≡ f y → option ≡ at_word → ReadsName name 3 (Err first) → misfit ≡ first → ReadsOption (map f xs) (Err misfit)
 refuses_at_part f xs x y option name first misfit l a b p q e h same =
     let P : Misfit → Type 0 = λ m. ReadsOption (map f xs) (Err m) in
     subst P (sym same) (reads_at_part f xs x y option name (Err first) l a b p q e h)

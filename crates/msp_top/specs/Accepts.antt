@@ -23,6 +23,8 @@ pub data IsAcceptReport (i : Instance) (c : Certificate) : ℕ → List ℕ → 
 -- The outcome is right: a report on the certificate; the first fault of the text of the instance at the front; or the first fault of the
 -- rest as a text of a certificate. No class is refused.
 pub data AcceptIsRight (input : List ℕ) : Outcome → Type 0 where
-  judged : (filed : Filed) (c : Certificate) (line : ℕ) (rest : List ℕ) (status : ℕ) (text : List ℕ) → BeginsWith input filed line rest → IsCertificateText rest filed.names filed.instance.machines c → IsAcceptReport filed.instance c status text → AcceptIsRight input (report status text)
+  judged : (filed : Filed) (c : Certificate) (line : ℕ) (rest : List ℕ) (status : ℕ) (text : List ℕ) → BeginsWith input filed line rest
+      → IsCertificateText rest filed.names filed.instance.machines c → IsAcceptReport filed.instance c status text → AcceptIsRight input (report status text)
   misread_front : (fault : FileFault) → fault ≢ Memory → IsFrontFaultOf input fault → AcceptIsRight input (refusal (file_status fault) (file_text fault))
-  misread_rest : (filed : Filed) (line : ℕ) (rest : List ℕ) (fault : FileFault) → BeginsWith input filed line rest → fault ≢ Memory → IsCertificateFaultOf filed.names filed.instance.machines line rest fault → AcceptIsRight input (refusal (file_status fault) (file_text fault))
+  misread_rest : (filed : Filed) (line : ℕ) (rest : List ℕ) (fault : FileFault) → BeginsWith input filed line rest → fault ≢ Memory
+      → IsCertificateFaultOf filed.names filed.instance.machines line rest fault → AcceptIsRight input (refusal (file_status fault) (file_text fault))

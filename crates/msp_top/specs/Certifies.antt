@@ -29,4 +29,5 @@ pub record IsCertifyReport (input : List ℕ) (text : List ℕ) : Type 0 where
 pub data CertifyIsRight (input : List ℕ) : Outcome → Type 0 where
   certified : (text : List ℕ) → IsCertifyReport input text → CertifyIsRight input (report 0 text)
   misread : (fault : FileFault) → fault ≢ Memory → IsFaultOf input fault → CertifyIsRight input (refusal (file_status fault) (file_text fault))
-  uncertified : (names : List (List ℕ)) (instance : Instance) (why : Uncertified) → IsInstanceText input instance names → why ≢ NoMemory → IsUncertified instance why → CertifyIsRight input (refusal (uncertified_status why) (uncertified_text why))
+  uncertified : (names : List (List ℕ)) (instance : Instance) (why : Uncertified) → IsInstanceText input instance names
+      → why ≢ NoMemory → IsUncertified instance why → CertifyIsRight input (refusal (uncertified_status why) (uncertified_text why))

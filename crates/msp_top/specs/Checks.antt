@@ -13,7 +13,7 @@ use Rattle.msp_grammar.specs.InstanceText.{IsInstanceText}
 use Rattle.msp_grammar.specs.ScheduleText.{IsScheduleText}
 use Rattle.msp_grammar.specs.declared.lines.fault.FileFault.{FileFault}
 use Rattle.msp_grammar.specs.declared.lines.fault.FileFault.TheVariants.{Memory}
-use Rattle.msp_file.specs.declared.schedule.read.Stated.{Stated}
+use Rattle.msp_grammar.specs.declared.filed.Stated.{Stated}
 use Rattle.msp_file.specs.instance.Answers.{IsFrontFaultOf}
 use Rattle.msp_file.specs.schedule.Answers.{IsScheduleFaultOf}
 use Rattle.msp_grammar.specs.lines.Faults.{file_text}
@@ -45,7 +45,10 @@ pub record IsCheckReport (filed : Filed) (s : Stated) (text : List ℕ) : Type 0
 -- The outcome is right: a report on the schedule; the first fault of the text of the instance at the front; that no schedules of its
 -- class are checked; or the first fault of the rest as a text of a schedule.
 pub data CheckIsRight (input : List ℕ) : Outcome → Type 0 where
-  checked : (filed : Filed) (s : Stated) (line : ℕ) (rest : List ℕ) (status : ℕ) (text : List ℕ) → BeginsWith input filed line rest → ¬ IsCutOnUnrelated filed.instance.class → IsScheduleText rest filed.names s.schedule s.cost → HasCheckStatus filed.instance s status → IsCheckReport filed s text → CheckIsRight input (report status text)
+  checked : (filed : Filed) (s : Stated) (line : ℕ) (rest : List ℕ) (status : ℕ) (text : List ℕ) → BeginsWith input filed line rest → ¬ IsCutOnUnrelated filed.instance.class
+      → IsScheduleText rest filed.names s.schedule s.cost → HasCheckStatus filed.instance s status → IsCheckReport filed s text → CheckIsRight input (report status text)
   misread_front : (fault : FileFault) → fault ≢ Memory → IsFrontFaultOf input fault → CheckIsRight input (refusal (file_status fault) (file_text fault))
-  unchecked : (filed : Filed) (line : ℕ) (rest : List ℕ) → BeginsWith input filed line rest → IsCutOnUnrelated filed.instance.class → CheckIsRight input (refusal 5 (unchecked_text filed.instance.class))
-  misread_rest : (filed : Filed) (line : ℕ) (rest : List ℕ) (fault : FileFault) → BeginsWith input filed line rest → ¬ IsCutOnUnrelated filed.instance.class → fault ≢ Memory → IsScheduleFaultOf filed.names line rest fault → CheckIsRight input (refusal (file_status fault) (file_text fault))
+  unchecked : (filed : Filed) (line : ℕ) (rest : List ℕ)
+      → BeginsWith input filed line rest → IsCutOnUnrelated filed.instance.class → CheckIsRight input (refusal 5 (unchecked_text filed.instance.class))
+  misread_rest : (filed : Filed) (line : ℕ) (rest : List ℕ) (fault : FileFault) → BeginsWith input filed line rest → ¬ IsCutOnUnrelated filed.instance.class
+      → fault ≢ Memory → IsScheduleFaultOf filed.names line rest fault → CheckIsRight input (refusal (file_status fault) (file_text fault))

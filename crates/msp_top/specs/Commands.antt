@@ -5,7 +5,7 @@ use Rattle.msp_class.specs.declared.list.TheConstants.{PLACES}
 use Rattle.msp_class.specs.declared.class.Class.{Class}
 use Rattle.msp_name.specs.Names.{NameOf}
 use Rattle.msp_text.specs.Numbers.{number_of}
-use Rattle.msp_instance.specs.declared.ranges.TheConstants.{MOST_JOBS}
+use Rattle.msp_class.specs.declared.sizes.TheConstants.{MOST_JOBS}
 use Rattle.msp_top.specs.declared.command.TheConstants.{GREATEST_SEED}
 use Rattle.msp_top.specs.declared.command.Command.{Command}
 use Rattle.msp_top.specs.declared.command.Command.TheVariants.{Solve, Certify, Check, Accept, Answer}

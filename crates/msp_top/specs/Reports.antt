@@ -79,5 +79,6 @@ IsReportOn (Why class) entries text = IsWhyReport class entries text
 -- The outcome is right for a question and a file of results: the report on the entries that the input lists, or the first fault of the
 -- results, which is a limit where a source is too long or the entries are too many.
 pub data ReadsResults (question : Question) (input : List ℕ) : Outcome → Type 0 where
-  reported : (entries : List Entry) (status : ℕ) (text : List ℕ) → ResultsOf input entries → HasClashStatus entries status → IsReportOn question entries text → ReadsResults question input (report status text)
+  reported : (entries : List Entry) (status : ℕ) (text : List ℕ)
+      → ResultsOf input entries → HasClashStatus entries status → IsReportOn question entries text → ReadsResults question input (report status text)
   misread : (fault : ResultFault) → fault ≢ Memory → results_of input ≡ Err fault → ReadsResults question input (refusal (results_status fault) (results_text fault))

@@ -6,7 +6,7 @@ use Rattle.msp_class.specs.Rank.{rank_of}
 use Rattle.msp_results.specs.declared.fault.ResultFault.{ResultFault}
 use Rattle.msp_results.specs.declared.fault.ResultFault.TheVariants.{Long, Many, Memory}
 
--- A fault of the results is bad input, but for the two limits. Want of memory is no fault of theirs.
+-- A fault of the results is bad input, but for the two limits. Out of memory is no fault of theirs.
 abbrev pub results_status : ResultFault → ℕ
 results_status (Long at) = 4
 results_status Many = 4

@@ -35,7 +35,8 @@ pub record Passed : Type 1 where
   pub broke_off : List ℕ → Type 0
 
 -- What passed between two states of a source and two of a sink.
-abbrev pub passed_between : {S K : Type 0} → (S → S → List ℕ → Type 0) → (S → S → List ℕ → Type 0) → (S → S → List ℕ → Type 0) → (K → K → List ℕ → Type 0) → (K → K → List ℕ → Type 0) → S → S → K → K → Passed
+abbrev pub passed_between : {S K : Type 0} → (S → S → List ℕ → Type 0)
+    → (S → S → List ℕ → Type 0) → (S → S → List ℕ → Type 0) → (K → K → List ℕ → Type 0) → (K → K → List ℕ → Type 0) → S → S → K → K → Passed
 passed_between gave finished broke took broke_off source source_after out out_after = record {
   gave = gave source source_after;
   finished = finished source source_after;
@@ -71,7 +72,8 @@ pub data IsRight (command : Command) (input : List ℕ) : Outcome → Type 0 whe
 -- The report is right for the words: of the whole input, by a command that reads it to its end, or that of a trial or the table of rows,
 -- for which nothing is read.
 pub data IsRightReport (words : List (List ℕ)) (call : Passed) : ℕ → List ℕ → Type 0 where
-  of_input : (command : Command) (input : List ℕ) (status : ℕ) (text : List ℕ) → Asks words command → call.finished input → IsRight command input (report status text) → IsRightReport words call status text
+  of_input : (command : Command) (input : List ℕ) (status : ℕ) (text : List ℕ)
+      → Asks words command → call.finished input → IsRight command input (report status text) → IsRightReport words call status text
   of_trial : (trial : Trial) (status : ℕ) (text : List ℕ) → AsksForTrial words trial → TrialIsRight trial (report status text) → IsRightReport words call status text
   of_rows : AsksForRows words → IsRightReport words call 0 rows_report
 
@@ -91,7 +93,8 @@ pub record BreaksOff (words : List (List ℕ)) (call : Passed) : Type 0 where
 -- The status and the note are the right refusal of the whole input, by a command that the words ask for, or that of a trial. An input is too
 -- long exactly where one byte more than the limit was read, and then no more is.
 pub data Refuses (words : List (List ℕ)) (call : Passed) : ℕ → List ℕ → Type 0 where
-  input_refused : (command : Command) (input : List ℕ) (status : ℕ) (note : List ℕ) → Asks words command → call.finished input → length input ≤ limit_of command → IsRightWithin command input (refusal status note) → Refuses words call status note
+  input_refused : (command : Command) (input : List ℕ) (status : ℕ) (note : List ℕ) → Asks words command
+      → call.finished input → length input ≤ limit_of command → IsRightWithin command input (refusal status note) → Refuses words call status note
   past_the_limit : (command : Command) (taken : List ℕ) → Asks words command → call.gave taken → length taken ≡ limit_of command + 1 → Refuses words call 4 (too_long_text (limit_of command))
   trial_refused : (trial : Trial) (status : ℕ) (note : List ℕ) → AsksForTrial words trial → TrialIsRight trial (refusal status note) → Refuses words call status note
 
@@ -149,7 +152,8 @@ pub record IsServed (words : List (List ℕ)) (call : Passed) (told : List ℕ �
 
 -- What a call of `run` leaves, and one of `run_on_streams`: of the words, of what passed, of the notes that were told, of a source and a sink
 -- of the report that contracts see so, of the sink of the notes, each before and after the call, and of the status.
-pub record Leaves {S K E : Type 0} (words : List (List ℕ)) (call : Passed) (told : List ℕ → Type 0) (seen : S → SourceView) (source source_after : S) (seen_out : K → SinkView) (out out_after : K) (notes notes_after : E) (status : ℕ) : Type 0 where
+pub record Leaves {S K E : Type 0} (words : List (List ℕ)) (call : Passed) (told : List ℕ → Type 0)
+    (seen : S → SourceView) (source source_after : S) (seen_out : K → SinkView) (out out_after : K) (notes notes_after : E) (status : ℕ) : Type 0 where
   -- What the status says of the words and of what passed, and which note it has.
   pub served : IsServed words call told status
   -- Nothing is read where the words fit no command, statuses other than 0, 1 and 8 leave the sink of the report as it was, and those below 2
@@ -162,10 +166,10 @@ pub record Leaves {S K E : Type 0} (words : List (List ℕ)) (call : Passed) (to
   pub write_fault : status ≡ 8 → Rose (seen_out out).faults (seen_out out_after).faults
   -- The table of rows takes no memory, and nothing is read for it: it is written, or the sink failed.
   pub rows : AsksForRows words → (source_after ≡ source) × ((status ≡ 0) ⊎ (status ≡ 8))
-  -- A trial reads nothing, so the source does not end it. Where the sink has no new fault it ends as is due, or for want of memory.
+  -- A trial reads nothing, so the source does not end it. Where the sink has no new fault it ends as is due, or when out of memory.
   pub trial : (trial : Trial) → AsksForTrial words trial
       → (source_after ≡ source) × (status ≢ 7) × (¬ Rose (seen_out out).faults (seen_out out_after).faults → (status ≡ 9) ⊎ IsTrialDue trial status)
-  -- Words that fit and no new fault give the status that the whole input is due, or want of memory. Where the source tells its bytes, that
+  -- Words that fit and no new fault give the status that the whole input is due, or out of memory. Where the source tells its bytes, that
   -- input is all that was left.
   pub completeness : (command : Command) → Asks words command
       → ¬ Rose (seen source).faults (seen source_after).faults → ¬ Rose (seen_out out).faults (seen_out out_after).faults

@@ -30,4 +30,5 @@ pub record IsSolveReport (input : List ℕ) (at : Option Class) (text : List ℕ
 pub data SolveIsRight (input : List ℕ) (at : Option Class) : Outcome → Type 0 where
   solved : (text : List ℕ) → IsSolveReport input at text → SolveIsRight input at (report 0 text)
   misread : (fault : FileFault) → fault ≢ Memory → IsFaultOf input fault → SolveIsRight input at (refusal (file_status fault) (file_text fault))
-  unsolved : (names : List (List ℕ)) (instance : Instance) (cannot : Cannot) → IsInstanceText input instance names → cannot ≢ NoMemory → IsFault instance at cannot → SolveIsRight input at (refusal (cannot_status cannot) (cannot_text cannot))
+  unsolved : (names : List (List ℕ)) (instance : Instance) (cannot : Cannot) → IsInstanceText input instance names
+      → cannot ≢ NoMemory → IsFault instance at cannot → SolveIsRight input at (refusal (cannot_status cannot) (cannot_text cannot))

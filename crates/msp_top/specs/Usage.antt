@@ -7,7 +7,7 @@ use Rattle.msp_name.specs.declared.fault.NameFault.{NameFault}
 use Rattle.msp_name.specs.Reading.{reading_of}
 use Rattle.msp_name.specs.Faults.{fault_text}
 use Rattle.msp_text.specs.Numbers.{number_of}
-use Rattle.msp_instance.specs.declared.ranges.TheConstants.{MOST_JOBS}
+use Rattle.msp_class.specs.declared.sizes.TheConstants.{MOST_JOBS}
 use Rattle.msp_top.specs.declared.command.TheConstants.{GREATEST_SEED}
 
 abbrev pub misfit_text : List ℕ

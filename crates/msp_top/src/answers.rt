@@ -11,7 +11,7 @@ use crate::command::Command;
 use crate::questions::answer_question;
 use crate::refusal::Refusal;
 use crate::solves::solve_answer;
-use msp_file::MOST_BYTES;
+use msp_grammar::MOST_BYTES;
 use msp_results::LONGEST_FILE;
 use std::alloc::Global;
 

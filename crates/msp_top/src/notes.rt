@@ -10,7 +10,7 @@ ghost use Rattle.msp_top.specs.Cannots.{cannot_text, uncertified_text};
 use crate::words::Misfit;
 use msp_class::Class;
 use msp_dispatch::{Cannot, Uncertified};
-use msp_file::FileFault;
+use msp_grammar::FileFault;
 use msp_io::{Sink, WriteFault, write_all};
 use msp_name::{NameFault, print};
 use msp_results::ResultFault;

@@ -12,7 +12,7 @@ use crate::statuses::{
 use crate::words::Misfit;
 use msp_class::{Class, NoMemory};
 use msp_dispatch::{Cannot, Uncertified};
-use msp_file::FileFault;
+use msp_grammar::FileFault;
 use msp_io::{Taken, WriteFault};
 use msp_results::ResultFault;
 

@@ -88,7 +88,7 @@ fn perform<S: Source, K: Sink>(
 /// has another cost, or the certificate is not accepted, 2 where the words fit no command, 3 where the input has a fault, 4 where it
 /// breaks a limit or that of the solver, 5 where there is no solver or no certificate for the class of the instance or its schedules
 /// are not checked, 6 where the named class has no solver or no chain leads to it, 7 and 8 where the source or `out` failed, and 9
-/// for want of memory.
+/// when out of memory.
 pub fn run<S: Source, K: Sink, E: Sink>(
     alloc: Global,
     words: &Vec<String>,

@@ -6,6 +6,7 @@ ghost use Rattle.msp_top.specs.Words.{ReadsNumber, ReadsTrial};
 
 use crate::command::{GREATEST_SEED, Trial};
 use crate::words::{Misfit, read_name};
+use msp_class::PLACES;
 use msp_instance::MOST_JOBS;
 use msp_text::read_number;
 
@@ -27,7 +28,7 @@ fn read_in_range(word: &str, place: u64, least: u32, greatest: u32) -> Result<u3
     ensures read { ReadsNumber least greatest word.now place result }
     ensures later { IfOk result (λ _. (later : List ℕ) → number_then place least greatest word.now later ≡ later) }
 {
-    if word.len() as u64 >= 1 << 32 {
+    if word.len() >= PLACES {
         return Err(Misfit::Form);
     }
     match number_within(word.as_bytes(), least, greatest) {

@@ -9,7 +9,7 @@ ghost use Rattle.msp_top.specs.Words.{AsksForLabels, ReadsWords, ReadsName, AreN
 
 use crate::command::{Command, Question, Request};
 use crate::trial_words::read_trial;
-use msp_class::{Class, List, NoMemory};
+use msp_class::{Class, List, NoMemory, PLACES};
 use msp_name::{NameFault, parse};
 use std::alloc::Global;
 
@@ -36,7 +36,7 @@ pub fn read_name(word: &str, place: u64) -> Result<Class, Misfit>
     ensures read { ReadsName word.now place result }
     ensures later { IfOk result (λ _. (later : Items ℕ) → name_then place word.now later ≡ later) }
 {
-    if word.len() as u64 >= 1 << 32 {
+    if word.len() >= PLACES {
         return Err(Misfit::Form);
     }
     match parse(word.as_bytes()) {

@@ -1,5 +1,6 @@
 -- Steps of the loops over times, and over jobs and their columns.
-use Rattle.std.proofs.Common.{◌≡◌, ℕ, ◌+◌, ◌*◌, ◌-◌, ◌/◌, ◌%◌, ◌<◌, ◌≤◌, ◌^◌, Bool, true, false, eqb, leb, List, [], ◌∷◌, ◌++◌, length, get_or, map, All, IsPermutation, refl, sym, ap, subst, ◌∙◌, arith}
+use Rattle.std.proofs.Common.{◌≡◌, ℕ, ◌+◌, ◌*◌, ◌-◌, ◌/◌, ◌%◌, ◌<◌, ◌≤◌, ◌^◌, Bool, true, false, eqb, leb, List, [], ◌∷◌, ◌++◌, length, get_or, map, All, IsPermutation, refl, sym}
+use Rattle.std.proofs.Common.{ap, subst, ◌∙◌, arith}
 use Rattle.std.specs.Prelude.{slice_index_or}
 use Rattle.std.specs.List.{range_with_len}
 use Rattle.std.specs.List.Sorted.{IsNonDecreasingBy}
@@ -9,6 +10,7 @@ use Rattle.std.proofs.lemmas.List.{get_or_default, get_or-append_right, get_or_a
 use Rattle.std.proofs.lemmas.List.Elements.{All-push}
 use Rattle.std.proofs.lemmas.List.Sorted.{IsPermutation-map, All-permutation}
 use Rattle.std.proofs.Math.Nat.{mul-le-mul_right, mod-lt, div-mul-le_self}
+use Rattle.msp_class.specs.declared.sizes.TheConstants.{MOST_JOBS, GREATEST}
 use Rattle.msp_class.proofs.IntegerRing.{pos-le}
 use Rattle.msp_instance.specs.declared.Job.{Job}
 use Rattle.msp_instance.specs.declared.Need.{Need}
@@ -22,7 +24,8 @@ use Rattle.msp_total.specs.Columns.{HasTimes, HasShortTimes, IsByColumn}
 
 -- ---- times
 -- the times of one job more
-pub times-next : (i : Instance) (jobs : List Job) (k : ℕ) (j : Job) (needs : List Need) (old new : List ℕ) → jobs ≡ i.jobs → k < length jobs → needs ≡ (get_or jobs k j).needs → length needs ≡ i.machines → new ≡ old ++ map (λ n. n.time) needs → HasTimes i k old → HasTimes i (k + 1) new
+pub times-next : (i : Instance) (jobs : List Job) (k : ℕ) (j : Job) (needs : List Need) (old new : List ℕ) → jobs ≡ i.jobs → k < length jobs
+    → needs ≡ (get_or jobs k j).needs → length needs ≡ i.machines → new ≡ old ++ map (λ n. n.time) needs → HasTimes i k old → HasTimes i (k + 1) new
 times-next i jobs k j needs old new e l is count all h = record {
   count = ap length all ∙ length-append old (map (λ n. n.time) needs) ∙ longer (length old) (length (map (λ (n : Need). n.time) needs)) k i.machines h.count (length-map needs (λ n. n.time) ∙ count);
   each = λ a m b c. by a m b c (eqb a k) refl;
@@ -57,7 +60,8 @@ times-next i jobs k j needs old new e l is count all h = record {
         inside : (a k m w : ℕ) → a < k → m < w → a * w + m < k * w
         inside a k m w p q = let s : (a + 1) * w ≤ k * w = mul-le-mul_right w (omega arith) in omega (arith, s)
 
-pub needs_count : (i : Instance) (jobs : List Job) (k : ℕ) (j : Job) (needs : List Need) → jobs ≡ i.jobs → k < length jobs → needs ≡ (get_or jobs k j).needs → ((a : ℕ) → a < length i.jobs → length (job_at i a).needs ≡ i.machines) → length needs ≡ i.machines
+pub needs_count : (i : Instance) (jobs : List Job) (k : ℕ) (j : Job) (needs : List Need) → jobs ≡ i.jobs
+    → k < length jobs → needs ≡ (get_or jobs k j).needs → ((a : ℕ) → a < length i.jobs → length (job_at i a).needs ≡ i.machines) → length needs ≡ i.machines
 needs_count i jobs k j needs e l is h = ap length (is ∙ ap (λ (x : Job). x.needs) (get_or_default jobs k j no_job l ∙ ap (λ xs. get_or xs k no_job) e)) ∙ h k (omega (arith, l, ap length e))
 
 -- ---- columns
@@ -70,16 +74,20 @@ machine_inside each machines c l = by (leb machines (c / each)) refl
     by false e = leb-false machines (c / each) e
 
 -- ---- costs of a table
-pub costs_small : (p : Positions) → (1 ≤ p.jobs) × (p.jobs ≤ 400) → HasShortTimes p → HasCosts p.jobs (p.jobs * p.machines) (position_cost p.jobs p.machines p.times)
-costs_small p h short r c l k = (pos-le none, pos-le (bound _ (mul-le (c % p.jobs + 1) (time_in p.machines p.times r (c / p.jobs)) 400 (1000000000 * 2 ^ 30) (rest (c % p.jobs) (mod-lt c h.0)) (short r (c / p.jobs) l (machine_inside p.jobs p.machines c k)))))
+pub costs_small : (p : Positions) → (1 ≤ p.jobs) × (p.jobs ≤ MOST_JOBS) → HasShortTimes p → HasCosts p.jobs (p.jobs * p.machines) (position_cost p.jobs p.machines p.times)
+costs_small p h short r c l k = (
+  pos-le none,
+  pos-le (bound _ (mul-le (c % p.jobs + 1) (time_in p.machines p.times r (c / p.jobs))
+      MOST_JOBS (GREATEST * 2 ^ 30) (rest (c % p.jobs) (mod-lt c h.0)) (short r (c / p.jobs) l (machine_inside p.jobs p.machines c k)))),
+)
   where
     none : 0 ≤ (c % p.jobs + 1) * time_in p.machines p.times r (c / p.jobs)
     none = omega arith
 
-    rest : (x : ℕ) → x < p.jobs → x + 1 ≤ 400
+    rest : (x : ℕ) → x < p.jobs → x + 1 ≤ MOST_JOBS
     rest x g = omega (arith, h.1)
 
-    bound : (x : ℕ) → x ≤ 400 * (1000000000 * 2 ^ 30) → x ≤ 2 ^ 100
+    bound : (x : ℕ) → x ≤ MOST_JOBS * (GREATEST * 2 ^ 30) → x ≤ 2 ^ 100
     bound x g = omega (arith, g)
 
 -- ---- jobs and columns
@@ -89,7 +97,8 @@ HasColumn column c = c.column ≡ column_of column c.job
 pub columns-next : (column : List ℕ) (new old : List Chosen) (x : Chosen) → new ≡ old ++ x ∷ [] → HasColumn column x → All (HasColumn column) old → All (HasColumn column) new
 columns-next column new old x e is so_far = subst (All (HasColumn column)) (sym e) (All-push (HasColumn column) old x so_far is)
 
-pub by_column : (column : List ℕ) (all sorted : List Chosen) → map (λ c. c.job) all ≡ range_with_len 0 (length column) → All (HasColumn column) all → IsPermutation all sorted → IsNonDecreasingBy (λ c. c.column) sorted → IsByColumn (length column) column sorted
+pub by_column : (column : List ℕ) (all sorted : List Chosen) → map (λ c. c.job) all ≡ range_with_len 0 (length column)
+    → All (HasColumn column) all → IsPermutation all sorted → IsNonDecreasingBy (λ c. c.column) sorted → IsByColumn (length column) column sorted
 by_column column all sorted e columns p up = record {
   all = subst (λ l. IsPermutation l (map (λ c. c.job) sorted)) e (IsPermutation-map (λ c. c.job) all sorted p);
   columns = All-permutation (HasColumn column) all sorted p columns;

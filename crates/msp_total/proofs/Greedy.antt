@@ -18,7 +18,8 @@ total_below-longer f k n l = omega (arith, ap (λ x. total_below x f) (whole k n
 -- where all later terms are 0, the total over fewer is the whole
 total_below-ends : (f : ℕ → ℕ) (k n : ℕ) → k ≤ n → ((a : ℕ) → k ≤ a → a < n → f a ≡ 0) → total_below n f ≡ total_below k f
 total_below-ends f k n l h =
-    ap (λ x. total_below x f) (whole k n l) ∙ total_below-split k (n - k) f ∙ ap (λ x. total_below k f + x) (total_below-none (n - k) (λ a. f (k + a)) (λ a m. h (k + a) (omega arith) (inside k n a m))) ∙ omega arith
+    ap (λ x. total_below x f) (whole k n l) ∙ total_below-split k (n - k) f
+    ∙ ap (λ x. total_below k f + x) (total_below-none (n - k) (λ a. f (k + a)) (λ a m. h (k + a) (omega arith) (inside k n a m))) ∙ omega arith
   where
     whole : (k n : ℕ) → k ≤ n → n ≡ k + (n - k)
     whole k n l = omega arith
@@ -52,7 +53,8 @@ abel n w x y falls less = by _ _ (total_below n x) (total_below n y) (abel_more 
 
 -- ---- positions taken in turn
 -- the positions of the jobs taken so far, over any function of positions
-seats-total : (machines : ℕ) (machine : ℕ → ℕ) (h : ℕ → ℕ → ℕ) (n : ℕ) → ((a : ℕ) → a < n → machine a < machines) → total_below machines (λ m. total_below (seats machine n m) (h m)) ≡ total_below n (λ a. h (machine a) (seats machine a (machine a)))
+seats-total : (machines : ℕ) (machine : ℕ → ℕ) (h : ℕ → ℕ → ℕ) (n : ℕ) → ((a : ℕ) → a < n → machine a < machines)
+    → total_below machines (λ m. total_below (seats machine n m) (h m)) ≡ total_below n (λ a. h (machine a) (seats machine a (machine a)))
 seats-total machines machine h zero inside = total_below-none machines _ (λ m l. refl)
 seats-total machines machine h (suc n) inside =
     total_below-same machines _ (λ m. total_below (seats machine n m) (h m) + cond (eqb (machine n) m) (h m (seats machine n m)) 0) (λ m l. one m (eqb (machine n) m) (seats machine n m))
@@ -100,7 +102,8 @@ module _ (n machines : ℕ) (step machine : ℕ → ℕ) where
     pub least_positions : (x y : ℕ → ℕ) → ((a : ℕ) → a < n → (x a < machines) × (y a < n)) → ((a b : ℕ) → a < n → b < n → x a ≡ x b → y a ≡ y b → a ≡ b)
         → (q : ℕ) → q ≤ n → total_below q taken ≤ total_below q (λ a. multiplier step (x a) (y a))
     least_positions x y among once zero l = omega arith
-    least_positions x y among once (suc t) l = by (total_below q taken) (total_below q (λ a. top - taken a)) (total_below q (λ a. multiplier step (x a) (y a))) (total_below q (λ a. top - multiplier step (x a) (y a))) (q * top) full enough short
+    least_positions x y among once (suc t) l = by (total_below q taken) (total_below q (λ a. top - taken a))
+        (total_below q (λ a. multiplier step (x a) (y a))) (total_below q (λ a. top - multiplier step (x a) (y a))) (q * top) full enough short
       where
         q : ℕ
         q = suc t

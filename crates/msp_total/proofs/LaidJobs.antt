@@ -1,12 +1,14 @@
 -- Jobs that are laid on machines: their pieces are apart, and how often the time of each counts in the sum of all ends.
-use Rattle.std.proofs.Common.{◌≡◌, ◌≢◌, ℕ, zero, suc, ◌+◌, ◌*◌, ◌-◌, ◌<◌, ◌≤◌, ◌⊎◌, inl, inr, Bool, true, false, cond, eqb, List, [], ◌∷◌, length, get_or, map, sum_by, All, AllPairs, Contains, pos, ◌-ℤ◌, refl, sym, ap, subst, ◌∙◌, arith}
+use Rattle.std.proofs.Common.{◌≡◌, ◌≢◌, ℕ, zero, suc, ◌+◌, ◌*◌, ◌-◌, ◌<◌, ◌≤◌, ◌⊎◌, inl, inr, Bool, true, false, cond, eqb, List, [], ◌∷◌, length, get_or, map, sum_by, All}
+use Rattle.std.proofs.Common.{AllPairs, Contains, pos, ◌-ℤ◌, refl, sym, ap, subst, ◌∙◌, arith}
 use Rattle.std.proofs.lemmas.Bool.{eqb-true, eqb-false, eq-eqb}
 use Rattle.std.proofs.lemmas.List.{length-map, get_or-map, get_or_default}
 use Rattle.std.proofs.lemmas.List.Elements.{All-nil, All-cons, All-head, All-tail}
 use Rattle.std.proofs.lemmas.List.Kept.{AllPairs-cons}
 use Rattle.std.proofs.lemmas.List.Sums.{sum_by-cons}
 use Rattle.msp_class.specs.Sums.{total_below}
-use Rattle.msp_class.proofs.Sums.{cond-yes, cond-le, sum_by-mono, sum_by-constant, sum_by-map, sum_by-OnceBelow, total_below-same, total_below-add, total_below-none, total_below-only, OnceBelow, OnceBelow-distinct}
+use Rattle.msp_class.proofs.Sums.{cond-yes, cond-le, sum_by-mono, sum_by-constant, sum_by-map, sum_by-OnceBelow, total_below-same, total_below-add, total_below-none}
+use Rattle.msp_class.proofs.Sums.{total_below-only, OnceBelow, OnceBelow-distinct}
 use Rattle.std.proofs.lemmas.Int.{ints}
 use Rattle.msp_schedule.specs.declared.Piece.{Piece}
 use Rattle.msp_schedule.specs.Piece.{length_of, job_of, start, finish, IsTimed}
@@ -112,7 +114,8 @@ counted bound [] c h = omega (arith, total_below-none bound (λ m. c m * 0) (λ 
 counted bound (p ∷ ps) c h =
     let m = p.machine in
     total_below-first (length ps) f
-    ∙ ap (λ x. f 0 + x) (total_below-same (length ps) (λ r. f (suc r)) (λ r. length_at ps r * (next (machine_at ps r) + seats (machine_at ps) r (machine_at ps r) + 1)) (λ r l. ap (λ x. length_at ps r * (x + 1)) (step (machine_at ps r) r)) ∙ counted bound ps next (All-tail (λ q. q.machine < bound) p ps h))
+    ∙ ap (λ x. f 0 + x) (total_below-same (length ps) (λ r. f (suc r)) (λ r. length_at ps r * (next (machine_at ps r) + seats (machine_at ps) r (machine_at ps r) + 1))
+    (λ r l. ap (λ x. length_at ps r * (x + 1)) (step (machine_at ps r) r)) ∙ counted bound ps next (All-tail (λ q. q.machine < bound) p ps h))
     ∙ by _ _ _ _ _ _ _ _ _ (sum_by-cons finish (piece_before p ps) (laid ps)) (time_on-own p ps) left right
   where
     f : ℕ → ℕ
@@ -139,7 +142,8 @@ counted bound (p ∷ ps) c h =
 
     right : total_below bound (λ m. c m * time_on m (p ∷ ps)) ≡ total_below bound (λ m. c m * time_on m ps) + c p.machine * p.length
     right =
-        total_below-same bound _ (λ m. c m * time_on m ps + cond (eqb p.machine m) (c m * p.length) 0) (λ m l. ap (λ x. c m * x) (time_on-cons m p ps) ∙ one (c m) (time_on m ps) p.length (eqb p.machine m))
+        total_below-same bound _ (λ m. c m * time_on m ps + cond (eqb p.machine m) (c m * p.length) 0)
+        (λ m l. ap (λ x. c m * x) (time_on-cons m p ps) ∙ one (c m) (time_on m ps) p.length (eqb p.machine m))
         ∙ total_below-add bound (λ m. c m * time_on m ps) (λ m. cond (eqb p.machine m) (c m * p.length) 0)
         ∙ ap (λ x. total_below bound (λ m. c m * time_on m ps) + x) (total_below-only bound (λ m. c m * p.length) p.machine inside)
       where
@@ -152,8 +156,15 @@ counted bound (p ∷ ps) c h =
     by l a t o e g x y z p q u v = omega (arith, p, q, u, v)
 
 -- the time of a job counts once for itself, and once for each job on its machine that stands before it in the list
-pub sum_of_laid_ends : (bound : ℕ) (ps : List Place) → All (λ p. p.machine < bound) ps → sum_by finish (laid ps) ≡ total_below (length ps) (λ r. length_at ps r * (seats (machine_at ps) r (machine_at ps r) + 1))
-sum_of_laid_ends bound ps h = omega (arith, counted bound ps (λ _. 0) h, total_below-none bound (λ m. 0 * time_on m ps) (λ m l. none (time_on m ps)), total_below-same (length ps) (λ r. length_at ps r * (0 + seats (machine_at ps) r (machine_at ps r) + 1)) (λ r. length_at ps r * (seats (machine_at ps) r (machine_at ps r) + 1)) (λ r l. ap (λ x. length_at ps r * (x + 1)) (zero_more (seats (machine_at ps) r (machine_at ps r)))))
+pub sum_of_laid_ends : (bound : ℕ) (ps : List Place) → All (λ p. p.machine < bound) ps
+    → sum_by finish (laid ps) ≡ total_below (length ps) (λ r. length_at ps r * (seats (machine_at ps) r (machine_at ps r) + 1))
+sum_of_laid_ends bound ps h = omega (
+  arith,
+  counted bound ps (λ _. 0) h,
+  total_below-none bound (λ m. 0 * time_on m ps) (λ m l. none (time_on m ps)),
+  total_below-same (length ps) (λ r. length_at ps r * (0 + seats (machine_at ps) r (machine_at ps r) + 1))
+      (λ r. length_at ps r * (seats (machine_at ps) r (machine_at ps r) + 1)) (λ r l. ap (λ x. length_at ps r * (x + 1)) (zero_more (seats (machine_at ps) r (machine_at ps r)))),
+)
   where
     none : (x : ℕ) → 0 * x ≡ 0
     none x = omega arith
@@ -185,7 +196,8 @@ module _ (n : ℕ) (ps : List Place) (jobs : OnceBelow n (map (λ p. p.job) ps))
   pub ends_of_jobs : total_below n (last_of job_of finish (laid ps)) ≤ sum_by finish (laid ps)
   ends_of_jobs =
       subst (λ x. x ≤ sum_by finish (laid ps)) (sym (sum_by-map (last_of job_of finish (laid ps)) (λ q. q.job) (laid ps)) ∙ sum_by-OnceBelow (last_of job_of finish (laid ps)) laid-once)
-      (sum_by-mono (λ q. last_of job_of finish (laid ps) q.job) finish (laid ps) (λ k d l. last_of-least job_of finish (laid ps) (get_or (laid ps) k d).job (finish (get_or (laid ps) k d)) (λ m c h e. omega (arith, ap finish (one k m d c l h e)))))
+      (sum_by-mono (λ q. last_of job_of finish (laid ps) q.job) finish (laid ps)
+      (λ k d l. last_of-least job_of finish (laid ps) (get_or (laid ps) k d).job (finish (get_or (laid ps) k d)) (λ m c h e. omega (arith, ap finish (one k m d c l h e)))))
     where
       one : (k m : ℕ) (d c : Piece) → k < length (laid ps) → m < length (laid ps) → (get_or (laid ps) m c).job ≡ (get_or (laid ps) k d).job → get_or (laid ps) m c ≡ get_or (laid ps) k d
       one k m d c l h e =

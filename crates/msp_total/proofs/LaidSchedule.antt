@@ -3,6 +3,7 @@ use Rattle.std.proofs.Common.{◌≡◌, ℕ, ◌+◌, ◌*◌, ◌<◌, ◌≤�
 use Rattle.std.proofs.lemmas.Int.{ints}
 use Rattle.std.proofs.lemmas.List.{length-map}
 use Rattle.std.proofs.lemmas.List.Elements.{All-nil, All-contains}
+use Rattle.msp_class.specs.declared.sizes.TheConstants.{MOST_JOBS, GREATEST}
 use Rattle.msp_class.specs.declared.class.Crit.TheVariants.{SumC}
 use Rattle.msp_class.specs.declared.environments.EnvKind.TheVariants.{Unrelated}
 use Rattle.msp_class.specs.Crit.{is_greatest}
@@ -47,7 +48,7 @@ pub record AreFitting (i : Instance) (unit : ℕ) (places : List Place) : Type 0
   pub jobs : OnceBelow (length i.jobs) (map (λ p. p.job) places)
   pub inside : All (λ p. p.machine < i.machines) places
   pub lasts : All (λ p. 0 < p.length) places
-  pub short : All (λ p. p.length ≤ (1000000000 * 2 ^ 30)) places
+  pub short : All (λ p. p.length ≤ (GREATEST * 2 ^ 30)) places
   pub work : (p : Place) (rest : List Place) → Contains places p → IsWholeWork (kind_of i.class.env) i (pos unit) (piece_before p rest)
 
 abbrev pub schedule_of : ℕ → List Place → Schedule
@@ -79,10 +80,11 @@ module _ (i : Instance) (plain : IsPlain i) (unit : ℕ) (places : List Place) (
   jobs = subst (OnceBelow n) (sym (laid-jobs places)) fits.jobs
 
   no_arcs : All (λ a. All (λ p. All (λ r. p.job ≡ a.before → r.job ≡ a.after → IsBefore p r) (laid places)) (laid places)) i.arcs
-  no_arcs = subst (λ arcs. All (λ a. All (λ p. All (λ r. p.job ≡ a.before → r.job ≡ a.after → IsBefore p r) (laid places)) (laid places)) arcs) (sym plain.arcs) (All-nil (λ (a : Arc). All (λ p. All (λ r. p.job ≡ a.before → r.job ≡ a.after → IsBefore p r) (laid places)) (laid places)))
+  no_arcs = subst (λ arcs. All (λ a. All (λ p. All (λ r. p.job ≡ a.before → r.job ≡ a.after → IsBefore p r) (laid places)) (laid places)) arcs)
+      (sym plain.arcs) (All-nil (λ (a : Arc). All (λ p. All (λ r. p.job ≡ a.before → r.job ≡ a.after → IsBefore p r) (laid places)) (laid places)))
 
-  ends : All (λ q. finish q ≤ 400 * (1000000000 * 2 ^ 30)) (laid places)
-  ends k d l = omega (arith, ends_soon ((1000000000 * 2 ^ 30)) places fits.short k d l, count, plain.uncut.few)
+  ends : All (λ q. finish q ≤ MOST_JOBS * (GREATEST * 2 ^ 30)) (laid places)
+  ends k d l = omega (arith, ends_soon ((GREATEST * 2 ^ 30)) places fits.short k d l, count, plain.uncut.few)
 
   one_each : AreOneEach i unit (laid places)
   one_each = record {
@@ -92,7 +94,8 @@ module _ (i : Instance) (plain : IsPlain i) (unit : ℕ) (places : List Place) (
     inside = laid-All (λ q. q.machine < i.machines) places (λ p rest c l. All-contains (λ q. q.machine < i.machines) places p fits.inside c);
     span = λ k d l. let t = timed k d l in (omega (arith, ints, t.from), omega (arith, ints, t.from, t.to, t.lasts));
     apart = λ a b d l k e. apart_in_int _ _ (timed a d (omega arith)) (timed b d k) (laid-apart places fits.lasts a b d l k e);
-    released = λ k d l. released (get_or (laid places) k d).from unit (job_at i (get_or (laid places) k d).job).release _ (timed k d l).from (plain.release (get_or (laid places) k d).job (job_inside k d l));
+    released = λ k d l. released (get_or (laid places) k d).from unit
+        (job_at i (get_or (laid places) k d).job).release _ (timed k d l).from (plain.release (get_or (laid places) k d).job (job_inside k d l));
     forward = no_arcs;
     whole = laid-All (IsWholeWork (kind_of i.class.env) i (pos unit)) places (λ p rest c l. fits.work p rest c);
     ends = λ k d l. early (get_or (laid places) k d) (timed k d l) (ends k d l);
@@ -101,7 +104,7 @@ module _ (i : Instance) (plain : IsPlain i) (unit : ℕ) (places : List Place) (
       released : (x : ℤ) (u r b : ℕ) → x ≡ pos b → r ≡ 0 → (pos u *ℤ pos r) ≤ℤ x
       released x u r b e z = subst (λ y. (pos u *ℤ pos y) ≤ℤ x) (sym z) (omega (arith, ints, e))
 
-      early : (p : Piece) → IsTimed p → finish p ≤ 400 * (1000000000 * 2 ^ 30) → p.to ≤ℤ pos 10000000000000000000000000
+      early : (p : Piece) → IsTimed p → finish p ≤ MOST_JOBS * (GREATEST * 2 ^ 30) → p.to ≤ℤ pos 10000000000000000000000000
       early p t m = omega (arith, ints, t.to, m)
 
   pub laid_is_feasible : Feasible i s
@@ -110,7 +113,8 @@ module _ (i : Instance) (plain : IsPlain i) (unit : ℕ) (places : List Place) (
   -- ---- the cost
   pub laid_costs : cost_of i s ≤ℤ pos (total_below (length places) (λ r. length_at places r * (seats (machine_at places) r (machine_at places r) + 1)))
   laid_costs =
-      ≤ℤ_trans (≤ℤ_of_same (cost_of-sum i s (ap is_greatest plain.crit) ∙ int_total_below-natural n (charge_of i s) (last_of job_of finish (laid places)) (λ j l. ap (λ c. job_cost c s.unit (job_at i j) (end_of s j)) plain.crit ∙ last_end-is (laid places) j timed)))
+      ≤ℤ_trans (≤ℤ_of_same (cost_of-sum i s (ap is_greatest plain.crit) ∙ int_total_below-natural n (charge_of i s)
+      (last_of job_of finish (laid places)) (λ j l. ap (λ c. job_cost c s.unit (job_at i j) (end_of s j)) plain.crit ∙ last_end-is (laid places) j timed)))
       (subst (λ x. pos (total_below n (last_of job_of finish (laid places))) ≤ℤ pos x) (sum_of_laid_ends i.machines places fits.inside) (pos-le (ends_of_jobs n places fits.jobs)))
 
   -- ---- bounds

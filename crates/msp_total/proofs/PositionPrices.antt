@@ -1,5 +1,6 @@
 -- The prices of a least assignment of jobs to positions are together what a best schedule costs.
-use Rattle.std.proofs.Common.{◌≡◌, ℕ, zero, suc, ◌+◌, ◌*◌, ◌/◌, ◌%◌, ◌<◌, ◌≤◌, inl, inr, List, [], ◌∷◌, length, map, ℤ, pos, nat_abs, ◌+ℤ◌, ◌*ℤ◌, ◌≤ℤ◌, IsPermutation, refl, sym, ap, ap₂, subst, subst₂, ◌∙◌, arith}
+use Rattle.std.proofs.Common.{◌≡◌, ℕ, zero, suc, ◌+◌, ◌*◌, ◌/◌, ◌%◌, ◌<◌, ◌≤◌, inl, inr, List, [], ◌∷◌, length, map, ℤ, pos, nat_abs, ◌+ℤ◌, ◌*ℤ◌, ◌≤ℤ◌, IsPermutation, refl, sym}
+use Rattle.std.proofs.Common.{ap, ap₂, subst, subst₂, ◌∙◌, arith}
 use Rattle.std.specs.List.{range_with_len}
 use Rattle.std.specs.List.Sorted.{IsNonDecreasingBy}
 use Rattle.std.proofs.lemmas.Int.{ints}
@@ -10,7 +11,7 @@ use Rattle.std.proofs.lemmas.List.Elements.{All-map}
 use Rattle.msp_class.proofs.IntegerRing.{pos-le, ≤ℤ_trans, *ℤ_comm, *ℤ-mono_nonneg, *ℤ-one}
 use Rattle.msp_instance.specs.declared.Instance.{Instance}
 use Rattle.msp_instance.specs.Instance.{need_at}
-use Rattle.msp_instance.proofs.PathRowLemmas.{row_inside}
+use Rattle.msp_instance.proofs.PathBitLemmas.{row_inside}
 use Rattle.msp_schedule.specs.declared.Schedule.{Schedule}
 use Rattle.msp_schedule.specs.Cost.{cost_of, Best}
 use Rattle.msp_schedule.specs.Prices.{ArePrices, all_prices}
@@ -57,7 +58,8 @@ module _ (i : Instance) (h : IsUnrelatedInstance i) (p : Positions) (table : IsT
   chosen = in_order.0
 
   chosen_sorted : IsByColumn (length a.column) a.column chosen
-  chosen_sorted = by_column a.column all chosen (jobs_of (range_with_len 0 (length a.column))) (All-map (HasColumn a.column) choice (range_with_len 0 (length a.column)) (λ k d l. refl)) in_order.1 in_order.2
+  chosen_sorted = by_column a.column all chosen (jobs_of (range_with_len 0 (length a.column)))
+      (All-map (HasColumn a.column) choice (range_with_len 0 (length a.column)) (λ k d l. refl)) in_order.1 in_order.2
 
   abbrev place : Chosen → Place
   place c = record { job = c.job; machine = c.column / p.jobs; length = time_in p.machines p.times c.job (c.column / p.jobs) }
@@ -132,7 +134,8 @@ module _ (i : Instance) (h : IsUnrelatedInstance i) (p : Positions) (table : IsT
   TakePositions-positioned = record {
     assigned = subst₂ (λ x y. IsAssigned x (x * y) a.column) table.jobs table.machines placing.assigned;
     exact = λ j l. subst (λ x. row j +ℤ position (at j) ≡ pos ((at j % x + 1) * (need_at i j (at j / x)).time)) table.jobs (priced.exact j (omega (arith, l, table.jobs)));
-    unused = λ m k l b. placing.priced.unused (m * length i.jobs + k) (subst₂ (λ x y. m * length i.jobs + k < x * y) (sym table.jobs) (sym table.machines) (omega (arith, row_inside (length i.jobs) i.machines m l, b)));
+    unused = λ m k l b. placing.priced.unused (m * length i.jobs + k)
+        (subst₂ (λ x y. m * length i.jobs + k < x * y) (sym table.jobs) (sym table.machines) (omega (arith, row_inside (length i.jobs) i.machines m l, b)));
     least = subst₂ (λ x y. IsLeast x (x * y) (λ j c. pos ((c % x + 1) * (need_at i j (c / x)).time)) a.column) table.jobs table.machines
         (IsLeast-from_prices p.jobs (p.jobs * p.machines) cost_there a placing.assigned priced);
   }
@@ -156,11 +159,17 @@ module _ (i : Instance) (h : IsUnrelatedInstance i) (p : Positions) (table : IsT
         on = machine_inside p.jobs p.machines c k
 
         time : time_in p.machines p.times j (c / p.jobs) ≤ most
-        time = omega (arith, read_time i h p table j (c / p.jobs) (omega (arith, l, table.jobs)) (omega (arith, on, table.machines)), short j (c / p.jobs) (omega (arith, l, table.jobs)) (omega (arith, on, table.machines)))
+        time = omega (
+          arith,
+          read_time i h p table j (c / p.jobs) (omega (arith, l, table.jobs)) (omega (arith, on, table.machines)),
+          short j (c / p.jobs) (omega (arith, l, table.jobs)) (omega (arith, on, table.machines)),
+        )
 
     row_within : (j : ℕ) → j < p.jobs → (pos 0 ≤ℤ row j) × (row j ≤ℤ pos (p.jobs * most))
-    row_within j l = by (row j) (position (column_of a.column j)) (position_cost p.jobs p.machines p.times j (column_of a.column j)) (position placing.zero.0) (position_cost p.jobs p.machines p.times j placing.zero.0) (pos (p.jobs * most))
-        (placing.priced.exact j l) (placing.priced.low (column_of a.column j) (own_inside j l)) (cost_low j (column_of a.column j)) (placing.priced.at_most j placing.zero.0 l placing.zero.1) placing.zero.2 (cost_small j placing.zero.0 l placing.zero.1)
+    row_within j l = by (row j) (position (column_of a.column j)) (position_cost p.jobs p.machines p.times j (column_of a.column j))
+        (position placing.zero.0) (position_cost p.jobs p.machines p.times j placing.zero.0) (pos (p.jobs * most))
+        (placing.priced.exact j l) (placing.priced.low (column_of a.column j) (own_inside j l)) (cost_low j (column_of a.column j))
+        (placing.priced.at_most j placing.zero.0 l placing.zero.1) placing.zero.2 (cost_small j placing.zero.0 l placing.zero.1)
       where
         by : (u v x w y z : ℤ) → u +ℤ v ≡ x → v ≤ℤ pos 0 → pos 0 ≤ℤ x → (u +ℤ w) ≤ℤ y → w ≡ pos 0 → y ≤ℤ z → (pos 0 ≤ℤ u) × (u ≤ℤ z)
         by u v x w y z e n q f g k = (omega (arith, ints), omega (arith, ints))
@@ -177,7 +186,8 @@ module _ (i : Instance) (h : IsUnrelatedInstance i) (p : Positions) (table : IsT
       | inl m ↦
           let w = at-Contains a.column c m in
           let j : w.0 < p.jobs = omega (arith, w.1, placing.assigned.all) in
-          by (row w.0) (position c) (position_cost p.jobs p.machines p.times w.0 c) (p.jobs * most) (subst (λ x. row w.0 +ℤ position x ≡ position_cost p.jobs p.machines p.times w.0 x) w.2 (placing.priced.exact w.0 j)) (cost_low w.0 c) (placing.priced.low c l) (row_within w.0 j).1
+          by (row w.0) (position c) (position_cost p.jobs p.machines p.times w.0 c) (p.jobs * most)
+          (subst (λ x. row w.0 +ℤ position x ≡ position_cost p.jobs p.machines p.times w.0 x) w.2 (placing.priced.exact w.0 j)) (cost_low w.0 c) (placing.priced.low c l) (row_within w.0 j).1
     ]
       where
         none : (v : ℤ) → v ≡ pos 0 → nat_abs v ≤ p.jobs * most

@@ -1,16 +1,17 @@
 -- A schedule of least cost in the slots of the earliest schedule is feasible and best.
-use Rattle.std.proofs.Common.{◌≡◌, ℕ, zero, suc, ◌+◌, ◌*◌, ◌<◌, ◌≤◌, inl, inr, Bool, true, false, eqb, ltb, List, length, get_or, map, ℤ, pos, nat_abs, ◌+ℤ◌, ◌*ℤ◌, ◌≤ℤ◌, All, refl, sym, ap, ap₂, subst, subst₂, ◌∙◌, arith}
+use Rattle.std.proofs.Common.{◌≡◌, ℕ, zero, suc, ◌+◌, ◌*◌, ◌<◌, ◌≤◌, inl, inr, Bool, true, false, eqb, ltb, List, length, get_or, map, ℤ, pos, ◌*ℤ◌, ◌≤ℤ◌, All, refl, sym, ap, subst, ◌∙◌, arith}
 use Rattle.std.specs.List.{range_with_len}
 use Rattle.std.proofs.lemmas.Bool.{cases_lt}
 use Rattle.std.proofs.lemmas.Bool.Decides.{nat_tests}
 use Rattle.std.proofs.lemmas.Int.{ints}
 use Rattle.std.proofs.lemmas.List.{length-map, get_or-map}
-use Rattle.std.proofs.lemmas.List.FromFn.{length-range_with_len, get_or-range_with_len, length-map-range_with_len, get_or-map-range_with_len}
+use Rattle.std.proofs.lemmas.List.FromFn.{length-range_with_len, get_or-range_with_len}
 use Rattle.std.proofs.lemmas.Grind.{same_number_lists}
 use Rattle.std.proofs.lemmas.List.Elements.{All-nil}
-use Rattle.msp_class.proofs.IntegerRing.{natural, pos-le, le-pos, zero-le-pos, ≤ℤ_refl, ≤ℤ_trans, *ℤ-one, *ℤ_comm, *ℤ-mono_nonneg}
+use Rattle.msp_class.specs.declared.sizes.TheConstants.{MOST_JOBS}
+use Rattle.msp_class.proofs.IntegerRing.{pos-le, ≤ℤ_of_same, ≤ℤ_trans, one-*ℤ, *ℤ-mono_nonneg}
 use Rattle.msp_class.specs.Sums.{int_total_below}
-use Rattle.msp_class.proofs.Sums.{OnceBelow, OnceBelow-range, int_total_below-same, int_total_below-mono, int_total_below-scale}
+use Rattle.msp_class.proofs.Sums.{OnceBelow, OnceBelow-range, int_total_below-same}
 use Rattle.msp_instance.specs.declared.Arc.{Arc}
 use Rattle.msp_instance.specs.declared.Instance.{Instance}
 use Rattle.msp_instance.specs.Instance.{no_job, job_at}
@@ -20,10 +21,13 @@ use Rattle.msp_schedule.specs.declared.Schedule.{Schedule}
 use Rattle.msp_schedule.specs.Feasible.{Feasible}
 use Rattle.msp_schedule.specs.Cost.{cost_of, end_of, job_cost, Best}
 use Rattle.msp_schedule.specs.Within.{Within}
-use Rattle.msp_schedule.proofs.costs.Charges.{charge_of, cost_of-sum, job_cost-mono, job_cost-scale}
+use Rattle.msp_schedule.proofs.costs.Charged.{sum_when, best_by_moments}
+use Rattle.msp_schedule.proofs.costs.Charges.{charge_of, cost_of-sum}
 use Rattle.msp_route.specs.Bounds.{IsAnswer, answer_unit}
 use Rattle.msp_route.proofs.OneEach.{one_each_is_answer}
-use Rattle.msp_assign.specs.Prices.{IsAssigned, column_of}
+use Rattle.msp_assign.specs.Prices.{column_of}
+use Rattle.msp_assign.proofs.Totals.{int_total_below-term, int_total_below-bound}
+use Rattle.msp_assign.proofs.Choices.{column-inside, column-once, choice_no_less}
 use Rattle.msp_total.specs.Slots.{forbidden, slot_cost}
 use Rattle.msp_slots.specs.Seating.{one_if, begin_at, IsSeated}
 use Rattle.msp_slots.specs.Earliest.{start_in, machine_in, piece_in}
@@ -33,34 +37,6 @@ use Rattle.msp_slots.proofs.Begins.{head_at, begins_of}
 use Rattle.msp_slots.proofs.UnitPieces.{HasUnitJobs, AreUnitPieces, one_each, uncut, unit_pieces_are_feasible, unit_pieces_are_within, unit_piece_ends}
 use Rattle.msp_total.specs.SlotSteps.{slot_class, AreLeastLaid}
 use Rattle.msp_total.proofs.SlotFacts.{IsUnitShop, IsUnitShop-from, ones, sums, ended, ended_small, cost_early, cost_in_time, cost_natural, slots_soon}
-
--- ---- totals of integers
-int_total_below-zero : (n : ℕ) (f : ℕ → ℤ) → ((j : ℕ) → j < n → pos 0 ≤ℤ f j) → pos 0 ≤ℤ int_total_below n f
-int_total_below-zero zero f h = ≤ℤ_refl (pos 0)
-int_total_below-zero (suc n) f h = omega (arith, ints, int_total_below-zero n f (λ j l. h j (omega (arith, l))), h n (omega arith))
-
-int_total_below-term : (n : ℕ) (f : ℕ → ℤ) (j : ℕ) → ((j : ℕ) → j < n → pos 0 ≤ℤ f j) → j < n → f j ≤ℤ int_total_below n f
-int_total_below-term zero f j h l = absurd (omega (arith, l))
-int_total_below-term (suc n) f j h l = elim (cases_lt j n) [
-  | inl less ↦ omega (arith, ints, int_total_below-term n f j (λ k b. h k (omega (arith, b))) less, h n (omega arith))
-  | inr more ↦
-      let e : n ≡ j = omega (arith, l, more) in
-      subst (λ k. f k ≤ℤ (int_total_below n f +ℤ f n)) e (omega (arith, ints, int_total_below-zero n f (λ k b. h k (omega (arith, b)))))
-]
-
-int_total_below-most : (n b : ℕ) (f : ℕ → ℤ) → ((j : ℕ) → j < n → f j ≤ℤ pos b) → int_total_below n f ≤ℤ pos (n * b)
-int_total_below-most zero b f h = zero-le-pos (zero * b)
-int_total_below-most (suc n) b f h = omega (arith, ints, int_total_below-most n b f (λ j l. h j (omega (arith, l))), h n (omega arith))
-
--- ---- one job
--- over any unit, and later, a job costs no less
-charge_least : (i : Instance) (s : Schedule) (j x : ℕ) → pos 1 ≤ℤ s.unit → (s.unit *ℤ pos (x + 1)) ≤ℤ end_of s j → (s.unit *ℤ ended i j x) ≤ℤ charge_of i s j
-charge_least i s j x some h =
-    let unit_is : s.unit ≡ pos (nat_abs s.unit) = natural s.unit (omega (arith, ints, some)) in
-    let positive : 0 < nat_abs s.unit = le-pos (subst (λ u. pos 1 ≤ℤ u) unit_is some) in
-    subst (λ z. z ≤ℤ charge_of i s j)
-    (ap₂ (λ u v. job_cost i.class.crit u (job_at i j) (v *ℤ pos (x + 1))) (unit_is ∙ sym (*ℤ-one (pos (nat_abs s.unit)))) unit_is ∙ job_cost-scale (nat_abs s.unit) positive (pos 1) i.class.crit (job_at i j) (pos (x + 1)) ∙ ap (λ u. u *ℤ ended i j x) (sym unit_is))
-    (job_cost-mono i.class.crit s.unit (job_at i j) (s.unit *ℤ pos (x + 1)) (end_of s j) (omega (arith, ints, some)) h)
 
 -- jobs that begin one after another, late
 one_at_a_time : (a n x : ℕ) → begin_at n (λ j. a + j) x ≤ one_if (ltb x (a + n))
@@ -106,48 +82,15 @@ module _ (i : Instance) (late : Bool) (h : IsUnitShop i late) (pieces : List Pie
   soon k b = slots_soon i late h l.heads l.all l.slots l.filled k (in_slots k b)
 
   col_inside : (j : ℕ) → j < n → col j < n
-  col_inside j b = l.assigned.inside j 0 (omega (arith, b, l.assigned.all))
+  col_inside = column-inside n n l.column l.assigned
 
   -- ---- what any assignment costs, and any schedule
   seats : (begin : ℕ → ℕ) → IsSeated n i.machines (head_at i) begin → (seat : ℕ → ℕ) × HasSeats n (head_at i) begin start seat
   seats begin s = seats_in i l.heads l.slots l.all l.filled begin s
 
-  module _ (begin seat : ℕ → ℕ) (s : HasSeats n (head_at i) begin start seat) where
-    abbrev other : List ℕ
-    other = map seat (range_with_len 0 n)
-
-    other_at : (k d : ℕ) → k < n → get_or other k d ≡ seat k
-    other_at k d b = get_or-map-range_with_len seat 0 n k k d b (omega arith)
-
-    other_many : length other ≡ n
-    other_many = length-map-range_with_len seat 0 n
-
-    other_assigned : IsAssigned n n other
-    other_assigned = record {
-      all = other_many;
-      inside = λ k d b. let w : k < n = omega (arith, b, other_many) in omega (arith, other_at k d w, s.inside k w);
-      apart = λ a b d less m e.
-          let w : b < n = omega (arith, m, other_many) in
-          let v : a < n = omega (arith, w, less) in
-          absurd (omega (arith, less, s.once a b v w (sym (other_at a d v) ∙ e ∙ other_at b d w)));
-    }
-
-    least_here : value ≤ℤ int_total_below n (λ r. ended i r (start (seat r)))
-    least_here = subst (λ z. value ≤ℤ z) (int_total_below-same n (λ r. cost r (column_of other r)) (λ r. ended i r (start (seat r))) (λ r b.
-        ap (cost r) (other_at r 0 b) ∙ cost_in_time i late h l.slots l.table l.is_table r (seat r) b (in_slots (seat r) (s.inside r b)) (s.released r b))) (l.least other other_assigned)
-
-  lower : (s : Schedule) → Feasible i s → (s.unit *ℤ value) ≤ℤ cost_of i s
-  lower s f =
-      let (begin, b) = begins_of i s h.kind h.cut (ones i late h) f in
-      let (seat, e) = seats begin b.seated in
-      let natural_unit : pos 0 ≤ℤ s.unit = omega (arith, ints, f.unit) in
-      ≤ℤ_trans (*ℤ-mono_nonneg s.unit natural_unit (least_here begin seat e))
-      (subst₂ (λ x y. x ≤ℤ y) (int_total_below-scale n s.unit (λ r. ended i r (start (seat r)))) (sym (cost_of-sum i s (sums i late h)))
-      (int_total_below-mono n (λ r. s.unit *ℤ ended i r (start (seat r))) (charge_of i s) (λ r w.
-      charge_least i s r (start (seat r)) f.unit (≤ℤ_trans (*ℤ-mono_nonneg s.unit natural_unit (pos-le (later (start (seat r)) (begin r) (e.early r w)))) (b.ends r w)))))
-    where
-      later : (a b : ℕ) → a ≤ b → a + 1 ≤ b + 1
-      later a b h = omega (arith, h)
+  least_here : (begin seat : ℕ → ℕ) → HasSeats n (head_at i) begin start seat → value ≤ℤ int_total_below n (λ r. ended i r (start (seat r)))
+  least_here begin seat s = choice_no_less n n seat s.inside s.once cost (λ r. ended i r (start (seat r)))
+      l.column l.least (λ r b. cost_in_time i late h l.slots l.table l.is_table r (seat r) b (in_slots (seat r) (s.inside r b)) (s.released r b))
 
   -- ---- no job is in a slot that begins before its release date
   costs_natural : (r : ℕ) → r < n → pos 0 ≤ℤ cost r (col r)
@@ -159,19 +102,21 @@ module _ (i : Instance) (late : Bool) (h : IsUnitShop i late) (pieces : List Pie
     few = λ x. omega (arith, one_at_a_time 2000000000 n x, one_most (ltb x (2000000000 + n)), h.machine);
   }
 
-  value_small : value ≤ℤ pos (400 * 10000000000000000000)
+  value_small : value ≤ℤ pos (MOST_JOBS * 10000000000000000000)
   value_small =
       let (seat, e) = seats (λ j. 2000000000 + j) one_by_one in
-      let bound = int_total_below-most n 10000000000000000000 (λ r. ended i r (start (seat r))) (λ r b. ended_small i late h l.slots l.table l.is_table r (start (seat r)) b (omega (arith, e.early r b, h.few, b))) in
+      let bound = int_total_below-bound n 10000000000000000000 (λ r. ended i r (start (seat r)))
+      (λ r b. ended_small i late h l.slots l.table l.is_table r (start (seat r)) b (omega (arith, e.early r b, h.few, b))) in
       ≤ℤ_trans (least_here (λ j. 2000000000 + j) seat e) (≤ℤ_trans bound (pos-le (omega (arith, h.few))))
 
   in_time : (j : ℕ) → j < n → head_at i j ≤ start (col j)
   in_time j b = elim (cases_lt (start (col j)) (head_at i j)) [
     | inr more ↦ more
-    | inl less ↦ absurd (never value (cost j (col j)) value_small (int_total_below-term n (λ r. cost r (col r)) j costs_natural b) (cost_early i late h l.slots l.table l.is_table j (col j) b (in_slots (col j) (col_inside j b)) less))
+    | inl less ↦ absurd (never value (cost j (col j)) value_small (int_total_below-term n (λ r. cost r (col r)) j costs_natural b)
+        (cost_early i late h l.slots l.table l.is_table j (col j) b (in_slots (col j) (col_inside j b)) less))
   ]
     where
-      never : (v c : ℤ) → v ≤ℤ pos (400 * 10000000000000000000) → c ≤ℤ v → c ≡ forbidden → ⊥
+      never : (v c : ℤ) → v ≤ℤ pos (MOST_JOBS * 10000000000000000000) → c ≤ℤ v → c ≡ forbidden → ⊥
       never v c p q e = omega (arith, ints, p, q, e)
 
   -- ---- the pieces
@@ -181,30 +126,24 @@ module _ (i : Instance) (late : Bool) (h : IsUnitShop i late) (pieces : List Pie
   all_pieces : (P : Piece → Type 0) → ((j : ℕ) → j < n → P (piece_in l.slots j (col j))) → All P pieces
   all_pieces P f k d b = let w : k < n = omega (arith, b, count) in subst P (sym (l.laid.each k d w)) (f k w)
 
-  same_col : (a b : ℕ) → a < n → b < n → col a ≡ col b → a ≡ b
-  same_col a b u v e = elim (cases_lt a b) [
-    | inl less ↦ absurd (l.assigned.apart a b 0 less (omega (arith, v, l.assigned.all)) e)
-    | inr more ↦ elim (cases_lt b a) [
-      | inl less ↦ absurd (l.assigned.apart b a 0 less (omega (arith, u, l.assigned.all)) (sym e))
-      | inr last ↦ omega (arith, more, last)
-    ]
-  ]
-
   jobs : OnceBelow n (map (λ p. p.job) pieces)
   jobs = subst (OnceBelow n) (sym numbers) (OnceBelow-range n)
     where
       numbers : map (λ p. p.job) pieces ≡ range_with_len 0 n
-      numbers = same_number_lists (map (λ p. p.job) pieces) (range_with_len 0 n) (length-map pieces (λ p. p.job) ∙ count ∙ sym (length-range_with_len 0 n)) (λ j b. place j (omega (arith, b, length-map pieces (λ p. p.job), count)))
+      numbers = same_number_lists (map (λ p. p.job) pieces) (range_with_len 0 n)
+          (length-map pieces (λ p. p.job) ∙ count ∙ sym (length-range_with_len 0 n)) (λ j b. place j (omega (arith, b, length-map pieces (λ p. p.job), count)))
         where
           place : (j : ℕ) → j < n → get_or (map (λ p. p.job) pieces) j 0 ≡ get_or (range_with_len 0 n) j 0
-          place j b = let z = piece_in l.slots 0 0 in omega (arith, get_or-map (λ p. p.job) pieces j z 0 (omega (arith, b, count)), ap (λ p. p.job) (l.laid.each j z b), get_or-range_with_len 0 n j 0 b)
+          place j b = let z = piece_in l.slots 0 0 in
+              omega (arith, get_or-map (λ p. p.job) pieces j z 0 (omega (arith, b, count)), ap (λ p. p.job) (l.laid.each j z b), get_or-range_with_len 0 n j 0 b)
 
   unit_pieces : AreUnitPieces i (λ j. start (col j)) (λ j. machine_in l.slots (col j)) pieces
   unit_pieces = record {
     jobs = jobs;
     each = all_pieces (λ p. p ≡ piece_in l.slots p.job (col p.job)) (λ j b. refl);
     inside = λ j b. slot_inside i.machines l.heads l.slots l.filled (col j) (omega (arith, col_inside j b, many));
-    apart = λ a b u v e f. same_col a b u v (same_slot i.machines l.heads l.slots l.filled (col a) (col b) (omega (arith, col_inside a u, many)) (omega (arith, col_inside b v, many)) e f);
+    apart = λ a b u v e f. column-once n n l.column l.assigned a b u v
+        (same_slot i.machines l.heads l.slots l.filled (col a) (col b) (omega (arith, col_inside a u, many)) (omega (arith, col_inside b v, many)) e f);
     released = in_time;
     forward = subst (All (λ a. start (col a.before) < start (col a.after))) (sym h.arcs) (All-nil (λ (a : Arc). start (col a.before) < start (col a.after)));
     early = λ j b. omega (arith, soon (col j) (col_inside j b));
@@ -219,20 +158,32 @@ module _ (i : Instance) (late : Bool) (h : IsUnitShop i late) (pieces : List Pie
   -- ---- the cost
   cost_is : cost_of i (schedule_of pieces) ≡ value
   cost_is = cost_of-sum i (schedule_of pieces) (sums i late h) ∙ int_total_below-same n (charge_of i (schedule_of pieces)) (λ r. cost r (col r)) (λ r b.
-      ap (job_cost i.class.crit (pos 1) (job_at i r)) (unit_piece_ends i unit_jobs _ _ pieces unit_pieces r b) ∙ sym (cost_in_time i late h l.slots l.table l.is_table r (col r) b (in_slots (col r) (col_inside r b)) (in_time r b)))
+      ap (job_cost i.class.crit (pos 1) (job_at i r)) (unit_piece_ends i unit_jobs _ _ pieces unit_pieces r b)
+      ∙ sym (cost_in_time i late h l.slots l.table l.is_table r (col r) b (in_slots (col r) (col_inside r b)) (in_time r b)))
 
   best : Best i (schedule_of pieces)
-  best = record { feasible = feasible; least = least }
+  best = best_by_moments i (schedule_of pieces) 1 (sums i late h) refl (omega arith) feasible each
     where
-      least : (s : Schedule) → Feasible i s → (cost_of i (schedule_of pieces) *ℤ s.unit) ≤ℤ (cost_of i s *ℤ pos 1)
-      least s f = subst₂ (λ x y. x ≤ℤ y) (*ℤ_comm s.unit value ∙ ap (λ x. x *ℤ s.unit) (sym cost_is)) (sym (*ℤ-one (cost_of i s))) (lower s f)
+      later : (a b : ℕ) → a ≤ b → a + 1 ≤ b + 1
+      later a b h = omega (arith, h)
+
+      each : (s : Schedule) → Feasible i s → (moment : ℕ → ℤ) × (cost_of i (schedule_of pieces) ≤ℤ sum_when i 1 moment) × ((j : ℕ) → j < n → (s.unit *ℤ moment j) ≤ℤ (pos 1 *ℤ end_of s j))
+      each s f =
+          let (begin, b) = begins_of i s h.kind h.cut (ones i late h) f in
+          let (seat, e) = seats begin b.seated in (
+            (λ r. pos (start (seat r) + 1)),
+            ≤ℤ_trans (≤ℤ_of_same cost_is) (least_here begin seat e),
+            (λ r w. ≤ℤ_trans (*ℤ-mono_nonneg s.unit (omega (arith, ints, f.unit)) (pos-le (later (start (seat r)) (begin r) (e.early r w))))
+                (subst (λ x. (s.unit *ℤ pos (begin r + 1)) ≤ℤ x) (sym (one-*ℤ (end_of s r))) (b.ends r w))),
+          )
 
   -- ---- bounds
   within : Within i (schedule_of pieces)
   within = unit_pieces_are_within i unit_jobs _ _ pieces unit_pieces
 
   answer : IsAnswer i (schedule_of pieces)
-  answer = one_each_is_answer i (uncut i unit_jobs _ _ pieces unit_pieces) 1 pieces (one_each i unit_jobs _ _ pieces unit_pieces) (subst (λ k. pos 1 ≤ℤ answer_unit k) (sym h.kind) (omega (arith, ints)))
+  answer = one_each_is_answer i (uncut i unit_jobs _ _ pieces unit_pieces)
+      1 pieces (one_each i unit_jobs _ _ pieces unit_pieces) (subst (λ k. pos 1 ≤ℤ answer_unit k) (sym h.kind) (omega (arith, ints)))
 
 -- what a schedule in the slots has
 pub record IsSlotAnswer (i : Instance) (s : Schedule) : Type 0 where
@@ -240,7 +191,8 @@ pub record IsSlotAnswer (i : Instance) (s : Schedule) : Type 0 where
   pub within : Within i s
   pub answer : IsAnswer i s
 
-pub IsSlotAnswer-from : (i : Instance) (late : Bool) → i.class ≡ slot_class late → Inner i → (pieces : List Piece) → AreLeastLaid i late pieces → IsSlotAnswer i (record { unit = pos 1; pieces = pieces })
+pub IsSlotAnswer-from : (i : Instance) (late : Bool)
+    → i.class ≡ slot_class late → Inner i → (pieces : List Piece) → AreLeastLaid i late pieces → IsSlotAnswer i (record { unit = pos 1; pieces = pieces })
 IsSlotAnswer-from i late class inner pieces l =
     let h = IsUnitShop-from i late class inner in
     record { best = best i late h pieces l; within = within i late h pieces l; answer = answer i late h pieces l }

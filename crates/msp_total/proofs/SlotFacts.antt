@@ -1,5 +1,6 @@
 -- What an instance of unit jobs with release dates has, and what its jobs cost in slots.
-use Rattle.std.proofs.Common.{◌≡◌, ℕ, ◌+◌, ◌^◌, ◌<◌, ◌≤◌, Bool, true, false, ltb, List, length, map, get_or, All, IsPermutation, inl, inr, ℤ, pos, ◌-ℤ◌, ◌*ℤ◌, ◌≤ℤ◌, refl, sym, ap, ap₂, subst, subst₂, ◌∙◌, arith}
+use Rattle.std.proofs.Common.{◌≡◌, ℕ, ◌+◌, ◌^◌, ◌<◌, ◌≤◌, Bool, true, false, ltb, List, length, map, get_or, All, IsPermutation, inl, inr, ℤ, pos, ◌-ℤ◌, ◌*ℤ◌, ◌≤ℤ◌, refl, sym, ap}
+use Rattle.std.proofs.Common.{ap₂, subst, subst₂, ◌∙◌, arith}
 use Rattle.std.specs.Prelude.{int_lt, if◌then◌else◌}
 use Rattle.std.specs.Int.{int_max}
 use Rattle.std.proofs.lemmas.Bool.{lt-ltb, le-ltb, cases_lt}
@@ -7,6 +8,7 @@ use Rattle.std.proofs.lemmas.Int.{ints, clamps}
 use Rattle.std.proofs.lemmas.List.{length-map, get_or-map}
 use Rattle.std.proofs.lemmas.List.Elements.{All-map}
 use Rattle.std.proofs.lemmas.List.Sorted.{All-permutation}
+use Rattle.msp_class.specs.declared.sizes.TheConstants.{MOST_JOBS, GREATEST}
 use Rattle.msp_class.specs.declared.environments.EnvKind.TheVariants.{Identical}
 use Rattle.msp_class.specs.Crit.{is_greatest, uses_due, uses_weight}
 use Rattle.msp_class.proofs.IntegerRing.{one-*ℤ, *ℤ-mono, *ℤ-zero, ≤ℤ_trans}
@@ -36,7 +38,7 @@ due_of : (late : Bool) (l : Limits) (d : ℤ) → HasDue l (uses_due (slot_crit 
 due_of true l d h = h
 due_of false l d h = h
 
-weight_of : (late : Bool) (w : ℕ) → HasWeight (uses_weight (slot_crit late)) w → w ≤ 1000000000
+weight_of : (late : Bool) (w : ℕ) → HasWeight (uses_weight (slot_crit late)) w → w ≤ GREATEST
 weight_of true w h = h.1
 weight_of false w h = h.1
 
@@ -49,7 +51,7 @@ releases i late h j d b = (h.jobs j d b).release
 dues : (i : Instance) (late : Bool) → IsUnitShop i late → All (λ j. LiesWithin 2000000000 j.due) i.jobs
 dues i late h j d b = due_of late (inner_limits Identical) (get_or i.jobs j d).due (h.jobs j d b).due
 
-pub weights : (i : Instance) (late : Bool) → IsUnitShop i late → All (λ j. j.weight ≤ 1000000000) i.jobs
+pub weights : (i : Instance) (late : Bool) → IsUnitShop i late → All (λ j. j.weight ≤ GREATEST) i.jobs
 weights i late h j d b = weight_of late (get_or i.jobs j d).weight (h.jobs j d b).weight
 
 pub sums : (i : Instance) (late : Bool) → IsUnitShop i late → is_greatest i.class.crit ≡ false
@@ -84,7 +86,7 @@ past_small false x d l h = by (int_lt d (pos x))
 weighed_natural : (w : ℕ) (p : ℤ) → pos 0 ≤ℤ p → pos 0 ≤ℤ (pos w *ℤ p)
 weighed_natural w p h = subst (λ z. z ≤ℤ (pos w *ℤ p)) (*ℤ-zero (pos w)) (*ℤ-mono w h)
 
-weighed_small : (w : ℕ) (p : ℤ) → w ≤ 1000000000 → p ≤ℤ pos 10000000000 → (pos w *ℤ p) ≤ℤ pos 10000000000000000000
+weighed_small : (w : ℕ) (p : ℤ) → w ≤ GREATEST → p ≤ℤ pos 10000000000 → (pos w *ℤ p) ≤ℤ pos 10000000000000000000
 weighed_small w p l h = ≤ℤ_trans (*ℤ-mono w h) (omega (arith, ints, l))
 
 -- what the job costs that ends a unit of time after the moment
@@ -114,11 +116,13 @@ module _ (i : Instance) (late : Bool) (h : IsUnitShop i late) (slots : List Slot
       ∙ sym (ap (λ c. job_cost c (pos 1) (job_at i j) (pos (start_in slots k + 1))) h.crit ∙ cost_at late (job_at i j) (start_in slots k + 1)))
 
   pub ended_natural : (j x : ℕ) → pos 0 ≤ℤ ended i j x
-  ended_natural j x = subst (λ z. pos 0 ≤ℤ z) (sym (ap (λ c. job_cost c (pos 1) (job_at i j) (pos (x + 1))) h.crit ∙ cost_at late (job_at i j) (x + 1))) (weighed_natural (job_at i j).weight (past_due late (pos (x + 1)) (job_at i j).due) (past_natural late (pos (x + 1)) (job_at i j).due))
+  ended_natural j x = subst (λ z. pos 0 ≤ℤ z) (sym (ap (λ c. job_cost c (pos 1) (job_at i j) (pos (x + 1))) h.crit ∙ cost_at late (job_at i j) (x + 1)))
+      (weighed_natural (job_at i j).weight (past_due late (pos (x + 1)) (job_at i j).due) (past_natural late (pos (x + 1)) (job_at i j).due))
 
   pub ended_small : (j x : ℕ) → j < length i.jobs → x ≤ 4000000000 → ended i j x ≤ℤ pos 10000000000000000000
   ended_small j x a l = subst (λ z. z ≤ℤ pos 10000000000000000000) (sym (ap (λ c. job_cost c (pos 1) (job_at i j) (pos (x + 1))) h.crit ∙ cost_at late (job_at i j) (x + 1)))
-      (weighed_small (job_at i j).weight (past_due late (pos (x + 1)) (job_at i j).due) (weights i late h j no_job a) (past_small late (x + 1) (job_at i j).due (omega (arith, l)) (dues i late h j no_job a)))
+      (weighed_small (job_at i j).weight (past_due late (pos (x + 1)) (job_at i j).due)
+      (weights i late h j no_job a) (past_small late (x + 1) (job_at i j).due (omega (arith, l)) (dues i late h j no_job a)))
 
   -- in a slot that begins early, and in another
   pub cost_early : (j k : ℕ) → j < length i.jobs → k < length slots → start_in slots k < head_at i j → slot_cost table j k ≡ forbidden
@@ -141,7 +145,7 @@ module _ (i : Instance) (late : Bool) (h : IsUnitShop i late) (slots : List Slot
 
 -- ---- the slots
 module _ (i : Instance) (late : Bool) (h : IsUnitShop i late) (heads : List ℕ) (p : IsPermutation (map (λ j. j.release) i.jobs) heads) where
-  pub heads_few : length heads ≤ 400
+  pub heads_few : length heads ≤ MOST_JOBS
   heads_few = omega (arith, heads_many i heads p, h.few)
 
   pub heads_low : All (λ r. r ≤ 2000000000) heads
@@ -170,7 +174,8 @@ module _ (i : Instance) (late : Bool) (h : IsUnitShop i late) (heads : List ℕ)
       pub columns_inside : (column : List ℕ) → IsAssigned (length table.release) (length table.start) column → All (λ c. c < length slots) column
       columns_inside column a k d b = omega (arith, a.inside k d b, columns_many, slots_many)
 
-      pub least_laid : (column : List ℕ) (pieces : List Piece) → IsAssigned (length table.release) (length table.start) column → IsLeast (length table.release) (length table.start) (slot_cost table) column → AreLaid slots column (length column) pieces → AreLeastLaid i late pieces
+      pub least_laid : (column : List ℕ) (pieces : List Piece) → IsAssigned (length table.release) (length table.start) column
+          → IsLeast (length table.release) (length table.start) (slot_cost table) column → AreLaid slots column (length column) pieces → AreLeastLaid i late pieces
       least_laid column pieces a b laid = record {
         heads = heads;
         slots = slots;

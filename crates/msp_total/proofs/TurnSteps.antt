@@ -1,5 +1,6 @@
 -- Steps of the loops over jobs that take their turns.
-use Rattle.std.proofs.Common.{◌≡◌, ℕ, suc, ◌+◌, ◌*◌, ◌-◌, ◌<◌, ◌≤◌, ◌⊎◌, ◌^◌, Bool, true, false, cond, eqb, List, [], ◌∷◌, ◌++◌, length, get_or, take, map, set, All, AllPairs, IsPermutation, refl, sym, ap, subst, subst₂, ◌∙◌, arith}
+use Rattle.std.proofs.Common.{◌≡◌, ℕ, suc, ◌+◌, ◌*◌, ◌-◌, ◌<◌, ◌≤◌, ◌⊎◌, ◌^◌, Bool, true, false, cond, eqb, List, [], ◌∷◌, ◌++◌, length, get_or, take, map, set, All, AllPairs}
+use Rattle.std.proofs.Common.{IsPermutation, refl, sym, ap, subst, subst₂, ◌∙◌, arith}
 use Rattle.std.specs.Prelude.{slice_index_or}
 use Rattle.std.specs.List.{range_with_len}
 use Rattle.std.proofs.lemmas.Bool.{eqb-true, eqb-false}
@@ -8,6 +9,7 @@ use Rattle.std.proofs.lemmas.List.{get_or-set_other, get_or_default, get_or-appe
 use Rattle.std.proofs.lemmas.List.Elements.{All-push}
 use Rattle.std.proofs.lemmas.List.Sorted.{IsPermutation-map, All-permutation}
 use Rattle.std.proofs.Math.Nat.{mul-le-mul_right}
+use Rattle.msp_class.specs.declared.sizes.TheConstants.{MOST_JOBS}
 use Rattle.msp_class.proofs.Sums.{cond-yes, cond-no, cond-le, total_below-same, total_below-bound}
 use Rattle.msp_instance.specs.declared.Instance.{Instance}
 use Rattle.msp_instance.specs.declared.Job.{Job}
@@ -21,7 +23,8 @@ use Rattle.msp_total.specs.Multipliers.{seats}
 
 -- ---- the jobs with their times
 -- a time, as the code reads it
-pub time_read : (i : Instance) (jobs : List Job) (k : ℕ) (j : Job) (needs : List Need) (t : ℕ) → jobs ≡ i.jobs → k < length jobs → needs ≡ (get_or jobs k j).needs → t ≡ (slice_index_or needs 0 no_need).time → t ≡ (need_at i k 0).time
+pub time_read : (i : Instance) (jobs : List Job) (k : ℕ) (j : Job) (needs : List Need) (t : ℕ)
+    → jobs ≡ i.jobs → k < length jobs → needs ≡ (get_or jobs k j).needs → t ≡ (slice_index_or needs 0 no_need).time → t ≡ (need_at i k 0).time
 time_read i jobs k j needs t e l n v = v ∙ ap (λ x. (slice_index_or x 0 no_need).time) (n ∙ ap (λ (x : Job). x.needs) (get_or_default jobs k j no_job l ∙ ap (λ xs. get_or xs k no_job) e))
 
 abbrev pub HasTime : Instance → Keyed → Type 0
@@ -30,7 +33,8 @@ HasTime i t = t.key ≡ (need_at i t.job 0).time
 pub times-next : (i : Instance) (new old : List Keyed) (x : Keyed) → new ≡ old ++ x ∷ [] → HasTime i x → All (HasTime i) old → All (HasTime i) new
 times-next i new old x e is so_far = subst (All (HasTime i)) (sym e) (All-push (HasTime i) old x so_far is)
 
-pub by_time : (i : Instance) (all sorted : List Keyed) → map (λ t. t.job) all ≡ range_with_len 0 (length i.jobs) → All (HasTime i) all → IsPermutation all sorted → AllPairs (λ a b. (b.key < a.key) ⊎ ((b.key ≡ a.key) × (a.job ≤ b.job))) sorted → IsByTime i sorted
+pub by_time : (i : Instance) (all sorted : List Keyed) → map (λ t. t.job) all ≡ range_with_len 0 (length i.jobs)
+    → All (HasTime i) all → IsPermutation all sorted → AllPairs (λ a b. (b.key < a.key) ⊎ ((b.key ≡ a.key) × (a.job ≤ b.job))) sorted → IsByTime i sorted
 by_time i all sorted e times p down = record {
   all = subst (λ l. IsPermutation l (map (λ t. t.job) sorted)) e (IsPermutation-map (λ t. t.job) all sorted p);
   times = All-permutation (HasTime i) all sorted p times;
@@ -82,7 +86,8 @@ module _ (steps : List ℕ) (jobs : List Keyed) (places : List Place) (p : Place
       same : (m : ℕ) → multiplier (number_at steps) m (seats (machine_at more) r m) ≡ multiplier (number_at steps) m (seats (machine_at places) r m)
       same m = ap (multiplier (number_at steps) m) (seats-before r m l)
 
-  pub turns-next : (next : List ℕ) (t : Keyed) → k < length jobs → t ≡ get_or jobs k no_timed → IsFirstLeast next p.machine → p.job ≡ t.job → p.length ≡ t.key * number_at steps p.machine → AreNext steps places next → AreTurns steps (take k jobs) places → AreTurns steps (take (k + 1) jobs) more
+  pub turns-next : (next : List ℕ) (t : Keyed) → k < length jobs → t ≡ get_or jobs k no_timed → IsFirstLeast next p.machine → p.job ≡ t.job
+      → p.length ≡ t.key * number_at steps p.machine → AreNext steps places next → AreTurns steps (take k jobs) places → AreTurns steps (take (k + 1) jobs) more
   turns-next next t l is least job long (size, values) so_far = record {
     count = omega (arith, count_more, length-take (k + 1) jobs);
     each = λ r h. by r (omega (arith, count_more)) (eqb r k) refl;
@@ -107,7 +112,8 @@ module _ (steps : List ℕ) (jobs : List Keyed) (places : List Place) (p : Place
           (subst₂ (λ x q. IsTurn steps (machine_at more) k x q) (is ∙ sym (read k (omega arith))) (sym at_end) (turn-before k t p (omega arith) new_turn))
       by r h false e =
           let less : r < k = other r k h (eqb-false r k e) in
-          subst₂ (λ x q. IsTurn steps (machine_at more) r x q) (get_or-take k jobs r no_timed less ∙ sym (read r h)) (sym (before r less)) (turn-before r (timed_at (take k jobs) r) (place_at places r) (omega arith) (so_far.each r less))
+          subst₂ (λ x q. IsTurn steps (machine_at more) r x q) (get_or-take k jobs r no_timed less ∙ sym (read r h))
+          (sym (before r less)) (turn-before r (timed_at (take k jobs) r) (place_at places r) (omega arith) (so_far.each r less))
         where
           other : (m n : ℕ) → m < n + 1 → (m ≡ n → ⊥) → m < n
           other m n l ne = omega arith
@@ -121,7 +127,8 @@ module _ (steps : List ℕ) (jobs : List Keyed) (places : List Place) (p : Place
           one_more : k + 1 ≡ suc k
           one_more = omega arith
 
-      by : (m : ℕ) → m < length steps → (b : Bool) → eqb p.machine m ≡ b → number_at (set next p.machine (number_at next p.machine + number_at steps p.machine)) m ≡ multiplier (number_at steps) m (seats (machine_at more) (length more) m)
+      by : (m : ℕ) → m < length steps → (b : Bool) → eqb p.machine m ≡ b
+          → number_at (set next p.machine (number_at next p.machine + number_at steps p.machine)) m ≡ multiplier (number_at steps) m (seats (machine_at more) (length more) m)
       by m l true e =
           let same = eqb-true p.machine m e in
           get_or-set_at next p.machine m _ 0 (sym same) (omega (arith, inside, size))
@@ -142,12 +149,18 @@ pub next-none : (steps next : List ℕ) → next ≡ steps → AreNext steps [] 
 next-none steps next e = (ap length e, λ m l. ap (λ x. number_at x m) e ∙ omega arith)
 
 -- what a job counts is bounded
-pub next-small : (steps : List ℕ) (places : List Place) (next : List ℕ) → All (λ s. s ≤ 2 ^ 30) steps → length places < 400 → AreNext steps places next → All (λ s. s ≤ 400 * 2 ^ 30) next
+pub next-small : (steps : List ℕ) (places : List Place) (next : List ℕ) → All (λ s. s ≤ 2 ^ 30) steps → length places < MOST_JOBS → AreNext steps places next → All (λ s. s ≤ MOST_JOBS * 2 ^ 30) next
 next-small steps places next small few (size, values) k d l =
     let inside : k < length steps = omega (arith, size) in
-    omega (arith, get_or_default next k d 0 l, values k inside, most (seats (machine_at places) (length places) k) (number_at steps k) (omega (arith, total_below-bound (length places) 1 (λ a. cond (eqb (machine_at places a) k) 1 0) (λ a h. cond-le (eqb (machine_at places a) k) 1))) (small k 0 inside))
+    omega (
+      arith,
+      get_or_default next k d 0 l,
+      values k inside,
+      most (seats (machine_at places) (length places) k) (number_at steps k)
+          (omega (arith, total_below-bound (length places) 1 (λ a. cond (eqb (machine_at places a) k) 1 0) (λ a h. cond-le (eqb (machine_at places a) k) 1))) (small k 0 inside),
+    )
   where
-    most : (s x : ℕ) → s + 1 ≤ 400 → x ≤ 2 ^ 30 → (s + 1) * x ≤ 400 * 2 ^ 30
+    most : (s x : ℕ) → s + 1 ≤ MOST_JOBS → x ≤ 2 ^ 30 → (s + 1) * x ≤ MOST_JOBS * 2 ^ 30
     most s x h k = omega (arith, mul-le-mul_right x h, k)
 
 -- as the code has it
@@ -156,13 +169,16 @@ pub record HasTurned (steps : List ℕ) (jobs : List Keyed) (k : ℕ) (places : 
   pub turns : AreTurns steps (take k jobs) places
   pub next : AreNext steps places numbers
 
-pub turn_taken : (steps : List ℕ) (jobs : List Keyed) (places : List Place) (p : Place) (k : ℕ) (next : List ℕ) (new : List Place) (after : List ℕ) (t : Keyed) → new ≡ places ++ p ∷ [] → length places ≡ k → k < length jobs → t ≡ get_or jobs k no_timed
-    → IsFirstLeast next p.machine → p.job ≡ t.job → p.length ≡ t.key * number_at steps p.machine → after ≡ set next p.machine (number_at next p.machine + number_at steps p.machine) → AreNext steps places next → AreTurns steps (take k jobs) places → HasTurned steps jobs (k + 1) new after
+pub turn_taken : (steps : List ℕ) (jobs : List Keyed) (places : List Place) (p : Place) (k : ℕ) (next : List ℕ) (new : List Place) (after : List ℕ) (t : Keyed)
+    → new ≡ places ++ p ∷ [] → length places ≡ k → k < length jobs → t ≡ get_or jobs k no_timed
+    → IsFirstLeast next p.machine → p.job ≡ t.job → p.length ≡ t.key * number_at steps p.machine → after ≡ set next p.machine (number_at next p.machine + number_at steps p.machine)
+    → AreNext steps places next → AreTurns steps (take k jobs) places → HasTurned steps jobs (k + 1) new after
 turn_taken steps jobs places p k next new after t e count l is least job long set_is values so_far =
     let at : t ≡ get_or jobs (length places) no_timed = is ∙ ap (λ n. get_or jobs n no_timed) (sym count) in
     let inside : p.machine < length steps = omega (arith, least.inside, values.0) in
     record {
       count = ap length e ∙ length-append places (p ∷ []) ∙ omega (arith, count);
-      turns = subst₂ (λ n x. AreTurns steps (take (n + 1) jobs) x) count (sym e) (turns-next steps jobs places p next t (omega (arith, count, l)) at least job long values (subst (λ n. AreTurns steps (take n jobs) places) (sym count) so_far));
+      turns = subst₂ (λ n x. AreTurns steps (take (n + 1) jobs) x) count (sym e)
+          (turns-next steps jobs places p next t (omega (arith, count, l)) at least job long values (subst (λ n. AreTurns steps (take n jobs) places) (sym count) so_far));
       next = subst₂ (AreNext steps) (sym e) (sym set_is) (next-next steps jobs places p next inside values);
     }

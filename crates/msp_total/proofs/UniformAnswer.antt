@@ -2,6 +2,7 @@
 use Rattle.std.proofs.Common.{◌≡◌, ℕ, ◌/◌, ◌<◌, ◌≤◌, ◌^◌, List, length, get_or, map, ℤ, pos, All, refl, sym, ap, subst, subst₂, ◌∙◌, arith}
 use Rattle.std.proofs.lemmas.List.{length-map, get_or_default}
 use Rattle.std.proofs.lemmas.List.Elements.{All-contains, Contains-get_or}
+use Rattle.msp_class.specs.declared.sizes.TheConstants.{MOST_JOBS, GREATEST}
 use Rattle.msp_schedule.proofs.changes.Moves.{Contains-map}
 use Rattle.msp_class.proofs.Sums.{OnceBelow-from_permutation, length-OnceBelow}
 use Rattle.msp_instance.specs.declared.Instance.{Instance}
@@ -27,7 +28,8 @@ pub record IsUniformAnswer (i : Instance) (s : Schedule) : Type 0 where
   pub answer : IsAnswer i s
   pub order : IsByMultipliers i s
 
-pub IsUniformAnswer-from : (i : Instance) → IsUniformInstance i → (unit : ℕ) (u : ℤ) (steps : List ℕ) (jobs : List Keyed) (places : List Place) (pieces : List Piece) → IsLeastOfAll i.speeds unit → unit ≤ 2 ^ 30 → u ≡ pos unit → steps ≡ steps_by i unit → IsByTime i jobs → AreTurns steps jobs places → pieces ≡ laid places
+pub IsUniformAnswer-from : (i : Instance) → IsUniformInstance i → (unit : ℕ) (u : ℤ) (steps : List ℕ) (jobs : List Keyed) (places : List Place) (pieces : List Piece)
+    → IsLeastOfAll i.speeds unit → unit ≤ 2 ^ 30 → u ≡ pos unit → steps ≡ steps_by i unit → IsByTime i jobs → AreTurns steps jobs places → pieces ≡ laid places
     → IsUniformAnswer i (record { unit = u; pieces = pieces })
 IsUniformAnswer-from i h unit u steps jobs places pieces common few e is sorted turns all =
     let fits = subst (λ x. AreTurns x jobs places) is turns in
@@ -57,16 +59,18 @@ module _ (i : Instance) (h : IsUniformInstance i) (speeds : List ℕ) (unit : �
   steps_count steps taken e f = ap length (steps_are steps taken e f) ∙ steps-length i h unit common_of
 
   module _ (jobs taken : List Keyed) (sorted : IsByTime i jobs) (same_jobs : taken ≡ jobs) where
-    pub jobs_few : length taken ≤ 400
+    pub jobs_few : length taken ≤ MOST_JOBS
     jobs_few = omega (arith, ap length same_jobs, length-map jobs (λ t. t.job), length-OnceBelow (OnceBelow-from_permutation sorted.all), h.few)
 
-    pub jobs_short : All (λ t. t.key ≤ 1000000000) taken
-    jobs_short = subst (All (λ t. t.key ≤ 1000000000)) (sym same_jobs) (λ k d l. omega (arith, sorted.times k d l, (times i h (get_or jobs k d).job (inside k d l)).1))
+    pub jobs_short : All (λ t. t.key ≤ GREATEST) taken
+    jobs_short = subst (All (λ t. t.key ≤ GREATEST)) (sym same_jobs) (λ k d l. omega (arith, sorted.times k d l, (times i h (get_or jobs k d).job (inside k d l)).1))
       where
         inside : All (λ t. t.job < length i.jobs) jobs
-        inside k d l = All-contains (λ j. j < length i.jobs) (map (λ t. t.job) jobs) (get_or jobs k d).job (OnceBelow-from_permutation sorted.all).within (Contains-map (λ t. t.job) jobs (get_or jobs k d) (Contains-get_or jobs k d l))
+        inside k d l = All-contains (λ j. j < length i.jobs) (map (λ t. t.job) jobs)
+            (get_or jobs k d).job (OnceBelow-from_permutation sorted.all).within (Contains-map (λ t. t.job) jobs (get_or jobs k d) (Contains-get_or jobs k d l))
 
-    module _ (steps slice : List ℕ) (are_steps : steps ≡ map (λ s. unit / s) speeds) (same_steps : slice ≡ steps) (places listed : List Place) (turns : AreTurns slice taken places) (same_places : listed ≡ places) where
+    module _ (steps slice : List ℕ) (are_steps : steps ≡ map (λ s. unit / s) speeds)
+        (same_steps : slice ≡ steps) (places listed : List Place) (turns : AreTurns slice taken places) (same_places : listed ≡ places) where
       turns_of : AreTurns (steps_by i unit) jobs places
       turns_of = subst₂ (λ x y. AreTurns x y places) (steps_are steps slice are_steps same_steps) same_jobs turns
 

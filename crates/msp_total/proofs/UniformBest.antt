@@ -1,11 +1,13 @@
 -- The jobs that took their turns, as a schedule on uniform machines: it is feasible and best, and lies within the bounds.
-use Rattle.std.proofs.Common.{◌≡◌, ℕ, ◌+◌, ◌*◌, ◌-◌, ◌/◌, ◌<◌, ◌≤◌, ◌^◌, Bool, true, false, eqb, ◌⊎◌, inl, inr, List, length, get_or, map, ℤ, pos, nat_abs, ◌-ℤ◌, ◌*ℤ◌, ◌≤ℤ◌, All, slice_index_or, refl, sym, ap, ap₂, subst, subst₂, ◌∙◌, arith}
+use Rattle.std.proofs.Common.{◌≡◌, ℕ, ◌+◌, ◌*◌, ◌-◌, ◌/◌, ◌<◌, ◌≤◌, ◌^◌, Bool, true, false, eqb, ◌⊎◌, inl, inr, List, length, get_or, map, ℤ, pos, nat_abs, ◌-ℤ◌, ◌*ℤ◌, ◌≤ℤ◌, All}
+use Rattle.std.proofs.Common.{slice_index_or, refl, sym, ap, ap₂, subst, subst₂, ◌∙◌, arith}
 use Rattle.std.proofs.lemmas.Bool.{eqb-true, eqb-false}
 use Rattle.std.proofs.lemmas.Int.{ints}
 use Rattle.std.proofs.lemmas.Nat.{mul-le}
 use Rattle.std.proofs.Math.Nat.{div-mul_cancel, mul-le-mul_left}
 use Rattle.std.proofs.lemmas.List.{length-map, get_or-map, get_or_default, same_lists}
 use Rattle.std.proofs.lemmas.List.Elements.{All-contains}
+use Rattle.msp_class.specs.declared.sizes.TheConstants.{GREATEST}
 use Rattle.msp_class.specs.declared.environments.EnvKind.TheVariants.{Uniform, Unrelated}
 use Rattle.msp_class.specs.Env.{kind_of}
 use Rattle.msp_class.proofs.IntegerRing.{natural, pos-le, pos-same, ≤ℤ_trans, *ℤ_comm, *ℤ-mono_nonneg}
@@ -156,15 +158,16 @@ module _ (i : Instance) (h : IsUniformInstance i) (unit : ℕ) (common : IsLeast
     record IsMeant (p : Place) : Type 0 where
       machine_inside : p.machine < i.machines
       lasts : 0 < p.length
-      short : p.length ≤ 1000000000 * 2 ^ 30
+      short : p.length ≤ GREATEST * 2 ^ 30
       work : p.length * speed p.machine ≡ unit * time_of p.job
 
     meant : All IsMeant places
     meant r d l = subst IsMeant (get_or_default places r no_place d l) (record {
       machine_inside = machine-inside r (omega (arith, l, count));
       lasts = omega (arith, long, mul-le 1 1 (time r) (step (machine r)) (omega (arith, at, (times i h (job r) inside).0)) (step-some (machine r) on));
-      short = omega (arith, long, mul-le (time r) (step (machine r)) 1000000000 (2 ^ 30) (omega (arith, at, (times i h (job r) inside).1)) (omega (arith, step-most (machine r) on, few)));
-      work = ap (λ x. x * speed (machine r)) long ∙ grouped (time r) (step (machine r)) (speed (machine r)) ∙ ap (λ x. x * time r) (step-speed (machine r) on) ∙ ap (λ x. unit * x) (at ∙ ap time_of (sym (turns.each r l).job));
+      short = omega (arith, long, mul-le (time r) (step (machine r)) GREATEST (2 ^ 30) (omega (arith, at, (times i h (job r) inside).1)) (omega (arith, step-most (machine r) on, few)));
+      work = ap (λ x. x * speed (machine r)) long ∙ grouped (time r) (step (machine r)) (speed (machine r))
+          ∙ ap (λ x. x * time r) (step-speed (machine r) on) ∙ ap (λ x. unit * x) (at ∙ ap time_of (sym (turns.each r l).job));
     })
       where
         below : r < n
@@ -195,7 +198,8 @@ module _ (i : Instance) (h : IsUniformInstance i) (unit : ℕ) (common : IsLeast
       inside = λ k d l. (meant k d l).machine_inside;
       lasts = λ k d l. (meant k d l).lasts;
       short = λ k d l. (meant k d l).short;
-      work = λ p rest c. subst (λ k. IsWholeWork k i (pos unit) (piece_before p rest)) (sym h.kind) (ap (λ x. x *ℤ pos (speed p.machine)) (piece_long p rest) ∙ ap pos (All-contains IsMeant places p meant c).work);
+      work = λ p rest c. subst (λ k. IsWholeWork k i (pos unit) (piece_before p rest))
+          (sym h.kind) (ap (λ x. x *ℤ pos (speed p.machine)) (piece_long p rest) ∙ ap pos (All-contains IsMeant places p meant c).work);
     }
       where
         not_unrelated : Uniform ≡ Unrelated → ⊥
@@ -205,7 +209,8 @@ module _ (i : Instance) (h : IsUniformInstance i) (unit : ℕ) (common : IsLeast
     s = schedule_of unit places
 
     upper : cost_of i s ≤ℤ pos value
-    upper = subst (λ x. cost_of i s ≤ℤ pos x) (ap (λ k. total_below k (λ r. length_at places r * (seats machine r (machine r) + 1))) count ∙ total_below-same n _ _ (λ r l. ap (λ x. x * (seats machine r (machine r) + 1)) (length-is r l) ∙ grouped (time r) (step (machine r)) (seats machine r (machine r) + 1)))
+    upper = subst (λ x. cost_of i s ≤ℤ pos x) (ap (λ k. total_below k (λ r. length_at places r * (seats machine r (machine r) + 1))) count
+        ∙ total_below-same n _ _ (λ r l. ap (λ x. x * (seats machine r (machine r) + 1)) (length-is r l) ∙ grouped (time r) (step (machine r)) (seats machine r (machine r) + 1)))
         (laid_costs i (IsPlain-from_uniform i h) unit places fitting)
       where
         grouped : (a b c : ℕ) → a * b * c ≡ a * (c * b)
@@ -276,7 +281,8 @@ module _ (i : Instance) (h : IsUniformInstance i) (unit : ℕ) (common : IsLeast
 
       ends_take : other * total_below n weighed ≤ unit * total_below n end
       ends_take = subst (λ x. x ≤ unit * total_below n end)
-          (sym (total_below-scale n unit (λ j. (end j - begin j) * place j)) ∙ total_below-same n _ (λ j. other * weighed j) (λ j l. turned unit (end j - begin j) (place j) (step (on j)) other (time_of j) (size j l) (position_of-some n on end j l)) ∙ total_below-scale n other weighed)
+          (sym (total_below-scale n unit (λ j. (end j - begin j) * place j)) ∙ total_below-same n _ (λ j. other * weighed j)
+          (λ j l. turned unit (end j - begin j) (place j) (step (on j)) other (time_of j) (size j l) (position_of-some n on end j l)) ∙ total_below-scale n other weighed)
           (mul-le-mul_left unit (sum_of_ends n on end begin lasts apart))
         where
           turned : (u x k s d t : ℕ) → u * x ≡ s * (d * t) → 1 ≤ k → u * (x * k) ≡ d * (t * ((k - 1 + 1) * s))
@@ -301,7 +307,8 @@ module _ (i : Instance) (h : IsUniformInstance i) (unit : ℕ) (common : IsLeast
           (least_in_all n i.machines step machine machine-inside greedy time (λ r. on (job r)) (λ r. place (job r) - 1) falls
           (λ a l. let j = job-inside a l in (on-inside (job a) j, below (place (job a)) n (position_of-some n on end (job a) j) (position_of-few n on end (job a))))
           (λ a b l m same e. let ja = job-inside a l in let jb = job-inside b m in
-          job-once a b l m (position_of-once n on end begin lasts apart (job a) (job b) ja jb same (back (place (job a)) (place (job b)) (position_of-some n on end (job a) ja) (position_of-some n on end (job b) jb) e))))
+          job-once a b l m (position_of-once n on end begin lasts apart (job a)
+          (job b) ja jb same (back (place (job a)) (place (job b)) (position_of-some n on end (job a) ja) (position_of-some n on end (job b) jb) e))))
         where
           below : (c n : ℕ) → 1 ≤ c → c ≤ n → c - 1 < n
           below c n h k = omega arith

@@ -1,5 +1,6 @@
 -- The jobs that took their turns take multipliers in the order of their times, ties by number.
-use Rattle.std.proofs.Common.{◌≡◌, ◌≢◌, ℕ, ◌+◌, ◌*◌, ◌<◌, ◌≤◌, ◌^◌, Bool, true, false, cond, eqb, leb, ◌⊎◌, inl, inr, List, [], ◌∷◌, length, get_or, map, pos, ◌≤ℤ◌, All, AllPairs, refl, sym, ap, subst, subst₂, ◌∙◌, arith}
+use Rattle.std.proofs.Common.{◌≡◌, ◌≢◌, ℕ, ◌+◌, ◌*◌, ◌<◌, ◌≤◌, ◌^◌, Bool, true, false, cond, eqb, leb, ◌⊎◌, inl, inr, List, [], ◌∷◌, length, get_or, map, pos, ◌≤ℤ◌, All, AllPairs}
+use Rattle.std.proofs.Common.{refl, sym, ap, subst, subst₂, ◌∙◌, arith}
 use Rattle.std.proofs.lemmas.Bool.{leb-true, leb-false}
 use Rattle.std.proofs.lemmas.List.{length-map, get_or-map}
 use Rattle.std.proofs.lemmas.List.Elements.{All-nil, All-cons}
@@ -92,7 +93,8 @@ module _ (i : Instance) (h : IsUniformInstance i) (unit : ℕ) (common : IsLeast
       at r m = get_or-map (λ (t : Keyed). t.job) jobs r no_timed 0 m
 
       differ : (timed_at jobs a).job ≢ (timed_at jobs b).job
-      differ e = OnceBelow-distinct (once i h unit common few jobs sorted places turns) a b 0 l (omega (arith, k, length-map jobs (λ (t : Keyed). t.job))) (at a (omega (arith, l, k)) ∙ e ∙ sym (at b k))
+      differ e = OnceBelow-distinct (once i h unit common few jobs sorted places turns)
+          a b 0 l (omega (arith, k, length-map jobs (λ (t : Keyed). t.job))) (at a (omega (arith, l, k)) ∙ e ∙ sym (at b k))
 
       strict : (p q x y : ℕ) → (q < p) ⊎ ((q ≡ p) × (x ≤ y)) → p ≡ time_of_job x → q ≡ time_of_job y → x ≢ y → GoesFirst x y
       strict p q x y (inl less) e f n = inl (omega (arith, less, e, f))
@@ -116,8 +118,10 @@ module _ (i : Instance) (h : IsUniformInstance i) (unit : ℕ) (common : IsLeast
 
   takes_least : (r : ℕ) → r < length places → TakesLeast i machine r
   takes_least r l = record {
-    least = λ m k. crossed _ _ (number_at (steps_by i unit) m) (number_at (steps_by i unit) (machine r)) _ _ unit (turn.least m (omega (arith, k, steps))) (step-speed i h unit common m k) (step-speed i h unit common (machine r) inside) common.some;
-    first = λ m k. let on : m < i.machines = omega (arith, k, inside) in crossed_less _ _ (number_at (steps_by i unit) m) (number_at (steps_by i unit) (machine r)) _ _ unit (turn.first m k) (step-speed i h unit common m on) (step-speed i h unit common (machine r) inside) (speed_some m on) (speed_some (machine r) inside);
+    least = λ m k. crossed _ _ (number_at (steps_by i unit) m) (number_at (steps_by i unit) (machine r))
+        _ _ unit (turn.least m (omega (arith, k, steps))) (step-speed i h unit common m k) (step-speed i h unit common (machine r) inside) common.some;
+    first = λ m k. let on : m < i.machines = omega (arith, k, inside) in crossed_less _ _ (number_at (steps_by i unit) m) (number_at (steps_by i unit) (machine r))
+        _ _ unit (turn.first m k) (step-speed i h unit common m on) (step-speed i h unit common (machine r) inside) (speed_some m on) (speed_some (machine r) inside);
   }
     where
       steps : length (steps_by i unit) ≡ i.machines

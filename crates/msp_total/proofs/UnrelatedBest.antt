@@ -1,14 +1,17 @@
 -- Jobs at the positions of a least assignment, as a schedule on unrelated machines: it is feasible and best, and lies within the bounds.
-use Rattle.std.proofs.Common.{◌≡◌, ℕ, zero, suc, ◌+◌, ◌*◌, ◌/◌, ◌%◌, ◌<◌, ◌≤◌, ◌^◌, Bool, true, false, cond, eqb, ◌⊎◌, inl, inr, List, length, get_or, map, ℤ, pos, ◌+ℤ◌, ◌*ℤ◌, ◌≤ℤ◌, All, refl, sym, ap, ap₂, subst, subst₂, ◌∙◌, arith}
+use Rattle.std.proofs.Common.{◌≡◌, ℕ, zero, suc, ◌+◌, ◌*◌, ◌/◌, ◌%◌, ◌<◌, ◌≤◌, ◌^◌, Bool, true, false, cond, eqb, ◌⊎◌, inl, inr, List, length, get_or, map, ℤ, pos, ◌+ℤ◌, ◌*ℤ◌}
+use Rattle.std.proofs.Common.{◌≤ℤ◌, All, refl, sym, ap, ap₂, subst, subst₂, ◌∙◌, arith}
 use Rattle.std.proofs.lemmas.Bool.{eqb-true}
 use Rattle.std.proofs.lemmas.Int.{ints}
 use Rattle.std.proofs.Math.Nat.{mul-le-mul_left, mul-le-mul_right, div-mul-le_self, div-add-mod}
 use Rattle.std.proofs.lemmas.List.{length-map, get_or-map, get_or_default, same_lists}
 use Rattle.std.proofs.lemmas.List.Elements.{All-contains}
+use Rattle.msp_class.specs.declared.sizes.TheConstants.{GREATEST}
 use lib.Arith.{digits_div, digits_mod}
 use Rattle.msp_class.proofs.IntegerRing.{pos-le, ≤ℤ_trans, one-*ℤ, *ℤ_comm, *ℤ-mono_nonneg, *ℤ-one}
 use Rattle.msp_class.specs.Sums.{total_below, int_total_below}
-use Rattle.msp_class.proofs.Sums.{cond-yes, cond-no, sum_by-map, sum_by-OnceBelow, total_below-mono, int_total_below-same, int_total_below-natural, OnceBelow, OnceBelow-from_permutation, OnceBelow-distinct, length-OnceBelow}
+use Rattle.msp_class.proofs.Sums.{cond-yes, cond-no, sum_by-map, sum_by-OnceBelow, total_below-mono, int_total_below-same, int_total_below-natural, OnceBelow}
+use Rattle.msp_class.proofs.Sums.{OnceBelow-from_permutation, OnceBelow-distinct, length-OnceBelow}
 use Rattle.msp_instance.specs.declared.Instance.{Instance}
 use Rattle.msp_instance.specs.Instance.{no_job, need_at}
 use Rattle.msp_schedule.specs.declared.Piece.{Piece}
@@ -42,7 +45,8 @@ int_total_below-split a zero f = ap (λ k. int_total_below k f) none ∙ omega (
   where
     none : a + 0 ≡ a
     none = omega arith
-int_total_below-split a (suc b) f = ap (λ k. int_total_below k f) next ∙ by (int_total_below (a + b) f) (int_total_below a f) (int_total_below b (λ k. f (a + k))) (f (a + b)) (int_total_below-split a b f)
+int_total_below-split a (suc b) f =
+    ap (λ k. int_total_below k f) next ∙ by (int_total_below (a + b) f) (int_total_below a f) (int_total_below b (λ k. f (a + k))) (f (a + b)) (int_total_below-split a b f)
   where
     next : a + suc b ≡ suc (a + b)
     next = omega arith
@@ -68,14 +72,17 @@ by_machine each (suc m) v =
 
 -- ---- positions by rising column
 -- of the columns of a machine that come before a moment in the order, no more are taken than lie below
-below_column : (each : ℕ) (column machine : ℕ → ℕ) (r m x : ℕ) → ((a : ℕ) → a < r → machine a * each ≤ column a) → ((a b : ℕ) → a < b → b < r → column a < column b) → ((a : ℕ) → a < r → column a < x) → m * each ≤ x → seats machine r m + m * each ≤ x
+below_column : (each : ℕ) (column machine : ℕ → ℕ) (r m x : ℕ) → ((a : ℕ) → a < r → machine a * each ≤ column a)
+    → ((a b : ℕ) → a < b → b < r → column a < column b) → ((a : ℕ) → a < r → column a < x) → m * each ≤ x → seats machine r m + m * each ≤ x
 below_column each column machine zero m x starts rises under low = omega (arith, low)
 below_column each column machine (suc r) m x starts rises under low =
     by (eqb (machine r) m) refl
-    (λ e. below_column each column machine r m (column r) (λ a l. starts a (omega arith)) (λ a b l h. rises a b l (omega arith)) (λ a l. rises a r l (omega arith)) (subst (λ k. k * each ≤ column r) (eqb-true (machine r) m e) (starts r (omega arith))))
+    (λ e. below_column each column machine r m (column r) (λ a l. starts a (omega arith)) (λ a b l h. rises a b l (omega arith))
+    (λ a l. rises a r l (omega arith)) (subst (λ k. k * each ≤ column r) (eqb-true (machine r) m e) (starts r (omega arith))))
     (below_column each column machine r m x (λ a l. starts a (omega arith)) (λ a b l h. rises a b l (omega arith)) (λ a l. under a (omega arith)) low)
   where
-    by : (b : Bool) → eqb (machine r) m ≡ b → (eqb (machine r) m ≡ true → seats machine r m + m * each ≤ column r) → seats machine r m + m * each ≤ x → seats machine r m + cond (eqb (machine r) m) 1 0 + m * each ≤ x
+    by : (b : Bool) → eqb (machine r) m ≡ b → (eqb (machine r) m ≡ true → seats machine r m + m * each ≤ column r)
+        → seats machine r m + m * each ≤ x → seats machine r m + cond (eqb (machine r) m) 1 0 + m * each ≤ x
     by true e taken other = omega (arith, taken e, under r (omega arith), cond-yes 1 e)
     by false e taken other = omega (arith, other, cond-no 1 e)
 
@@ -152,7 +159,8 @@ module _ (i : Instance) (h : IsUnrelatedInstance i) (p : Positions) (table : IsT
     pub prices_are : all_prices i row position_price ≡ pos value
     prices_are =
         ap₂ (λ x y. x +ℤ y) (total_over_range n row)
-        (total_over_range i.machines (prices_on_machine i position_price) ∙ int_total_below-same i.machines _ (λ m. int_total_below each (λ k. position (m * each + k))) (λ m l. total_over_range n (position_price m) ∙ ap (λ x. int_total_below x (position_price m)) (sym table.jobs)) ∙ sym (by_machine each i.machines position))
+        (total_over_range i.machines (prices_on_machine i position_price) ∙ int_total_below-same i.machines _ (λ m. int_total_below each (λ k. position (m * each + k)))
+        (λ m l. total_over_range n (position_price m) ∙ ap (λ x. int_total_below x (position_price m)) (sym table.jobs)) ∙ sym (by_machine each i.machines position))
         ∙ total_is
 
     pub prices_fit : ArePrices i row position_price
@@ -227,7 +235,8 @@ module _ (i : Instance) (h : IsUnrelatedInstance i) (p : Positions) (table : IsT
           inside : All (λ c. (c.job < p.jobs) × (c.column < each * p.machines)) chosen
           inside r d l =
               let below : r < n = omega (arith, l, chosen-count) in
-              subst (λ (c : Chosen). (c.job < p.jobs) × (c.column < each * p.machines)) (get_or_default chosen r no_chosen d l) (omega (arith, job-inside r below, table.jobs), omega (arith, column-inside r below, columns_is))
+              subst (λ (c : Chosen). (c.job < p.jobs) × (c.column < each * p.machines))
+              (get_or_default chosen r no_chosen d l) (omega (arith, job-inside r below, table.jobs), omega (arith, column-inside r below, columns_is))
 
       module _ (places : List Place) (turns : ArePlacesOf p listed places) where
         abbrev machine : ℕ → ℕ
@@ -243,7 +252,8 @@ module _ (i : Instance) (h : IsUnrelatedInstance i) (p : Positions) (table : IsT
         machine-below r l = omega (arith, machine-is r l, machine_inside each i.machines (column_at r) (column-inside r l))
 
         length-is : (r : ℕ) → r < n → length_at places r ≡ time (job r) (column_at r / each)
-        length-is r l = (turns.placed r (omega (arith, l, count))).2 ∙ ap (λ xs. time_in p.machines p.times (chosen_at xs r).job ((chosen_at xs r).column / each)) same_chosen ∙ read (job r) (column_at r / each) (job-inside r l) (machine_inside each i.machines (column_at r) (column-inside r l))
+        length-is r l = (turns.placed r (omega (arith, l, count))).2 ∙ ap (λ xs. time_in p.machines p.times (chosen_at xs r).job ((chosen_at xs r).column / each)) same_chosen
+            ∙ read (job r) (column_at r / each) (job-inside r l) (machine_inside each i.machines (column_at r) (column-inside r l))
 
         -- a job is followed by no more jobs than its position says
         position-is : (r : ℕ) → r < n → seats machine r (machine r) + 1 ≤ column_at r % each + 1
@@ -263,12 +273,13 @@ module _ (i : Instance) (h : IsUnrelatedInstance i) (p : Positions) (table : IsT
         same-jobs : map (λ q. q.job) places ≡ map (λ c. c.job) chosen
         same-jobs = same_lists _ _ (length-map places (λ q. q.job) ∙ turns.count ∙ ap length same_chosen ∙ sym (length-map chosen (λ c. c.job)))
             (λ r d l. let inside : r < length places = omega (arith, l, length-map places (λ q. q.job)) in
-            get_or-map (λ (q : Place). q.job) places r no_place d inside ∙ (turns.placed r inside).0 ∙ ap (λ xs. (chosen_at xs r).job) same_chosen ∙ sym (get_or-map (λ (c : Chosen). c.job) chosen r no_chosen d (omega (arith, inside, count, chosen-count))))
+            get_or-map (λ (q : Place). q.job) places r no_place d inside ∙ (turns.placed r inside).0 ∙ ap (λ xs. (chosen_at xs r).job) same_chosen
+            ∙ sym (get_or-map (λ (c : Chosen). c.job) chosen r no_chosen d (omega (arith, inside, count, chosen-count))))
 
         record IsMeant (q : Place) : Type 0 where
           machine_is : q.machine < i.machines
           lasts : 0 < q.length
-          short : q.length ≤ 1000000000 * 2 ^ 30
+          short : q.length ≤ GREATEST * 2 ^ 30
           work : q.length ≡ time q.job q.machine
 
         meant : All IsMeant places
@@ -295,19 +306,22 @@ module _ (i : Instance) (h : IsUnrelatedInstance i) (p : Positions) (table : IsT
           inside = λ k d l. (meant k d l).machine_is;
           lasts = λ k d l. (meant k d l).lasts;
           short = λ k d l. (meant k d l).short;
-          work = λ q rest c. subst (λ k. IsWholeWork k i (pos 1) (piece_before q rest)) (sym h.kind) (piece_long q rest ∙ ap pos (All-contains IsMeant places q meant c).work ∙ sym (one-*ℤ (pos (time q.job q.machine))));
+          work = λ q rest c. subst (λ k. IsWholeWork k i (pos 1) (piece_before q rest))
+              (sym h.kind) (piece_long q rest ∙ ap pos (All-contains IsMeant places q meant c).work ∙ sym (one-*ℤ (pos (time q.job q.machine))));
         }
 
         abbrev s : Schedule
         s = schedule_of 1 places
 
         pub upper : cost_of i s ≤ℤ pos value
-        upper = ≤ℤ_trans (laid_costs i (IsPlain-from_unrelated i h) 1 places fitting) (pos-le (subst (λ x. x ≤ value) (ap (λ k. total_below k (λ r. length_at places r * (seats machine r (machine r) + 1))) (sym count))
+        upper = ≤ℤ_trans (laid_costs i (IsPlain-from_unrelated i h) 1 places fitting)
+            (pos-le (subst (λ x. x ≤ value) (ap (λ k. total_below k (λ r. length_at places r * (seats machine r (machine r) + 1))) (sym count))
             (subst (λ x. total_below n (λ r. length_at places r * (seats machine r (machine r) + 1)) ≤ x) (sym reordered) (total_below-mono n _ _ term))))
           where
             reordered : value ≡ total_below n (λ r. cost_at (job r) (at (job r)))
             reordered =
-                sym (sum_by-OnceBelow (λ j. cost_at j (at j)) once) ∙ sum_by-map (λ j. cost_at j (at j)) (λ (c : Chosen). c.job) chosen ∙ sum_by-places (λ (c : Chosen). cost_at c.job (at c.job)) chosen no_chosen
+                sym (sum_by-OnceBelow (λ j. cost_at j (at j)) once) ∙ sum_by-map (λ j. cost_at j (at j)) (λ (c : Chosen). c.job) chosen
+                ∙ sum_by-places (λ (c : Chosen). cost_at c.job (at c.job)) chosen no_chosen
                 ∙ ap (λ k. total_below k (λ r. cost_at (job r) (at (job r)))) chosen-count
 
             term : (r : ℕ) → r < n → length_at places r * (seats machine r (machine r) + 1) ≤ cost_at (job r) (at (job r))
@@ -323,7 +337,8 @@ module _ (i : Instance) (h : IsUnrelatedInstance i) (p : Positions) (table : IsT
             least : (t : Schedule) → Feasible i t → (cost_of i s *ℤ t.unit) ≤ℤ (cost_of i t *ℤ pos 1)
             least t f =
                 subst₂ (λ x y. x ≤ℤ y) (*ℤ_comm t.unit (cost_of i s)) (sym (*ℤ-one (cost_of i t)))
-                (≤ℤ_trans (*ℤ-mono_nonneg t.unit (positive t.unit f.unit) upper) (subst (λ x. (t.unit *ℤ x) ≤ℤ cost_of i t) prices_are (law_of_prices i t row position_price h.kind h.cut h.crit f prices_fit)))
+                (≤ℤ_trans (*ℤ-mono_nonneg t.unit (positive t.unit f.unit) upper)
+                (subst (λ x. (t.unit *ℤ x) ≤ℤ cost_of i t) prices_are (law_of_prices i t row position_price h.kind h.cut h.crit f prices_fit)))
               where
                 positive : (u : ℤ) → pos 1 ≤ℤ u → pos 0 ≤ℤ u
                 positive u k = omega (arith, ints)

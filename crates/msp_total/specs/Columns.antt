@@ -1,7 +1,7 @@
 -- Jobs by the columns that an assignment gives them. No public contract cites this file.
 use Rattle.std.specs.Prelude.{◌≡◌, ℕ, ◌*◌, ◌/◌, ◌<◌, ◌≤◌, List, length, map, slice_index_or, All, AllPairs, IsPermutation}
 use Rattle.std.specs.List.{range_with_len}
-use Rattle.msp_instance.specs.declared.ranges.TheConstants.{GREATEST, GREATEST_MULTIPLE}
+use Rattle.msp_class.specs.declared.sizes.TheConstants.{GREATEST, GREATEST_MULTIPLE}
 use Rattle.msp_instance.specs.declared.Instance.{Instance}
 use Rattle.msp_instance.specs.Instance.{need_at}
 use Rattle.msp_assign.specs.declared.assignment.Assignment.{Assignment}

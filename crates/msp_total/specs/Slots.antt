@@ -17,11 +17,11 @@ tardiness_class = record { env = Parallel; cut = false; order = Free; heads = tr
 abbrev pub late_jobs_class : Class
 late_jobs_class = record tardiness_class { crit = SumWU }
 
--- More than any schedule costs.
+-- More than any schedule costs, which is at most MOST_JOBS * GREATEST * (10 * GREATEST).
 abbrev pub forbidden : ℤ
 forbidden = pos (2 ^ 90)
 
--- The most, in size, that the end of a slot is past a due date.
+-- The most, in size, that the end of a slot is past a due date, of whichever numbers of 64 bits.
 abbrev pub greatest_past : ℕ
 greatest_past = 2 ^ 66
 

@@ -1,6 +1,6 @@
 // Jobs laid on machines from moment 0 on, without gaps.
 ghost use Rattle.std.specs.Prelude.{◌≡◌, ◌∷◌, ◌++◌, [], ℕ, ◌+◌, ◌<◌, ◌^◌, slice_index_or, IfOk, OnOk};
-ghost use Rattle.msp_instance.specs.declared.ranges.TheConstants.{MOST_MACHINES};
+ghost use Rattle.msp_class.specs.declared.sizes.TheConstants.{MOST_MACHINES};
 ghost use Rattle.msp_total.specs.Places.{ArePlaces, time_on, laid, piece_until};
 
 use msp_class::{List, NoMemory};

@@ -1,6 +1,6 @@
 // What jobs cost in slots.
 ghost use Rattle.std.specs.Prelude.{◌≡◌, ◌+◌, ◌*◌, ◌<◌, ◌≤◌, ◌^◌, pos, ◌*ℤ◌, unsigned_abs, length};
-ghost use Rattle.msp_instance.specs.declared.ranges.TheConstants.{GREATEST};
+ghost use Rattle.msp_class.specs.declared.sizes.TheConstants.{GREATEST};
 ghost use Rattle.msp_instance.specs.Conditions.{LiesWithin};
 ghost use Rattle.msp_total.specs.Slots.{greatest_past, past_due, slot_cost};
 

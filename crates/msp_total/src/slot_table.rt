@@ -1,7 +1,7 @@
 // A table of what jobs cost in slots, by its data.
 ghost use Rattle.std.specs.Prelude.{◌≡◌, ◌<◌, ◌≤◌, length, All};
 ghost use Rattle.msp_class.specs.declared.list.TheConstants.{PLACES};
-ghost use Rattle.msp_instance.specs.declared.ranges.TheConstants.{GREATEST};
+ghost use Rattle.msp_class.specs.declared.sizes.TheConstants.{GREATEST};
 
 use msp_class::List;
 

@@ -9,9 +9,9 @@
 // Best (`proofs/UniformBest.antt`): in any schedule the jobs stand at positions of their own, counted from the end of each machine
 // (`law_of_prices` of `msp_schedule` stands on the same count), and cost at least their times by the multipliers. Any q positions have
 // multipliers that add up to at least those of the first q taken, so the longest times at the least multipliers add up to the least.
-ghost use Rattle.std.specs.Prelude.{◌≡◌, ◌+◌, ◌*◌, ◌/◌, ◌<◌, ◌≤◌, length, map, slice_set, All, IfOk, ⊤};
+ghost use Rattle.std.specs.Prelude.{◌≡◌, ◌+◌, ◌*◌, ◌/◌, ◌<◌, ◌≤◌, length, map, slice_set, All, IfOk};
 ghost use Rattle.std.specs.List.{range_with_len};
-ghost use Rattle.msp_instance.specs.declared.ranges.TheConstants.{GREATEST, GREATEST_MULTIPLE, MOST_JOBS, MOST_MACHINES};
+ghost use Rattle.msp_class.specs.declared.sizes.TheConstants.{MOST_JOBS, MOST_MACHINES, GREATEST, GREATEST_MULTIPLE};
 ghost use Rattle.msp_instance.specs.Instance.{need_at};
 ghost use Rattle.msp_instance.specs.Conditions.{Inner};
 ghost use Rattle.msp_schedule.specs.Cost.{IsBest};
@@ -165,10 +165,6 @@ pub struct Uniform;
 
 impl Solver for Uniform {
     ghost solved = { λ _. uniform_class };
-
-    ghost can_solve = { λ _ _. ⊤ };
-
-    ghost may_ask = { λ _ _. ⊤ };
 
     fn target(&self) -> Class {
         UNIFORM_CLASS

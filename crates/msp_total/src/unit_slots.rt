@@ -9,8 +9,8 @@
 // begins no later and not before its release date (`msp_slots/proofs/SlotPlaces.antt`); fractions are no help, as begins may be rounded
 // down (`law_of_floors` of `msp_schedule`). Costs do not fall with ends, so the assignment costs no more; and it never takes a slot before
 // a release date, since the jobs fit without.
-ghost use Rattle.std.specs.Prelude.{◌≡◌, ◌<◌, ◌≤◌, length, map, All, IfOk, ⊤};
-ghost use Rattle.msp_instance.specs.declared.ranges.TheConstants.{GREATEST, MOST_JOBS};
+ghost use Rattle.std.specs.Prelude.{◌≡◌, ◌<◌, ◌≤◌, length, map, All, IfOk};
+ghost use Rattle.msp_class.specs.declared.sizes.TheConstants.{MOST_JOBS, GREATEST};
 ghost use Rattle.msp_instance.specs.Conditions.{Inner};
 ghost use Rattle.msp_schedule.specs.Cost.{IsBest};
 ghost use Rattle.msp_route.specs.Bounds.{IsAnswer};
@@ -135,10 +135,6 @@ pub struct SlotsLate;
 impl Solver for SlotsLate {
     ghost solved = { λ _. tardiness_class };
 
-    ghost can_solve = { λ _ _. ⊤ };
-
-    ghost may_ask = { λ _ _. ⊤ };
-
     fn target(&self) -> Class {
         class_of(true)
     }
@@ -158,10 +154,6 @@ pub struct SlotsCount;
 
 impl Solver for SlotsCount {
     ghost solved = { λ _. late_jobs_class };
-
-    ghost can_solve = { λ _ _. ⊤ };
-
-    ghost may_ask = { λ _ _. ⊤ };
 
     fn target(&self) -> Class {
         class_of(false)

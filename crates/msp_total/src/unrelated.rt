@@ -9,9 +9,9 @@
 //
 // The prices (`prices`, `solve_with_prices`) are evidence of the cost: they are together what a best schedule costs
 // (`proofs/PositionPrices.antt`, `law_of_prices` of `msp_schedule`).
-ghost use Rattle.std.specs.Prelude.{◌≡◌, ◌++◌, ◌*◌, ◌/◌, ◌<◌, ◌≤◌, length, map, All, IfOk, OnOk, ⊤};
+ghost use Rattle.std.specs.Prelude.{◌≡◌, ◌++◌, ◌*◌, ◌/◌, ◌<◌, ◌≤◌, length, map, All, IfOk, OnOk};
 ghost use Rattle.std.specs.List.{range_with_len};
-ghost use Rattle.msp_instance.specs.declared.ranges.TheConstants.{MOST_JOBS, MOST_MACHINES};
+ghost use Rattle.msp_class.specs.declared.sizes.TheConstants.{MOST_JOBS, MOST_MACHINES};
 ghost use Rattle.msp_instance.specs.Conditions.{Inner};
 ghost use Rattle.msp_schedule.specs.Cost.{IsBest};
 ghost use Rattle.msp_route.specs.Bounds.{IsAnswer};
@@ -204,10 +204,6 @@ pub struct Unrelated;
 
 impl Solver for Unrelated {
     ghost solved = { λ _. unrelated_class };
-
-    ghost can_solve = { λ _ _. ⊤ };
-
-    ghost may_ask = { λ _ _. ⊤ };
 
     fn target(&self) -> Class {
         UNRELATED_CLASS

@@ -1,5 +1,6 @@
 -- What is before each job of an instance with at most one predecessor for each job.
-use Rattle.std.proofs.Common.{◌≡◌, ◌≢◌, ℕ, zero, suc, ◌+◌, ◌<◌, ◌≤◌, ◌⊎◌, inl, inr, Bool, true, false, cond, if◌then◌else◌, List, [], ◌∷◌, length, get_or, All, AllPairs, Some, refl, sym, ap, subst, ◌∙◌, arith}
+use Rattle.std.proofs.Common.{◌≡◌, ◌≢◌, ℕ, zero, suc, ◌+◌, ◌<◌, ◌≤◌, ◌⊎◌, inl, inr, Bool, true, false, cond, if◌then◌else◌, List, [], ◌∷◌, length, get_or, All, AllPairs, Some}
+use Rattle.std.proofs.Common.{refl, sym, ap, subst, ◌∙◌, arith}
 use Rattle.std.specs.Prelude.{◌==◌}
 use Rattle.std.proofs.lemmas.Bool.{eqb-true, eqb-false, eq-eqb}
 use Rattle.std.proofs.lemmas.List.Sums.{sum_by-cons}
@@ -38,7 +39,8 @@ before_only (a ∷ arcs) start j k few c = by (a.after == j) refl (before_only a
     first (zero, l, e) = inl e
     first (suc n, l, e) = inr (n, omega arith, e)
 
-    by : (b : Bool) → (a.after == j) ≡ b → (entering arcs j ≤ 1 → HasStep arcs k j → first_before arcs start j ≡ k) → entering (a ∷ arcs) j ≡ cond b 1 0 + entering arcs j → (if b then a.before else first_before arcs start j) ≡ k
+    by : (b : Bool) → (a.after == j) ≡ b → (entering arcs j ≤ 1 → HasStep arcs k j → first_before arcs start j ≡ k)
+        → entering (a ∷ arcs) j ≡ cond b 1 0 + entering arcs j → (if b then a.before else first_before arcs start j) ≡ k
     by true e later count = elim (first c) [
       | inl s ↦ ap (λ x. x.before) s
       | inr d ↦ absurd (two few count (sum_by-contains (λ x. cond (x.after == j) 1 0) arcs arc d) (cond-yes 1 (eq-eqb j j refl)))
@@ -82,7 +84,8 @@ module _ (i : Instance) (ends : All (λ a. (a.before < length i.jobs) × (a.afte
   module _ (few : (j : ℕ) → j < length i.jobs → entering i.arcs j ≤ 1) where
     -- and back
     pub steps_forward : (order : List ℕ) → IsForward (before i) order → AllPairs (λ x y. ¬ HasStep i.arcs y x) order
-    steps_forward order f a b d l m c = f a b d l m (before_only i.arcs (length i.jobs) (get_or order a d) (get_or order b d) (few (get_or order a d) (step_ends (get_or order b d) (get_or order a d) c).1) c)
+    steps_forward order f a b d l m c =
+        f a b d l m (before_only i.arcs (length i.jobs) (get_or order a d) (get_or order b d) (few (get_or order a d) (step_ends (get_or order b d) (get_or order a d) c).1) c)
 
   -- ---- where the arcs have no cycle
   module _ (order : List ℕ) (q : IsSequence i order) (forward : All (GoesForward order) i.arcs) where
@@ -90,7 +93,14 @@ module _ (i : Instance) (ends : All (λ a. (a.before < length i.jobs) × (a.afte
     may_precede a b d h k arc c e f =
         let (m, n, less, at, to) = All-contains (GoesForward order) i.arcs arc forward c in
         let w = All-contains (λ x. (x.before < length i.jobs) × (x.after < length i.jobs)) i.arcs arc ends c in
-        omega (arith, less, same_place i order q arc.before m b w.0 at (slice_get-get_or order b d k ∙ ap Some (sym e)), same_place i order q arc.after n a w.1 to (slice_get-get_or order a d (omega arith) ∙ ap Some (sym f)), h)
+        omega (
+          arith,
+          less,
+          same_place i order q arc.before m b w.0 at (slice_get-get_or order b d k ∙ ap Some (sym e)),
+          same_place i order q arc.after n a w.1 to
+              (slice_get-get_or order a d (omega arith) ∙ ap Some (sym f)),
+          h,
+        )
 
     pub no_loop : (j : ℕ) → ¬ HasStep i.arcs j j
     no_loop j c =

@@ -1,4 +1,4 @@
--- The row of the jobs in a cheapest order is best, and in the form of an answer.
+-- The jobs back to back in a cheapest order are a best schedule, and in the form of an answer.
 use Rattle.std.proofs.Common.{◌≡◌, ℕ, ◌*◌, ◌<◌, ◌≤◌, List, length, ℤ, pos, nat_abs, ◌*ℤ◌, ◌≤ℤ◌, refl, sym, ap, subst, ◌∙◌, arith, slice_index_or}
 use Rattle.std.proofs.lemmas.Int.{ints}
 use native.Mathlib.Nat.{mul-le-mul_left}
@@ -17,11 +17,11 @@ use Rattle.msp_schedule.specs.Feasible.{Feasible}
 use Rattle.msp_schedule.specs.Cost.{cost_of, Best}
 use Rattle.msp_schedule.specs.Settled.{IsSettled}
 use Rattle.msp_schedule.specs.Within.{Within}
-use Rattle.msp_schedule.specs.Rows.{row, seq, piece, time_at, row_schedule}
-use Rattle.msp_schedule.proofs.lists.Rows.{last-seq_below}
+use Rattle.msp_schedule.specs.BackToBack.{back_to_back, weighted_ends, piece, time_at, schedule_in_order}
+use Rattle.msp_schedule.proofs.lists.BackToBack.{last-weighted_ends_below}
 use Rattle.msp_schedule.proofs.costs.Charges.{SameCharges-from_jobs}
 use Rattle.msp_schedule.proofs.feasible.OneMachine.{weighted_cost}
-use Rattle.msp_schedule.proofs.feasible.OneRow.{piece_makes, row_is_settled, row_is_within}
+use Rattle.msp_schedule.proofs.feasible.BackToBack.{piece_makes, back_to_back_is_settled, back_to_back_is_within}
 use Rattle.msp_schedule.specs.LineUp.{order_of_ends}
 use Rattle.msp_schedule.proofs.changes.LineUp.{IsLine as IsOneLine, IsLine-from_conditions, SameLine-refl, cost-lined_up, forward_by_ends, order_of_ends-once, order_of_ends-rises}
 use Rattle.msp_schedule.proofs.changes.Exchange.{cost_of-lined_up}
@@ -30,8 +30,8 @@ use Rattle.msp_trees.specs.Horn.{horn_class}
 use Rattle.msp_trees.specs.Horn.{before, weight_at}
 use Rattle.msp_trees.specs.Joining.{IsCheapest}
 use Rattle.msp_route.proofs.PlainJobs.{IsPlain, IsPlain-from, takes_time, is_short}
-use Rattle.msp_route.proofs.RowAnswer.{timed, row_is_answer}
-use Rattle.msp_route.proofs.RowArcs.{forward_row_is_feasible}
+use Rattle.msp_route.proofs.BackToBackAnswer.{timed, back_to_back_is_answer}
+use Rattle.msp_route.proofs.BackToBackArcs.{forward_is_feasible}
 use Rattle.msp_trees.proofs.Joins.{IsTree}
 use Rattle.msp_trees.proofs.Before.{before_within, before_start, forward_from_arcs, steps_forward, may_precede, no_loop, before_loose}
 
@@ -76,21 +76,22 @@ pub record IsHornSchedule (i : Instance) (s : Schedule) : Type 0 where
 
 module _ (i : Instance) (h : IsHornInstance i) (order : List ℕ) (o : IsCheapest (length i.jobs) (before i) (time_at i) (weight_at i) order) where
   abbrev pieces : List Piece
-  pieces = row piece (time_at i) 0 order
+  pieces = back_to_back piece (time_at i) 0 order
 
   -- ---- it is feasible
   loose : (j : ℕ) → ¬ HasStep i.arcs j j
   loose = let (all, q, forward) = h.inner.acyclic in no_loop i h.inner.conditions.ends all q forward
 
-  horn_is_feasible : Feasible i (row_schedule i order)
-  horn_is_feasible = forward_row_is_feasible i h.plain order o.once loose (steps_forward i h.inner.conditions.ends h.few order o.forward)
+  horn_is_feasible : Feasible i (schedule_in_order i order)
+  horn_is_feasible = forward_is_feasible i h.plain order o.once loose (steps_forward i h.inner.conditions.ends h.few order o.forward)
 
   -- ---- no schedule costs less
   abbrev least_cost : ℕ
-  least_cost = seq (time_at i) (weight_at i) 0 order
+  least_cost = weighted_ends (time_at i) (weight_at i) 0 order
 
-  horn_cost : cost_of i (row_schedule i order) ≡ pos least_cost
-  horn_cost = weighted_cost i (row_schedule i order) h.crit (timed i h.plain order o.once) ∙ ap pos (last-seq_below piece piece_makes (time_at i) (weight_at i) (length i.jobs) 0 order o.once)
+  horn_cost : cost_of i (schedule_in_order i order) ≡ pos least_cost
+  horn_cost = weighted_cost i (schedule_in_order i order) h.crit (timed i h.plain order o.once)
+      ∙ ap pos (last-weighted_ends_below piece piece_makes (time_at i) (weight_at i) (length i.jobs) 0 order o.once)
 
   module _ (t : Schedule) (f : Feasible i t) where
     abbrev by_ends : List ℕ
@@ -102,17 +103,17 @@ module _ (i : Instance) (h : IsHornInstance i) (order : List ℕ) (o : IsCheapes
     once_by_ends : OnceBelow (length i.jobs) by_ends
     once_by_ends = order_of_ends-once i t
 
-    least_by_ends : least_cost ≤ seq (time_at i) (weight_at i) 0 by_ends
+    least_by_ends : least_cost ≤ weighted_ends (time_at i) (weight_at i) 0 by_ends
     least_by_ends = o.least by_ends once_by_ends (forward_from_arcs i h.inner.conditions.ends by_ends once_by_ends (forward_by_ends i h.line t f by_ends once_by_ends (order_of_ends-rises i t)))
 
-    ends_cost : pos (D * seq (time_at i) (weight_at i) 0 by_ends) ≤ℤ cost_of i t
+    ends_cost : pos (D * weighted_ends (time_at i) (weight_at i) 0 by_ends) ≤ℤ cost_of i t
     ends_cost =
         ≤ℤ_trans (≤ℤ_of_same (sym (cost_of-lined_up i h.line h.crit D (omega (arith, ints, f.unit)) by_ends once_by_ends)))
         (cost-lined_up i i h.line h.line (SameLine-refl i) t f by_ends once_by_ends (order_of_ends-rises i t) (SameCharges-from_jobs i i refl refl (λ k l. (refl, refl, refl))))
 
-    horn_beats : (cost_of i (row_schedule i order) *ℤ t.unit) ≤ℤ (cost_of i t *ℤ pos 1)
+    horn_beats : (cost_of i (schedule_in_order i order) *ℤ t.unit) ≤ℤ (cost_of i t *ℤ pos 1)
     horn_beats =
-        let more : D * least_cost ≤ D * seq (time_at i) (weight_at i) 0 by_ends = mul-le-mul_left D least_by_ends in
+        let more : D * least_cost ≤ D * weighted_ends (time_at i) (weight_at i) 0 by_ends = mul-le-mul_left D least_by_ends in
         in_int _ _ t.unit least_cost D horn_cost (natural t.unit (omega (arith, ints, f.unit))) (≤ℤ_trans (pos-le more) ends_cost)
       where
         in_int : (x y u : ℤ) (a d : ℕ) → x ≡ pos a → u ≡ pos d → pos (d * a) ≤ℤ y → (x *ℤ u) ≤ℤ (y *ℤ pos 1)
@@ -120,10 +121,10 @@ module _ (i : Instance) (h : IsHornInstance i) (order : List ℕ) (o : IsCheapes
             let same : a * d ≡ d * a = omega arith in
             ≤ℤ_trans (≤ℤ_of_same (ap (λ z. z *ℤ u) ex ∙ ap (λ z. pos a *ℤ z) eu ∙ ap pos same)) (≤ℤ_trans l (≤ℤ_of_same (sym (*ℤ-one y))))
 
-  pub horn_schedule : IsHornSchedule i (row_schedule i order)
+  pub horn_schedule : IsHornSchedule i (schedule_in_order i order)
   horn_schedule = record {
     best = record { feasible = horn_is_feasible; least = horn_beats };
-    settled = row_is_settled i order o.once (takes_time i h.plain);
-    within = row_is_within i order o.once (takes_time i h.plain) h.plain.few (is_short i h.plain) h.plain.machine.kind;
-    answer = row_is_answer i h.plain order o.once;
+    settled = back_to_back_is_settled i order o.once (takes_time i h.plain);
+    within = back_to_back_is_within i order o.once (takes_time i h.plain) h.plain.few (is_short i h.plain) h.plain.machine.kind;
+    answer = back_to_back_is_answer i h.plain order o.once;
   }

@@ -1,41 +1,47 @@
 -- One block of greatest ratio is joined behind the one that holds what is before it: some cheapest order has it there.
-use Rattle.std.proofs.Common.{◌≡◌, ◌≢◌, ℕ, suc, ◌+◌, ◌*◌, ◌<◌, ◌≤◌, inl, inr, cond, eqb, List, [], ◌∷◌, ◌++◌, get_or, map, All, Contains, IsPermutation, sum_by, le_trans, refl, sym, ap, subst, ◌∙◌, arith, Bool, true, false}
+use Rattle.std.proofs.Common.{◌≡◌, ◌≢◌, ℕ, suc, ◌+◌, ◌*◌, ◌<◌, ◌≤◌, inl, inr, cond, eqb, List, [], ◌∷◌, ◌++◌, get_or, map, All, Contains, IsPermutation, sum_by, le_trans, refl}
+use Rattle.std.proofs.Common.{sym, ap, subst, ◌∙◌, arith, Bool, true, false}
 use Rattle.std.specs.List.{concat, range_with_len}
 use Rattle.std.proofs.lemmas.List.{append_assoc, append-nil}
 use Rattle.std.proofs.lemmas.Bool.{eqb-true, eqb-false, ne_eqb}
 use Rattle.std.proofs.lemmas.List.Folds.{concat-append}
 use Rattle.std.proofs.lemmas.List.Sums.{sum_by-cons, sum_by-append}
 use Rattle.std.proofs.lemmas.List.Elements.{All-nil, All-cons, All-head, All-tail, All-append, All-map, All-contains, Contains-append_left, Contains-append_right, Contains-append_cases}
-use Rattle.std.proofs.lemmas.List.Sorted.{IsPermutation-sym, IsPermutation-trans, IsPermutation-cons, IsPermutation-middle, IsPermutation-map, IsPermutation-to_front, length_permutation, IsPermutation-append_left, IsPermutation-append_comm, All-permutation}
+use Rattle.std.proofs.lemmas.List.Sorted.{IsPermutation-sym, IsPermutation-trans, IsPermutation-cons, IsPermutation-middle, IsPermutation-map, IsPermutation-to_front}
+use Rattle.std.proofs.lemmas.List.Sorted.{length_permutation, IsPermutation-append_left, IsPermutation-append_comm, All-permutation}
 use Rattle.std.proofs.lemmas.List.Kept.{AllPairs-cons}
 use Rattle.msp_class.proofs.Sums.{AllPairs-head, AllPairs-tail, Contains-tail, cond-no, range_with_len_last, OnceBelow, OnceBelow-range, OnceBelow-permutation, OnceBelow-distinct, OnceBelow-contains}
-use Rattle.msp_schedule.specs.Rows.{seq}
-use Rattle.msp_schedule.proofs.lists.Sequences.{seq-later, seq-append}
+use Rattle.msp_schedule.specs.BackToBack.{weighted_ends}
+use Rattle.msp_schedule.proofs.lists.WeightedEnds.{weighted_ends-later, weighted_ends-append}
 use Rattle.msp_trees.specs.Joining.{IsForward, IsBranch, IsLine, IsJoined, IsCheapest}
 use Rattle.msp_trees.proofs.Lists.{All-left, All-right, pairs_right, pairs_across, pairs_exchanged, taken, parted, concat-permutation, concat-singles, All-concat, permutation_from_counts}
 
 -- ---- two neighbouring parts of a row change places
 module _ (p w : ℕ → ℕ) where
-  pub seq-exchanged : (t : ℕ) (ys us zs : List ℕ) → sum_by w ys * sum_by p us ≤ sum_by w us * sum_by p ys → seq p w t (us ++ (ys ++ zs)) ≤ seq p w t (ys ++ (us ++ zs))
-  seq-exchanged t ys us zs h =
-      let a = seq-append p w t us (ys ++ zs) in
-      let b = seq-append p w (t + sum_by p us) ys zs in
-      let c = seq-append p w t ys (us ++ zs) in
-      let d = seq-append p w (t + sum_by p ys) us zs in
-      let e = seq-later p w t (sum_by p us) ys in
-      let f = seq-later p w t (sum_by p ys) us in
+  pub weighted_ends-exchanged : (t : ℕ) (ys us zs : List ℕ) → sum_by w ys * sum_by p us ≤ sum_by w us * sum_by p ys → weighted_ends p w t (us ++ (ys ++ zs)) ≤ weighted_ends p w t (ys ++ (us ++ zs))
+  weighted_ends-exchanged t ys us zs h =
+      let a = weighted_ends-append p w t us (ys ++ zs) in
+      let b = weighted_ends-append p w (t + sum_by p us) ys zs in
+      let c = weighted_ends-append p w t ys (us ++ zs) in
+      let d = weighted_ends-append p w (t + sum_by p ys) us zs in
+      let e = weighted_ends-later p w t (sum_by p us) ys in
+      let f = weighted_ends-later p w t (sum_by p ys) us in
       let move : t + sum_by p us + sum_by p ys ≡ t + sum_by p ys + sum_by p us = omega arith in
-      let g = ap (λ x. seq p w x zs) move in
+      let g = ap (λ x. weighted_ends p w x zs) move in
       sum (sum_by w ys) (sum_by p us) (sum_by w us) (sum_by p ys) _ _ _ _ _ _ _ _ _ _ h a b c d e f g
     where
-      sum : (wy pu wu py su sy sz l r lm rm sy2 su2 sz2 : ℕ) → wy * pu ≤ wu * py → l ≡ su + lm → lm ≡ sy2 + sz → r ≡ sy + rm → rm ≡ su2 + sz2 → sy2 ≡ sy + pu * wy → su2 ≡ su + py * wu → sz ≡ sz2 → l ≤ r
-      sum wy pu wu py su sy sz l r lm rm sy2 su2 sz2 h a b c d e f g = let one : wy * pu ≡ pu * wy = omega arith in let two : wu * py ≡ py * wu = omega arith in omega (arith, h, a, b, c, d, e, f, g, one, two)
+      sum : (wy pu wu py su sy sz l r lm rm sy2 su2 sz2 : ℕ)
+          → wy * pu ≤ wu * py → l ≡ su + lm → lm ≡ sy2 + sz → r ≡ sy + rm → rm ≡ su2 + sz2 → sy2 ≡ sy + pu * wy → su2 ≡ su + py * wu → sz ≡ sz2 → l ≤ r
+      sum wy pu wu py su sy sz l r lm rm sy2 su2 sz2 h a b c d e f g = let one : wy * pu ≡ pu * wy = omega arith in
+          let two : wu * py ≡ py * wu = omega arith in omega (arith, h, a, b, c, d, e, f, g, one, two)
 
-  pub row-exchanged : (xs ys us zs : List ℕ) → sum_by w ys * sum_by p us ≤ sum_by w us * sum_by p ys → seq p w 0 (xs ++ (us ++ (ys ++ zs))) ≤ seq p w 0 (xs ++ (ys ++ (us ++ zs)))
-  row-exchanged xs ys us zs h = omega (arith, seq-append p w 0 xs (us ++ (ys ++ zs)), seq-append p w 0 xs (ys ++ (us ++ zs)), seq-exchanged (0 + sum_by p xs) ys us zs h)
+  pub parts-exchanged : (xs ys us zs : List ℕ) → sum_by w ys * sum_by p us ≤ sum_by w us * sum_by p ys → weighted_ends p w 0 (xs ++ (us ++ (ys ++ zs))) ≤ weighted_ends p w 0 (xs ++ (ys ++ (us ++ zs)))
+  parts-exchanged xs ys us zs h = omega
+      (arith, weighted_ends-append p w 0 xs (us ++ (ys ++ zs)), weighted_ends-append p w 0 xs (ys ++ (us ++ zs)), weighted_ends-exchanged (0 + sum_by p xs) ys us zs h)
 
   -- a ratio no less than that of each block is no less than that of all together
-  pub ratio-concat : (us : List ℕ) (blocks : List (List ℕ)) → All (λ b. sum_by w b * sum_by p us ≤ sum_by w us * sum_by p b) blocks → sum_by w (concat blocks) * sum_by p us ≤ sum_by w us * sum_by p (concat blocks)
+  pub ratio-concat : (us : List ℕ) (blocks : List (List ℕ))
+      → All (λ b. sum_by w b * sum_by p us ≤ sum_by w us * sum_by p b) blocks → sum_by w (concat blocks) * sum_by p us ≤ sum_by w us * sum_by p (concat blocks)
   ratio-concat us [] h = none (sum_by p us) (sum_by w us)
     where
       none : (a b : ℕ) → 0 * a ≤ b * 0
@@ -49,7 +55,8 @@ module _ (p w : ℕ → ℕ) where
 
 -- ---- branches
 -- a branch put behind one that holds what is before its first job
-pub IsBranch-append : (before : ℕ → ℕ) (vs : List ℕ) (first : ℕ) (rest : List ℕ) → IsBranch before vs → IsBranch before (first ∷ rest) → Contains vs (before first) → IsBranch before (vs ++ first ∷ rest)
+pub IsBranch-append : (before : ℕ → ℕ) (vs : List ℕ) (first : ℕ) (rest : List ℕ)
+    → IsBranch before vs → IsBranch before (first ∷ rest) → Contains vs (before first) → IsBranch before (vs ++ first ∷ rest)
 IsBranch-append before [] first rest h k c = absurd h
 IsBranch-append before (v ∷ vs) first rest h k c =
     All-append (λ j. Contains (v ∷ (vs ++ first ∷ rest)) (before j)) vs (first ∷ rest)
@@ -58,7 +65,8 @@ IsBranch-append before (v ∷ vs) first rest h k c =
     (λ i d l. Contains-append_right (v ∷ vs) (first ∷ rest) (before (get_or rest i d)) (k i d l)))
 
 -- what is before each job of the branch is in it or where what is before its first job is
-pub before_within : (before : ℕ → ℕ) (vs : List ℕ) (first : ℕ) (rest : List ℕ) → IsBranch before (first ∷ rest) → Contains vs (before first) → All (λ j. Contains (vs ++ first ∷ rest) (before j)) (first ∷ rest)
+pub before_within : (before : ℕ → ℕ) (vs : List ℕ) (first : ℕ) (rest : List ℕ)
+    → IsBranch before (first ∷ rest) → Contains vs (before first) → All (λ j. Contains (vs ++ first ∷ rest) (before j)) (first ∷ rest)
 before_within before vs first rest k c =
     All-cons (λ j. Contains (vs ++ first ∷ rest) (before j)) first rest (Contains-append_left vs (first ∷ rest) (before first) c)
     (λ i d l. Contains-append_right vs (first ∷ rest) (before (get_or rest i d)) (k i d l))
@@ -103,7 +111,8 @@ module _ (n : ℕ) (before p w : ℕ → ℕ) (tree : IsTree n before p) where
     branch = All-head (IsBranch before) us (vs ∷ others) branches
 
     -- a line in which other blocks stand between the two
-    module _ (front between back : List (List ℕ)) (once : OnceBelow (n + 1) (concat ((front ++ vs ∷ between) ++ us ∷ back))) (forward : IsForward before (concat ((front ++ vs ∷ between) ++ us ∷ back)))
+    module _ (front between back : List (List ℕ))
+        (once : OnceBelow (n + 1) (concat ((front ++ vs ∷ between) ++ us ∷ back))) (forward : IsForward before (concat ((front ++ vs ∷ between) ++ us ∷ back)))
         (ratios : All (λ b. ¬ Contains b n → sum_by w b * sum_by p us ≤ sum_by w us * sum_by p b) between) where
       abbrev early : List ℕ
       early = concat front ++ vs
@@ -153,27 +162,32 @@ module _ (n : ℕ) (before p w : ℕ → ℕ) (tree : IsTree n before p) where
           let c = before_within before vs first rest branch behind k d l in
           let y = get_or middle j f in
           elim (Contains-append_cases vs us (before (get_or us k d)) c) [
-            | inl a ↦ All-left (λ z. before (get_or us k d) ≢ z) middle (us ++ concat back) (All-contains (λ x. All (λ z. x ≢ z) (middle ++ (us ++ concat back))) early (before (get_or us k d)) apart (Contains-append_right (concat front) vs (before (get_or us k d)) a)) j f m e
-            | inr b ↦ All-contains (λ z. y ≢ z) us (before (get_or us k d)) (All-left (λ z. y ≢ z) us (concat back) (pairs_across (λ x z. x ≢ z) middle (us ++ concat back) (pairs_right (λ x z. x ≢ z) early (middle ++ (us ++ concat back)) distinct) j f m)) b (sym e)
+            | inl a ↦ All-left (λ z. before (get_or us k d) ≢ z) middle (us ++ concat back)
+                (All-contains (λ x. All (λ z. x ≢ z) (middle ++ (us ++ concat back))) early (before (get_or us k d)) apart (Contains-append_right (concat front) vs (before (get_or us k d)) a)) j f m e
+            | inr b ↦ All-contains (λ z. y ≢ z) us (before (get_or us k d))
+                (All-left (λ z. y ≢ z) us (concat back) (pairs_across (λ x z. x ≢ z) middle (us ++ concat back) (pairs_right (λ x z. x ≢ z) early (middle ++ (us ++ concat back)) distinct) j f m))
+                b (sym e)
           ]
 
       forward_joined : IsForward before (concat (front ++ (vs ++ us) ∷ (between ++ back)))
       forward_joined = subst (IsForward before) (sym flat_joined) (pairs_exchanged (λ a b. before a ≢ b) early middle us (concat back) forward_flat free)
 
-      cheap_joined : seq p w 0 (concat (front ++ (vs ++ us) ∷ (between ++ back))) ≤ seq p w 0 (concat ((front ++ vs ∷ between) ++ us ∷ back))
-      cheap_joined = omega (arith, ap (seq p w 0) flat, ap (seq p w 0) flat_joined, row-exchanged p w early middle us (concat back) (ratio-concat p w us between ratios_all))
+      cheap_joined : weighted_ends p w 0 (concat (front ++ (vs ++ us) ∷ (between ++ back))) ≤ weighted_ends p w 0 (concat ((front ++ vs ∷ between) ++ us ∷ back))
+      cheap_joined = omega (arith, ap (weighted_ends p w 0) flat, ap (weighted_ends p w 0) flat_joined, parts-exchanged p w early middle us (concat back) (ratio-concat p w us between ratios_all))
 
     -- a line in which the block stands earlier than what is before it is none
     never_before : (front between back : List (List ℕ)) → IsForward before (concat (front ++ us ∷ (between ++ vs ∷ back))) → ⊥
     never_before front between back f =
         let all = subst (IsForward before) (concat-append front (us ∷ (between ++ vs ∷ back))) f in
-        let there : Contains (concat (between ++ vs ∷ back)) (before first) = subst (λ l. Contains l (before first)) (sym (concat-append between (vs ∷ back))) (Contains-append_right (concat between) (vs ++ concat back) (before first) (Contains-append_left vs (concat back) (before first) behind)) in
+        let there : Contains (concat (between ++ vs ∷ back)) (before first) = subst (λ l. Contains l (before first)) (sym (concat-append between (vs ∷ back)))
+        (Contains-append_right (concat between) (vs ++ concat back) (before first) (Contains-append_left vs (concat back) (before first) behind)) in
         All-contains (λ y. before first ≢ y) (rest ++ concat (between ++ vs ∷ back)) (before first)
         (AllPairs-head (λ a b. before a ≢ b) first (rest ++ concat (between ++ vs ∷ back)) (pairs_right (λ a b. before a ≢ b) (concat front) (us ++ concat (between ++ vs ∷ back)) all))
         (Contains-append_right rest (concat (between ++ vs ∷ back)) (before first) there) refl
 
     -- the line of the blocks before gives one of the blocks after
-    line_joined : (new : List (List ℕ)) → IsPermutation ((vs ++ us) ∷ others) new → (most : ℕ) (line : List (List ℕ)) → IsLine before p w blocks most line → (line : List (List ℕ)) × IsLine before p w new most line
+    line_joined : (new : List (List ℕ)) → IsPermutation ((vs ++ us) ∷ others) new
+        → (most : ℕ) (line : List (List ℕ)) → IsLine before p w blocks most line → (line : List (List ℕ)) × IsLine before p w new most line
     line_joined new same most line h =
         let (a, b, m) = taken us (vs ∷ others) line (IsPermutation-trans (us ∷ vs ∷ others) blocks line (IsPermutation-sym blocks (us ∷ vs ∷ others) parts) h.same) in
         let (c, d, k) = taken vs others (a ++ b) (IsPermutation-sym (a ++ b) (vs ∷ others) m.same) in
@@ -186,9 +200,12 @@ module _ (n : ℕ) (before p w : ℕ → ℕ) (tree : IsTree n before p) where
                 c ++ (vs ++ us) ∷ (y ++ b),
                 record {
                   same = IsPermutation-trans new ((vs ++ us) ∷ others) (c ++ (vs ++ us) ∷ (y ++ b)) (IsPermutation-sym ((vs ++ us) ∷ others) new same)
-                      (IsPermutation-trans ((vs ++ us) ∷ others) ((vs ++ us) ∷ (c ++ (y ++ b))) (c ++ (vs ++ us) ∷ (y ++ b)) (IsPermutation-cons (vs ++ us) others (c ++ (y ++ b)) (IsPermutation-sym (c ++ (y ++ b)) others left)) (IsPermutation-sym (c ++ (vs ++ us) ∷ (y ++ b)) ((vs ++ us) ∷ (c ++ (y ++ b))) (IsPermutation-middle c (vs ++ us) (y ++ b))));
+                      (IsPermutation-trans ((vs ++ us) ∷ others) ((vs ++ us) ∷ (c ++ (y ++ b)))
+                      (c ++ (vs ++ us) ∷ (y ++ b)) (IsPermutation-cons (vs ++ us) others (c ++ (y ++ b)) (IsPermutation-sym (c ++ (y ++ b)) others left))
+                      (IsPermutation-sym (c ++ (vs ++ us) ∷ (y ++ b)) ((vs ++ us) ∷ (c ++ (y ++ b))) (IsPermutation-middle c (vs ++ us) (y ++ b))));
                   forward = forward_joined c y b (subst (λ l. OnceBelow (n + 1) (concat l)) is once) (subst (λ l. IsForward before (concat l)) is h.forward) ratios;
-                  cheap = le_trans (cheap_joined c y b (subst (λ l. OnceBelow (n + 1) (concat l)) is once) (subst (λ l. IsForward before (concat l)) is h.forward) ratios) (subst (λ l. seq p w 0 (concat l) ≤ most) is h.cheap);
+                  cheap = le_trans (cheap_joined c y b (subst (λ l. OnceBelow (n + 1) (concat l)) is once) (subst (λ l. IsForward before (concat l)) is h.forward) ratios)
+                      (subst (λ l. weighted_ends p w 0 (concat l) ≤ most) is h.cheap);
                 },
               )
           | inr (y, ec, eb) ↦ absurd (never_before a y d (subst (λ l. IsForward before (concat l)) (m.is ∙ ap (λ l. a ++ us ∷ l) eb) h.forward))
@@ -198,17 +215,20 @@ module _ (n : ℕ) (before p w : ℕ → ℕ) (tree : IsTree n before p) where
     joined-next new same start = record {
       once = OnceBelow-permutation joined.once (IsPermutation-trans (concat blocks) ((us ++ (vs ++ concat others))) (concat new) (concat-permutation blocks (us ∷ vs ∷ others) parts)
           (IsPermutation-trans (us ++ (vs ++ concat others)) (concat ((vs ++ us) ∷ others)) (concat new) moved (concat-permutation ((vs ++ us) ∷ others) new same)));
-      branches = All-permutation (IsBranch before) ((vs ++ us) ∷ others) new same (All-cons (IsBranch before) (vs ++ us) others (IsBranch-append before vs first rest (All-head (IsBranch before) vs others (All-tail (IsBranch before) us (vs ∷ others) branches)) branch behind) (All-tail (IsBranch before) vs others (All-tail (IsBranch before) us (vs ∷ others) branches)));
+      branches = All-permutation (IsBranch before) ((vs ++ us) ∷ others) new same
+          (All-cons (IsBranch before) (vs ++ us) others (IsBranch-append before vs first rest (All-head (IsBranch before) vs others (All-tail (IsBranch before) us (vs ∷ others) branches))
+          branch behind) (All-tail (IsBranch before) vs others (All-tail (IsBranch before) us (vs ∷ others) branches)));
       start = start;
-      cheap = λ order o f. let (line, h) = joined.cheap order o f in line_joined new same (seq p w 0 order) line h;
+      cheap = λ order o f. let (line, h) = joined.cheap order o f in line_joined new same (weighted_ends p w 0 order) line h;
     }
       where
         moved : IsPermutation (us ++ (vs ++ concat others)) ((vs ++ us) ++ concat others)
-        moved = subst (λ l. IsPermutation l ((vs ++ us) ++ concat others)) (append_assoc us vs (concat others)) (IsPermutation-append_left (concat others) (us ++ vs) (vs ++ us) (IsPermutation-append_comm us vs))
+        moved = subst (λ l. IsPermutation l ((vs ++ us) ++ concat others))
+            (append_assoc us vs (concat others)) (IsPermutation-append_left (concat others) (us ++ vs) (vs ++ us) (IsPermutation-append_comm us vs))
 
   -- behind the start a row costs as much as from moment 0
-  behind_start : (order : List ℕ) → seq p w 0 (n ∷ order) ≡ seq p w 0 order
-  behind_start order = ap (λ t. w n * (0 + t) + seq p w (0 + t) order) tree.time ∙ none (w n) (seq p w 0 order)
+  behind_start : (order : List ℕ) → weighted_ends p w 0 (n ∷ order) ≡ weighted_ends p w 0 order
+  behind_start order = ap (λ t. w n * (0 + t) + weighted_ends p w (0 + t) order) tree.time ∙ none (w n) (weighted_ends p w 0 order)
     where
       none : (a b : ℕ) → a * 0 + b ≡ b
       none a b = omega arith
@@ -217,7 +237,8 @@ module _ (n : ℕ) (before p w : ℕ → ℕ) (tree : IsTree n before p) where
   pub joined-start : IsJoined n before p w ((n ∷ []) ∷ map (λ j. j ∷ []) (range_with_len 0 n))
   joined-start = record {
     once = subst (λ l. OnceBelow (n + 1) (n ∷ l)) (sym (concat-singles (range_with_len 0 n))) once;
-    branches = All-cons (IsBranch before) (n ∷ []) (map (λ j. j ∷ []) (range_with_len 0 n)) (All-nil (λ j. Contains (n ∷ []) (before j))) (All-map (IsBranch before) (λ j. j ∷ []) (range_with_len 0 n) (λ k d l. All-nil (λ j. Contains (get_or (range_with_len 0 n) k d ∷ []) (before j))));
+    branches = All-cons (IsBranch before) (n ∷ []) (map (λ j. j ∷ []) (range_with_len 0 n)) (All-nil (λ j. Contains (n ∷ []) (before j)))
+        (All-map (IsBranch before) (λ j. j ∷ []) (range_with_len 0 n) (λ k d l. All-nil (λ j. Contains (get_or (range_with_len 0 n) k d ∷ []) (before j))));
     start = (0, omega arith, refl);
     cheap = λ order o f. ((n ∷ []) ∷ map (λ j. j ∷ []) order, line order o f);
   }
@@ -233,31 +254,34 @@ module _ (n : ℕ) (before p w : ℕ → ℕ) (tree : IsTree n before p) where
           none : (k : ℕ) → 0 + k ≡ k
           none k = omega arith
 
-      line : (order : List ℕ) → OnceBelow n order → IsForward before order → IsLine before p w ((n ∷ []) ∷ map (λ j. j ∷ []) (range_with_len 0 n)) (seq p w 0 order) ((n ∷ []) ∷ map (λ j. j ∷ []) order)
+      line : (order : List ℕ) → OnceBelow n order → IsForward before order
+          → IsLine before p w ((n ∷ []) ∷ map (λ j. j ∷ []) (range_with_len 0 n)) (weighted_ends p w 0 order) ((n ∷ []) ∷ map (λ j. j ∷ []) order)
       line order o f =
           let all = OnceBelow-range n in
           let flat = concat-singles order in
           record {
-            same = IsPermutation-cons (n ∷ []) _ _ (IsPermutation-map (λ j. j ∷ []) (range_with_len 0 n) order (permutation_from_counts n (range_with_len 0 n) order all.within o.within (λ i l. all.once i l ∙ sym (o.once i l))));
+            same = IsPermutation-cons (n ∷ [])
+                _ _ (IsPermutation-map (λ j. j ∷ []) (range_with_len 0 n) order (permutation_from_counts n (range_with_len 0 n) order all.within o.within (λ i l. all.once i l ∙ sym (o.once i l))));
             forward = subst (λ l. IsForward before (n ∷ l)) (sym flat) (AllPairs-cons (λ a b. before a ≢ b) n order (λ k d l. tree.start (get_or order k d) (o.within k d l)) f);
-            cheap = omega (arith, ap (λ l. seq p w 0 (n ∷ l)) flat, behind_start order);
+            cheap = omega (arith, ap (λ l. weighted_ends p w 0 (n ∷ l)) flat, behind_start order);
           }
 
   -- ---- the last block
   module _ (block : List ℕ) (joined : IsJoined n before p w (block ∷ [])) where
     only_line : (most : ℕ) (line : List (List ℕ)) → IsLine before p w (block ∷ []) most line → line ≡ block ∷ []
     only_line most [] h = absurd (omega (arith, length_permutation (block ∷ []) [] h.same))
-    only_line most (b ∷ []) h = ap (λ z. z ∷ []) (All-head (λ z. z ≡ block) b [] (All-permutation (λ z. z ≡ block) (block ∷ []) (b ∷ []) h.same (All-cons (λ z. z ≡ block) block [] refl (All-nil (λ z. z ≡ block)))))
+    only_line most (b ∷ []) h = ap (λ z. z ∷ [])
+        (All-head (λ z. z ≡ block) b [] (All-permutation (λ z. z ≡ block) (block ∷ []) (b ∷ []) h.same (All-cons (λ z. z ≡ block) block [] refl (All-nil (λ z. z ≡ block)))))
     only_line most (b ∷ c ∷ l) h = absurd (omega (arith, length_permutation (block ∷ []) (b ∷ c ∷ l) h.same))
 
     whole : concat (block ∷ []) ≡ block
     whole = append-nil block
 
-    in_line : (order : List ℕ) → OnceBelow n order → IsForward before order → IsForward before block × (seq p w 0 block ≤ seq p w 0 order)
+    in_line : (order : List ℕ) → OnceBelow n order → IsForward before order → IsForward before block × (weighted_ends p w 0 block ≤ weighted_ends p w 0 order)
     in_line order o f =
         let (line, h) = joined.cheap order o f in
-        let is = ap concat (only_line (seq p w 0 order) line h) ∙ whole in
-        (subst (IsForward before) is h.forward, subst (λ l. seq p w 0 l ≤ seq p w 0 order) is h.cheap)
+        let is = ap concat (only_line (weighted_ends p w 0 order) line h) ∙ whole in
+        (subst (IsForward before) is h.forward, subst (λ l. weighted_ends p w 0 l ≤ weighted_ends p w 0 order) is h.cheap)
 
     once_block : OnceBelow (n + 1) block
     once_block = subst (OnceBelow (n + 1)) whole joined.once
@@ -275,7 +299,7 @@ module _ (n : ℕ) (before p w : ℕ → ℕ) (tree : IsTree n before p) where
         record {
           once = OnceBelow-tail order (subst (λ z. OnceBelow (n + 1) (z ∷ order)) first (once_block (x ∷ order) joined));
           forward = AllPairs-tail (λ a b. before a ≢ b) x order (forward_block (x ∷ order) joined);
-          least = λ other o f. omega (arith, (in_line (x ∷ order) joined other o f).1, ap (λ z. seq p w 0 (z ∷ order)) first, behind_start order);
+          least = λ other o f. omega (arith, (in_line (x ∷ order) joined other o f).1, ap (λ z. weighted_ends p w 0 (z ∷ order)) first, behind_start order);
         },
       )
     where

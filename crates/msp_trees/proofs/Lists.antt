@@ -1,11 +1,13 @@
 -- Lists taken apart: pairs across an append, an element taken out of a reordered list, lists joined end to end, and orders of the numbers below n.
-use Rattle.std.proofs.Common.{◌≡◌, ℕ, zero, suc, ◌+◌, ◌<◌, ◌⊎◌, inl, inr, Bool, true, false, cond, eqb, List, [], ◌∷◌, ◌++◌, length, get_or, map, All, AllPairs, Contains, IsPermutation, count_by, refl, sym, ap, subst, ◌∙◌, arith}
+use Rattle.std.proofs.Common.{◌≡◌, ℕ, zero, suc, ◌+◌, ◌<◌, ◌⊎◌, inl, inr, Bool, true, false, cond, eqb, List, [], ◌∷◌, ◌++◌, length, get_or, map, All, AllPairs, Contains}
+use Rattle.std.proofs.Common.{IsPermutation, count_by, refl, sym, ap, subst, ◌∙◌, arith}
 use Rattle.std.specs.List.{concat}
 use Rattle.std.proofs.lemmas.List.{append_assoc}
 use Rattle.std.proofs.lemmas.Bool.{eqb-true, eq-eqb}
 use Rattle.std.proofs.lemmas.List.Sums.{sum_by-cons, sum_by-append}
 use Rattle.std.proofs.lemmas.List.Elements.{All-nil, All-cons, All-head, All-tail, All-append, Contains-append_left, Contains-append_right}
-use Rattle.std.proofs.lemmas.List.Sorted.{IsPermutation-refl, IsPermutation-sym, IsPermutation-trans, IsPermutation-cons, IsPermutation-swap, IsPermutation-middle, IsPermutation-append_left, IsPermutation-append_right, IsPermutation-append_comm}
+use Rattle.std.proofs.lemmas.List.Sorted.{IsPermutation-refl, IsPermutation-sym, IsPermutation-trans, IsPermutation-cons, IsPermutation-swap, IsPermutation-middle}
+use Rattle.std.proofs.lemmas.List.Sorted.{IsPermutation-append_left, IsPermutation-append_right, IsPermutation-append_comm}
 use Rattle.std.proofs.lemmas.List.Kept.{AllPairs-cons}
 use Rattle.msp_schedule.proofs.feasible.Series.{AllPairs-append}
 use Rattle.msp_class.proofs.Sums.{AllPairs-head, AllPairs-tail, sum_by-some, cond-yes}
@@ -46,7 +48,8 @@ module _ {X : Type 0} where
         (λ i d l. All-append (R (get_or us i d)) ys zs (k i d l) (pairs_across us zs later i d l)))
         (λ i d l. let all = pairs_across xs (ys ++ (us ++ zs)) h i d l in
         let some = All-right (R (get_or xs i d)) ys (us ++ zs) all in
-        All-append (R (get_or xs i d)) us (ys ++ zs) (All-left (R (get_or xs i d)) us zs some) (All-append (R (get_or xs i d)) ys zs (All-left (R (get_or xs i d)) ys (us ++ zs) all) (All-right (R (get_or xs i d)) us zs some)))
+        All-append (R (get_or xs i d)) us (ys ++ zs) (All-left (R (get_or xs i d)) us zs some)
+        (All-append (R (get_or xs i d)) ys zs (All-left (R (get_or xs i d)) ys (us ++ zs) all) (All-right (R (get_or xs i d)) us zs some)))
 
 -- ---- an element that stands in the middle of a reordered list
 module _ {X : Type 0} where
@@ -65,7 +68,10 @@ module _ {X : Type 0} where
   takes_same xs = (IsPermutation-refl xs, λ x a b e. (a, b, record { is = e; same = IsPermutation-refl (a ++ b) }))
 
   takes_next : (xs ys zs : List X) → Takes xs ys → Takes ys zs → Takes xs zs
-  takes_next xs ys zs s t = (IsPermutation-trans xs ys zs s.0 t.0, λ x a b e. let (c, d, k) = t.1 x a b e in let (f, g, m) = s.1 x c d k.is in (f, g, record { is = m.is; same = IsPermutation-trans (f ++ g) (c ++ d) (a ++ b) m.same k.same }))
+  takes_next xs ys zs s t = (
+    IsPermutation-trans xs ys zs s.0 t.0,
+    λ x a b e. let (c, d, k) = t.1 x a b e in let (f, g, m) = s.1 x c d k.is in (f, g, record { is = m.is; same = IsPermutation-trans (f ++ g) (c ++ d) (a ++ b) m.same k.same }),
+  )
 
   takes_more : (y : X) (xs ys : List X) → Takes xs ys → Takes (y ∷ xs) (y ∷ ys)
   takes_more y xs ys s = (IsPermutation-cons y xs ys s.0, by)
@@ -85,17 +91,27 @@ module _ {X : Type 0} where
       swapped x y xs = IsPermutation-swap (x ∷ y ∷ xs) (y ∷ x ∷ xs) 0 1 (omega arith) (omega arith) refl
 
       by : (z : X) (a b : List X) → y ∷ x ∷ xs ≡ a ++ z ∷ b → Taken z (x ∷ y ∷ xs) (a ++ b)
-      by z [] b e = let first : y ≡ z = cc in let rest : x ∷ xs ≡ b = cc in (x ∷ [], xs, record { is = ap (λ v. x ∷ v ∷ xs) first; same = subst (IsPermutation (x ∷ xs)) rest (IsPermutation-refl (x ∷ xs)) })
+      by z [] b e = let first : y ≡ z = cc in let rest : x ∷ xs ≡ b = cc in
+          (x ∷ [], xs, record { is = ap (λ v. x ∷ v ∷ xs) first; same = subst (IsPermutation (x ∷ xs)) rest (IsPermutation-refl (x ∷ xs)) })
       by z (c ∷ []) b e =
           let first : y ≡ c = cc in
           let second : x ≡ z = cc in
-          let rest : xs ≡ b = cc in
-          ([], y ∷ xs, record { is = ap (λ v. v ∷ y ∷ xs) second; same = subst (λ v. IsPermutation (y ∷ xs) (v ∷ b)) first (subst (λ l. IsPermutation (y ∷ xs) (y ∷ l)) rest (IsPermutation-refl (y ∷ xs))) })
+          let rest : xs ≡ b = cc in (
+            [],
+            y ∷ xs,
+            record { is = ap (λ v. v ∷ y ∷ xs) second; same = subst (λ v. IsPermutation (y ∷ xs) (v ∷ b)) first (subst (λ l. IsPermutation (y ∷ xs) (y ∷ l)) rest (IsPermutation-refl (y ∷ xs))) },
+          )
       by z (c ∷ d ∷ a) b e =
           let first : y ≡ c = cc in
           let second : x ≡ d = cc in
-          let rest : xs ≡ a ++ z ∷ b = cc in
-          (x ∷ y ∷ a, b, record { is = ap (λ l. x ∷ y ∷ l) rest; same = subst (λ v. IsPermutation (x ∷ y ∷ (a ++ b)) (v ∷ d ∷ (a ++ b))) first (subst (λ v. IsPermutation (x ∷ y ∷ (a ++ b)) (y ∷ v ∷ (a ++ b))) second (swapped x y (a ++ b))) })
+          let rest : xs ≡ a ++ z ∷ b = cc in (
+            x ∷ y ∷ a,
+            b,
+            record {
+              is = ap (λ l. x ∷ y ∷ l) rest;
+              same = subst (λ v. IsPermutation (x ∷ y ∷ (a ++ b)) (v ∷ d ∷ (a ++ b))) first (subst (λ v. IsPermutation (x ∷ y ∷ (a ++ b)) (y ∷ v ∷ (a ++ b))) second (swapped x y (a ++ b)));
+            },
+          )
 
   -- where xs is a reordering of x and the rest, x can be taken out of it
   pub taken : (x : X) (rest xs : List X) → IsPermutation (x ∷ rest) xs → Taken x xs rest
@@ -122,10 +138,12 @@ module _ {X : Type 0} where
 
 -- ---- lists joined end to end
 pub concat-permutation : (xs ys : List (List ℕ)) → IsPermutation xs ys → IsPermutation (concat xs) (concat ys)
-concat-permutation xs ys h = permuted (λ a b. IsPermutation (concat a) (concat b)) (λ a. IsPermutation-refl (concat a)) (λ a b c s t. IsPermutation-trans (concat a) (concat b) (concat c) s t) (λ x a b s. IsPermutation-append_right x (concat a) (concat b) s) exchanged xs ys h
+concat-permutation xs ys h = permuted (λ a b. IsPermutation (concat a) (concat b)) (λ a. IsPermutation-refl (concat a))
+    (λ a b c s t. IsPermutation-trans (concat a) (concat b) (concat c) s t) (λ x a b s. IsPermutation-append_right x (concat a) (concat b) s) exchanged xs ys h
   where
     exchanged : (x y : List ℕ) (zs : List (List ℕ)) → IsPermutation (x ++ (y ++ concat zs)) (y ++ (x ++ concat zs))
-    exchanged x y zs = subst (IsPermutation (x ++ (y ++ concat zs))) (append_assoc y x (concat zs)) (subst (λ l. IsPermutation l ((y ++ x) ++ concat zs)) (append_assoc x y (concat zs)) (IsPermutation-append_left (concat zs) (x ++ y) (y ++ x) (IsPermutation-append_comm x y)))
+    exchanged x y zs = subst (IsPermutation (x ++ (y ++ concat zs))) (append_assoc y x (concat zs))
+        (subst (λ l. IsPermutation l ((y ++ x) ++ concat zs)) (append_assoc x y (concat zs)) (IsPermutation-append_left (concat zs) (x ++ y) (y ++ x) (IsPermutation-append_comm x y)))
 
 pub All-concat : (P : ℕ → Type 0) (xss : List (List ℕ)) → All P (concat xss) → All (All P) xss
 All-concat P [] h = All-nil (All P)
@@ -152,8 +170,10 @@ module _ (n : ℕ) where
       let (a, b, e) = found x ys (there x xs ys (same x (All-head (λ x. x < n) x xs h))) in
       let inside = subst (All (λ y. y < n)) e k in
       let tail = All-right (λ y. y < n) a (x ∷ b) inside in
-      let later = permutation_from_counts xs (a ++ b) (All-tail (λ x. x < n) x xs h) (All-append (λ y. y < n) a b (All-left (λ y. y < n) a (x ∷ b) inside) (All-tail (λ y. y < n) x b tail)) (λ i l. less i x xs ys a b e (same i l)) in
-      subst (IsPermutation (x ∷ xs)) (sym e) (IsPermutation-trans (x ∷ xs) (x ∷ (a ++ b)) (a ++ x ∷ b) (IsPermutation-cons x xs (a ++ b) later) (IsPermutation-sym (a ++ x ∷ b) (x ∷ (a ++ b)) (IsPermutation-middle a x b)))
+      let later = permutation_from_counts xs (a ++ b) (All-tail (λ x. x < n) x xs h)
+      (All-append (λ y. y < n) a b (All-left (λ y. y < n) a (x ∷ b) inside) (All-tail (λ y. y < n) x b tail)) (λ i l. less i x xs ys a b e (same i l)) in
+      subst (IsPermutation (x ∷ xs)) (sym e)
+      (IsPermutation-trans (x ∷ xs) (x ∷ (a ++ b)) (a ++ x ∷ b) (IsPermutation-cons x xs (a ++ b) later) (IsPermutation-sym (a ++ x ∷ b) (x ∷ (a ++ b)) (IsPermutation-middle a x b)))
     where
       there : (x : ℕ) (xs ys : List ℕ) → count_by (λ z. eqb z x) (x ∷ xs) ≡ count_by (λ z. eqb z x) ys → Contains ys x
       there x xs ys same =

@@ -1,5 +1,6 @@
 -- The block that is joined next and the one that it is joined behind, as the code passes them.
-use Rattle.std.proofs.Common.{◌≡◌, ◌≢◌, ℕ, zero, suc, ◌+◌, ◌-◌, ◌*◌, ◌<◌, ◌≤◌, ◌⊎◌, inl, inr, Bool, true, false, if◌then◌else◌, List, [], ◌∷◌, ◌++◌, length, get_or, take, drop, set, remove, map, All, Contains, IsPermutation, sum_by, refl, sym, ap, ap₂, subst, ◌∙◌, arith, slice_index_or, None, Some}
+use Rattle.std.proofs.Common.{◌≡◌, ◌≢◌, ℕ, zero, suc, ◌+◌, ◌-◌, ◌*◌, ◌<◌, ◌≤◌, ◌⊎◌, inl, inr, Bool, true, false, if◌then◌else◌, List, [], ◌∷◌, ◌++◌, length, get_or, take, drop}
+use Rattle.std.proofs.Common.{set, remove, map, All, Contains, IsPermutation, sum_by, refl, sym, ap, ap₂, subst, ◌∙◌, arith, slice_index_or, None, Some}
 use Rattle.std.specs.Prelude.{◌==◌}
 use Rattle.std.specs.List.{concat, list_any, slice_get, range_with_len}
 use Rattle.std.proofs.lemmas.Bool.{cases_lt, eq-eqb, ne_eqb}
@@ -16,10 +17,10 @@ use Rattle.msp_instance.specs.declared.Job.{Job}
 use Rattle.msp_instance.specs.Instance.{no_job, no_need}
 use Rattle.msp_instance.specs.Conditions.{Inner}
 use Rattle.msp_instance.proofs.ListingLemmas.{list_any-from_Contains}
-use Rattle.msp_schedule.specs.Rows.{time_at, row_schedule, piece, row}
-use Rattle.msp_schedule.proofs.feasible.OneRow.{piece_makes}
+use Rattle.msp_schedule.specs.BackToBack.{time_at, schedule_in_order, piece, back_to_back}
+use Rattle.msp_schedule.proofs.feasible.BackToBack.{piece_makes}
 use Rattle.msp_schedule.specs.Piece.{job_of}
-use Rattle.msp_schedule.proofs.lists.Rows.{row-jobs}
+use Rattle.msp_schedule.proofs.lists.BackToBack.{back_to_back-jobs}
 use Rattle.msp_trees.specs.declared.joining.Load.{Load}
 use Rattle.msp_trees.specs.Horn.{horn_class}
 use Rattle.msp_trees.specs.Horn.{first_before, before, weight_at, time_of, weight_of, GoesNext, Joins, JoinTo, nothing_joined, one_more, single_blocks, IsHornOrder}
@@ -30,6 +31,7 @@ use Rattle.msp_route.proofs.PlainJobs.{takes_time}
 use Rattle.msp_trees.proofs.Joins.{IsTree, joined-start, joined-next, cheapest}
 use Rattle.msp_trees.proofs.HornBest.{IsHornInstance, IsHornInstance-from_class, IsHornSchedule, horn_schedule}
 use Rattle.std.proofs.lemmas.List.Folds.{concat-append}
+use Rattle.msp_class.specs.declared.sizes.TheConstants.{MOST_JOBS}
 
 -- ---- reading the instance
 slice_get_none : (jobs : List Job) (j : ℕ) → slice_get jobs j ≡ None → length jobs ≤ j
@@ -52,7 +54,8 @@ pub before-found : (arcs : List Arc) (k start job b : ℕ) (d : Arc) → k < len
 before-found arcs k start job b d l e h =
     sym (h ∙ ap (λ l. first_before l start job) (drop_more arcs k d l) ∙ ap (λ t. if t then (get_or arcs k d).before else first_before (drop (k + 1) arcs) start job) (eq-eqb _ _ e))
 
-pub before-next : (arcs : List Arc) (k start job b : ℕ) (d : Arc) → k < length arcs → (get_or arcs k d).after ≢ job → b ≡ first_before (drop k arcs) start job → b ≡ first_before (drop (k + 1) arcs) start job
+pub before-next : (arcs : List Arc) (k start job b : ℕ) (d : Arc)
+    → k < length arcs → (get_or arcs k d).after ≢ job → b ≡ first_before (drop k arcs) start job → b ≡ first_before (drop (k + 1) arcs) start job
 before-next arcs k start job b d l n h =
     h ∙ ap (λ l. first_before l start job) (drop_more arcs k d l) ∙ ap (λ t. if t then (get_or arcs k d).before else first_before (drop (k + 1) arcs) start job) (ne_eqb _ _ n)
 
@@ -67,7 +70,8 @@ sum-next f jobs k so_far now l e h = omega (arith, e, h, sum_by_more f jobs k 0 
 abbrev pub HasNot : List (List ℕ) → ℕ → ℕ → Type 0
 HasNot blocks job k = (m : ℕ) → m < k → ¬ Contains (get_or blocks m []) job
 
-pub not_here-next : (blocks : List (List ℕ)) (job k : ℕ) (block slice : List ℕ) (r : Bool) → k < length blocks → block ≡ get_or blocks k block → slice ≡ block → r ≡ list_any (λ y. y == job) slice → r ≡ false → HasNot blocks job k → HasNot blocks job (k + 1)
+pub not_here-next : (blocks : List (List ℕ)) (job k : ℕ) (block slice : List ℕ) (r : Bool) → k < length blocks
+    → block ≡ get_or blocks k block → slice ≡ block → r ≡ list_any (λ y. y == job) slice → r ≡ false → HasNot blocks job k → HasNot blocks job (k + 1)
 not_here-next blocks job k block slice r l at same found missed h m less c = elim (cases_lt m k) [
   | inl early ↦ h m early c
   | inr late ↦
@@ -133,7 +137,8 @@ module _ (n : ℕ) (before p w : ℕ → ℕ) (blocks : List (List ℕ)) (joined
         by [] e q = absurd (omega (arith, block_is_some place inside, ap length e))
         by (x ∷ xs) e q =
             let small : x < n = All-head (λ j. j < n) x xs (subst (All (λ j. j < n)) (sym e) (no_start place later inside)) in
-            let there = Contains-permutation (concat blocks) ((x ∷ xs) ++ concat (remove blocks place)) (before x) (concat-permutation blocks ((x ∷ xs) ∷ remove blocks place) q) (OnceBelow-contains joined.once (before x) (tree.within x small)) in
+            let there = Contains-permutation (concat blocks) ((x ∷ xs) ++ concat (remove blocks place))
+            (before x) (concat-permutation blocks ((x ∷ xs) ∷ remove blocks place) q) (OnceBelow-contains joined.once (before x) (tree.within x small)) in
             elim (Contains-append_cases (x ∷ xs) (concat (remove blocks place)) (before x) there) [
               | inl c ↦ absurd (not_inside x xs q small c)
               | inr c ↦ c
@@ -143,7 +148,8 @@ module _ (n : ℕ) (before p w : ℕ → ℕ) (blocks : List (List ℕ)) (joined
             not_inside x xs q small c =
                 let (order, o, f) = tree.forward in
                 let (line, h) = joined.cheap order o f in
-                let (a, b, m) = taken (x ∷ xs) (remove blocks place) line (IsPermutation-trans ((x ∷ xs) ∷ remove blocks place) blocks line (IsPermutation-sym blocks ((x ∷ xs) ∷ remove blocks place) q) h.same) in
+                let (a, b, m) = taken (x ∷ xs) (remove blocks place) line
+                (IsPermutation-trans ((x ∷ xs) ∷ remove blocks place) blocks line (IsPermutation-sym blocks ((x ∷ xs) ∷ remove blocks place) q) h.same) in
                 let whole = subst (IsForward before) (ap concat m.is ∙ concat-append a ((x ∷ xs) ∷ b)) h.forward in
                 let own = pairs_left (λ u v. before u ≢ v) (x ∷ xs) (concat b) (pairs_right (λ u v. before u ≢ v) (concat a) ((x ∷ xs) ++ concat b) whole) in
                 All-contains (λ y. before x ≢ y) xs (before x) (AllPairs-head (λ u v. before u ≢ v) x xs own) (Contains-tail x xs (before x) c (λ s. tree.loose x small (sym s))) refl
@@ -178,16 +184,20 @@ module _ (n : ℕ) (before p w : ℕ → ℕ) (blocks : List (List ℕ)) (joined
         by (x ∷ xs) f q c g =
             let us : List ℕ = x ∷ xs in
             joined-next n before p w tree blocks joined vs x xs (remove rest behind)
-            (IsPermutation-trans blocks (us ∷ rest) (us ∷ vs ∷ remove rest behind) q (IsPermutation-cons us rest (vs ∷ remove rest behind) (IsPermutation-remove rest behind vs short (get_or_default rest behind [] vs short))))
+            (IsPermutation-trans blocks (us ∷ rest) (us ∷ vs ∷ remove rest behind)
+            q (IsPermutation-cons us rest (vs ∷ remove rest behind) (IsPermutation-remove rest behind vs short (get_or_default rest behind [] vs short))))
             c
             (λ k d l. each us f (get_or blocks k d) k l (get_or_default blocks k d [] l))
             new
-            (subst (IsPermutation ((vs ++ us) ∷ remove rest behind)) (sym (g ∙ set_split rest behind (vs ++ us) short)) (IsPermutation-sym (take behind rest ++ (vs ++ us) ∷ drop (suc behind) rest) ((vs ++ us) ∷ remove rest behind) (IsPermutation-middle (take behind rest) (vs ++ us) (drop (suc behind) rest))))
+            (subst (IsPermutation ((vs ++ us) ∷ remove rest behind)) (sym (g ∙ set_split rest behind (vs ++ us) short)) (IsPermutation-sym
+            (take behind rest ++ (vs ++ us) ∷ drop (suc behind) rest) ((vs ++ us) ∷ remove rest behind) (IsPermutation-middle (take behind rest) (vs ++ us) (drop (suc behind) rest))))
             (subst (λ l. Contains (get_or l 0 []) n) (sym g) (starts us))
           where
-            each : (us : List ℕ) → us ≡ get_or blocks place [] → (b : List ℕ) (k : ℕ) → k < length blocks → b ≡ get_or blocks k [] → ¬ Contains b n → sum_by w b * sum_by p us ≤ sum_by w us * sum_by p b
+            each : (us : List ℕ) → us ≡ get_or blocks place []
+                → (b : List ℕ) (k : ℕ) → k < length blocks → b ≡ get_or blocks k [] → ¬ Contains b n → sum_by w b * sum_by p us ≤ sum_by w us * sum_by p b
             each us f b k l e none = elim (cases_lt 0 k) [
-              | inl some ↦ subst (λ u. sum_by w b * sum_by p u ≤ sum_by w u * sum_by p b) (sym f) (subst (λ c. sum_by w c * sum_by p (get_or blocks place []) ≤ sum_by w (get_or blocks place []) * sum_by p c) (sym e) (ratio k some l))
+              | inl some ↦ subst (λ u. sum_by w b * sum_by p u ≤ sum_by w u * sum_by p b) (sym f)
+                  (subst (λ c. sum_by w c * sum_by p (get_or blocks place []) ≤ sum_by w (get_or blocks place []) * sum_by p c) (sym e) (ratio k some l))
               | inr zero_is ↦ let is : k ≡ 0 = omega (arith, zero_is) in absurd (none (subst (λ c. Contains c n) (sym (e ∙ ap (λ m. get_or blocks m []) is)) joined.start))
             ]
 
@@ -218,25 +228,28 @@ module _ (i : Instance) (class : i.class ≡ horn_class) (inner : Inner i) (bloc
   horn = IsHornInstance-from_class i class inner
 
   pub block_takes_time : (k : ℕ) → 1 ≤ k → k < length blocks → 0 < time_of i (get_or blocks k [])
-  block_takes_time k some l = by (get_or blocks k []) (block_is_some (length i.jobs) (before i) (time_at i) (weight_at i) blocks joined k l) (no_start (length i.jobs) (before i) (time_at i) (weight_at i) blocks joined k some l)
+  block_takes_time k some l = by (get_or blocks k []) (block_is_some (length i.jobs) (before i) (time_at i) (weight_at i) blocks joined k l)
+      (no_start (length i.jobs) (before i) (time_at i) (weight_at i) blocks joined k some l)
     where
       by : (b : List ℕ) → 0 < length b → All (λ j. j < length i.jobs) b → 0 < time_of i b
       by [] h a = absurd (omega (arith, h))
       by (x ∷ xs) h a = omega (arith, sum_by-cons (time_at i) x xs, takes_time i horn.plain x (All-head (λ j. j < length i.jobs) x xs a))
 
-  pub few_in_block : (k : ℕ) (slice : List ℕ) → k < length blocks → slice ≡ get_or blocks k [] → length slice ≤ 401
+  pub few_in_block : (k : ℕ) (slice : List ℕ) → k < length blocks → slice ≡ get_or blocks k [] → length slice ≤ (MOST_JOBS + 1)
   few_in_block k slice l e = omega (arith, ap length e, block_is_few (length i.jobs) (before i) (time_at i) (weight_at i) blocks joined k l, inner.conditions.few)
 
   pub some_in_block : (k : ℕ) (slice : List ℕ) → k < length blocks → slice ≡ get_or blocks k [] → 0 < length slice
   some_in_block k slice l e = omega (arith, ap length e, block_is_some (length i.jobs) (before i) (time_at i) (weight_at i) blocks joined k l)
 
-  module _ (place : ℕ) (later : 1 ≤ place) (inside : place < length blocks) (next rest : List ℕ) (others : List (List ℕ)) (taken_out : next ≡ get_or blocks place next) (same : rest ≡ next) (left : others ≡ remove blocks place) where
+  module _ (place : ℕ) (later : 1 ≤ place) (inside : place < length blocks) (next rest : List ℕ)
+      (others : List (List ℕ)) (taken_out : next ≡ get_or blocks place next) (same : rest ≡ next) (left : others ≡ remove blocks place) where
     abbrev is : next ≡ get_or blocks place []
     is = taken_out ∙ get_or_default blocks place next [] inside
 
     pub goes_behind : (seen : List (List ℕ)) (b : ℕ) → seen ≡ others → b ≡ before i (get_or rest 0 0) → Contains (concat seen) b
     goes_behind seen b e h =
-        subst (λ l. Contains (concat l) b) (sym (e ∙ left)) (subst (Contains (concat (remove blocks place))) (sym (h ∙ ap (λ l. before i (get_or l 0 0)) same)) (before_elsewhere (length i.jobs) (before i) (time_at i) (weight_at i) blocks joined horn.tree place later inside next is))
+        subst (λ l. Contains (concat l) b) (sym (e ∙ left)) (subst (Contains (concat (remove blocks place))) (sym (h ∙ ap (λ l. before i (get_or l 0 0)) same))
+        (before_elsewhere (length i.jobs) (before i) (time_at i) (weight_at i) blocks joined horn.tree place later inside next is))
 
     pub joins_again : (seen : List (List ℕ)) (b behind : ℕ) → seen ≡ others → b ≡ before i (get_or rest 0 0) → GoesNext i blocks place → behind < length seen → Contains (get_or seen behind []) b
         → (vs us new : List ℕ) → vs ≡ get_or others behind vs → us ≡ next → new ≡ vs ++ us → Joins i blocks (set others behind new)
@@ -251,7 +264,8 @@ module _ (i : Instance) (class : i.class ≡ horn_class) (inner : Inner i) (bloc
             next = goes;
             there = short';
             holds = subst (Contains (get_or (remove blocks place) behind [])) (h ∙ ap (λ l. before i (get_or l 0 0)) (same ∙ is)) (subst (λ l. Contains (get_or l behind []) b) whole holds);
-            is = ap (λ l. set l behind new) left ∙ ap (set (remove blocks place) behind) (made ∙ ap₂ (λ x y. x ++ y) (at ∙ ap (λ l. get_or l behind vs) left ∙ get_or_default (remove blocks place) behind vs [] short') (again ∙ is));
+            is = ap (λ l. set l behind new) left
+                ∙ ap (set (remove blocks place) behind) (made ∙ ap₂ (λ x y. x ++ y) (at ∙ ap (λ l. get_or l behind vs) left ∙ get_or_default (remove blocks place) behind vs [] short') (again ∙ is));
           },
         )
 
@@ -263,7 +277,8 @@ module _ (i : Instance) (class : i.class ≡ horn_class) (inner : Inner i) (bloc
         joined_behind (length i.jobs) (before i) (time_at i) (weight_at i) blocks joined horn.tree place later inside next is behind short'
         (subst (Contains (get_or (remove blocks place) behind [])) (h ∙ ap (λ l. before i (get_or l 0 0)) same) (subst (λ l. Contains (get_or l behind []) b) whole holds))
         (λ k from l. at_most _ _ (get_or (get_or blocks place []) 0 0) _ _ (get_or (get_or blocks k []) 0 0) (ratio k from l)) (set others behind new)
-        (ap (λ l. set l behind new) left ∙ ap (set (remove blocks place) behind) (made ∙ ap₂ (λ x y. x ++ y) (at ∙ ap (λ l. get_or l behind vs) left ∙ get_or_default (remove blocks place) behind vs [] short') again))
+        (ap (λ l. set l behind new) left
+        ∙ ap (set (remove blocks place) behind) (made ∙ ap₂ (λ x y. x ++ y) (at ∙ ap (λ l. get_or l behind vs) left ∙ get_or_default (remove blocks place) behind vs [] short') again))
 
 -- ---- the block that is joined before all others so far
 pub record IsBestSoFar (i : Instance) (blocks : List (List ℕ)) (best : Load) (count : ℕ) : Type 0 where
@@ -287,13 +302,15 @@ module _ (i : Instance) (blocks : List (List ℕ)) where
   load_at x jobs k place first e time weight = record { place = place; first = first ∙ ap (λ l. get_or l 0 0) e; time = time ∙ ap (time_of i) e; weight = weight ∙ ap (weight_of i) e }
 
   -- what leads a load leads its block
-  leads_block : (r x : Load) (k : ℕ) → IsLoadAt x k → Leads r.weight r.time r.first x.weight x.time x.first → Leads r.weight r.time r.first (weight_of i (get_or blocks k [])) (time_of i (get_or blocks k [])) (get_or (get_or blocks k []) 0 0)
+  leads_block : (r x : Load) (k : ℕ) → IsLoadAt x k → Leads r.weight r.time r.first x.weight x.time x.first
+      → Leads r.weight r.time r.first (weight_of i (get_or blocks k [])) (time_of i (get_or blocks k [])) (get_or (get_or blocks k []) 0 0)
   leads_block r x k h l =
       let one = subst (λ n. Leads r.weight r.time r.first n x.time x.first) h.weight l in
       let two = subst (λ n. Leads r.weight r.time r.first (weight_of i (get_or blocks k [])) n x.first) h.time one in
       subst (λ n. Leads r.weight r.time r.first (weight_of i (get_or blocks k [])) (time_of i (get_or blocks k [])) n) h.first two
 
-  pub best-first : (x : Load) (jobs : List ℕ) → x.place ≡ 1 → x.first ≡ get_or jobs 0 0 → jobs ≡ get_or blocks 1 [] → x.time ≡ time_of i jobs → x.weight ≡ weight_of i jobs → 0 < time_of i (get_or blocks 1 []) → IsBestSoFar i blocks x 2
+  pub best-first : (x : Load) (jobs : List ℕ) → x.place ≡ 1 → x.first ≡ get_or jobs 0 0
+      → jobs ≡ get_or blocks 1 [] → x.time ≡ time_of i jobs → x.weight ≡ weight_of i jobs → 0 < time_of i (get_or blocks 1 []) → IsBestSoFar i blocks x 2
   best-first x jobs place first e time weight some =
       let at = load_at x jobs 1 place first e time weight in
       record {
@@ -303,19 +320,31 @@ module _ (i : Instance) (blocks : List (List ℕ)) where
         time = at.time ∙ ap (λ k. time_of i (get_or blocks k [])) (sym place);
         weight = at.weight ∙ ap (λ k. weight_of i (get_or blocks k [])) (sym place);
         some = omega (arith, at.time, some);
-        leads = λ k from l. let one : 1 ≡ k = omega (arith, from, l) in subst (λ n. Leads x.weight x.time x.first (weight_of i (get_or blocks n [])) (time_of i (get_or blocks n [])) (get_or (get_or blocks n []) 0 0)) one (leads_block x x 1 at (inr (refl, omega arith)));
+        leads = λ k from l. let one : 1 ≡ k = omega (arith, from, l) in
+            subst (λ n. Leads x.weight x.time x.first (weight_of i (get_or blocks n [])) (time_of i (get_or blocks n [])) (get_or (get_or blocks n []) 0 0))
+            one (leads_block x x 1 at (inr (refl, omega arith)));
       }
 
-  pub best-next : (a b r : Load) (jobs : List ℕ) (k : ℕ) → 1 ≤ k → b.place ≡ k → b.first ≡ get_or jobs 0 0 → jobs ≡ get_or blocks k [] → b.time ≡ time_of i jobs → b.weight ≡ weight_of i jobs → ((m : ℕ) → 1 ≤ m → m < k + 1 → 0 < time_of i (get_or blocks m []))
+  pub best-next : (a b r : Load) (jobs : List ℕ) (k : ℕ) → 1 ≤ k → b.place ≡ k → b.first ≡ get_or jobs 0 0
+      → jobs ≡ get_or blocks k [] → b.time ≡ time_of i jobs → b.weight ≡ weight_of i jobs → ((m : ℕ) → 1 ≤ m → m < k + 1 → 0 < time_of i (get_or blocks m []))
       → (r ≡ a) ⊎ (r ≡ b) → Leads r.weight r.time r.first a.weight a.time a.first → Leads r.weight r.time r.first b.weight b.time b.first → IsBestSoFar i blocks a k → IsBestSoFar i blocks r (k + 1)
   best-next a b r jobs k from place first e time weight positive either of_a of_b h =
       let some : 0 < r.time = elim either [ inl s ↦ omega (arith, ap (λ x. x.time) s, h.some) | inr s ↦ omega (arith, ap (λ x. x.time) s, at.time, positive k from (omega arith)) ] in
       record {
         later = elim either [ inl s ↦ omega (arith, ap (λ x. x.place) s, h.later) | inr s ↦ omega (arith, ap (λ x. x.place) s, place, from) ];
         early = elim either [ inl s ↦ omega (arith, ap (λ x. x.place) s, h.early) | inr s ↦ omega (arith, ap (λ x. x.place) s, place) ];
-        first = elim either [ inl s ↦ subst (λ x. x.first ≡ get_or (get_or blocks x.place []) 0 0) (sym s) h.first | inr s ↦ subst (λ x. x.first ≡ get_or (get_or blocks x.place []) 0 0) (sym s) (at.first ∙ ap (λ m. get_or (get_or blocks m []) 0 0) (sym place)) ];
-        time = elim either [ inl s ↦ subst (λ x. x.time ≡ time_of i (get_or blocks x.place [])) (sym s) h.time | inr s ↦ subst (λ x. x.time ≡ time_of i (get_or blocks x.place [])) (sym s) (at.time ∙ ap (λ m. time_of i (get_or blocks m [])) (sym place)) ];
-        weight = elim either [ inl s ↦ subst (λ x. x.weight ≡ weight_of i (get_or blocks x.place [])) (sym s) h.weight | inr s ↦ subst (λ x. x.weight ≡ weight_of i (get_or blocks x.place [])) (sym s) (at.weight ∙ ap (λ m. weight_of i (get_or blocks m [])) (sym place)) ];
+        first = elim either [
+          | inl s ↦ subst (λ x. x.first ≡ get_or (get_or blocks x.place []) 0 0) (sym s) h.first
+          | inr s ↦ subst (λ x. x.first ≡ get_or (get_or blocks x.place []) 0 0) (sym s) (at.first ∙ ap (λ m. get_or (get_or blocks m []) 0 0) (sym place))
+        ];
+        time = elim either [
+          | inl s ↦ subst (λ x. x.time ≡ time_of i (get_or blocks x.place [])) (sym s) h.time
+          | inr s ↦ subst (λ x. x.time ≡ time_of i (get_or blocks x.place [])) (sym s) (at.time ∙ ap (λ m. time_of i (get_or blocks m [])) (sym place))
+        ];
+        weight = elim either [
+          | inl s ↦ subst (λ x. x.weight ≡ weight_of i (get_or blocks x.place [])) (sym s) h.weight
+          | inr s ↦ subst (λ x. x.weight ≡ weight_of i (get_or blocks x.place [])) (sym s) (at.weight ∙ ap (λ m. weight_of i (get_or blocks m [])) (sym place))
+        ];
         some = some;
         leads = λ m one l. elim (cases_lt m k) [
           | inl earlier ↦ leads_on _ _ _ a.weight a.time a.first r.weight r.time r.first (positive m one l) h.some some (h.leads m one earlier) of_a
@@ -338,7 +367,8 @@ module _ (i : Instance) (blocks : List (List ℕ)) where
       subst (λ n. Leads (weight_of i (get_or blocks best.place [])) (time_of i (get_or blocks best.place [])) n w p g) h.first b
 
 -- ---- the first blocks
-pub singles-next : (count k : ℕ) (new old : List (List ℕ)) (block : List ℕ) → new ≡ old ++ block ∷ [] → block ≡ k ∷ [] → old ≡ (count ∷ []) ∷ map (λ (j : ℕ). j ∷ []) (range_with_len 0 k) → new ≡ (count ∷ []) ∷ map (λ (j : ℕ). j ∷ []) (range_with_len 0 (k + 1))
+pub singles-next : (count k : ℕ) (new old : List (List ℕ)) (block : List ℕ) → new ≡ old ++ block ∷ [] → block ≡ k ∷ []
+    → old ≡ (count ∷ []) ∷ map (λ (j : ℕ). j ∷ []) (range_with_len 0 k) → new ≡ (count ∷ []) ∷ map (λ (j : ℕ). j ∷ []) (range_with_len 0 (k + 1))
 singles-next count k new old block e f h =
     let one : ℕ → List ℕ = λ j. j ∷ [] in
     let last : range_with_len 0 (k + 1) ≡ range_with_len 0 k ++ k ∷ [] = ap (range_with_len 0) (more k) ∙ range_with_len_last 0 k ∙ ap (λ m. range_with_len 0 k ++ m ∷ []) (none k) in
@@ -350,15 +380,18 @@ singles-next count k new old block e f h =
     none : (k : ℕ) → 0 + k ≡ k
     none k = omega arith
 
-pub joined-begin : (i : Instance) (class : i.class ≡ horn_class) (inner : Inner i) (count : ℕ) (blocks : List (List ℕ)) → count ≡ length i.jobs → blocks ≡ (count ∷ []) ∷ map (λ (j : ℕ). j ∷ []) (range_with_len 0 count) → AreJoined i blocks
-joined-begin i class inner count blocks e h = subst (AreJoined i) (sym (h ∙ ap (λ n. (n ∷ []) ∷ map (λ (j : ℕ). j ∷ []) (range_with_len 0 n)) e)) (joined-start (length i.jobs) (before i) (time_at i) (weight_at i) (IsHornInstance-from_class i class inner).tree)
+pub joined-begin : (i : Instance) (class : i.class ≡ horn_class) (inner : Inner i) (count : ℕ) (blocks : List (List ℕ))
+    → count ≡ length i.jobs → blocks ≡ (count ∷ []) ∷ map (λ (j : ℕ). j ∷ []) (range_with_len 0 count) → AreJoined i blocks
+joined-begin i class inner count blocks e h = subst (AreJoined i) (sym (h ∙ ap (λ n. (n ∷ []) ∷ map (λ (j : ℕ). j ∷ []) (range_with_len 0 n)) e))
+    (joined-start (length i.jobs) (before i) (time_at i) (weight_at i) (IsHornInstance-from_class i class inner).tree)
 
 -- ---- the last block
 -- the jobs behind the start
 abbrev pub behind_first : List ℕ → List ℕ
 behind_first jobs = take (length jobs - 1) (drop 1 jobs)
 
-pub cheapest_behind : (i : Instance) (class : i.class ≡ horn_class) (inner : Inner i) (jobs seen : List ℕ) → AreJoined i (jobs ∷ []) → seen ≡ jobs → IsCheapest (length i.jobs) (before i) (time_at i) (weight_at i) (behind_first seen)
+pub cheapest_behind : (i : Instance) (class : i.class ≡ horn_class) (inner : Inner i) (jobs seen : List ℕ)
+    → AreJoined i (jobs ∷ []) → seen ≡ jobs → IsCheapest (length i.jobs) (before i) (time_at i) (weight_at i) (behind_first seen)
 cheapest_behind i class inner jobs seen joined e =
     let (order, f, o) = cheapest (length i.jobs) (before i) (time_at i) (weight_at i) (IsHornInstance-from_class i class inner).tree jobs joined in
     subst (IsCheapest (length i.jobs) (before i) (time_at i) (weight_at i)) (sym (ap behind_first (e ∙ f) ∙ rest (length i.jobs) order)) o
@@ -366,12 +399,15 @@ cheapest_behind i class inner jobs seen joined e =
     rest : (n : ℕ) (order : List ℕ) → behind_first (n ∷ order) ≡ order
     rest n order = take_all (length (n ∷ order) - 1) order (omega arith)
 
-pub horn_order : (i : Instance) (class : i.class ≡ horn_class) (inner : Inner i) (jobs seen : List ℕ) → AreJoined i (jobs ∷ []) → seen ≡ jobs → JoinTo i (single_blocks (length i.jobs)) (jobs ∷ []) → IsHornOrder i (map job_of (row piece (time_at i) 0 (behind_first seen)))
+pub horn_order : (i : Instance) (class : i.class ≡ horn_class) (inner : Inner i) (jobs seen : List ℕ) → AreJoined i (jobs ∷ [])
+    → seen ≡ jobs → JoinTo i (single_blocks (length i.jobs)) (jobs ∷ []) → IsHornOrder i (map job_of (back_to_back piece (time_at i) 0 (behind_first seen)))
 horn_order i class inner jobs seen joined e join =
     let (order, f, o) = cheapest (length i.jobs) (before i) (time_at i) (weight_at i) (IsHornInstance-from_class i class inner).tree jobs joined in
-    subst (IsHornOrder i) (sym (row-jobs piece (time_at i) piece_makes 0 (behind_first seen) ∙ ap behind_first (e ∙ f) ∙ take_all (length (length i.jobs ∷ order) - 1) order (omega arith))) (subst (λ l. JoinTo i (single_blocks (length i.jobs)) (l ∷ [])) f join)
+    subst (IsHornOrder i) (sym (back_to_back-jobs piece (time_at i) piece_makes 0 (behind_first seen) ∙ ap behind_first (e ∙ f) ∙ take_all (length (length i.jobs ∷ order) - 1) order (omega arith)))
+    (subst (λ l. JoinTo i (single_blocks (length i.jobs)) (l ∷ [])) f join)
 
-pub horn_made : (i : Instance) (class : i.class ≡ horn_class) (inner : Inner i) (jobs seen : List ℕ) → AreJoined i (jobs ∷ []) → seen ≡ jobs → IsHornSchedule i (row_schedule i (behind_first seen))
+pub horn_made : (i : Instance) (class : i.class ≡ horn_class) (inner : Inner i) (jobs seen : List ℕ)
+    → AreJoined i (jobs ∷ []) → seen ≡ jobs → IsHornSchedule i (schedule_in_order i (behind_first seen))
 horn_made i class inner jobs seen joined e = horn_schedule i (IsHornInstance-from_class i class inner) (behind_first seen) (cheapest_behind i class inner jobs seen joined e)
 
 -- ---- blocks are joined again and again

@@ -1,5 +1,5 @@
 // Horn's rule: the solver.
-ghost use Rattle.std.specs.Prelude.{◌≡◌, map, IfOk, ⊤};
+ghost use Rattle.std.specs.Prelude.{◌≡◌, map, IfOk};
 ghost use Rattle.msp_instance.specs.Conditions.{Inner};
 ghost use Rattle.msp_schedule.specs.Cost.{IsBest};
 ghost use Rattle.msp_schedule.specs.Fraction.{IsLowest};
@@ -31,10 +31,6 @@ pub struct Horn;
 
 impl Solver for Horn {
     ghost solved = { λ _. horn_class };
-
-    ghost can_solve = { λ _ _. ⊤ };
-
-    ghost may_ask = { λ _ _. ⊤ };
 
     fn target(&self) -> Class {
         HORN_CLASS

@@ -1,9 +1,9 @@
 // Jobs joined behind their predecessors, a block of greatest ratio of weight to time after another.
 ghost use Rattle.std.specs.Prelude.{◌≡◌, ◌*◌, ◌+◌, ◌<◌, ◌≤◌, ◌⊎◌, ◌++◌, ◌∷◌, [], length, slice_index_or, Contains, IfOk, OnOk};
 ghost use Rattle.std.specs.List.{concat};
-ghost use Rattle.msp_instance.specs.declared.ranges.TheConstants.{GREATEST, MOST_JOBS};
+ghost use Rattle.msp_class.specs.declared.sizes.TheConstants.{MOST_JOBS, GREATEST};
 ghost use Rattle.msp_instance.specs.Conditions.{Inner};
-ghost use Rattle.msp_schedule.specs.Rows.{time_at};
+ghost use Rattle.msp_schedule.specs.BackToBack.{time_at};
 ghost use Rattle.msp_trees.specs.Horn.{horn_class, before, weight_at, time_of, weight_of, GoesNext, Joins, JoinTo, single_blocks};
 ghost use Rattle.msp_trees.specs.Joining.{AreJoined, GoesNoLater};
 

@@ -1,5 +1,6 @@
 -- What is brought back: the lower schedule as it is, or its jobs lined up.
-use Rattle.std.proofs.Common.{◌≡◌, ℕ, true, false, List, length, AllPairs, IsPermutation, ℤ, pos, nat_abs, to_z, of_z, FitsSigned, Result, Ok, Err, IfOk, ◌*ℤ◌, ◌≤ℤ◌, refl, sym, ap, ap₂, subst, ◌∙◌, arith}
+use Rattle.std.proofs.Common.{◌≡◌, ℕ, true, false, List, length, AllPairs, IsPermutation, ℤ, pos, nat_abs, to_z, of_z, FitsSigned, Result, Ok, Err, IfOk, ◌*ℤ◌, ◌≤ℤ◌, refl, sym, ap}
+use Rattle.std.proofs.Common.{ap₂, subst, ◌∙◌, arith}
 use Rattle.std.specs.Int.{w128}
 use Rattle.std.specs.List.{range_with_len}
 use Rattle.std.proofs.lemmas.Bool.{false≢true}
@@ -16,7 +17,7 @@ use Rattle.msp_schedule.specs.declared.Schedule.{Schedule}
 use Rattle.msp_schedule.specs.declared.Solution.{Solution}
 use Rattle.msp_schedule.specs.Feasible.{Feasible}
 use Rattle.msp_schedule.specs.Cost.{end_of, cost_of, IsSolution}
-use Rattle.msp_schedule.specs.declared.limits.TheConstants.{GREATEST_UNIT}
+use Rattle.msp_class.specs.declared.sizes.TheConstants.{GREATEST_UNIT}
 use Rattle.msp_schedule.specs.LineUp.{lined_up, order_of_ends}
 use Rattle.msp_schedule.proofs.changes.LineUp.{order_of_ends-only}
 use Rattle.msp_route.specs.Law.{IsBack, IsReordered}
@@ -37,7 +38,8 @@ pub record IsBrought (row : ℕ) (i j : Instance) (upper before : Schedule) (s :
   pub bounds : KeepsBounds row i j before s.schedule
 
 -- the same schedule
-pub brought_same : (row : ℕ) (i j : Instance) (s : Solution) → keeps_schedule row ≡ true → i.class.env ≡ One → j.class.env ≡ One → cost_of i s.schedule ≡ cost_of j s.schedule → IsBack same_costs i j s.schedule s.schedule → IsSolution j s → IsBounded j s.schedule → IsBrought row i j s.schedule s.schedule s
+pub brought_same : (row : ℕ) (i j : Instance) (s : Solution) → keeps_schedule row ≡ true → i.class.env ≡ One → j.class.env ≡ One → cost_of i s.schedule ≡ cost_of j s.schedule
+    → IsBack same_costs i j s.schedule s.schedule → IsSolution j s → IsBounded j s.schedule → IsBrought row i j s.schedule s.schedule s
 brought_same row i j s kept one other costs law f b = record {
   solution = record { feasible = (law f.feasible).0; cost = f.cost ∙ ap (λ z. z *ℤ s.cost.den) (sym costs) };
   law = law;
@@ -52,7 +54,8 @@ pub record LinesUp (row : ℕ) (before upper : Schedule) : Type 0 where
   pub ends : (moment : ℤ) → EndsBy moment before → EndsBy GREATEST_LINED_UP upper → EndsBy (moment_after row moment) upper
 
 -- the jobs lined up
-module _ (row : ℕ) (i j : Instance) (t upper : Schedule) (D : ℕ) (order : List ℕ) (lines : LinesUp row t upper) (one : i.class.env ≡ One) (other : j.class.env ≡ One) (count : length i.jobs ≡ length j.jobs) (inner : Inner i) (lower : Inner j) (f : Feasible j t) (b : IsBounded j t)
+module _ (row : ℕ) (i j : Instance) (t upper : Schedule) (D : ℕ) (order : List ℕ) (lines : LinesUp row t upper) (one : i.class.env ≡ One)
+    (other : j.class.env ≡ One) (count : length i.jobs ≡ length j.jobs) (inner : Inner i) (lower : Inner j) (f : Feasible j t) (b : IsBounded j t)
     (unit : D ≡ nat_abs t.unit) (all : IsPermutation (range_with_len 0 (length i.jobs)) order) (is : upper ≡ lined_up i D order) (law : IsBack same_costs i j t upper) where
   same_unit : pos D ≡ t.unit
   same_unit = ap pos unit ∙ sym (natural t.unit (omega (arith, ints, f.unit)))
@@ -94,9 +97,12 @@ unit_read j t D one f b e = e ∙ ap nat_abs (to_z-of_z w128 t.unit (fits t.unit
     fits u h k = omega (arith, ints)
 
 -- the same for what the code finds: `change` is what becomes of the order of the ends
-module _ (row : ℕ) (i j : Instance) (t upper : Schedule) (change : List ℕ → List ℕ) (keeps : (l : List ℕ) → IsPermutation l (change l)) (upper_is : upper ≡ lined_up i (nat_abs t.unit) (change (order_of_ends j t)))
-    (lines : LinesUp row t upper) (one : i.class.env ≡ One) (other : j.class.env ≡ One) (same : length i.jobs ≡ length j.jobs) (inner : Inner i) (lower : Inner j) (law : IsBack same_costs i j t upper) (f : Feasible j t) (b : IsBounded j t)
-    (D count : ℕ) (order found : List ℕ) (unit : D ≡ nat_abs (to_z w128 (of_z w128 t.unit))) (c : count ≡ length i.jobs) (e : order ≡ change found) (all : IsPermutation (range_with_len 0 count) found) (rises : AllPairs (λ a b. end_of t a ≤ℤ end_of t b) found) where
+module _ (row : ℕ) (i j : Instance) (t upper : Schedule)
+    (change : List ℕ → List ℕ) (keeps : (l : List ℕ) → IsPermutation l (change l)) (upper_is : upper ≡ lined_up i (nat_abs t.unit) (change (order_of_ends j t)))
+    (lines : LinesUp row t upper) (one : i.class.env ≡ One) (other : j.class.env ≡ One)
+    (same : length i.jobs ≡ length j.jobs) (inner : Inner i) (lower : Inner j) (law : IsBack same_costs i j t upper) (f : Feasible j t) (b : IsBounded j t)
+    (D count : ℕ) (order found : List ℕ) (unit : D ≡ nat_abs (to_z w128 (of_z w128 t.unit))) (c : count ≡ length i.jobs)
+    (e : order ≡ change found) (all : IsPermutation (range_with_len 0 count) found) (rises : AllPairs (λ a b. end_of t a ≤ℤ end_of t b) found) where
   unit_is : D ≡ nat_abs t.unit
   unit_is = unit_read j t D other f b unit
 
@@ -107,7 +113,8 @@ module _ (row : ℕ) (i j : Instance) (t upper : Schedule) (change : List ℕ �
   line_is = upper_is ∙ ap₂ (lined_up i) (sym unit_is) (ap change (sym found_is) ∙ sym e)
 
   pub found_all : IsPermutation (range_with_len 0 (length i.jobs)) order
-  found_all = subst (IsPermutation (range_with_len 0 (length i.jobs))) (sym e) (IsPermutation-trans (range_with_len 0 (length i.jobs)) found (change found) (subst (λ n. IsPermutation (range_with_len 0 n) found) c all) (keeps found))
+  found_all = subst (IsPermutation (range_with_len 0 (length i.jobs))) (sym e)
+      (IsPermutation-trans (range_with_len 0 (length i.jobs)) found (change found) (subst (λ n. IsPermutation (range_with_len 0 n) found) c all) (keeps found))
 
   pub found_feasible : Feasible i (lined_up i D order)
   found_feasible = subst (Feasible i) line_is (law f).0

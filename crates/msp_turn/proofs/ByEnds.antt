@@ -16,7 +16,8 @@ use Rattle.msp_turn.specs.laws.OneMachine.{Recuts-50, led-env, line_of, lower_50
 use Rattle.msp_turn.proofs.JobPieces.{end_by}
 use Rattle.msp_turn.proofs.BroughtBack.{LinesUp}
 
-no_later : (i j : Instance) → IsLine j → IsLine i → SameLine j i → Inner j → (t : Schedule) → Feasible j t → Feasible i (lined_up i (nat_abs t.unit) (order_of_ends j t)) → (moment : ℤ) → EndsBy moment t → EndsBy moment (lined_up i (nat_abs t.unit) (order_of_ends j t))
+no_later : (i j : Instance) → IsLine j → IsLine i → SameLine j i → Inner j → (t : Schedule) → Feasible j t
+    → Feasible i (lined_up i (nat_abs t.unit) (order_of_ends j t)) → (moment : ℤ) → EndsBy moment t → EndsBy moment (lined_up i (nat_abs t.unit) (order_of_ends j t))
 no_later i j line other same inner t f g moment h k d l =
     let p = get_or (lined_up i (nat_abs t.unit) (order_of_ends j t)).pieces k d in
     let inside : p.job < length j.jobs = omega (arith, (g.place k d l).job, same.count) in
@@ -30,5 +31,6 @@ lines_50 i inner h t f =
     record {
       changes = refl;
       plain = refl;
-      ends = λ moment e early. no_later i (led 50 i) (line_of (led 50 i) (led-env 50 _ i r) low) (line_of i r.env inner) (record { count = refl; times = λ k l. refl; arcs = refl }) low t f (back_50 i t inner h f).0 moment e;
+      ends = λ moment e early. no_later i (led 50 i) (line_of (led 50 i) (led-env 50 _ i r) low)
+          (line_of i r.env inner) (record { count = refl; times = λ k l. refl; arcs = refl }) low t f (back_50 i t inner h f).0 moment e;
     }

@@ -1,5 +1,6 @@
 -- The ends of the jobs over more and more pieces, and in order.
-use Rattle.std.proofs.Common.{◌≡◌, ◌≢◌, ℕ, ◌+◌, ◌<◌, Bool, true, false, cond, inl, inr, List, [], ◌∷◌, length, get_or, take, set, map, All, AllPairs, IsPermutation, ℤ, pos, ◌≤ℤ◌, refl, sym, ap, subst, subst₂, ◌∙◌, arith}
+use Rattle.std.proofs.Common.{◌≡◌, ◌≢◌, ℕ, ◌+◌, ◌<◌, Bool, true, false, cond, inl, inr, List, [], ◌∷◌, length, get_or, take, set, map, All, AllPairs, IsPermutation, ℤ, pos, ◌≤ℤ◌}
+use Rattle.std.proofs.Common.{refl, sym, ap, subst, subst₂, ◌∙◌, arith}
 use Rattle.std.specs.Prelude.{◌==◌, int_lt}
 use Rattle.std.specs.Int.{int_max}
 use Rattle.std.specs.List.{range_with_len}
@@ -41,8 +42,10 @@ length-ends_over count ends ps e = ap length e ∙ length-map-range_with_len (en
 
 -- one more piece
 pub ends_over-next : (count : ℕ) (ends new : List End) (ps : List Piece) (k : ℕ) (p d : Piece) → k < length ps → p ≡ get_or ps k d → p.job < count
-    → ((e : End) → new ≡ set ends p.job (record (get_or ends p.job e) { moment = int_max (get_or ends p.job e).moment p.to })) → ends ≡ ends_over count (take k ps) → new ≡ ends_over count (take (k + 1) ps)
-ends_over-next count ends new ps k p d l is inside made so_far = fill_by_all (end_over (take (k + 1) ps)) new count none (long ∙ length-map-range_with_len (end_over (take k ps)) 0 count) (λ j b. elim (cases_eq j p.job) [ inl e ↦ here j e b | inr n ↦ there j n b ])
+    → ((e : End) → new ≡ set ends p.job (record (get_or ends p.job e) { moment = int_max (get_or ends p.job e).moment p.to }))
+    → ends ≡ ends_over count (take k ps) → new ≡ ends_over count (take (k + 1) ps)
+ends_over-next count ends new ps k p d l is inside made so_far = fill_by_all (end_over (take (k + 1) ps)) new count none
+    (long ∙ length-map-range_with_len (end_over (take k ps)) 0 count) (λ j b. elim (cases_eq j p.job) [ inl e ↦ here j e b | inr n ↦ there j n b ])
   where
     none : End
     none = record { moment = pos 0; job = 0 }
@@ -60,7 +63,8 @@ ends_over-next count ends new ps k p d l is inside made so_far = fill_by_all (en
     here j e b =
         ap (λ n. get_or new n none) e
         ∙ ap (λ l. get_or l p.job none) (made none)
-        ∙ get_or-set_same ends p.job (record (get_or ends p.job none) { moment = int_max (get_or ends p.job none).moment p.to }) none (omega (arith, ap length so_far, length-map-range_with_len (end_over (take k ps)) 0 count))
+        ∙ get_or-set_same ends p.job (record (get_or ends p.job none) { moment = int_max (get_or ends p.job none).moment p.to })
+        none (omega (arith, ap length so_far, length-map-range_with_len (end_over (take k ps)) 0 count))
         ∙ ap (λ (x : End). record x { moment = int_max x.moment p.to }) (was p.job inside)
         ∙ ap (ended p.job) (sym (more p.job ∙ ap (λ t. cond t (int_max (last_end (take k ps) p.job) p.to) (last_end (take k ps) p.job)) (eq-eqb p.job p.job refl)))
         ∙ ap (end_over (take (k + 1) ps)) (sym e)
@@ -94,7 +98,8 @@ pub ends_sorted : (es : List End) → IsSortedBy end_less es → AllPairs (λ a 
 ends_sorted es h i j d l k = not_later (get_or es i d).moment (get_or es j d).moment (get_or es i d).job (get_or es j d).job (sorted_far end_less end_less-order es h i j d (omega arith) k)
 
 -- ---- the numbers
-pub numbers_are : (count : ℕ) (ps : List Piece) (ends sorted : List End) (order : List ℕ) → ends ≡ ends_over count ps → IsPermutation ends sorted → order ≡ map (λ e. e.job) sorted → IsPermutation (range_with_len 0 count) order
+pub numbers_are : (count : ℕ) (ps : List Piece) (ends sorted : List End) (order : List ℕ)
+    → ends ≡ ends_over count ps → IsPermutation ends sorted → order ≡ map (λ e. e.job) sorted → IsPermutation (range_with_len 0 count) order
 numbers_are count ps ends sorted order e moved made =
     subst₂ IsPermutation (ap (map (λ x. x.job)) e ∙ jobs (range_with_len 0 count)) (sym made) (IsPermutation-map (λ x. x.job) ends sorted moved)
   where
@@ -102,9 +107,11 @@ numbers_are count ps ends sorted order e moved made =
     jobs [] = refl
     jobs (x ∷ xs) = ap (λ l. x ∷ l) (jobs xs)
 
-pub numbers_rise : (count : ℕ) (ps : List Piece) (ends sorted : List End) (order : List ℕ) → ends ≡ ends_over count ps → IsPermutation ends sorted → AllPairs (λ a b. a.moment ≤ℤ b.moment) sorted → order ≡ map (λ e. e.job) sorted
+pub numbers_rise : (count : ℕ) (ps : List Piece) (ends sorted : List End) (order : List ℕ)
+    → ends ≡ ends_over count ps → IsPermutation ends sorted → AllPairs (λ a b. a.moment ≤ℤ b.moment) sorted → order ≡ map (λ e. e.job) sorted
     → AllPairs (λ a b. last_end ps a ≤ℤ last_end ps b) order
-numbers_rise count ps ends sorted order e moved up made = subst (AllPairs Rises) (sym made) (AllPairs-map Rises (λ x. x.job) sorted (λ i j d l k. subst₂ (λ x y. x ≤ℤ y) (each i d (omega arith)) (each j d k) (up i j d l k)))
+numbers_rise count ps ends sorted order e moved up made =
+    subst (AllPairs Rises) (sym made) (AllPairs-map Rises (λ x. x.job) sorted (λ i j d l k. subst₂ (λ x y. x ≤ℤ y) (each i d (omega arith)) (each j d k) (up i j d l k)))
   where
     Rises : ℕ → ℕ → Type 0
     Rises a b = last_end ps a ≤ℤ last_end ps b

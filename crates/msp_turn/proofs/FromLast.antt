@@ -24,8 +24,10 @@ lines_51 t upper = record { changes = refl; plain = refl; ends = λ moment e ear
 pub lines_52 : (t upper : Schedule) → LinesUp 52 t upper
 lines_52 t upper = record { changes = refl; plain = refl; ends = λ moment e early. early }
 
-module _ (row : ℕ) (i j : Instance) (x : IsExchange row i j) (lines : (t upper : Schedule) → LinesUp row t upper) (inner : Inner i) (t : Schedule) (f : Feasible j t) (b : IsBounded j t) (D count : ℕ) (order found : List ℕ)
-    (unit : D ≡ nat_abs (to_z w128 (of_z w128 t.unit))) (c : count ≡ length i.jobs) (e : order ≡ found) (all : IsPermutation (range_with_len 0 count) found) (rises : AllPairs (λ a b. end_of t b ≤ℤ end_of t a) found) where
+module _ (row : ℕ) (i j : Instance) (x : IsExchange row i j) (lines : (t upper : Schedule) → LinesUp row t upper)
+    (inner : Inner i) (t : Schedule) (f : Feasible j t) (b : IsBounded j t) (D count : ℕ) (order found : List ℕ)
+    (unit : D ≡ nat_abs (to_z w128 (of_z w128 t.unit))) (c : count ≡ length i.jobs)
+    (e : order ≡ found) (all : IsPermutation (range_with_len 0 count) found) (rises : AllPairs (λ a b. end_of t b ≤ℤ end_of t a) found) where
   twice : order ≡ reverse (reverse found)
   twice = e ∙ sym (reverse-reverse found)
 
@@ -36,10 +38,13 @@ module _ (row : ℕ) (i j : Instance) (x : IsExchange row i j) (lines : (t upper
   rising = AllPairs-reverse (λ a b. end_of t b ≤ℤ end_of t a) found rises
 
   pub last_all : IsPermutation (range_with_len 0 (length i.jobs)) order
-  last_all = found_all row i j t (from_last i t) reverse IsPermutation-reverse (from_last-below row i j x inner t) (lines t (from_last i t)) x.env x.env_below x.exchange.0.count inner x.lower.inner (IsBack-exchanged row i j x inner t) f b D count order (reverse found) unit c twice forward rising
+  last_all = found_all row i j t (from_last i t) reverse IsPermutation-reverse (from_last-below row i j x inner t) (lines t (from_last i t))
+      x.env x.env_below x.exchange.0.count inner x.lower.inner (IsBack-exchanged row i j x inner t) f b D count order (reverse found) unit c twice forward rising
 
   pub last_feasible : Feasible i (lined_up i D order)
-  last_feasible = found_feasible row i j t (from_last i t) reverse IsPermutation-reverse (from_last-below row i j x inner t) (lines t (from_last i t)) x.env x.env_below x.exchange.0.count inner x.lower.inner (IsBack-exchanged row i j x inner t) f b D count order (reverse found) unit c twice forward rising
+  last_feasible = found_feasible row i j t (from_last i t) reverse IsPermutation-reverse (from_last-below row i j x inner t) (lines t (from_last i t))
+      x.env x.env_below x.exchange.0.count inner x.lower.inner (IsBack-exchanged row i j x inner t) f b D count order (reverse found) unit c twice forward rising
 
   pub last_brought : (s : Solution) → IsLinedUp i D order s → IsBrought row i j (from_last i t) t s
-  last_brought = found_brought row i j t (from_last i t) reverse IsPermutation-reverse (from_last-below row i j x inner t) (lines t (from_last i t)) x.env x.env_below x.exchange.0.count inner x.lower.inner (IsBack-exchanged row i j x inner t) f b D count order (reverse found) unit c twice forward rising
+  last_brought = found_brought row i j t (from_last i t) reverse IsPermutation-reverse (from_last-below row i j x inner t) (lines t (from_last i t))
+      x.env x.env_below x.exchange.0.count inner x.lower.inner (IsBack-exchanged row i j x inner t) f b D count order (reverse found) unit c twice forward rising

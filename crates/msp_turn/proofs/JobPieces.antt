@@ -16,7 +16,8 @@ use Rattle.msp_route.specs.Bounds.{EndsBy}
 
 -- numbers below n, each of which is that of some item
 no_fewer : (n : ℕ) (ps : List Piece) → All (λ p. p.job < n) ps → ((k : ℕ) → k < n → (p : Piece) × Contains ps p × (p.job ≡ k)) → n ≤ length ps
-no_fewer n ps all each = omega (arith, sum_by-constant 1 ps, sum_by-by_key (λ p. p.job) (λ _. 1) n ps all, total_below-constant n 1, total_below-mono n (λ _. 1) (λ k. sum_by (λ p. cond (eqb p.job k) 1 0) ps) one)
+no_fewer n ps all each =
+    omega (arith, sum_by-constant 1 ps, sum_by-by_key (λ p. p.job) (λ _. 1) n ps all, total_below-constant n 1, total_below-mono n (λ _. 1) (λ k. sum_by (λ p. cond (eqb p.job k) 1 0) ps) one)
   where
     one : (k : ℕ) → k < n → 1 ≤ sum_by (λ p. cond (eqb p.job k) 1 0) ps
     one k l = let (p, c, e) = each k l in omega (arith, sum_by-contains (λ p. cond (eqb p.job k) 1 0) ps p c, cond-yes 1 (eq-eqb p.job k e))

@@ -2,6 +2,7 @@
 use Rattle.std.proofs.Common.{◌≡◌, ℕ, ◌*◌, ◌^◌, ◌<◌, ◌≤◌, List, length, get_or, sum_by, All, IsPermutation, ℤ, pos, ◌≤ℤ◌, sym, ap, subst, ◌∙◌, arith, slice_index_or}
 use Rattle.std.specs.List.{range_with_len}
 use Rattle.std.proofs.lemmas.Int.{ints}
+use Rattle.msp_class.specs.declared.sizes.TheConstants.{MOST_JOBS, GREATEST_UNIT}
 use Rattle.msp_class.specs.declared.environments.EnvKind.TheVariants.{Identical, Unrelated}
 use Rattle.msp_class.specs.declared.class.Env.{Env}
 use Rattle.msp_class.specs.declared.class.Env.TheVariants.{One}
@@ -13,16 +14,15 @@ use Rattle.msp_instance.specs.declared.Instance.{Instance}
 use Rattle.msp_instance.specs.Instance.{no_need, no_job}
 use Rattle.msp_instance.specs.Conditions.{HasShape, HasTimes, Inner, inner_limits, least_time, greatest_time}
 use Rattle.msp_schedule.specs.declared.Piece.{Piece}
-use Rattle.msp_schedule.specs.declared.limits.TheConstants.{GREATEST_UNIT}
 use Rattle.msp_schedule.specs.Feasible.{Feasible}
 use Rattle.msp_schedule.specs.Within.{IsMoment, Within}
-use Rattle.msp_schedule.specs.Rows.{row, piece, time_at}
-use Rattle.msp_schedule.proofs.lists.Rows.{row-to, length-row}
+use Rattle.msp_schedule.specs.BackToBack.{back_to_back, piece, time_at}
+use Rattle.msp_schedule.proofs.lists.BackToBack.{back_to_back-to, length-back_to_back}
 use Rattle.msp_schedule.specs.Piece.{finish, IsTimed}
 use Rattle.msp_schedule.proofs.feasible.OneMachine.{timed_pieces}
-use Rattle.msp_schedule.proofs.feasible.OneRow.{piece_makes}
+use Rattle.msp_schedule.proofs.feasible.BackToBack.{piece_makes}
 use Rattle.msp_schedule.specs.LineUp.{lined_up}
-use Rattle.msp_route.proofs.RowSteps.{short_length, greatest_length}
+use Rattle.msp_route.proofs.BackToBackSteps.{short_length, greatest_length}
 
 module _ (i : Instance) (one : i.class.env ≡ One) (inner : Inner i) where
   in_time : (t : Times) → greatest_time (inner_limits Identical) t ≤ 1000000000
@@ -43,22 +43,22 @@ module _ (i : Instance) (one : i.class.env ≡ One) (inner : Inner i) where
 
   module _ (D : ℕ) (small : pos D ≤ℤ GREATEST_UNIT) (order : List ℕ) (all : IsPermutation (range_with_len 0 (length i.jobs)) order) where
     abbrev pieces : List Piece
-    pieces = row piece (λ j. D * time_at i j) 0 order
+    pieces = back_to_back piece (λ j. D * time_at i j) 0 order
 
     once : OnceBelow (length i.jobs) order
     once = OnceBelow-from_permutation all
 
-    pub few_jobs : length order ≤ 400
+    pub few_jobs : length order ≤ MOST_JOBS
     few_jobs = omega (arith, length-OnceBelow once, inner.conditions.few)
 
     pub within_jobs : All (λ j. j < length i.jobs) order
     within_jobs = once.within
 
     pub line_length : length pieces ≡ length i.jobs
-    line_length = length-row piece (λ j. D * time_at i j) 0 order ∙ length-OnceBelow once
+    line_length = length-back_to_back piece (λ j. D * time_at i j) 0 order ∙ length-OnceBelow once
 
-    pub few_pieces : length pieces ≤ 400
-    few_pieces = omega (arith, length-row piece (λ j. D * time_at i j) 0 order, few_jobs)
+    pub few_pieces : length pieces ≤ MOST_JOBS
+    few_pieces = omega (arith, length-back_to_back piece (λ j. D * time_at i j) 0 order, few_jobs)
 
     whole : sum_by (λ j. D * time_at i j) order ≤ 4 * 10 ^ 24
     whole =
@@ -70,7 +70,7 @@ module _ (i : Instance) (one : i.class.env ≡ One) (inner : Inner i) where
       timed = timed_pieces i (ap kind_of one) (lined_up i D order) f
 
       pub line_ends : All (λ p. p.to ≤ℤ pos (4 * 10 ^ 24)) pieces
-      line_ends k d l = early (get_or pieces k d) (timed k d l) (omega (arith, row-to piece (λ j. D * time_at i j) piece_makes 0 order k d l, whole))
+      line_ends k d l = early (get_or pieces k d) (timed k d l) (omega (arith, back_to_back-to piece (λ j. D * time_at i j) piece_makes 0 order k d l, whole))
         where
           early : (p : Piece) → IsTimed p → finish p ≤ 4 * 10 ^ 24 → p.to ≤ℤ pos (4 * 10 ^ 24)
           early p t h = omega (arith, ints, t.to, h)
@@ -90,5 +90,6 @@ module _ (i : Instance) (one : i.class.env ≡ One) (inner : Inner i) where
           not_unrelated h = cc
 
 -- the pieces as a schedule
-pub as_line : (i : Instance) (D : ℕ) (order : List ℕ) (unit : ℤ) (made : List Piece) → unit ≡ pos D → made ≡ row piece (λ j. D * time_at i j) 0 order → record { unit = unit; pieces = made } ≡ lined_up i D order
+pub as_line : (i : Instance) (D : ℕ) (order : List ℕ) (unit : ℤ) (made : List Piece)
+    → unit ≡ pos D → made ≡ back_to_back piece (λ j. D * time_at i j) 0 order → record { unit = unit; pieces = made } ≡ lined_up i D order
 as_line i D order unit made e f = ap (λ u. record { unit = u; pieces = made }) e ∙ ap (λ ps. record { unit = pos D; pieces = ps }) f

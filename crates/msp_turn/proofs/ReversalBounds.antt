@@ -11,11 +11,10 @@ use Rattle.msp_class.specs.declared.environments.EnvKind.{EnvKind}
 use Rattle.msp_class.specs.declared.environments.EnvKind.TheVariants.{Identical, Uniform, Unrelated, OpenShop, FlowShop, JobShop}
 use Rattle.msp_class.specs.Env.{kind_of}
 use Rattle.msp_class.proofs.IntegerRing.{≤ℤ_refl, ≤ℤ_trans, ≤ℤ_of_same, natural_some, zero-*ℤ, *ℤ-zero}
-use Rattle.msp_instance.specs.declared.ranges.TheConstants.{GREATEST}
+use Rattle.msp_class.specs.declared.sizes.TheConstants.{GREATEST, GREATEST_UNIT}
 use Rattle.msp_instance.specs.declared.Instance.{Instance}
 use Rattle.msp_instance.specs.Instance.{no_job, job_at}
 use Rattle.msp_instance.specs.Conditions.{HasRelease, Inner, inner_limits, inner_factor}
-use Rattle.msp_schedule.specs.declared.limits.TheConstants.{GREATEST_UNIT}
 use Rattle.msp_schedule.specs.declared.Schedule.{Schedule}
 use Rattle.msp_schedule.specs.declared.Solution.{Solution}
 use Rattle.msp_schedule.specs.Feasible.{Feasible}
@@ -73,7 +72,8 @@ module _ {a : ℤ} {i j : Instance} (r : IsReverse a (pos 0) i j) (inner : Inner
   small_release k l =
       let (n, e) = natural_some t.unit (omega (arith, ints, f.unit)) in
       subst (λ u. (u *ℤ pos (job_at i k).release) ≤ℤ GREATEST_RAISE) (sym e)
-      (small_tail (kind_of i.class.env) n (job_at i k).release (subst (λ u. u ≤ℤ greatest_unit (kind_of i.class.env)) e unit_small) (release_by (kind_of i.class.env) i.class.heads (job_at i k).release (inner.conditions.jobs k no_job l).release))
+      (small_tail (kind_of i.class.env) n (job_at i k).release (subst (λ u. u ≤ℤ greatest_unit (kind_of i.class.env)) e unit_small)
+      (release_by (kind_of i.class.env) i.class.heads (job_at i k).release (inner.conditions.jobs k no_job l).release))
 
   -- moments are raised by no more than the release dates
   ends_by : (moment c : ℤ) → pos 0 ≤ℤ c → ((k : ℕ) → k < length i.jobs → (t.unit *ℤ pos (job_at i k).release) ≤ℤ c) → EndsBy moment t → EndsBy (moment +ℤ c) (reversed_for i t)
@@ -82,7 +82,8 @@ module _ {a : ℤ} {i j : Instance} (r : IsReverse a (pos 0) i j) (inner : Inner
       let lasts = f.span k d l in
       earlier p.from (turning_moment i t) (moment +ℤ c) lasts.0
       (turning-least i t (moment +ℤ c) (natural p.from p.to moment c lasts.0 lasts.1 (ends k d l) some)
-      (λ m e n. summed (get_or t.pieces m e).to (t.unit *ℤ pos (job_at i (get_or t.pieces m e).job).release) moment c (ends m e n) (small (get_or t.pieces m e).job (omega (arith, (f.place m e n).job, r.needs.count))))))
+      (λ m e n. summed (get_or t.pieces m e).to (t.unit *ℤ pos (job_at i (get_or t.pieces m e).job).release)
+      moment c (ends m e n) (small (get_or t.pieces m e).job (omega (arith, (f.place m e n).job, r.needs.count))))))
     where
       earlier : (x k z : ℤ) → pos 0 ≤ℤ x → k ≤ℤ z → (k -ℤ x) ≤ℤ z
       earlier x k z h l = omega (arith, ints)
@@ -112,7 +113,8 @@ module _ {a : ℤ} {i j : Instance} (r : IsReverse a (pos 0) i j) (inner : Inner
 
   -- no piece ends after the lower cost
   ends_charged : EndsBy (cost_of j t) (reversed_for i t)
-  ends_charged = All-map (λ p. p.to ≤ℤ cost_of j t) (reversed_piece (turning_moment i t)) t.pieces (λ k d l. earlier (get_or t.pieces k d).from (turning_moment i t) (cost_of j t) (pos 0 *ℤ t.unit) (zero-*ℤ t.unit) (f.span k d l).0 (turning-charged back low t f))
+  ends_charged = All-map (λ p. p.to ≤ℤ cost_of j t) (reversed_piece (turning_moment i t)) t.pieces
+      (λ k d l. earlier (get_or t.pieces k d).from (turning_moment i t) (cost_of j t) (pos 0 *ℤ t.unit) (zero-*ℤ t.unit) (f.span k d l).0 (turning-charged back low t f))
     where
       earlier : (x k z o : ℤ) → o ≡ pos 0 → pos 0 ≤ℤ x → k ≤ℤ (z +ℤ o) → (k -ℤ x) ≤ℤ z
       earlier x k z o e h l = omega (arith, ints)

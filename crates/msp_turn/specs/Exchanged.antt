@@ -1,6 +1,6 @@
 -- Instances in which times and weights are exchanged.
 use Rattle.std.specs.Prelude.{◌≡◌, ℕ, ◌≤◌, [], ◌∷◌, length, map, slice_index_or}
-use Rattle.msp_instance.specs.declared.ranges.TheConstants.{GREATEST}
+use Rattle.msp_class.specs.declared.sizes.TheConstants.{GREATEST}
 use Rattle.msp_instance.specs.declared.Job.{Job}
 use Rattle.msp_instance.specs.declared.Instance.{Instance}
 use Rattle.msp_instance.specs.Instance.{no_need}

@@ -3,14 +3,14 @@ ghost use Rattle.std.specs.Prelude.{◌≡◌, length, pos, ◌≤ℤ◌, IfOk, 
 ghost use Rattle.std.specs.List.{range_with_len};
 ghost use Rattle.msp_class.specs.declared.class.Env.TheVariants.{One};
 ghost use Rattle.msp_instance.specs.Conditions.{Inner};
-ghost use Rattle.msp_schedule.specs.declared.limits.TheConstants.{GREATEST_UNIT};
+ghost use Rattle.msp_class.specs.declared.sizes.TheConstants.{GREATEST_UNIT};
 ghost use Rattle.msp_schedule.specs.Feasible.{Feasible};
 ghost use Rattle.msp_schedule.specs.LineUp.{lined_up};
 ghost use Rattle.msp_turn.specs.LinedUp.{IsLinedUp};
 
 use msp_class::NoMemory;
 use msp_instance::Instance;
-use msp_route::in_a_row;
+use msp_route::pieces_back_to_back;
 use msp_schedule::{Schedule, Solution};
 use std::alloc::Global;
 
@@ -28,7 +28,7 @@ pub(crate) fn line_up(
     requires feasible { Feasible inst.now (lined_up inst.now unit order.now) }
     ensures { IfOk result (λ s. IsLinedUp inst.now unit order.now s) }
 {
-    let pieces = in_a_row(alloc, inst, unit, order)?;
+    let pieces = pieces_back_to_back(alloc, inst, unit, order)?;
     let schedule = Schedule {
         unit: unit as i128,
         pieces,

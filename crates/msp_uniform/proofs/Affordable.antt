@@ -2,6 +2,8 @@
 use Rattle.std.proofs.Common.{◌≡◌, ℕ, suc, ◌*◌, ◌-◌, ◌^◌, ◌≤◌, inl, inr, List, [], ◌∷◌, All, fold, max, min, sym, ap, subst, ◌∙◌, arith}
 use Rattle.std.proofs.Math.Nat.{mul-le-mul_left, mul-le-mul_right, le-mul_of_pos_right, one-le-pow, pow-suc, le-max_left, le-max_right, min-le_left, min-le_right, le_trans}
 use Rattle.std.proofs.lemmas.List.Elements.{All-nil, All-cons}
+use Rattle.msp_class.specs.declared.sizes.TheConstants.{MOST_JOBS, GREATEST}
+use Rattle.msp_uniform.specs.declared.unit.TheConstants.{GREATEST_PRODUCT}
 use Rattle.msp_uniform.specs.Uniform.{gap}
 use Rattle.msp_uniform.specs.Segments.{at, IsDifference}
 use Rattle.msp_uniform.specs.Plans.{IsAffordable}
@@ -20,25 +22,26 @@ gap_some speeds = le-max_left 1 _
 
 pub difference_gap : (speeds : List ℕ) (d : ℕ) → IsDifference speeds d → d ≤ gap speeds
 difference_gap speeds d (inl e) = subst (λ k. k ≤ gap speeds) (sym e) (gap_some speeds)
-difference_gap speeds d (inr (some, a, b, l, k, e)) = le_trans (by (at speeds a) (at speeds b) (fold max 0 speeds) (fold min (fold max 0 speeds) speeds) e ((most 0 speeds).1 a 0 l) ((least (fold max 0 speeds) speeds).1 b 0 k)) (le-max_right 1 _)
+difference_gap speeds d (inr (some, a, b, l, k, e)) =
+    le_trans (by (at speeds a) (at speeds b) (fold max 0 speeds) (fold min (fold max 0 speeds) speeds) e ((most 0 speeds).1 a 0 l) ((least (fold max 0 speeds) speeds).1 b 0 k)) (le-max_right 1 _)
   where
     by : (x y p q : ℕ) → d ≡ x - y → x ≤ p → q ≤ y → d ≤ p - q
     by x y p q e l k = omega (arith, e, l, k)
 
 module _ (speeds : List ℕ) (finest unit end : ℕ) where
-  unit_here : (h : ℕ) → IsAffordable speeds finest unit end h → unit * finest ≤ 10000000000000
+  unit_here : (h : ℕ) → IsAffordable speeds finest unit end h → unit * finest ≤ GREATEST_PRODUCT
   unit_here h a = le_trans (mul-le-mul_right finest (le-mul_of_pos_right unit (one-le-pow (h - 1) (gap speeds) (gap_some speeds)))) a.unit_small
 
-  pub unit_small : (h : ℕ) → IsAffordable speeds finest unit end h → unit ≤ 10000000000000
+  pub unit_small : (h : ℕ) → IsAffordable speeds finest unit end h → unit ≤ GREATEST_PRODUCT
   unit_small h a = le_trans (le-mul_of_pos_right unit a.some) (unit_here h a)
 
-  pub finest_small : (h : ℕ) → IsAffordable speeds finest unit end h → unit * finest ≤ 10000000000000
+  pub finest_small : (h : ℕ) → IsAffordable speeds finest unit end h → unit * finest ≤ GREATEST_PRODUCT
   finest_small = unit_here
 
-  pub end_small : (h : ℕ) → IsAffordable speeds finest unit end h → end * finest ≤ unit * finest * 400000000000
+  pub end_small : (h : ℕ) → IsAffordable speeds finest unit end h → end * finest ≤ unit * finest * (MOST_JOBS * GREATEST)
   end_small h a = by (mul-le-mul_right finest a.end_small)
     where
-      by : end * finest ≤ unit * 400000000000 * finest → end * finest ≤ unit * finest * 400000000000
+      by : end * finest ≤ unit * (MOST_JOBS * GREATEST) * finest → end * finest ≤ unit * finest * (MOST_JOBS * GREATEST)
       by l = omega (arith, l)
 
   -- a turn makes the unit finer by a difference of speeds
@@ -50,14 +53,15 @@ module _ (speeds : List ℕ) (finest unit end : ℕ) where
         one g = omega arith
 
     finer : unit * d * gap speeds ^ g * finest ≤ unit * gap speeds ^ (suc (suc g) - 1) * finest
-    finer = mul-le-mul_right finest (subst (λ k. unit * d * gap speeds ^ g ≤ unit * k) (sym power) (by (gap speeds ^ g) (mul-le-mul_right (gap speeds ^ g) (mul-le-mul_left unit (difference_gap speeds d is)))))
+    finer = mul-le-mul_right finest
+        (subst (λ k. unit * d * gap speeds ^ g ≤ unit * k) (sym power) (by (gap speeds ^ g) (mul-le-mul_right (gap speeds ^ g) (mul-le-mul_left unit (difference_gap speeds d is)))))
       where
         by : (p : ℕ) → unit * d * p ≤ unit * gap speeds * p → unit * d * p ≤ unit * (p * gap speeds)
         by p l = omega (arith, l)
 
     pub IsAffordable-turn : IsAffordable speeds finest (unit * d) (end * d) (suc g)
     IsAffordable-turn = record {
-      unit_small = subst (λ k. unit * d * gap speeds ^ k * finest ≤ 10000000000000) (sym (less g)) (le_trans finer a.unit_small);
+      unit_small = subst (λ k. unit * d * gap speeds ^ k * finest ≤ GREATEST_PRODUCT) (sym (less g)) (le_trans finer a.unit_small);
       end_small = by (mul-le-mul_right d a.end_small);
       some = a.some;
     }
@@ -65,12 +69,13 @@ module _ (speeds : List ℕ) (finest unit end : ℕ) where
         less : (g : ℕ) → suc g - 1 ≡ g
         less g = omega arith
 
-        by : end * d ≤ unit * 400000000000 * d → end * d ≤ unit * d * 400000000000
+        by : end * d ≤ unit * (MOST_JOBS * GREATEST) * d → end * d ≤ unit * d * (MOST_JOBS * GREATEST)
         by l = omega (arith, l)
 
     -- what a turn asks for
-    pub end_finer : end * d ≤ 4000000000000000000000000
+    pub end_finer : end * d ≤ GREATEST_PRODUCT * (MOST_JOBS * GREATEST)
     end_finer = omega (arith, IsAffordable-turn.end_small, small)
       where
-        small : unit * d ≤ 10000000000000
-        small = le_trans (le-mul_of_pos_right (unit * d) a.some) (le_trans (mul-le-mul_right finest (le-mul_of_pos_right (unit * d) (one-le-pow g (gap speeds) (gap_some speeds)))) (le_trans finer a.unit_small))
+        small : unit * d ≤ GREATEST_PRODUCT
+        small = le_trans (le-mul_of_pos_right (unit * d) a.some)
+            (le_trans (mul-le-mul_right finest (le-mul_of_pos_right (unit * d) (one-le-pow g (gap speeds) (gap_some speeds)))) (le_trans finer a.unit_small))

@@ -4,11 +4,13 @@ use Rattle.std.specs.Int.{◌∣◌}
 use Rattle.std.proofs.Math.Nat.{le_trans, mul-le-mul, mul-le-mul_right}
 use Rattle.std.proofs.lemmas.List.{length-map}
 use Rattle.std.proofs.lemmas.List.Elements.{All-map}
+use Rattle.msp_class.specs.declared.sizes.TheConstants.{MOST_JOBS, MOST_MACHINES, GREATEST}
 use Rattle.msp_instance.specs.declared.Instance.{Instance}
 use Rattle.msp_instance.specs.Instance.{no_need}
 use Rattle.msp_instance.specs.Conditions.{HasSmallMultiple, Inner}
 use Rattle.msp_instance.specs.Multiples.{IsLeastOfAll}
 use Rattle.msp_schedule.proofs.feasible.OfClass.{IsOfClass, IsOfClass-from}
+use Rattle.msp_uniform.specs.declared.unit.TheConstants.{GREATEST_PRODUCT}
 use Rattle.msp_uniform.specs.declared.segments.Segment.{Segment}
 use Rattle.msp_uniform.specs.declared.task.Task.{Task}
 use Rattle.msp_uniform.specs.Uniform.{cut_class, gap, sum, IsByFalling, HasSmallUnit}
@@ -29,20 +31,21 @@ module _ (i : Instance) (class : i.class ≡ cut_class) (inner : Inner i) (ts sp
   pub many_times : length ts ≡ length i.jobs
   many_times = ap length a ∙ length-map i.jobs (λ j. (get_or j.needs 0 no_need).time)
 
-  pub times_few : length ts ≤ 400
+  pub times_few : length ts ≤ MOST_JOBS
   times_few = omega (arith, many_times, h.few)
 
   pub many_speeds : length sp ≡ i.machines
   many_speeds = ap length b ∙ h.speeds.0
 
-  pub speeds_few : length sp ≤ 32
+  pub speeds_few : length sp ≤ MOST_MACHINES
   speeds_few = omega (arith, many_speeds, h.machines)
 
   pub speeds_some : 1 ≤ length sp
   speeds_some = omega (arith, many_speeds, h.machine)
 
-  pub times_fit : All (λ p. (1 ≤ p) × (p ≤ 1000000000)) ts
-  times_fit = subst (All (λ p. (1 ≤ p) × (p ≤ 1000000000))) (sym a) (All-map (λ p. (1 ≤ p) × (p ≤ 1000000000)) (λ j. (get_or j.needs 0 no_need).time) i.jobs (λ k d l. let n = (h.jobs k d l).needs in n.times 0 no_need (omega (arith, n.shape.0))))
+  pub times_fit : All (λ p. (1 ≤ p) × (p ≤ GREATEST)) ts
+  times_fit = subst (All (λ p. (1 ≤ p) × (p ≤ GREATEST))) (sym a)
+      (All-map (λ p. (1 ≤ p) × (p ≤ GREATEST)) (λ j. (get_or j.needs 0 no_need).time) i.jobs (λ k d l. let n = (h.jobs k d l).needs in n.times 0 no_need (omega (arith, n.shape.0))))
 
   pub speeds_fit : All (λ s. (1 ≤ s) × (s ≤ 1000000)) sp
   speeds_fit = subst (All (λ s. (1 ≤ s) × (s ≤ 1000000))) (sym b) h.speeds.1
@@ -51,31 +54,37 @@ module _ (i : Instance) (class : i.class ≡ cut_class) (inner : Inner i) (ts sp
   speeds_multiple = subst HasSmallMultiple (sym b) h.multiple
 
   -- ---- the task
-  module _ (jobs machines : List ℕ) (w v multiple : ℕ) (jobs_by : IsByFalling (length ts) (at ts) jobs) (machines_by : IsByFalling (length sp) (at sp) machines) (greatest : IsGreatest (at ts) (at sp) jobs machines w v) (least : IsLeastOfAll sp multiple) (fits : HasSmallUnit i) (t : Task) (times_is : t.times.items ≡ ts) (speeds_is : t.speeds.items ≡ sp) (work_is : t.work ≡ w) (speed_is : t.speed ≡ v) (multiple_is : t.multiple ≡ multiple) where
+  module _ (jobs machines : List ℕ) (w v multiple : ℕ) (jobs_by : IsByFalling (length ts) (at ts) jobs) (machines_by : IsByFalling (length sp) (at sp) machines)
+      (greatest : IsGreatest (at ts) (at sp) jobs machines w v) (least : IsLeastOfAll sp multiple) (fits : HasSmallUnit i) (t : Task)
+      (times_is : t.times.items ≡ ts) (speeds_is : t.speeds.items ≡ sp) (work_is : t.work ≡ w) (speed_is : t.speed ≡ v) (multiple_is : t.multiple ≡ multiple) where
     pub IsTask-of : IsTask t
     IsTask-of = record {
       few_jobs = omega (arith, ap length times_is, times_few);
       few_machines = omega (arith, ap length speeds_is, speeds_few);
-      times = subst (All (λ p. (1 ≤ p) × (p ≤ 1000000000))) (sym times_is) times_fit;
+      times = subst (All (λ p. (1 ≤ p) × (p ≤ GREATEST))) (sym times_is) times_fit;
       speeds = subst (All (λ s. (1 ≤ s) × (s ≤ 1000000))) (sym speeds_is) speeds_fit;
       common = subst (All (λ s. s ∣ t.multiple)) (sym speeds_is) (subst (λ m. All (λ s. s ∣ m) sp) (sym multiple_is) least.common);
     }
 
-    small : v * gap sp ^ (length sp - 1) * multiple ≤ 10000000000000
+    small : v * gap sp ^ (length sp - 1) * multiple ≤ GREATEST_PRODUCT
     small = by fits.0 fits.1 fits.2 fits.3
       where
-        by : (n : ℕ) → 1 ≤ n → All (λ s. (times : ℕ) × (n ≡ times * s)) i.speeds → sum i.speeds * gap i.speeds ^ (i.machines - 1) * n ≤ 10000000000000 → v * gap sp ^ (length sp - 1) * multiple ≤ 10000000000000
-        by n some c l = le_trans (mul-le-mul (mul-le-mul_right (gap sp ^ (length sp - 1)) (speed_most sp jobs machines (at ts) w v machines_by greatest)) (multiple_least sp multiple least n some (subst (All (λ s. (times : ℕ) × (n ≡ times * s))) (sym b) c)))
-            (subst (λ x. sum sp * gap sp ^ (x - 1) * n ≤ 10000000000000) (sym many_speeds) (subst (λ x. sum x * gap x ^ (i.machines - 1) * n ≤ 10000000000000) (sym b) l))
+        by : (n : ℕ) → 1 ≤ n → All (λ s. (times : ℕ) × (n ≡ times * s)) i.speeds
+            → sum i.speeds * gap i.speeds ^ (i.machines - 1) * n ≤ GREATEST_PRODUCT → v * gap sp ^ (length sp - 1) * multiple ≤ GREATEST_PRODUCT
+        by n some c l = le_trans (mul-le-mul (mul-le-mul_right (gap sp ^ (length sp - 1)) (speed_most sp jobs machines (at ts) w v machines_by greatest))
+            (multiple_least sp multiple least n some (subst (All (λ s. (times : ℕ) × (n ≡ times * s))) (sym b) c)))
+            (subst (λ x. sum sp * gap sp ^ (x - 1) * n ≤ GREATEST_PRODUCT) (sym many_speeds) (subst (λ x. sum x * gap x ^ (i.machines - 1) * n ≤ GREATEST_PRODUCT) (sym b) l))
 
     pub IsAsked-of : IsAsked t jobs machines
     IsAsked-of = record {
       jobs_by = subst (λ x. IsByFalling (length x) (at x) jobs) (sym times_is) jobs_by;
       machines_by = subst (λ x. IsByFalling (length x) (at x) machines) (sym speeds_is) machines_by;
-      greatest = subst (λ x. IsGreatest (at x) (at t.speeds.items) jobs machines t.work t.speed) (sym times_is) (subst (λ x. IsGreatest (at ts) (at x) jobs machines t.work t.speed) (sym speeds_is) (subst (λ x. IsGreatest (at ts) (at sp) jobs machines x t.speed) (sym work_is) (subst (λ x. IsGreatest (at ts) (at sp) jobs machines w x) (sym speed_is) greatest)));
+      greatest = subst (λ x. IsGreatest (at x) (at t.speeds.items) jobs machines t.work t.speed) (sym times_is) (subst (λ x. IsGreatest (at ts) (at x) jobs machines t.work t.speed)
+          (sym speeds_is) (subst (λ x. IsGreatest (at ts) (at sp) jobs machines x t.speed) (sym work_is) (subst (λ x. IsGreatest (at ts) (at sp) jobs machines w x) (sym speed_is) greatest)));
       some_jobs = omega (arith, ap length times_is, many_times, h.some);
       some_machines = omega (arith, ap length speeds_is, speeds_some);
-      small_unit = subst (λ x. t.speed * gap x ^ (length x - 1) * t.multiple ≤ 10000000000000) (sym speeds_is) (subst (λ x. x * gap sp ^ (length sp - 1) * t.multiple ≤ 10000000000000) (sym speed_is) (subst (λ x. v * gap sp ^ (length sp - 1) * x ≤ 10000000000000) (sym multiple_is) small));
+      small_unit = subst (λ x. t.speed * gap x ^ (length x - 1) * t.multiple ≤ GREATEST_PRODUCT) (sym speeds_is)
+          (subst (λ x. x * gap sp ^ (length sp - 1) * t.multiple ≤ GREATEST_PRODUCT) (sym speed_is) (subst (λ x. v * gap sp ^ (length sp - 1) * x ≤ GREATEST_PRODUCT) (sym multiple_is) small));
       some = subst (λ x. 1 ≤ x) (sym multiple_is) least.some;
     }
 
@@ -88,6 +97,7 @@ module _ (i : Instance) (class : i.class ≡ cut_class) (inner : Inner i) (ts sp
     }
 
 -- where all is laid
-pub laid_out : {V E : Type 0} (i : Instance) (t : Task) (jobs machines : List ℕ) → IsTaskOf i t jobs machines → (unit : V → ℕ) (segments : V → List Segment) (r : Result V E) → IfOk r (λ f. IsFilled t (unit f) (segments f)) → IfOk r (λ f. IsLaidOut i (unit f) (segments f))
+pub laid_out : {V E : Type 0} (i : Instance) (t : Task) (jobs machines : List ℕ) → IsTaskOf i t jobs machines
+    → (unit : V → ℕ) (segments : V → List Segment) (r : Result V E) → IfOk r (λ f. IsFilled t (unit f) (segments f)) → IfOk r (λ f. IsLaidOut i (unit f) (segments f))
 laid_out i t jobs machines k unit segments (Ok f) l = (t, jobs, machines, k, l)
 laid_out i t jobs machines k unit segments (Err e) l = tt

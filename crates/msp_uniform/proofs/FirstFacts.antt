@@ -3,8 +3,10 @@ use Rattle.std.proofs.Common.{◌≡◌, ◌≢◌, ℕ, zero, suc, ◌*◌, ◌
 use Rattle.std.proofs.Math.Nat.{le_trans, mul-le-mul_left, mul-le-mul_right}
 use Rattle.std.proofs.lemmas.List.{get_or-replicate, length-replicate, take_all}
 use Rattle.std.proofs.lemmas.List.Elements.{All-nil, All-cons, All-head, All-tail}
+use Rattle.msp_class.specs.declared.sizes.TheConstants.{MOST_JOBS, MOST_MACHINES, GREATEST}
 use Rattle.msp_class.specs.Sums.{total_below}
 use Rattle.msp_class.proofs.Sums.{sum_by-cons, sum_by-OnceBelow, OnceBelow-from_permutation, OnceBelow-contains, total_below-same, total_below-scale, total_below-none}
+use Rattle.msp_uniform.specs.declared.unit.TheConstants.{GREATEST_PRODUCT}
 use Rattle.msp_uniform.specs.declared.segments.Segment.{Segment}
 use Rattle.msp_uniform.specs.declared.task.Task.{Task}
 use Rattle.msp_schedule.proofs.lists.Places.{sum_by-places}
@@ -62,7 +64,7 @@ module _ (t : Task) (k : IsTask t) (jobs machines : List ℕ) (a : IsAsked t job
   many_machines : length machines ≡ m
   many_machines = order_length m speed machines a.machines_by
 
-  pub machines_few : length machines ≤ 32
+  pub machines_few : length machines ≤ MOST_MACHINES
   machines_few = omega (arith, many_machines, k.few_machines)
 
   pub machines_small : All (λ x. x < 256) machines
@@ -71,21 +73,23 @@ module _ (t : Task) (k : IsTask t) (jobs machines : List ℕ) (a : IsAsked t job
   job_in : All (λ x. x < n) jobs
   job_in = order_within n time jobs a.jobs_by
 
-  time_in : All (λ j. time j ≤ 1000000000) jobs
+  time_in : All (λ j. time j ≤ GREATEST) jobs
   time_in i d l = (k.times _ 0 (job_in i d l)).1
 
-  work_small : t.work ≤ 400000000000
+  work_small : t.work ≤ (MOST_JOBS * GREATEST)
   work_small = by a.greatest.reached
     where
-      all_small : sum_by time jobs ≤ 400000000000
-      all_small = omega (arith, sum-small time 1000000000 jobs time_in, many_jobs, k.few_jobs)
+      all_small : sum_by time jobs ≤ (MOST_JOBS * GREATEST)
+      all_small = omega (arith, sum-small time GREATEST jobs time_in, many_jobs, k.few_jobs)
 
-      by : ((t.work ≡ sum_by time jobs) × (t.speed ≡ sum_by speed machines)) ⊎ ((i : ℕ) × (1 ≤ i) × (i < length machines) × (i ≤ length jobs) × (t.work ≡ sum_by time (take i jobs)) × (t.speed ≡ sum_by speed (take i machines))) → t.work ≤ 400000000000
+      by : ((t.work ≡ sum_by time jobs) × (t.speed ≡ sum_by speed machines))
+          ⊎ ((i : ℕ) × (1 ≤ i) × (i < length machines) × (i ≤ length jobs) × (t.work ≡ sum_by time (take i jobs)) × (t.speed ≡ sum_by speed (take i machines))) → t.work ≤ (MOST_JOBS * GREATEST)
       by (inl (e, f)) = omega (arith, e, all_small)
       by (inr (i, p, q, r, e, f)) = omega (arith, e, take-all time i jobs, all_small)
 
   work_some : 1 ≤ t.work
-  work_some = by t.work (sum_by time jobs) t.speed (sum_by speed machines) (some jobs (omega (arith, many_jobs, a.some_jobs)) (λ i d l. (k.times _ 0 (job_in i d l)).0)) a.greatest.some a.greatest.total
+  work_some = by t.work (sum_by time jobs) t.speed
+      (sum_by speed machines) (some jobs (omega (arith, many_jobs, a.some_jobs)) (λ i d l. (k.times _ 0 (job_in i d l)).0)) a.greatest.some a.greatest.total
     where
       some : (js : List ℕ) → 1 ≤ length js → All (λ j. 1 ≤ time j) js → 1 ≤ sum_by time js
       some [] l h = absurd (omega (arith, l))
@@ -140,7 +144,8 @@ module _ (t : Task) (k : IsTask t) (jobs machines : List ℕ) (a : IsAsked t job
     holds r = omega (arith, sum_by-cons (λ y. y.length * rate_at speed r y) x [], ap (λ l. l * rate_at speed r x) long, ap (λ p. t.work * speed p) (place_is r))
 
     all_hold : (i : ℕ) → i ≤ length machines → total_below i (λ r. amount (rate_at speed r) (x ∷ [])) ≡ t.work * sum_by speed (take i machines)
-    all_hold i l = total_below-same i _ (λ r. t.work * speed (at machines r)) (λ r b. holds r) ∙ total_below-scale i t.work (λ r. speed (at machines r)) ∙ ap (λ s. t.work * s) (first_places speed i machines l)
+    all_hold i l = total_below-same i _ (λ r. t.work * speed (at machines r)) (λ r b. holds r)
+        ∙ total_below-scale i t.work (λ r. speed (at machines r)) ∙ ap (λ s. t.work * s) (first_places speed i machines l)
 
     all_need : (i : ℕ) → total_below i (works time t.speed jobs) ≡ t.speed * sum_by time (take i jobs)
     all_need i = total_below-scale i t.speed (λ r. at (map time jobs) r) ∙ ap (λ s. t.speed * s) (first_values time i jobs)
@@ -154,7 +159,9 @@ module _ (t : Task) (k : IsTask t) (jobs machines : List ℕ) (a : IsAsked t job
     first_fit : DoFit (length machines) (λ r. amount (rate_at speed r) (x ∷ [])) (length jobs) (works time t.speed jobs)
     first_fit = record {
       firsts = turned;
-      all = by _ _ _ _ (all_need (length jobs)) (all_hold (length machines) (omega arith)) (subst (λ js. sum_by time js * t.speed ≤ t.work * sum_by speed (take (length machines) machines)) (sym (take_all (length jobs) jobs (omega arith))) (subst (λ ms. sum_by time jobs * t.speed ≤ t.work * sum_by speed ms) (sym (take_all (length machines) machines (omega arith))) a.greatest.total));
+      all = by _ _ _ _ (all_need (length jobs)) (all_hold (length machines) (omega arith))
+          (subst (λ js. sum_by time js * t.speed ≤ t.work * sum_by speed (take (length machines) machines)) (sym (take_all (length jobs) jobs (omega arith)))
+          (subst (λ ms. sum_by time jobs * t.speed ≤ t.work * sum_by speed ms) (sym (take_all (length machines) machines (omega arith))) a.greatest.total));
     }
       where
         by : (p q s r : ℕ) → p ≡ t.speed * s → q ≡ t.work * r → s * t.speed ≤ t.work * r → p ≤ q
@@ -174,7 +181,7 @@ module _ (t : Task) (k : IsTask t) (jobs machines : List ℕ) (a : IsAsked t job
         inside = job_in;
       };
       affordable = record {
-        unit_small = subst (λ q. t.speed * gap t.speeds.items ^ (q - 1) * t.multiple ≤ 10000000000000) (sym many_machines) a.small_unit;
+        unit_small = subst (λ q. t.speed * gap t.speeds.items ^ (q - 1) * t.multiple ≤ GREATEST_PRODUCT) (sym many_machines) a.small_unit;
         end_small = le_trans work_small (by t.speed a.greatest.some);
         some = a.some;
       };
@@ -185,12 +192,13 @@ module _ (t : Task) (k : IsTask t) (jobs machines : List ℕ) (a : IsAsked t job
       fewer = omega (arith, many_jobs);
     }
       where
-        by : (v : ℕ) → 1 ≤ v → 400000000000 ≤ v * 400000000000
+        by : (v : ℕ) → 1 ≤ v → (MOST_JOBS * GREATEST) ≤ v * (MOST_JOBS * GREATEST)
         by zero l = absurd (omega (arith, l))
         by (suc v) l = omega arith
 
   pub IsReached-first : (unit h : ℕ) (xs : List Segment) → IsFirstPlan t machines unit h xs → IsReached t jobs unit h xs
-  IsReached-first unit h xs p = subst (λ ys. IsReached t jobs unit h ys) (sym p.only) (subst (λ u. IsReached t jobs u h (p.x ∷ [])) (sym p.unit_is) (subst (λ q. IsReached t jobs t.speed q (p.x ∷ [])) (sym p.places) (reached p.x p.long p.jobs p.free)))
+  IsReached-first unit h xs p = subst (λ ys. IsReached t jobs unit h ys) (sym p.only)
+      (subst (λ u. IsReached t jobs u h (p.x ∷ [])) (sym p.unit_is) (subst (λ q. IsReached t jobs t.speed q (p.x ∷ [])) (sym p.places) (reached p.x p.long p.jobs p.free)))
 
 pub only_one : (xs ys : List Segment) (x : Segment) → xs ≡ ys ++ x ∷ [] → ys ≡ [] → xs ≡ x ∷ []
 only_one xs ys x e f = e ∙ ap (λ l. l ++ x ∷ []) f
@@ -202,6 +210,7 @@ speed_most sp jobs machines time w v o g = by g.reached
     all : sum_by (at sp) machines ≡ sum sp
     all = sum_by-OnceBelow (at sp) (OnceBelow-from_permutation o.all) ∙ sym (sum_by-places (λ x. x) sp 0)
 
-    by : ((w ≡ sum_by time jobs) × (v ≡ sum_by (at sp) machines)) ⊎ ((k : ℕ) × (1 ≤ k) × (k < length machines) × (k ≤ length jobs) × (w ≡ sum_by time (take k jobs)) × (v ≡ sum_by (at sp) (take k machines))) → v ≤ sum sp
+    by : ((w ≡ sum_by time jobs) × (v ≡ sum_by (at sp) machines))
+        ⊎ ((k : ℕ) × (1 ≤ k) × (k < length machines) × (k ≤ length jobs) × (w ≡ sum_by time (take k jobs)) × (v ≡ sum_by (at sp) (take k machines))) → v ≤ sum sp
     by (inl (a, b)) = omega (arith, b, all)
     by (inr (k, p, q, r, a, b)) = omega (arith, b, take-all (at sp) k machines, all)

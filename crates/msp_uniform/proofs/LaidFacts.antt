@@ -7,13 +7,15 @@ use Rattle.msp_uniform.specs.declared.segments.Segment.{Segment}
 use Rattle.msp_uniform.specs.Segments.{amount, IsLaid, gained}
 
 module _ {First Second : Segment → Segment → Type 0} where
-  pub IsLaid-append : {zs ws : List ℕ} {xs ys us vs cs ds : List Segment} → IsLaid First Second zs xs us vs → IsLaid First Second ws ys cs ds → IsLaid First Second (zs ++ ws) (xs ++ ys) (us ++ cs) (vs ++ ds)
+  pub IsLaid-append : {zs ws : List ℕ} {xs ys us vs cs ds : List Segment}
+      → IsLaid First Second zs xs us vs → IsLaid First Second ws ys cs ds → IsLaid First Second (zs ++ ws) (xs ++ ys) (us ++ cs) (vs ++ ds)
   IsLaid-append IsLaid.none k = k
   IsLaid-append (IsLaid.first f e h) k = IsLaid.first f e (IsLaid-append h k)
   IsLaid-append (IsLaid.second f e h) k = IsLaid.second f e (IsLaid-append h k)
   IsLaid-append (IsLaid.both f g p q e h) k = IsLaid.both f g p q e (IsLaid-append h k)
 
-  pub gained-append : (rate : Segment → ℕ) {zs : List ℕ} {xs us vs : List Segment} → IsLaid First Second zs xs us vs → (ws : List ℕ) (ys : List Segment) → gained rate (zs ++ ws) (xs ++ ys) ≡ gained rate zs xs + gained rate ws ys
+  pub gained-append : (rate : Segment → ℕ) {zs : List ℕ} {xs us vs : List Segment}
+      → IsLaid First Second zs xs us vs → (ws : List ℕ) (ys : List Segment) → gained rate (zs ++ ws) (xs ++ ys) ≡ gained rate zs xs + gained rate ws ys
   gained-append rate IsLaid.none ws ys = omega arith
   gained-append rate (IsLaid.first f e h) ws ys = omega (arith, gained-append rate h ws ys)
   gained-append rate (IsLaid.second f e h) ws ys = omega (arith, gained-append rate h ws ys)
@@ -23,29 +25,52 @@ module _ {First Second : Segment → Segment → Type 0} where
   module _ (P Q : Segment → Type 0) (lasts : (x : Segment) → P x → 1 ≤ x.length) where
     pub All-firsts : ((x y : Segment) → P x → First x y → 1 ≤ y.length → Q y) → {zs : List ℕ} {xs us vs : List Segment} → IsLaid First Second zs xs us vs → All P xs → All Q us
     All-firsts one IsLaid.none p = All-nil Q
-    All-firsts one (IsLaid.first {zs} {x} {a} {xs} {firsts} {seconds} f e h) p = All-cons Q a firsts (one x a (All-head P x xs p) f (omega (arith, e, lasts x (All-head P x xs p)))) (All-firsts one h (All-tail P x xs p))
+    All-firsts one (IsLaid.first {zs} {x} {a} {xs} {firsts} {seconds} f e h) p =
+        All-cons Q a firsts (one x a (All-head P x xs p) f (omega (arith, e, lasts x (All-head P x xs p)))) (All-firsts one h (All-tail P x xs p))
     All-firsts one (IsLaid.second {zs} {x} {b} {xs} {firsts} {seconds} f e h) p = All-firsts one h (All-tail P x xs p)
     All-firsts one (IsLaid.both {zs} {x} {a} {b} {xs} {firsts} {seconds} f g m n e h) p = All-cons Q a firsts (one x a (All-head P x xs p) f m) (All-firsts one h (All-tail P x xs p))
 
     pub All-seconds : ((x y : Segment) → P x → Second x y → 1 ≤ y.length → Q y) → {zs : List ℕ} {xs us vs : List Segment} → IsLaid First Second zs xs us vs → All P xs → All Q vs
     All-seconds two IsLaid.none p = All-nil Q
     All-seconds two (IsLaid.first {zs} {x} {a} {xs} {firsts} {seconds} f e h) p = All-seconds two h (All-tail P x xs p)
-    All-seconds two (IsLaid.second {zs} {x} {b} {xs} {firsts} {seconds} f e h) p = All-cons Q b seconds (two x b (All-head P x xs p) f (omega (arith, e, lasts x (All-head P x xs p)))) (All-seconds two h (All-tail P x xs p))
+    All-seconds two (IsLaid.second {zs} {x} {b} {xs} {firsts} {seconds} f e h) p =
+        All-cons Q b seconds (two x b (All-head P x xs p) f (omega (arith, e, lasts x (All-head P x xs p)))) (All-seconds two h (All-tail P x xs p))
     All-seconds two (IsLaid.both {zs} {x} {a} {b} {xs} {firsts} {seconds} f g m n e h) p = All-cons Q b seconds (two x b (All-head P x xs p) g n) (All-seconds two h (All-tail P x xs p))
 
   -- amounts of the parts
   module _ (P : Segment → Type 0) (rate : Segment → ℕ) where
-    pub amount-firsts : (one : Segment → ℕ) → ((x y : Segment) → P x → First x y → rate y ≡ one x) → {zs : List ℕ} {xs us vs : List Segment} → IsLaid First Second zs xs us vs → All P xs → amount rate us ≡ gained one zs xs
+    pub amount-firsts : (one : Segment → ℕ) → ((x y : Segment) → P x → First x y → rate y ≡ one x)
+        → {zs : List ℕ} {xs us vs : List Segment} → IsLaid First Second zs xs us vs → All P xs → amount rate us ≡ gained one zs xs
     amount-firsts one of_first IsLaid.none p = refl
-    amount-firsts one of_first (IsLaid.first {zs} {x} {a} {xs} {firsts} {seconds} f e h) p = omega (arith, sum_by-cons (λ y. y.length * rate y) a firsts, ap (λ v. a.length * v) (of_first x a (All-head P x xs p) f), amount-firsts one of_first h (All-tail P x xs p))
+    amount-firsts one of_first (IsLaid.first {zs} {x} {a} {xs} {firsts} {seconds} f e h) p =
+        omega (arith, sum_by-cons (λ y. y.length * rate y) a firsts, ap (λ v. a.length * v) (of_first x a (All-head P x xs p) f), amount-firsts one of_first h (All-tail P x xs p))
     amount-firsts one of_first (IsLaid.second {zs} {x} {b} {xs} {firsts} {seconds} f e h) p = omega (arith, amount-firsts one of_first h (All-tail P x xs p))
-    amount-firsts one of_first (IsLaid.both {zs} {x} {a} {b} {xs} {firsts} {seconds} f g m n e h) p = omega (arith, sum_by-cons (λ y. y.length * rate y) a firsts, ap (λ v. a.length * v) (of_first x a (All-head P x xs p) f), amount-firsts one of_first h (All-tail P x xs p))
+    amount-firsts one of_first (IsLaid.both {zs} {x} {a} {b} {xs} {firsts} {seconds} f g m n e h) p =
+        omega (arith, sum_by-cons (λ y. y.length * rate y) a firsts, ap (λ v. a.length * v) (of_first x a (All-head P x xs p) f), amount-firsts one of_first h (All-tail P x xs p))
 
-    pub amount-seconds : (two : Segment → ℕ) → ((x y : Segment) → P x → Second x y → rate y ≡ two x) → {zs : List ℕ} {xs us vs : List Segment} → IsLaid First Second zs xs us vs → All P xs → amount rate vs + gained two zs xs ≡ amount two xs
+    pub amount-seconds : (two : Segment → ℕ) → ((x y : Segment) → P x → Second x y → rate y ≡ two x)
+        → {zs : List ℕ} {xs us vs : List Segment} → IsLaid First Second zs xs us vs → All P xs → amount rate vs + gained two zs xs ≡ amount two xs
     amount-seconds two of_second IsLaid.none p = refl
-    amount-seconds two of_second (IsLaid.first {zs} {x} {a} {xs} {firsts} {seconds} f e h) p = omega (arith, sum_by-cons (λ y. y.length * two y) x xs, ap (λ v. v * two x) e, amount-seconds two of_second h (All-tail P x xs p))
-    amount-seconds two of_second (IsLaid.second {zs} {x} {b} {xs} {firsts} {seconds} f e h) p = omega (arith, sum_by-cons (λ y. y.length * two y) x xs, sum_by-cons (λ y. y.length * rate y) b seconds, ap (λ v. b.length * v) (of_second x b (All-head P x xs p) f), ap (λ v. v * two x) e, amount-seconds two of_second h (All-tail P x xs p))
-    amount-seconds two of_second (IsLaid.both {zs} {x} {a} {b} {xs} {firsts} {seconds} f g m n e h) p = omega (arith, sum_by-cons (λ y. y.length * two y) x xs, sum_by-cons (λ y. y.length * rate y) b seconds, ap (λ v. b.length * v) (of_second x b (All-head P x xs p) g), ap (λ v. v * two x) e, amount-seconds two of_second h (All-tail P x xs p))
+    amount-seconds two of_second (IsLaid.first {zs} {x} {a} {xs} {firsts} {seconds} f e h) p =
+        omega (arith, sum_by-cons (λ y. y.length * two y) x xs, ap (λ v. v * two x) e, amount-seconds two of_second h (All-tail P x xs p))
+    amount-seconds two of_second (IsLaid.second {zs} {x} {b} {xs} {firsts} {seconds} f e h) p = omega (
+      arith,
+      sum_by-cons (λ y. y.length * two y) x xs,
+      sum_by-cons
+          (λ y. y.length * rate y) b seconds,
+      ap (λ v. b.length * v) (of_second x b (All-head P x xs p) f),
+      ap (λ v. v * two x) e,
+      amount-seconds two of_second h (All-tail P x xs p),
+    )
+    amount-seconds two of_second (IsLaid.both {zs} {x} {a} {b} {xs} {firsts} {seconds} f g m n e h) p = omega (
+      arith,
+      sum_by-cons (λ y. y.length * two y) x xs,
+      sum_by-cons
+          (λ y. y.length * rate y) b seconds,
+      ap (λ v. b.length * v) (of_second x b (All-head P x xs p) g),
+      ap (λ v. v * two x) e,
+      amount-seconds two of_second h (All-tail P x xs p),
+    )
 
 -- rates that add up
 pub gained-add : (f g k : Segment → ℕ) (zs : List ℕ) (xs : List Segment) → All (λ x. f x ≡ g x + k x) xs → gained f zs xs ≡ gained g zs xs + gained k zs xs

@@ -1,15 +1,17 @@
 -- The pieces of segments, the latest first, are those of one machine after another in another order.
-use Rattle.std.proofs.Common.{◌≡◌, ◌≢◌, ℕ, zero, suc, ◌+◌, ◌-◌, ◌<◌, ◌≤◌, Bool, true, false, cond, eqb, List, [], ◌∷◌, ◌++◌, length, get_or, take, drop, replicate, set, sum_by, All, IsPermutation, inl, inr, refl, sym, ap, subst, subst₂, ◌∙◌, append_assoc, arith}
+use Rattle.std.proofs.Common.{◌≡◌, ◌≢◌, ℕ, zero, suc, ◌+◌, ◌-◌, ◌<◌, ◌≤◌, Bool, true, false, cond, eqb, List, [], ◌∷◌, ◌++◌, length, get_or, take, drop, replicate, set, sum_by}
+use Rattle.std.proofs.Common.{All, IsPermutation, inl, inr, refl, sym, ap, subst, subst₂, ◌∙◌, append_assoc, arith}
 use Rattle.std.proofs.lemmas.Bool.{eqb-true, eqb-false, eq-eqb, ne_eqb, cases_eq}
 use Rattle.std.proofs.lemmas.List.{append-nil, get_or-replicate, drop_more, length-set, get_or-set_same, get_or-set_other, get_or_default}
 use Rattle.std.proofs.lemmas.List.Elements.{All-head, All-tail}
-use Rattle.std.proofs.lemmas.List.Sorted.{IsPermutation-refl, IsPermutation-sym, IsPermutation-trans, IsPermutation-append, IsPermutation-append_left, IsPermutation-append_right, IsPermutation-append_comm}
+use Rattle.std.proofs.lemmas.List.Sorted.{IsPermutation-refl, IsPermutation-sym, IsPermutation-trans, IsPermutation-append, IsPermutation-append_left, IsPermutation-append_right}
+use Rattle.std.proofs.lemmas.List.Sorted.{IsPermutation-append_comm}
 use Rattle.msp_class.proofs.Sums.{sum_by-cons, sum_by-take_more}
 use Rattle.msp_schedule.specs.declared.Piece.{Piece}
 use Rattle.msp_uniform.specs.declared.segments.Segment.{Segment}
 use Rattle.msp_uniform.specs.Runs.{piece_on, part_on, runs_from, runs, begun, jobs_before, IsNextEnds}
 use Rattle.msp_uniform.specs.Segments.{at, job_on}
-use Rattle.msp_uniform.proofs.RowFacts.{long}
+use Rattle.msp_uniform.proofs.SegmentPieces.{long}
 
 abbrev pub jobs_of : Segment → List ℕ
 jobs_of x = x.body.value.jobs
@@ -54,7 +56,8 @@ module _ (n : ℕ) where
         by : (v : Bool) → eqb (job_on x i) j ≡ v
             → IsPermutation (runs_from n i j a (t + long x) xs) (part_on n i j a (until i j (t + long x) xs) ++ own n i j (t + long x) xs)
             → IsPermutation (runs_from n i (job_on x i) t (t + long x) xs) (first ++ own n i (job_on x i) (t + long x) xs)
-            → IsPermutation (cond v (runs_from n i j a (t + long x) xs) (part_on n i j a t ++ runs_from n i (job_on x i) t (t + long x) xs)) (part_on n i j a (cond v (until i j (t + long x) xs) t) ++ (own n i (job_on x i) (t + long x) xs ++ cond v [] first))
+            → IsPermutation (cond v (runs_from n i j a (t + long x) xs) (part_on n i j a t ++ runs_from n i (job_on x i) t (t + long x) xs))
+            (part_on n i j a (cond v (until i j (t + long x) xs) t) ++ (own n i (job_on x i) (t + long x) xs ++ cond v [] first))
         by true e same other =
             subst (λ l. IsPermutation (runs_from n i j a (t + long x) xs) (part_on n i j a (until i j (t + long x) xs) ++ l))
             (sym (append-nil (own n i (job_on x i) (t + long x) xs) ∙ ap (λ k. own n i k (t + long x) xs) (eqb-true (job_on x i) j e))) same
@@ -88,7 +91,8 @@ module _ (n : ℕ) where
     joined zero = IsPermutation-refl []
     joined (suc m) =
         IsPermutation-trans _ _ _
-        (four (owns n (jobs_of x) (t + long x) xs m) (own n m (job_on x m) (t + long x) xs) (cond (eqb (job_on x m) (at before m)) [] (part_on n m (job_on x m) t (ends m))) (begun n before (jobs_of x) t ends m))
+        (four (owns n (jobs_of x) (t + long x) xs m) (own n m (job_on x m) (t + long x) xs)
+        (cond (eqb (job_on x m) (at before m)) [] (part_on n m (job_on x m) t (ends m))) (begun n before (jobs_of x) t ends m))
         (IsPermutation-append_left _ _ _ (joined m))
 
   latest_first_is : (m : ℕ) (before : List ℕ) (t : ℕ) (xs : List Segment) → IsPermutation (latest_first n m before t xs) (owns n before t xs m)
@@ -174,7 +178,8 @@ module _ (n m : ℕ) (idle : List ℕ) (xs : List Segment) (k : ℕ) (d : Segmen
         together : pieces ++ begun n before (jobs_of here) begin (at ends) m ≡ latest_first n m before begin (here ∷ behind)
         together =
             ap (λ ps. ps ++ begun n before (jobs_of here) begin (at ends) m) (w.laid ∙ ap (λ js. latest_first n m js t behind) jobs_are ∙ ap (λ u. latest_first n m (jobs_of here) u behind) moment_is)
-            ∙ ap (λ ps. latest_first n m (jobs_of here) (begin + long here) behind ++ ps) (begun_same n before (jobs_of here) begin (at ends) (λ i. until i (job_on here i) (begin + long here) behind) m ends_are)
+            ∙ ap (λ ps. latest_first n m (jobs_of here) (begin + long here) behind ++ ps)
+            (begun_same n before (jobs_of here) begin (at ends) (λ i. until i (job_on here i) (begin + long here) behind) m ends_are)
 
 -- ---- the walk over the machines, the last one first
 -- how far it has come: so many machines are behind
@@ -217,7 +222,8 @@ module _ (n : ℕ) (before jobs : List ℕ) (t : ℕ) (old : List ℕ) (first : 
       IsBack-kept e =
           let kept : eqb (at jobs m) (at before m) ≡ true = eq-eqb (at jobs m) (at before m) e in
           record {
-            laid = ap (λ k. pieces ++ begun n before jobs t (at old) k) next ∙ subst (λ v. pieces ++ (cond v [] (part_on n m (at jobs m) t (at old m)) ++ begun n before jobs t (at old) m) ≡ first ++ begun n before jobs t (at old) (length jobs)) kept whole;
+            laid = ap (λ k. pieces ++ begun n before jobs t (at old) k) next
+                ∙ subst (λ v. pieces ++ (cond v [] (part_on n m (at jobs m) t (at old m)) ++ begun n before jobs t (at old) m) ≡ first ++ begun n before jobs t (at old) (length jobs)) kept whole;
             many = s.many;
             done = λ i l k. elim (cases_eq i m) as (λ _. at ends i ≡ cond (eqb (at jobs i) (at before i)) (at old i) t) [
               | inl same ↦ subst (λ q. at ends q ≡ cond (eqb (at jobs q) (at before q)) (at old q) t) (sym same) (s.same m (omega (arith, is)) ∙ ap (λ v. cond v (at old m) t) (sym kept))
@@ -237,7 +243,8 @@ module _ (n : ℕ) (before jobs : List ℕ) (t : ℕ) (old : List ℕ) (first : 
                 ∙ subst (λ v. pieces ++ (cond v [] (part_on n m (at jobs m) t (at old m)) ++ begun n before jobs t (at old) m) ≡ first ++ begun n before jobs t (at old) (length jobs)) changed whole;
             many = length-set ends m t ∙ s.many;
             done = λ i l k. elim (cases_eq i m) as (λ _. at (set ends m t) i ≡ cond (eqb (at jobs i) (at before i)) (at old i) t) [
-              | inl same ↦ subst (λ q. at (set ends m t) q ≡ cond (eqb (at jobs q) (at before q)) (at old q) t) (sym same) (get_or-set_same ends m t 0 (omega (arith, is, many)) ∙ ap (λ v. cond v (at old m) t) (sym changed))
+              | inl same ↦ subst (λ q. at (set ends m t) q ≡ cond (eqb (at jobs q) (at before q)) (at old q) t)
+                  (sym same) (get_or-set_same ends m t 0 (omega (arith, is, many)) ∙ ap (λ v. cond v (at old m) t) (sym changed))
               | inr apart ↦ get_or-set_other ends m i t 0 apart ∙ s.done i (omega (arith, l, is, apart)) k
             ];
             same = λ i l. get_or-set_other ends m i t 0 (λ e. absurd (omega (arith, e, l, is))) ∙ s.same i (omega (arith, l));
@@ -271,7 +278,8 @@ module _ (n m : ℕ) (xs : List Segment) where
       let u_begins : u ≡ sum_by long (take p xs) = u_is ∙ omega (arith, moment_is n m idle xs p d below t ends pieces here) in
       let S : List ℕ → List ℕ → ℕ → Type 0 = λ b j v. IsNextEnds b j v ends new × (length j ≡ m) × (more ≡ pieces ++ begun n b j v (at ends) m) in
       let s : S before jobs u = (next, all, is ∙ ap (λ k. pieces ++ begun n before jobs u (at ends) k) all) in
-      let r : S (jobs_before idle xs p) (jobs_of (get_or xs p d)) (sum_by long (take p xs)) = subst (λ v. S (jobs_before idle xs p) (jobs_of (get_or xs p d)) v) u_begins (subst₂ (λ b j. S b j u) before_is jobs_are s) in
+      let r : S (jobs_before idle xs p) (jobs_of (get_or xs p d)) (sum_by long (take p xs)) =
+      subst (λ v. S (jobs_before idle xs p) (jobs_of (get_or xs p d)) v) u_begins (subst₂ (λ b j. S b j u) before_is jobs_are s) in
       subst₂ (λ k v. IsWalked n m idle xs k v new more) then (sym u_begins) (IsWalked-next n m idle xs p d below t ends pieces here new more r.0 r.1 r.2)
 
   pub walked_all : (b t : ℕ) (ends : List ℕ) (pieces : List Piece) → length xs ≤ b → IsWalked n m (replicate m n) xs (length xs - b) t ends pieces → IsPermutation (runs n xs m) pieces

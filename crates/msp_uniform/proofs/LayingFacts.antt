@@ -1,5 +1,6 @@
 -- A job is laid over one segment after another.
-use Rattle.std.proofs.Common.{◌≡◌, ℕ, zero, suc, ◌+◌, ◌*◌, ◌-◌, ◌/◌, ◌<◌, ◌≤◌, ◌⊎◌, min, inl, inr, Bool, false, true, List, [], ◌∷◌, ◌++◌, ◌∙◌, length, All, refl, sym, ap, append-nil, append_assoc, subst, subst₂, arith}
+use Rattle.std.proofs.Common.{◌≡◌, ℕ, zero, suc, ◌+◌, ◌*◌, ◌-◌, ◌/◌, ◌<◌, ◌≤◌, ◌⊎◌, min, inl, inr, Bool, false, true, List, [], ◌∷◌, ◌++◌, ◌∙◌, length, All, refl, sym, ap}
+use Rattle.std.proofs.Common.{append-nil, append_assoc, subst, subst₂, arith}
 use Rattle.std.specs.Int.{◌∣◌}
 use Rattle.std.proofs.Math.Nat.{div-mul_cancel}
 use Rattle.std.proofs.lemmas.List.{length-append, nil_from_length}
@@ -13,7 +14,8 @@ use Rattle.msp_uniform.proofs.LaidFacts.{IsLaid-append, gained-append}
 use Rattle.msp_uniform.proofs.OrderFacts.{All-last, All-append_right, IsLaid-lengths, AreOrdered-next}
 
 module _ (swap : Bool) (speed : ℕ → ℕ) (job r left : ℕ) (x : Segment) (fs ss : List Segment) (g : ℕ) (is : g ≡ gain_at swap speed r x) where
-  pub IsOneLaid-whole : (a : Segment) (fs' : List Segment) → x.length * g ≤ left → IsTaken job r x.length x a → fs' ≡ fs ++ a ∷ [] → IsOneLaid swap speed job r left (left - x.length * g) x fs ss fs' ss
+  pub IsOneLaid-whole : (a : Segment) (fs' : List Segment)
+      → x.length * g ≤ left → IsTaken job r x.length x a → fs' ≡ fs ++ a ∷ [] → IsOneLaid swap speed job r left (left - x.length * g) x fs ss fs' ss
   IsOneLaid-whole a fs' l t e = record {
     firsts_new = a ∷ [];
     seconds_new = [];
@@ -41,7 +43,8 @@ module _ (swap : Bool) (speed : ℕ → ℕ) (job r left : ℕ) (x : Segment) (f
         by : (q g n : ℕ) → q * g ≡ left → left < n * g → q < n
         by q g n e l = grind arith
 
-    pub IsOneLaid-rest : (b : Segment) (ss' : List Segment) → left / g ≡ 0 → b.length ≡ x.length - left / g → IsSecond swap job r x b → ss' ≡ ss ++ b ∷ [] → IsOneLaid swap speed job r left 0 x fs ss fs ss'
+    pub IsOneLaid-rest : (b : Segment) (ss' : List Segment)
+        → left / g ≡ 0 → b.length ≡ x.length - left / g → IsSecond swap job r x b → ss' ≡ ss ++ b ∷ [] → IsOneLaid swap speed job r left 0 x fs ss fs ss'
     IsOneLaid-rest b ss' z e t f = record {
       firsts_new = [];
       seconds_new = b ∷ [];
@@ -55,7 +58,8 @@ module _ (swap : Bool) (speed : ℕ → ℕ) (job r left : ℕ) (x : Segment) (f
       few = inl (omega arith);
     }
 
-    pub IsOneLaid-both : (a b : Segment) (fs' ss' : List Segment) → 0 < left / g → IsTaken job r (left / g) x a → fs' ≡ fs ++ a ∷ [] → b.length ≡ x.length - left / g → IsSecond swap job r x b → ss' ≡ ss ++ b ∷ [] → IsOneLaid swap speed job r left 0 x fs ss fs' ss'
+    pub IsOneLaid-both : (a b : Segment) (fs' ss' : List Segment) → 0 < left / g → IsTaken job r (left / g) x a
+        → fs' ≡ fs ++ a ∷ [] → b.length ≡ x.length - left / g → IsSecond swap job r x b → ss' ≡ ss ++ b ∷ [] → IsOneLaid swap speed job r left 0 x fs ss fs' ss'
     IsOneLaid-both a b fs' ss' p t d e u f = record {
       firsts_new = a ∷ [];
       seconds_new = b ∷ [];
@@ -77,19 +81,22 @@ module _ (swap : Bool) (speed : ℕ → ℕ) (job r whole : ℕ) where
   pub AreLaid-first : (xs : List Segment) → AreLaid swap speed job r whole whole [] [] []
   AreLaid-first xs = record { parts = []; laid = IsLaid.none; gains = omega arith; order = λ _. record { order = tt; whole = λ _. refl }; few = inl (omega arith) }
 
-  pub AreLaid-next : (left after : ℕ) (xs : List Segment) (x : Segment) (fs ss fs' ss' : List Segment) → AreLaid swap speed job r whole left xs fs ss → IsOneLaid swap speed job r left after x fs ss fs' ss' → AreLaid swap speed job r whole after (xs ++ x ∷ []) fs' ss'
+  pub AreLaid-next : (left after : ℕ) (xs : List Segment) (x : Segment) (fs ss fs' ss' : List Segment) → AreLaid swap speed job r whole left xs fs ss
+      → IsOneLaid swap speed job r left after x fs ss fs' ss' → AreLaid swap speed job r whole after (xs ++ x ∷ []) fs' ss'
   AreLaid-next left after xs x fs ss fs' ss' h o = record {
     parts = h.parts ++ o.part ∷ [];
     laid = subst₂ (λ f s. IsLaid (IsFirst job r) (IsSecond swap job r) (h.parts ++ o.part ∷ []) (xs ++ x ∷ []) f s) (sym o.firsts_are) (sym o.seconds_are) (IsLaid-append h.laid o.laid);
     gains = omega (arith, gained-append (gain_at swap speed r) h.laid (o.part ∷ []) (x ∷ []), h.gains, o.gains);
-    order = λ p. AreOrdered-next left after h.parts xs x o.part (gain_at swap speed r x) (IsLaid-lengths h.laid) (All-last (λ y. 1 ≤ gain_at swap speed r y) xs x p) (h.order (All-append_left (λ y. 1 ≤ gain_at swap speed r y) xs (x ∷ []) p)) o.gains o.enough o.short;
+    order = λ p. AreOrdered-next left after h.parts xs x o.part (gain_at swap speed r x) (IsLaid-lengths h.laid)
+        (All-last (λ y. 1 ≤ gain_at swap speed r y) xs x p) (h.order (All-append_left (λ y. 1 ≤ gain_at swap speed r y) xs (x ∷ []) p)) o.gains o.enough o.short;
     few = by h.few o.few;
   }
     where
       many : length fs' + length ss' ≡ length fs + length ss + (length o.firsts_new + length o.seconds_new)
       many = omega (arith, ap length o.firsts_are, ap length o.seconds_are, length-append fs o.firsts_new, length-append ss o.seconds_new)
 
-      by : AreFew (length fs + length ss) (length xs) left → (length o.firsts_new + length o.seconds_new ≤ 1) ⊎ ((1 ≤ left) × (after ≡ 0) × (length o.firsts_new + length o.seconds_new ≤ 2)) → AreFew (length fs' + length ss') (length (xs ++ x ∷ [])) after
+      by : AreFew (length fs + length ss) (length xs) left → (length o.firsts_new + length o.seconds_new ≤ 1) ⊎ ((1 ≤ left) × (after ≡ 0) × (length o.firsts_new + length o.seconds_new ≤ 2))
+          → AreFew (length fs' + length ss') (length (xs ++ x ∷ [])) after
       by (inl a) (inl b) = inl (omega (arith, many, length-append xs (x ∷ [])))
       by (inl a) (inr b) = inr (b.1, omega (arith, many, b.2, length-append xs (x ∷ [])))
       by (inr a) (inl b) = inr (omega (arith, a.0, o.gains), omega (arith, many, a.1, length-append xs (x ∷ [])))
@@ -108,7 +115,8 @@ module _ (swap : Bool) (speed : ℕ → ℕ) (job r whole : ℕ) where
       by (suc n) c = inr (omega arith, dvd-zero _)
 
   -- what one segment leaves
-  pub CanGain-next : (left after : ℕ) (x : Segment) (xs : List Segment) (fs ss fs' ss' : List Segment) → CanGain (gain_at swap speed r) left (x ∷ xs) → IsOneLaid swap speed job r left after x fs ss fs' ss' → CanGain (gain_at swap speed r) after xs
+  pub CanGain-next : (left after : ℕ) (x : Segment) (xs : List Segment) (fs ss fs' ss' : List Segment)
+      → CanGain (gain_at swap speed r) left (x ∷ xs) → IsOneLaid swap speed job r left after x fs ss fs' ss' → CanGain (gain_at swap speed r) after xs
   CanGain-next left after x xs fs ss fs' ss' (inl (l, c)) o = subst (λ k. CanGain (gain_at swap speed r) k xs) (sym (o.enough l)) c
   CanGain-next left after x xs fs ss fs' ss' (inr (l, d)) o = subst (λ k. CanGain (gain_at swap speed r) k xs) (sym (o.short l)) (CanGain-nothing xs)
 
@@ -130,7 +138,8 @@ module _ (swap : Bool) (speed : ℕ → ℕ) (job r left after : ℕ) (x : Segme
 
 -- ---- the first of late segments, and those after it
 module _ (speed : ℕ → ℕ) (job r : ℕ) where
-  pub IsFirstLaid-made : (left after : ℕ) (x : Segment) (early late early' late' seconds : List Segment) → IsOneLaid false speed job r left after x early [] early' seconds → length seconds + min 1 after ≤ 1 → CanGain (rate_at speed r) left (x ∷ late) → late' ≡ seconds ++ late → IsFirstLaid speed job r left after x early late early' late'
+  pub IsFirstLaid-made : (left after : ℕ) (x : Segment) (early late early' late' seconds : List Segment) → IsOneLaid false speed job r left after x early [] early' seconds
+      → length seconds + min 1 after ≤ 1 → CanGain (rate_at speed r) left (x ∷ late) → late' ≡ seconds ++ late → IsFirstLaid speed job r left after x early late early' late'
   IsFirstLaid-made left after x early late early' late' seconds o few c e = record {
     seconds = seconds;
     laid = o;
@@ -157,7 +166,8 @@ module _ (speed : ℕ → ℕ) (job r : ℕ) where
   module _ (whole : ℕ) where
     AreLaid-extend : (ys done fs ss : List Segment) → AreLaid false speed job r whole 0 done fs ss → AreLaid false speed job r whole 0 (done ++ ys) fs (ss ++ ys)
     AreLaid-extend [] done fs ss h = subst₂ (λ d s. AreLaid false speed job r whole 0 d fs s) (sym (append-nil done)) (sym (append-nil ss)) h
-    AreLaid-extend (y ∷ ys) done fs ss h = subst₂ (λ d s. AreLaid false speed job r whole 0 d fs s) (append_assoc done (y ∷ []) ys) (append_assoc ss (y ∷ []) ys) (AreLaid-extend ys (done ++ y ∷ []) fs (ss ++ y ∷ []) (AreLaid-next false speed job r whole 0 0 done y fs ss fs (ss ++ y ∷ []) h (IsOneLaid-kept y fs ss)))
+    AreLaid-extend (y ∷ ys) done fs ss h = subst₂ (λ d s. AreLaid false speed job r whole 0 d fs s) (append_assoc done (y ∷ []) ys) (append_assoc ss (y ∷ []) ys)
+        (AreLaid-extend ys (done ++ y ∷ []) fs (ss ++ y ∷ []) (AreLaid-next false speed job r whole 0 0 done y fs ss fs (ss ++ y ∷ []) h (IsOneLaid-kept y fs ss)))
 
     pub IsLaying-start : (xs early : List Segment) → CanGain (rate_at speed r) whole xs → IsLaying speed job r whole whole xs early early xs
     IsLaying-start xs early c = record {
@@ -192,7 +202,8 @@ module _ (speed : ℕ → ℕ) (job r : ℕ) where
           firsts = h.firsts ++ f.laid.firsts_new;
           seconds = f.seconds;
           all = h.all ∙ ap (λ l. h.done ++ l) others_are ∙ sym (append_assoc h.done (x ∷ []) late);
-          laid = AreLaid-next false speed job r whole left after h.done x h.firsts [] (h.firsts ++ f.laid.firsts_new) f.seconds (subst (AreLaid false speed job r whole left h.done h.firsts) none_late h.laid) (IsOneLaid-after false speed job r left after x early early' f.seconds f.laid h.firsts);
+          laid = AreLaid-next false speed job r whole left after h.done x h.firsts [] (h.firsts ++ f.laid.firsts_new) f.seconds
+              (subst (AreLaid false speed job r whole left h.done h.firsts) none_late h.laid) (IsOneLaid-after false speed job r left after x early early' f.seconds f.laid h.firsts);
           early_is = f.laid.firsts_are ∙ ap (λ l. l ++ f.laid.firsts_new) h.early_is ∙ append_assoc early0 h.firsts f.laid.firsts_new;
           late_is = f.late_is;
           few = f.few;
@@ -202,7 +213,8 @@ module _ (speed : ℕ → ℕ) (job r : ℕ) where
       pub IsLaying-end : (late : List Segment) → left ≡ 0 → IsLaying speed job r whole left xs early0 early late → IsLaidHere speed job r whole early0 xs early late
       IsLaying-end late e h = record {
         firsts = h.firsts;
-        laid = subst₂ (λ ys l. AreLaid false speed job r whole 0 ys h.firsts l) (sym h.all) (sym h.late_is) (AreLaid-extend h.others h.done h.firsts h.seconds (subst (λ n. AreLaid false speed job r whole n h.done h.firsts h.seconds) e h.laid));
+        laid = subst₂ (λ ys l. AreLaid false speed job r whole 0 ys h.firsts l) (sym h.all) (sym h.late_is)
+            (AreLaid-extend h.others h.done h.firsts h.seconds (subst (λ n. AreLaid false speed job r whole n h.done h.firsts h.seconds) e h.laid));
         early_is = h.early_is;
       }
 

@@ -1,17 +1,19 @@
 -- The law of the least end, from the law of speeds: the threshold is the speed of the slowest of the k fastest machines.
-use Rattle.std.proofs.Common.{◌≡◌, ◌≢◌, ℕ, zero, suc, ◌+◌, ◌-◌, ◌*◌, ◌<◌, ◌≤◌, Bool, true, cond, eqb, ltb, List, length, take, drop, get_or, count_by, sum_by, ℤ, pos, ◌*ℤ◌, ◌≤ℤ◌, All, AllPairs, ◌⊎◌, inl, inr, refl, sym, ap, subst, subst₂, ◌∙◌, arith}
+use Rattle.std.proofs.Common.{◌≡◌, ◌≢◌, ℕ, zero, suc, ◌+◌, ◌-◌, ◌*◌, ◌<◌, ◌≤◌, Bool, true, cond, eqb, ltb, List, length, take, drop, get_or, count_by, sum_by, ℤ, pos, ◌*ℤ◌, ◌≤ℤ◌}
+use Rattle.std.proofs.Common.{All, AllPairs, ◌⊎◌, inl, inr, refl, sym, ap, subst, subst₂, ◌∙◌, arith}
 use Rattle.std.specs.List.{range_with_len}
 use Rattle.std.proofs.lemmas.Int.{ints}
 use Rattle.std.proofs.lemmas.List.{take-append-drop, length-take, length-drop, get_or-take, get_or-drop, get_or_default}
 use Rattle.std.proofs.lemmas.List.Elements.{All-take}
 use Rattle.msp_class.specs.Env.{kind_of}
-use Rattle.msp_class.proofs.Sums.{sum_by-append, sum_by-same, sum_by-add, sum_by-constant, sum_by-none, sum_by-IsPermutation, sum_by_counts, count_by-distinct, total_below-same, total_below-range, OnceBelow-from_permutation, OnceBelow-distinct, length-OnceBelow}
+use Rattle.msp_class.proofs.Sums.{sum_by-append, sum_by-same, sum_by-add, sum_by-constant, sum_by-none, sum_by-IsPermutation, sum_by_counts, count_by-distinct, total_below-same}
+use Rattle.msp_class.proofs.Sums.{total_below-range, OnceBelow-from_permutation, OnceBelow-distinct, length-OnceBelow}
 use Rattle.msp_instance.specs.declared.Instance.{Instance}
 use Rattle.msp_schedule.specs.declared.Schedule.{Schedule}
 use Rattle.msp_schedule.specs.Cost.{cost_of}
 use Rattle.msp_schedule.specs.Feasible.{Feasible}
 use Rattle.msp_schedule.specs.Laws.{time_together, jobs_together}
-use Rattle.msp_schedule.specs.Rows.{time_at}
+use Rattle.msp_schedule.specs.BackToBack.{time_at}
 use Rattle.msp_schedule.specs.Speeds.{HaveSpeeds, HasSpeedFor, speed_of, speed_above}
 use Rattle.msp_schedule.proofs.costs.Makespan.{ends_by_cost, cost_natural}
 use Rattle.msp_schedule.proofs.bounds.SpeedBound.{law_of_speeds}
@@ -23,7 +25,8 @@ abbrev among : List ℕ → ℕ → Bool
 among xs j = ltb 0 (count_by (λ x. eqb x j) xs)
 
 sum_among : (f : ℕ → ℕ) (n : ℕ) (xs : List ℕ) → All (λ x. x < n) xs → AllPairs (λ x y. x ≢ y) xs → sum_by (λ j. cond (among xs j) (f j) 0) (range_with_len 0 n) ≡ sum_by f xs
-sum_among f n xs h u = total_below-range n (λ j. cond (among xs j) (f j) 0) ∙ total_below-same n _ _ (λ j l. once (count_by (λ x. eqb x j) xs) (f j) (count_by-distinct xs j u)) ∙ sym (sum_by_counts f n xs h)
+sum_among f n xs h u = total_below-range n (λ j. cond (among xs j) (f j) 0)
+    ∙ total_below-same n _ _ (λ j l. once (count_by (λ x. eqb x j) xs) (f j) (count_by-distinct xs j u)) ∙ sym (sum_by_counts f n xs h)
   where
     once : (c v : ℕ) → c ≤ 1 → cond (ltb 0 c) v 0 ≡ v * c
     once zero v l = omega arith
@@ -76,7 +79,8 @@ module _ (key : ℕ → ℕ) (xs : List ℕ) (k : ℕ) (inside : suc k ≤ lengt
   late : All (λ x. key x - threshold ≡ 0) (drop (suc k) xs)
   late i d l =
       let within : suc k + i < length xs = omega (arith, l, length-drop (suc k) xs) in
-      subst (λ x. key x - threshold ≡ 0) (sym (get_or-drop (suc k) xs i d)) (by (key (get_or xs (suc k + i) d)) threshold (subst (λ x. key (get_or xs (suc k + i) d) ≤ key x) (get_or_default xs k d 0 (omega (arith, inside))) (falls k (suc k + i) d (omega arith) within)))
+      subst (λ x. key x - threshold ≡ 0) (sym (get_or-drop (suc k) xs i d)) (by (key (get_or xs (suc k + i) d)) threshold
+      (subst (λ x. key (get_or xs (suc k + i) d) ≤ key x) (get_or_default xs k d 0 (omega (arith, inside))) (falls k (suc k + i) d (omega arith) within)))
     where
       by : (a t : ℕ) → a ≤ t → a - t ≡ 0
       by a t l = omega arith
@@ -97,12 +101,14 @@ module _ (key : ℕ → ℕ) (xs : List ℕ) (k : ℕ) (inside : suc k ≤ lengt
       long : length (take (suc k) xs) ≡ suc k
       long = omega (arith, length-take (suc k) xs, inside)
 
-module _ (i : Instance) (class : i.class ≡ cut_class) (s : Schedule) (f : Feasible i s) (some : 1 ≤ length i.jobs) (jobs machines : List ℕ) (by_time : IsByFalling (length i.jobs) (time_at i) jobs) (by_speed : IsByFalling i.machines (speed_of i) machines) where
+module _ (i : Instance) (class : i.class ≡ cut_class) (s : Schedule) (f : Feasible i s) (some : 1 ≤ length i.jobs)
+    (jobs machines : List ℕ) (by_time : IsByFalling (length i.jobs) (time_at i) jobs) (by_speed : IsByFalling i.machines (speed_of i) machines) where
   speeds : HaveSpeeds (kind_of i.class.env)
   speeds = inr (ap (λ c. kind_of c.env) class)
 
   held : (test : ℕ → Bool) (threshold : ℕ) → HasSpeedFor i s test threshold (cost_of i s)
-  held test threshold = law_of_speeds.room i s test threshold (cost_of i s) speeds f (subst (λ x. pos 0 ≤ℤ x) (sym (cost_natural i (ap (λ c. c.crit) class) s some)) (zero-le-pos _)) (λ j l e. ends_by_cost i (ap (λ c. c.crit) class) s j l)
+  held test threshold = law_of_speeds.room i s test threshold (cost_of i s) speeds f
+      (subst (λ x. pos 0 ≤ℤ x) (sym (cost_natural i (ap (λ c. c.crit) class) s some)) (zero-le-pos _)) (λ j l e. ends_by_cost i (ap (λ c. c.crit) class) s j l)
 
   read : (w w' v v' : ℕ) (u c : ℤ) → w ≡ w' → v ≡ v' → (u *ℤ pos w) ≤ℤ (c *ℤ pos v) → (pos w' *ℤ u) ≤ℤ (c *ℤ pos v')
   read w w' v v' u c e g h = subst (λ x. x ≤ℤ (c *ℤ pos v')) (*ℤ_comm u (pos w')) (subst₂ (λ a b. (u *ℤ pos a) ≤ℤ (c *ℤ pos b)) e g h)
@@ -134,13 +140,17 @@ module _ (i : Instance) (class : i.class ≡ cut_class) (s : Schedule) (f : Feas
   first_works (suc k) l m =
       let long : suc k ≤ length machines = omega (arith, order_length i.machines (speed_of i) machines by_speed, l) in
       let t : ℕ = speed_of i (get_or machines k 0) in
-      read _ _ _ _ s.unit (cost_of i s) (works (suc k) m) (sums (jobs_together i (test (suc k) m)) (speed_above i t) t (count (suc k) m) (over_range (λ x. speed_of i x - t)) (excess (speed_of i) machines k long by_speed.falls)) (held (test (suc k) m) t)
+      read _ _ _ _ s.unit (cost_of i s) (works (suc k) m)
+      (sums (jobs_together i (test (suc k) m)) (speed_above i t) t (count (suc k) m) (over_range (λ x. speed_of i x - t)) (excess (speed_of i) machines k long by_speed.falls))
+      (held (test (suc k) m) t)
     where
-      sums : (c a t : ℕ) → c ≡ suc k → a ≡ sum_by (λ x. speed_of i x - t) machines → suc k * t + sum_by (λ x. speed_of i x - t) machines ≡ speed i (take (suc k) machines) → c * t + a ≡ speed i (take (suc k) machines)
+      sums : (c a t : ℕ) → c ≡ suc k → a ≡ sum_by (λ x. speed_of i x - t) machines
+          → suc k * t + sum_by (λ x. speed_of i x - t) machines ≡ speed i (take (suc k) machines) → c * t + a ≡ speed i (take (suc k) machines)
       sums c a t e g h = omega (arith, ap (λ x. x * t) e, g, h)
 
   pub total_work : IsAfter i jobs machines (cost_of i s) s.unit
-  total_work = read _ _ _ _ s.unit (cost_of i s) (sym (sum_by-IsPermutation (time_at i) (range_with_len 0 (length i.jobs)) jobs by_time.all)) (sums (jobs_together i (λ _. true)) (speed_above i 0) (over_range (λ x. speed_of i x - 0))) (held (λ _. true) 0)
+  total_work = read _ _ _ _ s.unit (cost_of i s) (sym (sum_by-IsPermutation (time_at i) (range_with_len 0 (length i.jobs)) jobs by_time.all))
+      (sums (jobs_together i (λ _. true)) (speed_above i 0) (over_range (λ x. speed_of i x - 0))) (held (λ _. true) 0)
     where
       sums : (c a : ℕ) → a ≡ sum_by (λ x. speed_of i x - 0) machines → c * 0 + a ≡ speed i machines
       sums c a e = omega (arith, e, sum_by-same (λ x. speed_of i x - 0) (speed_of i) machines (λ j d l. omega arith))

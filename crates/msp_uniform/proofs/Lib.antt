@@ -6,7 +6,7 @@ pub mod OrderFacts
 pub mod LayingFacts
 pub mod TurnFacts
 pub mod ScaledFacts
-pub mod RowFacts
+pub mod SegmentPieces
 pub mod PlanFacts
 pub mod TurnNeeds
 pub mod TapeFacts

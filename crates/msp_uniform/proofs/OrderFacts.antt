@@ -39,7 +39,8 @@ whole-more : (xs : List Segment) (x : Segment) → map (λ y. y.length) xs ++ x.
 whole-more [] x = refl
 whole-more (y ∷ ys) x = ap (λ l. y.length ∷ l) (whole-more ys x)
 
-pub AreOrdered-next : (left after : ℕ) (zs : List ℕ) (xs : List Segment) (x : Segment) (z g : ℕ) → length zs ≡ length xs → 1 ≤ g → AreOrdered left zs xs → z * g + after ≡ left → (x.length * g ≤ left → after ≡ left - x.length * g) → (left < x.length * g → after ≡ 0) → AreOrdered after (zs ++ z ∷ []) (xs ++ x ∷ [])
+pub AreOrdered-next : (left after : ℕ) (zs : List ℕ) (xs : List Segment) (x : Segment) (z g : ℕ) → length zs ≡ length xs → 1 ≤ g → AreOrdered left zs xs
+    → z * g + after ≡ left → (x.length * g ≤ left → after ≡ left - x.length * g) → (left < x.length * g → after ≡ 0) → AreOrdered after (zs ++ z ∷ []) (xs ++ x ∷ [])
 AreOrdered-next zero after zs xs x z g size some h e enough short = record {
   order = subst (λ k. InOrder (zs ++ k ∷ []) (xs ++ x ∷ [])) (sym (none z g some (omega (arith, e)))) (InOrder-nothing zs xs x size h.order);
   whole = λ l. absurd (omega (arith, l, e));
@@ -68,7 +69,8 @@ gained-zeros rate [] xs a = refl
 gained-zeros rate (z ∷ zs) [] a = refl
 gained-zeros rate (z ∷ zs) (x ∷ xs) a = omega (arith, ap (λ k. k * rate x) (All-head (λ y. y ≡ 0) z zs a), gained-zeros rate zs xs (All-tail (λ y. y ≡ 0) z zs a))
 
-module _ {First Second : Segment → Segment → Type 0} (P : Segment → Type 0) (lasts : (x : Segment) → P x → 1 ≤ x.length) (rate : Segment → ℕ) (of_second : (x y : Segment) → P x → Second x y → rate y ≡ rate x) where
+module _ {First Second : Segment → Segment → Type 0} (P : Segment → Type 0)
+    (lasts : (x : Segment) → P x → 1 ≤ x.length) (rate : Segment → ℕ) (of_second : (x y : Segment) → P x → Second x y → rate y ≡ rate x) where
   no_firsts : {zs : List ℕ} {xs us vs : List Segment} → IsLaid First Second zs xs us vs → All P xs → All (λ y. y ≡ 0) zs → us ≡ []
   no_firsts IsLaid.none p a = refl
   no_firsts (IsLaid.first {zs} {x} {a = y} {xs} {firsts = us} {seconds = vs} f e h) p a = absurd (omega (arith, e, lasts x (All-head P x xs p), All-head (λ y. y ≡ 0) y.length zs a))
@@ -78,7 +80,8 @@ module _ {First Second : Segment → Segment → Type 0} (P : Segment → Type 0
   -- after what the first parts gain
   pub AreWhole-seconds : (d : ℕ) {zs : List ℕ} {xs us vs : List Segment} → IsLaid First Second zs xs us vs → All P xs → InOrder zs xs → AreWhole rate d xs → AreWhole rate (d + gained rate zs xs) vs
   AreWhole-seconds d IsLaid.none p o w = tt
-  AreWhole-seconds d (IsLaid.first {zs} {x} {a = y} {xs} {firsts = us} {seconds = vs} f e h) p o w = subst (λ k. AreWhole rate k vs) (same d y.length x.length (rate x) (gained rate zs xs) e) (AreWhole-seconds (d + x.length * rate x) h (All-tail P x xs p) (by o) w.1)
+  AreWhole-seconds d (IsLaid.first {zs} {x} {a = y} {xs} {firsts = us} {seconds = vs} f e h) p o w =
+      subst (λ k. AreWhole rate k vs) (same d y.length x.length (rate x) (gained rate zs xs) e) (AreWhole-seconds (d + x.length * rate x) h (All-tail P x xs p) (by o) w.1)
     where
       same : (d a l r k : ℕ) → a ≡ l → d + l * r + k ≡ d + (a * r + k)
       same d a l r k e = omega (arith, ap (λ n. n * r) e)
@@ -89,8 +92,11 @@ module _ {First Second : Segment → Segment → Type 0} (P : Segment → Type 0
   AreWhole-seconds d (IsLaid.second {zs} {x} {b = y} {xs} {firsts = us} {seconds = vs} f e h) p (inl (q, o)) w = absurd (omega (arith, q, lasts x (All-head P x xs p)))
   AreWhole-seconds d (IsLaid.second {zs} {x} {b = y} {xs} {firsts = us} {seconds = vs} f e h) p (inr a) w =
       let none : gained rate zs xs ≡ 0 = gained-zeros rate zs xs a in
-      let is : rate y ≡ rate x = of_second x y (All-head P x xs p) f in
-      (subst (λ k. k ∣ d + (0 * rate x + gained rate zs xs)) (sym is) (subst (λ k. rate x ∣ k) (here d (rate x) (gained rate zs xs) none) w.0), subst (λ k. AreWhole rate k vs) (later d x.length y.length (rate x) (rate y) (gained rate zs xs) none e is) (AreWhole-seconds (d + x.length * rate x) h (All-tail P x xs p) (InOrder-zeros zs xs a) w.1))
+      let is : rate y ≡ rate x = of_second x y (All-head P x xs p) f in (
+        subst (λ k. k ∣ d + (0 * rate x + gained rate zs xs)) (sym is) (subst (λ k. rate x ∣ k) (here d (rate x) (gained rate zs xs) none) w.0),
+        subst (λ k. AreWhole rate k vs)
+            (later d x.length y.length (rate x) (rate y) (gained rate zs xs) none e is) (AreWhole-seconds (d + x.length * rate x) h (All-tail P x xs p) (InOrder-zeros zs xs a) w.1),
+      )
     where
       here : (d r k : ℕ) → k ≡ 0 → d ≡ d + (0 * r + k)
       here d r k e = omega (arith, e)
@@ -100,8 +106,12 @@ module _ {First Second : Segment → Segment → Type 0} (P : Segment → Type 0
   AreWhole-seconds d (IsLaid.both {zs} {x} {a = y} {b = v} {xs} {firsts = us} {seconds = vs} f g m n e h) p (inl (q, o)) w = absurd (omega (arith, q, n, e))
   AreWhole-seconds d (IsLaid.both {zs} {x} {a = y} {b = v} {xs} {firsts = us} {seconds = vs} f g m n e h) p (inr a) w =
       let none : gained rate zs xs ≡ 0 = gained-zeros rate zs xs a in
-      let is : rate v ≡ rate x = of_second x v (All-head P x xs p) g in
-      (subst (λ k. k ∣ d + (y.length * rate x + gained rate zs xs)) (sym is) (subst (λ k. rate x ∣ k) (here d y.length (rate x) (gained rate zs xs) none) (dvd-add _ w.0 (dvd-mul_left (rate x) y.length))), subst (λ k. AreWhole rate k vs) (later d x.length y.length v.length (rate x) (rate v) (gained rate zs xs) none e is) (AreWhole-seconds (d + x.length * rate x) h (All-tail P x xs p) (InOrder-zeros zs xs a) w.1))
+      let is : rate v ≡ rate x = of_second x v (All-head P x xs p) g in (
+        subst (λ k. k ∣ d + (y.length * rate x + gained rate zs xs)) (sym is)
+            (subst (λ k. rate x ∣ k) (here d y.length (rate x) (gained rate zs xs) none) (dvd-add _ w.0 (dvd-mul_left (rate x) y.length))),
+        subst (λ k. AreWhole rate k vs)
+            (later d x.length y.length v.length (rate x) (rate v) (gained rate zs xs) none e is) (AreWhole-seconds (d + x.length * rate x) h (All-tail P x xs p) (InOrder-zeros zs xs a) w.1),
+      )
     where
       here : (d a r k : ℕ) → k ≡ 0 → d + a * r ≡ d + (a * r + k)
       here d a r k e = omega (arith, e)
@@ -110,11 +120,14 @@ module _ {First Second : Segment → Segment → Type 0} (P : Segment → Type 0
       later d l a b r s k e f g = omega (arith, e, ap (λ n. n * r) f, ap (λ n. b * n) g)
 
   -- at a rate that first parts keep too
-  pub AreWhole-laid : ((x y : Segment) → P x → First x y → rate y ≡ rate x) → (d : ℕ) {zs : List ℕ} {xs us vs : List Segment} → IsLaid First Second zs xs us vs → All P xs → InOrder zs xs → AreWhole rate d xs → AreWhole rate d (us ++ vs)
+  pub AreWhole-laid : ((x y : Segment) → P x → First x y → rate y ≡ rate x) → (d : ℕ) {zs : List ℕ} {xs us vs : List Segment}
+      → IsLaid First Second zs xs us vs → All P xs → InOrder zs xs → AreWhole rate d xs → AreWhole rate d (us ++ vs)
   AreWhole-laid of_first d IsLaid.none p o w = tt
   AreWhole-laid of_first d (IsLaid.first {zs} {x} {a = y} {xs} {firsts = us} {seconds = vs} f e h) p o w =
-      let is : rate y ≡ rate x = of_first x y (All-head P x xs p) f in
-      (subst (λ k. k ∣ d) (sym is) w.0, subst (λ k. AreWhole rate k (us ++ vs)) (same d y.length x.length (rate y) (rate x) e is) (AreWhole-laid of_first (d + x.length * rate x) h (All-tail P x xs p) (by o) w.1))
+      let is : rate y ≡ rate x = of_first x y (All-head P x xs p) f in (
+        subst (λ k. k ∣ d) (sym is) w.0,
+        subst (λ k. AreWhole rate k (us ++ vs)) (same d y.length x.length (rate y) (rate x) e is) (AreWhole-laid of_first (d + x.length * rate x) h (All-tail P x xs p) (by o) w.1),
+      )
     where
       same : (d a l r s : ℕ) → a ≡ l → r ≡ s → d + l * s ≡ d + a * r
       same d a l r s e f = omega (arith, ap₂ (λ m n. m * n) e f)
@@ -126,7 +139,11 @@ module _ {First Second : Segment → Segment → Type 0} (P : Segment → Type 0
   AreWhole-laid of_first d (IsLaid.second {zs} {x} {b = y} {xs} {firsts = us} {seconds = vs} f e h) p (inr a) w =
       let is : rate y ≡ rate x = of_second x y (All-head P x xs p) f in
       let no : us ≡ [] = no_firsts h (All-tail P x xs p) a in
-      subst (λ l. AreWhole rate d (l ++ y ∷ vs)) (sym no) (subst (λ k. k ∣ d) (sym is) w.0, subst (λ l. AreWhole rate (d + y.length * rate y) (l ++ vs)) no (subst (λ k. AreWhole rate k (us ++ vs)) (same d y.length x.length (rate y) (rate x) e is) (AreWhole-laid of_first (d + x.length * rate x) h (All-tail P x xs p) (InOrder-zeros zs xs a) w.1)))
+      subst (λ l. AreWhole rate d (l ++ y ∷ vs)) (sym no) (
+        subst (λ k. k ∣ d) (sym is) w.0,
+        subst (λ l. AreWhole rate (d + y.length * rate y) (l ++ vs)) no (subst (λ k. AreWhole rate k (us ++ vs))
+            (same d y.length x.length (rate y) (rate x) e is) (AreWhole-laid of_first (d + x.length * rate x) h (All-tail P x xs p) (InOrder-zeros zs xs a) w.1)),
+      )
     where
       same : (d a l r s : ℕ) → a ≡ l → r ≡ s → d + l * s ≡ d + a * r
       same d a l r s e f = omega (arith, ap₂ (λ m n. m * n) e f)
@@ -138,7 +155,8 @@ module _ {First Second : Segment → Segment → Type 0} (P : Segment → Type 0
         subst (λ k. k ∣ d) (sym is) w.0,
         subst (λ l. AreWhole rate (d + y.length * rate y) (l ++ v ∷ vs)) (sym no) (
           subst (λ k. k ∣ d + y.length * rate y) (is ∙ sym also) (dvd-add _ (subst (λ k. k ∣ d) (sym is) w.0) (dvd-mul_left (rate y) y.length)),
-          subst (λ l. AreWhole rate (d + y.length * rate y + v.length * rate v) (l ++ vs)) no (subst (λ k. AreWhole rate k (us ++ vs)) (same d y.length v.length x.length (rate y) (rate v) (rate x) e is also) (AreWhole-laid of_first (d + x.length * rate x) h (All-tail P x xs p) (InOrder-zeros zs xs a) w.1)),
+          subst (λ l. AreWhole rate (d + y.length * rate y + v.length * rate v) (l ++ vs)) no (subst (λ k. AreWhole rate k (us ++ vs))
+              (same d y.length v.length x.length (rate y) (rate v) (rate x) e is also) (AreWhole-laid of_first (d + x.length * rate x) h (All-tail P x xs p) (InOrder-zeros zs xs a) w.1)),
         ),
       )
     where
@@ -151,7 +169,8 @@ AreWhole-both rate d [] ys a b = subst (λ k. AreWhole rate k ys) (same d) b
   where
     same : (d : ℕ) → d + 0 ≡ d
     same d = omega arith
-AreWhole-both rate d (x ∷ xs) ys a b = (a.0, AreWhole-both rate (d + x.length * rate x) xs ys a.1 (subst (λ k. AreWhole rate k ys) (same d (x.length * rate x) (amount rate xs) _ (sum_by-cons (λ y. y.length * rate y) x xs)) b))
+AreWhole-both rate d (x ∷ xs) ys a b =
+    (a.0, AreWhole-both rate (d + x.length * rate x) xs ys a.1 (subst (λ k. AreWhole rate k ys) (same d (x.length * rate x) (amount rate xs) _ (sum_by-cons (λ y. y.length * rate y) x xs)) b))
   where
     same : (d a b c : ℕ) → c ≡ a + b → d + c ≡ d + a + b
     same d a b c e = omega (arith, e)
@@ -165,7 +184,8 @@ AreWhole-then rate d [] ys w = subst (λ k. AreWhole rate k ys) (same d) w
   where
     same : (d : ℕ) → d ≡ d + 0
     same d = omega arith
-AreWhole-then rate d (x ∷ xs) ys w = subst (λ k. AreWhole rate k ys) (same d (x.length * rate x) (amount rate xs) _ (sum_by-cons (λ y. y.length * rate y) x xs)) (AreWhole-then rate (d + x.length * rate x) xs ys w.1)
+AreWhole-then rate d (x ∷ xs) ys w =
+    subst (λ k. AreWhole rate k ys) (same d (x.length * rate x) (amount rate xs) _ (sum_by-cons (λ y. y.length * rate y) x xs)) (AreWhole-then rate (d + x.length * rate x) xs ys w.1)
   where
     same : (d a b c : ℕ) → c ≡ a + b → d + a + b ≡ d + c
     same d a b c e = omega (arith, e)
@@ -175,7 +195,9 @@ pub AreWhole-multiples : (multiple : ℕ) (rate : Segment → ℕ) (d : ℕ) (xs
 AreWhole-multiples multiple rate d [] e l r = tt
 AreWhole-multiples multiple rate d (x ∷ xs) e l r = (
   dvd_trans (rate x) (All-head (λ x. rate x ∣ multiple) x xs r) e,
-  AreWhole-multiples multiple rate (d + x.length * rate x) xs (dvd-add multiple e (subst (λ k. multiple ∣ k) (turned (rate x) x.length) (dvd-mul_left_of_dvd multiple (All-head (λ x. multiple ∣ x.length) x xs l) (rate x)))) (All-tail (λ x. multiple ∣ x.length) x xs l) (All-tail (λ x. rate x ∣ multiple) x xs r),
+  AreWhole-multiples multiple rate (d + x.length * rate x) xs
+      (dvd-add multiple e (subst (λ k. multiple ∣ k) (turned (rate x) x.length) (dvd-mul_left_of_dvd multiple (All-head (λ x. multiple ∣ x.length) x xs l) (rate x))))
+      (All-tail (λ x. multiple ∣ x.length) x xs l) (All-tail (λ x. rate x ∣ multiple) x xs r),
 )
   where
     turned : (a b : ℕ) → a * b ≡ b * a

@@ -22,7 +22,8 @@ module _ (speeds : List ℕ) (n : ℕ) (time : ℕ → ℕ) where
   m = length speeds
 
   -- ---- over a finer unit
-  pub IsPlan-scaled : (left : List ℕ) (unit end h d : ℕ) (xs ys : List Segment) → 1 ≤ d → AreScaled d xs ys → IsPlan speeds n time left unit end h xs → IsPlan speeds n time left (unit * d) (end * d) h ys
+  pub IsPlan-scaled : (left : List ℕ) (unit end h d : ℕ) (xs ys : List Segment)
+      → 1 ≤ d → AreScaled d xs ys → IsPlan speeds n time left unit end h xs → IsPlan speeds n time left (unit * d) (end * d) h ys
   IsPlan-scaled left unit end h d xs ys some s p = record {
     each = All-scaled (IsSegment m n (at speeds) h) (IsSegment m n (at speeds) h) d xs ys (λ x y a e. IsSegment-part m n (at speeds) h _ x y e (positive x.length d a.lasts some) a) s p.each;
     whole = omega (arith, amount-scaled (λ _. 1) (λ k x y e. refl) d xs ys s, ap (λ k. d * k) p.whole);
@@ -44,7 +45,8 @@ module _ (speeds : List ℕ) (n : ℕ) (time : ℕ → ℕ) where
       turned d u t = omega arith
 
       holds : (k : ℕ) → total_below k (λ i. amount (rate_at (at speeds) i) ys) ≡ d * total_below k (λ i. amount (rate_at (at speeds) i) xs)
-      holds k = total_below-same k _ (λ i. d * amount (rate_at (at speeds) i) xs) (λ i l. amount-scaled (rate_at (at speeds) i) (IsRead-place (at speeds) i) d xs ys s) ∙ total_below-scale k d (λ i. amount (rate_at (at speeds) i) xs)
+      holds k = total_below-same k _ (λ i. d * amount (rate_at (at speeds) i) xs) (λ i l. amount-scaled (rate_at (at speeds) i) (IsRead-place (at speeds) i) d xs ys s)
+          ∙ total_below-scale k d (λ i. amount (rate_at (at speeds) i) xs)
 
       wants : (k : ℕ) → total_below k (works time (unit * d) left) ≡ d * total_below k (works time unit left)
       wants k = total_below-same k _ (λ i. d * works time unit left i) (λ i l. sym (turned d unit (at (map time left) i))) ∙ total_below-scale k d (works time unit left)
@@ -55,11 +57,14 @@ module _ (speeds : List ℕ) (n : ℕ) (time : ℕ → ℕ) where
   works-falls unit (j ∷ js) b h zero = mul-le-mul_left unit (All-head (λ k. time k ≤ b) j js h)
   works-falls unit (j ∷ js) b h (suc i) = works-falls unit js b (All-tail (λ k. time k ≤ b) j js h) i
 
-  pub IsPlan-turn : (j : ℕ) (left : List ℕ) (unit end g r gap : ℕ) (xs fs ss : List Segment) → suc r < suc (suc g) → IsPlan speeds n time (j ∷ left) unit end (suc (suc g)) xs → AreLaid true (at speeds) j r gap 0 xs fs ss → unit * time j ≡ amount (rate_at (at speeds) (suc r)) xs + gap → ((i : ℕ) → i < r → unit * time j ≤ amount (rate_at (at speeds) i) xs) → IsPlan speeds n time left unit end (suc g) (fs ++ ss)
+  pub IsPlan-turn : (j : ℕ) (left : List ℕ) (unit end g r gap : ℕ) (xs fs ss : List Segment) → suc r < suc (suc g) → IsPlan speeds n time (j ∷ left) unit end (suc (suc g)) xs
+      → AreLaid true (at speeds) j r gap 0 xs fs ss → unit * time j ≡ amount (rate_at (at speeds) (suc r)) xs + gap
+      → ((i : ℕ) → i < r → unit * time j ≤ amount (rate_at (at speeds) i) xs) → IsPlan speeds n time left unit end (suc g) (fs ++ ss)
   IsPlan-turn j left unit end g r gap xs fs ss inside p laid e high = record {
     each = segments_are m n (at speeds) g r j gap xs fs ss inside new p.each absent laid;
     whole = whole_time m n (at speeds) g r j gap xs fs ss inside new p.each absent laid ∙ p.whole;
-    absent = λ k d l. absent_still m n (at speeds) g r j gap xs fs ss inside new p.each absent laid _ (λ q. AllPairs-head (λ a b. a ≢ b) j left p.apart k d l (sym q)) (All-tail (λ i. All (IsAbsent m i) xs) j left p.absent k d l);
+    absent = λ k d l. absent_still m n (at speeds) g r j gap xs fs ss inside new p.each absent laid _ (λ q. AllPairs-head (λ a b. a ≢ b) j left p.apart k d l (sym q))
+        (All-tail (λ i. All (IsAbsent m i) xs) j left p.absent k d l);
     done = λ i l. elim (same_or_not i j) [
       | inl q ↦ inr (subst (λ a. amount (job_rate m (at speeds) a) (fs ++ ss) ≡ unit * time a) (sym q) (own_work m n (at speeds) g r j gap xs fs ss inside new p.each absent laid ∙ sym e))
       | inr d ↦ elim (p.done i l) [
@@ -67,7 +72,8 @@ module _ (speeds : List ℕ) (n : ℕ) (time : ℕ → ℕ) where
         | inr w ↦ inr (others_work m n (at speeds) g r j gap xs fs ss inside new p.each absent laid i l d ∙ w)
       ]
     ];
-    fit = DoFit-merged (suc (suc g)) r (length left) (λ k. amount (rate_at (at speeds) k) xs) (works time unit (j ∷ left)) (λ k. amount (rate_at (at speeds) k) (fs ++ ss)) inside p.fit (places_merged m n (at speeds) g r j gap xs fs ss inside new p.each absent laid (unit * time j) e) (λ k i l b. small k i l b) g refl;
+    fit = DoFit-merged (suc (suc g)) r (length left) (λ k. amount (rate_at (at speeds) k) xs) (works time unit (j ∷ left)) (λ k. amount (rate_at (at speeds) k) (fs ++ ss))
+        inside p.fit (places_merged m n (at speeds) g r j gap xs fs ss inside new p.each absent laid (unit * time j) e) (λ k i l b. small k i l b) g refl;
     falls = AllPairs-tail (λ a b. time b ≤ time a) j left p.falls;
     apart = AllPairs-tail (λ a b. a ≢ b) j left p.apart;
     inside = All-tail (λ i. i < n) j left p.inside;
@@ -83,8 +89,10 @@ module _ (speeds : List ℕ) (n : ℕ) (time : ℕ → ℕ) where
       small k i l b = omega (arith, works-falls unit left (time j) (AllPairs-head (λ a b. time b ≤ time a) j left p.falls) i, high i (omega arith))
 
   -- ---- a turn
-  pub IsPlan-turned : (j : ℕ) (left : List ℕ) (unit end g d : ℕ) (xs zs : List Segment) → IsPlan speeds n time (j ∷ left) unit end (suc (suc g)) xs → IsTurned speeds (suc (suc g)) j (unit * time j) xs d zs → IsPlan speeds n time left (unit * d) (end * d) (suc g) zs
-  IsPlan-turned j left unit end g d xs zs p t = subst (IsPlan speeds n time left (unit * d) (end * d) (suc g)) (sym t.whole) (IsPlan-turn j left (unit * d) (end * d) g t.place (t.gain * d) t.fine t.firsts t.seconds inside (IsPlan-scaled (j ∷ left) unit end (suc (suc g)) d xs t.fine (difference_some speeds d t.factor) t.scaled p) t.laid work high)
+  pub IsPlan-turned : (j : ℕ) (left : List ℕ) (unit end g d : ℕ) (xs zs : List Segment) → IsPlan speeds n time (j ∷ left) unit end (suc (suc g)) xs
+      → IsTurned speeds (suc (suc g)) j (unit * time j) xs d zs → IsPlan speeds n time left (unit * d) (end * d) (suc g) zs
+  IsPlan-turned j left unit end g d xs zs p t = subst (IsPlan speeds n time left (unit * d) (end * d) (suc g)) (sym t.whole) (IsPlan-turn j left (unit * d) (end * d)
+      g t.place (t.gain * d) t.fine t.firsts t.seconds inside (IsPlan-scaled (j ∷ left) unit end (suc (suc g)) d xs t.fine (difference_some speeds d t.factor) t.scaled p) t.laid work high)
     where
       inside : suc t.place < suc (suc g)
       inside = omega (arith, t.inside)
@@ -102,7 +110,8 @@ module _ (speeds : List ℕ) (n : ℕ) (time : ℕ → ℕ) where
           by u d q a k b e f = omega (arith, f, ap (λ x. d * x) e)
 
       high : (i : ℕ) → i < t.place → unit * d * time j ≤ amount (rate_at (at speeds) i) t.fine
-      high i l = by unit d (time j) (amount (rate_at (at speeds) i) xs) _ (omega (arith, t.enough, amount-mono (rate_at (at speeds) t.place) (rate_at (at speeds) i) xs (λ k e b. (p.each k e b).falls i t.place (omega arith) (omega (arith, t.inside))))) (holds i)
+      high i l = by unit d (time j) (amount (rate_at (at speeds) i) xs)
+          _ (omega (arith, t.enough, amount-mono (rate_at (at speeds) t.place) (rate_at (at speeds) i) xs (λ k e b. (p.each k e b).falls i t.place (omega arith) (omega (arith, t.inside))))) (holds i)
         where
           by : (u d q a b : ℕ) → u * q ≤ a → b ≡ d * a → u * d * q ≤ b
           by u d q a b l e = omega (arith, e, mul-le-mul_left d l)

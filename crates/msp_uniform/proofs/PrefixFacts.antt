@@ -49,7 +49,12 @@ module _ (h r n : ℕ) (holds works holds' : ℕ → ℕ) (inside : suc r < h) (
   pub DoFit-merged : ((k i : ℕ) → k ≤ r → i < k → rest works i ≤ holds i) → (g : ℕ) → h ≡ suc (suc g) → DoFit (suc g) holds' n (rest works)
   DoFit-merged s g e = record {
     firsts = λ k l. by k (less_or_not r k) l;
-    all = omega (arith, subst (λ x. total_below (suc g) holds' + works 0 ≡ total_below x holds) (sym e) (above h r holds works holds' m g (omega (arith, e, inside)) (omega (arith, e))), fit.all, total_below-first n works);
+    all = omega (
+      arith,
+      subst (λ x. total_below (suc g) holds' + works 0 ≡ total_below x holds) (sym e) (above h r holds works holds' m g (omega (arith, e, inside)) (omega (arith, e))),
+      fit.all,
+      total_below-first n works,
+    );
   }
     where
       by : (k : ℕ) → (r < k) ⊎ (k ≤ r) → k ≤ suc g → total_below k (rest works) ≤ total_below k holds'

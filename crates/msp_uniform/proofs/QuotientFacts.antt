@@ -3,6 +3,7 @@ use Rattle.std.proofs.Common.{◌≡◌, ℕ, zero, suc, ◌+◌, ◌*◌, ◌<�
 use Rattle.std.proofs.Math.Nat.{mul-le-mul_right, le_of_mul-le-mul_right}
 use Rattle.std.proofs.lemmas.List.Elements.{All-head}
 use Rattle.std.proofs.lemmas.List.Sums.{sum_by_more}
+use Rattle.msp_class.specs.declared.sizes.TheConstants.{GREATEST}
 use Rattle.msp_class.proofs.Sums.{sum_by-cons}
 use Rattle.msp_uniform.specs.Segments.{at}
 use Rattle.msp_uniform.specs.Quotients.{IsGreater, IsGreatestUpTo}
@@ -26,10 +27,11 @@ module _ (ts sp jobs machines : List ℕ) where
   some_speed [] l h = absurd (omega (arith, l))
   some_speed (m ∷ ms) l h = omega (arith, sum_by-cons speed m ms, All-head (λ m. 1 ≤ speed m) m ms h)
 
-  fast : All (λ m. m < length sp) machines → All (λ s. (1 ≤ s) × (s ≤ 1000000000)) sp → All (λ m. 1 ≤ speed m) machines
+  fast : All (λ m. m < length sp) machines → All (λ s. (1 ≤ s) × (s ≤ GREATEST)) sp → All (λ m. 1 ≤ speed m) machines
   fast a b k d l = (b _ 0 (a k d l)).0
 
-  pub IsGreatestUpTo-first : (w v : ℕ) → 1 ≤ length machines → All (λ m. m < length sp) machines → All (λ s. (1 ≤ s) × (s ≤ 1000000000)) sp → w ≡ sum_by time jobs → v ≡ sum_by speed machines → IsGreatestUpTo 0 time speed jobs machines w v
+  pub IsGreatestUpTo-first : (w v : ℕ) → 1 ≤ length machines → All (λ m. m < length sp) machines
+      → All (λ s. (1 ≤ s) × (s ≤ GREATEST)) sp → w ≡ sum_by time jobs → v ≡ sum_by speed machines → IsGreatestUpTo 0 time speed jobs machines w v
   IsGreatestUpTo-first w v some a b e f = record {
     some = omega (arith, f, some_speed machines some (fast a b));
     total = by _ _ e f;
@@ -44,11 +46,13 @@ module _ (ts sp jobs machines : List ℕ) where
       none zero l = omega arith
       none (suc k) l = absurd (omega (arith, l))
 
-  module _ (k w v work rate w' v' : ℕ) (g : IsGreatestUpTo k time speed jobs machines w v) (inside : k < length machines) (within : k < length jobs) (a : All (λ m. m < length sp) machines) (b : All (λ s. (1 ≤ s) × (s ≤ 1000000000)) sp) (work_is : work ≡ sum_by time (take (k + 1) jobs)) (rate_is : rate ≡ sum_by speed (take (k + 1) machines)) where
+  module _ (k w v work rate w' v' : ℕ) (g : IsGreatestUpTo k time speed jobs machines w v) (inside : k < length machines) (within : k < length jobs) (a : All (λ m. m < length sp) machines)
+      (b : All (λ s. (1 ≤ s) × (s ≤ GREATEST)) sp) (work_is : work ≡ sum_by time (take (k + 1) jobs)) (rate_is : rate ≡ sum_by speed (take (k + 1) machines)) where
     rate_some : 1 ≤ rate
     rate_some = omega (arith, rate_is, sum_by_more speed machines k 0 inside, fast a b k 0 inside)
 
-    up_to : (i x y : ℕ) → ((j : ℕ) → j ≤ k → sum_by time (take j jobs) * y ≤ x * sum_by speed (take j machines)) → work * y ≤ x * rate → i ≤ k + 1 → sum_by time (take i jobs) * y ≤ x * sum_by speed (take i machines)
+    up_to : (i x y : ℕ) → ((j : ℕ) → j ≤ k → sum_by time (take j jobs) * y ≤ x * sum_by speed (take j machines))
+        → work * y ≤ x * rate → i ≤ k + 1 → sum_by time (take i jobs) * y ≤ x * sum_by speed (take i machines)
     up_to i x y f l m = by (less_or_not i (k + 1))
       where
         same : k + 1 ≤ i → k + 1 ≡ i

@@ -2,9 +2,11 @@
 use Rattle.std.proofs.Common.{◌≡◌, ℕ, zero, suc, ◌+◌, ◌*◌, ◌-◌, ◌<◌, ◌≤◌, inl, inr, false, List, ◌∷◌, length, All, ap, subst, ◌∙◌, arith}
 use Rattle.std.proofs.lemmas.List.{length-append}
 use Rattle.std.proofs.lemmas.List.Elements.{All-head, length_all_zip}
+use Rattle.msp_class.specs.declared.sizes.TheConstants.{GREATEST}
+use Rattle.msp_uniform.specs.declared.unit.TheConstants.{GREATEST_PRODUCT}
 use Rattle.msp_uniform.specs.declared.segments.Segment.{Segment}
 use Rattle.msp_uniform.specs.declared.task.Task.{Task}
-use Rattle.msp_uniform.specs.Segments.{at, IsPartOf, rate_at, amount, AreFew, IsDifference, HasPlaces}
+use Rattle.msp_uniform.specs.Segments.{at, IsPartOf, rate_at, amount, AreFew, IsDifference, HasPlaces, greatest_length}
 use Rattle.msp_uniform.specs.Plans.{IsTurned, IsTask, IsReached}
 use Rattle.msp_uniform.proofs.PlanFacts.{IsPlan-turned, first_enough}
 use Rattle.msp_uniform.proofs.TurnNeeds.{difference_some, has_places}
@@ -14,14 +16,14 @@ module _ (t : Task) (k : IsTask t) where
   pub speeds_small : All (λ s. s ≤ 1000000) t.speeds.items
   speeds_small i d l = (k.speeds i d l).1
 
-  pub time_small : (j : ℕ) → j < length t.times.items → at t.times.items j ≤ 1000000000
+  pub time_small : (j : ℕ) → j < length t.times.items → at t.times.items j ≤ GREATEST
   time_small j l = (k.times j 0 l).1
 
   module _ (left : List ℕ) (unit h : ℕ) (xs : List Segment) (r : IsReached t left unit h xs) where
-    pub reached_unit : unit ≤ 10000000000000
+    pub reached_unit : unit ≤ GREATEST_PRODUCT
     reached_unit = unit_small t.speeds.items t.multiple unit r.end h r.affordable
 
-    pub reached_short : amount (λ _. 1) xs ≤ 10000000000000000000000000
+    pub reached_short : amount (λ _. 1) xs ≤ greatest_length
     reached_short = omega (arith, r.plan.whole, r.affordable.end_small, reached_unit)
 
     pub reached_places : All (HasPlaces (length t.speeds.items) false (h - 1)) xs
@@ -47,10 +49,10 @@ module _ (t : Task) (k : IsTask t) where
           by (suc zero) l a b = absurd (omega (arith, a, b))
           by (suc (suc g)) l a b = omega arith
 
-      pub next_finer : (d : ℕ) → IsDifference t.speeds.items d → amount (λ _. 1) xs * d ≤ 10000000000000000000000000
+      pub next_finer : (d : ℕ) → IsDifference t.speeds.items d → amount (λ _. 1) xs * d ≤ greatest_length
       next_finer d is = by h next_some r
         where
-          by : (h : ℕ) → 2 ≤ h → IsReached t (j ∷ left) unit h xs → amount (λ _. 1) xs * d ≤ 10000000000000000000000000
+          by : (h : ℕ) → 2 ≤ h → IsReached t (j ∷ left) unit h xs → amount (λ _. 1) xs * d ≤ greatest_length
           by zero l q = absurd (omega (arith, l))
           by (suc zero) l q = absurd (omega (arith, l))
           by (suc (suc g)) l q = omega (arith, ap (λ n. n * d) q.plan.whole, end_finer t.speeds.items t.multiple unit q.end g d (difference_some t.speeds.items d is) is q.affordable)
@@ -91,21 +93,27 @@ module _ (t : Task) (k : IsTask t) where
                 positive (suc a) b l k = omega (arith, k)
 
     -- the unit over which it is turned
-    pub turned_unit : (d : ℕ) (zs : List Segment) → amount (rate_at (at t.speeds.items) (h - 1)) xs < unit * at t.times.items j → IsTurned t.speeds.items h j (unit * at t.times.items j) xs d zs → unit * d ≤ 10000000000000
+    pub turned_unit : (d : ℕ) (zs : List Segment) → amount (rate_at (at t.speeds.items) (h - 1)) xs < unit * at t.times.items j
+        → IsTurned t.speeds.items h j (unit * at t.times.items j) xs d zs → unit * d ≤ GREATEST_PRODUCT
     turned_unit d zs long w = let n = IsReached-turned long d zs w in unit_small t.speeds.items t.multiple (unit * d) n.end (h - 1) n.affordable
 
 -- ---- as slices are read
 pub work_is : (t : Task) (unit j work : ℕ) (ts : List ℕ) → ts ≡ t.times.items → work ≡ unit * at ts j → work ≡ unit * at t.times.items j
 work_is t unit j work ts a e = e ∙ ap (λ l. unit * at l j) a
 
-pub rest_is : (t : Task) (p rest : ℕ) (xs : List Segment) (sp : List ℕ) (ys : List Segment) → sp ≡ t.speeds.items → ys ≡ xs → rest ≡ amount (rate_at (at sp) p) ys → rest ≡ amount (rate_at (at t.speeds.items) p) xs
+pub rest_is : (t : Task) (p rest : ℕ) (xs : List Segment) (sp : List ℕ) (ys : List Segment)
+    → sp ≡ t.speeds.items → ys ≡ xs → rest ≡ amount (rate_at (at sp) p) ys → rest ≡ amount (rate_at (at t.speeds.items) p) xs
 rest_is t p rest xs sp ys a b e = e ∙ ap (λ l. amount (rate_at (at l) p) ys) a ∙ ap (λ l. amount (rate_at (at t.speeds.items) p) l) b
 
-pub read_long : (t : Task) (unit p j work rest : ℕ) (xs : List Segment) (ts sp : List ℕ) (ys : List Segment) → ts ≡ t.times.items → sp ≡ t.speeds.items → ys ≡ xs → work ≡ unit * at ts j → rest ≡ amount (rate_at (at sp) p) ys → rest < work → amount (rate_at (at t.speeds.items) p) xs < unit * at t.times.items j
+pub read_long : (t : Task) (unit p j work rest : ℕ) (xs : List Segment) (ts sp : List ℕ) (ys : List Segment) → ts ≡ t.times.items → sp ≡ t.speeds.items → ys ≡ xs
+    → work ≡ unit * at ts j → rest ≡ amount (rate_at (at sp) p) ys → rest < work → amount (rate_at (at t.speeds.items) p) xs < unit * at t.times.items j
 read_long t unit p j work rest xs ts sp ys a b d e f l = omega (arith, work_is t unit j work ts a e, rest_is t p rest xs sp ys b d f, l)
 
-pub read_short : (t : Task) (unit p j work rest : ℕ) (xs : List Segment) (ts sp : List ℕ) (ys : List Segment) → ts ≡ t.times.items → sp ≡ t.speeds.items → ys ≡ xs → work ≡ unit * at ts j → rest ≡ amount (rate_at (at sp) p) ys → work ≤ rest → unit * at t.times.items j ≤ amount (rate_at (at t.speeds.items) p) xs
+pub read_short : (t : Task) (unit p j work rest : ℕ) (xs : List Segment) (ts sp : List ℕ) (ys : List Segment) → ts ≡ t.times.items → sp ≡ t.speeds.items
+    → ys ≡ xs → work ≡ unit * at ts j → rest ≡ amount (rate_at (at sp) p) ys → work ≤ rest → unit * at t.times.items j ≤ amount (rate_at (at t.speeds.items) p) xs
 read_short t unit p j work rest xs ts sp ys a b d e f l = omega (arith, work_is t unit j work ts a e, rest_is t p rest xs sp ys b d f, l)
 
-pub read_turned : (t : Task) (unit h j work d : ℕ) (xs zs : List Segment) (ts sp : List ℕ) (ys : List Segment) → ts ≡ t.times.items → sp ≡ t.speeds.items → ys ≡ xs → work ≡ unit * at ts j → IsTurned sp h j work ys d zs → IsTurned t.speeds.items h j (unit * at t.times.items j) xs d zs
-read_turned t unit h j work d xs zs ts sp ys a b f e w = subst (λ k. IsTurned k h j (unit * at t.times.items j) xs d zs) b (subst (λ k. IsTurned sp h j (unit * at t.times.items j) k d zs) f (subst (λ k. IsTurned sp h j k ys d zs) (work_is t unit j work ts a e) w))
+pub read_turned : (t : Task) (unit h j work d : ℕ) (xs zs : List Segment) (ts sp : List ℕ) (ys : List Segment) → ts ≡ t.times.items
+    → sp ≡ t.speeds.items → ys ≡ xs → work ≡ unit * at ts j → IsTurned sp h j work ys d zs → IsTurned t.speeds.items h j (unit * at t.times.items j) xs d zs
+read_turned t unit h j work d xs zs ts sp ys a b f e w = subst (λ k. IsTurned k h j (unit * at t.times.items j) xs d zs)
+    b (subst (λ k. IsTurned sp h j (unit * at t.times.items j) k d zs) f (subst (λ k. IsTurned sp h j k ys d zs) (work_is t unit j work ts a e) w))

@@ -1,5 +1,6 @@
 -- Finer units, and where a job has gained enough.
-use Rattle.std.proofs.Common.{◌≡◌, ℕ, zero, suc, ◌+◌, ◌*◌, ◌-◌, ◌<◌, ◌≤◌, ◌⊎◌, inl, inr, false, cond, eqb, List, [], ◌∷◌, ◌++◌, length, take, drop, get_or, drop-cons, append-nil, append_assoc, All, sym, ap, subst, ◌∙◌, arith}
+use Rattle.std.proofs.Common.{◌≡◌, ℕ, zero, suc, ◌+◌, ◌*◌, ◌-◌, ◌<◌, ◌≤◌, ◌⊎◌, inl, inr, false, cond, eqb, List, [], ◌∷◌, ◌++◌, length, take, drop, get_or, drop-cons, append-nil}
+use Rattle.std.proofs.Common.{append_assoc, All, sym, ap, subst, ◌∙◌, arith}
 use Rattle.std.specs.Int.{◌∣◌}
 use Rattle.std.proofs.Math.Nat.{mul-le-mul_left, dvd-mul_left}
 use Rattle.std.proofs.lemmas.List.{take_more, drop_all, take_all}
@@ -7,7 +8,7 @@ use Rattle.std.proofs.lemmas.List.Elements.{AllZip-push, All-nil, All-cons, All-
 use Rattle.msp_class.proofs.Sums.{sum_by-cons, sum_by-append, total_below-same}
 use Rattle.msp_instance.proofs.MultipleLemmas.{All-append_left}
 use Rattle.msp_uniform.specs.declared.segments.Segment.{Segment}
-use Rattle.msp_uniform.specs.Segments.{at, job_on, place_at, IsSegment, IsPartOf, rate_at, job_rate, amount, CanGain, StopsAt, IsSeeking, AreScaled, AreScaledUpTo, HasPlaces}
+use Rattle.msp_uniform.specs.Segments.{at, job_on, place_at, IsSegment, IsPartOf, rate_at, job_rate, amount, CanGain, StopsAt, IsSeeking, AreScaled, AreScaledUpTo, HasPlaces, greatest_length}
 use Rattle.msp_uniform.proofs.OrderFacts.{All-append_right}
 
 -- an amount with one more segment
@@ -28,15 +29,29 @@ amount-take rate (x ∷ xs) (suc k) = omega (arith, sum_by-cons (λ y. y.length 
 
 pub amount-least : (rate : Segment → ℕ) (b : ℕ) (xs : List Segment) → All (λ x. rate x ≤ b) xs → amount rate xs ≤ amount (λ _. 1) xs * b
 amount-least rate b [] h = omega arith
-amount-least rate b (x ∷ xs) h = omega (arith, sum_by-cons (λ y. y.length * rate y) x xs, ap (λ n. n * b) (sum_by-cons (λ y. y.length * 1) x xs), mul-le-mul_left x.length (All-head (λ y. rate y ≤ b) x xs h), amount-least rate b xs (All-tail (λ y. rate y ≤ b) x xs h))
+amount-least rate b (x ∷ xs) h = omega (
+  arith,
+  sum_by-cons (λ y. y.length * rate y) x xs,
+  ap (λ n. n * b) (sum_by-cons (λ y. y.length * 1) x xs),
+  mul-le-mul_left x.length (All-head (λ y. rate y ≤ b) x xs h),
+  amount-least rate b xs (All-tail (λ y. rate y ≤ b) x xs h),
+)
 
 pub amount-mono : (f g : Segment → ℕ) (xs : List Segment) → All (λ x. f x ≤ g x) xs → amount f xs ≤ amount g xs
 amount-mono f g [] h = omega arith
-amount-mono f g (x ∷ xs) h = omega (arith, sum_by-cons (λ y. y.length * f y) x xs, sum_by-cons (λ y. y.length * g y) x xs, mul-le-mul_left x.length (All-head (λ y. f y ≤ g y) x xs h), amount-mono f g xs (All-tail (λ y. f y ≤ g y) x xs h))
+amount-mono f g (x ∷ xs) h = omega (
+  arith,
+  sum_by-cons (λ y. y.length * f y) x xs,
+  sum_by-cons
+      (λ y. y.length * g y) x xs,
+  mul-le-mul_left x.length (All-head (λ y. f y ≤ g y) x xs h),
+  amount-mono f g xs (All-tail (λ y. f y ≤ g y) x xs h),
+)
 
 pub length-short : (xs : List Segment) → All (λ x. x.length ≤ amount (λ _. 1) xs) xs
 length-short [] = All-nil (λ x. x.length ≤ 0)
-length-short (x ∷ xs) = All-cons (λ y. y.length ≤ amount (λ _. 1) (x ∷ xs)) x xs (omega (arith, sum_by-cons (λ y. y.length * 1) x xs)) (λ k d l. omega (arith, sum_by-cons (λ y. y.length * 1) x xs, length-short xs k d l))
+length-short (x ∷ xs) = All-cons (λ y. y.length ≤ amount (λ _. 1) (x ∷ xs))
+    x xs (omega (arith, sum_by-cons (λ y. y.length * 1) x xs)) (λ k d l. omega (arith, sum_by-cons (λ y. y.length * 1) x xs, length-short xs k d l))
 
 -- ---- where enough is gained
 module _ (rate : Segment → ℕ) where
@@ -49,16 +64,19 @@ module _ (rate : Segment → ℕ) where
       none : left ≡ 0
       none = omega (arith, h.gains, amount-all rate xs k l, e)
 
-  pub IsSeeking-next : (whole left k : ℕ) (xs : List Segment) (x : Segment) → k < length xs → x ≡ get_or xs k x → x.length * rate x ≤ left → IsSeeking rate whole left k xs → IsSeeking rate whole (left - x.length * rate x) (k + 1) xs
+  pub IsSeeking-next : (whole left k : ℕ) (xs : List Segment) (x : Segment) → k < length xs
+      → x ≡ get_or xs k x → x.length * rate x ≤ left → IsSeeking rate whole left k xs → IsSeeking rate whole (left - x.length * rate x) (k + 1) xs
   IsSeeking-next whole left k xs x l is m h = record {
-    stops = λ d s. h.stops d (subst (λ ys. StopsAt rate left ys d) (sym (drop-cons xs k x l)) (subst (λ y. StopsAt rate left (y ∷ drop (suc k) xs) d) is (inl (m, subst (λ n. StopsAt rate (left - x.length * rate x) (drop n xs) d) (one k) s))));
+    stops = λ d s. h.stops d (subst (λ ys. StopsAt rate left ys d) (sym (drop-cons xs k x l))
+        (subst (λ y. StopsAt rate left (y ∷ drop (suc k) xs) d) is (inl (m, subst (λ n. StopsAt rate (left - x.length * rate x) (drop n xs) d) (one k) s))));
     gains = omega (arith, h.gains, amount-more rate xs k x l is, m);
   }
     where
       one : (k : ℕ) → k + 1 ≡ suc k
       one k = omega arith
 
-  pub StopsAt-here : (whole left k : ℕ) (xs : List Segment) (x : Segment) (d : ℕ) → k < length xs → x ≡ get_or xs k x → left < x.length * rate x → d ≡ rate x → IsSeeking rate whole left k xs → StopsAt rate whole xs d
+  pub StopsAt-here : (whole left k : ℕ) (xs : List Segment) (x : Segment) (d : ℕ)
+      → k < length xs → x ≡ get_or xs k x → left < x.length * rate x → d ≡ rate x → IsSeeking rate whole left k xs → StopsAt rate whole xs d
   StopsAt-here whole left k xs x d l is m e h = h.stops d (subst (λ ys. StopsAt rate left ys d) (sym (drop-cons xs k x l)) (subst (λ y. StopsAt rate left (y ∷ drop (suc k) xs) d) is (inr (m, e))))
 
 -- ---- over a finer unit
@@ -71,7 +89,15 @@ IsRead-place speed r n x y p = ap (λ l. speed (at l r)) p.free
 
 pub amount-scaled : (rate : Segment → ℕ) → IsRead rate → (d : ℕ) (xs ys : List Segment) → AreScaled d xs ys → amount rate ys ≡ d * amount rate xs
 amount-scaled rate read d [] [] h = omega arith
-amount-scaled rate read d (x ∷ xs) (y ∷ ys) h = omega (arith, ap (λ n. d * n) (sum_by-cons (λ z. z.length * rate z) x xs), sum_by-cons (λ z. z.length * rate z) y ys, ap (λ n. n * rate y) h.0.long, ap (λ n. x.length * d * n) (read _ x y h.0), amount-scaled rate read d xs ys h.1)
+amount-scaled rate read d (x ∷ xs) (y ∷ ys) h = omega (
+  arith,
+  ap (λ n. d * n) (sum_by-cons (λ z. z.length * rate z) x xs),
+  sum_by-cons
+      (λ z. z.length * rate z) y ys,
+  ap (λ n. n * rate y) h.0.long,
+  ap (λ n. x.length * d * n) (read _ x y h.0),
+  amount-scaled rate read d xs ys h.1,
+)
 amount-scaled rate read d [] (y ∷ ys) h = absurd h
 amount-scaled rate read d (x ∷ xs) [] h = absurd h
 
@@ -97,22 +123,25 @@ pub AreScaledUpTo-end : (d : ℕ) (xs ahead ys : List Segment) → ahead ≡ [] 
 AreScaledUpTo-end d xs ahead ys e h = subst (λ l. AreScaled d l ys) (sym (h.all ∙ ap (λ l. h.done ++ l) e ∙ append-nil h.done)) h.scaled
 
 -- the segments in two parts
-pub two_rows : (P : Segment → Type 0) (xs front back : List Segment) → front ++ back ≡ xs → All P xs → All P front × All P back
-two_rows P xs front back e h = (All-append_left P front back (subst (All P) (sym e) h), All-append_right P front back (subst (All P) (sym e) h))
+pub two_parts : (P : Segment → Type 0) (xs front back : List Segment) → front ++ back ≡ xs → All P xs → All P front × All P back
+two_parts P xs front back e h = (All-append_left P front back (subst (All P) (sym e) h), All-append_right P front back (subst (All P) (sym e) h))
 
-pub amount-rows : (rate : Segment → ℕ) (xs front back : List Segment) → front ++ back ≡ xs → amount rate xs ≡ amount rate front + amount rate back
-amount-rows rate xs front back e = ap (amount rate) (sym e) ∙ sum_by-append (λ y. y.length * rate y) front back
+pub amount-parts : (rate : Segment → ℕ) (xs front back : List Segment) → front ++ back ≡ xs → amount rate xs ≡ amount rate front + amount rate back
+amount-parts rate xs front back e = ap (amount rate) (sym e) ∙ sum_by-append (λ y. y.length * rate y) front back
 
 -- the machines at a place are not faster than any
 pub rates_short : (speeds : List ℕ) (b r : ℕ) (xs : List Segment) → All (λ s. s ≤ b) speeds → All (HasPlaces (length speeds) false r) xs → All (λ x. rate_at (at speeds) r x ≤ b) xs
 rates_short speeds b r xs h p k d l = h (place_at (get_or xs k d) r) 0 (p k d l).1
 
-pub work_short : (speeds : List ℕ) (r k : ℕ) (xs : List Segment) (x : Segment) (work rate : ℕ) → All (λ s. s ≤ 1000000) speeds → All (HasPlaces (length speeds) false r) xs → amount (λ _. 1) xs ≤ 10000000000000000000000000 → k < length xs → x ≡ get_or xs k x → work ≡ amount (rate_at (at speeds) r) (take k xs) → rate ≡ rate_at (at speeds) r x → work + x.length * rate ≤ 10000000000000000000000000000000
+pub work_short : (speeds : List ℕ) (r k : ℕ) (xs : List Segment) (x : Segment) (work rate : ℕ)
+    → All (λ s. s ≤ 1000000) speeds → All (HasPlaces (length speeds) false r) xs → amount (λ _. 1) xs ≤ greatest_length → k < length xs → x ≡ get_or xs k x
+    → work ≡ amount (rate_at (at speeds) r) (take k xs) → rate ≡ rate_at (at speeds) r x → work + x.length * rate ≤ 10000000000000000000000000000000
 work_short speeds r k xs x work rate h p t l is e f =
     let most : amount (rate_at (at speeds) r) xs ≤ amount (λ _. 1) xs * 1000000 = amount-least (rate_at (at speeds) r) 1000000 xs (rates_short speeds 1000000 r xs h p) in
     omega (arith, e, ap (λ n. x.length * n) f, amount-more (rate_at (at speeds) r) xs k x l is, amount-take (rate_at (at speeds) r) xs (k + 1), most, t)
 
-pub place_short : (speeds : List ℕ) (r : ℕ) (xs : List Segment) → All (λ s. s ≤ 1000000) speeds → All (HasPlaces (length speeds) false r) xs → amount (λ _. 1) xs ≤ 10000000000000000000000000 → amount (rate_at (at speeds) r) xs ≤ 10000000000000000000000000000000
+pub place_short : (speeds : List ℕ) (r : ℕ) (xs : List Segment) → All (λ s. s ≤ 1000000) speeds
+    → All (HasPlaces (length speeds) false r) xs → amount (λ _. 1) xs ≤ greatest_length → amount (rate_at (at speeds) r) xs ≤ 10000000000000000000000000000000
 place_short speeds r xs h p t = omega (arith, amount-least (rate_at (at speeds) r) 1000000 xs (rates_short speeds 1000000 r xs h p), t)
 
 -- the gain comes out whole over a unit that is finer by the last rate
@@ -135,7 +164,8 @@ CanGain-scaled rate read d left (x ∷ xs) (y ∷ ys) p s h = by s (λ l t. subs
             apart : (a b c k : ℕ) → b ≡ a + k → c ≡ a * d → k * d ≡ b * d - c
             apart a b c k e f = omega (arith, ap (λ n. n * d) e, f)
 
-    by : ((x.length * rate x ≤ left) × StopsAt rate (left - x.length * rate x) xs d) ⊎ ((left < x.length * rate x) × (d ≡ rate x)) → (x.length * rate x ≤ left → StopsAt rate (left - x.length * rate x) xs d → CanGain rate (left * d - y.length * rate y) ys) → CanGain rate (left * d) (y ∷ ys)
+    by : ((x.length * rate x ≤ left) × StopsAt rate (left - x.length * rate x) xs d) ⊎ ((left < x.length * rate x) × (d ≡ rate x))
+        → (x.length * rate x ≤ left → StopsAt rate (left - x.length * rate x) xs d → CanGain rate (left * d - y.length * rate y) ys) → CanGain rate (left * d) (y ∷ ys)
     by (inl (l, t)) k = inl (omega (arith, same, scaled_le (x.length * rate x) left l), k l t)
       where
         scaled_le : (a b : ℕ) → a ≤ b → a * d ≤ b * d

@@ -36,7 +36,8 @@ at-remove xs r k l = by (leb r k) refl
         one k = omega arith
     by false e = get_or-remove_below xs r 0 k (leb-false r k e) l
 
-module _ (m n : ℕ) (speed : ℕ → ℕ) (h r job length' : ℕ) (x y : Segment) (s : IsSegment m n speed (suc h) x) (t : IsTaken job r length' x y) (inside : r < suc h) (new : job < n) (absent : IsAbsent m job x) where
+module _ (m n : ℕ) (speed : ℕ → ℕ) (h r job length' : ℕ)
+    (x y : Segment) (s : IsSegment m n speed (suc h) x) (t : IsTaken job r length' x y) (inside : r < suc h) (new : job < n) (absent : IsAbsent m job x) where
   abbrev machine : ℕ
   machine = place_at x r
 
@@ -109,7 +110,8 @@ module _ (m n : ℕ) (speed : ℕ → ℕ) (h r job length' : ℕ) (x y : Segmen
     ];
     places = omega (arith, ap length t.free, length-remove x.body.value.free r (omega (arith, s.places, inside)), s.places);
     machines = λ k l. subst (λ p. p < m) (sym (place_is k)) (s.machines (after r k) (after_in k l));
-    idle = λ k l. job_other (place_at y k) (subst (λ p. p ≢ machine) (sym (place_is k)) (distinct (after r k) r (after_in k l) inside (after_not k))) ∙ ap (job_on x) (place_is k) ∙ s.idle (after r k) (after_in k l);
+    idle = λ k l. job_other (place_at y k) (subst (λ p. p ≢ machine) (sym (place_is k)) (distinct (after r k) r (after_in k l) inside (after_not k)))
+        ∙ ap (job_on x) (place_is k) ∙ s.idle (after r k) (after_in k l);
     apart = λ q k l b. subst₂ (λ a c. a ≢ c) (sym (place_is q)) (sym (place_is k)) (s.apart (after r q) (after r k) (after_less q k l) (after_in k b));
     falls = λ q k l b. subst₂ (λ a c. speed a ≤ speed c) (sym (place_is k)) (sym (place_is q)) (s.falls (after r q) (after r k) (after_most q k l) (after_in k b));
   }
@@ -159,7 +161,8 @@ module _ (m n : ℕ) (speed : ℕ → ℕ) (h r job length' : ℕ) (x y : Segmen
   other_rate j l d = total_below-same m (part_on j y) (part_on j x) (λ i b. by i b (same_or_not i machine))
     where
       by : (i : ℕ) → i < m → (i ≡ machine) ⊎ (i ≢ machine) → part_on j y i ≡ part_on j x i
-      by i b (inl e) = ap (λ v. cond v (speed i) 0) (ne_eqb (job_on y i) j (λ q. d (sym q ∙ ap (job_on y) e ∙ job_there)) ∙ sym (ne_eqb (job_on x i) j (λ q. absurd (omega (arith, l, sym q ∙ ap (job_on x) e ∙ s.idle r inside)))))
+      by i b (inl e) = ap (λ v. cond v (speed i) 0)
+          (ne_eqb (job_on y i) j (λ q. d (sym q ∙ ap (job_on y) e ∙ job_there)) ∙ sym (ne_eqb (job_on x i) j (λ q. absurd (omega (arith, l, sym q ∙ ap (job_on x) e ∙ s.idle r inside)))))
       by i b (inr c) = ap (λ v. cond (eqb v j) (speed i) 0) (job_other i c)
 
   pub still_absent : (j : ℕ) → j ≢ job → IsAbsent m j x → IsAbsent m j y

@@ -1,5 +1,6 @@
 -- The jobs that no place is too short for, laid one after another from the last place to the first.
-use Rattle.std.proofs.Common.{◌≡◌, ◌≢◌, ℕ, zero, suc, ◌+◌, ◌*◌, ◌-◌, ◌<◌, ◌≤◌, inl, inr, Bool, true, false, leb, List, [], ◌∷◌, ◌++◌, length, get_or, All, Contains, cond, sum_by, ap, sym, ◌∙◌, ◌⊎◌, refl, subst, arith}
+use Rattle.std.proofs.Common.{◌≡◌, ◌≢◌, ℕ, zero, suc, ◌+◌, ◌*◌, ◌-◌, ◌<◌, ◌≤◌, inl, inr, Bool, true, false, leb, List, [], ◌∷◌, ◌++◌, length, get_or, All, Contains, cond, sum_by}
+use Rattle.std.proofs.Common.{ap, sym, ◌∙◌, ◌⊎◌, refl, subst, arith}
 use Rattle.std.specs.Int.{◌∣◌}
 use Rattle.std.proofs.lemmas.Bool.{leb-true, leb-false, ne_eqb}
 use Rattle.std.proofs.Math.Nat.{dvd-add_iff_right}
@@ -17,7 +18,8 @@ use Rattle.msp_uniform.proofs.ScaledFacts.{IsRead-place, IsRead-job, IsSegment-p
 -- where what is done before each segment is a multiple of its rate, a work that is a multiple of all rates ends at a whole moment
 pub CanGain-whole : (rate : Segment → ℕ) (done left : ℕ) (xs : List Segment) → AreWhole rate done xs → All (λ x. rate x ∣ done + left) xs → left ≤ amount rate xs → CanGain rate left xs
 CanGain-whole rate done left [] w d l = omega (arith, l)
-CanGain-whole rate done left (x ∷ xs) w d l = by (leb (x.length * rate x) left) refl (λ m. CanGain-whole rate (done + x.length * rate x) (left - x.length * rate x) xs w.1 (λ k e b. subst (λ n. rate (get_or xs k e) ∣ n) (together done left (x.length * rate x) m) (All-tail (λ y. rate y ∣ done + left) x xs d k e b)) (omega (arith, l, sum_by-cons (λ y. y.length * rate y) x xs)))
+CanGain-whole rate done left (x ∷ xs) w d l = by (leb (x.length * rate x) left) refl (λ m. CanGain-whole rate (done + x.length * rate x) (left - x.length * rate x) xs w.1 (λ k e b.
+    subst (λ n. rate (get_or xs k e) ∣ n) (together done left (x.length * rate x) m) (All-tail (λ y. rate y ∣ done + left) x xs d k e b)) (omega (arith, l, sum_by-cons (λ y. y.length * rate y) x xs)))
   where
     together : (a b c : ℕ) → c ≤ b → a + b ≡ a + c + (b - c)
     together a b c m = omega arith
@@ -27,7 +29,8 @@ CanGain-whole rate done left (x ∷ xs) w d l = by (leb (x.length * rate x) left
     by false e later = inr (omega (arith, leb-false (x.length * rate x) left e), (dvd-add_iff_right (rate x) w.0).1 (All-head (λ y. rate y ∣ done + left) x xs d))
 
 -- ---- a job that the rest of the last place can do
-module _ (m n : ℕ) (speed : ℕ → ℕ) (h job work : ℕ) (xs fs ss : List Segment) (new : job < n) (each : All (IsSegment m n speed (suc h)) xs) (absent : All (IsAbsent m job) xs) (laid : AreLaid false speed job h work 0 xs fs ss) where
+module _ (m n : ℕ) (speed : ℕ → ℕ) (h job work : ℕ) (xs fs ss : List Segment)
+    (new : job < n) (each : All (IsSegment m n speed (suc h)) xs) (absent : All (IsAbsent m job) xs) (laid : AreLaid false speed job h work 0 xs fs ss) where
   abbrev Before : Segment → Type 0
   Before x = IsSegment m n speed (suc h) x × IsAbsent m job x
 
@@ -84,7 +87,8 @@ module _ (speeds : List ℕ) (k : ℕ) where
   idle_amount xs a = sum_by-none (λ x. x.length * job_rate (length speeds) (at speeds) k x) xs (λ q d l. omega (arith, ap (λ v. (get_or xs q d).length * v) (idle_rate (get_or xs q d) (a q d l))))
 
 -- what is left for the jobs after one that the rest of the last place can do
-module _ (speeds : List ℕ) (n : ℕ) (time : ℕ → ℕ) (j : ℕ) (left : List ℕ) (unit end h : ℕ) (early late fs ss : List Segment) (p : IsTape speeds n time (j ∷ left) unit end h early late) (laid : AreLaid false (at speeds) j h (unit * time j) 0 late fs ss) where
+module _ (speeds : List ℕ) (n : ℕ) (time : ℕ → ℕ) (j : ℕ) (left : List ℕ) (unit end h : ℕ) (early late fs ss : List Segment)
+    (p : IsTape speeds n time (j ∷ left) unit end h early late) (laid : AreLaid false (at speeds) j h (unit * time j) 0 late fs ss) where
   abbrev m : ℕ
   m = length speeds
 
@@ -103,7 +107,8 @@ module _ (speeds : List ℕ) (n : ℕ) (time : ℕ → ℕ) (j : ℕ) (left : Li
   joined : (rate : Segment → ℕ) → amount rate (early ++ fs) ≡ amount rate early + amount rate fs
   joined rate = sum_by-append (λ y. y.length * rate y) early fs
 
-  places : (k : ℕ) → k ≤ h → total_below k (λ i. amount (rate_at (at speeds) i) (early ++ fs)) + total_below k (λ i. amount (rate_at (at speeds) i) ss) ≡ total_below k (λ i. amount (rate_at (at speeds) i) early) + total_below k (λ i. amount (rate_at (at speeds) i) late)
+  places : (k : ℕ) → k ≤ h → total_below k (λ i. amount (rate_at (at speeds) i) (early ++ fs)) + total_below k (λ i. amount (rate_at (at speeds) i) ss)
+      ≡ total_below k (λ i. amount (rate_at (at speeds) i) early) + total_below k (λ i. amount (rate_at (at speeds) i) late)
   places zero l = omega arith
   places (suc k) l = omega (arith, places k (omega arith), joined (rate_at (at speeds) k), tape_places m n (at speeds) h j (unit * time j) late fs ss new each absent laid k (omega arith))
 
@@ -132,7 +137,8 @@ module _ (speeds : List ℕ) (n : ℕ) (time : ℕ → ℕ) (j : ℕ) (left : Li
       arith,
       joined (job_rate m (at speeds) j),
       idle_amount speeds j early (All-head (λ i. All (IsAbsent m i) early) j left p.absent_early),
-      idle_amount speeds j ss (All-seconds (λ x. IsSegment m n (at speeds) (suc h) x × IsAbsent m j x) (IsAbsent m j) (λ x b. b.0.lasts) (λ x y b t s i c e. b.1 i c (sym (job_kept m n (at speeds) h _ x y t i) ∙ e)) laid.laid (λ q d b. (each q d b, absent q d b))),
+      idle_amount speeds j ss (All-seconds (λ x. IsSegment m n (at speeds) (suc h) x × IsAbsent m j x) (IsAbsent m j)
+          (λ x b. b.0.lasts) (λ x y b t s i c e. b.1 i c (sym (job_kept m n (at speeds) h _ x y t i) ∙ e)) laid.laid (λ q d b. (each q d b, absent q d b))),
       tape_works m n (at speeds) h j (unit * time j) late fs ss new each absent laid,
     )))
     | inr d ↦ elim (p.done k l) [
@@ -145,10 +151,12 @@ module _ (speeds : List ℕ) (n : ℕ) (time : ℕ → ℕ) (j : ℕ) (left : Li
   Both k x = (IsSegment m n (at speeds) (suc h) x × IsAbsent m j x) × IsAbsent m k x
 
   absent_firsts : (k : ℕ) → k ≢ j → All (IsAbsent m k) late → All (IsAbsent m k) fs
-  absent_firsts k d a = All-firsts (Both k) (IsAbsent m k) (λ x b. b.0.0.lasts) (λ x y b t l. still_absent m n (at speeds) h h j y.length x y b.0.0 t (omega arith) new b.0.1 k d b.1) laid.laid (λ q e b. ((each q e b, absent q e b), a q e b))
+  absent_firsts k d a = All-firsts (Both k) (IsAbsent m k) (λ x b. b.0.0.lasts)
+      (λ x y b t l. still_absent m n (at speeds) h h j y.length x y b.0.0 t (omega arith) new b.0.1 k d b.1) laid.laid (λ q e b. ((each q e b, absent q e b), a q e b))
 
   absent_seconds : (k : ℕ) → All (IsAbsent m k) late → All (IsAbsent m k) ss
-  absent_seconds k a = All-seconds (λ x. IsSegment m n (at speeds) (suc h) x × IsAbsent m k x) (IsAbsent m k) (λ x b. b.0.lasts) (λ x y b t s i c e. b.1 i c (sym (job_kept m n (at speeds) h _ x y t i) ∙ e)) laid.laid (λ q d b. (each q d b, a q d b))
+  absent_seconds k a = All-seconds (λ x. IsSegment m n (at speeds) (suc h) x × IsAbsent m k x)
+      (IsAbsent m k) (λ x b. b.0.lasts) (λ x y b t s i c e. b.1 i c (sym (job_kept m n (at speeds) h _ x y t i) ∙ e)) laid.laid (λ q d b. (each q d b, a q d b))
 
   other : (k d : ℕ) → k < length left → get_or left k d ≢ j
   other k d l e = AllPairs-head (λ a b. a ≢ b) j left p.apart k d l (sym e)
@@ -162,17 +170,28 @@ module _ (speeds : List ℕ) (n : ℕ) (time : ℕ → ℕ) (j : ℕ) (left : Li
     slower = gained-mono (rate_at (at speeds) h) (rate_at (at speeds) g) laid.parts late (λ k d l. (each k d l).falls g h (omega (arith, is)) (omega arith))
 
     firsts_do : amount (rate_at (at speeds) g) fs ≡ gained (rate_at (at speeds) g) laid.parts late
-    firsts_do = amount-firsts (λ x. IsSegment m n (at speeds) (suc h) x × IsAbsent m j x) (rate_at (at speeds) g) (rate_at (at speeds) g) (λ x y b t. rate_below m n (at speeds) h h j y.length x y b.0 t (omega arith) new b.1 g (omega (arith, is))) laid.laid (λ q d b. (each q d b, absent q d b))
+    firsts_do = amount-firsts (λ x. IsSegment m n (at speeds) (suc h) x × IsAbsent m j x) (rate_at (at speeds) g) (rate_at (at speeds) g)
+        (λ x y b t. rate_below m n (at speeds) h h j y.length x y b.0 t (omega arith) new b.1 g (omega (arith, is))) laid.laid (λ q d b. (each q d b, absent q d b))
 
     pub short_left : All (λ i. unit * time i ≤ amount (rate_at (at speeds) g) (early ++ fs) + amount (rate_at (at speeds) h) ss) left
-    short_left k d l = omega (arith, All-tail (λ i. unit * time i ≤ amount (rate_at (at speeds) g) early + amount (rate_at (at speeds) h) late) j left (p.short g is) k d l, joined (rate_at (at speeds) g), firsts_do, slower, laid.gains, tape_rest m n (at speeds) h j (unit * time j) late fs ss new each absent laid)
+    short_left k d l = omega (
+      arith,
+      All-tail (λ i. unit * time i ≤ amount (rate_at (at speeds) g) early + amount (rate_at (at speeds) h) late) j left (p.short g is)
+          k d l,
+      joined (rate_at (at speeds) g),
+      firsts_do,
+      slower,
+      laid.gains,
+      tape_rest m n (at speeds) h j (unit * time j) late fs ss new each absent laid,
+    )
 
   pub IsTape-next : IsTape speeds n time left unit end h (early ++ fs) ss
   IsTape-next = record {
     each_early = All-append (IsSegment m n (at speeds) h) early fs p.each_early firsts_are;
     each_late = subst (λ k. All (IsSegment m n (at speeds) k) ss) (one h) seconds_are;
     whole = omega (arith, joined (λ _. 1), tape_time m n (at speeds) h j (unit * time j) late fs ss new each absent laid, p.whole);
-    absent_early = λ k d l. All-append (IsAbsent m _) early fs (All-tail (λ i. All (IsAbsent m i) early) j left p.absent_early k d l) (absent_firsts _ (other k d l) (All-tail (λ i. All (IsAbsent m i) late) j left p.absent_late k d l));
+    absent_early = λ k d l. All-append (IsAbsent m _) early fs (All-tail (λ i. All (IsAbsent m i) early) j left p.absent_early k d l)
+        (absent_firsts _ (other k d l) (All-tail (λ i. All (IsAbsent m i) late) j left p.absent_late k d l));
     absent_late = λ k d l. absent_seconds _ (All-tail (λ i. All (IsAbsent m i) late) j left p.absent_late k d l);
     done = done_left;
     room = subst (λ k. sum_by (λ i. unit * time i) left ≤ total_below h (λ k. amount (rate_at (at speeds) k) (early ++ fs)) + total_below k (λ k. amount (rate_at (at speeds) k) ss)) (one h) room_left;

@@ -60,7 +60,8 @@ module _ (speeds : List ℕ) (n : ℕ) (time : ℕ → ℕ) (left : List ℕ) (u
         none h = total_below-none h (λ _. 0) (λ i l. refl)
 
   -- over a unit that is finer by a multiple of all speeds
-  module _ (multiple : ℕ) (some : 1 ≤ multiple) (divides : All (λ s. (1 ≤ s) × (s ∣ multiple)) speeds) (ys : List Segment) (scaled : AreScaled multiple xs ys) (p : IsPlan speeds n time left unit end (suc h) xs) where
+  module _ (multiple : ℕ) (some : 1 ≤ multiple) (divides : All (λ s. (1 ≤ s) × (s ∣ multiple)) speeds)
+      (ys : List Segment) (scaled : AreScaled multiple xs ys) (p : IsPlan speeds n time left unit end (suc h) xs) where
     pub scaled_plan : IsPlan speeds n time left (unit * multiple) (end * multiple) (suc h) ys
     scaled_plan = IsPlan-scaled speeds n time left unit end (suc h) multiple xs ys some scaled p
 
@@ -68,12 +69,13 @@ module _ (speeds : List ℕ) (n : ℕ) (time : ℕ → ℕ) (left : List ℕ) (u
     holds k = subst (λ a. multiple ∣ a) (sym (amount-scaled (rate_at (at speeds) k) (IsRead-place (at speeds) k) multiple xs ys scaled)) (dvd-mul_right multiple (amount (rate_at (at speeds) k) xs))
 
     lengths : All (λ y. multiple ∣ y.length) ys
-    lengths = All-scaled (IsSegment (length speeds) n (at speeds) (suc h)) (λ y. multiple ∣ y.length) multiple xs ys (λ x y a q. subst (λ k. multiple ∣ k) (sym q.long) (dvd-mul_left multiple x.length)) scaled p.each
+    lengths = All-scaled (IsSegment (length speeds) n (at speeds) (suc h))
+        (λ y. multiple ∣ y.length) multiple xs ys (λ x y a q. subst (λ k. multiple ∣ k) (sym q.long) (dvd-mul_left multiple x.length)) scaled p.each
 
     pub IsWholeTape-start : IsWholeTape speeds multiple h [] ys
     IsWholeTape-start = record {
       before = 0;
-      marks = dvd-zero multiple;
+      divided = dvd-zero multiple;
       here = AreWhole-multiples multiple (rate_at (at speeds) h) 0 ys (dvd-zero multiple) lengths (places_divide speeds n multiple divides h ys scaled_plan.each h (omega arith));
       more = holds h;
       below = λ k l. AreWhole-multiples multiple (rate_at (at speeds) k) 0 ys (dvd-zero multiple) lengths (places_divide speeds n multiple divides h ys scaled_plan.each k (omega (arith, l)));

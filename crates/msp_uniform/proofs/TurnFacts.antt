@@ -8,7 +8,8 @@ use Rattle.msp_uniform.specs.Segments.{IsSegment, IsAbsent, rate_at, job_rate, a
 use Rattle.msp_uniform.proofs.SegmentFacts.{IsSegment-taken, rate_below, rate_above, own_rate, other_rate, still_absent}
 use Rattle.msp_uniform.proofs.LaidFacts.{All-firsts, All-seconds, amount-firsts, amount-seconds, gained-add}
 
-module _ (m n : ℕ) (speed : ℕ → ℕ) (g r job gap : ℕ) (xs fs ss : List Segment) (inside : suc r < suc (suc g)) (new : job < n) (each : All (IsSegment m n speed (suc (suc g))) xs) (absent : All (IsAbsent m job) xs) (laid : AreLaid true speed job r gap 0 xs fs ss) where
+module _ (m n : ℕ) (speed : ℕ → ℕ) (g r job gap : ℕ) (xs fs ss : List Segment) (inside : suc r < suc (suc g)) (new : job < n)
+    (each : All (IsSegment m n speed (suc (suc g))) xs) (absent : All (IsAbsent m job) xs) (laid : AreLaid true speed job r gap 0 xs fs ss) where
   abbrev Before : Segment → Type 0
   Before x = IsSegment m n speed (suc (suc g)) x × IsAbsent m job x
 
@@ -20,7 +21,8 @@ module _ (m n : ℕ) (speed : ℕ → ℕ) (g r job gap : ℕ) (xs fs ss : List 
 
   -- what is said of the segments
   pub segments_are : All (IsSegment m n speed (suc g)) (fs ++ ss)
-  segments_are = All-append (IsSegment m n speed (suc g)) fs ss (All-firsts Before (IsSegment m n speed (suc g)) lasts first laid.laid before) (All-seconds Before (IsSegment m n speed (suc g)) lasts second laid.laid before)
+  segments_are = All-append (IsSegment m n speed (suc g)) fs ss (All-firsts Before (IsSegment m n speed (suc g)) lasts first laid.laid before)
+      (All-seconds Before (IsSegment m n speed (suc g)) lasts second laid.laid before)
     where
       first : (x y : Segment) → Before x → IsFirst job r x y → 1 ≤ y.length → IsSegment m n speed (suc g) y
       first x y b t l = IsSegment-taken m n speed (suc g) r job y.length x y b.0 t in_first new b.1 l
@@ -50,10 +52,12 @@ module _ (m n : ℕ) (speed : ℕ → ℕ) (g r job gap : ℕ) (xs fs ss : List 
       lasts x b = b.0.0.lasts
 
   -- amounts
-  amounts : (f one two : Segment → ℕ) → ((x y : Segment) → Before x → IsFirst job r x y → f y ≡ one x) → ((x y : Segment) → Before x → IsSecond true job r x y → f y ≡ two x) → amount f (fs ++ ss) + gained two laid.parts xs ≡ gained one laid.parts xs + amount two xs
+  amounts : (f one two : Segment → ℕ) → ((x y : Segment) → Before x → IsFirst job r x y → f y ≡ one x)
+      → ((x y : Segment) → Before x → IsSecond true job r x y → f y ≡ two x) → amount f (fs ++ ss) + gained two laid.parts xs ≡ gained one laid.parts xs + amount two xs
   amounts f one two p q = omega (arith, sum_by-append (λ y. y.length * f y) fs ss, amount-firsts Before f one p laid.laid before, amount-seconds Before f two q laid.laid before)
 
-  same_amount : (f one : Segment → ℕ) → ((x y : Segment) → Before x → IsFirst job r x y → f y ≡ one x) → ((x y : Segment) → Before x → IsSecond true job r x y → f y ≡ one x) → amount f (fs ++ ss) ≡ amount one xs
+  same_amount : (f one : Segment → ℕ) → ((x y : Segment) → Before x → IsFirst job r x y → f y ≡ one x)
+      → ((x y : Segment) → Before x → IsSecond true job r x y → f y ≡ one x) → amount f (fs ++ ss) ≡ amount one xs
   same_amount f one p q = omega (arith, amounts f one one p q)
 
   pub whole_time : amount (λ _. 1) (fs ++ ss) ≡ amount (λ _. 1) xs

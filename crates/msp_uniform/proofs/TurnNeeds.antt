@@ -4,12 +4,20 @@ use Rattle.std.proofs.Math.Nat.{mul-le-mul_left}
 use Rattle.std.proofs.lemmas.List.Elements.{All-head, All-tail}
 use Rattle.msp_class.proofs.Sums.{sum_by-cons}
 use Rattle.msp_uniform.specs.declared.segments.Segment.{Segment}
-use Rattle.msp_uniform.specs.Segments.{at, IsSegment, rate_at, gain_at, amount, CanGain, StopsAt, IsDifference, AreScaled, HasPlaces}
+use Rattle.msp_uniform.specs.Segments.{at, IsSegment, rate_at, gain_at, amount, CanGain, StopsAt, IsDifference, AreScaled, HasPlaces, greatest_length}
 use Rattle.msp_uniform.proofs.ScaledFacts.{IsRead, amount-least, length-short, rates_short, CanGain-scaled, All-scaled, IsSegment-part}
 
 amount-add : (f g k : Segment → ℕ) (xs : List Segment) → All (λ x. f x ≡ g x + k x) xs → amount f xs ≡ amount g xs + amount k xs
 amount-add f g k [] h = refl
-amount-add f g k (x ∷ xs) h = omega (arith, sum_by-cons (λ y. y.length * f y) x xs, sum_by-cons (λ y. y.length * g y) x xs, sum_by-cons (λ y. y.length * k y) x xs, ap (λ v. x.length * v) (All-head (λ y. f y ≡ g y + k y) x xs h), amount-add f g k xs (All-tail (λ y. f y ≡ g y + k y) x xs h))
+amount-add f g k (x ∷ xs) h = omega (
+  arith,
+  sum_by-cons (λ y. y.length * f y) x xs,
+  sum_by-cons (λ y. y.length * g y) x xs,
+  sum_by-cons
+      (λ y. y.length * k y) x xs,
+  ap (λ v. x.length * v) (All-head (λ y. f y ≡ g y + k y) x xs h),
+  amount-add f g k xs (All-tail (λ y. f y ≡ g y + k y) x xs h),
+)
 
 pub difference_some : (speeds : List ℕ) (d : ℕ) → IsDifference speeds d → 1 ≤ d
 difference_some speeds d (inl e) = omega (arith, e)
@@ -33,13 +41,14 @@ module _ (speeds : List ℕ) (h n : ℕ) (xs : List Segment) (each : All (IsSegm
       by a b l = omega arith
 
   pub gain_enough : (r work next : ℕ) → r + 1 < h → work ≤ amount (rate_at (at speeds) r) xs → next ≡ amount (rate_at (at speeds) (r + 1)) xs → work - next ≤ amount (gain_at true (at speeds) r) xs
-  gain_enough r work next l m e = omega (arith, m, e, subst (λ k. amount (rate_at (at speeds) r) xs ≡ amount (rate_at (at speeds) k) xs + amount (gain_at true (at speeds) r) xs) (one r) (gain_whole r (omega (arith, l))))
+  gain_enough r work next l m e = omega
+      (arith, m, e, subst (λ k. amount (rate_at (at speeds) r) xs ≡ amount (rate_at (at speeds) k) xs + amount (gain_at true (at speeds) r) xs) (one r) (gain_whole r (omega (arith, l))))
     where
       one : (r : ℕ) → suc r ≡ r + 1
       one r = omega arith
 
-  module _ (d : ℕ) (short : amount (λ _. 1) xs * d ≤ 10000000000000000000000000) where
-    pub lengths_short : All (λ x. x.length * d ≤ 10000000000000000000000000) xs
+  module _ (d : ℕ) (short : amount (λ _. 1) xs * d ≤ greatest_length) where
+    pub lengths_short : All (λ x. x.length * d ≤ greatest_length) xs
     lengths_short k e l = omega (arith, short, mul-le-mul_left d (length-short xs k e l))
 
     module _ (ys : List Segment) (some : 1 ≤ d) (scaled : AreScaled d xs ys) where
@@ -47,14 +56,15 @@ module _ (speeds : List ℕ) (h n : ℕ) (xs : List Segment) (each : All (IsSegm
       fine_machines = All-scaled (IsSegment (length speeds) n (at speeds) h) (λ x. length x.body.value.jobs ≡ length speeds) d xs ys (λ x y s p. ap length p.jobs ∙ s.all) scaled each
 
       pub fine_places : (r : ℕ) → r + 1 < h → All (HasPlaces (length speeds) true r) ys
-      fine_places r l = All-scaled (IsSegment (length speeds) n (at speeds) h) (HasPlaces (length speeds) true r) d xs ys (λ x y s p. has_both r (omega (arith, l)) y (IsSegment-part (length speeds) n (at speeds) h (x.length * d) x y p (positive x.length d s.lasts some) s)) scaled each
+      fine_places r l = All-scaled (IsSegment (length speeds) n (at speeds) h) (HasPlaces (length speeds) true r) d xs ys
+          (λ x y s p. has_both r (omega (arith, l)) y (IsSegment-part (length speeds) n (at speeds) h (x.length * d) x y p (positive x.length d s.lasts some) s)) scaled each
         where
           positive : (a b : ℕ) → 1 ≤ a → 1 ≤ b → 1 ≤ a * b
           positive zero b l k = absurd (omega arith)
           positive (suc a) b l k = omega (arith, k)
 
-      pub fine_short : All (λ x. x.length ≤ 10000000000000000000000000) ys
-      fine_short = All-scaled (λ x. x.length * d ≤ 10000000000000000000000000) (λ x. x.length ≤ 10000000000000000000000000) d xs ys (λ x y s p. omega (arith, p.long, s)) scaled lengths_short
+      pub fine_short : All (λ x. x.length ≤ greatest_length) ys
+      fine_short = All-scaled (λ x. x.length * d ≤ greatest_length) (λ x. x.length ≤ greatest_length) d xs ys (λ x y s p. omega (arith, p.long, s)) scaled lengths_short
 
       pub fine_gains : (r gain : ℕ) → StopsAt (gain_at true (at speeds) r) gain xs d → CanGain (gain_at true (at speeds) r) (gain * d) ys
       fine_gains r gain s = CanGain-scaled (gain_at true (at speeds) r) reads d gain xs ys some s scaled
@@ -62,9 +72,11 @@ module _ (speeds : List ℕ) (h n : ℕ) (xs : List Segment) (each : All (IsSegm
           reads : IsRead (gain_at true (at speeds) r)
           reads k x y p = ap (λ l. at speeds (at l r) - at speeds (at l (suc r))) p.free
 
-pub gain_short : (speeds : List ℕ) (h n : ℕ) (xs : List Segment) (work next d : ℕ) → All (IsSegment (length speeds) n (at speeds) h) xs → 2 ≤ h → All (λ s. s ≤ 1000000) speeds → amount (λ _. 1) xs ≤ 10000000000000000000000000 → work ≤ amount (rate_at (at speeds) 0) xs → d ≤ 1000000 → (work - next) * d ≤ 10000000000000000000000000000000000000
+pub gain_short : (speeds : List ℕ) (h n : ℕ) (xs : List Segment) (work next d : ℕ) → All (IsSegment (length speeds) n (at speeds) h) xs → 2 ≤ h → All (λ s. s ≤ 1000000) speeds
+    → amount (λ _. 1) xs ≤ greatest_length → work ≤ amount (rate_at (at speeds) 0) xs → d ≤ 1000000 → (work - next) * d ≤ 10000000000000000000000000000000000000
 gain_short speeds h n xs work next d each some small t l m =
-    let most : amount (rate_at (at speeds) 0) xs ≤ amount (λ _. 1) xs * 1000000 = amount-least (rate_at (at speeds) 0) 1000000 xs (rates_short speeds 1000000 0 xs small (has_places speeds h n xs each 0 (omega (arith, some)))) in
+    let most : amount (rate_at (at speeds) 0) xs ≤ amount (λ _. 1) xs * 1000000 =
+    amount-least (rate_at (at speeds) 0) 1000000 xs (rates_short speeds 1000000 0 xs small (has_places speeds h n xs each 0 (omega (arith, some)))) in
     by (work - next) d (omega (arith, l, most, t)) m
   where
     by : (a b : ℕ) → a ≤ 10000000000000000000000000000000 → b ≤ 1000000 → a * b ≤ 10000000000000000000000000000000000000

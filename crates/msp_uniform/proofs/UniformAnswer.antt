@@ -1,10 +1,12 @@
 -- The schedule of filled segments is best, within the bounds, and costs the greatest quotient.
-use Rattle.std.proofs.Common.{◌≡◌, ℕ, zero, suc, ◌*◌, ◌<◌, ◌≤◌, ◌⊎◌, inl, inr, List, length, take, get_or, ℤ, pos, ◌*ℤ◌, ◌≤ℤ◌, All, sum_by, IsPermutation, refl, sym, ap, subst, subst₂, ◌∙◌, arith}
+use Rattle.std.proofs.Common.{◌+◌, ◌≡◌, ℕ, zero, suc, ◌*◌, ◌<◌, ◌≤◌, ◌⊎◌, inl, inr, List, length, take, get_or, ℤ, pos, ◌*ℤ◌, ◌≤ℤ◌, All, sum_by, IsPermutation, refl, sym, ap}
+use Rattle.std.proofs.Common.{subst, subst₂, ◌∙◌, arith}
 use Rattle.std.proofs.lemmas.Int.{ints}
 use Rattle.std.proofs.Math.Nat.{mul-le-mul_left, eq_of_mul-eq-mul_right}
 use Rattle.std.proofs.lemmas.List.{get_or-map, length-map}
 use Rattle.std.proofs.lemmas.List.Elements.{All-take}
 use Rattle.std.proofs.lemmas.List.Sorted.{All-permutation, length_permutation}
+use Rattle.msp_class.specs.declared.sizes.TheConstants.{MOST_JOBS, MOST_MACHINES, MOST_PIECES, GREATEST}
 use native.Mathlib.Nat.{le_of_mul-le-mul_left}
 use Rattle.msp_class.specs.Env.{kind_of}
 use Rattle.msp_class.specs.declared.environments.EnvKind.{EnvKind}
@@ -21,7 +23,7 @@ use Rattle.msp_schedule.specs.Piece.{finish, IsTimed}
 use Rattle.msp_schedule.specs.Feasible.{Feasible}
 use Rattle.msp_schedule.specs.Fraction.{IsOver}
 use Rattle.msp_schedule.specs.Cost.{cost_of, Best}
-use Rattle.msp_schedule.specs.Rows.{time_at}
+use Rattle.msp_schedule.specs.BackToBack.{time_at}
 use Rattle.msp_schedule.specs.Speeds.{speed_of, speed_by}
 use Rattle.msp_schedule.specs.Within.{Within, IsMoment, IsUnit}
 use Rattle.msp_route.specs.Bounds.{IsAnswer, answer_unit}
@@ -29,6 +31,7 @@ use Rattle.msp_route.specs.declared.bounds.TheConstants.{GREATEST_ANSWER_MOMENT}
 use Rattle.msp_schedule.proofs.costs.Charges.{cost-same_ends, SameCharges-from_jobs}
 use Rattle.msp_schedule.proofs.lists.Permuted.{Feasible-permutation, last_end-permutation}
 use Rattle.msp_schedule.proofs.feasible.OfClass.{IsOfClass, IsOfClass-from}
+use Rattle.msp_uniform.specs.declared.unit.TheConstants.{GREATEST_PRODUCT}
 use Rattle.msp_uniform.specs.declared.segments.Segment.{Segment}
 use Rattle.msp_uniform.specs.declared.task.Task.{Task}
 use Rattle.msp_uniform.specs.Uniform.{cut_class, IsByFalling, IsUniformCost, work, speed}
@@ -36,9 +39,9 @@ use Rattle.msp_uniform.specs.Segments.{at, job_rate, amount}
 use Rattle.msp_uniform.specs.Runs.{IsSliceOf}
 use Rattle.msp_uniform.specs.Plans.{IsFilled}
 use Rattle.msp_uniform.specs.Answers.{IsTaskOf, IsCutPlan}
-use Rattle.msp_uniform.proofs.RowFacts.{long, IsRowOf, slices_in_row, row_few}
+use Rattle.msp_uniform.proofs.SegmentPieces.{long, LieApart, runs_lie_apart, few_runs}
 use Rattle.msp_uniform.proofs.LeastEnd.{law_of_least_end, order_within, order_length}
-use Rattle.msp_uniform.proofs.UniformBest.{row_schedule, row_is_best, row_costs}
+use Rattle.msp_uniform.proofs.UniformBest.{cut_schedule, cut_is_best, cut_costs}
 
 not_unrelated : (e : EnvKind) → e ≡ Uniform → e ≡ Unrelated → ⊥
 not_unrelated e p q = uniform_not (sym p ∙ q)
@@ -69,7 +72,8 @@ over_natural x unit e some q =
     nothing : (u : ℕ) → u * 0 ≤ e
     nothing u = omega arith
 
-module _ (i : Instance) (class : i.class ≡ cut_class) (inner : Inner i) (t : Task) (jobs machines : List ℕ) (k : IsTaskOf i t jobs machines) (unit : ℕ) (xs : List Segment) (f : IsFilled t unit xs) where
+module _ (i : Instance) (class : i.class ≡ cut_class)
+    (inner : Inner i) (t : Task) (jobs machines : List ℕ) (k : IsTaskOf i t jobs machines) (unit : ℕ) (xs : List Segment) (f : IsFilled t unit xs) where
   pub h : IsOfClass i cut_class
   h = IsOfClass-from i cut_class class inner
 
@@ -109,9 +113,12 @@ module _ (i : Instance) (class : i.class ≡ cut_class) (inner : Inner i) (t : T
       read : (w v : ℕ) (ws vs : ℕ) → t.work ≡ w → t.speed ≡ v → w ≡ ws → v ≡ vs → (pos ws *ℤ s.unit) ≤ℤ (cost_of i s *ℤ pos vs) → (pos t.work *ℤ s.unit) ≤ℤ (cost_of i s *ℤ pos t.speed)
       read w v ws vs a b c d l = subst₂ (λ x y. (pos x *ℤ s.unit) ≤ℤ (cost_of i s *ℤ pos y)) (sym (a ∙ c)) (sym (b ∙ d)) l
 
-      by : ((t.work ≡ sum_by (at t.times.items) jobs) × (t.speed ≡ sum_by (at t.speeds.items) machines)) ⊎ ((q : ℕ) × (1 ≤ q) × (q < length machines) × (q ≤ length jobs) × (t.work ≡ sum_by (at t.times.items) (take q jobs)) × (t.speed ≡ sum_by (at t.speeds.items) (take q machines))) → (pos t.work *ℤ s.unit) ≤ℤ (cost_of i s *ℤ pos t.speed)
+      by : ((t.work ≡ sum_by (at t.times.items) jobs) × (t.speed ≡ sum_by (at t.speeds.items) machines))
+          ⊎ ((q : ℕ) × (1 ≤ q) × (q < length machines) × (q ≤ length jobs) × (t.work ≡ sum_by (at t.times.items) (take q jobs)) × (t.speed ≡ sum_by (at t.speeds.items) (take q machines)))
+          → (pos t.work *ℤ s.unit) ≤ℤ (cost_of i s *ℤ pos t.speed)
       by (inl (a, b)) = read _ _ _ _ a b (work_is jobs all_in) (total_speed machines) (law_of_least_end.total i class s e h.some jobs machines by_time by_speed)
-      by (inr (q, some, l, m, a, b)) = read _ _ _ _ a b (first_work q) (total_speed (take q machines)) (law_of_least_end.firsts i class s e h.some jobs machines by_time by_speed q (omega (arith, l, order_length i.machines (speed_of i) machines by_speed)) (omega (arith, m, order_length (length i.jobs) (time_at i) jobs by_time)))
+      by (inr (q, some, l, m, a, b)) = read _ _ _ _ a b (first_work q) (total_speed (take q machines)) (law_of_least_end.firsts i class s e h.some jobs machines by_time by_speed q
+          (omega (arith, l, order_length i.machines (speed_of i) machines by_speed)) (omega (arith, m, order_length (length i.jobs) (time_at i) jobs by_time)))
 
   pub slices : All (λ x. IsSliceOf i.machines (length i.jobs) x.length x.body.value.jobs) xs
   slices = subst₂ (λ m n. All (λ x. IsSliceOf m n x.length x.body.value.jobs) xs) many_machines many_jobs f.slices
@@ -123,34 +130,34 @@ module _ (i : Instance) (class : i.class ≡ cut_class) (inner : Inner i) (t : T
   done j l = subst₂ (λ m sp. amount (job_rate m (at sp) j) xs ≡ unit * time_at i j) many_machines k.speeds (f.done j (omega (arith, l, many_jobs)) ∙ ap (λ x. unit * x) (time_is j l))
 
   abbrev made : Schedule
-  made = row_schedule i h unit f.end xs f.within.some slices whole done
+  made = cut_schedule i h unit f.end xs f.within.some slices whole done
 
   best : Best i made
-  best = row_is_best i h unit f.end xs f.within.some slices whole done t.work t.speed k.asked.greatest.some f.within.least law
+  best = cut_is_best i h unit f.end xs f.within.some slices whole done t.work t.speed k.asked.greatest.some f.within.least law
 
   costs : cost_of i made ≡ pos f.end
-  costs = row_costs i h unit f.end xs f.within.some slices whole done t.work t.speed k.asked.greatest.some f.within.least law
+  costs = cut_costs i h unit f.end xs f.within.some slices whole done t.work t.speed k.asked.greatest.some f.within.least law
 
-  short : f.end ≤ 4000000000000000000000000
+  short : f.end ≤ GREATEST_PRODUCT * (MOST_JOBS * GREATEST)
   short = omega (arith, f.within.short, f.within.small)
 
-  row : IsRowOf i.machines (length i.jobs) i.machines (sum_by long xs) made.pieces
-  row = slices_in_row i.machines (length i.jobs) xs slices
+  pieces_lie : LieApart i.machines (length i.jobs) i.machines (sum_by long xs) made.pieces
+  pieces_lie = runs_lie_apart i.machines (length i.jobs) xs slices
 
-  few : length made.pieces ≤ 500000
-  few = by (length xs) i.machines (row_few i.machines (length i.jobs) xs slices i.machines (omega arith)) f.few h.machines
+  few : length made.pieces ≤ MOST_PIECES
+  few = by (length xs) i.machines (few_runs i.machines (length i.jobs) xs slices i.machines (omega arith)) f.few h.machines
     where
-      by : (a b : ℕ) → length made.pieces ≤ b * suc a → a ≤ 832 → b ≤ 32 → length made.pieces ≤ 500000
+      by : (a b : ℕ) → length made.pieces ≤ b * suc a → a ≤ 2 * MOST_JOBS + MOST_MACHINES → b ≤ MOST_MACHINES → length made.pieces ≤ MOST_PIECES
       by a b l p q = omega (arith, l, mul-le-mul_left b (more a p), q)
         where
-          more : (a : ℕ) → a ≤ 832 → suc a ≤ 833
+          more : (a : ℕ) → a ≤ 2 * MOST_JOBS + MOST_MACHINES → suc a ≤ suc (2 * MOST_JOBS + MOST_MACHINES)
           more a p = omega (arith, p)
 
   ends : All (λ p. finish p ≤ f.end) made.pieces
-  ends a d l = omega (arith, row.lies a d l, whole)
+  ends a d l = omega (arith, pieces_lie.lies a d l, whole)
 
   moments : All (λ p. IsMoment p.from × IsMoment p.to) made.pieces
-  moments a d l = by (get_or made.pieces a d) (row.timed a d l) (ends a d l)
+  moments a d l = by (get_or made.pieces a d) (pieces_lie.timed a d l) (ends a d l)
     where
       by : (p : Piece) → IsTimed p → finish p ≤ f.end → IsMoment p.from × IsMoment p.to
       by p q m = ((omega (arith, ints, q.from), omega (arith, ints, q.from, q.lasts, m, short)), (omega (arith, ints, q.to), omega (arith, ints, q.to, m, short)))
@@ -189,14 +196,23 @@ module _ (i : Instance) (class : i.class ≡ cut_class) (inner : Inner i) (t : T
         by_time = by_time;
         by_speed = by_speed;
         total = after (work i jobs) (speed i machines) (subst₂ (λ w v. w * t.speed ≤ t.work * v) (work_is jobs all_in) (total_speed machines) k.asked.greatest.total);
-        firsts = λ q l m. after (work i (take q jobs)) (speed i (take q machines)) (subst₂ (λ w v. w * t.speed ≤ t.work * v) (first_work q) (total_speed (take q machines)) (k.asked.greatest.firsts q (omega (arith, l, order_length i.machines (speed_of i) machines by_speed)) (omega (arith, m, order_length (length i.jobs) (time_at i) jobs by_time))));
+        firsts = λ q l m. after (work i (take q jobs)) (speed i (take q machines)) (subst₂ (λ w v. w * t.speed ≤ t.work * v) (first_work q) (total_speed (take q machines))
+            (k.asked.greatest.firsts q (omega (arith, l, order_length i.machines (speed_of i) machines by_speed)) (omega (arith, m, order_length (length i.jobs) (time_at i) jobs by_time))));
         reached = by k.asked.greatest.reached;
       }
         where
-          by : ((t.work ≡ sum_by (at t.times.items) jobs) × (t.speed ≡ sum_by (at t.speeds.items) machines)) ⊎ ((q : ℕ) × (1 ≤ q) × (q < length machines) × (q ≤ length jobs) × (t.work ≡ sum_by (at t.times.items) (take q jobs)) × (t.speed ≡ sum_by (at t.speeds.items) (take q machines)))
-              → IsOver c (pos (work i jobs)) (pos (speed i machines)) ⊎ ((q : ℕ) × (1 ≤ q) × (q < i.machines) × (q ≤ length i.jobs) × IsOver c (pos (work i (take q jobs))) (pos (speed i (take q machines))))
+          by : ((t.work ≡ sum_by (at t.times.items) jobs) × (t.speed ≡ sum_by (at t.speeds.items) machines))
+              ⊎ ((q : ℕ) × (1 ≤ q) × (q < length machines) × (q ≤ length jobs) × (t.work ≡ sum_by (at t.times.items) (take q jobs)) × (t.speed ≡ sum_by (at t.speeds.items) (take q machines)))
+              → IsOver c (pos (work i jobs)) (pos (speed i machines))
+              ⊎ ((q : ℕ) × (1 ≤ q) × (q < i.machines) × (q ≤ length i.jobs) × IsOver c (pos (work i (take q jobs))) (pos (speed i (take q machines))))
           by (inl (a, b)) = inl (over_quotient _ _ (a ∙ work_is jobs all_in) (b ∙ total_speed machines))
-          by (inr (q, some, l, m, a, b)) = inr (q, some, omega (arith, l, order_length i.machines (speed_of i) machines by_speed), omega (arith, m, order_length (length i.jobs) (time_at i) jobs by_time), over_quotient _ _ (a ∙ first_work q) (b ∙ total_speed (take q machines)))
+          by (inr (q, some, l, m, a, b)) = inr (
+            q,
+            some,
+            omega (arith, l, order_length i.machines (speed_of i) machines by_speed),
+            omega (arith, m, order_length (length i.jobs) (time_at i) jobs by_time),
+            over_quotient _ _ (a ∙ first_work q) (b ∙ total_speed (take q machines)),
+          )
 
     made_cost : IsUniformCost i c
     made_cost =
@@ -216,7 +232,7 @@ module _ (i : Instance) (class : i.class ≡ cut_class) (inner : Inner i) (t : T
     answer = record {
       few = few;
       unit = subst (λ e. pos unit ≤ℤ answer_unit e) (sym h.kind) (omega (arith, ints, f.within.small));
-      ends = λ a d l. omega (arith, ints, (row.timed a d l).to, ends a d l, short);
+      ends = λ a d l. omega (arith, ints, (pieces_lie.timed a d l).to, ends a d l, short);
     };
     cost = made_cost;
   }

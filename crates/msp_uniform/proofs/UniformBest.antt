@@ -1,5 +1,6 @@
--- Segments in a row as a schedule on uniform machines: it is feasible, and best where its end is a least end.
-use Rattle.std.proofs.Common.{◌≡◌, ℕ, ◌*◌, ◌<◌, ◌≤◌, Bool, cond, eqb, List, [], ◌∷◌, length, get_or, filter, map, ℤ, pos, nat_abs, ◌*ℤ◌, ◌≤ℤ◌, All, sum_by, MatchBool, sym, ap, subst, subst₂, ◌∙◌, arith}
+-- Segments one after another as a schedule on uniform machines: it is feasible, and best where its end is a least end.
+use Rattle.std.proofs.Common.{◌≡◌, ℕ, ◌*◌, ◌<◌, ◌≤◌, Bool, cond, eqb, List, [], ◌∷◌, length, get_or, filter, map, ℤ, pos, nat_abs, ◌*ℤ◌, ◌≤ℤ◌, All, sum_by, MatchBool, sym, ap}
+use Rattle.std.proofs.Common.{subst, subst₂, ◌∙◌, arith}
 use Rattle.std.proofs.lemmas.Bool.{ne_eqb}
 use Rattle.std.proofs.lemmas.Int.{ints}
 use Rattle.std.proofs.Math.Nat.{mul-le-mul_left}
@@ -19,7 +20,7 @@ use Rattle.msp_schedule.specs.Piece.{pieces_of, IsBefore, start, finish, IsTimed
 use Rattle.msp_schedule.specs.Intervals.{size_of}
 use Rattle.msp_schedule.specs.Feasible.{Feasible, HasPlace, HasOperation, MayRun, FollowsRoute, GetsWork, IsWholeWork, total, whole_work, work_of as part_of}
 use Rattle.msp_schedule.specs.Cost.{cost_of, Best}
-use Rattle.msp_schedule.specs.Rows.{time_at}
+use Rattle.msp_schedule.specs.BackToBack.{time_at}
 use Rattle.msp_schedule.proofs.feasible.OfClass.{IsOfClass}
 use Rattle.msp_schedule.proofs.feasible.OneMachine.{apart_in_int, pieces_of-job}
 use Rattle.msp_schedule.proofs.bounds.SpeedBound.{size_share, total_shares}
@@ -28,33 +29,35 @@ use Rattle.msp_uniform.specs.declared.segments.Segment.{Segment}
 use Rattle.msp_uniform.specs.Uniform.{cut_class}
 use Rattle.msp_uniform.specs.Segments.{at, job_rate, amount}
 use Rattle.msp_uniform.specs.Runs.{runs, IsSliceOf}
-use Rattle.msp_uniform.proofs.RowFacts.{long, IsRowOf, slices_in_row, work_in_row}
+use Rattle.msp_uniform.proofs.SegmentPieces.{long, LieApart, runs_lie_apart, work_of_runs}
 
-module _ (i : Instance) (h : IsOfClass i cut_class) (unit end : ℕ) (xs : List Segment) (some : 1 ≤ unit) (slices : All (λ x. IsSliceOf i.machines (length i.jobs) x.length x.body.value.jobs) xs) (whole : sum_by (λ x. x.length) xs ≡ end) (done : (j : ℕ) → j < length i.jobs → amount (job_rate i.machines (at i.speeds) j) xs ≡ unit * time_at i j) where
+module _ (i : Instance) (h : IsOfClass i cut_class) (unit end : ℕ) (xs : List Segment) (some : 1 ≤ unit) (slices : All (λ x. IsSliceOf i.machines (length i.jobs) x.length x.body.value.jobs) xs)
+    (whole : sum_by (λ x. x.length) xs ≡ end) (done : (j : ℕ) → j < length i.jobs → amount (job_rate i.machines (at i.speeds) j) xs ≡ unit * time_at i j) where
   abbrev ps : List Piece
   ps = runs (length i.jobs) xs i.machines
 
-  abbrev pub row_schedule : Schedule
-  row_schedule = record { unit = pos unit; pieces = ps }
+  abbrev pub cut_schedule : Schedule
+  cut_schedule = record { unit = pos unit; pieces = ps }
 
-  row : IsRowOf i.machines (length i.jobs) i.machines (sum_by long xs) ps
-  row = slices_in_row i.machines (length i.jobs) xs slices
+  pieces_lie : LieApart i.machines (length i.jobs) i.machines (sum_by long xs) ps
+  pieces_lie = runs_lie_apart i.machines (length i.jobs) xs slices
 
   places : All (HasPlace i) ps
   places k d l = record {
-    job = (row.places k d l).0;
-    operation = subst (λ x. HasOperation x i (get_or ps k d).job (get_or ps k d).op) (sym h.kind) (row.places k d l).2;
-    machine = subst (λ x. MayRun x i (get_or ps k d).job (get_or ps k d).op (get_or ps k d).machine) (sym h.kind) (row.places k d l).1;
+    job = (pieces_lie.places k d l).0;
+    operation = subst (λ x. HasOperation x i (get_or ps k d).job (get_or ps k d).op) (sym h.kind) (pieces_lie.places k d l).2;
+    machine = subst (λ x. MayRun x i (get_or ps k d).job (get_or ps k d).op (get_or ps k d).machine) (sym h.kind) (pieces_lie.places k d l).1;
   }
 
   released : All (λ p. (pos unit *ℤ pos (job_at i p.job).release) ≤ℤ p.from) ps
-  released k d l = by (get_or ps k d).from _ unit (job_at i (get_or ps k d).job).release (row.timed k d l).from (h.jobs (get_or ps k d).job no_job (row.places k d l).0).release
+  released k d l = by (get_or ps k d).from _ unit (job_at i (get_or ps k d).job).release (pieces_lie.timed k d l).from (h.jobs (get_or ps k d).job no_job (pieces_lie.places k d l).0).release
     where
       by : (x : ℤ) (n m r : ℕ) → x ≡ pos n → r ≡ 0 → (pos m *ℤ pos r) ≤ℤ x
       by x n m r e z = subst (λ y. (pos m *ℤ pos y) ≤ℤ x) (sym z) (omega (arith, ints, e))
 
   no_arcs : All (λ a. All (λ p. All (λ r. p.job ≡ a.before → r.job ≡ a.after → IsBefore p r) ps) ps) i.arcs
-  no_arcs = subst (λ arcs. All (λ a. All (λ p. All (λ r. p.job ≡ a.before → r.job ≡ a.after → IsBefore p r) ps) ps) arcs) (sym h.arcs) (All-nil (λ (a : Arc). All (λ p. All (λ r. p.job ≡ a.before → r.job ≡ a.after → IsBefore p r) ps) ps))
+  no_arcs = subst (λ arcs. All (λ a. All (λ p. All (λ r. p.job ≡ a.before → r.job ≡ a.after → IsBefore p r) ps) ps) arcs)
+      (sym h.arcs) (All-nil (λ (a : Arc). All (λ p. All (λ r. p.job ≡ a.before → r.job ≡ a.after → IsBefore p r) ps) ps))
 
   module _ (j : ℕ) (small : j < length i.jobs) where
     abbrev value : ℕ → ℕ → ℕ
@@ -67,38 +70,39 @@ module _ (i : Instance) (h : IsOfClass i cut_class) (unit end : ℕ) (xs : List 
     work_is =
         sum_by-filter (size_share rate) (λ p. eqb p.job j) ps
         ∙ sum_by-agree _ _ ps (λ p. cond-scale (eqb p.job j) (size_of start finish p) (rate p))
-        ∙ work_in_row i.machines (length i.jobs) xs slices value (λ k. ap (λ b. cond b (at i.speeds k) 0) (ne_eqb (length i.jobs) j (λ e. absurd (omega (arith, e, small)))))
+        ∙ work_of_runs i.machines (length i.jobs) xs slices value (λ k. ap (λ b. cond b (at i.speeds k) 0) (ne_eqb (length i.jobs) j (λ e. absurd (omega (arith, e, small)))))
         ∙ done j small
 
-    adds_up : total (map (part_of Uniform i) (pieces_of row_schedule j 0)) ≡ pos unit *ℤ pos (time_at i j)
+    adds_up : total (map (part_of Uniform i) (pieces_of cut_schedule j 0)) ≡ pos unit *ℤ pos (time_at i j)
     adds_up =
-        ap (λ l. total (map (part_of Uniform i) l)) (pieces_of-job row_schedule j (λ k d l. (row.places k d l).2))
-        ∙ total_shares rate _ (All-filter (λ p. eqb p.job j) IsTimed ps row.timed)
+        ap (λ l. total (map (part_of Uniform i) l)) (pieces_of-job cut_schedule j (λ k d l. (pieces_lie.places k d l).2))
+        ∙ total_shares rate _ (All-filter (λ p. eqb p.job j) IsTimed ps pieces_lie.timed)
         ∙ ap pos work_is ∙ sym (pos-*ℤ-pos unit (time_at i j))
 
     abbrev Gets : EnvKind → ℕ → Bool → Type 0
-    Gets x n b = MatchBool b (total (map (part_of x i) (pieces_of row_schedule j n)) ≡ pos unit *ℤ pos (whole_work x i j n)) ((p : Piece) × (pieces_of row_schedule j n ≡ p ∷ []) × IsWholeWork x i (pos unit) p)
+    Gets x n b = MatchBool b (total (map (part_of x i) (pieces_of cut_schedule j n)) ≡ pos unit *ℤ pos (whole_work x i j n))
+        ((p : Piece) × (pieces_of cut_schedule j n ≡ p ∷ []) × IsWholeWork x i (pos unit) p)
 
-    gets_work : (n : ℕ) → HasOperation (kind_of i.class.env) i j n → GetsWork i row_schedule j n
+    gets_work : (n : ℕ) → HasOperation (kind_of i.class.env) i j n → GetsWork i cut_schedule j n
     gets_work n op =
         let zero_op : n ≡ 0 = subst (λ x. HasOperation x i j n) h.kind op in
         subst (λ x. Gets x n i.class.cut) (sym h.kind) (subst (λ z. Gets Uniform z i.class.cut) (sym zero_op) (subst (Gets Uniform 0) (sym h.cut) adds_up))
 
-  pub row_is_feasible : Feasible i row_schedule
-  row_is_feasible = record {
+  pub cut_is_feasible : Feasible i cut_schedule
+  cut_is_feasible = record {
     unit = omega (arith, ints, some);
-    span = λ k d l. let t = row.timed k d l in (omega (arith, ints, t.from), omega (arith, ints, t.from, t.to, t.lasts));
+    span = λ k d l. let t = pieces_lie.timed k d l in (omega (arith, ints, t.from), omega (arith, ints, t.from, t.to, t.lasts));
     place = places;
-    machine = λ a b d m k e. apart_in_int _ _ (row.timed a d (omega arith)) (row.timed b d k) (row.on_machines a b d m k e);
-    job = λ a b d m k e. apart_in_int _ _ (row.timed a d (omega arith)) (row.timed b d k) (row.on_jobs a b d m k e);
+    machine = λ a b d m k e. apart_in_int _ _ (pieces_lie.timed a d (omega arith)) (pieces_lie.timed b d k) (pieces_lie.on_machines a b d m k e);
+    job = λ a b d m k e. apart_in_int _ _ (pieces_lie.timed a d (omega arith)) (pieces_lie.timed b d k) (pieces_lie.on_jobs a b d m k e);
     release = released;
     arc = no_arcs;
     route = subst (λ x. FollowsRoute x ps) (sym h.kind) tt;
     work = λ j n l op. gets_work j l n op;
   }
 
-  upper : cost_of i row_schedule ≤ℤ pos end
-  upper = cost_by_ends i h.crit row_schedule h.some (pos end) (omega (arith, ints)) (λ k d l. omega (arith, ints, (row.timed k d l).to, row.lies k d l, whole))
+  upper : cost_of i cut_schedule ≤ℤ pos end
+  upper = cost_by_ends i h.crit cut_schedule h.some (pos end) (omega (arith, ints)) (λ k d l. omega (arith, ints, (pieces_lie.timed k d l).to, pieces_lie.lies k d l, whole))
 
   -- where the end is the work of some jobs over the speed of some machines, and no schedule ends before that
   module _ (w v : ℕ) (fast : 1 ≤ v) (reached : end * v ≡ w * unit) (law : (t : Schedule) → Feasible i t → (pos w *ℤ t.unit) ≤ℤ (cost_of i t *ℤ pos v)) where
@@ -114,11 +118,12 @@ module _ (i : Instance) (h : IsOfClass i cut_class) (unit end : ℕ) (xs : List 
             cancelled : (c n : ℕ) → w * n ≤ c * v → end * n ≤ c * unit
             cancelled c n l = le_of_mul-le-mul_left {k = v} (omega (arith, ap (λ k. k * n) reached, mul-le-mul_left unit l)) (omega (arith, fast))
 
-    pub row_costs : cost_of i row_schedule ≡ pos end
-    row_costs = ≤ℤ_antisym upper (by (cost_of i row_schedule) (nat_abs (cost_of i row_schedule)) (cost_natural i h.crit row_schedule h.some) (lower row_schedule row_is_feasible))
+    pub cut_costs : cost_of i cut_schedule ≡ pos end
+    cut_costs = ≤ℤ_antisym upper (by (cost_of i cut_schedule) (nat_abs (cost_of i cut_schedule)) (cost_natural i h.crit cut_schedule h.some) (lower cut_schedule cut_is_feasible))
       where
         by : (x : ℤ) (c : ℕ) → x ≡ pos c → (pos end *ℤ pos unit) ≤ℤ (x *ℤ pos unit) → pos end ≤ℤ x
-        by x c e l = subst (λ y. pos end ≤ℤ y) (sym e) (pos-le (le_of_mul-le-mul_left {k = unit} (omega (arith, le-pos (subst (λ y. (pos end *ℤ pos unit) ≤ℤ (y *ℤ pos unit)) e l))) (omega (arith, some))))
+        by x c e l = subst (λ y. pos end ≤ℤ y) (sym e)
+            (pos-le (le_of_mul-le-mul_left {k = unit} (omega (arith, le-pos (subst (λ y. (pos end *ℤ pos unit) ≤ℤ (y *ℤ pos unit)) e l))) (omega (arith, some))))
 
-    pub row_is_best : Best i row_schedule
-    row_is_best = record { feasible = row_is_feasible; least = λ t f. subst (λ x. (x *ℤ t.unit) ≤ℤ (cost_of i t *ℤ pos unit)) (sym row_costs) (lower t f) }
+    pub cut_is_best : Best i cut_schedule
+    cut_is_best = record { feasible = cut_is_feasible; least = λ t f. subst (λ x. (x *ℤ t.unit) ≤ℤ (cost_of i t *ℤ pos unit)) (sym cut_costs) (lower t f) }

@@ -4,6 +4,7 @@ use Rattle.std.specs.Int.{◌∣◌}
 use Rattle.std.proofs.Math.Nat.{le_trans, mul-le-mul_left, mul-le-mul, le-mul_of_pos_right, pow-le-pow_right, pow-suc, le_of_dvd, div-mul_cancel, dvd-mul_left}
 use Rattle.std.proofs.lemmas.Bool.{leb-true, le-leb, false≢true}
 use Rattle.msp_instance.specs.Multiples.{IsLeastOfAll}
+use Rattle.msp_uniform.specs.declared.unit.TheConstants.{GREATEST_PRODUCT}
 use Rattle.msp_uniform.specs.Uniform.{gap, sum, HaveSmallUnit}
 use Rattle.msp_uniform.proofs.Affordable.{gap_some}
 
@@ -14,19 +15,21 @@ multiple_least speeds multiple h n some c = le_of_dvd some (h.least n (λ k d l.
 -- ---- the answers
 module _ (speeds : List ℕ) (m : ℕ) where
   -- some first product is too great
-  pub too_great : (k : ℕ) → k ≤ m - 1 → 10000000000000 < sum speeds * gap speeds ^ k → IsTrue false ↔ HaveSmallUnit speeds m
+  pub too_great : (k : ℕ) → k ≤ m - 1 → GREATEST_PRODUCT < sum speeds * gap speeds ^ k → IsTrue false ↔ HaveSmallUnit speeds m
   too_great k l great = (λ e. absurd (false≢true e), λ w. absurd (by w.0 w.1 w.3))
     where
-      by : (n : ℕ) → 1 ≤ n → sum speeds * gap speeds ^ (m - 1) * n ≤ 10000000000000 → ⊥
+      by : (n : ℕ) → 1 ≤ n → sum speeds * gap speeds ^ (m - 1) * n ≤ GREATEST_PRODUCT → ⊥
       by n some small = absurd (omega (arith, great, small, le-mul_of_pos_right (sum speeds * gap speeds ^ (m - 1)) some, mul-le-mul_left (sum speeds) (pow-le-pow_right (gap_some speeds) l)))
 
-  pub decided : (product multiple : ℕ) (answer : Bool) → IsLeastOfAll speeds multiple → product ≡ sum speeds * gap speeds ^ (m - 1) → answer ≡ leb (product * multiple) 10000000000000 → IsTrue answer ↔ HaveSmallUnit speeds m
-  decided product multiple answer h e f = (λ y. (multiple, h.some, (λ k d l. (multiple / get_or speeds k d, sym (div-mul_cancel (get_or speeds k d) (h.common k d l)))), yes (leb-true _ _ (sym f ∙ y))), λ w. f ∙ no w)
+  pub decided : (product multiple : ℕ) (answer : Bool) → IsLeastOfAll speeds multiple
+      → product ≡ sum speeds * gap speeds ^ (m - 1) → answer ≡ leb (product * multiple) GREATEST_PRODUCT → IsTrue answer ↔ HaveSmallUnit speeds m
+  decided product multiple answer h e f =
+      (λ y. (multiple, h.some, (λ k d l. (multiple / get_or speeds k d, sym (div-mul_cancel (get_or speeds k d) (h.common k d l)))), yes (leb-true _ _ (sym f ∙ y))), λ w. f ∙ no w)
     where
-      yes : product * multiple ≤ 10000000000000 → sum speeds * gap speeds ^ (m - 1) * multiple ≤ 10000000000000
+      yes : product * multiple ≤ GREATEST_PRODUCT → sum speeds * gap speeds ^ (m - 1) * multiple ≤ GREATEST_PRODUCT
       yes l = omega (arith, l, ap (λ p. p * multiple) e)
 
-      no : HaveSmallUnit speeds m → leb (product * multiple) 10000000000000 ≡ true
+      no : HaveSmallUnit speeds m → leb (product * multiple) GREATEST_PRODUCT ≡ true
       no w = le-leb _ _ (le_trans (mul-le-mul (le_of e) (multiple_least speeds multiple h w.0 w.1 w.2)) w.3)
         where
           le_of : product ≡ sum speeds * gap speeds ^ (m - 1) → product ≤ sum speeds * gap speeds ^ (m - 1)

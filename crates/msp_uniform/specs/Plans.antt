@@ -2,14 +2,15 @@
 use Rattle.std.specs.Int.{◌∣◌}
 use Rattle.std.specs.Prelude.{◌≡◌, ◌≢◌, ℕ, ◌+◌, ◌*◌, ◌-◌, ◌^◌, ◌<◌, ◌≤◌, ◌⊎◌, List, ◌++◌, true, length, map, All, AllPairs, Contains, MatchBool, Bool, suc, false, [], ◌∷◌, replicate, sum_by}
 use Rattle.msp_class.specs.Sums.{total_below}
-use Rattle.msp_instance.specs.declared.ranges.TheConstants.{GREATEST, GREATEST_SPEED, MOST_JOBS, MOST_MACHINES}
+use Rattle.msp_class.specs.declared.sizes.TheConstants.{MOST_JOBS, MOST_MACHINES, GREATEST, GREATEST_SPEED}
+use Rattle.msp_uniform.specs.declared.unit.TheConstants.{GREATEST_PRODUCT}
 use Rattle.msp_uniform.specs.declared.segments.Segment.{Segment}
 use Rattle.msp_uniform.specs.declared.task.Task.{Task}
 use Rattle.msp_uniform.specs.Uniform.{gap, IsByFalling}
 use Rattle.msp_uniform.specs.Quotients.{IsGreatest}
 use Rattle.msp_uniform.specs.Prefixes.{DoFit}
 use Rattle.msp_uniform.specs.Runs.{IsSliceOf}
-use Rattle.msp_uniform.specs.Segments.{at, HasPlaces, CanGain, IsSegment, IsAbsent, rate_at, job_rate, amount, IsDifference, AreScaled, AreWhole, AreLaid}
+use Rattle.msp_uniform.specs.Segments.{at, HasPlaces, CanGain, IsSegment, IsAbsent, rate_at, job_rate, amount, IsDifference, AreScaled, AreWhole, AreLaid, greatest_length}
 
 -- The works of the jobs that are left, in order, and 0 after the last one.
 abbrev pub works : (ℕ → ℕ) → ℕ → List ℕ → ℕ → ℕ
@@ -26,10 +27,10 @@ pub record IsPlan (speeds : List ℕ) (n : ℕ) (time : ℕ → ℕ) (left : Lis
   pub apart : AllPairs (λ a b. a ≢ b) left
   pub inside : All (λ j. j < n) left
 
--- The unit stays within 10^13 though each place but one makes it finer by the gap of the speeds, and the end is at most 4 * 10^11 over it.
+-- The unit stays small though each place but one makes it finer by the gap of the speeds, and the end is at most MOST_JOBS * GREATEST over it.
 pub record IsAffordable (speeds : List ℕ) (finest unit end h : ℕ) : Type 0 where
-  pub unit_small : unit * gap speeds ^ (h - 1) * finest ≤ 10 ^ 13
-  pub end_small : end ≤ unit * (4 * 10 ^ 11)
+  pub unit_small : unit * gap speeds ^ (h - 1) * finest ≤ GREATEST_PRODUCT
+  pub end_small : end ≤ unit * (MOST_JOBS * GREATEST)
   pub some : 1 ≤ finest
 
 -- The job has taken a place as far as its work goes, and the next place for the rest, over a unit that is finer by the factor.
@@ -65,7 +66,7 @@ pub record IsTape (speeds : List ℕ) (n : ℕ) (time : ℕ → ℕ) (left : Lis
 -- of its speed there: so jobs whose works are multiples of all speeds end at whole moments.
 pub record IsWholeTape (speeds : List ℕ) (multiple h : ℕ) (early late : List Segment) : Type 0 where
   pub before : ℕ
-  pub marks : multiple ∣ before
+  pub divided : multiple ∣ before
   pub here : AreWhole (rate_at (at speeds) h) before late
   pub more : multiple ∣ amount (rate_at (at speeds) h) late
   pub below : (k : ℕ) → k < h → AreWhole (rate_at (at speeds) k) 0 (early ++ late)
@@ -91,7 +92,7 @@ pub record IsAsked (t : Task) (jobs machines : List ℕ) : Type 0 where
   pub greatest : IsGreatest (at t.times.items) (at t.speeds.items) jobs machines t.work t.speed
   pub some_jobs : 1 ≤ length t.times.items
   pub some_machines : 1 ≤ length t.speeds.items
-  pub small_unit : t.speed * gap t.speeds.items ^ (length t.speeds.items - 1) * t.multiple ≤ 10 ^ 13
+  pub small_unit : t.speed * gap t.speeds.items ^ (length t.speeds.items - 1) * t.multiple ≤ GREATEST_PRODUCT
   pub some : 1 ≤ t.multiple
 
 -- One segment up to the least end, in which all machines are free.
@@ -133,8 +134,8 @@ AreShort t left unit h xs = All (λ j. unit * at t.times.items j ≤ amount (rat
 -- What is laid ends within the limits.
 pub record IsWithin (t : Task) (unit end : ℕ) : Type 0 where
   pub some : 1 ≤ unit
-  pub small : unit ≤ 10 ^ 13
-  pub short : end ≤ unit * (4 * 10 ^ 11)
+  pub small : unit ≤ GREATEST_PRODUCT
+  pub short : end ≤ unit * (MOST_JOBS * GREATEST)
   pub least : IsLeast t unit end
 
 -- Some jobs are on the tape, and these are left.
@@ -159,7 +160,7 @@ pub record IsFilled (t : Task) (unit : ℕ) (xs : List Segment) : Type 0 where
 pub record CanBeLaid (speeds : List ℕ) (place gain : ℕ) (xs : List Segment) : Type 0 where
   pub machines : All (λ x. length x.body.value.jobs ≡ length speeds) xs
   pub places : All (HasPlaces (length speeds) false place) xs
-  pub short : All (λ x. x.length ≤ 10 ^ 25) xs
+  pub short : All (λ x. x.length ≤ greatest_length) xs
   pub gains : CanGain (rate_at (at speeds) place) gain xs
 
 -- The job is laid on the last place.

@@ -17,4 +17,5 @@ pub record IsGreatest (time speed : ℕ → ℕ) (jobs machines : List ℕ) (w v
   pub some : 1 ≤ v
   pub total : sum_by time jobs * v ≤ w * sum_by speed machines
   pub firsts : (k : ℕ) → k < length machines → k ≤ length jobs → sum_by time (take k jobs) * v ≤ w * sum_by speed (take k machines)
-  pub reached : ((w ≡ sum_by time jobs) × (v ≡ sum_by speed machines)) ⊎ ((k : ℕ) × (1 ≤ k) × (k < length machines) × (k ≤ length jobs) × (w ≡ sum_by time (take k jobs)) × (v ≡ sum_by speed (take k machines)))
+  pub reached : ((w ≡ sum_by time jobs) × (v ≡ sum_by speed machines))
+      ⊎ ((k : ℕ) × (1 ≤ k) × (k < length machines) × (k ≤ length jobs) × (w ≡ sum_by time (take k jobs)) × (v ≡ sum_by speed (take k machines)))

@@ -1,5 +1,6 @@
 -- Parts of the time, in each of which every machine has one job or is free. No public contract cites this file.
-use Rattle.std.specs.Prelude.{◌≡◌, ◌≢◌, ℕ, suc, ◌+◌, ◌-◌, ◌*◌, ◌<◌, ◌≤◌, ◌⊎◌, min, ◌==◌, ⊤, Bool, true, false, List, [], ◌∷◌, ◌++◌, length, map, take, drop, slice_index_or, slice_set, remove, All, sum_by, if◌then◌else◌}
+use Rattle.std.specs.Prelude.{◌≡◌, ◌≢◌, ℕ, suc, ◌+◌, ◌-◌, ◌*◌, ◌^◌, ◌<◌, ◌≤◌, ◌⊎◌, min, ◌==◌, ⊤, Bool, true, false, List, [], ◌∷◌, ◌++◌, length, map, take, drop, slice_index_or}
+use Rattle.std.specs.Prelude.{slice_set, remove, All, sum_by, if◌then◌else◌}
 use Rattle.std.specs.Int.{◌∣◌}
 use Rattle.std.specs.List.{AllZip}
 use Rattle.msp_class.specs.Sums.{total_below}
@@ -7,6 +8,10 @@ use Rattle.msp_uniform.specs.declared.segments.Segment.{Segment}
 
 abbrev pub at : List ℕ → ℕ → ℕ
 at xs k = slice_index_or xs k 0
+
+-- The most that segments last together.
+abbrev pub greatest_length : ℕ
+greatest_length = 10 ^ 25
 
 abbrev pub job_on : Segment → ℕ → ℕ
 job_on x m = at x.body.value.jobs m
@@ -61,9 +66,12 @@ pub record AreWorks (speed : ℕ → ℕ) (places : ℕ) (xs : List Segment) (wo
 -- numbers are the lengths of the first parts.
 pub data IsLaid (First Second : Segment → Segment → Type 0) : List ℕ → List Segment → List Segment → List Segment → Type 0 where
   none : IsLaid First Second [] [] [] []
-  first : {zs : List ℕ} {x a : Segment} {xs firsts seconds : List Segment} → First x a → a.length ≡ x.length → IsLaid First Second zs xs firsts seconds → IsLaid First Second (a.length ∷ zs) (x ∷ xs) (a ∷ firsts) seconds
-  second : {zs : List ℕ} {x b : Segment} {xs firsts seconds : List Segment} → Second x b → b.length ≡ x.length → IsLaid First Second zs xs firsts seconds → IsLaid First Second (0 ∷ zs) (x ∷ xs) firsts (b ∷ seconds)
-  both : {zs : List ℕ} {x a b : Segment} {xs firsts seconds : List Segment} → First x a → Second x b → 1 ≤ a.length → 1 ≤ b.length → a.length + b.length ≡ x.length → IsLaid First Second zs xs firsts seconds → IsLaid First Second (a.length ∷ zs) (x ∷ xs) (a ∷ firsts) (b ∷ seconds)
+  first : {zs : List ℕ} {x a : Segment} {xs firsts seconds : List Segment}
+      → First x a → a.length ≡ x.length → IsLaid First Second zs xs firsts seconds → IsLaid First Second (a.length ∷ zs) (x ∷ xs) (a ∷ firsts) seconds
+  second : {zs : List ℕ} {x b : Segment} {xs firsts seconds : List Segment}
+      → Second x b → b.length ≡ x.length → IsLaid First Second zs xs firsts seconds → IsLaid First Second (0 ∷ zs) (x ∷ xs) firsts (b ∷ seconds)
+  both : {zs : List ℕ} {x a b : Segment} {xs firsts seconds : List Segment} → First x a → Second x b → 1 ≤ a.length → 1 ≤ b.length
+      → a.length + b.length ≡ x.length → IsLaid First Second zs xs firsts seconds → IsLaid First Second (a.length ∷ zs) (x ∷ xs) (a ∷ firsts) (b ∷ seconds)
 
 -- The sum of what the first parts gain at a rate.
 abbrev pub gained : (Segment → ℕ) → List ℕ → List Segment → ℕ

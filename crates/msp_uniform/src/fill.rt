@@ -1,5 +1,6 @@
 // All jobs are laid: the longest ones over two places each, the others one after another.
 ghost use Rattle.std.specs.Prelude.{◌≡◌, ◌<◌, ◌≤◌, length as len, All, IfOk};
+ghost use Rattle.msp_class.specs.declared.sizes.TheConstants.{MOST_MACHINES};
 ghost use Rattle.msp_uniform.specs.Plans.{IsTask, IsAsked, IsFirstPlan, IsFilled};
 
 use crate::numbers::Numbers;
@@ -12,7 +13,7 @@ use std::alloc::Global;
 
 /// The numbers of all machines, as segments hold them.
 fn all_free(machines: &[u32]) -> Numbers
-    requires few { len machines.now ≤ 32 }
+    requires few { len machines.now ≤ MOST_MACHINES }
     requires small { All (λ m. m < 256) machines.now }
     ensures { result ≡ machines.now }
 {
@@ -26,7 +27,7 @@ fn all_free(machines: &[u32]) -> Numbers
 /// All machines are free up to the least end.
 fn first_plan(alloc: Global, task: &Task, machines: &[u32]) -> Result<Plan, NoMemory>
     requires task { IsTask task.now }
-    requires few { len machines.now ≤ 32 }
+    requires few { len machines.now ≤ MOST_MACHINES }
     requires small { All (λ m. m < 256) machines.now }
     ensures { IfOk result (λ p. IsFirstPlan task.now machines.now p.unit p.places p.segments.items) }
 {

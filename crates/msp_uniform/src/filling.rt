@@ -1,7 +1,7 @@
 // The longest job takes the two places that can do its work, and leaves one place of the two.
 ghost use Rattle.std.specs.Prelude.{ℕ, ◌-◌, ◌*◌, ◌<◌, ◌≤◌, ◌^◌, length as len, All, IfOk};
-ghost use Rattle.msp_instance.specs.declared.ranges.TheConstants.{GREATEST_SPEED};
-ghost use Rattle.msp_uniform.specs.Segments.{at, rate_at, amount, IsSegment, IsDifference};
+ghost use Rattle.msp_class.specs.declared.sizes.TheConstants.{GREATEST_SPEED};
+ghost use Rattle.msp_uniform.specs.Segments.{at, rate_at, amount, IsSegment, IsDifference, greatest_length};
 ghost use Rattle.msp_uniform.specs.Plans.{IsTurned};
 
 use crate::laying::{Parts, lay_over_all};
@@ -30,7 +30,7 @@ pub(crate) fn turn(
     requires some { 2 ≤ places }
     requires each { (n : ℕ) × All (IsSegment (len speeds.now) n (at speeds.now) places) segments.items }
     requires speeds { All (λ s. s ≤ GREATEST_SPEED) speeds.now }
-    requires short { (d : ℕ) → IsDifference speeds.now d → amount (λ _. 1) segments.items * d ≤ 10 ^ 25 }
+    requires short { (d : ℕ) → IsDifference speeds.now d → amount (λ _. 1) segments.items * d ≤ greatest_length }
     requires first { work ≤ amount (rate_at (at speeds.now) 0) segments.items }
     requires last { amount (rate_at (at speeds.now) (places - 1)) segments.items < work }
     ensures { IfOk result (λ t. IsTurned speeds.now places job work segments.items t.factor t.segments.items) }

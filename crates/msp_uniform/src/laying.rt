@@ -1,9 +1,9 @@
 // A job is laid over segments, one after another.
 ghost use Rattle.std.specs.Prelude.{◌≡◌, ◌+◌, ◌*◌, ◌<◌, ◌≤◌, ◌⊎◌, [], ◌∷◌, ◌^◌, true, false, min, length as len, All, IfOk, OnOk};
-ghost use Rattle.msp_instance.specs.declared.ranges.TheConstants.{GREATEST_SPEED};
+ghost use Rattle.msp_class.specs.declared.sizes.TheConstants.{MOST_MACHINES, GREATEST_SPEED};
 ghost use Rattle.std.specs.Int.{◌∣◌};
 ghost use Rattle.std.specs.Option.{option_to_list};
-ghost use Rattle.msp_uniform.specs.Segments.{at, rate_at, gain_at, CanGain, IsSecond, IsOneLaid, IsFirstLaid, AreLaid, HasPlaces};
+ghost use Rattle.msp_uniform.specs.Segments.{at, rate_at, gain_at, CanGain, IsSecond, IsOneLaid, IsFirstLaid, AreLaid, HasPlaces, greatest_length};
 ghost use Rattle.msp_uniform.specs.Plans.{CanBeLaid, IsLaidHere};
 
 use crate::segments::{Segment, lasting, taken, taken_of};
@@ -41,7 +41,7 @@ pub(crate) fn gain_of(speeds: &[u64], segment: &Segment, place: usize, swap: boo
     requires speeds { All (λ s. s ≤ GREATEST_SPEED) speeds.now }
     ensures value { result ≡ gain_at swap (at speeds.now) place segment.now }
     ensures small { result ≤ GREATEST_SPEED }
-    ensures inside { place < 32 }
+    ensures inside { place < MOST_MACHINES }
 {
     let rate = u128::from(speeds[usize::from(segment.body.free.at(place))]);
     if !swap {
@@ -53,7 +53,7 @@ pub(crate) fn gain_of(speeds: &[u64], segment: &Segment, place: usize, swap: boo
 /// The second part: the job goes on at the next place, or the segment stays as it is.
 fn second_of(segment: Segment, length: u128, job: u32, place: usize, swap: bool) -> Segment
     requires job { job < 2 ^ 16 }
-    requires inside { place < 32 }
+    requires inside { place < MOST_MACHINES }
     requires places { HasPlaces (len segment.body.value.jobs) swap place segment }
     ensures long { result.length ≡ length }
     ensures part { IsSecond swap job place segment result }
@@ -76,8 +76,9 @@ fn lay_one(
 ) -> Result<Laid, NoMemory>
     requires machines { len segment.body.value.jobs ≡ len seat.now.speeds.now }
     requires places { HasPlaces (len seat.now.speeds.now) swap seat.now.place segment }
-    requires short { segment.length ≤ 10 ^ 25 }
-    requires gains { (segment.length * gain_at swap (at seat.now.speeds.now) seat.now.place segment ≤ left) ⊎ ((left < segment.length * gain_at swap (at seat.now.speeds.now) seat.now.place segment) × (gain_at swap (at seat.now.speeds.now) seat.now.place segment ∣ left)) }
+    requires short { segment.length ≤ greatest_length }
+    requires gains { (segment.length * gain_at swap (at seat.now.speeds.now) seat.now.place segment ≤ left)
+        ⊎ ((left < segment.length * gain_at swap (at seat.now.speeds.now) seat.now.place segment) × (gain_at swap (at seat.now.speeds.now) seat.now.place segment ∣ left)) }
     ensures laid { IfOk result (λ laid. IsOneLaid swap (at seat.now.speeds.now) seat.now.job seat.now.place left laid.left segment first.old.items [] first.new.items (option_to_list laid.rest)) }
     ensures few { IfOk result (λ laid. len (option_to_list laid.rest) + min 1 laid.left ≤ 1) }
 {
@@ -113,7 +114,7 @@ fn lay_first(
 ) -> Result<u128, NoMemory>
     requires machines { len segment.body.value.jobs ≡ len seat.now.speeds.now }
     requires places { HasPlaces (len seat.now.speeds.now) false seat.now.place segment }
-    requires short { segment.length ≤ 10 ^ 25 }
+    requires short { segment.length ≤ greatest_length }
     requires gains { CanGain (rate_at (at seat.now.speeds.now) seat.now.place) left (segment ∷ late.old.items) }
     ensures { IfOk result (λ after. IsFirstLaid (at seat.now.speeds.now) seat.now.job seat.now.place left after segment early.old.items late.old.items early.new.items late.new.items) }
 {
@@ -173,9 +174,11 @@ fn lay_both(
 ) -> Result<u128, NoMemory>
     requires machines { len segment.body.value.jobs ≡ len seat.now.speeds.now }
     requires places { HasPlaces (len seat.now.speeds.now) true seat.now.place segment }
-    requires short { segment.length ≤ 10 ^ 25 }
-    requires gains { (segment.length * gain_at true (at seat.now.speeds.now) seat.now.place segment ≤ left) ⊎ ((left < segment.length * gain_at true (at seat.now.speeds.now) seat.now.place segment) × (gain_at true (at seat.now.speeds.now) seat.now.place segment ∣ left)) }
-    ensures { IfOk result (λ after. IsOneLaid true (at seat.now.speeds.now) seat.now.job seat.now.place left after segment parts.old.first.items parts.old.second.items parts.new.first.items parts.new.second.items) }
+    requires short { segment.length ≤ greatest_length }
+    requires gains { (segment.length * gain_at true (at seat.now.speeds.now) seat.now.place segment ≤ left)
+        ⊎ ((left < segment.length * gain_at true (at seat.now.speeds.now) seat.now.place segment) × (gain_at true (at seat.now.speeds.now) seat.now.place segment ∣ left)) }
+    ensures { IfOk result
+        (λ after. IsOneLaid true (at seat.now.speeds.now) seat.now.job seat.now.place left after segment parts.old.first.items parts.old.second.items parts.new.first.items parts.new.second.items) }
 {
     let laid = lay_one(alloc, &mut parts.first, seat, segment, true, left)?;
     let Laid { left: after, rest } = laid;
@@ -201,7 +204,7 @@ pub(crate) fn lay_over_all(
     requires machines { All (λ x. len x.body.value.jobs ≡ len speeds.now) segments.items }
     requires places { All (HasPlaces (len speeds.now) true place) segments.items }
     requires speeds { All (λ s. s ≤ GREATEST_SPEED) speeds.now }
-    requires short { All (λ x. x.length ≤ 10 ^ 25) segments.items }
+    requires short { All (λ x. x.length ≤ greatest_length) segments.items }
     requires gains { CanGain (gain_at true (at speeds.now) place) gain segments.items }
     ensures { IfOk result (λ p. AreLaid true (at speeds.now) job place gain 0 segments.items p.first.items p.second.items) }
 {

@@ -15,7 +15,7 @@
 //!
 //! In both loops (`proofs/PlanFacts.antt`, `PrefixFacts.antt`, `TapedFacts.antt`): each laid job has all its work and one machine at a
 //! time; for each k the k longest jobs that are left need no more than the first k places hold, and all of them no more than all places.
-//! Segments in a row are then the pieces (`pieces.rt`); `fill.rt` does all of it, and `unit.rt` says whether the unit stays small.
+//! Segments one after another are then the pieces (`pieces.rt`); `fill.rt` does all of it, and `unit.rt` says whether the unit stays small.
 //!
 //! Best (`proofs/UniformBest.antt`): no schedule ends before the least end (`proofs/LeastEnd.antt`, from `law_of_speeds` of
 //! `msp_schedule`).

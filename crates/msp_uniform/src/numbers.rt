@@ -1,11 +1,13 @@
 // A few small numbers in a field of one size.
 ghost use Rattle.std.specs.Prelude.{◌≡◌, ◌<◌, ◌≤◌, ◌++◌, ◌∷◌, [], length, remove, replicate, slice_set};
+ghost use Rattle.msp_class.specs.declared.sizes.TheConstants.{MOST_MACHINES};
 ghost use Rattle.msp_uniform.specs.Segments.{at};
 
+use msp_class::MOST_MACHINES;
 use std::marker::Model;
 
 /// So many numbers there may be: one for each machine.
-pub(crate) const MACHINES: usize = 32;
+pub(crate) const MACHINES: usize = MOST_MACHINES as usize;
 
 /// Numbers, at most as many as there may be machines. Contracts see them as their list.
 #[derive(Drop)]
@@ -16,18 +18,19 @@ pub(crate) struct Numbers {
 
 impl Model for Numbers {
     ghost use Rattle.std.specs.Prelude.{◌≤◌, ℕ, List, take};
+    ghost use Rattle.msp_class.specs.declared.sizes.TheConstants.{MOST_MACHINES};
 
     ghost Value = { List ℕ };
 
     ghost view = { λ n. take n.count n.all };
 
-    ghost invariant = { λ n. n.count ≤ 32 };
+    ghost invariant = { λ n. n.count ≤ MOST_MACHINES };
 }
 
 impl Numbers {
     /// The same number, so often.
     pub(crate) fn same(number: u16, count: usize) -> Numbers
-        requires { count ≤ 32 }
+        requires { count ≤ MOST_MACHINES }
         ensures { result ≡ replicate count number }
     {
         Numbers {
@@ -47,7 +50,7 @@ impl Numbers {
 
     pub(crate) fn as_slice(&self) -> &[u16]
         ensures value { result.now ≡ self.now }
-        ensures few { length self.now ≤ 32 }
+        ensures few { length self.now ≤ MOST_MACHINES }
     {
         &self.all[..self.count]
     }
@@ -56,14 +59,14 @@ impl Numbers {
     pub(crate) fn at(&self, place: usize) -> u16
         requires { place < length self.now }
         ensures value { result ≡ at self.now place }
-        ensures inside { place < 32 }
+        ensures inside { place < MOST_MACHINES }
     {
         self.as_slice()[place]
     }
 
     /// Puts a number behind the others.
     pub(crate) fn push(&mut self, number: u16)
-        requires { length self.old < 32 }
+        requires { length self.old < MOST_MACHINES }
         ensures { self.new ≡ self.old ++ number ∷ [] }
     {
         self.all[self.count] = number;

@@ -1,6 +1,6 @@
 // Jobs by falling time, and machines by falling speed.
 ghost use Rattle.std.specs.Prelude.{◌≡◌, ◌-◌, ◌≤◌, map, length as len, All, IfOk};
-ghost use Rattle.msp_instance.specs.declared.ranges.TheConstants.{GREATEST, MOST_JOBS};
+ghost use Rattle.msp_class.specs.declared.sizes.TheConstants.{MOST_JOBS, GREATEST};
 ghost use Rattle.msp_uniform.specs.Uniform.{IsByFalling};
 ghost use Rattle.msp_uniform.specs.Segments.{at};
 

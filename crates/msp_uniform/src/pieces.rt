@@ -1,5 +1,6 @@
 // Segments one after another, as pieces of a schedule, the latest first: a piece ends where its machine gets another job.
 ghost use Rattle.std.specs.Prelude.{◌≡◌, ◌<◌, ◌≤◌, ◌++◌, ◌^◌, length as len, slice_index_or, sum_by, All, IfOk, OnOk, IsPermutation};
+ghost use Rattle.msp_class.specs.declared.sizes.TheConstants.{MOST_MACHINES};
 ghost use Rattle.msp_uniform.specs.Runs.{part_on, runs, begun, jobs_before as jobs_until, IsNextEnds};
 
 use crate::numbers::Numbers;
@@ -45,7 +46,7 @@ fn put_begun(
 ) -> Result<(), NoMemory>
     requires many { len ends.old.items ≡ len jobs.now }
     requires before { len before.now ≡ len jobs.now }
-    requires few { len jobs.now ≤ 32 }
+    requires few { len jobs.now ≤ MOST_MACHINES }
     requires moment { moment < 2 ^ 127 }
     requires ends { All (λ e. e < 2 ^ 127) ends.old.items }
     ensures pieces { OnOk result (pieces.new ≡ pieces.old ++ begun none before.now jobs.now moment (λ i. slice_index_or ends.old.items i 0) (len jobs.now)) }
@@ -101,7 +102,7 @@ pub(crate) fn pieces_of(
     machines: u32,
 ) -> Result<List<Piece>, NoMemory>
     requires none { none < 2 ^ 16 }
-    requires few { machines ≤ 32 }
+    requires few { machines ≤ MOST_MACHINES }
     requires machines { All (λ x. len x.body.value.jobs ≡ machines) segments.now }
     requires short { sum_by (λ x. x.length) segments.now < 2 ^ 127 }
     ensures { IfOk result (λ pieces. IsPermutation (runs none segments.now machines) pieces) }

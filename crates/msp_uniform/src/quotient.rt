@@ -1,6 +1,6 @@
 // The least end: the greatest of works over speeds.
 ghost use Rattle.std.specs.Prelude.{◌≡◌, ◌<◌, ◌≤◌, length as len, sum_by, All};
-ghost use Rattle.msp_instance.specs.declared.ranges.TheConstants.{GREATEST, MOST_JOBS};
+ghost use Rattle.msp_class.specs.declared.sizes.TheConstants.{MOST_JOBS, GREATEST};
 ghost use Rattle.msp_uniform.specs.Segments.{at};
 ghost use Rattle.msp_uniform.specs.Quotients.{IsGreater, IsGreatest};
 

@@ -1,6 +1,6 @@
 // The jobs that no place is too short for, one after another from the last place to the first.
 ghost use Rattle.std.specs.Prelude.{◌≡◌, ◌+◌, ◌-◌, ◌<◌, ◌≤◌, ◌^◌, ◌∷◌, List, ℕ, All, IfOk, OnOk};
-ghost use Rattle.msp_instance.specs.declared.ranges.TheConstants.{GREATEST_SPEED};
+ghost use Rattle.msp_class.specs.declared.sizes.TheConstants.{GREATEST_SPEED};
 ghost use Rattle.msp_uniform.specs.Segments.{at, rate_at, amount};
 ghost use Rattle.msp_uniform.specs.Plans.{IsTask, IsReached, AreShort, IsTaped, DoHold, IsFilled, CanBeLaid, IsLaidHere, IsLaidOver};
 
@@ -109,7 +109,8 @@ fn lay_next(
     requires holds { DoHold task.now.speeds.items holds.now tape.old.place tape.old.early.items tape.old.late.items }
     ensures holds { OnOk result (DoHold task.now.speeds.items holds.now tape.new.place tape.new.early.items tape.new.late.items) }
     ensures rest { OnOk result (tape.new.rest ≡ amount (rate_at (at task.now.speeds.items) tape.new.place) tape.new.late.items) }
-    ensures taped { OnOk result ((left : List ℕ) → IsTaped task.now (job ∷ left) unit tape.old.place tape.old.early.items tape.old.late.items → IsTaped task.now left unit tape.new.place tape.new.early.items tape.new.late.items) }
+    ensures taped { OnOk result ((left : List ℕ) → IsTaped task.now (job ∷ left) unit tape.old.place tape.old.early.items tape.old.late.items
+        → IsTaped task.now left unit tape.new.place tape.new.early.items tape.new.late.items) }
 {
     let speeds = task.speeds.as_slice();
     let work = need_of(task.times.as_slice(), unit, job);

@@ -1,7 +1,7 @@
 // What the free machines of segments can do, and finer units.
-ghost use Rattle.std.specs.Prelude.{◌≡◌, ℕ, ◌+◌, ◌-◌, ◌*◌, ◌<◌, ◌≤◌, ◌^◌, true, false, length as len, All, IfOk};
-ghost use Rattle.msp_instance.specs.declared.ranges.TheConstants.{GREATEST_SPEED};
-ghost use Rattle.msp_uniform.specs.Segments.{at, rate_at, gain_at, amount, AreWorks, HasPlaces, StopsAt, IsDifference, AreScaled};
+ghost use Rattle.std.specs.Prelude.{◌≡◌, ℕ, ◌+◌, ◌-◌, ◌*◌, ◌<◌, ◌≤◌, true, false, length as len, All, IfOk};
+ghost use Rattle.msp_class.specs.declared.sizes.TheConstants.{GREATEST_SPEED};
+ghost use Rattle.msp_uniform.specs.Segments.{at, rate_at, gain_at, amount, AreWorks, HasPlaces, StopsAt, IsDifference, AreScaled, greatest_length};
 
 use crate::laying::gain_of;
 use crate::segments::{Segment, lasting};
@@ -13,7 +13,7 @@ use std::collections::VecDeque;
 pub(crate) fn work_of(segments: &[Segment], speeds: &[u64], place: usize) -> u128
     requires places { All (HasPlaces (len speeds.now) false place) segments.now }
     requires speeds { All (λ s. s ≤ GREATEST_SPEED) speeds.now }
-    requires short { amount (λ _. 1) segments.now ≤ 10 ^ 25 }
+    requires short { amount (λ _. 1) segments.now ≤ greatest_length }
     ensures { result ≡ amount (rate_at (at speeds.now) place) segments.now }
 {
     let mut work: u128 = 0;
@@ -27,7 +27,7 @@ pub(crate) fn work_of(segments: &[Segment], speeds: &[u64], place: usize) -> u12
 pub(crate) fn work_in(segments: &VecDeque<Segment>, speeds: &[u64], place: usize) -> u128
     requires places { All (HasPlaces (len speeds.now) false place) segments.now.items }
     requires speeds { All (λ s. s ≤ GREATEST_SPEED) speeds.now }
-    requires short { amount (λ _. 1) segments.now.items ≤ 10 ^ 25 }
+    requires short { amount (λ _. 1) segments.now.items ≤ greatest_length }
     ensures { result ≡ amount (rate_at (at speeds.now) place) segments.now.items }
 {
     let (front, back) = segments.as_slices();
@@ -43,7 +43,7 @@ pub(crate) fn works_in(
 ) -> Result<Vec<u128>, NoMemory>
     requires each { (p : ℕ) → p < places → All (HasPlaces (len speeds.now) false p) segments.now.items }
     requires speeds { All (λ s. s ≤ GREATEST_SPEED) speeds.now }
-    requires short { amount (λ _. 1) segments.now.items ≤ 10 ^ 25 }
+    requires short { amount (λ _. 1) segments.now.items ≤ greatest_length }
     ensures { IfOk result (λ works. AreWorks (at speeds.now) places segments.now.items works.items) }
 {
     let mut works = Vec::new(alloc);
@@ -60,7 +60,7 @@ pub(crate) fn scaled(
     segments: Vec<Segment>,
     factor: u128,
 ) -> Result<VecDeque<Segment>, NoMemory>
-    requires { All (λ x. x.length * factor ≤ 10 ^ 25) segments.items }
+    requires { All (λ x. x.length * factor ≤ greatest_length) segments.items }
     ensures { IfOk result (λ all. AreScaled factor segments.items all.items) }
 {
     let mut ahead = VecDeque::from_vec(segments);
@@ -76,7 +76,7 @@ pub(crate) fn scaled(
 pub(crate) fn last_gain(segments: &[Segment], speeds: &[u64], place: usize, gain: u128) -> u128
     requires places { All (HasPlaces (len speeds.now) true place) segments.now }
     requires speeds { All (λ s. s ≤ GREATEST_SPEED) speeds.now }
-    requires short { amount (λ _. 1) segments.now ≤ 10 ^ 25 }
+    requires short { amount (λ _. 1) segments.now ≤ greatest_length }
     requires enough { gain ≤ amount (gain_at true (at speeds.now) place) segments.now }
     ensures stops { StopsAt (gain_at true (at speeds.now) place) gain segments.now result }
     ensures difference { IsDifference speeds.now result }
@@ -98,7 +98,7 @@ pub(crate) fn place_for(segments: &[Segment], speeds: &[u64], places: usize, wor
     requires some { 2 ≤ places }
     requires each { (p : ℕ) → p < places → All (HasPlaces (len speeds.now) false p) segments.now }
     requires speeds { All (λ s. s ≤ GREATEST_SPEED) speeds.now }
-    requires short { amount (λ _. 1) segments.now ≤ 10 ^ 25 }
+    requires short { amount (λ _. 1) segments.now ≤ greatest_length }
     requires first { work ≤ amount (rate_at (at speeds.now) 0) segments.now }
     requires last { amount (rate_at (at speeds.now) (places - 1)) segments.now < work }
     ensures inside { result + 1 < places }

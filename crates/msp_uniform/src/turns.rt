@@ -1,6 +1,7 @@
 // The longest jobs take two places each, as long as their works are more than the last place can do.
 ghost use Rattle.std.specs.Prelude.{◌≡◌, ◌<◌, ◌≤◌, ◌*◌, ◌∷◌, drop, List, ℕ, length as len, IfOk};
-ghost use Rattle.msp_instance.specs.declared.ranges.TheConstants.{GREATEST};
+ghost use Rattle.msp_class.specs.declared.sizes.TheConstants.{GREATEST};
+ghost use Rattle.msp_uniform.specs.declared.unit.TheConstants.{GREATEST_PRODUCT};
 ghost use Rattle.msp_uniform.specs.Segments.{at};
 ghost use Rattle.msp_uniform.specs.Plans.{IsTask, IsReached, IsNextPlan, AreShort};
 
@@ -15,7 +16,7 @@ use std::mem;
 pub(crate) fn need_of(times: &[u64], unit: u128, job: u32) -> u128
     requires job { job < len times.now }
     requires time { at times.now job ≤ GREATEST }
-    requires unit { unit ≤ 10000000000000 }
+    requires unit { unit ≤ GREATEST_PRODUCT }
     ensures { result ≡ unit * at times.now job }
 {
     unit * u128::from(times[job as usize])

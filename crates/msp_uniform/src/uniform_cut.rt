@@ -1,5 +1,5 @@
 // Uniform machines with preemption.
-ghost use Rattle.std.specs.Prelude.{◌≡◌, IfOk, ⊤};
+ghost use Rattle.std.specs.Prelude.{◌≡◌, IfOk};
 ghost use Rattle.msp_instance.specs.Conditions.{Inner};
 ghost use Rattle.msp_schedule.specs.Cost.{IsBest};
 ghost use Rattle.msp_route.specs.Bounds.{IsAnswer};
@@ -93,8 +93,6 @@ impl Solver for UniformCut {
     ghost solved = { λ _. cut_class };
 
     ghost can_solve = { λ _ i. HasSmallUnit i };
-
-    ghost may_ask = { λ _ _. ⊤ };
 
     fn target(&self) -> Class {
         UNIFORM_CUT_CLASS

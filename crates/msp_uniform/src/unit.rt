@@ -1,13 +1,14 @@
 // Whether the unit that is needed is small enough.
 ghost use Rattle.std.specs.Prelude.{◌≡◌, ◌*◌, ◌≤◌, ◌↔◌, length as len, All, IsTrue};
-ghost use Rattle.msp_instance.specs.declared.ranges.TheConstants.{GREATEST_SPEED, MOST_MACHINES};
+ghost use Rattle.msp_class.specs.declared.sizes.TheConstants.{MOST_MACHINES, GREATEST_SPEED};
 ghost use Rattle.msp_instance.specs.Conditions.{HasSmallMultiple};
 ghost use Rattle.msp_uniform.specs.Uniform.{gap, sum, HaveSmallUnit};
 
+use msp_class::GREATEST_UNIT;
 use msp_instance::multiple_of_all;
 
 /// The greatest product of a sum of speeds, gaps and a common multiple.
-const GREATEST_PRODUCT: u128 = 10_000_000_000_000;
+const GREATEST_PRODUCT: u128 = GREATEST_UNIT as u128;
 
 /// How much faster the fastest machine is than the slowest, and 1 where all are equally fast.
 fn gap_of(speeds: &[u64]) -> u64

@@ -7,10 +7,10 @@ use Rattle.std.proofs.lemmas.List.Elements.{All-nil, All-cons, All-head, All-tai
 use Rattle.std.proofs.lemmas.List.Sums.{sum_by-cons}
 use Rattle.msp_class.proofs.Sums.{AllPairs-head, AllPairs-tail, sum_by-mono}
 use Rattle.msp_instance.specs.declared.Instance.{Instance}
-use Rattle.msp_schedule.specs.Rows.{time_at}
+use Rattle.msp_schedule.specs.BackToBack.{time_at}
 use Rattle.msp_schedule.proofs.costs.LateJobs.{due_at}
 use Rattle.msp_schedule.proofs.lists.Parts.{All-back}
-use Rattle.msp_schedule.proofs.lists.Rows.{end_in}
+use Rattle.msp_schedule.proofs.lists.BackToBack.{end_in}
 use Rattle.msp_weighted.specs.Late.{EndLate}
 
 -- what is nowhere greater, and together no less, is the same everywhere
@@ -37,7 +37,7 @@ is_after a b h = by (int_lt a b) refl
 rest_ends : (p : ℕ → ℕ) (t x : ℕ) (js : List ℕ) (j : ℕ) → x ≢ j → end_in p t (x ∷ js) j ≡ end_in p (t + p x) js j
 rest_ends p t x js j other = ap (λ b. cond b (t + p x) (end_in p (t + p x) js j)) (ne_eqb x j other)
 
--- in the row of all jobs, or of those from a job on
+-- of all jobs back to back, or of those from a job on
 module _ (i : Instance) where
   abbrev IsPast : ℕ → List ℕ → ℕ → Type 0
   IsPast t js j = due_at i j <ℤ pos (end_in (time_at i) t js j)
@@ -47,7 +47,8 @@ module _ (i : Instance) where
   EndLate-each t (x ∷ js) u h = (
     subst (λ e. due_at i x <ℤ pos e) (ap (λ b. cond b (t + time_at i x) (end_in (time_at i) (t + time_at i x) js x)) (eq-eqb x x refl)) (All-head (IsPast t (x ∷ js)) x js h),
     EndLate-each (t + time_at i x) js (AllPairs-tail (λ x y. x ≢ y) x js u)
-        (λ k d l. subst (λ e. due_at i (get_or js k d) <ℤ pos e) (rest_ends (time_at i) t x js (get_or js k d) (AllPairs-head (λ x y. x ≢ y) x js u k d l)) (All-tail (IsPast t (x ∷ js)) x js h k d l)),
+        (λ k d l. subst (λ e. due_at i (get_or js k d) <ℤ pos e)
+        (rest_ends (time_at i) t x js (get_or js k d) (AllPairs-head (λ x y. x ≢ y) x js u k d l)) (All-tail (IsPast t (x ∷ js)) x js h k d l)),
   )
 
   pub EndLate-behind : (t : ℕ) (xs js : List ℕ) → AllPairs (λ x y. x ≢ y) (xs ++ js) → All (IsPast t (xs ++ js)) js → EndLate i (t + sum_by (time_at i) xs) js

@@ -1,6 +1,7 @@
 -- The weight of late jobs as a cost, and what an instance of the table's class has.
 use Rattle.std.proofs.Common.{◌≡◌, ℕ, ◌+◌, ◌*◌, ◌≤◌, Bool, true, false, cond, not, List, [], ◌∷◌, get_or, filter, pos, ◌*ℤ◌, All, sum_by, if◌then◌else◌, refl, sym, ap, subst, ◌∙◌, arith, length}
 use Rattle.std.proofs.lemmas.List.Sums.{sum_by-cons}
+use Rattle.msp_class.specs.declared.sizes.TheConstants.{GREATEST}
 use Rattle.msp_class.specs.declared.class.Crit.TheVariants.{SumWU}
 use Rattle.msp_class.specs.Crit.{is_greatest, uses_weight}
 use Rattle.msp_class.specs.Sums.{total_below}
@@ -20,7 +21,7 @@ pub record IsLateInstance (i : Instance) : Type 0 where
   pub crit : i.class.crit ≡ SumWU
   pub plain : IsPlain i
   pub arcs : i.arcs ≡ []
-  pub light : All (λ j. j.weight ≤ 1000000000) i.jobs
+  pub light : All (λ j. j.weight ≤ GREATEST) i.jobs
   pub heavy : All (λ j. 1 ≤ j.weight) i.jobs
 
 pub IsLateInstance-from_class : (i : Instance) → i.class ≡ late_class → Inner i → IsLateInstance i
@@ -39,7 +40,8 @@ late_weight i s = total_below (length i.jobs) (λ j. cond (is_late i s j) (weigh
 pub late_weight_cost : (i : Instance) (s : Schedule) (d : ℕ) → i.class.crit ≡ SumWU → s.unit ≡ pos d → cost_of i s ≡ pos (d * late_weight i s)
 late_weight_cost i s d e u =
     cost_of-sum i s (ap is_greatest e)
-    ∙ int_total_below-natural (length i.jobs) (charge_of i s) (λ j. d * cond (is_late i s j) (weight_at i j) 0) (λ j l. ap (λ c. job_cost c s.unit (job_at i j) (end_of s j)) e ∙ ap (λ x. pos (weight_at i j) *ℤ (if is_late i s j then x else pos 0)) u ∙ one (weight_at i j) (is_late i s j))
+    ∙ int_total_below-natural (length i.jobs) (charge_of i s) (λ j. d * cond (is_late i s j) (weight_at i j) 0)
+    (λ j l. ap (λ c. job_cost c s.unit (job_at i j) (end_of s j)) e ∙ ap (λ x. pos (weight_at i j) *ℤ (if is_late i s j then x else pos 0)) u ∙ one (weight_at i j) (is_late i s j))
     ∙ ap pos (total_below-scale (length i.jobs) d (λ j. cond (is_late i s j) (weight_at i j) 0))
   where
     one : (w : ℕ) (b : Bool) → (pos w *ℤ (if b then pos d else pos 0)) ≡ pos (d * cond b w 0)
@@ -55,7 +57,8 @@ late_weight_cost i s d e u =
 -- late jobs and those on time weigh as much as all
 pub late_and_on_time : (f : ℕ → Bool) (w : ℕ → ℕ) (xs : List ℕ) → sum_by (λ j. cond (f j) (w j) 0) xs + sum_by w (filter (λ j. not (f j)) xs) ≡ sum_by w xs
 late_and_on_time f w [] = refl
-late_and_on_time f w (x ∷ xs) = ap (λ n. n + sum_by w (cond (not (f x)) (x ∷ filter (λ j. not (f j)) xs) (filter (λ j. not (f j)) xs))) (sum_by-cons (λ j. cond (f j) (w j) 0) x xs) ∙ by (f x) (late_and_on_time f w xs) ∙ sym (sum_by-cons w x xs)
+late_and_on_time f w (x ∷ xs) = ap (λ n. n + sum_by w (cond (not (f x)) (x ∷ filter (λ j. not (f j)) xs) (filter (λ j. not (f j)) xs))) (sum_by-cons (λ j. cond (f j) (w j) 0) x xs)
+    ∙ by (f x) (late_and_on_time f w xs) ∙ sym (sum_by-cons w x xs)
   where
     by : (b : Bool) → sum_by (λ j. cond (f j) (w j) 0) xs + sum_by w (filter (λ j. not (f j)) xs) ≡ sum_by w xs
         → (cond b (w x) 0 + sum_by (λ j. cond (f j) (w j) 0) xs) + sum_by w (cond (not b) (x ∷ filter (λ j. not (f j)) xs) (filter (λ j. not (f j)) xs)) ≡ w x + sum_by w xs

@@ -8,5 +8,4 @@ pub mod WalkFacts
 pub mod LateCost
 pub mod LateBehind
 pub mod LateBest
-pub mod DateKeys
 pub mod TableOrder

@@ -13,5 +13,6 @@ split-permutation (second x {xs} {ys} {zs} s) = IsPermutation-trans _ _ _ (IsPer
 
 pub split-pairs : (R : ℕ → ℕ → Type 0) {xs ys zs : List ℕ} → IsSplit xs ys zs → AllPairs R xs → AllPairs R ys
 split-pairs R empty h = h
-split-pairs R (first x {xs} {ys} {zs} s) h = AllPairs-cons R x ys (All-front (R x) ys zs (All-permutation (R x) xs (ys ++ zs) (split-permutation s) (AllPairs-head R x xs h))) (split-pairs R s (AllPairs-tail R x xs h))
+split-pairs R (first x {xs} {ys} {zs} s) h =
+    AllPairs-cons R x ys (All-front (R x) ys zs (All-permutation (R x) xs (ys ++ zs) (split-permutation s) (AllPairs-head R x xs h))) (split-pairs R s (AllPairs-tail R x xs h))
 split-pairs R (second x {xs} {ys} {zs} s) h = split-pairs R s (AllPairs-tail R x xs h)

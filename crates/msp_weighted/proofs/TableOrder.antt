@@ -7,9 +7,10 @@ use Rattle.std.proofs.lemmas.List.Sorted.{IsPermutation-reverse, IsPermutation-s
 use Rattle.msp_class.proofs.Sums.{OnceBelow, OnceBelow-from_permutation, length-OnceBelow, sum_by-OnceBelow, sum_by-filter, sum_by-mono, cond-le}
 use Rattle.msp_instance.specs.declared.Instance.{Instance}
 use Rattle.msp_instance.specs.Instance.{no_job}
-use Rattle.msp_schedule.specs.Rows.{time_at}
+use Rattle.msp_schedule.specs.BackToBack.{time_at}
 use Rattle.msp_schedule.proofs.lists.Places.{sum_by-places}
-use Rattle.msp_weighted.specs.Late.{time_of, total_time, IsDueBefore, EndInTime}
+use Rattle.msp_route.specs.Dates.{IsDueBefore}
+use Rattle.msp_weighted.specs.Late.{time_of, total_time, EndInTime}
 use Rattle.msp_weighted.specs.Values.{weight_at, first_value, values_of, IsFilled, IsChosen, IsTableOrder}
 use Rattle.msp_weighted.proofs.ValueFacts.{values-least, values_start}
 
@@ -27,7 +28,7 @@ module _ (i : Instance) (order : List ℕ) (all : IsPermutation (range_with_len 
   order_time : sum_by (time_at i) order ≡ total_time i
   order_time = sum_by-OnceBelow (time_at i) once ∙ sym (sum_by-places time_of i.jobs no_job)
 
-  module _ (total moment : ℕ) (values marks : List ℕ) (is : total ≡ total_time i) (filled : IsFilled i order (total + 1) (length order) values marks) (inside : moment < total + 1)
+  module _ (total moment : ℕ) (values flags : List ℕ) (is : total ≡ total_time i) (filled : IsFilled i order (total + 1) (length order) values flags) (inside : moment < total + 1)
       (best : (t : ℕ) → t < total + 1 → slice_index values t ≤ slice_index values moment) where
     value : (t : ℕ) → t < total + 1 → slice_index values t ≡ values_of i order t
     value t l = filled.value t l ∙ ap (λ js. values_of i js t) (take_all (length order) order (omega arith))
@@ -42,10 +43,15 @@ module _ (i : Instance) (order : List ℕ) (all : IsPermutation (range_with_len 
     most test on =
         let least = values-least i test first_value order 0 0 (omega arith) on in
         let part : sum_by (time_at i) (filter test order) ≤ sum_by (time_at i) order =
-        omega (arith, sum_by-filter (time_at i) test order, sum_by-mono (λ x. cond (test x) (time_at i x) 0) (time_at i) order (λ k d l. cond-le (test (get_or order k d)) (time_at i (get_or order k d)))) in
+        omega (
+          arith,
+          sum_by-filter (time_at i) test order,
+          sum_by-mono (λ x. cond (test x) (time_at i x) 0) (time_at i) order (λ k d l. cond-le (test (get_or order k d)) (time_at i (get_or order k d))),
+        ) in
         omega (arith, least, at_best (0 + sum_by (time_at i) (filter test order)) (omega (arith, part, order_time, is)))
 
-    pub table_order : (on_time left late result : List ℕ) → AllPairs (IsDueBefore i) order → IsChosen i order (values_of i order moment) on_time left → IsPermutation left late → AllPairs (λ a b. a ≤ b) late → result ≡ on_time ++ late → IsTableOrder i result
+    pub table_order : (on_time left late result : List ℕ) → AllPairs (IsDueBefore i) order → IsChosen i order (values_of i order moment) on_time left
+        → IsPermutation left late → AllPairs (λ a b. a ≤ b) late → result ≡ on_time ++ late → IsTableOrder i result
     table_order on_time left late result sorted chosen moved by_number whole = record {
       by_date = order;
       on_time = on_time;
@@ -62,9 +68,10 @@ module _ (i : Instance) (order : List ℕ) (all : IsPermutation (range_with_len 
     }
 
 -- ---- at the lists as the code passes them
-pub filled_at : (i : Instance) (width : ℕ) (shown order values marks : List ℕ) → shown ≡ order → IsFilled i shown width (length shown) values marks → IsFilled i order width (length order) values marks
-filled_at i width shown order values marks e h = subst (λ js. IsFilled i js width (length js) values marks) e h
+pub filled_at : (i : Instance) (width : ℕ) (shown order values flags : List ℕ) → shown ≡ order → IsFilled i shown width (length shown) values flags → IsFilled i order width (length order) values flags
+filled_at i width shown order values flags e h = subst (λ js. IsFilled i js width (length js) values flags) e h
 
-pub best_at : (shown values : List ℕ) (width moment : ℕ) → shown ≡ values → length values ≡ width → moment < length shown → ((t : ℕ) → t < length shown → slice_index shown t ≤ slice_index shown moment)
+pub best_at : (shown values : List ℕ) (width moment : ℕ)
+    → shown ≡ values → length values ≡ width → moment < length shown → ((t : ℕ) → t < length shown → slice_index shown t ≤ slice_index shown moment)
     → (moment < width) × ((t : ℕ) → t < width → slice_index values t ≤ slice_index values moment)
 best_at shown values width moment e w inside best = (omega (arith, inside, ap length e, w), λ t l. subst (λ xs. slice_index xs t ≤ slice_index xs moment) e (best t (omega (arith, l, ap length e, w))))

@@ -1,5 +1,6 @@
--- The values of the table: how one job changes them, that no choice of jobs which is on time in a row weighs more, and their size.
-use Rattle.std.proofs.Common.{◌≡◌, ℕ, ◌+◌, ◌-◌, ◌*◌, ◌<◌, ◌≤◌, Bool, true, false, cond, eqb, not, List, [], ◌∷◌, ◌++◌, length, get_or, take, filter, ℤ, pos, ◌≤ℤ◌, ◌<ℤ◌, All, sum_by, refl, sym, ap, ap₂, subst, ◌∙◌, arith}
+-- The values of the table: how one job changes them, that no choice of jobs which is on time back to back weighs more, and their size.
+use Rattle.std.proofs.Common.{◌≡◌, ℕ, ◌+◌, ◌-◌, ◌*◌, ◌<◌, ◌≤◌, Bool, true, false, cond, eqb, not, List, [], ◌∷◌, ◌++◌, length, get_or, take, filter, ℤ, pos, ◌≤ℤ◌, ◌<ℤ◌, All}
+use Rattle.std.proofs.Common.{sum_by, refl, sym, ap, ap₂, subst, ◌∙◌, arith}
 use Rattle.std.specs.Prelude.{int_lt, ◌&&◌, nat_lt, nat_le}
 use Rattle.std.proofs.lemmas.Int.{ints}
 use Rattle.std.proofs.lemmas.Bool.{and_parts, and_left, eqb-true, ltb-true, ltb-false, leb-true, le-leb, lt-leb, lt-ltb}
@@ -7,7 +8,7 @@ use Rattle.std.proofs.lemmas.List.{take_more}
 use Rattle.std.proofs.lemmas.List.Elements.{All-head, All-tail}
 use Rattle.std.proofs.lemmas.List.Sums.{sum_by-cons}
 use Rattle.msp_instance.specs.declared.Instance.{Instance}
-use Rattle.msp_schedule.specs.Rows.{time_at}
+use Rattle.msp_schedule.specs.BackToBack.{time_at}
 use Rattle.msp_schedule.proofs.costs.LateJobs.{not_late, due_at}
 use Rattle.msp_weighted.specs.Late.{EndInTime}
 use Rattle.msp_weighted.specs.Values.{weight_at, is_better, gains, value_with, values_after, first_value, values_of}
@@ -113,11 +114,13 @@ module _ (i : Instance) where
   values-push v [] j t = refl
   values-push v (x ∷ js) j t = values-push (value_with (time_at i x) (weight_at i x) (due_at i x) v) js j t
 
-  pub values-more : (order : List ℕ) (k t : ℕ) → k < length order → values_of i (take (k + 1) order) t ≡ value_with (time_at i (get_or order k 0)) (weight_at i (get_or order k 0)) (due_at i (get_or order k 0)) (values_of i (take k order)) t
+  pub values-more : (order : List ℕ) (k t : ℕ) → k < length order
+      → values_of i (take (k + 1) order) t ≡ value_with (time_at i (get_or order k 0)) (weight_at i (get_or order k 0)) (due_at i (get_or order k 0)) (values_of i (take k order)) t
   values-more order k t l = ap (λ js. values_of i js t) (take_more order k 0 l) ∙ values-push first_value (take k order) (get_or order k 0) t
 
-  -- ---- a choice that is on time in a row from s on weighs no more
-  pub values-least : (test : ℕ → Bool) (v : ℕ → ℕ) (js : List ℕ) (s a : ℕ) → 1 + a ≤ v s → EndInTime i s (filter test js) → 1 + (a + sum_by (weight_at i) (filter test js)) ≤ values_after i v js (s + sum_by (time_at i) (filter test js))
+  -- ---- a choice that is on time back to back from s on weighs no more
+  pub values-least : (test : ℕ → Bool) (v : ℕ → ℕ) (js : List ℕ) (s a : ℕ) → 1 + a ≤ v s
+      → EndInTime i s (filter test js) → 1 + (a + sum_by (weight_at i) (filter test js)) ≤ values_after i v js (s + sum_by (time_at i) (filter test js))
   values-least test v [] s a h on = subst (λ n. 1 + (a + 0) ≤ v n) (plus_none s) (omega (arith, h))
     where
       plus_none : (s : ℕ) → s ≡ s + 0
@@ -127,9 +130,11 @@ module _ (i : Instance) where
       next : ℕ → ℕ
       next = value_with (time_at i x) (weight_at i x) (due_at i x) v
 
-      by : (b : Bool) → ((s a : ℕ) → 1 + a ≤ value_with (time_at i x) (weight_at i x) (due_at i x) v s → EndInTime i s (filter test js) → 1 + (a + sum_by (weight_at i) (filter test js)) ≤ values_after i (value_with (time_at i x) (weight_at i x) (due_at i x) v) js (s + sum_by (time_at i) (filter test js)))
+      by : (b : Bool) → ((s a : ℕ) → 1 + a ≤ value_with (time_at i x) (weight_at i x) (due_at i x) v s → EndInTime i s (filter test js)
+          → 1 + (a + sum_by (weight_at i) (filter test js)) ≤ values_after i (value_with (time_at i x) (weight_at i x) (due_at i x) v) js (s + sum_by (time_at i) (filter test js)))
           → EndInTime i s (cond b (x ∷ filter test js) (filter test js))
-          → 1 + (a + sum_by (weight_at i) (cond b (x ∷ filter test js) (filter test js))) ≤ values_after i (value_with (time_at i x) (weight_at i x) (due_at i x) v) js (s + sum_by (time_at i) (cond b (x ∷ filter test js) (filter test js)))
+          → 1 + (a + sum_by (weight_at i) (cond b (x ∷ filter test js) (filter test js)))
+          ≤ values_after i (value_with (time_at i x) (weight_at i x) (due_at i x) v) js (s + sum_by (time_at i) (cond b (x ∷ filter test js) (filter test js)))
       by false more on = more s a (omega (arith, h, grows (time_at i x) (weight_at i x) (due_at i x) v s)) on
       by true more on =
           let p = time_at i x in
@@ -138,7 +143,8 @@ module _ (i : Instance) where
           let reached = at_least p (weight_at i x) (due_at i x) v (s + p) (omega arith) on.0 (omega (arith, some)) in
           let result = more (s + p) (a + weight_at i x) (omega (arith, reached, some)) on.1 in
           let moment : s + p + sum_by (time_at i) (filter test js) ≡ s + sum_by (time_at i) (x ∷ filter test js) = omega (arith, sum_by-cons (time_at i) x (filter test js)) in
-          let weight : 1 + (a + weight_at i x + sum_by (weight_at i) (filter test js)) ≡ 1 + (a + sum_by (weight_at i) (x ∷ filter test js)) = omega (arith, sum_by-cons (weight_at i) x (filter test js)) in
+          let weight : 1 + (a + weight_at i x + sum_by (weight_at i) (filter test js)) ≡ 1 + (a + sum_by (weight_at i) (x ∷ filter test js)) =
+          omega (arith, sum_by-cons (weight_at i) x (filter test js)) in
           subst (λ n. n ≤ values_after i (value_with (time_at i x) (weight_at i x) (due_at i x) v) js (s + sum_by (time_at i) (x ∷ filter test js))) weight
           (subst (λ n. 1 + (a + weight_at i x + sum_by (weight_at i) (filter test js)) ≤ values_after i (value_with (time_at i x) (weight_at i x) (due_at i x) v) js n) moment result)
 
@@ -154,7 +160,9 @@ module _ (i : Instance) where
   values-most : (g m : ℕ) (v : ℕ → ℕ) (js : List ℕ) → ((t : ℕ) → v t ≤ m) → All (λ j. weight_at i j ≤ g) js → (t : ℕ) → values_after i v js t ≤ m + g * length js
   values-most g m v [] h a t = omega (arith, h t)
   values-most g m v (x ∷ js) h a t =
-      let more = values-most g (m + g) (value_with (time_at i x) (weight_at i x) (due_at i x) v) js (λ t. omega (arith, at_most (time_at i x) (weight_at i x) (due_at i x) v t m (h t) (h (t - time_at i x)), All-head (λ j. weight_at i j ≤ g) x js a)) (All-tail (λ j. weight_at i j ≤ g) x js a) t in
+      let more = values-most g (m + g) (value_with (time_at i x) (weight_at i x) (due_at i x) v) js
+      (λ t. omega (arith, at_most (time_at i x) (weight_at i x) (due_at i x) v t m (h t) (h (t - time_at i x)), All-head (λ j. weight_at i j ≤ g) x js a))
+      (All-tail (λ j. weight_at i j ≤ g) x js a) t in
       omega (arith, more)
 
   pub values_small : (g : ℕ) (js : List ℕ) → All (λ j. weight_at i j ≤ g) js → (t : ℕ) → values_of i js t ≤ 1 + g * length js

@@ -1,9 +1,10 @@
--- The way back through the marks, from the last job to the first.
-use Rattle.std.proofs.Common.{◌≡◌, ℕ, suc, ◌+◌, ◌-◌, ◌<◌, ◌≤◌, Bool, true, false, List, [], ◌∷◌, ◌++◌, length, get_or, take, drop, reverse, pos, ◌≤ℤ◌, sum_by, refl, sym, ap, subst, subst₂, ◌∙◌, arith, drop-cons}
+-- The way back through the flags, from the last job to the first.
+use Rattle.std.proofs.Common.{◌≡◌, ℕ, suc, ◌+◌, ◌-◌, ◌<◌, ◌≤◌, Bool, true, false, List, [], ◌∷◌, ◌++◌, length, get_or, take, drop, reverse, pos, ◌≤ℤ◌, sum_by, refl, sym, ap, subst}
+use Rattle.std.proofs.Common.{subst₂, ◌∙◌, arith, drop-cons}
 use Rattle.std.proofs.lemmas.List.{take_all, reverse-append}
 use Rattle.std.proofs.lemmas.List.Sums.{sum_by-cons}
 use Rattle.msp_instance.specs.declared.Instance.{Instance}
-use Rattle.msp_schedule.specs.Rows.{time_at}
+use Rattle.msp_schedule.specs.BackToBack.{time_at}
 use Rattle.msp_schedule.proofs.costs.LateJobs.{due_at}
 use Rattle.msp_weighted.specs.Late.{EndInTime}
 use Rattle.msp_weighted.specs.Values.{weight_at, value_with, values_of, is_taken, IsSplit, empty, first, second, IsChosen}
@@ -99,15 +100,24 @@ module _ (i : Instance) (order : List ℕ) where
 
       by : (c : Bool) → b ≡ c → IsWalk i order value (place - 1) t' chosen' left' × (t' ≤ t)
       by true e =
-          let r = taken e in
-          (walk-take value (place - 1) t chosen left last before chosen' left' t' (sym eb ∙ e) (r.0 ∙ ap (λ x. chosen ++ x ∷ []) ej) r.1 (r.2 ∙ ap (λ n. t - n) (et ∙ ap (time_at i) ej)), omega (arith, r.2))
+          let r = taken e in (
+            walk-take value (place - 1) t chosen left last before chosen' left' t' (sym eb ∙ e) (r.0 ∙ ap (λ x. chosen ++ x ∷ []) ej) r.1 (r.2 ∙ ap (λ n. t - n) (et ∙ ap (time_at i) ej)),
+            omega (arith, r.2),
+          )
       by false e =
           let r = kept e in
           (walk-leave value (place - 1) t chosen left last before chosen' left' t' (sym eb ∙ e) r.0 (r.1 ∙ ap (λ x. left ++ x ∷ []) ej) r.2, omega (arith, r.2))
 
-  pub walk_time : (value place t : ℕ) (chosen left : List ℕ) → 0 < place → IsWalk i order value place t chosen left → (job time : ℕ) (b : Bool) → job ≡ get_or order (place - 1) 0 → time ≡ time_at i job → b ≡ is_taken i order (place - 1) t → b ≡ true → time ≤ t
+  pub walk_time : (value place t : ℕ) (chosen left : List ℕ) → 0 < place → IsWalk i order value place t chosen left
+      → (job time : ℕ) (b : Bool) → job ≡ get_or order (place - 1) 0 → time ≡ time_at i job → b ≡ is_taken i order (place - 1) t → b ≡ true → time ≤ t
   walk_time value place t chosen left some h job time b ej et eb e =
-      omega (arith, et, ap (time_at i) ej, (gains-yes (time_at i (get_or order (place - 1) 0)) (weight_at i (get_or order (place - 1) 0)) (due_at i (get_or order (place - 1) 0)) (values_of i (take (place - 1) order)) t (sym eb ∙ e)).0)
+      omega (
+        arith,
+        et,
+        ap (time_at i) ej,
+        (gains-yes (time_at i (get_or order (place - 1) 0))
+            (weight_at i (get_or order (place - 1) 0)) (due_at i (get_or order (place - 1) 0)) (values_of i (take (place - 1) order)) t (sym eb ∙ e)).0,
+      )
 
   pub walk-end : (value t : ℕ) (chosen left on_time : List ℕ) → IsWalk i order value 0 t chosen left → on_time ≡ reverse chosen → IsChosen i order value on_time left
   walk-end value t chosen left on_time h e =

@@ -1,5 +1,5 @@
 -- The class that the table solves, how long its jobs take together, and the order in which they run.
-use Rattle.std.specs.Prelude.{◌≡◌, ℕ, ◌+◌, ◌<◌, ◌⊎◌, false, List, [], ◌∷◌, ◌++◌, length, slice_index_or, pos, ◌≤ℤ◌, ◌<ℤ◌, AllPairs, IsPermutation, sum_by, ⊤}
+use Rattle.std.specs.Prelude.{◌≡◌, ℕ, ◌+◌, ◌<◌, false, List, [], ◌∷◌, ◌++◌, length, slice_index_or, pos, ◌≤ℤ◌, ◌<ℤ◌, AllPairs, IsPermutation, sum_by, ⊤}
 use Rattle.std.specs.List.{range_with_len}
 use Rattle.msp_class.specs.declared.class.Class.{Class}
 use Rattle.msp_class.specs.declared.class.Env.TheVariants.{One}
@@ -9,7 +9,8 @@ use Rattle.msp_class.specs.declared.class.Crit.TheVariants.{SumWU}
 use Rattle.msp_instance.specs.declared.Job.{Job}
 use Rattle.msp_instance.specs.declared.Instance.{Instance}
 use Rattle.msp_instance.specs.Instance.{no_need, job_at}
-use Rattle.msp_schedule.specs.Rows.{time_at}
+use Rattle.msp_schedule.specs.BackToBack.{time_at}
+use Rattle.msp_route.specs.Dates.{IsDueBefore}
 
 -- One machine, neither preemption nor precedence nor release dates, any times, and the weight of late jobs: `1||sumwU`.
 abbrev pub late_class : Class
@@ -21,10 +22,6 @@ time_of j = (slice_index_or j.needs 0 no_need).time
 
 abbrev pub total_time : Instance → ℕ
 total_time i = sum_by time_of i.jobs
-
--- Job a is due before job b, or at the same date and has the lesser number.
-abbrev pub IsDueBefore : Instance → ℕ → ℕ → Type 0
-IsDueBefore i a b = ((job_at i a).due <ℤ (job_at i b).due) ⊎ (((job_at i a).due ≡ (job_at i b).due) × (a < b))
 
 -- Each job of a row from the moment t on ends by its due date.
 abbrev pub EndInTime : Instance → ℕ → List ℕ → Type 0

@@ -1,11 +1,10 @@
 -- The steps of the table and of the way back through it, in the words of the structs. No public contract cites this file.
-use Rattle.std.specs.Prelude.{◌≡◌, ℕ, ◌+◌, ◌-◌, ◌*◌, ◌^◌, ◌<◌, ◌≤◌, ◌⊎◌, Bool, List, [], ◌∷◌, ◌++◌, length, slice_index, pos, ◌+ℤ◌, AllPairs, IsPermutation, if◌then◌else◌}
+use Rattle.std.specs.Prelude.{◌≡◌, ℕ, ◌+◌, ◌-◌, ◌*◌, ◌<◌, ◌≤◌, ◌⊎◌, Bool, List, [], ◌∷◌, ◌++◌, length, slice_index, AllPairs, IsPermutation, if◌then◌else◌}
 use Rattle.msp_instance.specs.declared.Instance.{Instance}
-use Rattle.msp_instance.specs.Instance.{job_at}
 use Rattle.msp_weighted.specs.declared.table.Entry.{Entry}
 use Rattle.msp_weighted.specs.declared.table.Table.{Table}
 use Rattle.msp_weighted.specs.declared.walk.Choice.{Choice}
-use Rattle.msp_weighted.specs.Values.{is_better, is_marked, is_taken, values_of, IsFilled, IsChosen}
+use Rattle.msp_weighted.specs.Values.{is_better, is_flagged, is_taken, values_of, IsFilled, IsChosen}
 
 -- Whether the job is worth adding, among these values, so that it ends at the moment.
 abbrev pub is_gain : List ℕ → ℕ → ℕ → ℕ → Bool
@@ -15,20 +14,20 @@ is_gain values time weight moment = is_better weight (slice_index values (moment
 abbrev pub value_at : List ℕ → ℕ → ℕ → ℕ → Bool → ℕ
 value_at values time weight moment gains = if gains then slice_index values (moment - time) + weight else slice_index values moment
 
--- The job was put into the values at the moments from `first` on before `end`, and its marks say where.
-pub record IsPutFrom (e : Entry) (first end : ℕ) (values marks values' marks' : List ℕ) : Type 0 where
+-- The job was put into the values at the moments from `first` on before `end`, and its flags say where.
+pub record IsPutFrom (e : Entry) (first end : ℕ) (values flags values' flags' : List ℕ) : Type 0 where
   pub value : (t : ℕ) → first ≤ t → t < end → slice_index values' t ≡ value_at values e.time e.weight t (is_gain values e.time e.weight t)
   pub kept : (t : ℕ) → (t < first) ⊎ (end ≤ t) → slice_index values' t ≡ slice_index values t
-  pub marked : (t : ℕ) → first ≤ t → t < end → is_marked marks' (e.row + t) ≡ is_gain values e.time e.weight t
-  pub others : (m : ℕ) → (m < e.row + first) ⊎ (e.row + end ≤ m) → is_marked marks' m ≡ is_marked marks m
+  pub flagged : (t : ℕ) → first ≤ t → t < end → is_flagged flags' (e.row + t) ≡ is_gain values e.time e.weight t
+  pub others : (m : ℕ) → (m < e.row + first) ⊎ (e.row + end ≤ m) → is_flagged flags' m ≡ is_flagged flags m
 
--- The values and the marks of all jobs of the list.
+-- The values and the flags of all jobs of the list.
 abbrev pub IsTableOf : Instance → List ℕ → ℕ → Table → Type 0
-IsTableOf i order width t = IsFilled i order width (length order) t.values.items t.marks.items
+IsTableOf i order width t = IsFilled i order width (length order) t.values.items t.flags.items
 
--- A row of marks for each job of the list says where the job is worth adding.
-abbrev pub AreMarks : Instance → List ℕ → ℕ → List ℕ → Type 0
-AreMarks i order width marks = (j t : ℕ) → j < length order → t < width → is_marked marks (j * width + t) ≡ is_taken i order j t
+-- A row of flags for each job of the list says where the job is worth adding.
+abbrev pub AreFlags : Instance → List ℕ → ℕ → List ℕ → Type 0
+AreFlags i order width flags = (j t : ℕ) → j < length order → t < width → is_flagged flags (j * width + t) ≡ is_taken i order j t
 
 -- The job is put before those that are on time, or to those that are left.
 abbrev pub Takes : ℕ → ℕ → Choice → Choice → Type 0
@@ -41,10 +40,6 @@ Leaves job old new = (new.on_time.items ≡ old.on_time.items) × (new.left.item
 abbrev pub IsChoiceAt : Instance → List ℕ → ℕ → Choice → Type 0
 IsChoiceAt i order moment c = IsChosen i order (values_of i order moment) c.on_time.items c.left.items
 
--- The keys of all jobs, which rise with their due dates.
-abbrev pub AreKeys : Instance → List ℕ → Type 0
-AreKeys i keys = (k : ℕ) → k < length i.jobs → pos (slice_index keys k) ≡ (job_at i k).due +ℤ pos (2 ^ 63)
-
 -- The jobs that are on time, and then the others, in order.
-abbrev pub IsRowOf : List ℕ → List ℕ → List ℕ → Type 0
-IsRowOf on_time left order = (late : List ℕ) × IsPermutation left late × AllPairs (λ a b. a ≤ b) late × (order ≡ on_time ++ late)
+abbrev pub IsOrderOf : List ℕ → List ℕ → List ℕ → Type 0
+IsOrderOf on_time left order = (late : List ℕ) × IsPermutation left late × AllPairs (λ a b. a ≤ b) late × (order ≡ on_time ++ late)

@@ -1,13 +1,15 @@
 -- The table of the weight that is on time, for each total time, and the choice of jobs that it gives. No public contract cites this file.
 --
 -- A value is one more than a weight, and 0 where no choice of jobs takes the time.
-use Rattle.std.specs.Prelude.{◌≡◌, ℕ, ◌+◌, ◌-◌, ◌*◌, ◌/◌, ◌%◌, ◌<◌, ◌≤◌, Bool, false, not, ◌&&◌, ◌==◌, List, [], ◌∷◌, ◌++◌, length, take, filter, reverse, slice_index, ℤ, pos, int_lt, nat_lt, nat_le, AllPairs, IsPermutation, sum_by, if◌then◌else◌}
+use Rattle.std.specs.Prelude.{◌≡◌, ℕ, ◌+◌, ◌-◌, ◌*◌, ◌/◌, ◌%◌, ◌<◌, ◌≤◌, Bool, false, not, ◌&&◌, ◌==◌, List, [], ◌∷◌, ◌++◌, length, take, filter, reverse, slice_index, ℤ, pos}
+use Rattle.std.specs.Prelude.{int_lt, nat_lt, nat_le, AllPairs, IsPermutation, sum_by, if◌then◌else◌}
 use Rattle.std.specs.Int.{bit_at}
 use Rattle.std.specs.List.{range_with_len}
 use Rattle.msp_instance.specs.declared.Instance.{Instance}
 use Rattle.msp_instance.specs.Instance.{job_at}
-use Rattle.msp_schedule.specs.Rows.{time_at}
-use Rattle.msp_weighted.specs.Late.{IsDueBefore, EndInTime}
+use Rattle.msp_schedule.specs.BackToBack.{time_at}
+use Rattle.msp_route.specs.Dates.{IsDueBefore}
+use Rattle.msp_weighted.specs.Late.{EndInTime}
 
 abbrev pub weight_at : Instance → ℕ → ℕ
 weight_at i j = (job_at i j).weight
@@ -41,25 +43,25 @@ abbrev pub is_taken : Instance → List ℕ → ℕ → ℕ → Bool
 is_taken i order k t = gains (time_at i (slice_index order k)) (weight_at i (slice_index order k)) (job_at i (slice_index order k)).due (values_of i (take k order)) t
 
 -- The bit of a number in words.
-unfoldable pub is_marked : List ℕ → ℕ → Bool
-is_marked words n = bit_at (slice_index words (n / 64)) (n % 64) == 1
+unfoldable pub is_flagged : List ℕ → ℕ → Bool
+is_flagged words n = bit_at (slice_index words (n / 64)) (n % 64) == 1
 
--- Of so many values each that is not 0 stands in a block of 64 that has a mark.
+-- Of so many values each that is not 0 stands in a block of 64 that has a flag.
 abbrev pub AreReached : ℕ → List ℕ → List ℕ → Type 0
-AreReached width values reached = (t : ℕ) → t < width → is_marked reached (t / 64) ≡ false → slice_index values t ≡ 0
+AreReached width values reached = (t : ℕ) → t < width → is_flagged reached (t / 64) ≡ false → slice_index values t ≡ 0
 
--- A job was put into the values, and a row of marks says where.
-pub record IsPut (time weight : ℕ) (due : ℤ) (row width : ℕ) (values marks values' marks' : List ℕ) : Type 0 where
+-- A job was put into the values, and a row of flags says where.
+pub record IsPut (time weight : ℕ) (due : ℤ) (row width : ℕ) (values flags values' flags' : List ℕ) : Type 0 where
   pub value : (t : ℕ) → t < width → slice_index values' t ≡ value_with time weight due (slice_index values) t
-  pub marked : (t : ℕ) → t < width → is_marked marks' (row + t) ≡ gains time weight due (slice_index values) t
-  pub before : (m : ℕ) → m < row → is_marked marks' m ≡ is_marked marks m
-  pub behind : (m : ℕ) → row + width ≤ m → is_marked marks' m ≡ is_marked marks m
+  pub flagged : (t : ℕ) → t < width → is_flagged flags' (row + t) ≡ gains time weight due (slice_index values) t
+  pub before : (m : ℕ) → m < row → is_flagged flags' m ≡ is_flagged flags m
+  pub behind : (m : ℕ) → row + width ≤ m → is_flagged flags' m ≡ is_flagged flags m
 
--- The values after the first k jobs of a list, and a row of marks for each of them.
-pub record IsFilled (i : Instance) (order : List ℕ) (width k : ℕ) (values marks : List ℕ) : Type 0 where
+-- The values after the first k jobs of a list, and a row of flags for each of them.
+pub record IsFilled (i : Instance) (order : List ℕ) (width k : ℕ) (values flags : List ℕ) : Type 0 where
   pub value : (t : ℕ) → t < width → slice_index values t ≡ values_of i (take k order) t
-  pub marked : (j t : ℕ) → j < k → t < width → is_marked marks (j * width + t) ≡ is_taken i order j t
-  pub clear : (m : ℕ) → k * width ≤ m → is_marked marks m ≡ false
+  pub flagged : (j t : ℕ) → j < k → t < width → is_flagged flags (j * width + t) ≡ is_taken i order j t
+  pub clear : (m : ℕ) → k * width ≤ m → is_flagged flags m ≡ false
 
 -- A list is split in two that keep its order.
 pub data IsSplit : List ℕ → List ℕ → List ℕ → Type 0 where
@@ -67,13 +69,13 @@ pub data IsSplit : List ℕ → List ℕ → List ℕ → Type 0 where
   first : (x : ℕ) {xs ys zs : List ℕ} → IsSplit xs ys zs → IsSplit (x ∷ xs) (x ∷ ys) zs
   second : (x : ℕ) {xs ys zs : List ℕ} → IsSplit xs ys zs → IsSplit (x ∷ xs) ys (x ∷ zs)
 
--- The jobs of a list that are chosen, and the others from the last one on: the chosen ones are on time in a row, and weigh a value less 1.
+-- The jobs of a list that are chosen, and the others from the last one on: the chosen ones are on time back to back, and weigh a value less 1.
 pub record IsChosen (i : Instance) (order : List ℕ) (value : ℕ) (on_time left : List ℕ) : Type 0 where
   pub split : IsSplit order on_time (reverse left)
   pub in_time : EndInTime i 0 on_time
   pub weight : value ≡ 1 + sum_by (weight_at i) on_time
 
--- All jobs, each once: of the jobs by due date those chosen ones, of greatest weight, that are on time in a row, and then the others by number.
+-- All jobs, each once: of the jobs by due date those chosen ones, of greatest weight, that are on time back to back, and then the others by number.
 pub record IsTableOrder (i : Instance) (order : List ℕ) : Type 0 where
   pub by_date : List ℕ
   pub on_time : List ℕ

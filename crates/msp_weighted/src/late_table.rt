@@ -1,29 +1,28 @@
 // The solver: the jobs that the table chooses by due date, and then the others by number.
-ghost use Rattle.std.specs.Prelude.{◌≡◌, ◌+◌, ◌<◌, ◌≤◌, length, map, pos, ◌^◌, ◌+ℤ◌, slice_index_or, sum_by, All, AllPairs, IfOk, IsPermutation, ⊤};
-ghost use Rattle.std.specs.List.{range_with_len};
+ghost use Rattle.std.specs.Prelude.{◌≡◌, ◌+◌, ◌<◌, ◌≤◌, length, map, slice_index_or, sum_by, All, AllPairs, IfOk, IsPermutation};
 ghost use Rattle.std.specs.Ordering.{nat_cmp};
-ghost use Rattle.msp_instance.specs.declared.ranges.TheConstants.{GREATEST, MOST_JOBS};
+ghost use Rattle.msp_class.specs.declared.sizes.TheConstants.{MOST_JOBS, GREATEST};
 ghost use Rattle.msp_instance.specs.Instance.{no_need};
 ghost use Rattle.msp_instance.specs.Conditions.{Inner};
 ghost use Rattle.msp_schedule.specs.Cost.{IsBest};
 ghost use Rattle.msp_schedule.specs.Fraction.{IsLowest};
 ghost use Rattle.msp_schedule.specs.Settled.{IsSettled};
 ghost use Rattle.msp_route.specs.Bounds.{IsAnswer};
-ghost use Rattle.msp_weighted.specs.Late.{late_class, time_of, total_time, IsDueBefore, IsLateOrder};
+ghost use Rattle.msp_weighted.specs.Late.{late_class, time_of, total_time, IsLateOrder};
 ghost use Rattle.msp_weighted.specs.Limits.{AreLimits};
-ghost use Rattle.msp_weighted.specs.Steps.{AreKeys, IsRowOf};
+ghost use Rattle.msp_weighted.specs.Steps.{IsOrderOf};
 ghost use Rattle.msp_weighted.specs.Values.{IsTableOrder};
 
 use crate::table::{best_moment, table_of};
 use crate::walk::{Choice, chosen};
 use msp_class::{Class, Crit, Env, NoMemory, Order, Times};
 use msp_instance::{Instance, Job};
-use msp_route::{Solver, first_time, jobs_by_key, solution_in_order};
+use msp_route::{Solver, first_time, jobs_by_date, solution_in_order};
 use msp_schedule::Solution;
 use std::alloc::Global;
 use std::cmp::Ordering;
 
-/// How long all jobs may take together.
+/// How long all jobs may take together: the table has a bit for each of `MOST_JOBS` jobs and each moment.
 pub const GREATEST_TOTAL: u64 = 1_000_000;
 
 /// The limit by its number.
@@ -54,37 +53,6 @@ fn total_of(jobs: &[Job]) -> u64
     total
 }
 
-/// A number that rises with the due date.
-fn key_of(due: i64) -> u64
-    ensures { pos result ≡ due +ℤ pos (2 ^ 63) }
-{
-    (i128::from(due) + (1 << 63)) as u64
-}
-
-/// The keys of all jobs, in order of number.
-fn keys_of(alloc: Global, inst: &Instance) -> Result<Vec<u64>, NoMemory>
-    ensures count { IfOk result (λ keys. length keys.items ≡ length inst.now.jobs) }
-    ensures each { IfOk result (λ keys. AreKeys inst.now keys.items) }
-{
-    let jobs = inst.jobs.as_slice();
-    let mut keys = Vec::new(alloc);
-    for k in 0..jobs.len() {
-        let key = key_of(jobs[k].due);
-        keys.push(key)?;
-    }
-    Ok(keys)
-}
-
-/// All jobs by due date, ties by number.
-fn jobs_by_date(alloc: Global, inst: &Instance) -> Result<Vec<u32>, NoMemory>
-    requires { length inst.now.jobs ≤ MOST_JOBS }
-    ensures all { IfOk result (λ order. IsPermutation (range_with_len 0 (length inst.now.jobs)) order.items) }
-    ensures sorted { IfOk result (λ order. AllPairs (IsDueBefore inst.now) order.items) }
-{
-    let keys = keys_of(alloc, inst)?;
-    jobs_by_key(alloc, &keys)
-}
-
 fn compare_numbers(a: &u32, b: &u32) -> Ordering
     ensures { result ≡ nat_cmp a.now b.now }
 {
@@ -100,7 +68,7 @@ fn sort_by_number(jobs: &mut Vec<u32>)
 
 /// The jobs that are on time, and then the others, sorted.
 fn in_order(choice: Choice) -> Result<Vec<u32>, NoMemory>
-    ensures { IfOk result (λ o. IsRowOf choice.on_time.items choice.left.items o.items) }
+    ensures { IfOk result (λ o. IsOrderOf choice.on_time.items choice.left.items o.items) }
 {
     let Choice {
         mut on_time,
@@ -126,7 +94,7 @@ fn late_order(alloc: Global, inst: &Instance) -> Result<Vec<u32>, NoMemory>
     let table = table_of(alloc, inst, &order, total)?;
     let moment = best_moment(&table.values);
     let width = total as usize + 1;
-    let choice = chosen(alloc, inst, &order, &table.marks, width, moment)?;
+    let choice = chosen(alloc, inst, &order, &table.flags, width, moment)?;
     in_order(choice)
 }
 
@@ -143,8 +111,6 @@ impl Solver for LateTable {
     ghost solved = { λ _. late_class };
 
     ghost can_solve = { λ _ i. total_time i ≤ GREATEST_TOTAL };
-
-    ghost may_ask = { λ _ _. ⊤ };
 
     fn target(&self) -> Class {
         LATE_CLASS

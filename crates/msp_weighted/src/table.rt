@@ -1,8 +1,8 @@
 // The table: for each total time the greatest weight that is on time, and which jobs gave it.
 ghost use Rattle.std.specs.Prelude.{◌≡◌, ◌≢◌, ℕ, ◌+◌, ◌-◌, ◌*◌, ◌/◌, ◌<◌, ◌≤◌, true, false, length, pos, ◌≤ℤ◌, ◌<ℤ◌, slice_index, slice_index_or, All, IfOk};
-ghost use Rattle.msp_instance.specs.declared.ranges.TheConstants.{GREATEST, MOST_JOBS};
+ghost use Rattle.msp_class.specs.declared.sizes.TheConstants.{MOST_JOBS, GREATEST};
 ghost use Rattle.msp_instance.specs.Instance.{no_need};
-ghost use Rattle.msp_weighted.specs.Values.{is_marked, first_value, AreReached, IsPut, IsFilled};
+ghost use Rattle.msp_weighted.specs.Values.{is_flagged, first_value, AreReached, IsPut, IsFilled};
 ghost use Rattle.msp_weighted.specs.Steps.{is_gain, value_at, IsPutFrom, IsTableOf};
 
 use crate::bits::{is_set, set_bit};
@@ -15,10 +15,10 @@ use std::alloc::Global;
 #[derive(Drop)]
 pub(crate) struct Table {
     pub(crate) values: Vec<u64>,
-    pub(crate) marks: Vec<u64>,
+    pub(crate) flags: Vec<u64>,
 }
 
-/// A job as it is put into the table: its time, its weight, and where its row of marks begins.
+/// A job as it is put into the table: its time, its weight, and where its row of flags begins.
 #[derive(Clone, Copy)]
 struct Entry {
     time: usize,
@@ -44,25 +44,25 @@ fn improve(values: &mut [u64], time: usize, weight: u64, moment: usize) -> bool
     false
 }
 
-/// The same, and marks where it does: one for the job, and one for the block of moments.
-fn put_at(values: &mut [u64], marks: &mut [u64], reached: &mut [u64], entry: Entry, moment: usize)
+/// The same, and flags where it does: one for the job, and one for the block of moments.
+fn put_at(values: &mut [u64], flags: &mut [u64], reached: &mut [u64], entry: Entry, moment: usize)
     requires begins { entry.time ≤ moment }
     requires inside { moment < length values.old }
     requires small { slice_index values.old (moment - entry.time) ≤ GREATEST * MOST_JOBS }
     requires light { entry.weight ≤ GREATEST }
     requires row { entry.row ≤ GREATEST * MOST_JOBS }
-    requires room { (entry.row + moment) / 64 < length marks.old }
-    requires clear { is_marked marks.old (entry.row + moment) ≡ false }
+    requires room { (entry.row + moment) / 64 < length flags.old }
+    requires clear { is_flagged flags.old (entry.row + moment) ≡ false }
     requires blocks { length values.old ≤ 4096 * length reached.old }
     requires reached { AreReached (length values.old) values.old reached.old }
     ensures value { slice_index values.new moment ≡ value_at values.old entry.time entry.weight moment (is_gain values.old entry.time entry.weight moment) }
     ensures others { (t : ℕ) → t ≢ moment → slice_index values.new t ≡ slice_index values.old t }
-    ensures mark { is_marked marks.new (entry.row + moment) ≡ is_gain values.old entry.time entry.weight moment }
-    ensures kept { (m : ℕ) → m ≢ entry.row + moment → is_marked marks.new m ≡ is_marked marks.old m }
+    ensures flag { is_flagged flags.new (entry.row + moment) ≡ is_gain values.old entry.time entry.weight moment }
+    ensures kept { (m : ℕ) → m ≢ entry.row + moment → is_flagged flags.new m ≡ is_flagged flags.old m }
     ensures reached { AreReached (length values.old) values.new reached.new }
 {
     if improve(values, entry.time, entry.weight, moment) {
-        set_bit(marks, entry.row + moment);
+        set_bit(flags, entry.row + moment);
         set_bit(reached, moment / 64);
     }
 }
@@ -70,7 +70,7 @@ fn put_at(values: &mut [u64], marks: &mut [u64], reached: &mut [u64], entry: Ent
 /// Puts a job at moments from the last one to the first, so that it counts once.
 fn put_range(
     values: &mut [u64],
-    marks: &mut [u64],
+    flags: &mut [u64],
     reached: &mut [u64],
     entry: Entry,
     first: usize,
@@ -83,24 +83,24 @@ fn put_range(
     requires small { (t : ℕ) → t < end → slice_index values.old t ≤ GREATEST * MOST_JOBS }
     requires light { entry.weight ≤ GREATEST }
     requires row { entry.row ≤ GREATEST * MOST_JOBS }
-    requires room { entry.row + end ≤ 64 * length marks.old }
-    requires clear { (m : ℕ) → entry.row + first ≤ m → m < entry.row + end → is_marked marks.old m ≡ false }
+    requires room { entry.row + end ≤ 64 * length flags.old }
+    requires clear { (m : ℕ) → entry.row + first ≤ m → m < entry.row + end → is_flagged flags.old m ≡ false }
     requires blocks { length values.old ≤ 4096 * length reached.old }
     requires reached { AreReached (length values.old) values.old reached.old }
-    ensures put { IsPutFrom entry first end values.old marks.old values.new marks.new }
+    ensures put { IsPutFrom entry first end values.old flags.old values.new flags.new }
     ensures reached { AreReached (length values.old) values.new reached.new }
 {
     let mut moment = end;
     while moment > first {
         moment -= 1;
-        put_at(values, marks, reached, entry, moment);
+        put_at(values, flags, reached, entry, moment);
     }
 }
 
 /// Puts a job at the moments before `end` that it reaches from a block, where any value of the block is reached.
 fn put_block(
     values: &mut [u64],
-    marks: &mut [u64],
+    flags: &mut [u64],
     reached: &mut [u64],
     entry: Entry,
     block: usize,
@@ -113,15 +113,15 @@ fn put_block(
     requires small { (t : ℕ) → t < end → slice_index values.old t ≤ GREATEST * MOST_JOBS }
     requires light { entry.weight ≤ GREATEST }
     requires row { entry.row ≤ GREATEST * MOST_JOBS }
-    requires room { entry.row + end ≤ 64 * length marks.old }
-    requires clear { (m : ℕ) → entry.row ≤ m → m < entry.row + end → is_marked marks.old m ≡ false }
+    requires room { entry.row + end ≤ 64 * length flags.old }
+    requires clear { (m : ℕ) → entry.row ≤ m → m < entry.row + end → is_flagged flags.old m ≡ false }
     requires blocks { length values.old ≤ 4096 * length reached.old }
     requires reached { AreReached (length values.old) values.old reached.old }
-    ensures put { IsPutFrom entry (block * 64 + entry.time) end values.old marks.old values.new marks.new }
+    ensures put { IsPutFrom entry (block * 64 + entry.time) end values.old flags.old values.new flags.new }
     ensures reached { AreReached (length values.old) values.new reached.new }
 {
     if is_set(reached, block) {
-        put_range(values, marks, reached, entry, block * 64 + entry.time, end);
+        put_range(values, flags, reached, entry, block * 64 + entry.time, end);
     }
 }
 
@@ -137,24 +137,24 @@ fn moments_by(due: i64, width: usize) -> usize
     width.min(due as usize + 1)
 }
 
-/// Puts a job into the values, from its latest end to its earliest, block by block; and marks its row of bits.
-fn put_job(values: &mut [u64], marks: &mut [u64], reached: &mut [u64], entry: Entry, due: i64)
+/// Puts a job into the values, from its latest end to its earliest, block by block; and flags its row of bits.
+fn put_job(values: &mut [u64], flags: &mut [u64], reached: &mut [u64], entry: Entry, due: i64)
     requires time { 0 < entry.time }
     requires small { (t : ℕ) → t < length values.old → slice_index values.old t ≤ GREATEST * MOST_JOBS }
     requires width { length values.old ≤ GREATEST }
     requires light { entry.weight ≤ GREATEST }
     requires row { entry.row ≤ GREATEST * MOST_JOBS }
-    requires room { entry.row + length values.old ≤ 64 * length marks.old }
-    requires clear { (m : ℕ) → entry.row ≤ m → is_marked marks.old m ≡ false }
+    requires room { entry.row + length values.old ≤ 64 * length flags.old }
+    requires clear { (m : ℕ) → entry.row ≤ m → is_flagged flags.old m ≡ false }
     requires blocks { length values.old ≤ 4096 * length reached.old }
     requires reached { AreReached (length values.old) values.old reached.old }
-    ensures put { IsPut entry.time entry.weight due entry.row (length values.old) values.old marks.old values.new marks.new }
+    ensures put { IsPut entry.time entry.weight due entry.row (length values.old) values.old flags.old values.new flags.new }
     ensures reached { AreReached (length values.old) values.new reached.new }
 {
     let mut end = moments_by(due, values.len());
     while end > entry.time {
         let block = (end - 1 - entry.time) / 64;
-        put_block(values, marks, reached, entry, block, end);
+        put_block(values, flags, reached, entry, block, end);
         end = block * 64 + entry.time;
     }
 }
@@ -164,7 +164,7 @@ fn put_jobs(
     inst: &Instance,
     order: &[u32],
     values: &mut [u64],
-    marks: &mut [u64],
+    flags: &mut [u64],
     reached: &mut [u64],
 )
     requires few { length order.now ≤ MOST_JOBS }
@@ -172,12 +172,12 @@ fn put_jobs(
     requires needs { All (λ j. (0 < length j.needs) × (0 < (slice_index_or j.needs 0 no_need).time)) inst.now.jobs }
     requires light { All (λ j. j.weight ≤ GREATEST) inst.now.jobs }
     requires width { length values.old ≤ GREATEST }
-    requires room { length order.now * length values.old ≤ 64 * length marks.old }
+    requires room { length order.now * length values.old ≤ 64 * length flags.old }
     requires start { (t : ℕ) → t < length values.old → slice_index values.old t ≡ first_value t }
-    requires clear { (m : ℕ) → is_marked marks.old m ≡ false }
+    requires clear { (m : ℕ) → is_flagged flags.old m ≡ false }
     requires blocks { length values.old ≤ 4096 * length reached.old }
     requires reached { AreReached (length values.old) values.old reached.old }
-    ensures { IsFilled inst.now order.now (length values.old) (length order.now) values.new marks.new }
+    ensures { IsFilled inst.now order.now (length values.old) (length order.now) values.new flags.new }
 {
     let jobs = inst.jobs.as_slice();
     let width = values.len();
@@ -188,7 +188,7 @@ fn put_jobs(
             weight: job.weight,
             row: k * width,
         };
-        put_job(values, marks, reached, entry, job.due);
+        put_job(values, flags, reached, entry, job.due);
     }
 }
 
@@ -214,7 +214,7 @@ fn first_values(alloc: Global, width: usize) -> Result<Vec<u64>, NoMemory>
 /// The blocks of 64 moments that are reached where there are no jobs: the first one.
 fn first_blocks(alloc: Global, width: usize) -> Result<Vec<u64>, NoMemory>
     ensures room { IfOk result (λ reached. width ≤ 4096 * length reached.items) }
-    ensures first { IfOk result (λ reached. is_marked reached.items 0 ≡ true) }
+    ensures first { IfOk result (λ reached. is_flagged reached.items 0 ≡ true) }
 {
     let mut reached = zeros(alloc, width / 4096 + 1)?;
     set_bit(&mut reached, 0);
@@ -234,15 +234,15 @@ pub(crate) fn table_of(
     requires light { All (λ j. j.weight ≤ GREATEST) inst.now.jobs }
     requires short { total < GREATEST }
     ensures width { IfOk result (λ t. length t.values.items ≡ total + 1) }
-    ensures room { IfOk result (λ t. length order.now * (total + 1) ≤ 64 * length t.marks.items) }
+    ensures room { IfOk result (λ t. length order.now * (total + 1) ≤ 64 * length t.flags.items) }
     ensures filled { IfOk result (IsTableOf inst.now order.now (total + 1)) }
 {
     let width = total as usize + 1;
     let mut values = first_values(alloc, width)?;
-    let mut marks = zeros(alloc, order.len() * width / 64 + 1)?;
+    let mut flags = zeros(alloc, order.len() * width / 64 + 1)?;
     let mut reached = first_blocks(alloc, width)?;
-    put_jobs(inst, order, &mut values, &mut marks, &mut reached);
-    Ok(Table { values, marks })
+    put_jobs(inst, order, &mut values, &mut flags, &mut reached);
+    Ok(Table { values, flags })
 }
 
 /// The moment of the greatest value.

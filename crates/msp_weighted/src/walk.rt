@@ -1,9 +1,9 @@
-// The way back through the marks of the table, which chooses the jobs.
+// The way back through the flags of the table, which chooses the jobs.
 ghost use Rattle.std.specs.Prelude.{◌≡◌, ◌*◌, ◌<◌, ◌≤◌, true, false, length, slice_index_or, All, IfOk};
-ghost use Rattle.msp_instance.specs.declared.ranges.TheConstants.{GREATEST, MOST_JOBS};
+ghost use Rattle.msp_class.specs.declared.sizes.TheConstants.{MOST_JOBS, GREATEST};
 ghost use Rattle.msp_instance.specs.Instance.{no_need};
 ghost use Rattle.msp_weighted.specs.Values.{values_of};
-ghost use Rattle.msp_weighted.specs.Steps.{AreMarks, Takes, Leaves, IsChoiceAt};
+ghost use Rattle.msp_weighted.specs.Steps.{AreFlags, Takes, Leaves, IsChoiceAt};
 
 use crate::bits::is_set;
 use msp_class::NoMemory;
@@ -39,7 +39,7 @@ pub(crate) fn chosen(
     alloc: Global,
     inst: &Instance,
     order: &[u32],
-    marks: &[u64],
+    flags: &[u64],
     width: usize,
     moment: usize,
 ) -> Result<Choice, NoMemory>
@@ -47,9 +47,9 @@ pub(crate) fn chosen(
     requires jobs { All (λ j. j < length inst.now.jobs) order.now }
     requires needs { All (λ j. (0 < length j.needs) × (0 < (slice_index_or j.needs 0 no_need).time)) inst.now.jobs }
     requires width { width ≤ GREATEST }
-    requires room { length order.now * width ≤ 64 * length marks.now }
+    requires room { length order.now * width ≤ 64 * length flags.now }
     requires inside { moment < width }
-    requires marks { AreMarks inst.now order.now width marks.now }
+    requires flags { AreFlags inst.now order.now width flags.now }
     requires some { 0 < values_of inst.now order.now moment }
     ensures { IfOk result (IsChoiceAt inst.now order.now moment) }
 {
@@ -64,7 +64,7 @@ pub(crate) fn chosen(
         place -= 1;
         let job = order[place];
         let time = first_time(&jobs[job as usize]) as usize;
-        let taken = is_set(marks, place * width + choice.moment);
+        let taken = is_set(flags, place * width + choice.moment);
         take_or_leave(&mut choice, job, time, taken)?;
     }
     choice.on_time.reverse();

@@ -19,11 +19,12 @@ use Rattle.msp_schedule.specs.Cost.{cost_of, Best}
 use Rattle.msp_schedule.specs.Fraction.{IsOver}
 use Rattle.msp_schedule.specs.Within.{IsMoment, Within}
 use Rattle.msp_schedule.proofs.feasible.OneMachine.{apart_in_int, pieces_of-job, total_lengths}
-use Rattle.msp_schedule.proofs.feasible.OneRow.{ordered_without_arcs}
-use Rattle.msp_schedule.specs.Rows.{time_at}
+use Rattle.msp_schedule.proofs.feasible.BackToBack.{ordered_without_arcs}
+use Rattle.msp_schedule.specs.BackToBack.{time_at}
 use Rattle.msp_schedule.proofs.bounds.Groups.{job_is_over, jobs_are_over}
 use Rattle.msp_schedule.proofs.costs.Makespan.{ends_by_whole_cost, cost_by_ends, cost_above}
 use Rattle.std.proofs.lemmas.List.Elements.{All-filter}
+use Rattle.msp_class.specs.declared.sizes.TheConstants.{MOST_JOBS, GREATEST}
 use Rattle.msp_route.specs.Bounds.{IsAnswer, answer_unit}
 use Rattle.msp_wrap.specs.Wrap.{wrap_class, longest_time, total_time, least_end, IsWrapCost}
 use Rattle.msp_wrap.specs.Laying.{IsWrapped, IsWhollyWrapped}
@@ -130,7 +131,7 @@ module _ (i : Instance) (h : IsWrapInstance i) (end q o : ℕ) (ps : List Piece)
   moments : All (λ p. IsMoment p.from × IsMoment p.to) ps
   moments k d l = by (get_or ps k d) (w.laid.timed k d l) (omega (arith, w.laid.ends k d l, is, least_end-short i h))
     where
-      by : (p : Piece) → IsTimed p → finish p ≤ 400000000000 → IsMoment p.from × IsMoment p.to
+      by : (p : Piece) → IsTimed p → finish p ≤ (MOST_JOBS * GREATEST) → IsMoment p.from × IsMoment p.to
       by p t m = ((omega (arith, ints, t.from), omega (arith, ints, t.from, t.lasts, m)), (omega (arith, ints, t.to), omega (arith, ints, t.to, m)))
 
   is_within : Within i s
@@ -160,7 +161,8 @@ module _ (i : Instance) (h : IsWrapInstance i) (end q o : ℕ) (ps : List Piece)
   }
 
 -- ---- as the code has it
-pub IsWrapSchedule-read : (i : Instance) → i.class ≡ wrap_class → Inner i → (end : ℕ) (unit : ℤ) (ps : List Piece) → end ≡ least_end i → unit ≡ pos i.machines → IsWhollyWrapped i end ps → IsWrapSchedule i (record { unit = unit; pieces = ps })
+pub IsWrapSchedule-read : (i : Instance) → i.class ≡ wrap_class → Inner i → (end : ℕ) (unit : ℤ) (ps : List Piece)
+    → end ≡ least_end i → unit ≡ pos i.machines → IsWhollyWrapped i end ps → IsWrapSchedule i (record { unit = unit; pieces = ps })
 IsWrapSchedule-read i class inner end unit ps is e w = subst (λ u. IsWrapSchedule i (record { unit = u; pieces = ps })) (sym e) (IsWrapSchedule-made (IsWrapInstance-from_class i class inner))
   where
     IsWrapSchedule-made : IsWrapInstance i → IsWrapSchedule i (wrap_schedule i ps)

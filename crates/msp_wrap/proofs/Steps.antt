@@ -1,10 +1,12 @@
 -- One job more: its pieces are laid at the place with room.
-use Rattle.std.proofs.Common.{◌≡◌, ℕ, suc, ◌+◌, ◌*◌, ◌-◌, ◌<◌, ◌≤◌, ◌⊎◌, inl, inr, Bool, true, false, cond, eqb, leb, List, [], ◌∷◌, ◌++◌, length, get_or, filter, All, AllPairs, sum_by, refl, sym, ap, ◌∙◌, subst, arith, length-append}
+use Rattle.std.proofs.Common.{◌≡◌, ℕ, suc, ◌+◌, ◌*◌, ◌-◌, ◌<◌, ◌≤◌, ◌⊎◌, inl, inr, Bool, true, false, cond, eqb, leb, List, [], ◌∷◌, ◌++◌, length, get_or, filter, All, AllPairs}
+use Rattle.std.proofs.Common.{sum_by, refl, sym, ap, ◌∙◌, subst, arith, length-append}
 use Rattle.std.proofs.lemmas.Bool.{eqb-true, eqb-false, leb-true, leb-false}
 use Rattle.std.proofs.lemmas.List.{get_or_default}
 use Rattle.std.proofs.lemmas.List.Sums.{sum_by-append, sum_by-cons}
 use Rattle.std.proofs.lemmas.List.Elements.{All-nil, All-cons, All-push, filter-append}
 use Rattle.std.proofs.Math.Nat.{mul-le-mul_left, mul-le-mul_right}
+use Rattle.msp_class.specs.declared.sizes.TheConstants.{MOST_MACHINES}
 use Rattle.msp_class.specs.Sums.{total_below}
 use Rattle.msp_class.proofs.Sums.{sum_by-filter, sum_by-none}
 use Rattle.msp_instance.specs.declared.Instance.{Instance}
@@ -13,7 +15,7 @@ use Rattle.msp_instance.specs.Instance.{no_job}
 use Rattle.msp_schedule.specs.declared.Piece.{Piece}
 use Rattle.msp_schedule.specs.Intervals.{IsApartOn, size_of, work_of}
 use Rattle.msp_schedule.specs.Piece.{job_of, start, finish, IsTimed}
-use Rattle.msp_schedule.specs.Rows.{time_at}
+use Rattle.msp_schedule.specs.BackToBack.{time_at}
 use Rattle.msp_schedule.proofs.feasible.Series.{AllPairs-append}
 use Rattle.msp_wrap.specs.Wrap.{time_of, least_end}
 use Rattle.msp_wrap.specs.Laying.{part, machine_of, IsLaid, IsWrapped, HasOpened}
@@ -41,7 +43,8 @@ IsLaid-push m end q o j r a b ps lasts early inside later h = record {
   timed = All-push IsTimed ps p h.timed (record { from = refl; to = refl; lasts = lasts });
   ends = All-push (λ x. finish x ≤ end) ps p h.ends early;
   place = All-push (λ x. (x.op ≡ 0) × (x.machine < m)) ps p h.place (refl, inside);
-  below = All-push (λ x. (x.machine < r) ⊎ ((x.machine ≡ r) × (finish x ≤ b))) ps p (λ k d l. moved (get_or ps k d).machine (finish (get_or ps k d)) q o r a b later lasts (h.below k d l)) (inr (refl, omega arith));
+  below = All-push (λ x. (x.machine < r) ⊎ ((x.machine ≡ r) × (finish x ≤ b)))
+      ps p (λ k d l. moved (get_or ps k d).machine (finish (get_or ps k d)) q o r a b later lasts (h.below k d l)) (inr (refl, omega arith));
   apart = AllPairs-push (IsApartOn machine_of start finish) ps p h.apart (λ k d l e. inl (cross (get_or ps k d).machine (finish (get_or ps k d)) q o r a later (h.below k d l) e));
 }
   where
@@ -65,13 +68,15 @@ work_of-push ps p j =
     by false = refl
 
 work_of-none : (ps : List Piece) (k : ℕ) → All (λ p. p.job < k) ps → work_of job_of start finish ps k ≡ 0
-work_of-none ps k h = sum_by-filter (size_of start finish) (λ q. eqb (job_of q) k) ps ∙ sum_by-none (λ q. cond (eqb (job_of q) k) (size_of start finish q) 0) ps (λ a d l. by (get_or ps a d).job (size_of start finish (get_or ps a d)) (eqb (get_or ps a d).job k) refl (h a d l))
+work_of-none ps k h = sum_by-filter (size_of start finish) (λ q. eqb (job_of q) k) ps
+    ∙ sum_by-none (λ q. cond (eqb (job_of q) k) (size_of start finish q) 0) ps (λ a d l. by (get_or ps a d).job (size_of start finish (get_or ps a d)) (eqb (get_or ps a d).job k) refl (h a d l))
   where
     by : (j n : ℕ) (b : Bool) → eqb j k ≡ b → j < k → cond b n 0 ≡ 0
     by j n true e l = absurd (omega (arith, eqb-true j k e))
     by j n false e l = refl
 
-work_next : (i : Instance) (k added : ℕ) (ps new : List Piece) → ((j : ℕ) → work_of job_of start finish new j ≡ work_of job_of start finish ps j + cond (eqb k j) added 0) → added ≡ i.machines * time_at i k →
+work_next : (i : Instance) (k added : ℕ) (ps new : List Piece)
+    → ((j : ℕ) → work_of job_of start finish new j ≡ work_of job_of start finish ps j + cond (eqb k j) added 0) → added ≡ i.machines * time_at i k →
     All (λ p. p.job < k) ps → ((j : ℕ) → j < k → work_of job_of start finish ps j ≡ i.machines * time_at i j) → (j : ℕ) → j < k + 1 → work_of job_of start finish new j ≡ i.machines * time_at i j
 work_next i k added ps new more is before h j l = more j ∙ by (eqb k j) refl
   where
@@ -111,7 +116,8 @@ within_next q e m o t h l some = by (leb q m) refl
     by false f = let less : m + 1 ≤ q = omega (arith, leb-false q m f) in absurd (omega (arith, mul-le-mul_right e less, mul-le-mul_left m l, h))
 
 -- ---- one job more
-module _ (i : Instance) (h : IsWrapInstance i) (end k q o r a : ℕ) (ps : List Piece) (is : end ≡ least_end i) (inside : k < length i.jobs) (opens : HasOpened end q o r a) (w : IsWrapped i end k q o ps) where
+module _ (i : Instance) (h : IsWrapInstance i) (end k q o r a : ℕ)
+    (ps : List Piece) (is : end ≡ least_end i) (inside : k < length i.jobs) (opens : HasOpened end q o r a) (w : IsWrapped i end k q o ps) where
   abbrev work : ℕ
   work = i.machines * time_at i k
 
@@ -224,21 +230,23 @@ module _ (i : Instance) (h : IsWrapInstance i) (end k q o r a : ℕ) (ps : List 
     }
 
 -- ---- at the numbers as the code passes them
-pub work_read : (i : Instance) (jobs : List Job) (k t m : ℕ) (job : Job) → jobs ≡ i.jobs → k < length i.jobs → job ≡ get_or jobs k job → t ≡ time_of job → m ≡ i.machines → m * t ≡ i.machines * time_at i k
+pub work_read : (i : Instance) (jobs : List Job) (k t m : ℕ) (job : Job)
+    → jobs ≡ i.jobs → k < length i.jobs → job ≡ get_or jobs k job → t ≡ time_of job → m ≡ i.machines → m * t ≡ i.machines * time_at i k
 work_read i jobs k t m job e l at is same =
     let long : length jobs ≡ length i.jobs = ap length e in
     let read : t ≡ time_at i k = is ∙ ap time_of (at ∙ get_or_default jobs k job no_job (omega arith) ∙ ap (λ xs. get_or xs k no_job) e) in
     ap (λ n. n * t) same ∙ ap (λ n. i.machines * n) read
 
-pub place_small : (i : Instance) → IsWrapInstance i → (end k q o : ℕ) (ps : List Piece) → end ≡ least_end i → k < length i.jobs → IsWrapped i end k q o ps → q ≤ 32
+pub place_small : (i : Instance) → IsWrapInstance i → (end k q o : ℕ) (ps : List Piece) → end ≡ least_end i → k < length i.jobs → IsWrapped i end k q o ps → q ≤ MOST_MACHINES
 place_small i h end k q o ps is inside w =
     omega (arith, h.machines, within_next q end i.machines o _ w.filled (omega (arith, jobs_fit i h k (omega arith), is)) (omega (arith, work_positive i h k inside, job_fits i h k inside, is)))
 
-module _ (i : Instance) (h : IsWrapInstance i) (end k q o r a work : ℕ) (ps : List Piece) (is : end ≡ least_end i) (inside : k < length i.jobs) (opens : HasOpened end q o r a) (w : IsWrapped i end k q o ps) (read : work ≡ i.machines * time_at i k) where
+module _ (i : Instance) (h : IsWrapInstance i) (end k q o r a work : ℕ) (ps : List Piece) (is : end ≡ least_end i)
+    (inside : k < length i.jobs) (opens : HasOpened end q o r a) (w : IsWrapped i end k q o ps) (read : work ≡ i.machines * time_at i k) where
   pub done_small : a + work ≤ 800000000000
   done_small = omega (arith, room i h end k q o r a ps is inside opens w, fits i h end k q o r a ps is inside opens w, read, is, least_end-short i h)
 
-  pub next_small : r < 32
+  pub next_small : r < MOST_MACHINES
   next_small = omega (arith, on_first i h end k q o r a ps is inside opens w, h.machines)
 
   pub one_made : (new : List Piece) → a + work ≤ end → new ≡ ps ++ part k r a (a + work) ∷ [] → IsWrapped i end (k + 1) r (a + work) new
@@ -246,10 +254,12 @@ module _ (i : Instance) (h : IsWrapInstance i) (end k q o r a work : ℕ) (ps : 
       let G : ℕ → Type 0 = λ n. a + n ≤ end → IsWrapped i end (k + 1) r (a + n) (ps ++ part k r a (a + n) ∷ []) in
       subst (IsWrapped i end (k + 1) r (a + work)) (sym e) (subst G (sym read) (IsWrapped-one i h end k q o r a ps is inside opens w) short)
 
-  pub two_made : (begun new : List Piece) → end < a + work → begun ≡ ps ++ part k r a end ∷ [] → new ≡ begun ++ part k (r + 1) 0 ((a + work) - end) ∷ [] → IsWrapped i end (k + 1) (r + 1) ((a + work) - end) new
+  pub two_made : (begun new : List Piece) → end < a + work
+      → begun ≡ ps ++ part k r a end ∷ [] → new ≡ begun ++ part k (r + 1) 0 ((a + work) - end) ∷ [] → IsWrapped i end (k + 1) (r + 1) ((a + work) - end) new
   two_made begun new long e f =
       let G : ℕ → Type 0 = λ n. end < a + n → IsWrapped i end (k + 1) (r + 1) ((a + n) - end) ((ps ++ part k r a end ∷ []) ++ part k (r + 1) 0 ((a + n) - end) ∷ []) in
-      subst (IsWrapped i end (k + 1) (r + 1) ((a + work) - end)) (sym (f ∙ ap (λ l. l ++ part k (r + 1) 0 ((a + work) - end) ∷ []) e)) (subst G (sym read) (IsWrapped-two i h end k q o r a ps is inside opens w) long)
+      subst (IsWrapped i end (k + 1) (r + 1) ((a + work) - end))
+      (sym (f ∙ ap (λ l. l ++ part k (r + 1) 0 ((a + work) - end) ∷ []) e)) (subst G (sym read) (IsWrapped-two i h end k q o r a ps is inside opens w) long)
 
 -- no job is laid yet
 pub IsWrapped-none : (i : Instance) (end : ℕ) → IsWrapped i end 0 0 0 []

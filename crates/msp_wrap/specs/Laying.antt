@@ -5,7 +5,7 @@ use Rattle.msp_instance.specs.declared.Instance.{Instance}
 use Rattle.msp_schedule.specs.declared.Piece.{Piece}
 use Rattle.msp_schedule.specs.Intervals.{IsApartOn, work_of}
 use Rattle.msp_schedule.specs.Piece.{job_of, start, finish, IsTimed}
-use Rattle.msp_schedule.specs.Rows.{time_at}
+use Rattle.msp_schedule.specs.BackToBack.{time_at}
 
 -- A piece of a job's one operation.
 abbrev pub part : ℕ → ℕ → ℕ → ℕ → Piece

@@ -1,6 +1,6 @@
 // McNaughton's rule: the jobs in order fill machine after machine up to the least end.
-ghost use Rattle.std.specs.Prelude.{◌≡◌, ◌+◌, ◌*◌, ◌<◌, ◌≤◌, ◌++◌, [], ◌∷◌, max, fold, length, map, sum_by, All, IfOk, OnOk, ⊤};
-ghost use Rattle.msp_instance.specs.declared.ranges.TheConstants.{GREATEST, MOST_JOBS, MOST_MACHINES};
+ghost use Rattle.std.specs.Prelude.{◌≡◌, ◌+◌, ◌*◌, ◌<◌, ◌≤◌, ◌++◌, [], ◌∷◌, max, fold, length, map, sum_by, All, IfOk, OnOk};
+ghost use Rattle.msp_class.specs.declared.sizes.TheConstants.{MOST_JOBS, MOST_MACHINES, GREATEST};
 ghost use Rattle.msp_instance.specs.Conditions.{Inner};
 ghost use Rattle.msp_schedule.specs.Cost.{IsBest};
 ghost use Rattle.msp_route.specs.Bounds.{IsAnswer};
@@ -174,10 +174,6 @@ pub struct Wrap;
 
 impl Solver for Wrap {
     ghost solved = { λ _. wrap_class };
-
-    ghost can_solve = { λ _ _. ⊤ };
-
-    ghost may_ask = { λ _ _. ⊤ };
 
     fn target(&self) -> Class {
         WRAP_CLASS

@@ -1,5 +1,6 @@
 -- On identical and uniform machines a group of the longest jobs shows the best cost of preemptive jobs.
-use Rattle.std.proofs.Common.{◌≡◌, ℕ, zero, suc, ◌+◌, ◌*◌, ◌-◌, ◌<◌, ◌≤◌, inl, inr, min, List, [], ◌∷◌, length, get_or, map, All, AllPairs, Contains, IsPermutation, sum_by, ℤ, pos, nat_abs, ◌*ℤ◌, ◌≤ℤ◌, sym, ap, ◌∙◌, subst, subst₂, arith}
+use Rattle.std.proofs.Common.{◌≡◌, ℕ, zero, suc, ◌+◌, ◌*◌, ◌-◌, ◌<◌, ◌≤◌, inl, inr, min, List, [], ◌∷◌, length, get_or, map, All, AllPairs, Contains, IsPermutation, sum_by, ℤ, pos}
+use Rattle.std.proofs.Common.{nat_abs, ◌*ℤ◌, ◌≤ℤ◌, sym, ap, ◌∙◌, subst, subst₂, arith}
 use Rattle.std.specs.Prelude.{take, sum}
 use Rattle.std.specs.List.{range_with_len}
 use Rattle.std.proofs.Math.Nat.{lt_of_mul-lt-mul_left}
@@ -10,18 +11,20 @@ use Rattle.std.proofs.lemmas.List.Elements.{All-take, Contains-get_or}
 use Rattle.std.proofs.lemmas.List.FromFn.{length-range_with_len}
 use Rattle.std.proofs.lemmas.List.Sorted.{IsPermutation-refl, IsPermutation-map}
 use Rattle.std.proofs.lemmas.List.Sums.{sum_by-cons, sum-map}
+use Rattle.msp_class.specs.declared.sizes.TheConstants.{MOST_JOBS, GREATEST}
 use Rattle.msp_class.specs.declared.class.Crit.TheVariants.{Cmax}
 use Rattle.msp_class.specs.declared.environments.EnvKind.TheVariants.{Identical}
 use Rattle.msp_class.specs.Env.{kind_of}
 use Rattle.msp_class.proofs.IntegerRing.{natural, pos-same, le-pos, zero-le-pos, ≤ℤ_of_same, ≤ℤ_trans, *ℤ-zero, *ℤ-cancel, *ℤ_comm, *ℤ_assoc, *ℤ-cancel_same, *ℤ-one}
-use Rattle.msp_class.proofs.Sums.{sum_by-contains, sum_by-mono, sum_by-same, sum_by-constant, sum_by-OnceBelow, OnceBelow-from_permutation, length-OnceBelow, total_below-bound, OnceBelow, OnceBelow-contains}
+use Rattle.msp_class.proofs.Sums.{sum_by-contains, sum_by-mono, sum_by-same, sum_by-constant, sum_by-OnceBelow, OnceBelow-from_permutation, length-OnceBelow, total_below-bound}
+use Rattle.msp_class.proofs.Sums.{OnceBelow, OnceBelow-contains}
 use Rattle.msp_instance.specs.declared.Instance.{Instance}
 use Rattle.msp_instance.specs.Instance.{no_job, no_need}
 use Rattle.msp_instance.specs.Conditions.{InClass}
 use Rattle.msp_instance.proofs.Limits.{Inner-from_class}
 use Rattle.msp_schedule.specs.declared.Frac.{Frac}
 use Rattle.msp_schedule.specs.Fraction.{IsOver}
-use Rattle.msp_schedule.specs.Rows.{time_at}
+use Rattle.msp_schedule.specs.BackToBack.{time_at}
 use Rattle.msp_schedule.specs.Speeds.{HaveSpeeds, speed_by, speed_of}
 use Rattle.msp_schedule.specs.Blocks.{total_time}
 use Rattle.msp_schedule.proofs.feasible.OfClass.{IsOfClass-from}
@@ -54,13 +57,14 @@ module _ (i : Instance) (c : InClass i) (makespan : i.class.crit ≡ Cmax) (spee
 
   speed_at_most : (k : ℕ) → sum_by (speed_of i) (take k machines) ≤ 32000000
   speed_at_most k =
-      omega (arith, first k, sum_by-mono (λ x. x) (λ _. 1000000) (take k order) (All-take (λ s. s ≤ 1000000) k order small.slow), sum_by-constant 1000000 (take k order), length-take k order, small.few)
+      omega
+      (arith, first k, sum_by-mono (λ x. x) (λ _. 1000000) (take k order) (All-take (λ s. s ≤ 1000000) k order small.slow), sum_by-constant 1000000 (take k order), length-take k order, small.few)
 
   speed_at_least : (k : ℕ) → 1 ≤ k → 1 ≤ sum_by (speed_of i) (take k machines)
   speed_at_least k some = omega (arith, first k, first_some order k some small.some small.fast)
 
   pub IsTriedValue-group : (cost : Frac) (k time : ℕ) → 1 ≤ k → k ≤ length i.jobs → IsOver cost (pos time) (pos (sum_by (speed_of i) (take k machines)))
-      → time ≤ 400000000000 → ((longest : List ℕ) → AreLongestFirst i longest → time ≡ total_time i (take k longest)) → IsTriedValue i cost
+      → time ≤ (MOST_JOBS * GREATEST) → ((longest : List ℕ) → AreLongestFirst i longest → time ≡ total_time i (take k longest)) → IsTriedValue i cost
   IsTriedValue-group cost k time some few over short work = record {
     value = time;
     unit = sum_by (speed_of i) (take k machines);
@@ -72,8 +76,13 @@ module _ (i : Instance) (c : InClass i) (makespan : i.class.crit ≡ Cmax) (spee
         let next : k ≡ k - 1 + 1 = omega (arith, some) in (
           Group (take k longest),
           subst (λ n. Contains (tried i longest level) (Group (take n longest))) (sym next) (tried-group i longest level (k - 1) (omega (arith, some, few))),
-          subst (λ n. IsGroup i (take n longest)) (sym next) (group_of_longest i longest (k - 1) first (record { makespan = makespan; speeds = speeds }) (omega (arith, some, few, all_longest i longest first))),
-          (ap pos (work longest first), subst (λ n. IsSpeedOfFastest i n (sum_by (speed_of i) (take k machines))) (sym (omega (arith, length-take k longest, all_longest i longest first, few))) (IsSpeedOfFastest-first i k machines all falls)),
+          subst (λ n. IsGroup i (take n longest)) (sym next)
+              (group_of_longest i longest (k - 1) first (record { makespan = makespan; speeds = speeds }) (omega (arith, some, few, all_longest i longest first))),
+          (
+            ap pos (work longest first),
+            subst (λ n. IsSpeedOfFastest i n (sum_by (speed_of i) (take k machines)))
+                (sym (omega (arith, length-take k longest, all_longest i longest first, few))) (IsSpeedOfFastest-first i k machines all falls),
+          ),
         );
   }
 
@@ -96,7 +105,8 @@ module _ (i : Instance) (c : InClass i) (class : i.class ≡ wrap_class) (cost :
 
   speed_is : (k : ℕ) → sum_by (speed_of i) (take k all_machines) ≡ min k i.machines
   speed_is k =
-      let each : sum_by (speed_of i) (take k all_machines) ≡ sum_by (λ _. 1) (take k all_machines) = sum_by-same (speed_of i) (λ _. 1) (take k all_machines) (λ n d l. speed_one (get_or (take k all_machines) n d)) in
+      let each : sum_by (speed_of i) (take k all_machines) ≡ sum_by (λ _. 1) (take k all_machines) =
+      sum_by-same (speed_of i) (λ _. 1) (take k all_machines) (λ n d l. speed_one (get_or (take k all_machines) n d)) in
       omega (arith, each, sum_by-constant 1 (take k all_machines), length-take k all_machines, length-range_with_len 0 i.machines)
 
   -- the longest job
@@ -128,15 +138,18 @@ module _ (i : Instance) (c : InClass i) (class : i.class ≡ wrap_class) (cost :
 
   more_jobs : i.machines * longest_time i < all_time i → i.machines ≤ length i.jobs
   more_jobs less =
-      let most : all_time i ≤ length i.jobs * longest_time i = omega (arith, total_time-is i facts, total_below-bound (length i.jobs) (longest_time i) (time_at i) (λ j l. time_at-longest i facts j l)) in
+      let most : all_time i ≤ length i.jobs * longest_time i =
+      omega (arith, total_time-is i facts, total_below-bound (length i.jobs) (longest_time i) (time_at i) (λ j l. time_at-longest i facts j l)) in
       let more : longest_time i * i.machines < longest_time i * length i.jobs = omega (arith, less, most) in
       omega (arith, lt_of_mul-lt-mul_left (longest_time i) more)
 
   by_longest : least_end i ≡ i.machines * longest_time i → IsWrapCost i cost → IsTriedValue i cost
-  by_longest e over = IsTriedValue-group i c (ap (λ x. x.crit) class) (inl kind) all_machines (IsPermutation-refl all_machines) even cost 1 (longest_time i) (omega arith) c.conditions.some (over_longest e over) (omega (arith, longest_time-short i facts)) longest_first
+  by_longest e over = IsTriedValue-group i c (ap (λ x. x.crit) class) (inl kind) all_machines (IsPermutation-refl all_machines)
+      even cost 1 (longest_time i) (omega arith) c.conditions.some (over_longest e over) (omega (arith, longest_time-short i facts)) longest_first
 
   by_total : least_end i ≡ all_time i → i.machines ≤ length i.jobs → IsWrapCost i cost → IsTriedValue i cost
-  by_total e many over = IsTriedValue-group i c (ap (λ x. x.crit) class) (inl kind) all_machines (IsPermutation-refl all_machines) even cost (length i.jobs) (all_time i) c.conditions.some (omega arith) (over_total e many over) (total_time-short i facts) work_of_all
+  by_total e many over = IsTriedValue-group i c (ap (λ x. x.crit) class) (inl kind) all_machines (IsPermutation-refl all_machines)
+      even cost (length i.jobs) (all_time i) c.conditions.some (omega arith) (over_total e many over) (total_time-short i facts) work_of_all
 
   pub IsTriedValue-wrap : IsWrapCost i cost → IsTriedValue i cost
   IsTriedValue-wrap over = elim (cases_lt (i.machines * longest_time i) (all_time i)) [
@@ -162,7 +175,8 @@ no_less num den w v r some rest one over low =
 
     nonneg : pos 0 ≤ℤ num
     nonneg =
-        *ℤ-cancel (v + r) (omega (arith, rest)) (≤ℤ_trans (≤ℤ_of_same (*ℤ-zero (pos (v + r)))) (≤ℤ_trans (zero-le-pos (w * nat_abs den)) (≤ℤ_of_same (sym (*ℤ_comm (pos (v + r)) num ∙ over ∙ ap (λ y. pos w *ℤ y) den_is)))))
+        *ℤ-cancel (v + r) (omega (arith, rest))
+        (≤ℤ_trans (≤ℤ_of_same (*ℤ-zero (pos (v + r)))) (≤ℤ_trans (zero-le-pos (w * nat_abs den)) (≤ℤ_of_same (sym (*ℤ_comm (pos (v + r)) num ∙ over ∙ ap (λ y. pos w *ℤ y) den_is)))))
 
     by : (a d : ℕ) → num ≡ pos a → den ≡ pos d → ⊥
     by a d ea ed =
@@ -202,7 +216,8 @@ module _ (i : Instance) (c : InClass i) (class : i.class ≡ cut_class) (cost : 
   -- where there are fewer jobs, all of them over as many machines are more
   not_all : IsOver cost (pos (work i u.jobs)) (pos (speed i u.machines)) → length i.jobs < i.machines → ⊥
   not_all over less =
-      no_less cost.num cost.den (work i u.jobs) (speed i (take (length i.jobs) u.machines)) (speed i u.machines - speed i (take (length i.jobs) u.machines)) some_work (omega (arith, fewer)) cost.positive
+      no_less cost.num cost.den (work i u.jobs) (speed i (take (length i.jobs) u.machines))
+      (speed i u.machines - speed i (take (length i.jobs) u.machines)) some_work (omega (arith, fewer)) cost.positive
       (subst (λ n. cost.num *ℤ pos n ≡ pos (work i u.jobs) *ℤ cost.den) (omega (arith, fewer)) over)
       (subst (λ x. (pos (work i x) *ℤ cost.den) ≤ℤ (cost.num *ℤ pos (speed i (take (length i.jobs) u.machines)))) jobs (u.firsts (length i.jobs) less (omega arith)))
     where

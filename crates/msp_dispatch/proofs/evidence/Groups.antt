@@ -1,5 +1,6 @@
 -- Groups of the longest jobs, on the fastest machines.
-use Rattle.std.proofs.Common.{◌≡◌, ℕ, zero, suc, ◌+◌, ◌*◌, ◌-◌, ◌<◌, ◌≤◌, inl, inr, List, [], ◌∷◌, length, get_or, map, All, AllPairs, Contains, IsPermutation, sum_by, sym, ap, ◌∙◌, subst, subst₂, arith}
+use Rattle.std.proofs.Common.{◌≡◌, ℕ, zero, suc, ◌+◌, ◌*◌, ◌-◌, ◌<◌, ◌≤◌, inl, inr, List, [], ◌∷◌, length, get_or, map, All, AllPairs, Contains, IsPermutation, sum_by, sym, ap}
+use Rattle.std.proofs.Common.{◌∙◌, subst, subst₂, arith}
 use Rattle.std.specs.Prelude.{take, sum}
 use Rattle.std.specs.List.{range_with_len}
 use Rattle.std.proofs.lemmas.List.{get_or-map, length-map, take-map}
@@ -7,7 +8,7 @@ use Rattle.std.proofs.lemmas.List.Sums.{sum_by-cons, sum-map}
 use Rattle.std.proofs.lemmas.List.Sorted.{IsPermutation-map, IsPermutation-sym, IsPermutation-trans, sum_by-IsPermutation}
 use Rattle.msp_class.proofs.Sums.{AllPairs-head}
 use Rattle.msp_instance.specs.declared.Instance.{Instance}
-use Rattle.msp_schedule.specs.Rows.{time_at}
+use Rattle.msp_schedule.specs.BackToBack.{time_at}
 use Rattle.msp_schedule.specs.Speeds.{speed_of}
 use Rattle.msp_schedule.specs.Blocks.{total_time}
 use Rattle.msp_cert.specs.Certificates.{IsSpeedOfFastest}
@@ -43,11 +44,13 @@ module _ (i : Instance) (longest : List ℕ) (first : AreLongestFirst i longest)
   longest_falls p q d l b = elim (first.falls p q d l b) [ inl less ↦ omega arith | inr same ↦ omega (arith, same.0) ]
 
   -- the k longest jobs take as long together in any other falling order
-  pub first_work : (k : ℕ) (jobs : List ℕ) → 1 ≤ k → IsPermutation (range_with_len 0 (length i.jobs)) jobs → AllPairs (λ a b. time_at i b ≤ time_at i a) jobs → total_time i (take k longest) ≡ sum_by (time_at i) (take k jobs)
+  pub first_work : (k : ℕ) (jobs : List ℕ) → 1 ≤ k → IsPermutation (range_with_len 0 (length i.jobs)) jobs
+      → AllPairs (λ a b. time_at i b ≤ time_at i a) jobs → total_time i (take k longest) ≡ sum_by (time_at i) (take k jobs)
   first_work k jobs some all falls =
       let ordered : IsPermutation longest jobs = IsPermutation-trans longest _ jobs (IsPermutation-sym _ longest first.all) all in
       spread longest
-      ∙ first_same k (map (time_at i) longest) (map (time_at i) jobs) some (IsPermutation-map (time_at i) longest jobs ordered) (AllPairs-map (λ x y. y ≤ x) (time_at i) longest longest_falls) (AllPairs-map (λ x y. y ≤ x) (time_at i) jobs falls)
+      ∙ first_same k (map (time_at i) longest) (map (time_at i) jobs) some (IsPermutation-map (time_at i) longest jobs ordered)
+      (AllPairs-map (λ x y. y ≤ x) (time_at i) longest longest_falls) (AllPairs-map (λ x y. y ≤ x) (time_at i) jobs falls)
       ∙ sym (spread jobs)
     where
       spread : (xs : List ℕ) → sum_by (time_at i) (take k xs) ≡ sum (take k (map (time_at i) xs))
@@ -56,7 +59,8 @@ module _ (i : Instance) (longest : List ℕ) (first : AreLongestFirst i longest)
 pub first_speed : (i : Instance) (k : ℕ) (machines : List ℕ) → sum_by (speed_of i) (take k machines) ≡ sum (take k (map (speed_of i) machines))
 first_speed i k machines = sym (ap sum (take-map (speed_of i) k machines) ∙ sum-map (speed_of i) (take k machines))
 
-pub IsSpeedOfFastest-first : (i : Instance) (k : ℕ) (machines : List ℕ) → IsPermutation (range_with_len 0 i.machines) machines → AllPairs (λ a b. speed_of i b ≤ speed_of i a) machines → IsSpeedOfFastest i k (sum_by (speed_of i) (take k machines))
+pub IsSpeedOfFastest-first : (i : Instance) (k : ℕ) (machines : List ℕ) → IsPermutation (range_with_len 0 i.machines) machines
+    → AllPairs (λ a b. speed_of i b ≤ speed_of i a) machines → IsSpeedOfFastest i k (sum_by (speed_of i) (take k machines))
 IsSpeedOfFastest-first i k machines all falls = record {
   order = map (speed_of i) machines;
   all = IsPermutation-map (speed_of i) (range_with_len 0 i.machines) machines all;

@@ -6,6 +6,7 @@ use Rattle.std.proofs.lemmas.Int.{ints}
 use Rattle.std.proofs.lemmas.Nat.{mul-le}
 use Rattle.std.proofs.lemmas.List.{get_or_default}
 use Rattle.std.proofs.lemmas.List.Concat.{length-flat_map}
+use Rattle.msp_class.specs.declared.sizes.TheConstants.{MOST_JOBS, MOST_MACHINES, GREATEST}
 use Rattle.msp_class.specs.declared.environments.EnvKind.TheVariants.{Unrelated}
 use Rattle.msp_class.specs.Env.{kind_of}
 use Rattle.msp_class.specs.Sums.{int_total_below}
@@ -14,7 +15,7 @@ use Rattle.msp_instance.specs.declared.Instance.{Instance}
 use Rattle.msp_instance.specs.Instance.{no_job, no_need, need_at}
 use Rattle.msp_instance.specs.Conditions.{InClass, LiesWithin, HasShape}
 use Rattle.msp_instance.proofs.ListingLemmas.{length-once}
-use Rattle.msp_instance.proofs.PathRowLemmas.{row_inside}
+use Rattle.msp_instance.proofs.PathBitLemmas.{row_inside}
 use Rattle.msp_schedule.specs.declared.Solution.{Solution}
 use Rattle.msp_schedule.specs.Fraction.{IsOver}
 use Rattle.msp_schedule.specs.Cost.{IsBest}
@@ -50,15 +51,16 @@ pub record IsWholeValue (i : Instance) (s : Solution) (p : Proof) : Type 0 where
   pub short : IsShort p
 
 -- numbers of jobs, none twice, are at most 400
-few_apart : (i : Instance) (jobs : List ℕ) → InClass i → All (λ j. j < length i.jobs) jobs → AllPairs (λ j k. j ≢ k) jobs → length jobs ≤ 400
+few_apart : (i : Instance) (jobs : List ℕ) → InClass i → All (λ j. j < length i.jobs) jobs → AllPairs (λ j k. j ≢ k) jobs → length jobs ≤ MOST_JOBS
 few_apart i jobs c inside apart = omega (arith, length-once (length i.jobs) jobs inside (λ k. count_by-distinct jobs k apart), c.conditions.few)
 
 natural_within : (n : ℕ) → n ≤ 1000000 → LiesWithin (10 ^ 23) (pos n)
 natural_within n l = (omega (arith, ints), omega (arith, ints, l))
 
 -- ---- segments
-module _ (i : Instance) (c : InClass i) (class : i.class ≡ lexical_class) (s : Solution) (best : IsBest i s) (lists : List (List ℕ)) (are : AreSegments i lists) (least : IsLeastCost i (segments_bound i lists)) where
-  jobs_few : sum_by length lists ≤ 400
+module _ (i : Instance) (c : InClass i) (class : i.class ≡ lexical_class)
+    (s : Solution) (best : IsBest i s) (lists : List (List ℕ)) (are : AreSegments i lists) (least : IsLeastCost i (segments_bound i lists)) where
+  jobs_few : sum_by length lists ≤ MOST_JOBS
   jobs_few = omega (arith, few_apart i (flat_map (λ js. js) lists) c (flat_inside (length i.jobs) lists are.inside) are.apart, length-flat_map (λ (js : List ℕ). js) lists)
 
   lists_few : length lists ≤ sum_by length lists
@@ -66,7 +68,8 @@ module _ (i : Instance) (c : InClass i) (class : i.class ≡ lexical_class) (s :
 
   bound_small : segments_bound i lists ≤ 20000
   bound_small =
-      let each : segments_bound i lists ≤ sum_by (λ js. length js + 31) lists = sum_by-mono (λ (js : List ℕ). (length js + (i.machines - 1)) / i.machines) (λ js. length js + 31) lists (λ k d l. let part = div-le_self (length (get_or lists k d) + (i.machines - 1)) i.machines in omega (arith, part, c.conditions.machines.1)) in
+      let each : segments_bound i lists ≤ sum_by (λ js. length js + 31) lists = sum_by-mono (λ (js : List ℕ). (length js + (i.machines - 1)) / i.machines) (λ js. length js + 31)
+      lists (λ k d l. let part = div-le_self (length (get_or lists k d) + (i.machines - 1)) i.machines in omega (arith, part, c.conditions.machines.1)) in
       omega (arith, each, sum_by-add length (λ (js : List ℕ). 31) lists, sum_by-constant 31 lists, jobs_few, lists_few)
 
   pub IsWholeValue-segments : IsWholeValue i s (Segments lists)
@@ -83,9 +86,10 @@ module _ (i : Instance) (c : InClass i) (class : i.class ≡ lexical_class) (s :
   }
 
 -- ---- a block
-module _ (i : Instance) (c : InClass i) (class : i.class ≡ blocks_class) (s : Solution) (best : IsBest i s) (head jobs : List ℕ) (block : IsBlock i head jobs) (value : ℤ) (is : IsBlockValue i head jobs value)
+module _ (i : Instance) (c : InClass i) (class : i.class ≡ blocks_class)
+    (s : Solution) (best : IsBest i s) (head jobs : List ℕ) (block : IsBlock i head jobs) (value : ℤ) (is : IsBlockValue i head jobs value)
     (costs : IsBestCost i value) (early : All (λ h. h ≤ greatest_head) head) where
-  few_jobs : length jobs ≤ 400
+  few_jobs : length jobs ≤ MOST_JOBS
   few_jobs = few_apart i jobs c block.inside block.apart
 
   begin_early : is.begin ≤ greatest_head
@@ -97,7 +101,8 @@ module _ (i : Instance) (c : InClass i) (class : i.class ≡ blocks_class) (s : 
   value_small : LiesWithin (10 ^ 23) value
   value_small =
       let (k, j, l, at, reached) = is.reached in
-      own_cost_within i j (is.begin + total_time i jobs) value c (ap (λ x. x.crit) class) (subst (λ x. x < length i.jobs) at (block.inside k j l)) (omega (arith, begin_early, work_short i c jobs few_jobs)) reached.1
+      own_cost_within i j (is.begin + total_time i jobs) value c
+      (ap (λ x. x.crit) class) (subst (λ x. x < length i.jobs) at (block.inside k j l)) (omega (arith, begin_early, work_short i c jobs few_jobs)) reached.1
 
   pub IsWholeValue-block : IsWholeValue i s (Block head jobs)
   IsWholeValue-block = record {
@@ -123,31 +128,36 @@ sum_within f b (suc n) h =
     (omega (arith, ints, rest.0, last.0, e), omega (arith, ints, rest.1, last.1, e))
 
 module _ (i : Instance) (c : InClass i) (class : i.class ≡ unrelated_class) (s : Solution) (best : IsBest i s) (a : Assignment) (are : ArePricesOfBest i a) (keeps : KeepsPricesSmall i a) where
-  times_short : (j m : ℕ) → j < length i.jobs → m < i.machines → (need_at i j m).time ≤ 1000000000
+  times_short : (j m : ℕ) → j < length i.jobs → m < i.machines → (need_at i j m).time ≤ GREATEST
   times_short j m l b =
-      let shape : HasShape Unrelated i.class.env i.machines (get_or i.jobs j no_job).needs = subst (λ k. HasShape k i.class.env i.machines (get_or i.jobs j no_job).needs) (ap (λ x. kind_of x.env) class) (c.conditions.jobs j no_job l).needs.shape in
+      let shape : HasShape Unrelated i.class.env i.machines (get_or i.jobs j no_job).needs =
+      subst (λ k. HasShape k i.class.env i.machines (get_or i.jobs j no_job).needs) (ap (λ x. kind_of x.env) class) (c.conditions.jobs j no_job l).needs.shape in
       (small_needs i c j no_job l).short m no_need (omega (arith, shape.0, b))
 
-  small : AreSmallPrices i a 1000000000
-  small = keeps 1000000000 times_short
+  small : AreSmallPrices i a GREATEST
+  small = keeps GREATEST times_short
 
-  row_within : (j : ℕ) → j < length i.jobs → LiesWithin 400000000000 (price_at a.row_price j)
-  row_within j l = within_size (price_at a.row_price j) 400000000000 (omega (arith, small.rows j l, c.conditions.few))
+  row_within : (j : ℕ) → j < length i.jobs → LiesWithin (MOST_JOBS * GREATEST) (price_at a.row_price j)
+  row_within j l = within_size (price_at a.row_price j) (MOST_JOBS * GREATEST) (omega (arith, small.rows j l, c.conditions.few))
 
-  column_within : (k : ℕ) → k < length i.jobs * i.machines → LiesWithin 400000000000 (price_at a.column_price k)
-  column_within k l = within_size (price_at a.column_price k) 400000000000 (omega (arith, small.columns k l, c.conditions.few))
+  column_within : (k : ℕ) → k < length i.jobs * i.machines → LiesWithin (MOST_JOBS * GREATEST) (price_at a.column_price k)
+  column_within k l = within_size (price_at a.column_price k) (MOST_JOBS * GREATEST) (omega (arith, small.columns k l, c.conditions.few))
 
-  rows_together : LiesWithin (length i.jobs * 400000000000) (prices_of_jobs i (price_at a.row_price))
-  rows_together = subst (LiesWithin (length i.jobs * 400000000000)) (sym (total_over_range (length i.jobs) (price_at a.row_price))) (sum_within (price_at a.row_price) 400000000000 (length i.jobs) row_within)
+  rows_together : LiesWithin (length i.jobs * (MOST_JOBS * GREATEST)) (prices_of_jobs i (price_at a.row_price))
+  rows_together = subst (LiesWithin (length i.jobs * (MOST_JOBS * GREATEST)))
+      (sym (total_over_range (length i.jobs) (price_at a.row_price))) (sum_within (price_at a.row_price) (MOST_JOBS * GREATEST) (length i.jobs) row_within)
 
   machine_together : (m : ℕ) → m < i.machines → LiesWithin 160000000000000 (prices_on_machine i (position_price i a) m)
   machine_together m l =
-      let w : LiesWithin (length i.jobs * 400000000000) (prices_on_machine i (position_price i a) m) = subst (LiesWithin (length i.jobs * 400000000000)) (sym (total_over_range (length i.jobs) (position_price i a m)))
-      (sum_within (position_price i a m) 400000000000 (length i.jobs) (λ k b. let r = row_inside (length i.jobs) i.machines m l in column_within (m * length i.jobs + k) (omega (arith, r, b)))) in
+      let w : LiesWithin (length i.jobs * (MOST_JOBS * GREATEST)) (prices_on_machine i (position_price i a) m) =
+      subst (LiesWithin (length i.jobs * (MOST_JOBS * GREATEST))) (sym (total_over_range (length i.jobs) (position_price i a m)))
+      (sum_within (position_price i a m) (MOST_JOBS * GREATEST)
+      (length i.jobs) (λ k b. let r = row_inside (length i.jobs) i.machines m l in column_within (m * length i.jobs + k) (omega (arith, r, b)))) in
       (omega (arith, ints, w.0, c.conditions.few), omega (arith, ints, w.1, c.conditions.few))
 
   columns_together : LiesWithin (i.machines * 160000000000000) (total (map (prices_on_machine i (position_price i a)) (range_with_len 0 i.machines)))
-  columns_together = subst (LiesWithin (i.machines * 160000000000000)) (sym (total_over_range i.machines (prices_on_machine i (position_price i a)))) (sum_within (prices_on_machine i (position_price i a)) 160000000000000 i.machines machine_together)
+  columns_together = subst (LiesWithin (i.machines * 160000000000000)) (sym (total_over_range i.machines (prices_on_machine i (position_price i a))))
+      (sum_within (prices_on_machine i (position_price i a)) 160000000000000 i.machines machine_together)
 
   prices_within : LiesWithin (10 ^ 23) (all_prices i (price_at a.row_price) (position_price i a))
   prices_within =
@@ -155,12 +165,12 @@ module _ (i : Instance) (c : InClass i) (class : i.class ≡ unrelated_class) (s
       let k = columns_together in
       (omega (arith, ints, r.0, k.0, c.conditions.few, c.conditions.machines.1), omega (arith, ints, r.1, k.1, c.conditions.few, c.conditions.machines.1))
 
-  widen : (x : ℤ) → LiesWithin 400000000000 x → LiesWithin GREATEST_PRICE x
+  widen : (x : ℤ) → LiesWithin (MOST_JOBS * GREATEST) x → LiesWithin GREATEST_PRICE x
   widen x h = (omega (arith, ints, h.0), omega (arith, ints, h.1))
 
   entries_few : length a.row_price + length a.column_price ≤ MOST_ENTRIES
   entries_few =
-      let p : length i.jobs * i.machines ≤ 400 * 32 = mul-le (length i.jobs) i.machines 400 32 c.conditions.few c.conditions.machines.1 in
+      let p : length i.jobs * i.machines ≤ MOST_JOBS * MOST_MACHINES = mul-le (length i.jobs) i.machines MOST_JOBS MOST_MACHINES c.conditions.few c.conditions.machines.1 in
       omega (arith, p, are.rows, are.columns, c.conditions.few)
 
   pub IsWholeValue-prices : IsWholeValue i s (Prices a.row_price a.column_price)

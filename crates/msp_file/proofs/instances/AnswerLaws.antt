@@ -28,7 +28,13 @@ use Rattle.msp_file.proofs.instances.TextLaws.{IsReadText, whole_takes, whole_ag
 pub instance_text_of : (b : List ℕ) (f : Filed) → IsReadText b f → InClass f.instance → IsInstanceText b f.instance f.names
 instance_text_of b f t in_class =
     let c = in_class.conditions in
-    record { spelling = t.spelling; spells = t.spells; text = text_read b f t c.some (c.jobs 0 no_job c.some).needs; named = record { one_each = t.one_each; spelled = t.spelled; distinct = t.distinct }; in_class = in_class }
+    record {
+      spelling = t.spelling;
+      spells = t.spells;
+      text = text_read b f t c.some (c.jobs 0 no_job c.some).needs;
+      named = record { one_each = t.one_each; spelled = t.spelled; distinct = t.distinct };
+      in_class = in_class;
+    }
 
 pub text_of_read : (b : List ℕ) (f : Filed) → Reads b (Ok f) → InClass f.instance → IsInstanceText b f.instance f.names
 text_of_read b f e in_class = instance_text_of b f (whole_takes b f e) in_class
@@ -92,7 +98,8 @@ need_sooner (suc j) = inr (refl, inl (omega arith))
 some_job : {n : ℕ} (j : ℕ) → j < n → 0 < n
 some_job j h = omega arith
 
-class_fault_of : (b : List ℕ) (f : Filed) (fault : ClassFault) (name : Option (List ℕ)) → IsReadText b f → IsFirstFault f.instance fault → name ≡ faulty_name f.names fault → IsTextClassFault fault name
+class_fault_of : (b : List ℕ) (f : Filed) (fault : ClassFault) (name : Option (List ℕ))
+    → IsReadText b f → IsFirstFault f.instance fault → name ≡ faulty_name f.names fault → IsTextClassFault fault name
 class_fault_of b f class_fault.Jobs name t first e = subst (IsTextClassFault class_fault.Jobs) (sym e) tt
 class_fault_of b f class_fault.Machines name t first e = absurd (first.broken t.machines)
 class_fault_of b f class_fault.Speeds name t first e = absurd (first.broken t.speeds)

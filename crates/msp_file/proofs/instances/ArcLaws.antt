@@ -1,5 +1,6 @@
 -- The lines of arcs: what is read is the text of the arcs, and the text of arcs is read as those arcs.
-use Rattle.std.proofs.Common.{◌≡◌, ◌≢◌, ℕ, ◌<◌, ◌≤◌, Bool, true, false, not, ◌&&◌, ◌==◌, if◌then◌else◌, List, [], ◌∷◌, ◌++◌, length, All, AllPairs, Contains, Result, Ok, bytes_eq, codes, refl, sym, ap, subst, ◌∙◌, append_assoc, append-nil, arith, length-append, ltb-true, lt-ltb, eqb-true, eq-eqb}
+use Rattle.std.proofs.Common.{◌≡◌, ◌≢◌, ℕ, ◌<◌, ◌≤◌, Bool, true, false, not, ◌&&◌, ◌==◌, if◌then◌else◌, List, [], ◌∷◌, ◌++◌, length, All, AllPairs, Contains, Result, Ok, bytes_eq}
+use Rattle.std.proofs.Common.{codes, refl, sym, ap, subst, ◌∙◌, append_assoc, append-nil, arith, length-append, ltb-true, lt-ltb, eqb-true, eq-eqb}
 use Rattle.std.specs.List.{AllByRecursion}
 use Rattle.std.proofs.lemmas.Bool.{and_parts}
 use Rattle.std.proofs.lemmas.Map.Views.{Contains-from_any}
@@ -7,18 +8,19 @@ use Rattle.std.proofs.lemmas.List.Folds.{list_any_at}
 use Rattle.std.proofs.lemmas.List.{get_or_at}
 use Rattle.std.proofs.lemmas.List.Elements.{All-push}
 use Rattle.msp_instance.specs.declared.Arc.{Arc}
-use Rattle.msp_instance.specs.declared.ranges.TheConstants.{MOST_ARCS}
+use Rattle.msp_class.specs.declared.sizes.TheConstants.{MOST_ARCS}
 use Rattle.msp_grammar.specs.declared.lines.fault.FileFault.{FileFault}
 use Rattle.msp_file.specs.declared.instance.draft.Draft.{Draft}
 use Rattle.msp_job_name.specs.JobName.{IsJobName, AreDistinct}
 use Rattle.msp_grammar.specs.ScheduleText.{name_at}
 use Rattle.msp_grammar.specs.InstanceText.{line_text, arc_fields, arcs_text}
-use Rattle.msp_file.specs.instance.Marks.{is_arc_among}
+use Rattle.msp_file.specs.instance.ArcFlags.{is_arc_among}
 use Rattle.msp_grammar.specs.lines.Reading.{◌>>=◌, Place, line_at, fields_of, first_of, others_of, LineRead, job_read, more_read, end_read, end_at, more_then, more_end, more_fault}
 use Rattle.msp_file.specs.instance.Reading.{with_arc, arc_line_at, arc_or_end, arc_step, ReadsArcs}
 use Rattle.msp_job_name.proofs.NameLists.{same_bytes}
 use Rattle.msp_file.proofs.instances.Apart.{apart_push, apart_before}
-use Rattle.msp_grammar.proofs.reading.LineLaws.{bind_ok, provided_ok, ok_is, Takes, Takes-then, IsField, fields_takes, line_then, two_fields, end_text, end_field, end_takes, last_is, no_answer, GetsBy}
+use Rattle.msp_grammar.proofs.reading.LineLaws.{bind_ok, provided_ok, ok_is, Takes, Takes-then, IsField, fields_takes, line_then, two_fields, end_text, end_field, end_takes}
+use Rattle.msp_grammar.proofs.reading.LineLaws.{last_is, no_answer, GetsBy}
 use Rattle.msp_grammar.proofs.reading.FieldLaws.{known_takes, known_again, name_field}
 
 -- ---- the line of an arc
@@ -124,7 +126,8 @@ one_arc d fields e h fit =
 -- an arc, and what the lines after it add
 pub then_arcs : (d : Draft) (fields : List (List ℕ)) (e : Draft) (p q : Place) (x : Draft × Place) → Takes p (line_text (codes "arc" ∷ fields)) q → AddsArc d fields e → AreArcs d.names d.arcs
     → (AreArcs e.names e.arcs → AddsArcs e q x.0 x.1) → AddsArcs d p x.0 x.1
-then_arcs d fields e p q x t h fit rest = subst (λ (e : Draft). (AreArcs e.names e.arcs → AddsArcs e q x.0 x.1) → AddsArcs d p x.0 x.1) (sym h.added) (λ after. made (after (one_arc d fields e h fit))) rest
+then_arcs d fields e p q x t h fit rest =
+    subst (λ (e : Draft). (AreArcs e.names e.arcs → AddsArcs e q x.0 x.1) → AddsArcs d p x.0 x.1) (sym h.added) (λ after. made (after (one_arc d fields e h fit))) rest
   where
     f : Draft
     f = with_arc d h.arc.before h.arc.after
@@ -137,13 +140,15 @@ then_arcs d fields e p q x t h fit rest = subst (λ (e : Draft). (AreArcs e.name
         record {
           more = h.arc ∷ a.more;
           added = a.added ∙ ap (λ (arcs : List Arc). record d { arcs = arcs }) (append_assoc d.arcs (h.arc ∷ []) a.more);
-          text = subst (λ (b : List ℕ). p.rest ≡ b ++ x.1.rest) (sym (append_assoc (line_text (arc_fields d.names h.arc)) (arcs_text d.names a.more) end_text)) (Takes-then p q x.1 (line_text (arc_fields d.names h.arc)) (arcs_text d.names a.more ++ end_text) line a.text);
+          text = subst (λ (b : List ℕ). p.rest ≡ b ++ x.1.rest) (sym (append_assoc (line_text (arc_fields d.names h.arc)) (arcs_text d.names a.more) end_text))
+              (Takes-then p q x.1 (line_text (arc_fields d.names h.arc)) (arcs_text d.names a.more ++ end_text) line a.text);
           fit = subst (AreArcs d.names) (append_assoc d.arcs (h.arc ∷ []) a.more) a.fit;
         }
 
 no_arcs : (d : Draft) (p : Place) (x : Draft × Place) (q : Place) → AreArcs d.names d.arcs → x ≡ (d, q) → Takes p end_text q → AddsArcs d p x.0 x.1
 no_arcs d p x q fit e t =
-    subst (λ (y : Draft × Place). AddsArcs d p y.0 y.1) (sym e) (record { more = []; added = ap (λ (arcs : List Arc). record d { arcs = arcs }) (sym (append-nil d.arcs)); text = t; fit = subst (AreArcs d.names) (sym (append-nil d.arcs)) fit })
+    subst (λ (y : Draft × Place). AddsArcs d p y.0 y.1) (sym e)
+    (record { more = []; added = ap (λ (arcs : List Arc). record d { arcs = arcs }) (sym (append-nil d.arcs)); text = t; fit = subst (AreArcs d.names) (sym (append-nil d.arcs)) fit })
 
 -- What a line that is no job's says: an arc, where there may be one, or the end.
 abbrev pub TakesArc : Bool → Draft → Place → LineRead Draft → Type 0
@@ -151,10 +156,12 @@ TakesArc may d p (job_read e q) = ⊥
 TakesArc may d p (more_read e q) = (fields : List (List ℕ)) × Takes p (line_text (codes "arc" ∷ fields)) q × AddsArc d fields e × (may ≡ true)
 TakesArc may d p (end_read e q) = (e ≡ d) × Takes p end_text q
 
-pub arc_or_end_takes : (may : Bool) (at : ℕ) (d : Draft) (fields : List (List ℕ)) (p q : Place) (next : LineRead Draft) → Takes p (line_text (first_of fields ∷ others_of fields)) q → arc_or_end may at d fields q ≡ Ok next → TakesArc may d p next
+pub arc_or_end_takes : (may : Bool) (at : ℕ) (d : Draft) (fields : List (List ℕ)) (p q : Place) (next : LineRead Draft)
+    → Takes p (line_text (first_of fields ∷ others_of fields)) q → arc_or_end may at d fields q ≡ Ok next → TakesArc may d p next
 arc_or_end_takes may at d fields p q next t = by (may && bytes_eq (first_of fields) (codes "arc")) refl
   where
-    by : (b : Bool) → (may && bytes_eq (first_of fields) (codes "arc")) ≡ b → (if b then (arc_line_at at d (others_of fields) >>= λ more. Ok (more_read more q)) else end_at at d fields q) ≡ Ok next → TakesArc may d p next
+    by : (b : Bool) → (may && bytes_eq (first_of fields) (codes "arc")) ≡ b
+        → (if b then (arc_line_at at d (others_of fields) >>= λ more. Ok (more_read more q)) else end_at at d fields q) ≡ Ok next → TakesArc may d p next
     by true is e =
         let parts = and_parts may (bytes_eq (first_of fields) (codes "arc")) is in
         let l = bind_ok _ _ next e in
@@ -174,7 +181,8 @@ arcs_take d p read x fit (more_end _ e _ q _ step ends) is = let t = arc_step_ta
 arcs_take d p read x fit (more_fault _ _ _ fault step fails) is = absurd (no_answer read x fault fails is)
 
 -- an arc at its place among others
-pub arc_in : (names : List (List ℕ)) (arcs : List Arc) (a : Arc) (more : List Arc) → AreArcs names (arcs ++ a ∷ more) → (a.before < length names) × (a.after < length names) × (¬ Contains arcs a) × (length arcs < MOST_ARCS) × AreArcs names ((arcs ++ a ∷ []) ++ more)
+pub arc_in : (names : List (List ℕ)) (arcs : List Arc) (a : Arc) (more : List Arc) → AreArcs names (arcs ++ a ∷ more)
+    → (a.before < length names) × (a.after < length names) × (¬ Contains arcs a) × (length arcs < MOST_ARCS) × AreArcs names ((arcs ++ a ∷ []) ++ more)
 arc_in names arcs a more fit =
     let within : length arcs < length (arcs ++ a ∷ more) = omega (arith, length-append arcs (a ∷ more)) in
     let ends = subst (λ (b : Arc). (b.before < length names) × (b.after < length names)) (get_or_at arcs a more a (length arcs) refl) (fit.ends (length arcs) a within) in
@@ -189,10 +197,15 @@ arcs_again [] d at rest apart spelled fit =
 arcs_again (a ∷ more) d at rest apart spelled fit =
     let in_range = arc_in d.names d.arcs a more fit in
     let left = (arcs_text d.names more ++ end_text) ++ rest in
-    let text : (arcs_text d.names (a ∷ more) ++ end_text) ++ rest ≡ line_text (arc_fields d.names a) ++ left = ap (λ (b : List ℕ). b ++ rest) (append_assoc (line_text (arc_fields d.names a)) (arcs_text d.names more) end_text) ∙ append_assoc (line_text (arc_fields d.names a)) (arcs_text d.names more ++ end_text) rest in
+    let text : (arcs_text d.names (a ∷ more) ++ end_text) ++ rest ≡ line_text (arc_fields d.names a) ++ left = ap (λ (b : List ℕ). b ++ rest)
+    (append_assoc (line_text (arc_fields d.names a)) (arcs_text d.names more) end_text) ∙ append_assoc (line_text (arc_fields d.names a)) (arcs_text d.names more ++ end_text) rest in
     let l = line_then (arc_or_end true at d) at (codes "arc") (name_at d.names a.before ∷ name_at d.names a.after ∷ []) left (arc_line_fields d.names a spelled in_range.0 in_range.1) in
     let q : Place = record { at = l.0; rest = left } in
     let one = arc_again at d a apart spelled in_range.0 in_range.1 in_range.2 in_range.3 in
-    let step : arc_step d (record { at = at; rest = (arcs_text d.names (a ∷ more) ++ end_text) ++ rest }) ≡ Ok (more_read (with_arc d a.before a.after) q) = ap (λ (b : List ℕ). arc_step d (record { at = at; rest = b })) text ∙ l.1 ∙ ap (λ r. r >>= λ e. Ok (more_read e q)) one in
-    let g = arcs_again more (with_arc d a.before a.after) l.0 rest apart spelled in_range.4 in
-    (g.0, subst (λ (arcs : List Arc). ReadsArcs d (record { at = at; rest = (arcs_text d.names (a ∷ more) ++ end_text) ++ rest }) (Ok (record d { arcs = arcs }, record { at = g.0; rest = rest }))) (append_assoc d.arcs (a ∷ []) more) (more_then d (with_arc d a.before a.after) _ q _ step g.1))
+    let step : arc_step d (record { at = at; rest = (arcs_text d.names (a ∷ more) ++ end_text) ++ rest }) ≡ Ok (more_read (with_arc d a.before a.after) q) =
+    ap (λ (b : List ℕ). arc_step d (record { at = at; rest = b })) text ∙ l.1 ∙ ap (λ r. r >>= λ e. Ok (more_read e q)) one in
+    let g = arcs_again more (with_arc d a.before a.after) l.0 rest apart spelled in_range.4 in (
+      g.0,
+      subst (λ (arcs : List Arc). ReadsArcs d (record { at = at; rest = (arcs_text d.names (a ∷ more) ++ end_text) ++ rest }) (Ok (record d { arcs = arcs }, record { at = g.0; rest = rest })))
+          (append_assoc d.arcs (a ∷ []) more) (more_then d (with_arc d a.before a.after) _ q _ step g.1),
+    )

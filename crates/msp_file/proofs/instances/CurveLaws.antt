@@ -12,7 +12,7 @@ use Rattle.msp_instance.specs.declared.Step.{Step}
 use Rattle.msp_instance.specs.declared.Curve.{Curve}
 use Rattle.msp_instance.specs.Instance.{no_curve}
 use Rattle.msp_instance.specs.Conditions.{text_limits, LiesWithin, IsCurve, HasCurve}
-use Rattle.msp_instance.specs.declared.ranges.TheConstants.{GREATEST, MOST_STEPS}
+use Rattle.msp_class.specs.declared.sizes.TheConstants.{MOST_STEPS, GREATEST}
 use Rattle.msp_grammar.specs.declared.lines.fault.What.TheVariants as what
 use Rattle.msp_grammar.specs.declared.lines.fault.FileFault.TheVariants.{Count, Limit}
 use Rattle.msp_grammar.specs.InstanceText.{line_text, where_wanted, step_fields, curve_fields}
@@ -27,7 +27,8 @@ use Rattle.msp_file.proofs.instances.NeedLaws.{two_parts, word_field}
 abbrev IsStep : Step → Type 0
 IsStep s = (s.above ≤ GREATEST) × (s.add ≤ GREATEST)
 
-pub steps_takes : (at : ℕ) (steps : List Step) (ws : List (List ℕ)) (after : List Step) → steps_at at steps ws ≡ Ok after → (more : List Step) × (after ≡ steps ++ more) × (ws ≡ flat_map step_fields more) × All IsStep more
+pub steps_takes : (at : ℕ) (steps : List Step) (ws : List (List ℕ)) (after : List Step)
+    → steps_at at steps ws ≡ Ok after → (more : List Step) × (after ≡ steps ++ more) × (ws ≡ flat_map step_fields more) × All IsStep more
 unfolding steps_at
 steps_takes at steps [] after e = ([], sym (ok_is steps after e) ∙ sym (append-nil steps), refl, All-nil IsStep)
 steps_takes at steps (w ∷ []) after e = absurd cc
@@ -79,7 +80,8 @@ curve_fields_takes at w u ws v e =
     let s = steps_takes at [] ws d.0 d.1 in
     let made : Curve = record { slope = a.0; base = b.0; steps = d.0 } in
     let rest : ws ≡ flat_map step_fields d.0 = s.2 ∙ ap (flat_map step_fields) (sym s.1) in
-    subst (λ (y : Curve). (w ∷ u ∷ ws ≡ curve_words y) × AreInRange y) (ok_is made v d.2) (two_parts t.0 (two_parts r.0 rest), record { slope = t.2; base = r.1; steps = subst (All IsStep) (sym s.1) s.3 })
+    subst (λ (y : Curve). (w ∷ u ∷ ws ≡ curve_words y) × AreInRange y)
+    (ok_is made v d.2) (two_parts t.0 (two_parts r.0 rest), record { slope = t.2; base = r.1; steps = subst (All IsStep) (sym s.1) s.3 })
 
 curve_fields_again : (at : ℕ) (v : Curve) → AreInRange v → curve_fields_at at (curve_words v) ≡ Ok v
 unfolding curve_fields_at
@@ -101,10 +103,12 @@ curve_line_takes p x e =
     let f = provided_ok (nat_le (steps_in (length a.0.0)) MOST_STEPS) (Limit p.at what.Steps) _ x a.2 in
     let g = provided_ok (length a.0.0 == 2 + 2 * steps_in (length a.0.0)) (Count p.at) _ x f.1 in
     let b = bind_ok (curve_fields_at p.at a.0.0) _ x g.1 in
-    let read : (a.0.0 ≡ curve_words b.0) × AreInRange b.0 = two_at_least a.0.0 _ (λ ws. curve_fields_at p.at ws ≡ Ok b.0 → (ws ≡ curve_words b.0) × AreInRange b.0) (eqb-true _ _ g.0) (λ w u us same. curve_fields_takes p.at w u us b.0) b.1 in
+    let read : (a.0.0 ≡ curve_words b.0) × AreInRange b.0 =
+    two_at_least a.0.0 _ (λ ws. curve_fields_at p.at ws ≡ Ok b.0 → (ws ≡ curve_words b.0) × AreInRange b.0) (eqb-true _ _ g.0) (λ w u us same. curve_fields_takes p.at w u us b.0) b.1 in
     let few : length b.0.steps ≤ MOST_STEPS = counted (length a.0.0) (length b.0.steps) (ap length read.0) (length-steps b.0.steps) (leb-true _ _ f.0) in
     let within : IsCurve text_limits b.0 = record { slope = read.1.slope; base = read.1.base; few = few; steps = read.1.steps } in
-    subst (λ (y : Curve × Place). Takes p (line_text (curve_fields y.0)) y.1 × IsCurve text_limits y.0) (ok_is (b.0, a.0.1) x b.2) (subst (λ ws. Takes p (line_text (codes "curve" ∷ ws)) a.0.1) read.0 (worded_takes (codes "curve") p a.0 a.1), within)
+    subst (λ (y : Curve × Place). Takes p (line_text (curve_fields y.0)) y.1 × IsCurve text_limits y.0)
+    (ok_is (b.0, a.0.1) x b.2) (subst (λ ws. Takes p (line_text (codes "curve" ∷ ws)) a.0.1) read.0 (worded_takes (codes "curve") p a.0 a.1), within)
   where
     counted : (n k : ℕ) {m : ℕ} → n ≡ suc (suc m) → m ≡ 2 * k → (n - 1) / 2 ≤ MOST_STEPS → k ≤ MOST_STEPS
     counted n k {m} e f h = omega arith
@@ -137,7 +141,8 @@ curve_line crit v = where_wanted (uses_curve crit) (line_text (curve_fields v))
 none_takes : (p : Place) (x : Curve × Place) → reads (no_curve, p) ≡ Ok x → Takes p [] x.1 × (x.0 ≡ no_curve)
 none_takes p x e = subst (λ (y : Curve × Place). Takes p [] y.1 × (y.0 ≡ no_curve)) (ok_is (no_curve, p) x e) (refl, refl)
 
-curve_by_takes : (curved : Bool) (p : Place) (x : Curve × Place) → (if curved then curve_line_at p else Ok (no_curve, p)) ≡ Ok x → Takes p (where_wanted curved (line_text (curve_fields x.0))) x.1 × HasCurve text_limits curved x.0
+curve_by_takes : (curved : Bool) (p : Place) (x : Curve × Place) → (if curved then curve_line_at p else Ok (no_curve, p)) ≡ Ok x
+    → Takes p (where_wanted curved (line_text (curve_fields x.0))) x.1 × HasCurve text_limits curved x.0
 curve_by_takes true p x e = curve_line_takes p x e
 curve_by_takes false p x e = none_takes p x e
 
@@ -149,7 +154,8 @@ none_again : (at : ℕ) (v : Curve) (rest : List ℕ) → v ≡ no_curve → Get
 none_again at v rest e = (at, ap (λ c. reads (c, record { at = at; rest = rest })) (sym e))
 
 curve_by_again : (curved : Bool) (at : ℕ) (v : Curve) (rest : List ℕ) → HasCurve text_limits curved v
-    → Gets {A = Curve} (if curved then curve_line_at (record { at = at; rest = where_wanted curved (line_text (curve_fields v)) ++ rest }) else Ok (no_curve, record { at = at; rest = where_wanted curved (line_text (curve_fields v)) ++ rest })) v rest
+    → Gets {A = Curve} (if curved then curve_line_at (record { at = at; rest = where_wanted curved (line_text (curve_fields v)) ++ rest }) else Ok
+    (no_curve, record { at = at; rest = where_wanted curved (line_text (curve_fields v)) ++ rest })) v rest
 curve_by_again true at v rest h = curve_line_again at v rest h
 curve_by_again false at v rest h = none_again at v rest h
 

@@ -13,7 +13,7 @@ use Rattle.msp_class.specs.declared.environments.EnvKind.TheVariants.{Identical,
 use Rattle.msp_instance.specs.declared.Arc.{Arc}
 use Rattle.msp_instance.specs.declared.Need.{Need}
 use Rattle.msp_instance.specs.declared.Instance.{Instance}
-use Rattle.msp_instance.specs.declared.ranges.TheConstants.{GREATEST_MULTIPLE}
+use Rattle.msp_class.specs.declared.sizes.TheConstants.{GREATEST_MULTIPLE}
 use Rattle.msp_instance.specs.Instance.{no_need}
 use Rattle.msp_instance.specs.Conditions.{Limits, HasSmallMultiple, IsSingleNeed, IsNeedPerMachine, IsRoute, HasShape, HasTimes, least_time, greatest_time, HasNeeds, leaving, entering, HasDegree}
 
@@ -152,10 +152,11 @@ some_told needs = elim (some_below (λ k. 1 ≤ (need_at needs k).time) (λ k. l
 ]
 
 pub needs_told : (l : Limits) (i : Instance) (needs : List Need) → Told (HasNeeds l i needs)
-needs_told l i needs = elim (both (shape_told (kind_of i.class.env) i.class.env i.machines needs) (both (times_told (least_time (kind_of i.class.env) i.class.times) (greatest_time l i.class.times) needs) (some_told needs))) [
-  | inl h ↦ inl (record { shape = h.0; times = h.1.0; some = h.1.1 })
-  | inr absent ↦ inr (λ h. absent (h.shape, (h.times, h.some)))
-]
+needs_told l i needs = elim (both (shape_told (kind_of i.class.env) i.class.env i.machines needs)
+    (both (times_told (least_time (kind_of i.class.env) i.class.times) (greatest_time l i.class.times) needs) (some_told needs))) [
+      | inl h ↦ inl (record { shape = h.0; times = h.1.0; some = h.1.1 })
+      | inr absent ↦ inr (λ h. absent (h.shape, (h.times, h.some)))
+    ]
 
 -- ---- the arcs at a job
 

@@ -2,14 +2,15 @@
 use Rattle.std.proofs.Common.{◌≡◌, ℕ, zero, suc, ◌+◌, ◌<◌, ◌≤◌, ◌⊎◌, inl, inr, true, Bool, List, ◌∷◌, length, codes, Result, Ok, Err, refl, ap, arith, length-append}
 use Rattle.msp_class.specs.declared.class.Class.{Class}
 use Rattle.msp_instance.specs.Conditions.{HasSmallMultiple}
-use Rattle.msp_instance.specs.declared.ranges.TheConstants.{MOST_MACHINES}
+use Rattle.msp_class.specs.declared.sizes.TheConstants.{MOST_MACHINES}
 use Rattle.msp_grammar.specs.declared.filed.Filed.{Filed}
 use Rattle.msp_grammar.specs.declared.lines.fault.FileFault.{FileFault}
 use Rattle.msp_grammar.specs.declared.lines.fault.FileFault.TheVariants.{Limit}
 use Rattle.msp_grammar.specs.declared.lines.fault.What.TheVariants as what
 use Rattle.msp_file.specs.declared.instance.draft.Draft.{Draft}
 use Rattle.msp_grammar.specs.lines.Reading.{◌>>=◌, Place, all_of, LineRead, job_read, more_read, end_read, Then}
-use Rattle.msp_file.specs.instance.Reading.{arc_step, job_step, ReadsJobs, job_then, arc_after, jobs_end, jobs_fault, OnlyWhere, ReadsRest, ReadsSpeeds, ReadsLines, no_draft, filed_of, start_of, Reads, version_at, class_at, machines_at, speeds_at, time_at}
+use Rattle.msp_file.specs.instance.Reading.{arc_step, job_step, ReadsJobs, job_then, arc_after, jobs_end, jobs_fault, OnlyWhere, ReadsRest, ReadsSpeeds, ReadsLines, no_draft}
+use Rattle.msp_file.specs.instance.Reading.{filed_of, start_of, Reads, version_at, class_at, machines_at, speeds_at, time_at}
 use Rattle.msp_file.proofs.instances.Deciding.{small_multiple_told}
 use Rattle.msp_file.proofs.instances.HeadLaws.{machines_takes}
 use Rattle.msp_file.proofs.instances.ArcLaws.{TakesArc, arc_step_takes}
@@ -37,7 +38,8 @@ module _ (c : Class) (machines shared : ℕ) (bound : machines ≤ MOST_MACHINES
   abbrev JobsEnd : Draft → Place → Type 0
   JobsEnd d p = (r : Result (Draft × Place) FileFault) × ReadsJobs c machines shared d p r
 
-  jobs_by : (d : Draft) (p : Place) → ((e : Draft) (q : Place) → length q.rest < length p.rest → JobsEnd e q) → (s : Result (LineRead Draft) FileFault) → job_step c machines shared d p ≡ s → JobsEnd d p
+  jobs_by : (d : Draft) (p : Place) → ((e : Draft) (q : Place) → length q.rest < length p.rest → JobsEnd e q)
+      → (s : Result (LineRead Draft) FileFault) → job_step c machines shared d p ≡ s → JobsEnd d p
   jobs_by d p on (Ok (job_read e q)) is =
       let rest = on e q (job_shortens c shared d p (job_read e q) (job_step_takes c machines shared d p (job_read e q) bound is)) in
       (rest.0, job_then d e p q rest.0 is rest.1)
@@ -52,7 +54,8 @@ module _ (c : Class) (machines shared : ℕ) (bound : machines ≤ MOST_MACHINES
   jobs_end_all : (d : Draft) (p : Place) → JobsEnd d p
   jobs_end_all d p = jobs_within (length p.rest + 1) d p (omega arith)
 
-only_ends : {B : Type 0} (condition : Type 0) (fault : FileFault) (next : Result B FileFault → Type 0) → condition ⊎ (¬ condition) → (condition → (r : Result B FileFault) × next r) → (r : Result B FileFault) × OnlyWhere condition fault next r
+only_ends : {B : Type 0} (condition : Type 0) (fault : FileFault) (next : Result B FileFault → Type 0)
+    → condition ⊎ (¬ condition) → (condition → (r : Result B FileFault) × next r) → (r : Result B FileFault) × OnlyWhere condition fault next r
 only_ends condition fault next (inl h) k = let r = k h in (r.0, inl (h, r.1))
 only_ends condition fault next (inr h) k = (Err fault, inr (h, refl))
 

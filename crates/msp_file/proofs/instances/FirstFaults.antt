@@ -129,6 +129,9 @@ module _ (b : List ℕ) (f : Filed) (t : IsReadText b f) where
       | inl order ↦ inl (record { conditions = conditions; acyclic = order })
       | inr j ↦
           let name = get_or f.names j.0 [] in
-          inr (Cycle j.0 name, (record { filed = f; reads = h; conditions = conditions; least = j.1; named = slice_get-get_or f.names j.0 [] (omega (arith, t.one_each, j.1.inside)) }, cycle_is j.0 name))
+          inr (
+            Cycle j.0 name,
+            (record { filed = f; reads = h; conditions = conditions; least = j.1; named = slice_get-get_or f.names j.0 [] (omega (arith, t.one_each, j.1.inside)) }, cycle_is j.0 name),
+          )
     ]
   ]

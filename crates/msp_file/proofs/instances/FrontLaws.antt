@@ -50,7 +50,8 @@ pair f p = (f, p)
 pair_is : (f g : Filed) (p q : Place) → reads (pair f p) ≡ reads (pair g q) → (f ≡ g) × (p ≡ q)
 pair_is f g p q h = let e : pair f p ≡ pair g q = ok_is (pair f p) (pair g q) h in (ap (λ (x : Filed × Place). x.0) e, ap (λ (x : Filed × Place). x.1) e)
 
-pub front_read : (b : List ℕ) (f : Filed) (q : Place) → ReadsLines (start_of b) (Ok (f, q)) → InClass f.instance → (i : Instance) (names : List (List ℕ)) (used line : ℕ) → IsFrontText b i names used line
+pub front_read : (b : List ℕ) (f : Filed) (q : Place)
+    → ReadsLines (start_of b) (Ok (f, q)) → InClass f.instance → (i : Instance) (names : List (List ℕ)) (used line : ℕ) → IsFrontText b i names used line
     → reads (front (filed i names) used line) ≡ reads (front f (length b - length q.rest) q.at)
 front_read b f q h in_class i names used line t =
     let g = front_again b t.text t.rest i names t.whole t.is in
@@ -72,7 +73,8 @@ pub fails_front : (e : FileFault) (f : Filed) (used line : ℕ) → Fails e (rea
 fails_front Memory f used line h = tt
 fails_front e f used line h = absurd cc
 
-pub again_front : (b : List ℕ) (e : FileFault) → IsFrontFaultOf b e → (i : Instance) (names : List (List ℕ)) (used line : ℕ) → IsFrontText b i names used line → Fails e (reads (front (filed i names) used line))
+pub again_front : (b : List ℕ) (e : FileFault) → IsFrontFaultOf b e
+    → (i : Instance) (names : List (List ℕ)) (used line : ℕ) → IsFrontText b i names used line → Fails e (reads (front (filed i names) used line))
 again_front b e k i names used line h = fails_front e (filed i names) used line (again_front_fault b e k i names used line h)
 
 pub front_fault_of_filed : (b : List ℕ) (f : Filed) (q : Place) (e : FileFault) → ReadsLines (start_of b) (Ok (f, q)) → IsFaultOfFiled f e → IsFrontFaultOf b e

@@ -1,5 +1,6 @@
 -- The lines of the head: what is read is the head of an instance, and the head of an instance is read as its parts.
-use Rattle.std.proofs.Common.{◌≡◌, ℕ, suc, ◌≤◌, Bool, true, ◌==◌, nat_lt, List, [], ◌∷◌, ◌++◌, length, map, Option, Some, None, MatchOption, Result, Ok, Err, All, Contains, bytes_eq, is_none, refl, sym, ap, subst, ◌∙◌, append_assoc, append-nil, arith, codes, decimal, if◌then◌else◌}
+use Rattle.std.proofs.Common.{◌≡◌, ℕ, suc, ◌≤◌, Bool, true, ◌==◌, nat_lt, List, [], ◌∷◌, ◌++◌, length, map, Option, Some, None, MatchOption, Result, Ok, Err, All, Contains}
+use Rattle.std.proofs.Common.{bytes_eq, is_none, refl, sym, ap, subst, ◌∙◌, append_assoc, append-nil, arith, codes, decimal, if◌then◌else◌}
 use Rattle.std.specs.Prelude.{⊤, false}
 use Rattle.std.specs.List.{AllByRecursion, list_all, join_with_byte}
 use Rattle.std.proofs.lemmas.Bool.{eqb-true, eq-eqb, and_from}
@@ -21,7 +22,7 @@ use Rattle.msp_name.specs.Reading.{reading_of}
 use Rattle.msp_name.proofs.NameLemmas.{NameOf-from_reading, reading_of-NameOf}
 use Rattle.msp_instance.specs.declared.Instance.{Instance}
 use Rattle.msp_instance.specs.Conditions.{HasMachines, HasSpeeds}
-use Rattle.msp_instance.specs.declared.ranges.TheConstants.{GREATEST_SPEED, GREATEST_EQUAL_TIME, MOST_MACHINES}
+use Rattle.msp_class.specs.declared.sizes.TheConstants.{MOST_MACHINES, GREATEST_SPEED, GREATEST_EQUAL_TIME}
 use Rattle.msp_grammar.specs.declared.lines.fault.FileFault.{FileFault}
 use Rattle.msp_grammar.specs.declared.lines.fault.FileFault.TheVariants.{Head, Count}
 use Rattle.msp_grammar.specs.declared.lines.fault.What.TheVariants as what
@@ -80,7 +81,8 @@ items_dark : (items : List (List ℕ × Item)) → All (Contains item_texts) ite
 items_dark [] h = refl
 items_dark (v ∷ []) h = table_dark item_texts v.0 v.1 item_dark (All-head (Contains item_texts) v [] h)
 items_dark (v ∷ w ∷ ws) h =
-    append_dark v.0 (comma ∷ join_with_byte comma (map (λ u. u.0) (w ∷ ws))) (table_dark item_texts v.0 v.1 item_dark (All-head (Contains item_texts) v (w ∷ ws) h)) (items_dark (w ∷ ws) (All-tail (Contains item_texts) v (w ∷ ws) h))
+    append_dark v.0 (comma ∷ join_with_byte comma (map (λ u. u.0) (w ∷ ws)))
+    (table_dark item_texts v.0 v.1 item_dark (All-head (Contains item_texts) v (w ∷ ws) h)) (items_dark (w ∷ ws) (All-tail (Contains item_texts) v (w ∷ ws) h))
 
 name_dark : (spelling : List ℕ) (c : Class) → NameOf spelling c → IsDark spelling
 name_dark spelling c h =
@@ -171,8 +173,10 @@ machines_takes e p x h = by (fixed_machines e) (fixed_in e) h
     by (Some m) within h = subst (λ (y : ℕ × Place). (p.rest ≡ y.1.rest) × ((1 ≤ y.0) × (y.0 ≤ MOST_MACHINES) × (y.0 ≡ m))) (ok_is (m, p) x h) (refl, (within.0, within.1, refl))
     by None within h = let t = machines_line_takes p x h in (t.0, (t.1.0, t.1.1, tt))
 
-machines_line_again : (at machines : ℕ) (rest : List ℕ) → 1 ≤ machines → machines ≤ MOST_MACHINES → Gets (machines_line_at (record { at = at; rest = line_text (codes "machines" ∷ decimal machines ∷ []) ++ rest })) machines rest
-machines_line_again at machines rest low high = number_line_again (codes "machines") what.Machines MOST_MACHINES at machines rest (record { no_space = refl; no_line_feed = refl }) (omega arith) low high
+machines_line_again : (at machines : ℕ) (rest : List ℕ) → 1 ≤ machines
+    → machines ≤ MOST_MACHINES → Gets (machines_line_at (record { at = at; rest = line_text (codes "machines" ∷ decimal machines ∷ []) ++ rest })) machines rest
+machines_line_again at machines rest low high =
+    number_line_again (codes "machines") what.Machines MOST_MACHINES at machines rest (record { no_space = refl; no_line_feed = refl }) (omega arith) low high
 
 pub machines_again : (i : Instance) (at : ℕ) (rest : List ℕ) → HasMachines i → Gets (machines_at i.class.env (record { at = at; rest = machines_text i.class.env i.machines ++ rest })) i.machines rest
 unfolding machines_at machines_text
@@ -254,7 +258,8 @@ speeds_line_again machines at speeds rest count range =
     let many : (length (map decimal speeds) == machines) ≡ true = eq-eqb (length (map decimal speeds)) machines (length_decimals speeds ∙ count) in
     (line.0, rw (line.1, many, speeds_fields_again at [] speeds range) refl)
 
-pub speeds_again : (e : Env) (machines at : ℕ) (speeds rest : List ℕ) → HasSpeeds (kind_of e) machines speeds → Gets (speeds_at e machines (record { at = at; rest = speeds_text e speeds ++ rest })) speeds rest
+pub speeds_again : (e : Env) (machines at : ℕ) (speeds rest : List ℕ)
+    → HasSpeeds (kind_of e) machines speeds → Gets (speeds_at e machines (record { at = at; rest = speeds_text e speeds ++ rest })) speeds rest
 unfolding speeds_at speeds_text
 speeds_again e machines at speeds rest h = by (kind_of e) h
   where
@@ -262,7 +267,8 @@ speeds_again e machines at speeds rest h = by (kind_of e) h
     none is = (at, ap (λ s. Ok (s, record { at = at; rest = rest })) (sym is))
 
     by : (kind : EnvKind) → HasSpeeds kind machines speeds
-        → Gets {A = List ℕ} (if has_speeds kind then speeds_line_at machines (record { at = at; rest = where_wanted (has_speeds kind) (line_text (codes "speeds" ∷ map decimal speeds)) ++ rest }) else Ok ([], record { at = at; rest = where_wanted (has_speeds kind) (line_text (codes "speeds" ∷ map decimal speeds)) ++ rest })) speeds rest
+        → Gets {A = List ℕ} (if has_speeds kind then speeds_line_at machines (record { at = at; rest = where_wanted (has_speeds kind) (line_text (codes "speeds" ∷ map decimal speeds)) ++ rest }) else
+        Ok ([], record { at = at; rest = where_wanted (has_speeds kind) (line_text (codes "speeds" ∷ map decimal speeds)) ++ rest })) speeds rest
     by Identical h = none h
     by Uniform h = speeds_line_again machines at speeds rest h.0 h.1
     by Unrelated h = none h
@@ -293,13 +299,16 @@ pub time_takes : (t : Times) (p : Place) (x : ℕ × Place) → time_at t p ≡ 
 unfolding time_at time_text
 time_takes t p x h = time_by_takes (has_time_line t) p x h
 
-time_line_again : (at time : ℕ) (rest : List ℕ) → 1 ≤ time → time ≤ GREATEST_EQUAL_TIME → Gets (time_line_at (record { at = at; rest = line_text (codes "time" ∷ decimal time ∷ []) ++ rest })) time rest
+time_line_again : (at time : ℕ) (rest : List ℕ)
+    → 1 ≤ time → time ≤ GREATEST_EQUAL_TIME → Gets (time_line_at (record { at = at; rest = line_text (codes "time" ∷ decimal time ∷ []) ++ rest })) time rest
 time_line_again at time rest low high = number_line_again (codes "time") what.Time GREATEST_EQUAL_TIME at time rest (record { no_space = refl; no_line_feed = refl }) (omega arith) low high
 
-time_by_again : (there : Bool) (at time shared : ℕ) (rest : List ℕ) → IsKeyed there 1 GREATEST_EQUAL_TIME shared → (there ≡ true → time ≡ shared) → Gets (time_by there (record { at = at; rest = time_line there time ++ rest })) shared rest
+time_by_again : (there : Bool) (at time shared : ℕ) (rest : List ℕ) → IsKeyed there 1 GREATEST_EQUAL_TIME shared
+    → (there ≡ true → time ≡ shared) → Gets (time_by there (record { at = at; rest = time_line there time ++ rest })) shared rest
 time_by_again true at time shared rest h e = rw (e refl) (time_line_again at shared rest h.0 h.1)
 time_by_again false at time shared rest h e = (at, ap (λ n. Ok (n, record { at = at; rest = rest })) (sym h))
 
-pub time_again : (t : Times) (at time shared : ℕ) (rest : List ℕ) → IsShared t shared → (has_time_line t ≡ true → time ≡ shared) → Gets (time_at t (record { at = at; rest = time_text t time ++ rest })) shared rest
+pub time_again : (t : Times) (at time shared : ℕ) (rest : List ℕ)
+    → IsShared t shared → (has_time_line t ≡ true → time ≡ shared) → Gets (time_at t (record { at = at; rest = time_text t time ++ rest })) shared rest
 unfolding time_at time_text
 time_again t at time shared rest h e = time_by_again (has_time_line t) at time shared rest h e

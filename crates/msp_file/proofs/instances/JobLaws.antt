@@ -17,7 +17,7 @@ use Rattle.msp_instance.specs.declared.Job.{Job}
 use Rattle.msp_instance.specs.declared.Instance.{Instance}
 use Rattle.msp_instance.specs.Instance.{no_need}
 use Rattle.msp_instance.specs.Conditions.{text_limits, HasShape, HasTimes, least_time, greatest_time, HasRelease, HasDue, HasWeight, HasCurve, IsJobOf}
-use Rattle.msp_instance.specs.declared.ranges.TheConstants.{GREATEST, MOST_MACHINES, MOST_JOBS}
+use Rattle.msp_class.specs.declared.sizes.TheConstants.{MOST_JOBS, MOST_MACHINES, GREATEST}
 use Rattle.msp_grammar.specs.declared.lines.fault.What.TheVariants as what
 use Rattle.msp_grammar.specs.declared.lines.fault.FileFault.TheVariants.{Limit}
 use Rattle.msp_file.specs.declared.instance.draft.Draft.{Draft}
@@ -86,7 +86,8 @@ keyed_weight true w h = h
 keyed_weight false w h = h
 
 -- the one time of a job is in range
-keyed_time : (t : Times) (k : EnvKind) (e : Env) (m : ℕ) (needs : List Need) → HasShape k e m needs → HasTimes (least_time k t) (greatest_time text_limits t) needs → IsKeyed (has_times t && has_one_time k) 1 GREATEST (time_of (has_times t && has_one_time k) needs)
+keyed_time : (t : Times) (k : EnvKind) (e : Env) (m : ℕ) (needs : List Need) → HasShape k e m needs → HasTimes (least_time k t) (greatest_time text_limits t) needs
+    → IsKeyed (has_times t && has_one_time k) 1 GREATEST (time_of (has_times t && has_one_time k) needs)
 keyed_time General Identical e m needs shape h = h 0 no_need (omega (arith, shape.0))
 keyed_time General Uniform e m needs shape h = h 0 no_need (omega (arith, shape.0))
 keyed_time General Unrelated e m needs shape h = refl
@@ -112,7 +113,8 @@ keys_are i j h =
     }
 
 -- the keys that are read are those of the job
-time_same : (keyed : Bool) (needs : List Need) (time shared : ℕ) → (keyed ≡ true → (slice_index_or needs 0 no_need).time ≡ (if keyed then time else shared)) → IsKeyed keyed 1 GREATEST time → time ≡ time_of keyed needs
+time_same : (keyed : Bool) (needs : List Need) (time shared : ℕ)
+    → (keyed ≡ true → (slice_index_or needs 0 no_need).time ≡ (if keyed then time else shared)) → IsKeyed keyed 1 GREATEST time → time ≡ time_of keyed needs
 time_same true needs time shared h k = sym (h refl)
 time_same false needs time shared h k = k
 
@@ -129,7 +131,8 @@ first_given : (keyed : Bool) (shared : ℕ) (needs : List Need) → keyed ≡ tr
 first_given true shared needs e = refl
 first_given false shared needs e = absurd cc
 
-pub job_takes : (c : Class) (machines shared : ℕ) (d : Draft) (at : ℕ) (fields : List (List ℕ)) (p : Place) (x : Draft × Place) → machines ≤ MOST_MACHINES → job_at_line c machines shared d at fields p ≡ Ok x → AddsJob c shared d fields p x.0 x.1
+pub job_takes : (c : Class) (machines shared : ℕ) (d : Draft) (at : ℕ) (fields : List (List ℕ)) (p : Place) (x : Draft × Place)
+    → machines ≤ MOST_MACHINES → job_at_line c machines shared d at fields p ≡ Ok x → AddsJob c shared d fields p x.0 x.1
 unfolding job_at_line times_text route_text curve_text
 job_takes c machines shared d at fields p x bound e =
     let g = provided_ok (nat_lt (length d.jobs) MOST_JOBS) (Limit at what.Jobs) _ x e in
@@ -161,7 +164,8 @@ job_takes c machines shared d at fields p x bound e =
       few = ltb-true _ _ g.0;
     })
 
-pub job_again : (i : Instance) (d : Draft) (at next shared : ℕ) (name : List ℕ) (j : Job) (rest : List ℕ) → i.machines ≤ MOST_MACHINES → IsJobOf text_limits i j → HaveTime (has_times i.class.times) shared j.needs → IsJobName name → ¬ Contains d.names name → length d.jobs < MOST_JOBS
+pub job_again : (i : Instance) (d : Draft) (at next shared : ℕ) (name : List ℕ) (j : Job) (rest : List ℕ) → i.machines ≤ MOST_MACHINES
+    → IsJobOf text_limits i j → HaveTime (has_times i.class.times) shared j.needs → IsJobName name → ¬ Contains d.names name → length d.jobs < MOST_JOBS
     → Gets (job_at_line i.class i.machines shared d at (name ∷ key_fields i.class j) (record { at = next; rest = job_rest i.class j ++ rest })) (with_job d name j) rest
 unfolding job_at_line times_text route_text curve_text
 job_again i d at next shared name j rest machines h same spelled fresh few =
@@ -172,7 +176,8 @@ job_again i d at next shared name j rest machines h same spelled fresh few =
     let text = needs_text (has_times i.class.times) (kind_of i.class.env) j.needs in
     let lines : (text ++ curve_line i.class.crit j.curve) ++ rest ≡ text ++ (curve_line i.class.crit j.curve ++ rest) = append_assoc _ (curve_line i.class.crit j.curve) rest in
     let last = time_given (has_times i.class.times) (has_one_time (kind_of i.class.env)) (time_of (has_time_key i.class) j.needs) shared j.needs same in
-    let needs = needs_again i.class i.machines time next j.needs (curve_line i.class.crit j.curve ++ rest) machines h.needs.shape (written_times i.class.times _ j.needs h.needs.times) last (first_given (has_time_key i.class) shared j.needs) in
+    let needs = needs_again i.class i.machines time next j.needs (curve_line i.class.crit j.curve ++ rest)
+    machines h.needs.shape (written_times i.class.times _ j.needs h.needs.times) last (first_given (has_time_key i.class) shared j.needs) in
     let curve = curve_again i.class.crit needs.0 j.curve rest h.curve in (
       curve.0,
       provided_again _ _ _ _ (lt-ltb _ _ few) (

@@ -1,5 +1,6 @@
 -- The lines after the head: what is read is the text of the jobs and arcs, and the text of jobs and arcs is read as those.
-use Rattle.std.proofs.Common.{◌≡◌, ℕ, ◌<◌, ◌≤◌, Bool, true, false, ◌&&◌, if◌then◌else◌, List, [], ◌∷◌, ◌++◌, length, All, Contains, Result, Ok, bytes_eq, codes, refl, sym, ap, subst, ◌∙◌, append_assoc, append-nil, arith, length-append}
+use Rattle.std.proofs.Common.{◌≡◌, ℕ, ◌<◌, ◌≤◌, Bool, true, false, ◌&&◌, if◌then◌else◌, List, [], ◌∷◌, ◌++◌, length, All, Contains, Result, Ok, bytes_eq, codes, refl, sym, ap}
+use Rattle.std.proofs.Common.{subst, ◌∙◌, append_assoc, append-nil, arith, length-append}
 use Rattle.std.proofs.lemmas.List.{get_or_at}
 use Rattle.std.proofs.lemmas.List.Elements.{All-push, All-nil}
 use Rattle.msp_class.specs.declared.class.Class.{Class}
@@ -7,7 +8,7 @@ use Rattle.msp_instance.specs.declared.Arc.{Arc}
 use Rattle.msp_instance.specs.declared.Job.{Job}
 use Rattle.msp_instance.specs.declared.Instance.{Instance}
 use Rattle.msp_instance.specs.Conditions.{text_limits, IsJobOf}
-use Rattle.msp_instance.specs.declared.ranges.TheConstants.{MOST_MACHINES, MOST_JOBS}
+use Rattle.msp_class.specs.declared.sizes.TheConstants.{MOST_JOBS, MOST_MACHINES}
 use Rattle.msp_grammar.specs.declared.lines.fault.FileFault.{FileFault}
 use Rattle.msp_file.specs.declared.instance.draft.Draft.{Draft}
 use Rattle.msp_job_name.specs.JobName.{IsJobName, AreDistinct}
@@ -55,7 +56,8 @@ pub job_text_parts : (c : Class) (name : List ℕ) (j : Job) → job_text c name
 unfolding job_text
 job_text_parts c name j = regroup (line_text (job_fields c name j)) (times_text c j) (route_text c j) (curve_text c j)
 
-one_job : (c : Class) (shared : ℕ) (names : List (List ℕ)) (jobs : List Job) (fields : List (List ℕ)) (p q : Place) (e : Draft) (h : AddsJob c shared (draft_of names jobs) fields p e q) → AreJobs c shared names jobs
+one_job : (c : Class) (shared : ℕ) (names : List (List ℕ)) (jobs : List Job) (fields : List (List ℕ)) (p q : Place) (e : Draft) (h : AddsJob c shared (draft_of names jobs) fields p e q)
+    → AreJobs c shared names jobs
     → AreJobs c shared (names ++ h.name ∷ []) (jobs ++ h.job ∷ [])
 one_job c shared names jobs fields p q e h fit =
     record {
@@ -69,27 +71,33 @@ one_job c shared names jobs fields p q e h fit =
 -- a job, and what the lines after it add
 then_job : (c : Class) (shared : ℕ) (names : List (List ℕ)) (jobs : List Job) (fields : List (List ℕ)) (e : Draft) (p q r : Place) (x : Draft × Place) → Takes p (line_text (codes "job" ∷ fields)) q
     → AddsJob c shared (draft_of names jobs) fields q e r → AreJobs c shared names jobs
-    → ((all_names : List (List ℕ)) (all_jobs : List Job) → e ≡ draft_of all_names all_jobs → AreJobs c shared all_names all_jobs → AddsLines c shared all_names all_jobs r x.0 x.1) → AddsLines c shared names jobs p x.0 x.1
+    → ((all_names : List (List ℕ)) (all_jobs : List Job) → e ≡ draft_of all_names all_jobs → AreJobs c shared all_names all_jobs → AddsLines c shared all_names all_jobs r x.0 x.1)
+    → AddsLines c shared names jobs p x.0 x.1
 then_job c shared names jobs fields e p q r x t h fit rest =
     let a = rest (names ++ h.name ∷ []) (jobs ++ h.job ∷ []) h.added (one_job c shared names jobs fields q r e h fit) in
     let n : (names ++ h.name ∷ []) ++ a.more_names ≡ names ++ (h.name ∷ a.more_names) = append_assoc names (h.name ∷ []) a.more_names in
     let j : (jobs ++ h.job ∷ []) ++ a.more_jobs ≡ jobs ++ (h.job ∷ a.more_jobs) = append_assoc jobs (h.job ∷ []) a.more_jobs in
     let line : Takes p (line_text (job_fields c h.name h.job)) q = subst (λ (ws : List (List ℕ)). Takes p (line_text (codes "job" ∷ ws)) q) h.line t in
-    let one : Takes p (job_text c h.name h.job) r = subst (λ (b : List ℕ). Takes p b r) (sym (job_text_parts c h.name h.job)) (Takes-then p q r (line_text (job_fields c h.name h.job)) (job_rest c h.job) line h.text) in
-    let others : Takes r (jobs_text c a.more_names a.more_jobs ++ arcs_text (names ++ (h.name ∷ a.more_names)) a.arcs ++ end_text) x.1 = subst (λ (ns : List (List ℕ)). Takes r (jobs_text c a.more_names a.more_jobs ++ arcs_text ns a.arcs ++ end_text) x.1) n a.text in
+    let one : Takes p (job_text c h.name h.job) r =
+    subst (λ (b : List ℕ). Takes p b r) (sym (job_text_parts c h.name h.job)) (Takes-then p q r (line_text (job_fields c h.name h.job)) (job_rest c h.job) line h.text) in
+    let others : Takes r (jobs_text c a.more_names a.more_jobs ++ arcs_text (names ++ (h.name ∷ a.more_names)) a.arcs ++ end_text) x.1 =
+    subst (λ (ns : List (List ℕ)). Takes r (jobs_text c a.more_names a.more_jobs ++ arcs_text ns a.arcs ++ end_text) x.1) n a.text in
     record {
       more_names = h.name ∷ a.more_names;
       more_jobs = h.job ∷ a.more_jobs;
       arcs = a.arcs;
-      added = a.added ∙ ap (λ (ns : List (List ℕ)). record { names = ns; jobs = (jobs ++ h.job ∷ []) ++ a.more_jobs; arcs = a.arcs }) n ∙ ap (λ (js : List Job). record { names = names ++ (h.name ∷ a.more_names); jobs = js; arcs = a.arcs }) j;
-      text = subst (λ (b : List ℕ). Takes p b x.1) (sym (regroup (job_text c h.name h.job) (jobs_text c a.more_names a.more_jobs) (arcs_text (names ++ (h.name ∷ a.more_names)) a.arcs) end_text)) (Takes-then p r x.1 (job_text c h.name h.job) (jobs_text c a.more_names a.more_jobs ++ arcs_text (names ++ (h.name ∷ a.more_names)) a.arcs ++ end_text) one others);
+      added = a.added ∙ ap (λ (ns : List (List ℕ)). record { names = ns; jobs = (jobs ++ h.job ∷ []) ++ a.more_jobs; arcs = a.arcs }) n
+          ∙ ap (λ (js : List Job). record { names = names ++ (h.name ∷ a.more_names); jobs = js; arcs = a.arcs }) j;
+      text = subst (λ (b : List ℕ). Takes p b x.1) (sym (regroup (job_text c h.name h.job) (jobs_text c a.more_names a.more_jobs) (arcs_text (names ++ (h.name ∷ a.more_names)) a.arcs) end_text))
+          (Takes-then p r x.1 (job_text c h.name h.job) (jobs_text c a.more_names a.more_jobs ++ arcs_text (names ++ (h.name ∷ a.more_names)) a.arcs ++ end_text) one others);
       fit = subst (λ (js : List Job). AreJobs c shared (names ++ (h.name ∷ a.more_names)) js) j (subst (λ (ns : List (List ℕ)). AreJobs c shared ns ((jobs ++ h.job ∷ []) ++ a.more_jobs)) n a.fit);
       arcs_fit = subst (λ (ns : List (List ℕ)). AreArcs ns a.arcs) n a.arcs_fit;
       ordered = a.ordered;
     }
 
 -- no job follows
-only_arcs : (c : Class) (shared : ℕ) (names : List (List ℕ)) (jobs : List Job) (p q : Place) (e : Draft) (a : AddsArcs (draft_of names jobs) p e q) → AreJobs c shared names jobs → (has_order c.order ≡ false → a.more ≡ []) → AddsLines c shared names jobs p e q
+only_arcs : (c : Class) (shared : ℕ) (names : List (List ℕ)) (jobs : List Job) (p q : Place) (e : Draft) (a : AddsArcs (draft_of names jobs) p e q)
+    → AreJobs c shared names jobs → (has_order c.order ≡ false → a.more ≡ []) → AddsLines c shared names jobs p e q
 only_arcs c shared names jobs p q e a fit ordered =
     let n : names ≡ names ++ [] = sym (append-nil names) in
     let j : jobs ≡ jobs ++ [] = sym (append-nil jobs) in
@@ -125,14 +133,16 @@ no_job_line c shared d p (job_read e q) h = absurd h
 no_job_line c shared d p (more_read e q) h = h
 no_job_line c shared d p (end_read e q) h = h
 
-pub job_step_takes : (c : Class) (machines shared : ℕ) (d : Draft) (p : Place) (next : LineRead Draft) → machines ≤ MOST_MACHINES → job_step c machines shared d p ≡ Ok next → TakesLine c shared d p next
+pub job_step_takes : (c : Class) (machines shared : ℕ) (d : Draft) (p : Place) (next : LineRead Draft)
+    → machines ≤ MOST_MACHINES → job_step c machines shared d p ≡ Ok next → TakesLine c shared d p next
 unfolding job_step
 job_step_takes c machines shared d p next bound e =
     let l = bind_ok (line_at p) _ next e in
     line_by (fields_of l.0.0) l.0.1 (fields_takes p l.0 l.1) (bytes_eq (first_of (fields_of l.0.0)) (codes "job")) refl l.2
   where
     line_by : (fields : List (List ℕ)) (q : Place) → Takes p (line_text (first_of fields ∷ others_of fields)) q → (b : Bool) → bytes_eq (first_of fields) (codes "job") ≡ b
-        → (if b then (job_at_line c machines shared d p.at (others_of fields) q >>= λ more. Ok (job_read more.0 more.1)) else arc_or_end (has_order c.order) p.at d fields q) ≡ Ok next → TakesLine c shared d p next
+        → (if b then (job_at_line c machines shared d p.at (others_of fields) q >>= λ more. Ok (job_read more.0 more.1)) else arc_or_end (has_order c.order) p.at d fields q)
+        ≡ Ok next → TakesLine c shared d p next
     line_by fields q t true is e =
         let j = bind_ok _ _ next e in
         let line = subst (λ (w : List ℕ). Takes p (line_text (w ∷ others_of fields)) q) (same_bytes (first_of fields) (codes "job") is) t in
@@ -140,13 +150,15 @@ job_step_takes c machines shared d p next bound e =
     line_by fields q t false is e = no_job_line c shared d p next (arc_or_end_takes (has_order c.order) p.at d fields p q next t e)
 
 -- the line of a draft that has no arcs
-job_line_of : (c : Class) (machines shared : ℕ) (names : List (List ℕ)) (jobs : List Job) (d : Draft) (p : Place) (next : LineRead Draft) → machines ≤ MOST_MACHINES → d ≡ draft_of names jobs → job_step c machines shared d p ≡ Ok next → TakesLine c shared (draft_of names jobs) p next
+job_line_of : (c : Class) (machines shared : ℕ) (names : List (List ℕ)) (jobs : List Job) (d : Draft) (p : Place) (next : LineRead Draft)
+    → machines ≤ MOST_MACHINES → d ≡ draft_of names jobs → job_step c machines shared d p ≡ Ok next → TakesLine c shared (draft_of names jobs) p next
 job_line_of c machines shared names jobs d p next bound same e = subst (λ (y : Draft). TakesLine c shared y p next) same (job_step_takes c machines shared d p next bound e)
 
 not_both : (b : Bool) → b ≡ true → b ≡ false → ⊥
 not_both b e f = cc
 
-pub jobs_take : (c : Class) (machines shared : ℕ) (names : List (List ℕ)) (jobs : List Job) (d : Draft) (p : Place) (read : Result (Draft × Place) FileFault) (x : Draft × Place) → machines ≤ MOST_MACHINES → AreJobs c shared names jobs → d ≡ draft_of names jobs → ReadsJobs c machines shared d p read → read ≡ Ok x → AddsLines c shared names jobs p x.0 x.1
+pub jobs_take : (c : Class) (machines shared : ℕ) (names : List (List ℕ)) (jobs : List Job) (d : Draft) (p : Place) (read : Result (Draft × Place) FileFault) (x : Draft × Place)
+    → machines ≤ MOST_MACHINES → AreJobs c shared names jobs → d ≡ draft_of names jobs → ReadsJobs c machines shared d p read → read ≡ Ok x → AddsLines c shared names jobs p x.0 x.1
 jobs_take c machines shared names jobs d p read x bound fit same (job_then _ e _ q _ step rest) is =
     let t = job_line_of c machines shared names jobs d p (job_read e q) bound same step in
     then_job c shared names jobs t.0 e p t.1 q x t.2 t.3 fit (λ ns js also good. jobs_take c machines shared ns js e q read x bound good also rest is)
@@ -156,7 +168,8 @@ jobs_take c machines shared names jobs d p read x bound fit same (arc_after _ e 
     only_arcs c shared names jobs p x.1 x.0 a fit (λ f. absurd (not_both (has_order c.order) t.3 f))
 jobs_take c machines shared names jobs d p read x bound fit same (jobs_end _ e _ q _ step ends) is =
     let t = job_line_of c machines shared names jobs d p (end_read e q) bound same step in
-    subst (λ (y : Draft × Place). AddsLines c shared names jobs p y.0 y.1) (sym (last_is (draft_of names jobs) e q read x t.0 ends is)) (only_arcs c shared names jobs p q (draft_of names jobs) (record { more = []; added = refl; text = t.1; fit = no_arc names }) fit (λ f. refl))
+    subst (λ (y : Draft × Place). AddsLines c shared names jobs p y.0 y.1) (sym (last_is (draft_of names jobs) e q read x t.0 ends is))
+    (only_arcs c shared names jobs p q (draft_of names jobs) (record { more = []; added = refl; text = t.1; fit = no_arc names }) fit (λ f. refl))
 jobs_take c machines shared names jobs d p read x bound fit same (jobs_fault _ _ _ fault step fails) is = absurd (no_answer read x fault fails is)
 
 -- ---- what was written
@@ -175,13 +188,16 @@ has_some true a more h = refl
 has_some false a more h = let e = h refl in absurd cc
 
 -- the arcs, after the last job
-arcs_then : (i : Instance) (shared : ℕ) (names : List (List ℕ)) (jobs : List Job) (arcs : List Arc) (at : ℕ) (rest : List ℕ) → AreDistinct names → All IsJobName names → AreArcs names arcs → (has_order i.class.order ≡ false → arcs ≡ [])
-    → GetsBy (ReadsJobs i.class i.machines shared (draft_of names jobs) (record { at = at; rest = (arcs_text names arcs ++ end_text) ++ rest })) (record { names = names; jobs = jobs; arcs = arcs }) rest
+arcs_then : (i : Instance) (shared : ℕ) (names : List (List ℕ)) (jobs : List Job) (arcs : List Arc) (at : ℕ) (rest : List ℕ)
+    → AreDistinct names → All IsJobName names → AreArcs names arcs → (has_order i.class.order ≡ false → arcs ≡ [])
+    → GetsBy (ReadsJobs i.class i.machines shared (draft_of names jobs) (record { at = at; rest = (arcs_text names arcs ++ end_text) ++ rest }))
+    (record { names = names; jobs = jobs; arcs = arcs }) rest
 unfolding job_step
 arcs_then i shared names jobs [] at rest apart spelled fit ordered =
     let l = line_then (job_next i.class i.machines shared at (draft_of names jobs)) at (codes "end") [] rest end_field in
     let q : Place = record { at = l.0; rest = rest } in
-    let last : job_next i.class i.machines shared at (draft_of names jobs) (codes "end" ∷ []) q ≡ Ok (end_read (draft_of names jobs) q) = neither (has_order i.class.order) (arc_line_at at (draft_of names jobs) [] >>= λ e. Ok (more_read e q)) (Ok (end_read (draft_of names jobs) q)) in
+    let last : job_next i.class i.machines shared at (draft_of names jobs) (codes "end" ∷ []) q ≡ Ok (end_read (draft_of names jobs) q) =
+    neither (has_order i.class.order) (arc_line_at at (draft_of names jobs) [] >>= λ e. Ok (more_read e q)) (Ok (end_read (draft_of names jobs) q)) in
     (l.0, jobs_end (draft_of names jobs) (draft_of names jobs) _ q _ (l.1 ∙ last) refl)
 arcs_then i shared names jobs (a ∷ more) at rest apart spelled fit ordered =
     let d : Draft = draft_of names jobs in
@@ -190,9 +206,13 @@ arcs_then i shared names jobs (a ∷ more) at rest apart spelled fit ordered =
     let left = (arcs_text names more ++ end_text) ++ rest in
     let l = line_then (job_next i.class i.machines shared at (draft_of names jobs)) at (codes "arc") fields left (arc_line_fields names a spelled in_range.0 in_range.1) in
     let q : Place = record { at = l.0; rest = left } in
-    let first : job_next i.class i.machines shared at (draft_of names jobs) (codes "arc" ∷ fields) q ≡ (arc_line_at at (draft_of names jobs) fields >>= λ e. Ok (more_read e q)) = chosen (has_order i.class.order) (arc_line_at at (draft_of names jobs) fields >>= λ e. Ok (more_read e q)) (end_at at (draft_of names jobs) (codes "arc" ∷ fields) q) (has_some (has_order i.class.order) a more ordered) in
+    let first : job_next i.class i.machines shared at (draft_of names jobs) (codes "arc" ∷ fields) q ≡ (arc_line_at at (draft_of names jobs) fields >>= λ e. Ok (more_read e q)) =
+    chosen (has_order i.class.order) (arc_line_at at (draft_of names jobs) fields >>= λ e. Ok (more_read e q))
+    (end_at at (draft_of names jobs) (codes "arc" ∷ fields) q) (has_some (has_order i.class.order) a more ordered) in
     let one = arc_again at (draft_of names jobs) a apart spelled in_range.0 in_range.1 in_range.2 in_range.3 in
-    let step : job_step i.class i.machines shared (draft_of names jobs) (record { at = at; rest = (arcs_text names (a ∷ more) ++ end_text) ++ rest }) ≡ Ok (more_read (with_arc (draft_of names jobs) a.before a.after) q) = ap (λ (b : List ℕ). job_step i.class i.machines shared (draft_of names jobs) (record { at = at; rest = b })) (regroup (line_text (arc_fields names a)) (arcs_text names more) end_text rest) ∙ l.1 ∙ first ∙ ap (λ r. r >>= λ e. Ok (more_read e q)) one in
+    let step : job_step i.class i.machines shared (draft_of names jobs) (record { at = at; rest = (arcs_text names (a ∷ more) ++ end_text) ++ rest })
+    ≡ Ok (more_read (with_arc (draft_of names jobs) a.before a.after) q) = ap (λ (b : List ℕ). job_step i.class i.machines shared (draft_of names jobs) (record { at = at; rest = b }))
+    (regroup (line_text (arc_fields names a)) (arcs_text names more) end_text rest) ∙ l.1 ∙ first ∙ ap (λ r. r >>= λ e. Ok (more_read e q)) one in
     let g = arcs_again more (with_arc (draft_of names jobs) a.before a.after) l.0 rest apart spelled in_range.4 in
     (g.0, arc_after (draft_of names jobs) (with_arc (draft_of names jobs) a.before a.after) _ q _ step g.1)
 
@@ -216,7 +236,8 @@ pub record AreTextJobs (i : Instance) (shared : ℕ) (names : List (List ℕ)) (
   pub fit : All (IsJobOf text_limits i) jobs
   pub same : All (IsSameJob i shared) jobs
 
-job_in : (i : Instance) (shared : ℕ) (names : List (List ℕ)) (jobs : List Job) (name : List ℕ) (more_names : List (List ℕ)) (j : Job) (more : List Job) → AreTextJobs i shared (names ++ name ∷ more_names) (jobs ++ j ∷ more) → AreIn i shared names jobs name j
+job_in : (i : Instance) (shared : ℕ) (names : List (List ℕ)) (jobs : List Job) (name : List ℕ) (more_names : List (List ℕ)) (j : Job) (more : List Job)
+    → AreTextJobs i shared (names ++ name ∷ more_names) (jobs ++ j ∷ more) → AreIn i shared names jobs name j
 job_in i shared names jobs name more_names j more fit =
     record {
       spelled = subst IsJobName (get_or_at names name more_names [] (length names) refl) (fit.spelled (length names) [] (omega (arith, length-append names (name ∷ more_names))));
@@ -227,14 +248,22 @@ job_in i shared names jobs name more_names j more fit =
     }
 
 -- a job is read, and after it what comes after it
-job_then_again : (i : Instance) (shared : ℕ) (name : List ℕ) (more_names : List (List ℕ)) (j : Job) (more : List Job) (arcs : List Arc) (names : List (List ℕ)) (jobs : List Job) (at : ℕ) (rest : List ℕ) → i.machines ≤ MOST_MACHINES
+job_then_again : (i : Instance) (shared : ℕ) (name : List ℕ) (more_names : List (List ℕ))
+    (j : Job) (more : List Job) (arcs : List Arc) (names : List (List ℕ)) (jobs : List Job) (at : ℕ) (rest : List ℕ) → i.machines ≤ MOST_MACHINES
     → AreTextJobs i shared (names ++ (name ∷ more_names)) (jobs ++ (j ∷ more)) → AreArcs (names ++ (name ∷ more_names)) arcs
     → ((next : ℕ) → AreTextJobs i shared ((names ++ name ∷ []) ++ more_names) ((jobs ++ j ∷ []) ++ more) → AreArcs ((names ++ name ∷ []) ++ more_names) arcs
-    → GetsBy (ReadsJobs i.class i.machines shared (draft_of (names ++ name ∷ []) (jobs ++ j ∷ [])) (record { at = next; rest = (jobs_text i.class more_names more ++ arcs_text ((names ++ name ∷ []) ++ more_names) arcs ++ end_text) ++ rest })) (record { names = (names ++ name ∷ []) ++ more_names; jobs = (jobs ++ j ∷ []) ++ more; arcs = arcs }) rest)
-    → GetsBy (ReadsJobs i.class i.machines shared (draft_of names jobs) (record { at = at; rest = (jobs_text i.class (name ∷ more_names) (j ∷ more) ++ arcs_text (names ++ (name ∷ more_names)) arcs ++ end_text) ++ rest })) (record { names = names ++ (name ∷ more_names); jobs = jobs ++ (j ∷ more); arcs = arcs }) rest
+    → GetsBy (ReadsJobs i.class i.machines shared (draft_of (names ++ name ∷ []) (jobs ++ j ∷ []))
+    (record { at = next; rest = (jobs_text i.class more_names more ++ arcs_text ((names ++ name ∷ []) ++ more_names) arcs ++ end_text) ++ rest }))
+    (record { names = (names ++ name ∷ []) ++ more_names; jobs = (jobs ++ j ∷ []) ++ more; arcs = arcs }) rest)
+    → GetsBy (ReadsJobs i.class i.machines shared (draft_of names jobs)
+    (record { at = at; rest = (jobs_text i.class (name ∷ more_names) (j ∷ more) ++ arcs_text (names ++ (name ∷ more_names)) arcs ++ end_text) ++ rest }))
+    (record { names = names ++ (name ∷ more_names); jobs = jobs ++ (j ∷ more); arcs = arcs }) rest
 unfolding job_step
-job_then_again i shared name more_names j more arcs names jobs at rest machines fit arcs_fit again =
-    (g.0, job_then (draft_of names jobs) (draft_of (names ++ name ∷ []) (jobs ++ j ∷ [])) _ (record { at = one.0; rest = left }) _ (ap (λ (b : List ℕ). job_step i.class i.machines shared (draft_of names jobs) (record { at = at; rest = b })) text ∙ l.1 ∙ ap (λ r. r >>= λ e. Ok (job_read e.0 e.1)) one.1) g.1)
+job_then_again i shared name more_names j more arcs names jobs at rest machines fit arcs_fit again = (
+  g.0,
+  job_then (draft_of names jobs) (draft_of (names ++ name ∷ []) (jobs ++ j ∷ [])) _ (record { at = one.0; rest = left })
+      _ (ap (λ (b : List ℕ). job_step i.class i.machines shared (draft_of names jobs) (record { at = at; rest = b })) text ∙ l.1 ∙ ap (λ r. r >>= λ e. Ok (job_read e.0 e.1)) one.1) g.1,
+)
   where
     all_names : List (List ℕ)
     all_names = names ++ (name ∷ more_names)
@@ -267,10 +296,13 @@ job_then_again i shared name more_names j more arcs names jobs at rest machines 
     here : AreIn i shared names jobs name j
     here = job_in i shared names jobs name more_names j more fit
 
-    l : (next : ℕ) × ((line_at (record { at = at; rest = line ++ (job_rest i.class j ++ left) }) >>= λ l. job_next i.class i.machines shared at (draft_of names jobs) (fields_of l.0) l.1) ≡ job_next i.class i.machines shared at (draft_of names jobs) (codes "job" ∷ name ∷ key_fields i.class j) (record { at = next; rest = job_rest i.class j ++ left }))
-    l = line_then (job_next i.class i.machines shared at (draft_of names jobs)) at (codes "job") (name ∷ key_fields i.class j) (job_rest i.class j ++ left) (job_line_fields i name j here.spelled here.job)
+    l : (next : ℕ) × ((line_at (record { at = at; rest = line ++ (job_rest i.class j ++ left) }) >>= λ l. job_next i.class i.machines shared at (draft_of names jobs) (fields_of l.0) l.1)
+        ≡ job_next i.class i.machines shared at (draft_of names jobs) (codes "job" ∷ name ∷ key_fields i.class j) (record { at = next; rest = job_rest i.class j ++ left }))
+    l = line_then (job_next i.class i.machines shared at (draft_of names jobs)) at
+        (codes "job") (name ∷ key_fields i.class j) (job_rest i.class j ++ left) (job_line_fields i name j here.spelled here.job)
 
-    one : Gets (job_at_line i.class i.machines shared (draft_of names jobs) at (name ∷ key_fields i.class j) (record { at = l.0; rest = job_rest i.class j ++ left })) (draft_of (names ++ name ∷ []) (jobs ++ j ∷ [])) left
+    one : Gets (job_at_line i.class i.machines shared (draft_of names jobs) at (name ∷ key_fields i.class j) (record { at = l.0; rest = job_rest i.class j ++ left }))
+        (draft_of (names ++ name ∷ []) (jobs ++ j ∷ [])) left
     one = job_again i (draft_of names jobs) at l.0 shared name j left machines here.job here.same here.spelled here.fresh here.few
 
     fit_on : AreTextJobs i shared ((names ++ name ∷ []) ++ more_names) ((jobs ++ j ∷ []) ++ more)
@@ -279,23 +311,31 @@ job_then_again i shared name more_names j more arcs names jobs at rest machines 
     read : Place → Result (Draft × Place) FileFault → Type 0
     read = ReadsJobs i.class i.machines shared (draft_of (names ++ name ∷ []) (jobs ++ j ∷ []))
 
-    before : GetsBy (read (record { at = one.0; rest = (jobs_text i.class more_names more ++ arcs_text ((names ++ name ∷ []) ++ more_names) arcs ++ end_text) ++ rest })) (record { names = (names ++ name ∷ []) ++ more_names; jobs = (jobs ++ j ∷ []) ++ more; arcs = arcs }) rest
+    before : GetsBy (read (record { at = one.0; rest = (jobs_text i.class more_names more ++ arcs_text ((names ++ name ∷ []) ++ more_names) arcs ++ end_text) ++ rest }))
+        (record { names = (names ++ name ∷ []) ++ more_names; jobs = (jobs ++ j ∷ []) ++ more; arcs = arcs }) rest
     before = again one.0 fit_on (subst (λ (ns : List (List ℕ)). AreArcs ns arcs) (sym n_is) arcs_fit)
 
     g : GetsBy (read (record { at = one.0; rest = left })) (record { names = all_names; jobs = all_jobs; arcs = arcs }) rest
     g = subst (λ (js : List Job). GetsBy (read (record { at = one.0; rest = left })) (record { names = all_names; jobs = js; arcs = arcs }) rest) j_is
-        (subst (λ (ns : List (List ℕ)). GetsBy (read (record { at = one.0; rest = (jobs_text i.class more_names more ++ arcs_text ns arcs ++ end_text) ++ rest })) (record { names = ns; jobs = (jobs ++ j ∷ []) ++ more; arcs = arcs }) rest) n_is before)
+        (subst (λ (ns : List (List ℕ)). GetsBy (read (record { at = one.0; rest = (jobs_text i.class more_names more ++ arcs_text ns arcs ++ end_text) ++ rest }))
+        (record { names = ns; jobs = (jobs ++ j ∷ []) ++ more; arcs = arcs }) rest) n_is before)
 
-pub jobs_again : (i : Instance) (shared : ℕ) (more_names : List (List ℕ)) (more : List Job) (arcs : List Arc) (names : List (List ℕ)) (jobs : List Job) (at : ℕ) (rest : List ℕ) → i.machines ≤ MOST_MACHINES → length more_names ≡ length more
+pub jobs_again : (i : Instance) (shared : ℕ) (more_names : List (List ℕ)) (more : List Job) (arcs : List Arc) (names : List (List ℕ)) (jobs : List Job) (at : ℕ) (rest : List ℕ)
+    → i.machines ≤ MOST_MACHINES → length more_names ≡ length more
     → AreTextJobs i shared (names ++ more_names) (jobs ++ more) → AreArcs (names ++ more_names) arcs → (has_order i.class.order ≡ false → arcs ≡ [])
-    → GetsBy (ReadsJobs i.class i.machines shared (draft_of names jobs) (record { at = at; rest = (jobs_text i.class more_names more ++ arcs_text (names ++ more_names) arcs ++ end_text) ++ rest })) (record { names = names ++ more_names; jobs = jobs ++ more; arcs = arcs }) rest
+    → GetsBy (ReadsJobs i.class i.machines shared (draft_of names jobs) (record { at = at; rest = (jobs_text i.class more_names more ++ arcs_text (names ++ more_names) arcs ++ end_text) ++ rest }))
+    (record { names = names ++ more_names; jobs = jobs ++ more; arcs = arcs }) rest
 jobs_again i shared [] (j ∷ more) arcs names jobs at rest machines even fit arcs_fit ordered = absurd (omega (arith, even))
 jobs_again i shared (name ∷ more_names) [] arcs names jobs at rest machines even fit arcs_fit ordered = absurd (omega (arith, even))
 jobs_again i shared [] [] arcs names jobs at rest machines even fit arcs_fit ordered =
     let read = ReadsJobs i.class i.machines shared (draft_of names jobs) in
-    let here : GetsBy (read (record { at = at; rest = (arcs_text names arcs ++ end_text) ++ rest })) (record { names = names; jobs = jobs; arcs = arcs }) rest = arcs_then i shared names jobs arcs at rest (subst AreDistinct (append-nil names) fit.distinct) (subst (All IsJobName) (append-nil names) fit.spelled) (subst (λ (ns : List (List ℕ)). AreArcs ns arcs) (append-nil names) arcs_fit) ordered in
-    let named = subst (λ (ns : List (List ℕ)). GetsBy (read (record { at = at; rest = (arcs_text ns arcs ++ end_text) ++ rest })) (record { names = ns; jobs = jobs; arcs = arcs }) rest) (sym (append-nil names)) here in
-    subst (λ (js : List Job). GetsBy (read (record { at = at; rest = (arcs_text (names ++ []) arcs ++ end_text) ++ rest })) (record { names = names ++ []; jobs = js; arcs = arcs }) rest) (sym (append-nil jobs)) named
+    let here : GetsBy (read (record { at = at; rest = (arcs_text names arcs ++ end_text) ++ rest })) (record { names = names; jobs = jobs; arcs = arcs }) rest =
+    arcs_then i shared names jobs arcs at rest (subst AreDistinct (append-nil names) fit.distinct)
+    (subst (All IsJobName) (append-nil names) fit.spelled) (subst (λ (ns : List (List ℕ)). AreArcs ns arcs) (append-nil names) arcs_fit) ordered in
+    let named = subst (λ (ns : List (List ℕ)). GetsBy (read (record { at = at; rest = (arcs_text ns arcs ++ end_text) ++ rest })) (record { names = ns; jobs = jobs; arcs = arcs }) rest)
+    (sym (append-nil names)) here in
+    subst (λ (js : List Job). GetsBy (read (record { at = at; rest = (arcs_text (names ++ []) arcs ++ end_text) ++ rest })) (record { names = names ++ []; jobs = js; arcs = arcs }) rest)
+    (sym (append-nil jobs)) named
 jobs_again i shared (name ∷ more_names) (j ∷ more) arcs names jobs at rest machines even fit arcs_fit ordered =
     job_then_again i shared name more_names j more arcs names jobs at rest machines fit arcs_fit
     (λ next fit_on arcs_on. jobs_again i shared more_names more arcs (names ++ name ∷ []) (jobs ++ j ∷ []) next rest machines (omega (arith, even)) fit_on arcs_on ordered)

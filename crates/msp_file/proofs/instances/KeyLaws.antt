@@ -3,7 +3,7 @@ use Rattle.std.proofs.Common.{◌≡◌, ℕ, ◌≤◌, Bool, true, false, ◌&
 use Rattle.std.specs.Fmt.{signed_decimal}
 use Rattle.std.proofs.lemmas.Bool.{and_parts, eqb-true, eq-eqb}
 use Rattle.msp_instance.specs.Conditions.{LiesWithin}
-use Rattle.msp_instance.specs.declared.ranges.TheConstants.{GREATEST}
+use Rattle.msp_class.specs.declared.sizes.TheConstants.{GREATEST}
 use Rattle.msp_grammar.specs.declared.lines.fault.FileFault.TheVariants.{Key, Count, Again}
 use Rattle.msp_grammar.specs.declared.lines.fault.What.{What}
 use Rattle.msp_grammar.specs.InstanceText.{where_wanted, time_key, release_key, due_key, weight_key, key_fields}
@@ -157,7 +157,8 @@ length_keys c k more =
 
 -- ---- the line
 
-pub job_line_takes : (c : Class) (at : ℕ) (names fields : List (List ℕ)) (x : List ℕ × Keys) → job_line_at c at names fields ≡ Ok x → (fields ≡ x.0 ∷ key_words c x.1 []) × IsJobName x.0 × (¬ Contains names x.0) × AreKeys c x.1
+pub job_line_takes : (c : Class) (at : ℕ) (names fields : List (List ℕ)) (x : List ℕ × Keys)
+    → job_line_at c at names fields ≡ Ok x → (fields ≡ x.0 ∷ key_words c x.1 []) × IsJobName x.0 × (¬ Contains names x.0) × AreKeys c x.1
 unfolding job_line_at
 job_line_takes c at names [] x e = let g = provided_ok (length {A = List ℕ} [] == 1 + count_of_keys c) (Count at) _ x e in absurd (none (count_of_keys c) g.0)
   where
@@ -172,7 +173,8 @@ job_line_takes c at names (w ∷ ws) x e =
     let keyed = keys_takes c at ws b.0 b.1 in
     let nothing : keyed.0 ≡ [] = nil_from_length keyed.0 (counted (length ws) (count_of_keys c) (length keyed.0) g.0 (ap length keyed.1 ∙ length_keys c b.0 keyed.0)) in
     let text : w ∷ ws ≡ a.0 ∷ key_words c b.0 [] = cc (named.0, keyed.1 ∙ ap (key_words c b.0) nothing) in
-    subst (λ (y : List ℕ × Keys). (w ∷ ws ≡ y.0 ∷ key_words c y.1 []) × IsJobName y.0 × (¬ Contains names y.0) × AreKeys c y.1) (ok_is (a.0, b.0) x last.1) (text, named.1, not_among names a.0 (flip (list_any (bytes_eq a.0) names) last.0), keyed.2)
+    subst (λ (y : List ℕ × Keys). (w ∷ ws ≡ y.0 ∷ key_words c y.1 []) × IsJobName y.0 × (¬ Contains names y.0) × AreKeys c y.1)
+    (ok_is (a.0, b.0) x last.1) (text, named.1, not_among names a.0 (flip (list_any (bytes_eq a.0) names) last.0), keyed.2)
   where
     counted : (n k m : ℕ) → (suc n == 1 + k) ≡ true → n ≡ k + m → m ≡ 0
     counted n k m h e = let same = eqb-true (suc n) (1 + k) h in omega arith
@@ -181,7 +183,8 @@ job_line_takes c at names (w ∷ ws) x e =
     flip true h = absurd cc
     flip false h = refl
 
-pub job_line_again : (c : Class) (at : ℕ) (names : List (List ℕ)) (name : List ℕ) (k : Keys) → IsJobName name → ¬ Contains names name → AreKeys c k → job_line_at c at names (name ∷ key_words c k []) ≡ Ok (name, k)
+pub job_line_again : (c : Class) (at : ℕ) (names : List (List ℕ)) (name : List ℕ) (k : Keys)
+    → IsJobName name → ¬ Contains names name → AreKeys c k → job_line_at c at names (name ∷ key_words c k []) ≡ Ok (name, k)
 unfolding job_line_at
 job_line_again c at names name k spelled fresh h =
     provided_again _ _ _ _ (eq-eqb _ _ (counted _ _ (length_keys c k []))) (
@@ -230,6 +233,7 @@ pub key_fields_are : (c : Class) (j : Job) → key_fields c j ≡ key_words c (k
 unfolding time_key release_key due_key weight_key
 key_fields_are c j = by (has_time_key c)
   where
-    by : (t : Bool) → where_wanted t ((112 ∷ 61 ∷ decimal (slice_index_or j.needs 0 no_need).time) ∷ []) ++ release_key c j ++ due_key c j ++ weight_key c j ≡ where_wanted t ((112 ∷ 61 ∷ decimal (time_of t j.needs)) ∷ []) ++ (release_key c j ++ (due_key c j ++ (weight_key c j ++ [])))
+    by : (t : Bool) → where_wanted t ((112 ∷ 61 ∷ decimal (slice_index_or j.needs 0 no_need).time) ∷ []) ++ release_key c j ++ due_key c j ++ weight_key c j
+        ≡ where_wanted t ((112 ∷ 61 ∷ decimal (time_of t j.needs)) ∷ []) ++ (release_key c j ++ (due_key c j ++ (weight_key c j ++ [])))
     by true = simp (append_assoc, append-nil)
     by false = simp (append_assoc, append-nil)

@@ -1,12 +1,12 @@
 -- Reading counts the lines that it takes.
-use Rattle.std.proofs.Common.{◌≡◌, ℕ, ◌+◌, ◌*◌, nat_le, Bool, true, false, ◌&&◌, ◌==◌, List, ◌∷◌, [], ◌++◌, length, take, drop, Option, Some, None, inl, inr, Result, Ok, Err, count_by, cond, ap, ◌∙◌, position, bytes_eq, codes, refl, sym, subst, arith, if◌then◌else◌}
+use Rattle.std.proofs.Common.{◌≡◌, ℕ, ◌+◌, ◌*◌, nat_le, Bool, true, false, ◌&&◌, ◌==◌, List, ◌∷◌, [], ◌++◌, length, take, drop, Option, Some, None, inl, inr, Result, Ok, Err}
+use Rattle.std.proofs.Common.{count_by, cond, ap, ◌∙◌, position, bytes_eq, codes, refl, sym, subst, arith, if◌then◌else◌}
 use Rattle.std.proofs.lemmas.List.{take_rest}
 use Rattle.std.proofs.lemmas.List.Sums.{sum_by-append}
 use Rattle.std.proofs.lemmas.List.Splits.{length-slice_split}
 use Rattle.std.specs.List.{slice_split}
-use Rattle.msp_class.specs.declared.environments.TheConstants.{MOST_OPERATIONS}
+use Rattle.msp_class.specs.declared.sizes.TheConstants.{MOST_OPERATIONS, MOST_STEPS}
 use Rattle.msp_class.specs.Env.{fixed_machines}
-use Rattle.msp_instance.specs.declared.ranges.TheConstants.{MOST_STEPS}
 use Rattle.msp_class.specs.declared.class.Class.{Class}
 use Rattle.msp_class.specs.declared.class.Env.{Env}
 use Rattle.msp_class.specs.declared.class.Times.{Times}
@@ -20,8 +20,11 @@ use Rattle.msp_grammar.specs.declared.lines.fault.FileFault.TheVariants.{Limit, 
 use Rattle.msp_grammar.specs.declared.lines.fault.What.{What}
 use Rattle.msp_grammar.specs.declared.lines.fault.What.TheVariants as what
 use Rattle.msp_file.specs.declared.instance.draft.Draft.{Draft}
-use Rattle.msp_grammar.specs.lines.Reading.{◌>>=◌, provided, Place, line_at, fields_of, first_of, others_of, worded_at, LineRead, job_read, more_read, end_read, more_then, more_end, more_fault, Then, number_line_at}
-use Rattle.msp_file.specs.instance.Reading.{times_line_at, operations_in, is_route_count, route_line_at, steps_in, needs_at, curve_line_at, curve_at, job_at_line, arc_line_at, arc_or_end, arc_step, job_step, ReadsArcs, ReadsJobs, job_then, arc_after, jobs_end, jobs_fault, OnlyWhere, ReadsRest, ReadsLines, no_draft, version_at, class_at, machines_line_at, machines_at, speeds_line_at, speeds_at, time_at}
+use Rattle.msp_grammar.specs.lines.Reading.{◌>>=◌, provided, Place, line_at, fields_of, first_of, others_of, worded_at, LineRead, job_read, more_read, end_read, more_then}
+use Rattle.msp_grammar.specs.lines.Reading.{more_end, more_fault, Then, number_line_at}
+use Rattle.msp_file.specs.instance.Reading.{times_line_at, operations_in, is_route_count, route_line_at, steps_in, needs_at, curve_line_at, curve_at, job_at_line, arc_line_at}
+use Rattle.msp_file.specs.instance.Reading.{arc_or_end, arc_step, job_step, ReadsArcs, ReadsJobs, job_then, arc_after, jobs_end, jobs_fault, OnlyWhere, ReadsRest, ReadsLines}
+use Rattle.msp_file.specs.instance.Reading.{no_draft, version_at, class_at, machines_line_at, machines_at, speeds_line_at, speeds_at, time_at}
 
 -- The lines in what is left of a text.
 abbrev pub feeds : List ℕ → ℕ
@@ -55,7 +58,8 @@ stays left p x h = record { same = λ y e. let is : x ≡ y = cc in subst (λ z.
 stops : {A : Type 0} (left : A → Place) (p : Place) (e : FileFault) → Counts {A = A} left p (Err e)
 stops left p e = record { same = λ x h. absurd cc }
 
-goes : {A B : Type 0} (left : A → Place) (last : B → Place) (p : Place) (r : Result A FileFault) (f : A → Result B FileFault) → Counts left p r → ((x : A) → Counts last (left x) (f x)) → Counts last p (r >>= f)
+goes : {A B : Type 0} (left : A → Place) (last : B → Place) (p : Place) (r : Result A FileFault) (f : A → Result B FileFault)
+    → Counts left p r → ((x : A) → Counts last (left x) (f x)) → Counts last p (r >>= f)
 goes left last p (Ok x) f h k = record { same = λ y e. let here = h.same x refl in let there = (k x).same y e in omega arith }
 goes left last p (Err e) f h k = stops last p e
 
@@ -76,7 +80,8 @@ either left p false r s h k = k
 
 feeds_cut : (bytes : List ℕ) (k : ℕ) → position (λ x. x == 10) bytes ≡ Some k → feeds bytes ≡ feeds (drop (k + 1) bytes) + 1
 feeds_cut bytes k e =
-    let cut : slice_split (λ x. x == 10) bytes ≡ take k bytes ∷ slice_split (λ x. x == 10) (drop (k + 1) bytes) = (cut-slices 10 k bytes (sym e)).0 ∙ ap (λ bs. take k bytes ∷ slice_split (λ x. x == 10) bs) (take_rest bytes (k + 1)) in
+    let cut : slice_split (λ x. x == 10) bytes ≡ take k bytes ∷ slice_split (λ x. x == 10) (drop (k + 1) bytes) =
+    (cut-slices 10 k bytes (sym e)).0 ∙ ap (λ bs. take k bytes ∷ slice_split (λ x. x == 10) bs) (take_rest bytes (k + 1)) in
     let parts = ap length cut in
     omega (arith, length-slice_split (λ x. x == 10) (drop (k + 1) bytes), length-slice_split (λ x. x == 10) bytes)
 
@@ -84,8 +89,12 @@ line : (p : Place) → Counts after p (line_at p)
 unfolding line_at
 line p = by (position (λ x. x == 10) p.rest) refl
   where
-    by : (o : Option ℕ) → position (λ x. x == 10) p.rest ≡ o → Counts {A = List ℕ × Place} after p (elim o [ Some k ↦ Ok (take k p.rest, record { at = p.at + 1; rest = drop (k + 1) p.rest }) | None ↦ Err (elim p.rest [ [] ↦ Missing p.at | _ ∷ _ ↦ Cut p.at ]) ])
-    by (Some k) e = record { same = λ x h. let is : (take k p.rest, record { at = p.at + 1; rest = drop (k + 1) p.rest }) ≡ x = cc in subst (λ (y : List ℕ × Place). lines y.1 ≡ lines p) is (let more = feeds_cut p.rest k e in omega arith) }
+    by : (o : Option ℕ) → position (λ x. x == 10) p.rest ≡ o → Counts {A = List ℕ × Place} after p
+        (elim o [ Some k ↦ Ok (take k p.rest, record { at = p.at + 1; rest = drop (k + 1) p.rest }) | None ↦ Err (elim p.rest [ [] ↦ Missing p.at | _ ∷ _ ↦ Cut p.at ]) ])
+    by (Some k) e = record {
+      same = λ x h. let is : (take k p.rest, record { at = p.at + 1; rest = drop (k + 1) p.rest }) ≡ x = cc in
+          subst (λ (y : List ℕ × Place). lines y.1 ≡ lines p) is (let more = feeds_cut p.rest k e in omega arith);
+    }
     by None e = stops after p _
 
 worded : (word : List ℕ) (p : Place) → Counts after p (worded_at word p)
@@ -126,7 +135,8 @@ job c machines shared d at fields p =
     goes after after n.1 (curve_at c.crit n.1) _ (curve c.crit n.1) (λ v. stays after v.1 _ refl))))
 
 arc_or_last : (may : Bool) (at : ℕ) (d : Draft) (fields : List (List ℕ)) (p : Place) → Counts after_line p (arc_or_end may at d fields p)
-arc_or_last may at d fields p = either after_line p (may && bytes_eq (first_of fields) (codes "arc")) _ _ (within after_line p (arc_line_at at d (others_of fields)) _ (λ e. stays after_line p _ refl)) (given after_line p (bytes_eq (first_of fields) (codes "end")) (Line at) _ (given after_line p (length fields == 1) (Count at) _ (stays after_line p (end_read d p) refl)))
+arc_or_last may at d fields p = either after_line p (may && bytes_eq (first_of fields) (codes "arc")) _ _ (within after_line p (arc_line_at at d (others_of fields)) _ (λ e. stays after_line p _ refl))
+    (given after_line p (bytes_eq (first_of fields) (codes "end")) (Line at) _ (given after_line p (length fields == 1) (Count at) _ (stays after_line p (end_read d p) refl)))
 
 after_arc : (d : Draft) (p : Place) → Counts after_line p (arc_step d p)
 unfolding arc_step
@@ -137,7 +147,8 @@ unfolding job_step
 after_job c machines shared d p =
     goes after after_line p (line_at p) _ (line p) (λ l.
     let fields = fields_of l.0 in
-    either after_line l.1 (bytes_eq (first_of fields) (codes "job")) _ _ (goes after after_line l.1 (job_at_line c machines shared d p.at (others_of fields) l.1) _ (job c machines shared d p.at (others_of fields) l.1) (λ e. stays after_line e.1 _ refl)) (arc_or_last (has_order c.order) p.at d fields l.1))
+    either after_line l.1 (bytes_eq (first_of fields) (codes "job")) _ _ (goes after after_line l.1 (job_at_line c machines shared d p.at (others_of fields) l.1)
+    _ (job c machines shared d p.at (others_of fields) l.1) (λ e. stays after_line e.1 _ refl)) (arc_or_last (has_order c.order) p.at d fields l.1))
 
 -- ---- relations
 
@@ -196,11 +207,13 @@ time : (t : Times) (p : Place) → Counts after p (time_at t p)
 unfolding time_at
 time t p = either after p _ _ _ (number_line _ _ _ p) (stays after p _ refl)
 
-then_counts : {A B : Type 0} (left : A → Place) (last : B → Place) (p : Place) (first : Result A FileFault) (next : A → Result B FileFault → Type 0) (r : Result B FileFault) → Counts left p first → ((x : A) → next x r → Counts last (left x) r) → Then first next r → Counts last p r
+then_counts : {A B : Type 0} (left : A → Place) (last : B → Place) (p : Place) (first : Result A FileFault) (next : A → Result B FileFault → Type 0) (r : Result B FileFault)
+    → Counts left p first → ((x : A) → next x r → Counts last (left x) r) → Then first next r → Counts last p r
 then_counts left last p (Ok x) next r h k t = along last p (left x) r (h.same x refl) (k x t)
 then_counts left last p (Err e) next r h k t = fails last p r e t
 
-only_counts : {B : Type 0} (last : B → Place) (p : Place) (condition : Type 0) (fault : FileFault) (next : Result B FileFault → Type 0) (r : Result B FileFault) → (next r → Counts last p r) → OnlyWhere condition fault next r → Counts last p r
+only_counts : {B : Type 0} (last : B → Place) (p : Place) (condition : Type 0) (fault : FileFault) (next : Result B FileFault → Type 0) (r : Result B FileFault)
+    → (next r → Counts last p r) → OnlyWhere condition fault next r → Counts last p r
 only_counts last p condition fault next r k (inl t) = k t.1
 only_counts last p condition fault next r k (inr t) = fails last p r fault t.1
 

@@ -8,18 +8,24 @@ use Rattle.msp_class.specs.declared.class.Times.{Times}
 use Rattle.msp_instance.specs.declared.Need.{Need}
 use Rattle.msp_instance.specs.declared.Step.{Step}
 use Rattle.msp_name.specs.Reading.{reading_of}
-use Rattle.msp_instance.specs.declared.ranges.TheConstants.{GREATEST, GREATEST_SPEED}
+use Rattle.msp_class.specs.declared.sizes.TheConstants.{GREATEST, GREATEST_SPEED}
 use Rattle.msp_grammar.specs.declared.lines.fault.What.{What}
 use Rattle.msp_grammar.specs.declared.lines.fault.FileFault.{FileFault}
-use Rattle.msp_grammar.specs.declared.lines.fault.FileFault.TheVariants.{Class as ClassBroken, Cycle, Memory, After, Head, Missing, Cut, Line, Count, Key, Name, Number, Limit, Again, ArcAgain, Unknown}
+use Rattle.msp_grammar.specs.declared.lines.fault.FileFault.TheVariants.{Class as ClassBroken, Cycle, Memory, After, Head, Missing, Cut, Line, Count, Key, Name, Number, Limit}
+use Rattle.msp_grammar.specs.declared.lines.fault.FileFault.TheVariants.{Again, ArcAgain, Unknown}
 use Rattle.msp_grammar.specs.declared.lines.fault.What.TheVariants as what
 use Rattle.msp_instance.specs.Conditions.{HasSmallMultiple}
 use Rattle.msp_file.specs.declared.instance.draft.Draft.{Draft}
 use Rattle.msp_grammar.specs.declared.filed.Filed.{Filed}
 use Rattle.msp_grammar.specs.Layout.{has_order}
 use Rattle.msp_grammar.specs.lines.Reading.{first_of, others_of, ◌>>=◌, Place, line_at, fields_of, worded_at, natural_at, integer_at, job_name_at, known_at, machine_at, end_at, Then, front_of}
-use Rattle.msp_file.specs.instance.Reading.{keyed_at, natural_key_at, integer_key_at, keys_at, job_line_at, with_need, times_at, times_line_at, timed_route_at, machine_route_at, operations_at, route_line_at, needs_at, with_step, steps_at, curve_fields_at, curve_line_at, curve_at, job_at_line, arc_line_at, arc_or_end, arc_step, job_step, ReadsArcs, ReadsJobs, job_then, arc_after, jobs_end, jobs_fault, OnlyWhere, ReadsRest, ReadsLines, ReadsFront, start_of, Reads, no_draft, version_at, class_in, spelled_class, class_at, machines_line_at, machines_at, speeds_in, speeds_line_at, speeds_at, time_line_at, time_at}
-use Rattle.msp_grammar.proofs.reading.LineFaults.{IsPlainFault, InBy, IsPlain, fine, bad, chain, given, either, line_plain, worded_plain, natural_plain, ordinal_plain, number_line_plain, integer_plain, named_plain, known_plain, end_plain, is_fine, is_bad, more, then_in, whole_in}
+use Rattle.msp_file.specs.instance.Reading.{keyed_at, natural_key_at, integer_key_at, keys_at, job_line_at, with_need, times_at, times_line_at, timed_route_at, machine_route_at}
+use Rattle.msp_file.specs.instance.Reading.{operations_at, route_line_at, needs_at, with_step, steps_at, curve_fields_at, curve_line_at, curve_at, job_at_line, arc_line_at}
+use Rattle.msp_file.specs.instance.Reading.{arc_or_end, arc_step, job_step, ReadsArcs, ReadsJobs, job_then, arc_after, jobs_end, jobs_fault, OnlyWhere, ReadsRest, ReadsLines}
+use Rattle.msp_file.specs.instance.Reading.{ReadsFront, start_of, Reads, no_draft, version_at, class_in, spelled_class, class_at, machines_line_at, machines_at, speeds_in}
+use Rattle.msp_file.specs.instance.Reading.{speeds_line_at, speeds_at, time_line_at, time_at}
+use Rattle.msp_grammar.proofs.reading.LineFaults.{IsPlainFault, InBy, IsPlain, fine, bad, chain, given, either, line_plain, worded_plain, natural_plain, ordinal_plain}
+use Rattle.msp_grammar.proofs.reading.LineFaults.{number_line_plain, integer_plain, named_plain, known_plain, end_plain, is_fine, is_bad, more, then_in, whole_in}
 
 -- The fault is one of a line.
 abbrev pub IsLineFault : FileFault → Type 0
@@ -163,7 +169,8 @@ end_line : (at : ℕ) (d : Draft) (fields : List (List ℕ)) (p : Place) → InL
 end_line at d fields p = widen _ (end_plain at d fields p)
 
 arc_or_last : (may : Bool) (at : ℕ) (d : Draft) (fields : List (List ℕ)) (p : Place) → InLines (arc_or_end may at d fields p)
-arc_or_last may at d fields p = either (may && bytes_eq (first_of fields) (codes "arc")) _ _ (chain (arc_line_at at d (others_of fields)) _ (arc_line at d (others_of fields)) (λ e. fine _)) (end_line at d fields p)
+arc_or_last may at d fields p = either (may && bytes_eq (first_of fields) (codes "arc"))
+    _ _ (chain (arc_line_at at d (others_of fields)) _ (arc_line at d (others_of fields)) (λ e. fine _)) (end_line at d fields p)
 
 after_arc : (d : Draft) (p : Place) → InLines (arc_step d p)
 unfolding arc_step
@@ -174,7 +181,8 @@ unfolding job_step
 after_job c machines shared d p =
     chain (line_at p) _ (line p) (λ l.
     let fields = fields_of l.0 in
-    either (bytes_eq (first_of fields) (codes "job")) _ _ (chain (job_at_line c machines shared d p.at (others_of fields) l.1) _ (job c machines shared d p.at (others_of fields) l.1) (λ e. fine _)) (arc_or_last (has_order c.order) p.at d fields l.1))
+    either (bytes_eq (first_of fields) (codes "job")) _ _ (chain (job_at_line c machines shared d p.at (others_of fields) l.1) _ (job c machines shared d p.at (others_of fields) l.1) (λ e. fine _))
+    (arc_or_last (has_order c.order) p.at d fields l.1))
 
 arcs : (d : Draft) (p : Place) (r : Result (Draft × Place) FileFault) → ReadsArcs d p r → InLines r
 arcs d p r h = more arc_step after_arc d p r h
@@ -234,7 +242,8 @@ time_read : (t : Times) (p : Place) → InLines (time_at t p)
 unfolding time_at
 time_read t p = either _ _ _ (time_line p) (fine _)
 
-only_in : {B : Type 0} (condition : Type 0) (fault : FileFault) (next : Result B FileFault → Type 0) (r : Result B FileFault) → IsLineFault fault → (next r → InLines r) → OnlyWhere condition fault next r → InLines r
+only_in : {B : Type 0} (condition : Type 0) (fault : FileFault) (next : Result B FileFault → Type 0) (r : Result B FileFault)
+    → IsLineFault fault → (next r → InLines r) → OnlyWhere condition fault next r → InLines r
 only_in condition fault next r h k (inl t) = k t.1
 only_in condition fault next r h k (inr t) = subst InLines (sym t.1) (bad fault h)
 

@@ -9,7 +9,7 @@ use Rattle.std.proofs.lemmas.List.FromFn.{length-map-range_with_len, get_or-map-
 use Rattle.msp_class.specs.declared.environments.EnvKind.{EnvKind}
 use Rattle.msp_class.specs.declared.environments.EnvKind.TheVariants.{Identical, Uniform, Unrelated, OpenShop, FlowShop, JobShop}
 use Rattle.msp_class.specs.Env.{kind_of, most_operations}
-use Rattle.msp_class.specs.declared.environments.TheConstants.{MOST_OPERATIONS}
+use Rattle.msp_class.specs.declared.sizes.TheConstants.{MOST_MACHINES, MOST_OPERATIONS, GREATEST}
 use Rattle.msp_class.specs.declared.class.Class.{Class}
 use Rattle.msp_class.specs.declared.class.Env.{Env}
 use Rattle.msp_class.specs.declared.class.Env.TheVariants.{J2Short, JShort}
@@ -17,14 +17,14 @@ use Rattle.msp_class.specs.declared.class.Times.{Times}
 use Rattle.msp_instance.specs.declared.Need.{Need}
 use Rattle.msp_instance.specs.Instance.{no_need}
 use Rattle.msp_instance.specs.Conditions.{IsSingleNeed, IsNeedPerMachine, IsRoute, HasShape, HasTimes, least_time}
-use Rattle.msp_instance.specs.declared.ranges.TheConstants.{GREATEST, MOST_MACHINES}
 use Rattle.msp_grammar.specs.declared.lines.fault.What.TheVariants as what
 use Rattle.msp_grammar.specs.declared.lines.fault.FileFault.{FileFault}
 use Rattle.msp_grammar.specs.declared.lines.fault.FileFault.TheVariants.{Count, Limit}
 use Rattle.msp_grammar.specs.Layout.{has_times, has_time_key, has_one_time, has_machine_times, has_route}
 use Rattle.msp_grammar.specs.InstanceText.{line_text, where_wanted, times_fields, operation_fields, route_fields}
 use Rattle.msp_grammar.specs.lines.Reading.{Place, worded_at, natural_at, machine_at}
-use Rattle.msp_file.specs.instance.Reading.{with_need, times_at, times_line_at, timed_route_at, machine_route_at, operations_in, fields_in, operations_at, is_route_count, route_line_at, unwritten_needs, needs_at}
+use Rattle.msp_file.specs.instance.Reading.{with_need, times_at, times_line_at, timed_route_at, machine_route_at, operations_in, fields_in, operations_at, is_route_count}
+use Rattle.msp_file.specs.instance.Reading.{route_line_at, unwritten_needs, needs_at}
 use Rattle.msp_grammar.proofs.reading.LineLaws.{bind_ok, provided_ok, ok_is, Takes, Gets, IsField, worded_takes, worded_again, reads, bind_again, provided_again}
 use Rattle.msp_grammar.proofs.reading.FieldLaws.{natural_takes, natural_again, natural_field, ordinal_takes, ordinal_again}
 use Rattle.msp_file.proofs.instances.KeyLaws.{limit}
@@ -55,7 +55,8 @@ need_is n machine time e f = sym (ap₂ need_of e f)
 
 -- ---- times on the machines in order
 
-pub times_takes : (at least : ℕ) (needs : List Need) (ws : List (List ℕ)) (after : List Need) → times_at at least needs ws ≡ Ok after → (more : List Need) × (after ≡ needs ++ more) × (ws ≡ map (λ n. decimal n.time) more)
+pub times_takes : (at least : ℕ) (needs : List Need) (ws : List (List ℕ)) (after : List Need)
+    → times_at at least needs ws ≡ Ok after → (more : List Need) × (after ≡ needs ++ more) × (ws ≡ map (λ n. decimal n.time) more)
 unfolding times_at
 times_takes at least needs [] after e = ([], sym (ok_is needs after e) ∙ sym (append-nil needs), refl)
 times_takes at least needs (w ∷ ws) after e =
@@ -68,7 +69,8 @@ times_takes at least needs (w ∷ ws) after e =
 abbrev AreNumberedFrom : ℕ → List Need → Type 0
 AreNumberedFrom n needs = EachIndex needs (λ k. (slice_index_or needs k no_need).machine ≡ n + k)
 
-pub times_again : (at least : ℕ) (needs more : List Need) → AreNumberedFrom (length needs) more → HasTimes least GREATEST more → times_at at least needs (map (λ n. decimal n.time) more) ≡ Ok (needs ++ more)
+pub times_again : (at least : ℕ) (needs more : List Need)
+    → AreNumberedFrom (length needs) more → HasTimes least GREATEST more → times_at at least needs (map (λ n. decimal n.time) more) ≡ Ok (needs ++ more)
 unfolding times_at
 times_again at least needs [] numbered h = ap Ok (sym (append-nil needs))
 times_again at least needs (n ∷ more) numbered h =
@@ -89,7 +91,8 @@ times_line_takes least machines p x e =
     let b = bind_ok (times_at p.at least [] a.0.0) _ x g.1 in
     let t = times_takes p.at least [] a.0.0 b.0 b.1 in
     let fields : codes "times" ∷ a.0.0 ≡ times_fields b.0 = ap (λ ws. codes "times" ∷ ws) (t.2 ∙ ap (λ ns. map (λ n. decimal n.time) ns) (sym t.1)) in
-    subst (λ (y : List Need × Place). Takes p (line_text (times_fields y.0)) y.1) (ok_is (b.0, a.0.1) x b.2) (subst (λ fs. Takes p (line_text fs) a.0.1) fields (worded_takes (codes "times") p a.0 a.1))
+    subst (λ (y : List Need × Place). Takes p (line_text (times_fields y.0)) y.1)
+    (ok_is (b.0, a.0.1) x b.2) (subst (λ fs. Takes p (line_text fs) a.0.1) fields (worded_takes (codes "times") p a.0 a.1))
 
 decimals_fields : {A : Type 0} (f : A → ℕ) (xs : List A) → All (λ x. f x ≤ GREATEST) xs → AllByRecursion IsField (map (λ x. decimal (f x)) xs)
 decimals_fields f [] h = tt
@@ -98,7 +101,8 @@ decimals_fields f (x ∷ xs) h = (natural_field (f x) (All-head (λ y. f y ≤ G
 pub word_field : (letters : List ℕ) → list_any (λ x. x == 32) letters ≡ false → list_any (λ x. x == 10) letters ≡ false → IsField letters
 word_field letters s l = record { no_space = s; no_line_feed = l }
 
-pub times_line_again : (least machines at : ℕ) (needs : List Need) (rest : List ℕ) → IsNeedPerMachine machines needs → HasTimes least GREATEST needs → Gets (times_line_at least machines (record { at = at; rest = line_text (times_fields needs) ++ rest })) needs rest
+pub times_line_again : (least machines at : ℕ) (needs : List Need) (rest : List ℕ) → IsNeedPerMachine machines needs
+    → HasTimes least GREATEST needs → Gets (times_line_at least machines (record { at = at; rest = line_text (times_fields needs) ++ rest })) needs rest
 unfolding times_line_at
 times_line_again least machines at needs rest each h =
     let fields : AllByRecursion IsField (times_fields needs) = (word_field (codes "times") refl refl, decimals_fields (λ n. n.time) needs (λ q d l. (h q d l).1)) in
@@ -116,7 +120,8 @@ machine_takes at machines w m few e = (ordinal_takes at what.Machines machines w
 machine_again : (at machines m : ℕ) → machines ≤ MOST_MACHINES → m < machines → machine_at at machines (decimal (m + 1)) ≡ Ok m
 machine_again at machines m few h = ordinal_again at what.Machines machines m (omega arith) h
 
-timed_takes : (at machines : ℕ) (needs : List Need) (ws : List (List ℕ)) (after : List Need) → machines ≤ MOST_MACHINES → timed_route_at at machines needs ws ≡ Ok after → (more : List Need) × (after ≡ needs ++ more) × (ws ≡ flat_map (operation_fields true) more)
+timed_takes : (at machines : ℕ) (needs : List Need) (ws : List (List ℕ)) (after : List Need) → machines ≤ MOST_MACHINES
+    → timed_route_at at machines needs ws ≡ Ok after → (more : List Need) × (after ≡ needs ++ more) × (ws ≡ flat_map (operation_fields true) more)
 unfolding timed_route_at
 timed_takes at machines needs [] after few e = ([], sym (ok_is needs after e) ∙ sym (append-nil needs), refl)
 timed_takes at machines needs (w ∷ []) after few e = absurd cc
@@ -127,7 +132,8 @@ timed_takes at machines needs (w ∷ v ∷ ws) after few e =
     let r = timed_takes at machines (needs ++ next ∷ []) ws after few b.2 in
     (next ∷ r.0, r.1 ∙ append_assoc needs (next ∷ []) r.0, two_parts (machine_takes at machines w a.0 few a.1) (two_parts (natural_takes at what.Time 1 GREATEST v b.0 limit b.1).0 r.2))
 
-timed_again : (at machines : ℕ) (needs more : List Need) → machines ≤ MOST_MACHINES → All (IsOn machines) more → HasTimes 1 GREATEST more → timed_route_at at machines needs (flat_map (operation_fields true) more) ≡ Ok (needs ++ more)
+timed_again : (at machines : ℕ) (needs more : List Need) → machines ≤ MOST_MACHINES
+    → All (IsOn machines) more → HasTimes 1 GREATEST more → timed_route_at at machines needs (flat_map (operation_fields true) more) ≡ Ok (needs ++ more)
 unfolding timed_route_at
 timed_again at machines needs [] few below h = ap Ok (sym (append-nil needs))
 timed_again at machines needs (n ∷ more) few below h =
@@ -147,7 +153,8 @@ same_takes at machines time needs (w ∷ ws) after few e =
     let r = same_takes at machines time (needs ++ next ∷ []) ws after few a.2 in
     (next ∷ r.0, r.1 ∙ append_assoc needs (next ∷ []) r.0, two_parts (machine_takes at machines w a.0 few a.1) r.2, All-cons (LastsFor time) next r.0 refl r.3)
 
-same_again : (at machines time : ℕ) (needs more : List Need) → machines ≤ MOST_MACHINES → All (IsOn machines) more → All (LastsFor time) more → machine_route_at at machines time needs (flat_map (operation_fields false) more) ≡ Ok (needs ++ more)
+same_again : (at machines time : ℕ) (needs more : List Need) → machines ≤ MOST_MACHINES → All (IsOn machines) more
+    → All (LastsFor time) more → machine_route_at at machines time needs (flat_map (operation_fields false) more) ≡ Ok (needs ++ more)
 unfolding machine_route_at
 same_again at machines time needs [] few below h = ap Ok (sym (append-nil needs))
 same_again at machines time needs (n ∷ more) few below h =
@@ -157,7 +164,8 @@ same_again at machines time needs (n ∷ more) few below h =
     ∙ same_again at machines time (needs ++ n ∷ []) more few (All-tail (IsOn machines) n more below) (All-tail (LastsFor time) n more h)
     ∙ ap Ok (append_assoc needs (n ∷ []) more))
 
-operations_takes : (timed : Bool) (at machines time : ℕ) (ws : List (List ℕ)) (after : List Need) → machines ≤ MOST_MACHINES → operations_at timed at machines time ws ≡ Ok after → (ws ≡ flat_map (operation_fields timed) after) × HaveTime timed time after
+operations_takes : (timed : Bool) (at machines time : ℕ) (ws : List (List ℕ)) (after : List Need)
+    → machines ≤ MOST_MACHINES → operations_at timed at machines time ws ≡ Ok after → (ws ≡ flat_map (operation_fields timed) after) × HaveTime timed time after
 operations_takes true at machines time ws after few e = let r = timed_takes at machines [] ws after few e in (r.2 ∙ ap (flat_map (operation_fields true)) (sym r.1), tt)
 operations_takes false at machines time ws after few e =
     let r = same_takes at machines time [] ws after few e in
@@ -167,7 +175,8 @@ operations_takes false at machines time ws after few e =
 abbrev FitTimes : Bool → ℕ → List Need → Type 0
 FitTimes timed least needs = timed ≡ true → HasTimes least GREATEST needs
 
-operations_again : (timed : Bool) (at machines time : ℕ) (needs : List Need) → machines ≤ MOST_MACHINES → All (IsOn machines) needs → FitTimes timed 1 needs → HaveTime timed time needs → operations_at timed at machines time (flat_map (operation_fields timed) needs) ≡ Ok needs
+operations_again : (timed : Bool) (at machines time : ℕ) (needs : List Need) → machines ≤ MOST_MACHINES → All (IsOn machines) needs
+    → FitTimes timed 1 needs → HaveTime timed time needs → operations_at timed at machines time (flat_map (operation_fields timed) needs) ≡ Ok needs
 operations_again true at machines time needs few below h same = timed_again at machines [] needs few below (h refl)
 operations_again false at machines time needs few below h same = same_again at machines time [] needs few below same
 
@@ -190,8 +199,10 @@ few_operations _ = omega arith
 timed_fields : (machines : ℕ) (needs : List Need) → machines ≤ MOST_MACHINES → All (IsOn machines) needs → HasTimes 1 GREATEST needs → AllByRecursion IsField (flat_map (operation_fields true) needs)
 timed_fields machines [] few below h = tt
 timed_fields machines (n ∷ needs) few below h =
-    let here : n.machine < machines = All-head (IsOn machines) n needs below in
-    (natural_field (n.machine + 1) (omega arith), (natural_field n.time (All-head (IsWithin 1) n needs h).1, timed_fields machines needs few (All-tail (IsOn machines) n needs below) (All-tail (IsWithin 1) n needs h)))
+    let here : n.machine < machines = All-head (IsOn machines) n needs below in (
+      natural_field (n.machine + 1) (omega arith),
+      (natural_field n.time (All-head (IsWithin 1) n needs h).1, timed_fields machines needs few (All-tail (IsOn machines) n needs below) (All-tail (IsWithin 1) n needs h)),
+    )
 
 machine_fields : (machines : ℕ) (needs : List Need) → machines ≤ MOST_MACHINES → All (IsOn machines) needs → AllByRecursion IsField (flat_map (operation_fields false) needs)
 machine_fields machines [] few below = tt
@@ -199,11 +210,13 @@ machine_fields machines (n ∷ needs) few below =
     let here : n.machine < machines = All-head (IsOn machines) n needs below in
     (natural_field (n.machine + 1) (omega arith), machine_fields machines needs few (All-tail (IsOn machines) n needs below))
 
-operations_fields : (timed : Bool) (machines : ℕ) (needs : List Need) → machines ≤ MOST_MACHINES → All (IsOn machines) needs → FitTimes timed 1 needs → AllByRecursion IsField (flat_map (operation_fields timed) needs)
+operations_fields : (timed : Bool) (machines : ℕ) (needs : List Need)
+    → machines ≤ MOST_MACHINES → All (IsOn machines) needs → FitTimes timed 1 needs → AllByRecursion IsField (flat_map (operation_fields timed) needs)
 operations_fields true machines needs few below h = timed_fields machines needs few below (h refl)
 operations_fields false machines needs few below h = machine_fields machines needs few below
 
-route_line_takes : (timed : Bool) (most machines time : ℕ) (p : Place) (x : List Need × Place) → machines ≤ MOST_MACHINES → route_line_at timed most machines time p ≡ Ok x → Takes p (line_text (route_fields timed x.0)) x.1 × HaveTime timed time x.0
+route_line_takes : (timed : Bool) (most machines time : ℕ) (p : Place) (x : List Need × Place)
+    → machines ≤ MOST_MACHINES → route_line_at timed most machines time p ≡ Ok x → Takes p (line_text (route_fields timed x.0)) x.1 × HaveTime timed time x.0
 unfolding route_line_at
 route_line_takes timed most machines time p x few e =
     let a = bind_ok (worded_at (codes "route") p) _ x e in
@@ -211,10 +224,12 @@ route_line_takes timed most machines time p x few e =
     let g = provided_ok (is_route_count timed most (length a.0.0)) (Count p.at) _ x f.1 in
     let b = bind_ok (operations_at timed p.at machines time a.0.0) _ x g.1 in
     let t = operations_takes timed p.at machines time a.0.0 b.0 few b.1 in
-    subst (λ (y : List Need × Place). Takes p (line_text (route_fields timed y.0)) y.1 × HaveTime timed time y.0) (ok_is (b.0, a.0.1) x b.2) (subst (λ ws. Takes p (line_text (codes "route" ∷ ws)) a.0.1) t.0 (worded_takes (codes "route") p a.0 a.1), t.1)
+    subst (λ (y : List Need × Place). Takes p (line_text (route_fields timed y.0)) y.1 × HaveTime timed time y.0)
+    (ok_is (b.0, a.0.1) x b.2) (subst (λ ws. Takes p (line_text (codes "route" ∷ ws)) a.0.1) t.0 (worded_takes (codes "route") p a.0 a.1), t.1)
 
 route_counted : (timed : Bool) (most n m : ℕ) → m ≡ fields_in timed n → 1 ≤ n → n ≤ most → is_route_count timed most m ≡ true
-route_counted timed most n m e some few = along (operations_in timed m) (fields_in timed (operations_in timed m)) (ap (operations_in timed) e ∙ operations_counted timed n) (ap (fields_in timed) (ap (operations_in timed) e ∙ operations_counted timed n))
+route_counted timed most n m e some few = along (operations_in timed m) (fields_in timed (operations_in timed m))
+    (ap (operations_in timed) e ∙ operations_counted timed n) (ap (fields_in timed) (ap (operations_in timed) e ∙ operations_counted timed n))
   where
     along : (o f : ℕ) → o ≡ n → f ≡ fields_in timed n → (nat_le 1 o && nat_le o most && (m == f)) ≡ true
     along o f is same =
@@ -223,14 +238,16 @@ route_counted timed most n m e some few = along (operations_in timed m) (fields_
         let all : (m == f) ≡ true = eq-eqb _ _ (e ∙ sym same) in
         rw (low, high, all) refl
 
-route_line_again : (timed : Bool) (most machines time at : ℕ) (needs : List Need) (rest : List ℕ) → machines ≤ MOST_MACHINES → most ≤ MOST_OPERATIONS → IsRoute most machines needs → FitTimes timed 1 needs → HaveTime timed time needs
+route_line_again : (timed : Bool) (most machines time at : ℕ) (needs : List Need) (rest : List ℕ)
+    → machines ≤ MOST_MACHINES → most ≤ MOST_OPERATIONS → IsRoute most machines needs → FitTimes timed 1 needs → HaveTime timed time needs
     → Gets (route_line_at timed most machines time (record { at = at; rest = line_text (route_fields timed needs) ++ rest })) needs rest
 unfolding route_line_at
 route_line_again timed most machines time at needs rest few short_most route h same =
     let fields : AllByRecursion IsField (route_fields timed needs) = (word_field (codes "route") refl refl, operations_fields timed machines needs few route.machines h) in
     let line = worded_again (codes "route") (flat_map (operation_fields timed) needs) at rest fields in
     let counted = length-operations timed needs in
-    let short : operations_in timed (length (flat_map (operation_fields timed) needs)) ≤ MOST_OPERATIONS = omega (arith, ap (operations_in timed) counted ∙ operations_counted timed (length needs), route.few, short_most) in (
+    let short : operations_in timed (length (flat_map (operation_fields timed) needs)) ≤ MOST_OPERATIONS =
+    omega (arith, ap (operations_in timed) counted ∙ operations_counted timed (length needs), route.few, short_most) in (
       line.0,
       bind_again _ _ _ _ line.1 (
           provided_again _ _ _ _ (le-leb _ _ short) (
@@ -266,10 +283,12 @@ by_none : (timed : Bool) (k : EnvKind) (time : ℕ) (p : Place) (needs : List Ne
     → ((timed && has_one_time k) ≡ true → (slice_index_or needs 0 no_need).time ≡ time) → reads (needs, p) ≡ Ok x → AreReadNeeds timed k time p x.0 x.1
 by_none timed k time p needs x e same keyed h = subst (λ (y : List Need × Place). AreReadNeeds timed k time p y.0 y.1) (ok_is (needs, p) x h) (by_text timed k time p (needs, p) [] e refl same keyed)
 
-by_times : (k : EnvKind) (least machines time : ℕ) (p : Place) (x : List Need × Place) → needs_text true k x.0 ≡ line_text (times_fields x.0) → (has_one_time k ≡ true → ⊥) → times_line_at least machines p ≡ Ok x → AreReadNeeds true k time p x.0 x.1
+by_times : (k : EnvKind) (least machines time : ℕ) (p : Place) (x : List Need × Place) → needs_text true k x.0 ≡ line_text (times_fields x.0)
+    → (has_one_time k ≡ true → ⊥) → times_line_at least machines p ≡ Ok x → AreReadNeeds true k time p x.0 x.1
 by_times k least machines time p x e many h = by_text true k time p x (line_text (times_fields x.0)) e (times_line_takes least machines p x h) tt (λ one. absurd (many one))
 
-by_route : (timed : Bool) (most machines time : ℕ) (p : Place) (x : List Need × Place) → machines ≤ MOST_MACHINES → needs_text timed JobShop x.0 ≡ line_text (route_fields timed x.0) → ((timed && false) ≡ true → ⊥) → route_line_at timed most machines time p ≡ Ok x → AreReadNeeds timed JobShop time p x.0 x.1
+by_route : (timed : Bool) (most machines time : ℕ) (p : Place) (x : List Need × Place) → machines ≤ MOST_MACHINES → needs_text timed JobShop x.0 ≡ line_text (route_fields timed x.0)
+    → ((timed && false) ≡ true → ⊥) → route_line_at timed most machines time p ≡ Ok x → AreReadNeeds timed JobShop time p x.0 x.1
 by_route timed most machines time p x few e many h =
     let r = route_line_takes timed most machines time p x few h in
     by_text timed JobShop time p x (line_text (route_fields timed x.0)) e r.0 r.1 (λ one. absurd (many one))
@@ -287,7 +306,8 @@ sames_take time machines = All-map (LastsFor time) (same_on time) (range_with_le
 sames_are : (time machines : ℕ) (needs : List Need) → IsNeedPerMachine machines needs → All (LastsFor time) needs → sames time machines ≡ needs
 sames_are time machines needs each last =
     let long = length-map-range_with_len (same_on time) 0 machines in
-    ext_get_or no_need (sames time machines) needs (long ∙ sym each.0) (λ k l. get_or-map-range_with_len (same_on time) 0 machines k k no_need (omega (arith, long)) (omega arith) ∙ same k (omega (arith, long, each.0)))
+    ext_get_or no_need (sames time machines) needs (long ∙ sym each.0)
+    (λ k l. get_or-map-range_with_len (same_on time) 0 machines k k no_need (omega (arith, long)) (omega arith) ∙ same k (omega (arith, long, each.0)))
   where
     same : (k : ℕ) → k < length needs → same_on time k ≡ get_or needs k no_need
     same k l = need_is (get_or needs k no_need) k time (each.1 k l) (last k no_need l)
@@ -296,7 +316,8 @@ sames_are time machines needs each last =
 single_takes : (time : ℕ) → All (LastsFor time) (with_need [] 0 time)
 single_takes time = All-cons (LastsFor time) _ [] refl (All-nil (LastsFor time))
 
-needs_by_takes : (timed : Bool) (k : EnvKind) (least most machines time : ℕ) (p : Place) (x : List Need × Place) → machines ≤ MOST_MACHINES → needs_by timed k least most machines time p ≡ Ok x → AreReadNeeds timed k time p x.0 x.1
+needs_by_takes : (timed : Bool) (k : EnvKind) (least most machines time : ℕ) (p : Place) (x : List Need × Place)
+    → machines ≤ MOST_MACHINES → needs_by timed k least most machines time p ≡ Ok x → AreReadNeeds timed k time p x.0 x.1
 needs_by_takes true Identical least most machines time p x few e = by_none true Identical time p (with_need [] 0 time) x refl tt (λ k. refl) e
 needs_by_takes true Uniform least most machines time p x few e = by_none true Uniform time p (with_need [] 0 time) x refl tt (λ k. refl) e
 needs_by_takes true Unrelated least most machines time p x few e = by_times Unrelated least machines time p x (append-nil _) (λ k. absurd cc) e
@@ -310,12 +331,14 @@ needs_by_takes false OpenShop least most machines time p x few e = by_none false
 needs_by_takes false FlowShop least most machines time p x few e = by_none false FlowShop time p (sames time machines) x refl (sames_take time machines) (λ k. absurd cc) e
 needs_by_takes false JobShop least most machines time p x few e = by_route false most machines time p x few refl (λ k. absurd cc) e
 
-pub needs_takes : (c : Class) (machines time : ℕ) (p : Place) (x : List Need × Place) → machines ≤ MOST_MACHINES → needs_at c machines time p ≡ Ok x → AreReadNeeds (has_times c.times) (kind_of c.env) time p x.0 x.1
+pub needs_takes : (c : Class) (machines time : ℕ) (p : Place) (x : List Need × Place)
+    → machines ≤ MOST_MACHINES → needs_at c machines time p ≡ Ok x → AreReadNeeds (has_times c.times) (kind_of c.env) time p x.0 x.1
 unfolding needs_at
 needs_takes c machines time p x few e = needs_by_takes (has_times c.times) (kind_of c.env) (least_time (kind_of c.env) c.times) (most_operations c.env) machines time p x few e
 
 -- the one operation of a job, which no line writes
-one_again : (time at : ℕ) (needs : List Need) (rest : List ℕ) → IsSingleNeed needs → time ≡ (slice_index_or needs 0 no_need).time → Gets (reads (with_need [] 0 time, record { at = at; rest = rest })) needs rest
+one_again : (time at : ℕ) (needs : List Need) (rest : List ℕ)
+    → IsSingleNeed needs → time ≡ (slice_index_or needs 0 no_need).time → Gets (reads (with_need [] 0 time, record { at = at; rest = rest })) needs rest
 one_again time at [] rest single e = absurd (omega (arith, single.0))
 one_again time at (n ∷ []) rest single e =
     let here : n.machine ≡ 0 = single.1 0 n (omega arith) in
@@ -328,16 +351,20 @@ first_of_same : (time : ℕ) (needs : List Need) → IsSingleNeed needs → All 
 first_of_same time needs single last = sym (last 0 no_need (omega (arith, single.0)))
 
 -- a place of which the text is known otherwise
-moved : {A : Type 0} (read : Place → Result (A × Place) FileFault) (at : ℕ) (x : A) (a b rest : List ℕ) → a ≡ b → Gets (read (record { at = at; rest = b ++ rest })) x rest → Gets (read (record { at = at; rest = a ++ rest })) x rest
+moved : {A : Type 0} (read : Place → Result (A × Place) FileFault) (at : ℕ) (x : A) (a b rest : List ℕ)
+    → a ≡ b → Gets (read (record { at = at; rest = b ++ rest })) x rest → Gets (read (record { at = at; rest = a ++ rest })) x rest
 moved read at x a b rest e h = rw e h
 
-times_by_again : (k : EnvKind) (least machines at : ℕ) (needs : List Need) (rest : List ℕ) → needs_text true k needs ≡ line_text (times_fields needs) → IsNeedPerMachine machines needs → HasTimes least GREATEST needs → Gets (times_line_at least machines (record { at = at; rest = needs_text true k needs ++ rest })) needs rest
+times_by_again : (k : EnvKind) (least machines at : ℕ) (needs : List Need) (rest : List ℕ) → needs_text true k needs ≡ line_text (times_fields needs)
+    → IsNeedPerMachine machines needs → HasTimes least GREATEST needs → Gets (times_line_at least machines (record { at = at; rest = needs_text true k needs ++ rest })) needs rest
 times_by_again k least machines at needs rest e each h = moved (times_line_at least machines) at needs _ _ rest e (times_line_again least machines at needs rest each h)
 
-each_again : (time machines at : ℕ) (needs : List Need) (rest : List ℕ) → IsNeedPerMachine machines needs → All (LastsFor time) needs → Gets (reads (sames time machines, record { at = at; rest = rest })) needs rest
+each_again : (time machines at : ℕ) (needs : List Need) (rest : List ℕ)
+    → IsNeedPerMachine machines needs → All (LastsFor time) needs → Gets (reads (sames time machines, record { at = at; rest = rest })) needs rest
 each_again time machines at needs rest each last = (at, ap (λ xs. reads (xs, record { at = at; rest = rest })) (sames_are time machines needs each last))
 
-needs_by_again : (timed : Bool) (k : EnvKind) (e : Env) (t : Times) (machines time at : ℕ) (needs : List Need) (rest : List ℕ) → machines ≤ MOST_MACHINES → HasShape k e machines needs → FitTimes timed (least_time k t) needs → HaveTime timed time needs
+needs_by_again : (timed : Bool) (k : EnvKind) (e : Env) (t : Times) (machines time at : ℕ) (needs : List Need) (rest : List ℕ)
+    → machines ≤ MOST_MACHINES → HasShape k e machines needs → FitTimes timed (least_time k t) needs → HaveTime timed time needs
     → ((timed && has_one_time k) ≡ true → time ≡ (slice_index_or needs 0 no_need).time)
     → Gets (needs_by timed k (least_time k t) (most_operations e) machines time (record { at = at; rest = needs_text timed k needs ++ rest })) needs rest
 needs_by_again true Identical e t machines time at needs rest few shape fit same first = one_again time at needs rest shape (first refl)
@@ -353,7 +380,8 @@ needs_by_again false OpenShop e t machines time at needs rest few shape fit same
 needs_by_again false FlowShop e t machines time at needs rest few shape fit same first = each_again time machines at needs rest shape same
 needs_by_again false JobShop e t machines time at needs rest few shape fit same first = route_line_again false (most_operations e) machines time at needs rest few (few_operations e) shape fit same
 
-pub needs_again : (c : Class) (machines time at : ℕ) (needs : List Need) (rest : List ℕ) → machines ≤ MOST_MACHINES → HasShape (kind_of c.env) c.env machines needs → (has_times c.times ≡ true → HasTimes (least_time (kind_of c.env) c.times) GREATEST needs) → HaveTime (has_times c.times) time needs
+pub needs_again : (c : Class) (machines time at : ℕ) (needs : List Need) (rest : List ℕ) → machines ≤ MOST_MACHINES → HasShape (kind_of c.env) c.env machines needs
+    → (has_times c.times ≡ true → HasTimes (least_time (kind_of c.env) c.times) GREATEST needs) → HaveTime (has_times c.times) time needs
     → (has_time_key c ≡ true → time ≡ (slice_index_or needs 0 no_need).time)
     → Gets (needs_at c machines time (record { at = at; rest = needs_text (has_times c.times) (kind_of c.env) needs ++ rest })) needs rest
 unfolding needs_at

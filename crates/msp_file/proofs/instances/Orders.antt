@@ -1,5 +1,6 @@
 -- Jobs have an order in which every arc goes forward, or some job is the least on a cycle.
-use Rattle.std.proofs.Common.{◌≡◌, ◌≢◌, ℕ, zero, suc, ◌+◌, ◌<◌, ◌⊎◌, inl, inr, ◌==◌, ◌&&◌, ◌||◌, true, false, Bool, List, [], ◌∷◌, ◌++◌, length, get_or, take, All, AllPairs, Contains, refl, sym, ap, ◌∙◌, subst, arith, length-append}
+use Rattle.std.proofs.Common.{◌≡◌, ◌≢◌, ℕ, zero, suc, ◌+◌, ◌<◌, ◌⊎◌, inl, inr, ◌==◌, ◌&&◌, ◌||◌, true, false, Bool, List, [], ◌∷◌, ◌++◌, length, get_or, take, All, AllPairs}
+use Rattle.std.proofs.Common.{Contains, refl, sym, ap, ◌∙◌, subst, arith, length-append}
 use Rattle.std.specs.List.{list_any}
 use Rattle.std.proofs.lemmas.Bool.{cases_Bool, cases_lt, eqb-true, eq-eqb, and_parts, or_cases, false≢true}
 use Rattle.std.proofs.lemmas.List.{take_all, take-append-le, get_or_append_left, get_or-append-add}
@@ -45,7 +46,8 @@ module _ (arcs : List Arc) (n : ℕ) where
         | inr past ↦
             let at : q ≡ length order = omega (arith, length-append order (k ∷ [])) in
             let last : get_or (order ++ k ∷ []) q 0 ≡ k = ap (λ m. get_or (order ++ k ∷ []) m 0) (at ∙ omega arith) ∙ get_or-append-add order (k ∷ []) 0 0 in
-            let cut : take q (order ++ k ∷ []) ≡ order = ap (λ m. take m (order ++ k ∷ [])) at ∙ take-append-le (length order) order (k ∷ []) (omega arith) ∙ take_all (length order) order (omega arith) in
+            let cut : take q (order ++ k ∷ []) ≡ order =
+            ap (λ m. take m (order ++ k ∷ [])) at ∙ take-append-le (length order) order (k ∷ []) (omega arith) ∙ take_all (length order) order (omega arith) in
             subst (λ (l : List ℕ). Contains l j) (sym cut) (Contains-from_waiting arcs order j k quiet (subst (HasStep arcs j) last step))
       ]
 
@@ -139,7 +141,8 @@ module _ (arcs : List Arc) (n : ℕ) (ends : All (λ a. (a.before < n) × (a.aft
         }) (omega (arith, length-append xs (f.0 ∷ []))) k
     | inr none ↦ elim (cases_Bool (list_any (λ x. x == k) xs)) [
       | inl e ↦ inl (All-contains (HasPath arcs start) xs k h.paths (Contains-from_list_any xs k e))
-      | inr e ↦ inr (λ p. not_in xs k e (HasPath-closed arcs xs (λ i j c step. closed_under xs none i j (or_right (i == start) _ (list_any-from_Contains xs i c)) step) (λ j step. closed_under xs none start j (or_left (start == start) _ (eq-eqb start start refl)) step) p))
+      | inr e ↦ inr (λ p. not_in xs k e (HasPath-closed arcs xs (λ i j c step. closed_under xs none i j (or_right (i == start) _ (list_any-from_Contains xs i c)) step)
+          (λ j step. closed_under xs none start j (or_left (start == start) _ (eq-eqb start start refl)) step) p))
     ]
   ]
 

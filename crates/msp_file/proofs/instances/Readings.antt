@@ -9,7 +9,8 @@ use Rattle.msp_instance.specs.Conditions.{HasSmallMultiple}
 use Rattle.msp_file.specs.declared.instance.draft.Draft.{Draft}
 use Rattle.msp_grammar.specs.declared.filed.Filed.{Filed}
 use Rattle.msp_grammar.specs.lines.Reading.{◌>>=◌, Place, job_read, more_read, end_read, Then, all_of, front_of}
-use Rattle.msp_file.specs.instance.Reading.{version_at, class_at, machines_at, speeds_at, time_at, arc_step, job_step, ReadsArcs, ReadsJobs, job_then, arc_after, jobs_end, jobs_fault, OnlyWhere, ReadsRest, ReadsSpeeds, ReadsLines, start_of, Reads, ReadsFront, no_draft, filed_of}
+use Rattle.msp_file.specs.instance.Reading.{version_at, class_at, machines_at, speeds_at, time_at, arc_step, job_step, ReadsArcs, ReadsJobs, job_then, arc_after, jobs_end}
+use Rattle.msp_file.specs.instance.Reading.{jobs_fault, OnlyWhere, ReadsRest, ReadsSpeeds, ReadsLines, start_of, Reads, ReadsFront, no_draft, filed_of}
 use Rattle.msp_grammar.specs.lines.Steps.{FailsBy, MovesBy}
 use Rattle.msp_grammar.proofs.reading.Readings.{same_step, same_fault, clash, more_is, job_is, end_is, job_arc, job_end, arc_end, ended, more_same, then_same, by_same, then_fails, then_goes}
 
@@ -29,22 +30,26 @@ module _ (c : Class) (machines shared : ℕ) where
   jobs_same d p r s (arc_after _ e _ q _ step rest) (jobs_fault _ _ _ fault other more) = absurd (clash (job_step c machines shared d p) (more_read e q) fault step other)
   jobs_same d p r s (jobs_end _ f _ t _ other more) (job_then _ e _ q _ step rest) = absurd (job_end e f q t (same_step (job_step c machines shared d p) (job_read e q) (end_read f t) step other))
   jobs_same d p r s (jobs_end _ f _ t _ other more) (arc_after _ e _ q _ step rest) = absurd (arc_end e f q t (same_step (job_step c machines shared d p) (more_read e q) (end_read f t) step other))
-  jobs_same d p r s (jobs_end _ e _ q _ step is) (jobs_end _ f _ t _ other also) = ended e f q t r s (end_is e f q t (same_step (job_step c machines shared d p) (end_read e q) (end_read f t) step other)) is also
+  jobs_same d p r s (jobs_end _ e _ q _ step is) (jobs_end _ f _ t _ other also) =
+      ended e f q t r s (end_is e f q t (same_step (job_step c machines shared d p) (end_read e q) (end_read f t) step other)) is also
   jobs_same d p r s (jobs_end _ e _ q _ step is) (jobs_fault _ _ _ fault other also) = absurd (clash (job_step c machines shared d p) (end_read e q) fault step other)
   jobs_same d p r s (jobs_fault _ _ _ fault other also) (job_then _ e _ q _ step is) = absurd (clash (job_step c machines shared d p) (job_read e q) fault step other)
   jobs_same d p r s (jobs_fault _ _ _ fault other also) (arc_after _ e _ q _ step is) = absurd (clash (job_step c machines shared d p) (more_read e q) fault step other)
   jobs_same d p r s (jobs_fault _ _ _ fault other also) (jobs_end _ e _ q _ step is) = absurd (clash (job_step c machines shared d p) (end_read e q) fault step other)
   jobs_same d p r s (jobs_fault _ _ _ fault step is) (jobs_fault _ _ _ other-fault other also) = is ∙ ap Err (same_fault (job_step c machines shared d p) fault other-fault step other) ∙ sym also
 
-only_same : {B : Type 0} (condition : Type 0) (fault : FileFault) (next : Result B FileFault → Type 0) (r s : Result B FileFault) → (next r → next s → r ≡ s) → OnlyWhere condition fault next r → OnlyWhere condition fault next s → r ≡ s
+only_same : {B : Type 0} (condition : Type 0) (fault : FileFault) (next : Result B FileFault → Type 0) (r s : Result B FileFault)
+    → (next r → next s → r ≡ s) → OnlyWhere condition fault next r → OnlyWhere condition fault next s → r ≡ s
 only_same condition fault next r s f (inl h) (inl k) = f h.1 k.1
 only_same condition fault next r s f (inl h) (inr k) = absurd (k.0 h.0)
 only_same condition fault next r s f (inr h) (inl k) = absurd (h.0 k.0)
 only_same condition fault next r s f (inr h) (inr k) = h.1 ∙ sym k.1
 
-rest_same : (c : Class) (machines : ℕ) (speeds : List ℕ) (shared : ℕ) (p : Place) (r s : Result (Filed × Place) FileFault) → ReadsRest c machines speeds shared p r → ReadsRest c machines speeds shared p s → r ≡ s
+rest_same : (c : Class) (machines : ℕ) (speeds : List ℕ) (shared : ℕ) (p : Place) (r s : Result (Filed × Place) FileFault)
+    → ReadsRest c machines speeds shared p r → ReadsRest c machines speeds shared p s → r ≡ s
 rest_same c machines speeds shared p r s h k =
-    h.filed ∙ ap (λ (lines : Result (Draft × Place) FileFault). lines >>= λ l. Ok (filed_of c machines speeds l.0, l.1)) (jobs_same c machines shared no_draft p h.lines k.lines h.reads k.reads) ∙ sym k.filed
+    h.filed ∙ ap (λ (lines : Result (Draft × Place) FileFault). lines >>= λ l. Ok (filed_of c machines speeds l.0, l.1))
+    (jobs_same c machines shared no_draft p h.lines k.lines h.reads k.reads) ∙ sym k.filed
 
 pub lines_same : (start : Place) (r s : Result (Filed × Place) FileFault) → ReadsLines start r → ReadsLines start s → r ≡ s
 unfolding ReadsLines
@@ -67,7 +72,8 @@ front_same b r s h k = by_same front_of (ReadsLines (start_of b)) (lines_same (s
 abbrev same : Filed → Filed
 same f = f
 
-pub only_goes : {X Y : Type 0} (view : X → Y) (condition : Type 0) (fault : FileFault) (next : Result (Y × Place) FileFault → Type 0) (result : Result X FileFault) (after : Place) → condition → MovesBy view result after next → MovesBy view result after (OnlyWhere condition fault next)
+pub only_goes : {X Y : Type 0} (view : X → Y) (condition : Type 0) (fault : FileFault) (next : Result (Y × Place) FileFault → Type 0) (result : Result X FileFault) (after : Place)
+    → condition → MovesBy view result after next → MovesBy view result after (OnlyWhere condition fault next)
 only_goes view condition fault next (Ok x) after c h = inl (c, h)
 only_goes view condition fault next (Err Memory) after c h = tt
 only_goes view condition fault next (Err e) after c h = inl (c, h)
@@ -80,25 +86,30 @@ pub front_done : (b : List ℕ) (f : Filed) (q : Place) → ReadsLines (start_of
 front_done b f q h = record { lines = Ok (f, q); reads = h; is = refl }
 
 -- the speeds, and the time after them
-pub speeds_refused : (c : Class) (machines : ℕ) (p q : Place) (speeds : List ℕ) → speeds_at c.env machines p ≡ Ok (speeds, q) → ¬ HasSmallMultiple speeds → ReadsSpeeds c machines p (Err (Limit p.at what.Multiple))
+pub speeds_refused : (c : Class) (machines : ℕ) (p q : Place) (speeds : List ℕ)
+    → speeds_at c.env machines p ≡ Ok (speeds, q) → ¬ HasSmallMultiple speeds → ReadsSpeeds c machines p (Err (Limit p.at what.Multiple))
 speeds_refused c machines p q speeds h none = rw h (inr (none, refl))
 
-pub speeds_stopped : (c : Class) (machines : ℕ) (p q : Place) (speeds : List ℕ) (e : FileFault) → speeds_at c.env machines p ≡ Ok (speeds, q) → HasSmallMultiple speeds → Fails e (time_at c.times q) → FailsBy e (ReadsSpeeds c machines p)
+pub speeds_stopped : (c : Class) (machines : ℕ) (p q : Place) (speeds : List ℕ) (e : FileFault)
+    → speeds_at c.env machines p ≡ Ok (speeds, q) → HasSmallMultiple speeds → Fails e (time_at c.times q) → FailsBy e (ReadsSpeeds c machines p)
 speeds_stopped c machines p q speeds Memory h small f = tt
 speeds_stopped c machines p q speeds e h small f = rw h (inl (small, rw f refl))
 
-pub speeds_done : (c : Class) (machines : ℕ) (p q z after : Place) (speeds : List ℕ) (shared : ℕ) (result : Result Filed FileFault) → speeds_at c.env machines p ≡ Ok (speeds, q) → HasSmallMultiple speeds → time_at c.times q ≡ Ok (shared, z)
+pub speeds_done : (c : Class) (machines : ℕ) (p q z after : Place) (speeds : List ℕ) (shared : ℕ) (result : Result Filed FileFault)
+    → speeds_at c.env machines p ≡ Ok (speeds, q) → HasSmallMultiple speeds → time_at c.times q ≡ Ok (shared, z)
     → MovesBy same result after (ReadsRest c machines speeds shared z) → MovesBy same result after (ReadsSpeeds c machines p)
 speeds_done c machines p q z after speeds shared result h small f rest =
     then_goes same (speeds_at c.env machines p) _ (speeds, q) result after h (
     only_goes same (HasSmallMultiple speeds) (Limit p.at what.Multiple) (Then (time_at c.times q) (λ (t : ℕ × Place). ReadsRest c machines speeds t.0 t.1)) result after small (
     then_goes same (time_at c.times q) (λ (t : ℕ × Place). ReadsRest c machines speeds t.0 t.1) (shared, z) result after f rest))
 
-pub rest_fails : (c : Class) (machines : ℕ) (speeds : List ℕ) (shared : ℕ) (p : Place) (e : FileFault) → FailsBy e (ReadsJobs c machines shared no_draft p) → FailsBy e (ReadsRest c machines speeds shared p)
+pub rest_fails : (c : Class) (machines : ℕ) (speeds : List ℕ) (shared : ℕ) (p : Place) (e : FileFault)
+    → FailsBy e (ReadsJobs c machines shared no_draft p) → FailsBy e (ReadsRest c machines speeds shared p)
 rest_fails c machines speeds shared p Memory h = tt
 rest_fails c machines speeds shared p e h = record { lines = Err e; reads = h; filed = refl }
 
-pub rest_done : (c : Class) (machines : ℕ) (speeds : List ℕ) (shared : ℕ) (p q : Place) (d : Draft) (f : Filed) → ReadsJobs c machines shared no_draft p (Ok (d, q)) → f ≡ filed_of c machines speeds d → ReadsRest c machines speeds shared p (Ok (f, q))
+pub rest_done : (c : Class) (machines : ℕ) (speeds : List ℕ) (shared : ℕ) (p q : Place) (d : Draft) (f : Filed)
+    → ReadsJobs c machines shared no_draft p (Ok (d, q)) → f ≡ filed_of c machines speeds d → ReadsRest c machines speeds shared p (Ok (f, q))
 rest_done c machines speeds shared p q d f h is = record { lines = Ok (d, q); reads = h; filed = rw is refl }
 
 pub job_fails : (c : Class) (machines shared : ℕ) (d : Draft) (p : Place) (e : FileFault) → Fails e (job_step c machines shared d p) → FailsBy e (ReadsJobs c machines shared d p)

@@ -1,5 +1,6 @@
 -- Whole texts: what is read is an instance text, and an instance text is read as its instance.
-use Rattle.std.proofs.Common.{◌≡◌, ◌≢◌, inl, inr, ℕ, ◌<◌, ◌≤◌, false, List, [], ◌∷◌, ◌++◌, length, All, AllPairs, Result, Ok, refl, sym, ap, subst, ◌∙◌, append_assoc, append-nil, arith, eqb-true, codes}
+use Rattle.std.proofs.Common.{◌≡◌, ◌≢◌, inl, inr, ℕ, ◌<◌, ◌≤◌, false, List, [], ◌∷◌, ◌++◌, length, All, AllPairs, Result, Ok, refl, sym, ap, subst, ◌∙◌, append_assoc, append-nil}
+use Rattle.std.proofs.Common.{arith, eqb-true, codes}
 use Rattle.std.specs.Prelude.{slice_index_or, true, if◌then◌else◌, decimal}
 use Rattle.std.proofs.lemmas.List.{nil_from_length}
 use Rattle.std.proofs.lemmas.List.Elements.{All-nil}
@@ -17,7 +18,7 @@ use Rattle.msp_instance.specs.declared.Arc.{Arc}
 use Rattle.msp_instance.specs.declared.Need.{Need}
 use Rattle.msp_instance.specs.Instance.{no_need, no_job, job_at, common_time}
 use Rattle.msp_instance.specs.Conditions.{text_limits, least_time, greatest_time, HasNeeds, HasSameTimes, HasMachines, HasSpeeds, HasSmallMultiple, HasArcs, MeetsConditions}
-use Rattle.msp_instance.specs.declared.ranges.TheConstants.{MOST_JOBS, MOST_ARCS}
+use Rattle.msp_class.specs.declared.sizes.TheConstants.{MOST_JOBS, MOST_ARCS}
 use Rattle.msp_grammar.specs.declared.lines.fault.FileFault.{FileFault}
 use Rattle.msp_grammar.specs.declared.lines.fault.FileFault.TheVariants.{Limit}
 use Rattle.msp_grammar.specs.declared.lines.fault.What.TheVariants as what
@@ -29,7 +30,8 @@ use Rattle.msp_grammar.specs.InstanceText.{line_text, class_text, machines_text,
 use Rattle.msp_grammar.specs.lines.Reading.{Place, Then, all_of, front_of}
 use Rattle.msp_file.specs.instance.Reading.{version_at, class_at, machines_at, speeds_at, time_at, no_draft, filed_of, ReadsJobs, OnlyWhere, ReadsRest, ReadsLines, start_of, Reads, ReadsFront}
 use Rattle.msp_grammar.proofs.reading.LineLaws.{bind_ok, provided_ok, ok_is, Takes, Gets, Takes-then, end_text, GetsBy, spread}
-use Rattle.msp_file.proofs.instances.HeadLaws.{AreMachines, IsShared, version_takes, version_again, class_takes, class_again, machines_takes, machines_again, speeds_takes, speeds_again, time_takes, time_again}
+use Rattle.msp_file.proofs.instances.HeadLaws.{AreMachines, IsShared, version_takes, version_again, class_takes, class_again, machines_takes, machines_again, speeds_takes}
+use Rattle.msp_file.proofs.instances.HeadLaws.{speeds_again, time_takes, time_again}
 use Rattle.msp_file.proofs.instances.NeedLaws.{HaveTime}
 use Rattle.msp_file.proofs.instances.JobLaws.{IsReadJob}
 use Rattle.msp_file.proofs.instances.ArcLaws.{AreArcs}
@@ -89,9 +91,11 @@ abbrev pub IsFront : List ℕ → Filed × Place → Type 0
 IsFront b x = (front : List ℕ) × (b ≡ front ++ x.1.rest) × IsReadText front x.0
 
 -- the lines of the head and those after it, put together
-together : (b spelling : List ℕ) (c : Class) (machines : ℕ) (speeds : List ℕ) (shared : ℕ) (p q r : Place) (d : Draft) → p.rest ≡ b → NameOf spelling c → AreMachines c.env machines → HasSpeeds (kind_of c.env) machines speeds → HasSmallMultiple speeds → IsShared c.times shared
+together : (b spelling : List ℕ) (c : Class) (machines : ℕ) (speeds : List ℕ) (shared : ℕ) (p q r : Place) (d : Draft) → p.rest ≡ b
+    → NameOf spelling c → AreMachines c.env machines → HasSpeeds (kind_of c.env) machines speeds → HasSmallMultiple speeds → IsShared c.times shared
     → Takes p (shared_head spelling c machines speeds shared) q → AddsLines c shared [] [] q d r → IsFront b (filed_of c machines speeds d, r)
-together b spelling c machines speeds shared p q r d is spells good_machines good_speeds multiple sharing head lines = subst (λ (e : Draft). IsFront b (filed_of c machines speeds e, r)) (sym lines.added) found
+together b spelling c machines speeds shared p q r d is spells good_machines good_speeds multiple sharing head lines =
+    subst (λ (e : Draft). IsFront b (filed_of c machines speeds e, r)) (sym lines.added) found
   where
     jobs : List ℕ
     jobs = jobs_text c lines.more_names lines.more_jobs
@@ -152,7 +156,8 @@ lines_take start f h =
     let two = Takes-then start v.0 c.0.1 version_text (class_text class_taken.0) (version_takes start v.0 v.1) class_taken.2 in
     let three = Takes-then start c.0.1 m.0.1 (version_text ++ class_text class_taken.0) (machines_text c.0.0.env m.0.0) two machines_taken.0 in
     let four = Takes-then start m.0.1 s.0.1 (version_text ++ class_text class_taken.0 ++ machines_text c.0.0.env m.0.0) (speeds_text c.0.0.env s.0.0) three speeds_taken.0 in
-    let head = Takes-then start s.0.1 t.0.1 (version_text ++ class_text class_taken.0 ++ machines_text c.0.0.env m.0.0 ++ speeds_text c.0.0.env s.0.0) (time_text c.0.0.times t.0.0) four time_taken.0 in
+    let head = Takes-then start s.0.1 t.0.1 (version_text ++ class_text class_taken.0 ++ machines_text c.0.0.env m.0.0 ++ speeds_text c.0.0.env s.0.0)
+    (time_text c.0.0.times t.0.0) four time_taken.0 in
     let found = together start.rest class_taken.0 c.0.0 m.0.0 s.0.0 t.0.0 start t.0.1 d.0.1 d.0.0 refl class_taken.1 machines_taken.1 speeds_taken.1 multiple.0 time_taken.1 head lines in
     subst (IsFront start.rest) (ok_is (filed_of c.0.0 m.0.0 s.0.0 d.0.0, d.0.1) f d.2) found
 
@@ -225,10 +230,12 @@ common_is UnitTimes shared needs some h e = absurd cc
 common_is Equal shared needs some h e = h 0 no_need some
 
 -- the time that was read is that of the first operation
-pub common_read : (b : List ℕ) (f : Filed) (t : IsReadText b f) → 1 ≤ length f.instance.jobs → HasNeeds text_limits f.instance (job_at f.instance 0).needs → f.instance.class.times ≡ Equal → common_time f.instance ≡ t.shared
+pub common_read : (b : List ℕ) (f : Filed) (t : IsReadText b f) → 1 ≤ length f.instance.jobs
+    → HasNeeds text_limits f.instance (job_at f.instance 0).needs → f.instance.class.times ≡ Equal → common_time f.instance ≡ t.shared
 common_read b f t some h e = common_is f.instance.class.times t.shared (job_at f.instance 0).needs (first_need f.instance some h) (t.jobs 0 no_job some).times e
 
-pub times_read : (b : List ℕ) (f : Filed) (t : IsReadText b f) (j : ℕ) → j < length f.instance.jobs → HasNeeds text_limits f.instance (job_at f.instance 0).needs → HasSameTimes f.instance.class.times (common_time f.instance) (job_at f.instance j).needs
+pub times_read : (b : List ℕ) (f : Filed) (t : IsReadText b f) (j : ℕ) → j < length f.instance.jobs
+    → HasNeeds text_limits f.instance (job_at f.instance 0).needs → HasSameTimes f.instance.class.times (common_time f.instance) (job_at f.instance j).needs
 times_read b f t j within h = same_times f.instance.class.times t.shared (common_time f.instance) _ t.sharing (common_read b f t (omega arith) h) (t.jobs j no_job within).times
 
 time_text_is : (t : Times) (shared common : ℕ) → (t ≡ Equal → common ≡ shared) → time_text t shared ≡ time_text t common
@@ -237,11 +244,13 @@ time_text_is General shared common is = refl
 time_text_is UnitTimes shared common is = refl
 time_text_is Equal shared common is = ap (λ (n : ℕ). line_text (codes "time" ∷ decimal n ∷ [])) (sym (is refl))
 
-pub text_read : (b : List ℕ) (f : Filed) (t : IsReadText b f) → 1 ≤ length f.instance.jobs → HasNeeds text_limits f.instance (job_at f.instance 0).needs → b ≡ instance_text t.spelling f.names f.instance
+pub text_read : (b : List ℕ) (f : Filed) (t : IsReadText b f)
+    → 1 ≤ length f.instance.jobs → HasNeeds text_limits f.instance (job_at f.instance 0).needs → b ≡ instance_text t.spelling f.names f.instance
 unfolding instance_text head_text
 text_read b f t some h =
     let i = f.instance in
-    t.text ∙ ap (λ (line : List ℕ). (version_text ++ class_text t.spelling ++ machines_text i.class.env i.machines ++ speeds_text i.class.env i.speeds ++ line) ++ jobs_text i.class f.names i.jobs ++ arcs_text f.names i.arcs ++ end_text) (time_text_is i.class.times t.shared (common_time i) (common_read b f t some h))
+    t.text ∙ ap (λ (line : List ℕ). (version_text ++ class_text t.spelling ++ machines_text i.class.env i.machines ++ speeds_text i.class.env i.speeds ++ line)
+    ++ jobs_text i.class f.names i.jobs ++ arcs_text f.names i.arcs ++ end_text) (time_text_is i.class.times t.shared (common_time i) (common_read b f t some h))
 
 -- ---- what is written
 
@@ -252,7 +261,8 @@ arcs_few Intree arcs h = (λ e. absurd cc, h)
 arcs_few Outtree arcs h = (λ e. absurd cc, h)
 arcs_few Prec arcs h = (λ e. absurd cc, h)
 
-lines_again : (spelling : List ℕ) (i : Instance) (names : List (List ℕ)) (rest : List ℕ) → NameOf spelling i.class → AreNamesOf names i → MeetsConditions text_limits i → GetsBy (ReadsLines (start_of (instance_text spelling names i ++ rest))) (record { instance = i; names = names }) rest
+lines_again : (spelling : List ℕ) (i : Instance) (names : List (List ℕ)) (rest : List ℕ) → NameOf spelling i.class → AreNamesOf names i
+    → MeetsConditions text_limits i → GetsBy (ReadsLines (start_of (instance_text spelling names i ++ rest))) (record { instance = i; names = names }) rest
 unfolding ReadsLines instance_text head_text
 lines_again spelling i names rest spells named h = (
   d.0,
@@ -293,7 +303,8 @@ lines_again spelling i names rest spells named h = (
     text : (head ++ jobs ++ arcs ++ end_text) ++ rest ≡ version_text ++ (class_text spelling ++ (machines ++ (speeds ++ (time ++ lines))))
     text = ap (λ (b : List ℕ). b ++ rest) (regroup head jobs arcs end_text) ∙ append_assoc head (jobs ++ arcs ++ end_text) rest ∙ spread version_text (class_text spelling) machines speeds time lines
 
-    v : (next : ℕ) × (version_at (record { at = 1; rest = version_text ++ (class_text spelling ++ (machines ++ (speeds ++ (time ++ lines)))) }) ≡ Ok (record { at = next; rest = class_text spelling ++ (machines ++ (speeds ++ (time ++ lines))) }))
+    v : (next : ℕ) × (version_at (record { at = 1; rest = version_text ++ (class_text spelling ++ (machines ++ (speeds ++ (time ++ lines)))) })
+        ≡ Ok (record { at = next; rest = class_text spelling ++ (machines ++ (speeds ++ (time ++ lines))) }))
     v = version_again 1 (class_text spelling ++ (machines ++ (speeds ++ (time ++ lines))))
 
     c : Gets (class_at (record { at = v.0; rest = class_text spelling ++ (machines ++ (speeds ++ (time ++ lines))) })) i.class (machines ++ (speeds ++ (time ++ lines)))
@@ -320,7 +331,8 @@ lines_again spelling i names rest spells named h = (
     d : GetsBy (ReadsJobs i.class i.machines shared no_draft (record { at = t.0; rest = lines })) (record { names = names; jobs = i.jobs; arcs = i.arcs }) rest
     d = jobs_again i shared names i.jobs i.arcs [] [] t.0 rest h.machines.1 named.one_each fit arcs_fit few.0
 
-pub front_again : (b text rest : List ℕ) (i : Instance) (names : List (List ℕ)) → b ≡ text ++ rest → IsInstanceText text i names → GetsBy (ReadsLines (start_of b)) (record { instance = i; names = names }) rest
+pub front_again : (b text rest : List ℕ) (i : Instance) (names : List (List ℕ))
+    → b ≡ text ++ rest → IsInstanceText text i names → GetsBy (ReadsLines (start_of b)) (record { instance = i; names = names }) rest
 front_again b text rest i names whole h =
     let same : b ≡ instance_text h.spelling names i ++ rest = whole ∙ ap (λ (t : List ℕ). t ++ rest) h.text in
     subst (λ (t : List ℕ). GetsBy (ReadsLines (start_of t)) (record { instance = i; names = names }) rest) (sym same) (lines_again h.spelling i names rest h.spells h.named h.in_class.conditions)

@@ -5,7 +5,7 @@ use Rattle.msp_schedule.specs.declared.Frac.{Frac}
 use Rattle.msp_grammar.specs.declared.limits.TheConstants.{GREATEST_COST}
 use Rattle.msp_grammar.specs.declared.lines.fault.FileFault.{FileFault}
 use Rattle.msp_grammar.specs.declared.lines.fault.FileFault.TheVariants.{Line, Count}
-use Rattle.msp_file.specs.declared.schedule.read.Stated.{Stated}
+use Rattle.msp_grammar.specs.declared.filed.Stated.{Stated}
 use Rattle.msp_grammar.specs.lines.Reading.{◌>>=◌, Place, line_at, all_of, fields_of, first_of, others_of, LineRead, more_read, end_read, end_at}
 use Rattle.msp_file.specs.schedule.Reading.{title_at, cost_at, unit_at, piece_line_at, piece_step, IsStatedAs, ReadsPieces, ReadsStated, ReadsSchedule}
 use Rattle.msp_grammar.proofs.reading.LineLaws.{bind_ok, provided_ok, ok_is}

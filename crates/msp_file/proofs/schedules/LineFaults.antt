@@ -1,17 +1,17 @@
 -- The faults of the lines of a schedule.
 use Rattle.std.proofs.Common.{◌≡◌, ◌⊎◌, inl, inr, ℕ, ap, sym, ◌==◌, List, [], length, Result, Ok, Err, bytes_eq, codes, ℤ, nat_lt, subst}
-use Rattle.msp_instance.specs.declared.ranges.TheConstants.{MOST_MACHINES}
-use Rattle.msp_class.specs.declared.environments.TheConstants.{MOST_OPERATIONS}
-use Rattle.msp_schedule.specs.declared.limits.TheConstants.{MOST_PIECES}
+use Rattle.msp_class.specs.declared.sizes.TheConstants.{MOST_MACHINES, MOST_OPERATIONS, MOST_PIECES}
 use Rattle.msp_schedule.specs.declared.Piece.{Piece}
-use Rattle.msp_file.specs.declared.schedule.read.Stated.{Stated}
+use Rattle.msp_grammar.specs.declared.filed.Stated.{Stated}
 use Rattle.msp_file.specs.schedule.Reading.{title_at, cost_at, unit_at, moment_at, span_at, place_at, piece_at, piece_line_at, piece_step, IsStatedAs, ReadsPieces, ReadsStated, ReadsSchedule}
 use Rattle.msp_file.specs.schedule.Answers.{IsScheduleFault}
 use Rattle.msp_grammar.specs.declared.lines.fault.FileFault.{FileFault}
-use Rattle.msp_grammar.specs.declared.lines.fault.FileFault.TheVariants.{Class as ClassBroken, Cycle, Memory, After, Head, Missing, Cut, Line, Count, Key, Name, Number, Limit, Again, ArcAgain, Unknown}
+use Rattle.msp_grammar.specs.declared.lines.fault.FileFault.TheVariants.{Class as ClassBroken, Cycle, Memory, After, Head, Missing, Cut, Line, Count, Key, Name, Number, Limit}
+use Rattle.msp_grammar.specs.declared.lines.fault.FileFault.TheVariants.{Again, ArcAgain, Unknown}
 use Rattle.msp_grammar.specs.declared.lines.fault.What.TheVariants as what
 use Rattle.msp_grammar.specs.lines.Reading.{first_of, others_of, Place, line_at, fields_of}
-use Rattle.msp_grammar.proofs.reading.LineFaults.{IsPlainFault, IsPlain, fine, bad, chain, given, either, line_plain, word_plain, natural_plain, ordinal_plain, number_line_plain, known_plain, end_plain, more, then_in, whole_in, whole_remembers, cost_plain}
+use Rattle.msp_grammar.proofs.reading.LineFaults.{IsPlainFault, IsPlain, fine, bad, chain, given, either, line_plain, word_plain, natural_plain, ordinal_plain, number_line_plain}
+use Rattle.msp_grammar.proofs.reading.LineFaults.{known_plain, end_plain, more, then_in, whole_in, whole_remembers, cost_plain}
 
 unit : (p : Place) → IsPlain (unit_at p)
 unfolding unit_at
@@ -44,7 +44,8 @@ unfolding piece_step
 after_piece names pieces p =
     chain (line_at p) _ (line_plain p) (λ l.
     let fields = fields_of l.0 in
-    either (bytes_eq (first_of fields) (codes "piece")) _ _ (chain (piece_line_at names p.at pieces (others_of fields)) _ (piece_line names p.at pieces (others_of fields)) (λ e. fine _)) (end_plain p.at pieces fields l.1))
+    either (bytes_eq (first_of fields) (codes "piece"))
+    _ _ (chain (piece_line_at names p.at pieces (others_of fields)) _ (piece_line names p.at pieces (others_of fields)) (λ e. fine _)) (end_plain p.at pieces fields l.1))
 
 stated_in : (x : ℤ × ℤ) (unit : ℤ) (lines : Result (List Piece × Place) FileFault) (r : Result (Stated × Place) FileFault) → IsPlain lines → IsStatedAs x unit lines r → IsPlain r
 stated_in x unit (Ok line) (Ok s) h k = fine s
@@ -89,6 +90,6 @@ schedule_faults names line b e h = by (whole_in h.lines e (stated names (record 
     by (inl k) = plain_schedule e k
     by (inr k) = subst IsScheduleFault (sym k.1) tt
 
--- reading gives no want of memory
+-- reading gives no out of memory
 pub schedule_remembers : (names : List (List ℕ)) (line : ℕ) (b : List ℕ) → ¬ ReadsSchedule names line b (Err Memory)
 schedule_remembers names line b h = whole_remembers h.lines (stated names (record { at = line; rest = b }) h.lines h.reads) (λ k. k) h.is

@@ -6,7 +6,7 @@ use Rattle.msp_grammar.specs.lines.Reading.{Place, ReadsMore, all_of}
 use Rattle.msp_schedule.specs.declared.Piece.{Piece}
 use Rattle.msp_schedule.specs.declared.Frac.{Frac}
 use Rattle.msp_schedule.specs.declared.Schedule.{Schedule}
-use Rattle.msp_file.specs.declared.schedule.read.Stated.{Stated}
+use Rattle.msp_grammar.specs.declared.filed.Stated.{Stated}
 use Rattle.msp_file.specs.schedule.Reading.{title_at, cost_at, unit_at, piece_step, IsStatedAs, ReadsPieces, ReadsStated, ReadsSchedule}
 use Rattle.msp_grammar.specs.lines.Steps.{FailsBy, parts_of}
 use Rattle.msp_grammar.proofs.reading.Readings.{more_same, then_same, by_same, fraction_is}
@@ -45,7 +45,8 @@ pub pieces_fail : (names : List (List ℕ)) (cost : ℤ × ℤ) (unit : ℤ) (p 
 pieces_fail names cost unit p Memory h = tt
 pieces_fail names cost unit p e h = record { lines = Err e; reads = h; stated = refl }
 
-pub pieces_done : (names : List (List ℕ)) (cost : Frac) (unit : ℤ) (p q : Place) (pieces : List Piece) → ReadsMore (piece_step names) [] p (Ok (pieces, q)) → ReadsPieces names (parts_of cost) unit p (Ok (record { schedule = record { unit = unit; pieces = pieces }; cost = cost }, q))
+pub pieces_done : (names : List (List ℕ)) (cost : Frac) (unit : ℤ) (p q : Place) (pieces : List Piece) → ReadsMore (piece_step names) [] p (Ok (pieces, q))
+    → ReadsPieces names (parts_of cost) unit p (Ok (record { schedule = record { unit = unit; pieces = pieces }; cost = cost }, q))
 pieces_done names cost unit p q pieces h = record { lines = Ok (pieces, q); reads = h; stated = (refl, refl, refl, refl) }
 
 pub ruleset pieces_rules = (pieces_fail, pieces_done)

@@ -1,5 +1,6 @@
 -- Schedule texts: what is read is a text of its schedule, and a text of a schedule is read as it.
-use Rattle.std.proofs.Common.{◌≡◌, ℕ, ◌+◌, ◌<◌, ◌≤◌, Bool, true, false, ◌==◌, nat_lt, if◌then◌else◌, List, [], ◌∷◌, ◌++◌, length, Result, Ok, Err, ℤ, pos, negsuc, unsigned_abs, All, bytes_eq, refl, sym, ap, subst, ◌∙◌, append_assoc, append-nil, length-append, arith, eqb-true, codes, decimal}
+use Rattle.std.proofs.Common.{◌≡◌, ℕ, ◌+◌, ◌<◌, ◌≤◌, Bool, true, false, ◌==◌, nat_lt, if◌then◌else◌, List, [], ◌∷◌, ◌++◌, length, Result, Ok, Err, ℤ, pos, negsuc, unsigned_abs}
+use Rattle.std.proofs.Common.{All, bytes_eq, refl, sym, ap, subst, ◌∙◌, append_assoc, append-nil, length-append, arith, eqb-true, codes, decimal}
 use Rattle.std.specs.Fmt.{signed_decimal}
 use Rattle.std.specs.Result.{IfErr}
 use Rattle.std.specs.List.{AllByRecursion}
@@ -7,9 +8,8 @@ use Rattle.std.proofs.lemmas.Bool.{ltb-true, lt-ltb}
 use Rattle.std.proofs.lemmas.Int.{ints}
 use Rattle.std.proofs.lemmas.List.{nil_from_length, get_or_at}
 use Rattle.std.proofs.lemmas.List.Elements.{All-nil, All-push}
-use Rattle.msp_class.specs.declared.environments.TheConstants.{MOST_OPERATIONS}
-use Rattle.msp_instance.specs.declared.ranges.TheConstants.{MOST_MACHINES, GREATEST}
-use Rattle.msp_schedule.specs.declared.limits.TheConstants.{MOST_PIECES, GREATEST_UNIT, GREATEST_MOMENT}
+use Rattle.msp_class.specs.declared.sizes.TheConstants.{MOST_MACHINES, MOST_OPERATIONS, MOST_PIECES, GREATEST, GREATEST_UNIT}
+use Rattle.msp_schedule.specs.declared.limits.TheConstants.{GREATEST_MOMENT}
 use Rattle.msp_schedule.specs.declared.Piece.{Piece}
 use Rattle.msp_schedule.specs.declared.Frac.{Frac}
 use Rattle.msp_schedule.specs.declared.Schedule.{Schedule}
@@ -17,21 +17,24 @@ use Rattle.msp_schedule.specs.Within.{IsMoment, IsUnit}
 use Rattle.msp_job_name.specs.JobName.{IsJobName, AreDistinct}
 use Rattle.msp_job_name.proofs.NameLists.{same_bytes}
 use Rattle.msp_grammar.specs.declared.limits.TheConstants.{GREATEST_COST}
-use Rattle.msp_grammar.specs.ScheduleText.{line_feed, name_at, IsFractionText, piece_line, piece_lines, cost_line, unit_line, stated_text, schedule_text, IsStatedCost, IsStatedPiece, IsStated, IsScheduleText}
+use Rattle.msp_grammar.specs.ScheduleText.{line_feed, name_at, IsFractionText, piece_line, piece_lines, cost_line, unit_line, stated_text, schedule_text, IsStatedCost}
+use Rattle.msp_grammar.specs.ScheduleText.{IsStatedPiece, IsStated, IsScheduleText}
 use Rattle.msp_grammar.specs.InstanceText.{line_text}
 use Rattle.msp_grammar.specs.lines.Answers.{Fails, Gives}
 use Rattle.msp_grammar.specs.declared.lines.fault.FileFault.{FileFault}
 use Rattle.msp_grammar.specs.declared.lines.fault.FileFault.TheVariants.{Count, Limit, Memory}
 use Rattle.msp_grammar.specs.declared.lines.fault.What.TheVariants as what
-use Rattle.msp_file.specs.declared.schedule.read.Stated.{Stated}
-use Rattle.msp_grammar.specs.lines.Reading.{◌>>=◌, Place, line_at, fields_of, first_of, others_of, natural_at, ordinal_at, known_at, number_line_at, LineRead, job_read, more_read, end_read, end_at, ReadsMore, more_then, more_end, more_fault, all_of}
+use Rattle.msp_grammar.specs.declared.filed.Stated.{Stated}
+use Rattle.msp_grammar.specs.lines.Reading.{◌>>=◌, Place, line_at, fields_of, first_of, others_of, natural_at, ordinal_at, known_at, number_line_at, LineRead, job_read, more_read}
+use Rattle.msp_grammar.specs.lines.Reading.{end_read, end_at, ReadsMore, more_then, more_end, more_fault, all_of}
 use Rattle.msp_file.specs.schedule.Reading.{title_at, cost_at, unit_at, moment_at, span_at, place_at, piece_at, piece_line_at, piece_step, IsStatedAs, ReadsPieces, ReadsStated, ReadsSchedule}
 use Rattle.msp_grammar.proofs.PrintLemmas.{printed}
 use Rattle.msp_file.specs.schedule.Answers.{IsScheduleFaultOf, IsScheduleFault}
 use Rattle.msp_grammar.specs.lines.Steps.{FailsBy, GivesBy, parts_of}
 use Rattle.msp_file.proofs.schedules.LineFaults.{schedule_faults}
 use Rattle.msp_file.proofs.schedules.Readings.{schedule_same}
-use Rattle.msp_grammar.proofs.reading.LineLaws.{bind_ok, provided_ok, reads, ok_is, bind_again, provided_again, Takes, Gets, Takes-then, IsField, fields_takes, word_line_takes, word_line_again, line_then, end_text, end_field, end_takes, last_is, no_answer, GetsBy, spread}
+use Rattle.msp_grammar.proofs.reading.LineLaws.{bind_ok, provided_ok, reads, ok_is, bind_again, provided_again, Takes, Gets, Takes-then, IsField, fields_takes, word_line_takes}
+use Rattle.msp_grammar.proofs.reading.LineLaws.{word_line_again, line_then, end_text, end_field, end_takes, last_is, no_answer, GetsBy, spread}
 use Rattle.msp_grammar.proofs.reading.CostLaws.{plain_word, pair, IsCostWithin, with_place, cost_line_takes, cost_line_again}
 use Rattle.msp_grammar.proofs.reading.FieldLaws.{wide_takes, wide_again, wide_field, known_takes, known_again, name_field, number_line_takes, number_line_again, ordinal_takes, ordinal_again}
 use Rattle.msp_grammar.proofs.reading.Readings.{then_ok, then_again}
@@ -68,7 +71,8 @@ unit_takes p u q e =
 unit_again : (at : ℕ) (u : ℤ) (rest : List ℕ) → IsUnit u → Gets (unit_at (record { at = at; rest = unit_line u ++ rest })) u rest
 unfolding unit_at unit_line
 unit_again at (pos n) rest h =
-    let line = number_line_again (codes "unit") what.Unit (unsigned_abs GREATEST_UNIT) at n rest (plain_word (codes "unit") refl refl) (omega arith) (omega (arith, ints, h.0)) (omega (arith, ints, h.1)) in
+    let line = number_line_again (codes "unit") what.Unit
+    (unsigned_abs GREATEST_UNIT) at n rest (plain_word (codes "unit") refl refl) (omega arith) (omega (arith, ints, h.0)) (omega (arith, ints, h.1)) in
     (line.0, rw line.1 refl)
 unit_again at (negsuc n) rest h = absurd (omega (arith, ints, h.0))
 
@@ -100,7 +104,8 @@ unfolding piece_line
 piece_line_is names p = simp append_assoc
 
 five_fields : (fields : List (List ℕ)) → (length fields == 5) ≡ true
-    → fields ≡ first_of fields ∷ first_of (others_of fields) ∷ first_of (others_of (others_of fields)) ∷ first_of (others_of (others_of (others_of fields))) ∷ first_of (others_of (others_of (others_of (others_of fields)))) ∷ []
+    → fields ≡ first_of fields ∷ first_of (others_of fields) ∷ first_of (others_of (others_of fields))
+    ∷ first_of (others_of (others_of (others_of fields))) ∷ first_of (others_of (others_of (others_of (others_of fields)))) ∷ []
 five_fields [] h = absurd cc
 five_fields (a ∷ []) h = absurd cc
 five_fields (a ∷ b ∷ []) h = absurd cc
@@ -130,16 +135,19 @@ place_takes at fields x e =
     let a = ordinal_takes at what.Place MOST_OPERATIONS (first_of fields) op.0 (omega arith) op.1 in
     let b = ordinal_takes at what.Place MOST_MACHINES (first_of (others_of fields)) machine.0 (omega arith) machine.1 in
     let is : read_place op.0 machine.0 (others_of (others_of fields)) ≡ x = ok_is (read_place op.0 machine.0 (others_of (others_of fields))) x machine.2 in
-    subst (λ (y : ℕ × ℕ × List (List ℕ)). (first_of fields ≡ decimal (y.0 + 1)) × (first_of (others_of fields) ≡ decimal (y.1 + 1)) × (y.2 ≡ others_of (others_of fields)) × (y.0 < MOST_OPERATIONS) × (y.1 < MOST_MACHINES)) is (a.0, b.0, refl, a.1, b.1)
+    subst (λ (y : ℕ × ℕ × List (List ℕ)). (first_of fields ≡ decimal (y.0 + 1)) × (first_of (others_of fields) ≡ decimal (y.1 + 1))
+    × (y.2 ≡ others_of (others_of fields)) × (y.0 < MOST_OPERATIONS) × (y.1 < MOST_MACHINES)) is (a.0, b.0, refl, a.1, b.1)
 
-span_takes : (at : ℕ) (fields : List (List ℕ)) (x : ℤ × ℤ) → span_at at fields ≡ Ok x → (first_of fields ≡ signed_decimal x.0) × (first_of (others_of fields) ≡ signed_decimal x.1) × IsMoment x.0 × IsMoment x.1
+span_takes : (at : ℕ) (fields : List (List ℕ)) (x : ℤ × ℤ)
+    → span_at at fields ≡ Ok x → (first_of fields ≡ signed_decimal x.0) × (first_of (others_of fields) ≡ signed_decimal x.1) × IsMoment x.0 × IsMoment x.1
 unfolding span_at
 span_takes at fields x e =
     let from = bind_ok (moment_at at (first_of fields)) _ x e in
     let to = bind_ok (moment_at at (first_of (others_of fields))) _ x from.2 in
     let a = moment_takes at (first_of fields) from.0 from.1 in
     let b = moment_takes at (first_of (others_of fields)) to.0 to.1 in
-    subst (λ (y : ℤ × ℤ). (first_of fields ≡ signed_decimal y.0) × (first_of (others_of fields) ≡ signed_decimal y.1) × IsMoment y.0 × IsMoment y.1) (ok_is (pair from.0 to.0) x to.2) (a.0, b.0, a.1, b.1)
+    subst (λ (y : ℤ × ℤ). (first_of fields ≡ signed_decimal y.0) × (first_of (others_of fields) ≡ signed_decimal y.1) × IsMoment y.0 × IsMoment y.1)
+    (ok_is (pair from.0 to.0) x to.2) (a.0, b.0, a.1, b.1)
 
 abbrev read_piece : ℕ → ℕ → ℕ → ℤ → ℤ → Piece
 read_piece job op machine from to = record { job = job; op = op; machine = machine; from = from; to = to }
@@ -202,7 +210,8 @@ record AddsPiece (names : List (List ℕ)) (pieces : List Piece) (fields : List 
   says : SaysPiece names fields piece
   few : length pieces < MOST_PIECES
 
-piece_line_takes : (names : List (List ℕ)) (at : ℕ) (pieces : List Piece) (fields : List (List ℕ)) (after : List Piece) → piece_line_at names at pieces fields ≡ Ok after → AddsPiece names pieces fields after
+piece_line_takes : (names : List (List ℕ)) (at : ℕ) (pieces : List Piece) (fields : List (List ℕ)) (after : List Piece)
+    → piece_line_at names at pieces fields ≡ Ok after → AddsPiece names pieces fields after
 unfolding piece_line_at
 piece_line_takes names at pieces fields after e =
     let a = provided_ok (nat_lt (length pieces) MOST_PIECES) (Limit at what.Pieces) _ after e in
@@ -210,7 +219,8 @@ piece_line_takes names at pieces fields after e =
     let p = bind_ok (piece_at names at fields) _ after b.1 in
     record { piece = p.0; added = sym (ok_is (pieces ++ p.0 ∷ []) after p.2); says = piece_takes names at fields p.0 b.0 p.1; few = ltb-true _ _ a.0 }
 
-piece_line_again : (names : List (List ℕ)) (at : ℕ) (pieces : List Piece) (x : Piece) → AreDistinct names → All IsJobName names → IsStatedPiece names x → length pieces < MOST_PIECES → piece_line_at names at pieces (piece_fields names x) ≡ Ok (pieces ++ x ∷ [])
+piece_line_again : (names : List (List ℕ)) (at : ℕ) (pieces : List Piece) (x : Piece) → AreDistinct names
+    → All IsJobName names → IsStatedPiece names x → length pieces < MOST_PIECES → piece_line_at names at pieces (piece_fields names x) ≡ Ok (pieces ++ x ∷ [])
 unfolding piece_line_at
 piece_line_again names at pieces x apart spelled h few =
     provided_again (nat_lt (length pieces) MOST_PIECES) (Limit at what.Pieces) _ _ (lt-ltb (length pieces) MOST_PIECES few)
@@ -228,10 +238,12 @@ piece_or_end names at pieces fields q =
     then (piece_line_at names at pieces (others_of fields) >>= λ more. Ok (more_read more q))
     else end_at at pieces fields q
 
-piece_or_end_takes : (names : List (List ℕ)) (at : ℕ) (pieces : List Piece) (fields : List (List ℕ)) (p q : Place) (next : LineRead (List Piece)) → Takes p (line_text (first_of fields ∷ others_of fields)) q → piece_or_end names at pieces fields q ≡ Ok next → TakesPiece names pieces p next
+piece_or_end_takes : (names : List (List ℕ)) (at : ℕ) (pieces : List Piece) (fields : List (List ℕ)) (p q : Place) (next : LineRead (List Piece))
+    → Takes p (line_text (first_of fields ∷ others_of fields)) q → piece_or_end names at pieces fields q ≡ Ok next → TakesPiece names pieces p next
 piece_or_end_takes names at pieces fields p q next t = by (bytes_eq (first_of fields) (codes "piece")) refl
   where
-    by : (b : Bool) → bytes_eq (first_of fields) (codes "piece") ≡ b → (if b then (piece_line_at names at pieces (others_of fields) >>= λ more. Ok (more_read more q)) else end_at at pieces fields q) ≡ Ok next → TakesPiece names pieces p next
+    by : (b : Bool) → bytes_eq (first_of fields) (codes "piece") ≡ b
+        → (if b then (piece_line_at names at pieces (others_of fields) >>= λ more. Ok (more_read more q)) else end_at at pieces fields q) ≡ Ok next → TakesPiece names pieces p next
     by true is e =
         let l = bind_ok (piece_line_at names at pieces (others_of fields)) _ next e in
         let line = subst (λ (w : List ℕ). Takes p (line_text (w ∷ others_of fields)) q) (same_bytes (first_of fields) (codes "piece") is) t in
@@ -256,21 +268,26 @@ record AddsPieces (names : List (List ℕ)) (pieces : List Piece) (p : Place) (a
   text : Takes p (piece_lines names more ++ end_text) q
   fit : ArePieces names after
 
-then_pieces : (names : List (List ℕ)) (pieces : List Piece) (fields : List (List ℕ)) (e : List Piece) (p q : Place) (x : List Piece × Place) → Takes p (line_text (codes "piece" ∷ fields)) q → AddsPiece names pieces fields e → ArePieces names pieces
+then_pieces : (names : List (List ℕ)) (pieces : List Piece) (fields : List (List ℕ)) (e : List Piece) (p q : Place) (x : List Piece × Place)
+    → Takes p (line_text (codes "piece" ∷ fields)) q → AddsPiece names pieces fields e → ArePieces names pieces
     → (ArePieces names e → AddsPieces names e q x.0 x.1) → AddsPieces names pieces p x.0 x.1
 then_pieces names pieces fields e p q x t h fit rest =
     let line : Takes p (piece_line names h.piece) q = subst (λ (b : List ℕ). Takes p b q) (ap (λ (ws : List (List ℕ)). line_text (codes "piece" ∷ ws)) h.says.text ∙ piece_line_is names h.piece) t in
-    let one : ArePieces names (pieces ++ h.piece ∷ []) = record { few = omega (arith, h.few, length-append pieces (h.piece ∷ [])); stated = All-push (IsStatedPiece names) pieces h.piece fit.stated h.says.stated } in
+    let one : ArePieces names (pieces ++ h.piece ∷ []) =
+    record { few = omega (arith, h.few, length-append pieces (h.piece ∷ [])); stated = All-push (IsStatedPiece names) pieces h.piece fit.stated h.says.stated } in
     let a = rest (subst (ArePieces names) (sym h.added) one) in
     record {
       more = h.piece ∷ a.more;
       added = a.added ∙ ap (λ (ps : List Piece). ps ++ a.more) h.added ∙ append_assoc pieces (h.piece ∷ []) a.more;
-      text = subst (λ (b : List ℕ). p.rest ≡ b ++ x.1.rest) (sym (append_assoc (piece_line names h.piece) (piece_lines names a.more) end_text)) (Takes-then p q x.1 (piece_line names h.piece) (piece_lines names a.more ++ end_text) line a.text);
+      text = subst (λ (b : List ℕ). p.rest ≡ b ++ x.1.rest) (sym (append_assoc (piece_line names h.piece) (piece_lines names a.more) end_text))
+          (Takes-then p q x.1 (piece_line names h.piece) (piece_lines names a.more ++ end_text) line a.text);
       fit = a.fit;
     }
 
-pieces_take : (names : List (List ℕ)) (pieces : List Piece) (p : Place) (read : Result (List Piece × Place) FileFault) (x : List Piece × Place) → ArePieces names pieces → ReadsMore (piece_step names) pieces p read → read ≡ Ok x → AddsPieces names pieces p x.0 x.1
-pieces_take names pieces p read x fit (more_then _ e _ q _ step rest) is = let t = piece_step_takes names pieces p (more_read e q) step in then_pieces names pieces t.0 e p q x t.1 t.2 fit (λ good. pieces_take names e q read x good rest is)
+pieces_take : (names : List (List ℕ)) (pieces : List Piece) (p : Place) (read : Result (List Piece × Place) FileFault) (x : List Piece × Place)
+    → ArePieces names pieces → ReadsMore (piece_step names) pieces p read → read ≡ Ok x → AddsPieces names pieces p x.0 x.1
+pieces_take names pieces p read x fit (more_then _ e _ q _ step rest) is = let t = piece_step_takes names pieces p (more_read e q) step in
+    then_pieces names pieces t.0 e p q x t.1 t.2 fit (λ good. pieces_take names e q read x good rest is)
 pieces_take names pieces p read x fit (more_end _ e _ q _ step ends) is =
     let t = piece_step_takes names pieces p (end_read e q) step in
     let last = last_is pieces e q read x t.0 ends is in
@@ -293,9 +310,13 @@ pieces_again (x ∷ more) names pieces at rest apart spelled fit =
     let l = line_then (piece_or_end names at pieces) at (codes "piece") (piece_fields names x) left (piece_line_fields names x spelled stated) in
     let q : Place = record { at = l.0; rest = left } in
     let one = piece_line_again names at pieces x apart spelled stated (omega (arith, fit.few)) in
-    let step : piece_step names pieces (record { at = at; rest = (piece_lines names (x ∷ more) ++ end_text) ++ rest }) ≡ Ok (more_read (pieces ++ x ∷ []) q) = ap (λ (b : List ℕ). piece_step names pieces (record { at = at; rest = b })) text ∙ l.1 ∙ ap (λ r. r >>= λ e. Ok (more_read e q)) one in
-    let g = pieces_again more names (pieces ++ x ∷ []) l.0 rest apart spelled (subst (ArePieces names) (sym (append_assoc pieces (x ∷ []) more)) fit) in
-    (g.0, subst (λ (ps : List Piece). ReadsMore (piece_step names) pieces (record { at = at; rest = (piece_lines names (x ∷ more) ++ end_text) ++ rest }) (Ok (ps, record { at = g.0; rest = rest }))) (append_assoc pieces (x ∷ []) more) (more_then pieces (pieces ++ x ∷ []) _ q _ step g.1))
+    let step : piece_step names pieces (record { at = at; rest = (piece_lines names (x ∷ more) ++ end_text) ++ rest }) ≡ Ok (more_read (pieces ++ x ∷ []) q) =
+    ap (λ (b : List ℕ). piece_step names pieces (record { at = at; rest = b })) text ∙ l.1 ∙ ap (λ r. r >>= λ e. Ok (more_read e q)) one in
+    let g = pieces_again more names (pieces ++ x ∷ []) l.0 rest apart spelled (subst (ArePieces names) (sym (append_assoc pieces (x ∷ []) more)) fit) in (
+      g.0,
+      subst (λ (ps : List Piece). ReadsMore (piece_step names) pieces (record { at = at; rest = (piece_lines names (x ∷ more) ++ end_text) ++ rest }) (Ok (ps, record { at = g.0; rest = rest })))
+          (append_assoc pieces (x ∷ []) more) (more_then pieces (pieces ++ x ∷ []) _ q _ step g.1),
+    )
 
 -- ---- the whole
 
@@ -349,7 +370,8 @@ stated_takes names start x h =
     record {
       spelling = cost.spelling;
       spells = cost.spells;
-      text = subst (λ (q : Place). Takes start (stated_text cost.spelling names x.0.schedule) q) (sym says.place) (subst (λ (s : Schedule). Takes start (stated_text cost.spelling names s) says.line.1) is whole);
+      text = subst (λ (q : Place). Takes start (stated_text cost.spelling names x.0.schedule) q)
+          (sym says.place) (subst (λ (s : Schedule). Takes start (stated_text cost.spelling names s) says.line.1) is whole);
       stated = subst (λ (s : Schedule). IsStated names s x.0.cost) is (record { cost = stated_cost x.0.cost cost.range; unit = unit.1; few = fit.few; pieces = fit.stated });
     }
 
@@ -373,7 +395,8 @@ stated_again names at spelling s x rest spelled apart spells h =
     let title = codes "schedule\n" in
     let cost = cost_line spelling in
     let unit = unit_line s.unit in
-    let text : stated_text spelling names s ++ rest ≡ title ++ (cost ++ (unit ++ lines)) = spread title cost unit pieces end_text rest ∙ ap (λ (b : List ℕ). title ++ (cost ++ (unit ++ b))) (sym (append_assoc pieces end_text rest)) in
+    let text : stated_text spelling names s ++ rest ≡ title ++ (cost ++ (unit ++ lines)) =
+    spread title cost unit pieces end_text rest ∙ ap (λ (b : List ℕ). title ++ (cost ++ (unit ++ b))) (sym (append_assoc pieces end_text rest)) in
     let t = word_line_again (codes "schedule") at (cost ++ (unit ++ lines)) (plain_word (codes "schedule") refl refl) in
     let c = cost_again t.0 spelling x (unit ++ lines) spells h.cost in
     let u = unit_again c.0 s.unit lines h.unit in
@@ -384,7 +407,8 @@ stated_again names at spelling s x rest spelled apart spells h =
           then_again _ _ _ _ u.1 (record { lines = Ok (s.pieces, record { at = p.0; rest = rest }); reads = p.1; stated = (refl, refl, refl, refl) }))),
     )
 
-pub schedule_again : (names : List (List ℕ)) (line : ℕ) (b : List ℕ) (s : Schedule) (x : Frac) → All IsJobName names → AreDistinct names → IsScheduleText b names s x → ReadsSchedule names line b (Ok (record { schedule = s; cost = x }))
+pub schedule_again : (names : List (List ℕ)) (line : ℕ) (b : List ℕ) (s : Schedule) (x : Frac)
+    → All IsJobName names → AreDistinct names → IsScheduleText b names s x → ReadsSchedule names line b (Ok (record { schedule = s; cost = x }))
 schedule_again names line b s x spelled apart h =
     let g = stated_again names line h.spelling s x [] spelled apart h.spells h.stated in
     let text : stated_text h.spelling names s ++ [] ≡ b = append-nil (stated_text h.spelling names s) ∙ sym h.text in
@@ -395,7 +419,8 @@ schedule_again names line b s x spelled apart h =
       is = refl;
     }
 
-pub printed_again : (names : List (List ℕ)) (line : ℕ) (s : Schedule) (x : Frac) → All IsJobName names → AreDistinct names → IsStated names s x → ReadsSchedule names line (schedule_text names s x) (Ok (record { schedule = s; cost = x }))
+pub printed_again : (names : List (List ℕ)) (line : ℕ) (s : Schedule) (x : Frac)
+    → All IsJobName names → AreDistinct names → IsStated names s x → ReadsSchedule names line (schedule_text names s x) (Ok (record { schedule = s; cost = x }))
 printed_again names line s x spelled apart h = schedule_again names line (schedule_text names s x) s x spelled apart (printed names s x (schedule_text names s x) h refl)
 
 -- ---- the reader
@@ -411,15 +436,18 @@ schedule_fault_is names line b e h = schedule_faults names line b e h
 abbrev stated_by : Schedule → Frac → Stated
 stated_by s x = record { schedule = s; cost = x }
 
-pub no_schedule_fault : (names : List (List ℕ)) (line : ℕ) (b : List ℕ) (e : FileFault) → All IsJobName names → AreDistinct names → IsScheduleFaultOf names line b e → (s : Schedule) (x : Frac) → IsScheduleText b names s x → Fails e (reads (stated_by s x))
+pub no_schedule_fault : (names : List (List ℕ)) (line : ℕ) (b : List ℕ) (e : FileFault) → All IsJobName names
+    → AreDistinct names → IsScheduleFaultOf names line b e → (s : Schedule) (x : Frac) → IsScheduleText b names s x → Fails e (reads (stated_by s x))
 no_schedule_fault names line b Memory spelled apart k s x h = tt
 no_schedule_fault names line b e spelled apart k s x h = schedule_same names line b (reads (stated_by s x)) (Err e) (schedule_again names line b s x spelled apart h) k
 
-pub schedule_is : (names : List (List ℕ)) (line : ℕ) (b : List ℕ) (f : Stated) → All IsJobName names → AreDistinct names → ReadsSchedule names line b (Ok f) → (s : Schedule) (x : Frac) → IsScheduleText b names s x → reads (stated_by s x) ≡ reads f
+pub schedule_is : (names : List (List ℕ)) (line : ℕ) (b : List ℕ) (f : Stated) → All IsJobName names
+    → AreDistinct names → ReadsSchedule names line b (Ok f) → (s : Schedule) (x : Frac) → IsScheduleText b names s x → reads (stated_by s x) ≡ reads f
 schedule_is names line b f spelled apart k s x h = schedule_same names line b (reads (stated_by s x)) (Ok f) (schedule_again names line b s x spelled apart h) k
 
 -- what is answered to the text of a schedule
-pub schedule_answered : (names : List (List ℕ)) (line : ℕ) (b : List ℕ) (r : Result Stated FileFault) → All IsJobName names → AreDistinct names → GivesBy r (ReadsSchedule names line b) → (s : Schedule) (x : Frac) → IsScheduleText b names s x → Gives (λ f. f) r (reads (stated_by s x))
+pub schedule_answered : (names : List (List ℕ)) (line : ℕ) (b : List ℕ) (r : Result Stated FileFault) → All IsJobName names → AreDistinct names
+    → GivesBy r (ReadsSchedule names line b) → (s : Schedule) (x : Frac) → IsScheduleText b names s x → Gives (λ f. f) r (reads (stated_by s x))
 schedule_answered names line b (Ok f) spelled apart k s x h = schedule_is names line b f spelled apart k s x h
 schedule_answered names line b (Err e) spelled apart k s x h = no_schedule_fault names line b e spelled apart (schedule_fault_of names line b e k) s x h
 

@@ -44,7 +44,7 @@ pub record IsCycleFault (Reading : Result Filed FileFault → Type 0) (job : ℕ
   pub least : IsLeastOnCycle (length filed.instance.jobs) filed.instance.arcs job
   pub named : slice_get filed.names job ≡ Some name
 
--- The fault is the first one of what is read. Want of memory says nothing.
+-- The fault is the first one of what is read. Out of memory says nothing.
 abbrev pub IsFaultBy : (Result Filed FileFault → Type 0) → FileFault → Type 0
 IsFaultBy Reading (Class fault name) = IsClassFault Reading fault name
 IsFaultBy Reading (Cycle job name) = IsCycleFault Reading job name
@@ -59,7 +59,8 @@ IsFaultOf bytes e = IsFaultBy (Reads bytes) e
 abbrev pub IsFrontFaultOf : List ℕ → FileFault → Type 0
 IsFrontFaultOf bytes e = IsFaultBy (ReadsFront bytes) e
 
--- Of the conditions of a class a text can break only these: that there is a job, and those of a job's needs and of the arcs at a job, which come with the job's name. What can be read keeps all the others.
+-- Of the conditions of a class a text can break only these: that there is a job, and those of a job's needs and of the arcs at a job, which
+-- come with the job's name. What can be read keeps all the others.
 abbrev pub IsTextClassFault : ClassFault → Option (List ℕ) → Type 0
 IsTextClassFault class_fault.Jobs None = Unit {0}
 IsTextClassFault (class_fault.Need j) (Some name) = Unit {0}

@@ -1,8 +1,9 @@
 -- How the text of an instance is read: line by line, and in a line from left to right, up to the first fault.
-use Rattle.std.specs.Prelude.{◌≡◌, ◌⊎◌, ℕ, ◌+◌, ◌-◌, ◌*◌, ◌/◌, Bool, true, false, ◌&&◌, not, ◌==◌, nat_le, nat_lt, if◌then◌else◌, List, [], ◌∷◌, ◌++◌, length, map, Some, None, Result, Ok, Err, codes, bytes_eq, ℤ, pos}
+use Rattle.std.specs.Prelude.{◌≡◌, ◌⊎◌, ℕ, ◌+◌, ◌-◌, ◌*◌, ◌/◌, Bool, true, false, ◌&&◌, not, ◌==◌, nat_le, nat_lt, if◌then◌else◌, List, [], ◌∷◌, ◌++◌, length, map, Some, None}
+use Rattle.std.specs.Prelude.{Result, Ok, Err, codes, bytes_eq, ℤ, pos}
 use Rattle.std.specs.List.{list_any, range_with_len}
 use Rattle.msp_class.specs.declared.environments.EnvKind.{EnvKind}
-use Rattle.msp_class.specs.declared.environments.TheConstants.{MOST_OPERATIONS}
+use Rattle.msp_class.specs.declared.sizes.TheConstants.{MOST_JOBS, MOST_MACHINES, MOST_ARCS, MOST_OPERATIONS, MOST_STEPS, GREATEST, GREATEST_SPEED, GREATEST_EQUAL_TIME}
 use Rattle.msp_class.specs.Crit.{uses_due, uses_weight, uses_curve}
 use Rattle.msp_class.specs.Env.{fixed_machines, kind_of, most_operations}
 use Rattle.msp_class.specs.Rank.{flag_number}
@@ -11,7 +12,6 @@ use Rattle.msp_class.specs.declared.class.Env.{Env}
 use Rattle.msp_class.specs.declared.class.Times.{Times}
 use Rattle.msp_class.specs.declared.class.Crit.{Crit}
 use Rattle.msp_name.specs.Reading.{reading_of}
-use Rattle.msp_instance.specs.declared.ranges.TheConstants.{MOST_JOBS, MOST_MACHINES, MOST_ARCS, MOST_STEPS, GREATEST, GREATEST_SPEED, GREATEST_EQUAL_TIME}
 use Rattle.msp_instance.specs.declared.Need.{Need}
 use Rattle.msp_instance.specs.declared.Step.{Step}
 use Rattle.msp_instance.specs.declared.Curve.{Curve}
@@ -23,12 +23,13 @@ use Rattle.msp_grammar.specs.declared.lines.fault.What.TheVariants as what
 use Rattle.msp_grammar.specs.declared.lines.fault.FileFault.{FileFault}
 use Rattle.msp_grammar.specs.declared.lines.fault.FileFault.TheVariants.{Head, Count, Key, Limit, Again, ArcAgain}
 use Rattle.msp_file.specs.declared.instance.job.Keys.{Keys}
-use Rattle.msp_file.specs.instance.Marks.{is_arc_among}
+use Rattle.msp_file.specs.instance.ArcFlags.{is_arc_among}
 use Rattle.msp_file.specs.declared.instance.draft.Draft.{Draft}
 use Rattle.msp_grammar.specs.declared.filed.Filed.{Filed}
 use Rattle.msp_grammar.specs.Layout.{has_times, has_time_line, has_one_time, has_route, has_speeds, has_order, has_time_key, has_times_line}
 use Rattle.msp_text.specs.Bytes.{equals_byte}
-use Rattle.msp_grammar.specs.lines.Reading.{◌>>=◌, provided, Place, line_at, fields_of, first_of, others_of, worded_at, natural_at, integer_at, job_name_at, known_at, machine_at, LineRead, job_read, more_read, end_read, end_at, ReadsMore, number_line_at, Then, ReadsBy, all_of, front_of}
+use Rattle.msp_grammar.specs.lines.Reading.{◌>>=◌, provided, Place, line_at, fields_of, first_of, others_of, worded_at, natural_at, integer_at, job_name_at, known_at, machine_at}
+use Rattle.msp_grammar.specs.lines.Reading.{LineRead, job_read, more_read, end_read, end_at, ReadsMore, number_line_at, Then, ReadsBy, all_of, front_of}
 
 -- The letters of the keys.
 abbrev pub time_letter : ℕ
@@ -263,10 +264,14 @@ ReadsArcs draft place read = ReadsMore arc_step draft place read
 
 -- The lines after the head or after a job are read so: jobs, then arcs, up to the end or a fault.
 pub data ReadsJobs (class : Class) (machines shared : ℕ) : Draft → Place → Result (Draft × Place) FileFault → Type 0 where
-  job_then : (draft more : Draft) (place next : Place) (read : Result (Draft × Place) FileFault) → job_step class machines shared draft place ≡ Ok (job_read more next) → ReadsJobs class machines shared more next read → ReadsJobs class machines shared draft place read
-  arc_after : (draft more : Draft) (place next : Place) (read : Result (Draft × Place) FileFault) → job_step class machines shared draft place ≡ Ok (more_read more next) → ReadsArcs more next read → ReadsJobs class machines shared draft place read
-  jobs_end : (draft all : Draft) (place next : Place) (read : Result (Draft × Place) FileFault) → job_step class machines shared draft place ≡ Ok (end_read all next) → read ≡ Ok (all, next) → ReadsJobs class machines shared draft place read
-  jobs_fault : (draft : Draft) (place : Place) (read : Result (Draft × Place) FileFault) (fault : FileFault) → job_step class machines shared draft place ≡ Err fault → read ≡ Err fault → ReadsJobs class machines shared draft place read
+  job_then : (draft more : Draft) (place next : Place) (read : Result (Draft × Place) FileFault) → job_step class machines shared draft place ≡ Ok (job_read more next)
+      → ReadsJobs class machines shared more next read → ReadsJobs class machines shared draft place read
+  arc_after : (draft more : Draft) (place next : Place) (read : Result (Draft × Place) FileFault)
+      → job_step class machines shared draft place ≡ Ok (more_read more next) → ReadsArcs more next read → ReadsJobs class machines shared draft place read
+  jobs_end : (draft all : Draft) (place next : Place) (read : Result (Draft × Place) FileFault)
+      → job_step class machines shared draft place ≡ Ok (end_read all next) → read ≡ Ok (all, next) → ReadsJobs class machines shared draft place read
+  jobs_fault : (draft : Draft) (place : Place) (read : Result (Draft × Place) FileFault) (fault : FileFault)
+      → job_step class machines shared draft place ≡ Err fault → read ≡ Err fault → ReadsJobs class machines shared draft place read
 
 -- ---- the head
 

@@ -6,10 +6,10 @@ use Rattle.msp_grammar.specs.ScheduleText.{schedule_text, IsStated}
 use Rattle.msp_job_name.specs.JobName.{IsJobName, AreDistinct}
 use Rattle.msp_grammar.specs.declared.lines.fault.FileFault.{FileFault}
 use Rattle.msp_grammar.specs.declared.lines.fault.FileFault.TheVariants.{Head, Key, Again, ArcAgain, Class, Cycle, Memory}
-use Rattle.msp_file.specs.declared.schedule.read.Stated.{Stated}
+use Rattle.msp_grammar.specs.declared.filed.Stated.{Stated}
 use Rattle.msp_file.specs.schedule.Reading.{ReadsSchedule}
 
--- The fault is the first one of the text, whose first line has this number. Want of memory says nothing.
+-- The fault is the first one of the text, whose first line has this number. Out of memory says nothing.
 abbrev pub IsScheduleFaultOf : List (List ℕ) → ℕ → List ℕ → FileFault → Type 0
 IsScheduleFaultOf names line bytes Memory = Unit {0}
 IsScheduleFaultOf names line bytes e = ReadsSchedule names line bytes (Err e)
@@ -32,4 +32,5 @@ SchedulesReadOneWay =
 -- The printed text of a schedule is read as that schedule and its cost.
 abbrev pub PrintedReadAgain : Type 0
 PrintedReadAgain =
-    (names : List (List ℕ)) (line : ℕ) (s : Schedule) (x : Frac) → All IsJobName names → AreDistinct names → IsStated names s x → ReadsSchedule names line (schedule_text names s x) (Ok (record { schedule = s; cost = x }))
+    (names : List (List ℕ)) (line : ℕ) (s : Schedule) (x : Frac) → All IsJobName names
+    → AreDistinct names → IsStated names s x → ReadsSchedule names line (schedule_text names s x) (Ok (record { schedule = s; cost = x }))

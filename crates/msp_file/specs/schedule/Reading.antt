@@ -1,15 +1,15 @@
 -- How the text of a schedule is read: line by line, and in a line from left to right, up to the first fault.
 use Rattle.std.specs.Prelude.{◌≡◌, ℕ, ◌==◌, nat_lt, if◌then◌else◌, List, [], ◌∷◌, ◌++◌, length, Result, Ok, Err, codes, bytes_eq, ℤ, pos, unsigned_abs}
-use Rattle.msp_class.specs.declared.environments.TheConstants.{MOST_OPERATIONS}
-use Rattle.msp_instance.specs.declared.ranges.TheConstants.{MOST_MACHINES}
-use Rattle.msp_schedule.specs.declared.limits.TheConstants.{MOST_PIECES, GREATEST_UNIT, GREATEST_MOMENT}
+use Rattle.msp_class.specs.declared.sizes.TheConstants.{MOST_MACHINES, MOST_OPERATIONS, MOST_PIECES, GREATEST_UNIT}
+use Rattle.msp_schedule.specs.declared.limits.TheConstants.{GREATEST_MOMENT}
 use Rattle.msp_schedule.specs.declared.Piece.{Piece}
 use Rattle.msp_grammar.specs.declared.limits.TheConstants.{GREATEST_COST}
 use Rattle.msp_grammar.specs.declared.lines.fault.What.TheVariants as what
 use Rattle.msp_grammar.specs.declared.lines.fault.FileFault.{FileFault}
 use Rattle.msp_grammar.specs.declared.lines.fault.FileFault.TheVariants.{Count, Limit}
-use Rattle.msp_file.specs.declared.schedule.read.Stated.{Stated}
-use Rattle.msp_grammar.specs.lines.Reading.{◌>>=◌, provided, Place, line_at, fields_of, first_of, others_of, word_line_at, natural_at, ordinal_at, known_at, number_line_at, LineRead, more_read, end_at, ReadsMore, Then, ReadsBy, all_of}
+use Rattle.msp_grammar.specs.declared.filed.Stated.{Stated}
+use Rattle.msp_grammar.specs.lines.Reading.{◌>>=◌, provided, Place, line_at, fields_of, first_of, others_of, word_line_at, natural_at, ordinal_at, known_at, number_line_at}
+use Rattle.msp_grammar.specs.lines.Reading.{LineRead, more_read, end_at, ReadsMore, Then, ReadsBy, all_of}
 use Rattle.msp_grammar.specs.lines.Costs.{cost_line_at}
 
 -- The first line.

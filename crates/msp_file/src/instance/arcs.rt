@@ -1,18 +1,18 @@
 // The arcs of an instance, as far as they are read.
 ghost use Rattle.std.specs.Prelude.{◌≡◌, ℕ, ◌+◌, ◌*◌, ◌<◌, ◌≤◌, ◌++◌, ◌∷◌, [], true, false, length, IfOk, OnOk, MatchBool};
-ghost use Rattle.msp_instance.specs.declared.ranges.TheConstants.{MOST_JOBS};
-ghost use Rattle.msp_file.specs.instance.Marks.{is_arc_among, mark_at};
+ghost use Rattle.msp_class.specs.declared.sizes.TheConstants.{MOST_JOBS};
+ghost use Rattle.msp_file.specs.instance.ArcFlags.{is_arc_among, flag_at};
 
 use msp_class::{List, NoMemory};
 use msp_instance::{Arc, MOST_JOBS};
 use std::alloc::Global;
 use std::marker::Model;
 
-/// The arcs read so far, in order. An arc is looked up by a mark for its two jobs. Contracts see them as a list.
+/// The arcs read so far, in order. An arc is looked up by a flag for its two jobs. Contracts see them as a list.
 #[derive(Drop)]
 pub(crate) struct Arcs {
     list: List<Arc>,
-    marks: Vec<bool>,
+    flags: Vec<bool>,
 }
 
 impl Model for Arcs {
@@ -21,32 +21,32 @@ impl Model for Arcs {
 
     ghost Value = { Items ArcValue };
 
-    ghost use Rattle.msp_file.specs.instance.Marks.{AreMarked};
+    ghost use Rattle.msp_file.specs.instance.ArcFlags.{AreFlagged};
 
     ghost view = { λ a. a.list };
 
-    ghost invariant = { λ a. AreMarked a.list a.marks.items };
+    ghost invariant = { λ a. AreFlagged a.list a.flags.items };
 }
 
-/// Whether there is a mark at a place.
-fn is_marked(marks: &[bool], place: usize) -> bool
-    ensures { result ≡ mark_at marks.now place }
+/// Whether there is a flag at a place.
+fn is_flagged(flags: &[bool], place: usize) -> bool
+    ensures { result ≡ flag_at flags.now place }
 {
-    match marks.get(place) {
-        Some(mark) => *mark,
+    match flags.get(place) {
+        Some(flag) => *flag,
         None => false,
     }
 }
 
-/// Makes room for the marks of a job's arcs, as far as there is none, and marks none of them.
-fn make_room(marks: &mut Vec<bool>, job: usize) -> Result<(), NoMemory>
+/// Makes room for the flags of a job's arcs, as far as there is none, and flags none of them.
+fn make_room(flags: &mut Vec<bool>, job: usize) -> Result<(), NoMemory>
     requires { job < MOST_JOBS }
-    ensures room { OnOk result ((job + 1) * MOST_JOBS ≤ length marks.new.items) }
-    ensures same { (place : ℕ) → mark_at marks.new.items place ≡ mark_at marks.old.items place }
+    ensures room { OnOk result ((job + 1) * MOST_JOBS ≤ length flags.new.items) }
+    ensures same { (place : ℕ) → flag_at flags.new.items place ≡ flag_at flags.old.items place }
 {
     let wanted = (job + 1) * MOST_JOBS;
-    if marks.len() < wanted {
-        marks.resize(wanted, false)?;
+    if flags.len() < wanted {
+        flags.resize(wanted, false)?;
     }
     Ok(())
 }
@@ -58,7 +58,7 @@ impl Arcs {
     {
         Arcs {
             list: List::new(alloc),
-            marks: Vec::new(alloc),
+            flags: Vec::new(alloc),
         }
     }
 
@@ -72,16 +72,17 @@ impl Arcs {
     pub(crate) fn add(&mut self, arc: Arc) -> Result<bool, NoMemory>
         requires before { arc.before < MOST_JOBS }
         requires after { arc.after < MOST_JOBS }
-        ensures { IfOk result (λ b. MatchBool b ((is_arc_among self.old arc.before arc.after ≡ false) × (self.new ≡ self.old ++ arc ∷ [])) ((is_arc_among self.old arc.before arc.after ≡ true) × (self.new ≡ self.old))) }
+        ensures { IfOk result (λ b. MatchBool b ((is_arc_among self.old arc.before arc.after ≡ false) × (self.new ≡ self.old ++ arc ∷ []))
+            ((is_arc_among self.old arc.before arc.after ≡ true) × (self.new ≡ self.old))) }
     {
         let job = arc.before as usize;
         let place = job * MOST_JOBS + arc.after as usize;
-        if is_marked(self.marks.as_slice(), place) {
+        if is_flagged(self.flags.as_slice(), place) {
             return Ok(false);
         }
-        make_room(&mut self.marks, job)?;
+        make_room(&mut self.flags, job)?;
         self.list.put(arc)?;
-        self.marks[place] = true;
+        self.flags[place] = true;
         Ok(true)
     }
 
@@ -91,7 +92,7 @@ impl Arcs {
     {
         let Arcs {
             list,
-            marks: _marks,
+            flags: _flags,
         } = self;
         list
     }

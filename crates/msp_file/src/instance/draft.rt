@@ -1,9 +1,9 @@
 // The lines of jobs and arcs.
 ghost use Rattle.std.specs.Prelude.{◌≡◌, ◌++◌, ◌∷◌, [], ◌≤◌, ◌<◌, false, not, length, bytes_eq, MatchResult, Ok, OnOk};
 ghost use Rattle.std.specs.List.{list_any};
-ghost use Rattle.msp_instance.specs.declared.ranges.TheConstants.{MOST_JOBS};
+ghost use Rattle.msp_class.specs.declared.sizes.TheConstants.{MOST_JOBS};
 ghost use Rattle.msp_grammar.specs.lines.Answers.{Gives};
-ghost use Rattle.msp_file.specs.instance.Marks.{is_arc_among};
+ghost use Rattle.msp_file.specs.instance.ArcFlags.{is_arc_among};
 ghost use Rattle.msp_grammar.specs.lines.Reading.{provided};
 ghost use Rattle.msp_file.specs.instance.Reading.{with_arc, arc_line_at, time_in, job_at_line, arc_step, ReadsArcs, ReadsJobs};
 ghost use Rattle.msp_grammar.specs.lines.Steps.{Moves, MovesBy, AfterLine, place_of, fields_after};

@@ -1,7 +1,7 @@
 // The lines before those of the jobs.
 ghost use Rattle.std.specs.Prelude.{◌≡◌, ◌<◌, ◌≤◌, [], length, All, IfOk, OnOk, MatchResult};
 ghost use Rattle.msp_class.specs.declared.list.TheConstants.{PLACES};
-ghost use Rattle.msp_instance.specs.declared.ranges.TheConstants.{GREATEST_SPEED};
+ghost use Rattle.msp_class.specs.declared.sizes.TheConstants.{GREATEST_SPEED};
 ghost use Rattle.msp_grammar.specs.lines.Answers.{Fails, Gives};
 ghost use Rattle.msp_grammar.specs.lines.Reading.{fields_of, number_line_at};
 ghost use Rattle.msp_file.specs.instance.Reading.{version_at, class_in, class_at, machines_line_at, machines_at, speeds_in, speeds_line_at, speeds_at, time_line_at, time_at};

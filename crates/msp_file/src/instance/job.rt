@@ -1,7 +1,7 @@
 // The line of a job.
 ghost use Rattle.std.specs.Prelude.{◌≡◌, ◌<◌, ◌≤◌, false, bytes_eq, Err, IfOk};
 ghost use Rattle.std.specs.List.{list_any};
-ghost use Rattle.msp_instance.specs.declared.ranges.TheConstants.{GREATEST};
+ghost use Rattle.msp_class.specs.declared.sizes.TheConstants.{GREATEST};
 ghost use Rattle.msp_grammar.specs.lines.Answers.{Gives};
 ghost use Rattle.msp_grammar.specs.lines.Reading.{job_name_at};
 ghost use Rattle.msp_file.specs.instance.Reading.{keyed_at, natural_key_at, integer_key_at, keys_at, count_of_keys, most_keys, job_line_at};

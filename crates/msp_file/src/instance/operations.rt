@@ -5,7 +5,8 @@ ghost use Rattle.msp_class.specs.declared.list.TheConstants.{PLACES};
 ghost use Rattle.msp_class.specs.Env.{kind_of};
 ghost use Rattle.msp_grammar.specs.lines.Answers.{Gives};
 ghost use Rattle.msp_grammar.specs.lines.Reading.{machine_at};
-ghost use Rattle.msp_file.specs.instance.Reading.{with_need, times_at, timed_route_at, machine_route_at, operations_at, operations_in, is_route_count, times_line_at, route_line_at, unwritten_needs, needs_at};
+ghost use Rattle.msp_file.specs.instance.Reading.{with_need, times_at, timed_route_at, machine_route_at, operations_at, operations_in, is_route_count, times_line_at};
+ghost use Rattle.msp_file.specs.instance.Reading.{route_line_at, unwritten_needs, needs_at};
 ghost use Rattle.msp_grammar.specs.lines.Steps.{Leads, Moves, place_of, fields_after, slice_limit};
 
 use msp_class::{Class, Env, List, MOST_OPERATIONS, NoMemory, env_kind, most_operations};

@@ -207,7 +207,8 @@ pub fn read_front(alloc: Global, bytes: &[u8]) -> Result<Front, FileFault>
     // What is read is the text of the instance, and all after it is left.
     ensures text { IfOk result (λ f. IsFrontText bytes.now f.filed.instance f.filed.names f.used f.line) }
     // The text of an instance at the front is read as that instance, unless memory runs out.
-    ensures again { (i : InstanceValue) (names : Items (Items ℕ)) (used line : ℕ) → IsFrontText bytes.now i names used line → Gives (λ f. f) result (Ok (record { filed = record { instance = i; names = names }; used = used; line = line })) }
+    ensures again { (i : InstanceValue) (names : Items (Items ℕ)) (used line : ℕ) → IsFrontText bytes.now i names used line
+        → Gives (λ f. f) result (Ok (record { filed = record { instance = i; names = names }; used = used; line = line })) }
     // A text breaks at most these conditions of its class, and what follows it is no fault.
     ensures front_faults { IfErr result (λ e. IsFrontFault e) }
 {

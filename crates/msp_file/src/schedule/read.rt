@@ -13,20 +13,14 @@ ghost use Rattle.msp_grammar.specs.lines.Steps.{GivesBy, Moves, MovesBy, AfterLi
 
 use msp_class::{List, MOST_OPERATIONS};
 use msp_grammar::{
-    FileFault, GREATEST_COST, Lines, MOST_BYTES, What, cost_line_at, count_fields, end_line,
-    known_at, line_at, next_field, number_line_at, ordinal_at, split_word, wide_at, word_line_at,
+    FileFault, GREATEST_COST, Lines, MOST_BYTES, Stated, What, cost_line_at, count_fields,
+    end_line, known_at, line_at, next_field, number_line_at, ordinal_at, split_word, wide_at,
+    word_line_at,
 };
 use msp_instance::MOST_MACHINES;
 use msp_job_name::Names;
-use msp_schedule::{Frac, GREATEST_MOMENT, GREATEST_UNIT, MOST_PIECES, Piece, Schedule};
+use msp_schedule::{GREATEST_MOMENT, GREATEST_UNIT, MOST_PIECES, Piece, Schedule};
 use std::alloc::Global;
-
-/// A schedule and its cost, as a text states them.
-#[derive(Drop)]
-pub struct Stated {
-    pub schedule: Schedule,
-    pub cost: Frac,
-}
 
 #[tactic(auto, unfolding(crate::specs::schedule::Reading::unit_at))]
 fn unit_at(lines: &mut Lines<'_>) -> Result<i128, FileFault>

@@ -9,7 +9,7 @@ use Rattle.std.proofs.lemmas.Bool.{leb-true, le-leb}
 use Rattle.std.proofs.lemmas.Int.{ints}
 use Rattle.std.proofs.lemmas.List.Folds.{list_any-append}
 use Rattle.std.proofs.lemmas.List.Splits.{join_with_byte-slice_split, length-slice_split}
-use Rattle.msp_name.proofs.Marks.{Lacks, parts-whole, parts-first}
+use Rattle.msp_name.proofs.Separators.{Lacks, parts-whole, parts-first}
 use Rattle.msp_instance.specs.Conditions.{LiesWithin}
 use Rattle.msp_schedule.specs.declared.Frac.{Frac}
 use Rattle.msp_text.specs.Numbers.{number_of}
@@ -38,7 +38,8 @@ numbered at w x small e = number_spells w x (ok_some (number_of w) (Number at) x
 numbered_again : (at : ℕ) (x : ℤ) → unsigned_abs x < 10 ^ 64 → number_at at (signed_decimal x) ≡ Ok x
 numbered_again at x small = rw (number_again x small) refl
 
-fraction_taken : (x : Frac) (w first : List ℕ) (others : List (List ℕ)) (at : ℕ) → slashed w ≡ first ∷ others → first ≡ signed_decimal x.num → denominator_at at others ≡ Ok x.den → unsigned_abs x.den < 10 ^ 64 → IsFractionText x w
+fraction_taken : (x : Frac) (w first : List ℕ) (others : List (List ℕ)) (at : ℕ)
+    → slashed w ≡ first ∷ others → first ≡ signed_decimal x.num → denominator_at at others ≡ Ok x.den → unsigned_abs x.den < 10 ^ 64 → IsFractionText x w
 fraction_taken x w first [] at cut is e small = alone (sym (ok_is (pos 1) x.den e)) (sym (join_with_byte-slice_split 47 w) ∙ ap (join_with_byte 47) cut ∙ is)
 fraction_taken x w first (part ∷ []) at cut is e small =
     over (
@@ -112,14 +113,16 @@ module _ (greatest : ℕ) (limit : greatest ≤ GREATEST_COST) where
       let size : unsigned_abs x.num ≤ greatest = subst (λ (y : ℤ). unsigned_abs y ≤ greatest) num (leb-true (unsigned_abs n.0) greatest c.0) in
       let top : number_at at (first_of (slashed w)) ≡ Ok x.num = n.1 ∙ ap reads num in
       let bottom : denominator_at at (others_of (slashed w)) ≡ Ok x.den = d.1 ∙ ap reads (range.0 ∙ den) in (
-        fraction_taken x w (first_of (slashed w)) (others_of (slashed w)) at (first_part w) (numbered at (first_of (slashed w)) x.num (omega (arith, size)) top) bottom (small_den s.0 x.den den range.2),
+        fraction_taken x w (first_of (slashed w)) (others_of (slashed w)) at
+            (first_part w) (numbered at (first_of (slashed w)) x.num (omega (arith, size)) top) bottom (small_den s.0 x.den den range.2),
         record { num = within_size greatest x.num size; den = range_den s.0 x.den den range.1 range.2 },
       )
 
   cost_made : (at : ℕ) (x : Frac) → IsCostWithin greatest x → cost_of greatest at x.num x.den ≡ Ok (parts_of x)
   cost_made at x h =
       let d = size_is x.den h.den in
-      let range : natural_in at what.Cost 1 GREATEST_DENOMINATOR x.den ≡ Ok d.size = ap (natural_in at what.Cost 1 GREATEST_DENOMINATOR) d.is ∙ rw (le-leb 1 d.size d.low, le-leb d.size GREATEST_DENOMINATOR d.high) refl in
+      let range : natural_in at what.Cost 1 GREATEST_DENOMINATOR x.den ≡ Ok d.size =
+      ap (natural_in at what.Cost 1 GREATEST_DENOMINATOR) d.is ∙ rw (le-leb 1 d.size d.low, le-leb d.size GREATEST_DENOMINATOR d.high) refl in
       provided_again (nat_le (unsigned_abs x.num) greatest) (Limit at what.Cost) _ _ (le-leb (unsigned_abs x.num) greatest (size_within greatest x.num h.num))
       (bind_again _ _ _ _ range (ap (λ (y : ℤ). reads (pair x.num y)) (sym d.is)))
 
@@ -172,7 +175,8 @@ module _ (greatest : ℕ) (limit : greatest ≤ GREATEST_COST) where
         range = taken.1;
       }
 
-  pub cost_line_again : (word : List ℕ) (at : ℕ) (w : List ℕ) (x : Frac) (rest : List ℕ) → IsField word → IsFractionText x w → IsCostWithin greatest x → Gets (cost_line_at word greatest (record { at = at; rest = line_text (word ∷ w ∷ []) ++ rest })) (parts_of x) rest
+  pub cost_line_again : (word : List ℕ) (at : ℕ) (w : List ℕ) (x : Frac) (rest : List ℕ) → IsField word → IsFractionText x w
+      → IsCostWithin greatest x → Gets (cost_line_at word greatest (record { at = at; rest = line_text (word ∷ w ∷ []) ++ rest })) (parts_of x) rest
   unfolding cost_line_at
   cost_line_again word at w x rest worded is h =
       let field : IsField w = plain_word w (fraction_lacks 32 w x refl refl refl is h) (fraction_lacks 10 w x refl refl refl is h) in

@@ -31,7 +31,8 @@ spelled_ok : (r : Result ℤ FileFault) (n : Spelled) → Ok n ≡ spelled_as r 
 spelled_ok (Ok x) n e = (x, refl, cc)
 spelled_ok (Err d) n e = absurd cc
 
-pub cost_done : (greatest at : ℕ) (field top rest : List ℕ) (n d : Spelled) (result : Result Frac FileFault) → slice_split (λ x. x == 47) field ≡ top ∷ parts_after 47 rest → Ok n ≡ spelled_as (number_at at top) → Ok d ≡ spelled_as (denominator_at at (parts_after 47 rest))
+pub cost_done : (greatest at : ℕ) (field top rest : List ℕ) (n d : Spelled) (result : Result Frac FileFault)
+    → slice_split (λ x. x == 47) field ≡ top ∷ parts_after 47 rest → Ok n ≡ spelled_as (number_at at top) → Ok d ≡ spelled_as (denominator_at at (parts_after 47 rest))
     → ((x y : ℤ) → n ≡ capped x → d ≡ capped y → Gives parts_of result (cost_of greatest at x y)) → Gives parts_of result (cost_in greatest at field)
 unfolding cost_in
 cost_done greatest at field top rest n d result cut e f h =

@@ -12,7 +12,8 @@ use Rattle.msp_grammar.specs.declared.lines.fault.FileFault.{FileFault}
 use Rattle.msp_grammar.specs.declared.lines.fault.FileFault.TheVariants.{Limit}
 use Rattle.msp_grammar.specs.declared.lines.fault.What.{What}
 use Rattle.msp_grammar.specs.declared.lines.fault.What.TheVariants as what
-use Rattle.msp_grammar.specs.lines.Reading.{◌>>=◌, Place, line_at, field_line_at, natural_in, first_of, others_of, LineRead, job_read, more_read, end_read, ReadsMore, more_then, more_end, more_fault, Then, ReadsBy}
+use Rattle.msp_grammar.specs.lines.Reading.{◌>>=◌, Place, line_at, field_line_at, natural_in, first_of, others_of, LineRead, job_read, more_read, end_read, ReadsMore, more_then}
+use Rattle.msp_grammar.specs.lines.Reading.{more_end, more_fault, Then, ReadsBy}
 use Rattle.msp_grammar.specs.lines.Costs.{number_at, denominator_at, cost_of, cost_in, cost_line_at}
 use Rattle.msp_grammar.proofs.reading.LineLaws.{bind_ok, provided_ok, ok_is, Takes, line_takes}
 
@@ -56,7 +57,8 @@ module _ {A : Type 0} (step : A → Place → Result (LineRead A) FileFault) (sh
 
 -- ---- what comes first, and what comes next
 
-pub then_ends : {A B : Type 0} (first : Result A FileFault) (next : A → Result B FileFault → Type 0) → ((x : A) → first ≡ Ok x → (r : Result B FileFault) × next x r) → (r : Result B FileFault) × Then first next r
+pub then_ends : {A B : Type 0} (first : Result A FileFault) (next : A → Result B FileFault → Type 0)
+    → ((x : A) → first ≡ Ok x → (r : Result B FileFault) × next x r) → (r : Result B FileFault) × Then first next r
 then_ends (Ok x) next k = k x refl
 then_ends (Err e) next k = (Err e, refl)
 

@@ -1,5 +1,6 @@
 -- A field that is read is the field that was written, and what was written is read again.
-use Rattle.std.proofs.Common.{◌≡◌, ◌≢◌, ℕ, suc, ◌<◌, ◌≤◌, ◌^◌, Bool, true, false, ◌&&◌, ◌||◌, ◌==◌, nat_le, List, [], ◌∷◌, length, get_or, position, bytes_eq, Option, Some, None, ok_or, Ok, ℤ, pos, negsuc, unsigned_abs, All, refl, sym, ap, subst, ◌∙◌, arith, decimal, ◌++◌, ◌+◌, ◌-◌}
+use Rattle.std.proofs.Common.{◌≡◌, ◌≢◌, ℕ, suc, ◌<◌, ◌≤◌, ◌^◌, Bool, true, false, ◌&&◌, ◌||◌, ◌==◌, nat_le, List, [], ◌∷◌, length, get_or, position, bytes_eq, Option, Some, None}
+use Rattle.std.proofs.Common.{ok_or, Ok, ℤ, pos, negsuc, unsigned_abs, All, refl, sym, ap, subst, ◌∙◌, arith, decimal, ◌++◌, ◌+◌, ◌-◌}
 use Rattle.std.specs.Char.{is_ascii_digit}
 use Rattle.std.specs.Fmt.{signed_decimal}
 use Rattle.std.specs.List.{list_all, list_any, position_or_len}
@@ -10,9 +11,9 @@ use Rattle.std.proofs.lemmas.Slice.Eq.{bytes_eq-Decides}
 use Rattle.std.proofs.lemmas.Str.Parse.{numerals_by_value, tells_all_ascii_digits}
 use Rattle.std.proofs.lemmas.List.Quantifiers.{position-Some}
 use Rattle.std.proofs.lemmas.List.Sums.{AllPass-from_list_all, list_all-from_AllPass, position_or_len_is}
-use Rattle.msp_name.proofs.Marks.{Lacks}
+use Rattle.msp_name.proofs.Separators.{Lacks}
 use Rattle.msp_instance.specs.Conditions.{LiesWithin}
-use Rattle.msp_instance.specs.declared.ranges.TheConstants.{GREATEST}
+use Rattle.msp_class.specs.declared.sizes.TheConstants.{GREATEST}
 use Rattle.msp_job_name.specs.declared.job_name.TheConstants.{LONGEST_NAME}
 use Rattle.msp_grammar.specs.declared.lines.fault.FileFault.{FileFault}
 use Rattle.msp_grammar.specs.declared.lines.fault.FileFault.TheVariants.{Number, Limit, Name, Unknown, Count}
@@ -50,7 +51,8 @@ natural_in_takes at quantity least greatest (pos m) n e =
     (ap pos same, subst (λ k. least ≤ k) same (leb-true least m both.0), subst (λ k. k ≤ greatest) same (leb-true m greatest both.1))
 natural_in_takes at quantity least greatest (negsuc m) n e = absurd cc
 
-pub wide_takes : (at : ℕ) (quantity : What) (least greatest : ℕ) (w : List ℕ) (n : ℕ) → greatest < 10 ^ 64 → natural_at at quantity least greatest w ≡ Ok n → (w ≡ decimal n) × (least ≤ n) × (n ≤ greatest)
+pub wide_takes : (at : ℕ) (quantity : What) (least greatest : ℕ) (w : List ℕ) (n : ℕ)
+    → greatest < 10 ^ 64 → natural_at at quantity least greatest w ≡ Ok n → (w ≡ decimal n) × (least ≤ n) × (n ≤ greatest)
 unfolding natural_at
 wide_takes at quantity least greatest w n h e =
     let b = bind_ok (ok_or (number_of w) (Number at)) (natural_in at quantity least greatest) n e in
@@ -59,7 +61,8 @@ wide_takes at quantity least greatest w n h e =
     let high : n ≤ greatest = t.2 in
     (number_spells w (pos n) is (omega arith), t.1, t.2)
 
-pub natural_takes : (at : ℕ) (quantity : What) (least greatest : ℕ) (w : List ℕ) (n : ℕ) → greatest ≤ GREATEST → natural_at at quantity least greatest w ≡ Ok n → (w ≡ decimal n) × (least ≤ n) × (n ≤ greatest)
+pub natural_takes : (at : ℕ) (quantity : What) (least greatest : ℕ) (w : List ℕ) (n : ℕ)
+    → greatest ≤ GREATEST → natural_at at quantity least greatest w ≡ Ok n → (w ≡ decimal n) × (least ≤ n) × (n ≤ greatest)
 natural_takes at quantity least greatest w n h e = wide_takes at quantity least greatest w n (omega arith) e
 
 pub wide_again : (at : ℕ) (quantity : What) (least greatest n : ℕ) → greatest < 10 ^ 64 → least ≤ n → n ≤ greatest → natural_at at quantity least greatest (decimal n) ≡ Ok n
@@ -171,7 +174,8 @@ differs a b h = by (bytes_eq b a) refl
 -- a name of distinct ones is found at its place
 found_again : (names : List (List ℕ)) (k : ℕ) → AreDistinct names → k < length names → position (bytes_eq (get_or names k [])) names ≡ Some k
 found_again names k apart h =
-    let place : position_or_len (bytes_eq (get_or names k [])) names ≡ k = position_or_len_is (bytes_eq (get_or names k [])) names k [] (omega arith) (λ j before. differs (get_or names j []) (get_or names k []) (apart j k [] before h)) (λ within. (bytes_eq-Decides (get_or names k []) (get_or names k [])).1 refl) in
+    let place : position_or_len (bytes_eq (get_or names k [])) names ≡ k = position_or_len_is (bytes_eq (get_or names k [])) names k [] (omega arith)
+    (λ j before. differs (get_or names j []) (get_or names k []) (apart j k [] before h)) (λ within. (bytes_eq-Decides (get_or names k []) (get_or names k [])).1 refl) in
     rw (place, lt-ltb k (length names) h) refl
 
 pub known_again : (at : ℕ) (names : List (List ℕ)) (k : ℕ) → AreDistinct names → All IsJobName names → k < length names → known_at at names (name_at names k) ≡ Ok k
@@ -181,7 +185,8 @@ known_again at names k apart spelled h =
 
 -- ---- numbers from 1, and lines of one number
 
-pub number_line_takes : (word : List ℕ) (quantity : What) (greatest : ℕ) (p : Place) (x : ℕ × Place) → greatest < 10 ^ 64 → number_line_at word quantity greatest p ≡ Ok x → Takes p (line_text (word ∷ decimal x.0 ∷ [])) x.1 × ((1 ≤ x.0) × (x.0 ≤ greatest))
+pub number_line_takes : (word : List ℕ) (quantity : What) (greatest : ℕ) (p : Place) (x : ℕ × Place)
+    → greatest < 10 ^ 64 → number_line_at word quantity greatest p ≡ Ok x → Takes p (line_text (word ∷ decimal x.0 ∷ [])) x.1 × ((1 ≤ x.0) × (x.0 ≤ greatest))
 unfolding number_line_at
 number_line_takes word quantity greatest p x few h =
     let l = bind_ok (worded_at word p) _ x h in

@@ -12,19 +12,20 @@ pub fields_counted : (rest : List ℕ) (n : ℕ) → 1 ≤ length rest → n ≡
 fields_counted [] n h e = absurd (omega arith)
 fields_counted (space ∷ bytes) n h e = ap (λ m. m + 1) e ∙ sym (length-slice_split (λ x. x == 32) bytes)
 
--- a part ends at the first mark
-pub part_some : (mark : ℕ) (line : List ℕ) (k : ℕ) → Some k ≡ position (λ x. x == mark) line → slice_split (λ x. x == mark) line ≡ take k line ∷ parts_after mark (drop k line)
-part_some mark line k e =
-    let cut = cut-slices mark k line e in
+-- a part ends at the first separator
+pub part_some : (separator : ℕ) (line : List ℕ) (k : ℕ) → Some k ≡ position (λ x. x == separator) line → slice_split (λ x. x == separator) line ≡ take k line ∷ parts_after separator (drop k line)
+part_some separator line k e =
+    let cut = cut-slices separator k line e in
     let within : k < length line = omega (arith, cut.1, length-take k line) in
     let rest : drop k line ≡ get_or line k 0 ∷ drop (k + 1) line = rw (add-one, drop-cons line k 0 within) refl in
-    rw rest (cut.0 ∙ ap (λ bs. take k line ∷ slice_split (λ x. x == mark) bs) (take_rest line (k + 1)))
+    rw rest (cut.0 ∙ ap (λ bs. take k line ∷ slice_split (λ x. x == separator) bs) (take_rest line (k + 1)))
 
-pub part_none : (mark : ℕ) (line : List ℕ) → None ≡ position (λ x. x == mark) line → slice_split (λ x. x == mark) line ≡ take (length line) line ∷ parts_after mark (drop (length line) line)
-part_none mark line e =
+pub part_none : (separator : ℕ) (line : List ℕ) → None ≡ position (λ x. x == separator) line
+    → slice_split (λ x. x == separator) line ≡ take (length line) line ∷ parts_after separator (drop (length line) line)
+part_none separator line e =
     let whole : take (length line) line ≡ line = take_all (length line) line (omega arith) in
     let rest : drop (length line) line ≡ [] = drop_all (length line) line (omega arith) in
-    rw (whole, rest) (cut-none mark line (sym e))
+    rw (whole, rest) (cut-none separator line (sym e))
 
 pub ruleset split_rules = (part_some, part_none)
 

@@ -1,5 +1,6 @@
 -- Reading lines gives plain faults alone, which texts of every kind can have.
-use Rattle.std.proofs.Common.{◌≡◌, ◌⊎◌, inl, inr, ℕ, sym, ◌+◌, nat_le, Bool, true, false, ◌==◌, List, [], ◌∷◌, length, Option, None, Some, Result, Ok, Err, ok_or, position, bytes_eq, codes, ℤ, pos, negsuc, unsigned_abs, refl, ap, subst, take, drop, if◌then◌else◌}
+use Rattle.std.proofs.Common.{◌≡◌, ◌⊎◌, inl, inr, ℕ, sym, ◌+◌, nat_le, Bool, true, false, ◌==◌, List, [], ◌∷◌, length, Option, None, Some, Result, Ok, Err, ok_or, position}
+use Rattle.std.proofs.Common.{bytes_eq, codes, ℤ, pos, negsuc, unsigned_abs, refl, ap, subst, take, drop, if◌then◌else◌}
 use Rattle.msp_grammar.specs.declared.limits.TheConstants.{GREATEST_DENOMINATOR}
 use Rattle.msp_grammar.specs.lines.Costs.{denominator_at, cost_in, cost_line_at}
 use Rattle.msp_grammar.specs.declared.lines.fault.What.{What}
@@ -8,7 +9,8 @@ use Rattle.msp_grammar.specs.declared.lines.fault.FileFault.TheVariants.{Missing
 use Rattle.msp_grammar.specs.declared.lines.fault.What.TheVariants as what
 use Rattle.msp_job_name.specs.declared.job_name.TheConstants.{LONGEST_NAME}
 use Rattle.msp_text.specs.Numbers.{number_of}
-use Rattle.msp_grammar.specs.lines.Reading.{first_of, ◌>>=◌, provided, Place, line_at, worded_at, word_line_at, field_line_at, natural_in, natural_at, ordinal_at, number_line_at, integer_at, is_name_text, job_name_at, known_at, end_at, LineRead, end_read, ReadsMore, more_then, more_end, more_fault, Then, all_of}
+use Rattle.msp_grammar.specs.lines.Reading.{first_of, ◌>>=◌, provided, Place, line_at, worded_at, word_line_at, field_line_at, natural_in, natural_at, ordinal_at, number_line_at}
+use Rattle.msp_grammar.specs.lines.Reading.{integer_at, is_name_text, job_name_at, known_at, end_at, LineRead, end_read, ReadsMore, more_then, more_end, more_fault, Then, all_of}
 
 -- A fault of a line that texts of every kind can have.
 abbrev pub IsPlainFault : FileFault → Type 0
@@ -56,7 +58,8 @@ pub line_plain : (p : Place) → IsPlain (line_at p)
 unfolding line_at
 line_plain p = by (position (λ x. x == 10) p.rest) p.rest
   where
-    by : (o : Option ℕ) (rest : List ℕ) → IsPlain {A = List ℕ × Place} (elim o [ Some k ↦ Ok (take k p.rest, record { at = p.at + 1; rest = drop (k + 1) p.rest }) | None ↦ Err (elim rest [ [] ↦ Missing p.at | _ ∷ _ ↦ Cut p.at ]) ])
+    by : (o : Option ℕ) (rest : List ℕ)
+        → IsPlain {A = List ℕ × Place} (elim o [ Some k ↦ Ok (take k p.rest, record { at = p.at + 1; rest = drop (k + 1) p.rest }) | None ↦ Err (elim rest [ [] ↦ Missing p.at | _ ∷ _ ↦ Cut p.at ]) ])
     by (Some k) rest = fine _
     by None [] = bad _ tt
     by None (x ∷ xs) = bad _ tt
@@ -111,12 +114,14 @@ is_fine {P} r x e = subst (InBy P) (sym e) (fine x)
 pub is_bad : {P : FileFault → Type 0} {A B : Type 0} (r : Result A FileFault) (step : Result B FileFault) (e : FileFault) → InBy P step → step ≡ Err e → r ≡ Err e → InBy P r
 is_bad {P} r step e h k is = subst (InBy P) (sym is) (bad e (h.fault e k))
 
-pub more : {P : FileFault → Type 0} {A : Type 0} (step : A → Place → Result (LineRead A) FileFault) → ((d : A) (p : Place) → InBy P (step d p)) → (d : A) (p : Place) (r : Result (A × Place) FileFault) → ReadsMore step d p r → InBy P r
+pub more : {P : FileFault → Type 0} {A : Type 0} (step : A → Place → Result (LineRead A) FileFault)
+    → ((d : A) (p : Place) → InBy P (step d p)) → (d : A) (p : Place) (r : Result (A × Place) FileFault) → ReadsMore step d p r → InBy P r
 more step h d p r (more_then _ e _ q _ one rest) = more step h e q r rest
 more step h d p r (more_end _ e _ q _ one is) = is_fine r (e, q) is
 more step h d p r (more_fault _ _ _ fault one is) = is_bad r (step d p) fault (h d p) one is
 
-pub then_in : {P : FileFault → Type 0} {A B : Type 0} (first : Result A FileFault) (next : A → Result B FileFault → Type 0) (r : Result B FileFault) → InBy P first → ((x : A) → next x r → InBy P r) → Then first next r → InBy P r
+pub then_in : {P : FileFault → Type 0} {A B : Type 0} (first : Result A FileFault) (next : A → Result B FileFault → Type 0) (r : Result B FileFault)
+    → InBy P first → ((x : A) → next x r → InBy P r) → Then first next r → InBy P r
 then_in (Ok x) next r h k t = k x t
 then_in (Err e) next r h k t = is_bad r (Err e) e h refl t
 
@@ -129,7 +134,7 @@ whole_in {P} (Ok x) e h is = last (length x.1.rest == 0) is
     last true same = absurd cc
     last false same = inr (x.1.at, cc)
 
--- reading a whole text gives no want of memory, where its lines give none
+-- reading a whole text gives no out of memory, where its lines give none
 pub whole_remembers : {P : FileFault → Type 0} {A : Type 0} (lines : Result (A × Place) FileFault) → InBy P lines → ¬ P Memory → ¬ (Err Memory ≡ (lines >>= all_of))
 whole_remembers {P} lines h none is = by (whole_in lines Memory h is)
   where

@@ -1,5 +1,7 @@
 -- A line that is read is the line that was written, and what was written is read again.
-use Rattle.std.proofs.Common.{◌≡◌, ℕ, suc, ◌+◌, ◌≤◌, Bool, true, false, ltb, ◌||◌, ◌==◌, List, [], ◌∷◌, ◌++◌, length, take, drop, get_or, position, bytes_eq, Option, Some, None, Result, Ok, Err, refl, sym, ap, subst, ◌∙◌, append_assoc, length-append, take-append-drop, drop-cons, take_at, drop_at, add-one, one-add, arith, codes}
+use Rattle.std.proofs.Common.{◌≡◌, ℕ, suc, ◌+◌, ◌≤◌, Bool, true, false, ltb, ◌||◌, ◌==◌, List, [], ◌∷◌, ◌++◌, length, take, drop, get_or, position, bytes_eq, Option, Some, None}
+use Rattle.std.proofs.Common.{Result, Ok, Err, refl, sym, ap, subst, ◌∙◌, append_assoc, length-append, take-append-drop, drop-cons, take_at, drop_at, add-one, one-add, arith}
+use Rattle.std.proofs.Common.{codes}
 use Rattle.std.specs.List.{AllByRecursion, join_with_byte, list_any, position_or_len}
 use Rattle.std.proofs.lemmas.Bool.{eqb-true, lt-ltb}
 use Rattle.std.proofs.lemmas.Slice.Eq.{bytes_eq-Decides}
@@ -7,7 +9,7 @@ use Rattle.std.proofs.lemmas.List.{nil_from_length}
 use Rattle.std.proofs.lemmas.List.Folds.{list_any-append}
 use Rattle.std.proofs.lemmas.List.Quantifiers.{position-Some}
 use Rattle.std.proofs.lemmas.List.Splits.{join_with_byte-slice_split, length-slice_split}
-use Rattle.msp_name.proofs.Marks.{Lacks, parts-whole, parts-first}
+use Rattle.msp_name.proofs.Separators.{Lacks, parts-whole, parts-first}
 use Rattle.msp_grammar.specs.declared.lines.fault.FileFault.{FileFault}
 use Rattle.msp_grammar.specs.declared.lines.fault.FileFault.TheVariants.{Missing, Cut, Line, Count}
 use Rattle.msp_grammar.specs.ScheduleText.{line_feed}
@@ -130,7 +132,8 @@ fields_takes p x e =
     let whole : join_with_byte 32 (first_of (fields_of x.0) ∷ others_of (fields_of x.0)) ≡ x.0 = ap (join_with_byte 32) (fields_begin x.0) ∙ fields_join x.0 in
     line_takes p x e ∙ ap (λ line. (line ++ line_feed) ++ x.1.rest) (sym whole)
 
-pub fields_line_again : (at : ℕ) (w : List ℕ) (ws : List (List ℕ)) (rest : List ℕ) → AllByRecursion IsField (w ∷ ws) → Gets (line_at (record { at = at; rest = line_text (w ∷ ws) ++ rest })) (join_with_byte 32 (w ∷ ws)) rest
+pub fields_line_again : (at : ℕ) (w : List ℕ) (ws : List (List ℕ)) (rest : List ℕ)
+    → AllByRecursion IsField (w ∷ ws) → Gets (line_at (record { at = at; rest = line_text (w ∷ ws) ++ rest })) (join_with_byte 32 (w ∷ ws)) rest
 fields_line_again at w ws rest h = line_again at (join_with_byte 32 (w ∷ ws)) rest (join_lacks w ws h)
 
 pub worded_takes : (word : List ℕ) (p : Place) (x : List (List ℕ) × Place) → worded_at word p ≡ Ok x → Takes p (line_text (word ∷ x.0)) x.1
@@ -143,7 +146,8 @@ worded_takes word p x e =
     subst (λ y. Takes p (line_text (word ∷ y.0)) y.1) (ok_is (others_of (fields_of line.0), line.1) x t.1)
     (subst (λ v. Takes p (line_text (v ∷ others_of (fields_of line.0))) line.1) is (fields_takes p line l.1))
 
-pub worded_again : (word : List ℕ) (ws : List (List ℕ)) (at : ℕ) (rest : List ℕ) → AllByRecursion IsField (word ∷ ws) → Gets (worded_at word (record { at = at; rest = line_text (word ∷ ws) ++ rest })) ws rest
+pub worded_again : (word : List ℕ) (ws : List (List ℕ)) (at : ℕ) (rest : List ℕ)
+    → AllByRecursion IsField (word ∷ ws) → Gets (worded_at word (record { at = at; rest = line_text (word ∷ ws) ++ rest })) ws rest
 unfolding worded_at
 worded_again word ws at rest h =
     let line = fields_line_again at word ws rest h in
@@ -164,7 +168,8 @@ word_line_takes word p q e =
     let none : l.0.0 ≡ [] = nil_from_length l.0.0 (eqb-true _ _ t.0) in
     subst (Takes p (line_text (word ∷ []))) (ok_is l.0.1 q t.1) (subst (λ (ws : List (List ℕ)). Takes p (line_text (word ∷ ws)) l.0.1) none (worded_takes word p l.0 l.1))
 
-pub word_line_again : (word : List ℕ) (at : ℕ) (rest : List ℕ) → IsField word → (next : ℕ) × (word_line_at word (record { at = at; rest = line_text (word ∷ []) ++ rest }) ≡ Ok (record { at = next; rest = rest }))
+pub word_line_again : (word : List ℕ) (at : ℕ) (rest : List ℕ)
+    → IsField word → (next : ℕ) × (word_line_at word (record { at = at; rest = line_text (word ∷ []) ++ rest }) ≡ Ok (record { at = next; rest = rest }))
 unfolding word_line_at
 word_line_again word at rest worded = let line = worded_again word [] at rest (worded, tt) in (line.0, rw line.1 refl)
 
@@ -203,13 +208,16 @@ end_text = line_text (codes "end" ∷ [])
 pub end_field : AllByRecursion IsField (codes "end" ∷ [])
 end_field = (record { no_space = refl; no_line_feed = refl }, tt)
 
-pub end_takes : {A : Type 0} (at : ℕ) (d : A) (fields : List (List ℕ)) (p q : Place) (next : LineRead A) → Takes p (line_text (first_of fields ∷ others_of fields)) q → end_at at d fields q ≡ Ok next → (next ≡ end_read d q) × Takes p end_text q
+pub end_takes : {A : Type 0} (at : ℕ) (d : A) (fields : List (List ℕ)) (p q : Place) (next : LineRead A)
+    → Takes p (line_text (first_of fields ∷ others_of fields)) q → end_at at d fields q ≡ Ok next → (next ≡ end_read d q) × Takes p end_text q
 end_takes at d fields p q next t e =
     let a = provided_ok _ _ _ next e in
     let b = provided_ok _ _ _ next a.1 in
     let first : first_of fields ≡ codes "end" = same_bytes (first_of fields) (codes "end") a.0 in
-    let others : others_of fields ≡ [] = ap others_of (one_field fields b.0) in
-    (sym (ok_is (end_read d q) next b.1), subst (λ (ws : List (List ℕ)). Takes p (line_text (codes "end" ∷ ws)) q) others (subst (λ (w : List ℕ). Takes p (line_text (w ∷ others_of fields)) q) first t))
+    let others : others_of fields ≡ [] = ap others_of (one_field fields b.0) in (
+      sym (ok_is (end_read d q) next b.1),
+      subst (λ (ws : List (List ℕ)). Takes p (line_text (codes "end" ∷ ws)) q) others (subst (λ (w : List ℕ). Takes p (line_text (w ∷ others_of fields)) q) first t),
+    )
 
 -- what is read last
 pub last_is : {A : Type 0} (d e : A) (q : Place) (read : Result (A × Place) FileFault) (x : A × Place) → e ≡ d → read ≡ Ok (e, q) → read ≡ Ok x → x ≡ (d, q)

@@ -57,11 +57,13 @@ module _ {A : Type 0} (step : A → Place → Result (LineRead A) FileFault) whe
   more_same d p r s (more_fault _ _ _ fault other also) (more_end _ e _ q _ one is) = absurd (clash (step d p) (end_read e q) fault one other)
   more_same d p r s (more_fault _ _ _ fault one is) (more_fault _ _ _ other-fault other also) = is ∙ ap Err (same_fault (step d p) fault other-fault one other) ∙ sym also
 
-pub then_same : {A B : Type 0} (first : Result A FileFault) (next : A → Result B FileFault → Type 0) (r s : Result B FileFault) → ((x : A) → next x r → next x s → r ≡ s) → Then first next r → Then first next s → r ≡ s
+pub then_same : {A B : Type 0} (first : Result A FileFault) (next : A → Result B FileFault → Type 0) (r s : Result B FileFault)
+    → ((x : A) → next x r → next x s → r ≡ s) → Then first next r → Then first next s → r ≡ s
 then_same (Ok x) next r s f h k = f x h k
 then_same (Err e) next r s f h k = h ∙ sym k
 
-pub by_same : {A B : Type 0} (last : A → Result B FileFault) (Lines : Result A FileFault → Type 0) → ((r s : Result A FileFault) → Lines r → Lines s → r ≡ s) → (r s : Result B FileFault) → ReadsBy last Lines r → ReadsBy last Lines s → r ≡ s
+pub by_same : {A B : Type 0} (last : A → Result B FileFault) (Lines : Result A FileFault → Type 0)
+    → ((r s : Result A FileFault) → Lines r → Lines s → r ≡ s) → (r s : Result B FileFault) → ReadsBy last Lines r → ReadsBy last Lines s → r ≡ s
 by_same {A} last Lines one r s h k = h.is ∙ ap (λ (lines : Result A FileFault). lines >>= last) (one h.lines k.lines h.reads k.reads) ∙ sym k.is
 
 abbrev fraction : (n d : ℤ) → pos 1 ≤ℤ d → Frac
@@ -78,7 +80,8 @@ pub then_fails : {A B : Type 0} (first : Result A FileFault) (next : A → Resul
 then_fails first next Memory h = tt
 then_fails first next e h = rw h refl
 
-pub then_goes : {A X Y : Type 0} (view : X → Y) (first : Result A FileFault) (next : A → Result (Y × Place) FileFault → Type 0) (x : A) (result : Result X FileFault) (after : Place) → first ≡ Ok x → MovesBy view result after (next x) → MovesBy view result after (Then first next)
+pub then_goes : {A X Y : Type 0} (view : X → Y) (first : Result A FileFault) (next : A → Result (Y × Place) FileFault → Type 0) (x : A) (result : Result X FileFault) (after : Place)
+    → first ≡ Ok x → MovesBy view result after (next x) → MovesBy view result after (Then first next)
 then_goes view first next x result after h k = rw h k
 
 -- the lines of a text, and what follows them
@@ -101,7 +104,8 @@ pub fails_on : {Y : Type 0} (e : FileFault) (R S : Result Y FileFault → Type 0
 fails_on Memory R S f h = tt
 fails_on e R S f h = f (Err e) h
 
-pub moves_on : {X Y : Type 0} (view : X → Y) (result : Result X FileFault) (after : Place) (R S : Result (Y × Place) FileFault → Type 0) → ((r : Result (Y × Place) FileFault) → R r → S r) → MovesBy view result after R → MovesBy view result after S
+pub moves_on : {X Y : Type 0} (view : X → Y) (result : Result X FileFault) (after : Place) (R S : Result (Y × Place) FileFault → Type 0)
+    → ((r : Result (Y × Place) FileFault) → R r → S r) → MovesBy view result after R → MovesBy view result after S
 moves_on view (Ok x) after R S f h = f (Ok (view x, after)) h
 moves_on view (Err e) after R S f h = fails_on e R S f h
 

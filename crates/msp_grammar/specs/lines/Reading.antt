@@ -1,5 +1,6 @@
 -- How the lines of a text and their fields are read, from left to right, up to the first fault.
-use Rattle.std.specs.Prelude.{◌≡◌, ℕ, ◌+◌, ◌-◌, Bool, true, false, ◌&&◌, ◌==◌, nat_le, List, [], ◌∷◌, length, take, drop, Some, None, Result, Ok, Err, ok_or, position, codes, bytes_eq, ℤ, pos, negsuc, unsigned_abs}
+use Rattle.std.specs.Prelude.{◌≡◌, ℕ, ◌+◌, ◌-◌, Bool, true, false, ◌&&◌, ◌==◌, nat_le, List, [], ◌∷◌, length, take, drop, Some, None, Result, Ok, Err, ok_or, position, codes}
+use Rattle.std.specs.Prelude.{bytes_eq, ℤ, pos, negsuc, unsigned_abs}
 use Rattle.std.specs.List.{slice_split, list_all}
 use Rattle.msp_job_name.specs.declared.job_name.TheConstants.{LONGEST_NAME}
 use Rattle.msp_job_name.specs.JobName.{is_name_byte}
@@ -123,7 +124,8 @@ end_at at draft fields place = provided (bytes_eq (first_of fields) (codes "end"
 
 -- Lines are read so by one step each, up to the end or a fault.
 pub data ReadsMore {A : Type 0} (step : A → Place → Result (LineRead A) FileFault) : A → Place → Result (A × Place) FileFault → Type 0 where
-  more_then : (draft more : A) (place next : Place) (read : Result (A × Place) FileFault) → step draft place ≡ Ok (more_read more next) → ReadsMore step more next read → ReadsMore step draft place read
+  more_then : (draft more : A) (place next : Place) (read : Result (A × Place) FileFault)
+      → step draft place ≡ Ok (more_read more next) → ReadsMore step more next read → ReadsMore step draft place read
   more_end : (draft all : A) (place next : Place) (read : Result (A × Place) FileFault) → step draft place ≡ Ok (end_read all next) → read ≡ Ok (all, next) → ReadsMore step draft place read
   more_fault : (draft : A) (place : Place) (read : Result (A × Place) FileFault) (fault : FileFault) → step draft place ≡ Err fault → read ≡ Err fault → ReadsMore step draft place read
 

@@ -37,10 +37,10 @@ place_of lines = record { at = lines.at; rest = lines.rest.now }
 abbrev pub slice_limit : ℕ
 slice_limit = 2 ^ 63
 
--- The parts of a text from the mark before them on.
+-- The parts of a text from the separator before them on.
 abbrev pub parts_after : ℕ → List ℕ → List (List ℕ)
-parts_after mark [] = []
-parts_after mark (first ∷ bytes) = slice_split (λ byte. byte == mark) bytes
+parts_after separator [] = []
+parts_after separator (first ∷ bytes) = slice_split (λ byte. byte == separator) bytes
 
 -- The fields of a line from the space before them on.
 abbrev pub fields_after : List ℕ → List (List ℕ)

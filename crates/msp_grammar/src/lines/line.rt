@@ -16,39 +16,39 @@ use std::simd::prelude::*;
 /// So many bytes are looked at together.
 const RUN: usize = 16;
 
-/// The place of the first mark in a run.
-fn find_in_run(run: &[u8; RUN], mark: u8) -> Option<usize>
-    ensures { result ≡ position (λ x. x == mark) run.now }
+/// The place of the first separator in a run.
+fn find_in_run(run: &[u8; RUN], separator: u8) -> Option<usize>
+    ensures { result ≡ position (λ x. x == separator) run.now }
 {
-    let same = u8x16::from_array(*run).simd_eq(u8x16::splat(mark));
-    let marks = same.to_bitmask();
-    if marks == 0 {
+    let same = u8x16::from_array(*run).simd_eq(u8x16::splat(separator));
+    let hits = same.to_bitmask();
+    if hits == 0 {
         return None;
     }
-    Some(marks.trailing_zeros() as usize)
+    Some(hits.trailing_zeros() as usize)
 }
 
-/// The place of the first mark, byte by byte.
-fn find_by_one(bytes: &[u8], mark: u8) -> Option<usize>
-    ensures { result ≡ position (λ x. x == mark) bytes.now }
+/// The place of the first separator, byte by byte.
+fn find_by_one(bytes: &[u8], separator: u8) -> Option<usize>
+    ensures { result ≡ position (λ x. x == separator) bytes.now }
 {
-    bytes.iter().position(|byte| *byte == mark)
+    bytes.iter().position(|byte| *byte == separator)
 }
 
-/// The place of the first mark.
-fn find(bytes: &[u8], mark: u8) -> Option<usize>
-    ensures { result ≡ position (λ x. x == mark) bytes.now }
+/// The place of the first separator.
+fn find(bytes: &[u8], separator: u8) -> Option<usize>
+    ensures { result ≡ position (λ x. x == separator) bytes.now }
 {
     let mut at = 0;
     let mut rest = bytes;
     'runs: while let Some((run, others)) = rest.split_first_chunk() {
-        if let Some(place) = find_in_run(run, mark) {
+        if let Some(place) = find_in_run(run, separator) {
             return Some(at + place);
         }
         at += RUN;
         rest = others;
     }
-    match find_by_one(rest, mark) {
+    match find_by_one(rest, separator) {
         Some(place) => Some(at + place),
         None => None,
     }
@@ -84,14 +84,14 @@ pub fn line_at<'a>(lines: &mut Lines<'a>) -> Result<&'a [u8], FileFault>
     }
 }
 
-/// The part of a text up to the first mark, and the bytes from the mark on.
+/// The part of a text up to the first separator, and the bytes from the separator on.
 #[tactic(auto, using(crate::proofs::reading::Fields::split_rules))]
-pub(crate) fn split_first(text: &[u8], mark: u8) -> (&[u8], &[u8])
-    ensures parts { slice_split (λ x. x == mark) text.now ≡ result.0.now ∷ parts_after mark result.1.now }
+pub(crate) fn split_first(text: &[u8], separator: u8) -> (&[u8], &[u8])
+    ensures parts { slice_split (λ x. x == separator) text.now ≡ result.0.now ∷ parts_after separator result.1.now }
     ensures first { length result.0.now ≤ length text.now }
     ensures short { length result.1.now ≤ length text.now }
 {
-    match find(text, mark) {
+    match find(text, separator) {
         Some(end) => text.split_at(end),
         None => text.split_at(text.len()),
     }

@@ -5,7 +5,7 @@ use Rattle.std.proofs.lemmas.Bool.{eqb-true}
 use Rattle.msp_class.specs.declared.class.Env.{Env}
 use Rattle.msp_class.specs.declared.class.Env.TheVariants.{One, P2, P3, P, Q2, Q, R2, R, O2, O3, O, F2, F3, F, J2Short, JShort, J2, J}
 use Rattle.msp_class.specs.Env.{kind_of, fixed_machines}
-use Rattle.msp_class.specs.declared.environments.TheConstants.{MOST_OPERATIONS, MOST_SHORT_OPERATIONS}
+use Rattle.msp_class.specs.declared.sizes.TheConstants.{MOST_OPERATIONS, MOST_SHORT_OPERATIONS}
 use Rattle.msp_class.proofs.EnvNumbers.{env_number-injective}
 use Rattle.msp_instance.specs.declared.Need.{Need}
 use Rattle.msp_instance.specs.declared.Instance.{Instance}
@@ -94,11 +94,13 @@ stay_38 i inner h = let (b, g) = part_alone _ _ h in stay_env 38 O3 O (record { 
 
 pub stay_41 : (i : Instance) → Inner i → Applies 41 i → SchedulesStay 41 i (led 41 i)
 unfolding goes_of table
-stay_41 i inner h = let (b, g) = part_alone _ _ h in stay_env 41 J2Short J2 (record { kind = refl; machines = λ m h. h; shape = λ m needs h. longer h }) i (env_number-injective _ J2Short (eqb-true _ _ b)) g inner
+stay_41 i inner h = let (b, g) = part_alone _ _ h in
+    stay_env 41 J2Short J2 (record { kind = refl; machines = λ m h. h; shape = λ m needs h. longer h }) i (env_number-injective _ J2Short (eqb-true _ _ b)) g inner
 
 pub stay_42 : (i : Instance) → Inner i → Applies 42 i → SchedulesStay 42 i (led 42 i)
 unfolding goes_of table
-stay_42 i inner h = let (b, g) = part_alone _ _ h in stay_env 42 J2Short JShort (record { kind = refl; machines = λ m h. tt; shape = λ m needs h. h }) i (env_number-injective _ J2Short (eqb-true _ _ b)) g inner
+stay_42 i inner h = let (b, g) = part_alone _ _ h in
+    stay_env 42 J2Short JShort (record { kind = refl; machines = λ m h. tt; shape = λ m needs h. h }) i (env_number-injective _ J2Short (eqb-true _ _ b)) g inner
 
 pub stay_43 : (i : Instance) → Inner i → Applies 43 i → SchedulesStay 43 i (led 43 i)
 unfolding goes_of table
@@ -106,4 +108,5 @@ stay_43 i inner h = let (b, g) = part_alone _ _ h in stay_env 43 J2 J (record { 
 
 pub stay_44 : (i : Instance) → Inner i → Applies 44 i → SchedulesStay 44 i (led 44 i)
 unfolding goes_of table
-stay_44 i inner h = let (b, g) = part_alone _ _ h in stay_env 44 JShort J (record { kind = refl; machines = λ m h. tt; shape = λ m needs h. longer h }) i (env_number-injective _ JShort (eqb-true _ _ b)) g inner
+stay_44 i inner h = let (b, g) = part_alone _ _ h in
+    stay_env 44 JShort J (record { kind = refl; machines = λ m h. tt; shape = λ m needs h. longer h }) i (env_number-injective _ JShort (eqb-true _ _ b)) g inner

@@ -1,5 +1,6 @@
 -- The rows that lead to a shop with one more machine, on which no job takes time: the same schedules are feasible.
-use Rattle.std.proofs.Common.{◌≡◌, ◌≢◌, ℕ, ◌+◌, ◌*◌, ◌<◌, ◌≤◌, Bool, true, false, not, ltb, List, [], ◌∷◌, ◌++◌, length, All, Any, Contains, ◌⊎◌, inl, inr, Some, None, MatchOption, slice_index_or, refl, sym, ap, ap₂, subst, ◌∙◌, arith}
+use Rattle.std.proofs.Common.{◌≡◌, ◌≢◌, ℕ, ◌+◌, ◌*◌, ◌<◌, ◌≤◌, Bool, true, false, not, ltb, List, [], ◌∷◌, ◌++◌, length, All, Any, Contains, ◌⊎◌, inl, inr, Some, None, MatchOption}
+use Rattle.std.proofs.Common.{slice_index_or, refl, sym, ap, ap₂, subst, ◌∙◌, arith}
 use Rattle.std.specs.Prelude.{◌↔◌, unwrap_or, map, Option, ⊤}
 use Rattle.std.proofs.lemmas.Bool.{eqb-true, ltb-true, ltb-false}
 use Rattle.std.proofs.lemmas.List.{length-map, length_push, get_or_push, get_or_append_left}
@@ -13,12 +14,11 @@ use Rattle.msp_class.specs.Env.{kind_of, fixed_machines, is_mirror_kind}
 use Rattle.msp_class.proofs.EnvNumbers.{env_number-injective}
 use Rattle.msp_class.proofs.IntegerRing.{≤ℤ_of_same}
 use Rattle.msp_class.proofs.RankLemmas.{times_number-injective}
-use Rattle.msp_instance.specs.declared.ranges.TheConstants.{GREATEST, MOST_MACHINES}
+use Rattle.msp_class.specs.declared.sizes.TheConstants.{MOST_MACHINES, GREATEST, GREATEST_UNIT}
 use Rattle.msp_instance.specs.declared.Need.{Need}
 use Rattle.msp_instance.specs.declared.Instance.{Instance}
 use Rattle.msp_instance.specs.Instance.{no_need, no_job, job_at, need_at, common_time}
 use Rattle.msp_instance.specs.Conditions.{Limits, HasSpeeds, HasShape, HasTimes, HasNeeds, HasSameTimes, IsSingleNeed, IsNeedPerMachine, Inner, inner_limits, inner_factor, least_time, greatest_time}
-use Rattle.msp_schedule.specs.declared.limits.TheConstants.{GREATEST_UNIT}
 use Rattle.msp_schedule.specs.Feasible.{HasOperation, MayRun, whole_work}
 use Rattle.msp_schedule.proofs.feasible.Frames.{frame_by, frame_of, rate_on, job_at-map}
 use Rattle.msp_schedule.proofs.changes.Serves.{IsMultiple-same, Serves}
@@ -165,9 +165,11 @@ module _ (from to : Env) (m : ℕ) (w : Widens from to m) (i : Instance) (of_fro
   old_shape ns h = subst (λ k. HasShape (kind_of from) from k ns) machines (subst (λ e. HasShape (kind_of e) e i.machines ns) of_from h.shape)
 
   old_times : (ns : List Need) → HasNeeds limits i ns → HasTimes (least_time (kind_of from) General) (GREATEST * inner_factor (kind_of i.class.env)) ns
-  old_times ns h = subst (λ k. HasTimes (least_time k General) (GREATEST * inner_factor (kind_of i.class.env)) ns) kind (subst (λ t. HasTimes (least_time (kind_of i.class.env) t) (greatest_time limits t) ns) general h.times)
+  old_times ns h = subst (λ k. HasTimes (least_time k General) (GREATEST * inner_factor (kind_of i.class.env)) ns)
+      kind (subst (λ t. HasTimes (least_time (kind_of i.class.env) t) (greatest_time limits t) ns) general h.times)
 
-  own : (ns : List Need) → HasNeeds limits i ns → HasSameTimes i.class.times (common_time i) ns → HasNeeds (inner_limits (kind_of to)) lower (widened m ns) × HasSameTimes i.class.times (common_time lower) (widened m ns)
+  own : (ns : List Need) → HasNeeds limits i ns → HasSameTimes i.class.times (common_time i) ns
+      → HasNeeds (inner_limits (kind_of to)) lower (widened m ns) × HasSameTimes i.class.times (common_time lower) (widened m ns)
   own ns h _ = (
     record {
       shape = w.shape_to (widened m ns) (shape_wider m ns (w.shape ns (old_shape ns h)));
@@ -238,10 +240,30 @@ as_it_is : {A : Type 0} → A ↔ A
 as_it_is = ((λ h. h), (λ h. h))
 
 flow_shop : IsShop FlowShop
-flow_shop = record { has = λ i a o. as_it_is; may = λ i a o m. as_it_is; time = λ i a o. refl; rate = λ i a m. refl; shape = λ e m ns. as_it_is; speeds = λ m s. as_it_is; factor = refl; units = refl; least = refl }
+flow_shop = record {
+  has = λ i a o. as_it_is;
+  may = λ i a o m. as_it_is;
+  time = λ i a o. refl;
+  rate = λ i a m. refl;
+  shape = λ e m ns. as_it_is;
+  speeds = λ m s. as_it_is;
+  factor = refl;
+  units = refl;
+  least = refl;
+}
 
 open_shop : IsShop OpenShop
-open_shop = record { has = λ i a o. as_it_is; may = λ i a o m. as_it_is; time = λ i a o. refl; rate = λ i a m. refl; shape = λ e m ns. as_it_is; speeds = λ m s. as_it_is; factor = refl; units = refl; least = refl }
+open_shop = record {
+  has = λ i a o. as_it_is;
+  may = λ i a o m. as_it_is;
+  time = λ i a o. refl;
+  rate = λ i a m. refl;
+  shape = λ e m ns. as_it_is;
+  speeds = λ m s. as_it_is;
+  factor = refl;
+  units = refl;
+  least = refl;
+}
 
 -- ---- from one machine
 module _ (i j : Instance) (to : Env) (v : IsWidened One to 1 i j) (shop : IsShop (kind_of to)) where
@@ -349,16 +371,20 @@ from_two from to two three kinds above below = record {
 -- ---- the rows
 pub stay_28 : (i : Instance) → Inner i → Applies 28 i → SchedulesStay 28 i (with_idle_machine 28 i)
 unfolding goes_of table
-stay_28 i inner h = let (b, g, e) = part_and_condition _ _ _ h in stay-served (ServesBoth-led One F2 1 (from_one F2 refl flow_shop) i (env_number-injective _ One (eqb-true _ _ b)) (times_number-injective _ General (eqb-true _ _ g)) inner 28 e) inner
+stay_28 i inner h = let (b, g, e) = part_and_condition _ _ _ h in
+    stay-served (ServesBoth-led One F2 1 (from_one F2 refl flow_shop) i (env_number-injective _ One (eqb-true _ _ b)) (times_number-injective _ General (eqb-true _ _ g)) inner 28 e) inner
 
 pub stay_29 : (i : Instance) → Inner i → Applies 29 i → SchedulesStay 29 i (with_idle_machine 29 i)
 unfolding goes_of table
-stay_29 i inner h = let (b, g, e) = part_and_condition _ _ _ h in stay-served (ServesBoth-led One O2 1 (from_one O2 refl open_shop) i (env_number-injective _ One (eqb-true _ _ b)) (times_number-injective _ General (eqb-true _ _ g)) inner 29 e) inner
+stay_29 i inner h = let (b, g, e) = part_and_condition _ _ _ h in
+    stay-served (ServesBoth-led One O2 1 (from_one O2 refl open_shop) i (env_number-injective _ One (eqb-true _ _ b)) (times_number-injective _ General (eqb-true _ _ g)) inner 29 e) inner
 
 pub stay_30 : (i : Instance) → Inner i → Applies 30 i → SchedulesStay 30 i (with_idle_machine 30 i)
 unfolding goes_of table
-stay_30 i inner h = let (b, g, e) = part_and_condition _ _ _ h in stay-served (ServesBoth-led F2 F3 2 (from_two F2 F3 refl refl refl flow_shop flow_shop) i (env_number-injective _ F2 (eqb-true _ _ b)) (times_number-injective _ General (eqb-true _ _ g)) inner 30 e) inner
+stay_30 i inner h = let (b, g, e) = part_and_condition _ _ _ h in stay-served
+    (ServesBoth-led F2 F3 2 (from_two F2 F3 refl refl refl flow_shop flow_shop) i (env_number-injective _ F2 (eqb-true _ _ b)) (times_number-injective _ General (eqb-true _ _ g)) inner 30 e) inner
 
 pub stay_31 : (i : Instance) → Inner i → Applies 31 i → SchedulesStay 31 i (with_idle_machine 31 i)
 unfolding goes_of table
-stay_31 i inner h = let (b, g, e) = part_and_condition _ _ _ h in stay-served (ServesBoth-led O2 O3 2 (from_two O2 O3 refl refl refl open_shop open_shop) i (env_number-injective _ O2 (eqb-true _ _ b)) (times_number-injective _ General (eqb-true _ _ g)) inner 31 e) inner
+stay_31 i inner h = let (b, g, e) = part_and_condition _ _ _ h in stay-served
+    (ServesBoth-led O2 O3 2 (from_two O2 O3 refl refl refl open_shop open_shop) i (env_number-injective _ O2 (eqb-true _ _ b)) (times_number-injective _ General (eqb-true _ _ g)) inner 31 e) inner

@@ -8,7 +8,7 @@ use Rattle.msp_class.specs.declared.class.Env.{Env}
 use Rattle.msp_class.specs.Env.{kind_of, fixed_machines}
 use Rattle.msp_class.specs.declared.environments.EnvKind.{EnvKind}
 use Rattle.msp_class.specs.declared.environments.EnvKind.TheVariants.{Identical, Uniform, Unrelated, OpenShop, FlowShop, JobShop}
-use Rattle.msp_instance.specs.declared.ranges.TheConstants.{GREATEST, MOST_MACHINES}
+use Rattle.msp_class.specs.declared.sizes.TheConstants.{MOST_MACHINES, GREATEST}
 use Rattle.msp_instance.specs.declared.Need.{Need}
 use Rattle.msp_instance.specs.declared.Job.{Job}
 use Rattle.msp_instance.specs.declared.Instance.{Instance}
@@ -29,7 +29,8 @@ pub record AreMachines (e : Env) (m : ℕ) (list : List ℕ) : Type 0 where
   pub speeds : HasSpeeds (kind_of e) m list
   pub multiple : HasSmallMultiple list
 
-pub Inner-in_environment : (i : Instance) (e : Env) (m : ℕ) (speeds : List ℕ) (jobs : List Job) → length jobs ≡ length i.jobs → AreMachines e m speeds → All (IsJobOf (inner_limits (kind_of e)) (in_environment e m speeds jobs i)) jobs →
+pub Inner-in_environment : (i : Instance) (e : Env) (m : ℕ) (speeds : List ℕ) (jobs : List Job)
+    → length jobs ≡ length i.jobs → AreMachines e m speeds → All (IsJobOf (inner_limits (kind_of e)) (in_environment e m speeds jobs i)) jobs →
     HasNearDues (2 * GREATEST * inner_factor (kind_of e)) (in_environment e m speeds jobs i) → Inner i → Inner (in_environment e m speeds jobs i)
 Inner-in_environment i e m speeds jobs same machines own dues inner = record {
   conditions = record {
@@ -60,13 +61,16 @@ near-same : (a b : ℕ) (x y z w : ℤ) → a ≤ b → z ≡ x → w ≡ y → 
 near-same a b x y z w le e f h = omega (arith, ints)
 
 -- the needs have to suit the environment, with times in range
-pub Inner-with_needs : (i : Instance) (e : Env) (m : ℕ) (speeds : List ℕ) (g : List Need → List Need) → AreWithin (inner_limits (kind_of i.class.env)) (inner_limits (kind_of e)) → AreMachines e m speeds →
+pub Inner-with_needs : (i : Instance) (e : Env) (m : ℕ) (speeds : List ℕ) (g : List Need → List Need)
+    → AreWithin (inner_limits (kind_of i.class.env)) (inner_limits (kind_of e)) → AreMachines e m speeds →
     ((needs : List Need) → HasNeeds (inner_limits (kind_of i.class.env)) i needs → HasSameTimes i.class.times (common_time i) needs →
-    HasNeeds (inner_limits (kind_of e)) (in_environment e m speeds (map (with_needs g) i.jobs) i) (g needs) × HasSameTimes i.class.times (common_time (in_environment e m speeds (map (with_needs g) i.jobs) i)) (g needs)) →
+    HasNeeds (inner_limits (kind_of e)) (in_environment e m speeds (map (with_needs g) i.jobs) i) (g needs)
+    × HasSameTimes i.class.times (common_time (in_environment e m speeds (map (with_needs g) i.jobs) i)) (g needs)) →
     Inner i → Inner (in_environment e m speeds (map (with_needs g) i.jobs) i)
 Inner-with_needs i e m speeds g wider machines own inner = Inner-in_environment i e m speeds (map (with_needs g) i.jobs) (length-map i.jobs (with_needs g)) machines
     (All-map (IsJobOf (inner_limits (kind_of e)) lower) (with_needs g) i.jobs (λ k d l. job (get_or i.jobs k d) (inner.conditions.jobs k d l)))
-    (λ j k a b. near-same (2 * GREATEST * inner_factor (kind_of i.class.env)) (2 * GREATEST * inner_factor (kind_of e)) (job_at i j).due (job_at i k).due (job_at lower j).due (job_at lower k).due wider.dates (due j (inside j a)) (due k (inside k b)) (inner.dues j k (inside j a) (inside k b)))
+    (λ j k a b. near-same (2 * GREATEST * inner_factor (kind_of i.class.env)) (2 * GREATEST * inner_factor (kind_of e)) (job_at i j).due (job_at i k).due
+    (job_at lower j).due (job_at lower k).due wider.dates (due j (inside j a)) (due k (inside k b)) (inner.dues j k (inside j a) (inside k b)))
     inner
   where
     lower : Instance
@@ -94,7 +98,8 @@ pub Inner-same_jobs : (i : Instance) (e : Env) (m : ℕ) (speeds : List ℕ) →
     Inner i → Inner (in_environment e m speeds i.jobs i)
 Inner-same_jobs i e m speeds wider machines own inner = Inner-in_environment i e m speeds i.jobs refl machines
     (λ k d l. job (get_or i.jobs k d) (inner.conditions.jobs k d l))
-    (λ j k a b. near-same (2 * GREATEST * inner_factor (kind_of i.class.env)) (2 * GREATEST * inner_factor (kind_of e)) (job_at i j).due (job_at i k).due (job_at i j).due (job_at i k).due wider.dates refl refl (inner.dues j k a b))
+    (λ j k a b. near-same (2 * GREATEST * inner_factor (kind_of i.class.env)) (2 * GREATEST * inner_factor (kind_of e))
+    (job_at i j).due (job_at i k).due (job_at i j).due (job_at i k).due wider.dates refl refl (inner.dues j k a b))
     inner
   where
     job : (a : Job) → IsJobOf (inner_limits (kind_of i.class.env)) i a → IsJobOf (inner_limits (kind_of e)) (in_environment e m speeds i.jobs i) a

@@ -10,7 +10,7 @@ use Rattle.std.proofs.Math.Nat.{dvd-mod_iff, dvd-mul_left, dvd-mul_right, mod-lt
 use Rattle.std.proofs.lemmas.List.Elements.{All-weaker, All-nil, All-cons, All-head, All-tail}
 use Rattle.msp_instance.specs.Conditions.{HasSmallMultiple}
 use Rattle.msp_instance.specs.Multiples.{IsLeastOfAll}
-use Rattle.msp_instance.specs.declared.ranges.TheConstants.{GREATEST_MULTIPLE}
+use Rattle.msp_class.specs.declared.sizes.TheConstants.{GREATEST_MULTIPLE}
 use Rattle.msp_schedule.proofs.feasible.OneMachine.{both_true}
 use Rattle.msp_route.specs.Rates.{least_common_multiple}
 
@@ -81,7 +81,8 @@ product_some (x ∷ xs) h = subst (λ n. 1 ≤ n) (sym (product-cons x xs)) (mul
 product_divided : (xs : List ℕ) → All (λ x. x ∣ fold ◌*◌ 1 xs) xs
 product_divided [] = All-nil (λ x. x ∣ 1)
 product_divided (x ∷ xs) = subst (λ n. All (λ y. y ∣ n) (x ∷ xs)) (sym (product-cons x xs))
-    (All-cons (λ y. y ∣ x * fold ◌*◌ 1 xs) x xs (dvd-mul_right x (fold ◌*◌ 1 xs)) (All-weaker (λ y. y ∣ fold ◌*◌ 1 xs) (λ y. y ∣ x * fold ◌*◌ 1 xs) (λ y h. dvd_trans y h (dvd-mul_left (fold ◌*◌ 1 xs) x)) xs (product_divided xs)))
+    (All-cons (λ y. y ∣ x * fold ◌*◌ 1 xs) x xs (dvd-mul_right x (fold ◌*◌ 1 xs))
+    (All-weaker (λ y. y ∣ fold ◌*◌ 1 xs) (λ y. y ∣ x * fold ◌*◌ 1 xs) (λ y h. dvd_trans y h (dvd-mul_left (fold ◌*◌ 1 xs) x)) xs (product_divided xs)))
 
 -- ---- the least common multiple
 pub least_multiple : (xs : List ℕ) → All (λ x. 1 ≤ x) xs → IsLeastOfAll xs (least_common_multiple xs)
@@ -117,4 +118,5 @@ least_multiple-only xs multiple some h = let l = least_multiple xs some in dvd_a
 
 -- where some common multiple is small, so is the least one
 pub least-small : (xs : List ℕ) (multiple : ℕ) → HasSmallMultiple xs → IsLeastOfAll xs multiple → multiple ≤ GREATEST_MULTIPLE
-least-small xs multiple h l = omega (arith, h.1, h.2, le_of_dvd (omega (arith, h.1)) (l.least h.0 (λ k d t. let p = h.3 k d t in subst (λ n. get_or xs k d ∣ n) (sym p.1) (dvd-mul_left (get_or xs k d) p.0))))
+least-small xs multiple h l = omega
+    (arith, h.1, h.2, le_of_dvd (omega (arith, h.1)) (l.least h.0 (λ k d t. let p = h.3 k d t in subst (λ n. get_or xs k d ∣ n) (sym p.1) (dvd-mul_left (get_or xs k d) p.0))))

@@ -23,10 +23,12 @@ IsNeedPerMachine-needs_by : (n : ℕ) (time : ℕ → ℕ) → IsNeedPerMachine 
 IsNeedPerMachine-needs_by n time = (length-needs_by n time, λ k l. ap (λ x. x.machine) (get_or-needs_by n time k no_need (omega (arith, length-needs_by n time))))
 
 some_time : (needs : List Need) (n top : ℕ) → 1 ≤ n → length needs ≡ n → HasTimes 1 top needs → Any (λ x. 1 ≤ x.time) needs
-some_time needs n top some e h = let inside : 0 < length needs = omega arith in (0, get_or needs 0 no_need, inside, get_or_default needs 0 (get_or needs 0 no_need) no_need inside, (h 0 no_need inside).0)
+some_time needs n top some e h = let inside : 0 < length needs = omega arith in
+    (0, get_or needs 0 no_need, inside, get_or_default needs 0 (get_or needs 0 no_need) no_need inside, (h 0 no_need inside).0)
 
 -- they are the needs of a job of an instance on that many unrelated machines, where times are in range
-pub HasNeeds-needs_by : (i : Instance) (n : ℕ) (time : ℕ → ℕ) → kind_of i.class.env ≡ Unrelated → n ≡ i.machines → 1 ≤ n → ((m : ℕ) → m < n → (1 ≤ time m) × (time m ≤ greatest_time (inner_limits Unrelated) i.class.times)) → HasNeeds (inner_limits (kind_of i.class.env)) i (needs_by n time)
+pub HasNeeds-needs_by : (i : Instance) (n : ℕ) (time : ℕ → ℕ) → kind_of i.class.env ≡ Unrelated → n ≡ i.machines → 1 ≤ n
+    → ((m : ℕ) → m < n → (1 ≤ time m) × (time m ≤ greatest_time (inner_limits Unrelated) i.class.times)) → HasNeeds (inner_limits (kind_of i.class.env)) i (needs_by n time)
 HasNeeds-needs_by i n time kind count some h = record {
   shape = subst (λ k. HasShape k i.class.env i.machines (needs_by n time)) (sym kind) (subst (λ m. IsNeedPerMachine m (needs_by n time)) count (IsNeedPerMachine-needs_by n time));
   times = subst (λ k. HasTimes (least_time k i.class.times) (greatest_time (inner_limits k) i.class.times) (needs_by n time)) (sym kind) times;

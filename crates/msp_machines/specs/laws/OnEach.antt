@@ -42,7 +42,8 @@ greater General x h = omega arith
 greater UnitTimes x h = omega arith
 greater Equal x h = h
 
-module _ (row : ℕ) (i : Instance) (e : Env) (from : kind_of i.class.env ≡ Identical) (to : kind_of e ≡ Unrelated) (fixed : fixed_machines i.class.env ≡ fixed_machines e) (g : goes_of row i.class ≡ Some (record i.class { env = e })) (inner : Inner i) where
+module _ (row : ℕ) (i : Instance) (e : Env) (from : kind_of i.class.env ≡ Identical) (to : kind_of e ≡ Unrelated)
+    (fixed : fixed_machines i.class.env ≡ fixed_machines e) (g : goes_of row i.class ≡ Some (record i.class { env = e })) (inner : Inner i) where
   abbrev lower : Instance
   lower = in_environment e i.machines i.speeds (map (on_each_machine i.machines) i.jobs) i
 
@@ -78,12 +79,16 @@ module _ (row : ℕ) (i : Instance) (e : Env) (from : kind_of i.class.env ≡ Id
   wider = AreWithin-any (kind_of i.class.env) (kind_of e) (ap inner_factor from)
 
   own : (needs : List Need) → HasNeeds (inner_limits (kind_of i.class.env)) i needs → HasSameTimes i.class.times (common_time i) needs →
-      HasNeeds (inner_limits (kind_of e)) lower (needs_by i.machines (λ m. (slice_index_or needs 0 no_need).time)) × HasSameTimes i.class.times (common_time lower) (needs_by i.machines (λ m. (slice_index_or needs 0 no_need).time))
+      HasNeeds (inner_limits (kind_of e)) lower (needs_by i.machines (λ m. (slice_index_or needs 0 no_need).time))
+      × HasSameTimes i.class.times (common_time lower) (needs_by i.machines (λ m. (slice_index_or needs 0 no_need).time))
   own needs h same =
       let t = h.times 0 no_need (single needs h) in (
-        HasNeeds-needs_by lower i.machines (λ m. (slice_index_or needs 0 no_need).time) to refl machines_some (λ m l.
-            (subst (λ k. least_time k i.class.times ≤ (slice_index_or needs 0 no_need).time) from t.0, greater i.class.times (slice_index_or needs 0 no_need).time (subst (λ k. (slice_index_or needs 0 no_need).time ≤ greatest_time (inner_limits k) i.class.times) from t.1))),
-        subst (λ s. HasSameTimes i.class.times s (needs_by i.machines (λ m. (slice_index_or needs 0 no_need).time))) (sym shared_is) (same_times i.class.times (common_time i) needs i.machines (single needs h) same),
+        HasNeeds-needs_by lower i.machines (λ m. (slice_index_or needs 0 no_need).time) to refl machines_some (λ m l. (
+          subst (λ k. least_time k i.class.times ≤ (slice_index_or needs 0 no_need).time) from t.0,
+          greater i.class.times (slice_index_or needs 0 no_need).time (subst (λ k. (slice_index_or needs 0 no_need).time ≤ greatest_time (inner_limits k) i.class.times) from t.1),
+        )),
+        subst (λ s. HasSameTimes i.class.times s (needs_by i.machines (λ m. (slice_index_or needs 0 no_need).time)))
+            (sym shared_is) (same_times i.class.times (common_time i) needs i.machines (single needs h) same),
       )
 
   lower_inner : Inner lower
@@ -167,8 +172,10 @@ module _ (row : ℕ) (i : Instance) (e : Env) (from : kind_of i.class.env ≡ Id
   }
 
 -- ---- the two rows
-shared : (row : ℕ) (i : Instance) (e : Env) → kind_of i.class.env ≡ Identical → kind_of e ≡ Unrelated → fixed_machines i.class.env ≡ fixed_machines e → goes_of row i.class ≡ Some (record i.class { env = e }) → Inner i → ServesBoth row i (led_to_each row i)
-shared row i e from to fixed g inner = subst (ServesBoth row i) (sym (ap (λ o. record i { class = unwrap_or o i.class; jobs = map (on_each_machine i.machines) i.jobs }) g)) (serves_both row i e from to fixed g inner)
+shared : (row : ℕ) (i : Instance) (e : Env) → kind_of i.class.env ≡ Identical → kind_of e ≡ Unrelated
+    → fixed_machines i.class.env ≡ fixed_machines e → goes_of row i.class ≡ Some (record i.class { env = e }) → Inner i → ServesBoth row i (led_to_each row i)
+shared row i e from to fixed g inner =
+    subst (ServesBoth row i) (sym (ap (λ o. record i { class = unwrap_or o i.class; jobs = map (on_each_machine i.machines) i.jobs }) g)) (serves_both row i e from to fixed g inner)
 
 pub stay_23 : (i : Instance) → Inner i → Applies 23 i → SchedulesStay 23 i (led_to_each 23 i)
 unfolding goes_of table

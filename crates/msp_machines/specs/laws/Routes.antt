@@ -1,5 +1,6 @@
 -- The rows from flow shops to job shops: the operations that take time are a job's route.
-use Rattle.std.proofs.Common.{◌≡◌, ◌≢◌, ℕ, zero, suc, ◌+◌, ◌<◌, ◌≤◌, Bool, true, false, not, cond, List, [], ◌∷◌, length, get_or, map, filter, take, All, AllPairs, Any, inl, Some, MatchOption, slice_index_or, ℤ, pos, ◌*ℤ◌, ◌≤ℤ◌, refl, sym, ap, ap₂, subst, subst₂, ◌∙◌, arith}
+use Rattle.std.proofs.Common.{◌≡◌, ◌≢◌, ℕ, zero, suc, ◌+◌, ◌<◌, ◌≤◌, Bool, true, false, not, cond, List, [], ◌∷◌, length, get_or, map, filter, take, All, AllPairs, Any, inl, Some}
+use Rattle.std.proofs.Common.{MatchOption, slice_index_or, ℤ, pos, ◌*ℤ◌, ◌≤ℤ◌, refl, sym, ap, ap₂, subst, subst₂, ◌∙◌, arith}
 use Rattle.std.specs.Prelude.{◌==◌, unwrap_or, ⊤}
 use Rattle.std.proofs.lemmas.Bool.{eqb-true, eq-eqb, ne_eqb}
 use Rattle.std.proofs.lemmas.List.{length-map, get_or_default}
@@ -54,7 +55,8 @@ module _ {X : Type 0} (p : X → Bool) where
   kept_from [] r d l = absurd (omega arith)
   kept_from (x ∷ xs) r d l = by (p x) refl r l (λ r l. kept_from xs r d l)
     where
-      by : (b : Bool) → p x ≡ b → (r : ℕ) → r < length (cond b (x ∷ filter p xs) (filter p xs)) → ((r : ℕ) → r < length (filter p xs) → (o : ℕ) × (o < length xs) × (p (get_or xs o d) ≡ true) × (place xs o ≡ r))
+      by : (b : Bool) → p x ≡ b → (r : ℕ) → r < length (cond b (x ∷ filter p xs) (filter p xs))
+          → ((r : ℕ) → r < length (filter p xs) → (o : ℕ) × (o < length xs) × (p (get_or xs o d) ≡ true) × (place xs o ≡ r))
           → (o : ℕ) × (o < length (x ∷ xs)) × (p (get_or (x ∷ xs) o d) ≡ true) × (place (x ∷ xs) o ≡ r)
       by true e zero l rest = (0, omega arith, e, refl)
       by true e (suc r) l rest = let (o, m, h, k) = rest r (omega arith) in (suc o, omega arith, h, ap (λ b. length (cond b (x ∷ filter p (take o xs)) (filter p (take o xs)))) e ∙ ap suc k)
@@ -125,7 +127,8 @@ module _ (m : ℕ) (ns : List Need) (per : IsNeedPerMachine m ns) where
 
   -- a route
   some_kept : Any (λ n. 1 ≤ n.time) ns → Any (λ n. 1 ≤ n.time) (kept ns)
-  some_kept (k, x, l, e, h) = let (inside, same) = kept_at takes_time ns k x l (subst (λ n. takes_time n ≡ true) (sym e) (takes x.time (λ z. absurd (omega arith)))) in (place_in_route ns k, x, inside, same ∙ e, h)
+  some_kept (k, x, l, e, h) = let (inside, same) = kept_at takes_time ns k x l (subst (λ n. takes_time n ≡ true) (sym e) (takes x.time (λ z. absurd (omega arith)))) in
+      (place_in_route ns k, x, inside, same ∙ e, h)
 
   route_kept : (most : ℕ) → m ≤ most → Any (λ n. 1 ≤ n.time) ns → IsRoute most m (kept ns)
   route_kept most fits some = record {
@@ -200,13 +203,15 @@ module _ (to : Env) (i : Instance) (w : IsRouting to i) (inner : Inner i) where
       ap (λ n. (slice_index_or n 0 no_need).time) (needs_are 0 inner.conditions.some)
       ∙ All-filter takes_time (λ n. n.time ≡ common_time i) ns (subst (λ t. HasSameTimes t (common_time i) ns) e first.times) 0 no_need (omega (arith, l))
 
-  own : (ns : List Need) → HasNeeds limits i ns → HasSameTimes i.class.times (common_time i) ns → HasNeeds (inner_limits (kind_of to)) lower (kept ns) × HasSameTimes i.class.times (common_time lower) (kept ns)
+  own : (ns : List Need) → HasNeeds limits i ns → HasSameTimes i.class.times (common_time i) ns
+      → HasNeeds (inner_limits (kind_of to)) lower (kept ns) × HasSameTimes i.class.times (common_time lower) (kept ns)
   own ns h t =
       let q = per_machine ns h in (
         record {
           shape = subst (λ k. HasShape k to i.machines (kept ns)) (sym w.job) (route_kept i.machines ns q (most_operations to) w.fits h.some);
           times = subst (λ k. HasTimes (least_time k i.class.times) (greatest_time (inner_limits k) i.class.times) (kept ns)) (sym w.job)
-              (times_kept i.machines ns q _ (greatest_time (inner_limits FlowShop) i.class.times) (subst (λ k. HasTimes (least_time k i.class.times) (greatest_time (inner_limits k) i.class.times) ns) w.flow h.times));
+              (times_kept i.machines ns q _ (greatest_time (inner_limits FlowShop) i.class.times)
+              (subst (λ k. HasTimes (least_time k i.class.times) (greatest_time (inner_limits k) i.class.times) ns) w.flow h.times));
           some = some_kept i.machines ns q h.some;
         },
         same_times i.class.times (common_time lower) ns shared t,
@@ -310,7 +315,8 @@ module _ (to : Env) (i : Instance) (w : IsRouting to i) (inner : Inner i) where
 
   -- the machine of a piece is that of its operation
   up : (s : Schedule) → Feasible lower s → Feasible i (numbered machine_number s)
-  up s f = subst (λ ps. Feasible i (record s { pieces = ps })) (map-agree (carried (λ x. x) back) (with_number machine_number) s.pieces (λ k d l. same (get_or s.pieces k d) (f.place k d l).machine)) (up_by s f)
+  up s f = subst (λ ps. Feasible i (record s { pieces = ps }))
+      (map-agree (carried (λ x. x) back) (with_number machine_number) s.pieces (λ k d l. same (get_or s.pieces k d) (f.place k d l).machine)) (up_by s f)
     where
       same : (p : Piece) → MayRun (kind_of to) lower p.job p.op p.machine → carried (λ x. x) back p ≡ with_number machine_number p
       same p h = ap (λ o. record p { op = o }) (sym (subst (λ k. MayRun k lower p.job p.op p.machine) w.job h))

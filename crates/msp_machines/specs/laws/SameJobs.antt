@@ -10,15 +10,15 @@ use Rattle.msp_class.specs.declared.class.Times.{Times}
 use Rattle.msp_class.specs.declared.class.Times.TheVariants.{General, Unit as UnitTimes, Equal}
 use Rattle.msp_class.specs.declared.environments.EnvKind.{EnvKind}
 use Rattle.msp_class.specs.declared.environments.EnvKind.TheVariants.{Identical, Uniform, Unrelated, OpenShop, FlowShop, JobShop}
-use Rattle.msp_class.specs.declared.environments.TheConstants.{MOST_SHORT_OPERATIONS}
+use Rattle.msp_class.specs.declared.sizes.TheConstants.{MOST_MACHINES, MOST_SHORT_OPERATIONS, GREATEST_SPEED}
 use Rattle.msp_class.specs.Env.{kind_of, fixed_machines, is_shop_kind}
 use Rattle.msp_class.proofs.EnvNumbers.{env_number-injective}
 use Rattle.msp_class.proofs.IntegerRing.{≤ℤ_of_same}
-use Rattle.msp_instance.specs.declared.ranges.TheConstants.{GREATEST_SPEED}
 use Rattle.msp_instance.specs.declared.Need.{Need}
 use Rattle.msp_instance.specs.declared.Instance.{Instance}
 use Rattle.msp_instance.specs.Instance.{no_need, no_job, job_at, need_at}
-use Rattle.msp_instance.specs.Conditions.{HasNeeds, HasShape, HasSpeeds, HasTimes, IsSingleNeed, IsNeedPerMachine, IsRoute, Inner, inner_limits, inner_factor, least_time, least_shop_time, greatest_time}
+use Rattle.msp_instance.specs.Conditions.{HasNeeds, HasShape, HasSpeeds, HasTimes, IsSingleNeed, IsNeedPerMachine, IsRoute, Inner, inner_limits, inner_factor, least_time}
+use Rattle.msp_instance.specs.Conditions.{least_shop_time, greatest_time}
 use Rattle.msp_schedule.specs.Feasible.{HasOperation, MayRun, whole_work}
 use Rattle.msp_schedule.proofs.costs.Charges.{SameCharges-from_jobs}
 use Rattle.msp_schedule.proofs.feasible.Frames.{frame_by, rate_on}
@@ -47,7 +47,8 @@ greatest-same l General e = omega (arith, e)
 greatest-same l UnitTimes e = omega (arith, e)
 greatest-same l Equal e = omega arith
 
-module _ (i : Instance) (e : Env) (l : EnvKind) (m : ℕ) (speeds : List ℕ) (from : kind_of i.class.env ≡ Identical) (takes : TakesSingle e l m) (machines : AreMachines e m speeds) (inner : Inner i) where
+module _ (i : Instance) (e : Env) (l : EnvKind)
+    (m : ℕ) (speeds : List ℕ) (from : kind_of i.class.env ≡ Identical) (takes : TakesSingle e l m) (machines : AreMachines e m speeds) (inner : Inner i) where
   abbrev lower : Instance
   lower = in_environment e m speeds i.jobs i
 
@@ -96,7 +97,8 @@ module _ (i : Instance) (e : Env) (l : EnvKind) (m : ℕ) (speeds : List ℕ) (f
         has = λ a o b h. runs.all a o b h;
         all = λ a o b h. subst (HasOperation l lower a) (sym h) (runs.has a b);
         may = λ a o n b h w. runs.may_back a n b (subst (λ x. MayRun l lower a x n) (runs.all a o b h) w);
-        ratio = λ a o b h. IsMultiple-same (frame_by l lower) (frame_by Identical i) a o (λ n w. sym (runs.rate a n (runs.may_back a n b (subst (λ x. MayRun l lower a x n) (runs.all a o b h) w)))) (sym (runs.want a o));
+        ratio = λ a o b h. IsMultiple-same (frame_by l lower) (frame_by Identical i)
+            a o (λ n w. sym (runs.rate a n (runs.may_back a n b (subst (λ x. MayRun l lower a x n) (runs.all a o b h) w)))) (sym (runs.want a o));
         cut = λ c. c;
       };
       heads = λ a b. omega arith;
@@ -123,11 +125,13 @@ equal_machines i e to fixed inner = record {
   some = inner.conditions.machines.0;
   few = inner.conditions.machines.1;
   fixed = subst (λ o. MatchOption o ⊤ (λ n. i.machines ≡ n)) fixed inner.conditions.machines.2;
-  speeds = subst (λ k. HasSpeeds k i.machines (equal_speeds i.machines)) (sym to) (length-replicate i.machines 1, All-replicate (λ s. (1 ≤ s) × (s ≤ GREATEST_SPEED)) i.machines 1 (omega arith, omega arith));
+  speeds = subst (λ k. HasSpeeds k i.machines (equal_speeds i.machines))
+      (sym to) (length-replicate i.machines 1, All-replicate (λ s. (1 ≤ s) × (s ≤ GREATEST_SPEED)) i.machines 1 (omega arith, omega arith));
   multiple = (1, omega arith, omega arith, All-replicate (λ s. (times : ℕ) × (1 ≡ times * s)) i.machines 1 (1, refl));
 }
 
-serves_speeds : (row : ℕ) (i : Instance) (e : Env) → kind_of i.class.env ≡ Identical → kind_of e ≡ Uniform → fixed_machines i.class.env ≡ fixed_machines e → goes_of row i.class ≡ Some (record i.class { env = e }) → Inner i → ServesBoth row i (led_at_equal_speeds row i)
+serves_speeds : (row : ℕ) (i : Instance) (e : Env) → kind_of i.class.env ≡ Identical → kind_of e ≡ Uniform → fixed_machines i.class.env ≡ fixed_machines e
+    → goes_of row i.class ≡ Some (record i.class { env = e }) → Inner i → ServesBoth row i (led_at_equal_speeds row i)
 serves_speeds row i e from to fixed g inner = ServesBoth-led i e Uniform i.machines (equal_speeds i.machines) from (record {
   kind = to;
   shape = λ needs h. h;
@@ -207,29 +211,39 @@ shop_least UnitTimes = omega arith
 shop_least Equal = omega arith
 
 -- the machines of the instance in an environment without speeds
-one_machine : (i : Instance) → i.class.env ≡ One → Inner i → (e : Env) (m : ℕ) → 1 ≤ m → m ≤ 32 → HasSpeeds (kind_of e) m [] → MatchOption (fixed_machines e) ⊤ (λ n. m ≡ n) → AreMachines e m i.speeds
-one_machine i env inner e m some few none fixed = record { some = some; few = few; fixed = fixed; speeds = subst (HasSpeeds (kind_of e) m) (sym (no_speeds i env inner)) none; multiple = inner.conditions.multiple }
+one_machine : (i : Instance) → i.class.env ≡ One → Inner i
+    → (e : Env) (m : ℕ) → 1 ≤ m → m ≤ MOST_MACHINES → HasSpeeds (kind_of e) m [] → MatchOption (fixed_machines e) ⊤ (λ n. m ≡ n) → AreMachines e m i.speeds
+one_machine i env inner e m some few none fixed =
+    record { some = some; few = few; fixed = fixed; speeds = subst (HasSpeeds (kind_of e) m) (sym (no_speeds i env inner)) none; multiple = inner.conditions.multiple }
 
 -- each job runs its one operation on machine 0
-shop_runs : (i : Instance) (env : i.class.env ≡ One) (inner : Inner i) (e : Env) (l : EnvKind) (m : ℕ) → is_shop_kind l ≡ true → (takes : TakesSingle e l m) (machines : AreMachines e m i.speeds) → RunsSingle i e l m i.speeds (ap kind_of env) takes machines inner
+shop_runs : (i : Instance) (env : i.class.env ≡ One) (inner : Inner i) (e : Env) (l : EnvKind) (m : ℕ) → is_shop_kind l ≡ true
+    → (takes : TakesSingle e l m) (machines : AreMachines e m i.speeds) → RunsSingle i e l m i.speeds (ap kind_of env) takes machines inner
 shop_runs i env inner e Identical m s takes machines = absurd (cc)
 shop_runs i env inner e Uniform m s takes machines = absurd (cc)
 shop_runs i env inner e Unrelated m s takes machines = absurd (cc)
-shop_runs i env inner e OpenShop m s takes machines = record { has = run_has i env inner; all = run_all i env inner; may = run_may i env inner; may_back = run_may_back i env inner; rate = λ a n w. refl; want = λ a o. refl }
-shop_runs i env inner e FlowShop m s takes machines = record { has = run_has i env inner; all = run_all i env inner; may = run_may i env inner; may_back = run_may_back i env inner; rate = λ a n w. refl; want = λ a o. refl }
-shop_runs i env inner e JobShop m s takes machines = record { has = run_has i env inner; all = run_all i env inner; may = run_may i env inner; may_back = run_may_back i env inner; rate = λ a n w. refl; want = λ a o. refl }
+shop_runs i env inner e OpenShop m s takes machines =
+    record { has = run_has i env inner; all = run_all i env inner; may = run_may i env inner; may_back = run_may_back i env inner; rate = λ a n w. refl; want = λ a o. refl }
+shop_runs i env inner e FlowShop m s takes machines =
+    record { has = run_has i env inner; all = run_all i env inner; may = run_may i env inner; may_back = run_may_back i env inner; rate = λ a n w. refl; want = λ a o. refl }
+shop_runs i env inner e JobShop m s takes machines =
+    record { has = run_has i env inner; all = run_all i env inner; may = run_may i env inner; may_back = run_may_back i env inner; rate = λ a n w. refl; want = λ a o. refl }
 
-serves_shop : (row : ℕ) (i : Instance) → i.class.env ≡ One → (e : Env) (l : EnvKind) (m : ℕ) → is_shop_kind l ≡ true → TakesSingle e l m → AreMachines e m i.speeds → goes_of row i.class ≡ Some (record i.class { env = e }) → Inner i → ServesBoth row i (record (led row i) { machines = m })
+serves_shop : (row : ℕ) (i : Instance) → i.class.env ≡ One → (e : Env) (l : EnvKind) (m : ℕ) → is_shop_kind l ≡ true → TakesSingle e l m
+    → AreMachines e m i.speeds → goes_of row i.class ≡ Some (record i.class { env = e }) → Inner i → ServesBoth row i (record (led row i) { machines = m })
 serves_shop row i env e l m s takes machines g inner = ServesBoth-led i e l m i.speeds (ap kind_of env) takes machines inner (shop_runs i env inner e l m s takes machines) row g
 
 serves_flow : (i : Instance) → i.class.env ≡ One → goes_of 32 i.class ≡ Some (record i.class { env = F }) → Inner i → ServesBoth 32 i (led 32 i)
-serves_flow i env g inner = serves_shop 32 i env F FlowShop i.machines refl (record { kind = refl; shape = per_machine i env inner; least = shop_least; factor = refl; unit = refl }) (one_machine i env inner F i.machines inner.conditions.machines.0 inner.conditions.machines.1 refl tt) g inner
+serves_flow i env g inner = serves_shop 32 i env F FlowShop i.machines refl (record { kind = refl; shape = per_machine i env inner; least = shop_least; factor = refl; unit = refl })
+    (one_machine i env inner F i.machines inner.conditions.machines.0 inner.conditions.machines.1 refl tt) g inner
 
 serves_open : (i : Instance) → i.class.env ≡ One → goes_of 33 i.class ≡ Some (record i.class { env = O }) → Inner i → ServesBoth 33 i (led 33 i)
-serves_open i env g inner = serves_shop 33 i env O OpenShop i.machines refl (record { kind = refl; shape = per_machine i env inner; least = shop_least; factor = refl; unit = refl }) (one_machine i env inner O i.machines inner.conditions.machines.0 inner.conditions.machines.1 refl tt) g inner
+serves_open i env g inner = serves_shop 33 i env O OpenShop i.machines refl (record { kind = refl; shape = per_machine i env inner; least = shop_least; factor = refl; unit = refl })
+    (one_machine i env inner O i.machines inner.conditions.machines.0 inner.conditions.machines.1 refl tt) g inner
 
 serves_job : (i : Instance) → i.class.env ≡ One → goes_of 34 i.class ≡ Some (record i.class { env = J2Short }) → Inner i → ServesBoth 34 i (led_to_two_machines 34 i)
-serves_job i env g inner = serves_shop 34 i env J2Short JobShop 2 refl (record { kind = refl; shape = route i env inner; least = λ t. omega arith; factor = refl; unit = refl }) (one_machine i env inner J2Short 2 (omega arith) (omega arith) refl refl) g inner
+serves_job i env g inner = serves_shop 34 i env J2Short JobShop 2 refl (record { kind = refl; shape = route i env inner; least = λ t. omega arith; factor = refl; unit = refl })
+    (one_machine i env inner J2Short 2 (omega arith) (omega arith) refl refl) g inner
 
 pub stay_32 : (i : Instance) → Inner i → Applies 32 i → SchedulesStay 32 i (led 32 i)
 unfolding goes_of table

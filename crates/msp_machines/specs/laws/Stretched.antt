@@ -1,5 +1,6 @@
 -- The rows from uniform to unrelated machines: times are multiplied by a common multiple of the speeds.
-use Rattle.std.proofs.Common.{◌≡◌, ℕ, suc, zero, ◌*◌, ◌/◌, ◌<◌, ◌≤◌, List, [], length, get_or, map, All, Some, unwrap_or, inl, ℤ, pos, negsuc, ◌+ℤ◌, ◌-ℤ◌, ◌*ℤ◌, ◌≤ℤ◌, slice_index_or, refl, sym, ap, ap₂, subst, subst₂, ◌∙◌, arith}
+use Rattle.std.proofs.Common.{◌≡◌, ℕ, suc, zero, ◌*◌, ◌/◌, ◌<◌, ◌≤◌, List, [], length, get_or, map, All, Some, unwrap_or, inl, ℤ, pos, negsuc, ◌+ℤ◌, ◌-ℤ◌, ◌*ℤ◌, ◌≤ℤ◌}
+use Rattle.std.proofs.Common.{slice_index_or, refl, sym, ap, ap₂, subst, subst₂, ◌∙◌, arith}
 use Rattle.std.specs.Prelude.{MatchOption, ⊤}
 use Rattle.std.specs.Int.{◌∣◌}
 use Rattle.std.proofs.Math.Nat.{div-mul_cancel}
@@ -19,7 +20,7 @@ use Rattle.msp_class.specs.Env.{kind_of, fixed_machines}
 use Rattle.msp_class.proofs.EnvNumbers.{env_number-injective}
 use Rattle.msp_class.proofs.RankLemmas.{times_number-injective}
 use Rattle.msp_class.proofs.IntegerRing.{≤ℤ_of_same, pos-le, le-pos, one-*ℤ, zero-*ℤ, +ℤ_idr, *ℤ_assoc, *ℤ_comm, *ℤ_exchange, *ℤ-mono, *ℤ-cancel_same}
-use Rattle.msp_instance.specs.declared.ranges.TheConstants.{GREATEST, GREATEST_MULTIPLE}
+use Rattle.msp_class.specs.declared.sizes.TheConstants.{GREATEST, GREATEST_MULTIPLE}
 use Rattle.msp_instance.specs.declared.Job.{Job}
 use Rattle.msp_instance.specs.declared.Instance.{Instance}
 use Rattle.msp_instance.specs.Instance.{no_need, no_job, job_at, need_at, common_time}
@@ -71,7 +72,8 @@ ratio_is p n r q s c t whole here times = ap (λ x. p * (x * r)) (sym whole) ∙
     turned p c s r = omega arith
 
 -- ---- the lower instance
-module _ (row : ℕ) (i : Instance) (e : Env) (from : kind_of i.class.env ≡ Uniform) (to : kind_of e ≡ Unrelated) (fixed : fixed_machines i.class.env ≡ fixed_machines e) (general : i.class.times ≡ General) (g : goes_of row i.class ≡ Some (record i.class { env = e })) (inner : Inner i) where
+module _ (row : ℕ) (i : Instance) (e : Env) (from : kind_of i.class.env ≡ Uniform) (to : kind_of e ≡ Unrelated) (fixed : fixed_machines i.class.env ≡ fixed_machines e)
+    (general : i.class.times ≡ General) (g : goes_of row i.class ≡ Some (record i.class { env = e })) (inner : Inner i) where
   abbrev n : ℕ
   n = least_common_multiple i.speeds
 
@@ -122,17 +124,21 @@ module _ (row : ℕ) (i : Instance) (e : Env) (from : kind_of i.class.env ≡ Un
   needs_there a h = HasNeeds-needs_by lower (length i.speeds) (λ m. only_time a * (n / slice_index_or i.speeds m 0)) to speeds_are.0 (omega (arith, speeds_are.0, machines_some)) (λ m l.
       let t = time_is a h in let c = part_of m l in (
         mul-le 1 1 (only_time a) (n / slice_index_or i.speeds m 0) t.0 c.some,
-        subst (λ t. only_time a * (n / slice_index_or i.speeds m 0) ≤ greatest_time (inner_limits Unrelated) t) (sym general) (mul-le (only_time a) (n / slice_index_or i.speeds m 0) GREATEST GREATEST_MULTIPLE t.1 (omega (arith, c.few, factor_small))),
+        subst (λ t. only_time a * (n / slice_index_or i.speeds m 0) ≤ greatest_time (inner_limits Unrelated) t)
+            (sym general) (mul-le (only_time a) (n / slice_index_or i.speeds m 0) GREATEST GREATEST_MULTIPLE t.1 (omega (arith, c.few, factor_small))),
       ))
 
   own : (a : Job) → IsJobOf (inner_limits (kind_of i.class.env)) i a → IsJobOf (inner_limits (kind_of e)) lower (stretched n i.speeds a)
   own a h = record {
     needs = needs_there a h;
     times = subst (λ t. HasSameTimes t (common_time lower) (stretched n i.speeds a).needs) (sym general) tt;
-    release = subst (λ k. HasRelease (inner_limits k) i.class.heads (n * a.release)) (sym to) (HasRelease-product n factor_small i.class.heads a.release (subst (λ k. HasRelease (inner_limits k) i.class.heads a.release) from h.release));
-    due = subst (λ k. HasDue (inner_limits k) (uses_due i.class.crit) (pos n *ℤ a.due)) (sym to) (HasDue-product n factor_small (uses_due i.class.crit) a.due (subst (λ k. HasDue (inner_limits k) (uses_due i.class.crit) a.due) from h.due));
+    release = subst (λ k. HasRelease (inner_limits k) i.class.heads (n * a.release))
+        (sym to) (HasRelease-product n factor_small i.class.heads a.release (subst (λ k. HasRelease (inner_limits k) i.class.heads a.release) from h.release));
+    due = subst (λ k. HasDue (inner_limits k) (uses_due i.class.crit) (pos n *ℤ a.due))
+        (sym to) (HasDue-product n factor_small (uses_due i.class.crit) a.due (subst (λ k. HasDue (inner_limits k) (uses_due i.class.crit) a.due) from h.due));
     weight = h.weight;
-    curve = subst (λ k. HasCurve (inner_limits k) (uses_curve i.class.crit) (stretched n i.speeds a).curve) (sym to) (HasCurve-product n factor_small (uses_curve i.class.crit) a.curve (subst (λ k. HasCurve (inner_limits k) (uses_curve i.class.crit) a.curve) from h.curve));
+    curve = subst (λ k. HasCurve (inner_limits k) (uses_curve i.class.crit) (stretched n i.speeds a).curve) (sym to)
+        (HasCurve-product n factor_small (uses_curve i.class.crit) a.curve (subst (λ k. HasCurve (inner_limits k) (uses_curve i.class.crit) a.curve) from h.curve));
   }
 
   count : length lower.jobs ≡ length i.jobs
@@ -165,10 +171,12 @@ module _ (row : ℕ) (i : Instance) (e : Env) (from : kind_of i.class.env ≡ Un
   per_machine = lower_shaped.unrelated to
 
   need_is : (a m : ℕ) → a < length i.jobs → m < i.machines → need_at lower a m ≡ record { machine = m; time = only_time (job_at i a) * (n / slice_index_or i.speeds m 0) }
-  need_is a m l b = ap (λ x. slice_index_or x.needs m no_need) (job_is a l) ∙ get_or-needs_by (length i.speeds) (λ m. only_time (job_at i a) * (n / slice_index_or i.speeds m 0)) m no_need (omega (arith, speeds_are.0))
+  need_is a m l b = ap (λ x. slice_index_or x.needs m no_need) (job_is a l)
+      ∙ get_or-needs_by (length i.speeds) (λ m. only_time (job_at i a) * (n / slice_index_or i.speeds m 0)) m no_need (omega (arith, speeds_are.0))
 
   rates_are : (a m : ℕ) → a < length i.jobs → m < i.machines → only_time (job_at i a) * (n * rate_on Unrelated lower a m) ≡ product_of_times (job_at lower a).needs * slice_index_or i.speeds m 0
-  rates_are a m l b = ratio_is (only_time (job_at i a)) n (rate_on Unrelated lower a m) (product_of_times (job_at lower a).needs) (slice_index_or i.speeds m 0) (n / slice_index_or i.speeds m 0) (need_at lower a m).time
+  rates_are a m l b = ratio_is (only_time (job_at i a)) n (rate_on Unrelated lower a m)
+      (product_of_times (job_at lower a).needs) (slice_index_or i.speeds m 0) (n / slice_index_or i.speeds m 0) (need_at lower a m).time
       (part_of m (omega (arith, speeds_are.0))).whole (ap (λ x. x.time) (need_is a m l b)) (rate_times lower a m per_machine (omega (arith, count)) b)
 
   product_some : (a : ℕ) → a < length i.jobs → 0 < product_of_times (job_at lower a).needs
@@ -211,7 +219,8 @@ module _ (row : ℕ) (i : Instance) (e : Env) (from : kind_of i.class.env ≡ Un
       times = product_of_times (job_at lower a).needs;
       over = only_time (job_at i a) * n;
       some = product_some a inside;
-      rate = λ m w. ap (λ z. pos (product_of_times (job_at lower a).needs) *ℤ z) (one-*ℤ (pos (slice_index_or i.speeds m 0))) ∙ ap pos (sym (rates_are a m inside w) ∙ grouped (only_time (job_at i a)) n (rate_on Unrelated lower a m));
+      rate = λ m w. ap (λ z. pos (product_of_times (job_at lower a).needs) *ℤ z) (one-*ℤ (pos (slice_index_or i.speeds m 0)))
+          ∙ ap pos (sym (rates_are a m inside w) ∙ grouped (only_time (job_at i a)) n (rate_on Unrelated lower a m));
       want = wants D (only_time (job_at i a)) n (product_of_times (job_at lower a).needs) (need_at i a o).time (ap (λ k. (need_at i a k).time) h);
     };
     cut = λ c. c;
@@ -221,7 +230,8 @@ module _ (row : ℕ) (i : Instance) (e : Env) (from : kind_of i.class.env ≡ Un
       grouped p n r = omega arith
 
       wants : (D : ℤ) (p n q t : ℕ) → t ≡ p → pos q *ℤ ((D *ℤ pos n) *ℤ pos t) ≡ pos (p * n) *ℤ (D *ℤ pos q)
-      wants D p n q t e = ap (λ z. pos q *ℤ z) (*ℤ_assoc D (pos n) (pos t)) ∙ *ℤ_exchange (pos q) D (pos (n * t)) ∙ ap (λ k. D *ℤ pos k) (ap (λ k. q * (n * k)) e ∙ turned p n q) ∙ sym (*ℤ_exchange (pos (p * n)) D (pos q))
+      wants D p n q t e = ap (λ z. pos q *ℤ z) (*ℤ_assoc D (pos n) (pos t))
+          ∙ *ℤ_exchange (pos q) D (pos (n * t)) ∙ ap (λ k. D *ℤ pos k) (ap (λ k. q * (n * k)) e ∙ turned p n q) ∙ sym (*ℤ_exchange (pos (p * n)) D (pos q))
         where
           turned : (p n q : ℕ) → q * (n * p) ≡ p * n * q
           turned p n q = omega arith
@@ -236,7 +246,8 @@ module _ (row : ℕ) (i : Instance) (e : Env) (from : kind_of i.class.env ≡ Un
       unit = f.unit;
       moments = Stretches-factor s.pieces (pos n) (pos-le factor_some);
       operations = suits_to s.unit;
-      heads = λ k d l inside h. subst (λ z. z ≤ℤ (pos n *ℤ (get_or s.pieces k d).from)) (sym (ap (λ r. s.unit *ℤ pos r) (head_is (get_or s.pieces k d).job inside) ∙ *ℤ_exchange s.unit (pos n) (pos (job_at i (get_or s.pieces k d).job).release))) (*ℤ-mono n h);
+      heads = λ k d l inside h. subst (λ z. z ≤ℤ (pos n *ℤ (get_or s.pieces k d).from))
+          (sym (ap (λ r. s.unit *ℤ pos r) (head_is (get_or s.pieces k d).job inside) ∙ *ℤ_exchange s.unit (pos n) (pos (job_at i (get_or s.pieces k d).job).release))) (*ℤ-mono n h);
       arcs = All-contains_itself i.arcs;
       routed = λ r. inl r;
     }
@@ -254,7 +265,8 @@ module _ (row : ℕ) (i : Instance) (e : Env) (from : kind_of i.class.env ≡ Un
       unit = more t.unit n f.unit factor_some;
       moments = Stretches-identity t.pieces;
       operations = suits_from t.unit;
-      heads = λ k d l inside h. subst (λ z. z ≤ℤ (get_or t.pieces k d).from) (ap (λ r. t.unit *ℤ pos r) (head_is (get_or t.pieces k d).job (omega (arith, count))) ∙ sym (*ℤ_assoc t.unit (pos n) (pos (job_at i (get_or t.pieces k d).job).release))) h;
+      heads = λ k d l inside h. subst (λ z. z ≤ℤ (get_or t.pieces k d).from)
+          (ap (λ r. t.unit *ℤ pos r) (head_is (get_or t.pieces k d).job (omega (arith, count))) ∙ sym (*ℤ_assoc t.unit (pos n) (pos (job_at i (get_or t.pieces k d).job).release))) h;
       arcs = All-contains_itself i.arcs;
       routed = λ r. inl r;
     }
@@ -277,7 +289,8 @@ module _ (row : ℕ) (i : Instance) (e : Env) (from : kind_of i.class.env ≡ Un
       ∙ ap (λ a. pos n *ℤ job_cost i.class.crit t.unit a (end_of t k)) (sym (job_is k l)))
 
   cost_to : (s : Schedule) → Feasible i s → cost_of lower (stretched_schedule n s) ≡ pos factor *ℤ cost_of i s
-  cost_to s f = sym (one-*ℤ (cost_of lower (stretched_schedule n s))) ∙ sym (cost-multiple i lower s (stretched_schedule n s) (pos factor) (pos 1) (pos-le (omega arith)) (pos-le (omega arith)) refl (sym count) (λ k l.
+  cost_to s f = sym (one-*ℤ (cost_of lower (stretched_schedule n s)))
+      ∙ sym (cost-multiple i lower s (stretched_schedule n s) (pos factor) (pos 1) (pos-le (omega arith)) (pos-le (omega arith)) refl (sym count) (λ k l.
       charge k l ∙ sym (one-*ℤ (charge_of lower (stretched_schedule n s) k))))
     where
       charge : (k : ℕ) → k < length i.jobs → pos factor *ℤ charge_of i s k ≡ charge_of lower (stretched_schedule n s) k
@@ -335,22 +348,26 @@ pub record IsLedBySpeeds (row : ℕ) (i j : Instance) : Type 0 where
   pub some : 1 ≤ least_common_multiple i.speeds
   pub small : least_common_multiple i.speeds ≤ GREATEST_MULTIPLE
 
-led_there : (row : ℕ) (i : Instance) (e : Env) → kind_of i.class.env ≡ Uniform → kind_of e ≡ Unrelated → fixed_machines i.class.env ≡ fixed_machines e → i.class.times ≡ General → goes_of row i.class ≡ Some (record i.class { env = e }) → Inner i → IsLedBySpeeds row i (led_by_speeds row i)
-led_there row i e from to fixed general g inner = subst (IsLedBySpeeds row i) (sym (ap (λ o. record i { class = unwrap_or o i.class; speeds = []; jobs = map (stretched (least_common_multiple i.speeds) i.speeds) i.jobs }) g)) (record {
-  lower = lower_is row i e from to fixed general g inner;
-  rate = IsPositive-speeds row i e from to fixed general g inner;
-  forth = IsForth-stretched row i e from to fixed general g inner;
-  back = IsBack-shrunk row i e from to fixed general g inner;
-  from = from;
-  to = to;
-  some = factor_some row i e from to fixed general g inner;
-  small = factor_small row i e from to fixed general g inner;
-})
+led_there : (row : ℕ) (i : Instance) (e : Env) → kind_of i.class.env ≡ Uniform → kind_of e ≡ Unrelated → fixed_machines i.class.env ≡ fixed_machines e
+    → i.class.times ≡ General → goes_of row i.class ≡ Some (record i.class { env = e }) → Inner i → IsLedBySpeeds row i (led_by_speeds row i)
+led_there row i e from to fixed general g inner =
+    subst (IsLedBySpeeds row i) (sym (ap (λ o. record i { class = unwrap_or o i.class; speeds = []; jobs = map (stretched (least_common_multiple i.speeds) i.speeds) i.jobs }) g)) (record {
+      lower = lower_is row i e from to fixed general g inner;
+      rate = IsPositive-speeds row i e from to fixed general g inner;
+      forth = IsForth-stretched row i e from to fixed general g inner;
+      back = IsBack-shrunk row i e from to fixed general g inner;
+      from = from;
+      to = to;
+      some = factor_some row i e from to fixed general g inner;
+      small = factor_small row i e from to fixed general g inner;
+    })
 
 pub led_26 : (i : Instance) → Inner i → Applies 26 i → IsLedBySpeeds 26 i (led_by_speeds 26 i)
 unfolding goes_of table
-led_26 i inner h = let (b, c, g) = part_and_condition _ _ _ h in let e = env_number-injective _ Q (eqb-true _ _ b) in led_there 26 i R (ap kind_of e) refl (ap fixed_machines e) (times_number-injective _ General (eqb-true _ _ c)) g inner
+led_26 i inner h = let (b, c, g) = part_and_condition _ _ _ h in let e = env_number-injective _ Q (eqb-true _ _ b) in
+    led_there 26 i R (ap kind_of e) refl (ap fixed_machines e) (times_number-injective _ General (eqb-true _ _ c)) g inner
 
 pub led_27 : (i : Instance) → Inner i → Applies 27 i → IsLedBySpeeds 27 i (led_by_speeds 27 i)
 unfolding goes_of table
-led_27 i inner h = let (b, c, g) = part_and_condition _ _ _ h in let e = env_number-injective _ Q2 (eqb-true _ _ b) in led_there 27 i R2 (ap kind_of e) refl (ap fixed_machines e) (times_number-injective _ General (eqb-true _ _ c)) g inner
+led_27 i inner h = let (b, c, g) = part_and_condition _ _ _ h in let e = env_number-injective _ Q2 (eqb-true _ _ b) in
+    led_there 27 i R2 (ap kind_of e) refl (ap fixed_machines e) (times_number-injective _ General (eqb-true _ _ c)) g inner

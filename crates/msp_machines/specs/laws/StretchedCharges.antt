@@ -29,10 +29,12 @@ module _ (n : ℕ) (speeds : List ℕ) (unit x : ℤ) where
       by false = omega arith
 
   jumps-stretched : (c : Curve) → jumps unit (stretched_curve n c) x ≡ n * jumps wide c x
-  jumps-stretched c = sum_by-map (λ s. jump unit s x) (stretched_step n) c.steps ∙ sum_by-agree (λ s. jump unit (stretched_step n s) x) (λ s. n * jump wide s x) c.steps jump-stretched ∙ sum_by-scale n (λ s. jump wide s x) c.steps
+  jumps-stretched c = sum_by-map (λ s. jump unit s x) (stretched_step n) c.steps
+      ∙ sum_by-agree (λ s. jump unit (stretched_step n s) x) (λ s. n * jump wide s x) c.steps jump-stretched ∙ sum_by-scale n (λ s. jump wide s x) c.steps
 
   level-stretched : (c : Curve) → unit *ℤ ((pos n *ℤ c.base) +ℤ pos (jumps unit (stretched_curve n c) x)) ≡ wide *ℤ (c.base +ℤ pos (jumps wide c x))
-  level-stretched c = ap (λ m. unit *ℤ ((pos n *ℤ c.base) +ℤ pos m)) (jumps-stretched c) ∙ ap (λ z. unit *ℤ z) (sym (*ℤ-add (pos n) c.base (pos (jumps wide c x)))) ∙ date (c.base +ℤ pos (jumps wide c x))
+  level-stretched c = ap (λ m. unit *ℤ ((pos n *ℤ c.base) +ℤ pos m)) (jumps-stretched c)
+      ∙ ap (λ z. unit *ℤ z) (sym (*ℤ-add (pos n) c.base (pos (jumps wide c x)))) ∙ date (c.base +ℤ pos (jumps wide c x))
 
   lateness-stretched : (a : Job) → lateness unit (stretched n speeds a) x ≡ lateness wide a x
   lateness-stretched a = ap (λ d. x -ℤ d) (date a.due)

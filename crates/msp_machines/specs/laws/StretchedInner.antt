@@ -5,7 +5,7 @@ use Rattle.std.proofs.lemmas.List.{length-map}
 use Rattle.std.proofs.lemmas.List.Elements.{All-map}
 use Rattle.msp_class.specs.declared.environments.EnvKind.TheVariants.{Uniform, Unrelated}
 use Rattle.msp_class.proofs.IntegerRing.{≤ℤ_trans, *ℤ-zero, *ℤ-sub, *ℤ-mono, pos-le}
-use Rattle.msp_instance.specs.declared.ranges.TheConstants.{GREATEST, GREATEST_MULTIPLE}
+use Rattle.msp_class.specs.declared.sizes.TheConstants.{GREATEST, GREATEST_MULTIPLE}
 use Rattle.msp_instance.specs.declared.Curve.{Curve}
 use Rattle.msp_instance.specs.Instance.{no_curve}
 use Rattle.msp_instance.specs.Conditions.{LiesWithin, HasRelease, HasDue, HasCurve, inner_limits}
@@ -42,7 +42,8 @@ module _ (n : ℕ) (small : n ≤ GREATEST_MULTIPLE) where
     slope = h.slope;
     base = LiesWithin-product c.base (2 * GREATEST) h.base;
     few = omega (arith, h.few, length-map c.steps (stretched_step n));
-    steps = All-map (λ s. (s.above ≤ GREATEST * GREATEST_MULTIPLE) × (s.add ≤ GREATEST * GREATEST_MULTIPLE)) (stretched_step n) c.steps (λ k d l. let t = h.steps k d l in (times_within (get_or c.steps k d).above GREATEST t.0, times_within (get_or c.steps k d).add GREATEST t.1));
+    steps = All-map (λ s. (s.above ≤ GREATEST * GREATEST_MULTIPLE) × (s.add ≤ GREATEST * GREATEST_MULTIPLE)) (stretched_step n)
+        c.steps (λ k d l. let t = h.steps k d l in (times_within (get_or c.steps k d).above GREATEST t.0, times_within (get_or c.steps k d).add GREATEST t.1));
   }
   HasCurve-product false c h = ap (stretched_curve n) h ∙ ap (λ z. record no_curve { base = z }) (*ℤ-zero (pos n))
 

@@ -11,7 +11,7 @@ use Rattle.msp_class.specs.Env.{kind_of}
 use Rattle.msp_class.specs.Crit.{is_greatest, uses_due, uses_weight}
 use Rattle.msp_class.proofs.RankLemmas.{crit_number-injective}
 use Rattle.msp_class.proofs.IntegerRing.{one-*ℤ, *ℤ-neg, +ℤ_idr}
-use Rattle.msp_instance.specs.declared.ranges.TheConstants.{GREATEST, GREATEST_MULTIPLE}
+use Rattle.msp_class.specs.declared.sizes.TheConstants.{GREATEST, GREATEST_MULTIPLE}
 use Rattle.msp_instance.specs.declared.Job.{Job}
 use Rattle.msp_instance.specs.declared.Instance.{Instance}
 use Rattle.msp_instance.specs.Instance.{job_at}

@@ -1,5 +1,6 @@
 -- The row from equal times to unit times: both instances have the same schedules on another scale.
-use Rattle.std.proofs.Common.{◌≡◌, ℕ, ◌+◌, ◌*◌, ◌<◌, ◌≤◌, ◌⊎◌, Bool, true, false, List, length, get_or, map, inl, inr, ℤ, pos, nat_abs, ◌+ℤ◌, ◌-ℤ◌, ◌*ℤ◌, ◌≤ℤ◌, Some, unwrap_or, refl, sym, ap, subst, ◌∙◌, arith, ◌^◌}
+use Rattle.std.proofs.Common.{◌≡◌, ℕ, ◌+◌, ◌*◌, ◌<◌, ◌≤◌, ◌⊎◌, Bool, true, false, List, length, get_or, map, inl, inr, ℤ, pos, nat_abs, ◌+ℤ◌, ◌-ℤ◌, ◌*ℤ◌, ◌≤ℤ◌, Some, unwrap_or}
+use Rattle.std.proofs.Common.{refl, sym, ap, subst, ◌∙◌, arith, ◌^◌}
 use Rattle.std.specs.Prelude.{◌||◌}
 use Rattle.std.proofs.lemmas.Bool.{eqb-true}
 use Rattle.std.proofs.lemmas.Int.{ints}
@@ -15,15 +16,13 @@ use Rattle.msp_class.specs.declared.environments.EnvKind.TheVariants.{Identical,
 use Rattle.msp_class.specs.Env.{kind_of}
 use Rattle.msp_class.proofs.RankLemmas.{flag_number-injective, times_number-injective, crit_number-injective}
 use Rattle.msp_class.proofs.IntegerRing.{pos-le, one-*ℤ, zero-*ℤ, +ℤ_idr, *ℤ_assoc, *ℤ_comm, *ℤ-mono, *ℤ-mono_nonneg, ≤ℤ_trans, ≤ℤ_of_same}
-use Rattle.msp_class.specs.declared.environments.TheConstants.{MOST_OPERATIONS}
-use Rattle.msp_instance.specs.declared.ranges.TheConstants.{GREATEST, GREATEST_EQUAL_TIME, MOST_JOBS}
+use Rattle.msp_class.specs.declared.sizes.TheConstants.{MOST_JOBS, MOST_OPERATIONS, GREATEST, GREATEST_EQUAL_TIME, GREATEST_UNIT}
 use Rattle.msp_instance.specs.declared.Need.{Need}
 use Rattle.msp_instance.specs.declared.Job.{Job}
 use Rattle.msp_instance.specs.declared.Instance.{Instance}
 use Rattle.msp_instance.specs.Instance.{no_need, no_job, job_at, common_time}
 use Rattle.msp_instance.specs.Conditions.{Limits, IsJobOf, HasShape, HasTimes, HasRelease, Inner, inner_limits, inner_factor, least_time, greatest_time}
 use Rattle.msp_schedule.specs.declared.Schedule.{Schedule}
-use Rattle.msp_schedule.specs.declared.limits.TheConstants.{GREATEST_UNIT}
 use Rattle.msp_schedule.specs.Feasible.{Feasible}
 use Rattle.msp_schedule.specs.Cost.{cost_of, end_of}
 use Rattle.msp_schedule.proofs.feasible.OneMachine.{both_true}
@@ -78,9 +77,21 @@ led_is i h = ap (λ o. record i { class = unwrap_or o i.class; jobs = map unit_j
 shape_of_units : (k : EnvKind) (e : Env) (m : ℕ) (needs : List Need) → HasShape k e m needs → HasShape k e m (map unit_need needs)
 shape_of_units Identical e m needs h = (length-map needs unit_need ∙ h.0, All-map (λ n. n.machine ≡ 0) unit_need needs h.1)
 shape_of_units Uniform e m needs h = (length-map needs unit_need ∙ h.0, All-map (λ n. n.machine ≡ 0) unit_need needs h.1)
-shape_of_units Unrelated e m needs h = (length-map needs unit_need ∙ h.0, λ k l. let inside : k < length needs = omega (arith, length-map needs unit_need) in ap (λ n. n.machine) (get_or-map unit_need needs k no_need no_need inside) ∙ h.1 k inside)
-shape_of_units OpenShop e m needs h = (length-map needs unit_need ∙ h.0, λ k l. let inside : k < length needs = omega (arith, length-map needs unit_need) in ap (λ n. n.machine) (get_or-map unit_need needs k no_need no_need inside) ∙ h.1 k inside)
-shape_of_units FlowShop e m needs h = (length-map needs unit_need ∙ h.0, λ k l. let inside : k < length needs = omega (arith, length-map needs unit_need) in ap (λ n. n.machine) (get_or-map unit_need needs k no_need no_need inside) ∙ h.1 k inside)
+shape_of_units Unrelated e m needs h = (
+  length-map needs unit_need ∙ h.0,
+  λ k l. let inside : k < length needs = omega (arith, length-map needs unit_need) in
+      ap (λ n. n.machine) (get_or-map unit_need needs k no_need no_need inside) ∙ h.1 k inside,
+)
+shape_of_units OpenShop e m needs h = (
+  length-map needs unit_need ∙ h.0,
+  λ k l. let inside : k < length needs = omega (arith, length-map needs unit_need) in
+      ap (λ n. n.machine) (get_or-map unit_need needs k no_need no_need inside) ∙ h.1 k inside,
+)
+shape_of_units FlowShop e m needs h = (
+  length-map needs unit_need ∙ h.0,
+  λ k l. let inside : k < length needs = omega (arith, length-map needs unit_need) in
+      ap (λ n. n.machine) (get_or-map unit_need needs k no_need no_need inside) ∙ h.1 k inside,
+)
 shape_of_units JobShop e m needs h = record {
   some = omega (arith, h.some, length-map needs unit_need);
   few = omega (arith, h.few, length-map needs unit_need);
@@ -127,7 +138,8 @@ unit_inner i inner = Inner-changed i i.class.order i.class.heads UnitTimes i.cla
       curve = h.curve;
     }
 
-    near : (j k : ℕ) → j < length (map unit_job i.jobs) → k < length (map unit_job i.jobs) → ((job_at (unit_of i) j).due -ℤ (job_at (unit_of i) k).due) ≤ℤ pos (2 * GREATEST * inner_factor (kind_of i.class.env))
+    near : (j k : ℕ) → j < length (map unit_job i.jobs) → k < length (map unit_job i.jobs)
+        → ((job_at (unit_of i) j).due -ℤ (job_at (unit_of i) k).due) ≤ℤ pos (2 * GREATEST * inner_factor (kind_of i.class.env))
     near j k a b =
         let more = length-map i.jobs unit_job in
         let c : j < length i.jobs = omega arith in
@@ -202,7 +214,8 @@ module _ (i : Instance) (inner : Inner i) (leads : LeadsToUnit i) where
   forth s f = (
     Feasible-to_unit e i j shared here there inner.conditions.machines.0 no_heads s f,
     translated_forth e (cost_of j (over_time e s)) (cost_of i s) s.unit (≤ℤ_trans (pos-le (omega arith)) f.unit)
-        (cost-plain j i (over_time e s) s 1 leads.plain refl (length-map i.jobs unit_job) (λ a l. sym (weights a (omega (arith, length-map i.jobs unit_job)))) (λ a l. ≤ℤ_of_same (sym (one-*ℤ (end_of s a))))),
+        (cost-plain j i (over_time e s) s 1 leads.plain refl
+        (length-map i.jobs unit_job) (λ a l. sym (weights a (omega (arith, length-map i.jobs unit_job)))) (λ a l. ≤ℤ_of_same (sym (one-*ℤ (end_of s a))))),
   )
 
   back : (t s : Schedule) → IsReordered (closed_up e t) s → IsBack (by_common_time i) i j t s

@@ -1,5 +1,6 @@
 -- How long all pieces are together where all times are 1, and how late a schedule of them ends without its idle stretches.
-use Rattle.std.proofs.Common.{◌≡◌, ℕ, ◌*◌, ◌<◌, ◌≤◌, Bool, true, false, cond, eqb, List, [], ◌∷◌, length, get_or, map, filter, All, ℤ, pos, negsuc, nat_abs, ◌+ℤ◌, ◌*ℤ◌, ◌≤ℤ◌, sum_by, refl, sym, ap, ap₂, subst, ◌∙◌, arith}
+use Rattle.std.proofs.Common.{◌≡◌, ℕ, ◌*◌, ◌<◌, ◌≤◌, Bool, true, false, cond, eqb, List, [], ◌∷◌, length, get_or, map, filter, All, ℤ, pos, negsuc, nat_abs, ◌+ℤ◌, ◌*ℤ◌, ◌≤ℤ◌}
+use Rattle.std.proofs.Common.{sum_by, refl, sym, ap, ap₂, subst, ◌∙◌, arith}
 use Rattle.std.specs.Prelude.{◌==◌, ◌&&◌}
 use Rattle.std.proofs.lemmas.Int.{ints}
 use Rattle.std.proofs.lemmas.Nat.{mul-le}
@@ -12,19 +13,19 @@ use Rattle.msp_class.specs.declared.environments.EnvKind.TheVariants.{Identical,
 use Rattle.msp_class.specs.Env.{kind_of, most_operations}
 use Rattle.msp_class.proofs.IntegerRing.{pos-le, le-pos, *ℤ-one, +ℤ_mono, ≤ℤ_refl}
 use Rattle.msp_class.proofs.Sums.{sum_by-by_key_filter, total_below-bound}
-use Rattle.msp_class.specs.declared.environments.TheConstants.{MOST_OPERATIONS}
+use Rattle.msp_class.specs.declared.sizes.TheConstants.{MOST_JOBS, MOST_OPERATIONS}
 use Rattle.msp_instance.specs.declared.Need.{Need}
 use Rattle.msp_instance.specs.declared.Instance.{Instance}
 use Rattle.msp_instance.specs.Instance.{no_need, no_job, job_at, need_at}
 use Rattle.msp_instance.specs.Conditions.{Limits, MeetsConditions, HasShape, HasSpeeds, HasSameTimes}
-use Rattle.msp_instance.specs.declared.ranges.TheConstants.{MOST_JOBS}
 use Rattle.msp_schedule.specs.declared.Piece.{Piece}
 use Rattle.msp_schedule.specs.declared.Schedule.{Schedule}
 use Rattle.msp_schedule.specs.Piece.{length_of, start, finish, IsTimed}
 use Rattle.msp_schedule.specs.Feasible.{Feasible, HasOperation, MayRun, product_of_times, total, whole_work}
 use Rattle.msp_schedule.specs.Intervals.{size_of}
 use Rattle.msp_schedule.proofs.feasible.OneMachine.{IsTimed-from_span, total_lengths}
-use Rattle.msp_schedule.proofs.feasible.Frames.{Frame, frame_by, rate_on, Lasts, Stands, Fits, IsShaped-from_conditions, HasTimePerMachine, rate_positive, product_of_times-cons, of_operation, of_operation-named, part, Fits-from_feasible}
+use Rattle.msp_schedule.proofs.feasible.Frames.{Frame, frame_by, rate_on, Lasts, Stands, Fits, IsShaped-from_conditions, HasTimePerMachine, rate_positive, product_of_times-cons}
+use Rattle.msp_schedule.proofs.feasible.Frames.{of_operation, of_operation-named, part, Fits-from_feasible}
 use Rattle.msp_schedule.proofs.changes.Moves.{total-cons}
 
 -- ---- a sum by two keys
@@ -33,7 +34,8 @@ module _ {X : Type 0} (p q : X → Bool) where
   filter_both [] = refl
   filter_both (x ∷ xs) = by (p x) (q x) (filter_both xs)
     where
-      by : (a b : Bool) → filter q (filter p xs) ≡ filter (λ x. p x && q x) xs → filter q (cond a (x ∷ filter p xs) (filter p xs)) ≡ cond (a && q x) (x ∷ filter (λ x. p x && q x) xs) (filter (λ x. p x && q x) xs)
+      by : (a b : Bool) → filter q (filter p xs) ≡ filter (λ x. p x && q x) xs
+          → filter q (cond a (x ∷ filter p xs) (filter p xs)) ≡ cond (a && q x) (x ∷ filter (λ x. p x && q x) xs) (filter (λ x. p x && q x) xs)
       by true b e = ap (λ l. cond (q x) (x ∷ l) l) e
       by false b e = e
 
@@ -165,9 +167,11 @@ wants_one l i h e = record {
 }
 
 -- each operation is at most a unit long
-pub lengths_of_units : (l : Limits) (i : Instance) (s : Schedule) → MeetsConditions l i → i.class.times ≡ UnitTimes → Feasible i s → sum_by (size_of start finish) s.pieces ≤ MOST_JOBS * MOST_OPERATIONS * nat_abs s.unit
+pub lengths_of_units : (l : Limits) (i : Instance) (s : Schedule)
+    → MeetsConditions l i → i.class.times ≡ UnitTimes → Feasible i s → sum_by (size_of start finish) s.pieces ≤ MOST_JOBS * MOST_OPERATIONS * nat_abs s.unit
 lengths_of_units l i s h e f =
-    bounded (length i.jobs) (nat_abs s.unit) _ h.few (lengths_fit (frame_by (kind_of i.class.env) i) s.unit s.pieces MOST_OPERATIONS (Fits-from_feasible i s (IsShaped-from_conditions l i h) f) (wants_one l i h e))
+    bounded (length i.jobs) (nat_abs s.unit) _ h.few
+    (lengths_fit (frame_by (kind_of i.class.env) i) s.unit s.pieces MOST_OPERATIONS (Fits-from_feasible i s (IsShaped-from_conditions l i h) f) (wants_one l i h e))
   where
     bounded : (n u m : ℕ) → n ≤ MOST_JOBS → m ≤ n * (MOST_OPERATIONS * u) → m ≤ MOST_JOBS * MOST_OPERATIONS * u
     bounded n u m few k = let most = mul-le n (MOST_OPERATIONS * u) MOST_JOBS (MOST_OPERATIONS * u) few (omega arith) in omega arith

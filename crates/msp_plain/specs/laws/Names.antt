@@ -20,7 +20,8 @@ use Rattle.msp_instance.specs.declared.Arc.{Arc}
 use Rattle.msp_instance.specs.declared.Job.{Job}
 use Rattle.msp_instance.specs.declared.Instance.{Instance}
 use Rattle.msp_instance.specs.Instance.{no_need, no_job, job_at, common_time}
-use Rattle.msp_instance.specs.Conditions.{Limits, IsJobOf, HasTimes, HasSameTimes, HasRelease, HasDue, HasWeight, HasCurve, HasArcs, HasDegree, Inner, inner_limits, inner_factor, least_time, greatest_time}
+use Rattle.msp_instance.specs.Conditions.{Limits, IsJobOf, HasTimes, HasSameTimes, HasRelease, HasDue, HasWeight, HasCurve, HasArcs, HasDegree, Inner, inner_limits, inner_factor}
+use Rattle.msp_instance.specs.Conditions.{least_time, greatest_time}
 use Rattle.msp_schedule.specs.Cost.{job_cost, lateness, tardiness, late}
 use Rattle.msp_schedule.proofs.costs.Charges.{SameCharges-from_class}
 use Rattle.msp_schedule.proofs.changes.Serves.{SameWork-from_class}
@@ -56,7 +57,8 @@ any_leaving = record { arcs = λ l h. h; degree = λ l j e h. tt }
 any_entering : OrderGrows Outtree Prec
 any_entering = record { arcs = λ l h. h; degree = λ l j e h. tt }
 
-stay_order : (row : ℕ) (from to : Order) → OrderGrows from to → (i : Instance) → i.class.order ≡ from → goes_of row i.class ≡ Some (record i.class { order = to }) → Inner i → SchedulesStay row i (led row i)
+stay_order : (row : ℕ) (from to : Order) → OrderGrows from to
+    → (i : Instance) → i.class.order ≡ from → goes_of row i.class ≡ Some (record i.class { order = to }) → Inner i → SchedulesStay row i (led row i)
 stay_order row from to grows i e g inner = stay-alike (Alike-led row i (record i.class { order = to }) i.jobs g (record {
   lower = record {
     inner = Inner-recast i to i.class.heads i.class.times i.class.crit (λ a h. record {
@@ -125,7 +127,8 @@ stay_6 i inner h = let (b, g) = part_alone _ _ h in by (flag_number-injective _ 
     })) inner
 
 -- ---- times
-stay_times : (row : ℕ) (to : Times) (i : Instance) → ((a : Job) → IsJobOf (limits_of i) i a → HasTimes (least_time (kind_of i.class.env) to) (greatest_time (limits_of i) to) a.needs × HasSameTimes to (common_time i) a.needs) →
+stay_times : (row : ℕ) (to : Times) (i : Instance)
+    → ((a : Job) → IsJobOf (limits_of i) i a → HasTimes (least_time (kind_of i.class.env) to) (greatest_time (limits_of i) to) a.needs × HasSameTimes to (common_time i) a.needs) →
     goes_of row i.class ≡ Some (record i.class { times = to }) → Inner i → SchedulesStay row i (led row i)
 stay_times row to i own g inner = stay-alike (Alike-led row i (record i.class { times = to }) i.jobs g (record {
   lower = record {
@@ -185,7 +188,8 @@ stay_7 i inner h = let (b, g) = part_alone _ _ h in by (times_number-injective _
     by e g = stay_times 7 Equal i (λ a h. let ones = units i a e h in
         ((λ k d l. (omega (arith, ones k d l, least_shared (kind_of i.class.env)), omega (arith, ones k d l))), (λ k d l. ones k d l ∙ sym (shared_unit i e inner)))) g inner
 
-equal_in_range : (k : EnvKind) (needs : List Need) → HasTimes (least_time k Equal) (greatest_time (inner_limits k) Equal) needs → HasTimes (least_time k General) (greatest_time (inner_limits k) General) needs
+equal_in_range : (k : EnvKind) (needs : List Need) → HasTimes (least_time k Equal) (greatest_time (inner_limits k) Equal) needs
+    → HasTimes (least_time k General) (greatest_time (inner_limits k) General) needs
 equal_in_range k needs h = λ j d l. let t = h j d l in (omega (arith, t.0, least_shared k, least_one k), omega (arith, t.1, factor_some k))
 
 pub stay_53 : (i : Instance) → Inner i → Applies 53 i → SchedulesStay 53 i (led 53 i)
@@ -193,7 +197,8 @@ unfolding goes_of table
 stay_53 i inner h = let (b, g) = part_alone _ _ h in by (times_number-injective _ Equal (eqb-true _ _ b)) g
   where
     by : i.class.times ≡ Equal → goes_of 53 i.class ≡ Some (record i.class { times = General }) → SchedulesStay 53 i (led 53 i)
-    by e g = stay_times 53 General i (λ a h. (equal_in_range (kind_of i.class.env) a.needs (subst (λ t. HasTimes (least_time (kind_of i.class.env) t) (greatest_time (limits_of i) t) a.needs) e h.needs.times), tt)) g inner
+    by e g = stay_times 53 General i
+        (λ a h. (equal_in_range (kind_of i.class.env) a.needs (subst (λ t. HasTimes (least_time (kind_of i.class.env) t) (greatest_time (limits_of i) t) a.needs) e h.needs.times), tt)) g inner
 
 -- ---- the criterion
 -- jobs of the one criterion are jobs of the other, and are charged the same
@@ -204,7 +209,8 @@ record CritGrows (from to : Crit) : Type 0 where
   curve : uses_curve from ≡ uses_curve to
   charge : (l : Limits) (a : Job) → HasDue l (uses_due from) a.due → HasWeight (uses_weight from) a.weight → (unit x : ℤ) → pos 0 ≤ℤ x → job_cost from unit a x ≡ job_cost to unit a x
 
-stay_crit : (row : ℕ) (from to : Crit) → CritGrows from to → (i : Instance) → i.class.crit ≡ from → goes_of row i.class ≡ Some (record i.class { crit = to }) → Inner i → SchedulesStay row i (led row i)
+stay_crit : (row : ℕ) (from to : Crit) → CritGrows from to
+    → (i : Instance) → i.class.crit ≡ from → goes_of row i.class ≡ Some (record i.class { crit = to }) → Inner i → SchedulesStay row i (led row i)
 stay_crit row from to grows i e g inner = stay-alike (Alike-led row i (record i.class { crit = to }) i.jobs g (record {
   lower = record {
     inner = Inner-recast i i.class.order i.class.heads i.class.times to (λ a h. record {
@@ -221,7 +227,8 @@ stay_crit row from to grows i e g inner = stay-alike (Alike-led row i (record i.
   charges = record {
     count = refl;
     join = ap is_greatest e ∙ grows.join;
-    charge = λ k l unit x u p. let h = inner.conditions.jobs k no_job l in ap (λ c. job_cost c unit (job_at i k) x) e ∙ grows.charge (limits_of i) (job_at i k) (due_of (job_at i k) h) (weight_of (job_at i k) h) unit x p;
+    charge = λ k l unit x u p. let h = inner.conditions.jobs k no_job l in
+        ap (λ c. job_cost c unit (job_at i k) x) e ∙ grows.charge (limits_of i) (job_at i k) (due_of (job_at i k) h) (weight_of (job_at i k) h) unit x p;
   };
 })) inner
   where
@@ -252,24 +259,32 @@ once w x e = sym (ap (λ n. pos n *ℤ x) e ∙ one-*ℤ x)
 
 pub stay_8 : (i : Instance) → Inner i → Applies 8 i → SchedulesStay 8 i (led 8 i)
 unfolding goes_of table
-stay_8 i inner h = let (b, g) = part_alone _ _ h in stay_crit 8 Cmax Lmax (record { join = refl; due = no_date; weight = λ w h. h; curve = refl; charge = λ l a d w unit x p. never_due unit a x d }) i (crit_number-injective _ Cmax (eqb-true _ _ b)) g inner
+stay_8 i inner h = let (b, g) = part_alone _ _ h in stay_crit 8 Cmax Lmax
+    (record { join = refl; due = no_date; weight = λ w h. h; curve = refl; charge = λ l a d w unit x p. never_due unit a x d }) i (crit_number-injective _ Cmax (eqb-true _ _ b)) g inner
 
 pub stay_10 : (i : Instance) → Inner i → Applies 10 i → SchedulesStay 10 i (led 10 i)
 unfolding goes_of table
-stay_10 i inner h = let (b, g) = part_alone _ _ h in stay_crit 10 SumC SumWC (record { join = refl; due = λ l d h. h; weight = no_weight; curve = refl; charge = λ l a d w unit x p. once a.weight x w }) i (crit_number-injective _ SumC (eqb-true _ _ b)) g inner
+stay_10 i inner h = let (b, g) = part_alone _ _ h in stay_crit 10 SumC SumWC
+    (record { join = refl; due = λ l d h. h; weight = no_weight; curve = refl; charge = λ l a d w unit x p. once a.weight x w }) i (crit_number-injective _ SumC (eqb-true _ _ b)) g inner
 
 pub stay_11 : (i : Instance) → Inner i → Applies 11 i → SchedulesStay 11 i (led 11 i)
 unfolding goes_of table
-stay_11 i inner h = let (b, g) = part_alone _ _ h in stay_crit 11 SumC SumT (record { join = refl; due = no_date; weight = λ w h. h; curve = refl; charge = λ l a d w unit x p. never_late unit a x p d }) i (crit_number-injective _ SumC (eqb-true _ _ b)) g inner
+stay_11 i inner h = let (b, g) = part_alone _ _ h in stay_crit 11 SumC SumT
+    (record { join = refl; due = no_date; weight = λ w h. h; curve = refl; charge = λ l a d w unit x p. never_late unit a x p d }) i (crit_number-injective _ SumC (eqb-true _ _ b)) g inner
 
 pub stay_12 : (i : Instance) → Inner i → Applies 12 i → SchedulesStay 12 i (led 12 i)
 unfolding goes_of table
-stay_12 i inner h = let (b, g) = part_alone _ _ h in stay_crit 12 SumWC SumWT (record { join = refl; due = no_date; weight = λ w h. h; curve = refl; charge = λ l a d w unit x p. ap (λ z. pos a.weight *ℤ z) (never_late unit a x p d) }) i (crit_number-injective _ SumWC (eqb-true _ _ b)) g inner
+stay_12 i inner h = let (b, g) = part_alone _ _ h in
+    stay_crit 12 SumWC SumWT (record { join = refl; due = no_date; weight = λ w h. h; curve = refl; charge = λ l a d w unit x p. ap (λ z. pos a.weight *ℤ z) (never_late unit a x p d) })
+    i (crit_number-injective _ SumWC (eqb-true _ _ b)) g inner
 
 pub stay_13 : (i : Instance) → Inner i → Applies 13 i → SchedulesStay 13 i (led 13 i)
 unfolding goes_of table
-stay_13 i inner h = let (b, g) = part_alone _ _ h in stay_crit 13 SumT SumWT (record { join = refl; due = λ l d h. h; weight = no_weight; curve = refl; charge = λ l a d w unit x p. once a.weight (tardiness unit a x) w }) i (crit_number-injective _ SumT (eqb-true _ _ b)) g inner
+stay_13 i inner h = let (b, g) = part_alone _ _ h in
+    stay_crit 13 SumT SumWT (record { join = refl; due = λ l d h. h; weight = no_weight; curve = refl; charge = λ l a d w unit x p. once a.weight (tardiness unit a x) w })
+    i (crit_number-injective _ SumT (eqb-true _ _ b)) g inner
 
 pub stay_14 : (i : Instance) → Inner i → Applies 14 i → SchedulesStay 14 i (led 14 i)
 unfolding goes_of table
-stay_14 i inner h = let (b, g) = part_alone _ _ h in stay_crit 14 SumU SumWU (record { join = refl; due = λ l d h. h; weight = no_weight; curve = refl; charge = λ l a d w unit x p. once a.weight (late unit a x) w }) i (crit_number-injective _ SumU (eqb-true _ _ b)) g inner
+stay_14 i inner h = let (b, g) = part_alone _ _ h in stay_crit 14 SumU SumWU
+    (record { join = refl; due = λ l d h. h; weight = no_weight; curve = refl; charge = λ l a d w unit x p. once a.weight (late unit a x) w }) i (crit_number-injective _ SumU (eqb-true _ _ b)) g inner

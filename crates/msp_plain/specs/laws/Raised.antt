@@ -12,7 +12,7 @@ use Rattle.msp_class.specs.Crit.{is_greatest, uses_due, uses_weight, uses_curve}
 use Rattle.msp_class.proofs.IntegerRing.{≤ℤ_trans, int_max-left, ≤ℤ-int_max_left, ≤ℤ-int_max_right}
 use Rattle.msp_class.specs.Sums.{int_total_below}
 use Rattle.msp_class.proofs.Sums.{int_total_below-same}
-use Rattle.msp_instance.specs.declared.ranges.TheConstants.{GREATEST}
+use Rattle.msp_class.specs.declared.sizes.TheConstants.{GREATEST}
 use Rattle.msp_instance.specs.declared.Job.{Job}
 use Rattle.msp_instance.specs.declared.Instance.{Instance}
 use Rattle.msp_instance.specs.Instance.{job_at}
@@ -40,7 +40,8 @@ Inner-shifted i bound crit inner e sum dates = Inner-changed i i.class.order i.c
     (All-map (IsJobOf (inner_limits (kind_of i.class.env)) (shift_of bound crit i)) (raised bound) i.jobs (λ k d l. own (get_or i.jobs k d) (dates k d l) (inner.conditions.jobs k d l)))
     inner.conditions.arcs (λ j l. inner.conditions.degree j (omega (arith, length-map i.jobs (raised bound)))) near inner
   where
-    own : (a : Job) → LiesWithin (inner_limits (kind_of i.class.env)).greatest_date (a.due +ℤ bound) → IsJobOf (inner_limits (kind_of i.class.env)) i a → IsJobOf (inner_limits (kind_of i.class.env)) (shift_of bound crit i) (raised bound a)
+    own : (a : Job) → LiesWithin (inner_limits (kind_of i.class.env)).greatest_date (a.due +ℤ bound)
+        → IsJobOf (inner_limits (kind_of i.class.env)) i a → IsJobOf (inner_limits (kind_of i.class.env)) (shift_of bound crit i) (raised bound a)
     own a d h = record {
       needs = record { shape = h.needs.shape; times = h.needs.times; some = h.needs.some };
       times = subst (λ t. HasSameTimes i.class.times t a.needs) (sym (common_time-map i (shift_of bound crit i) (raised bound) refl (λ a. refl) inner.conditions.some)) h.times;
@@ -50,8 +51,10 @@ Inner-shifted i bound crit inner e sum dates = Inner-changed i i.class.order i.c
       curve = subst (λ b. HasCurve (inner_limits (kind_of i.class.env)) b a.curve) (ap uses_curve e ∙ sym (sum_uses crit sum).2) h.curve;
     }
 
-    near : (j k : ℕ) → j < length (map (raised bound) i.jobs) → k < length (map (raised bound) i.jobs) → ((job_at (shift_of bound crit i) j).due -ℤ (job_at (shift_of bound crit i) k).due) ≤ℤ pos (2 * GREATEST * inner_factor (kind_of i.class.env))
-    near j k a b = closer _ (job_at i j).due (job_at i k).due _ _ bound (later j a) (later k b) (inner.dues j k (omega (arith, length-map i.jobs (raised bound))) (omega (arith, length-map i.jobs (raised bound))))
+    near : (j k : ℕ) → j < length (map (raised bound) i.jobs) → k < length (map (raised bound) i.jobs)
+        → ((job_at (shift_of bound crit i) j).due -ℤ (job_at (shift_of bound crit i) k).due) ≤ℤ pos (2 * GREATEST * inner_factor (kind_of i.class.env))
+    near j k a b = closer _ (job_at i j).due (job_at i k).due _ _ bound
+        (later j a) (later k b) (inner.dues j k (omega (arith, length-map i.jobs (raised bound))) (omega (arith, length-map i.jobs (raised bound))))
       where
         later : (j : ℕ) → j < length (map (raised bound) i.jobs) → (job_at (shift_of bound crit i) j).due ≡ (job_at i j).due +ℤ bound
         later j a = ap (λ x. x.due) (job_at-map i (shift_of bound crit i) (raised bound) refl j (omega (arith, length-map i.jobs (raised bound))))

@@ -1,6 +1,7 @@
 -- Certificates on one machine: some jobs that cannot all be done earlier, each of which costs at least so much at the end of all, show
 -- that no feasible schedule costs less. So a schedule is best where each of its jobs has such a certificate. And the law of blocks.
-use Rattle.std.proofs.Common.{◌≡◌, ◌≢◌, ℕ, zero, suc, ◌+◌, ◌*◌, ◌<◌, ◌≤◌, Bool, true, false, cond, eqb, ◌⊎◌, inl, inr, List, [], ◌∷◌, length, get_or, count_by, sum_by, All, AllPairs, Contains, ℤ, pos, nat_abs, ◌*ℤ◌, ◌≤ℤ◌, refl, sym, ap, ap₂, subst, subst₂, ◌∙◌, arith}
+use Rattle.std.proofs.Common.{◌≡◌, ◌≢◌, ℕ, zero, suc, ◌+◌, ◌*◌, ◌<◌, ◌≤◌, Bool, true, false, cond, eqb, ◌⊎◌, inl, inr, List, [], ◌∷◌, length, get_or, count_by, sum_by, All}
+use Rattle.std.proofs.Common.{AllPairs, Contains, ℤ, pos, nat_abs, ◌*ℤ◌, ◌≤ℤ◌, refl, sym, ap, ap₂, subst, subst₂, ◌∙◌, arith}
 use Rattle.std.specs.Prelude.{slice_get, slice_index_or, Some}
 use Rattle.std.specs.List.{list_any}
 use Rattle.std.proofs.Math.Nat.{mul-pos}
@@ -15,7 +16,8 @@ use Rattle.msp_class.specs.Env.{kind_of}
 use Rattle.msp_class.specs.Crit.{is_greatest}
 use Rattle.msp_class.proofs.IntegerRing.{≤ℤ_trans, ≤ℤ_of_same, pos-le, le-pos, *ℤ-one, *ℤ_comm, *ℤ-mono}
 use Rattle.msp_class.specs.Sums.{total_below}
-use Rattle.msp_class.proofs.Sums.{sum_by-contains, sum_by_counts, count_by-distinct, total_below-same, total_below-scale, total_below-only, cond-scale, AllPairs-head, AllPairs-tail, OnceBelow-distinct}
+use Rattle.msp_class.proofs.Sums.{sum_by-contains, sum_by_counts, count_by-distinct, total_below-same, total_below-scale, total_below-only, cond-scale, AllPairs-head}
+use Rattle.msp_class.proofs.Sums.{AllPairs-tail, OnceBelow-distinct}
 use Rattle.msp_instance.specs.declared.Arc.{Arc}
 use Rattle.msp_instance.specs.declared.Instance.{Instance}
 use Rattle.msp_instance.specs.Instance.{no_job, no_need, job_at}
@@ -31,7 +33,7 @@ use Rattle.msp_schedule.specs.Cost.{job_cost, end_of, cost_of, Best}
 use Rattle.msp_schedule.specs.Intervals.{work_of}
 use Rattle.msp_schedule.proofs.lists.Intervals.{last_of, last_of-bound, last_of-reached, piece_of, last_job}
 use Rattle.msp_schedule.proofs.feasible.OneMachine.{IsOneMachine, IsOneMachine-from_env, IsPlan, IsPlan-from_feasible, last_end-is}
-use Rattle.msp_schedule.specs.Rows.{time_at}
+use Rattle.msp_schedule.specs.BackToBack.{time_at}
 use Rattle.msp_schedule.proofs.costs.Charges.{job_cost-mono, job_cost-scale, charge_of, cost_of-bound, cost_of-reached}
 use Rattle.msp_schedule.specs.Blocks.{total_time, cost_at, HasNoSuccessor, LeadsToNone, IsSound, LawOfBlocks, IsCertified}
 
@@ -80,7 +82,8 @@ list_total f n xs h u = sym (sum_by_counts f n xs h ∙ total_below-same n _ _ (
         none (suc c) q = absurd (false≢true (sym e ∙ list_any-from_Contains xs k (Contains-from_count xs k (omega (arith, q)))))
 
 -- ---- a feasible schedule
-module _ (i : Instance) (m : IsOneMachine i) (takes : (j : ℕ) → j < length i.jobs → 0 < time_at i j) (ends : All (λ a. (a.before < length i.jobs) × (a.after < length i.jobs)) i.arcs) (t : Schedule) (f : Feasible i t) where
+module _ (i : Instance) (m : IsOneMachine i) (takes : (j : ℕ) → j < length i.jobs → 0 < time_at i j)
+    (ends : All (λ a. (a.before < length i.jobs) × (a.after < length i.jobs)) i.arcs) (t : Schedule) (f : Feasible i t) where
   abbrev unit : ℕ
   unit = nat_abs t.unit
 
@@ -157,9 +160,14 @@ module _ (i : Instance) (m : IsOneMachine i) (takes : (j : ℕ) → j < length i
           let in_parts : pos (unit * (job_at i j).release) ≤ℤ pos (start q) = subst₂ (λ x y. x ≤ℤ y) (ap₂ (λ u k. u *ℤ pos (job_at i k).release) plan.unit e) (timed q c).from r in
           omega (arith, le-pos in_parts, mul-le-mul_left unit h)
 
+  pub after_heads : (heads : ℕ → ℕ) → IsSound i heads → (q : Piece) → Contains t.pieces q → unit * heads q.job ≤ start q
+  after_heads heads sound q c = heads_hold heads sound (suc (last q.job)) q.job (All-contains (λ p. p.job < length i.jobs) t.pieces q plan.jobs c) (omega arith) q c refl
+
   -- some jobs, none of which can begin before a moment: what each of them costs at least that leads to none of them is owed
-  module _ (greatest : is_greatest i.class.crit ≡ true) (heads : ℕ → ℕ) (sound : IsSound i heads) (jobs : List ℕ) (from moment : ℕ) (value : ℤ) (some : 0 < length jobs) (inside : All (λ k. k < length i.jobs) jobs)
-      (apart : AllPairs (λ k l. k ≢ l) jobs) (begin : All (λ k. from ≤ heads k) jobs) (whole : moment ≡ from + total_time i jobs) (least : All (λ k. LeadsToNone i jobs k → value ≤ℤ cost_at i k moment) jobs) where
+  module _ (greatest : is_greatest i.class.crit ≡ true) (heads : ℕ → ℕ)
+      (sound : IsSound i heads) (jobs : List ℕ) (from moment : ℕ) (value : ℤ) (some : 0 < length jobs) (inside : All (λ k. k < length i.jobs) jobs)
+      (apart : AllPairs (λ k l. k ≢ l) jobs) (begin : All (λ k. from ≤ heads k) jobs)
+      (whole : moment ≡ from + total_time i jobs) (least : All (λ k. LeadsToNone i jobs k → value ≤ℤ cost_at i k moment) jobs) where
     abbrev among : ℕ → Bool
     among k = list_any (λ x. eqb x k) jobs
 
@@ -186,9 +194,8 @@ module _ (i : Instance) (m : IsOneMachine i) (takes : (j : ℕ) → j < length i
     begins n d l e =
         let q = get_or t.pieces n d in
         let c = is_among q.job e in
-        let inside = All-contains (λ k. k < length i.jobs) jobs q.job inside c in
         let after = All-contains (λ k. from ≤ heads k) jobs q.job begin c in
-        omega (arith, mul-le-mul_left unit after, heads_hold heads sound (suc (last q.job)) q.job inside (omega arith) q (Contains-get_or t.pieces n d l) refl)
+        omega (arith, mul-le-mul_left unit after, after_heads heads sound q (Contains-get_or t.pieces n d l))
 
     -- of the jobs the last one to end, in parts of the unit
     latest : (k : ℕ) × (k < length i.jobs) × (among k ≡ true) × ((l : ℕ) → l < length i.jobs → among l ≡ true → last l ≤ last k) × (unit * from + work ≤ last k)
@@ -210,8 +217,10 @@ module _ (i : Instance) (m : IsOneMachine i) (takes : (j : ℕ) → j < length i
         let k = latest.0 in
         let crit = i.class.crit in
         let owed = All-contains (λ k. LeadsToNone i jobs k → value ≤ℤ cost_at i k moment) jobs k least (is_among k latest.2) leads_to_none in
-        let scaled : pos unit *ℤ cost_at i k moment ≡ job_cost crit (pos unit) (job_at i k) (pos (unit * moment)) = sym (ap (λ u. job_cost crit u (job_at i k) (pos (unit * moment))) (sym (*ℤ-one (pos unit))) ∙ job_cost-scale unit plan.some (pos 1) crit (job_at i k) (pos moment)) in
-        let later : job_cost crit (pos unit) (job_at i k) (pos (unit * moment)) ≤ℤ job_cost crit (pos unit) (job_at i k) (pos (last k)) = job_cost-mono crit (pos unit) (job_at i k) (pos (unit * moment)) (pos (last k)) (omega (arith, ints)) (pos-le moment_passed) in
+        let scaled : pos unit *ℤ cost_at i k moment ≡ job_cost crit (pos unit) (job_at i k) (pos (unit * moment)) =
+        sym (ap (λ u. job_cost crit u (job_at i k) (pos (unit * moment))) (sym (*ℤ-one (pos unit))) ∙ job_cost-scale unit plan.some (pos 1) crit (job_at i k) (pos moment)) in
+        let later : job_cost crit (pos unit) (job_at i k) (pos (unit * moment)) ≤ℤ job_cost crit (pos unit) (job_at i k) (pos (last k)) =
+        job_cost-mono crit (pos unit) (job_at i k) (pos (unit * moment)) (pos (last k)) (omega (arith, ints)) (pos-le moment_passed) in
         let charge : job_cost crit (pos unit) (job_at i k) (pos (last k)) ≡ charge_of i t k = ap₂ (λ u x. job_cost crit u (job_at i k) x) (sym plan.unit) (sym (last_end-is t.pieces k plan.timed)) in
         ≤ℤ_trans (*ℤ-mono unit owed) (≤ℤ_trans (≤ℤ_of_same scaled) (≤ℤ_trans later (≤ℤ_trans (≤ℤ_of_same charge) (cost_of-bound i t greatest k latest.1))))
 
@@ -221,13 +230,15 @@ module _ (i : Instance) (m : IsOneMachine i) (takes : (j : ℕ) → j < length i
       block_is_bound greatest heads sound c.jobs c.from moment (cost_at i j moment) c.some c.inside c.apart c.begin c.whole (λ n d l none. c.least n d l (no_arc (get_or c.jobs n d) none))
     where
       no_arc : (k : ℕ) → LeadsToNone i c.jobs k → HasNoSuccessor i c.jobs k
-      no_arc k none n d l e there = All-contains (λ x. ¬ HasPath i.arcs k x) c.jobs (get_or i.arcs n d).after none there (one (subst (Contains i.arcs) (same (get_or i.arcs n d) k e) (Contains-get_or i.arcs n d l)))
+      no_arc k none n d l e there = All-contains (λ x. ¬ HasPath i.arcs k x)
+          c.jobs (get_or i.arcs n d).after none there (one (subst (Contains i.arcs) (same (get_or i.arcs n d) k e) (Contains-get_or i.arcs n d l)))
         where
           same : (a : Arc) (k : ℕ) → a.before ≡ k → a ≡ record { before = k; after = a.after }
           same a k e = ap (λ b. record { before = b; after = a.after }) e
 
 -- ---- a feasible schedule is best whose jobs end by moments at which they are certified
-pub best_by_certificates : (i : Instance) → IsOneMachine i → ((j : ℕ) → j < length i.jobs → 0 < time_at i j) → All (λ a. (a.before < length i.jobs) × (a.after < length i.jobs)) i.arcs → 0 < length i.jobs → is_greatest i.class.crit ≡ true
+pub best_by_certificates : (i : Instance) → IsOneMachine i → ((j : ℕ) → j < length i.jobs → 0 < time_at i j)
+    → All (λ a. (a.before < length i.jobs) × (a.after < length i.jobs)) i.arcs → 0 < length i.jobs → is_greatest i.class.crit ≡ true
     → (heads : ℕ → ℕ) → IsSound i heads → (s : Schedule) → s.unit ≡ pos 1 → Feasible i s
     → ((k : ℕ) → k < length i.jobs → (moment : ℕ) × (end_of s k ≤ℤ pos moment) × IsCertified i heads k moment) → Best i s
 best_by_certificates i m takes ends some greatest heads sound s single feasible each = record { feasible = feasible; least = least }
@@ -237,7 +248,8 @@ best_by_certificates i m takes ends some greatest heads sound s single feasible 
         let (k, l, reached) = cost_of-reached i s greatest some in
         let (moment, early, certified) = each k l in
         let unit_is : t.unit ≡ pos (nat_abs t.unit) = (IsPlan-from_feasible i m t f).unit in
-        let here : charge_of i s k ≤ℤ cost_at i k moment = subst (λ u. job_cost i.class.crit u (job_at i k) (end_of s k) ≤ℤ cost_at i k moment) (sym single) (job_cost-mono i.class.crit (pos 1) (job_at i k) (end_of s k) (pos moment) (omega (arith, ints)) early) in
+        let here : charge_of i s k ≤ℤ cost_at i k moment = subst (λ u. job_cost i.class.crit u (job_at i k) (end_of s k) ≤ℤ cost_at i k moment)
+        (sym single) (job_cost-mono i.class.crit (pos 1) (job_at i k) (end_of s k) (pos moment) (omega (arith, ints)) early) in
         let bound = certified_is_bound i m takes ends t f greatest heads sound k moment certified in
         let left : cost_of i s *ℤ t.unit ≡ pos (nat_abs t.unit) *ℤ charge_of i s k = ap₂ (λ x u. x *ℤ u) (sym reached) unit_is ∙ *ℤ_comm (charge_of i s k) (pos (nat_abs t.unit)) in
         let right : cost_of i t ≡ cost_of i t *ℤ s.unit = sym (ap (λ u. cost_of i t *ℤ u) single ∙ *ℤ-one (cost_of i t)) in
@@ -247,7 +259,8 @@ best_by_certificates i m takes ends some greatest heads sound s single feasible 
 pub takes_time : (l : Limits) (i : Instance) → kind_of i.class.env ≡ Identical → MeetsConditions l i → (j : ℕ) → j < length i.jobs → 0 < time_at i j
 takes_time l i kind h j less = by (kind_of i.class.env) kind (h.jobs j no_job less).needs.shape (h.jobs j no_job less).needs.times
   where
-    by : (k : EnvKind) → k ≡ Identical → HasShape k i.class.env i.machines (job_at i j).needs → HasTimes (least_time k i.class.times) (greatest_time l i.class.times) (job_at i j).needs → 0 < time_at i j
+    by : (k : EnvKind) → k ≡ Identical → HasShape k i.class.env i.machines (job_at i j).needs
+        → HasTimes (least_time k i.class.times) (greatest_time l i.class.times) (job_at i j).needs → 0 < time_at i j
     by k e shape times =
         let single : IsSingleNeed (job_at i j).needs = subst (λ x. HasShape x i.class.env i.machines (job_at i j).needs) e shape in
         let ranges : HasTimes 1 (greatest_time l i.class.times) (job_at i j).needs = subst (λ x. HasTimes (least_time x i.class.times) (greatest_time l i.class.times) (job_at i j).needs) e times in
@@ -259,4 +272,5 @@ law_of_blocks l i s heads jobs value env greatest h f b v =
     let m = IsOneMachine-from_env l i env h in
     let plan = IsPlan-from_feasible i m s f in
     subst (λ u. (u *ℤ value) ≤ℤ cost_of i s) (sym plan.unit)
-    (block_is_bound i m (takes_time l i m.kind h) h.ends s f greatest (λ j. slice_index_or heads j 0) b.sound jobs v.begin (v.begin + total_time i jobs) value b.some b.inside b.apart v.after refl v.least)
+    (block_is_bound i m (takes_time l i m.kind h) h.ends s f greatest
+    (λ j. slice_index_or heads j 0) b.sound jobs v.begin (v.begin + total_time i jobs) value b.some b.inside b.apart v.after refl v.least)

@@ -1,5 +1,6 @@
 -- The law of ends and the law of floors.
-use Rattle.std.proofs.Common.{◌≡◌, ℕ, zero, suc, ◌+◌, ◌*◌, ◌/◌, ◌-◌, ◌<◌, ◌≤◌, Bool, true, false, cond, List, [], ◌∷◌, length, get_or, map, ℤ, pos, negsuc, nat_abs, ◌+ℤ◌, ◌-ℤ◌, ◌*ℤ◌, ◌≤ℤ◌, All, Contains, inl, refl, sym, ap, ap₂, subst, subst₂, ◌∙◌, arith, le_trans}
+use Rattle.std.proofs.Common.{◌≡◌, ℕ, zero, suc, ◌+◌, ◌*◌, ◌/◌, ◌-◌, ◌<◌, ◌≤◌, Bool, true, false, cond, List, [], ◌∷◌, length, get_or, map, ℤ, pos, negsuc, nat_abs, ◌+ℤ◌, ◌-ℤ◌}
+use Rattle.std.proofs.Common.{◌*ℤ◌, ◌≤ℤ◌, All, Contains, inl, refl, sym, ap, ap₂, subst, subst₂, ◌∙◌, arith, le_trans}
 use Rattle.std.specs.Prelude.{◌==◌, ◌&&◌}
 use Rattle.std.proofs.lemmas.Bool.{eq-eqb}
 use Rattle.std.proofs.lemmas.Int.{ints}
@@ -46,22 +47,29 @@ module _ (i : Instance) (s : Schedule) (test : ℕ → Bool) (kind : kind_of i.c
   unit_is = natural s.unit (omega (arith, ints, f.unit))
 
   from_room : (a b : ℕ) → a ≤ b → work ≤ i.machines * (b - a) → HasRoom i s test (pos a) (pos b)
-  from_room a b h w = subst₂ (λ x y. x ≤ℤ y) (sym (ap (λ u. u *ℤ pos (time_together i test)) unit_is)) (ap (λ z. pos i.machines *ℤ z) (pos-sub b a h)) (pos-le (subst (λ m. m ≤ i.machines * (b - a)) work_is w))
+  from_room a b h w = subst₂ (λ x y. x ≤ℤ y) (sym (ap (λ u. u *ℤ pos (time_together i test)) unit_is))
+      (ap (λ z. pos i.machines *ℤ z) (pos-sub b a h)) (pos-le (subst (λ m. m ≤ i.machines * (b - a)) work_is w))
 
   begins : (a : ℕ) → BeginsFrom (pos a) test s → All (λ p. test p.job ≡ true → a ≤ start p) s.pieces
   begins a h k d l e = let t = timed_pieces i kind s f k d l in omega (arith, ints, t.from, h k d l e)
 
   has_room : (a b : ℕ) → a ≤ b → BeginsFrom (pos a) test s → ((j : ℕ) → j < length i.jobs → test j ≡ true → end_of s j ≤ℤ pos b) → HasRoom i s test (pos a) (pos b)
-  has_room a b less h ends = from_room a b less (room job_of (λ p. p.machine) start finish test i.machines (length i.jobs) a b s.pieces (λ k d l. (f.place k d l).job) (machines_below i kind s f) (apart_on_machines i kind s f) (λ k d l e. (begins a h k d l e, ended k d l e)))
+  has_room a b less h ends = from_room a b less (room job_of (λ p. p.machine) start finish test i.machines (length i.jobs)
+      a b s.pieces (λ k d l. (f.place k d l).job) (machines_below i kind s f) (apart_on_machines i kind s f) (λ k d l e. (begins a h k d l e, ended k d l e)))
     where
       ended : All (λ p. test p.job ≡ true → finish p ≤ b) s.pieces
       ended k d l e = let t = timed_pieces i kind s f k d l in omega (arith, ints, t.to, last_end-bound s.pieces k d l, ends (get_or s.pieces k d).job (f.place k d l).job e)
 
-  has_last : (a : ℕ) → BeginsFrom (pos a) test s → ((j : ℕ) → j < length i.jobs → 1 ≤ (need_at i j 0).time) → (j : ℕ) → j < length i.jobs → test j ≡ true → (k : ℕ) × EndsLast i s test k × HasRoom i s test (pos a) (end_of s k)
+  has_last : (a : ℕ) → BeginsFrom (pos a) test s → ((j : ℕ) → j < length i.jobs → 1 ≤ (need_at i j 0).time)
+      → (j : ℕ) → j < length i.jobs → test j ≡ true → (k : ℕ) × EndsLast i s test k × HasRoom i s test (pos a) (end_of s k)
   has_last a h some j l e =
       let last = last_of job_of finish s.pieces in
-      let (k, inside, passes, latest, after, bound) = last_of_all job_of (λ p. p.machine) start finish test last i.machines (length i.jobs) a s.pieces (λ k d l. (f.place k d l).job) (machines_below i kind s f) (apart_on_machines i kind s f) (begins a h) (last_of-bound job_of finish s.pieces) positive in
-      (k, record { inside = inside; passes = passes; latest = λ m b p. subst₂ (λ x y. x ≤ℤ y) (sym (end_is m)) (sym (end_is k)) (pos-le (latest m b p)) }, subst (HasRoom i s test (pos a)) (sym (end_is k)) (from_room a (last k) (omega arith) bound))
+      let (k, inside, passes, latest, after, bound) = last_of_all job_of (λ p. p.machine) start finish test last i.machines (length i.jobs) a s.pieces
+      (λ k d l. (f.place k d l).job) (machines_below i kind s f) (apart_on_machines i kind s f) (begins a h) (last_of-bound job_of finish s.pieces) positive in (
+        k,
+        record { inside = inside; passes = passes; latest = λ m b p. subst₂ (λ x y. x ≤ℤ y) (sym (end_is m)) (sym (end_is k)) (pos-le (latest m b p)) },
+        subst (HasRoom i s test (pos a)) (sym (end_is k)) (from_room a (last k) (omega arith) bound),
+      )
     where
       end_is : (m : ℕ) → end_of s m ≡ pos (last_of job_of finish s.pieces m)
       end_is m = last_end-is s.pieces m (timed_pieces i kind s f)
@@ -78,7 +86,8 @@ module _ (i : Instance) (s : Schedule) (test : ℕ → Bool) (kind : kind_of i.c
 pub law_of_ends : LawOfEnds
 law_of_ends = record {
   room = λ i s test begin end kind f b less h ends. subst₂ (HasRoom i s test) (sym (natural begin b)) (sym (natural end (≤ℤ_trans b less)))
-      (has_room i s test kind f (nat_abs begin) (nat_abs end) (omega (arith, ints)) (subst (λ x. BeginsFrom x test s) (natural begin b) h) (λ j l e. subst (λ x. end_of s j ≤ℤ x) (natural end (≤ℤ_trans b less)) (ends j l e)));
+      (has_room i s test kind f (nat_abs begin) (nat_abs end) (omega (arith, ints))
+      (subst (λ x. BeginsFrom x test s) (natural begin b) h) (λ j l e. subst (λ x. end_of s j ≤ℤ x) (natural end (≤ℤ_trans b less)) (ends j l e)));
   last = λ i s test begin kind f b h some j l e.
       let (k, last, room) = has_last i s test kind f (nat_abs begin) (subst (λ x. BeginsFrom x test s) (natural begin b) h) some j l e in
       (k, last, subst (λ x. HasRoom i s test x (end_of s k)) (sym (natural begin b)) room);
@@ -161,7 +170,14 @@ module _ (i : Instance) (s : Schedule) (kind : kind_of i.class.env ≡ Identical
       monotone = λ x y p h. floor-mono s.unit x y f.unit p h;
       long = λ k d l. same (get_or s.pieces k d).from (get_or s.pieces k d).to (floor s.unit (get_or s.pieces k d).from) (floor s.unit (get_or s.pieces k d).to) (long k d l) (to_floor k d l);
     };
-    operations = Suits-same (frame_by Identical i) (frame_by Identical i) s.unit (record { jobs = refl; has = λ j o l h. h; all = λ j o l h. h; may = λ j o m l h w. w; ratio = λ j o l h. IsMultiple-same (frame_by Identical i) (frame_by Identical i) j o (λ m w. refl) refl; cut = λ e. e });
+    operations = Suits-same (frame_by Identical i) (frame_by Identical i) s.unit (record {
+      jobs = refl;
+      has = λ j o l h. h;
+      all = λ j o l h. h;
+      may = λ j o m l h w. w;
+      ratio = λ j o l h. IsMultiple-same (frame_by Identical i) (frame_by Identical i) j o (λ m w. refl) refl;
+      cut = λ e. e;
+    });
     heads = λ k d l inside h. floor-after s.unit (get_or s.pieces k d).from _ f.unit (f.span k d l).0 h;
     arcs = All-contains_itself i.arcs;
     routed = λ e. inl e;
@@ -174,7 +190,8 @@ module _ (i : Instance) (s : Schedule) (kind : kind_of i.class.env ≡ Identical
           length_is a b u x y e h = omega (arith, ints)
 
   same_schedule : carried_schedule s.unit (floor s.unit) (λ j o. o) s ≡ floored s
-  same_schedule = ap (λ l. record { unit = s.unit; pieces = l }) (map_agree (carried (floor s.unit) (λ j o. o)) (floored_piece s.unit) s.pieces (λ k d l. let p = get_or s.pieces k d in ap (λ x. record { job = p.job; op = p.op; machine = p.machine; from = floor s.unit p.from; to = x }) (to_floor k d l)))
+  same_schedule = ap (λ l. record { unit = s.unit; pieces = l }) (map_agree (carried (floor s.unit) (λ j o. o)) (floored_piece s.unit) s.pieces
+      (λ k d l. let p = get_or s.pieces k d in ap (λ x. record { job = p.job; op = p.op; machine = p.machine; from = floor s.unit p.from; to = x }) (to_floor k d l)))
     where
       map_agree : (f g : Piece → Piece) (ps : List Piece) → All (λ p. f p ≡ g p) ps → map f ps ≡ map g ps
       map_agree f g [] h = refl
@@ -184,7 +201,8 @@ module _ (i : Instance) (s : Schedule) (kind : kind_of i.class.env ≡ Identical
   is_feasible = subst (Feasible i) same_schedule (Feasible-carried i i s Identical Identical kind kind s.unit (pos 1) (floor s.unit) (λ j o. o) shaped f carries shaped)
 
   no_later : (j : ℕ) → end_of (floored s) j ≤ℤ end_of s j
-  no_later j = subst (λ x. x ≤ℤ end_of s j) (sym (end_of-carried i i s Identical Identical kind kind s.unit (pos 1) (floor s.unit) (λ j o. o) shaped f carries j) ∙ ap (λ t. end_of t j) same_schedule) (floor-below s.unit (end_of s j) f.unit (last_end-natural s.pieces j))
+  no_later j = subst (λ x. x ≤ℤ end_of s j) (sym (end_of-carried i i s Identical Identical kind kind s.unit (pos 1) (floor s.unit) (λ j o. o) shaped f carries j) ∙ ap (λ t. end_of t j) same_schedule)
+      (floor-below s.unit (end_of s j) f.unit (last_end-natural s.pieces j))
 
 pub law_of_floors : LawOfFloors
 law_of_floors i s kind whole ones f = (is_feasible i s kind whole ones f, no_later i s kind whole ones f)

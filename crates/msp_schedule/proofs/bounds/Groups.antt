@@ -1,5 +1,6 @@
 -- The law of groups, and what it says of one job and of all jobs: a job runs on one machine at a time, so few jobs do not use more machines than they are.
-use Rattle.std.proofs.Common.{◌≡◌, ℕ, ◌+◌, ◌*◌, ◌<◌, ◌≤◌, ◌⊎◌, inl, inr, min, Bool, true, false, cond, eqb, leb, length, filter, pos, nat_abs, ◌*ℤ◌, ◌-ℤ◌, ◌≤ℤ◌, All, AllPairs, refl, sym, ap, subst, subst₂, ◌∙◌, arith}
+use Rattle.std.proofs.Common.{◌≡◌, ℕ, ◌+◌, ◌*◌, ◌<◌, ◌≤◌, ◌⊎◌, inl, inr, min, Bool, true, false, cond, eqb, leb, length, filter, pos, nat_abs, ◌*ℤ◌, ◌-ℤ◌, ◌≤ℤ◌, All, AllPairs}
+use Rattle.std.proofs.Common.{refl, sym, ap, subst, subst₂, ◌∙◌, arith}
 use Rattle.std.proofs.lemmas.Int.{ints}
 use Rattle.std.proofs.Math.Nat.{mul-le-mul_left}
 use Rattle.msp_class.specs.declared.environments.EnvKind.TheVariants.{Identical}
@@ -16,15 +17,22 @@ use Rattle.msp_schedule.specs.Intervals.{IsApartOn}
 use Rattle.msp_schedule.proofs.lists.Intervals.{apart_on_each, packed, last_of, greatest_by-bound, greatest_below, greatest_below-bound, greatest_below-reached}
 use Rattle.msp_schedule.specs.Piece.{job_of, start, finish, IsTimed}
 use Rattle.msp_schedule.proofs.feasible.OneMachine.{apart_in_nat, timed_pieces, full_work, last_end-is}
-use Rattle.msp_schedule.specs.Rows.{time_at}
+use Rattle.msp_schedule.specs.BackToBack.{time_at}
 use Rattle.msp_schedule.proofs.bounds.EndsAndFloors.{law_of_ends}
 
 -- where a job passes a test, one that does ends last
 pub ends_last : (i : Instance) (s : Schedule) → All IsTimed s.pieces → (test : ℕ → Bool) (j : ℕ) → j < length i.jobs → test j ≡ true → (k : ℕ) × EndsLast i s test k
 ends_last i s timed test j l p =
     let (k, m, e) = greatest_below-reached (length i.jobs) after (omega (arith, l)) in
-    let (t, z) = passed (test k) (ended k) (greatest_below (length i.jobs) after) e some in
-    (k, record { inside = m; passes = t; latest = λ x b q. subst₂ (λ y w. y ≤ℤ w) (sym (last_end-is s.pieces x timed)) (sym (last_end-is s.pieces k timed)) (pos-le (omega (arith, z, greatest_below-bound (length i.jobs) after x b, cond-yes (ended x + 1) q))) })
+    let (t, z) = passed (test k) (ended k) (greatest_below (length i.jobs) after) e some in (
+      k,
+      record {
+        inside = m;
+        passes = t;
+        latest = λ x b q. subst₂ (λ y w. y ≤ℤ w) (sym (last_end-is s.pieces x timed))
+            (sym (last_end-is s.pieces k timed)) (pos-le (omega (arith, z, greatest_below-bound (length i.jobs) after x b, cond-yes (ended x + 1) q)));
+      },
+    )
   where
     ended : ℕ → ℕ
     ended x = last_of job_of finish s.pieces x
@@ -59,7 +67,11 @@ module _ (i : Instance) (kind : kind_of i.class.env ≡ Identical) (s : Schedule
   has_ended : (j : ℕ) → j < length i.jobs → unit * time_at i j ≤ ended j
   has_ended j l =
       let mine = filter (λ p. eqb p.job j) s.pieces in
-      omega (arith, full_work i kind s f j l, packed start finish 0 (ended j) mine (apart_on_each job_of start finish j s.pieces apart_on_jobs) (λ k d m. (omega arith, greatest_by-bound finish mine k d m)))
+      omega (
+        arith,
+        full_work i kind s f j l,
+        packed start finish 0 (ended j) mine (apart_on_each job_of start finish j s.pieces apart_on_jobs) (λ k d m. (omega arith, greatest_by-bound finish mine k d m)),
+      )
 
   module _ (test : ℕ → Bool) (c : ℕ) (ends : (j : ℕ) → j < length i.jobs → test j ≡ true → end_of s j ≤ℤ pos c) where
     abbrev n : ℕ
@@ -117,7 +129,8 @@ module _ (i : Instance) (kind : kind_of i.class.env ≡ Identical) (s : Schedule
   -- ---- one job, and all jobs
   module _ (c : ℕ) (ends : (j : ℕ) → j < length i.jobs → end_of s j ≤ℤ pos c) where
     pub job_is_over : (j : ℕ) → j < length i.jobs → unit * time_at i j ≤ c
-    job_is_over j l = by _ _ i.machines (total_below-range n _ ∙ total_below-only n (time_at i) j l) (total_below-range n _ ∙ total_below-only n (λ _. 1) j l) (group_is_over (λ k. eqb j k) c (λ k m _. ends k m))
+    job_is_over j l = by _ _ i.machines (total_below-range n _ ∙ total_below-only n (time_at i) j l)
+        (total_below-range n _ ∙ total_below-only n (λ _. 1) j l) (group_is_over (λ k. eqb j k) c (λ k m _. ends k m))
       where
         n : ℕ
         n = length i.jobs

@@ -6,7 +6,8 @@ use Rattle.std.proofs.lemmas.Int.{ints}
 use Rattle.std.proofs.lemmas.List.Elements.{All-filter, filter_passes}
 use Rattle.std.proofs.lemmas.List.Kept.{AllPairs-filter}
 use Rattle.msp_class.specs.Sums.{total_below}
-use Rattle.msp_class.proofs.Sums.{cond-mono, cond-scale, sum_by-mono, sum_by-same, sum_by-add, sum_by-filter, sum_by-by_key_test, sum_by-by_key_filter, total_below-mono, total_below-same, total_below-scale, total_below-bound, total_below-range}
+use Rattle.msp_class.proofs.Sums.{cond-mono, cond-scale, sum_by-mono, sum_by-same, sum_by-add, sum_by-filter, sum_by-by_key_test, sum_by-by_key_filter, total_below-mono}
+use Rattle.msp_class.proofs.Sums.{total_below-same, total_below-scale, total_below-bound, total_below-range}
 use Rattle.msp_class.proofs.IntegerRing.{natural, pos-le}
 use Rattle.msp_instance.specs.declared.Instance.{Instance}
 use Rattle.msp_schedule.specs.declared.Schedule.{Schedule}
@@ -16,7 +17,7 @@ use Rattle.msp_schedule.specs.Cost.{end_of}
 use Rattle.msp_schedule.specs.Intervals.{IsApartOn, size_of, work_of}
 use Rattle.msp_schedule.specs.LastEnds.{HasRoomAround, LawOfLastEnds}
 use Rattle.msp_schedule.specs.Loads.{job_length}
-use Rattle.msp_schedule.specs.Rows.{time_at}
+use Rattle.msp_schedule.specs.BackToBack.{time_at}
 use Rattle.msp_schedule.proofs.lists.Intervals.{overlap, overlap_of, packing, apart_on_each, work_by_job, last_of, last_of-bound}
 use Rattle.msp_schedule.proofs.feasible.OneMachine.{IsTimed-from_span, apart_in_nat, machines_below, full_work, last_end-is}
 use Rattle.msp_schedule.proofs.bounds.Loads.{shop_machines_below, job_is_worked}
@@ -26,7 +27,8 @@ split : (u v last t : ℕ) → v ≤ last → v - u ≤ overlap u v 0 t + overla
 split u v last t h = omega arith
 
 module _ {X : Type 0} (job machine from to : X → ℕ) (test : ℕ → Bool) (last : ℕ → ℕ) (m n t : ℕ) (xs : List X)
-    (jobs : All (λ q. job q < n) xs) (machines : All (λ q. machine q < m) xs) (on_machines : AllPairs (IsApartOn machine from to) xs) (on_jobs : AllPairs (IsApartOn job from to) xs) (ends : All (λ q. to q ≤ last (job q)) xs) where
+    (jobs : All (λ q. job q < n) xs) (machines : All (λ q. machine q < m) xs)
+    (on_machines : AllPairs (IsApartOn machine from to) xs) (on_jobs : AllPairs (IsApartOn job from to) xs) (ends : All (λ q. to q ≤ last (job q)) xs) where
   abbrev passes : X → Bool
   passes q = test (job q)
 
@@ -42,18 +44,21 @@ module _ {X : Type 0} (job machine from to : X → ℕ) (test : ℕ → Bool) (l
   parts : sum_by (size_of from to) chosen ≤ sum_by before chosen + sum_by behind chosen
   parts = omega (
     arith,
-    sum_by-mono (size_of from to) (λ q. before q + behind q) chosen (λ k d l. split (from (get_or chosen k d)) (to (get_or chosen k d)) (last (job (get_or chosen k d))) t (All-filter passes (λ q. to q ≤ last (job q)) xs ends k d l)),
+    sum_by-mono (size_of from to) (λ q. before q + behind q) chosen
+        (λ k d l. split (from (get_or chosen k d)) (to (get_or chosen k d)) (last (job (get_or chosen k d))) t (All-filter passes (λ q. to q ≤ last (job q)) xs ends k d l)),
     sum_by-add before behind chosen,
   )
 
   by_machines : sum_by before chosen ≤ m * t
   by_machines = subst (λ x. x ≤ m * t) (sym (sum_by-by_key_filter machine before m chosen (All-filter passes (λ q. machine q < m) xs machines)))
-      (total_below-bound m t (λ μ. sum_by before (filter (λ q. eqb (machine q) μ) chosen)) (λ μ l. omega (arith, packing from to 0 t (filter (λ q. eqb (machine q) μ) chosen) (apart_on_each machine from to μ chosen (AllPairs-filter (IsApartOn machine from to) passes xs on_machines)))))
+      (total_below-bound m t (λ μ. sum_by before (filter (λ q. eqb (machine q) μ) chosen)) (λ μ l. omega
+      (arith, packing from to 0 t (filter (λ q. eqb (machine q) μ) chosen) (apart_on_each machine from to μ chosen (AllPairs-filter (IsApartOn machine from to) passes xs on_machines)))))
 
   one_job : (j : ℕ) → sum_by behind (filter (λ q. eqb (job q) j) xs) ≤ last j - t
   one_job j =
       let mine = filter (λ q. eqb (job q) j) xs in
-      subst (λ x. x ≤ last j - t) (sym (sum_by-same behind (overlap_of from to t (last j)) mine (λ k d l. ap (λ i. overlap (from (get_or mine k d)) (to (get_or mine k d)) t (last i)) (eqb-true _ _ (filter_passes (λ q. eqb (job q) j) xs k d l)))))
+      subst (λ x. x ≤ last j - t) (sym (sum_by-same behind (overlap_of from to t (last j)) mine
+      (λ k d l. ap (λ i. overlap (from (get_or mine k d)) (to (get_or mine k d)) t (last i)) (eqb-true _ _ (filter_passes (λ q. eqb (job q) j) xs k d l)))))
       (packing from to t (last j) mine (apart_on_each job from to j xs on_jobs))
 
   by_jobs : sum_by behind chosen ≤ total_below n (λ j. cond (test j) (last j - t) 0)
@@ -91,7 +96,8 @@ module _ (i : Instance) (s : Schedule) (test : ℕ → Bool) (t : ℕ) (f : Feas
   in_pieces = omega (
     arith,
     total_below-scale n unit (λ j. cond (test j) (time j) 0),
-    total_below-mono n (λ j. unit * cond (test j) (time j) 0) (λ j. cond (test j) (work_of job_of start finish s.pieces j) 0) (λ j l. subst (λ x. x ≤ cond (test j) (work_of job_of start finish s.pieces j) 0) (cond-scale (test j) unit (time j)) (cond-mono (test j) (worked j l))),
+    total_below-mono n (λ j. unit * cond (test j) (time j) 0) (λ j. cond (test j) (work_of job_of start finish s.pieces j) 0)
+        (λ j l. subst (λ x. x ≤ cond (test j) (work_of job_of start finish s.pieces j) 0) (cond-scale (test j) unit (time j)) (cond-mono (test j) (worked j l))),
     room_around job_of (λ p. p.machine) start finish test ended i.machines n t s.pieces (λ k d l. (f.place k d l).job) machines on_machines on_jobs (last_of-bound job_of finish s.pieces),
   )
 
@@ -99,7 +105,8 @@ module _ (i : Instance) (s : Schedule) (test : ℕ → Bool) (t : ℕ) (f : Feas
   behind_is = total_below-range n _ ∙ total_below-same n _ _ (λ j l. ap (λ x. cond (test j) (nat_abs x - t) 0) (last_end-is s.pieces j timed))
 
   in_schedule : HasRoomAround i s test t (sum_by (λ j. cond (test j) (time j) 0) (range_with_len 0 n))
-  in_schedule = subst₂ (λ x y. x ≤ℤ pos (i.machines * t + y)) (sym (ap₂ (λ u k. u *ℤ pos k) (natural s.unit (omega (arith, ints, f.unit))) (total_below-range n (λ j. cond (test j) (time j) 0)))) (sym behind_is) (pos-le in_pieces)
+  in_schedule = subst₂ (λ x y. x ≤ℤ pos (i.machines * t + y))
+      (sym (ap₂ (λ u k. u *ℤ pos k) (natural s.unit (omega (arith, ints, f.unit))) (total_below-range n (λ j. cond (test j) (time j) 0)))) (sym behind_is) (pos-le in_pieces)
 
 pub law_of_last_ends : LawOfLastEnds
 law_of_last_ends = record {

@@ -135,7 +135,8 @@ module _ (i : Instance) (level : ℕ → ℕ) (kind : kind_of i.class.env ≡ Id
             has = law_of_ends.room i s high (pos 0) (pos (unit * d)) kind f (≤ℤ_refl (pos 0)) (zero-le-pos (unit * d)) (λ n x l e. (f.span n x l).0) early
 
         bound : (s.unit *ℤ pos (level_bound i level t)) ≤ℤ end_of s k
-        bound = subst₂ (λ x y. (x *ℤ pos (level_bound i level t)) ≤ℤ y) (sym unit_is) (sym z.end) (pos-le (by (level_bound i level t) (omega (arith, rounded_up (jobs_from i level t) i.machines d some_high room, inside))))
+        bound = subst₂ (λ x y. (x *ℤ pos (level_bound i level t)) ≤ℤ y) (sym unit_is)
+            (sym z.end) (pos-le (by (level_bound i level t) (omega (arith, rounded_up (jobs_from i level t) i.machines d some_high room, inside))))
           where
             by : (v : ℕ) → v ≤ r + 1 → unit * v ≤ unit * r + unit
             by v h = omega (arith, mul-le-mul_left unit h)

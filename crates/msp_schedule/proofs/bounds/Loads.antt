@@ -1,5 +1,6 @@
 -- The law of machines and the law of lines: in shops an operation has its time on its own machine, and none of its job's other operations runs then.
-use Rattle.std.proofs.Common.{◌≡◌, ◌≢◌, ℕ, ◌*◌, ◌-◌, ◌<◌, ◌≤◌, Bool, true, false, cond, eqb, List, length, get_or, filter, ℤ, pos, nat_abs, ◌*ℤ◌, ◌≤ℤ◌, All, AllPairs, sum_by, refl, sym, ap, ap₂, subst, subst₂, ◌∙◌, arith}
+use Rattle.std.proofs.Common.{◌≡◌, ◌≢◌, ℕ, ◌*◌, ◌-◌, ◌<◌, ◌≤◌, Bool, true, false, cond, eqb, List, length, get_or, filter, ℤ, pos, nat_abs, ◌*ℤ◌, ◌≤ℤ◌, All, AllPairs, sum_by, refl}
+use Rattle.std.proofs.Common.{sym, ap, ap₂, subst, subst₂, ◌∙◌, arith}
 use Rattle.std.specs.Prelude.{◌==◌, ◌&&◌}
 use Rattle.std.proofs.lemmas.Bool.{eqb-true, eqb-false}
 use Rattle.std.proofs.lemmas.Int.{ints}
@@ -94,20 +95,24 @@ module _ (i : Instance) (s : Schedule) (shop : is_shop i.class.env ≡ true) (f 
   of_share j k d l = eqb-true _ _ (filter_passes (λ p. eqb p.job j) s.pieces k d l)
 
   operations_inside : (j : ℕ) → All (λ p. p.op < length (needs j)) (share j)
-  operations_inside j k d l = subst (λ n. (get_or (share j) k d).op < length (needs n)) (of_share j k d l) (All-filter (λ p. eqb p.job j) (λ p. p.op < length (needs p.job)) s.pieces (λ a b c. let p = get_or s.pieces a b in reads.has p.job p.op (f.place a b c).operation) k d l)
+  operations_inside j k d l = subst (λ n. (get_or (share j) k d).op < length (needs n)) (of_share j k d l)
+      (All-filter (λ p. eqb p.job j) (λ p. p.op < length (needs p.job)) s.pieces (λ a b c. let p = get_or s.pieces a b in reads.has p.job p.op (f.place a b c).operation) k d l)
 
   own_machines : (j : ℕ) → All (λ p. p.machine ≡ (need_at i j p.op).machine) (share j)
-  own_machines j k d l = subst (λ n. (get_or (share j) k d).machine ≡ (need_at i n (get_or (share j) k d).op).machine) (of_share j k d l) (All-filter (λ p. eqb p.job j) (λ p. p.machine ≡ (need_at i p.job p.op).machine) s.pieces (λ a b c. let p = get_or s.pieces a b in reads.may p.job p.op p.machine (f.place a b c).machine) k d l)
+  own_machines j k d l = subst (λ n. (get_or (share j) k d).machine ≡ (need_at i n (get_or (share j) k d).op).machine) (of_share j k d l)
+      (All-filter (λ p. eqb p.job j) (λ p. p.machine ≡ (need_at i p.job p.op).machine) s.pieces (λ a b c. let p = get_or s.pieces a b in reads.may p.job p.op p.machine (f.place a b c).machine) k d l)
 
   -- and so have those of a job that pass a test
-  operations_are_done : (test : ℕ → Bool) (j : ℕ) → j < length i.jobs → unit * total_below (length (needs j)) (λ o. cond (test o) (need_at i j o).time 0) ≤ sum_by (λ p. cond (test p.op) (size p) 0) (share j)
+  operations_are_done : (test : ℕ → Bool) (j : ℕ) → j < length i.jobs
+      → unit * total_below (length (needs j)) (λ o. cond (test o) (need_at i j o).time 0) ≤ sum_by (λ p. cond (test p.op) (size p) 0) (share j)
   operations_are_done test j l =
       let n = length (needs j) in
       let done = λ (o : ℕ). cond (test o) (sum_by size (filter (λ p. eqb p.op o) (share j))) 0 in
       omega (
         arith,
         total_below-scale n unit (λ o. cond (test o) (need_at i j o).time 0),
-        total_below-mono n (λ o. unit * cond (test o) (need_at i j o).time 0) done (λ o m. subst (λ x. x ≤ done o) (cond-scale (test o) unit (need_at i j o).time) (cond-mono (test o) (operation_is_done j o l m))),
+        total_below-mono n (λ o. unit * cond (test o) (need_at i j o).time 0)
+            done (λ o m. subst (λ x. x ≤ done o) (cond-scale (test o) unit (need_at i j o).time) (cond-mono (test o) (operation_is_done j o l m))),
         sum_by-by_key_test (λ p. p.op) size test n (share j) (operations_inside j),
       )
 
@@ -116,13 +121,15 @@ module _ (i : Instance) (s : Schedule) (shop : is_shop i.class.env ≡ true) (f 
   apart_on_jobs a b d h k e = apart_in_nat _ _ (timed a d (omega arith)) (timed b d k) (f.job a b d h k e)
 
   line : (j : ℕ) → j < length i.jobs → (s.unit *ℤ pos (job_length i j)) ≤ℤ end_of s j
-  line j l = subst₂ (λ x y. x ≤ℤ y) (sym (ap (λ u. u *ℤ pos (job_length i j)) unit_is)) (sym (last_end-is s.pieces j timed)) (pos-le (by (job_length i j) _ _ _ lengths (operations_are_done (λ _. true) j l) short))
+  line j l = subst₂ (λ x y. x ≤ℤ y) (sym (ap (λ u. u *ℤ pos (job_length i j)) unit_is))
+      (sym (last_end-is s.pieces j timed)) (pos-le (by (job_length i j) _ _ _ lengths (operations_are_done (λ _. true) j l) short))
     where
       lengths : job_length i j ≡ total_below (length (needs j)) (λ o. (need_at i j o).time)
       lengths = sum_by-places (λ n. n.time) (needs j) no_need
 
       short : sum_by size (share j) ≤ last_of job_of finish s.pieces j - 0
-      short = packed start finish 0 (last_of job_of finish s.pieces j) (share j) (apart_on_each job_of start finish j s.pieces apart_on_jobs) (λ k d b. (omega arith, greatest_by-bound finish (share j) k d b))
+      short = packed start finish 0 (last_of job_of finish s.pieces j)
+          (share j) (apart_on_each job_of start finish j s.pieces apart_on_jobs) (λ k d b. (omega arith, greatest_by-bound finish (share j) k d b))
 
       by : (a b c e : ℕ) → a ≡ b → unit * b ≤ c → c ≤ e - 0 → unit * a ≤ e
       by a b c e q h k = subst (λ x. unit * x ≤ e) (sym q) (omega arith)
@@ -153,7 +160,9 @@ module _ (i : Instance) (s : Schedule) (shop : is_shop i.class.env ≡ true) (f 
         ∙ total_below-same (length i.jobs) _ load (λ j l. sum_by-places (λ n. cond (eqb n.machine m) n.time 0) (needs j) no_need)
 
     job_is_done : (j : ℕ) → j < length i.jobs → unit * load j ≤ sum_by on (share j)
-    job_is_done j l = subst (λ x. unit * load j ≤ x) (sum_by-same (λ p. cond (eqb (need_at i j p.op).machine m) (size p) 0) on (share j) (λ k d b. let p = get_or (share j) k d in ap (λ x. cond (eqb x m) (size p) 0) (sym (own_machines j k d b)))) (operations_are_done (λ o. eqb (need_at i j o).machine m) j l)
+    job_is_done j l = subst (λ x. unit * load j ≤ x)
+        (sum_by-same (λ p. cond (eqb (need_at i j p.op).machine m) (size p) 0) on (share j) (λ k d b. let p = get_or (share j) k d in ap (λ x. cond (eqb x m) (size p) 0) (sym (own_machines j k d b))))
+        (operations_are_done (λ o. eqb (need_at i j o).machine m) j l)
 
     jobs_are_done : unit * machine_load i m ≤ sum_by size (filter (λ p. eqb p.machine m) s.pieces)
     jobs_are_done = omega (
@@ -166,10 +175,16 @@ module _ (i : Instance) (s : Schedule) (shop : is_shop i.class.env ≡ true) (f 
     )
 
     machine_is_done : (c : ℕ) → All (λ p. finish p ≤ c) s.pieces → unit * machine_load i m ≤ c
-    machine_is_done c ends = omega (arith, jobs_are_done, packed start finish 0 c (filter (λ p. eqb p.machine m) s.pieces) (apart_on_each (λ p. p.machine) start finish m s.pieces apart_on_machines) (λ k d l. (omega arith, All-filter (λ p. eqb p.machine m) (λ p. finish p ≤ c) s.pieces ends k d l)))
+    machine_is_done c ends = omega (
+      arith,
+      jobs_are_done,
+      packed start finish 0 c (filter (λ p. eqb p.machine m) s.pieces)
+          (apart_on_each (λ p. p.machine) start finish m s.pieces apart_on_machines) (λ k d l. (omega arith, All-filter (λ p. eqb p.machine m) (λ p. finish p ≤ c) s.pieces ends k d l)),
+    )
 
     machine : (end : ℤ) → pos 0 ≤ℤ end → ((j : ℕ) → j < length i.jobs → end_of s j ≤ℤ end) → (s.unit *ℤ pos (machine_load i m)) ≤ℤ end
-    machine end b ends = subst₂ (λ x y. x ≤ℤ y) (sym (ap (λ u. u *ℤ pos (machine_load i m)) unit_is)) (sym (natural end b)) (pos-le (machine_is_done (nat_abs end) (λ k d l. let t = timed k d l in omega (arith, ints, t.to, b, last_end-bound s.pieces k d l, ends (get_or s.pieces k d).job (f.place k d l).job))))
+    machine end b ends = subst₂ (λ x y. x ≤ℤ y) (sym (ap (λ u. u *ℤ pos (machine_load i m)) unit_is)) (sym (natural end b))
+        (pos-le (machine_is_done (nat_abs end) (λ k d l. let t = timed k d l in omega (arith, ints, t.to, b, last_end-bound s.pieces k d l, ends (get_or s.pieces k d).job (f.place k d l).job))))
 
 pub law_of_machines : LawOfMachines
 law_of_machines i s m end shop f b ends = machine i s shop f m end b ends

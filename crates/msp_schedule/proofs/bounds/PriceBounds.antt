@@ -43,7 +43,8 @@ pub distinct_low_pairs : (n rows columns : ℕ) (x y : ℕ → ℕ) (g : ℕ →
     → int_total_below rows (λ m. int_total_below columns (λ k. g m k)) ≤ℤ int_total_below n (λ a. g (x a) (y a))
 distinct_low_pairs n rows columns x y g low inside once =
     by _ _ _ _
-    (fills_up rows (λ m. int_total_below columns (λ k. g m k)) (λ m. total_below columns (λ k. nat_abs (g m k))) (λ m l. fills_up columns (λ k. g m k) (λ k. nat_abs (g m k)) (λ k h. gone (g m k) (low m k l h))))
+    (fills_up rows (λ m. int_total_below columns (λ k. g m k))
+    (λ m. total_below columns (λ k. nat_abs (g m k))) (λ m l. fills_up columns (λ k. g m k) (λ k. nat_abs (g m k)) (λ k h. gone (g m k) (low m k l h))))
     (fills_up n (λ a. g (x a) (y a)) (λ a. nat_abs (g (x a) (y a))) (λ a l. gone (g (x a) (y a)) (low (x a) (y a) (inside a l).0 (inside a l).1)))
     (distinct_pairs n rows columns x y (λ m k. nat_abs (g m k)) inside once)
   where
@@ -54,7 +55,8 @@ distinct_low_pairs n rows columns x y g low inside once =
     by u v a b e f h = omega (arith, ints)
 
 -- ---- the law
-module _ (i : Instance) (s : Schedule) (job : ℕ → ℤ) (position : ℕ → ℕ → ℤ) (kind : kind_of i.class.env ≡ Unrelated) (whole : i.class.cut ≡ false) (crit : i.class.crit ≡ SumC) (f : Feasible i s) (h : ArePrices i job position) where
+module _ (i : Instance) (s : Schedule) (job : ℕ → ℤ) (position : ℕ → ℕ → ℤ)
+    (kind : kind_of i.class.env ≡ Unrelated) (whole : i.class.cut ≡ false) (crit : i.class.crit ≡ SumC) (f : Feasible i s) (h : ArePrices i job position) where
   abbrev n : ℕ
   n = length i.jobs
 
@@ -96,7 +98,8 @@ module _ (i : Instance) (s : Schedule) (job : ℕ → ℤ) (position : ℕ → �
 
   -- the ends together are no less than the unit times what the jobs lengthen them by
   ends_take : unit * total_below n (λ j. count j * time j) ≤ total_below n end
-  ends_take = subst (λ t. t ≤ total_below n end) (total_below-same n _ (λ j. unit * (count j * time j)) (λ j l. turned _ _ _ _ (size j l)) ∙ total_below-scale n unit (λ j. count j * time j)) (sum_of_ends n machine end begin lasts apart)
+  ends_take = subst (λ t. t ≤ total_below n end) (total_below-same n _ (λ j. unit * (count j * time j)) (λ j l. turned _ _ _ _ (size j l)) ∙ total_below-scale n unit (λ j. count j * time j))
+      (sum_of_ends n machine end begin lasts apart)
     where
       turned : (x u t c : ℕ) → x ≡ u * t → x * c ≡ u * (c * t)
       turned x u t c e = ap (λ y. y * c) e ∙ omega arith
@@ -116,7 +119,8 @@ module _ (i : Instance) (s : Schedule) (job : ℕ → ℤ) (position : ℕ → �
       below c n h k = omega arith
 
   positions_low : int_total_below i.machines (λ m. int_total_below n (λ k. position m k)) ≤ℤ int_total_below n (λ j. position (machine j) (count j - 1))
-  positions_low = distinct_low_pairs n i.machines n machine (λ j. count j - 1) position h.low (λ j l. (inside j l, below (count j) n (position_of-some n machine end j l) (position_of-few n machine end j)))
+  positions_low = distinct_low_pairs n i.machines n machine
+      (λ j. count j - 1) position h.low (λ j l. (inside j l, below (count j) n (position_of-some n machine end j l) (position_of-few n machine end j)))
       (λ a b l m on same. position_of-once n machine end begin lasts apart a b l m on (back (count a) (count b) (position_of-some n machine end a l) (position_of-some n machine end b m) same))
     where
       below : (c n : ℕ) → 1 ≤ c → c ≤ n → c - 1 < n
@@ -126,13 +130,15 @@ module _ (i : Instance) (s : Schedule) (job : ℕ → ℤ) (position : ℕ → �
       back c d h k e = omega arith
 
   all_is : all_prices i job position ≡ int_total_below n job +ℤ int_total_below i.machines (λ m. int_total_below n (λ k. position m k))
-  all_is = ap₂ (λ x y. x +ℤ y) (total_over_range n job) (total_over_range i.machines (prices_on_machine i position) ∙ int_total_below-same i.machines (prices_on_machine i position) (λ m. int_total_below n (λ k. position m k)) (λ m l. total_over_range n (position m)))
+  all_is = ap₂ (λ x y. x +ℤ y) (total_over_range n job) (total_over_range i.machines (prices_on_machine i position)
+      ∙ int_total_below-same i.machines (prices_on_machine i position) (λ m. int_total_below n (λ k. position m k)) (λ m l. total_over_range n (position m)))
 
   all_low : all_prices i job position ≤ℤ pos (total_below n (λ j. count j * time j))
   all_low =
       subst (λ x. x ≤ℤ pos (total_below n (λ j. count j * time j))) (sym all_is)
       (≤ℤ_trans (+ℤ_mono (≤ℤ_refl (int_total_below n job)) positions_low)
-      (≤ℤ_trans (subst (λ x. x ≤ℤ int_total_below n (λ j. pos (count j * time j))) (int_total_below-add n job (λ j. position (machine j) (count j - 1))) (int_total_below-mono n (λ j. job j +ℤ position (machine j) (count j - 1)) (λ j. pos (count j * time j)) priced))
+      (≤ℤ_trans (subst (λ x. x ≤ℤ int_total_below n (λ j. pos (count j * time j))) (int_total_below-add n job (λ j. position (machine j) (count j - 1)))
+      (int_total_below-mono n (λ j. job j +ℤ position (machine j) (count j - 1)) (λ j. pos (count j * time j)) priced))
       (subst (λ x. x ≤ℤ pos (total_below n (λ j. count j * time j))) (sym (int_total_below-pos n (λ j. count j * time j))) (≤ℤ_refl _))))
 
   bound : (s.unit *ℤ all_prices i job position) ≤ℤ cost_of i s

@@ -1,5 +1,6 @@
 -- The law of segments: floors, and the law of ends list by list.
-use Rattle.std.proofs.Common.{◌≡◌, ◌≢◌, ℕ, suc, ◌+◌, ◌*◌, ◌/◌, ◌-◌, ◌<◌, ◌≤◌, Bool, true, cond, List, [], ◌∷◌, length, get_or, pos, nat_abs, ◌-ℤ◌, ◌*ℤ◌, ◌≤ℤ◌, All, AllPairs, Contains, refl, sym, ap, subst, subst₂, ◌∙◌, arith}
+use Rattle.std.proofs.Common.{◌≡◌, ◌≢◌, ℕ, suc, ◌+◌, ◌*◌, ◌/◌, ◌-◌, ◌<◌, ◌≤◌, Bool, true, cond, List, [], ◌∷◌, length, get_or, pos, nat_abs, ◌-ℤ◌, ◌*ℤ◌, ◌≤ℤ◌, All, AllPairs}
+use Rattle.std.proofs.Common.{Contains, refl, sym, ap, subst, subst₂, ◌∙◌, arith}
 use Rattle.std.specs.Prelude.{◌==◌, ⊤}
 use Rattle.std.specs.List.{AllAdjacentBelow, flat_map, list_any}
 use Rattle.std.proofs.lemmas.Int.{ints}
@@ -61,7 +62,8 @@ room_in_units u m n h d some less r = by (d - h) (omega arith)
             turned q = omega (arith, q)
 
 -- ---- along paths
-module _ (i : Instance) (kind : kind_of i.class.env ≡ Identical) (ones : (k : ℕ) → k < length i.jobs → (need_at i k 0).time ≡ 1) (ends : All (λ a. (a.before < length i.jobs) × (a.after < length i.jobs)) i.arcs) (s : Schedule) (f : Feasible i s) where
+module _ (i : Instance) (kind : kind_of i.class.env ≡ Identical) (ones : (k : ℕ) → k < length i.jobs → (need_at i k 0).time ≡ 1)
+    (ends : All (λ a. (a.before < length i.jobs) × (a.after < length i.jobs)) i.arcs) (s : Schedule) (f : Feasible i s) where
   fits : Fits (frame_of i) s.unit s.pieces
   fits = Fits-from_feasible i s (IsShaped-from_identical i kind) f
 
@@ -109,9 +111,18 @@ module _ (i : Instance) (kind : kind_of i.class.env ≡ Identical) (ones : (k : 
         → (k : ℕ) × (d : ℕ) × Contains jobs k × (k < length i.jobs) × (end_of s k ≡ pos (unit * d)) × (h ≤ d) × ((length jobs + (i.machines - 1)) / i.machines ≤ d - h)
     list_takes jobs h some inside apart begins =
         let first = get_or jobs 0 0 in
-        let (k, last, room) = law_of_ends.last i s (is_in jobs) (pos (unit * h)) kind f (zero-le-pos (unit * h)) begins (λ j l. omega (arith, ones j l)) first (inside 0 0 some) (list_any-from_Contains jobs first (Contains-get_or jobs 0 0 some)) in
-        let (d, is, less) = whole_end (is_in jobs) h k begins last.inside last.passes in
-        (k, d, Contains-from_list_any jobs k last.passes, last.inside, is, less, rounded_up (length jobs) i.machines (d - h) (omega (arith, some)) (in_units d less (subst₂ (λ u e. (u *ℤ pos (time_together i (is_in jobs))) ≤ℤ (pos i.machines *ℤ (e -ℤ pos (unit * h)))) unit_is is room)))
+        let (k, last, room) = law_of_ends.last i s (is_in jobs) (pos (unit * h)) kind f (zero-le-pos (unit * h))
+        begins (λ j l. omega (arith, ones j l)) first (inside 0 0 some) (list_any-from_Contains jobs first (Contains-get_or jobs 0 0 some)) in
+        let (d, is, less) = whole_end (is_in jobs) h k begins last.inside last.passes in (
+          k,
+          d,
+          Contains-from_list_any jobs k last.passes,
+          last.inside,
+          is,
+          less,
+          rounded_up (length jobs) i.machines (d - h) (omega (arith, some))
+              (in_units d less (subst₂ (λ u e. (u *ℤ pos (time_together i (is_in jobs))) ≤ℤ (pos i.machines *ℤ (e -ℤ pos (unit * h)))) unit_is is room)),
+        )
       where
         n : ℕ
         n = length i.jobs
@@ -128,7 +139,8 @@ module _ (i : Instance) (kind : kind_of i.class.env ≡ Identical) (ones : (k : 
         in_units : (d : ℕ) → h ≤ d → (pos unit *ℤ pos (time_together i (is_in jobs))) ≤ℤ (pos i.machines *ℤ (pos (unit * d) -ℤ pos (unit * h))) → length jobs ≤ i.machines * (d - h)
         in_units d less r =
             let least : unit * h ≤ unit * d = mul-le-mul_left unit less in
-            let together = room_in_units unit i.machines (time_together i (is_in jobs)) h d some_unit less (le-pos (subst (λ x. (pos unit *ℤ pos (time_together i (is_in jobs))) ≤ℤ (pos i.machines *ℤ x)) (sym (pos-sub (unit * d) (unit * h) least)) r)) in
+            let together = room_in_units unit i.machines (time_together i (is_in jobs)) h d some_unit less
+            (le-pos (subst (λ x. (pos unit *ℤ pos (time_together i (is_in jobs))) ≤ℤ (pos i.machines *ℤ x)) (sym (pos-sub (unit * d) (unit * h) least)) r)) in
             omega (arith, long, together)
 
     -- no job of the first list begins before h units
@@ -137,10 +149,12 @@ module _ (i : Instance) (kind : kind_of i.class.env ≡ Identical) (ones : (k : 
     BeginFrom h (jobs ∷ rest) = BeginsFrom (pos (unit * h)) (is_in jobs) s
 
     -- list by list
-    climbs : (segments : List (List ℕ)) (h r : ℕ) → AreSegments i segments → BeginFrom h segments → h ≤ r → ((k : ℕ) → k < length i.jobs → end_of s k ≤ℤ pos (unit * r)) → h + segments_bound i segments ≤ r
+    climbs : (segments : List (List ℕ)) (h r : ℕ) → AreSegments i segments
+        → BeginFrom h segments → h ≤ r → ((k : ℕ) → k < length i.jobs → end_of s k ≤ℤ pos (unit * r)) → h + segments_bound i segments ≤ r
     climbs [] h r a begins less all = omega arith
     climbs (jobs ∷ rest) h r a begins less all =
-        let (k, d, here, inside, is, from, long) = list_takes jobs h (All-head (λ js. 0 < length js) jobs rest a.some) (All-head (λ js. All (λ j. j < length i.jobs) js) jobs rest a.inside) (AllPairs-front (λ j k. j ≢ k) jobs (flat_map (λ js. js) rest) a.apart) begins in
+        let (k, d, here, inside, is, from, long) = list_takes jobs h (All-head (λ js. 0 < length js) jobs rest a.some)
+        (All-head (λ js. All (λ j. j < length i.jobs) js) jobs rest a.inside) (AllPairs-front (λ j k. j ≢ k) jobs (flat_map (λ js. js) rest) a.apart) begins in
         let within : d ≤ r = le_of_mul-le-mul_left {k = unit} (le-pos (subst (λ x. x ≤ℤ pos (unit * r)) is (all k inside))) some_unit in
         let later = climbs rest d r (AreSegments-rest i jobs rest a) (next rest k d here is a.lead) within all in
         omega (arith, sum_by-cons (λ js. (length js + (i.machines - 1)) / i.machines) jobs rest, later, long, from)

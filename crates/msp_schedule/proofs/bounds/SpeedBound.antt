@@ -1,5 +1,6 @@
 -- The law of speeds: what is slower than the threshold is counted by job, what is faster by machine.
-use Rattle.std.proofs.Common.{◌≡◌, ◌≢◌, ℕ, ◌+◌, ◌*◌, ◌-◌, ◌<◌, ◌≤◌, inl, inr, Bool, true, false, cond, eqb, List, [], ◌∷◌, length, get_or, filter, map, fold, ℤ, pos, nat_abs, ◌+ℤ◌, ◌-ℤ◌, ◌*ℤ◌, ◌≤ℤ◌, All, AllPairs, sum_by, refl, sym, ap, ap₂, subst, subst₂, ◌∙◌, arith, zero-add}
+use Rattle.std.proofs.Common.{◌≡◌, ◌≢◌, ℕ, ◌+◌, ◌*◌, ◌-◌, ◌<◌, ◌≤◌, inl, inr, Bool, true, false, cond, eqb, List, [], ◌∷◌, length, get_or, filter, map, fold, ℤ, pos, nat_abs, ◌+ℤ◌}
+use Rattle.std.proofs.Common.{◌-ℤ◌, ◌*ℤ◌, ◌≤ℤ◌, All, AllPairs, sum_by, refl, sym, ap, ap₂, subst, subst₂, ◌∙◌, arith, zero-add}
 use Rattle.std.proofs.lemmas.Bool.{eqb-true}
 use Rattle.std.proofs.lemmas.Int.{ints}
 use Rattle.std.proofs.lemmas.List.Elements.{All-head, All-tail, All-filter, filter_passes}
@@ -10,7 +11,8 @@ use Rattle.msp_class.specs.declared.environments.EnvKind.{EnvKind}
 use Rattle.msp_class.specs.declared.environments.EnvKind.TheVariants.{Identical, Uniform, Unrelated, OpenShop, FlowShop, JobShop}
 use Rattle.msp_class.specs.Env.{kind_of}
 use Rattle.msp_class.specs.Sums.{total_below}
-use Rattle.msp_class.proofs.Sums.{cond-scale, sum_by-mono, sum_by-same, sum_by-add, sum_by-scale, sum_by-filter, sum_by-by_key_test, sum_by-by_key_filter, total_below-mono, total_below-same, total_below-scale, total_below-scale_right, total_below-range}
+use Rattle.msp_class.proofs.Sums.{cond-scale, sum_by-mono, sum_by-same, sum_by-add, sum_by-scale, sum_by-filter, sum_by-by_key_test, sum_by-by_key_filter, total_below-mono}
+use Rattle.msp_class.proofs.Sums.{total_below-same, total_below-scale, total_below-scale_right, total_below-range}
 use Rattle.msp_class.proofs.IntegerRing.{natural, pos-le, pos-same, pos-+ℤ-pos, pos-*ℤ-pos}
 use Rattle.msp_instance.specs.declared.Instance.{Instance}
 use Rattle.msp_instance.specs.Instance.{need_at}
@@ -46,7 +48,8 @@ module _ {X : Type 0} (job machine from to : X → ℕ) (speed : ℕ → ℕ) (t
       by : (s v t w : ℕ) → v ≤ t + w → s * v ≤ t * s + w * s
       by s v t w h = omega (arith, mul-le-mul_left s h)
 
-  module _ (test : ℕ → Bool) (m n c : ℕ) (xs : List X) (jobs : All (λ q. job q < n) xs) (machines : All (λ q. machine q < m) xs) (on_machines : AllPairs (IsApartOn machine from to) xs) (on_jobs : AllPairs (IsApartOn job from to) xs) (ends : All (λ q. test (job q) ≡ true → to q ≤ c) xs) where
+  module _ (test : ℕ → Bool) (m n c : ℕ) (xs : List X) (jobs : All (λ q. job q < n) xs) (machines : All (λ q. machine q < m) xs)
+      (on_machines : AllPairs (IsApartOn machine from to) xs) (on_jobs : AllPairs (IsApartOn job from to) xs) (ends : All (λ q. test (job q) ≡ true → to q ≤ c) xs) where
     abbrev picked : List X
     picked = filter (λ q. test (job q)) xs
 
@@ -59,7 +62,11 @@ module _ {X : Type 0} (job machine from to : X → ℕ) (speed : ℕ → ℕ) (t
     )
       where
         short : (j : ℕ) → test j ≡ true → work_of job from to xs j ≤ c
-        short j e = omega (arith, packed from to 0 c (filter (λ q. eqb (job q) j) xs) (apart_on_each job from to j xs on_jobs) (λ k d l. (omega arith, All-filter (λ q. eqb (job q) j) (λ q. test (job q) ≡ true → to q ≤ c) xs ends k d l (ap test (eqb-true _ _ (filter_passes (λ q. eqb (job q) j) xs k d l)) ∙ e))))
+        short j e = omega (
+          arith,
+          packed from to 0 c (filter (λ q. eqb (job q) j) xs) (apart_on_each job from to j xs on_jobs)
+              (λ k d l. (omega arith, All-filter (λ q. eqb (job q) j) (λ q. test (job q) ≡ true → to q ≤ c) xs ends k d l (ap test (eqb-true _ _ (filter_passes (λ q. eqb (job q) j) xs k d l)) ∙ e))),
+        )
 
         one : (b : Bool) (w : ℕ) → (b ≡ true → w ≤ c) → cond b w 0 ≤ cond b 1 0 * c
         one true w h = omega (arith, h refl)
@@ -83,10 +90,12 @@ module _ {X : Type 0} (job machine from to : X → ℕ) (speed : ℕ → ℕ) (t
         ended k d l = All-filter (λ q. test (job q)) (λ q. test (job q) ≡ true → to q ≤ c) xs ends k d l (filter_passes (λ q. test (job q)) xs k d l)
 
         same : (x : ℕ) → sum_by extra (on x) ≡ above x * sum_by size (on x)
-        same x = sum_by-same extra (λ q. above x * size q) (on x) (λ k d l. ap (λ y. above y * size (get_or (on x) k d)) (eqb-true _ _ (filter_passes (λ q. eqb (machine q) x) picked k d l))) ∙ sum_by-scale (above x) size (on x)
+        same x = sum_by-same extra (λ q. above x * size q) (on x) (λ k d l. ap (λ y. above y * size (get_or (on x) k d)) (eqb-true _ _ (filter_passes (λ q. eqb (machine q) x) picked k d l)))
+            ∙ sum_by-scale (above x) size (on x)
 
         filled : (x : ℕ) → sum_by size (on x) ≤ c - 0
-        filled x = packed from to 0 c (on x) (apart_on_each machine from to x picked (AllPairs-filter (IsApartOn machine from to) (λ q. test (job q)) xs on_machines)) (λ k d l. (omega arith, All-filter (λ q. eqb (machine q) x) (λ q. to q ≤ c) picked ended k d l))
+        filled x = packed from to 0 c (on x) (apart_on_each machine from to x picked (AllPairs-filter (IsApartOn machine from to) (λ q. test (job q)) xs on_machines))
+            (λ k d l. (omega arith, All-filter (λ q. eqb (machine q) x) (λ q. to q ≤ c) picked ended k d l))
 
         short : (x : ℕ) → sum_by extra (on x) ≤ above x * c
         short x = subst (λ y. y ≤ above x * c) (sym (same x)) (mul-le-mul_left (above x) (omega (arith, filled x)))
@@ -95,7 +104,12 @@ module _ {X : Type 0} (job machine from to : X → ℕ) (speed : ℕ → ℕ) (t
     pub speeds_hold : total_below n (λ j. cond (test j) (sum_by done (filter (λ q. eqb (job q) j) xs)) 0) ≤ c * (total_below n (λ j. cond (test j) 1 0) * threshold + total_below m above)
     speeds_hold = along _ _ threshold _ _ _ _ c
         (sum_by-filter done (λ q. test (job q)) xs ∙ sum_by-by_key_test job done test n xs jobs)
-        (omega (arith, sum_by-mono done (λ q. threshold * size q + extra q) picked (λ k d l. done-split (get_or picked k d)), sum_by-add (λ q. threshold * size q) extra picked, sum_by-scale threshold size picked))
+        (omega (
+          arith,
+          sum_by-mono done (λ q. threshold * size q + extra q) picked (λ k d l. done-split (get_or picked k d)),
+          sum_by-add (λ q. threshold * size q) extra picked,
+          sum_by-scale threshold size picked,
+        ))
         by_job by_machine
       where
         along : (d l t s b k a c : ℕ) → d ≡ l → d ≤ t * s + b → s ≤ k * c → b ≤ a * c → l ≤ c * (k * t + a)
@@ -175,7 +189,8 @@ module _ (i : Instance) (s : Schedule) (speeds : HaveSpeeds (kind_of i.class.env
   full : (j : ℕ) → j < n → sum_by work (own j) ≡ unit * (need_at i j 0).time
   full j l = pos-same (
       sym (total_shares (λ p. speed_of i p.machine) (own j) (All-filter (λ p. eqb p.job j) IsTimed s.pieces timed))
-      ∙ ap total (map-same (λ p. length_of p *ℤ pos (speed_of i p.machine)) (part (frame_of i)) (own j) (λ k d b. let p = get_or (own j) k d in ap (λ r. length_of p *ℤ pos r) (sym (reads.rate p.job p.machine))))
+      ∙ ap total (map-same (λ p. length_of p *ℤ pos (speed_of i p.machine))
+      (part (frame_of i)) (own j) (λ k d b. let p = get_or (own j) k d in ap (λ r. length_of p *ℤ pos r) (sym (reads.rate p.job p.machine))))
       ∙ ap (λ ps. total (map (part (frame_of i)) ps)) (sym (pieces_of-job s j operations))
       ∙ (fits.work j 0 l (reads.one j)).sum
       ∙ ap₂ (λ u t. u *ℤ pos t) unit_is (reads.want j))
@@ -208,10 +223,14 @@ module _ (i : Instance) (s : Schedule) (speeds : HaveSpeeds (kind_of i.class.env
 
 pub law_of_speeds : LawOfSpeeds
 law_of_speeds = record {
-  room = λ i s test threshold end speeds f b ends. subst (HasSpeedFor i s test threshold) (sym (natural end b)) (has_speed i s speeds f test threshold (nat_abs end) (λ j l e. subst (λ x. end_of s j ≤ℤ x) (natural end b) (ends j l e)));
+  room = λ i s test threshold end speeds f b ends. subst (HasSpeedFor i s test threshold)
+      (sym (natural end b)) (has_speed i s speeds f test threshold (nat_abs end) (λ j l e. subst (λ x. end_of s j ≤ℤ x) (natural end b) (ends j l e)));
   last = λ i s test threshold speeds f j l e.
       let spans = timed i s speeds f in
       let (k, last) = ends_last i s spans test j l e in
-      let is = last_end-is s.pieces k spans in
-      (k, last, subst (HasSpeedFor i s test threshold) (sym is) (has_speed i s speeds f test threshold (last_of job_of finish s.pieces k) (λ x b q. subst (λ y. end_of s x ≤ℤ y) is (last.latest x b q))));
+      let is = last_end-is s.pieces k spans in (
+        k,
+        last,
+        subst (HasSpeedFor i s test threshold) (sym is) (has_speed i s speeds f test threshold (last_of job_of finish s.pieces k) (λ x b q. subst (λ y. end_of s x ≤ℤ y) is (last.latest x b q))),
+      );
 }

@@ -1,5 +1,6 @@
 -- Moments at which some piece runs, and schedules from which all idle stretches are taken out.
-use Rattle.std.proofs.Common.{◌≡◌, ℕ, zero, suc, ◌+◌, ◌*◌, ◌-◌, ◌≤◌, ◌<◌, ◌⊎◌, inl, inr, min, max, Bool, true, false, cond, leb, ltb, ◌&&◌, ◌||◌, List, [], ◌∷◌, length, get_or, All, AllPairs, Contains, sum_by, ℤ, pos, nat_abs, ◌-ℤ◌, ◌*ℤ◌, ◌≤ℤ◌, refl, sym, ap, ap₂, subst, ◌∙◌, arith}
+use Rattle.std.proofs.Common.{◌≡◌, ℕ, zero, suc, ◌+◌, ◌*◌, ◌-◌, ◌≤◌, ◌<◌, ◌⊎◌, inl, inr, min, max, Bool, true, false, cond, leb, ltb, ◌&&◌, ◌||◌, List, [], ◌∷◌, length, get_or}
+use Rattle.std.proofs.Common.{All, AllPairs, Contains, sum_by, ℤ, pos, nat_abs, ◌-ℤ◌, ◌*ℤ◌, ◌≤ℤ◌, refl, sym, ap, ap₂, subst, ◌∙◌, arith}
 use Rattle.std.proofs.lemmas.List.{get_or_default}
 use Rattle.std.proofs.lemmas.Bool.{cases_lt, leb-true, leb-false, ltb-true, ltb-false}
 use Rattle.std.proofs.lemmas.Int.{ints}
@@ -67,7 +68,8 @@ module _ {X : Type 0} (from to : X → ℕ) where
   -- over a stretch that an element fills it grows as time does
   pub busy-runs : (xs : List X) (q : X) → Contains xs q → (a b : ℕ) → from q ≤ a → a ≤ b → b ≤ to q → busy from to xs b ≡ busy from to xs a + (b - a)
   busy-runs xs q c a b h k l =
-      busy-add xs a b k ∙ ap (λ n. busy from to xs a + n) (total_below-same (b - a) _ (λ _. 1) (λ i m. ap (λ t. cond t 1 0) (some_runs-yes xs (a + i) q c (omega arith) (omega arith))) ∙ total_below-constant (b - a) 1 ∙ once (b - a))
+      busy-add xs a b k ∙ ap (λ n. busy from to xs a + n)
+      (total_below-same (b - a) _ (λ _. 1) (λ i m. ap (λ t. cond t 1 0) (some_runs-yes xs (a + i) q c (omega arith) (omega arith))) ∙ total_below-constant (b - a) 1 ∙ once (b - a))
     where
       once : (n : ℕ) → n * 1 ≡ n
       once n = omega arith
@@ -75,7 +77,9 @@ module _ {X : Type 0} (from to : X → ℕ) where
   -- over a stretch at which none runs it stays
   pub busy-idle : (xs : List X) (a b : ℕ) → a ≤ b → All (λ q. (to q ≤ a) ⊎ (b ≤ from q)) xs → busy from to xs b ≡ busy from to xs a
   busy-idle xs a b k h =
-      busy-add xs a b k ∙ ap (λ n. busy from to xs a + n) (total_below-none (b - a) _ (λ i m. ap (λ t. cond t 1 0) (some_runs-no xs (a + i) (λ j d l. outside a b i (from (get_or xs j d)) (to (get_or xs j d)) m (h j d l))))) ∙ add-zero (busy from to xs a)
+      busy-add xs a b k ∙ ap (λ n. busy from to xs a + n)
+      (total_below-none (b - a) _ (λ i m. ap (λ t. cond t 1 0) (some_runs-no xs (a + i) (λ j d l. outside a b i (from (get_or xs j d)) (to (get_or xs j d)) m (h j d l)))))
+      ∙ add-zero (busy from to xs a)
     where
       outside : (a b i u v : ℕ) → i < b - a → (v ≤ a) ⊎ (b ≤ u) → (a + i < u) ⊎ (v ≤ a + i)
       outside a b i u v m (inl h) = inr (omega arith)
@@ -89,7 +93,8 @@ module _ {X : Type 0} (from to : X → ℕ) where
   runs-length q zero = omega arith
   runs-length q (suc t) = by (leb (from q) t) refl (ltb t (to q)) refl (runs-length q t)
     where
-      by : (b : Bool) → leb (from q) t ≡ b → (c : Bool) → ltb t (to q) ≡ c → total_below t (λ u. cond (runs from to u q) 1 0) ≤ min t (to q) - from q → total_below t (λ u. cond (runs from to u q) 1 0) + cond (b && c) 1 0 ≤ min (suc t) (to q) - from q
+      by : (b : Bool) → leb (from q) t ≡ b → (c : Bool) → ltb t (to q) ≡ c → total_below t (λ u. cond (runs from to u q) 1 0) ≤ min t (to q) - from q
+          → total_below t (λ u. cond (runs from to u q) 1 0) + cond (b && c) 1 0 ≤ min (suc t) (to q) - from q
       by true e true f h = omega (arith, leb-true _ _ e, ltb-true _ _ f)
       by true e false f h = omega (arith, ltb-false _ _ f)
       by false e c f h = omega (arith, leb-false _ _ e)
@@ -132,7 +137,8 @@ module _ {X : Type 0} (from to : X → ℕ) where
     pub finishes : busy from to xs (to p) + new ≡ to p
     pub next : IsSwept xs (k + 1) (max reach (to p)) new
 
-  module _ (xs : List X) (rises : AllPairs (λ x y. from x ≤ from y) xs) (lasts : All (λ q. from q < to q) xs) (k reach idle : ℕ) (d : X) (inside : k < length xs) (so_far : IsSwept xs k reach idle) where
+  module _ (xs : List X) (rises : AllPairs (λ x y. from x ≤ from y) xs)
+      (lasts : All (λ q. from q < to q) xs) (k reach idle : ℕ) (d : X) (inside : k < length xs) (so_far : IsSwept xs k reach idle) where
     abbrev p : X
     p = get_or xs k d
 
@@ -147,7 +153,12 @@ module _ {X : Type 0} (from to : X → ℕ) where
 
     begins : busy from to xs (from p) + new ≡ from p
     begins = elim (cases_lt reach (from p)) [
-      | inl after ↦ omega (arith, busy-idle xs reach (from p) (omega arith) (λ i c m. elim (cases_lt i k) [ inl done ↦ inl (so_far.ends i c done m) | inr past ↦ inr (later i c (omega arith) m) ]), so_far.idle_is, after)
+      | inl after ↦ omega (
+        arith,
+        busy-idle xs reach (from p) (omega arith) (λ i c m. elim (cases_lt i k) [ inl done ↦ inl (so_far.ends i c done m) | inr past ↦ inr (later i c (omega arith) m) ]),
+        so_far.idle_is,
+        after,
+      )
       | inr before ↦ elim so_far.attained [
         | inl none ↦ omega (arith, so_far.idle_is, ap (busy from to xs) none, ap (busy from to xs) (zero_from none before))
         | inr found ↦ let (q, c, e, h) = found in omega (arith, so_far.idle_is, busy-runs xs q c (from p) reach (h k d (omega arith) inside) (omega arith) (omega (arith, e)), before)
@@ -165,8 +176,10 @@ module _ {X : Type 0} (from to : X → ℕ) where
 
     next_reach : (busy from to xs (max reach (to p)) + new ≡ max reach (to p)) × Attains xs (k + 1) (max reach (to p))
     next_reach = elim (cases_lt reach (to p)) [
-      | inl after ↦ let e : to p ≡ max reach (to p) = omega arith in (subst (λ r. busy from to xs r + new ≡ r) e finishes, subst (Attains xs (k + 1)) e (inr (p, Contains-get_or xs k d inside, refl, λ i c l m. later i c (omega arith) m)))
-      | inr before ↦ let e : reach ≡ max reach (to p) = omega arith in (subst (λ r. busy from to xs r + new ≡ r) e (omega (arith, so_far.idle_is, before, lasts_here)), subst (Attains xs (k + 1)) e (kept so_far.attained))
+      | inl after ↦ let e : to p ≡ max reach (to p) = omega arith in
+          (subst (λ r. busy from to xs r + new ≡ r) e finishes, subst (Attains xs (k + 1)) e (inr (p, Contains-get_or xs k d inside, refl, λ i c l m. later i c (omega arith) m)))
+      | inr before ↦ let e : reach ≡ max reach (to p) = omega arith in
+          (subst (λ r. busy from to xs r + new ≡ r) e (omega (arith, so_far.idle_is, before, lasts_here)), subst (Attains xs (k + 1)) e (kept so_far.attained))
     ]
       where
         kept : Attains xs k reach → Attains xs (k + 1) reach
@@ -215,24 +228,34 @@ module _ (e : ℕ) (ps : List Piece) where
   busy_moment-lengths x = pos-le (mul-le-mul_left e (busy-lengths start finish ps (nat_abs x)))
 
 -- closed: over a frame without heads, the pieces at e times their busy moments fit a frame whose operations want e times as much
-pub Carries-closed : (f g : Frame) (D E : ℤ) (ps : List Piece) (e : ℕ) → 1 ≤ e → pos 1 ≤ℤ E → Fits f D ps → Suits f g D E (pos e) (λ j o. o) → ((j : ℕ) → j < f.jobs → g.head j ≡ 0) → All (Contains f.arcs) g.arcs → (g.routed ≡ true → f.routed ≡ true)
+pub Carries-closed : (f g : Frame) (D E : ℤ) (ps : List Piece) (e : ℕ) → 1 ≤ e → pos 1 ≤ℤ E → Fits f D ps
+    → Suits f g D E (pos e) (λ j o. o) → ((j : ℕ) → j < f.jobs → g.head j ≡ 0) → All (Contains f.arcs) g.arcs → (g.routed ≡ true → f.routed ≡ true)
     → Carries f g D E ps (pos e) (busy_moment e ps) (λ j o. o)
 Carries-closed f g D E ps e some unit fits suits heads arcs routed = record {
   unit = unit;
   moments = Stretches-busy e ps some fits.span;
   operations = suits;
-  heads = λ k d l inside h. subst (λ m. (E *ℤ pos m) ≤ℤ busy_moment e ps (get_or ps k d).from) (sym (heads (get_or ps k d).job inside)) (subst (λ z. z ≤ℤ busy_moment e ps (get_or ps k d).from) (sym (*ℤ-zero E)) (pos-le (omega arith)));
+  heads = λ k d l inside h. subst (λ m. (E *ℤ pos m) ≤ℤ busy_moment e ps (get_or ps k d).from)
+      (sym (heads (get_or ps k d).job inside)) (subst (λ z. z ≤ℤ busy_moment e ps (get_or ps k d).from) (sym (*ℤ-zero E)) (pos-le (omega arith)));
   arcs = arcs;
   routed = λ r. inl (routed r);
 }
 
-pub Fits-closed : (f : Frame) (D : ℤ) (ps : List Piece) (e : ℕ) → 1 ≤ e → Fits f D ps → ((j : ℕ) → j < f.jobs → f.head j ≡ 0) → Fits (record f { want = λ j o. e * f.want j o }) D (carried_all (busy_moment e ps) (λ j o. o) ps)
-Fits-closed f D ps e some fits heads = let g : Frame = record f { want = λ j o. e * f.want j o } in Fits-carried f g D D ps (pos e) (busy_moment e ps) (λ j o. o) fits (Carries-closed f g D D ps e some fits.unit_from fits (record {
-  jobs = refl;
-  has = λ j o l h. h;
-  all = λ j o l h. (o, h, refl);
-  increasing = λ j o n l a b h. h;
-  may = λ j o m l h w. w;
-  ratio = λ j o l h. record { times = 1; over = e; some = omega arith; rate = λ m w. one-*ℤ (pos e *ℤ pos (f.rate j m)); want = one-*ℤ (D *ℤ pos (e * f.want j o)) ∙ *ℤ_exchange D (pos e) (pos (f.want j o)) };
-  cut = λ c. c;
-}) heads (All-contains_itself f.arcs) (λ r. r))
+pub Fits-closed : (f : Frame) (D : ℤ) (ps : List Piece) (e : ℕ) → 1 ≤ e
+    → Fits f D ps → ((j : ℕ) → j < f.jobs → f.head j ≡ 0) → Fits (record f { want = λ j o. e * f.want j o }) D (carried_all (busy_moment e ps) (λ j o. o) ps)
+Fits-closed f D ps e some fits heads = let g : Frame = record f { want = λ j o. e * f.want j o } in
+    Fits-carried f g D D ps (pos e) (busy_moment e ps) (λ j o. o) fits (Carries-closed f g D D ps e some fits.unit_from fits (record {
+      jobs = refl;
+      has = λ j o l h. h;
+      all = λ j o l h. (o, h, refl);
+      increasing = λ j o n l a b h. h;
+      may = λ j o m l h w. w;
+      ratio = λ j o l h. record {
+        times = 1;
+        over = e;
+        some = omega arith;
+        rate = λ m w. one-*ℤ (pos e *ℤ pos (f.rate j m));
+        want = one-*ℤ (D *ℤ pos (e * f.want j o)) ∙ *ℤ_exchange D (pos e) (pos (f.want j o));
+      };
+      cut = λ c. c;
+    }) heads (All-contains_itself f.arcs) (λ r. r))

@@ -12,11 +12,11 @@ use Rattle.msp_instance.specs.Instance.{job_at}
 use Rattle.msp_schedule.specs.declared.Schedule.{Schedule}
 use Rattle.msp_schedule.specs.Feasible.{Feasible}
 use Rattle.msp_schedule.specs.Cost.{cost_of, end_of}
-use Rattle.msp_schedule.specs.Rows.{seq, piece, time_at}
-use Rattle.msp_schedule.proofs.lists.Sequences.{seq-later, seq-append}
-use Rattle.msp_schedule.proofs.lists.Rows.{last-seq_below}
+use Rattle.msp_schedule.specs.BackToBack.{weighted_ends, piece, time_at}
+use Rattle.msp_schedule.proofs.lists.WeightedEnds.{weighted_ends-later, weighted_ends-append}
+use Rattle.msp_schedule.proofs.lists.BackToBack.{last-weighted_ends_below}
 use Rattle.msp_schedule.proofs.feasible.OneMachine.{weighted_cost}
-use Rattle.msp_schedule.proofs.feasible.OneRow.{piece_makes, row-timed}
+use Rattle.msp_schedule.proofs.feasible.BackToBack.{piece_makes, back_to_back-timed}
 use Rattle.msp_schedule.proofs.changes.Mirror.{turned}
 use Rattle.msp_schedule.proofs.costs.Charges.{SameCharges-from_jobs}
 use Rattle.msp_schedule.proofs.feasible.Series.{AllPairs-append, MayPrecede}
@@ -39,22 +39,24 @@ AllPairs-reverse {X} R (x ∷ xs) h =
     (λ k d l. All-cons (λ z. R z (get_or (reverse xs) k d)) x [] (All-reverse (R x) xs (AllPairs-head R x xs h) k d l) (All-nil (λ z. R z (get_or (reverse xs) k d)))))
 
 -- the weighted sum of the ends is the same with times and weights exchanged, read from the end
-pub seq-exchange : {X : Type 0} (p w : X → ℕ) (xs : List X) → seq p w 0 xs ≡ seq w p 0 (reverse xs)
-seq-exchange p w [] = refl
-seq-exchange p w (x ∷ xs) =
-    let last = seq-append w p 0 (reverse xs) (x ∷ []) in
-    let later = seq-later p w 0 (p x) xs in
+pub weighted_ends-exchange : {X : Type 0} (p w : X → ℕ) (xs : List X) → weighted_ends p w 0 xs ≡ weighted_ends w p 0 (reverse xs)
+weighted_ends-exchange p w [] = refl
+weighted_ends-exchange p w (x ∷ xs) =
+    let last = weighted_ends-append w p 0 (reverse xs) (x ∷ []) in
+    let later = weighted_ends-later p w 0 (p x) xs in
     let same = sum_by-IsPermutation w xs (reverse xs) (IsPermutation-reverse xs) in
-    joined (p x) (w x) (seq p w 0 xs) (seq p w (0 + p x) xs) (seq w p 0 (reverse xs)) (sum_by w xs) (sum_by w (reverse xs)) (seq w p 0 (reverse xs ++ x ∷ [])) later (seq-exchange p w xs) same last
-    ∙ ap (seq w p 0) (sym (reverse-cons x xs))
+    joined (p x) (w x) (weighted_ends p w 0 xs) (weighted_ends p w (0 + p x) xs) (weighted_ends w p 0 (reverse xs))
+    (sum_by w xs) (sum_by w (reverse xs)) (weighted_ends w p 0 (reverse xs ++ x ∷ [])) later (weighted_ends-exchange p w xs) same last
+    ∙ ap (weighted_ends w p 0) (sym (reverse-cons x xs))
   where
     joined : (q v a b c s t d : ℕ) → b ≡ a + q * s → a ≡ c → t ≡ s → d ≡ c + (q * (0 + t + v) + 0) → v * (0 + q) + b ≡ d
     joined q v a b c s t d e f g h = omega (arith, e, f, h, ap (λ n. q * n) g)
 
 -- times that are D times as long
-seq-scale : {X : Type 0} (D : ℕ) (p w : X → ℕ) (t : ℕ) (xs : List X) → seq (λ x. D * p x) w (D * t) xs ≡ D * seq p w t xs
-seq-scale D p w t [] = omega arith
-seq-scale D p w t (x ∷ xs) = ap (λ u. w x * (D * t + D * p x) + seq (λ y. D * p y) w u xs) (join D t (p x)) ∙ ap (λ n. w x * (D * t + D * p x) + n) (seq-scale D p w (t + p x) xs) ∙ both D (w x) t (p x) (seq p w (t + p x) xs)
+weighted_ends-scale : {X : Type 0} (D : ℕ) (p w : X → ℕ) (t : ℕ) (xs : List X) → weighted_ends (λ x. D * p x) w (D * t) xs ≡ D * weighted_ends p w t xs
+weighted_ends-scale D p w t [] = omega arith
+weighted_ends-scale D p w t (x ∷ xs) = ap (λ u. w x * (D * t + D * p x) + weighted_ends (λ y. D * p y) w u xs) (join D t (p x))
+    ∙ ap (λ n. w x * (D * t + D * p x) + n) (weighted_ends-scale D p w (t + p x) xs) ∙ both D (w x) t (p x) (weighted_ends p w (t + p x) xs)
   where
     join : (D t q : ℕ) → D * t + D * q ≡ D * (t + q)
     join D t q = omega arith
@@ -62,20 +64,22 @@ seq-scale D p w t (x ∷ xs) = ap (λ u. w x * (D * t + D * p x) + seq (λ y. D 
     both : (D v t q s : ℕ) → v * (D * t + D * q) + D * s ≡ D * (v * (t + q) + s)
     both D v t q s = omega arith
 
-seq-agree : {X : Type 0} (p q v w : X → ℕ) (t : ℕ) (xs : List X) → All (λ k. p k ≡ q k) xs → All (λ k. v k ≡ w k) xs → seq p v t xs ≡ seq q w t xs
-seq-agree p q v w t [] h k = refl
-seq-agree p q v w t (x ∷ xs) h k =
-    ap₂ (λ m n. m * (t + n) + seq p v (t + n) xs) (All-head (λ z. v z ≡ w z) x xs k) (All-head (λ z. p z ≡ q z) x xs h)
-    ∙ ap (λ n. w x * (t + q x) + n) (seq-agree p q v w (t + q x) xs (All-tail (λ z. p z ≡ q z) x xs h) (All-tail (λ z. v z ≡ w z) x xs k))
+weighted_ends-agree : {X : Type 0} (p q v w : X → ℕ) (t : ℕ) (xs : List X) → All (λ k. p k ≡ q k) xs → All (λ k. v k ≡ w k) xs → weighted_ends p v t xs ≡ weighted_ends q w t xs
+weighted_ends-agree p q v w t [] h k = refl
+weighted_ends-agree p q v w t (x ∷ xs) h k =
+    ap₂ (λ m n. m * (t + n) + weighted_ends p v (t + n) xs) (All-head (λ z. v z ≡ w z) x xs k) (All-head (λ z. p z ≡ q z) x xs h)
+    ∙ ap (λ n. w x * (t + q x) + n) (weighted_ends-agree p q v w (t + q x) xs (All-tail (λ z. p z ≡ q z) x xs h) (All-tail (λ z. v z ≡ w z) x xs k))
 
 -- ---- what the lined-up jobs cost
 abbrev weight_at : Instance → ℕ → ℕ
 weight_at i j = (job_at i j).weight
 
-pub cost_of-lined_up : (i : Instance) → IsLine i → i.class.crit ≡ SumWC → (D : ℕ) → 1 ≤ D → (order : List ℕ) → OnceBelow (length i.jobs) order → cost_of i (lined_up i D order) ≡ pos (D * seq (time_at i) (weight_at i) 0 order)
+pub cost_of-lined_up : (i : Instance) → IsLine i → i.class.crit ≡ SumWC → (D : ℕ)
+    → 1 ≤ D → (order : List ℕ) → OnceBelow (length i.jobs) order → cost_of i (lined_up i D order) ≡ pos (D * weighted_ends (time_at i) (weight_at i) 0 order)
 cost_of-lined_up i line e D unit order o =
-    weighted_cost i (lined_up i D order) e (row-timed (λ j. D * time_at i j) 0 order (λ k d l. positive i line D unit order o (get_or order k d) (o.within k d l)))
-    ∙ ap pos (last-seq_below piece piece_makes (λ j. D * time_at i j) (weight_at i) (length i.jobs) 0 order o ∙ ap (λ t. seq (λ j. D * time_at i j) (weight_at i) t order) (none D) ∙ seq-scale D (time_at i) (weight_at i) 0 order)
+    weighted_cost i (lined_up i D order) e (back_to_back-timed (λ j. D * time_at i j) 0 order (λ k d l. positive i line D unit order o (get_or order k d) (o.within k d l)))
+    ∙ ap pos (last-weighted_ends_below piece piece_makes (λ j. D * time_at i j) (weight_at i) (length i.jobs) 0 order o
+    ∙ ap (λ t. weighted_ends (λ j. D * time_at i j) (weight_at i) t order) (none D) ∙ weighted_ends-scale D (time_at i) (weight_at i) 0 order)
   where
     none : (D : ℕ) → 0 ≡ D * 0
     none D = omega arith
@@ -87,7 +91,8 @@ pub record Exchanges (i j : Instance) : Type 0 where
   pub weights : (k : ℕ) → k < length i.jobs → (job_at j k).weight ≡ time_at i k
   pub arcs : All (λ a. Contains i.arcs (turned a)) j.arcs
 
-module _ (i j : Instance) (line : IsLine i) (other : IsLine j) (x : Exchanges i j) (s : Schedule) (f : Feasible i s) (order : List ℕ) (o : OnceBelow (length i.jobs) order) (rises : AllPairs (λ a b. end_of s a ≤ℤ end_of s b) order) where
+module _ (i j : Instance) (line : IsLine i) (other : IsLine j) (x : Exchanges i j)
+    (s : Schedule) (f : Feasible i s) (order : List ℕ) (o : OnceBelow (length i.jobs) order) (rises : AllPairs (λ a b. end_of s a ≤ℤ end_of s b) order) where
   abbrev D : ℕ
   D = nat_abs s.unit
 
@@ -104,7 +109,8 @@ module _ (i j : Instance) (line : IsLine i) (other : IsLine j) (x : Exchanges i 
   once_there = subst (λ n. OnceBelow n back) x.count once_back
 
   forward : AllPairs (MayPrecede j.arcs) back
-  forward a b d h k arc c e g = AllPairs-reverse (MayPrecede i.arcs) order (forward_by_ends i line s f order o rises) a b d h k (turned arc) (All-contains (λ z. Contains i.arcs (turned z)) j.arcs arc x.arcs c) g e
+  forward a b d h k arc c e g = AllPairs-reverse (MayPrecede i.arcs)
+      order (forward_by_ends i line s f order o rises) a b d h k (turned arc) (All-contains (λ z. Contains i.arcs (turned z)) j.arcs arc x.arcs c) g e
 
   loose : All (λ a. a.before ≢ a.after) j.arcs
   loose k d l e = All-contains (λ a. a.before ≢ a.after) i.arcs (turned (get_or j.arcs k d)) (loose_by_ends i line s f order o rises) (x.arcs k d l) (sym e)
@@ -114,5 +120,7 @@ module _ (i j : Instance) (line : IsLine i) (other : IsLine j) (x : Exchanges i 
 
   pub cost-exchanged : i.class.crit ≡ SumWC → j.class.crit ≡ SumWC → cost_of j (lined_up j D back) ≤ℤ cost_of i s
   cost-exchanged c e =
-      ≤ℤ_trans (≤ℤ_of_same (cost_of-lined_up j other e D unit back once_there ∙ ap (λ n. pos (D * n)) (seq-agree (time_at j) (weight_at i) (weight_at j) (time_at i) 0 back (λ k d l. x.times (get_or back k d) (once_back.within k d l)) (λ k d l. x.weights (get_or back k d) (once_back.within k d l)) ∙ sym (seq-exchange (time_at i) (weight_at i) order)) ∙ sym (cost_of-lined_up i line c D unit order o)))
+      ≤ℤ_trans (≤ℤ_of_same (cost_of-lined_up j other e D unit back once_there
+      ∙ ap (λ n. pos (D * n)) (weighted_ends-agree (time_at j) (weight_at i) (weight_at j) (time_at i) 0 back (λ k d l. x.times (get_or back k d) (once_back.within k d l))
+      (λ k d l. x.weights (get_or back k d) (once_back.within k d l)) ∙ sym (weighted_ends-exchange (time_at i) (weight_at i) order)) ∙ sym (cost_of-lined_up i line c D unit order o)))
       (cost-lined_up i i line line (SameLine-refl i) s f order o rises (SameCharges-from_jobs i i refl refl (λ k l. (refl, refl, refl))))

@@ -1,5 +1,6 @@
 -- One machine without release dates: the jobs in the order of their ends, lined up without gaps, end no later.
-use Rattle.std.proofs.Common.{◌≡◌, ◌≢◌, ◌⊎◌, inl, inr, ℕ, zero, suc, ◌+◌, ◌*◌, ◌≤◌, ◌<◌, Bool, true, false, cond, eqb, leb, if◌then◌else◌, List, [], ◌∷◌, get_or, length, All, AllPairs, Contains, count_by, ℤ, pos, nat_abs, ◌≤ℤ◌, ◌<ℤ◌, refl, sym, ap, ap₂, subst, subst₂, ◌∙◌, arith}
+use Rattle.std.proofs.Common.{◌≡◌, ◌≢◌, ◌⊎◌, inl, inr, ℕ, zero, suc, ◌+◌, ◌*◌, ◌≤◌, ◌<◌, Bool, true, false, cond, eqb, leb, if◌then◌else◌, List, [], ◌∷◌, get_or, length, All}
+use Rattle.std.proofs.Common.{AllPairs, Contains, count_by, ℤ, pos, nat_abs, ◌≤ℤ◌, ◌<ℤ◌, refl, sym, ap, ap₂, subst, subst₂, ◌∙◌, arith}
 use Rattle.std.specs.Prelude.{int_lt}
 use Rattle.std.specs.List.{range_with_len}
 use Rattle.std.proofs.lemmas.List.Kept.{AllPairs-cons}
@@ -23,11 +24,11 @@ use Rattle.msp_schedule.specs.Feasible.{Feasible}
 use Rattle.msp_schedule.specs.Cost.{cost_of, last_end, end_of}
 use Rattle.msp_schedule.specs.Intervals.{IsApart}
 use Rattle.msp_schedule.proofs.lists.Intervals.{last_of, last_of-bound}
-use Rattle.msp_schedule.proofs.lists.Sequences.{done_by, ends_cover_work}
-use Rattle.msp_schedule.specs.Rows.{row, piece, time_at}
-use Rattle.msp_schedule.proofs.lists.Rows.{end_in, row-last}
+use Rattle.msp_schedule.proofs.lists.WeightedEnds.{done_by, ends_cover_work}
+use Rattle.msp_schedule.specs.BackToBack.{back_to_back, piece, time_at}
+use Rattle.msp_schedule.proofs.lists.BackToBack.{end_in, back_to_back-last}
 use Rattle.msp_schedule.proofs.feasible.OneMachine.{IsOneMachine, IsOneMachine-from_env, IsPlan, IsPlan-from_feasible, last_end-is}
-use Rattle.msp_schedule.proofs.feasible.OneRow.{piece_makes, row-timed}
+use Rattle.msp_schedule.proofs.feasible.BackToBack.{piece_makes, back_to_back-timed}
 use Rattle.msp_schedule.proofs.feasible.Frames.{frame_by, Lasts, Fits, HasWork, IsShaped-from_identical, piece_of, Fits-from_feasible, Feasible-from_fits}
 use Rattle.msp_schedule.proofs.feasible.LastEnds.{last_end-contains, last_end-reached}
 use Rattle.msp_schedule.proofs.costs.Charges.{SameCharges, cost-by_ends, cost-same_charges}
@@ -41,9 +42,11 @@ pub record IsLine (i : Instance) : Type 0 where
   pub arcs : All (λ a. (a.before < length i.jobs) × (a.after < length i.jobs)) i.arcs
 
 pub IsLine-from_conditions : (l : Limits) (i : Instance) → i.class.env ≡ One → MeetsConditions l i → IsLine i
-IsLine-from_conditions l i e h = let m = IsOneMachine-from_env l i e h in record { machine = m; some = λ j b. let n = (h.jobs j no_job b).needs in time_from (kind_of i.class.env) j m.kind n.shape n.times; arcs = h.ends }
+IsLine-from_conditions l i e h = let m = IsOneMachine-from_env l i e h in
+    record { machine = m; some = λ j b. let n = (h.jobs j no_job b).needs in time_from (kind_of i.class.env) j m.kind n.shape n.times; arcs = h.ends }
   where
-    time_from : (k : EnvKind) (j : ℕ) → k ≡ Identical → HasShape k i.class.env i.machines (job_at i j).needs → HasTimes (least_time k i.class.times) (greatest_time l i.class.times) (job_at i j).needs → 1 ≤ time_at i j
+    time_from : (k : EnvKind) (j : ℕ) → k ≡ Identical → HasShape k i.class.env i.machines (job_at i j).needs
+        → HasTimes (least_time k i.class.times) (greatest_time l i.class.times) (job_at i j).needs → 1 ≤ time_at i j
     time_from Identical j e s t = (t 0 no_need (omega (arith, s.0))).0
     time_from Uniform j e s t = absurd (cc)
     time_from Unrelated j e s t = absurd (cc)
@@ -81,28 +84,30 @@ module _ (i : Instance) (line : IsLine i) (D : ℕ) (unit : 1 ≤ D) (order : Li
       once : (n : ℕ) → n * 1 ≡ n
       once n = omega arith
 
-  same_row : (t : ℕ) (js : List ℕ) → row (piece_on (λ j n. 0)) (λ x. time x.job) t (tasks (λ j. 0 ∷ []) js) ≡ row piece time t js
-  same_row t [] = refl
-  same_row t (j ∷ js) = ap (λ l. piece j t (t + time j) ∷ l) (same_row (t + time j) js)
+  same_back_to_back : (t : ℕ) (js : List ℕ) → back_to_back (piece_on (λ j n. 0)) (λ x. time x.job) t (tasks (λ j. 0 ∷ []) js) ≡ back_to_back piece time t js
+  same_back_to_back t [] = refl
+  same_back_to_back t (j ∷ js) = ap (λ l. piece j t (t + time j) ∷ l) (same_back_to_back (t + time j) js)
 
   pub Feasible-lined_up : ((j : ℕ) → j < length i.jobs → (job_at i j).release ≡ 0) → AllPairs (MayPrecede i.arcs) order → All (λ a. a.before ≢ a.after) i.arcs → Feasible i (lined_up i D order)
   Feasible-lined_up heads forward loose =
       Feasible-from_fits i (lined_up i D order) (IsShaped-from_identical i line.machine.kind)
-      (subst (λ k. Fits (frame_by k i) (pos D) (row piece time 0 order)) (sym line.machine.kind)
-      (subst (Fits (frame_by Identical i) (pos D)) (same_row 0 order) (Fits-series (frame_by Identical i) D (λ j. 0 ∷ []) (λ j n. 0) (λ j n. time j) (serial heads) order o forward loose)))
+      (subst (λ k. Fits (frame_by k i) (pos D) (back_to_back piece time 0 order)) (sym line.machine.kind)
+      (subst (Fits (frame_by Identical i) (pos D)) (same_back_to_back 0 order) (Fits-series (frame_by Identical i) D (λ j. 0 ∷ []) (λ j n. 0) (λ j n. time j) (serial heads) order o forward loose)))
 
   pub end_of-lined_up : (j : ℕ) → j < length i.jobs → end_of (lined_up i D order) j ≡ pos (end_in time 0 order j)
   end_of-lined_up j l =
-      last_end-is (row piece time 0 order) j (row-timed time 0 order (λ k d b. positive (get_or order k d) (o.within k d b)))
-      ∙ ap pos (row-last piece time piece_makes 0 order j (OnceBelow-distinct o) (OnceBelow-contains o j l))
+      last_end-is (back_to_back piece time 0 order) j (back_to_back-timed time 0 order (λ k d b. positive (get_or order k d) (o.within k d b)))
+      ∙ ap pos (back_to_back-last piece time piece_makes 0 order j (OnceBelow-distinct o) (OnceBelow-contains o j l))
 
 -- ---- no job ends later
--- where a list rises, the row of its jobs ends with no more than what is done by then
+-- where a list rises, its jobs back to back end with no more than what is done by then
 end_in-done : (p last : ℕ → ℕ) (t : ℕ) (js : List ℕ) (j : ℕ) → AllPairs (λ a b. last a ≤ last b) js → Contains js j → end_in p t js j ≤ t + done_by p last js j
 end_in-done p last t [] j h c = absurd (omega (arith, c.1))
-end_in-done p last t (i ∷ js) j h c = by (eqb i j) refl (end_in-done p last (t + p i) js j (AllPairs-tail (λ a b. last a ≤ last b) i js h)) (sum_by-cons (λ k. cond (leb (last k) (last j)) (p k) 0) i js)
+end_in-done p last t (i ∷ js) j h c =
+    by (eqb i j) refl (end_in-done p last (t + p i) js j (AllPairs-tail (λ a b. last a ≤ last b) i js h)) (sum_by-cons (λ k. cond (leb (last k) (last j)) (p k) 0) i js)
   where
-    by : (b : Bool) → eqb i j ≡ b → (Contains js j → end_in p (t + p i) js j ≤ t + p i + done_by p last js j) → {n : ℕ} → n ≡ cond (leb (last i) (last j)) (p i) 0 + done_by p last js j → cond b (t + p i) (end_in p (t + p i) js j) ≤ t + n
+    by : (b : Bool) → eqb i j ≡ b → (Contains js j → end_in p (t + p i) js j ≤ t + p i + done_by p last js j)
+        → {n : ℕ} → n ≡ cond (leb (last i) (last j)) (p i) 0 + done_by p last js j → cond b (t + p i) (end_in p (t + p i) js j) ≤ t + n
     by true e later s = omega (arith, s, cond-yes (p i) (le-leb (last i) (last j) (omega (arith, ap last (eqb-true i j e)))))
     by false e later s =
         let there = Contains-tail i js j c (eqb-false i j e) in
@@ -146,7 +151,8 @@ module _ (i : Instance) (line : IsLine i) (s : Schedule) (f : Feasible i s) (ord
       let inside = All-contains (λ x. (x.before < length i.jobs) × (x.after < length i.jobs)) i.arcs a line.arcs c in
       let (p, cp, ep, tp) = last_end-reached (frame_by Identical i) s.unit s.pieces fits works a.before inside.0 in
       let (q, cq, eq) = piece_of (frame_by Identical i) s.unit s.pieces fits works a.after inside.1 in
-      let first = All-contains (λ x. All (λ y. x.job ≡ a.before → y.job ≡ a.after → IsBefore x y) s.pieces) s.pieces p (All-contains (λ b. All (λ x. All (λ y. x.job ≡ b.before → y.job ≡ b.after → IsBefore x y) s.pieces) s.pieces) i.arcs a f.arc c) cp in
+      let first = All-contains (λ x. All (λ y. x.job ≡ a.before → y.job ≡ a.after → IsBefore x y) s.pieces)
+      s.pieces p (All-contains (λ b. All (λ x. All (λ y. x.job ≡ b.before → y.job ≡ b.after → IsBefore x y) s.pieces) s.pieces) i.arcs a f.arc c) cp in
       let before = All-contains (λ y. p.job ≡ a.before → y.job ≡ a.after → IsBefore p y) s.pieces q first cq ep eq in
       subst₂ (λ x y. x <ℤ last_end s.pieces y) tp eq (after p.to q.from q.to (last_end s.pieces q.job) before (All-contains Lasts s.pieces q f.span cq).1 (last_end-contains s.pieces q cq))
     where
@@ -185,17 +191,18 @@ module _ (i : Instance) (line : IsLine i) (s : Schedule) (f : Feasible i s) (ord
       never a b c d h k e r = omega arith
 
   pub rises_strictly : AllPairs (λ a b. end_of s a <ℤ end_of s b) order
-  rises_strictly a b d h k = strictly (end_of s (get_or order a d)) (end_of s (get_or order b d)) (rises a b d h k) (λ e. OnceBelow-distinct o a b d h k (ends_differ (get_or order a d) (get_or order b d) (o.within a d (omega arith)) (o.within b d k) e))
+  rises_strictly a b d h k = strictly (end_of s (get_or order a d)) (end_of s (get_or order b d)) (rises a b d h k)
+      (λ e. OnceBelow-distinct o a b d h k (ends_differ (get_or order a d) (get_or order b d) (o.within a d (omega arith)) (o.within b d k) e))
     where
       strictly : (x y : ℤ) → x ≤ℤ y → x ≢ y → x <ℤ y
       strictly x y h n = elim (≤ℤ_total y x) [ inl below ↦ absurd (n (≤ℤ_antisym h below)) | inr less ↦ less ]
 
 -- ---- for another instance with the same times and arcs
-row_agree : (p q : ℕ → ℕ) (t : ℕ) (js : List ℕ) → All (λ k. p k ≡ q k) js → row piece p t js ≡ row piece q t js
-row_agree p q t [] h = refl
-row_agree p q t (j ∷ js) h =
-    ap (λ n. piece j t (t + n) ∷ row piece p (t + n) js) (All-head (λ k. p k ≡ q k) j js h)
-    ∙ ap (λ l. piece j t (t + q j) ∷ l) (row_agree p q (t + q j) js (All-tail (λ k. p k ≡ q k) j js h))
+back_to_back_agree : (p q : ℕ → ℕ) (t : ℕ) (js : List ℕ) → All (λ k. p k ≡ q k) js → back_to_back piece p t js ≡ back_to_back piece q t js
+back_to_back_agree p q t [] h = refl
+back_to_back_agree p q t (j ∷ js) h =
+    ap (λ n. piece j t (t + n) ∷ back_to_back piece p (t + n) js) (All-head (λ k. p k ≡ q k) j js h)
+    ∙ ap (λ l. piece j t (t + q j) ∷ l) (back_to_back_agree p q (t + q j) js (All-tail (λ k. p k ≡ q k) j js h))
 
 pub record SameLine (i j : Instance) : Type 0 where
   pub count : length i.jobs ≡ length j.jobs
@@ -206,7 +213,8 @@ pub SameLine-refl : (i : Instance) → SameLine i i
 SameLine-refl i = record { count = refl; times = λ k l. refl; arcs = refl }
 
 -- the jobs lined up in the order of the ends of a schedule for i, as a schedule for j
-module _ (i j : Instance) (line : IsLine i) (other : IsLine j) (same : SameLine i j) (s : Schedule) (f : Feasible i s) (order : List ℕ) (o : OnceBelow (length i.jobs) order) (rises : AllPairs (λ a b. end_of s a ≤ℤ end_of s b) order) where
+module _ (i j : Instance) (line : IsLine i) (other : IsLine j) (same : SameLine i j)
+    (s : Schedule) (f : Feasible i s) (order : List ℕ) (o : OnceBelow (length i.jobs) order) (rises : AllPairs (λ a b. end_of s a ≤ℤ end_of s b) order) where
   abbrev lined : Schedule
   lined = lined_up j (nat_abs s.unit) order
 
@@ -214,7 +222,8 @@ module _ (i j : Instance) (line : IsLine i) (other : IsLine j) (same : SameLine 
   unit_some = omega (arith, ints, f.unit)
 
   same_lined : lined_up i (nat_abs s.unit) order ≡ lined
-  same_lined = ap (λ l. record { unit = pos (nat_abs s.unit); pieces = l }) (row_agree (λ k. nat_abs s.unit * time_at i k) (λ k. nat_abs s.unit * time_at j k) 0 order (λ k d l. ap (λ n. nat_abs s.unit * n) (same.times (get_or order k d) (o.within k d l))))
+  same_lined = ap (λ l. record { unit = pos (nat_abs s.unit); pieces = l })
+      (back_to_back_agree (λ k. nat_abs s.unit * time_at i k) (λ k. nat_abs s.unit * time_at j k) 0 order (λ k d l. ap (λ n. nat_abs s.unit * n) (same.times (get_or order k d) (o.within k d l))))
 
   pub Feasible-by_ends : ((k : ℕ) → k < length j.jobs → (job_at j k).release ≡ 0) → Feasible j lined
   Feasible-by_ends heads =
@@ -262,7 +271,8 @@ module _ (f : ℕ → ℤ) where
   insert_by-count i x [] = refl
   insert_by-count i x (y ∷ ys) = by (int_lt (f y) (f x)) (insert_by-count i x ys)
     where
-      by : (b : Bool) → count_by (λ z. eqb z i) (insert_by f x ys) ≡ count_by (λ z. eqb z i) (x ∷ ys) → count_by (λ z. eqb z i) (if b then y ∷ insert_by f x ys else x ∷ y ∷ ys) ≡ count_by (λ z. eqb z i) (x ∷ y ∷ ys)
+      by : (b : Bool) → count_by (λ z. eqb z i) (insert_by f x ys) ≡ count_by (λ z. eqb z i) (x ∷ ys)
+          → count_by (λ z. eqb z i) (if b then y ∷ insert_by f x ys else x ∷ y ∷ ys) ≡ count_by (λ z. eqb z i) (x ∷ y ∷ ys)
       by true e = let one : ℕ → ℕ = λ z. cond (eqb z i) 1 0 in omega (arith, e, sum_by-cons one y (insert_by f x ys), sum_by-cons one x ys, sum_by-cons one x (y ∷ ys), sum_by-cons one y ys)
       by false e = refl
 
@@ -294,7 +304,9 @@ rising_once : {X : Type 0} (R : X → X → Type 0) → ((x y : X) → R x y →
 rising_once R apart [] [] h k f g = refl
 rising_once R apart [] (y ∷ ys) h k f g = absurd (omega (arith, (All-head (Contains []) y ys g).1))
 rising_once R apart (x ∷ xs) [] h k f g = absurd (omega (arith, (All-head (Contains []) x xs f).1))
-rising_once {X} R apart (x ∷ xs) (y ∷ ys) h k f g = ap₂ (λ z zs. z ∷ zs) same (rising_once R apart xs ys (AllPairs-tail R x xs h) (AllPairs-tail R y ys k) (λ i d l. rest x y ys same (AllPairs-head R x xs h i d l) (All-tail (Contains (y ∷ ys)) x xs f i d l)) (λ i d l. rest y x xs (sym same) (AllPairs-head R y ys k i d l) (All-tail (Contains (x ∷ xs)) y ys g i d l)))
+rising_once {X} R apart (x ∷ xs) (y ∷ ys) h k f g = ap₂ (λ z zs. z ∷ zs) same
+    (rising_once R apart xs ys (AllPairs-tail R x xs h) (AllPairs-tail R y ys k) (λ i d l. rest x y ys same (AllPairs-head R x xs h i d l) (All-tail (Contains (y ∷ ys)) x xs f i d l))
+    (λ i d l. rest y x xs (sym same) (AllPairs-head R y ys k i d l) (All-tail (Contains (x ∷ xs)) y ys g i d l)))
   where
     first : (a b : X) (bs : List X) → Contains (b ∷ bs) a → AllPairs R (b ∷ bs) → (b ≡ a) ⊎ R b a
     first a b bs (zero, l, e) r = inl e
@@ -310,11 +322,13 @@ rising_once {X} R apart (x ∷ xs) (y ∷ ys) h k f g = ap₂ (λ z zs. z ∷ zs
     rest a b bs e {z} r (zero, l, s) = absurd (apart a a (subst (R a) (sym s ∙ sym e) r) (subst (R a) (sym s ∙ sym e) r))
     rest a b bs e {z} r (suc n, l, s) = (n, omega arith, s)
 
-pub order_of_ends-only : (i : Instance) → IsLine i → (s : Schedule) → Feasible i s → (order : List ℕ) → OnceBelow (length i.jobs) order → AllPairs (λ a b. end_of s a ≤ℤ end_of s b) order → order ≡ order_of_ends i s
+pub order_of_ends-only : (i : Instance) → IsLine i → (s : Schedule)
+    → Feasible i s → (order : List ℕ) → OnceBelow (length i.jobs) order → AllPairs (λ a b. end_of s a ≤ℤ end_of s b) order → order ≡ order_of_ends i s
 order_of_ends-only i line s f order o rises =
     let model = order_of_ends i s in
     let once = order_of_ends-once i s in
-    rising_once (λ a b. end_of s a <ℤ end_of s b) (λ x y. never (end_of s x) (end_of s y)) order model (rises_strictly i line s f order o rises) (rises_strictly i line s f model once (order_of_ends-rises i s))
+    rising_once (λ a b. end_of s a <ℤ end_of s b) (λ x y. never (end_of s x) (end_of s y))
+    order model (rises_strictly i line s f order o rises) (rises_strictly i line s f model once (order_of_ends-rises i s))
     (λ k d l. OnceBelow-contains once (get_or order k d) (o.within k d l)) (λ k d l. OnceBelow-contains o (get_or model k d) (once.within k d l))
   where
     never : (x y : ℤ) → x <ℤ y → y <ℤ x → ⊥

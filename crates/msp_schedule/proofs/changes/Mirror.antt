@@ -83,7 +83,8 @@ module _ (f g : Frame) (D : ℤ) (ps : List Piece) (last : ℤ) (fits : Fits f D
     release = All-map (λ p. (D *ℤ pos (g.head p.job)) ≤ℤ p.from) move ps (λ k d l. released (get_or ps k d).to (D *ℤ pos (g.head (get_or ps k d).job)) (room k d l));
     arc = λ a d l.
         let old = All-contains (λ x. All (λ p. All (λ q. p.job ≡ x.before → q.job ≡ x.after → IsBefore p q) ps) ps) f.arcs (turned (get_or g.arcs a d)) fits.arc (m.arcs a d l) in
-        All-map_pairs (λ p q. p.job ≡ (get_or g.arcs a d).before → q.job ≡ (get_or g.arcs a d).after → IsBefore p q) move ps (λ i e n j x b s t. before (get_or ps j x) (get_or ps i e) (old j x b i e n t s));
+        All-map_pairs (λ p q. p.job ≡ (get_or g.arcs a d).before → q.job ≡ (get_or g.arcs a d).after → IsBefore p q)
+        move ps (λ i e n j x b s t. before (get_or ps j x) (get_or ps i e) (old j x b i e n t s));
     route = λ e. absurd (never g.routed m.unrouted e);
     work = moved-work f g D D (pos 1) (λ j o. o) move ps fits suits moves;
   }
@@ -96,7 +97,8 @@ module _ (f g : Frame) (D : ℤ) (ps : List Piece) (last : ℤ) (fits : Fits f D
 
   -- each job ends early enough to leave room for the heads that there were
   pub last_end-mirrored : HasWork f → (j : ℕ) → j < f.jobs → last_end (mirrored_all last ps) j ≤ℤ (last -ℤ (D *ℤ pos (f.head j)))
-  last_end-mirrored works j l = last_end-least (mirrored_all last ps) j (last -ℤ (D *ℤ pos (f.head j))) some (All-map (λ p. p.job ≡ j → p.to ≤ℤ (last -ℤ (D *ℤ pos (f.head j)))) move ps (λ k d b e. each (get_or ps k d) e (fits.release k d b)))
+  last_end-mirrored works j l = last_end-least (mirrored_all last ps) j (last -ℤ (D *ℤ pos (f.head j)))
+      some (All-map (λ p. p.job ≡ j → p.to ≤ℤ (last -ℤ (D *ℤ pos (f.head j)))) move ps (λ k d b e. each (get_or ps k d) e (fits.release k d b)))
     where
       turn : (a d : ℤ) → d ≤ℤ a → (last -ℤ a) ≤ℤ (last -ℤ d)
       turn a d h = omega (arith, ints)
@@ -129,7 +131,8 @@ Feasible-mirrored i j s last p n e arcs room f =
     (Fits-mirrored (frame_of i) (frame_of j) s.unit s.pieces last (Fits-from_feasible i s p f) (Mirrors-from_needs i j n e arcs) room)
 
 pub end_of-mirrored : (i j : Instance) (s : Schedule) (last : ℤ) → IsShaped i → HasWork (frame_of i) → SameNeeds i j → is_mirror j.class.env ≡ true → All (λ a. Contains i.arcs (turned a)) j.arcs →
-    All (λ p. (p.to +ℤ (s.unit *ℤ pos (job_at j p.job).release)) ≤ℤ last) s.pieces → Feasible i s → (k : ℕ) → k < length i.jobs → end_of (mirrored_schedule last s) k ≤ℤ (last -ℤ (s.unit *ℤ pos (job_at i k).release))
+    All (λ p. (p.to +ℤ (s.unit *ℤ pos (job_at j p.job).release)) ≤ℤ last) s.pieces
+    → Feasible i s → (k : ℕ) → k < length i.jobs → end_of (mirrored_schedule last s) k ≤ℤ (last -ℤ (s.unit *ℤ pos (job_at i k).release))
 end_of-mirrored i j s last p w n e arcs room f = last_end-mirrored (frame_of i) (frame_of j) s.unit s.pieces last (Fits-from_feasible i s p f) (Mirrors-from_needs i j n e arcs) room w
 
 -- the arcs and the turned arcs are those of each other, turned

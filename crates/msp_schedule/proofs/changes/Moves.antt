@@ -1,5 +1,6 @@
 -- Pieces that are moved one by one to a schedule for another frame: places, machines, jobs and work. Moments are moved in any way.
-use Rattle.std.proofs.Common.{◌≡◌, ℕ, ◌<◌, Bool, true, false, cond, eqb, ltb, List, [], ◌∷◌, get_or, map, filter, fold, All, AllPairs, Contains, ℤ, pos, ◌+ℤ◌, ◌*ℤ◌, refl, sym, ap, ap₂, subst, subst₂, ◌∙◌, arith}
+use Rattle.std.proofs.Common.{◌≡◌, ℕ, ◌<◌, Bool, true, false, cond, eqb, ltb, List, [], ◌∷◌, get_or, map, filter, fold, All, AllPairs, Contains, ℤ, pos, ◌+ℤ◌, ◌*ℤ◌, refl, sym, ap}
+use Rattle.std.proofs.Common.{ap₂, subst, subst₂, ◌∙◌, arith}
 use Rattle.std.specs.Prelude.{◌==◌, ◌&&◌}
 use Rattle.std.proofs.lemmas.Bool.{eqb-true, eqb-false, eq-eqb, ne_eqb, ltb-true, ltb-false}
 use Rattle.std.proofs.lemmas.List.{length-map, get_or-map}
@@ -16,7 +17,8 @@ use Rattle.msp_schedule.proofs.feasible.Frames.{Frame, Lasts, Stands, Gets, Fits
 -- ---- lists
 pub AllPairs-map : {X Y : Type 0} (R : Y → Y → Type 0) (f : X → Y) (xs : List X) → AllPairs (λ x y. R (f x) (f y)) xs → AllPairs R (map f xs)
 AllPairs-map R f [] h = λ i j d a b. absurd (omega arith)
-AllPairs-map R f (x ∷ xs) h = AllPairs-cons R (f x) (map f xs) (All-map (R (f x)) f xs (AllPairs-head (λ x y. R (f x) (f y)) x xs h)) (AllPairs-map R f xs (AllPairs-tail (λ x y. R (f x) (f y)) x xs h))
+AllPairs-map R f (x ∷ xs) h = AllPairs-cons R
+    (f x) (map f xs) (All-map (R (f x)) f xs (AllPairs-head (λ x y. R (f x) (f y)) x xs h)) (AllPairs-map R f xs (AllPairs-tail (λ x y. R (f x) (f y)) x xs h))
 
 -- the same for each two places, in either order
 pub All-map_pairs : {X Y : Type 0} (R : Y → Y → Type 0) (f : X → Y) (xs : List X) → All (λ x. All (λ y. R (f x) (f y)) xs) xs → All (λ x. All (λ y. R x y) (map f xs)) (map f xs)
@@ -96,14 +98,17 @@ module _ (f g : Frame) (D E k : ℤ) (number : ℕ → ℕ → ℕ) (move : Piec
       one p h = record {
         job = omega (arith, m.job p, s.jobs, h.job);
         operation = subst₂ g.Has (sym (m.job p)) (sym (m.op p)) (s.has p.job p.op h.job h.operation);
-        machine = subst (λ x. g.May (move p).job (move p).op x) (sym (m.machine p)) (subst₂ (λ x y. g.May x y p.machine) (sym (m.job p)) (sym (m.op p)) (s.may p.job p.op p.machine h.job h.operation h.machine));
+        machine = subst (λ x. g.May (move p).job (move p).op x)
+            (sym (m.machine p)) (subst₂ (λ x y. g.May x y p.machine) (sym (m.job p)) (sym (m.op p)) (s.may p.job p.op p.machine h.job h.operation h.machine));
       }
 
   pub moved-machine : AllPairs (λ p q. p.machine ≡ q.machine → IsApart p q) (map move ps)
-  moved-machine = AllPairs-map (λ p q. p.machine ≡ q.machine → IsApart p q) move ps (λ i j d a b e. m.apart _ _ (fits.span i d (omega arith)) (fits.span j d b) (fits.machine i j d a b (sym (m.machine (get_or ps i d)) ∙ e ∙ m.machine (get_or ps j d))))
+  moved-machine = AllPairs-map (λ p q. p.machine ≡ q.machine → IsApart p q) move ps
+      (λ i j d a b e. m.apart _ _ (fits.span i d (omega arith)) (fits.span j d b) (fits.machine i j d a b (sym (m.machine (get_or ps i d)) ∙ e ∙ m.machine (get_or ps j d))))
 
   pub moved-job : AllPairs (λ p q. p.job ≡ q.job → IsApart p q) (map move ps)
-  moved-job = AllPairs-map (λ p q. p.job ≡ q.job → IsApart p q) move ps (λ i j d a b e. m.apart _ _ (fits.span i d (omega arith)) (fits.span j d b) (fits.job i j d a b (sym (m.job (get_or ps i d)) ∙ e ∙ m.job (get_or ps j d))))
+  moved-job = AllPairs-map (λ p q. p.job ≡ q.job → IsApart p q) move ps
+      (λ i j d a b e. m.apart _ _ (fits.span i d (omega arith)) (fits.span j d b) (fits.job i j d a b (sym (m.job (get_or ps i d)) ∙ e ∙ m.job (get_or ps j d))))
 
   module _ (j o : ℕ) (inside : j < f.jobs) (has : f.Has j o) where
     -- the pieces of the new number are those of the old one, moved

@@ -1,5 +1,6 @@
 -- Schedules that serve another frame, or another instance, as they are.
-use Rattle.std.proofs.Common.{map, subst₂, ◌≡◌, ◌≢◌, ℕ, ◌*◌, ◌/◌, ◌<◌, ◌≤◌, not, true, false, List, length, get_or, All, Contains, ◌⊎◌, inl, ℤ, pos, ◌*ℤ◌, slice_index_or, refl, sym, ap, subst, ◌∙◌, arith}
+use Rattle.std.proofs.Common.{map, subst₂, ◌≡◌, ◌≢◌, ℕ, ◌*◌, ◌/◌, ◌<◌, ◌≤◌, not, true, false, List, length, get_or, All, Contains, ◌⊎◌, inl, ℤ, pos, ◌*ℤ◌, slice_index_or, refl}
+use Rattle.std.proofs.Common.{sym, ap, subst, ◌∙◌, arith}
 use Rattle.std.proofs.lemmas.List.{map-id, length-map, get_or_default}
 use Rattle.std.proofs.lemmas.List.Elements.{All-contains_itself}
 use Rattle.msp_class.specs.declared.class.Class.{Class}
@@ -80,7 +81,8 @@ pub Feasible-served : (i j : Instance) (s : Schedule) → IsShaped i → IsShape
 Feasible-served i j s p q h f = Feasible-from_fits j s q (Fits-served (frame_of i) (frame_of j) s.unit s.pieces h (Fits-from_feasible i s p f))
 
 -- the same where the kinds are known
-pub Feasible-served_by : (i j : Instance) (s : Schedule) (k l : EnvKind) → kind_of i.class.env ≡ k → kind_of j.class.env ≡ l → IsShaped i → IsShaped j → Serves (frame_by k i) (frame_by l j) → Feasible i s → Feasible j s
+pub Feasible-served_by : (i j : Instance) (s : Schedule) (k l : EnvKind)
+    → kind_of i.class.env ≡ k → kind_of j.class.env ≡ l → IsShaped i → IsShaped j → Serves (frame_by k i) (frame_by l j) → Feasible i s → Feasible j s
 Feasible-served_by i j s k l d e p q h = Feasible-served i j s p q (subst₂ (λ x y. Serves (frame_by x i) (frame_by y j)) (sym d) (sym e) h)
 
 -- instances that differ in release dates, arcs, and what costs read
@@ -182,7 +184,8 @@ pub Feasible-same : (i j : Instance) (s : Schedule) → IsShaped i → SameWork 
 Feasible-same i j s p h f = Feasible-served i j s p (IsShaped-same i j h.needs p) (Serves-from_work i j h) f
 
 -- where only the class changes, and where each job is changed by itself
-pub SameNeeds-from_map : (i j : Instance) (f : Job → Job) → kind_of i.class.env ≡ kind_of j.class.env → i.class.cut ≡ j.class.cut → i.machines ≡ j.machines → i.speeds ≡ j.speeds → j.jobs ≡ map f i.jobs →
+pub SameNeeds-from_map : (i j : Instance) (f : Job → Job)
+    → kind_of i.class.env ≡ kind_of j.class.env → i.class.cut ≡ j.class.cut → i.machines ≡ j.machines → i.speeds ≡ j.speeds → j.jobs ≡ map f i.jobs →
     ((a : Job) → (f a).needs ≡ a.needs) → SameNeeds i j
 SameNeeds-from_map i j f k c m s e h = record {
   kind = k;

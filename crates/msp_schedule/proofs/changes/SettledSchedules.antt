@@ -1,5 +1,6 @@
 -- Dividing a schedule by its greatest common divisor, and putting its pieces in order.
-use Rattle.std.proofs.Common.{◌≡◌, ◌≢◌, ℕ, slice_set, zero, suc, negsuc, ◌+◌, ◌*◌, ◌/◌, ◌<◌, ◌≤◌, Bool, List, [], ◌∷◌, ◌++◌, length, get_or, take, map, All, AllPairs, IsPermutation, inl, inr, ℤ, pos, ◌*ℤ◌, ◌≤ℤ◌, ◌<ℤ◌, unsigned_abs, refl, sym, ap, ap₂, subst, ◌∙◌, arith}
+use Rattle.std.proofs.Common.{◌≡◌, ◌≢◌, ℕ, slice_set, zero, suc, negsuc, ◌+◌, ◌*◌, ◌/◌, ◌<◌, ◌≤◌, Bool, List, [], ◌∷◌, ◌++◌, length, get_or, take, map, All, AllPairs}
+use Rattle.std.proofs.Common.{IsPermutation, inl, inr, ℤ, pos, ◌*ℤ◌, ◌≤ℤ◌, ◌<ℤ◌, unsigned_abs, refl, sym, ap, ap₂, subst, ◌∙◌, arith}
 use Rattle.std.specs.Int.{IsGcd}
 use Rattle.std.specs.Cmp.{IsStrictWeakOrder}
 use Rattle.std.specs.List.Sorted.{IsSortedBy}
@@ -31,9 +32,13 @@ IsCommonDivisor-none unit g e = record {
   greatest = λ d h. subst (λ x. d ∣ x) (sym e) h.0;
 }
 
-pub IsCommonDivisor-more : (unit : ℤ) (ps : List Piece) (p : Piece) (g m h : ℕ) → IsGcd (unsigned_abs p.from) g m → IsGcd (unsigned_abs p.to) m h → IsCommonDivisor unit ps g → IsCommonDivisor unit (ps ++ p ∷ []) h
+pub IsCommonDivisor-more : (unit : ℤ) (ps : List Piece) (p : Piece) (g m h : ℕ)
+    → IsGcd (unsigned_abs p.from) g m → IsGcd (unsigned_abs p.to) m h → IsCommonDivisor unit ps g → IsCommonDivisor unit (ps ++ p ∷ []) h
 IsCommonDivisor-more unit ps p g m h from to c = record {
-  all = (dvd_trans h into c.all.0, All-push (λ q. (h ∣ unsigned_abs q.from) × (h ∣ unsigned_abs q.to)) ps p (λ k d l. let a = c.all.1 k d l in (dvd_trans h into a.0, dvd_trans h into a.1)) (dvd_trans h to.1 from.0, to.0));
+  all = (
+    dvd_trans h into c.all.0,
+    All-push (λ q. (h ∣ unsigned_abs q.from) × (h ∣ unsigned_abs q.to)) ps p (λ k d l. let a = c.all.1 k d l in (dvd_trans h into a.0, dvd_trans h into a.1)) (dvd_trans h to.1 from.0, to.0),
+  );
   greatest = λ d a. let T : Piece → Type 0 = λ q. (d ∣ unsigned_abs q.from) × (d ∣ unsigned_abs q.to) in
       let last = All-last T ps p a.1 in
       to.2 d last.1 (from.2 d last.0 (c.greatest d (a.0, All-front T ps p a.1)));
@@ -50,7 +55,8 @@ IsCommonDivisor-more unit ps p g m h from to c = record {
     All-last T [] x a = All-head T x [] a
     All-last T (y ∷ ys) x a = All-last T ys x (All-tail T y (ys ++ x ∷ []) a)
 
-pub IsCommonDivisor-step : (unit : ℤ) (ps : List Piece) (i : ℕ) (d : Piece) (g h : ℕ) → i < length ps → ((qs : List Piece) → IsCommonDivisor unit qs g → IsCommonDivisor unit (qs ++ get_or ps i d ∷ []) h) → IsCommonDivisor unit (take i ps) g → IsCommonDivisor unit (take (i + 1) ps) h
+pub IsCommonDivisor-step : (unit : ℤ) (ps : List Piece) (i : ℕ) (d : Piece) (g h : ℕ) → i < length ps
+    → ((qs : List Piece) → IsCommonDivisor unit qs g → IsCommonDivisor unit (qs ++ get_or ps i d ∷ []) h) → IsCommonDivisor unit (take i ps) g → IsCommonDivisor unit (take (i + 1) ps) h
 IsCommonDivisor-step unit ps i d g h l more c = subst (λ qs. IsCommonDivisor unit qs h) (sym (take_more ps i d l)) (more (take i ps) c)
 
 -- ---- each piece in its place
@@ -62,7 +68,8 @@ pub record Halfway (xs ys zs : List Piece) (i : ℕ) : Type 0 where
 pub Halfway-start : (xs ys : List Piece) → Halfway xs ys xs 0
 Halfway-start xs ys = record { done = refl; left = λ k d h. refl }
 
-pub Halfway-step : (f : Piece → Piece) (xs zs : List Piece) (i : ℕ) (y d : Piece) → i < length zs → length zs ≡ length xs → y ≡ f (get_or zs i d) → Halfway xs (map f xs) zs i → Halfway xs (map f xs) (slice_set zs i y) (i + 1)
+pub Halfway-step : (f : Piece → Piece) (xs zs : List Piece) (i : ℕ) (y d : Piece)
+    → i < length zs → length zs ≡ length xs → y ≡ f (get_or zs i d) → Halfway xs (map f xs) zs i → Halfway xs (map f xs) (slice_set zs i y) (i + 1)
 Halfway-step f xs zs i y d l e is h = record {
   done = take_more_set zs i y l ∙ ap₂ (λ qs q. qs ++ q ∷ []) h.done value ∙ sym (take_more (map f xs) i (f d) (omega (arith, length-map xs f)));
   left = λ k e m. let n : k ≢ i = omega arith in get_or-set_other zs i k y e n ∙ h.left k e (omega arith);
@@ -150,7 +157,8 @@ module _ (s t : Schedule) (g : ℕ) (h : IsSettling s t g) where
 
   pub settled_cost : (i : Instance) → Feasible i s → cost_of i t *ℤ s.unit ≡ cost_of i s *ℤ t.unit
   settled_cost i f =
-      let same = cost-same_ends i i t middle (SameCharges-from_jobs i i refl refl (λ k l. (refl, refl, refl))) h.unit_is (settled_feasible i f).unit (λ k l. sym (last_end-permutation middle.pieces t.pieces h.moved k)) in
+      let same = cost-same_ends i i t middle (SameCharges-from_jobs i i refl refl (λ k l. (refl, refl, refl)))
+      h.unit_is (settled_feasible i f).unit (λ k l. sym (last_end-permutation middle.pieces t.pieces h.moved k)) in
       ap₂ (λ x y. x *ℤ y) same (sym unit_grown) ∙ turned (cost_of i middle) (pos g) middle.unit
       ∙ ap₂ (λ x y. x *ℤ y) (sym (cost-grown g some i middle) ∙ ap (cost_of i) is_grown) (sym h.unit_is)
     where
@@ -179,7 +187,8 @@ module _ (s t : Schedule) (g : ℕ) (h : IsSettling s t g) where
       record {
         unit = (unit_from, ≤ℤ_trans below w.unit.1);
         few = omega (arith, w.few, length_permutation (map (divided g) s.pieces) t.pieces h.moved, length-map s.pieces (divided g));
-        moments = All-permutation (λ p. IsMoment p.from × IsMoment p.to) (map (divided g) s.pieces) t.pieces h.moved (All-map (λ p. IsMoment p.from × IsMoment p.to) (divided g) s.pieces (λ k d l. let a = h.spans k d l in let m = w.moments k d l in (moment_within _ a.0 m.0, moment_within _ (later _ _ a.0 a.1) m.1)));
+        moments = All-permutation (λ p. IsMoment p.from × IsMoment p.to) (map (divided g) s.pieces) t.pieces h.moved (All-map (λ p. IsMoment p.from × IsMoment p.to)
+            (divided g) s.pieces (λ k d l. let a = h.spans k d l in let m = w.moments k d l in (moment_within _ a.0 m.0, moment_within _ (later _ _ a.0 a.1) m.1)));
         scaled = λ e. elim (w.scaled e) [ inl c ↦ inl c | inr b ↦ inr (≤ℤ_trans below b) ];
       }
 
@@ -188,7 +197,8 @@ module _ (s t : Schedule) (g : ℕ) (h : IsSettling s t g) where
   times_divides d (negsuc n) a b c = absurd (omega (arith, ints))
 
   settled_lowest : (d : ℕ) → d ∣ unsigned_abs t.unit → All (λ p. (d ∣ unsigned_abs p.from) × (d ∣ unsigned_abs p.to)) t.pieces → d ≡ 1
-  settled_lowest d u a = one d (dvd_of_mul-dvd-mul_right d some (subst (λ x. (d * g) ∣ x) (sym (one-mul g)) (h.common.greatest (d * g) (times_divides d s.unit (after s.unit h.some_unit) h.common.all.0 (subst (λ x. d ∣ unsigned_abs x) h.unit_is u), each))))
+  settled_lowest d u a = one d (dvd_of_mul-dvd-mul_right d some
+      (subst (λ x. (d * g) ∣ x) (sym (one-mul g)) (h.common.greatest (d * g) (times_divides d s.unit (after s.unit h.some_unit) h.common.all.0 (subst (λ x. d ∣ unsigned_abs x) h.unit_is u), each))))
     where
       before : All (λ p. (d ∣ unsigned_abs p.from) × (d ∣ unsigned_abs p.to)) (map (divided g) s.pieces)
       before = All-permutation (λ p. (d ∣ unsigned_abs p.from) × (d ∣ unsigned_abs p.to)) t.pieces (map (divided g) s.pieces) (IsPermutation-sym (map (divided g) s.pieces) t.pieces h.moved) a

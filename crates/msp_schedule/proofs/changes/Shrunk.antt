@@ -1,5 +1,6 @@
 -- A schedule whose unit and moments are all multiples of a number: over that number it is feasible too, and costs the same.
-use Rattle.std.proofs.Common.{◌≡◌, ℕ, ◌<◌, Bool, true, false, List, [], ◌∷◌, get_or, map, filter, fold, All, AllPairs, inl, inr, ℤ, pos, ◌*ℤ◌, ◌≤ℤ◌, ◌<ℤ◌, slice_index_or, refl, sym, ap, subst, subst₂, ◌∙◌, arith}
+use Rattle.std.proofs.Common.{◌≡◌, ℕ, ◌<◌, Bool, true, false, List, [], ◌∷◌, get_or, map, filter, fold, All, AllPairs, inl, inr, ℤ, pos, ◌*ℤ◌, ◌≤ℤ◌, ◌<ℤ◌, slice_index_or, refl}
+use Rattle.std.proofs.Common.{sym, ap, subst, subst₂, ◌∙◌, arith}
 use Rattle.std.specs.Prelude.{◌/◌, ◌==◌, ◌&&◌, MatchBool}
 use Rattle.std.specs.Int.{int_max}
 use Rattle.std.proofs.lemmas.Int.{ints}
@@ -78,7 +79,8 @@ module _ (g : ℕ) (some : 0 < g) where
     grown_operation j o = filter-map (grown g) (λ p. (p.job == j) && (p.op == o)) (λ p. (p.job == j) && (p.op == o)) s.pieces (λ a d l. refl)
 
     abbrev Work : ℤ → List Piece → ℕ → ℕ → Bool → Type 0
-    Work unit ps j o cut = MatchBool cut (total (map (work_of (kind_of i.class.env) i) (of_operation ps j o)) ≡ unit *ℤ pos (whole_work (kind_of i.class.env) i j o)) ((p : Piece) × (of_operation ps j o ≡ p ∷ []) × IsWholeWork (kind_of i.class.env) i unit p)
+    Work unit ps j o cut = MatchBool cut (total (map (work_of (kind_of i.class.env) i) (of_operation ps j o)) ≡ unit *ℤ pos (whole_work (kind_of i.class.env) i j o))
+        ((p : Piece) × (of_operation ps j o ≡ p ∷ []) × IsWholeWork (kind_of i.class.env) i unit p)
 
     one_of : (ps : List Piece) (q : Piece) → map (grown g) ps ≡ q ∷ [] → (p : Piece) × (ps ≡ p ∷ []) × (grown g p ≡ q)
     one_of [] q e = absurd (cc)
@@ -109,12 +111,15 @@ module _ (g : ℕ) (some : 0 < g) where
     pub Feasible-shrunk : Feasible i (grown_schedule g s) → Feasible i s
     Feasible-shrunk f = record {
       unit = unit_shrunk s.unit f.unit;
-      span = λ a d l. let h = All-from_map (λ p. (pos 0 ≤ℤ p.from) × (p.from <ℤ p.to)) (grown g) s.pieces f.span a d l in (*ℤ-cancel g some (subst (λ z. z ≤ℤ (pos g *ℤ (get_or s.pieces a d).from)) (sym (*ℤ-zero (pos g))) h.0), *ℤ-cancel_lt g h.1);
+      span = λ a d l. let h = All-from_map (λ p. (pos 0 ≤ℤ p.from) × (p.from <ℤ p.to)) (grown g) s.pieces f.span a d l in
+          (*ℤ-cancel g some (subst (λ z. z ≤ℤ (pos g *ℤ (get_or s.pieces a d).from)) (sym (*ℤ-zero (pos g))) h.0), *ℤ-cancel_lt g h.1);
       place = λ a d l. let h = All-from_map (HasPlace i) (grown g) s.pieces f.place a d l in record { job = h.job; operation = h.operation; machine = h.machine };
       machine = λ a b d l m e. shrunk_apart (get_or s.pieces a d) (get_or s.pieces b d) (AllPairs-from_map (λ p q. p.machine ≡ q.machine → IsApart p q) (grown g) s.pieces f.machine a b d l m e);
       job = λ a b d l m e. shrunk_apart (get_or s.pieces a d) (get_or s.pieces b d) (AllPairs-from_map (λ p q. p.job ≡ q.job → IsApart p q) (grown g) s.pieces f.job a b d l m e);
-      release = λ a d l. *ℤ-cancel g some (subst (λ z. z ≤ℤ (pos g *ℤ (get_or s.pieces a d).from)) (*ℤ_assoc (pos g) s.unit (pos (job_at i (get_or s.pieces a d).job).release)) (All-from_map (λ p. ((pos g *ℤ s.unit) *ℤ pos (job_at i p.job).release) ≤ℤ p.from) (grown g) s.pieces f.release a d l));
-      arc = λ a d l k e m n c o p q. *ℤ-cancel g some (twice_from_map (λ p q. p.job ≡ (get_or i.arcs a d).before → q.job ≡ (get_or i.arcs a d).after → IsBefore p q) (grown g) s.pieces (f.arc a d l) k e m n c o p q);
+      release = λ a d l. *ℤ-cancel g some (subst (λ z. z ≤ℤ (pos g *ℤ (get_or s.pieces a d).from)) (*ℤ_assoc (pos g) s.unit (pos (job_at i (get_or s.pieces a d).job).release))
+          (All-from_map (λ p. ((pos g *ℤ s.unit) *ℤ pos (job_at i p.job).release) ≤ℤ p.from) (grown g) s.pieces f.release a d l));
+      arc = λ a d l k e m n c o p q. *ℤ-cancel g some
+          (twice_from_map (λ p q. p.job ≡ (get_or i.arcs a d).before → q.job ≡ (get_or i.arcs a d).after → IsBefore p q) (grown g) s.pieces (f.arc a d l) k e m n c o p q);
       route = shrunk_route (kind_of i.class.env) s.pieces f.route;
       work = λ j o l h. shrunk_work j o i.class.cut (f.work j o l h);
     }

@@ -1,5 +1,6 @@
 -- Schedules that are carried to another frame by a map of moments and maps of operation numbers; and those that serve it as they are.
-use Rattle.std.proofs.Common.{◌≡◌, ℕ, ◌<◌, true, List, [], ◌∷◌, length, get_or, map, filter, fold, All, Contains, ◌⊎◌, inl, inr, ℤ, pos, ◌-ℤ◌, ◌*ℤ◌, ◌≤ℤ◌, ◌<ℤ◌, refl, sym, ap, ap₂, subst, subst₂, ◌∙◌, arith}
+use Rattle.std.proofs.Common.{◌≡◌, ℕ, ◌<◌, true, List, [], ◌∷◌, length, get_or, map, filter, fold, All, Contains, ◌⊎◌, inl, inr, ℤ, pos, ◌-ℤ◌, ◌*ℤ◌, ◌≤ℤ◌, ◌<ℤ◌, refl, sym, ap, ap₂}
+use Rattle.std.proofs.Common.{subst, subst₂, ◌∙◌, arith}
 use Rattle.std.specs.Prelude.{◌==◌}
 use Rattle.std.specs.Int.{int_max}
 use Rattle.std.proofs.lemmas.Int.{ints}
@@ -100,9 +101,11 @@ module _ (f g : Frame) (D E : ℤ) (ps : List Piece) (k : ℤ) (moment : ℤ →
           positive x y z e h = omega (arith, ints)
 
   in_order : (f.routed ≡ true) ⊎ ((j o n : ℕ) → j < f.jobs → f.Has j o → f.Has j n → o ≡ n) → All (λ p. All (λ q. p.job ≡ q.job → p.op < q.op → IsBefore p q) moved) moved
-  in_order w = All-map_pairs (λ p q. p.job ≡ q.job → p.op < q.op → IsBefore p q) move ps (λ i d a j e b same less. before (get_or ps i d) (get_or ps j e) (fits.span i d a) (fits.span j e b) (by w i d a j e b same less))
+  in_order w = All-map_pairs (λ p q. p.job ≡ q.job → p.op < q.op → IsBefore p q)
+      move ps (λ i d a j e b same less. before (get_or ps i d) (get_or ps j e) (fits.span i d a) (fits.span j e b) (by w i d a j e b same less))
     where
-      by : (f.routed ≡ true) ⊎ ((j o n : ℕ) → j < f.jobs → f.Has j o → f.Has j n → o ≡ n) → (i : ℕ) (d : Piece) → i < length ps → (j : ℕ) (e : Piece) → j < length ps → (get_or ps i d).job ≡ (get_or ps j e).job → (move (get_or ps i d)).op < (move (get_or ps j e)).op → IsBefore (get_or ps i d) (get_or ps j e)
+      by : (f.routed ≡ true) ⊎ ((j o n : ℕ) → j < f.jobs → f.Has j o → f.Has j n → o ≡ n) → (i : ℕ) (d : Piece) → i < length ps → (j : ℕ) (e : Piece) → j < length ps
+          → (get_or ps i d).job ≡ (get_or ps j e).job → (move (get_or ps i d)).op < (move (get_or ps j e)).op → IsBefore (get_or ps i d) (get_or ps j e)
       by (inl r) i d a j e b same less = fits.route r i d a j e b same (ordered (get_or ps i d) (get_or ps j e) (fits.place i d a) (fits.place j e b) same less)
         where
           ordered : (p q : Piece) → Stands f p → Stands f q → p.job ≡ q.job → number p.job p.op < number q.job q.op → p.op < q.op
@@ -122,7 +125,8 @@ module _ (f g : Frame) (D E : ℤ) (ps : List Piece) (k : ℤ) (moment : ℤ →
     release = All-map (λ p. (E *ℤ pos (g.head p.job)) ≤ℤ p.from) move ps (λ a d l. c.heads a d l (fits.place a d l).job (fits.release a d l));
     arc = λ a d l.
         let old = All-contains (λ x. All (λ p. All (λ q. p.job ≡ x.before → q.job ≡ x.after → IsBefore p q) ps) ps) f.arcs (get_or g.arcs a d) fits.arc (c.arcs a d l) in
-        All-map_pairs (λ p q. p.job ≡ (get_or g.arcs a d).before → q.job ≡ (get_or g.arcs a d).after → IsBefore p q) move ps (λ i e m j x n s t. before (get_or ps i e) (get_or ps j x) (fits.span i e m) (fits.span j x n) (old i e m j x n s t));
+        All-map_pairs (λ p q. p.job ≡ (get_or g.arcs a d).before → q.job ≡ (get_or g.arcs a d).after → IsBefore p q)
+        move ps (λ i e m j x n s t. before (get_or ps i e) (get_or ps j x) (fits.span i e m) (fits.span j x n) (old i e m j x n s t));
     route = λ r. in_order (c.routed r);
     work = moved-work f g D E k number move ps fits c.operations moves;
   }
@@ -161,7 +165,8 @@ module _ (i j : Instance) (s : Schedule) (d e : EnvKind) (of_d : kind_of i.class
   fits = subst (λ x. Fits (frame_by x i) s.unit s.pieces) of_d (Fits-from_feasible i s p f)
 
   pub Feasible-carried : IsShaped j → Feasible j (carried_schedule unit moment number s)
-  Feasible-carried q = Feasible-from_fits j (carried_schedule unit moment number s) q (subst (λ x. Fits (frame_by x j) unit (carried_all moment number s.pieces)) (sym of_e) (Fits-carried (frame_by d i) (frame_by e j) s.unit unit s.pieces k moment number fits c))
+  Feasible-carried q = Feasible-from_fits j (carried_schedule unit moment number s) q
+      (subst (λ x. Fits (frame_by x j) unit (carried_all moment number s.pieces)) (sym of_e) (Fits-carried (frame_by d i) (frame_by e j) s.unit unit s.pieces k moment number fits c))
 
   pub end_of-carried : (a : ℕ) → end_of (carried_schedule unit moment number s) a ≡ moment (end_of s a)
   end_of-carried = last_end-carried (frame_by d i) (frame_by e j) s.unit unit s.pieces k moment number fits c

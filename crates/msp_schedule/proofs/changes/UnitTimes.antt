@@ -1,5 +1,6 @@
 -- Equal times, and the same instance with unit times: schedules of one as schedules of the other.
-use Rattle.std.proofs.Common.{◌≡◌, ◌≢◌, ℕ, ◌*◌, ◌/◌, ◌<◌, ◌≤◌, ◌⊎◌, List, [], ◌∷◌, length, get_or, map, All, Contains, inl, inr, ℤ, pos, negsuc, ◌*ℤ◌, ◌≤ℤ◌, slice_index_or, refl, sym, ap, ap₂, subst, ◌∙◌, arith}
+use Rattle.std.proofs.Common.{◌≡◌, ◌≢◌, ℕ, ◌*◌, ◌/◌, ◌<◌, ◌≤◌, ◌⊎◌, List, [], ◌∷◌, length, get_or, map, All, Contains, inl, inr, ℤ, pos, negsuc, ◌*ℤ◌, ◌≤ℤ◌, slice_index_or, refl}
+use Rattle.std.proofs.Common.{sym, ap, ap₂, subst, ◌∙◌, arith}
 use Rattle.std.proofs.lemmas.Int.{ints}
 use Rattle.std.proofs.lemmas.List.{length-map, get_or-map, map-id}
 use Rattle.std.proofs.lemmas.List.Elements.{All-contains_itself}
@@ -19,7 +20,8 @@ use Rattle.msp_instance.specs.Conditions.{Limits, MeetsConditions, HasSameTimes}
 use Rattle.msp_schedule.specs.declared.Schedule.{Schedule}
 use Rattle.msp_schedule.specs.Feasible.{Feasible, HasOperation, MayRun, product_of_times, whole_work}
 use Rattle.msp_schedule.specs.Cost.{cost_of, end_of, job_cost}
-use Rattle.msp_schedule.proofs.feasible.Frames.{frame_by, rate_on, Fits, IsShaped, HasTimePerMachine, job_at-map, rate_times, rate_positive, product_of_times-cons, Fits-from_feasible, Feasible-from_fits}
+use Rattle.msp_schedule.proofs.feasible.Frames.{frame_by, rate_on, Fits, IsShaped, HasTimePerMachine, job_at-map, rate_times, rate_positive, product_of_times-cons}
+use Rattle.msp_schedule.proofs.feasible.Frames.{Fits-from_feasible, Feasible-from_fits}
 use Rattle.msp_schedule.proofs.changes.Moves.{Suits}
 use Rattle.msp_schedule.proofs.changes.Transport.{Carries, Stretches-identity, carried_all, Fits-carried, last_end-carried}
 use Rattle.msp_schedule.proofs.feasible.LastEnds.{last_end-natural}
@@ -46,7 +48,8 @@ abbrev pub unit_job : Job → Job
 unit_job a = record a { needs = map unit_need a.needs }
 
 -- in a class of equal times, with all times set to 1
-pub IsUnitOf-from_conditions : (l : Limits) (i j : Instance) → MeetsConditions l i → i.class.times ≡ Equal → kind_of i.class.env ≡ kind_of j.class.env → i.class.cut ≡ j.class.cut → i.machines ≡ j.machines → i.speeds ≡ j.speeds
+pub IsUnitOf-from_conditions : (l : Limits) (i j : Instance) → MeetsConditions l i
+    → i.class.times ≡ Equal → kind_of i.class.env ≡ kind_of j.class.env → i.class.cut ≡ j.class.cut → i.machines ≡ j.machines → i.speeds ≡ j.speeds
     → j.jobs ≡ map unit_job i.jobs → IsUnitOf (common_time i) i j
 IsUnitOf-from_conditions l i j h e kind cut machines speeds jobs = record {
   some = let (k, x, b, s, t) = (h.jobs 0 no_job h.some).needs.some in large _ _ (equal 0 h.some k x b) (subst (λ n. 1 ≤ n.time) (sym s) t);
@@ -188,7 +191,8 @@ module _ (e : ℕ) (i j : Instance) (u : IsUnitOf e i j) (a : ℕ) (inside : a <
 
   ratios : (k : EnvKind) (o : ℕ) → 1 ≤ i.machines → (k ≡ Unrelated → All (HasTimePerMachine i.machines) i.jobs) → HasOperation k i a o → Ratios k o
   ratios Identical o some own h = let l : o < length (job_at i a).needs = omega (arith, h, u.wide a inside) in plain Identical o (λ m. refl) (time_here o l) (time_there o l)
-  ratios Uniform o some own h = let l : o < length (job_at i a).needs = omega (arith, h, u.wide a inside) in plain Uniform o (λ m. ap (λ l. slice_index_or l m 0) (sym u.speeds)) (time_here o l) (time_there o l)
+  ratios Uniform o some own h = let l : o < length (job_at i a).needs = omega (arith, h, u.wide a inside) in
+      plain Uniform o (λ m. ap (λ l. slice_index_or l m 0) (sym u.speeds)) (time_here o l) (time_there o l)
   ratios Unrelated o some own h = unrelated o some (own refl)
   ratios OpenShop o some own h = plain OpenShop o (λ m. refl) (time_here o h.0) (time_there o h.0)
   ratios FlowShop o some own h = plain FlowShop o (λ m. refl) (time_here o h.0) (time_there o h.0)
@@ -226,7 +230,8 @@ module _ (e : ℕ) (i j : Instance) (u : IsUnitOf e i j) (p : IsShaped i) (q : I
       over = 1;
       some = r.some;
       rate = λ m w. ap (λ z. pos r.times *ℤ z) (one-*ℤ (pos (rate_on k j a m))) ∙ ap pos (r.rate m w) ∙ sym (one-*ℤ (pos (rate_on k i a m)));
-      want = ap (λ z. pos r.times *ℤ z) (*ℤ_assoc D (pos e) (pos (whole_work k j a o))) ∙ *ℤ_exchange (pos r.times) D (pos (e * whole_work k j a o)) ∙ ap (λ n. D *ℤ pos n) r.want ∙ sym (one-*ℤ (D *ℤ pos (whole_work k i a o)));
+      want = ap (λ z. pos r.times *ℤ z) (*ℤ_assoc D (pos e) (pos (whole_work k j a o)))
+          ∙ *ℤ_exchange (pos r.times) D (pos (e * whole_work k j a o)) ∙ ap (λ n. D *ℤ pos n) r.want ∙ sym (one-*ℤ (D *ℤ pos (whole_work k i a o)));
     };
     cut = λ c. u.cut ∙ c;
   }
@@ -258,7 +263,8 @@ module _ (e : ℕ) (i j : Instance) (u : IsUnitOf e i j) (p : IsShaped i) (q : I
       unit = more s.unit e f.unit u.some;
       moments = Stretches-identity s.pieces;
       operations = suits_to s.unit;
-      heads = λ n d l inside h. subst (λ m. ((s.unit *ℤ pos e) *ℤ pos m) ≤ℤ (get_or s.pieces n d).from) (sym (open_heads.lower (get_or s.pieces n d).job (omega (arith, u.count, inside)))) (subst (λ z. z ≤ℤ (get_or s.pieces n d).from) (sym (*ℤ-zero (s.unit *ℤ pos e))) (f.span n d l).0);
+      heads = λ n d l inside h. subst (λ m. ((s.unit *ℤ pos e) *ℤ pos m) ≤ℤ (get_or s.pieces n d).from) (sym (open_heads.lower (get_or s.pieces n d).job (omega (arith, u.count, inside))))
+          (subst (λ z. z ≤ℤ (get_or s.pieces n d).from) (sym (*ℤ-zero (s.unit *ℤ pos e))) (f.span n d l).0);
       arcs = subst (λ l. All (Contains i.arcs) l) open_heads.arcs (All-contains_itself i.arcs);
       routed = λ r. inl r;
     }
@@ -272,7 +278,8 @@ module _ (e : ℕ) (i j : Instance) (u : IsUnitOf e i j) (p : IsShaped i) (q : I
 
     pub Feasible-to_unit : Feasible j (unit_schedule e s)
     Feasible-to_unit = Feasible-from_fits j (unit_schedule e s) q (subst (λ x. Fits (frame_by x j) (s.unit *ℤ pos e) s.pieces) u.kind
-        (subst (Fits (frame_by k j) (s.unit *ℤ pos e)) (map-id s.pieces) (Fits-carried (frame_by k i) (frame_by k j) s.unit (s.unit *ℤ pos e) s.pieces (pos 1) (λ x. x) (λ a o. o) (Fits-from_feasible i s p f) carries_to)))
+        (subst (Fits (frame_by k j) (s.unit *ℤ pos e)) (map-id s.pieces)
+        (Fits-carried (frame_by k i) (frame_by k j) s.unit (s.unit *ℤ pos e) s.pieces (pos 1) (λ x. x) (λ a o. o) (Fits-from_feasible i s p f) carries_to)))
 
   -- a schedule of the instance with unit times, without its idle stretches and e times as long
   module _ (t : Schedule) (f : Feasible j t) where
@@ -280,10 +287,12 @@ module _ (e : ℕ) (i j : Instance) (u : IsUnitOf e i j) (p : IsShaped i) (q : I
     fits_there = subst (λ x. Fits (frame_by x j) t.unit t.pieces) (sym u.kind) (Fits-from_feasible j t q f)
 
     carries_from : Carries (frame_by k j) (frame_by k i) t.unit t.unit t.pieces (pos e) (busy_moment e t.pieces) (λ a o. o)
-    carries_from = Carries-closed (frame_by k j) (frame_by k i) t.unit t.unit t.pieces e u.some f.unit fits_there (suits_from t.unit) (λ a l. open_heads.upper a (omega (arith, u.count, l))) (subst (λ l. All (Contains l) i.arcs) open_heads.arcs (All-contains_itself i.arcs)) (λ r. r)
+    carries_from = Carries-closed (frame_by k j) (frame_by k i) t.unit t.unit t.pieces e u.some f.unit fits_there (suits_from t.unit)
+        (λ a l. open_heads.upper a (omega (arith, u.count, l))) (subst (λ l. All (Contains l) i.arcs) open_heads.arcs (All-contains_itself i.arcs)) (λ r. r)
 
     pub Feasible-from_unit : Feasible i (closed_schedule e t)
-    Feasible-from_unit = Feasible-from_fits i (closed_schedule e t) p (Fits-carried (frame_by k j) (frame_by k i) t.unit t.unit t.pieces (pos e) (busy_moment e t.pieces) (λ a o. o) fits_there carries_from)
+    Feasible-from_unit = Feasible-from_fits i (closed_schedule e t)
+        p (Fits-carried (frame_by k j) (frame_by k i) t.unit t.unit t.pieces (pos e) (busy_moment e t.pieces) (λ a o. o) fits_there carries_from)
 
     pub end_of-closed : (a : ℕ) → end_of (closed_schedule e t) a ≡ busy_moment e t.pieces (end_of t a)
     end_of-closed = last_end-carried (frame_by k j) (frame_by k i) t.unit t.unit t.pieces (pos e) (busy_moment e t.pieces) (λ a o. o) fits_there carries_from
@@ -300,15 +309,18 @@ charge-plain crit c n unit v a b x y w h = elim c [
   | inl e ↦ subst (λ z. job_cost z unit a x ≤ℤ (pos n *ℤ job_cost z v b y)) (sym e) h
   | inr d ↦ elim d [
     | inl e ↦ subst (λ z. job_cost z unit a x ≤ℤ (pos n *ℤ job_cost z v b y)) (sym e) h
-    | inr e ↦ subst (λ z. job_cost z unit a x ≤ℤ (pos n *ℤ job_cost z v b y)) (sym e) (subst (λ m. (pos a.weight *ℤ x) ≤ℤ (pos n *ℤ (pos m *ℤ y))) w (subst (λ z. (pos a.weight *ℤ x) ≤ℤ z) (*ℤ_exchange (pos a.weight) (pos n) y) (*ℤ-mono a.weight h)))
+    | inr e ↦ subst (λ z. job_cost z unit a x ≤ℤ (pos n *ℤ job_cost z v b y)) (sym e)
+        (subst (λ m. (pos a.weight *ℤ x) ≤ℤ (pos n *ℤ (pos m *ℤ y))) w (subst (λ z. (pos a.weight *ℤ x) ≤ℤ z) (*ℤ_exchange (pos a.weight) (pos n) y) (*ℤ-mono a.weight h)))
   ]
 ]
 
 -- where ends are at most n times as large, so are costs
-pub cost-plain : (i j : Instance) (s t : Schedule) (n : ℕ) → IsPlain i.class.crit → i.class.crit ≡ j.class.crit → length i.jobs ≡ length j.jobs → ((a : ℕ) → a < length i.jobs → (job_at i a).weight ≡ (job_at j a).weight)
+pub cost-plain : (i j : Instance) (s t : Schedule) (n : ℕ) → IsPlain i.class.crit
+    → i.class.crit ≡ j.class.crit → length i.jobs ≡ length j.jobs → ((a : ℕ) → a < length i.jobs → (job_at i a).weight ≡ (job_at j a).weight)
     → ((a : ℕ) → a < length i.jobs → end_of s a ≤ℤ (pos n *ℤ end_of t a)) → cost_of i s ≤ℤ (pos n *ℤ cost_of j t)
 cost-plain i j s t n c e count weights ends =
     subst (λ x. x ≤ℤ (pos n *ℤ cost_of j t)) (one-*ℤ (cost_of i s))
     (cost-pointwise i j s t (pos 1) (pos n) (pos-le (omega arith)) (ap is_greatest e) count (λ a l.
     subst (λ x. x ≤ℤ (pos n *ℤ charge_of j t a)) (sym (one-*ℤ (charge_of i s a)))
-    (subst (λ z. charge_of i s a ≤ℤ (pos n *ℤ job_cost z t.unit (job_at j a) (end_of t a))) e (charge-plain i.class.crit c n s.unit t.unit (job_at i a) (job_at j a) (end_of s a) (end_of t a) (weights a l) (ends a l)))))
+    (subst (λ z. charge_of i s a ≤ℤ (pos n *ℤ job_cost z t.unit (job_at j a) (end_of t a)))
+    e (charge-plain i.class.crit c n s.unit t.unit (job_at i a) (job_at j a) (end_of s a) (end_of t a) (weights a l) (ends a l)))))

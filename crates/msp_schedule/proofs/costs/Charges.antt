@@ -1,5 +1,6 @@
 -- What one job costs at its end, its charge, and what all jobs cost together: how charges grow, stretch and compare.
-use Rattle.std.proofs.Common.{◌≡◌, ℕ, suc, ◌<◌, ◌≤◌, Bool, true, false, ltb, List, [], ◌∷◌, length, get_or, map, fold, All, Contains, inl, inr, ℤ, pos, ◌+ℤ◌, ◌-ℤ◌, ◌*ℤ◌, ◌≤ℤ◌, ◌<ℤ◌, if◌then◌else◌, refl, sym, ap, ap₂, subst, subst₂, ◌∙◌, arith, zero-add}
+use Rattle.std.proofs.Common.{◌≡◌, ℕ, suc, ◌<◌, ◌≤◌, Bool, true, false, ltb, List, [], ◌∷◌, length, get_or, map, fold, All, Contains, inl, inr, ℤ, pos, ◌+ℤ◌, ◌-ℤ◌, ◌*ℤ◌, ◌≤ℤ◌}
+use Rattle.std.proofs.Common.{◌<ℤ◌, if◌then◌else◌, refl, sym, ap, ap₂, subst, subst₂, ◌∙◌, arith, zero-add}
 use Rattle.std.specs.Prelude.{int_lt}
 use Rattle.std.specs.Int.{int_max}
 use Rattle.std.proofs.lemmas.Bool.{ltb-true, ltb-false}
@@ -10,7 +11,8 @@ use Rattle.msp_class.specs.declared.class.Class.{Class}
 use Rattle.msp_class.specs.declared.class.Crit.{Crit}
 use Rattle.msp_class.specs.declared.class.Crit.TheVariants.{Cmax, Lmax, Fmax, SumC, SumWC, SumU, SumWU, SumT, SumWT}
 use Rattle.msp_class.specs.Crit.{is_greatest}
-use Rattle.msp_class.proofs.IntegerRing.{≤ℤ_refl, ≤ℤ_trans, ≤ℤ_of_same, ≤ℤ_antisym, +ℤ_mono, one-*ℤ, *ℤ-zero, *ℤ_assoc, *ℤ_exchange, *ℤ-add, *ℤ-sub, *ℤ-mono, *ℤ-mono_nonneg, *ℤ-strict, *ℤ-cancel_lt, *ℤ-int_max, int_max_mono, pos-le}
+use Rattle.msp_class.proofs.IntegerRing.{≤ℤ_refl, ≤ℤ_trans, ≤ℤ_of_same, ≤ℤ_antisym, +ℤ_mono, one-*ℤ, *ℤ-zero, *ℤ_assoc, *ℤ_exchange, *ℤ-add, *ℤ-sub, *ℤ-mono, *ℤ-mono_nonneg}
+use Rattle.msp_class.proofs.IntegerRing.{*ℤ-strict, *ℤ-cancel_lt, *ℤ-int_max, int_max_mono, pos-le}
 use Rattle.msp_class.specs.Sums.{int_total_below}
 use Rattle.msp_class.proofs.Sums.{sum_by-mono, sum_by-agree, int_total_below-mono, int_total_below-scale}
 use Rattle.msp_instance.specs.declared.Step.{Step}
@@ -189,7 +191,8 @@ cost_of-none i s e z = cost_of-greatest i s e ∙ by (costs_list i s) (costs_lis
     by (x ∷ xs) h = absurd (omega arith)
 
 -- ---- pointwise: what holds of all charges holds of the costs
-pub greatest-pointwise : (i j : Instance) (s t : Schedule) (a b z : ℤ) → pos 0 ≤ℤ b → is_greatest i.class.crit ≡ true → is_greatest j.class.crit ≡ true → length i.jobs ≡ length j.jobs → 0 < length i.jobs →
+pub greatest-pointwise : (i j : Instance) (s t : Schedule) (a b z : ℤ)
+    → pos 0 ≤ℤ b → is_greatest i.class.crit ≡ true → is_greatest j.class.crit ≡ true → length i.jobs ≡ length j.jobs → 0 < length i.jobs →
     ((k : ℕ) → k < length i.jobs → ((a *ℤ charge_of i s k) +ℤ z) ≤ℤ (b *ℤ charge_of j t k)) → ((a *ℤ cost_of i s) +ℤ z) ≤ℤ (b *ℤ cost_of j t)
 greatest-pointwise i j s t a b z nonneg e f same some h =
     let (k, l, r) = cost_of-reached i s e some in
@@ -243,7 +246,8 @@ cost-same i j s t join same h =
 -- ---- two uses
 -- later ends cost no less
 pub cost-by_ends : (i : Instance) (s t : Schedule) → s.unit ≡ t.unit → pos 0 ≤ℤ s.unit → ((k : ℕ) → k < length i.jobs → end_of s k ≤ℤ end_of t k) → cost_of i s ≤ℤ cost_of i t
-cost-by_ends i s t e u h = cost-below i i s t refl refl (λ k l. ≤ℤ_trans (job_cost-mono i.class.crit s.unit (job_at i k) (end_of s k) (end_of t k) u (h k l)) (≤ℤ_of_same (ap (λ v. job_cost i.class.crit v (job_at i k) (end_of t k)) e)))
+cost-by_ends i s t e u h = cost-below i i s t refl refl
+    (λ k l. ≤ℤ_trans (job_cost-mono i.class.crit s.unit (job_at i k) (end_of s k) (end_of t k) u (h k l)) (≤ℤ_of_same (ap (λ v. job_cost i.class.crit v (job_at i k) (end_of t k)) e)))
 
 -- two instances whose jobs have the same charges, over any unit and at any end
 pub record SameCharges (i j : Instance) : Type 0 where
@@ -253,7 +257,8 @@ pub record SameCharges (i j : Instance) : Type 0 where
 
 -- schedules over one unit whose jobs end together cost the same, and one schedule too
 pub cost-same_ends : (i j : Instance) (s t : Schedule) → SameCharges i j → s.unit ≡ t.unit → pos 1 ≤ℤ s.unit → ((k : ℕ) → k < length i.jobs → end_of s k ≡ end_of t k) → cost_of i s ≡ cost_of j t
-cost-same_ends i j s t h e u ends = cost-same i j s t h.join h.count (λ k l. h.charge k l s.unit (end_of s k) u (last_end-natural s.pieces k) ∙ ap₂ (λ v x. job_cost j.class.crit v (job_at j k) x) e (ends k l))
+cost-same_ends i j s t h e u ends =
+    cost-same i j s t h.join h.count (λ k l. h.charge k l s.unit (end_of s k) u (last_end-natural s.pieces k) ∙ ap₂ (λ v x. job_cost j.class.crit v (job_at j k) x) e (ends k l))
 
 pub cost-same_charges : (i j : Instance) (s : Schedule) → SameCharges i j → pos 1 ≤ℤ s.unit → cost_of i s ≡ cost_of j s
 cost-same_charges i j s h u = cost-same_ends i j s s h refl u (λ k l. refl)

@@ -15,7 +15,8 @@ pub length-job_costs : (crit : Crit) (unit : ℤ) (end : ℕ → ℤ) (a : ℕ) 
 length-job_costs crit unit end a [] = refl
 length-job_costs crit unit end a (j ∷ js) = ap suc (length-job_costs crit unit end (a + 1) js)
 
-pub get_or-job_costs : (crit : Crit) (unit : ℤ) (end : ℕ → ℤ) (a k : ℕ) (jobs : List Job) (d : Job) (z : ℤ) → k < length jobs → get_or (job_costs crit unit end a jobs) k z ≡ job_cost crit unit (get_or jobs k d) (end (a + k))
+pub get_or-job_costs : (crit : Crit) (unit : ℤ) (end : ℕ → ℤ) (a k : ℕ) (jobs : List Job) (d : Job) (z : ℤ)
+    → k < length jobs → get_or (job_costs crit unit end a jobs) k z ≡ job_cost crit unit (get_or jobs k d) (end (a + k))
 get_or-job_costs crit unit end a k [] d z h = absurd (omega arith)
 get_or-job_costs crit unit end a zero (j ∷ js) d z h = ap (λ n. job_cost crit unit j (end n)) (omega arith)
 get_or-job_costs crit unit end a (suc k) (j ∷ js) d z h = get_or-job_costs crit unit end (a + 1) k js d z (omega arith) ∙ ap (λ n. job_cost crit unit (get_or js k d) (end n)) (omega arith)
@@ -89,17 +90,20 @@ pub SumsTo-step : (crit : Crit) (unit : ℤ) (ends : List ℤ) (jobs : List Job)
 SumsTo-step crit unit ends jobs k j end sum x new h is at e small e' so_far =
     subst (SumsTo crit unit ends jobs (k + 1)) (sym e') (SumsTo-next crit unit ends jobs k j j sum x h is (e ∙ ap (job_cost crit unit j) at) small so_far)
 
-pub SumsTo-all : (crit : Crit) (unit u : ℤ) (ends : List ℤ) (jobs : List Job) (k : ℕ) (sum : ℤ) → u ≡ unit → length jobs ≤ k → SumsTo crit u ends jobs k sum → sum ≡ total (costs_by crit unit ends jobs)
+pub SumsTo-all : (crit : Crit) (unit u : ℤ) (ends : List ℤ) (jobs : List Job) (k : ℕ) (sum : ℤ)
+    → u ≡ unit → length jobs ≤ k → SumsTo crit u ends jobs k sum → sum ≡ total (costs_by crit unit ends jobs)
 SumsTo-all crit unit u ends jobs k sum e h so_far =
     so_far.sum_is ∙ ap (fold ◌+ℤ◌ (pos 0)) (take_all k (costs_by crit u ends jobs) (omega (arith, length-job_costs crit u (λ n. slice_index_or ends n (pos 0)) 0 jobs)))
     ∙ ap (λ v. total (costs_by crit v ends jobs)) e
 
-pub ReachesTo-step : (crit : Crit) (unit : ℤ) (ends : List ℤ) (jobs : List Job) (k : ℕ) (j : Job) (end top x new : ℤ) → 0 < k → k < length jobs → j ≡ get_or jobs k j → end ≡ slice_index_or ends k (pos 0) →
+pub ReachesTo-step : (crit : Crit) (unit : ℤ) (ends : List ℤ) (jobs : List Job) (k : ℕ) (j : Job) (end top x new : ℤ)
+    → 0 < k → k < length jobs → j ≡ get_or jobs k j → end ≡ slice_index_or ends k (pos 0) →
     x ≡ job_cost crit unit j end → LiesWithin greatest_cost x → new ≡ int_max top x → ReachesTo crit unit ends jobs k top → ReachesTo crit unit ends jobs (k + 1) new
 ReachesTo-step crit unit ends jobs k j end top x new some h is at e small e' so_far =
     subst (ReachesTo crit unit ends jobs (k + 1)) (sym e') (ReachesTo-next crit unit ends jobs k j j top x some h is (e ∙ ap (job_cost crit unit j) at) small so_far)
 
-pub ReachesTo-all : (crit : Crit) (unit u : ℤ) (ends : List ℤ) (jobs : List Job) (k : ℕ) (top : ℤ) → u ≡ unit → length jobs ≤ k → ReachesTo crit u ends jobs k top → top ≡ greatest (costs_by crit unit ends jobs)
+pub ReachesTo-all : (crit : Crit) (unit u : ℤ) (ends : List ℤ) (jobs : List Job) (k : ℕ) (top : ℤ)
+    → u ≡ unit → length jobs ≤ k → ReachesTo crit u ends jobs k top → top ≡ greatest (costs_by crit unit ends jobs)
 ReachesTo-all crit unit u ends jobs k top e h so_far =
     so_far.top_is ∙ ap greatest (take_all k (costs_by crit u ends jobs) (omega (arith, length-job_costs crit u (λ n. slice_index_or ends n (pos 0)) 0 jobs)))
     ∙ ap (λ v. greatest (costs_by crit v ends jobs)) e

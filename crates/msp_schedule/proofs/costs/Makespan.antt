@@ -24,7 +24,8 @@ module _ (i : Instance) (crit : i.class.crit ≡ Cmax) (s : Schedule) where
 
     -- a moment by which all pieces have ended
     pub cost_by_ends : (b : ℤ) → pos 0 ≤ℤ b → All (λ p. p.to ≤ℤ b) s.pieces → cost_of i s ≤ℤ b
-    cost_by_ends b h ends = cost_of-least i s b (ap is_greatest crit) (omega (arith, some)) (λ k l. subst (λ x. job_cost x s.unit (job_at i k) (end_of s k) ≤ℤ b) (sym crit) (last_end-least s.pieces k b h (λ n d m _. ends n d m)))
+    cost_by_ends b h ends = cost_of-least i s b (ap is_greatest crit) (omega (arith, some))
+        (λ k l. subst (λ x. job_cost x s.unit (job_at i k) (end_of s k) ≤ℤ b) (sym crit) (last_end-least s.pieces k b h (λ n d m _. ends n d m)))
 
     -- a bound over a number
     pub cost_above : (m b : ℕ) → pos 1 ≤ℤ s.unit → nat_abs s.unit * b ≤ m * nat_abs (cost_of i s) → (pos b *ℤ s.unit) ≤ℤ (cost_of i s *ℤ pos m)

@@ -2,6 +2,7 @@
 use Rattle.std.proofs.Common.{◌≡◌, ℕ, suc, ◌+◌, ◌*◌, ◌^◌, ◌<◌, ◌≤◌, Bool, true, false, List, length, ℤ, pos, negsuc, ◌+ℤ◌, ◌*ℤ◌, ◌≤ℤ◌, ◌⊎◌, inl, inr, All, sum_by, refl, sym, subst, arith, lit≤}
 use Rattle.std.proofs.lemmas.Int.{ints}
 use Rattle.std.proofs.lemmas.Nat.{mul-le}
+use Rattle.msp_class.specs.declared.sizes.TheConstants.{GREATEST}
 use Rattle.msp_class.specs.declared.environments.EnvKind.{EnvKind}
 use Rattle.msp_class.specs.declared.environments.EnvKind.TheVariants.{Identical, Uniform, Unrelated, OpenShop, FlowShop, JobShop}
 use Rattle.msp_class.specs.Env.{kind_of}
@@ -29,7 +30,7 @@ pub due_within : (l : Limits) (b : Bool) (d : ℤ) → HasDue l b d → LiesWith
 due_within l true d h = h
 due_within l false d h = (omega (arith, ints, h), omega (arith, ints, h))
 
-weight_small : (b : Bool) (w : ℕ) → HasWeight b w → w ≤ 1000000000
+weight_small : (b : Bool) (w : ℕ) → HasWeight b w → w ≤ GREATEST
 weight_small true w h = h.1
 weight_small false w h = omega (arith, h)
 
@@ -86,15 +87,57 @@ pub record HasLimits (i : Instance) (n : ℕ) : Type 0 where
   pub conditions : MeetsConditions limits i
 
 by_kind : (kind : EnvKind) (i : Instance) (n : ℕ) → MeetsConditions (inner_limits kind) i → n ≤ 10 ^ 13 → (kind ≡ Unrelated → InClass i ⊎ (pos n ≤ℤ pos 4096)) → HasLimits i n
-by_kind Identical i n h small scaled = record { limits = inner_limits Identical; most = 10 ^ 13; together = record { dates = lit≤ tt; times = lit≤ tt; levels = lit≤ tt; releases = lit≤ tt; equal = lit≤ tt }; unit = small; conditions = h }
-by_kind Uniform i n h small scaled = record { limits = inner_limits Uniform; most = 10 ^ 13; together = record { dates = lit≤ tt; times = lit≤ tt; levels = lit≤ tt; releases = lit≤ tt; equal = lit≤ tt }; unit = small; conditions = h }
+by_kind Identical i n h small scaled = record {
+  limits = inner_limits Identical;
+  most = 10 ^ 13;
+  together = record { dates = lit≤ tt; times = lit≤ tt; levels = lit≤ tt; releases = lit≤ tt; equal = lit≤ tt };
+  unit = small;
+  conditions = h;
+}
+by_kind Uniform i n h small scaled = record {
+  limits = inner_limits Uniform;
+  most = 10 ^ 13;
+  together = record { dates = lit≤ tt; times = lit≤ tt; levels = lit≤ tt; releases = lit≤ tt; equal = lit≤ tt };
+  unit = small;
+  conditions = h;
+}
 by_kind Unrelated i n h small scaled = elim (scaled refl) [
-  | inl text ↦ record { limits = text_limits; most = 10 ^ 13; together = record { dates = lit≤ tt; times = lit≤ tt; levels = lit≤ tt; releases = lit≤ tt; equal = lit≤ tt }; unit = small; conditions = text.conditions }
-  | inr low ↦ record { limits = inner_limits Unrelated; most = 4096; together = record { dates = lit≤ tt; times = lit≤ tt; levels = lit≤ tt; releases = lit≤ tt; equal = lit≤ tt }; unit = omega (arith, ints); conditions = h }
+  | inl text ↦ record {
+    limits = text_limits;
+    most = 10 ^ 13;
+    together = record { dates = lit≤ tt; times = lit≤ tt; levels = lit≤ tt; releases = lit≤ tt; equal = lit≤ tt };
+    unit = small;
+    conditions = text.conditions;
+  }
+  | inr low ↦ record {
+    limits = inner_limits Unrelated;
+    most = 4096;
+    together = record { dates = lit≤ tt; times = lit≤ tt; levels = lit≤ tt; releases = lit≤ tt; equal = lit≤ tt };
+    unit = omega (arith, ints);
+    conditions = h;
+  }
 ]
-by_kind OpenShop i n h small scaled = record { limits = inner_limits OpenShop; most = 10 ^ 13; together = record { dates = lit≤ tt; times = lit≤ tt; levels = lit≤ tt; releases = lit≤ tt; equal = lit≤ tt }; unit = small; conditions = h }
-by_kind FlowShop i n h small scaled = record { limits = inner_limits FlowShop; most = 10 ^ 13; together = record { dates = lit≤ tt; times = lit≤ tt; levels = lit≤ tt; releases = lit≤ tt; equal = lit≤ tt }; unit = small; conditions = h }
-by_kind JobShop i n h small scaled = record { limits = inner_limits JobShop; most = 10 ^ 13; together = record { dates = lit≤ tt; times = lit≤ tt; levels = lit≤ tt; releases = lit≤ tt; equal = lit≤ tt }; unit = small; conditions = h }
+by_kind OpenShop i n h small scaled = record {
+  limits = inner_limits OpenShop;
+  most = 10 ^ 13;
+  together = record { dates = lit≤ tt; times = lit≤ tt; levels = lit≤ tt; releases = lit≤ tt; equal = lit≤ tt };
+  unit = small;
+  conditions = h;
+}
+by_kind FlowShop i n h small scaled = record {
+  limits = inner_limits FlowShop;
+  most = 10 ^ 13;
+  together = record { dates = lit≤ tt; times = lit≤ tt; levels = lit≤ tt; releases = lit≤ tt; equal = lit≤ tt };
+  unit = small;
+  conditions = h;
+}
+by_kind JobShop i n h small scaled = record {
+  limits = inner_limits JobShop;
+  most = 10 ^ 13;
+  together = record { dates = lit≤ tt; times = lit≤ tt; levels = lit≤ tt; releases = lit≤ tt; equal = lit≤ tt };
+  unit = small;
+  conditions = h;
+}
 
 -- the unit as a natural number, with such limits
 pub small_unit : (i : Instance) (s : Schedule) → Inner i → Within i s → (n : ℕ) × (s.unit ≡ pos n) × HasLimits i n
@@ -120,7 +163,8 @@ pub small_releases : (i : Instance) (s : Schedule) → Inner i → Within i s �
 small_releases i s h w j l =
     let (n, unit_is, has) = small_unit i s h w in
     subst (λ x. LiesWithin greatest_scaled (x *ℤ pos (job_at i j).release)) (sym unit_is)
-    (product_within n (pos (job_at i j).release) has.most has.limits.greatest_date _ has.unit (release_small has.limits i.class.heads (job_at i j).release has.together.releases (has.conditions.jobs j no_job l).release) has.together.dates)
+    (product_within n (pos (job_at i j).release) has.most has.limits.greatest_date _ has.unit
+    (release_small has.limits i.class.heads (job_at i j).release has.together.releases (has.conditions.jobs j no_job l).release) has.together.dates)
 
 time_small : (l : Limits) (t : Times) (x : ℕ) → 10 ^ 6 ≤ l.greatest_time → x ≤ greatest_time l t → LiesWithin l.greatest_time (pos x)
 time_small l General x some h = (omega (arith, ints), omega (arith, ints, h))

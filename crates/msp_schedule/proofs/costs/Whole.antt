@@ -1,5 +1,6 @@
 -- The cost of a schedule from the ends of its jobs, at the numbers as the code passes them.
 use Rattle.std.proofs.Common.{◌≡◌, ℕ, ◌<◌, ◌≤◌, List, length, ℤ, pos, ◌*ℤ◌, All, slice_index_or, sym, ap, ◌∙◌, subst, arith}
+use Rattle.msp_class.specs.declared.sizes.TheConstants.{MOST_JOBS}
 use Rattle.msp_instance.specs.declared.Instance.{Instance}
 use Rattle.msp_instance.specs.declared.Job.{Job}
 use Rattle.msp_schedule.specs.declared.Piece.{Piece}
@@ -14,8 +15,8 @@ passed_small u unit xs jobs e f h =
     let Q : ℤ → Type 0 = λ v. All (HasSmallCost v) jobs in
     subst P (sym f) (subst Q (sym e) h)
 
-pub cost_is : (i : Instance) (s : Schedule) (num u : ℤ) (pieces : List Piece) (jobs : List Job) (ends : List ℤ) → length i.jobs ≤ 400 → u ≡ s.unit → pieces ≡ s.pieces → jobs ≡ i.jobs →
-    ((j : ℕ) → j < 400 → slice_index_or ends j (pos 0) ≡ last_end pieces j) →
+pub cost_is : (i : Instance) (s : Schedule) (num u : ℤ) (pieces : List Piece) (jobs : List Job) (ends : List ℤ) → length i.jobs ≤ MOST_JOBS → u ≡ s.unit → pieces ≡ s.pieces → jobs ≡ i.jobs →
+    ((j : ℕ) → j < MOST_JOBS → slice_index_or ends j (pos 0) ≡ last_end pieces j) →
     num ≡ combined i.class.crit (job_costs i.class.crit u (λ k. slice_index_or ends k (pos 0)) 0 jobs) → num ≡ cost_of i s
 cost_is i s num u pieces jobs ends few eu ep ej h e =
     e ∙ ap (λ v. combined i.class.crit (job_costs i.class.crit v (λ k. slice_index_or ends k (pos 0)) 0 jobs)) eu

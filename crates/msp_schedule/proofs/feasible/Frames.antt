@@ -1,5 +1,6 @@
 -- All that feasibility reads of an instance, and work in one form for every kind of environment.
-use Rattle.std.proofs.Common.{◌≡◌, ◌≢◌, ℕ, zero, suc, ◌*◌, ◌/◌, ◌<◌, ◌≤◌, Bool, true, false, not, List, [], ◌∷◌, length, get_or, map, filter, fold, All, AllPairs, Any, Contains, MatchBool, ℤ, pos, ◌*ℤ◌, ◌≤ℤ◌, ◌<ℤ◌, slice_index_or, refl, sym, ap, ap₂, subst, ◌∙◌, arith}
+use Rattle.std.proofs.Common.{◌≡◌, ◌≢◌, ℕ, zero, suc, ◌*◌, ◌/◌, ◌<◌, ◌≤◌, Bool, true, false, not, List, [], ◌∷◌, length, get_or, map, filter, fold, All, AllPairs, Any, Contains}
+use Rattle.std.proofs.Common.{MatchBool, ℤ, pos, ◌*ℤ◌, ◌≤ℤ◌, ◌<ℤ◌, slice_index_or, refl, sym, ap, ap₂, subst, ◌∙◌, arith}
 use Rattle.std.specs.Prelude.{◌==◌, ◌&&◌}
 use Rattle.std.proofs.Math.Nat.{mul-div_cancel}
 use Rattle.std.proofs.lemmas.Bool.{eqb-true}
@@ -106,7 +107,8 @@ HasTimePerMachine m j = (length j.needs ≡ m) × All (λ n. 1 ≤ n.time) j.nee
 pub record IsShaped (i : Instance) : Type 0 where
   pub unrelated : kind_of i.class.env ≡ Unrelated → All (HasTimePerMachine i.machines) i.jobs
 
-times_from : (k : EnvKind) (l : Limits) (i : Instance) (j : Job) → k ≡ Unrelated → HasShape k i.class.env i.machines j.needs → HasTimes (least_time k i.class.times) (greatest_time l i.class.times) j.needs → HasTimePerMachine i.machines j
+times_from : (k : EnvKind) (l : Limits) (i : Instance) (j : Job) → k ≡ Unrelated
+    → HasShape k i.class.env i.machines j.needs → HasTimes (least_time k i.class.times) (greatest_time l i.class.times) j.needs → HasTimePerMachine i.machines j
 times_from Identical l i j e s t = absurd (cc)
 times_from Uniform l i j e s t = absurd (cc)
 times_from Unrelated l i j e s t = (s.0, λ k d h. (t k d h).0)
@@ -139,7 +141,8 @@ product_of_times-cons n ns = fold_times (1 * n.time) ns ∙ ap (λ x. x * produc
 
 pub product_of_times-positive : (ns : List Need) → All (λ n. 1 ≤ n.time) ns → 1 ≤ product_of_times ns
 product_of_times-positive [] h = omega arith
-product_of_times-positive (n ∷ ns) h = let e = product_of_times-cons n ns in both n.time (product_of_times ns) (product_of_times (n ∷ ns)) (All-head (λ n. 1 ≤ n.time) n ns h) (product_of_times-positive ns (All-tail (λ n. 1 ≤ n.time) n ns h)) e
+product_of_times-positive (n ∷ ns) h = let e = product_of_times-cons n ns in
+    both n.time (product_of_times ns) (product_of_times (n ∷ ns)) (All-head (λ n. 1 ≤ n.time) n ns h) (product_of_times-positive ns (All-tail (λ n. 1 ≤ n.time) n ns h)) e
   where
     both : (a b c : ℕ) → 1 ≤ a → 1 ≤ b → c ≡ a * b → 1 ≤ c
     both (suc a) (suc b) c h k e = omega arith
@@ -160,7 +163,8 @@ quotient : (q t : ℕ) → 1 ≤ t → (u : ℕ) × (q ≡ u * t) → q / t * t 
 quotient q t h (u, e) = ap (λ x. x / t * t) e ∙ ap (λ x. x * t) (mul-div_cancel u h) ∙ sym e
 
 -- the rate on an unrelated machine, times the time there, is what the job wants; and it is at least 1
-pub rate_times : (i : Instance) (j m : ℕ) → All (HasTimePerMachine i.machines) i.jobs → j < length i.jobs → m < i.machines → rate_on Unrelated i j m * (need_at i j m).time ≡ product_of_times (job_at i j).needs
+pub rate_times : (i : Instance) (j m : ℕ) → All (HasTimePerMachine i.machines) i.jobs
+    → j < length i.jobs → m < i.machines → rate_on Unrelated i j m * (need_at i j m).time ≡ product_of_times (job_at i j).needs
 rate_times i j m own inside on = let h = own j no_job inside in
     let short : m < length (job_at i j).needs = omega (arith, h.0) in
     quotient _ _ (h.1 m no_need short) (time_divides (job_at i j).needs m short)
@@ -184,7 +188,8 @@ part_is FlowShop i p = sym (*ℤ-one (length_of p))
 part_is JobShop i p = sym (*ℤ-one (length_of p))
 
 -- a piece of the whole time is a piece of the whole work, and the other way round
-whole_to : (k : EnvKind) (i : Instance) → (k ≡ Unrelated → All (HasTimePerMachine i.machines) i.jobs) → (unit : ℤ) (p : Piece) → p.job < length i.jobs → MayRun k i p.job p.op p.machine → IsWholeWork k i unit p → length_of p *ℤ pos (rate_on k i p.job p.machine) ≡ unit *ℤ pos (whole_work k i p.job p.op)
+whole_to : (k : EnvKind) (i : Instance) → (k ≡ Unrelated → All (HasTimePerMachine i.machines) i.jobs) → (unit : ℤ) (p : Piece) → p.job < length i.jobs
+    → MayRun k i p.job p.op p.machine → IsWholeWork k i unit p → length_of p *ℤ pos (rate_on k i p.job p.machine) ≡ unit *ℤ pos (whole_work k i p.job p.op)
 whole_to Identical i own unit p inside on h = *ℤ-one (length_of p) ∙ h
 whole_to Uniform i own unit p inside on h = h
 whole_to Unrelated i own unit p inside on h = grown (length_of p) unit _ _ _ (rate_times i p.job p.machine (own refl) inside on) h
@@ -198,7 +203,8 @@ whole_to OpenShop i own unit p inside on h = *ℤ-one (length_of p) ∙ h
 whole_to FlowShop i own unit p inside on h = *ℤ-one (length_of p) ∙ h
 whole_to JobShop i own unit p inside on h = *ℤ-one (length_of p) ∙ h
 
-whole_from : (k : EnvKind) (i : Instance) → (k ≡ Unrelated → All (HasTimePerMachine i.machines) i.jobs) → (unit : ℤ) (p : Piece) → p.job < length i.jobs → MayRun k i p.job p.op p.machine → length_of p *ℤ pos (rate_on k i p.job p.machine) ≡ unit *ℤ pos (whole_work k i p.job p.op) → IsWholeWork k i unit p
+whole_from : (k : EnvKind) (i : Instance) → (k ≡ Unrelated → All (HasTimePerMachine i.machines) i.jobs) → (unit : ℤ) (p : Piece) → p.job < length i.jobs
+    → MayRun k i p.job p.op p.machine → length_of p *ℤ pos (rate_on k i p.job p.machine) ≡ unit *ℤ pos (whole_work k i p.job p.op) → IsWholeWork k i unit p
 whole_from Identical i own unit p inside on h = sym (*ℤ-one (length_of p)) ∙ h
 whole_from Uniform i own unit p inside on h = h
 whole_from Unrelated i own unit p inside on h = shrunk (length_of p) unit _ _ _ (rate_positive i p.job p.machine (own refl) inside on) (rate_times i p.job p.machine (own refl) inside on) h
@@ -227,7 +233,8 @@ of_one P ps j o p e h = All-head P p [] (subst (All P) e (All-filter (λ q. (q.j
 pub named_one : (ps : List Piece) (j o : ℕ) (p : Piece) → of_operation ps j o ≡ p ∷ [] → (p.job ≡ j) × (p.op ≡ o)
 named_one ps j o p e = let P : Piece → Type 0 = λ q. (q.job ≡ j) × (q.op ≡ o) in All-head P p [] (subst (All P) e (of_operation-named ps j o))
 
-module _ (k : EnvKind) (i : Instance) (own : k ≡ Unrelated → All (HasTimePerMachine i.machines) i.jobs) (unit : ℤ) (ps : List Piece) (stand : All (λ p. (p.job < length i.jobs) × MayRun k i p.job p.op p.machine) ps) (j o : ℕ) where
+module _ (k : EnvKind) (i : Instance) (own : k ≡ Unrelated → All (HasTimePerMachine i.machines) i.jobs)
+    (unit : ℤ) (ps : List Piece) (stand : All (λ p. (p.job < length i.jobs) × MayRun k i p.job p.op p.machine) ps) (j o : ℕ) where
   abbrev mine : List Piece
   mine = of_operation ps j o
 
@@ -286,7 +293,8 @@ Fits-from_feasible i s own f = record {
   release = f.release;
   arc = f.arc;
   route = route_to (kind_of i.class.env) s.pieces f.route;
-  work = λ j o l h. let g = gets_to (kind_of i.class.env) i own.unrelated s.unit s.pieces (λ a d b. let p = f.place a d b in (p.job, p.machine)) j o i.class.cut (f.work j o l h) in record { one = g.0; sum = g.1 };
+  work = λ j o l h. let g = gets_to (kind_of i.class.env) i own.unrelated s.unit s.pieces (λ a d b. let p = f.place a d b in (p.job, p.machine)) j o i.class.cut (f.work j o l h) in
+      record { one = g.0; sum = g.1 };
 }
 
 pub Feasible-from_fits : (i : Instance) (s : Schedule) → IsShaped i → Fits (frame_of i) s.unit s.pieces → Feasible i s
@@ -316,7 +324,8 @@ shop_work needs (k, x, l, e, p) =
     none : (t : ℕ) → t ≡ 0 → 1 ≤ t → ⊥
     none t z h = omega arith
 
-job_work : (k : EnvKind) (l : Limits) (i : Instance) (j : ℕ) → HasShape k i.class.env i.machines (job_at i j).needs → HasTimes (least_time k i.class.times) (greatest_time l i.class.times) (job_at i j).needs → Any (λ n. 1 ≤ n.time) (job_at i j).needs → (o : ℕ) × HasOperation k i j o × (1 ≤ whole_work k i j o)
+job_work : (k : EnvKind) (l : Limits) (i : Instance) (j : ℕ) → HasShape k i.class.env i.machines (job_at i j).needs
+    → HasTimes (least_time k i.class.times) (greatest_time l i.class.times) (job_at i j).needs → Any (λ n. 1 ≤ n.time) (job_at i j).needs → (o : ℕ) × HasOperation k i j o × (1 ≤ whole_work k i j o)
 job_work Identical l i j s t a = (0, refl, (t 0 no_need (omega (arith, s.0))).0)
 job_work Uniform l i j s t a = (0, refl, (t 0 no_need (omega (arith, s.0))).0)
 job_work Unrelated l i j s t a = (0, refl, product_of_times-positive (job_at i j).needs (λ k d h. (t k d h).0))

@@ -1,5 +1,6 @@
 -- An instance without release dates and routes has a feasible schedule that ends when the times of all jobs are over, so a best one costs little.
-use Rattle.std.proofs.Common.{◌≡◌, ◌≢◌, ℕ, zero, suc, ◌+◌, ◌*◌, ◌^◌, ◌<◌, ◌≤◌, ◌⊎◌, Bool, true, false, not, List, [], ◌∷◌, length, get_or, filter, All, AllPairs, Contains, sum_by, ℤ, pos, neg_ℤ, ◌-ℤ◌, ◌*ℤ◌, ◌≤ℤ◌, slice_index_or, Some, inl, inr, refl, sym, ap, subst, subst₂, ◌∙◌, arith, lit≤, le_trans}
+use Rattle.std.proofs.Common.{◌≡◌, ◌≢◌, ℕ, zero, suc, ◌+◌, ◌*◌, ◌^◌, ◌<◌, ◌≤◌, ◌⊎◌, Bool, true, false, not, List, [], ◌∷◌, length, get_or, filter, All, AllPairs, Contains, sum_by}
+use Rattle.std.proofs.Common.{ℤ, pos, neg_ℤ, ◌-ℤ◌, ◌*ℤ◌, ◌≤ℤ◌, slice_index_or, Some, inl, inr, refl, sym, ap, subst, subst₂, ◌∙◌, arith, lit≤, le_trans}
 use Rattle.std.specs.Prelude.{◌==◌}
 use Rattle.std.specs.List.{range_with_len}
 use Rattle.std.proofs.lemmas.Bool.{ne_eqb, eq-eqb}
@@ -10,6 +11,7 @@ use Rattle.std.proofs.lemmas.List.Kept.{AllPairs-filter}
 use Rattle.std.proofs.lemmas.List.Filters.{length-filter_both}
 use Rattle.std.proofs.lemmas.Nat.{mul-le}
 use Rattle.std.proofs.lemmas.Option.{slice_get-get_or}
+use Rattle.msp_class.specs.declared.sizes.TheConstants.{MOST_JOBS, MOST_MACHINES}
 use Rattle.msp_class.specs.declared.class.Crit.TheVariants.{Cmax, Lmax}
 use Rattle.msp_class.specs.declared.environments.EnvKind.{EnvKind}
 use Rattle.msp_class.specs.declared.environments.EnvKind.TheVariants.{Identical, Uniform, Unrelated, OpenShop, FlowShop, JobShop}
@@ -64,7 +66,7 @@ abbrev most_by : EnvKind → ℕ
 most_by Identical = 1
 most_by Uniform = 1
 most_by Unrelated = 1
-most_by OpenShop = 32
+most_by OpenShop = MOST_MACHINES
 most_by FlowShop = 1
 most_by JobShop = 1
 
@@ -73,7 +75,7 @@ time_at i j o = (need_at i j o).time
 
 -- what the conditions say of the instance, where the kind is any one
 record Facts (k : EnvKind) (T : ℕ) (i : Instance) : Type 0 where
-  machines : (1 ≤ i.machines) × (i.machines ≤ 32)
+  machines : (1 ≤ i.machines) × (i.machines ≤ MOST_MACHINES)
   speeds : HasSpeeds k i.machines i.speeds
   own : k ≡ Unrelated → All (HasTimePerMachine i.machines) i.jobs
   shape : (j : ℕ) → j < length i.jobs → HasShape k i.class.env i.machines (job_at i j).needs
@@ -104,7 +106,10 @@ module _ (i : Instance) (j : ℕ) where
   busy = filter (has_time i j) numbers
 
   shop_has : All (λ o. (o < length (job_at i j).needs) × ((need_at i j o).time ≢ 0)) busy
-  shop_has a d l = (All-filter (has_time i j) (λ o. o < length (job_at i j).needs) numbers (OnceBelow-range (length (job_at i j).needs)).within a d l, timed (need_at i j (get_or busy a d)).time (filter_passes (has_time i j) numbers a d l))
+  shop_has a d l = (
+    All-filter (has_time i j) (λ o. o < length (job_at i j).needs) numbers (OnceBelow-range (length (job_at i j).needs)).within a d l,
+    timed (need_at i j (get_or busy a d)).time (filter_passes (has_time i j) numbers a d l),
+  )
     where
       timed : (t : ℕ) → not (t == 0) ≡ true → t ≢ 0
       timed t e z = absurd (never (t == 0) (eq-eqb t 0 z) e)
@@ -152,7 +157,8 @@ serial_by Unrelated T i m h = record {
   once = λ j l. alone (λ x y. x ≢ y);
   may = λ j l. only (λ o. 0 < i.machines) (omega (arith, h.machines));
   some = λ j l. only (λ o. 0 < time_at i j o) (h.times j l 0 no_need (omega (arith, (h.shape j l).0, h.machines))).0;
-  rate = λ j l. only (λ o. time_at i j o * rate_on Unrelated i j 0 ≡ 1 * whole_work Unrelated i j o) (same_product (time_at i j 0) (rate_on Unrelated i j 0) ∙ rate_times i j 0 (h.own refl) l (omega (arith, h.machines)) ∙ once (whole_work Unrelated i j 0));
+  rate = λ j l. only (λ o. time_at i j o * rate_on Unrelated i j 0 ≡ 1 * whole_work Unrelated i j o)
+      (same_product (time_at i j 0) (rate_on Unrelated i j 0) ∙ rate_times i j 0 (h.own refl) l (omega (arith, h.machines)) ∙ once (whole_work Unrelated i j 0));
   heads = h.heads;
   unrouted = refl;
 }
@@ -175,7 +181,12 @@ serial_by JobShop T i m h = absurd (cc)
 
 -- the operations of a job take at most so often the greatest time
 job_sum : (k : EnvKind) (T : ℕ) (i : Instance) → Facts k T i → (j : ℕ) → j < length i.jobs → sum_by (λ x. time_at i x.job x.op) (tasks_of (ops_by k i) j) ≤ most_by k * T
-job_sum k T i h j l = times_most (length (ops_by k i j)) (most_by k) T _ (few k h) (omega (arith, sum_by-mono (λ x. time_at i x.job x.op) (λ _. T) (tasks_of (ops_by k i) j) (All-map (λ x. time_at i x.job x.op ≤ T) (task j) (ops_by k i j) (short k h)), sum_by-constant T (tasks_of (ops_by k i) j), ap (λ n. n * T) (length-map (ops_by k i j) (task j))))
+job_sum k T i h j l = times_most (length (ops_by k i j)) (most_by k) T _ (few k h) (omega (
+  arith,
+  sum_by-mono (λ x. time_at i x.job x.op) (λ _. T) (tasks_of (ops_by k i) j) (All-map (λ x. time_at i x.job x.op ≤ T) (task j) (ops_by k i j) (short k h)),
+  sum_by-constant T (tasks_of (ops_by k i) j),
+  ap (λ n. n * T) (length-map (ops_by k i j) (task j)),
+))
   where
     times_most : (a b t n : ℕ) → a ≤ b → n ≤ a * t → n ≤ b * t
     times_most a b t n h k = omega (arith, mul-le a t b t h (omega arith), k)
@@ -202,7 +213,14 @@ module _ (i : Instance) (order : List ℕ) (q : IsSequence i order) (ends : All 
   may_precede a b d h k arc c e f =
       let (m, n, less, at, to) = All-contains (GoesForward order) i.arcs arc forward c in
       let w = All-contains (λ x. (x.before < length i.jobs) × (x.after < length i.jobs)) i.arcs arc ends c in
-      omega (arith, less, same_place i order q arc.before m b w.0 at (slice_get-get_or order b d k ∙ ap Some (sym e)), same_place i order q arc.after n a w.1 to (slice_get-get_or order a d (omega arith) ∙ ap Some (sym f)), h)
+      omega (
+        arith,
+        less,
+        same_place i order q arc.before m b w.0 at (slice_get-get_or order b d k ∙ ap Some (sym e)),
+        same_place i order q arc.after n a w.1 to
+            (slice_get-get_or order a d (omega arith) ∙ ap Some (sym f)),
+        h,
+      )
 
   no_loops : All (λ a. a.before ≢ a.after) i.arcs
   no_loops k d l e =
@@ -228,7 +246,8 @@ pub record IsEarly (i : Instance) (time : ℕ) (s : Schedule) : Type 0 where
   pub feasible : Feasible i s
   pub ends : All (λ p. p.to ≤ℤ pos time) s.pieces
 
-pub series-is_early : (l : Limits) (i : Instance) → is_mirror i.class.env ≡ true → MeetsConditions l i → i.class.heads ≡ false → (a : IsAcyclic i) → IsEarly i (400 * (most_by (kind_of i.class.env) * greatest_time l i.class.times)) (series_of i a.0)
+pub series-is_early : (l : Limits) (i : Instance) → is_mirror i.class.env ≡ true → MeetsConditions l i
+    → i.class.heads ≡ false → (a : IsAcyclic i) → IsEarly i (MOST_JOBS * (most_by (kind_of i.class.env) * greatest_time l i.class.times)) (series_of i a.0)
 series-is_early l i m h e (order, q, forward) =
     let k = kind_of i.class.env in
     let T = greatest_time l i.class.times in
@@ -238,12 +257,13 @@ series-is_early l i m h e (order, q, forward) =
     let sum = tasks-sum (ops_by k i) (λ x. time_at i x.job x.op) (most_by k * T) order (λ a d b. job_sum k T i g (get_or order a d) (o.within a d b)) in
     let all = fewer (length order) (most_by k * T) _ (omega (arith, q.whole, h.few)) sum in
     record {
-      feasible = Feasible-from_fits i (series_of i order) (IsShaped-from_conditions l i h) (Fits-series (frame_of i) (unit_by k i) (ops_by k i) (machine_by k i) (time_at i) serial order o (may_precede i order q h.ends forward) (no_loops i order q h.ends forward));
+      feasible = Feasible-from_fits i (series_of i order) (IsShaped-from_conditions l i h)
+          (Fits-series (frame_of i) (unit_by k i) (ops_by k i) (machine_by k i) (time_at i) serial order o (may_precede i order q h.ends forward) (no_loops i order q h.ends forward));
       ends = λ a d b. ≤ℤ_trans (series-to (frame_of i) (unit_by k i) (ops_by k i) (machine_by k i) (time_at i) serial order o a d b) (pos-le all);
     }
   where
-    fewer : (n b s : ℕ) → n ≤ 400 → s ≤ n * b → s ≤ 400 * b
-    fewer n b s h k = omega (arith, mul-le n b 400 b h (omega arith), k)
+    fewer : (n b s : ℕ) → n ≤ MOST_JOBS → s ≤ n * b → s ≤ MOST_JOBS * b
+    fewer n b s h k = omega (arith, mul-le n b MOST_JOBS b h (omega arith), k)
 
 -- ---- what it costs
 -- an early schedule costs little; no due date is below -d
@@ -283,10 +303,12 @@ best_is_cheap : (i : Instance) (s t : Schedule) (bound : ℕ) → Feasible i s �
 best_is_cheap i s t bound f h b =
     let (u, e) = natural_some s.unit (omega (arith, ints, f.unit)) in
     let (v, g) = natural_some t.unit (omega (arith, ints, b.feasible.unit)) in
-    subst (λ z. cost_of i t ≤ℤ (z *ℤ pos bound)) (sym g) (shrunk u v (cost_of i t) (cost_of i s) (omega (arith, ints, f.unit, e)) (subst (λ z. cost_of i s ≤ℤ (z *ℤ pos bound)) e h) (subst₂ (λ y z. (cost_of i t *ℤ y) ≤ℤ (cost_of i s *ℤ z)) e g (b.least s f)))
+    subst (λ z. cost_of i t ≤ℤ (z *ℤ pos bound)) (sym g) (shrunk u v (cost_of i t) (cost_of i s) (omega (arith, ints, f.unit, e))
+    (subst (λ z. cost_of i s ≤ℤ (z *ℤ pos bound)) e h) (subst₂ (λ y z. (cost_of i t *ℤ y) ≤ℤ (cost_of i s *ℤ z)) e g (b.least s f)))
   where
     shrunk : (u v : ℕ) (x y : ℤ) → 1 ≤ u → y ≤ℤ (pos u *ℤ pos bound) → (x *ℤ pos u) ≤ℤ (y *ℤ pos v) → x ≤ℤ (pos v *ℤ pos bound)
-    shrunk u v x y some h k = *ℤ-cancel u some (subst₂ (λ a b. a ≤ℤ b) (*ℤ_comm x (pos u)) (*ℤ_assoc (pos u) (pos bound) (pos v) ∙ ap (λ z. pos u *ℤ z) (*ℤ_comm (pos bound) (pos v))) (≤ℤ_trans k (*ℤ-mono_right v h)))
+    shrunk u v x y some h k = *ℤ-cancel u some
+        (subst₂ (λ a b. a ≤ℤ b) (*ℤ_comm x (pos u)) (*ℤ_assoc (pos u) (pos bound) (pos v) ∙ ap (λ z. pos u *ℤ z) (*ℤ_comm (pos bound) (pos v))) (≤ℤ_trans k (*ℤ-mono_right v h)))
 
 -- ---- in numbers, within the limits that carried instances keep
 -- the units with which a best schedule ends by the moment 10 ^ 25
@@ -312,10 +334,10 @@ equal_time_small FlowShop = lit≤ tt
 equal_time_small JobShop = lit≤ tt
 
 -- times at most T on c operations a job, due dates from -d, and a unit of at most u
-in_numbers : (u c T G d : ℕ) → T ≤ G → u * (400 * (c * G) + d) ≤ 10 ^ 25 → u * (400 * (c * T) + d) ≤ 10 ^ 25
-in_numbers u c T G d h k = le_trans (mul-le u (400 * (c * T) + d) u (400 * (c * G) + d) (omega arith) (omega (arith, mul-le c T c G (omega arith) h))) k
+in_numbers : (u c T G d : ℕ) → T ≤ G → u * (MOST_JOBS * (c * G) + d) ≤ 10 ^ 25 → u * (MOST_JOBS * (c * T) + d) ≤ 10 ^ 25
+in_numbers u c T G d h k = le_trans (mul-le u (MOST_JOBS * (c * T) + d) u (MOST_JOBS * (c * G) + d) (omega arith) (omega (arith, mul-le c T c G (omega arith) h))) k
 
-limits_small : (k : EnvKind) (T : ℕ) → is_mirror_kind k ≡ true → T ≤ (inner_limits k).greatest_time → unit_limit k * (400 * (most_by k * T) + (inner_limits k).greatest_date) ≤ 10 ^ 25
+limits_small : (k : EnvKind) (T : ℕ) → is_mirror_kind k ≡ true → T ≤ (inner_limits k).greatest_time → unit_limit k * (MOST_JOBS * (most_by k * T) + (inner_limits k).greatest_date) ≤ 10 ^ 25
 limits_small Identical T m h = in_numbers (10 ^ 13) 1 T _ _ h (lit≤ tt)
 limits_small Uniform T m h = in_numbers (10 ^ 13) 1 T _ _ h (lit≤ tt)
 limits_small Unrelated T m h = in_numbers 4096 1 T _ _ h (lit≤ tt)
@@ -323,7 +345,8 @@ limits_small OpenShop T m h = in_numbers (10 ^ 9) 32 T _ _ h (lit≤ tt)
 limits_small FlowShop T m h = absurd (cc)
 limits_small JobShop T m h = absurd (cc)
 
-pub best_ends_early : (i : Instance) (t : Schedule) → Inner i → is_mirror i.class.env ≡ true → i.class.heads ≡ false → (i.class.crit ≡ Cmax) ⊎ (i.class.crit ≡ Lmax) → Best i t → t.unit ≤ℤ pos (unit_limit (kind_of i.class.env)) → cost_of i t ≤ℤ pos (10 ^ 25)
+pub best_ends_early : (i : Instance) (t : Schedule) → Inner i → is_mirror i.class.env ≡ true → i.class.heads ≡ false
+    → (i.class.crit ≡ Cmax) ⊎ (i.class.crit ≡ Lmax) → Best i t → t.unit ≤ℤ pos (unit_limit (kind_of i.class.env)) → cost_of i t ≤ℤ pos (10 ^ 25)
 best_ends_early i t h m e c b small =
     let k = kind_of i.class.env in
     let l = inner_limits k in
@@ -331,5 +354,6 @@ best_ends_early i t h m e c b small =
     let s = series_of i h.acyclic.0 in
     let early = series-is_early l i m h.conditions e h.acyclic in
     let dues = λ (j : ℕ) (b : j < length i.jobs). (due_within l (uses_due i.class.crit) (job_at i j).due (h.conditions.jobs j no_job b).due).0 in
-    let cheap = early_is_cheap i s (400 * (most_by k * T)) l.greatest_date (unit_by k i) early refl dues h.conditions.some c in
-    ≤ℤ_trans (best_is_cheap i s t (400 * (most_by k * T) + l.greatest_date) early.feasible cheap b) (≤ℤ_trans (*ℤ-mono_right (400 * (most_by k * T) + l.greatest_date) small) (pos-le (limits_small k T m (time_limit l i.class.times (equal_time_small k)))))
+    let cheap = early_is_cheap i s (MOST_JOBS * (most_by k * T)) l.greatest_date (unit_by k i) early refl dues h.conditions.some c in
+    ≤ℤ_trans (best_is_cheap i s t (MOST_JOBS * (most_by k * T) + l.greatest_date) early.feasible cheap b)
+    (≤ℤ_trans (*ℤ-mono_right (MOST_JOBS * (most_by k * T) + l.greatest_date) small) (pos-le (limits_small k T m (time_limit l i.class.times (equal_time_small k)))))

@@ -57,7 +57,8 @@ last_end-reached f unit ps fits works j l =
 pub last_end-after_head : (f : Frame) (unit : ℤ) (ps : List Piece) → Fits f unit ps → HasWork f → (j : ℕ) → j < f.jobs → (unit *ℤ pos (f.head j)) <ℤ last_end ps j
 last_end-after_head f unit ps fits works j l =
     let (p, c, e) = piece_of f unit ps fits works j l in
-    subst (λ x. (unit *ℤ pos (f.head x)) <ℤ last_end ps x) e (after (unit *ℤ pos (f.head p.job)) p.from p.to (last_end ps p.job) (All-contains (λ q. (unit *ℤ pos (f.head q.job)) ≤ℤ q.from) ps p fits.release c) (All-contains Lasts ps p fits.span c).1 (last_end-contains ps p c))
+    subst (λ x. (unit *ℤ pos (f.head x)) <ℤ last_end ps x) e (after (unit *ℤ pos (f.head p.job)) p.from p.to (last_end ps p.job)
+    (All-contains (λ q. (unit *ℤ pos (f.head q.job)) ≤ℤ q.from) ps p fits.release c) (All-contains Lasts ps p fits.span c).1 (last_end-contains ps p c))
   where
     after : (h a b z : ℤ) → h ≤ℤ a → a <ℤ b → b ≤ℤ z → h <ℤ z
     after h a b z p q r = omega (arith, ints)

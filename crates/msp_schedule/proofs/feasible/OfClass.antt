@@ -1,5 +1,6 @@
 -- What an inner instance of a class has: the conditions with the class written out, so that they can be read off.
 use Rattle.std.proofs.Common.{◌≡◌, ℕ, ◌<◌, ◌≤◌, length, All, ap, subst}
+use Rattle.msp_class.specs.declared.sizes.TheConstants.{MOST_JOBS, MOST_MACHINES}
 use Rattle.msp_class.specs.declared.class.Class.{Class}
 use Rattle.msp_class.specs.Env.{kind_of}
 use Rattle.msp_instance.specs.declared.Instance.{Instance}
@@ -13,9 +14,9 @@ pub record IsOfClass (i : Instance) (c : Class) : Type 0 where
   pub cut : i.class.cut ≡ c.cut
   pub crit : i.class.crit ≡ c.crit
   pub some : 1 ≤ length i.jobs
-  pub few : length i.jobs ≤ 400
+  pub few : length i.jobs ≤ MOST_JOBS
   pub machine : 1 ≤ i.machines
-  pub machines : i.machines ≤ 32
+  pub machines : i.machines ≤ MOST_MACHINES
   pub speeds : HasSpeeds (kind_of c.env) i.machines i.speeds
   pub multiple : HasSmallMultiple i.speeds
   pub jobs : All (IsJobOf (inner_limits (kind_of c.env)) (record i { class = c })) i.jobs

@@ -3,6 +3,7 @@ use Rattle.std.proofs.Common.{◌≡◌, ◌≢◌, ℕ, ◌<◌, ◌≤◌, ◌
 use Rattle.std.proofs.lemmas.Int.{ints}
 use Rattle.std.proofs.lemmas.List.{length-map, get_or-map}
 use Rattle.std.proofs.lemmas.List.Elements.{All-contains, Contains-get_or}
+use Rattle.msp_class.specs.declared.sizes.TheConstants.{MOST_JOBS}
 use Rattle.msp_class.specs.declared.environments.EnvKind.{EnvKind}
 use Rattle.msp_class.specs.declared.environments.EnvKind.TheVariants.{Identical, Uniform, Unrelated}
 use Rattle.msp_class.specs.Env.{kind_of}
@@ -21,14 +22,14 @@ use Rattle.msp_schedule.proofs.changes.Moves.{Contains-map}
 -- the instance has machines that may run any job, whole
 pub record IsUncut (i : Instance) : Type 0 where
   pub cut : i.class.cut ≡ false
-  pub few : length i.jobs ≤ 400
+  pub few : length i.jobs ≤ MOST_JOBS
   pub first : (j o : ℕ) → HasOperation (kind_of i.class.env) i j o → o ≡ 0
   pub operation : (j : ℕ) → HasOperation (kind_of i.class.env) i j 0
   pub may_run : (j m : ℕ) → m < i.machines → MayRun (kind_of i.class.env) i j 0 m
   pub route : (ps : List Piece) → FollowsRoute (kind_of i.class.env) ps
 
 IsUncut-from_kind : (i : Instance) (k : EnvKind) → kind_of i.class.env ≡ k → ((j o : ℕ) → HasOperation k i j o → o ≡ 0) → ((j : ℕ) → HasOperation k i j 0) →
-    ((j m : ℕ) → m < i.machines → MayRun k i j 0 m) → ((ps : List Piece) → FollowsRoute k ps) → i.class.cut ≡ false → length i.jobs ≤ 400 → IsUncut i
+    ((j m : ℕ) → m < i.machines → MayRun k i j 0 m) → ((ps : List Piece) → FollowsRoute k ps) → i.class.cut ≡ false → length i.jobs ≤ MOST_JOBS → IsUncut i
 IsUncut-from_kind i k kind first operation may_run route cut few = record {
   cut = cut;
   few = few;
@@ -38,13 +39,13 @@ IsUncut-from_kind i k kind first operation may_run route cut few = record {
   route = λ ps. subst (λ x. FollowsRoute x ps) (sym kind) (route ps);
 }
 
-pub IsUncut-identical : (i : Instance) → kind_of i.class.env ≡ Identical → i.class.cut ≡ false → length i.jobs ≤ 400 → IsUncut i
+pub IsUncut-identical : (i : Instance) → kind_of i.class.env ≡ Identical → i.class.cut ≡ false → length i.jobs ≤ MOST_JOBS → IsUncut i
 IsUncut-identical i kind = IsUncut-from_kind i Identical kind (λ j o e. e) (λ j. refl) (λ j m l. l) (λ ps. tt)
 
-pub IsUncut-uniform : (i : Instance) → kind_of i.class.env ≡ Uniform → i.class.cut ≡ false → length i.jobs ≤ 400 → IsUncut i
+pub IsUncut-uniform : (i : Instance) → kind_of i.class.env ≡ Uniform → i.class.cut ≡ false → length i.jobs ≤ MOST_JOBS → IsUncut i
 IsUncut-uniform i kind = IsUncut-from_kind i Uniform kind (λ j o e. e) (λ j. refl) (λ j m l. l) (λ ps. tt)
 
-pub IsUncut-unrelated : (i : Instance) → kind_of i.class.env ≡ Unrelated → i.class.cut ≡ false → length i.jobs ≤ 400 → IsUncut i
+pub IsUncut-unrelated : (i : Instance) → kind_of i.class.env ≡ Unrelated → i.class.cut ≡ false → length i.jobs ≤ MOST_JOBS → IsUncut i
 IsUncut-unrelated i kind = IsUncut-from_kind i Unrelated kind (λ j o e. e) (λ j. refl) (λ j m l. l) (λ ps. tt)
 
 -- each job has one piece, on a machine of the instance and apart from the others of that machine, from its release date on and whole
@@ -95,8 +96,10 @@ module _ (i : Instance) (uncut : IsUncut i) (unit : ℕ) (pieces : List Piece) (
   Gets o = (j : ℕ) → j < n → GetsWork i s j o
 
   gets : Gets 0
-  gets j l = subst (λ b. MatchBool b (total (map (work_of (kind_of i.class.env) i) (pieces_of s j 0)) ≡ pos unit *ℤ pos (whole_work (kind_of i.class.env) i j 0)) ((p : Piece) × (pieces_of s j 0 ≡ p ∷ []) × IsWholeWork (kind_of i.class.env) i (pos unit) p)) (sym uncut.cut)
-      (let (p, e) = piece_of_job j l in (p, e, All-contains (IsWholeWork (kind_of i.class.env) i (pos unit)) pieces p each.whole (Contains-from_filter _ pieces p (subst (λ xs. Contains xs p) (sym e) (0, omega arith, refl))).0))
+  gets j l = subst (λ b. MatchBool b (total (map (work_of (kind_of i.class.env) i) (pieces_of s j 0)) ≡ pos unit *ℤ pos (whole_work (kind_of i.class.env) i j 0))
+      ((p : Piece) × (pieces_of s j 0 ≡ p ∷ []) × IsWholeWork (kind_of i.class.env) i (pos unit) p)) (sym uncut.cut)
+      (let (p, e) = piece_of_job j l in
+      (p, e, All-contains (IsWholeWork (kind_of i.class.env) i (pos unit)) pieces p each.whole (Contains-from_filter _ pieces p (subst (λ xs. Contains xs p) (sym e) (0, omega arith, refl))).0))
 
   pub one_each_is_feasible : Feasible i s
   one_each_is_feasible = record {

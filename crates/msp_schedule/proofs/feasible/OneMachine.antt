@@ -1,5 +1,6 @@
 -- Feasible schedules on one machine, as lemmas on pieces in ℕ want them: begins and ends, work, and the sum of costs.
-use Rattle.std.proofs.Common.{◌≡◌, ℕ, zero, suc, ◌+◌, ◌*◌, ◌-◌, ◌<◌, ◌≤◌, max, Bool, true, false, cond, eqb, List, [], ◌∷◌, length, get_or, take, map, filter, fold, ℤ, pos, nat_abs, ◌+ℤ◌, ◌-ℤ◌, ◌*ℤ◌, ◌≤ℤ◌, ◌<ℤ◌, inl, inr, All, AllPairs, sum_by, MatchBool, MatchOption, refl, sym, ap, ◌∙◌, subst, arith, zero-add}
+use Rattle.std.proofs.Common.{◌≡◌, ℕ, zero, suc, ◌+◌, ◌*◌, ◌-◌, ◌<◌, ◌≤◌, max, Bool, true, false, cond, eqb, List, [], ◌∷◌, length, get_or, take, map, filter, fold, ℤ, pos}
+use Rattle.std.proofs.Common.{nat_abs, ◌+ℤ◌, ◌-ℤ◌, ◌*ℤ◌, ◌≤ℤ◌, ◌<ℤ◌, inl, inr, All, AllPairs, sum_by, MatchBool, MatchOption, refl, sym, ap, ◌∙◌, subst, arith, zero-add}
 use Rattle.std.specs.Prelude.{◌==◌, ◌&&◌, ⊤}
 use Rattle.std.specs.Int.{int_max}
 use Rattle.std.proofs.lemmas.Bool.{eqb-true, eq-eqb}
@@ -156,7 +157,8 @@ module _ (i : Instance) (kind : kind_of i.class.env ≡ Identical) (s : Schedule
     in_one p e h =
         let is : mine ≡ p ∷ [] = sym same_pieces ∙ e in
         let t = All-head IsTimed p [] (subst (All IsTimed) is timed_mine) in
-        let passes = both_true _ _ (All-head (λ q. ((q.job == j) && (q.op == 0)) ≡ true) p [] (subst (All (λ q. ((q.job == j) && (q.op == 0)) ≡ true)) e (filter_passes (λ q. (q.job == j) && (q.op == 0)) s.pieces))) in
+        let passes = both_true
+        _ _ (All-head (λ q. ((q.job == j) && (q.op == 0)) ≡ true) p [] (subst (All (λ q. ((q.job == j) && (q.op == 0)) ≡ true)) e (filter_passes (λ q. (q.job == j) && (q.op == 0)) s.pieces))) in
         let same : need_at i p.job p.op ≡ need_at i j 0 = ap (λ x. need_at i x p.op) (eqb-true _ _ passes.0) ∙ ap (need_at i j) (eqb-true _ _ passes.1) in
         let size : pos (finish p - start p) ≡ pos whole = sym (lasts (finish p) (start p) p.to p.from t.to t.from t.lasts) ∙ h ∙ ap (λ n. s.unit *ℤ pos n.time) same ∙ unit_times in
         ap (sum_by (size_of start finish)) is ∙ zero-add (finish p - start p) ∙ pos-same size
@@ -167,7 +169,8 @@ module _ (i : Instance) (kind : kind_of i.class.env ≡ Identical) (s : Schedule
     pub full_work : work_of job_of start finish s.pieces j ≡ whole
     full_work = by i.class.cut gets
       where
-        by : (b : Bool) → MatchBool b (total (map length_of (pieces_of s j 0)) ≡ s.unit *ℤ pos (need_at i j 0).time) ((p : Piece) × (pieces_of s j 0 ≡ p ∷ []) × (length_of p ≡ s.unit *ℤ pos (need_at i p.job p.op).time)) → sum_by (size_of start finish) mine ≡ whole
+        by : (b : Bool) → MatchBool b (total (map length_of (pieces_of s j 0)) ≡ s.unit *ℤ pos (need_at i j 0).time)
+            ((p : Piece) × (pieces_of s j 0 ≡ p ∷ []) × (length_of p ≡ s.unit *ℤ pos (need_at i p.job p.op).time)) → sum_by (size_of start finish) mine ≡ whole
         by true h = in_parts h
         by false h = in_one h.0 h.1 h.2
 
@@ -207,7 +210,8 @@ total_costs crit unit end i =
     ∙ int_total_below-same (length i.jobs) _ _ (λ j l. get_or-job_costs crit unit end 0 j i.jobs no_job (pos 0) l ∙ ap (λ n. job_cost crit unit (job_at i j) (end n)) (zero-add j))
 
 -- the weighted sum of the ends, in ℕ
-pub weighted_cost : (i : Instance) (s : Schedule) → i.class.crit ≡ SumWC → All IsTimed s.pieces → cost_of i s ≡ pos (total_below (length i.jobs) (λ j. (job_at i j).weight * last_of job_of finish s.pieces j))
+pub weighted_cost : (i : Instance) (s : Schedule) → i.class.crit ≡ SumWC
+    → All IsTimed s.pieces → cost_of i s ≡ pos (total_below (length i.jobs) (λ j. (job_at i j).weight * last_of job_of finish s.pieces j))
 weighted_cost i s e h =
     ap (λ c. combined c (job_costs c s.unit (end_of s) 0 i.jobs)) e
     ∙ total_costs SumWC s.unit (end_of s) i

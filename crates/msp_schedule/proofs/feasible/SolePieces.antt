@@ -1,5 +1,6 @@
 -- Jobs that may not be cut, on machines of any kind: each has one piece, and the pieces of one machine are apart.
-use Rattle.std.proofs.Common.{◌≡◌, ℕ, ◌*◌, ◌-◌, ◌≤◌, ◌<◌, false, ◌≢◌, ◌⊎◌, inl, inr, List, [], ◌∷◌, length, get_or, map, Contains, ℤ, pos, nat_abs, ◌-ℤ◌, ◌*ℤ◌, ◌≤ℤ◌, ◌<ℤ◌, MatchBool, arith, refl, sym, ap, subst, subst₂, ◌∙◌}
+use Rattle.std.proofs.Common.{◌≡◌, ℕ, ◌*◌, ◌-◌, ◌≤◌, ◌<◌, false, ◌≢◌, ◌⊎◌, inl, inr, List, [], ◌∷◌, length, get_or, map, Contains, ℤ, pos, nat_abs, ◌-ℤ◌, ◌*ℤ◌, ◌≤ℤ◌, ◌<ℤ◌}
+use Rattle.std.proofs.Common.{MatchBool, arith, refl, sym, ap, subst, subst₂, ◌∙◌}
 use Rattle.std.specs.Prelude.{◌==◌, ◌&&◌}
 use Rattle.std.proofs.lemmas.Bool.{eqb-true}
 use Rattle.std.proofs.lemmas.Int.{ints}
@@ -62,7 +63,8 @@ module _ (i : Instance) (s : Schedule) (whole : i.class.cut ≡ false) (works : 
   pub only_placed : (j : ℕ) → j < length i.jobs → HasPlace i (only_piece s j)
   only_placed j l = All-contains (HasPlace i) s.pieces (only_piece s j) f.place (is_only j l).among
 
-  pub only_apart : (a b : ℕ) → a < length i.jobs → b < length i.jobs → a ≢ b → (only_piece s a).machine ≡ (only_piece s b).machine → IsApart (λ j. start (only_piece s j)) (λ j. finish (only_piece s j)) a b
+  pub only_apart : (a b : ℕ) → a < length i.jobs → b < length i.jobs
+      → a ≢ b → (only_piece s a).machine ≡ (only_piece s b).machine → IsApart (λ j. start (only_piece s j)) (λ j. finish (only_piece s j)) a b
   only_apart a b l m ne on = elim (AllPairs-contains (λ p q. p.machine ≡ q.machine → AreApart p q) s.pieces (only_piece s a) (only_piece s b) f.machine (is_only a l).among (is_only b m).among) [
     | inl r ↦ apart_in_nat (only_piece s a) (only_piece s b) (only_timed a l) (only_timed b m) (r on)
     | inr o ↦ elim o [
@@ -83,4 +85,5 @@ module _ (i : Instance) (s : Schedule) (whole : i.class.cut ≡ false) (works : 
   pub sum_of_only_ends : i.class.crit ≡ SumC → pos (total_below (length i.jobs) (λ j. finish (only_piece s j))) ≤ℤ cost_of i s
   sum_of_only_ends crit =
       subst₂ (λ x y. x ≤ℤ y) (int_total_below-pos (length i.jobs) (λ j. finish (only_piece s j))) (sym (cost_of-sum i s (ap is_greatest crit)))
-      (int_total_below-mono (length i.jobs) (λ j. pos (finish (only_piece s j))) (charge_of i s) (λ j l. subst (λ c. pos (finish (only_piece s j)) ≤ℤ job_cost c s.unit (job_at i j) (end_of s j)) (sym crit) (only_end j l)))
+      (int_total_below-mono (length i.jobs) (λ j. pos (finish (only_piece s j)))
+      (charge_of i s) (λ j l. subst (λ c. pos (finish (only_piece s j)) ≤ℤ job_cost c s.unit (job_at i j) (end_of s j)) (sym crit) (only_end j l)))

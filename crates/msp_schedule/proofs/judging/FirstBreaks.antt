@@ -139,31 +139,112 @@ module _ (i : Instance) (s : Schedule) where
 
   -- one condition after another
   pub up_to_none : KeepsUpTo 0 i s
-  up_to_none = record { span = λ t. absurd (omega (arith, t)); place = λ t. absurd (omega (arith, t)); machine = λ t. absurd (omega (arith, t)); job = λ t. absurd (omega (arith, t)); release = λ t. absurd (omega (arith, t)); arc = λ t. absurd (omega (arith, t)); route = λ t. absurd (omega (arith, t)); work = λ t. absurd (omega (arith, t)) }
+  up_to_none = record {
+    span = λ t. absurd (omega (arith, t));
+    place = λ t. absurd (omega (arith, t));
+    machine = λ t. absurd (omega (arith, t));
+    job = λ t. absurd (omega (arith, t));
+    release = λ t. absurd (omega (arith, t));
+    arc = λ t. absurd (omega (arith, t));
+    route = λ t. absurd (omega (arith, t));
+    work = λ t. absurd (omega (arith, t));
+  }
 
   pub up_to_span : KeepsUpTo 0 i s → All (λ p. p.from <ℤ p.to) s.pieces → KeepsUpTo 1 i s
-  up_to_span h x = record { span = λ t. x; place = λ t. absurd (omega (arith, t)); machine = λ t. absurd (omega (arith, t)); job = λ t. absurd (omega (arith, t)); release = λ t. absurd (omega (arith, t)); arc = λ t. absurd (omega (arith, t)); route = λ t. absurd (omega (arith, t)); work = λ t. absurd (omega (arith, t)) }
+  up_to_span h x = record {
+    span = λ t. x;
+    place = λ t. absurd (omega (arith, t));
+    machine = λ t. absurd (omega (arith, t));
+    job = λ t. absurd (omega (arith, t));
+    release = λ t. absurd (omega (arith, t));
+    arc = λ t. absurd (omega (arith, t));
+    route = λ t. absurd (omega (arith, t));
+    work = λ t. absurd (omega (arith, t));
+  }
 
   pub up_to_place : KeepsUpTo 1 i s → All (HasPlace i) s.pieces → KeepsUpTo 2 i s
-  up_to_place h x = record { span = λ t. h.span (omega arith); place = λ t. x; machine = λ t. absurd (omega (arith, t)); job = λ t. absurd (omega (arith, t)); release = λ t. absurd (omega (arith, t)); arc = λ t. absurd (omega (arith, t)); route = λ t. absurd (omega (arith, t)); work = λ t. absurd (omega (arith, t)) }
+  up_to_place h x = record {
+    span = λ t. h.span (omega arith);
+    place = λ t. x;
+    machine = λ t. absurd (omega (arith, t));
+    job = λ t. absurd (omega (arith, t));
+    release = λ t. absurd (omega (arith, t));
+    arc = λ t. absurd (omega (arith, t));
+    route = λ t. absurd (omega (arith, t));
+    work = λ t. absurd (omega (arith, t));
+  }
 
   pub up_to_machine : KeepsUpTo 2 i s → AllPairs (λ p q. p.machine ≡ q.machine → IsApart p q) s.pieces → KeepsUpTo 3 i s
-  up_to_machine h x = record { span = λ t. h.span (omega arith); place = λ t. h.place (omega arith); machine = λ t. x; job = λ t. absurd (omega (arith, t)); release = λ t. absurd (omega (arith, t)); arc = λ t. absurd (omega (arith, t)); route = λ t. absurd (omega (arith, t)); work = λ t. absurd (omega (arith, t)) }
+  up_to_machine h x = record {
+    span = λ t. h.span (omega arith);
+    place = λ t. h.place (omega arith);
+    machine = λ t. x;
+    job = λ t. absurd (omega (arith, t));
+    release = λ t. absurd (omega (arith, t));
+    arc = λ t. absurd (omega (arith, t));
+    route = λ t. absurd (omega (arith, t));
+    work = λ t. absurd (omega (arith, t));
+  }
 
   pub up_to_job : KeepsUpTo 3 i s → AllPairs (λ p q. p.job ≡ q.job → IsApart p q) s.pieces → KeepsUpTo 4 i s
-  up_to_job h x = record { span = λ t. h.span (omega arith); place = λ t. h.place (omega arith); machine = λ t. h.machine (omega arith); job = λ t. x; release = λ t. absurd (omega (arith, t)); arc = λ t. absurd (omega (arith, t)); route = λ t. absurd (omega (arith, t)); work = λ t. absurd (omega (arith, t)) }
+  up_to_job h x = record {
+    span = λ t. h.span (omega arith);
+    place = λ t. h.place (omega arith);
+    machine = λ t. h.machine (omega arith);
+    job = λ t. x;
+    release = λ t. absurd (omega (arith, t));
+    arc = λ t. absurd (omega (arith, t));
+    route = λ t. absurd (omega (arith, t));
+    work = λ t. absurd (omega (arith, t));
+  }
 
   pub up_to_release : KeepsUpTo 4 i s → All (λ p. (s.unit *ℤ pos (job_at i p.job).release) ≤ℤ p.from) s.pieces → KeepsUpTo 5 i s
-  up_to_release h x = record { span = λ t. h.span (omega arith); place = λ t. h.place (omega arith); machine = λ t. h.machine (omega arith); job = λ t. h.job (omega arith); release = λ t. x; arc = λ t. absurd (omega (arith, t)); route = λ t. absurd (omega (arith, t)); work = λ t. absurd (omega (arith, t)) }
+  up_to_release h x = record {
+    span = λ t. h.span (omega arith);
+    place = λ t. h.place (omega arith);
+    machine = λ t. h.machine (omega arith);
+    job = λ t. h.job (omega arith);
+    release = λ t. x;
+    arc = λ t. absurd (omega (arith, t));
+    route = λ t. absurd (omega (arith, t));
+    work = λ t. absurd (omega (arith, t));
+  }
 
   pub up_to_arc : KeepsUpTo 5 i s → All (KeepsArc s.pieces) i.arcs → KeepsUpTo 6 i s
-  up_to_arc h x = record { span = λ t. h.span (omega arith); place = λ t. h.place (omega arith); machine = λ t. h.machine (omega arith); job = λ t. h.job (omega arith); release = λ t. h.release (omega arith); arc = λ t. x; route = λ t. absurd (omega (arith, t)); work = λ t. absurd (omega (arith, t)) }
+  up_to_arc h x = record {
+    span = λ t. h.span (omega arith);
+    place = λ t. h.place (omega arith);
+    machine = λ t. h.machine (omega arith);
+    job = λ t. h.job (omega arith);
+    release = λ t. h.release (omega arith);
+    arc = λ t. x;
+    route = λ t. absurd (omega (arith, t));
+    work = λ t. absurd (omega (arith, t));
+  }
 
   pub up_to_route : KeepsUpTo 6 i s → (HasRoutes i → (j o : ℕ) → j < length i.jobs → KeepsRoute s.pieces j o) → KeepsUpTo 7 i s
-  up_to_route h x = record { span = λ t. h.span (omega arith); place = λ t. h.place (omega arith); machine = λ t. h.machine (omega arith); job = λ t. h.job (omega arith); release = λ t. h.release (omega arith); arc = λ t. h.arc (omega arith); route = λ t. x; work = λ t. absurd (omega (arith, t)) }
+  up_to_route h x = record {
+    span = λ t. h.span (omega arith);
+    place = λ t. h.place (omega arith);
+    machine = λ t. h.machine (omega arith);
+    job = λ t. h.job (omega arith);
+    release = λ t. h.release (omega arith);
+    arc = λ t. h.arc (omega arith);
+    route = λ t. x;
+    work = λ t. absurd (omega (arith, t));
+  }
 
   pub up_to_work : KeepsUpTo 7 i s → ((j o : ℕ) → j < length i.jobs → HasOperation (kind_of i.class.env) i j o → GetsWork i s j o) → KeepsUpTo 8 i s
-  up_to_work h x = record { span = λ t. h.span (omega arith); place = λ t. h.place (omega arith); machine = λ t. h.machine (omega arith); job = λ t. h.job (omega arith); release = λ t. h.release (omega arith); arc = λ t. h.arc (omega arith); route = λ t. h.route (omega arith); work = λ t. x }
+  up_to_work h x = record {
+    span = λ t. h.span (omega arith);
+    place = λ t. h.place (omega arith);
+    machine = λ t. h.machine (omega arith);
+    job = λ t. h.job (omega arith);
+    release = λ t. h.release (omega arith);
+    arc = λ t. h.arc (omega arith);
+    route = λ t. h.route (omega arith);
+    work = λ t. x;
+  }
 
   -- the same where the unit is passed as a number
   pub up_to_release_at : (u : ℤ) → u ≡ s.unit → KeepsUpTo 4 i s → All (λ p. (u *ℤ pos (job_at i p.job).release) ≤ℤ p.from) s.pieces → KeepsUpTo 5 i s

@@ -1,5 +1,6 @@
 -- The pieces of one job among all pieces: what a search in sorted pieces finds, and what routes and work need of the others.
-use Rattle.std.proofs.Common.{◌≡◌, ℕ, not, ◌+◌, ◌<◌, ◌≤◌, Bool, true, false, cond, List, [], ◌∷◌, ◌++◌, length, get_or, take, drop, filter, map, All, Contains, Option, Some, None, ℤ, pos, ◌*ℤ◌, ◌≤ℤ◌, refl, sym, ap, subst, ◌∙◌, arith, inl, inr}
+use Rattle.std.proofs.Common.{◌≡◌, ℕ, not, ◌+◌, ◌<◌, ◌≤◌, Bool, true, false, cond, List, [], ◌∷◌, ◌++◌, length, get_or, take, drop, filter, map, All, Contains, Option, Some, None}
+use Rattle.std.proofs.Common.{ℤ, pos, ◌*ℤ◌, ◌≤ℤ◌, refl, sym, ap, subst, ◌∙◌, arith, inl, inr}
 use Rattle.std.specs.Prelude.{◌==◌, ◌&&◌, MatchBool, IfSome, IsTrue, ◌↔◌}
 use Rattle.std.specs.List.{AllWithin}
 use Rattle.std.proofs.lemmas.Bool.{cases_Bool, eqb-true, eq-eqb}
@@ -30,7 +31,8 @@ module _ {X : Type 0} (p : X → Bool) where
   filter_whole (x ∷ xs) h = ap (λ b. cond b (x ∷ filter p xs) (filter p xs)) (All-head (λ y. p y ≡ true) x xs h) ∙ ap (λ l. x ∷ l) (filter_whole xs (All-tail (λ y. p y ≡ true) x xs h))
 
   -- none before a, all of the next b, and none after
-  pub filter_middle : (xs : List X) (a b : ℕ) → All (λ x. p x ≡ false) (take a xs) → All (λ x. p x ≡ true) (take b (drop a xs)) → All (λ x. p x ≡ false) (drop b (drop a xs)) → take b (drop a xs) ≡ filter p xs
+  pub filter_middle : (xs : List X) (a b : ℕ) → All (λ x. p x ≡ false) (take a xs)
+      → All (λ x. p x ≡ true) (take b (drop a xs)) → All (λ x. p x ≡ false) (drop b (drop a xs)) → take b (drop a xs) ≡ filter p xs
   filter_middle xs a b before inside after = sym (
       ap (filter p) (sym (take-append-drop a xs))
       ∙ filter-append p (take a xs) (drop a xs)
@@ -51,7 +53,8 @@ module _ {X : Type 0} where
 decide : (j k : ℕ) → (j ≡ k → ⊥) → (j == k) ≡ false
 decide j k n = elim (cases_Bool (j == k)) [ inl h ↦ absurd (n (eqb-true _ _ h)) | inr h ↦ h ]
 
-pub share_is : (xs : List Piece) (j a b : ℕ) → All (λ p. p.job < j) (take a xs) → All (λ p. j ≤ p.job) (drop a xs) → All (λ p. p.job < j + 1) (take b (drop a xs)) → All (λ p. j + 1 ≤ p.job) (drop b (drop a xs)) →
+pub share_is : (xs : List Piece) (j a b : ℕ) → All (λ p. p.job < j) (take a xs)
+    → All (λ p. j ≤ p.job) (drop a xs) → All (λ p. p.job < j + 1) (take b (drop a xs)) → All (λ p. j + 1 ≤ p.job) (drop b (drop a xs)) →
     take b (drop a xs) ≡ filter (λ p. p.job == j) xs
 share_is xs j a b before from inside after = filter_middle (λ p. p.job == j) xs a b
     (λ k d l. let t = before k d l in decide (get_or (take a xs) k d).job j (λ e. omega (arith, t, e)))
@@ -61,7 +64,8 @@ share_is xs j a b before from inside after = filter_middle (λ p. p.job == j) xs
     All-take_of : (P : Piece → Type 0) (ys : List Piece) (n : ℕ) → All P ys → All P (take n ys)
     All-take_of P ys n h k d l = let small : k < n = omega (arith, length-take n ys) in subst P (sym (get_or-take n ys k d small)) (h k d (omega (arith, length-take n ys)))
 
-pub share_at : (xs rest : List Piece) (j a b : ℕ) → rest ≡ drop a xs → All (λ p. p.job < j) (take a xs) → All (λ p. j ≤ p.job) (drop a xs) → All (λ p. p.job < j + 1) (take b rest) → All (λ p. j + 1 ≤ p.job) (drop b rest) → take b rest ≡ filter (λ p. p.job == j) xs
+pub share_at : (xs rest : List Piece) (j a b : ℕ) → rest ≡ drop a xs → All (λ p. p.job < j) (take a xs) → All (λ p. j ≤ p.job) (drop a xs)
+    → All (λ p. p.job < j + 1) (take b rest) → All (λ p. j + 1 ≤ p.job) (drop b rest) → take b rest ≡ filter (λ p. p.job == j) xs
 share_at xs rest j a b e before from inside after =
     ap (take b) e ∙ share_is xs j a b before from (subst (λ l. All (λ p. p.job < j + 1) (take b l)) e inside) (subst (λ l. All (λ p. j + 1 ≤ p.job) (drop b l)) e after)
 
@@ -96,15 +100,19 @@ module _ (xs : List Piece) (j : ℕ) where
   among_share [] o = refl
   among_share (p ∷ ps) o = by (p.job == j) refl (among_share ps o)
     where
-      by : (b : Bool) → (p.job == j) ≡ b → pieces_among (filter (λ p. p.job == j) ps) j o ≡ pieces_among ps j o → pieces_among (cond (p.job == j) (p ∷ filter (λ p. p.job == j) ps) (filter (λ p. p.job == j) ps)) j o ≡ cond ((p.job == j) && (p.op == o)) (p ∷ pieces_among ps j o) (pieces_among ps j o)
+      by : (b : Bool) → (p.job == j) ≡ b → pieces_among (filter (λ p. p.job == j) ps) j o ≡ pieces_among ps j o
+          → pieces_among (cond (p.job == j) (p ∷ filter (λ p. p.job == j) ps) (filter (λ p. p.job == j) ps)) j o ≡ cond ((p.job == j) && (p.op == o)) (p ∷ pieces_among ps j o) (pieces_among ps j o)
       by true e rest = ap (λ b. pieces_among (cond b (p ∷ filter (λ p. p.job == j) ps) (filter (λ p. p.job == j) ps)) j o) e ∙ ap (λ l. cond ((p.job == j) && (p.op == o)) (p ∷ l) l) rest
-      by false e rest = ap (λ b. pieces_among (cond b (p ∷ filter (λ p. p.job == j) ps) (filter (λ p. p.job == j) ps)) j o) e ∙ rest ∙ ap (λ b. cond (b && (p.op == o)) (p ∷ pieces_among ps j o) (pieces_among ps j o)) (sym e)
+      by false e rest = ap (λ b. pieces_among (cond b (p ∷ filter (λ p. p.job == j) ps) (filter (λ p. p.job == j) ps)) j o) e
+          ∙ rest ∙ ap (λ b. cond (b && (p.op == o)) (p ∷ pieces_among ps j o) (pieces_among ps j o)) (sym e)
 
   pub work_by_share : (i : Instance) (u : ℤ) (o : ℕ) → IsWorked i u Share j o → IsWorked i u xs j o
-  work_by_share i u o h op = subst (λ l. MatchBool i.class.cut (total (map (work_of (kind_of i.class.env) i) l) ≡ u *ℤ pos (whole_work (kind_of i.class.env) i j o)) ((p : Piece) × (l ≡ p ∷ []) × IsWholeWork (kind_of i.class.env) i u p)) (among_share xs o) (h op)
+  work_by_share i u o h op = subst (λ l. MatchBool i.class.cut (total (map (work_of (kind_of i.class.env) i) l) ≡ u *ℤ pos (whole_work (kind_of i.class.env) i j o))
+      ((p : Piece) × (l ≡ p ∷ []) × IsWholeWork (kind_of i.class.env) i u p)) (among_share xs o) (h op)
 
   pub work_of_share : (i : Instance) (u : ℤ) (o : ℕ) → GetsWorkAmong i u xs j o → GetsWorkAmong i u Share j o
-  work_of_share i u o h = subst (λ l. MatchBool i.class.cut (total (map (work_of (kind_of i.class.env) i) l) ≡ u *ℤ pos (whole_work (kind_of i.class.env) i j o)) ((p : Piece) × (l ≡ p ∷ []) × IsWholeWork (kind_of i.class.env) i u p)) (sym (among_share xs o)) h
+  work_of_share i u o h = subst (λ l. MatchBool i.class.cut (total (map (work_of (kind_of i.class.env) i) l) ≡ u *ℤ pos (whole_work (kind_of i.class.env) i j o))
+      ((p : Piece) × (l ≡ p ∷ []) × IsWholeWork (kind_of i.class.env) i u p)) (sym (among_share xs o)) h
 
   pub unworked_by_share : (i : Instance) (u v : ℤ) (ops o : ℕ) → v ≡ u → IsLeast ops (λ q. LacksWorkAmong i v Share j q) o → IsLeast ops (λ q. LacksWorkAmong i u xs j q) o
   unworked_by_share i u v ops o e h = subst (λ x. IsLeast ops (λ q. LacksWorkAmong i x xs j q) o) e (record {
@@ -116,7 +124,8 @@ module _ (xs : List Piece) (j : ℕ) where
   pub unworked_none : (ys : List Piece) (i : Instance) (u v : ℤ) (ops : ℕ) → v ≡ u → ys ≡ Share → ((o : ℕ) → o < ops → IsWorked i v ys j o) → (o : ℕ) → o < ops → IsWorked i u xs j o
   unworked_none ys i u v ops ev e h o l = work_by_share i u o (subst (λ z. IsWorked i z Share j o) ev (subst (λ zs. IsWorked i v zs j o) e (h o l)))
 
-  pub unworked_some : (ys : List Piece) (i : Instance) (u v : ℤ) (ops : ℕ) (r : Option ℕ) → v ≡ u → ys ≡ Share → IfSome r (λ o. IsLeast ops (λ q. LacksWorkAmong i v ys j q) o) → IfSome r (λ o. IsLeast ops (λ q. LacksWorkAmong i u xs j q) o)
+  pub unworked_some : (ys : List Piece) (i : Instance) (u v : ℤ) (ops : ℕ) (r : Option ℕ)
+      → v ≡ u → ys ≡ Share → IfSome r (λ o. IsLeast ops (λ q. LacksWorkAmong i v ys j q) o) → IfSome r (λ o. IsLeast ops (λ q. LacksWorkAmong i u xs j q) o)
   unworked_some ys i u v ops None ev e h = tt
   unworked_some ys i u v ops (Some o) ev e h = unworked_by_share i u v ops o ev (subst (λ zs. IsLeast ops (λ q. LacksWorkAmong i v zs j q) o) e h)
 
@@ -146,7 +155,8 @@ pub earlier_none : (j o : ℕ) → IsEarlierEnd [] j o (pos 0)
 earlier_none j o = record { natural = omega (arith, ints); bound = All-nil _; least = λ b h all. h }
 
 -- a piece that counts, and one that does not
-pub earlier_more : (xs : List Piece) (k j o : ℕ) (d p : Piece) (x : ℤ) → k < length xs → p ≡ get_or xs k d → (p.job ≡ j) × (p.op < o) → IsEarlierEnd (take k xs) j o x → IsEarlierEnd (take (k + 1) xs) j o (int_max p.to x)
+pub earlier_more : (xs : List Piece) (k j o : ℕ) (d p : Piece) (x : ℤ)
+    → k < length xs → p ≡ get_or xs k d → (p.job ≡ j) × (p.op < o) → IsEarlierEnd (take k xs) j o x → IsEarlierEnd (take (k + 1) xs) j o (int_max p.to x)
 earlier_more xs k j o d p x h is counts so_far = subst (λ q. (q.job ≡ j) × (q.op < o) → IsEarlierEnd (take (k + 1) xs) j o (int_max q.to x)) (sym is) next counts
   where
     left : (a x b : ℤ) → b ≤ℤ x → b ≤ℤ int_max a x
@@ -161,11 +171,13 @@ earlier_more xs k j o d p x h is counts so_far = subst (λ q. (q.job ≡ j) × (
     next : ((get_or xs k d).job ≡ j) × ((get_or xs k d).op < o) → IsEarlierEnd (take (k + 1) xs) j o (int_max (get_or xs k d).to x)
     next c = record {
       natural = left (get_or xs k d).to x (pos 0) so_far.natural;
-      bound = All-more (λ q. q.job ≡ j → q.op < o → q.to ≤ℤ int_max (get_or xs k d).to x) xs k d h (λ i f l s t. left (get_or xs k d).to x (get_or (take k xs) i f).to (so_far.bound i f l s t)) (λ s t. right (get_or xs k d).to x);
+      bound = All-more (λ q. q.job ≡ j → q.op < o → q.to ≤ℤ int_max (get_or xs k d).to x)
+          xs k d h (λ i f l s t. left (get_or xs k d).to x (get_or (take k xs) i f).to (so_far.bound i f l s t)) (λ s t. right (get_or xs k d).to x);
       least = λ b n all. let f = fewer (λ q. q.job ≡ j → q.op < o → q.to ≤ℤ b) xs k d h all in both (get_or xs k d).to x b (f.1 c.0 c.1) (so_far.least b n f.0);
     }
 
-pub earlier_same : (xs : List Piece) (k j o : ℕ) (d p : Piece) (x : ℤ) → k < length xs → p ≡ get_or xs k d → ¬ ((p.job ≡ j) × (p.op < o)) → IsEarlierEnd (take k xs) j o x → IsEarlierEnd (take (k + 1) xs) j o x
+pub earlier_same : (xs : List Piece) (k j o : ℕ) (d p : Piece) (x : ℤ)
+    → k < length xs → p ≡ get_or xs k d → ¬ ((p.job ≡ j) × (p.op < o)) → IsEarlierEnd (take k xs) j o x → IsEarlierEnd (take (k + 1) xs) j o x
 earlier_same xs k j o d p x h is not_later so_far = record {
   natural = so_far.natural;
   bound = All-more (λ q. q.job ≡ j → q.op < o → q.to ≤ℤ x) xs k d h so_far.bound (λ s t. absurd (not_later (ap (λ q. q.job) is ∙ s, subst (λ q. q.op < o) (sym is) t)));
@@ -173,7 +185,8 @@ earlier_same xs k j o d p x h is not_later so_far = record {
 }
 
 -- a route is kept where the operation begins from there
-pub route_from_end : (xs : List Piece) (j o : ℕ) (x y : ℤ) (result : Bool) → y ≡ x → All (λ p. IsMoment p.from × IsMoment p.to) xs → IsEarlierEnd xs j o x → IsTrue result ↔ All (λ q. q.job ≡ j → q.op ≡ o → y ≤ℤ q.from) xs → IsTrue result ↔ KeepsRoute xs j o
+pub route_from_end : (xs : List Piece) (j o : ℕ) (x y : ℤ) (result : Bool) → y ≡ x → All (λ p. IsMoment p.from × IsMoment p.to) xs
+    → IsEarlierEnd xs j o x → IsTrue result ↔ All (λ q. q.job ≡ j → q.op ≡ o → y ≤ℤ q.from) xs → IsTrue result ↔ KeepsRoute xs j o
 route_from_end xs j o x y result e moments end (to, from) = (
   λ h k d l m f n mine other less same. joined (get_or xs k d).to x y (get_or xs m f).from e (end.bound k d l mine less) (to h m f n other same),
   λ kept. from (λ m f n mine same. subst (λ z. z ≤ℤ (get_or xs m f).from) (sym e) (end.least (get_or xs m f).from (moments m f n).0.0 (λ k d l own less. kept k d l m f n own mine less same))),

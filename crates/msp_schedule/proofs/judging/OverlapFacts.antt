@@ -45,7 +45,8 @@ module _ (lane : Piece → ℕ) (xs : List Piece) where
   )
 
   -- an overlap whose second piece comes before the one known
-  pub first_is_better : (a b n known : ℕ) → Overlaps lane xs a b → Precedes lane xs b known → ((k l : ℕ) → l < b → Overlaps lane xs k l → ¬ Precedes lane xs l known) → IsFirstOverlapBelow lane xs (b + 1) (Some (a, b))
+  pub first_is_better : (a b n known : ℕ) → Overlaps lane xs a b
+      → Precedes lane xs b known → ((k l : ℕ) → l < b → Overlaps lane xs k l → ¬ Precedes lane xs l known) → IsFirstOverlapBelow lane xs (b + 1) (Some (a, b))
   first_is_better a b n known h before rest = (
     h,
     λ k l below o. elim (at_most l b below) [
@@ -55,7 +56,8 @@ module _ (lane : Piece → ℕ) (xs : List Piece) where
   )
 
   -- one whose second piece comes later
-  pub first_stays : (a b m n : ℕ) → Overlaps lane xs m n → ((k l : ℕ) → l < b → Overlaps lane xs k l → ¬ Precedes lane xs l n) → ¬ Precedes lane xs b n → IsFirstOverlapBelow lane xs (b + 1) (Some (m, n))
+  pub first_stays : (a b m n : ℕ) → Overlaps lane xs m n
+      → ((k l : ℕ) → l < b → Overlaps lane xs k l → ¬ Precedes lane xs l n) → ¬ Precedes lane xs b n → IsFirstOverlapBelow lane xs (b + 1) (Some (m, n))
   first_stays a b m n h rest later = (
     h,
     λ k l below o. elim (at_most l b below) [
@@ -66,7 +68,8 @@ module _ (lane : Piece → ℕ) (xs : List Piece) where
 
   -- no overlap among all pieces, and the first of them
   pub apart_without_overlap : ((k l : ℕ) → l < length xs → ¬ Overlaps lane xs k l) → AllPairs (λ p q. lane p ≡ lane q → IsApart p q) xs
-  apart_without_overlap none k l d less inside = subst₂ (λ p q. lane p ≡ lane q → IsApart p q) (get_or_default xs k no_piece d (omega (arith, less, inside))) (get_or_default xs l no_piece d inside) (apart k l less inside)
+  apart_without_overlap none k l d less inside =
+      subst₂ (λ p q. lane p ≡ lane q → IsApart p q) (get_or_default xs k no_piece d (omega (arith, less, inside))) (get_or_default xs l no_piece d inside) (apart k l less inside)
     where
       apart : (k l : ℕ) → k < l → l < length xs → lane (piece_at xs k) ≡ lane (piece_at xs l) → IsApart (piece_at xs k) (piece_at xs l)
       apart k l less inside e = elim (≤ℤ_total (piece_at xs k).to (piece_at xs l).from) [
@@ -74,7 +77,8 @@ module _ (lane : Piece → ℕ) (xs : List Piece) where
         | inr early ↦ elim (≤ℤ_total (piece_at xs l).to (piece_at xs k).from) [
           | inl h ↦ inr h
           | inr late ↦ elim (≤ℤ_total (piece_at xs k).from (piece_at xs l).from) [
-            | inl order ↦ absurd (none k l inside (record { one = omega (arith, less, inside); other = inside; same = e; ahead = in_order (piece_at xs k).from (piece_at xs l).from order; early = early }))
+            | inl order ↦ absurd
+                (none k l inside (record { one = omega (arith, less, inside); other = inside; same = e; ahead = in_order (piece_at xs k).from (piece_at xs l).from order; early = early }))
             | inr order ↦ absurd (none l k (omega (arith, less, inside)) (record { one = inside; other = omega (arith, less, inside); same = sym e; ahead = inl order; early = late }))
           ]
         ]
@@ -97,7 +101,8 @@ module _ (lane : Piece → ℕ) (xs : List Piece) where
       of_pair : IsFirstOverlapBelow lane xs b (Some (m, n)) → IsFirstOverlapBelow lane xs (b + 1) (Some (m, n))
       of_pair (o, rest) = first_stays m b m n o rest later
 
-  pub new_is_better : (best : Option (ℕ × ℕ)) (a b m n : ℕ) → best ≡ Some (m, n) → IsFirstOverlapBelow lane xs b best → Overlaps lane xs a b → Precedes lane xs b n → IsFirstOverlapBelow lane xs (b + 1) (Some (a, b))
+  pub new_is_better : (best : Option (ℕ × ℕ)) (a b m n : ℕ) → best ≡ Some (m, n)
+      → IsFirstOverlapBelow lane xs b best → Overlaps lane xs a b → Precedes lane xs b n → IsFirstOverlapBelow lane xs (b + 1) (Some (a, b))
   new_is_better best a b m n e h o before = of_pair (subst (IsFirstOverlapBelow lane xs b) e h)
     where
       of_pair : IsFirstOverlapBelow lane xs b (Some (m, n)) → IsFirstOverlapBelow lane xs (b + 1) (Some (a, b))

@@ -1,5 +1,6 @@
 -- A schedule over a unit of at least 1, without moments below 0, is feasible or has a first break.
-use Rattle.std.proofs.Common.{◌≡◌, ℕ, zero, suc, ◌+◌, ◌<◌, ◌≤◌, ◌⊎◌, inl, inr, Bool, true, false, List, [], ◌∷◌, length, get_or, map, All, AllPairs, ℤ, pos, ◌*ℤ◌, ◌≤ℤ◌, ◌<ℤ◌, MatchBool, Option, Some, None, refl, sym, ap, subst, arith}
+use Rattle.std.proofs.Common.{◌≡◌, ℕ, zero, suc, ◌+◌, ◌<◌, ◌≤◌, ◌⊎◌, inl, inr, Bool, true, false, List, [], ◌∷◌, length, get_or, map, All, AllPairs, ℤ, pos, ◌*ℤ◌, ◌≤ℤ◌, ◌<ℤ◌}
+use Rattle.std.proofs.Common.{MatchBool, Option, Some, None, refl, sym, ap, subst, arith}
 use Rattle.std.specs.Prelude.{slice_index_or}
 use Rattle.std.proofs.lemmas.Int.{ints}
 use Rattle.std.proofs.lemmas.Bool.{cases_lt}
@@ -18,11 +19,13 @@ use Rattle.msp_schedule.specs.declared.breaks.Break.{Break}
 use Rattle.msp_schedule.specs.declared.breaks.Break.TheVariants.{Span, Place, Machine, Job, Release, Arc, Route, Work}
 use Rattle.msp_schedule.specs.Piece.{length_of, pieces_of, IsApart}
 use Rattle.msp_schedule.specs.Feasible.{Feasible, HasOperation, MayRun, HasPlace, GetsWork, IsWholeWork, total, work_of, whole_work}
-use Rattle.msp_schedule.specs.Breaks.{no_piece, piece_at, no_arc, arc_at, IsLeast, IsLeastOperation, IsEmpty, IsEarly, StandsAhead, Overlaps, IsFirstOverlap, KeepsArc, KeepsRoute, HasRoutes, LacksWork, IsBroken, turn_of, IsFirstBreak, IsDecision}
+use Rattle.msp_schedule.specs.Breaks.{no_piece, piece_at, no_arc, arc_at, IsLeast, IsLeastOperation, IsEmpty, IsEarly, StandsAhead, Overlaps, IsFirstOverlap, KeepsArc, KeepsRoute}
+use Rattle.msp_schedule.specs.Breaks.{HasRoutes, LacksWork, IsBroken, turn_of, IsFirstBreak, IsDecision}
 use Rattle.msp_schedule.specs.Lanes.{Precedes, IsFirstOverlapBelow}
 use Rattle.msp_schedule.proofs.lists.Intervals.{greatest_by, greatest_by-bound}
 use Rattle.msp_schedule.proofs.judging.OverlapFacts.{nothing_new, new_is_first, new_is_better, known_stays, apart_without_overlap, is_first}
-use Rattle.msp_schedule.proofs.judging.FirstBreaks.{KeepsUpTo, first_of, feasible_when_kept, up_to_none, up_to_span, up_to_place, up_to_machine, up_to_job, up_to_release, up_to_arc, up_to_route, up_to_work}
+use Rattle.msp_schedule.proofs.judging.FirstBreaks.{KeepsUpTo, first_of, feasible_when_kept, up_to_none, up_to_span, up_to_place, up_to_machine, up_to_job, up_to_release}
+use Rattle.msp_schedule.proofs.judging.FirstBreaks.{up_to_arc, up_to_route, up_to_work}
 
 -- ---- what can be decided
 abbrev Decided : Type 0 → Type 0
@@ -140,9 +143,11 @@ module _ (lane : Piece → ℕ) (ps : List Piece) where
   precedes_decided k l = some_of _ _ (less_decided (lane (piece_at ps k)) (lane (piece_at ps l))) (both _ _ (same_decided (lane (piece_at ps k)) (lane (piece_at ps l))) (ahead_decided k l))
 
   overlaps_decided : (k l : ℕ) → Decided (Overlaps lane ps k l)
-  overlaps_decided k l = by (less_decided k (length ps)) (less_decided l (length ps)) (same_decided (lane (piece_at ps k)) (lane (piece_at ps l))) (ahead_decided k l) (below_decided (piece_at ps l).from (piece_at ps k).to)
+  overlaps_decided k l = by (less_decided k (length ps)) (less_decided l (length ps))
+      (same_decided (lane (piece_at ps k)) (lane (piece_at ps l))) (ahead_decided k l) (below_decided (piece_at ps l).from (piece_at ps k).to)
     where
-      by : Decided (k < length ps) → Decided (l < length ps) → Decided (lane (piece_at ps k) ≡ lane (piece_at ps l)) → Decided (StandsAhead ps k l) → Decided ((piece_at ps l).from <ℤ (piece_at ps k).to) → Decided (Overlaps lane ps k l)
+      by : Decided (k < length ps) → Decided (l < length ps) → Decided (lane (piece_at ps k) ≡ lane (piece_at ps l))
+          → Decided (StandsAhead ps k l) → Decided ((piece_at ps l).from <ℤ (piece_at ps k).to) → Decided (Overlaps lane ps k l)
       by (inl a) (inl b) (inl c) (inl e) (inl f) = inl (record { one = a; other = b; same = c; ahead = e; early = f })
       by (inr n) b c e f = inr (λ h. n h.one)
       by (inl a) (inr n) c e f = inr (λ h. n h.other)
@@ -219,7 +224,9 @@ arc_decided : (ps : List Piece) (a : ArcValue) → Decided (KeepsArc ps a)
 arc_decided ps a = all_decided _ (λ p. all_decided _ (λ q. when _ _ (same_decided p.job a.before) (when _ _ (same_decided q.job a.after) (at_most_decided p.to q.from))) ps) ps
 
 route_decided : (ps : List Piece) (j o : ℕ) → Decided (KeepsRoute ps j o)
-route_decided ps j o = all_decided _ (λ p. all_decided _ (λ q. when _ _ (same_decided p.job j) (when _ _ (same_decided q.job j) (when _ _ (less_decided p.op o) (when _ _ (same_decided q.op o) (at_most_decided p.to q.from))))) ps) ps
+route_decided ps j o = all_decided
+    _ (λ p. all_decided _ (λ q. when _ _ (same_decided p.job j) (when _ _ (same_decided q.job j) (when _ _ (less_decided p.op o) (when _ _ (same_decided q.op o) (at_most_decided p.to q.from))))) ps)
+    ps
 
 -- no piece is of an operation beyond all of them
 keeps_beyond : (ps : List Piece) (j o : ℕ) → suc (greatest_by (λ p. p.op) ps) ≤ o → KeepsRoute ps j o
@@ -296,7 +303,8 @@ module _ (i : Instance) (s : Schedule) (unit : pos 1 ≤ℤ s.unit) (natural : A
       by (inr (j, (o, x))) = broken (Work j o) h x
 
   by_route : KeepsUpTo 6 i s → Outcome
-  by_route h = by (routes_decided (kind_of i.class.env)) (first_operation i (λ j o. ¬ KeepsRoute s.pieces j o) (λ j o. not_decided _ (route_decided s.pieces j o)) (λ j. suc (greatest_by (λ p. p.op) s.pieces)) (λ j o m n. n (keeps_beyond s.pieces j o m)))
+  by_route h = by (routes_decided (kind_of i.class.env)) (first_operation i (λ j o. ¬ KeepsRoute s.pieces j o)
+      (λ j o. not_decided _ (route_decided s.pieces j o)) (λ j. suc (greatest_by (λ p. p.op) s.pieces)) (λ j o m n. n (keeps_beyond s.pieces j o m)))
     where
       by : Decided (HasRoutes i) → (((j o : ℕ) → j < length i.jobs → ¬ (¬ KeepsRoute s.pieces j o)) ⊎ ((j : ℕ) × ((o : ℕ) × IsLeastOperation i (λ j o. ¬ KeepsRoute s.pieces j o) j o))) → Outcome
       by (inr n) found = by_work (up_to_route i s h (λ r. absurd (n r)))
@@ -307,11 +315,13 @@ module _ (i : Instance) (s : Schedule) (unit : pos 1 ≤ℤ s.unit) (natural : A
   by_arc h = by (first_below (λ l. ¬ KeepsArc s.pieces (arc_at i l)) (λ l. not_decided _ (arc_decided s.pieces (arc_at i l))) (length i.arcs))
     where
       by : (((k : ℕ) → k < length i.arcs → ¬ (¬ KeepsArc s.pieces (arc_at i k))) ⊎ ((k : ℕ) × IsLeast (length i.arcs) (λ l. ¬ KeepsArc s.pieces (arc_at i l)) k)) → Outcome
-      by (inl none) = by_route (up_to_arc i s h (λ k d l. subst (KeepsArc s.pieces) (get_or_default i.arcs k no_arc d l) (stable (KeepsArc s.pieces (arc_at i k)) (arc_decided s.pieces (arc_at i k)) (none k l))))
+      by (inl none) =
+          by_route (up_to_arc i s h (λ k d l. subst (KeepsArc s.pieces) (get_or_default i.arcs k no_arc d l) (stable (KeepsArc s.pieces (arc_at i k)) (arc_decided s.pieces (arc_at i k)) (none k l))))
       by (inr (k, x)) = broken (Arc k) h x
 
   by_release : KeepsUpTo 4 i s → Outcome
-  by_release h = by (first_below (λ l. IsEarly i s.unit (piece_at s.pieces l)) (λ l. below_decided (piece_at s.pieces l).from (s.unit *ℤ pos (job_at i (piece_at s.pieces l).job).release)) (length s.pieces))
+  by_release h =
+      by (first_below (λ l. IsEarly i s.unit (piece_at s.pieces l)) (λ l. below_decided (piece_at s.pieces l).from (s.unit *ℤ pos (job_at i (piece_at s.pieces l).job).release)) (length s.pieces))
     where
       by : (((k : ℕ) → k < length s.pieces → ¬ IsEarly i s.unit (piece_at s.pieces k)) ⊎ ((k : ℕ) × IsLeast (length s.pieces) (λ l. IsEarly i s.unit (piece_at s.pieces l)) k)) → Outcome
       by (inl none) = by_arc (up_to_release i s h (pieces_all (λ p. (s.unit *ℤ pos (job_at i p.job).release) ≤ℤ p.from) (λ k l. not_below _ _ (none k l))))

@@ -51,7 +51,8 @@ module _ (xs ys zs : List Piece) (h : IsPermutation xs ys) (e : zs ≡ ys) where
   pub routes_sorted : (n : ℕ) → ((j o : ℕ) → j < n → KeepsRoute zs j o) → (j o : ℕ) → j < n → KeepsRoute xs j o
   routes_sorted n all j o l = route_back j o (all j o l)
 
-  pub route_sorted : (i : Instance) (r : Option (ℕ × ℕ)) → IfSome r (λ at. IsLeastOperation i (λ j o. ¬ KeepsRoute zs j o) at.0 at.1) → IfSome r (λ at. IsLeastOperation i (λ j o. ¬ KeepsRoute xs j o) at.0 at.1)
+  pub route_sorted : (i : Instance) (r : Option (ℕ × ℕ))
+      → IfSome r (λ at. IsLeastOperation i (λ j o. ¬ KeepsRoute zs j o) at.0 at.1) → IfSome r (λ at. IsLeastOperation i (λ j o. ¬ KeepsRoute xs j o) at.0 at.1)
   route_sorted i None f = tt
   route_sorted i (Some (j, o)) f = record {
     inside = f.inside;
@@ -72,7 +73,8 @@ module _ (xs ys zs : List Piece) (h : IsPermutation xs ys) (e : zs ≡ ys) where
   lacks_forth : (i : Instance) (u : ℤ) (j o : ℕ) → LacksWorkAmong i u xs j o → LacksWorkAmong i u zs j o
   lacks_forth i u j o (op, n) = (op, λ g. n (gets_back i u j o g))
 
-  pub work_sorted : (i : Instance) (u v : ℤ) (r : Option (ℕ × ℕ)) → v ≡ u → IfSome r (λ at. IsLeastOperation i (LacksWorkAmong i v zs) at.0 at.1) → IfSome r (λ at. IsLeastOperation i (LacksWorkAmong i u xs) at.0 at.1)
+  pub work_sorted : (i : Instance) (u v : ℤ) (r : Option (ℕ × ℕ))
+      → v ≡ u → IfSome r (λ at. IsLeastOperation i (LacksWorkAmong i v zs) at.0 at.1) → IfSome r (λ at. IsLeastOperation i (LacksWorkAmong i u xs) at.0 at.1)
   work_sorted i u v None ev f = tt
   work_sorted i u v (Some (j, o)) ev f = subst (λ w. IsLeastOperation i (LacksWorkAmong i w xs) j o) ev (record {
     inside = f.inside;

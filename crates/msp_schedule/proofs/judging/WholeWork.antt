@@ -16,7 +16,8 @@ use Rattle.msp_schedule.specs.Breaks.{pieces_among, IsLeast, IsLeastOperation}
 use Rattle.msp_schedule.specs.Works.{AreSmallTimes, GetsWorkAmong, LacksWorkAmong, IsWorked, need_of, measured_by}
 use Rattle.msp_schedule.specs.Within.{greatest_scaled}
 
-inside_by : (k : EnvKind) (e : Env) (i : Instance) (p : Piece) → HasShape k e i.machines (job_at i p.job).needs → HasOperation k i p.job p.op → MayRun k i p.job p.op p.machine → need_of k p < length (job_at i p.job).needs
+inside_by : (k : EnvKind) (e : Env) (i : Instance) (p : Piece) → HasShape k e i.machines (job_at i p.job).needs
+    → HasOperation k i p.job p.op → MayRun k i p.job p.op p.machine → need_of k p < length (job_at i p.job).needs
 inside_by Identical e i p shape op may = omega (arith, shape.0, op)
 inside_by Uniform e i p shape op may = omega (arith, shape.0, op)
 inside_by Unrelated e i p shape op may = omega (arith, shape.0, may)
@@ -44,17 +45,21 @@ by_whole OpenShop i unit p h = h
 by_whole FlowShop i unit p h = h
 by_whole JobShop i unit p h = h
 
-pub is_whole : (i : Instance) (unit : ℤ) (p : Piece) → IsWholeWork (kind_of i.class.env) i unit p → measured_by (kind_of i.class.env) i p ≡ unit *ℤ pos (need_at i p.job (need_of (kind_of i.class.env) p)).time
+pub is_whole : (i : Instance) (unit : ℤ) (p : Piece)
+    → IsWholeWork (kind_of i.class.env) i unit p → measured_by (kind_of i.class.env) i p ≡ unit *ℤ pos (need_at i p.job (need_of (kind_of i.class.env) p)).time
 is_whole i = whole_by (kind_of i.class.env) i
 
-pub whole_is : (i : Instance) (unit : ℤ) (p : Piece) → measured_by (kind_of i.class.env) i p ≡ unit *ℤ pos (need_at i p.job (need_of (kind_of i.class.env) p)).time → IsWholeWork (kind_of i.class.env) i unit p
+pub whole_is : (i : Instance) (unit : ℤ) (p : Piece)
+    → measured_by (kind_of i.class.env) i p ≡ unit *ℤ pos (need_at i p.job (need_of (kind_of i.class.env) p)).time → IsWholeWork (kind_of i.class.env) i unit p
 whole_is i = by_whole (kind_of i.class.env) i
 
-pub small_time : (i : Instance) (unit u : ℤ) (j o at t : ℕ) → u ≡ unit → at ≡ o → t ≡ (need_at i j at).time → AreSmallTimes i unit → j < length i.jobs → o < length (job_at i j).needs → LiesWithin greatest_scaled (u *ℤ pos t)
+pub small_time : (i : Instance) (unit u : ℤ) (j o at t : ℕ) → u ≡ unit
+    → at ≡ o → t ≡ (need_at i j at).time → AreSmallTimes i unit → j < length i.jobs → o < length (job_at i j).needs → LiesWithin greatest_scaled (u *ℤ pos t)
 small_time i unit u j o at t eu ea et h inside need =
     subst₂ (λ x y. LiesWithin greatest_scaled (x *ℤ pos y)) (sym eu) (sym (et ∙ ap (λ k. (need_at i j k).time) ea)) (h j o inside need)
 
-pub whole_if : (i : Instance) (unit : ℤ) (p : Piece) (m : ℤ) (at t : ℕ) (takes : Bool) → m ≡ measured_by (kind_of i.class.env) i p → at ≡ need_of (kind_of i.class.env) p → t ≡ (need_at i p.job at).time →
+pub whole_if : (i : Instance) (unit : ℤ) (p : Piece) (m : ℤ) (at t : ℕ) (takes : Bool)
+    → m ≡ measured_by (kind_of i.class.env) i p → at ≡ need_of (kind_of i.class.env) p → t ≡ (need_at i p.job at).time →
     IsTrue takes ↔ (m ≡ unit *ℤ pos t) → IsTrue takes ↔ IsWholeWork (kind_of i.class.env) i unit p
 whole_if i unit p m at t takes em ea et (to, from) =
     (λ h. whole_is i unit p (sym em ∙ to h ∙ time), λ h. from (em ∙ is_whole i unit p h ∙ sym time))
@@ -63,7 +68,8 @@ whole_if i unit p m at t takes em ea et (to, from) =
     time = ap (λ k. unit *ℤ pos k) (et ∙ ap (λ k. (need_at i p.job k).time) ea)
 
 -- the same at the numbers as they are passed
-pub whole_if-passed : (i : Instance) (unit u : ℤ) (p : Piece) (m n : ℤ) (at t : ℕ) (takes : Bool) → u ≡ unit → n ≡ m → m ≡ measured_by (kind_of i.class.env) i p → at ≡ need_of (kind_of i.class.env) p → t ≡ (need_at i p.job at).time →
+pub whole_if-passed : (i : Instance) (unit u : ℤ) (p : Piece) (m n : ℤ) (at t : ℕ) (takes : Bool)
+    → u ≡ unit → n ≡ m → m ≡ measured_by (kind_of i.class.env) i p → at ≡ need_of (kind_of i.class.env) p → t ≡ (need_at i p.job at).time →
     IsTrue takes ↔ (n ≡ u *ℤ pos t) → IsTrue takes ↔ IsWholeWork (kind_of i.class.env) i unit p
 whole_if-passed i unit u p m n at t takes eu en em ea et h =
     whole_if i unit p m at t takes em ea et (subst₂ (λ x y. IsTrue takes ↔ (x ≡ y *ℤ pos t)) en eu h)
@@ -93,7 +99,8 @@ whole_work_by FlowShop i j o n = refl
 whole_work_by JobShop i j o n = refl
 
 -- what a cut operation gets, and a whole one
-pub gets_cut : (i : Instance) (unit u : ℤ) (xs : List Piece) (j o : ℕ) (sum n : ℤ) (t : ℕ) (takes : Bool) → i.class.cut ≡ true → kind_of i.class.env ≢ Unrelated → u ≡ unit → n ≡ sum → t ≡ (need_at i j o).time →
+pub gets_cut : (i : Instance) (unit u : ℤ) (xs : List Piece) (j o : ℕ) (sum n : ℤ) (t : ℕ) (takes : Bool)
+    → i.class.cut ≡ true → kind_of i.class.env ≢ Unrelated → u ≡ unit → n ≡ sum → t ≡ (need_at i j o).time →
     sum ≡ total (map (work_of (kind_of i.class.env) i) (pieces_among xs j o)) → IsTrue takes ↔ (n ≡ u *ℤ pos t) → IsTrue takes ↔ GetsWorkAmong i unit xs j o
 gets_cut i unit u xs j o sum n t takes cut other eu en et es h =
     subst (λ b. IsTrue takes ↔ MatchBool b Cut Whole) (sym cut)
@@ -105,7 +112,8 @@ gets_cut i unit u xs j o sum n t takes cut other eu en et es h =
     Whole : Type 0
     Whole = (p : Piece) × (pieces_among xs j o ≡ p ∷ []) × IsWholeWork (kind_of i.class.env) i unit p
 
-pub gets_whole : (i : Instance) (unit : ℤ) (xs : List Piece) (j o : ℕ) (p : Piece) (whole : Bool) → i.class.cut ≡ false → pieces_among xs j o ≡ p ∷ [] → IsTrue whole ↔ IsWholeWork (kind_of i.class.env) i unit p → IsTrue whole ↔ GetsWorkAmong i unit xs j o
+pub gets_whole : (i : Instance) (unit : ℤ) (xs : List Piece) (j o : ℕ) (p : Piece) (whole : Bool) → i.class.cut ≡ false
+    → pieces_among xs j o ≡ p ∷ [] → IsTrue whole ↔ IsWholeWork (kind_of i.class.env) i unit p → IsTrue whole ↔ GetsWorkAmong i unit xs j o
 gets_whole i unit xs j o p whole cut sole (to, from) =
     subst (λ b. IsTrue whole ↔ MatchBool b Cut Whole) (sym cut) (λ h. (p, sole, to h), λ w. from (subst (IsWholeWork (kind_of i.class.env) i unit) (same (sym w.1 ∙ sole)) w.2))
   where
@@ -122,14 +130,17 @@ pub gets_none : (i : Instance) (unit : ℤ) (xs : List Piece) (j o : ℕ) → i.
 gets_none i unit xs j o cut none h = none (own h).0 (own h).1
   where
     own : GetsWorkAmong i unit xs j o → (q : Piece) × (pieces_among xs j o ≡ q ∷ []) × IsWholeWork (kind_of i.class.env) i unit q
-    own g = subst (λ b. MatchBool b (total (map (work_of (kind_of i.class.env) i) (pieces_among xs j o)) ≡ unit *ℤ pos (whole_work (kind_of i.class.env) i j o)) ((q : Piece) × (pieces_among xs j o ≡ q ∷ []) × IsWholeWork (kind_of i.class.env) i unit q)) cut g
+    own g = subst (λ b. MatchBool b (total (map (work_of (kind_of i.class.env) i) (pieces_among xs j o)) ≡ unit *ℤ pos (whole_work (kind_of i.class.env) i j o))
+        ((q : Piece) × (pieces_among xs j o ≡ q ∷ []) × IsWholeWork (kind_of i.class.env) i unit q)) cut g
 
 -- ---- the first operation that lacks work
 pub not_lacking : (i : Instance) (u : ℤ) (xs : List Piece) (j o : ℕ) → IsWorked i u xs j o → ¬ LacksWorkAmong i u xs j o
 not_lacking i u xs j o h (op, none) = none (h op)
 
-pub lacks_first : (i : Instance) (unit u : ℤ) (xs : List Piece) (j ops o : ℕ) → u ≡ unit → o < ops → LacksWorkAmong i u xs j o → ((q : ℕ) → q < o → IsWorked i u xs j q) → IsLeast ops (λ q. LacksWorkAmong i unit xs j q) o
-lacks_first i unit u xs j ops o e inside lacks before = subst (λ v. IsLeast ops (λ q. LacksWorkAmong i v xs j q) o) e (record { inside = inside; holds = lacks; least = λ q below. not_lacking i u xs j q (before q below) })
+pub lacks_first : (i : Instance) (unit u : ℤ) (xs : List Piece) (j ops o : ℕ)
+    → u ≡ unit → o < ops → LacksWorkAmong i u xs j o → ((q : ℕ) → q < o → IsWorked i u xs j q) → IsLeast ops (λ q. LacksWorkAmong i unit xs j q) o
+lacks_first i unit u xs j ops o e inside lacks before =
+    subst (λ v. IsLeast ops (λ q. LacksWorkAmong i v xs j q) o) e (record { inside = inside; holds = lacks; least = λ q below. not_lacking i u xs j q (before q below) })
 
 -- an operation beyond the needs has no work to do
 beyond_by : (k : EnvKind) (e : Env) (i : Instance) (j o : ℕ) → 1 ≤ i.machines → HasShape k e i.machines (job_at i j).needs → HasOperation k i j o → o < length (job_at i j).needs
@@ -140,16 +151,20 @@ beyond_by OpenShop e i j o m shape op = op.0
 beyond_by FlowShop e i j o m shape op = op.0
 beyond_by JobShop e i j o m shape op = op.0
 
-pub all_worked : (i : Instance) (u : ℤ) (xs : List Piece) (j ops : ℕ) → Inner i → j < length i.jobs → ops ≡ length (job_at i j).needs → ((q : ℕ) → q < ops → IsWorked i u xs j q) → (q : ℕ) → IsWorked i u xs j q
-all_worked i u xs j ops inner inside es h q op = h q (subst (λ n. q < n) (sym es) (beyond_by (kind_of i.class.env) i.class.env i j q inner.conditions.machines.0 (inner.conditions.jobs j no_job inside).needs.shape op)) op
+pub all_worked : (i : Instance) (u : ℤ) (xs : List Piece) (j ops : ℕ)
+    → Inner i → j < length i.jobs → ops ≡ length (job_at i j).needs → ((q : ℕ) → q < ops → IsWorked i u xs j q) → (q : ℕ) → IsWorked i u xs j q
+all_worked i u xs j ops inner inside es h q op =
+    h q (subst (λ n. q < n) (sym es) (beyond_by (kind_of i.class.env) i.class.env i j q inner.conditions.machines.0 (inner.conditions.jobs j no_job inside).needs.shape op)) op
 
-pub worked_next : (i : Instance) (u v : ℤ) (xs : List Piece) (job ops : ℕ) → v ≡ u → Inner i → job < length i.jobs → ops ≡ length (job_at i job).needs → ((q : ℕ) → q < ops → IsWorked i v xs job q) → ((j o : ℕ) → j < job → IsWorked i u xs j o) → (j o : ℕ) → j < job + 1 → IsWorked i u xs j o
+pub worked_next : (i : Instance) (u v : ℤ) (xs : List Piece) (job ops : ℕ) → v ≡ u → Inner i → job < length i.jobs → ops ≡ length (job_at i job).needs
+    → ((q : ℕ) → q < ops → IsWorked i v xs job q) → ((j o : ℕ) → j < job → IsWorked i u xs j o) → (j o : ℕ) → j < job + 1 → IsWorked i u xs j o
 worked_next i u v xs job ops e inner inside es own before j o below = elim (cases_lt j job) [
   | inl less ↦ before j o less
   | inr more ↦ subst (λ k. IsWorked i u xs k o) (omega (arith, below, more)) (all_worked i u xs job ops inner inside es (subst (λ x. (q : ℕ) → q < ops → IsWorked i x xs job q) e own) o)
 ]
 
-pub lacks_least : (i : Instance) (unit u v : ℤ) (xs : List Piece) (job ops o : ℕ) → u ≡ unit → v ≡ u → job < length i.jobs → IsLeast ops (λ q. LacksWorkAmong i v xs job q) o → ((j q : ℕ) → j < job → IsWorked i u xs j q) → IsLeastOperation i (LacksWorkAmong i unit xs) job o
+pub lacks_least : (i : Instance) (unit u v : ℤ) (xs : List Piece) (job ops o : ℕ) → u ≡ unit → v ≡ u → job < length i.jobs
+    → IsLeast ops (λ q. LacksWorkAmong i v xs job q) o → ((j q : ℕ) → j < job → IsWorked i u xs j q) → IsLeastOperation i (LacksWorkAmong i unit xs) job o
 lacks_least i unit u v xs job ops o e f inside least before = subst (λ x. IsLeastOperation i (LacksWorkAmong i x xs) job o) e (record {
   inside = inside;
   holds = subst (λ x. LacksWorkAmong i x xs job o) f least.holds;

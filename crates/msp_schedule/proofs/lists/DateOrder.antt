@@ -64,7 +64,8 @@ module _ {X : Type 0} (date : X → ℤ) (number : X → ℕ) where
   pub date_less-order : IsStrictWeakOrder date_less
   date_less-order = record {
     one_way = λ x y h. not_less (date y) (date x) (number y) (number x) (elim (less-yes (date x) (date y) (number x) (number y) h) [ inl a ↦ inl a | inr e ↦ inr (e.0, omega (arith, e.1)) ]);
-    chain = λ x y z h k. not_less (date x) (date z) (number x) (number z) (joined (date x) (date y) (date z) (number x) (number y) (number z) (less-no (date x) (date y) (number x) (number y) h) (less-no (date y) (date z) (number y) (number z) k));
+    chain = λ x y z h k. not_less (date x) (date z) (number x) (number z)
+        (joined (date x) (date y) (date z) (number x) (number y) (number z) (less-no (date x) (date y) (number x) (number y) h) (less-no (date y) (date z) (number y) (number z) k));
   }
 
   pub date_sorted : (xs : List X) → IsSortedBy date_less xs → AllPairs (λ a b. (date a <ℤ date b) ⊎ ((date a ≡ date b) × (number a ≤ number b))) xs

@@ -1,11 +1,13 @@
 -- Pieces of time [from, to) on machines: how much of an interval they fill.
-use Rattle.std.proofs.Common.{◌≡◌, ℕ, zero, suc, ◌+◌, ◌*◌, ◌-◌, ◌≤◌, ◌<◌, min, max, Bool, true, false, cond, eqb, leb, ◌≢◌, ◌⊎◌, List, [], ◌∷◌, length, get_or, All, AllPairs, Contains, filter, sum_by, le_trans, arith, refl, sym, ap, subst, ◌∙◌}
+use Rattle.std.proofs.Common.{◌≡◌, ℕ, zero, suc, ◌+◌, ◌*◌, ◌-◌, ◌≤◌, ◌<◌, min, max, Bool, true, false, cond, eqb, leb, ◌≢◌, ◌⊎◌, List, [], ◌∷◌, length, get_or, All, AllPairs}
+use Rattle.std.proofs.Common.{Contains, filter, sum_by, le_trans, arith, refl, sym, ap, subst, ◌∙◌}
 use Rattle.std.proofs.lemmas.List.Sums.{sum_by-cons}
 use Rattle.std.proofs.lemmas.List.Elements.{All-filter, filter_passes, All-nil, All-cons, All-head, All-tail, All-contains, Contains-get_or}
 use Rattle.std.proofs.lemmas.List.Kept.{AllPairs-filter}
 use Rattle.std.proofs.lemmas.Bool.{eqb-true, leb-true, leb-false, eqb-false, eq-eqb}
 use Rattle.msp_class.specs.Sums.{total_below}
-use Rattle.msp_class.proofs.Sums.{sum_by-mono, sum_by-same, sum_by-add, sum_by-filter, sum_by-by_key_filter, sum_by-by_key_test, total_below-some, cond-yes, total_below-bound, AllPairs-head, AllPairs-tail, Contains-filter, Contains-from_filter, sum_by-some}
+use Rattle.msp_class.proofs.Sums.{sum_by-mono, sum_by-same, sum_by-add, sum_by-filter, sum_by-by_key_filter, sum_by-by_key_test, total_below-some, cond-yes, total_below-bound}
+use Rattle.msp_class.proofs.Sums.{AllPairs-head, AllPairs-tail, Contains-filter, Contains-from_filter, sum_by-some}
 use Rattle.msp_schedule.specs.Intervals.{size_of, IsApart, IsApartOn, work_of}
 
 -- ---- two intervals
@@ -62,9 +64,11 @@ packing {X} from to a b (x ∷ xs) h = by (leb (from x) (to x)) refl (packing fr
     tail = AllPairs-tail (IsApart from to) x xs h
 
     parts : sum_by (overlap_of from to a b) xs ≤ sum_by (λ q. overlap_of from to a (min b (from x)) q + overlap_of from to (max a (to x)) b q) xs
-    parts = sum_by-mono (overlap_of from to a b) (λ q. overlap_of from to a (min b (from x)) q + overlap_of from to (max a (to x)) b q) xs (λ k d l. around (from x) (to x) (from (get_or xs k d)) (to (get_or xs k d)) a b (AllPairs-head (IsApart from to) x xs h k d l))
+    parts = sum_by-mono (overlap_of from to a b) (λ q. overlap_of from to a (min b (from x)) q + overlap_of from to (max a (to x)) b q)
+        xs (λ k d l. around (from x) (to x) (from (get_or xs k d)) (to (get_or xs k d)) a b (AllPairs-head (IsApart from to) x xs h k d l))
 
-    by : (t : Bool) → leb (from x) (to x) ≡ t → sum_by (overlap_of from to a b) xs ≤ b - a → sum_by (overlap_of from to a (min b (from x))) xs ≤ min b (from x) - a → sum_by (overlap_of from to (max a (to x)) b) xs ≤ b - max a (to x) → sum_by (overlap_of from to a b) (x ∷ xs) ≤ b - a
+    by : (t : Bool) → leb (from x) (to x) ≡ t → sum_by (overlap_of from to a b) xs ≤ b - a → sum_by (overlap_of from to a (min b (from x))) xs ≤ min b (from x) - a
+        → sum_by (overlap_of from to (max a (to x)) b) xs ≤ b - max a (to x) → sum_by (overlap_of from to a b) (x ∷ xs) ≤ b - a
     by true e whole before after =
         let most = fills (from x) (to x) a b _ _ (leb-true (from x) (to x) e) before after in
         let head = sum_by-cons (overlap_of from to a b) x xs in
@@ -93,7 +97,8 @@ apart_on_each machine from to μ xs h =
     apart_from_one machine from to μ (filter on xs) (λ k d l. eqb-true _ _ (filter_passes on xs k d l)) (AllPairs-filter (IsApartOn machine from to) on xs h)
 
 -- the work on the jobs that pass a test, by job
-pub work_by_job : {X : Type 0} (job from to : X → ℕ) (test : ℕ → Bool) (n : ℕ) (xs : List X) → All (λ q. job q < n) xs → sum_by (size_of from to) (filter (λ q. test (job q)) xs) ≡ total_below n (λ j. cond (test j) (work_of job from to xs j) 0)
+pub work_by_job : {X : Type 0} (job from to : X → ℕ) (test : ℕ → Bool) (n : ℕ) (xs : List X)
+    → All (λ q. job q < n) xs → sum_by (size_of from to) (filter (λ q. test (job q)) xs) ≡ total_below n (λ j. cond (test j) (work_of job from to xs j) 0)
 work_by_job job from to test n xs h = sum_by-filter (size_of from to) (λ q. test (job q)) xs ∙ sum_by-by_key_test job (size_of from to) test n xs h
 
 -- room: pieces of the jobs that pass a test, on m machines and inside [a, b), last no longer than m times as long
@@ -103,7 +108,8 @@ pub room : {X : Type 0} (job machine from to : X → ℕ) (test : ℕ → Bool) 
     → total_below n (λ j. cond (test j) (work_of job from to xs j) 0) ≤ m * (b - a)
 room {X} job machine from to test m n a b xs jobs machines apart inside =
     le_by (work_by_job job from to test n xs jobs) (sum_by-by_key_filter machine (size_of from to) m chosen (All-filter passes (λ q. machine q < m) xs machines))
-    (total_below-bound m (b - a) (λ μ. sum_by (size_of from to) (filter (λ q. eqb (machine q) μ) chosen)) (λ μ l. packed from to a b _ (apart_on_each machine from to μ chosen (AllPairs-filter (IsApartOn machine from to) passes xs apart)) (All-filter (λ q. eqb (machine q) μ) (λ q. (a ≤ from q) × (to q ≤ b)) chosen within)))
+    (total_below-bound m (b - a) (λ μ. sum_by (size_of from to) (filter (λ q. eqb (machine q) μ) chosen)) (λ μ l. packed from to a b
+    _ (apart_on_each machine from to μ chosen (AllPairs-filter (IsApartOn machine from to) passes xs apart)) (All-filter (λ q. eqb (machine q) μ) (λ q. (a ≤ from q) × (to q ≤ b)) chosen within)))
   where
     passes : X → Bool
     passes q = test (job q)
@@ -169,7 +175,8 @@ abbrev pub last_of : {X : Type 0} → (X → ℕ) → (X → ℕ) → List X →
 last_of job to xs j = greatest_by to (filter (λ q. eqb (job q) j) xs)
 
 pub last_of-bound : {X : Type 0} (job to : X → ℕ) (xs : List X) → All (λ q. to q ≤ last_of job to xs (job q)) xs
-last_of-bound {X} job to xs k d l = greatest_by-contains to (filter mine xs) (get_or xs k d) (Contains-filter mine xs (get_or xs k d) (Contains-get_or xs k d l) (eq-eqb (job (get_or xs k d)) (job (get_or xs k d)) refl))
+last_of-bound {X} job to xs k d l =
+    greatest_by-contains to (filter mine xs) (get_or xs k d) (Contains-filter mine xs (get_or xs k d) (Contains-get_or xs k d l) (eq-eqb (job (get_or xs k d)) (job (get_or xs k d)) refl))
   where
     mine : X → Bool
     mine q = eqb (job q) (job (get_or xs k d))
@@ -221,7 +228,8 @@ greatest_below-reached zero f h = absurd (omega arith)
 greatest_below-reached (suc zero) f h = (0, omega arith, omega arith)
 greatest_below-reached (suc (suc n)) f h = by (leb (greatest_below (suc n) f) (f (suc n))) refl (greatest_below-reached (suc n) f (omega arith))
   where
-    by : (b : Bool) → leb (greatest_below (suc n) f) (f (suc n)) ≡ b → (i : ℕ) × (i < suc n) × (f i ≡ greatest_below (suc n) f) → (i : ℕ) × (i < suc (suc n)) × (f i ≡ max (greatest_below (suc n) f) (f (suc n)))
+    by : (b : Bool) → leb (greatest_below (suc n) f) (f (suc n)) ≡ b
+        → (i : ℕ) × (i < suc n) × (f i ≡ greatest_below (suc n) f) → (i : ℕ) × (i < suc (suc n)) × (f i ≡ max (greatest_below (suc n) f) (f (suc n)))
     by true e later = (suc n, omega arith, right (greatest_below (suc n) f) (f (suc n)) (leb-true _ _ e))
       where
         right : (a b : ℕ) → a ≤ b → b ≡ max a b
@@ -240,8 +248,15 @@ pub law_of_ends : {X : Type 0} (job machine from to : X → ℕ) (test : ℕ →
     → (i : ℕ) × (i < n) × (test i ≡ true) × ((k : ℕ) → k < n → test k ≡ true → last k ≤ last i) × (a < last i) × (total_below n (λ j. cond (test j) (work_of job from to xs j) 0) ≤ m * (last i - a))
 law_of_ends {X} job machine from to test last m n a xs jobs machines apart begin ends some =
     let (i, l, e) = greatest_below-reached n ended (omega (arith, (total_below-some n (λ j. cond (test j) (work_of job from to xs j) 0) some).1)) in
-    let (t, s) = passed (test i) (last i) e in
-    (i, l, t, (λ k l' p. omega (arith, greatest_below-bound n ended k l', cond-yes (last k) p, s)), omega (arith, after, s), subst (λ b. total_below n (λ j. cond (test j) (work_of job from to xs j) 0) ≤ m * (b - a)) (sym s) bound)
+    let (t, s) = passed (test i) (last i) e in (
+      i,
+      l,
+      t,
+      (λ k l' p. omega (arith, greatest_below-bound n ended k l', cond-yes (last k) p, s)),
+      omega
+          (arith, after, s),
+      subst (λ b. total_below n (λ j. cond (test j) (work_of job from to xs j) 0) ≤ m * (b - a)) (sym s) bound,
+    )
   where
     ended : ℕ → ℕ
     ended j = cond (test j) (last j) 0
@@ -250,7 +265,8 @@ law_of_ends {X} job machine from to test last m n a xs jobs machines apart begin
     most = greatest_below n ended
 
     bound : total_below n (λ j. cond (test j) (work_of job from to xs j) 0) ≤ m * (most - a)
-    bound = room job machine from to test m n a most xs jobs machines apart (λ k d l p. (begin k d l p, omega (arith, ends k d l, greatest_below-bound n ended (job (get_or xs k d)) (jobs k d l), cond-yes (last (job (get_or xs k d))) p)))
+    bound = room job machine from to test m n a most xs jobs machines apart
+        (λ k d l p. (begin k d l p, omega (arith, ends k d l, greatest_below-bound n ended (job (get_or xs k d)) (jobs k d l), cond-yes (last (job (get_or xs k d))) p)))
 
     after : a < most
     after = by (leb most a) refl

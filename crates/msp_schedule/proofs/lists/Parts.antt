@@ -23,4 +23,5 @@ AllPairs-back R (x ∷ xs) ys h = AllPairs-back R xs ys (AllPairs-tail R x (xs +
 -- each is related to the last one
 pub AllPairs-last : {X : Type 0} (R : X → X → Type 0) (xs : List X) (x : X) → AllPairs R (xs ++ x ∷ []) → All (λ y. R y x) xs
 AllPairs-last R [] x h = All-nil (λ y. R y x)
-AllPairs-last R (y ∷ ys) x h = All-cons (λ z. R z x) y ys (All-head (R y) x [] (All-back (R y) ys (x ∷ []) (AllPairs-head R y (ys ++ x ∷ []) h))) (AllPairs-last R ys x (AllPairs-tail R y (ys ++ x ∷ []) h))
+AllPairs-last R (y ∷ ys) x h = All-cons (λ z. R z x)
+    y ys (All-head (R y) x [] (All-back (R y) ys (x ∷ []) (AllPairs-head R y (ys ++ x ∷ []) h))) (AllPairs-last R ys x (AllPairs-tail R y (ys ++ x ∷ []) h))

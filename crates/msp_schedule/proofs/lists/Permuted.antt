@@ -1,5 +1,6 @@
 -- What reordering a list keeps: pairs in a symmetric relation, filters, folds, and feasible schedules with their ends.
-use Rattle.std.proofs.Common.{◌≡◌, ℕ, zero, suc, ◌<◌, Bool, true, false, cond, List, [], ◌∷◌, length, get_or, map, filter, fold, All, AllPairs, IsPermutation, inl, inr, ℤ, pos, ◌+ℤ◌, ◌*ℤ◌, ◌≤ℤ◌, ◌<ℤ◌, refl, sym, ap, subst, ◌∙◌, arith}
+use Rattle.std.proofs.Common.{◌≡◌, ℕ, zero, suc, ◌<◌, Bool, true, false, cond, List, [], ◌∷◌, length, get_or, map, filter, fold, All, AllPairs, IsPermutation, inl, inr, ℤ, pos}
+use Rattle.std.proofs.Common.{◌+ℤ◌, ◌*ℤ◌, ◌≤ℤ◌, ◌<ℤ◌, refl, sym, ap, subst, ◌∙◌, arith}
 use Rattle.std.specs.Prelude.{◌==◌, ◌&&◌, MatchBool}
 use Rattle.std.specs.Int.{int_max}
 use Rattle.std.specs.List.{swap, slice_set}
@@ -58,7 +59,8 @@ module _ {X : Type 0} (R : X → X → Type 0) (both : (x y : X) → R x y → R
     λ h.
         let of_x = AllPairs-head R x (y ∷ xs) h in
         let rest = AllPairs-tail R x (y ∷ xs) h in
-        AllPairs-cons R y (x ∷ xs) (All-cons (R y) x xs (both x y (All-head (R x) y xs of_x)) (AllPairs-head R y xs rest)) (AllPairs-cons R x xs (All-tail (R x) y xs of_x) (AllPairs-tail R y xs rest)),
+        AllPairs-cons R y (x ∷ xs) (All-cons (R y) x xs (both x y (All-head (R x) y xs of_x)) (AllPairs-head R y xs rest))
+        (AllPairs-cons R x xs (All-tail (R x) y xs of_x) (AllPairs-tail R y xs rest)),
   )
 
   pub AllPairs-permutation : (xs ys : List X) → IsPermutation xs ys → AllPairs R xs → AllPairs R ys
@@ -110,7 +112,8 @@ greater_commutes : (a x y : ℤ) → int_max (int_max a x) y ≡ int_max (int_ma
 greater_commutes a x y = grind (arith, ints)
 
 pub last_end-permutation : (ps qs : List Piece) → IsPermutation ps qs → (j : ℕ) → last_end ps j ≡ last_end qs j
-last_end-permutation ps qs h j = fold-permutation int_max greater_commutes (λ p. p.to) (filter (λ p. p.job == j) ps) (filter (λ p. p.job == j) qs) (filter-permutation (λ p. p.job == j) ps qs h) (pos 0)
+last_end-permutation ps qs h j = fold-permutation int_max greater_commutes
+    (λ p. p.to) (filter (λ p. p.job == j) ps) (filter (λ p. p.job == j) qs) (filter-permutation (λ p. p.job == j) ps qs h) (pos 0)
 
 pub twice : (R : Piece → Piece → Type 0) (ps qs : List Piece) → IsPermutation ps qs → All (λ p. All (R p) ps) ps → All (λ p. All (R p) qs) qs
 twice R ps qs h a = All-permutation (λ p. All (R p) qs) ps qs h (λ k d l. All-permutation (R (get_or ps k d)) ps qs h (a k d l))
@@ -131,10 +134,12 @@ module _ (i : Instance) (s t : Schedule) (units : s.unit ≡ t.unit) (h : IsPerm
   mine j o = filter-permutation (λ p. (p.job == j) && (p.op == o)) s.pieces t.pieces h
 
   abbrev Work : Schedule → ℕ → ℕ → Bool → Type 0
-  Work r j o cut = MatchBool cut (total (map (work_of (kind_of i.class.env) i) (pieces_of r j o)) ≡ r.unit *ℤ pos (whole_work (kind_of i.class.env) i j o)) ((p : Piece) × (pieces_of r j o ≡ p ∷ []) × IsWholeWork (kind_of i.class.env) i r.unit p)
+  Work r j o cut = MatchBool cut (total (map (work_of (kind_of i.class.env) i) (pieces_of r j o)) ≡ r.unit *ℤ pos (whole_work (kind_of i.class.env) i j o))
+      ((p : Piece) × (pieces_of r j o ≡ p ∷ []) × IsWholeWork (kind_of i.class.env) i r.unit p)
 
   pub work_permuted : (j o : ℕ) (cut : Bool) → Work s j o cut → Work t j o cut
-  work_permuted j o true w = sym (fold-permutation ◌+ℤ◌ add_commutes (work_of (kind_of i.class.env) i) (pieces_of s j o) (pieces_of t j o) (mine j o) (pos 0)) ∙ w ∙ ap (λ u. u *ℤ pos (whole_work (kind_of i.class.env) i j o)) units
+  work_permuted j o true w = sym (fold-permutation ◌+ℤ◌ add_commutes (work_of (kind_of i.class.env) i) (pieces_of s j o) (pieces_of t j o) (mine j o) (pos 0))
+      ∙ w ∙ ap (λ u. u *ℤ pos (whole_work (kind_of i.class.env) i j o)) units
   work_permuted j o false (p, e, w) = (p, one_left p (pieces_of t j o) (subst (λ l. IsPermutation l (pieces_of t j o)) e (mine j o)), subst (λ u. IsWholeWork (kind_of i.class.env) i u p) units w)
 
   pub Feasible-permutation : Feasible i s → Feasible i t
@@ -144,7 +149,8 @@ module _ (i : Instance) (s t : Schedule) (units : s.unit ≡ t.unit) (h : IsPerm
     place = All-permutation (HasPlace i) s.pieces t.pieces h f.place;
     machine = AllPairs-permutation (λ p q. p.machine ≡ q.machine → IsApart p q) (λ p q a e. apart_both p q (a (sym e))) s.pieces t.pieces h f.machine;
     job = AllPairs-permutation (λ p q. p.job ≡ q.job → IsApart p q) (λ p q a e. apart_both p q (a (sym e))) s.pieces t.pieces h f.job;
-    release = subst (λ u. All (λ p. (u *ℤ pos (job_at i p.job).release) ≤ℤ p.from) t.pieces) units (All-permutation (λ p. (s.unit *ℤ pos (job_at i p.job).release) ≤ℤ p.from) s.pieces t.pieces h f.release);
+    release = subst (λ u. All (λ p. (u *ℤ pos (job_at i p.job).release) ≤ℤ p.from) t.pieces)
+        units (All-permutation (λ p. (s.unit *ℤ pos (job_at i p.job).release) ≤ℤ p.from) s.pieces t.pieces h f.release);
     arc = λ a d l. twice (λ p q. p.job ≡ (get_or i.arcs a d).before → q.job ≡ (get_or i.arcs a d).after → IsBefore p q) s.pieces t.pieces h (f.arc a d l);
     route = route_permuted (kind_of i.class.env) s.pieces t.pieces h f.route;
     work = λ j o l w. work_permuted j o i.class.cut (f.work j o l w);

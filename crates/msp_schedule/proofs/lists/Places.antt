@@ -31,6 +31,7 @@ pub filter-both : {X : Type 0} (p q : X → Bool) (xs : List X) → filter q (fi
 filter-both p q [] = refl
 filter-both p q (x ∷ xs) = by (p x) (filter-both p q xs)
   where
-    by : (b : Bool) → filter q (filter p xs) ≡ filter (λ y. p y && q y) xs → filter q (cond b (x ∷ filter p xs) (filter p xs)) ≡ cond (b && q x) (x ∷ filter (λ y. p y && q y) xs) (filter (λ y. p y && q y) xs)
+    by : (b : Bool) → filter q (filter p xs) ≡ filter (λ y. p y && q y) xs
+        → filter q (cond b (x ∷ filter p xs) (filter p xs)) ≡ cond (b && q x) (x ∷ filter (λ y. p y && q y) xs) (filter (λ y. p y && q y) xs)
     by true e = ap (λ l. cond (q x) (x ∷ l) l) e
     by false e = e

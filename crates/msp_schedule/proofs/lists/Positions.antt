@@ -7,7 +7,8 @@ use Rattle.std.proofs.lemmas.List.Elements.{filter_passes}
 use Rattle.std.proofs.lemmas.List.Kept.{AllPairs-filter}
 use Rattle.std.proofs.lemmas.List.FromFn.{length-range_with_len, get_or-range_with_len}
 use Rattle.msp_class.specs.Sums.{total_below}
-use Rattle.msp_class.proofs.Sums.{cond-yes, cond-no, cond-le, cond-count, sum_by-filter, total_below-mono, total_below-same, total_below-scale, total_below-none, total_below-bound, total_below-term, total_below-tight, total_below-only, total_below-exchange, total_below-range}
+use Rattle.msp_class.proofs.Sums.{cond-yes, cond-no, cond-le, cond-count, sum_by-filter, total_below-mono, total_below-same, total_below-scale, total_below-none, total_below-bound}
+use Rattle.msp_class.proofs.Sums.{total_below-term, total_below-tight, total_below-only, total_below-exchange, total_below-range}
 use Rattle.msp_schedule.specs.Intervals.{IsApart, IsApartOn, size_of}
 use Rattle.msp_schedule.proofs.lists.Intervals.{apart_from_one, packed}
 use Rattle.msp_schedule.proofs.feasible.OneMachine.{both_true}
@@ -103,12 +104,17 @@ module _ (n : ℕ) (machine finish : ℕ → ℕ) where
   module _ (start : ℕ → ℕ) (lasts : (a : ℕ) → a < n → start a < finish a) (apart : (a b : ℕ) → a < n → b < n → a ≢ b → machine a ≡ machine b → IsApart start finish a b) where
     -- of two jobs on a machine, the earlier has the greater position
     earlier : (a b : ℕ) → a < n → b < n → machine a ≡ machine b → finish a < finish b → position_of b < position_of a
-    earlier a b l h on before = total_below-strict n (λ c. cond (holds_up b c) 1 0) (λ c. cond (holds_up a c) 1 0) a l (λ c m. more c (holds_up b c) refl) (omega (arith, cond-yes 1 (holds_up_itself a), not_before (holds_up b a) refl))
+    earlier a b l h on before = total_below-strict n (λ c. cond (holds_up b c) 1 0)
+        (λ c. cond (holds_up a c) 1 0) a l (λ c m. more c (holds_up b c) refl) (omega (arith, cond-yes 1 (holds_up_itself a), not_before (holds_up b a) refl))
       where
         more : (c : ℕ) (t : Bool) → holds_up b c ≡ t → cond (holds_up b c) 1 0 ≤ cond (holds_up a c) 1 0
         more c true e =
             let p = both_true (eqb (machine b) (machine c)) (leb (finish b) (finish c)) e in
-            omega (arith, cond-yes 1 e, cond-yes 1 (both_hold (eq-eqb (machine a) (machine c) (on ∙ eqb-true _ _ p.0)) (le-leb (finish a) (finish c) (omega (arith, leb-true (finish b) (finish c) p.1)))))
+            omega (
+              arith,
+              cond-yes 1 e,
+              cond-yes 1 (both_hold (eq-eqb (machine a) (machine c) (on ∙ eqb-true _ _ p.0)) (le-leb (finish a) (finish c) (omega (arith, leb-true (finish b) (finish c) p.1)))),
+            )
         more c false e = omega (arith, cond-no 1 e)
 
         not_before : (t : Bool) → holds_up b a ≡ t → one_if (holds_up b a) ≡ 0
@@ -130,7 +136,8 @@ module _ (n : ℕ) (machine finish : ℕ → ℕ) where
     pub ends_after : (b : ℕ) → b < n → total_below n (λ a. cond (holds_up a b) (finish a - start a) 0) ≤ finish b
     ends_after b h =
         subst (λ t. t ≤ finish b) (sum_by-filter (size_of start finish) test (range_with_len 0 n) ∙ total_below-range n (λ a. cond (holds_up a b) (finish a - start a) 0))
-        (no_less (packed start finish 0 (finish b) chosen (apart_from_one machine start finish (machine b) chosen on (AllPairs-filter (IsApartOn machine start finish) test (range_with_len 0 n) each)) inside))
+        (no_less (packed start finish 0 (finish b) chosen
+        (apart_from_one machine start finish (machine b) chosen on (AllPairs-filter (IsApartOn machine start finish) test (range_with_len 0 n) each)) inside))
       where
         test : ℕ → Bool
         test a = holds_up a b
@@ -145,10 +152,12 @@ module _ (n : ℕ) (machine finish : ℕ → ℕ) where
         on k d l = let a = get_or chosen k d in eqb-true (machine a) (machine b) (both_true (eqb (machine a) (machine b)) (leb (finish a) (finish b)) (filter_passes test (range_with_len 0 n) k d l)).0
 
         inside : All (λ a. (0 ≤ start a) × (finish a ≤ finish b)) chosen
-        inside k d l = let a = get_or chosen k d in (omega arith, leb-true (finish a) (finish b) (both_true (eqb (machine a) (machine b)) (leb (finish a) (finish b)) (filter_passes test (range_with_len 0 n) k d l)).1)
+        inside k d l = let a = get_or chosen k d in
+            (omega arith, leb-true (finish a) (finish b) (both_true (eqb (machine a) (machine b)) (leb (finish a) (finish b)) (filter_passes test (range_with_len 0 n) k d l)).1)
 
         each : AllPairs (IsApartOn machine start finish) (range_with_len 0 n)
-        each i j d l m = by i j _ _ l (omega (arith, length-range_with_len 0 n)) (get_or-range_with_len 0 n i d (omega (arith, length-range_with_len 0 n))) (get_or-range_with_len 0 n j d (omega (arith, length-range_with_len 0 n)))
+        each i j d l m = by i j _ _ l (omega (arith, length-range_with_len 0 n)) (get_or-range_with_len 0 n i d (omega (arith, length-range_with_len 0 n)))
+            (get_or-range_with_len 0 n j d (omega (arith, length-range_with_len 0 n)))
           where
             by : (i j x y : ℕ) → i < j → j < n → x ≡ 0 + i → y ≡ 0 + j → IsApartOn machine start finish x y
             by i j x y l m e g = apart x y (omega arith) (omega arith) (λ q. omega arith)
@@ -160,7 +169,8 @@ module _ (n : ℕ) (machine finish : ℕ → ℕ) where
         (total_below-mono n (λ b. total_below n (λ a. cond (holds_up a b) (finish a - start a) 0)) finish ends_after)
       where
         one : (a : ℕ) → (finish a - start a) * position_of a ≡ total_below n (λ b. cond (holds_up a b) (finish a - start a) 0)
-        one a = sym (total_below-same n _ (λ b. (finish a - start a) * cond (holds_up a b) 1 0) (λ b l. cond-count (holds_up a b) (finish a - start a)) ∙ total_below-scale n (finish a - start a) (λ b. cond (holds_up a b) 1 0))
+        one a = sym (total_below-same n _ (λ b. (finish a - start a) * cond (holds_up a b) 1 0) (λ b l. cond-count (holds_up a b) (finish a - start a))
+            ∙ total_below-scale n (finish a - start a) (λ b. cond (holds_up a b) 1 0))
 
         turned : total_below n (λ a. (finish a - start a) * position_of a) ≡ total_below n (λ b. total_below n (λ a. cond (holds_up a b) (finish a - start a) 0))
         turned = total_below-same n _ _ (λ a l. one a) ∙ total_below-exchange n n (λ a b. cond (holds_up a b) (finish a - start a) 0)

@@ -20,6 +20,7 @@ range-next new old k e so_far =
     e ∙ ap (λ l. l ++ k ∷ []) so_far ∙ ap (λ n. range_with_len 0 k ++ n ∷ []) place ∙ sym (range_with_len_last 0 k) ∙ ap (range_with_len 0) back
 
 -- one more item, whose number is k
-pub numbers-next : {X : Type 0} (number : X → ℕ) (new old : List X) (x : X) (k : ℕ) → new ≡ old ++ x ∷ [] → number x ≡ k → map number old ≡ range_with_len 0 k → map number new ≡ range_with_len 0 (k + 1)
+pub numbers-next : {X : Type 0} (number : X → ℕ) (new old : List X) (x : X) (k : ℕ)
+    → new ≡ old ++ x ∷ [] → number x ≡ k → map number old ≡ range_with_len 0 k → map number new ≡ range_with_len 0 (k + 1)
 numbers-next number new old x k e is so_far =
     range-next (map number new) (map number old) k (ap (map number) e ∙ map-append number old (x ∷ []) ∙ ap (λ n. map number old ++ n ∷ []) is) so_far

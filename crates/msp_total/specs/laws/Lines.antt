@@ -12,9 +12,11 @@ positions-whole jobs machines = omega arith
 pub position_cost_at : (jobs machines : ℕ) (times : List ℕ) (r l k : ℕ) → k < jobs → position_cost jobs machines times r (l * jobs + k) ≡ pos ((k + 1) * time_in machines times r l)
 position_cost_at jobs machines times r l k h = ap₂ (λ y z. pos ((y + 1) * time_in machines times r z)) (digits_mod l h) (digits_div l h)
 
-pub positions-rise : (jobs machines : ℕ) (times : List ℕ) (r l j k : ℕ) → l < machines → j ≤ k → k < jobs → position_cost jobs machines times r (l * jobs + j) ≤ℤ position_cost jobs machines times r (l * jobs + k)
+pub positions-rise : (jobs machines : ℕ) (times : List ℕ) (r l j k : ℕ)
+    → l < machines → j ≤ k → k < jobs → position_cost jobs machines times r (l * jobs + j) ≤ℤ position_cost jobs machines times r (l * jobs + k)
 positions-rise jobs machines times r l j k a b c =
-    subst₂ (λ x y. x ≤ℤ y) (sym (position_cost_at jobs machines times r l j (omega (arith, b, c)))) (sym (position_cost_at jobs machines times r l k c)) (pos-le (mul-le-mul_right (time_in machines times r l) (more j k b)))
+    subst₂ (λ x y. x ≤ℤ y) (sym (position_cost_at jobs machines times r l j (omega (arith, b, c))))
+    (sym (position_cost_at jobs machines times r l k c)) (pos-le (mul-le-mul_right (time_in machines times r l) (more j k b)))
   where
     more : (x y : ℕ) → x ≤ y → x + 1 ≤ y + 1
     more x y h = omega arith

@@ -1,5 +1,6 @@
 -- The rows between intrees and outtrees by exchange: the instances at both ends are each other's exchange.
-use Rattle.std.proofs.Common.{◌≡◌, ℕ, ◌*◌, ◌<◌, ◌≤◌, false, List, [], ◌∷◌, reverse, length, get_or, map, All, AllPairs, Contains, pos, nat_abs, ◌-ℤ◌, ◌≤ℤ◌, Some, unwrap_or, refl, sym, ap, subst, subst₂, ◌∙◌, arith}
+use Rattle.std.proofs.Common.{◌≡◌, ℕ, ◌*◌, ◌<◌, ◌≤◌, false, List, [], ◌∷◌, reverse, length, get_or, map, All, AllPairs, Contains, pos, nat_abs, ◌-ℤ◌, ◌≤ℤ◌, Some, unwrap_or, refl}
+use Rattle.std.proofs.Common.{sym, ap, subst, subst₂, ◌∙◌, arith}
 use Rattle.std.specs.Prelude.{slice_index_or}
 use Rattle.std.specs.List.{range_with_len}
 use Rattle.std.proofs.lemmas.Bool.{eqb-true, and_parts}
@@ -21,7 +22,7 @@ use Rattle.msp_class.proofs.EnvNumbers.{env_number-injective}
 use Rattle.msp_class.proofs.RankLemmas.{flag_number-injective, order_number-injective, times_number-injective, crit_number-injective}
 use Rattle.msp_class.proofs.IntegerRing.{natural}
 use Rattle.msp_class.proofs.Sums.{OnceBelow}
-use Rattle.msp_instance.specs.declared.ranges.TheConstants.{GREATEST}
+use Rattle.msp_class.specs.declared.sizes.TheConstants.{GREATEST}
 use Rattle.msp_instance.specs.declared.Need.{Need}
 use Rattle.msp_instance.specs.declared.Job.{Job}
 use Rattle.msp_instance.specs.declared.Instance.{Instance}
@@ -32,7 +33,7 @@ use Rattle.msp_schedule.specs.Feasible.{Feasible}
 use Rattle.msp_schedule.specs.Cost.{end_of}
 use Rattle.msp_schedule.proofs.feasible.Frames.{job_at-map, no_heads}
 use Rattle.msp_schedule.proofs.changes.Mirror.{turned_arcs as arcs_turned, turned_back}
-use Rattle.msp_schedule.specs.Rows.{time_at}
+use Rattle.msp_schedule.specs.BackToBack.{time_at}
 use Rattle.msp_schedule.specs.LineUp.{lined_up, sorted_by, order_of_ends}
 use Rattle.msp_schedule.proofs.changes.LineUp.{IsLine, order_of_ends-once, order_of_ends-rises}
 use Rattle.msp_schedule.proofs.changes.Exchange.{Exchanges, Feasible-exchanged, cost-exchanged}
@@ -69,7 +70,12 @@ module _ (from : Order) (i : Instance) (class : IsExchangeClass from i.class) (i
       let shape = subst (λ e. Shape_in i.machines e a.needs) class.env h.needs.shape in
       let times = subst₂ (λ e t. Times_in e t a.needs) class.env class.times h.needs.times in
       let time = times 0 no_need (omega (arith, shape.0)) in
-      record { single = shape.0; machine = shape.1 0 no_need (omega (arith, shape.0)); time = (time.0, omega (arith, time.1)); weight = subst (λ c. HasWeight (uses_weight c) a.weight) class.crit h.weight }
+      record {
+        single = shape.0;
+        machine = shape.1 0 no_need (omega (arith, shape.0));
+        time = (time.0, omega (arith, time.1));
+        weight = subst (λ c. HasWeight (uses_weight c) a.weight) class.crit h.weight;
+      }
 
   abbrev other : Instance
   other = turned_with i i.class.heads i.class.crit (map exchanged_job i.jobs)
@@ -80,7 +86,8 @@ module _ (from : Order) (i : Instance) (class : IsExchangeClass from i.class) (i
       record {
         needs = record {
           shape = subst (λ e. Shape_in i.machines e (need ∷ [])) (sym class.env) (refl, All-cons (λ n. n.machine ≡ 0) need [] refl (All-nil (λ n. n.machine ≡ 0)));
-          times = subst₂ (λ e t. Times_in e t (need ∷ [])) (sym class.env) (sym class.times) (All-cons (λ n. (1 ≤ n.time) × (n.time ≤ GREATEST * 1)) need [] (x.weight.0, omega (arith, x.weight.1)) (All-nil (λ n. (1 ≤ n.time) × (n.time ≤ GREATEST * 1))));
+          times = subst₂ (λ e t. Times_in e t (need ∷ [])) (sym class.env) (sym class.times)
+              (All-cons (λ n. (1 ≤ n.time) × (n.time ≤ GREATEST * 1)) need [] (x.weight.0, omega (arith, x.weight.1)) (All-nil (λ n. (1 ≤ n.time) × (n.time ≤ GREATEST * 1))));
           some = (0, need, omega arith, refl, x.weight.0);
         };
         times = subst (λ t. HasSameTimes t (common_time other) (need ∷ [])) (sym class.times) tt;
@@ -94,11 +101,13 @@ module _ (from : Order) (i : Instance) (class : IsExchangeClass from i.class) (i
   same_due k l = ap (λ a. a.due) (job_at-map i other exchanged_job refl k (omega (arith, length-map i.jobs exchanged_job)))
 
   near : HasNearDues (2 * GREATEST * inner_factor (kind_of i.class.env)) other
-  near j k a b = subst₂ (λ x y. (x -ℤ y) ≤ℤ pos (2 * GREATEST * inner_factor (kind_of i.class.env))) (sym (same_due j a)) (sym (same_due k b)) (inner.dues j k (omega (arith, length-map i.jobs exchanged_job)) (omega (arith, length-map i.jobs exchanged_job)))
+  near j k a b = subst₂ (λ x y. (x -ℤ y) ≤ℤ pos (2 * GREATEST * inner_factor (kind_of i.class.env))) (sym (same_due j a))
+      (sym (same_due k b)) (inner.dues j k (omega (arith, length-map i.jobs exchanged_job)) (omega (arith, length-map i.jobs exchanged_job)))
 
   pub Inner-exchanged : Inner other
   Inner-exchanged = Inner-turned i i.class.heads i.class.crit (map exchanged_job i.jobs) (length-map i.jobs exchanged_job)
-      (All-map (IsJobOf (inner_limits (kind_of i.class.env)) other) exchanged_job i.jobs (λ k d l. exchanged_own (get_or i.jobs k d) (exchangeable_jobs k d l) (inner.conditions.jobs k d l))) near inner
+      (All-map (IsJobOf (inner_limits (kind_of i.class.env)) other) exchanged_job i.jobs (λ k d l. exchanged_own (get_or i.jobs k d) (exchangeable_jobs k d l) (inner.conditions.jobs k d l)))
+      near inner
 
 -- ---- instances that are each other's exchange
 abbrev pub Exchanged : Instance → Instance → Type 0
@@ -130,7 +139,8 @@ exchanges i j jobs arcs = (
     weight k l = ap (λ a. a.weight) (job_at-map i j exchanged_job jobs k l)
 
 -- from the last end to the first: for the exchange it is feasible and costs no more
-pub from_last-no_dearer : (i j : Instance) → IsLine i → IsLine j → Exchanges i j → i.class.crit ≡ SumWC → j.class.crit ≡ SumWC → ((k : ℕ) → k < length j.jobs → (job_at j k).release ≡ 0) → (s : Schedule) → Feasible i s → IsNoDearer i j s (from_last j s)
+pub from_last-no_dearer : (i j : Instance) → IsLine i → IsLine j → Exchanges i j → i.class.crit ≡ SumWC
+    → j.class.crit ≡ SumWC → ((k : ℕ) → k < length j.jobs → (job_at j k).release ≡ 0) → (s : Schedule) → Feasible i s → IsNoDearer i j s (from_last j s)
 from_last-no_dearer i j line other x c e heads s f = record {
   feasible = Feasible-exchanged i j line other x s f order once rises heads;
   unit = sym (natural s.unit (omega (arith, ints, f.unit)));
@@ -159,11 +169,16 @@ pub record IsExchange (row : ℕ) (i j : Instance) : Type 0 where
   pub crit_below : j.class.crit ≡ SumWC
   pub jobs : All IsExchangeable i.jobs
 
-exchange_of_trees : (row : ℕ) (from to : Order) (i : Instance) → turned from ≡ to → IsExchangeClass from i.class → goes_of row i.class ≡ Some (record i.class { order = to }) → Inner i → IsExchange row i (exchanged row i)
+exchange_of_trees : (row : ℕ) (from to : Order) (i : Instance) → turned from ≡ to
+    → IsExchangeClass from i.class → goes_of row i.class ≡ Some (record i.class { order = to }) → Inner i → IsExchange row i (exchanged row i)
 exchange_of_trees row from to i e t g inner =
     let j : Instance = record i { class = record i.class { order = to }; jobs = map exchanged_job i.jobs; arcs = turned_arcs i.arcs } in
     subst (λ o. IsExchange row i (record i { class = unwrap_or o i.class; jobs = map exchanged_job i.jobs; arcs = turned_arcs i.arcs })) (sym g) (record {
-      lower = record { inner = subst (λ o. Inner (record i { class = record i.class { order = o }; jobs = map exchanged_job i.jobs; arcs = turned_arcs i.arcs })) (ap turned t.order ∙ e) (Inner-exchanged from i t inner); class = g };
+      lower = record {
+        inner = subst (λ o. Inner (record i { class = record i.class { order = o }; jobs = map exchanged_job i.jobs; arcs = turned_arcs i.arcs }))
+            (ap turned t.order ∙ e) (Inner-exchanged from i t inner);
+        class = g;
+      };
       env = t.env;
       env_below = t.env;
       exchange = exchanges i j refl refl;
@@ -179,10 +194,12 @@ module _ (row : ℕ) (i j : Instance) (x : IsExchange row i j) (inner : Inner i)
   no_heads_in k h e = no_heads (inner_limits (kind_of k.class.env)) k e h.conditions
 
   pub IsForth-exchanged : (s : Schedule) → IsForth same_costs i j s (from_last j s)
-  IsForth-exchanged s = forth_from i j s (from_last j s) (from_last-no_dearer i j (line_of i x.env inner) (line_of j x.env_below x.lower.inner) x.exchange.0 x.crit x.crit_below (no_heads_in j x.lower.inner x.heads_below) s)
+  IsForth-exchanged s = forth_from i j s (from_last j s)
+      (from_last-no_dearer i j (line_of i x.env inner) (line_of j x.env_below x.lower.inner) x.exchange.0 x.crit x.crit_below (no_heads_in j x.lower.inner x.heads_below) s)
 
   pub IsBack-exchanged : (t : Schedule) → IsBack same_costs i j t (from_last i t)
-  IsBack-exchanged t = back_from i j t (from_last i t) (from_last-no_dearer j i (line_of j x.env_below x.lower.inner) (line_of i x.env inner) x.exchange.1 x.crit_below x.crit (no_heads_in i inner x.heads) t)
+  IsBack-exchanged t = back_from i j t (from_last i t)
+      (from_last-no_dearer j i (line_of j x.env_below x.lower.inner) (line_of i x.env inner) x.exchange.1 x.crit_below x.crit (no_heads_in i inner x.heads) t)
 
   -- the order of the ends is that below
   pub from_last-below : (t : Schedule) → from_last i t ≡ lined_up i (nat_abs t.unit) (reverse (order_of_ends j t))

@@ -125,7 +125,8 @@ shaped : (i : Instance) → Inner i → IsShaped i
 shaped i inner = IsShaped-from_conditions (inner_limits (kind_of i.class.env)) i inner.conditions
 
 pub uncut_serves : (cut : Bool) (i : Instance) → i.class.env ≡ One → i.class.cut ≡ false → Inner i → (s : Schedule) → Feasible i s → Feasible (recut cut i) s
-uncut_serves cut i one e inner s f = Feasible-served_by i (recut cut i) s Identical Identical (ap kind_of one) (ap kind_of one) (shaped i inner) (shaped (recut cut i) (Inner-recut cut i inner)) (serves_recut cut i e) f
+uncut_serves cut i one e inner s f =
+    Feasible-served_by i (recut cut i) s Identical Identical (ap kind_of one) (ap kind_of one) (shaped i inner) (shaped (recut cut i) (Inner-recut cut i inner)) (serves_recut cut i e) f
 
 -- ---- lined up by ends: for an instance with the same jobs and arcs, it is feasible and costs no more
 pub record IsNoDearer (i j : Instance) (s t : Schedule) : Type 0 where
@@ -133,7 +134,8 @@ pub record IsNoDearer (i j : Instance) (s t : Schedule) : Type 0 where
   pub unit : t.unit ≡ s.unit
   pub cost : cost_of j t ≤ℤ cost_of i s
 
-pub lined_by_ends : (i j : Instance) → IsLine i → IsLine j → SameLine i j → SameCharges i j → ((k : ℕ) → k < length j.jobs → (job_at j k).release ≡ 0) → (s : Schedule) → Feasible i s → IsNoDearer i j s (lined_up j (nat_abs s.unit) (order_of_ends i s))
+pub lined_by_ends : (i j : Instance) → IsLine i → IsLine j → SameLine i j → SameCharges i j → ((k : ℕ) → k < length j.jobs → (job_at j k).release ≡ 0)
+    → (s : Schedule) → Feasible i s → IsNoDearer i j s (lined_up j (nat_abs s.unit) (order_of_ends i s))
 lined_by_ends i j line other same charges heads s f = record {
   feasible = Feasible-lined_up j other (nat_abs s.unit) (omega (arith, ints, f.unit)) order (subst (λ n. OnceBelow n order) same.count once) heads
       (subst (λ l. AllPairs (MayPrecede l) order) same.arcs (forward_by_ends i line s f order once rises))
@@ -202,7 +204,8 @@ pub lower_49 : (i : Instance) → Inner i → Applies 49 i → IsLower 49 i (led
 lower_49 i inner h = let r = Recuts-49 i h in subst (IsLower 49 i) (sym (led-recut 49 false i r)) (IsLower-recut 49 false i r inner)
 
 pub forth_49 : (i : Instance) (s : Schedule) → Inner i → Applies 49 i → IsForth same_costs i (led 49 i) s (by_ends i s)
-forth_49 i s inner h = let r = Recuts-49 i h in forth_from i (led 49 i) s (by_ends i s) (subst (λ j. Feasible i s → IsNoDearer i j s (by_ends i s)) (sym (led-recut 49 false i r)) (by_ends-down 49 false i r inner s))
+forth_49 i s inner h = let r = Recuts-49 i h in
+    forth_from i (led 49 i) s (by_ends i s) (subst (λ j. Feasible i s → IsNoDearer i j s (by_ends i s)) (sym (led-recut 49 false i r)) (by_ends-down 49 false i r inner s))
 
 pub back_49 : (i : Instance) (t : Schedule) → Inner i → Applies 49 i → IsBack same_costs i (led 49 i) t t
 back_49 i t inner h = let r = Recuts-49 i h in back_from i (led 49 i) t t (subst (λ j. Feasible j t → IsNoDearer j i t t) (sym (led-recut 49 false i r)) (same_up 49 false i r inner refl t))
@@ -214,4 +217,5 @@ pub forth_50 : (i : Instance) (s : Schedule) → Inner i → Applies 50 i → Is
 forth_50 i s inner h = let r = Recuts-50 i h in forth_from i (led 50 i) s s (subst (λ j. Feasible i s → IsNoDearer i j s s) (sym (led-recut 50 true i r)) (same_down 50 true i r inner r.was s))
 
 pub back_50 : (i : Instance) (t : Schedule) → Inner i → Applies 50 i → IsBack same_costs i (led 50 i) t (by_ends i t)
-back_50 i t inner h = let r = Recuts-50 i h in back_from i (led 50 i) t (by_ends i t) (subst (λ j. Feasible j t → IsNoDearer j i t (by_ends i t)) (sym (led-recut 50 true i r)) (by_ends-up 50 true i r inner t))
+back_50 i t inner h = let r = Recuts-50 i h in
+    back_from i (led 50 i) t (by_ends i t) (subst (λ j. Feasible j t → IsNoDearer j i t (by_ends i t)) (sym (led-recut 50 true i r)) (by_ends-up 50 true i r inner t))

@@ -1,5 +1,6 @@
 -- The rows that read schedules from their end, and in which release dates and due dates take each other's places.
-use Rattle.std.proofs.Common.{◌≡◌, ℕ, suc, ◌*◌, ◌<◌, ◌≤◌, Bool, true, false, List, [], ◌∷◌, length, get_or, map, fold, All, Contains, inl, inr, ℤ, pos, negsuc, neg_ℤ, ◌+ℤ◌, ◌-ℤ◌, ◌*ℤ◌, ◌≤ℤ◌, Some, unwrap_or, refl, sym, ap, subst, subst₂, ◌∙◌, arith}
+use Rattle.std.proofs.Common.{◌≡◌, ℕ, suc, ◌*◌, ◌<◌, ◌≤◌, Bool, true, false, List, [], ◌∷◌, length, get_or, map, fold, All, Contains, inl, inr, ℤ, pos, negsuc, neg_ℤ, ◌+ℤ◌, ◌-ℤ◌}
+use Rattle.std.proofs.Common.{◌*ℤ◌, ◌≤ℤ◌, Some, unwrap_or, refl, sym, ap, subst, subst₂, ◌∙◌, arith}
 use Rattle.std.specs.Prelude.{unsigned_abs}
 use Rattle.std.specs.Int.{int_max}
 use Rattle.std.proofs.lemmas.Bool.{eqb-true, and_parts}
@@ -15,7 +16,7 @@ use Rattle.msp_class.specs.Order.{turned}
 use Rattle.msp_class.specs.Crit.{is_greatest, uses_due, uses_weight, uses_curve}
 use Rattle.msp_class.proofs.RankLemmas.{flag_number-injective, crit_number-injective}
 use Rattle.msp_class.proofs.IntegerRing.{zero-*ℤ, *ℤ-neg, *ℤ-sub, *ℤ_comm, le-pos}
-use Rattle.msp_instance.specs.declared.ranges.TheConstants.{GREATEST}
+use Rattle.msp_class.specs.declared.sizes.TheConstants.{GREATEST}
 use Rattle.msp_instance.specs.declared.Job.{Job}
 use Rattle.msp_instance.specs.declared.Instance.{Instance}
 use Rattle.msp_instance.specs.Instance.{no_job, job_at}
@@ -55,7 +56,8 @@ module _ (i : Instance) (h : Bool) (from to : Crit) (f : Job → Job) (keeps : (
   abbrev HasDates : Job → Type 0
   HasDates a = HasRelease (limits_of i) h (f a).release × HasDue (limits_of i) (uses_due to) (f a).due
 
-  IsJobOf-dated : i.class.crit ≡ from → uses_weight from ≡ uses_weight to → uses_curve from ≡ uses_curve to → 0 < length i.jobs → (a : Job) → HasDates a → IsJobOf (limits_of i) i a → IsJobOf (limits_of i) below (f a)
+  IsJobOf-dated : i.class.crit ≡ from → uses_weight from ≡ uses_weight to
+      → uses_curve from ≡ uses_curve to → 0 < length i.jobs → (a : Job) → HasDates a → IsJobOf (limits_of i) i a → IsJobOf (limits_of i) below (f a)
   IsJobOf-dated e w c some a dated own = subst (IsJobOf (limits_of i) below) (sym (keeps a)) (record {
     needs = record { shape = own.needs.shape; times = own.needs.times; some = own.needs.some };
     times = subst (λ t. HasSameTimes i.class.times t a.needs) (sym (common_time-map i below f refl (λ b. ap (λ x. x.needs) (keeps b)) some)) own.times;
@@ -68,7 +70,8 @@ module _ (i : Instance) (h : Bool) (from to : Crit) (f : Job → Job) (keeps : (
   pub Inner-dated : i.class.crit ≡ from → uses_weight from ≡ uses_weight to → uses_curve from ≡ uses_curve to → ((k : ℕ) → k < length i.jobs → HasDates (job_at i k)) →
       ((j k : ℕ) → j < length i.jobs → k < length i.jobs → ((f (job_at i j)).due -ℤ (f (job_at i k)).due) ≤ℤ pos (dates i)) → Inner i → Inner below
   Inner-dated e w c dated close inner = Inner-turned i h to jobs (length-map i.jobs f)
-      (All-map (IsJobOf (limits_of i) below) f i.jobs (λ k d l. let own = inner.conditions.jobs k d l in IsJobOf-dated e w c inner.conditions.some (get_or i.jobs k d) (subst HasDates (get_or_default i.jobs k no_job d l) (dated k l)) own))
+      (All-map (IsJobOf (limits_of i) below) f i.jobs
+      (λ k d l. let own = inner.conditions.jobs k d l in IsJobOf-dated e w c inner.conditions.some (get_or i.jobs k d) (subst HasDates (get_or_default i.jobs k no_job d l) (dated k l)) own))
       near inner
     where
       near : (j k : ℕ) → j < length jobs → k < length jobs → ((job_at below j).due -ℤ (job_at below k).due) ≤ℤ pos (dates i)
@@ -88,8 +91,10 @@ module _ (i : Instance) (h : Bool) (from to : Crit) (f : Job → Job) (keeps : (
     arcs_back = turned_back i.arcs;
     greatest = great;
     greatest_below = great_below;
-    charge = λ k l unit x. subst (λ a. (job_cost i.class.crit unit (job_at i k) x +ℤ (addend *ℤ unit)) ≡ (x +ℤ (unit *ℤ pos a.release))) (sym (job_at-map i below f refl k l)) (up (job_at i k) unit x k l refl);
-    charge_below = λ k l unit x. subst (λ a. (job_cost to unit a x +ℤ (pos 0 *ℤ unit)) ≡ (x +ℤ (unit *ℤ pos (job_at i k).release))) (sym (job_at-map i below f refl k l)) (down (job_at i k) unit x k l refl);
+    charge = λ k l unit x. subst (λ a. (job_cost i.class.crit unit (job_at i k) x +ℤ (addend *ℤ unit)) ≡ (x +ℤ (unit *ℤ pos a.release)))
+        (sym (job_at-map i below f refl k l)) (up (job_at i k) unit x k l refl);
+    charge_below = λ k l unit x. subst (λ a. (job_cost to unit a x +ℤ (pos 0 *ℤ unit)) ≡ (x +ℤ (unit *ℤ pos (job_at i k).release)))
+        (sym (job_at-map i below f refl k l)) (down (job_at i k) unit x k l refl);
   }
 
 -- ---- release dates become due dates

@@ -45,7 +45,8 @@ record IsTurnedTree (from : Order) (c : Class) : Type 0 where
   heads : c.heads ≡ false
   crit : c.crit ≡ Cmax
 
-reversal_of_trees : (row : ℕ) (from to : Order) (i : Instance) → turned from ≡ to → IsTurnedTree from i.class → goes_of row i.class ≡ Some (record i.class { order = to }) → Inner i → IsReversal row (pos 0) i (led_turned row i)
+reversal_of_trees : (row : ℕ) (from to : Order) (i : Instance) → turned from ≡ to
+    → IsTurnedTree from i.class → goes_of row i.class ≡ Some (record i.class { order = to }) → Inner i → IsReversal row (pos 0) i (led_turned row i)
 reversal_of_trees row from to i e t g inner =
     subst (λ o. IsReversal row (pos 0) i (record i { class = unwrap_or o i.class; arcs = turned_arcs i.arcs })) (sym g) (record {
       none = λ t. none;

@@ -5,29 +5,37 @@ use Rattle.msp_assign.proofs.Views.{HasCosts-read}
 use Rattle.msp_assign.proofs.assignment.priced.Goals as goal
 
 pub invariant_of-view-clause-inside : goal.invariant_of-view-clause-inside
-invariant_of-view-clause-inside g c = subst (AreInside (g.L.Lines.line_count c.args.costs.now) (g.L.Lines.line_length c.args.costs.now)) (sym c.as_slice-columns.ensures.value) c.in_ok-placement.ensures.view.inside
+invariant_of-view-clause-inside g c =
+    subst (AreInside (g.L.Lines.line_count c.args.costs.now) (g.L.Lines.line_length c.args.costs.now)) (sym c.as_slice-columns.ensures.value) c.in_ok-placement.ensures.view.inside
 
 pub row_prices-requires-clause-costs : goal.row_prices-requires-clause-costs
 row_prices-requires-clause-costs g c =
-    HasCosts-read (g.L.Costs.row_count c.args.costs.now) (g.L.Costs.column_count c.args.costs.now) (g.L.Lines.line_count c.args.costs.now) (g.L.Lines.line_length c.args.costs.now) (g.L.Costs.cost c.args.costs.now) _ _ (g.met.L.Lines.whole c.args.costs.now) c.as_slice-columns.ensures.value c.requires.costs c.in_ok-placement.ensures.view.inside
+    HasCosts-read (g.L.Costs.row_count c.args.costs.now) (g.L.Costs.column_count c.args.costs.now) (g.L.Lines.line_count c.args.costs.now) (g.L.Lines.line_length c.args.costs.now)
+    (g.L.Costs.cost c.args.costs.now) _ _ (g.met.L.Lines.whole c.args.costs.now) c.as_slice-columns.ensures.value c.requires.costs c.in_ok-placement.ensures.view.inside
 
 pub returns-clause-assigned : goal.returns-clause-assigned
 returns-clause-assigned g c =
-    (IsGiven-read (g.L.Costs.row_count c.args.costs.now) (g.L.Costs.column_count c.args.costs.now) (g.L.Lines.line_count c.args.costs.now) c.lines-lines.result (g.L.Lines.line_length c.args.costs.now) c.length-length.result (g.L.Costs.cost c.args.costs.now)
+    (IsGiven-read (g.L.Costs.row_count c.args.costs.now) (g.L.Costs.column_count c.args.costs.now) (g.L.Lines.line_count c.args.costs.now)
+    c.lines-lines.result (g.L.Lines.line_length c.args.costs.now) c.length-length.result (g.L.Costs.cost c.args.costs.now)
     _ _ _ _ _ _ (record { column = c.in_ok-column.column; row_price = c.in_ok-row_price.row_price; column_price = c.in_ok-column_price.column_price })
     (g.met.L.Lines.whole c.args.costs.now) c.requires.some c.requires.enough c.requires.costs (g.met.L.Lines.rise c.args.costs.now) c.lines-lines.ensures c.length-length.ensures
-    c.as_slice-columns.ensures.value c.as_slice-falls.ensures.value c.as_slice-column_of.ensures.value c.in_ok-placement.ensures c.in_ok-column.ensures c.in_ok-row_price.ensures c.in_ok-column_price.ensures).assigned
+    c.as_slice-columns.ensures.value c.as_slice-falls.ensures.value
+    c.as_slice-column_of.ensures.value c.in_ok-placement.ensures c.in_ok-column.ensures c.in_ok-row_price.ensures c.in_ok-column_price.ensures).assigned
 
 pub returns-clause-priced : goal.returns-clause-priced
 returns-clause-priced g c =
-    (IsGiven-read (g.L.Costs.row_count c.args.costs.now) (g.L.Costs.column_count c.args.costs.now) (g.L.Lines.line_count c.args.costs.now) c.lines-lines.result (g.L.Lines.line_length c.args.costs.now) c.length-length.result (g.L.Costs.cost c.args.costs.now)
+    (IsGiven-read (g.L.Costs.row_count c.args.costs.now) (g.L.Costs.column_count c.args.costs.now) (g.L.Lines.line_count c.args.costs.now)
+    c.lines-lines.result (g.L.Lines.line_length c.args.costs.now) c.length-length.result (g.L.Costs.cost c.args.costs.now)
     _ _ _ _ _ _ (record { column = c.in_ok-column.column; row_price = c.in_ok-row_price.row_price; column_price = c.in_ok-column_price.column_price })
     (g.met.L.Lines.whole c.args.costs.now) c.requires.some c.requires.enough c.requires.costs (g.met.L.Lines.rise c.args.costs.now) c.lines-lines.ensures c.length-length.ensures
-    c.as_slice-columns.ensures.value c.as_slice-falls.ensures.value c.as_slice-column_of.ensures.value c.in_ok-placement.ensures c.in_ok-column.ensures c.in_ok-row_price.ensures c.in_ok-column_price.ensures).priced
+    c.as_slice-columns.ensures.value c.as_slice-falls.ensures.value
+    c.as_slice-column_of.ensures.value c.in_ok-placement.ensures c.in_ok-column.ensures c.in_ok-row_price.ensures c.in_ok-column_price.ensures).priced
 
 pub returns-clause-zero : goal.returns-clause-zero
 returns-clause-zero g c =
-    (IsGiven-read (g.L.Costs.row_count c.args.costs.now) (g.L.Costs.column_count c.args.costs.now) (g.L.Lines.line_count c.args.costs.now) c.lines-lines.result (g.L.Lines.line_length c.args.costs.now) c.length-length.result (g.L.Costs.cost c.args.costs.now)
+    (IsGiven-read (g.L.Costs.row_count c.args.costs.now) (g.L.Costs.column_count c.args.costs.now) (g.L.Lines.line_count c.args.costs.now)
+    c.lines-lines.result (g.L.Lines.line_length c.args.costs.now) c.length-length.result (g.L.Costs.cost c.args.costs.now)
     _ _ _ _ _ _ (record { column = c.in_ok-column.column; row_price = c.in_ok-row_price.row_price; column_price = c.in_ok-column_price.column_price })
     (g.met.L.Lines.whole c.args.costs.now) c.requires.some c.requires.enough c.requires.costs (g.met.L.Lines.rise c.args.costs.now) c.lines-lines.ensures c.length-length.ensures
-    c.as_slice-columns.ensures.value c.as_slice-falls.ensures.value c.as_slice-column_of.ensures.value c.in_ok-placement.ensures c.in_ok-column.ensures c.in_ok-row_price.ensures c.in_ok-column_price.ensures).zero
+    c.as_slice-columns.ensures.value c.as_slice-falls.ensures.value
+    c.as_slice-column_of.ensures.value c.in_ok-placement.ensures c.in_ok-column.ensures c.in_ok-row_price.ensures c.in_ok-column_price.ensures).zero

@@ -6,14 +6,16 @@ use Rattle.msp_assign.proofs.placement.placed.Goals as goal
 pub rows-init : goal.rows-init
 rows-init g c =
     let count : c.len.result ≡ length c.in_ok-columns.columns.items = search rules in
-    IsPlacing-start _ _ _ _ _ _ _ _ _ _ (g.met.L.Lines.whole c.args.costs.now) c.lines.ensures count (c.in_ok-falls.ensures.items_if_clones_equal (λ y q. q)) c.new-column_of.ensures.items c.requires.some c.requires.enough c.in_ok-columns.ensures
+    IsPlacing-start _ _ _ _ _ _ _ _ _ _ (g.met.L.Lines.whole c.args.costs.now) c.lines.ensures count
+    (c.in_ok-falls.ensures.items_if_clones_equal (λ y q. q)) c.new-column_of.ensures.items c.requires.some c.requires.enough c.in_ok-columns.ensures
 
 pub place_row-requires-clause-costs : goal.place_row-requires-clause-costs
 place_row-requires-clause-costs g c = HasCosts-placing _ _ _ _ _ _ _ _ (g.met.L.Lines.whole c.args.costs.now) c.requires.costs c.rows.invariant _ c.as_slice.ensures.value
 
 pub place_row-requires-clause-free : goal.place_row-requires-clause-free
 place_row-requires-clause-free g c =
-    free-placing _ _ _ _ _ _ _ _ (g.met.L.Lines.whole c.args.costs.now) c.requires.costs c.rows.invariant _ c.as_slice.ensures.value (omega (arith, c.rows-test.true, c.rows-rows.ensures)) c.requires.enough
+    free-placing _ _ _ _ _ _ _ _ (g.met.L.Lines.whole c.args.costs.now)
+    c.requires.costs c.rows.invariant _ c.as_slice.ensures.value (omega (arith, c.rows-test.true, c.rows-rows.ensures)) c.requires.enough
 
 pub rows-preserved : goal.rows-preserved
 rows-preserved g c =

@@ -9,7 +9,8 @@ pub returns : goal.returns
 returns g c =
     let most : ℕ = 340282366920938463463374607431768211455 in
     record {
-      search = IsSearch-made _ _ _ _ most c.in_ok-all_columns.field-0.items c.spread.new.search.left.items c.in_ok-vec.field-0.items c.in_ok-vec-2.field-0.items c.spread.new.search.distance.items c.spread.new.search.from.items c.spread.new.search.tree.items
+      search = IsSearch-made _ _ _ _ most c.in_ok-all_columns.field-0.items c.spread.new.search.left.items
+          c.in_ok-vec.field-0.items c.in_ok-vec-2.field-0.items c.spread.new.search.distance.items c.spread.new.search.from.items c.spread.new.search.tree.items
           (lit< tt)
           (subst (λ n. AreAll n c.in_ok-all_columns.field-0.items) c.columns-columns.ensures c.in_ok-all_columns.ensures)
           (c.in_ok-vec.ensures.items_if_clones_equal (λ y q. q) ∙ ap (λ n. replicate n most) c.columns-columns.ensures)

@@ -5,7 +5,8 @@ use Rattle.msp_assign.proofs.Gathering.{IsGathering-swap, IsNearest-last, some_n
 use Rattle.msp_assign.proofs.search.gather.Goals as goal
 
 pub bounds-distance-column : goal.bounds-distance-column
-bounds-distance-column c = All-permutation (λ x. x < length c.args.distance.now) _ _ c.loop-k.invariant.same c.requires.inside c.loop-k.k 0 (omega (arith, c.loop-k-test.true, c.loop-k.auto.k-end, c.loop-k.auto.left))
+bounds-distance-column c = All-permutation (λ x. x < length c.args.distance.now)
+    _ _ c.loop-k.invariant.same c.requires.inside c.loop-k.k 0 (omega (arith, c.loop-k-test.true, c.loop-k.auto.k-end, c.loop-k.auto.left))
 
 pub bounds-owner-column : goal.bounds-owner-column
 bounds-owner-column c =
@@ -19,11 +20,13 @@ returns-then-is_none-clause-same c = IsPermutation-trans _ _ _ c.loop-k.invarian
 
 pub returns-then-is_none-clause-nearest : goal.returns-then-is_none-clause-nearest
 returns-then-is_none-clause-nearest c =
-    IsNearest-last _ _ _ _ _ (IsGathering-swap _ _ _ _ _ _ c.loop-k.invariant _ _ refl c.if-distance-column.false (omega (arith, c.loop-k-test.true, c.loop-k.auto.k-end, c.loop-k.auto.left)) c.swap.ensures.permutation c.swap.ensures.by_index).nearest refl
+    IsNearest-last _ _ _ _ _ (IsGathering-swap _ _ _ _ _ _ c.loop-k.invariant _ _ refl c.if-distance-column.false
+    (omega (arith, c.loop-k-test.true, c.loop-k.auto.k-end, c.loop-k.auto.left)) c.swap.ensures.permutation c.swap.ensures.by_index).nearest refl
 
 pub loop-k-preserved : goal.loop-k-preserved
 loop-k-preserved c =
-    IsGathering-swap _ _ _ _ _ _ c.loop-k.invariant _ _ refl c.if-distance-column.false (omega (arith, c.loop-k-test.true, c.loop-k.auto.k-end, c.loop-k.auto.left)) c.swap.ensures.permutation c.swap.ensures.by_index
+    IsGathering-swap _ _ _ _ _ _ c.loop-k.invariant _ _ refl c.if-distance-column.false
+    (omega (arith, c.loop-k-test.true, c.loop-k.auto.k-end, c.loop-k.auto.left)) c.swap.ensures.permutation c.swap.ensures.by_index
 
 pub overflow_sub-result : goal.overflow_sub-result
 overflow_sub-result c = some_near _ _ _ _ _ _ c.loop-k.invariant (omega (arith, c.loop-k-test.false, c.loop-k.auto.k-end, c.loop-k.auto.left, c.requires.near.inside)) c.requires.reached

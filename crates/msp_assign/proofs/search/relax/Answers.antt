@@ -16,13 +16,16 @@ returns-clause-relaxed g c =
 pub returns-clause-near : goal.returns-clause-near
 returns-clause-near g c =
     let all : c.loop-k.k ≡ length c.args.left.now = omega (arith, c.loop-k-test.false, c.loop-k.auto.k-end, c.requires.near.inside) in
-    AreNearest-relaxed _ _ _ _ _ _ _ _ _ _ c.requires.near (λ j l. c.requires.edges.least (at c.args.left.now j) (c.requires.inside j 0 l)) _ _ _ _ _ all c.loop-k.invariant c.requires.some c.requires.edges.near
-    (paid-at_most (g.C.Costs.row_count c.args.costs.now) (g.C.Costs.column_count c.args.costs.now) (g.C.Costs.cost c.args.costs.now) c.args.falls.now c.requires.edges.costs c.requires.edges.low c.args.reached.row (at c.args.left.now 0) c.requires.edges.inside (c.requires.inside 0 0 c.requires.some))
+    AreNearest-relaxed _ _ _ _ _ _ _ _ _ _ c.requires.near
+    (λ j l. c.requires.edges.least (at c.args.left.now j) (c.requires.inside j 0 l)) _ _ _ _ _ all c.loop-k.invariant c.requires.some c.requires.edges.near
+    (paid-at_most (g.C.Costs.row_count c.args.costs.now) (g.C.Costs.column_count c.args.costs.now) (g.C.Costs.cost c.args.costs.now)
+    c.args.falls.now c.requires.edges.costs c.requires.edges.low c.args.reached.row (at c.args.left.now 0) c.requires.edges.inside (c.requires.inside 0 0 c.requires.some))
     (lit< tt)
 
 pub returns-clause-reached : goal.returns-clause-reached
 returns-clause-reached g c =
     let all : c.loop-k.k ≡ length c.args.left.now = omega (arith, c.loop-k-test.false, c.loop-k.auto.k-end, c.requires.near.inside) in
     attained _ _ _ _ _ _ _ _ _ _ c.requires.near (λ j l. c.requires.edges.least (at c.args.left.now j) (c.requires.inside j 0 l)) _ _ _ _ _ all c.loop-k.invariant c.requires.some c.requires.edges.near
-    (paid-at_most (g.C.Costs.row_count c.args.costs.now) (g.C.Costs.column_count c.args.costs.now) (g.C.Costs.cost c.args.costs.now) c.args.falls.now c.requires.edges.costs c.requires.edges.low c.args.reached.row (at c.args.left.now 0) c.requires.edges.inside (c.requires.inside 0 0 c.requires.some))
+    (paid-at_most (g.C.Costs.row_count c.args.costs.now) (g.C.Costs.column_count c.args.costs.now) (g.C.Costs.cost c.args.costs.now)
+    c.args.falls.now c.requires.edges.costs c.requires.edges.low c.args.reached.row (at c.args.left.now 0) c.requires.edges.inside (c.requires.inside 0 0 c.requires.some))
     (lit< tt)

@@ -4,8 +4,10 @@ use Rattle.msp_blocks.proofs.Made.{some_passed, filling_passed}
 use Rattle.msp_blocks.proofs.blocks.by_blocks.Goals as goal
 
 pub place_all-requires-clause-some : goal.place_all-requires-clause-some
-place_all-requires-clause-some c = some_passed c.args.inst.now c.requires.machine c.requires.inner c.in_ok-heads.heads.items c.as_slice.result.now c.in_ok-jobs.jobs.items c.in_ok-heads.ensures c.as_slice.ensures.value c.in_ok-jobs.ensures.all
+place_all-requires-clause-some c = some_passed c.args.inst.now c.requires.machine c.requires.inner
+    c.in_ok-heads.heads.items c.as_slice.result.now c.in_ok-jobs.jobs.items c.in_ok-heads.ensures c.as_slice.ensures.value c.in_ok-jobs.ensures.all
 
 pub place_all-requires-clause-filling : goal.place_all-requires-clause-filling
 place_all-requires-clause-filling c =
-    filling_passed c.args.inst.now c.requires.machine c.requires.inner c.in_ok-heads.heads.items c.as_slice.result.now c.as_slice-2.result.now c.in_ok-jobs.jobs.items c.in_ok-heads.ensures c.as_slice.ensures.value c.as_slice-2.ensures.value c.in_ok-jobs.ensures.all (rises_or_stays (λ j. get_or c.as_slice.result.now j 0) c.in_ok-jobs.jobs.items c.in_ok-jobs.ensures.rising)
+    filling_passed c.args.inst.now c.requires.machine c.requires.inner c.in_ok-heads.heads.items c.as_slice.result.now c.as_slice-2.result.now c.in_ok-jobs.jobs.items c.in_ok-heads.ensures
+    c.as_slice.ensures.value c.as_slice-2.ensures.value c.in_ok-jobs.ensures.all (rises_or_stays (λ j. get_or c.as_slice.result.now j 0) c.in_ok-jobs.jobs.items c.in_ok-jobs.ensures.rising)

@@ -6,7 +6,8 @@ use Rattle.msp_blocks.proofs.Made.{CostAtMost-none, CostAtMost-more}
 use Rattle.msp_blocks.proofs.filling.place_all.Goals as goal
 
 pub place_next-requires-clause-filling : goal.place_next-requires-clause-filling
-place_next-requires-clause-filling c = subst (λ ps. IsFilling c.args.inst.now (λ j. slice_index_or c.args.heads.now j 0) greatest_end c.args.jobs.items ps) (sym c.new-pieces.ensures) c.requires.filling
+place_next-requires-clause-filling c =
+    subst (λ ps. IsFilling c.args.inst.now (λ j. slice_index_or c.args.heads.now j 0) greatest_end c.args.jobs.items ps) (sym c.new-pieces.ensures) c.requires.filling
 
 pub places-init : goal.places-init
 places-init c =

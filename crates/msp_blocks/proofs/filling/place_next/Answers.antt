@@ -6,24 +6,35 @@ use Rattle.msp_blocks.proofs.filling.place_next.Goals as goal
 
 pub fill-requires-clause-room : goal.fill-requires-clause-room
 fill-requires-clause-room c =
-    passed_room c.args.inst.now (IsOneInstance-from c.args.inst.now c.requires.machine c.requires.inner) c.args.heads.now c.requires.heads c.args.left.now.items c.as_slice.result.now c.as_slice-2.result.now c.first_block-block.result.count c.first_block-block.result.end
-    c.as_slice.ensures.value c.as_slice-2.ensures.value c.first_block-block.ensures.block c.first_block-block.ensures.later c.first_block-block.ensures.small _ c.requires.filling c.last_place-place.result c.total_time.result c.last_place-place.ensures.place c.total_time.ensures.value
+    passed_room c.args.inst.now (IsOneInstance-from c.args.inst.now c.requires.machine c.requires.inner)
+    c.args.heads.now c.requires.heads c.args.left.now.items c.as_slice.result.now c.as_slice-2.result.now c.first_block-block.result.count c.first_block-block.result.end
+    c.as_slice.ensures.value c.as_slice-2.ensures.value c.first_block-block.ensures.block c.first_block-block.ensures.later c.first_block-block.ensures.small
+    _ c.requires.filling c.last_place-place.result c.total_time.result c.last_place-place.ensures.place c.total_time.ensures.value
     _ (take_rest (take c.first_block-block.result.count c.as_slice-2.result.now) (c.last_place-place.result + 1))
 
 pub returns-clause-filling : goal.returns-clause-filling
 returns-clause-filling c =
-    (passed_next c.args.inst.now (IsOneInstance-from c.args.inst.now c.requires.machine c.requires.inner) c.args.heads.now c.requires.heads c.args.left.now.items c.as_slice.result.now c.as_slice-2.result.now c.first_block-block.result.count c.first_block-block.result.end
-    c.as_slice.ensures.value c.as_slice-2.ensures.value c.first_block-block.ensures.block c.first_block-block.ensures.later c.first_block-block.ensures.small _ c.requires.filling c.last_place-place.result c.total_time.result c.last_place-place.ensures.place c.total_time.ensures.value
-    _ (take_rest (take c.first_block-block.result.count c.as_slice-2.result.now) (c.last_place-place.result + 1)) _ refl c.last_place-place.ensures.last _ c.remove.ensures.items _ c.in_ok-fill.ensures _ c.in_ok-bound.ensures.jobs _ c.in_ok-bound.ensures.cost).filling
+    (passed_next c.args.inst.now (IsOneInstance-from c.args.inst.now c.requires.machine c.requires.inner)
+    c.args.heads.now c.requires.heads c.args.left.now.items c.as_slice.result.now c.as_slice-2.result.now c.first_block-block.result.count c.first_block-block.result.end
+    c.as_slice.ensures.value c.as_slice-2.ensures.value c.first_block-block.ensures.block c.first_block-block.ensures.later c.first_block-block.ensures.small
+    _ c.requires.filling c.last_place-place.result c.total_time.result c.last_place-place.ensures.place c.total_time.ensures.value
+    _ (take_rest (take c.first_block-block.result.count c.as_slice-2.result.now) (c.last_place-place.result + 1))
+    _ refl c.last_place-place.ensures.last _ c.remove.ensures.items _ c.in_ok-fill.ensures _ c.in_ok-bound.ensures.jobs _ c.in_ok-bound.ensures.cost).filling
 
 pub returns-clause-bound : goal.returns-clause-bound
 returns-clause-bound c =
-    (passed_next c.args.inst.now (IsOneInstance-from c.args.inst.now c.requires.machine c.requires.inner) c.args.heads.now c.requires.heads c.args.left.now.items c.as_slice.result.now c.as_slice-2.result.now c.first_block-block.result.count c.first_block-block.result.end
-    c.as_slice.ensures.value c.as_slice-2.ensures.value c.first_block-block.ensures.block c.first_block-block.ensures.later c.first_block-block.ensures.small _ c.requires.filling c.last_place-place.result c.total_time.result c.last_place-place.ensures.place c.total_time.ensures.value
-    _ (take_rest (take c.first_block-block.result.count c.as_slice-2.result.now) (c.last_place-place.result + 1)) _ refl c.last_place-place.ensures.last _ c.remove.ensures.items _ c.in_ok-fill.ensures _ c.in_ok-bound.ensures.jobs _ c.in_ok-bound.ensures.cost).bound
+    (passed_next c.args.inst.now (IsOneInstance-from c.args.inst.now c.requires.machine c.requires.inner)
+    c.args.heads.now c.requires.heads c.args.left.now.items c.as_slice.result.now c.as_slice-2.result.now c.first_block-block.result.count c.first_block-block.result.end
+    c.as_slice.ensures.value c.as_slice-2.ensures.value c.first_block-block.ensures.block c.first_block-block.ensures.later c.first_block-block.ensures.small
+    _ c.requires.filling c.last_place-place.result c.total_time.result c.last_place-place.ensures.place c.total_time.ensures.value
+    _ (take_rest (take c.first_block-block.result.count c.as_slice-2.result.now) (c.last_place-place.result + 1))
+    _ refl c.last_place-place.ensures.last _ c.remove.ensures.items _ c.in_ok-fill.ensures _ c.in_ok-bound.ensures.jobs _ c.in_ok-bound.ensures.cost).bound
 
 pub returns-clause-costs : goal.returns-clause-costs
 returns-clause-costs c =
-    (passed_next c.args.inst.now (IsOneInstance-from c.args.inst.now c.requires.machine c.requires.inner) c.args.heads.now c.requires.heads c.args.left.now.items c.as_slice.result.now c.as_slice-2.result.now c.first_block-block.result.count c.first_block-block.result.end
-    c.as_slice.ensures.value c.as_slice-2.ensures.value c.first_block-block.ensures.block c.first_block-block.ensures.later c.first_block-block.ensures.small _ c.requires.filling c.last_place-place.result c.total_time.result c.last_place-place.ensures.place c.total_time.ensures.value
-    _ (take_rest (take c.first_block-block.result.count c.as_slice-2.result.now) (c.last_place-place.result + 1)) _ refl c.last_place-place.ensures.last _ c.remove.ensures.items _ c.in_ok-fill.ensures _ c.in_ok-bound.ensures.jobs _ c.in_ok-bound.ensures.cost).costs
+    (passed_next c.args.inst.now (IsOneInstance-from c.args.inst.now c.requires.machine c.requires.inner)
+    c.args.heads.now c.requires.heads c.args.left.now.items c.as_slice.result.now c.as_slice-2.result.now c.first_block-block.result.count c.first_block-block.result.end
+    c.as_slice.ensures.value c.as_slice-2.ensures.value c.first_block-block.ensures.block c.first_block-block.ensures.later c.first_block-block.ensures.small
+    _ c.requires.filling c.last_place-place.result c.total_time.result c.last_place-place.ensures.place c.total_time.ensures.value
+    _ (take_rest (take c.first_block-block.result.count c.as_slice-2.result.now) (c.last_place-place.result + 1))
+    _ refl c.last_place-place.ensures.last _ c.remove.ensures.items _ c.in_ok-fill.ensures _ c.in_ok-bound.ensures.jobs _ c.in_ok-bound.ensures.cost).costs

@@ -25,10 +25,12 @@ pub returns-clause-law : goal.returns-clause-law
 returns-clause-law c =
     let i = c.args.inst.now in
     let lower = lower_of c.args.row i in
-    IfOk-weaker c.back_at_row.result (IsBroughtBack c.args.row i lower c.args.solution) (λ s. IsBack (rate_of c.args.row i) i lower c.args.solution.schedule s.schedule) (λ s is. is.law) c.back_at_row.ensures
+    IfOk-weaker c.back_at_row.result (IsBroughtBack c.args.row i lower c.args.solution)
+    (λ s. IsBack (rate_of c.args.row i) i lower c.args.solution.schedule s.schedule) (λ s is. is.law) c.back_at_row.ensures
 
 pub returns-clause-bounds : goal.returns-clause-bounds
 returns-clause-bounds c =
     let i = c.args.inst.now in
     let lower = lower_of c.args.row i in
-    IfOk-weaker c.back_at_row.result (IsBroughtBack c.args.row i lower c.args.solution) (λ s. KeepsBounds c.args.row i lower c.args.solution.schedule s.schedule) (λ s is. is.bounds) c.back_at_row.ensures
+    IfOk-weaker c.back_at_row.result (IsBroughtBack c.args.row i lower c.args.solution)
+    (λ s. KeepsBounds c.args.row i lower c.args.solution.schedule s.schedule) (λ s is. is.bounds) c.back_at_row.ensures

@@ -9,4 +9,5 @@ step_back-requires-in_default c = at_last_row (λ row lower. ComesFrom row c.arg
 
 pub returns-in_default : goal.returns-in_default
 returns-in_default c =
-    of_last_row (λ row lower. IfOk c.step_back-in_default.result (λ s. IsBroughtBack row c.args.inst.now lower c.args.solution s)) c.args.row c.args.inst.now (search rules) c.step_back-in_default.ensures
+    of_last_row (λ row lower. IfOk c.step_back-in_default.result (λ s. IsBroughtBack row c.args.inst.now lower c.args.solution s))
+    c.args.row c.args.inst.now (search rules) c.step_back-in_default.ensures

@@ -8,9 +8,11 @@ use Rattle.msp_cert.proofs.block.least_cost.Goals as goal
 
 pub loop-k-preserved : goal.loop-k-preserved
 loop-k-preserved c = record {
-  value = next_least (IsLast c.args.paths.now c.args.jobs.now) (λ j. cost_at c.args.inst.now j c.args.moment) c.args.jobs.now c.loop-k.k 0 (omega arith) c.loop-k.least _ _ c.lesser-least.ensures c.loop-k.invariant.value c.cost_if_last.ensures.value;
+  value = next_least (IsLast c.args.paths.now c.args.jobs.now) (λ j. cost_at c.args.inst.now j c.args.moment)
+      c.args.jobs.now c.loop-k.k 0 (omega arith) c.loop-k.least _ _ c.lesser-least.ensures c.loop-k.invariant.value c.cost_if_last.ensures.value;
   size = next_within (LiesWithin greatest_value) c.loop-k.least _ _ c.lesser-least.ensures c.loop-k.invariant.size c.cost_if_last.ensures.size;
 }
 
 pub returns-clause-value : goal.returns-clause-value
-returns-clause-value c = least_of_all (IsLast c.args.paths.now c.args.jobs.now) (λ j. cost_at c.args.inst.now j c.args.moment) c.args.jobs.now c.loop-k.k c.loop-k.least (omega arith) c.loop-k.invariant.value
+returns-clause-value c = least_of_all (IsLast c.args.paths.now c.args.jobs.now)
+    (λ j. cost_at c.args.inst.now j c.args.moment) c.args.jobs.now c.loop-k.k c.loop-k.least (omega arith) c.loop-k.invariant.value

@@ -20,5 +20,7 @@ over-requires-clause-some c =
     subst (λ x. 1 ≤ x) (sym c.first_together-speed.ensures.value) (first_some _ (length c.args.jobs.now) (c.if-not-is_group.ensures.0 refl).some s.some s.fast)
 
 pub returns-clause-worth : goal.returns-clause-worth
-returns-clause-worth c = group_is_worth c.args.inst.now c.args.jobs.now _ c.total_time-time.result c.first_together-speed.result c.over.result (c.if-not-is_group.ensures.0 refl) c.total_time-time.ensures.value
-    c.in_ok-speeds.ensures.all c.in_ok-speeds.ensures.falls (c.first_together-speed.ensures.value ∙ ap (λ l. sum (take (length c.args.jobs.now) l)) c.as_slice.ensures.value) c.over.ensures.num c.over.ensures.den
+returns-clause-worth c = group_is_worth c.args.inst.now c.args.jobs.now _ c.total_time-time.result c.first_together-speed.result c.over.result
+    (c.if-not-is_group.ensures.0 refl) c.total_time-time.ensures.value
+    c.in_ok-speeds.ensures.all c.in_ok-speeds.ensures.falls
+    (c.first_together-speed.ensures.value ∙ ap (λ l. sum (take (length c.args.jobs.now) l)) c.as_slice.ensures.value) c.over.ensures.num c.over.ensures.den

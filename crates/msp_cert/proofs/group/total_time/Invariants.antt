@@ -1,4 +1,5 @@
 use Rattle.std.proofs.Common.{◌≡◌, ◌*◌, ◌≤◌, take, sum_by}
+use Rattle.msp_class.specs.declared.sizes.TheConstants.{GREATEST}
 use Rattle.msp_instance.specs.Instance.{need_at}
 use Rattle.msp_cert.proofs.group.total_time.Given as goal
 
@@ -6,5 +7,5 @@ use Rattle.msp_cert.proofs.group.total_time.Given as goal
 abbrev pub invariant-loop-k : goal.invariant-loop-k
 invariant-loop-k l = record {
   value : l.total ≡ sum_by (λ j. (need_at l.inst j 0).time) (take l.k l.jobs);
-  size : l.total ≤ 1000000000 * l.k;
+  size : l.total ≤ GREATEST * l.k;
 }

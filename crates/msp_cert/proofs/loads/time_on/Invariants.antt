@@ -1,4 +1,5 @@
 use Rattle.std.proofs.Common.{◌≡◌, ◌*◌, ◌≤◌, take, sum_by}
+use Rattle.msp_class.specs.declared.sizes.TheConstants.{GREATEST}
 use Rattle.msp_cert.specs.Small.{time_there}
 use Rattle.msp_cert.proofs.loads.time_on.Given as goal
 
@@ -6,5 +7,5 @@ use Rattle.msp_cert.proofs.loads.time_on.Given as goal
 abbrev pub invariant-loop-k : goal.invariant-loop-k
 invariant-loop-k l = record {
   value : l.total ≡ sum_by (time_there l.machine) (take l.k l.needs);
-  size : l.total ≤ 1000000000 * l.k;
+  size : l.total ≤ GREATEST * l.k;
 }

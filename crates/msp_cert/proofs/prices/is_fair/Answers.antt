@@ -12,7 +12,8 @@ is_fair_on-requires-clause-inside c = place_inside c.loop-machine.machine c.args
 pub returns-then-not-is_fair_on : goal.returns-then-not-is_fair_on
 returns-then-not-is_fair_on c = (
   λ e. absurd (false≢true e),
-  λ h. c.if-not-is_fair_on.ensures.1 (subst (λ p. IsFair p c.args.column.now c.args.count c.args.needs.now) (sym (to_z-of_z w128 c.args.price (search rules))) h c.loop-machine.machine c.loop-machine-test.true),
+  λ h. c.if-not-is_fair_on.ensures.1
+      (subst (λ p. IsFair p c.args.column.now c.args.count c.args.needs.now) (sym (to_z-of_z w128 c.args.price (search rules))) h c.loop-machine.machine c.loop-machine-test.true),
 )
 
 pub loop-machine-preserved : goal.loop-machine-preserved
@@ -20,6 +21,7 @@ loop-machine-preserved c = below_more _ c.loop-machine.machine c.loop-machine.in
 
 pub returns : goal.returns
 returns c = (
-  λ e. subst (λ p. IsFair p c.args.column.now c.args.count c.args.needs.now) (to_z-of_z w128 c.args.price (search rules)) (λ m l. c.loop-machine.invariant m (omega (arith, l, c.loop-machine-test.false))),
+  λ e. subst (λ p. IsFair p c.args.column.now c.args.count c.args.needs.now)
+      (to_z-of_z w128 c.args.price (search rules)) (λ m l. c.loop-machine.invariant m (omega (arith, l, c.loop-machine-test.false))),
   λ h. refl,
 )

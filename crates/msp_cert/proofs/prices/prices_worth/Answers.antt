@@ -7,4 +7,5 @@ pub returns-clause-worth : goal.returns-clause-worth
 returns-clause-worth c =
     let a = c.sum_of.ensures.size in
     let b = c.sum_of-2.ensures.size in
-    prices_are_worth c.args.inst.now c.args.row.now c.args.column.now c.sum_of.result c.sum_of-2.result _ c.whole.result (c.if-not-are_prices.ensures.0 refl) c.sum_of.ensures.value c.sum_of-2.ensures.value c.whole.ensures.num (omega (arith, ints)) c.whole.ensures.den
+    prices_are_worth c.args.inst.now c.args.row.now c.args.column.now c.sum_of.result c.sum_of-2.result _ c.whole.result
+    (c.if-not-are_prices.ensures.0 refl) c.sum_of.ensures.value c.sum_of-2.ensures.value c.whole.ensures.num (omega (arith, ints)) c.whole.ensures.den

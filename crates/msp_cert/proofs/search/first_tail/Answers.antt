@@ -12,13 +12,24 @@ pub loop-tail-init : goal.loop-tail-init
 loop-tail-init c = record { high = c.len-high.ensures ∙ sym c.requires.levels.each ∙ sym (all_high c.args.level.now); before = λ t b. absurd (omega (arith, b)) }
 
 pub overflow_sub-high : goal.overflow_sub-high
-overflow_sub-high c = omega (arith, c.jobs_at-counts.ensures c.loop-tail.tail (omega (arith, c.loop-tail-test.true, c.len-tail-end.ensures, c.requires.class.conditions.few)), next_high c.loop-tail.tail c.args.level.now, c.loop-tail.invariant.high)
+overflow_sub-high c = omega (
+  arith,
+  c.jobs_at-counts.ensures c.loop-tail.tail (omega (arith, c.loop-tail-test.true, c.len-tail-end.ensures, c.requires.class.conditions.few)),
+  next_high c.loop-tail.tail c.args.level.now,
+  c.loop-tail.invariant.high,
+)
 
 pub loop-tail-preserved : goal.loop-tail-preserved
 loop-tail-preserved c = record {
-  high = omega (arith, c.jobs_at-counts.ensures c.loop-tail.tail (omega (arith, c.loop-tail-test.true, c.len-tail-end.ensures, c.requires.class.conditions.few)), next_high c.loop-tail.tail c.args.level.now, c.loop-tail.invariant.high);
+  high = omega (
+    arith,
+    c.jobs_at-counts.ensures c.loop-tail.tail (omega (arith, c.loop-tail-test.true, c.len-tail-end.ensures, c.requires.class.conditions.few)),
+    next_high c.loop-tail.tail c.args.level.now,
+    c.loop-tail.invariant.high,
+  );
   before = below_more (λ t. ¬ HasValue c.args.inst.now c.args.cost.now (Levels c.args.level.now t)) c.loop-tail.tail c.loop-tail.invariant.before
-      (λ h. false≢true ((c.if-equals.ensures c.args.inst.now (Levels c.args.level.now c.loop-tail.tail) (c.tail_worth.ensures.worth c.args.level.now c.requires.levels c.loop-tail.invariant.high)).1 h));
+      (λ h. false≢true
+      ((c.if-equals.ensures c.args.inst.now (Levels c.args.level.now c.loop-tail.tail) (c.tail_worth.ensures.worth c.args.level.now c.requires.levels c.loop-tail.invariant.high)).1 h));
 }
 
 pub returns : goal.returns

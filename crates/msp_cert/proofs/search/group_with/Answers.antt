@@ -16,7 +16,8 @@ slice_bounds-from_slice-end c =
 
 pub returns-in-Some : goal.returns-in-Some
 returns-in-Some c =
-    subst (λ (l : List ℕ). IsFirst (HasValue c.args.inst.now c.args.cost.now) (groups c.args.inst.now c.args.longest.now) (Some (Group l))) (sym (c.from_vec.ensures ∙ c.in_ok-jobs-in-Some.ensures.items))
+    subst (λ (l : List ℕ). IsFirst (HasValue c.args.inst.now c.args.cost.now) (groups c.args.inst.now c.args.longest.now) (Some (Group l)))
+    (sym (c.from_vec.ensures ∙ c.in_ok-jobs-in-Some.ensures.items))
     (first_placed (HasValue c.args.inst.now c.args.cost.now) (λ k. Group (take (k + 1) c.args.longest.now)) (length c.args.inst.now.jobs) c.in-Some.last c.in-Some.ensures)
 
 pub returns : goal.returns

@@ -17,7 +17,8 @@ returns-in-Some c = (
   c.from_vec.result,
   subst (AreAllLevels c.args.inst.now) (sym c.from_vec.ensures) c.in_ok-level.ensures,
   first_placed (HasValue c.args.inst.now c.args.cost.now) (Levels c.from_vec.result) (length c.args.inst.now.jobs) c.in-Some.tail
-      (subst (λ (l : List ℕ). IsFirstBelow (λ t. HasValue c.args.inst.now c.args.cost.now (Levels l t)) (length c.args.inst.now.jobs) (Some c.in-Some.tail)) (c.as_slice.ensures.value ∙ sym c.from_vec.ensures) c.in-Some.ensures),
+      (subst (λ (l : List ℕ). IsFirstBelow (λ t. HasValue c.args.inst.now c.args.cost.now (Levels l t)) (length c.args.inst.now.jobs) (Some c.in-Some.tail))
+      (c.as_slice.ensures.value ∙ sym c.from_vec.ensures) c.in-Some.ensures),
 )
 
 pub returns-in-None : goal.returns-in-None

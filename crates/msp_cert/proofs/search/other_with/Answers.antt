@@ -8,5 +8,6 @@ returns c =
     let (level, levels, with_tail) = c.in_ok-levels.ensures in (
       level,
       levels,
-      c.earlier-2.ensures i c.args.cost.now (machines i) (lines i ++ tails i level) c.machine_with-machine.ensures (c.earlier.ensures i c.args.cost.now (lines i) (tails i level) c.line_with-line.ensures with_tail),
+      c.earlier-2.ensures i c.args.cost.now (machines i) (lines i ++ tails i level)
+          c.machine_with-machine.ensures (c.earlier.ensures i c.args.cost.now (lines i) (tails i level) c.line_with-line.ensures with_tail),
     )

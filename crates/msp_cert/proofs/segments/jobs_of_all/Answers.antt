@@ -4,5 +4,6 @@ use Rattle.msp_cert.proofs.segments.jobs_of_all.Goals as goal
 
 pub loop-jobs-preserved : goal.loop-jobs-preserved
 loop-jobs-preserved c =
-    flat_next c.args.lists.now c.loop-jobs.jobs-index c.jobs-item.result _ _ c.loop-jobs-test.true (c.in_ok-extend_from_slice.ensures.items ∙ ap (λ l. c.loop-jobs.all.items ++ l) (c.as_slice.ensures ∙ c.jobs-item.is))
+    flat_next c.args.lists.now c.loop-jobs.jobs-index c.jobs-item.result _ _ c.loop-jobs-test.true
+    (c.in_ok-extend_from_slice.ensures.items ∙ ap (λ l. c.loop-jobs.all.items ++ l) (c.as_slice.ensures ∙ c.jobs-item.is))
     c.loop-jobs.invariant

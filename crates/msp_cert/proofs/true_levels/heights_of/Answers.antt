@@ -8,10 +8,12 @@ use Rattle.msp_cert.proofs.true_levels.heights_of.Goals as goal
 pub put_heights-requires-clause-inside : goal.put_heights-requires-clause-inside
 put_heights-requires-clause-inside c =
     let n : length c.in_ok-heights.heights.items ≡ length c.args.inst.now.jobs = omega (arith, c.in_ok-heights.ensures.len, c.len.ensures) in
-    subst (λ (l : List ℕ). All (λ j. j < length c.in_ok-heights.heights.items) l) (sym c.as_slice.ensures) (subst (λ m. All (λ j. j < m) c.in-Ok.order) (sym n) (OnceBelow-from_sequence c.args.inst.now c.in-Ok.order c.in-Ok.ensures.sequence).within)
+    subst (λ (l : List ℕ). All (λ j. j < length c.in_ok-heights.heights.items) l) (sym c.as_slice.ensures)
+    (subst (λ m. All (λ j. j < m) c.in-Ok.order) (sym n) (OnceBelow-from_sequence c.args.inst.now c.in-Ok.order c.in-Ok.ensures.sequence).within)
 
 pub put_heights-requires-clause-apart : goal.put_heights-requires-clause-apart
-put_heights-requires-clause-apart c = subst (λ (l : List ℕ). AllPairs (λ j k. j ≢ k) l) (sym c.as_slice.ensures) (OnceBelow-distinct (OnceBelow-from_sequence c.args.inst.now c.in-Ok.order c.in-Ok.ensures.sequence))
+put_heights-requires-clause-apart c =
+    subst (λ (l : List ℕ). AllPairs (λ j k. j ≢ k) l) (sym c.as_slice.ensures) (OnceBelow-distinct (OnceBelow-from_sequence c.args.inst.now c.in-Ok.order c.in-Ok.ensures.sequence))
 
 pub returns : goal.returns
 returns c =

@@ -13,8 +13,10 @@ lines-preserved c =
     let step = rw c.if-branch.true at c.in_ok-columns_step.ensures.after in
     let n = c.args.counts.jobs in
     let machines = c.args.counts.machines in
-    let count = columns_count n machines c.args.before c.lines.prices c.columns_step.new.prices (place_of c.lines.lines) (place_of c.columns_step.new.lines) step in
-    (ap (λ k. k + 1) c.lines.invariant.0 ∙ sym count, λ read h. c.lines.invariant.1 read (more_then c.lines.prices c.columns_step.new.prices (place_of c.lines.lines) (place_of c.columns_step.new.lines) read step h))
+    let count = columns_count n machines c.args.before c.lines.prices c.columns_step.new.prices (place_of c.lines.lines) (place_of c.columns_step.new.lines) step in (
+      ap (λ k. k + 1) c.lines.invariant.0 ∙ sym count,
+      λ read h. c.lines.invariant.1 read (more_then c.lines.prices c.columns_step.new.prices (place_of c.lines.lines) (place_of c.columns_step.new.lines) read step h),
+    )
 
 pub returns : goal.returns
 returns c =
@@ -24,4 +26,5 @@ returns c =
 pub returns-in_err-columns_step : goal.returns-in_err-columns_step
 returns-in_err-columns_step c =
     let p = err_from_is_err_and c.from_residual.result c.from_residual.ensures.1 in
-    rw (p.1, p.2) (fails_on c.in_err-columns_step.field-0.0 _ _ c.lines.invariant.1 (more_fails (columns_step c.args.counts.jobs c.args.counts.machines c.args.before) c.lines.prices (place_of c.lines.lines) c.in_err-columns_step.field-0.0 c.in_err-columns_step.ensures.after))
+    rw (p.1, p.2) (fails_on c.in_err-columns_step.field-0.0 _ _ c.lines.invariant.1
+    (more_fails (columns_step c.args.counts.jobs c.args.counts.machines c.args.before) c.lines.prices (place_of c.lines.lines) c.in_err-columns_step.field-0.0 c.in_err-columns_step.ensures.after))

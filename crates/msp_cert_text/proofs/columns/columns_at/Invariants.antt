@@ -10,7 +10,8 @@ use Rattle.msp_cert_text.proofs.columns.columns_at.Given as goal
 abbrev pub invariant-lines : goal.invariant-lines
 invariant-lines l =
     (l.used ≡ length (column_lines l.counts.jobs 0 l.prices))
-    × ((read : Result (List ℤ × Place) FileFault) → ReadsMore (columns_step l.counts.jobs l.counts.machines l.before) l.prices (place_of l.lines) read → ReadsMore (columns_step l.counts.jobs l.counts.machines l.before) [] (place_of l.fn.lines) read)
+    × ((read : Result (List ℤ × Place) FileFault) → ReadsMore (columns_step l.counts.jobs l.counts.machines l.before) l.prices (place_of l.lines) read
+    → ReadsMore (columns_step l.counts.jobs l.counts.machines l.before) [] (place_of l.fn.lines) read)
 
 abbrev pub decreases-lines : goal.decreases-lines
 decreases-lines l = length l.lines.rest.now

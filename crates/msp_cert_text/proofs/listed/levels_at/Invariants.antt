@@ -6,4 +6,5 @@ use Rattle.msp_cert_text.proofs.listed.levels_at.Given as goal
 
 -- what is left gives the answer of the whole
 abbrev pub invariant-jobs : goal.invariant-jobs
-invariant-jobs l = (length l.levels ≡ l.k) × (numbers_at level_at (codes "level") 1 l.levels (drop l.k l.names) (place_of l.lines) ≡ numbers_at level_at (codes "level") 1 [] l.names (place_of l.initial.lines))
+invariant-jobs l = (length l.levels ≡ l.k)
+    × (numbers_at level_at (codes "level") 1 l.levels (drop l.k l.names) (place_of l.lines) ≡ numbers_at level_at (codes "level") 1 [] l.names (place_of l.initial.lines))

@@ -9,4 +9,5 @@ use Rattle.msp_cert_text.proofs.listed.take_level.Goals as goal
 pub returns-in_err-field-clause-leads : goal.returns-in_err-field-clause-leads
 returns-in_err-field-clause-leads c =
     let p = err_from_is_err_and c.from_residual.result c.from_residual.ensures.1 in
-    rw (p.1, p.2) (numbers_stop level_at (codes "level") 1 c.args.levels.now c.args.names.now c.args.k (c.args.k + 1) c.unwrap-name.result (place_of c.args.lines.now) c.in_err-field.field-0.0 (sym c.unwrap-name.ensures ∙ c.get.ensures) (omega (arith, c.requires.place)) c.in_err-field.ensures)
+    rw (p.1, p.2) (numbers_stop level_at (codes "level") 1 c.args.levels.now c.args.names.now c.args.k (c.args.k + 1) c.unwrap-name.result
+    (place_of c.args.lines.now) c.in_err-field.field-0.0 (sym c.unwrap-name.ensures ∙ c.get.ensures) (omega (arith, c.requires.place)) c.in_err-field.ensures)

@@ -5,4 +5,5 @@ use Rattle.msp_cert_text.proofs.printer.put_levels.Given as goal
 
 -- what is written and what is still to be written are the whole
 abbrev pub invariant-jobs : goal.invariant-jobs
-invariant-jobs l = l.out.items ++ lines_text (numbered_lines (codes "level") decimal (drop l.at l.names) (drop l.at l.levels)) ≡ l.initial.out.items ++ lines_text (numbered_lines (codes "level") decimal l.names l.levels)
+invariant-jobs l = l.out.items ++ lines_text (numbered_lines (codes "level") decimal (drop l.at l.names) (drop l.at l.levels))
+    ≡ l.initial.out.items ++ lines_text (numbered_lines (codes "level") decimal l.names l.levels)

@@ -7,4 +7,5 @@ use Rattle.msp_cert_text.proofs.printer.put_rows.Goals as goal
 pub jobs-preserved : goal.jobs-preserved
 jobs-preserved c =
     let named : c.jobs.at < length c.args.names.now = omega (arith, c.requires, c.jobs-test.true) in
-    numbered_step (codes "row") signed_decimal c.args.names.now c.args.row.now c.jobs.at _ c.jobs.out.items c.put_price.new.out.items _ named c.jobs-test.true c.in_ok-put_price.ensures c.jobs.invariant
+    numbered_step (codes "row") signed_decimal c.args.names.now
+    c.args.row.now c.jobs.at _ c.jobs.out.items c.put_price.new.out.items _ named c.jobs-test.true c.in_ok-put_price.ensures c.jobs.invariant

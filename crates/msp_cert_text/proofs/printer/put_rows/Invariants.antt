@@ -6,4 +6,5 @@ use Rattle.msp_cert_text.proofs.printer.put_rows.Given as goal
 
 -- what is written and what is still to be written are the whole
 abbrev pub invariant-jobs : goal.invariant-jobs
-invariant-jobs l = l.out.items ++ lines_text (numbered_lines (codes "row") signed_decimal (drop l.at l.names) (drop l.at l.row)) ≡ l.initial.out.items ++ lines_text (numbered_lines (codes "row") signed_decimal l.names l.row)
+invariant-jobs l = l.out.items ++ lines_text (numbered_lines (codes "row") signed_decimal (drop l.at l.names) (drop l.at l.row))
+    ≡ l.initial.out.items ++ lines_text (numbered_lines (codes "row") signed_decimal l.names l.row)

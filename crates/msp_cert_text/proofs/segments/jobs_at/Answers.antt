@@ -20,4 +20,5 @@ returns c =
 pub returns-in_err-jobs_step : goal.returns-in_err-jobs_step
 returns-in_err-jobs_step c =
     let p = err_from_is_err_and c.from_residual.result c.from_residual.ensures.1 in
-    rw (p.1, p.2) (fails_on c.in_err-jobs_step.field-0.0 _ _ c.lines.invariant (more_fails (jobs_step c.args.names.now c.args.before) c.lines.jobs (place_of c.lines.lines) c.in_err-jobs_step.field-0.0 c.in_err-jobs_step.ensures.after))
+    rw (p.1, p.2) (fails_on c.in_err-jobs_step.field-0.0 _ _ c.lines.invariant
+    (more_fails (jobs_step c.args.names.now c.args.before) c.lines.jobs (place_of c.lines.lines) c.in_err-jobs_step.field-0.0 c.in_err-jobs_step.ensures.after))

@@ -7,7 +7,8 @@ use Rattle.msp_grammar.specs.lines.Steps.{place_of}
 use Rattle.msp_cert_text.proofs.segments.jobs_at.Given as goal
 
 abbrev pub invariant-lines : goal.invariant-lines
-invariant-lines l = (read : Result (List ℕ × Place) FileFault) → ReadsMore (jobs_step l.names l.before) l.jobs (place_of l.lines) read → ReadsMore (jobs_step l.names l.before) [] (place_of l.fn.lines) read
+invariant-lines l = (read : Result (List ℕ × Place) FileFault)
+    → ReadsMore (jobs_step l.names l.before) l.jobs (place_of l.lines) read → ReadsMore (jobs_step l.names l.before) [] (place_of l.fn.lines) read
 
 abbrev pub decreases-lines : goal.decreases-lines
 decreases-lines l = length l.lines.rest.now

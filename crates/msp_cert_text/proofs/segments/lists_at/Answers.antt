@@ -11,8 +11,10 @@ use Rattle.msp_cert_text.proofs.segments.lists_at.Goals as goal
 pub lines-preserved : goal.lines-preserved
 lines-preserved c =
     let step = rw c.if-branch.true at c.in_ok-segments_step.ensures.after in
-    let count = c.in_ok-segments_step.ensures.count c.if-branch.true in
-    (sym count.0, λ read h. c.lines.invariant.1 read (more_then (lists_of c.lines.lists) (lists_of c.segments_step.new.lists) (place_of c.lines.lines) (place_of c.segments_step.new.lines) read step h))
+    let count = c.in_ok-segments_step.ensures.count c.if-branch.true in (
+      sym count.0,
+      λ read h. c.lines.invariant.1 read (more_then (lists_of c.lines.lists) (lists_of c.segments_step.new.lists) (place_of c.lines.lines) (place_of c.segments_step.new.lines) read step h),
+    )
 
 pub returns : goal.returns
 returns c =
@@ -22,4 +24,5 @@ returns c =
 pub returns-in_err-segments_step : goal.returns-in_err-segments_step
 returns-in_err-segments_step c =
     let p = err_from_is_err_and c.from_residual.result c.from_residual.ensures.1 in
-    rw (p.1, p.2) (fails_on c.in_err-segments_step.field-0.0 _ _ c.lines.invariant.1 (more_fails (segments_step c.args.names.now) (lists_of c.lines.lists) (place_of c.lines.lines) c.in_err-segments_step.field-0.0 c.in_err-segments_step.ensures.after))
+    rw (p.1, p.2) (fails_on c.in_err-segments_step.field-0.0 _ _ c.lines.invariant.1
+    (more_fails (segments_step c.args.names.now) (lists_of c.lines.lists) (place_of c.lines.lines) c.in_err-segments_step.field-0.0 c.in_err-segments_step.ensures.after))

@@ -11,7 +11,8 @@ use Rattle.msp_cert_text.proofs.segments.lists_at.Given as goal
 abbrev pub invariant-lines : goal.invariant-lines
 invariant-lines l =
     (l.before ≡ length (segment_lines l.names (lists_of l.lists)))
-    × ((read : Result (List (List ℕ) × Place) FileFault) → ReadsMore (segments_step l.names) (lists_of l.lists) (place_of l.lines) read → ReadsMore (segments_step l.names) ([] ∷ []) (place_of l.fn.lines) read)
+    × ((read : Result (List (List ℕ) × Place) FileFault)
+    → ReadsMore (segments_step l.names) (lists_of l.lists) (place_of l.lines) read → ReadsMore (segments_step l.names) ([] ∷ []) (place_of l.fn.lines) read)
 
 abbrev pub decreases-lines : goal.decreases-lines
 decreases-lines l = length l.lines.rest.now

@@ -1,7 +1,7 @@
 -- The goals of `join_class` that are proved by lemmas.
 use Rattle.std.proofs.Common.{ℕ, Bool, subst, arith}
 use Rattle.msp_closure.specs.Tables.{allows}
-use Rattle.msp_closure.specs.Relation.{Rises, IncludesMarked}
+use Rattle.msp_closure.specs.Relation.{Rises, IncludesFlagged}
 use Rattle.msp_closure.proofs.StepLemmas.{step_of-numbered}
 use Rattle.msp_closure.proofs.RelationLemmas.{Rises-none, Rises-more, Rises-same}
 use Rattle.msp_closure.proofs.ReachLemmas.{GrowsAt-none, GrowsAt-then, IncludesBefore-next}
@@ -19,7 +19,7 @@ loop-k-init c = (
 pub loop-k-preserved : goal.loop-k-preserved
 loop-k-preserved c =
     let P : Bool → Type 0 = Rises c.loop-k.relation c.join_row.new.relation in
-    let includes = let Q : ℕ → Type 0 = IncludesMarked (allows c.args.rows) c.args.last.now c.join_row.new.relation c.args.c in
+    let includes = let Q : ℕ → Type 0 = IncludesFlagged (allows c.args.rows) c.args.last.now c.join_row.new.relation c.args.c in
     subst Q c.row_at.ensures c.join_row.ensures.includes in (
       GrowsAt-then c.loop-k.invariant.0 c.join_row.ensures.grows,
       elim c.if-join_row.branch [

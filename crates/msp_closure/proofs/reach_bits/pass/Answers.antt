@@ -9,7 +9,7 @@ use Rattle.msp_closure.proofs.reach_bits.pass.Goals as goal
 use Rattle.msp_closure.proofs.reach_bits.pass.Goals.{then-join_class, else-join_class}
 
 pub loop-n-init : goal.loop-n-init
-loop-n-init c = Passed-start (allows c.args.rows) c.args.relation.now c.args.last.now c.args.fresh.now c.requires.unmarked c.requires.closed
+loop-n-init c = Passed-start (allows c.args.rows) c.args.relation.now c.args.last.now c.args.fresh.now c.requires.unflagged c.requires.closed
 
 pub loop-n-preserved : goal.loop-n-preserved
 loop-n-preserved c =

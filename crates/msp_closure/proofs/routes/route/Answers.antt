@@ -20,7 +20,7 @@ pub returns-then-rank-clause-none : goal.returns-then-rank-clause-none
 returns-then-rank-clause-none c = none_between {E = ℕ} carries c.args.routes.now c.args.to (Ok (Some c.no_rows.result)) (returns-then-rank-clause-way c)
 
 pub way_within-requires : goal.way_within-requires
-way_within-requires c = subst₂ (λ rows starts. IsOutlook (allows rows) starts c.routes.inside.outlook.marks c.routes.inside.outlook.links.items)
+way_within-requires c = subst₂ (λ rows starts. IsOutlook (allows rows) starts c.routes.inside.outlook.flags c.routes.inside.outlook.links.items)
     (sym c.routes.invariant.0) (sym c.routes.invariant.1) c.routes.invariant.2
 
 pub returns-clause-way : goal.returns-clause-way

@@ -13,10 +13,16 @@ jobs_by_weight-requires-clause-small c = weights_small c.args.inst.now (IsOfClas
 pub blocked_pieces-requires-clause-few : goal.blocked_pieces-requires-clause-few
 blocked_pieces-requires-clause-few c =
     let i = c.args.inst.now in
-    omega (arith, ap length c.as_slice.ensures.value, order_many (length i.jobs) (weight_at i) c.in_ok-order.order.items c.in_ok-order.ensures, (IsOfClass-from i cut_weights_class c.requires.class c.requires.inner).few)
+    omega (
+      arith,
+      ap length c.as_slice.ensures.value,
+      order_many (length i.jobs) (weight_at i) c.in_ok-order.order.items c.in_ok-order.ensures,
+      (IsOfClass-from i cut_weights_class c.requires.class c.requires.inner).few,
+    )
 
 pub blocked_pieces-requires-clause-short : goal.blocked_pieces-requires-clause-short
 blocked_pieces-requires-clause-short c = omega (arith, c.shared_time.ensures, (weights_span c.args.inst.now (IsOfClass-from c.args.inst.now cut_weights_class c.requires.class c.requires.inner)).1)
 
 pub returns : goal.returns
-returns c = IfOk-weaker c.blocked_pieces.result _ _ (λ pieces e. (c.in_ok-order.order.items, c.in_ok-order.ensures, e ∙ ap₂ (λ t o. blocked c.args.inst.now.machines t o) c.shared_time.ensures c.as_slice.ensures.value)) c.blocked_pieces.ensures
+returns c = IfOk-weaker c.blocked_pieces.result
+    _ _ (λ pieces e. (c.in_ok-order.order.items, c.in_ok-order.ensures, e ∙ ap₂ (λ t o. blocked c.args.inst.now.machines t o) c.shared_time.ensures c.as_slice.ensures.value)) c.blocked_pieces.ensures

@@ -12,10 +12,12 @@ jobs_by_weight-requires-clause-small c = (IsEvenShop-from c.args.inst.now c.requ
 pub squared_pieces-requires-clause-few : goal.squared_pieces-requires-clause-few
 squared_pieces-requires-clause-few c =
     let i = c.args.inst.now in
-    omega (arith, ap length c.as_slice.ensures.value, order_many (length i.jobs) (weight_at i) c.in_ok-order.order.items c.in_ok-order.ensures, (IsEvenShop-from i c.requires.class c.requires.inner).few)
+    omega
+    (arith, ap length c.as_slice.ensures.value, order_many (length i.jobs) (weight_at i) c.in_ok-order.order.items c.in_ok-order.ensures, (IsEvenShop-from i c.requires.class c.requires.inner).few)
 
 pub squared_pieces-requires-clause-short : goal.squared_pieces-requires-clause-short
 squared_pieces-requires-clause-short c = omega (arith, c.shared_time.ensures, (IsEvenShop-from c.args.inst.now c.requires.class c.requires.inner).span.1)
 
 pub returns : goal.returns
-returns c = IfOk-weaker c.squared_pieces.result _ _ (λ pieces e. (c.in_ok-order.order.items, c.in_ok-order.ensures, e ∙ ap₂ (λ t o. squared c.args.inst.now.machines t o) c.shared_time.ensures c.as_slice.ensures.value)) c.squared_pieces.ensures
+returns c = IfOk-weaker c.squared_pieces.result
+    _ _ (λ pieces e. (c.in_ok-order.order.items, c.in_ok-order.ensures, e ∙ ap₂ (λ t o. squared c.args.inst.now.machines t o) c.shared_time.ensures c.as_slice.ensures.value)) c.squared_pieces.ensures

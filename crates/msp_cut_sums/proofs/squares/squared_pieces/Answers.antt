@@ -10,4 +10,5 @@ loop-turn-preserved c =
     let m = c.args.machines in
     let order = c.args.order.now in
     pieces_next (squared_piece m c.args.time order) x c.loop-turn.pieces c.put_in_slot.new.pieces
-    (c.in_ok-put_in_slot.ensures ∙ ap (λ s. c.loop-turn.pieces ++ part (at order (x / m)) (x % m) (x % m) (s * c.args.time) ((s + 1) * c.args.time) ∷ []) c.slot_of-slot.ensures.value) c.loop-turn.invariant
+    (c.in_ok-put_in_slot.ensures ∙ ap (λ s. c.loop-turn.pieces ++ part (at order (x / m)) (x % m) (x % m) (s * c.args.time) ((s + 1) * c.args.time) ∷ []) c.slot_of-slot.ensures.value)
+    c.loop-turn.invariant

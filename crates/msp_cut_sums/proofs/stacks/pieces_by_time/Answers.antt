@@ -2,7 +2,8 @@ use Rattle.std.proofs.Common.{length, map, All, sym, ap, ap₂, subst, ◌∙◌
 use Rattle.std.proofs.lemmas.Result.{IfOk-weaker}
 use Rattle.std.proofs.lemmas.List.{length-map}
 use Rattle.std.proofs.lemmas.List.Elements.{All-map}
-use Rattle.msp_schedule.specs.Rows.{time_at}
+use Rattle.msp_class.specs.declared.sizes.TheConstants.{GREATEST}
+use Rattle.msp_schedule.specs.BackToBack.{time_at}
 use Rattle.msp_schedule.proofs.feasible.OfClass.{IsOfClass-from}
 use Rattle.msp_cut_sums.specs.Sums.{cut_sum_class}
 use Rattle.msp_cut_sums.specs.Pieces.{AreEnds, stacked}
@@ -35,13 +36,18 @@ ends_of-requires-clause-short c =
     let i = c.args.inst.now in
     let h = IsOfClass-from i cut_sum_class c.requires.class c.requires.inner in
     let within = (order_once (length i.jobs) (time_at i) c.in_ok-order.order.items c.in_ok-order.ensures).within in
-    subst (All (λ t. t ≤ 1000000000)) (sym (c.as_slice-2.ensures.value ∙ c.in_ok-times.ensures ∙ ap (map (time_at i)) c.as_slice.ensures.value))
-    (All-map (λ t. t ≤ 1000000000) (time_at i) c.in_ok-order.order.items (λ k d l. (sum_times i h _ (within k d l)).1))
+    subst (All (λ t. t ≤ GREATEST)) (sym (c.as_slice-2.ensures.value ∙ c.in_ok-times.ensures ∙ ap (map (time_at i)) c.as_slice.ensures.value))
+    (All-map (λ t. t ≤ GREATEST) (time_at i) c.in_ok-order.order.items (λ k d l. (sum_times i h _ (within k d l)).1))
 
 pub stacked_pieces-requires-clause-few : goal.stacked_pieces-requires-clause-few
 stacked_pieces-requires-clause-few c =
     let i = c.args.inst.now in
-    omega (arith, ap length c.as_slice-3.ensures.value, order_many (length i.jobs) (time_at i) c.in_ok-order.order.items c.in_ok-order.ensures, (IsOfClass-from i cut_sum_class c.requires.class c.requires.inner).few)
+    omega (
+      arith,
+      ap length c.as_slice-3.ensures.value,
+      order_many (length i.jobs) (time_at i) c.in_ok-order.order.items c.in_ok-order.ensures,
+      (IsOfClass-from i cut_sum_class c.requires.class c.requires.inner).few,
+    )
 
 pub stacked_pieces-requires-clause-many : goal.stacked_pieces-requires-clause-many
 stacked_pieces-requires-clause-many c =

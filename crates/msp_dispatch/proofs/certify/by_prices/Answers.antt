@@ -19,4 +19,5 @@ certified-requires-clause-shown c =
     let r = c.reported-solution.ensures.reported in
     let a = c.in_ok-solution.field-0.prices in
     let h = c.in_ok-solution.ensures in
-    Certifies-whole i s (Prices a.row_price a.column_price) r (IsWholeValue-prices i c.requires.inside c.requires.class s r.best a h.prices h.small) (priced a c.requires.class h.prices h.positions h.small)
+    Certifies-whole i s (Prices a.row_price a.column_price)
+    r (IsWholeValue-prices i c.requires.inside c.requires.class s r.best a h.prices h.small) (priced a c.requires.class h.prices h.positions h.small)

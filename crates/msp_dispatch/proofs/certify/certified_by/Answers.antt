@@ -15,7 +15,8 @@ pub searched-requires-clause-first : goal.searched-requires-clause-first
 searched-requires-clause-first c = searched_class c.args.inst.now.class (class_of maker.Wrap) (c.requires.class ∙ ap class_of c.in-Wrap.is) (0, omega arith, refl)
 
 pub searched-requires-clause-tried : goal.searched-requires-clause-tried
-searched-requires-clause-tried c = IsTriedValue-wrap c.args.inst.now c.requires.inside (c.requires.class ∙ ap class_of c.in-Wrap.is) c.in_ok-solve-in-Wrap.field-0.cost c.in_ok-solve-in-Wrap.ensures.cost
+searched-requires-clause-tried c =
+    IsTriedValue-wrap c.args.inst.now c.requires.inside (c.requires.class ∙ ap class_of c.in-Wrap.is) c.in_ok-solve-in-Wrap.field-0.cost c.in_ok-solve-in-Wrap.ensures.cost
 
 pub solve-requires-in-UniformCut-clause-inner : goal.solve-requires-in-UniformCut-clause-inner
 solve-requires-in-UniformCut-clause-inner c = Inner-from_class c.args.inst.now c.requires.inside
@@ -27,7 +28,8 @@ pub searched-requires-in-UniformCut-clause-first : goal.searched-requires-in-Uni
 searched-requires-in-UniformCut-clause-first c = searched_class c.args.inst.now.class (class_of maker.UniformCut) (c.requires.class ∙ ap class_of c.in-UniformCut.is) (1, omega arith, refl)
 
 pub searched-requires-in-UniformCut-clause-tried : goal.searched-requires-in-UniformCut-clause-tried
-searched-requires-in-UniformCut-clause-tried c = IsTriedValue-uniform c.args.inst.now c.requires.inside (c.requires.class ∙ ap class_of c.in-UniformCut.is) c.in_ok-solve-in-UniformCut.field-0.cost c.in_ok-solve-in-UniformCut.ensures.cost
+searched-requires-in-UniformCut-clause-tried c =
+    IsTriedValue-uniform c.args.inst.now c.requires.inside (c.requires.class ∙ ap class_of c.in-UniformCut.is) c.in_ok-solve-in-UniformCut.field-0.cost c.in_ok-solve-in-UniformCut.ensures.cost
 
 pub solve-requires-in-OpenCut-clause-inner : goal.solve-requires-in-OpenCut-clause-inner
 solve-requires-in-OpenCut-clause-inner c = Inner-from_class c.args.inst.now c.requires.inside
@@ -39,7 +41,8 @@ pub searched-requires-in-OpenCut-clause-first : goal.searched-requires-in-OpenCu
 searched-requires-in-OpenCut-clause-first c = searched_class c.args.inst.now.class (class_of maker.OpenCut) (c.requires.class ∙ ap class_of c.in-OpenCut.is) (2, omega arith, refl)
 
 pub searched-requires-in-OpenCut-clause-tried : goal.searched-requires-in-OpenCut-clause-tried
-searched-requires-in-OpenCut-clause-tried c = IsTriedValue-open_cut c.args.inst.now c.in_ok-solve-in-OpenCut.field-0.cost c.requires.inside (c.requires.class ∙ ap class_of c.in-OpenCut.is) c.in_ok-solve-in-OpenCut.ensures.cost
+searched-requires-in-OpenCut-clause-tried c =
+    IsTriedValue-open_cut c.args.inst.now c.in_ok-solve-in-OpenCut.field-0.cost c.requires.inside (c.requires.class ∙ ap class_of c.in-OpenCut.is) c.in_ok-solve-in-OpenCut.ensures.cost
 
 pub solve-requires-in-Open2-clause-inner : goal.solve-requires-in-Open2-clause-inner
 solve-requires-in-Open2-clause-inner c = Inner-from_class c.args.inst.now c.requires.inside
@@ -51,7 +54,8 @@ pub searched-requires-in-Open2-clause-first : goal.searched-requires-in-Open2-cl
 searched-requires-in-Open2-clause-first c = searched_class c.args.inst.now.class (class_of maker.Open2) (c.requires.class ∙ ap class_of c.in-Open2.is) (3, omega arith, refl)
 
 pub searched-requires-in-Open2-clause-tried : goal.searched-requires-in-Open2-clause-tried
-searched-requires-in-Open2-clause-tried c = IsTriedValue-open c.args.inst.now c.in_ok-solve-in-Open2.field-0.cost c.requires.inside (c.requires.class ∙ ap class_of c.in-Open2.is) c.in_ok-solve-in-Open2.ensures.cost
+searched-requires-in-Open2-clause-tried c =
+    IsTriedValue-open c.args.inst.now c.in_ok-solve-in-Open2.field-0.cost c.requires.inside (c.requires.class ∙ ap class_of c.in-Open2.is) c.in_ok-solve-in-Open2.ensures.cost
 
 pub solve-requires-in-Levels-clause-inner : goal.solve-requires-in-Levels-clause-inner
 solve-requires-in-Levels-clause-inner c = Inner-from_class c.args.inst.now c.requires.inside
@@ -63,4 +67,5 @@ pub searched-requires-in-Levels-clause-first : goal.searched-requires-in-Levels-
 searched-requires-in-Levels-clause-first c = searched_class c.args.inst.now.class (class_of maker.Levels) (c.requires.class ∙ ap class_of c.in-Levels.is) (4, omega arith, refl)
 
 pub searched-requires-in-Levels-clause-tried : goal.searched-requires-in-Levels-clause-tried
-searched-requires-in-Levels-clause-tried c = IsTriedValue-levels c.args.inst.now c.requires.inside (c.requires.class ∙ ap class_of c.in-Levels.is) c.in_ok-solve-in-Levels.field-0.cost c.in_ok-solve-in-Levels.ensures.cost
+searched-requires-in-Levels-clause-tried c =
+    IsTriedValue-levels c.args.inst.now c.requires.inside (c.requires.class ∙ ap class_of c.in-Levels.is) c.in_ok-solve-in-Levels.field-0.cost c.in_ok-solve-in-Levels.ensures.cost

@@ -11,4 +11,5 @@ pub returns-clause-pick : goal.returns-clause-pick
 returns-clause-pick c = subst (λ from. IfOk c.first_along.result (λ found. IfSome found (IsPick from None))) c.in_ok-routes.ensures c.first_along.ensures.pick
 
 pub returns-clause-none : goal.returns-clause-none
-returns-clause-none c = subst (λ from. IfOk c.first_along.result (λ found. IfNone found ((target : Class) → Contains solved_classes target → ¬ Reaches carries from target))) c.in_ok-routes.ensures c.first_along.ensures.none
+returns-clause-none c = subst (λ from. IfOk c.first_along.result (λ found. IfNone found ((target : Class) → Contains solved_classes target → ¬ Reaches carries from target)))
+    c.in_ok-routes.ensures c.first_along.ensures.none

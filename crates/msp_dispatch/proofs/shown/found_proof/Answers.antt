@@ -11,4 +11,5 @@ pub unreachable-requires : goal.unreachable-requires
 unreachable-requires c = found_some c.args.inst.now c.args.cost c.requires.tried (subst (IsFound c.args.inst.now c.args.cost) c.in-None.is c.in_ok-proof.ensures)
 
 pub returns : goal.returns
-returns c = Certifies-found c.args.inst.now c.args.cost c.in-Some.proof c.requires.class c.requires.first c.requires.lowest c.requires.tried (subst (IsFound c.args.inst.now c.args.cost) c.in-Some.is c.in_ok-proof.ensures)
+returns c = Certifies-found c.args.inst.now c.args.cost c.in-Some.proof c.requires.class c.requires.first c.requires.lowest c.requires.tried
+    (subst (IsFound c.args.inst.now c.args.cost) c.in-Some.is c.in_ok-proof.ensures)

@@ -18,7 +18,8 @@ returns-clause-best c =
     let long = c.in_ok-pieces.ensures ∙ ap₂ (λ t ps. map (long_piece t) ps) c.common_time.ensures c.as_slice.ensures in
     record {
       best = subst (λ ps. Best i (record { unit = pos 1; pieces = ps })) (sym long) (is_best i c.requires.class c.requires.inner bound made.slots.items made.pieces c.in_ok-in_slots.ensures least);
-      cost = subst (λ ps. (bound *ℤ pos 1) ≡ (cost_of i (record { unit = pos 1; pieces = ps }) *ℤ pos 1)) (sym long) (ap (λ x. x *ℤ pos 1) (sym (cost_is i c.requires.class c.requires.inner bound made.slots.items made.pieces c.in_ok-in_slots.ensures least)));
+      cost = subst (λ ps. (bound *ℤ pos 1) ≡ (cost_of i (record { unit = pos 1; pieces = ps }) *ℤ pos 1)) (sym long)
+          (ap (λ x. x *ℤ pos 1) (sym (cost_is i c.requires.class c.requires.inner bound made.slots.items made.pieces c.in_ok-in_slots.ensures least)));
     }
 
 pub returns-clause-bounds : goal.returns-clause-bounds
@@ -26,4 +27,5 @@ returns-clause-bounds c =
     let i = c.args.inst.now in
     let made = c.in_ok-in_slots.in_slots in
     let long = c.in_ok-pieces.ensures ∙ ap₂ (λ t ps. map (long_piece t) ps) c.common_time.ensures c.as_slice.ensures in
-    subst (λ ps. IsAnswer i (record { unit = pos 1; pieces = ps })) (sym long) (is_answer i c.requires.class c.requires.inner (to_z w128 (of_z w128 c.in_ok-bound.bound)) made.slots.items made.pieces c.in_ok-in_slots.ensures)
+    subst (λ ps. IsAnswer i (record { unit = pos 1; pieces = ps })) (sym long)
+    (is_answer i c.requires.class c.requires.inner (to_z w128 (of_z w128 c.in_ok-bound.bound)) made.slots.items made.pieces c.in_ok-in_slots.ensures)

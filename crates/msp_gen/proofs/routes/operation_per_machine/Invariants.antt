@@ -4,4 +4,5 @@ use Rattle.msp_gen.specs.Generated.{draw_need, draw_shop_time}
 use Rattle.msp_gen.proofs.routes.operation_per_machine.Given as goal
 
 abbrev pub invariant-loop-machine : goal.invariant-loop-machine
-invariant-loop-machine l = draw_turns (λ machine _. draw_one (draw_need machine (draw_shop_time l.fn.times l.fn.shared machine))) l.machine l.fn.draws.seed ≡ record { value = l.needs; seed = l.draws.seed }
+invariant-loop-machine l = draw_turns (λ machine _. draw_one (draw_need machine (draw_shop_time l.fn.times l.fn.shared machine))) l.machine l.fn.draws.seed
+    ≡ record { value = l.needs; seed = l.draws.seed }

@@ -13,7 +13,10 @@ pub bounds-heads-job : goal.bounds-heads-job
 bounds-heads-job c = omega (arith, job_inside c.args.inst.now c.args.order.now c.requires.sequence c.loop-place.place _ c.loop-place-test.true refl, c.loop-place.invariant.each)
 
 pub loop-place-preserved : goal.loop-place-preserved
-loop-place-preserved c = raised_next c.args.inst.now (IsOneInstance-from c.args.inst.now c.requires.machine c.requires.inner) c.args.order.now c.requires.sequence c.requires.forward c.loop-place.heads c.loop-place.place _ c.raised.result c.loop-place-test.true refl c.args.sorted.now c.requires.same c.entering_of-entering.result.now c.entering_of-entering.ensures c.raised.ensures c.loop-place.invariant
+loop-place-preserved c = raised_next c.args.inst.now (IsOneInstance-from c.args.inst.now c.requires.machine c.requires.inner)
+    c.args.order.now c.requires.sequence c.requires.forward c.loop-place.heads c.loop-place.place _ c.raised.result c.loop-place-test.true
+    refl c.args.sorted.now c.requires.same c.entering_of-entering.result.now c.entering_of-entering.ensures c.raised.ensures c.loop-place.invariant
 
 pub returns : goal.returns
-returns c = AreHeads-end c.args.inst.now (IsOneInstance-from c.args.inst.now c.requires.machine c.requires.inner) c.args.order.now c.loop-place.heads c.loop-place.place (omega (arith, c.loop-place-test.false)) c.requires.inner.conditions.ends c.requires.sequence c.loop-place.invariant
+returns c = AreHeads-end c.args.inst.now (IsOneInstance-from c.args.inst.now c.requires.machine c.requires.inner) c.args.order.now c.loop-place.heads c.loop-place.place
+    (omega (arith, c.loop-place-test.false)) c.requires.inner.conditions.ends c.requires.sequence c.loop-place.invariant

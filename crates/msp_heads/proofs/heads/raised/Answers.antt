@@ -11,4 +11,5 @@ loop-arc-preserved c =
     let k = c.loop-arc.arc-index in
     let a : Arc = get_or arcs k (record { before = 0; after = 0 }) in
     let at = get_or_default arcs k (record { before = 0; after = 0 }) a c.loop-arc-test.true in
-    IsRaised-take c.args.inst.now arcs heads c.args.job k a c.loop-arc-test.true at c.loop-arc.head c.end_from_head.result c.max-head.result (c.requires.entering k (record { before = 0; after = 0 }) c.loop-arc-test.true).0 c.end_from_head.ensures c.max-head.ensures c.loop-arc.invariant
+    IsRaised-take c.args.inst.now arcs heads c.args.job k a c.loop-arc-test.true at c.loop-arc.head c.end_from_head.result c.max-head.result
+    (c.requires.entering k (record { before = 0; after = 0 }) c.loop-arc-test.true).0 c.end_from_head.ensures c.max-head.ensures c.loop-arc.invariant

@@ -14,7 +14,8 @@ loop-done-init c =
     c.leaving_of.ensures whole c.meet.auto.seen c.new-found.ensures.items c.in_ok-meet.ensures.listing c.in_ok-meet.ensures.met c.in_ok-meet.ensures.only
 
 pub meet-requires-in-loop-done-clause-ends : goal.meet-requires-in-loop-done-clause-ends
-meet-requires-in-loop-done-clause-ends c = ends_inside c.args.jobs c.args.sorted.now c.leaving_of-leaving.result.now c.index.result.now _ c.leaving_of-leaving.ensures c.loop-done.invariant.whole c.requires.ends
+meet-requires-in-loop-done-clause-ends c =
+    ends_inside c.args.jobs c.args.sorted.now c.leaving_of-leaving.result.now c.index.result.now _ c.leaving_of-leaving.ensures c.loop-done.invariant.whole c.requires.ends
 
 pub loop-done-smaller : goal.loop-done-smaller
 loop-done-smaller c = IsSearch-smaller c.args.jobs c.args.sorted.now c.args.start c.loop-done.seen c.loop-done.found.items c.loop-done.done c.loop-done.invariant (omega arith)

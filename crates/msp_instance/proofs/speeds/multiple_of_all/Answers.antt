@@ -9,7 +9,8 @@ loop-speed-init c = record { least = IsLeastOfAll-none; small = omega arith }
 
 pub loop-speed-preserved : goal.loop-speed-preserved
 loop-speed-preserved c =
-    let more = IsLeastOfAll-more c.args.speeds.now c.loop-speed.speed-index _ _ (omega arith) c.loop-speed.invariant.least c.common_multiple-multiple.ensures.some c.common_multiple-multiple.ensures.least in
+    let more = IsLeastOfAll-more c.args.speeds.now c.loop-speed.speed-index _ _ (omega arith)
+    c.loop-speed.invariant.least c.common_multiple-multiple.ensures.some c.common_multiple-multiple.ensures.least in
     record { least = more; small = multiple_small c.args.speeds.now (c.loop-speed.speed-index + 1) _ c.requires.small more }
 
 pub returns-clause-least : goal.returns-clause-least

@@ -7,19 +7,39 @@ use Rattle.msp_io.proofs.whole.read_all.Goals as goal
 
 pub returns-then-count-free-clause-stopped : goal.returns-then-count-free-clause-stopped
 returns-then-count-free-clause-stopped g c =
-    let piece = take c.in-Ok.count c.read_once.new.piece in
-    (c.pieces.bytes.items ++ piece, (g.met.S.Source.lawful.joined c.args.source.now c.pieces.source c.read_once.new.source _ _ c.pieces.invariant.taken (c.in-Ok.ensures.given (omega (arith, c.in-Ok.count-test))), omega (arith, c.in-Ok.ensures.count, length-append {A = ℕ}, length-take {A = ℕ})))
+    let piece = take c.in-Ok.count c.read_once.new.piece in (
+      c.pieces.bytes.items ++ piece,
+      (
+        g.met.S.Source.lawful.joined c.args.source.now c.pieces.source c.read_once.new.source _ _ c.pieces.invariant.taken
+            (c.in-Ok.ensures.given (omega (arith, c.in-Ok.count-test))),
+        omega (arith, c.in-Ok.ensures.count, length-append {A = ℕ}, length-take {A = ℕ}),
+      ),
+    )
 
 pub returns-in_err-extend_from_slice-in-Ok-clause-stopped : goal.returns-in_err-extend_from_slice-in-Ok-clause-stopped
 returns-in_err-extend_from_slice-in-Ok-clause-stopped g c =
     let piece = take c.in-Ok.count c.read_once.new.piece in
     let p = err_from_is_err_and c.from_residual.result c.from_residual.ensures.1 in
-    rw (p.1, p.2) (c.pieces.bytes.items ++ piece, (g.met.S.Source.lawful.joined c.args.source.now c.pieces.source c.read_once.new.source _ _ c.pieces.invariant.taken (c.in-Ok.ensures.given (omega (arith, c.in-Ok.count-test))), omega (arith, c.in-Ok.ensures.count, length-append {A = ℕ}, length-take {A = ℕ})))
+    rw (p.1, p.2) (
+      c.pieces.bytes.items ++ piece,
+      (
+        g.met.S.Source.lawful.joined c.args.source.now c.pieces.source c.read_once.new.source _ _ c.pieces.invariant.taken
+            (c.in-Ok.ensures.given (omega (arith, c.in-Ok.count-test))),
+        omega (arith, c.in-Ok.ensures.count, length-append {A = ℕ}, length-take {A = ℕ}),
+      ),
+    )
 
 pub returns-in-Err-clause-stopped : goal.returns-in-Err-clause-stopped
-returns-in-Err-clause-stopped g c =
-    (c.pieces.bytes.items, (and_none (g.S.Source.broke c.args.source.now c.read_once.new.source) c.pieces.bytes.items (g.met.S.Source.lawful.joined_fault c.args.source.now c.pieces.source c.read_once.new.source _ _ c.pieces.invariant.taken c.in-Err.ensures.broken), omega (arith, c.pieces.invariant.within, c.pieces.bytes.ok)))
+returns-in-Err-clause-stopped g c = (
+  c.pieces.bytes.items,
+  (
+    and_none (g.S.Source.broke c.args.source.now c.read_once.new.source) c.pieces.bytes.items (g.met.S.Source.lawful.joined_fault c.args.source.now
+        c.pieces.source c.read_once.new.source _ _ c.pieces.invariant.taken c.in-Err.ensures.broken),
+    omega (arith, c.pieces.invariant.within, c.pieces.bytes.ok),
+  ),
+)
 
 pub returns-in-Ok-eq0-clause-all : goal.returns-in-Ok-eq0-clause-all
 returns-in-Ok-eq0-clause-all g c =
-    and_none (g.S.Source.finished c.args.source.now c.read_once.new.source) c.pieces.bytes.items (g.met.S.Source.lawful.joined_end c.args.source.now c.pieces.source c.read_once.new.source _ _ c.pieces.invariant.taken (c.in-Ok-eq0.ensures.end (omega (arith, c.in-Ok-eq0.field-0-test))))
+    and_none (g.S.Source.finished c.args.source.now c.read_once.new.source) c.pieces.bytes.items
+    (g.met.S.Source.lawful.joined_end c.args.source.now c.pieces.source c.read_once.new.source _ _ c.pieces.invariant.taken (c.in-Ok-eq0.ensures.end (omega (arith, c.in-Ok-eq0.field-0-test))))

@@ -7,11 +7,13 @@ use Rattle.msp_levels.proofs.level.jobs_by_level.Goals as goal
 pub returns-clause-all : goal.returns-clause-all
 returns-clause-all c =
     IfOk-weaker c.job_numbers.result (λ n. n.items ≡ map (λ k. k.job) c.as_slice.result.now) (λ n. IsPermutation (range_with_len 0 c.args.count) n.items)
-    (λ n e. numbers_all c.args.count c.in_ok-all.all.items c.sort_by_falling_key.new.jobs.items n.items c.in_ok-all.ensures.jobs c.sort_by_falling_key.ensures.permutation (e ∙ ap (map (λ k. k.job)) c.as_slice.ensures.value))
+    (λ n e. numbers_all c.args.count c.in_ok-all.all.items c.sort_by_falling_key.new.jobs.items n.items c.in_ok-all.ensures.jobs c.sort_by_falling_key.ensures.permutation
+    (e ∙ ap (map (λ k. k.job)) c.as_slice.ensures.value))
     c.job_numbers.ensures
 
 pub returns-clause-falling : goal.returns-clause-falling
 returns-clause-falling c =
     IfOk-weaker c.job_numbers.result (λ n. n.items ≡ map (λ k. k.job) c.as_slice.result.now) (λ n. AllPairs (λ a b. slice_index c.args.levels.now b ≤ slice_index c.args.levels.now a) n.items)
-    (λ n e. falls_or_stays (slice_index c.args.levels.now) n.items (numbers_falling (slice_index c.args.levels.now) c.in_ok-all.all.items c.sort_by_falling_key.new.jobs.items n.items c.in_ok-all.ensures.levels c.sort_by_falling_key.ensures.permutation c.sort_by_falling_key.ensures.sorted (e ∙ ap (map (λ k. k.job)) c.as_slice.ensures.value)))
+    (λ n e. falls_or_stays (slice_index c.args.levels.now) n.items (numbers_falling (slice_index c.args.levels.now) c.in_ok-all.all.items c.sort_by_falling_key.new.jobs.items
+    n.items c.in_ok-all.ensures.levels c.sort_by_falling_key.ensures.permutation c.sort_by_falling_key.ensures.sorted (e ∙ ap (map (λ k. k.job)) c.as_slice.ensures.value)))
     c.job_numbers.ensures

@@ -19,6 +19,8 @@ loop-arc-preserved c =
     let a : Arc = get_or arcs k (record { before = 0; after = 0 }) in
     let at = get_or_default arcs k (record { before = 0; after = 0 }) a c.loop-arc-test.true in
     elim c.if-arc-job.branch [
-      | then-arc-job w ↦ subst (IsOver (take (k + 1) arcs) level c.args.job) (sym w.level-is) (IsOver-take arcs level c.args.job k a c.loop-arc-test.true at c.loop-arc.level _ w.if-arc-job.true (max_is _ _ _ w.max-level.ensures) c.loop-arc.invariant)
-      | else-arc-job w ↦ subst (IsOver (take (k + 1) arcs) level c.args.job) (sym w.level-is) (IsOver-skip arcs level c.args.job k a c.loop-arc-test.true at c.loop-arc.level w.if-arc-job.false c.loop-arc.invariant)
+      | then-arc-job w ↦ subst (IsOver (take (k + 1) arcs) level c.args.job) (sym w.level-is)
+          (IsOver-take arcs level c.args.job k a c.loop-arc-test.true at c.loop-arc.level _ w.if-arc-job.true (max_is _ _ _ w.max-level.ensures) c.loop-arc.invariant)
+      | else-arc-job w ↦ subst (IsOver (take (k + 1) arcs) level c.args.job)
+          (sym w.level-is) (IsOver-skip arcs level c.args.job k a c.loop-arc-test.true at c.loop-arc.level w.if-arc-job.false c.loop-arc.invariant)
     ]

@@ -15,7 +15,9 @@ returns-clause-all c =
 
 pub returns-clause-falling : goal.returns-clause-falling
 returns-clause-falling c =
-    both_ok c.jobs_by_key.result (λ jobs. IsPermutation (range_with_len 0 c.args.count) jobs.items) (λ jobs. AllPairs (λ a b. (get_or c.as_slice.result.now a 0 < get_or c.as_slice.result.now b 0) ⊎ ((get_or c.as_slice.result.now a 0 ≡ get_or c.as_slice.result.now b 0) × (a ≤ b))) jobs.items)
+    both_ok c.jobs_by_key.result (λ jobs. IsPermutation (range_with_len 0 c.args.count) jobs.items)
+    (λ jobs. AllPairs (λ a b. (get_or c.as_slice.result.now a 0 < get_or c.as_slice.result.now b 0) ⊎ ((get_or c.as_slice.result.now a 0 ≡ get_or c.as_slice.result.now b 0) × (a ≤ b))) jobs.items)
     (λ jobs. AllPairs (λ a b. slice_index c.args.labels.now b ≤ slice_index c.args.labels.now a) jobs.items)
-    (λ jobs all rising. falling_labels c.args.count c.args.labels.now c.as_slice.result.now c.in_ok-ranks.ranks.items jobs.items c.as_slice.ensures.value c.in_ok-ranks.ensures c.requires.small all rising)
+    (λ jobs all rising. falling_labels c.args.count
+    c.args.labels.now c.as_slice.result.now c.in_ok-ranks.ranks.items jobs.items c.as_slice.ensures.value c.in_ok-ranks.ensures c.requires.small all rising)
     (returns-clause-all c) c.jobs_by_key.ensures.rising

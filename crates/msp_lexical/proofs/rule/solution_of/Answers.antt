@@ -9,13 +9,17 @@ pub cost-cost-requires-clause-feasible : goal.cost-cost-requires-clause-feasible
 cost-cost-requires-clause-feasible c = feasible c.args.inst.now c.requires.class c.requires.inner (slice_index c.args.labels.now) c.requires.labels c.args.pieces c.requires.pieces
 
 pub returns-clause-best : goal.returns-clause-best
-returns-clause-best c = record { best = best c.args.inst.now c.requires.class c.requires.inner (slice_index c.args.labels.now) c.requires.labels c.args.pieces c.requires.pieces; cost = c.cost-cost.ensures.value }
+returns-clause-best c = record {
+  best = best c.args.inst.now c.requires.class c.requires.inner (slice_index c.args.labels.now) c.requires.labels c.args.pieces c.requires.pieces;
+  cost = c.cost-cost.ensures.value;
+}
 
 pub returns-clause-bounds : goal.returns-clause-bounds
 returns-clause-bounds c = answer c.args.inst.now c.requires.class c.requires.inner (slice_index c.args.labels.now) c.requires.labels c.args.pieces c.requires.pieces
 
 pub returns-clause-cost : goal.returns-clause-cost
-returns-clause-cost c = cost c.args.inst.now c.requires.class c.requires.inner (slice_index c.args.labels.now) c.requires.labels c.args.pieces c.requires.pieces c.cost-cost.result c.cost-cost.ensures.value
+returns-clause-cost c = cost c.args.inst.now c.requires.class c.requires.inner
+    (slice_index c.args.labels.now) c.requires.labels c.args.pieces c.requires.pieces c.cost-cost.result c.cost-cost.ensures.value
 
 pub returns-clause-settled : goal.returns-clause-settled
 returns-clause-settled c = settled c.args.inst.now c.requires.class c.requires.inner (slice_index c.args.labels.now) c.requires.labels c.args.pieces c.requires.pieces

@@ -7,7 +7,8 @@ pub loop-from-preserved : goal.loop-from-preserved
 loop-from-preserved c = λ cut.
     let s = c.args.slots.now in
     let last = c.last_slot-last.ensures in
-    CutTo-next c.args.inst.now s.labels s.seats s.tops s.count cut c.loop-from.from c.last_slot-last.result c.loop-from.segments c.put.new.self c.in_ok-segment_of.field-0 last.after last.inside last.ends last.goes c.in_ok-segment_of.ensures c.in_ok-put.ensures.put (c.loop-from.invariant cut)
+    CutTo-next c.args.inst.now s.labels s.seats s.tops s.count cut c.loop-from.from c.last_slot-last.result c.loop-from.segments c.put.new.self
+    c.in_ok-segment_of.field-0 last.after last.inside last.ends last.goes c.in_ok-segment_of.ensures c.in_ok-put.ensures.put (c.loop-from.invariant cut)
 
 pub returns-clause-segments : goal.returns-clause-segments
 returns-clause-segments c =

@@ -1,12 +1,14 @@
 use Rattle.std.proofs.Common.{◌≡◌, ℕ, ◌<◌, List, length, slice_index, All, sym, subst, arith}
 use Rattle.std.proofs.lemmas.List.Elements.{All-weaker}
+use Rattle.msp_class.specs.declared.sizes.TheConstants.{MOST_JOBS}
 use Rattle.msp_schedule.specs.declared.Piece.{Piece}
 use Rattle.msp_lexical.specs.Slots.{AreTops, IsSeated, IsSeating, first_in, second_in}
 use Rattle.msp_lexical.proofs.SlotsMade.{some_piece, seated, places_apart, few_slots, slots_made, cost_of_slots, cut_made}
 use Rattle.msp_lexical.proofs.segment.slots_by_label.Goals as goal
 
 pub seats_of-seats-requires-clause-seated : goal.seats_of-seats-requires-clause-seated
-seats_of-seats-requires-clause-seated c = subst (λ n. All (IsSeated n) c.args.pieces.now) (sym c.len-jobs.ensures) (seated c.args.inst.now c.requires.class c.requires.inner c.args.labels.now c.requires.labels c.args.pieces.now c.requires.pieces)
+seats_of-seats-requires-clause-seated c = subst (λ n. All (IsSeated n) c.args.pieces.now)
+    (sym c.len-jobs.ensures) (seated c.args.inst.now c.requires.class c.requires.inner c.args.labels.now c.requires.labels c.args.pieces.now c.requires.pieces)
 
 pub seats_of-seats-requires-clause-apart : goal.seats_of-seats-requires-clause-apart
 seats_of-seats-requires-clause-apart c = places_apart c.args.inst.now c.requires.class c.requires.inner c.args.labels.now c.requires.labels c.args.pieces.now c.requires.pieces
@@ -16,7 +18,9 @@ slots_of-count-requires-clause-some c = some_piece c.args.inst.now c.requires.cl
 
 pub slots_of-count-requires-clause-seated : goal.slots_of-count-requires-clause-seated
 slots_of-count-requires-clause-seated c =
-    All-weaker (IsSeated (length c.args.inst.now.jobs)) (IsSeated 400) (λ p h. record { machine = h.machine; from = h.from; early = omega (arith, h.early, c.requires.inner.conditions.few); job = omega (arith, h.job, c.requires.inner.conditions.few) }) c.args.pieces.now
+    All-weaker (IsSeated (length c.args.inst.now.jobs)) (IsSeated MOST_JOBS)
+    (λ p h. record { machine = h.machine; from = h.from; early = omega (arith, h.early, c.requires.inner.conditions.few); job = omega (arith, h.job, c.requires.inner.conditions.few) })
+    c.args.pieces.now
     (seated c.args.inst.now c.requires.class c.requires.inner c.args.labels.now c.requires.labels c.args.pieces.now c.requires.pieces)
 
 seats_here : (n len : ℕ) (pieces : List Piece) (seats : List ℕ) → len ≡ n → IsSeating len pieces seats → IsSeating n pieces seats
@@ -24,18 +28,23 @@ seats_here n len pieces seats e h = subst (λ k. IsSeating k pieces seats) e h
 
 pub tops_of-tops-requires-clause-slots : goal.tops_of-tops-requires-clause-slots
 tops_of-tops-requires-clause-slots c =
-    few_slots c.args.inst.now c.requires.class c.requires.inner c.args.labels.now c.requires.labels c.args.pieces.now c.requires.pieces c.seats_of-seats.result (seats_here _ _ _ _ c.len-jobs.ensures c.seats_of-seats.ensures) c.slots_of-count.result (c.slots_of-count.ensures _)
+    few_slots c.args.inst.now c.requires.class c.requires.inner c.args.labels.now c.requires.labels c.args.pieces.now c.requires.pieces c.seats_of-seats.result
+    (seats_here _ _ _ _ c.len-jobs.ensures c.seats_of-seats.ensures) c.slots_of-count.result (c.slots_of-count.ensures _)
 
 pub tops_of-tops-requires-clause-first : goal.tops_of-tops-requires-clause-first
 tops_of-tops-requires-clause-first c = λ x l.
     subst (λ n. first_in c.seats_of-seats.result x < n) (sym c.len-jobs.ensures)
-    ((slots_made c.args.inst.now c.requires.class c.requires.inner c.args.labels.now c.requires.labels c.args.pieces.now c.requires.pieces c.seats_of-seats.result (seats_here _ _ _ _ c.len-jobs.ensures c.seats_of-seats.ensures) c.slots_of-count.result (c.slots_of-count.ensures _)).first_in x l).0
+    ((slots_made c.args.inst.now c.requires.class c.requires.inner c.args.labels.now c.requires.labels c.args.pieces.now c.requires.pieces c.seats_of-seats.result
+    (seats_here _ _ _ _ c.len-jobs.ensures c.seats_of-seats.ensures) c.slots_of-count.result (c.slots_of-count.ensures _)).first_in x l).0
 
 pub returns-clause-slots : goal.returns-clause-slots
 returns-clause-slots c =
-    cut_made c.args.inst.now c.requires.class c.requires.inner c.args.labels.now c.requires.labels c.args.pieces.now c.requires.pieces c.seats_of-seats.result (seats_here _ _ _ _ c.len-jobs.ensures c.seats_of-seats.ensures) c.slots_of-count.result (c.slots_of-count.ensures _) c.tops_of-tops.result
-    (subst (λ n. AreTops n c.slots_of-count.result (slice_index c.args.labels.now) (first_in c.seats_of-seats.result) (second_in c.seats_of-seats.result) (slice_index c.tops_of-tops.result)) c.len-jobs.ensures c.tops_of-tops.ensures)
+    cut_made c.args.inst.now c.requires.class c.requires.inner c.args.labels.now c.requires.labels c.args.pieces.now c.requires.pieces c.seats_of-seats.result
+    (seats_here _ _ _ _ c.len-jobs.ensures c.seats_of-seats.ensures) c.slots_of-count.result (c.slots_of-count.ensures _) c.tops_of-tops.result
+    (subst (λ n. AreTops n c.slots_of-count.result (slice_index c.args.labels.now) (first_in c.seats_of-seats.result) (second_in c.seats_of-seats.result) (slice_index c.tops_of-tops.result))
+    c.len-jobs.ensures c.tops_of-tops.ensures)
 
 pub returns-clause-cost : goal.returns-clause-cost
 returns-clause-cost c =
-    cost_of_slots c.args.inst.now c.requires.class c.requires.inner c.args.labels.now c.requires.labels c.args.pieces.now c.requires.pieces c.seats_of-seats.result (seats_here _ _ _ _ c.len-jobs.ensures c.seats_of-seats.ensures) c.slots_of-count.result (c.slots_of-count.ensures _)
+    cost_of_slots c.args.inst.now c.requires.class c.requires.inner c.args.labels.now c.requires.labels c.args.pieces.now c.requires.pieces c.seats_of-seats.result
+    (seats_here _ _ _ _ c.len-jobs.ensures c.seats_of-seats.ensures) c.slots_of-count.result (c.slots_of-count.ensures _)

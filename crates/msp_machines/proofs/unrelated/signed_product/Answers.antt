@@ -2,7 +2,7 @@
 use Rattle.std.proofs.Common.{◌*◌, ℤ, pos, ◌*ℤ◌, ap₂, ◌∙◌, arith, of_z, to_z, SFits}
 use Rattle.std.specs.Int.{w64}
 use Rattle.std.proofs.lemmas.Int.{ints, to_z-of_z, to_z_pos}
-use Rattle.msp_instance.specs.declared.ranges.TheConstants.{GREATEST, GREATEST_MULTIPLE}
+use Rattle.msp_class.specs.declared.sizes.TheConstants.{GREATEST, GREATEST_MULTIPLE}
 use Rattle.msp_instance.specs.Conditions.{LiesWithin}
 use Rattle.msp_machines.specs.laws.StretchedInner.{LiesWithin-product}
 use Rattle.msp_machines.proofs.unrelated.signed_product.Goals as goal

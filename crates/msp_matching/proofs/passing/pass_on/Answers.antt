@@ -6,7 +6,8 @@ pub back-init : goal.back-init
 back-init c = IsPassing-start _ _ _ c.requires
 
 pub back-preserved : goal.back-preserved
-back-preserved c = IsPassing-next _ _ _ c.requires c.back.columns c.swap.new.self c.back.place c.back.invariant (omega (arith, c.back-test.true)) c.swap.ensures.by_index c.swap.ensures.permutation c.swap.ensures.len
+back-preserved c = IsPassing-next _ _ _ c.requires c.back.columns c.swap.new.self c.back.place c.back.invariant
+    (omega (arith, c.back-test.true)) c.swap.ensures.by_index c.swap.ensures.permutation c.swap.ensures.len
 
 pub returns : goal.returns
 returns c =

@@ -13,13 +13,16 @@ invariant_of-table-clause-listed c =
     omega (arith, d.is.few, listed_many c.args.inst.now d c.requires.inner c.args.unit c.requires.unit c.requires.small _ c.in_ok-places.ensures _ c.as_slice.ensures.value)
 
 pub invariant_of-table-clause-small : goal.invariant_of-table-clause-small
-invariant_of-table-clause-small c = small c.args.inst.now (IsByDues-from c.args.inst.now c.requires.class c.requires.inner) c.requires.inner c.args.unit c.requires.unit c.requires.small _ c.in_ok-places.ensures
+invariant_of-table-clause-small c =
+    small c.args.inst.now (IsByDues-from c.args.inst.now c.requires.class c.requires.inner) c.requires.inner c.args.unit c.requires.unit c.requires.small _ c.in_ok-places.ensures
 
 pub assign-requires-clause-costs : goal.assign-requires-clause-costs
-assign-requires-clause-costs c = has_costs c.args.inst.now (IsByDues-from c.args.inst.now c.requires.class c.requires.inner) c.requires.inner c.args.unit c.requires.unit c.requires.small _ c.in_ok-places.ensures _ c.as_slice.ensures.value
+assign-requires-clause-costs c = has_costs c.args.inst.now (IsByDues-from c.args.inst.now c.requires.class c.requires.inner)
+    c.requires.inner c.args.unit c.requires.unit c.requires.small _ c.in_ok-places.ensures _ c.as_slice.ensures.value
 
 pub returns : goal.returns
 returns c =
     IfOk-weaker c.pieces_in.result _ _
-    (λ pieces e. least_assigned c.args.inst.now (IsByDues-from c.args.inst.now c.requires.class c.requires.inner) c.requires.inner c.args.unit c.requires.unit c.requires.small _ c.in_ok-places.ensures _ c.as_slice.ensures.value _ c.in_ok-column.ensures.assigned pieces c.in_ok-column.ensures.least
+    (λ pieces e. least_assigned c.args.inst.now (IsByDues-from c.args.inst.now c.requires.class c.requires.inner) c.requires.inner c.args.unit c.requires.unit
+    c.requires.small _ c.in_ok-places.ensures _ c.as_slice.ensures.value _ c.in_ok-column.ensures.assigned pieces c.in_ok-column.ensures.least
     (e ∙ ap₂ (λ places column. in_columns (length column) places column) (c.as_slice-2.ensures.value ∙ sym c.as_slice.ensures.value) c.as_slice-3.ensures)) c.pieces_in.ensures

@@ -1,7 +1,8 @@
 use Rattle.std.proofs.Common.{arith}
 use Rattle.std.proofs.lemmas.List.{length-take}
 use Rattle.std.proofs.lemmas.List.Sorted.{IsPermutation-trans}
-use Rattle.msp_places.proofs.InTurn.{put_next, take_within}
+use Rattle.msp_schedule.proofs.lists.InTurn.{take_within}
+use Rattle.msp_places.proofs.InTurn.{placed-next}
 use Rattle.msp_places.proofs.most.put_in_order.Goals as goal
 
 pub cheapest-place-requires-clause-inside : goal.cheapest-place-requires-clause-inside
@@ -12,7 +13,8 @@ loop-left-preserved c = record {
   all = IsPermutation-trans _ _ _ c.loop-left.invariant.all c.swap.ensures.permutation;
   inside = omega (arith, c.swap.ensures.len, c.loop-left.invariant.inside);
   room = omega (arith, c.loop-left.invariant.room);
-  turns = put_next c.args.inst.now c.args.unit c.args.places.now c.loop-left.order c.swap.new.self c.loop-left.left c.cheapest-place.result c.loop-left-test.true c.loop-left.invariant.inside (omega (arith, c.cheapest-place.ensures.place, length-take c.loop-left.left c.loop-left.order)) c.swap.ensures.after c.cheapest-place.ensures.cheapest c.loop-left.invariant.turns;
+  turns = placed-next c.args.inst.now c.args.unit c.args.places.now c.loop-left.order c.swap.new.self c.loop-left.left c.cheapest-place.result c.loop-left-test.true c.loop-left.invariant.inside
+      (omega (arith, c.cheapest-place.ensures.place, length-take c.loop-left.left c.loop-left.order)) c.swap.ensures.after c.cheapest-place.ensures.cheapest c.loop-left.invariant.turns;
 }
 
 pub returns : goal.returns

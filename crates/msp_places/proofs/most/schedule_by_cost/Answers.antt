@@ -5,19 +5,30 @@ use Rattle.msp_places.proofs.MostSteps.{common_read, IsMostAnswer-from}
 use Rattle.msp_places.proofs.most.schedule_by_cost.Goals as goal
 
 pub cost-cost-requires-clause-within : goal.cost-cost-requires-clause-within
-cost-cost-requires-clause-within c = (IsMostAnswer-from c.args.inst.now c.requires.class c.requires.inner _ _ _ (common_read c.args.inst.now _ _ c.as_slice.ensures c.multiple_of_all-unit.ensures.least) c.multiple_of_all-unit.ensures.small (to_z-of_z w128 _ (search rules) ∙ c.from.ensures) c.in_ok-pieces.ensures).within
+cost-cost-requires-clause-within c =
+    (IsMostAnswer-from c.args.inst.now c.requires.class c.requires.inner _ _ _ (common_read c.args.inst.now _ _ c.as_slice.ensures c.multiple_of_all-unit.ensures.least)
+    c.multiple_of_all-unit.ensures.small (to_z-of_z w128 _ (search rules) ∙ c.from.ensures) c.in_ok-pieces.ensures).within
 
 pub cost-cost-requires-clause-feasible : goal.cost-cost-requires-clause-feasible
-cost-cost-requires-clause-feasible c = (IsMostAnswer-from c.args.inst.now c.requires.class c.requires.inner _ _ _ (common_read c.args.inst.now _ _ c.as_slice.ensures c.multiple_of_all-unit.ensures.least) c.multiple_of_all-unit.ensures.small (to_z-of_z w128 _ (search rules) ∙ c.from.ensures) c.in_ok-pieces.ensures).best.feasible
+cost-cost-requires-clause-feasible c =
+    (IsMostAnswer-from c.args.inst.now c.requires.class c.requires.inner _ _ _ (common_read c.args.inst.now _ _ c.as_slice.ensures c.multiple_of_all-unit.ensures.least)
+    c.multiple_of_all-unit.ensures.small (to_z-of_z w128 _ (search rules) ∙ c.from.ensures) c.in_ok-pieces.ensures).best.feasible
 
 pub returns-clause-best : goal.returns-clause-best
-returns-clause-best c = record { best = (IsMostAnswer-from c.args.inst.now c.requires.class c.requires.inner _ _ _ (common_read c.args.inst.now _ _ c.as_slice.ensures c.multiple_of_all-unit.ensures.least) c.multiple_of_all-unit.ensures.small (to_z-of_z w128 _ (search rules) ∙ c.from.ensures) c.in_ok-pieces.ensures).best; cost = c.cost-cost.ensures.value }
+returns-clause-best c =
+    record {
+      best = (IsMostAnswer-from c.args.inst.now c.requires.class c.requires.inner _ _ _ (common_read c.args.inst.now _ _ c.as_slice.ensures c.multiple_of_all-unit.ensures.least)
+          c.multiple_of_all-unit.ensures.small (to_z-of_z w128 _ (search rules) ∙ c.from.ensures) c.in_ok-pieces.ensures).best;
+      cost = c.cost-cost.ensures.value;
+    }
 
 pub returns-clause-bounds : goal.returns-clause-bounds
-returns-clause-bounds c = (IsMostAnswer-from c.args.inst.now c.requires.class c.requires.inner _ _ _ (common_read c.args.inst.now _ _ c.as_slice.ensures c.multiple_of_all-unit.ensures.least) c.multiple_of_all-unit.ensures.small (to_z-of_z w128 _ (search rules) ∙ c.from.ensures) c.in_ok-pieces.ensures).answer
+returns-clause-bounds c = (IsMostAnswer-from c.args.inst.now c.requires.class c.requires.inner _ _ _ (common_read c.args.inst.now _ _ c.as_slice.ensures c.multiple_of_all-unit.ensures.least)
+    c.multiple_of_all-unit.ensures.small (to_z-of_z w128 _ (search rules) ∙ c.from.ensures) c.in_ok-pieces.ensures).answer
 
 pub returns-clause-order : goal.returns-clause-order
-returns-clause-order c = (IsMostAnswer-from c.args.inst.now c.requires.class c.requires.inner _ _ _ (common_read c.args.inst.now _ _ c.as_slice.ensures c.multiple_of_all-unit.ensures.least) c.multiple_of_all-unit.ensures.small (to_z-of_z w128 _ (search rules) ∙ c.from.ensures) c.in_ok-pieces.ensures).by_cost
+returns-clause-order c = (IsMostAnswer-from c.args.inst.now c.requires.class c.requires.inner _ _ _ (common_read c.args.inst.now _ _ c.as_slice.ensures c.multiple_of_all-unit.ensures.least)
+    c.multiple_of_all-unit.ensures.small (to_z-of_z w128 _ (search rules) ∙ c.from.ensures) c.in_ok-pieces.ensures).by_cost
 
 pub pieces_by_cost-requires-clause-unit : goal.pieces_by_cost-requires-clause-unit
 pieces_by_cost-requires-clause-unit c = common_read c.args.inst.now _ _ c.as_slice.ensures c.multiple_of_all-unit.ensures.least

@@ -13,8 +13,10 @@ inside c = search rules
 long : (c : goal.After-sweep-in-loop-piece-1) → length c.loop-piece.pieces ≡ length c.args.pieces.now
 long c = search rules
 
-past : (c : goal.After-sweep-in-loop-piece-1) → IsPast c.args.time c.args.pieces.now c.loop-piece.piece-index (get_or c.loop-piece.pieces c.loop-piece.piece-index none) c.past-sweep.result.reach c.past-sweep.result.idle
-past c = IsPast-read c.args.time c.args.pieces.now c.loop-piece.pieces c.requires.span c.requires.sorted c.loop-piece.piece-index none (inside c) _ _ _ _ c.requires.small c.loop-piece.invariant (long c) c.past-sweep.ensures.reach c.past-sweep.ensures.idle
+past : (c : goal.After-sweep-in-loop-piece-1)
+    → IsPast c.args.time c.args.pieces.now c.loop-piece.piece-index (get_or c.loop-piece.pieces c.loop-piece.piece-index none) c.past-sweep.result.reach c.past-sweep.result.idle
+past c = IsPast-read c.args.time c.args.pieces.now c.loop-piece.pieces c.requires.span c.requires.sorted c.loop-piece.piece-index none
+    (inside c) _ _ _ _ c.requires.small c.loop-piece.invariant (long c) c.past-sweep.ensures.reach c.past-sweep.ensures.idle
 
 pub closed_piece-requires-clause-begins : goal.closed_piece-requires-clause-begins
 closed_piece-requires-clause-begins c = (past c).begins
@@ -23,10 +25,13 @@ pub closed_piece-requires-clause-ends : goal.closed_piece-requires-clause-ends
 closed_piece-requires-clause-ends c = (past c).ends
 
 pub closed_piece-requires-clause-small_from : goal.closed_piece-requires-clause-small_from
-closed_piece-requires-clause-small_from c = small_from c.args.time c.args.pieces.now c.loop-piece.pieces c.requires.span c.requires.sorted c.loop-piece.piece-index none (inside c) _ _ _ _ c.requires.small c.loop-piece.invariant (long c) c.past-sweep.ensures.reach c.past-sweep.ensures.idle
+closed_piece-requires-clause-small_from c = small_from c.args.time c.args.pieces.now c.loop-piece.pieces c.requires.span c.requires.sorted c.loop-piece.piece-index none
+    (inside c) _ _ _ _ c.requires.small c.loop-piece.invariant (long c) c.past-sweep.ensures.reach c.past-sweep.ensures.idle
 
 pub closed_piece-requires-clause-small_to : goal.closed_piece-requires-clause-small_to
-closed_piece-requires-clause-small_to c = small_to c.args.time c.args.pieces.now c.loop-piece.pieces c.requires.span c.requires.sorted c.loop-piece.piece-index none (inside c) _ _ _ _ c.requires.small c.loop-piece.invariant (long c) c.past-sweep.ensures.reach c.past-sweep.ensures.idle
+closed_piece-requires-clause-small_to c = small_to c.args.time c.args.pieces.now c.loop-piece.pieces c.requires.span c.requires.sorted c.loop-piece.piece-index none
+    (inside c) _ _ _ _ c.requires.small c.loop-piece.invariant (long c) c.past-sweep.ensures.reach c.past-sweep.ensures.idle
 
 pub loop-piece-preserved : goal.loop-piece-preserved
-loop-piece-preserved c = IsSweeping-next c.args.time c.args.pieces.now c.loop-piece.pieces c.requires.span c.requires.sorted c.loop-piece.piece-index none (search rules) _ _ _ _ c.requires.small c.loop-piece.invariant (search rules) c.past-sweep.ensures.reach c.past-sweep.ensures.idle _ c.closed_piece.ensures
+loop-piece-preserved c = IsSweeping-next c.args.time c.args.pieces.now c.loop-piece.pieces c.requires.span c.requires.sorted c.loop-piece.piece-index none
+    (search rules) _ _ _ _ c.requires.small c.loop-piece.invariant (search rules) c.past-sweep.ensures.reach c.past-sweep.ensures.idle _ c.closed_piece.ensures

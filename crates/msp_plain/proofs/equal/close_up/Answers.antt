@@ -15,7 +15,8 @@ pub close-requires-clause-span : goal.close-requires-clause-span
 close-requires-clause-span c = All-permutation (λ p. (pos 0 ≤ℤ p.from) × (p.from <ℤ p.to)) c.args.s.now.pieces c.deref_mut.result.now (ordered c) c.requires.span
 
 pub close-requires-clause-small : goal.close-requires-clause-small
-close-requires-clause-small c = All-permutation (λ p. p.to ≤ℤ GREATEST_CLOSED_UP) (closed c.args.time c.args.s.now.pieces) (closed c.args.time c.deref_mut.result.now) (closed-permutation c.args.time c.args.s.now.pieces c.deref_mut.result.now (ordered c)) c.requires.small
+close-requires-clause-small c = All-permutation (λ p. p.to ≤ℤ GREATEST_CLOSED_UP) (closed c.args.time c.args.s.now.pieces)
+    (closed c.args.time c.deref_mut.result.now) (closed-permutation c.args.time c.args.s.now.pieces c.deref_mut.result.now (ordered c)) c.requires.small
 
 pub returns : goal.returns
 returns c = record {

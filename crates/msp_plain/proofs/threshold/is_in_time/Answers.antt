@@ -19,7 +19,8 @@ latest_is c = sum_is c.raised_due.result (due c) c.args.bound _ c.raised_due.ens
     (c.requires.due c.args.piece.now.job no_job c.requires.job) c.requires.bound
 
 pub overflow_mul-result : goal.overflow_mul-result
-overflow_mul-result c = fits_again _ _ c.args.unit (due c +ℤ c.args.bound) (unit_is c) (latest_is c) (latest_fits c.args.unit (due c) c.args.bound c.requires.unit (c.requires.due c.args.piece.now.job no_job c.requires.job) c.requires.bound)
+overflow_mul-result c = fits_again _ _ c.args.unit (due c +ℤ c.args.bound) (unit_is c)
+    (latest_is c) (latest_fits c.args.unit (due c) c.args.bound c.requires.unit (c.requires.due c.args.piece.now.job no_job c.requires.job) c.requires.bound)
 
 pub returns : goal.returns
 returns c = compared _ _ c.args.piece.now.to (c.args.unit *ℤ (due c +ℤ c.args.bound)) (to_z-of_z w128 c.args.piece.now.to (search rules))

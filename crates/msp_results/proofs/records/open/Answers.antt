@@ -8,4 +8,5 @@ returns-clause-reading c =
     let e = c.flexible.ensures in
     let f = c.has_headers.ensures in
     let fr = c.from_reader.ensures in
-    opened c.from_reader.result c.args.text.now (rw (e, f) at fr.config ∙ c.new.ensures.config) (rw (e, f) at fr.trim ∙ c.new.ensures.trim) (rw (e, f) at fr.has_headers) fr.headers fr.source c.requires
+    opened c.from_reader.result c.args.text.now (rw (e, f) at fr.config ∙ c.new.ensures.config)
+    (rw (e, f) at fr.trim ∙ c.new.ensures.trim) (rw (e, f) at fr.has_headers) fr.headers fr.source c.requires

@@ -7,11 +7,13 @@ use Rattle.msp_route.proofs.keyed.jobs_by_key.Goals as goal
 pub returns-clause-all : goal.returns-clause-all
 returns-clause-all c =
     IfOk-weaker c.job_numbers.result (λ n. n.items ≡ map (λ k. k.job) c.as_slice.result.now) (λ n. IsPermutation (range_with_len 0 (length c.args.keys.now)) n.items)
-    (λ n e. numbers_all (length c.args.keys.now) c.in_ok-all.all.items c.sort_by_key.new.jobs.items n.items c.in_ok-all.ensures.jobs c.sort_by_key.ensures.permutation (e ∙ ap (map (λ k. k.job)) c.as_slice.ensures.value))
+    (λ n e. numbers_all (length c.args.keys.now) c.in_ok-all.all.items c.sort_by_key.new.jobs.items n.items c.in_ok-all.ensures.jobs c.sort_by_key.ensures.permutation
+    (e ∙ ap (map (λ k. k.job)) c.as_slice.ensures.value))
     c.job_numbers.ensures
 
 pub returns-clause-rising : goal.returns-clause-rising
 returns-clause-rising c =
     IfOk-weaker c.job_numbers.result (λ n. n.items ≡ map (λ k. k.job) c.as_slice.result.now) (λ n. AllPairs (Rises (λ j. slice_index_or c.args.keys.now j 0)) n.items)
-    (λ n e. numbers_rising (λ j. slice_index_or c.args.keys.now j 0) c.in_ok-all.all.items c.sort_by_key.new.jobs.items n.items c.in_ok-all.ensures.keys c.sort_by_key.ensures.permutation c.sort_by_key.ensures.sorted (e ∙ ap (map (λ k. k.job)) c.as_slice.ensures.value))
+    (λ n e. numbers_rising (λ j. slice_index_or c.args.keys.now j 0) c.in_ok-all.all.items c.sort_by_key.new.jobs.items
+    n.items c.in_ok-all.ensures.keys c.sort_by_key.ensures.permutation c.sort_by_key.ensures.sorted (e ∙ ap (map (λ k. k.job)) c.as_slice.ensures.value))
     c.job_numbers.ensures

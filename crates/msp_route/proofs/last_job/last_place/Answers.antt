@@ -5,10 +5,14 @@ use Rattle.msp_route.proofs.last_job.last_place.Goals as goal
 
 pub unreachable-requires : goal.unreachable-requires
 unreachable-requires c =
-    some_open c.args.inst.now c.args.left.now c.marks_of-is_left.result (λ j. slice_index_or c.marks_before-blocked.result j false) c.as_slice.result.now (subst (IsPermutation c.args.inst.now.arcs) (sym c.as_slice.ensures) (IsPermutation-refl c.args.inst.now.arcs)) c.requires.inner.conditions.few c.requires.inner.conditions.ends c.marks_of-is_left.ensures c.marks_before-blocked.ensures
+    some_open c.args.inst.now c.args.left.now c.flags_of-is_left.result (λ j. slice_index_or c.flags_before-blocked.result j false)
+    c.as_slice.result.now (subst (IsPermutation c.args.inst.now.arcs) (sym c.as_slice.ensures) (IsPermutation-refl c.args.inst.now.arcs))
+    c.requires.inner.conditions.few c.requires.inner.conditions.ends c.flags_of-is_left.ensures c.flags_before-blocked.ensures
     c.requires.inside c.requires.inner.acyclic c.requires.some c.in-None.ensures
 
 pub returns-clause-last : goal.returns-clause-last
 returns-clause-last c =
-    ends_last c.args.inst.now c.args.left.now c.marks_of-is_left.result (λ j. slice_index_or c.marks_before-blocked.result j false) c.as_slice.result.now (subst (IsPermutation c.args.inst.now.arcs) (sym c.as_slice.ensures) (IsPermutation-refl c.args.inst.now.arcs)) c.requires.inner.conditions.few c.requires.inner.conditions.ends c.marks_of-is_left.ensures c.marks_before-blocked.ensures
+    ends_last c.args.inst.now c.args.left.now c.flags_of-is_left.result (λ j. slice_index_or c.flags_before-blocked.result j false)
+    c.as_slice.result.now (subst (IsPermutation c.args.inst.now.arcs) (sym c.as_slice.ensures) (IsPermutation-refl c.args.inst.now.arcs))
+    c.requires.inner.conditions.few c.requires.inner.conditions.ends c.flags_of-is_left.ensures c.flags_before-blocked.ensures
     c.requires.inside c.in-Some.last c.args.moment c.in-Some.ensures

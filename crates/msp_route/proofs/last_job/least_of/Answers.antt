@@ -16,7 +16,8 @@ loop-place-preserved c =
     elim c.if-not-blocked-job.branch [
       | then-not-blocked-job w ↦
           subst (IsFound jobs blocked cost (k + 1)) (sym w.best-is)
-          (found-take jobs blocked cost k _ c.loop-place-test.true refl c.loop-place.best _ w.better.result w.if-not-blocked-job.true refl refl (to_z-of_z w128 w.price-cost.result (search rules) ∙ w.price-cost.ensures) w.better.ensures.either w.better.ensures.next w.better.ensures.best c.loop-place.invariant)
+          (found-take jobs blocked cost k _ c.loop-place-test.true refl c.loop-place.best _ w.better.result w.if-not-blocked-job.true refl refl
+          (to_z-of_z w128 w.price-cost.result (search rules) ∙ w.price-cost.ensures) w.better.ensures.either w.better.ensures.next w.better.ensures.best c.loop-place.invariant)
       | else-not-blocked-job w ↦
           subst (IsFound jobs blocked cost (k + 1)) (sym w.best-is)
           (found-skip jobs blocked cost k _ c.loop-place-test.true refl c.loop-place.best w.if-not-blocked-job.false c.loop-place.invariant)

@@ -9,7 +9,8 @@ loop-piece-init c = AreBegins-none _ c.no_begins-begins.ensures
 
 pub loop-piece-preserved : goal.loop-piece-preserved
 loop-piece-preserved c =
-    AreBegins-next c.loop-piece.begins c.lower.new.begins c.args.pieces.now c.loop-piece.piece-index _ _ c.loop-piece-test.true refl (search rules) (search rules) c.lower.ensures c.loop-piece.invariant
+    AreBegins-next c.loop-piece.begins c.lower.new.begins c.args.pieces.now c.loop-piece.piece-index _ _ c.loop-piece-test.true refl
+    (search rules) (search rules) c.lower.ensures c.loop-piece.invariant
 
 pub returns : goal.returns
 returns c = subst (AreBegins c.loop-piece.begins) (take_all c.loop-piece.piece-index c.args.pieces.now c.loop-piece-test.false) c.loop-piece.invariant

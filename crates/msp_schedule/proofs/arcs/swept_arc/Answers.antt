@@ -6,9 +6,12 @@ use Rattle.msp_schedule.proofs.arcs.swept_arc.Goals as goal
 pub returns-then-not-is_kept-clause-some : goal.returns-then-not-is_kept-clause-some
 returns-then-not-is_kept-clause-some c = record {
   inside = c.loop-at-test.true;
-  holds = λ h. let yes = (arc_decided c.args.pieces.now (slice_index_or c.args.arcs.now c.loop-at.at no_arc) c.ends_of-ends.result c.begins_of-begins.result c.is_kept.result c.begins_of-begins.ensures c.ends_of-ends.ensures.ends c.ends_of-ends.ensures.moments c.requires.moments (c.requires.ends c.loop-at.at no_arc c.loop-at-test.true) c.is_kept.ensures).1 h in absurd (cc);
+  holds = λ h. let yes = (arc_decided c.args.pieces.now (slice_index_or c.args.arcs.now c.loop-at.at no_arc) c.ends_of-ends.result c.begins_of-begins.result c.is_kept.result c.begins_of-begins.ensures
+      c.ends_of-ends.ensures.ends c.ends_of-ends.ensures.moments c.requires.moments (c.requires.ends c.loop-at.at no_arc c.loop-at-test.true) c.is_kept.ensures).1 h in absurd (cc);
   least = λ l below none. none (c.loop-at.invariant l below);
 }
 
 pub loop-at-preserved : goal.loop-at-preserved
-loop-at-preserved c = arcs_more c.args.pieces.now c.args.arcs.now c.loop-at.at ((arc_decided c.args.pieces.now (slice_index_or c.args.arcs.now c.loop-at.at no_arc) c.ends_of-ends.result c.begins_of-begins.result c.is_kept.result c.begins_of-begins.ensures c.ends_of-ends.ensures.ends c.ends_of-ends.ensures.moments c.requires.moments (c.requires.ends c.loop-at.at no_arc c.loop-at-test.true) c.is_kept.ensures).0 (search)) c.loop-at.invariant
+loop-at-preserved c = arcs_more c.args.pieces.now c.args.arcs.now c.loop-at.at
+    ((arc_decided c.args.pieces.now (slice_index_or c.args.arcs.now c.loop-at.at no_arc) c.ends_of-ends.result c.begins_of-begins.result c.is_kept.result c.begins_of-begins.ensures
+    c.ends_of-ends.ensures.ends c.ends_of-ends.ensures.moments c.requires.moments (c.requires.ends c.loop-at.at no_arc c.loop-at-test.true) c.is_kept.ensures).0 (search)) c.loop-at.invariant

@@ -5,4 +5,5 @@ use Rattle.msp_schedule.specs.Breaks.{no_piece}
 use Rattle.msp_schedule.proofs.breaks.first_misplaced.Goals as goal
 
 pub returns-clause-none : goal.returns-clause-none
-returns-clause-none c = λ e. All-from_get_or (HasPlace c.args.inst.now) c.args.pieces.now no_piece (λ k l. c.loop-at.invariant k (let e = c.loop-at.auto.at-end in let t = c.loop-at-test.false in omega (arith, l, e, t)))
+returns-clause-none c = λ e. All-from_get_or (HasPlace c.args.inst.now)
+    c.args.pieces.now no_piece (λ k l. c.loop-at.invariant k (let e = c.loop-at.auto.at-end in let t = c.loop-at-test.false in omega (arith, l, e, t)))

@@ -4,7 +4,8 @@ use Rattle.std.proofs.lemmas.Int.{ints, to_z-of_z}
 use Rattle.msp_schedule.proofs.costs.Reduced.{Divides, Divides-same, Divides-lowest, Divides-positive}
 use Rattle.msp_schedule.proofs.fraction.lowest.Goals as goal
 
-divided_from : (num den s q u v : ℤ) (n w g : ℕ) → u ≡ num → v ≡ den → pos 1 ≤ℤ den → n ≡ unsigned_abs u → w ≡ unsigned_abs v → IsGcd n w g → q ≡ pos (w / g) → (pos 0 ≤ℤ u → s ≡ pos (n / g)) → (u <ℤ pos 0 → s ≡ neg_ℤ (pos (n / g))) → Divides num den s q g
+divided_from : (num den s q u v : ℤ) (n w g : ℕ) → u ≡ num → v ≡ den → pos 1 ≤ℤ den → n ≡ unsigned_abs u
+    → w ≡ unsigned_abs v → IsGcd n w g → q ≡ pos (w / g) → (pos 0 ≤ℤ u → s ≡ pos (n / g)) → (u <ℤ pos 0 → s ≡ neg_ℤ (pos (n / g))) → Divides num den s q g
 divided_from num den s q u v n w g eu ev one en ew common whole above below =
     let num_size : n ≡ unsigned_abs num = en ∙ ap unsigned_abs eu in
     let den_size : w ≡ unsigned_abs den = ew ∙ ap unsigned_abs ev in
@@ -32,17 +33,20 @@ lowest_again s q u v eu ev h =
 
 pub invariant_of-result : goal.invariant_of-result
 invariant_of-result c =
-    let d = divided_from _ _ _ _ _ _ _ _ _ (fits c.args.f.num (search rules)) (fits c.args.f.den (search rules)) c.args.f.positive c.unsigned_abs-size.ensures.value c.unsigned_abs-whole.ensures.value c.gcd-divisor.ensures.divisor c.quotient.ensures c.with_sign.ensures.positive c.with_sign.ensures.negative in
+    let d = divided_from _ _ _ _ _ _ _ _ _ (fits c.args.f.num (search rules)) (fits c.args.f.den (search rules)) c.args.f.positive c.unsigned_abs-size.ensures.value
+    c.unsigned_abs-whole.ensures.value c.gcd-divisor.ensures.divisor c.quotient.ensures c.with_sign.ensures.positive c.with_sign.ensures.negative in
     let e = fits c.quotient.result (search rules) in
     let p = Divides-positive _ _ _ _ _ d in
     record { positive = omega (arith, ints) }
 
 pub returns-clause-same : goal.returns-clause-same
 returns-clause-same c =
-    let d = divided_from _ _ _ _ _ _ _ _ _ (fits c.args.f.num (search rules)) (fits c.args.f.den (search rules)) c.args.f.positive c.unsigned_abs-size.ensures.value c.unsigned_abs-whole.ensures.value c.gcd-divisor.ensures.divisor c.quotient.ensures c.with_sign.ensures.positive c.with_sign.ensures.negative in
+    let d = divided_from _ _ _ _ _ _ _ _ _ (fits c.args.f.num (search rules)) (fits c.args.f.den (search rules)) c.args.f.positive c.unsigned_abs-size.ensures.value
+    c.unsigned_abs-whole.ensures.value c.gcd-divisor.ensures.divisor c.quotient.ensures c.with_sign.ensures.positive c.with_sign.ensures.negative in
     same_again _ _ _ _ _ _ (fits c.with_sign.result (search rules)) (fits c.quotient.result (search rules)) (Divides-same _ _ _ _ _ d)
 
 pub returns-clause-lowest : goal.returns-clause-lowest
 returns-clause-lowest c =
-    let d = divided_from _ _ _ _ _ _ _ _ _ (fits c.args.f.num (search rules)) (fits c.args.f.den (search rules)) c.args.f.positive c.unsigned_abs-size.ensures.value c.unsigned_abs-whole.ensures.value c.gcd-divisor.ensures.divisor c.quotient.ensures c.with_sign.ensures.positive c.with_sign.ensures.negative in
+    let d = divided_from _ _ _ _ _ _ _ _ _ (fits c.args.f.num (search rules)) (fits c.args.f.den (search rules)) c.args.f.positive c.unsigned_abs-size.ensures.value
+    c.unsigned_abs-whole.ensures.value c.gcd-divisor.ensures.divisor c.quotient.ensures c.with_sign.ensures.positive c.with_sign.ensures.negative in
     lowest_again _ _ _ _ (fits c.with_sign.result (search rules)) (fits c.quotient.result (search rules)) (Divides-lowest _ _ _ _ _ d)

@@ -25,7 +25,8 @@ passed_level unit u base b end x c r adds eu eb ex ea e =
 
 pub level_at-level-requires-clause-level : goal.level_at-level-requires-clause-level
 level_at-level-requires-clause-level c =
-    passed_small c.args.unit _ c.args.curve.now.base _ _ _ c.args.curve.now c.jumps_at-adds.result (to_z-of_z w128 c.args.unit c.ranges.unit) (to_z-of_z w64 c.args.curve.now.base (search rules)) c.jumps_at-adds.ensures.value c.requires.base
+    passed_small c.args.unit _ c.args.curve.now.base _ _ _ c.args.curve.now c.jumps_at-adds.result
+    (to_z-of_z w128 c.args.unit c.ranges.unit) (to_z-of_z w64 c.args.curve.now.base (search rules)) c.jumps_at-adds.ensures.value c.requires.base
 
 pub overflow_add-result : goal.overflow_add-result
 overflow_add-result c =
@@ -37,8 +38,10 @@ pub returns-clause-value : goal.returns-clause-value
 returns-clause-value c =
     let s = c.slope_cost.ensures.size in
     let l = c.level_at-level.ensures.size in
-    let sum : to_z w128 (of_z w128 (to_z w128 (of_z w128 c.slope_cost.result) +ℤ to_z w128 (of_z w128 c.level_at-level.result))) ≡ c.slope_cost.result +ℤ c.level_at-level.result = omega (arith, ints) in
-    let level = passed_level c.args.unit _ c.args.curve.now.base _ c.args.end _ c.args.curve.now c.level_at-level.result c.jumps_at-adds.result (to_z-of_z w128 c.args.unit c.ranges.unit) (to_z-of_z w64 c.args.curve.now.base (search rules)) (to_z-of_z w128 c.args.end c.ranges.end) c.jumps_at-adds.ensures.value c.level_at-level.ensures.value in
+    let sum : to_z w128 (of_z w128 (to_z w128 (of_z w128 c.slope_cost.result) +ℤ to_z w128 (of_z w128 c.level_at-level.result)))
+    ≡ c.slope_cost.result +ℤ c.level_at-level.result = omega (arith, ints) in
+    let level = passed_level c.args.unit _ c.args.curve.now.base _ c.args.end _ c.args.curve.now c.level_at-level.result c.jumps_at-adds.result (to_z-of_z w128 c.args.unit c.ranges.unit)
+    (to_z-of_z w64 c.args.curve.now.base (search rules)) (to_z-of_z w128 c.args.end c.ranges.end) c.jumps_at-adds.ensures.value c.level_at-level.ensures.value in
     let slope : c.slope_cost.result ≡ pos c.args.curve.now.slope *ℤ c.args.end = c.slope_cost.ensures.value ∙ ap (λ k. pos c.args.curve.now.slope *ℤ k) (to_z-of_z w128 c.args.end c.ranges.end) in
     sum ∙ ap (λ k. k +ℤ c.level_at-level.result) slope ∙ ap (λ k. (pos c.args.curve.now.slope *ℤ c.args.end) +ℤ k) level
 

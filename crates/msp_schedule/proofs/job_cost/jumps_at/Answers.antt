@@ -15,4 +15,5 @@ same_jumps u v x y steps t e f h = h ∙ ap (λ k. sum_by (λ s. jump k s x) ste
 pub returns-clause-value : goal.returns-clause-value
 returns-clause-value c =
     let same = ap length c.as_slice-step-items.ensures in
-    same_jumps _ _ _ _ c.args.curve.now.steps _ (to_z-of_z w128 c.args.unit c.ranges.unit) (to_z-of_z w128 c.args.end c.ranges.end) (at_end _ _ c.args.curve.now.steps c.loop-step.step-index _ (omega arith) c.loop-step.invariant.total)
+    same_jumps _ _ _ _ c.args.curve.now.steps _ (to_z-of_z w128 c.args.unit c.ranges.unit)
+    (to_z-of_z w128 c.args.end c.ranges.end) (at_end _ _ c.args.curve.now.steps c.loop-step.step-index _ (omega arith) c.loop-step.invariant.total)

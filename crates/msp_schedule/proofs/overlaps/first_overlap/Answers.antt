@@ -7,7 +7,8 @@ use Rattle.msp_schedule.proofs.overlaps.first_overlap.Goals.{in-Some, in_default
 pub loop-second-preserved : goal.loop-second-preserved
 loop-second-preserved c = elim c.match-overlapped.branch [
   | in-Some w ↦ subst (IsFirstOverlapBelow (lane_of c.args.lane) c.args.pieces.now (c.loop-second.second + 1)) (sym w.best-is) w.earlier-best.ensures
-  | in_default w ↦ subst (IsFirstOverlapBelow (lane_of c.args.lane) c.args.pieces.now (c.loop-second.second + 1)) (sym w.best-is) (nothing_new (lane_of c.args.lane) c.args.pieces.now c.loop-second.best c.loop-second.second w.in_default.ensures.none c.loop-second.invariant)
+  | in_default w ↦ subst (IsFirstOverlapBelow (lane_of c.args.lane) c.args.pieces.now (c.loop-second.second + 1)) (sym w.best-is)
+      (nothing_new (lane_of c.args.lane) c.args.pieces.now c.loop-second.best c.loop-second.second w.in_default.ensures.none c.loop-second.invariant)
 ]
 
 pub returns-in-None-clause-none : goal.returns-in-None-clause-none

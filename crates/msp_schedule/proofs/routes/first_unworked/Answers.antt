@@ -5,4 +5,5 @@ use Rattle.msp_schedule.proofs.routes.first_unworked.Goals as goal
 
 pub returns-then-lacks_work-clause-some : goal.returns-then-lacks_work-clause-some
 returns-then-lacks_work-clause-some c =
-    lacks_first c.args.inst.now c.args.unit _ c.args.pieces.now c.args.job c.args.ops c.loop-op.op (to_z-of_z w128 c.args.unit c.ranges.unit) c.loop-op-test.true (c.lacks_work.ensures.lacks c.if-lacks_work.true) c.loop-op.invariant
+    lacks_first c.args.inst.now c.args.unit _ c.args.pieces.now c.args.job c.args.ops c.loop-op.op
+    (to_z-of_z w128 c.args.unit c.ranges.unit) c.loop-op-test.true (c.lacks_work.ensures.lacks c.if-lacks_work.true) c.loop-op.invariant

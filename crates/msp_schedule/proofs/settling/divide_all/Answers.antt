@@ -24,7 +24,8 @@ divide-requires-clause-to c =
     subst (λ p. pos 0 ≤ℤ p.to) (sym (c.loop-piece.invariant.left c.loop-piece.piece-index none (omega arith))) (c.requires.natural c.loop-piece.piece-index none l).1
 
 pub loop-piece-preserved : goal.loop-piece-preserved
-loop-piece-preserved c = Halfway-step (divided c.args.divisor) c.args.pieces.now.items c.loop-piece.piece-items c.loop-piece.piece-index c.divide.result none (omega (arith, c.loop-piece.auto.piece-items, c.loop-piece-test.true)) (c.loop-piece.auto.piece-items ∙ ap length c.deref_mut-piece-items.ensures.value) c.divide.ensures c.loop-piece.invariant
+loop-piece-preserved c = Halfway-step (divided c.args.divisor) c.args.pieces.now.items c.loop-piece.piece-items c.loop-piece.piece-index c.divide.result none
+    (omega (arith, c.loop-piece.auto.piece-items, c.loop-piece-test.true)) (c.loop-piece.auto.piece-items ∙ ap length c.deref_mut-piece-items.ensures.value) c.divide.ensures c.loop-piece.invariant
 
 pub returns : goal.returns
 returns c =
@@ -33,4 +34,5 @@ returns c =
     let long : length zs ≡ length xs = c.loop-piece.auto.piece-items ∙ ap length c.deref_mut-piece-items.ensures.value in
     let len : c.args.pieces.now.len ≡ length xs = sym c.deref_mut-piece-items.ensures.len ∙ ap length c.deref_mut-piece-items.ensures.value in
     take-append-le c.args.pieces.now.len zs _ (omega (arith, long, len)) ∙ take_all c.args.pieces.now.len zs (omega (arith, long, len))
-    ∙ Halfway-all xs (map (divided c.args.divisor) xs) zs c.loop-piece.piece-index (omega (arith, c.loop-piece.auto.piece-items, c.loop-piece-test.false)) (omega (arith, c.loop-piece-test.false, long, length-map xs (divided c.args.divisor), c.loop-piece.auto.piece-items)) c.loop-piece.invariant
+    ∙ Halfway-all xs (map (divided c.args.divisor) xs) zs c.loop-piece.piece-index (omega (arith, c.loop-piece.auto.piece-items, c.loop-piece-test.false))
+    (omega (arith, c.loop-piece-test.false, long, length-map xs (divided c.args.divisor), c.loop-piece.auto.piece-items)) c.loop-piece.invariant

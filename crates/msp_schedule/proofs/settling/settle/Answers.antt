@@ -23,7 +23,8 @@ settling c =
       spans = c.requires.span;
       common = c.common_divisor-divisor.ensures;
       unit_is = fits c.part-s.result (search rules) ∙ c.part-s.ensures ∙ ap (part_of g) (fits c.args.s.now.unit (search rules));
-      moved = subst (λ l. IsPermutation l c.from_vec.result) (c.divide_all.ensures ∙ ap (map (divided g)) c.take_all-pieces.ensures.all) (subst (IsPermutation c.divide_all.new.pieces.items) (sym c.from_vec.ensures) c.sort_pieces.ensures.permutation);
+      moved = subst (λ l. IsPermutation l c.from_vec.result) (c.divide_all.ensures ∙ ap (map (divided g)) c.take_all-pieces.ensures.all)
+          (subst (IsPermutation c.divide_all.new.pieces.items) (sym c.from_vec.ensures) c.sort_pieces.ensures.permutation);
       sorted = subst (AllPairs IsReportedFirst) (sym c.from_vec.ensures) c.sort_pieces.ensures.sorted;
     }
 

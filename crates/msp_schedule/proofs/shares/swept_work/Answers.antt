@@ -7,7 +7,9 @@ pub work_in-requires-clause-measured : goal.work_in-requires-clause-measured
 work_in-requires-clause-measured c = measured_sorted c.args.pieces.now _ _ c.in_ok-sorted.ensures.permutation c.deref.ensures.value c.args.inst.now c.requires.measured
 
 pub returns-clause-none : goal.returns-clause-none
-returns-clause-none c = λ e. works_sorted c.args.pieces.now _ _ c.in_ok-sorted.ensures.permutation c.deref.ensures.value c.args.inst.now c.args.unit _ (to_z-of_z w128 c.args.unit c.ranges.unit) (c.work_in.ensures.none e)
+returns-clause-none c = λ e. works_sorted c.args.pieces.now _ _ c.in_ok-sorted.ensures.permutation
+    c.deref.ensures.value c.args.inst.now c.args.unit _ (to_z-of_z w128 c.args.unit c.ranges.unit) (c.work_in.ensures.none e)
 
 pub returns-clause-some : goal.returns-clause-some
-returns-clause-some c = work_sorted c.args.pieces.now _ _ c.in_ok-sorted.ensures.permutation c.deref.ensures.value c.args.inst.now c.args.unit _ c.work_in.result (to_z-of_z w128 c.args.unit c.ranges.unit) c.work_in.ensures.some
+returns-clause-some c = work_sorted c.args.pieces.now _ _ c.in_ok-sorted.ensures.permutation c.deref.ensures.value c.args.inst.now c.args.unit _ c.work_in.result
+    (to_z-of_z w128 c.args.unit c.ranges.unit) c.work_in.ensures.some

@@ -7,7 +7,9 @@ pub first_unworked-requires-clause-measured : goal.first_unworked-requires-claus
 first_unworked-requires-clause-measured c = measured_share c.args.pieces.now c.args.job _ c.args.inst.now c.share.ensures c.requires.measured
 
 pub returns-clause-none : goal.returns-clause-none
-returns-clause-none c = λ e. unworked_none c.args.pieces.now c.args.job _ c.args.inst.now c.args.unit _ c.args.ops (to_z-of_z w128 c.args.unit c.ranges.unit) c.share.ensures (c.first_unworked.ensures.none e)
+returns-clause-none c = λ e. unworked_none c.args.pieces.now c.args.job _ c.args.inst.now c.args.unit _ c.args.ops
+    (to_z-of_z w128 c.args.unit c.ranges.unit) c.share.ensures (c.first_unworked.ensures.none e)
 
 pub returns-clause-some : goal.returns-clause-some
-returns-clause-some c = unworked_some c.args.pieces.now c.args.job _ c.args.inst.now c.args.unit _ c.args.ops c.first_unworked.result (to_z-of_z w128 c.args.unit c.ranges.unit) c.share.ensures c.first_unworked.ensures.some
+returns-clause-some c = unworked_some c.args.pieces.now c.args.job _ c.args.inst.now c.args.unit _ c.args.ops c.first_unworked.result
+    (to_z-of_z w128 c.args.unit c.ranges.unit) c.share.ensures c.first_unworked.ensures.some

@@ -6,7 +6,9 @@ use Rattle.msp_schedule.proofs.shares.work_in.Goals as goal
 
 pub returns-in-Some-clause-some : goal.returns-in-Some-clause-some
 returns-in-Some-clause-some c =
-    lacks_least c.args.inst.now c.args.unit _ _ c.args.pieces.now c.loop-job.job _ c.in-Some.op (to_z-of_z w128 c.args.unit c.ranges.unit) (search rules) (search rules) c.in-Some.ensures.some c.loop-job.invariant
+    lacks_least c.args.inst.now c.args.unit _ _ c.args.pieces.now c.loop-job.job _ c.in-Some.op
+    (to_z-of_z w128 c.args.unit c.ranges.unit) (search rules) (search rules) c.in-Some.ensures.some c.loop-job.invariant
 
 pub loop-job-preserved : goal.loop-job-preserved
-loop-job-preserved c = worked_next c.args.inst.now _ _ c.args.pieces.now c.loop-job.job c.needs_of.result (search rules) c.requires.measured.inner (search rules) c.needs_of.ensures (c.in_default.ensures.none refl) c.loop-job.invariant
+loop-job-preserved c = worked_next c.args.inst.now _ _ c.args.pieces.now c.loop-job.job c.needs_of.result
+    (search rules) c.requires.measured.inner (search rules) c.needs_of.ensures (c.in_default.ensures.none refl) c.loop-job.invariant

@@ -13,4 +13,5 @@ pub returns-clause-value : goal.returns-clause-value
 returns-clause-value c =
     let unit_is = to_z-of_z w128 c.args.s.now.unit (search rules) in
     over_unit c.combined_cost-num.result _ _ _ _ _ _ (to_z-of_z w128 c.combined_cost-num.result (search rules)) unit_is
-    (cost_is c.args.inst.now c.args.s.now _ _ _ _ _ c.requires.inner.conditions.few unit_is c.as_slice.ensures c.as_slice-2.ensures c.ends_of-ends.ensures.ends c.combined_cost-num.ensures.value) c.lowest.ensures.same
+    (cost_is c.args.inst.now c.args.s.now _ _ _ _ _ c.requires.inner.conditions.few unit_is c.as_slice.ensures c.as_slice-2.ensures c.ends_of-ends.ensures.ends c.combined_cost-num.ensures.value)
+    c.lowest.ensures.same

@@ -7,4 +7,5 @@ loop-piece-init c = EndsOver-none _ c.no_ends-ends.ensures
 
 pub loop-piece-preserved : goal.loop-piece-preserved
 loop-piece-preserved c =
-    EndsOver-next c.loop-piece.ends c.raise.new.ends c.args.pieces.now c.loop-piece.piece-index _ _ c.loop-piece-test.true refl (search rules) (search rules) (search rules) c.raise.ensures c.loop-piece.invariant
+    EndsOver-next c.loop-piece.ends c.raise.new.ends c.args.pieces.now c.loop-piece.piece-index _ _ c.loop-piece-test.true refl
+    (search rules) (search rules) (search rules) c.raise.ensures c.loop-piece.invariant

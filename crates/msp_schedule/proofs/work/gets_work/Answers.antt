@@ -10,7 +10,8 @@ use Rattle.msp_schedule.proofs.work.gets_work.Goals as goal
 
 pub returns-then-inst : goal.returns-then-inst
 returns-then-inst c =
-    gets_cut c.args.inst.now c.args.unit _ c.args.pieces.now c.args.job c.args.op c.work_done.result _ c.time_of.result c.takes.result c.if-inst.true (λ e. c.requires.measured.checked (c.if-inst.true, e))
+    gets_cut c.args.inst.now c.args.unit _ c.args.pieces.now c.args.job c.args.op c.work_done.result _ c.time_of.result c.takes.result c.if-inst.true
+    (λ e. c.requires.measured.checked (c.if-inst.true, e))
     (to_z-of_z w128 c.args.unit c.ranges.unit) (to_z-of_z w128 c.work_done.result (search rules)) c.time_of.ensures c.work_done.ensures c.takes.ensures
 
 pub is_whole_work-requires-clause-place : goal.is_whole_work-requires-clause-place
@@ -23,4 +24,5 @@ pub is_whole_work-requires-clause-to : goal.is_whole_work-requires-clause-to
 is_whole_work-requires-clause-to c = (sole_has (λ p. IsMoment p.from × IsMoment p.to) c.args.pieces.now c.args.job c.args.op _ c.in-Some.ensures.some c.requires.measured.moments).1
 
 pub returns-in-Some : goal.returns-in-Some
-returns-in-Some c = gets_whole c.args.inst.now c.args.unit c.args.pieces.now c.args.job c.args.op _ c.is_whole_work.result c.if-inst.false c.in-Some.ensures.some (subst (λ u. IsTrue c.is_whole_work.result ↔ IsWholeWork (kind_of c.args.inst.now.class.env) c.args.inst.now u c.in-Some.piece) (to_z-of_z w128 c.args.unit c.ranges.unit) c.is_whole_work.ensures)
+returns-in-Some c = gets_whole c.args.inst.now c.args.unit c.args.pieces.now c.args.job c.args.op _ c.is_whole_work.result c.if-inst.false c.in-Some.ensures.some
+    (subst (λ u. IsTrue c.is_whole_work.result ↔ IsWholeWork (kind_of c.args.inst.now.class.env) c.args.inst.now u c.in-Some.piece) (to_z-of_z w128 c.args.unit c.ranges.unit) c.is_whole_work.ensures)

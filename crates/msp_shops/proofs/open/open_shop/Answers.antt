@@ -14,4 +14,5 @@ pub returns-clause-bounds : goal.returns-clause-bounds
 returns-clause-bounds c = (IsBestPlan-from_open c.args.inst.now c.requires.class c.requires.inner _ c.in_ok-pieces.ensures).answer
 
 pub returns-clause-cost : goal.returns-clause-cost
-returns-clause-cost c = IsOpenCost-read c.args.inst.now c.requires.class c.requires.inner c.cost-cost.result _ (IsBestPlan-from_open c.args.inst.now c.requires.class c.requires.inner _ c.in_ok-pieces.ensures) c.cost-cost.ensures.value
+returns-clause-cost c = IsOpenCost-read c.args.inst.now c.requires.class c.requires.inner
+    c.cost-cost.result _ (IsBestPlan-from_open c.args.inst.now c.requires.class c.requires.inner _ c.in_ok-pieces.ensures) c.cost-cost.ensures.value

@@ -7,4 +7,5 @@ use Rattle.msp_shops.proofs.order.put_in_order.Goals as goal
 pub returns-clause-sorted : goal.returns-clause-sorted
 returns-clause-sorted c =
     johnson_sorted (λ (t : JobTimes). t.first) (λ t. t.second) _
-    (c.in_ok-sort_by.ensures.sorted (johnson_less (λ (t : JobTimes). t.first) (λ t. t.second)) (johnson_less-order (λ (t : JobTimes). t.first) (λ t. t.second)) (answers_always _ _ _ (λ f a r g h. search rules)))
+    (c.in_ok-sort_by.ensures.sorted (johnson_less (λ (t : JobTimes). t.first) (λ t. t.second))
+    (johnson_less-order (λ (t : JobTimes). t.first) (λ t. t.second)) (answers_always _ _ _ (λ f a r g h. search rules)))

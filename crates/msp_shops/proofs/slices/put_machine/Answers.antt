@@ -17,11 +17,13 @@ loop-k-preserved c =
     let inside : c.loop-k.k < length c.args.slices.now = omega (arith, c.loop-k-test.true) in
     let moment = c.in_ok-put_part.ensures.moment in
     record {
-      joins = subst (λ t. Joins (c.args.row.now.pieces.items ++ row_parts c.args.columns (pos 0) c.args.machine c.args.slices.now) (c.put_part.new.row.pieces.items ++ row_parts c.args.columns t c.args.machine (drop (c.loop-k.k + 1) c.args.slices.now))) (sym moment)
+      joins = subst (λ t. Joins (c.args.row.now.pieces.items ++ row_parts c.args.columns (pos 0) c.args.machine c.args.slices.now)
+          (c.put_part.new.row.pieces.items ++ row_parts c.args.columns t c.args.machine (drop (c.loop-k.k + 1) c.args.slices.now))) (sym moment)
           (Joins-slice c.args.columns c.args.machine c.loop-k.k c.loop-k.row.moment _ _ c.args.slices.now _ _ _ inside c.index-slices-k.is c.loop-k.invariant.joins c.in_ok-put_part.ensures.joins);
       rows = c.in_ok-put_part.ensures.rows;
       begin = omega (arith, ints, moment, c.loop-k.invariant.begin, lasts_at c.args.slices.now c.loop-k.k _ _ inside c.index-slices-k.is c.requires.lasts);
-      short = subst (λ t. (t +ℤ total (λ s. s.length) (drop (c.loop-k.k + 1) c.args.slices.now)) ≤ℤ pos greatest_sum) (sym moment) (slice_rest c.args.slices.now c.loop-k.k _ _ c.loop-k.row.moment (pos greatest_sum) inside c.index-slices-k.is c.loop-k.invariant.short);
+      short = subst (λ t. (t +ℤ total (λ s. s.length) (drop (c.loop-k.k + 1) c.args.slices.now)) ≤ℤ pos greatest_sum)
+          (sym moment) (slice_rest c.args.slices.now c.loop-k.k _ _ c.loop-k.row.moment (pos greatest_sum) inside c.index-slices-k.is c.loop-k.invariant.short);
     }
 
 pub returns-clause-joins : goal.returns-clause-joins

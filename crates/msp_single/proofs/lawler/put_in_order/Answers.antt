@@ -1,6 +1,7 @@
 use Rattle.std.proofs.Common.{take, get_or, subst, arith}
 use Rattle.msp_route.specs.LastJob.{EndsAt}
-use Rattle.msp_single.proofs.Placing.{placed-next, length_is, take_within}
+use Rattle.msp_schedule.proofs.lists.InTurn.{length_is, take_within}
+use Rattle.msp_single.proofs.Placing.{placed-next}
 use Rattle.std.proofs.lemmas.List.{length-take}
 use Rattle.std.proofs.lemmas.List.Sorted.{IsPermutation-trans}
 use Rattle.msp_single.proofs.lawler.put_in_order.Goals as goal
@@ -15,7 +16,10 @@ pub loop-left-preserved : goal.loop-left-preserved
 loop-left-preserved c = record {
   all = IsPermutation-trans _ _ _ c.loop-left.invariant.all c.swap.ensures.permutation;
   inside = omega (arith, c.swap.ensures.len, c.loop-left.invariant.inside);
-  last = placed-next c.args.inst.now c.loop-left.order c.swap.new.self c.loop-left.left c.last_place-place.result c.loop-left-test.true c.loop-left.invariant.inside (omega (arith, c.last_place-place.ensures.place, length-take c.loop-left.left c.loop-left.order)) c.swap.ensures.after (subst (λ m. EndsAt c.args.inst.now m (take c.loop-left.left c.loop-left.order) (get_or (take c.loop-left.left c.loop-left.order) c.last_place-place.result 0)) c.total_time.ensures.value c.last_place-place.ensures.last) c.loop-left.invariant.last;
+  last = placed-next c.args.inst.now c.loop-left.order c.swap.new.self c.loop-left.left c.last_place-place.result c.loop-left-test.true c.loop-left.invariant.inside
+      (omega (arith, c.last_place-place.ensures.place, length-take c.loop-left.left c.loop-left.order)) c.swap.ensures.after
+      (subst (λ m. EndsAt c.args.inst.now m (take c.loop-left.left c.loop-left.order) (get_or (take c.loop-left.left c.loop-left.order) c.last_place-place.result 0))
+      c.total_time.ensures.value c.last_place-place.ensures.last) c.loop-left.invariant.last;
 }
 
 pub returns : goal.returns

@@ -25,4 +25,5 @@ loop-place-preserved c =
     ]
 
 pub returns-clause-longest : goal.returns-clause-longest
-returns-clause-longest c d = subst (All (Outlasts (slice_index_or c.args.tasks.now c.loop-place.best d))) (take_all c.loop-place.place c.args.tasks.now c.loop-place-test.false) (c.loop-place.invariant.longest d)
+returns-clause-longest c d = subst (All (Outlasts (slice_index_or c.args.tasks.now c.loop-place.best d)))
+    (take_all c.loop-place.place c.args.tasks.now c.loop-place-test.false) (c.loop-place.invariant.longest d)

@@ -5,4 +5,5 @@ use Rattle.msp_schedule.proofs.lists.DateOrder.{number_less, number_less-order, 
 use Rattle.msp_single.proofs.moore.sort_by_number.Goals as goal
 
 pub returns-clause-sorted : goal.returns-clause-sorted
-returns-clause-sorted c = number_sorted (λ (t : Task). t.due) (λ t. t.job) _ (c.sort_unstable_by.ensures.sorted (number_less (λ t. t.due) (λ t. t.job)) (number_less-order (λ t. t.due) (λ t. t.job)) (answers_always _ _ _ (λ f a r g h. search rules)))
+returns-clause-sorted c = number_sorted (λ (t : Task). t.due) (λ t. t.job)
+    _ (c.sort_unstable_by.ensures.sorted (number_less (λ t. t.due) (λ t. t.job)) (number_less-order (λ t. t.due) (λ t. t.job)) (answers_always _ _ _ (λ f a r g h. search rules)))

@@ -10,4 +10,5 @@ takes l = l.takes_time
 pub returns-clause-sorted : goal.returns-clause-sorted
 returns-clause-sorted c =
     smith_sorted (λ l. l.job) (λ l. l.time) (λ l. l.weight) takes _
-    (c.sort_unstable_by.ensures.sorted (smith_less (λ l. l.job) (λ l. l.time) (λ l. l.weight) takes) (smith_less-order (λ l. l.job) (λ l. l.time) (λ l. l.weight) takes) (answers_always _ _ _ (λ f a r g h. search rules)))
+    (c.sort_unstable_by.ensures.sorted (smith_less (λ l. l.job) (λ l. l.time) (λ l. l.weight) takes)
+    (smith_less-order (λ l. l.job) (λ l. l.time) (λ l. l.weight) takes) (answers_always _ _ _ (λ f a r g h. search rules)))

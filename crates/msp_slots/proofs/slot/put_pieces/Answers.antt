@@ -7,4 +7,5 @@ use Rattle.msp_slots.proofs.slot.put_pieces.Goals as goal
 pub loop-machine-preserved : goal.loop-machine-preserved
 loop-machine-preserved c =
     let more = c.in_ok-put.ensures.put in
-    seats-next _ _ c.args.pieces.now c.args.taken.now c.loop-machine.machine _ c.args.moment _ _ more (to_z-of_z w128 _ (search rules) ∙ c.from.ensures) (to_z-of_z w128 _ (search rules) ∙ c.from-in-loop-machine.ensures) c.loop-machine-test.true refl c.loop-machine.invariant
+    seats-next _ _ c.args.pieces.now c.args.taken.now c.loop-machine.machine _ c.args.moment _ _ more (to_z-of_z w128 _ (search rules) ∙ c.from.ensures)
+    (to_z-of_z w128 _ (search rules) ∙ c.from-in-loop-machine.ensures) c.loop-machine-test.true refl c.loop-machine.invariant

@@ -21,4 +21,5 @@ pieces_in_order-requires-clause-rising c =
 
 pub returns : goal.returns
 returns c =
-    IfOk-weaker c.pieces_in_order.result _ _ (λ pieces r. (c.in_ok-heads.heads.items, c.in_ok-heads.ensures, subst (λ heads. RunInOrder c.args.inst.now heads pieces) c.as_slice-2.ensures.value r)) c.pieces_in_order.ensures
+    IfOk-weaker c.pieces_in_order.result
+    _ _ (λ pieces r. (c.in_ok-heads.heads.items, c.in_ok-heads.ensures, subst (λ heads. RunInOrder c.args.inst.now heads pieces) c.as_slice-2.ensures.value r)) c.pieces_in_order.ensures

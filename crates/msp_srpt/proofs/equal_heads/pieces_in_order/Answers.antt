@@ -7,22 +7,27 @@ pub loop-k-init : goal.loop-k-init
 loop-k-init c = subst (HaveRun c.args.inst.now c.args.heads.now c.args.order.now 0 0) (sym c.new-pieces.ensures) (HaveRun-start c.args.inst.now c.args.heads.now c.args.order.now)
 
 pub bounds-heads-job : goal.bounds-heads-job
-bounds-heads-job c = head_inside c.args.inst.now (IsOneInstance-from c.args.inst.now c.requires.machine c.requires.inner) c.args.heads.now c.args.order.now c.requires.heads c.requires.all c.loop-k.k c.loop-k-test.true
+bounds-heads-job c = head_inside c.args.inst.now (IsOneInstance-from c.args.inst.now c.requires.machine c.requires.inner)
+    c.args.heads.now c.args.order.now c.requires.heads c.requires.all c.loop-k.k c.loop-k-test.true
 
 pub time_of-requires-clause-inside : goal.time_of-requires-clause-inside
-time_of-requires-clause-inside c = job_inside c.args.inst.now (IsOneInstance-from c.args.inst.now c.requires.machine c.requires.inner) c.args.heads.now c.args.order.now c.requires.heads c.requires.all c.loop-k.k c.loop-k-test.true
+time_of-requires-clause-inside c =
+    job_inside c.args.inst.now (IsOneInstance-from c.args.inst.now c.requires.machine c.requires.inner) c.args.heads.now c.args.order.now c.requires.heads c.requires.all c.loop-k.k c.loop-k-test.true
 
 pub overflow_add-moment : goal.overflow_add-moment
 overflow_add-moment c =
     omega (
       arith,
-      ends_soon c.args.inst.now (IsOneInstance-from c.args.inst.now c.requires.machine c.requires.inner) c.args.heads.now c.args.order.now c.requires.heads c.requires.all c.loop-k.k c.loop-k-test.true c.loop-k.moment c.loop-k.pieces c.loop-k.invariant _ _ c.max-from.ensures c.time_of.ensures.value,
+      ends_soon c.args.inst.now (IsOneInstance-from c.args.inst.now c.requires.machine c.requires.inner) c.args.heads.now c.args.order.now c.requires.heads
+          c.requires.all c.loop-k.k c.loop-k-test.true c.loop-k.moment c.loop-k.pieces c.loop-k.invariant _ _ c.max-from.ensures c.time_of.ensures.value,
     )
 
 pub loop-k-preserved : goal.loop-k-preserved
 loop-k-preserved c =
-    have_next c.args.inst.now (IsOneInstance-from c.args.inst.now c.requires.machine c.requires.inner) c.args.heads.now c.args.order.now c.requires.heads c.requires.all c.loop-k.k c.loop-k-test.true c.loop-k.moment c.loop-k.pieces c.loop-k.invariant _ _ c.max-from.ensures c.time_of.ensures.value
+    have_next c.args.inst.now (IsOneInstance-from c.args.inst.now c.requires.machine c.requires.inner) c.args.heads.now c.args.order.now c.requires.heads
+    c.requires.all c.loop-k.k c.loop-k-test.true c.loop-k.moment c.loop-k.pieces c.loop-k.invariant _ _ c.max-from.ensures c.time_of.ensures.value
     _ (c.in_ok-put.ensures.put ∙ ap (λ p. c.loop-k.pieces ++ p ∷ []) c.piece_of.ensures)
 
 pub returns : goal.returns
-returns c = RunInOrder-end c.args.inst.now c.args.heads.now c.args.order.now c.loop-k.k c.loop-k.moment c.loop-k.pieces (omega (arith, c.loop-k-test.false)) c.requires.all c.requires.rising c.loop-k.invariant
+returns c = RunInOrder-end c.args.inst.now c.args.heads.now c.args.order.now c.loop-k.k c.loop-k.moment c.loop-k.pieces
+    (omega (arith, c.loop-k-test.false)) c.requires.all c.requires.rising c.loop-k.invariant

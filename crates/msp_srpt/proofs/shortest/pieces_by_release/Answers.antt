@@ -1,4 +1,5 @@
 use Rattle.std.proofs.Common.{◌≤◌, ◌+◌, ◌*◌, length, arith}
+use Rattle.msp_class.specs.declared.sizes.TheConstants.{MOST_JOBS, GREATEST}
 use Rattle.msp_srpt.proofs.Arrivals.{inside, comes, early, in_order, carried_out}
 use Rattle.msp_srpt.proofs.Instances.{IsShortestInstance-from_class}
 use Rattle.msp_srpt.proofs.Queue.{still_put}
@@ -33,5 +34,7 @@ returns c =
     let h = IsShortestInstance-from_class i c.requires.class c.requires.inner in
     let l = c.loop-k.invariant in
     let whole : length c.args.order.now ≤ c.loop-k.k = omega (arith, c.loop-k-test.false) in
-    let few : length c.run_until-2.new.pieces.items ≤ 2 * length c.args.order.now + 1 = omega (arith, c.in_ok-run_until-2.ensures.few, l.few, whole) in
-    (403000000000, carried_out i h c.args.order.now c.requires.all c.requires.sorted c.loop-k.k c.loop-k.moment _ _ _ _ _ whole l.way c.in_ok-run_until-2.ensures.next c.from_vec.ensures few)
+    let few : length c.run_until-2.new.pieces.items ≤ 2 * length c.args.order.now + 1 = omega (arith, c.in_ok-run_until-2.ensures.few, l.few, whole) in (
+      ((MOST_JOBS + 3) * GREATEST),
+      carried_out i h c.args.order.now c.requires.all c.requires.sorted c.loop-k.k c.loop-k.moment _ _ _ _ _ whole l.way c.in_ok-run_until-2.ensures.next c.from_vec.ensures few,
+    )

@@ -9,7 +9,8 @@ use Rattle.msp_stairs.proofs.climb.task_of.Goals as goal
 pub deadline_of-due-requires-clause-date : goal.deadline_of-due-requires-clause-date
 deadline_of-due-requires-clause-date c =
     let i = c.args.inst.now in
-    date_held c.index-as_slice-job.result.due (date_read i (IsOfClass-from i stairs_class c.requires.class c.requires.inner) c.args.job c.index-as_slice-job.result c.requires.inside (job_read i c.as_slice.result.now c.args.job c.index-as_slice-job.result c.as_slice.ensures c.requires.inside c.index-as_slice-job.is))
+    date_held c.index-as_slice-job.result.due (date_read i (IsOfClass-from i stairs_class c.requires.class c.requires.inner) c.args.job c.index-as_slice-job.result c.requires.inside
+    (job_read i c.as_slice.result.now c.args.job c.index-as_slice-job.result c.as_slice.ensures c.requires.inside c.index-as_slice-job.is))
 
 pub returns : goal.returns
 returns c =

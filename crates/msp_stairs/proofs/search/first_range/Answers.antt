@@ -22,7 +22,11 @@ over_machines-requires-clause-time c =
     let order = c.args.order.now in
     let inside = first_inside i order c.requires.ready in
     let read = job_read i c.as_slice.result.now (get_or order 0 0) c.index-as_slice-order.result c.as_slice.ensures inside c.index-as_slice-order.is in
-    omega (arith, c.first_time-alone.ensures ∙ ap (λ ns. (get_or ns 0 no_need).time) c.as_slice-2.ensures ∙ ap (λ j. (get_or j.needs 0 no_need).time) read, time_short i order c.requires.ready (get_or order 0 0) inside)
+    omega (
+      arith,
+      c.first_time-alone.ensures ∙ ap (λ ns. (get_or ns 0 no_need).time) c.as_slice-2.ensures ∙ ap (λ j. (get_or j.needs 0 no_need).time) read,
+      time_short i order c.requires.ready (get_or order 0 0) inside,
+    )
 
 pub over_machines-requires-clause-date : goal.over_machines-requires-clause-date
 over_machines-requires-clause-date c =

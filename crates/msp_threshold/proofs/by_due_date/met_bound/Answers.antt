@@ -12,20 +12,23 @@ use Rattle.msp_threshold.proofs.by_due_date.met_bound.Goals as goal
 
 pub sort_by_due_date-requires-clause-inside : goal.sort_by_due_date-requires-clause-inside
 sort_by_due_date-requires-clause-inside c =
-    subst₂ (λ (js : List Job) (xs : List ℕ). All (λ j. j < length js) xs) (sym c.as_slice-jobs.ensures) (sym c.as_mut_slice.ensures.value) (seated_inside _ _ _ _ c.in_ok-seats.ensures (IsPermutation-refl _))
+    subst₂ (λ (js : List Job) (xs : List ℕ). All (λ j. j < length js) xs)
+    (sym c.as_slice-jobs.ensures) (sym c.as_mut_slice.ensures.value) (seated_inside _ _ _ _ c.in_ok-seats.ensures (IsPermutation-refl _))
 
 pub sort_by_due_date-requires-clause-slots : goal.sort_by_due_date-requires-clause-slots
 sort_by_due_date-requires-clause-slots c = ap length c.as_mut_slice.ensures.value ∙ seated_count _ _ _ _ c.in_ok-seats.ensures (IsPermutation-refl _) ∙ ap length (sym c.as_slice.ensures.value)
 
 pub lateness_in-requires-clause-inside : goal.lateness_in-requires-clause-inside
 lateness_in-requires-clause-inside c =
-    let whole = whole_slice c.in_ok-seats.seats.order.len (length c.sort_by_due_date.new.order) c.sort_by_due_date.new.order c.in_ok-seats.seats.order.items (c.sort_by_due_date.auto.order ∙ c.as_mut_slice.ensures.len) in
+    let whole = whole_slice c.in_ok-seats.seats.order.len (length c.sort_by_due_date.new.order)
+    c.sort_by_due_date.new.order c.in_ok-seats.seats.order.items (c.sort_by_due_date.auto.order ∙ c.as_mut_slice.ensures.len) in
     let same = subst (λ xs. IsPermutation xs c.sort_by_due_date.new.order) c.as_mut_slice.ensures.value c.sort_by_due_date.ensures.same in
     subst₂ (λ (js : List Job) (xs : List ℕ). All (λ j. j < length js) xs) (sym c.as_slice-jobs.ensures) (sym whole) (seated_inside _ _ _ _ c.in_ok-seats.ensures same)
 
 pub lateness_in-requires-clause-slots : goal.lateness_in-requires-clause-slots
 lateness_in-requires-clause-slots c =
-    let whole = whole_slice c.in_ok-seats.seats.order.len (length c.sort_by_due_date.new.order) c.sort_by_due_date.new.order c.in_ok-seats.seats.order.items (c.sort_by_due_date.auto.order ∙ c.as_mut_slice.ensures.len) in
+    let whole = whole_slice c.in_ok-seats.seats.order.len (length c.sort_by_due_date.new.order)
+    c.sort_by_due_date.new.order c.in_ok-seats.seats.order.items (c.sort_by_due_date.auto.order ∙ c.as_mut_slice.ensures.len) in
     let same = subst (λ xs. IsPermutation xs c.sort_by_due_date.new.order) c.as_mut_slice.ensures.value c.sort_by_due_date.ensures.same in
     ap length whole ∙ seated_count _ _ _ _ c.in_ok-seats.ensures same
 

@@ -9,5 +9,6 @@ due_first-first-requires-clause-inside c = All-permutation (λ j. j < length c.a
 pub loop-place-preserved : goal.loop-place-preserved
 loop-place-preserved c = record {
   same = IsPermutation-trans _ _ _ c.loop-place.invariant.same c.swap.ensures.permutation;
-  released = released-swapped _ _ _ _ _ _ c.requires.rising (omega (arith, c.requires.slots, c.loop-place.auto.order)) c.loop-place.invariant.released c.due_first-first.ensures.least c.due_first-first.ensures.most c.due_first-first.ensures.released c.swap.ensures.len c.swap.ensures.by_index;
+  released = released-swapped _ _ _ _ _ _ c.requires.rising (omega (arith, c.requires.slots, c.loop-place.auto.order))
+      c.loop-place.invariant.released c.due_first-first.ensures.least c.due_first-first.ensures.most c.due_first-first.ensures.released c.swap.ensures.len c.swap.ensures.by_index;
 }

@@ -4,7 +4,8 @@ use Rattle.msp_threshold.proofs.Bounds.{lowest-start, lowest-next, lowest-end}
 use Rattle.msp_threshold.proofs.search.lowest_bound.Goals as goal
 
 pub loop-job-init : goal.loop-job-init
-loop-job-init c = lowest-start c.args.jobs.now c.requires.releases c.requires.dues 0 c.index-jobs-0.result c.least_lateness-lowest.result c.requires.some c.index-jobs-0.is c.least_lateness-lowest.ensures
+loop-job-init c = lowest-start c.args.jobs.now
+    c.requires.releases c.requires.dues 0 c.index-jobs-0.result c.least_lateness-lowest.result c.requires.some c.index-jobs-0.is c.least_lateness-lowest.ensures
 
 pub loop-job-preserved : goal.loop-job-preserved
 loop-job-preserved c =

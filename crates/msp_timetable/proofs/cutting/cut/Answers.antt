@@ -21,7 +21,8 @@ take-requires c =
 pub loop-row-preserved : goal.loop-row-preserved
 loop-row-preserved c = λ low e.
     let lk : c.loop-row.row < c.args.square.now.size = omega (arith, c.loop-row-test.true) in
-    IsCutting-next _ _ c.requires.permuted _ _ _ _ lk (c.loop-row.invariant low e) _ c.requires.positive (c.requires.least.least c.loop-row.row lk) (λ q. ap (used_at c.args.square.now c.args.columns.now) (sym q) ∙ e) c.take.ensures
+    IsCutting-next _ _ c.requires.permuted _ _ _ _ lk (c.loop-row.invariant low e)
+    _ c.requires.positive (c.requires.least.least c.loop-row.row lk) (λ q. ap (used_at c.args.square.now c.args.columns.now) (sym q) ∙ e) c.take.ensures
 
 pub returns : goal.returns
 returns c =

@@ -8,4 +8,5 @@ returns-clause-owners c =
     let all : length c.args.seats.now.columns.items ≡ c.loop-row.row = search rules in
     let p = c.requires in
     subst (λ xs. IsOwners (length c.args.seats.now.owner.items) xs c.loop-row.seats.owner.items) c.loop-row.invariant.columns
-    (IsOwners-noted _ _ _ (subst (IsPermuted (length c.args.seats.now.owner.items)) (sym c.loop-row.invariant.columns) p) c.loop-row.invariant.size (λ r l. c.loop-row.invariant.noted r (omega (arith, all, p.size))))
+    (IsOwners-noted _ _ _ (subst (IsPermuted (length c.args.seats.now.owner.items)) (sym c.loop-row.invariant.columns) p)
+    c.loop-row.invariant.size (λ r l. c.loop-row.invariant.noted r (omega (arith, all, p.size))))

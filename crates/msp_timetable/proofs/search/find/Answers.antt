@@ -7,5 +7,6 @@ places-smaller c = omega (arith, IsGrowing-short _ _ _ _ _ c.places.invariant.se
 
 pub places-preserved : goal.places-preserved
 places-preserved c =
-    let w = IsSearch-step _ _ _ c.requires.permuted c.requires.balanced _ _ _ _ _ c.places.invariant.search.first (c.in_ok-grow.ensures.search c.if-branch.false) (omega (arith, c.places.invariant.here, c.in_ok-grow.ensures.longer c.if-branch.false)) in
+    let w = IsSearch-step _ _ _ c.requires.permuted c.requires.balanced _ _ _ _ _ c.places.invariant.search.first
+    (c.in_ok-grow.ensures.search c.if-branch.false) (omega (arith, c.places.invariant.here, c.in_ok-grow.ensures.longer c.if-branch.false)) in
     record { search = w.0; here = w.1 }

@@ -4,7 +4,8 @@ use Rattle.msp_timetable.proofs.Slices.{IsSplitting-start, IsSplit-end}
 use Rattle.msp_timetable.proofs.splitting.cut_all.Goals as goal
 
 pub slices-init : goal.slices-init
-slices-init c = IsSplitting-start _ _ _ _ _ _ c.requires.some_rows c.in_ok-filled.ensures.size c.in_ok-filled.ensures.filled c.in_ok-seats.ensures.permuted c.in_ok-seats.ensures.owners c.new-slices.ensures.items
+slices-init c = IsSplitting-start _ _ _ _ _ _ c.requires.some_rows
+    c.in_ok-filled.ensures.size c.in_ok-filled.ensures.filled c.in_ok-seats.ensures.permuted c.in_ok-seats.ensures.owners c.new-slices.ensures.items
 
 pub returns : goal.returns
 returns c =

@@ -13,7 +13,8 @@ overflow_cast-length c =
     omega (arith, ints)
 
 pub overflow_sub-result : goal.overflow_sub-result
-overflow_sub-result c = (longest-fits _ _ _ _ _ _ _ _ _ c.as_slice-columns.ensures.value c.requires.splitting c.in_ok-match_rows.ensures.permuted c.in_ok-match_rows.ensures.stocks c.longest-length.ensures).1
+overflow_sub-result c =
+    (longest-fits _ _ _ _ _ _ _ _ _ c.as_slice-columns.ensures.value c.requires.splitting c.in_ok-match_rows.ensures.permuted c.in_ok-match_rows.ensures.stocks c.longest-length.ensures).1
 
 pub returns-clause-splitting : goal.returns-clause-splitting
 returns-clause-splitting c =
@@ -21,7 +22,8 @@ returns-clause-splitting c =
     let small : c.longest-length.result ≤ greatest_sum = w.2 in
     let fits : to_z w128 c.longest-length.result ≡ pos c.longest-length.result = omega (arith, ints) in
     let slice : Slice = record { length = to_z w128 c.longest-length.result; column = c.in_ok-column.column } in
-    IsSplitting-read _ _ _ _ _ _ _ _ _ _ _ slice _ _ c.as_slice-columns.ensures.value c.requires.splitting c.in_ok-match_rows.ensures.permuted c.in_ok-match_rows.ensures.owners c.in_ok-match_rows.ensures.stocks c.longest-length.ensures c.in_ok-column.ensures c.cut.ensures fits refl c.in_ok-push.ensures.items
+    IsSplitting-read _ _ _ _ _ _ _ _ _ _ _ slice _ _ c.as_slice-columns.ensures.value c.requires.splitting c.in_ok-match_rows.ensures.permuted
+    c.in_ok-match_rows.ensures.owners c.in_ok-match_rows.ensures.stocks c.longest-length.ensures c.in_ok-column.ensures c.cut.ensures fits refl c.in_ok-push.ensures.items
 
 pub returns-clause-less : goal.returns-clause-less
 returns-clause-less c =

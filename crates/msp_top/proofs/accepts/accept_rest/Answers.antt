@@ -7,7 +7,8 @@ use Rattle.msp_top.proofs.accepts.accept_rest.Goals as goal
 
 pub returns-in_err-certificate : goal.returns-in_err-certificate
 returns-in_err-certificate c = exits _ (Answers (OfRest AcceptIsRight c.args.filed.now c.args.line c.args.rest.now)) c.from_residual.result c.from_residual.ensures.1
-    (λ why e. fault_right (OfRest AcceptIsRight c.args.filed.now c.args.line c.args.rest.now) c.in_err-certificate.field-0.0 why (λ other input begins. misread_rest c.args.filed.now c.args.line c.args.rest.now c.in_err-certificate.field-0.0 begins other c.in_err-certificate.ensures.fault) e)
+    (λ why e. fault_right (OfRest AcceptIsRight c.args.filed.now c.args.line c.args.rest.now) c.in_err-certificate.field-0.0 why
+    (λ other input begins. misread_rest c.args.filed.now c.args.line c.args.rest.now c.in_err-certificate.field-0.0 begins other c.in_err-certificate.ensures.fault) e)
 
 pub returns : goal.returns
 returns c = λ input begins. judged c.args.filed.now c.in_ok-certificate.certificate c.args.line c.args.rest.now _ _ begins c.in_ok-certificate.ensures.text c.in_ok-report_on.ensures

@@ -18,7 +18,8 @@ pub certify_text-requires-clause-bound : goal.certify_text-requires-clause-bound
 certify_text-requires-clause-bound c = lowest_bound _ _ c.in_ok-certified.ensures
 
 pub returns-in_err-text : goal.returns-in_err-text
-returns-in_err-text c = exits _ (Answers (OfFiled CertifyIsRight c.args.filed.now)) c.from_residual-in_err-text.result c.from_residual-in_err-text.ensures.1 (λ why e. answers-memory (OfFiled CertifyIsRight c.args.filed.now) why e)
+returns-in_err-text c = exits _ (Answers (OfFiled CertifyIsRight c.args.filed.now))
+    c.from_residual-in_err-text.result c.from_residual-in_err-text.ensures.1 (λ why e. answers-memory (OfFiled CertifyIsRight c.args.filed.now) why e)
 
 pub returns : goal.returns
 returns c = λ input read. certified c.in_ok-text.text.items (record {

@@ -14,8 +14,10 @@ returns-then-is_unchecked c = rest_unchecked c.args.filed.now c.args.line c.args
 pub returns-in_err-stated : goal.returns-in_err-stated
 returns-in_err-stated c = exits _ (Answers (OfRest CheckIsRight c.args.filed.now c.args.line c.args.rest.now)) c.from_residual.result c.from_residual.ensures.1
     (λ why e. fault_right (OfRest CheckIsRight c.args.filed.now c.args.line c.args.rest.now) c.in_err-stated.field-0.0 why
-    (λ other input begins. misread_rest c.args.filed.now c.args.line c.args.rest.now c.in_err-stated.field-0.0 begins (λ cut. differ (sym c.if-is_unchecked.false ∙ c.is_unchecked.ensures.1 cut)) other c.in_err-stated.ensures.fault) e)
+    (λ other input begins. misread_rest c.args.filed.now c.args.line c.args.rest.now c.in_err-stated.field-0.0 begins
+    (λ cut. differ (sym c.if-is_unchecked.false ∙ c.is_unchecked.ensures.1 cut)) other c.in_err-stated.ensures.fault) e)
 
 pub returns : goal.returns
 returns c = λ input begins.
-    checked c.args.filed.now c.in_ok-stated.stated c.args.line c.args.rest.now _ _ begins (λ cut. differ (sym c.if-is_unchecked.false ∙ c.is_unchecked.ensures.1 cut)) c.in_ok-stated.ensures.text c.in_ok-report_on.ensures.status c.in_ok-report_on.ensures.text
+    checked c.args.filed.now c.in_ok-stated.stated c.args.line c.args.rest.now _ _ begins (λ cut. differ (sym c.if-is_unchecked.false ∙ c.is_unchecked.ensures.1 cut))
+    c.in_ok-stated.ensures.text c.in_ok-report_on.ensures.status c.in_ok-report_on.ensures.text

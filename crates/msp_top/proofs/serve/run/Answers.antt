@@ -1,6 +1,7 @@
 -- The goals of `run`: what serving ended with, field by field of what a call leaves.
 use Rattle.std.proofs.Common.{Ok, Err, refl, arith}
-use Rattle.msp_top.proofs.Endings.{is_served, is_refused, report_is_low, refusal_is_high, serves_read_fault, serves_write_fault, serves_rows_status, serves_trial_status, serves_trial_due, serves_due, are_told}
+use Rattle.msp_top.proofs.Endings.{is_served, is_refused, report_is_low, refusal_is_high, serves_read_fault, serves_write_fault, serves_rows_status, serves_trial_status}
+use Rattle.msp_top.proofs.Endings.{serves_trial_due, serves_due, are_told}
 use Rattle.msp_top.proofs.serve.run.Goals as goal
 
 pub returns-in-Ok : goal.returns-in-Ok
@@ -17,7 +18,8 @@ returns-in-Ok g c = record {
     serves_trial_status _ _ _ _ (Ok c.in-Ok.status) c.in-Ok.ensures.served trial asked,
     serves_trial_due _ _ _ _ (Ok c.in-Ok.status) c.in-Ok.ensures.served trial asked,
   );
-  completeness = serves_due _ _ _ _ _ (Ok c.in-Ok.status) (are_told (g.S.Source.seen c.args.source.now) (g.S.Source.seen c.serve.new.source) _ (g.met.S.Source.lawful.gives c.args.source.now c.serve.new.source) (g.met.S.Source.lawful.finishes c.args.source.now c.serve.new.source)) c.in-Ok.ensures.served;
+  completeness = serves_due _ _ _ _ _ (Ok c.in-Ok.status) (are_told (g.S.Source.seen c.args.source.now) (g.S.Source.seen c.serve.new.source)
+      _ (g.met.S.Source.lawful.gives c.args.source.now c.serve.new.source) (g.met.S.Source.lawful.finishes c.args.source.now c.serve.new.source)) c.in-Ok.ensures.served;
 }
 
 pub returns-in-Err : goal.returns-in-Err
@@ -34,5 +36,6 @@ returns-in-Err g c = record {
     serves_trial_status _ _ _ _ (Err c.in-Err.why) c.in-Err.ensures.served trial asked,
     serves_trial_due _ _ _ _ (Err c.in-Err.why) c.in-Err.ensures.served trial asked,
   );
-  completeness = serves_due _ _ _ _ _ (Err c.in-Err.why) (are_told (g.S.Source.seen c.args.source.now) (g.S.Source.seen c.serve.new.source) _ (g.met.S.Source.lawful.gives c.args.source.now c.serve.new.source) (g.met.S.Source.lawful.finishes c.args.source.now c.serve.new.source)) c.in-Err.ensures.served;
+  completeness = serves_due _ _ _ _ _ (Err c.in-Err.why) (are_told (g.S.Source.seen c.args.source.now) (g.S.Source.seen c.serve.new.source)
+      _ (g.met.S.Source.lawful.gives c.args.source.now c.serve.new.source) (g.met.S.Source.lawful.finishes c.args.source.now c.serve.new.source)) c.in-Err.ensures.served;
 }

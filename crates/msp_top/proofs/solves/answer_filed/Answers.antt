@@ -14,7 +14,8 @@ pub solve_text-requires-clause-stated : goal.solve_text-requires-clause-stated
 solve_text-requires-clause-stated c = stated _ c.args.filed.now.instance _ c.requires.class c.requires.named c.in_ok-answer.ensures.answer.solution
 
 pub returns-in_err-text : goal.returns-in_err-text
-returns-in_err-text c = exits _ (Answers (OfFiled (λ input. SolveIsRight input c.args.at) c.args.filed.now)) c.from_residual-in_err-text.result c.from_residual-in_err-text.ensures.1 (λ why e. answers-memory (OfFiled (λ input. SolveIsRight input c.args.at) c.args.filed.now) why e)
+returns-in_err-text c = exits _ (Answers (OfFiled (λ input. SolveIsRight input c.args.at) c.args.filed.now))
+    c.from_residual-in_err-text.result c.from_residual-in_err-text.ensures.1 (λ why e. answers-memory (OfFiled (λ input. SolveIsRight input c.args.at) c.args.filed.now) why e)
 
 pub returns : goal.returns
 returns c = λ input read. solved c.in_ok-text.text.items (record {

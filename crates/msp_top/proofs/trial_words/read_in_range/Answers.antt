@@ -15,7 +15,8 @@ returns-in-Some-clause-later c later =
 
 pub returns-in-None-clause-read : goal.returns-in-None-clause-read
 returns-in-None-clause-read c = (
-  λ later. sym (number_then-short c.args.place c.args.least c.args.greatest c.args.word.now c.as_bytes.result.now later c.number_within.result (omega arith) c.as_bytes.ensures.value c.number_within.ensures
+  λ later. sym
+      (number_then-short c.args.place c.args.least c.args.greatest c.args.word.now c.as_bytes.result.now later c.number_within.result (omega arith) c.as_bytes.ensures.value c.number_within.ensures
       ∙ ap (λ o. text_of_number c.args.place c.args.least c.args.greatest o later) c.in-None.is),
   λ number. no_number_word c.args.least c.args.greatest c.args.word.now c.as_bytes.result.now c.number_within.result c.as_bytes.ensures.value c.number_within.ensures c.in-None.is number,
 )

@@ -14,7 +14,8 @@ returns-in_err-answer c = exits _ (Answers (TrialIsRight c.args.trial.now)) c.fr
     (λ why e. trial_unsolved c.args.trial.now c.in_ok-inst.inst c.in_err-answer.field-0.0 why c.in_ok-inst.ensures.made c.in_err-answer.ensures.fault e)
 
 pub returns-in_err-text : goal.returns-in_err-text
-returns-in_err-text c = exits _ (Answers (TrialIsRight c.args.trial.now)) c.from_residual-in_err-text.result c.from_residual-in_err-text.ensures.1 (λ why e. answers-memory (TrialIsRight c.args.trial.now) why e)
+returns-in_err-text c = exits _ (Answers (TrialIsRight c.args.trial.now))
+    c.from_residual-in_err-text.result c.from_residual-in_err-text.ensures.1 (λ why e. answers-memory (TrialIsRight c.args.trial.now) why e)
 
 pub returns : goal.returns
 returns c = trial_solved c.args.trial.now c.in_ok-inst.inst c.in_ok-answer.answer c.in_ok-text.text.items c.in_ok-inst.ensures.made c.in_ok-answer.ensures.answer c.in_ok-text.ensures

@@ -8,9 +8,11 @@ use Rattle.msp_top.proofs.words.check_names.Goals as goal
 pub returns-in_err-read_name : goal.returns-in_err-read_name
 returns-in_err-read_name c = exits _ (AreNames (map string_bytes c.args.names.now)) c.from_residual.result c.from_residual.ensures.1
     (λ why e. refuses_names (map string_bytes c.args.names.now) c.in_err-read_name.field-0.0 why
-    (HasNames-fault string_bytes c.args.names.now c.loop-k.k c.index-names-k.result _ _ c.loop-k-test.true c.index-names-k.is c.as_str.ensures.value c.in_err-read_name.ensures.read.0 c.loop-k.invariant)
+    (HasNames-fault string_bytes c.args.names.now
+    c.loop-k.k c.index-names-k.result _ _ c.loop-k-test.true c.index-names-k.is c.as_str.ensures.value c.in_err-read_name.ensures.read.0 c.loop-k.invariant)
     (not_all_names string_bytes c.args.names.now c.loop-k.k c.index-names-k.result _ c.loop-k-test.true c.index-names-k.is c.as_str.ensures.value c.in_err-read_name.ensures.read.1) e)
 
 pub loop-k-preserved : goal.loop-k-preserved
 loop-k-preserved c =
-    HasNames-next string_bytes c.args.names.now c.loop-k.k c.index-names-k.result _ c.in_ok-read_name.field-0 c.loop-k-test.true c.index-names-k.is c.as_str.ensures.value c.in_ok-read_name.ensures.read c.in_ok-read_name.ensures.later c.loop-k.invariant
+    HasNames-next string_bytes c.args.names.now c.loop-k.k c.index-names-k.result _ c.in_ok-read_name.field-0
+    c.loop-k-test.true c.index-names-k.is c.as_str.ensures.value c.in_ok-read_name.ensures.read c.in_ok-read_name.ensures.later c.loop-k.invariant

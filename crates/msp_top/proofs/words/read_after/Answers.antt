@@ -12,7 +12,8 @@ returns-then-eq c = reads_label c.args.word.now (map string_bytes c.args.words.n
 
 pub returns-in_err-check_names : goal.returns-in_err-check_names
 returns-in_err-check_names c = exits _ (ReadsWords (c.args.word.now ∷ map string_bytes c.args.words.now)) c.from_residual.result c.from_residual.ensures.1
-    (λ why e. refuses_label c.args.word.now (map string_bytes c.args.words.now) c.in_err-check_names.field-0.0 why ((bytes_eq-Decides _ _).0 (sym c.eq.ensures ∙ c.if-eq.true)) c.in_err-check_names.ensures e)
+    (λ why e. refuses_label c.args.word.now (map string_bytes c.args.words.now)
+    c.in_err-check_names.field-0.0 why ((bytes_eq-Decides _ _).0 (sym c.eq.ensures ∙ c.if-eq.true)) c.in_err-check_names.ensures e)
 
 pub returns-then-eq-2 : goal.returns-then-eq-2
 returns-then-eq-2 c = reads_why c.args.word.now (map string_bytes c.args.words.now) c.in_ok-class.class ((bytes_eq-Decides _ _).0 (sym c.eq-2.ensures ∙ c.if-eq-2.true)) c.in_ok-class.ensures
@@ -36,4 +37,5 @@ returns-in_err-trial c = exits _ (ReadsWords (c.args.word.now ∷ map string_byt
     (λ why e. refuses_trial c.args.word.now (map string_bytes c.args.words.now) c.in_err-trial.field-0.0 why ((bytes_eq-Decides _ _).0 (sym c.eq-4.ensures ∙ c.if-eq-4.true)) c.in_err-trial.ensures e)
 
 pub returns : goal.returns
-returns c = reads_all c.args.word.now (map string_bytes c.args.words.now) c.read_alone.result (sym c.eq.ensures ∙ c.if-eq.false) (sym c.eq-2.ensures ∙ c.if-eq-2.false) (sym c.eq-3.ensures ∙ c.if-eq-3.false) (sym c.eq-4.ensures ∙ c.if-eq-4.false) c.read_alone.ensures
+returns c = reads_all c.args.word.now (map string_bytes c.args.words.now) c.read_alone.result (sym c.eq.ensures ∙ c.if-eq.false)
+    (sym c.eq-2.ensures ∙ c.if-eq-2.false) (sym c.eq-3.ensures ∙ c.if-eq-3.false) (sym c.eq-4.ensures ∙ c.if-eq-4.false) c.read_alone.ensures

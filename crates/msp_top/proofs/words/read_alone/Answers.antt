@@ -20,7 +20,8 @@ returns-then-is_alone-5 c = alone string_bytes c.args.words.now c.args.word.now 
 
 pub returns : goal.returns
 returns c = (
-  none_alone string_bytes c.args.word.now c.args.words.now (λ h. let e : false ≡ true = c.if-is_alone.ensures.1 h in cc) (λ h. let e : false ≡ true = c.if-is_alone-2.ensures.1 h in cc) (λ h. let e : false ≡ true = c.if-is_alone-3.ensures.1 h in cc)
+  none_alone string_bytes c.args.word.now c.args.words.now (λ h. let e : false ≡ true = c.if-is_alone.ensures.1 h in cc)
+      (λ h. let e : false ≡ true = c.if-is_alone-2.ensures.1 h in cc) (λ h. let e : false ≡ true = c.if-is_alone-3.ensures.1 h in cc)
       (λ h. let e : false ≡ true = c.if-is_alone-4.ensures.1 h in cc) (λ h. let e : false ≡ true = c.if-is_alone-5.ensures.1 h in cc),
   refl,
 )

@@ -20,5 +20,6 @@ loop-place-preserved c =
     record {
       pieces = pieces-next places k _ p c.loop-place.left _ _ c.loop-place-test.true refl at.0 c.loop-place.invariant.left refl c.in_ok-put.ensures c.loop-place.invariant.pieces;
       size = length-set c.loop-place.left p.machine _ ∙ c.loop-place.invariant.size;
-      left = left-next places k p c.loop-place.left _ c.loop-place-test.true refl (omega (arith, c.loop-place.invariant.size, at.0)) at.0 (omega (arith, over, c.from.ensures)) c.loop-place.invariant.left;
+      left = left-next places k p c.loop-place.left _ c.loop-place-test.true refl
+          (omega (arith, c.loop-place.invariant.size, at.0)) at.0 (omega (arith, over, c.from.ensures)) c.loop-place.invariant.left;
     }

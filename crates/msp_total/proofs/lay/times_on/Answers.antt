@@ -16,5 +16,6 @@ loop-place-preserved c =
     let at = c.requires.1 c.loop-place.place-index no_place c.loop-place-test.true in
     record {
       size = length-set c.loop-place.times p.machine _ ∙ c.loop-place.invariant.size;
-      times = times-next c.args.places.now c.loop-place.place-index p c.loop-place.times c.from.result c.loop-place-test.true refl (omega (arith, c.loop-place.invariant.size, at.0)) at.0 c.from.ensures c.loop-place.invariant.times;
+      times = times-next c.args.places.now c.loop-place.place-index p c.loop-place.times c.from.result c.loop-place-test.true refl
+          (omega (arith, c.loop-place.invariant.size, at.0)) at.0 c.from.ensures c.loop-place.invariant.times;
     }

@@ -1,6 +1,7 @@
 use Rattle.std.proofs.Common.{◌<◌, ◌≤◌, length, map, All, IsPermutation, sym, subst, arith}
 use Rattle.std.proofs.lemmas.List.Elements.{All-map}
 use Rattle.std.proofs.lemmas.Result.{IfOk-weaker}
+use Rattle.msp_class.specs.declared.sizes.TheConstants.{MOST_JOBS, GREATEST}
 use Rattle.msp_slots.specs.Earliest.{AreSlots}
 use Rattle.msp_total.specs.SlotSteps.{IsTable, AreLaid, AreLeastLaid}
 use Rattle.msp_total.proofs.SlotFacts.{IsUnitShop-from, weights, heads_few, heads_low, slots_many, rows_many, columns_many, has_costs, columns_inside, least_laid}
@@ -11,7 +12,7 @@ earliest_slots-requires-clause-jobs c =
     let i = c.args.inst.now in
     let h = IsUnitShop-from i c.args.late c.requires.class c.requires.inner in
     let p = subst (λ l. IsPermutation (map (λ j. j.release) l) c.in_ok-heads.heads.items) c.as_slice.ensures c.in_ok-heads.ensures.all in
-    subst (λ l. length l ≤ 400) (sym c.as_slice-2.ensures.value) (heads_few i c.args.late h _ p)
+    subst (λ l. length l ≤ MOST_JOBS) (sym c.as_slice-2.ensures.value) (heads_few i c.args.late h _ p)
 
 pub earliest_slots-requires-clause-early : goal.earliest_slots-requires-clause-early
 earliest_slots-requires-clause-early c =
@@ -26,10 +27,11 @@ table_of-requires-clause-slots c =
     let h = IsUnitShop-from i c.args.late c.requires.class c.requires.inner in
     let p = subst (λ l. IsPermutation (map (λ j. j.release) l) c.in_ok-heads.heads.items) c.as_slice.ensures c.in_ok-heads.ensures.all in
     let filled = subst (λ l. AreSlots i.machines l c.in_ok-slots.slots.items) c.as_slice-2.ensures.value c.in_ok-slots.ensures in
-    subst (λ l. length l ≤ 400) (sym c.as_slice-3.ensures.value) (omega (arith, slots_many i c.args.late h _ p _ filled, h.few))
+    subst (λ l. length l ≤ MOST_JOBS) (sym c.as_slice-3.ensures.value) (omega (arith, slots_many i c.args.late h _ p _ filled, h.few))
 
 pub table_of-requires-clause-light : goal.table_of-requires-clause-light
-table_of-requires-clause-light c = All-map (λ w. w ≤ 1000000000) (λ j. j.weight) c.args.inst.now.jobs (weights c.args.inst.now c.args.late (IsUnitShop-from c.args.inst.now c.args.late c.requires.class c.requires.inner))
+table_of-requires-clause-light c =
+    All-map (λ w. w ≤ GREATEST) (λ j. j.weight) c.args.inst.now.jobs (weights c.args.inst.now c.args.late (IsUnitShop-from c.args.inst.now c.args.late c.requires.class c.requires.inner))
 
 pub assign-requires-clause-enough : goal.assign-requires-clause-enough
 assign-requires-clause-enough c =
@@ -65,7 +67,8 @@ laid_out-requires-clause-inside c =
     let p = subst (λ l. IsPermutation (map (λ j. j.release) l) c.in_ok-heads.heads.items) c.as_slice.ensures c.in_ok-heads.ensures.all in
     let filled = subst (λ l. AreSlots i.machines l c.in_ok-slots.slots.items) c.as_slice-2.ensures.value c.in_ok-slots.ensures in
     let t = subst (λ l. IsTable i c.args.late l c.in_ok-table.table) c.as_slice-3.ensures.value c.in_ok-table.ensures in
-    subst (λ l. All (λ k. k < length l) c.as_slice-5.result.now) (sym c.as_slice-4.ensures.value) (subst (All (λ k. k < length c.in_ok-slots.slots.items)) (sym c.as_slice-5.ensures) (columns_inside i c.args.late h _ p _ filled _ t _ c.in_ok-column.ensures.assigned))
+    subst (λ l. All (λ k. k < length l) c.as_slice-5.result.now) (sym c.as_slice-4.ensures.value)
+    (subst (All (λ k. k < length c.in_ok-slots.slots.items)) (sym c.as_slice-5.ensures) (columns_inside i c.args.late h _ p _ filled _ t _ c.in_ok-column.ensures.assigned))
 
 pub returns : goal.returns
 returns c =
@@ -74,4 +77,6 @@ returns c =
     let p = subst (λ l. IsPermutation (map (λ j. j.release) l) c.in_ok-heads.heads.items) c.as_slice.ensures c.in_ok-heads.ensures.all in
     let filled = subst (λ l. AreSlots i.machines l c.in_ok-slots.slots.items) c.as_slice-2.ensures.value c.in_ok-slots.ensures in
     let t = subst (λ l. IsTable i c.args.late l c.in_ok-table.table) c.as_slice-3.ensures.value c.in_ok-table.ensures in
-    IfOk-weaker c.laid_out.result (AreLaid c.as_slice-4.result.now c.as_slice-5.result.now (length c.as_slice-5.result.now)) (AreLeastLaid i c.args.late) (λ pieces laid. least_laid i c.args.late h _ p _ filled _ t _ pieces c.in_ok-column.ensures.assigned c.in_ok-column.ensures.least (subst (λ l. AreLaid l c.in_ok-column.field-0.column (length c.in_ok-column.field-0.column) pieces) c.as_slice-4.ensures.value (subst (λ l. AreLaid c.as_slice-4.result.now l (length l) pieces) c.as_slice-5.ensures laid))) c.laid_out.ensures
+    IfOk-weaker c.laid_out.result (AreLaid c.as_slice-4.result.now c.as_slice-5.result.now (length c.as_slice-5.result.now)) (AreLeastLaid i c.args.late)
+    (λ pieces laid. least_laid i c.args.late h _ p _ filled _ t _ pieces c.in_ok-column.ensures.assigned c.in_ok-column.ensures.least (subst (λ l. AreLaid l c.in_ok-column.field-0.column
+    (length c.in_ok-column.field-0.column) pieces) c.as_slice-4.ensures.value (subst (λ l. AreLaid c.as_slice-4.result.now l (length l) pieces) c.as_slice-5.ensures laid))) c.laid_out.ensures

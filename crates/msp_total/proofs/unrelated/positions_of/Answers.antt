@@ -6,4 +6,5 @@ pub loop-k-preserved : goal.loop-k-preserved
 loop-k-preserved c =
     let h = IsUnrelatedInstance-from_class c.args.inst.now c.requires.class c.requires.inner in
     times-next c.args.inst.now c.as_slice-jobs.result.now c.loop-k.k c.index-jobs-k.result c.as_slice.result.now _ _ c.as_slice-jobs.ensures c.loop-k-test.true c.as_slice.ensures
-    (needs_count c.args.inst.now c.as_slice-jobs.result.now c.loop-k.k c.index-jobs-k.result c.as_slice.result.now c.as_slice-jobs.ensures c.loop-k-test.true c.as_slice.ensures (needs c.args.inst.now h)) c.in_ok-put_times.ensures c.loop-k.invariant
+    (needs_count c.args.inst.now c.as_slice-jobs.result.now c.loop-k.k c.index-jobs-k.result c.as_slice.result.now c.as_slice-jobs.ensures c.loop-k-test.true c.as_slice.ensures
+    (needs c.args.inst.now h)) c.in_ok-put_times.ensures c.loop-k.invariant

@@ -15,4 +15,5 @@ pub loop-arc-preserved : goal.loop-arc-preserved
 loop-arc-preserved c = before-next c.as_slice-arc-items.result.now c.loop-arc.arc-index (length c.args.inst.now.jobs) c.args.job _ _ c.loop-arc-test.true c.if-arc-job.false c.loop-arc.invariant
 
 pub returns : goal.returns
-returns c = c.len.ensures ∙ sym (c.loop-arc.invariant ∙ ap (λ l. first_before l (length c.args.inst.now.jobs) c.args.job) (drop_all c.loop-arc.arc-index c.as_slice-arc-items.result.now c.loop-arc-test.false))
+returns c =
+    c.len.ensures ∙ sym (c.loop-arc.invariant ∙ ap (λ l. first_before l (length c.args.inst.now.jobs) c.args.job) (drop_all c.loop-arc.arc-index c.as_slice-arc-items.result.now c.loop-arc-test.false))

@@ -21,7 +21,8 @@ returns-clause-joined c =
     on_ok_weaker c.append.result
     (joined_again c.args.inst.now c.requires.class c.requires.inner c.args.blocks.now.items c.requires.joined place c.next_place-place.ensures.later inside
     c.remove-next.result c.as_slice-2.result.now c.remove-next.new.self.items c.remove-next.ensures.value c.as_slice-2.ensures c.remove-next.ensures.items
-    c.as_slice-3.result.now c.job_before-before.result c.place_of-behind.result c.as_slice-3.ensures.value c.job_before-before.ensures goes c.place_of-behind.ensures.inside c.place_of-behind.ensures.holds
+    c.as_slice-3.result.now c.job_before-before.result
+    c.place_of-behind.result c.as_slice-3.ensures.value c.job_before-before.ensures goes c.place_of-behind.ensures.inside c.place_of-behind.ensures.holds
     c.index_mut.result.now c.as_slice-4.result.now c.append.new.block c.index_mut.ensures.value c.as_slice-4.ensures)
     c.append.ensures
 
@@ -33,6 +34,7 @@ returns-clause-joins c =
     on_ok_weaker c.append.result
     (joins_again c.args.inst.now c.requires.class c.requires.inner c.args.blocks.now.items c.requires.joined place c.next_place-place.ensures.later inside
     c.remove-next.result c.as_slice-2.result.now c.remove-next.new.self.items c.remove-next.ensures.value c.as_slice-2.ensures c.remove-next.ensures.items
-    c.as_slice-3.result.now c.job_before-before.result c.place_of-behind.result c.as_slice-3.ensures.value c.job_before-before.ensures goes c.place_of-behind.ensures.inside c.place_of-behind.ensures.holds
+    c.as_slice-3.result.now c.job_before-before.result
+    c.place_of-behind.result c.as_slice-3.ensures.value c.job_before-before.ensures goes c.place_of-behind.ensures.inside c.place_of-behind.ensures.holds
     c.index_mut.result.now c.as_slice-4.result.now c.append.new.block c.index_mut.ensures.value c.as_slice-4.ensures)
     c.append.ensures

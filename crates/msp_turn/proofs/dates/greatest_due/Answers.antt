@@ -24,4 +24,5 @@ later_is x y = by (int_cmp x y) (int_ranked x y (int_cmp x y) refl)
 pub returns : goal.returns
 returns c =
     to_z-of_z w64 c.unwrap_or.result (search rules) ∙ c.unwrap_or.ensures
-    ∙ ap (λ o. unwrap_or o (pos 0)) (sym (option_map_id c.max.result) ∙ reduce_by_from_yields_List {v = λ x. x} later int_max c.map.result c.max.result later_is c.max.ensures.ran (YieldsList-from_map _ (λ j. j.due) (YieldsList-from_slice c.args.jobs.now cc) c.map.ensures.closure (λ x b q k. search (rules, tests))))
+    ∙ ap (λ o. unwrap_or o (pos 0)) (sym (option_map_id c.max.result) ∙ reduce_by_from_yields_List {v = λ x. x} later int_max c.map.result c.max.result later_is c.max.ensures.ran
+    (YieldsList-from_map _ (λ j. j.due) (YieldsList-from_slice c.args.jobs.now cc) c.map.ensures.closure (λ x b q k. search (rules, tests))))

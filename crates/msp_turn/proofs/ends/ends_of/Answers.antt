@@ -7,4 +7,5 @@ pub raise-requires : goal.raise-requires
 raise-requires c = omega (arith, c.requires c.loop-piece.piece-index no_piece c.loop-piece-test.true, length-ends_over _ _ _ c.loop-piece.invariant)
 
 pub loop-piece-preserved : goal.loop-piece-preserved
-loop-piece-preserved c = ends_over-next _ _ _ c.args.pieces.now c.loop-piece.piece-index _ _ c.loop-piece-test.true refl (c.requires c.loop-piece.piece-index _ c.loop-piece-test.true) c.raise.ensures c.loop-piece.invariant
+loop-piece-preserved c = ends_over-next _ _ _ c.args.pieces.now c.loop-piece.piece-index _ _ c.loop-piece-test.true refl
+    (c.requires c.loop-piece.piece-index _ c.loop-piece-test.true) c.raise.ensures c.loop-piece.invariant

@@ -7,14 +7,14 @@ use Rattle.msp_schedule.specs.Within.{Within}
 use Rattle.msp_turn.proofs.LineLimits.{few_jobs, within_jobs, short_needs, line_within, as_line}
 use Rattle.msp_turn.proofs.line_up.line_up.Goals as goal
 
-pub in_a_row-requires-clause-few : goal.in_a_row-requires-clause-few
-in_a_row-requires-clause-few c = few_jobs c.args.inst.now c.requires.machine c.requires.inner c.args.unit c.requires.unit c.args.order.now c.requires.all
+pub pieces_back_to_back-requires-clause-few : goal.pieces_back_to_back-requires-clause-few
+pieces_back_to_back-requires-clause-few c = few_jobs c.args.inst.now c.requires.machine c.requires.inner c.args.unit c.requires.unit c.args.order.now c.requires.all
 
-pub in_a_row-requires-clause-jobs : goal.in_a_row-requires-clause-jobs
-in_a_row-requires-clause-jobs c = within_jobs c.args.inst.now c.requires.machine c.requires.inner c.args.unit c.requires.unit c.args.order.now c.requires.all
+pub pieces_back_to_back-requires-clause-jobs : goal.pieces_back_to_back-requires-clause-jobs
+pieces_back_to_back-requires-clause-jobs c = within_jobs c.args.inst.now c.requires.machine c.requires.inner c.args.unit c.requires.unit c.args.order.now c.requires.all
 
-pub in_a_row-requires-clause-needs : goal.in_a_row-requires-clause-needs
-in_a_row-requires-clause-needs c = short_needs c.args.inst.now c.requires.machine c.requires.inner
+pub pieces_back_to_back-requires-clause-needs : goal.pieces_back_to_back-requires-clause-needs
+pieces_back_to_back-requires-clause-needs c = short_needs c.args.inst.now c.requires.machine c.requires.inner
 
 pub cost-cost-requires-clause-within : goal.cost-cost-requires-clause-within
 cost-cost-requires-clause-within c =

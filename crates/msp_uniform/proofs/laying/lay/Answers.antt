@@ -1,5 +1,5 @@
 use Rattle.std.proofs.Common.{◌≡◌, ◌≤◌, false, length, arith}
-use Rattle.msp_uniform.specs.Segments.{HasPlaces}
+use Rattle.msp_uniform.specs.Segments.{HasPlaces, greatest_length}
 use Rattle.msp_uniform.proofs.LayingFacts.{IsLaying-start, laying_next, IsLaying-next, IsLaying-end}
 use Rattle.msp_uniform.proofs.laying.lay.Goals as goal
 
@@ -7,13 +7,15 @@ pub late-init : goal.late-init
 late-init c = IsLaying-start _ _ _ _ _ _ c.requires.late.gains
 
 pub lay_first-requires-clause-machines : goal.lay_first-requires-clause-machines
-lay_first-requires-clause-machines c = laying_next _ _ _ _ _ _ _ _ _ _ _ c.in-Some.ensures.items (omega (arith, c.late-test.true)) c.late.invariant (λ x. length x.body.value.jobs ≡ length c.args.speeds.now) c.requires.late.machines
+lay_first-requires-clause-machines c =
+    laying_next _ _ _ _ _ _ _ _ _ _ _ c.in-Some.ensures.items (omega (arith, c.late-test.true)) c.late.invariant (λ x. length x.body.value.jobs ≡ length c.args.speeds.now) c.requires.late.machines
 
 pub lay_first-requires-clause-places : goal.lay_first-requires-clause-places
-lay_first-requires-clause-places c = laying_next _ _ _ _ _ _ _ _ _ _ _ c.in-Some.ensures.items (omega (arith, c.late-test.true)) c.late.invariant (HasPlaces (length c.args.speeds.now) false c.args.place) c.requires.late.places
+lay_first-requires-clause-places c =
+    laying_next _ _ _ _ _ _ _ _ _ _ _ c.in-Some.ensures.items (omega (arith, c.late-test.true)) c.late.invariant (HasPlaces (length c.args.speeds.now) false c.args.place) c.requires.late.places
 
 pub lay_first-requires-clause-short : goal.lay_first-requires-clause-short
-lay_first-requires-clause-short c = laying_next _ _ _ _ _ _ _ _ _ _ _ c.in-Some.ensures.items (omega (arith, c.late-test.true)) c.late.invariant (λ x. x.length ≤ 10000000000000000000000000) c.requires.late.short
+lay_first-requires-clause-short c = laying_next _ _ _ _ _ _ _ _ _ _ _ c.in-Some.ensures.items (omega (arith, c.late-test.true)) c.late.invariant (λ x. x.length ≤ greatest_length) c.requires.late.short
 
 pub late-preserved : goal.late-preserved
 late-preserved c = IsLaying-next _ _ _ _ _ _ _ _ _ _ _ c.in-Some.ensures.items (omega (arith, c.late-test.true)) c.late.invariant _ _ _ c.in_ok-left-in-Some.ensures

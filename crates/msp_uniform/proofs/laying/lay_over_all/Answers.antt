@@ -1,5 +1,5 @@
 use Rattle.std.proofs.Common.{◌≡◌, ◌≤◌, true, length}
-use Rattle.msp_uniform.specs.Segments.{HasPlaces}
+use Rattle.msp_uniform.specs.Segments.{HasPlaces, greatest_length}
 use Rattle.msp_uniform.proofs.LayingFacts.{AreLaidUpTo-start, laid_next, AreLaidUpTo-next}
 use Rattle.msp_uniform.proofs.laying.lay_over_all.Goals as goal
 
@@ -13,7 +13,7 @@ pub lay_both-requires-clause-places : goal.lay_both-requires-clause-places
 lay_both-requires-clause-places c = laid_next _ _ _ _ _ _ _ _ _ _ _ c.in-Some.ensures.items c.segments.invariant (HasPlaces (length c.args.speeds.now) true c.args.place) c.requires.places
 
 pub lay_both-requires-clause-short : goal.lay_both-requires-clause-short
-lay_both-requires-clause-short c = laid_next _ _ _ _ _ _ _ _ _ _ _ c.in-Some.ensures.items c.segments.invariant (λ x. x.length ≤ 10000000000000000000000000) c.requires.short
+lay_both-requires-clause-short c = laid_next _ _ _ _ _ _ _ _ _ _ _ c.in-Some.ensures.items c.segments.invariant (λ x. x.length ≤ greatest_length) c.requires.short
 
 pub segments-preserved : goal.segments-preserved
 segments-preserved c = AreLaidUpTo-next _ _ _ _ _ _ _ _ _ _ _ c.in-Some.ensures.items c.segments.invariant _ _ _ c.in_ok-left.ensures

@@ -24,5 +24,6 @@ loop-k-preserved c =
       work_small = omega (arith, c.loop-k.invariant.work_small, c.requires.times _ 0 (c.requires.jobs c.loop-k.k 0 job));
       speed = speed;
       speed_small = omega (arith, c.loop-k.invariant.speed_small, (c.requires.speeds _ 0 (c.requires.machines c.loop-k.k 0 machine)).1);
-      best = IsGreatestUpTo-next c.args.times.now c.args.speeds.now c.args.jobs.now c.args.machines.now c.loop-k.k _ _ _ _ _ _ c.loop-k.invariant.best machine job c.requires.machines c.requires.speeds work speed c.greater-best.ensures;
+      best = IsGreatestUpTo-next c.args.times.now c.args.speeds.now c.args.jobs.now c.args.machines.now
+          c.loop-k.k _ _ _ _ _ _ c.loop-k.invariant.best machine job c.requires.machines c.requires.speeds work speed c.greater-best.ensures;
     }

@@ -1,4 +1,5 @@
 use Rattle.std.proofs.Common.{◌≡◌, ◌*◌, ◌≤◌, take, sum_by}
+use Rattle.msp_class.specs.declared.sizes.TheConstants.{GREATEST}
 use Rattle.msp_uniform.specs.Segments.{at}
 use Rattle.msp_uniform.proofs.quotient.sum_at.Given as goal
 
@@ -6,5 +7,5 @@ use Rattle.msp_uniform.proofs.quotient.sum_at.Given as goal
 abbrev pub invariant-loop-place : goal.invariant-loop-place
 invariant-loop-place l = record {
   value : l.sum ≡ sum_by (at l.values) (take l.place-index l.places);
-  size : l.sum ≤ 1000000000 * l.place-index;
+  size : l.sum ≤ GREATEST * l.place-index;
 }

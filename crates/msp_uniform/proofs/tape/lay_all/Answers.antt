@@ -1,5 +1,5 @@
 use Rattle.std.proofs.Common.{◌*◌, ◌-◌, ◌≤◌, ◌∙◌, All, ap, sym, subst, subst₂, false, length, arith}
-use Rattle.msp_uniform.specs.Segments.{at, AreWorks, HasPlaces, AreScaled}
+use Rattle.msp_uniform.specs.Segments.{at, AreWorks, HasPlaces, AreScaled, greatest_length}
 use Rattle.msp_uniform.specs.Plans.{IsTaped, DoHold, IsFilled}
 use Rattle.msp_uniform.proofs.TapedFacts.{start_unit, start_short, IsTaped-start, late_short, late_places, IsTaped-loop, IsTaped-done}
 use Rattle.msp_uniform.proofs.HeldFacts.{DoHold-start}
@@ -11,7 +11,8 @@ overflow_mul-unit c =
     omega (arith, small, ap (λ m. c.args.plan.unit * m) c.from-multiple.ensures)
 
 pub scaled-requires : goal.scaled-requires
-scaled-requires c = subst (λ m. All (λ x. x.length * m ≤ 10000000000000000000000000) c.args.plan.segments.items) (sym c.from-multiple.ensures) (start_short c.args.task.now c.requires.task _ _ _ _ c.requires.reached)
+scaled-requires c = subst (λ m. All (λ x. x.length * m ≤ greatest_length) c.args.plan.segments.items)
+    (sym c.from-multiple.ensures) (start_short c.args.task.now c.requires.task _ _ _ _ c.requires.reached)
 
 pub works_in-requires-clause-each : goal.works_in-requires-clause-each
 works_in-requires-clause-each c p l =
@@ -29,9 +30,11 @@ loop-job-init c =
     let fine = subst (λ m. AreScaled m c.args.plan.segments.items c.in_ok-late.late.items) c.from-multiple.ensures c.in_ok-late.ensures in
     let works = subst₂ (λ sp ws. AreWorks (at sp) c.args.plan.places c.in_ok-late.late.items ws) c.as_slice.ensures.value (sym c.as_slice-holds.ensures.value) c.in_ok-works.ensures in
     record {
-      taped = subst₂ (λ m es. IsTaped c.args.task.now c.args.jobs.now (c.args.plan.unit * m) (c.args.plan.places - 1) es c.in_ok-late.late.items) (sym c.from-multiple.ensures) (sym c.new-early.ensures.items) (IsTaped-start c.args.task.now c.requires.task _ _ _ _ c.requires.reached c.requires.short _ fine);
+      taped = subst₂ (λ m es. IsTaped c.args.task.now c.args.jobs.now (c.args.plan.unit * m) (c.args.plan.places - 1) es c.in_ok-late.late.items)
+          (sym c.from-multiple.ensures) (sym c.new-early.ensures.items) (IsTaped-start c.args.task.now c.requires.task _ _ _ _ c.requires.reached c.requires.short _ fine);
       rest = works.each (c.args.plan.places - 1) (omega (arith, c.requires.reached.places));
-      holds = subst (λ es. DoHold c.args.task.now.speeds.items c.as_slice-holds.result.now (c.args.plan.places - 1) es c.in_ok-late.late.items) (sym c.new-early.ensures.items) (DoHold-start _ _ _ _ works);
+      holds = subst (λ es. DoHold c.args.task.now.speeds.items c.as_slice-holds.result.now (c.args.plan.places - 1) es c.in_ok-late.late.items)
+          (sym c.new-early.ensures.items) (DoHold-start _ _ _ _ works);
     }
 
 pub loop-job-preserved : goal.loop-job-preserved
@@ -42,4 +45,5 @@ loop-job-preserved c = record {
 }
 
 pub returns : goal.returns
-returns c = subst (IsFilled c.args.task.now (c.args.plan.unit * c.from-multiple.result)) (sym (c.into_vec.ensures.items ∙ c.in_ok-append.ensures.items)) (IsTaped-done c.args.task.now c.requires.task c.args.jobs.now c.loop-job.job-index _ _ _ _ (omega (arith, c.loop-job-test.false)) c.loop-job.invariant.taped)
+returns c = subst (IsFilled c.args.task.now (c.args.plan.unit * c.from-multiple.result)) (sym (c.into_vec.ensures.items ∙ c.in_ok-append.ensures.items))
+    (IsTaped-done c.args.task.now c.requires.task c.args.jobs.now c.loop-job.job-index _ _ _ _ (omega (arith, c.loop-job-test.false)) c.loop-job.invariant.taped)

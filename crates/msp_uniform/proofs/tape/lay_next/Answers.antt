@@ -7,78 +7,95 @@ use Rattle.msp_uniform.proofs.tape.lay_next.Goals as goal
 pub lay_here-requires-clause-late : goal.lay_here-requires-clause-late
 lay_here-requires-clause-late c =
     let work = c.need_of-work.ensures ∙ ap (λ ts. c.args.unit * at ts c.args.job) c.as_slice.ensures.value in
-    let short : c.args.unit * at c.args.task.now.times.items c.args.job ≤ amount (rate_at (at c.args.task.now.speeds.items) c.args.tape.now.place) c.args.tape.now.late.items = omega (arith, work, c.requires.rest, c.if-work-tape.true) in
+    let short : c.args.unit * at c.args.task.now.times.items c.args.job ≤ amount (rate_at (at c.args.task.now.speeds.items) c.args.tape.now.place) c.args.tape.now.late.items =
+    omega (arith, work, c.requires.rest, c.if-work-tape.true) in
     read_laid _ _ _ _ _ _ c.as_slice-speeds.ensures.value work (can_here c.args.task.now c.requires.task _ _ _ _ _ _ c.requires.taped.1 short)
 
 pub returns-then-work-tape-clause-rest : goal.returns-then-work-tape-clause-rest
 returns-then-work-tape-clause-rest c =
     let work = c.need_of-work.ensures ∙ ap (λ ts. c.args.unit * at ts c.args.job) c.as_slice.ensures.value in
-    read_rest c.args.task.now c.requires.task c.args.job c.args.unit c.args.tape.now.place c.args.tape.now.early.items c.args.tape.now.late.items c.lay_here.result _ c.requires.taped.1 _ _ c.lay_here.new.tape.place _ _ _ _ c.as_slice-speeds.ensures.value work c.requires.rest c.lay_here.ensures.laid c.lay_here.ensures.place c.lay_here.ensures.rest
+    read_rest c.args.task.now c.requires.task c.args.job c.args.unit c.args.tape.now.place c.args.tape.now.early.items c.args.tape.now.late.items c.lay_here.result
+    _ c.requires.taped.1 _ _ c.lay_here.new.tape.place _ _ _ _ c.as_slice-speeds.ensures.value work c.requires.rest c.lay_here.ensures.laid c.lay_here.ensures.place c.lay_here.ensures.rest
 
 pub returns-then-work-tape-clause-taped : goal.returns-then-work-tape-clause-taped
 returns-then-work-tape-clause-taped c =
     let work = c.need_of-work.ensures ∙ ap (λ ts. c.args.unit * at ts c.args.job) c.as_slice.ensures.value in
-    read_here c.args.task.now c.requires.task c.args.job c.args.unit c.args.tape.now.place c.args.tape.now.early.items c.args.tape.now.late.items c.lay_here.result _ _ c.lay_here.new.tape.place _ _ c.as_slice-speeds.ensures.value work c.lay_here.ensures.laid c.lay_here.ensures.place
+    read_here c.args.task.now c.requires.task c.args.job c.args.unit c.args.tape.now.place c.args.tape.now.early.items c.args.tape.now.late.items
+    c.lay_here.result _ _ c.lay_here.new.tape.place _ _ c.as_slice-speeds.ensures.value work c.lay_here.ensures.laid c.lay_here.ensures.place
 
 pub lay_over-requires-clause-place : goal.lay_over-requires-clause-place
 lay_over-requires-clause-place c =
     let work = c.need_of-work.ensures ∙ ap (λ ts. c.args.unit * at ts c.args.job) c.as_slice.ensures.value in
-    let long : amount (rate_at (at c.args.task.now.speeds.items) c.args.tape.now.place) c.args.tape.now.late.items < c.args.unit * at c.args.task.now.times.items c.args.job = omega (arith, work, c.requires.rest, c.if-work-tape.false) in
+    let long : amount (rate_at (at c.args.task.now.speeds.items) c.args.tape.now.place) c.args.tape.now.late.items < c.args.unit * at c.args.task.now.times.items c.args.job =
+    omega (arith, work, c.requires.rest, c.if-work-tape.false) in
     before_last c.args.task.now c.requires.task _ _ _ _ _ _ c.requires.taped.1 long
 
 pub lay_over-requires-clause-late : goal.lay_over-requires-clause-late
 lay_over-requires-clause-late c =
     let work = c.need_of-work.ensures ∙ ap (λ ts. c.args.unit * at ts c.args.job) c.as_slice.ensures.value in
-    let long : amount (rate_at (at c.args.task.now.speeds.items) c.args.tape.now.place) c.args.tape.now.late.items < c.args.unit * at c.args.task.now.times.items c.args.job = omega (arith, work, c.requires.rest, c.if-work-tape.false) in
+    let long : amount (rate_at (at c.args.task.now.speeds.items) c.args.tape.now.place) c.args.tape.now.late.items < c.args.unit * at c.args.task.now.times.items c.args.job =
+    omega (arith, work, c.requires.rest, c.if-work-tape.false) in
     read_laid _ _ _ _ _ _ c.as_slice-speeds.ensures.value c.requires.rest (can_late c.args.task.now c.requires.task _ _ _ _ _ _ c.requires.taped.1 long)
 
 pub lay_over-requires-clause-early : goal.lay_over-requires-clause-early
 lay_over-requires-clause-early c =
     let work = c.need_of-work.ensures ∙ ap (λ ts. c.args.unit * at ts c.args.job) c.as_slice.ensures.value in
-    let long : amount (rate_at (at c.args.task.now.speeds.items) c.args.tape.now.place) c.args.tape.now.late.items < c.args.unit * at c.args.task.now.times.items c.args.job = omega (arith, work, c.requires.rest, c.if-work-tape.false) in
+    let long : amount (rate_at (at c.args.task.now.speeds.items) c.args.tape.now.place) c.args.tape.now.late.items < c.args.unit * at c.args.task.now.times.items c.args.job =
+    omega (arith, work, c.requires.rest, c.if-work-tape.false) in
     let more = ap (λ w. w - c.args.tape.now.rest) work ∙ ap (λ r. c.args.unit * at c.args.task.now.times.items c.args.job - r) c.requires.rest in
     read_laid _ _ _ _ _ _ c.as_slice-speeds.ensures.value more (can_early c.args.task.now c.requires.task _ _ _ _ _ _ c.requires.taped.1 long)
 
 pub returns-then-work-tape-clause-holds : goal.returns-then-work-tape-clause-holds
 returns-then-work-tape-clause-holds c =
     let work = c.need_of-work.ensures ∙ ap (λ ts. c.args.unit * at ts c.args.job) c.as_slice.ensures.value in
-    held_here c.args.task.now c.requires.task c.args.job _ c.args.unit c.args.tape.now.place c.args.tape.now.early.items c.args.tape.now.late.items c.requires.taped.1 c.args.holds.now c.requires.holds c.lay_here.result _ _ c.lay_here.new.tape.place _ _ c.as_slice-speeds.ensures.value work c.lay_here.ensures.laid c.lay_here.ensures.place
+    held_here c.args.task.now c.requires.task c.args.job _ c.args.unit c.args.tape.now.place c.args.tape.now.early.items c.args.tape.now.late.items c.requires.taped.1
+    c.args.holds.now c.requires.holds c.lay_here.result _ _ c.lay_here.new.tape.place _ _ c.as_slice-speeds.ensures.value work c.lay_here.ensures.laid c.lay_here.ensures.place
 
 pub bounds-holds-tape : goal.bounds-holds-tape
 bounds-holds-tape c =
     let work = c.need_of-work.ensures ∙ ap (λ ts. c.args.unit * at ts c.args.job) c.as_slice.ensures.value in
-    let long : amount (rate_at (at c.args.task.now.speeds.items) c.args.tape.now.place) c.args.tape.now.late.items < c.args.unit * at c.args.task.now.times.items c.args.job = omega (arith, work, c.requires.rest, c.if-work-tape.false) in
+    let long : amount (rate_at (at c.args.task.now.speeds.items) c.args.tape.now.place) c.args.tape.now.late.items < c.args.unit * at c.args.task.now.times.items c.args.job =
+    omega (arith, work, c.requires.rest, c.if-work-tape.false) in
     let more = ap (λ w. w - c.args.tape.now.rest) work ∙ ap (λ r. c.args.unit * at c.args.task.now.times.items c.args.job - r) c.requires.rest in
-    let held = held_over c.args.task.now c.requires.task c.args.job _ c.args.unit c.args.tape.now.place c.args.tape.now.early.items c.args.tape.now.late.items c.requires.taped.1 long c.args.holds.now c.requires.holds _ _ _ _ _ _ c.as_slice-speeds.ensures.value c.requires.rest more c.in_ok-lay_over.ensures in
+    let held = held_over c.args.task.now c.requires.task c.args.job _ c.args.unit c.args.tape.now.place c.args.tape.now.early.items c.args.tape.now.late.items
+    c.requires.taped.1 long c.args.holds.now c.requires.holds _ _ _ _ _ _ c.as_slice-speeds.ensures.value c.requires.rest more c.in_ok-lay_over.ensures in
     omega (arith, held.inside)
 
 pub overflow_sub-tape : goal.overflow_sub-tape
 overflow_sub-tape c =
     let work = c.need_of-work.ensures ∙ ap (λ ts. c.args.unit * at ts c.args.job) c.as_slice.ensures.value in
-    let long : amount (rate_at (at c.args.task.now.speeds.items) c.args.tape.now.place) c.args.tape.now.late.items < c.args.unit * at c.args.task.now.times.items c.args.job = omega (arith, work, c.requires.rest, c.if-work-tape.false) in
+    let long : amount (rate_at (at c.args.task.now.speeds.items) c.args.tape.now.place) c.args.tape.now.late.items < c.args.unit * at c.args.task.now.times.items c.args.job =
+    omega (arith, work, c.requires.rest, c.if-work-tape.false) in
     let more = ap (λ w. w - c.args.tape.now.rest) work ∙ ap (λ r. c.args.unit * at c.args.task.now.times.items c.args.job - r) c.requires.rest in
-    let held = held_over c.args.task.now c.requires.task c.args.job _ c.args.unit c.args.tape.now.place c.args.tape.now.early.items c.args.tape.now.late.items c.requires.taped.1 long c.args.holds.now c.requires.holds _ _ _ _ _ _ c.as_slice-speeds.ensures.value c.requires.rest more c.in_ok-lay_over.ensures in
+    let held = held_over c.args.task.now c.requires.task c.args.job _ c.args.unit c.args.tape.now.place c.args.tape.now.early.items c.args.tape.now.late.items
+    c.requires.taped.1 long c.args.holds.now c.requires.holds _ _ _ _ _ _ c.as_slice-speeds.ensures.value c.requires.rest more c.in_ok-lay_over.ensures in
     omega (arith, held.rest)
 
 pub returns-clause-holds : goal.returns-clause-holds
 returns-clause-holds c =
     let work = c.need_of-work.ensures ∙ ap (λ ts. c.args.unit * at ts c.args.job) c.as_slice.ensures.value in
-    let long : amount (rate_at (at c.args.task.now.speeds.items) c.args.tape.now.place) c.args.tape.now.late.items < c.args.unit * at c.args.task.now.times.items c.args.job = omega (arith, work, c.requires.rest, c.if-work-tape.false) in
+    let long : amount (rate_at (at c.args.task.now.speeds.items) c.args.tape.now.place) c.args.tape.now.late.items < c.args.unit * at c.args.task.now.times.items c.args.job =
+    omega (arith, work, c.requires.rest, c.if-work-tape.false) in
     let more = ap (λ w. w - c.args.tape.now.rest) work ∙ ap (λ r. c.args.unit * at c.args.task.now.times.items c.args.job - r) c.requires.rest in
-    let held = held_over c.args.task.now c.requires.task c.args.job _ c.args.unit c.args.tape.now.place c.args.tape.now.early.items c.args.tape.now.late.items c.requires.taped.1 long c.args.holds.now c.requires.holds _ _ _ _ _ _ c.as_slice-speeds.ensures.value c.requires.rest more c.in_ok-lay_over.ensures in
+    let held = held_over c.args.task.now c.requires.task c.args.job _ c.args.unit c.args.tape.now.place c.args.tape.now.early.items c.args.tape.now.late.items
+    c.requires.taped.1 long c.args.holds.now c.requires.holds _ _ _ _ _ _ c.as_slice-speeds.ensures.value c.requires.rest more c.in_ok-lay_over.ensures in
     held.held
 
 pub returns-clause-rest : goal.returns-clause-rest
 returns-clause-rest c =
     let work = c.need_of-work.ensures ∙ ap (λ ts. c.args.unit * at ts c.args.job) c.as_slice.ensures.value in
-    let long : amount (rate_at (at c.args.task.now.speeds.items) c.args.tape.now.place) c.args.tape.now.late.items < c.args.unit * at c.args.task.now.times.items c.args.job = omega (arith, work, c.requires.rest, c.if-work-tape.false) in
+    let long : amount (rate_at (at c.args.task.now.speeds.items) c.args.tape.now.place) c.args.tape.now.late.items < c.args.unit * at c.args.task.now.times.items c.args.job =
+    omega (arith, work, c.requires.rest, c.if-work-tape.false) in
     let more = ap (λ w. w - c.args.tape.now.rest) work ∙ ap (λ r. c.args.unit * at c.args.task.now.times.items c.args.job - r) c.requires.rest in
-    let held = held_over c.args.task.now c.requires.task c.args.job _ c.args.unit c.args.tape.now.place c.args.tape.now.early.items c.args.tape.now.late.items c.requires.taped.1 long c.args.holds.now c.requires.holds _ _ _ _ _ _ c.as_slice-speeds.ensures.value c.requires.rest more c.in_ok-lay_over.ensures in
+    let held = held_over c.args.task.now c.requires.task c.args.job _ c.args.unit c.args.tape.now.place c.args.tape.now.early.items c.args.tape.now.late.items
+    c.requires.taped.1 long c.args.holds.now c.requires.holds _ _ _ _ _ _ c.as_slice-speeds.ensures.value c.requires.rest more c.in_ok-lay_over.ensures in
     omega (arith, held.rest)
 
 pub returns-clause-taped : goal.returns-clause-taped
 returns-clause-taped c left r =
     let work = c.need_of-work.ensures ∙ ap (λ ts. c.args.unit * at ts c.args.job) c.as_slice.ensures.value in
-    let long : amount (rate_at (at c.args.task.now.speeds.items) c.args.tape.now.place) c.args.tape.now.late.items < c.args.unit * at c.args.task.now.times.items c.args.job = omega (arith, work, c.requires.rest, c.if-work-tape.false) in
+    let long : amount (rate_at (at c.args.task.now.speeds.items) c.args.tape.now.place) c.args.tape.now.late.items < c.args.unit * at c.args.task.now.times.items c.args.job =
+    omega (arith, work, c.requires.rest, c.if-work-tape.false) in
     let more = ap (λ w. w - c.args.tape.now.rest) work ∙ ap (λ r. c.args.unit * at c.args.task.now.times.items c.args.job - r) c.requires.rest in
-    read_over c.args.task.now c.requires.task c.args.job c.args.unit c.args.tape.now.place c.args.tape.now.early.items c.args.tape.now.late.items long _ _ _ _ _ _ c.as_slice-speeds.ensures.value c.requires.rest more c.in_ok-lay_over.ensures left r
+    read_over c.args.task.now c.requires.task c.args.job c.args.unit c.args.tape.now.place c.args.tape.now.early.items
+    c.args.tape.now.late.items long _ _ _ _ _ _ c.as_slice-speeds.ensures.value c.requires.rest more c.in_ok-lay_over.ensures left r

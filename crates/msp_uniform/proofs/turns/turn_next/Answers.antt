@@ -1,5 +1,5 @@
 use Rattle.std.proofs.Common.{◌≤◌, ◌*◌, ap, sym, subst, subst₂, All, length, arith}
-use Rattle.msp_uniform.specs.Segments.{at, IsSegment, IsDifference, amount, rate_at}
+use Rattle.msp_uniform.specs.Segments.{at, IsSegment, IsDifference, amount, rate_at, greatest_length}
 use Rattle.msp_uniform.proofs.ReachedFacts.{reached_unit, reached_short, next_first, next_some, next_finer, IsReached-turned, turned_unit, read_long, read_turned}
 use Rattle.msp_uniform.proofs.turns.turn_next.Goals as goal
 
@@ -7,33 +7,46 @@ pub need_of-work-requires-clause-unit : goal.need_of-work-requires-clause-unit
 need_of-work-requires-clause-unit c = reached_unit c.args.task.now c.requires.task _ _ _ _ c.requires.reached.1
 
 pub work_of-requires-clause-short : goal.work_of-requires-clause-short
-work_of-requires-clause-short c = subst (λ ys. amount (λ _. 1) ys ≤ 10000000000000000000000000) (sym c.as_slice-2.ensures.value) (reached_short c.args.task.now c.requires.task _ _ _ _ c.requires.reached.1)
+work_of-requires-clause-short c = subst (λ ys. amount (λ _. 1) ys ≤ greatest_length) (sym c.as_slice-2.ensures.value) (reached_short c.args.task.now c.requires.task _ _ _ _ c.requires.reached.1)
 
 pub turn-requires-clause-some : goal.turn-requires-clause-some
 turn-requires-clause-some c =
-    let long = read_long c.args.task.now c.args.plan.now.unit _ _ _ _ c.args.plan.now.segments.items _ _ _ c.as_slice.ensures.value c.as_slice-3.ensures.value c.as_slice-2.ensures.value c.need_of-work.ensures c.work_of.ensures (omega (arith, c.if-work-work_of.false)) in
+    let long = read_long c.args.task.now c.args.plan.now.unit _ _ _ _ c.args.plan.now.segments.items _ _ _ c.as_slice.ensures.value
+    c.as_slice-3.ensures.value c.as_slice-2.ensures.value c.need_of-work.ensures c.work_of.ensures (omega (arith, c.if-work-work_of.false)) in
     next_some c.args.task.now c.requires.task _ _ _ _ _ c.requires.reached.1 long
 
 pub turn-requires-clause-each : goal.turn-requires-clause-each
-turn-requires-clause-each c = (length c.args.task.now.times.items, subst₂ (λ sp ys. All (IsSegment (length sp) (length c.args.task.now.times.items) (at sp) c.args.plan.now.places) ys) (sym c.as_slice-4.ensures.value) (sym (ap (λ v. v.items) c.replace-segments.ensures.value)) c.requires.reached.1.plan.each)
+turn-requires-clause-each c = (
+  length c.args.task.now.times.items,
+  subst₂ (λ sp ys. All (IsSegment (length sp) (length c.args.task.now.times.items) (at sp) c.args.plan.now.places) ys)
+      (sym c.as_slice-4.ensures.value) (sym (ap (λ v. v.items) c.replace-segments.ensures.value)) c.requires.reached.1.plan.each,
+)
 
 pub turn-requires-clause-short : goal.turn-requires-clause-short
 turn-requires-clause-short c d is =
-    let long = read_long c.args.task.now c.args.plan.now.unit _ _ _ _ c.args.plan.now.segments.items _ _ _ c.as_slice.ensures.value c.as_slice-3.ensures.value c.as_slice-2.ensures.value c.need_of-work.ensures c.work_of.ensures (omega (arith, c.if-work-work_of.false)) in
-    subst (λ ys. amount (λ _. 1) ys * d ≤ 10000000000000000000000000) (sym (ap (λ v. v.items) c.replace-segments.ensures.value)) (next_finer c.args.task.now c.requires.task _ _ _ _ _ c.requires.reached.1 long d (subst (λ sp. IsDifference sp d) c.as_slice-4.ensures.value is))
+    let long = read_long c.args.task.now c.args.plan.now.unit _ _ _ _ c.args.plan.now.segments.items _ _ _ c.as_slice.ensures.value
+    c.as_slice-3.ensures.value c.as_slice-2.ensures.value c.need_of-work.ensures c.work_of.ensures (omega (arith, c.if-work-work_of.false)) in
+    subst (λ ys. amount (λ _. 1) ys * d ≤ greatest_length) (sym (ap (λ v. v.items) c.replace-segments.ensures.value))
+    (next_finer c.args.task.now c.requires.task _ _ _ _ _ c.requires.reached.1 long d (subst (λ sp. IsDifference sp d) c.as_slice-4.ensures.value is))
 
 pub turn-requires-clause-first : goal.turn-requires-clause-first
 turn-requires-clause-first c =
     let first = next_first c.args.task.now c.requires.task _ _ _ _ _ c.requires.reached.1 in
-    subst₂ (λ sp ys. c.need_of-work.result ≤ amount (rate_at (at sp) 0) ys) (sym c.as_slice-4.ensures.value) (sym (ap (λ v. v.items) c.replace-segments.ensures.value)) (omega (arith, first, c.need_of-work.ensures, ap (λ ts. c.args.plan.now.unit * at ts c.args.job) c.as_slice.ensures.value))
+    subst₂ (λ sp ys. c.need_of-work.result ≤ amount (rate_at (at sp) 0) ys) (sym c.as_slice-4.ensures.value) (sym (ap (λ v. v.items) c.replace-segments.ensures.value))
+    (omega (arith, first, c.need_of-work.ensures, ap (λ ts. c.args.plan.now.unit * at ts c.args.job) c.as_slice.ensures.value))
 
 pub overflow_mul-plan : goal.overflow_mul-plan
 overflow_mul-plan c =
-    let long = read_long c.args.task.now c.args.plan.now.unit _ _ _ _ c.args.plan.now.segments.items _ _ _ c.as_slice.ensures.value c.as_slice-3.ensures.value c.as_slice-2.ensures.value c.need_of-work.ensures c.work_of.ensures (omega (arith, c.if-work-work_of.false)) in
-    let small = turned_unit c.args.task.now c.requires.task _ _ _ _ c.args.plan.now.segments.items c.requires.reached.1 _ _ long (read_turned c.args.task.now c.args.plan.now.unit _ _ _ _ c.args.plan.now.segments.items _ _ _ _ c.as_slice.ensures.value c.as_slice-4.ensures.value (ap (λ v. v.items) c.replace-segments.ensures.value) c.need_of-work.ensures c.in_ok-turned.ensures) in
+    let long = read_long c.args.task.now c.args.plan.now.unit _ _ _ _ c.args.plan.now.segments.items _ _ _ c.as_slice.ensures.value
+    c.as_slice-3.ensures.value c.as_slice-2.ensures.value c.need_of-work.ensures c.work_of.ensures (omega (arith, c.if-work-work_of.false)) in
+    let small = turned_unit c.args.task.now c.requires.task _ _ _ _ c.args.plan.now.segments.items c.requires.reached.1 _ _ long
+    (read_turned c.args.task.now c.args.plan.now.unit _ _ _ _ c.args.plan.now.segments.items _ _ _ _ c.as_slice.ensures.value c.as_slice-4.ensures.value
+    (ap (λ v. v.items) c.replace-segments.ensures.value) c.need_of-work.ensures c.in_ok-turned.ensures) in
     omega (arith, small)
 
 pub returns : goal.returns
 returns c left r =
-    let long = read_long c.args.task.now c.args.plan.now.unit _ _ _ _ c.args.plan.now.segments.items _ _ _ c.as_slice.ensures.value c.as_slice-3.ensures.value c.as_slice-2.ensures.value c.need_of-work.ensures c.work_of.ensures (omega (arith, c.if-work-work_of.false)) in
-    IsReached-turned c.args.task.now c.requires.task _ _ _ _ c.args.plan.now.segments.items r long _ _ (read_turned c.args.task.now c.args.plan.now.unit _ _ _ _ c.args.plan.now.segments.items _ _ _ _ c.as_slice.ensures.value c.as_slice-4.ensures.value (ap (λ v. v.items) c.replace-segments.ensures.value) c.need_of-work.ensures c.in_ok-turned.ensures)
+    let long = read_long c.args.task.now c.args.plan.now.unit _ _ _ _ c.args.plan.now.segments.items _ _ _ c.as_slice.ensures.value
+    c.as_slice-3.ensures.value c.as_slice-2.ensures.value c.need_of-work.ensures c.work_of.ensures (omega (arith, c.if-work-work_of.false)) in
+    IsReached-turned c.args.task.now c.requires.task _ _ _ _ c.args.plan.now.segments.items r long _ _ (read_turned c.args.task.now c.args.plan.now.unit _ _ _ _ c.args.plan.now.segments.items
+    _ _ _ _ c.as_slice.ensures.value c.as_slice-4.ensures.value (ap (λ v. v.items) c.replace-segments.ensures.value) c.need_of-work.ensures c.in_ok-turned.ensures)

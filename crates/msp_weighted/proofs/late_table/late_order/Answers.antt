@@ -23,10 +23,12 @@ chosen-requires-clause-some c =
     let order = c.in_ok-order.order.items in
     let values = c.in_ok-table.table.values.items in
     let total = c.total_of-total.result in
-    let best = best_at c.deref-2.result.now values (total + 1) c.best_moment-moment.result c.deref-2.ensures.value c.in_ok-table.ensures.width c.best_moment-moment.ensures.inside c.best_moment-moment.ensures.best in
-    let filled = filled_at i (total + 1) c.deref.result.now order values c.in_ok-table.table.marks.items c.deref.ensures.value c.in_ok-table.ensures.filled in
+    let best = best_at c.deref-2.result.now values (total + 1)
+    c.best_moment-moment.result c.deref-2.ensures.value c.in_ok-table.ensures.width c.best_moment-moment.ensures.inside c.best_moment-moment.ensures.best in
+    let filled = filled_at i (total + 1) c.deref.result.now order values c.in_ok-table.table.flags.items c.deref.ensures.value c.in_ok-table.ensures.filled in
     subst (λ js. 0 < values_of i js c.best_moment-moment.result) (sym c.deref-3.ensures.value)
-    (some_value i order c.in_ok-order.ensures.all total c.best_moment-moment.result values c.in_ok-table.table.marks.items (c.total_of-total.ensures ∙ ap (sum_by time_of) c.as_slice.ensures) filled best.0 best.1)
+    (some_value i order c.in_ok-order.ensures.all total c.best_moment-moment.result values c.in_ok-table.table.flags.items
+    (c.total_of-total.ensures ∙ ap (sum_by time_of) c.as_slice.ensures) filled best.0 best.1)
 
 pub returns : goal.returns
 returns c =
@@ -34,11 +36,13 @@ returns c =
     let order = c.in_ok-order.order.items in
     let values = c.in_ok-table.table.values.items in
     let total = c.total_of-total.result in
-    let best = best_at c.deref-2.result.now values (total + 1) c.best_moment-moment.result c.deref-2.ensures.value c.in_ok-table.ensures.width c.best_moment-moment.ensures.inside c.best_moment-moment.ensures.best in
-    let filled = filled_at i (total + 1) c.deref.result.now order values c.in_ok-table.table.marks.items c.deref.ensures.value c.in_ok-table.ensures.filled in
+    let best = best_at c.deref-2.result.now values (total + 1)
+    c.best_moment-moment.result c.deref-2.ensures.value c.in_ok-table.ensures.width c.best_moment-moment.ensures.inside c.best_moment-moment.ensures.best in
+    let filled = filled_at i (total + 1) c.deref.result.now order values c.in_ok-table.table.flags.items c.deref.ensures.value c.in_ok-table.ensures.filled in
     let P : List ℕ → Type 0 = λ js. IsChosen i js (values_of i js c.best_moment-moment.result) c.in_ok-choice.choice.on_time.items c.in_ok-choice.choice.left.items in
     let chosen : P order = subst P c.deref-3.ensures.value c.in_ok-choice.ensures in
     IfOk-weaker c.in_order.result _ (λ o. IsTableOrder i o.items)
-    (λ o h. table_order i order c.in_ok-order.ensures.all total c.best_moment-moment.result values c.in_ok-table.table.marks.items (c.total_of-total.ensures ∙ ap (sum_by time_of) c.as_slice.ensures) filled best.0 best.1
+    (λ o h. table_order i order c.in_ok-order.ensures.all total c.best_moment-moment.result values c.in_ok-table.table.flags.items
+    (c.total_of-total.ensures ∙ ap (sum_by time_of) c.as_slice.ensures) filled best.0 best.1
     c.in_ok-choice.choice.on_time.items c.in_ok-choice.choice.left.items h.0 o.items c.in_ok-order.ensures.sorted chosen h.1 h.2 h.3)
     c.in_order.ensures

@@ -4,4 +4,5 @@ use Rattle.msp_schedule.proofs.lists.DateOrder.{number_less, number_less-order, 
 use Rattle.msp_weighted.proofs.late_table.sort_by_number.Goals as goal
 
 pub returns-clause-sorted : goal.returns-clause-sorted
-returns-clause-sorted c = number_sorted (λ (t : ℕ). pos t) (λ t. t) _ (c.sort_unstable_by.ensures.sorted (number_less (λ (t : ℕ). pos t) (λ t. t)) (number_less-order (λ (t : ℕ). pos t) (λ t. t)) (answers_always _ _ _ (λ f a r g h. search rules)))
+returns-clause-sorted c = number_sorted (λ (t : ℕ). pos t) (λ t. t)
+    _ (c.sort_unstable_by.ensures.sorted (number_less (λ (t : ℕ). pos t) (λ t. t)) (number_less-order (λ (t : ℕ). pos t) (λ t. t)) (answers_always _ _ _ (λ f a r g h. search rules)))

@@ -6,7 +6,7 @@ use Rattle.msp_weighted.proofs.table.put_job.Given as goal
 -- the moments from the end on are done
 abbrev pub invariant-loop-end : goal.invariant-loop-end
 invariant-loop-end l = record {
-  row : IsRow l.entry.time l.entry.weight l.due l.entry.row (length l.fn.values) l.end l.fn.values l.fn.marks l.values l.marks;
+  row : IsRow l.entry.time l.entry.weight l.due l.entry.row (length l.fn.values) l.end l.fn.values l.fn.flags l.values l.flags;
   reached : AreReached (length l.fn.values) l.values l.reached;
   room : length l.fn.values ≤ 4096 * length l.reached;
 }

@@ -15,15 +15,16 @@ loop-k-init c = record {
 pub put_job-requires-clause-small : goal.put_job-requires-clause-small
 put_job-requires-clause-small c = λ t l.
     let light = weights_light c.args.inst.now c.args.order.now c.requires.light c.requires.jobs in
-    filled_small c.args.inst.now c.args.order.now (length c.args.values.now) c.loop-k.k c.loop-k-test.true c.loop-k.values c.loop-k.marks c.loop-k.invariant.filled light c.requires.few t (omega (arith, l, c.loop-k.auto.values))
+    filled_small c.args.inst.now c.args.order.now (length c.args.values.now)
+    c.loop-k.k c.loop-k-test.true c.loop-k.values c.loop-k.flags c.loop-k.invariant.filled light c.requires.few t (omega (arith, l, c.loop-k.auto.values))
 
 pub put_job-requires-clause-clear : goal.put_job-requires-clause-clear
 put_job-requires-clause-clear c = λ m l. c.loop-k.invariant.filled.clear m (omega (arith, l))
 
 pub put_job-requires-clause-room : goal.put_job-requires-clause-room
 put_job-requires-clause-room c =
-    let room = row_room c.loop-k.k (length c.args.order.now) (length c.args.values.now) (64 * length c.args.marks.now) c.loop-k-test.true c.requires.room in
-    omega (arith, room, c.loop-k.auto.values, c.loop-k.auto.marks)
+    let room = row_room c.loop-k.k (length c.args.order.now) (length c.args.values.now) (64 * length c.args.flags.now) c.loop-k-test.true c.requires.room in
+    omega (arith, room, c.loop-k.auto.values, c.loop-k.auto.flags)
 
 pub put_job-requires-clause-blocks : goal.put_job-requires-clause-blocks
 put_job-requires-clause-blocks c = omega (arith, c.loop-k.invariant.room, c.loop-k.auto.values)
@@ -39,7 +40,8 @@ loop-k-preserved c =
     let job = read_job i c.as_slice-jobs.result.now (get_or c.args.order.now c.loop-k.k 0) c.index-jobs-order.result c.as_slice-jobs.ensures inside c.index-jobs-order.is in
     record {
       filled =
-          filled_read i c.args.order.now (length c.args.values.now) c.loop-k.k c.loop-k-test.true c.loop-k.values c.loop-k.marks c.loop-k.invariant.filled c.put_job.new.values c.put_job.new.marks _ _ _
+          filled_read i c.args.order.now (length c.args.values.now)
+          c.loop-k.k c.loop-k-test.true c.loop-k.values c.loop-k.flags c.loop-k.invariant.filled c.put_job.new.values c.put_job.new.flags _ _ _
           (time_read i c.as_slice-jobs.result.now _ _ c.index-jobs-order.result c.as_slice-jobs.ensures within c.index-jobs-order.is c.first_time.ensures)
           (ap (λ j. j.weight) job) (to_z-of_z w64 _ (search rules) ∙ ap (λ j. j.due) job)
           (put_width _ _ _ _ _ _ _ _ _ _ c.loop-k.auto.values c.put_job.ensures.put);

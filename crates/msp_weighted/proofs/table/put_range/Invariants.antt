@@ -8,7 +8,7 @@ abbrev pub invariant-loop-moment : goal.invariant-loop-moment
 invariant-loop-moment l = record {
   least : l.first ≤ l.moment;
   most : l.moment ≤ l.end;
-  put : IsPutFrom l.entry l.moment l.end l.fn.values l.fn.marks l.values l.marks;
+  put : IsPutFrom l.entry l.moment l.end l.fn.values l.fn.flags l.values l.flags;
   reached : AreReached (length l.fn.values) l.values l.reached;
 }
 

@@ -9,7 +9,7 @@ loop-c-init c = subst₂ (λ xs ls. IsStart c.args.classes.now xs c.in_ok-new.fi
 
 pub loop-c-preserved : goal.loop-c-preserved
 loop-c-preserved c = IsStart-next c.args.classes.now _ _ _ _ _ _ c.loop-c.c-index _ _ (omega arith) refl c.in_ok-meet.ensures.grows
-    c.in_ok-meet.ensures.marked (ap (λ v. v.items) c.in_ok-meet.ensures.links) c.loop-c.invariant
+    c.in_ok-meet.ensures.flagged (ap (λ v. v.items) c.in_ok-meet.ensures.links) c.loop-c.invariant
 
 pub returns : goal.returns
 returns c usable = IsWalk-start usable c.args.classes.now _ _ _ c.loop-c.c-index c.loop-c-test.false c.loop-c.invariant

@@ -7,8 +7,8 @@ use Rattle.msp_closure.proofs.outlook.Met.follow.Goals as goal
 
 pub loop-k-init : goal.loop-k-init
 loop-k-init c = (
-  grows_none (Steps (allows c.args.rows) c.args.class) c.args.self.now.classes.items c.args.self.now.marks,
-  followed_none (allows c.args.rows) c.args.class c.args.self.now.marks,
+  grows_none (Steps (allows c.args.rows) c.args.class) c.args.self.now.classes.items c.args.self.now.flags,
+  followed_none (allows c.args.rows) c.args.class c.args.self.now.flags,
   AddsLinks-start (allows c.args.rows) c.args.self.now.links.items c.args.class,
 )
 

@@ -1,6 +1,6 @@
 -- What holds in the loop of `arcs_at`: what is left gives the answer of the whole.
 use Rattle.std.proofs.Common.{◌≡◌, ◌≤◌, length, Result}
-use Rattle.msp_instance.specs.declared.ranges.TheConstants.{MOST_JOBS}
+use Rattle.msp_class.specs.declared.sizes.TheConstants.{MOST_JOBS}
 use Rattle.msp_grammar.specs.declared.lines.fault.FileFault.{FileFault}
 use Rattle.msp_file.specs.declared.instance.draft.Draft.{Draft}
 use Rattle.msp_grammar.specs.lines.Reading.{Place}

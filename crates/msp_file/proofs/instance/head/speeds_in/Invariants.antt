@@ -1,6 +1,6 @@
 -- What holds in the loop of `speeds_in`.
 use Rattle.std.proofs.Common.{◌≡◌, ◌≤◌, [], length, All}
-use Rattle.msp_instance.specs.declared.ranges.TheConstants.{GREATEST_SPEED}
+use Rattle.msp_class.specs.declared.sizes.TheConstants.{GREATEST_SPEED}
 use Rattle.msp_file.specs.instance.Reading.{speeds_in}
 use Rattle.msp_grammar.specs.lines.Steps.{fields_after}
 use Rattle.msp_file.proofs.instance.head.speeds_in.Given as goal

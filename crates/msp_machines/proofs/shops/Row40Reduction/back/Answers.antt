@@ -5,4 +5,5 @@ use Rattle.msp_machines.specs.laws.Routes.{renumbered_40}
 use Rattle.msp_machines.proofs.shops.Row40Reduction.back.Goals as goal
 
 pub returns : goal.returns
-returns c = brought_renumbered (renumbered_40 c.args._inst.now c.requires.inner c.requires.applies) (record { changes = refl; moments = refl; dates = refl }) c.args.lower c.numbered_by_machine.result c.numbered_by_machine.ensures c.requires.solution c.requires.bounded
+returns c = brought_renumbered (renumbered_40 c.args._inst.now c.requires.inner c.requires.applies) (record { changes = refl; moments = refl; dates = refl })
+    c.args.lower c.numbered_by_machine.result c.numbered_by_machine.ensures c.requires.solution c.requires.bounded

@@ -17,4 +17,5 @@ pub solution_by_speeds-requires-clause-feasible : goal.solution_by_speeds-requir
 solution_by_speeds-requires-clause-feasible c = feasible_after (led_27 c.args.inst.now c.requires.inner c.requires.applies) c.args.lower.schedule c.requires.solution.feasible c.requires.bounded
 
 pub returns : goal.returns
-returns c = brought_back (led_27 c.args.inst.now c.requires.inner c.requires.applies) c.args.lower.schedule c.requires.solution.feasible c.requires.bounded (record { changes = refl; grows = refl; moments = refl; dates = refl }) c.solution_by_speeds.result c.solution_by_speeds.ensures.schedule c.solution_by_speeds.ensures.solution
+returns c = brought_back (led_27 c.args.inst.now c.requires.inner c.requires.applies) c.args.lower.schedule c.requires.solution.feasible c.requires.bounded
+    (record { changes = refl; grows = refl; moments = refl; dates = refl }) c.solution_by_speeds.result c.solution_by_speeds.ensures.schedule c.solution_by_speeds.ensures.solution

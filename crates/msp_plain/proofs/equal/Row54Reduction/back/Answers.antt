@@ -8,7 +8,8 @@ use Rattle.msp_plain.proofs.EqualBounds.{early, feasible_back, within_back, brou
 use Rattle.msp_plain.proofs.equal.Row54Reduction.back.Goals as goal
 
 pub close_up-requires-clause-small : goal.close_up-requires-clause-small
-close_up-requires-clause-small c = subst (λ n. EndsBy GREATEST_CLOSED_UP (closed_up n c.args.lower.schedule)) (sym c.common_time.ensures) (early c.args.inst.now c.requires.inner c.requires.applies c.args.lower.schedule c.requires.solution.feasible c.requires.bounded)
+close_up-requires-clause-small c = subst (λ n. EndsBy GREATEST_CLOSED_UP (closed_up n c.args.lower.schedule)) (sym c.common_time.ensures)
+    (early c.args.inst.now c.requires.inner c.requires.applies c.args.lower.schedule c.requires.solution.feasible c.requires.bounded)
 
 pub cost-cost-requires-clause-within : goal.cost-cost-requires-clause-within
 cost-cost-requires-clause-within c = within_back c.args.inst.now c.requires.inner c.requires.applies c.args.lower.schedule c.requires.solution.feasible c.requires.bounded c.close_up.new.s

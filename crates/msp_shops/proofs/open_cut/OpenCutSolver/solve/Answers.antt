@@ -14,7 +14,8 @@ pub returns-clause-bounds : goal.returns-clause-bounds
 returns-clause-bounds c = (IsBestPlan-from_cut c.args.inst.now c.requires.class c.requires.inner _ c.in_ok-pieces.ensures).2.answer
 
 pub returns-clause-cost : goal.returns-clause-cost
-returns-clause-cost c = IsOpenCutCost-read c.args.inst.now c.cost-cost.result _ (IsBestPlan-from_cut c.args.inst.now c.requires.class c.requires.inner _ c.in_ok-pieces.ensures) c.cost-cost.ensures.value
+returns-clause-cost c = IsOpenCutCost-read c.args.inst.now
+    c.cost-cost.result _ (IsBestPlan-from_cut c.args.inst.now c.requires.class c.requires.inner _ c.in_ok-pieces.ensures) c.cost-cost.ensures.value
 
 pub returns-clause-joined : goal.returns-clause-joined
 returns-clause-joined c = AreJoined-from_cut c.args.inst.now _ c.in_ok-pieces.ensures

@@ -8,7 +8,7 @@ use Rattle.msp_schedule.specs.Settled.{IsSettled}
 use Rattle.msp_schedule.specs.Piece.{job_of}
 use Rattle.msp_route.specs.Bounds.{IsAnswer}
 use Rattle.msp_single.specs.Smith.{IsSmithOrder}
-use Rattle.msp_route.specs.Row.{IsRowSolution}
+use Rattle.msp_route.specs.BackToBack.{IsSolutionInOrder}
 use Rattle.msp_route.proofs.PlainJobs.{fair_needs, short_needs}
 use Rattle.msp_single.proofs.SmithFacts.{IsSmithInstance-from_class}
 use Rattle.msp_single.proofs.SmithBest.{IsSmithSchedule-made}
@@ -42,27 +42,31 @@ solution_in_order-requires-clause-feasible c = (IsSmithSchedule-made c.args.inst
 
 pub returns-clause-best : goal.returns-clause-best
 returns-clause-best c =
-    IfOk-weaker c.solution_in_order.result (IsRowSolution c.args.inst.now c.deref.result.now) (IsBest c.args.inst.now)
-    (λ s r. record { best = subst (Best c.args.inst.now) (sym r.schedule) (IsSmithSchedule-made c.args.inst.now c.requires.class c.requires.inner _ _ c.in_ok-order.ensures c.deref.ensures.value).best; cost = r.cost })
+    IfOk-weaker c.solution_in_order.result (IsSolutionInOrder c.args.inst.now c.deref.result.now) (IsBest c.args.inst.now)
+    (λ s r. record {
+      best = subst (Best c.args.inst.now) (sym r.schedule) (IsSmithSchedule-made c.args.inst.now c.requires.class c.requires.inner _ _ c.in_ok-order.ensures c.deref.ensures.value).best;
+      cost = r.cost;
+    })
     c.solution_in_order.ensures
 
 pub returns-clause-bounds : goal.returns-clause-bounds
 returns-clause-bounds c =
-    IfOk-weaker c.solution_in_order.result (IsRowSolution c.args.inst.now c.deref.result.now) (λ s. IsAnswer c.args.inst.now s.schedule)
+    IfOk-weaker c.solution_in_order.result (IsSolutionInOrder c.args.inst.now c.deref.result.now) (λ s. IsAnswer c.args.inst.now s.schedule)
     (λ s r. subst (IsAnswer c.args.inst.now) (sym r.schedule) (IsSmithSchedule-made c.args.inst.now c.requires.class c.requires.inner _ _ c.in_ok-order.ensures c.deref.ensures.value).answer)
     c.solution_in_order.ensures
 
 pub returns-clause-order : goal.returns-clause-order
 returns-clause-order c =
-    IfOk-weaker c.solution_in_order.result (IsRowSolution c.args.inst.now c.deref.result.now) (λ s. IsSmithOrder c.args.inst.now (map job_of s.schedule.pieces))
-    (λ s r. subst (λ x. IsSmithOrder c.args.inst.now (map job_of x.pieces)) (sym r.schedule) (IsSmithSchedule-made c.args.inst.now c.requires.class c.requires.inner _ _ c.in_ok-order.ensures c.deref.ensures.value).order)
+    IfOk-weaker c.solution_in_order.result (IsSolutionInOrder c.args.inst.now c.deref.result.now) (λ s. IsSmithOrder c.args.inst.now (map job_of s.schedule.pieces))
+    (λ s r. subst (λ x. IsSmithOrder c.args.inst.now (map job_of x.pieces))
+    (sym r.schedule) (IsSmithSchedule-made c.args.inst.now c.requires.class c.requires.inner _ _ c.in_ok-order.ensures c.deref.ensures.value).order)
     c.solution_in_order.ensures
 
 pub returns-clause-settled : goal.returns-clause-settled
 returns-clause-settled c =
-    IfOk-weaker c.solution_in_order.result (IsRowSolution c.args.inst.now c.deref.result.now) (λ s. IsSettled s.schedule)
+    IfOk-weaker c.solution_in_order.result (IsSolutionInOrder c.args.inst.now c.deref.result.now) (λ s. IsSettled s.schedule)
     (λ s r. subst IsSettled (sym r.schedule) (IsSmithSchedule-made c.args.inst.now c.requires.class c.requires.inner _ _ c.in_ok-order.ensures c.deref.ensures.value).settled)
     c.solution_in_order.ensures
 
 pub returns-clause-lowest : goal.returns-clause-lowest
-returns-clause-lowest c = IfOk-weaker c.solution_in_order.result (IsRowSolution c.args.inst.now c.deref.result.now) (λ s. IsLowest s.cost) (λ s r. r.lowest) c.solution_in_order.ensures
+returns-clause-lowest c = IfOk-weaker c.solution_in_order.result (IsSolutionInOrder c.args.inst.now c.deref.result.now) (λ s. IsLowest s.cost) (λ s r. r.lowest) c.solution_in_order.ensures

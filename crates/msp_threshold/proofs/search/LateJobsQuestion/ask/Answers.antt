@@ -14,7 +14,8 @@ pub solve-requires-clause-fits : goal.solve-requires-clause-fits
 solve-requires-clause-fits g c =
     let i = c.args.self.now.inst.now in
     let b = to_z w64 (of_z w64 (to_z w128 (of_z w128 c.args.bound))) in
-    c.requires.asked.fits b c.in-Some.lower (subst (LiesWithin 10000000000) (sym (narrow_is c.args.bound c.requires.bound)) c.requires.bound) (some_value (All (HasTime b) i.jobs → ⊥) (IsSqueezed i b) c.in_ok-squeezed.field-0 c.in-Some.lower c.in-Some.is c.in_ok-squeezed.ensures.value)
+    c.requires.asked.fits b c.in-Some.lower (subst (LiesWithin 10000000000) (sym (narrow_is c.args.bound c.requires.bound)) c.requires.bound)
+    (some_value (All (HasTime b) i.jobs → ⊥) (IsSqueezed i b) c.in_ok-squeezed.field-0 c.in-Some.lower c.in-Some.is c.in_ok-squeezed.ensures.value)
 
 pub returns-in_ok-solution-in-Some : goal.returns-in_ok-solution-in-Some
 returns-in_ok-solution-in-Some g c =
@@ -25,5 +26,6 @@ returns-in_ok-solution-in-Some g c =
     let squeezed = some_value (All (HasTime b) i.jobs → ⊥) (IsSqueezed i b) c.in_ok-squeezed.field-0 lower c.in-Some.is c.in_ok-squeezed.ensures.value in
     let test = zero_test s.cost.num (search rules) in
     let free = free_by_cost lower (ap (λ l. l.class.crit) squeezed.value) s.schedule c.in_ok-solution-in-Some.ensures.best.best s.cost c.in_ok-solution-in-Some.ensures.best.cost in
-    let law = subst (λ x. CanBeFree lower ↔ CanMeet i x) (narrow_is c.args.bound c.requires.bound) (some_value (CanMeet i b → ⊥) (λ l. CanBeFree l ↔ CanMeet i b) c.in_ok-squeezed.field-0 lower c.in-Some.is c.in_ok-squeezed.ensures.law) in
+    let law = subst (λ x. CanBeFree lower ↔ CanMeet i x) (narrow_is c.args.bound c.requires.bound)
+    (some_value (CanMeet i b → ⊥) (λ l. CanBeFree l ↔ CanMeet i b) c.in_ok-squeezed.field-0 lower c.in-Some.is c.in_ok-squeezed.ensures.law) in
     ((λ e. law.0 (free.0 (test.0 e))), (λ m. test.1 (free.1 (law.1 m))))

@@ -17,7 +17,8 @@ line_up-requires-clause-feasible c =
     let i = c.args.inst.now in
     let t = c.args.lower.schedule in
     let r = Recuts-50 i c.requires.applies in
-    found_feasible 50 i (led 50 i) t (by_ends i t) (λ l. l) IsPermutation-refl refl (lines_50 i c.requires.inner c.requires.applies t c.requires.solution.feasible) r.env (led-env 50 _ i r) refl c.requires.inner (lower_50 i c.requires.inner c.requires.applies).inner (back_50 i t c.requires.inner c.requires.applies) c.requires.solution.feasible c.requires.bounded
+    found_feasible 50 i (led 50 i) t (by_ends i t) (λ l. l) IsPermutation-refl refl (lines_50 i c.requires.inner c.requires.applies t c.requires.solution.feasible) r.env (led-env 50 _ i r)
+    refl c.requires.inner (lower_50 i c.requires.inner c.requires.applies).inner (back_50 i t c.requires.inner c.requires.applies) c.requires.solution.feasible c.requires.bounded
     c.unsigned_abs.result c.len.result _ _ c.unsigned_abs.ensures.value c.len.ensures c.deref.ensures.value c.in_ok-order.ensures.all c.in_ok-order.ensures.sorted
 
 pub returns : goal.returns
@@ -26,7 +27,8 @@ returns c =
     let t = c.args.lower.schedule in
     let r = Recuts-50 i c.requires.applies in
     let brought = IfOk-weaker c.line_up.result (IsLinedUp i c.unsigned_abs.result c.deref.result.now) (IsBrought 50 i (led 50 i) (by_ends i t) t)
-    (found_brought 50 i (led 50 i) t (by_ends i t) (λ l. l) IsPermutation-refl refl (lines_50 i c.requires.inner c.requires.applies t c.requires.solution.feasible) r.env (led-env 50 _ i r) refl c.requires.inner (lower_50 i c.requires.inner c.requires.applies).inner (back_50 i t c.requires.inner c.requires.applies) c.requires.solution.feasible c.requires.bounded
+    (found_brought 50 i (led 50 i) t (by_ends i t) (λ l. l) IsPermutation-refl refl (lines_50 i c.requires.inner c.requires.applies t c.requires.solution.feasible) r.env (led-env 50 _ i r)
+    refl c.requires.inner (lower_50 i c.requires.inner c.requires.applies).inner (back_50 i t c.requires.inner c.requires.applies) c.requires.solution.feasible c.requires.bounded
     c.unsigned_abs.result c.len.result _ _ c.unsigned_abs.ensures.value c.len.ensures c.deref.ensures.value c.in_ok-order.ensures.all c.in_ok-order.ensures.sorted) c.line_up.ensures in
     let h = each_of 50 i (led 50 i) (by_ends i t) t c.line_up.result brought in
     record { solution = h.0; law = h.1; same = h.2; bounds = h.3 }

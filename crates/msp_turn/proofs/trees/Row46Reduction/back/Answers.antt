@@ -12,4 +12,5 @@ reversed-requires-clause-reversible c =
 pub returns : goal.returns
 returns c =
     let h = reversal_46 c.args.inst.now c.requires.inner c.requires.applies in
-    brought_back 46 h.reverse (record { changes = refl; moments = refl; none = h.none }) c.requires.inner h.lower.inner c.args.lower.schedule c.requires.solution.feasible c.requires.bounded c.reversed.result c.reversed.ensures.schedule c.reversed.ensures.solution
+    brought_back 46 h.reverse (record { changes = refl; moments = refl; none = h.none })
+    c.requires.inner h.lower.inner c.args.lower.schedule c.requires.solution.feasible c.requires.bounded c.reversed.result c.reversed.ensures.schedule c.reversed.ensures.solution

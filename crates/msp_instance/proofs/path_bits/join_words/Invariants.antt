@@ -1,0 +1,5 @@
+use Rattle.msp_instance.proofs.PathBitLemmas.{JoinedTo}
+use Rattle.msp_instance.proofs.path_bits.join_words.Given as goal
+
+abbrev pub invariant-loop-k : goal.invariant-loop-k
+invariant-loop-k l = JoinedTo l.to l.from l.k l.fn.words l.words

@@ -1,5 +1,0 @@
-use Rattle.msp_instance.proofs.PathRowLemmas.{IsFilling}
-use Rattle.msp_instance.proofs.path_rows.fill.Given as goal
-
-abbrev pub invariant-loop-done : goal.invariant-loop-done
-invariant-loop-done l = IsFilling l.order l.sorted l.width l.words l.done

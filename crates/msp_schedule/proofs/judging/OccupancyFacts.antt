@@ -1,0 +1,275 @@
+-- Occupancies of pieces in order: neighbours that do not meet leave no overlap, and the first two that meet are the first overlap.
+use Rattle.std.proofs.Common.{◌≡◌, ◌≢◌, ℕ, ◌+◌, ◌<◌, ◌≤◌, ◌⊎◌, inl, inr, Bool, true, false, cond, List, length, get_or, All, AllPairs, Contains, IsPermutation, Option, Some, None}
+use Rattle.std.proofs.Common.{ℤ, ◌≤ℤ◌, ◌<ℤ◌, refl, sym, ap, subst, ◌∙◌, arith}
+use Rattle.std.specs.Prelude.{◌==◌, nat_lt}
+use Rattle.std.specs.Ordering.{int_cmp, nat_cmp, ordering_then, is_lt}
+use Rattle.std.specs.declared.cmp.Ordering.{Ordering}
+use Rattle.std.specs.declared.cmp.Ordering.TheVariants.{Less, Equal, Greater}
+use Rattle.std.proofs.lemmas.Bool.Decides.{nat_tests}
+use Rattle.msp_schedule.proofs.lists.DateOrder.{less, less-no, less-yes, not_less}
+use Rattle.std.proofs.lemmas.Bool.{cases_Bool, cases_lt, eqb-true}
+use Rattle.std.proofs.lemmas.Int.{ints}
+use Rattle.std.proofs.lemmas.List.{get_or_default}
+use Rattle.std.proofs.lemmas.List.Elements.{Contains-get_or}
+use Rattle.std.specs.Cmp.{IsStrictWeakOrder}
+use Rattle.std.specs.List.Sorted.{IsSortedBy}
+use Rattle.std.specs.Prelude.{IfSome}
+use Rattle.std.proofs.lemmas.List.Sorted.{sorted_far, All-permutation, Contains-permutation}
+use Rattle.msp_class.proofs.IntegerRing.{≤ℤ_total}
+use Rattle.msp_schedule.specs.declared.Piece.{Piece}
+use Rattle.msp_schedule.specs.declared.occupancies.Occupancy.{Occupancy}
+use Rattle.msp_schedule.specs.declared.overlaps.Lane.{Lane}
+use Rattle.msp_schedule.specs.Piece.{IsApart}
+use Rattle.msp_schedule.specs.Breaks.{piece_at, StandsAhead, Overlaps, IsFirstOverlap}
+use Rattle.msp_schedule.specs.Lanes.{lane_of, Precedes}
+use Rattle.msp_schedule.specs.Occupancies.{no_occupancy, occupancy_at, occupancy_of, AreOccupancies, IsNotAfter, IsClearBelow, IsFirstMeeting}
+use Rattle.msp_schedule.proofs.judging.OverlapFacts.{apart_without_overlap, is_first}
+use Rattle.msp_schedule.proofs.lists.Permuted.{AllPairs-permutation}
+
+-- ---- occupancies in any order
+-- a occupancy is that of its piece, each piece has its occupancy, and no two have one number
+pub record HasOccupancies (lane : Lane) (ps : List Piece) (ms : List Occupancy) : Type 0 where
+  pub each : All (λ m. (m.number < length ps) × (m ≡ occupancy_of lane (piece_at ps m.number) m.number)) ms
+  pub all : (k : ℕ) → k < length ps → Contains ms (occupancy_of lane (piece_at ps k) k)
+  pub distinct : AllPairs (λ a b. a.number ≢ b.number) ms
+
+pub occupancies_by_number : (lane : Lane) (ps : List Piece) (ms : List Occupancy) → AreOccupancies lane ps (length ps) ms → HasOccupancies lane ps ms
+occupancies_by_number lane ps ms (e, at) = record {
+  each = λ k d l. let is = own k d l in (subst (λ m. m.number < length ps) (sym is) (omega (arith, l, e)), subst (λ m. m ≡ occupancy_of lane (piece_at ps m.number) m.number) (sym is) refl);
+  all = λ k l. subst (Contains ms) (at k l) (Contains-get_or ms k no_occupancy (omega (arith, l, e)));
+  distinct = λ k l d less inside same. let a = ap (λ m. m.number) (own k d (omega (arith, less, inside))) in let b = ap (λ m. m.number) (own l d inside) in omega (arith, less, a, b, same);
+}
+  where
+    own : (k : ℕ) (d : Occupancy) → k < length ms → get_or ms k d ≡ occupancy_of lane (piece_at ps k) k
+    own k d l = get_or_default ms k d no_occupancy l ∙ at k (omega (arith, l, e))
+
+pub occupancies_permuted : (lane : Lane) (ps : List Piece) (ms ns : List Occupancy) → IsPermutation ms ns → HasOccupancies lane ps ms → HasOccupancies lane ps ns
+occupancies_permuted lane ps ms ns h m = record {
+  each = All-permutation (λ m. (m.number < length ps) × (m ≡ occupancy_of lane (piece_at ps m.number) m.number)) ms ns h m.each;
+  all = λ k l. contained (occupancy_of lane (piece_at ps k) k) (m.all k l);
+  distinct = AllPairs-permutation (λ a b. a.number ≢ b.number) (λ a b n e. n (sym e)) ms ns h m.distinct;
+}
+  where
+    contained : (x : Occupancy) → Contains ms x → Contains ns x
+    contained x c = Contains-permutation ms ns x h c
+
+-- ---- occupancies in order
+module _ (lane : Lane) (ps : List Piece) (ms : List Occupancy) (has : HasOccupancies lane ps ms) (sorted : AllPairs IsNotAfter ms) where
+  -- the occupancy of a piece, and its place
+  place : (k : ℕ) → k < length ps → (x : ℕ) × (x < length ms) × (occupancy_at ms x ≡ occupancy_of lane (piece_at ps k) k)
+  place k l = let c = has.all k l in (c.0, c.1, placed c.0 c.1 c.2)
+    where
+      placed : (x : ℕ) → x < length ms → get_or ms x (occupancy_of lane (piece_at ps k) k) ≡ occupancy_of lane (piece_at ps k) k → occupancy_at ms x ≡ occupancy_of lane (piece_at ps k) k
+      placed x l e = get_or_default ms x no_occupancy _ l ∙ e
+
+  -- a occupancy that comes later does not come before
+  in_order : (k l x y : ℕ) → x < length ms → y < length ms → occupancy_at ms x ≡ occupancy_of lane (piece_at ps k) k
+      → occupancy_at ms y ≡ occupancy_of lane (piece_at ps l) l → Precedes (lane_of lane) ps k l → x < y
+  in_order k l x y ix iy ex ey before = elim (cases_lt x y) [
+    | inl less ↦ less
+    | inr more ↦ elim (cases_lt y x) [
+      | inl less ↦ absurd (backward before (weaker less))
+      | inr back ↦ absurd (not_itself before (ap (λ m. m.number) (sym ex ∙ ap (occupancy_at ms) (omega (arith, more, back)) ∙ ey)))
+    ]
+  ]
+    where
+      weaker : y < x → IsNotAfter (occupancy_of lane (piece_at ps l) l) (occupancy_of lane (piece_at ps k) k)
+      weaker less = subst (λ m. IsNotAfter m (occupancy_of lane (piece_at ps k) k)) ey (subst (λ m. IsNotAfter (occupancy_at ms y) m) ex (sorted y x no_occupancy less ix))
+
+      number_less : y < x → l ≢ k
+      number_less less e = has.distinct y x no_occupancy less ix (ap (λ m. m.number) ey ∙ e ∙ sym (ap (λ m. m.number) ex))
+
+      not_itself : Precedes (lane_of lane) ps k l → k ≡ l → ⊥
+      not_itself (inl a) e = let same = ap (λ i. lane_of lane (piece_at ps i)) e in omega (arith, a, same)
+      not_itself (inr (s, inl a)) e = let same = ap (λ i. (piece_at ps i).from) e in omega (arith, ints, a, same)
+      not_itself (inr (s, inr (f, a))) e = omega (arith, a, e)
+
+      backward : Precedes (lane_of lane) ps k l → IsNotAfter (occupancy_of lane (piece_at ps l) l) (occupancy_of lane (piece_at ps k) k) → ⊥
+      backward (inl a) (inl b) = omega (arith, a, b)
+      backward (inl a) (inr (e, b)) = omega (arith, a, e)
+      backward (inr (e, a)) (inl b) = omega (arith, e, b)
+      backward (inr (e, inl a)) (inr (f, inl b)) = omega (arith, ints, a, b)
+      backward (inr (e, inl a)) (inr (f, inr (g, b))) = omega (arith, ints, a, g)
+      backward (inr (e, inr (s, a))) (inr (f, inl b)) = omega (arith, ints, s, b)
+      backward (inr (e, inr (s, a))) (inr (f, inr (g, b))) = omega (arith, a, b)
+
+  -- where neighbours do not meet, no two occupancies of one lane overlap
+  apart_at : (a x y : ℕ) → IsClearBelow ms a → x < y → y < a → a ≤ length ms → (occupancy_at ms x).lane ≡ (occupancy_at ms y).lane → (occupancy_at ms x).to ≤ℤ (occupancy_at ms y).from
+  apart_at a x y clear less below whole same = elim (cases_lt (x + 1) y) [
+    | inl more ↦ further (sorted x (x + 1) no_occupancy (omega arith) (omega (arith, more, below, whole))) (sorted (x + 1) y no_occupancy more (omega (arith, below, whole)))
+    | inr last ↦ subst (λ z. (occupancy_at ms x).lane ≡ (occupancy_at ms z).lane → (occupancy_at ms x).to ≤ℤ (occupancy_at ms z).from) (omega (arith, less, last)) near same
+  ]
+    where
+      near : (occupancy_at ms x).lane ≡ (occupancy_at ms (x + 1)).lane → (occupancy_at ms x).to ≤ℤ (occupancy_at ms (x + 1)).from
+      near e = elim (≤ℤ_total (occupancy_at ms x).to (occupancy_at ms (x + 1)).from) [ inl h ↦ h | inr early ↦ absurd (clear x (omega (arith, less, below)) (e, early)) ]
+
+      chain : (p q r : ℤ) → p ≤ℤ q → q ≤ℤ r → p ≤ℤ r
+      chain p q r h k = omega (arith, ints)
+
+      weak : (p q : ℤ) → p <ℤ q → p ≤ℤ q
+      weak p q h = omega (arith, ints)
+
+      equal : (p q : ℤ) → p ≡ q → p ≤ℤ q
+      equal p q h = omega (arith, ints, h)
+
+      lane_between : IsNotAfter (occupancy_at ms x) (occupancy_at ms (x + 1)) → (occupancy_at ms x).lane ≤ (occupancy_at ms (x + 1)).lane
+      lane_between (inl h) = omega (arith, h)
+      lane_between (inr (e, h)) = omega (arith, e)
+
+      further : IsNotAfter (occupancy_at ms x) (occupancy_at ms (x + 1)) → IsNotAfter (occupancy_at ms (x + 1)) (occupancy_at ms y) → (occupancy_at ms x).to ≤ℤ (occupancy_at ms y).from
+      further first (inl h) = absurd (omega (arith, lane_between first, h, same))
+      further first (inr (e, inl h)) = chain _ _ _ (near (same ∙ sym e)) (weak _ _ h)
+      further first (inr (e, inr (f, h))) = chain _ _ _ (near (same ∙ sym e)) (equal _ _ f)
+
+  -- an overlap has its second occupancy beyond each place up to which neighbours do not meet
+  beyond : (a k l y : ℕ) → IsClearBelow ms a → a ≤ length ms → y < length ms → occupancy_at ms y ≡ occupancy_of lane (piece_at ps l) l → Overlaps (lane_of lane) ps k l → a ≤ y
+  beyond a k l y clear whole iy ey o = elim (cases_lt y a) [
+    | inl below ↦ absurd (meets below)
+    | inr h ↦ h
+  ]
+    where
+      meets : y < a → ⊥
+      meets below =
+          let (x, ix, ex) = place k o.one in
+          let less = in_order k l x y ix iy ex ey (inr (o.same, o.ahead)) in
+          let apart = apart_at a x y clear less below whole (ap (λ m. m.lane) ex ∙ o.same ∙ sym (ap (λ m. m.lane) ey)) in
+          never (occupancy_at ms x).to (occupancy_at ms y).from (piece_at ps k).to (piece_at ps l).from (ap (λ m. m.to) ex) (ap (λ m. m.from) ey) apart o.early
+        where
+          never : (a b c d : ℤ) → a ≡ c → b ≡ d → a ≤ℤ b → d <ℤ c → ⊥
+          never a b c d e f h k = omega (arith, ints, e, f)
+
+  pub clear_is_apart : IsClearBelow ms (length ms) → AllPairs (λ p q. lane_of lane p ≡ lane_of lane q → IsApart p q) ps
+  clear_is_apart clear = apart_without_overlap (lane_of lane)
+      ps (λ k l inside o. let (y, iy, ey) = place l inside in let h = beyond (length ms) k l y clear (omega arith) iy ey o in omega (arith, h, iy))
+
+  pub meeting_is_first : (a b : ℕ) → IsFirstMeeting ms a b → IsFirstOverlap (lane_of lane) ps a b
+  meeting_is_first a b (k, inside, ea, eb, meets, clear) = is_first (lane_of lane) ps a b (
+    overlap,
+    λ m l below o before.
+        let (y, iy, ey) = place l below in
+        let h = beyond (k + 1) m l y clear (omega (arith, inside)) iy ey o in
+        let less = in_order l b y (k + 1) iy inside ey second before in
+        omega (arith, h, less),
+  )
+    where
+      one : occupancy_at ms k ≡ occupancy_of lane (piece_at ps a) a
+      one = (has.each k no_occupancy (omega (arith, inside))).1 ∙ ap (λ i. occupancy_of lane (piece_at ps i) i) ea
+
+      second : occupancy_at ms (k + 1) ≡ occupancy_of lane (piece_at ps b) b
+      second = (has.each (k + 1) no_occupancy inside).1 ∙ ap (λ i. occupancy_of lane (piece_at ps i) i) eb
+
+      ahead : IsNotAfter (occupancy_of lane (piece_at ps a) a) (occupancy_of lane (piece_at ps b) b) → lane_of lane (piece_at ps a) ≡ lane_of lane (piece_at ps b) → StandsAhead ps a b
+      ahead (inl h) e = absurd (omega (arith, h, e))
+      ahead (inr (s, inl h)) e = inl h
+      ahead (inr (s, inr (f, h))) e = inr (f, let n = has.distinct k (k + 1) no_occupancy (omega arith) inside in strict a b h (λ same. n (ea ∙ same ∙ sym eb)))
+        where
+          strict : (a b : ℕ) → a ≤ b → a ≢ b → a < b
+          strict a b h n = elim (cases_lt a b) [ inl l ↦ l | inr m ↦ absurd (n (omega (arith, h, m))) ]
+
+      same : lane_of lane (piece_at ps a) ≡ lane_of lane (piece_at ps b)
+      same = sym (ap (λ m. m.lane) one) ∙ meets.0 ∙ ap (λ m. m.lane) second
+
+      order : IsNotAfter (occupancy_of lane (piece_at ps a) a) (occupancy_of lane (piece_at ps b) b)
+      order = subst (λ m. IsNotAfter m (occupancy_of lane (piece_at ps b) b)) one (subst (IsNotAfter (occupancy_at ms k)) second (sorted k (k + 1) no_occupancy (omega arith) inside))
+
+      early : (piece_at ps b).from <ℤ (piece_at ps a).to
+      early = subst (λ m. m.from <ℤ (piece_at ps a).to) second (subst (λ m. (occupancy_at ms (k + 1)).from <ℤ m.to) one meets.1)
+
+      overlap : Overlaps (lane_of lane) ps a b
+      overlap = record {
+        one = subst (λ i. i < length ps) ea (has.each k no_occupancy (omega (arith, inside))).0;
+        other = subst (λ i. i < length ps) eb (has.each (k + 1) no_occupancy inside).0;
+        same = same;
+        ahead = ahead order same;
+        early = early;
+      }
+
+-- ---- the order that is sorted by
+abbrev pub first_less : ℕ → ℕ → Ordering → Bool
+first_less p q rest = is_lt (ordering_then (nat_cmp p q) rest)
+
+first_less-yes : (p q : ℕ) (rest : Ordering) → first_less p q rest ≡ true → (p < q) ⊎ ((p ≡ q) × (is_lt rest ≡ true))
+first_less-yes p q rest h = by (nat_lt p q) refl (p == q) refl h
+  where
+    by : (s : Bool) → nat_lt p q ≡ s → (t : Bool) → (p == q) ≡ t → is_lt (ordering_then (cond s Less (cond t Equal Greater)) rest) ≡ true → (p < q) ⊎ ((p ≡ q) × (is_lt rest ≡ true))
+    by true e t f k = inl (grind (arith, nat_tests))
+    by false e true f k = inr (eqb-true _ _ f, k)
+    by false e false f k = absurd (cc)
+
+first_less-no : (p q : ℕ) (rest : Ordering) → first_less p q rest ≡ false → (q < p) ⊎ ((q ≡ p) × (is_lt rest ≡ false))
+first_less-no p q rest h = by (nat_lt p q) refl (p == q) refl h
+  where
+    by : (s : Bool) → nat_lt p q ≡ s → (t : Bool) → (p == q) ≡ t → is_lt (ordering_then (cond s Less (cond t Equal Greater)) rest) ≡ false → (q < p) ⊎ ((q ≡ p) × (is_lt rest ≡ false))
+    by true e t f k = absurd (cc)
+    by false e true f k = inr (sym (eqb-true _ _ f), k)
+    by false e false f k = inl (grind (arith, nat_tests))
+
+not_first_less : (p q : ℕ) (rest : Ordering) → (q < p) ⊎ ((q ≡ p) × (is_lt rest ≡ false)) → first_less p q rest ≡ false
+not_first_less p q rest h = elim (cases_Bool (first_less p q rest)) [
+  | inl is ↦ absurd (never (first_less-yes p q rest is) h)
+  | inr isnt ↦ isnt
+]
+  where
+    never : (p < q) ⊎ ((p ≡ q) × (is_lt rest ≡ true)) → (q < p) ⊎ ((q ≡ p) × (is_lt rest ≡ false)) → ⊥
+    never (inl a) (inl b) = omega (arith, a, b)
+    never (inl a) (inr b) = let e = b.0 in omega (arith, a, e)
+    never (inr a) (inl b) = let e = a.0 in omega (arith, e, b)
+    never (inr (e, a)) (inr (f, b)) = absurd (cc)
+
+abbrev pub occupancy_less : Occupancy → Occupancy → Bool
+occupancy_less a b = first_less a.lane b.lane (ordering_then (int_cmp a.from b.from) (nat_cmp a.number b.number))
+
+no_less : (a b : Occupancy) → occupancy_less a b ≡ false → IsNotAfter b a
+no_less a b h = by (first_less-no a.lane b.lane _ h)
+  where
+    by : (b.lane < a.lane) ⊎ ((b.lane ≡ a.lane) × (less a.from b.from a.number b.number ≡ false)) → IsNotAfter b a
+    by (inl l) = inl l
+    by (inr (e, l)) = inr (e, less-no a.from b.from a.number b.number l)
+
+not_before : (a b : Occupancy) → IsNotAfter b a → occupancy_less a b ≡ false
+not_before a b (inl l) = not_first_less a.lane b.lane _ (inl l)
+not_before a b (inr (e, l)) = not_first_less a.lane b.lane _ (inr (e, not_less a.from b.from a.number b.number l))
+
+less_weak : (a b : Occupancy) → occupancy_less a b ≡ true → IsNotAfter a b
+less_weak a b h = by (first_less-yes a.lane b.lane _ h)
+  where
+    inner : (x y : ℤ) (m n : ℕ) → (x <ℤ y) ⊎ ((x ≡ y) × (m < n)) → (x <ℤ y) ⊎ ((x ≡ y) × (m ≤ n))
+    inner x y m n (inl l) = inl l
+    inner x y m n (inr (e, l)) = inr (e, omega (arith, l))
+
+    by : (a.lane < b.lane) ⊎ ((a.lane ≡ b.lane) × (less a.from b.from a.number b.number ≡ true)) → IsNotAfter a b
+    by (inl l) = inl l
+    by (inr (e, l)) = inr (e, inner a.from b.from a.number b.number (less-yes a.from b.from a.number b.number l))
+
+joined_moments : (x y z : ℤ) (a b c : ℕ) → (x <ℤ y) ⊎ ((x ≡ y) × (a ≤ b)) → (y <ℤ z) ⊎ ((y ≡ z) × (b ≤ c)) → (x <ℤ z) ⊎ ((x ≡ z) × (a ≤ c))
+joined_moments x y z a b c (inl h) (inl k) = inl (omega (arith, ints))
+joined_moments x y z a b c (inl h) (inr k) = inl (subst (λ v. x <ℤ v) k.0 h)
+joined_moments x y z a b c (inr h) (inl k) = inl (subst (λ v. v <ℤ z) (sym h.0) k)
+joined_moments x y z a b c (inr h) (inr k) = inr (h.0 ∙ k.0, omega (arith, h.1, k.1))
+
+joined : (a b c : Occupancy) → IsNotAfter a b → IsNotAfter b c → IsNotAfter a c
+joined a b c (inl h) (inl k) = inl (omega (arith, h, k))
+joined a b c (inl h) (inr (e, k)) = inl (omega (arith, h, e))
+joined a b c (inr (e, h)) (inl k) = inl (omega (arith, e, k))
+joined a b c (inr (e, h)) (inr (f, k)) = inr (e ∙ f, joined_moments a.from b.from c.from a.number b.number c.number h k)
+
+pub occupancy_less-order : IsStrictWeakOrder occupancy_less
+occupancy_less-order = record {
+  one_way = λ a b h. not_before b a (less_weak a b h);
+  chain = λ a b c h k. not_before a c (joined c b a (no_less b c k) (no_less a b h));
+}
+
+pub occupancies_sorted : (ms : List Occupancy) → IsSortedBy occupancy_less ms → AllPairs IsNotAfter ms
+occupancies_sorted ms h i j d l k = no_less (get_or ms j d) (get_or ms i d) (sorted_far occupancy_less occupancy_less-order ms h i j d (omega arith) k)
+
+-- ---- the sweep
+pub swept_none : (lane : Lane) (ps : List Piece) (ms ns xs : List Occupancy) → AreOccupancies lane ps (length ps) ms
+    → IsPermutation ms ns → AllPairs IsNotAfter ns → xs ≡ ns → IsClearBelow xs (length xs) → AllPairs (λ p q. lane_of lane p ≡ lane_of lane q → IsApart p q) ps
+swept_none lane ps ms ns xs are h sorted e clear =
+    clear_is_apart lane ps ns (occupancies_permuted lane ps ms ns h (occupancies_by_number lane ps ms are)) sorted (subst (λ l. IsClearBelow l (length l)) e clear)
+
+pub swept_some : (lane : Lane) (ps : List Piece) (ms ns xs : List Occupancy) (r : Option (ℕ × ℕ)) → AreOccupancies lane ps (length ps) ms → IsPermutation ms ns
+    → AllPairs IsNotAfter ns → xs ≡ ns → IfSome r (λ pair. IsFirstMeeting xs pair.0 pair.1) → IfSome r (λ pair. IsFirstOverlap (lane_of lane) ps pair.0 pair.1)
+swept_some lane ps ms ns xs None are h sorted e m = tt
+swept_some lane ps ms ns xs (Some (a, b)) are h sorted e m =
+    meeting_is_first lane ps ns (occupancies_permuted lane ps ms ns h (occupancies_by_number lane ps ms are)) sorted a b (subst (λ l. IsFirstMeeting l a b) e m)

@@ -1,8 +1,0 @@
-use Rattle.msp_schedule.proofs.judging.MarkFacts.{swept_none, swept_some}
-use Rattle.msp_schedule.proofs.marks.swept_overlap.Goals as goal
-
-pub returns-clause-none : goal.returns-clause-none
-returns-clause-none c = λ e. swept_none c.args.lane c.args.pieces.now c.in_ok-marks.marks.items c.sort.new.marks.items c.deref.result.now c.in_ok-marks.ensures c.sort.ensures.permutation c.sort.ensures.sorted c.deref.ensures.value (c.first_meeting.ensures.none e)
-
-pub returns-clause-some : goal.returns-clause-some
-returns-clause-some c = swept_some c.args.lane c.args.pieces.now c.in_ok-marks.marks.items c.sort.new.marks.items c.deref.result.now c.first_meeting.result c.in_ok-marks.ensures c.sort.ensures.permutation c.sort.ensures.sorted c.deref.ensures.value c.first_meeting.ensures.some
