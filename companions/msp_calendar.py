@@ -16,6 +16,8 @@ import msp_texts
 from msp_texts import Fault, Misfit
 
 DAYS = ("Mon", "Tue", "Wed", "Thu", "Fri", "Sat", "Sun")
+DAY_WORDS = {word: day for day, words in enumerate(("mon monday mo montag", "tue tuesday di dienstag", "wed wednesday mi mittwoch", "thu thursday do donnerstag",
+                                                    "fri friday fr freitag", "sat saturday sa samstag", "sun sunday so sonntag")) for word in words.split()}
 DAY = 86400
 LAST = date.max.toordinal()
 LONGEST = 366  # (days of a span of holidays, and without work behind the start)
@@ -25,22 +27,22 @@ FORM = "write shifts as 'Mon-Fri 06:00-14:00,14:30-22:00; Sat 06:00-12:00'"
 # Shifts
 
 def days_of(text):
-    """The days of a week in a text as Mon-Fri or Mon,Wed, as numbers from 0."""
+    """The days of a week in a text as Mon-Fri, Mon,Wed or Mo-Fr, as numbers from 0."""
     found = []
     for part in text.split(","):
-        first, _, last = part.partition("-")
-        if first not in DAYS or (last or first) not in DAYS:
+        first, _, last = part.lower().partition("-")
+        one, other = DAY_WORDS.get(first), DAY_WORDS.get(last or first)
+        if one is None or other is None:
             raise Misfit(f"--shifts: {part} is no day and no span of days: {FORM}")
-        one, other = DAYS.index(first), DAYS.index(last or first)
         found += [it % 7 for it in range(one, other + 1 + 7 * (other < one))]
     return found
 
 
 def clock_of(text):
-    """The seconds from midnight to a clock time as 06:00."""
-    if not re.fullmatch("([01][0-9]|2[0-3]):[0-5][0-9]|24:00", text):
+    """The seconds from midnight to a clock time as 06:00, 6:00 or 6.00."""
+    if not re.fullmatch("([01]?[0-9]|2[0-3])[:.][0-5][0-9]|24[:.]00", text):
         raise Misfit(f"--shifts: {text or 'nothing'} is no clock time: {FORM}")
-    hours, minutes = text.split(":")
+    hours, minutes = re.split("[:.]", text)
     return int(hours) * 3600 + int(minutes) * 60
 
 
@@ -62,7 +64,7 @@ def shifts_of(text):
     """The shifts of a week: for each day, Monday first, pairs of seconds from its midnight."""
     week = [[] for _ in DAYS]
     for group in text.split(";"):
-        days, _, spans = re.sub(r"\s*([,-])\s*", r"\1", group.strip()).partition(" ")
+        days, _, spans = re.sub(r"\s*([,-])\s*", r"\1", group.replace("\u2013", "-").strip()).partition(" ")
         if not spans.strip():
             raise Misfit(f"--shifts: '{group.strip()}' has no {'clock times' if days else 'days'}: {FORM}")
         for day, span in itertools.product(days_of(days), [span_of(it) for it in spans.strip().split(",")]):
@@ -82,7 +84,8 @@ def refuse_overlaps(shifts):
 # Holidays
 
 def day_of(text, where):
-    """The number of a day; day 0 is a Monday."""
+    """The number of a day, as 2026-12-24 or 24.12.2026; day 0 is a Monday."""
+    text = msp_texts.in_order(text)
     try:
         if re.fullmatch("[0-9]{4}-[0-9]{2}-[0-9]{2}", text):
             return date.fromisoformat(text).toordinal() - 1

@@ -104,7 +104,9 @@ def class_of(text):
     meant = class_named(f"{env}|{','.join(map(str, items))}|{crit}") if env and crit and all(items) else None
     if meant:
         raise Misfit(f"{text} is no class: is '{meant}' meant?")
-    wrong = (f"environment {parts[0]}: it is one of {' '.join(ENVIRONMENTS)}" if env is None else
+    kind = parts[0][:1].upper()
+    fixed = f", where {kind} has any number of machines ({kind}m in questions on a fixed one)" if re.fullmatch("[PQROFJpqrofj][0-9]+", parts[0]) else ""
+    wrong = (f"environment {parts[0]}: it is one of {' '.join(ENVIRONMENTS)}{fixed}" if env is None else
              f"criterion {parts[2]}: it is one of {' '.join(CRITERIA)}" if crit is None else
              next((f"item {it}: items are {' '.join(ITEMS)}" for it, known in zip(spelled, items) if known is None),
                   "items that do not go together: at most one of chains, intree, outtree and prec, one of p=1 and p=p, n<=2 with J alone"))
@@ -115,10 +117,13 @@ def class_of(text):
 
 KINDS = {"one": "1", "single": "1", "identical": "P", "parallel": "P", "uniform": "Q", "unrelated": "R", "open-shop": "O",
          "flow-shop": "F", "job-shop": "J", "openshop": "O", "flowshop": "F", "jobshop": "J"}
+# (without blanks, hyphens and signs of LaTeX)
 CRITERIA_IN_WORDS = {
-    "makespan": "Cmax", "lateness": "Lmax", "maximum-lateness": "Lmax", "maximum-cost": "fmax", "greatest-cost": "fmax", "hmax": "fmax",
-    "completion-times": "sumC", "flow-time": "sumC", "weighted-completion-times": "sumwC", "late-jobs": "sumU",
-    "weighted-late-jobs": "sumwU", "tardiness": "sumT", "total-tardiness": "sumT", "weighted-tardiness": "sumwT"}
+    "makespan": "Cmax", "lateness": "Lmax", "maximumlateness": "Lmax", "maximumcost": "fmax", "greatestcost": "fmax", "hmax": "fmax",
+    "completiontimes": "sumC", "totalcompletiontime": "sumC", "flowtime": "sumC", "meanflowtime": "sumC", "weightedcompletiontimes": "sumwC",
+    "totalweightedcompletiontime": "sumwC", "weightedflowtime": "sumwC", "latejobs": "sumU", "numberoflatejobs": "sumU",
+    "weightedlatejobs": "sumwU", "weightednumberoflatejobs": "sumwU", "tardiness": "sumT", "totaltardiness": "sumT",
+    "weightedtardiness": "sumwT", "totalweightedtardiness": "sumwT"}
 ITEMS_IN_WORDS = {
     "prmp": "pmtn", "prmt": "pmtn", "preemption": "pmtn", "chain": "chains", "in-tree": "intree", "out-tree": "outtree", "trees": "tree",
     "acyclic": "prec", "\\prec": "prec", "r_j": "r", "rj": "r", "r_i": "r", "ri": "r", "heads": "r", "releasedates": "r",
@@ -180,9 +185,9 @@ class Meaning:
 
 def criterion_of(text):
     """A criterion by its letters: subscripts go, words are looked up."""
-    word = re.sub(r"[-\s]+", "-", text.strip())
-    if word.lower() in CRITERIA_IN_WORDS:
-        return CRITERIA_IN_WORDS[word.lower()]
+    word = re.sub(r"[-\s_{}\\]", "", text).lower()
+    if word in CRITERIA_IN_WORDS:
+        return CRITERIA_IN_WORDS[word]
     plain = re.sub(r"[_{}\\]", "", text)
     plain = re.sub(r"^(sum)(w?)[ji]?([CUT])[ji]?$", r"\1\2\3", plain, flags=re.I)
     return next((it for it in CRITERIA if it.lower() == plain.lower()), plain)

@@ -4,6 +4,7 @@ from __future__ import annotations
 from dataclasses import dataclass, field
 from fractions import Fraction
 
+from msp_limits import SEEDS
 from msp_texts import ClassName, Misfit
 
 
@@ -32,7 +33,7 @@ class Draws:
 
     def below(self, count):
         """A number from 0 to count - 1, of at most 2^15."""
-        self.seed = (1103515245 * self.seed + 12345) % 2**31
+        self.seed = (1103515245 * self.seed + 12345) % SEEDS
         return self.seed // 65536 % count
 
     def between(self, least, most):

@@ -63,7 +63,16 @@ def number_of(text, where, slips):
     return msp_texts.decimal(text, where)
 
 
-def schedule_of(lines, slips):
+def job_of(text, instance, slips):
+    """A job's name as the sheet has it, where only capitals are others; else the text."""
+    alike = [] if instance.job(text) else [it.name for it in instance.jobs if it.name.lower() == text.lower()]
+    if len(alike) != 1:
+        return text
+    slips.append("capitals")
+    return alike[0]
+
+
+def schedule_of(lines, instance, slips):
     """The hand-in of the lines of a schedule text, from its line `schedule` on."""
     cost = unit = None
     pieces, ended = [], False
@@ -80,7 +89,7 @@ def schedule_of(lines, slips):
             unit = number_of(rest[0], where, slips)
         elif word == "piece" and len(rest) == 5:
             operation, machine = (msp_texts.whole(it, where) for it in rest[1:3])
-            pieces.append(Piece(rest[0], operation, machine, *(number_of(it, where, slips) for it in rest[3:]), number))
+            pieces.append(Piece(job_of(rest[0], instance, slips), operation, machine, *(number_of(it, where, slips) for it in rest[3:]), number))
         elif word == "end" and not rest:
             ended = True
         elif word != "schedule" or rest:
@@ -107,7 +116,7 @@ def text_of(pieces, cost):
 
 # Orders of jobs
 
-def order_of(lines, instance):
+def order_of(lines, instance, slips):
     """The jobs in the order that the lines have, and the cost that they state, where they have nothing else; or None."""
     words, cost = [], None
     for number, fields in lines:
@@ -115,9 +124,14 @@ def order_of(lines, instance):
         if word == "cost" and len(fields) == 2:
             cost = msp_texts.decimal(fields[1], f"line {number}")
         elif word not in ("end", "schedule"):
-            words += [(it, number) for it in re.split(r"[\s,;:]+", " ".join(fields[word == "order":])) if it]
-    if not words or any(instance.job(it) is None for it, _ in words):
+            said = [it for it in re.split(r"(?:->|[\s,;:<>→])+", " ".join(fields[word == "order":])) if it]
+            words += [(job_of(it, instance, slips), number) for it in said]
+    unknown = [(it, number) for it, number in words if instance.job(it) is None]
+    # (a text of other words is no order, and one with a slip is)
+    if not words or 2 * len(unknown) >= len(words):
         return None
+    if unknown:
+        raise Fault(f"line {unknown[0][1]}: an order with {unknown[0][0]}, which is no job of the sheet")
     again = next((it for at, (it, _) in enumerate(words) if it in [one for one, _ in words[:at]]), None)
     missing = next((it.name for it in instance.jobs if it.name not in [one for one, _ in words]), None)
     if again or missing:
@@ -151,7 +165,7 @@ def read(data, instance):
     slips = []
     lines = lines_of(decoded(data, slips), slips)
     begin = next((at for at, (_, fields) in enumerate(lines) if fields[0].lower() == "schedule" and len(fields) == 1), None)
-    order = order_of(lines, instance) if begin is None else None
+    order = order_of(lines, instance, slips) if begin is None else None
     if order:
         words, cost = order
         pieces, ends = by_order(words, instance)
@@ -159,6 +173,6 @@ def read(data, instance):
     elif begin is None:
         raise Fault("neither a schedule text, from its line schedule on, nor an order of all jobs")
     else:
-        found = schedule_of(lines[begin:], slips)
+        found = schedule_of(lines[begin:], instance, slips)
     found.slips = list(dict.fromkeys(slips))
     return found

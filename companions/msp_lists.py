@@ -9,6 +9,7 @@ import io
 import re
 import unicodedata
 import zipfile
+import zlib
 from dataclasses import dataclass
 from datetime import datetime, timedelta
 from fractions import Fraction
@@ -55,11 +56,12 @@ def text_of(data, encoding):
 
 
 def parted(text):
-    """The records of a text; a first line `sep=;` says the separator, else the first line of names does."""
+    """The records of a text; a first line `sep=;` says the separator, else the first line of names does: semicolons, commas or tabs."""
     found = re.match(r'"?sep=(.)"?\n', text)
     first = text.split("\n", 1)[0]
-    # (where the first line names one column, nothing separates)
-    delimiter = found[1] if found else ";" if first.count(";") > first.count(",") else "," if "," in first else "\x1f"
+    # (spreadsheets save tabs in UTF-16; where the first line names one column, nothing separates)
+    often = max("\t,;", key=first.count)
+    delimiter = found[1] if found else often if often in first else "\x1f"
     line = 2 if found else 1
     reader, gone, records = csv.reader(io.StringIO(text[found.end() if found else 0:]), delimiter=delimiter, strict=True), line - 1, []
     try:
@@ -83,55 +85,67 @@ def part(book, name):
 
 
 def workbook(data):
-    """The records of a workbook of one sheet, each with its row."""
+    """The records of a workbook of one sheet that is not empty, each with its row."""
     try:
         book = zipfile.ZipFile(io.BytesIO(data))
         sheets = sorted(it for it in book.namelist() if re.fullmatch(r"xl/worksheets/[^/]+\.xml", it))
-        if len(sheets) != 1:
-            raise Fault(f"this is a workbook of {len(sheets)} sheets: {SAVE}" if sheets else f"this is no workbook .xlsx: {SAVE}")
+        filled = [it for it in sheets if part(book, it).find(f".//{SPACE}v") is not None or part(book, it).find(f".//{SPACE}is") is not None]
+        if len(filled) != 1:
+            raise Fault(f"this is a workbook of {len(filled)} sheets: {SAVE}" if filled else f"this is no workbook .xlsx with a list: {SAVE}")
         strings = part(book, "xl/sharedStrings.xml")
         shared = ["".join(it.itertext()) for it in strings.findall(f"{SPACE}si")] if strings is not None else []
-        kinds, records = kinds_of(part(book, "xl/styles.xml")), []
-        for at, row in enumerate(part(book, sheets[0]).iter(f"{SPACE}row"), 1):
-            fields = fields_of(row, shared, kinds)
+        kinds, zero, records = kinds_of(part(book, "xl/styles.xml")), day_zero(part(book, "xl/workbook.xml")), []
+        for at, row in enumerate(part(book, filled[0]).iter(f"{SPACE}row"), 1):
+            fields = fields_of(row, shared, kinds, zero)
             records += [(int(row.get("r", at)), fields)] if any(it.strip() for it in fields) else []
         return records
-    except (zipfile.BadZipFile, ElementTree.ParseError, KeyError, IndexError, ValueError):
+    except (zipfile.BadZipFile, ElementTree.ParseError, ArithmeticError, AttributeError, EOFError, LookupError, RuntimeError, TypeError, ValueError, zlib.error):
         raise Fault(f"this workbook cannot be read: {SAVE}") from None
+
+
+def day_zero(head):
+    """The day that a workbook counts as 0: of 1904 where it says so, as those made on a Mac may."""
+    said = head.find(f"{SPACE}workbookPr") if head is not None else None
+    return datetime(1904, 1, 1) if said is not None and said.get("date1904") in ("1", "true") else datetime(1899, 12, 30)
 
 
 def kinds_of(styles):
     """For each style of cells whether it shows a date, a length of time, or neither."""
     if styles is None:
         return []
-    own = {int(it.get("numFmtId")): re.sub(r'"[^"]*"|\\.|\[\$[^]]*\]', "", it.get("formatCode")).lower() for it in styles.iter(f"{SPACE}numFmt")}
+    own = {int(it.get("numFmtId")): form_of(it.get("formatCode")) for it in styles.iter(f"{SPACE}numFmt")}
     formats = styles.find(f"{SPACE}cellXfs")
     found = []
     for it in formats if formats is not None else []:
         number = int(it.get("numFmtId", 0))
         code = own.get(number, "")
         dated = number in DATES or "y" in code or "d" in code
-        found.append("date" if dated else "length" if number in LENGTHS or "h" in code else "")
+        found.append("date" if dated else "length" if number in LENGTHS or re.search(r"[hs]|\[m", code) else "")
     return found
 
 
-def fields_of(row, shared, kinds):
+def form_of(code):
+    """What a format code shows of numbers above 0, without texts in it, and without colours and conditions in brackets."""
+    return re.sub(r'"[^"]*"|\\.|\[(?!(h+|m+|s+)\])[^]]*\]|general', "", code.lower()).split(";")[0]
+
+
+def fields_of(row, shared, kinds, zero):
     """The fields of a row, as texts."""
     fields = []
     for cell in row.findall(f"{SPACE}c"):
-        letters = re.match("[A-Z]+", cell.get("r", ""))
+        letters = re.match("[A-Z]{1,3}(?![A-Z])", cell.get("r", ""))
         at = len(fields)
         if letters:
             at = 0
             for it in letters[0]:
                 at = at * 26 + ord(it) - 64
             at -= 1
-        fields += [""] * (at - len(fields)) + [cell_text(cell, shared, kinds)]
+        fields += [""] * (at - len(fields)) + [cell_text(cell, shared, kinds, zero)]
     return fields
 
 
-def cell_text(cell, shared, kinds):
-    """What a cell says."""
+def cell_text(cell, shared, kinds, zero):
+    """What a cell says; lengths and moments to the second."""
     value, kind = cell.findtext(f"{SPACE}v") or "", cell.get("t", "n")
     if kind == "s":
         return shared[int(value)]
@@ -142,10 +156,10 @@ def cell_text(cell, shared, kinds):
     style = int(cell.get("s", 0))
     shown = kinds[style] if style < len(kinds) else ""
     if shown:
-        minutes = round(Fraction(value) * 24 * 60)
+        seconds = round(Fraction(value) * 86400)
         if shown == "length":
-            return f"{minutes // 60}:{minutes % 60:02d}"
-        return (datetime(1899, 12, 30) + timedelta(minutes=minutes)).strftime("%Y-%m-%d %H:%M")
+            return f"{seconds // 3600}:{seconds // 60 % 60:02d}" + (f":{seconds % 60:02d}" if seconds % 60 else "")
+        return (zero + timedelta(seconds=seconds)).strftime("%Y-%m-%d" + (" %H:%M:%S" if seconds % 60 else " %H:%M" if seconds % 86400 else ""))
     return f"{float(value):.15g}"
 
 

@@ -2,8 +2,11 @@
 
 Nothing here works out a label or a chain: they are read from what the program printed.
 """
+import csv
+import io
 import os
 import re
+import unicodedata
 from dataclasses import dataclass, field
 
 import msp_texts
@@ -123,7 +126,8 @@ class Reference:
         parts = [place] + [said[it] for it in ("series", "type", "number", "institution", "publisher") if it in said]
         line = ", ".join([it for it in parts if it] + ([said["pages"]] if "pages" in said else []) + ([said["year"]] if "year" in said else []))
         note = f" ({said['note']})" if "note" in said else ""
-        return f"{names}: " + (f"{said['title']}. " if "title" in said else "") + line + note
+        doi = f", doi:{self.fields['doi']}" if "doi" in self.fields else ""
+        return f"{names}: " + (f"{said['title']}. " if "title" in said else "") + line + doi + note
 
 
 def plain(text):
@@ -158,10 +162,24 @@ def by_source(references):
     return found
 
 
+def words_to_find(text):
+    """The words of a text as a search compares them, each once: small, without marks, and with ae, oe, ue beside a, o, u."""
+    small = re.sub("['’]", "", text.lower().replace("ß", "ss"))
+    plainly = "".join(it for it in unicodedata.normalize("NFD", small) if not unicodedata.combining(it))
+    spelt = re.sub("[äöü]", lambda it: {"ä": "ae", "ö": "oe", "ü": "ue"}[it[0]], small)
+    words = re.findall("[a-z0-9]+", plainly) + [it for it in re.findall(r"\w+", spelt) if it.isascii()]
+    return " ".join(it for it in dict.fromkeys(words) if len(it) > 1)
+
+
 def source_of(entry):
     """The source of an entry up to its semicolon, and the step behind it."""
     source, _, step = entry.partition(";")
     return source.strip(), step.strip()
+
+
+def verdicts_in(results):
+    """What the records of a file of known results say of their classes, by number; the one at 0 is that of the head."""
+    return [it[1] for it in csv.reader(io.StringIO(results.removeprefix("\ufeff"), newline="")) if it]
 
 
 # Documents

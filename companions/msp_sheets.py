@@ -8,6 +8,7 @@ from typing import Callable
 
 import msp_handin
 import msp_texts
+from msp_limits import SEEDS
 from msp_relax import time_of
 from msp_rules import levels_of
 from msp_texts import Misfit
@@ -113,7 +114,7 @@ def cost_by(rule, instance):
 
 def seed_of_its_own(seed, draw):
     """The seed of a draw: the given one first, then numbers that no neighbour draws too."""
-    return seed if draw == 0 else int(hashlib.sha256(f"{seed} {draw}".encode()).hexdigest(), 16) % 2**31
+    return seed if draw == 0 else int(hashlib.sha256(f"{seed} {draw}".encode()).hexdigest(), 16) % SEEDS
 
 
 def misses(report, text, wanted):

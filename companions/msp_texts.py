@@ -29,6 +29,12 @@ def run(name, main):
     except (Fault, Misfit) as fault:
         print("\n".join(f"{name}: {line}" for line in str(fault).split("\n")), file=sys.stderr)
         sys.exit(2 if isinstance(fault, Misfit) else 3)
+    except ValueError as fault:
+        # (Python reads no whole number of more than 4,300 digits)
+        if "digits" not in str(fault):
+            raise
+        print(f"{name}: a number of more than 4,300 digits", file=sys.stderr)
+        sys.exit(3)
     except OSError as fault:
         if not isinstance(fault, BrokenPipeError):  # (a reader that ends early is no fault to be told)
             print(f"{name}: cannot write: {fault.strerror}", file=sys.stderr)
@@ -106,6 +112,13 @@ def read_text(path=None, encoding="utf-8"):
     except UnicodeDecodeError as fault:
         line = data[: fault.start].count(b"\n") + 1
         raise Fault(f"line {line}: a byte that is not {encoding}") from None
+
+
+def left_out(place, folders, files):
+    """The paths in a folder that a walk leaves out: what begins with a dot, and links to folders. These folders are taken out of the list."""
+    left = [it for it in sorted([*folders, *files]) if it.startswith(".") or it in folders and os.path.islink(os.path.join(place, it))]
+    folders[:] = sorted(it for it in folders if it not in left)
+    return [os.path.join(place, it) for it in left]
 
 
 # Words of calls

@@ -117,6 +117,14 @@ class Units:
         if tool and "scale" not in self.names.words:
             print(f"{tool}: {self.assumed()}", file=sys.stderr)
 
+    def need(self, schedule, instance):
+        """Refuses a file of from-csv that was written with another list: its units would be wrong."""
+        jobs = [it.name for it in instance.jobs] if instance else [it.job for it in schedule.pieces]
+        missing = next((it for it in jobs if it not in self.names.jobs), None)
+        beyond = next((it for it in self.names.jobs if it not in jobs), None)
+        if missing and beyond and "scale" in self.names.words:
+            raise Misfit(f"{self.names.path} was written with another list, whose units need not be these: it has {beyond}, and not {missing}")
+
     def assumed(self):
         """A line that says what is taken for the unit where no file of names says it."""
         front = f"{self.names.path} says no unit" if self.names.path else "no --names FILE of from-csv says the unit"

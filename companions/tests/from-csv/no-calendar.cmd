@@ -5,13 +5,13 @@ try() {
 }
 try --shifts 'Mon-Fri'
 try --shifts ''
-try --shifts 'Mo-Fr 06:00-14:00'
+try --shifts 'Mo-Fx 06:00-14:00'
 try --shifts 'Mon-Fri 6-14'
 try --shifts 'Mon-Fri 06:00-25:00'
 try --shifts 'Mon-Fri 06:00-06:00'
 try --shifts 'Mon-Fri 06:00-14:00; Wed 13:00-15:00'
 try --shifts 'Sun 22:00-06:00; Mon 05:00-14:00'
-for line in '24.12.2026' '2026-02-30' '2026-12-24..' '2027-01-01..2026-12-24' '2026-01-01..2036-01-01'; do
+for line in '24.12.26' '2026-02-30' '2026-12-24..' '2027-01-01..2026-12-24' '2026-01-01..2036-01-01'; do
     printf '# days\n%s\n' "$line" > days.txt
     try --shifts 'Mon-Fri 06:00-14:00' --holidays days.txt
 done
