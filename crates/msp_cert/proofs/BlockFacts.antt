@@ -1,5 +1,5 @@
 -- Heads that arcs back, and the least cost of the last jobs of a block.
-use Rattle.std.proofs.Common.{◌≡◌, ◌⊎◌, inl, inr, ℕ, ◌+◌, ◌^◌, ◌<◌, ◌≤◌, Bool, true, false, cond, List, [], ◌∷◌, ◌++◌, length, get_or, take, All, Any, Some, None, ℤ, pos, ◌+ℤ◌}
+use Rattle.std.proofs.Common.{◌≡◌, ◌⊎◌, inl, inr, ℕ, ◌+◌, ◌*◌, ◌<◌, ◌≤◌, Bool, true, false, cond, List, [], ◌∷◌, ◌++◌, length, get_or, take, All, Any, Some, None, ℤ, pos, ◌+ℤ◌}
 use Rattle.std.proofs.Common.{◌*ℤ◌, ◌≤ℤ◌, sum_by, refl, sym, ap, subst, ◌∙◌, arith, unwrap_or}
 use Rattle.std.specs.Prelude.{slice_get, Option, int_lt}
 use Rattle.std.specs.Option.{IfSome}
@@ -9,7 +9,7 @@ use Rattle.std.proofs.lemmas.Nat.{mul-le}
 use Rattle.std.proofs.lemmas.Option.{unwrap_or-slice_get}
 use Rattle.std.proofs.lemmas.List.{get_or_default, take_all, take_more}
 use Rattle.std.proofs.lemmas.List.Elements.{All-push, Contains-push, Contains-append_left}
-use Rattle.msp_class.specs.declared.sizes.TheConstants.{GREATEST}
+use Rattle.msp_class.specs.declared.sizes.TheConstants.{MOST_STEPS, GREATEST}
 use Rattle.msp_class.proofs.Sums.{sum_by-mono, sum_by-constant}
 use Rattle.msp_class.proofs.IntegerRing.{≤ℤ_refl, ≤ℤ_trans}
 use Rattle.msp_class.specs.Crit.{uses_curve}
@@ -29,7 +29,7 @@ use Rattle.msp_schedule.proofs.costs.Jumps.{jumps_le}
 use Rattle.msp_schedule.proofs.costs.Small.{FitTogether, HasSmallCost-from, product_within}
 use Rattle.msp_cert.specs.declared.Proof.TheVariants.{Block}
 use Rattle.msp_cert.specs.Certificates.{IsBlockOf, of_job}
-use Rattle.msp_cert.specs.Worth.{IsWorth}
+use Rattle.msp_cert.specs.Worth.{IsWorth, greatest_value, latest_end}
 use Rattle.msp_cert.specs.Least.{IsBacked, IsLast, IsOwnCost, IsLeast, lesser}
 
 -- ---- what is read past the last job
@@ -87,18 +87,18 @@ pub head_low : (head jobs : List ℕ) (k least : ℕ) → IsLeastHead head jobs 
 head_low head jobs k least h past p d t = subst (λ j. least ≤ of_job head j) (get_or_default jobs p 0 d t) (h.after p (omega (arith, t, past)))
 
 -- ---- the cost of a job
-adds_few : (steps : List Step) (x : ℤ) → length steps ≤ 16 → All (λ s. (s.above ≤ GREATEST) × (s.add ≤ GREATEST)) steps → sum_by (λ s. jump (pos 1) s x) steps ≤ 16000000000
+adds_few : (steps : List Step) (x : ℤ) → length steps ≤ MOST_STEPS → All (λ s. (s.above ≤ GREATEST) × (s.add ≤ GREATEST)) steps → sum_by (λ s. jump (pos 1) s x) steps ≤ MOST_STEPS * GREATEST
 adds_few steps x few h =
     let each = sum_by-mono (λ s. s.add) (λ _. GREATEST) steps (λ k d l. (h k d l).1) in
     let same = sum_by-constant GREATEST steps in
-    let most = mul-le (length steps) GREATEST 16 GREATEST few (omega arith) in
+    let most = mul-le (length steps) GREATEST MOST_STEPS GREATEST few (omega arith) in
     omega (arith, jumps_le (pos 1) x steps, each, same, most)
 
-curve_within : (slope e adds : ℕ) (base : ℤ) → slope ≤ GREATEST → e ≤ 21000000000000 → adds ≤ 16000000000 → LiesWithin GREATEST base
-    → LiesWithin (10 ^ 23) ((pos slope *ℤ pos e) +ℤ (pos 1 *ℤ (base +ℤ pos adds)))
+curve_within : (slope e adds : ℕ) (base : ℤ) → slope ≤ GREATEST → e ≤ latest_end → adds ≤ MOST_STEPS * GREATEST → LiesWithin GREATEST base
+    → LiesWithin greatest_value ((pos slope *ℤ pos e) +ℤ (pos 1 *ℤ (base +ℤ pos adds)))
 curve_within slope e adds base low early few w =
-    let first = product_within slope (pos e) GREATEST 21000000000000 21000000000000000000000 low (omega (arith, ints), omega (arith, ints)) (omega arith) in
-    let second = product_within 1 (base +ℤ pos adds) 1 17000000000 17000000000 (omega arith) (omega (arith, ints, w), omega (arith, ints, w)) (omega arith) in
+    let first = product_within slope (pos e) GREATEST latest_end (GREATEST * latest_end) low (omega (arith, ints), omega (arith, ints)) (omega arith) in
+    let second = product_within 1 (base +ℤ pos adds) 1 ((1 + MOST_STEPS) * GREATEST) ((1 + MOST_STEPS) * GREATEST) (omega arith) (omega (arith, ints, w), omega (arith, ints, w)) (omega arith) in
     (omega (arith, ints, first, second), omega (arith, ints, first, second))
 
 pub small_cost : (i : Instance) (jobs : List Job) (k : ℕ) (j : Job) → InClass i → jobs ≡ i.jobs → j ≡ get_or jobs k j → k < length i.jobs → HasSmallCost (pos 1) j
@@ -106,18 +106,18 @@ small_cost i jobs k j c same is t =
     let fit : FitTogether text_limits 1 = record { dates = omega arith; times = omega arith; levels = omega arith; releases = omega arith; equal = omega arith } in
     subst (HasSmallCost (pos 1)) (sym (is ∙ ap (λ xs. get_or xs k j) same)) (HasSmallCost-from text_limits 1 1 i (get_or i.jobs k j) fit (omega arith) (c.conditions.jobs k j t))
 
-cost_within : (i : Instance) (j e : ℕ) → InClass i → i.class.crit ≡ Fmax → j < length i.jobs → e ≤ 21000000000000 → LiesWithin (10 ^ 23) (cost_at i j e)
-cost_within i j e c is t early = subst (λ f. LiesWithin (10 ^ 23) (job_cost f (pos 1) (job_at i j) (pos e))) (sym is) (by c is t early)
+cost_within : (i : Instance) (j e : ℕ) → InClass i → i.class.crit ≡ Fmax → j < length i.jobs → e ≤ latest_end → LiesWithin greatest_value (cost_at i j e)
+cost_within i j e c is t early = subst (λ f. LiesWithin greatest_value (job_cost f (pos 1) (job_at i j) (pos e))) (sym is) (by c is t early)
   where
-    by : InClass i → i.class.crit ≡ Fmax → j < length i.jobs → e ≤ 21000000000000 → LiesWithin (10 ^ 23) (job_cost Fmax (pos 1) (job_at i j) (pos e))
+    by : InClass i → i.class.crit ≡ Fmax → j < length i.jobs → e ≤ latest_end → LiesWithin greatest_value (job_cost Fmax (pos 1) (job_at i j) (pos e))
     by c is t early =
         let own = c.conditions.jobs j no_job t in
         let curve = subst (λ f. HasCurve text_limits (uses_curve f) (job_at i j).curve) is own.curve in
         curve_within (job_at i j).curve.slope e (jumps (pos 1) (job_at i j).curve (pos e))
         (job_at i j).curve.base curve.slope early (adds_few (job_at i j).curve.steps (pos e) curve.few curve.steps) curve.base
 
-pub own_cost_within : (i : Instance) (j e : ℕ) (x : ℤ) → InClass i → i.class.crit ≡ Fmax → j < length i.jobs → e ≤ 21000000000000 → x ≡ cost_at i j e → LiesWithin (10 ^ 23) x
-own_cost_within i j e x c is t early same = subst (LiesWithin (10 ^ 23)) (sym same) (cost_within i j e c is t early)
+pub own_cost_within : (i : Instance) (j e : ℕ) (x : ℤ) → InClass i → i.class.crit ≡ Fmax → j < length i.jobs → e ≤ latest_end → x ≡ cost_at i j e → LiesWithin greatest_value x
+own_cost_within i j e x c is t early same = subst (LiesWithin greatest_value) (sym same) (cost_within i j e c is t early)
 
 -- ---- the least cost
 not_above : (a b : ℤ) → int_lt a b ≡ true → a ≤ℤ b

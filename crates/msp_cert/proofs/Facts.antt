@@ -12,7 +12,7 @@ use Rattle.msp_instance.specs.declared.Instance.{Instance}
 use Rattle.msp_instance.specs.Conditions.{InClass, HasShape, HasSpeeds, text_limits, greatest_time}
 use Rattle.std.proofs.lemmas.List.Sorted.{All-permutation, length_permutation}
 use Rattle.std.proofs.lemmas.List.FromFn.{get_or-map-range_with_len}
-use Rattle.msp_class.specs.declared.sizes.TheConstants.{MOST_MACHINES, MOST_OPERATIONS, GREATEST}
+use Rattle.msp_class.specs.declared.sizes.TheConstants.{MOST_MACHINES, MOST_OPERATIONS, GREATEST, GREATEST_SPEED}
 use Rattle.msp_schedule.specs.Speeds.{HaveSpeeds, speed_by, speed_of}
 use Rattle.msp_cert.specs.Certificates.{speeds_of}
 use Rattle.msp_cert.proofs.Soundness.{speeds_many, speed_some}
@@ -28,7 +28,7 @@ few_operations J2Short = omega arith
 few_operations JShort = omega arith
 few_operations _ = omega arith
 
-some_few : (k : EnvKind) (e : Env) (m : ℕ) (needs : List Need) → 1 ≤ m → m ≤ 32 → HasShape k e m needs → (1 ≤ length needs) × (length needs ≤ 32)
+some_few : (k : EnvKind) (e : Env) (m : ℕ) (needs : List Need) → 1 ≤ m → m ≤ MOST_MACHINES → HasShape k e m needs → (1 ≤ length needs) × (length needs ≤ MOST_OPERATIONS)
 some_few kind.Identical e m needs some few shape = (omega (arith, shape.0), omega (arith, shape.0))
 some_few kind.Uniform e m needs some few shape = (omega (arith, shape.0), omega (arith, shape.0))
 some_few kind.Unrelated e m needs some few shape = (omega (arith, shape.0, some), omega (arith, shape.0, few))
@@ -42,17 +42,17 @@ small_needs i c k d l =
     let (some, few) = some_few (kind_of i.class.env) i.class.env i.machines (get_or i.jobs k d).needs c.conditions.machines.0 c.conditions.machines.1 job.needs.shape in
     record { some = some; few = few; short = λ o z b. omega (arith, (job.needs.times o z b).1, short_times i.class.times) }
 
-speed_small : (i : Instance) (k : ℕ) (e : EnvKind) → HasSpeeds e i.machines i.speeds → k < i.machines → HaveSpeeds e → speed_by e i k ≤ 1000000
-speed_small i k n h l (inl e) = subst (λ x. speed_by x i k ≤ 1000000) (sym e) (omega arith)
+speed_small : (i : Instance) (k : ℕ) (e : EnvKind) → HasSpeeds e i.machines i.speeds → k < i.machines → HaveSpeeds e → speed_by e i k ≤ GREATEST_SPEED
+speed_small i k n h l (inl e) = subst (λ x. speed_by x i k ≤ GREATEST_SPEED) (sym e) (omega arith)
 speed_small i k n h l (inr e) =
     let g : HasSpeeds kind.Uniform i.machines i.speeds = subst (λ x. HasSpeeds x i.machines i.speeds) e h in
-    subst (λ x. speed_by x i k ≤ 1000000) (sym e) (g.1 k 0 (omega (arith, l, g.0))).1
+    subst (λ x. speed_by x i k ≤ GREATEST_SPEED) (sym e) (g.1 k 0 (omega (arith, l, g.0))).1
 
 -- the speeds of all machines are few and small, in any order
 pub record AreSmallSpeeds (order : List ℕ) : Type 0 where
   pub some : 1 ≤ length order
   pub few : length order ≤ MOST_MACHINES
-  pub slow : All (λ s. s ≤ 1000000) order
+  pub slow : All (λ s. s ≤ GREATEST_SPEED) order
   pub fast : All (λ s. 1 ≤ s) order
 
 pub small_speeds : (i : Instance) (order : List ℕ) → InClass i → HaveSpeeds (kind_of i.class.env) → IsPermutation (speeds_of i) order → AreSmallSpeeds order
@@ -60,8 +60,8 @@ small_speeds i order c speeds all =
     record {
       some = omega (arith, length_permutation (speeds_of i) order all, speeds_many i, c.conditions.machines.0);
       few = omega (arith, length_permutation (speeds_of i) order all, speeds_many i, c.conditions.machines.1);
-      slow = All-permutation (λ s. s ≤ 1000000) (speeds_of i) order all (λ k d l.
+      slow = All-permutation (λ s. s ≤ GREATEST_SPEED) (speeds_of i) order all (λ k d l.
           let b : k < i.machines = omega (arith, l, speeds_many i) in
-          subst (λ x. x ≤ 1000000) (sym (get_or-map-range_with_len (speed_of i) 0 i.machines k k d b (omega arith))) (speed_small i k (kind_of i.class.env) c.conditions.speeds b speeds));
+          subst (λ x. x ≤ GREATEST_SPEED) (sym (get_or-map-range_with_len (speed_of i) 0 i.machines k k d b (omega arith))) (speed_small i k (kind_of i.class.env) c.conditions.speeds b speeds));
       fast = All-permutation (λ s. 1 ≤ s) (speeds_of i) order all (speed_some i c speeds);
     }

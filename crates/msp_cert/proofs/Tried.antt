@@ -8,7 +8,7 @@ use Rattle.std.proofs.lemmas.Option.{slice_get_read}
 use Rattle.std.proofs.lemmas.List.{get_or_past, get_or-take, length-take-le}
 use Rattle.std.proofs.lemmas.List.Elements.{All-cons, All-nil, All-head, All-tail, All-take}
 use Rattle.std.proofs.lemmas.List.FromFn.{length-map-range_with_len, get_or-map-range_with_len, take-map-range_with_len}
-use Rattle.msp_class.specs.declared.sizes.TheConstants.{GREATEST}
+use Rattle.msp_class.specs.declared.sizes.TheConstants.{GREATEST, GREATEST_SPEED}
 use Rattle.msp_class.proofs.Sums.{sum_by-cons, sum_by-take_more, OnceBelow, OnceBelow-from_permutation, OnceBelow-distinct, length-OnceBelow}
 use Rattle.msp_instance.specs.declared.Job.{Job}
 use Rattle.msp_instance.specs.declared.Instance.{Instance}
@@ -73,7 +73,7 @@ time_small i j c = elim (cases_lt j (length i.jobs)) [
   | inr past ↦ omega (arith, ap (λ (x : Job). (get_or x.needs 0 no_need).time) (get_or_past i.jobs j no_job past))
 ]
 
-speed_small_at : (speeds : List ℕ) (k : ℕ) → All (λ s. s ≤ 1000000) speeds → get_or speeds k 0 ≤ 1000000
+speed_small_at : (speeds : List ℕ) (k : ℕ) → All (λ s. s ≤ GREATEST_SPEED) speeds → get_or speeds k 0 ≤ GREATEST_SPEED
 speed_small_at speeds k h = elim (cases_lt k (length speeds)) [ inl l ↦ h k 0 l | inr past ↦ omega (arith, get_or_past speeds k 0 past) ]
 
 sum_more : (xs : List ℕ) (k : ℕ) → sum (take (suc k) xs) ≡ sum (take k xs) + get_or xs k 0
@@ -87,7 +87,7 @@ pub record AreTogether (i : Instance) (longest speeds : List ℕ) (k time speed 
   pub time_is : time ≡ total_time i (take k longest)
   pub speed_is : speed ≡ sum (take k speeds)
   pub short : time ≤ GREATEST * k
-  pub slow : speed ≤ 1000000 * k
+  pub slow : speed ≤ GREATEST_SPEED * k
 
 pub one_more : (i : Instance) (longest speeds : List ℕ) (k time speed t s job : ℕ) → InClass i → HasRelatedMachines i
     → IsPermutation (speeds_of i) speeds → k < length longest → job ≡ get_or longest k 0 → t ≡ (need_at i job 0).time → s ≡ get_or speeds k 0

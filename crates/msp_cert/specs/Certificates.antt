@@ -136,7 +136,7 @@ entries (Segments lists) = length lists + sum_by length lists
 entries (Block head jobs) = length head + length jobs
 entries (Prices row column) = length row + length column
 
--- Heads are at most 10^12, and prices at most 10^15 in size.
+-- Heads are at most GREATEST_HEAD, and prices at most GREATEST_PRICE in size.
 abbrev pub HasSmallNumbers : Proof → Type 0
 HasSmallNumbers (Group jobs) = ⊤
 HasSmallNumbers (Machine machine) = ⊤
@@ -146,7 +146,7 @@ HasSmallNumbers (Segments lists) = ⊤
 HasSmallNumbers (Block head jobs) = All (λ h. h ≤ GREATEST_HEAD) head
 HasSmallNumbers (Prices row column) = All (LiesWithin GREATEST_PRICE) row × All (LiesWithin GREATEST_PRICE) column
 
--- The limits within which a proof is judged: at most 20,000 entries, and small numbers.
+-- The limits within which a proof is judged: at most MOST_ENTRIES entries, and small numbers.
 pub record KeepsLimits (p : Proof) : Type 0 where
   pub few : entries p ≤ MOST_ENTRIES
   pub small : HasSmallNumbers p

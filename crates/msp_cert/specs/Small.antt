@@ -8,7 +8,7 @@ use Rattle.msp_instance.specs.declared.Instance.{Instance}
 use Rattle.msp_instance.specs.declared.path_bits.Paths.{Paths}
 use Rattle.msp_instance.specs.Paths.{leads}
 
--- A job has at least one need and at most 32, and each takes at most 1,000,000,000.
+-- A job has at least one need and at most MOST_OPERATIONS, and each takes at most GREATEST.
 pub record HasSmallNeeds (j : Job) : Type 0 where
   pub some : 1 ≤ length j.needs
   pub few : length j.needs ≤ MOST_OPERATIONS

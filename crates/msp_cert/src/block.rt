@@ -1,7 +1,6 @@
 // Blocks on one machine.
-ghost use Rattle.std.specs.Prelude.{◌≡◌, ◌↔◌, ◌+◌, ◌*◌, ◌<◌, ◌≤◌, ◌⊎◌, length, All, Any, IsTrue, IfOk, IfSome};
+ghost use Rattle.std.specs.Prelude.{◌≡◌, ◌↔◌, ◌<◌, ◌≤◌, ◌⊎◌, length, All, Any, IsTrue, IfOk, IfSome};
 ghost use Rattle.msp_class.specs.declared.class.Crit.TheVariants.{Fmax};
-ghost use Rattle.msp_class.specs.declared.sizes.TheConstants.{GREATEST};
 ghost use Rattle.msp_instance.specs.Conditions.{InClass, LiesWithin};
 ghost use Rattle.msp_instance.specs.Instance.{need_at, job_at};
 ghost use Rattle.msp_schedule.specs.Blocks.{IsSound, cost_at};
@@ -10,7 +9,7 @@ ghost use Rattle.msp_cert.specs.declared.Proof.TheVariants.{Block};
 ghost use Rattle.msp_cert.specs.declared.limits.TheConstants.{GREATEST_HEAD, MOST_ENTRIES};
 ghost use Rattle.msp_cert.specs.Certificates.{IsBlockOf, of_job};
 ghost use Rattle.msp_cert.specs.Least.{Backs, IsBacked, IsLast, IsLeast, IsOwnCost, lesser};
-ghost use Rattle.msp_cert.specs.Worth.{IsWorth, greatest_value};
+ghost use Rattle.msp_cert.specs.Worth.{IsWorth, greatest_value, latest_end};
 
 use crate::group::{are_apart, are_jobs, total_time};
 use crate::worth::whole;
@@ -125,7 +124,7 @@ fn cost_of(inst: &Instance, job: u32, moment: u64) -> i128
     requires class { InClass inst.now }
     requires greatest { inst.now.class.crit ≡ Fmax }
     requires job { job < length inst.now.jobs }
-    requires moment { moment ≤ GREATEST_HEAD + GREATEST * MOST_ENTRIES }
+    requires moment { moment ≤ latest_end }
     ensures { result ≡ cost_at inst.now job moment }
 {
     let own = &inst.jobs.as_slice()[job as usize];
@@ -137,7 +136,7 @@ fn own_cost(inst: &Instance, job: u32, moment: u64) -> i128
     requires class { InClass inst.now }
     requires greatest { inst.now.class.crit ≡ Fmax }
     requires job { job < length inst.now.jobs }
-    requires moment { moment ≤ GREATEST_HEAD + GREATEST * MOST_ENTRIES }
+    requires moment { moment ≤ latest_end }
     ensures value { result ≡ cost_at inst.now job moment }
     ensures size { LiesWithin greatest_value result }
 {
@@ -149,7 +148,7 @@ fn cost_if_last(inst: &Instance, paths: &Paths, jobs: &[u32], job: u32, moment: 
     requires class { InClass inst.now }
     requires greatest { inst.now.class.crit ≡ Fmax }
     requires job { job < length inst.now.jobs }
-    requires moment { moment ≤ GREATEST_HEAD + GREATEST * MOST_ENTRIES }
+    requires moment { moment ≤ latest_end }
     ensures value { IsOwnCost (IsLast paths.now jobs.now job) (cost_at inst.now job moment) result }
     ensures size { IfSome result (LiesWithin greatest_value) }
 {
@@ -175,7 +174,7 @@ fn least_cost(inst: &Instance, paths: &Paths, jobs: &[u32], moment: u64) -> Opti
     requires class { InClass inst.now }
     requires greatest { inst.now.class.crit ≡ Fmax }
     requires inside { All (λ j. j < length inst.now.jobs) jobs.now }
-    requires moment { moment ≤ GREATEST_HEAD + GREATEST * MOST_ENTRIES }
+    requires moment { moment ≤ latest_end }
     ensures value { IsLeast (IsLast paths.now jobs.now) (λ j. cost_at inst.now j moment) jobs.now result }
     ensures size { IfSome result (LiesWithin greatest_value) }
 {

@@ -1,4 +1,5 @@
 use Rattle.std.proofs.Common.{◌≡◌, ◌*◌, ◌≤◌, take, sum_by}
+use Rattle.msp_class.specs.declared.sizes.TheConstants.{MOST_OPERATIONS, GREATEST}
 use Rattle.msp_cert.specs.Small.{time_there}
 use Rattle.msp_cert.proofs.loads.load_on.Given as goal
 
@@ -6,5 +7,5 @@ use Rattle.msp_cert.proofs.loads.load_on.Given as goal
 abbrev pub invariant-loop-k : goal.invariant-loop-k
 invariant-loop-k l = record {
   value : l.total ≡ sum_by (λ j. sum_by (time_there l.machine) j.needs) (take l.k l.jobs);
-  size : l.total ≤ 32000000000 * l.k;
+  size : l.total ≤ GREATEST * MOST_OPERATIONS * l.k;
 }
