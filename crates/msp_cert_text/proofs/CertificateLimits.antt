@@ -9,6 +9,7 @@ use Rattle.msp_instance.specs.declared.Instance.{Instance}
 use Rattle.msp_instance.specs.Conditions.{InClass}
 use Rattle.msp_schedule.specs.declared.Frac.{Frac}
 use Rattle.msp_schedule.specs.Fraction.{IsComparable}
+use Rattle.msp_cert.specs.declared.limits.TheConstants.{MOST_ENTRIES}
 use Rattle.msp_cert.specs.declared.Proof.{Proof}
 use Rattle.msp_cert.specs.declared.Proof.TheVariants.{Group, Machine, Line, Levels, Segments, Block, Prices}
 use Rattle.msp_cert.specs.declared.Certificate.{Certificate}
@@ -27,7 +28,7 @@ segments_counted names (jobs ∷ lists) =
 
 -- a proof of so many lines has few entries
 few : (names : List (List ℕ)) (machines : ℕ) (p : Proof)
-    → length names ≤ MOST_JOBS → machines ≤ MOST_MACHINES → IsStatedProof names machines p → length (kind_lines names p) ≤ MOST_LINES → entries p ≤ 20000
+    → length names ≤ MOST_JOBS → machines ≤ MOST_MACHINES → IsStatedProof names machines p → length (kind_lines names p) ≤ MOST_LINES → entries p ≤ MOST_ENTRIES
 few names machines (Group jobs) jobs_few machines_few stated lines = omega (arith, length-map jobs (job_line names), lines)
 few names machines (Machine machine) jobs_few machines_few stated lines = omega arith
 few names machines (Line job) jobs_few machines_few stated lines = omega arith
