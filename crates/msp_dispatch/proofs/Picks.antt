@@ -2,7 +2,7 @@
 use Rattle.std.proofs.Common.{◌≡◌, refl, ◌≢◌, ℕ, zero, suc, ◌+◌, ◌<◌, ◌≤◌, ◌⊎◌, inl, inr, ◌↔◌, Bool, true, false, IsTrue, List, [], ◌∷◌, length, map, ℤ, pos, ◌*ℤ◌, ◌≤ℤ◌, ◌<ℤ◌, sym}
 use Rattle.std.proofs.Common.{ap, ap₂, subst, subst₂, ◌∙◌, arith}
 use Rattle.std.specs.Option.{option_map}
-use Rattle.std.specs.Prelude.{⊤, slice_get, Contains, IfSome, IfNone, IfOk, IfErr, Option, Some, None, Result, Ok, Err}
+use Rattle.std.specs.Prelude.{slice_get, Contains, IfSome, IfNone, IfOk, IfErr, Option, Some, None, Result, Ok, Err}
 use Rattle.std.proofs.lemmas.Bool.{cases_lt}
 use Rattle.std.proofs.lemmas.Int.{ints}
 use Rattle.std.proofs.lemmas.Option.{slice_get-map, slice_get_within, get_or_from_slice_get}
@@ -50,65 +50,17 @@ module _ (i : Instance) (s t : Schedule) (best : Best i s) (same : cost_of i t *
 
 -- ---- routes
 -- each entry has the class that its solver solves
-abbrev AreSolved : List SolvedClass → Type 0
-AreSolved [] = ⊤
-AreSolved (e ∷ es) = (class_of e.solver ≡ Some e.class) × AreSolved es
+all_solved : map (λ e. class_of e.solver) solved_list ≡ map (λ e. Some e.class) solved_list
+all_solved = refl
 
-all_solved : AreSolved solved_list
-all_solved = (
-  refl,
-  (
-    refl,
-    (
-      refl,
-      (
-        refl,
-        (
-          refl,
-          (
-            refl,
-            (
-              refl,
-              (
-                refl,
-                (
-                  refl,
-                  (
-                    refl,
-                    (
-                      refl,
-                      (
-                        refl,
-                        (
-                          refl,
-                          (
-                            refl,
-                            (
-                              refl,
-                              (
-                                refl,
-                                (refl, (refl, (refl, (refl, (refl, (refl, (refl, (refl, (refl, (refl, (refl, (refl, (refl, (refl, (refl, (refl, (refl, (refl, (refl, (refl, tt)))))))))))))))))))),
-                              ),
-                            ),
-                          ),
-                        ),
-                      ),
-                    ),
-                  ),
-                ),
-              ),
-            ),
-          ),
-        ),
-      ),
-    ),
-  ),
-)
-
-solved_at : (xs : List SolvedClass) (n : ℕ) (e : SolvedClass) → AreSolved xs → slice_get xs n ≡ Some e → class_of e.solver ≡ Some e.class
-solved_at [] n e h g = absurd (cc)
-solved_at (x ∷ xs) zero e h g = let same : x ≡ e = cc in subst (λ y. class_of y.solver ≡ Some y.class) same h.0
-solved_at (x ∷ xs) (suc n) e h g = solved_at xs n e h.1 g
+solved_at : (n : ℕ) (e : SolvedClass) → slice_get solved_list n ≡ Some e → class_of e.solver ≡ Some e.class
+solved_at n e at =
+    let left : slice_get (map (λ x. class_of x.solver) solved_list) n ≡ Some (class_of e.solver) = slice_get-map (λ x. class_of x.solver) solved_list n ∙ ap (option_map (λ x. class_of x.solver)) at in
+    let right : slice_get (map (λ x. Some x.class) solved_list) n ≡ Some (Some e.class) = slice_get-map (λ x. Some x.class) solved_list n ∙ ap (option_map (λ x. Some x.class)) at in
+    some_same (sym left ∙ ap (λ xs. slice_get xs n) all_solved ∙ right)
+  where
+    some_same : {x y : Option Class} → Some x ≡ Some y → x ≡ y
+    some_same e = cc
 
 listed_at : (n : ℕ) (e : SolvedClass) → slice_get solved_list n ≡ Some e → Contains solved_list e
 listed_at n e at = (n, slice_get_within solved_list n e at, get_or_from_slice_get solved_list n e e at)
@@ -121,7 +73,7 @@ IsRoute-from_way from n e found c is at led short =
     let start : from ≡ c.from = one_is (IsFirst-among way.0) in
     record {
       listed = listed_at n e at;
-      solver = solved_at solved_list n e all_solved at;
+      solver = solved_at n e at;
       start = sym start;
       nearest = subst (λ x. IsNearest carries (e.class ∷ []) x c.rows) (sym start) way.1;
       few = few;

@@ -45,7 +45,7 @@ HasCertificate class = Contains certified_classes class
 abbrev pub FitsWhereWanted : Instance → Type 0
 FitsWhereWanted i = i.class ≡ cut_class → Fits UniformCut i
 
--- Levels and a tail are at most 400 in a text.
+-- Levels and a tail are at most MOST_JOBS in a text.
 abbrev pub HasLowLevels : Proof → Type 0
 HasLowLevels (Group jobs) = ⊤
 HasLowLevels (Machine machine) = ⊤
@@ -55,8 +55,8 @@ HasLowLevels (Segments lists) = ⊤
 HasLowLevels (Block head jobs) = ⊤
 HasLowLevels (Prices row column) = ⊤
 
--- The certificate keeps the limits of certificate texts: its bound is at most 10^24 in size over 1 to 10^13, and its proof has at most 20,000
--- entries, none of them too great.
+-- The certificate keeps the limits of certificate texts: its bound is at most 10^24 in size over 1 to GREATEST_UNIT, and its proof has at most
+-- MOST_ENTRIES entries, none of them too great.
 pub record KeepsTextLimits (c : Certificate) : Type 0 where
   pub num : LiesWithin (10 ^ 24) c.bound.num
   pub den : (pos 1 ≤ℤ c.bound.den) × (c.bound.den ≤ℤ GREATEST_UNIT)

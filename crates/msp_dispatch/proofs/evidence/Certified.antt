@@ -5,12 +5,14 @@ use Rattle.std.proofs.lemmas.List.{get_or-map}
 use Rattle.msp_class.specs.declared.class.Class.{Class}
 use Rattle.msp_class.specs.declared.environments.EnvKind.{EnvKind}
 use Rattle.msp_class.specs.declared.environments.EnvKind.TheVariants.{Identical, Uniform, Unrelated, OpenShop, FlowShop, JobShop}
+use Rattle.msp_class.specs.declared.sizes.TheConstants.{GREATEST_UNIT}
 use Rattle.msp_class.specs.Env.{kind_of}
 use Rattle.msp_class.proofs.IntegerRing.{natural, le-pos}
 use Rattle.msp_instance.specs.declared.Instance.{Instance}
 use Rattle.msp_instance.specs.Conditions.{InClass, LiesWithin}
 use Rattle.msp_schedule.specs.declared.Frac.{Frac}
 use Rattle.msp_schedule.specs.declared.Schedule.{Schedule}
+use Rattle.msp_schedule.specs.declared.limits.TheConstants.{GREATEST_COMPARED_DENOMINATOR}
 use Rattle.msp_schedule.specs.declared.Solution.{Solution}
 use Rattle.msp_schedule.specs.Feasible.{Feasible}
 use Rattle.msp_schedule.specs.Fraction.{IsLowest, IsSameFraction, IsComparable}
@@ -31,7 +33,7 @@ use Rattle.msp_dispatch.proofs.evidence.Found.{IsShort-within}
 use Rattle.msp_dispatch.proofs.evidence.Others.{IsWholeValue}
 
 -- ---- a solver's answer is within the bounds of the calls
-unit_small : (k : EnvKind) (u : ℤ) → u ≤ℤ answer_unit k → u ≤ℤ pos (10 ^ 13)
+unit_small : (k : EnvKind) (u : ℤ) → u ≤ℤ answer_unit k → u ≤ℤ GREATEST_UNIT
 unit_small Identical u h = h
 unit_small Uniform u h = h
 unit_small Unrelated u h = omega (arith, ints, h)
@@ -140,5 +142,5 @@ size_within (negsuc n) h = omega (arith, ints, h.0)
 pub IsComparable-text : (c : Certificate) → KeepsTextLimits c → IsComparable c.bound
 IsComparable-text c h = record { num = omega (arith, size_within c.bound.num h.num); den = den (nat_abs c.bound.den) (natural c.bound.den (omega (arith, ints, h.den.0))) }
   where
-    den : (n : ℕ) → c.bound.den ≡ pos n → unsigned_abs c.bound.den ≤ 2 ^ 44
-    den n is = omega (arith, ap unsigned_abs is, le-pos (subst (λ x. x ≤ℤ pos (10 ^ 13)) is h.den.1))
+    den : (n : ℕ) → c.bound.den ≡ pos n → unsigned_abs c.bound.den ≤ GREATEST_COMPARED_DENOMINATOR
+    den n is = omega (arith, ap unsigned_abs is, le-pos (subst (λ x. x ≤ℤ GREATEST_UNIT) is h.den.1))

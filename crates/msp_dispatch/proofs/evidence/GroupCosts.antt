@@ -11,7 +11,7 @@ use Rattle.std.proofs.lemmas.List.Elements.{All-take, Contains-get_or}
 use Rattle.std.proofs.lemmas.List.FromFn.{length-range_with_len}
 use Rattle.std.proofs.lemmas.List.Sorted.{IsPermutation-refl, IsPermutation-map}
 use Rattle.std.proofs.lemmas.List.Sums.{sum_by-cons, sum-map}
-use Rattle.msp_class.specs.declared.sizes.TheConstants.{MOST_JOBS, GREATEST}
+use Rattle.msp_class.specs.declared.sizes.TheConstants.{MOST_JOBS, MOST_MACHINES, GREATEST, GREATEST_SPEED}
 use Rattle.msp_class.specs.declared.class.Crit.TheVariants.{Cmax}
 use Rattle.msp_class.specs.declared.environments.EnvKind.TheVariants.{Identical}
 use Rattle.msp_class.specs.Env.{kind_of}
@@ -55,10 +55,10 @@ module _ (i : Instance) (c : InClass i) (makespan : i.class.crit ≡ Cmax) (spee
   first : (k : ℕ) → sum_by (speed_of i) (take k machines) ≡ sum (take k order)
   first k = first_speed i k machines
 
-  speed_at_most : (k : ℕ) → sum_by (speed_of i) (take k machines) ≤ 32000000
+  speed_at_most : (k : ℕ) → sum_by (speed_of i) (take k machines) ≤ GREATEST_SPEED * MOST_MACHINES
   speed_at_most k =
-      omega
-      (arith, first k, sum_by-mono (λ x. x) (λ _. 1000000) (take k order) (All-take (λ s. s ≤ 1000000) k order small.slow), sum_by-constant 1000000 (take k order), length-take k order, small.few)
+      let each = sum_by-mono (λ x. x) (λ _. GREATEST_SPEED) (take k order) (All-take (λ s. s ≤ GREATEST_SPEED) k order small.slow) in
+      omega (arith, first k, each, sum_by-constant GREATEST_SPEED (take k order), length-take k order, small.few)
 
   speed_at_least : (k : ℕ) → 1 ≤ k → 1 ≤ sum_by (speed_of i) (take k machines)
   speed_at_least k some = omega (arith, first k, first_some order k some small.some small.fast)

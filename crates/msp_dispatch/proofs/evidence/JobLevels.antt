@@ -1,11 +1,11 @@
 -- Levels of jobs show the best cost where it is the greatest bound of a level.
-use Rattle.std.proofs.Common.{◌≡◌, ℕ, ◌+◌, ◌-◌, ◌/◌, ◌<◌, ◌≤◌, length, pos, count_by, cond, leb, refl, sym, ap, ◌∙◌, arith}
+use Rattle.std.proofs.Common.{◌≡◌, ℕ, ◌+◌, ◌*◌, ◌-◌, ◌/◌, ◌<◌, ◌≤◌, length, pos, count_by, cond, leb, refl, sym, ap, ◌∙◌, arith}
 use Rattle.std.specs.List.{range_with_len}
 use Rattle.std.proofs.Math.Nat.{div-le_self}
 use Rattle.std.proofs.lemmas.List.{get_or_default}
 use Rattle.std.proofs.lemmas.List.Sums.{count_by-le-length}
 use Rattle.std.proofs.lemmas.List.FromFn.{length-range_with_len}
-use Rattle.msp_class.specs.declared.sizes.TheConstants.{MOST_JOBS}
+use Rattle.msp_class.specs.declared.sizes.TheConstants.{MOST_JOBS, MOST_MACHINES}
 use Rattle.msp_class.proofs.Sums.{total_below-range, total_below-same}
 use Rattle.msp_class.specs.Env.{kind_of}
 use Rattle.msp_instance.specs.declared.Instance.{Instance}
@@ -43,7 +43,7 @@ module _ (i : Instance) (c : InClass i) (class : i.class ≡ levels_class) (cost
     units = ap (λ x. x.times) class;
   }
 
-  bound_short : (level : ℕ → ℕ) (t : ℕ) → t < MOST_JOBS → level_bound i level t ≤ 1000
+  bound_short : (level : ℕ → ℕ) (t : ℕ) → t < MOST_JOBS → level_bound i level t ≤ 2 * MOST_JOBS + MOST_MACHINES
   bound_short level t low =
       let many : jobs_from i level t ≤ length i.jobs = omega (arith, count_by-le-length (λ j. leb t (level j)) (range_with_len 0 (length i.jobs)), length-range_with_len 0 (length i.jobs)) in
       let part = div-le_self (jobs_from i level t + (i.machines - 1)) i.machines in

@@ -1,5 +1,5 @@
 -- Segments, a block and prices of best cost, as certificates.
-use Rattle.std.proofs.Common.{◌≡◌, ◌≢◌, ℕ, zero, suc, ◌+◌, ◌*◌, ◌-◌, ◌/◌, ◌^◌, ◌<◌, ◌≤◌, List, length, get_or, map, All, AllPairs, sum_by, ℤ, pos, negsuc, unsigned_abs, refl, sym, ap, subst, arith}
+use Rattle.std.proofs.Common.{◌≡◌, ◌≢◌, ℕ, zero, suc, ◌+◌, ◌*◌, ◌-◌, ◌/◌, ◌<◌, ◌≤◌, List, length, get_or, map, All, AllPairs, sum_by, ℤ, pos, negsuc, unsigned_abs, refl, sym, ap, subst, arith}
 use Rattle.std.specs.List.{flat_map, range_with_len}
 use Rattle.std.proofs.Math.Nat.{div-le_self}
 use Rattle.std.proofs.lemmas.Int.{ints}
@@ -30,6 +30,7 @@ use Rattle.msp_cert.specs.declared.Proof.{Proof}
 use Rattle.msp_cert.specs.declared.Proof.TheVariants.{Segments, Block, Prices}
 use Rattle.msp_cert.specs.Certificates.{HoldsFor, IsValue}
 use Rattle.msp_cert.specs.declared.limits.TheConstants.{GREATEST_PRICE, MOST_ENTRIES}
+use Rattle.msp_cert.specs.Worth.{greatest_value}
 use Rattle.msp_cert.proofs.BlockFacts.{own_cost_within}
 use Rattle.msp_cert.proofs.Facts.{small_needs}
 use Rattle.msp_cert.proofs.SegmentFacts.{flat_inside}
@@ -47,14 +48,14 @@ pub record IsWholeValue (i : Instance) (s : Solution) (p : Proof) : Type 0 where
   pub cost : IsOver s.cost value (pos 1)
   pub holds : HoldsFor i p
   pub is : IsValue i p value 1
-  pub small : LiesWithin (10 ^ 23) value
+  pub small : LiesWithin greatest_value value
   pub short : IsShort p
 
--- numbers of jobs, none twice, are at most 400
+-- numbers of jobs, none twice, are at most MOST_JOBS
 few_apart : (i : Instance) (jobs : List ℕ) → InClass i → All (λ j. j < length i.jobs) jobs → AllPairs (λ j k. j ≢ k) jobs → length jobs ≤ MOST_JOBS
 few_apart i jobs c inside apart = omega (arith, length-once (length i.jobs) jobs inside (λ k. count_by-distinct jobs k apart), c.conditions.few)
 
-natural_within : (n : ℕ) → n ≤ 1000000 → LiesWithin (10 ^ 23) (pos n)
+natural_within : (n : ℕ) → n ≤ greatest_value → LiesWithin greatest_value (pos n)
 natural_within n l = (omega (arith, ints), omega (arith, ints, l))
 
 -- ---- segments
@@ -66,11 +67,12 @@ module _ (i : Instance) (c : InClass i) (class : i.class ≡ lexical_class)
   lists_few : length lists ≤ sum_by length lists
   lists_few = omega (arith, sum_by-mono (λ (js : List ℕ). 1) length lists are.some, sum_by-constant 1 lists)
 
-  bound_small : segments_bound i lists ≤ 20000
+  bound_small : segments_bound i lists ≤ MOST_MACHINES * MOST_JOBS
   bound_small =
-      let each : segments_bound i lists ≤ sum_by (λ js. length js + 31) lists = sum_by-mono (λ (js : List ℕ). (length js + (i.machines - 1)) / i.machines) (λ js. length js + 31)
+      let each : segments_bound i lists ≤ sum_by (λ js. length js + (MOST_MACHINES - 1)) lists =
+      sum_by-mono (λ (js : List ℕ). (length js + (i.machines - 1)) / i.machines) (λ js. length js + (MOST_MACHINES - 1))
       lists (λ k d l. let part = div-le_self (length (get_or lists k d) + (i.machines - 1)) i.machines in omega (arith, part, c.conditions.machines.1)) in
-      omega (arith, each, sum_by-add length (λ (js : List ℕ). 31) lists, sum_by-constant 31 lists, jobs_few, lists_few)
+      omega (arith, each, sum_by-add length (λ (js : List ℕ). MOST_MACHINES - 1) lists, sum_by-constant (MOST_MACHINES - 1) lists, jobs_few, lists_few)
 
   pub IsWholeValue-segments : IsWholeValue i s (Segments lists)
   IsWholeValue-segments = record {
@@ -98,7 +100,7 @@ module _ (i : Instance) (c : InClass i) (class : i.class ≡ blocks_class)
       let inside : j < length i.jobs = subst (λ x. x < length i.jobs) at (block.inside k j l) in
       omega (arith, e, early j 0 (omega (arith, inside, block.each)))
 
-  value_small : LiesWithin (10 ^ 23) value
+  value_small : LiesWithin greatest_value value
   value_small =
       let (k, j, l, at, reached) = is.reached in
       own_cost_within i j (is.begin + total_time i jobs) value c
@@ -115,6 +117,10 @@ module _ (i : Instance) (c : InClass i) (class : i.class ≡ blocks_class)
   }
 
 -- ---- prices
+-- The most that the prices of as many positions as there are jobs add up to, in size.
+abbrev greatest_prices : ℕ
+greatest_prices = MOST_JOBS * (MOST_JOBS * GREATEST)
+
 within_size : (x : ℤ) (b : ℕ) → unsigned_abs x ≤ b → LiesWithin b x
 within_size (pos n) b l = (omega (arith, ints), omega (arith, ints, l))
 within_size (negsuc n) b l = (omega (arith, ints, l), omega (arith, ints))
@@ -147,7 +153,7 @@ module _ (i : Instance) (c : InClass i) (class : i.class ≡ unrelated_class) (s
   rows_together = subst (LiesWithin (length i.jobs * (MOST_JOBS * GREATEST)))
       (sym (total_over_range (length i.jobs) (price_at a.row_price))) (sum_within (price_at a.row_price) (MOST_JOBS * GREATEST) (length i.jobs) row_within)
 
-  machine_together : (m : ℕ) → m < i.machines → LiesWithin 160000000000000 (prices_on_machine i (position_price i a) m)
+  machine_together : (m : ℕ) → m < i.machines → LiesWithin greatest_prices (prices_on_machine i (position_price i a) m)
   machine_together m l =
       let w : LiesWithin (length i.jobs * (MOST_JOBS * GREATEST)) (prices_on_machine i (position_price i a) m) =
       subst (LiesWithin (length i.jobs * (MOST_JOBS * GREATEST))) (sym (total_over_range (length i.jobs) (position_price i a m)))
@@ -155,11 +161,11 @@ module _ (i : Instance) (c : InClass i) (class : i.class ≡ unrelated_class) (s
       (length i.jobs) (λ k b. let r = row_inside (length i.jobs) i.machines m l in column_within (m * length i.jobs + k) (omega (arith, r, b)))) in
       (omega (arith, ints, w.0, c.conditions.few), omega (arith, ints, w.1, c.conditions.few))
 
-  columns_together : LiesWithin (i.machines * 160000000000000) (total (map (prices_on_machine i (position_price i a)) (range_with_len 0 i.machines)))
-  columns_together = subst (LiesWithin (i.machines * 160000000000000)) (sym (total_over_range i.machines (prices_on_machine i (position_price i a))))
-      (sum_within (prices_on_machine i (position_price i a)) 160000000000000 i.machines machine_together)
+  columns_together : LiesWithin (i.machines * greatest_prices) (total (map (prices_on_machine i (position_price i a)) (range_with_len 0 i.machines)))
+  columns_together = subst (LiesWithin (i.machines * greatest_prices)) (sym (total_over_range i.machines (prices_on_machine i (position_price i a))))
+      (sum_within (prices_on_machine i (position_price i a)) greatest_prices i.machines machine_together)
 
-  prices_within : LiesWithin (10 ^ 23) (all_prices i (price_at a.row_price) (position_price i a))
+  prices_within : LiesWithin greatest_value (all_prices i (price_at a.row_price) (position_price i a))
   prices_within =
       let r = rows_together in
       let k = columns_together in
