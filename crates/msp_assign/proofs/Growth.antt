@@ -1,12 +1,12 @@
 -- The search begins with the new row, and grows by the row of the nearest column.
-use Rattle.std.proofs.Common.{◌≡◌, ◌≢◌, ℕ, ◌+◌, ◌<◌, ◌≤◌, ◌^◌, ◌⊎◌, inl, inr, List, [], ◌∷◌, ◌++◌, length, get_or, replicate, All, AllPairs, Contains, IsPermutation, sym, ap, subst, ◌∙◌, arith, refl}
+use Rattle.std.proofs.Common.{◌≡◌, ◌≢◌, ℕ, ◌+◌, ◌<◌, ◌≤◌, ◌⊎◌, inl, inr, List, [], ◌∷◌, ◌++◌, length, get_or, replicate, All, AllPairs, Contains, IsPermutation, sym, ap, subst, ◌∙◌, arith, refl}
 use Rattle.std.proofs.Math.Seq.{get_or-append_seam}
 use Rattle.std.proofs.lemmas.List.{get_or-replicate, length-replicate, length-append, get_or_append_left, get_or_default}
 use Rattle.std.proofs.lemmas.List.Elements.{All-contains, All-from_get_or}
 use Rattle.msp_matching.specs.Passing.{at}
 use Rattle.msp_class.proofs.Cases.{same_or_not}
 use Rattle.msp_matching.proofs.Lists.{distinct-permutation}
-use Rattle.msp_assign.specs.Search.{paid, AreAll, IsPlaced, IsGrown, IsLevel, IsSearch, IsNearest, AreNearest, IsRelaxed}
+use Rattle.msp_assign.specs.Search.{paid, AreAll, IsPlaced, IsGrown, IsLevel, IsSearch, IsNearest, AreNearest, IsRelaxed, greatest_payment}
 use Rattle.std.proofs.lemmas.List.Sorted.{All-permutation, Contains-permutation, IsPermutation-sym}
 use Rattle.msp_assign.proofs.Lists.{contained_or_not, Contains-at, at-Contains, All-from_contained, IsWithout}
 
@@ -52,8 +52,8 @@ module _ (cost : ℕ → ℕ → ℕ) (columns : ℕ) (fall column : List ℕ) w
       (inside : All (λ c. c < columns) left)
       (apart : AllPairs (λ c d. c ≢ d) left)
       (all : (c : ℕ) → c < columns → Contains left c)
-      (bound : (c : ℕ) → c < columns → paid cost fall (length column) c ≤ 2 ^ 101)
-      (far : (c : ℕ) → c < columns → 2 ^ 101 < at distance c)
+      (bound : (c : ℕ) → c < columns → paid cost fall (length column) c ≤ greatest_payment)
+      (far : (c : ℕ) → c < columns → greatest_payment < at distance c)
       (h : IsRelaxed cost fall (length column) 0 0 0 left distance «from» next next_from) where
     -- each column is reached from the new row
     begun_at : (c : ℕ) → c < columns → (at next_from c ≡ 0) × (at next c ≡ paid cost fall (length column) c)
@@ -250,9 +250,9 @@ module _ (cost : ℕ → ℕ → ℕ) (columns : ℕ) (fall column : List ℕ) w
       }
 
 -- the lists as they are made
-pub IsSearch-made : (cost : ℕ → ℕ → ℕ) (columns : ℕ) (fall column : List ℕ) (most : ℕ) (left left2 distance «from» next next_from tree : List ℕ) → 2 ^ 101 < most
+pub IsSearch-made : (cost : ℕ → ℕ → ℕ) (columns : ℕ) (fall column : List ℕ) (most : ℕ) (left left2 distance «from» next next_from tree : List ℕ) → greatest_payment < most
     → AreAll columns left → distance ≡ replicate columns most → length «from» ≡ columns
-    → ((c : ℕ) → c < columns → paid cost fall (length column) c ≤ 2 ^ 101) → length next ≡ length distance → length next_from ≡ length «from»
+    → ((c : ℕ) → c < columns → paid cost fall (length column) c ≤ greatest_payment) → length next ≡ length distance → length next_from ≡ length «from»
     → IsRelaxed cost fall (length column) 0 0 0 left distance «from» next next_from
     → tree ≡ [] ++ length column ∷ [] → IsPermutation left left2 → IsSearch cost columns fall column next next_from left2 tree
 IsSearch-made cost columns fall column most left left2 distance from_ next next_from tree lm all ed lf bound ln lnf q et p =

@@ -1,12 +1,12 @@
 -- After a search the prices move, and the columns are passed on: one row more has a column where it pays least.
-use Rattle.std.proofs.Common.{◌≡◌, ◌≢◌, ℕ, zero, suc, ◌+◌, ◌-◌, ◌<◌, ◌≤◌, ◌^◌, inl, inr, ℤ, List, [], ◌∷◌, ◌++◌, length, get_or, Contains, sym, ap, subst, ◌∙◌, arith}
+use Rattle.std.proofs.Common.{◌≡◌, ◌≢◌, ℕ, zero, suc, ◌+◌, ◌-◌, ◌<◌, ◌≤◌, inl, inr, ℤ, List, [], ◌∷◌, ◌++◌, length, get_or, Contains, sym, ap, subst, ◌∙◌, arith}
 use Rattle.std.proofs.lemmas.List.{length-append, get_or_default}
 use Rattle.std.proofs.lemmas.List.Elements.{All-append, All-cons, All-nil, All-contains, Contains-append_left, Contains-get_or}
 use Rattle.std.proofs.lemmas.List.Quantifiers.{all_pairs_push}
 use Rattle.std.proofs.lemmas.List.Sorted.{All-permutation, Contains-permutation, length_permutation}
 use Rattle.msp_matching.specs.Passing.{at, IsTree, IsStep, IsPassedOn}
 use Rattle.msp_matching.proofs.Lists.{same_place, distinct-permutation}
-use Rattle.msp_assign.specs.Prices.{HasCosts}
+use Rattle.msp_assign.specs.Prices.{HasCosts, greatest_cost}
 use Rattle.msp_assign.specs.Search.{sizes, IsCheapest, IsPlaced, IsLevel, IsSearch, IsNearest, IsLowered, IsOneMore}
 use Rattle.msp_assign.proofs.Lists.{contained_or_not, Contains-at}
 use Rattle.msp_assign.proofs.Growth.{IsClosest, IsClosest-at}
@@ -16,7 +16,7 @@ use Rattle.msp_assign.proofs.Passing.{first_free, row_before, kept_column, IsTre
 module _ (cost : ℕ → ℕ → ℕ) (columns : ℕ) (fall column : List ℕ) (p : IsPlaced cost columns fall column)
     (distance «from» left tree : List ℕ) (h : IsSearch cost columns fall column distance «from» left tree)
     (free : ℕ) (near : IsClosest distance left free) (unused : ¬ Contains column free)
-    (bound : (r : ℕ) → r < length column → cost r free ≤ 2 ^ 100)
+    (bound : (r : ℕ) → r < length column → cost r free ≤ greatest_cost)
     (next : List ℕ) (lowered : IsLowered (at distance free) distance column tree fall next) where
   in_view : free < columns
   in_view = All-contains (λ c. c < columns) left free h.inside near.among
@@ -75,7 +75,7 @@ module _ (cost : ℕ → ℕ → ℕ) (columns : ℕ) (fall column : List ℕ) (
     | inr w ↦ absurd (n (Contains-at column (at tree w.0) c (h.grown.rows w.0 w.1 w.2) w.3))
   ]
 
-  low : (c : ℕ) → c < columns → at next c ≤ 2 ^ 100
+  low : (c : ℕ) → c < columns → at next c ≤ greatest_cost
   low c l = elim (h.owned c l) [
     | inl m ↦ omega (arith, near.least c m, moved c l, p.low c l)
     | inr w ↦
@@ -147,7 +147,7 @@ IsStepped-row rows cost columns fall column column2 column3 pushed
     let l = subst (λ x. IsLowered (at distance free) distance x tree fall next) ec3 (subst (λ x. IsLowered (at distance free) distance column3 x fall next) et
     (subst (λ x. IsLowered (at distance free) x column3 tree2 fall next) ed (subst (λ x. IsLowered x distance2 column3 tree2 fall next) is_far moved))) in
     let q = subst (λ x. IsPassedOn (column ++ free ∷ []) x tree passed) ef (subst (λ x. IsPassedOn (column ++ free ∷ []) from2 x passed) et3 (subst (λ x. IsPassedOn x from2 tree3 passed) ep walk)) in
-    let bound : (r : ℕ) → r < length column → sizes cost r free ≤ 2 ^ 100 = λ r lr. sizes-at_most rows columns cost costs r free (omega (arith, lr, more)) inside in
+    let bound : (r : ℕ) → r < length column → sizes cost r free ≤ greatest_cost = λ r lr. sizes-at_most rows columns cost costs r free (omega (arith, lr, more)) inside in
     subst (λ x. IsStepped (sizes cost) columns next column x free) (sym ea) record {
       placed = IsPlaced-moved (sizes cost) columns fall column p distance from_ left tree g free close u bound next l passed q;
       longer = longer (sizes cost) columns fall column p distance from_ left tree g free close u bound next l passed q;

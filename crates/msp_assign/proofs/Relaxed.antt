@@ -1,8 +1,9 @@
 -- A row's edges to the columns that are left, column after column.
-use Rattle.std.proofs.Common.{◌≡◌, ◌≢◌, ℕ, ◌+◌, ◌-◌, ◌<◌, ◌≤◌, ◌^◌, ◌⊎◌, inl, inr, List, length, min, AllPairs, sym, ap, subst, ◌∙◌, arith, refl}
+use Rattle.std.proofs.Common.{◌≡◌, ◌≢◌, ℕ, ◌+◌, ◌-◌, ◌*◌, ◌<◌, ◌≤◌, ◌⊎◌, inl, inr, List, length, min, AllPairs, sym, ap, subst, ◌∙◌, arith, refl}
 use Rattle.msp_matching.specs.Passing.{at}
 use Rattle.msp_class.proofs.Cases.{same_or_not, less_or_not}
-use Rattle.msp_assign.specs.Search.{paid, IsWay, IsRelaxedAt, IsRelaxed, IsShortened, AreNearest, IsLeastSoFar}
+use Rattle.msp_assign.specs.declared.search.TheConstants.{FAR}
+use Rattle.msp_assign.specs.Search.{paid, IsWay, IsRelaxedAt, IsRelaxed, IsShortened, AreNearest, IsLeastSoFar, greatest_payment}
 use Rattle.std.proofs.Math.Nat.{min-le_left, min-le_right, min-eq_left, min-eq_right}
 use Rattle.msp_assign.proofs.Lists.{Contains-at, at-Contains}
 
@@ -40,7 +41,7 @@ module _ (cost : ℕ → ℕ → ℕ) (fall : List ℕ) (r place depth own : ℕ
 
   -- those that are as near as the row stay so
   module _ (near : ℕ) (first : AreNearest distance left near depth) (pays : (j : ℕ) → j < length left → own ≤ paid cost fall r (at left j)) where
-    pub IsRelaxing-start : (far : ℕ) → IsLeastSoFar near depth far → IsRelaxing (2 ^ 128 - 1) distance «from» near far
+    pub IsRelaxing-start : (far : ℕ) → IsLeastSoFar near depth far → IsRelaxing FAR distance «from» near far
     IsRelaxing-start far s = record {
       before = λ j l. record { fewer = omega arith; close = omega (arith, first.same j l, pays j (omega (arith, l, first.inside))); change = inl (refl, refl) };
       others = λ c h. (refl, refl);
@@ -49,7 +50,7 @@ module _ (cost : ℕ → ℕ → ℕ) (fall : List ℕ) (r place depth own : ℕ
     }
 
     module _ (most : ℕ) (next next_from : List ℕ) (k far : ℕ) (e : k ≡ length left) (h : IsRelaxing most next next_from k far)
-        (some : 0 < length left) (a : depth ≤ 2 ^ 101) (b : paid cost fall r (at left 0) ≤ 2 ^ 101) (m : 2 ^ 102 < most) where
+        (some : 0 < length left) (a : depth ≤ greatest_payment) (b : paid cost fall r (at left 0) ≤ greatest_payment) (m : 2 * greatest_payment < most) where
       -- a column that is left is nearer than `most`
       pub attained : (j : ℕ) × (j < length left) × (at next (at left j) ≡ far)
       attained = elim h.attained [

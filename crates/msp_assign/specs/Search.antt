@@ -1,10 +1,11 @@
 -- The search for a free column for one more row, from the columns and prices of the rows before it, among the columns in view. No public
 -- contract cites this file.
-use Rattle.std.specs.Prelude.{pos, ◌≡◌, ◌≢◌, ℕ, ◌+◌, ◌-◌, ◌<◌, ◌≤◌, ◌*◌, ◌^◌, ◌⊎◌, ℤ, List, [], ◌∷◌, ◌++◌, Option, None, length, slice_index_or, unsigned_abs, MatchOption, All, AllPairs, Contains}
+use Rattle.std.specs.Prelude.{pos, ◌≡◌, ◌≢◌, ℕ, ◌+◌, ◌-◌, ◌<◌, ◌≤◌, ◌*◌, ◌⊎◌, ℤ, List, [], ◌∷◌, ◌++◌, Option, None, length, slice_index_or, unsigned_abs, MatchOption, All, AllPairs, Contains}
 use Rattle.std.specs.List.Sorted.{IsPermutation}
 use Rattle.msp_class.specs.declared.list.TheConstants.{PLACES}
 use Rattle.msp_matching.specs.Passing.{at}
 use Rattle.msp_assign.specs.declared.search.Search.{Search}
+use Rattle.msp_assign.specs.declared.search.TheConstants.{FAR}
 use Rattle.msp_assign.specs.Prices.{greatest_cost, HasCosts, price_at}
 
 abbrev pub sizes : (ℕ → ℕ → ℤ) → ℕ → ℕ → ℕ
@@ -130,7 +131,7 @@ pub record IsShortened (far place : ℕ) (distance «from» next next_from : Lis
 
 -- As far as the columns that are as near as the row, where there are some of them; else farther than any.
 abbrev pub IsLeastSoFar : ℕ → ℕ → ℕ → Type 0
-IsLeastSoFar near depth least = ((near ≡ 0) × (least ≡ 2 ^ 128 - 1)) ⊎ ((1 ≤ near) × (least ≡ depth))
+IsLeastSoFar near depth least = ((near ≡ 0) × (least ≡ FAR)) ⊎ ((1 ≤ near) × (least ≡ depth))
 
 -- The prices after the search: the columns of the rows of the tree fall by as much as they are nearer than d.
 pub record IsLowered (d : ℕ) (distance column tree fall next : List ℕ) : Type 0 where

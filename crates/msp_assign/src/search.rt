@@ -9,6 +9,9 @@ ghost use Rattle.msp_assign.specs.Search.{greatest_payment, sizes, paid, IsOwner
 use crate::Costs;
 use std::alloc::{AllocError, Global};
 
+/// Farther than any column.
+const FAR: u128 = u128::MAX;
+
 /// What the row pays at the column: the cost, and how far the column's price is below 0.
 pub fn payment<C: Costs>(costs: &C, falls: &[u128], row: u32, column: u32) -> u128
     requires costs { HasCosts (C.row_count costs.now) (C.column_count costs.now) (C.cost costs.now) }
@@ -85,7 +88,7 @@ fn shorten(
 fn least_so_far(near: usize, depth: u128) -> u128
     ensures { IsLeastSoFar near depth result }
 {
-    if near > 0 { depth } else { u128::MAX }
+    if near > 0 { depth } else { FAR }
 }
 
 /// Shortens the ways to the columns that are left, where they are shorter over the row, and says how far the nearest of them is. The first
@@ -237,7 +240,7 @@ fn begun<C: Costs>(
     let mut tree = Vec::new(alloc);
     tree.push(row)?;
     let mut search = Search {
-        distance: vec![in alloc; u128::MAX; columns as usize]?,
+        distance: vec![in alloc; FAR; columns as usize]?,
         from: vec![in alloc; 0; columns as usize]?,
         left: all_columns(alloc, columns)?,
         tree,

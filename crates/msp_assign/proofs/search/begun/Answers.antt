@@ -1,23 +1,22 @@
-use Rattle.std.proofs.Common.{ℕ, ◌∙◌, ap, ◌++◌, ◌∷◌, [], length, replicate, subst, lit<}
+use Rattle.std.proofs.Common.{◌∙◌, ap, ◌++◌, ◌∷◌, [], length, replicate, subst, lit<}
 use Rattle.std.proofs.lemmas.List.{length-replicate}
+use Rattle.msp_assign.specs.declared.search.TheConstants.{FAR}
 use Rattle.msp_assign.specs.Search.{AreAll}
 use Rattle.msp_assign.proofs.Bounds.{paid-at_most}
 use Rattle.msp_assign.proofs.Growth.{IsSearch-made}
 use Rattle.msp_assign.proofs.search.begun.Goals as goal
 
 pub returns : goal.returns
-returns g c =
-    let most : ℕ = 340282366920938463463374607431768211455 in
-    record {
-      search = IsSearch-made _ _ _ _ most c.in_ok-all_columns.field-0.items c.spread.new.search.left.items
-          c.in_ok-vec.field-0.items c.in_ok-vec-2.field-0.items c.spread.new.search.distance.items c.spread.new.search.from.items c.spread.new.search.tree.items
-          (lit< tt)
-          (subst (λ n. AreAll n c.in_ok-all_columns.field-0.items) c.columns-columns.ensures c.in_ok-all_columns.ensures)
-          (c.in_ok-vec.ensures.items_if_clones_equal (λ y q. q) ∙ ap (λ n. replicate n most) c.columns-columns.ensures)
-          (ap length (c.in_ok-vec-2.ensures.items_if_clones_equal (λ y q. q)) ∙ length-replicate c.columns-columns.result 0 ∙ c.columns-columns.ensures)
-          (λ d l. paid-at_most (g.C.Costs.row_count c.args.costs.now) (g.C.Costs.column_count c.args.costs.now) _ _ c.requires.row.costs c.requires.row.placed.low _ d c.requires.row.next l)
-          c.spread.ensures.distances c.spread.ensures.places c.spread.ensures.relaxed
-          (c.spread.ensures.tree ∙ c.in_ok-push.ensures.items ∙ ap (λ xs. xs ++ length c.args.column_of.now ∷ []) c.new-tree.ensures.items)
-          c.spread.ensures.same;
-      nearest = c.spread.ensures.nearest;
-    }
+returns g c = record {
+  search = IsSearch-made _ _ _ _ FAR c.in_ok-all_columns.field-0.items c.spread.new.search.left.items
+      c.in_ok-vec.field-0.items c.in_ok-vec-2.field-0.items c.spread.new.search.distance.items c.spread.new.search.from.items c.spread.new.search.tree.items
+      (lit< tt)
+      (subst (λ n. AreAll n c.in_ok-all_columns.field-0.items) c.columns-columns.ensures c.in_ok-all_columns.ensures)
+      (c.in_ok-vec.ensures.items_if_clones_equal (λ y q. q) ∙ ap (λ n. replicate n FAR) c.columns-columns.ensures)
+      (ap length (c.in_ok-vec-2.ensures.items_if_clones_equal (λ y q. q)) ∙ length-replicate c.columns-columns.result 0 ∙ c.columns-columns.ensures)
+      (λ d l. paid-at_most (g.C.Costs.row_count c.args.costs.now) (g.C.Costs.column_count c.args.costs.now) _ _ c.requires.row.costs c.requires.row.placed.low _ d c.requires.row.next l)
+      c.spread.ensures.distances c.spread.ensures.places c.spread.ensures.relaxed
+      (c.spread.ensures.tree ∙ c.in_ok-push.ensures.items ∙ ap (λ xs. xs ++ length c.args.column_of.now ∷ []) c.new-tree.ensures.items)
+      c.spread.ensures.same;
+  nearest = c.spread.ensures.nearest;
+}

@@ -1,3 +1,4 @@
+use Rattle.msp_assign.specs.declared.search.TheConstants.{FAR}
 use Rattle.msp_assign.specs.Search.{sizes}
 use Rattle.msp_assign.proofs.Relaxed.{IsRelaxing}
 use Rattle.msp_assign.proofs.search.relax.Given as goal
@@ -6,4 +7,4 @@ use Rattle.msp_assign.proofs.search.relax.Given as goal
 abbrev pub invariant-loop-k : goal.invariant-loop-k
 invariant-loop-k g l =
     IsRelaxing (sizes (g.C.Costs.cost l.costs)) l.falls l.reached.row l.reached.place l.reached.depth l.reached.own l.left l.initial.distance l.initial.from
-    340282366920938463463374607431768211455 l.distance l.from l.k l.least
+    FAR l.distance l.from l.k l.least
