@@ -1,6 +1,7 @@
 -- No feasible schedule on two machines in series, cut or not, ends before the laid pieces, so they are best.
 use Rattle.std.proofs.Common.{ap, ◌≡◌, ℕ, ◌+◌, ◌*◌, ◌<◌, ◌≤◌, inl, inr, max, Bool, true, false, leb, List, All, AllPairs, sum_by, nat_abs, refl, sym, subst, arith}
 use Rattle.msp_class.specs.Env.{is_shop_kind}
+use Rattle.msp_class.proofs.IntegerRing.{pos-le}
 use Rattle.msp_instance.specs.declared.Instance.{Instance}
 use Rattle.msp_schedule.specs.declared.Piece.{Piece}
 use Rattle.msp_schedule.specs.declared.Schedule.{Schedule}
@@ -82,7 +83,7 @@ IsBestPlan-laid i shop here there group_here group_there ps h =
     (IsLeastEnd-from_pieces i (last i shop here there group_here.group group_there.group ps h) (λ t f c ends. last_is_over i shop t f c ends here there group_here group_there ps h))
     ps (IsShopPlan-laid i shop here there group_here.group group_there.group ps h)
     (omega (arith, laid_few i shop here there group_here.group group_there.group ps h, shop.few)) (laid_ends i shop here there group_here.group group_there.group ps h)
-    (omega (arith, laid_short i shop here there group_here.group group_there.group ps h))
+    (pos-le (omega (arith, laid_short i shop here there group_here.group group_there.group ps h)))
 
 -- as the code has it
 pub IsBestPlan-read : (i : Instance) (shop : IsTwoMachineShop i) (here there here_read there_read : List JobTimes) (ps : List Piece)

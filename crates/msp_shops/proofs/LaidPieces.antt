@@ -192,11 +192,11 @@ module _ (i : Instance) (shop : IsTwoMachineShop i) (here there : List JobTimes)
   pub laid_ends : All (λ p. finish p ≤ last) ps
   laid_ends = subst (All (λ p. finish p ≤ last)) (sym h.is) ends
 
-  pub laid_few : length ps ≤ 1600
+  pub laid_few : length ps ≤ 4 * MOST_JOBS
   laid_few = omega (arith, ap length h.is, length-append h.pieces_here h.pieces_there, h.pass_here.few, h.pass_there.few, group_here.few, group_there.few)
 
-  pub laid_short : last ≤ 1200000000000
+  pub laid_short : last ≤ 3 * MOST_JOBS * GREATEST
   laid_short =
-      let here_first : sum_by (λ t. t.first) here ≤ (MOST_JOBS * GREATEST) = omega (arith, h.pass_here.first_end, h.pass_here.small.0, group_here.few) in
-      let there_first : sum_by (λ t. t.first) there ≤ (MOST_JOBS * GREATEST) = omega (arith, h.pass_there.first_end, h.pass_there.small.0, group_there.few) in
+      let here_first : sum_by (λ t. t.first) here ≤ MOST_JOBS * GREATEST = omega (arith, h.pass_here.first_end, h.pass_here.small.0, group_here.few) in
+      let there_first : sum_by (λ t. t.first) there ≤ MOST_JOBS * GREATEST = omega (arith, h.pass_there.first_end, h.pass_there.small.0, group_there.few) in
       omega (arith, here_first, there_first, h.pass_here.small.0, h.pass_here.small.1, h.pass_there.small.0, h.pass_there.small.1, group_here.few, group_there.few)

@@ -15,7 +15,7 @@ use Rattle.msp_class.specs.declared.class.Crit.TheVariants.{Cmax}
 use Rattle.msp_class.specs.declared.environments.EnvKind.TheVariants.{OpenShop}
 use Rattle.msp_class.specs.Env.{kind_of, is_shop}
 use Rattle.msp_class.specs.Sums.{total_below}
-use Rattle.msp_class.proofs.IntegerRing.{≤ℤ_trans, one-*ℤ}
+use Rattle.msp_class.proofs.IntegerRing.{≤ℤ_trans, one-*ℤ, pos-le}
 use Rattle.msp_class.proofs.Sums.{total_below-same, total_below-bound, total_below-only, eqb_comm, int_total_below-natural}
 use Rattle.msp_instance.specs.declared.Arc.{Arc}
 use Rattle.msp_instance.specs.declared.Need.{Need}
@@ -93,6 +93,10 @@ on_machine needs n o size is l =
     (λ k. cond (eqb o k) (get_or needs k no_need).time 0) (λ k m. ap (λ b. cond b (get_or needs k no_need).time 0) (ap (λ x. eqb x o) (is k m) ∙ eqb_comm k o))
     ∙ total_below-only n (λ k. (get_or needs k no_need).time) o l
 
+-- the most slices
+abbrev most_slices : ℕ
+most_slices = MOST_MACHINES * MOST_JOBS + 2 * (MOST_MACHINES + MOST_JOBS)
+
 module _ (i : Instance) (h : IsCutInstance i) where
   load_is : (o : ℕ) → o < i.machines → machine_load i o ≡ total_below (length i.jobs) (λ j. (need_at i j o).time)
   load_is o l =
@@ -102,16 +106,16 @@ module _ (i : Instance) (h : IsCutInstance i) where
   length_is : (j : ℕ) → j < length i.jobs → job_length i j ≡ total_below i.machines (λ o. (need_at i j o).time)
   length_is j l = sum_by-places (λ (n : Need). n.time) (job_at i j).needs no_need ∙ ap (λ n. total_below n (λ o. (need_at i j o).time)) (h.needs j l)
 
-  load_short : (o : ℕ) → o < i.machines → machine_load i o ≤ (MOST_JOBS * GREATEST)
+  load_short : (o : ℕ) → o < i.machines → machine_load i o ≤ MOST_JOBS * GREATEST
   load_short o l = omega (arith, load_is o l, total_below-bound (length i.jobs) GREATEST (λ j. (need_at i j o).time) (λ j b. h.times j o b l), h.few)
 
-  length_short : (j : ℕ) → j < length i.jobs → job_length i j ≤ 32000000000
+  length_short : (j : ℕ) → j < length i.jobs → job_length i j ≤ MOST_MACHINES * GREATEST
   length_short j l = omega (arith, length_is j l, total_below-bound i.machines GREATEST (λ o. (need_at i j o).time) (λ o b. h.times j o l b), h.few_machines)
 
-  end_short : (end : ℕ) → IsGreatestLine i end → end ≤ (MOST_JOBS * GREATEST)
+  end_short : (end : ℕ) → IsGreatestLine i end → end ≤ MOST_JOBS * GREATEST
   end_short end e = by e.reached
     where
-      by : ((m : ℕ) × (m < i.machines) × (end ≡ machine_load i m)) ⊎ ((j : ℕ) × (j < length i.jobs) × (end ≡ job_length i j)) → end ≤ (MOST_JOBS * GREATEST)
+      by : ((m : ℕ) × (m < i.machines) × (end ≡ machine_load i m)) ⊎ ((j : ℕ) × (j < length i.jobs) × (end ≡ job_length i j)) → end ≤ MOST_JOBS * GREATEST
       by (inl (m, l, f)) = omega (arith, f, load_short m l)
       by (inr (j, l, f)) = omega (arith, f, length_short j l)
 
@@ -229,8 +233,8 @@ module _ (i : Instance) (h : IsCutInstance i) where
           by : (n r c : ℕ) → length ps ≤ n * r → n ≤ r * c + 2 * (r + c) → r ≤ MOST_MACHINES → c ≤ MOST_JOBS → length ps ≤ MOST_PIECES
           by n r c l s a b =
               let cells : r * c ≤ MOST_MACHINES * MOST_JOBS = mul-le r c MOST_MACHINES MOST_JOBS a b in
-              let most : n ≤ 13664 = omega (arith, s, cells, a, b) in
-              omega (arith, l, mul-le n r 13664 MOST_MACHINES most a)
+              let most : n ≤ most_slices = omega (arith, s, cells, a, b) in
+              omega (arith, l, mul-le n r most_slices MOST_MACHINES most a)
 
       pub best_laid : (end : ℕ) × IsGreatestLine i end × IsBestPlan i end (over_one ps)
       best_laid =
@@ -238,7 +242,7 @@ module _ (i : Instance) (h : IsCutInstance i) where
             end,
             line,
             IsBestPlan-from_feasible i h.shop h.crit h.some end (least_end end line) ps feasible few
-                (λ k d l. ended (get_or ps k d) end e (each k d l)) (omega (arith, end_short end line)),
+                (λ k d l. ended (get_or ps k d) end e (each k d l)) (pos-le (omega (arith, end_short end line))),
           )
         where
           ended : (p : Piece) (end : ℕ) → g ≡ pos end → IsLaidPiece m.rows m.columns slices (pos 0) (pos 0 +ℤ g) p → finish p ≤ end

@@ -116,16 +116,16 @@ module _ (i : Instance) (h : IsOpenInstance i) where
   pub length_is : (j : ℕ) → j < length i.jobs → job_length i j ≡ (need_at i j 0).time + (need_at i j 1).time
   length_is j l = length_of_two (job_at i j).needs (h.needs j l)
 
-  load_short : (o : ℕ) → o < 2 → machine_load i o ≤ (MOST_JOBS * GREATEST)
+  load_short : (o : ℕ) → o < 2 → machine_load i o ≤ MOST_JOBS * GREATEST
   load_short o l = omega (arith, load_is o l, total_below-bound (length i.jobs) GREATEST (λ j. (need_at i j o).time) (λ j b. h.times j o b l), h.few)
 
-  length_short : (j : ℕ) → j < length i.jobs → job_length i j ≤ 2000000000
+  length_short : (j : ℕ) → j < length i.jobs → job_length i j ≤ 2 * GREATEST
   length_short j l = omega (arith, length_is j l, h.times j 0 l (omega arith), h.times j 1 l (omega arith))
 
-  pub end_short : (end : ℕ) → IsOpenEnd i end → end ≤ (MOST_JOBS * GREATEST)
+  pub end_short : (end : ℕ) → IsOpenEnd i end → end ≤ MOST_JOBS * GREATEST
   end_short end e = by e.reached
     where
-      by : (end ≡ machine_load i 0) ⊎ ((end ≡ machine_load i 1) ⊎ ((j : ℕ) × (j < length i.jobs) × (end ≡ job_length i j))) → end ≤ (MOST_JOBS * GREATEST)
+      by : (end ≡ machine_load i 0) ⊎ ((end ≡ machine_load i 1) ⊎ ((j : ℕ) × (j < length i.jobs) × (end ≡ job_length i j))) → end ≤ MOST_JOBS * GREATEST
       by (inl f) = omega (arith, f, load_short 0 (omega arith))
       by (inr (inl f)) = omega (arith, f, load_short 1 (omega arith))
       by (inr (inr (j, l, f))) = omega (arith, f, length_short j l)

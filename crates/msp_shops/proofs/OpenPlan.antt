@@ -10,6 +10,7 @@ use Rattle.msp_class.specs.declared.sizes.TheConstants.{MOST_JOBS, GREATEST}
 use Rattle.msp_class.specs.Sums.{total_below}
 use Rattle.msp_class.proofs.Sums.{total_below-range, sum_by-map, OnceBelow, OnceBelow-range, OnceBelow-permutation, OnceBelow-distinct, OnceBelow-contains, length-OnceBelow}
 use Rattle.msp_class.proofs.Sums.{AllPairs-tail, AllPairs-head}
+use Rattle.msp_class.proofs.IntegerRing.{pos-le}
 use Rattle.msp_instance.specs.declared.Instance.{Instance}
 use Rattle.msp_instance.specs.Instance.{need_at}
 use Rattle.msp_schedule.specs.declared.Piece.{Piece}
@@ -317,4 +318,4 @@ module _ (i : Instance) (h : IsOpenInstance i) (first second : Stage)
             few_others,
           ))
           (λ k d l. (known k d l).4)
-          (omega (arith, end_short i h end e))
+          (pos-le (omega (arith, end_short i h end e)))

@@ -1,5 +1,5 @@
 -- Pieces of a shop, one for each operation, as a schedule over the unit 1: when it is feasible, and when no feasible schedule ends earlier.
-use Rattle.std.proofs.Common.{◌≡◌, ◌≢◌, ℕ, ◌+◌, ◌*◌, ◌<◌, ◌≤◌, ◌⊎◌, ◌^◌, inl, inr, true, false, List, [], ◌∷◌, length, get_or, map, ℤ, pos, nat_abs, ◌*ℤ◌, ◌≤ℤ◌, ◌<ℤ◌, All}
+use Rattle.std.proofs.Common.{◌≡◌, ◌≢◌, ℕ, ◌+◌, ◌*◌, ◌<◌, ◌≤◌, ◌⊎◌, inl, inr, true, false, List, [], ◌∷◌, length, get_or, map, ℤ, pos, nat_abs, ◌*ℤ◌, ◌≤ℤ◌, ◌<ℤ◌, All}
 use Rattle.std.proofs.Common.{AllPairs, Contains, Bool, MatchBool, refl, sym, ap, ap₂, ◌∙◌, subst, subst₂, arith}
 use Rattle.std.specs.Prelude.{◌==◌, ◌&&◌}
 use Rattle.std.proofs.lemmas.Bool.{eq-eqb}
@@ -11,7 +11,7 @@ use Rattle.msp_class.specs.declared.environments.EnvKind.{EnvKind}
 use Rattle.msp_class.specs.declared.environments.EnvKind.TheVariants.{Identical, Uniform, Unrelated, OpenShop, FlowShop, JobShop}
 use Rattle.msp_class.specs.declared.class.Crit.TheVariants.{Cmax}
 use Rattle.msp_class.specs.Env.{kind_of, is_shop_kind, is_shop}
-use Rattle.msp_class.proofs.IntegerRing.{natural, pos-le, ≤ℤ_antisym, +ℤ_idl, *ℤ_comm, *ℤ-one, one-*ℤ}
+use Rattle.msp_class.proofs.IntegerRing.{natural, pos-le, ≤ℤ_antisym, +ℤ_idl, *ℤ_comm, *ℤ-one, one-*ℤ, ≤ℤ_trans}
 use Rattle.msp_class.proofs.Sums.{AllPairs-contains, Contains-filter}
 use Rattle.msp_instance.specs.declared.Arc.{Arc}
 use Rattle.msp_instance.specs.declared.Instance.{Instance}
@@ -27,6 +27,7 @@ use Rattle.msp_schedule.proofs.feasible.OneMachine.{IsTimed-from_span, apart_in_
 use Rattle.msp_schedule.proofs.feasible.Frames.{of_operation-named, of_one, named_one}
 use Rattle.msp_schedule.proofs.feasible.LastEnds.{last_end-bound}
 use Rattle.msp_schedule.proofs.costs.Makespan.{cost_natural, ends_by_cost, cost_by_ends}
+use Rattle.msp_route.specs.declared.bounds.TheConstants.{GREATEST_ANSWER_MOMENT}
 use Rattle.msp_route.specs.Bounds.{IsAnswer, answer_unit}
 use Rattle.msp_shops.specs.Pass.{machine_of}
 
@@ -247,7 +248,7 @@ module _ (i : Instance) (kind : is_shop i.class.env ≡ true) (crit : i.class.cr
   bound : (t : Schedule) → Feasible i t → (pos end *ℤ t.unit) ≤ℤ cost_of i t
   bound t f = subst (λ x. x ≤ℤ cost_of i t) (*ℤ_comm t.unit (pos end)) (least t f (cost_of i t) (omega (arith, ints, cost_natural i crit t some)) (ends_by_cost i crit t))
 
-  module _ (ps : List Piece) (feasible : Feasible i (over_one ps)) (few : length ps ≤ MOST_PIECES) (ends : All (λ p. finish p ≤ end) ps) (short : end ≤ 10 ^ 25) where
+  module _ (ps : List Piece) (feasible : Feasible i (over_one ps)) (few : length ps ≤ MOST_PIECES) (ends : All (λ p. finish p ≤ end) ps) (short : pos end ≤ℤ GREATEST_ANSWER_MOMENT) where
     abbrev made : Schedule
     made = over_one ps
 
@@ -264,10 +265,10 @@ module _ (i : Instance) (kind : is_shop i.class.env ≡ true) (crit : i.class.cr
     cost_is = ≤ℤ_antisym upper (subst (λ x. x ≤ℤ cost_of i made) (*ℤ-one (pos end)) (bound made feasible))
 
     moments : All (λ p. IsMoment p.from × IsMoment p.to) ps
-    moments k d l = by (get_or ps k d) (timed k d l) (omega (arith, ends k d l, short))
+    moments k d l = by (get_or ps k d) (timed k d l) (≤ℤ_trans (ended k d l) short)
       where
-        by : (p : Piece) → IsTimed p → finish p ≤ 10 ^ 25 → IsMoment p.from × IsMoment p.to
-        by p t m = ((omega (arith, ints, t.from), omega (arith, ints, t.from, t.lasts, m)), (omega (arith, ints, t.to), omega (arith, ints, t.to, m)))
+        by : (p : Piece) → IsTimed p → p.to ≤ℤ GREATEST_ANSWER_MOMENT → IsMoment p.from × IsMoment p.to
+        by p t m = ((omega (arith, ints, t.from), omega (arith, ints, t.from, t.to, t.lasts, m)), (omega (arith, ints, t.to), omega (arith, ints, m)))
 
     pub IsBestPlan-from_feasible : IsBestPlan i end made
     IsBestPlan-from_feasible = record {
@@ -284,11 +285,11 @@ module _ (i : Instance) (kind : is_shop i.class.env ≡ true) (crit : i.class.cr
       answer = record {
         few = few;
         unit = unit_by (kind_of i.class.env) kind;
-        ends = λ k d l. omega (arith, ints, ended k d l, short);
+        ends = λ k d l. ≤ℤ_trans (ended k d l) short;
       };
       cost = cost_is;
     }
 
 pub IsBestPlan-from_plan : (i : Instance) → IsPlainShop i → (end : ℕ) → IsLeastEnd i end
-    → (ps : List Piece) → IsShopPlan i ps → length ps ≤ MOST_PIECES → All (λ p. finish p ≤ end) ps → end ≤ 10 ^ 25 → IsBestPlan i end (over_one ps)
+    → (ps : List Piece) → IsShopPlan i ps → length ps ≤ MOST_PIECES → All (λ p. finish p ≤ end) ps → pos end ≤ℤ GREATEST_ANSWER_MOMENT → IsBestPlan i end (over_one ps)
 IsBestPlan-from_plan i h end least ps w = IsBestPlan-from_feasible i h.kind h.crit h.some end least ps (Feasible-from_plan i h ps w)
