@@ -1,5 +1,6 @@
 -- Jobs in the earliest places at least cost: a best schedule by the weighted tardiness and by the weight of late jobs.
-use Rattle.std.proofs.Common.{◌≡◌, ℕ, ◌<◌, ◌≤◌, ◌^◌, List, length, ℤ, pos, ◌*ℤ◌, ◌≤ℤ◌, refl, sym, ap, subst, ◌∙◌, arith}
+use Rattle.std.proofs.Common.{◌≡◌, ℕ, ◌<◌, ◌≤◌, List, length, ℤ, pos, ◌*ℤ◌, ◌≤ℤ◌, refl, sym, ap, subst, ◌∙◌, arith}
+use Rattle.msp_class.specs.declared.sizes.TheConstants.{GREATEST_MULTIPLE}
 use Rattle.msp_class.specs.Env.{kind_of}
 use Rattle.msp_class.specs.Sums.{int_total_below}
 use Rattle.msp_class.proofs.IntegerRing.{≤ℤ_trans, ≤ℤ_of_same}
@@ -32,7 +33,8 @@ pub record IsAssignedAnswer (i : Instance) (s : Schedule) : Type 0 where
   pub within : Within i s
   pub answer : IsAnswer i s
 
-module _ (i : Instance) (d : IsByDues i) (inner : Inner i) (unit : ℕ) (common : IsLeastOfAll i.speeds unit) (few : unit ≤ 2 ^ 30) (pieces : List Piece) (l : AreLeastAssigned i unit pieces) where
+module _ (i : Instance) (d : IsByDues i) (inner : Inner i) (unit : ℕ) (common : IsLeastOfAll i.speeds unit) (few : unit ≤ GREATEST_MULTIPLE)
+    (pieces : List Piece) (l : AreLeastAssigned i unit pieces) where
   abbrev n : ℕ
   n = length i.jobs
 
@@ -81,6 +83,6 @@ module _ (i : Instance) (d : IsByDues i) (inner : Inner i) (unit : ℕ) (common 
   })
 
 pub IsAssignedAnswer-from : (i : Instance) → HasDueClass i → Inner i → (unit : ℕ) (u : ℤ) (pieces : List Piece)
-    → IsLeastOfAll i.speeds unit → unit ≤ 2 ^ 30 → u ≡ pos unit → AreLeastAssigned i unit pieces → IsAssignedAnswer i (record { unit = u; pieces = pieces })
+    → IsLeastOfAll i.speeds unit → unit ≤ GREATEST_MULTIPLE → u ≡ pos unit → AreLeastAssigned i unit pieces → IsAssignedAnswer i (record { unit = u; pieces = pieces })
 IsAssignedAnswer-from i class inner unit u pieces common few e l =
     subst (λ x. IsAssignedAnswer i (record { unit = x; pieces = pieces })) (sym e) (assigned_answer i (IsByDues-from i class inner) inner unit common few pieces l)

@@ -1,9 +1,9 @@
 -- What jobs cost in the earliest places by their due dates: costs that `assign` takes, and what it gives.
-use Rattle.std.proofs.Common.{◌≡◌, ℕ, ◌<◌, ◌≤◌, ◌^◌, ◌⊎◌, inl, inr, Bool, true, false, List, length, ℤ, pos, ◌-ℤ◌, ◌*ℤ◌, ◌≤ℤ◌, All, sym, ap, ap₂, subst, subst₂, ◌∙◌, arith}
+use Rattle.std.proofs.Common.{◌≡◌, ℕ, ◌+◌, ◌*◌, ◌<◌, ◌≤◌, ◌⊎◌, inl, inr, Bool, true, false, List, length, ℤ, pos, ◌-ℤ◌, ◌*ℤ◌, ◌≤ℤ◌, All, sym, ap, ap₂, subst, subst₂, ◌∙◌, arith}
 use Rattle.std.specs.Prelude.{int_lt, if◌then◌else◌}
 use Rattle.std.specs.Int.{int_max}
 use Rattle.std.proofs.lemmas.Int.{ints, clamps}
-use Rattle.msp_class.specs.declared.sizes.TheConstants.{MOST_JOBS, GREATEST}
+use Rattle.msp_class.specs.declared.sizes.TheConstants.{MOST_JOBS, GREATEST, GREATEST_MULTIPLE}
 use Rattle.msp_class.specs.declared.class.Class.{Class}
 use Rattle.msp_class.specs.declared.class.Crit.{Crit}
 use Rattle.msp_class.specs.declared.class.Crit.TheVariants.{SumWT, SumWU}
@@ -19,13 +19,14 @@ use Rattle.msp_schedule.specs.declared.Piece.{Piece}
 use Rattle.msp_schedule.specs.Cost.{job_cost, tardiness, late}
 use Rattle.msp_schedule.specs.Within.{HasSmallCost}
 use Rattle.msp_schedule.proofs.costs.Small.{product_within, due_within, small_costs}
-use Rattle.msp_assign.specs.Prices.{HasCosts, IsAssigned, IsLeast}
+use Rattle.msp_assign.specs.Prices.{HasCosts, IsAssigned, IsLeast, greatest_cost}
 use Rattle.msp_places.specs.declared.place.Place.{Place}
 use Rattle.msp_places.specs.Classes.{places_late_class, places_count_class}
 use Rattle.msp_places.specs.Places.{lengths_of, no_place, place_at, AreEarliestPlaces}
 use Rattle.msp_places.specs.Assigned.{place_cost, in_columns, AreLeastAssigned}
 use Rattle.msp_places.proofs.PlaceFacts.{IsPlacesInstance, IsPlacesInstance-from, common_time_within, lengths_short}
 use Rattle.msp_places.proofs.PlacedJobs.{placed_schedule, placed_is_within, ends_bounded}
+use Rattle.msp_places.specs.Bounds.{greatest_end}
 
 -- by the weighted tardiness, or by the weight of late jobs
 abbrev pub HasDueClass : Instance → Type 0
@@ -42,16 +43,20 @@ IsByDues-from i (inl e) inner = record { crit = SumWT; is = IsPlacesInstance-fro
 IsByDues-from i (inr e) inner = record { crit = SumWU; is = IsPlacesInstance-from SumWU i e inner; sums = ap (λ (c : Class). is_greatest c.crit) e; either = inr (ap (λ (c : Class). c.crit) e) }
 
 -- ---- one job
+-- the greatest size of a due date, over the unit
+abbrev greatest_date : ℕ
+greatest_date = GREATEST_MULTIPLE * (2 * GREATEST)
+
 abbrev IsCost : ℤ → Type 0
-IsCost x = (pos 0 ≤ℤ x) × (x ≤ℤ pos (2 ^ 100))
+IsCost x = (pos 0 ≤ℤ x) × (x ≤ℤ pos greatest_cost)
 
 abbrev IsPast : ℤ → Type 0
-IsPast x = (pos 0 ≤ℤ x) × (x ≤ℤ pos 3000000000000000000)
+IsPast x = (pos 0 ≤ℤ x) × (x ≤ℤ pos (greatest_end + greatest_date))
 
-tardy : (end : ℕ) (due : ℤ) → end ≤ 429496729600000000 → LiesWithin 2147483648000000000 due → IsPast (int_max (pos 0) (pos end -ℤ due))
+tardy : (end : ℕ) (due : ℤ) → end ≤ greatest_end → LiesWithin greatest_date due → IsPast (int_max (pos 0) (pos end -ℤ due))
 tardy end due l h = (omega (arith, ints, clamps), omega (arith, ints, clamps, l, h.0))
 
-counted : (b : Bool) (unit : ℕ) → unit ≤ 1073741824 → IsPast (if b then pos unit else pos 0)
+counted : (b : Bool) (unit : ℕ) → unit ≤ GREATEST_MULTIPLE → IsPast (if b then pos unit else pos 0)
 counted true unit l = (zero-le-pos unit, pos-le (omega (arith, l)))
 counted false unit l = (omega (arith, ints), omega (arith, ints))
 
@@ -59,18 +64,18 @@ weighed : (w : ℕ) (x : ℤ) → w ≤ GREATEST → IsPast x → IsCost (pos w 
 weighed w x l h = (*ℤ-nonneg (zero-le-pos w) h.0, ≤ℤ_trans (*ℤ-mono w h.1) (pos-le (omega (arith, l))))
 
 cost_bounded : (crit : Crit) → (crit ≡ SumWT) ⊎ (crit ≡ SumWU) → (unit end : ℕ) (j : Job)
-    → unit ≤ 1073741824 → end ≤ 429496729600000000 → LiesWithin 2000000000 j.due → j.weight ≤ GREATEST → IsCost (job_cost crit (pos unit) j (pos end))
+    → unit ≤ GREATEST_MULTIPLE → end ≤ greatest_end → LiesWithin (2 * GREATEST) j.due → j.weight ≤ GREATEST → IsCost (job_cost crit (pos unit) j (pos end))
 cost_bounded crit either unit end j few soon due light = elim either [
   | inl e ↦ subst (λ c. IsCost (job_cost c (pos unit) j (pos end))) (sym e) (weighed j.weight (tardiness (pos unit) j (pos end)) light (tardy end (pos unit *ℤ j.due) soon scaled))
   | inr e ↦ subst (λ c. IsCost (job_cost c (pos unit) j (pos end))) (sym e) (weighed j.weight (late (pos unit) j (pos end)) light (counted (int_lt (pos unit *ℤ j.due) (pos end)) unit few))
 ]
   where
-    scaled : LiesWithin 2147483648000000000 (pos unit *ℤ j.due)
-    scaled = product_within unit j.due 1073741824 2000000000 2147483648000000000 few due (omega arith)
+    scaled : LiesWithin greatest_date (pos unit *ℤ j.due)
+    scaled = product_within unit j.due GREATEST_MULTIPLE (2 * GREATEST) greatest_date few due (omega arith)
 
 -- ---- the table
 module _ (i : Instance) (d : IsByDues i) (inner : Inner i)
-    (unit : ℕ) (common : IsLeastOfAll i.speeds unit) (few : unit ≤ 2 ^ 30) (places : List Place) (earliest : AreEarliestPlaces i unit places) where
+    (unit : ℕ) (common : IsLeastOfAll i.speeds unit) (few : unit ≤ GREATEST_MULTIPLE) (places : List Place) (earliest : AreEarliestPlaces i unit places) where
   abbrev n : ℕ
   n = length i.jobs
 
@@ -78,11 +83,11 @@ module _ (i : Instance) (d : IsByDues i) (inner : Inner i)
   small = small_costs i (placed_schedule unit n places (λ j. j) (λ j. j)) inner
       (placed_is_within d.crit i d.is unit common few places earliest (λ j. j) (λ j. j) (record { jobs = λ a l. l; once = λ a b l k e. e; numbers = λ a l. l; own = λ a b l k e. e }))
 
-  end_soon : (k : ℕ) → k < n → (place_at places k).end ≤ 429496729600000000
+  end_soon : (k : ℕ) → k < n → (place_at places k).end ≤ greatest_end
   end_soon k l = ends_bounded (lengths_of i unit)
       (lengths_short i d.is.speeds (common_time_within d.crit i d.is) unit common few) n places d.is.few earliest k no_place (omega (arith, l, earliest.count))
 
-  due_small : (j : ℕ) → j < n → LiesWithin 2000000000 (job_at i j).due
+  due_small : (j : ℕ) → j < n → LiesWithin (2 * GREATEST) (job_at i j).due
   due_small j l = due_within (inner_limits Uniform) (uses_due d.crit) (job_at i j).due (d.is.jobs j no_job l).due
 
   costs : HasCosts n n (place_cost i unit places)

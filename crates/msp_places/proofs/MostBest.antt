@@ -1,9 +1,10 @@
 -- The jobs in the order of least cost in the earliest places: a best schedule by the greatest cost of a job.
-use Rattle.std.proofs.Common.{◌≡◌, ◌≢◌, ℕ, zero, suc, ◌+◌, ◌<◌, ◌≤◌, ◌^◌, ◌⊎◌, inl, inr, true, List, length, get_or, take, map, ℤ, pos, nat_abs, ◌*ℤ◌, ◌≤ℤ◌, All, AllPairs, refl}
+use Rattle.std.proofs.Common.{◌≡◌, ◌≢◌, ℕ, zero, suc, ◌+◌, ◌<◌, ◌≤◌, ◌⊎◌, inl, inr, true, List, length, get_or, take, map, ℤ, pos, nat_abs, ◌*ℤ◌, ◌≤ℤ◌, All, AllPairs, refl}
 use Rattle.std.proofs.Common.{sym, ap, ap₂, subst, subst₂, ◌∙◌, arith}
 use Rattle.std.proofs.lemmas.Bool.{cases_lt}
 use Rattle.std.proofs.lemmas.Int.{ints}
 use Rattle.std.proofs.lemmas.List.{get_or-take, length-take, length-map, get_or-map, get_or_default}
+use Rattle.msp_class.specs.declared.sizes.TheConstants.{GREATEST_MULTIPLE}
 use Rattle.msp_class.specs.declared.class.Crit.TheVariants.{Fmax}
 use Rattle.msp_class.specs.Crit.{is_greatest}
 use Rattle.msp_class.specs.Env.{kind_of}
@@ -76,7 +77,7 @@ end_rises places order a b l k = elim (cases_lt a b) [
     by p q (inr h) = omega (arith, h.0)
 
 -- ---- the schedule
-module _ (i : Instance) (h : IsPlacesInstance Fmax i) (inner : Inner i) (unit : ℕ) (common : IsLeastOfAll i.speeds unit) (few : unit ≤ 2 ^ 30) (places : List Place)
+module _ (i : Instance) (h : IsPlacesInstance Fmax i) (inner : Inner i) (unit : ℕ) (common : IsLeastOfAll i.speeds unit) (few : unit ≤ GREATEST_MULTIPLE) (places : List Place)
     (earliest : AreEarliestPlaces i unit places) (order : List ℕ) (o : IsOrderByCost i unit places order) where
   abbrev n : ℕ
   n = length i.jobs

@@ -1,11 +1,11 @@
 -- Steps of the search for the job that costs least, and of the answer.
-use Rattle.std.proofs.Common.{◌≡◌, ℕ, ◌+◌, ◌*◌, ◌<◌, ◌≤◌, ◌^◌, ◌⊎◌, inl, inr, List, [], ◌∷◌, ◌++◌, length, get_or, take, ℤ, pos, ◌<ℤ◌, All, refl, sym, ap, ap₂, subst, subst₂, ◌∙◌}
+use Rattle.std.proofs.Common.{◌≡◌, ℕ, ◌+◌, ◌<◌, ◌≤◌, ◌⊎◌, inl, inr, List, [], ◌∷◌, ◌++◌, length, get_or, take, ℤ, pos, ◌<ℤ◌, All, refl, sym, ap, ap₂, subst, subst₂, ◌∙◌}
 use Rattle.std.proofs.Common.{arith, slice_index_or, zero-add}
 use Rattle.std.proofs.lemmas.Bool.{cases_lt}
 use Rattle.std.proofs.lemmas.Int.{ints}
 use Rattle.std.proofs.lemmas.List.{get_or-take, length-take, take_all, get_or_default}
 use Rattle.std.proofs.lemmas.List.FromFn.{map-range_with_len_more}
-use Rattle.msp_class.specs.declared.sizes.TheConstants.{MOST_JOBS}
+use Rattle.msp_class.specs.declared.sizes.TheConstants.{GREATEST_MULTIPLE}
 use Rattle.msp_class.specs.declared.environments.EnvKind.TheVariants.{Uniform, Unrelated}
 use Rattle.msp_class.specs.declared.class.Crit.TheVariants.{Fmax}
 use Rattle.msp_class.specs.Env.{kind_of}
@@ -30,12 +30,13 @@ use Rattle.msp_schedule.proofs.lists.InTurn.{length_is}
 use Rattle.msp_places.proofs.PlaceFacts.{IsPlacesInstance-from, common_time_within, lengths_short}
 use Rattle.msp_places.proofs.PlacedJobs.{placed_is_within, placed_is_answer, ends_bounded}
 use Rattle.msp_places.proofs.MostBest.{job, own, most_is_best}
+use Rattle.msp_places.specs.Bounds.{greatest_end}
 
 -- ---- costs are small over the unit
 abbrev idle : ℕ → Schedule
 idle unit = record { unit = pos unit; pieces = [] }
 
-idle_is_within : (i : Instance) → kind_of i.class.env ≡ Uniform → (unit : ℕ) → 1 ≤ unit → unit ≤ 2 ^ 30 → Within i (idle unit)
+idle_is_within : (i : Instance) → kind_of i.class.env ≡ Uniform → (unit : ℕ) → 1 ≤ unit → unit ≤ GREATEST_MULTIPLE → Within i (idle unit)
 idle_is_within i kind unit some few = record {
   unit = (omega (arith, ints, some), omega (arith, ints, few));
   few = omega arith;
@@ -46,7 +47,7 @@ idle_is_within i kind unit some few = record {
     not_unrelated : Uniform ≡ Unrelated → ⊥
     not_unrelated e = cc
 
-pub small_in : (i : Instance) → Inner i → i.class ≡ places_most_class → (unit : ℕ) → 1 ≤ unit → unit ≤ 2 ^ 30 → (u : ℤ) (jobs : List Job) (k : ℕ) (j : Job)
+pub small_in : (i : Instance) → Inner i → i.class ≡ places_most_class → (unit : ℕ) → 1 ≤ unit → unit ≤ GREATEST_MULTIPLE → (u : ℤ) (jobs : List Job) (k : ℕ) (j : Job)
     → u ≡ pos unit → jobs ≡ i.jobs → j ≡ get_or jobs k j → k < length i.jobs → HasSmallCost u j
 small_in i inner class unit some few u jobs k j e same is l =
     subst₂ HasSmallCost (sym e) (sym (is ∙ ap (λ xs. get_or xs k j) same)) (small_costs i (idle unit) inner (idle_is_within i (ap (λ c. kind_of c.env) class) unit some few) k j l)
@@ -120,7 +121,7 @@ pub record IsMostAnswer (i : Instance) (s : Schedule) : Type 0 where
   pub by_cost : IsByCost i s
 
 pub IsMostAnswer-from : (i : Instance) → i.class ≡ places_most_class → Inner i → (unit : ℕ) (u : ℤ) (pieces : List Piece)
-    → IsLeastOfAll i.speeds unit → unit ≤ 2 ^ 30 → u ≡ pos unit → ArePlacedByCost i unit pieces → IsMostAnswer i (record { unit = u; pieces = pieces })
+    → IsLeastOfAll i.speeds unit → unit ≤ GREATEST_MULTIPLE → u ≡ pos unit → ArePlacedByCost i unit pieces → IsMostAnswer i (record { unit = u; pieces = pieces })
 IsMostAnswer-from i class inner unit u pieces common few e p =
     let h = IsPlacesInstance-from Fmax i class inner in
     let turn = job i h inner unit common few p.places p.earliest p.order p.by_cost in
@@ -149,11 +150,11 @@ placed_by_cost i unit places listed order slice pieces earliest same by same_ord
 pub places_many : (i : Instance) (unit : ℕ) (places listed : List Place) → AreEarliestPlaces i unit places → listed ≡ places → length listed ≡ length i.jobs
 places_many i unit places listed earliest same = ap length same ∙ earliest.count
 
-pub places_soon : (i : Instance) → i.class ≡ places_most_class → Inner i → (unit : ℕ) (places listed : List Place) → IsLeastOfAll i.speeds unit → unit ≤ 2 ^ 30
-    → AreEarliestPlaces i unit places → listed ≡ places → All (λ p. p.end ≤ MOST_JOBS * 1000000 * 2 ^ 30) listed
+pub places_soon : (i : Instance) → i.class ≡ places_most_class → Inner i → (unit : ℕ) (places listed : List Place) → IsLeastOfAll i.speeds unit → unit ≤ GREATEST_MULTIPLE
+    → AreEarliestPlaces i unit places → listed ≡ places → All (λ p. p.end ≤ greatest_end) listed
 places_soon i class inner unit places listed common few earliest same =
     let h = IsPlacesInstance-from Fmax i class inner in
-    subst (All (λ p. p.end ≤ MOST_JOBS * 1000000 * 2 ^ 30)) (sym same)
+    subst (All (λ p. p.end ≤ greatest_end)) (sym same)
     (ends_bounded (lengths_of i unit) (lengths_short i h.speeds (common_time_within Fmax i h) unit common few) (length i.jobs) places h.few earliest)
 
 pub order_many : (i : Instance) (unit : ℕ) (places listed : List Place) (order slice : List ℕ) → AreEarliestPlaces i unit places → listed ≡ places

@@ -1,7 +1,8 @@
 -- What an instance of jobs of one time on uniform machines has.
-use Rattle.std.proofs.Common.{◌≡◌, ℕ, ◌*◌, ◌/◌, ◌<◌, ◌≤◌, ◌^◌, List, length, get_or, map, All, ap₂, subst, subst₂, ◌∙◌, arith}
+use Rattle.std.proofs.Common.{◌≡◌, ℕ, ◌*◌, ◌/◌, ◌<◌, ◌≤◌, List, length, get_or, map, All, ap₂, subst, subst₂, ◌∙◌, arith}
 use Rattle.std.proofs.lemmas.Nat.{mul-le}
 use Rattle.std.proofs.lemmas.List.{get_or_default}
+use Rattle.msp_class.specs.declared.sizes.TheConstants.{GREATEST_MULTIPLE, GREATEST_EQUAL_TIME}
 use Rattle.msp_class.specs.declared.class.Class.{Class}
 use Rattle.msp_class.specs.declared.class.Crit.{Crit}
 use Rattle.msp_class.specs.declared.class.Times.{Times}
@@ -18,30 +19,31 @@ use Rattle.msp_places.specs.Classes.{places_most_class}
 use Rattle.msp_places.specs.Places.{lengths_of, TakeCommonTime}
 use Rattle.msp_places.proofs.OwnPlaces.{lengths-count, long-speed, long-some}
 use Rattle.msp_places.proofs.Turns.{AreShort}
+use Rattle.msp_places.specs.Bounds.{greatest_length}
 
 -- ---- jobs of one time on uniform machines
 -- the common time is in range
 pub common_time_range : (l : Limits) (i : Instance) → kind_of i.class.env ≡ Uniform → i.class.times ≡ Equal → MeetsConditions l i
-    → (1 ≤ common_time i) × (common_time i ≤ 1000000)
+    → (1 ≤ common_time i) × (common_time i ≤ GREATEST_EQUAL_TIME)
 common_time_range l i kind equal c = by (kind_of i.class.env) kind i.class.times equal (c.jobs 0 no_job (omega (arith, c.some))).needs.shape (c.jobs 0 no_job (omega (arith, c.some))).needs.times
   where
     by : (k : EnvKind) → k ≡ Uniform → (t : Times) → t ≡ Equal → HasShape k i.class.env i.machines (job_at i 0).needs
-        → HasTimes (least_time k t) (greatest_time l t) (job_at i 0).needs → (1 ≤ common_time i) × (common_time i ≤ 1000000)
+        → HasTimes (least_time k t) (greatest_time l t) (job_at i 0).needs → (1 ≤ common_time i) × (common_time i ≤ GREATEST_EQUAL_TIME)
     by k e t f shape times =
         let single = subst (λ x. HasShape x i.class.env i.machines (job_at i 0).needs) e shape in
         let ranges = subst₂ (λ x y. HasTimes (least_time x y) (greatest_time l y) (job_at i 0).needs) e f times in
         ranges 0 no_need (omega (arith, single.0))
 
-module _ (i : Instance) (speeds : HasSpeeds Uniform i.machines i.speeds) (time : (1 ≤ common_time i) × (common_time i ≤ 1000000)) (unit : ℕ)
-    (common : IsLeastOfAll i.speeds unit) (few : unit ≤ 2 ^ 30) where
+module _ (i : Instance) (speeds : HasSpeeds Uniform i.machines i.speeds) (time : (1 ≤ common_time i) × (common_time i ≤ GREATEST_EQUAL_TIME)) (unit : ℕ)
+    (common : IsLeastOfAll i.speeds unit) (few : unit ≤ GREATEST_MULTIPLE) where
   pub lengths_short : AreShort (lengths_of i unit)
-  lengths_short m d l = subst (λ x. (1 ≤ x) × (x ≤ 1000000 * 2 ^ 30)) (get_or_default (lengths_of i unit) m 0 d l) (
+  lengths_short m d l = subst (λ x. (1 ≤ x) × (x ≤ greatest_length)) (get_or_default (lengths_of i unit) m 0 d l) (
     long-some i unit speeds common m inside time.0,
     omega (
       arith,
       at_most (get_or (lengths_of i unit) m 0) (get_or i.speeds m 0) (unit * common_time i)
           (long-speed i unit speeds common m inside) (speeds.1 m 0 (omega (arith, inside, speeds.0))).0,
-      mul-le unit (common_time i) (2 ^ 30) 1000000 few time.1,
+      mul-le unit (common_time i) GREATEST_MULTIPLE GREATEST_EQUAL_TIME few time.1,
     ),
   )
     where
@@ -76,7 +78,7 @@ module _ (crit : Crit) (i : Instance) (h : IsPlacesInstance crit i) where
   pub no_release : (j : ℕ) → j < length i.jobs → (job_at i j).release ≡ 0
   no_release j l = (h.jobs j no_job l).release
 
-  pub common_time_within : (1 ≤ common_time i) × (common_time i ≤ 1000000)
+  pub common_time_within : (1 ≤ common_time i) × (common_time i ≤ GREATEST_EQUAL_TIME)
   common_time_within = (h.jobs 0 no_job (omega (arith, h.some))).needs.times 0 no_need (one_need 0 (omega (arith, h.some)))
 
   pub speeds_some : All (λ s. 1 ≤ s) i.speeds

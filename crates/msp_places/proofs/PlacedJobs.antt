@@ -1,5 +1,5 @@
 -- Jobs in places of their own: a feasible schedule, in which each job ends when its place does, within the bounds of an answer.
-use Rattle.std.proofs.Common.{◌≡◌, ◌≢◌, ℕ, ◌+◌, ◌*◌, ◌-◌, ◌<◌, ◌≤◌, ◌^◌, ◌⊎◌, inl, inr, List, length, get_or, map, All, AllPairs, pos, ◌-ℤ◌, ◌*ℤ◌, ◌≤ℤ◌, ◌<ℤ◌, refl, sym, ap, ap₂}
+use Rattle.std.proofs.Common.{◌≡◌, ◌≢◌, ℕ, ◌+◌, ◌*◌, ◌-◌, ◌<◌, ◌≤◌, ◌⊎◌, inl, inr, List, length, get_or, map, All, AllPairs, pos, ◌-ℤ◌, ◌*ℤ◌, ◌≤ℤ◌, ◌<ℤ◌, refl, sym, ap, ap₂}
 use Rattle.std.proofs.Common.{subst, subst₂, ◌∙◌, arith, zero-add}
 use Rattle.std.proofs.lemmas.Bool.{cases_lt}
 use Rattle.std.proofs.lemmas.Int.{ints}
@@ -8,7 +8,7 @@ use Rattle.std.proofs.lemmas.List.{length-map, get_or-map}
 use Rattle.std.proofs.lemmas.List.Elements.{All-nil}
 use Rattle.std.proofs.lemmas.List.FromFn.{get_or-map-range_with_len, length-map-range_with_len}
 use Rattle.std.proofs.Math.Nat.{mul-le-mul_right}
-use Rattle.msp_class.specs.declared.sizes.TheConstants.{MOST_JOBS}
+use Rattle.msp_class.specs.declared.sizes.TheConstants.{MOST_JOBS, GREATEST_MULTIPLE}
 use Rattle.msp_class.specs.declared.class.Crit.{Crit}
 use Rattle.msp_class.specs.declared.environments.EnvKind.TheVariants.{Uniform, Unrelated}
 use Rattle.msp_class.specs.Env.{kind_of}
@@ -27,6 +27,7 @@ use Rattle.msp_schedule.specs.Cost.{end_of}
 use Rattle.msp_schedule.specs.Within.{Within}
 use Rattle.msp_schedule.proofs.feasible.OneEach.{IsUncut-uniform}
 use Rattle.msp_schedule.proofs.feasible.LastEnds.{last_end-contains, last_end-least}
+use Rattle.msp_route.specs.declared.bounds.TheConstants.{GREATEST_ANSWER_MOMENT}
 use Rattle.msp_route.specs.Bounds.{IsAnswer, answer_unit}
 use Rattle.msp_route.proofs.OneEach.{IsUncut, AreOneEach, one_each_is_feasible, one_each_is_within, one_each_is_answer}
 use Rattle.msp_places.specs.declared.place.Place.{Place}
@@ -35,17 +36,18 @@ use Rattle.msp_places.specs.Placed.{piece_in, placed, AreApart}
 use Rattle.msp_places.proofs.OwnPlaces.{lengths-count, long-speed}
 use Rattle.msp_places.proofs.Turns.{AreShort}
 use Rattle.msp_places.proofs.PlaceFacts.{IsPlacesInstance, takes_common_time, no_release, common_time_within, lengths_short}
+use Rattle.msp_places.specs.Bounds.{greatest_length, greatest_end}
 
 abbrev pub placed_schedule : ℕ → ℕ → List Place → (ℕ → ℕ) → (ℕ → ℕ) → Schedule
 placed_schedule unit n places job number = record { unit = pos unit; pieces = placed n places job number }
 
 -- ---- the ends of the earliest places
 pub ends_bounded : (lengths : List ℕ) → AreShort lengths → (n : ℕ) (places : List Place) → n ≤ MOST_JOBS → AreEarliest lengths n places
-    → All (λ p. p.end ≤ MOST_JOBS * 1000000 * 2 ^ 30) places
+    → All (λ p. p.end ≤ greatest_end) places
 ends_bounded lengths short n places few earliest k d l =
     let is = earliest.each k d l in
     let p = get_or places k d in
-    omega (arith, ap (λ (x : Place). x.end) is.is, mul-le p.rank (get_or lengths p.machine 0) MOST_JOBS (1000000 * 2 ^ 30) (omega (arith, is.few, few)) (short p.machine 0 is.machine).1)
+    omega (arith, ap (λ (x : Place). x.end) is.is, mul-le p.rank (get_or lengths p.machine 0) MOST_JOBS greatest_length (omega (arith, is.few, few)) (short p.machine 0 is.machine).1)
 
 -- ---- two of the earliest places on one machine are apart
 module _ (lengths : List ℕ) (n : ℕ) (places : List Place) (earliest : AreEarliest lengths n places) where
@@ -98,7 +100,7 @@ module _ (lengths : List ℕ) (n : ℕ) (places : List Place) (earliest : AreEar
           same : (x y : ℕ) → y ≤ x → x ≤ y → x ≡ y
           same x y l k = omega (arith, l, k)
 
-module _ (crit : Crit) (i : Instance) (h : IsPlacesInstance crit i) (unit : ℕ) (common : IsLeastOfAll i.speeds unit) (few : unit ≤ 2 ^ 30) (places : List Place)
+module _ (crit : Crit) (i : Instance) (h : IsPlacesInstance crit i) (unit : ℕ) (common : IsLeastOfAll i.speeds unit) (few : unit ≤ GREATEST_MULTIPLE) (places : List Place)
     (earliest : AreEarliestPlaces i unit places) (job number : ℕ → ℕ) (own : AreApart (length i.jobs) job number) where
   abbrev n : ℕ
   n = length i.jobs
@@ -139,7 +141,7 @@ module _ (crit : Crit) (i : Instance) (h : IsPlacesInstance crit i) (unit : ℕ)
   abbrev long : ℕ → ℕ
   long m = get_or lengths m 0
 
-  short : (k : ℕ) → k < n → (1 ≤ long (place k).machine) × (long (place k).machine ≤ 1000000 * 2 ^ 30)
+  short : (k : ℕ) → k < n → (1 ≤ long (place k).machine) × (long (place k).machine ≤ greatest_length)
   short k l = lengths_short i h.speeds (common_time_within crit i h) unit common few (place k).machine 0 (is k l).machine
 
   begin_is : (k : ℕ) → k < n → (place k).begin ≡ ((place k).rank - 1) * long (place k).machine
@@ -160,8 +162,8 @@ module _ (crit : Crit) (i : Instance) (h : IsPlacesInstance crit i) (unit : ℕ)
           grown : (r l : ℕ) → (r + 1) * l ≡ r * l + l
           grown r l = omega arith
 
-  end_soon : (k : ℕ) → k < n → (place k).end ≤ MOST_JOBS * (1000000 * 2 ^ 30)
-  end_soon k l = omega (arith, end_is k l, mul-le (place k).rank (long (place k).machine) MOST_JOBS (1000000 * 2 ^ 30) (omega (arith, (is k l).few, h.few)) (short k l).1)
+  end_soon : (k : ℕ) → k < n → (place k).end ≤ greatest_end
+  end_soon k l = omega (arith, end_is k l, mul-le (place k).rank (long (place k).machine) MOST_JOBS greatest_length (omega (arith, (is k l).few, h.few)) (short k l).1)
 
   different : (x y : ℕ) → x < y → y < n → job x ≢ job y
   different x y l k e = unequal l (own.once x y (omega (arith, l, k)) k e)
@@ -213,7 +215,7 @@ module _ (crit : Crit) (i : Instance) (h : IsPlacesInstance crit i) (unit : ℕ)
     forward = subst (λ arcs. All (λ a. All (λ p. All (λ q. p.job ≡ a.before → q.job ≡ a.after → IsBefore p q) pieces) pieces) arcs)
         (sym h.arcs) (All-nil (λ (a : Arc). All (λ p. All (λ q. p.job ≡ a.before → q.job ≡ a.after → IsBefore p q) pieces) pieces));
     whole = all (IsWholeWork (kind_of i.class.env) i (pos unit)) whole;
-    ends = all (λ p. p.to ≤ℤ pos 10000000000000000000000000) (λ k l. pos-le (omega (arith, end_soon k l)));
+    ends = all (λ p. p.to ≤ℤ GREATEST_ANSWER_MOMENT) (λ k l. pos-le (omega (arith, end_soon k l)));
   }
     where
       spanned : (a b l : ℕ) → b ≡ a + l → 1 ≤ l → (pos 0 ≤ℤ pos a) × (pos a <ℤ pos b)

@@ -1,5 +1,5 @@
 -- Places that are taken in turn are the earliest.
-use Rattle.std.proofs.Common.{◌≡◌, ◌≢◌, ℕ, ◌+◌, ◌*◌, ◌-◌, ◌<◌, ◌≤◌, ◌^◌, inl, inr, Bool, true, false, eqb, List, [], ◌∷◌, ◌++◌, length, get_or, set, All, Contains, refl, sym, ap}
+use Rattle.std.proofs.Common.{◌≡◌, ◌≢◌, ℕ, ◌+◌, ◌*◌, ◌-◌, ◌<◌, ◌≤◌, inl, inr, Bool, true, false, eqb, List, [], ◌∷◌, ◌++◌, length, get_or, set, All, Contains, refl, sym, ap}
 use Rattle.std.proofs.Common.{ap₂, subst, subst₂, ◌∙◌, arith}
 use Rattle.std.proofs.lemmas.Bool.{cases_lt, eqb-true, eqb-false}
 use Rattle.std.proofs.lemmas.Nat.{mul-le}
@@ -12,6 +12,7 @@ use Rattle.msp_schedule.proofs.feasible.Series.{AllPairs-append}
 use Rattle.msp_places.specs.declared.place.Place.{Place}
 use Rattle.msp_places.specs.Places.{place_on, IsPlace, ComesFirst, AreEarliest, no_place, place_at}
 use Rattle.msp_places.specs.Taken.{IsFirstPlace, AreFirst, behind, TakesTurn, AreTaken}
+use Rattle.msp_places.specs.Bounds.{greatest_length, greatest_end}
 
 -- ---- the place that ends first
 -- of the first places of a list
@@ -61,7 +62,7 @@ first_all lengths k first e h = record { count = h.many ∙ e; each = λ m l. h.
 
 -- ---- the order of places
 abbrev pub AreShort : List ℕ → Type 0
-AreShort lengths = All (λ l. (1 ≤ l) × (l ≤ 1000000 * 2 ^ 30)) lengths
+AreShort lengths = All (λ l. (1 ≤ l) × (l ≤ greatest_length)) lengths
 
 later_rank : (lengths : List ℕ) (m a b : ℕ) → 1 ≤ get_or lengths m 0 → a < b → (place_on lengths m a).end < (place_on lengths m b).end
 later_rank lengths m a b some h = by (get_or lengths m 0) some
@@ -250,13 +251,13 @@ ranks_small lengths turn taken next h l k d b =
     omega (arith, h.taken_are.few k inside, h.count, l, ap (λ (p : Place). p.rank) (get_or_default next k d no_place b))
 
 pub ends_small : (lengths : List ℕ) → AreShort lengths → (turn : ℕ) (taken next : List Place) → HasTaken lengths turn taken next → turn < MOST_JOBS
-    → All (λ p. p.end ≤ MOST_JOBS * 1000000 * 2 ^ 30) next
+    → All (λ p. p.end ≤ greatest_end) next
 ends_small lengths short turn taken next h l k d b =
     let inside : k < length lengths = omega (arith, b, h.taken_are.count) in
     omega (
       arith,
       ap (λ (p : Place). p.end) (get_or_default next k d no_place b ∙ h.taken_are.places k inside),
-      mul-le (place_at next k).rank (get_or lengths k 0) MOST_JOBS (1000000 * 2 ^ 30) (omega (arith, h.taken_are.few k inside, h.count, l)) (short k 0 inside).1,
+      mul-le (place_at next k).rank (get_or lengths k 0) MOST_JOBS greatest_length (omega (arith, h.taken_are.few k inside, h.count, l)) (short k 0 inside).1,
     )
 
 pub earliest_at_end : (lengths : List ℕ) → AreShort lengths → (n turn : ℕ) (taken next : List Place) → HasTaken lengths turn taken next → turn ≡ n

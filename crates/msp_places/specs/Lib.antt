@@ -1,4 +1,5 @@
 pub mod Classes
+pub mod Bounds
 pub mod Places
 pub mod Placed
 pub mod Taken

@@ -13,6 +13,7 @@ ghost use Rattle.msp_instance.specs.Conditions.{Inner};
 ghost use Rattle.msp_instance.specs.Multiples.{IsLeastOfAll};
 ghost use Rattle.msp_places.specs.Places.{AreEarliest, AreEarliestPlaces};
 ghost use Rattle.msp_places.specs.Taken.{IsFirstPlace, AreFirst, behind, TakesTurn};
+ghost use Rattle.msp_places.specs.Bounds.{greatest_end, greatest_length};
 
 use crate::place::Place;
 use msp_class::NoMemory;
@@ -68,8 +69,8 @@ fn earliest_of(next: &[Place]) -> usize
 /// The place behind one on its machine, where a job takes the time.
 fn behind(place: Place, length: u64) -> Place
     requires rank { place.rank ≤ MOST_JOBS }
-    requires end { place.end ≤ MOST_JOBS * GREATEST_EQUAL_TIME * GREATEST_MULTIPLE }
-    requires length { length ≤ GREATEST_EQUAL_TIME * GREATEST_MULTIPLE }
+    requires end { place.end ≤ greatest_end }
+    requires length { length ≤ greatest_length }
     ensures { result ≡ behind place length }
 {
     Place {
@@ -85,8 +86,8 @@ fn take_turn(next: &mut Vec<Place>, lengths: &[u64]) -> Place
     requires some { 0 < length lengths.now }
     requires same { length next.old.items ≡ length lengths.now }
     requires ranks { All (λ p. p.rank ≤ MOST_JOBS) next.old.items }
-    requires ends { All (λ p. p.end ≤ MOST_JOBS * GREATEST_EQUAL_TIME * GREATEST_MULTIPLE) next.old.items }
-    requires lengths { All (λ l. l ≤ GREATEST_EQUAL_TIME * GREATEST_MULTIPLE) lengths.now }
+    requires ends { All (λ p. p.end ≤ greatest_end) next.old.items }
+    requires lengths { All (λ l. l ≤ greatest_length) lengths.now }
     ensures { TakesTurn lengths.now next.old.items result next.new.items }
 {
     let machine = earliest_of(next);
@@ -99,7 +100,7 @@ fn take_turn(next: &mut Vec<Place>, lengths: &[u64]) -> Place
 fn places_by(alloc: Global, lengths: &[u64], count: usize) -> Result<Vec<Place>, NoMemory>
     requires some { 0 < length lengths.now }
     requires few { length lengths.now ≤ MOST_MACHINES }
-    requires lengths { All (λ l. (1 ≤ l) × (l ≤ GREATEST_EQUAL_TIME * GREATEST_MULTIPLE)) lengths.now }
+    requires lengths { All (λ l. (1 ≤ l) × (l ≤ greatest_length)) lengths.now }
     requires count { count ≤ MOST_JOBS }
     ensures { IfOk result (λ places. AreEarliest lengths.now count places.items) }
 {

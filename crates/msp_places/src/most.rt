@@ -8,9 +8,9 @@
 //
 // Best (`proofs/MostBest.antt`): at the k-th place k jobs are left. In any schedule they have places of their own among the earliest ones,
 // so one of them has the k-th or a later one, and does not end before it. There it costs no less than the job chosen.
-ghost use Rattle.std.specs.Prelude.{◌≡◌, ◌*◌, ◌<◌, ◌≤◌, ◌⊎◌, length, slice_index_or, All, IfOk, IsPermutation};
+ghost use Rattle.std.specs.Prelude.{◌≡◌, ◌<◌, ◌≤◌, ◌⊎◌, length, slice_index_or, All, IfOk, IsPermutation};
 ghost use Rattle.std.specs.List.{range_with_len};
-ghost use Rattle.msp_class.specs.declared.sizes.TheConstants.{MOST_JOBS, GREATEST_MULTIPLE, GREATEST_EQUAL_TIME};
+ghost use Rattle.msp_class.specs.declared.sizes.TheConstants.{GREATEST_MULTIPLE};
 ghost use Rattle.msp_instance.specs.Conditions.{Inner};
 ghost use Rattle.msp_instance.specs.Multiples.{IsLeastOfAll};
 ghost use Rattle.msp_schedule.specs.Cost.{IsBest};
@@ -19,6 +19,7 @@ ghost use Rattle.msp_places.specs.Classes.{places_most_class};
 ghost use Rattle.msp_places.specs.Placed.{placed};
 ghost use Rattle.msp_places.specs.Most.{cost_in, IsCheapest, IsOrderByCost, ArePlacedByCost, IsByCost};
 ghost use Rattle.msp_places.specs.Search.{Precedes, IsCandidate};
+ghost use Rattle.msp_places.specs.Bounds.{greatest_end};
 
 use crate::earliest::earliest_places;
 use crate::place::{Place, piece_in};
@@ -44,7 +45,7 @@ fn price(inst: &Instance, unit: u64, job: u32, end: u64) -> i128
     requires class { inst.now.class ≡ places_most_class }
     requires unit { (1 ≤ unit) × (unit ≤ GREATEST_MULTIPLE) }
     requires inside { job < length inst.now.jobs }
-    requires end { end ≤ MOST_JOBS * GREATEST_EQUAL_TIME * GREATEST_MULTIPLE }
+    requires end { end ≤ greatest_end }
     ensures { result ≡ cost_in inst.now unit end job }
 {
     job_cost_at(
@@ -83,7 +84,7 @@ fn candidate_at(inst: &Instance, unit: u64, left: &[u32], place: usize, end: u64
     requires unit { (1 ≤ unit) × (unit ≤ GREATEST_MULTIPLE) }
     requires inside { All (λ j. j < length inst.now.jobs) left.now }
     requires place { place < length left.now }
-    requires end { end ≤ MOST_JOBS * GREATEST_EQUAL_TIME * GREATEST_MULTIPLE }
+    requires end { end ≤ greatest_end }
     ensures { IsCandidate inst.now unit end left.now place result }
 {
     let job = left[place];
@@ -98,7 +99,7 @@ fn cheapest(inst: &Instance, unit: u64, left: &[u32], end: u64) -> usize
     requires unit { (1 ≤ unit) × (unit ≤ GREATEST_MULTIPLE) }
     requires inside { All (λ j. j < length inst.now.jobs) left.now }
     requires some { 0 < length left.now }
-    requires end { end ≤ MOST_JOBS * GREATEST_EQUAL_TIME * GREATEST_MULTIPLE }
+    requires end { end ≤ greatest_end }
     ensures place { result < length left.now }
     ensures cheapest { IsCheapest inst.now unit end left.now (slice_index_or left.now result 0) }
 {
@@ -116,7 +117,7 @@ fn put_in_order(inst: &Instance, unit: u64, places: &[Place], order: &mut [u32])
     requires class { inst.now.class ≡ places_most_class }
     requires unit { (1 ≤ unit) × (unit ≤ GREATEST_MULTIPLE) }
     requires places { length places.now ≡ length order.old }
-    requires ends { All (λ p. p.end ≤ MOST_JOBS * GREATEST_EQUAL_TIME * GREATEST_MULTIPLE) places.now }
+    requires ends { All (λ p. p.end ≤ greatest_end) places.now }
     requires all { IsPermutation (range_with_len 0 (length inst.now.jobs)) order.old }
     ensures { IsOrderByCost inst.now unit places.now order.new }
 {
@@ -140,7 +141,7 @@ fn order_by_cost(
     requires class { inst.now.class ≡ places_most_class }
     requires unit { (1 ≤ unit) × (unit ≤ GREATEST_MULTIPLE) }
     requires places { length places.now ≡ length inst.now.jobs }
-    requires ends { All (λ p. p.end ≤ MOST_JOBS * GREATEST_EQUAL_TIME * GREATEST_MULTIPLE) places.now }
+    requires ends { All (λ p. p.end ≤ greatest_end) places.now }
     ensures { IfOk result (λ order. IsOrderByCost inst.now unit places.now order.items) }
 {
     let mut order = all_jobs(alloc, inst.jobs.len())?;
