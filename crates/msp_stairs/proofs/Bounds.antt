@@ -30,7 +30,7 @@ use Rattle.msp_route.specs.Halving.{IsLeastBound, IsRange}
 use Rattle.msp_stairs.specs.declared.climb.Stair.{Stair}
 use Rattle.msp_stairs.specs.declared.climb.Task.{Task}
 use Rattle.msp_stairs.specs.Stairs.{stairs_class, IsForced, HasTwoPiecesAtMost}
-use Rattle.msp_stairs.specs.Bounds.{greatest_bound, CanMeet, at, work_at, deadline, AreByDate, IsReady}
+use Rattle.msp_stairs.specs.Bounds.{greatest_bound, CanMeet, at, work_at, deadline, AreByDate, IsReady, latest_deadline}
 use Rattle.msp_stairs.specs.Steps.{machines_of, ends_of, Falls, of_all, of_first, IsBelow, level, HasClimbed, IsClimbed, IsTooLate, task_for, IsLaid}
 use Rattle.msp_stairs.proofs.Climbing.{Falls-none, AreBacked-none}
 use Rattle.msp_stairs.proofs.Steps.{CanLay, HasClimbed-next, IsTooLate-found}
@@ -270,7 +270,7 @@ module _ (i : Instance) (order : List ℕ) (r : IsReady i order) where
   pub few_order : length order ≤ MOST_JOBS
   few_order = omega (arith, length-OnceBelow once, h.few)
 
-  pub time_short : (j : ℕ) → j < n → time_at i j ≤ (MOST_JOBS * GREATEST)
+  pub time_short : (j : ℕ) → j < n → time_at i j ≤ MOST_JOBS * GREATEST
   time_short j l = let t = (time_some i h j l).1 in omega (arith, t)
 
   pub range_is : (low high : ℤ) → low ≡ pos m *ℤ (pos (time_at i (at order 0)) -ℤ (job_at i (at order 0)).due)
@@ -323,5 +323,5 @@ module _ (i : Instance) (order : List ℕ) (r : IsReady i order) (bound : ℤ) (
       subst₂ (λ u b. IsSolved i (record { unit = u; pieces = ps }) b u) (sym (ap held e ∙ kept (pos i.machines) (few i.machines (h i order r).machines))) (sym (bound_kept bound size))
       (plainly ps (subst (λ b. IsClimbed i order b ps) (bound_kept bound size) made))
     where
-      few : (q : ℕ) → q ≤ MOST_MACHINES → LiesWithin 30000000000000 (pos q)
+      few : (q : ℕ) → q ≤ MOST_MACHINES → LiesWithin latest_deadline (pos q)
       few q l = (omega (arith, ints), omega (arith, ints, l))

@@ -8,7 +8,7 @@ use Rattle.std.proofs.lemmas.Bool.{cases_lt}
 use Rattle.std.proofs.lemmas.List.{get_or_default}
 use Rattle.std.proofs.lemmas.List.Elements.{All-filter, All-contains}
 use Rattle.std.proofs.Math.Nat.{mul-le-mul_right}
-use Rattle.msp_class.specs.declared.sizes.TheConstants.{MOST_MACHINES}
+use Rattle.msp_class.specs.declared.sizes.TheConstants.{MOST_MACHINES, GREATEST}
 use Rattle.msp_class.specs.declared.environments.EnvKind.{EnvKind}
 use Rattle.msp_class.specs.declared.environments.EnvKind.TheVariants.{Identical}
 use Rattle.msp_class.specs.Crit.{is_greatest}
@@ -34,7 +34,7 @@ use Rattle.msp_schedule.proofs.costs.Charges.{cost_of-least}
 use Rattle.msp_route.specs.Bounds.{IsAnswer, answer_unit}
 use Rattle.msp_stairs.specs.declared.climb.Stair.{Stair}
 use Rattle.msp_stairs.specs.Stairs.{stairs_class, HasTwoPiecesAtMost}
-use Rattle.msp_stairs.specs.Bounds.{greatest_bound, CanMeet, work_at, deadline, at}
+use Rattle.msp_stairs.specs.Bounds.{greatest_bound, CanMeet, work_at, deadline, at, greatest_date, latest_deadline}
 use Rattle.msp_stairs.specs.Steps.{HasClimbed, IsClimbed}
 use Rattle.msp_stairs.proofs.Pieces.{count-none}
 use Rattle.msp_stairs.proofs.Steps.{CanLay}
@@ -72,17 +72,17 @@ product-small m x c l h = (low, high)
         turned a b l = omega (arith, ints, l)
 
 -- a due date, times the number of machines and with a bound
-pub due-within : (i : Instance) → IsOfClass i stairs_class → (j : ℕ) → j < length i.jobs → LiesWithin 64000000000 (pos i.machines *ℤ (job_at i j).due)
-due-within i h j l = product-small i.machines (job_at i j).due 2000000000 h.machines (h.jobs j no_job l).due
+pub due-within : (i : Instance) → IsOfClass i stairs_class → (j : ℕ) → j < length i.jobs → LiesWithin greatest_date (pos i.machines *ℤ (job_at i j).due)
+due-within i h j l = product-small i.machines (job_at i j).due (2 * GREATEST) h.machines (h.jobs j no_job l).due
 
-pub deadline-small : (i : Instance) → IsOfClass i stairs_class → (bound : ℤ) → LiesWithin greatest_bound bound → (j : ℕ) → j < length i.jobs → deadline i bound j ≤ 20064000000000
+pub deadline-small : (i : Instance) → IsOfClass i stairs_class → (bound : ℤ) → LiesWithin greatest_bound bound → (j : ℕ) → j < length i.jobs → deadline i bound j ≤ latest_deadline
 deadline-small i h bound small j l = by ((pos i.machines *ℤ (job_at i j).due) +ℤ bound) (added (pos i.machines *ℤ (job_at i j).due) bound (due-within i h j l).1 small.1)
   where
-    added : (x y : ℤ) → x ≤ℤ pos 64000000000 → y ≤ℤ pos 20000000000000 → (x +ℤ y) ≤ℤ pos 20064000000000
+    added : (x y : ℤ) → x ≤ℤ pos greatest_date → y ≤ℤ pos greatest_bound → (x +ℤ y) ≤ℤ pos latest_deadline
     added x y h k = omega (arith, ints, h, k)
 
-    by : (z : ℤ) → z ≤ℤ pos 20064000000000 → nat_abs (int_max (pos 0) z) ≤ 20064000000000
-    by z l = le-pos (subst (λ x. x ≤ℤ pos 20064000000000) (natural (int_max (pos 0) z) (≤ℤ-int_max_left (pos 0) z)) (int_max-least (omega (arith, ints)) l))
+    by : (z : ℤ) → z ≤ℤ pos latest_deadline → nat_abs (int_max (pos 0) z) ≤ latest_deadline
+    by z l = le-pos (subst (λ x. x ≤ℤ pos latest_deadline) (natural (int_max (pos 0) z) (≤ℤ-int_max_left (pos 0) z)) (int_max-least (omega (arith, ints)) l))
 
 module _ (i : Instance) (h : IsOfClass i stairs_class) (order : List ℕ) (bound : ℤ) (can : CanLay i order bound) (ps : List Piece) (made : IsClimbed i order bound ps) where
   abbrev n : ℕ
@@ -190,11 +190,11 @@ module _ (i : Instance) (h : IsOfClass i stairs_class) (order : List ℕ) (bound
 
   -- ---- bounds
   module _ (small : LiesWithin greatest_bound bound) where
-    moments : All (λ p. p.to ≤ℤ pos 20064000000000) ps
+    moments : All (λ p. p.to ≤ℤ pos latest_deadline) ps
     moments k d l = by (get_or ps k d) (c.on_stairs.timed k d l) (omega (arith, c.worked.ends k d l, deadline-small i h bound small (get_or ps k d).job (job_inside k d l)))
       where
-        by : (p : Piece) → IsTimed p → finish p ≤ 20064000000000 → p.to ≤ℤ pos 20064000000000
-        by p t l = subst (λ x. x ≤ℤ pos 20064000000000) (sym t.to) (pos-le l)
+        by : (p : Piece) → IsTimed p → finish p ≤ latest_deadline → p.to ≤ℤ pos latest_deadline
+        by p t l = subst (λ x. x ≤ℤ pos latest_deadline) (sym t.to) (pos-le l)
 
     pub is_answer : IsAnswer i s
     is_answer = record {

@@ -1,5 +1,5 @@
 -- Deadlines and bounds as the code computes them.
-use Rattle.std.proofs.Common.{◌≡◌, ℕ, ◌*◌, ◌<◌, ◌≤◌, List, length, get_or, ℤ, pos, nat_abs, ◌+ℤ◌, ◌-ℤ◌, ◌*ℤ◌, ◌≤ℤ◌, FitsSigned, to_z, of_z, sym, ap, ap₂, subst, ◌∙◌, arith}
+use Rattle.std.proofs.Common.{◌≡◌, ℕ, ◌+◌, ◌*◌, ◌<◌, ◌≤◌, List, length, get_or, ℤ, pos, nat_abs, ◌+ℤ◌, ◌-ℤ◌, ◌*ℤ◌, ◌≤ℤ◌, FitsSigned, to_z, of_z, sym, ap, ap₂, subst, ◌∙◌, arith}
 use Rattle.std.specs.Int.{int_max, w64, w128}
 use Rattle.std.proofs.lemmas.Int.{ints, to_z-of_z}
 use Rattle.std.proofs.lemmas.List.{get_or_default}
@@ -10,7 +10,7 @@ use Rattle.msp_instance.specs.Instance.{job_at, no_job, no_need}
 use Rattle.msp_instance.specs.Conditions.{LiesWithin}
 use Rattle.msp_schedule.proofs.feasible.OfClass.{IsOfClass}
 use Rattle.msp_stairs.specs.Stairs.{stairs_class}
-use Rattle.msp_stairs.specs.Bounds.{greatest_bound}
+use Rattle.msp_stairs.specs.Bounds.{greatest_bound, greatest_date, latest_deadline}
 use Rattle.msp_stairs.specs.declared.climb.Task.{Task}
 use Rattle.msp_stairs.specs.Steps.{task_for}
 use Rattle.msp_stairs.proofs.Schedules.{product-small}
@@ -19,61 +19,58 @@ use Rattle.msp_stairs.proofs.Schedules.{product-small}
 abbrev pub held : ℤ → ℤ
 held x = to_z w128 (of_z w128 x)
 
-pub fits : (x : ℤ) → LiesWithin 30000000000000 x → FitsSigned w128 x
+pub fits : (x : ℤ) → LiesWithin latest_deadline x → FitsSigned w128 x
 fits x h = omega (arith, ints, h.0, h.1)
 
-pub kept : (x : ℤ) → LiesWithin 30000000000000 x → held x ≡ x
+pub kept : (x : ℤ) → LiesWithin latest_deadline x → held x ≡ x
 kept x h = to_z-of_z w128 x (fits x h)
 
 wider : (a b : ℕ) (x : ℤ) → a ≤ b → LiesWithin a x → LiesWithin b x
 wider a b x l h = (omega (arith, ints, l, h.0), omega (arith, ints, l, h.1))
 
-count_within : (m : ℕ) → m ≤ MOST_MACHINES → LiesWithin 30000000000000 (pos m)
+count_within : (m : ℕ) → m ≤ MOST_MACHINES → LiesWithin latest_deadline (pos m)
 count_within m l = (omega (arith, ints), omega (arith, ints, l))
 
 -- a date as 64 bits hold it
-pub date_kept : (d : ℤ) → LiesWithin 2000000000 d → to_z w64 (of_z w64 d) ≡ d
+pub date_kept : (d : ℤ) → LiesWithin (2 * GREATEST) d → to_z w64 (of_z w64 d) ≡ d
 date_kept d h = to_z-of_z w64 d (omega (arith, ints, h.0, h.1))
 
-pub date_held : (d : ℤ) → LiesWithin 2000000000 d → LiesWithin 2000000000 (to_z w64 (of_z w64 d))
-date_held d h = subst (LiesWithin 2000000000) (sym (date_kept d h)) h
+pub date_held : (d : ℤ) → LiesWithin (2 * GREATEST) d → LiesWithin (2 * GREATEST) (to_z w64 (of_z w64 d))
+date_held d h = subst (LiesWithin (2 * GREATEST)) (sym (date_kept d h)) h
 
 -- the moment of a deadline
-module _ (x y z : ℤ) (m : ℕ) (d : ℤ) (e : x ≡ pos m) (f : y ≡ d) (few : m ≤ MOST_MACHINES) (date : LiesWithin 2000000000 d) (bound : LiesWithin greatest_bound z) where
-  product : LiesWithin 64000000000 (pos m *ℤ d)
-  product = product-small m d 2000000000 few date
+module _ (x y z : ℤ) (m : ℕ) (d : ℤ) (e : x ≡ pos m) (f : y ≡ d) (few : m ≤ MOST_MACHINES) (date : LiesWithin (2 * GREATEST) d) (bound : LiesWithin greatest_bound z) where
+  product : LiesWithin greatest_date (pos m *ℤ d)
+  product = product-small m d (2 * GREATEST) few date
 
-  total_within : LiesWithin 20064000000000 ((pos m *ℤ d) +ℤ z)
+  total_within : LiesWithin latest_deadline ((pos m *ℤ d) +ℤ z)
   total_within = added (pos m *ℤ d) z product bound
     where
-      added : (a b : ℤ) → LiesWithin 64000000000 a → LiesWithin 20000000000000 b → LiesWithin 20064000000000 (a +ℤ b)
+      added : (a b : ℤ) → LiesWithin greatest_date a → LiesWithin greatest_bound b → LiesWithin latest_deadline (a +ℤ b)
       added a b h k = (omega (arith, ints, h.0, k.0), omega (arith, ints, h.1, k.1))
 
   factors : (held x *ℤ held y) ≡ (pos m *ℤ d)
-  factors = ap₂ (λ u v. u *ℤ v) (ap held e ∙ kept (pos m) (count_within m few)) (ap held f ∙ kept d (wider 2000000000 30000000000000 d (omega arith) date))
+  factors = ap₂ (λ u v. u *ℤ v) (ap held e ∙ kept (pos m) (count_within m few)) (ap held f ∙ kept d (wider (2 * GREATEST) latest_deadline d (omega arith) date))
 
   pub moment_is : (held (held x *ℤ held y) +ℤ held z) ≡ ((pos m *ℤ d) +ℤ z)
-  moment_is = ap₂ (λ u v. u +ℤ v) (ap held factors ∙ kept (pos m *ℤ d) (wider 64000000000 30000000000000 (pos m *ℤ d) (omega arith) product))
-      (kept z (wider 20000000000000 30000000000000 z (omega arith) bound))
+  moment_is = ap₂ (λ u v. u +ℤ v) (ap held factors ∙ kept (pos m *ℤ d) (wider greatest_date latest_deadline (pos m *ℤ d) (omega arith) product))
+      (kept z (wider greatest_bound latest_deadline z (omega arith) bound))
 
   pub moment_fits : FitsSigned w128 (held (held x *ℤ held y) +ℤ held z)
-  moment_fits = subst (FitsSigned w128) (sym moment_is) (fits ((pos m *ℤ d) +ℤ z) (wider 20064000000000 30000000000000 ((pos m *ℤ d) +ℤ z) (omega arith) total_within))
+  moment_fits = subst (FitsSigned w128) (sym moment_is) (fits ((pos m *ℤ d) +ℤ z) total_within)
 
   pub moment_held : held (held (held x *ℤ held y) +ℤ held z) ≡ ((pos m *ℤ d) +ℤ z)
-  moment_held = ap held moment_is ∙ kept ((pos m *ℤ d) +ℤ z) (wider 20064000000000 30000000000000 ((pos m *ℤ d) +ℤ z) (omega arith) total_within)
+  moment_held = ap held moment_is ∙ kept ((pos m *ℤ d) +ℤ z) total_within
 
-  pub moment_small : held (held (held x *ℤ held y) +ℤ held z) ≤ℤ pos 9223372036854775808
-  moment_small = subst (λ v. v ≤ℤ pos 9223372036854775808) (sym moment_held) (over ((pos m *ℤ d) +ℤ z) total_within.1)
-    where
-      over : (v : ℤ) → v ≤ℤ pos 20064000000000 → v ≤ℤ pos 9223372036854775808
-      over v h = omega (arith, ints, h)
+  pub moment_small : held (held (held x *ℤ held y) +ℤ held z) ≤ℤ pos latest_deadline
+  moment_small = subst (λ v. v ≤ℤ pos latest_deadline) (sym moment_held) total_within.1
 
 -- a job as it is read
 pub job_read : (i : Instance) (jobs : List Job) (k : ℕ) (job : Job) → jobs ≡ i.jobs → k < length i.jobs → job ≡ get_or jobs k job → job ≡ job_at i k
 job_read i jobs k job e l at = at ∙ get_or_default jobs k job no_job (subst (λ n. k < n) (sym (ap length e)) l) ∙ ap (λ xs. get_or xs k no_job) e
 
-pub date_read : (i : Instance) → IsOfClass i stairs_class → (k : ℕ) (job : Job) → k < length i.jobs → job ≡ job_at i k → LiesWithin 2000000000 job.due
-date_read i h k job l e = subst (λ j. LiesWithin 2000000000 j.due) (sym e) (h.jobs k no_job l).due
+pub date_read : (i : Instance) → IsOfClass i stairs_class → (k : ℕ) (job : Job) → k < length i.jobs → job ≡ job_at i k → LiesWithin (2 * GREATEST) job.due
+date_read i h k job l e = subst (λ j. LiesWithin (2 * GREATEST) j.due) (sym e) (h.jobs k no_job l).due
 
 pub task_read : (i : Instance) (bound : ℤ) (k m t due : ℕ) (job : Job)
     → job ≡ job_at i k → m ≡ i.machines → t ≡ (get_or job.needs 0 no_need).time → due ≡ nat_abs (int_max (pos 0) ((pos i.machines *ℤ job.due) +ℤ bound))
@@ -85,24 +82,30 @@ task_read i bound k m t due job e f g h =
     made a b = record { job = k; time = a; due = b }
 
 -- the ends of the range of bounds
-module _ (x t d : ℤ) (m time : ℕ) (due : ℤ) (e : x ≡ pos m) (f : t ≡ pos time) (g : d ≡ due) (few : m ≤ MOST_MACHINES) (short : time ≤ (MOST_JOBS * GREATEST)) (date : LiesWithin 2000000000 due) where
-  lateness : LiesWithin 402000000000 (pos time -ℤ due)
+abbrev greatest_lateness : ℕ
+greatest_lateness = MOST_JOBS * GREATEST + 2 * GREATEST
+
+module _ (x t d : ℤ) (m time : ℕ) (due : ℤ) (e : x ≡ pos m) (f : t ≡ pos time) (g : d ≡ due)
+    (few : m ≤ MOST_MACHINES) (short : time ≤ MOST_JOBS * GREATEST) (date : LiesWithin (2 * GREATEST) due) where
+  lateness : LiesWithin greatest_lateness (pos time -ℤ due)
   lateness = (omega (arith, ints, short, date.1), omega (arith, ints, short, date.0))
 
-  scaled : LiesWithin 12864000000000 (pos m *ℤ (pos time -ℤ due))
-  scaled = product-small m (pos time -ℤ due) 402000000000 few lateness
+  scaled : LiesWithin (MOST_MACHINES * greatest_lateness) (pos m *ℤ (pos time -ℤ due))
+  scaled = product-small m (pos time -ℤ due) greatest_lateness few lateness
 
   less : (held t -ℤ held d) ≡ (pos time -ℤ due)
-  less = ap₂ (λ u v. u -ℤ v) (ap held f ∙ kept (pos time) (omega (arith, ints), omega (arith, ints, short))) (ap held g ∙ kept due (wider 2000000000 30000000000000 due (omega arith) date))
+  less = ap₂ (λ u v. u -ℤ v) (ap held f ∙ kept (pos time) (omega (arith, ints), omega (arith, ints, short))) (ap held g ∙ kept due (wider (2 * GREATEST) latest_deadline due (omega arith) date))
 
   scaled_is : (held x *ℤ held (held t -ℤ held d)) ≡ (pos m *ℤ (pos time -ℤ due))
-  scaled_is = ap₂ (λ u v. u *ℤ v) (ap held e ∙ kept (pos m) (count_within m few)) (ap held less ∙ kept (pos time -ℤ due) (wider 402000000000 30000000000000 (pos time -ℤ due) (omega arith) lateness))
+  scaled_is = ap₂ (λ u v. u *ℤ v) (ap held e ∙ kept (pos m) (count_within m few))
+      (ap held less ∙ kept (pos time -ℤ due) (wider greatest_lateness latest_deadline (pos time -ℤ due) (omega arith) lateness))
 
   pub scaled_fits : FitsSigned w128 (held x *ℤ held (held t -ℤ held d))
-  scaled_fits = subst (FitsSigned w128) (sym scaled_is) (fits (pos m *ℤ (pos time -ℤ due)) (wider 12864000000000 30000000000000 (pos m *ℤ (pos time -ℤ due)) (omega arith) scaled))
+  scaled_fits = subst (FitsSigned w128) (sym scaled_is)
+      (fits (pos m *ℤ (pos time -ℤ due)) (wider (MOST_MACHINES * greatest_lateness) latest_deadline (pos m *ℤ (pos time -ℤ due)) (omega arith) scaled))
 
   pub scaled_held : held (held x *ℤ held (held t -ℤ held d)) ≡ (pos m *ℤ (pos time -ℤ due))
-  scaled_held = ap held scaled_is ∙ kept (pos m *ℤ (pos time -ℤ due)) (wider 12864000000000 30000000000000 (pos m *ℤ (pos time -ℤ due)) (omega arith) scaled)
+  scaled_held = ap held scaled_is ∙ kept (pos m *ℤ (pos time -ℤ due)) (wider (MOST_MACHINES * greatest_lateness) latest_deadline (pos m *ℤ (pos time -ℤ due)) (omega arith) scaled)
 
   pub scaled_small : LiesWithin greatest_bound (held (held x *ℤ held (held t -ℤ held d)))
-  scaled_small = subst (LiesWithin greatest_bound) (sym scaled_held) (wider 12864000000000 20000000000000 (pos m *ℤ (pos time -ℤ due)) (omega arith) scaled)
+  scaled_small = subst (LiesWithin greatest_bound) (sym scaled_held) (wider (MOST_MACHINES * greatest_lateness) greatest_bound (pos m *ℤ (pos time -ℤ due)) (omega arith) scaled)

@@ -1,7 +1,8 @@
 -- Bounds on the greatest lateness, times the number of machines. No public contract cites this file.
-use Rattle.std.specs.Prelude.{◌≡◌, ℕ, ◌*◌, ◌^◌, List, length, ℤ, pos, nat_abs, ◌+ℤ◌, ◌*ℤ◌, ◌≤ℤ◌, AllPairs, IsPermutation, slice_index_or}
+use Rattle.std.specs.Prelude.{◌≡◌, ℕ, ◌+◌, ◌*◌, ◌^◌, List, length, ℤ, pos, nat_abs, ◌+ℤ◌, ◌*ℤ◌, ◌≤ℤ◌, AllPairs, IsPermutation, slice_index_or}
 use Rattle.std.specs.List.{range_with_len}
 use Rattle.std.specs.Int.{int_max}
+use Rattle.msp_class.specs.declared.sizes.TheConstants.{MOST_MACHINES, GREATEST}
 use Rattle.msp_instance.specs.declared.Instance.{Instance}
 use Rattle.msp_instance.specs.Instance.{job_at}
 use Rattle.msp_instance.specs.Conditions.{Inner}
@@ -14,6 +15,13 @@ use Rattle.msp_stairs.specs.Stairs.{stairs_class}
 -- No bound is greater in size: all jobs together take less, and no due date is further away. At least MOST_MACHINES * (MOST_JOBS + 2) * GREATEST.
 abbrev pub greatest_bound : ℕ
 greatest_bound = 2 * 10 ^ 13
+
+-- The greatest size of a due date, over the number of machines, and the latest deadline for a bound.
+abbrev pub greatest_date : ℕ
+greatest_date = MOST_MACHINES * (2 * GREATEST)
+
+abbrev pub latest_deadline : ℕ
+latest_deadline = greatest_date + greatest_bound
 
 -- Some feasible schedule has at most the lateness.
 abbrev pub CanMeet : Instance → ℤ → Type 0

@@ -1,5 +1,5 @@
 // Jobs by due date, laid on the stairs of the machines.
-ghost use Rattle.std.specs.Prelude.{◌≡◌, ◌+◌, ◌*◌, ◌^◌, ◌<◌, ◌≤◌, ◌++◌, ltb, length, pos, nat_abs, ◌+ℤ◌, ◌*ℤ◌, ◌≤ℤ◌, IfOk, MatchOption, OnOk, slice_index_or};
+ghost use Rattle.std.specs.Prelude.{◌≡◌, ◌+◌, ◌*◌, ◌<◌, ◌≤◌, ◌++◌, ltb, length, pos, nat_abs, ◌+ℤ◌, ◌*ℤ◌, ◌≤ℤ◌, IfOk, MatchOption, OnOk, slice_index_or};
 ghost use Rattle.std.specs.Int.{int_max};
 ghost use Rattle.msp_class.specs.declared.sizes.TheConstants.{MOST_MACHINES, GREATEST};
 ghost use Rattle.msp_instance.specs.Conditions.{Inner, LiesWithin};
@@ -29,7 +29,7 @@ pub struct Task {
 
 /// The number, and 0 for one below it.
 fn natural_part(number: &i128) -> u64
-    requires { number.now ≤ℤ pos (2 ^ 63) }
+    requires { number.now ≤ℤ pos u64.MAX }
     ensures { result ≡ nat_abs (int_max (pos 0) number.now) }
 {
     (*number).max(0) as u64
