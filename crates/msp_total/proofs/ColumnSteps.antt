@@ -1,5 +1,5 @@
 -- Steps of the loops over times, and over jobs and their columns.
-use Rattle.std.proofs.Common.{◌≡◌, ℕ, ◌+◌, ◌*◌, ◌-◌, ◌/◌, ◌%◌, ◌<◌, ◌≤◌, ◌^◌, Bool, true, false, eqb, leb, List, [], ◌∷◌, ◌++◌, length, get_or, map, All, IsPermutation, refl, sym}
+use Rattle.std.proofs.Common.{◌≡◌, ℕ, ◌+◌, ◌*◌, ◌-◌, ◌/◌, ◌%◌, ◌<◌, ◌≤◌, Bool, true, false, eqb, leb, List, [], ◌∷◌, ◌++◌, length, get_or, map, All, IsPermutation, refl, sym}
 use Rattle.std.proofs.Common.{ap, subst, ◌∙◌, arith}
 use Rattle.std.specs.Prelude.{slice_index_or}
 use Rattle.std.specs.List.{range_with_len}
@@ -10,13 +10,13 @@ use Rattle.std.proofs.lemmas.List.{get_or_default, get_or-append_right, get_or_a
 use Rattle.std.proofs.lemmas.List.Elements.{All-push}
 use Rattle.std.proofs.lemmas.List.Sorted.{IsPermutation-map, All-permutation}
 use Rattle.std.proofs.Math.Nat.{mul-le-mul_right, mod-lt, div-mul-le_self}
-use Rattle.msp_class.specs.declared.sizes.TheConstants.{MOST_JOBS, GREATEST}
+use Rattle.msp_class.specs.declared.sizes.TheConstants.{MOST_JOBS, GREATEST, GREATEST_MULTIPLE}
 use Rattle.msp_class.proofs.IntegerRing.{pos-le}
 use Rattle.msp_instance.specs.declared.Job.{Job}
 use Rattle.msp_instance.specs.declared.Need.{Need}
 use Rattle.msp_instance.specs.declared.Instance.{Instance}
 use Rattle.msp_instance.specs.Instance.{no_need, no_job, job_at, need_at}
-use Rattle.msp_assign.specs.Prices.{HasCosts, column_of}
+use Rattle.msp_assign.specs.Prices.{HasCosts, column_of, greatest_cost}
 use Rattle.msp_total.specs.declared.positions.Positions.{Positions}
 use Rattle.msp_total.specs.declared.unrelated.Chosen.{Chosen}
 use Rattle.msp_total.specs.Positions.{time_in, position_cost}
@@ -78,7 +78,7 @@ pub costs_small : (p : Positions) → (1 ≤ p.jobs) × (p.jobs ≤ MOST_JOBS) �
 costs_small p h short r c l k = (
   pos-le none,
   pos-le (bound _ (mul-le (c % p.jobs + 1) (time_in p.machines p.times r (c / p.jobs))
-      MOST_JOBS (GREATEST * 2 ^ 30) (rest (c % p.jobs) (mod-lt c h.0)) (short r (c / p.jobs) l (machine_inside p.jobs p.machines c k)))),
+      MOST_JOBS (GREATEST * GREATEST_MULTIPLE) (rest (c % p.jobs) (mod-lt c h.0)) (short r (c / p.jobs) l (machine_inside p.jobs p.machines c k)))),
 )
   where
     none : 0 ≤ (c % p.jobs + 1) * time_in p.machines p.times r (c / p.jobs)
@@ -87,7 +87,7 @@ costs_small p h short r c l k = (
     rest : (x : ℕ) → x < p.jobs → x + 1 ≤ MOST_JOBS
     rest x g = omega (arith, h.1)
 
-    bound : (x : ℕ) → x ≤ MOST_JOBS * (GREATEST * 2 ^ 30) → x ≤ 2 ^ 100
+    bound : (x : ℕ) → x ≤ MOST_JOBS * (GREATEST * GREATEST_MULTIPLE) → x ≤ greatest_cost
     bound x g = omega (arith, g)
 
 -- ---- jobs and columns

@@ -2,19 +2,14 @@
 use Rattle.std.proofs.Common.{◌≡◌, ℕ, zero, suc, ◌+◌, ◌*◌, ◌-◌, ◌≤◌, ◌<◌, Bool, true, false, cond, eqb, arith, refl, sym, ap, subst, ◌∙◌, le_trans}
 use Rattle.std.proofs.Math.Nat.{mul-le-mul_right}
 use Rattle.msp_class.specs.Sums.{total_below}
+use Rattle.msp_class.proofs.FallingWeights.{abel}
 use Rattle.msp_class.proofs.Sums.{total_below-mono, total_below-same, total_below-add, total_below-constant, total_below-none, total_below-only, total_below-split, total_below-bound, cond-le}
+use Rattle.msp_schedule.proofs.lists.Places.{total_below-within}
 use Rattle.msp_schedule.proofs.lists.Positions.{distinct_pairs}
 use Rattle.msp_total.specs.Turns.{multiplier}
 use Rattle.msp_total.specs.Multipliers.{seats}
 
 -- ---- totals
--- a total over more numbers is no less
-pub total_below-longer : (f : ℕ → ℕ) (k n : ℕ) → k ≤ n → total_below k f ≤ total_below n f
-total_below-longer f k n l = omega (arith, ap (λ x. total_below x f) (whole k n l), total_below-split k (n - k) f)
-  where
-    whole : (k n : ℕ) → k ≤ n → n ≡ k + (n - k)
-    whole k n l = omega arith
-
 -- where all later terms are 0, the total over fewer is the whole
 total_below-ends : (f : ℕ → ℕ) (k n : ℕ) → k ≤ n → ((a : ℕ) → k ≤ a → a < n → f a ≡ 0) → total_below n f ≡ total_below k f
 total_below-ends f k n l h =
@@ -26,30 +21,6 @@ total_below-ends f k n l h =
 
     inside : (k n a : ℕ) → a < n - k → k + a < n
     inside k n a m = omega arith
-
--- ---- Abel: where the weights fall, smaller prefixes give a smaller sum
-crossed : (u v a b : ℕ) → v ≤ u → b ≤ a → u * b + v * a ≤ u * a + v * b
-crossed u v a b h k = by u v a b (u - v) (a - b) (omega arith) (omega arith)
-  where
-    by : (u v a b d e : ℕ) → u ≡ v + d → a ≡ b + e → u * b + v * a ≤ u * a + v * b
-    by u v a b d e p q = omega (arith, ap (λ x. x * b) p, ap (λ x. v * x) q, ap (λ x. x * a) p, ap (λ x. d * x) q)
-
-abel_more : (n : ℕ) (w x y : ℕ → ℕ) → ((a b : ℕ) → a ≤ b → b < n → w b ≤ w a) → ((q : ℕ) → q ≤ n → total_below q y ≤ total_below q x)
-    → (v : ℕ) → ((r : ℕ) → r < n → v ≤ w r) → total_below n (λ r. w r * y r) + v * total_below n x ≤ total_below n (λ r. w r * x r) + v * total_below n y
-abel_more zero w x y falls less v low = omega arith
-abel_more (suc n) w x y falls less v low =
-    by (w n) (x n) (y n) (total_below n x) (total_below n y) _ _
-    (abel_more n w x y (λ a b l m. falls a b l (omega arith)) (λ q l. less q (omega arith)) (w n) (λ r l. falls r n (omega arith) (omega arith)))
-    (crossed (w n) v (total_below n x + x n) (total_below n y + y n) (low n (omega arith)) (less (suc n) (omega arith)))
-  where
-    by : (w x y xs ys p q : ℕ) → p + w * xs ≤ q + w * ys → w * (ys + y) + v * (xs + x) ≤ w * (xs + x) + v * (ys + y) → p + w * y + v * (xs + x) ≤ q + w * x + v * (ys + y)
-    by w x y xs ys p q h k = omega arith
-
-pub abel : (n : ℕ) (w x y : ℕ → ℕ) → ((a b : ℕ) → a ≤ b → b < n → w b ≤ w a) → ((q : ℕ) → q ≤ n → total_below q y ≤ total_below q x) → total_below n (λ r. w r * y r) ≤ total_below n (λ r. w r * x r)
-abel n w x y falls less = by _ _ (total_below n x) (total_below n y) (abel_more n w x y falls less 0 (λ r l. omega arith))
-  where
-    by : (p q a b : ℕ) → p + 0 * a ≤ q + 0 * b → p ≤ q
-    by p q a b h = omega arith
 
 -- ---- positions taken in turn
 -- the positions of the jobs taken so far, over any function of positions
@@ -84,7 +55,7 @@ module _ (n machines : ℕ) (step machine : ℕ → ℕ) where
     rising : (r q : ℕ) → r ≤ q → q < n → taken r ≤ taken q
     rising r q l h =
         le_trans (greedy r (machine q) (omega arith) (inside q h))
-        (mul-le-mul_right (step (machine q)) (more _ _ (total_below-longer (λ a. cond (eqb (machine a) (machine q)) 1 0) r q l)))
+        (mul-le-mul_right (step (machine q)) (more _ _ (total_below-within (λ a. cond (eqb (machine a) (machine q)) 1 0) r q l)))
       where
         more : (a b : ℕ) → a ≤ b → a + 1 ≤ b + 1
         more a b h = omega arith
@@ -93,7 +64,7 @@ module _ (n machines : ℕ) (step machine : ℕ → ℕ) where
     left_over : (r m k : ℕ) → r < n → m < machines → seats machine (suc r) m ≤ k → taken r ≤ multiplier step m k
     left_over r m k l h s =
         le_trans (greedy r m l h)
-        (mul-le-mul_right (step m) (more _ _ _ (total_below-longer (λ a. cond (eqb (machine a) m) 1 0) r (suc r) (omega arith)) s))
+        (mul-le-mul_right (step m) (more _ _ _ (total_below-within (λ a. cond (eqb (machine a) m) 1 0) r (suc r) (omega arith)) s))
       where
         more : (a b c : ℕ) → a ≤ b → b ≤ c → a + 1 ≤ c + 1
         more a b c h k = omega arith

@@ -1,9 +1,9 @@
 -- Laid jobs as a schedule on machines of any kind: it is feasible, what it costs, and its bounds.
-use Rattle.std.proofs.Common.{◌≡◌, ℕ, ◌+◌, ◌*◌, ◌<◌, ◌≤◌, ◌^◌, List, [], length, get_or, map, ℤ, pos, ◌*ℤ◌, ◌≤ℤ◌, All, Contains, refl, sym, ap, subst, ◌∙◌, arith}
+use Rattle.std.proofs.Common.{◌≡◌, ℕ, ◌+◌, ◌*◌, ◌<◌, ◌≤◌, List, [], length, get_or, map, ℤ, pos, ◌*ℤ◌, ◌≤ℤ◌, All, Contains, refl, sym, ap, subst, ◌∙◌, arith}
 use Rattle.std.proofs.lemmas.Int.{ints}
 use Rattle.std.proofs.lemmas.List.{length-map}
 use Rattle.std.proofs.lemmas.List.Elements.{All-nil, All-contains}
-use Rattle.msp_class.specs.declared.sizes.TheConstants.{MOST_JOBS, GREATEST}
+use Rattle.msp_class.specs.declared.sizes.TheConstants.{MOST_JOBS, GREATEST, GREATEST_MULTIPLE}
 use Rattle.msp_class.specs.declared.class.Crit.TheVariants.{SumC}
 use Rattle.msp_class.specs.declared.environments.EnvKind.TheVariants.{Unrelated}
 use Rattle.msp_class.specs.Crit.{is_greatest}
@@ -24,6 +24,8 @@ use Rattle.msp_schedule.proofs.feasible.OneMachine.{apart_in_int, last_end-is}
 use Rattle.msp_schedule.proofs.lists.Intervals.{last_of}
 use Rattle.msp_schedule.proofs.changes.Moves.{Contains-map}
 use Rattle.msp_schedule.proofs.costs.Charges.{cost_of-sum, charge_of}
+use Rattle.msp_schedule.specs.declared.limits.TheConstants.{GREATEST_CARRIED_UNIT}
+use Rattle.msp_route.specs.declared.bounds.TheConstants.{GREATEST_ANSWER_MOMENT}
 use Rattle.msp_route.specs.Bounds.{IsAnswer, answer_unit}
 use Rattle.msp_route.proofs.OneEach.{IsUncut, AreOneEach, one_each_is_feasible, one_each_is_within, one_each_is_answer}
 use Rattle.msp_total.specs.declared.lay.Place.{Place}
@@ -42,13 +44,13 @@ pub record IsPlain (i : Instance) : Type 0 where
 -- the places are those of all jobs, each for its time
 pub record AreFitting (i : Instance) (unit : ℕ) (places : List Place) : Type 0 where
   pub some : 1 ≤ unit
-  pub few : unit ≤ 2 ^ 30
+  pub few : unit ≤ GREATEST_MULTIPLE
   pub bounded : pos unit ≤ℤ answer_unit (kind_of i.class.env)
-  pub scaled : kind_of i.class.env ≡ Unrelated → pos unit ≤ℤ pos 4096
+  pub scaled : kind_of i.class.env ≡ Unrelated → pos unit ≤ℤ GREATEST_CARRIED_UNIT
   pub jobs : OnceBelow (length i.jobs) (map (λ p. p.job) places)
   pub inside : All (λ p. p.machine < i.machines) places
   pub lasts : All (λ p. 0 < p.length) places
-  pub short : All (λ p. p.length ≤ (GREATEST * 2 ^ 30)) places
+  pub short : All (λ p. p.length ≤ GREATEST * GREATEST_MULTIPLE) places
   pub work : (p : Place) (rest : List Place) → Contains places p → IsWholeWork (kind_of i.class.env) i (pos unit) (piece_before p rest)
 
 abbrev pub schedule_of : ℕ → List Place → Schedule
@@ -83,8 +85,8 @@ module _ (i : Instance) (plain : IsPlain i) (unit : ℕ) (places : List Place) (
   no_arcs = subst (λ arcs. All (λ a. All (λ p. All (λ r. p.job ≡ a.before → r.job ≡ a.after → IsBefore p r) (laid places)) (laid places)) arcs)
       (sym plain.arcs) (All-nil (λ (a : Arc). All (λ p. All (λ r. p.job ≡ a.before → r.job ≡ a.after → IsBefore p r) (laid places)) (laid places)))
 
-  ends : All (λ q. finish q ≤ MOST_JOBS * (GREATEST * 2 ^ 30)) (laid places)
-  ends k d l = omega (arith, ends_soon ((GREATEST * 2 ^ 30)) places fits.short k d l, count, plain.uncut.few)
+  ends : All (λ q. finish q ≤ MOST_JOBS * (GREATEST * GREATEST_MULTIPLE)) (laid places)
+  ends k d l = omega (arith, ends_soon (GREATEST * GREATEST_MULTIPLE) places fits.short k d l, count, plain.uncut.few)
 
   one_each : AreOneEach i unit (laid places)
   one_each = record {
@@ -104,7 +106,7 @@ module _ (i : Instance) (plain : IsPlain i) (unit : ℕ) (places : List Place) (
       released : (x : ℤ) (u r b : ℕ) → x ≡ pos b → r ≡ 0 → (pos u *ℤ pos r) ≤ℤ x
       released x u r b e z = subst (λ y. (pos u *ℤ pos y) ≤ℤ x) (sym z) (omega (arith, ints, e))
 
-      early : (p : Piece) → IsTimed p → finish p ≤ MOST_JOBS * (GREATEST * 2 ^ 30) → p.to ≤ℤ pos 10000000000000000000000000
+      early : (p : Piece) → IsTimed p → finish p ≤ MOST_JOBS * (GREATEST * GREATEST_MULTIPLE) → p.to ≤ℤ GREATEST_ANSWER_MOMENT
       early p t m = omega (arith, ints, t.to, m)
 
   pub laid_is_feasible : Feasible i s

@@ -8,7 +8,7 @@ use Rattle.std.proofs.lemmas.List.{length-map, get_or-map}
 use Rattle.std.proofs.lemmas.List.FromFn.{length-range_with_len, get_or-range_with_len}
 use Rattle.std.proofs.lemmas.Grind.{same_number_lists}
 use Rattle.std.proofs.lemmas.List.Elements.{All-nil}
-use Rattle.msp_class.specs.declared.sizes.TheConstants.{MOST_JOBS}
+use Rattle.msp_class.specs.declared.sizes.TheConstants.{MOST_JOBS, GREATEST}
 use Rattle.msp_class.proofs.IntegerRing.{pos-le, ≤ℤ_of_same, ≤ℤ_trans, one-*ℤ, *ℤ-mono_nonneg}
 use Rattle.msp_class.specs.Sums.{int_total_below}
 use Rattle.msp_class.proofs.Sums.{OnceBelow, OnceBelow-range, int_total_below-same}
@@ -36,7 +36,7 @@ use Rattle.msp_slots.proofs.SlotPlaces.{heads_many, slot_inside, same_slot, seat
 use Rattle.msp_slots.proofs.Begins.{head_at, begins_of}
 use Rattle.msp_slots.proofs.UnitPieces.{HasUnitJobs, AreUnitPieces, one_each, uncut, unit_pieces_are_feasible, unit_pieces_are_within, unit_piece_ends}
 use Rattle.msp_total.specs.SlotSteps.{slot_class, AreLeastLaid}
-use Rattle.msp_total.proofs.SlotFacts.{IsUnitShop, IsUnitShop-from, ones, sums, ended, ended_small, cost_early, cost_in_time, cost_natural, slots_soon}
+use Rattle.msp_total.proofs.SlotFacts.{IsUnitShop, IsUnitShop-from, ones, sums, ended, ended_small, cost_early, cost_in_time, cost_natural, slots_soon, greatest_job_cost}
 
 -- jobs that begin one after another, late
 one_at_a_time : (a n x : ℕ) → begin_at n (λ j. a + j) x ≤ one_if (ltb x (a + n))
@@ -78,7 +78,7 @@ module _ (i : Instance) (late : Bool) (h : IsUnitShop i late) (pieces : List Pie
   in_slots : (k : ℕ) → k < n → k < length l.slots
   in_slots k b = omega (arith, b, l.filled.count, many)
 
-  soon : (k : ℕ) → k < n → start k ≤ 2000000400
+  soon : (k : ℕ) → k < n → start k ≤ 2 * GREATEST + MOST_JOBS
   soon k b = slots_soon i late h l.heads l.all l.slots l.filled k (in_slots k b)
 
   col_inside : (j : ℕ) → j < n → col j < n
@@ -96,18 +96,18 @@ module _ (i : Instance) (late : Bool) (h : IsUnitShop i late) (pieces : List Pie
   costs_natural : (r : ℕ) → r < n → pos 0 ≤ℤ cost r (col r)
   costs_natural r b = cost_natural i late h l.slots l.table l.is_table r (col r) b (in_slots (col r) (col_inside r b))
 
-  one_by_one : IsSeated n i.machines (head_at i) (λ j. 2000000000 + j)
+  one_by_one : IsSeated n i.machines (head_at i) (λ j. 2 * GREATEST + j)
   one_by_one = record {
     released = λ j b. let r = (h.jobs j no_job b).release in omega (arith, r);
-    few = λ x. omega (arith, one_at_a_time 2000000000 n x, one_most (ltb x (2000000000 + n)), h.machine);
+    few = λ x. omega (arith, one_at_a_time (2 * GREATEST) n x, one_most (ltb x (2 * GREATEST + n)), h.machine);
   }
 
-  value_small : value ≤ℤ pos (MOST_JOBS * 10000000000000000000)
+  value_small : value ≤ℤ pos (MOST_JOBS * greatest_job_cost)
   value_small =
-      let (seat, e) = seats (λ j. 2000000000 + j) one_by_one in
-      let bound = int_total_below-bound n 10000000000000000000 (λ r. ended i r (start (seat r)))
+      let (seat, e) = seats (λ j. 2 * GREATEST + j) one_by_one in
+      let bound = int_total_below-bound n greatest_job_cost (λ r. ended i r (start (seat r)))
       (λ r b. ended_small i late h l.slots l.table l.is_table r (start (seat r)) b (omega (arith, e.early r b, h.few, b))) in
-      ≤ℤ_trans (least_here (λ j. 2000000000 + j) seat e) (≤ℤ_trans bound (pos-le (omega (arith, h.few))))
+      ≤ℤ_trans (least_here (λ j. 2 * GREATEST + j) seat e) (≤ℤ_trans bound (pos-le (omega (arith, h.few))))
 
   in_time : (j : ℕ) → j < n → head_at i j ≤ start (col j)
   in_time j b = elim (cases_lt (start (col j)) (head_at i j)) [
@@ -116,7 +116,7 @@ module _ (i : Instance) (late : Bool) (h : IsUnitShop i late) (pieces : List Pie
         (cost_early i late h l.slots l.table l.is_table j (col j) b (in_slots (col j) (col_inside j b)) less))
   ]
     where
-      never : (v c : ℤ) → v ≤ℤ pos (MOST_JOBS * 10000000000000000000) → c ≤ℤ v → c ≡ forbidden → ⊥
+      never : (v c : ℤ) → v ≤ℤ pos (MOST_JOBS * greatest_job_cost) → c ≤ℤ v → c ≡ forbidden → ⊥
       never v c p q e = omega (arith, ints, p, q, e)
 
   -- ---- the pieces

@@ -1,5 +1,5 @@
 -- Steps of the loops over jobs that take their turns.
-use Rattle.std.proofs.Common.{◌≡◌, ℕ, suc, ◌+◌, ◌*◌, ◌-◌, ◌<◌, ◌≤◌, ◌⊎◌, ◌^◌, Bool, true, false, cond, eqb, List, [], ◌∷◌, ◌++◌, length, get_or, take, map, set, All, AllPairs}
+use Rattle.std.proofs.Common.{◌≡◌, ℕ, suc, ◌+◌, ◌*◌, ◌-◌, ◌<◌, ◌≤◌, ◌⊎◌, Bool, true, false, cond, eqb, List, [], ◌∷◌, ◌++◌, length, get_or, take, map, set, All, AllPairs}
 use Rattle.std.proofs.Common.{IsPermutation, refl, sym, ap, subst, subst₂, ◌∙◌, arith}
 use Rattle.std.specs.Prelude.{slice_index_or}
 use Rattle.std.specs.List.{range_with_len}
@@ -9,7 +9,7 @@ use Rattle.std.proofs.lemmas.List.{get_or-set_other, get_or_default, get_or-appe
 use Rattle.std.proofs.lemmas.List.Elements.{All-push}
 use Rattle.std.proofs.lemmas.List.Sorted.{IsPermutation-map, All-permutation}
 use Rattle.std.proofs.Math.Nat.{mul-le-mul_right}
-use Rattle.msp_class.specs.declared.sizes.TheConstants.{MOST_JOBS}
+use Rattle.msp_class.specs.declared.sizes.TheConstants.{MOST_JOBS, GREATEST_MULTIPLE}
 use Rattle.msp_class.proofs.Sums.{cond-yes, cond-no, cond-le, total_below-same, total_below-bound}
 use Rattle.msp_instance.specs.declared.Instance.{Instance}
 use Rattle.msp_instance.specs.declared.Job.{Job}
@@ -149,7 +149,8 @@ pub next-none : (steps next : List ℕ) → next ≡ steps → AreNext steps [] 
 next-none steps next e = (ap length e, λ m l. ap (λ x. number_at x m) e ∙ omega arith)
 
 -- what a job counts is bounded
-pub next-small : (steps : List ℕ) (places : List Place) (next : List ℕ) → All (λ s. s ≤ 2 ^ 30) steps → length places < MOST_JOBS → AreNext steps places next → All (λ s. s ≤ MOST_JOBS * 2 ^ 30) next
+pub next-small : (steps : List ℕ) (places : List Place) (next : List ℕ)
+    → All (λ s. s ≤ GREATEST_MULTIPLE) steps → length places < MOST_JOBS → AreNext steps places next → All (λ s. s ≤ MOST_JOBS * GREATEST_MULTIPLE) next
 next-small steps places next small few (size, values) k d l =
     let inside : k < length steps = omega (arith, size) in
     omega (
@@ -160,7 +161,7 @@ next-small steps places next small few (size, values) k d l =
           (omega (arith, total_below-bound (length places) 1 (λ a. cond (eqb (machine_at places a) k) 1 0) (λ a h. cond-le (eqb (machine_at places a) k) 1))) (small k 0 inside),
     )
   where
-    most : (s x : ℕ) → s + 1 ≤ MOST_JOBS → x ≤ 2 ^ 30 → (s + 1) * x ≤ MOST_JOBS * 2 ^ 30
+    most : (s x : ℕ) → s + 1 ≤ MOST_JOBS → x ≤ GREATEST_MULTIPLE → (s + 1) * x ≤ MOST_JOBS * GREATEST_MULTIPLE
     most s x h k = omega (arith, mul-le-mul_right x h, k)
 
 -- as the code has it

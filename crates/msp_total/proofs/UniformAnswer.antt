@@ -1,8 +1,8 @@
 -- The answer on uniform machines, as the code makes it.
-use Rattle.std.proofs.Common.{◌≡◌, ℕ, ◌/◌, ◌<◌, ◌≤◌, ◌^◌, List, length, get_or, map, ℤ, pos, All, refl, sym, ap, subst, subst₂, ◌∙◌, arith}
+use Rattle.std.proofs.Common.{◌≡◌, ℕ, ◌/◌, ◌<◌, ◌≤◌, List, length, get_or, map, ℤ, pos, All, refl, sym, ap, subst, subst₂, ◌∙◌, arith}
 use Rattle.std.proofs.lemmas.List.{length-map, get_or_default}
 use Rattle.std.proofs.lemmas.List.Elements.{All-contains, Contains-get_or}
-use Rattle.msp_class.specs.declared.sizes.TheConstants.{MOST_JOBS, GREATEST}
+use Rattle.msp_class.specs.declared.sizes.TheConstants.{MOST_JOBS, GREATEST, GREATEST_MULTIPLE}
 use Rattle.msp_schedule.proofs.changes.Moves.{Contains-map}
 use Rattle.msp_class.proofs.Sums.{OnceBelow-from_permutation, length-OnceBelow}
 use Rattle.msp_instance.specs.declared.Instance.{Instance}
@@ -29,7 +29,7 @@ pub record IsUniformAnswer (i : Instance) (s : Schedule) : Type 0 where
   pub order : IsByMultipliers i s
 
 pub IsUniformAnswer-from : (i : Instance) → IsUniformInstance i → (unit : ℕ) (u : ℤ) (steps : List ℕ) (jobs : List Keyed) (places : List Place) (pieces : List Piece)
-    → IsLeastOfAll i.speeds unit → unit ≤ 2 ^ 30 → u ≡ pos unit → steps ≡ steps_by i unit → IsByTime i jobs → AreTurns steps jobs places → pieces ≡ laid places
+    → IsLeastOfAll i.speeds unit → unit ≤ GREATEST_MULTIPLE → u ≡ pos unit → steps ≡ steps_by i unit → IsByTime i jobs → AreTurns steps jobs places → pieces ≡ laid places
     → IsUniformAnswer i (record { unit = u; pieces = pieces })
 IsUniformAnswer-from i h unit u steps jobs places pieces common few e is sorted turns all =
     let fits = subst (λ x. AreTurns x jobs places) is turns in
@@ -42,17 +42,17 @@ IsUniformAnswer-from i h unit u steps jobs places pieces common few e is sorted 
     })
 
 -- the steps of the code, over slices that are the same lists
-module _ (i : Instance) (h : IsUniformInstance i) (speeds : List ℕ) (unit : ℕ) (same_speeds : speeds ≡ i.speeds) (common : IsLeastOfAll speeds unit) (few : unit ≤ 2 ^ 30) where
+module _ (i : Instance) (h : IsUniformInstance i) (speeds : List ℕ) (unit : ℕ) (same_speeds : speeds ≡ i.speeds) (common : IsLeastOfAll speeds unit) (few : unit ≤ GREATEST_MULTIPLE) where
   common_of : IsLeastOfAll i.speeds unit
   common_of = subst (λ l. IsLeastOfAll l unit) same_speeds common
 
   steps_are : (steps taken : List ℕ) → steps ≡ map (λ s. unit / s) speeds → taken ≡ steps → taken ≡ steps_by i unit
   steps_are steps taken e f = f ∙ e ∙ ap (map (λ s. unit / s)) same_speeds
 
-  pub steps_small : (steps taken : List ℕ) → steps ≡ map (λ s. unit / s) speeds → taken ≡ steps → All (λ s. s ≤ 2 ^ 30) taken
-  steps_small steps taken e f = subst (All (λ s. s ≤ 2 ^ 30)) (sym (steps_are steps taken e f)) small
+  pub steps_small : (steps taken : List ℕ) → steps ≡ map (λ s. unit / s) speeds → taken ≡ steps → All (λ s. s ≤ GREATEST_MULTIPLE) taken
+  steps_small steps taken e f = subst (All (λ s. s ≤ GREATEST_MULTIPLE)) (sym (steps_are steps taken e f)) small
     where
-      small : All (λ s. s ≤ 2 ^ 30) (steps_by i unit)
+      small : All (λ s. s ≤ GREATEST_MULTIPLE) (steps_by i unit)
       small k d l = omega (arith, get_or_default (steps_by i unit) k d 0 l, step-most i h unit common_of k (omega (arith, l, steps-length i h unit common_of)), few)
 
   pub steps_count : (steps taken : List ℕ) → steps ≡ map (λ s. unit / s) speeds → taken ≡ steps → length taken ≡ i.machines

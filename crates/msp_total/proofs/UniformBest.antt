@@ -1,5 +1,5 @@
 -- The jobs that took their turns, as a schedule on uniform machines: it is feasible and best, and lies within the bounds.
-use Rattle.std.proofs.Common.{◌≡◌, ℕ, ◌+◌, ◌*◌, ◌-◌, ◌/◌, ◌<◌, ◌≤◌, ◌^◌, Bool, true, false, eqb, ◌⊎◌, inl, inr, List, length, get_or, map, ℤ, pos, nat_abs, ◌-ℤ◌, ◌*ℤ◌, ◌≤ℤ◌, All}
+use Rattle.std.proofs.Common.{◌≡◌, ℕ, ◌+◌, ◌*◌, ◌-◌, ◌/◌, ◌<◌, ◌≤◌, Bool, true, false, eqb, ◌⊎◌, inl, inr, List, length, get_or, map, ℤ, pos, nat_abs, ◌-ℤ◌, ◌*ℤ◌, ◌≤ℤ◌, All}
 use Rattle.std.proofs.Common.{slice_index_or, refl, sym, ap, ap₂, subst, subst₂, ◌∙◌, arith}
 use Rattle.std.proofs.lemmas.Bool.{eqb-true, eqb-false}
 use Rattle.std.proofs.lemmas.Int.{ints}
@@ -7,7 +7,7 @@ use Rattle.std.proofs.lemmas.Nat.{mul-le}
 use Rattle.std.proofs.Math.Nat.{div-mul_cancel, mul-le-mul_left}
 use Rattle.std.proofs.lemmas.List.{length-map, get_or-map, get_or_default, same_lists}
 use Rattle.std.proofs.lemmas.List.Elements.{All-contains}
-use Rattle.msp_class.specs.declared.sizes.TheConstants.{GREATEST}
+use Rattle.msp_class.specs.declared.sizes.TheConstants.{GREATEST, GREATEST_MULTIPLE}
 use Rattle.msp_class.specs.declared.environments.EnvKind.TheVariants.{Uniform, Unrelated}
 use Rattle.msp_class.specs.Env.{kind_of}
 use Rattle.msp_class.proofs.IntegerRing.{natural, pos-le, pos-same, ≤ℤ_trans, *ℤ_comm, *ℤ-mono_nonneg}
@@ -76,7 +76,7 @@ module _ (i : Instance) (h : IsUniformInstance i) (unit : ℕ) (common : IsLeast
       by a b u e k = grind arith
 
   -- ---- the jobs in turn
-  module _ (few : unit ≤ 2 ^ 30) (jobs : List Keyed) (sorted : IsByTime i jobs) (places : List Place) (turns : AreTurns (steps_by i unit) jobs places) where
+  module _ (few : unit ≤ GREATEST_MULTIPLE) (jobs : List Keyed) (sorted : IsByTime i jobs) (places : List Place) (turns : AreTurns (steps_by i unit) jobs places) where
     abbrev n : ℕ
     n = length i.jobs
 
@@ -158,14 +158,14 @@ module _ (i : Instance) (h : IsUniformInstance i) (unit : ℕ) (common : IsLeast
     record IsMeant (p : Place) : Type 0 where
       machine_inside : p.machine < i.machines
       lasts : 0 < p.length
-      short : p.length ≤ GREATEST * 2 ^ 30
+      short : p.length ≤ GREATEST * GREATEST_MULTIPLE
       work : p.length * speed p.machine ≡ unit * time_of p.job
 
     meant : All IsMeant places
     meant r d l = subst IsMeant (get_or_default places r no_place d l) (record {
       machine_inside = machine-inside r (omega (arith, l, count));
       lasts = omega (arith, long, mul-le 1 1 (time r) (step (machine r)) (omega (arith, at, (times i h (job r) inside).0)) (step-some (machine r) on));
-      short = omega (arith, long, mul-le (time r) (step (machine r)) GREATEST (2 ^ 30) (omega (arith, at, (times i h (job r) inside).1)) (omega (arith, step-most (machine r) on, few)));
+      short = omega (arith, long, mul-le (time r) (step (machine r)) GREATEST GREATEST_MULTIPLE (omega (arith, at, (times i h (job r) inside).1)) (omega (arith, step-most (machine r) on, few)));
       work = ap (λ x. x * speed (machine r)) long ∙ grouped (time r) (step (machine r)) (speed (machine r))
           ∙ ap (λ x. x * time r) (step-speed (machine r) on) ∙ ap (λ x. unit * x) (at ∙ ap time_of (sym (turns.each r l).job));
     })

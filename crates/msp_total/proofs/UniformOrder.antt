@@ -1,11 +1,12 @@
 -- The jobs that took their turns take multipliers in the order of their times, ties by number.
-use Rattle.std.proofs.Common.{◌≡◌, ◌≢◌, ℕ, ◌+◌, ◌*◌, ◌<◌, ◌≤◌, ◌^◌, Bool, true, false, cond, eqb, leb, ◌⊎◌, inl, inr, List, [], ◌∷◌, length, get_or, map, pos, ◌≤ℤ◌, All, AllPairs}
+use Rattle.std.proofs.Common.{◌≡◌, ◌≢◌, ℕ, ◌+◌, ◌*◌, ◌<◌, ◌≤◌, Bool, true, false, cond, eqb, leb, ◌⊎◌, inl, inr, List, [], ◌∷◌, length, get_or, map, pos, ◌≤ℤ◌, All, AllPairs}
 use Rattle.std.proofs.Common.{refl, sym, ap, subst, subst₂, ◌∙◌, arith}
 use Rattle.std.proofs.lemmas.Bool.{leb-true, leb-false}
 use Rattle.std.proofs.lemmas.List.{length-map, get_or-map}
 use Rattle.std.proofs.lemmas.List.Elements.{All-nil, All-cons}
 use Rattle.std.proofs.lemmas.List.Kept.{AllPairs-cons}
 use Rattle.std.proofs.Math.Nat.{mul-le-mul_right, one-le-mul}
+use Rattle.msp_class.specs.declared.sizes.TheConstants.{GREATEST_MULTIPLE}
 use Rattle.msp_class.proofs.IntegerRing.{pos-le, ≤ℤ_trans}
 use Rattle.msp_class.proofs.Sums.{total_below-same, OnceBelow-distinct}
 use Rattle.msp_instance.specs.declared.Instance.{Instance}
@@ -77,7 +78,7 @@ crossed_less x y s t v w u h e f sv sw = by (leb (y * w) (x * v)) refl
     by true k = absurd (omega (arith, grown, mul-le-mul_right u (leb-true (y * w) (x * v) k), one-le-mul sv sw))
     by false k = leb-false (y * w) (x * v) k
 
-module _ (i : Instance) (h : IsUniformInstance i) (unit : ℕ) (common : IsLeastOfAll i.speeds unit) (few : unit ≤ 2 ^ 30)
+module _ (i : Instance) (h : IsUniformInstance i) (unit : ℕ) (common : IsLeastOfAll i.speeds unit) (few : unit ≤ GREATEST_MULTIPLE)
     (jobs : List Keyed) (sorted : IsByTime i jobs) (places : List Place) (turns : AreTurns (steps_by i unit) jobs places) where
   abbrev time_of_job : ℕ → ℕ
   time_of_job j = (need_at i j 0).time

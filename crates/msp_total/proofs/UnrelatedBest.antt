@@ -1,12 +1,12 @@
 -- Jobs at the positions of a least assignment, as a schedule on unrelated machines: it is feasible and best, and lies within the bounds.
-use Rattle.std.proofs.Common.{◌≡◌, ℕ, zero, suc, ◌+◌, ◌*◌, ◌/◌, ◌%◌, ◌<◌, ◌≤◌, ◌^◌, Bool, true, false, cond, eqb, ◌⊎◌, inl, inr, List, length, get_or, map, ℤ, pos, ◌+ℤ◌, ◌*ℤ◌}
+use Rattle.std.proofs.Common.{◌≡◌, ℕ, zero, suc, ◌+◌, ◌*◌, ◌/◌, ◌%◌, ◌<◌, ◌≤◌, Bool, true, false, cond, eqb, ◌⊎◌, inl, inr, List, length, get_or, map, ℤ, pos, ◌+ℤ◌, ◌*ℤ◌}
 use Rattle.std.proofs.Common.{◌≤ℤ◌, All, refl, sym, ap, ap₂, subst, subst₂, ◌∙◌, arith}
 use Rattle.std.proofs.lemmas.Bool.{eqb-true}
 use Rattle.std.proofs.lemmas.Int.{ints}
 use Rattle.std.proofs.Math.Nat.{mul-le-mul_left, mul-le-mul_right, div-mul-le_self, div-add-mod}
 use Rattle.std.proofs.lemmas.List.{length-map, get_or-map, get_or_default, same_lists}
 use Rattle.std.proofs.lemmas.List.Elements.{All-contains}
-use Rattle.msp_class.specs.declared.sizes.TheConstants.{GREATEST}
+use Rattle.msp_class.specs.declared.sizes.TheConstants.{GREATEST, GREATEST_MULTIPLE}
 use lib.Arith.{digits_div, digits_mod}
 use Rattle.msp_class.proofs.IntegerRing.{pos-le, ≤ℤ_trans, one-*ℤ, *ℤ_comm, *ℤ-mono_nonneg, *ℤ-one}
 use Rattle.msp_class.specs.Sums.{total_below, int_total_below}
@@ -279,7 +279,7 @@ module _ (i : Instance) (h : IsUnrelatedInstance i) (p : Positions) (table : IsT
         record IsMeant (q : Place) : Type 0 where
           machine_is : q.machine < i.machines
           lasts : 0 < q.length
-          short : q.length ≤ GREATEST * 2 ^ 30
+          short : q.length ≤ GREATEST * GREATEST_MULTIPLE
           work : q.length ≡ time q.job q.machine
 
         meant : All IsMeant places

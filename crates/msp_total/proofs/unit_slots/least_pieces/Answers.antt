@@ -1,4 +1,4 @@
-use Rattle.std.proofs.Common.{◌<◌, ◌≤◌, length, map, All, IsPermutation, sym, subst, arith}
+use Rattle.std.proofs.Common.{◌*◌, ◌<◌, ◌≤◌, length, map, All, IsPermutation, sym, subst, arith}
 use Rattle.std.proofs.lemmas.List.Elements.{All-map}
 use Rattle.std.proofs.lemmas.Result.{IfOk-weaker}
 use Rattle.msp_class.specs.declared.sizes.TheConstants.{MOST_JOBS, GREATEST}
@@ -19,7 +19,7 @@ earliest_slots-requires-clause-early c =
     let i = c.args.inst.now in
     let h = IsUnitShop-from i c.args.late c.requires.class c.requires.inner in
     let p = subst (λ l. IsPermutation (map (λ j. j.release) l) c.in_ok-heads.heads.items) c.as_slice.ensures c.in_ok-heads.ensures.all in
-    subst (All (λ r. r ≤ 2000000000)) (sym c.as_slice-2.ensures.value) (heads_low i c.args.late h _ p)
+    subst (All (λ r. r ≤ 2 * GREATEST)) (sym c.as_slice-2.ensures.value) (heads_low i c.args.late h _ p)
 
 pub table_of-requires-clause-slots : goal.table_of-requires-clause-slots
 table_of-requires-clause-slots c =
