@@ -2,7 +2,7 @@
 use Rattle.std.proofs.Common.{◌≡◌, ℕ, ◌+◌, ◌*◌, ◌<◌, ◌≤◌, ◌⊎◌, inl, inr, Bool, List, length, ℤ, pos, ◌*ℤ◌, ◌≤ℤ◌, refl, sym, ap, subst, ◌∙◌, arith}
 use Rattle.std.proofs.lemmas.Bool.{cases_lt}
 use Rattle.std.proofs.lemmas.Int.{ints}
-use Rattle.msp_class.specs.declared.sizes.TheConstants.{MOST_JOBS}
+use Rattle.msp_class.specs.declared.sizes.TheConstants.{MOST_JOBS, GREATEST}
 use Rattle.msp_class.proofs.IntegerRing.{pos-le, zero-le-pos, ≤ℤ_trans, one-*ℤ, *ℤ-mono_nonneg}
 use Rattle.msp_class.specs.Sums.{int_total_below}
 use Rattle.msp_class.proofs.Sums.{int_total_below-mono}
@@ -28,7 +28,7 @@ use Rattle.msp_slots.proofs.Begins.{head_at}
 use Rattle.msp_lines.specs.Costs.{forbidden, line_cost}
 use Rattle.msp_lines.specs.Classes.{lines_late_class, lines_count_class}
 use Rattle.msp_lines.specs.LineSteps.{lines_from, AreLeastLined}
-use Rattle.msp_lines.proofs.LineFacts.{IsLineShop, IsDueShop-from, releases, sums, ended, ended_small, cost_early, cost_in_time, cost_natural, slots_soon}
+use Rattle.msp_lines.proofs.LineFacts.{greatest_job_cost, IsLineShop, IsDueShop-from, releases, sums, ended, ended_small, cost_early, cost_in_time, cost_natural, slots_soon}
 use Rattle.msp_lines.proofs.LineBegins.{one_at_most, line_begins}
 use Rattle.msp_lines.proofs.LinePieces.{AreLineBegins, lines_feasible, lines_within, lines_answer, lines_end}
 
@@ -80,20 +80,20 @@ module _ (i : Instance) (late : Bool) (h : IsLineShop i late) (laid : List Piece
   costs_natural : (r : ℕ) → r < n → pos 0 ≤ℤ cost r (col r)
   costs_natural r b = cost_natural i late h l.slots r (col r)
 
-  one_by_one : IsSeated n 1 (head_at i) (λ j. 2000000000 + j)
+  one_by_one : IsSeated n 1 (head_at i) (λ j. 2 * GREATEST + j)
   one_by_one = record {
     released = λ j b. omega (arith, low j b);
-    few = λ x. one_at_most n (λ j. 2000000000 + j) x (λ a b u v e. omega (arith, e));
+    few = λ x. one_at_most n (λ j. 2 * GREATEST + j) x (λ a b u v e. omega (arith, e));
   }
     where
-      low : (j : ℕ) → j < n → head_at i j ≤ 2000000000
+      low : (j : ℕ) → j < n → head_at i j ≤ 2 * GREATEST
       low j b = releases i late h j no_job b
 
-  value_small : value ≤ℤ pos (MOST_JOBS * 10000000000000000000)
+  value_small : value ≤ℤ pos (MOST_JOBS * greatest_job_cost)
   value_small =
-      let (seat, e) = seats (λ j. 2000000000 + j) one_by_one in
-      let bound = int_total_below-bound n 10000000000000000000 (λ r. ended i r (start (seat r))) (λ r b. ended_small i late h r (start (seat r)) b (omega (arith, e.early r b, h.few, b))) in
-      ≤ℤ_trans (least_here (λ j. 2000000000 + j) seat e) (≤ℤ_trans bound (pos-le (omega (arith, h.few))))
+      let (seat, e) = seats (λ j. 2 * GREATEST + j) one_by_one in
+      let bound = int_total_below-bound n greatest_job_cost (λ r. ended i r (start (seat r))) (λ r b. ended_small i late h r (start (seat r)) b (omega (arith, e.early r b, h.few, b))) in
+      ≤ℤ_trans (least_here (λ j. 2 * GREATEST + j) seat e) (≤ℤ_trans bound (pos-le (omega (arith, h.few))))
 
   in_time : (j : ℕ) → j < n → head_at i j ≤ start (col j)
   in_time j b = elim (cases_lt (start (col j)) (head_at i j)) [
@@ -101,7 +101,7 @@ module _ (i : Instance) (late : Bool) (h : IsLineShop i late) (laid : List Piece
     | inl less ↦ absurd (never value (cost j (col j)) value_small (int_total_below-term n (λ r. cost r (col r)) j costs_natural b) (cost_early i late h l.slots j (col j) less))
   ]
     where
-      never : (v c : ℤ) → v ≤ℤ pos (MOST_JOBS * 10000000000000000000) → c ≤ℤ v → c ≡ forbidden → ⊥
+      never : (v c : ℤ) → v ≤ℤ pos (MOST_JOBS * greatest_job_cost) → c ≤ℤ v → c ≡ forbidden → ⊥
       never v c p q e = omega (arith, ints, p, q, e)
 
   -- ---- the begins

@@ -1,5 +1,5 @@
 -- What a flow shop of unit operations with release dates has, and what its jobs cost in slots.
-use Rattle.std.proofs.Common.{◌≡◌, ◌≢◌, ℕ, ◌+◌, ◌^◌, ◌<◌, ◌≤◌, Bool, true, false, List, [], length, map, get_or, All, IsPermutation, ◌⊎◌, inl, inr, ℤ, pos, ◌-ℤ◌, ◌*ℤ◌, ◌≤ℤ◌, refl}
+use Rattle.std.proofs.Common.{◌≡◌, ◌≢◌, ℕ, ◌+◌, ◌*◌, ◌<◌, ◌≤◌, Bool, true, false, List, [], length, map, get_or, All, IsPermutation, ◌⊎◌, inl, inr, ℤ, pos, ◌-ℤ◌, ◌*ℤ◌, ◌≤ℤ◌, refl}
 use Rattle.std.proofs.Common.{sym, ap, subst, subst₂, ◌∙◌, arith}
 use Rattle.std.specs.Prelude.{int_lt, if◌then◌else◌}
 use Rattle.std.specs.Int.{int_max}
@@ -22,7 +22,7 @@ use Rattle.msp_schedule.specs.Within.{IsMoment, HasSmallCost}
 use Rattle.msp_schedule.proofs.costs.Small.{small_costs}
 use Rattle.msp_schedule.specs.Feasible.{HasOperation}
 use Rattle.msp_schedule.proofs.feasible.OfClass.{IsOfClass, IsOfClass-from}
-use Rattle.msp_assign.specs.Prices.{HasCosts, IsAssigned, IsLeast}
+use Rattle.msp_assign.specs.Prices.{greatest_cost, HasCosts, IsAssigned, IsLeast}
 use Rattle.msp_slots.specs.declared.earliest.Slot.{Slot}
 use Rattle.msp_slots.specs.Earliest.{start_in, AreSlots}
 use Rattle.msp_slots.proofs.Begins.{head_at}
@@ -78,10 +78,10 @@ weight_of : (late : Bool) (w : ℕ) → HasWeight (uses_weight (line_crit late))
 weight_of true w h = h.1
 weight_of false w h = h.1
 
-pub releases : (i : Instance) (late : Bool) → IsLineShop i late → All (λ j. j.release ≤ 2000000000) i.jobs
+pub releases : (i : Instance) (late : Bool) → IsLineShop i late → All (λ j. j.release ≤ 2 * GREATEST) i.jobs
 releases i late h j d b = (h.jobs j d b).release
 
-dues : (i : Instance) (late : Bool) → IsLineShop i late → All (λ j. LiesWithin 2000000000 j.due) i.jobs
+dues : (i : Instance) (late : Bool) → IsLineShop i late → All (λ j. LiesWithin (2 * GREATEST) j.due) i.jobs
 dues i late h j d b = due_of late (inner_limits FlowShop) (get_or i.jobs j d).due (h.jobs j d b).due
 
 pub weights : (i : Instance) (late : Bool) → IsLineShop i late → All (λ j. j.weight ≤ GREATEST) i.jobs
@@ -112,18 +112,22 @@ past_natural false x d = by (int_lt d x)
     by true = omega (arith, ints)
     by false = omega (arith, ints)
 
-past_small : (late : Bool) (x : ℕ) (d : ℤ) → x ≤ 5000000000 → LiesWithin 2000000000 d → past_due late (pos x) d ≤ℤ pos 10000000000
+past_small : (late : Bool) (x : ℕ) (d : ℤ) → x ≤ 5 * GREATEST → LiesWithin (2 * GREATEST) d → past_due late (pos x) d ≤ℤ pos (10 * GREATEST)
 past_small true x d l h = omega (arith, ints, clamps, l, h.0, h.1)
 past_small false x d l h = by (int_lt d (pos x))
   where
-    by : (b : Bool) → (if b then pos 1 else pos 0) ≤ℤ pos 10000000000
+    by : (b : Bool) → (if b then pos 1 else pos 0) ≤ℤ pos (10 * GREATEST)
     by true = omega (arith, ints)
     by false = omega (arith, ints)
+
+-- the most that a job costs: its weight for each unit of time that it ends past its due date
+abbrev pub greatest_job_cost : ℕ
+greatest_job_cost = GREATEST * (10 * GREATEST)
 
 weighed_natural : (w : ℕ) (p : ℤ) → pos 0 ≤ℤ p → pos 0 ≤ℤ (pos w *ℤ p)
 weighed_natural w p h = subst (λ z. z ≤ℤ (pos w *ℤ p)) (*ℤ-zero (pos w)) (*ℤ-mono w h)
 
-weighed_small : (w : ℕ) (p : ℤ) → w ≤ GREATEST → p ≤ℤ pos 10000000000 → (pos w *ℤ p) ≤ℤ pos 10000000000000000000
+weighed_small : (w : ℕ) (p : ℤ) → w ≤ GREATEST → p ≤ℤ pos (10 * GREATEST) → (pos w *ℤ p) ≤ℤ pos greatest_job_cost
 weighed_small w p l h = ≤ℤ_trans (*ℤ-mono w h) (omega (arith, ints, l))
 
 -- what the job costs that ends as many units of time after the moment as there are machines
@@ -139,8 +143,8 @@ module _ (i : Instance) (late : Bool) (h : IsLineShop i late) where
   ended_natural j x = subst (λ z. pos 0 ≤ℤ z) (sym (ended_is j x))
       (weighed_natural (job_at i j).weight (past_due late (pos (x + i.machines)) (job_at i j).due) (past_natural late (pos (x + i.machines)) (job_at i j).due))
 
-  pub ended_small : (j x : ℕ) → j < length i.jobs → x ≤ 4000000000 → ended i j x ≤ℤ pos 10000000000000000000
-  ended_small j x a l = subst (λ z. z ≤ℤ pos 10000000000000000000) (sym (ended_is j x))
+  pub ended_small : (j x : ℕ) → j < length i.jobs → x ≤ 4 * GREATEST → ended i j x ≤ℤ pos greatest_job_cost
+  ended_small j x a l = subst (λ z. z ≤ℤ pos greatest_job_cost) (sym (ended_is j x))
       (weighed_small (job_at i j).weight (past_due late (pos (x + i.machines)) (job_at i j).due)
       (weights i late h j no_job a) (past_small late (x + i.machines) (job_at i j).due (omega (arith, l, h.machines)) (dues i late h j no_job a)))
 
@@ -158,10 +162,10 @@ module _ (i : Instance) (late : Bool) (h : IsLineShop i late) where
       | inr more ↦ subst (λ z. pos 0 ≤ℤ z) (sym (cost_in_time j k more)) (ended_natural j (start_in slots k))
     ]
 
-    cost_small : (j k : ℕ) → j < length i.jobs → start_in slots k ≤ 4000000000 → line_cost i slots j k ≤ℤ pos (2 ^ 100)
+    cost_small : (j k : ℕ) → j < length i.jobs → start_in slots k ≤ 4 * GREATEST → line_cost i slots j k ≤ℤ pos greatest_cost
     cost_small j k a l = elim (cases_lt (start_in slots k) (head_at i j)) [
-      | inl less ↦ subst (λ z. z ≤ℤ pos (2 ^ 100)) (sym (cost_early j k less)) (omega (arith, ints))
-      | inr more ↦ subst (λ z. z ≤ℤ pos (2 ^ 100)) (sym (cost_in_time j k more)) (≤ℤ_trans (ended_small j (start_in slots k) a l) (omega (arith, ints)))
+      | inl less ↦ subst (λ z. z ≤ℤ pos greatest_cost) (sym (cost_early j k less)) (omega (arith, ints))
+      | inr more ↦ subst (λ z. z ≤ℤ pos greatest_cost) (sym (cost_in_time j k more)) (≤ℤ_trans (ended_small j (start_in slots k) a l) (omega (arith, ints)))
     ]
 
 -- the numbers of all jobs over the unit 1
@@ -178,14 +182,14 @@ module _ (i : Instance) (late : Bool) (h : IsLineShop i late) (heads : List ℕ)
   pub heads_few : length heads ≤ MOST_JOBS
   heads_few = omega (arith, heads_many i heads p, h.few)
 
-  pub heads_low : All (λ r. r ≤ 2000000000) heads
-  heads_low = All-permutation (λ r. r ≤ 2000000000) (map (λ j. j.release) i.jobs) heads p (All-map (λ r. r ≤ 2000000000) (λ j. j.release) i.jobs (releases i late h))
+  pub heads_low : All (λ r. r ≤ 2 * GREATEST) heads
+  heads_low = All-permutation (λ r. r ≤ 2 * GREATEST) (map (λ j. j.release) i.jobs) heads p (All-map (λ r. r ≤ 2 * GREATEST) (λ j. j.release) i.jobs (releases i late h))
 
   module _ (slots : List Slot) (filled : AreSlots 1 heads slots) where
     pub slots_many : length slots ≡ length i.jobs
     slots_many = filled.count ∙ heads_many i heads p
 
-    pub slots_soon : (k : ℕ) → k < length slots → start_in slots k ≤ 2000000400
+    pub slots_soon : (k : ℕ) → k < length slots → start_in slots k ≤ 2 * GREATEST + MOST_JOBS
     slots_soon k l = omega (arith, filled.soon k (omega (arith, l, filled.count)), heads_few)
 
     -- as the code passes the slots

@@ -10,9 +10,10 @@ use Rattle.std.proofs.lemmas.List.{length-map, get_or-map}
 use Rattle.std.proofs.lemmas.List.Elements.{All-nil}
 use Rattle.std.proofs.lemmas.List.FromFn.{get_or-map-range_with_len, length-map-range_with_len}
 use Rattle.std.proofs.Math.Nat.{mul-le-mul_right}
-use Rattle.msp_class.specs.declared.sizes.TheConstants.{MOST_JOBS, MOST_MACHINES}
+use Rattle.msp_class.specs.declared.sizes.TheConstants.{MOST_JOBS, MOST_MACHINES, GREATEST}
 use Rattle.msp_class.specs.Env.{kind_of}
 use Rattle.msp_class.proofs.IntegerRing.{pos-le, pos-lt, zero-le-pos}
+use Rattle.msp_class.proofs.Quotients.{block_and_rest, rest_small}
 use Rattle.msp_class.proofs.Sums.{OnceBelow, OnceBelow-from_distinct}
 use Rattle.msp_instance.specs.declared.Arc.{Arc}
 use Rattle.msp_instance.specs.declared.Instance.{Instance}
@@ -28,16 +29,17 @@ use Rattle.msp_schedule.proofs.lists.OnceEach.{OnceBelow-one}
 use Rattle.msp_schedule.proofs.feasible.OneMachine.{filter-same}
 use Rattle.msp_schedule.proofs.feasible.LastEnds.{last_end-least}
 use Rattle.msp_schedule.proofs.feasible.Frames.{of_one}
+use Rattle.msp_route.specs.declared.bounds.TheConstants.{GREATEST_ANSWER_MOMENT}
 use Rattle.msp_route.specs.Bounds.{IsAnswer, answer_unit}
 use Rattle.msp_slots.proofs.Begins.{head_at}
 use Rattle.msp_lines.specs.LineSteps.{line_piece, lines_from}
-use Rattle.msp_lines.proofs.Turns.{block_and_rest, rest_small, same_key, later_rest, turn_inside}
+use Rattle.msp_lines.proofs.Turns.{same_key, later_rest, turn_inside}
 use Rattle.msp_lines.proofs.LineFacts.{IsLineShop, own, ones, operations, operation_inside}
 
 pub record AreLineBegins (i : Instance) (begin : ℕ → ℕ) : Type 0 where
   pub released : (j : ℕ) → j < length i.jobs → head_at i j ≤ begin j
   pub apart : (a b : ℕ) → a < length i.jobs → b < length i.jobs → begin a ≡ begin b → a ≡ b
-  pub early : (j : ℕ) → j < length i.jobs → begin j ≤ 4000000000
+  pub early : (j : ℕ) → j < length i.jobs → begin j ≤ 4 * GREATEST
 
 module _ (i : Instance) (late : Bool) (h : IsLineShop i late) (begin : ℕ → ℕ) (own_begins : AreLineBegins i begin) where
   abbrev n : ℕ
@@ -61,7 +63,7 @@ module _ (i : Instance) (late : Bool) (h : IsLineShop i late) (begin : ℕ → �
   many : length pieces ≡ N
   many = length-map-range_with_len piece 0 N
 
-  few : N ≤ (MOST_MACHINES * MOST_JOBS)
+  few : N ≤ MOST_MACHINES * MOST_JOBS
   few = omega (arith, mul-le n m MOST_JOBS MOST_MACHINES h.few h.machines)
 
   piece_is : (k : ℕ) (d : Piece) → k < N → get_or pieces k d ≡ piece k
@@ -178,7 +180,7 @@ module _ (i : Instance) (late : Bool) (h : IsLineShop i late) (begin : ℕ → �
       released r a k g = omega (arith, ints, g)
 
   -- ---- bounds
-  end_small : (x : ℕ) → x < N → begin (x / m) + x % m + 1 ≤ 4000000032
+  end_small : (x : ℕ) → x < N → begin (x / m) + x % m + 1 ≤ 4 * GREATEST + MOST_MACHINES
   end_small x b = omega (arith, own_begins.early (x / m) (job_inside x b), on x, h.machines)
 
   pub lines_within : Within i s
@@ -189,14 +191,14 @@ module _ (i : Instance) (late : Bool) (h : IsLineShop i late) (begin : ℕ → �
     scaled = λ u. inr (omega (arith, ints));
   }
     where
-      moments : (a : ℕ) → a + 1 ≤ 4000000032 → IsMoment (pos a) × IsMoment (pos (a + 1))
+      moments : (a : ℕ) → a + 1 ≤ 4 * GREATEST + MOST_MACHINES → IsMoment (pos a) × IsMoment (pos (a + 1))
       moments a l = ((omega (arith, ints), omega (arith, ints, l)), (omega (arith, ints), omega (arith, ints, l)))
 
   pub lines_answer : IsAnswer i s
   lines_answer = record {
     few = omega (arith, many, few);
     unit = subst (λ k. pos 1 ≤ℤ answer_unit k) (sym h.kind) (omega (arith, ints));
-    ends = all (λ p. p.to ≤ℤ pos 10000000000000000000000000) (λ x b. pos-le (omega (arith, end_small x b)));
+    ends = all (λ p. p.to ≤ℤ GREATEST_ANSWER_MOMENT) (λ x b. pos-le (omega (arith, end_small x b)));
   }
 
   -- a job ends as many units of time after its begin as there are machines

@@ -1,43 +1,13 @@
--- Quotients and rests: turn x of m for each job is that of job x / m with number x mod m.
+-- Turn x of m for each job is that of job x / m with number x mod m.
 use Rattle.std.proofs.Common.{◌≡◌, ℕ, ◌+◌, ◌*◌, ◌/◌, ◌%◌, ◌<◌, ◌≤◌, ◌⊎◌, inl, inr, Bool, true, false, eqb, List, [], ◌∷◌, ◌++◌, map, refl, sym, ap, ap₂, ◌∙◌, arith, zero-add}
 use Rattle.std.specs.Prelude.{◌&&◌}
 use Rattle.std.specs.List.{range_with_len}
 use Rattle.std.proofs.lemmas.List.FromFn.{map-range_with_len_more}
-use Rattle.std.proofs.Math.Nat.{mod-add-div', mod-lt, div-mul-le_self, mul-le-mul_right}
+use Rattle.std.proofs.Math.Nat.{div-mul-le_self, mul-le-mul_right}
 use Rattle.std.proofs.lemmas.Bool.{cases_lt, eqb-true, eqb-false}
+use Rattle.msp_class.proofs.Quotients.{block_and_rest, rest_small, same_block}
 
--- a quotient and a rest determine the number, and a number these
-pub block_and_rest : (m x : ℕ) → x / m * m + x % m ≡ x
-block_and_rest m x = swapped (x % m) (x / m * m) ∙ mod-add-div' x m
-  where
-    swapped : (a b : ℕ) → b + a ≡ a + b
-    swapped a b = omega arith
-
-pub rest_small : (m x : ℕ) → 1 ≤ m → x % m < m
-rest_small m x some = mod-lt x (omega (arith, some))
-
--- of two numbers, that in a lesser block is less
-lesser_block : (m p q r s : ℕ) → r < m → p < q → p * m + r < q * m + s
-lesser_block m p q r s l k = omega (arith, l, mul-le-mul_right m (more p q k))
-  where
-    more : (a b : ℕ) → a < b → a + 1 ≤ b
-    more a b h = omega (arith, h)
-
-pub same_block : (m p q r s : ℕ) → r < m → s < m → p * m + r ≡ q * m + s → (p ≡ q) × (r ≡ s)
-same_block m p q r s l k e = (same, rest same)
-  where
-    same : p ≡ q
-    same = by (cases_lt p q) (cases_lt q p)
-      where
-        by : (p < q) ⊎ (q ≤ p) → (q < p) ⊎ (p ≤ q) → p ≡ q
-        by (inl h) o = absurd (omega (arith, e, lesser_block m p q r s l h))
-        by (inr h) (inl o) = absurd (omega (arith, e, lesser_block m q p s r k o))
-        by (inr h) (inr o) = omega (arith, h, o)
-
-    rest : p ≡ q → r ≡ s
-    rest f = omega (arith, e, ap (λ x. x * m) f)
-
--- so one number tells two
+-- one number tells two
 pub same_key : (m a b c d : ℕ) → b < m → d < m → (eqb a c && eqb b d) ≡ eqb (a * m + b) (c * m + d)
 same_key m a b c d l k = by (eqb a c) refl (eqb b d) refl (eqb (a * m + b) (c * m + d)) refl
   where

@@ -1,6 +1,6 @@
-use Rattle.std.proofs.Common.{◌<◌, ◌≤◌, length, map, All, IsPermutation, sym, ap₂, subst, ◌∙◌, arith}
+use Rattle.std.proofs.Common.{◌*◌, ◌<◌, ◌≤◌, length, map, All, IsPermutation, sym, ap₂, subst, ◌∙◌, arith}
 use Rattle.std.proofs.lemmas.Result.{IfOk-weaker}
-use Rattle.msp_class.specs.declared.sizes.TheConstants.{MOST_JOBS}
+use Rattle.msp_class.specs.declared.sizes.TheConstants.{MOST_JOBS, GREATEST}
 use Rattle.msp_slots.specs.Earliest.{AreSlots}
 use Rattle.msp_lines.specs.LineSteps.{lined}
 use Rattle.msp_lines.proofs.LineFacts.{IsDueShop-from, small, heads_few, heads_low, listed_many, has_costs, columns_inside, columns_few, least_lined}
@@ -18,7 +18,7 @@ earliest_slots-requires-clause-early c =
     let i = c.args.inst.now in
     let d = IsDueShop-from i c.requires.class c.requires.inner in
     let p = subst (λ l. IsPermutation (map (λ j. j.release) l) c.in_ok-heads.heads.items) c.as_slice.ensures c.in_ok-heads.ensures.all in
-    subst (All (λ r. r ≤ 2000000000)) (sym c.as_slice-2.ensures.value) (heads_low i d.late d.is _ p)
+    subst (All (λ r. r ≤ 2 * GREATEST)) (sym c.as_slice-2.ensures.value) (heads_low i d.late d.is _ p)
 
 pub invariant_of-table-clause-jobs : goal.invariant_of-table-clause-jobs
 invariant_of-table-clause-jobs c = let d = IsDueShop-from c.args.inst.now c.requires.class c.requires.inner in omega (arith, d.is.few)
