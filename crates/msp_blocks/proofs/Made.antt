@@ -29,6 +29,7 @@ use Rattle.msp_schedule.proofs.feasible.OneMachine.{apart_in_int, pieces_of-job,
 use Rattle.msp_schedule.specs.BackToBack.{time_at}
 use Rattle.msp_schedule.proofs.feasible.LastEnds.{last_end-least}
 use Rattle.msp_schedule.specs.Blocks.{cost_at}
+use Rattle.msp_route.specs.declared.bounds.TheConstants.{GREATEST_ANSWER_MOMENT}
 use Rattle.msp_route.specs.Bounds.{IsAnswer, answer_unit}
 use Rattle.msp_blocks.specs.Blocks.{IsBestCost}
 use Rattle.msp_heads.specs.Heads.{AreHeads}
@@ -176,7 +177,7 @@ module _ (i : Instance) (one : IsOneInstance i) (heads : List ℕ) (are : AreHea
     scaled = λ u. absurd (not_unrelated (sym one.machine.kind ∙ u));
   }
     where
-      by : (p : Piece) → IsTimed p → finish p ≤ 802000000000 → IsMoment p.from × IsMoment p.to
+      by : (p : Piece) → IsTimed p → finish p ≤ greatest_end → IsMoment p.from × IsMoment p.to
       by p t h = ((omega (arith, ints, t.from), omega (arith, ints, t.from, t.lasts, h)), (omega (arith, ints, t.to), omega (arith, ints, t.to, h)))
 
       not_unrelated : Identical ≡ Unrelated → ⊥
@@ -189,7 +190,7 @@ module _ (i : Instance) (one : IsOneInstance i) (heads : List ℕ) (are : AreHea
     ends = λ k d l. by (get_or ps k d) (timed k d l) (f.ends k d l);
   }
     where
-      by : (p : Piece) → IsTimed p → finish p ≤ 802000000000 → p.to ≤ℤ pos 10000000000000000000000000
+      by : (p : Piece) → IsTimed p → finish p ≤ greatest_end → p.to ≤ℤ GREATEST_ANSWER_MOMENT
       by p t l = omega (arith, ints, t.to, l)
 
 -- no job costs more than so much before the first one is placed

@@ -68,7 +68,7 @@ pub record IsFilling (i : Instance) (head : ℕ → ℕ) (greatest : ℕ) (left 
   -- the jobs that are placed have their time
   pub work : (j : ℕ) → j < length i.jobs → ¬ Contains left j → work_of job_of start finish pieces j ≡ time_at i j
   -- how many they are, and how late
-  pub few : length pieces + MOST_JOBS * length left ≤ (MOST_JOBS * MOST_JOBS)
+  pub few : length pieces + MOST_JOBS * length left ≤ MOST_JOBS * MOST_JOBS
   pub ends : All (λ p. finish p ≤ greatest) pieces
 
 -- The jobs are a block of that value.

@@ -8,7 +8,7 @@ use Rattle.msp_blocks.proofs.filling.first_block.Given as goal
 abbrev pub invariant-loop-end : goal.invariant-loop-end
 invariant-loop-end l = record {
   block : IsFirstBlock (λ j. slice_index_or l.heads j 0) (time_at l.inst) l.left l.count l.end;
-  small : l.end ≤ GREATEST * ((MOST_JOBS + 2) + l.count);
+  small : l.end ≤ GREATEST * (MOST_JOBS + 2 + l.count);
 }
 
 abbrev pub decreases-loop-end : goal.decreases-loop-end
