@@ -104,7 +104,7 @@ module _ (i : Instance) (h : IsShortestInstance i) (order : List ℕ)
     not_late : (job_at i a.task.job).release ≤ a.release
     not_late = omega (arith, release_is, ap release job_is)
 
-    pub early : (a.release ≤ 2000000000) × (0 < a.task.left)
+    pub early : (a.release ≤ 2 * GREATEST) × (0 < a.task.left)
     early = (omega (arith, release_is, is_early i h.one (at k) (inside k l)), omega (arith, left_is, takes_time i h.one (at k) (inside k l)))
 
     -- one more round
@@ -137,7 +137,7 @@ module _ (i : Instance) (h : IsShortestInstance i) (order : List ℕ)
       last = on i order (λ j m _. brought-all i order once j m) (subst (λ bs. IsUnderWay i bs t old xs) (take_all k order l) u)
 
       -- how long all jobs take
-      whole : sum_by (time_at i) order ≤ (MOST_JOBS * GREATEST)
+      whole : sum_by (time_at i) order ≤ MOST_JOBS * GREATEST
       whole =
           omega (
             arith,

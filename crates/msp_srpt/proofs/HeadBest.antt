@@ -25,6 +25,7 @@ use Rattle.msp_schedule.proofs.feasible.OneEach.{AreOneEach, one_each_is_feasibl
 use Rattle.msp_schedule.proofs.feasible.OneMachine.{IsPlan-from_feasible, last_end-is}
 use Rattle.msp_schedule.proofs.lists.Intervals.{last_of}
 use Rattle.msp_heads.specs.Heads.{head_in, AreHeads}
+use Rattle.msp_route.specs.declared.bounds.TheConstants.{GREATEST_ANSWER_MOMENT}
 use Rattle.msp_route.specs.Bounds.{IsAnswer, answer_unit}
 use Rattle.msp_route.proofs.OneEach.{one_each_is_answer}
 use Rattle.msp_route.proofs.OneInstances.{takes_time, is_short}
@@ -81,13 +82,13 @@ module _ (i : Instance) (h : IsEqualInstance i) (heads : List ℕ) (are : AreHea
   short : (k : ℕ) → k < n → time ≤ GREATEST
   short k l = subst (λ x. x ≤ GREATEST) (h.same k l) (is_short i h.one k l)
 
-  soon : (k : ℕ) → k < n → begin k + time ≤ ((2 * MOST_JOBS + 3) * GREATEST)
+  soon : (k : ℕ) → k < n → begin k + time ≤ (2 * MOST_JOBS + 3) * GREATEST
   soon k l =
       let run = run_of i h heads are pieces r k l in
       let lf : number run.first < length heads = omega (arith, number_inside i h heads are pieces r run.first (omega (arith, run.place, l)), are.each) in
       early (begin k) (head_in heads (number run.first)) run.more time run.begin_is (are.small (number run.first) 0 lf) (omega (arith, run.place, l, h.one.few)) (short k l)
     where
-      early : (b x m t : ℕ) → b ≡ x + m * t → x ≤ GREATEST * (2 + MOST_JOBS) → m ≤ MOST_JOBS → t ≤ GREATEST → b + t ≤ ((2 * MOST_JOBS + 3) * GREATEST)
+      early : (b x m t : ℕ) → b ≡ x + m * t → x ≤ GREATEST * (2 + MOST_JOBS) → m ≤ MOST_JOBS → t ≤ GREATEST → b + t ≤ (2 * MOST_JOBS + 3) * GREATEST
       early b x m t e p q u = omega (arith, e, p, u, mul-le m t MOST_JOBS GREATEST q u)
 
   apart : (a b : ℕ) (d : Piece) → a < b → b < length pieces → IsBefore (get_or pieces a d) (get_or pieces b d)
@@ -123,7 +124,7 @@ module _ (i : Instance) (h : IsEqualInstance i) (heads : List ℕ) (are : AreHea
     whole = each (IsWholeWork (kind_of i.class.env) i (pos 1)) (λ k l.
         subst (λ e. IsWholeWork e i (pos 1) (piece (number k) (begin k) (begin k + time)))
         (sym h.one.machine.kind) (work (begin k) time (time_at i (number k)) (h.same (number k) (number_inside i h heads are pieces r k l))));
-    ends = each (λ p. p.to ≤ℤ pos 10000000000000000000000000) (λ k l. pos-le (omega (arith, soon k l)));
+    ends = each (λ p. p.to ≤ℤ GREATEST_ANSWER_MOMENT) (λ k l. pos-le (omega (arith, soon k l)));
   }
     where
       released : (x y : ℕ) → x ≤ y → (pos 1 *ℤ pos x) ≤ℤ pos y

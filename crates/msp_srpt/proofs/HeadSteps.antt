@@ -22,7 +22,7 @@ pub record HaveRun (i : Instance) (heads order : List ℕ) (k moment : ℕ) (pie
   pub whole : All (λ p. p ≡ piece p.job (start p) (start p + time_at i p.job)) pieces
   pub early : (m : ℕ) → m < k → start (piece_number pieces m) ≡ max (end_before pieces m) (head_in heads (piece_number pieces m).job)
   pub now : moment ≡ end_before pieces k
-  pub soon : moment ≤ GREATEST * ((MOST_JOBS + 2) + k)
+  pub soon : moment ≤ GREATEST * (MOST_JOBS + 2 + k)
 
 pub HaveRun-start : (i : Instance) (heads order : List ℕ) → HaveRun i heads order 0 0 []
 HaveRun-start i heads order = record { within = omega arith; jobs = refl; whole = λ k d l. absurd (omega (arith, l)); early = λ m l. absurd (omega (arith, l)); now = refl; soon = omega arith }
@@ -113,7 +113,7 @@ module _ (i : Instance) (one : IsOneInstance i) (heads order : List ℕ) (are : 
     short : time_at i job ≤ GREATEST
     short = is_short i one job job_inside
 
-    pub ends_soon : from + length_is ≤ ((2 * MOST_JOBS + 3) * GREATEST)
+    pub ends_soon : from + length_is ≤ (2 * MOST_JOBS + 3) * GREATEST
     ends_soon = omega (arith, begins, lasts, head_low, short, h.soon, some, length-OnceBelow (OnceBelow-from_permutation all), one.few)
 
     pub have_next : (new : List Piece) → new ≡ old ++ piece job from (from + length_is) ∷ [] → HaveRun i heads order (k + 1) (from + length_is) new

@@ -1,10 +1,11 @@
 -- The steps of the rule: a job comes, the first task runs, none waits.
-use Rattle.std.proofs.Common.{◌≡◌, ℕ, ◌+◌, ◌-◌, ◌<◌, ◌≤◌, ◌⊎◌, inl, inr, min, Bool, true, false, cond, List, [], ◌∷◌, ◌++◌, length, get_or, All, Contains, IsPermutation, sum_by}
+use Rattle.std.proofs.Common.{◌≡◌, ℕ, ◌+◌, ◌*◌, ◌-◌, ◌<◌, ◌≤◌, ◌⊎◌, inl, inr, min, Bool, true, false, cond, List, [], ◌∷◌, ◌++◌, length, get_or, All, Contains, IsPermutation, sum_by}
 use Rattle.std.proofs.Common.{count_by, refl, sym, ap, ◌∙◌, subst, arith}
 use Rattle.std.specs.Prelude.{◌==◌}
 use Rattle.std.proofs.lemmas.Bool.{cases_lt, eqb-true, eq-eqb}
 use Rattle.std.proofs.lemmas.List.Elements.{All-cons, All-head, All-tail, All-contains}
 use Rattle.std.proofs.lemmas.List.Sorted.{All-permutation, length_permutation}
+use Rattle.msp_class.specs.declared.sizes.TheConstants.{GREATEST}
 use Rattle.msp_class.proofs.Sums.{sum_by-append, sum_by-cons, sum_by-none, sum_by-some, sum_by-contains, sum_by-IsPermutation, cond-yes, cond-no}
 use Rattle.msp_instance.specs.declared.Instance.{Instance}
 use Rattle.msp_instance.specs.Instance.{job_at}
@@ -130,7 +131,7 @@ module _ (i : Instance) (seen : List ℕ) (t v : ℕ) (ps : List Piece) (later :
 -- ---- a job comes
 pub IsUnderWay-comes : (i : Instance) (seen : List ℕ) (t : ℕ) (ps : List Piece) (xs : List Task) (x : Task)
     → x.job < length i.jobs → (job_at i x.job).release ≤ t → x.left ≡ time_at i x.job → 0 < x.left
-    → count_by (λ y. y == x.job) seen ≡ 0 → t ≤ 2000000000 → IsUnderWay i seen t ps xs → IsUnderWay i (seen ++ x.job ∷ []) t ps (x ∷ xs)
+    → count_by (λ y. y == x.job) seen ≡ 0 → t ≤ 2 * GREATEST → IsUnderWay i seen t ps xs → IsUnderWay i (seen ++ x.job ∷ []) t ps (x ∷ xs)
 IsUnderWay-comes i seen t ps xs x inside released is some new early u = record {
   laid = u.laid;
   kept = u.kept;
@@ -154,7 +155,7 @@ IsUnderWay-comes i seen t ps xs x inside released is some new early u = record {
     distinct_at j true e = omega (arith, seen-more j, cond-yes 1 e, new, ap (λ k. count_by (λ y. y == k) seen) (eqb-true x.job j e))
     distinct_at j false e = omega (arith, seen-more j, cond-no 1 e, u.distinct j)
 
-    before : (ys : List Task) → (0 < length ys → t + lefts ys ≤ 2000000000 + sum_by (time_at i) seen) → t + lefts ys ≤ 2000000000 + sum_by (time_at i) seen
+    before : (ys : List Task) → (0 < length ys → t + lefts ys ≤ 2 * GREATEST + sum_by (time_at i) seen) → t + lefts ys ≤ 2 * GREATEST + sum_by (time_at i) seen
     before [] h = omega (arith, early)
     before (y ∷ ys) h = h (omega arith)
 

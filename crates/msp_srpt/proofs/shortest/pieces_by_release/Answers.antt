@@ -35,6 +35,6 @@ returns c =
     let l = c.loop-k.invariant in
     let whole : length c.args.order.now ≤ c.loop-k.k = omega (arith, c.loop-k-test.false) in
     let few : length c.run_until-2.new.pieces.items ≤ 2 * length c.args.order.now + 1 = omega (arith, c.in_ok-run_until-2.ensures.few, l.few, whole) in (
-      ((MOST_JOBS + 3) * GREATEST),
+      (MOST_JOBS + 3) * GREATEST,
       carried_out i h c.args.order.now c.requires.all c.requires.sorted c.loop-k.k c.loop-k.moment _ _ _ _ _ whole l.way c.in_ok-run_until-2.ensures.next c.from_vec.ensures few,
     )
