@@ -2,7 +2,8 @@
 use Rattle.std.proofs.Common.{◌≡◌, ℕ, ◌+◌, ◌*◌, ◌/◌, ◌%◌, ◌<◌, ◌≤◌, inl, List, length, pos, nat_abs, refl, sym, ap, subst, arith}
 use Rattle.std.proofs.Math.Nat.{div-le_self, mul-le-mul_right}
 use Rattle.std.proofs.lemmas.Nat.{mul-le}
-use Rattle.msp_class.specs.declared.sizes.TheConstants.{MOST_JOBS}
+use Rattle.msp_class.specs.declared.sizes.TheConstants.{MOST_JOBS, GREATEST_EQUAL_TIME}
+use Rattle.msp_class.proofs.Quotients.{rest_small}
 use Rattle.msp_class.proofs.Sums.{total_below-same}
 use Rattle.msp_instance.specs.declared.Instance.{Instance}
 use Rattle.msp_instance.specs.Instance.{common_time}
@@ -15,7 +16,7 @@ use Rattle.msp_cut_sums.proofs.Falling.{order_once, order_many, order_inside, or
 use Rattle.msp_cut_sums.proofs.InBlocks.{weights_bound}
 use Rattle.msp_cut_sums.proofs.Instances.{IsWeightsInstance, weights_operations, weights_time, weights_span}
 use Rattle.msp_cut_sums.proofs.Placed.{ArePlaced, placed_is_feasible, placed_is_within, placed_is_answer, placed_ends}
-use Rattle.msp_cut_sums.proofs.Rests.{rest_small, blocks_rise}
+use Rattle.msp_cut_sums.proofs.Rests.{blocks_rise}
 use Rattle.msp_schedule.proofs.bounds.Room.{end_at}
 use Rattle.msp_cut_sums.proofs.Room.{room_in_order}
 use Rattle.msp_cut_sums.proofs.Summed.{IsSumOf-weights, IsSumAnswer, answered}
@@ -52,7 +53,7 @@ module _ (i : Instance) (h : IsWeightsInstance i) (order : List ℕ) (sorted : I
     some = λ x l. omega (arith, weights_time i h (at order x) (inside x (omega (arith, l, many))), (weights_span i h).0);
     on_machine = λ x y l b e. inl (mul-le-mul_right span (more (x / m) (y / m) (blocks_rise m x y l e)));
     of_job = λ x y l b e. absurd (differ x y l b e);
-    early = λ x l. omega (arith, mul-le (x / m + 1) span MOST_JOBS 1000000 (omega (arith, div-le_self x m, l, many, h.few)) (weights_span i h).1);
+    early = λ x l. omega (arith, mul-le (x / m + 1) span MOST_JOBS GREATEST_EQUAL_TIME (omega (arith, div-le_self x m, l, many, h.few)) (weights_span i h).1);
   }
     where
       differ : (x y : ℕ) → x < y → y < length order → at order x ≡ at order y → ⊥

@@ -9,6 +9,7 @@ use Rattle.std.proofs.lemmas.List.Sums.{sum_by-take-drop, sum_by-take-le}
 use Rattle.std.proofs.lemmas.Nat.{le-div}
 use Rattle.std.proofs.Math.Nat.{add-div_left, div-eq_of_lt, div-le_self, div-mul-le_self, mul-le-mul_left}
 use Rattle.msp_class.specs.Sums.{total_below}
+use Rattle.msp_class.proofs.FallingWeights.{abel}
 use Rattle.msp_class.proofs.Sums.{sum_by-mono, sum_by-same, sum_by-add, sum_by-constant, sum_by-none, sum_by-OnceBelow, OnceBelow, OnceBelow-range, OnceBelow-distinct}
 use Rattle.msp_class.proofs.Sums.{length-OnceBelow, total_below-same, total_below-add, total_below-scale, total_below-constant, total_below-none, total_below-split}
 use Rattle.msp_schedule.proofs.lists.Places.{sum_by-places}
@@ -49,30 +50,6 @@ in_blocks-step m n f some = split ∙ ap (λ x. total_below n f + x) (by (cases_
 
 pub in_blocks-same : (m n : ℕ) (f g : ℕ → ℕ) → ((k : ℕ) → k < n → f k ≡ g k) → in_blocks m n f ≡ in_blocks m n g
 in_blocks-same m n f g h = total_below-same n _ _ (λ k l. ap (λ x. (k / m + 1) * x) (h k l))
-
--- ---- Abel: where the weights fall, smaller prefixes give a smaller sum
-crossed : (u v a b : ℕ) → v ≤ u → b ≤ a → u * b + v * a ≤ u * a + v * b
-crossed u v a b h k = by u v a b (u - v) (a - b) (omega arith) (omega arith)
-  where
-    by : (u v a b d e : ℕ) → u ≡ v + d → a ≡ b + e → u * b + v * a ≤ u * a + v * b
-    by u v a b d e p q = omega (arith, ap (λ x. x * b) p, ap (λ x. v * x) q, ap (λ x. x * a) p, ap (λ x. d * x) q)
-
-abel_more : (n : ℕ) (w x y : ℕ → ℕ) → ((a b : ℕ) → a ≤ b → b < n → w b ≤ w a) → ((q : ℕ) → q ≤ n → total_below q y ≤ total_below q x)
-    → (v : ℕ) → ((r : ℕ) → r < n → v ≤ w r) → total_below n (λ r. w r * y r) + v * total_below n x ≤ total_below n (λ r. w r * x r) + v * total_below n y
-abel_more zero w x y falls less v low = omega arith
-abel_more (suc n) w x y falls less v low =
-    by (w n) (x n) (y n) (total_below n x) (total_below n y) _ _
-    (abel_more n w x y (λ a b l m. falls a b l (omega arith)) (λ q l. less q (omega arith)) (w n) (λ r l. falls r n (omega arith) (omega arith)))
-    (crossed (w n) v (total_below n x + x n) (total_below n y + y n) (low n (omega arith)) (less (suc n) (omega arith)))
-  where
-    by : (w x y xs ys p q : ℕ) → p + w * xs ≤ q + w * ys → w * (ys + y) + v * (xs + x) ≤ w * (xs + x) + v * (ys + y) → p + w * y + v * (xs + x) ≤ q + w * x + v * (ys + y)
-    by w x y xs ys p q h k = omega arith
-
-pub abel : (n : ℕ) (w x y : ℕ → ℕ) → ((a b : ℕ) → a ≤ b → b < n → w b ≤ w a) → ((q : ℕ) → q ≤ n → total_below q y ≤ total_below q x) → total_below n (λ r. w r * y r) ≤ total_below n (λ r. w r * x r)
-abel n w x y falls less = by _ _ (total_below n x) (total_below n y) (abel_more n w x y falls less 0 (λ r l. omega arith))
-  where
-    by : (p q a b : ℕ) → p + 0 * a ≤ q + 0 * b → p ≤ q
-    by p q a b h = omega arith
 
 -- ---- the greatest numbers of a falling list
 module _ (f : ℕ → ℕ) (ys : List ℕ) (falls : AllPairs (λ a b. f b ≤ f a) ys) (q : ℕ) (some : 1 ≤ q) (short : q ≤ length ys) where

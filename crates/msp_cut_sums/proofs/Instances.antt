@@ -1,10 +1,12 @@
 -- What the instances of the classes have.
-use Rattle.std.proofs.Common.{◌≡◌, ℕ, ◌*◌, ◌<◌, ◌≤◌, true, not, [], length, get_or, All, pos, ◌≤ℤ◌, inl, inr, ◌⊎◌, sym, ap, subst, ◌∙◌, arith, slice_index_or}
+use Rattle.std.proofs.Common.{◌≡◌, ℕ, ◌*◌, ◌<◌, ◌≤◌, Bool, true, false, not, [], length, get_or, All, pos, ◌≤ℤ◌, inl, inr, ◌⊎◌, sym, ap, subst, ◌∙◌, arith, slice_index_or}
 use Rattle.std.proofs.lemmas.Int.{ints}
 use Rattle.std.proofs.lemmas.List.{get_or_default}
-use Rattle.msp_class.specs.declared.sizes.TheConstants.{MOST_JOBS, MOST_MACHINES, GREATEST}
+use Rattle.msp_class.specs.declared.sizes.TheConstants.{MOST_JOBS, MOST_MACHINES, GREATEST, GREATEST_EQUAL_TIME}
 use Rattle.msp_class.specs.declared.environments.EnvKind.TheVariants.{Identical, Unrelated, OpenShop}
 use Rattle.msp_class.specs.declared.class.Crit.TheVariants.{SumWC}
+use Rattle.msp_class.specs.declared.class.Times.{Times}
+use Rattle.msp_class.specs.declared.class.Times.TheVariants.{Unit as UnitTimes, Equal}
 use Rattle.msp_class.specs.Env.{kind_of, is_shop, is_shop_kind, is_mirror_kind}
 use Rattle.msp_class.specs.Sums.{total_below}
 use Rattle.msp_class.proofs.Sums.{total_below-same, total_below-constant}
@@ -61,7 +63,7 @@ module _ (i : Instance) (h : IsWeightsInstance i) where
   pub weights_time : (j : ℕ) → j < length i.jobs → time_at i j ≡ common_time i
   weights_time j l = (h.jobs j no_job l).times 0 no_need (omega (arith, (h.jobs j no_job l).needs.shape.0))
 
-  pub weights_span : (1 ≤ common_time i) × (common_time i ≤ 1000000)
+  pub weights_span : (1 ≤ common_time i) × (common_time i ≤ GREATEST_EQUAL_TIME)
   weights_span = let n = (h.jobs 0 no_job (omega (arith, h.some))).needs in n.times 0 no_need (omega (arith, n.shape.0))
 
   pub weights_small : All (λ j. j.weight ≤ GREATEST) i.jobs
@@ -81,11 +83,12 @@ pub record IsEvenShop (i : Instance) : Type 0 where
   pub needs : (j : ℕ) → j < length i.jobs → length (job_at i j).needs ≡ i.machines
   pub own : (j o : ℕ) → j < length i.jobs → o < i.machines → (need_at i j o).machine ≡ o
   pub time : (j o : ℕ) → j < length i.jobs → o < i.machines → (need_at i j o).time ≡ common_time i
-  pub span : (1 ≤ common_time i) × (common_time i ≤ 1000000)
+  pub span : (1 ≤ common_time i) × (common_time i ≤ GREATEST_EQUAL_TIME)
   pub weights : All (λ j. j.weight ≤ GREATEST) i.jobs
 
-IsEvenShop-from_unit : (i : Instance) → IsOfClass i open_weights_class → IsEvenShop i
-IsEvenShop-from_unit i h = record {
+even_shop : (i : Instance) (cut : Bool) (times : Times) → IsOfClass i (record cut_open_weights_class { cut = cut; times = times })
+    → ((j o : ℕ) → j < length i.jobs → o < i.machines → (need_at i j o).time ≡ common_time i) → (1 ≤ common_time i) × (common_time i ≤ GREATEST_EQUAL_TIME) → IsEvenShop i
+even_shop i cut times h time span = record {
   kind = h.kind;
   crit = h.crit;
   arcs = h.arcs;
@@ -96,37 +99,29 @@ IsEvenShop-from_unit i h = record {
   machines = h.machines;
   needs = λ j l. (h.jobs j no_job l).needs.shape.0;
   own = λ j o l b. let s = (h.jobs j no_job l).needs.shape in s.1 o (omega (arith, s.0, b));
-  time = λ j o l b. one j o l b ∙ sym first;
-  span = (omega (arith, first), omega (arith, first));
+  time = time;
+  span = span;
   weights = λ k d l. (h.jobs k d l).weight.1;
 }
+
+pub IsEvenShop-from : (i : Instance) → (i.class ≡ open_weights_class) ⊎ (i.class ≡ cut_open_weights_class) → Inner i → IsEvenShop i
+IsEvenShop-from i (inl e) inner = even_shop i false UnitTimes h (λ j o l b. one j o l b ∙ sym first) (omega (arith, first), omega (arith, first))
   where
+    h : IsOfClass i open_weights_class
+    h = IsOfClass-from i open_weights_class e inner
+
     one : (j o : ℕ) → j < length i.jobs → o < i.machines → (need_at i j o).time ≡ 1
     one j o l b = let w = h.jobs j no_job l in w.times o no_need (omega (arith, w.needs.shape.0, b))
 
     first : common_time i ≡ 1
     first = one 0 0 (omega (arith, h.some)) (omega (arith, h.machine))
+IsEvenShop-from i (inr e) inner = even_shop i true Equal h (λ j o l b. let w = h.jobs j no_job l in w.times o no_need (omega (arith, w.needs.shape.0, b))) span
+  where
+    h : IsOfClass i cut_open_weights_class
+    h = IsOfClass-from i cut_open_weights_class e inner
 
-IsEvenShop-from_equal : (i : Instance) → IsOfClass i cut_open_weights_class → IsEvenShop i
-IsEvenShop-from_equal i h = record {
-  kind = h.kind;
-  crit = h.crit;
-  arcs = h.arcs;
-  release = λ j l. (h.jobs j no_job l).release;
-  some = h.some;
-  few = h.few;
-  machine = h.machine;
-  machines = h.machines;
-  needs = λ j l. (h.jobs j no_job l).needs.shape.0;
-  own = λ j o l b. let s = (h.jobs j no_job l).needs.shape in s.1 o (omega (arith, s.0, b));
-  time = λ j o l b. let w = h.jobs j no_job l in w.times o no_need (omega (arith, w.needs.shape.0, b));
-  span = let n = (h.jobs 0 no_job (omega (arith, h.some))).needs in n.times 0 no_need (omega (arith, n.shape.0, h.machine));
-  weights = λ k d l. (h.jobs k d l).weight.1;
-}
-
-pub IsEvenShop-from : (i : Instance) → (i.class ≡ open_weights_class) ⊎ (i.class ≡ cut_open_weights_class) → Inner i → IsEvenShop i
-IsEvenShop-from i (inl e) inner = IsEvenShop-from_unit i (IsOfClass-from i open_weights_class e inner)
-IsEvenShop-from i (inr e) inner = IsEvenShop-from_equal i (IsOfClass-from i cut_open_weights_class e inner)
+    span : (1 ≤ common_time i) × (common_time i ≤ GREATEST_EQUAL_TIME)
+    span = let n = (h.jobs 0 no_job (omega (arith, h.some))).needs in n.times 0 no_need (omega (arith, n.shape.0, h.machine))
 
 module _ (i : Instance) (h : IsEvenShop i) where
   pub shop_is : is_shop i.class.env ≡ true

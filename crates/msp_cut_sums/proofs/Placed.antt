@@ -4,14 +4,15 @@ use Rattle.std.proofs.Common.{refl, sym, ap, ap₂, subst, subst₂, ◌∙◌, 
 use Rattle.std.specs.Prelude.{◌==◌, ◌&&◌}
 use Rattle.std.specs.List.{range_with_len}
 use Rattle.std.proofs.Math.Nat.{mul-le-mul_right}
-use Rattle.std.proofs.lemmas.Bool.{cases_lt, eqb-true, eqb-false, eq-eqb}
+use Rattle.std.proofs.lemmas.Bool.{eqb-true, eqb-false}
 use Rattle.std.proofs.lemmas.Int.{ints}
 use Rattle.std.proofs.lemmas.List.{length-map, get_or-map}
 use Rattle.std.proofs.lemmas.List.Elements.{All-nil}
 use Rattle.std.proofs.lemmas.List.FromFn.{get_or-map-range_with_len, length-map-range_with_len}
-use Rattle.msp_class.specs.declared.sizes.TheConstants.{MOST_JOBS, MOST_MACHINES}
+use Rattle.msp_class.specs.declared.sizes.TheConstants.{MOST_JOBS, MOST_MACHINES, GREATEST}
 use Rattle.msp_class.specs.Env.{kind_of, is_mirror_kind}
 use Rattle.msp_class.proofs.IntegerRing.{pos-le, pos-lt, zero-le-pos, *ℤ-one, +ℤ_idl}
+use Rattle.msp_class.proofs.Quotients.{same_block}
 use Rattle.msp_class.proofs.Sums.{OnceBelow, OnceBelow-from_distinct}
 use Rattle.msp_instance.specs.declared.Arc.{Arc}
 use Rattle.msp_instance.specs.declared.Instance.{Instance}
@@ -24,9 +25,10 @@ use Rattle.msp_schedule.specs.Cost.{end_of}
 use Rattle.msp_schedule.specs.Feasible.{Feasible, HasOperation, MayRun, total, whole_work}
 use Rattle.msp_schedule.specs.Within.{IsMoment, Within}
 use Rattle.msp_schedule.proofs.lists.OnceEach.{OnceBelow-one}
-use Rattle.msp_schedule.proofs.feasible.OneMachine.{both_true, filter-same}
+use Rattle.msp_schedule.proofs.feasible.OneMachine.{filter-same}
 use Rattle.msp_schedule.proofs.feasible.LastEnds.{last_end-least}
 use Rattle.msp_schedule.proofs.feasible.Frames.{IsShaped, rate_on, frame_of, Stands, Fits, Gets, Lasts, part, of_operation, of_one, named_one, Feasible-from_fits}
+use Rattle.msp_route.specs.declared.bounds.TheConstants.{GREATEST_ANSWER_MOMENT}
 use Rattle.msp_route.specs.Bounds.{IsAnswer, answer_unit}
 use Rattle.msp_cut_sums.specs.Pieces.{part as part_at}
 
@@ -44,7 +46,7 @@ pub record HasOperations (i : Instance) (ops : ℕ) : Type 0 where
 -- place x has an operation of a job, a machine, and the moments from which and to which it runs
 pub record ArePlaced (i : Instance) (ops N : ℕ) (job op machine from to : ℕ → ℕ) : Type 0 where
   pub count : N ≡ length i.jobs * ops
-  pub few : N ≤ (MOST_MACHINES * MOST_JOBS)
+  pub few : N ≤ MOST_MACHINES * MOST_JOBS
   pub job_inside : (x : ℕ) → x < N → job x < length i.jobs
   pub op_inside : (x : ℕ) → x < N → op x < ops
   pub operation : (x : ℕ) → x < N → HasOperation (kind_of i.class.env) i (job x) (op x)
@@ -54,32 +56,17 @@ pub record ArePlaced (i : Instance) (ops N : ℕ) (job op machine from to : ℕ 
   pub some : (x : ℕ) → x < N → 1 ≤ (need_at i (job x) (op x)).time
   pub on_machine : (x y : ℕ) → x < y → y < N → machine x ≡ machine y → (to x ≤ from y) ⊎ (to y ≤ from x)
   pub of_job : (x y : ℕ) → x < y → y < N → job x ≡ job y → (to x ≤ from y) ⊎ (to y ≤ from x)
-  pub early : (x : ℕ) → x < N → to x ≤ 1000000000000
+  pub early : (x : ℕ) → x < N → to x ≤ MOST_JOBS * GREATEST
 
 same_key : (w a b c d : ℕ) → b < w → d < w → (eqb a c && eqb b d) ≡ eqb (a * w + b) (c * w + d)
 same_key w a b c d l k = by (eqb a c) refl (eqb b d) refl (eqb (a * w + b) (c * w + d)) refl
   where
-    less : (a b c d : ℕ) → b < w → a < c → a * w + b ≡ c * w + d → ⊥
-    less a b c d l h e = omega (arith, e, l, mul-le-mul_right w (more a c h))
-      where
-        more : (a c : ℕ) → a < c → a + 1 ≤ c
-        more a c h = omega (arith, h)
-
-    differ : a ≢ c → a * w + b ≡ c * w + d → ⊥
-    differ n e = elim (cases_lt a c) [ inl h ↦ less a b c d l h e | inr h ↦ less c d a b k (omega (arith, h, other n)) (sym e) ]
-      where
-        other : a ≢ c → c ≢ a
-        other n e = n (sym e)
-
     by : (x : Bool) → eqb a c ≡ x → (y : Bool) → eqb b d ≡ y → (z : Bool) → eqb (a * w + b) (c * w + d) ≡ z → (x && y) ≡ z
     by true e true f true g = refl
     by true e true f false g = absurd (eqb-false (a * w + b) (c * w + d) g (ap₂ (λ x y. x * w + y) (eqb-true a c e) (eqb-true b d f)))
-    by true e false f true g = absurd (eqb-false b d f (rest (eqb-true a c e) (eqb-true (a * w + b) (c * w + d) g)))
-      where
-        rest : a ≡ c → a * w + b ≡ c * w + d → b ≡ d
-        rest e g = omega (arith, ap (λ x. x * w) e, g)
+    by true e false f true g = absurd (eqb-false b d f (same_block w a c b d l k (eqb-true (a * w + b) (c * w + d) g)).1)
     by true e false f false g = refl
-    by false e y f true g = absurd (differ (eqb-false a c e) (eqb-true (a * w + b) (c * w + d) g))
+    by false e y f true g = absurd (eqb-false a c e (same_block w a c b d l k (eqb-true (a * w + b) (c * w + d) g)).0)
     by false e y f false g = refl
 
 module _ (i : Instance) (ops N : ℕ) (job op machine from to : ℕ → ℕ) (h : HasOperations i ops) (placed : ArePlaced i ops N job op machine from to) where
@@ -126,11 +113,8 @@ module _ (i : Instance) (ops N : ℕ) (job op machine from to : ℕ → ℕ) (h 
       distinct a b d l k e =
           let q : b < N = omega (arith, k, many, length-map pieces key) in
           let p : a < N = omega (arith, l, q) in
-          let same = both (job a) (op a) (job b) (op b) (placed.op_inside a p) (placed.op_inside b q) (sym (key_is a d p) ∙ e ∙ key_is b d q) in
+          let same = same_block ops (job a) (job b) (op a) (op b) (placed.op_inside a p) (placed.op_inside b q) (sym (key_is a d p) ∙ e ∙ key_is b d q) in
           placed.once a b l q same.0 same.1
-        where
-          both : (a b c d : ℕ) → b < ops → d < ops → a * ops + b ≡ c * ops + d → (a ≡ c) × (b ≡ d)
-          both a b c d l k e = let t = both_true _ _ (same_key ops a b c d l k ∙ eq-eqb _ _ e) in (eqb-true a c t.0, eqb-true b d t.1)
 
   gets : (j o : ℕ) → j < length i.jobs → o < ops → Gets (frame_of i) (pos 1) pieces j o
   gets j o l k = record { one = λ _. found; sum = by found.0 found.1 }
@@ -193,11 +177,11 @@ module _ (i : Instance) (ops N : ℕ) (job op machine from to : ℕ → ℕ) (h 
     scaled = λ u. inr (omega (arith, ints));
   }
     where
-      moments : (a b : ℕ) → b ≤ 1000000000000 → a ≤ b → IsMoment (pos a) × IsMoment (pos b)
+      moments : (a b : ℕ) → b ≤ MOST_JOBS * GREATEST → a ≤ b → IsMoment (pos a) × IsMoment (pos b)
       moments a b l k = ((omega (arith, ints), omega (arith, ints, l, k)), (omega (arith, ints), omega (arith, ints, l)))
 
   pub placed_is_answer : IsAnswer i s
-  placed_is_answer = record { few = omega (arith, many, placed.few); unit = h.unit; ends = all (λ p. p.to ≤ℤ pos 10000000000000000000000000) (λ x b. pos-le (omega (arith, placed.early x b))) }
+  placed_is_answer = record { few = omega (arith, many, placed.few); unit = h.unit; ends = all (λ p. p.to ≤ℤ GREATEST_ANSWER_MOMENT) (λ x b. pos-le (omega (arith, placed.early x b))) }
 
   -- a job ends by the moment by which its places do
   pub placed_ends : (j end : ℕ) → ((x : ℕ) → x < N → job x ≡ j → to x ≤ end) → end_of s j ≤ℤ pos end

@@ -3,7 +3,8 @@ use Rattle.std.proofs.Common.{◌≡◌, ◌≢◌, ℕ, ◌+◌, ◌*◌, ◌-�
 use Rattle.std.proofs.Math.Nat.{div-le_self, div-mul-le_self, mul-le-mul_right}
 use Rattle.std.proofs.lemmas.Nat.{mul-le}
 use Rattle.std.proofs.lemmas.Bool.{cases_lt}
-use Rattle.msp_class.specs.declared.sizes.TheConstants.{MOST_JOBS, MOST_MACHINES}
+use Rattle.msp_class.specs.declared.sizes.TheConstants.{MOST_JOBS, MOST_MACHINES, GREATEST, GREATEST_EQUAL_TIME}
+use Rattle.msp_class.proofs.Quotients.{block_and_rest, rest_small, same_block}
 use Rattle.msp_class.proofs.Sums.{total_below-same}
 use Rattle.msp_instance.specs.declared.Instance.{Instance}
 use Rattle.msp_instance.specs.Instance.{common_time, need_at}
@@ -16,7 +17,7 @@ use Rattle.msp_cut_sums.proofs.Falling.{order_once, order_many, order_inside, or
 use Rattle.msp_cut_sums.proofs.InBlocks.{weights_bound}
 use Rattle.msp_cut_sums.proofs.Instances.{IsEvenShop, shop_is, shop_operations, shop_machines, shop_length}
 use Rattle.msp_cut_sums.proofs.Placed.{ArePlaced, placed_is_feasible, placed_is_within, placed_is_answer, placed_ends}
-use Rattle.msp_cut_sums.proofs.Rests.{block_and_rest, rest_small, same_block, rests_differ}
+use Rattle.msp_cut_sums.proofs.Rests.{rests_differ}
 use Rattle.msp_schedule.proofs.bounds.Room.{end_at}
 use Rattle.msp_cut_sums.proofs.Room.{room_in_order}
 use Rattle.msp_cut_sums.proofs.Summed.{IsSumOf-weights, IsSumAnswer, answered}
@@ -152,11 +153,11 @@ module _ (i : Instance) (h : IsEvenShop i) (order : List ℕ) (sorted : IsByFall
       lasts : (a s t : ℕ) → t ≡ s → (a + 1) * s ≡ a * s + t
       lasts a s t e = omega (arith, e)
 
-      early : (x : ℕ) → x < N → to x ≤ 1000000000000
+      early : (x : ℕ) → x < N → to x ≤ MOST_JOBS * GREATEST
       early x l =
           let k = place_inside x l in
           let rows = mul-le (x / m / m + 1) m MOST_JOBS MOST_MACHINES (omega (arith, div-le_self (x / m) m, k, h.few)) h.machines in
-          omega (arith, mul-le (slot_at x + 1) time (MOST_MACHINES * MOST_JOBS) 1000000 (omega (arith, slot_early m h.machine (x / m) (x % m), rows)) h.span.1)
+          omega (arith, mul-le (slot_at x + 1) time (MOST_MACHINES * MOST_JOBS) GREATEST_EQUAL_TIME (omega (arith, slot_early m h.machine (x / m) (x % m), rows)) h.span.1)
 
   abbrev value : ℕ
   value = in_blocks m n (λ k. span * weight_at i (at order k))

@@ -5,6 +5,7 @@ use Rattle.std.proofs.lemmas.Bool.{cases_lt}
 use Rattle.std.proofs.lemmas.List.{length-map, get_or-map}
 use Rattle.msp_class.specs.declared.sizes.TheConstants.{MOST_JOBS, GREATEST}
 use Rattle.msp_class.specs.Sums.{total_below}
+use Rattle.msp_class.proofs.Quotients.{block_and_rest, rest_small}
 use Rattle.msp_class.proofs.Sums.{total_below-same, total_below-add, total_below-none, total_below-split}
 use Rattle.msp_instance.specs.declared.Instance.{Instance}
 use Rattle.msp_schedule.specs.Feasible.{HasOperation, MayRun}
@@ -16,7 +17,7 @@ use Rattle.msp_cut_sums.proofs.Falling.{order_once, order_many, order_inside, or
 use Rattle.msp_cut_sums.proofs.InBlocks.{in_blocks-step, times_bound}
 use Rattle.msp_cut_sums.proofs.Instances.{IsSumInstance, sum_operations, sum_times}
 use Rattle.msp_cut_sums.proofs.Placed.{ArePlaced, placed_is_feasible, placed_is_within, placed_is_answer, placed_ends}
-use Rattle.msp_cut_sums.proofs.Rests.{block_and_rest, rest_small, blocks_rise}
+use Rattle.msp_cut_sums.proofs.Rests.{blocks_rise}
 use Rattle.msp_schedule.proofs.bounds.Room.{end_at}
 use Rattle.msp_cut_sums.proofs.Room.{room_in_order}
 use Rattle.msp_cut_sums.proofs.Summed.{IsSumOf-ones, IsSumAnswer, answered}
@@ -55,7 +56,7 @@ ends_by_blocks (suc fuel) n m t e some short each none =
         nothing a = omega arith
 
 module _ (i : Instance) (h : IsSumInstance i) (order : List ℕ) (sorted : IsByFalling (length i.jobs) (time_at i) order)
-    (ends : List ℕ) (are : AreEnds i.machines (map (time_at i) order) ends) (small : All (λ e. e ≤ (MOST_JOBS * GREATEST)) ends) where
+    (ends : List ℕ) (are : AreEnds i.machines (map (time_at i) order) ends) (small : All (λ e. e ≤ MOST_JOBS * GREATEST) ends) where
   abbrev n : ℕ
   n = length i.jobs
 
