@@ -131,7 +131,7 @@ module _ (i : Instance) (h : IsWrapInstance i) (end q o : ℕ) (ps : List Piece)
   moments : All (λ p. IsMoment p.from × IsMoment p.to) ps
   moments k d l = by (get_or ps k d) (w.laid.timed k d l) (omega (arith, w.laid.ends k d l, is, least_end-short i h))
     where
-      by : (p : Piece) → IsTimed p → finish p ≤ (MOST_JOBS * GREATEST) → IsMoment p.from × IsMoment p.to
+      by : (p : Piece) → IsTimed p → finish p ≤ MOST_JOBS * GREATEST → IsMoment p.from × IsMoment p.to
       by p t m = ((omega (arith, ints, t.from), omega (arith, ints, t.from, t.lasts, m)), (omega (arith, ints, t.to), omega (arith, ints, t.to, m)))
 
   is_within : Within i s

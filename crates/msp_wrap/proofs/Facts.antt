@@ -75,7 +75,7 @@ module _ (i : Instance) (h : IsWrapInstance i) where
   pub longest_time-short : longest_time i ≤ GREATEST
   longest_time-short = fold_max-least 0 GREATEST (map time_of i.jobs) (omega arith) (All-map (λ x. x ≤ GREATEST) time_of i.jobs (λ k d l. (needs i h k d l).2))
 
-  pub total_time-short : total_time i ≤ (MOST_JOBS * GREATEST)
+  pub total_time-short : total_time i ≤ MOST_JOBS * GREATEST
   total_time-short = omega (arith, sum_by-mono time_of (λ _. GREATEST) i.jobs (λ k d l. (needs i h k d l).2), sum_by-constant GREATEST i.jobs, h.few)
 
   pub job_fits : (j : ℕ) → j < length i.jobs → i.machines * time_at i j ≤ least_end i
@@ -84,7 +84,7 @@ module _ (i : Instance) (h : IsWrapInstance i) where
   pub jobs_fit : (k : ℕ) → k ≤ length i.jobs → total_below k (time_at i) ≤ least_end i
   jobs_fit k l = omega (arith, total_time-is, total_below-within (time_at i) k (length i.jobs) l)
 
-  pub least_end-short : least_end i ≤ (MOST_JOBS * GREATEST)
+  pub least_end-short : least_end i ≤ MOST_JOBS * GREATEST
   least_end-short = let p = mul-le-mul_left i.machines longest_time-short in omega (arith, p, h.machines, total_time-short)
 
   -- a job takes time on the machines together

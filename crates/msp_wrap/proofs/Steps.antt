@@ -6,7 +6,7 @@ use Rattle.std.proofs.lemmas.List.{get_or_default}
 use Rattle.std.proofs.lemmas.List.Sums.{sum_by-append, sum_by-cons}
 use Rattle.std.proofs.lemmas.List.Elements.{All-nil, All-cons, All-push, filter-append}
 use Rattle.std.proofs.Math.Nat.{mul-le-mul_left, mul-le-mul_right}
-use Rattle.msp_class.specs.declared.sizes.TheConstants.{MOST_MACHINES}
+use Rattle.msp_class.specs.declared.sizes.TheConstants.{MOST_MACHINES, MOST_JOBS, GREATEST}
 use Rattle.msp_class.specs.Sums.{total_below}
 use Rattle.msp_class.proofs.Sums.{sum_by-filter, sum_by-none}
 use Rattle.msp_instance.specs.declared.Instance.{Instance}
@@ -243,7 +243,7 @@ place_small i h end k q o ps is inside w =
 
 module _ (i : Instance) (h : IsWrapInstance i) (end k q o r a work : ℕ) (ps : List Piece) (is : end ≡ least_end i)
     (inside : k < length i.jobs) (opens : HasOpened end q o r a) (w : IsWrapped i end k q o ps) (read : work ≡ i.machines * time_at i k) where
-  pub done_small : a + work ≤ 800000000000
+  pub done_small : a + work ≤ 2 * (MOST_JOBS * GREATEST)
   done_small = omega (arith, room i h end k q o r a ps is inside opens w, fits i h end k q o r a ps is inside opens w, read, is, least_end-short i h)
 
   pub next_small : r < MOST_MACHINES
