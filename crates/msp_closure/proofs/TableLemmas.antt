@@ -1,6 +1,7 @@
 -- A table of classes, written at one of them.
 use Rattle.std.proofs.lemmas.Bool.{cases_eq}
-use Rattle.std.proofs.Common.{get_or, ◌≡◌, ◌≢◌, ℕ, ◌<◌, ◌+◌, Bool, false, List, length, set, arith, get_or-set_same, get_or-set_other, ap, sym, ◌∙◌, inl, inr}
+use Rattle.std.proofs.lemmas.List.{length_push, get_or_push, get_or_append_left}
+use Rattle.std.proofs.Common.{get_or, ◌≡◌, ◌≢◌, ℕ, ◌<◌, ◌+◌, Bool, false, List, [], ◌∷◌, ◌++◌, length, set, arith, get_or-set_same, get_or-set_other, ap, sym, ◌∙◌, inl, inr}
 use Rattle.msp_class.specs.declared.class.Class.{Class}
 use Rattle.msp_class.specs.declared.ranks.TheConstants.{CLASSES}
 use Rattle.msp_class.specs.Rank.{rank_of}
@@ -23,6 +24,17 @@ is_flagged-set_other t c x v apart = get_or-set_other t (rank_of c) (rank_of x) 
 -- a class whose rank is not the one before is not done before
 pub below_next : (n m : ℕ) → n < m + 1 → n ≢ m → n < m
 below_next n m below apart = omega arith
+
+-- one copy of a value more
+pub copies_more : {X : Type 0} (xs ys : List X) (k : ℕ) (v : X) → ys ≡ xs ++ v ∷ [] → (length xs ≡ k) × ((j : ℕ) (d : X) → j < k → get_or xs j d ≡ v)
+    → (length ys ≡ k + 1) × ((j : ℕ) (d : X) → j < k + 1 → get_or ys j d ≡ v)
+copies_more {X} xs ys k v e before = (omega (arith, ap length e, length_push xs v, before.0), each)
+  where
+    each : (j : ℕ) (d : X) → j < k + 1 → get_or ys j d ≡ v
+    each j d below = ap (λ l. get_or l j d) e ∙ elim (cases_eq j k) as (λ _. get_or (xs ++ v ∷ []) j d ≡ v) [
+      | inl same ↦ get_or_push xs v d j (before.0 ∙ sym same)
+      | inr apart ↦ get_or_append_left xs (v ∷ []) d j (omega (arith, below_next j k below apart, before.0)) ∙ before.1 j d (below_next j k below apart)
+    ]
 
 -- one more class gets its value
 pub value_next : {X : Type 0} (wanted : Class → X) (t : List X) (n : ℕ) (c : Class) (m d : X) → length t ≡ CLASSES → rank_of c ≡ n → m ≡ wanted c

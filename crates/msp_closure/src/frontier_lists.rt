@@ -6,7 +6,7 @@ ghost use Rattle.msp_closure.specs.Tables.{is_flagged};
 ghost use Rattle.msp_closure.specs.Frontier.{IsMaximal, IsMinimal, ListsInOrder, mark_at, says_easy, says_hard, says_open, HasMark, IsFrontier};
 ghost use Rattle.msp_closure.specs.Entries.{AreLabels};
 ghost use Rattle.msp_closure.specs.declared.entry.Entry.{Entry};
-ghost use Rattle.msp_closure.specs.Standing.{has_standing};
+ghost use Rattle.msp_closure.specs.Standing.{has_standing, AreEnds};
 
 use crate::class_table::{ClassTable, class_at};
 use crate::entry::Mark;
@@ -45,10 +45,22 @@ pub fn frontier(alloc: Global, labels: &Labels) -> Result<FrontierLists, NoMemor
     ensures known { IfOk result (λ lists. (es : List Entry) → AreLabels es labels.now → IsFrontier es lists) }
 {
     let bits = reach(alloc)?;
-    let easy = maximal(alloc, &bits, labels, Standing::Easy)?;
-    let hard = minimal(alloc, &bits, labels, Standing::Hard)?;
-    let low = minimal(alloc, &bits, labels, Standing::Open)?;
-    let high = maximal(alloc, &bits, labels, Standing::Open)?;
+    let lists = frontier_over(alloc, &bits, labels)?;
+    Ok(lists)
+}
+
+/// The same, over where each class leads.
+fn frontier_over(
+    alloc: Global,
+    bits: &ReachBits,
+    labels: &Labels,
+) -> Result<FrontierLists, NoMemory>
+    ensures { IfOk result (λ lists. AreEnds labels.now lists) }
+{
+    let easy = maximal(alloc, bits, labels, Standing::Easy)?;
+    let hard = minimal(alloc, bits, labels, Standing::Hard)?;
+    let low = minimal(alloc, bits, labels, Standing::Open)?;
+    let high = maximal(alloc, bits, labels, Standing::Open)?;
     Ok(FrontierLists {
         easy,
         hard,

@@ -1,8 +1,9 @@
 // The labels of all classes.
 ghost use Rattle.std.specs.Prelude.{◌≡◌, IfOk, slice_get, slice_index_or, length};
 ghost use Rattle.msp_class.specs.Rank.{rank_of};
-ghost use Rattle.msp_closure.specs.Entries.{AreLabels, mark_of};
-ghost use Rattle.msp_closure.specs.Tables.{is_flagged};
+ghost use Rattle.std.specs.Bool.{Decides};
+ghost use Rattle.msp_closure.specs.Entries.{AreLabels, LeadsToOne, IsLedTo, listed, makes, mark_of};
+ghost use Rattle.msp_closure.specs.Tables.{allows, is_flagged};
 ghost use Rattle.msp_class.specs.declared.class.Class.{Class};
 
 use crate::class_table::{ClassTable, class_at};
@@ -33,16 +34,38 @@ impl Model for Labels {
 pub fn close(alloc: Global, entries: &List<Entry>) -> Result<Labels, NoMemory>
     ensures { IfOk result (λ labels. AreLabels entries.now labels) }
 {
-    let easy = listed(alloc, entries, Verdict::Easy)?;
-    let pseudo = listed(alloc, entries, Verdict::Pseudo)?;
-    let hard = listed(alloc, entries, Verdict::Hard)?;
-    let strong = listed(alloc, entries, Verdict::Strong)?;
-    let to_easy = leading(alloc, RowSet::Every, &easy)?;
-    let to_pseudo = leading(alloc, RowSet::KeepsSize, &pseudo)?;
-    let from_hard = led(alloc, RowSet::Every, hard)?;
-    let from_strong = led(alloc, RowSet::KeepsSize, strong)?;
+    let to_easy = to_listed(alloc, entries, RowSet::Every, Verdict::Easy)?;
+    let to_pseudo = to_listed(alloc, entries, RowSet::KeepsSize, Verdict::Pseudo)?;
+    let from_hard = from_listed(alloc, entries, RowSet::Every, Verdict::Hard)?;
+    let from_strong = from_listed(alloc, entries, RowSet::KeepsSize, Verdict::Strong)?;
     let marks = marked(alloc, &to_easy, &to_pseudo, &from_hard, &from_strong)?;
     Ok(Labels { marks })
+}
+
+/// Flags the classes from which chains lead to one listed with a verdict that makes the claim.
+fn to_listed(
+    alloc: Global,
+    entries: &List<Entry>,
+    rows: RowSet,
+    claim: Verdict,
+) -> Result<ClassTable<bool>, NoMemory>
+    ensures { IfOk result (λ table. (c : Class) → Decides (is_flagged table c) (LeadsToOne (allows rows) (listed (makes claim) entries.now) c)) }
+{
+    let wanted = listed(alloc, entries, claim)?;
+    leading(alloc, rows, &wanted)
+}
+
+/// Flags the classes to which chains lead from one listed with a verdict that makes the claim.
+fn from_listed(
+    alloc: Global,
+    entries: &List<Entry>,
+    rows: RowSet,
+    claim: Verdict,
+) -> Result<ClassTable<bool>, NoMemory>
+    ensures { IfOk result (λ table. (c : Class) → Decides (is_flagged table c) (IsLedTo (allows rows) (listed (makes claim) entries.now) c)) }
+{
+    let starts = listed(alloc, entries, claim)?;
+    led(alloc, rows, starts)
 }
 
 /// The mark of a class.

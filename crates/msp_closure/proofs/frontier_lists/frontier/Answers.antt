@@ -2,10 +2,22 @@
 use Rattle.msp_closure.proofs.StandingLemmas.{known_easy, known_hard, known_low, known_high}
 use Rattle.msp_closure.proofs.frontier_lists.frontier.Goals as goal
 
+pub returns-clause-easy : goal.returns-clause-easy
+returns-clause-easy c = c.in_ok-lists.ensures.easy
+
+pub returns-clause-hard : goal.returns-clause-hard
+returns-clause-hard c = c.in_ok-lists.ensures.hard
+
+pub returns-clause-low : goal.returns-clause-low
+returns-clause-low c = c.in_ok-lists.ensures.low
+
+pub returns-clause-high : goal.returns-clause-high
+returns-clause-high c = c.in_ok-lists.ensures.high
+
 pub returns-clause-known : goal.returns-clause-known
 returns-clause-known c = λ es are. record {
-  easy = known_easy es c.args.labels.now are c.in_ok-easy.easy c.in_ok-easy.ensures;
-  hard = known_hard es c.args.labels.now are c.in_ok-hard.hard c.in_ok-hard.ensures;
-  low = known_low es c.args.labels.now are c.in_ok-low.low c.in_ok-low.ensures;
-  high = known_high es c.args.labels.now are c.in_ok-high.high c.in_ok-high.ensures;
+  easy = known_easy es c.args.labels.now are c.in_ok-lists.lists.easy c.in_ok-lists.ensures.easy;
+  hard = known_hard es c.args.labels.now are c.in_ok-lists.lists.hard c.in_ok-lists.ensures.hard;
+  low = known_low es c.args.labels.now are c.in_ok-lists.lists.low c.in_ok-lists.ensures.low;
+  high = known_high es c.args.labels.now are c.in_ok-lists.lists.high c.in_ok-lists.ensures.high;
 }
