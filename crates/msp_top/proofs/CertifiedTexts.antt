@@ -6,6 +6,7 @@ use Rattle.std.proofs.lemmas.List.{length-append, length-map}
 use Rattle.std.proofs.lemmas.List.Sums.{sum_by-cons}
 use Rattle.msp_instance.specs.declared.Instance.{Instance}
 use Rattle.msp_schedule.specs.Fraction.{IsLowest}
+use Rattle.msp_cert.specs.declared.limits.TheConstants.{MOST_ENTRIES}
 use Rattle.msp_cert.specs.declared.Proof.{Proof}
 use Rattle.msp_cert.specs.declared.Proof.TheVariants.{Group, Machine, Line, Levels, Segments, Block, Prices}
 use Rattle.msp_cert.specs.declared.Certified.{Certified}
@@ -33,7 +34,7 @@ column_lines_few jobs at (price ∷ prices) = along (not (int_eq price (pos 0)))
     along true line later n h = omega (arith, h)
     along false line later n h = omega (arith, h)
 
-lines_few : (names : List (List ℕ)) (i : Instance) (p : Proof) → length names ≡ length i.jobs → HoldsFor i p → entries p ≤ 20000 → length (kind_lines names p) ≤ 20000
+lines_few : (names : List (List ℕ)) (i : Instance) (p : Proof) → length names ≡ length i.jobs → HoldsFor i p → entries p ≤ MOST_ENTRIES → length (kind_lines names p) ≤ MOST_ENTRIES
 lines_few names i (Group jobs) named h few = omega (arith, few, jobs_count names jobs)
 lines_few names i (Machine machine) named h few = omega arith
 lines_few names i (Line job) named h few = omega arith

@@ -69,7 +69,8 @@ operation_small kind.OpenShop e i j o few shape h = omega (arith, h.0, shape.0, 
 operation_small kind.FlowShop e i j o few shape h = omega (arith, h.0, shape.0, few)
 operation_small kind.JobShop e i j o few shape h = omega (arith, h.0, shape.few, few_operations e)
 
-machine_small : (k : EnvKind) (e : Env) (i : Instance) (j o m : ℕ) → i.machines ≤ MOST_MACHINES → HasShape k e i.machines (job_at i j).needs → HasOperation k i j o → MayRun k i j o m → m < 32
+machine_small : (k : EnvKind) (e : Env) (i : Instance) (j o m : ℕ)
+    → i.machines ≤ MOST_MACHINES → HasShape k e i.machines (job_at i j).needs → HasOperation k i j o → MayRun k i j o m → m < MOST_MACHINES
 machine_small kind.Identical e i j o m few shape h r = omega (arith, r, few)
 machine_small kind.Uniform e i j o m few shape h r = omega (arith, r, few)
 machine_small kind.Unrelated e i j o m few shape h r = omega (arith, r, few)

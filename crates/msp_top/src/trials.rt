@@ -34,8 +34,17 @@ pub fn trial_answer(alloc: Global, trial: &Trial) -> Result<Report, Refusal>
     ensures { Answers (TrialIsRight trial.now) result }
 {
     let inst = instance(alloc, trial)?;
-    let answer = solve_any(alloc, &inst, None)?;
-    let text = trial_text(alloc, &inst, trial.seed, &answer)?;
+    answer_made(alloc, trial, &inst)
+}
+
+/// The answer for the instance of a trial.
+fn answer_made(alloc: Global, trial: &Trial, inst: &Instance) -> Result<Report, Refusal>
+    requires made { inst.now ≡ instance_of trial.now }
+    requires class { InClass inst.now }
+    ensures { Answers (TrialIsRight trial.now) result }
+{
+    let answer = solve_any(alloc, inst, None)?;
+    let text = trial_text(alloc, inst, trial.seed, &answer)?;
     Ok(Report {
         status: WRITTEN,
         text,
