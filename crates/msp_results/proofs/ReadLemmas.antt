@@ -15,7 +15,7 @@ use denote.Ref.{Bor}
 pub record Going (version : Version) (start now : Reader (Bor (List ℕ))) (at : ℕ) (entries : List Entry) : Type 0 where
   pub reading : IsReading now
   pub low : 1 ≤ at
-  pub high : at ≤ 20001
+  pub high : at ≤ MOST_ENTRIES + 1
   pub same : after entries (entries_read version at (rows_left now)) ≡ entries_read version 1 (rows_left start)
 
 after-after : (xs : List Entry) (e : Entry) (r : Result (List Entry) ResultFault) → after (xs ++ (e ∷ [])) r ≡ after xs (after (e ∷ []) r)

@@ -187,7 +187,7 @@ then_after-ok (Ok e) (Ok rest) es h = let k : e ∷ rest ≡ es = cc in (e, rest
 -- entries in place of the records from `at` on
 record Covers (version : Version) (at : ℕ) (rows : List (List (List ℕ))) (es : List Entry) : Type 0 where
   each : AllZip (IsEntry version) rows es
-  few : length es ≤ 20001 - at
+  few : length es ≤ MOST_ENTRIES + 1 - at
 
 entries_read-ok : (version : Version) (at : ℕ) (rows : List (List (List ℕ))) (es : List Entry) → entries_read version at rows ≡ Ok es → Covers version at rows es
 entries_read-ok version at [] es h =
@@ -203,7 +203,8 @@ entries_read-ok version at (r ∷ rs) es h =
     let P : List Entry → Type 0 = λ v. Covers version at (r ∷ rs) v in
     subst P t.4 (record { each = (row_read-ok version at r t.0 t.2, rest.each); few = omega arith })
 
-entries_read-from : (version : Version) (at : ℕ) (rows : List (List (List ℕ))) (es : List Entry) → AllZip (IsEntry version) rows es → length es ≤ 20001 - at → entries_read version at rows ≡ Ok es
+entries_read-from : (version : Version) (at : ℕ) (rows : List (List (List ℕ))) (es : List Entry) → AllZip (IsEntry version) rows es
+    → length es ≤ MOST_ENTRIES + 1 - at → entries_read version at rows ≡ Ok es
 entries_read-from version at [] [] z n = refl
 entries_read-from version at [] (e ∷ es) z n = absurd z
 entries_read-from version at (r ∷ rs) [] z n = absurd z
