@@ -1,5 +1,5 @@
 -- How often a chain turns release dates into due dates, and the moments of what comes back over it.
-use Rattle.std.proofs.Common.{if◌then◌else◌, ◌≡◌, ℕ, suc, ◌+◌, ◌*◌, ◌≤◌, Bool, true, false, ◌&&◌, eqb, List, [], ◌∷◌, length, Some, None, ℤ, pos, ◌+ℤ◌, ◌≤ℤ◌, refl, sym, ap, subst, ◌∙◌, arith}
+use Rattle.std.proofs.Common.{if◌then◌else◌, ◌≡◌, ℕ, suc, ◌+◌, ◌*◌, ◌≤◌, Bool, true, false, ◌&&◌, eqb, List, [], ◌∷◌, length, Some, None, ℤ, pos, ◌+ℤ◌, ◌*ℤ◌, ◌≤ℤ◌, refl, sym, ap, subst, ◌∙◌, arith}
 use Rattle.std.specs.Prelude.{◌==◌, ◌||◌}
 use Rattle.std.proofs.lemmas.Int.{ints}
 use Rattle.std.proofs.lemmas.Bool.{eqb-true}
@@ -73,44 +73,36 @@ turns_in-few usable a b (k ∷ ks) leads =
     by true e c goes few = let both = turned_from a c (ap (λ j. goes_of j a) (sym (eqb-true k 47 e)) ∙ goes) in omega (arith, few, both.0, both.1)
     by false e c goes few = omega (arith, few, spare-most c)
 
-raise : ℕ
-raise = 20000000000000000000000
-
-raised : (m : ℤ) (n : ℕ) → m ≤ℤ (GREATEST_ANSWER_MOMENT +ℤ pos (n * raise)) → (m +ℤ GREATEST_RAISE) ≤ℤ (GREATEST_ANSWER_MOMENT +ℤ pos ((n + 1) * raise))
-unfolding raise
+raised : (m : ℤ) (n : ℕ) → m ≤ℤ (GREATEST_ANSWER_MOMENT +ℤ (pos n *ℤ GREATEST_RAISE)) → (m +ℤ GREATEST_RAISE) ≤ℤ (GREATEST_ANSWER_MOMENT +ℤ (pos (n + 1) *ℤ GREATEST_RAISE))
 raised m n h = omega (arith, ints)
 
-kept : (m : ℤ) (n : ℕ) → m ≤ℤ (GREATEST_ANSWER_MOMENT +ℤ pos (n * raise)) → m ≤ℤ (GREATEST_ANSWER_MOMENT +ℤ pos ((n + 0) * raise))
-unfolding raise
+kept : (m : ℤ) (n : ℕ) → m ≤ℤ (GREATEST_ANSWER_MOMENT +ℤ (pos n *ℤ GREATEST_RAISE)) → m ≤ℤ (GREATEST_ANSWER_MOMENT +ℤ (pos (n + 0) *ℤ GREATEST_RAISE))
 kept m n h = omega (arith, ints)
 
-lined_up : (n : ℕ) → GREATEST_LINED_UP ≤ℤ (GREATEST_ANSWER_MOMENT +ℤ pos (n * raise))
-unfolding raise
+lined_up : (n : ℕ) → GREATEST_LINED_UP ≤ℤ (GREATEST_ANSWER_MOMENT +ℤ (pos n *ℤ GREATEST_RAISE))
 lined_up n = omega (arith, ints)
 
-closed_up : (n : ℕ) → GREATEST_CLOSED_UP ≤ℤ (GREATEST_ANSWER_MOMENT +ℤ pos (n * raise))
-unfolding raise
+closed_up : (n : ℕ) → GREATEST_CLOSED_UP ≤ℤ (GREATEST_ANSWER_MOMENT +ℤ (pos n *ℤ GREATEST_RAISE))
 closed_up n = omega (arith, ints)
 
-moment_over-most : (ks : List ℕ) → moment_over ks ≤ℤ (GREATEST_ANSWER_MOMENT +ℤ pos (turns_in ks * raise))
+moment_over-most : (ks : List ℕ) → moment_over ks ≤ℤ (GREATEST_ANSWER_MOMENT +ℤ (pos (turns_in ks) *ℤ GREATEST_RAISE))
 unfolding one_if
 moment_over-most [] = start (turns_in [])
   where
-    start : (n : ℕ) → GREATEST_ANSWER_MOMENT ≤ℤ (GREATEST_ANSWER_MOMENT +ℤ pos (n * raise))
+    start : (n : ℕ) → GREATEST_ANSWER_MOMENT ≤ℤ (GREATEST_ANSWER_MOMENT +ℤ (pos n *ℤ GREATEST_RAISE))
     start n = omega (arith, ints)
-moment_over-most (k ∷ ks) = subst (λ n. moment_over (k ∷ ks) ≤ℤ (GREATEST_ANSWER_MOMENT +ℤ pos (n * raise)))
+moment_over-most (k ∷ ks) = subst (λ n. moment_over (k ∷ ks) ≤ℤ (GREATEST_ANSWER_MOMENT +ℤ (pos n *ℤ GREATEST_RAISE)))
     (sym (turns_in-more k ks)) (by (turns_dates k) (k == 51 || k == 52) (k == 54) (moment_over-most ks))
   where
-    by : (t l c : Bool) → moment_over ks ≤ℤ (GREATEST_ANSWER_MOMENT +ℤ pos (turns_in ks * raise))
+    by : (t l c : Bool) → moment_over ks ≤ℤ (GREATEST_ANSWER_MOMENT +ℤ (pos (turns_in ks) *ℤ GREATEST_RAISE))
         → (if t then moment_over ks +ℤ GREATEST_RAISE else if l then GREATEST_LINED_UP else if c then GREATEST_CLOSED_UP else moment_over ks)
-        ≤ℤ (GREATEST_ANSWER_MOMENT +ℤ pos ((turns_in ks + one_if t) * raise))
+        ≤ℤ (GREATEST_ANSWER_MOMENT +ℤ (pos (turns_in ks + one_if t) *ℤ GREATEST_RAISE))
     by true l c h = raised (moment_over ks) (turns_in ks) h
     by false true c h = lined_up (turns_in ks + 0)
     by false false true h = closed_up (turns_in ks + 0)
     by false false false h = kept (moment_over ks) (turns_in ks) h
 
-low : (n : ℕ) → 2 * n ≤ CLASSES + 1 → (GREATEST_ANSWER_MOMENT +ℤ pos (n * raise)) ≤ℤ GREATEST_BACK_MOMENT
-unfolding raise
+low : (n : ℕ) → 2 * n ≤ CLASSES + 1 → (GREATEST_ANSWER_MOMENT +ℤ (pos n *ℤ GREATEST_RAISE)) ≤ℤ GREATEST_BACK_MOMENT
 low n h = omega (arith, ints)
 
 -- over a chain of at most as many rows as there are classes the moments stay within what comes back over a row
