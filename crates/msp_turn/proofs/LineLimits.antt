@@ -1,8 +1,8 @@
 -- Jobs lined up on one machine: their needs, and the limits that the line keeps.
-use Rattle.std.proofs.Common.{◌≡◌, ℕ, ◌*◌, ◌^◌, ◌<◌, ◌≤◌, List, length, get_or, sum_by, All, IsPermutation, ℤ, pos, ◌≤ℤ◌, sym, ap, subst, ◌∙◌, arith, slice_index_or}
+use Rattle.std.proofs.Common.{◌≡◌, ℕ, ◌*◌, ◌<◌, ◌≤◌, List, length, get_or, sum_by, All, IsPermutation, ℤ, pos, ◌≤ℤ◌, sym, ap, subst, ◌∙◌, arith, slice_index_or}
 use Rattle.std.specs.List.{range_with_len}
 use Rattle.std.proofs.lemmas.Int.{ints}
-use Rattle.msp_class.specs.declared.sizes.TheConstants.{MOST_JOBS, GREATEST_UNIT}
+use Rattle.msp_class.specs.declared.sizes.TheConstants.{MOST_JOBS, GREATEST, GREATEST_UNIT}
 use Rattle.msp_class.specs.declared.environments.EnvKind.TheVariants.{Identical, Unrelated}
 use Rattle.msp_class.specs.declared.class.Env.{Env}
 use Rattle.msp_class.specs.declared.class.Env.TheVariants.{One}
@@ -22,15 +22,16 @@ use Rattle.msp_schedule.specs.Piece.{finish, IsTimed}
 use Rattle.msp_schedule.proofs.feasible.OneMachine.{timed_pieces}
 use Rattle.msp_schedule.proofs.feasible.BackToBack.{piece_makes}
 use Rattle.msp_schedule.specs.LineUp.{lined_up}
+use Rattle.msp_route.specs.declared.bounds.TheConstants.{GREATEST_LINED_UP}
 use Rattle.msp_route.proofs.BackToBackSteps.{short_length, greatest_length}
 
 module _ (i : Instance) (one : i.class.env ≡ One) (inner : Inner i) where
-  in_time : (t : Times) → greatest_time (inner_limits Identical) t ≤ 1000000000
+  in_time : (t : Times) → greatest_time (inner_limits Identical) t ≤ GREATEST
   in_time General = omega arith
   in_time UnitTimes = omega arith
   in_time Equal = omega arith
 
-  pub short_needs : All (λ a. (0 < length a.needs) × ((slice_index_or a.needs 0 no_need).time ≤ 1000000000)) i.jobs
+  pub short_needs : All (λ a. (0 < length a.needs) × ((slice_index_or a.needs 0 no_need).time ≤ GREATEST)) i.jobs
   short_needs k d l =
       let n = (inner.conditions.jobs k d l).needs in
       let shape = subst (λ e. HasShape (kind_of e) e i.machines (get_or i.jobs k d).needs) one n.shape in
@@ -38,7 +39,7 @@ module _ (i : Instance) (one : i.class.env ≡ One) (inner : Inner i) where
       let times = subst S one n.times in
       (omega (arith, shape.0), omega (arith, (times 0 no_need (omega (arith, shape.0))).1, in_time i.class.times))
 
-  pub short_time : (j : ℕ) → j < length i.jobs → time_at i j ≤ 1000000000
+  pub short_time : (j : ℕ) → j < length i.jobs → time_at i j ≤ GREATEST
   short_time j l = (short_needs j no_job l).1
 
   module _ (D : ℕ) (small : pos D ≤ℤ GREATEST_UNIT) (order : List ℕ) (all : IsPermutation (range_with_len 0 (length i.jobs)) order) where
@@ -60,7 +61,7 @@ module _ (i : Instance) (one : i.class.env ≡ One) (inner : Inner i) where
     pub few_pieces : length pieces ≤ MOST_JOBS
     few_pieces = omega (arith, length-back_to_back piece (λ j. D * time_at i j) 0 order, few_jobs)
 
-    whole : sum_by (λ j. D * time_at i j) order ≤ 4 * 10 ^ 24
+    whole : sum_by (λ j. D * time_at i j) order ≤ MOST_JOBS * greatest_length
     whole =
         let each = sum_by-mono (λ j. D * time_at i j) (λ _. greatest_length) order (λ k d l. short_length i D small (get_or order k d) (short_time (get_or order k d) (once.within k d l))) in
         omega (arith, each, sum_by-constant greatest_length order, few_jobs)
@@ -69,10 +70,10 @@ module _ (i : Instance) (one : i.class.env ≡ One) (inner : Inner i) where
       timed : All IsTimed pieces
       timed = timed_pieces i (ap kind_of one) (lined_up i D order) f
 
-      pub line_ends : All (λ p. p.to ≤ℤ pos (4 * 10 ^ 24)) pieces
+      pub line_ends : All (λ p. p.to ≤ℤ GREATEST_LINED_UP) pieces
       line_ends k d l = early (get_or pieces k d) (timed k d l) (omega (arith, back_to_back-to piece (λ j. D * time_at i j) piece_makes 0 order k d l, whole))
         where
-          early : (p : Piece) → IsTimed p → finish p ≤ 4 * 10 ^ 24 → p.to ≤ℤ pos (4 * 10 ^ 24)
+          early : (p : Piece) → IsTimed p → finish p ≤ MOST_JOBS * greatest_length → p.to ≤ℤ GREATEST_LINED_UP
           early p t h = omega (arith, ints, t.to, h)
 
       pub line_within : Within i (lined_up i D order)
@@ -83,7 +84,7 @@ module _ (i : Instance) (one : i.class.env ≡ One) (inner : Inner i) where
         scaled = λ u. absurd (not_unrelated (sym (ap kind_of one) ∙ u));
       }
         where
-          moments_of : (p : Piece) → IsTimed p → p.to ≤ℤ pos (4 * 10 ^ 24) → IsMoment p.from × IsMoment p.to
+          moments_of : (p : Piece) → IsTimed p → p.to ≤ℤ GREATEST_LINED_UP → IsMoment p.from × IsMoment p.to
           moments_of p t h = ((omega (arith, ints, t.from), omega (arith, ints, t.from, t.to, t.lasts, h)), (omega (arith, ints, t.to), omega (arith, ints, h)))
 
           not_unrelated : Identical ≡ Unrelated → ⊥

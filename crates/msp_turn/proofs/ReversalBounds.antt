@@ -1,5 +1,5 @@
 -- What is read from its end stays within bounds.
-use Rattle.std.proofs.Common.{◌≡◌, ℕ, ◌*◌, ◌<◌, ◌≤◌, Bool, true, false, length, get_or, inr, ℤ, pos, ◌+ℤ◌, ◌-ℤ◌, ◌*ℤ◌, ◌≤ℤ◌, ◌<ℤ◌, refl, sym, ap, subst, ◌∙◌, arith}
+use Rattle.std.proofs.Common.{◌≡◌, ℕ, ◌*◌, ◌<◌, ◌≤◌, Bool, true, false, length, get_or, inr, ℤ, pos, negsuc, ◌+ℤ◌, ◌-ℤ◌, ◌*ℤ◌, ◌≤ℤ◌, ◌<ℤ◌, refl, sym, ap, subst, ◌∙◌, arith}
 use Rattle.std.specs.Prelude.{◌==◌}
 use Rattle.std.proofs.lemmas.Bool.{false≢true, eqb-true}
 use Rattle.std.proofs.lemmas.Int.{ints}
@@ -10,7 +10,7 @@ use Rattle.std.proofs.lemmas.List.Sorted.{IsPermutation-refl}
 use Rattle.msp_class.specs.declared.environments.EnvKind.{EnvKind}
 use Rattle.msp_class.specs.declared.environments.EnvKind.TheVariants.{Identical, Uniform, Unrelated, OpenShop, FlowShop, JobShop}
 use Rattle.msp_class.specs.Env.{kind_of}
-use Rattle.msp_class.proofs.IntegerRing.{≤ℤ_refl, ≤ℤ_trans, ≤ℤ_of_same, natural_some, zero-*ℤ, *ℤ-zero}
+use Rattle.msp_class.proofs.IntegerRing.{≤ℤ_refl, ≤ℤ_trans, ≤ℤ_of_same, le-pos, natural_some, zero-*ℤ, *ℤ-zero}
 use Rattle.msp_class.specs.declared.sizes.TheConstants.{GREATEST, GREATEST_UNIT}
 use Rattle.msp_instance.specs.declared.Instance.{Instance}
 use Rattle.msp_instance.specs.Instance.{no_job, job_at}
@@ -41,16 +41,20 @@ unit_by OpenShop = ≤ℤ_refl _
 unit_by FlowShop = ≤ℤ_refl _
 unit_by JobShop = ≤ℤ_refl _
 
-over_unit : (n x u d : ℕ) → n ≤ u → x ≤ d → u * d ≤ 20000000000000000000000 → (pos n *ℤ pos x) ≤ℤ GREATEST_RAISE
-over_unit n x u d h k l = let p = mul-le n x u d h k in omega (arith, ints)
+over_unit : (n x d : ℕ) (u : ℤ) → pos n ≤ℤ u → x ≤ d → (u *ℤ pos d) ≤ℤ GREATEST_RAISE → (pos n *ℤ pos x) ≤ℤ GREATEST_RAISE
+over_unit n x d (negsuc m) h k l = absurd (omega (arith, ints))
+over_unit n x d (pos m) h k l = let p = mul-le n x m d (le-pos h) k in omega (arith, ints)
+
+greatest_tail : (k : EnvKind) → (greatest_unit k *ℤ pos (2 * GREATEST * inner_factor k)) ≤ℤ GREATEST_RAISE
+greatest_tail Identical = omega (arith, ints)
+greatest_tail Uniform = omega (arith, ints)
+greatest_tail Unrelated = omega (arith, ints)
+greatest_tail OpenShop = omega (arith, ints)
+greatest_tail FlowShop = omega (arith, ints)
+greatest_tail JobShop = omega (arith, ints)
 
 small_tail : (k : EnvKind) (n x : ℕ) → pos n ≤ℤ greatest_unit k → x ≤ 2 * GREATEST * inner_factor k → (pos n *ℤ pos x) ≤ℤ GREATEST_RAISE
-small_tail Identical n x u h = over_unit n x 10000000000000 2000000000 (omega (arith, ints)) (omega arith) (omega arith)
-small_tail Uniform n x u h = over_unit n x 10000000000000 2000000000 (omega (arith, ints)) (omega arith) (omega arith)
-small_tail Unrelated n x u h = over_unit n x 4096 2147483648000000000 (omega (arith, ints)) (omega arith) (omega arith)
-small_tail OpenShop n x u h = over_unit n x 10000000000000 2000000000 (omega (arith, ints)) (omega arith) (omega arith)
-small_tail FlowShop n x u h = over_unit n x 10000000000000 2000000000 (omega (arith, ints)) (omega arith) (omega arith)
-small_tail JobShop n x u h = over_unit n x 10000000000000 2000000000 (omega (arith, ints)) (omega arith) (omega arith)
+small_tail k n x u h = over_unit n x (2 * GREATEST * inner_factor k) (greatest_unit k) u h (greatest_tail k)
 
 -- a row that reads schedules from their end: row 47 alone has release dates above, and raises moments by them
 pub record IsReversed (i : Instance) (row : ℕ) : Type 0 where
