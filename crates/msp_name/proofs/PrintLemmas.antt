@@ -15,6 +15,7 @@ use Rattle.msp_class.specs.declared.class.Times.{Times}
 use Rattle.msp_class.specs.declared.class.Times.TheVariants as t
 use Rattle.msp_class.specs.declared.class.Crit.{Crit}
 use Rattle.msp_class.specs.declared.class.Crit.TheVariants as k
+use Rattle.msp_name.specs.declared.text.TheConstants.{LONGEST_NAME}
 use Rattle.msp_name.specs.declared.words.Item.{Item}
 use Rattle.msp_name.specs.declared.words.Item.TheVariants as i
 use Rattle.msp_name.specs.Spellings.{env_texts, item_texts, crit_texts}
@@ -42,7 +43,7 @@ step : (out : List ℕ) (p b : Bool) (w : List ℕ) (ws : List (List ℕ)) → o
 step out p b w ws = ap (λ t. out ++ t) (following-if p b w ws) ∙ sym (append_assoc out _ _)
 
 -- five items put one by one
-pub five_items : (out : List ℕ) (a b d f g : Bool) (u v w x y : List ℕ) →
+five_items : (out : List ℕ) (a b d f g : Bool) (u v w x y : List ℕ) →
     ((((out ++ following false (text_if a u)) ++ following (false || a) (text_if b v)) ++ following ((false || a) || b) (text_if d w)) ++ following (((false || a) || b) || d) (text_if f x))
     ++ following ((((false || a) || b) || d) || f) (text_if g y)
     ≡ out ++ join_with_byte comma (text_if a u ++ (text_if b v ++ (text_if d w ++ (text_if f x ++ text_if g y))))
@@ -52,6 +53,17 @@ five_items out a b d f g u v w x y = sym (
     ∙ step _ (false || a) b v _
     ∙ step _ ((false || a) || b) d w _
     ∙ step _ (((false || a) || b) || d) f x _)
+
+-- the same, each step by what its call promises
+pub items_put : (out o1 o2 o3 o4 o5 : List ℕ) (p1 p2 p3 p4 a b d f g b' f' g' : Bool) (u v w x y v' x' : List ℕ)
+    → o1 ≡ out ++ following false (text_if a u) → p1 ≡ (false || a) → b ≡ b' → v ≡ v'
+    → o2 ≡ o1 ++ following p1 (text_if b v) → p2 ≡ (p1 || b)
+    → o3 ≡ o2 ++ following p2 (text_if d w) → p3 ≡ (p2 || d) → f ≡ f' → x ≡ x'
+    → o4 ≡ o3 ++ following p3 (text_if f x) → p4 ≡ (p3 || f) → g ≡ g'
+    → o5 ≡ o4 ++ following p4 (text_if g y)
+    → o5 ≡ out ++ join_with_byte comma (text_if a u ++ (text_if b' v' ++ (text_if d w ++ (text_if f' x' ++ text_if g' y))))
+items_put out o1 o2 o3 o4 o5 p1 p2 p3 p4 a b d f g b' f' g' u v w x y v' x' e1 q1 eb ev e2 q2 e3 q3 ef ex e4 q4 eg e5 =
+    rw (e5, e4, q4, e3, q3, e2, q2, e1, q1, eb, ev, ef, ex, eg) (five_items out a b' d f' g' u v' w x' y)
 
 row_if : Bool → (List ℕ × Item) → List (List ℕ × Item)
 row_if true r = r ∷ []
@@ -256,7 +268,7 @@ pub length-items : (c : Class) → length (join_with_byte comma (item_texts_of c
 unfolding item_texts_of texts
 length-items c = texts-short c.cut c.order c.heads c.times (is_short c.env)
 
-pub length-name_of : (c : Class) → length (name_of c) ≤ 32
+pub length-name_of : (c : Class) → length (name_of c) ≤ LONGEST_NAME
 unfolding name_of
 length-name_of c =
     let items : List ℕ = join_with_byte comma (item_texts_of c) in

@@ -1,5 +1,5 @@
 // The words of a name, by the tables of spellings.
-ghost use Rattle.std.specs.Prelude.{◌≡◌, drop};
+ghost use Rattle.std.specs.Prelude.{◌≡◌, map};
 ghost use Rattle.msp_name.specs.Spellings.{env_texts, item_texts, crit_texts};
 ghost use Rattle.msp_name.specs.Reading.{spelled};
 
@@ -19,208 +19,104 @@ pub enum Item {
     Short,
 }
 
+const ENVS: [(&[u8], Env); 16] = [
+    (b"1", Env::One),
+    (b"P2", Env::P2),
+    (b"P3", Env::P3),
+    (b"P", Env::P),
+    (b"Q2", Env::Q2),
+    (b"Q", Env::Q),
+    (b"R2", Env::R2),
+    (b"R", Env::R),
+    (b"O2", Env::O2),
+    (b"O3", Env::O3),
+    (b"O", Env::O),
+    (b"F2", Env::F2),
+    (b"F3", Env::F3),
+    (b"F", Env::F),
+    (b"J2", Env::J2),
+    (b"J", Env::J),
+];
+
+const ITEMS: [(&[u8], Item); 24] = [
+    (b"pmtn", Item::Cut),
+    (b"chains", Item::Chains),
+    (b"chain", Item::Chains),
+    (b"intree", Item::Intree),
+    (b"in-tree", Item::Intree),
+    (b"outtree", Item::Outtree),
+    (b"out-tree", Item::Outtree),
+    (b"prec", Item::Prec),
+    (b"r", Item::Heads),
+    (b"r_j", Item::Heads),
+    (b"rj", Item::Heads),
+    (b"p=1", Item::Unit),
+    (b"p_j=1", Item::Unit),
+    (b"pj=1", Item::Unit),
+    (b"p_ij=1", Item::Unit),
+    (b"pij=1", Item::Unit),
+    (b"p=p", Item::Equal),
+    (b"p_j=p", Item::Equal),
+    (b"pj=p", Item::Equal),
+    (b"p_ij=p", Item::Equal),
+    (b"pij=p", Item::Equal),
+    (b"n<=2", Item::Short),
+    (b"n_j<=2", Item::Short),
+    (b"nj<=2", Item::Short),
+];
+
+const CRITS: [(&[u8], Crit); 18] = [
+    (b"Cmax", Crit::Cmax),
+    (b"C_max", Crit::Cmax),
+    (b"Lmax", Crit::Lmax),
+    (b"L_max", Crit::Lmax),
+    (b"fmax", Crit::Fmax),
+    (b"f_max", Crit::Fmax),
+    (b"sumC", Crit::SumC),
+    (b"sumC_j", Crit::SumC),
+    (b"sumwC", Crit::SumWC),
+    (b"sumw_jC_j", Crit::SumWC),
+    (b"sumU", Crit::SumU),
+    (b"sumU_j", Crit::SumU),
+    (b"sumwU", Crit::SumWU),
+    (b"sumw_jU_j", Crit::SumWU),
+    (b"sumT", Crit::SumT),
+    (b"sumT_j", Crit::SumT),
+    (b"sumwT", Crit::SumWT),
+    (b"sumw_jT_j", Crit::SumWT),
+];
+
+/// What the table says of a word.
+fn spelled<T: Copy>(table: &[(&[u8], T)], word: &[u8]) -> Option<T>
+    ensures { result ≡ spelled (map (λ row. (row.0.now, row.1)) table.now) word.now }
+{
+    let mut rows = table;
+    'rows: while let [row, more @ ..] = rows {
+        if *word == *row.0 {
+            return Some(row.1);
+        }
+        rows = more;
+    }
+    None
+}
+
 #[tactic(auto, unfolding(crate::specs::Spellings::env_texts))]
 pub fn read_env(word: &[u8]) -> Option<Env>
     ensures { result ≡ spelled env_texts word.now }
 {
-    if word == b"1".as_slice() {
-        Some(Env::One)
-    } else if word == b"P2".as_slice() {
-        Some(Env::P2)
-    } else if word == b"P3".as_slice() {
-        Some(Env::P3)
-    } else if word == b"P".as_slice() {
-        Some(Env::P)
-    } else if word == b"Q2".as_slice() {
-        Some(Env::Q2)
-    } else if word == b"Q".as_slice() {
-        Some(Env::Q)
-    } else {
-        read_env_from_6(word)
-    }
-}
-
-#[tactic(auto, unfolding(crate::specs::Spellings::env_texts))]
-fn read_env_from_6(word: &[u8]) -> Option<Env>
-    ensures { result ≡ spelled (drop 6 env_texts) word.now }
-{
-    if word == b"R2".as_slice() {
-        Some(Env::R2)
-    } else if word == b"R".as_slice() {
-        Some(Env::R)
-    } else if word == b"O2".as_slice() {
-        Some(Env::O2)
-    } else if word == b"O3".as_slice() {
-        Some(Env::O3)
-    } else if word == b"O".as_slice() {
-        Some(Env::O)
-    } else if word == b"F2".as_slice() {
-        Some(Env::F2)
-    } else {
-        read_env_from_12(word)
-    }
-}
-
-#[tactic(auto, unfolding(crate::specs::Spellings::env_texts))]
-fn read_env_from_12(word: &[u8]) -> Option<Env>
-    ensures { result ≡ spelled (drop 12 env_texts) word.now }
-{
-    if word == b"F3".as_slice() {
-        Some(Env::F3)
-    } else if word == b"F".as_slice() {
-        Some(Env::F)
-    } else if word == b"J2".as_slice() {
-        Some(Env::J2)
-    } else if word == b"J".as_slice() {
-        Some(Env::J)
-    } else {
-        None
-    }
+    spelled(&ENVS, word)
 }
 
 #[tactic(auto, unfolding(crate::specs::Spellings::item_texts))]
 pub fn read_item(word: &[u8]) -> Option<Item>
     ensures { result ≡ spelled item_texts word.now }
 {
-    if word == b"pmtn".as_slice() {
-        Some(Item::Cut)
-    } else if word == b"chains".as_slice() {
-        Some(Item::Chains)
-    } else if word == b"chain".as_slice() {
-        Some(Item::Chains)
-    } else if word == b"intree".as_slice() {
-        Some(Item::Intree)
-    } else if word == b"in-tree".as_slice() {
-        Some(Item::Intree)
-    } else if word == b"outtree".as_slice() {
-        Some(Item::Outtree)
-    } else {
-        read_item_from_6(word)
-    }
-}
-
-#[tactic(auto, unfolding(crate::specs::Spellings::item_texts))]
-fn read_item_from_6(word: &[u8]) -> Option<Item>
-    ensures { result ≡ spelled (drop 6 item_texts) word.now }
-{
-    if word == b"out-tree".as_slice() {
-        Some(Item::Outtree)
-    } else if word == b"prec".as_slice() {
-        Some(Item::Prec)
-    } else if word == b"r".as_slice() {
-        Some(Item::Heads)
-    } else if word == b"r_j".as_slice() {
-        Some(Item::Heads)
-    } else if word == b"rj".as_slice() {
-        Some(Item::Heads)
-    } else if word == b"p=1".as_slice() {
-        Some(Item::Unit)
-    } else {
-        read_item_from_12(word)
-    }
-}
-
-#[tactic(auto, unfolding(crate::specs::Spellings::item_texts))]
-fn read_item_from_12(word: &[u8]) -> Option<Item>
-    ensures { result ≡ spelled (drop 12 item_texts) word.now }
-{
-    if word == b"p_j=1".as_slice() {
-        Some(Item::Unit)
-    } else if word == b"pj=1".as_slice() {
-        Some(Item::Unit)
-    } else if word == b"p_ij=1".as_slice() {
-        Some(Item::Unit)
-    } else if word == b"pij=1".as_slice() {
-        Some(Item::Unit)
-    } else if word == b"p=p".as_slice() {
-        Some(Item::Equal)
-    } else if word == b"p_j=p".as_slice() {
-        Some(Item::Equal)
-    } else {
-        read_item_from_18(word)
-    }
-}
-
-#[tactic(auto, unfolding(crate::specs::Spellings::item_texts))]
-fn read_item_from_18(word: &[u8]) -> Option<Item>
-    ensures { result ≡ spelled (drop 18 item_texts) word.now }
-{
-    if word == b"pj=p".as_slice() {
-        Some(Item::Equal)
-    } else if word == b"p_ij=p".as_slice() {
-        Some(Item::Equal)
-    } else if word == b"pij=p".as_slice() {
-        Some(Item::Equal)
-    } else if word == b"n<=2".as_slice() {
-        Some(Item::Short)
-    } else if word == b"n_j<=2".as_slice() {
-        Some(Item::Short)
-    } else if word == b"nj<=2".as_slice() {
-        Some(Item::Short)
-    } else {
-        None
-    }
+    spelled(&ITEMS, word)
 }
 
 #[tactic(auto, unfolding(crate::specs::Spellings::crit_texts))]
 pub fn read_crit(word: &[u8]) -> Option<Crit>
     ensures { result ≡ spelled crit_texts word.now }
 {
-    if word == b"Cmax".as_slice() {
-        Some(Crit::Cmax)
-    } else if word == b"C_max".as_slice() {
-        Some(Crit::Cmax)
-    } else if word == b"Lmax".as_slice() {
-        Some(Crit::Lmax)
-    } else if word == b"L_max".as_slice() {
-        Some(Crit::Lmax)
-    } else if word == b"fmax".as_slice() {
-        Some(Crit::Fmax)
-    } else if word == b"f_max".as_slice() {
-        Some(Crit::Fmax)
-    } else {
-        read_crit_from_6(word)
-    }
-}
-
-#[tactic(auto, unfolding(crate::specs::Spellings::crit_texts))]
-fn read_crit_from_6(word: &[u8]) -> Option<Crit>
-    ensures { result ≡ spelled (drop 6 crit_texts) word.now }
-{
-    if word == b"sumC".as_slice() {
-        Some(Crit::SumC)
-    } else if word == b"sumC_j".as_slice() {
-        Some(Crit::SumC)
-    } else if word == b"sumwC".as_slice() {
-        Some(Crit::SumWC)
-    } else if word == b"sumw_jC_j".as_slice() {
-        Some(Crit::SumWC)
-    } else if word == b"sumU".as_slice() {
-        Some(Crit::SumU)
-    } else if word == b"sumU_j".as_slice() {
-        Some(Crit::SumU)
-    } else {
-        read_crit_from_12(word)
-    }
-}
-
-#[tactic(auto, unfolding(crate::specs::Spellings::crit_texts))]
-fn read_crit_from_12(word: &[u8]) -> Option<Crit>
-    ensures { result ≡ spelled (drop 12 crit_texts) word.now }
-{
-    if word == b"sumwU".as_slice() {
-        Some(Crit::SumWU)
-    } else if word == b"sumw_jU_j".as_slice() {
-        Some(Crit::SumWU)
-    } else if word == b"sumT".as_slice() {
-        Some(Crit::SumT)
-    } else if word == b"sumT_j".as_slice() {
-        Some(Crit::SumT)
-    } else if word == b"sumwT".as_slice() {
-        Some(Crit::SumWT)
-    } else if word == b"sumw_jT_j".as_slice() {
-        Some(Crit::SumWT)
-    } else {
-        None
-    }
+    spelled(&CRITS, word)
 }
