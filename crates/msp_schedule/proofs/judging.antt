@@ -1,5 +1,6 @@
 pub mod Among
 pub mod ArcTimes
+pub mod Deciding
 pub mod FirstBreaks
 pub mod JobShares
 pub mod OccupancyFacts

@@ -1,8 +1,9 @@
 -- The numbers of an inner instance over a bounded unit are small.
-use Rattle.std.proofs.Common.{◌≡◌, ℕ, suc, ◌+◌, ◌*◌, ◌^◌, ◌<◌, ◌≤◌, Bool, true, false, List, length, ℤ, pos, negsuc, ◌+ℤ◌, ◌*ℤ◌, ◌≤ℤ◌, ◌⊎◌, inl, inr, All, sum_by, refl, sym, subst, arith, lit≤}
+use Rattle.std.proofs.Common.{◌≡◌, ℕ, suc, ◌+◌, ◌*◌, ◌^◌, ◌<◌, ◌≤◌, Bool, true, false, List, length}
+use Rattle.std.proofs.Common.{ℤ, pos, negsuc, ◌+ℤ◌, ◌*ℤ◌, ◌≤ℤ◌, unsigned_abs, ◌⊎◌, inl, inr, All, sum_by, refl, sym, subst, arith, lit≤}
 use Rattle.std.proofs.lemmas.Int.{ints}
 use Rattle.std.proofs.lemmas.Nat.{mul-le}
-use Rattle.msp_class.specs.declared.sizes.TheConstants.{GREATEST}
+use Rattle.msp_class.specs.declared.sizes.TheConstants.{MOST_STEPS, GREATEST, GREATEST_EQUAL_TIME, GREATEST_UNIT}
 use Rattle.msp_class.specs.declared.environments.EnvKind.{EnvKind}
 use Rattle.msp_class.specs.declared.environments.EnvKind.TheVariants.{Identical, Uniform, Unrelated, OpenShop, FlowShop, JobShop}
 use Rattle.msp_class.specs.Env.{kind_of}
@@ -18,6 +19,7 @@ use Rattle.msp_class.specs.declared.class.Times.TheVariants.{General, Unit as Un
 use Rattle.msp_instance.specs.Instance.{no_curve, no_job, no_need, job_at, need_at}
 use Rattle.msp_schedule.specs.Works.{AreSmallTimes}
 use Rattle.msp_instance.specs.Conditions.{LiesWithin, Limits, HasRelease, greatest_time, HasDue, HasWeight, IsCurve, HasCurve, IsJobOf, MeetsConditions, Inner, InClass, inner_limits, text_limits}
+use Rattle.msp_schedule.specs.declared.limits.TheConstants.{GREATEST_CARRIED_UNIT}
 use Rattle.msp_schedule.specs.declared.Schedule.{Schedule}
 use Rattle.msp_schedule.specs.Within.{HasSmallCost, Within, greatest_scaled, greatest_level}
 
@@ -41,20 +43,20 @@ curve_is : (l : Limits) (b : Bool) (c : Curve) → HasCurve l b c → IsCurve l 
 curve_is l true c h = h
 curve_is l false c h = subst (IsCurve l) (sym h) (no_curve-is l)
 
-adds_small : (T : ℕ) (steps : List Step) → length steps ≤ 16 → All (λ s. (s.above ≤ T) × (s.add ≤ T)) steps → sum_by (λ s. s.add) steps ≤ 16 * T
+adds_small : (T : ℕ) (steps : List Step) → length steps ≤ MOST_STEPS → All (λ s. (s.above ≤ T) × (s.add ≤ T)) steps → sum_by (λ s. s.add) steps ≤ MOST_STEPS * T
 adds_small T steps few h =
     let each = sum_by-mono (λ s. s.add) (λ _. T) steps (λ k d l. (h k d l).1) in
     let same = sum_by-constant T steps in
-    let most = mul-le (length steps) T 16 T few (omega arith) in
+    let most = mul-le (length steps) T MOST_STEPS T few (omega arith) in
     omega arith
 
 -- the limits and the unit are small together
 pub record FitTogether (l : Limits) (u : ℕ) : Type 0 where
   pub dates : u * l.greatest_date ≤ greatest_scaled
   pub times : u * l.greatest_time ≤ greatest_scaled
-  pub levels : u * (l.greatest_date + 16 * l.greatest_time) ≤ greatest_level
+  pub levels : u * (l.greatest_date + MOST_STEPS * l.greatest_time) ≤ greatest_level
   pub releases : l.greatest_release ≤ l.greatest_date
-  pub equal : 10 ^ 6 ≤ l.greatest_time
+  pub equal : GREATEST_EQUAL_TIME ≤ l.greatest_time
 
 pub HasSmallCost-from : (l : Limits) (u n : ℕ) (i : Instance) (j : Job) → FitTogether l u → n ≤ u → IsJobOf l i j → HasSmallCost (pos n) j
 HasSmallCost-from l u n i j fit small h =
@@ -69,7 +71,7 @@ HasSmallCost-from l u n i j fit small h =
       weight = weight_small (uses_weight i.class.crit) j.weight h.weight;
     }
   where
-    raised_within : (l : Limits) (b : ℤ) (a s : ℕ) → LiesWithin l.greatest_date b → a ≤ s → s ≤ 16 * l.greatest_time → LiesWithin (l.greatest_date + 16 * l.greatest_time) (b +ℤ pos a)
+    raised_within : (l : Limits) (b : ℤ) (a s : ℕ) → LiesWithin l.greatest_date b → a ≤ s → s ≤ MOST_STEPS * l.greatest_time → LiesWithin (l.greatest_date + MOST_STEPS * l.greatest_time) (b +ℤ pos a)
     raised_within l b a s w p q = (omega (arith, ints), omega (arith, ints))
 
     pos_within : (a T : ℕ) → a ≤ T → LiesWithin T (pos a)
@@ -86,17 +88,18 @@ pub record HasLimits (i : Instance) (n : ℕ) : Type 0 where
   pub unit : n ≤ most
   pub conditions : MeetsConditions limits i
 
-by_kind : (kind : EnvKind) (i : Instance) (n : ℕ) → MeetsConditions (inner_limits kind) i → n ≤ 10 ^ 13 → (kind ≡ Unrelated → InClass i ⊎ (pos n ≤ℤ pos 4096)) → HasLimits i n
+by_kind : (kind : EnvKind) (i : Instance) (n : ℕ) → MeetsConditions (inner_limits kind) i
+    → n ≤ unsigned_abs GREATEST_UNIT → (kind ≡ Unrelated → InClass i ⊎ (pos n ≤ℤ GREATEST_CARRIED_UNIT)) → HasLimits i n
 by_kind Identical i n h small scaled = record {
   limits = inner_limits Identical;
-  most = 10 ^ 13;
+  most = unsigned_abs GREATEST_UNIT;
   together = record { dates = lit≤ tt; times = lit≤ tt; levels = lit≤ tt; releases = lit≤ tt; equal = lit≤ tt };
   unit = small;
   conditions = h;
 }
 by_kind Uniform i n h small scaled = record {
   limits = inner_limits Uniform;
-  most = 10 ^ 13;
+  most = unsigned_abs GREATEST_UNIT;
   together = record { dates = lit≤ tt; times = lit≤ tt; levels = lit≤ tt; releases = lit≤ tt; equal = lit≤ tt };
   unit = small;
   conditions = h;
@@ -104,14 +107,14 @@ by_kind Uniform i n h small scaled = record {
 by_kind Unrelated i n h small scaled = elim (scaled refl) [
   | inl text ↦ record {
     limits = text_limits;
-    most = 10 ^ 13;
+    most = unsigned_abs GREATEST_UNIT;
     together = record { dates = lit≤ tt; times = lit≤ tt; levels = lit≤ tt; releases = lit≤ tt; equal = lit≤ tt };
     unit = small;
     conditions = text.conditions;
   }
   | inr low ↦ record {
     limits = inner_limits Unrelated;
-    most = 4096;
+    most = unsigned_abs GREATEST_CARRIED_UNIT;
     together = record { dates = lit≤ tt; times = lit≤ tt; levels = lit≤ tt; releases = lit≤ tt; equal = lit≤ tt };
     unit = omega (arith, ints);
     conditions = h;
@@ -119,21 +122,21 @@ by_kind Unrelated i n h small scaled = elim (scaled refl) [
 ]
 by_kind OpenShop i n h small scaled = record {
   limits = inner_limits OpenShop;
-  most = 10 ^ 13;
+  most = unsigned_abs GREATEST_UNIT;
   together = record { dates = lit≤ tt; times = lit≤ tt; levels = lit≤ tt; releases = lit≤ tt; equal = lit≤ tt };
   unit = small;
   conditions = h;
 }
 by_kind FlowShop i n h small scaled = record {
   limits = inner_limits FlowShop;
-  most = 10 ^ 13;
+  most = unsigned_abs GREATEST_UNIT;
   together = record { dates = lit≤ tt; times = lit≤ tt; levels = lit≤ tt; releases = lit≤ tt; equal = lit≤ tt };
   unit = small;
   conditions = h;
 }
 by_kind JobShop i n h small scaled = record {
   limits = inner_limits JobShop;
-  most = 10 ^ 13;
+  most = unsigned_abs GREATEST_UNIT;
   together = record { dates = lit≤ tt; times = lit≤ tt; levels = lit≤ tt; releases = lit≤ tt; equal = lit≤ tt };
   unit = small;
   conditions = h;
@@ -144,7 +147,7 @@ pub small_unit : (i : Instance) (s : Schedule) → Inner i → Within i s → (n
 small_unit i s h w =
     let n = natural_some s.unit (omega (arith, ints, w.unit.0)) in
     let unit_is = n.1 in
-    let Q : ℤ → Type 0 = λ x. InClass i ⊎ (x ≤ℤ pos 4096) in
+    let Q : ℤ → Type 0 = λ x. InClass i ⊎ (x ≤ℤ GREATEST_CARRIED_UNIT) in
     (n.0, n.1, by_kind (kind_of i.class.env) i n.0 h.conditions (omega (arith, ints, w.unit.1, unit_is)) (λ e. subst Q n.1 (w.scaled e)))
 
 -- under the bounds of the calls each job's numbers are small
@@ -166,7 +169,7 @@ small_releases i s h w j l =
     (product_within n (pos (job_at i j).release) has.most has.limits.greatest_date _ has.unit
     (release_small has.limits i.class.heads (job_at i j).release has.together.releases (has.conditions.jobs j no_job l).release) has.together.dates)
 
-time_small : (l : Limits) (t : Times) (x : ℕ) → 10 ^ 6 ≤ l.greatest_time → x ≤ greatest_time l t → LiesWithin l.greatest_time (pos x)
+time_small : (l : Limits) (t : Times) (x : ℕ) → GREATEST_EQUAL_TIME ≤ l.greatest_time → x ≤ greatest_time l t → LiesWithin l.greatest_time (pos x)
 time_small l General x some h = (omega (arith, ints), omega (arith, ints, h))
 time_small l UnitTimes x some h = (omega (arith, ints), omega (arith, ints, h))
 time_small l Equal x some h = (omega (arith, ints), omega (arith, ints, h, some))

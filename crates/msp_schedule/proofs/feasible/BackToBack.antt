@@ -138,7 +138,7 @@ module _ (i : Instance) (order : List ℕ) (o : OnceBelow (length i.jobs) order)
       before : AllPairs (λ p q. p.from <ℤ q.from) pieces
       before a b d h k = let e = in_order a b d h k in let t = timed a d (omega arith) in omega (arith, ints, e, t.from, t.to, t.lasts)
 
-  -- with short times they are within the bounds of the calls, and end by 400 times the longest
+  -- with short times they are within the bounds of the calls, and end by MOST_JOBS times the longest
   module _ (few : length i.jobs ≤ MOST_JOBS) (short : (j : ℕ) → j < length i.jobs → time_at i j ≤ GREATEST) where
     pub back_to_back_ends : sum_by (time_at i) order ≤ (MOST_JOBS * GREATEST)
     back_to_back_ends =

@@ -1,6 +1,6 @@
 -- An instance without release dates and routes has a feasible schedule that ends when the times of all jobs are over, so a best one costs little.
 use Rattle.std.proofs.Common.{◌≡◌, ◌≢◌, ℕ, zero, suc, ◌+◌, ◌*◌, ◌^◌, ◌<◌, ◌≤◌, ◌⊎◌, Bool, true, false, not, List, [], ◌∷◌, length, get_or, filter, All, AllPairs, Contains, sum_by}
-use Rattle.std.proofs.Common.{ℤ, pos, neg_ℤ, ◌-ℤ◌, ◌*ℤ◌, ◌≤ℤ◌, slice_index_or, Some, inl, inr, refl, sym, ap, subst, subst₂, ◌∙◌, arith, lit≤, le_trans}
+use Rattle.std.proofs.Common.{ℤ, pos, neg_ℤ, ◌-ℤ◌, ◌*ℤ◌, ◌≤ℤ◌, unsigned_abs, slice_index_or, Some, inl, inr, refl, sym, ap, subst, subst₂, ◌∙◌, arith, lit≤, le_trans}
 use Rattle.std.specs.Prelude.{◌==◌}
 use Rattle.std.specs.List.{range_with_len}
 use Rattle.std.proofs.lemmas.Bool.{ne_eqb, eq-eqb}
@@ -11,7 +11,7 @@ use Rattle.std.proofs.lemmas.List.Kept.{AllPairs-filter}
 use Rattle.std.proofs.lemmas.List.Filters.{length-filter_both}
 use Rattle.std.proofs.lemmas.Nat.{mul-le}
 use Rattle.std.proofs.lemmas.Option.{slice_get-get_or}
-use Rattle.msp_class.specs.declared.sizes.TheConstants.{MOST_JOBS, MOST_MACHINES}
+use Rattle.msp_class.specs.declared.sizes.TheConstants.{MOST_JOBS, MOST_MACHINES, GREATEST_EQUAL_TIME, GREATEST_UNIT}
 use Rattle.msp_class.specs.declared.class.Crit.TheVariants.{Cmax, Lmax}
 use Rattle.msp_class.specs.declared.environments.EnvKind.{EnvKind}
 use Rattle.msp_class.specs.declared.environments.EnvKind.TheVariants.{Identical, Uniform, Unrelated, OpenShop, FlowShop, JobShop}
@@ -25,9 +25,11 @@ use Rattle.msp_instance.specs.declared.Instance.{Instance}
 use Rattle.msp_instance.specs.Instance.{no_need, no_job, job_at, need_at}
 use Rattle.msp_instance.specs.Conditions.{Limits, MeetsConditions, Inner, IsSequence, GoesForward, IsAcyclic, HasShape, HasTimes, HasSpeeds, least_time, greatest_time, inner_limits}
 use Rattle.msp_instance.proofs.CycleLemmas.{OnceBelow-from_sequence, same_place}
+use Rattle.msp_schedule.specs.declared.limits.TheConstants.{GREATEST_CARRIED_UNIT}
 use Rattle.msp_schedule.specs.declared.Schedule.{Schedule}
 use Rattle.msp_schedule.specs.Feasible.{Feasible, whole_work}
 use Rattle.msp_schedule.specs.Cost.{Best, cost_of, job_cost, end_of}
+use Rattle.msp_schedule.proofs.feasible.OneEach.{early_end}
 use Rattle.msp_schedule.proofs.feasible.LastEnds.{last_end-least}
 use Rattle.msp_schedule.proofs.costs.Charges.{charge_of, cost_of-least}
 use Rattle.msp_schedule.proofs.feasible.Frames.{frame_by, frame_of, IsShaped-from_conditions, HasTimePerMachine, rate_on, rate_times, no_heads, Feasible-from_fits}
@@ -311,21 +313,21 @@ best_is_cheap i s t bound f h b =
         (subst₂ (λ a b. a ≤ℤ b) (*ℤ_comm x (pos u)) (*ℤ_assoc (pos u) (pos bound) (pos v) ∙ ap (λ z. pos u *ℤ z) (*ℤ_comm (pos bound) (pos v))) (≤ℤ_trans k (*ℤ-mono_right v h)))
 
 -- ---- in numbers, within the limits that carried instances keep
--- the units with which a best schedule ends by the moment 10 ^ 25
+-- the units with which a best schedule ends by early_end
 abbrev pub unit_limit : EnvKind → ℕ
-unit_limit Identical = 10 ^ 13
-unit_limit Uniform = 10 ^ 13
-unit_limit Unrelated = 4096
+unit_limit Identical = unsigned_abs GREATEST_UNIT
+unit_limit Uniform = unsigned_abs GREATEST_UNIT
+unit_limit Unrelated = unsigned_abs GREATEST_CARRIED_UNIT
 unit_limit OpenShop = 10 ^ 9
-unit_limit FlowShop = 10 ^ 13
-unit_limit JobShop = 10 ^ 13
+unit_limit FlowShop = unsigned_abs GREATEST_UNIT
+unit_limit JobShop = unsigned_abs GREATEST_UNIT
 
-time_limit : (l : Limits) (times : Times) → 10 ^ 6 ≤ l.greatest_time → greatest_time l times ≤ l.greatest_time
+time_limit : (l : Limits) (times : Times) → GREATEST_EQUAL_TIME ≤ l.greatest_time → greatest_time l times ≤ l.greatest_time
 time_limit l General h = omega arith
 time_limit l UnitTimes h = omega arith
 time_limit l Equal h = h
 
-equal_time_small : (k : EnvKind) → 10 ^ 6 ≤ (inner_limits k).greatest_time
+equal_time_small : (k : EnvKind) → GREATEST_EQUAL_TIME ≤ (inner_limits k).greatest_time
 equal_time_small Identical = lit≤ tt
 equal_time_small Uniform = lit≤ tt
 equal_time_small Unrelated = lit≤ tt
@@ -334,19 +336,19 @@ equal_time_small FlowShop = lit≤ tt
 equal_time_small JobShop = lit≤ tt
 
 -- times at most T on c operations a job, due dates from -d, and a unit of at most u
-in_numbers : (u c T G d : ℕ) → T ≤ G → u * (MOST_JOBS * (c * G) + d) ≤ 10 ^ 25 → u * (MOST_JOBS * (c * T) + d) ≤ 10 ^ 25
+in_numbers : (u c T G d : ℕ) → T ≤ G → u * (MOST_JOBS * (c * G) + d) ≤ early_end → u * (MOST_JOBS * (c * T) + d) ≤ early_end
 in_numbers u c T G d h k = le_trans (mul-le u (MOST_JOBS * (c * T) + d) u (MOST_JOBS * (c * G) + d) (omega arith) (omega (arith, mul-le c T c G (omega arith) h))) k
 
-limits_small : (k : EnvKind) (T : ℕ) → is_mirror_kind k ≡ true → T ≤ (inner_limits k).greatest_time → unit_limit k * (MOST_JOBS * (most_by k * T) + (inner_limits k).greatest_date) ≤ 10 ^ 25
-limits_small Identical T m h = in_numbers (10 ^ 13) 1 T _ _ h (lit≤ tt)
-limits_small Uniform T m h = in_numbers (10 ^ 13) 1 T _ _ h (lit≤ tt)
-limits_small Unrelated T m h = in_numbers 4096 1 T _ _ h (lit≤ tt)
-limits_small OpenShop T m h = in_numbers (10 ^ 9) 32 T _ _ h (lit≤ tt)
+limits_small : (k : EnvKind) (T : ℕ) → is_mirror_kind k ≡ true → T ≤ (inner_limits k).greatest_time → unit_limit k * (MOST_JOBS * (most_by k * T) + (inner_limits k).greatest_date) ≤ early_end
+limits_small Identical T m h = in_numbers (unit_limit Identical) (most_by Identical) T _ _ h (lit≤ tt)
+limits_small Uniform T m h = in_numbers (unit_limit Uniform) (most_by Uniform) T _ _ h (lit≤ tt)
+limits_small Unrelated T m h = in_numbers (unit_limit Unrelated) (most_by Unrelated) T _ _ h (lit≤ tt)
+limits_small OpenShop T m h = in_numbers (unit_limit OpenShop) (most_by OpenShop) T _ _ h (lit≤ tt)
 limits_small FlowShop T m h = absurd (cc)
 limits_small JobShop T m h = absurd (cc)
 
 pub best_ends_early : (i : Instance) (t : Schedule) → Inner i → is_mirror i.class.env ≡ true → i.class.heads ≡ false
-    → (i.class.crit ≡ Cmax) ⊎ (i.class.crit ≡ Lmax) → Best i t → t.unit ≤ℤ pos (unit_limit (kind_of i.class.env)) → cost_of i t ≤ℤ pos (10 ^ 25)
+    → (i.class.crit ≡ Cmax) ⊎ (i.class.crit ≡ Lmax) → Best i t → t.unit ≤ℤ pos (unit_limit (kind_of i.class.env)) → cost_of i t ≤ℤ pos early_end
 best_ends_early i t h m e c b small =
     let k = kind_of i.class.env in
     let l = inner_limits k in

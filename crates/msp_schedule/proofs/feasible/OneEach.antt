@@ -3,13 +3,14 @@ use Rattle.std.proofs.Common.{◌≡◌, ◌≢◌, ℕ, ◌<◌, ◌≤◌, ◌
 use Rattle.std.proofs.lemmas.Int.{ints}
 use Rattle.std.proofs.lemmas.List.{length-map, get_or-map}
 use Rattle.std.proofs.lemmas.List.Elements.{All-contains, Contains-get_or}
-use Rattle.msp_class.specs.declared.sizes.TheConstants.{MOST_JOBS}
+use Rattle.msp_class.specs.declared.sizes.TheConstants.{MOST_JOBS, GREATEST_MULTIPLE}
 use Rattle.msp_class.specs.declared.environments.EnvKind.{EnvKind}
 use Rattle.msp_class.specs.declared.environments.EnvKind.TheVariants.{Identical, Uniform, Unrelated}
 use Rattle.msp_class.specs.Env.{kind_of}
 use Rattle.msp_class.proofs.Sums.{Contains-from_filter, OnceBelow, OnceBelow-distinct, length-OnceBelow}
 use Rattle.msp_instance.specs.declared.Instance.{Instance}
 use Rattle.msp_instance.specs.Instance.{job_at}
+use Rattle.msp_schedule.specs.declared.limits.TheConstants.{GREATEST_CARRIED_UNIT}
 use Rattle.msp_schedule.specs.declared.Piece.{Piece}
 use Rattle.msp_schedule.specs.declared.Schedule.{Schedule}
 use Rattle.msp_schedule.specs.Piece.{pieces_of, IsApart, IsBefore}
@@ -48,6 +49,10 @@ IsUncut-uniform i kind = IsUncut-from_kind i Uniform kind (λ j o e. e) (λ j. r
 pub IsUncut-unrelated : (i : Instance) → kind_of i.class.env ≡ Unrelated → i.class.cut ≡ false → length i.jobs ≤ MOST_JOBS → IsUncut i
 IsUncut-unrelated i kind = IsUncut-from_kind i Unrelated kind (λ j o e. e) (λ j. refl) (λ j m l. l) (λ ps. tt)
 
+-- The pieces of a schedule that is built end no later: above what the solvers reach, and below GREATEST_MOMENT.
+abbrev pub early_end : ℕ
+early_end = 10 ^ 25
+
 -- each job has one piece, on a machine of the instance and apart from the others of that machine, from its release date on and whole
 pub record AreOneEach (i : Instance) (unit : ℕ) (pieces : List Piece) : Type 0 where
   pub some : 1 ≤ unit
@@ -59,7 +64,7 @@ pub record AreOneEach (i : Instance) (unit : ℕ) (pieces : List Piece) : Type 0
   pub released : All (λ p. (pos unit *ℤ pos (job_at i p.job).release) ≤ℤ p.from) pieces
   pub forward : All (λ a. All (λ p. All (λ q. p.job ≡ a.before → q.job ≡ a.after → IsBefore p q) pieces) pieces) i.arcs
   pub whole : All (IsWholeWork (kind_of i.class.env) i (pos unit)) pieces
-  pub ends : All (λ p. p.to ≤ℤ pos 10000000000000000000000000) pieces
+  pub ends : All (λ p. p.to ≤ℤ pos early_end) pieces
 
 module _ (i : Instance) (uncut : IsUncut i) (unit : ℕ) (pieces : List Piece) (each : AreOneEach i unit pieces) where
   abbrev n : ℕ
@@ -114,7 +119,7 @@ module _ (i : Instance) (uncut : IsUncut i) (unit : ℕ) (pieces : List Piece) (
     work = λ j o l h. subst Gets (sym (uncut.first j o h)) gets j l;
   }
 
-  pub one_each_is_within : unit ≤ 2 ^ 30 → (kind_of i.class.env ≡ Unrelated → pos unit ≤ℤ pos 4096) → Within i s
+  pub one_each_is_within : unit ≤ GREATEST_MULTIPLE → (kind_of i.class.env ≡ Unrelated → pos unit ≤ℤ GREATEST_CARRIED_UNIT) → Within i s
   one_each_is_within few scaled = record {
     unit = (omega (arith, ints, each.some), omega (arith, ints, few));
     few = omega (arith, one_each_many, uncut.few);
@@ -122,5 +127,5 @@ module _ (i : Instance) (uncut : IsUncut i) (unit : ℕ) (pieces : List Piece) (
     scaled = λ u. inr (scaled u);
   }
     where
-      by : (x y : ℤ) → (pos 0 ≤ℤ x) × (x <ℤ y) → y ≤ℤ pos 10000000000000000000000000 → IsMoment x × IsMoment y
+      by : (x y : ℤ) → (pos 0 ≤ℤ x) × (x <ℤ y) → y ≤ℤ pos early_end → IsMoment x × IsMoment y
       by x y h e = ((h.0, omega (arith, ints, h.1, e)), (omega (arith, ints, h.0, h.1), omega (arith, ints, e)))
