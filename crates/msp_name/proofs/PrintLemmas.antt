@@ -15,7 +15,7 @@ use Rattle.msp_class.specs.declared.class.Times.{Times}
 use Rattle.msp_class.specs.declared.class.Times.TheVariants as t
 use Rattle.msp_class.specs.declared.class.Crit.{Crit}
 use Rattle.msp_class.specs.declared.class.Crit.TheVariants as k
-use Rattle.msp_name.specs.declared.text.TheConstants.{LONGEST_NAME}
+use Rattle.msp_name.specs.declared.text.TheConstants.{LONGEST_CLASS_NAME}
 use Rattle.msp_name.specs.declared.words.Item.{Item}
 use Rattle.msp_name.specs.declared.words.Item.TheVariants as i
 use Rattle.msp_name.specs.Spellings.{env_texts, item_texts, crit_texts}
@@ -268,7 +268,7 @@ pub length-items : (c : Class) → length (join_with_byte comma (item_texts_of c
 unfolding item_texts_of texts
 length-items c = texts-short c.cut c.order c.heads c.times (is_short c.env)
 
-pub length-name_of : (c : Class) → length (name_of c) ≤ LONGEST_NAME
+pub length-name_of : (c : Class) → length (name_of c) ≤ LONGEST_CLASS_NAME
 unfolding name_of
 length-name_of c =
     let items : List ℕ = join_with_byte comma (item_texts_of c) in

@@ -15,4 +15,4 @@ pub use fault::{FAULT_ROOM, FaultText, LONGEST_FAULT, NameFault};
 pub use laws::law_of_limits;
 pub use reader::parse;
 pub use short_text::ShortText;
-pub use text::{LONGEST_NAME, NAME_ROOM, NameText, print};
+pub use text::{LONGEST_CLASS_NAME, NAME_ROOM, NameText, print};

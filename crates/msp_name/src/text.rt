@@ -4,7 +4,7 @@ ghost use Rattle.std.specs.List.{join_with_byte};
 ghost use Rattle.msp_name.specs.Names.{comma, env_text, order_text, times_text, crit_text, text_if, item_texts_of, name_of, NameOf};
 ghost use Rattle.msp_name.specs.Items.{order_eq, times_eq};
 ghost use Rattle.msp_name.specs.Printing.{following};
-ghost use Rattle.msp_name.specs.declared.text.TheConstants.{LONGEST_NAME, NAME_ROOM};
+ghost use Rattle.msp_name.specs.declared.text.TheConstants.{LONGEST_CLASS_NAME, NAME_ROOM};
 
 use crate::reader::has_item;
 use crate::short_text::ShortText;
@@ -13,7 +13,7 @@ use msp_class::{Class, Crit, Env, Order, Times};
 use std::marker::Model;
 
 /// The greatest length of a name.
-pub const LONGEST_NAME: usize = 32;
+pub const LONGEST_CLASS_NAME: usize = 32;
 /// How many bytes the text of a name keeps.
 pub const NAME_ROOM: usize = 40;
 
@@ -169,7 +169,7 @@ fn spell(class: Class) -> ShortText<NAME_ROOM>
 pub fn print(c: Class) -> NameText
     ensures text { result ≡ name_of c }
     ensures named { NameOf result c }
-    ensures longest { length result ≤ LONGEST_NAME }
+    ensures longest { length result ≤ LONGEST_CLASS_NAME }
 {
     NameText { text: spell(c) }
 }
