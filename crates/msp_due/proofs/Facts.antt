@@ -1,7 +1,7 @@
 -- What an instance of one of the two classes has.
 use Rattle.std.proofs.Common.{◌≡◌, ℕ, ◌*◌, ◌<◌, ◌≤◌, ◌⊎◌, inl, inr, Bool, true, false, length, get_or, List, All, Contains, refl, ap, subst, sym, ◌∙◌, arith}
 use Rattle.std.specs.Prelude.{MatchOption, ⊤}
-use Rattle.msp_class.specs.declared.sizes.TheConstants.{MOST_JOBS}
+use Rattle.msp_class.specs.declared.sizes.TheConstants.{MOST_JOBS, GREATEST_EQUAL_TIME}
 use Rattle.msp_class.specs.declared.class.Class.{Class}
 use Rattle.msp_class.specs.declared.class.Crit.TheVariants.{Fmax}
 use Rattle.msp_class.specs.declared.class.Times.{Times}
@@ -27,7 +27,7 @@ pub record HasOneTime (i : Instance) : Type 0 where
   pub released : (j : ℕ) → j < length i.jobs → (job_at i j).release ≡ 0
   pub wide : (j : ℕ) → j < length i.jobs → length (job_at i j).needs ≡ i.machines
   pub times : TakeCommonTime i
-  pub time : (1 ≤ common_time i) × (common_time i ≤ 1000000)
+  pub time : (1 ≤ common_time i) × (common_time i ≤ GREATEST_EQUAL_TIME)
   pub ends : All (λ a. (a.before < length i.jobs) × (a.after < length i.jobs)) i.arcs
   pub acyclic : IsAcyclic i
   pub inner : Inner i
@@ -40,7 +40,7 @@ module _ (i : Instance) (h : Inner i) (kind : kind_of i.class.env ≡ Unrelated)
   needs_wide : (j : ℕ) → j < length i.jobs → length (job_at i j).needs ≡ i.machines
   needs_wide j b = (subst (λ k. HasShape k i.class.env i.machines (job_at i j).needs) kind (job j b).needs.shape).0
 
-  first_time : (1 ≤ common_time i) × (common_time i ≤ 1000000)
+  first_time : (1 ≤ common_time i) × (common_time i ≤ GREATEST_EQUAL_TIME)
   first_time =
       subst (λ t. HasTimes 1 (greatest_time (inner_limits (kind_of i.class.env)) t) (job_at i 0).needs)
       times (subst (λ k. HasTimes (least_time k i.class.times) (greatest_time (inner_limits (kind_of i.class.env)) i.class.times) (job_at i 0).needs)

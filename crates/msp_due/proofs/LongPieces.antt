@@ -23,6 +23,7 @@ use Rattle.msp_schedule.specs.Cost.{end_of, cost_of, job_cost}
 use Rattle.msp_schedule.proofs.lists.OnceEach.{OnceBelow-one}
 use Rattle.msp_schedule.proofs.changes.Moves.{Contains-map}
 use Rattle.msp_schedule.proofs.costs.Charges.{charge_of, cost_of-bound, cost_of-least}
+use Rattle.msp_route.specs.declared.bounds.TheConstants.{GREATEST_ANSWER_MOMENT}
 use Rattle.msp_route.specs.Bounds.{IsAnswer, answer_unit}
 use Rattle.msp_route.proofs.OneEach.{IsUncut, AreOneEach, one_each_is_feasible, one_each_is_answer}
 use Rattle.msp_schedule.proofs.feasible.OneEach.{IsUncut-unrelated}
@@ -101,10 +102,10 @@ module _ (i : Instance) (t : HasOneTime i) (order : List ℕ) (pieces : List Pie
       by : (p q : Piece) → Mine p → Mine q → h.begin p.job < h.begin q.job → IsBefore p q
       by p q e f less = subst₂ IsBefore (sym e) (sym f) (pos-le (slot_over time (h.begin p.job) (h.begin q.job) less))
 
-  soon : (j : ℕ) → j < n → time * (h.begin j + 1) ≤ (MOST_JOBS * GREATEST_EQUAL_TIME)
+  soon : (j : ℕ) → j < n → time * (h.begin j + 1) ≤ MOST_JOBS * GREATEST_EQUAL_TIME
   soon j l = small time (h.begin j + 1) t.time.1 (omega (arith, begins_soon i order pieces h j l, t.few))
     where
-      small : (a b : ℕ) → a ≤ 1000000 → b ≤ MOST_JOBS → a * b ≤ (MOST_JOBS * GREATEST_EQUAL_TIME)
+      small : (a b : ℕ) → a ≤ GREATEST_EQUAL_TIME → b ≤ MOST_JOBS → a * b ≤ MOST_JOBS * GREATEST_EQUAL_TIME
       small a b p q = omega (arith, mul-le-mul p q)
 
   one_each : AreOneEach i 1 long
@@ -120,7 +121,7 @@ module _ (i : Instance) (t : HasOneTime i) (order : List ℕ) (pieces : List Pie
     released = all_pieces (λ p. (pos 1 *ℤ pos (job_at i p.job).release) ≤ℤ p.from) (λ j l. from_zero (job_at i j).release (time * h.begin j) (t.released j l));
     forward = in_order;
     whole = all_pieces (IsWholeWork (kind_of i.class.env) i (pos 1)) (λ j l. subst (λ k. IsWholeWork k i (pos 1) (slot_piece j)) (sym t.kind) (whole_time j l));
-    ends = all_pieces (λ p. p.to ≤ℤ pos 10000000000000000000000000) (λ j l. pos-le (omega (arith, soon j l)));
+    ends = all_pieces (λ p. p.to ≤ℤ GREATEST_ANSWER_MOMENT) (λ j l. pos-le (omega (arith, soon j l)));
   }
     where
       lasts : (x : ℕ) → (pos 0 ≤ℤ pos (time * x)) × (pos (time * x) <ℤ pos (time * (x + 1)))
