@@ -130,7 +130,7 @@ module _ (i : Instance) (leads : ℕ → ℕ → Bool) (shows : Shows i leads)
         let (k, d, bound, greater, to_k, not_k) = r j c (omega (arith, less, has, small)) to not_to in
         (k, d, (by k bound greater less at.1).0, (by k bound greater less at.1).1, to_k, not_k)
       where
-        by : (k : ℕ) → label k < (MOST_JOBS + 1) → label j < label k → label j < label b → next j ≡ label j → (next k < (MOST_JOBS + 1)) × (next j < next k)
+        by : (k : ℕ) → label k < MOST_JOBS + 1 → label j < label k → label j < label b → next j ≡ label j → (next k < MOST_JOBS + 1) × (next j < next k)
         by k bound greater less same = elim (cases_eq k job) [
           | inl e ↦ let at : next k ≡ count = ap next e ∙ given in (omega (arith, at, small), omega (arith, at, same, less, has))
           | inr differ ↦ let at = kept k differ in (omega (arith, at, bound), omega (arith, at, same, greater))
@@ -169,7 +169,7 @@ module _ (i : Instance) (leads : ℕ → ℕ → Bool) (shows : Shows i leads)
                 let to_k : leads a k ≡ true = (shows a k in_a unlabelled.0).1 (one (subst (λ x. HasStep i.arcs x k) (get_or_default left at 0 a c ∙ e) step)) in
                 (k, unlabelled.0, next_small k unlabelled.1, above k j unlabelled.1 has_j, to_k, not_led k unlabelled)
               where
-                next_small : (k : ℕ) → label k ≡ MOST_JOBS → next k < (MOST_JOBS + 1)
+                next_small : (k : ℕ) → label k ≡ MOST_JOBS → next k < MOST_JOBS + 1
                 next_small k u = elim (cases_eq k job) [ inl e ↦ omega (arith, ap next e, given, small) | inr differ ↦ omega (arith, kept k differ, u) ]
 
                 above : (k j : ℕ) → label k ≡ MOST_JOBS → label j < count → next j < next k

@@ -12,7 +12,7 @@ pub IsSeating-none : (n : ℕ) → IsSeating n [] (replicate (2 * MOST_JOBS) n)
 IsSeating-none n = record { whole = length-replicate (2 * MOST_JOBS) n; seated = λ k d l. absurd (omega (arith, l)); others = λ k l. inl (get_or-replicate (2 * MOST_JOBS) k n 0 l) }
 
 pub IsSeating-next : (n : ℕ) (pieces : List Piece) (k : ℕ) (p : Piece) (place job : ℕ) (seats : List ℕ) → k < length pieces
-    → p ≡ get_or pieces k p → place ≡ place_of p → job ≡ p.job → place_of p < (2 * MOST_JOBS) → AllPairs (λ p q. place_of p ≢ place_of q) pieces
+    → p ≡ get_or pieces k p → place ≡ place_of p → job ≡ p.job → place_of p < 2 * MOST_JOBS → AllPairs (λ p q. place_of p ≢ place_of q) pieces
     → IsSeating n (take k pieces) seats → IsSeating n (take (k + 1) pieces) (set seats place job)
 IsSeating-next n pieces k p place job seats l is place_is job_is small apart h = record {
   whole = length-set seats place job ∙ h.whole;
@@ -36,7 +36,7 @@ IsSeating-next n pieces k p place job seats l is place_is job_is small apart h =
     all : take (k + 1) pieces ≡ take k pieces ++ p ∷ []
     all = take_more pieces k p l ∙ ap (λ q. take k pieces ++ q ∷ []) (sym is)
 
-    others : (m : ℕ) → m < (2 * MOST_JOBS)
+    others : (m : ℕ) → m < 2 * MOST_JOBS
         → (slice_index (set seats place job) m ≡ n) ⊎ ((q : Piece) × Contains (take (k + 1) pieces) q × (place_of q ≡ m) × (q.job ≡ slice_index (set seats place job) m))
     others m b = elim (cases_eq m place) [
       | inl same ↦ inr
@@ -52,5 +52,5 @@ IsSeating-next n pieces k p place job seats l is place_is job_is small apart h =
 pub IsSeating-all : (n : ℕ) (pieces : List Piece) (k : ℕ) (seats : List ℕ) → length pieces ≤ k → IsSeating n (take k pieces) seats → IsSeating n pieces seats
 IsSeating-all n pieces k seats l h = subst (λ ps. IsSeating n ps seats) (take_all k pieces l) h
 
-pub seat_small : (n : ℕ) (p : Piece) → n ≤ MOST_JOBS → IsSeated n p → place_of p < (2 * MOST_JOBS)
+pub seat_small : (n : ℕ) (p : Piece) → n ≤ MOST_JOBS → IsSeated n p → place_of p < 2 * MOST_JOBS
 seat_small n p few h = omega (arith, h.machine, h.early, few)

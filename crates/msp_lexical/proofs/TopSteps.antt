@@ -5,7 +5,7 @@ use Rattle.std.proofs.lemmas.List.{length-set, get_or-set_same, get_or-set_other
 use Rattle.msp_class.specs.declared.sizes.TheConstants.{MOST_JOBS}
 use Rattle.msp_lexical.specs.Slots.{IsEnd, IsInner, AreTops, IsTopOf}
 
--- the slots from one on have their least labels, and the number is that of the slot, or 400 after the last one
+-- the slots from one on have their least labels, and the number is that of the slot, or MOST_JOBS after the last one
 pub record IsTopping (n slots : ℕ) (label first second : ℕ → ℕ) (slot next : ℕ) (tops : List ℕ) : Type 0 where
   pub inside : slot ≤ slots
   pub whole : length tops ≡ MOST_JOBS

@@ -64,9 +64,9 @@ pub record IsSeated (limit : ℕ) (p : Piece) : Type 0 where
 
 -- The seats have the jobs of the pieces, and a number that is no job where there is none.
 pub record IsSeating (none : ℕ) (pieces : List Piece) (seats : List ℕ) : Type 0 where
-  pub whole : length seats ≡ (2 * MOST_JOBS)
+  pub whole : length seats ≡ 2 * MOST_JOBS
   pub seated : All (λ p. slice_index seats (place_of p) ≡ p.job) pieces
-  pub others : (k : ℕ) → k < (2 * MOST_JOBS) → (slice_index seats k ≡ none) ⊎ ((p : Piece) × Contains pieces p × (place_of p ≡ k) × (p.job ≡ slice_index seats k))
+  pub others : (k : ℕ) → k < 2 * MOST_JOBS → (slice_index seats k ≡ none) ⊎ ((p : Piece) × Contains pieces p × (place_of p ≡ k) × (p.job ≡ slice_index seats k))
 
 -- The jobs of the first machine and of the second, by the seats.
 abbrev pub first_in : List ℕ → ℕ → ℕ
@@ -82,7 +82,7 @@ pub record AreCut (i : Instance) (labels seats tops : List ℕ) (slots : ℕ) : 
   pub two : i.machines ≡ 2
   pub few : slots ≤ MOST_JOBS
   pub jobs : length i.jobs ≤ MOST_JOBS
-  pub seats_whole : length seats ≡ (2 * MOST_JOBS)
+  pub seats_whole : length seats ≡ 2 * MOST_JOBS
   pub are_slots : AreSlots (length i.jobs) slots slot (slice_index labels) (first_in seats) (second_in seats) leads
   pub paths : (j k : ℕ) → j < length i.jobs → k < length i.jobs → leads j k ≡ true → HasPath i.arcs j k
   pub are_tops : AreTops (length i.jobs) slots (slice_index labels) (first_in seats) (second_in seats) (slice_index tops)
