@@ -235,7 +235,7 @@ module _ (i : Instance) (class : i.class ≡ horn_class) (inner : Inner i) (bloc
       by [] h a = absurd (omega (arith, h))
       by (x ∷ xs) h a = omega (arith, sum_by-cons (time_at i) x xs, takes_time i horn.plain x (All-head (λ j. j < length i.jobs) x xs a))
 
-  pub few_in_block : (k : ℕ) (slice : List ℕ) → k < length blocks → slice ≡ get_or blocks k [] → length slice ≤ (MOST_JOBS + 1)
+  pub few_in_block : (k : ℕ) (slice : List ℕ) → k < length blocks → slice ≡ get_or blocks k [] → length slice ≤ MOST_JOBS + 1
   few_in_block k slice l e = omega (arith, ap length e, block_is_few (length i.jobs) (before i) (time_at i) (weight_at i) blocks joined k l, inner.conditions.few)
 
   pub some_in_block : (k : ℕ) (slice : List ℕ) → k < length blocks → slice ≡ get_or blocks k [] → 0 < length slice
