@@ -8,6 +8,7 @@ use Rattle.std.proofs.lemmas.Simd.{map-map}
 use Rattle.std.proofs.lemmas.List.{length-map, get_or-map, get_or_default}
 use Rattle.std.proofs.lemmas.List.Elements.{All-map}
 use Rattle.std.proofs.lemmas.List.Sums.{length-filter}
+use Rattle.msp_class.specs.declared.sizes.TheConstants.{GREATEST}
 use native.Mathlib.Nat.{le_of_mul-le-mul_left, lt_of_mul-lt-mul_left}
 use Rattle.msp_class.specs.Env.{kind_of}
 use Rattle.msp_class.proofs.IntegerRing.{natural, pos-le, le-pos, pos-lt, zero-le-pos, one-*ℤ, +ℤ_idr, ≤ℤ_trans}
@@ -28,14 +29,15 @@ use Rattle.msp_schedule.proofs.feasible.LastEnds.{last_end-bound, last_end-least
 use Rattle.msp_schedule.proofs.feasible.OneMachine.{pieces_of-job}
 use Rattle.msp_schedule.proofs.feasible.BackToBack.{ordered_without_arcs}
 use Rattle.msp_schedule.proofs.feasible.OneEach.{IsUncut, IsUncut-identical, AreOneEach, one_each_is_feasible}
+use Rattle.msp_route.specs.declared.bounds.TheConstants.{GREATEST_ANSWER_MOMENT}
 use Rattle.msp_slots.proofs.UnitPieces.{HasUnitJobs}
-use Rattle.msp_threshold.specs.Squeezed.{AreKept, HasTime, squeezed_due, squeezed_by, CanMeet, CanBeFree}
+use Rattle.msp_threshold.specs.Squeezed.{greatest_bound, AreKept, HasTime, squeezed_due, squeezed_by, CanMeet, CanBeFree}
 use Rattle.msp_threshold.specs.Search.{number_of, piece_back, pieces_back}
 use Rattle.msp_threshold.proofs.Rising.{count_by-most, released_there, in_time_there}
 use Rattle.msp_threshold.proofs.Meeting.{moments_of}
 use Rattle.msp_threshold.proofs.Facts.{IsLatenessShop, unit_jobs, due_small, many, lower_release, lower_due, lower_units}
 
-module _ (i : Instance) (t : IsLatenessShop i) (kept : List ℕ) (k : AreKept i kept) (bound : ℤ) (small : LiesWithin 10000000000 bound) (possible : All (HasTime bound) i.jobs)
+module _ (i : Instance) (t : IsLatenessShop i) (kept : List ℕ) (k : AreKept i kept) (bound : ℤ) (small : LiesWithin greatest_bound bound) (possible : All (HasTime bound) i.jobs)
     (s : Schedule) (f : Feasible (squeezed_by kept bound i) s) (free : cost_of (squeezed_by kept bound i) s ≡ pos 0) where
   abbrev n : ℕ
   n = length i.jobs
@@ -171,7 +173,7 @@ module _ (i : Instance) (t : IsLatenessShop i) (kept : List ℕ) (k : AreKept i 
     whole = All-map (IsWholeWork (kind_of i.class.env) i (pos 1)) move s.pieces (λ m d l.
         let p = get_or s.pieces m d in
         subst (λ e. IsWholeWork e i (pos 1) (move p)) (sym t.kind) (unit_work (get_or kept (number_of s.unit p) 0) (need_at i p.job 0).time ((unit_jobs i t).ones p.job (in_slot m d l).job)));
-    ends = All-map (λ p. p.to ≤ℤ pos 10000000000000000000000000) move s.pieces (λ m d l.
+    ends = All-map (λ p. p.to ≤ℤ GREATEST_ANSWER_MOMENT) move s.pieces (λ m d l.
         let p = get_or s.pieces m d in
         early (pos (get_or kept (number_of s.unit p) 0 + 1)) (job_at i p.job).due (in_slot m d l).in_time (due_small i t p.job no_job (in_slot m d l).job));
   }
@@ -185,7 +187,7 @@ module _ (i : Instance) (t : IsLatenessShop i) (kept : List ℕ) (k : AreKept i 
       unit_work : (x time : ℕ) → time ≡ 1 → (pos (x + 1) -ℤ pos x) ≡ pos 1 *ℤ pos time
       unit_work x time e = omega (arith, ints, e)
 
-      early : (x d : ℤ) → x ≤ℤ (d +ℤ bound) → LiesWithin 2000000000 d → x ≤ℤ pos 10000000000000000000000000
+      early : (x d : ℤ) → x ≤ℤ (d +ℤ bound) → LiesWithin (2 * GREATEST) d → x ≤ℤ GREATEST_ANSWER_MOMENT
       early x d h w = omega (arith, ints, h, w.1, small.1)
 
   abbrev schedule : Schedule
@@ -216,7 +218,7 @@ module _ (i : Instance) (t : IsLatenessShop i) (kept : List ℕ) (k : AreKept i 
   back_inside m d l = (in_slot m d l).inside
 
 pub met_if_free : (i : Instance) → IsLatenessShop i → (kept : List ℕ)
-    → AreKept i kept → (bound : ℤ) → LiesWithin 10000000000 bound → All (HasTime bound) i.jobs → CanBeFree (squeezed_by kept bound i) → CanMeet i bound
+    → AreKept i kept → (bound : ℤ) → LiesWithin greatest_bound bound → All (HasTime bound) i.jobs → CanBeFree (squeezed_by kept bound i) → CanMeet i bound
 met_if_free i t kept k bound small possible (s, f, free) =
     (record { unit = pos 1; pieces = pieces_back kept s }, back_feasible i t kept k bound small possible s f free, back_meets i t kept k bound small possible s f free)
 

@@ -7,6 +7,7 @@ use Rattle.std.proofs.lemmas.Bool.{eqb-true}
 use Rattle.std.proofs.lemmas.Int.{ints, to_z-of_z}
 use Rattle.std.proofs.lemmas.List.{take_all, take_more}
 use Rattle.std.proofs.lemmas.List.Elements.{All-push}
+use Rattle.msp_class.specs.declared.sizes.TheConstants.{GREATEST}
 use Rattle.msp_class.specs.declared.class.Crit.TheVariants.{SumU}
 use Rattle.msp_class.proofs.IntegerRing.{natural, zero-le-pos, *ℤ-one, *ℤ_comm, *ℤ-zero, zero-*ℤ, *ℤ-cancel_pos, *ℤ-cancel_same, ≤ℤ-int_max_left, ≤ℤ-int_max_right, int_max-least}
 use Rattle.msp_class.proofs.IntegerRing.{≤ℤ_antisym, ≤ℤ_total, ≤ℤ_trans}
@@ -23,7 +24,7 @@ use Rattle.msp_schedule.proofs.costs.LateJobs.{late_jobs, late_cost}
 use Rattle.msp_schedule.proofs.feasible.OneEach.{IsUncut-identical}
 use Rattle.msp_route.specs.Bounds.{IsAnswer, answer_unit}
 use Rattle.msp_route.proofs.OneEach.{one_each_is_answer}
-use Rattle.msp_threshold.specs.Squeezed.{AreKept, HasTime, squeezed_by, CanMeet, CanBeFree}
+use Rattle.msp_threshold.specs.Squeezed.{greatest_bound, AreKept, HasTime, squeezed_by, CanMeet, CanBeFree}
 use Rattle.msp_threshold.specs.Search.{IsLowest, number_of, pieces_back}
 use Rattle.msp_route.specs.Halving.{IsLeastBound, IsRange}
 use Rattle.msp_threshold.proofs.Facts.{IsLatenessShop}
@@ -50,21 +51,21 @@ has_time-there bound x j e h = subst (λ y. y ≤ℤ bound) (sym e) ((has_time-l
 pub record IsLowestSoFar (jobs : List Job) (k : ℕ) (lowest : ℤ) : Type 0 where
   pub time : All (HasTime lowest) (take k jobs)
   pub least : (bound : ℤ) → All (HasTime bound) jobs → lowest ≤ℤ bound
-  pub size : LiesWithin 4000000001 lowest
+  pub size : LiesWithin (4 * GREATEST + 1) lowest
 
-lateness_small : (x d : ℤ) (r : ℕ) → x ≡ pos (r + 1) -ℤ d → r ≤ 2000000000 → LiesWithin 2000000000 d → LiesWithin 4000000001 x
+lateness_small : (x d : ℤ) (r : ℕ) → x ≡ pos (r + 1) -ℤ d → r ≤ 2 * GREATEST → LiesWithin (2 * GREATEST) d → LiesWithin (4 * GREATEST + 1) x
 lateness_small x d r e h w = (omega (arith, ints, e, h, w.1), omega (arith, ints, e, h, w.0))
 
-small_fits : (x : ℤ) → LiesWithin 4000000001 x → FitsSigned w64 x
+small_fits : (x : ℤ) → LiesWithin (4 * GREATEST + 1) x → FitsSigned w64 x
 small_fits x h = omega (arith, ints, h.0, h.1)
 
-module _ (jobs : List Job) (released : All (λ j. j.release ≤ 2000000000) jobs) (dues : All (λ j. LiesWithin 2000000000 j.due) jobs)
+module _ (jobs : List Job) (released : All (λ j. j.release ≤ 2 * GREATEST) jobs) (dues : All (λ j. LiesWithin (2 * GREATEST) j.due) jobs)
     (k : ℕ) (j : Job) (x : ℤ) (inside : k < length jobs) (at : j ≡ get_or jobs k j) (e : x ≡ pos (j.release + 1) -ℤ j.due) where
   here : (P : Job → Type 0) → All P jobs → P j
   here P h = subst P (sym at) (h k j inside)
 
-  small : LiesWithin 4000000001 x
-  small = lateness_small x j.due j.release e (here (λ j. j.release ≤ 2000000000) released) (here (λ j. LiesWithin 2000000000 j.due) dues)
+  small : LiesWithin (4 * GREATEST + 1) x
+  small = lateness_small x j.due j.release e (here (λ j. j.release ≤ 2 * GREATEST) released) (here (λ j. LiesWithin (2 * GREATEST) j.due) dues)
 
   is : to_z w64 (of_z w64 x) ≡ x
   is = to_z-of_z w64 x (small_fits x small)
@@ -88,8 +89,8 @@ module _ (jobs : List Job) (released : All (λ j. j.release ≤ 2000000000) jobs
       is_max : new ≡ int_max old x
       is_max = m ∙ ap₂ int_max f (g ∙ is)
 
-      size : LiesWithin 4000000001 new
-      size = (≤ℤ_trans h.size.0 (subst (λ z. old ≤ℤ z) (sym is_max) (≤ℤ-int_max_left old x)), subst (λ z. z ≤ℤ pos 4000000001) (sym is_max) (int_max-least h.size.1 small.1))
+      size : LiesWithin (4 * GREATEST + 1) new
+      size = (≤ℤ_trans h.size.0 (subst (λ z. old ≤ℤ z) (sym is_max) (≤ℤ-int_max_left old x)), subst (λ z. z ≤ℤ pos (4 * GREATEST + 1)) (sym is_max) (int_max-least h.size.1 small.1))
 
 pub lowest-end : (jobs : List Job) (k : ℕ) (a lowest : ℤ) → length jobs ≤ k → a ≡ lowest → IsLowestSoFar jobs k lowest → IsLowest jobs a
 lowest-end jobs k a lowest l e h = subst (IsLowest jobs) (sym e) (record { time = subst (All (HasTime lowest)) (take_all k jobs l) h.time; least = h.least })
@@ -99,7 +100,8 @@ module _ (i : Instance) (t : IsLatenessShop i) where
   n = length i.jobs
 
   -- ---- the first range
-  pub first_range : (low high : ℤ) → IsLowest i.jobs low → LiesWithin 4000000001 low → CanMeet i high → LiesWithin 5000000000 high → IsRange (CanMeet i) 10000000000 (record { low = low; high = high })
+  pub first_range : (low high : ℤ) → IsLowest i.jobs low → LiesWithin (4 * GREATEST + 1) low → CanMeet i high → LiesWithin (5 * GREATEST) high
+      → IsRange (CanMeet i) greatest_bound (record { low = low; high = high })
   first_range low high lowest size met small = record {
     met = met;
     least = λ bound met. lowest.least bound (time_if_met i t bound met);
@@ -154,7 +156,7 @@ module _ (j : Instance) (crit : j.class.crit ≡ SumU) (s : Schedule) (best : Be
       zero d x y e one h = *ℤ-cancel_same d (omega (arith, ints, e, one)) (sym (*ℤ_comm x (pos d)) ∙ ap (λ z. x *ℤ z) (sym e) ∙ h ∙ sym (*ℤ-zero (pos d)))
 
 -- ---- a best schedule of the squeezed instance at the least bound, brought back
-module _ (i : Instance) (t : IsLatenessShop i) (kept : List ℕ) (k : AreKept i kept) (bound : ℤ) (small : LiesWithin 10000000000 bound)
+module _ (i : Instance) (t : IsLatenessShop i) (kept : List ℕ) (k : AreKept i kept) (bound : ℤ) (small : LiesWithin greatest_bound bound)
     (least : IsLeastBound (CanMeet i) bound) (lower : Instance) (lower_is : lower ≡ squeezed_by kept bound i) (s : Schedule) (best : Best lower s) where
   possible : All (HasTime bound) i.jobs
   possible = time_if_met i t bound least.met
@@ -192,32 +194,32 @@ pub some_value : {A : Type 0} (P : Type 0) (Q : A → Type 0) (o : Option A) (a 
 some_value P Q o a e h = subst (λ o. MatchOption o P Q) e h
 
 -- a small bound of 128 bits is one of 64
-pub narrow_is : (x : ℤ) → LiesWithin 10000000000 x → to_z w64 (of_z w64 (to_z w128 (of_z w128 x))) ≡ x
+pub narrow_is : (x : ℤ) → LiesWithin greatest_bound x → to_z w64 (of_z w64 (to_z w128 (of_z w128 x))) ≡ x
 narrow_is x h = ap (λ y. to_z w64 (of_z w64 y)) (to_z-of_z w128 x (wide x h)) ∙ to_z-of_z w64 x (narrow x h)
   where
-    wide : (x : ℤ) → LiesWithin 10000000000 x → FitsSigned w128 x
+    wide : (x : ℤ) → LiesWithin greatest_bound x → FitsSigned w128 x
     wide x h = omega (arith, ints, h.0, h.1)
 
-    narrow : (x : ℤ) → LiesWithin 10000000000 x → FitsSigned w64 x
+    narrow : (x : ℤ) → LiesWithin greatest_bound x → FitsSigned w64 x
     narrow x h = omega (arith, ints, h.0, h.1)
 
 pub range_at : (i : Instance) → IsLatenessShop i → (jobs : List Job) (low high wide_low wide_high : ℤ) → jobs ≡ i.jobs → wide_low ≡ to_z w64 (of_z w64 low) → wide_high ≡ to_z w64 (of_z w64 high)
-    → IsLowest jobs low → LiesWithin 4000000001 low → CanMeet i high → LiesWithin 5000000000 high
-    → IsRange (CanMeet i) 10000000000 (record { low = to_z w128 (of_z w128 wide_low); high = to_z w128 (of_z w128 wide_high) })
+    → IsLowest jobs low → LiesWithin (4 * GREATEST + 1) low → CanMeet i high → LiesWithin (5 * GREATEST) high
+    → IsRange (CanMeet i) greatest_bound (record { low = to_z w128 (of_z w128 wide_low); high = to_z w128 (of_z w128 wide_high) })
 range_at i t jobs low high wide_low wide_high e f g lowest size met small =
-    subst₂ (λ x y. IsRange (CanMeet i) 10000000000 (record { low = x; high = y }))
+    subst₂ (λ x y. IsRange (CanMeet i) greatest_bound (record { low = x; high = y }))
     (sym (ap (λ x. to_z w128 (of_z w128 x)) (f ∙ to_z-of_z w64 low (low_fits low size)) ∙ to_z-of_z w128 low (low_wide low size)))
     (sym (ap (λ x. to_z w128 (of_z w128 x)) (g ∙ to_z-of_z w64 high (met_fits high small)) ∙ to_z-of_z w128 high (met_wide high small)))
     (first_range i t low high (subst (λ js. IsLowest js low) e lowest) size met small)
   where
-    low_fits : (x : ℤ) → LiesWithin 4000000001 x → FitsSigned w64 x
+    low_fits : (x : ℤ) → LiesWithin (4 * GREATEST + 1) x → FitsSigned w64 x
     low_fits x h = omega (arith, ints, h.0, h.1)
 
-    low_wide : (x : ℤ) → LiesWithin 4000000001 x → FitsSigned w128 x
+    low_wide : (x : ℤ) → LiesWithin (4 * GREATEST + 1) x → FitsSigned w128 x
     low_wide x h = omega (arith, ints, h.0, h.1)
 
-    met_fits : (x : ℤ) → LiesWithin 5000000000 x → FitsSigned w64 x
+    met_fits : (x : ℤ) → LiesWithin (5 * GREATEST) x → FitsSigned w64 x
     met_fits x h = omega (arith, ints, h.0, h.1)
 
-    met_wide : (x : ℤ) → LiesWithin 5000000000 x → FitsSigned w128 x
+    met_wide : (x : ℤ) → LiesWithin (5 * GREATEST) x → FitsSigned w128 x
     met_wide x h = omega (arith, ints, h.0, h.1)

@@ -1,5 +1,5 @@
 -- What an instance of unit jobs by lateness has, and the instance squeezed to some moments.
-use Rattle.std.proofs.Common.{◌≡◌, ℕ, ◌+◌, ◌<◌, ◌≤◌, ltb, List, length, get_or, All, ℤ, pos, ◌+ℤ◌, ◌≤ℤ◌, FitsSigned, to_z, of_z, refl, sym, ap, ap₂, ◌∙◌, arith}
+use Rattle.std.proofs.Common.{◌≡◌, ℕ, ◌+◌, ◌*◌, ◌<◌, ◌≤◌, ltb, List, length, get_or, All, ℤ, pos, ◌+ℤ◌, ◌≤ℤ◌, FitsSigned, to_z, of_z, refl, sym, ap, ap₂, ◌∙◌, arith}
 use Rattle.std.specs.Prelude.{int_le}
 use Rattle.std.specs.Int.{w64}
 use Rattle.std.proofs.lemmas.Int.{ints, to_z-of_z}
@@ -15,7 +15,7 @@ use Rattle.msp_instance.specs.Conditions.{LiesWithin, IsJobOf, Inner, InClass, t
 use Rattle.msp_schedule.proofs.feasible.OfClass.{IsOfClass, IsOfClass-from}
 use Rattle.msp_schedule.proofs.feasible.Frames.{job_at-map}
 use Rattle.msp_slots.proofs.UnitPieces.{HasUnitJobs}
-use Rattle.msp_threshold.specs.Squeezed.{lateness_class, squeezed_release, squeezed_due, squeezed_job, squeezed_by}
+use Rattle.msp_threshold.specs.Squeezed.{lateness_class, greatest_bound, squeezed_release, squeezed_due, squeezed_job, squeezed_by}
 use Rattle.msp_threshold.proofs.Rising.{count_by-most}
 
 abbrev pub IsLatenessShop : Instance → Type 0
@@ -31,10 +31,10 @@ module _ (i : Instance) (t : IsLatenessShop i) where
   pub unit_jobs : HasUnitJobs i
   unit_jobs = record { kind = t.kind; cut = t.cut; few = t.few; ones = ones }
 
-  pub release_small : All (λ j. j.release ≤ 2000000000) i.jobs
+  pub release_small : All (λ j. j.release ≤ 2 * GREATEST) i.jobs
   release_small k d l = (t.jobs k d l).release
 
-  pub due_small : All (λ j. LiesWithin 2000000000 j.due) i.jobs
+  pub due_small : All (λ j. LiesWithin (2 * GREATEST) j.due) i.jobs
   due_small k d l = (t.jobs k d l).due
 
   -- ---- squeezed
@@ -102,8 +102,8 @@ module _ (i : Instance) (t : IsLatenessShop i) where
         ))
 
 -- ---- one job, as the code changes it
-pub squeeze_is : (kept : List ℕ) (bound d : ℤ) (j : Job) (r : ℕ) (x : ℤ) → length kept ≤ MOST_JOBS → LiesWithin 2000000000 j.due → LiesWithin 10000000000 bound → r ≡ squeezed_release kept j.release
-    → d ≡ pos (squeezed_due kept x) → x ≡ to_z w64 (of_z w64 (to_z w64 (of_z w64 j.due) +ℤ to_z w64 (of_z w64 bound)))
+pub squeeze_is : (kept : List ℕ) (bound d : ℤ) (j : Job) (r : ℕ) (x : ℤ) → length kept ≤ MOST_JOBS → LiesWithin (2 * GREATEST) j.due → LiesWithin greatest_bound bound
+    → r ≡ squeezed_release kept j.release → d ≡ pos (squeezed_due kept x) → x ≡ to_z w64 (of_z w64 (to_z w64 (of_z w64 j.due) +ℤ to_z w64 (of_z w64 bound)))
     → record j { release = r; due = to_z w64 (of_z w64 d) } ≡ squeezed_job kept bound j
 squeeze_is kept bound d j r x few w b e f g = ap₂ (λ y z. record j { release = y; due = z }) e
     (to_z-of_z w64 d (fits d (squeezed_due kept x) f (omega (arith, few, count_by-most (λ y. int_le (pos (y + 1)) x) kept))) ∙ f ∙ ap (λ y. pos (squeezed_due kept y)) (g ∙ sum))
@@ -111,13 +111,13 @@ squeeze_is kept bound d j r x few w b e f g = ap₂ (λ y z. record j { release 
     fits : (d : ℤ) (n : ℕ) → d ≡ pos n → n ≤ MOST_JOBS → FitsSigned w64 d
     fits d n e l = omega (arith, ints, e, l)
 
-    due_fits : (x : ℤ) → LiesWithin 2000000000 x → FitsSigned w64 x
+    due_fits : (x : ℤ) → LiesWithin (2 * GREATEST) x → FitsSigned w64 x
     due_fits x h = omega (arith, ints, h.0, h.1)
 
-    bound_fits : (x : ℤ) → LiesWithin 10000000000 x → FitsSigned w64 x
+    bound_fits : (x : ℤ) → LiesWithin greatest_bound x → FitsSigned w64 x
     bound_fits x h = omega (arith, ints, h.0, h.1)
 
-    both_fit : (x y : ℤ) → LiesWithin 2000000000 x → LiesWithin 10000000000 y → FitsSigned w64 (x +ℤ y)
+    both_fit : (x y : ℤ) → LiesWithin (2 * GREATEST) x → LiesWithin greatest_bound y → FitsSigned w64 (x +ℤ y)
     both_fit x y h k = omega (arith, ints, h.0, h.1, k.0, k.1)
 
     sum : to_z w64 (of_z w64 (to_z w64 (of_z w64 j.due) +ℤ to_z w64 (of_z w64 bound))) ≡ j.due +ℤ bound

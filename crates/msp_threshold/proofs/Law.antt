@@ -1,7 +1,8 @@
 -- The law of squeezing, one way: where the bound can be met, the squeezed instance can be free of late jobs.
-use Rattle.std.proofs.Common.{◌≡◌, ℕ, ◌+◌, ◌<◌, ◌≤◌, ◌≢◌, List, length, get_or, map, AllPairs, Contains, ℤ, pos, ◌+ℤ◌, ◌≤ℤ◌, refl, sym, ap, subst₂, ◌∙◌, arith}
+use Rattle.std.proofs.Common.{◌≡◌, ℕ, ◌+◌, ◌*◌, ◌<◌, ◌≤◌, ◌≢◌, List, length, get_or, map, AllPairs, Contains, ℤ, pos, ◌+ℤ◌, ◌≤ℤ◌, refl, sym, ap, subst₂, ◌∙◌, arith}
 use Rattle.std.specs.List.{range_with_len}
 use Rattle.std.proofs.lemmas.List.{length-map, get_or-map, get_or_default}
+use Rattle.msp_class.specs.declared.sizes.TheConstants.{GREATEST, MOST_JOBS}
 use Rattle.msp_class.proofs.IntegerRing.{pos-le, one-*ℤ, +ℤ_idr, ≤ℤ_trans}
 use Rattle.msp_instance.specs.declared.Instance.{Instance}
 use Rattle.msp_instance.specs.Instance.{job_at}
@@ -78,14 +79,14 @@ module _ (i : Instance) (t : IsLatenessShop i) (kept : List ℕ) (k : AreKept i 
     pieces = AreUnitPieces-from lower begin machine t.arcs (λ j l. slot_inside i.machines k.heads k.slots k.filled (seat j) (in_slots j (inside j l)))
         (λ a b u v e f. h.once a b (inside a u) (inside b v) (same_slot i.machines k.heads k.slots k.filled (seat a) (seat b)
         (in_slots a (inside a u)) (in_slots b (inside b v)) (same_start (seat a) (seat b) (h.inside a (inside a u)) (h.inside b (inside b v)) e) f))
-        (λ j l. released j (inside j l)) (λ j l. soon j (inside j l))
+        (λ j l. released j (inside j l)) (λ j l. omega (arith, soon j (inside j l)))
       where
         released : (j : ℕ) → j < n → (job_at lower j).release ≤ begin j
         released j l =
             let s = numbered (seat j) (h.inside j l) in
             omega (arith, lower_release i t kept bound j l, released_here kept k.rising (begin j) s.inside (job_at i j).release (omega (arith, s.is, h.released j l)))
 
-        soon : (j : ℕ) → j < n → begin j < 10000000000000000000000000
+        soon : (j : ℕ) → j < n → begin j ≤ 2 * GREATEST + MOST_JOBS
         soon j l = let s = numbered (seat j) (h.inside j l) in omega (arith, no_less kept k.rising (begin j) s.inside, s.is, k.filled.soon (seat j) (in_slots j l), heads, t.few)
 
     free : CanBeFree lower

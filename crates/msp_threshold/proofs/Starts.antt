@@ -1,5 +1,5 @@
 -- The moments at which slots begin, each once: the kept moments.
-use Rattle.std.proofs.Common.{◌≡◌, ◌≢◌, ℕ, ◌+◌, ◌<◌, ◌≤◌, eqb, List, [], ◌∷◌, length, map, All, AllPairs, Contains, IsPermutation, sym, ap, subst, subst₂, arith}
+use Rattle.std.proofs.Common.{◌≡◌, ◌≢◌, ℕ, ◌+◌, ◌*◌, ◌<◌, ◌≤◌, eqb, List, [], ◌∷◌, length, map, All, AllPairs, Contains, IsPermutation, sym, ap, subst, subst₂, arith}
 use Rattle.std.specs.List.{dedup, dedup_from}
 use Rattle.std.proofs.lemmas.Bool.{cond_both, eqb-false}
 use Rattle.std.proofs.lemmas.List.{length-map, get_or-map}
@@ -7,7 +7,7 @@ use Rattle.std.proofs.lemmas.List.Elements.{All-cons, All-tail, All-map}
 use Rattle.std.proofs.lemmas.List.Filters.{All-dedup}
 use Rattle.std.proofs.lemmas.List.Kept.{AllPairs-cons, Contains-dedup_nat, Contains-from_dedup}
 use Rattle.std.proofs.lemmas.List.Sorted.{All-permutation}
-use Rattle.msp_class.specs.declared.sizes.TheConstants.{MOST_JOBS}
+use Rattle.msp_class.specs.declared.sizes.TheConstants.{MOST_JOBS, GREATEST}
 use Rattle.msp_class.proofs.Sums.{AllPairs-head, AllPairs-tail}
 use Rattle.msp_instance.specs.declared.Instance.{Instance}
 use Rattle.msp_slots.specs.declared.earliest.Slot.{Slot}
@@ -75,5 +75,5 @@ module _ (i : Instance) (t : IsLatenessShop i) (heads : List ℕ) (p : IsPermuta
   pub heads_few : length heads ≤ MOST_JOBS
   heads_few = omega (arith, heads_many i heads p, t.few)
 
-  pub heads_low : All (λ r. r ≤ 2000000000) heads
-  heads_low = All-permutation (λ r. r ≤ 2000000000) (map (λ j. j.release) i.jobs) heads p (All-map (λ r. r ≤ 2000000000) (λ j. j.release) i.jobs (release_small i t))
+  pub heads_low : All (λ r. r ≤ 2 * GREATEST) heads
+  heads_low = All-permutation (λ r. r ≤ 2 * GREATEST) (map (λ j. j.release) i.jobs) heads p (All-map (λ r. r ≤ 2 * GREATEST) (λ j. j.release) i.jobs (release_small i t))

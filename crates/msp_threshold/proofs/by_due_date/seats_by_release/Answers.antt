@@ -1,7 +1,7 @@
-use Rattle.std.proofs.Common.{◌≡◌, ◌≤◌, ◌<◌, ◌⊎◌, ◌∙◌, List, ℕ, length, map, get_or, All, AllPairs, IsPermutation, sym, ap, ap₂, subst, subst₂}
+use Rattle.std.proofs.Common.{◌*◌, ◌≡◌, ◌≤◌, ◌<◌, ◌⊎◌, ◌∙◌, List, ℕ, length, map, get_or, All, AllPairs, IsPermutation, sym, ap, ap₂, subst, subst₂}
 use Rattle.std.specs.List.{range_with_len}
 use Rattle.std.specs.List.Sorted.{IsNonDecreasing}
-use Rattle.msp_class.specs.declared.sizes.TheConstants.{MOST_JOBS}
+use Rattle.msp_class.specs.declared.sizes.TheConstants.{MOST_JOBS, GREATEST}
 use Rattle.msp_class.proofs.Sums.{OnceBelow-from_permutation}
 use Rattle.msp_slots.specs.Earliest.{AreSlots}
 use Rattle.msp_threshold.proofs.Facts.{IsLatenessShop-from}
@@ -35,7 +35,7 @@ earliest_slots-requires-clause-early c =
     subst (λ (l : List ℕ). IsPermutation (range_with_len 0 (length l)) c.in_ok-order.order.items) c.as_slice-2.ensures.value c.in_ok-order.ensures.all in
     let h : c.in_ok-heads.heads.items ≡ map (λ j. get_or c.in_ok-releases.releases.items j 0) c.in_ok-order.order.items =
     c.in_ok-heads.ensures ∙ ap₂ (λ (xs js : List ℕ). map (λ j. get_or xs j 0) js) c.as_slice-3.ensures.value c.as_slice-4.ensures.value in
-    subst (All (λ r. r ≤ 2000000000)) (sym c.as_slice-5.ensures.value) (heads_low i (IsLatenessShop-from i c.requires.class c.requires.inner) _ (heads_sorted i _ _ _ r p h))
+    subst (All (λ r. r ≤ 2 * GREATEST)) (sym c.as_slice-5.ensures.value) (heads_low i (IsLatenessShop-from i c.requires.class c.requires.inner) _ (heads_sorted i _ _ _ r p h))
 
 pub earliest_slots-requires-clause-rising : goal.earliest_slots-requires-clause-rising
 earliest_slots-requires-clause-rising c =

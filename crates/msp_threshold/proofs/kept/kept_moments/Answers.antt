@@ -1,6 +1,6 @@
-use Rattle.std.proofs.Common.{◌≤◌, ◌∙◌, List, ℕ, length, map, All, IsPermutation, sym, ap, subst}
+use Rattle.std.proofs.Common.{◌*◌, ◌≤◌, ◌∙◌, List, ℕ, length, map, All, IsPermutation, sym, ap, subst}
 use Rattle.std.proofs.lemmas.List.Filters.{dedup_is}
-use Rattle.msp_class.specs.declared.sizes.TheConstants.{MOST_JOBS}
+use Rattle.msp_class.specs.declared.sizes.TheConstants.{MOST_JOBS, GREATEST}
 use Rattle.msp_slots.specs.Earliest.{AreSlots}
 use Rattle.msp_threshold.proofs.Facts.{IsLatenessShop-from}
 use Rattle.msp_threshold.proofs.Starts.{AreKept-from, kept_few, heads_few, heads_low}
@@ -16,7 +16,7 @@ pub earliest_slots-requires-clause-early : goal.earliest_slots-requires-clause-e
 earliest_slots-requires-clause-early c =
     let i = c.args.inst.now in
     let p = subst (λ l. IsPermutation (map (λ j. j.release) l) c.in_ok-heads.heads.items) c.as_slice.ensures c.in_ok-heads.ensures.all in
-    subst (All (λ r. r ≤ 2000000000)) (sym c.as_slice-2.ensures.value) (heads_low i (IsLatenessShop-from i c.requires.class c.requires.inner) _ p)
+    subst (All (λ r. r ≤ 2 * GREATEST)) (sym c.as_slice-2.ensures.value) (heads_low i (IsLatenessShop-from i c.requires.class c.requires.inner) _ p)
 
 pub returns-clause-kept : goal.returns-clause-kept
 returns-clause-kept c =

@@ -3,7 +3,7 @@ use Rattle.std.specs.Prelude.{IfSome, ◌↔◌}
 use Rattle.std.specs.Int.{w64, w128}
 use Rattle.msp_instance.specs.Conditions.{InClass, LiesWithin}
 use Rattle.msp_instance.proofs.Limits.{Inner-from_class}
-use Rattle.msp_threshold.specs.Squeezed.{HasTime, IsSqueezed, CanMeet, CanBeFree}
+use Rattle.msp_threshold.specs.Squeezed.{greatest_bound, HasTime, IsSqueezed, CanMeet, CanBeFree}
 use Rattle.msp_threshold.proofs.Bounds.{some_value, free_by_cost, zero_test, narrow_is}
 use Rattle.msp_threshold.proofs.search.LateJobsQuestion.ask.Goals as goal
 
@@ -14,7 +14,7 @@ pub solve-requires-clause-fits : goal.solve-requires-clause-fits
 solve-requires-clause-fits g c =
     let i = c.args.self.now.inst.now in
     let b = to_z w64 (of_z w64 (to_z w128 (of_z w128 c.args.bound))) in
-    c.requires.asked.fits b c.in-Some.lower (subst (LiesWithin 10000000000) (sym (narrow_is c.args.bound c.requires.bound)) c.requires.bound)
+    c.requires.asked.fits b c.in-Some.lower (subst (LiesWithin greatest_bound) (sym (narrow_is c.args.bound c.requires.bound)) c.requires.bound)
     (some_value (All (HasTime b) i.jobs → ⊥) (IsSqueezed i b) c.in_ok-squeezed.field-0 c.in-Some.lower c.in-Some.is c.in_ok-squeezed.ensures.value)
 
 pub returns-in_ok-solution-in-Some : goal.returns-in_ok-solution-in-Some
