@@ -13,6 +13,7 @@ pub mod JobsLaws
 pub mod KeyLaws
 pub mod LineCounts
 pub mod LineFaults
+pub mod LineSteps
 pub mod Flagging
 pub mod NeedLaws
 pub mod Orders

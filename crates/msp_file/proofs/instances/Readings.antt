@@ -11,8 +11,9 @@ use Rattle.msp_grammar.specs.declared.filed.Filed.{Filed}
 use Rattle.msp_grammar.specs.lines.Reading.{◌>>=◌, Place, job_read, more_read, end_read, Then, all_of, front_of}
 use Rattle.msp_file.specs.instance.Reading.{version_at, class_at, machines_at, speeds_at, time_at, arc_step, job_step, ReadsArcs, ReadsJobs, job_then, arc_after, jobs_end}
 use Rattle.msp_file.specs.instance.Reading.{jobs_fault, OnlyWhere, ReadsRest, ReadsSpeeds, ReadsLines, start_of, Reads, ReadsFront, no_draft, filed_of}
-use Rattle.msp_grammar.specs.lines.Steps.{FailsBy, MovesBy}
-use Rattle.msp_grammar.proofs.reading.Readings.{same_step, same_fault, clash, more_is, job_is, end_is, job_arc, job_end, arc_end, ended, more_same, then_same, by_same, then_fails, then_goes}
+use Rattle.msp_grammar.specs.lines.Steps.{FailsBy}
+use Rattle.msp_file.specs.instance.Steps.{ReadsTimed}
+use Rattle.msp_grammar.proofs.reading.Readings.{same_step, same_fault, clash, more_is, job_is, end_is, job_arc, job_end, arc_end, ended, more_same, then_same, by_same, then_fails, then_ok, err_is}
 
 module _ (c : Class) (machines shared : ℕ) where
   pub jobs_same : (d : Draft) (p : Place) (r s : Result (Draft × Place) FileFault) → ReadsJobs c machines shared d p r → ReadsJobs c machines shared d p s → r ≡ s
@@ -69,15 +70,6 @@ front_same b r s h k = by_same front_of (ReadsLines (start_of b)) (lines_same (s
 
 -- ---- functions that read
 
-abbrev same : Filed → Filed
-same f = f
-
-pub only_goes : {X Y : Type 0} (view : X → Y) (condition : Type 0) (fault : FileFault) (next : Result (Y × Place) FileFault → Type 0) (result : Result X FileFault) (after : Place)
-    → condition → MovesBy view result after next → MovesBy view result after (OnlyWhere condition fault next)
-only_goes view condition fault next (Ok x) after c h = inl (c, h)
-only_goes view condition fault next (Err Memory) after c h = tt
-only_goes view condition fault next (Err e) after c h = inl (c, h)
-
 pub front_fails : (b : List ℕ) (e : FileFault) → FailsBy e (ReadsLines (start_of b)) → FailsBy e (ReadsFront b)
 front_fails b Memory h = tt
 front_fails b e h = record { lines = Err e; reads = h; is = refl }
@@ -90,32 +82,27 @@ pub speeds_refused : (c : Class) (machines : ℕ) (p q : Place) (speeds : List �
     → speeds_at c.env machines p ≡ Ok (speeds, q) → ¬ HasSmallMultiple speeds → ReadsSpeeds c machines p (Err (Limit p.at what.Multiple))
 speeds_refused c machines p q speeds h none = rw h (inr (none, refl))
 
-pub speeds_stopped : (c : Class) (machines : ℕ) (p q : Place) (speeds : List ℕ) (e : FileFault)
-    → speeds_at c.env machines p ≡ Ok (speeds, q) → HasSmallMultiple speeds → Fails e (time_at c.times q) → FailsBy e (ReadsSpeeds c machines p)
-speeds_stopped c machines p q speeds Memory h small f = tt
-speeds_stopped c machines p q speeds e h small f = rw h (inl (small, rw f refl))
-
-pub speeds_done : (c : Class) (machines : ℕ) (p q z after : Place) (speeds : List ℕ) (shared : ℕ) (result : Result Filed FileFault)
-    → speeds_at c.env machines p ≡ Ok (speeds, q) → HasSmallMultiple speeds → time_at c.times q ≡ Ok (shared, z)
-    → MovesBy same result after (ReadsRest c machines speeds shared z) → MovesBy same result after (ReadsSpeeds c machines p)
-speeds_done c machines p q z after speeds shared result h small f rest =
-    then_goes same (speeds_at c.env machines p) _ (speeds, q) result after h (
-    only_goes same (HasSmallMultiple speeds) (Limit p.at what.Multiple) (Then (time_at c.times q) (λ (t : ℕ × Place). ReadsRest c machines speeds t.0 t.1)) result after small (
-    then_goes same (time_at c.times q) (λ (t : ℕ × Place). ReadsRest c machines speeds t.0 t.1) (shared, z) result after f rest))
-
-pub rest_fails : (c : Class) (machines : ℕ) (speeds : List ℕ) (shared : ℕ) (p : Place) (e : FileFault)
-    → FailsBy e (ReadsJobs c machines shared no_draft p) → FailsBy e (ReadsRest c machines speeds shared p)
-rest_fails c machines speeds shared p Memory h = tt
+rest_fails : (c : Class) (machines : ℕ) (speeds : List ℕ) (shared : ℕ) (p : Place) (e : FileFault) → ReadsJobs c machines shared no_draft p (Err e) → ReadsRest c machines speeds shared p (Err e)
 rest_fails c machines speeds shared p e h = record { lines = Err e; reads = h; filed = refl }
 
-pub rest_done : (c : Class) (machines : ℕ) (speeds : List ℕ) (shared : ℕ) (p q : Place) (d : Draft) (f : Filed)
-    → ReadsJobs c machines shared no_draft p (Ok (d, q)) → f ≡ filed_of c machines speeds d → ReadsRest c machines speeds shared p (Ok (f, q))
-rest_done c machines speeds shared p q d f h is = record { lines = Ok (d, q); reads = h; filed = rw is refl }
+timed_stopped : (c : Class) (machines : ℕ) (speeds : List ℕ) (time : Result (ℕ × Place) FileFault) (e : FileFault)
+    → Then time (λ (t : ℕ × Place). ReadsJobs c machines t.0 no_draft t.1) (Err e) → Then time (λ (t : ℕ × Place). ReadsRest c machines speeds t.0 t.1) (Err e)
+timed_stopped c machines speeds (Ok t) e h = rest_fails c machines speeds t.0 t.1 e h
+timed_stopped c machines speeds (Err f) e h = ap Err (err_is e f h)
+
+pub speeds_stopped : (c : Class) (machines : ℕ) (p q : Place) (speeds : List ℕ) (e : FileFault)
+    → speeds_at c.env machines p ≡ Ok (speeds, q) → HasSmallMultiple speeds → FailsBy e (ReadsTimed c machines q) → FailsBy e (ReadsSpeeds c machines p)
+speeds_stopped c machines p q speeds Memory h small f = tt
+speeds_stopped c machines p q speeds e h small f = rw h (inl (small, timed_stopped c machines speeds (time_at c.times q) e f))
+
+pub speeds_done : (c : Class) (machines : ℕ) (p q after : Place) (speeds : List ℕ) (d : Draft) (f : Filed)
+    → speeds_at c.env machines p ≡ Ok (speeds, q) → HasSmallMultiple speeds → ReadsTimed c machines q (Ok (d, after)) → f ≡ filed_of c machines speeds d → ReadsSpeeds c machines p (Ok (f, after))
+speeds_done c machines p q after speeds d f h small timed is =
+    let t = then_ok (time_at c.times q) (λ (t : ℕ × Place). ReadsJobs c machines t.0 no_draft t.1) (d, after) timed in
+    rw h (inl (small, rw (t.1) (record { lines = Ok (d, after); reads = t.2; filed = rw is refl })))
 
 pub job_fails : (c : Class) (machines shared : ℕ) (d : Draft) (p : Place) (e : FileFault) → Fails e (job_step c machines shared d p) → FailsBy e (ReadsJobs c machines shared d p)
 job_fails c machines shared d p Memory h = tt
 job_fails c machines shared d p e h = jobs_fault d p (Err e) e h refl
 
 pub ruleset speeds_rules = (then_fails, speeds_refused, speeds_stopped, speeds_done)
-
-pub ruleset rest_rules = (rest_fails, rest_done)

@@ -1,5 +1,5 @@
 -- What the functions that read the lines of jobs say. No public contract cites this file.
-use Rattle.std.specs.Prelude.{◌≡◌, ℕ, length, slice_get, Some, Result, Ok, Err}
+use Rattle.std.specs.Prelude.{◌≡◌, ℕ, Bool, List, length, slice_get, Some, Result, Ok, Err, bytes_eq, codes, if◌then◌else◌}
 use Rattle.msp_grammar.specs.declared.lines.fault.FileFault.{FileFault}
 use Rattle.msp_grammar.specs.declared.lines.fault.FileFault.TheVariants.{Class as ClassBroken, Cycle, Memory}
 use Rattle.msp_grammar.specs.declared.filed.Filed.{Filed}
@@ -12,14 +12,35 @@ use Rattle.msp_file.specs.declared.instance.draft.Draft.{Draft}
 use Rattle.msp_file.specs.declared.instance.draft.Next.{Next}
 use Rattle.msp_file.specs.declared.instance.draft.Next.TheVariants.{Job, Arc, End}
 use Rattle.msp_class.specs.declared.class.Class.{Class}
-use Rattle.msp_grammar.specs.lines.Reading.{Place, job_read, more_read, end_read}
-use Rattle.msp_file.specs.instance.Reading.{job_step}
+use Rattle.msp_grammar.specs.lines.Reading.{◌>>=◌, Place, LineRead, job_read, more_read, end_read, first_of, others_of, Then}
+use Rattle.msp_file.specs.instance.Reading.{job_step, job_at_line, arc_or_end, time_at, ReadsJobs, no_draft}
+use Rattle.msp_grammar.specs.Layout.{has_order}
+use Rattle.msp_grammar.specs.lines.Steps.{AfterLine}
+
+-- What a line was, by what is read there.
+abbrev pub AfterNext : Result (LineRead Draft) FileFault → Result Next FileFault → Draft → Place → Type 0
+AfterNext read (Ok Job) e q = read ≡ Ok (job_read e q)
+AfterNext read (Ok Arc) e q = read ≡ Ok (more_read e q)
+AfterNext read (Ok End) e q = read ≡ Ok (end_read e q)
+AfterNext read (Err fault) e q = Fails fault read
 
 abbrev pub AfterJob : Class → ℕ → ℕ → Result Next FileFault → Draft → Place → Draft → Place → Type 0
-AfterJob c machines shared (Ok Job) d p e q = job_step c machines shared d p ≡ Ok (job_read e q)
-AfterJob c machines shared (Ok Arc) d p e q = job_step c machines shared d p ≡ Ok (more_read e q)
-AfterJob c machines shared (Ok End) d p e q = job_step c machines shared d p ≡ Ok (end_read e q)
-AfterJob c machines shared (Err fault) d p e q = Fails fault (job_step c machines shared d p)
+AfterJob c machines shared result d p e q = AfterNext (job_step c machines shared d p) result e q
+
+-- What the fields of a line after the head or after a job say.
+abbrev pub next_of : Class → ℕ → ℕ → ℕ → Draft → List (List ℕ) → Place → Result (LineRead Draft) FileFault
+next_of class machines shared at draft fields place =
+    if bytes_eq (first_of fields) (codes "job")
+    then (job_at_line class machines shared draft at (others_of fields) place >>= λ more. Ok (job_read more.0 more.1))
+    else arc_or_end (has_order class.order) at draft fields place
+
+-- The same of an arc or the last line, wherever the lines after it begin.
+abbrev pub AfterWords : Bool → ℕ → List (List ℕ) → Result Bool FileFault → Draft → Draft → Type 0
+AfterWords may at fields result d e = (p : Place) → AfterLine (λ draft place. arc_or_end may at draft fields place) result d p e p
+
+-- The lines after those of the speeds are read so.
+abbrev pub ReadsTimed : Class → ℕ → Place → Result (Draft × Place) FileFault → Type 0
+ReadsTimed class machines place read = Then (time_at class.times place) (λ shared. ReadsJobs class machines shared.0 no_draft shared.1) read
 
 -- The fault is one of the instance that was read: the first broken condition of its class, or a cycle.
 abbrev pub IsFaultOfFiled : Filed → FileFault → Type 0

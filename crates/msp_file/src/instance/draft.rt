@@ -7,7 +7,7 @@ ghost use Rattle.msp_file.specs.instance.ArcFlags.{is_arc_among};
 ghost use Rattle.msp_grammar.specs.lines.Reading.{provided};
 ghost use Rattle.msp_file.specs.instance.Reading.{with_arc, arc_line_at, time_in, job_at_line, arc_step, ReadsArcs, ReadsJobs};
 ghost use Rattle.msp_grammar.specs.lines.Steps.{Moves, MovesBy, AfterLine, place_of, fields_after};
-ghost use Rattle.msp_file.specs.instance.Steps.{AfterJob};
+ghost use Rattle.msp_file.specs.instance.Steps.{AfterJob, AfterNext, AfterWords, next_of};
 
 use crate::instance::arcs::Arcs;
 use crate::instance::curve::curve_at;
@@ -139,8 +139,32 @@ fn arc_line_at(at: u32, draft: &mut Draft, fields: &[u8]) -> Result<(), FileFaul
     add_arc(at, draft, before, after)
 }
 
+/// Reads an arc, where there may be one, or else the last line. Whether it is an arc.
+fn arc_or_end(
+    may: bool,
+    at: u32,
+    draft: &mut Draft,
+    word: &[u8],
+    fields: &[u8],
+) -> Result<bool, FileFault>
+    requires { length draft.old.names ≤ MOST_JOBS }
+    ensures after { AfterWords may at (word.now ∷ fields_after fields.now) result draft.old draft.new }
+    ensures names { OnOk result (draft.new.names ≡ draft.old.names) }
+    ensures jobs { OnOk result (draft.new.jobs ≡ draft.old.jobs) }
+{
+    if may && *word == *b"arc".as_slice() {
+        return match arc_line_at(at, draft, fields) {
+            Ok(()) => Ok(true),
+            Err(fault) => Err(fault),
+        };
+    }
+    match end_line(at, word, fields) {
+        Ok(()) => Ok(false),
+        Err(fault) => Err(fault),
+    }
+}
+
 /// Reads a line after an arc, and answers whether it is an arc.
-#[tactic(auto, unfolding(crate::specs::instance::Reading::arc_step))]
 fn arc_step(draft: &mut Draft, lines: &mut Lines<'_>) -> Result<bool, FileFault>
     requires { length draft.old.names ≤ MOST_JOBS }
     ensures after { AfterLine arc_step result draft.old (place_of lines.old) draft.new (place_of lines.new) }
@@ -149,14 +173,13 @@ fn arc_step(draft: &mut Draft, lines: &mut Lines<'_>) -> Result<bool, FileFault>
     ensures shrinks { OnOk result (length lines.new.rest.now < length lines.old.rest.now) }
 {
     let at = lines.at;
-    let line = line_at(lines)?;
-    let (word, fields) = split_word(line);
-    if *word == *b"arc".as_slice() {
-        arc_line_at(at, draft, fields)?;
-        return Ok(true);
+    match line_at(lines) {
+        Ok(line) => {
+            let (word, fields) = split_word(line);
+            arc_or_end(true, at, draft, word, fields)
+        }
+        Err(fault) => Err(fault),
     }
-    end_line(at, word, fields)?;
-    Ok(false)
 }
 
 /// Reads the lines after an arc, up to the last one.
@@ -175,8 +198,37 @@ fn arcs_at(draft: &mut Draft, lines: &mut Lines<'_>) -> Result<(), FileFault>
     }
 }
 
+/// Reads what a line after the head or after a job says, with the lines of the job that it begins.
+fn job_or_other(
+    alloc: Global,
+    frame: Frame,
+    draft: &mut Draft,
+    at: u32,
+    word: &[u8],
+    fields: &[u8],
+    lines: &mut Lines<'_>,
+) -> Result<Next, FileFault>
+    requires even { length draft.old.names ≡ length draft.old.jobs }
+    requires few { length draft.old.names ≤ MOST_JOBS }
+    ensures after { AfterNext (next_of frame.class frame.machines frame.time at draft.old (word.now ∷ fields_after fields.now) (place_of lines.old)) result draft.new (place_of lines.new) }
+    ensures few { OnOk result (length draft.new.names ≤ MOST_JOBS) }
+    ensures even { OnOk result (length draft.new.names ≡ length draft.new.jobs) }
+    ensures shrinks { OnOk result (length lines.new.rest.now ≤ length lines.old.rest.now) }
+{
+    if *word == *b"job".as_slice() {
+        return match job_at_line(alloc, frame, draft, at, fields, lines) {
+            Ok(()) => Ok(Next::Job),
+            Err(fault) => Err(fault),
+        };
+    }
+    match arc_or_end(has_order(frame.class.order), at, draft, word, fields) {
+        Ok(true) => Ok(Next::Arc),
+        Ok(false) => Ok(Next::End),
+        Err(fault) => Err(fault),
+    }
+}
+
 /// Reads a line after the head or after a job, with the lines of the job that it begins.
-#[tactic(auto, unfolding(crate::specs::instance::Reading::job_step))]
 fn job_step(
     alloc: Global,
     frame: Frame,
@@ -191,18 +243,13 @@ fn job_step(
     ensures shrinks { OnOk result (length lines.new.rest.now < length lines.old.rest.now) }
 {
     let at = lines.at;
-    let line = line_at(lines)?;
-    let (word, fields) = split_word(line);
-    if *word == *b"job".as_slice() {
-        job_at_line(alloc, frame, draft, at, fields, lines)?;
-        return Ok(Next::Job);
+    match line_at(lines) {
+        Ok(line) => {
+            let (word, fields) = split_word(line);
+            job_or_other(alloc, frame, draft, at, word, fields, lines)
+        }
+        Err(fault) => Err(fault),
     }
-    if has_order(frame.class.order) && *word == *b"arc".as_slice() {
-        arc_line_at(at, draft, fields)?;
-        return Ok(Next::Arc);
-    }
-    end_line(at, word, fields)?;
-    Ok(Next::End)
 }
 
 /// Reads the lines after the head, up to the last one.

@@ -6,9 +6,9 @@ ghost use Rattle.msp_grammar.specs.declared.lines.limits.TheConstants.{MOST_BYTE
 ghost use Rattle.msp_file.specs.instance.Answers.{faulty_name, IsTextFault, IsFrontFault, IsFaultOf, IsFrontFaultOf, IsFrontText, ReadsOneWay};
 ghost use Rattle.msp_grammar.specs.lines.Answers.{Gives};
 ghost use Rattle.msp_grammar.specs.InstanceText.{IsInstanceText};
-ghost use Rattle.msp_file.specs.instance.Reading.{Reads, ReadsLines, ReadsRest, ReadsSpeeds, filed_of, no_draft};
+ghost use Rattle.msp_file.specs.instance.Reading.{Reads, ReadsLines, ReadsJobs, ReadsSpeeds, filed_of, no_draft};
 ghost use Rattle.msp_grammar.specs.lines.Steps.{GivesBy, MovesBy, place_of};
-ghost use Rattle.msp_file.specs.instance.Steps.{IsFaultOfFiled};
+ghost use Rattle.msp_file.specs.instance.Steps.{IsFaultOfFiled, ReadsTimed};
 
 use crate::instance::arcs::Arcs;
 use crate::instance::draft::{Draft, Frame, jobs_at};
@@ -48,19 +48,39 @@ fn filed_of(class: Class, machines: u32, speeds: List<u64>, draft: Draft) -> Fil
 }
 
 /// Reads the lines after the head.
-#[tactic(auto, using(crate::proofs::instances::Readings::rest_rules))]
-fn rest_at(
-    alloc: Global,
-    frame: Frame,
-    speeds: List<u64>,
-    lines: &mut Lines<'_>,
-) -> Result<Filed, FileFault>
-    ensures even { IfOk result (λ f. length f.names ≡ length f.instance.jobs) }
-    ensures moves { MovesBy (λ f. f) result (place_of lines.new) (ReadsRest frame.class frame.machines speeds frame.time (place_of lines.old)) }
+fn rest_at(alloc: Global, frame: Frame, lines: &mut Lines<'_>) -> Result<Draft, FileFault>
+    ensures even { IfOk result (λ d. length d.names ≡ length d.jobs) }
+    ensures moves { MovesBy (λ d. d) result (place_of lines.new) (ReadsJobs frame.class frame.machines frame.time no_draft (place_of lines.old)) }
 {
     let mut draft = no_draft(alloc);
-    jobs_at(alloc, frame, &mut draft, lines)?;
-    Ok(filed_of(frame.class, frame.machines, speeds, draft))
+    match jobs_at(alloc, frame, &mut draft, lines) {
+        Ok(()) => Ok(draft),
+        Err(fault) => Err(fault),
+    }
+}
+
+/// Reads the lines after those of the speeds.
+#[tactic(auto, using(msp_grammar::proofs::reading::Readings::then_rules))]
+fn timed_at(
+    alloc: Global,
+    class: Class,
+    machines: u32,
+    lines: &mut Lines<'_>,
+) -> Result<Draft, FileFault>
+    ensures even { IfOk result (λ d. length d.names ≡ length d.jobs) }
+    ensures moves { MovesBy (λ d. d) result (place_of lines.new) (ReadsTimed class machines (place_of lines.old)) }
+{
+    match time_at(class.times, lines) {
+        Ok(time) => {
+            let frame = Frame {
+                class,
+                machines,
+                time,
+            };
+            rest_at(alloc, frame, lines)
+        }
+        Err(fault) => Err(fault),
+    }
 }
 
 /// Reads the lines after those of the machines.
@@ -82,13 +102,10 @@ fn speeds_on(
             what: What::Multiple,
         });
     }
-    let time = time_at(class.times, lines)?;
-    let frame = Frame {
-        class,
-        machines,
-        time,
-    };
-    rest_at(alloc, frame, speeds, lines)
+    match timed_at(alloc, class, machines, lines) {
+        Ok(draft) => Ok(filed_of(class, machines, speeds, draft)),
+        Err(fault) => Err(fault),
+    }
 }
 
 /// Reads the lines of one instance.
@@ -170,6 +187,18 @@ fn check_filed(alloc: Global, filed: &Filed) -> Result<(), FileFault>
     }
 }
 
+/// The same instance, where it is in its class.
+fn checked(alloc: Global, filed: Filed) -> Result<Filed, FileFault>
+    requires even { length filed.names ≡ length filed.instance.jobs }
+    requires once { AllPairs (λ a b. a ≢ b) filed.instance.arcs }
+    ensures { MatchResult result (λ f. (f ≡ filed) × InClass filed.instance) (λ e. IsFaultOfFiled filed e) }
+{
+    match check_filed(alloc, &filed) {
+        Ok(()) => Ok(filed),
+        Err(fault) => Err(fault),
+    }
+}
+
 /// Reads a whole instance text. The instance is in its class, and the fault is the first one: of the lines in order, then of the
 /// class, then a cycle.
 #[tactic(auto, using(crate::proofs::instances::AnswerLemmas::answer_rules, crate::proofs::instances::AnswerLaws::text_rules))]
@@ -183,8 +212,8 @@ pub fn read_instance(alloc: Global, bytes: &[u8]) -> Result<Filed, FileFault>
     // A text breaks at most these conditions of its class.
     ensures class_faults { IfErr result (λ e. IsTextFault e) }
 {
-    let filed = filed_at(alloc, bytes)?;
-    check_filed(alloc, &filed)?;
+    let read = filed_at(alloc, bytes)?;
+    let filed = checked(alloc, read)?;
     Ok(filed)
 }
 
@@ -213,8 +242,8 @@ pub fn read_front(alloc: Global, bytes: &[u8]) -> Result<Front, FileFault>
     ensures front_faults { IfErr result (λ e. IsFrontFault e) }
 {
     let mut lines = Lines { at: 1, rest: bytes };
-    let filed = lines_at(alloc, &mut lines)?;
-    check_filed(alloc, &filed)?;
+    let read = lines_at(alloc, &mut lines)?;
+    let filed = checked(alloc, read)?;
     Ok(Front {
         filed,
         used: bytes.len() - lines.rest.len(),

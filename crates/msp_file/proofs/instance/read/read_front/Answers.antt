@@ -5,40 +5,40 @@ use Rattle.msp_file.proofs.instances.AnswerLaws.{fault_of_front_text}
 use Rattle.msp_file.proofs.instances.FrontLaws.{front_fault, front_fault_of_filed, front_read, front_text, again_front}
 use Rattle.msp_file.proofs.instance.read.read_front.Goals as goal
 
+pub returns-in_err-read-clause-again : goal.returns-in_err-read-clause-again
+returns-in_err-read-clause-again c =
+    let p = err_from_is_err_and c.from_residual.result c.from_residual.ensures.1 in
+    rw (p.1, p.2) (again_front c.args.bytes.now c.in_err-read.field-0.0 (front_fault c.args.bytes.now c.in_err-read.field-0.0 c.in_err-read.ensures.moves))
+
+pub returns-in_err-read-clause-front_faults : goal.returns-in_err-read-clause-front_faults
+returns-in_err-read-clause-front_faults c =
+    let p = err_from_is_err_and c.from_residual.result c.from_residual.ensures.1 in
+    rw (p.1, p.2) (fault_of_front_text c.args.bytes.now c.in_err-read.field-0.0 (front_fault c.args.bytes.now c.in_err-read.field-0.0 c.in_err-read.ensures.moves))
+
+pub returns-clause-again : goal.returns-clause-again
+returns-clause-again c = rw (c.in_ok-filed.ensures.0) (front_read c.args.bytes.now c.in_ok-read.read (place_of c.lines_at.new.lines) c.in_ok-read.ensures.moves c.in_ok-filed.ensures.1)
+
 pub returns-in_err-filed-clause-again : goal.returns-in_err-filed-clause-again
 returns-in_err-filed-clause-again c =
-    let p = err_from_is_err_and c.from_residual.result c.from_residual.ensures.1 in
-    rw (p.1, p.2) (again_front c.args.bytes.now c.in_err-filed.field-0.0 (front_fault c.args.bytes.now c.in_err-filed.field-0.0 c.in_err-filed.ensures.moves))
+    let p = err_from_is_err_and c.from_residual-in_err-filed.result c.from_residual-in_err-filed.ensures.1 in
+    rw (p.1, p.2) (again_front c.args.bytes.now c.in_err-filed.field-0.0
+    (front_fault_of_filed c.args.bytes.now c.in_ok-read.read (place_of c.lines_at.new.lines) c.in_err-filed.field-0.0 c.in_ok-read.ensures.moves c.in_err-filed.ensures))
 
 pub returns-in_err-filed-clause-front_faults : goal.returns-in_err-filed-clause-front_faults
 returns-in_err-filed-clause-front_faults c =
-    let p = err_from_is_err_and c.from_residual.result c.from_residual.ensures.1 in
-    rw (p.1, p.2) (fault_of_front_text c.args.bytes.now c.in_err-filed.field-0.0 (front_fault c.args.bytes.now c.in_err-filed.field-0.0 c.in_err-filed.ensures.moves))
-
-pub returns-clause-again : goal.returns-clause-again
-returns-clause-again c = front_read c.args.bytes.now c.in_ok-filed.filed (place_of c.lines_at.new.lines) c.in_ok-filed.ensures.moves c.in_ok-check_filed.ensures
-
-pub returns-in_err-check_filed-clause-again : goal.returns-in_err-check_filed-clause-again
-returns-in_err-check_filed-clause-again c =
-    let p = err_from_is_err_and c.from_residual-in_err-check_filed.result c.from_residual-in_err-check_filed.ensures.1 in
-    rw (p.1, p.2) (again_front c.args.bytes.now c.in_err-check_filed.field-0.0
-    (front_fault_of_filed c.args.bytes.now c.in_ok-filed.filed (place_of c.lines_at.new.lines) c.in_err-check_filed.field-0.0 c.in_ok-filed.ensures.moves c.in_err-check_filed.ensures))
-
-pub returns-in_err-check_filed-clause-front_faults : goal.returns-in_err-check_filed-clause-front_faults
-returns-in_err-check_filed-clause-front_faults c =
-    let p = err_from_is_err_and c.from_residual-in_err-check_filed.result c.from_residual-in_err-check_filed.ensures.1 in
-    rw (p.1, p.2) (fault_of_front_text c.args.bytes.now c.in_err-check_filed.field-0.0
-    (front_fault_of_filed c.args.bytes.now c.in_ok-filed.filed (place_of c.lines_at.new.lines) c.in_err-check_filed.field-0.0 c.in_ok-filed.ensures.moves c.in_err-check_filed.ensures))
+    let p = err_from_is_err_and c.from_residual-in_err-filed.result c.from_residual-in_err-filed.ensures.1 in
+    rw (p.1, p.2) (fault_of_front_text c.args.bytes.now c.in_err-filed.field-0.0
+    (front_fault_of_filed c.args.bytes.now c.in_ok-read.read (place_of c.lines_at.new.lines) c.in_err-filed.field-0.0 c.in_ok-read.ensures.moves c.in_err-filed.ensures))
 
 pub returns-clause-text : goal.returns-clause-text
-returns-clause-text c = front_text c.args.bytes.now c.in_ok-filed.filed (place_of c.lines_at.new.lines) c.in_ok-filed.ensures.moves c.in_ok-check_filed.ensures
+returns-clause-text c = rw (c.in_ok-filed.ensures.0) (front_text c.args.bytes.now c.in_ok-read.read (place_of c.lines_at.new.lines) c.in_ok-read.ensures.moves c.in_ok-filed.ensures.1)
+
+pub returns-in_err-read-clause-fault : goal.returns-in_err-read-clause-fault
+returns-in_err-read-clause-fault c =
+    let p = err_from_is_err_and c.from_residual.result c.from_residual.ensures.1 in
+    rw (p.1, p.2) (front_fault c.args.bytes.now c.in_err-read.field-0.0 c.in_err-read.ensures.moves)
 
 pub returns-in_err-filed-clause-fault : goal.returns-in_err-filed-clause-fault
 returns-in_err-filed-clause-fault c =
-    let p = err_from_is_err_and c.from_residual.result c.from_residual.ensures.1 in
-    rw (p.1, p.2) (front_fault c.args.bytes.now c.in_err-filed.field-0.0 c.in_err-filed.ensures.moves)
-
-pub returns-in_err-check_filed-clause-fault : goal.returns-in_err-check_filed-clause-fault
-returns-in_err-check_filed-clause-fault c =
-    let p = err_from_is_err_and c.from_residual-in_err-check_filed.result c.from_residual-in_err-check_filed.ensures.1 in
-    rw (p.1, p.2) (front_fault_of_filed c.args.bytes.now c.in_ok-filed.filed (place_of c.lines_at.new.lines) c.in_err-check_filed.field-0.0 c.in_ok-filed.ensures.moves c.in_err-check_filed.ensures)
+    let p = err_from_is_err_and c.from_residual-in_err-filed.result c.from_residual-in_err-filed.ensures.1 in
+    rw (p.1, p.2) (front_fault_of_filed c.args.bytes.now c.in_ok-read.read (place_of c.lines_at.new.lines) c.in_err-filed.field-0.0 c.in_ok-read.ensures.moves c.in_err-filed.ensures)
