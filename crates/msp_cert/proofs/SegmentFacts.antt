@@ -34,21 +34,18 @@ module _ (i : Instance) (p : Paths) (shows : ShowsPaths i p) (a b : List ℕ) (i
   pub leads_back : LeadTo i a b → ShowLeads p a b
   leads_back h x d t y e u = (shows (get_or a x d) (get_or b y e) (in_a x d t) (in_b y e u)).1 (h x d t y e u)
 
-pub segments_decided : (i : Instance) (p : Paths) (lists : List (List ℕ)) (flat shown : List ℕ) (x : Bool)
-    → All (λ js. 0 < length js) lists → All (λ js. All (λ j. j < length i.jobs) js) lists → shown ≡ flat → flat ≡ flat_map (λ js. js) lists
-    → AllPairs (λ j k. j ≢ k) shown → ShowsPaths i p → (IsTrue x ↔ AllAdjacentBelow (ShowLeads p) lists (length lists)) → (IsTrue x ↔ AreSegments i lists)
-segments_decided i p lists flat shown x some inside same is apart shows h = (
+pub segments_decided : (i : Instance) (p : Paths) (lists : List (List ℕ)) (x : Bool)
+    → All (λ js. 0 < length js) lists → All (λ js. All (λ j. j < length i.jobs) js) lists → AllPairs (λ j k. j ≢ k) (flat_map (λ js. js) lists)
+    → ShowsPaths i p → (IsTrue x ↔ AllAdjacentBelow (ShowLeads p) lists (length lists)) → (IsTrue x ↔ AreSegments i lists)
+segments_decided i p lists x some inside apart shows h = (
   λ e. record {
     some = some;
     inside = inside;
-    apart = subst (AllPairs (λ j k. j ≢ k)) (same ∙ is) apart;
+    apart = apart;
     lead = λ k d t. leads_there i p shows (get_or lists k d) (get_or lists (k + 1) d) (inside k d (omega (arith, t))) (inside (k + 1) d t) (h.0 e k d t);
   },
   λ s. h.1 (λ k d t. leads_back i p shows (get_or lists k d) (get_or lists (k + 1) d) (inside k d (omega (arith, t))) (inside (k + 1) d t) (s.lead k d t)),
 )
-
-pub not_apart : (i : Instance) (lists : List (List ℕ)) (flat shown : List ℕ) → shown ≡ flat → flat ≡ flat_map (λ js. js) lists → ¬ AllPairs (λ j k. j ≢ k) shown → ¬ AreSegments i lists
-not_apart i lists flat shown same is never s = never (subst (AllPairs (λ j k. j ≢ k)) (sym (same ∙ is)) s.apart)
 
 pub not_leading : (p : Paths) (lists : List (List ℕ)) (k : ℕ) (a b first second : List ℕ) → 1 ≤ k → k < length lists → a ≡ get_or lists (k - 1) a
     → b ≡ get_or lists k b → first ≡ a → second ≡ b → (IsTrue false ↔ ShowLeads p first second) → (IsTrue false ↔ AllAdjacentBelow (ShowLeads p) lists (length lists))

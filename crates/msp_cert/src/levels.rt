@@ -1,5 +1,5 @@
 // Levels of jobs.
-ghost use Rattle.std.specs.Prelude.{◌≡◌, ◌↔◌, ◌+◌, ◌-◌, ◌/◌, ◌≤◌, nat_le, count_by, Any, IsTrue, IfSome, if◌then◌else◌};
+ghost use Rattle.std.specs.Prelude.{◌≡◌, ◌↔◌, ◌+◌, ◌-◌, ◌/◌, ◌≤◌, nat_le, count_by, length, Any, IsTrue, IfSome, if◌then◌else◌};
 ghost use Rattle.std.specs.List.{range_with_len};
 ghost use Rattle.msp_class.specs.declared.sizes.TheConstants.{MOST_JOBS};
 ghost use Rattle.msp_instance.specs.Conditions.{InClass};
@@ -95,15 +95,28 @@ pub(crate) fn is_reached(level: &[u32], tail: u32) -> bool
     level.iter().any(|l| tail <= *l)
 }
 
+/// Whether there is a level for each job.
+fn is_for_each(inst: &Instance, level: &[u32]) -> bool
+    ensures { IsTrue result ↔ (length level.now ≡ length inst.now.jobs) }
+{
+    level.len() == inst.jobs.len()
+}
+
 /// Whether the levels are evidence.
 fn are_steps(inst: &Instance, level: &[u32], tail: u32) -> bool
     requires { InClass inst.now }
     ensures { IsTrue result ↔ AreSteps inst.now level.now tail }
 {
-    has_unit_jobs(inst)
-        && level.len() == inst.jobs.len()
-        && steps_down(inst, level)
-        && is_reached(level, tail)
+    if !has_unit_jobs(inst) {
+        return false;
+    }
+    if !is_for_each(inst, level) {
+        return false;
+    }
+    if !steps_down(inst, level) {
+        return false;
+    }
+    is_reached(level, tail)
 }
 
 /// The tail and so many jobs over the number of machines, rounded up.

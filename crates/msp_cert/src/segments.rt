@@ -1,7 +1,7 @@
 // Lists of jobs, of which each is done only after the one before it.
-ghost use Rattle.std.specs.Prelude.{◌≡◌, ◌↔◌, ◌+◌, ◌-◌, ◌/◌, ◌<◌, ◌≤◌, length, All, IsTrue, IfOk, IfSome};
+ghost use Rattle.std.specs.Prelude.{◌≡◌, ◌≢◌, ◌↔◌, ◌+◌, ◌-◌, ◌/◌, ◌<◌, ◌≤◌, length, All, AllPairs, IsTrue, IfOk, IfSome};
 ghost use Rattle.std.specs.List.{AllAdjacentBelow, flat_map};
-ghost use Rattle.msp_class.specs.declared.sizes.TheConstants.{MOST_MACHINES};
+ghost use Rattle.msp_class.specs.declared.sizes.TheConstants.{MOST_JOBS, MOST_MACHINES};
 ghost use Rattle.msp_instance.specs.Conditions.{InClass};
 ghost use Rattle.msp_instance.specs.Paths.{leads};
 ghost use Rattle.msp_schedule.specs.Fraction.{IsComparable};
@@ -44,6 +44,15 @@ fn jobs_of_all(alloc: Global, lists: &[List<u32>]) -> Result<Vec<u32>, NoMemory>
     Ok(all)
 }
 
+/// Whether no job stands twice in the lists.
+fn are_all_apart(alloc: Global, lists: &[List<u32>]) -> Result<bool, NoMemory>
+    requires { All (λ jobs. All (λ j. j < MOST_JOBS) jobs) lists.now }
+    ensures { IfOk result (λ yes. IsTrue yes ↔ AllPairs (λ j k. j ≢ k) (flat_map (λ jobs. jobs) lists.now)) }
+{
+    let all = jobs_of_all(alloc, lists)?;
+    Ok(are_apart(all.as_slice()))
+}
+
 /// Whether paths lead from the job to all of these.
 fn leads_to_all(paths: &Paths, job: u32, next: &[u32]) -> bool
     ensures { IsTrue result ↔ All (λ k. IsTrue (leads paths.now job k)) next.now }
@@ -81,8 +90,7 @@ fn are_segments(alloc: Global, inst: &Instance, lists: &[List<u32>]) -> Result<b
     if !are_lists_of_jobs(inst.jobs.len(), lists) {
         return Ok(false);
     }
-    let all = jobs_of_all(alloc, lists)?;
-    if !are_apart(all.as_slice()) {
+    if !are_all_apart(alloc, lists)? {
         return Ok(false);
     }
     let paths = Paths::of(alloc, inst)?;

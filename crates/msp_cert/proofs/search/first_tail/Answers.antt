@@ -1,5 +1,7 @@
-use Rattle.std.proofs.Common.{◌∙◌, sym, arith, below_more}
+use Rattle.std.proofs.Common.{◌∙◌, refl, sym, arith, below_more}
 use Rattle.std.proofs.lemmas.Bool.{false≢true}
+use Rattle.std.specs.Prelude.{nat_le}
+use Rattle.std.proofs.lemmas.List.Sums.{count_by-le-length}
 use Rattle.msp_cert.specs.declared.Proof.TheVariants.{Levels}
 use Rattle.msp_cert.specs.Search.{HasValue}
 use Rattle.msp_cert.proofs.Tails.{all_high, next_high, levels_small}
@@ -10,6 +12,17 @@ jobs_at-counts-requires-clause-small c = λ k d l. omega (arith, levels_small c.
 
 pub loop-tail-init : goal.loop-tail-init
 loop-tail-init c = record { high = c.len-high.ensures ∙ sym c.requires.levels.each ∙ sym (all_high c.args.level.now); before = λ t b. absurd (omega (arith, b)) }
+
+pub tail_worth-requires-clause-few : goal.tail_worth-requires-clause-few
+tail_worth-requires-clause-few c =
+    omega (arith, c.loop-tail.invariant.high, count_by-le-length (nat_le c.loop-tail.tail) c.args.level.now, c.requires.levels.each, c.requires.class.conditions.few)
+
+pub returns-then-equals : goal.returns-then-equals
+returns-then-equals c = (
+  omega (arith, c.loop-tail-test.true, c.len-tail-end.ensures),
+  (c.if-equals.ensures c.args.inst.now (Levels c.args.level.now c.loop-tail.tail) (c.tail_worth.ensures.worth c.args.level.now c.requires.levels c.loop-tail.invariant.high)).0 refl,
+  c.loop-tail.invariant.before,
+)
 
 pub overflow_sub-high : goal.overflow_sub-high
 overflow_sub-high c = omega (
