@@ -1,5 +1,5 @@
 -- Fractions that are the same number, and what a stated schedule lies within.
-use Rattle.std.proofs.Common.{◌≡◌, ◌++◌, Result, Ok, Err, OnOk, codes, ◌↔◌, true, false, to_z, of_z, SFits, ℕ, zero, suc, List, negsuc, ◌≤ℤ◌, ◌*◌, ◌<◌, ℤ, pos, ◌*ℤ◌, unsigned_abs}
+use Rattle.std.proofs.Common.{◌≡◌, ◌++◌, Result, Ok, Err, OnOk, codes, ◌↔◌, Bool, true, false, to_z, of_z, SFits, ℕ, zero, suc, List, negsuc, ◌≤ℤ◌, ◌*◌, ◌<◌, ℤ, pos, ◌*ℤ◌, unsigned_abs}
 use Rattle.std.proofs.Common.{neg_ℤ, ◌<ℤ◌, ◌^◌, inl, refl, sym, ap, ◌∙◌, subst, append_assoc, arith}
 use Rattle.std.proofs.lemmas.Int.{ints, to_z-of_z}
 use Rattle.std.specs.Int.{IsGcd, w128}
@@ -13,8 +13,8 @@ use Rattle.msp_schedule.specs.Fraction.{IsOver, IsSameFraction, IsLowest}
 use Rattle.msp_schedule.specs.Within.{Within}
 use Rattle.msp_class.specs.declared.NoMemory.{NoMemory}
 use Rattle.msp_schedule.specs.declared.breaks.Break.{Break}
-use Rattle.msp_grammar.specs.ScheduleText.{IsStated, line_feed}
-use Rattle.msp_report.specs.CheckText.{break_text, broken_lines}
+use Rattle.msp_grammar.specs.ScheduleText.{IsStated, line_feed, fraction_text}
+use Rattle.msp_report.specs.CheckText.{break_text, broken_lines, yes_or_no, cost_lines}
 use Rattle.msp_report.proofs.Divided.{IsPrimeTo-from_gcd, lowest_is_least}
 
 pub differ : {X : Type 0} → false ≡ true → X
@@ -31,15 +31,28 @@ pub ↔_trans : {A B C : Type 0} → A ↔ B → B ↔ C → A ↔ C
 ↔_trans f g = (λ a. g.0 (f.0 a), λ c. f.1 (g.1 c))
 
 -- ---- texts that are put one after another
-three : (o a b c p q z : List ℕ) (r : Result (Unit {0}) NoMemory) → p ≡ o ++ a → q ≡ p ++ b → OnOk r (z ≡ q ++ c) → OnOk r (z ≡ o ++ ((a ++ b) ++ c))
-three o a b c p q z (Err e) first second third = tt
-three o a b c p q z (Ok x) first second third =
-    third ∙ ap (λ l. l ++ c) (second ∙ ap (λ l. l ++ b) first ∙ append_assoc o a b) ∙ append_assoc o (a ++ b) c
+put_then : (o p z a b : List ℕ) → p ≡ o ++ a → z ≡ p ++ b → z ≡ o ++ (a ++ b)
+put_then o p z a b e f = f ∙ ap (λ l. l ++ b) e ∙ append_assoc o a b
+
+put_last : (o p z a b : List ℕ) (r : Result (Unit {0}) NoMemory) → p ≡ o ++ a → OnOk r (z ≡ p ++ b) → OnOk r (z ≡ o ++ (a ++ b))
+put_last o p z a b (Err w) e f = tt
+put_last o p z a b (Ok x) e f = put_then o p z a b e f
 
 pub put_broken_is : (names : List (List ℕ)) (broken : Break) (o p q z : List ℕ) (r : Result (Unit {0}) NoMemory) →
     p ≡ o ++ codes "feasible no\nbreak " → q ≡ p ++ break_text names broken → OnOk r (z ≡ q ++ line_feed) → OnOk r (z ≡ o ++ broken_lines names broken)
 unfolding broken_lines
-put_broken_is names broken o p q z r first second third = three o (codes "feasible no\nbreak ") (break_text names broken) line_feed p q z r first second third
+put_broken_is names broken o p q z r first second third = put_last o q z _ _ r (put_then o p q _ _ first second) third
+
+pub put_costs_is : (cost stated : Frac) (agrees : Bool) (o p q s t u v z : List ℕ) (r : Result (Unit {0}) NoMemory)
+    → p ≡ o ++ codes "feasible yes\ncost " → q ≡ p ++ fraction_text cost → s ≡ q ++ codes "\nstated " → t ≡ s ++ fraction_text stated
+    → u ≡ t ++ codes "\nagree " → v ≡ u ++ yes_or_no agrees → OnOk r (z ≡ v ++ line_feed) → OnOk r (z ≡ o ++ cost_lines cost stated agrees)
+unfolding cost_lines
+put_costs_is cost stated agrees o p q s t u v z r first second third fourth fifth sixth seventh =
+    let two = put_then o p q _ _ first second in
+    let three = put_then o q s _ _ two third in
+    let four = put_then o s t _ _ three fourth in
+    let five = put_then o t u _ _ four fifth in
+    put_last o v z _ _ r (put_then o u v _ _ five sixth) seventh
 
 -- ---- numbers over numbers
 -- a over b is c over d, which is e over f

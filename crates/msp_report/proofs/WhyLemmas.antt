@@ -1,5 +1,5 @@
 -- The four chains say what the class is.
-use Rattle.std.proofs.Common.{ℕ, Bool, List, [], ◌∷◌, Option, Some, None, refl, sym, subst}
+use Rattle.std.proofs.Common.{◌≡◌, ℕ, Bool, List, [], ◌∷◌, ◌++◌, Option, Some, None, refl, sym, ap, ◌∙◌, subst, append_assoc}
 use Rattle.std.specs.Bool.{Decides}
 use Rattle.std.specs.Option.{is_some}
 use Rattle.std.proofs.lemmas.List.Elements.{Contains-push}
@@ -45,3 +45,7 @@ Says-by_chains es c easy pseudo hard strong is_easy is_pseudo is_hard is_strong 
       hard = led_exactly every_row (hard_listed es) c hard is_hard;
       strong = led_exactly keeps_size (strong_listed es) c strong is_strong;
     })
+
+-- what is put behind a text that was put whole
+pub put_whole : (o p z s c e : List ℕ) → o ≡ [] → p ≡ o ++ s → z ≡ p ++ (c ++ e) → z ≡ s ++ c ++ e
+put_whole o p z s c e none first second = second ∙ ap (λ l. l ++ (c ++ e)) (first ∙ ap (λ l. l ++ s) none) ∙ sym (append_assoc s c e)

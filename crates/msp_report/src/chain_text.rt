@@ -1,6 +1,6 @@
 // The lines of chains.
 ghost use Rattle.std.specs.Prelude.{◌≡◌, ◌++◌, OnOk};
-ghost use Rattle.msp_report.specs.ChainText.{row_line, row_lines, chain_lines, headed_chain, clash_part};
+ghost use Rattle.msp_report.specs.ChainText.{row_line, row_lines, chain_lines, headed_chain, clash_part, end_line};
 
 use crate::lines::put_name_line;
 use msp_class::{Class, NoMemory};
@@ -56,7 +56,7 @@ fn put_headed(out: &mut Vec<u8>, heading: &[u8], chain: &Option<Chain>) -> Resul
 
 /// Puts the chains that show a contradiction.
 #[tactic(auto, unfolding(crate::specs::ChainText::clash_part))]
-pub(crate) fn put_clash(
+fn put_clash(
     out: &mut Vec<u8>,
     clash: &Option<Chain>,
     strong_clash: &Option<Chain>,
@@ -65,4 +65,16 @@ pub(crate) fn put_clash(
 {
     put_headed(out, b"clash\n", clash)?;
     put_headed(out, b"strong clash\n", strong_clash)
+}
+
+/// Puts the chains that show a contradiction, and the last line of the report.
+pub(crate) fn put_ending(
+    out: &mut Vec<u8>,
+    clash: &Option<Chain>,
+    strong_clash: &Option<Chain>,
+) -> Result<(), NoMemory>
+    ensures { OnOk result (out.new.items ≡ out.old.items ++ (clash_part clash.now strong_clash.now ++ end_line)) }
+{
+    put_clash(out, clash, strong_clash)?;
+    put(out, b"end\n")
 }

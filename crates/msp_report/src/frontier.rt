@@ -2,7 +2,7 @@
 ghost use Rattle.std.specs.Prelude.{◌≡◌, ◌++◌, OnOk, IfOk};
 ghost use Rattle.msp_report.specs.FrontierText.{name_line, name_lines, list_lines, decided_lists, open_lists, frontier_report};
 
-use crate::chain_text::put_clash;
+use crate::chain_text::put_ending;
 use crate::lines::{put_name_line, put_number_line};
 use msp_class::{Class, List, NoMemory};
 use msp_closure::FrontierLists;
@@ -61,7 +61,6 @@ pub fn frontier_text(
     let mut out = Vec::new(alloc);
     put_decided(&mut out, frontier)?;
     put_open(&mut out, frontier)?;
-    put_clash(&mut out, clash, strong_clash)?;
-    put(&mut out, b"end\n")?;
+    put_ending(&mut out, clash, strong_clash)?;
     Ok(out)
 }

@@ -3,7 +3,7 @@ ghost use Rattle.std.specs.Prelude.{◌≡◌, ◌++◌, OnOk, IfOk};
 ghost use Rattle.msp_closure.specs.Frontier.{mark_at};
 ghost use Rattle.msp_report.specs.LabelsText.{label_text, label_line, label_lines, labels_report};
 
-use crate::chain_text::put_clash;
+use crate::chain_text::put_ending;
 use msp_class::{Class, List, NoMemory};
 use msp_closure::{Labels, Mark, label};
 use msp_name::print;
@@ -64,7 +64,6 @@ pub fn labels_text(
 {
     let mut out = Vec::new(alloc);
     put_labels(&mut out, labels, classes.as_slice())?;
-    put_clash(&mut out, clash, strong_clash)?;
-    put(&mut out, b"end\n")?;
+    put_ending(&mut out, clash, strong_clash)?;
     Ok(out)
 }

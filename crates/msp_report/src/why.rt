@@ -6,7 +6,7 @@ ghost use Rattle.msp_table.specs.Chains.{every_row};
 ghost use Rattle.msp_closure.specs.Entries.{easy_listed, pseudo_listed, hard_listed, strong_listed, IsWay, makes, mark_of};
 ghost use Rattle.msp_report.specs.WhyText.{source_text, record_line, lists, first_record, last_class, part_to, part_from, upper_part, lower_part, why_head, IsWhyText};
 
-use crate::chain_text::{put_chain, put_clash};
+use crate::chain_text::{put_chain, put_ending};
 use crate::labels::word;
 use crate::lines::put_class_line;
 use msp_class::{Class, List, NoMemory, rank};
@@ -168,6 +168,25 @@ fn mark_by(
     )
 }
 
+/// Puts the class, its label and the chains that show it.
+fn put_shown(
+    out: &mut Vec<u8>,
+    entries: &List<Entry>,
+    class: Class,
+    easy: &Option<Chain>,
+    pseudo: &Option<Chain>,
+    hard: &Option<Chain>,
+    strong: &Option<Chain>,
+) -> Result<(), NoMemory>
+    ensures { OnOk result (out.new.items ≡ out.old.items ++ (
+        why_head class (mark_of (is_some easy.now) (is_some pseudo.now) (is_some hard.now) (is_some strong.now))
+        ++ upper_part entries.now easy.now pseudo.now ++ lower_part entries.now hard.now strong.now)) }
+{
+    put_head(out, class, mark_by(easy, pseudo, hard, strong))?;
+    put_upper(out, entries.as_slice(), easy, pseudo)?;
+    put_lower(out, entries.as_slice(), hard, strong)
+}
+
 /// The report of `why`: the class and its label, the chains that show it, then the chains that show a contradiction. The four chains
 /// are those of the closure's calls.
 pub fn why_text(
@@ -187,12 +206,8 @@ pub fn why_text(
 {
     let clash = clash(alloc, entries)?;
     let strong_clash = strong_clash(alloc, entries)?;
-    let mark = mark_by(easy, pseudo, hard, strong);
     let mut out = Vec::new(alloc);
-    put_head(&mut out, class, mark)?;
-    put_upper(&mut out, entries.as_slice(), easy, pseudo)?;
-    put_lower(&mut out, entries.as_slice(), hard, strong)?;
-    put_clash(&mut out, &clash, &strong_clash)?;
-    put(&mut out, b"end\n")?;
+    put_shown(&mut out, entries, class, easy, pseudo, hard, strong)?;
+    put_ending(&mut out, &clash, &strong_clash)?;
     Ok(out)
 }
