@@ -2,11 +2,10 @@
 use Rattle.std.proofs.Common.{◌≡◌, ℕ, suc, ◌*◌, ◌-◌, ◌^◌, ◌≤◌, inl, inr, List, [], ◌∷◌, All, fold, max, min, sym, ap, subst, ◌∙◌, arith}
 use Rattle.std.proofs.Math.Nat.{mul-le-mul_left, mul-le-mul_right, le-mul_of_pos_right, one-le-pow, pow-suc, le-max_left, le-max_right, min-le_left, min-le_right, le_trans}
 use Rattle.std.proofs.lemmas.List.Elements.{All-nil, All-cons}
-use Rattle.msp_class.specs.declared.sizes.TheConstants.{MOST_JOBS, GREATEST}
 use Rattle.msp_uniform.specs.declared.unit.TheConstants.{GREATEST_PRODUCT}
 use Rattle.msp_uniform.specs.Uniform.{gap}
 use Rattle.msp_uniform.specs.Segments.{at, IsDifference}
-use Rattle.msp_uniform.specs.Plans.{IsAffordable}
+use Rattle.msp_uniform.specs.Plans.{IsAffordable, greatest_work}
 
 -- ---- the gap of the speeds
 most : (a : ℕ) (xs : List ℕ) → (a ≤ fold max a xs) × All (λ x. x ≤ fold max a xs) xs
@@ -38,10 +37,10 @@ module _ (speeds : List ℕ) (finest unit end : ℕ) where
   pub finest_small : (h : ℕ) → IsAffordable speeds finest unit end h → unit * finest ≤ GREATEST_PRODUCT
   finest_small = unit_here
 
-  pub end_small : (h : ℕ) → IsAffordable speeds finest unit end h → end * finest ≤ unit * finest * (MOST_JOBS * GREATEST)
+  pub end_small : (h : ℕ) → IsAffordable speeds finest unit end h → end * finest ≤ unit * finest * greatest_work
   end_small h a = by (mul-le-mul_right finest a.end_small)
     where
-      by : end * finest ≤ unit * (MOST_JOBS * GREATEST) * finest → end * finest ≤ unit * finest * (MOST_JOBS * GREATEST)
+      by : end * finest ≤ unit * greatest_work * finest → end * finest ≤ unit * finest * greatest_work
       by l = omega (arith, l)
 
   -- a turn makes the unit finer by a difference of speeds
@@ -69,11 +68,11 @@ module _ (speeds : List ℕ) (finest unit end : ℕ) where
         less : (g : ℕ) → suc g - 1 ≡ g
         less g = omega arith
 
-        by : end * d ≤ unit * (MOST_JOBS * GREATEST) * d → end * d ≤ unit * d * (MOST_JOBS * GREATEST)
+        by : end * d ≤ unit * greatest_work * d → end * d ≤ unit * d * greatest_work
         by l = omega (arith, l)
 
     -- what a turn asks for
-    pub end_finer : end * d ≤ GREATEST_PRODUCT * (MOST_JOBS * GREATEST)
+    pub end_finer : end * d ≤ GREATEST_PRODUCT * greatest_work
     end_finer = omega (arith, IsAffordable-turn.end_small, small)
       where
         small : unit * d ≤ GREATEST_PRODUCT

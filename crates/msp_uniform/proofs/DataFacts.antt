@@ -4,7 +4,7 @@ use Rattle.std.specs.Int.{◌∣◌}
 use Rattle.std.proofs.Math.Nat.{le_trans, mul-le-mul, mul-le-mul_right}
 use Rattle.std.proofs.lemmas.List.{length-map}
 use Rattle.std.proofs.lemmas.List.Elements.{All-map}
-use Rattle.msp_class.specs.declared.sizes.TheConstants.{MOST_JOBS, MOST_MACHINES, GREATEST}
+use Rattle.msp_class.specs.declared.sizes.TheConstants.{MOST_JOBS, MOST_MACHINES, GREATEST, GREATEST_SPEED}
 use Rattle.msp_instance.specs.declared.Instance.{Instance}
 use Rattle.msp_instance.specs.Instance.{no_need}
 use Rattle.msp_instance.specs.Conditions.{HasSmallMultiple, Inner}
@@ -47,8 +47,8 @@ module _ (i : Instance) (class : i.class ≡ cut_class) (inner : Inner i) (ts sp
   times_fit = subst (All (λ p. (1 ≤ p) × (p ≤ GREATEST))) (sym a)
       (All-map (λ p. (1 ≤ p) × (p ≤ GREATEST)) (λ j. (get_or j.needs 0 no_need).time) i.jobs (λ k d l. let n = (h.jobs k d l).needs in n.times 0 no_need (omega (arith, n.shape.0))))
 
-  pub speeds_fit : All (λ s. (1 ≤ s) × (s ≤ 1000000)) sp
-  speeds_fit = subst (All (λ s. (1 ≤ s) × (s ≤ 1000000))) (sym b) h.speeds.1
+  pub speeds_fit : All (λ s. (1 ≤ s) × (s ≤ GREATEST_SPEED)) sp
+  speeds_fit = subst (All (λ s. (1 ≤ s) × (s ≤ GREATEST_SPEED))) (sym b) h.speeds.1
 
   pub speeds_multiple : HasSmallMultiple sp
   speeds_multiple = subst HasSmallMultiple (sym b) h.multiple
@@ -62,7 +62,7 @@ module _ (i : Instance) (class : i.class ≡ cut_class) (inner : Inner i) (ts sp
       few_jobs = omega (arith, ap length times_is, times_few);
       few_machines = omega (arith, ap length speeds_is, speeds_few);
       times = subst (All (λ p. (1 ≤ p) × (p ≤ GREATEST))) (sym times_is) times_fit;
-      speeds = subst (All (λ s. (1 ≤ s) × (s ≤ 1000000))) (sym speeds_is) speeds_fit;
+      speeds = subst (All (λ s. (1 ≤ s) × (s ≤ GREATEST_SPEED))) (sym speeds_is) speeds_fit;
       common = subst (All (λ s. s ∣ t.multiple)) (sym speeds_is) (subst (λ m. All (λ s. s ∣ m) sp) (sym multiple_is) least.common);
     }
 

@@ -3,7 +3,7 @@ use Rattle.std.proofs.Common.{◌≡◌, ◌≢◌, ℕ, zero, suc, ◌*◌, ◌
 use Rattle.std.proofs.Math.Nat.{le_trans, mul-le-mul_left, mul-le-mul_right}
 use Rattle.std.proofs.lemmas.List.{get_or-replicate, length-replicate, take_all}
 use Rattle.std.proofs.lemmas.List.Elements.{All-nil, All-cons, All-head, All-tail}
-use Rattle.msp_class.specs.declared.sizes.TheConstants.{MOST_JOBS, MOST_MACHINES, GREATEST}
+use Rattle.msp_class.specs.declared.sizes.TheConstants.{MOST_MACHINES, GREATEST}
 use Rattle.msp_class.specs.Sums.{total_below}
 use Rattle.msp_class.proofs.Sums.{sum_by-cons, sum_by-OnceBelow, OnceBelow-from_permutation, OnceBelow-contains, total_below-same, total_below-scale, total_below-none}
 use Rattle.msp_uniform.specs.declared.unit.TheConstants.{GREATEST_PRODUCT}
@@ -14,7 +14,7 @@ use Rattle.msp_uniform.specs.Uniform.{gap, sum, IsByFalling}
 use Rattle.msp_uniform.specs.Quotients.{IsGreatest}
 use Rattle.msp_uniform.specs.Prefixes.{DoFit}
 use Rattle.msp_uniform.specs.Segments.{at, job_on, place_at, IsSegment, IsAbsent, rate_at, amount}
-use Rattle.msp_uniform.specs.Plans.{works, IsTask, IsAsked, IsFirstPlan, IsReached}
+use Rattle.msp_uniform.specs.Plans.{works, IsTask, IsAsked, IsFirstPlan, IsReached, greatest_work}
 use Rattle.msp_uniform.proofs.PrefixFacts.{total_below-first}
 use Rattle.msp_class.proofs.Cases.{same_or_not, less_or_not}
 use Rattle.msp_uniform.proofs.LeastEnd.{order_within, order_distinct, order_length}
@@ -76,14 +76,14 @@ module _ (t : Task) (k : IsTask t) (jobs machines : List ℕ) (a : IsAsked t job
   time_in : All (λ j. time j ≤ GREATEST) jobs
   time_in i d l = (k.times _ 0 (job_in i d l)).1
 
-  work_small : t.work ≤ (MOST_JOBS * GREATEST)
+  work_small : t.work ≤ greatest_work
   work_small = by a.greatest.reached
     where
-      all_small : sum_by time jobs ≤ (MOST_JOBS * GREATEST)
+      all_small : sum_by time jobs ≤ greatest_work
       all_small = omega (arith, sum-small time GREATEST jobs time_in, many_jobs, k.few_jobs)
 
       by : ((t.work ≡ sum_by time jobs) × (t.speed ≡ sum_by speed machines))
-          ⊎ ((i : ℕ) × (1 ≤ i) × (i < length machines) × (i ≤ length jobs) × (t.work ≡ sum_by time (take i jobs)) × (t.speed ≡ sum_by speed (take i machines))) → t.work ≤ (MOST_JOBS * GREATEST)
+          ⊎ ((i : ℕ) × (1 ≤ i) × (i < length machines) × (i ≤ length jobs) × (t.work ≡ sum_by time (take i jobs)) × (t.speed ≡ sum_by speed (take i machines))) → t.work ≤ greatest_work
       by (inl (e, f)) = omega (arith, e, all_small)
       by (inr (i, p, q, r, e, f)) = omega (arith, e, take-all time i jobs, all_small)
 
@@ -192,7 +192,7 @@ module _ (t : Task) (k : IsTask t) (jobs machines : List ℕ) (a : IsAsked t job
       fewer = omega (arith, many_jobs);
     }
       where
-        by : (v : ℕ) → 1 ≤ v → (MOST_JOBS * GREATEST) ≤ v * (MOST_JOBS * GREATEST)
+        by : (v : ℕ) → 1 ≤ v → greatest_work ≤ v * greatest_work
         by zero l = absurd (omega (arith, l))
         by (suc v) l = omega arith
 

@@ -8,7 +8,7 @@ use Rattle.std.proofs.lemmas.List.Elements.{All-head}
 use Rattle.std.proofs.lemmas.Nat.Gcd.{dvd-zero}
 use Rattle.msp_instance.proofs.MultipleLemmas.{All-append_left}
 use Rattle.msp_uniform.specs.declared.segments.Segment.{Segment}
-use Rattle.msp_uniform.specs.Segments.{IsLaid, IsTaken, CanGain, IsFirst, IsSecond, rate_at, gain_at, AreFew, AreLaid, IsOneLaid, IsFirstLaid, IsLaying, AreLaidUpTo}
+use Rattle.msp_uniform.specs.Segments.{place_at, IsLaid, IsTaken, CanGain, HasPlaces, HasTaken, IsFirst, IsSecond, rate_at, gain_at, AreFew, AreLaid, IsOneLaid, IsFirstLaid, IsLaying, AreLaidUpTo}
 use Rattle.msp_uniform.specs.Plans.{IsLaidHere}
 use Rattle.msp_uniform.proofs.LaidFacts.{IsLaid-append, gained-append}
 use Rattle.msp_uniform.proofs.OrderFacts.{All-last, All-append_right, IsLaid-lengths, AreOrdered-next}
@@ -77,6 +77,18 @@ module _ (swap : Bool) (speed : ℕ → ℕ) (job r left : ℕ) (x : Segment) (f
         some q zero e l m = absurd (omega (arith, m))
         some q (suc g) e l m = omega (arith, e, l)
 
+    pub IsOneLaid-parted : (b : Segment) (fs' ss' : List Segment) → (left / g ≡ 0 → fs' ≡ fs) → (0 < left / g → HasTaken job r (left / g) x fs fs')
+        → b.length ≡ x.length - left / g → IsSecond swap job r x b → ss' ≡ ss ++ b ∷ [] → IsOneLaid swap speed job r left 0 x fs ss fs' ss'
+    IsOneLaid-parted b fs' ss' none some e t f = by (zero_or_not (left / g))
+      where
+        zero_or_not : (n : ℕ) → (n ≡ 0) ⊎ (0 < n)
+        zero_or_not zero = inl refl
+        zero_or_not (suc n) = inr (omega arith)
+
+        by : (left / g ≡ 0) ⊎ (0 < left / g) → IsOneLaid swap speed job r left 0 x fs ss fs' ss'
+        by (inl z) = subst (λ l. IsOneLaid swap speed job r left 0 x fs ss l ss') (sym (none z)) (IsOneLaid-rest b ss' z e t f)
+        by (inr p) = let (a, taken, is) = some p in IsOneLaid-both a b fs' ss' p taken is e t f
+
 module _ (swap : Bool) (speed : ℕ → ℕ) (job r whole : ℕ) where
   pub AreLaid-first : (xs : List Segment) → AreLaid swap speed job r whole whole [] [] []
   AreLaid-first xs = record { parts = []; laid = IsLaid.none; gains = omega arith; order = λ _. record { order = tt; whole = λ _. refl }; few = inl (omega arith) }
@@ -120,6 +132,17 @@ module _ (swap : Bool) (speed : ℕ → ℕ) (job r whole : ℕ) where
   CanGain-next left after x xs fs ss fs' ss' (inl (l, c)) o = subst (λ k. CanGain (gain_at swap speed r) k xs) (sym (o.enough l)) c
   CanGain-next left after x xs fs ss fs' ss' (inr (l, d)) o = subst (λ k. CanGain (gain_at swap speed r) k xs) (sym (o.short l)) (CanGain-nothing xs)
 
+-- the place that the first part takes
+pub has_place : (swap : Bool) (m r : ℕ) (x : Segment) → HasPlaces m swap r x → (r < length x.body.value.free) × (place_at x r < m)
+has_place true m r x h = (omega (arith, h.0), h.1)
+has_place false m r x h = h
+
+-- what the next segment can gain
+pub gains_first : (gain : Segment → ℕ) (left : ℕ) (x : Segment) (xs : List Segment)
+    → CanGain gain left (x ∷ xs) → (x.length * gain x ≤ left) ⊎ ((left < x.length * gain x) × (gain x ∣ left))
+gains_first gain left x xs (inl a) = inl a.0
+gains_first gain left x xs (inr b) = inr b
+
 -- ---- the same parts after others
 module _ (swap : Bool) (speed : ℕ → ℕ) (job r left after : ℕ) (x : Segment) (fs fs' seconds : List Segment) (o : IsOneLaid swap speed job r left after x fs [] fs' seconds) where
   pub IsOneLaid-after : (gs : List Segment) → IsOneLaid swap speed job r left after x gs [] (gs ++ o.firsts_new) seconds
@@ -128,6 +151,20 @@ module _ (swap : Bool) (speed : ℕ → ℕ) (job r left after : ℕ) (x : Segme
     seconds_new = o.seconds_new;
     firsts_are = refl;
     seconds_are = o.seconds_are;
+    part = o.part;
+    laid = o.laid;
+    gains = o.gains;
+    enough = o.enough;
+    short = o.short;
+    few = o.few;
+  }
+
+  pub IsOneLaid-behind : (ss ss' : List Segment) → ss' ≡ ss ++ seconds → IsOneLaid swap speed job r left after x fs ss fs' ss'
+  IsOneLaid-behind ss ss' e = record {
+    firsts_new = o.firsts_new;
+    seconds_new = o.seconds_new;
+    firsts_are = o.firsts_are;
+    seconds_are = e ∙ ap (λ l. ss ++ l) o.seconds_are;
     part = o.part;
     laid = o.laid;
     gains = o.gains;
@@ -195,6 +232,12 @@ module _ (speed : ℕ → ℕ) (job r : ℕ) where
         pub laying_next : (P : Segment → Type 0) → All P xs → P x
         laying_next P a = All-head P x late (All-append_right P h.done (x ∷ late) (subst (λ ys. All P (h.done ++ ys)) others_are (subst (All P) h.all a)))
 
+        pub laying_gains : CanGain (rate_at speed r) left (x ∷ late)
+        laying_gains = subst (CanGain (rate_at speed r) left) others_are h.more
+
+        pub laying_fewer : (after : ℕ) (early' late' : List Segment) → IsFirstLaid speed job r left after x early late early' late' → length late' + min 1 after < length late0 + min 1 left
+        laying_fewer after early' late' f = omega (arith, ap length next, ap length f.late_is, length-append f.seconds late, f.few, some)
+
         pub IsLaying-next : (after : ℕ) (early' late' : List Segment) → IsFirstLaid speed job r left after x early late early' late' → IsLaying speed job r whole after xs early0 early' late'
         IsLaying-next after early' late' f = record {
           done = h.done ++ x ∷ [];
@@ -238,6 +281,9 @@ module _ (speed : ℕ → ℕ) (job r whole : ℕ) where
 
       pub laid_next : (P : Segment → Type 0) → All P xs → P x
       laid_next P a = All-head P x ahead (All-append_right P h.done (x ∷ ahead) (subst (All P) are_next a))
+
+      pub laid_gains : (x.length * gain_at true speed r x ≤ left) ⊎ ((left < x.length * gain_at true speed r x) × (gain_at true speed r x ∣ left))
+      laid_gains = gains_first (gain_at true speed r) left x ahead gains_next
 
       pub AreLaidUpTo-next : (after : ℕ) (fs' ss' : List Segment) → IsOneLaid true speed job r left after x fs ss fs' ss' → AreLaidUpTo speed job r whole after xs ahead fs' ss'
       AreLaidUpTo-next after fs' ss' o = record {

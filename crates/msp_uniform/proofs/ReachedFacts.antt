@@ -2,7 +2,7 @@
 use Rattle.std.proofs.Common.{◌≡◌, ℕ, zero, suc, ◌+◌, ◌*◌, ◌-◌, ◌<◌, ◌≤◌, inl, inr, false, List, ◌∷◌, length, All, ap, subst, ◌∙◌, arith}
 use Rattle.std.proofs.lemmas.List.{length-append}
 use Rattle.std.proofs.lemmas.List.Elements.{All-head, length_all_zip}
-use Rattle.msp_class.specs.declared.sizes.TheConstants.{GREATEST}
+use Rattle.msp_class.specs.declared.sizes.TheConstants.{GREATEST, GREATEST_SPEED}
 use Rattle.msp_uniform.specs.declared.unit.TheConstants.{GREATEST_PRODUCT}
 use Rattle.msp_uniform.specs.declared.segments.Segment.{Segment}
 use Rattle.msp_uniform.specs.declared.task.Task.{Task}
@@ -13,7 +13,7 @@ use Rattle.msp_uniform.proofs.TurnNeeds.{difference_some, has_places}
 use Rattle.msp_uniform.proofs.Affordable.{unit_small, IsAffordable-turn, end_finer}
 
 module _ (t : Task) (k : IsTask t) where
-  pub speeds_small : All (λ s. s ≤ 1000000) t.speeds.items
+  pub speeds_small : All (λ s. s ≤ GREATEST_SPEED) t.speeds.items
   speeds_small i d l = (k.speeds i d l).1
 
   pub time_small : (j : ℕ) → j < length t.times.items → at t.times.items j ≤ GREATEST

@@ -1,14 +1,16 @@
 -- Finer units, and where a job has gained enough.
-use Rattle.std.proofs.Common.{◌≡◌, ℕ, zero, suc, ◌+◌, ◌*◌, ◌-◌, ◌<◌, ◌≤◌, ◌⊎◌, inl, inr, false, cond, eqb, List, [], ◌∷◌, ◌++◌, length, take, drop, get_or, drop-cons, append-nil}
+use Rattle.std.proofs.Common.{◌≡◌, ℕ, zero, suc, ◌+◌, ◌*◌, ◌-◌, ◌<◌, ◌≤◌, ◌⊎◌, inl, inr, false, true, cond, eqb, List, [], ◌∷◌, ◌++◌, length, take, drop, get_or, drop-cons, append-nil}
 use Rattle.std.proofs.Common.{append_assoc, All, sym, ap, subst, ◌∙◌, arith}
 use Rattle.std.specs.Int.{◌∣◌}
 use Rattle.std.proofs.Math.Nat.{mul-le-mul_left, dvd-mul_left}
 use Rattle.std.proofs.lemmas.List.{take_more, drop_all, take_all}
 use Rattle.std.proofs.lemmas.List.Elements.{AllZip-push, All-nil, All-cons, All-head, All-tail}
+use Rattle.msp_class.specs.declared.sizes.TheConstants.{GREATEST_SPEED}
 use Rattle.msp_class.proofs.Sums.{sum_by-cons, sum_by-append, total_below-same}
 use Rattle.msp_instance.proofs.MultipleLemmas.{All-append_left}
 use Rattle.msp_uniform.specs.declared.segments.Segment.{Segment}
-use Rattle.msp_uniform.specs.Segments.{at, job_on, place_at, IsSegment, IsPartOf, rate_at, job_rate, amount, CanGain, StopsAt, IsSeeking, AreScaled, AreScaledUpTo, HasPlaces, greatest_length}
+use Rattle.msp_uniform.specs.Segments.{at, job_on, place_at, IsSegment, IsPartOf, rate_at, gain_at, job_rate, amount, CanGain, StopsAt, IsSeeking, IsDifference}
+use Rattle.msp_uniform.specs.Segments.{AreScaled, AreScaledUpTo, HasPlaces, greatest_length}
 use Rattle.msp_uniform.proofs.OrderFacts.{All-append_right}
 
 -- an amount with one more segment
@@ -79,6 +81,15 @@ module _ (rate : Segment → ℕ) where
       → k < length xs → x ≡ get_or xs k x → left < x.length * rate x → d ≡ rate x → IsSeeking rate whole left k xs → StopsAt rate whole xs d
   StopsAt-here whole left k xs x d l is m e h = h.stops d (subst (λ ys. StopsAt rate left ys d) (sym (drop-cons xs k x l)) (subst (λ y. StopsAt rate left (y ∷ drop (suc k) xs) d) is (inr (m, e))))
 
+-- what more is gained there is a difference of speeds
+pub IsDifference-here : (speeds : List ℕ) (r left : ℕ) (x : Segment) (d : ℕ)
+    → HasPlaces (length speeds) true r x → d ≡ gain_at true (at speeds) r x → left < x.length * d → IsDifference speeds d
+IsDifference-here speeds r left x d h e l = inr (some d l, place_at x r, place_at x (suc r), h.1, h.2, e)
+  where
+    some : (d : ℕ) → left < x.length * d → 1 ≤ d
+    some zero m = absurd (omega (arith, m))
+    some (suc d) m = omega arith
+
 -- ---- over a finer unit
 -- a rate that is read from jobs and free machines
 abbrev pub IsRead : (Segment → ℕ) → Type 0
@@ -134,15 +145,15 @@ pub rates_short : (speeds : List ℕ) (b r : ℕ) (xs : List Segment) → All (�
 rates_short speeds b r xs h p k d l = h (place_at (get_or xs k d) r) 0 (p k d l).1
 
 pub work_short : (speeds : List ℕ) (r k : ℕ) (xs : List Segment) (x : Segment) (work rate : ℕ)
-    → All (λ s. s ≤ 1000000) speeds → All (HasPlaces (length speeds) false r) xs → amount (λ _. 1) xs ≤ greatest_length → k < length xs → x ≡ get_or xs k x
-    → work ≡ amount (rate_at (at speeds) r) (take k xs) → rate ≡ rate_at (at speeds) r x → work + x.length * rate ≤ 10000000000000000000000000000000
+    → All (λ s. s ≤ GREATEST_SPEED) speeds → All (HasPlaces (length speeds) false r) xs → amount (λ _. 1) xs ≤ greatest_length → k < length xs → x ≡ get_or xs k x
+    → work ≡ amount (rate_at (at speeds) r) (take k xs) → rate ≡ rate_at (at speeds) r x → work + x.length * rate ≤ greatest_length * GREATEST_SPEED
 work_short speeds r k xs x work rate h p t l is e f =
-    let most : amount (rate_at (at speeds) r) xs ≤ amount (λ _. 1) xs * 1000000 = amount-least (rate_at (at speeds) r) 1000000 xs (rates_short speeds 1000000 r xs h p) in
+    let most : amount (rate_at (at speeds) r) xs ≤ amount (λ _. 1) xs * GREATEST_SPEED = amount-least (rate_at (at speeds) r) GREATEST_SPEED xs (rates_short speeds GREATEST_SPEED r xs h p) in
     omega (arith, e, ap (λ n. x.length * n) f, amount-more (rate_at (at speeds) r) xs k x l is, amount-take (rate_at (at speeds) r) xs (k + 1), most, t)
 
-pub place_short : (speeds : List ℕ) (r : ℕ) (xs : List Segment) → All (λ s. s ≤ 1000000) speeds
-    → All (HasPlaces (length speeds) false r) xs → amount (λ _. 1) xs ≤ greatest_length → amount (rate_at (at speeds) r) xs ≤ 10000000000000000000000000000000
-place_short speeds r xs h p t = omega (arith, amount-least (rate_at (at speeds) r) 1000000 xs (rates_short speeds 1000000 r xs h p), t)
+pub place_short : (speeds : List ℕ) (r : ℕ) (xs : List Segment) → All (λ s. s ≤ GREATEST_SPEED) speeds
+    → All (HasPlaces (length speeds) false r) xs → amount (λ _. 1) xs ≤ greatest_length → amount (rate_at (at speeds) r) xs ≤ greatest_length * GREATEST_SPEED
+place_short speeds r xs h p t = omega (arith, amount-least (rate_at (at speeds) r) GREATEST_SPEED xs (rates_short speeds GREATEST_SPEED r xs h p), t)
 
 -- the gain comes out whole over a unit that is finer by the last rate
 pub CanGain-scaled : (rate : Segment → ℕ) → IsRead rate → (d left : ℕ) (xs ys : List Segment) → 1 ≤ d → StopsAt rate left xs d → AreScaled d xs ys → CanGain rate (left * d) ys

@@ -6,7 +6,6 @@ use Rattle.std.proofs.Math.Nat.{le_trans, mul-le-mul_left, dvd-sub, dvd-mul_left
 use Rattle.std.proofs.lemmas.List.{length-append, drop_all}
 use Rattle.std.proofs.lemmas.Nat.Gcd.{dvd-zero}
 use Rattle.std.proofs.lemmas.List.Elements.{All-append, All-head, All-weaker, length_all_zip}
-use Rattle.msp_class.specs.declared.sizes.TheConstants.{MOST_JOBS, GREATEST}
 use Rattle.msp_class.specs.Sums.{total_below}
 use Rattle.msp_class.proofs.Sums.{sum_by-append, sum_by-cons}
 use Rattle.msp_uniform.specs.declared.unit.TheConstants.{GREATEST_PRODUCT}
@@ -14,7 +13,7 @@ use Rattle.msp_uniform.specs.declared.segments.Segment.{Segment}
 use Rattle.msp_uniform.specs.declared.task.Task.{Task}
 use Rattle.msp_uniform.specs.Runs.{IsSliceOf}
 use Rattle.msp_uniform.specs.Segments.{at, IsSegment, IsPartOf, IsAbsent, rate_at, amount, AreFew, AreScaled, AreLaid, CanGain, HasPlaces, greatest_length}
-use Rattle.msp_uniform.specs.Plans.{IsTask, IsReached, IsNextPlan, IsTaped, IsFilled, AreShort, CanBeLaid, IsLaidHere, IsLaidOver}
+use Rattle.msp_uniform.specs.Plans.{IsTask, IsReached, IsNextPlan, IsTaped, IsFilled, AreShort, CanBeLaid, IsLaidHere, IsLaidOver, greatest_work}
 use Rattle.msp_uniform.proofs.Affordable.{finest_small, end_small}
 use Rattle.msp_uniform.proofs.ScaledFacts.{length-short}
 use Rattle.msp_uniform.proofs.OrderFacts.{AreWhole-first}
@@ -53,13 +52,13 @@ module _ (t : Task) (k : IsTask t) where
     pub start_unit : unit * t.multiple ≤ GREATEST_PRODUCT
     start_unit = finest_small speeds t.multiple unit r.end h r.affordable
 
-    start_end : r.end * t.multiple ≤ unit * t.multiple * (MOST_JOBS * GREATEST)
+    start_end : r.end * t.multiple ≤ unit * t.multiple * greatest_work
     start_end = end_small speeds t.multiple unit r.end h r.affordable
 
     pub start_short : All (λ x. x.length * t.multiple ≤ greatest_length) xs
     start_short i d l = by (get_or xs i d).length r.end (omega (arith, length-short xs i d l, r.plan.whole)) start_end start_unit
       where
-        by : (a e : ℕ) → a ≤ e → e * t.multiple ≤ unit * t.multiple * (MOST_JOBS * GREATEST) → unit * t.multiple ≤ GREATEST_PRODUCT → a * t.multiple ≤ greatest_length
+        by : (a e : ℕ) → a ≤ e → e * t.multiple ≤ unit * t.multiple * greatest_work → unit * t.multiple ≤ GREATEST_PRODUCT → a * t.multiple ≤ greatest_length
         by a e p q s = omega (arith, mul-le-mul_left t.multiple p, q, s)
 
     module _ (short : AreShort t left unit h xs) (ys : List Segment) (scaled : AreScaled t.multiple xs ys) where
@@ -98,7 +97,7 @@ module _ (t : Task) (k : IsTask t) where
 
   -- ---- the last place
   module _ (left : List ℕ) (unit h : ℕ) (early late : List Segment) (r : IsTaped t left unit h early late) where
-    end_short : r.end ≤ GREATEST_PRODUCT * (MOST_JOBS * GREATEST)
+    end_short : r.end ≤ GREATEST_PRODUCT * greatest_work
     end_short = omega (arith, r.within.short, r.within.small)
 
     pub late_short : amount (λ _. 1) late ≤ greatest_length
@@ -118,7 +117,7 @@ module _ (t : Task) (k : IsTask t) where
     pub tape_inside : j < n
     tape_inside = All-head (λ i. i < n) j left r.tape.inside
 
-    end_of : r.end ≤ GREATEST_PRODUCT * (MOST_JOBS * GREATEST)
+    end_of : r.end ≤ GREATEST_PRODUCT * greatest_work
     end_of = end_short (j ∷ left) unit h early late r
 
     pub each_of : All (IsSegment m n (at speeds) (suc h)) late
@@ -337,6 +336,14 @@ read_over t k j unit h early late long sp first then h' early' late' e f g w lef
 one_more : (k : ℕ) → suc k ≡ k + 1
 one_more k = omega arith
 
+pub taped_next : (t : Task) (jobs : List ℕ) (k d unit h : ℕ) (early late : List Segment)
+    → k < length jobs → IsTaped t (drop k jobs) unit h early late → (left : List ℕ) × IsTaped t (get_or jobs k d ∷ left) unit h early late
+taped_next t jobs k d unit h early late l r = (drop (suc k) jobs, subst (λ js. IsTaped t js unit h early late) (drop-cons jobs k d l) r)
+
+pub reached_next : (t : Task) (jobs : List ℕ) (k d unit h : ℕ) (xs : List Segment)
+    → k < length jobs → IsReached t (drop k jobs) unit h xs → (left : List ℕ) × IsReached t (get_or jobs k d ∷ left) unit h xs
+reached_next t jobs k d unit h xs l r = (drop (suc k) jobs, subst (λ js. IsReached t js unit h xs) (drop-cons jobs k d l) r)
+
 pub IsTaped-loop : (t : Task) (jobs : List ℕ) (k d unit h : ℕ) (early late : List Segment) (h' : ℕ) (early' late' : List Segment)
     → k < length jobs → ((left : List ℕ) → IsTaped t (get_or jobs k d ∷ left) unit h early late → IsTaped t left unit h' early' late')
     → IsTaped t (drop k jobs) unit h early late → IsTaped t (drop (k + 1) jobs) unit h' early' late'
@@ -358,6 +365,9 @@ module _ (t : Task) (jobs : List ℕ) (k d : ℕ) (turned : Bool) (unit h : ℕ)
 
   same : (P : ℕ → ℕ → List Segment → Type 0) → P unit h xs → P unit' h' xs'
   same P p = subst (λ u. P u h' xs') (sym stays.0) (subst (λ a. P unit a xs') (sym stays.1) (subst (λ ys. P unit h ys) (sym stays.2) p))
+
+  pub IsReached-stop : IsReached t (drop k jobs) unit' h' xs'
+  IsReached-stop = same (IsReached t (drop k jobs)) r
 
   pub AreShort-stop : AreShort t (drop k jobs) unit' h' xs'
   AreShort-stop = same (AreShort t (drop k jobs)) (by h r stays.3)

@@ -2,6 +2,7 @@
 use Rattle.std.proofs.Common.{◌≡◌, ℕ, zero, suc, ◌+◌, ◌*◌, ◌-◌, ◌<◌, ◌≤◌, inl, inr, true, false, List, [], ◌∷◌, length, All, refl, ap, subst, ◌∙◌, arith}
 use Rattle.std.proofs.Math.Nat.{mul-le-mul_left}
 use Rattle.std.proofs.lemmas.List.Elements.{All-head, All-tail}
+use Rattle.msp_class.specs.declared.sizes.TheConstants.{GREATEST_SPEED}
 use Rattle.msp_class.proofs.Sums.{sum_by-cons}
 use Rattle.msp_uniform.specs.declared.segments.Segment.{Segment}
 use Rattle.msp_uniform.specs.Segments.{at, IsSegment, rate_at, gain_at, amount, CanGain, StopsAt, IsDifference, AreScaled, HasPlaces, greatest_length}
@@ -72,12 +73,12 @@ module _ (speeds : List ℕ) (h n : ℕ) (xs : List Segment) (each : All (IsSegm
           reads : IsRead (gain_at true (at speeds) r)
           reads k x y p = ap (λ l. at speeds (at l r) - at speeds (at l (suc r))) p.free
 
-pub gain_short : (speeds : List ℕ) (h n : ℕ) (xs : List Segment) (work next d : ℕ) → All (IsSegment (length speeds) n (at speeds) h) xs → 2 ≤ h → All (λ s. s ≤ 1000000) speeds
-    → amount (λ _. 1) xs ≤ greatest_length → work ≤ amount (rate_at (at speeds) 0) xs → d ≤ 1000000 → (work - next) * d ≤ 10000000000000000000000000000000000000
+pub gain_short : (speeds : List ℕ) (h n : ℕ) (xs : List Segment) (work next d : ℕ) → All (IsSegment (length speeds) n (at speeds) h) xs → 2 ≤ h → All (λ s. s ≤ GREATEST_SPEED) speeds
+    → amount (λ _. 1) xs ≤ greatest_length → work ≤ amount (rate_at (at speeds) 0) xs → d ≤ GREATEST_SPEED → (work - next) * d ≤ greatest_length * GREATEST_SPEED * GREATEST_SPEED
 gain_short speeds h n xs work next d each some small t l m =
-    let most : amount (rate_at (at speeds) 0) xs ≤ amount (λ _. 1) xs * 1000000 =
-    amount-least (rate_at (at speeds) 0) 1000000 xs (rates_short speeds 1000000 0 xs small (has_places speeds h n xs each 0 (omega (arith, some)))) in
+    let most : amount (rate_at (at speeds) 0) xs ≤ amount (λ _. 1) xs * GREATEST_SPEED =
+    amount-least (rate_at (at speeds) 0) GREATEST_SPEED xs (rates_short speeds GREATEST_SPEED 0 xs small (has_places speeds h n xs each 0 (omega (arith, some)))) in
     by (work - next) d (omega (arith, l, most, t)) m
   where
-    by : (a b : ℕ) → a ≤ 10000000000000000000000000000000 → b ≤ 1000000 → a * b ≤ 10000000000000000000000000000000000000
+    by : (a b : ℕ) → a ≤ greatest_length * GREATEST_SPEED → b ≤ GREATEST_SPEED → a * b ≤ greatest_length * GREATEST_SPEED * GREATEST_SPEED
     by a b p q = omega (arith, mul-le-mul_left a q, p)

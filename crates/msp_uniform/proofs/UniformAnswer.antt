@@ -6,7 +6,7 @@ use Rattle.std.proofs.Math.Nat.{mul-le-mul_left, eq_of_mul-eq-mul_right}
 use Rattle.std.proofs.lemmas.List.{get_or-map, length-map}
 use Rattle.std.proofs.lemmas.List.Elements.{All-take}
 use Rattle.std.proofs.lemmas.List.Sorted.{All-permutation, length_permutation}
-use Rattle.msp_class.specs.declared.sizes.TheConstants.{MOST_JOBS, MOST_MACHINES, MOST_PIECES, GREATEST}
+use Rattle.msp_class.specs.declared.sizes.TheConstants.{MOST_JOBS, MOST_MACHINES, MOST_PIECES}
 use native.Mathlib.Nat.{le_of_mul-le-mul_left}
 use Rattle.msp_class.specs.Env.{kind_of}
 use Rattle.msp_class.specs.declared.environments.EnvKind.{EnvKind}
@@ -37,7 +37,7 @@ use Rattle.msp_uniform.specs.declared.task.Task.{Task}
 use Rattle.msp_uniform.specs.Uniform.{cut_class, IsByFalling, IsUniformCost, work, speed}
 use Rattle.msp_uniform.specs.Segments.{at, job_rate, amount}
 use Rattle.msp_uniform.specs.Runs.{IsSliceOf}
-use Rattle.msp_uniform.specs.Plans.{IsFilled}
+use Rattle.msp_uniform.specs.Plans.{IsFilled, greatest_work}
 use Rattle.msp_uniform.specs.Answers.{IsTaskOf, IsCutPlan}
 use Rattle.msp_uniform.proofs.SegmentPieces.{long, LieApart, runs_lie_apart, few_runs}
 use Rattle.msp_uniform.proofs.LeastEnd.{law_of_least_end, order_within, order_length}
@@ -138,7 +138,7 @@ module _ (i : Instance) (class : i.class ≡ cut_class)
   costs : cost_of i made ≡ pos f.end
   costs = cut_costs i h unit f.end xs f.within.some slices whole done t.work t.speed k.asked.greatest.some f.within.least law
 
-  short : f.end ≤ GREATEST_PRODUCT * (MOST_JOBS * GREATEST)
+  short : f.end ≤ GREATEST_PRODUCT * greatest_work
   short = omega (arith, f.within.short, f.within.small)
 
   pieces_lie : LieApart i.machines (length i.jobs) i.machines (sum_by long xs) made.pieces

@@ -27,10 +27,14 @@ pub record IsPlan (speeds : List ℕ) (n : ℕ) (time : ℕ → ℕ) (left : Lis
   pub apart : AllPairs (λ a b. a ≢ b) left
   pub inside : All (λ j. j < n) left
 
--- The unit stays small though each place but one makes it finer by the gap of the speeds, and the end is at most MOST_JOBS * GREATEST over it.
+-- The most work of all jobs together.
+abbrev pub greatest_work : ℕ
+greatest_work = MOST_JOBS * GREATEST
+
+-- The unit stays small though each place but one makes it finer by the gap of the speeds, and the end is at most the greatest work over it.
 pub record IsAffordable (speeds : List ℕ) (finest unit end h : ℕ) : Type 0 where
   pub unit_small : unit * gap speeds ^ (h - 1) * finest ≤ GREATEST_PRODUCT
-  pub end_small : end ≤ unit * (MOST_JOBS * GREATEST)
+  pub end_small : end ≤ unit * greatest_work
   pub some : 1 ≤ finest
 
 -- The job has taken a place as far as its work goes, and the next place for the rest, over a unit that is finer by the factor.
@@ -135,7 +139,7 @@ AreShort t left unit h xs = All (λ j. unit * at t.times.items j ≤ amount (rat
 pub record IsWithin (t : Task) (unit end : ℕ) : Type 0 where
   pub some : 1 ≤ unit
   pub small : unit ≤ GREATEST_PRODUCT
-  pub short : end ≤ unit * (MOST_JOBS * GREATEST)
+  pub short : end ≤ unit * greatest_work
   pub least : IsLeast t unit end
 
 -- Some jobs are on the tape, and these are left.

@@ -9,7 +9,7 @@ use Rattle.msp_uniform.specs.declared.segments.Segment.{Segment}
 abbrev pub at : List ℕ → ℕ → ℕ
 at xs k = slice_index_or xs k 0
 
--- The most that segments last together.
+-- The most that segments last together: at least GREATEST_PRODUCT * MOST_JOBS * GREATEST.
 abbrev pub greatest_length : ℕ
 greatest_length = 10 ^ 25
 
@@ -45,6 +45,10 @@ pub record IsTaken (job r length : ℕ) (x y : Segment) : Type 0 where
   pub long : y.length ≡ length
   pub jobs : y.body.value.jobs ≡ slice_set x.body.value.jobs (place_at x r) job
   pub free : y.body.value.free ≡ remove x.body.value.free r
+
+-- Such a part stands behind the others.
+abbrev pub HasTaken : ℕ → ℕ → ℕ → Segment → List Segment → List Segment → Type 0
+HasTaken job r length x old new = (y : Segment) × IsTaken job r length x y × (new ≡ old ++ y ∷ [])
 
 -- The speed of the machine at a place, and the speed at which the job is done.
 abbrev pub rate_at : (ℕ → ℕ) → ℕ → Segment → ℕ

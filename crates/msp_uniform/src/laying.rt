@@ -3,7 +3,7 @@ ghost use Rattle.std.specs.Prelude.{◌≡◌, ◌+◌, ◌*◌, ◌<◌, ◌≤
 ghost use Rattle.msp_class.specs.declared.sizes.TheConstants.{MOST_MACHINES, GREATEST_SPEED};
 ghost use Rattle.std.specs.Int.{◌∣◌};
 ghost use Rattle.std.specs.Option.{option_to_list};
-ghost use Rattle.msp_uniform.specs.Segments.{at, rate_at, gain_at, CanGain, IsSecond, IsOneLaid, IsFirstLaid, AreLaid, HasPlaces, greatest_length};
+ghost use Rattle.msp_uniform.specs.Segments.{at, rate_at, gain_at, CanGain, HasTaken, IsSecond, IsOneLaid, IsFirstLaid, AreLaid, HasPlaces, greatest_length};
 ghost use Rattle.msp_uniform.specs.Plans.{CanBeLaid, IsLaidHere};
 
 use crate::segments::{Segment, lasting, taken, taken_of};
@@ -65,6 +65,28 @@ fn second_of(segment: Segment, length: u128, job: u32, place: usize, swap: bool)
     }
 }
 
+/// Puts the part of the segment at the end in which the job has the place, unless it lasts 0.
+fn put_taken(
+    alloc: Global,
+    first: &mut VecDeque<Segment>,
+    segment: &Segment,
+    length: u128,
+    job: u32,
+    place: usize,
+) -> Result<(), NoMemory>
+    requires place { place < len segment.now.body.value.free }
+    requires machine { at segment.now.body.value.free place < len segment.now.body.value.jobs }
+    requires job { job < 2 ^ 16 }
+    ensures none { OnOk result (length ≡ 0 → first.new.items ≡ first.old.items) }
+    ensures some { OnOk result (0 < length → HasTaken job place length segment.now first.old.items first.new.items) }
+{
+    if length == 0 {
+        return Ok(());
+    }
+    first.push_back(taken_of(alloc, segment, length, job, place)?)?;
+    Ok(())
+}
+
 /// Lays the job over a segment, and says how much is left to gain: the first part takes the place, where it is needed.
 fn lay_one(
     alloc: Global,
@@ -93,9 +115,7 @@ fn lay_one(
         });
     }
     let length = left / gain;
-    if length > 0 {
-        first.push_back(taken_of(alloc, &segment, length, job, place)?)?;
-    }
+    put_taken(alloc, first, &segment, length, job, place)?;
     let rest = second_of(segment, long - length, job, place, swap);
     Ok(Laid {
         left: 0,

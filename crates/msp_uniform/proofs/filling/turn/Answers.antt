@@ -1,4 +1,5 @@
 use Rattle.std.proofs.Common.{◌-◌, ◌≤◌, inl, refl, sym, subst, All, length, true, arith}
+use Rattle.msp_class.specs.declared.sizes.TheConstants.{GREATEST_SPEED}
 use Rattle.msp_uniform.specs.Segments.{at, gain_at, amount, IsSegment, StopsAt, greatest_length}
 use Rattle.msp_uniform.proofs.TurnNeeds.{difference_some, difference_small, gain_enough, lengths_short, fine_machines, fine_places, fine_short, fine_gains, gain_short}
 use Rattle.msp_uniform.proofs.filling.turn.Goals as goal
@@ -23,7 +24,7 @@ scaled-requires c = lengths_short c.args.speeds.now c.args.places _ c.args.segme
 pub overflow_mul-gain : goal.overflow_mul-gain
 overflow_mul-gain c =
     let short = gain_short c.args.speeds.now c.args.places _ c.args.segments.items c.args.work c.work_of.result c.last_gain-factor.result c.requires.each.1 c.requires.some c.requires.speeds
-    (omega (arith, c.requires.short 1 (inl refl))) c.requires.first (difference_small c.args.speeds.now 1000000 _ (omega arith) c.requires.speeds c.last_gain-factor.ensures.difference) in
+    (omega (arith, c.requires.short 1 (inl refl))) c.requires.first (difference_small c.args.speeds.now GREATEST_SPEED _ (omega arith) c.requires.speeds c.last_gain-factor.ensures.difference) in
     omega (arith, short)
 
 pub lay_over_all-requires-clause-machines : goal.lay_over_all-requires-clause-machines

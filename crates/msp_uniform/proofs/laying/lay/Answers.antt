@@ -1,6 +1,6 @@
 use Rattle.std.proofs.Common.{◌≡◌, ◌≤◌, false, length, arith}
 use Rattle.msp_uniform.specs.Segments.{HasPlaces, greatest_length}
-use Rattle.msp_uniform.proofs.LayingFacts.{IsLaying-start, laying_next, IsLaying-next, IsLaying-end}
+use Rattle.msp_uniform.proofs.LayingFacts.{IsLaying-start, laying_next, laying_gains, laying_fewer, IsLaying-next, IsLaying-end}
 use Rattle.msp_uniform.proofs.laying.lay.Goals as goal
 
 pub late-init : goal.late-init
@@ -16,6 +16,12 @@ lay_first-requires-clause-places c =
 
 pub lay_first-requires-clause-short : goal.lay_first-requires-clause-short
 lay_first-requires-clause-short c = laying_next _ _ _ _ _ _ _ _ _ _ _ c.in-Some.ensures.items (omega (arith, c.late-test.true)) c.late.invariant (λ x. x.length ≤ greatest_length) c.requires.late.short
+
+pub lay_first-requires-clause-gains : goal.lay_first-requires-clause-gains
+lay_first-requires-clause-gains c = laying_gains _ _ _ _ _ _ _ _ _ _ _ c.in-Some.ensures.items (omega (arith, c.late-test.true)) c.late.invariant
+
+pub late-smaller : goal.late-smaller
+late-smaller c = laying_fewer _ _ _ _ _ _ _ _ _ _ _ c.in-Some.ensures.items (omega (arith, c.late-test.true)) c.late.invariant _ _ _ c.in_ok-left-in-Some.ensures
 
 pub late-preserved : goal.late-preserved
 late-preserved c = IsLaying-next _ _ _ _ _ _ _ _ _ _ _ c.in-Some.ensures.items (omega (arith, c.late-test.true)) c.late.invariant _ _ _ c.in_ok-left-in-Some.ensures

@@ -6,6 +6,26 @@ use Rattle.msp_uniform.proofs.SegmentPieces.{long}
 use Rattle.msp_uniform.proofs.LatestFirst.{jobs_of, length_jobs_before, next_small, walked_on, walked_all}
 use Rattle.msp_uniform.proofs.pieces.pieces_of.Goals as goal
 
+pub put_begun-requires-clause-many : goal.put_begun-requires-clause-many
+put_begun-requires-clause-many c =
+    let p = length c.args.segments.now - 1 - c.loop-back.back in
+    let jobs_are : c.as_slice-jobs.result.now ≡ jobs_of (get_or c.args.segments.now p c.index-segments-place.result) =
+    c.as_slice-jobs.ensures.value ∙ ap (λ b. b.jobs) c.deref.ensures ∙ ap jobs_of c.index-segments-place.is in
+    let all : length c.as_slice-jobs.result.now ≡ c.args.machines = ap length jobs_are ∙ c.requires.machines p c.index-segments-place.result (omega (arith, c.loop-back-test.true)) in
+    c.loop-back.invariant.walked.many ∙ sym all
+
+pub put_begun-requires-clause-few : goal.put_begun-requires-clause-few
+put_begun-requires-clause-few c =
+    let p = length c.args.segments.now - 1 - c.loop-back.back in
+    let jobs_are : c.as_slice-jobs.result.now ≡ jobs_of (get_or c.args.segments.now p c.index-segments-place.result) =
+    c.as_slice-jobs.ensures.value ∙ ap (λ b. b.jobs) c.deref.ensures ∙ ap jobs_of c.index-segments-place.is in
+    let all : length c.as_slice-jobs.result.now ≡ c.args.machines = ap length jobs_are ∙ c.requires.machines p c.index-segments-place.result (omega (arith, c.loop-back-test.true)) in
+    omega (arith, all, c.requires.few)
+
+pub put_begun-requires-clause-moment : goal.put_begun-requires-clause-moment
+put_begun-requires-clause-moment c =
+    omega (arith, c.loop-back.invariant.walked.moment, sum_by-take-le long c.args.segments.now (length c.args.segments.now - c.loop-back.back), c.requires.short)
+
 pub put_begun-requires-clause-before : goal.put_begun-requires-clause-before
 put_begun-requires-clause-before c =
     let p = length c.args.segments.now - 1 - c.loop-back.back in

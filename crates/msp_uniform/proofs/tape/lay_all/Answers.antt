@@ -1,7 +1,9 @@
 use Rattle.std.proofs.Common.{◌*◌, ◌-◌, ◌≤◌, ◌∙◌, All, ap, sym, subst, subst₂, false, length, arith}
+use Rattle.msp_class.specs.declared.sizes.TheConstants.{GREATEST_SPEED}
 use Rattle.msp_uniform.specs.Segments.{at, AreWorks, HasPlaces, AreScaled, greatest_length}
 use Rattle.msp_uniform.specs.Plans.{IsTaped, DoHold, IsFilled}
-use Rattle.msp_uniform.proofs.TapedFacts.{start_unit, start_short, IsTaped-start, late_short, late_places, IsTaped-loop, IsTaped-done}
+use Rattle.msp_uniform.proofs.ReachedFacts.{speeds_small}
+use Rattle.msp_uniform.proofs.TapedFacts.{start_unit, start_short, IsTaped-start, late_short, late_places, taped_next, IsTaped-loop, IsTaped-done}
 use Rattle.msp_uniform.proofs.HeldFacts.{DoHold-start}
 use Rattle.msp_uniform.proofs.tape.lay_all.Goals as goal
 
@@ -20,6 +22,9 @@ works_in-requires-clause-each c p l =
     let taped = IsTaped-start c.args.task.now c.requires.task _ _ _ _ c.requires.reached c.requires.short _ fine in
     subst (λ sp. All (HasPlaces (length sp) false p) c.in_ok-late.late.items) (sym c.as_slice.ensures.value) (late_places c.args.task.now c.requires.task _ _ _ _ _ taped p (omega (arith, l)))
 
+pub works_in-requires-clause-speeds : goal.works_in-requires-clause-speeds
+works_in-requires-clause-speeds c = subst (All (λ s. s ≤ GREATEST_SPEED)) (sym c.as_slice.ensures.value) (speeds_small c.args.task.now c.requires.task)
+
 pub works_in-requires-clause-short : goal.works_in-requires-clause-short
 works_in-requires-clause-short c =
     let fine = subst (λ m. AreScaled m c.args.plan.segments.items c.in_ok-late.late.items) c.from-multiple.ensures c.in_ok-late.ensures in
@@ -36,6 +41,9 @@ loop-job-init c =
       holds = subst (λ es. DoHold c.args.task.now.speeds.items c.as_slice-holds.result.now (c.args.plan.places - 1) es c.in_ok-late.late.items)
           (sym c.new-early.ensures.items) (DoHold-start _ _ _ _ works);
     }
+
+pub lay_next-requires-clause-taped : goal.lay_next-requires-clause-taped
+lay_next-requires-clause-taped c = taped_next _ _ _ _ _ _ _ _ c.loop-job-test.true c.loop-job.invariant.taped
 
 pub loop-job-preserved : goal.loop-job-preserved
 loop-job-preserved c = record {

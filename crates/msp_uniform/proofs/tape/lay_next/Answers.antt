@@ -1,8 +1,32 @@
-use Rattle.std.proofs.Common.{◌∙◌, ◌<◌, ◌≤◌, ◌*◌, ◌-◌, ap, arith}
+use Rattle.std.proofs.Common.{◌∙◌, ◌<◌, ◌≤◌, ◌*◌, ◌-◌, All, length, ap, sym, subst, arith}
+use Rattle.msp_class.specs.declared.sizes.TheConstants.{GREATEST, GREATEST_SPEED}
 use Rattle.msp_uniform.specs.Segments.{at, amount, rate_at}
-use Rattle.msp_uniform.proofs.TapedFacts.{can_here, can_late, can_early, before_last, read_laid, read_here, read_rest, read_over}
+use Rattle.msp_uniform.proofs.ReachedFacts.{speeds_small, time_small}
+use Rattle.msp_uniform.proofs.TapedFacts.{tape_inside, can_here, can_late, can_early, before_last, read_laid, read_here, read_rest, read_over}
 use Rattle.msp_uniform.proofs.HeldFacts.{held_here, held_over}
 use Rattle.msp_uniform.proofs.tape.lay_next.Goals as goal
+
+pub need_of-work-requires-clause-job : goal.need_of-work-requires-clause-job
+need_of-work-requires-clause-job c = subst (λ ts. c.args.job < length ts) (sym c.as_slice.ensures.value) (tape_inside c.args.task.now c.requires.task _ _ _ _ _ _ c.requires.taped.1)
+
+pub need_of-work-requires-clause-time : goal.need_of-work-requires-clause-time
+need_of-work-requires-clause-time c = subst (λ ts. at ts c.args.job ≤ GREATEST)
+    (sym c.as_slice.ensures.value) (time_small c.args.task.now c.requires.task c.args.job (tape_inside c.args.task.now c.requires.task _ _ _ _ _ _ c.requires.taped.1))
+
+pub need_of-work-requires-clause-unit : goal.need_of-work-requires-clause-unit
+need_of-work-requires-clause-unit c = c.requires.taped.1.within.small
+
+pub lay_here-requires-clause-job : goal.lay_here-requires-clause-job
+lay_here-requires-clause-job c = omega (arith, tape_inside c.args.task.now c.requires.task _ _ _ _ _ _ c.requires.taped.1, c.requires.task.few_jobs)
+
+pub lay_here-requires-clause-speeds : goal.lay_here-requires-clause-speeds
+lay_here-requires-clause-speeds c = subst (All (λ s. s ≤ GREATEST_SPEED)) (sym c.as_slice-speeds.ensures.value) (speeds_small c.args.task.now c.requires.task)
+
+pub lay_over-requires-clause-job : goal.lay_over-requires-clause-job
+lay_over-requires-clause-job c = omega (arith, tape_inside c.args.task.now c.requires.task _ _ _ _ _ _ c.requires.taped.1, c.requires.task.few_jobs)
+
+pub lay_over-requires-clause-speeds : goal.lay_over-requires-clause-speeds
+lay_over-requires-clause-speeds c = subst (All (λ s. s ≤ GREATEST_SPEED)) (sym c.as_slice-speeds.ensures.value) (speeds_small c.args.task.now c.requires.task)
 
 pub lay_here-requires-clause-late : goal.lay_here-requires-clause-late
 lay_here-requires-clause-late c =

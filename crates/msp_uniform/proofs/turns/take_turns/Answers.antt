@@ -1,5 +1,11 @@
-use Rattle.msp_uniform.proofs.TapedFacts.{IsReached-loop, AreShort-stop}
+use Rattle.msp_uniform.proofs.TapedFacts.{reached_next, IsReached-loop, IsReached-stop, AreShort-stop}
 use Rattle.msp_uniform.proofs.turns.take_turns.Goals as goal
+
+pub turn_next-requires-clause-reached : goal.turn_next-requires-clause-reached
+turn_next-requires-clause-reached c = reached_next _ _ _ _ _ _ _ c.loop-k-test.true c.loop-k.invariant
+
+pub returns-then-not-turned-clause-reached : goal.returns-then-not-turned-clause-reached
+returns-then-not-turned-clause-reached c = IsReached-stop _ _ _ _ _ _ _ _ _ _ _ c.loop-k-test.true c.if-not-turned.true c.in_ok-turned.ensures c.loop-k.invariant
 
 pub returns-then-not-turned-clause-short : goal.returns-then-not-turned-clause-short
 returns-then-not-turned-clause-short c = AreShort-stop _ _ _ _ _ _ _ _ _ _ _ c.loop-k-test.true c.if-not-turned.true c.in_ok-turned.ensures c.loop-k.invariant
