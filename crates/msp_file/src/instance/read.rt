@@ -55,7 +55,10 @@ fn rest_at(alloc: Global, frame: Frame, lines: &mut Lines<'_>) -> Result<Draft, 
     let mut draft = no_draft(alloc);
     match jobs_at(alloc, frame, &mut draft, lines) {
         Ok(()) => Ok(draft),
-        Err(fault) => Err(fault),
+        Err(fault) => {
+            drop(draft);
+            Err(fault)
+        }
     }
 }
 
@@ -130,6 +133,7 @@ fn filed_at(alloc: Global, bytes: &[u8]) -> Result<Filed, FileFault>
     let mut lines = Lines { at: 1, rest: bytes };
     let filed = lines_at(alloc, &mut lines)?;
     if !lines.rest.is_empty() {
+        drop(filed);
         return Err(FileFault::After { at: lines.at });
     }
     Ok(filed)
@@ -195,7 +199,10 @@ fn checked(alloc: Global, filed: Filed) -> Result<Filed, FileFault>
 {
     match check_filed(alloc, &filed) {
         Ok(()) => Ok(filed),
-        Err(fault) => Err(fault),
+        Err(fault) => {
+            drop(filed);
+            Err(fault)
+        }
     }
 }
 
