@@ -10,6 +10,7 @@ use Rattle.msp_schedule.specs.BackToBack.{back_to_back, piece, time_at, schedule
 use Rattle.msp_schedule.proofs.lists.BackToBack.{back_to_back-All, back_to_back-to, length-back_to_back}
 use Rattle.msp_schedule.specs.Piece.{finish, IsTimed}
 use Rattle.msp_schedule.proofs.feasible.BackToBack.{piece_makes, back_to_back-timed, back_to_back_ends}
+use Rattle.msp_route.specs.declared.bounds.TheConstants.{GREATEST_ANSWER_MOMENT}
 use Rattle.msp_route.specs.Bounds.{IsAnswer, answer_unit}
 use Rattle.msp_route.proofs.PlainJobs.{IsPlain, takes_time, is_short}
 
@@ -35,5 +36,5 @@ module _ (i : Instance) (h : IsPlain i) (order : List ℕ) (once : OnceBelow (le
         (omega (arith, back_to_back-to piece (time_at i) piece_makes 0 order k d l, back_to_back_ends i order once (takes_time i h) h.few (is_short i h)));
   }
     where
-      early : (p : Piece) → IsTimed p → finish p ≤ (MOST_JOBS * GREATEST) → p.to ≤ℤ pos 10000000000000000000000000
+      early : (p : Piece) → IsTimed p → finish p ≤ MOST_JOBS * GREATEST → p.to ≤ℤ GREATEST_ANSWER_MOMENT
       early p t l = omega (arith, ints, t.to, l)

@@ -1,5 +1,5 @@
 -- One step of the loop that lays jobs back to back, at the numbers as the code passes them.
-use Rattle.std.proofs.Common.{◌≡◌, ℕ, ◌+◌, ◌*◌, ◌<◌, ◌≤◌, ◌^◌, List, [], ◌∷◌, ◌++◌, length, get_or, take, sum_by, pos, ℤ, ◌≤ℤ◌, All, refl, sym, ap, ◌∙◌, arith, slice_index_or}
+use Rattle.std.proofs.Common.{◌≡◌, ℕ, ◌+◌, ◌*◌, ◌<◌, ◌≤◌, List, [], ◌∷◌, ◌++◌, length, get_or, take, sum_by, pos, ℤ, ◌≤ℤ◌, unsigned_abs, All, refl, sym, ap, ◌∙◌, arith, slice_index_or}
 use Rattle.std.proofs.lemmas.Int.{ints}
 use Rattle.std.proofs.lemmas.List.{take_more}
 use Rattle.std.proofs.lemmas.Nat.{mul-le}
@@ -34,18 +34,19 @@ length_read i unit jobs j length_is job e l at is =
     is ∙ ap (λ y. unit * (slice_index_or y.needs 0 no_need).time) (read_job i jobs j job e (omega arith) at)
 
 abbrev pub greatest_length : ℕ
-greatest_length = 10 ^ 22
+greatest_length = unsigned_abs GREATEST_UNIT * GREATEST
 
 pub short_length : (i : Instance) (unit : ℕ) → pos unit ≤ℤ GREATEST_UNIT → (j : ℕ) → time_at i j ≤ GREATEST → unit * time_at i j ≤ greatest_length
-short_length i unit h j t = omega (arith, mul-le unit (time_at i j) (10 ^ 13) GREATEST small t)
+short_length i unit h j t = omega (arith, mul-le unit (time_at i j) (unsigned_abs GREATEST_UNIT) GREATEST small t)
   where
-    small : unit ≤ 10 ^ 13
+    small : unit ≤ unsigned_abs GREATEST_UNIT
     small = omega (arith, ints)
 
 -- the moment stays early
 pub moment-next : (i : Instance) (unit k count moment length_is j : ℕ)
     → pos unit ≤ℤ GREATEST_UNIT → All (λ a. (0 < length a.needs) × ((slice_index_or a.needs 0 no_need).time ≤ GREATEST)) i.jobs → j < length i.jobs →
-    length_is ≡ unit * time_at i j → moment ≤ greatest_length * k → k < count → count ≤ MOST_JOBS → (moment + length_is ≤ greatest_length * (k + 1)) × (moment + length_is ≤ 4 * 10 ^ 24)
+    length_is ≡ unit * time_at i j → moment ≤ greatest_length * k → k < count → count ≤ MOST_JOBS
+    → (moment + length_is ≤ greatest_length * (k + 1)) × (moment + length_is ≤ MOST_JOBS * greatest_length)
 moment-next i unit k count moment length_is j u needs l is early inside few = let short = short_length i unit u j (needs j no_job l).1 in (omega arith, omega arith)
 
 -- over the unit 1 the pieces that last the times are the schedule's

@@ -1,5 +1,5 @@
 -- What an inner instance on one machine has.
-use Rattle.std.proofs.Common.{◌≡◌, ℕ, ◌<◌, ◌≤◌, Bool, true, false, length, get_or, All, subst, arith, lit≤, le_trans}
+use Rattle.std.proofs.Common.{◌≡◌, ℕ, ◌*◌, ◌<◌, ◌≤◌, Bool, true, false, length, get_or, All, subst, arith, lit≤, le_trans}
 use Rattle.msp_class.specs.declared.sizes.TheConstants.{MOST_JOBS, GREATEST}
 use Rattle.msp_class.specs.declared.class.Env.TheVariants.{One}
 use Rattle.msp_class.specs.declared.environments.EnvKind.TheVariants.{Identical}
@@ -17,7 +17,7 @@ short_times General = lit≤ tt
 short_times UnitTimes = lit≤ tt
 short_times Equal = lit≤ tt
 
-early_release : (b : Bool) (r : ℕ) → HasRelease (inner_limits Identical) b r → r ≤ 2000000000
+early_release : (b : Bool) (r : ℕ) → HasRelease (inner_limits Identical) b r → r ≤ 2 * GREATEST
 early_release true r h = h
 early_release false r h = omega (arith, h)
 
@@ -26,7 +26,7 @@ pub record IsOneInstance (i : Instance) : Type 0 where
   pub some : 1 ≤ length i.jobs
   pub few : length i.jobs ≤ MOST_JOBS
   pub needs : All (λ j. (length j.needs ≡ 1) × (1 ≤ (get_or j.needs 0 no_need).time) × ((get_or j.needs 0 no_need).time ≤ GREATEST)) i.jobs
-  pub release : All (λ j. j.release ≤ 2000000000) i.jobs
+  pub release : All (λ j. j.release ≤ 2 * GREATEST) i.jobs
   pub inner : Inner i
 
 pub IsOneInstance-from : (i : Instance) → i.class.env ≡ One → Inner i → IsOneInstance i
@@ -54,7 +54,7 @@ module _ (i : Instance) (h : IsOneInstance i) where
   pub is_short : (j : ℕ) → j < length i.jobs → time_at i j ≤ GREATEST
   is_short j l = (h.needs j no_job l).2
 
-  pub is_early : (j : ℕ) → j < length i.jobs → (job_at i j).release ≤ 2000000000
+  pub is_early : (j : ℕ) → j < length i.jobs → (job_at i j).release ≤ 2 * GREATEST
   is_early j l = h.release j no_job l
 
   -- as the code of Lawler's rule asks for it
