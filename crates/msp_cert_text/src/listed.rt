@@ -1,5 +1,6 @@
 // The lines of a certificate that each job has, in order.
-ghost use Rattle.std.specs.Prelude.{◌≡◌, ◌+◌, ◌^◌, ◌<◌, [], length, drop, codes, OnOk};
+ghost use Rattle.std.specs.Prelude.{◌≡◌, ◌+◌, ◌^◌, ◌<◌, ◌≤◌, ℕ, [], List as Items, Result as Reading, length, drop, codes, OnOk};
+ghost use Rattle.msp_grammar.specs.declared.lines.fault.FileFault.{FileFault as Fault};
 ghost use Rattle.msp_grammar.specs.lines.Answers.{Gives};
 ghost use Rattle.msp_cert_text.specs.Reading.{named_field_at, named_line_at, numbers_at, level_at, head_at, price_at};
 ghost use Rattle.msp_grammar.specs.lines.Steps.{Leads, Moves, place_of, fields_after};
@@ -56,75 +57,91 @@ fn named_line_at<'a>(
     named_field_at(before, name, at, fields)
 }
 
-/// The level of the job at a place, put at the end of the levels.
+/// A number that each job has in a line of its own.
+trait Listed: Drop + Sized {
+    /// How the field is read.
+    ghost reads: { ℕ → Items ℕ → Reading Self Fault };
+
+    /// The number in the field.
+    fn read(at: u32, field: &[u8]) -> Result<Self, FileFault>
+        ensures { result ≡ reads at field.now };
+}
+
+/// A level.
+impl Listed for u32 {
+    ghost reads = { level_at };
+
+    fn read(at: u32, field: &[u8]) -> Result<u32, FileFault> {
+        match natural_at(at, What::Level, 0, GREATEST_LEVEL as u64, field) {
+            Ok(level) => Ok(level as u32),
+            Err(fault) => Err(fault),
+        }
+    }
+}
+
+/// A head.
+impl Listed for u64 {
+    ghost reads = { head_at };
+
+    fn read(at: u32, field: &[u8]) -> Result<u64, FileFault> {
+        natural_at(at, What::Head, 0, GREATEST_HEAD, field)
+    }
+}
+
+/// A price.
+impl Listed for i128 {
+    ghost reads = { price_at };
+
+    fn read(at: u32, field: &[u8]) -> Result<i128, FileFault> {
+        signed_at(at, What::Price, GREATEST_PRICE, field)
+    }
+}
+
+/// The number of the job at a place, put at the end of the numbers. So many lines of the kind stand before the first one.
 #[tactic(auto, using(crate::proofs::ListedLaws::numbers_rules))]
-fn take_level(
+fn take_number<T: Listed>(
     names: &Names,
+    word: &[u8],
+    before: usize,
     k: usize,
-    levels: &mut List<u32>,
+    numbers: &mut List<T>,
     lines: &mut Lines<'_>,
 ) -> Result<(), FileFault>
     requires inside { k < length names.now }
-    requires small { k + 1 < 2 ^ 64 }
-    requires place { length levels.old ≡ k }
-    ensures leads { Leads (λ _. numbers_at level_at (codes "level") 1 levels.new (drop (k + 1) names.now) (place_of lines.new))
-        result (numbers_at level_at (codes "level") 1 levels.old (drop k names.now) (place_of lines.old)) }
-    ensures place { OnOk result (length levels.new ≡ k + 1) }
+    requires small { before + k < 2 ^ 64 }
+    requires place { length numbers.old ≡ k }
+    ensures leads { Leads (λ _. numbers_at T.reads word.now before numbers.new (drop (k + 1) names.now) (place_of lines.new))
+        result (numbers_at T.reads word.now before numbers.old (drop k names.now) (place_of lines.old)) }
+    ensures place { OnOk result (length numbers.new ≡ k + 1) }
 {
     let at = lines.at;
     let name = names.get(k).unwrap();
-    let field = named_line_at(lines, b"level", k + 1, &name)?;
-    let level = natural_at(at, What::Level, 0, GREATEST_LEVEL as u64, field)?;
-    levels.put(level as u32)?;
+    let field = named_line_at(lines, word, before + k, &name)?;
+    let number = T::read(at, field)?;
+    numbers.put(number)?;
     Ok(())
 }
 
-/// The head of the job at a place, put at the end of the heads.
-#[tactic(auto, using(crate::proofs::ListedLaws::numbers_rules))]
-fn take_head(
+/// A number for each job.
+#[tactic(auto, unfolding(crate::specs::Reading::numbers_at))]
+fn numbers_at<T: Listed>(
+    alloc: Global,
     names: &Names,
-    k: usize,
-    heads: &mut List<u64>,
+    word: &[u8],
+    before: usize,
     lines: &mut Lines<'_>,
-) -> Result<(), FileFault>
-    requires inside { k < length names.now }
-    requires place { length heads.old ≡ k }
-    ensures leads { Leads (λ _. numbers_at head_at (codes "head") 0 heads.new (drop (k + 1) names.now) (place_of lines.new))
-        result (numbers_at head_at (codes "head") 0 heads.old (drop k names.now) (place_of lines.old)) }
-    ensures place { OnOk result (length heads.new ≡ k + 1) }
+) -> Result<List<T>, FileFault>
+    requires { before ≤ 1 }
+    ensures { Moves (λ x. x) result (place_of lines.new) (numbers_at T.reads word.now before [] names.now (place_of lines.old)) }
 {
-    let at = lines.at;
-    let name = names.get(k).unwrap();
-    let field = named_line_at(lines, b"head", k, &name)?;
-    let head = natural_at(at, What::Head, 0, GREATEST_HEAD, field)?;
-    heads.put(head)?;
-    Ok(())
-}
-
-/// The price of the job at a place, put at the end of the prices.
-#[tactic(auto, using(crate::proofs::ListedLaws::numbers_rules))]
-fn take_row(
-    names: &Names,
-    k: usize,
-    row: &mut List<i128>,
-    lines: &mut Lines<'_>,
-) -> Result<(), FileFault>
-    requires inside { k < length names.now }
-    requires place { length row.old ≡ k }
-    ensures leads { Leads (λ _. numbers_at price_at (codes "row") 0 row.new (drop (k + 1) names.now) (place_of lines.new))
-        result (numbers_at price_at (codes "row") 0 row.old (drop k names.now) (place_of lines.old)) }
-    ensures place { OnOk result (length row.new ≡ k + 1) }
-{
-    let at = lines.at;
-    let name = names.get(k).unwrap();
-    let field = named_line_at(lines, b"row", k, &name)?;
-    let price = signed_at(at, What::Price, GREATEST_PRICE, field)?;
-    row.put(price)?;
-    Ok(())
+    let mut numbers = List::new(alloc);
+    'jobs: for k in 0..names.len() {
+        take_number(names, word, before, k, &mut numbers, lines)?;
+    }
+    Ok(numbers)
 }
 
 /// A level for each job.
-#[tactic(auto, unfolding(crate::specs::Reading::numbers_at))]
 pub(crate) fn levels_at(
     alloc: Global,
     names: &Names,
@@ -132,15 +149,10 @@ pub(crate) fn levels_at(
 ) -> Result<List<u32>, FileFault>
     ensures { Moves (λ x. x) result (place_of lines.new) (numbers_at level_at (codes "level") 1 [] names.now (place_of lines.old)) }
 {
-    let mut levels = List::new(alloc);
-    'jobs: for k in 0..names.len() {
-        take_level(names, k, &mut levels, lines)?;
-    }
-    Ok(levels)
+    numbers_at::<u32>(alloc, names, b"level", 1, lines)
 }
 
 /// A head for each job.
-#[tactic(auto, unfolding(crate::specs::Reading::numbers_at))]
 pub(crate) fn heads_at(
     alloc: Global,
     names: &Names,
@@ -148,15 +160,10 @@ pub(crate) fn heads_at(
 ) -> Result<List<u64>, FileFault>
     ensures { Moves (λ x. x) result (place_of lines.new) (numbers_at head_at (codes "head") 0 [] names.now (place_of lines.old)) }
 {
-    let mut heads = List::new(alloc);
-    'jobs: for k in 0..names.len() {
-        take_head(names, k, &mut heads, lines)?;
-    }
-    Ok(heads)
+    numbers_at::<u64>(alloc, names, b"head", 0, lines)
 }
 
 /// A price for each job.
-#[tactic(auto, unfolding(crate::specs::Reading::numbers_at))]
 pub(crate) fn rows_at(
     alloc: Global,
     names: &Names,
@@ -164,9 +171,5 @@ pub(crate) fn rows_at(
 ) -> Result<List<i128>, FileFault>
     ensures { Moves (λ x. x) result (place_of lines.new) (numbers_at price_at (codes "row") 0 [] names.now (place_of lines.old)) }
 {
-    let mut row = List::new(alloc);
-    'jobs: for k in 0..names.len() {
-        take_row(names, k, &mut row, lines)?;
-    }
-    Ok(row)
+    numbers_at::<i128>(alloc, names, b"row", 0, lines)
 }

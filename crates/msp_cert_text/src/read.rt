@@ -7,6 +7,7 @@ ghost use Rattle.msp_grammar.specs.lines.Answers.{Gives};
 ghost use Rattle.msp_grammar.specs.lines.Reading.{Then};
 ghost use Rattle.msp_cert_text.specs.CertificateText.{IsCertificateText};
 ghost use Rattle.msp_cert_text.specs.Reading.{kind_in, kind_at, ReadsEvidence, ReadsCertified, ReadsCertificate};
+ghost use Rattle.msp_cert_text.specs.Steps.{later_kind_in};
 ghost use Rattle.msp_cert_text.specs.Answers.{IsCertificateFaultOf, IsCertificateFault, CertificatesReadAgain};
 ghost use Rattle.msp_grammar.specs.lines.Steps.{GivesBy, Moves, MovesBy, parts_of, place_of};
 
@@ -20,6 +21,22 @@ use msp_instance::Instance;
 use msp_job_name::Names;
 use msp_schedule::Frac;
 use std::alloc::Global;
+
+/// The kind of a word, of the last three.
+fn later_kind_in(word: &[u8]) -> Option<Kind>
+    ensures { result ≡ later_kind_in word.now }
+{
+    if *word == *b"segments".as_slice() {
+        return Some(Kind::Segments);
+    }
+    if *word == *b"block".as_slice() {
+        return Some(Kind::Block);
+    }
+    if *word == *b"prices".as_slice() {
+        return Some(Kind::Prices);
+    }
+    None
+}
 
 /// The kind of a word.
 fn kind_in(word: &[u8]) -> Option<Kind>
@@ -37,16 +54,7 @@ fn kind_in(word: &[u8]) -> Option<Kind>
     if *word == *b"levels".as_slice() {
         return Some(Kind::Levels);
     }
-    if *word == *b"segments".as_slice() {
-        return Some(Kind::Segments);
-    }
-    if *word == *b"block".as_slice() {
-        return Some(Kind::Block);
-    }
-    if *word == *b"prices".as_slice() {
-        return Some(Kind::Prices);
-    }
-    None
+    later_kind_in(word)
 }
 
 #[tactic(auto, unfolding(crate::specs::Reading::kind_at))]
