@@ -1,5 +1,5 @@
 -- The frontier: classes struck out, and lists in order of rank.
-use Rattle.std.proofs.Common.{◌≡◌, ◌≢◌, ◌↔◌, ℕ, ◌<◌, ◌≤◌, ◌+◌, Bool, true, false, List, [], ◌∷◌, ◌++◌, length, get_or, set, refl, ap, sym, ◌∙◌, subst, inl, inr, arith}
+use Rattle.std.proofs.Common.{◌≡◌, ◌≢◌, ◌↔◌, ℕ, ◌<◌, ◌≤◌, ◌+◌, Bool, true, false, not, List, [], ◌∷◌, ◌++◌, length, get_or, set, refl, ap, sym, ◌∙◌, subst, inl, inr, arith}
 use Rattle.std.specs.Prelude.{Contains, AllPairs}
 use Rattle.std.proofs.lemmas.Bool.{cases_eq, cases_lt}
 use Rattle.std.proofs.lemmas.List.Elements.{Contains-get_or, Contains-push, Contains-push_cases, Contains-append_left}
@@ -276,3 +276,14 @@ pub ListsInOrder-minimal : (P : Class → Type 0) (t left : List Bool) (classes 
     → ListsInOrder (IsMinimal P) classes
 ListsInOrder-minimal P t left classes flags kept s = IsMinimal-same (λ c. is_flagged t c ≡ true) P classes flags
     (ListsInOrder-same (λ c. is_flagged left c ≡ true) (IsMinimal (λ c. is_flagged t c ≡ true)) classes (λ c. (kept c).0) (λ c. (kept c).1) s)
+
+-- a class that leads to one that does not lead back is not maximal
+pub beaten : (t : List Bool) (c : Class) (led : Bool) → (led ≡ true) ↔ ((b : Class) → is_flagged t b ≡ true → Reaches every_row c b → Reaches every_row b c)
+    → not led ≡ true → ¬ IsMaximal (λ b. is_flagged t b ≡ true) c
+beaten t c true led is = cc
+beaten t c false led is = λ most. let other = led.1 most.1 in cc
+
+pub not_beaten : (t : List Bool) (c : Class) (led : Bool) → (led ≡ true) ↔ ((b : Class) → is_flagged t b ≡ true → Reaches every_row c b → Reaches every_row b c)
+    → is_flagged t c ≡ true → not led ≡ false → IsMaximal (λ b. is_flagged t b ≡ true) c
+not_beaten t c true led has is = (has, led.0 refl)
+not_beaten t c false led has is = cc

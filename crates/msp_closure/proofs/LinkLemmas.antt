@@ -1,8 +1,8 @@
 -- The list of links: how it grows, and that it has every step.
-use Rattle.std.proofs.Common.{◌≡◌, ◌⊎◌, ℕ, ◌+◌, Bool, List, Some, get_or, ap, sym, ◌∙◌, subst, inl, inr, arith}
+use Rattle.std.proofs.Common.{◌≡◌, ◌⊎◌, ℕ, ◌+◌, Bool, List, [], ◌∷◌, ◌++◌, Some, get_or, ap, ap₂, sym, ◌∙◌, subst, inl, inr, arith}
 use Rattle.std.specs.Prelude.{Contains}
 use Rattle.std.proofs.lemmas.Bool.{cases_eq}
-use Rattle.std.proofs.lemmas.List.Elements.{Contains-get_or}
+use Rattle.std.proofs.lemmas.List.Elements.{Contains-get_or, Contains-push, Contains-push_cases, Contains-append_left}
 use Rattle.msp_class.specs.declared.class.Class.{Class}
 use Rattle.msp_class.specs.Rank.{rank_of}
 use Rattle.msp_class.proofs.RankLemmas.{rank_of-below}
@@ -11,6 +11,28 @@ use Rattle.msp_closure.specs.Links.{link, AreInside, IsStep, AreLinks, AddsLinks
 use Rattle.msp_closure.specs.Walk.{step_of}
 use Rattle.msp_closure.proofs.StepLemmas.{step_of-numbered}
 use Rattle.msp_closure.proofs.TableLemmas.{below_next}
+
+-- a link from rank to rank
+pub same_ends : (c x : Class) (from to : ℕ) → from ≡ rank_of c → to ≡ rank_of x → record { from = from; to = to } ≡ link c x
+same_ends c x from to e f = ap₂ (λ m n. record { from = m; to = n }) e f
+
+-- the step by a row is added
+pub AddsLink-step : (usable : ℕ → Bool) (before after : List Link) (c x : Class) (row : ℕ) (l : Link) → after ≡ before ++ l ∷ [] → l ≡ link c x
+    → step_of usable row c ≡ Some x → AddsLink usable before after c row
+AddsLink-step usable before after c x row l e same steps =
+    let P : List Link → Type 0 = λ ls. AddsLink usable before ls c row in
+    subst P (sym e) (record {
+      keeps = λ m has. Contains-append_left before (l ∷ []) m has;
+      sound = λ m has. elim (Contains-push_cases before l m has) as (λ _. Contains before m ⊎ IsStep usable m) [
+        | inl old ↦ inl old
+        | inr new ↦ inr (record { row = row; start = c; next = x; steps = steps; joins = sym new ∙ same })
+      ];
+      all = λ y goes.
+          let both : Some x ≡ Some y = sym steps ∙ goes in
+          let is : x ≡ y = cc in
+          let Q : Link → Type 0 = Contains (before ++ l ∷ []) in
+          subst Q (same ∙ ap (link c) is) (Contains-push before l);
+    })
 
 -- no row is below 1
 pub AddsLinks-start : (usable : ℕ → Bool) (ls : List Link) (c : Class) → AddsLinks usable ls ls c 1

@@ -21,3 +21,9 @@ returns-then-rank-clause-none c = none_between {E = ℕ} carries c.args.from c.a
 pub returns-clause-none : goal.returns-clause-none
 returns-clause-none c = subst (λ from. IfOk c.route.result (λ found. IsNone found ↔ (¬ Reaches carries from c.args.to))) c.in_ok-routes.ensures
     c.route.ensures.none
+
+pub returns-clause-way : goal.returns-clause-way
+returns-clause-way c = subst (λ from. IfOk c.route.result (λ found. IsWay carries (c.args.to ∷ []) (from ∷ []) found)) c.in_ok-routes.ensures c.route.ensures.way
+
+pub returns-clause-few : goal.returns-clause-few
+returns-clause-few c = c.route.ensures.few
