@@ -131,5 +131,3 @@ fault_of_front_text b e k = fault_by (ReadsFront b) e (front_takes b) k
 -- no arc stands twice in what is read
 pub once_of_read : (b : List ℕ) (f : Filed) → Reads b (Ok f) → AllPairs (λ x y. x ≢ y) f.instance.arcs
 once_of_read b f h = (whole_takes b f h).once
-
-pub ruleset text_rules = (text_of_read, fault_of_filed, once_of_read)

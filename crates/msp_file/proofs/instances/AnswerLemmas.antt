@@ -34,5 +34,3 @@ fault_of_whole b filed e h f = fault_of_read (Reads b) filed e h f
 
 pub fault_of_filed_front : (b : List ℕ) (filed : Filed) (e : FileFault) → ReadsFront b (Ok filed) → IsFaultOfFiled filed e → IsFrontFaultOf b e
 fault_of_filed_front b filed e h f = fault_of_read (ReadsFront b) filed e h f
-
-pub ruleset answer_rules = (fault_of_lines, fault_of_whole)

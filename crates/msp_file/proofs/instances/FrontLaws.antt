@@ -83,5 +83,3 @@ front_fault_of_filed b f q e h k = fault_of_filed_front b f e (front_done b f q 
 -- no arc stands twice in what is read
 pub once_of_lines : (b : List ℕ) (f : Filed) (q : Place) → ReadsLines (start_of b) (Ok (f, q)) → AllPairs (λ x y. x ≢ y) f.instance.arcs
 once_of_lines b f q h = (lines_take (start_of b) (f, q) h).2.once
-
-pub ruleset front_text_rules = (left_within, front_text, front_fault, front_fault_of_filed, once_of_lines)

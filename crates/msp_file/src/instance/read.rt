@@ -208,7 +208,6 @@ fn checked(alloc: Global, filed: Filed) -> Result<Filed, FileFault>
 
 /// Reads a whole instance text. The instance is in its class, and the fault is the first one: of the lines in order, then of the
 /// class, then a cycle.
-#[tactic(auto, using(crate::proofs::instances::AnswerLemmas::answer_rules, crate::proofs::instances::AnswerLaws::text_rules))]
 pub fn read_instance(alloc: Global, bytes: &[u8]) -> Result<Filed, FileFault>
     requires { length bytes.now ≤ MOST_BYTES }
     ensures fault { IfErr result (λ e. IsFaultOf bytes.now e) }
@@ -236,7 +235,6 @@ pub struct Front {
 
 /// Reads the instance text at the front of the bytes, whatever follows it. The instance is in its class, and the fault is the first
 /// one: of the lines in order, then of the class, then a cycle.
-#[tactic(auto, using(crate::proofs::instances::FrontLaws::front_text_rules))]
 pub fn read_front(alloc: Global, bytes: &[u8]) -> Result<Front, FileFault>
     requires { length bytes.now ≤ MOST_BYTES }
     ensures fault { IfErr result (λ e. IsFrontFaultOf bytes.now e) }

@@ -2,7 +2,7 @@
 use Rattle.std.proofs.lemmas.Result.{err_from_is_err_and}
 use Rattle.msp_grammar.specs.lines.Steps.{place_of}
 use Rattle.msp_file.proofs.instances.AnswerLaws.{fault_of_front_text}
-use Rattle.msp_file.proofs.instances.FrontLaws.{front_fault, front_fault_of_filed, front_read, front_text, again_front}
+use Rattle.msp_file.proofs.instances.FrontLaws.{left_within, once_of_lines, front_fault, front_fault_of_filed, front_read, front_text, again_front}
 use Rattle.msp_file.proofs.instance.read.read_front.Goals as goal
 
 pub returns-in_err-read-clause-again : goal.returns-in_err-read-clause-again
@@ -42,3 +42,9 @@ pub returns-in_err-filed-clause-fault : goal.returns-in_err-filed-clause-fault
 returns-in_err-filed-clause-fault c =
     let p = err_from_is_err_and c.from_residual-in_err-filed.result c.from_residual-in_err-filed.ensures.1 in
     rw (p.1, p.2) (front_fault_of_filed c.args.bytes.now c.in_ok-read.read (place_of c.lines_at.new.lines) c.in_err-filed.field-0.0 c.in_ok-read.ensures.moves c.in_err-filed.ensures)
+
+pub checked-requires-clause-once : goal.checked-requires-clause-once
+checked-requires-clause-once c = once_of_lines c.args.bytes.now c.in_ok-read.read (place_of c.lines_at.new.lines) c.in_ok-read.ensures.moves
+
+pub overflow_sub-result : goal.overflow_sub-result
+overflow_sub-result c = left_within c.args.bytes.now c.in_ok-read.read (place_of c.lines_at.new.lines) c.in_ok-read.ensures.moves

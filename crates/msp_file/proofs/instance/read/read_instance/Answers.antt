@@ -1,7 +1,7 @@
 -- The goals of `read_instance` that are proved by lemmas.
 use Rattle.std.proofs.lemmas.Result.{err_from_is_err_and}
 use Rattle.msp_file.proofs.instances.AnswerLemmas.{fault_of_lines, fault_of_whole}
-use Rattle.msp_file.proofs.instances.AnswerLaws.{again_read, again_fault, fault_of_text, fault_of_filed, text_of_read}
+use Rattle.msp_file.proofs.instances.AnswerLaws.{once_of_read, again_read, again_fault, fault_of_text, fault_of_filed, text_of_read}
 use Rattle.msp_file.proofs.instance.read.read_instance.Goals as goal
 
 pub returns-in_err-read-clause-again : goal.returns-in_err-read-clause-again
@@ -40,3 +40,6 @@ pub returns-in_err-filed-clause-class_faults : goal.returns-in_err-filed-clause-
 returns-in_err-filed-clause-class_faults c =
     let p = err_from_is_err_and c.from_residual-in_err-filed.result c.from_residual-in_err-filed.ensures.1 in
     rw (p.1, p.2) (fault_of_filed c.args.bytes.now c.in_ok-read.read c.in_err-filed.field-0.0 c.in_ok-read.ensures.gives c.in_err-filed.ensures)
+
+pub checked-requires-clause-once : goal.checked-requires-clause-once
+checked-requires-clause-once c = once_of_read c.args.bytes.now c.in_ok-read.read c.in_ok-read.ensures.gives
