@@ -33,8 +33,6 @@ too_long at (b ∷ bs) some h other = by (nat_le (length (b ∷ bs)) LONGEST_NAM
     by true e = absurd (other (record { some = some; short = leb-true (length (b ∷ bs)) LONGEST_NAME e; bytes = AllPass-from_list_all is_name_byte (b ∷ bs) h }))
     by false e = rw (h, e) refl
 
-pub ruleset fault_rules = (no_bytes, other_bytes, too_long)
-
 -- ---- the job of a name
 
 pub unknown_name : (at : ℕ) (names : List (List ℕ)) (w name : List ℕ) → position (bytes_eq w) names ≡ None → Ok name ≡ job_name_at at w → known_at at names w ≡ Err (Unknown at)

@@ -8,7 +8,6 @@ use crate::lines::fault::{FileFault, What};
 use msp_job_name::{JobName, Names, are_name_bytes};
 
 /// The fault of bytes that are no job name.
-#[tactic(auto, using(crate::proofs::reading::NameReading::fault_rules))]
 fn name_fault(at: u32, bytes: &[u8]) -> FileFault
     requires { ¬ IsJobName bytes.now }
     ensures { job_name_at at bytes.now ≡ Err result }
