@@ -9,3 +9,4 @@ pub mod Makespan
 pub mod LateJobs
 pub mod InTime
 pub mod Charged
+pub mod Products

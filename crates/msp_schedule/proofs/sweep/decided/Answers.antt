@@ -1,9 +1,7 @@
-use Rattle.std.proofs.Common.{refl, rules, to_z, of_z, sym, subst, pos, ◌*ℤ◌, ◌<◌, ℕ, length}
+use Rattle.std.proofs.Common.{refl, rules, to_z, of_z, sym, subst}
 use Rattle.std.specs.Prelude.{IfSome}
 use Rattle.std.proofs.lemmas.Int.{to_z-of_z}
 use Rattle.std.specs.Int.{w128}
-use Rattle.msp_instance.specs.Instance.{job_at}
-use Rattle.msp_instance.specs.Conditions.{LiesWithin}
 use Rattle.msp_schedule.specs.Works.{AreSmallReleases, AreSmallTimes, IsFirstUnworked}
 use Rattle.msp_schedule.specs.Breaks.{IsFirstOverlap, IsFirstOutOfRoute, HasRoutes}
 use Rattle.msp_schedule.proofs.costs.Small.{small_releases, small_times}

@@ -1,4 +1,4 @@
-use Rattle.std.proofs.Common.{subst, rules}
+use Rattle.std.proofs.Common.{subst, rules, sym}
 use Rattle.std.specs.Prelude.{IsTrue, ◌↔◌}
 use Rattle.msp_class.specs.Env.{kind_of}
 use Rattle.std.proofs.lemmas.Int.{to_z-of_z}
@@ -6,6 +6,7 @@ use Rattle.std.specs.Int.{w128}
 use Rattle.msp_schedule.specs.Feasible.{HasPlace, IsWholeWork}
 use Rattle.msp_schedule.specs.Within.{IsMoment}
 use Rattle.msp_schedule.proofs.judging.WholeWork.{sole_has, gets_cut, gets_whole}
+use Rattle.msp_schedule.specs.Works.{AreSmallTimes}
 use Rattle.msp_schedule.proofs.work.gets_work.Goals as goal
 
 pub returns-then-inst : goal.returns-then-inst
@@ -26,3 +27,6 @@ is_whole_work-requires-clause-to c = (sole_has (λ p. IsMoment p.from × IsMomen
 pub returns-in-Some : goal.returns-in-Some
 returns-in-Some c = gets_whole c.args.inst.now c.args.unit c.args.pieces.now c.args.job c.args.op _ c.is_whole_work.result c.if-inst.false c.in-Some.ensures.some
     (subst (λ u. IsTrue c.is_whole_work.result ↔ IsWholeWork (kind_of c.args.inst.now.class.env) c.args.inst.now u c.in-Some.piece) (to_z-of_z w128 c.args.unit c.ranges.unit) c.is_whole_work.ensures)
+
+pub is_whole_work-requires-clause-small : goal.is_whole_work-requires-clause-small
+is_whole_work-requires-clause-small c = subst (AreSmallTimes c.args.inst.now) (sym (to_z-of_z w128 c.args.unit c.ranges.unit)) c.requires.small
