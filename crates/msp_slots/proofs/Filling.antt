@@ -1,8 +1,9 @@
 -- The slots of the earliest schedule, one after another.
-use Rattle.std.proofs.Common.{◌≡◌, ℕ, suc, ◌+◌, ◌-◌, ◌<◌, ◌≤◌, ◌⊎◌, inl, inr, Bool, true, false, eqb, All, List, [], ◌∷◌, ◌++◌, length, get_or, refl, sym, ap, subst, ◌∙◌, arith}
+use Rattle.std.proofs.Common.{◌≡◌, ℕ, suc, ◌+◌, ◌-◌, ◌*◌, ◌<◌, ◌≤◌, ◌⊎◌, inl, inr, Bool, true, false, eqb, All, List, [], ◌∷◌, ◌++◌, length, get_or, refl, sym, ap, subst, ◌∙◌, arith}
 use Rattle.std.specs.List.Sorted.{IsNonDecreasing}
 use Rattle.std.proofs.lemmas.Bool.{cases_lt, eqb-true, eq-eqb, ne_eqb}
 use Rattle.std.proofs.lemmas.List.{length-append, get_or_append_left, get_or-append_right}
+use Rattle.msp_class.specs.declared.sizes.TheConstants.{GREATEST}
 use Rattle.msp_class.proofs.Sums.{total_below-same, total_below-none}
 use Rattle.msp_slots.specs.declared.earliest.Slot.{Slot}
 use Rattle.msp_slots.specs.Seating.{one_if, begin_at}
@@ -25,7 +26,7 @@ begin_at-next k f x = ap (λ n. begin_at n f x) (next k)
 begin_at-none : (k : ℕ) (f : ℕ → ℕ) (moment x : ℕ) → ((j : ℕ) → j < k → f j ≤ moment) → moment < x → begin_at k f x ≡ 0
 begin_at-none k f moment x early h = total_below-none k (λ j. one_if (eqb (f j) x)) (λ j l. ap one_if (ne_eqb (f j) x (λ e. absurd (omega (arith, e, early j l, h)))))
 
-module _ (m : ℕ) (heads : List ℕ) (k moment taken : ℕ) (slots : List Slot) (some : 1 ≤ m) (low : head_in heads k ≤ 2000000000) (sorted : (j : ℕ) → j < k → head_in heads j ≤ head_in heads k)
+module _ (m : ℕ) (heads : List ℕ) (k moment taken : ℕ) (slots : List Slot) (some : 1 ≤ m) (low : head_in heads k ≤ 2 * GREATEST) (sorted : (j : ℕ) → j < k → head_in heads j ≤ head_in heads k)
     (h : AreFilled m heads k moment taken slots) (slot : Slot) (next : IsNextSlot moment taken m (head_in heads k) slot) where
   abbrev new : List Slot
   new = slots ++ slot ∷ []
@@ -59,7 +60,7 @@ module _ (m : ℕ) (heads : List ℕ) (k moment taken : ℕ) (slots : List Slot)
     inside : slot.machine < m
     released : head_in heads k ≤ slot.start
     waits : (x : ℕ) → head_in heads k ≤ x → x < slot.start → m ≤ begin_at k (start_in slots) x
-    soon : slot.start ≤ 2000000000 + (k + 1)
+    soon : slot.start ≤ 2 * GREATEST + (k + 1)
 
   -- once all jobs so far are released
   full_before : (x : ℕ) → head_in heads k ≤ x → x < moment → m ≤ begin_at k (start_in slots) x
@@ -157,7 +158,7 @@ AreFilled-none m heads = record {
 }
 
 -- ---- at the numbers as the code passes them
-pub filled_next : (m : ℕ) (heads : List ℕ) (k moment taken : ℕ) (slots new : List Slot) (slot : Slot) → 1 ≤ m → k < length heads → All (λ r. r ≤ 2000000000) heads → IsNonDecreasing heads
+pub filled_next : (m : ℕ) (heads : List ℕ) (k moment taken : ℕ) (slots new : List Slot) (slot : Slot) → 1 ≤ m → k < length heads → All (λ r. r ≤ 2 * GREATEST) heads → IsNonDecreasing heads
     → AreFilled m heads k moment taken slots → IsNextSlot moment taken m (head_in heads k) slot → new ≡ slots ++ slot ∷ [] → AreFilled m heads (k + 1) slot.start (slot.machine + 1) new
 filled_next m heads k moment taken slots new slot some inside low rising h next e =
     subst (AreFilled m heads (k + 1) slot.start (slot.machine + 1))

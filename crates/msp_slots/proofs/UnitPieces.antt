@@ -23,7 +23,7 @@ use Rattle.msp_schedule.specs.Cost.{end_of}
 use Rattle.msp_schedule.specs.Within.{Within}
 use Rattle.msp_schedule.proofs.lists.OnceEach.{OnceBelow-one}
 use Rattle.msp_schedule.proofs.changes.Moves.{Contains-map}
-use Rattle.msp_schedule.proofs.feasible.OneEach.{IsUncut, IsUncut-identical, AreOneEach, one_each_is_feasible, one_each_is_within}
+use Rattle.msp_schedule.proofs.feasible.OneEach.{early_end, IsUncut, IsUncut-identical, AreOneEach, one_each_is_feasible, one_each_is_within}
 use Rattle.msp_slots.specs.Pieces.{piece_at}
 
 -- the instance has jobs of one unit of time on identical machines, which run whole
@@ -41,7 +41,7 @@ pub record AreUnitPieces (i : Instance) (begin machine : ℕ → ℕ) (pieces : 
   pub apart : (j k : ℕ) → j < length i.jobs → k < length i.jobs → begin j ≡ begin k → machine j ≡ machine k → j ≡ k
   pub released : (j : ℕ) → j < length i.jobs → (job_at i j).release ≤ begin j
   pub forward : All (λ a. begin a.before < begin a.after) i.arcs
-  pub early : (j : ℕ) → j < length i.jobs → begin j < 10000000000000000000000000
+  pub early : (j : ℕ) → j < length i.jobs → begin j < early_end
 
 module _ (i : Instance) (u : HasUnitJobs i) (begin machine : ℕ → ℕ) (pieces : List Piece) (h : AreUnitPieces i begin machine pieces) where
   abbrev n : ℕ
@@ -94,7 +94,7 @@ module _ (i : Instance) (u : HasUnitJobs i) (begin machine : ℕ → ℕ) (piece
     forward = in_order;
     whole = all_pieces (IsWholeWork (kind_of i.class.env) i (pos 1))
         (λ j l. subst (λ k. IsWholeWork k i (pos 1) (piece_at (begin j) (machine j) j)) (sym u.kind) (unit_work (begin j) (need_at i j 0).time (u.ones j l)));
-    ends = all_pieces (λ p. p.to ≤ℤ pos 10000000000000000000000000) (λ j l. pos-le (omega (arith, h.early j l)));
+    ends = all_pieces (λ p. p.to ≤ℤ pos early_end) (λ j l. pos-le (omega (arith, h.early j l)));
   }
     where
       lasts : (x : ℕ) → (pos 0 ≤ℤ pos x) × (pos x <ℤ pos (x + 1))
@@ -136,7 +136,7 @@ jobs_at begin machine (j ∷ js) = ap (λ l. j ∷ l) (jobs_at begin machine js)
 
 pub AreUnitPieces-from : (i : Instance) (begin machine : ℕ → ℕ) → i.arcs ≡ [] → ((j : ℕ) → j < length i.jobs → machine j < i.machines)
     → ((j k : ℕ) → j < length i.jobs → k < length i.jobs → begin j ≡ begin k → machine j ≡ machine k → j ≡ k)
-    → ((j : ℕ) → j < length i.jobs → (job_at i j).release ≤ begin j) → ((j : ℕ) → j < length i.jobs → begin j < 10000000000000000000000000)
+    → ((j : ℕ) → j < length i.jobs → (job_at i j).release ≤ begin j) → ((j : ℕ) → j < length i.jobs → begin j < early_end)
     → AreUnitPieces i begin machine (pieces_at begin machine (range_with_len 0 (length i.jobs)))
 AreUnitPieces-from i begin machine none inside apart released early = record {
   jobs = subst (OnceBelow (length i.jobs)) (sym (jobs_at begin machine (range_with_len 0 (length i.jobs)))) (OnceBelow-range (length i.jobs));
