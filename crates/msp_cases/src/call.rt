@@ -88,17 +88,30 @@ impl Call {
         MemorySink::new(alloc, room, self.step.max(1), fails).map_err(|_| NoMemory)
     }
 
+    /// The source of the input.
+    fn source(&self, alloc: Global) -> Result<MemorySource, NoMemory> {
+        let input = self.input.to_vec(alloc)?;
+        let fails = [u64::from(self.read_fails)].to_vec(alloc)?;
+        Ok(MemorySource::new(input, self.step.max(1), fails))
+    }
+
     /// Makes the call.
     pub fn run(&self, alloc: Global) -> Result<Seen, NoMemory> {
-        let fails = [u64::from(self.read_fails)].to_vec(alloc)?;
-        let mut source = MemorySource::new(self.input.to_vec(alloc)?, self.step.max(1), fails);
+        let mut source = self.source(alloc)?;
         let mut report = self.sink(alloc, self.room, self.write_fails)?;
         let mut notes = self.sink(alloc, NOTES_ROOM, self.note_fails)?;
         let status = run(alloc, &self.words, &mut source, &mut report, &mut notes);
-        Ok(Seen {
-            status,
-            report: report.bytes().to_vec(alloc)?,
-            notes: notes.bytes().to_vec(alloc)?,
-        })
+        copied(alloc, status, report.bytes(), notes.bytes())
     }
+}
+
+/// The status, with copies of the report and of the notes.
+fn copied(alloc: Global, status: u8, report: &[u8], notes: &[u8]) -> Result<Seen, NoMemory> {
+    let report = report.to_vec(alloc)?;
+    let notes = notes.to_vec(alloc)?;
+    Ok(Seen {
+        status,
+        report,
+        notes,
+    })
 }

@@ -99,6 +99,18 @@ fn judge_text(
     tell(told, part, text)
 }
 
+/// What a second call gives.
+fn second_answer(
+    alloc: Global,
+    second: &Second,
+    call: &Call,
+    seen: &Seen,
+) -> Result<Seen, NoMemory> {
+    let mut input = call.input.to_vec(alloc)?;
+    input.extend_from_slice(from(&seen.report, second.begin))?;
+    Call::new(alloc, second.command, input)?.run(alloc)
+}
+
 /// Tells what a second call gave, if it did not end as it should.
 fn judge_second(
     alloc: Global,
@@ -108,9 +120,7 @@ fn judge_second(
     call: &Call,
     seen: &Seen,
 ) -> Result<(), NoMemory> {
-    let mut input = call.input.to_vec(alloc)?;
-    input.extend_from_slice(from(&seen.report, second.begin))?;
-    let answer = Call::new(alloc, second.command, input)?.run(alloc)?;
+    let answer = second_answer(alloc, second, call, seen)?;
     if answer.status == 0 && answer.report.ends_with(second.end) {
         return Ok(());
     }

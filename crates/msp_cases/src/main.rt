@@ -64,28 +64,48 @@ impl Told {
     }
 }
 
-/// Tries the cases of a file.
-fn try_cases(alloc: Global, file: &str, text: &str) -> Result<Told, NoMemory> {
-    let lines = lines_of(alloc, text)?;
-    let cases = cases_of(alloc, &lines)?;
-    let mut told = Told {
-        text: Vec::new(alloc),
-        differ: 0,
-    };
-    for case in &cases {
+/// Tries each case.
+fn try_each(alloc: Global, told: &mut Told, cases: &[&[&str]]) -> Result<(), NoMemory> {
+    for case in cases {
         told.add(case, &differences(alloc, case)?)?;
     }
-    told.end(alloc, file, cases.len())?;
-    Ok(told)
+    Ok(())
+}
+
+/// Tries the cases of the lines of a file.
+fn try_lines(alloc: Global, told: &mut Told, file: &str, lines: &[&str]) -> Result<(), NoMemory> {
+    let cases = cases_of(alloc, lines)?;
+    try_each(alloc, told, &cases)?;
+    told.end(alloc, file, cases.len())
+}
+
+/// Tries the cases of a file.
+fn try_cases(alloc: Global, told: &mut Told, file: &str, text: &str) -> Result<(), NoMemory> {
+    let lines = lines_of(alloc, text)?;
+    try_lines(alloc, told, file, &lines)
+}
+
+/// The text of a file of cases.
+fn text_of_file(rt: &HostRuntime, file: &str) -> Option<String> {
+    let name = format!(in rt.alloc(); "{file}.cases").ok()?;
+    fs::read_to_string(rt, name).ok()
+}
+
+/// Prints what is said of a file. Whether no case differs.
+fn print(rt: &HostRuntime, told: &Told) -> Option<bool> {
+    write_all(&mut StdSink::new(rt.stdout()), &told.text).ok()?;
+    Some(told.differ == 0)
 }
 
 /// Tries a file, and prints what is said of it. Whether no case differs.
 fn try_file(rt: &HostRuntime, file: &str) -> Option<bool> {
-    let alloc = rt.alloc();
-    let text = fs::read_to_string(rt, format!(in alloc; "{file}.cases").ok()?).ok()?;
-    let told = try_cases(alloc, file, text.as_str()).ok()?;
-    write_all(&mut StdSink::new(rt.stdout()), &told.text).ok()?;
-    Some(told.differ == 0)
+    let text = text_of_file(rt, file)?;
+    let mut told = Told {
+        text: Vec::new(rt.alloc()),
+        differ: 0,
+    };
+    try_cases(rt.alloc(), &mut told, file, text.as_str()).ok()?;
+    print(rt, &told)
 }
 
 fn main(rt: HostRuntime) -> ExitCode {
