@@ -3,3 +3,4 @@ pub mod RowsLemmas
 pub mod WhyLemmas
 pub mod Divided
 pub mod CheckLemmas
+pub mod PutLemmas
